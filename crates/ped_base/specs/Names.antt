@@ -3,28 +3,8 @@ use Rattle.std.specs.Prelude.{◌≡◌, ℕ, ◌-◌, ◌≤◌, ◌+◌, List,
 use Rattle.std.specs.List.{list_all}
 use Rattle.std.proofs.Common.{arith}
 use Rattle.std.proofs.lemmas.List.{length-take-le, take-append-drop}
+use Rattle.ped_base.specs.Letters.{is_name}
 use Rattle.ped_base.specs.declared.identifiers.Name.TheInside.{Inside}
-
--- A to Z
-abbrev pub is_letter : ℕ → Bool
-is_letter c = nat_le 65 c && nat_le c 90
-
--- 0 to 9
-abbrev pub is_digit : ℕ → Bool
-is_digit c = nat_le 48 c && nat_le c 57
-
--- a letter or a digit
-abbrev pub is_alphanumeric : ℕ → Bool
-is_alphanumeric c = is_letter c || is_digit c
-
--- begins with a letter
-abbrev pub begins_with_letter : List ℕ → Bool
-begins_with_letter [] = false
-begins_with_letter (c ∷ cs) = is_letter c
-
--- a letter, and then letters and digits
-abbrev pub is_name : List ℕ → Bool
-is_name bytes = begins_with_letter bytes && list_all is_alphanumeric bytes
 
 -- the bytes of a name stand at the front, and zeros fill the rest
 pub record IsNameInside (a : Inside) : Type 0 where

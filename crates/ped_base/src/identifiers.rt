@@ -1,6 +1,7 @@
 //! Names of programs, variables, arrays and constants.
 
-ghost use Rattle.std.specs.Prelude.{◌≡◌, ◌==◌, ◌↔◌, Some, None, IsTrue, IsSome, IfSome, length, take, ◌≤◌};
+ghost use Rattle.std.specs.Prelude.{◌≡◌, ◌≤◌, IsTrue, length};
+ghost use Rattle.ped_base.specs.Letters as Spec;
 
 use crate::listing::Listed;
 use std::marker::Model;
@@ -31,3 +32,47 @@ impl Model for Name {
 
 /// Names in an order.
 pub type Names = Listed<Name>;
+
+impl Name {
+    ghost use Rattle.ped_base.specs.Letters.{is_name, name_of};
+
+    /// The name of these bytes: none exactly where they are no letter with up to 30 letters and digits
+    /// behind it, all of them capitals.
+    pub fn from_bytes(bytes: &[u8]) -> Option<Name>
+        ensures { result ≡ name_of bytes.now }
+    {
+        if bytes.len() > 31 || !is_name(bytes) {
+            return None;
+        }
+        let mut text = [0; 31];
+        text[..bytes.len()].copy_from_slice(bytes);
+        Some(Name {
+            len: bytes.len() as u8,
+            text,
+        })
+    }
+
+    /// The name's characters.
+    pub fn as_bytes(&self) -> &[u8]
+        ensures bytes { result.now ≡ self.now }
+        ensures name { IsTrue (is_name result.now) }
+        ensures short { length result.now ≤ 31 }
+    {
+        &self.text[..self.len as usize]
+    }
+}
+
+fn is_name(bytes: &[u8]) -> bool
+    ensures { result ≡ Spec.is_name bytes.now }
+{
+    match bytes {
+        [first, ..] => first.is_ascii_uppercase() && bytes.iter().all(|c| is_alphanumeric(*c)),
+        [] => false,
+    }
+}
+
+fn is_alphanumeric(c: u8) -> bool
+    ensures { result ≡ Spec.is_alphanumeric c }
+{
+    c.is_ascii_uppercase() || c.is_ascii_digit()
+}

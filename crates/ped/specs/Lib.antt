@@ -1,0 +1,3 @@
+pub mod SmallForm
+pub mod SmallTree
+pub mod Reading

@@ -1,0 +1,6 @@
+//! The program `ped`.
+#![tactic(auto)]
+
+mod reading;
+
+fn main() {}

@@ -7,8 +7,12 @@ mod directions;
 mod identifiers;
 mod listing;
 mod memory;
+mod ranges;
+mod subscripts;
 
 pub use directions::Direction;
 pub use identifiers::{Name, Names};
 pub use listing::{Bytes, Listed};
 pub use memory::NoMemory;
+pub use ranges::{Bounds, LoopRange};
+pub use subscripts::{AffRow, PairView, Position};

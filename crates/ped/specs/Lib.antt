@@ -1,3 +1,5 @@
+pub mod Answer
+pub mod Reading
 pub mod SmallForm
 pub mod SmallTree
-pub mod Reading
+pub mod Statuses

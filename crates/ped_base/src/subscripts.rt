@@ -1,6 +1,5 @@
 //! Views of pairs of references.
 
-ghost use Rattle.std.specs.Prelude.{◌≡◌, ◌↔◌, IsTrue};
 
 use crate::ranges::LoopRange;
 use std::marker::Model;
@@ -77,50 +76,4 @@ impl Model for PairView {
     ghost view = { λ v. record { loops = v.loops.items; source_inner = v.source_inner.items; sink_inner = v.sink_inner.items; positions = v.positions.items } };
 
     ghost invariant = { λ v. IsView (record { loops = v.loops.items; source_inner = v.source_inner.items; sink_inner = v.sink_inner.items; positions = v.positions.items }) };
-}
-
-impl PairView {
-    /// Whether both views hold the same numbers.
-    pub fn same(&self, other: &PairView) -> bool
-        ensures { IsTrue result ↔ (self.now ≡ other.now) }
-    {
-        same_ranges(&self.loops, &other.loops)
-            && same_ranges(&self.source_inner, &other.source_inner)
-            && same_ranges(&self.sink_inner, &other.sink_inner)
-            && same_positions(&self.positions, &other.positions)
-    }
-}
-
-fn same_ranges(left: &[LoopRange], right: &[LoopRange]) -> bool
-    ensures { IsTrue result ↔ (left.now ≡ right.now) }
-{
-    left == right
-}
-
-fn same_row(left: &AffRow, right: &AffRow) -> bool
-    ensures { IsTrue result ↔ (left.now ≡ right.now) }
-{
-    left.common == right.common && left.inner == right.inner && left.constant == right.constant
-}
-
-fn same_position(left: &Position, right: &Position) -> bool
-    ensures { IsTrue result ↔ (left.now ≡ right.now) }
-{
-    left.usable == right.usable
-        && same_row(&left.source, &right.source)
-        && same_row(&left.sink, &right.sink)
-}
-
-fn same_positions(left: &[Position], right: &[Position]) -> bool
-    ensures { IsTrue result ↔ (left.now ≡ right.now) }
-{
-    if left.len() != right.len() {
-        return false;
-    }
-    for i in 0..left.len() {
-        if !same_position(&left[i], &right[i]) {
-            return false;
-        }
-    }
-    true
 }

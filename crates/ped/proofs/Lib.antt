@@ -1,2 +1,3 @@
+mod Loops
 pub mod Outcomes
 pub mod SmallLength

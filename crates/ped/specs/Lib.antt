@@ -1,4 +1,5 @@
 pub mod Answer
+pub mod PrintedLines
 pub mod Reading
 pub mod SmallForm
 pub mod SmallTree

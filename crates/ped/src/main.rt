@@ -4,8 +4,12 @@
 
 mod adapters;
 mod answering;
+mod declarations;
 mod panes;
+mod printing;
 mod reading;
+mod source_pane;
+mod texts;
 
 use crate::adapters::{DiskShelf, StdSink};
 use crate::answering::{Status, ped_main};

@@ -1,5 +1,5 @@
 -- How the bytes of a name are kept.
-use Rattle.std.proofs.Common.{◌≡◌, ◌≤◌, ◌++◌, ◌-◌, ℕ, List, Bool, true, length, take, drop, replicate, refl, ap, subst, sym, ◌∙◌, arith, IsTrue}
+use Rattle.std.proofs.Common.{◌≡◌, ◌≤◌, ◌++◌, ◌-◌, ℕ, List, true, length, drop, replicate, refl, ap, ◌∙◌, arith}
 use Rattle.std.proofs.lemmas.List.{take_at, drop_at, drop-replicate, length-append, length-replicate}
 use Rattle.ped_base.specs.Letters.{is_name}
 use Rattle.ped_base.specs.Names.{IsNameInside, inside}

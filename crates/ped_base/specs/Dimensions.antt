@@ -1,6 +1,6 @@
 -- How the bounds of an array are kept.
-use Rattle.std.specs.Prelude.{◌≡◌, ℕ, ◌-◌, ◌+◌, ◌≤◌, ℤ, pos, List, ◌++◌, length, take, drop, replicate}
-use Rattle.std.proofs.Common.{arith, ap, sym, ◌∙◌}
+use Rattle.std.specs.Prelude.{◌≡◌, ◌-◌, ◌≤◌, pos, ◌++◌, length, take, drop, replicate}
+use Rattle.std.proofs.Common.{arith}
 use Rattle.std.proofs.lemmas.List.{length-take-le, take-append-drop}
 use Rattle.ped_base.specs.Views.{Dimensions}
 use Rattle.ped_base.specs.declared.ranges.Bounds.TheInside.{Inside}

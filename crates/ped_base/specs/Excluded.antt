@@ -1,10 +1,10 @@
 -- When a subscript pair excludes a direction vector: sentences over whole numbers (Allen and Kennedy, chapter 3).
-use Rattle.std.specs.Prelude.{◌≡◌, ◌⊎◌, ℕ, ℤ, pos, negsuc, ◌+ℤ◌, ◌-ℤ◌, ◌*ℤ◌, ◌≤ℤ◌, ◌<ℤ◌, List, [], ◌∷◌, length, Bool, true, false, IsTrue, slice_index_or, ◌&&◌, if◌then◌else◌}
+use Rattle.std.specs.Prelude.{◌≡◌, ◌⊎◌, ℕ, ℤ, pos, negsuc, ◌+ℤ◌, ◌-ℤ◌, ◌*ℤ◌, ◌≤ℤ◌, ◌<ℤ◌, List, [], ◌∷◌, length, false, IsTrue, slice_index_or, ◌&&◌}
 use Rattle.ped_base.specs.declared.directions.Direction.{Direction}
 use Rattle.ped_base.specs.declared.directions.Direction.TheVariants.{Before, Same, After}
 use Rattle.ped_base.specs.Whole.{Divides, is_zero}
 use Rattle.ped_base.specs.Views.{Range, range, Row, SubscriptPair, View}
-use Rattle.ped_base.specs.Forms.{Occurrence, Form, ziv, strong_siv, weak_zero_siv, weak_crossing_siv, other_form, form_of}
+use Rattle.ped_base.specs.Forms.{Form, ziv, strong_siv, weak_zero_siv, weak_crossing_siv, other_form, form_of}
 
 -- the index i at the source and j at the sink stand so by their values: lesser first, equal, greater first
 abbrev pub StandsByValue : Direction → ℤ → ℤ → Type 0

@@ -1,6 +1,6 @@
 -- How large the numbers of a view may be, and that its parts fit together.
-use Rattle.std.specs.Prelude.{◌≡◌, ℕ, ◌+◌, ◌≤◌, ◌^◌, ℤ, pos, List, length, All, unsigned_abs}
-use Rattle.ped_base.specs.Views.{Range, Row, SubscriptPair, View}
+use Rattle.std.specs.Prelude.{◌≡◌, ℕ, ◌+◌, ◌≤◌, ◌^◌, ℤ, pos, length, All, unsigned_abs}
+use Rattle.ped_base.specs.Views.{Row, SubscriptPair, View}
 
 -- an end of a range or a constant of a subscript: within 2^62 of zero
 abbrev pub IsSmallConstant : ℤ → Type 0

@@ -4,7 +4,7 @@ use Rattle.std.specs.List.{AllByRecursion}
 use Rattle.ped_base.specs.declared.directions.Direction.{Direction}
 use Rattle.ped_base.specs.declared.directions.Direction.TheVariants.{Before, Same, After}
 use Rattle.ped_base.specs.Whole.{whole_quotient}
-use Rattle.ped_base.specs.Views.{Range, SubscriptPair, View}
+use Rattle.ped_base.specs.Views.{SubscriptPair, View}
 use Rattle.ped_base.specs.Forms.{Form, ziv, strong_siv, weak_zero_siv, weak_crossing_siv, other_form, form_of}
 use Rattle.ped_base.specs.Excluded.{Excludes, loop_at}
 

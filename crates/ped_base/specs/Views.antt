@@ -1,5 +1,5 @@
 -- The view of an ordered pair of references: what the dependence tests look at, without names.
-use Rattle.std.specs.Prelude.{ℤ, pos, List, Bool, false}
+use Rattle.std.specs.Prelude.{ℤ, List, Bool}
 
 -- the index values of a loop: the least, the greatest, the step, and whether all its entries begin at one value
 pub record Range : Type 0 where

@@ -7,6 +7,7 @@ mod directions;
 mod identifiers;
 mod listing;
 mod memory;
+mod quotients;
 mod ranges;
 mod subscripts;
 
@@ -14,5 +15,6 @@ pub use directions::Direction;
 pub use identifiers::{Name, Names};
 pub use listing::{Bytes, Listed};
 pub use memory::NoMemory;
+pub use quotients::exact_quotient;
 pub use ranges::{Bounds, LoopRange};
 pub use subscripts::{AffRow, PairView, Position};

@@ -1,6 +1,5 @@
-use Rattle.std.proofs.Common.{◌≡◌, ◌∷◌, [], ℕ, List, length, refl, sym, subst, ◌∙◌}
-use Rattle.ped_base.specs.declared.identifiers.Name.TheInside.{Inside}
-use Rattle.ped_base.specs.Names.{IsNameInside, inside}
+use Rattle.std.proofs.Common.{ℕ, List, length, refl, sym, subst, ◌∙◌}
+use Rattle.ped_base.specs.Names.{IsNameInside}
 use Rattle.ped_base.proofs.Keeping.{inside_is, kept}
 use Rattle.ped_base.proofs.identifiers.Name.from_bytes.Goals as goal
 

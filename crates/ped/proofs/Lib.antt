@@ -1,3 +1,5 @@
+mod Distances
 mod Loops
 pub mod Outcomes
+mod Pairs
 pub mod SmallLength

@@ -1,4 +1,6 @@
 pub mod Answer
+pub mod Dependences
+pub mod Distances
 pub mod PrintedLines
 pub mod Reading
 pub mod SmallForm

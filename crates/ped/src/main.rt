@@ -5,10 +5,12 @@
 mod adapters;
 mod answering;
 mod declarations;
+mod dependences;
 mod panes;
 mod printing;
 mod reading;
 mod source_pane;
+mod strong;
 mod texts;
 
 use crate::adapters::{DiskShelf, StdSink};

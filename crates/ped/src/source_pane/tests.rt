@@ -19,7 +19,7 @@ fn scalar(text: &str) -> Result<Expr, Fail> {
     Ok(Expr::scalar(name(text)?))
 }
 
-/// An array with these bounds in its first dimension, and none in a second.
+/// An array of one dimension with these bounds.
 fn array(alloc: Global, text: &str, lower: u32, upper: u32) -> Result<Declarator, Fail> {
     let bound = Bound {
         lower: Expr::literal(lower),

@@ -1,5 +1,5 @@
 -- A program has no more DO loops than statements.
-use Rattle.std.proofs.Common.{ℕ, ◌+◌, ◌≤◌, arith}
+use Rattle.std.proofs.Common.{◌≤◌, arith}
 use Rattle.ped_tree.specs.Tree.{StmtTree, StmtTrees, Assign, Do, no_stmts, more_stmts}
 use Rattle.ped_tree.specs.Numbering.{statement_count, statements_count, loop_count, loops_count}
 

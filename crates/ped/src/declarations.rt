@@ -31,7 +31,8 @@ pub fn push_decl(out: &mut Bytes, decl: &Decl) -> Result<(), NoMemory>
 
 /// Adds declared names, with a comma and a blank between two.
 fn push_declarators(out: &mut Bytes, all: &[Declarator]) -> Result<(), NoMemory>
-    ensures { OnOk result (out.new ≡ out.old ++ join_by declarator_text (codes ", ") (map declarator_tree all.now)) }
+    ensures { OnOk result (out.new
+        ≡ out.old ++ join_by declarator_text (codes ", ") (map declarator_tree all.now)) }
 {
     let Some(first) = all.first() else {
         return Ok(());

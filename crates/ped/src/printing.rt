@@ -34,7 +34,8 @@ struct Numbers {
 /// The lines of a program with fewer than 2^31 executable statements.
 pub fn program_lines(alloc: Global, program: &Program) -> Result<Vec<Line>, NoMemory>
     requires { statements_count (program_tree program.now).body < 2 ^ 31 }
-    ensures { IfOk result (λ lines. map line_of lines.items ≡ Printing.program_lines (program_tree program.now)) }
+    ensures { IfOk result (λ lines. map line_of lines.items
+        ≡ Printing.program_lines (program_tree program.now)) }
 {
     let mut lines = Vec::new(alloc);
     push_decls(alloc, &mut lines, &program.decls)?;
@@ -50,7 +51,8 @@ pub fn program_lines(alloc: Global, program: &Program) -> Result<Vec<Line>, NoMe
 /// Adds the lines of declarations.
 fn push_decls(alloc: Global, lines: &mut Vec<Line>, all: &[Decl]) -> Result<(), NoMemory>
     ensures { OnOk result (map line_of lines.new.items
-        ≡ map line_of lines.old.items ++ map (λ d. statement_line None 0 (decl_text d)) (map decl_tree all.now)) }
+        ≡ map line_of lines.old.items
+        ++ map (λ d. statement_line None 0 (decl_text d)) (map decl_tree all.now)) }
 {
     for decl in all {
         push_line(lines, decl_line(alloc, decl)?)?;
@@ -71,9 +73,11 @@ fn push_statements(
     requires loops { numbers.loops + loops_count (stmt_trees all.now) < 2 ^ 32 }
     requires depth { depth ≤ numbers.loops }
     ensures lines { OnOk result (map line_of lines.new.items
-        ≡ map line_of lines.old.items ++ statements_lines depth numbers.statement numbers.loops (stmt_trees all.now)) }
-    ensures numbers { IfOk result (λ n. n
-        ≡ record { statement = numbers.statement + statements_count (stmt_trees all.now); loops = numbers.loops + loops_count (stmt_trees all.now) }) }
+        ≡ map line_of lines.old.items
+        ++ statements_lines depth numbers.statement numbers.loops (stmt_trees all.now)) }
+    ensures statements { IfOk result (λ n. n.statement
+        ≡ numbers.statement + statements_count (stmt_trees all.now)) }
+    ensures loops { IfOk result (λ n. n.loops ≡ numbers.loops + loops_count (stmt_trees all.now)) }
 {
     let mut next = numbers;
     for statement in all {
@@ -95,9 +99,11 @@ fn push_statement(
     requires loops { numbers.loops + loop_count (stmt_tree statement.now) < 2 ^ 32 }
     requires depth { depth ≤ numbers.loops }
     ensures lines { OnOk result (map line_of lines.new.items
-        ≡ map line_of lines.old.items ++ statement_lines depth numbers.statement numbers.loops (stmt_tree statement.now)) }
-    ensures numbers { IfOk result (λ n. n
-        ≡ record { statement = numbers.statement + statement_count (stmt_tree statement.now); loops = numbers.loops + loop_count (stmt_tree statement.now) }) }
+        ≡ map line_of lines.old.items
+        ++ statement_lines depth numbers.statement numbers.loops (stmt_tree statement.now)) }
+    ensures statements { IfOk result (λ n. n.statement
+        ≡ numbers.statement + statement_count (stmt_tree statement.now)) }
+    ensures loops { IfOk result (λ n. n.loops ≡ numbers.loops + loop_count (stmt_tree statement.now)) }
 {
     match statement {
         Stmt::Assign { left, right } => {
@@ -148,7 +154,8 @@ fn assignment_line(
     right: &Expr,
 ) -> Result<Line, NoMemory>
     ensures { IfOk result (λ l. line_of l
-        ≡ statement_line (Some numbers.statement) depth (expr_text (expr_tree left.now) ++ codes " = " ++ expr_text (expr_tree right.now))) }
+        ≡ statement_line (Some numbers.statement) depth
+        (expr_text (expr_tree left.now) ++ codes " = " ++ expr_text (expr_tree right.now))) }
 {
     let mut text = statement_start(alloc, depth)?;
     push_expr(&mut text, left)?;
@@ -176,7 +183,8 @@ fn do_line(alloc: Global, depth: u32, numbers: Numbers, d: &Do) -> Result<Line, 
 
 /// Adds a DO statement with the label of the DO behind so many others.
 fn push_do(out: &mut Bytes, before: u32, d: &Do) -> Result<(), NoMemory>
-    ensures { OnOk result (out.new ≡ out.old ++ do_text (label_text before) (head d.now.variable d.now.first d.now.last d.now.step)) }
+    ensures { OnOk result (out.new ≡ out.old
+        ++ do_text (label_text before) (head d.now.variable d.now.first d.now.last d.now.step)) }
 {
     out.extend_from_slice(b"DO ")?;
     push_label(out, before)?;

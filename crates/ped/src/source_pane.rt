@@ -57,3 +57,6 @@ pub fn statement_number_column(out: &mut Bytes, number: Option<u32>) -> Result<(
         None => push_blanks(out, 4),
     }
 }
+
+#[cfg(test)]
+mod tests;

@@ -1,8 +1,7 @@
 //! Pieces of a printed program: numbers, blanks and expressions, each added at the end of a text.
 //! After want of memory a text ends somewhere in the piece.
 
-ghost use Rattle.std.specs.Prelude.{◌≡◌, ◌++◌, map, replicate, codes, OnOk};
-ghost use Rattle.std.specs.List.{flat_map};
+ghost use Rattle.std.specs.Prelude.{◌≡◌, ◌++◌, map, OnOk};
 ghost use Rattle.std.specs.Fmt.{decimal};
 ghost use Rattle.ped_tree.specs.Printing as Spec;
 ghost use Rattle.ped_tree.specs.Printing.{expr_text, exprs_text, further_text, enclosed, blanks};
@@ -71,7 +70,8 @@ pub fn push_expr(out: &mut Bytes, e: &Expr) -> Result<(), NoMemory>
 /// Adds a right operand, in parentheses where it is a sum or a difference.
 #[cycle(texts)]
 fn push_right_operand(out: &mut Bytes, e: &Expr) -> Result<(), NoMemory>
-    ensures { OnOk result (out.new ≡ out.old ++ enclosed (Spec.is_sum (expr_tree e.now)) (expr_text (expr_tree e.now))) }
+    ensures { OnOk result (out.new ≡ out.old
+        ++ enclosed (Spec.is_sum (expr_tree e.now)) (expr_text (expr_tree e.now))) }
 {
     if is_sum(e) {
         out.push(b'(')?;

@@ -1,3 +1,4 @@
 pub mod SmallForm
 pub mod SmallTree
 pub mod Reading
+pub mod Distances

@@ -2,5 +2,6 @@
 #![tactic(auto)]
 
 mod reading;
+mod strong;
 
 fn main() {}

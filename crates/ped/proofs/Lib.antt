@@ -1,1 +1,4 @@
 mod Distances
+mod Loops
+pub mod Outcomes
+pub mod SmallLength

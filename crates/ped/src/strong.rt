@@ -1,6 +1,6 @@
 //! The strong SIV test: subscripts in one common index, with one coefficient on both sides.
 
-ghost use Rattle.std.specs.Prelude.{◌≡◌, ◌≤◌, ◌<ℤ◌, ◌-ℤ◌, ◌*ℤ◌, ◌^◌, ◌↔◌, pos, neg_ℤ, unsigned_abs, IsTrue, MatchOption};
+ghost use Rattle.std.specs.Prelude.{◌≡◌, ◌<◌, ◌<ℤ◌, ◌-ℤ◌, ◌*ℤ◌, ◌^◌, ◌↔◌, pos, neg_ℤ, unsigned_abs, IsTrue, MatchOption};
 ghost use Rattle.ped_base.specs.Whole.{Divides, whole_quotient};
 ghost use Rattle.ped_base.specs.Excluded as excluded;
 ghost use Rattle.ped_base.specs.Excluded.{NeverMeetsInStep};
@@ -9,12 +9,12 @@ ghost use Rattle.ped.specs.Distances.{FitsSpan};
 use ped_base::{Direction, LoopRange, exact_quotient};
 
 /// Whether the subscripts `a * i + c1` at the source and `a * j + c2` at the sink exclude a direction of
-/// the loop (Allen and Kennedy, section 3.3, strong SIV).
+/// the loop (Allen and Kennedy, section 3.3, strong SIV). `a` isn't 0; nothing is asked of the sizes.
 ///
-/// The subscripts are equal exactly where `j - i = (c1 - c2) / a`: one distance for all iterations. So the
-/// direction is excluded exactly where that isn't whole, or is longer than the range, or doesn't point in
-/// the direction, or isn't a whole number of steps of a steady loop. The test can't tell which values of
-/// the range the index takes: from which the loop starts, and whether the references run there.
+/// The subscripts are equal exactly where `j - i = (c1 - c2) / a`, one distance for all iterations. So the
+/// direction is excluded exactly where this isn't whole, is longer than the range, points elsewhere, or
+/// isn't a whole number of steps of a steady loop. The test can't tell which values of its range the index
+/// takes: where a loop that isn't steady starts, and whether it runs at all.
 pub fn strong_excludes(a: i64, c1: i64, c2: i64, range: &LoopRange, direction: Direction) -> bool
     requires { ¬ (a ≡ pos 0) }
     ensures { IsTrue result ↔ NeverMeetsInStep a a c1 c2 range.now direction }
@@ -36,7 +36,9 @@ pub fn strong_distance(a: i64, c1: i64, c2: i64, step: i64) -> Option<i128>
     requires coefficient { ¬ (a ≡ pos 0) }
     requires step { ¬ (step ≡ pos 0) }
     ensures whole { result ≡ whole_quotient (c1 -ℤ c2) (a *ℤ step) }
-    ensures divides { MatchOption result (¬ (Divides (a *ℤ step) (c1 -ℤ c2))) (λ k. a *ℤ step *ℤ k ≡ c1 -ℤ c2) }
+    ensures divides { MatchOption result
+        (¬ (Divides (a *ℤ step) (c1 -ℤ c2)))
+        (λ k. a *ℤ step *ℤ k ≡ c1 -ℤ c2) }
 {
     exact_quotient(difference(c1, c2), product(a, step))
 }
@@ -74,17 +76,122 @@ fn in_step(distance: i128, step: i64, steady: bool) -> bool
     !steady || exact_quotient(distance, i128::from(step)).is_some()
 }
 
-/// The difference of two numbers, which fits in 66 bits.
+/// The difference of two numbers, which is within 2^64 of zero.
 pub fn difference(x: i64, y: i64) -> i128
     ensures value { result ≡ x -ℤ y }
-    ensures small { unsigned_abs result ≤ 2 ^ 65 }
+    ensures small { unsigned_abs result < 2 ^ 64 }
 {
     i128::from(x) - i128::from(y)
 }
 
-/// The product of two numbers, which fits in 127 bits.
+/// The product of two numbers, which is within 2^126 of zero.
 fn product(x: i64, y: i64) -> i128
     ensures { result ≡ x *ℤ y }
 {
     i128::from(x) * i128::from(y)
+}
+
+#[cfg(test)]
+mod tests {
+    use super::*;
+
+    const RANGE: LoopRange = LoopRange {
+        lo: 2,
+        hi: 10,
+        step: 1,
+        steady: false,
+    };
+
+    /// Whether `<`, `=` and `>` are excluded.
+    fn excluded(a: i64, c1: i64, c2: i64, range: &LoopRange) -> [bool; 3]
+        requires { ¬ (a ≡ pos 0) }
+    {
+        [
+            strong_excludes(a, c1, c2, range, Direction::Before),
+            strong_excludes(a, c1, c2, range, Direction::Same),
+            strong_excludes(a, c1, c2, range, Direction::After),
+        ]
+    }
+
+    #[test]
+    fn a_direction_stands_where_the_distance_fits_the_range(rt: HostRuntime) {
+        let cases = [
+            (1, [false, true, true]),
+            (2, [false, true, true]),
+            (8, [false, true, true]),
+            (9, [true, true, true]),
+            (1000, [true, true, true]),
+            (0, [true, false, true]),
+            (-1, [true, true, false]),
+            (-8, [true, true, false]),
+            (-9, [true, true, true]),
+        ];
+        for (distance, want) in cases {
+            assert_eq!(rt; excluded(1, distance, 0, &RANGE), want, "at {distance}");
+            assert_eq!(rt;
+                excluded(-2, 0, 2 * distance, &RANGE),
+                want,
+                "at {distance}"
+            );
+        }
+        assert_eq!(rt; excluded(2, 3, 0, &RANGE), [true, true, true]);
+    }
+
+    #[test]
+    fn short_ranges_and_steps_exclude_more(rt: HostRuntime) {
+        let one = LoopRange {
+            lo: 5,
+            hi: 5,
+            ..RANGE
+        };
+        assert_eq!(rt; excluded(1, 0, 0, &one), [true, false, true]);
+        assert_eq!(rt; excluded(1, 1, 0, &one), [true, true, true]);
+        let none = LoopRange {
+            lo: 5,
+            hi: 4,
+            ..RANGE
+        };
+        assert_eq!(rt; excluded(1, 0, 0, &none), [true, true, true]);
+        let by_two = LoopRange {
+            step: 2,
+            steady: true,
+            ..RANGE
+        };
+        assert_eq!(rt; excluded(1, 1, 0, &by_two), [true, true, true]);
+        assert_eq!(rt; excluded(1, 2, 0, &by_two), [false, true, true]);
+        let unsteady = LoopRange { step: 2, ..RANGE };
+        assert_eq!(rt; excluded(1, 1, 0, &unsteady), [false, true, true]);
+        let down = LoopRange { step: -1, ..RANGE };
+        assert_eq!(rt; excluded(1, 1, 0, &down), [true, true, false]);
+        assert_eq!(rt; excluded(1, -1, 0, &down), [false, true, true]);
+    }
+
+    #[test]
+    fn distances_reach_the_ends(rt: HostRuntime) {
+        let end = 1 << 62;
+        let widest = LoopRange {
+            lo: -end,
+            hi: end,
+            ..RANGE
+        };
+        assert_eq!(rt; excluded(1, end, -end, &widest), [false, true, true]);
+        assert_eq!(rt; excluded(-1, end, -end, &widest), [true, true, false]);
+        let shorter = LoopRange {
+            hi: end - 1,
+            ..widest
+        };
+        assert_eq!(rt; excluded(1, end, -end, &shorter), [true, true, true]);
+        assert_eq!(rt; strong_distance(1, end, -end, 1), Some(1 << 63));
+        assert_eq!(rt; strong_distance(-1, end, -end, 2), Some(-(1 << 62)));
+    }
+
+    #[test]
+    fn distances_count_iterations(rt: HostRuntime) {
+        assert_eq!(rt; strong_distance(1, 3, 1, 1), Some(2));
+        assert_eq!(rt; strong_distance(1, 3, 1, 2), Some(1));
+        assert_eq!(rt; strong_distance(1, 3, 1, -1), Some(-2));
+        assert_eq!(rt; strong_distance(2, 1, 3, 1), Some(-1));
+        assert_eq!(rt; strong_distance(2, 3, 0, 1), None);
+        assert_eq!(rt; strong_distance(1, 1, 0, 2), None);
+    }
 }

@@ -1,4 +1,4 @@
-use Rattle.std.proofs.Common.{rules, ◌≡◌, Bool, IsTrue, FitsSigned, w64, ap, ◌∙◌, sym, subst, refl}
+use Rattle.std.proofs.Common.{rules, FitsSigned, w64, ◌∙◌, sym, refl}
 use Rattle.std.specs.Int.{w128}
 use Rattle.std.proofs.lemmas.Int.{to_z-of_z}
 use Rattle.ped.proofs.Distances.{quotient_at, is_some_decides}

@@ -1,8 +1,6 @@
-use Rattle.std.proofs.Common.{arith, rules, refl, FitsSigned, w64, Bool, IsTrue, not, ◌↔◌, ◌-ℤ◌, sym, ◌∙◌, Some, None}
+use Rattle.std.proofs.Common.{arith, rules, refl, FitsSigned, w64, Some, None}
 use Rattle.std.specs.Int.{w128}
 use Rattle.std.proofs.lemmas.Int.{to_z-of_z}
-use Rattle.ped_base.specs.Views.{Range}
-use Rattle.ped_base.specs.Excluded.{NeverMeetsInStep}
 use Rattle.ped_base.proofs.Products.{linear}
 use Rattle.ped.proofs.Distances.{quotient_at, never_whole, where_it_fits, where_it_does_not}
 use Rattle.ped.proofs.strong.strong_excludes.Goals as goal
@@ -52,5 +50,6 @@ returns-after-fits_span c =
     let turns = simp to_z-of_z at c.by_value-direction.ensures in
     let fits = simp to_z-of_z at c.fits_span.ensures in
     elim c.if-fits_span.branch [
-      then-fits_span w ↦ rw w.result-is (where_it_fits c.args.a c.args.c1 c.args.c2 _ c.args.range.now c.args.direction _ c.in-Some.distance _ _ c.range.view_is c.requires is turns spans fits w.if-fits_span.true w.in_step.result (simp to_z-of_z at w.in_step.ensures))
-    | else-fits_span w ↦ rw w.result-is (where_it_does_not c.args.a c.args.c1 c.args.c2 _ c.args.range.now c.args.direction _ c.in-Some.distance _ _ c.range.view_is c.requires is turns spans fits w.if-fits_span.false) ]
+      | then-fits_span w ↦ rw w.result-is (where_it_fits c.args.a c.args.c1 c.args.c2 _ c.args.range.now c.args.direction _ c.in-Some.distance _ _ c.range.view_is c.requires is turns spans fits w.if-fits_span.true w.in_step.result (simp to_z-of_z at w.in_step.ensures))
+      | else-fits_span w ↦ rw w.result-is (where_it_does_not c.args.a c.args.c1 c.args.c2 _ c.args.range.now c.args.direction _ c.in-Some.distance _ _ c.range.view_is c.requires is turns spans fits w.if-fits_span.false)
+    ]

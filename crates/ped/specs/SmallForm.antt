@@ -4,7 +4,7 @@ use Rattle.std.specs.List.{list_all, list_any}
 use Rattle.std.specs.Cmp.Lexicographic.{pointwise}
 use Rattle.std.specs.Str.Lines.{lines}
 use Rattle.std.specs.Str.Parse.{digits_value}
-use Rattle.ped_base.specs.Names.{is_letter, is_digit, is_name}
+use Rattle.ped_base.specs.Letters.{is_letter, is_digit, is_name}
 use Rattle.ped_tree.specs.Tree.{ExprTree, Int, Var, Element, Add, Sub, no_exprs, more_exprs, StmtTree, Assign, Do, no_stmts, more_stmts, Program, Integer, Save, ProgramTree}
 
 -- a subscript as written: the DO variable, or the DO variable, a sign and the digits of a literal

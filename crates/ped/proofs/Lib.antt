@@ -1,0 +1,7 @@
+mod SmallBasics
+mod SmallLines
+mod SmallValues
+mod SmallSound
+mod SmallAgain
+mod SmallForms
+pub mod SmallLength

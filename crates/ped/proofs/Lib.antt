@@ -1,3 +1,5 @@
+mod Loops
+pub mod Outcomes
 mod SmallBasics
 mod SmallLines
 mod SmallValues

@@ -1,7 +1,10 @@
-pub mod SmallForm
-pub mod SmallTree
+pub mod Answer
+pub mod Lines
+pub mod PrintedLines
 pub mod Reading
 pub mod Scanning
-pub mod Lines
 pub mod Small
+pub mod SmallForm
 pub mod SmallParts
+pub mod SmallTree
+pub mod Statuses

@@ -1,6 +1,7 @@
 //! Names of programs, variables, arrays and constants.
 
 ghost use Rattle.std.specs.Prelude.{◌≡◌, ◌≤◌, IsTrue, length};
+ghost use Rattle.std.specs.List.{list_all};
 ghost use Rattle.ped_base.specs.Letters as Spec;
 
 use crate::listing::Listed;
@@ -44,10 +45,11 @@ impl Name {
         if bytes.len() > 31 || !is_name(bytes) {
             return None;
         }
+        let len = bytes.len();
         let mut text = [0; 31];
-        text[..bytes.len()].copy_from_slice(bytes);
+        text[..len].copy_from_slice(bytes);
         Some(Name {
-            len: bytes.len() as u8,
+            len: len as u8,
             text,
         })
     }
@@ -65,14 +67,46 @@ impl Name {
 fn is_name(bytes: &[u8]) -> bool
     ensures { result ≡ Spec.is_name bytes.now }
 {
+    begins_with_letter(bytes) && all_alphanumeric(bytes)
+}
+
+fn begins_with_letter(bytes: &[u8]) -> bool
+    ensures { result ≡ Spec.begins_with_letter bytes.now }
+{
     match bytes {
-        [first, ..] => first.is_ascii_uppercase() && bytes.iter().all(|c| is_alphanumeric(*c)),
+        [first, ..] => first.is_ascii_uppercase(),
         [] => false,
     }
+}
+
+fn all_alphanumeric(bytes: &[u8]) -> bool
+    ensures { result ≡ list_all Spec.is_alphanumeric bytes.now }
+{
+    bytes.iter().all(|c| is_alphanumeric(*c))
 }
 
 fn is_alphanumeric(c: u8) -> bool
     ensures { result ≡ Spec.is_alphanumeric c }
 {
     c.is_ascii_uppercase() || c.is_ascii_digit()
+}
+
+#[cfg(test)]
+mod tests {
+    use super::*;
+
+    #[test]
+    fn names_have_1_to_31_capitals_and_digits(rt: HostRuntime) {
+        let longest = [b'A'; 31];
+        let too_long = [b'A'; 32];
+        let names: [&[u8]; 3] = [b"A", b"X29", &longest];
+        for bytes in names {
+            let name = Name::from_bytes(bytes).expect(&rt, "a name");
+            assert_eq!(rt; name.as_bytes(), bytes);
+        }
+        let others: [&[u8]; 6] = [b"", b"9A", b"a", b"Ab", b"A B", &too_long];
+        for bytes in others {
+            assert!(rt; Name::from_bytes(bytes).is_none());
+        }
+    }
 }

@@ -7,8 +7,14 @@ mod directions;
 mod identifiers;
 mod listing;
 mod memory;
+mod quotients;
+mod ranges;
+mod subscripts;
 
 pub use directions::Direction;
 pub use identifiers::{Name, Names};
 pub use listing::{Bytes, Listed};
 pub use memory::NoMemory;
+pub use quotients::exact_quotient;
+pub use ranges::{Bounds, LoopRange};
+pub use subscripts::{AffRow, PairView, Position};

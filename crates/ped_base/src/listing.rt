@@ -1,6 +1,6 @@
 //! A list that owns its items. Contracts see it as the list of its items, whatever room it keeps.
 
-ghost use Rattle.std.specs.Prelude.{◌≡◌, ◌+◌, [], ◌∷◌, ◌++◌, length, OnOk, OnErr, IfOk};
+ghost use Rattle.std.specs.Prelude.{◌≡◌, ◌+◌, [], ◌∷◌, ◌++◌, ◌↔◌, length, OnOk, OnErr, IsTrue};
 
 use crate::memory::NoMemory;
 use std::alloc::Global;
@@ -57,6 +57,13 @@ impl<T> Listed<T> {
         self.items.len()
     }
 
+    /// Whether there is no item.
+    pub fn is_empty(&self) -> bool
+        ensures { IsTrue result ↔ (self.now ≡ []) }
+    {
+        self.items.is_empty()
+    }
+
     /// Adds an item at the end. After want of memory the list is as it was, and the item is gone.
     pub fn push(&mut self, item: T) -> Result<(), NoMemory>
     where
@@ -76,6 +83,25 @@ impl Listed<u8> {
         ensures err { OnErr result (self.new ≡ self.old) }
     {
         self.items.extend_from_slice(bytes)?;
+        Ok(())
+    }
+}
+
+#[cfg(test)]
+mod tests {
+    use super::*;
+    use std::test::Fail;
+
+    #[test]
+    fn items_stand_in_the_order_of_the_calls(rt: HostRuntime) -> Result<(), Fail> {
+        let mut text: Bytes = Listed::new(rt.alloc());
+        assert!(rt; text.is_empty());
+        text.push(b'D')?;
+        text.extend_from_slice(b"O 10")?;
+        text.push(b' ')?;
+        assert_eq!(rt; text.as_slice(), b"DO 10 ".as_slice());
+        assert_eq!(rt; text.len(), 6);
+        assert!(rt; !text.is_empty());
         Ok(())
     }
 }

@@ -1,2 +1,9 @@
+pub mod Affine
+pub mod DependencePane
+pub mod Edges
+pub mod Numbering
+pub mod Printing
+pub mod References
+pub mod SourcePane
 pub mod Tree
 pub mod Views

@@ -1,0 +1,68 @@
+-- Outcomes of writing, and how those of a part are those of the whole.
+use Rattle.std.proofs.Common.{◌≡◌, ◌⊎◌, ℕ, List, [], ◌++◌, Option, Some, take, drop, option_map, refl, ap, ◌∙◌, sym, subst, inl, inr}
+use Rattle.std.proofs.lemmas.List.{take-append-drop}
+use Rattle.ped_io.specs.Outside.{Contents, content}
+use Rattle.ped_io.specs.declared.writing.PutFault.{PutFault}
+use Rattle.ped_io.specs.declared.writing.PutFault.TheVariants as put
+use Rattle.ped_io.specs.Faults.{sent_of, IsWriteFault}
+use Rattle.ped.specs.declared.answering.Status.{Status}
+use Rattle.ped.specs.declared.answering.Status.TheVariants.{Done, BadWords, ReadFault, WriteFault, ProgramRefused, NoMemory}
+use Rattle.ped.specs.Answer.{Request, show, inputs_of, IsOneOf, CannotRead, MayAnswer, Answers, IsFront, IsFrontOfAnswer, IsOutcome, IsShown, IsJust, ShowsTree, ArePanes, cannot_read_line, not_built_line}
+use Rattle.ped_tree.specs.Tree.{ProgramTree}
+use Rattle.ped.specs.SmallForm.{Reads}
+
+module _ (A B : Status → List ℕ → Type 0) (weaker : (s : Status) (b : List ℕ) → A s b → B s b) where
+  pub front_weaker : (sent : List ℕ) → IsFrontOfAnswer A sent → IsFrontOfAnswer B sent
+  front_weaker sent (inl nothing) = inl nothing
+  front_weaker sent (inr f) = inr (f.0, f.1, weaker f.0 f.1 f.2, f.3)
+
+  -- an outcome by answers is one by other answers that they all are
+  pub outcome_weaker : (failed : Type 0) (sent : List ℕ) (status : Status) → IsOutcome A failed sent status → IsOutcome B failed sent status
+  outcome_weaker failed sent Done o = weaker Done sent o
+  outcome_weaker failed sent BadWords o = weaker BadWords sent o
+  outcome_weaker failed sent ReadFault o = weaker ReadFault sent o
+  outcome_weaker failed sent ProgramRefused o = weaker ProgramRefused sent o
+  outcome_weaker failed sent WriteFault o = (o.0, front_weaker sent o.1)
+  outcome_weaker failed sent NoMemory o = front_weaker sent o
+
+-- what was sent before a fault is a front of the bytes
+pub front_of : (status : Status) (bytes : List ℕ) (n : ℕ) → IsFrontOfAnswer (IsJust status bytes) (take n bytes)
+front_of status bytes n = inr (status, bytes, (refl, refl), (drop n bytes, take-append-drop n bytes))
+
+-- a write fault is one that the sink has counted
+pub counted : (fault : PutFault) (n : ℕ) (rose : Type 0) → (IsWriteFault fault → rose) → fault ≡ put.WriteFault n → rose
+counted (put.WriteFault m) n rose h e = h tt
+counted (put.NoMemory m) n rose h e = absurd (let f = e in cc)
+
+-- an answer that only says that a file can't be read, where its count rose
+pub says_cannot_read : (program : List ℕ) (files : Contents) (failed : List ℕ → Type 0) → failed program → (s : Status) (b : List ℕ) → IsJust ReadFault (cannot_read_line program) s b → MayAnswer (Some (show program)) files failed s b
+says_cannot_read program files failed rose s b j = subst (λ (x : Status). MayAnswer (Some (show program)) files failed x b) (sym j.0) (record { name = program; input = inl refl; count = rose; says = j.1 })
+
+-- both panes of the tree that a text reads as are what is shown of it
+pub tree_shown : (text : List ℕ) (t : ProgramTree) → Reads text t → (s : Status) (b : List ℕ) → ShowsTree t s b → IsShown text s b
+tree_shown text t reads s b h = subst (λ (x : Status). IsShown text x b) (sym h.0) (t, reads, h.1)
+
+-- that it isn't read is what is shown of a text that reads as no tree
+pub refusal_shown : (text : List ℕ) → ((t : ProgramTree) → ¬ (Reads text t)) → (s : Status) (b : List ℕ) → IsJust ProgramRefused not_built_line s b → IsShown text s b
+refusal_shown text none s b h = subst (λ (x : Status). IsShown text x b) (sym h.0) (none, h.1)
+
+-- what is shown of a file's text is an answer
+pub shown_may_answer : (program : List ℕ) (files : Contents) (failed : List ℕ → Type 0) (text : List ℕ) → content files program ≡ Some text → (s : Status) (b : List ℕ) → IsShown text s b → MayAnswer (Some (show program)) files failed s b
+shown_may_answer program files failed text e Done b h = rw e h
+shown_may_answer program files failed text e ProgramRefused b h = rw e h
+shown_may_answer program files failed text e BadWords b h = absurd h
+shown_may_answer program files failed text e ReadFault b h = absurd h
+shown_may_answer program files failed text e WriteFault b h = absurd h
+shown_may_answer program files failed text e NoMemory b h = absurd h
+
+-- where no input and no sink failed, what came is the answer whole, or memory ran out
+pub whole_of : (request : Option Request) (files : Contents) (failed : List ℕ → Type 0) (sink_failed : Type 0) (taken : Option (List ℕ)) (before sent : List ℕ) (status : Status)
+    → taken ≡ Some (before ++ sent) → IsOutcome (MayAnswer request files failed) sink_failed sent status
+    → ((name : List ℕ) → IsOneOf (inputs_of request) name → ¬ (failed name)) → ¬ sink_failed
+    → (status ≡ NoMemory) ⊎ ((bytes : List ℕ) × Answers request files status bytes × (taken ≡ Some (before ++ bytes)))
+whole_of request files failed sink_failed taken before sent Done e o none sure = inr (sent, o, e)
+whole_of request files failed sink_failed taken before sent BadWords e o none sure = inr (sent, o, e)
+whole_of request files failed sink_failed taken before sent ProgramRefused e o none sure = inr (sent, o, e)
+whole_of request files failed sink_failed taken before sent ReadFault e o none sure = absurd (none o.name o.input o.count)
+whole_of request files failed sink_failed taken before sent WriteFault e o none sure = absurd (sure o.0)
+whole_of request files failed sink_failed taken before sent NoMemory e o none sure = inl refl

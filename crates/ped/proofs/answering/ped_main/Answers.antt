@@ -1,0 +1,17 @@
+use Rattle.std.proofs.Common.{ℕ, List, Some, Option, subst, sym}
+use Rattle.ped_io.specs.Outside.{Rose}
+use Rattle.ped.specs.Answer.{Request, show, MayAnswer, IsOutcome}
+use Rattle.ped.proofs.Outcomes.{whole_of}
+use Rattle.ped.proofs.answering.ped_main.Goals as goal
+
+pub returns-in-Some-clause-answer : goal.returns-in-Some-clause-answer
+returns-in-Some-clause-answer g c = λ files told before taken.
+    let o = c.show_file.ensures.answer files told before taken in
+    let failed : List ℕ → Type 0 = λ (name : List ℕ). Rose (g.F.Shelf.count c.args.shelf.now name) (g.F.Shelf.count c.show_file.new.shelf name) in
+    (o.0, o.1, subst (λ (r : Option Request). IsOutcome (MayAnswer r files failed) (Rose (g.K.Sink.faults c.args.out.now) (g.K.Sink.faults c.show_file.new.out)) o.0 c.show_file.result) (sym c.in-Some.ensures) o.2)
+
+pub returns-in-Some-clause-complete : goal.returns-in-Some-clause-complete
+returns-in-Some-clause-complete g c = λ files told before taken none sure.
+    let o = returns-in-Some-clause-answer g c files told before taken in
+    let failed : List ℕ → Type 0 = λ (name : List ℕ). Rose (g.F.Shelf.count c.args.shelf.now name) (g.F.Shelf.count c.show_file.new.shelf name) in
+    whole_of _ files failed _ _ before o.0 c.show_file.result o.1 o.2 none sure

@@ -1,0 +1,111 @@
+-- The answer to words and files, and what a call may have done of it.
+use Rattle.std.specs.Prelude.{◌≡◌, ◌⊎◌, ℕ, List, [], ◌∷◌, ◌++◌, codes, Bool, true, false, not, ◌&&◌, ◌==◌, Option, Some, None, MatchOption, if◌then◌else◌}
+use Rattle.ped_io.specs.Outside.{Contents, content}
+use Rattle.ped_tree.specs.Tree.{ProgramTree}
+use Rattle.ped_tree.specs.SourcePane.{source_pane}
+use Rattle.ped_tree.specs.DependencePane.{IsDependencePane}
+use Rattle.ped.specs.declared.answering.Status.{Status}
+use Rattle.ped.specs.declared.answering.Status.TheVariants.{Done, BadWords, ReadFault, WriteFault, ProgramRefused, NoMemory}
+use Rattle.ped.specs.SmallForm.{same, Reads}
+
+-- what the words ask for: both panes of the program in this file
+pub data Request : Type 0 where
+  show : List ℕ → Request
+
+-- begins with `-`, as no file's name among the words does
+abbrev pub begins_with_dash : List ℕ → Bool
+begins_with_dash [] = false
+begins_with_dash (c ∷ cs) = c == 45
+
+-- `show` and a file's name
+abbrev pub show_request : List (List ℕ) → Option Request
+show_request [] = None
+show_request (program ∷ []) = if begins_with_dash program then None else Some (show program)
+show_request (program ∷ word ∷ words) = None
+
+-- what the words ask for, where they are of the form
+abbrev pub request_of : List (List ℕ) → Option Request
+request_of [] = None
+request_of (mode ∷ words) = if same mode (codes "show") then show_request words else None
+
+-- the files that a request reads, in order
+abbrev pub inputs_of : Option Request → List (List ℕ)
+inputs_of None = []
+inputs_of (Some (show program)) = program ∷ []
+
+-- one of these names
+abbrev pub IsOneOf : List (List ℕ) → List ℕ → Type 0
+IsOneOf [] name = ⊥
+IsOneOf (n ∷ names) name = (name ≡ n) ⊎ IsOneOf names name
+
+-- how the program is called
+abbrev pub usage_line : List ℕ
+usage_line = codes "usage: ped show PROGRAM | session PROGRAM SCRIPT [--data FILE] | generate N" ++ 10 ∷ []
+
+-- a file can't be read
+abbrev pub cannot_read_line : List ℕ → List ℕ
+cannot_read_line name = codes "ped: cannot read " ++ name ++ 10 ∷ []
+
+-- the program isn't of the small form, the only one that is read so far
+abbrev pub not_built_line : List ℕ
+not_built_line = codes "ped: refused 0 NotBuilt" ++ 10 ∷ []
+
+-- both panes of a program
+abbrev pub ArePanes : ProgramTree → List ℕ → Type 0
+ArePanes t bytes = (pane : List ℕ) × IsDependencePane t pane × (bytes ≡ source_pane t ++ pane)
+
+-- what is shown of a program's text: both panes of its tree, or that it isn't read
+abbrev pub IsShown : List ℕ → Status → List ℕ → Type 0
+IsShown text Done bytes = (t : ProgramTree) × Reads text t × ArePanes t bytes
+IsShown text ProgramRefused bytes = ((t : ProgramTree) → ¬ (Reads text t)) × (bytes ≡ not_built_line)
+IsShown text BadWords bytes = ⊥
+IsShown text ReadFault bytes = ⊥
+IsShown text WriteFault bytes = ⊥
+IsShown text NoMemory bytes = ⊥
+
+-- the answer to a request: its status and its bytes, by what the shelf holds
+abbrev pub Answers : Option Request → Contents → Status → List ℕ → Type 0
+Answers None files status bytes = (status ≡ BadWords) × (bytes ≡ usage_line)
+Answers (Some (show program)) files status bytes =
+    MatchOption (content files program) ((status ≡ ReadFault) × (bytes ≡ cannot_read_line program)) (λ text. IsShown text status bytes)
+
+-- a file of the request whose count of faults rose, and the line that says so
+pub record CannotRead (request : Option Request) (failed : List ℕ → Type 0) (line : List ℕ) : Type 0 where
+  pub name : List ℕ
+  pub input : IsOneOf (inputs_of request) name
+  pub count : failed name
+  pub says : line ≡ cannot_read_line name
+
+-- what may be answered: the answer; or that a file can't be read, only where its count of faults rose
+abbrev pub MayAnswer : Option Request → Contents → (List ℕ → Type 0) → Status → List ℕ → Type 0
+MayAnswer request files failed ReadFault bytes = CannotRead request failed bytes
+MayAnswer request files failed Done bytes = Answers request files Done bytes
+MayAnswer request files failed BadWords bytes = Answers request files BadWords bytes
+MayAnswer request files failed ProgramRefused bytes = Answers request files ProgramRefused bytes
+MayAnswer request files failed WriteFault bytes = ⊥
+MayAnswer request files failed NoMemory bytes = ⊥
+
+-- some bytes are the front of others
+abbrev pub IsFront : List ℕ → List ℕ → Type 0
+IsFront front bytes = (rest : List ℕ) × (front ++ rest ≡ bytes)
+
+-- nothing, or a front of what may be answered
+abbrev pub IsFrontOfAnswer : (Status → List ℕ → Type 0) → List ℕ → Type 0
+IsFrontOfAnswer answers sent = (sent ≡ []) ⊎ ((status : Status) × (bytes : List ℕ) × answers status bytes × IsFront sent bytes)
+
+-- what was sent, and how it ended: an answer whole; or a front of one, where the sink failed or memory ran out
+abbrev pub IsOutcome : (Status → List ℕ → Type 0) → Type 0 → List ℕ → Status → Type 0
+IsOutcome answers sink_failed sent Done = answers Done sent
+IsOutcome answers sink_failed sent BadWords = answers BadWords sent
+IsOutcome answers sink_failed sent ReadFault = answers ReadFault sent
+IsOutcome answers sink_failed sent ProgramRefused = answers ProgramRefused sent
+IsOutcome answers sink_failed sent WriteFault = sink_failed × IsFrontOfAnswer answers sent
+IsOutcome answers sink_failed sent NoMemory = IsFrontOfAnswer answers sent
+
+-- this answer and no other
+abbrev pub IsJust : Status → List ℕ → Status → List ℕ → Type 0
+IsJust only text status bytes = (status ≡ only) × (bytes ≡ text)
+
+-- both panes of the tree, and no other answer
+abbrev pub ShowsTree : ProgramTree → Status → List ℕ → Type 0
+ShowsTree t status bytes = (status ≡ Done) × ArePanes t bytes

@@ -1,0 +1,214 @@
+//! The top call: words and files to an answer and a status.
+
+ghost use Rattle.std.specs.Prelude.{◌≡◌, ◌≢◌, ◌⊎◌, ◌++◌, ◌≤◌, ℕ, List, Some, None, map, string_bytes, MatchOption, IfOk};
+ghost use Rattle.ped_io.specs.Outside.{Contents, IsHeld, Rose};
+ghost use Rattle.ped_tree.specs.Tree.{ProgramTree};
+ghost use Rattle.ped.specs.SmallTree.{small_tree};
+ghost use Rattle.ped.specs.Answer;
+ghost use Rattle.ped.specs.Answer.{request_of, show, inputs_of, IsOneOf, Answers, MayAnswer, IsOutcome, IsShown, IsJust, ShowsTree};
+
+use crate::panes::panes;
+use crate::reading::Small;
+use ped_base::{Bytes, NoMemory};
+use ped_io::{LoadError, PutFault, Shelf, Sink, load, put_all};
+use std::alloc::Global;
+
+/// How a call of the program ended. Its number is the exit status.
+#[derive(Clone, Copy, Debug, PartialEq, Eq)]
+pub enum Status {
+    /// The answer was written whole.
+    Done = 0,
+    /// The words are not of the form; the usage line was written.
+    BadWords = 2,
+    /// A file could not be read; a line that names it was written.
+    ReadFault = 3,
+    /// The output failed; a front of what was to be written was taken.
+    WriteFault = 4,
+    /// The program's text was refused; a line that says so was written.
+    ProgramRefused = 5,
+    /// There was not enough memory; a front of what was to be written was taken.
+    NoMemory = 6,
+}
+
+impl Status {
+    ghost use Rattle.ped.specs.Statuses.{number_of};
+
+    /// The exit status.
+    pub fn number(self) -> u8
+        ensures { result ≡ number_of self }
+    {
+        self as u8
+    }
+}
+
+/// The most bytes that a program may have.
+const PROGRAM_LIMIT: u64 = 1_048_576;
+
+/// Answers the words, which are those after the program's name: reads the files that they name from
+/// the shelf, and writes the answer to `out`. It is written whole, with its status, unless memory runs
+/// out, the shelf fails at a file of the words, or the sink fails.
+pub fn ped_main<F: Shelf, K: Sink>(
+    alloc: Global,
+    words: &[String],
+    shelf: &mut F,
+    out: &mut K,
+) -> Status
+    // Over a shelf and a sink that tell, the bytes sent and the status are those of the answer, unless
+    // the shelf, the sink or the memory kept it from being written whole.
+    ensures answer { (files : Contents) → F.told shelf.old ≡ Some files → (before : List ℕ) → K.taken out.old ≡ Some before →
+        (sent : List ℕ) × (K.taken out.new ≡ Some (before ++ sent)) × IsOutcome
+            (MayAnswer (request_of (map string_bytes words.now)) files (λ name. Rose (F.count shelf.old name) (F.count shelf.new name)))
+            (Rose (K.faults out.old) (K.faults out.new)) sent result }
+
+    // Whatever they tell, the words decide on theirs, and a fault has its cause.
+    ensures words { result ≡ Status.BadWords → request_of (map string_bytes words.now) ≡ None }
+    ensures other_words { request_of (map string_bytes words.now) ≡ None → (result ≡ Status.BadWords) ⊎ (result ≡ Status.WriteFault) ⊎ (result ≡ Status.NoMemory) }
+    ensures read_fault { result ≡ Status.ReadFault → (name : List ℕ) × IsOneOf (inputs_of (request_of (map string_bytes words.now))) name × Rose (F.count shelf.old name) (F.count shelf.new name) }
+    ensures write_fault { result ≡ Status.WriteFault → Rose (K.faults out.old) (K.faults out.new) }
+
+    // Where neither has failed, the answer is written whole, unless memory ran out.
+    ensures complete { (files : Contents) → F.told shelf.old ≡ Some files → (before : List ℕ) → K.taken out.old ≡ Some before →
+        ((name : List ℕ) → IsOneOf (inputs_of (request_of (map string_bytes words.now))) name → ¬ (Rose (F.count shelf.old name) (F.count shelf.new name))) →
+        ¬ (Rose (K.faults out.old) (K.faults out.new)) →
+        (result ≡ Status.NoMemory) ⊎ ((bytes : List ℕ) × Answers (request_of (map string_bytes words.now)) files result bytes × (K.taken out.new ≡ Some (before ++ bytes))) }
+
+    // What stays.
+    ensures same { F.told shelf.new ≡ F.told shelf.old }
+    ensures counts { (name : List ℕ) → F.count shelf.old name ≤ F.count shelf.new name }
+    ensures others { (files : Contents) → F.told shelf.old ≡ Some files →
+        (name : List ℕ) → ¬ (IsOneOf (inputs_of (request_of (map string_bytes words.now))) name) → IsHeld files name → F.count shelf.new name ≡ F.count shelf.old name }
+    ensures faults { K.faults out.old ≤ K.faults out.new }
+    ensures untold { K.taken out.old ≡ None → K.taken out.new ≡ None }
+{
+    match request(words) {
+        None => finish(out, USAGE, Status::BadWords),
+        Some(program) => show_file(alloc, program, shelf, out),
+    }
+}
+
+const USAGE: &[u8] =
+    b"usage: ped show PROGRAM | session PROGRAM SCRIPT [--data FILE] | generate N\n";
+
+const NOT_BUILT: &[u8] = b"ped: refused 0 NotBuilt\n";
+
+/// The file that the words ask to show: none where they are not `show` and one word that doesn't begin
+/// with `-`.
+fn request(words: &[String]) -> Option<&str>
+    ensures { MatchOption result (request_of (map string_bytes words.now) ≡ None) (λ program. request_of (map string_bytes words.now) ≡ Some (show program.now)) }
+{
+    if words.len() != 2 {
+        return None;
+    }
+    let mode = words[0].as_bytes();
+    let program = words[1].as_str();
+    if mode == b"show".as_slice() && !begins_with_dash(program.as_bytes()) {
+        Some(program)
+    } else {
+        None
+    }
+}
+
+fn begins_with_dash(word: &[u8]) -> bool
+    ensures { result ≡ Answer.begins_with_dash word.now }
+{
+    match word {
+        [first, ..] => *first == b'-',
+        [] => false,
+    }
+}
+
+/// Shows the program in a file.
+fn show_file<F: Shelf, K: Sink>(alloc: Global, program: &str, shelf: &mut F, out: &mut K) -> Status
+    ensures answer { (files : Contents) → F.told shelf.old ≡ Some files → (before : List ℕ) → K.taken out.old ≡ Some before →
+        (sent : List ℕ) × (K.taken out.new ≡ Some (before ++ sent)) × IsOutcome
+            (MayAnswer (Some (show program.now)) files (λ name. Rose (F.count shelf.old name) (F.count shelf.new name)))
+            (Rose (K.faults out.old) (K.faults out.new)) sent result }
+    ensures words { result ≢ Status.BadWords }
+    ensures read_fault { result ≡ Status.ReadFault → Rose (F.count shelf.old program.now) (F.count shelf.new program.now) }
+    ensures write_fault { result ≡ Status.WriteFault → Rose (K.faults out.old) (K.faults out.new) }
+    ensures same { F.told shelf.new ≡ F.told shelf.old }
+    ensures counts { (name : List ℕ) → F.count shelf.old name ≤ F.count shelf.new name }
+    ensures others { (files : Contents) → F.told shelf.old ≡ Some files →
+        (name : List ℕ) → name ≢ program.now → IsHeld files name → F.count shelf.new name ≡ F.count shelf.old name }
+    ensures faults { K.faults out.old ≤ K.faults out.new }
+    ensures untold { K.taken out.old ≡ None → K.taken out.new ≡ None }
+{
+    match load(alloc, shelf, program, PROGRAM_LIMIT) {
+        Ok(text) => show_text(alloc, text.as_slice(), out),
+        Err(LoadError::TooLong) => finish(out, NOT_BUILT, Status::ProgramRefused),
+        Err(LoadError::ReadFault) => cannot_read(alloc, program, out),
+        Err(LoadError::NoMemory) => Status::NoMemory,
+    }
+}
+
+/// Says that a file can't be read.
+fn cannot_read<K: Sink>(alloc: Global, name: &str, out: &mut K) -> Status
+    ensures answer { (before : List ℕ) → K.taken out.old ≡ Some before →
+        (sent : List ℕ) × (K.taken out.new ≡ Some (before ++ sent)) × IsOutcome (IsJust Status.ReadFault (Answer.cannot_read_line name.now)) (Rose (K.faults out.old) (K.faults out.new)) sent result }
+    ensures ends { (result ≡ Status.ReadFault) ⊎ (result ≡ Status.WriteFault) ⊎ (result ≡ Status.NoMemory) }
+    ensures write_fault { result ≡ Status.WriteFault → Rose (K.faults out.old) (K.faults out.new) }
+    ensures faults { K.faults out.old ≤ K.faults out.new }
+    ensures untold { K.taken out.old ≡ None → K.taken out.new ≡ None }
+{
+    match cannot_read_line(alloc, name) {
+        Ok(line) => finish(out, line.as_slice(), Status::ReadFault),
+        Err(NoMemory) => Status::NoMemory,
+    }
+}
+
+fn cannot_read_line(alloc: Global, name: &str) -> Result<Bytes, NoMemory>
+    ensures { IfOk result (λ line. line ≡ Answer.cannot_read_line name.now) }
+{
+    let mut line = Bytes::new(alloc);
+    line.extend_from_slice(b"ped: cannot read ")?;
+    line.extend_from_slice(name.as_bytes())?;
+    line.push(b'\n')?;
+    Ok(line)
+}
+
+/// Shows the program of a text.
+fn show_text<K: Sink>(alloc: Global, text: &[u8], out: &mut K) -> Status
+    ensures answer { (before : List ℕ) → K.taken out.old ≡ Some before →
+        (sent : List ℕ) × (K.taken out.new ≡ Some (before ++ sent)) × IsOutcome (IsShown text.now) (Rose (K.faults out.old) (K.faults out.new)) sent result }
+    ensures ends { (result ≡ Status.Done) ⊎ (result ≡ Status.ProgramRefused) ⊎ (result ≡ Status.WriteFault) ⊎ (result ≡ Status.NoMemory) }
+    ensures write_fault { result ≡ Status.WriteFault → Rose (K.faults out.old) (K.faults out.new) }
+    ensures faults { K.faults out.old ≤ K.faults out.new }
+    ensures untold { K.taken out.old ≡ None → K.taken out.new ≡ None }
+{
+    match Small::read(text) {
+        Some(small) => show_small(alloc, &small, out),
+        None => finish(out, NOT_BUILT, Status::ProgramRefused),
+    }
+}
+
+/// Shows both panes of what was read.
+fn show_small<K: Sink>(alloc: Global, small: &Small, out: &mut K) -> Status
+    ensures answer { (before : List ℕ) → K.taken out.old ≡ Some before →
+        (sent : List ℕ) × (K.taken out.new ≡ Some (before ++ sent)) × IsOutcome (ShowsTree (small_tree small.now)) (Rose (K.faults out.old) (K.faults out.new)) sent result }
+    ensures ends { (result ≡ Status.Done) ⊎ (result ≡ Status.WriteFault) ⊎ (result ≡ Status.NoMemory) }
+    ensures write_fault { result ≡ Status.WriteFault → Rose (K.faults out.old) (K.faults out.new) }
+    ensures faults { K.faults out.old ≤ K.faults out.new }
+    ensures untold { K.taken out.old ≡ None → K.taken out.new ≡ None }
+{
+    match panes(alloc, small) {
+        Ok(bytes) => finish(out, bytes.as_slice(), Status::Done),
+        Err(NoMemory) => Status::NoMemory,
+    }
+}
+
+/// Writes all bytes, and answers the status where they were taken.
+fn finish<K: Sink>(out: &mut K, bytes: &[u8], status: Status) -> Status
+    requires { (status ≢ Status.WriteFault) × (status ≢ Status.NoMemory) }
+    ensures answer { (before : List ℕ) → K.taken out.old ≡ Some before →
+        (sent : List ℕ) × (K.taken out.new ≡ Some (before ++ sent)) × IsOutcome (IsJust status bytes.now) (Rose (K.faults out.old) (K.faults out.new)) sent result }
+    ensures ends { (result ≡ status) ⊎ (result ≡ Status.WriteFault) ⊎ (result ≡ Status.NoMemory) }
+    ensures write_fault { result ≡ Status.WriteFault → Rose (K.faults out.old) (K.faults out.new) }
+    ensures faults { K.faults out.old ≤ K.faults out.new }
+    ensures untold { K.taken out.old ≡ None → K.taken out.new ≡ None }
+{
+    match put_all(out, bytes) {
+        Ok(()) => status,
+        Err(PutFault::WriteFault { .. }) => Status::WriteFault,
+        Err(PutFault::NoMemory { .. }) => Status::NoMemory,
+    }
+}

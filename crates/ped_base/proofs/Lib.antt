@@ -1,0 +1,3 @@
+mod Equal
+mod Keeping
+pub mod Products

@@ -2,4 +2,10 @@ mod Distances
 mod Loops
 pub mod Outcomes
 mod Pairs
+mod SmallAgain
+mod SmallBasics
+mod SmallForms
 pub mod SmallLength
+mod SmallLines
+mod SmallSound
+mod SmallValues

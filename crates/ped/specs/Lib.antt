@@ -1,8 +1,12 @@
 pub mod Answer
 pub mod Dependences
 pub mod Distances
+pub mod Lines
 pub mod PrintedLines
 pub mod Reading
+pub mod Scanning
+pub mod Small
 pub mod SmallForm
+pub mod SmallParts
 pub mod SmallTree
 pub mod Statuses

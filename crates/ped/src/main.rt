@@ -6,11 +6,14 @@ mod adapters;
 mod answering;
 mod declarations;
 mod dependences;
+mod fixed_form;
 mod panes;
 mod printing;
 mod reading;
+mod scanning;
 mod source_pane;
 mod strong;
+mod text_lines;
 mod texts;
 
 use crate::adapters::{DiskShelf, StdSink};

@@ -1,2 +1,5 @@
+pub mod Counts
 pub mod Faults
 pub mod Outside
+pub mod Shelves
+pub mod Sinks

@@ -11,7 +11,7 @@ Rose before now = (before < now) ⊎ (now ≡ 18446744073709551615)
 abbrev pub is_same_text : List ℕ → List ℕ → Bool
 is_same_text one other = pointwise nat_eq one other
 
--- the files that a shelf tells: names with their contents, and what every other name holds, if anything
+-- the files that a shelf tells: names with contents, and what every other name holds, if anything
 pub record Contents : Type 0 where
   pub held : List (List ℕ × List ℕ)
   pub other : Option (List ℕ)
@@ -32,8 +32,8 @@ IsHeld contents name = IsSome (held_content contents name)
 abbrev pub content : Contents → List ℕ → Option (List ℕ)
 content contents name = option_or (held_content contents name) contents.other
 
--- a read of n bytes from `at` on into a piece: these bytes, none past the end, and no byte only where
--- the piece has no room or nothing is left
+-- a read of n bytes from `at` on into a piece: these bytes, none past the end, and no byte only
+-- where the piece has no room or nothing is left
 pub record GivesPart (bytes : List ℕ) (at n : ℕ) (old new : List ℕ) : Type 0 where
   pub part : take n new ≡ take n (drop at bytes)
   pub inside : n ≤ length (drop at bytes)

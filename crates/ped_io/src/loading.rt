@@ -53,14 +53,22 @@ impl From<OutsideFault> for LoadError {
 }
 
 /// Reads a whole file of at most `limit` bytes, in pieces of 4096 bytes.
-pub fn load<F: Shelf>(alloc: Global, shelf: &mut F, name: &str, limit: u64) -> Result<Bytes, LoadError>
-    ensures loaded { IfOk result (λ bytes. (files : Contents) → F.told shelf.old ≡ Some files → content files name.now ≡ Some bytes) }
+pub fn load<F: Shelf>(
+    alloc: Global,
+    shelf: &mut F,
+    name: &str,
+    limit: u64,
+) -> Result<Bytes, LoadError>
+    ensures loaded { IfOk result (λ bytes. (files : Contents) →
+        F.told shelf.old ≡ Some files → content files name.now ≡ Some bytes) }
     ensures within { IfOk result (λ bytes. length bytes ≤ limit) }
 
     // The shelf has counted the fault that stopped the reading.
-    ensures fault { IsErrOf result LoadError.ReadFault → Rose (F.count shelf.old name.now) (F.count shelf.new name.now) }
+    ensures fault { IsErrOf result LoadError.ReadFault →
+        Rose (F.count shelf.old name.now) (F.count shelf.new name.now) }
 
-    ensures too_long { IsErrOf result LoadError.TooLong → (files : Contents) → F.told shelf.old ≡ Some files →
+    ensures too_long { IsErrOf result LoadError.TooLong → (files : Contents) →
+        F.told shelf.old ≡ Some files →
         (bytes : List ℕ) × (content files name.now ≡ Some bytes) × (limit < length bytes) }
     ensures counts { (m : List ℕ) → F.count shelf.old m ≤ F.count shelf.new m }
     ensures others { (files : Contents) → F.told shelf.old ≡ Some files →

@@ -42,9 +42,11 @@ pub trait Shelf {
 
         // A name that holds nothing is never read.
         ensures given { IfOk result (λ n. (files : Contents) → told self.old ≡ Some files →
-            (bytes : List ℕ) × (content files name.now ≡ Some bytes) × GivesPart bytes at n piece.old piece.new) }
+            (bytes : List ℕ) × (content files name.now ≡ Some bytes)
+            × GivesPart bytes at n piece.old piece.new) }
 
-        ensures cause { IsErrOf result OutsideFault.Failed → Rose (count self.old name.now) (count self.new name.now) }
+        ensures cause { IsErrOf result OutsideFault.Failed →
+            Rose (count self.old name.now) (count self.new name.now) }
         ensures counts { (m : List ℕ) → count self.old m ≤ count self.new m }
         ensures others { (files : Contents) → told self.old ≡ Some files →
             (m : List ℕ) → m ≢ name.now → IsHeld files m → count self.new m ≡ count self.old m }
@@ -63,8 +65,10 @@ pub trait Sink {
     fn write(&mut self, piece: &[u8]) -> Result<usize, OutsideFault>
         ensures within { IfOk result (λ n. n ≤ length piece.now) }
         ensures some { IfOk result (λ n. n ≡ 0 → length piece.now ≡ 0) }
-        ensures took { IfOk result (λ n. taken self.new ≡ option_map (λ before. before ++ take n piece.now) (taken self.old)) }
+        ensures took { IfOk result (λ n. taken self.new
+            ≡ option_map (λ before. before ++ take n piece.now) (taken self.old)) }
         ensures err { OnErr result (taken self.new ≡ taken self.old) }
-        ensures cause { IsErrOf result OutsideFault.Failed → Rose (faults self.old) (faults self.new) }
+        ensures cause { IsErrOf result OutsideFault.Failed →
+            Rose (faults self.old) (faults self.new) }
         ensures counts { faults self.old ≤ faults self.new };
 }

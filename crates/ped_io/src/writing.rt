@@ -20,13 +20,16 @@ pub enum PutFault {
 
 /// Writes all bytes, in as many writes as the sink wants.
 pub fn put_all<K: Sink>(sink: &mut K, bytes: &[u8]) -> Result<(), PutFault>
-    ensures all { OnOk result (K.taken sink.new ≡ option_map (λ before. before ++ bytes.now) (K.taken sink.old)) }
-    ensures part { IfErr result (λ fault. K.taken sink.new ≡ option_map (λ before. before ++ take (sent_of fault) bytes.now) (K.taken sink.old)) }
+    ensures all { OnOk result (K.taken sink.new
+        ≡ option_map (λ before. before ++ bytes.now) (K.taken sink.old)) }
+    ensures part { IfErr result (λ fault. K.taken sink.new
+        ≡ option_map (λ before. before ++ take (sent_of fault) bytes.now) (K.taken sink.old)) }
 
     // Something was left.
     ensures left { IfErr result (λ fault. sent_of fault < length bytes.now) }
 
-    ensures cause { IfErr result (λ fault. IsWriteFault fault → Rose (K.faults sink.old) (K.faults sink.new)) }
+    ensures cause { IfErr result (λ fault. IsWriteFault fault →
+        Rose (K.faults sink.old) (K.faults sink.new)) }
     ensures counts { K.faults sink.old ≤ K.faults sink.new }
 {
     let mut sent = 0;

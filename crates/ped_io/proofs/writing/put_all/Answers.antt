@@ -1,4 +1,4 @@
-use Rattle.std.proofs.Common.{rules, ◌≡◌, ◌+◌, ◌-◌, ◌≤◌, ℕ, List, ◌++◌, Option, Some, None, length, take, drop, ap, sym, ◌∙◌, append_assoc, length-drop, arith}
+use Rattle.std.proofs.Common.{◌≡◌, ◌+◌, ◌-◌, ◌≤◌, ℕ, List, ◌++◌, Option, Some, None, length, take, drop, ap, sym, ◌∙◌, append_assoc, length-drop, arith}
 use Rattle.std.specs.Option.{option_map}
 use Rattle.std.proofs.lemmas.List.{length-take, take_rest}
 use Rattle.std.proofs.Math.Seq.{take-add}
@@ -10,20 +10,25 @@ took_more : (start before now : Option (List ℕ)) (bytes piece : List ℕ) (sen
     before ≡ option_map (λ b. b ++ take sent bytes) start →
     now ≡ option_map (λ b. b ++ take n piece) before →
     now ≡ option_map (λ b. b ++ take (sent + n) bytes) start
-took_more None before now bytes piece sent n p e f = f ∙ ap (option_map (λ b. b ++ take n piece)) e
-took_more (Some b) before now bytes piece sent n p e f =
-    f ∙ ap (option_map (λ b. b ++ take n piece)) e
-    ∙ ap (λ t. Some t)
-    (append_assoc b (take sent bytes) (take n piece)
-    ∙ ap (λ t. b ++ t) (ap (λ t. take sent bytes ++ take n t) p ∙ sym (take-add sent n bytes)))
+took_more None before now bytes piece sent n rest was took =
+    took ∙ ap (option_map (λ b. b ++ take n piece)) was
+took_more (Some b) before now bytes piece sent n rest was took =
+    let joined : take sent bytes ++ take n piece ≡ take (sent + n) bytes =
+    ap (λ t. take sent bytes ++ take n t) rest ∙ sym (take-add sent n bytes) in
+    took
+    ∙ ap (option_map (λ b. b ++ take n piece)) was
+    ∙ ap (λ t. Some t) (append_assoc b (take sent bytes) (take n piece) ∙ ap (λ t. b ++ t) joined)
 
 pub loop-sent-preserved : goal.loop-sent-preserved
 loop-sent-preserved g c =
     let bytes : List ℕ = c.args.bytes.now in
-    let rest : List ℕ = take (length bytes - c.loop-sent.sent) (drop c.loop-sent.sent bytes) in
+    let sent : ℕ = c.loop-sent.sent in
+    let left : ℕ = length bytes - sent in
+    let rest : List ℕ = take left (drop sent bytes) in
     let within : c.in-Ok.n ≤ length rest = c.in-Ok.ensures.within in
+    let was = c.loop-sent.invariant.took in
     record {
-      within = omega (arith, within, length-take (length bytes - c.loop-sent.sent) (drop c.loop-sent.sent bytes), length-drop c.loop-sent.sent bytes);
-      took = took_more _ _ _ bytes rest _ _ (take_rest bytes c.loop-sent.sent) c.loop-sent.invariant.took c.in-Ok.ensures.took;
+      within = omega (arith, within, length-take left (drop sent bytes), length-drop sent bytes);
+      took = took_more _ _ _ bytes rest _ _ (take_rest bytes sent) was c.in-Ok.ensures.took;
       counts = omega arith;
     }

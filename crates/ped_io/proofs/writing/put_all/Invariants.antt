@@ -5,7 +5,8 @@ use Rattle.ped_io.proofs.writing.put_all.Given as goal
 abbrev pub invariant-loop-sent : goal.invariant-loop-sent
 invariant-loop-sent g l = record {
   within : l.sent ≤ length l.bytes;
-  took : g.K.Sink.taken l.sink ≡ option_map (λ before. before ++ take l.sent l.bytes) (g.K.Sink.taken l.initial.sink);
+  took : g.K.Sink.taken l.sink
+      ≡ option_map (λ before. before ++ take l.sent l.bytes) (g.K.Sink.taken l.initial.sink);
   counts : g.K.Sink.faults l.initial.sink ≤ g.K.Sink.faults l.sink;
 }
 

@@ -1,7 +1,9 @@
 mod Distances
+mod Finding
 mod Loops
 pub mod Outcomes
 mod Pairs
+mod Rows
 mod SmallAgain
 mod SmallBasics
 mod SmallForms

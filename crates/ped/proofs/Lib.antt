@@ -1,5 +1,6 @@
 mod Distances
 mod Loops
+mod OneAnswer
 pub mod Outcomes
 mod Pairs
 mod SmallAgain

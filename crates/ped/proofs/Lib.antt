@@ -1,6 +1,7 @@
 mod Distances
 mod Finding
 mod Loops
+mod OneAnswer
 pub mod Outcomes
 mod Pairs
 mod Rows

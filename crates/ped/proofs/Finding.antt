@@ -1,5 +1,5 @@
 -- What the code finds for one pair, over plain variables.
-use Rattle.std.proofs.Common.{◌≡◌, ◌↔◌, ◌++◌, ◌∷◌, [], ℤ, ◌-ℤ◌, ◌*ℤ◌, pos, Bool, true, false, not, ◌&&◌, nat_lt, IsTrue, List, Option, if◌then◌else◌, refl, sym, ap, ◌∙◌, append_assoc}
+use Rattle.std.proofs.Common.{◌≡◌, ◌↔◌, ◌++◌, ◌∷◌, [], ℤ, ◌-ℤ◌, ◌*ℤ◌, pos, Bool, true, false, not, ◌&&◌, nat_lt, IsTrue, List, Option, if◌then◌else◌, refl, ap, ◌∙◌, append_assoc}
 use Rattle.ped_base.specs.Whole.{whole_quotient}
 use Rattle.ped_base.specs.Views.{Range}
 use Rattle.ped_tree.specs.Edges.{runs_twice}

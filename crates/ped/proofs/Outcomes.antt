@@ -1,13 +1,13 @@
 -- Outcomes of writing, and how those of a part are those of the whole.
-use Rattle.std.proofs.Common.{◌≡◌, ◌⊎◌, ℕ, List, [], ◌++◌, Option, Some, take, drop, option_map, refl, ap, ◌∙◌, sym, subst, inl, inr}
+use Rattle.std.proofs.Common.{◌≡◌, ◌⊎◌, ℕ, List, ◌++◌, Option, Some, take, drop, refl, sym, subst, inl, inr, arith}
 use Rattle.std.proofs.lemmas.List.{take-append-drop}
-use Rattle.ped_io.specs.Outside.{Contents, content}
+use Rattle.ped_io.specs.Outside.{Contents, content, Rose}
 use Rattle.ped_io.specs.declared.writing.PutFault.{PutFault}
 use Rattle.ped_io.specs.declared.writing.PutFault.TheVariants as put
-use Rattle.ped_io.specs.Faults.{sent_of, IsWriteFault}
+use Rattle.ped_io.specs.Faults.{IsWriteFault}
 use Rattle.ped.specs.declared.answering.Status.{Status}
 use Rattle.ped.specs.declared.answering.Status.TheVariants.{Done, BadWords, ReadFault, WriteFault, ProgramRefused, NoMemory}
-use Rattle.ped.specs.Answer.{Request, show, inputs_of, IsOneOf, CannotRead, MayAnswer, Answers, IsFront, IsFrontOfAnswer, IsOutcome, IsShown, IsJust, ShowsTree, ArePanes, cannot_read_line, not_built_line}
+use Rattle.ped.specs.Answer.{Request, show, inputs_of, IsOneOf, MayAnswer, Answers, IsFrontOfAnswer, IsOutcome, IsShown, IsJust, ShowsTree, cannot_read_line, not_built_line}
 use Rattle.ped_tree.specs.Tree.{ProgramTree}
 use Rattle.ped.specs.SmallForm.{Reads}
 
@@ -66,3 +66,8 @@ whole_of request files failed sink_failed taken before sent ProgramRefused e o n
 whole_of request files failed sink_failed taken before sent ReadFault e o none sure = absurd (none o.name o.input o.count)
 whole_of request files failed sink_failed taken before sent WriteFault e o none sure = absurd (sure o.0)
 whole_of request files failed sink_failed taken before sent NoMemory e o none sure = inl refl
+
+-- a count that is always 0 doesn't rise
+pub never_rises : ¬ (Rose 0 0)
+never_rises (inl less) = omega arith
+never_rises (inr last) = omega arith

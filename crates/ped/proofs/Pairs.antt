@@ -1,17 +1,16 @@
 -- The references, views and dependences of a program of the small form, as the definitions have them.
-use Rattle.std.proofs.Common.{◌≡◌, ◌↔◌, inl, inr, ap₂, if◌then◌else◌, ℕ, ◌≤◌, ◌^◌, List, [], ◌∷◌, ◌++◌, map, Bool, true, false, ◌&&◌, IsTrue, Option, Some, None, ℤ, pos, neg_ℤ, ◌+ℤ◌, ◌-ℤ◌, unsigned_abs, refl, sym, subst, ap, append_assoc, ◌∙◌, arith}
+use Rattle.std.proofs.Common.{◌≡◌, ◌↔◌, inl, inr, ap₂, if◌then◌else◌, ℕ, ◌≤◌, ◌^◌, List, [], ◌∷◌, ◌++◌, Bool, true, false, ◌&&◌, IsTrue, Option, Some, ℤ, pos, neg_ℤ, ◌+ℤ◌, ◌-ℤ◌, unsigned_abs, refl, sym, subst, ap, append_assoc, ◌∙◌, arith}
 use Rattle.std.proofs.lemmas.Int.{ints}
 use Rattle.std.proofs.lemmas.List.{map-append, append-nil}
 use Rattle.std.proofs.lemmas.Bool.{le-leb}
 use Rattle.std.specs.Cmp.Lexicographic.{bytes_decides}
-use Rattle.std.specs.List.{list_all}
 use Rattle.ped_base.specs.declared.directions.Direction.{Direction}
 use Rattle.ped_base.specs.declared.directions.Direction.TheVariants.{Before, Same, After}
 use Rattle.ped_base.specs.Views.{Range, View}
 use Rattle.ped_base.specs.Excluded.{NeverMeetsInStep}
 use Rattle.ped_base.specs.Vectors.{AreThose, IsPossible, AreVectors}
 use Rattle.ped_tree.specs.Tree.{Int, Var}
-use Rattle.ped_tree.specs.References.{Loop, Access, Reference, same_name, read_of, write_of, expr_reads, numbered, references, is_pair}
+use Rattle.ped_tree.specs.References.{Loop, Access, Reference, same_name, read_of, write_of, expr_reads, numbered, references}
 use Rattle.ped_tree.specs.Edges as plain
 use Rattle.ped_tree.specs.Edges.{pairs, proven, pending, runs_twice, PairEdges, EdgesOfPairs, AreEdges}
 use Rattle.ped_tree.specs.Affine.{Affine, affine, affine_of, combination, limited, subscript_pair, view_by as view_options, view_of}
@@ -52,7 +51,7 @@ pub references_are : (small : Small) → references (small_tree small) ≡ refer
 references_are small =
     let v = small.variable in
     let all : List Access → List Access → List Reference = λ (source target : List Access). (numbered 2 1 (loop_of small ∷ [])
-        ((((source ++ []) ++ read_of small.array (subscript_tree v small.source ∷ []) ∷ []) ++ []) ++ ((target ++ []) ++ write_of small.array (subscript_tree v small.target ∷ []) ∷ [])) ++ []) ++ [] in
+    ((((source ++ []) ++ read_of small.array (subscript_tree v small.source ∷ []) ∷ []) ++ []) ++ ((target ++ []) ++ write_of small.array (subscript_tree v small.target ∷ []) ∷ [])) ++ []) ++ [] in
     ap (λ (x : List Access). all x (expr_reads (v ∷ []) (subscript_tree v small.target))) (nothing_read v small.source)
     ∙ ap (λ (x : List Access). all [] x) (nothing_read v small.target)
 
@@ -122,7 +121,7 @@ abbrev pub vectors_by : Signs → List (List Direction)
 vectors_by signs =
     (if signs.before then (Before ∷ []) ∷ [] else [])
     ++ ((if signs.same then (Same ∷ []) ∷ [] else [])
-      ++ ((if signs.after then (After ∷ []) ∷ [] else []) ++ []))
+    ++ ((if signs.after then (After ∷ []) ∷ [] else []) ++ []))
 
 module _ (v : View) (vector : List Direction) where
   chosen_when : (wanted : Bool) (rest : List (List Direction)) (more : List (List Direction)) → (IsTrue wanted ↔ IsPossible v vector) → AreThose (IsPossible v) more rest
@@ -172,7 +171,6 @@ anti_divided small s t false true false = rw (mark_is small (offset_of s) (offse
 anti_divided small s t false false true = refl
 anti_divided small s t false false false = refl
 
-
 -- from the write to the read
 flow_divided : (small : Small) (s t : Subscript) (before same after : Bool) →
     edges_of small.array (edges_by (small_range small) (coded 2 true (offset_of s)) (coded 1 false (offset_of t)) (signs_of before same after))
@@ -203,7 +201,7 @@ output_divided small s t false false false = refl
 pair_edges : (small : Small) (n m : ℕ) (w x : Bool) (s t : Subscript) (signs : Signs) → unsigned_abs (offset_of s) ≤ 2 ^ 62 → unsigned_abs (offset_of t) ≤ 2 ^ 62
     → ArePossible (small_range small) (offset_of s) (offset_of t) signs
     → edges_of small.array (edges_by (small_range small) (coded n w (offset_of s)) (coded m x (offset_of t)) signs)
-      ≡ plain.edges_by (reference_of small n w s) (reference_of small m x t) (view_by small (offset_of s) (offset_of t)) (vectors_by signs)
+    ≡ plain.edges_by (reference_of small n w s) (reference_of small m x t) (view_by small (offset_of s) (offset_of t)) (vectors_by signs)
     → PairEdges (reference_of small n w s) (reference_of small m x t) (edges_of small.array (edges_by (small_range small) (coded n w (offset_of s)) (coded m x (offset_of t)) signs))
 pair_edges small n m w x s t signs hs ht possible divided = record {
   view = view_by small (offset_of s) (offset_of t);
@@ -227,10 +225,10 @@ found_by small r n m w x a b c d old before new er ea eb eo h = record {
   signs = h.0;
   possible = subst (λ (q : Range). ArePossible q c d h.0) er (subst (λ (y : ℤ). ArePossible r c y h.0) eb (subst (λ (y : ℤ). ArePossible r y b h.0) ea h.1));
   added =
-    h.2 ∙ ap (λ (es : List Edge). es ++ edges_by r (coded n w a) (coded m x b) h.0) eo
-    ∙ ap (λ (y : ℤ). before ++ edges_by r (coded n w y) (coded m x b) h.0) ea
-    ∙ ap (λ (y : ℤ). before ++ edges_by r (coded n w c) (coded m x y) h.0) eb
-    ∙ ap (λ (q : Range). before ++ edges_by q (coded n w c) (coded m x d) h.0) er;
+      h.2 ∙ ap (λ (es : List Edge). es ++ edges_by r (coded n w a) (coded m x b) h.0) eo
+      ∙ ap (λ (y : ℤ). before ++ edges_by r (coded n w y) (coded m x b) h.0) ea
+      ∙ ap (λ (y : ℤ). before ++ edges_by r (coded n w c) (coded m x y) h.0) eb
+      ∙ ap (λ (q : Range). before ++ edges_by q (coded n w c) (coded m x d) h.0) er;
 }
 
 -- what is found pair by pair are the dependences of the program
@@ -249,15 +247,26 @@ found_are_edges small one two all hs ht f g h =
     let e = edges_of small.array in
     let whole : all ≡ (anti ++ flow) ++ output = h.added ∙ ap (λ (x : List Edge). x ++ output) (g.added ∙ ap (λ (x : List Edge). x ++ flow) f.added) in
     let split : edges_of small.array all ≡ e anti ++ (e flow ++ (e output ++ [])) =
-        ap e whole ∙ map-append (edge_of small.array) (anti ++ flow) output ∙ ap (λ (x : List plain.Edge). x ++ e output) (map-append (edge_of small.array) anti flow)
-        ∙ append_assoc (e anti) (e flow) (e output) ∙ ap (λ (x : List plain.Edge). e anti ++ (e flow ++ x)) (sym (append-nil (e output))) in
-    let pairwise : EdgesOfPairs ((reference_of small 1 false s, reference_of small 2 true t) ∷ (reference_of small 2 true t, reference_of small 1 false s) ∷ (reference_of small 2 true t, reference_of small 2 true t) ∷ []) (edges_of small.array all) =
-        (e anti, e flow ++ (e output ++ []), split,
-          pair_edges small 1 2 false true s t f.signs hs ht f.possible (anti_divided small s t f.signs.before f.signs.same f.signs.after),
-          (e flow, e output ++ [], refl,
-            pair_edges small 2 1 true false t s g.signs ht hs g.possible (flow_divided small t s g.signs.before g.signs.same g.signs.after),
-            (e output, [], refl,
-              pair_edges small 2 2 true true t t h.signs ht ht h.possible (output_divided small t t h.signs.before h.signs.same h.signs.after),
-              refl))) in
+    ap e whole ∙ map-append (edge_of small.array) (anti ++ flow) output ∙ ap (λ (x : List plain.Edge). x ++ e output) (map-append (edge_of small.array) anti flow)
+    ∙ append_assoc (e anti) (e flow) (e output) ∙ ap (λ (x : List plain.Edge). e anti ++ (e flow ++ x)) (sym (append-nil (e output))) in
+    let pairwise : EdgesOfPairs ((reference_of small 1 false s, reference_of small 2 true t) ∷ (reference_of small 2 true t, reference_of small 1 false s) ∷ (reference_of small 2 true t, reference_of small 2 true t) ∷ []) (edges_of small.array all) = (
+      e anti,
+      e flow ++ (e output ++ []),
+      split,
+      pair_edges small 1 2 false true s t f.signs hs ht f.possible (anti_divided small s t f.signs.before f.signs.same f.signs.after),
+      (
+        e flow,
+        e output ++ [],
+        refl,
+        pair_edges small 2 1 true false t s g.signs ht hs g.possible (flow_divided small t s g.signs.before g.signs.same g.signs.after),
+        (
+          e output,
+          [],
+          refl,
+          pair_edges small 2 2 true true t t h.signs ht ht h.possible (output_divided small t t h.signs.before h.signs.same h.signs.after),
+          refl,
+        ),
+      ),
+    ) in
     subst (λ (refs : List Reference). EdgesOfPairs (pairs refs) (edges_of small.array all)) (sym (references_are small))
     (subst (λ (ps : List (Reference × Reference)). EdgesOfPairs ps (edges_of small.array all)) (sym (pairs_are small s t)) pairwise)

@@ -1,5 +1,5 @@
 -- The answer to words and files, and what a call may have done of it.
-use Rattle.std.specs.Prelude.{◌≡◌, ◌⊎◌, ℕ, List, [], ◌∷◌, ◌++◌, codes, Bool, true, false, not, ◌&&◌, ◌==◌, Option, Some, None, MatchOption, if◌then◌else◌}
+use Rattle.std.specs.Prelude.{◌≡◌, ◌⊎◌, ℕ, List, [], ◌∷◌, ◌++◌, codes, Bool, false, ◌==◌, Option, Some, None, MatchOption, if◌then◌else◌}
 use Rattle.ped_io.specs.Outside.{Contents, content}
 use Rattle.ped_tree.specs.Tree.{ProgramTree}
 use Rattle.ped_tree.specs.SourcePane.{source_pane}
@@ -101,6 +101,10 @@ IsOutcome answers sink_failed sent ReadFault = answers ReadFault sent
 IsOutcome answers sink_failed sent ProgramRefused = answers ProgramRefused sent
 IsOutcome answers sink_failed sent WriteFault = sink_failed × IsFrontOfAnswer answers sent
 IsOutcome answers sink_failed sent NoMemory = IsFrontOfAnswer answers sent
+
+-- what the sink took behind the bytes before, and how the call ended
+abbrev pub Sends : (Status → List ℕ → Type 0) → Type 0 → List ℕ → Option (List ℕ) → Status → Type 0
+Sends answers sink_failed before taken status = (sent : List ℕ) × (taken ≡ Some (before ++ sent)) × IsOutcome answers sink_failed sent status
 
 -- this answer and no other
 abbrev pub IsJust : Status → List ℕ → Status → List ℕ → Type 0

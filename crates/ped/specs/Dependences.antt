@@ -1,5 +1,5 @@
 -- The dependences that the code finds, and what they stand for.
-use Rattle.std.specs.Prelude.{◌≡◌, ◌↔◌, ℕ, ℤ, pos, neg_ℤ, ◌-ℤ◌, ◌*ℤ◌, List, [], ◌∷◌, ◌++◌, map, Bool, true, false, ◌&&◌, nat_lt, IsTrue, Option, Some, None, if◌then◌else◌}
+use Rattle.std.specs.Prelude.{◌↔◌, ℕ, ℤ, pos, neg_ℤ, ◌-ℤ◌, ◌*ℤ◌, List, [], ◌∷◌, ◌++◌, map, Bool, true, false, ◌&&◌, nat_lt, IsTrue, Option, Some, None, if◌then◌else◌}
 use Rattle.ped_base.specs.declared.directions.Direction.{Direction}
 use Rattle.ped_base.specs.declared.directions.Direction.TheVariants.{Before, Same, After}
 use Rattle.ped_base.specs.Whole.{whole_quotient}

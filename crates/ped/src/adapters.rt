@@ -6,10 +6,9 @@ ghost use Rattle.ped_io.specs.Outside.{Rose};
 
 use ped_io::{OutsideFault, Shelf, Sink};
 use std::alloc::Global;
-use std::fs;
-use std::io;
 use std::io::{Read, Seek, SeekFrom};
 use std::rt::Files;
+use std::{fs, io};
 
 /// The machine's files by their paths. One file at a time stays open, so that it is read on where the
 /// last read ended.
@@ -135,7 +134,10 @@ mod tests {
         assert_eq!(rt; piece.as_slice(), b"ell".as_slice());
         fs::remove_file(&rt, name)?;
         assert_eq!(rt; shelf.faults, 0);
-        assert_eq!(rt; shelf.read_at(name, 0, &mut piece), Err(OutsideFault::Failed));
+        assert_eq!(rt;
+            shelf.read_at(name, 0, &mut piece),
+            Err(OutsideFault::Failed)
+        );
         assert_eq!(rt; shelf.faults, 1);
         Ok(())
     }

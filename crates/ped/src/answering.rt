@@ -6,7 +6,7 @@ ghost use Rattle.ped_io.specs.Shelves.{all_names};
 ghost use Rattle.ped_tree.specs.Tree.{ProgramTree};
 ghost use Rattle.ped.specs.SmallTree.{small_tree};
 ghost use Rattle.ped.specs.Answer;
-ghost use Rattle.ped.specs.Answer.{Request, request_of, show, inputs_of, IsOneOf, Answers, MayAnswer, IsOutcome, IsShown, IsJust, ShowsTree};
+ghost use Rattle.ped.specs.Answer.{Request, request_of, show, inputs_of, IsOneOf, Answers, MayAnswer, Sends, IsShown, IsJust, ShowsTree};
 
 use crate::panes::panes;
 use crate::reading::Small;
@@ -56,28 +56,37 @@ pub fn ped_main<F: Shelf, K: Sink>(
 ) -> Status
     // Over a shelf and a sink that tell, the bytes sent and the status are those of the answer, unless
     // the shelf, the sink or the memory kept it from being written whole.
-    ensures answer { (files : Contents) → F.told shelf.old ≡ Some files → (before : List ℕ) → K.taken out.old ≡ Some before →
-        (sent : List ℕ) × (K.taken out.new ≡ Some (before ++ sent)) × IsOutcome
-            (MayAnswer (request_of (map string_bytes words.now)) files (λ name. Rose (F.count shelf.old name) (F.count shelf.new name)))
-            (Rose (K.faults out.old) (K.faults out.new)) sent result }
+    ensures answer { (files : Contents) → F.told shelf.old ≡ Some files →
+        (before : List ℕ) → K.taken out.old ≡ Some before →
+        Sends (MayAnswer (request_of (map string_bytes words.now)) files
+        (λ name. Rose (F.count shelf.old name) (F.count shelf.new name)))
+        (Rose (K.faults out.old) (K.faults out.new)) before (K.taken out.new) result }
 
     // Whatever they tell, the words decide on theirs, and a fault has its cause.
     ensures words { result ≡ Status.BadWords → request_of (map string_bytes words.now) ≡ None }
-    ensures other_words { request_of (map string_bytes words.now) ≡ None → (result ≡ Status.BadWords) ⊎ (result ≡ Status.WriteFault) ⊎ (result ≡ Status.NoMemory) }
-    ensures read_fault { result ≡ Status.ReadFault → (name : List ℕ) × IsOneOf (inputs_of (request_of (map string_bytes words.now))) name × Rose (F.count shelf.old name) (F.count shelf.new name) }
+    ensures other_words { request_of (map string_bytes words.now) ≡ None →
+        (result ≡ Status.BadWords) ⊎ (result ≡ Status.WriteFault) ⊎ (result ≡ Status.NoMemory) }
+    ensures read_fault { result ≡ Status.ReadFault →
+        (name : List ℕ) × IsOneOf (inputs_of (request_of (map string_bytes words.now))) name
+        × Rose (F.count shelf.old name) (F.count shelf.new name) }
     ensures write_fault { result ≡ Status.WriteFault → Rose (K.faults out.old) (K.faults out.new) }
 
     // Where neither has failed, the answer is written whole, unless memory ran out.
-    ensures complete { (files : Contents) → F.told shelf.old ≡ Some files → (before : List ℕ) → K.taken out.old ≡ Some before →
-        ((name : List ℕ) → IsOneOf (inputs_of (request_of (map string_bytes words.now))) name → ¬ (Rose (F.count shelf.old name) (F.count shelf.new name))) →
+    ensures complete { (files : Contents) → F.told shelf.old ≡ Some files →
+        (before : List ℕ) → K.taken out.old ≡ Some before →
+        ((name : List ℕ) → IsOneOf (inputs_of (request_of (map string_bytes words.now))) name →
+        ¬ (Rose (F.count shelf.old name) (F.count shelf.new name))) →
         ¬ (Rose (K.faults out.old) (K.faults out.new)) →
-        (result ≡ Status.NoMemory) ⊎ ((bytes : List ℕ) × Answers (request_of (map string_bytes words.now)) files result bytes × (K.taken out.new ≡ Some (before ++ bytes))) }
+        (result ≡ Status.NoMemory) ⊎ ((bytes : List ℕ)
+        × Answers (request_of (map string_bytes words.now)) files result bytes
+        × (K.taken out.new ≡ Some (before ++ bytes))) }
 
     // What stays.
     ensures same { F.told shelf.new ≡ F.told shelf.old }
     ensures counts { (name : List ℕ) → F.count shelf.old name ≤ F.count shelf.new name }
-    ensures others { (files : Contents) → F.told shelf.old ≡ Some files →
-        (name : List ℕ) → ¬ (IsOneOf (inputs_of (request_of (map string_bytes words.now))) name) → IsHeld files name → F.count shelf.new name ≡ F.count shelf.old name }
+    ensures others { (files : Contents) → F.told shelf.old ≡ Some files → (name : List ℕ) →
+        ¬ (IsOneOf (inputs_of (request_of (map string_bytes words.now))) name) → IsHeld files name →
+        F.count shelf.new name ≡ F.count shelf.old name }
     ensures faults { K.faults out.old ≤ K.faults out.new }
     ensures untold { K.taken out.old ≡ None → K.taken out.new ≡ None }
 {
@@ -89,7 +98,8 @@ pub fn ped_main<F: Shelf, K: Sink>(
 
 /// Words and files have one answer: one status and one text.
 pub fn one_answer()
-    ensures { (request : Option Request) (files : Contents) (s t : Status) (a b : List ℕ) → Answers request files s a → Answers request files t b → (s ≡ t) × (a ≡ b) }
+    ensures { (request : Option Request) (files : Contents) (s t : Status) (a b : List ℕ) →
+        Answers request files s a → Answers request files t b → (s ≡ t) × (a ≡ b) }
 {}
 
 /// Answers the words over a shelf and a sink that never fail: no read fault and no write fault comes.
@@ -116,7 +126,8 @@ const NOT_BUILT: &[u8] = b"ped: refused 0 NotBuilt\n";
 /// The file that the words ask to show: none where they are not `show` and one word that doesn't begin
 /// with `-`.
 fn request(words: &[String]) -> Option<&str>
-    ensures { MatchOption result (request_of (map string_bytes words.now) ≡ None) (λ program. request_of (map string_bytes words.now) ≡ Some (show program.now)) }
+    ensures { MatchOption result (request_of (map string_bytes words.now) ≡ None)
+        (λ program. request_of (map string_bytes words.now) ≡ Some (show program.now)) }
 {
     if words.len() != 2 {
         return None;
@@ -141,17 +152,19 @@ fn begins_with_dash(word: &[u8]) -> bool
 
 /// Shows the program in a file.
 fn show_file<F: Shelf, K: Sink>(alloc: Global, program: &str, shelf: &mut F, out: &mut K) -> Status
-    ensures answer { (files : Contents) → F.told shelf.old ≡ Some files → (before : List ℕ) → K.taken out.old ≡ Some before →
-        (sent : List ℕ) × (K.taken out.new ≡ Some (before ++ sent)) × IsOutcome
-            (MayAnswer (Some (show program.now)) files (λ name. Rose (F.count shelf.old name) (F.count shelf.new name)))
-            (Rose (K.faults out.old) (K.faults out.new)) sent result }
+    ensures answer { (files : Contents) → F.told shelf.old ≡ Some files →
+        (before : List ℕ) → K.taken out.old ≡ Some before →
+        Sends (MayAnswer (Some (show program.now)) files
+        (λ name. Rose (F.count shelf.old name) (F.count shelf.new name)))
+        (Rose (K.faults out.old) (K.faults out.new)) before (K.taken out.new) result }
     ensures words { result ≢ Status.BadWords }
     ensures read_fault { result ≡ Status.ReadFault → Rose (F.count shelf.old program.now) (F.count shelf.new program.now) }
     ensures write_fault { result ≡ Status.WriteFault → Rose (K.faults out.old) (K.faults out.new) }
     ensures same { F.told shelf.new ≡ F.told shelf.old }
     ensures counts { (name : List ℕ) → F.count shelf.old name ≤ F.count shelf.new name }
     ensures others { (files : Contents) → F.told shelf.old ≡ Some files →
-        (name : List ℕ) → name ≢ program.now → IsHeld files name → F.count shelf.new name ≡ F.count shelf.old name }
+        (name : List ℕ) → name ≢ program.now → IsHeld files name →
+        F.count shelf.new name ≡ F.count shelf.old name }
     ensures faults { K.faults out.old ≤ K.faults out.new }
     ensures untold { K.taken out.old ≡ None → K.taken out.new ≡ None }
 {
@@ -166,7 +179,8 @@ fn show_file<F: Shelf, K: Sink>(alloc: Global, program: &str, shelf: &mut F, out
 /// Says that a file can't be read.
 fn cannot_read<K: Sink>(alloc: Global, name: &str, out: &mut K) -> Status
     ensures answer { (before : List ℕ) → K.taken out.old ≡ Some before →
-        (sent : List ℕ) × (K.taken out.new ≡ Some (before ++ sent)) × IsOutcome (IsJust Status.ReadFault (Answer.cannot_read_line name.now)) (Rose (K.faults out.old) (K.faults out.new)) sent result }
+        Sends (IsJust Status.ReadFault (Answer.cannot_read_line name.now))
+        (Rose (K.faults out.old) (K.faults out.new)) before (K.taken out.new) result }
     ensures ends { (result ≡ Status.ReadFault) ⊎ (result ≡ Status.WriteFault) ⊎ (result ≡ Status.NoMemory) }
     ensures write_fault { result ≡ Status.WriteFault → Rose (K.faults out.old) (K.faults out.new) }
     ensures faults { K.faults out.old ≤ K.faults out.new }
@@ -191,8 +205,10 @@ fn cannot_read_line(alloc: Global, name: &str) -> Result<Bytes, NoMemory>
 /// Shows the program of a text.
 fn show_text<K: Sink>(alloc: Global, text: &[u8], out: &mut K) -> Status
     ensures answer { (before : List ℕ) → K.taken out.old ≡ Some before →
-        (sent : List ℕ) × (K.taken out.new ≡ Some (before ++ sent)) × IsOutcome (IsShown text.now) (Rose (K.faults out.old) (K.faults out.new)) sent result }
-    ensures ends { (result ≡ Status.Done) ⊎ (result ≡ Status.ProgramRefused) ⊎ (result ≡ Status.WriteFault) ⊎ (result ≡ Status.NoMemory) }
+        Sends (IsShown text.now)
+        (Rose (K.faults out.old) (K.faults out.new)) before (K.taken out.new) result }
+    ensures ends { (result ≡ Status.Done) ⊎ (result ≡ Status.ProgramRefused)
+        ⊎ (result ≡ Status.WriteFault) ⊎ (result ≡ Status.NoMemory) }
     ensures write_fault { result ≡ Status.WriteFault → Rose (K.faults out.old) (K.faults out.new) }
     ensures faults { K.faults out.old ≤ K.faults out.new }
     ensures untold { K.taken out.old ≡ None → K.taken out.new ≡ None }
@@ -206,7 +222,8 @@ fn show_text<K: Sink>(alloc: Global, text: &[u8], out: &mut K) -> Status
 /// Shows both panes of what was read.
 fn show_small<K: Sink>(alloc: Global, small: &Small, out: &mut K) -> Status
     ensures answer { (before : List ℕ) → K.taken out.old ≡ Some before →
-        (sent : List ℕ) × (K.taken out.new ≡ Some (before ++ sent)) × IsOutcome (ShowsTree (small_tree small.now)) (Rose (K.faults out.old) (K.faults out.new)) sent result }
+        Sends (ShowsTree (small_tree small.now))
+        (Rose (K.faults out.old) (K.faults out.new)) before (K.taken out.new) result }
     ensures ends { (result ≡ Status.Done) ⊎ (result ≡ Status.WriteFault) ⊎ (result ≡ Status.NoMemory) }
     ensures write_fault { result ≡ Status.WriteFault → Rose (K.faults out.old) (K.faults out.new) }
     ensures faults { K.faults out.old ≤ K.faults out.new }
@@ -222,7 +239,8 @@ fn show_small<K: Sink>(alloc: Global, small: &Small, out: &mut K) -> Status
 fn finish<K: Sink>(out: &mut K, bytes: &[u8], status: Status) -> Status
     requires { (status ≢ Status.WriteFault) × (status ≢ Status.NoMemory) }
     ensures answer { (before : List ℕ) → K.taken out.old ≡ Some before →
-        (sent : List ℕ) × (K.taken out.new ≡ Some (before ++ sent)) × IsOutcome (IsJust status bytes.now) (Rose (K.faults out.old) (K.faults out.new)) sent result }
+        Sends (IsJust status bytes.now)
+        (Rose (K.faults out.old) (K.faults out.new)) before (K.taken out.new) result }
     ensures ends { (result ≡ status) ⊎ (result ≡ Status.WriteFault) ⊎ (result ≡ Status.NoMemory) }
     ensures write_fault { result ≡ Status.WriteFault → Rose (K.faults out.old) (K.faults out.new) }
     ensures faults { K.faults out.old ≤ K.faults out.new }

@@ -2,7 +2,6 @@
 //! reads and the element that it writes, in its one loop.
 
 ghost use Rattle.std.specs.Prelude.{◌≡◌, [], ◌∷◌, ◌++◌, ◌≤◌, ◌^◌, ◌&&◌, nat_lt, unsigned_abs, IfOk, OnOk, if◌then◌else◌};
-
 ghost use Rattle.ped_tree.specs.Edges.{AreEdges, runs_twice};
 ghost use Rattle.ped.specs.SmallTree.{small_tree};
 ghost use Rattle.ped.specs.Dependences.{ArePossible, edges_by, edges_of, offset_of, small_range, kind_by, mark_by};
@@ -136,7 +135,11 @@ fn push_edges(
         ..carried
     };
     push_where(edges, signs.before, carried)?;
-    push_where(edges, is_within(signs.same, source.number, sink.number), independent)
+    push_where(
+        edges,
+        is_within(signs.same, source.number, sink.number),
+        independent,
+    )
 }
 
 /// Whether a dependence of one iteration counts: only from a reference to a later one.

@@ -19,10 +19,9 @@ mod texts;
 
 use crate::adapters::{DiskShelf, StdSink};
 use crate::answering::{Status, ped_main};
-use std::env;
 use std::env::Env;
-use std::io;
 use std::process::ExitCode;
+use std::{env, io};
 
 fn main(rt: HostRuntime) -> ExitCode {
     let alloc = rt.alloc();

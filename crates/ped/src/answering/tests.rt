@@ -5,6 +5,7 @@ ghost use Rattle.std.specs.Prelude.{◌≤◌};
 use super::*;
 use ped_io::{Calls, Files, MemShelf, MemSink, SureShelf, SureSink};
 use std::alloc::AllocError;
+use std::process::Abort;
 use std::test::Fail;
 
 const PROGRAM: &str = "      PROGRAM R1
@@ -83,13 +84,23 @@ const SURE: Outside<'static> = Outside {
 };
 
 /// Runs the words over the file "P" of this content.
-fn answered(alloc: Global, all: &[&str], content: &[u8], outside: Outside<'_>) -> Result<Ending, Fail> {
+fn answered(
+    alloc: Global,
+    all: &[&str],
+    content: &[u8],
+    outside: Outside<'_>,
+) -> Result<Ending, Fail> {
     if outside.read == 0 || outside.write == 0 {
         return Err(Fail::from(NoMemory));
     }
     let all = words(alloc, all)?;
     let files = one_file(alloc, content)?;
-    let mut shelf = MemShelf::new(alloc, files, calls(alloc, outside.reads_fail)?, outside.read)?;
+    let mut shelf = MemShelf::new(
+        alloc,
+        files,
+        calls(alloc, outside.reads_fail)?,
+        outside.read,
+    )?;
     let mut sink = MemSink::new(alloc, calls(alloc, outside.writes_fail)?, outside.write)?;
     let status = ped_main(alloc, &all, &mut shelf, &mut sink);
     let taken = String::from_utf8_lossy(alloc, sink.taken())?;
@@ -129,31 +140,58 @@ fn answers_words(rt: HostRuntime) -> Result<(), Fail> {
     Ok(())
 }
 
+fn assert_refused(rt: &impl Abort, alloc: Global, content: &[u8]) -> Result<(), Fail> {
+    let refused = answered(alloc, &["show", "P"], content, SURE)?;
+    assert_eq!(rt; refused.status, Status::ProgramRefused);
+    assert_eq!(rt; refused.taken.as_str(), "ped: refused 0 NotBuilt\n");
+    Ok(())
+}
+
 #[test]
 fn refuses_what_is_not_built(rt: HostRuntime) -> Result<(), Fail> {
-    let alloc = rt.alloc();
-    let small = "      K=1\n      END\n";
-    let limit = vec![in alloc; b' '; 1_048_576]?;
-    let longer = vec![in alloc; b' '; 1_048_577]?;
-    for content in [small.as_bytes(), b"", limit.as_slice(), longer.as_slice()] {
-        let refused = answered(alloc, &["show", "P"], content, SURE)?;
-        assert_eq!(rt; refused.status, Status::ProgramRefused);
-        assert_eq!(rt; refused.taken.as_str(), "ped: refused 0 NotBuilt\n");
-    }
-    Ok(())
+    assert_refused(&rt, rt.alloc(), b"      K=1\n      END\n")?;
+    assert_refused(&rt, rt.alloc(), b"")?;
+    let limit = vec![in rt.alloc(); b' '; 1_048_576]?;
+    assert_refused(&rt, rt.alloc(), &limit)?;
+    let longer = vec![in rt.alloc(); b' '; 1_048_577]?;
+    assert_refused(&rt, rt.alloc(), &longer)
 }
 
 /// The loop and the assignment of the program, and its dependence pane.
 const PANES_OF: [(&str, &str, &str); 12] = [
-    ("2,10", "A(I)=A(I-2)+1", "1\n2.2 2.1 A flow 1 (<) (2) proven\n"),
-    ("2,10", "A(I)=A(I)+1", "1\n2.1 2.2 A anti - (=) (0) proven\n"),
-    ("2,10", "A(I)=A(I+1)+1", "1\n2.1 2.2 A anti 1 (<) (1) proven\n"),
-    ("2,10", "A(I)=A(I-8)+1", "1\n2.2 2.1 A flow 1 (<) (8) proven\n"),
+    (
+        "2,10",
+        "A(I)=A(I-2)+1",
+        "1\n2.2 2.1 A flow 1 (<) (2) proven\n",
+    ),
+    (
+        "2,10",
+        "A(I)=A(I)+1",
+        "1\n2.1 2.2 A anti - (=) (0) proven\n",
+    ),
+    (
+        "2,10",
+        "A(I)=A(I+1)+1",
+        "1\n2.1 2.2 A anti 1 (<) (1) proven\n",
+    ),
+    (
+        "2,10",
+        "A(I)=A(I-8)+1",
+        "1\n2.2 2.1 A flow 1 (<) (8) proven\n",
+    ),
     ("2,10", "A(I)=A(I-9)+1", "0\n"),
     ("2,10", "A(I)=A(I-20)+1", "0\n"),
-    ("2,10", "A(I+8)=A(I)+1", "1\n2.2 2.1 A flow 1 (<) (8) proven\n"),
+    (
+        "2,10",
+        "A(I+8)=A(I)+1",
+        "1\n2.2 2.1 A flow 1 (<) (8) proven\n",
+    ),
     ("2,2", "A(I)=A(I-1)+1", "0\n"),
-    ("2,2", "A(I)=A(I)+1", "1\n2.1 2.2 A anti - (=) (0) pending\n"),
+    (
+        "2,2",
+        "A(I)=A(I)+1",
+        "1\n2.1 2.2 A anti - (=) (0) pending\n",
+    ),
     ("3,2", "A(I)=A(I)+1", "0\n"),
     (
         "0,999999999",
@@ -167,11 +205,16 @@ const PANES_OF: [(&str, &str, &str); 12] = [
 fn shows_the_dependences(rt: HostRuntime) -> Result<(), Fail> {
     let alloc = rt.alloc();
     for (range, assignment, pane) in &PANES_OF {
-        let program = format!(in alloc; "      PROGRAM R1\n      INTEGER A(10)\n      SAVE A\n      DO 10 I={range}\n   10 {assignment}\n      END\n")?;
+        let program = format!(in alloc;
+            "      PROGRAM R1\n      INTEGER A(10)\n      SAVE A\n      DO 10 I={range}\n   10 {assignment}\n      END\n"
+        )?;
         let shown = answered(alloc, &["show", "P"], program.as_bytes(), SURE)?;
         let pane = format!(in alloc; "dependences {pane}")?;
         assert_eq!(rt; shown.status, Status::Done);
-        assert!(rt; shown.taken.as_str().ends_with(pane.as_str()), "{range} {assignment}");
+        assert!(rt;
+            shown.taken.as_str().ends_with(pane.as_str()),
+            "{range} {assignment}"
+        );
     }
     Ok(())
 }

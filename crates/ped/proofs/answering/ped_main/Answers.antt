@@ -1,6 +1,6 @@
-use Rattle.std.proofs.Common.{ℕ, List, Some, Option, subst, sym}
+use Rattle.std.proofs.Common.{ℕ, List, Option, subst, sym}
 use Rattle.ped_io.specs.Outside.{Rose}
-use Rattle.ped.specs.Answer.{Request, show, MayAnswer, IsOutcome}
+use Rattle.ped.specs.Answer.{Request, MayAnswer, IsOutcome}
 use Rattle.ped.proofs.Outcomes.{whole_of}
 use Rattle.ped.proofs.answering.ped_main.Goals as goal
 

@@ -1,4 +1,4 @@
-use Rattle.std.proofs.Common.{◌≡◌, ◌∙◌, sym, subst}
+use Rattle.std.proofs.Common.{◌∙◌, sym, subst}
 use Rattle.ped.specs.declared.answering.Status.TheVariants.{Done}
 use Rattle.ped.specs.SmallTree.{small_tree}
 use Rattle.ped.specs.Answer.{IsJust, ShowsTree, ArePanes}

@@ -1,6 +1,6 @@
-use Rattle.std.proofs.Common.{rules, FitsSigned, w64, ◌≡◌, ◌≤◌, ◌^◌, ℤ, unsigned_abs, subst, ap, ◌∙◌, refl, true, false, []}
+use Rattle.std.proofs.Common.{rules, FitsSigned, w64, ◌≤◌, ◌^◌, ℤ, unsigned_abs, subst, refl, true, false, []}
 use Rattle.std.proofs.lemmas.Int.{to_z-of_z}
-use Rattle.ped.specs.Dependences.{offset_of, small_range}
+use Rattle.ped.specs.Dependences.{offset_of}
 use Rattle.ped.proofs.Pairs.{found_by, found_are_edges}
 use Rattle.ped.proofs.dependences.edges.Goals as goal
 

@@ -1,4 +1,4 @@
-use Rattle.std.proofs.Common.{◌≡◌, pos, FitsSigned, w64}
+use Rattle.std.proofs.Common.{pos, FitsSigned, w64}
 use Rattle.std.proofs.lemmas.Int.{to_z-of_z}
 use Rattle.ped_base.specs.declared.directions.Direction.TheVariants.{Before, Same, After}
 use Rattle.ped_base.specs.Excluded.{NeverMeetsInStep}

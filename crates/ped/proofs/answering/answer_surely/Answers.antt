@@ -1,0 +1,11 @@
+use Rattle.std.proofs.Common.{refl, inl, inr}
+use Rattle.ped_io.specs.Shelves.{all_names}
+use Rattle.ped.proofs.Outcomes.{never_rises}
+use Rattle.ped.proofs.answering.answer_surely.Goals as goal
+
+pub returns-clause-answer : goal.returns-clause-answer
+returns-clause-answer c =
+    elim (c.ped_main.ensures.complete (all_names c.args.shelf.now) refl c.args.out.now refl (λ name input. never_rises) never_rises) [
+      | inl memory ↦ inl memory
+      | inr answer ↦ inr (answer.0, answer.1, let taken = answer.2 in cc)
+    ]

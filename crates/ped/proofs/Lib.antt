@@ -1,7 +1,10 @@
 mod Distances
+mod Finding
 mod Loops
+mod OneAnswer
 pub mod Outcomes
 mod Pairs
+mod Rows
 mod SmallAgain
 mod SmallBasics
 mod SmallForms

@@ -7,7 +7,7 @@ use Rattle.std.specs.Cmp.Lexicographic.{bytes_decides}
 use Rattle.std.specs.List.{list_all}
 use Rattle.ped_base.specs.declared.directions.Direction.{Direction}
 use Rattle.ped_base.specs.declared.directions.Direction.TheVariants.{Before, Same, After}
-use Rattle.ped_base.specs.Views.{View}
+use Rattle.ped_base.specs.Views.{Range, View}
 use Rattle.ped_base.specs.Excluded.{NeverMeetsInStep}
 use Rattle.ped_base.specs.Vectors.{AreThose, IsPossible, AreVectors}
 use Rattle.ped_tree.specs.Tree.{Int, Var}
@@ -218,6 +218,20 @@ pub record Found (small : Small) (source sink : Coded) (old new : List Edge) : T
   pub signs : Signs
   pub possible : ArePossible (small_range small) source.offset sink.offset signs
   pub added : new ≡ old ++ edges_by (small_range small) source sink signs
+
+-- what the code found for a pair, where its range and its constants are those of the program
+pub found_by : (small : Small) (r : Range) (n m : ℕ) (w x : Bool) (a b c d : ℤ) (old before new : List Edge) → r ≡ small_range small → a ≡ c → b ≡ d → old ≡ before
+    → (signs : Signs) × ArePossible r a b signs × (new ≡ old ++ edges_by r (coded n w a) (coded m x b) signs)
+    → Found small (coded n w c) (coded m x d) before new
+found_by small r n m w x a b c d old before new er ea eb eo h = record {
+  signs = h.0;
+  possible = subst (λ (q : Range). ArePossible q c d h.0) er (subst (λ (y : ℤ). ArePossible r c y h.0) eb (subst (λ (y : ℤ). ArePossible r y b h.0) ea h.1));
+  added =
+    h.2 ∙ ap (λ (es : List Edge). es ++ edges_by r (coded n w a) (coded m x b) h.0) eo
+    ∙ ap (λ (y : ℤ). before ++ edges_by r (coded n w y) (coded m x b) h.0) ea
+    ∙ ap (λ (y : ℤ). before ++ edges_by r (coded n w c) (coded m x y) h.0) eb
+    ∙ ap (λ (q : Range). before ++ edges_by q (coded n w c) (coded m x d) h.0) er;
+}
 
 -- what is found pair by pair are the dependences of the program
 pub found_are_edges : (small : Small) (one two all : List Edge) → unsigned_abs (offset_of small.source) ≤ 2 ^ 62 → unsigned_abs (offset_of small.target) ≤ 2 ^ 62

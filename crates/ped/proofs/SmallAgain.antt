@@ -1,8 +1,8 @@
 -- What is written so is read.
-use Rattle.std.proofs.Common.{◌≡◌, ℕ, Bool, true, false, cond, List, [], ◌∷◌, ◌++◌, length, take, drop, Option, Some, None, refl, sym, ap, ◌∙◌, append_assoc, arith, eqb, ltb, leb, ◌≤◌, ◌+◌, min}
-use Rattle.std.specs.Prelude.{codes, ◌&&◌, ◌||◌, not}
-use Rattle.std.specs.List.{list_all, filter}
-use Rattle.std.proofs.lemmas.Bool.{eq-eqb, eqb-true, le-leb, and_parts, and_from}
+use Rattle.std.proofs.Common.{◌≡◌, ℕ, Bool, true, false, cond, List, [], ◌∷◌, ◌++◌, length, take, drop, Option, Some, None, refl, sym, ap, ◌∙◌, append_assoc, arith, eqb, ltb, leb, ◌≤◌}
+use Rattle.std.specs.Prelude.{codes, ◌&&◌, not}
+use Rattle.std.specs.List.{list_all}
+use Rattle.std.proofs.lemmas.Bool.{le-leb, and_parts, and_from}
 use Rattle.std.proofs.lemmas.List.{append-nil, length-take}
 use Rattle.std.proofs.lemmas.List.Sums.{length-filter, count_by-le-length}
 use Rattle.std.specs.Cmp.Lexicographic.{bytes_decides}
@@ -12,7 +12,7 @@ use Rattle.ped.specs.Scanning.{◌>>=◌, front, behind, after, short_name_of, n
 use Rattle.ped.specs.Lines.{kept_of, is_laid_out, statement_on, statement_at}
 use Rattle.ped.specs.Small.{unlabelled_text, program_of, saved_of, is_array, array_of, range_of, element_at, assignment_of, is_end}
 use Rattle.ped.specs.declared.reading.Subscript.{Subscript}
-use Rattle.ped.specs.declared.reading.Subscript.TheVariants.{Plain, Plus, Minus}
+use Rattle.ped.specs.declared.reading.Subscript.TheVariants.{Plus, Minus}
 use Rattle.ped.specs.declared.reading.Array.{Array}
 use Rattle.ped.specs.declared.reading.Range.{Range}
 use Rattle.ped.specs.declared.reading.Assignment.{Assignment}

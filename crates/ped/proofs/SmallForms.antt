@@ -6,7 +6,7 @@ use Rattle.std.specs.Str.Lines.{lines}
 use Rattle.std.proofs.lemmas.Bool.{eqb-true, and_parts, and_from}
 use Rattle.std.proofs.lemmas.List.{nil_from_length}
 use Rattle.ped_tree.specs.Tree.{ProgramTree}
-use Rattle.ped.specs.SmallForm.{SubscriptForm, SmallForm, IsSmall, Statement, unlabelled, AreLinesOf, statements, tree_of, Reads, is_literal, is_label, is_short_name, begins_integer, value, same, intrinsics, is_subscript, subscript_text, element_text}
+use Rattle.ped.specs.SmallForm.{SubscriptForm, SmallForm, IsSmall, Statement, unlabelled, AreLinesOf, statements, Reads, is_literal, is_label, is_short_name, begins_integer, value, same, intrinsics, is_subscript, subscript_text, element_text}
 use Rattle.ped.specs.SmallTree.{small_tree}
 use Rattle.ped.specs.Reading.{IsReadAs, NotSmall}
 use Rattle.ped.specs.Scanning.{◌>>=◌}
@@ -84,9 +84,9 @@ declared_sound lines x h =
       literal = array.literal;
       number = array.number;
       written = λ more rest.
-      stands_first lines a.0 (unlabelled (codes "PROGRAM" ++ p.0)) (declaration ∷ unlabelled (codes "SAVE" ++ d.0.name) ∷ more) a.1 program.1
-      (stands_first a.0.1 b.0 declaration (unlabelled (codes "SAVE" ++ d.0.name) ∷ more) b.1 array.text
-      (stands_first b.0.1 c.0 (unlabelled (codes "SAVE" ++ d.0.name)) more c.1 save rest));
+          stands_first lines a.0 (unlabelled (codes "PROGRAM" ++ p.0)) (declaration ∷ unlabelled (codes "SAVE" ++ d.0.name) ∷ more) a.1 program.1
+          (stands_first a.0.1 b.0 declaration (unlabelled (codes "SAVE" ++ d.0.name) ∷ more) b.1 array.text
+          (stands_first b.0.1 c.0 (unlabelled (codes "SAVE" ++ d.0.name)) more c.1 save rest));
     })
 
 record IsLoopOf (array : List ℕ) (lines : List (List ℕ)) (x : Loop × List (List ℕ)) : Type 0 where
@@ -137,8 +137,8 @@ loop_sound array lines x h =
       range = range.numbers;
       assignment = assignment.values;
       written = λ more rest.
-      stands_first lines a.0 (unlabelled (codes "DO" ++ r.0.0 ++ r.0.1.variable ++ codes "=" ++ range.first ++ codes "," ++ range.last)) (labelled ∷ more) a.1 range.text
-      (stands_first a.0.1 b.0 labelled more b.1 same_statement rest);
+          stands_first lines a.0 (unlabelled (codes "DO" ++ r.0.0 ++ r.0.1.variable ++ codes "=" ++ range.first ++ codes "," ++ range.last)) (labelled ∷ more) a.1 range.text
+          (stands_first a.0.1 b.0 labelled more b.1 same_statement rest);
     })
 
 -- a form of these lines, which is kept as this
@@ -268,16 +268,17 @@ declared_again f h more lines w =
     let array : Array = record { name = f.array; size = value f.size } in
     let x = next_again a (b ∷ c ∷ more) lines w in
     let y = next_again b (c ∷ more) x.0 x.2 in
-    let z = next_again c more y.0 y.2 in
-    (z.0,
-    ap (λ (o : Option (Statement × List (List ℕ))). o >>= first) x.1
-    ∙ ap (λ (o : Option (List ℕ)). o >>= second (a, x.0)) (program_again f.program names.0)
-    ∙ ap (λ (o : Option (Statement × List (List ℕ))). o >>= third f.program) y.1
-    ∙ ap (λ (o : Option Array). o >>= fourth f.program (b, y.0)) (array_again f.array f.size names.1 (four_literals f h).0 (small_is f h))
-    ∙ ap (λ (o : Option (Statement × List (List ℕ))). o >>= fifth f.program array) z.1
-    ∙ ap (λ (o : Option (List ℕ)). o >>= sixth f.program array (c, z.0)) (saved_again f.array names.1)
-    ∙ ap (λ (t : Bool). cond t (Some (kept f.program array, z.0)) None) (same_again f.array),
-    z.2)
+    let z = next_again c more y.0 y.2 in (
+      z.0,
+      ap (λ (o : Option (Statement × List (List ℕ))). o >>= first) x.1
+          ∙ ap (λ (o : Option (List ℕ)). o >>= second (a, x.0)) (program_again f.program names.0)
+          ∙ ap (λ (o : Option (Statement × List (List ℕ))). o >>= third f.program) y.1
+          ∙ ap (λ (o : Option Array). o >>= fourth f.program (b, y.0)) (array_again f.array f.size names.1 (four_literals f h).0 (small_is f h))
+          ∙ ap (λ (o : Option (Statement × List (List ℕ))). o >>= fifth f.program array) z.1
+          ∙ ap (λ (o : Option (List ℕ)). o >>= sixth f.program array (c, z.0)) (saved_again f.array names.1)
+          ∙ ap (λ (t : Bool). cond t (Some (kept f.program array, z.0)) None) (same_again f.array),
+      z.2,
+    )
 
 loop_again : (f : SmallForm) → IsSmall f → (more : List Statement) (lines : List (List ℕ)) → AreLinesOf (unlabelled (codes "DO" ++ f.label ++ f.variable ++ codes "=" ++ f.first ++ codes "," ++ f.last) ∷ (record { label = f.label; text = (f.array ++ codes "(" ++ subscript_text f.variable f.target ++ codes ")") ++ codes "=" ++ (f.array ++ codes "(" ++ subscript_text f.variable f.source ++ codes ")") ++ codes "+" ++ f.addend }) ∷ more) lines → (rest : List (List ℕ)) × (loop_at f.array lines ≡ Some ((record { range = record { variable = f.variable; first = value f.first; last = value f.last }; assignment = record { target = subscript_value f.target; source = subscript_value f.source; addend = value f.addend } }), rest)) × AreLinesOf more rest
 unfolding loop_at
@@ -294,13 +295,14 @@ loop_again f h more lines w =
     let b : Statement = record { label = f.label; text = (f.array ++ codes "(" ++ subscript_text f.variable f.target ++ codes ")") ++ codes "=" ++ (f.array ++ codes "(" ++ subscript_text f.variable f.source ++ codes ")") ++ codes "+" ++ f.addend } in
     let range : List ℕ × Range = (f.label, (record { variable = f.variable; first = value f.first; last = value f.last })) in
     let x = next_again a (b ∷ more) lines w in
-    let y = next_again b more x.0 x.2 in
-    (y.0,
-    ap (λ (o : Option (Statement × List (List ℕ))). o >>= first) x.1
-    ∙ ap (λ (o : Option (List ℕ × Range)). o >>= second (a, x.0)) (range_again f.label f.variable f.first f.last h.label names.2 h.integer literals.1 literals.2)
-    ∙ ap (λ (o : Option (Statement × List (List ℕ))). o >>= third range) y.1
-    ∙ ap (λ (o : Option Assignment). o >>= fourth range (b, y.0)) (assignment_again f.label f.array f.variable f.target f.source f.addend subscripts.0 subscripts.1 literals.3),
-    y.2)
+    let y = next_again b more x.0 x.2 in (
+      y.0,
+      ap (λ (o : Option (Statement × List (List ℕ))). o >>= first) x.1
+          ∙ ap (λ (o : Option (List ℕ × Range)). o >>= second (a, x.0)) (range_again f.label f.variable f.first f.last h.label names.2 h.integer literals.1 literals.2)
+          ∙ ap (λ (o : Option (Statement × List (List ℕ))). o >>= third range) y.1
+          ∙ ap (λ (o : Option Assignment). o >>= fourth range (b, y.0)) (assignment_again f.label f.array f.variable f.target f.source f.addend subscripts.0 subscripts.1 literals.3),
+      y.2,
+    )
 
 small_again : (f : SmallForm) → IsSmall f → (lines : List (List ℕ)) → AreLinesOf (statements f) lines → small_at lines ≡ Some (values f)
 unfolding small_at combined

@@ -1,5 +1,5 @@
 -- What is read is written so.
-use Rattle.std.proofs.Common.{◌≡◌, ℕ, Bool, true, false, cond, List, [], ◌∷◌, ◌++◌, length, take, drop, Option, Some, None, refl, sym, ap, subst, inl, inr, ◌∙◌, append_assoc, arith, eqb, leb, ◌≤◌}
+use Rattle.std.proofs.Common.{◌≡◌, ℕ, Bool, true, false, cond, List, [], ◌∷◌, ◌++◌, length, take, drop, Option, Some, None, refl, sym, ap, subst, inl, inr, ◌∙◌, append_assoc, eqb, leb, ◌≤◌}
 use Rattle.std.specs.Prelude.{codes, ◌&&◌}
 use Rattle.std.specs.List.{list_all}
 use Rattle.std.proofs.lemmas.Bool.{eqb-true, leb-true, and_parts}
@@ -188,13 +188,13 @@ range_sound s x h =
       literals = (first.1, last.1);
       numbers = (first.2, last.2);
       text =
-        word_sound word s t.0 t.1
-        ∙ ap (λ (w : List ℕ). unlabelled (word ++ w)) (label.1
-        ∙ ap (λ (w : List ℕ). l.0.0 ++ w) (variable.1
-        ∙ ap (λ (w : List ℕ). v.0.0 ++ w) (first.3
-        ∙ ap (λ (w : List ℕ). codes "=" ++ (first.0 ++ w)) (last.3
-        ∙ ap (λ (w : List ℕ). codes "," ++ w) whole))))
-        ∙ ap unlabelled (sym text);
+          word_sound word s t.0 t.1
+          ∙ ap (λ (w : List ℕ). unlabelled (word ++ w)) (label.1
+          ∙ ap (λ (w : List ℕ). l.0.0 ++ w) (variable.1
+          ∙ ap (λ (w : List ℕ). v.0.0 ++ w) (first.3
+          ∙ ap (λ (w : List ℕ). codes "=" ++ (first.0 ++ w)) (last.3
+          ∙ ap (λ (w : List ℕ). codes "," ++ w) whole))))
+          ∙ ap unlabelled (sym text);
     })
 
 abbrev FoundElement : List ℕ → List ℕ → List ℕ → Subscript × List ℕ → Type 0
@@ -213,11 +213,14 @@ element_sound array variable text x h =
     ap (λ (w : List ℕ). variable ++ w) (s.3 ∙ ap (λ (w : List ℕ). offset_text s.0 ++ w) (after_is (codes ")") o.0.1 r.0 r.1))
     ∙ sym (append_assoc variable (offset_text s.0) (codes ")" ++ r.0))
     ∙ ap (λ (w : List ℕ). w ++ (codes ")" ++ r.0)) (sym (subscript_parts variable s.0)) in
-    subst (λ (y : Subscript × List ℕ). FoundElement array variable text y) (some_is (o.0.0, r.0) x r.2)
-    (s.0, s.1, s.2,
-    after_is array text a.0 a.1
-    ∙ ap (λ (w : List ℕ). array ++ w) (after_is (codes "(") a.0 b.0 a.2
-    ∙ ap (λ (w : List ℕ). codes "(" ++ w) (after_is variable b.0 v.0 b.2 ∙ inner)))
+    subst (λ (y : Subscript × List ℕ). FoundElement array variable text y) (some_is (o.0.0, r.0) x r.2) (
+      s.0,
+      s.1,
+      s.2,
+      after_is array text a.0 a.1
+          ∙ ap (λ (w : List ℕ). array ++ w) (after_is (codes "(") a.0 b.0 a.2
+          ∙ ap (λ (w : List ℕ). codes "(" ++ w) (after_is variable b.0 v.0 b.2 ∙ inner)),
+    )
 
 pub record IsAssignmentOf (label array variable : List ℕ) (s : Statement) (x : Assignment) : Type 0 where
   pub target : SubscriptForm
@@ -258,12 +261,12 @@ assignment_sound label array variable s x h =
       values = (target.2, source.2, addend.2);
       labelled = same_is s.label label g.0;
       text =
-        target.3
-        ∙ ap (λ (w : List ℕ). array ++ (codes "(" ++ (subscript_text variable target.0 ++ (codes ")" ++ w)))) (after_is (codes "=") t.0.1 q.0 q.1
-        ∙ ap (λ (w : List ℕ). codes "=" ++ w) (source.3
-        ∙ ap (λ (w : List ℕ). array ++ (codes "(" ++ (subscript_text variable source.0 ++ (codes ")" ++ w)))) (addend.3
-        ∙ ap (λ (w : List ℕ). codes "+" ++ w) whole)))
-        ∙ sym text;
+          target.3
+          ∙ ap (λ (w : List ℕ). array ++ (codes "(" ++ (subscript_text variable target.0 ++ (codes ")" ++ w)))) (after_is (codes "=") t.0.1 q.0 q.1
+          ∙ ap (λ (w : List ℕ). codes "=" ++ w) (source.3
+          ∙ ap (λ (w : List ℕ). array ++ (codes "(" ++ (subscript_text variable source.0 ++ (codes ")" ++ w)))) (addend.3
+          ∙ ap (λ (w : List ℕ). codes "+" ++ w) whole)))
+          ∙ sym text;
     })
 
 pub end_sound : (s : Statement) → is_end s ≡ true → s ≡ unlabelled (codes "END")

@@ -44,10 +44,10 @@ pub tree_same : (f : SmallForm) → tree_of f ≡ small_tree (values f)
 tree_same f =
     let tree : ExprTree → ExprTree → ProgramTree = λ target source. record {
       decls =
-        Program f.program
-        ∷ Integer ((record { name = f.array; bounds = (record { lower = Int 1; upper = Int (value f.size) }) ∷ [] }) ∷ [])
-        ∷ Save (f.array ∷ [])
-        ∷ [];
+          Program f.program
+          ∷ Integer ((record { name = f.array; bounds = (record { lower = Int 1; upper = Int (value f.size) }) ∷ [] }) ∷ [])
+          ∷ Save (f.array ∷ [])
+          ∷ [];
       body = more_stmts (Do (record { variable = f.variable; first = Int (value f.first); last = Int (value f.last); step = Int 1 }) (more_stmts (Assign (Element f.array (more_exprs target no_exprs)) (Add (Element f.array (more_exprs source no_exprs)) (Int (value f.addend)))) no_stmts)) no_stmts;
     } in
     λ i. tree (subscript_same f.variable f.target i) (subscript_same f.variable f.source i)

@@ -1,5 +1,5 @@
 -- What `read` answers.
-use Rattle.std.specs.Prelude.{◌≡◌, ℕ, List}
+use Rattle.std.specs.Prelude.{ℕ, List}
 use Rattle.ped_tree.specs.Tree.{ProgramTree}
 use Rattle.ped.specs.declared.reading.Small.{Small}
 use Rattle.ped.specs.SmallForm.{Reads}

@@ -1,5 +1,5 @@
 -- What stands first in a statement without blanks, and what follows it. Contracts of private functions alone speak of it.
-use Rattle.std.specs.Prelude.{ℕ, List, [], ◌∷◌, Option, Some, None, Bool, ◌==◌, ◌&&◌, if◌then◌else◌}
+use Rattle.std.specs.Prelude.{ℕ, List, [], ◌∷◌, Option, Some, None, Bool, ◌==◌, if◌then◌else◌}
 use Rattle.std.specs.Borrow.{Bor}
 use Rattle.ped_base.specs.Letters.{is_digit, is_alphanumeric}
 use Rattle.ped.specs.SmallForm.{is_literal, is_label, is_short_name, value}

@@ -1,5 +1,5 @@
 -- The small form: programs of six statements with one loop, as they are written.
-use Rattle.std.specs.Prelude.{◌≡◌, ◌≢◌, ℕ, ◌≤◌, ◌<◌, List, [], ◌∷◌, ◌++◌, Bool, true, false, ◌&&◌, ◌||◌, not, ◌==◌, IsTrue, length, take, drop, filter, codes, nat_le, nat_lt}
+use Rattle.std.specs.Prelude.{◌≡◌, ℕ, ◌≤◌, List, [], ◌∷◌, ◌++◌, Bool, true, false, ◌&&◌, ◌||◌, not, ◌==◌, IsTrue, length, take, drop, filter, codes, nat_le, nat_lt}
 use Rattle.std.specs.List.{list_all, list_any}
 use Rattle.std.specs.Cmp.Lexicographic.{pointwise}
 use Rattle.std.specs.Str.Lines.{lines}
@@ -151,10 +151,10 @@ loop_of f =
 abbrev pub tree_of : SmallForm → ProgramTree
 tree_of f = record {
   decls =
-    Program f.program
-    ∷ Integer ((record { name = f.array; bounds = (record { lower = Int 1; upper = Int (value f.size) }) ∷ [] }) ∷ [])
-    ∷ Save (f.array ∷ [])
-    ∷ [];
+      Program f.program
+      ∷ Integer ((record { name = f.array; bounds = (record { lower = Int 1; upper = Int (value f.size) }) ∷ [] }) ∷ [])
+      ∷ Save (f.array ∷ [])
+      ∷ [];
   body = more_stmts (loop_of f) no_stmts;
 }
 

@@ -1,5 +1,5 @@
 -- Parts of the tree of what was read.
-use Rattle.std.specs.Prelude.{List, [], ◌∷◌}
+use Rattle.std.specs.Prelude.{[], ◌∷◌}
 use Rattle.ped_tree.specs.Tree.{Int, Add, StmtTree, Assign, DeclaratorTree}
 use Rattle.ped.specs.SmallTree.{element_tree}
 use Rattle.ped.specs.declared.reading.Small.{Small}

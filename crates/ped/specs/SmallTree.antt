@@ -25,9 +25,9 @@ loop_tree small =
 abbrev pub small_tree : Small → ProgramTree
 small_tree small = record {
   decls =
-    Program small.program
-    ∷ Integer ((record { name = small.array; bounds = (record { lower = Int 1; upper = Int small.size }) ∷ [] }) ∷ [])
-    ∷ Save (small.array ∷ [])
-    ∷ [];
+      Program small.program
+      ∷ Integer ((record { name = small.array; bounds = (record { lower = Int 1; upper = Int small.size }) ∷ [] }) ∷ [])
+      ∷ Save (small.array ∷ [])
+      ∷ [];
   body = more_stmts (loop_tree small) no_stmts;
 }

@@ -1,11 +1,11 @@
 //! The top call: words and files to an answer and a status.
 
-ghost use Rattle.std.specs.Prelude.{◌≡◌, ◌≢◌, ◌⊎◌, ◌++◌, ◌≤◌, ℕ, List, Some, None, map, string_bytes, MatchOption, IfOk};
+ghost use Rattle.std.specs.Prelude.{◌≡◌, ◌≢◌, ◌⊎◌, ◌++◌, ◌≤◌, ℕ, List, Option, Some, None, map, string_bytes, MatchOption, IfOk};
 ghost use Rattle.ped_io.specs.Outside.{Contents, IsHeld, Rose};
 ghost use Rattle.ped_tree.specs.Tree.{ProgramTree};
 ghost use Rattle.ped.specs.SmallTree.{small_tree};
 ghost use Rattle.ped.specs.Answer;
-ghost use Rattle.ped.specs.Answer.{request_of, show, inputs_of, IsOneOf, Answers, MayAnswer, IsOutcome, IsShown, IsJust, ShowsTree};
+ghost use Rattle.ped.specs.Answer.{Request, request_of, show, inputs_of, IsOneOf, Answers, MayAnswer, IsOutcome, IsShown, IsJust, ShowsTree};
 
 use crate::panes::panes;
 use crate::reading::Small;
@@ -85,6 +85,11 @@ pub fn ped_main<F: Shelf, K: Sink>(
         Some(program) => show_file(alloc, program, shelf, out),
     }
 }
+
+/// Words and files have one answer: one status and one text.
+pub fn one_answer()
+    ensures { (request : Option Request) (files : Contents) (s t : Status) (a b : List ℕ) → Answers request files s a → Answers request files t b → (s ≡ t) × (a ≡ b) }
+{}
 
 const USAGE: &[u8] =
     b"usage: ped show PROGRAM | session PROGRAM SCRIPT [--data FILE] | generate N\n";

@@ -1,7 +1,7 @@
 //! The dependences of a program of the small form: those between the element that its assignment
 //! reads and the element that it writes, in its one loop.
 
-ghost use Rattle.std.specs.Prelude.{◌≡◌, [], ◌∷◌, ◌++◌, ◌≤◌, ◌^◌, unsigned_abs, IfOk, OnOk, if◌then◌else◌};
+ghost use Rattle.std.specs.Prelude.{◌≡◌, [], ◌∷◌, ◌++◌, ◌≤◌, ◌^◌, ◌&&◌, nat_lt, unsigned_abs, IfOk, OnOk, if◌then◌else◌};
 
 ghost use Rattle.ped_tree.specs.Edges.{AreEdges, runs_twice};
 ghost use Rattle.ped.specs.SmallTree.{small_tree};
@@ -119,8 +119,6 @@ fn push_edges(
     source: Reference,
     sink: Reference,
 ) -> Result<(), NoMemory>
-    requires first { unsigned_abs source.offset ≤ 2 ^ 62 }
-    requires second { unsigned_abs sink.offset ≤ 2 ^ 62 }
     ensures { OnOk result ((signs : _) × ArePossible range.now source.offset sink.offset signs
         × (edges.new.items ≡ edges.old.items ++ edges_by range.now source sink signs)) }
 {
@@ -138,7 +136,14 @@ fn push_edges(
         ..carried
     };
     push_where(edges, signs.before, carried)?;
-    push_where(edges, signs.same && source.number < sink.number, independent)
+    push_where(edges, is_within(signs.same, source.number, sink.number), independent)
+}
+
+/// Whether a dependence of one iteration counts: only from a reference to a later one.
+fn is_within(same: bool, source: u32, sink: u32) -> bool
+    ensures { result ≡ (same && nat_lt source sink) }
+{
+    same && source < sink
 }
 
 /// Adds a dependence where it is wanted.

@@ -5,6 +5,7 @@
 mod adapters;
 mod answering;
 mod declarations;
+mod dependence_pane;
 mod dependences;
 mod fixed_form;
 mod panes;

@@ -188,11 +188,7 @@ struct Loop {
 }
 
 /// The whole program.
-#[tactic(
-    auto,
-    using(crate::proofs::SmallLines::lines_left),
-    unfolding(crate::specs::Small::small_at)
-)]
+#[tactic(auto, using(crate::proofs::SmallLines::lines_left), unfolding(crate::specs::Small::small_at))]
 fn small_of(text: &[u8]) -> Option<Small>
     ensures { result ≡ Spec.small_at (lines text.now) }
 {
@@ -358,11 +354,7 @@ fn assignment_of(line: &Line, label: &[u8], array: &Name, variable: &Name) -> Op
 
 /// An element of the array with a subscript of the variable.
 #[tactic(auto, unfolding(crate::specs::Small::element_at))]
-fn take_element<'a>(
-    text: &'a [u8],
-    array: &Name,
-    variable: &Name,
-) -> Option<(Subscript, &'a [u8])>
+fn take_element<'a>(text: &'a [u8], array: &Name, variable: &Name) -> Option<(Subscript, &'a [u8])>
     ensures { answer result ≡ Spec.element_at array.now variable.now text.now }
 {
     let rest = after(after(text, array.as_bytes())?, b"(")?;
@@ -423,12 +415,4 @@ fn are_different(program: &Name, array: &Name, variable: &Name) -> bool
 }
 
 #[cfg(test)]
-mod tests {
-    use super::*;
-
-    #[test]
-    fn reads_row_one(rt: HostRuntime) {
-        let text = b"      PROGRAM R1\n      INTEGER A(10)\n      SAVE A\n      DO 10 I=2,10\n   10 A(I)=A(I-1)+1\n      END\n";
-        assert!(rt; Small::read(text).is_some());
-    }
-}
+mod tests;

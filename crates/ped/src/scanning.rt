@@ -54,11 +54,7 @@ pub fn take_name(text: &[u8]) -> Option<(Name, &[u8])>
 }
 
 /// A literal of one to nine digits.
-#[tactic(
-    auto,
-    using(crate::proofs::SmallBasics::front_all),
-    unfolding(crate::specs::Scanning::literal_at)
-)]
+#[tactic(auto, using(crate::proofs::SmallBasics::front_all), unfolding(crate::specs::Scanning::literal_at))]
 pub fn take_literal(text: &[u8]) -> Option<(u32, &[u8])>
     ensures { answer result ≡ Spec.literal_at text.now }
 {
@@ -70,11 +66,7 @@ pub fn take_literal(text: &[u8]) -> Option<(u32, &[u8])>
 }
 
 /// A label of one to five digits, the first no 0.
-#[tactic(
-    auto,
-    using(crate::proofs::SmallBasics::front_all),
-    unfolding(crate::specs::Scanning::label_at)
-)]
+#[tactic(auto, using(crate::proofs::SmallBasics::front_all), unfolding(crate::specs::Scanning::label_at))]
 pub fn take_label(text: &[u8]) -> Option<(&[u8], &[u8])>
     ensures { lent_answer result ≡ Spec.label_at text.now }
 {

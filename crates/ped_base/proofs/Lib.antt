@@ -1,3 +1,4 @@
+pub mod Chosen
 mod Equal
 mod Keeping
 pub mod Products

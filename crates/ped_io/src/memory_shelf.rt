@@ -1,6 +1,6 @@
 //! A shelf in memory whose reads fail where they are told to.
 
-ghost use Rattle.std.specs.Prelude.{◌≡◌, ◌≢◌, ◌<◌, ◌≤◌, ◌↔◌, ◌⊎◌, ℕ, List, Some, None, length, option_map, Contains, IsNone, IfSome, get_or, set, nat_lt, if◌then◌else◌, IfOk, IfErr, OnOk, OnErr, IsErr, IsErrOf};
+ghost use Rattle.std.specs.Prelude.{◌≡◌, ◌≢◌, ◌<◌, ◌≤◌, ◌↔◌, ◌⊎◌, ℕ, List, Some, length, option_map, Contains, IsNone, IfSome, get_or, set, nat_lt, if◌then◌else◌, IfOk, IfErr, OnOk, OnErr, IsErrOf};
 ghost use Rattle.ped_io.specs.Counts.{one_more};
 ghost use Rattle.ped_io.specs.Outside.{Contents, file_named, content, held_content, IsHeld, GivesPart, Rose};
 ghost use Rattle.ped_io.specs.Shelves.{MemoryShelf, new_shelf, told_of, count_of, FailsNext, after_call, after_fault, Copies};

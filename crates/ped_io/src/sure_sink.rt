@@ -1,6 +1,6 @@
 //! A sink in memory that never fails.
 
-ghost use Rattle.std.specs.Prelude.{◌≡◌, ◌≤◌, ◌++◌, [], Ok, length, take, IfOk, OnOk, OnErr, IfErr};
+ghost use Rattle.std.specs.Prelude.{◌≡◌, ◌++◌, [], Ok, length, IfOk, OnOk, OnErr, IfErr};
 
 use crate::outside::{OutsideFault, Sink};
 use ped_base::{Bytes, NoMemory};

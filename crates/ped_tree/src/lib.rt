@@ -4,8 +4,10 @@
 
 mod declarations;
 mod expressions;
+mod laws;
 mod statements;
 
 pub use declarations::{Bound, Decl, Declarator, Program};
 pub use expressions::Expr;
+pub use laws::one_dependence_pane;
 pub use statements::{Do, Stmt};

@@ -114,3 +114,37 @@ impl<P: Print> Sink for StdSink<'_, P> {
         }
     }
 }
+
+#[cfg(test)]
+mod tests {
+    use super::*;
+    use std::test::Fail;
+
+    #[test]
+    fn reads_a_real_file(rt: HostRuntime) -> Result<(), Fail> {
+        let name = "ped-adapters-test.f";
+        fs::write(&rt, name, "hello")?;
+        let mut shelf = DiskShelf::new(rt.alloc(), &rt);
+        let mut piece = [0; 3];
+        assert_eq!(rt; shelf.read_at(name, 0, &mut piece), Ok(3));
+        assert_eq!(rt; piece.as_slice(), b"hel".as_slice());
+        assert_eq!(rt; shelf.read_at(name, 3, &mut piece), Ok(2));
+        assert_eq!(rt; piece.as_slice(), b"lol".as_slice());
+        assert_eq!(rt; shelf.read_at(name, 5, &mut piece), Ok(0));
+        assert_eq!(rt; shelf.read_at(name, 1, &mut piece), Ok(3));
+        assert_eq!(rt; piece.as_slice(), b"ell".as_slice());
+        fs::remove_file(&rt, name)?;
+        assert_eq!(rt; shelf.faults, 0);
+        assert_eq!(rt; shelf.read_at(name, 0, &mut piece), Err(OutsideFault::Failed));
+        assert_eq!(rt; shelf.faults, 1);
+        Ok(())
+    }
+
+    #[test]
+    fn writes_to_standard_output(rt: HostRuntime) {
+        let mut out = StdSink::new(&rt);
+        assert_eq!(rt; out.write(b"ped\n"), Ok(4));
+        assert_eq!(rt; out.write(b""), Ok(0));
+        assert_eq!(rt; out.faults, 0);
+    }
+}

@@ -2,6 +2,7 @@
 
 ghost use Rattle.std.specs.Prelude.{◌≡◌, ◌≢◌, ◌⊎◌, ◌++◌, ◌≤◌, ℕ, List, Option, Some, None, map, string_bytes, MatchOption, IfOk};
 ghost use Rattle.ped_io.specs.Outside.{Contents, IsHeld, Rose};
+ghost use Rattle.ped_io.specs.Shelves.{all_names};
 ghost use Rattle.ped_tree.specs.Tree.{ProgramTree};
 ghost use Rattle.ped.specs.SmallTree.{small_tree};
 ghost use Rattle.ped.specs.Answer;
@@ -10,7 +11,7 @@ ghost use Rattle.ped.specs.Answer.{Request, request_of, show, inputs_of, IsOneOf
 use crate::panes::panes;
 use crate::reading::Small;
 use ped_base::{Bytes, NoMemory};
-use ped_io::{LoadError, PutFault, Shelf, Sink, load, put_all};
+use ped_io::{LoadError, PutFault, Shelf, Sink, SureShelf, SureSink, load, put_all};
 use std::alloc::Global;
 
 /// How a call of the program ended. Its number is the exit status.
@@ -90,6 +91,22 @@ pub fn ped_main<F: Shelf, K: Sink>(
 pub fn one_answer()
     ensures { (request : Option Request) (files : Contents) (s t : Status) (a b : List ℕ) → Answers request files s a → Answers request files t b → (s ≡ t) × (a ≡ b) }
 {}
+
+/// Answers the words over a shelf and a sink that never fail: no read fault and no write fault comes.
+pub fn answer_surely(
+    alloc: Global,
+    words: &[String],
+    shelf: &mut SureShelf,
+    out: &mut SureSink,
+) -> Status
+    ensures reads { result ≢ Status.ReadFault }
+    ensures writes { result ≢ Status.WriteFault }
+    ensures answer { (result ≡ Status.NoMemory) ⊎ ((bytes : List ℕ)
+        × Answers (request_of (map string_bytes words.now)) (all_names shelf.old) result bytes
+        × (out.new ≡ out.old ++ bytes)) }
+{
+    ped_main(alloc, words, shelf, out)
+}
 
 const USAGE: &[u8] =
     b"usage: ped show PROGRAM | session PROGRAM SCRIPT [--data FILE] | generate N\n";
@@ -217,3 +234,6 @@ fn finish<K: Sink>(out: &mut K, bytes: &[u8], status: Status) -> Status
         Err(PutFault::NoMemory { .. }) => Status::NoMemory,
     }
 }
+
+#[cfg(test)]
+mod tests;

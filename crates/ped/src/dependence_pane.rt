@@ -126,3 +126,46 @@ fn push_mark(out: &mut Bytes, mark: Mark) -> Result<(), NoMemory>
         Mark::Pending => out.extend_from_slice(b"pending"),
     }
 }
+
+#[cfg(test)]
+mod tests {
+    use super::*;
+    use std::test::Fail;
+
+    #[test]
+    fn shows_each_kind(rt: HostRuntime) -> Result<(), Fail> {
+        let flow = Edge {
+            source: 2,
+            sink: 1,
+            kind: Kind::Flow,
+            carried: true,
+            distance: Some(12),
+            mark: Mark::Proven,
+        };
+        let anti = Edge {
+            source: 1,
+            sink: 2,
+            kind: Kind::Anti,
+            carried: false,
+            distance: Some(0),
+            ..flow
+        };
+        let output = Edge {
+            sink: 2,
+            kind: Kind::Output,
+            distance: None,
+            mark: Mark::Pending,
+            ..flow
+        };
+        let array = Name::from_bytes(b"ARRAY").ok_or("no name")?;
+        let mut pane = Bytes::new(rt.alloc());
+        dependence_pane(&mut pane, &array, &[anti, flow, output])?;
+        let rows = b"dependences 3
+2.1 2.2 ARRAY anti - (=) (0) proven
+2.2 2.1 ARRAY flow 1 (<) (12) proven
+2.2 2.2 ARRAY output 1 (<) (*) pending
+";
+        assert_eq!(rt; pane.as_slice(), rows.as_slice());
+        Ok(())
+    }
+}

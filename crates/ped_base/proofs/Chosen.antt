@@ -1,5 +1,5 @@
 -- A choice from a list, and so the vectors of a view, is determined.
-use Rattle.std.proofs.Common.{◌≡◌, ℕ, List, [], ◌∷◌, sym, ap, ◌∙◌, inl, inr, length}
+use Rattle.std.proofs.Common.{◌≡◌, List, [], ◌∷◌, sym, ap, ◌∙◌, inl, inr, length}
 use Rattle.ped_base.specs.declared.directions.Direction.{Direction}
 use Rattle.ped_base.specs.Views.{View}
 use Rattle.ped_base.specs.Vectors.{all_vectors, AreThose, IsPossible, AreVectors}

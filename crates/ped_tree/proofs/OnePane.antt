@@ -5,7 +5,6 @@ use Rattle.ped_base.specs.Vectors.{AreVectors}
 use Rattle.ped_base.proofs.Chosen.{one_vectors}
 use Rattle.ped_tree.specs.Tree.{ProgramTree}
 use Rattle.ped_tree.specs.References.{Reference, references}
-use Rattle.ped_tree.specs.Affine.{view_of}
 use Rattle.ped_tree.specs.Edges.{Edge, PairEdges, EdgesOfPairs, AreEdges, edges_by, pairs}
 use Rattle.ped_tree.specs.DependencePane.{edges_pane, IsDependencePane}
 

@@ -1,5 +1,5 @@
 -- The view of a pair of references: the ranges of its loops and its subscripts as affine forms. Bounds and increments other than literals, and scalars in subscripts, aren't read yet.
-use Rattle.std.specs.Prelude.{ℕ, ◌-◌, ℤ, pos, ◌+ℤ◌, ◌-ℤ◌, ◌^◌, List, [], ◌∷◌, ◌++◌, map, length, take, drop, replicate, unsigned_abs, nat_le, Bool, true, false, ◌&&◌, Option, Some, None, if◌then◌else◌}
+use Rattle.std.specs.Prelude.{ℕ, ◌-◌, ℤ, pos, ◌+ℤ◌, ◌-ℤ◌, ◌^◌, List, [], ◌∷◌, map, length, take, drop, replicate, unsigned_abs, nat_le, Bool, true, false, ◌&&◌, Option, Some, None, if◌then◌else◌}
 use Rattle.std.specs.List.{list_all, list_any}
 use Rattle.ped_base.specs.Views.{Range, range, Row, SubscriptPair, View}
 use Rattle.ped_tree.specs.Tree.{ExprTree, Int, Var, Element, Add, Sub, Head}

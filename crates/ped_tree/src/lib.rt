@@ -11,3 +11,6 @@ pub use declarations::{Bound, Decl, Declarator, Program};
 pub use expressions::Expr;
 pub use laws::one_dependence_pane;
 pub use statements::{Do, Stmt};
+
+#[cfg(test)]
+mod tests;

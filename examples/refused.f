@@ -1,0 +1,8 @@
+      PROGRAM TWICE
+      INTEGER A(10)
+      SAVE A
+      DO 10 I=2,10
+   10 A(I)=A(I-1)+1
+      DO 20 I=1,10
+   20 A(I)=A(I)+1
+      END

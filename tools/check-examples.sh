@@ -1,0 +1,57 @@
+#!/usr/bin/env bash
+# Runs the examples, and compares what the program writes with the stored output, byte for byte, and its
+# exit status with the one that is wanted.
+#
+# An example NAME is the file examples/NAME.out, the output that is wanted. The program is called at the
+# repository's top with the words of examples/NAME.args, one a line, or, where there is no such file,
+# with `show examples/NAME.f`. The status that is wanted stands in examples/NAME.status, and is 0 where
+# there is no such file. Nothing is proved where the program is built, as it is after .ci/run or ./ped.
+set -eu
+cd -- "$(dirname -- "${BASH_SOURCE[0]}")/.."
+
+work=$(mktemp -d)
+trap 'rm -rf -- "$work"' EXIT
+passed=0
+failed=0
+
+differs() {
+    printf 'examples: %s: %s\n' "$1" "$2"
+    failed=$((failed + 1))
+}
+
+# Without words the program answers how it is called, with status 2.
+status=0
+./ped >"$work/usage" || status=$?
+if [ "$status" -ne 2 ]; then
+    printf 'examples: none was run, since the program cannot be started (status %s)\n' "$status"
+    exit 1
+fi
+
+for program in examples/*.f; do
+    [ -f "${program%.f}.out" ] || differs "$program" "its output isn't stored beside it"
+done
+
+for wanted in examples/*.out; do
+    name=${wanted%.out}
+    words=(show "$name.f")
+    if [ -f "$name.args" ]; then
+        mapfile -t words <"$name.args"
+    fi
+    wanted_status=0
+    if [ -f "$name.status" ]; then
+        read -r wanted_status <"$name.status"
+    fi
+    status=0
+    timeout 30 ./ped "${words[@]}" </dev/null >"$work/written" || status=$?
+    if ! cmp -s -- "$wanted" "$work/written"; then
+        differs "$name" "the output differs:"
+        diff -u --text --label "$wanted" --label "written by ./ped ${words[*]}" -- "$wanted" "$work/written" || true
+    elif [ "$status" -ne "$wanted_status" ]; then
+        differs "$name" "the exit status is $status, and $wanted_status is wanted"
+    else
+        passed=$((passed + 1))
+    fi
+done
+
+printf 'examples: %s as stored, %s different\n' "$passed" "$failed"
+[ "$failed" -eq 0 ] && [ "$passed" -gt 0 ]

@@ -1,0 +1,29 @@
+# shellcheck shell=bash
+# Which built program belongs to the sources: read by ./ped and .ci/run, by this file's full path.
+#
+# A built program stands in out/ under the checksum of the sources that it was made from. So it never
+# goes stale, and launches at the same time don't disturb one another. `rm -r out` is always safe.
+
+# The top of the repository.
+top=${BASH_SOURCE[0]%/tools/*}
+
+# Writes the checksum of all that the program is made from.
+sources_sum() (
+    set -o pipefail
+    cd -- "$top" &&
+        find crates.txt HANDLES crates/*/src crates/*/specs crates/*/proofs -type f -print0 |
+        LC_ALL=C sort -z | xargs -0 sha256sum | sha256sum | cut -c1-64
+)
+
+# Writes where the program of the sources with this checksum stands.
+program_of() {
+    printf '%s\n' "$top/out/ped-$1"
+}
+
+# Keeps the program that the toolchain has built last as that of the sources with this checksum.
+keep_program() {
+    local part="$top/out/part-$$"
+    mkdir -p -- "$top/out" &&
+        cp -- "$top/crates/ped/out/ped" "$part" &&
+        mv -f -- "$part" "$(program_of "$1")"
+}

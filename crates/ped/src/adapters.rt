@@ -44,14 +44,18 @@ impl<'a, R: Files> DiskShelf<'a, R> {
         ensures within { IfOk result (λ n. n ≤ length piece.old) }
         ensures faults { self.new.faults ≡ self.old.faults }
     {
+        let kept = String::from_str(self.alloc, name)?;
         let mut file = match self.open.take() {
             Some(open) if open.at == at && open.name.as_str() == name => open.file,
             _ => open_at(self.files, name, at)?,
         };
         let n = file.read(piece)?;
         if let Some(at) = at.checked_add(n as u64) {
-            let name = String::from_str(self.alloc, name)?;
-            self.open = Some(OpenFile { name, file, at });
+            self.open = Some(OpenFile {
+                name: kept,
+                file,
+                at,
+            });
         }
         Ok(n)
     }

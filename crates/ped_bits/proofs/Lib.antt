@@ -1,2 +1,4 @@
 mod Bits
+mod Merging
+mod Relations
 mod Values

@@ -1,8 +1,10 @@
-//! Sets of places below a width, kept as bits of words. Contracts see a row as one truth value for each
-//! place.
+//! Sets of places below a width, kept as bits of words, and relations on places. Contracts see a row as
+//! one truth value for each place, and a matrix as its rows.
 #![tactic(auto)]
 
 mod rows;
+mod square;
 mod words;
 
 pub use rows::Row;
+pub use square::Matrix;

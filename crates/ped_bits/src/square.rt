@@ -39,9 +39,10 @@ impl Matrix {
         Ok(Matrix { rows })
     }
 
-    /// How many places there are.
+    /// How many places there are. Each row has as many.
     pub fn width(&self) -> usize
-        ensures { result ≡ length self.now }
+        ensures width { result ≡ length self.now }
+        ensures square { IsSquare self.now }
     {
         self.rows.len()
     }
@@ -67,6 +68,7 @@ impl Matrix {
     /// Makes the relation its reachability: an arrow for each path of one arrow or more (Warshall, 1962).
     pub fn close(&mut self)
         ensures width { length self.new ≡ length self.old }
+        ensures square { IsSquare self.new }
         ensures reaches { (i j : ℕ) → Arrow self.new i j ↔ Reaches self.old i j }
     {
         for middle in 0..self.rows.len() {

@@ -1,2 +1,4 @@
 pub mod Earliest
+pub mod Filling
 pub mod FirstLines
+pub mod Trimming

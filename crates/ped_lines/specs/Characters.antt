@@ -57,7 +57,7 @@ completed Closing text c = if c == 39 then [] else Constant text ∷ alone c
 
 -- the constant so far with the character c: of two apostrophes in a constant one is kept
 unfoldable pub text_behind : Place → List ℕ → ℕ → List ℕ
-text_behind Outside text c = []
+text_behind Outside text c = text
 text_behind Inside text c = if c == 39 then text else text ++ c ∷ []
 text_behind Closing text c = if c == 39 then text ++ c ∷ [] else []
 

@@ -1,7 +1,7 @@
 //! Lines of fixed form by their columns (ANSI X3.9-1978, section 3.2): comments in full lines, labels in
 //! columns 1 to 5, the mark of a continuation in column 6, a statement's characters in columns 7 to 72.
 
-ghost use Rattle.std.specs.Prelude.{◌≡◌, ◌+◌, ◌*◌, ◌<◌, ◌≤◌, ◌==◌, ◌||◌, IsTrue, not, take, drop, slice_index_or};
+ghost use Rattle.std.specs.Prelude.{◌≡◌, ◌+◌, ◌*◌, ◌<◌, ◌≤◌, ◌==◌, ◌||◌, ◌-◌, ◌++◌, not, take, drop, length, replicate, slice_index_or};
 ghost use Rattle.std.specs.List.{list_all, list_any};
 ghost use Rattle.ped_lines.specs.Columns as Spec;
 
@@ -115,7 +115,14 @@ pub fn has_tab(line: &[u8]) -> bool
 pub fn statement_columns(line: &[u8]) -> [u8; 66]
     ensures { result ≡ Spec.statement_columns line.now }
 {
-    let text = front(behind(line, 6), 66);
+    filled(front(behind(line, 6), 66))
+}
+
+/// The bytes with blanks behind them.
+fn filled(text: &[u8]) -> [u8; 66]
+    requires { length text.now ≤ 66 }
+    ensures { result ≡ text.now ++ replicate (66 - length text.now) 32 }
+{
     let mut columns = [b' '; 66];
     columns[..text.len()].copy_from_slice(text);
     columns
@@ -123,7 +130,8 @@ pub fn statement_columns(line: &[u8]) -> [u8; 66]
 
 /// The first columns, so many or all that the line has.
 pub fn front(line: &[u8], count: usize) -> &[u8]
-    ensures { result.now ≡ take count line.now }
+    ensures columns { result.now ≡ take count line.now }
+    ensures short { length result.now ≤ count }
 {
     line.split_at(line.len().min(count)).0
 }

@@ -66,7 +66,11 @@ fn trimmed(text: &[u8]) -> &[u8]
     ensures { result.now ≡ Spec.trimmed text.now }
 {
     let mut end = text.len();
-    while end > 0 && (text[end - 1] == b' ' || text[end - 1] == b'\r') {
+    while end > 0 {
+        let last = text[end - 1];
+        if !(last == b' ' || last == b'\r') {
+            return front(text, end);
+        }
         end -= 1;
     }
     front(text, end)

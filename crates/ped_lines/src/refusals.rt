@@ -102,6 +102,7 @@ fn with_line(findings: Findings, number: u64, line: &[u8]) -> Findings
     with_initial(findings, number, line)
 }
 
+#[tactic(auto, using(crate::proofs::Earliest::earliest_append))]
 fn with_continuation(findings: Findings, number: u64, line: &[u8]) -> Findings
     requires comment { Columns.is_comment line.now ≡ false }
     requires continues { Columns.continues line.now ≡ true }
@@ -133,6 +134,7 @@ fn continued(begun: OpenLines, line: &[u8]) -> OpenLines
     }
 }
 
+#[tactic(auto, using(crate::proofs::Earliest::earliest_append))]
 fn with_initial(findings: Findings, number: u64, line: &[u8]) -> Findings
     requires comment { Columns.is_comment line.now ≡ false }
     requires continues { Columns.continues line.now ≡ false }
@@ -160,6 +162,7 @@ fn at_end(found: Option<LineRefusal>, statement: Option<OpenLines>) -> Option<Li
     }
 }
 
+#[tactic(auto, using(crate::proofs::Earliest::earliest_append))]
 fn at_initial(found: Option<LineRefusal>, number: u64, line: &[u8]) -> Option<LineRefusal>
     ensures { result ≡ earliest found (Spec.at_initial number line.now) }
 {
@@ -170,6 +173,7 @@ fn at_initial(found: Option<LineRefusal>, number: u64, line: &[u8]) -> Option<Li
     standing(found, bad, LineRefusalKind::BadCharacter, number)
 }
 
+#[tactic(auto, using(crate::proofs::Earliest::earliest_append))]
 fn at_continuation(found: Option<LineRefusal>, number: u64, begun: OpenLines, line: &[u8]) -> Option<LineRefusal>
     ensures { result ≡ earliest found (Spec.at_continuation number begun.left begun.place line.now) }
 {
@@ -181,6 +185,7 @@ fn at_continuation(found: Option<LineRefusal>, number: u64, begun: OpenLines, li
     standing(found, bad, LineRefusalKind::BadCharacter, number)
 }
 
+#[tactic(auto, using(crate::proofs::Earliest::earliest_append))]
 fn at_orphan(found: Option<LineRefusal>, number: u64, line: &[u8]) -> Option<LineRefusal>
     ensures { result ≡ earliest found (Spec.at_orphan number line.now) }
 {

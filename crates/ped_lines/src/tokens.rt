@@ -4,13 +4,12 @@ ghost use Rattle.std.specs.Prelude.{◌≡◌, List, ℕ, [], ◌∷◌, ◌++�
 ghost use Rattle.ped_lines.specs.Characters as Spec;
 ghost use Rattle.ped_lines.specs.Characters.{tokens_from};
 ghost use Rattle.ped_lines.specs.Cutting.{tokens_with};
-ghost use Rattle.ped_lines.specs.declared.characters.Place.TheVariants.{Outside};
+ghost use Rattle.ped_lines.specs.declared.characters.Place.TheVariants.{Outside, Inside, Closing};
 
 use crate::characters::{Place, place_behind};
 use crate::columns::folded;
 use ped_base::{Bytes, Listed, NoMemory};
 use std::alloc::Global;
-use std::mem::replace;
 
 /// A token of a statement.
 #[derive(Drop)]
@@ -59,26 +58,70 @@ impl Scanner {
     fn with_character(self, alloc: Global, c: u8) -> Result<Scanner, NoMemory>
         ensures { IfOk result (λ s. (rest : List ℕ) → tokens_with s rest ≡ tokens_with self (c ∷ rest)) }
     {
-        let mut scanner = self;
-        match scanner.place {
-            Place::Outside => push_alone(&mut scanner.tokens, c)?,
-            Place::Inside => {
-                if c != b'\'' {
-                    scanner.text.push(c)?;
-                }
-            }
-            Place::Closing => {
-                if c == b'\'' {
-                    scanner.text.push(c)?;
-                } else {
-                    let text = replace(&mut scanner.text, Vec::new(alloc));
-                    scanner.tokens.push(Token::Constant(Listed::from_vec(text)))?;
-                    push_alone(&mut scanner.tokens, c)?;
-                }
-            }
+        match self.place {
+            Place::Outside => self.outside(c),
+            Place::Inside => self.inside(c),
+            Place::Closing => self.closing(alloc, c),
         }
-        scanner.place = place_behind(scanner.place, c);
-        Ok(scanner)
+    }
+
+    #[tactic(auto, unfolding(crate::specs::Characters::place_behind, crate::specs::Characters::completed, crate::specs::Characters::text_behind))]
+    fn outside(self, c: u8) -> Result<Scanner, NoMemory>
+        requires { self.place ≡ Outside }
+        ensures { IfOk result (λ s. (rest : List ℕ) → tokens_with s rest ≡ tokens_with self (c ∷ rest)) }
+    {
+        let mut tokens = self.tokens;
+        push_alone(&mut tokens, c)?;
+        Ok(Scanner {
+            tokens,
+            place: place_behind(Place::Outside, c),
+            text: self.text,
+        })
+    }
+
+    #[tactic(auto, unfolding(crate::specs::Characters::place_behind, crate::specs::Characters::completed, crate::specs::Characters::text_behind))]
+    fn inside(self, c: u8) -> Result<Scanner, NoMemory>
+        requires { self.place ≡ Inside }
+        ensures { IfOk result (λ s. (rest : List ℕ) → tokens_with s rest ≡ tokens_with self (c ∷ rest)) }
+    {
+        if c == b'\'' {
+            return Ok(Scanner {
+                tokens: self.tokens,
+                place: Place::Closing,
+                text: self.text,
+            });
+        }
+        let mut text = self.text;
+        text.push(c)?;
+        Ok(Scanner {
+            tokens: self.tokens,
+            place: Place::Inside,
+            text,
+        })
+    }
+
+    #[tactic(auto, unfolding(crate::specs::Characters::place_behind, crate::specs::Characters::completed, crate::specs::Characters::text_behind))]
+    fn closing(self, alloc: Global, c: u8) -> Result<Scanner, NoMemory>
+        requires { self.place ≡ Closing }
+        ensures { IfOk result (λ s. (rest : List ℕ) → tokens_with s rest ≡ tokens_with self (c ∷ rest)) }
+    {
+        if c == b'\'' {
+            let mut text = self.text;
+            text.push(c)?;
+            return Ok(Scanner {
+                tokens: self.tokens,
+                place: Place::Inside,
+                text,
+            });
+        }
+        let mut tokens = self.tokens;
+        tokens.push(Token::Constant(Listed::from_vec(self.text)))?;
+        push_alone(&mut tokens, c)?;
+        Ok(Scanner {
+            tokens,
+            place: Place::Outside,
+            text: Vec::new(alloc),
+        })
     }
 
     /// The tokens, where no further character comes.

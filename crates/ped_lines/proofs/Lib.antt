@@ -1,3 +1,4 @@
+pub mod Beginning
 pub mod Earliest
 pub mod Filling
 pub mod FirstLines

@@ -1,6 +1,6 @@
 //! Comments and directives: what a line that is no part of a statement says.
 
-ghost use Rattle.std.specs.Prelude.{◌≡◌, [], ◌∷◌, ◌++◌, take, drop, map, filter, not, IfOk, OnOk};
+ghost use Rattle.std.specs.Prelude.{◌≡◌, ◌++◌, ◌==◌, ◌||◌, map, filter, not, IfOk, OnOk};
 ghost use Rattle.ped_lines.specs.Columns as Columns;
 ghost use Rattle.ped_lines.specs.Statements as Spec;
 
@@ -68,10 +68,16 @@ fn trimmed(text: &[u8]) -> &[u8]
     let mut end = text.len();
     while end > 0 {
         let last = text[end - 1];
-        if !(last == b' ' || last == b'\r') {
+        if !is_blank_or_return(last) {
             return front(text, end);
         }
         end -= 1;
     }
     front(text, end)
+}
+
+fn is_blank_or_return(c: u8) -> bool
+    ensures { result ≡ (c == 32 || c == 13) }
+{
+    c == b' ' || c == b'\r'
 }

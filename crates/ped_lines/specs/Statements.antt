@@ -1,5 +1,5 @@
 -- How lines are grouped into statements, with the comments and directives that go with each. Lines count from 1.
-use Rattle.std.specs.Prelude.{ℕ, ◌+◌, List, [], ◌∷◌, ◌++◌, ◌||◌, Bool, not, map, filter, take, drop, length, if◌then◌else◌}
+use Rattle.std.specs.Prelude.{ℕ, ◌+◌, List, [], ◌∷◌, ◌++◌, ◌||◌, not, map, filter, take, drop, length, if◌then◌else◌}
 use Rattle.std.specs.Prelude.{◌==◌}
 use Rattle.std.specs.Str.Lines.{lines}
 use Rattle.ped_lines.specs.Columns.{is_blank, folded, is_comment, is_directive, continues, label_of, statement_columns}

@@ -21,9 +21,21 @@ pub fn place_behind(place: Place, c: u8) -> Place
     ensures { result ≡ Spec.place_behind place c }
 {
     match place {
-        Place::Outside => if c == b'\'' { Place::Inside } else { Place::Outside },
-        Place::Inside => if c == b'\'' { Place::Closing } else { Place::Inside },
-        Place::Closing => if c == b'\'' { Place::Inside } else { Place::Outside },
+        Place::Outside => if c == b'\'' {
+            Place::Inside
+        } else {
+            Place::Outside
+        },
+        Place::Inside => if c == b'\'' {
+            Place::Closing
+        } else {
+            Place::Inside
+        },
+        Place::Closing => if c == b'\'' {
+            Place::Inside
+        } else {
+            Place::Outside
+        },
     }
 }
 

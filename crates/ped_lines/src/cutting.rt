@@ -93,11 +93,22 @@ fn with_note(cutting: Cutting, alloc: Global, number: u64, line: &[u8]) -> Resul
     ensures { IfOk result (λ c. (rest : List (List ℕ)) (count : ℕ) → cut_with c (number + 1) rest count ≡ cut_with cutting number (line.now ∷ rest) count) }
 {
     let mut cutting = cutting;
-    push_note(alloc, &mut cutting.comments, &mut cutting.directives, number, line)?;
+    push_note(
+        alloc,
+        &mut cutting.comments,
+        &mut cutting.directives,
+        number,
+        line,
+    )?;
     Ok(cutting)
 }
 
-fn with_continuation(cutting: Cutting, alloc: Global, number: u64, line: &[u8]) -> Result<Cutting, NoMemory>
+fn with_continuation(
+    cutting: Cutting,
+    alloc: Global,
+    number: u64,
+    line: &[u8],
+) -> Result<Cutting, NoMemory>
     requires comment { Columns.is_comment line.now ≡ false }
     requires continues { Columns.continues line.now ≡ true }
     ensures { IfOk result (λ c. (rest : List (List ℕ)) (count : ℕ) → cut_with c (number + 1) rest count ≡ cut_with cutting number (line.now ∷ rest) count) }
@@ -121,7 +132,13 @@ fn with_continuation(cutting: Cutting, alloc: Global, number: u64, line: &[u8]) 
 }
 
 /// The statement with one more line, and with the notes before that line.
-fn continued(begun: OpenStatement, alloc: Global, line: &[u8], comments: Vec<NoteLine>, directives: Vec<NoteLine>) -> Result<OpenStatement, NoMemory>
+fn continued(
+    begun: OpenStatement,
+    alloc: Global,
+    line: &[u8],
+    comments: Vec<NoteLine>,
+    directives: Vec<NoteLine>,
+) -> Result<OpenStatement, NoMemory>
     ensures same { IfOk result (λ o. (o.line ≡ begun.line) × (o.label ≡ begun.label)) }
     ensures tokens { IfOk result (λ o. (rest : List ℕ) → tokens_with o.scanner rest ≡ tokens_with begun.scanner (Columns.statement_columns line.now ++ rest)) }
     ensures comments { IfOk result (λ o. o.comments.items ≡ begun.comments.items ++ comments.items) }
@@ -136,13 +153,20 @@ fn continued(begun: OpenStatement, alloc: Global, line: &[u8], comments: Vec<Not
     Ok(OpenStatement {
         line: begun.line,
         label: begun.label,
-        scanner: begun.scanner.with_characters(alloc, &statement_columns(line))?,
+        scanner: begun
+            .scanner
+            .with_characters(alloc, &statement_columns(line))?,
         comments: all_comments,
         directives: all_directives,
     })
 }
 
-fn with_initial(cutting: Cutting, alloc: Global, number: u64, line: &[u8]) -> Result<Cutting, NoMemory>
+fn with_initial(
+    cutting: Cutting,
+    alloc: Global,
+    number: u64,
+    line: &[u8],
+) -> Result<Cutting, NoMemory>
     requires comment { Columns.is_comment line.now ≡ false }
     requires continues { Columns.continues line.now ≡ false }
     ensures { IfOk result (λ c. (rest : List (List ℕ)) (count : ℕ) → cut_with c (number + 1) rest count ≡ cut_with cutting number (line.now ∷ rest) count) }

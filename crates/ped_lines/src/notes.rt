@@ -20,7 +20,13 @@ pub struct NoteLine {
 
 /// Adds the note on a line to the comments or to the directives.
 #[tactic(auto, unfolding(crate::specs::Statements::comment_at, crate::specs::Statements::directive_at))]
-pub fn push_note(alloc: Global, comments: &mut Vec<NoteLine>, directives: &mut Vec<NoteLine>, number: u64, line: &[u8]) -> Result<(), NoMemory>
+pub fn push_note(
+    alloc: Global,
+    comments: &mut Vec<NoteLine>,
+    directives: &mut Vec<NoteLine>,
+    number: u64,
+    line: &[u8],
+) -> Result<(), NoMemory>
     ensures comments { OnOk result (comments.new.items ≡ comments.old.items ++ Spec.comment_at number line.now) }
     ensures directives { OnOk result (directives.new.items ≡ directives.old.items ++ Spec.directive_at number line.now) }
 {

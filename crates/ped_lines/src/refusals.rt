@@ -8,7 +8,9 @@ ghost use Rattle.ped_lines.specs.Columns as Columns;
 ghost use Rattle.ped_lines.specs.Cutting.{left_open, refusals_left};
 
 use crate::characters::{Place, has_bad, is_inside, place_after};
-use crate::columns::{continues, has_bad_label, has_label_field, has_tab, is_comment, statement_columns};
+use crate::columns::{
+    continues, has_bad_label, has_label_field, has_tab, is_comment, statement_columns,
+};
 use crate::text_lines::first_line;
 
 /// A rule of fixed form that a line breaks.
@@ -123,8 +125,8 @@ fn with_continuation(findings: Findings, number: u64, line: &[u8]) -> Findings
 
 fn continued(begun: OpenLines, line: &[u8]) -> OpenLines
     ensures { result ≡ record begun {
-        left = begun.left - 1;
-        place = Characters.place_after begun.place (Columns.statement_columns line.now);
+      left = begun.left - 1;
+      place = Characters.place_after begun.place (Columns.statement_columns line.now);
     } }
 {
     OpenLines {
@@ -158,7 +160,12 @@ fn at_end(found: Option<LineRefusal>, statement: Option<OpenLines>) -> Option<Li
 {
     match statement {
         None => found,
-        Some(begun) => standing(found, is_inside(begun.place), LineRefusalKind::OpenConstant, begun.first),
+        Some(begun) => standing(
+            found,
+            is_inside(begun.place),
+            LineRefusalKind::OpenConstant,
+            begun.first,
+        ),
     }
 }
 
@@ -168,19 +175,39 @@ fn at_initial(found: Option<LineRefusal>, number: u64, line: &[u8]) -> Option<Li
 {
     let columns = statement_columns(line);
     let found = standing(found, has_tab(line), LineRefusalKind::Tab, number);
-    let found = standing(found, has_bad_label(line), LineRefusalKind::BadLabel, number);
+    let found = standing(
+        found,
+        has_bad_label(line),
+        LineRefusalKind::BadLabel,
+        number,
+    );
     let bad = has_bad(Place::Outside, &columns);
     standing(found, bad, LineRefusalKind::BadCharacter, number)
 }
 
 #[tactic(auto, using(crate::proofs::Earliest::earliest_append))]
-fn at_continuation(found: Option<LineRefusal>, number: u64, begun: OpenLines, line: &[u8]) -> Option<LineRefusal>
+fn at_continuation(
+    found: Option<LineRefusal>,
+    number: u64,
+    begun: OpenLines,
+    line: &[u8],
+) -> Option<LineRefusal>
     ensures { result ≡ earliest found (Spec.at_continuation number begun.left begun.place line.now) }
 {
     let columns = statement_columns(line);
     let found = standing(found, has_tab(line), LineRefusalKind::Tab, number);
-    let found = standing(found, has_label_field(line), LineRefusalKind::BadLabel, number);
-    let found = standing(found, begun.left == 0, LineRefusalKind::TooManyContinuations, number);
+    let found = standing(
+        found,
+        has_label_field(line),
+        LineRefusalKind::BadLabel,
+        number,
+    );
+    let found = standing(
+        found,
+        begun.left == 0,
+        LineRefusalKind::TooManyContinuations,
+        number,
+    );
     let bad = has_bad(begun.place, &columns);
     standing(found, bad, LineRefusalKind::BadCharacter, number)
 }
@@ -191,7 +218,12 @@ fn at_orphan(found: Option<LineRefusal>, number: u64, line: &[u8]) -> Option<Lin
 {
     let columns = statement_columns(line);
     let found = standing(found, has_tab(line), LineRefusalKind::Tab, number);
-    let found = standing(found, has_label_field(line), LineRefusalKind::BadLabel, number);
+    let found = standing(
+        found,
+        has_label_field(line),
+        LineRefusalKind::BadLabel,
+        number,
+    );
     let found = standing(found, true, LineRefusalKind::ContinuationFirst, number);
     let bad = has_bad(Place::Outside, &columns);
     standing(found, bad, LineRefusalKind::BadCharacter, number)
@@ -199,7 +231,12 @@ fn at_orphan(found: Option<LineRefusal>, number: u64, line: &[u8]) -> Option<Lin
 
 /// The earlier one of what was found and the refusal of this kind and line, where it stands.
 #[tactic(auto, unfolding(crate::specs::Refusals::stands))]
-fn standing(found: Option<LineRefusal>, test: bool, kind: LineRefusalKind, line: u64) -> Option<LineRefusal>
+fn standing(
+    found: Option<LineRefusal>,
+    test: bool,
+    kind: LineRefusalKind,
+    line: u64,
+) -> Option<LineRefusal>
     ensures { result ≡ earliest found (stands test kind line) }
 {
     if test {
@@ -215,7 +252,11 @@ fn earlier(found: Option<LineRefusal>, refusal: LineRefusal) -> Option<LineRefus
 {
     match found {
         None => Some(refusal),
-        Some(first) => Some(if is_before(refusal, first) { refusal } else { first }),
+        Some(first) => Some(if is_before(refusal, first) {
+            refusal
+        } else {
+            first
+        }),
     }
 }
 
@@ -224,6 +265,5 @@ fn earlier(found: Option<LineRefusal>, refusal: LineRefusal) -> Option<LineRefus
 fn is_before(left: LineRefusal, right: LineRefusal) -> bool
     ensures { result ≡ Spec.is_before left right }
 {
-    left.line < right.line
-        || (left.line == right.line && left.kind.number() < right.kind.number())
+    left.line < right.line || (left.line == right.line && left.kind.number() < right.kind.number())
 }

@@ -3,7 +3,9 @@
 use crate::LineRefusalKind::{
     BadCharacter, BadLabel, ContinuationFirst, OpenConstant, Tab, TooManyContinuations,
 };
-use crate::{LineRefusal, LineRefusalKind, LinesError, NoteLine, Statement, Statements, Token, statements};
+use crate::{
+    LineRefusal, LineRefusalKind, LinesError, NoteLine, Statement, Statements, Token, statements,
+};
 use ped_base::{Bytes, NoMemory};
 use std::alloc::Global;
 use std::test::Fail;
@@ -140,7 +142,8 @@ fn a_short_line_is_filled_with_blanks(rt: HostRuntime) -> Result<(), Fail> {
 #[test]
 fn notes_go_with_the_statement_behind_or_round_them(rt: HostRuntime) -> Result<(), Fail> {
     let alloc = rt.alloc();
-    let text = b"C one \r\n*$PED reject  k\n      A\nc two\n     &B\n\nc$pEdX\n      C\n* last\xff\nC$PED Y";
+    let text =
+        b"C one \r\n*$PED reject  k\n      A\nc two\n     &B\n\nc$pEdX\n      C\n* last\xff\nC$PED Y";
     let cut = statements(alloc, text)?;
     assert_eq!(rt; cut.lines, 10);
     match cut.statements.as_slice() {

@@ -1,0 +1,5 @@
+pub mod Beginning
+pub mod Earliest
+pub mod Filling
+pub mod FirstLines
+pub mod Trimming

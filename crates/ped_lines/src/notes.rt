@@ -1,0 +1,89 @@
+//! Comments and directives: what a line that is no part of a statement says.
+
+ghost use Rattle.std.specs.Prelude.{◌≡◌, ◌++◌, ◌==◌, ◌||◌, map, filter, not, IfOk, OnOk};
+ghost use Rattle.ped_lines.specs.Columns as Columns;
+ghost use Rattle.ped_lines.specs.Statements as Spec;
+
+use crate::columns::{behind, folded, front, is_directive};
+use ped_base::{Bytes, Listed, NoMemory};
+use std::alloc::Global;
+
+/// A comment or a directive.
+#[derive(Drop)]
+pub struct NoteLine {
+    /// The line's number, from 1.
+    pub line: u64,
+    /// A comment's columns 2 to 72 without blanks and carriage returns at the end; of a directive what
+    /// follows `$PED` there, without blanks and in capitals.
+    pub text: Bytes,
+}
+
+/// Adds the note on a line to the comments or to the directives.
+#[tactic(auto, unfolding(crate::specs::Statements::comment_at, crate::specs::Statements::directive_at))]
+pub fn push_note(
+    alloc: Global,
+    comments: &mut Vec<NoteLine>,
+    directives: &mut Vec<NoteLine>,
+    number: u64,
+    line: &[u8],
+) -> Result<(), NoMemory>
+    ensures comments { OnOk result (comments.new.items ≡ comments.old.items ++ Spec.comment_at number line.now) }
+    ensures directives { OnOk result (directives.new.items ≡ directives.old.items ++ Spec.directive_at number line.now) }
+{
+    if is_directive(line) {
+        let text = directive_text(alloc, line)?;
+        directives.push(NoteLine { line: number, text })?;
+    } else {
+        let text = Listed::from_vec(Vec::from_slice(alloc, comment_text(line))?);
+        comments.push(NoteLine { line: number, text })?;
+    }
+    Ok(())
+}
+
+#[tactic(auto, unfolding(crate::specs::Statements::directive_text))]
+fn directive_text(alloc: Global, line: &[u8]) -> Result<Bytes, NoMemory>
+    ensures { IfOk result (λ text. text ≡ Spec.directive_text line.now) }
+{
+    let text = behind(comment_text(line), 4);
+    Ok(Listed::from_vec(folded_text(alloc, text)?))
+}
+
+fn folded_text(alloc: Global, text: &[u8]) -> Result<Vec<u8>, NoMemory>
+    ensures { IfOk result (λ v. v.items ≡ map Columns.folded (filter (λ c. not (Columns.is_blank c)) text.now)) }
+{
+    let mut kept = Vec::new(alloc);
+    for c in text {
+        if *c != b' ' {
+            kept.push(folded(*c))?;
+        }
+    }
+    Ok(kept)
+}
+
+#[tactic(auto, unfolding(crate::specs::Statements::comment_text))]
+fn comment_text(line: &[u8]) -> &[u8]
+    ensures { result.now ≡ Spec.comment_text line.now }
+{
+    trimmed(front(behind(line, 1), 71))
+}
+
+/// Without the blanks and carriage returns at the end.
+fn trimmed(text: &[u8]) -> &[u8]
+    ensures { result.now ≡ Spec.trimmed text.now }
+{
+    let mut end = text.len();
+    while end > 0 {
+        let last = text[end - 1];
+        if !is_blank_or_return(last) {
+            return front(text, end);
+        }
+        end -= 1;
+    }
+    front(text, end)
+}
+
+fn is_blank_or_return(c: u8) -> bool
+    ensures { result ≡ (c == 32 || c == 13) }
+{
+    c == b' ' || c == b'\r'
+}

@@ -1,0 +1,267 @@
+//! Texts of fixed form and what they are cut into. Expected values are by hand.
+
+use crate::LineRefusalKind::{
+    BadCharacter, BadLabel, ContinuationFirst, OpenConstant, Tab, TooManyContinuations,
+};
+use crate::{
+    LineRefusal, LineRefusalKind, LinesError, NoteLine, Statement, Statements, Token, statements,
+};
+use ped_base::{Bytes, NoMemory};
+use std::alloc::Global;
+use std::test::Fail;
+
+/// The statement's tokens as one text, a constant between two apostrophes.
+fn shown(alloc: Global, statement: &Statement) -> Result<Bytes, NoMemory> {
+    let mut text = Bytes::new(alloc);
+    for token in statement.tokens.as_slice() {
+        match token {
+            Token::Char(c) => text.push(*c)?,
+            Token::Constant(constant) => {
+                text.push(b'\'')?;
+                text.extend_from_slice(constant.as_slice())?;
+                text.push(b'\'')?;
+            }
+        }
+    }
+    Ok(text)
+}
+
+/// The first refusal of a text.
+fn refused(alloc: Global, text: &[u8]) -> Option<LineRefusal> {
+    match statements(alloc, text) {
+        Ok(_) | Err(LinesError::NoMemory) => None,
+        Err(LinesError::Refused(refusal)) => Some(refusal),
+    }
+}
+
+fn at(kind: LineRefusalKind, line: u64) -> Option<LineRefusal> {
+    Some(LineRefusal { kind, line })
+}
+
+/// The text of the only statement.
+fn only(alloc: Global, text: &[u8]) -> Result<Bytes, LinesError> {
+    let cut = statements(alloc, text)?;
+    match cut.statements.as_slice() {
+        [statement] => Ok(shown(alloc, statement)?),
+        _ => Ok(Bytes::new(alloc)),
+    }
+}
+
+/// A statement with so many continuation lines.
+fn continued(alloc: Global, count: u64) -> Result<Bytes, NoMemory> {
+    let mut text = Bytes::new(alloc);
+    text.extend_from_slice(b"      K = 1\n")?;
+    for _i in 0..count {
+        text.extend_from_slice(b"C\n     &+1\n")?;
+    }
+    Ok(text)
+}
+
+/// A line of blanks with a byte in one column.
+fn line_with(alloc: Global, column: usize, c: u8) -> Result<Bytes, NoMemory> {
+    let mut text = Bytes::new(alloc);
+    for i in 1..80usize {
+        text.push(if i == column {
+            c
+        } else if i == 8 {
+            b'K'
+        } else {
+            b' '
+        })?;
+    }
+    Ok(text)
+}
+
+#[test]
+fn an_empty_text_has_no_lines(rt: HostRuntime) -> Result<(), Fail> {
+    let cut = statements(rt.alloc(), b"")?;
+    assert!(rt; cut.statements.is_empty() && cut.comments.is_empty());
+    assert_eq!(rt; cut.lines, 0);
+    Ok(())
+}
+
+#[test]
+fn labels_are_digits_with_blanks_and_zeros_among_them(rt: HostRuntime) -> Result<(), Fail> {
+    let cut = statements(rt.alloc(), b" 0 12 CONTINUE\r\n12345 STOP\n     0END")?;
+    assert_eq!(rt; cut.lines, 3);
+    let labels: [Option<u32>; 3] = [Some(12), Some(12345), None];
+    for (statement, label) in cut.statements.as_slice().iter().zip(labels) {
+        assert!(rt; statement.label == label);
+    }
+    assert_eq!(rt; cut.statements.len(), 3);
+    Ok(())
+}
+
+#[test]
+fn blanks_and_small_letters_mean_nothing_outside_constants(rt: HostRuntime) -> Result<(), Fail> {
+    let alloc = rt.alloc();
+    let text = only(alloc, b"      p r int *, 'it''s a', Kk")?;
+    assert_eq!(rt; text.as_slice(), b"PRINT*,'it's a',KK".as_slice());
+    Ok(())
+}
+
+#[test]
+fn a_constant_goes_on_over_lines(rt: HostRuntime) -> Result<(), Fail> {
+    let alloc = rt.alloc();
+    let mut text = Bytes::new(alloc);
+    text.extend_from_slice(b"      PRINT *, '")?;
+    for _i in 0..55u8 {
+        text.push(b'x')?;
+    }
+    text.extend_from_slice(b"'beyond\n     1' z'\n")?;
+    let cut = statements(alloc, text.as_slice())?;
+    let mut constant = Bytes::new(alloc);
+    for _i in 0..55u8 {
+        constant.push(b'x')?;
+    }
+    constant.extend_from_slice(b"' z")?;
+    match cut.statements.as_slice() {
+        [statement] => match statement.tokens.as_slice().last() {
+            Some(Token::Constant(last)) => assert_eq!(rt; last.as_slice(), constant.as_slice()),
+            _ => assert!(rt; false),
+        },
+        _ => assert!(rt; false),
+    }
+    Ok(())
+}
+
+#[test]
+fn a_short_line_is_filled_with_blanks(rt: HostRuntime) -> Result<(), Fail> {
+    let alloc = rt.alloc();
+    let cut = statements(alloc, b"      PRINT *, 'A\n     &B'")?;
+    match cut.statements.as_slice() {
+        [statement] => match statement.tokens.as_slice().last() {
+            Some(Token::Constant(last)) => assert_eq!(rt; last.len(), 57),
+            _ => assert!(rt; false),
+        },
+        _ => assert!(rt; false),
+    }
+    Ok(())
+}
+
+#[test]
+fn notes_go_with_the_statement_behind_or_round_them(rt: HostRuntime) -> Result<(), Fail> {
+    let alloc = rt.alloc();
+    let text =
+        b"C one \r\n*$PED reject  k\n      A\nc two\n     &B\n\nc$pEdX\n      C\n* last\xff\nC$PED Y";
+    let cut = statements(alloc, text)?;
+    assert_eq!(rt; cut.lines, 10);
+    match cut.statements.as_slice() {
+        [first, second] => {
+            assert_eq!(rt; shown(alloc, first)?.as_slice(), b"AB".as_slice());
+            assert_eq!(rt; first.line, 3);
+            assert_eq!(rt; second.line, 8);
+            assert!(rt; are_notes(first.comments.as_slice(), &[(1, b" one"), (4, b" two")]));
+            assert!(rt; are_notes(first.directives.as_slice(), &[(2, b"REJECTK")]));
+            assert!(rt; are_notes(second.comments.as_slice(), &[(6, b"")]));
+            assert!(rt; are_notes(second.directives.as_slice(), &[(7, b"X")]));
+        }
+        _ => assert!(rt; false),
+    }
+    assert!(rt; are_notes(cut.comments.as_slice(), &[(9, b" last\xff")]));
+    assert!(rt; are_notes(cut.directives.as_slice(), &[(10, b"Y")]));
+    Ok(())
+}
+
+fn are_notes(notes: &[NoteLine], expected: &[(u64, &[u8])]) -> bool {
+    for (note, (line, text)) in notes.iter().zip(expected) {
+        if note.line != *line || note.text.as_slice() != *text {
+            return false;
+        }
+    }
+    notes.len() == expected.len()
+}
+
+#[test]
+fn at_most_nineteen_lines_continue_a_statement(rt: HostRuntime) -> Result<(), Fail> {
+    let alloc = rt.alloc();
+    let most = only(alloc, continued(alloc, 19)?.as_slice())?;
+    assert_eq!(rt; most.len(), 41);
+    let refusal = refused(alloc, continued(alloc, 21)?.as_slice());
+    assert!(rt; refusal == at(TooManyContinuations, 41));
+    Ok(())
+}
+
+#[test]
+fn tabs_are_refused_up_to_column_72(rt: HostRuntime) -> Result<(), Fail> {
+    let alloc = rt.alloc();
+    for column in [1usize, 6, 7, 72] {
+        let refusal = refused(alloc, line_with(alloc, column, b'\t')?.as_slice());
+        assert!(rt; refusal == at(Tab, 1));
+    }
+    let text = only(alloc, line_with(alloc, 73, b'\t')?.as_slice())?;
+    assert_eq!(rt; text.as_slice(), b"K".as_slice());
+    let comment = statements(alloc, b"C\t\n")?;
+    assert!(rt; comment.statements.is_empty());
+    Ok(())
+}
+
+#[test]
+fn other_bytes_are_refused_by_their_columns(rt: HostRuntime) -> Result<(), Fail> {
+    let alloc = rt.alloc();
+    for column in [1usize, 5] {
+        for c in [b'\r', b'&'] {
+            let refusal = refused(alloc, line_with(alloc, column, c)?.as_slice());
+            assert!(rt; refusal == at(BadLabel, 1));
+        }
+    }
+    for column in [7usize, 72] {
+        for c in [b'\r', b'!'] {
+            let refusal = refused(alloc, line_with(alloc, column, c)?.as_slice());
+            assert!(rt; refusal == at(BadCharacter, 1));
+        }
+    }
+    Ok(())
+}
+
+/// A line of its own with this refusal.
+fn line_of(kind: LineRefusalKind) -> &'static [u8] {
+    match kind {
+        Tab => b"\tSTOP\n",
+        BadLabel => b"00000 STOP\n",
+        BadCharacter => b"      STOP;\n",
+        OpenConstant => b"      PRINT *, 'IT''S\n",
+        ContinuationFirst | TooManyContinuations => b"     &STOP\n",
+    }
+}
+
+#[test]
+fn the_first_refusal_is_that_of_the_least_line(rt: HostRuntime) -> Result<(), Fail> {
+    let alloc = rt.alloc();
+    let kinds = [Tab, BadLabel, BadCharacter, OpenConstant];
+    for first in kinds {
+        for second in kinds {
+            let mut text = Bytes::new(alloc);
+            text.extend_from_slice(b"C\n")?;
+            text.extend_from_slice(line_of(first))?;
+            text.extend_from_slice(line_of(second))?;
+            assert!(rt; refused(alloc, text.as_slice()) == at(first, 2));
+        }
+        let mut text = Bytes::new(alloc);
+        text.extend_from_slice(line_of(ContinuationFirst))?;
+        text.extend_from_slice(line_of(first))?;
+        assert!(rt; refused(alloc, text.as_slice()) == at(ContinuationFirst, 1));
+        let mut text = Bytes::new(alloc);
+        text.extend_from_slice(line_of(first))?;
+        text.extend_from_slice(continued(alloc, 20)?.as_slice())?;
+        assert!(rt; refused(alloc, text.as_slice()) == at(first, 1));
+        let mut text = continued(alloc, 20)?;
+        text.extend_from_slice(line_of(first))?;
+        assert!(rt; refused(alloc, text.as_slice()) == at(TooManyContinuations, 41));
+    }
+    Ok(())
+}
+
+#[test]
+fn the_first_refusal_of_a_line_is_that_of_the_least_number(rt: HostRuntime) {
+    let alloc = rt.alloc();
+    assert!(rt; refused(alloc, b"A\t    '") == at(Tab, 1));
+    assert!(rt; refused(alloc, b"A     ;") == at(BadLabel, 1));
+    assert!(rt; refused(alloc, b"1    &;") == at(BadLabel, 1));
+    assert!(rt; refused(alloc, b"     &;") == at(ContinuationFirst, 1));
+    assert!(rt; refused(alloc, b"      '\x7f") == at(BadCharacter, 1));
+    assert!(rt; refused(alloc, b"      '\n     &\x7f") == at(OpenConstant, 1));
+    assert!(rt; refused(alloc, b"      ';'';'") == None);
+    assert!(rt; refused(alloc, b"      '\n1    &\n") == at(OpenConstant, 1));
+    assert!(rt; refused(alloc, b"      '\n1    &'\n") == at(BadLabel, 2));
+}

@@ -1,5 +1,5 @@
 -- Which refusals stand at the lines of a text, and which of them is the first. Lines count from 1.
-use Rattle.std.specs.Prelude.{ℕ, ◌+◌, ◌-◌, List, [], ◌∷◌, ◌++◌, Option, Some, None, Bool, ◌&&◌, ◌||◌, ◌==◌, nat_lt, if◌then◌else◌}
+use Rattle.std.specs.Prelude.{◌≡◌, ◌⊎◌, ℕ, ◌+◌, ◌-◌, List, [], ◌∷◌, ◌++◌, Option, Some, None, Bool, true, ◌&&◌, ◌||◌, ◌==◌, nat_lt, if◌then◌else◌}
 use Rattle.std.specs.Str.Lines.{lines}
 use Rattle.ped_lines.specs.Columns.{is_comment, continues, has_tab, has_bad_label, has_label_field, statement_columns}
 use Rattle.ped_lines.specs.Characters.{is_inside, has_bad, place_after}
@@ -34,7 +34,7 @@ at_continuation n left place line =
 -- what stands at a continuation line that comes before any initial line
 abbrev pub at_orphan : ℕ → List ℕ → List LineRefusal
 at_orphan n line =
-    stands (has_tab line) Tab n ++ stands (has_label_field line) BadLabel n ++ stands (1 == 1) ContinuationFirst n ++ stands (has_bad Outside (statement_columns line)) BadCharacter n
+    stands (has_tab line) Tab n ++ stands (has_label_field line) BadLabel n ++ stands true ContinuationFirst n ++ stands (has_bad Outside (statement_columns line)) BadCharacter n
 
 -- what stands from line n on in the rest of the statement that begins at line first
 abbrev pub in_rest : ℕ → ℕ → ℕ → Place → List (List ℕ) → List LineRefusal
@@ -76,6 +76,11 @@ earlier (Some found) r = if is_before r found then Some r else Some found
 abbrev pub earliest : Option LineRefusal → List LineRefusal → Option LineRefusal
 earliest found [] = found
 earliest found (r ∷ rs) = earliest (earlier found r) rs
+
+-- one of these
+abbrev pub IsAmong : LineRefusal → List LineRefusal → Type 0
+IsAmong r [] = ⊥
+IsAmong r (s ∷ rs) = (r ≡ s) ⊎ IsAmong r rs
 
 -- the first refusal of a text
 abbrev pub first_refusal : List ℕ → Option LineRefusal

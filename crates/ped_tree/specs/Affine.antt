@@ -1,8 +1,8 @@
--- The view of a pair of references: the ranges of its loops and its subscripts as affine forms. Bounds and increments other than literals, and scalars in subscripts, aren't read yet.
+-- The view of a pair of references: the ranges of its loops and its subscripts as affine forms. Bounds and increments other than literals, and in subscripts scalars, signs, products and named constants, aren't read yet.
 use Rattle.std.specs.Prelude.{ℕ, ◌-◌, ℤ, pos, ◌+ℤ◌, ◌-ℤ◌, ◌^◌, List, [], ◌∷◌, map, length, take, drop, replicate, unsigned_abs, nat_le, Bool, true, false, ◌&&◌, Option, Some, None, if◌then◌else◌}
 use Rattle.std.specs.List.{list_all, list_any}
 use Rattle.ped_base.specs.Views.{Range, range, Row, SubscriptPair, View}
-use Rattle.ped_tree.specs.Tree.{ExprTree, Int, Var, Element, Add, Sub, Head}
+use Rattle.ped_tree.specs.Tree.{ExprTree, Int, Var, Element, Neg, Add, Sub, Mul, Div, Pow, Call, Head}
 use Rattle.ped_tree.specs.References.{Loop, Reference, same_name, indices_of, common_nest}
 
 -- the value of a literal
@@ -10,8 +10,13 @@ abbrev pub literal : ExprTree → Option ℤ
 literal (Int n) = Some (pos n)
 literal (Var x) = None
 literal (Element x subscripts) = None
+literal (Neg a) = None
 literal (Add a b) = None
 literal (Sub a b) = None
+literal (Mul a b) = None
+literal (Div a b) = None
+literal (Pow a b) = None
+literal (Call f arguments) = None
 
 -- from the initial value to the limit by a positive increment, entered at one value each time
 abbrev pub range_by : Option ℤ → Option ℤ → Option ℤ → Option Range
@@ -70,6 +75,11 @@ abbrev pub affine_of : List (List ℕ) → ExprTree → Option Affine
 affine_of indices (Int n) = limited (affine (map (λ v. pos 0) indices) (pos n))
 affine_of indices (Var x) = if list_any (same_name x) indices then limited (affine (coefficients_of x indices) (pos 0)) else None
 affine_of indices (Element x subscripts) = None
+affine_of indices (Neg a) = None
+affine_of indices (Mul a b) = None
+affine_of indices (Div a b) = None
+affine_of indices (Pow a b) = None
+affine_of indices (Call f arguments) = None
 affine_of indices (Add a b) = combination ◌+ℤ◌ (affine_of indices a) (affine_of indices b)
 affine_of indices (Sub a b) = combination ◌-ℤ◌ (affine_of indices a) (affine_of indices b)
 

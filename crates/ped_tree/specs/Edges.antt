@@ -1,4 +1,4 @@
--- The dependences of a program: for each pair of references its vectors, divided by the loop that carries them.
+-- The dependences of a program: for each pair of references its vectors, divided by the loop that carries them. PRIVATE, rejected names and IF aren't looked at yet.
 use Rattle.std.specs.Prelude.{◌≡◌, ℕ, suc, ℤ, pos, ◌+ℤ◌, List, [], ◌∷◌, ◌++◌, map, filter, length, unsigned_abs, int_le, nat_le, count_by, slice_index_or, Bool, true, false, ◌&&◌, not, ◌==◌, Option, Some, None, if◌then◌else◌}
 use Rattle.std.specs.List.{list_all, flat_map, range_with_len}
 use Rattle.std.specs.Ordering.{int_eq}

@@ -4,6 +4,8 @@ pub mod Edges
 pub mod Numbering
 pub mod Printing
 pub mod References
+pub mod Refusal
 pub mod SourcePane
+pub mod Statement
 pub mod Tree
 pub mod Views

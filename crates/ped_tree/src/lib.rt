@@ -2,15 +2,17 @@
 //! lists keep; the definitions of printing, references, edges and panes there speak of plain trees.
 #![tactic(auto)]
 
+mod conditions;
 mod declarations;
 mod expressions;
 mod laws;
 mod statements;
 
-pub use declarations::{Bound, Decl, Declarator, Program};
-pub use expressions::Expr;
+pub use conditions::{Cond, Relation};
+pub use declarations::{Bound, Consts, Decl, Declarator, Program};
+pub use expressions::{Expr, Intrinsic};
 pub use laws::one_dependence_pane;
-pub use statements::{Do, Stmt};
+pub use statements::{Do, PrintItem, Stmt};
 
 #[cfg(test)]
 mod tests;

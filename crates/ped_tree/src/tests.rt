@@ -1,7 +1,7 @@
 //! A loop put together by the constructors. That they succeed is what no contract says.
 
 use crate::{Do, Expr, Stmt};
-use ped_base::Name;
+use ped_base::{Name, Names};
 use std::test::Fail;
 
 fn name(text: &str) -> Result<Name, Fail> {
@@ -51,7 +51,7 @@ fn is_value(expr: &Expr) -> bool {
 fn is_assignment(statement: &Stmt) -> bool {
     match statement {
         Stmt::Assign { left, right } => is_target(left) && is_value(right),
-        Stmt::Do(_) => false,
+        _ => false,
     }
 }
 
@@ -65,7 +65,7 @@ fn is_loop_from_1_to_10(statement: &Stmt) -> bool {
                 && head.body.len() == 1
                 && is_assignment(&head.body[0])
         }
-        Stmt::Assign { .. } => false,
+        _ => false,
     }
 }
 
@@ -81,6 +81,9 @@ fn constructors_make_a_loop(rt: HostRuntime) -> Result<(), Fail> {
         first: Expr::literal(1),
         last: Expr::literal(10),
         step: Expr::literal(1),
+        parallel: false,
+        private: Names::new(alloc),
+        rejected: Names::new(alloc),
         body: vec![in alloc; assignment]?,
     });
     assert!(rt; is_loop_from_1_to_10(&statement));

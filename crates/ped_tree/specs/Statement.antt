@@ -1,0 +1,22 @@
+-- Statements of a text, as its lines are grouped into them. Lines count from 1.
+use Rattle.std.specs.Prelude.{ℕ, List, Option}
+
+-- a comment by its text, or a directive by what follows $PED, and its line
+pub record Note : Type 0 where
+  pub line : ℕ
+  pub text : List ℕ
+
+-- a statement: its first line, its label, its text without blanks outside constants, and the comments and directives before and within it
+pub record Statement : Type 0 where
+  pub line : ℕ
+  pub label : Option ℕ
+  pub text : List ℕ
+  pub comments : List Note
+  pub directives : List Note
+
+-- the statements of a text, the comments and directives behind the last, and the number of lines
+pub record Statements : Type 0 where
+  pub statements : List Statement
+  pub comments : List Note
+  pub directives : List Note
+  pub lines : ℕ

@@ -1,7 +1,11 @@
 pub mod Affine
+pub mod BlockForms
+pub mod Contexts
 pub mod DependencePane
 pub mod Edges
+pub mod Items
 pub mod Numbering
+pub mod Occurrences
 pub mod Printing
 pub mod References
 pub mod Refusal

@@ -1,6 +1,10 @@
 pub mod Affine
+pub mod Characters
+pub mod Columns
 pub mod DependencePane
 pub mod Edges
+pub mod Grouping
+pub mod LineRefusals
 pub mod Numbering
 pub mod Printing
 pub mod References

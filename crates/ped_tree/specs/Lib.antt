@@ -1,9 +1,13 @@
 pub mod Affine
 pub mod BlockForms
+pub mod Characters
+pub mod Columns
 pub mod Contexts
 pub mod DependencePane
 pub mod Edges
+pub mod Grouping
 pub mod Items
+pub mod LineRefusals
 pub mod Numbering
 pub mod Occurrences
 pub mod Printing

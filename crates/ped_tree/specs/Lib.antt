@@ -1,6 +1,9 @@
 pub mod Affine
+pub mod ConditionForms
 pub mod DependencePane
 pub mod Edges
+pub mod ExpressionForms
+pub mod Literals
 pub mod Numbering
 pub mod Printing
 pub mod References
@@ -9,3 +12,4 @@ pub mod SourcePane
 pub mod Statement
 pub mod Tree
 pub mod Views
+pub mod Words

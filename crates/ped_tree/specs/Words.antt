@@ -1,0 +1,34 @@
+-- Words of statements: names, numerals, and the names of the intrinsic functions.
+use Rattle.std.specs.Prelude.{ℕ, List, Bool, ◌&&◌, ◌||◌, ◌==◌, nat_le, length, codes, Option, Some, None, if◌then◌else◌}
+use Rattle.std.specs.List.{list_all}
+use Rattle.std.specs.Cmp.Lexicographic.{pointwise}
+use Rattle.std.specs.Str.Parse.{digits_value}
+use Rattle.ped_base.specs.Letters
+use Rattle.ped_base.specs.Letters.{is_digit}
+use Rattle.ped_tree.specs.declared.expressions.Intrinsic.{Intrinsic}
+use Rattle.ped_tree.specs.declared.expressions.Intrinsic.TheVariants.{Mod, Abs, Max, Min}
+
+-- a name: a letter, and at most five letters and digits behind it
+abbrev pub is_name : List ℕ → Bool
+is_name x = Letters.is_name x && nat_le (length x) 6
+
+-- a numeral: one digit or more
+abbrev pub is_numeral : List ℕ → Bool
+is_numeral digits = nat_le 1 (length digits) && list_all is_digit digits
+
+-- the number that a numeral writes
+abbrev pub numeral_value : List ℕ → ℕ
+numeral_value digits = digits_value 10 digits
+
+-- the same word
+abbrev pub same_word : List ℕ → List ℕ → Bool
+same_word = pointwise ◌==◌
+
+-- the intrinsic function of a name, where it is MOD, ABS, IABS, MAX, MAX0, MIN or MIN0
+abbrev pub intrinsic_of : List ℕ → Option Intrinsic
+intrinsic_of x =
+    if same_word x (codes "MOD") then Some Mod
+    else if same_word x (codes "ABS") || same_word x (codes "IABS") then Some Abs
+    else if same_word x (codes "MAX") || same_word x (codes "MAX0") then Some Max
+    else if same_word x (codes "MIN") || same_word x (codes "MIN0") then Some Min
+    else None

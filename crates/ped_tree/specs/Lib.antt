@@ -13,13 +13,16 @@ pub mod LineRefusals
 pub mod Literals
 pub mod Numbering
 pub mod Occurrences
+pub mod OutsideProfile
 pub mod Printing
 pub mod ProgramForms
 pub mod ProgramRefusals
+pub mod Reading
 pub mod References
 pub mod Refusal
 pub mod SourcePane
 pub mod Statement
+pub mod StatementForms
 pub mod Tree
 pub mod Views
 pub mod Words

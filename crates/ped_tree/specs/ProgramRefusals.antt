@@ -5,7 +5,7 @@ use Rattle.std.specs.Cmp.Lexicographic.{pointwise}
 use Rattle.ped_tree.specs.Tree.{ExprTree, ExprTrees, Int, Var, Element, Neg, Add, Sub, Mul, Div, Pow, Call, CondTree, Head, StmtTree, StmtTrees, Assign, If, Do, Print, Read, Stop, Comment, no_stmts, more_stmts, DeclTree, Program, Implicit, Integer, Dimension, Parameter, Save, Remark}
 use Rattle.ped_tree.specs.References.{same_name, has_some, own_accesses}
 use Rattle.ped_tree.specs.Printing.{own_text, private_text, decl_text}
-use Rattle.ped_tree.specs.Literals.{has_large_literal, cond_has_large, stmt_has_large, decl_has_large}
+use Rattle.ped_tree.specs.Literals.{cond_has_large_literal, head_has_large_literal, stmt_has_large_literal, decl_has_large_literal}
 use Rattle.ped_tree.specs.Words.{is_name}
 use Rattle.ped_tree.specs.Refusal.{Finding, Syntax, NotInProfile, OpenBlock, BadTerminal, IndexAssigned, StopPlace, Limit, stands, first_of}
 use Rattle.ped_tree.specs.Statement.{Note, Statement, Statements}
@@ -303,16 +303,16 @@ has_eight_dimensions (Remark text) = false
 
 -- a literal above 2147483647, or an array of more than seven dimensions
 abbrev pub is_too_large : Item → Bool
-is_too_large (declares d) = decl_has_large d || has_eight_dimensions d
+is_too_large (declares d) = decl_has_large_literal d || has_eight_dimensions d
 is_too_large saves_all = false
-is_too_large (does s) = stmt_has_large s
+is_too_large (does s) = stmt_has_large_literal s
 is_too_large continues = false
-is_too_large (logical_if e s) = cond_has_large e || list_any stmt_has_large (listed_stmts s)
-is_too_large (block_if e) = cond_has_large e
-is_too_large (else_if e) = cond_has_large e
+is_too_large (logical_if e s) = cond_has_large_literal e || list_any stmt_has_large_literal (listed_stmts s)
+is_too_large (block_if e) = cond_has_large_literal e
+is_too_large (else_if e) = cond_has_large_literal e
 is_too_large else_line = false
 is_too_large end_if = false
-is_too_large (begins_do l h) = has_large_literal h.first || has_large_literal h.last || has_large_literal h.step
+is_too_large (begins_do l h) = head_has_large_literal h
 is_too_large (keeps_private names) = false
 is_too_large ends_program = false
 

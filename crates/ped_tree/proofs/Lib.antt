@@ -1,1 +1,2 @@
 pub mod OnePane
+pub mod OneReading

@@ -4,9 +4,21 @@
 ghost use Rattle.std.specs.Prelude.{◌≡◌, ℕ, List};
 ghost use Rattle.ped_tree.specs.Tree.{ProgramTree};
 ghost use Rattle.ped_tree.specs.DependencePane.{IsDependencePane};
+ghost use Rattle.ped_tree.specs.Reading.{OneItem, Reads, Refuses};
+ghost use Rattle.ped_tree.specs.Refusal.{Finding};
 
 /// A program has one dependence pane: the direction vectors that no subscript pair excludes, the
 /// dependences that they are divided into and the rows of these leave no choice.
 pub fn one_dependence_pane()
     ensures { (t : ProgramTree) (p q : List ℕ) → IsDependencePane t p → IsDependencePane t q → p ≡ q }
+{}
+
+/// A text has one first refusal at most.
+pub fn one_refusal()
+    ensures { OneItem → (text : List ℕ) (a b : Finding) → Refuses text a → Refuses text b → a ≡ b }
+{}
+
+/// No text has both a tree and a first refusal.
+pub fn tree_or_refusal()
+    ensures { OneItem → (text : List ℕ) (t : ProgramTree) (a : Finding) → Reads text t → Refuses text a → ⊥ }
 {}

@@ -11,7 +11,7 @@ mod statements;
 pub use conditions::{Cond, Relation};
 pub use declarations::{Bound, Consts, Decl, Declarator, Program};
 pub use expressions::{Expr, Intrinsic};
-pub use laws::one_dependence_pane;
+pub use laws::{one_dependence_pane, one_refusal, tree_or_refusal};
 pub use statements::{Do, PrintItem, Stmt};
 
 #[cfg(test)]

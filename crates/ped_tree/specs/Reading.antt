@@ -1,8 +1,8 @@
 -- What a text reads as: its tree, or its first refusal.
-use Rattle.std.specs.Prelude.{◌≡◌, ℕ, List, [], ◌∷◌, Bool, true, Option, Some, None, IsTrue}
+use Rattle.std.specs.Prelude.{◌≡◌, ℕ, List, [], ◌∷◌, Option, Some, None, IsTrue}
 use Rattle.ped_tree.specs.Tree.{ProgramTree}
 use Rattle.ped_tree.specs.Refusal.{Finding, first_of}
-use Rattle.ped_tree.specs.Statement.{Statement, Statements}
+use Rattle.ped_tree.specs.Statement.{Statement}
 use Rattle.ped_tree.specs.Grouping.{statements_of}
 use Rattle.ped_tree.specs.LineRefusals.{first_line_refusal}
 use Rattle.ped_tree.specs.Items.{Item, Reading, says, outside_profile, no_form, Entry}
@@ -22,6 +22,10 @@ abbrev pub IsReading : List ℕ → Reading → Type 0
 IsReading text (says i) = ReadsItem text i
 IsReading text outside_profile = HasNoForm text × IsOutside text
 IsReading text no_form = HasNoForm text × (IsOutside text → ⊥)
+
+-- no text of a statement says two things
+abbrev pub OneItem : Type 0
+OneItem = (text : List ℕ) (i j : Item) → ReadsItem text i → ReadsItem text j → i ≡ j
 
 -- the statements with what they say, one by one
 abbrev pub AreEntries : List Statement → List Entry → Type 0

@@ -5,6 +5,7 @@ ghost use Rattle.std.specs.Prelude.{◌≡◌, [], ℕ, List, Some, None, false}
 ghost use Rattle.ped_tree.specs.Refusal.{Finding, first_of, is_before, IsAmong};
 ghost use Rattle.ped_tree.specs.Tree.{ProgramTree};
 ghost use Rattle.ped_tree.specs.DependencePane.{IsDependencePane};
+ghost use Rattle.ped_tree.specs.Reading.{OneItem, Reads, Refuses};
 
 /// A program has one dependence pane: the direction vectors that no subscript pair excludes, the
 /// dependences that they are divided into and the rows of these leave no choice.
@@ -19,4 +20,14 @@ pub fn first_finding_is_least()
         IsAmong r findings
         × ((s : Finding) → IsAmong s findings → is_before s r ≡ false) }
     ensures none { (findings : List Finding) → first_of findings ≡ None → findings ≡ [] }
+{}
+
+/// A text has one first refusal at most.
+pub fn one_refusal()
+    ensures { OneItem → (text : List ℕ) (a b : Finding) → Refuses text a → Refuses text b → a ≡ b }
+{}
+
+/// No text has both a tree and a first refusal.
+pub fn tree_or_refusal()
+    ensures { OneItem → (text : List ℕ) (t : ProgramTree) (a : Finding) → Reads text t → Refuses text a → ⊥ }
 {}

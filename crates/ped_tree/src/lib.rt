@@ -1,5 +1,6 @@
 //! Trees of programs. Contracts see each tree as a plain tree of `specs/Tree.antt`, whatever room its
-//! lists keep; the definitions of printing, references, edges and panes there speak of plain trees.
+//! lists keep. The definitions there say what each text reads as or why it is refused, how a tree is printed,
+//! and what its references, dependences and panes are.
 #![tactic(auto)]
 
 mod conditions;
@@ -11,7 +12,7 @@ mod statements;
 pub use conditions::{Cond, Relation};
 pub use declarations::{Bound, Consts, Decl, Declarator, Program};
 pub use expressions::{Expr, Intrinsic};
-pub use laws::{first_finding_is_least, one_dependence_pane};
+pub use laws::{first_finding_is_least, one_dependence_pane, one_refusal, tree_or_refusal};
 pub use statements::{Do, PrintItem, Stmt};
 
 #[cfg(test)]

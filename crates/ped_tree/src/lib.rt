@@ -4,6 +4,7 @@
 #![tactic(auto)]
 
 mod conditions;
+mod copying;
 mod declarations;
 mod expressions;
 mod laws;

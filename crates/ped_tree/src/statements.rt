@@ -20,7 +20,10 @@ pub enum PrintItem {
 #[derive(Drop)]
 pub enum Stmt {
     /// An assignment, whose left side is a variable or an element (ANSI X3.9-1978, section 10.1).
-    Assign { left: Expr, right: Expr },
+    Assign {
+        left: Expr,
+        right: Expr,
+    },
     /// A block IF with its two parts; no ELSE is an empty second part (section 11.6).
     If {
         condition: Cond,

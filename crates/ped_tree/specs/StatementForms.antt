@@ -117,8 +117,8 @@ further_form_text (Some e) = codes "," ++ expr_form_text e
 
 -- the text of what follows the label of a DO
 abbrev pub control_form_text : ControlForm → List ℕ
-control_form_text (control comma x is first last step) =
-    comma_text comma ++ x ++ codes "=" ++ expr_form_text first ++ codes "," ++ expr_form_text last ++ further_form_text step
+control_form_text (control comma x is begin limit step) =
+    comma_text comma ++ x ++ codes "=" ++ expr_form_text begin ++ codes "," ++ expr_form_text limit ++ further_form_text step
 
 -- DO or PARALLEL DO
 abbrev pub do_form_word : Bool → List ℕ
@@ -197,10 +197,10 @@ step_form_tree (Some e) = expr_form_tree e
 
 -- the head of a DO
 abbrev pub control_form_head : Bool → ControlForm → Head
-control_form_head parallel (control comma x is first last step) = record {
+control_form_head parallel (control comma x is begin limit step) = record {
   variable = x;
-  first = expr_form_tree first;
-  last = expr_form_tree last;
+  first = expr_form_tree begin;
+  last = expr_form_tree limit;
   step = step_form_tree step;
   parallel = parallel;
   private = [];

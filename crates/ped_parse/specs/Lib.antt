@@ -1,0 +1,2 @@
+pub mod ItemViews
+pub mod Saturated

@@ -1,0 +1,6 @@
+//! Texts read as trees of programs, or refused (ANSI X3.9-1978, sections 3, 6 and 8 to 12).
+#![tactic(auto)]
+
+mod items;
+
+pub use items::{DoStatement, Item, StatementReading};

@@ -1,0 +1,2 @@
+pub mod ExpressionReading
+pub mod Scanning

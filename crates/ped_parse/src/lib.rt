@@ -1,0 +1,9 @@
+//! Texts of statements read as trees (ANSI X3.9-1978, section 6 for expressions and conditions). Each
+//! reader answers a tree exactly where some form of the grammar has the text.
+#![tactic(auto)]
+
+mod laws;
+mod readings;
+
+pub use laws::{one_expression, one_reference};
+pub use readings::Reading;

@@ -1,6 +1,11 @@
-//! Texts read as trees of programs, or refused (ANSI X3.9-1978, sections 3, 6 and 8 to 12).
+//! Texts read as trees of programs, or refused (ANSI X3.9-1978, sections 3, 6 and 8 to 12). Each reader
+//! answers a tree exactly where some form of the grammar has the text.
 #![tactic(auto)]
 
 mod items;
+mod laws;
+mod readings;
 
 pub use items::{DoStatement, Item, StatementReading};
+pub use laws::{one_expression, one_reference};
+pub use readings::Reading;

@@ -1,0 +1,6 @@
+//! Statements read as the tree of a program, or refused (ANSI X3.9-1978, sections 3, 11 and 15).
+#![tactic(auto)]
+
+mod laws_of_blocks;
+
+pub use laws_of_blocks::one_nesting;

@@ -1,5 +1,6 @@
 pub mod Again
 pub mod Basics
+pub mod BlocksNest
 pub mod Equations
 pub mod Settled
 pub mod Sound

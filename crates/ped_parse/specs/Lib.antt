@@ -1,4 +1,5 @@
 pub mod ExpressionReading
 pub mod ItemViews
+pub mod Machine
 pub mod Saturated
 pub mod Scanning

@@ -4,8 +4,10 @@
 
 mod items;
 mod laws;
+mod laws_of_blocks;
 mod readings;
 
 pub use items::{DoStatement, Item, StatementReading};
 pub use laws::{one_expression, one_reference};
+pub use laws_of_blocks::one_nesting;
 pub use readings::Reading;

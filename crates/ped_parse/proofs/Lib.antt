@@ -1,1 +1,4 @@
 pub mod BlocksNest
+pub mod BlocksMoved
+pub mod BlocksFound
+pub mod BlocksOneTree

@@ -3,4 +3,4 @@
 
 mod laws_of_blocks;
 
-pub use laws_of_blocks::one_nesting;
+pub use laws_of_blocks::{nests_or_refused, one_nesting, one_tree, reads_or_refused};

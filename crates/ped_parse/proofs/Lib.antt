@@ -1,6 +1,9 @@
 pub mod Again
 pub mod Basics
+pub mod BlocksFound
+pub mod BlocksMoved
 pub mod BlocksNest
+pub mod BlocksOneTree
 pub mod Equations
 pub mod Settled
 pub mod Sound

@@ -9,5 +9,5 @@ mod readings;
 
 pub use items::{DoStatement, Item, StatementReading};
 pub use laws::{one_expression, one_reference};
-pub use laws_of_blocks::one_nesting;
+pub use laws_of_blocks::{nests_or_refused, one_nesting, one_tree, reads_or_refused};
 pub use readings::Reading;

@@ -1,9 +1,10 @@
 -- Numbered statements in a list: how many there are, and at which places.
-use Rattle.std.proofs.Common.{◌≡◌, ℕ, ◌+◌, ◌-◌, ◌≤◌, ◌<◌, ◌==◌, List, [], ◌∷◌, ◌++◌, length, Option, Some, None, refl, ap, arith, eqb-true, length-append, drop, get_or, ◌≢◌}
+use Rattle.std.proofs.Common.{◌≡◌, ℕ, ◌+◌, ◌-◌, ◌≤◌, ◌<◌, ◌==◌, List, [], ◌∷◌, ◌++◌, length, Option, Some, None, MatchOption, Bor, refl, ap, arith, eqb-true, length-append, drop, get_or, ◌≢◌}
 use Rattle.ped_tree.specs.Tree.{CondTree, StmtTree, StmtTrees, Assign, If, Do, Print, Read, Stop, Comment, no_stmts, more_stmts}
 use Rattle.ped_tree.specs.Views.{stmt_tree, stmt_trees}
 use Rattle.ped_tree.specs.declared.statements.Stmt.{Stmt}
 use Rattle.std.proofs.lemmas.Grind.{common_steps}
+use Rattle.ped_tree.proofs.Levels.{stmt_tree-If}
 use Rattle.ped_tree.specs.Numbering.{numbered, all_numbered, at_place, statement_count, statements_count}
 
 mutual
@@ -61,5 +62,10 @@ at_place-else s condition then_part else_part n k found is h e f = grind (arith,
 pub stmt_trees-drop : (ss : List Stmt) (i : ℕ) (s : Stmt) → i < length ss → s ≡ get_or ss i s → stmt_trees (drop i ss) ≡ more_stmts (stmt_tree s) (stmt_trees (drop (i + 1) ss))
 stmt_trees-drop ss i s h e = grind (arith, common_steps)
 
+-- a search that passed the THEN part goes on in the ELSE part
+pub search-else : (o : Option (Bor Stmt)) (s : StmtTree) (condition : CondTree) (then_part else_part : StmtTrees) (n k left : ℕ) → s ≡ If condition then_part else_part → n ≢ 0 → k + statements_count then_part ≡ n - 1 → MatchOption o (left + statements_count else_part ≡ k) (λ found. at_place (all_numbered else_part) k ≡ Some (stmt_tree found.now)) → MatchOption o (left + statement_count s ≡ n) (λ found. at_place (numbered s) n ≡ Some (stmt_tree found.now))
+search-else None s condition then_part else_part n k left is h e passed = omega (arith, ap statement_count is)
+search-else (Some found) s condition then_part else_part n k left is h e f = at_place-else s condition then_part else_part n k (stmt_tree found.now) is h e f
+
 -- where a search finds a statement, and where it goes on
-pub ruleset placing = (eqb-true, at_place-then, at_place-else, all_numbered-past)
+pub ruleset placing = (eqb-true, at_place-then, all_numbered-past, stmt_tree-If, stmt_trees-drop, at_place-front, numbered-back)

@@ -8,6 +8,7 @@ mod copying;
 mod declarations;
 mod expressions;
 mod laws;
+mod numbering;
 mod statements;
 
 pub use conditions::{Cond, Relation};

@@ -1,6 +1,5 @@
-pub mod Beginning
-pub mod Earliest
 pub mod Filling
 pub mod FirstLines
-pub mod Least
+pub mod OneLine
+pub mod Quoting
 pub mod Trimming

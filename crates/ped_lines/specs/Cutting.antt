@@ -1,67 +1,94 @@
 -- What is still to come from a text that has been read up to a line. Contracts of private functions alone speak of it.
-use Rattle.std.specs.Prelude.{ℕ, List, [], ◌∷◌, ◌++◌, Option, Some, None}
-use Rattle.ped_lines.specs.Characters.{tokens_from, is_inside}
-use Rattle.ped_lines.specs.Refusals.{in_rest, in_statements, in_orphans, stands}
-use Rattle.ped_lines.specs.Statements.{comment_at, directive_at, notes_within, notes_behind, statements_from, further_columns}
-use Rattle.ped_lines.specs.declared.tokens.Token.{Token}
-use Rattle.ped_lines.specs.declared.tokens.Scanner.{Scanner}
+use Rattle.std.specs.Prelude.{◌≡◌, ℕ, ◌+◌, List, [], ◌∷◌, ◌++◌, Option, Some, None, Bool, map, if◌then◌else◌}
+use Rattle.ped_tree.specs.Statement as whole
+use Rattle.ped_tree.specs.Statement.{Note}
+use Rattle.ped_tree.specs.Refusal.{Finding, OpenConstant, stands, earliest}
+use Rattle.ped_tree.specs.Characters.{is_quoted, has_bad, text_behind}
+use Rattle.ped_tree.specs.Grouping.{further_lines, joined_columns, comment_at, directive_at, notes_within, notes_behind, statements_from}
+use Rattle.ped_tree.specs.LineRefusals as lines
+use Rattle.ped_tree.specs.LineRefusals.{at_orphans, in_rest, in_statements}
+use Rattle.ped_lines.specs.Views.{note_of, statement_of, finding_of}
+use Rattle.ped_lines.specs.declared.characters.OpenText.{OpenText}
 use Rattle.ped_lines.specs.declared.refusals.LineRefusal.{LineRefusal}
-use Rattle.ped_lines.specs.declared.refusals.OpenLines.{OpenLines}
-use Rattle.ped_lines.specs.declared.refusals.LineRefusalKind.TheVariants.{OpenConstant}
-use Rattle.ped_lines.specs.declared.grouping.Statement.{Statement}
-use Rattle.ped_lines.specs.declared.grouping.Statements.{Statements}
+use Rattle.ped_lines.specs.declared.refusals.Role.{Role}
+use Rattle.ped_lines.specs.declared.refusals.Role.TheVariants as role
 use Rattle.ped_lines.specs.declared.cutting.OpenStatement.{OpenStatement}
 use Rattle.ped_lines.specs.declared.cutting.Cutting.{Cutting}
 
--- the tokens of a statement whose further characters are these
-abbrev pub tokens_with : Scanner → List ℕ → List Token
-tokens_with s rest = s.tokens.items ++ tokens_from s.place s.text.items rest
+-- how a line stands to statements
+abbrev pub role_of : Role → lines.Role
+role_of role.Initial = lines.Initial
+role_of (role.Continuation left) = lines.Continuation left
+role_of role.Orphan = lines.Orphan
+
+-- what was found
+abbrev pub found_of : Option LineRefusal → Option Finding
+found_of None = None
+found_of (Some r) = Some (finding_of r)
+
+-- the text with the columns of one more line, whatever stands before them
+pub record WithColumns (old : OpenText) (columns : List ℕ) (new : OpenText) : Type 0 where
+  pub text : (before : List ℕ) → is_quoted before ≡ old.quoted → new.bytes.items ≡ old.bytes.items ++ text_behind before columns
+  pub quoted : (before : List ℕ) → is_quoted before ≡ old.quoted → is_quoted (before ++ columns) ≡ new.quoted
+  pub bad : (before : List ℕ) → is_quoted before ≡ old.quoted → has_bad before columns ≡ new.bad
+
+-- characters behind which the next one stands in a constant, or doesn't
+abbrev pub front_of : Bool → List ℕ
+front_of quoted = if quoted then 39 ∷ [] else []
 
 -- what stands where the statement that was begun before has no further line
-abbrev pub left_open : Option OpenLines → List LineRefusal
+abbrev pub left_open : Option OpenStatement → List Finding
 left_open None = []
-left_open (Some o) = stands (is_inside o.place) OpenConstant o.first
+left_open (Some o) = stands o.text.quoted OpenConstant o.line
 
 -- what stands from line n on, where a statement may have begun before
-abbrev pub refusals_left : Option OpenLines → ℕ → List (List ℕ) → List LineRefusal
-refusals_left None n rest = in_orphans n rest ++ in_statements n rest
-refusals_left (Some o) n rest = in_rest n o.first o.left o.place rest ++ in_statements n rest
+abbrev pub refusals_left : Option OpenStatement → ℕ → List (List ℕ) → List Finding
+refusals_left None n rest = at_orphans (further_lines n rest) ++ in_statements n rest
+refusals_left (Some o) n rest = in_rest o.line o.left (front_of o.text.quoted) (further_lines n rest) ++ in_statements n rest
 
 -- the statement that was begun, where no further line comes
-abbrev pub ended_statement : OpenStatement → Statement
+abbrev pub ended_statement : OpenStatement → whole.Statement
 ended_statement o = record {
   line = o.line;
   label = o.label;
-  tokens = tokens_with o.scanner [];
-  comments = o.comments.items;
-  directives = o.directives.items;
+  text = o.text.bytes.items;
+  comments = map note_of o.comments.items;
+  directives = map note_of o.directives.items;
 }
 
 -- the same, where one was begun
-abbrev pub ended : Option OpenStatement → List Statement
+abbrev pub ended : Option OpenStatement → List whole.Statement
 ended None = []
 ended (Some o) = ended_statement o ∷ []
 
--- the statement that was begun, with the lines from line n on
-abbrev pub begun : Option OpenStatement → Cutting → ℕ → List (List ℕ) → List Statement
-begun None c n rest = []
-begun (Some o) c n rest = record {
+-- the statement that was begun, with the lines from line n on, where these comments and directives stand before line n
+abbrev pub begun : Option OpenStatement → List Note → List Note → ℕ → List (List ℕ) → List whole.Statement
+begun None comments directives n rest = []
+begun (Some o) comments directives n rest = record {
   line = o.line;
   label = o.label;
-  tokens = tokens_with o.scanner (further_columns rest);
-  comments = o.comments.items ++ notes_within comment_at c.comments.items n rest;
-  directives = o.directives.items ++ notes_within directive_at c.directives.items n rest;
+  text = o.text.bytes.items ++ text_behind (front_of o.text.quoted) (joined_columns (further_lines n rest));
+  comments = map note_of o.comments.items ++ notes_within comment_at comments n rest;
+  directives = map note_of o.directives.items ++ notes_within directive_at directives n rest;
 } ∷ []
 
 -- all statements, where the text goes on with these lines from line n on
-abbrev pub statements_with : Cutting → ℕ → List (List ℕ) → List Statement
-statements_with c n rest = c.done.items ++ begun c.current c n rest ++ statements_from c.comments.items c.directives.items n rest
+abbrev pub statements_with : Cutting → ℕ → List (List ℕ) → List whole.Statement
+statements_with c n rest =
+    let comments = map note_of c.comments.items in
+    let directives = map note_of c.directives.items in
+    map statement_of c.done.items ++ begun c.current comments directives n rest ++ statements_from comments directives n rest
 
 -- the statements and the notes behind the last, where the text goes on so and has so many lines
-abbrev pub cut_with : Cutting → ℕ → List (List ℕ) → ℕ → Statements
+abbrev pub cut_with : Cutting → ℕ → List (List ℕ) → ℕ → whole.Statements
 cut_with c n rest count = record {
   statements = statements_with c n rest;
-  comments = notes_behind comment_at c.comments.items n rest;
-  directives = notes_behind directive_at c.directives.items n rest;
+  comments = notes_behind comment_at (map note_of c.comments.items) n rest;
+  directives = notes_behind directive_at (map note_of c.directives.items) n rest;
   lines = count;
 }
+
+-- the line n has been read: whatever follows, what stands and what is cut stay the same
+pub record WithLine (old : Cutting) (n : ℕ) (line : List ℕ) (new : Cutting) : Type 0 where
+  pub refusals : (rest : List (List ℕ)) → earliest (found_of new.found) (refusals_left new.current (n + 1) rest) ≡ earliest (found_of old.found) (refusals_left old.current n (line ∷ rest))
+  pub cut : (rest : List (List ℕ)) (count : ℕ) → cut_with new (n + 1) rest count ≡ cut_with old n (line ∷ rest) count

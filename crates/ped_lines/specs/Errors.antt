@@ -1,10 +1,11 @@
 -- Why a text has no statements.
 use Rattle.std.specs.Prelude.{◌≡◌, ℕ, List, Some}
-use Rattle.ped_lines.specs.Refusals.{first_refusal}
+use Rattle.ped_tree.specs.LineRefusals.{first_line_refusal}
+use Rattle.ped_lines.specs.Views.{finding_of}
 use Rattle.ped_lines.specs.declared.errors.LinesError.{LinesError}
 use Rattle.ped_lines.specs.declared.errors.LinesError.TheVariants.{NoMemory, Refused}
 
 -- the text's first refusal, or want of memory
 abbrev pub IsErrorOf : List ℕ → LinesError → Type 0
 IsErrorOf text NoMemory = Unit {0}
-IsErrorOf text (Refused r) = first_refusal text ≡ Some r
+IsErrorOf text (Refused r) = first_line_refusal text ≡ Some (finding_of r)

@@ -1,84 +1,89 @@
-//! The characters of a statement: where each stands, outside constants or in one, and which may not
-//! stand there.
+//! The characters of a statement: whether each stands in a constant, what is kept of it, and which may
+//! not stand where they stand. An apostrophe opens a constant and closes it; a doubled one in a constant
+//! does both, so that the constant goes on.
 
-ghost use Rattle.std.specs.Prelude.{◌≡◌, ◌||◌, IsTrue};
-ghost use Rattle.ped_lines.specs.Characters as Spec;
+ghost use Rattle.std.specs.Prelude.{◌≡◌, ◌∷◌, [], ◌++◌, ◌||◌, ℕ, List, IsTrue, IfOk, OnOk};
+ghost use Rattle.ped_tree.specs.Characters as Spec;
+ghost use Rattle.ped_tree.specs.Characters.{is_quoted};
+ghost use Rattle.ped_lines.specs.Cutting.{WithColumns};
 
-/// Where a character stands.
-#[derive(Clone, Copy)]
-pub enum Place {
-    /// Outside constants.
-    Outside,
-    /// In a constant.
-    Inside,
-    /// Directly behind an apostrophe that closes a constant, unless an apostrophe stands here.
-    Closing,
+use crate::columns::folded;
+use ped_base::NoMemory;
+use std::alloc::Global;
+
+/// The text of a statement so far.
+#[derive(Drop)]
+pub struct OpenText {
+    /// What is kept of its characters.
+    pub bytes: Vec<u8>,
+    /// Whether the next character stands in a constant.
+    pub quoted: bool,
+    /// Whether some character of the line that was added last may not stand where it stands.
+    pub bad: bool,
 }
 
-/// Where the character behind `c` stands.
-#[tactic(auto, unfolding(crate::specs::Characters::place_behind))]
-pub fn place_behind(place: Place, c: u8) -> Place
-    ensures { result ≡ Spec.place_behind place c }
-{
-    match place {
-        Place::Outside => if c == b'\'' {
-            Place::Inside
-        } else {
-            Place::Outside
-        },
-        Place::Inside => if c == b'\'' {
-            Place::Closing
-        } else {
-            Place::Inside
-        },
-        Place::Closing => if c == b'\'' {
-            Place::Inside
-        } else {
-            Place::Outside
-        },
+impl OpenText {
+    /// The text of no characters, with room for those of a line.
+    #[tactic(auto, unfolding(ped_tree::specs::Characters::is_quoted))]
+    pub fn new(alloc: Global) -> Result<OpenText, NoMemory>
+        ensures text { IfOk result (λ o. o.bytes.items ≡ []) }
+        ensures quoted { IfOk result (λ o. is_quoted [] ≡ o.quoted) }
+    {
+        Ok(OpenText {
+            bytes: Vec::with_capacity(alloc, 66)?,
+            quoted: false,
+            bad: false,
+        })
     }
-}
 
-/// Whether a constant is open and not closed so far.
-pub fn is_inside(place: Place) -> bool
-    ensures { result ≡ Spec.is_inside place }
-{
-    match place {
-        Place::Outside | Place::Closing => false,
-        Place::Inside => true,
-    }
-}
-
-/// Where the character behind these stands.
-pub fn place_after(place: Place, characters: &[u8]) -> Place
-    ensures { result ≡ Spec.place_after place characters.now }
-{
-    let mut place = place;
-    for c in characters {
-        place = place_behind(place, *c);
-    }
-    place
-}
-
-/// Whether some character may not stand where it stands.
-pub fn has_bad(place: Place, characters: &[u8]) -> bool
-    ensures { result ≡ Spec.has_bad place characters.now }
-{
-    let mut place = place;
-    for c in characters {
-        if is_bad(place, *c) {
-            return true;
+    /// The text with the columns of one more line, whatever stands before them.
+    pub fn with_columns(self, columns: &[u8]) -> Result<OpenText, NoMemory>
+        ensures { IfOk result (WithColumns self columns.now) }
+    {
+        let mut bytes = self.bytes;
+        let mut quoted = self.quoted;
+        let mut bad = false;
+        for c in columns {
+            bad = is_bad_so_far(bad, quoted, *c);
+            push_kept(&mut bytes, quoted, *c)?;
+            quoted = quoted_behind(quoted, *c);
         }
-        place = place_behind(place, *c);
+        Ok(OpenText { bytes, quoted, bad })
     }
-    false
 }
 
-#[tactic(auto, unfolding(crate::specs::Characters::is_bad))]
-fn is_bad(place: Place, c: u8) -> bool
-    ensures { result ≡ Spec.is_bad place c }
+/// Whether the character behind `c` stands in a constant.
+#[tactic(auto, using(crate::proofs::Quoting::quoted_more))]
+fn quoted_behind(quoted: bool, c: u8) -> bool
+    ensures { (before : List ℕ) → is_quoted before ≡ quoted → is_quoted (before ++ c ∷ []) ≡ result }
 {
-    if is_inside(place) {
+    if c == b'\'' { !quoted } else { quoted }
+}
+
+/// Adds what is kept of a character.
+#[tactic(auto, unfolding(ped_tree::specs::Characters::kept))]
+fn push_kept(text: &mut Vec<u8>, quoted: bool, c: u8) -> Result<(), NoMemory>
+    ensures { OnOk result ((before : List ℕ) → is_quoted before ≡ quoted → text.new.items ≡ text.old.items ++ Spec.kept before c) }
+{
+    if quoted {
+        text.push(c)?;
+    } else if c != b' ' {
+        text.push(folded(c))?;
+    }
+    Ok(())
+}
+
+fn is_bad_so_far(bad: bool, quoted: bool, c: u8) -> bool
+    ensures { (before : List ℕ) → is_quoted before ≡ quoted → result ≡ (bad || Spec.is_bad before c) }
+{
+    bad || is_bad(quoted, c)
+}
+
+#[tactic(auto, unfolding(ped_tree::specs::Characters::is_bad))]
+fn is_bad(quoted: bool, c: u8) -> bool
+    ensures { (before : List ℕ) → is_quoted before ≡ quoted → result ≡ Spec.is_bad before c }
+{
+    if quoted {
         !is_printable(c)
     } else {
         !is_character(c)

@@ -1,20 +1,23 @@
-//! Cutting a text into statements: each line goes with the statement that it begins or continues, or is
-//! a note that goes with the statement behind it, or with the one that a later line continues.
+//! One pass over the lines of a text: each goes with the statement that it begins or continues, or is a
+//! note that goes with the statement behind it, or with the one that a later line continues. Refusals
+//! are looked for at the same time; the first may stand at a statement whose last line is still to come.
 
-ghost use Rattle.std.specs.Prelude.{◌≡◌, ◌+◌, ◌∷◌, ◌++◌, [], ℕ, List, None, true, false, IfOk, IfErr};
-ghost use Rattle.ped_lines.specs.Columns as Columns;
+ghost use Rattle.std.specs.Prelude.{◌≡◌, ◌-◌, ◌++◌, [], ℕ, List, None, map, true, false, IfOk, IfErr};
+ghost use Rattle.ped_tree.specs.Columns as Columns;
+ghost use Rattle.ped_tree.specs.Grouping.{statements_of};
+ghost use Rattle.ped_tree.specs.LineRefusals.{first_line_refusal};
+ghost use Rattle.ped_tree.specs.Refusal.{earliest};
+ghost use Rattle.ped_lines.specs.Views.{statement_of, statements_view};
 ghost use Rattle.ped_lines.specs.Errors.{IsErrorOf};
-ghost use Rattle.ped_lines.specs.Refusals as Refusals;
-ghost use Rattle.ped_lines.specs.Statements as Spec;
-ghost use Rattle.ped_lines.specs.Cutting.{cut_with, ended, ended_statement, tokens_with};
+ghost use Rattle.ped_lines.specs.Cutting.{found_of, left_open, cut_with, ended, ended_statement, WithColumns, WithLine};
 
+use crate::characters::OpenText;
 use crate::columns::{continues, is_comment, label_of, statement_columns};
 use crate::errors::LinesError;
 use crate::grouping::{Statement, Statements};
 use crate::notes::{NoteLine, push_note};
-use crate::refusals::first_refusal;
+use crate::refusals::{LineRefusal, LineRefusalKind, Role, at_line, standing};
 use crate::text_lines::first_line;
-use crate::tokens::Scanner;
 use ped_base::{Listed, NoMemory};
 use std::alloc::Global;
 
@@ -25,17 +28,21 @@ pub struct OpenStatement {
     pub line: u64,
     /// Its label.
     pub label: Option<u32>,
-    /// What its characters so far are.
-    pub scanner: Scanner,
+    /// How many continuation lines may still come.
+    pub left: u64,
+    /// Its text so far.
+    pub text: OpenText,
     /// The comments before and within it.
     pub comments: Vec<NoteLine>,
     /// The directives before and within it.
     pub directives: Vec<NoteLine>,
 }
 
-/// What has been cut so far.
+/// What has been cut and found so far.
 #[derive(Drop)]
 pub struct Cutting {
+    /// The first refusal.
+    pub found: Option<LineRefusal>,
     /// The statements that are complete.
     pub done: Vec<Statement>,
     /// The statement that was begun last.
@@ -48,19 +55,11 @@ pub struct Cutting {
 
 /// The statements of a text of fixed form, or its first refusal.
 pub fn statements(alloc: Global, text: &[u8]) -> Result<Statements, LinesError>
-    ensures ok { IfOk result (λ s. (Refusals.first_refusal text.now ≡ None) × (s ≡ Spec.statements_of text.now)) }
+    ensures ok { IfOk result (λ s. (first_line_refusal text.now ≡ None) × (statements_view s ≡ statements_of text.now)) }
     ensures err { IfErr result (λ e. IsErrorOf text.now e) }
 {
-    match first_refusal(text) {
-        Some(refusal) => Err(LinesError::Refused(refusal)),
-        None => Ok(cut(alloc, text)?),
-    }
-}
-
-fn cut(alloc: Global, text: &[u8]) -> Result<Statements, NoMemory>
-    ensures { IfOk result (λ s. s ≡ Spec.statements_of text.now) }
-{
     let mut cutting = Cutting {
+        found: None,
         done: Vec::new(alloc),
         current: None,
         comments: Vec::new(alloc),
@@ -73,11 +72,14 @@ fn cut(alloc: Global, text: &[u8]) -> Result<Statements, NoMemory>
         cutting = with_line(cutting, alloc, number, line)?;
         rest = more;
     }
-    finished(cutting, number)
+    match at_end(cutting.found, &cutting.current) {
+        Some(refusal) => Err(LinesError::Refused(refusal)),
+        None => Ok(finished(cutting, alloc, number)?),
+    }
 }
 
 fn with_line(cutting: Cutting, alloc: Global, number: u64, line: &[u8]) -> Result<Cutting, NoMemory>
-    ensures { IfOk result (λ c. (rest : List (List ℕ)) (count : ℕ) → cut_with c (number + 1) rest count ≡ cut_with cutting number (line.now ∷ rest) count) }
+    ensures { IfOk result (WithLine cutting number line.now) }
 {
     if is_comment(line) {
         return with_note(cutting, alloc, number, line);
@@ -90,7 +92,7 @@ fn with_line(cutting: Cutting, alloc: Global, number: u64, line: &[u8]) -> Resul
 
 fn with_note(cutting: Cutting, alloc: Global, number: u64, line: &[u8]) -> Result<Cutting, NoMemory>
     requires { Columns.is_comment line.now ≡ true }
-    ensures { IfOk result (λ c. (rest : List (List ℕ)) (count : ℕ) → cut_with c (number + 1) rest count ≡ cut_with cutting number (line.now ∷ rest) count) }
+    ensures { IfOk result (WithLine cutting number line.now) }
 {
     let mut cutting = cutting;
     push_note(
@@ -111,36 +113,49 @@ fn with_continuation(
 ) -> Result<Cutting, NoMemory>
     requires comment { Columns.is_comment line.now ≡ false }
     requires continues { Columns.continues line.now ≡ true }
-    ensures { IfOk result (λ c. (rest : List (List ℕ)) (count : ℕ) → cut_with c (number + 1) rest count ≡ cut_with cutting number (line.now ∷ rest) count) }
+    ensures { IfOk result (WithLine cutting number line.now) }
 {
     let Cutting {
+        found,
         done,
         current,
         comments,
         directives,
     } = cutting;
-    let current = match current {
-        None => None,
-        Some(begun) => Some(continued(begun, alloc, line, comments, directives)?),
-    };
-    Ok(Cutting {
-        done,
-        current,
-        comments: Vec::new(alloc),
-        directives: Vec::new(alloc),
-    })
+    match current {
+        None => {
+            let orphan = OpenText::new(alloc)?.with_columns(&statement_columns(line))?;
+            Ok(Cutting {
+                found: at_line(found, number, Role::Orphan, line, orphan.bad),
+                done,
+                current: None,
+                comments: Vec::new(alloc),
+                directives: Vec::new(alloc),
+            })
+        }
+        Some(begun) => {
+            let role = Role::Continuation(begun.left);
+            let continued = continued(begun, line, comments, directives)?;
+            Ok(Cutting {
+                found: at_line(found, number, role, line, continued.text.bad),
+                done,
+                current: Some(continued),
+                comments: Vec::new(alloc),
+                directives: Vec::new(alloc),
+            })
+        }
+    }
 }
 
 /// The statement with one more line, and with the notes before that line.
 fn continued(
     begun: OpenStatement,
-    alloc: Global,
     line: &[u8],
     comments: Vec<NoteLine>,
     directives: Vec<NoteLine>,
 ) -> Result<OpenStatement, NoMemory>
-    ensures same { IfOk result (λ o. (o.line ≡ begun.line) × (o.label ≡ begun.label)) }
-    ensures tokens { IfOk result (λ o. (rest : List ℕ) → tokens_with o.scanner rest ≡ tokens_with begun.scanner (Columns.statement_columns line.now ++ rest)) }
+    ensures same { IfOk result (λ o. (o.line ≡ begun.line) × (o.label ≡ begun.label) × (o.left ≡ begun.left - 1)) }
+    ensures text { IfOk result (λ o. WithColumns begun.text (Columns.statement_columns line.now) o.text) }
     ensures comments { IfOk result (λ o. o.comments.items ≡ begun.comments.items ++ comments.items) }
     ensures directives { IfOk result (λ o. o.directives.items ≡ begun.directives.items ++ directives.items) }
 {
@@ -153,9 +168,8 @@ fn continued(
     Ok(OpenStatement {
         line: begun.line,
         label: begun.label,
-        scanner: begun
-            .scanner
-            .with_characters(alloc, &statement_columns(line))?,
+        left: begun.left.saturating_sub(1),
+        text: begun.text.with_columns(&statement_columns(line))?,
         comments: all_comments,
         directives: all_directives,
     })
@@ -169,51 +183,74 @@ fn with_initial(
 ) -> Result<Cutting, NoMemory>
     requires comment { Columns.is_comment line.now ≡ false }
     requires continues { Columns.continues line.now ≡ false }
-    ensures { IfOk result (λ c. (rest : List (List ℕ)) (count : ℕ) → cut_with c (number + 1) rest count ≡ cut_with cutting number (line.now ∷ rest) count) }
+    ensures { IfOk result (WithLine cutting number line.now) }
 {
+    let found = at_end(cutting.found, &cutting.current);
     let begun = OpenStatement {
         line: number,
         label: label_of(line),
-        scanner: Scanner::new(alloc).with_characters(alloc, &statement_columns(line))?,
+        left: 19,
+        text: OpenText::new(alloc)?.with_columns(&statement_columns(line))?,
         comments: cutting.comments,
         directives: cutting.directives,
     };
     Ok(Cutting {
-        done: completed(cutting.done, cutting.current)?,
+        found: at_line(found, number, Role::Initial, line, begun.text.bad),
+        done: completed(cutting.done, alloc, cutting.current)?,
         current: Some(begun),
         comments: Vec::new(alloc),
         directives: Vec::new(alloc),
     })
 }
 
+/// The first refusal, where the statement that was begun last has no further line.
+fn at_end(found: Option<LineRefusal>, current: &Option<OpenStatement>) -> Option<LineRefusal>
+    ensures { found_of result ≡ earliest (found_of found) (left_open current.now) }
+{
+    match current {
+        None => found,
+        Some(open) => standing(
+            found,
+            open.text.quoted,
+            LineRefusalKind::OpenConstant,
+            open.line,
+        ),
+    }
+}
+
 /// The statements with the one that was begun last, which has no further line.
-fn completed(done: Vec<Statement>, begun: Option<OpenStatement>) -> Result<Vec<Statement>, NoMemory>
-    ensures { IfOk result (λ all. all.items ≡ done.items ++ ended begun) }
+fn completed(
+    done: Vec<Statement>,
+    alloc: Global,
+    current: Option<OpenStatement>,
+) -> Result<Vec<Statement>, NoMemory>
+    ensures { IfOk result (λ all. map statement_of all.items ≡ map statement_of done.items ++ ended current) }
 {
     let mut all = done;
-    if let Some(begun) = begun {
-        all.push(statement(begun)?)?;
+    if let Some(begun) = current {
+        all.push(statement(begun, alloc)?)?;
     }
     Ok(all)
 }
 
-fn statement(begun: OpenStatement) -> Result<Statement, NoMemory>
-    ensures { IfOk result (λ s. s ≡ ended_statement begun) }
+/// The statement, its text without the room to grow.
+fn statement(begun: OpenStatement, alloc: Global) -> Result<Statement, NoMemory>
+    ensures { IfOk result (λ s. statement_of s ≡ ended_statement begun) }
 {
     Ok(Statement {
         line: begun.line,
         label: begun.label,
-        tokens: begun.scanner.into_tokens()?,
+        text: Listed::from_vec(Vec::from_slice(alloc, &begun.text.bytes)?),
         comments: Listed::from_vec(begun.comments),
         directives: Listed::from_vec(begun.directives),
     })
 }
 
-fn finished(cutting: Cutting, lines: u64) -> Result<Statements, NoMemory>
-    ensures { IfOk result (λ s. (n : ℕ) → s ≡ cut_with cutting n [] lines) }
+fn finished(cutting: Cutting, alloc: Global, lines: u64) -> Result<Statements, NoMemory>
+    ensures { IfOk result (λ s. (n : ℕ) → statements_view s ≡ cut_with cutting n [] lines) }
 {
     Ok(Statements {
-        statements: Listed::from_vec(completed(cutting.done, cutting.current)?),
+        statements: Listed::from_vec(completed(cutting.done, alloc, cutting.current)?),
         comments: Listed::from_vec(cutting.comments),
         directives: Listed::from_vec(cutting.directives),
         lines,

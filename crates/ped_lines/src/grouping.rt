@@ -1,8 +1,7 @@
 //! Statements as they are grouped from lines.
 
 use crate::notes::NoteLine;
-use crate::tokens::Token;
-use ped_base::Listed;
+use ped_base::{Bytes, Listed};
 
 /// A statement.
 #[derive(Drop)]
@@ -11,8 +10,9 @@ pub struct Statement {
     pub line: u64,
     /// Its label, 1 to 99999, where it has one.
     pub label: Option<u32>,
-    /// Its tokens, which no blank outside constants separates.
-    pub tokens: Listed<Token>,
+    /// Its columns 7 to 72, joined over its lines: outside constants without blanks and in capitals, and
+    /// constants as they are written, with their apostrophes.
+    pub text: Bytes,
     /// The comments before it and between its lines.
     pub comments: Listed<NoteLine>,
     /// The directives before it and between its lines.

@@ -1,5 +1,5 @@
 //! Lines of fixed form (ANSI X3.9-1978, section 3.2) grouped into statements: each with its label, its
-//! tokens without blanks, and the comments and directives that go with it; or the first refusal.
+//! text without blanks, and the comments and directives that go with it; or the first refusal.
 #![tactic(auto)]
 
 mod characters;
@@ -7,19 +7,15 @@ mod columns;
 mod cutting;
 mod errors;
 mod grouping;
-mod laws;
 mod notes;
 mod refusals;
 mod text_lines;
-mod tokens;
 
 pub use cutting::statements;
 pub use errors::LinesError;
 pub use grouping::{Statement, Statements};
-pub use laws::first_refusal_is_least;
 pub use notes::NoteLine;
 pub use refusals::{LineRefusal, LineRefusalKind};
-pub use tokens::Token;
 
 #[cfg(test)]
 mod tests;

@@ -1,8 +1,9 @@
 //! Comments and directives: what a line that is no part of a statement says.
 
 ghost use Rattle.std.specs.Prelude.{◌≡◌, ◌++◌, ◌==◌, ◌||◌, map, filter, not, IfOk, OnOk};
-ghost use Rattle.ped_lines.specs.Columns as Columns;
-ghost use Rattle.ped_lines.specs.Statements as Spec;
+ghost use Rattle.ped_tree.specs.Columns as Columns;
+ghost use Rattle.ped_tree.specs.Grouping as Spec;
+ghost use Rattle.ped_lines.specs.Views.{note_of};
 
 use crate::columns::{behind, folded, front, is_directive};
 use ped_base::{Bytes, Listed, NoMemory};
@@ -19,7 +20,7 @@ pub struct NoteLine {
 }
 
 /// Adds the note on a line to the comments or to the directives.
-#[tactic(auto, unfolding(crate::specs::Statements::comment_at, crate::specs::Statements::directive_at))]
+#[tactic(auto, unfolding(ped_tree::specs::Grouping::comment_at, ped_tree::specs::Grouping::directive_at))]
 pub fn push_note(
     alloc: Global,
     comments: &mut Vec<NoteLine>,
@@ -27,8 +28,8 @@ pub fn push_note(
     number: u64,
     line: &[u8],
 ) -> Result<(), NoMemory>
-    ensures comments { OnOk result (comments.new.items ≡ comments.old.items ++ Spec.comment_at number line.now) }
-    ensures directives { OnOk result (directives.new.items ≡ directives.old.items ++ Spec.directive_at number line.now) }
+    ensures comments { OnOk result (map note_of comments.new.items ≡ map note_of comments.old.items ++ Spec.comment_at number line.now) }
+    ensures directives { OnOk result (map note_of directives.new.items ≡ map note_of directives.old.items ++ Spec.directive_at number line.now) }
 {
     if is_directive(line) {
         let text = directive_text(alloc, line)?;
@@ -40,7 +41,7 @@ pub fn push_note(
     Ok(())
 }
 
-#[tactic(auto, unfolding(crate::specs::Statements::directive_text))]
+#[tactic(auto, unfolding(ped_tree::specs::Grouping::directive_text))]
 fn directive_text(alloc: Global, line: &[u8]) -> Result<Bytes, NoMemory>
     ensures { IfOk result (λ text. text ≡ Spec.directive_text line.now) }
 {
@@ -60,7 +61,7 @@ fn folded_text(alloc: Global, text: &[u8]) -> Result<Vec<u8>, NoMemory>
     Ok(kept)
 }
 
-#[tactic(auto, unfolding(crate::specs::Statements::comment_text))]
+#[tactic(auto, unfolding(ped_tree::specs::Grouping::comment_text))]
 fn comment_text(line: &[u8]) -> &[u8]
     ensures { result.now ≡ Spec.comment_text line.now }
 {

@@ -1,17 +1,15 @@
-//! Refusals of lines: which stand in a text, and which of them is the first.
+//! Refusals of lines: which stand at a line, and which of those that were found is the first.
 
-ghost use Rattle.std.specs.Prelude.{◌≡◌, ◌+◌, ◌-◌, ◌∷◌, ℕ, List, true, false};
-ghost use Rattle.ped_lines.specs.Refusals as Spec;
-ghost use Rattle.ped_lines.specs.Refusals.{earliest, stands};
-ghost use Rattle.ped_lines.specs.Characters as Characters;
-ghost use Rattle.ped_lines.specs.Columns as Columns;
-ghost use Rattle.ped_lines.specs.Cutting.{left_open, refusals_left};
+ghost use Rattle.std.specs.Prelude.{◌≡◌, ◌++◌, ℕ, List};
+ghost use Rattle.ped_tree.specs.Characters as Characters;
+ghost use Rattle.ped_tree.specs.Columns as Columns;
+ghost use Rattle.ped_tree.specs.LineRefusals as Spec;
+ghost use Rattle.ped_tree.specs.Refusal as Refusal;
+ghost use Rattle.ped_tree.specs.Refusal.{earliest, stands, number_of};
+ghost use Rattle.ped_lines.specs.Views.{kind_of, finding_of};
+ghost use Rattle.ped_lines.specs.Cutting.{found_of, role_of};
 
-use crate::characters::{Place, has_bad, is_inside, place_after};
-use crate::columns::{
-    continues, has_bad_label, has_label_field, has_tab, is_comment, statement_columns,
-};
-use crate::text_lines::first_line;
+use crate::columns::{has_bad_label, has_label_field, has_tab};
 
 /// A rule of fixed form that a line breaks.
 #[derive(Clone, Copy, Debug, PartialEq, Eq)]
@@ -33,7 +31,7 @@ pub enum LineRefusalKind {
 impl LineRefusalKind {
     /// The number of this kind, 1 to 6: of the refusals at one line the least counts.
     pub fn number(self) -> u8
-        ensures { result ≡ Spec.kind_number self }
+        ensures { result ≡ number_of (kind_of self) }
     {
         match self {
             LineRefusalKind::Tab => 1,
@@ -55,189 +53,88 @@ pub struct LineRefusal {
     pub line: u64,
 }
 
-/// The statement that was begun last.
+/// How a line that is no comment stands to statements.
 #[derive(Clone, Copy)]
-pub struct OpenLines {
-    /// The number of its first line.
-    pub first: u64,
-    /// How many continuation lines may still come.
-    pub left: u64,
-    /// Where its next character stands.
-    pub place: Place,
+pub enum Role {
+    /// It begins a statement.
+    Initial,
+    /// It continues a statement that so many lines may still continue.
+    Continuation(u64),
+    /// It continues none, since none has begun.
+    Orphan,
 }
 
-/// What has been found so far.
-#[derive(Clone, Copy)]
-struct Findings {
-    first: Option<LineRefusal>,
-    statement: Option<OpenLines>,
-}
-
-/// The first refusal of a text.
-pub fn first_refusal(text: &[u8]) -> Option<LineRefusal>
-    ensures { result ≡ Spec.first_refusal text.now }
-{
-    let mut findings = Findings {
-        first: None,
-        statement: None,
-    };
-    let mut rest = text;
-    let mut number = 0;
-    while let Some((line, more)) = first_line(rest) {
-        number += 1;
-        findings = with_line(findings, number, line);
-        rest = more;
-    }
-    at_end(findings.first, findings.statement)
-}
-
-fn with_line(findings: Findings, number: u64, line: &[u8]) -> Findings
-    ensures { (rest : List (List ℕ)) → earliest result.first (refusals_left result.statement (number + 1) rest)
-        ≡ earliest findings.first (refusals_left findings.statement number (line.now ∷ rest)) }
-{
-    if is_comment(line) {
-        return findings;
-    }
-    if continues(line) {
-        return with_continuation(findings, number, line);
-    }
-    with_initial(findings, number, line)
-}
-
-#[tactic(auto, using(crate::proofs::Earliest::earliest_append))]
-fn with_continuation(findings: Findings, number: u64, line: &[u8]) -> Findings
-    requires comment { Columns.is_comment line.now ≡ false }
-    requires continues { Columns.continues line.now ≡ true }
-    ensures { (rest : List (List ℕ)) → earliest result.first (refusals_left result.statement (number + 1) rest)
-        ≡ earliest findings.first (refusals_left findings.statement number (line.now ∷ rest)) }
-{
-    match findings.statement {
-        None => Findings {
-            first: at_orphan(findings.first, number, line),
-            statement: None,
-        },
-        Some(begun) => Findings {
-            first: at_continuation(findings.first, number, begun, line),
-            statement: Some(continued(begun, line)),
-        },
-    }
-}
-
-fn continued(begun: OpenLines, line: &[u8]) -> OpenLines
-    ensures { result ≡ record begun {
-      left = begun.left - 1;
-      place = Characters.place_after begun.place (Columns.statement_columns line.now);
-    } }
-{
-    OpenLines {
-        first: begun.first,
-        left: begun.left.saturating_sub(1),
-        place: place_after(begun.place, &statement_columns(line)),
-    }
-}
-
-#[tactic(auto, using(crate::proofs::Earliest::earliest_append))]
-fn with_initial(findings: Findings, number: u64, line: &[u8]) -> Findings
-    requires comment { Columns.is_comment line.now ≡ false }
-    requires continues { Columns.continues line.now ≡ false }
-    ensures { (rest : List (List ℕ)) → earliest result.first (refusals_left result.statement (number + 1) rest)
-        ≡ earliest findings.first (refusals_left findings.statement number (line.now ∷ rest)) }
-{
-    let before = at_end(findings.first, findings.statement);
-    Findings {
-        first: at_initial(before, number, line),
-        statement: Some(OpenLines {
-            first: number,
-            left: 19,
-            place: place_after(Place::Outside, &statement_columns(line)),
-        }),
-    }
-}
-
-/// The first refusal, where the statement that was begun last has no further line.
-fn at_end(found: Option<LineRefusal>, statement: Option<OpenLines>) -> Option<LineRefusal>
-    ensures { result ≡ earliest found (left_open statement) }
-{
-    match statement {
-        None => found,
-        Some(begun) => standing(
-            found,
-            is_inside(begun.place),
-            LineRefusalKind::OpenConstant,
-            begun.first,
-        ),
-    }
-}
-
-#[tactic(auto, using(crate::proofs::Earliest::earliest_append))]
-fn at_initial(found: Option<LineRefusal>, number: u64, line: &[u8]) -> Option<LineRefusal>
-    ensures { result ≡ earliest found (Spec.at_initial number line.now) }
-{
-    let columns = statement_columns(line);
-    let found = standing(found, has_tab(line), LineRefusalKind::Tab, number);
-    let found = standing(
-        found,
-        has_bad_label(line),
-        LineRefusalKind::BadLabel,
-        number,
-    );
-    let bad = has_bad(Place::Outside, &columns);
-    standing(found, bad, LineRefusalKind::BadCharacter, number)
-}
-
-#[tactic(auto, using(crate::proofs::Earliest::earliest_append))]
-fn at_continuation(
+/// The first of what was found and what stands at a line, of whose characters it is known whether some
+/// may not stand there.
+#[tactic(auto, unfolding(ped_tree::specs::LineRefusals::at_line), using(ped_tree::proofs::First::earliest_append))]
+pub fn at_line(
     found: Option<LineRefusal>,
     number: u64,
-    begun: OpenLines,
+    role: Role,
     line: &[u8],
+    bad: bool,
 ) -> Option<LineRefusal>
-    ensures { result ≡ earliest found (Spec.at_continuation number begun.left begun.place line.now) }
+    ensures { (before : List ℕ) → Characters.has_bad before (Columns.statement_columns line.now) ≡ bad →
+        found_of result ≡ earliest (found_of found) (Spec.at_line number (role_of role) before line.now) }
 {
-    let columns = statement_columns(line);
     let found = standing(found, has_tab(line), LineRefusalKind::Tab, number);
     let found = standing(
         found,
-        has_label_field(line),
+        label_is_bad(role, line),
         LineRefusalKind::BadLabel,
         number,
     );
     let found = standing(
         found,
-        begun.left == 0,
+        is_too_many(role),
         LineRefusalKind::TooManyContinuations,
         number,
     );
-    let bad = has_bad(begun.place, &columns);
+    let found = standing(
+        found,
+        is_orphan(role),
+        LineRefusalKind::ContinuationFirst,
+        number,
+    );
     standing(found, bad, LineRefusalKind::BadCharacter, number)
 }
 
-#[tactic(auto, using(crate::proofs::Earliest::earliest_append))]
-fn at_orphan(found: Option<LineRefusal>, number: u64, line: &[u8]) -> Option<LineRefusal>
-    ensures { result ≡ earliest found (Spec.at_orphan number line.now) }
+fn label_is_bad(role: Role, line: &[u8]) -> bool
+    ensures { result ≡ Spec.label_is_bad (role_of role) line.now }
 {
-    let columns = statement_columns(line);
-    let found = standing(found, has_tab(line), LineRefusalKind::Tab, number);
-    let found = standing(
-        found,
-        has_label_field(line),
-        LineRefusalKind::BadLabel,
-        number,
-    );
-    let found = standing(found, true, LineRefusalKind::ContinuationFirst, number);
-    let bad = has_bad(Place::Outside, &columns);
-    standing(found, bad, LineRefusalKind::BadCharacter, number)
+    match role {
+        Role::Initial => has_bad_label(line),
+        Role::Continuation(_) | Role::Orphan => has_label_field(line),
+    }
+}
+
+fn is_too_many(role: Role) -> bool
+    ensures { result ≡ Spec.is_too_many (role_of role) }
+{
+    match role {
+        Role::Continuation(left) => left == 0,
+        Role::Initial | Role::Orphan => false,
+    }
+}
+
+fn is_orphan(role: Role) -> bool
+    ensures { result ≡ Spec.is_orphan (role_of role) }
+{
+    match role {
+        Role::Orphan => true,
+        Role::Initial | Role::Continuation(_) => false,
+    }
 }
 
 /// The earlier one of what was found and the refusal of this kind and line, where it stands.
-#[tactic(auto, unfolding(crate::specs::Refusals::stands))]
-fn standing(
+#[tactic(auto, unfolding(ped_tree::specs::Refusal::stands))]
+pub fn standing(
     found: Option<LineRefusal>,
     test: bool,
     kind: LineRefusalKind,
     line: u64,
 ) -> Option<LineRefusal>
-    ensures { result ≡ earliest found (stands test kind line) }
+    ensures { found_of result ≡ earliest (found_of found) (stands test (kind_of kind) line) }
 {
     if test {
         earlier(found, LineRefusal { kind, line })
@@ -246,9 +143,9 @@ fn standing(
     }
 }
 
-#[tactic(auto, unfolding(crate::specs::Refusals::earlier))]
+#[tactic(auto, unfolding(ped_tree::specs::Refusal::earlier))]
 fn earlier(found: Option<LineRefusal>, refusal: LineRefusal) -> Option<LineRefusal>
-    ensures { result ≡ Spec.earlier found refusal }
+    ensures { found_of result ≡ Refusal.earlier (found_of found) (finding_of refusal) }
 {
     match found {
         None => Some(refusal),
@@ -261,9 +158,9 @@ fn earlier(found: Option<LineRefusal>, refusal: LineRefusal) -> Option<LineRefus
 }
 
 /// Whether a refusal comes before another: by line, and then by number.
-#[tactic(auto, unfolding(crate::specs::Refusals::is_before))]
+#[tactic(auto, unfolding(ped_tree::specs::Refusal::is_before))]
 fn is_before(left: LineRefusal, right: LineRefusal) -> bool
-    ensures { result ≡ Spec.is_before left right }
+    ensures { result ≡ Refusal.is_before (finding_of left) (finding_of right) }
 {
     left.line < right.line || (left.line == right.line && left.kind.number() < right.kind.number())
 }

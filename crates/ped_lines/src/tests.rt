@@ -3,28 +3,10 @@
 use crate::LineRefusalKind::{
     BadCharacter, BadLabel, ContinuationFirst, OpenConstant, Tab, TooManyContinuations,
 };
-use crate::{
-    LineRefusal, LineRefusalKind, LinesError, NoteLine, Statement, Statements, Token, statements,
-};
+use crate::{LineRefusal, LineRefusalKind, LinesError, NoteLine, statements};
 use ped_base::{Bytes, NoMemory};
 use std::alloc::Global;
 use std::test::Fail;
-
-/// The statement's tokens as one text, a constant between two apostrophes.
-fn shown(alloc: Global, statement: &Statement) -> Result<Bytes, NoMemory> {
-    let mut text = Bytes::new(alloc);
-    for token in statement.tokens.as_slice() {
-        match token {
-            Token::Char(c) => text.push(*c)?,
-            Token::Constant(constant) => {
-                text.push(b'\'')?;
-                text.extend_from_slice(constant.as_slice())?;
-                text.push(b'\'')?;
-            }
-        }
-    }
-    Ok(text)
-}
 
 /// The first refusal of a text.
 fn refused(alloc: Global, text: &[u8]) -> Option<LineRefusal> {
@@ -41,23 +23,37 @@ fn at(kind: LineRefusalKind, line: u64) -> Option<LineRefusal> {
 /// The text of the only statement.
 fn only(alloc: Global, text: &[u8]) -> Result<Bytes, LinesError> {
     let cut = statements(alloc, text)?;
+    let mut shown = Bytes::new(alloc);
     match cut.statements.as_slice() {
-        [statement] => Ok(shown(alloc, statement)?),
-        _ => Ok(Bytes::new(alloc)),
+        [statement] => shown.extend_from_slice(statement.text.as_slice())?,
+        _ => {}
     }
+    Ok(shown)
 }
 
-/// A statement with so many continuation lines.
-fn continued(alloc: Global, count: u64) -> Result<Bytes, NoMemory> {
+/// Three texts joined, the middle one so many times.
+fn repeated(
+    alloc: Global,
+    front: &[u8],
+    middle: &[u8],
+    count: u64,
+    end: &[u8],
+) -> Result<Bytes, NoMemory> {
     let mut text = Bytes::new(alloc);
-    text.extend_from_slice(b"      K = 1\n")?;
+    text.extend_from_slice(front)?;
     for _i in 0..count {
-        text.extend_from_slice(b"C\n     &+1\n")?;
+        text.extend_from_slice(middle)?;
     }
+    text.extend_from_slice(end)?;
     Ok(text)
 }
 
-/// A line of blanks with a byte in one column.
+/// A statement with so many continuation lines, a comment before each.
+fn continued(alloc: Global, count: u64) -> Result<Bytes, NoMemory> {
+    repeated(alloc, b"      K = 1\n", b"C\n     &+1\n", count, b"")
+}
+
+/// A line of blanks with K in column 8 and a byte in one column.
 fn line_with(alloc: Global, column: usize, c: u8) -> Result<Bytes, NoMemory> {
     let mut text = Bytes::new(alloc);
     for i in 1..80usize {
@@ -85,8 +81,12 @@ fn labels_are_digits_with_blanks_and_zeros_among_them(rt: HostRuntime) -> Result
     let cut = statements(rt.alloc(), b" 0 12 CONTINUE\r\n12345 STOP\n     0END")?;
     assert_eq!(rt; cut.lines, 3);
     let labels: [Option<u32>; 3] = [Some(12), Some(12345), None];
+    let texts: [&[u8]; 3] = [b"CONTINUE", b"STOP", b"END"];
     for (statement, label) in cut.statements.as_slice().iter().zip(labels) {
         assert!(rt; statement.label == label);
+    }
+    for (statement, text) in cut.statements.as_slice().iter().zip(texts) {
+        assert_eq!(rt; statement.text.as_slice(), text);
     }
     assert_eq!(rt; cut.statements.len(), 3);
     Ok(())
@@ -95,47 +95,30 @@ fn labels_are_digits_with_blanks_and_zeros_among_them(rt: HostRuntime) -> Result
 #[test]
 fn blanks_and_small_letters_mean_nothing_outside_constants(rt: HostRuntime) -> Result<(), Fail> {
     let alloc = rt.alloc();
-    let text = only(alloc, b"      p r int *, 'it''s a', Kk")?;
-    assert_eq!(rt; text.as_slice(), b"PRINT*,'it's a',KK".as_slice());
+    let text = only(alloc, b"      p r int *, 'it''s a', Kk,  ''")?;
+    assert_eq!(rt; text.as_slice(), b"PRINT*,'it''s a',KK,''".as_slice());
     Ok(())
 }
 
 #[test]
-fn a_constant_goes_on_over_lines(rt: HostRuntime) -> Result<(), Fail> {
+fn an_apostrophe_may_be_doubled_over_two_lines(rt: HostRuntime) -> Result<(), Fail> {
     let alloc = rt.alloc();
-    let mut text = Bytes::new(alloc);
-    text.extend_from_slice(b"      PRINT *, '")?;
-    for _i in 0..55u8 {
-        text.push(b'x')?;
-    }
-    text.extend_from_slice(b"'beyond\n     1' z'\n")?;
-    let cut = statements(alloc, text.as_slice())?;
-    let mut constant = Bytes::new(alloc);
-    for _i in 0..55u8 {
-        constant.push(b'x')?;
-    }
-    constant.extend_from_slice(b"' z")?;
-    match cut.statements.as_slice() {
-        [statement] => match statement.tokens.as_slice().last() {
-            Some(Token::Constant(last)) => assert_eq!(rt; last.as_slice(), constant.as_slice()),
-            _ => assert!(rt; false),
-        },
-        _ => assert!(rt; false),
-    }
+    let end = b"'beyond\n     1' Z'\n";
+    let text = repeated(alloc, b"      PRINT *, '", b"x", 55, end)?;
+    let expected = repeated(alloc, b"PRINT*,'", b"x", 55, b"'' Z'")?;
+    assert_eq!(rt;
+        only(alloc, text.as_slice())?.as_slice(),
+        expected.as_slice()
+    );
     Ok(())
 }
 
 #[test]
 fn a_short_line_is_filled_with_blanks(rt: HostRuntime) -> Result<(), Fail> {
     let alloc = rt.alloc();
-    let cut = statements(alloc, b"      PRINT *, 'A\n     &B'")?;
-    match cut.statements.as_slice() {
-        [statement] => match statement.tokens.as_slice().last() {
-            Some(Token::Constant(last)) => assert_eq!(rt; last.len(), 57),
-            _ => assert!(rt; false),
-        },
-        _ => assert!(rt; false),
-    }
+    let text = only(alloc, b"      PRINT *, 'A\n     &B'")?;
+    let expected = repeated(alloc, b"PRINT*,'A", b" ", 55, b"B'")?;
+    assert_eq!(rt; text.as_slice(), expected.as_slice());
     Ok(())
 }
 
@@ -148,7 +131,7 @@ fn notes_go_with_the_statement_behind_or_round_them(rt: HostRuntime) -> Result<(
     assert_eq!(rt; cut.lines, 10);
     match cut.statements.as_slice() {
         [first, second] => {
-            assert_eq!(rt; shown(alloc, first)?.as_slice(), b"AB".as_slice());
+            assert_eq!(rt; first.text.as_slice(), b"AB".as_slice());
             assert_eq!(rt; first.line, 3);
             assert_eq!(rt; second.line, 8);
             assert!(rt; are_notes(first.comments.as_slice(), &[(1, b" one"), (4, b" two")]));
@@ -176,9 +159,12 @@ fn are_notes(notes: &[NoteLine], expected: &[(u64, &[u8])]) -> bool {
 fn at_most_nineteen_lines_continue_a_statement(rt: HostRuntime) -> Result<(), Fail> {
     let alloc = rt.alloc();
     let most = only(alloc, continued(alloc, 19)?.as_slice())?;
-    assert_eq!(rt; most.len(), 41);
-    let refusal = refused(alloc, continued(alloc, 21)?.as_slice());
-    assert!(rt; refusal == at(TooManyContinuations, 41));
+    let expected = repeated(alloc, b"K=1", b"+1", 19, b"")?;
+    assert_eq!(rt; most.as_slice(), expected.as_slice());
+    for count in 20..22u64 {
+        let refusal = refused(alloc, continued(alloc, count)?.as_slice());
+        assert!(rt; refusal == at(TooManyContinuations, 41));
+    }
     Ok(())
 }
 
@@ -189,10 +175,21 @@ fn tabs_are_refused_up_to_column_72(rt: HostRuntime) -> Result<(), Fail> {
         let refusal = refused(alloc, line_with(alloc, column, b'\t')?.as_slice());
         assert!(rt; refusal == at(Tab, 1));
     }
-    let text = only(alloc, line_with(alloc, 73, b'\t')?.as_slice())?;
-    assert_eq!(rt; text.as_slice(), b"K".as_slice());
+    assert!(rt; refused(alloc, b"\t\n") == at(Tab, 1));
     let comment = statements(alloc, b"C\t\n")?;
     assert!(rt; comment.statements.is_empty());
+    Ok(())
+}
+
+#[test]
+fn nothing_counts_from_column_73_on(rt: HostRuntime) -> Result<(), Fail> {
+    let alloc = rt.alloc();
+    for c in [b'\t', b'\'', b';', b'X'] {
+        let text = only(alloc, line_with(alloc, 73, c)?.as_slice())?;
+        assert_eq!(rt; text.as_slice(), b"K".as_slice());
+    }
+    let text = only(alloc, line_with(alloc, 72, b'X')?.as_slice())?;
+    assert_eq!(rt; text.as_slice(), b"KX".as_slice());
     Ok(())
 }
 
@@ -211,6 +208,9 @@ fn other_bytes_are_refused_by_their_columns(rt: HostRuntime) -> Result<(), Fail>
             assert!(rt; refusal == at(BadCharacter, 1));
         }
     }
+    assert!(rt; refused(alloc, b"      STOP\r") == at(BadCharacter, 1));
+    assert!(rt; refused(alloc, b"      STOP\r\r\n") == at(BadCharacter, 1));
+    assert!(rt; refused(alloc, b"     \rSTOP\n") == at(ContinuationFirst, 1));
     Ok(())
 }
 
@@ -230,26 +230,35 @@ fn the_first_refusal_is_that_of_the_least_line(rt: HostRuntime) -> Result<(), Fa
     let alloc = rt.alloc();
     let kinds = [Tab, BadLabel, BadCharacter, OpenConstant];
     for first in kinds {
+        assert!(rt; refused(alloc, line_of(first)) == at(first, 1));
         for second in kinds {
-            let mut text = Bytes::new(alloc);
-            text.extend_from_slice(b"C\n")?;
-            text.extend_from_slice(line_of(first))?;
-            text.extend_from_slice(line_of(second))?;
+            let text = repeated(alloc, b"C\n", line_of(first), 1, line_of(second))?;
             assert!(rt; refused(alloc, text.as_slice()) == at(first, 2));
         }
-        let mut text = Bytes::new(alloc);
-        text.extend_from_slice(line_of(ContinuationFirst))?;
-        text.extend_from_slice(line_of(first))?;
+        let text = repeated(alloc, line_of(ContinuationFirst), line_of(first), 1, b"")?;
         assert!(rt; refused(alloc, text.as_slice()) == at(ContinuationFirst, 1));
+        let mut text = continued(alloc, 20)?;
+        text.extend_from_slice(line_of(first))?;
+        assert!(rt; refused(alloc, text.as_slice()) == at(TooManyContinuations, 41));
         let mut text = Bytes::new(alloc);
         text.extend_from_slice(line_of(first))?;
         text.extend_from_slice(continued(alloc, 20)?.as_slice())?;
         assert!(rt; refused(alloc, text.as_slice()) == at(first, 1));
-        let mut text = continued(alloc, 20)?;
-        text.extend_from_slice(line_of(first))?;
-        assert!(rt; refused(alloc, text.as_slice()) == at(TooManyContinuations, 41));
     }
+    let mut text = Bytes::new(alloc);
+    text.extend_from_slice(line_of(ContinuationFirst))?;
+    text.extend_from_slice(continued(alloc, 20)?.as_slice())?;
+    assert!(rt; refused(alloc, text.as_slice()) == at(ContinuationFirst, 1));
     Ok(())
+}
+
+#[test]
+fn a_line_that_continues_nothing_may_have_an_earlier_refusal_before_it(rt: HostRuntime) {
+    let alloc = rt.alloc();
+    assert!(rt; refused(alloc, b"\t    &\n     &\n") == at(Tab, 1));
+    assert!(rt; refused(alloc, b"1    &\n     &\n") == at(BadLabel, 1));
+    assert!(rt; refused(alloc, b"     &\n\t    &\n") == at(ContinuationFirst, 1));
+    assert!(rt; refused(alloc, b"     &;\n     &\n") == at(ContinuationFirst, 1));
 }
 
 #[test]

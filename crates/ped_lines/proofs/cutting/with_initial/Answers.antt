@@ -1,29 +1,31 @@
-use Rattle.std.proofs.Common.{ℕ, List, ◌++◌, Some, refl, ap, ◌∙◌}
-use Rattle.ped_lines.specs.Characters.{tokens_of}
+use Rattle.std.proofs.Common.{[], Some, refl, ap, ◌∙◌}
+use Rattle.ped_tree.specs.Refusal.{Finding, earliest}
+use Rattle.ped_tree.specs.LineRefusals.{Initial, at_line}
 use Rattle.ped_lines.specs.declared.cutting.OpenStatement.{OpenStatement}
-use Rattle.ped_lines.specs.declared.cutting.Cutting.{Cutting}
-use Rattle.ped_lines.proofs.Beginning.{initial_is}
+use Rattle.ped_lines.proofs.OneLine.{first_text, initial_line}
 use Rattle.ped_lines.proofs.cutting.with_initial.Goals as goal
 
 pub returns : goal.returns
-returns c = λ rest count.
+returns c =
+    let line = c.args.line.now in
+    let text = first_text c.in_ok-new.field-0 c.in_ok-with_columns.field-0 c.statement_columns.result line c.in_ok-new.ensures.text c.in_ok-new.ensures.quoted c.statement_columns.ensures c.in_ok-with_columns.ensures in
     let begun : OpenStatement = record {
       line = c.args.number;
       label = c.label_of.result;
-      scanner = c.in_ok-with_characters.field-0;
+      left = 19;
+      text = c.in_ok-with_columns.field-0;
       comments = c.args.cutting.comments;
       directives = c.args.cutting.directives;
     } in
-    let after : Cutting = record {
-      done = c.in_ok-completed.field-0;
-      current = Some begun;
-      comments = c.new-2.result;
-      directives = c.new-3.result;
-    } in
-    initial_is c.args.cutting after begun c.args.number c.args.line.now rest count c.requires.comment c.requires.continues c.in_ok-completed.ensures refl (record {
+    initial_line c.args.cutting _ begun c.args.number line c.requires.comment c.requires.continues (record {
+      is = refl;
+      done = c.in_ok-completed.ensures;
+      found = c.at_line.ensures [] text.bad ∙ ap (λ f. earliest f (at_line c.args.number Initial [] line)) c.at_end-found.ensures;
       line_is = refl;
       label = c.label_of.ensures;
-      tokens = λ r. c.in_ok-with_characters.ensures r ∙ c.new.ensures (c.statement_columns.result ++ r) ∙ ap (λ (x : List ℕ). tokens_of (x ++ r)) c.statement_columns.ensures;
+      left = refl;
+      text = text.text;
+      quoted = text.quoted;
       comments = refl;
       directives = refl;
       no_comments = c.new-2.ensures.items;

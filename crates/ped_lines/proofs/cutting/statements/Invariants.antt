@@ -1,11 +1,14 @@
 use Rattle.std.proofs.Common.{◌≡◌, ◌+◌, ◌≤◌, length}
 use Rattle.std.specs.Str.Lines.{lines}
-use Rattle.ped_lines.specs.Statements.{statements_of}
-use Rattle.ped_lines.specs.Cutting.{cut_with}
-use Rattle.ped_lines.proofs.cutting.cut.Given as goal
+use Rattle.ped_tree.specs.Refusal.{earliest}
+use Rattle.ped_tree.specs.Grouping.{statements_of}
+use Rattle.ped_tree.specs.LineRefusals.{first_line_refusal}
+use Rattle.ped_lines.specs.Cutting.{found_of, refusals_left, cut_with}
+use Rattle.ped_lines.proofs.cutting.statements.Given as goal
 
 abbrev pub invariant-loop-line : goal.invariant-loop-line
 invariant-loop-line l = record {
+  first : earliest (found_of l.cutting.found) (refusals_left l.cutting.current (l.number + 1) (lines l.rest)) ≡ first_line_refusal l.text;
   cut : cut_with l.cutting (l.number + 1) (lines l.rest) (l.number + length (lines l.rest)) ≡ statements_of l.text;
   small : l.number + length l.rest ≤ length l.text;
 }

@@ -1,6 +1,6 @@
 -- The places where an expression may stand, as the definitions of printing name them.
-use Rattle.std.specs.Prelude.{ℕ, List, Bool, false}
-use Rattle.ped_tree.specs.Tree.{ExprTree, ExprTrees, Int, Var, Element, Neg, Add, Sub, Mul, Div, Pow, Call}
+use Rattle.std.specs.Prelude.{Bool, false}
+use Rattle.ped_tree.specs.Tree.{ExprTree, Int, Var, Element, Neg, Add, Sub, Mul, Div, Pow, Call}
 use Rattle.ped_tree.specs.Printing as plain
 use Rattle.ped_tree.specs.Printing.{encloses_sum, encloses_product, encloses_power}
 use Rattle.ped_print.specs.declared.expressions.Place.{Place}

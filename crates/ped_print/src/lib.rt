@@ -5,6 +5,10 @@
 mod conditions;
 mod declarations;
 mod expressions;
+mod lines;
+mod nesting;
+mod pane;
+mod programs;
+mod statements;
 
-pub use conditions::push_cond;
-pub use declarations::{is_remark, push_decl};
+pub use programs::{print, source_pane};

@@ -1,4 +1,4 @@
-use Rattle.std.proofs.Common.{◌≡◌, ◌++◌, List, [], ◌∷◌, append_assoc, rules, ℕ, map, codes, refl}
+use Rattle.std.proofs.Common.{◌≡◌, ◌++◌, List, [], ◌∷◌, append_assoc, ℕ, map, codes}
 use Rattle.std.specs.List.{join_by}
 use Rattle.std.proofs.lemmas.Result.{on_ok_weaker}
 use Rattle.ped_tree.specs.Printing.{parameter_text}

@@ -10,10 +10,9 @@ ghost use Rattle.ped_print.specs.Lengths.{limited};
 ghost use Rattle.ped_print.specs.Places.{place_of};
 ghost use Rattle.ped_print.specs.Standings.{standing_of};
 
-use crate::conditions;
 use crate::conditions::{Standing, relation_name};
-use crate::expressions;
 use crate::expressions::{Place, intrinsic_name, is_one};
+use crate::{conditions, expressions};
 use itoa::Buffer;
 use ped_tree::{Cond, Do, Expr, PrintItem, Stmt};
 
@@ -23,13 +22,19 @@ pub fn length(statement: &Stmt) -> usize
     ensures { result ≡ min (printed_length (stmt_tree statement.now)) (2 ^ 64 - 1) }
 {
     match statement {
-        Stmt::Assign { left, right } => sum(value_length(left), 3, value_length(right)),
-        Stmt::If { condition, .. } => sum(4, cond_length(Standing::Whole, condition), 6),
+        Stmt::Assign { left, right } => {
+            sum(value_length(left), b" = ".len(), value_length(right))
+        }
+        Stmt::If { condition, .. } => sum(
+            b"IF (".len(),
+            cond_length(Standing::Whole, condition),
+            b") THEN".len(),
+        ),
         Stmt::Do(head) => do_length(head),
-        Stmt::Print(items) => items_length(items).saturating_add(7),
-        Stmt::Read(items) => targets_length(items).saturating_add(6),
-        Stmt::Stop => 4,
-        Stmt::Comment(text) => text.len().saturating_add(1),
+        Stmt::Print(items) => items_length(items).saturating_add(b"PRINT *".len()),
+        Stmt::Read(items) => targets_length(items).saturating_add(b"READ *".len()),
+        Stmt::Stop => b"STOP".len(),
+        Stmt::Comment(text) => text.len().saturating_add(b"C".len()),
     }
 }
 
@@ -45,9 +50,11 @@ fn do_length(d: &Do) -> usize
     ensures { result ≡ limited (length (do_text (label_text 0)
         (head d.now.variable d.now.first d.now.last d.now.step d.now.parallel d.now.private d.now.rejected))) }
 {
-    let label = 2;
-    let before = do_word_length(d.parallel) + label + 1 + d.variable.as_bytes().len() + 3;
-    let bounds = sum(value_length(&d.first), 2, value_length(&d.last));
+    let before = do_word_length(d.parallel)
+        + b"10 ".len()
+        + d.variable.as_bytes().len()
+        + b" = ".len();
+    let bounds = sum(value_length(&d.first), b", ".len(), value_length(&d.last));
     sum(before, bounds, step_length(&d.step))
 }
 
@@ -55,7 +62,11 @@ fn do_length(d: &Do) -> usize
 fn do_word_length(parallel: bool) -> usize
     ensures { result ≡ length (do_word parallel) }
 {
-    if parallel { 12 } else { 3 }
+    if parallel {
+        b"PARALLEL DO ".len()
+    } else {
+        b"DO ".len()
+    }
 }
 
 /// The length of an increment other than 1 and of the comma before it.
@@ -65,7 +76,7 @@ fn step_length(step: &Expr) -> usize
     if is_one(step) {
         return 0;
     }
-    value_length(step).saturating_add(2)
+    value_length(step).saturating_add(b", ".len())
 }
 
 /// The length of the items of a PRINT, each behind a comma.
@@ -74,7 +85,7 @@ fn items_length(all: &[PrintItem]) -> usize
 {
     let mut total: usize = 0;
     for item in all {
-        total = sum(total, 2, item_length(item));
+        total = sum(total, b", ".len(), item_length(item));
     }
     total
 }
@@ -93,7 +104,7 @@ fn item_length(item: &PrintItem) -> usize
 fn constant_length(text: &[u8]) -> usize
     ensures { result ≡ limited (length (constant_text text.now)) }
 {
-    let mut total: usize = 2;
+    let mut total: usize = b"''".len();
     for c in text {
         let places = if *c == b'\'' { 2 } else { 1 };
         total = total.saturating_add(places);
@@ -107,7 +118,7 @@ fn targets_length(all: &[Expr]) -> usize
 {
     let mut total: usize = 0;
     for target in all {
-        total = sum(total, 2, value_length(target));
+        total = sum(total, b", ".len(), value_length(target));
     }
     total
 }
@@ -119,7 +130,7 @@ fn cond_length(standing: Standing, condition: &Cond) -> usize
 {
     let bare = bare_cond_length(condition);
     if conditions::is_enclosed(standing, condition) {
-        bare.saturating_add(2)
+        bare.saturating_add(b"()".len())
     } else {
         bare
     }
@@ -136,15 +147,15 @@ fn bare_cond_length(condition: &Cond) -> usize
             relation_name(*relation).len(),
             value_length(right),
         ),
-        Cond::Not(operand) => cond_length(Standing::InNot, operand).saturating_add(5),
+        Cond::Not(operand) => cond_length(Standing::InNot, operand).saturating_add(b".NOT.".len()),
         Cond::And(left, right) => sum(
             cond_length(Standing::InOr, left),
-            5,
+            b".AND.".len(),
             cond_length(Standing::InAnd, right),
         ),
         Cond::Or(left, right) => sum(
             cond_length(Standing::Whole, left),
-            4,
+            b".OR.".len(),
             cond_length(Standing::InOr, right),
         ),
     }
@@ -164,7 +175,7 @@ fn expr_length(place: Place, e: &Expr) -> usize
 {
     let bare = bare_length(e);
     if expressions::is_enclosed(place, e) {
-        bare.saturating_add(2)
+        bare.saturating_add(b"()".len())
     } else {
         bare
     }
@@ -178,26 +189,30 @@ fn bare_length(e: &Expr) -> usize
     match e {
         Expr::Int(value) => number_length(*value),
         Expr::Var(name) => name.as_bytes().len(),
-        Expr::Element(name, subscripts) => sum(name.as_bytes().len(), 2, exprs_length(subscripts)),
-        Expr::Neg(operand) => expr_length(Place::AsTerm, operand).saturating_add(1),
+        Expr::Element(name, subscripts) => sum(
+            name.as_bytes().len(),
+            b"()".len(),
+            exprs_length(subscripts),
+        ),
+        Expr::Neg(operand) => expr_length(Place::AsTerm, operand).saturating_add(b"-".len()),
         Expr::Add(left, right) | Expr::Sub(left, right) => sum(
             expr_length(Place::Alone, left),
-            1,
+            b"+".len(),
             expr_length(Place::AsTerm, right),
         ),
         Expr::Mul(left, right) | Expr::Div(left, right) => sum(
             expr_length(Place::AsTerm, left),
-            1,
+            b"*".len(),
             expr_length(Place::AsFactor, right),
         ),
         Expr::Pow(base, exponent) => sum(
             expr_length(Place::AsBase, base),
-            2,
+            b"**".len(),
             expr_length(Place::AsFactor, exponent),
         ),
         Expr::Call(intrinsic, arguments) => sum(
             intrinsic_name(*intrinsic).len(),
-            2,
+            b"()".len(),
             exprs_length(arguments),
         ),
     }
@@ -213,7 +228,7 @@ fn exprs_length(all: &[Expr]) -> usize
     };
     let mut total = expr_length(Place::Alone, first);
     for e in &all[1..] {
-        total = sum(total, 1, expr_length(Place::Alone, e));
+        total = sum(total, b",".len(), expr_length(Place::Alone, e));
     }
     total
 }

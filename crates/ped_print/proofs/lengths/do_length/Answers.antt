@@ -14,7 +14,7 @@ first_label =
     ap length (ten ∙ ap (λ (x : List ℕ). x ++ 48 ∷ []) one)
 
 -- the parts of a DO statement, with a label of two digits
-do_sum : (word label variable first last step : List ℕ) (before bounds f l s total : ℕ) → length label ≡ 2 → before ≡ length word + 2 + 1 + length variable + 3 → f ≡ limited (length first) → l ≡ limited (length last) → s ≡ limited (length step) → bounds ≡ limited (f + 2 + l) → total ≡ limited (before + bounds + s) → total ≡ limited (length (word ++ label ++ codes " " ++ variable ++ codes " = " ++ first ++ codes ", " ++ last ++ step))
+do_sum : (word label variable first last step : List ℕ) (before bounds f l s total : ℕ) → length label ≡ 2 → before ≡ length word + 3 + length variable + 3 → f ≡ limited (length first) → l ≡ limited (length last) → s ≡ limited (length step) → bounds ≡ limited (f + 2 + l) → total ≡ limited (before + bounds + s) → total ≡ limited (length (word ++ label ++ codes " " ++ variable ++ codes " = " ++ first ++ codes ", " ++ last ++ step))
 do_sum word label variable first last step before bounds f l s total two p q r t u v =
     simp length-append (omega arith)
 
@@ -22,6 +22,6 @@ pub returns : goal.returns
 returns c =
     let d = c.args.d.now in
     do_sum (do_word d.parallel) (label_text 0) d.variable (value_text (expr_tree d.first)) (value_text (expr_tree d.last)) (step_text (expr_tree d.step))
-    (c.do_word_length.result + 2 + 1 + length d.variable + 3) c.sum-bounds.result c.value_length.result c.value_length-2.result c.step_length.result c.sum.result
-    first_label (ap (λ (w : ℕ). w + 2 + 1 + length d.variable + 3) c.do_word_length.ensures) c.value_length.ensures c.value_length-2.ensures c.step_length.ensures c.sum-bounds.ensures
-    (c.sum.ensures ∙ ap (λ (n : ℕ). limited (c.do_word_length.result + 2 + 1 + n + 3 + c.sum-bounds.result + c.step_length.result)) (ap length c.as_bytes.ensures.bytes))
+    (c.do_word_length.result + 3 + length d.variable + 3) c.sum-bounds.result c.value_length.result c.value_length-2.result c.step_length.result c.sum.result
+    first_label (ap (λ (w : ℕ). w + 3 + length d.variable + 3) c.do_word_length.ensures) c.value_length.ensures c.value_length-2.ensures c.step_length.ensures c.sum-bounds.ensures
+    (c.sum.ensures ∙ ap (λ (n : ℕ). limited (c.do_word_length.result + 3 + n + 3 + c.sum-bounds.result + c.step_length.result)) (ap length c.as_bytes.ensures.bytes))

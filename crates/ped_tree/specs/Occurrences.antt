@@ -1,8 +1,10 @@
 -- The names that occur in a program, in text order. An intrinsic function's name is none of them.
-use Rattle.std.specs.Prelude.{ℕ, List, [], ◌∷◌, ◌++◌, map, filter, drop, Bool, not, ◌&&◌, if◌then◌else◌}
+use Rattle.std.specs.Prelude.{ℕ, List, [], ◌∷◌, ◌++◌, map, filter, take, drop, codes, Bool, not, ◌&&◌, ◌==◌, if◌then◌else◌}
 use Rattle.std.specs.List.{list_any, flat_map}
+use Rattle.std.specs.Cmp.Lexicographic.{pointwise}
 use Rattle.ped_tree.specs.Tree.{ExprTree, ExprTrees, Int, Var, Element, Neg, Add, Sub, Mul, Div, Pow, Call, no_exprs, more_exprs, CondTree, Rel, Not, And, Or, ItemTree, Value, Text, Head, StmtTree, StmtTrees, Assign, If, Do, Print, Read, Stop, Comment, no_stmts, more_stmts, BoundTree, DeclaratorTree, DeclTree, Program, Implicit, Integer, Dimension, Parameter, Save, Remark}
 use Rattle.ped_tree.specs.References.{same_name, constants_in}
+use Rattle.ped_tree.specs.Words.{is_name}
 use Rattle.ped_tree.specs.Statement.{Note}
 use Rattle.ped_tree.specs.Items.{Item, declares, saves_all, does, continues, logical_if, block_if, else_if, else_line, end_if, begins_do, keeps_private, ends_program, Reading, says, outside_profile, no_form, Entry}
 
@@ -124,9 +126,17 @@ of_reading has no_form = []
 abbrev pub rejected_name : Note → List ℕ
 rejected_name d = drop 6 d.text
 
+-- the text of a directive is REJECT and a name
+abbrev pub is_rejection : List ℕ → Bool
+is_rejection text = pointwise ◌==◌ (take 6 text) (codes "REJECT") && is_name (drop 6 text)
+
+-- the names that directives reject; one with another text names nothing
+abbrev pub rejected_names : List Note → List (List ℕ)
+rejected_names directives = map rejected_name (filter (λ d. is_rejection d.text) directives)
+
 -- the names that occur in a statement, those of its directives first
 abbrev pub entry_names : Entry → List (List ℕ)
-entry_names e = map rejected_name e.statement.directives ++ of_reading names_in e.reading
+entry_names e = rejected_names e.statement.directives ++ of_reading names_in e.reading
 
 -- one of the names
 abbrev pub is_among : List ℕ → List (List ℕ) → Bool

@@ -1,16 +1,14 @@
 -- Which of the refusals 7 to 13 stand at the statements of a text. Each statement is looked at, whatever stands before it.
-use Rattle.std.specs.Prelude.{ℕ, ◌+◌, ◌^◌, List, [], ◌∷◌, ◌++◌, map, take, drop, length, codes, Bool, true, false, not, ◌&&◌, ◌||◌, ◌==◌, nat_lt, nat_le, Option, Some, None, if◌then◌else◌}
+use Rattle.std.specs.Prelude.{ℕ, ◌+◌, List, [], ◌∷◌, ◌++◌, map, length, Bool, true, false, not, ◌&&◌, ◌||◌, ◌==◌, nat_lt, nat_le, Option, Some, None, if◌then◌else◌}
 use Rattle.std.specs.List.{list_any, flat_map}
-use Rattle.std.specs.Cmp.Lexicographic.{pointwise}
 use Rattle.ped_tree.specs.Tree.{ExprTree, ExprTrees, Int, Var, Element, Neg, Add, Sub, Mul, Div, Pow, Call, CondTree, Head, StmtTree, StmtTrees, Assign, If, Do, Print, Read, Stop, Comment, no_stmts, more_stmts, DeclTree, Program, Implicit, Integer, Dimension, Parameter, Save, Remark}
 use Rattle.ped_tree.specs.References.{same_name, has_some, own_accesses}
 use Rattle.ped_tree.specs.Printing.{own_text, private_text, decl_text}
 use Rattle.ped_tree.specs.Literals.{cond_has_large_literal, head_has_large_literal, stmt_has_large_literal, decl_has_large_literal}
-use Rattle.ped_tree.specs.Words.{is_name}
 use Rattle.ped_tree.specs.Refusal.{Finding, Syntax, NotInProfile, OpenBlock, BadTerminal, IndexAssigned, StopPlace, Limit, stands, first_of}
 use Rattle.ped_tree.specs.Statement.{Note, Statement, Statements}
 use Rattle.ped_tree.specs.Items.{Item, declares, saves_all, does, continues, logical_if, block_if, else_if, else_line, end_if, begins_do, keeps_private, ends_program, Reading, says, outside_profile, no_form, Entry}
-use Rattle.ped_tree.specs.Occurrences.{of_reading, do_variables, is_among, rejected_name, saved_names}
+use Rattle.ped_tree.specs.Occurrences.{of_reading, do_variables, is_among, is_rejection, saved_names}
 use Rattle.ped_tree.specs.Contexts.{Block, in_then, in_else, in_do, Context, at_start, rank, numbered_in, is_do, is_stop, may_end, saves_list, saves_without, closed, behind, behind_all}
 use Rattle.ped_tree.specs.BlockForms.{whole_head}
 
@@ -340,10 +338,6 @@ passes_limit saved c rest i =
     || is_too_deep c.blocks i
     || has_many_references (c.constants ++ open_variables c.blocks) (private_behind rest) i
     || is_too_long saved c.loops i
-
--- the text of a directive is REJECT and a name
-abbrev pub is_rejection : List ℕ → Bool
-is_rejection text = pointwise ◌==◌ (take 6 text) (codes "REJECT") && is_name (drop 6 text)
 
 -- a comment stands between a directive and its statement
 abbrev pub is_parted : Note → Statement → Bool

@@ -1,6 +1,5 @@
 mod Distances
 mod Finding
-mod Loops
 mod OneAnswer
 pub mod Outcomes
 mod Pairs

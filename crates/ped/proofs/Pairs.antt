@@ -29,7 +29,7 @@ same_refl x = (bytes_decides x x).1 refl
 
 -- the loop round the assignment
 abbrev pub loop_of : Small → Loop
-loop_of small = record { number = 1; head = record { variable = small.variable; first = Int small.first; last = Int small.last; step = Int 1 } }
+loop_of small = record { number = 1; head = record { variable = small.variable; first = Int small.first; last = Int small.last; step = Int 1; parallel = false; private = []; rejected = [] } }
 
 -- a reference of the assignment
 abbrev pub reference_of : Small → ℕ → Bool → Subscript → Reference

@@ -1,5 +1,5 @@
 -- What the parts of a program are kept as.
-use Rattle.std.proofs.Common.{◌≡◌, ◌∷◌, List, [], ◌++◌, ℕ, refl, sym, append_assoc}
+use Rattle.std.proofs.Common.{◌≡◌, ◌∷◌, List, [], ◌++◌, ℕ, false, refl, sym, append_assoc}
 use Rattle.std.proofs.lemmas.List.{append-nil}
 use Rattle.ped.specs.SmallForm.{SubscriptForm, alone, plus, minus, SmallForm, value, subscript_text, subscript_of, tree_of}
 use Rattle.ped.specs.SmallTree.{subscript_tree, small_tree}
@@ -48,7 +48,7 @@ tree_same f =
           ∷ Integer ((record { name = f.array; bounds = (record { lower = Int 1; upper = Int (value f.size) }) ∷ [] }) ∷ [])
           ∷ Save (f.array ∷ [])
           ∷ [];
-      body = more_stmts (Do (record { variable = f.variable; first = Int (value f.first); last = Int (value f.last); step = Int 1 }) (more_stmts (Assign (Element f.array (more_exprs target no_exprs)) (Add (Element f.array (more_exprs source no_exprs)) (Int (value f.addend)))) no_stmts)) no_stmts;
+      body = more_stmts (Do (record { variable = f.variable; first = Int (value f.first); last = Int (value f.last); step = Int 1; parallel = false; private = []; rejected = [] }) (more_stmts (Assign (Element f.array (more_exprs target no_exprs)) (Add (Element f.array (more_exprs source no_exprs)) (Int (value f.addend)))) no_stmts)) no_stmts;
     } in
     λ i. tree (subscript_same f.variable f.target i) (subscript_same f.variable f.source i)
 

@@ -2,7 +2,6 @@ pub mod Answer
 pub mod Dependences
 pub mod Distances
 pub mod Lines
-pub mod PrintedLines
 pub mod Reading
 pub mod Scanning
 pub mod Small

@@ -144,7 +144,7 @@ element_of f s = Element f.array (more_exprs (subscript_of f.variable s) no_expr
 -- the tree of the loop
 abbrev pub loop_of : SmallForm → StmtTree
 loop_of f =
-    Do (record { variable = f.variable; first = Int (value f.first); last = Int (value f.last); step = Int 1 })
+    Do (record { variable = f.variable; first = Int (value f.first); last = Int (value f.last); step = Int 1; parallel = false; private = []; rejected = [] })
     (more_stmts (Assign (element_of f f.target) (Add (element_of f f.source) (Int (value f.addend)))) no_stmts)
 
 -- the tree of the program

@@ -1,5 +1,5 @@
 -- The tree of what was read.
-use Rattle.std.specs.Prelude.{ℕ, List, [], ◌∷◌}
+use Rattle.std.specs.Prelude.{ℕ, List, [], ◌∷◌, false}
 use Rattle.ped_tree.specs.Tree.{ExprTree, Int, Var, Element, Add, Sub, no_exprs, more_exprs, StmtTree, Assign, Do, no_stmts, more_stmts, Program, Integer, Save, ProgramTree}
 use Rattle.ped.specs.declared.reading.Subscript.{Subscript}
 use Rattle.ped.specs.declared.reading.Subscript.TheVariants.{Plain, Plus, Minus}
@@ -18,7 +18,7 @@ element_tree small s = Element small.array (more_exprs (subscript_tree small.var
 -- the tree of the loop
 abbrev pub loop_tree : Small → StmtTree
 loop_tree small =
-    Do (record { variable = small.variable; first = Int small.first; last = Int small.last; step = Int 1 })
+    Do (record { variable = small.variable; first = Int small.first; last = Int small.last; step = Int 1; parallel = false; private = []; rejected = [] })
     (more_stmts (Assign (element_tree small small.target) (Add (element_tree small small.source) (Int small.addend))) no_stmts)
 
 -- the tree of the program
@@ -31,3 +31,7 @@ small_tree small = record {
       ∷ [];
   body = more_stmts (loop_tree small) no_stmts;
 }
+
+-- the lines of PROGRAM, INTEGER, SAVE, the DO and the assignment: one statement a line, from line 1 on
+abbrev pub small_lines : List ℕ
+small_lines = 1 ∷ 2 ∷ 3 ∷ 4 ∷ 5 ∷ []

@@ -3,14 +3,12 @@
 
 ghost use Rattle.std.specs.Prelude.{◌≡◌, [], ◌∷◌, ◌++◌, OnOk};
 ghost use Rattle.std.specs.List.{flat_map};
-ghost use Rattle.std.specs.Fmt.{signed_decimal};
 ghost use Rattle.ped_tree.specs.DependencePane as Spec;
 ghost use Rattle.ped_tree.specs.DependencePane.{edges_pane, distances_text, vectors_text};
 ghost use Rattle.ped.specs.Dependences.{edge_of, edges_of, kind_of, mark_of, level_of, sign_of};
 
 use crate::dependences::{Edge, Kind, Mark};
-use crate::texts::push_number;
-use itoa::Buffer;
+use crate::numbers::{push_number, push_signed};
 use ped_base::{Bytes, Name, NoMemory};
 
 /// Adds the dependence pane: `dependences` and their number, and then a row for each.
@@ -108,14 +106,6 @@ fn push_distance(out: &mut Bytes, distance: Option<i128>) -> Result<(), NoMemory
         }
         None => out.extend_from_slice(b"(*)"),
     }
-}
-
-/// Adds the digits of a number, behind a minus sign where it is negative.
-fn push_signed(out: &mut Bytes, number: i128) -> Result<(), NoMemory>
-    ensures { OnOk result (out.new ≡ out.old ++ signed_decimal number) }
-{
-    let mut buffer = Buffer::new();
-    out.extend_from_slice(buffer.format(number).as_bytes())
 }
 
 fn push_mark(out: &mut Bytes, mark: Mark) -> Result<(), NoMemory>

@@ -4,18 +4,15 @@
 
 mod adapters;
 mod answering;
-mod declarations;
 mod dependence_pane;
 mod dependences;
 mod fixed_form;
+mod numbers;
 mod panes;
-mod printing;
 mod reading;
 mod scanning;
-mod source_pane;
 mod strong;
 mod text_lines;
-mod texts;
 
 use crate::adapters::{DiskShelf, StdSink};
 use crate::answering::{Status, ped_main};

@@ -53,7 +53,7 @@ pub struct Small {
 
 impl Small {
     ghost use Rattle.ped.specs.Reading.{IsReadAs, NotSmall};
-    ghost use Rattle.ped.specs.SmallTree.{small_tree, loop_tree, element_tree, subscript_tree};
+    ghost use Rattle.ped.specs.SmallTree.{small_tree, small_lines, loop_tree, element_tree, subscript_tree};
     ghost use Rattle.ped.specs.SmallParts.{declarator_of, assignment_tree};
     ghost use Rattle.ped_tree.specs.Tree;
     ghost use Rattle.ped_tree.specs.Views.{program_tree, decl_tree, stmt_tree, expr_tree};
@@ -66,13 +66,15 @@ impl Small {
         small_of(text)
     }
 
-    /// The program's tree.
+    /// The program's tree, with the lines of its statements in the text.
     pub fn program(&self, alloc: Global) -> Result<Program, NoMemory>
-        ensures { IfOk result (λ p. program_tree p ≡ small_tree self.now) }
+        ensures tree { IfOk result (λ p. program_tree p ≡ small_tree self.now) }
+        ensures lines { IfOk result (λ p. p.lines.items ≡ small_lines) }
     {
         Ok(Program {
             decls: self.declarations(alloc)?,
             body: vec![in alloc; self.repeated(alloc)?]?,
+            lines: vec![in alloc; 1, 2, 3, 4, 5]?,
         })
     }
 
@@ -112,6 +114,9 @@ impl Small {
             first: Expr::literal(self.first),
             last: Expr::literal(self.last),
             step: Expr::literal(1),
+            parallel: false,
+            private: Names::new(alloc),
+            rejected: Names::new(alloc),
             body: vec![in alloc; self.assignment(alloc)?]?,
         }))
     }

@@ -1,8 +1,0 @@
-use Rattle.std.proofs.Common.{◌≡◌, suc, ◌++◌, map, drop}
-use Rattle.ped_tree.specs.SourcePane as Spec
-use Rattle.ped.specs.PrintedLines.{line_of}
-use Rattle.ped.proofs.source_pane.source_rows.Given as goal
-
-abbrev pub invariant-loop-i : goal.invariant-loop-i
-invariant-loop-i l =
-    l.out ++ Spec.source_rows (suc l.i) (map line_of (drop l.i l.lines)) ≡ l.initial.out ++ Spec.source_rows 1 (map line_of l.lines)

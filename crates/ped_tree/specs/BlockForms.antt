@@ -1,10 +1,10 @@
 -- How statements nest: the parts of a block IF, and DO loops that end at a statement of their own or at one that they share.
 use Rattle.std.specs.Prelude.{ℕ, List, [], ◌∷◌, ◌++◌, map, Bool, true, false, not, ◌&&◌, ◌==◌, Option, Some, None}
 use Rattle.std.specs.List.{list_any}
-use Rattle.ped_tree.specs.Tree.{CondTree, Head, StmtTree, StmtTrees, no_stmts, more_stmts, If, Do, Comment}
+use Rattle.ped_tree.specs.Tree.{CondTree, Head, StmtTree, StmtTrees, no_stmts, If, Do, Comment}
 use Rattle.ped_tree.specs.Views.{pack_stmts}
-use Rattle.ped_tree.specs.Statement.{Note, Statement}
-use Rattle.ped_tree.specs.Items.{Item, does, continues, logical_if, block_if, else_if, else_line, end_if, begins_do, keeps_private, Reading, says, Entry}
+use Rattle.ped_tree.specs.Statement.{Statement}
+use Rattle.ped_tree.specs.Items.{Item, does, continues, logical_if, block_if, else_if, else_line, end_if, begins_do, keeps_private, says, Entry}
 use Rattle.ped_tree.specs.Occurrences.{rejected_name}
 
 -- an assignment, PRINT, READ or STOP, a CONTINUE, or a logical IF

@@ -1,5 +1,5 @@
 -- Statements of FORTRAN 77 that the profile leaves out, by how their text begins.
-use Rattle.std.specs.Prelude.{◌≡◌, ◌⊎◌, ℕ, ◌-◌, ◌+◌, List, [], ◌∷◌, ◌++◌, take, length, codes, Bool, true, false, ◌&&◌, ◌==◌, IsTrue, if◌then◌else◌}
+use Rattle.std.specs.Prelude.{◌≡◌, ℕ, ◌-◌, ◌+◌, List, [], ◌∷◌, ◌++◌, take, length, codes, Bool, true, false, ◌&&◌, ◌==◌, IsTrue, if◌then◌else◌}
 use Rattle.std.specs.List.{list_any, list_all, join_by}
 use Rattle.ped_tree.specs.Printing.{constant_text}
 use Rattle.ped_tree.specs.References.{has_some}

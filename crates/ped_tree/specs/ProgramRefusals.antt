@@ -1,11 +1,11 @@
 -- Which of the refusals 7 to 13 stand at the statements of a text. Each statement is looked at, whatever stands before it.
 use Rattle.std.specs.Prelude.{ℕ, ◌+◌, List, [], ◌∷◌, ◌++◌, map, length, Bool, true, false, not, ◌&&◌, ◌||◌, ◌==◌, nat_lt, nat_le, Option, Some, None, if◌then◌else◌}
 use Rattle.std.specs.List.{list_any, flat_map}
-use Rattle.ped_tree.specs.Tree.{ExprTree, ExprTrees, Int, Var, Element, Neg, Add, Sub, Mul, Div, Pow, Call, CondTree, Head, StmtTree, StmtTrees, Assign, If, Do, Print, Read, Stop, Comment, no_stmts, more_stmts, DeclTree, Program, Implicit, Integer, Dimension, Parameter, Save, Remark}
-use Rattle.ped_tree.specs.References.{same_name, has_some, own_accesses}
+use Rattle.ped_tree.specs.Tree.{ExprTree, Int, Var, Element, Neg, Add, Sub, Mul, Div, Pow, Call, StmtTree, StmtTrees, Assign, If, Do, Print, Read, Stop, Comment, no_stmts, more_stmts, DeclTree, Program, Implicit, Integer, Dimension, Parameter, Save, Remark}
+use Rattle.ped_tree.specs.References.{has_some, own_accesses}
 use Rattle.ped_tree.specs.Printing.{own_text, private_text, decl_text}
 use Rattle.ped_tree.specs.Literals.{cond_has_large_literal, head_has_large_literal, stmt_has_large_literal, decl_has_large_literal}
-use Rattle.ped_tree.specs.Refusal.{Finding, Syntax, NotInProfile, OpenBlock, BadTerminal, IndexAssigned, StopPlace, Limit, stands, first_of}
+use Rattle.ped_tree.specs.Refusal.{Finding, Syntax, NotInProfile, OpenBlock, BadTerminal, IndexAssigned, StopPlace, Limit, stands}
 use Rattle.ped_tree.specs.Statement.{Note, Statement, Statements}
 use Rattle.ped_tree.specs.Items.{Item, declares, saves_all, does, continues, logical_if, block_if, else_if, else_line, end_if, begins_do, keeps_private, ends_program, Reading, says, outside_profile, no_form, Entry}
 use Rattle.ped_tree.specs.Occurrences.{of_reading, do_variables, is_among, is_rejection, saved_names}

@@ -1,7 +1,7 @@
 -- Statements as they are written, without blanks: a constructor for each form, with its text and with what it says.
-use Rattle.std.specs.Prelude.{◌≡◌, ℕ, List, [], ◌∷◌, ◌++◌, map, length, codes, Bool, true, false, not, ◌&&◌, ◌==◌, nat_le, Option, Some, None, IsTrue, if◌then◌else◌}
+use Rattle.std.specs.Prelude.{◌≡◌, ℕ, List, [], ◌∷◌, ◌++◌, map, length, codes, Bool, not, ◌&&◌, ◌==◌, nat_le, Option, Some, None, IsTrue, if◌then◌else◌}
 use Rattle.std.specs.List.{list_all, flat_map, join_by}
-use Rattle.ped_tree.specs.Tree.{ExprTree, Int, ItemTree, Value, Text, Head, StmtTree, StmtTrees, Assign, Print, Read, Stop, no_stmts, more_stmts, BoundTree, DeclaratorTree, DeclTree, Program, Implicit, Integer, Dimension, Parameter, Save}
+use Rattle.ped_tree.specs.Tree.{ExprTree, Int, ItemTree, Value, Text, Head, StmtTrees, Assign, Print, Read, Stop, no_stmts, more_stmts, BoundTree, DeclaratorTree, Program, Implicit, Integer, Dimension, Parameter, Save}
 use Rattle.ped_tree.specs.References.{has_some}
 use Rattle.ped_tree.specs.Printing.{constant_text}
 use Rattle.ped_tree.specs.Words.{is_name, is_numeral, numeral_value}
@@ -165,14 +165,6 @@ constant_form_tree (a_constant x is e) = (x, expr_form_tree e)
 abbrev pub item_form_tree : ItemForm → ItemTree
 item_form_tree (a_value e) = Value (expr_form_tree e)
 item_form_tree (a_text text) = Text text
-
--- what a simple statement does; nothing for CONTINUE
-abbrev pub simple_form_trees : SimpleForm → List StmtTree
-simple_form_trees (assignment r e) = Assign (reference_form_tree r) (expr_form_tree e) ∷ []
-simple_form_trees (print items) = Print (map item_form_tree items) ∷ []
-simple_form_trees (read items) = Read (map reference_form_tree items) ∷ []
-simple_form_trees stop = Stop ∷ []
-simple_form_trees continue = []
 
 -- what a simple statement says
 abbrev pub simple_item : SimpleForm → Item

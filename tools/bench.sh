@@ -1,0 +1,82 @@
+#!/usr/bin/env bash
+# Measures how long `statements` of ped_lines takes to cut a program into statements, per byte, and how
+# much memory it has at its peak, on programs of 64 KiB, 256 KiB and 1 MiB. It is no part of the gate, and
+# needs GNU time and awk. docs/PERFORMANCE.md says how to read the figures.
+#
+# usage: tools/bench.sh [RUNS]      of so many runs (5 where it isn't said) the least counts
+set -eu
+cd -- "$(dirname -- "${BASH_SOURCE[0]}")/.."
+runs=${1:-5}
+program=$PWD/crates/ped_bench/out/ped_bench
+
+work=$(mktemp -d)
+trap 'rm -rf -- "$work"' EXIT
+
+# A program of stencil sweeps with no more bytes than this. Its lines have some 30 bytes each.
+stencil() {
+    awk -v size="$1" '
+        function put(line) { text = text line "\n" }
+        BEGIN {
+            head = "      PROGRAM SWEEPS\n      INTEGER A(512,512), B(512,512)\n"
+            end = "      END\n"
+            printf "%s", head
+            total = length(head) + length(end)
+            for (label = 10; ; label += 20) {
+                text = ""
+                put("C     One sweep of the five-point stencil.")
+                put(sprintf("      DO %d J = 2, 511", label + 10))
+                put(sprintf("        DO %d I = 2, 511", label))
+                put("          A(I,J) = (B(I-1,J) + B(I+1,J) +")
+                put("     &              B(I,J-1) + B(I,J+1))/4")
+                put(sprintf("%5d   CONTINUE", label))
+                put(sprintf("%5d CONTINUE", label + 10))
+                put("      PRINT *, '\''centre'\'', A(256,256)")
+                total += length(text)
+                if (total > size) { break }
+                printf "%s", text
+            }
+            printf "%s", end
+        }
+    '
+}
+
+# The least of the runs' sums of what GNU time writes in this format, for so many cuttings of a file.
+least() {
+    local best='' i
+    for ((i = 0; i < runs; i++)); do
+        command time -f "$1" -o "$work/figure" "$program" "$2" "$3" >/dev/null
+        best=$(awk -v best="$best" '{ sum = $1 + $2; print (best == "" || sum < best) ? sum : best }' "$work/figure")
+    done
+    printf '%s\n' "$best"
+}
+
+# `rt run` proves and builds the program and runs it without words, which it answers by its usage line.
+answer=$(cd crates/ped_bench && rt run </dev/null 2>"$work/build.log") || true
+case $answer in
+    "usage: ped_bench "*) ;;
+    *)
+        tail -n 20 "$work/build.log" >&2
+        echo "bench: ped_bench isn't proved or wasn't built" >&2
+        exit 1
+        ;;
+esac
+
+printf 'processors: %s\n' "$(nproc)"
+printf '%10s %10s %10s %12s\n' bytes statements ns/byte memory/text
+for kib in 64 256 1024; do
+    file=$work/$kib.f
+    stencil "$((kib * 1024))" >"$file"
+    bytes=$(wc -c <"$file")
+    times=$((65536 / kib))
+    count=$("$program" "$file" 1)
+    # What the program does beside cutting, such as reading the file, it does for no cuttings, too.
+    awk -v bytes="$bytes" -v count="${count#statements }" -v times="$times" \
+        -v seconds="$(least '%U %S' "$file" "$times")" -v no_seconds="$(least '%U %S' "$file" 0)" \
+        -v peak="$(least %M "$file" 1)" -v no_peak="$(least %M "$file" 0)" 'BEGIN {
+            time = (seconds - no_seconds) * 1e9 / times / bytes
+            memory = (peak - no_peak) * 1024 / bytes
+            printf "%10d %10d %10.2f %12.2f\n", bytes, count, time, memory
+        }' | tee -a "$work/figures"
+done
+awk '{ if (NR == 1 || $3 < least) least = $3; if ($3 > most) most = $3 }
+    END { printf "greatest to least time per byte: %.2f\n", most / least }' "$work/figures"

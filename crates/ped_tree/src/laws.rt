@@ -1,12 +1,21 @@
 //! What the definitions in `specs/` determine. Each function here does nothing; its contract is the
 //! law.
 
-ghost use Rattle.std.specs.Prelude.{◌≡◌, ℕ, List};
-ghost use Rattle.ped_tree.specs.Tree.{ProgramTree};
+ghost use Rattle.std.specs.Prelude.{◌≡◌, ◌<◌, ◌⊎◌, ◌↔◌, ℕ, List, length, None};
+ghost use Rattle.ped_tree.specs.Tree.{StmtTree, StmtTrees, ProgramTree};
 ghost use Rattle.ped_tree.specs.DependencePane.{IsDependencePane};
+ghost use Rattle.ped_tree.specs.Numbering.{numbered, all_numbered, statement_with, statement_count, statements_count};
 
 /// A program has one dependence pane: the direction vectors that no subscript pair excludes, the
 /// dependences that they are divided into and the rows of these leave no choice.
 pub fn one_dependence_pane()
     ensures { (t : ProgramTree) (p q : List ℕ) → IsDependencePane t p → IsDependencePane t q → p ≡ q }
+{}
+
+/// Statements are numbered from 1 to their count: as many have a number as are counted, and there is
+/// no statement with the number 0 or one above the count.
+pub fn numbers_end_at_count()
+    ensures statement { (s : StmtTree) → length (numbered s) ≡ statement_count s }
+    ensures statements { (ss : StmtTrees) → length (all_numbered ss) ≡ statements_count ss }
+    ensures none { (number : ℕ) (t : ProgramTree) → (statement_with number t ≡ None) ↔ ((number ≡ 0) ⊎ (statements_count t.body < number)) }
 {}

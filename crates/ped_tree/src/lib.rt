@@ -13,7 +13,7 @@ mod statements;
 pub use conditions::{Cond, Relation};
 pub use declarations::{Bound, Consts, Decl, Declarator, Program};
 pub use expressions::{Expr, Intrinsic};
-pub use laws::one_dependence_pane;
+pub use laws::{numbers_end_at_count, one_dependence_pane};
 pub use statements::{Do, PrintItem, Stmt};
 
 #[cfg(test)]

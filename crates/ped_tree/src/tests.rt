@@ -1,7 +1,6 @@
 //! What no contract says: that a call can succeed, and that copies, numbers and counts are those of a
 //! program worked out by hand.
 
-mod constructors;
 mod copies;
 mod describing;
 mod numbers;

@@ -32,8 +32,10 @@ ghost use Rattle.ped_tree.specs.Views.{stmt_tree, do_tree, program_tree};
 ghost use Rattle.ped_tree.specs.Numbering.{statement_count, statements_count};
 
 use super::name;
-use crate::{Bound, Cond, Decl, Declarator, Do, Expr, Intrinsic, PrintItem, Program, Relation, Stmt};
-use ped_base::{Bytes, Names};
+use crate::{
+    Bound, Cond, Decl, Declarator, Do, Expr, Intrinsic, PrintItem, Program, Relation, Stmt,
+};
+use ped_base::{Bytes, Name, Names};
 use std::alloc::Global;
 use std::test::Fail;
 
@@ -54,39 +56,43 @@ pub fn sample(alloc: Global) -> Result<Program, Fail>
             assignment(alloc)?,
             block_if(alloc)?,
             Stmt::stop(),
-            comment(alloc, " ENDS")?
+            comment(alloc, " ENDS")?,
         ]?,
         lines: Vec::from_array(alloc, LINES)?,
     })
 }
 
 fn decls(alloc: Global) -> Result<Vec<Decl>, Fail> {
-    let comment = Decl::Comment(bytes(alloc, " SIZES")?);
-    let constants = Decl::Parameter(vec![in alloc;
-        (name("N")?, Expr::literal(10)),
-        (name("M")?, Expr::product(alloc, scalar("N")?, Expr::literal(2))?)
-    ]?);
-    let arrays = Decl::Integer(vec![in alloc;
-        declarator("A", vec![in alloc;
-            Bound { lower: Expr::literal(0), upper: scalar("N")? },
-            Bound { lower: Expr::literal(1), upper: scalar("M")? }
-        ]?)?,
-        declarator("K", Vec::new(alloc))?
-    ]?);
-    let dimension = Decl::Dimension(vec![in alloc;
-        declarator("B", vec![in alloc;
-            Bound { lower: Expr::literal(1), upper: Expr::literal(5) }
-        ]?)?
-    ]?);
-    Ok(vec![in alloc;
-        Decl::Program(name("SAMPLE")?),
-        Decl::Implicit,
-        comment,
-        constants,
-        arrays,
-        dimension,
-        Decl::Save(names(alloc, "A", "B")?)
-    ]?)
+    let mut decls = Vec::new(alloc);
+    decls.push(Decl::Program(name("SAMPLE")?))?;
+    decls.push(Decl::Implicit)?;
+    decls.push(Decl::Comment(bytes(alloc, " SIZES")?))?;
+    decls.push(Decl::Parameter(constants(alloc)?))?;
+    decls.push(Decl::Integer(array_and_scalar(alloc)?))?;
+    decls.push(Decl::Dimension(vec![in alloc; array(alloc)?]?))?;
+    decls.push(Decl::Save(names(alloc, "A", "B")?))?;
+    Ok(decls)
+}
+
+fn constants(alloc: Global) -> Result<Vec<(Name, Expr)>, Fail> {
+    let product = Expr::product(alloc, scalar("N")?, Expr::literal(2))?;
+    let constants = [(name("N")?, Expr::literal(10)), (name("M")?, product)];
+    Ok(Vec::from_array(alloc, constants)?)
+}
+
+fn array_and_scalar(alloc: Global) -> Result<Vec<Declarator>, Fail> {
+    let bounds = [
+        bound(Expr::literal(0), scalar("N")?),
+        bound(Expr::literal(1), scalar("M")?),
+    ];
+    let array = declarator("A", Vec::from_array(alloc, bounds)?)?;
+    let scalar = declarator("K", Vec::new(alloc))?;
+    Ok(vec![in alloc; array, scalar]?)
+}
+
+fn array(alloc: Global) -> Result<Declarator, Fail> {
+    let bound = bound(Expr::literal(1), Expr::literal(5));
+    declarator("B", vec![in alloc; bound]?)
 }
 
 fn assignment(alloc: Global) -> Result<Stmt, Fail>
@@ -138,6 +144,10 @@ fn parallel_do(alloc: Global) -> Result<Do, Fail>
 
 fn scalar(text: &str) -> Result<Expr, Fail> {
     Ok(Expr::scalar(name(text)?))
+}
+
+fn bound(lower: Expr, upper: Expr) -> Bound {
+    Bound { lower, upper }
 }
 
 fn declarator(text: &str, bounds: Vec<Bound>) -> Result<Declarator, Fail> {

@@ -1,11 +1,11 @@
 -- Numbered statements in a list: how many there are, and at which places.
-use Rattle.std.proofs.Common.{◌≡◌, ℕ, ◌+◌, ◌-◌, ◌≤◌, ◌<◌, ◌==◌, List, [], ◌∷◌, ◌++◌, length, Option, Some, None, MatchOption, Bor, refl, ap, arith, eqb-true, length-append, drop, get_or, ◌≢◌}
-use Rattle.ped_tree.specs.Tree.{CondTree, StmtTree, StmtTrees, Assign, If, Do, Print, Read, Stop, Comment, no_stmts, more_stmts}
+use Rattle.std.proofs.Common.{◌≡◌, ℕ, ◌+◌, ◌-◌, ◌≤◌, ◌<◌, ◌==◌, List, [], ◌∷◌, ◌++◌, length, Option, Some, None, MatchOption, Bor, refl, ap, arith, eqb-true, length-append, drop, get_or, ◌≢◌, ◌⊎◌, ◌↔◌}
+use Rattle.ped_tree.specs.Tree.{CondTree, StmtTree, StmtTrees, Assign, If, Do, Print, Read, Stop, Comment, no_stmts, more_stmts, ProgramTree}
 use Rattle.ped_tree.specs.Views.{stmt_tree, stmt_trees}
 use Rattle.ped_tree.specs.declared.statements.Stmt.{Stmt}
 use Rattle.std.proofs.lemmas.Grind.{common_steps}
 use Rattle.ped_tree.proofs.Levels.{stmt_tree-If}
-use Rattle.ped_tree.specs.Numbering.{numbered, all_numbered, at_place, statement_count, statements_count}
+use Rattle.ped_tree.specs.Numbering.{numbered, all_numbered, at_place, statement_with, statement_count, statements_count}
 
 mutual
   -- a statement has as many numbered statements as are counted
@@ -38,6 +38,11 @@ pub at_place-past : (xs : List StmtTree) (n : ℕ) → length xs ≤ n → at_pl
 at_place-past [] n h = refl
 at_place-past (x ∷ xs) n h = grind (arith, eqb-true, at_place-past xs (n - 1))
 
+-- where nothing stands the list has ended
+pub length-at_place : (xs : List StmtTree) (n : ℕ) → at_place xs n ≡ None → length xs ≤ n
+length-at_place [] n h = omega arith
+length-at_place (x ∷ xs) n h = grind (arith, eqb-true, length-at_place xs (n - 1))
+
 -- places behind a statement count on from its number of statements
 pub numbered-back : (s : StmtTree) (ys : List StmtTree) (n k : ℕ) → k + statement_count s ≡ n → at_place (numbered s ++ ys) n ≡ at_place ys k
 numbered-back s ys n k h = at_place-back (numbered s) ys n k (omega (arith, length-numbered s))
@@ -69,3 +74,13 @@ search-else (Some found) s condition then_part else_part n k left is h e f = at_
 
 -- where a search finds a statement, and where it goes on
 pub ruleset placing = (eqb-true, at_place-then, all_numbered-past, stmt_tree-If, stmt_trees-drop, at_place-front, numbered-back)
+
+-- there is no statement with a number exactly where it is 0 or above the count
+pub statement_with-none : (number : ℕ) (t : ProgramTree) → (statement_with number t ≡ None) ↔ ((number ≡ 0) ⊎ (statements_count t.body < number))
+statement_with-none number t = (none number t, above number t)
+  where
+    none : (number : ℕ) (t : ProgramTree) → statement_with number t ≡ None → (number ≡ 0) ⊎ (statements_count t.body < number)
+    none number t h = grind (arith, eqb-true, length-at_place (all_numbered t.body) (number - 1), length-all_numbered t.body)
+
+    above : (number : ℕ) (t : ProgramTree) → (number ≡ 0) ⊎ (statements_count t.body < number) → statement_with number t ≡ None
+    above number t h = grind (arith, eqb-true, all_numbered-past t.body (number - 1))

@@ -14,7 +14,9 @@ mod statements;
 pub use conditions::{Cond, Relation};
 pub use declarations::{Bound, Consts, Decl, Declarator, Program};
 pub use expressions::{Expr, Intrinsic};
-pub use laws::{first_finding_is_least, one_dependence_pane, one_refusal, tree_or_refusal};
+pub use laws::{
+    first_finding_is_least, numbers_end_at_count, one_dependence_pane, one_refusal, tree_or_refusal,
+};
 pub use statements::{Do, PrintItem, Stmt};
 
 #[cfg(test)]

@@ -1,2 +1,3 @@
+pub mod ConditionReading
 pub mod ExpressionReading
 pub mod Scanning

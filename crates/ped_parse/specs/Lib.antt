@@ -1,3 +1,4 @@
 pub mod ConditionReading
 pub mod ExpressionReading
 pub mod Scanning
+pub mod Views

@@ -3,7 +3,9 @@
 #![tactic(auto)]
 
 mod laws;
+mod operators;
 mod readings;
+mod scanning;
 
 pub use laws::{one_condition, one_expression, one_reference};
 pub use readings::Reading;

@@ -50,6 +50,7 @@ pub fn split_digits(text: &[u8]) -> (&[u8], &[u8])
 pub fn split_word(text: &[u8]) -> (&[u8], &[u8])
     ensures front { result.0.now ≡ Spec.front Letters.is_alphanumeric text.now }
     ensures behind { result.1.now ≡ Spec.behind Letters.is_alphanumeric text.now }
+    ensures whole { length result.0.now + length result.1.now ≡ length text.now }
 {
     for i in 0..text.len() {
         if !(text[i].is_ascii_uppercase() || text[i].is_ascii_digit()) {
@@ -67,14 +68,17 @@ pub fn literal_value(digits: &[u8]) -> u32
 {
     let mut value: u32 = 0;
     for digit in digits {
-        value = value.saturating_mul(10).saturating_add((*digit - b'0') as u32);
+        value = value
+            .saturating_mul(10)
+            .saturating_add((*digit - b'0') as u32);
     }
     value
 }
 
 /// The name that the word is, where it is one of at most six characters.
 pub fn name_of(word: &[u8]) -> Option<Name>
-    ensures { result ≡ (if Words.is_name word.now then Some word.now else None) }
+    ensures is { result ≡ (if Words.is_name word.now then Some word.now else None) }
+    ensures some { IfSome result (λ x. 0 < length word.now) }
 {
     if word.len() > 6 {
         return None;
@@ -82,6 +86,7 @@ pub fn name_of(word: &[u8]) -> Option<Name>
     Name::from_bytes(word)
 }
 
+#[tactic(auto, unfolding(ped_tree::specs::Words::intrinsic_of))]
 /// The intrinsic function of a name. IABS is read as ABS, MAX0 as MAX and MIN0 as MIN.
 pub fn intrinsic_of(word: &[u8]) -> Option<Intrinsic>
     ensures { result ≡ Words.intrinsic_of word.now }

@@ -4,6 +4,7 @@ use Rattle.std.specs.Borrow.{Bor}
 use Rattle.std.specs.Global.{Vec}
 use Rattle.ped_tree.specs.declared.expressions.Expr.{Expr}
 use Rattle.ped_tree.specs.declared.conditions.Cond.{Cond}
+use Rattle.ped_tree.specs.declared.conditions.Relation.{Relation}
 use Rattle.ped_tree.specs.Tree.{ExprTree, ExprTrees, CondTree}
 use Rattle.ped_tree.specs.Views.{expr_tree, pack_exprs, cond_tree}
 use Rattle.ped_tree.specs.ExpressionForms as forms
@@ -62,3 +63,7 @@ adding_and_rest (Some x) = Some (adding_of x.0, x.1.now)
 abbrev pub scaling_and_rest : Option (Scaling × Bor (List ℕ)) → Answer forms.Scaling
 scaling_and_rest None = None
 scaling_and_rest (Some x) = Some (scaling_of x.0, x.1.now)
+
+abbrev pub relation_and_rest : Option (Relation × Bor (List ℕ)) → Answer Relation
+relation_and_rest None = None
+relation_and_rest (Some x) = Some (x.0, x.1.now)

@@ -2,6 +2,7 @@
 //! reader answers a tree exactly where some form of the grammar has the text.
 #![tactic(auto)]
 
+mod conditions;
 mod expressions;
 mod laws;
 mod operators;

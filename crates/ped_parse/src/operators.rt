@@ -5,11 +5,12 @@ ghost use Rattle.std.specs.Prelude.{◌≡◌, ◌<◌, ◌≤◌, IfSome, IfOk,
 ghost use Rattle.ped_tree.specs.Views.{expr_tree};
 ghost use Rattle.ped_tree.specs.ExpressionForms as Forms;
 ghost use Rattle.ped_parse.specs.Scanning as Spec;
-ghost use Rattle.ped_parse.specs.Views.{sign_of, adding_of, scaling_of, adding_and_rest, scaling_and_rest};
+ghost use Rattle.ped_parse.specs.Views.{sign_of, adding_of, scaling_of, adding_and_rest, scaling_and_rest, relation_and_rest};
+ghost use Rattle.ped_parse.specs.ConditionReading.{relation_at};
 
 use crate::scanning::after;
 use ped_base::NoMemory;
-use ped_tree::Expr;
+use ped_tree::{Expr, Relation};
 use std::alloc::Global;
 
 /// What stands before the first term.
@@ -79,6 +80,32 @@ pub fn take_scaling(text: &[u8]) -> Option<(Scaling, &[u8])>
     }
     if let Some(rest) = after(text, b"/") {
         return Some((Scaling::Divide, rest));
+    }
+    None
+}
+
+/// A relational operator between its periods at the front, and what follows it.
+pub fn take_relation(text: &[u8]) -> Option<(Relation, &[u8])>
+    ensures is { relation_and_rest result ≡ relation_at text.now }
+    ensures shorter { IfSome result (λ x. length x.1.now < length text.now) }
+{
+    if let Some(rest) = after(text, b".LT.") {
+        return Some((Relation::Lt, rest));
+    }
+    if let Some(rest) = after(text, b".LE.") {
+        return Some((Relation::Le, rest));
+    }
+    if let Some(rest) = after(text, b".EQ.") {
+        return Some((Relation::Eq, rest));
+    }
+    if let Some(rest) = after(text, b".NE.") {
+        return Some((Relation::Ne, rest));
+    }
+    if let Some(rest) = after(text, b".GT.") {
+        return Some((Relation::Gt, rest));
+    }
+    if let Some(rest) = after(text, b".GE.") {
+        return Some((Relation::Ge, rest));
     }
     None
 }

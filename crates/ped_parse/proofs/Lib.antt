@@ -4,7 +4,14 @@ pub mod BlocksFound
 pub mod BlocksMoved
 pub mod BlocksNest
 pub mod BlocksOneTree
+pub mod CondAgain
+pub mod CondEquations
+pub mod CondSettled
+pub mod CondSound
+pub mod CondWhole
 pub mod Equations
+pub mod Lists
+pub mod Literals
 pub mod Settled
 pub mod Sound
 pub mod Whole

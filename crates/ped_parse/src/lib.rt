@@ -2,12 +2,16 @@
 //! answers a tree exactly where some form of the grammar has the text.
 #![tactic(auto)]
 
+mod conditions;
+mod expressions;
 mod items;
 mod laws;
 mod laws_of_blocks;
+mod operators;
 mod readings;
+mod scanning;
 
 pub use items::{DoStatement, Item, StatementReading};
-pub use laws::{one_expression, one_reference};
+pub use laws::{one_condition, one_expression, one_reference};
 pub use laws_of_blocks::{nests_or_refused, one_nesting, one_tree, reads_or_refused};
 pub use readings::Reading;

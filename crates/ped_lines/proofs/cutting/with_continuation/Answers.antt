@@ -1,7 +1,5 @@
-use Rattle.std.proofs.Common.{[], refl, sym, ◌∙◌, ap, List, ℕ}
-use Rattle.ped_tree.specs.Characters.{has_bad}
-use Rattle.ped_tree.specs.Columns.{statement_columns}
-use Rattle.ped_lines.specs.Cutting.{WithColumns, front_of}
+use Rattle.std.proofs.Common.{[], refl}
+use Rattle.ped_lines.specs.Cutting.{front_of}
 use Rattle.ped_lines.proofs.Quoting.{front_quoted}
 use Rattle.ped_lines.proofs.OneLine.{first_text, orphan_line, continuation_line}
 use Rattle.ped_lines.proofs.cutting.with_continuation.Goals as goal

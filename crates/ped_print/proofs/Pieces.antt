@@ -6,10 +6,6 @@ use Rattle.std.specs.List.{range_with_len}
 pub rounded_up : (n : ℕ) → n / 66 + min 1 (n % 66) ≡ (n + 65) / 66
 rounded_up n = omega arith
 
--- what begins before the last piece lies within the text
-pub piece_within : (n k : ℕ) → k < n / 66 + min 1 (n % 66) → 66 * k ≤ n
-piece_within n k h = omega arith
-
 -- the numbers that are left after one of them
 pub numbers_left : (k count : ℕ) → k < count → range_with_len k (count - k) ≡ k ∷ range_with_len (k + 1) (count - (k + 1))
 numbers_left k count h =

@@ -1,4 +1,5 @@
 pub mod Counting
+pub mod Lengths
 pub mod Places
 pub mod PrintedLines
 pub mod Standings

@@ -5,10 +5,15 @@
 mod conditions;
 mod declarations;
 mod expressions;
+mod lengths;
 mod lines;
 mod nesting;
 mod pane;
 mod programs;
 mod statements;
 
+pub use lengths::length;
 pub use programs::{print, source_pane};
+
+#[cfg(test)]
+mod tests;

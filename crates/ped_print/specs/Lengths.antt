@@ -1,0 +1,6 @@
+-- Lengths as far as 64 bits hold them.
+use Rattle.std.specs.Prelude.{ℕ, min, ◌-◌, ◌^◌}
+
+-- the length, or the greatest number of 64 bits where it is greater
+abbrev pub limited : ℕ → ℕ
+limited n = min n (2 ^ 64 - 1)

@@ -14,3 +14,6 @@ mod statements;
 
 pub use lengths::length;
 pub use programs::{print, source_pane};
+
+#[cfg(test)]
+mod tests;

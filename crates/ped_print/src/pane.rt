@@ -44,14 +44,14 @@ fn push_row(out: &mut Bytes, number: usize, line: &Line) -> Result<(), NoMemory>
 }
 
 /// Adds a line number, in five places, or as many as it has digits.
-fn push_line_number(out: &mut Bytes, number: usize) -> Result<(), NoMemory>
+pub fn push_line_number(out: &mut Bytes, number: usize) -> Result<(), NoMemory>
     ensures { OnOk result (out.new ≡ out.old ++ Spec.line_number_column number) }
 {
     push_right_aligned(out, 5, number as u64)
 }
 
 /// Adds a statement number, in four places, or as many as it has digits; blanks where there is none.
-fn push_statement_number(out: &mut Bytes, number: Option<u64>) -> Result<(), NoMemory>
+pub fn push_statement_number(out: &mut Bytes, number: Option<u64>) -> Result<(), NoMemory>
     ensures { OnOk result (out.new ≡ out.old ++ Spec.statement_number_column number) }
 {
     match number {

@@ -6,8 +6,10 @@ pub mod CondSettled
 pub mod CondSound
 pub mod CondWhole
 pub mod Equations
+pub mod Large
 pub mod Lists
-pub mod Literals
+pub mod Said
 pub mod Settled
 pub mod Sound
+pub mod Values
 pub mod Whole

@@ -5,6 +5,7 @@
 mod conditions;
 mod expressions;
 mod laws;
+mod literals;
 mod operators;
 mod readings;
 mod scanning;

@@ -21,7 +21,7 @@ small_same n h = let k = ltb-false 2147483647 n h in omega arith
 either : (a b c d : Bool) → a ≡ c → b ≡ d → (a || b) ≡ (c || d)
 either a b c d p q = rw (p, q) refl
 
-neither : (a b : Bool) → (a || b) ≡ false → (a ≡ false) × (b ≡ false)
+pub neither : (a b : Bool) → (a || b) ≡ false → (a ≡ false) × (b ≡ false)
 neither true b h = absurd cc
 neither false b h = (refl, h)
 

@@ -10,5 +10,8 @@ mod operators;
 mod readings;
 mod scanning;
 
-pub use laws::{one_condition, one_expression, one_reference};
+pub use laws::{
+    one_condition, one_expression, one_reference, printed_condition, printed_expression,
+    printed_reference,
+};
 pub use readings::Reading;

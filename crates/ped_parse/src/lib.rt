@@ -15,3 +15,6 @@ pub use laws::{
     printed_reference,
 };
 pub use readings::Reading;
+
+#[cfg(test)]
+mod tests;

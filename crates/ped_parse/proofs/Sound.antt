@@ -61,23 +61,23 @@ counted : (v : ℕ → ℕ) (es : ExprTrees) → expr_count (all_with_literals v
 counted v no_exprs = refl
 counted v (more_exprs e rest) = ap suc (counted v rest)
 
--- a primary that is a name before expressions in parentheses
-abbrev IsCall : (ℕ → ℕ) → List ℕ → Intrinsic → ExprsForm → Type 0
-IsCall v x f a = (p : PrimaryForm) × (with_literals v (primary_form_tree p) ≡ Call f (all_with_literals v (exprs_form_trees a))) × (primary_form_text p ≡ x ++ codes "(" ++ exprs_form_text a ++ codes ")")
+-- a primary that is the function f of these arguments, under the name x
+abbrev pub IsCall : List ℕ → Intrinsic → ExprsForm → Type 0
+IsCall x f a = (p : PrimaryForm) × (primary_form_tree p ≡ Call f (exprs_form_trees a)) × (primary_form_text p ≡ x ++ codes "(" ++ exprs_form_text a ++ codes ")")
 
 arguments : (x : List ℕ) (a : ExprForm) (rest : ExprsForm) → x ++ codes "(" ++ expr_form_text a ++ codes "," ++ exprs_form_text rest ++ codes ")" ≡ x ++ codes "(" ++ exprs_form_text (more a rest) ++ codes ")"
 arguments x a rest = simp append_assoc
 
-is_call : (v : ℕ → ℕ) (x : List ℕ) (f : Intrinsic) (a : ExprsForm) → intrinsic_of x ≡ Some f → takes f (expr_count (exprs_form_trees a)) ≡ true → IsCall v x f a
-is_call v x Mod (one a) is h = absurd cc
-is_call v x Mod (more a (one b)) is h = (remainder x is a b, refl, arguments x a (one b))
-is_call v x Mod (more a (more b rest)) is h = absurd (omega (arith, eqb-true _ _ h, some_exprs rest))
-is_call v x Abs (one a) is h = (absolute x is a, refl, refl)
-is_call v x Abs (more a rest) is h = absurd (omega (arith, eqb-true _ _ h, some_exprs rest))
-is_call v x Max (one a) is h = absurd cc
-is_call v x Max (more a rest) is h = (greatest x is a rest, refl, arguments x a rest)
-is_call v x Min (one a) is h = absurd cc
-is_call v x Min (more a rest) is h = (least x is a rest, refl, arguments x a rest)
+pub is_call : (x : List ℕ) (f : Intrinsic) (a : ExprsForm) → intrinsic_of x ≡ Some f → takes f (expr_count (exprs_form_trees a)) ≡ true → IsCall x f a
+is_call x Mod (one a) is h = absurd cc
+is_call x Mod (more a (one b)) is h = (remainder x is a b, refl, arguments x a (one b))
+is_call x Mod (more a (more b rest)) is h = absurd (omega (arith, eqb-true _ _ h, some_exprs rest))
+is_call x Abs (one a) is h = (absolute x is a, refl, refl)
+is_call x Abs (more a rest) is h = absurd (omega (arith, eqb-true _ _ h, some_exprs rest))
+is_call x Max (one a) is h = absurd cc
+is_call x Max (more a rest) is h = (greatest x is a rest, refl, arguments x a rest)
+is_call x Min (one a) is h = absurd cc
+is_call x Min (more a rest) is h = (least x is a rest, refl, arguments x a rest)
 
 -- a name before expressions in parentheses
 applied_found : (v : ℕ → ℕ) (x : List ℕ) (a : ExprsForm) (e : ExprTree) → is_name x ≡ true → applied x (all_with_literals v (exprs_form_trees a)) ≡ Some e
@@ -88,8 +88,8 @@ applied_found v x a e name h =
       | inl g ↦ (reference (element x name g.0 a), some_is (Element x es) e g.1, refl)
       | inr g ↦
           let t = guarded (takes g.0 (expr_count es)) (Some (Call g.0 es)) e g.2 in
-          let p = is_call v x g.0 a g.1 (ap (takes g.0) (sym (counted v (exprs_form_trees a))) ∙ t.0) in
-          (p.0, p.1 ∙ some_is (Call g.0 es) e t.1, p.2)
+          let p = is_call x g.0 a g.1 (ap (takes g.0) (sym (counted v (exprs_form_trees a))) ∙ t.0) in
+          (p.0, ap (with_literals v) p.1 ∙ some_is (Call g.0 es) e t.1, p.2)
     ]
 
 -- one more part of the text

@@ -1,5 +1,5 @@
 -- Reading an expression from left to right, with a number of steps that bounds the recursion. Contracts of private functions alone speak of it.
-use Rattle.std.specs.Prelude.{ℕ, zero, suc, ◌+◌, ◌*◌, List, length, codes, min, Option, Some, None, Bool, ◌==◌, nat_le, if◌then◌else◌}
+use Rattle.std.specs.Prelude.{ℕ, zero, suc, ◌+◌, ◌*◌, List, length, codes, min, Option, Some, None, Bool, true, false, ◌==◌, nat_le, if◌then◌else◌}
 use Rattle.ped_base.specs.Letters.{is_digit, is_alphanumeric}
 use Rattle.ped_tree.specs.declared.expressions.Intrinsic.{Intrinsic}
 use Rattle.ped_tree.specs.declared.expressions.Intrinsic.TheVariants.{Mod, Abs, Max, Min}
@@ -129,3 +129,16 @@ exprs_of v text = exprs_at v (enough text) text
 -- an expression that is the whole text
 unfoldable pub whole_expr_of : (ℕ → ℕ) → List ℕ → Option ExprTree
 whole_expr_of v text = expr_of v text >>= λ x. if length x.1 == 0 then Some x.0 else None
+
+-- a scalar or an element
+abbrev pub is_reference : ExprTree → Bool
+is_reference (Int n) = false
+is_reference (Var x) = true
+is_reference (Element x subscripts) = true
+is_reference (Neg a) = false
+is_reference (Add a b) = false
+is_reference (Sub a b) = false
+is_reference (Mul a b) = false
+is_reference (Div a b) = false
+is_reference (Pow a b) = false
+is_reference (Call f arguments) = false

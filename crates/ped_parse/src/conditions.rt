@@ -3,16 +3,46 @@
 
 ghost use Rattle.std.specs.Prelude.{◌<◌, ◌≤◌, IfOk, length};
 ghost use Rattle.ped_tree.specs.Views.{cond_tree};
+ghost use Rattle.ped_tree.specs.ConditionForms.{ReadsCond};
+ghost use Rattle.ped_tree.specs.Literals as Literals;
+ghost use Rattle.ped_parse.specs.Readings.{Says};
 ghost use Rattle.ped_parse.specs.ExpressionReading.{saturated};
-ghost use Rattle.ped_parse.specs.ConditionReading.{relation_of, cond_of, ors_of, logical_term_of, ands_of, logical_factor_of, logical_primary_of};
+ghost use Rattle.ped_parse.specs.ConditionReading.{relation_of, cond_of, ors_of, logical_term_of, ands_of, logical_factor_of, logical_primary_of, whole_cond_of};
 ghost use Rattle.ped_parse.specs.Views.{Gives, cond_and_rest};
 
 use crate::expressions::expr;
+use crate::literals::cond_has_large_literal;
 use crate::operators::take_relation;
-use crate::readings::Failure;
+use crate::readings::{Failure, Reading};
 use crate::scanning::after;
+use ped_base::NoMemory;
 use ped_tree::Cond;
 use std::alloc::Global;
+
+/// What the text is read as, as a condition.
+pub fn read_condition(alloc: Global, text: &[u8]) -> Result<Reading<Cond>, NoMemory>
+    ensures { IfOk result (Says (ReadsCond text.now) Literals.cond_has_large_literal cond_tree) }
+{
+    match whole(alloc, text) {
+        Ok(c) if cond_has_large_literal(&c) => Ok(Reading::TooLarge),
+        Ok(c) => Ok(Reading::Tree(c)),
+        Err(Failure::NoForm) => Ok(Reading::NoForm),
+        Err(Failure::OutOfMemory) => Err(NoMemory),
+    }
+}
+
+/// The condition that is the whole text.
+#[tactic(auto, unfolding(crate::specs::ConditionReading::whole_cond_of))]
+fn whole(alloc: Global, text: &[u8]) -> Result<Cond, Failure>
+    ensures { Gives cond_tree result (whole_cond_of saturated text.now) }
+{
+    let (c, rest) = cond(alloc, text)?;
+    if rest.is_empty() {
+        Ok(c)
+    } else {
+        Err(Failure::NoForm)
+    }
+}
 
 /// The condition at the front, and what follows it.
 #[cycle(cond)]

@@ -5,19 +5,74 @@ ghost use Rattle.std.specs.Prelude.{◌≡◌, ◌<◌, ◌≤◌, ◌+◌, IfOk
 ghost use Rattle.ped_base.specs.Letters as Letters;
 ghost use Rattle.ped_tree.specs.Tree as Tree;
 ghost use Rattle.ped_tree.specs.Views.{expr_tree, pack_exprs};
+ghost use Rattle.ped_tree.specs.ExpressionForms.{ReadsExpr, ReadsReference};
+ghost use Rattle.ped_tree.specs.Literals as Literals;
+ghost use Rattle.ped_parse.specs.Readings.{Says};
 ghost use Rattle.ped_parse.specs.Scanning as Scanning;
 ghost use Rattle.ped_parse.specs.ExpressionReading as Spec;
 ghost use Rattle.ped_parse.specs.ExpressionReading.{saturated, expr_of, sums_of, term_of, products_of, factor_of, primary_of, named_of, exprs_of, whole_expr_of};
 ghost use Rattle.ped_parse.specs.Views.{Gives, expr_and_rest, exprs_and_rest};
 
+use crate::literals::has_large_literal;
 use crate::operators::{added, scaled, signed, take_adding, take_scaling, take_sign};
-use crate::readings::Failure;
+use crate::readings::{Failure, Reading};
 use crate::scanning::{
-    after, begins_with_digit, intrinsic_of, literal_value, name_of, split_digits, split_word,
+    after, begins_with_digit, begins_with_letter, intrinsic_of, literal_value, name_of,
+    split_digits, split_word,
 };
-use ped_base::Name;
+use ped_base::{Name, NoMemory};
 use ped_tree::{Expr, Intrinsic};
 use std::alloc::Global;
+
+/// What the text is read as, as an expression.
+pub fn read_expression(alloc: Global, text: &[u8]) -> Result<Reading<Expr>, NoMemory>
+    ensures { IfOk result (Says (ReadsExpr text.now) Literals.has_large_literal expr_tree) }
+{
+    match whole(alloc, text) {
+        Ok(e) if has_large_literal(&e) => Ok(Reading::TooLarge),
+        Ok(e) => Ok(Reading::Tree(e)),
+        Err(Failure::NoForm) => Ok(Reading::NoForm),
+        Err(Failure::OutOfMemory) => Err(NoMemory),
+    }
+}
+
+/// What the text is read as, as a scalar or an element.
+pub fn read_reference(alloc: Global, text: &[u8]) -> Result<Reading<Expr>, NoMemory>
+    ensures { IfOk result (Says (ReadsReference text.now) Literals.has_large_literal expr_tree) }
+{
+    if !begins_with_letter(text) {
+        return Ok(Reading::NoForm);
+    }
+    match whole(alloc, text) {
+        Ok(e) if !is_reference(&e) => Ok(Reading::NoForm),
+        Ok(e) if has_large_literal(&e) => Ok(Reading::TooLarge),
+        Ok(e) => Ok(Reading::Tree(e)),
+        Err(Failure::NoForm) => Ok(Reading::NoForm),
+        Err(Failure::OutOfMemory) => Err(NoMemory),
+    }
+}
+
+fn is_reference(e: &Expr) -> bool
+    ensures { result ≡ Spec.is_reference (expr_tree e.now) }
+{
+    match e {
+        Expr::Var(_) | Expr::Element(_, _) => true,
+        _ => false,
+    }
+}
+
+/// The expression that is the whole text.
+#[tactic(auto, unfolding(crate::specs::ExpressionReading::whole_expr_of))]
+fn whole(alloc: Global, text: &[u8]) -> Result<Expr, Failure>
+    ensures { Gives expr_tree result (whole_expr_of saturated text.now) }
+{
+    let (e, rest) = expr(alloc, text)?;
+    if rest.is_empty() {
+        Ok(e)
+    } else {
+        Err(Failure::NoForm)
+    }
+}
 
 /// The expression at the front, and what follows it.
 #[cycle(expr)]

@@ -7,11 +7,18 @@ mod expressions;
 mod items;
 mod laws;
 mod laws_of_blocks;
+mod literals;
 mod operators;
 mod readings;
 mod scanning;
 
 pub use items::{DoStatement, Item, StatementReading};
-pub use laws::{one_condition, one_expression, one_reference};
+pub use laws::{
+    one_condition, one_expression, one_reference, printed_condition, printed_expression,
+    printed_reference,
+};
 pub use laws_of_blocks::{nests_or_refused, one_nesting, one_tree, reads_or_refused};
 pub use readings::Reading;
+
+#[cfg(test)]
+mod tests;

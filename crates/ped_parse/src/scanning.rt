@@ -21,6 +21,16 @@ pub fn after<'a>(text: &'a [u8], prefix: &[u8]) -> Option<&'a [u8]>
     text.strip_prefix(prefix)
 }
 
+/// Whether the text begins with a letter.
+pub fn begins_with_letter(text: &[u8]) -> bool
+    ensures { result ≡ Letters.begins_with_letter text.now }
+{
+    match text {
+        [first, ..] => first.is_ascii_uppercase(),
+        [] => false,
+    }
+}
+
 /// Whether the text begins with a digit.
 pub fn begins_with_digit(text: &[u8]) -> bool
     ensures { result ≡ Spec.first_is Letters.is_digit text.now }
@@ -60,7 +70,7 @@ pub fn split_word(text: &[u8]) -> (&[u8], &[u8])
     text.split_at(text.len())
 }
 
-#[tactic(auto, using(crate::proofs::Literals::saturated_more))]
+#[tactic(auto, using(crate::proofs::Values::saturated_more))]
 /// The number that the digits write, or the greatest integer of 32 bits where it is greater.
 pub fn literal_value(digits: &[u8]) -> u32
     requires { IsTrue (list_all Letters.is_digit digits.now) }

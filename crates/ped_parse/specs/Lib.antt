@@ -1,2 +1,4 @@
+pub mod ExpressionReading
 pub mod ItemViews
 pub mod Saturated
+pub mod Scanning

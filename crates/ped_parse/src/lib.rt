@@ -2,5 +2,9 @@
 #![tactic(auto)]
 
 mod items;
+mod laws;
+mod readings;
 
 pub use items::{DoStatement, Item, StatementReading};
+pub use laws::{one_expression, one_reference};
+pub use readings::Reading;

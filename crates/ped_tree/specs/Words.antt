@@ -1,5 +1,5 @@
 -- Words of statements: names, numerals, and the names of the intrinsic functions.
-use Rattle.std.specs.Prelude.{ℕ, List, Bool, ◌&&◌, ◌||◌, ◌==◌, nat_le, length, codes, Option, Some, None, if◌then◌else◌}
+use Rattle.std.specs.Prelude.{ℕ, List, [], ◌∷◌, Bool, false, ◌&&◌, ◌||◌, ◌==◌, nat_le, length, codes, Option, Some, None, if◌then◌else◌}
 use Rattle.std.specs.List.{list_all}
 use Rattle.std.specs.Cmp.Lexicographic.{pointwise}
 use Rattle.std.specs.Str.Parse.{digits_value}
@@ -14,7 +14,8 @@ is_name x = Letters.is_name x && nat_le (length x) 6
 
 -- a numeral: one digit or more
 abbrev pub is_numeral : List ℕ → Bool
-is_numeral digits = nat_le 1 (length digits) && list_all is_digit digits
+is_numeral [] = false
+is_numeral (c ∷ cs) = list_all is_digit (c ∷ cs)
 
 -- the number that a numeral writes
 abbrev pub numeral_value : List ℕ → ℕ

@@ -22,7 +22,7 @@ ends_word [] = true
 ends_word (c ∷ ts) = not (is_alphanumeric c) && not (eqb c 40)
 
 -- a primary may begin here
-abbrev begins_primary : List ℕ → Bool
+abbrev pub begins_primary : List ℕ → Bool
 begins_primary [] = false
 begins_primary (c ∷ ts) = eqb c 40 || is_alphanumeric c
 
@@ -32,7 +32,7 @@ stops p (c ∷ ts) = not (p c)
 
 -- the texts of forms, with what is left
 
-assoc_3 : (a b c r : List ℕ) → a ++ b ++ c ++ r ≡ a ++ (b ++ (c ++ r))
+pub assoc_3 : (a b c r : List ℕ) → a ++ b ++ c ++ r ≡ a ++ (b ++ (c ++ r))
 assoc_3 a b c r = simp append_assoc
 
 assoc_4 : (a b c d r : List ℕ) → a ++ b ++ c ++ d ++ r ≡ a ++ (b ++ (c ++ (d ++ r)))
@@ -137,7 +137,7 @@ factor_begins : (f : FactorForm) (rest : List ℕ) → begins_primary (factor_fo
 factor_begins (plain p) rest = primary_begins p rest
 factor_begins (power p f) rest = rw (assoc_3 (primary_form_text p) (codes "**") (factor_form_text f) rest) (primary_begins p _)
 
-term_begins : (t : TermForm) (rest : List ℕ) → begins_primary (term_form_text t ++ rest) ≡ true
+pub term_begins : (t : TermForm) (rest : List ℕ) → begins_primary (term_form_text t ++ rest) ≡ true
 term_begins (single f) rest = factor_begins f rest
 term_begins (product t op f) rest = rw (assoc_3 (term_form_text t) (scaling_text op) (factor_form_text f) rest) (term_begins t _)
 

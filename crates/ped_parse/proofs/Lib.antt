@@ -1,5 +1,10 @@
 pub mod Again
 pub mod Basics
+pub mod CondAgain
+pub mod CondEquations
+pub mod CondSettled
+pub mod CondSound
+pub mod CondWhole
 pub mod Equations
 pub mod Settled
 pub mod Sound

@@ -41,7 +41,7 @@ term_long : (t : TermForm) → 0 < length (term_form_text t)
 term_long (single f) = factor_long f
 term_long (product t op f) = omega (arith, length-append (term_form_text t ++ scaling_text op) (factor_form_text f), factor_long f)
 
-expr_long : (e : ExprForm) → 0 < length (expr_form_text e)
+pub expr_long : (e : ExprForm) → 0 < length (expr_form_text e)
 expr_long (first s t) = omega (arith, length-append (sign_text s) (term_form_text t), term_long t)
 expr_long (sum e op t) = omega (arith, length-append (expr_form_text e ++ adding_text op) (term_form_text t), term_long t)
 
@@ -49,7 +49,7 @@ exprs_long : (f : ExprsForm) → 0 < length (exprs_form_text f)
 exprs_long (one e) = expr_long e
 exprs_long (more e rest) = omega (arith, length-append (expr_form_text e ++ codes ",") (exprs_form_text rest), exprs_long rest)
 
-part : (a b ts : List ℕ) → 0 < length a → ts ≡ a ++ b → length b < length ts
+pub part : (a b ts : List ℕ) → 0 < length a → ts ≡ a ++ b → length b < length ts
 part a b ts h e = omega (arith, ap length e, length-append a b)
 
 pub expr_shorter : (v : ℕ → ℕ) (n : ℕ) (ts : List ℕ) (x : ExprTree × List ℕ) → expr_at v n ts ≡ Some x → length x.1 < length ts

@@ -93,7 +93,7 @@ applied_found v x a e name h =
     ]
 
 -- one more part of the text
-read_on : (a b ts r : List ℕ) → ts ≡ b ++ r → a ++ ts ≡ a ++ b ++ r
+pub read_on : (a b ts r : List ℕ) → ts ≡ b ++ r → a ++ ts ≡ a ++ b ++ r
 read_on a b ts r p = ap (λ (y : List ℕ). a ++ y) p ∙ sym (append_assoc a b r)
 
 mutual

@@ -29,7 +29,7 @@ whole_again v text e r =
     rw p (ap (λ (u : ExprTree). Some (with_literals v u)) r.2)
 
 mutual
-  with_same : (e : ExprTree) → with_literals (λ n. n) e ≡ e
+  pub with_same : (e : ExprTree) → with_literals (λ n. n) e ≡ e
   with_same (Int n) = refl
   with_same (Var x) = refl
   with_same (Element x es) = ap (Element x) (all_with_same es)

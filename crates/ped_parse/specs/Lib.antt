@@ -1,3 +1,4 @@
+pub mod ConditionReading
 pub mod ExpressionReading
 pub mod ItemViews
 pub mod Saturated

@@ -1,15 +1,9 @@
 -- What statements say where each literal n is taken as v n: code keeps a literal in 32 bits, the greatest number of these for a greater one.
 use Rattle.std.specs.Prelude.{ℕ, List, map}
-use Rattle.ped_tree.specs.Tree.{ExprTree, CondTree, Rel, Not, And, Or, ItemTree, Value, Text, Head, StmtTree, StmtTrees, Assign, If, Do, Print, Read, Stop, Comment, no_stmts, more_stmts, BoundTree, DeclaratorTree, DeclTree, Program, Implicit, Integer, Dimension, Parameter, Save, Remark}
+use Rattle.ped_tree.specs.Tree.{ExprTree, ItemTree, Value, Text, Head, StmtTree, StmtTrees, Assign, If, Do, Print, Read, Stop, Comment, no_stmts, more_stmts, BoundTree, DeclaratorTree, DeclTree, Program, Implicit, Integer, Dimension, Parameter, Save, Remark}
 use Rattle.ped_tree.specs.Items.{Item, declares, saves_all, does, continues, logical_if, block_if, else_if, else_line, end_if, begins_do, keeps_private, ends_program, Reading, says, outside_profile, no_form, Entry}
 use Rattle.ped_parse.specs.ExpressionReading.{with_literals}
-
--- the condition with each literal n as v n
-abbrev pub cond_with_literals : (ℕ → ℕ) → CondTree → CondTree
-cond_with_literals v (Rel r a b) = Rel r (with_literals v a) (with_literals v b)
-cond_with_literals v (Not a) = Not (cond_with_literals v a)
-cond_with_literals v (And a b) = And (cond_with_literals v a) (cond_with_literals v b)
-cond_with_literals v (Or a b) = Or (cond_with_literals v a) (cond_with_literals v b)
+use Rattle.ped_parse.specs.ConditionReading.{cond_with_literals}
 
 -- an item of a PRINT
 abbrev pub item_with_literals : (ℕ → ℕ) → ItemTree → ItemTree

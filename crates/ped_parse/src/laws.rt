@@ -2,8 +2,9 @@
 //! contract is the law.
 
 ghost use Rattle.std.specs.Prelude.{◌≡◌, ℕ, List};
-ghost use Rattle.ped_tree.specs.Tree.{ExprTree};
+ghost use Rattle.ped_tree.specs.Tree.{ExprTree, CondTree};
 ghost use Rattle.ped_tree.specs.ExpressionForms.{ReadsExpr, ReadsReference};
+ghost use Rattle.ped_tree.specs.ConditionForms.{ReadsCond};
 
 /// A text reads as one expression at most.
 pub fn one_expression()
@@ -13,4 +14,9 @@ pub fn one_expression()
 /// A text reads as one scalar or element at most.
 pub fn one_reference()
     ensures { (text : List ℕ) (a b : ExprTree) → ReadsReference text a → ReadsReference text b → a ≡ b }
+{}
+
+/// A text reads as one condition at most.
+pub fn one_condition()
+    ensures { (text : List ℕ) (a b : CondTree) → ReadsCond text a → ReadsCond text b → a ≡ b }
 {}

@@ -6,5 +6,5 @@ mod laws;
 mod readings;
 
 pub use items::{DoStatement, Item, StatementReading};
-pub use laws::{one_expression, one_reference};
+pub use laws::{one_condition, one_expression, one_reference};
 pub use readings::Reading;

@@ -7,5 +7,6 @@ pub mod CondSound
 pub mod CondWhole
 pub mod Equations
 pub mod Settled
+pub mod Several
 pub mod Sound
 pub mod Whole

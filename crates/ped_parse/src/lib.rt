@@ -2,6 +2,7 @@
 #![tactic(auto)]
 
 mod items;
+mod keywords;
 mod laws;
 mod readings;
 

@@ -6,6 +6,7 @@ pub mod CondSettled
 pub mod CondSound
 pub mod CondWhole
 pub mod Equations
+pub mod Pieces
 pub mod Settled
 pub mod Several
 pub mod Sound

@@ -10,5 +10,6 @@ pub mod Equations
 pub mod Pieces
 pub mod Settled
 pub mod Several
+pub mod Simple
 pub mod Sound
 pub mod Whole

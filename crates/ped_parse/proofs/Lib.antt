@@ -7,6 +7,7 @@ pub mod CondSound
 pub mod CondWhole
 pub mod Declared
 pub mod Equations
+pub mod NoAssignment
 pub mod Pieces
 pub mod Settled
 pub mod Several

@@ -21,10 +21,11 @@ use Rattle.ped_parse.specs.StatementReading.{reference_of, item_of, is_reference
 use Rattle.ped_parse.proofs.Basics.{some_is, bind_some, stops_or_goes, chosen, guarded, after_is}
 use Rattle.ped_parse.proofs.Sound.{read_on}
 use Rattle.ped_parse.proofs.Equations.{primary_step, named_step, exprs_step}
-use Rattle.ped_parse.proofs.Again.{stops, behind_again, front_again, assoc_3}
+use Rattle.ped_parse.proofs.Again.{ends_word}
+use Rattle.ped_parse.proofs.NoAssignment.{word_alone}
 use Rattle.ped_parse.proofs.CondAgain.{Fails, cond_fails}
-use Rattle.ped_parse.proofs.Several.{shrinks, whole_is, each_found, each_again}
-use Rattle.ped_parse.proofs.Pieces.{expr_finds, expr_part, reference_found, reference_back, item_found, item_back, part_ends_word, name_alphanumeric}
+use Rattle.ped_parse.proofs.Several.{all_behind, shrinks, whole_is, each_found, each_again}
+use Rattle.ped_parse.proofs.Pieces.{ends_part, expr_finds, expr_part, reference_found, reference_back, item_found, item_back, part_ends_word, name_alphanumeric}
 use Rattle.ped_parse.proofs.Declared.{map_map, all_true}
 
 -- what a simple statement does, with literals; nothing for CONTINUE
@@ -124,3 +125,40 @@ simple_found v ts o h =
       | inl a ↦ worded_found v ts o a.1
       | inr a ↦ subst (λ (u : Option StmtTree). FoundSimple v ts u) (some_is (Some a.0) o a.2) (assignment_found v ts a.0 a.1)
     ]
+
+-- what is written so is read
+
+words_of : (v : ℕ → ℕ) (ts : List ℕ) (o : Option StmtTree) → assignment_of v ts ≡ None → worded_of v ts ≡ Some o → simple_of v ts ≡ Some o
+unfolding simple_of
+words_of v ts o a w = rw (a, w) refl
+
+print_again : (v : ℕ → ℕ) (items : List ItemForm) → worded_of v (simple_form_text (print items)) ≡ Some (simple_does v (print items))
+unfolding worded_of
+print_again v items =
+    let s = shrinks item_form_text (λ i. item_with_literals v (item_form_tree i)) (λ i. true) (item_of v) (item_found v) in
+    let p : each_behind_comma (item_of v) (all_behind item_form_text items) ≡ Some (map (item_with_literals v) (map item_form_tree items)) =
+    each_again item_form_text (λ i. item_with_literals v (item_form_tree i)) (λ i. true) ends_part (item_of v) s (item_back v) (λ r. refl) refl items (all_true items)
+    ∙ ap (λ (ts : List ItemTree). Some ts) (sym (map_map (item_with_literals v) item_form_tree items)) in
+    rw p refl
+
+read_again : (v : ℕ → ℕ) (items : List ReferenceForm) → worded_of v (simple_form_text (read items)) ≡ Some (simple_does v (read items))
+unfolding worded_of
+read_again v items =
+    let s = shrinks reference_form_text (λ r. with_literals v (reference_form_tree r)) (λ r. true) (reference_of v) (reference_found v) in
+    let p : each_behind_comma (reference_of v) (all_behind reference_form_text items) ≡ Some (map (with_literals v) (map reference_form_tree items)) =
+    each_again reference_form_text (λ r. with_literals v (reference_form_tree r)) (λ r. true) ends_word (reference_of v) s (reference_back v) (λ r. refl) refl items (all_true items)
+    ∙ ap (λ (ts : List ExprTree). Some ts) (sym (map_map (with_literals v) reference_form_tree items)) in
+    rw p refl
+
+pub simple_again : (v : ℕ → ℕ) (s : SimpleForm) → simple_of v (simple_form_text s) ≡ Some (simple_does v s)
+unfolding simple_of worded_of
+simple_again v (assignment r e) = rw (assignment_again v r e) refl
+simple_again v (print items) = words_of v (simple_form_text (print items)) _ (word_alone v (codes "PRINT") (codes "*" ++ all_behind item_form_text items) refl refl refl refl (λ q h. absurd cc)) (print_again v items)
+simple_again v (read items) = words_of v (simple_form_text (read items)) _ (word_alone v (codes "READ") (codes "*" ++ all_behind reference_form_text items) refl refl refl refl (λ q h. absurd cc)) (read_again v items)
+simple_again v stop = words_of v (codes "STOP") _ (word_alone v (codes "STOP") [] refl refl refl refl (λ q h. absurd cc)) refl
+simple_again v continue = words_of v (codes "CONTINUE") _ (word_alone v (codes "CONTINUE") [] refl refl refl refl (λ q h. absurd cc)) refl
+
+-- none of these statements
+pub not_simple : (v : ℕ → ℕ) (ts : List ℕ) → assignment_of v ts ≡ None → worded_of v ts ≡ None → simple_of v ts ≡ None
+unfolding simple_of
+not_simple v ts a w = rw (a, w) refl

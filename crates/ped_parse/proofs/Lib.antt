@@ -5,6 +5,7 @@ pub mod CondEquations
 pub mod CondSettled
 pub mod CondSound
 pub mod CondWhole
+pub mod Control
 pub mod Declared
 pub mod Equations
 pub mod NoAssignment

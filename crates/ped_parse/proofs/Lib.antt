@@ -14,4 +14,5 @@ pub mod Settled
 pub mod Several
 pub mod Simple
 pub mod Sound
+pub mod Statements
 pub mod Whole

@@ -82,11 +82,11 @@ several_found text tree good item found ts y h = several_at_found text tree good
 abbrev pub all_behind : {F : Type 0} → (F → List ℕ) → List F → List ℕ
 all_behind text fs = flat_map (λ f. codes "," ++ text f) fs
 
-first_good : (a b : Bool) → (a && b) ≡ true → a ≡ true
+pub first_good : (a b : Bool) → (a && b) ≡ true → a ≡ true
 first_good true b h = refl
 first_good false b h = absurd cc
 
-others_good : (a b : Bool) → (a && b) ≡ true → b ≡ true
+pub others_good : (a b : Bool) → (a && b) ≡ true → b ≡ true
 others_good true b h = h
 others_good false b h = absurd cc
 

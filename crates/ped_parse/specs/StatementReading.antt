@@ -155,9 +155,15 @@ abbrev pub first_keyword : List Keyword → List ℕ → Answer Keyword
 first_keyword [] text = None
 first_keyword (k ∷ ks) text = go_on (after (keyword_text k) text) (first_keyword ks text) (λ rest. Some (k, rest))
 
+-- the keywords, each before those that begin it
+abbrev pub all_keywords : List Keyword
+all_keywords =
+    keyword.Program ∷ keyword.Implicit ∷ keyword.Integer ∷ keyword.Dimension ∷ keyword.Parameter ∷ keyword.Save
+    ∷ keyword.If ∷ keyword.ElseIf ∷ keyword.Else ∷ keyword.EndIf ∷ keyword.Do ∷ keyword.ParallelDo ∷ keyword.Private ∷ keyword.End ∷ []
+
 -- the keyword at the front
 abbrev pub keyword_at : List ℕ → Answer Keyword
-keyword_at = first_keyword (keyword.Program ∷ keyword.Implicit ∷ keyword.Integer ∷ keyword.Dimension ∷ keyword.Parameter ∷ keyword.Save ∷ keyword.If ∷ keyword.ElseIf ∷ keyword.Else ∷ keyword.EndIf ∷ keyword.Do ∷ keyword.ParallelDo ∷ keyword.Private ∷ keyword.End ∷ [])
+keyword_at text = first_keyword all_keywords text
 
 -- the item, where nothing follows
 abbrev pub alone : Item → List ℕ → Option Item

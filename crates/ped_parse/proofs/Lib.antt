@@ -9,6 +9,7 @@ pub mod Control
 pub mod Declared
 pub mod Equations
 pub mod NoAssignment
+pub mod OneStatement
 pub mod Pieces
 pub mod Settled
 pub mod Several

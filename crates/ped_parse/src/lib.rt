@@ -4,8 +4,10 @@
 mod items;
 mod keywords;
 mod laws;
+mod laws_of_statements;
 mod readings;
 
 pub use items::{DoStatement, Item, StatementReading};
 pub use laws::{one_condition, one_expression, one_reference};
+pub use laws_of_statements::one_item;
 pub use readings::Reading;

@@ -9,8 +9,10 @@ pub mod Control
 pub mod Declared
 pub mod Equations
 pub mod NoAssignment
+pub mod OneReading
 pub mod OneStatement
 pub mod Pieces
+pub mod Profile
 pub mod Settled
 pub mod Several
 pub mod Simple

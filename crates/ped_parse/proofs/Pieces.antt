@@ -180,6 +180,9 @@ quoted_found true (c ∷ cs) x h =
       | inr a ↦ subst (λ (y : List ℕ × List ℕ). FoundQuoted true (c ∷ cs) y) (some_is ([], c ∷ cs) x a.1) refl
     ]
 
+pub constant_found : (ts : List ℕ) (x : List ℕ × List ℕ) → quoted_at false ts ≡ Some x → ts ≡ doubled x.0 ++ (39 ∷ x.1)
+constant_found ts x h = quoted_found false ts x h
+
 abbrev pub no_apostrophe : List ℕ → Bool
 no_apostrophe [] = true
 no_apostrophe (c ∷ cs) = not (eqb c 39)

@@ -102,6 +102,7 @@ one_of_words x u w s n m =
 
 -- each intrinsic function's name is a name
 intrinsic_name : (x : List ℕ) (f : Intrinsic) → intrinsic_of x ≡ Some f → is_name x ≡ true
+unfolding intrinsic_of
 intrinsic_name x f h =
     let least_or_none : Option Intrinsic = cond (same_word x (codes "MIN") || same_word x (codes "MIN0")) (Some Min) None in
     let greatest_or_less : Option Intrinsic = cond (same_word x (codes "MAX") || same_word x (codes "MAX0")) (Some Max) least_or_none in

@@ -1,11 +1,16 @@
 -- Steps of reading, and what stands first in a text.
-use Rattle.std.proofs.Common.{◌≡◌, ◌≢◌, ℕ, ◌+◌, ◌≤◌, Bool, true, false, cond, List, [], ◌∷◌, ◌++◌, length, Option, Some, None, refl, sym, ap, arith, inl, inr, ◌⊎◌, eqb, length-append}
-use Rattle.std.specs.Prelude.{codes}
+use Rattle.std.proofs.Common.{take, drop, ◌∙◌, ◌≡◌, ◌≢◌, ℕ, ◌+◌, ◌<◌, ◌≤◌, Bool, true, false, cond, List, [], ◌∷◌, ◌++◌, length, Option, Some, None, refl, sym, ap, arith, inl, inr, ◌⊎◌, eqb, length-append}
+use Rattle.std.specs.Prelude.{codes, MatchOption}
+use Rattle.std.specs.Borrow.{Bor}
+use Rattle.std.specs.Cmp.Lexicographic.{pointwise}
 use Rattle.std.specs.List.{list_all}
 use Rattle.std.proofs.lemmas.Bool.{eqb-true}
 use Rattle.std.proofs.lemmas.Bool.Decides.{Decides-eqb}
+use Rattle.std.proofs.lemmas.Slice.Eq.{strip_prefix_is}
 use Rattle.ped_tree.specs.ExpressionForms.{unsigned, positive, negative, Adding, add, subtract, Scaling, multiply, divide, sign_text, adding_text, scaling_text}
-use Rattle.ped_parse.specs.Scanning.{◌>>=◌, go_on, front, behind, after, sign_at, adding_at, scaling_at}
+use Rattle.ped_base.specs.Letters.{is_digit}
+use Rattle.ped_parse.specs.Views.{lent}
+use Rattle.ped_parse.specs.Scanning.{◌>>=◌, go_on, front, behind, first_is, after, sign_at, adding_at, scaling_at}
 
 pub some_is : {A : Type 0} (x y : A) → Some x ≡ Some y → x ≡ y
 some_is x y e = cc
@@ -117,3 +122,12 @@ adding_len text x e = omega (arith, ap length (adding_is text x e), length-appen
 
 pub scaling_len : (text : List ℕ) (x : Scaling × List ℕ) → scaling_at text ≡ Some x → length x.1 + 1 ≡ length text
 scaling_len text x e = omega (arith, ap length (scaling_is text x e), length-append (scaling_text x.0) x.1, scaling_long x.0)
+
+-- what follows a prefix, as a slice tells it
+pub stripped : (text prefix : List ℕ) (r : Option (Bor (List ℕ))) → MatchOption r (pointwise eqb (take (length prefix) text) prefix ≡ false) (λ x. (pointwise eqb (take (length prefix) text) prefix ≡ true) × (x.now ≡ drop (length prefix) text) × (length x.now + length prefix ≡ length text)) → lent r ≡ after prefix text
+stripped text prefix None h = sym (after_none prefix text (strip_prefix_is Decides-eqb text prefix None h))
+stripped text prefix (Some x) h = sym (ap (after prefix) (strip_prefix_is Decides-eqb text prefix (Some x) h) ∙ after_again prefix x.now)
+
+pub behind_digits : (text : List ℕ) → first_is is_digit text ≡ true → length (behind is_digit text) < length text
+behind_digits [] h = absurd cc
+behind_digits (c ∷ cs) h = rw h (omega (arith, behind_len is_digit cs))

@@ -8,6 +8,8 @@ pub mod CondWhole
 pub mod Control
 pub mod Declared
 pub mod Equations
+pub mod Lists
+pub mod Literals
 pub mod NoAssignment
 pub mod OneReading
 pub mod OneStatement

@@ -6,3 +6,4 @@ pub mod ProfileReading
 pub mod Saturated
 pub mod Scanning
 pub mod StatementReading
+pub mod Views

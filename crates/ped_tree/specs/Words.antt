@@ -26,7 +26,7 @@ abbrev pub same_word : List ℕ → List ℕ → Bool
 same_word = pointwise ◌==◌
 
 -- the intrinsic function of a name, where it is MOD, ABS, IABS, MAX, MAX0, MIN or MIN0
-abbrev pub intrinsic_of : List ℕ → Option Intrinsic
+unfoldable pub intrinsic_of : List ℕ → Option Intrinsic
 intrinsic_of x =
     if same_word x (codes "MOD") then Some Mod
     else if same_word x (codes "ABS") || same_word x (codes "IABS") then Some Abs

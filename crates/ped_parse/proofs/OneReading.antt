@@ -8,9 +8,9 @@ use Rattle.ped_parse.specs.Scanning.{go_on}
 use Rattle.ped_parse.specs.Saturated.{says_with_literals, reading_with_literals}
 use Rattle.ped_parse.specs.StatementReading.{statement_of}
 use Rattle.ped_parse.specs.ProfileReading.{is_outside, reading_in}
-use Rattle.ped_parse.proofs.Statements.{statement_found}
+use Rattle.ped_parse.proofs.EachStatement.{statement_found}
 use Rattle.ped_parse.proofs.OneStatement.{item_again}
-use Rattle.ped_parse.proofs.Profile.{outside_found, outside_again}
+use Rattle.ped_parse.proofs.Outside.{outside_found, outside_again}
 
 -- the reading of the text that a reading with literals comes from
 abbrev pub IsReadAs : (ℕ → ℕ) → List ℕ → Reading → Type 0

@@ -11,7 +11,7 @@ use Rattle.ped_parse.specs.StatementReading.{statement_of}
 use Rattle.ped_parse.proofs.Basics.{some_is}
 use Rattle.ped_parse.proofs.Whole.{with_same}
 use Rattle.ped_parse.proofs.CondWhole.{cond_with_same}
-use Rattle.ped_parse.proofs.Statements.{statement_again}
+use Rattle.ped_parse.proofs.EachStatement.{statement_again}
 
 -- each literal as it is
 

@@ -1,5 +1,5 @@
 -- Names, numerals, references, constants and items: what is read is written so, and what is written so is read.
-use Rattle.std.proofs.Common.{◌≡◌, ◌≢◌, ℕ, Bool, true, false, cond, List, [], ◌∷◌, ◌++◌, Option, Some, None, refl, sym, ap, subst, ◌∙◌, append_assoc, arith, inl, inr, eqb}
+use Rattle.std.proofs.Common.{◌≡◌, ◌≢◌, ℕ, Bool, true, false, cond, List, [], ◌∷◌, ◌++◌, Option, Some, None, refl, sym, ap, subst, ◌∙◌, append_assoc, arith, inl, inr, eqb, ◌<◌, length, length-append}
 use Rattle.std.specs.Prelude.{codes, ◌||◌, ◌&&◌, not}
 use Rattle.std.specs.List.{list_all, flat_map}
 use Rattle.std.proofs.lemmas.Bool.{eqb-true}
@@ -237,3 +237,13 @@ item_back v (a_value e) rest g h = rw (expr_is_no_constant v e rest h, expr_part
 item_back v (a_text text) rest g h =
     let q = quoted_again text rest (part_no_apostrophe rest h) in
     ap (λ (w : List ℕ). item_of v (39 ∷ w)) (append_assoc (doubled text) (39 ∷ []) rest) ∙ rw q refl
+
+-- a name is taken off the front
+name_long : (x : List ℕ) → is_name x ≡ true → 0 < length x
+name_long [] h = absurd cc
+name_long (c ∷ cs) h = omega arith
+
+pub name_shorter : (ts : List ℕ) (x : List ℕ × List ℕ) → name_at ts ≡ Some x → length x.1 < length ts
+name_shorter ts x h =
+    let f = name_found ts x h in
+    omega (arith, ap length f.3, length-append f.0 x.1, name_long f.0 f.1)

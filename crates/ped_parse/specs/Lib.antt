@@ -6,4 +6,5 @@ pub mod ProfileReading
 pub mod Saturated
 pub mod Scanning
 pub mod StatementReading
+pub mod StatementViews
 pub mod Views

@@ -7,6 +7,8 @@ mod items;
 mod keywords;
 mod laws;
 mod laws_of_statements;
+mod loops;
+mod names;
 mod operators;
 mod readings;
 mod scanning;

@@ -1,5 +1,5 @@
 -- Names, numerals, references, constants and items: what is read is written so, and what is written so is read.
-use Rattle.std.proofs.Common.{◌≡◌, ◌≢◌, ℕ, Bool, true, false, cond, List, [], ◌∷◌, ◌++◌, Option, Some, None, refl, sym, ap, subst, ◌∙◌, append_assoc, arith, inl, inr, eqb, ◌<◌, length, length-append}
+use Rattle.std.proofs.Common.{◌≡◌, ◌≢◌, ℕ, Bool, true, false, cond, List, [], ◌∷◌, ◌++◌, Option, Some, None, refl, sym, ap, subst, ◌∙◌, append_assoc, arith, inl, inr, eqb}
 use Rattle.std.specs.Prelude.{codes, ◌||◌, ◌&&◌, not}
 use Rattle.std.specs.List.{list_all, flat_map}
 use Rattle.std.proofs.lemmas.Bool.{eqb-true}
@@ -19,7 +19,7 @@ use Rattle.ped_parse.proofs.Basics.{some_is, bind_some, stops_or_goes, chosen, g
 use Rattle.ped_parse.proofs.Sound.{FoundExpr, FoundPrimary, expr_found, primary_found, read_on}
 use Rattle.ped_parse.proofs.Equations.{expr_step, term_step, factor_step, primary_step, named_step}
 use Rattle.ped_parse.proofs.Again.{ends_word, stops, front_again, behind_again, ends_alphanumeric, assoc_4, expr_again, sums_stop, reference_again}
-use Rattle.ped_parse.proofs.Several.{Finds, IsReadBack}
+use Rattle.ped_parse.proofs.Several.{Shrinks, Finds, IsReadBack, shrinks}
 
 -- a part ends here: at the end, at a comma or at a closing parenthesis
 abbrev pub ends_part : List ℕ → Bool
@@ -238,12 +238,22 @@ item_back v (a_text text) rest g h =
     let q = quoted_again text rest (part_no_apostrophe rest h) in
     ap (λ (w : List ℕ). item_of v (39 ∷ w)) (append_assoc (doubled text) (39 ∷ []) rest) ∙ rw q refl
 
--- a name is taken off the front
-name_long : (x : List ℕ) → is_name x ≡ true → 0 < length x
-name_long [] h = absurd cc
-name_long (c ∷ cs) h = omega arith
+pub names_shrink : Shrinks name_at
+names_shrink = shrinks (λ x. x) (λ x. x) is_name name_at name_found
 
-pub name_shorter : (ts : List ℕ) (x : List ℕ × List ℕ) → name_at ts ≡ Some x → length x.1 < length ts
-name_shorter ts x h =
-    let f = name_found ts x h in
-    omega (arith, ap length f.3, length-append f.0 x.1, name_long f.0 f.1)
+-- a name, as the code takes it off the front
+
+pub name_read : (ts word rest x : List ℕ) → word ≡ front is_alphanumeric ts → rest ≡ behind is_alphanumeric ts → Some x ≡ cond (is_name word) (Some word) None → name_at ts ≡ Some (x, rest)
+name_read ts word rest x w r h =
+    let k = guarded (is_name word) (Some word) x (sym h) in
+    let n : is_name (front is_alphanumeric ts) ≡ true = ap is_name (sym w) ∙ k.0 in
+    rw n (ap (λ (y : List ℕ). Some (y, behind is_alphanumeric ts)) (sym w ∙ some_is word x k.1) ∙ ap (λ (y : List ℕ). Some (x, y)) (sym r))
+
+no_name : (b : Bool) (word : List ℕ) → ◌≡◌ {A = Option (List ℕ)} None (cond b (Some word) None) → b ≡ false
+no_name true word h = absurd cc
+no_name false word h = refl
+
+pub name_unread : (ts word : List ℕ) → word ≡ front is_alphanumeric ts → None ≡ cond (is_name word) (Some word) None → name_at ts ≡ None
+name_unread ts word w h =
+    let n : is_name (front is_alphanumeric ts) ≡ false = ap is_name (sym w) ∙ no_name (is_name word) word h in
+    rw n refl

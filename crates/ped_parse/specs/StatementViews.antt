@@ -14,11 +14,6 @@ use Rattle.ped_parse.specs.declared.loops.Control.{Control}
 use Rattle.ped_parse.specs.Scanning.{Answer}
 use Rattle.ped_parse.specs.StatementReading.{head}
 
--- what is found at the front and the text behind it, where there is one
-abbrev pub found_and_rest : {A : Type 0} → Option (A × Bor (List ℕ)) → Answer A
-found_and_rest None = None
-found_and_rest (Some x) = Some (x.0, x.1.now)
-
 -- a value and the text behind it
 abbrev pub value_and_rest : {A : Type 0} → A × Bor (List ℕ) → A × List ℕ
 value_and_rest x = (x.0, x.1.now)

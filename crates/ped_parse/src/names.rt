@@ -1,29 +1,15 @@
-//! Names at the front of a text and lists of names (ANSI X3.9-1978, section 2.2), and the ends of texts.
+//! Lists of names (ANSI X3.9-1978, section 2.2), and the ends of texts.
 
-ghost use Rattle.std.specs.Prelude.{◌≡◌, ◌<◌, IfSome, Some, None, length, if◌then◌else◌};
+ghost use Rattle.std.specs.Prelude.{◌≡◌, Some, None, if◌then◌else◌};
 ghost use Rattle.ped_parse.specs.Listing as Listing;
 ghost use Rattle.ped_parse.specs.Listing.{whole, several};
 ghost use Rattle.ped_parse.specs.StatementReading.{name_at};
-ghost use Rattle.ped_parse.specs.StatementViews.{found_and_rest};
 ghost use Rattle.ped_parse.specs.Views.{Gives};
 
 use crate::readings::Failure;
 use crate::scanning::{after, name_of, split_word};
-use ped_base::{Name, Names};
+use ped_base::Names;
 use std::alloc::Global;
-
-/// The name at the front, and what follows it.
-#[tactic(auto, using(crate::proofs::Pieces::name_shorter))]
-pub fn name(text: &[u8]) -> Option<(Name, &[u8])>
-    ensures is { found_and_rest result ≡ name_at text.now }
-    ensures shorter { IfSome result (λ x. length x.1.now < length text.now) }
-{
-    let (word, rest) = split_word(text);
-    match name_of(word) {
-        Some(name) => Some((name, rest)),
-        None => None,
-    }
-}
 
 /// The names with a comma between two that the whole text is.
 pub fn names(alloc: Global, text: &[u8]) -> Result<Names, Failure>
@@ -32,7 +18,8 @@ pub fn names(alloc: Global, text: &[u8]) -> Result<Names, Failure>
     let mut names = Names::new(alloc);
     let mut left = text;
     loop {
-        let Some((next, rest)) = name(left) else {
+        let (word, rest) = split_word(left);
+        let Some(next) = name_of(word) else {
             return Err(Failure::NoForm);
         };
         names.push(next)?;

@@ -1,7 +1,7 @@
 -- Parts of declarations: what is read is written so, and what is written so is read.
 use Rattle.std.proofs.Common.{◌≡◌, ℕ, Bool, true, false, cond, List, [], ◌∷◌, ◌++◌, map, Option, Some, None, refl, sym, ap, subst, ◌∙◌, append_assoc, arith, inl, inr, eqb}
 use Rattle.std.specs.Prelude.{codes, ◌||◌, ◌&&◌, not}
-use Rattle.std.specs.List.{list_all, join_by}
+use Rattle.std.specs.List.{list_all, flat_map, join_by}
 use Rattle.std.proofs.lemmas.Bool.{eqb-true}
 use Rattle.ped_base.specs.Letters.{is_alphanumeric}
 use Rattle.ped_tree.specs.Tree.{ExprTree, Int, BoundTree, DeclaratorTree}
@@ -12,11 +12,11 @@ use Rattle.ped_parse.specs.Scanning.{◌>>=◌, go_on, after}
 use Rattle.ped_parse.specs.ExpressionReading.{with_literals, expr_of}
 use Rattle.ped_parse.specs.Saturated.{bound_with_literals, declarator_with_literals, value_with_literals}
 use Rattle.ped_parse.specs.Listing.{several}
-use Rattle.ped_parse.specs.StatementReading.{name_at, bound, bound_of, declarator, dimensions_of, array_of, declarator_of, value_of}
+use Rattle.ped_parse.specs.StatementReading.{name_at, bound, bound_of, declarator, dimensions_of, is_array, declarator_of, value_of}
 use Rattle.ped_parse.proofs.Basics.{some_is, bind_some, stops_or_goes, after_is}
 use Rattle.ped_parse.proofs.Sound.{read_on}
 use Rattle.ped_parse.proofs.Again.{ends_word, stops, ends_alphanumeric, ends_call, assoc_3, assoc_4, expr_again, sums_stop}
-use Rattle.ped_parse.proofs.Several.{Finds, IsReadBack, shrinks, several_found, several_again}
+use Rattle.ped_parse.proofs.Several.{Shrinks, Finds, IsReadBack, listed, several_step, shrinks, several_found, several_again}
 use Rattle.ped_parse.proofs.Pieces.{ends_part, part_ends_word, expr_finds, expr_part, name_found, name_back}
 
 -- lists of trees with literals
@@ -87,25 +87,8 @@ dimensions_again v x b bs rest =
     let p = several_again bound_form_text (λ b. bound_with_literals v (bound_form_tree b)) (λ b. true) ends_part (bound_of v) s (bound_back v) (λ r. refl) b bs (codes ")" ++ rest) (all_true (b ∷ bs)) refl refl in
     rw p (ap (λ (ts : List BoundTree). Some (declarator x ts, rest)) (bounds_tree v (b ∷ bs)))
 
-pub array_found : (v : ℕ → ℕ) → Finds array_form_text (λ a. declarator_with_literals v (array_form_tree a)) (λ a. true) (array_of v)
-unfolding array_of FoundArray
-array_found v ts y h =
-    let a = bind_some (name_at ts) (λ x. after (codes "(") x.1 >>= λ q. dimensions_of v x.0 q) y h in
-    let b = bind_some (after (codes "(") a.0.1) (λ q. dimensions_of v a.0.0 q) y a.2 in
-    let n = name_found ts a.0 a.1 in
-    let is : is_name a.0.0 ≡ true = ap is_name (sym n.2) ∙ n.1 in
-    let all : ts ≡ a.0.0 ++ (codes "(" ++ b.0) = n.3 ∙ ap (λ (w : List ℕ). w ++ a.0.1) n.2 ∙ ap (λ (w : List ℕ). a.0.0 ++ w) (after_is (codes "(") a.0.1 b.0 b.1) in
-    subst (λ (w : List ℕ). FoundArray v w y) (sym all) (dimensions_found v a.0.0 b.0 is y b.2)
-
 array_begins : (v : ℕ → ℕ) (a : ArrayForm) (rest : List ℕ) → (x : List ℕ) × (q : List ℕ) × (is_name x ≡ true) × (array_form_text a ++ rest ≡ x ++ (codes "(" ++ q)) × (dimensions_of v x q ≡ Some (declarator_with_literals v (array_form_tree a), rest))
 array_begins v (an_array x is b bs) rest = (x, join_by bound_form_text (codes ",") (b ∷ bs) ++ (codes ")" ++ rest), is, assoc_4 x (codes "(") (join_by bound_form_text (codes ",") (b ∷ bs)) (codes ")") rest, dimensions_again v x b bs rest)
-
-pub array_back : (v : ℕ → ℕ) (ends : List ℕ → Bool) → IsReadBack array_form_text (λ a. declarator_with_literals v (array_form_tree a)) (λ a. true) ends (array_of v)
-unfolding array_of
-array_back v ends a rest g h =
-    let p = array_begins v a rest in
-    let n = name_back p.0 (codes "(" ++ p.1) p.2 refl in
-    ap (array_of v) p.3 ∙ rw n p.4
 
 -- declared names
 
@@ -135,6 +118,29 @@ declarator_back v (of_array a) rest g h =
     let n = name_back p.0 (codes "(" ++ p.1) p.2 refl in
     ap (declarator_of v) p.3 ∙ rw n p.4
 
+-- arrays alone
+
+pub arrays_found : (v : ℕ → ℕ) (ds : List DeclaratorForm) → list_all is_array (map (λ d. declarator_with_literals v (declarator_form_tree d)) ds) ≡ true → (arrays : List ArrayForm) × (map of_array arrays ≡ ds)
+arrays_found v [] h = ([], refl)
+arrays_found v (a_scalar x is ∷ ds) h = absurd cc
+arrays_found v (of_array (an_array x is b bs) ∷ ds) h =
+    let r = arrays_found v ds h in
+    (an_array x is b bs ∷ r.0, ap (λ (fs : List DeclaratorForm). of_array (an_array x is b bs) ∷ fs) r.1)
+
+pub are_arrays : (v : ℕ → ℕ) (arrays : List ArrayForm) → list_all is_array (map (λ d. declarator_with_literals v (declarator_form_tree d)) (map of_array arrays)) ≡ true
+are_arrays v [] = refl
+are_arrays v (an_array x is b bs ∷ rest) = are_arrays v rest
+
+arrays_behind : (arrays : List ArrayForm) → flat_map (λ d. codes "," ++ declarator_form_text d) (map of_array arrays) ≡ flat_map (λ a. codes "," ++ array_form_text a) arrays
+arrays_behind [] = refl
+arrays_behind (a ∷ rest) = ap (λ (w : List ℕ). codes "," ++ array_form_text a ++ w) (arrays_behind rest)
+
+pub arrays_text : (a : ArrayForm) (rest : List ArrayForm) → join_by declarator_form_text (codes ",") (map of_array (a ∷ rest)) ≡ join_by array_form_text (codes ",") (a ∷ rest)
+arrays_text a rest = ap (λ (w : List ℕ). array_form_text a ++ w) (arrays_behind rest)
+
+pub arrays_tree : (arrays : List ArrayForm) → map declarator_form_tree (map of_array arrays) ≡ map array_form_tree arrays
+arrays_tree arrays = map_map declarator_form_tree of_array arrays
+
 -- named constants
 
 pub value_found : (v : ℕ → ℕ) → Finds constant_form_text (λ c. value_with_literals v (constant_form_tree c)) (λ c. true) (value_of v)
@@ -157,3 +163,25 @@ value_back v (a_constant x is e) rest g h =
     let n = name_back x (codes "=" ++ (expr_form_text e ++ rest)) is refl in
     let p = expr_part v e rest h in
     ap (value_of v) (assoc_3 x (codes "=") (expr_form_text e) rest) ∙ rw (n, p) refl
+
+-- no part leaves more than there was
+
+pub bounds_shrink : (v : ℕ → ℕ) → Shrinks (bound_of v)
+bounds_shrink v = shrinks bound_form_text (λ b. bound_with_literals v (bound_form_tree b)) (λ b. true) (bound_of v) (bound_found v)
+
+pub declarators_shrink : (v : ℕ → ℕ) → Shrinks (declarator_of v)
+declarators_shrink v = shrinks declarator_form_text (λ d. declarator_with_literals v (declarator_form_tree d)) (λ d. true) (declarator_of v) (declarator_found v)
+
+pub values_shrink : (v : ℕ → ℕ) → Shrinks (value_of v)
+values_shrink v = shrinks constant_form_text (λ c. value_with_literals v (constant_form_tree c)) (λ c. true) (value_of v) (value_found v)
+
+-- a step of a list
+
+pub bounds_step : (v : ℕ → ℕ) (ts : List ℕ) → several (bound_of v) ts ≡ (bound_of v ts >>= listed (several (bound_of v)))
+bounds_step v ts = several_step (bound_of v) (bounds_shrink v) ts
+
+pub declarators_step : (v : ℕ → ℕ) (ts : List ℕ) → several (declarator_of v) ts ≡ (declarator_of v ts >>= listed (several (declarator_of v)))
+declarators_step v ts = several_step (declarator_of v) (declarators_shrink v) ts
+
+pub values_step : (v : ℕ → ℕ) (ts : List ℕ) → several (value_of v) ts ≡ (value_of v ts >>= listed (several (value_of v)))
+values_step v ts = several_step (value_of v) (values_shrink v) ts

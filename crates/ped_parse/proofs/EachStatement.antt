@@ -10,7 +10,7 @@ use Rattle.ped_tree.specs.Tree.{ExprTree, CondTree, StmtTree, StmtTrees, Declara
 use Rattle.ped_tree.specs.Words.{is_name, same_word}
 use Rattle.ped_tree.specs.ConditionForms.{CondForm, cond_form_text, cond_form_tree}
 use Rattle.ped_tree.specs.Items.{Item, declares, saves_all, does, continues, logical_if, block_if, else_if, else_line, end_if, begins_do, keeps_private, ends_program}
-use Rattle.ped_tree.specs.StatementForms.{are_names, is_label, DeclaratorForm, ArrayForm, ConstantForm, SimpleForm, ControlForm, StatementForm, program, implicit, integer, dimension, parameter, save, save_all, simple, if_simple, if_then, else_if_then, else_alone, end_of_if, do_loop, private, end, declarator_form_text, array_form_text, constant_form_text, simple_form_text, control_form_text, statement_form_text, behind_if, declarator_form_tree, array_form_tree, constant_form_tree, control_form_head, statement_item}
+use Rattle.ped_tree.specs.StatementForms.{are_names, is_label, DeclaratorForm, of_array, ArrayForm, ConstantForm, SimpleForm, ControlForm, StatementForm, program, implicit, integer, dimension, parameter, save, save_all, simple, if_simple, if_then, else_if_then, else_alone, end_of_if, do_loop, private, end, declarator_form_text, array_form_text, constant_form_text, simple_form_text, control_form_text, statement_form_text, behind_if, declarator_form_tree, array_form_tree, constant_form_tree, control_form_head, statement_item}
 use Rattle.ped_parse.specs.declared.keywords.Keyword.{Keyword}
 use Rattle.ped_parse.specs.declared.keywords.Keyword.TheVariants as keyword
 use Rattle.ped_parse.specs.Scanning.{◌>>=◌, go_on, after}
@@ -18,7 +18,7 @@ use Rattle.ped_parse.specs.ExpressionReading.{with_literals}
 use Rattle.ped_parse.specs.ConditionReading.{cond_with_literals, cond_of}
 use Rattle.ped_parse.specs.Saturated.{declarator_with_literals, value_with_literals, decl_with_literals, stmts_with_literals, says_with_literals}
 use Rattle.ped_parse.specs.Listing.{is_end, whole, several}
-use Rattle.ped_parse.specs.StatementReading.{name_at, declarator_of, array_of, value_of, assignment_of, worded_of, simple_of, behind_logical, simply, if_of, else_if_of, do_of, keyword_text, all_keywords, first_keyword, keyword_at, alone, statement_behind, keyword_statement_of, statement_of}
+use Rattle.ped_parse.specs.StatementReading.{name_at, is_array, declarator_of, value_of, assignment_of, worded_of, simple_of, behind_logical, simply, if_of, else_if_of, do_of, keyword_text, all_keywords, first_keyword, keyword_at, alone, statement_behind, keyword_statement_of, statement_of}
 use Rattle.ped_parse.proofs.Basics.{some_is, bind_some, stops_or_goes, chosen, guarded, after_is}
 use Rattle.ped_parse.proofs.Sound.{read_on}
 use Rattle.ped_parse.proofs.Again.{stops, assoc_3}
@@ -27,7 +27,7 @@ use Rattle.ped_parse.proofs.CondAgain.{cond_again, ors_stop}
 use Rattle.ped_parse.proofs.NoAssignment.{long_word, word_alone, condition_behind}
 use Rattle.ped_parse.proofs.Several.{first_good, shrinks, several_found, several_again, whole_several_found, whole_several_again}
 use Rattle.ped_parse.proofs.Pieces.{ends_part, name_found, name_back, name_alphanumeric}
-use Rattle.ped_parse.proofs.Declared.{map_map, all_true, array_found, array_back, declarator_found, declarator_back, value_found, value_back}
+use Rattle.ped_parse.proofs.Declared.{map_map, all_true, arrays_found, are_arrays, arrays_text, arrays_tree, declarators_shrink, declarator_found, declarator_back, value_found, value_back}
 use Rattle.ped_parse.proofs.Simple.{simple_does, simple_says, simple_behind, simple_found, simple_again, not_simple}
 use Rattle.ped_parse.proofs.Control.{do_found, do_again, do_assigns_nothing}
 
@@ -131,11 +131,19 @@ integers_found v ts i h =
     let f = whole_several_found declarator_form_text (λ d. declarator_with_literals v (declarator_form_tree d)) (λ d. true) (declarator_of v) (declarator_found v) ts a.0 a.1 in
     (integer f.0 f.1, ap (λ (w : List ℕ). codes "INTEGER" ++ w) f.4, ap (λ (ds : List DeclaratorTree). declares (plain.Integer ds)) (map_map (declarator_with_literals v) declarator_form_tree (f.0 ∷ f.1) ∙ f.3) ∙ some_is (declares (plain.Integer a.0)) i a.2)
 
-dimensions_found : (v : ℕ → ℕ) (ts : List ℕ) (i : Item) → (whole (several (array_of v) ts) >>= λ ds. Some (declares (plain.Dimension ds))) ≡ Some i → FoundStatement v (codes "DIMENSION" ++ ts) i
+dimension_of : (v : ℕ → ℕ) (arrays : List ArrayForm) (d : DeclaratorForm) (ds : List DeclaratorForm) (ts : List ℕ) (i : Item) → map of_array arrays ≡ d ∷ ds → join_by declarator_form_text (codes ",") (d ∷ ds) ≡ ts → declares (plain.Dimension (map (declarator_with_literals v) (map declarator_form_tree (d ∷ ds)))) ≡ i → FoundStatement v (codes "DIMENSION" ++ ts) i
+dimension_of v [] d ds ts i h t u = absurd cc
+dimension_of v (a ∷ rest) d ds ts i h t u =
+    (dimension a rest, ap (λ (w : List ℕ). codes "DIMENSION" ++ w) (sym (arrays_text a rest) ∙ ap (join_by declarator_form_text (codes ",")) h ∙ t),
+    ap (λ (fs : List DeclaratorTree). declares (plain.Dimension (map (declarator_with_literals v) fs))) (sym (arrays_tree (a ∷ rest)) ∙ ap (map declarator_form_tree) h) ∙ u)
+
+dimensions_found : (v : ℕ → ℕ) (ts : List ℕ) (i : Item) → (whole (several (declarator_of v) ts) >>= λ ds. cond (list_all is_array ds) (Some (declares (plain.Dimension ds))) None) ≡ Some i → FoundStatement v (codes "DIMENSION" ++ ts) i
 dimensions_found v ts i h =
-    let a = bind_some (whole (several (array_of v) ts)) (λ ds. Some (declares (plain.Dimension ds))) i h in
-    let f = whole_several_found array_form_text (λ d. declarator_with_literals v (array_form_tree d)) (λ d. true) (array_of v) (array_found v) ts a.0 a.1 in
-    (dimension f.0 f.1, ap (λ (w : List ℕ). codes "DIMENSION" ++ w) f.4, ap (λ (ds : List DeclaratorTree). declares (plain.Dimension ds)) (map_map (declarator_with_literals v) array_form_tree (f.0 ∷ f.1) ∙ f.3) ∙ some_is (declares (plain.Dimension a.0)) i a.2)
+    let a = bind_some (whole (several (declarator_of v) ts)) (λ ds. cond (list_all is_array ds) (Some (declares (plain.Dimension ds))) None) i h in
+    let g = guarded (list_all is_array a.0) (Some (declares (plain.Dimension a.0))) i a.2 in
+    let f = whole_several_found declarator_form_text (λ d. declarator_with_literals v (declarator_form_tree d)) (λ d. true) (declarator_of v) (declarator_found v) ts a.0 a.1 in
+    let arrays = arrays_found v (f.0 ∷ f.1) (ap (list_all is_array) f.3 ∙ g.0) in
+    dimension_of v arrays.0 f.0 f.1 ts i arrays.1 f.4 (ap (λ (ds : List DeclaratorTree). declares (plain.Dimension ds)) (map_map (declarator_with_literals v) declarator_form_tree (f.0 ∷ f.1) ∙ f.3) ∙ some_is (declares (plain.Dimension a.0)) i g.1)
 
 parameters_found : (v : ℕ → ℕ) (ts : List ℕ) (i : Item) → (several (value_of v) ts >>= λ y. cond (same_word y.1 (codes ")")) (Some (declares (plain.Parameter y.0))) None) ≡ Some i → FoundStatement v (codes "PARAMETER(" ++ ts) i
 parameters_found v ts i h =
@@ -292,6 +300,18 @@ do_read v false label is c =
 closed_word : (v : ℕ → ℕ) (k : Keyword) (word : List ℕ) (i : Item) → list_all is_alphanumeric word ≡ true → assignment_of v (word ++ []) ≡ None → worded_of v word ≡ None → keyword_at word ≡ Some (k, []) → statement_behind v k [] ≡ Some i → statement_of v word ≡ Some i
 closed_word v k word i a n w at h = by_keyword v k word [] i (short_text v word a n w) at h
 
+dimension_again : (v : ℕ → ℕ) (a : ArrayForm) (rest : List ArrayForm) → statement_of v (statement_form_text (dimension a rest)) ≡ Some (says_with_literals v (statement_item (dimension a rest)))
+unfolding statement_behind worded_of
+dimension_again v a rest =
+    let ts = join_by declarator_form_text (codes ",") (map of_array (a ∷ rest)) in
+    let p = whole_several_again declarator_form_text (λ d. declarator_with_literals v (declarator_form_tree d)) (λ d. true) ends_part (declarator_of v) (declarators_shrink v) (declarator_back v) (λ r. refl) refl (of_array a) (map of_array rest) (all_true (map of_array (a ∷ rest))) in
+    let arrays = are_arrays v (a ∷ rest) in
+    let same : map (λ d. declarator_with_literals v (declarator_form_tree d)) (map of_array (a ∷ rest)) ≡ map (declarator_with_literals v) (map array_form_tree (a ∷ rest)) =
+    sym (map_map (declarator_with_literals v) declarator_form_tree (map of_array (a ∷ rest))) ∙ ap (map (declarator_with_literals v)) (arrays_tree (a ∷ rest)) in
+    let b : statement_behind v keyword.Dimension ts ≡ Some (declares (plain.Dimension (map (declarator_with_literals v) (map array_form_tree (a ∷ rest))))) = rw (p, arrays) (ap (λ (ds : List DeclaratorTree). Some (declares (plain.Dimension ds))) same) in
+    ap (λ (w : List ℕ). statement_of v (codes "DIMENSION" ++ w)) (sym (arrays_text a rest))
+    ∙ by_keyword v keyword.Dimension (codes "DIMENSION" ++ ts) ts _ (long_text v (codes "DIMENSION") ts refl (omega arith) refl) refl b
+
 -- a statement's text is read as its item
 pub statement_again : (v : ℕ → ℕ) (f : StatementForm) → statement_of v (statement_form_text f) ≡ Some (says_with_literals v (statement_item f))
 unfolding statement_of statement_behind worded_of
@@ -304,13 +324,7 @@ statement_again v (integer d ds) =
     whole_several_again declarator_form_text (λ d. declarator_with_literals v (declarator_form_tree d)) (λ d. true) ends_part (declarator_of v) s (declarator_back v) (λ r. refl) refl d ds (all_true (d ∷ ds))
     ∙ ap (λ (xs : List DeclaratorTree). Some xs) (sym (map_map (declarator_with_literals v) declarator_form_tree (d ∷ ds))) in
     by_keyword v keyword.Integer (codes "INTEGER" ++ ts) ts _ (long_text v (codes "INTEGER") ts refl (omega arith) refl) refl (rw p refl)
-statement_again v (dimension a as_) =
-    let ts = join_by array_form_text (codes ",") (a ∷ as_) in
-    let s = shrinks array_form_text (λ d. declarator_with_literals v (array_form_tree d)) (λ d. true) (array_of v) (array_found v) in
-    let p : whole (several (array_of v) ts) ≡ Some (map (declarator_with_literals v) (map array_form_tree (a ∷ as_))) =
-    whole_several_again array_form_text (λ d. declarator_with_literals v (array_form_tree d)) (λ d. true) ends_part (array_of v) s (array_back v ends_part) (λ r. refl) refl a as_ (all_true (a ∷ as_))
-    ∙ ap (λ (xs : List DeclaratorTree). Some xs) (sym (map_map (declarator_with_literals v) array_form_tree (a ∷ as_))) in
-    by_keyword v keyword.Dimension (codes "DIMENSION" ++ ts) ts _ (long_text v (codes "DIMENSION") ts refl (omega arith) refl) refl (rw p refl)
+statement_again v (dimension a rest) = dimension_again v a rest
 statement_again v (parameter c cs) =
     let ts = join_by constant_form_text (codes ",") (c ∷ cs) in
     let s = shrinks constant_form_text (λ c. value_with_literals v (constant_form_tree c)) (λ c. true) (value_of v) (value_found v) in

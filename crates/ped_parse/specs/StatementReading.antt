@@ -1,8 +1,10 @@
 -- Reading the text of a statement from left to right. Contracts of private functions alone speak of it.
 use Rattle.std.specs.Prelude.{ℕ, List, [], ◌∷◌, codes, Option, Some, None, Bool, true, false, ◌==◌, if◌then◌else◌}
+use Rattle.std.specs.List.{list_all}
 use Rattle.ped_base.specs.Letters.{is_letter, is_digit, is_alphanumeric}
 use Rattle.ped_tree.specs.Tree as plain
 use Rattle.ped_tree.specs.Tree.{ExprTree, Int, Var, Element, Neg, Add, Sub, Mul, Div, Pow, Call, ItemTree, Value, Text, Head, StmtTree, StmtTrees, Assign, Print, Read, Stop, no_stmts, more_stmts, BoundTree, DeclaratorTree}
+use Rattle.ped_tree.specs.References.{has_some}
 use Rattle.ped_tree.specs.Words.{is_name, numeral_value, same_word}
 use Rattle.ped_tree.specs.Items.{Item, declares, saves_all, does, continues, logical_if, block_if, else_if, else_line, end_if, begins_do, keeps_private, ends_program}
 use Rattle.ped_tree.specs.StatementForms.{is_label}
@@ -50,13 +52,13 @@ declarator x bounds = record { name = x; bounds = bounds }
 unfoldable pub dimensions_of : (ℕ → ℕ) → List ℕ → List ℕ → Answer DeclaratorTree
 dimensions_of v x text = several (bound_of v) text >>= λ y. after (codes ")") y.1 >>= λ r. Some (declarator x y.0, r)
 
--- a declared array
-unfoldable pub array_of : (ℕ → ℕ) → List ℕ → Answer DeclaratorTree
-array_of v text = name_at text >>= λ x. after (codes "(") x.1 >>= λ q. dimensions_of v x.0 q
-
 -- a declared scalar or array
 unfoldable pub declarator_of : (ℕ → ℕ) → List ℕ → Answer DeclaratorTree
 declarator_of v text = name_at text >>= λ x. go_on (after (codes "(") x.1) (Some (declarator x.0 [], x.1)) (λ q. dimensions_of v x.0 q)
+
+-- an array and no scalar
+abbrev pub is_array : DeclaratorTree → Bool
+is_array d = has_some d.bounds
 
 -- a named constant with its value
 unfoldable pub value_of : (ℕ → ℕ) → List ℕ → Answer (List ℕ × ExprTree)
@@ -174,7 +176,7 @@ unfoldable pub statement_behind : (ℕ → ℕ) → Keyword → List ℕ → Opt
 statement_behind v keyword.Program text = if is_name text then Some (declares (plain.Program text)) else None
 statement_behind v keyword.Implicit text = alone (declares plain.Implicit) text
 statement_behind v keyword.Integer text = whole (several (declarator_of v) text) >>= λ ds. Some (declares (plain.Integer ds))
-statement_behind v keyword.Dimension text = whole (several (array_of v) text) >>= λ ds. Some (declares (plain.Dimension ds))
+statement_behind v keyword.Dimension text = whole (several (declarator_of v) text) >>= λ ds. if list_all is_array ds then Some (declares (plain.Dimension ds)) else None
 statement_behind v keyword.Parameter text = several (value_of v) text >>= λ y. if same_word y.1 (codes ")") then Some (declares (plain.Parameter y.0)) else None
 statement_behind v keyword.Save text = if is_end text then Some saves_all else whole (several name_at text) >>= λ names. Some (declares (plain.Save names))
 statement_behind v keyword.If text = if_of v text

@@ -2,6 +2,7 @@
 #![tactic(auto)]
 
 mod conditions;
+mod declarations;
 mod expressions;
 mod items;
 mod keywords;

@@ -26,7 +26,7 @@ abbrev pub begins_primary : List ℕ → Bool
 begins_primary [] = false
 begins_primary (c ∷ ts) = eqb c 40 || is_alphanumeric c
 
-abbrev stops : (ℕ → Bool) → List ℕ → Bool
+abbrev pub stops : (ℕ → Bool) → List ℕ → Bool
 stops p [] = true
 stops p (c ∷ ts) = not (p c)
 
@@ -35,7 +35,7 @@ stops p (c ∷ ts) = not (p c)
 pub assoc_3 : (a b c r : List ℕ) → a ++ b ++ c ++ r ≡ a ++ (b ++ (c ++ r))
 assoc_3 a b c r = simp append_assoc
 
-assoc_4 : (a b c d r : List ℕ) → a ++ b ++ c ++ d ++ r ≡ a ++ (b ++ (c ++ (d ++ r)))
+pub assoc_4 : (a b c d r : List ℕ) → a ++ b ++ c ++ d ++ r ≡ a ++ (b ++ (c ++ (d ++ r)))
 assoc_4 a b c d r = simp append_assoc
 
 assoc_6 : (a b c d e f r : List ℕ) → a ++ b ++ c ++ d ++ e ++ f ++ r ≡ a ++ (b ++ (c ++ (d ++ (e ++ (f ++ r)))))
@@ -43,7 +43,7 @@ assoc_6 a b c d e f r = simp append_assoc
 
 -- words
 
-front_again : (p : ℕ → Bool) (ds rest : List ℕ) → list_all p ds ≡ true → stops p rest ≡ true → front p (ds ++ rest) ≡ ds
+pub front_again : (p : ℕ → Bool) (ds rest : List ℕ) → list_all p ds ≡ true → stops p rest ≡ true → front p (ds ++ rest) ≡ ds
 front_again p [] [] h s = refl
 front_again p [] (c ∷ rest) h s = let k : p c ≡ false = grind arith in rw k refl
 front_again p (d ∷ ds) rest h s =
@@ -51,7 +51,7 @@ front_again p (d ∷ ds) rest h s =
     let i : list_all p ds ≡ true = grind arith in
     rw (k, front_again p ds rest i s) refl
 
-behind_again : (p : ℕ → Bool) (ds rest : List ℕ) → list_all p ds ≡ true → stops p rest ≡ true → behind p (ds ++ rest) ≡ rest
+pub behind_again : (p : ℕ → Bool) (ds rest : List ℕ) → list_all p ds ≡ true → stops p rest ≡ true → behind p (ds ++ rest) ≡ rest
 behind_again p [] [] h s = refl
 behind_again p [] (c ∷ rest) h s = let k : p c ≡ false = grind arith in rw k refl
 behind_again p (d ∷ ds) rest h s =
@@ -59,7 +59,7 @@ behind_again p (d ∷ ds) rest h s =
     let i : list_all p ds ≡ true = grind arith in
     rw (k, behind_again p ds rest i s) refl
 
-ends_alphanumeric : (rest : List ℕ) → ends_word rest ≡ true → stops is_alphanumeric rest ≡ true
+pub ends_alphanumeric : (rest : List ℕ) → ends_word rest ≡ true → stops is_alphanumeric rest ≡ true
 ends_alphanumeric [] h = refl
 ends_alphanumeric (c ∷ ts) h = grind arith
 
@@ -67,7 +67,7 @@ ends_digits : (rest : List ℕ) → ends_word rest ≡ true → stops is_digit r
 ends_digits [] h = refl
 ends_digits (c ∷ ts) h = grind arith
 
-ends_call : (rest : List ℕ) → ends_word rest ≡ true → after (codes "(") rest ≡ None
+pub ends_call : (rest : List ℕ) → ends_word rest ≡ true → after (codes "(") rest ≡ None
 ends_call [] h = refl
 ends_call (c ∷ ts) h = grind (arith, eqb-true)
 
@@ -261,7 +261,7 @@ mutual
       ∙ primary_step v (codes "(" ++ (expr_form_text e ++ (codes ")" ++ rest)))
       ∙ rw (expr_again v e (codes ")" ++ rest) refl refl, sums_stop v (with_literals v (expr_form_tree e)) (codes ")" ++ rest) refl) refl
 
-  reference_again : (v : ℕ → ℕ) (r : ReferenceForm) (rest : List ℕ) → ends_word rest ≡ true → primary_of v (reference_form_text r ++ rest) ≡ Some (with_literals v (reference_form_tree r), rest)
+  pub reference_again : (v : ℕ → ℕ) (r : ReferenceForm) (rest : List ℕ) → ends_word rest ≡ true → primary_of v (reference_form_text r ++ rest) ≡ Some (with_literals v (reference_form_tree r), rest)
   reference_again v (scalar x is) rest h = name_again v x rest is (ends_alphanumeric rest h) ∙ named_step v x rest ∙ rw (is, ends_call rest h) refl
   reference_again v (element x is other a) rest h =
       ap (primary_of v) (assoc_4 x (codes "(") (exprs_form_text a) (codes ")") rest)

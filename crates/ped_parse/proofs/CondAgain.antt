@@ -61,7 +61,7 @@ relation_again v a b r rest h = rw (expr_read v a _ (relation_ends r (expr_form_
 
 -- what stands in a group's parentheses is no expression
 
-abbrev Fails : (ℕ → ℕ) → List ℕ → Type 0
+abbrev pub Fails : (ℕ → ℕ) → List ℕ → Type 0
 Fails v ts = (expr_of v ts ≡ None) ⊎ ((e : ExprTree) × (r : List ℕ) × (expr_of v ts ≡ Some (e, codes "." ++ r)))
 
 along : (v : ℕ → ℕ) (a b : List ℕ) → a ≡ b → Fails v b → Fails v a
@@ -87,7 +87,7 @@ relation_fails v a Gt rest = inr (_, _, expr_read v a (relation_text Gt ++ rest)
 relation_fails v a Ge rest = inr (_, _, expr_read v a (relation_text Ge ++ rest) refl)
 
 mutual
-  cond_fails : (v : ℕ → ℕ) (c : CondForm) (rest : List ℕ) → Fails v (cond_form_text c ++ rest)
+  pub cond_fails : (v : ℕ → ℕ) (c : CondForm) (rest : List ℕ) → Fails v (cond_form_text c ++ rest)
   cond_fails v (one_term t) rest = term_fails v t rest
   cond_fails v (or c t) rest = along v _ _ (assoc_3 (cond_form_text c) (codes ".OR.") (logical_term_text t) rest) (cond_fails v c _)
 

@@ -30,7 +30,7 @@ whole_cond_again v text c r =
     let p : cond_of v text ≡ Some (a, []) = ap (cond_of v) (sym (append-nil (cond_form_text f) ∙ r.1)) ∙ cond_again v f [] refl refl ∙ ors_stop v a [] refl in
     rw p (ap (λ (u : CondTree). Some (cond_with_literals v u)) r.2)
 
-cond_with_same : (c : CondTree) → cond_with_literals (λ n. n) c ≡ c
+pub cond_with_same : (c : CondTree) → cond_with_literals (λ n. n) c ≡ c
 cond_with_same (Rel r a b) = ap (λ (u : ExprTree). Rel r u (with_literals (λ n. n) b)) (with_same a) ∙ ap (Rel r a) (with_same b)
 cond_with_same (Not a) = ap Not (cond_with_same a)
 cond_with_same (And a b) = ap (λ (u : CondTree). And u (cond_with_literals (λ n. n) b)) (cond_with_same a) ∙ ap (And a) (cond_with_same b)

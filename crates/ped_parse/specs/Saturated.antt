@@ -1,37 +1,9 @@
 -- What statements say where each literal n is taken as v n: code keeps a literal in 32 bits, the greatest number of these for a greater one.
-use Rattle.std.specs.Prelude.{ℕ, min, List, map}
-use Rattle.ped_tree.specs.Tree.{ExprTree, ExprTrees, Int, Var, Element, Neg, Add, Sub, Mul, Div, Pow, Call, no_exprs, more_exprs, CondTree, Rel, Not, And, Or, ItemTree, Value, Text, Head, StmtTree, StmtTrees, Assign, If, Do, Print, Read, Stop, Comment, no_stmts, more_stmts, BoundTree, DeclaratorTree, DeclTree, Program, Implicit, Integer, Dimension, Parameter, Save, Remark}
+use Rattle.std.specs.Prelude.{ℕ, List, map}
+use Rattle.ped_tree.specs.Tree.{ExprTree, ItemTree, Value, Text, Head, StmtTree, StmtTrees, Assign, If, Do, Print, Read, Stop, Comment, no_stmts, more_stmts, BoundTree, DeclaratorTree, DeclTree, Program, Implicit, Integer, Dimension, Parameter, Save, Remark}
 use Rattle.ped_tree.specs.Items.{Item, declares, saves_all, does, continues, logical_if, block_if, else_if, else_line, end_if, begins_do, keeps_private, ends_program, Reading, says, outside_profile, no_form, Entry}
-
--- a number as 32 bits keep it: the greatest one where it is greater
-abbrev pub saturated : ℕ → ℕ
-saturated n = min n 4294967295
-
-abbrev mutual
-  -- the expression with each literal n as v n
-  pub with_literals : (ℕ → ℕ) → ExprTree → ExprTree
-  with_literals v (Int n) = Int (v n)
-  with_literals v (Var x) = Var x
-  with_literals v (Element x subscripts) = Element x (all_with_literals v subscripts)
-  with_literals v (Neg a) = Neg (with_literals v a)
-  with_literals v (Add a b) = Add (with_literals v a) (with_literals v b)
-  with_literals v (Sub a b) = Sub (with_literals v a) (with_literals v b)
-  with_literals v (Mul a b) = Mul (with_literals v a) (with_literals v b)
-  with_literals v (Div a b) = Div (with_literals v a) (with_literals v b)
-  with_literals v (Pow a b) = Pow (with_literals v a) (with_literals v b)
-  with_literals v (Call f arguments) = Call f (all_with_literals v arguments)
-
-  -- the expressions with each literal n as v n
-  pub all_with_literals : (ℕ → ℕ) → ExprTrees → ExprTrees
-  all_with_literals v no_exprs = no_exprs
-  all_with_literals v (more_exprs e rest) = more_exprs (with_literals v e) (all_with_literals v rest)
-
--- the condition with each literal n as v n
-abbrev pub cond_with_literals : (ℕ → ℕ) → CondTree → CondTree
-cond_with_literals v (Rel r a b) = Rel r (with_literals v a) (with_literals v b)
-cond_with_literals v (Not a) = Not (cond_with_literals v a)
-cond_with_literals v (And a b) = And (cond_with_literals v a) (cond_with_literals v b)
-cond_with_literals v (Or a b) = Or (cond_with_literals v a) (cond_with_literals v b)
+use Rattle.ped_parse.specs.ExpressionReading.{with_literals}
+use Rattle.ped_parse.specs.ConditionReading.{cond_with_literals}
 
 -- an item of a PRINT
 abbrev pub item_with_literals : (ℕ → ℕ) → ItemTree → ItemTree

@@ -149,7 +149,7 @@ fn factor(alloc: Global, text: &[u8]) -> Result<(Expr, &[u8]), Failure>
 
 #[cycle(expr)]
 #[tactic(auto, using(crate::proofs::Equations::primary_step))]
-fn primary(alloc: Global, text: &[u8]) -> Result<(Expr, &[u8]), Failure>
+pub fn primary(alloc: Global, text: &[u8]) -> Result<(Expr, &[u8]), Failure>
     ensures gives { Gives expr_and_rest result (primary_of saturated text.now) }
     ensures shorter { IfOk result (λ x. length x.1.now < length text.now) }
 {

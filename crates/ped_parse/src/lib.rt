@@ -3,11 +3,16 @@
 #![tactic(auto)]
 
 mod conditions;
+mod declarations;
 mod expressions;
 mod items;
+mod keywords;
 mod laws;
 mod laws_of_blocks;
+mod laws_of_statements;
 mod literals;
+mod loops;
+mod names;
 mod operators;
 mod readings;
 mod scanning;
@@ -18,6 +23,7 @@ pub use laws::{
     printed_reference,
 };
 pub use laws_of_blocks::{nests_or_refused, one_nesting, one_tree, reads_or_refused};
+pub use laws_of_statements::one_item;
 pub use readings::Reading;
 
 #[cfg(test)]

@@ -1,0 +1,11 @@
+//! What the forms of statements determine. Each function here does nothing; its contract is the law.
+
+ghost use Rattle.std.specs.Prelude.{◌≡◌, ℕ, List};
+ghost use Rattle.ped_tree.specs.Items.{Item};
+ghost use Rattle.ped_tree.specs.StatementForms.{ReadsItem};
+
+/// The text of a statement says one thing at most: no two forms of statements share a text with
+/// different meanings.
+pub fn one_item()
+    ensures { (text : List ℕ) (i j : Item) → ReadsItem text i → ReadsItem text j → i ≡ j }
+{}

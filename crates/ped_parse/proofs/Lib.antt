@@ -17,7 +17,6 @@ pub mod Equations
 pub mod Gathered
 pub mod Large
 pub mod Lists
-pub mod Literals
 pub mod NoAssignment
 pub mod OneReading
 pub mod OneStatement

@@ -1,7 +1,8 @@
 #!/usr/bin/env bash
 # Measures how long `statements` of ped_lines takes to cut a program into statements, per byte, and how
-# much memory it has at its peak, on programs of 64 KiB, 256 KiB and 1 MiB. It is no part of the gate, and
-# needs GNU time and awk. docs/PERFORMANCE.md says how to read the figures.
+# much memory it has at its peak, on programs of 64 KiB, 256 KiB and 1 MiB; and how long `source_pane` of
+# ped_print takes, per byte of the pane, on programs of 250, 1,000 and 4,000 statements. It is no part of
+# the gate, and needs GNU time and awk. docs/PERFORMANCE.md says how to read the figures.
 #
 # usage: tools/bench.sh [RUNS]      of so many runs (5 where it isn't said) the least counts
 set -eu
@@ -40,11 +41,11 @@ stencil() {
     '
 }
 
-# The least of the runs' sums of what GNU time writes in this format, for so many cuttings of a file.
+# The least of the runs' sums of what GNU time writes in this format, for a work done so many times.
 least() {
     local best='' i
     for ((i = 0; i < runs; i++)); do
-        command time -f "$1" -o "$work/figure" "$program" "$2" "$3" >/dev/null
+        command time -f "$1" -o "$work/figure" "$program" "$2" "$3" "$4" >/dev/null
         best=$(awk -v best="$best" '{ sum = $1 + $2; print (best == "" || sum < best) ? sum : best }' "$work/figure")
     done
     printf '%s\n' "$best"
@@ -68,14 +69,29 @@ for kib in 64 256 1024; do
     stencil "$((kib * 1024))" >"$file"
     bytes=$(wc -c <"$file")
     times=$((65536 / kib))
-    count=$("$program" "$file" 1)
+    count=$("$program" cut "$file" 1)
     # What the program does beside cutting, such as reading the file, it does for no cuttings, too.
-    awk -v bytes="$bytes" -v count="${count#statements }" -v times="$times" \
-        -v seconds="$(least '%U %S' "$file" "$times")" -v no_seconds="$(least '%U %S' "$file" 0)" \
-        -v peak="$(least %M "$file" 1)" -v no_peak="$(least %M "$file" 0)" 'BEGIN {
+    awk -v bytes="$bytes" -v count="${count#cut }" -v times="$times" \
+        -v seconds="$(least '%U %S' cut "$file" "$times")" -v no_seconds="$(least '%U %S' cut "$file" 0)" \
+        -v peak="$(least %M cut "$file" 1)" -v no_peak="$(least %M cut "$file" 0)" 'BEGIN {
             time = (seconds - no_seconds) * 1e9 / times / bytes
             memory = (peak - no_peak) * 1024 / bytes
             printf "%10d %10d %10.2f %12.2f\n", bytes, count, time, memory
+        }' | tee -a "$work/figures"
+done
+awk '{ if (NR == 1 || $3 < least) least = $3; if ($3 > most) most = $3 }
+    END { printf "greatest to least time per byte: %.2f\n", most / least }' "$work/figures"
+
+printf '\n%10s %10s %10s\n' statements bytes ns/byte
+rm -f -- "$work/figures"
+for statements in 250 1000 4000; do
+    times=$((400000 / statements))
+    bytes=$("$program" print "$statements" 1)
+    awk -v bytes="${bytes#print }" -v statements="$statements" -v times="$times" \
+        -v seconds="$(least '%U %S' print "$statements" "$times")" \
+        -v no_seconds="$(least '%U %S' print "$statements" 0)" 'BEGIN {
+            time = (seconds - no_seconds) * 1e9 / times / bytes
+            printf "%10d %10d %10.2f\n", statements, bytes, time
         }' | tee -a "$work/figures"
 done
 awk '{ if (NR == 1 || $3 < least) least = $3; if ($3 > most) most = $3 }

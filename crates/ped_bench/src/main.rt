@@ -1,23 +1,50 @@
-//! Cuts the lines of a file into statements, so many times, for `tools/bench.sh` to measure. Nothing is
-//! promised of it: it prints how many statements the file has, and times nothing itself.
+//! Does one of ped's works so many times, for `tools/bench.sh` to measure: cuts the lines of a file into
+//! statements, or prints a program of so many statements. Nothing is promised of it: it prints how much
+//! came out, and times nothing itself.
 #![tactic(auto)]
 
+mod programs;
+
 use ped_lines::statements;
+use ped_print::source_pane;
+use programs::program;
+use std::alloc::Global;
 use std::process::ExitCode;
 use std::{env, fs};
 
 fn main(rt: HostRuntime) -> anyhow::Result<ExitCode> {
     let alloc = rt.alloc();
     let words: Vec<String> = env::args(&rt)?.skip(1).collect(alloc)?;
-    let [name, times] = words.as_slice() else {
-        println!(rt; "usage: ped_bench FILE TIMES")?;
+    let [work, what, times] = words.as_slice() else {
+        println!(rt; "usage: ped_bench cut FILE TIMES | print STATEMENTS TIMES")?;
         return Ok(ExitCode::from(2));
     };
-    let text = fs::read(&rt, name.as_str())?;
-    let mut count = 0;
-    for _i in 0..times.parse::<u64>()? {
-        count = statements(alloc, &text)?.statements.len();
-    }
-    println!(rt; "statements {count}")?;
+    let times = times.parse::<u64>()?;
+    let count = if work.as_str() == "cut" {
+        let text = fs::read(&rt, what.as_str())?;
+        cut(alloc, &text, times)?
+    } else {
+        print(alloc, what.parse::<u64>()?, times)?
+    };
+    println!(rt; "{work} {count}")?;
     Ok(ExitCode::SUCCESS)
+}
+
+/// How many statements the text is cut into.
+fn cut(alloc: Global, text: &[u8], times: u64) -> anyhow::Result<usize> {
+    let mut count = 0;
+    for _i in 0..times {
+        count = statements(alloc, text)?.statements.len();
+    }
+    Ok(count)
+}
+
+/// How many bytes the source pane of a program has.
+fn print(alloc: Global, count: u64, times: u64) -> anyhow::Result<usize> {
+    let program = program(alloc, count)?;
+    let mut bytes = 0;
+    for _i in 0..times {
+        bytes = source_pane(alloc, &program)?.len();
+    }
+    Ok(bytes)
 }

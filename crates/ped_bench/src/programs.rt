@@ -1,14 +1,14 @@
-//! Programs of any size, in loops of a hundred assignments.
+//! Programs of any size, in loops of 49 assignments, so of 50 statements each.
 
 use anyhow::Context;
 use ped_base::{Name, Names};
 use ped_tree::{Do, Expr, Program, Stmt};
 use std::alloc::Global;
 
-/// A program with so many assignments, and a loop for each hundred of them.
+/// A program of so many statements, or as many fewer as make it whole loops.
 pub fn program(alloc: Global, count: u64) -> anyhow::Result<Program> {
     let mut body = Vec::new(alloc);
-    for _i in 0..count / 100 {
+    for _i in 0..count / 50 {
         body.push(sweep(alloc)?)?;
     }
     Ok(Program {
@@ -18,10 +18,10 @@ pub fn program(alloc: Global, count: u64) -> anyhow::Result<Program> {
     })
 }
 
-/// A loop with a hundred assignments.
+/// A loop with 49 assignments.
 fn sweep(alloc: Global) -> anyhow::Result<Stmt> {
     let mut body = Vec::new(alloc);
-    for _i in 0..100 {
+    for _i in 0..49 {
         body.push(assignment(alloc)?)?;
     }
     Ok(Stmt::of_loop(Do {

@@ -18,6 +18,7 @@ pub mod Gathered
 pub mod Large
 pub mod Lists
 pub mod NoAssignment
+pub mod OneOfBoth
 pub mod OneReading
 pub mod OneStatement
 pub mod Outside

@@ -9,4 +9,5 @@ pub mod Saturated
 pub mod Scanning
 pub mod StatementReading
 pub mod StatementViews
+pub mod Verdicts
 pub mod Views

@@ -9,6 +9,7 @@ mod items;
 mod keywords;
 mod laws;
 mod laws_of_blocks;
+mod laws_of_reading;
 mod laws_of_statements;
 mod literals;
 mod loops;
@@ -23,6 +24,7 @@ pub use laws::{
     printed_reference,
 };
 pub use laws_of_blocks::{nests_or_refused, one_nesting, one_tree, reads_or_refused};
+pub use laws_of_reading::one_tree_or_one_refusal;
 pub use laws_of_statements::one_item;
 pub use readings::Reading;
 

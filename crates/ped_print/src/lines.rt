@@ -22,7 +22,7 @@ pub struct Line {
 }
 
 /// Adds a line.
-pub fn push_line(lines: &mut Vec<Line>, line: Line) -> Result<(), NoMemory>
+fn push_line(lines: &mut Vec<Line>, line: Line) -> Result<(), NoMemory>
     ensures lines { OnOk result (map line_of lines.new.items ≡ map line_of lines.old.items ++ line_of line ∷ []) }
     ensures longer { OnOk result (length lines.old.items < length lines.new.items) }
 {
@@ -79,7 +79,7 @@ fn push_continuations(alloc: Global, lines: &mut Vec<Line>, text: &[u8]) -> Resu
 }
 
 /// The piece of a text with this number, from 0.
-pub fn piece(text: &[u8], number: usize) -> &[u8]
+fn piece(text: &[u8], number: usize) -> &[u8]
     requires { 66 * number ≤ length text.now }
     ensures { result.now ≡ Spec.piece text.now number }
 {

@@ -130,16 +130,19 @@ fn begin(alloc: Global, made: &mut Made, block: Block) -> Result<(), Fail> {
 }
 
 fn begin_else(alloc: Global, made: &mut Made) -> Result<(), Fail> {
-    let open = made.open.pop().ok_or("nothing is open")?;
-    let Block::Then(condition) = open.block else {
-        return Err(Fail::from("no IF is open"));
-    };
+    let Open { block, before } = made.open.pop().ok_or("nothing is open")?;
+    let condition = if_condition(block)?;
     let then_part = mem::replace(&mut made.statements, Vec::new(alloc));
-    made.open.push(Open {
-        block: Block::Else(condition, then_part),
-        before: open.before,
-    })?;
+    let block = Block::Else(condition, then_part);
+    made.open.push(Open { block, before })?;
     Ok(())
+}
+
+fn if_condition(block: Block) -> Result<Cond, Fail> {
+    match block {
+        Block::Then(condition) => Ok(condition),
+        _ => Err(Fail::from("no IF is open")),
+    }
 }
 
 fn end(alloc: Global, made: &mut Made) -> Result<(), Fail> {
@@ -162,20 +165,35 @@ fn ended(alloc: Global, block: Block, within: Vec<Stmt>) -> Stmt {
 
 /// Makes the DO that has begun parallel, or gives it its PRIVATE names or directives.
 fn mark(alloc: Global, made: &mut Made, row: Row) -> Result<(), Fail> {
-    let open = made.open.pop().ok_or("nothing is open")?;
-    let Block::Loop(mut head) = open.block else {
-        return Err(Fail::from("no DO is open"));
-    };
-    match row {
-        Row::Private(words) => head.private = names(alloc, words)?,
-        Row::Reject(words) => head.rejected = names(alloc, words)?,
-        _ => head.parallel = true,
-    }
-    made.open.push(Open {
-        block: Block::Loop(head),
-        before: open.before,
-    })?;
+    let Open { block, before } = made.open.pop().ok_or("nothing is open")?;
+    let head = loop_head(block)?;
+    let block = Block::Loop(marked(alloc, head, row)?);
+    made.open.push(Open { block, before })?;
     Ok(())
+}
+
+fn loop_head(block: Block) -> Result<Do, Fail> {
+    match block {
+        Block::Loop(head) => Ok(head),
+        _ => Err(Fail::from("no DO is open")),
+    }
+}
+
+fn marked(alloc: Global, head: Do, row: Row) -> Result<Do, Fail> {
+    match row {
+        Row::Private(words) => {
+            let private = names(alloc, words)?;
+            Ok(Do { private, ..head })
+        }
+        Row::Reject(words) => {
+            let rejected = names(alloc, words)?;
+            Ok(Do { rejected, ..head })
+        }
+        _ => Ok(Do {
+            parallel: true,
+            ..head
+        }),
+    }
 }
 
 /// The items of a PRINT: a constant begins with an apostrophe.

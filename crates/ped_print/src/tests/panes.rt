@@ -1,7 +1,7 @@
 //! Source panes, and the length of a DO statement.
 
 use crate::pane::{push_line_number, push_statement_number};
-use crate::tests::rows::{DeclRow, Row, lines, program, statements};
+use crate::tests::rows::{DeclRow, Row, program, statements};
 use crate::{length, source_pane};
 use ped_base::Bytes;
 use std::test::Fail;
@@ -19,31 +19,31 @@ fn a_loop_ends_in_a_continue_of_its_own(rt: HostRuntime) -> Result<(), Fail> {
         Row::Assign("I @A1", "I 1 - @A1 1 +"),
         Row::End,
     ];
-    let expected = [
-        "source 7",
-        "    1            PROGRAM R1",
-        "    2            INTEGER A(10)",
-        "    3            SAVE A",
-        "    4    1       DO 10 I = 2, 10",
-        "    5    2         A(I) = A(I-1)+1",
-        "    6      10    CONTINUE",
-        "    7            END",
-    ];
+    let expected = "\
+source 7
+    1            PROGRAM R1
+    2            INTEGER A(10)
+    3            SAVE A
+    4    1       DO 10 I = 2, 10
+    5    2         A(I) = A(I-1)+1
+    6      10    CONTINUE
+    7            END
+";
     let pane = source_pane(alloc, &program(alloc, &decls, &rows)?)?;
-    assert_eq!(rt; pane.as_slice(), lines(alloc, &expected)?.as_slice());
+    assert_eq!(rt; pane.as_slice(), expected.as_bytes());
     Ok(())
 }
 
 #[test]
 fn a_program_without_statements_has_a_pane(rt: HostRuntime) -> Result<(), Fail> {
     let alloc = rt.alloc();
-    let expected = [
-        "source 2",
-        "    1            INTEGER A(10)",
-        "    2            END",
-    ];
+    let expected = "\
+source 2
+    1            INTEGER A(10)
+    2            END
+";
     let pane = source_pane(alloc, &program(alloc, &[DeclRow::Integer("A,10")], &[])?)?;
-    assert_eq!(rt; pane.as_slice(), lines(alloc, &expected)?.as_slice());
+    assert_eq!(rt; pane.as_slice(), expected.as_bytes());
     Ok(())
 }
 
@@ -57,18 +57,18 @@ fn labels_count_the_loops(rt: HostRuntime) -> Result<(), Fail> {
         Row::End,
         Row::End,
     ];
-    let expected = [
-        "source 7",
-        "    1            INTEGER A(3,3)",
-        "    2    1       DO 10 I = 1, 3",
-        "    3    2         DO 20 J = 1, 3",
-        "    4    3           A(I,J) = I*J",
-        "    5      20      CONTINUE",
-        "    6      10    CONTINUE",
-        "    7            END",
-    ];
+    let expected = "\
+source 7
+    1            INTEGER A(3,3)
+    2    1       DO 10 I = 1, 3
+    3    2         DO 20 J = 1, 3
+    4    3           A(I,J) = I*J
+    5      20      CONTINUE
+    6      10    CONTINUE
+    7            END
+";
     let pane = source_pane(alloc, &program(alloc, &[DeclRow::Integer("A,3,3")], &rows)?)?;
-    assert_eq!(rt; pane.as_slice(), lines(alloc, &expected)?.as_slice());
+    assert_eq!(rt; pane.as_slice(), expected.as_bytes());
     Ok(())
 }
 
@@ -88,21 +88,21 @@ fn a_parallel_loop_shows_its_lists(rt: HostRuntime) -> Result<(), Fail> {
         Row::End,
         Row::Stop,
     ];
-    let expected = [
-        "source 10",
-        "    1    1       N = 10",
-        "    2      C$PED REJECT A",
-        "    3      C$PED REJECT B",
-        "    4    2       PARALLEL DO 10 I = N, 1, -2",
-        "    5              PRIVATE T, U",
-        "    6      C A COPY",
-        "    7    3         T = A(I)",
-        "    8      10    CONTINUE",
-        "    9    4       STOP",
-        "   10            END",
-    ];
+    let expected = "\
+source 10
+    1    1       N = 10
+    2      C$PED REJECT A
+    3      C$PED REJECT B
+    4    2       PARALLEL DO 10 I = N, 1, -2
+    5              PRIVATE T, U
+    6      C A COPY
+    7    3         T = A(I)
+    8      10    CONTINUE
+    9    4       STOP
+   10            END
+";
     let pane = source_pane(alloc, &program(alloc, &[], &rows)?)?;
-    assert_eq!(rt; pane.as_slice(), lines(alloc, &expected)?.as_slice());
+    assert_eq!(rt; pane.as_slice(), expected.as_bytes());
     Ok(())
 }
 
@@ -120,20 +120,20 @@ fn an_if_numbers_its_statements(rt: HostRuntime) -> Result<(), Fail> {
         Row::End,
         Row::End,
     ];
-    let expected = [
-        "source 9",
-        "    1    1       IF (I.LT.5) THEN",
-        "    2    2         DO 10 I = 1, 3",
-        "    3      10      CONTINUE",
-        "    4            ELSE",
-        "    5    3         DO 20 J = 1, 3",
-        "    6    4           K = 2",
-        "    7      20      CONTINUE",
-        "    8            END IF",
-        "    9            END",
-    ];
+    let expected = "\
+source 9
+    1    1       IF (I.LT.5) THEN
+    2    2         DO 10 I = 1, 3
+    3      10      CONTINUE
+    4            ELSE
+    5    3         DO 20 J = 1, 3
+    6    4           K = 2
+    7      20      CONTINUE
+    8            END IF
+    9            END
+";
     let pane = source_pane(alloc, &program(alloc, &[], &rows)?)?;
-    assert_eq!(rt; pane.as_slice(), lines(alloc, &expected)?.as_slice());
+    assert_eq!(rt; pane.as_slice(), expected.as_bytes());
     Ok(())
 }
 

@@ -1,7 +1,7 @@
 //! Printed programs: every kind of declaration and statement, and continuation lines.
 
 use crate::tests::notation::{condition, expression};
-use crate::tests::rows::{DeclRow, Row, lines, program, text};
+use crate::tests::rows::{DeclRow, Row, program, text};
 use crate::{length, print};
 use ped_base::Bytes;
 use ped_tree::{Expr, Program, Stmt};
@@ -20,19 +20,18 @@ fn declarations_are_printed_in_their_order(rt: HostRuntime) -> Result<(), Fail> 
         DeclRow::Save("B K"),
         DeclRow::Remark(""),
     ];
-    let expected = [
-        "      PROGRAM P",
-        "      IMPLICIT INTEGER (A-Z)",
-        "      PARAMETER (N=10, M=N+1)",
-        "C    TWO ARRAYS",
-        "      INTEGER B(0:9,N+1), K",
-        "      DIMENSION C(-1:1)",
-        "      SAVE B, K",
-        "C",
-        "      END",
-    ];
+    let expected = "      PROGRAM P
+      IMPLICIT INTEGER (A-Z)
+      PARAMETER (N=10, M=N+1)
+C    TWO ARRAYS
+      INTEGER B(0:9,N+1), K
+      DIMENSION C(-1:1)
+      SAVE B, K
+C
+      END
+";
     let printed = print(alloc, &program(alloc, &decls, &[])?)?;
-    assert_eq!(rt; printed.as_slice(), lines(alloc, &expected)?.as_slice());
+    assert_eq!(rt; printed.as_slice(), expected.as_bytes());
     Ok(())
 }
 
@@ -47,17 +46,16 @@ fn items_stand_behind_commas_and_apostrophes_twice(rt: HostRuntime) -> Result<()
         Row::Read(""),
         Row::Stop,
     ];
-    let expected = [
-        "      PRINT *, K+1, 'IT''S'",
-        "      PRINT *",
-        "      PRINT *, '''''', ''",
-        "      READ *, K, A(I)",
-        "      READ *",
-        "      STOP",
-        "      END",
-    ];
+    let expected = "      PRINT *, K+1, 'IT''S'
+      PRINT *
+      PRINT *, '''''', ''
+      READ *, K, A(I)
+      READ *
+      STOP
+      END
+";
     let printed = print(alloc, &program(alloc, &[], &rows)?)?;
-    assert_eq!(rt; printed.as_slice(), lines(alloc, &expected)?.as_slice());
+    assert_eq!(rt; printed.as_slice(), expected.as_bytes());
     Ok(())
 }
 
@@ -78,23 +76,22 @@ fn an_empty_else_is_dropped(rt: HostRuntime) -> Result<(), Fail> {
         Row::Comment(" NOTHING"),
         Row::End,
     ];
-    let expected = [
-        "      IF (I.LT.5.AND.K.EQ.0) THEN",
-        "        K = 1",
-        "      ELSE",
-        "        K = 2",
-        "      END IF",
-        "      IF (I.LT.5) THEN",
-        "        K = 1",
-        "      END IF",
-        "      IF (I.GE.5) THEN",
-        "      ELSE",
-        "C NOTHING",
-        "      END IF",
-        "      END",
-    ];
+    let expected = "      IF (I.LT.5.AND.K.EQ.0) THEN
+        K = 1
+      ELSE
+        K = 2
+      END IF
+      IF (I.LT.5) THEN
+        K = 1
+      END IF
+      IF (I.GE.5) THEN
+      ELSE
+C NOTHING
+      END IF
+      END
+";
     let printed = print(alloc, &program(alloc, &[], &rows)?)?;
-    assert_eq!(rt; printed.as_slice(), lines(alloc, &expected)?.as_slice());
+    assert_eq!(rt; printed.as_slice(), expected.as_bytes());
     Ok(())
 }
 
@@ -116,23 +113,22 @@ fn a_wavefront_is_printed(rt: HostRuntime) -> Result<(), Fail> {
         Row::End,
         Row::End,
     ];
-    let expected = [
-        "      INTEGER A(3,3)",
-        "      SAVE A",
-        "      DO 10 I = 1, 3",
-        "        DO 20 J = 1, 3",
-        "          A(I,J) = 1",
-        "20      CONTINUE",
-        "10    CONTINUE",
-        "      DO 30 J = 4, 6",
-        "        PARALLEL DO 40 I = MAX(2,J-3), MIN(3,J-2)",
-        "          A(I,J-I) = A(I-1,J-I)+A(I,J-I-1)",
-        "40      CONTINUE",
-        "30    CONTINUE",
-        "      END",
-    ];
+    let expected = "      INTEGER A(3,3)
+      SAVE A
+      DO 10 I = 1, 3
+        DO 20 J = 1, 3
+          A(I,J) = 1
+20      CONTINUE
+10    CONTINUE
+      DO 30 J = 4, 6
+        PARALLEL DO 40 I = MAX(2,J-3), MIN(3,J-2)
+          A(I,J-I) = A(I-1,J-I)+A(I,J-I-1)
+40      CONTINUE
+30    CONTINUE
+      END
+";
     let printed = print(alloc, &program(alloc, &decls, &rows)?)?;
-    assert_eq!(rt; printed.as_slice(), lines(alloc, &expected)?.as_slice());
+    assert_eq!(rt; printed.as_slice(), expected.as_bytes());
     Ok(())
 }
 

@@ -282,13 +282,3 @@ pub fn text(alloc: Global, text: &str) -> Result<Bytes, Fail> {
     bytes.extend_from_slice(text.as_bytes())?;
     Ok(bytes)
 }
-
-/// A text of lines, each with an end of line.
-pub fn lines(alloc: Global, all: &[&str]) -> Result<Bytes, Fail> {
-    let mut text = Bytes::new(alloc);
-    for line in all {
-        text.extend_from_slice(line.as_bytes())?;
-        text.push(b'\n')?;
-    }
-    Ok(text)
-}

@@ -46,9 +46,12 @@ bound_found v ts x h =
       | inr g ↦
           let b = bind_some (expr_of v g.0) (λ y. Some (bound a.0.0 y.0, y.1)) x g.2 in
           let k = expr_finds v g.0 b.0 b.1 in
-          subst Found (some_is (bound a.0.0 b.0.0, b.0.1) x b.2)
-          (both_bounds f.0 k.0, refl, ap (λ (t : ExprTree). bound t (with_literals v (expr_form_tree k.0))) f.1 ∙ ap (bound a.0.0) k.1,
-          f.2 ∙ read_on (expr_form_text f.0) (codes ":") a.0.1 g.0 (after_is (codes ":") a.0.1 g.0 g.1) ∙ read_on (expr_form_text f.0 ++ codes ":") (expr_form_text k.0) g.0 b.0.1 k.2)
+          subst Found (some_is (bound a.0.0 b.0.0, b.0.1) x b.2) (
+            both_bounds f.0 k.0,
+            refl,
+            ap (λ (t : ExprTree). bound t (with_literals v (expr_form_tree k.0))) f.1 ∙ ap (bound a.0.0) k.1,
+            f.2 ∙ read_on (expr_form_text f.0) (codes ":") a.0.1 g.0 (after_is (codes ":") a.0.1 g.0 g.1) ∙ read_on (expr_form_text f.0 ++ codes ":") (expr_form_text k.0) g.0 b.0.1 k.2,
+          )
     ]
 
 pub bound_back : (v : ℕ → ℕ) → IsReadBack bound_form_text (λ b. bound_with_literals v (bound_form_tree b)) (λ b. true) ends_part (bound_of v)
@@ -153,9 +156,12 @@ value_found v ts y h =
     let n = name_found ts a.0 a.1 in
     let f = expr_finds v b.0 e.0 e.1 in
     let is : is_name a.0.0 ≡ true = ap is_name (sym n.2) ∙ n.1 in
-    subst Found (some_is ((a.0.0, e.0.0), e.0.1) y e.2)
-    (a_constant a.0.0 is f.0, refl, ap (λ (t : ExprTree). (a.0.0, t)) f.1,
-    n.3 ∙ ap (λ (w : List ℕ). w ++ a.0.1) n.2 ∙ read_on a.0.0 (codes "=") a.0.1 b.0 (after_is (codes "=") a.0.1 b.0 b.1) ∙ read_on (a.0.0 ++ codes "=") (expr_form_text f.0) b.0 e.0.1 f.2)
+    subst Found (some_is ((a.0.0, e.0.0), e.0.1) y e.2) (
+      a_constant a.0.0 is f.0,
+      refl,
+      ap (λ (t : ExprTree). (a.0.0, t)) f.1,
+      n.3 ∙ ap (λ (w : List ℕ). w ++ a.0.1) n.2 ∙ read_on a.0.0 (codes "=") a.0.1 b.0 (after_is (codes "=") a.0.1 b.0 b.1) ∙ read_on (a.0.0 ++ codes "=") (expr_form_text f.0) b.0 e.0.1 f.2,
+    )
 
 pub value_back : (v : ℕ → ℕ) → IsReadBack constant_form_text (λ c. value_with_literals v (constant_form_tree c)) (λ c. true) ends_part (value_of v)
 unfolding value_of

@@ -82,9 +82,11 @@ if_found v ts i h =
       | inl g ↦ (if_then c.0, sym (append_assoc (codes "IF(" ++ cond_form_text c.0) (codes ")") (codes "THEN")) ∙ ap (λ (w : List ℕ). codes "IF(" ++ cond_form_text c.0 ++ codes ")" ++ w) (same_words b.0 (codes "THEN") g.0) ∙ text, ap block_if c.1 ∙ some_is (block_if a.0.0) i g.1)
       | inr g ↦
           let s = bind_some (simple_of v b.0) (λ s. Some (logical_if a.0.0 (behind_logical s))) i g.1 in
-          let f = simple_found v b.0 s.0 s.1 in
-          (if_simple c.0 f.0, ap (λ (w : List ℕ). codes "IF(" ++ cond_form_text c.0 ++ codes ")" ++ w) f.1 ∙ text,
-          ap (λ (t : CondTree). logical_if t (stmts_with_literals v (behind_if f.0))) c.1 ∙ ap (logical_if a.0.0) (sym (simple_behind v f.0) ∙ ap behind_logical f.2) ∙ some_is (logical_if a.0.0 (behind_logical s.0)) i s.2)
+          let f = simple_found v b.0 s.0 s.1 in (
+            if_simple c.0 f.0,
+            ap (λ (w : List ℕ). codes "IF(" ++ cond_form_text c.0 ++ codes ")" ++ w) f.1 ∙ text,
+            ap (λ (t : CondTree). logical_if t (stmts_with_literals v (behind_if f.0))) c.1 ∙ ap (logical_if a.0.0) (sym (simple_behind v f.0) ∙ ap behind_logical f.2) ∙ some_is (logical_if a.0.0 (behind_logical s.0)) i s.2,
+          )
     ]
 
 else_if_found : (v : ℕ → ℕ) (ts : List ℕ) (i : Item) → else_if_of v ts ≡ Some i → FoundStatement v (codes "ELSEIF(" ++ ts) i
@@ -133,9 +135,11 @@ integers_found v ts i h =
 
 dimension_of : (v : ℕ → ℕ) (arrays : List ArrayForm) (d : DeclaratorForm) (ds : List DeclaratorForm) (ts : List ℕ) (i : Item) → map of_array arrays ≡ d ∷ ds → join_by declarator_form_text (codes ",") (d ∷ ds) ≡ ts → declares (plain.Dimension (map (declarator_with_literals v) (map declarator_form_tree (d ∷ ds)))) ≡ i → FoundStatement v (codes "DIMENSION" ++ ts) i
 dimension_of v [] d ds ts i h t u = absurd cc
-dimension_of v (a ∷ rest) d ds ts i h t u =
-    (dimension a rest, ap (λ (w : List ℕ). codes "DIMENSION" ++ w) (sym (arrays_text a rest) ∙ ap (join_by declarator_form_text (codes ",")) h ∙ t),
-    ap (λ (fs : List DeclaratorTree). declares (plain.Dimension (map (declarator_with_literals v) fs))) (sym (arrays_tree (a ∷ rest)) ∙ ap (map declarator_form_tree) h) ∙ u)
+dimension_of v (a ∷ rest) d ds ts i h t u = (
+  dimension a rest,
+  ap (λ (w : List ℕ). codes "DIMENSION" ++ w) (sym (arrays_text a rest) ∙ ap (join_by declarator_form_text (codes ",")) h ∙ t),
+  ap (λ (fs : List DeclaratorTree). declares (plain.Dimension (map (declarator_with_literals v) fs))) (sym (arrays_tree (a ∷ rest)) ∙ ap (map declarator_form_tree) h) ∙ u,
+)
 
 dimensions_found : (v : ℕ → ℕ) (ts : List ℕ) (i : Item) → (whole (several (declarator_of v) ts) >>= λ ds. cond (list_all is_array ds) (Some (declares (plain.Dimension ds))) None) ≡ Some i → FoundStatement v (codes "DIMENSION" ++ ts) i
 dimensions_found v ts i h =
@@ -150,9 +154,11 @@ parameters_found v ts i h =
     let a = bind_some (several (value_of v) ts) (λ y. cond (same_word y.1 (codes ")")) (Some (declares (plain.Parameter y.0))) None) i h in
     let g = guarded (same_word a.0.1 (codes ")")) (Some (declares (plain.Parameter a.0.0))) i a.2 in
     let f = several_found constant_form_text (λ c. value_with_literals v (constant_form_tree c)) (λ c. true) (value_of v) (value_found v) ts a.0 a.1 in
-    let t = join_by constant_form_text (codes ",") (f.0 ∷ f.1) in
-    (parameter f.0 f.1, sym (read_on (codes "PARAMETER(") t ts a.0.1 f.4 ∙ ap (λ (w : List ℕ). codes "PARAMETER(" ++ t ++ w) (sym (same_words a.0.1 (codes ")") g.0))),
-    ap (λ (vs : List (List ℕ × ExprTree)). declares (plain.Parameter vs)) (map_map (value_with_literals v) constant_form_tree (f.0 ∷ f.1) ∙ f.3) ∙ some_is (declares (plain.Parameter a.0.0)) i g.1)
+    let t = join_by constant_form_text (codes ",") (f.0 ∷ f.1) in (
+      parameter f.0 f.1,
+      sym (read_on (codes "PARAMETER(") t ts a.0.1 f.4 ∙ ap (λ (w : List ℕ). codes "PARAMETER(" ++ t ++ w) (sym (same_words a.0.1 (codes ")") g.0))),
+      ap (λ (vs : List (List ℕ × ExprTree)). declares (plain.Parameter vs)) (map_map (value_with_literals v) constant_form_tree (f.0 ∷ f.1) ∙ f.3) ∙ some_is (declares (plain.Parameter a.0.0)) i g.1,
+    )
 
 save_found : (v : ℕ → ℕ) (ts : List ℕ) (i : Item) → cond (is_end ts) (Some saves_all) (whole (several name_at ts) >>= λ names. Some (declares (plain.Save names))) ≡ Some i → FoundStatement v (codes "SAVE" ++ ts) i
 unfolding FoundNames

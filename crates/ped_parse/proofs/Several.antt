@@ -68,10 +68,14 @@ several_at_found {F} {A} text tree good item found (suc n) ts y h =
       | inr g ↦
           let b = bind_some (several_at item n g.0) (λ y. Some (a.0.0 ∷ y.0, y.1)) y g.2 in
           let r = several_at_found text tree good item found n g.0 b.0 b.1 in
-          subst (λ (y : List A × List ℕ). FoundSeveral text tree good ts y) (some_is (a.0.0 ∷ b.0.0, b.0.1) y b.2)
-          (f.0, r.0 ∷ r.1, both _ _ f.1 r.2, ap (λ (z : A). z ∷ map tree (r.0 ∷ r.1)) f.2 ∙ ap (λ (z : List A). a.0.0 ∷ z) r.3,
-          f.3 ∙ read_on (text f.0) (codes ",") a.0.1 g.0 (after_is (codes ",") a.0.1 g.0 g.1) ∙ read_on (text f.0 ++ codes ",") (join_by text (codes ",") (r.0 ∷ r.1)) g.0 b.0.1 r.4
-          ∙ ap (λ (w : List ℕ). w ++ b.0.1) (regroup (text f.0) (text r.0) (flat_map (λ y. codes "," ++ text y) r.1)))
+          subst (λ (y : List A × List ℕ). FoundSeveral text tree good ts y) (some_is (a.0.0 ∷ b.0.0, b.0.1) y b.2) (
+            f.0,
+            r.0 ∷ r.1,
+            both _ _ f.1 r.2,
+            ap (λ (z : A). z ∷ map tree (r.0 ∷ r.1)) f.2 ∙ ap (λ (z : List A). a.0.0 ∷ z) r.3,
+            f.3 ∙ read_on (text f.0) (codes ",") a.0.1 g.0 (after_is (codes ",") a.0.1 g.0 g.1) ∙ read_on (text f.0 ++ codes ",") (join_by text (codes ",") (r.0 ∷ r.1)) g.0 b.0.1 r.4
+                ∙ ap (λ (w : List ℕ). w ++ b.0.1) (regroup (text f.0) (text r.0) (flat_map (λ y. codes "," ++ text y) r.1)),
+          )
     ]
 
 pub several_found : {F A : Type 0} (text : F → List ℕ) (tree : F → A) (good : F → Bool) (item : List ℕ → Option (A × List ℕ)) → Finds text tree good item → (ts : List ℕ) (y : List A × List ℕ) → several item ts ≡ Some y → FoundSeveral text tree good ts y

@@ -85,8 +85,8 @@ worded_of v text =
     if same_word text (codes "STOP") then Some (Some Stop)
     else if same_word text (codes "CONTINUE") then Some None
     else go_on (after (codes "PRINT*") text)
-      (after (codes "READ*") text >>= λ q. each_behind_comma (reference_of v) q >>= λ items. Some (Some (Read items)))
-      (λ q. each_behind_comma (item_of v) q >>= λ items. Some (Some (Print items)))
+    (after (codes "READ*") text >>= λ q. each_behind_comma (reference_of v) q >>= λ items. Some (Some (Read items)))
+    (λ q. each_behind_comma (item_of v) q >>= λ items. Some (Some (Print items)))
 
 -- a statement that may stand behind a logical IF
 unfoldable pub simple_of : (ℕ → ℕ) → List ℕ → Option (Option StmtTree)

@@ -18,6 +18,8 @@ mod operators;
 mod readings;
 mod scanning;
 
+pub use conditions::read_condition;
+pub use expressions::{read_expression, read_reference};
 pub use items::{DoStatement, Item, StatementReading};
 pub use laws::{
     one_condition, one_expression, one_reference, printed_condition, printed_expression,

@@ -43,6 +43,13 @@ impl<T> Listed<T> {
         Listed { items }
     }
 
+    /// The items as a vector, without a copy.
+    pub fn into_vec(self) -> Vec<T>
+        ensures { result.items ≡ self }
+    {
+        self.items
+    }
+
     /// The items, first to last.
     pub fn as_slice(&self) -> &[T]
         ensures { result.now ≡ self.now }
@@ -102,6 +109,8 @@ mod tests {
         assert_eq!(rt; text.as_slice(), b"DO 10 ".as_slice());
         assert_eq!(rt; text.len(), 6);
         assert!(rt; !text.is_empty());
+        let bytes = text.into_vec();
+        assert_eq!(rt; bytes.as_slice(), b"DO 10 ".as_slice());
         Ok(())
     }
 }

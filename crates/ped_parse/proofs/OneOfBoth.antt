@@ -9,10 +9,10 @@ use Rattle.ped_tree.specs.Items.{Entry}
 use Rattle.ped_tree.specs.Reading.{AreEntries, IsCutInto, Refuses, in_lines, Reads}
 use Rattle.ped_tree.proofs.OneReading.{refused_once, not_both}
 use Rattle.ped_parse.specs.Verdicts.{HasOneTree, HasOneRefusal}
-use Rattle.ped_parse.proofs.OneReading.{reading_is}
-use Rattle.ped_parse.proofs.OneStatement.{one_item}
-use Rattle.ped_parse.proofs.BlocksOneTree.{read_once}
-use Rattle.ped_parse.proofs.BlocksFound.{read_or_refused}
+use Rattle.ped_statements.proofs.OneReading.{reading_is}
+use Rattle.ped_statements.proofs.OneStatement.{one_item}
+use Rattle.ped_blocks.proofs.BlocksOneTree.{read_once}
+use Rattle.ped_blocks.proofs.BlocksFound.{read_or_refused}
 
 -- each statement has an entry
 entries_of : (ss : List Statement) → (es : List Entry) × AreEntries ss es

@@ -1,13 +1,2 @@
-pub mod ConditionReading
-pub mod ExpressionReading
-pub mod ItemViews
-pub mod Listing
-pub mod Machine
-pub mod ProfileReading
-pub mod Readings
-pub mod Saturated
-pub mod Scanning
-pub mod StatementReading
-pub mod StatementViews
+pub mod Refusals
 pub mod Verdicts
-pub mod Views

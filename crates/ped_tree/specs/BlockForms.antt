@@ -5,7 +5,7 @@ use Rattle.ped_tree.specs.Tree.{CondTree, Head, StmtTree, StmtTrees, no_stmts, I
 use Rattle.ped_tree.specs.Views.{pack_stmts}
 use Rattle.ped_tree.specs.Statement.{Statement}
 use Rattle.ped_tree.specs.Items.{Item, does, continues, logical_if, block_if, else_if, else_line, end_if, begins_do, keeps_private, says, Entry}
-use Rattle.ped_tree.specs.Occurrences.{rejected_name}
+use Rattle.ped_tree.specs.Occurrences.{rejected_names}
 
 -- an assignment, PRINT, READ or STOP, a CONTINUE, or a logical IF
 pub data PlainForm : Type 0 where
@@ -132,7 +132,7 @@ abbrev mutual
   pub loop_trees : LoopForm → List StmtTree
   loop_trees (loop s l h p b e) =
       comments_of s
-      ++ Do (whole_head h (names_of_private p) (map rejected_name s.directives)) (pack_stmts (comments_of_private p ++ body_trees b ++ ending_trees e)) ∷ []
+      ++ Do (whole_head h (names_of_private p) (rejected_names s.directives)) (pack_stmts (comments_of_private p ++ body_trees b ++ ending_trees e)) ∷ []
 
   pub ending_trees : EndingForm → List StmtTree
   ending_trees (at_plain s p) = comments_of s ++ plain_trees p

@@ -1,0 +1,4 @@
+pub mod BlocksFound
+pub mod BlocksMoved
+pub mod BlocksNest
+pub mod BlocksOneTree

@@ -1,0 +1,17 @@
+pub mod Again
+pub mod Basics
+pub mod CondAgain
+pub mod CondEquations
+pub mod CondPrinted
+pub mod CondSettled
+pub mod CondSound
+pub mod CondWhole
+pub mod Equations
+pub mod Large
+pub mod Lists
+pub mod Printed
+pub mod Said
+pub mod Settled
+pub mod Sound
+pub mod Values
+pub mod Whole

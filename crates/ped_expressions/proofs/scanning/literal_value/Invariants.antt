@@ -1,0 +1,7 @@
+use Rattle.std.proofs.Common.{◌≡◌, take}
+use Rattle.std.specs.Str.Parse.{digits_value}
+use Rattle.ped_expressions.specs.ExpressionReading.{saturated}
+use Rattle.ped_expressions.proofs.scanning.literal_value.Given as goal
+
+abbrev pub invariant-loop-digit : goal.invariant-loop-digit
+invariant-loop-digit l = l.value ≡ saturated (digits_value 10 (take l.digit-index l.digits))

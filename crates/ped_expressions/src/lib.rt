@@ -1,0 +1,27 @@
+//! Arithmetic expressions and conditions (ANSI X3.9-1978, section 6) read from texts without blanks. The
+//! readers of whole texts answer a tree exactly where some form of the grammar has the text; those of the
+//! front of a text answer what a reading from left to right finds there, and what follows it.
+#![tactic(auto)]
+
+mod conditions;
+mod expressions;
+mod laws;
+mod literals;
+mod operators;
+mod readings;
+mod scanning;
+
+pub use conditions::{cond, read_condition};
+pub use expressions::{expr, primary, read_expression, read_reference};
+pub use laws::{
+    one_condition, one_expression, one_reference, printed_condition, printed_expression,
+    printed_reference,
+};
+pub use literals::{cond_has_large_literal, has_large_literal};
+pub use readings::{Failure, Reading};
+pub use scanning::{
+    after, begins_with_digit, begins_with_letter, literal_value, name_of, split_digits, split_word,
+};
+
+#[cfg(test)]
+mod tests;

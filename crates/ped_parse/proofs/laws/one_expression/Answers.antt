@@ -1,5 +1,0 @@
-use Rattle.ped_parse.proofs.Whole
-use Rattle.ped_parse.proofs.laws.one_expression.Goals as goal
-
-pub returns : goal.returns
-returns c = Whole.one_expr

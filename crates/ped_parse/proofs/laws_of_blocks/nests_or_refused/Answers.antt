@@ -1,5 +1,0 @@
-use Rattle.ped_parse.proofs.BlocksFound.{form_found}
-use Rattle.ped_parse.proofs.laws_of_blocks.nests_or_refused.Goals as goal
-
-pub returns : goal.returns
-returns c = form_found

@@ -1,5 +1,0 @@
-use Rattle.ped_parse.proofs.OneStatement
-use Rattle.ped_parse.proofs.laws_of_statements.one_item.Goals as goal
-
-pub returns : goal.returns
-returns c = OneStatement.one_item

@@ -1,7 +1,0 @@
-use Rattle.std.proofs.Common.{◌≡◌, take}
-use Rattle.std.specs.Str.Parse.{digits_value}
-use Rattle.ped_parse.specs.ExpressionReading.{saturated}
-use Rattle.ped_parse.proofs.scanning.literal_value.Given as goal
-
-abbrev pub invariant-loop-digit : goal.invariant-loop-digit
-invariant-loop-digit l = l.value ≡ saturated (digits_value 10 (take l.digit-index l.digits))

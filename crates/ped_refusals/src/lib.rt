@@ -1,0 +1,9 @@
+//! The refusals of statements (ANSI X3.9-1978, sections 3.5, 8 and 11; limits of the profile): which of
+//! those that stand at the statements of a text is the first.
+#![tactic(auto)]
+
+mod refusals;
+mod saving;
+
+pub use refusals::{StatementRefusal, StatementRefusalKind, first_refusal};
+pub use saving::saved_names;

@@ -1,0 +1,11 @@
+pub mod Control
+pub mod Declared
+pub mod EachStatement
+pub mod Gathered
+pub mod NoAssignment
+pub mod OneReading
+pub mod OneStatement
+pub mod Outside
+pub mod Pieces
+pub mod Several
+pub mod Simple

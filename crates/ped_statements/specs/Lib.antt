@@ -1,0 +1,5 @@
+pub mod Listing
+pub mod ProfileReading
+pub mod Saturated
+pub mod StatementReading
+pub mod StatementViews

@@ -1,0 +1,13 @@
+//! Statements read from texts without blanks, each by itself (ANSI X3.9-1978, sections 8 to 12): a
+//! statement says something exactly where some form of the grammar has its text.
+#![tactic(auto)]
+
+mod declarations;
+mod keywords;
+mod laws_of_statements;
+mod loops;
+mod names;
+mod statements;
+
+pub use laws_of_statements::one_item;
+pub use statements::read_statement;

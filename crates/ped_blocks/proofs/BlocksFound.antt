@@ -19,16 +19,16 @@ use Rattle.ped_blocks.specs.Machine.{nothing_built, take_entries, built_program}
 use Rattle.ped_blocks.proofs.BlocksNest.{form_built}
 use Rattle.ped_blocks.proofs.BlocksMoved.{Part, around, labels, stack_entries, StackFits, Fresh, moved}
 
-none_stands : (test : Bool) (r : Refusal) (line : ℕ) → stands test r line ≡ [] → test ≡ false
+pub none_stands : (test : Bool) (r : Refusal) (line : ℕ) → stands test r line ≡ [] → test ≡ false
 unfolding stands
 none_stands true r line e = absurd cc
 none_stands false r line e = refl
 
-left_empty : {A : Type 0} (xs ys : List A) → xs ++ ys ≡ [] → xs ≡ []
+pub left_empty : {A : Type 0} (xs ys : List A) → xs ++ ys ≡ [] → xs ≡ []
 left_empty [] ys e = refl
 left_empty (x ∷ xs) ys e = absurd cc
 
-right_empty : {A : Type 0} (xs ys : List A) → xs ++ ys ≡ [] → ys ≡ []
+pub right_empty : {A : Type 0} (xs ys : List A) → xs ++ ys ≡ [] → ys ≡ []
 right_empty [] ys e = e
 right_empty (x ∷ xs) ys e = absurd cc
 
@@ -39,7 +39,7 @@ found_stays f (g ∷ gs) e =
     let go : (x : Bool) → earliest (cond x (Some g) (Some f)) gs ≡ None → ⊥ = λ x. elim x as (λ x. earliest (cond x (Some g) (Some f)) gs ≡ None → ⊥) [ true ↦ found_stays g gs | false ↦ found_stays f gs ] in
     go (is_before g f) e
 
-first_none : (fs : List Finding) → first_of fs ≡ None → fs ≡ []
+pub first_none : (fs : List Finding) → first_of fs ≡ None → fs ≡ []
 unfolding earlier
 first_none [] e = refl
 first_none (f ∷ fs) e = absurd (found_stays f fs e)

@@ -1,1 +1,6 @@
+pub mod Entries
+pub mod LargeItems
 pub mod OneOfBoth
+pub mod OtherLiterals
+pub mod OtherRefusals
+pub mod ReadAs

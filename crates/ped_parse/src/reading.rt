@@ -1,11 +1,24 @@
 //! Texts read as programs.
 
-ghost use Rattle.std.specs.Prelude.{IfOk, IfErr};
+ghost use Rattle.std.specs.Prelude.{◌≡◌, ℕ, List, None, IfOk, IfErr, map};
 ghost use Rattle.ped_tree.specs.Views.{program_tree};
+ghost use Rattle.ped_tree.specs.Grouping.{statements_of};
+ghost use Rattle.ped_tree.specs.LineRefusals.{first_line_refusal};
 ghost use Rattle.ped_tree.specs.Reading.{Reads, HasFirstLines};
+ghost use Rattle.ped_lines.specs.Views.{statement_of, statements_view};
+ghost use Rattle.ped_expressions.specs.ExpressionReading.{saturated};
+ghost use Rattle.ped_statements.specs.Saturated.{IsReadAs};
+ghost use Rattle.ped_items.specs.ItemViews.{entry_of};
+ghost use Rattle.ped_parse.specs.Entries.{AreReadAs};
 ghost use Rattle.ped_parse.specs.Refusals.{IsRefusalOf};
 
-use crate::refusals::ReadRefusal;
+use crate::refusals::{ReadRefusal, Refusal};
+use ped_base::NoMemory;
+use ped_blocks::program_of;
+use ped_items::Entry;
+use ped_lines::{LinesError, Statement, Statements, statements};
+use ped_refusals::{first_refusal, saved_names};
+use ped_statements::read_statement;
 use ped_tree::Program;
 use std::alloc::Global;
 
@@ -21,5 +34,48 @@ pub fn read(alloc: Global, text: &[u8]) -> Result<Program, ReadRefusal>
     ensures lines { IfOk result (λ p. HasFirstLines text.now p.lines.items) }
     ensures refused { IfErr result (λ e. IsRefusalOf text.now e) }
 {
-    Err(ReadRefusal::NoMemory)
+    match statements(alloc, text) {
+        Ok(cut) => nested(alloc, cut),
+        Err(LinesError::Refused(refusal)) => Err(ReadRefusal::At(Refusal::of_line(refusal))),
+        Err(LinesError::NoMemory) => Err(ReadRefusal::NoMemory),
+    }
+}
+
+/// The program that the statements of a text nest to, or the first refusal among them.
+fn nested(alloc: Global, cut: Statements) -> Result<Program, ReadRefusal>
+    ensures tree { IfOk result (λ p. (text : List ℕ) → first_line_refusal text ≡ None → statements_view cut ≡ statements_of text → Reads text (program_tree p)) }
+    ensures lines { IfOk result (λ p. (text : List ℕ) → first_line_refusal text ≡ None → statements_view cut ≡ statements_of text → HasFirstLines text p.lines.items) }
+    ensures refused { IfErr result (λ e. (text : List ℕ) → first_line_refusal text ≡ None → statements_view cut ≡ statements_of text → IsRefusalOf text e) }
+{
+    let entries = entries(alloc, cut.statements.into_vec())?;
+    let saved = saved_names(alloc, &entries)?;
+    match first_refusal(
+        alloc,
+        &entries,
+        cut.directives.as_slice(),
+        cut.lines,
+        &saved,
+    )? {
+        Some(refusal) => Err(ReadRefusal::At(Refusal::of_statement(refusal))),
+        None => Ok(program_of(alloc, entries, &saved)?),
+    }
+}
+
+/// The statements with what they say, one by one.
+fn entries(alloc: Global, statements: Vec<Statement>) -> Result<Vec<Entry>, NoMemory>
+    ensures { IfOk result (λ entries. AreReadAs (map statement_of statements.items) (map entry_of entries.items)) }
+{
+    let mut entries = Vec::new(alloc);
+    for statement in statements {
+        entries.push(entry(alloc, statement)?)?;
+    }
+    Ok(entries)
+}
+
+/// The statement with what it says.
+fn entry(alloc: Global, statement: Statement) -> Result<Entry, NoMemory>
+    ensures { IfOk result (λ entry. ((entry_of entry).statement ≡ statement_of statement) × IsReadAs saturated (statement_of statement).text (entry_of entry).reading) }
+{
+    let reading = read_statement(alloc, statement.text.as_slice())?;
+    Ok(Entry { statement, reading })
 }

@@ -2,9 +2,13 @@
 
 ghost use Rattle.std.specs.Prelude.{◌≡◌};
 ghost use Rattle.ped_tree.specs.Refusal.{number_of};
-ghost use Rattle.ped_parse.specs.Refusals.{kind_of};
+ghost use Rattle.ped_lines.specs.Views as Lines;
+ghost use Rattle.ped_refusals.specs.Views as Statements;
+ghost use Rattle.ped_parse.specs.Refusals.{kind_of, finding_of};
 
 use ped_base::NoMemory;
+use ped_lines::{LineRefusal, LineRefusalKind};
+use ped_refusals::{StatementRefusal, StatementRefusalKind};
 
 /// A rule that a text breaks, in the order of the numbers 1 to 13.
 #[derive(Clone, Copy, Debug, PartialEq, Eq)]
@@ -67,6 +71,55 @@ pub struct Refusal {
     pub kind: RefusalKind,
     /// The line's number, from 1.
     pub line: u64,
+}
+
+impl Refusal {
+    /// The refusal of a line.
+    pub fn of_line(refusal: LineRefusal) -> Refusal
+        ensures { finding_of result ≡ Lines.finding_of refusal }
+    {
+        Refusal {
+            kind: kind_of_line(refusal.kind),
+            line: refusal.line,
+        }
+    }
+
+    /// The refusal of a statement.
+    pub fn of_statement(refusal: StatementRefusal) -> Refusal
+        ensures { finding_of result ≡ Statements.finding_of refusal }
+    {
+        Refusal {
+            kind: kind_of_statement(refusal.kind),
+            line: refusal.line,
+        }
+    }
+}
+
+fn kind_of_line(kind: LineRefusalKind) -> RefusalKind
+    ensures { kind_of result ≡ Lines.kind_of kind }
+{
+    match kind {
+        LineRefusalKind::Tab => RefusalKind::Tab,
+        LineRefusalKind::BadLabel => RefusalKind::BadLabel,
+        LineRefusalKind::TooManyContinuations => RefusalKind::TooManyContinuations,
+        LineRefusalKind::ContinuationFirst => RefusalKind::ContinuationFirst,
+        LineRefusalKind::BadCharacter => RefusalKind::BadCharacter,
+        LineRefusalKind::OpenConstant => RefusalKind::OpenConstant,
+    }
+}
+
+fn kind_of_statement(kind: StatementRefusalKind) -> RefusalKind
+    ensures { kind_of result ≡ Statements.kind_of kind }
+{
+    match kind {
+        StatementRefusalKind::Syntax => RefusalKind::Syntax,
+        StatementRefusalKind::NotInProfile => RefusalKind::NotInProfile,
+        StatementRefusalKind::OpenBlock => RefusalKind::OpenBlock,
+        StatementRefusalKind::BadTerminal => RefusalKind::BadTerminal,
+        StatementRefusalKind::IndexAssigned => RefusalKind::IndexAssigned,
+        StatementRefusalKind::StopPlace => RefusalKind::StopPlace,
+        StatementRefusalKind::Limit => RefusalKind::Limit,
+    }
 }
 
 /// Why a text isn't read.

@@ -1,0 +1,158 @@
+-- The refusals of statements stay the same where a literal that 32 bits don't hold is taken as the greatest number that they hold.
+use Rattle.std.proofs.Common.{◌≡◌, ℕ, ◌+◌, Bool, true, false, cond, List, [], ◌∷◌, ◌++◌, map, max, length, Option, Some, None, refl, sym, ap, subst, ◌∙◌}
+use Rattle.std.specs.Prelude.{◌||◌, ◌&&◌, not, nat_lt, nat_le, filter}
+use Rattle.std.specs.List.{list_any, flat_map}
+use Rattle.ped_tree.specs.Refusal.{Finding, Syntax, NotInProfile, OpenBlock, BadTerminal, IndexAssigned, StopPlace, Limit, stands, first_of}
+use Rattle.ped_tree.specs.Statement.{Note, Statement, Statements}
+use Rattle.ped_tree.specs.Items.{Item, Reading, says, outside_profile, no_form, Entry}
+use Rattle.ped_tree.specs.Occurrences.{of_reading, names_in, do_variables, constants_of, rejected_names, entry_names, all_do_variables, all_constants, is_among, first_occurrences, saved_names}
+use Rattle.ped_tree.specs.Contexts.{Context, at_start, is_do, may_end, behind_item, behind_reading, behind, behind_all}
+use Rattle.ped_tree.specs.ProgramRefusals.{where_it_says, is_outside, is_formless, is_out_of_order, is_misplaced, is_behind_end, breaks_syntax, leaves_open, has_do, ends_badly, open_variables, assigned_in, private_in, inner_variables, meets, assigns_index, stops, private_behind, loop_depth, passes_limit, is_bad_directive, is_parted, at_directives, at_statement, at_statements, at_end, program_refusals}
+use Rattle.ped_tree.specs.Contexts.{closed}
+use Rattle.ped_tree.specs.Occurrences.{is_rejection}
+use Rattle.ped_expressions.specs.ExpressionReading.{saturated}
+use Rattle.ped_statements.specs.Saturated.{says_with_literals, reading_with_literals, entry_with_literals}
+use Rattle.ped_parse.proofs.OtherLiterals.{flat_with, names_with, do_variables_with, constants_with, rank_with, numbered_with, is_do_with, may_end_with, saves_list_with, saves_without_with, lacks_if_with, late_with, leaves_with, assigned_with, private_with, stops_with, blocks_with}
+use Rattle.ped_parse.proofs.LargeItems.{limit_same}
+
+where_with : (v : ℕ → ℕ) (test : Item → Bool) → ((i : Item) → test (says_with_literals v i) ≡ test i) → (r : Reading) → where_it_says test (reading_with_literals v r) ≡ where_it_says test r
+where_with v test h (says i) = h i
+where_with v test h outside_profile = refl
+where_with v test h no_form = refl
+
+of_with : (v : ℕ → ℕ) (has : Item → List (List ℕ)) → ((i : Item) → has (says_with_literals v i) ≡ has i) → (r : Reading) → of_reading has (reading_with_literals v r) ≡ of_reading has r
+of_with v has h (says i) = h i
+of_with v has h outside_profile = refl
+of_with v has h no_form = refl
+
+behind_item_with : (v : ℕ → ℕ) (c : Context) (label : Option ℕ) (i : Item) → behind_item c label (says_with_literals v i) ≡ behind_item c label i
+behind_item_with v c label i =
+    let p = rank_with v i in
+    let b = blocks_with v label i c.blocks in
+    let n = numbered_with v i in
+    let d = is_do_with v i in
+    let k = constants_with v i in
+    let s = saves_list_with v i in
+    let w = saves_without_with v i in
+    λ j. record {
+      phase = max c.phase (p j);
+      blocks = b j;
+      statements = c.statements + n j;
+      loops = c.loops + cond (d j) 1 0;
+      constants = c.constants ++ k j;
+      saves_names = c.saves_names || s j;
+      saves_everything = c.saves_everything || w j;
+      behind_do = d j;
+    }
+
+behind_reading_with : (v : ℕ → ℕ) (c : Context) (label : Option ℕ) (r : Reading) → behind_reading c label (reading_with_literals v r) ≡ behind_reading c label r
+behind_reading_with v c label (says i) = behind_item_with v c label i
+behind_reading_with v c label outside_profile = refl
+behind_reading_with v c label no_form = refl
+
+behind_with : (v : ℕ → ℕ) (c : Context) (e : Entry) → behind c (entry_with_literals v e) ≡ behind c e
+behind_with v c e = behind_reading_with v c e.statement.label e.reading
+
+behind_all_with : (v : ℕ → ℕ) (c : Context) (es : List Entry) → behind_all c (map (entry_with_literals v) es) ≡ behind_all c es
+behind_all_with v c [] = refl
+behind_all_with v c (e ∷ es) = ap (λ (d : Context). behind_all d (map (entry_with_literals v) es)) (behind_with v c e) ∙ behind_all_with v (behind c e) es
+
+misplaced_with : (v : ℕ → ℕ) (c : Context) (i : Item) → is_misplaced c (says_with_literals v i) ≡ is_misplaced c i
+misplaced_with v c i =
+    let p = rank_with v i in
+    let l = lacks_if_with v c.blocks i in
+    let t = late_with v c.behind_do i in
+    let s = saves_list_with v i in
+    let w = saves_without_with v i in
+    λ j. is_out_of_order c.phase (p j) || l j || t j || ((s j && c.saves_everything) || (w j && (c.saves_names || c.saves_everything)))
+
+breaks_with : (v : ℕ → ℕ) (c : Context) (r : Reading) → breaks_syntax c (reading_with_literals v r) ≡ breaks_syntax c r
+breaks_with v c (says i) = let m = misplaced_with v c i in λ j. not false && (is_behind_end c || false || m j)
+breaks_with v c outside_profile = refl
+breaks_with v c no_form = refl
+
+outside_with : (v : ℕ → ℕ) (r : Reading) → is_outside (reading_with_literals v r) ≡ is_outside r
+outside_with v (says i) = refl
+outside_with v outside_profile = refl
+outside_with v no_form = refl
+
+ends_with : (v : ℕ → ℕ) (c : Context) (label : Option ℕ) (r : Reading) → ends_badly c.blocks label (reading_with_literals v r) ≡ ends_badly c.blocks label r
+ends_with v c None r = refl
+ends_with v c (Some l) r = ap (λ (b : Bool). has_do l c.blocks && not (b && not (has_do l (closed l c.blocks)))) (where_with v may_end (may_end_with v) r)
+
+inner_with : (v : ℕ → ℕ) (depth : ℕ) (c : Context) (es : List Entry) → inner_variables depth c (map (entry_with_literals v) es) ≡ inner_variables depth c es
+inner_with v depth c [] = refl
+inner_with v depth c (e ∷ es) =
+    let d = of_with v do_variables (do_variables_with v) e.reading in
+    let b = behind_with v c e in
+    (λ j. cond (nat_lt (length c.blocks) depth) [] (d j ++ inner_variables depth (b j) (map (entry_with_literals v) es)))
+    ∙ ap (λ (ys : List (List ℕ)). cond (nat_lt (length c.blocks) depth) [] (of_reading do_variables e.reading ++ ys)) (inner_with v depth (behind c e) es)
+
+index_with : (v : ℕ → ℕ) (c : Context) (e : Entry) (rest : List Entry) → assigns_index c (entry_with_literals v e) (map (entry_with_literals v) rest) ≡ assigns_index c e rest
+index_with v c e rest =
+    let a = of_with v assigned_in (assigned_with v) e.reading in
+    let p = of_with v private_in (private_with v) e.reading in
+    let inner = ap (λ (d : Context). inner_variables (length c.blocks) d (map (entry_with_literals v) rest)) (behind_with v c e) ∙ inner_with v (length c.blocks) (behind c e) rest in
+    λ j. meets (a j) (open_variables c.blocks) || meets (p j) (open_variables c.blocks ++ inner j)
+
+directives_with : (v : ℕ → ℕ) (c : Context) (e : Entry) → at_directives c (entry_with_literals v e) ≡ at_directives c e
+directives_with v c e =
+    let d = where_with v is_do (is_do_with v) e.reading in
+    λ j. flat_map (λ (n : Note). stands (is_behind_end c || not (is_rejection n.text) || not (d j) || nat_lt e.statement.line n.line || is_parted n e.statement) Syntax n.line) e.statement.directives
+
+private_behind_with : (v : ℕ → ℕ) (es : List Entry) → private_behind (map (entry_with_literals v) es) ≡ private_behind es
+private_behind_with v [] = refl
+private_behind_with v (e ∷ es) = of_with v private_in (private_with v) e.reading
+
+limit_with : (saved : List (List ℕ)) (c : Context) (rest : List Entry) (r : Reading)
+    → where_it_says (passes_limit saved c (map (entry_with_literals saturated) rest)) (reading_with_literals saturated r) ≡ where_it_says (passes_limit saved c rest) r
+limit_with saved c rest (says i) = limit_same saved c (map (entry_with_literals saturated) rest) rest (private_behind_with saturated rest) i
+limit_with saved c rest outside_profile = refl
+limit_with saved c rest no_form = refl
+
+at_statement_with : (saved : List (List ℕ)) (c : Context) (e : Entry) (rest : List Entry)
+    → at_statement saved c (entry_with_literals saturated e) (map (entry_with_literals saturated) rest) ≡ at_statement saved c e rest
+at_statement_with saved c e rest =
+    let v = saturated in
+    let a = directives_with v c e in
+    let b = breaks_with v c e.reading in
+    let o = outside_with v e.reading in
+    let l = where_with v (leaves_open c.blocks) (leaves_with v c.blocks) e.reading in
+    let t = ends_with v c e.statement.label e.reading in
+    let x = index_with v c e rest in
+    let s = where_with v stops (stops_with v) e.reading in
+    let m = limit_with saved c rest e.reading in
+    λ j.
+    a j
+    ++ stands (b j) Syntax e.statement.line
+    ++ stands (o j) NotInProfile e.statement.line
+    ++ stands (l j) OpenBlock e.statement.line
+    ++ stands (t j) BadTerminal e.statement.line
+    ++ stands (x j) IndexAssigned e.statement.line
+    ++ stands (s j && nat_lt 0 (loop_depth c.blocks)) StopPlace e.statement.line
+    ++ stands (m j) Limit e.statement.line
+
+at_statements_with : (saved : List (List ℕ)) (c : Context) (es : List Entry) → at_statements saved c (map (entry_with_literals saturated) es) ≡ at_statements saved c es
+at_statements_with saved c [] = refl
+at_statements_with saved c (e ∷ es) =
+    let a = at_statement_with saved c e es in
+    let b = behind_with saturated c e in
+    (λ j. a j ++ at_statements saved (b j) (map (entry_with_literals saturated) es))
+    ∙ ap (λ (fs : List Finding). at_statement saved c e es ++ fs) (at_statements_with saved (behind c e) es)
+
+entry_names_with : (v : ℕ → ℕ) (e : Entry) → entry_names (entry_with_literals v e) ≡ entry_names e
+entry_names_with v e = ap (λ (xs : List (List ℕ)). rejected_names e.statement.directives ++ xs) (of_with v names_in (names_with v) e.reading)
+
+pub saved_with : (v : ℕ → ℕ) (es : List Entry) → saved_names (map (entry_with_literals v) es) ≡ saved_names es
+saved_with v es =
+    let n = flat_with entry_names (entry_with_literals v) (entry_names_with v) es in
+    let d = flat_with (λ (e : Entry). of_reading do_variables e.reading) (entry_with_literals v) (λ e. of_with v do_variables (do_variables_with v) e.reading) es in
+    let k = flat_with (λ (e : Entry). of_reading constants_of e.reading) (entry_with_literals v) (λ e. of_with v constants_of (constants_with v) e.reading) es in
+    λ j. filter (λ x. not (is_among x (k j)) && not (is_among x (d j))) (first_occurrences [] (n j))
+
+pub refusals_with : (all : Statements) (es : List Entry) → program_refusals all (map (entry_with_literals saturated) es) ≡ program_refusals all es
+refusals_with all es =
+    let s = saved_with saturated es in
+    let b = behind_all_with saturated at_start es in
+    (λ j. at_statements (s j) at_start (map (entry_with_literals saturated) es) ++ at_end (b j) all)
+    ∙ ap (λ (fs : List Finding). fs ++ at_end (behind_all at_start es) all) (at_statements_with (saved_names es) at_start es)

@@ -9,3 +9,5 @@ pub mod Outside
 pub mod Pieces
 pub mod Several
 pub mod Simple
+pub mod SimpleSteps
+pub mod StatementSteps

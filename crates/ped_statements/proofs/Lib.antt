@@ -7,6 +7,7 @@ pub mod OneReading
 pub mod OneStatement
 pub mod Outside
 pub mod Pieces
+pub mod ProfileSteps
 pub mod Several
 pub mod Simple
 pub mod SimpleSteps

@@ -82,11 +82,19 @@ fn begins_with_any(text: &[u8], words: &[&[u8]]) -> bool
     ensures { result ≡ list_any (OutsideProfile.begins_with text.now) (map (λ w. w.now) words.now) }
 {
     for word in words {
-        if text.starts_with(word) {
+        if begins_with(text, word) {
             return true;
         }
     }
     false
+}
+
+/// Whether the word begins the text.
+#[tactic(auto, using(crate::proofs::ProfileSteps::pointwise_turned))]
+fn begins_with(text: &[u8], word: &[u8]) -> bool
+    ensures { result ≡ OutsideProfile.begins_with text.now word.now }
+{
+    text.starts_with(word)
 }
 
 /// Whether the text is STOP with digits or a character constant behind it.
@@ -104,6 +112,7 @@ fn stops_with_code(alloc: Global, text: &[u8]) -> Result<bool, NoMemory>
 }
 
 /// Whether the text is one digit or more.
+#[tactic(auto, using(crate::proofs::ProfileSteps::numeral_end, crate::proofs::ProfileSteps::no_numeral))]
 fn is_numeral(text: &[u8]) -> bool
     ensures { result ≡ Words.is_numeral text.now }
 {
@@ -186,6 +195,7 @@ fn behind_parenthesis(text: &[u8]) -> Option<&[u8]>
 }
 
 /// Whether the text is numerals with a comma between two.
+#[tactic(auto, using(crate::proofs::ProfileSteps::labels_more, crate::proofs::ProfileSteps::labels_last, crate::proofs::ProfileSteps::labels_none))]
 fn are_labels(text: &[u8]) -> bool
     ensures { result ≡ is_some (whole (several numeral_at text.now)) }
 {

@@ -33,7 +33,9 @@ pointwise_turned (x ∷ xs) (y ∷ ys) = rw (same_eqb x y, pointwise_turned xs y
 
 behind_end : (p : ℕ → Bool) (text : List ℕ) → is_end (behind p text) ≡ list_all p text
 behind_end p [] = refl
-behind_end p (c ∷ cs) = elim (p c) as (λ b. is_end (cond b (behind p cs) (c ∷ cs)) ≡ cond b (list_all p cs) false) [ true ↦ behind_end p cs | false ↦ refl ]
+behind_end p (c ∷ cs) =
+    let go : (b : Bool) → p c ≡ b → is_end (behind p (c ∷ cs)) ≡ list_all p (c ∷ cs) = λ b. elim b as (λ b. p c ≡ b → is_end (behind p (c ∷ cs)) ≡ list_all p (c ∷ cs)) [ true ↦ λ h. rw h (behind_end p cs) | false ↦ λ h. rw h refl ] in
+    go (p c) refl
 
 pub numeral_end : (text : List ℕ) → first_is is_digit text ≡ true → is_end (behind is_digit text) ≡ is_numeral text
 numeral_end [] h = absurd cc

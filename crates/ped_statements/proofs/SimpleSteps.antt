@@ -9,7 +9,7 @@ use Rattle.ped_tree.specs.StatementForms.{item_form_text, item_form_tree}
 use Rattle.ped_expressions.specs.ExpressionReading.{with_literals}
 use Rattle.ped_statements.specs.Saturated.{item_with_literals}
 use Rattle.ped_expressions.specs.Scanning.{◌>>=◌, go_on, first_is, after}
-use Rattle.ped_expressions.proofs.Basics.{after_is}
+use Rattle.ped_expressions.proofs.Basics.{after_is, bind_same}
 use Rattle.ped_statements.specs.Listing.{is_end, whole, several, each_behind_comma}
 use Rattle.ped_statements.specs.StatementReading.{quoted_at, reference_of, item_of}
 use Rattle.ped_statements.proofs.Gathered.{ahead, ahead_one}
@@ -119,6 +119,19 @@ each_one {A} item s left q r x e a i =
     let one : several item q ≡ listed (several item) (x, r) = several_step item s q ∙ ap (λ (o : Option (A × List ℕ)). o >>= listed (several item)) i in
     first ∙ ap whole one ∙ goes_on item x r
 
+behind_one : {A : Type 0} (item : List ℕ → Option (A × List ℕ)) → Shrinks item → (q : List ℕ) → whole (several item q) ≡ (item q >>= λ x. each_behind_comma item x.1 >>= λ ys. Some (x.0 ∷ ys))
+behind_one {A} item s q =
+    let go : (o : Option (A × List ℕ)) → whole (o >>= listed (several item)) ≡ (o >>= λ x. each_behind_comma item x.1 >>= λ ys. Some (x.0 ∷ ys)) = λ o. elim o as (λ o. whole (o >>= listed (several item)) ≡ (o >>= λ x. each_behind_comma item x.1 >>= λ ys. Some (x.0 ∷ ys))) [
+      | None ↦ refl
+      | Some x ↦ goes_on item x.0 x.1
+    ] in
+    ap whole (several_step item s q) ∙ go (item q)
+
+each_step : {A : Type 0} (item : List ℕ → Option (A × List ℕ)) → Shrinks item → (ts : List ℕ) → each_behind_comma item ts ≡ cond (is_end ts) (Some []) (after (codes ",") ts >>= λ q. item q >>= λ x. each_behind_comma item x.1 >>= λ ys. Some (x.0 ∷ ys))
+unfolding each_behind_comma
+each_step {A} item s ts =
+    ap (λ (o : Option (List A)). cond (is_end ts) (Some []) o) (bind_same (after (codes ",") ts) (λ q. whole (several item q)) (λ q. item q >>= λ x. each_behind_comma item x.1 >>= λ ys. Some (x.0 ∷ ys)) (λ q h. behind_one item s q))
+
 pub each_more : {A : Type 0} (item : List ℕ → Option (A × List ℕ)) → Shrinks item → (xs new : List A) (x : A) (left q r : List ℕ) (all : Option (List A)) → all_ahead xs (each_behind_comma item left) ≡ all → is_end left ≡ false → after (codes ",") left ≡ Some q → item q ≡ Some (x, r) → new ≡ xs ++ x ∷ [] → all_ahead new (each_behind_comma item r) ≡ all
 each_more {A} item s xs new x left q r all h e a i n =
     ap (λ (l : List A). all_ahead l (each_behind_comma item r)) n ∙ sym (all_ahead_one xs x (each_behind_comma item r)) ∙ ap (all_ahead xs) (sym (each_one item s left q r x e a i)) ∙ h
@@ -145,3 +158,9 @@ items_shrink v = shrinks item_form_text (λ i. item_with_literals v (item_form_t
 
 pub references_shrink : (v : ℕ → ℕ) → Shrinks (reference_of v)
 references_shrink v = shrinks reference_form_text (λ r. with_literals v (reference_form_tree r)) (λ r. true) (reference_of v) (reference_found v)
+
+pub items_step : (v : ℕ → ℕ) (ts : List ℕ) → each_behind_comma (item_of v) ts ≡ cond (is_end ts) (Some []) (after (codes ",") ts >>= λ q. item_of v q >>= λ x. each_behind_comma (item_of v) x.1 >>= λ ys. Some (x.0 ∷ ys))
+items_step v = each_step (item_of v) (items_shrink v)
+
+pub references_step : (v : ℕ → ℕ) (ts : List ℕ) → each_behind_comma (reference_of v) ts ≡ cond (is_end ts) (Some []) (after (codes ",") ts >>= λ q. reference_of v q >>= λ x. each_behind_comma (reference_of v) x.1 >>= λ ys. Some (x.0 ∷ ys))
+references_step v = each_step (reference_of v) (references_shrink v)

@@ -103,6 +103,7 @@ pub fn is_word(text: &[u8], word: &[u8]) -> bool
 }
 
 /// The items of a PRINT, each behind a comma, that the whole text is.
+#[tactic(auto, using(crate::proofs::SimpleSteps::items_step))]
 fn items(alloc: Global, text: &[u8]) -> Result<Vec<PrintItem>, Failure>
     ensures { Gives item_trees result (each_behind_comma (item_of saturated) text.now) }
 {
@@ -120,6 +121,7 @@ fn items(alloc: Global, text: &[u8]) -> Result<Vec<PrintItem>, Failure>
 }
 
 /// The items of a READ, each behind a comma, that the whole text is.
+#[tactic(auto, using(crate::proofs::SimpleSteps::references_step))]
 fn references(alloc: Global, text: &[u8]) -> Result<Vec<Expr>, Failure>
     ensures { Gives reference_trees result (each_behind_comma (reference_of saturated) text.now) }
 {

@@ -1,19 +1,26 @@
 -- Steps of testing for statements that the profile leaves out, as code takes them.
-use Rattle.std.proofs.Common.{◌≡◌, ℕ, Bool, true, false, cond, List, [], ◌∷◌, length, drop, take, Option, Some, None, refl, sym, ap, ◌∙◌, eqb}
+use Rattle.std.proofs.Common.{◌≡◌, ℕ, Bool, true, false, List, [], ◌∷◌, Option, Some, None, refl, sym, ap, ◌∙◌, eqb}
 use Rattle.std.specs.Prelude.{codes}
 use Rattle.std.specs.List.{list_all}
 use Rattle.std.specs.Cmp.Lexicographic.{pointwise}
 use Rattle.std.proofs.lemmas.Bool.{eqb-true, eq-eqb}
 use Rattle.ped_base.specs.Letters.{is_digit}
 use Rattle.ped_tree.specs.Words.{is_numeral}
-use Rattle.ped_expressions.specs.Scanning.{◌>>=◌, go_on, first_is, front, behind, after}
+use Rattle.ped_expressions.specs.Scanning.{◌>>=◌, first_is, front, behind, after}
 use Rattle.ped_statements.specs.Listing.{is_end, whole, several}
 use Rattle.ped_statements.specs.ProfileReading.{is_some, numeral_at}
 use Rattle.ped_statements.proofs.Several.{Shrinks, shrinks, listed, several_step}
 use Rattle.ped_statements.proofs.Pieces.{numeral_found}
-use Rattle.ped_statements.proofs.SimpleSteps.{apart}
 
 -- words
+
+apart : (a b : ℕ) → eqb a b ≡ false → eqb b a ≡ false
+apart a b h =
+    let go : (t : Bool) → eqb b a ≡ t → t ≡ false = λ t. elim t as (λ t. eqb b a ≡ t → t ≡ false) [
+      | true ↦ λ e. sym (eq-eqb a b (sym (eqb-true b a e))) ∙ h
+      | false ↦ λ e. refl
+    ] in
+    go (eqb b a) refl
 
 same_eqb : (a b : ℕ) → eqb a b ≡ eqb b a
 same_eqb a b =

@@ -1,7 +1,6 @@
 -- Steps of reading simple statements, as code takes them.
-use Rattle.std.proofs.Common.{◌≡◌, ℕ, Bool, true, false, cond, List, [], ◌∷◌, ◌++◌, Option, Some, None, refl, sym, ap, subst, ◌∙◌, append_assoc, eqb}
+use Rattle.std.proofs.Common.{◌≡◌, ℕ, true, false, cond, List, [], ◌∷◌, ◌++◌, Option, Some, None, refl, sym, ap, ◌∙◌, append_assoc}
 use Rattle.std.specs.Prelude.{codes}
-use Rattle.std.proofs.lemmas.Bool.{eqb-true, eq-eqb}
 use Rattle.std.proofs.lemmas.List.{append-nil}
 use Rattle.ped_base.specs.Letters.{is_letter, begins_with_letter}
 use Rattle.ped_tree.specs.ExpressionForms.{reference_form_text, reference_form_tree}
@@ -23,7 +22,7 @@ letter_first (c ∷ cs) = refl
 -- constants
 
 -- a character, and what is read behind it
-abbrev pub led : ℕ → Option (List ℕ × List ℕ) → Option (List ℕ × List ℕ)
+abbrev led : ℕ → Option (List ℕ × List ℕ) → Option (List ℕ × List ℕ)
 led c read = read >>= λ x. Some (c ∷ x.0, x.1)
 
 quoted_gains : (c : ℕ) (xs new left q : List ℕ) (all : Option (List ℕ × List ℕ)) → ahead xs (quoted_at false left) ≡ all → quoted_at false left ≡ led c (quoted_at false q) → new ≡ xs ++ c ∷ [] → ahead new (quoted_at false q) ≡ all
@@ -35,59 +34,11 @@ pub quoted_pair : (xs new left q : List ℕ) (all : Option (List ℕ × List ℕ
 quoted_pair xs new left q all h a n =
     quoted_gains 39 xs new left q all h (ap (quoted_at false) (after_is (codes "''") left q a)) n
 
-some_none : {A : Type 0} (x : A) → ◌≡◌ {A = Option A} (Some x) None → ⊥
-some_none x e = absurd cc
-
-pub apart : (a b : ℕ) → eqb a b ≡ false → eqb b a ≡ false
-apart a b h =
-    let go : (t : Bool) → eqb b a ≡ t → t ≡ false = λ t. elim t as (λ t. eqb b a ≡ t → t ≡ false) [
-      | true ↦ λ e. sym (eq-eqb a b (sym (eqb-true b a e))) ∙ h
-      | false ↦ λ e. refl
-    ] in
-    go (eqb b a) refl
-
-closes : (r : List ℕ) → after (codes "''") (39 ∷ r) ≡ None → quoted_at true r ≡ Some ([], r)
-closes [] p = refl
-closes (c ∷ cs) p =
-    let go : (b : Bool) → eqb 39 c ≡ b → quoted_at true (c ∷ cs) ≡ Some ([], c ∷ cs) = λ b. elim b as (λ b. eqb 39 c ≡ b → quoted_at true (c ∷ cs) ≡ Some ([], c ∷ cs)) [
-      | true ↦ λ e. absurd (some_none cs (rw e at p))
-      | false ↦ λ e. rw (apart 39 c e) refl
-    ] in
-    go (eqb 39 c) refl
-
--- the closing apostrophe
-pub quoted_end : (xs left r : List ℕ) (all : Option (List ℕ × List ℕ)) → ahead xs (quoted_at false left) ≡ all → after (codes "''") left ≡ None → after (codes "'") left ≡ Some r → all ≡ Some (xs, r)
-quoted_end xs left r all h p a =
-    let l : left ≡ 39 ∷ r = after_is (codes "'") left r a in
-    let one : quoted_at false left ≡ Some ([], r) = ap (quoted_at false) l ∙ closes r (subst (λ (t : List ℕ). after (codes "''") t ≡ None) l p) in
-    sym h ∙ ap (ahead xs) one ∙ ap (λ (ys : List ℕ). Some (ys, r)) (append-nil xs)
-
-not_closed : (c : ℕ) (q : List ℕ) → after (codes "'") (c ∷ q) ≡ None → quoted_at false (c ∷ q) ≡ led c (quoted_at false q)
-not_closed c q a =
-    let go : (b : Bool) → eqb 39 c ≡ b → quoted_at false (c ∷ q) ≡ led c (quoted_at false q) = λ b. elim b as (λ b. eqb 39 c ≡ b → quoted_at false (c ∷ q) ≡ led c (quoted_at false q)) [
-      | true ↦ λ e. absurd (some_none q (rw e at a))
-      | false ↦ λ e. rw (apart 39 c e) refl
-    ] in
-    go (eqb 39 c) refl
-
--- another character
-pub quoted_more : (xs new left q : List ℕ) (c : ℕ) (all : Option (List ℕ × List ℕ)) → ahead xs (quoted_at false left) ≡ all → left ≡ c ∷ q → after (codes "'") left ≡ None → new ≡ xs ++ c ∷ [] → ahead new (quoted_at false q) ≡ all
-quoted_more xs new left q c all h l a n =
-    quoted_gains c xs new left q all h (ap (quoted_at false) l ∙ not_closed c q (subst (λ (t : List ℕ). after (codes "'") t ≡ None) l a)) n
-
--- the end of the text before the constant is closed
-pub quoted_fails : (xs left : List ℕ) (all : Option (List ℕ × List ℕ)) → ahead xs (quoted_at false left) ≡ all → left ≡ [] → all ≡ None
-quoted_fails xs left all h l = sym h ∙ ap (λ (t : List ℕ). ahead xs (quoted_at false t)) l
-
 -- items behind commas
 
 -- what was read before, and what is still read
 abbrev pub all_ahead : {A : Type 0} → List A → Option (List A) → Option (List A)
 all_ahead xs read = read >>= λ ys. Some (xs ++ ys)
-
-pub all_ahead_none : {A : Type 0} (read : Option (List A)) → all_ahead [] read ≡ read
-all_ahead_none None = refl
-all_ahead_none (Some y) = refl
 
 all_ahead_one : {A : Type 0} (xs : List A) (x : A) (read : Option (List A)) → all_ahead xs (read >>= λ ys. Some (x ∷ ys)) ≡ all_ahead (xs ++ x ∷ []) read
 all_ahead_one xs x None = refl
@@ -141,17 +92,6 @@ unfolding each_behind_comma
 each_ends {A} item xs left all h e =
     let one : each_behind_comma item left ≡ Some [] = rw e refl in
     sym h ∙ ap (all_ahead xs) one ∙ ap (λ (ys : List A). Some ys) (append-nil xs)
-
-pub each_lacks_comma : {A : Type 0} (item : List ℕ → Option (A × List ℕ)) (xs : List A) (left : List ℕ) (all : Option (List A)) → all_ahead xs (each_behind_comma item left) ≡ all → is_end left ≡ false → after (codes ",") left ≡ None → all ≡ None
-unfolding each_behind_comma
-each_lacks_comma item xs left all h e a =
-    let one : each_behind_comma item left ≡ None = rw (e, a) refl in
-    sym h ∙ ap (all_ahead xs) one
-
-pub each_fails : {A : Type 0} (item : List ℕ → Option (A × List ℕ)) → Shrinks item → (xs : List A) (left q : List ℕ) (all : Option (List A)) → all_ahead xs (each_behind_comma item left) ≡ all → is_end left ≡ false → after (codes ",") left ≡ Some q → item q ≡ None → all ≡ None
-each_fails {A} item s xs left q all h e a i =
-    let none : several item q ≡ None = several_step item s q ∙ ap (λ (o : Option (A × List ℕ)). o >>= listed (several item)) i in
-    sym h ∙ ap (all_ahead xs) (each_begins item left q e a ∙ ap whole none)
 
 pub items_shrink : (v : ℕ → ℕ) → Shrinks (item_of v)
 items_shrink v = shrinks item_form_text (λ i. item_with_literals v (item_form_tree i)) (λ i. true) (item_of v) (item_found v)

@@ -1,6 +1,6 @@
 use Rattle.std.proofs.Common.{sym, false, arith}
 use Rattle.ped_statements.specs.StatementReading.{quoted_at}
-use Rattle.ped_statements.proofs.SimpleSteps.{quoted_pair, quoted_more, quoted_end, quoted_fails}
+use Rattle.ped_statements.proofs.SimpleSteps.{quoted_pair}
 use Rattle.ped_statements.proofs.simple_statements.characters.Goals as goal
 
 pub loop-behind-preserved-in-Some : goal.loop-behind-preserved-in-Some

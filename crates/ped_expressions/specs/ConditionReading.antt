@@ -61,18 +61,23 @@ abbrev mutual
 unfoldable pub cond_of : (ℕ → ℕ) → List ℕ → Answer CondTree
 cond_of v text = cond_at v (enough text) text
 
+-- what follows a condition behind .OR., with steps enough
 unfoldable pub ors_of : (ℕ → ℕ) → CondTree → List ℕ → Answer CondTree
 ors_of v a text = ors_at v (enough text) a text
 
+-- a logical term, with steps enough
 unfoldable pub logical_term_of : (ℕ → ℕ) → List ℕ → Answer CondTree
 logical_term_of v text = logical_term_at v (enough text) text
 
+-- what follows a logical term behind .AND., with steps enough
 unfoldable pub ands_of : (ℕ → ℕ) → CondTree → List ℕ → Answer CondTree
 ands_of v a text = ands_at v (enough text) a text
 
+-- a logical factor, with steps enough
 unfoldable pub logical_factor_of : (ℕ → ℕ) → List ℕ → Answer CondTree
 logical_factor_of v text = logical_factor_at v (enough text) text
 
+-- a logical primary, with steps enough
 unfoldable pub logical_primary_of : (ℕ → ℕ) → List ℕ → Answer CondTree
 logical_primary_of v text = logical_primary_at v (enough text) text
 

@@ -105,24 +105,31 @@ enough text = 8 * length text + 7
 unfoldable pub expr_of : (ℕ → ℕ) → List ℕ → Answer ExprTree
 expr_of v text = expr_at v (enough text) text
 
+-- what is added to an expression, with steps enough
 unfoldable pub sums_of : (ℕ → ℕ) → ExprTree → List ℕ → Answer ExprTree
 sums_of v a text = sums_at v (enough text) a text
 
+-- a term, with steps enough
 unfoldable pub term_of : (ℕ → ℕ) → List ℕ → Answer ExprTree
 term_of v text = term_at v (enough text) text
 
+-- what a term is multiplied with, with steps enough
 unfoldable pub products_of : (ℕ → ℕ) → ExprTree → List ℕ → Answer ExprTree
 products_of v a text = products_at v (enough text) a text
 
+-- a factor, with steps enough
 unfoldable pub factor_of : (ℕ → ℕ) → List ℕ → Answer ExprTree
 factor_of v text = factor_at v (enough text) text
 
+-- a primary, with steps enough
 unfoldable pub primary_of : (ℕ → ℕ) → List ℕ → Answer ExprTree
 primary_of v text = primary_at v (enough text) text
 
+-- a name, and its subscripts or arguments, with steps enough
 unfoldable pub named_of : (ℕ → ℕ) → List ℕ → List ℕ → Answer ExprTree
 named_of v x text = named_at v (enough text) x text
 
+-- expressions with a comma between two, with steps enough
 unfoldable pub exprs_of : (ℕ → ℕ) → List ℕ → Answer ExprTrees
 exprs_of v text = exprs_at v (enough text) text
 

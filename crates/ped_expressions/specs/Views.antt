@@ -47,10 +47,12 @@ sign_of sign.Unsigned = forms.unsigned
 sign_of sign.Positive = forms.positive
 sign_of sign.Negative = forms.negative
 
+-- the operator + or - of the grammar
 abbrev pub adding_of : Adding → forms.Adding
 adding_of adding.Add = forms.add
 adding_of adding.Subtract = forms.subtract
 
+-- the operator * or / of the grammar
 abbrev pub scaling_of : Scaling → forms.Scaling
 scaling_of scaling.Multiply = forms.multiply
 scaling_of scaling.Divide = forms.divide
@@ -60,10 +62,12 @@ abbrev pub adding_and_rest : Option (Adding × Bor (List ℕ)) → Answer forms.
 adding_and_rest None = None
 adding_and_rest (Some x) = Some (adding_of x.0, x.1.now)
 
+-- the operator * or / and the text behind it, where there is one
 abbrev pub scaling_and_rest : Option (Scaling × Bor (List ℕ)) → Answer forms.Scaling
 scaling_and_rest None = None
 scaling_and_rest (Some x) = Some (scaling_of x.0, x.1.now)
 
+-- a relational operator and the text behind it, where there is one
 abbrev pub relation_and_rest : Option (Relation × Bor (List ℕ)) → Answer Relation
 relation_and_rest None = None
 relation_and_rest (Some x) = Some (x.0, x.1.now)

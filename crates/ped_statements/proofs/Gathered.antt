@@ -10,7 +10,7 @@ use Rattle.ped_statements.proofs.Several.{Shrinks, several_step}
 abbrev pub ahead : {A : Type 0} → List A → Option (List A × List ℕ) → Option (List A × List ℕ)
 ahead xs read = read >>= λ y. Some (xs ++ y.0, y.1)
 
-ahead_one : {A : Type 0} (xs : List A) (x : A) (read : Option (List A × List ℕ)) → ahead xs (read >>= λ y. Some (x ∷ y.0, y.1)) ≡ ahead (xs ++ x ∷ []) read
+pub ahead_one : {A : Type 0} (xs : List A) (x : A) (read : Option (List A × List ℕ)) → ahead xs (read >>= λ y. Some (x ∷ y.0, y.1)) ≡ ahead (xs ++ x ∷ []) read
 ahead_one xs x None = refl
 ahead_one {A} xs x (Some y) = ap (λ (ys : List A). Some (ys, y.1)) (sym (append_assoc xs (x ∷ []) y.0))
 

@@ -7,5 +7,8 @@ pub mod OneReading
 pub mod OneStatement
 pub mod Outside
 pub mod Pieces
+pub mod ProfileSteps
 pub mod Several
 pub mod Simple
+pub mod SimpleSteps
+pub mod StatementSteps

@@ -2,11 +2,15 @@
 //! statement says something exactly where some form of the grammar has its text.
 #![tactic(auto)]
 
+mod conditionals;
 mod declarations;
+mod keyword_statements;
 mod keywords;
 mod laws_of_statements;
 mod loops;
 mod names;
+mod outside_profile;
+mod simple_statements;
 mod statements;
 
 pub use laws_of_statements::one_item;

@@ -1,0 +1,13 @@
+use Rattle.std.proofs.Common.{◌≡◌, map, length}
+use Rattle.ped_tree.specs.Views.{expr_tree}
+use Rattle.ped_expressions.specs.ExpressionReading.{saturated}
+use Rattle.ped_statements.specs.Listing.{each_behind_comma}
+use Rattle.ped_statements.specs.StatementReading.{reference_of}
+use Rattle.ped_statements.proofs.SimpleSteps.{all_ahead}
+use Rattle.ped_statements.proofs.simple_statements.references.Given as goal
+
+abbrev pub invariant-loop-left : goal.invariant-loop-left
+invariant-loop-left l = all_ahead (map expr_tree l.references.items) (each_behind_comma (reference_of saturated) l.left) ≡ each_behind_comma (reference_of saturated) l.text
+
+abbrev pub decreases-loop-left : goal.decreases-loop-left
+decreases-loop-left l = length l.left

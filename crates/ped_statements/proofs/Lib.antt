@@ -1,6 +1,7 @@
 pub mod Control
 pub mod Declared
 pub mod EachStatement
+pub mod FirstKeyword
 pub mod Gathered
 pub mod NoAssignment
 pub mod OneReading

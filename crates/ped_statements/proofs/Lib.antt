@@ -3,6 +3,7 @@ pub mod Declared
 pub mod EachStatement
 pub mod FirstKeyword
 pub mod Gathered
+pub mod Labels
 pub mod NoAssignment
 pub mod OneReading
 pub mod OneStatement

@@ -1,3 +1,4 @@
+pub mod Arrays
 pub mod Control
 pub mod Declared
 pub mod EachStatement

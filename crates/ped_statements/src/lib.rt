@@ -2,7 +2,9 @@
 //! statement says something exactly where some form of the grammar has its text.
 #![tactic(auto)]
 
+mod conditionals;
 mod declarations;
+mod keyword_statements;
 mod keywords;
 mod laws_of_statements;
 mod loops;

@@ -1,5 +1,5 @@
 -- Keywords tried one after the other, as a loop tries them.
-use Rattle.std.proofs.Common.{◌≡◌, ℕ, ◌+◌, ◌<◌, List, [], ◌∷◌, length, get_or, drop, Option, Some, None, refl, sym, ap, ◌∙◌}
+use Rattle.std.proofs.Common.{◌≡◌, ℕ, ◌+◌, ◌<◌, List, length, get_or, drop, Option, Some, None, refl, sym, ap, ◌∙◌}
 use Rattle.std.proofs.lemmas.List.{drop_more}
 use Rattle.ped_expressions.specs.Scanning.{go_on, after}
 use Rattle.ped_statements.specs.declared.keywords.Keyword.{Keyword}

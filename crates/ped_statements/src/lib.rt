@@ -13,3 +13,6 @@ mod statements;
 
 pub use laws_of_statements::one_item;
 pub use statements::read_statement;
+
+#[cfg(test)]
+mod tests;

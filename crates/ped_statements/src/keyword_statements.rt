@@ -1,11 +1,9 @@
 //! Statements that begin with a keyword: declarations (ANSI X3.9-1978, section 8), lines of blocks and
 //! loops (sections 11.5 to 11.10), PRIVATE, and END.
 
-ghost use Rattle.std.specs.Prelude.{◌≡◌, codes, map};
+ghost use Rattle.std.specs.Prelude.{◌≡◌, codes};
 ghost use Rattle.std.specs.List.{list_all};
-ghost use Rattle.ped_tree.specs.Items as Items;
-ghost use Rattle.ped_tree.specs.Tree as Tree;
-ghost use Rattle.ped_tree.specs.Views.{declarator_tree, value_tree};
+ghost use Rattle.ped_tree.specs.Views.{declarator_tree};
 ghost use Rattle.ped_tree.specs.Words.{same_word};
 ghost use Rattle.ped_items.specs.ItemViews.{item_of};
 ghost use Rattle.ped_expressions.specs.ExpressionReading.{saturated};
@@ -19,10 +17,9 @@ use crate::declarations::{constants, declarators};
 use crate::keywords::{Keyword, take_keyword};
 use crate::loops::do_statement;
 use crate::names::{at_end, is_end, names};
-use ped_base::{Name, Names};
 use ped_expressions::{Failure, name_of};
 use ped_items::Item;
-use ped_tree::{Decl, Declarator, Expr};
+use ped_tree::{Decl, Declarator};
 use std::alloc::Global;
 
 /// What the text says, as a statement that begins with a keyword.
@@ -43,7 +40,7 @@ fn statement_behind(alloc: Global, keyword: Keyword, text: &[u8]) -> Result<Item
 {
     match keyword {
         Keyword::Program => program(text),
-        Keyword::Implicit => at_end(implicit(), text),
+        Keyword::Implicit => at_end(Item::Declaration(Decl::Implicit), text),
         Keyword::Integer => integer(alloc, text),
         Keyword::Dimension => dimension(alloc, text),
         Keyword::Parameter => parameter(alloc, text),
@@ -65,22 +62,9 @@ fn program(text: &[u8]) -> Result<Item, Failure>
     ensures { Gives item_of result (statement_behind saturated keyword.Program text.now) }
 {
     match name_of(text) {
-        Some(name) => Ok(named(name)),
+        Some(name) => Ok(Item::Declaration(Decl::Program(name))),
         None => Err(Failure::NoForm),
     }
-}
-
-fn named(name: Name) -> Item
-    ensures { item_of result ≡ Items.declares (Tree.Program name) }
-{
-    Item::Declaration(Decl::Program(name))
-}
-
-/// IMPLICIT INTEGER (A-Z) (section 8.5).
-fn implicit() -> Item
-    ensures { item_of result ≡ Items.declares Tree.Implicit }
-{
-    Item::Declaration(Decl::Implicit)
 }
 
 /// INTEGER (section 8.4), by what follows it.
@@ -89,13 +73,7 @@ fn integer(alloc: Global, text: &[u8]) -> Result<Item, Failure>
     ensures { Gives item_of result (statement_behind saturated keyword.Integer text.now) }
 {
     let (declared, rest) = declarators(alloc, text)?;
-    at_end(integers(declared), rest)
-}
-
-fn integers(declared: Vec<Declarator>) -> Item
-    ensures { item_of result ≡ Items.declares (Tree.Integer (map declarator_tree declared.items)) }
-{
-    Item::Declaration(Decl::Integer(declared))
+    at_end(Item::Declaration(Decl::Integer(declared)), rest)
 }
 
 /// DIMENSION (section 8.1), by what follows it: arrays alone.
@@ -106,7 +84,7 @@ fn dimension(alloc: Global, text: &[u8]) -> Result<Item, Failure>
     let (declared, rest) = declarators(alloc, text)?;
     let declared = at_end(declared, rest)?;
     if are_arrays(&declared) {
-        Ok(arrays(declared))
+        Ok(Item::Declaration(Decl::Dimension(declared)))
     } else {
         Err(Failure::NoForm)
     }
@@ -125,12 +103,6 @@ fn is_array(declared: &Declarator) -> bool
     !declared.bounds.is_empty()
 }
 
-fn arrays(declared: Vec<Declarator>) -> Item
-    ensures { item_of result ≡ Items.declares (Tree.Dimension (map declarator_tree declared.items)) }
-{
-    Item::Declaration(Decl::Dimension(declared))
-}
-
 /// PARAMETER (section 8.6), by what follows its opening parenthesis.
 #[tactic(auto, unfolding(crate::specs::StatementReading::statement_behind))]
 fn parameter(alloc: Global, text: &[u8]) -> Result<Item, Failure>
@@ -138,7 +110,7 @@ fn parameter(alloc: Global, text: &[u8]) -> Result<Item, Failure>
 {
     let (values, rest) = constants(alloc, text)?;
     if is_closed(rest) {
-        Ok(parameters(values))
+        Ok(Item::Declaration(Decl::Parameter(values)))
     } else {
         Err(Failure::NoForm)
     }
@@ -154,12 +126,6 @@ fn is_closed(text: &[u8]) -> bool
     }
 }
 
-fn parameters(values: Vec<(Name, Expr)>) -> Item
-    ensures { item_of result ≡ Items.declares (Tree.Parameter (map value_tree values.items)) }
-{
-    Item::Declaration(Decl::Parameter(values))
-}
-
 /// SAVE (section 8.9), by what follows it: nothing, or names.
 #[tactic(auto, unfolding(crate::specs::StatementReading::statement_behind))]
 fn save(alloc: Global, text: &[u8]) -> Result<Item, Failure>
@@ -169,13 +135,7 @@ fn save(alloc: Global, text: &[u8]) -> Result<Item, Failure>
         return Ok(Item::SaveAll);
     }
     let names = names(alloc, text)?;
-    Ok(saved(names))
-}
-
-fn saved(names: Names) -> Item
-    ensures { item_of result ≡ Items.declares (Tree.Save names) }
-{
-    Item::Declaration(Decl::Save(names))
+    Ok(Item::Declaration(Decl::Save(names)))
 }
 
 /// PRIVATE, by the names that follow it.

@@ -9,7 +9,6 @@ ghost use Rattle.ped_tree.specs.Words.{numeral_value};
 ghost use Rattle.ped_items.specs.ItemViews.{item_of};
 ghost use Rattle.ped_expressions.specs.ExpressionReading.{saturated};
 ghost use Rattle.ped_expressions.specs.Views.{Gives, expr_and_rest};
-ghost use Rattle.ped_statements.specs.Listing.{whole};
 ghost use Rattle.ped_statements.specs.StatementReading as Spec;
 ghost use Rattle.ped_statements.specs.StatementReading.{step_of, control_of, do_of};
 ghost use Rattle.ped_statements.specs.StatementViews.{head_of, control_and_rest};

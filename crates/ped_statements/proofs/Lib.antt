@@ -1,7 +1,10 @@
+pub mod Arrays
 pub mod Control
 pub mod Declared
 pub mod EachStatement
+pub mod FirstKeyword
 pub mod Gathered
+pub mod Labels
 pub mod NoAssignment
 pub mod OneReading
 pub mod OneStatement

@@ -15,3 +15,6 @@ mod statements;
 
 pub use laws_of_statements::one_item;
 pub use statements::read_statement;
+
+#[cfg(test)]
+mod tests;

@@ -1,13 +1,22 @@
 //! DO statements by themselves (ANSI X3.9-1978, section 11.10).
 
-ghost use Rattle.std.specs.Prelude.{◌<◌, IfOk, length};
+ghost use Rattle.std.specs.Prelude.{◌≡◌, ◌<◌, ◌≤◌, IfOk, IsTrue, length, Some, None, if◌then◌else◌};
+ghost use Rattle.std.specs.List.{list_all};
+ghost use Rattle.ped_base.specs.Letters.{is_digit};
+ghost use Rattle.ped_tree.specs.Items as Items;
+ghost use Rattle.ped_tree.specs.StatementForms as Forms;
+ghost use Rattle.ped_tree.specs.Words.{numeral_value};
+ghost use Rattle.ped_items.specs.ItemViews.{item_of};
 ghost use Rattle.ped_expressions.specs.ExpressionReading.{saturated};
-ghost use Rattle.ped_expressions.specs.Views.{Gives};
-ghost use Rattle.ped_statements.specs.StatementReading.{control_of};
-ghost use Rattle.ped_statements.specs.StatementViews.{control_and_rest};
+ghost use Rattle.ped_expressions.specs.Views.{Gives, expr_and_rest};
+ghost use Rattle.ped_statements.specs.StatementReading as Spec;
+ghost use Rattle.ped_statements.specs.StatementReading.{step_of, control_of, do_of};
+ghost use Rattle.ped_statements.specs.StatementViews.{head_of, control_and_rest};
 
+use crate::names::at_end;
 use ped_base::Name;
-use ped_expressions::Failure;
+use ped_expressions::{Failure, after, expr, literal_value, name_of, split_digits, split_word};
+use ped_items::{DoStatement, Item};
 use ped_tree::Expr;
 use std::alloc::Global;
 
@@ -24,10 +33,94 @@ pub struct Control {
     pub step: Expr,
 }
 
-/// What follows the label of a DO, and what follows that.
+/// What a DO or a PARALLEL DO says, by what follows that word.
+#[tactic(auto, using(ped_expressions::proofs::Basics::front_all), unfolding(crate::specs::StatementReading::do_of))]
+pub fn do_statement(alloc: Global, parallel: bool, text: &[u8]) -> Result<Item, Failure>
+    ensures { Gives item_of result (do_of saturated parallel text.now) }
+{
+    let (digits, rest) = split_digits(text);
+    let Some(label) = label_of(digits) else {
+        return Err(Failure::NoForm);
+    };
+    let (control, rest) = take_control(alloc, parallel, rest)?;
+    let control = at_end(control, rest)?;
+    Ok(begins_do(label, parallel, control))
+}
+
+/// The number of a label, where the digits are one: one to five of them, not all zero.
+#[tactic(auto, using(crate::proofs::Labels::label_is))]
+fn label_of(digits: &[u8]) -> Option<u32>
+    requires { IsTrue (list_all is_digit digits.now) }
+    ensures { result ≡ (if Forms.is_label digits.now then Some (numeral_value digits.now) else None) }
+{
+    if digits.is_empty() || digits.len() > 5 {
+        return None;
+    }
+    let label = literal_value(digits);
+    if label == 0 { None } else { Some(label) }
+}
+
+/// The DO statement with that label and control.
+fn begins_do(label: u32, parallel: bool, control: Control) -> Item
+    ensures { item_of result ≡ Items.begins_do label (head_of parallel control) }
+{
+    Item::Do(DoStatement {
+        label,
+        variable: control.variable,
+        first: control.first,
+        last: control.last,
+        step: control.step,
+        parallel,
+    })
+}
+
+/// What follows the label of a DO, at the front of a text, and what follows that.
+#[tactic(auto, unfolding(crate::specs::StatementReading::control_of))]
 pub fn take_control(alloc: Global, parallel: bool, text: &[u8]) -> Result<(Control, &[u8]), Failure>
     ensures gives { Gives (control_and_rest parallel) result (control_of saturated parallel text.now) }
     ensures shorter { IfOk result (λ x. length x.1.now < length text.now) }
 {
-    Err(Failure::OutOfMemory)
+    let (word, rest) = split_word(without_comma(text));
+    let Some(variable) = name_of(word) else {
+        return Err(Failure::NoForm);
+    };
+    let Some(rest) = after(rest, b"=") else {
+        return Err(Failure::NoForm);
+    };
+    let (first, rest) = expr(alloc, rest)?;
+    let Some(rest) = after(rest, b",") else {
+        return Err(Failure::NoForm);
+    };
+    let (last, rest) = expr(alloc, rest)?;
+    let (step, rest) = step(alloc, rest)?;
+    let control = Control {
+        variable,
+        first,
+        last,
+        step,
+    };
+    Ok((control, rest))
+}
+
+/// The text without a comma at its front.
+fn without_comma(text: &[u8]) -> &[u8]
+    ensures is { result.now ≡ Spec.without_comma text.now }
+    ensures shorter { length result.now ≤ length text.now }
+{
+    match after(text, b",") {
+        Some(rest) => rest,
+        None => text,
+    }
+}
+
+/// The increment of a DO and what follows it. Where none is written it is 1.
+#[tactic(auto, unfolding(crate::specs::StatementReading::step_of))]
+fn step(alloc: Global, text: &[u8]) -> Result<(Expr, &[u8]), Failure>
+    ensures gives { Gives expr_and_rest result (step_of saturated text.now) }
+    ensures shorter { IfOk result (λ x. length x.1.now ≤ length text.now) }
+{
+    match after(text, b",") {
+        Some(behind) => expr(alloc, behind),
+        None => Ok((Expr::literal(1), text)),
+    }
 }

@@ -1,5 +1,5 @@
 -- The plain item that an item of the code stands for.
-use Rattle.std.specs.Prelude.{ℕ, [], Option, Some, None}
+use Rattle.std.specs.Prelude.{[], Option, Some, None}
 use Rattle.ped_tree.specs.Tree.{Head, StmtTrees, no_stmts, more_stmts}
 use Rattle.ped_tree.specs.Views.{expr_tree, cond_tree, stmt_tree, decl_tree}
 use Rattle.ped_tree.specs.Items as plain

@@ -1,22 +1,22 @@
 -- What follows the label of a DO: what is read is written so, and what is written so is read.
-use Rattle.std.proofs.Common.{◌≡◌, ℕ, ◌<◌, Bool, true, false, cond, List, [], ◌∷◌, ◌++◌, length, Option, Some, None, refl, sym, ap, subst, ◌∙◌, append_assoc, arith, inl, inr, eqb}
-use Rattle.std.specs.Prelude.{codes, ◌||◌, ◌&&◌, not, nat_le}
+use Rattle.std.proofs.Common.{◌≡◌, ℕ, Bool, true, false, List, [], ◌∷◌, ◌++◌, Option, Some, None, refl, sym, ap, subst, ◌∙◌, append_assoc, arith, inl, inr}
+use Rattle.std.specs.Prelude.{codes}
 use Rattle.std.specs.List.{list_all}
 use Rattle.std.proofs.lemmas.Bool.{eqb-true}
 use Rattle.std.proofs.lemmas.List.{append-nil}
 use Rattle.std.proofs.lemmas.List.Folds.{list_all-append}
-use Rattle.ped_base.specs.Letters.{is_letter, is_digit, is_alphanumeric}
+use Rattle.ped_base.specs.Letters.{is_digit, is_alphanumeric}
 use Rattle.ped_tree.specs.Tree.{ExprTree, Int, Head}
 use Rattle.ped_tree.specs.Words.{is_name, is_numeral, numeral_value}
 use Rattle.ped_tree.specs.ExpressionForms.{ExprForm, expr_form_text, expr_form_tree}
 use Rattle.ped_tree.specs.Items.{Item, begins_do}
 use Rattle.ped_tree.specs.StatementForms.{is_label, ControlForm, control, comma_text, further_form_text, control_form_text, do_form_word, step_form_tree, control_form_head}
-use Rattle.ped_expressions.specs.Scanning.{◌>>=◌, go_on, front, behind, first_is, after}
+use Rattle.ped_expressions.specs.Scanning.{◌>>=◌, front, behind, after}
 use Rattle.ped_expressions.specs.ExpressionReading.{with_literals, expr_of}
 use Rattle.ped_statements.specs.Saturated.{head_with_literals}
 use Rattle.ped_statements.specs.Listing.{whole}
 use Rattle.ped_statements.specs.StatementReading.{name_at, without_comma, step_of, head, control_of, do_of, assignment_of}
-use Rattle.ped_expressions.proofs.Basics.{some_is, bind_some, stops_or_goes, chosen, guarded, front_behind, front_all, after_is}
+use Rattle.ped_expressions.proofs.Basics.{some_is, bind_some, stops_or_goes, guarded, front_behind, after_is}
 use Rattle.ped_expressions.proofs.Sound.{read_on}
 use Rattle.ped_expressions.proofs.Again.{stops, front_again, behind_again}
 use Rattle.ped_statements.proofs.NoAssignment.{long_word, word_alone}

@@ -1,12 +1,11 @@
 -- Parts of declarations: what is read is written so, and what is written so is read.
-use Rattle.std.proofs.Common.{◌≡◌, ℕ, Bool, true, false, cond, List, [], ◌∷◌, ◌++◌, map, Option, Some, None, refl, sym, ap, subst, ◌∙◌, append_assoc, arith, inl, inr, eqb}
-use Rattle.std.specs.Prelude.{codes, ◌||◌, ◌&&◌, not}
+use Rattle.std.proofs.Common.{◌≡◌, ℕ, true, List, [], ◌∷◌, ◌++◌, map, Some, None, refl, sym, ap, subst, ◌∙◌, append_assoc, arith, inl, inr}
+use Rattle.std.specs.Prelude.{codes}
 use Rattle.std.specs.List.{list_all, flat_map, join_by}
 use Rattle.std.proofs.lemmas.Bool.{eqb-true}
-use Rattle.ped_base.specs.Letters.{is_alphanumeric}
 use Rattle.ped_tree.specs.Tree.{ExprTree, Int, BoundTree, DeclaratorTree}
 use Rattle.ped_tree.specs.Words.{is_name}
-use Rattle.ped_tree.specs.ExpressionForms.{ExprForm, expr_form_text, expr_form_tree}
+use Rattle.ped_tree.specs.ExpressionForms.{expr_form_text, expr_form_tree}
 use Rattle.ped_tree.specs.StatementForms.{BoundForm, upper_bound, both_bounds, ArrayForm, an_array, DeclaratorForm, a_scalar, of_array, ConstantForm, a_constant, bound_form_text, array_form_text, declarator_form_text, constant_form_text, bound_form_tree, array_form_tree, declarator_form_tree, constant_form_tree}
 use Rattle.ped_expressions.specs.Scanning.{◌>>=◌, go_on, after}
 use Rattle.ped_expressions.specs.ExpressionReading.{with_literals, expr_of}
@@ -15,7 +14,7 @@ use Rattle.ped_statements.specs.Listing.{several}
 use Rattle.ped_statements.specs.StatementReading.{name_at, bound, bound_of, declarator, dimensions_of, is_array, declarator_of, value_of}
 use Rattle.ped_expressions.proofs.Basics.{some_is, bind_some, stops_or_goes, after_is}
 use Rattle.ped_expressions.proofs.Sound.{read_on}
-use Rattle.ped_expressions.proofs.Again.{ends_word, stops, ends_alphanumeric, ends_call, assoc_3, assoc_4, expr_again, sums_stop}
+use Rattle.ped_expressions.proofs.Again.{ends_alphanumeric, ends_call, assoc_3, assoc_4, expr_again, sums_stop}
 use Rattle.ped_statements.proofs.Several.{Shrinks, Finds, IsReadBack, listed, several_step, shrinks, several_found, several_again}
 use Rattle.ped_statements.proofs.Pieces.{ends_part, part_ends_word, expr_finds, expr_part, name_found, name_back}
 

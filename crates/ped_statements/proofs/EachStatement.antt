@@ -9,19 +9,18 @@ use Rattle.ped_tree.specs.Tree as plain
 use Rattle.ped_tree.specs.Tree.{ExprTree, CondTree, StmtTree, StmtTrees, DeclaratorTree}
 use Rattle.ped_tree.specs.Words.{is_name, same_word}
 use Rattle.ped_tree.specs.ConditionForms.{CondForm, cond_form_text, cond_form_tree}
-use Rattle.ped_tree.specs.Items.{Item, declares, saves_all, does, continues, logical_if, block_if, else_if, else_line, end_if, begins_do, keeps_private, ends_program}
-use Rattle.ped_tree.specs.StatementForms.{are_names, is_label, DeclaratorForm, of_array, ArrayForm, ConstantForm, SimpleForm, ControlForm, StatementForm, program, implicit, integer, dimension, parameter, save, save_all, simple, if_simple, if_then, else_if_then, else_alone, end_of_if, do_loop, private, end, declarator_form_text, array_form_text, constant_form_text, simple_form_text, control_form_text, statement_form_text, behind_if, declarator_form_tree, array_form_tree, constant_form_tree, control_form_head, statement_item}
+use Rattle.ped_tree.specs.Items.{Item, declares, saves_all, logical_if, block_if, else_if, keeps_private}
+use Rattle.ped_tree.specs.StatementForms.{are_names, is_label, DeclaratorForm, of_array, ArrayForm, SimpleForm, ControlForm, StatementForm, program, implicit, integer, dimension, parameter, save, save_all, simple, if_simple, if_then, else_if_then, else_alone, end_of_if, do_loop, private, end, declarator_form_text, constant_form_text, simple_form_text, control_form_text, statement_form_text, behind_if, declarator_form_tree, array_form_tree, constant_form_tree, statement_item}
 use Rattle.ped_statements.specs.declared.keywords.Keyword.{Keyword}
 use Rattle.ped_statements.specs.declared.keywords.Keyword.TheVariants as keyword
-use Rattle.ped_expressions.specs.Scanning.{◌>>=◌, go_on, after}
-use Rattle.ped_expressions.specs.ExpressionReading.{with_literals}
+use Rattle.ped_expressions.specs.Scanning.{◌>>=◌, after}
 use Rattle.ped_expressions.specs.ConditionReading.{cond_with_literals, cond_of}
-use Rattle.ped_statements.specs.Saturated.{declarator_with_literals, value_with_literals, decl_with_literals, stmts_with_literals, says_with_literals}
+use Rattle.ped_statements.specs.Saturated.{declarator_with_literals, value_with_literals, stmts_with_literals, says_with_literals}
 use Rattle.ped_statements.specs.Listing.{is_end, whole, several}
 use Rattle.ped_statements.specs.StatementReading.{name_at, is_array, declarator_of, value_of, assignment_of, worded_of, simple_of, behind_logical, simply, if_of, else_if_of, do_of, keyword_text, all_keywords, first_keyword, keyword_at, alone, statement_behind, keyword_statement_of, statement_of}
 use Rattle.ped_expressions.proofs.Basics.{some_is, bind_some, stops_or_goes, chosen, guarded, after_is}
 use Rattle.ped_expressions.proofs.Sound.{read_on}
-use Rattle.ped_expressions.proofs.Again.{stops, assoc_3}
+use Rattle.ped_expressions.proofs.Again.{stops}
 use Rattle.ped_expressions.proofs.CondSound.{FoundCond, cond_found}
 use Rattle.ped_expressions.proofs.CondAgain.{cond_again, ors_stop}
 use Rattle.ped_statements.proofs.NoAssignment.{long_word, word_alone, condition_behind}

@@ -1,7 +1,6 @@
 -- Items with a comma between two, as a loop reads them.
 use Rattle.std.proofs.Common.{◌≡◌, ℕ, List, [], ◌∷◌, ◌++◌, Option, Some, None, refl, sym, ap, ◌∙◌, append_assoc}
 use Rattle.std.specs.Prelude.{codes}
-use Rattle.std.proofs.lemmas.List.{append-nil}
 use Rattle.ped_expressions.specs.Scanning.{◌>>=◌, after}
 use Rattle.ped_statements.specs.Listing.{several}
 use Rattle.ped_statements.proofs.Several.{Shrinks, several_step}

@@ -1,16 +1,14 @@
 -- Texts that are no assignments: their first word is too long for a name, or what follows it is neither = nor a list in parentheses before =.
-use Rattle.std.proofs.Common.{◌≡◌, ℕ, ◌+◌, ◌<◌, ◌≤◌, Bool, true, false, cond, List, [], ◌∷◌, ◌++◌, length, Option, Some, None, refl, sym, ap, ◌∙◌, append_assoc, arith, inl, inr, eqb, length-append}
-use Rattle.std.specs.Prelude.{codes, ◌&&◌, not, nat_le}
+use Rattle.std.proofs.Common.{◌≡◌, ℕ, ◌<◌, Bool, true, false, cond, List, [], ◌∷◌, ◌++◌, length, Option, Some, None, refl, ap, ◌∙◌, arith, inl, inr, length-append}
+use Rattle.std.specs.Prelude.{codes, ◌&&◌, nat_le}
 use Rattle.std.specs.List.{list_all}
 use Rattle.std.proofs.lemmas.Bool.{eqb-true, lt-leb}
-use Rattle.std.proofs.lemmas.List.{append-nil}
-use Rattle.std.proofs.lemmas.List.Folds.{list_all-append}
 use Rattle.ped_base.specs.Letters as Letters
 use Rattle.ped_base.specs.Letters.{is_letter, is_digit, is_alphanumeric}
 use Rattle.ped_tree.specs.Tree.{ExprTree, Var, no_exprs, more_exprs, StmtTree, Assign}
 use Rattle.ped_tree.specs.Words.{is_name}
 use Rattle.ped_tree.specs.ConditionForms.{CondForm, cond_form_text}
-use Rattle.ped_expressions.specs.Scanning.{◌>>=◌, go_on, front, behind, first_is, after}
+use Rattle.ped_expressions.specs.Scanning.{◌>>=◌, front, behind, first_is, after}
 use Rattle.ped_expressions.specs.ExpressionReading.{expr_of, primary_of, named_of, exprs_of}
 use Rattle.ped_statements.specs.Listing.{whole}
 use Rattle.ped_statements.specs.StatementReading.{is_reference, reference_of, assignment_of}

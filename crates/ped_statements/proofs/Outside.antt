@@ -1,12 +1,10 @@
 -- A text is taken for one that the profile leaves out exactly where it is one.
-use Rattle.std.proofs.Common.{◌≡◌, ℕ, zero, suc, ◌+◌, ◌-◌, ◌<◌, ◌≤◌, Bool, true, false, cond, List, [], ◌∷◌, ◌++◌, map, length, Option, Some, None, refl, sym, ap, subst, ◌∙◌, append_assoc, arith, inl, inr, eqb, ◌⊎◌}
-use Rattle.std.specs.Prelude.{codes, IsTrue, not, ◌||◌, ◌&&◌}
-use Rattle.std.specs.List.{list_all, list_any, join_by}
+use Rattle.std.proofs.Common.{◌≡◌, ℕ, zero, suc, ◌+◌, ◌-◌, ◌≤◌, Bool, true, false, cond, List, [], ◌∷◌, ◌++◌, Option, Some, None, refl, sym, ap, ◌∙◌, append_assoc, arith, inl, inr, eqb, ◌⊎◌}
+use Rattle.std.specs.Prelude.{codes, IsTrue, not, ◌||◌}
+use Rattle.std.specs.List.{list_any, join_by}
 use Rattle.std.proofs.lemmas.Bool.{eqb-true}
-use Rattle.std.proofs.lemmas.List.{append-nil, map-id}
 use Rattle.ped_base.specs.Letters.{is_digit}
-use Rattle.ped_tree.specs.Tree.{Head}
-use Rattle.ped_tree.specs.Printing.{doubled, constant_text}
+use Rattle.ped_tree.specs.Printing.{constant_text}
 use Rattle.ped_tree.specs.Words.{is_numeral}
 use Rattle.ped_tree.specs.StatementForms.{ControlForm, control_form_text, do_form_word}
 use Rattle.ped_tree.specs.OutsideProfile.{begins_with, words_outside, is_enclosed, are_labels, IsOutside, by_word, stop_with_digits, stop_with_constant, do_without_label, if_with_labels}
@@ -14,7 +12,7 @@ use Rattle.ped_expressions.specs.Scanning.{◌>>=◌, go_on, after}
 use Rattle.ped_statements.specs.Listing.{whole, several}
 use Rattle.ped_statements.specs.StatementReading.{quoted_at, control_of}
 use Rattle.ped_statements.specs.ProfileReading.{is_some, numeral_at, is_constant, stops_with_code, is_control, lacks_label, closing_at, branches_to_labels, is_outside}
-use Rattle.ped_expressions.proofs.Basics.{some_is, bind_some, stops_or_goes, chosen, after_is, after_again}
+use Rattle.ped_expressions.proofs.Basics.{some_is, bind_some, stops_or_goes, chosen, after_is}
 use Rattle.ped_expressions.proofs.Again.{stops}
 use Rattle.ped_statements.proofs.Several.{shrinks, whole_is, whole_several_found, whole_several_again}
 use Rattle.ped_statements.proofs.Pieces.{numeral_found, numeral_back, quoted_again, constant_found}

@@ -1,16 +1,15 @@
 -- Names, numerals, references, constants and items: what is read is written so, and what is written so is read.
-use Rattle.std.proofs.Common.{◌≡◌, ◌≢◌, ℕ, Bool, true, false, cond, List, [], ◌∷◌, ◌++◌, Option, Some, None, refl, sym, ap, subst, ◌∙◌, append_assoc, arith, inl, inr, eqb}
-use Rattle.std.specs.Prelude.{codes, ◌||◌, ◌&&◌, not}
-use Rattle.std.specs.List.{list_all, flat_map}
+use Rattle.std.proofs.Common.{◌≡◌, ℕ, Bool, true, false, cond, List, [], ◌∷◌, ◌++◌, Option, Some, None, refl, sym, ap, subst, ◌∙◌, append_assoc, arith, inl, inr, eqb}
+use Rattle.std.specs.Prelude.{codes, ◌||◌, not}
+use Rattle.std.specs.List.{list_all}
 use Rattle.std.proofs.lemmas.Bool.{eqb-true}
-use Rattle.std.proofs.lemmas.List.{append-nil}
 use Rattle.ped_base.specs.Letters.{is_letter, is_digit, is_alphanumeric}
 use Rattle.ped_tree.specs.Tree.{ExprTree, ItemTree, Value, Text}
-use Rattle.ped_tree.specs.Printing.{doubled, constant_text}
+use Rattle.ped_tree.specs.Printing.{doubled}
 use Rattle.ped_tree.specs.Words.{is_name, is_numeral}
 use Rattle.ped_tree.specs.ExpressionForms.{ExprForm, PrimaryForm, ReferenceForm, literal, reference, remainder, absolute, greatest, least, parentheses, scalar, element, expr_form_text, primary_form_text, reference_form_text, exprs_form_text, expr_form_tree, primary_form_tree, reference_form_tree}
 use Rattle.ped_tree.specs.StatementForms.{ItemForm, a_value, a_text, item_form_text, item_form_tree}
-use Rattle.ped_expressions.specs.Scanning.{◌>>=◌, go_on, front, behind, first_is, after, scaling_at, adding_at}
+use Rattle.ped_expressions.specs.Scanning.{◌>>=◌, front, behind, first_is, after, scaling_at, adding_at}
 use Rattle.ped_expressions.specs.ExpressionReading.{with_literals, enough, expr_of, primary_of}
 use Rattle.ped_statements.specs.Saturated.{item_with_literals}
 use Rattle.ped_statements.specs.StatementReading.{name_at, is_reference, reference_of, quoted_at, item_of}
@@ -18,7 +17,7 @@ use Rattle.ped_statements.specs.ProfileReading.{numeral_at}
 use Rattle.ped_expressions.proofs.Basics.{some_is, bind_some, stops_or_goes, chosen, guarded, front_behind, front_all, after_is, after_none}
 use Rattle.ped_expressions.proofs.Sound.{FoundExpr, FoundPrimary, expr_found, primary_found, read_on}
 use Rattle.ped_expressions.proofs.Equations.{expr_step, term_step, factor_step, primary_step, named_step}
-use Rattle.ped_expressions.proofs.Again.{ends_word, stops, front_again, behind_again, ends_alphanumeric, assoc_4, expr_again, sums_stop, reference_again}
+use Rattle.ped_expressions.proofs.Again.{ends_word, stops, front_again, behind_again, assoc_4, expr_again, sums_stop, reference_again}
 use Rattle.ped_statements.proofs.Several.{Shrinks, Finds, IsReadBack, shrinks}
 
 -- a part ends here: at the end, at a comma or at a closing parenthesis

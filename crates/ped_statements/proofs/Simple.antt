@@ -1,31 +1,23 @@
 -- Statements that may stand behind a logical IF: what is read is written so, and what is written so is read.
-use Rattle.std.proofs.Common.{◌≡◌, ℕ, ◌<◌, Bool, true, false, cond, List, [], ◌∷◌, ◌++◌, map, length, Option, Some, None, refl, sym, ap, subst, ◌∙◌, append_assoc, arith, inl, inr, eqb, length-append}
-use Rattle.std.specs.Prelude.{codes, ◌||◌, ◌&&◌, not, nat_le}
-use Rattle.std.specs.List.{list_all, flat_map}
+use Rattle.std.proofs.Common.{◌≡◌, ℕ, true, cond, List, [], ◌++◌, map, Option, Some, None, refl, sym, ap, subst, ◌∙◌, append_assoc, inl, inr}
+use Rattle.std.specs.Prelude.{codes}
 use Rattle.std.specs.Cmp.Lexicographic.{same_text}
-use Rattle.std.proofs.lemmas.Bool.{eqb-true, lt-leb}
 use Rattle.std.proofs.lemmas.List.{append-nil}
-use Rattle.ped_base.specs.Letters as Letters
-use Rattle.ped_base.specs.Letters.{is_letter, is_digit, is_alphanumeric}
-use Rattle.ped_tree.specs.Tree.{ExprTree, Var, ItemTree, StmtTree, StmtTrees, Assign, Print, Read, Stop}
-use Rattle.ped_tree.specs.Words.{is_name, same_word}
+use Rattle.ped_tree.specs.Tree.{ExprTree, ItemTree, StmtTree, Assign, Print, Read, Stop}
+use Rattle.ped_tree.specs.Words.{same_word}
 use Rattle.ped_tree.specs.ExpressionForms.{ExprForm, ReferenceForm, expr_form_text, expr_form_tree, reference_form_text, reference_form_tree}
-use Rattle.ped_tree.specs.ConditionForms.{CondForm, cond_form_text}
-use Rattle.ped_tree.specs.Items.{Item}
 use Rattle.ped_tree.specs.StatementForms.{ItemForm, item_form_text, item_form_tree, SimpleForm, assignment, print, read, stop, continue, simple_form_text, simple_item, behind_if}
-use Rattle.ped_expressions.specs.Scanning.{◌>>=◌, go_on, front, behind, first_is, after}
-use Rattle.ped_expressions.specs.ExpressionReading.{with_literals, expr_of, primary_of, named_of, exprs_of}
-use Rattle.ped_statements.specs.Saturated.{item_with_literals, stmt_with_literals, stmts_with_literals, says_with_literals}
+use Rattle.ped_expressions.specs.Scanning.{◌>>=◌, go_on, after}
+use Rattle.ped_expressions.specs.ExpressionReading.{with_literals, expr_of}
+use Rattle.ped_statements.specs.Saturated.{item_with_literals, stmts_with_literals, says_with_literals}
 use Rattle.ped_statements.specs.Listing.{whole, each_behind_comma}
-use Rattle.ped_statements.specs.StatementReading.{reference_of, item_of, is_reference, assignment_of, worded_of, simple_of, behind_logical, simply}
-use Rattle.ped_expressions.proofs.Basics.{some_is, bind_some, stops_or_goes, chosen, guarded, after_is}
+use Rattle.ped_statements.specs.StatementReading.{reference_of, item_of, assignment_of, worded_of, simple_of, behind_logical, simply}
+use Rattle.ped_expressions.proofs.Basics.{some_is, bind_some, stops_or_goes, chosen, after_is}
 use Rattle.ped_expressions.proofs.Sound.{read_on}
-use Rattle.ped_expressions.proofs.Equations.{primary_step, named_step, exprs_step}
 use Rattle.ped_expressions.proofs.Again.{ends_word}
 use Rattle.ped_statements.proofs.NoAssignment.{word_alone}
-use Rattle.ped_expressions.proofs.CondAgain.{Fails, cond_fails}
 use Rattle.ped_statements.proofs.Several.{all_behind, shrinks, whole_is, each_found, each_again}
-use Rattle.ped_statements.proofs.Pieces.{ends_part, expr_finds, expr_part, reference_found, reference_back, item_found, item_back, part_ends_word, name_alphanumeric}
+use Rattle.ped_statements.proofs.Pieces.{ends_part, expr_finds, expr_part, reference_found, reference_back, item_found, item_back}
 use Rattle.ped_statements.proofs.Declared.{map_map, all_true}
 
 -- what a simple statement does, with literals; nothing for CONTINUE

@@ -1,5 +1,5 @@
 -- What the values of the readers of statements stand for. Contracts of private functions alone speak of it.
-use Rattle.std.specs.Prelude.{ℕ, List, [], Option, Some, None, Bool, map}
+use Rattle.std.specs.Prelude.{ℕ, List, Option, Some, None, Bool, map}
 use Rattle.std.specs.Borrow.{Bor}
 use Rattle.std.specs.Global.{Vec}
 use Rattle.ped_tree.specs.Tree.{ExprTree, Head, ItemTree, StmtTree, BoundTree, DeclaratorTree}
@@ -9,9 +9,7 @@ use Rattle.ped_tree.specs.declared.statements.PrintItem.{PrintItem}
 use Rattle.ped_tree.specs.declared.statements.Stmt.{Stmt}
 use Rattle.ped_tree.specs.declared.declarations.Bound.{Bound}
 use Rattle.ped_tree.specs.declared.declarations.Declarator.{Declarator}
-use Rattle.ped_statements.specs.declared.keywords.Keyword.{Keyword}
 use Rattle.ped_statements.specs.declared.loops.Control.{Control}
-use Rattle.ped_expressions.specs.Scanning.{Answer}
 use Rattle.ped_statements.specs.StatementReading.{head}
 
 -- a value and the text behind it

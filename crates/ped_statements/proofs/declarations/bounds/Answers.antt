@@ -5,7 +5,7 @@ use Rattle.ped_expressions.specs.ExpressionReading.{saturated}
 use Rattle.ped_statements.specs.Listing.{several}
 use Rattle.ped_statements.specs.StatementReading.{bound_of}
 use Rattle.ped_statements.proofs.Declared.{bounds_shrink}
-use Rattle.ped_statements.proofs.Gathered.{several_more, several_last, several_fails}
+use Rattle.ped_statements.proofs.Gathered.{several_more, several_last}
 use Rattle.ped_statements.proofs.declarations.bounds.Goals as goal
 
 pub loop-bounds-preserved : goal.loop-bounds-preserved

@@ -5,7 +5,7 @@ use Rattle.ped_expressions.specs.ExpressionReading.{saturated}
 use Rattle.ped_statements.specs.Listing.{several}
 use Rattle.ped_statements.specs.StatementReading.{declarator_of}
 use Rattle.ped_statements.proofs.Declared.{declarators_shrink}
-use Rattle.ped_statements.proofs.Gathered.{several_more, several_last, several_fails}
+use Rattle.ped_statements.proofs.Gathered.{several_more, several_last}
 use Rattle.ped_statements.proofs.declarations.declarators.Goals as goal
 
 pub loop-declarators-preserved : goal.loop-declarators-preserved

@@ -1,4 +1,4 @@
-use Rattle.std.proofs.Common.{◌≡◌, length, ◌≤◌}
+use Rattle.std.proofs.Common.{◌≡◌, length}
 use Rattle.ped_statements.specs.Listing.{several}
 use Rattle.ped_statements.specs.StatementReading.{name_at}
 use Rattle.ped_statements.proofs.Gathered.{ahead}

@@ -2,3 +2,4 @@ pub mod BlocksFound
 pub mod BlocksMoved
 pub mod BlocksNest
 pub mod BlocksOneTree
+pub mod OpenBlocks

@@ -1,1 +1,2 @@
+pub mod BlockViews
 pub mod Machine

@@ -2,7 +2,10 @@
 //! one that they share (ANSI X3.9-1978, sections 11.6 to 11.10).
 #![tactic(auto)]
 
+mod directives;
+mod frames;
 mod laws_of_blocks;
+mod nesting;
 mod programs;
 
 pub use laws_of_blocks::{nests_or_refused, one_nesting, one_tree, reads_or_refused};

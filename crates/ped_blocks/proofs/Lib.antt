@@ -4,3 +4,4 @@ pub mod BlocksNest
 pub mod BlocksOneTree
 pub mod Notes
 pub mod OpenBlocks
+pub mod Repeated

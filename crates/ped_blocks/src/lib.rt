@@ -2,9 +2,11 @@
 //! one that they share (ANSI X3.9-1978, sections 11.6 to 11.10).
 #![tactic(auto)]
 
+mod declarations;
 mod directives;
 mod frames;
 mod laws_of_blocks;
+mod lines;
 mod nesting;
 mod programs;
 

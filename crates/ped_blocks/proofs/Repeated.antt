@@ -1,5 +1,5 @@
 -- A line that counts more than once.
-use Rattle.std.proofs.Common.{◌≡◌, ℕ, ◌+◌, List, [], ◌∷◌, ◌++◌, refl, sym, ap, ◌∙◌, arith, append_assoc, add-one}
+use Rattle.std.proofs.Common.{◌≡◌, ℕ, ◌+◌, List, [], ◌∷◌, ◌++◌, refl, sym, ap, ◌∙◌, arith, append_assoc}
 use Rattle.std.specs.Prelude.{replicate}
 use Rattle.std.proofs.lemmas.List.{replicate-append-replicate}
 
@@ -16,3 +16,12 @@ line_and_parts old a b x = line_and_part old (a + b) x ∙ two_parts (old ++ x �
 
 pub one_line : (old : List ℕ) (x : ℕ) → old ++ replicate 1 x ≡ old ++ x ∷ []
 one_line old x = refl
+
+pub lines_of_if : (old head part new : List ℕ) (a b n x : ℕ) → n ≡ a + b + 1 → head ≡ old ++ x ∷ [] → part ≡ head ++ replicate a x → new ≡ part ++ replicate b x → new ≡ old ++ replicate n x
+lines_of_if old head part new a b n x count p q r = let all = line_and_parts old a b x in cc
+
+pub lines_of_loop : (old head new : List ℕ) (a n x : ℕ) → n ≡ a + 1 → head ≡ old ++ x ∷ [] → new ≡ head ++ replicate a x → new ≡ old ++ replicate n x
+lines_of_loop old head new a n x count p q = let all = line_and_part old a x in cc
+
+pub lines_left : (old new all : List ℕ) (a b n x : ℕ) → n ≡ a + b → new ≡ old ++ replicate a x → old ++ replicate n x ≡ all → new ++ replicate b x ≡ all
+lines_left old new all a b n x count p q = let both = two_parts old a b x in cc

@@ -1,5 +1,5 @@
 -- How many numbered statements a statement with parts has.
-use Rattle.std.proofs.Common.{◌≡◌, ◌+◌, ap, ◌∙◌, rules}
+use Rattle.std.proofs.Common.{◌≡◌, ◌+◌, ap, rules}
 use Rattle.ped_tree.specs.Tree as plain
 use Rattle.ped_tree.specs.Numbering.{statement_count, statements_count}
 use Rattle.ped_tree.specs.Views.{cond_tree, stmt_tree, stmt_trees, do_tree}

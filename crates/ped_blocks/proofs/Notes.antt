@@ -1,5 +1,5 @@
 -- Comments and directives, one more of them.
-use Rattle.std.proofs.Common.{◌≡◌, ℕ, List, [], ◌∷◌, ◌++◌, map, drop, Bool, true, false, cond, refl, sym, ap, ◌∙◌, append_assoc}
+use Rattle.std.proofs.Common.{◌≡◌, List, [], ◌∷◌, ◌++◌, map, drop, Bool, true, false, cond, ap, ◌∙◌, append_assoc}
 use Rattle.std.specs.Prelude.{filter}
 use Rattle.ped_tree.specs.Tree.{StmtTree, Comment, DeclTree, Remark}
 use Rattle.ped_tree.specs.Statement.{Note}

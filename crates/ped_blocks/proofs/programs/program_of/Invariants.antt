@@ -1,4 +1,4 @@
-use Rattle.std.proofs.Common.{◌≡◌, ◌++◌, map}
+use Rattle.std.proofs.Common.{◌≡◌, map}
 use Rattle.std.specs.Vec.Iter.{into_iter_items}
 use Rattle.ped_items.specs.ItemViews.{entry_of}
 use Rattle.ped_blocks.specs.Machine.{nothing_built, take_entries}

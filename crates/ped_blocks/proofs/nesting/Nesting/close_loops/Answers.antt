@@ -1,5 +1,4 @@
-use Rattle.std.proofs.Common.{◌≡◌, ◌∷◌, [], ap, sym, ◌∙◌, map, arith}
-use Rattle.std.proofs.lemmas.Result.{IfOk-weaker}
+use Rattle.std.proofs.Common.{◌≡◌, [], ap, sym, ◌∙◌, map, arith}
 use Rattle.ped_tree.specs.Views.{stmt_tree}
 use Rattle.ped_blocks.specs.Machine.{nest, close_loops}
 use Rattle.ped_blocks.specs.BlockViews.{frame_of, blocks_of, head_of}

@@ -2,3 +2,8 @@ pub mod BlocksFound
 pub mod BlocksMoved
 pub mod BlocksNest
 pub mod BlocksOneTree
+pub mod Counts
+pub mod Fronted
+pub mod Notes
+pub mod OpenBlocks
+pub mod Repeated

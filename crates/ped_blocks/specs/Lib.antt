@@ -1,1 +1,3 @@
+pub mod BlockViews
+pub mod Fronts
 pub mod Machine

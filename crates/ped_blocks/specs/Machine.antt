@@ -1,5 +1,5 @@
 -- Statements taken one by one, and what is built of them so far: declarations, open blocks, and the statements of the innermost block.
-use Rattle.std.specs.Prelude.{ℕ, List, [], ◌∷◌, ◌++◌, map, ◌==◌, Option, Some, None, if◌then◌else◌}
+use Rattle.std.specs.Prelude.{ℕ, List, [], ◌∷◌, ◌++◌, ◌==◌, Option, Some, None, if◌then◌else◌}
 use Rattle.ped_tree.specs.Tree.{CondTree, Head, StmtTree, no_stmts, If, Do, DeclTree, ProgramTree}
 use Rattle.ped_tree.specs.Views.{pack_stmts}
 use Rattle.ped_tree.specs.Statement.{Statement}

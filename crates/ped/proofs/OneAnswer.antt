@@ -1,5 +1,5 @@
 -- Words and files have one answer.
-use Rattle.std.proofs.Common.{◌≡◌, ◌⊎◌, inl, inr, ℕ, Bool, true, false, List, ◌++◌, Option, Some, None, refl, sym, ap, ◌∙◌, subst, length}
+use Rattle.std.proofs.Common.{◌≡◌, inl, inr, ℕ, Bool, true, false, List, ◌++◌, Option, Some, None, refl, sym, ap, ◌∙◌, subst, length}
 use Rattle.std.specs.Prelude.{MatchOption, MatchBool, nat_lt}
 use Rattle.ped_io.specs.Outside.{Contents, content}
 use Rattle.ped_tree.specs.Tree.{ProgramTree}
@@ -7,7 +7,6 @@ use Rattle.ped_tree.specs.Refusal.{Finding}
 use Rattle.ped_tree.specs.Reading.{Reads, Refuses}
 use Rattle.ped_tree.specs.SourcePane.{source_pane}
 use Rattle.ped_tree.proofs.OnePane.{one_pane}
-use Rattle.ped_parse.specs.Verdicts.{HasOneTree, HasOneRefusal}
 use Rattle.ped_parse.proofs.OneOfBoth.{one_of_both}
 use Rattle.ped.specs.declared.answering.Status.{Status}
 use Rattle.ped.specs.declared.answering.Status.TheVariants.{Done, BadWords, ReadFault, WriteFault, ProgramRefused, NoMemory, TooLong}

@@ -1,10 +1,10 @@
 -- What is found in a tree is the small form that it has, and it is found in each tree that has one.
-use Rattle.std.proofs.Common.{◌≡◌, ℕ, Bool, true, false, cond, not, List, [], ◌∷◌, length, Option, Some, None, refl, sym, ap, ap₂, ◌∙◌, subst, eqb}
+use Rattle.std.proofs.Common.{◌≡◌, ℕ, Bool, true, false, cond, not, List, [], ◌∷◌, length, Option, Some, None, refl, sym, ap, ap₂, ◌∙◌, eqb}
 use Rattle.std.specs.Prelude.{◌&&◌, IfSome, IfNone}
 use Rattle.std.proofs.lemmas.Bool.{eqb-true, and_parts}
 use Rattle.std.proofs.lemmas.List.{nil_from_length}
 use Rattle.std.specs.Cmp.Lexicographic.{bytes_decides}
-use Rattle.ped_tree.specs.Tree.{ExprTree, ExprTrees, Int, Var, Element, Neg, Add, Sub, Mul, Div, Pow, Call, no_exprs, more_exprs, Head, StmtTree, StmtTrees, Assign, If, Do, Print, Read, Stop, Comment, no_stmts, more_stmts, BoundTree, DeclaratorTree, DeclTree, Program, Implicit, Integer, Dimension, Parameter, Save, Remark, ProgramTree}
+use Rattle.ped_tree.specs.Tree.{ExprTree, ExprTrees, Int, Var, Element, Add, Sub, no_exprs, more_exprs, Head, StmtTree, StmtTrees, Assign, Do, no_stmts, more_stmts, BoundTree, DeclaratorTree, DeclTree, Program, Integer, Save, ProgramTree}
 use Rattle.ped.specs.Uncommented.{without_comments}
 use Rattle.ped.specs.SmallTree.{subscript_tree, element_tree, assignment_tree, loop_tree, declarator_of, small_tree}
 use Rattle.ped.specs.SmallForm.{same, is_fit, IsMadeOf, IsSmall}

@@ -1,6 +1,6 @@
 -- What of the small form is found in a tree, part by part. Contracts of private functions alone speak of it.
 use Rattle.std.specs.Prelude.{ℕ, List, [], ◌∷◌, Bool, true, false, ◌&&◌, not, ◌==◌, Option, Some, None, length, if◌then◌else◌}
-use Rattle.ped_tree.specs.Tree.{ExprTree, ExprTrees, Int, Var, Element, Neg, Add, Sub, Mul, Div, Pow, Call, no_exprs, more_exprs, Head, StmtTree, StmtTrees, Assign, If, Do, Print, Read, Stop, Comment, no_stmts, more_stmts, BoundTree, DeclaratorTree, DeclTree, Program, Implicit, Integer, Dimension, Parameter, Save, Remark, ProgramTree}
+use Rattle.ped_tree.specs.Tree.{ExprTree, ExprTrees, Int, Var, Element, Add, Sub, no_exprs, more_exprs, Head, StmtTree, StmtTrees, Assign, Do, Comment, no_stmts, more_stmts, BoundTree, DeclaratorTree, DeclTree, Program, Integer, Save, Remark, ProgramTree}
 use Rattle.ped.specs.SmallForm.{same, is_fit}
 use Rattle.ped.specs.declared.small_form.Subscript.{Subscript}
 use Rattle.ped.specs.declared.small_form.Subscript.TheVariants.{Plain, Plus, Minus}

@@ -149,7 +149,10 @@ const REFUSALS: [(&str, &str); 9] = [
     ("    A K=1\n      END\n", "2 BadLabel at 1"),
     ("     &K=1\n      END\n", "4 ContinuationFirst at 1"),
     ("      K=1\n      K=K+\n      END\n", "7 Syntax at 2"),
-    ("      K=1\n      GO TO 10\n      END\n", "8 NotInProfile at 2"),
+    (
+        "      K=1\n      GO TO 10\n      END\n",
+        "8 NotInProfile at 2",
+    ),
     (
         "      DO 10 I=1,2\n      IF (I.EQ.1) STOP\n   10 CONTINUE\n      END\n",
         "12 StopPlace at 2",
@@ -176,7 +179,10 @@ fn says_that_a_program_is_too_long(rt: HostRuntime) -> Result<(), Fail> {
     let ending = answered(alloc, &["show", "P"], &longer, SURE)?;
     assert_eq!(rt; ending.status, Status::TooLong);
     assert_eq!(rt; ending.status.number(), 7);
-    assert_eq!(rt; ending.taken.as_str(), "ped: P is longer than 1048576 bytes\n");
+    assert_eq!(rt;
+        ending.taken.as_str(),
+        "ped: P is longer than 1048576 bytes\n"
+    );
     // One line of blanks, which is a comment.
     let ending = answered(alloc, &["show", "P"], &longer[1..], SURE)?;
     assert_eq!(rt; ending.status, Status::ProgramRefused);
@@ -327,7 +333,10 @@ fn builds_dependences_of_the_small_form_alone(rt: HostRuntime) -> Result<(), Fai
         }
         let shown = answered(alloc, &["show", "P"], program.as_bytes(), SURE)?;
         assert_eq!(rt; shown.status, Status::Done, "{line}");
-        assert!(rt; shown.taken.as_str().ends_with("dependences not built\n"), "{line}");
+        assert!(rt;
+            shown.taken.as_str().ends_with("dependences not built\n"),
+            "{line}"
+        );
     }
     Ok(())
 }

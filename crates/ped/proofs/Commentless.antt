@@ -7,7 +7,7 @@ use Rattle.ped_tree.specs.Edges.{Edge, EdgesOfPairs, AreEdges, pairs}
 use Rattle.ped_tree.specs.DependencePane.{edges_pane}
 use Rattle.ped.specs.SmallTree.{small_tree}
 use Rattle.ped.specs.SmallForm.{IsMadeOf}
-use Rattle.ped.specs.Answer.{AreDependences}
+use Rattle.ped.specs.Answer.{IsDependencePart}
 use Rattle.ped.specs.declared.small_form.Small.{Small}
 use Rattle.ped.specs.Uncommented.{before_others, uncommented, all_uncommented, declarations_alone, without_comments}
 
@@ -87,5 +87,5 @@ edges_stay : (t : ProgramTree) (edges : List Edge) → AreEdges (without_comment
 edges_stay t edges h = subst (λ (refs : List Reference). EdgesOfPairs (pairs refs) edges) (references_stay t) h
 
 -- the dependences of the parts that a program is made of are what is shown of it
-pub small_dependences : (t : ProgramTree) (small : Small) (edges : List Edge) → IsMadeOf t small → AreEdges (small_tree small) edges → AreDependences t (edges_pane edges)
+pub small_dependences : (t : ProgramTree) (small : Small) (edges : List Edge) → IsMadeOf t small → AreEdges (small_tree small) edges → IsDependencePart t (edges_pane edges)
 small_dependences t small edges m h = inl ((small, m), (edges, edges_stay t edges (subst (λ (u : ProgramTree). AreEdges u edges) (sym m.tree) h), refl))

@@ -11,7 +11,7 @@ use Rattle.ped_parse.proofs.OneOfBoth.{one_of_both}
 use Rattle.ped.specs.declared.answering.Status.{Status}
 use Rattle.ped.specs.declared.answering.Status.TheVariants.{Done, BadWords, ReadFault, WriteFault, ProgramRefused, NoMemory, TooLong}
 use Rattle.ped.specs.Refusals.{refused_line}
-use Rattle.ped.specs.Answer.{Request, show, cannot_read_line, too_long_line, program_limit, AreDependences, ArePanes, IsShown, AnswersBytes, Answers}
+use Rattle.ped.specs.Answer.{Request, show, cannot_read_line, too_long_line, program_limit, IsDependencePart, ArePanes, IsShown, AnswersBytes, Answers}
 
 -- a text has one tree at most
 one_tree : (text : List ℕ) (t u : ProgramTree) → Reads text t → Reads text u → t ≡ u
@@ -35,7 +35,7 @@ not_both text t f p q = elim (one_of_both text) [
 ]
 
 -- one thing is shown of a program's dependences
-one_dependences : (t : ProgramTree) (a b : List ℕ) → AreDependences t a → AreDependences t b → a ≡ b
+one_dependences : (t : ProgramTree) (a b : List ℕ) → IsDependencePart t a → IsDependencePart t b → a ≡ b
 one_dependences t a b (inl p) (inl q) = one_pane t a b p.1 q.1
 one_dependences t a b (inr p) (inr q) = p.1 ∙ sym q.1
 one_dependences t a b (inl p) (inr q) = absurd (q.0 p.0)

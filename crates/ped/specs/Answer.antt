@@ -61,13 +61,13 @@ too_long_line name = codes "ped: " ++ name ++ codes " is longer than 1048576 byt
 abbrev pub not_built_line : List ℕ
 not_built_line = codes "dependences not built" ++ 10 ∷ []
 
--- what is shown of the dependences: the pane of a program of the small form, and else that it isn't built
-abbrev pub AreDependences : ProgramTree → List ℕ → Type 0
-AreDependences t pane = (IsSmall t × IsDependencePane t pane) ⊎ (¬ (IsSmall t) × (pane ≡ not_built_line))
+-- the part about dependences: the pane of a program of the small form, and else that it isn't built
+abbrev pub IsDependencePart : ProgramTree → List ℕ → Type 0
+IsDependencePart t pane = (IsSmall t × IsDependencePane t pane) ⊎ (¬ (IsSmall t) × (pane ≡ not_built_line))
 
 -- both panes of a program
 abbrev pub ArePanes : ProgramTree → List ℕ → Type 0
-ArePanes t bytes = (pane : List ℕ) × AreDependences t pane × (bytes ≡ source_pane t ++ pane)
+ArePanes t bytes = (pane : List ℕ) × IsDependencePart t pane × (bytes ≡ source_pane t ++ pane)
 
 -- what is shown of a program's text: both panes of its tree, or its first refusal
 abbrev pub IsShown : List ℕ → Status → List ℕ → Type 0

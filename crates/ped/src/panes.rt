@@ -2,7 +2,7 @@
 
 ghost use Rattle.std.specs.Prelude.{◌≡◌, ◌++◌, IfOk, OnOk, ℕ, List};
 ghost use Rattle.ped_tree.specs.Views.{program_tree};
-ghost use Rattle.ped.specs.Answer.{AreDependences, ArePanes};
+ghost use Rattle.ped.specs.Answer.{IsDependencePart, ArePanes};
 
 use crate::dependence_pane::dependence_pane;
 use crate::dependences::edges;
@@ -23,7 +23,7 @@ pub fn panes(alloc: Global, program: &Program) -> Result<Bytes, NoMemory>
 
 /// Adds the dependence pane of a program of the small form, and else the line that it isn't built.
 fn push_dependences(alloc: Global, out: &mut Bytes, program: &Program) -> Result<(), NoMemory>
-    ensures { OnOk result ((pane : List ℕ) × AreDependences (program_tree program.now) pane
+    ensures { OnOk result ((pane : List ℕ) × IsDependencePart (program_tree program.now) pane
         × (out.new ≡ out.old ++ pane)) }
 {
     match Small::of(program) {

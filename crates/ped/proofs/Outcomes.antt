@@ -1,15 +1,19 @@
 -- Outcomes of writing, and how those of a part are those of the whole.
-use Rattle.std.proofs.Common.{◌≡◌, ◌⊎◌, ℕ, List, ◌++◌, Option, Some, take, drop, refl, sym, subst, inl, inr, arith}
+use Rattle.std.proofs.Common.{◌≡◌, ◌⊎◌, ℕ, ◌<◌, ◌≤◌, Bool, true, false, List, ◌++◌, length, Option, Some, take, drop, refl, sym, subst, inl, inr, arith}
+use Rattle.std.specs.Prelude.{MatchBool, nat_lt}
+use Rattle.std.proofs.lemmas.Bool.{le-ltb, lt-ltb}
 use Rattle.std.proofs.lemmas.List.{take-append-drop}
 use Rattle.ped_io.specs.Outside.{Contents, content, Rose}
 use Rattle.ped_io.specs.declared.writing.PutFault.{PutFault}
 use Rattle.ped_io.specs.declared.writing.PutFault.TheVariants as put
 use Rattle.ped_io.specs.Faults.{IsWriteFault}
 use Rattle.ped.specs.declared.answering.Status.{Status}
-use Rattle.ped.specs.declared.answering.Status.TheVariants.{Done, BadWords, ReadFault, WriteFault, ProgramRefused, NoMemory}
-use Rattle.ped.specs.Answer.{Request, show, inputs_of, IsOneOf, MayAnswer, Answers, IsFrontOfAnswer, IsOutcome, IsShown, IsJust, ShowsTree, cannot_read_line, not_built_line}
+use Rattle.ped.specs.declared.answering.Status.TheVariants.{Done, BadWords, ReadFault, WriteFault, ProgramRefused, NoMemory, TooLong}
 use Rattle.ped_tree.specs.Tree.{ProgramTree}
-use Rattle.ped.specs.SmallForm.{Reads}
+use Rattle.ped_tree.specs.Refusal.{Finding}
+use Rattle.ped_tree.specs.Reading.{Reads, Refuses}
+use Rattle.ped.specs.Refusals.{refused_line}
+use Rattle.ped.specs.Answer.{Request, show, inputs_of, IsOneOf, HoldsTooMany, program_limit, MayAnswer, Answers, AnswersBytes, IsFrontOfAnswer, IsOutcome, IsShown, IsJust, ShowsTree, cannot_read_line, too_long_line}
 
 module _ (A B : Status → List ℕ → Type 0) (weaker : (s : Status) (b : List ℕ) → A s b → B s b) where
   pub front_weaker : (sent : List ℕ) → IsFrontOfAnswer A sent → IsFrontOfAnswer B sent
@@ -22,6 +26,7 @@ module _ (A B : Status → List ℕ → Type 0) (weaker : (s : Status) (b : List
   outcome_weaker failed sent BadWords o = weaker BadWords sent o
   outcome_weaker failed sent ReadFault o = weaker ReadFault sent o
   outcome_weaker failed sent ProgramRefused o = weaker ProgramRefused sent o
+  outcome_weaker failed sent TooLong o = weaker TooLong sent o
   outcome_weaker failed sent WriteFault o = (o.0, front_weaker sent o.1)
   outcome_weaker failed sent NoMemory o = front_weaker sent o
 
@@ -42,18 +47,43 @@ says_cannot_read program files failed rose s b j = subst (λ (x : Status). MayAn
 pub tree_shown : (text : List ℕ) (t : ProgramTree) → Reads text t → (s : Status) (b : List ℕ) → ShowsTree t s b → IsShown text s b
 tree_shown text t reads s b h = subst (λ (x : Status). IsShown text x b) (sym h.0) (t, reads, h.1)
 
--- that it isn't read is what is shown of a text that reads as no tree
-pub refusal_shown : (text : List ℕ) → ((t : ProgramTree) → ¬ (Reads text t)) → (s : Status) (b : List ℕ) → IsJust ProgramRefused not_built_line s b → IsShown text s b
-refusal_shown text none s b h = subst (λ (x : Status). IsShown text x b) (sym h.0) (none, h.1)
+-- its first refusal is what is shown of a text that is refused
+pub refusal_shown : (text : List ℕ) (f : Finding) → Refuses text f → (s : Status) (b : List ℕ) → IsJust ProgramRefused (refused_line f) s b → IsShown text s b
+refusal_shown text f refused s b h = subst (λ (x : Status). IsShown text x b) (sym h.0) (f, refused, h.1)
+
+-- the answer by whether the bytes are too many
+abbrev AnswersBy : Bool → List ℕ → List ℕ → Status → List ℕ → Type 0
+AnswersBy long program text status bytes = MatchBool long ((status ≡ TooLong) × (bytes ≡ too_long_line program)) (IsShown text status bytes)
+
+few : (text : List ℕ) → length text ≤ program_limit → nat_lt program_limit (length text) ≡ false
+few text h = le-ltb program_limit (length text) h
+
+many : (text : List ℕ) → program_limit < length text → nat_lt program_limit (length text) ≡ true
+many text h = lt-ltb program_limit (length text) h
+
+-- what is shown of few enough bytes answers them
+shown_answers : (program text : List ℕ) (s : Status) (b : List ℕ) → length text ≤ program_limit → IsShown text s b → AnswersBytes program text s b
+shown_answers program text s b within h = subst (λ (x : Bool). AnswersBy x program text s b) (sym (few text within)) h
 
 -- what is shown of a file's text is an answer
-pub shown_may_answer : (program : List ℕ) (files : Contents) (failed : List ℕ → Type 0) (text : List ℕ) → content files program ≡ Some text → (s : Status) (b : List ℕ) → IsShown text s b → MayAnswer (Some (show program)) files failed s b
-shown_may_answer program files failed text e Done b h = rw e h
-shown_may_answer program files failed text e ProgramRefused b h = rw e h
-shown_may_answer program files failed text e BadWords b h = absurd h
-shown_may_answer program files failed text e ReadFault b h = absurd h
-shown_may_answer program files failed text e WriteFault b h = absurd h
-shown_may_answer program files failed text e NoMemory b h = absurd h
+pub shown_may_answer : (program : List ℕ) (files : Contents) (failed : List ℕ → Type 0) (text : List ℕ) → content files program ≡ Some text → length text ≤ program_limit → (s : Status) (b : List ℕ) → IsShown text s b → MayAnswer (Some (show program)) files failed s b
+shown_may_answer program files failed text e within Done b h = rw e (shown_answers program text Done b within h)
+shown_may_answer program files failed text e within ProgramRefused b h = rw e (shown_answers program text ProgramRefused b within h)
+shown_may_answer program files failed text e within BadWords b h = absurd h
+shown_may_answer program files failed text e within ReadFault b h = absurd h
+shown_may_answer program files failed text e within WriteFault b h = absurd h
+shown_may_answer program files failed text e within NoMemory b h = absurd h
+shown_may_answer program files failed text e within TooLong b h = absurd h
+
+-- that a file is too long is an answer where it is
+pub long_may_answer : (program : List ℕ) (files : Contents) (failed : List ℕ → Type 0) (text : List ℕ) → content files program ≡ Some text → program_limit < length text → (s : Status) (b : List ℕ) → IsJust TooLong (too_long_line program) s b → MayAnswer (Some (show program)) files failed s b
+long_may_answer program files failed text e more s b h =
+    let there : MayAnswer (Some (show program)) files failed TooLong b = rw e (subst (λ (x : Bool). AnswersBy x program text TooLong b) (sym (many text more)) (refl, h.1)) in
+    subst (λ (x : Status). MayAnswer (Some (show program)) files failed x b) (sym h.0) there
+
+-- a file that the words ask to show and that is too long is one of the request
+pub of_request : (program : List ℕ) (request : Option Request) (files : Contents) → request ≡ Some (show program) → (bytes : List ℕ) × (content files program ≡ Some bytes) × (program_limit < length bytes) → HoldsTooMany request files
+of_request program request files e h = subst (λ (r : Option Request). HoldsTooMany r files) (sym e) (record { name = program; input = inl refl; bytes = h.0; held = h.1; more = h.2 })
 
 -- where no input and no sink failed, what came is the answer whole, or memory ran out
 pub whole_of : (request : Option Request) (files : Contents) (failed : List ℕ → Type 0) (sink_failed : Type 0) (taken : Option (List ℕ)) (before sent : List ℕ) (status : Status)
@@ -63,6 +93,7 @@ pub whole_of : (request : Option Request) (files : Contents) (failed : List ℕ 
 whole_of request files failed sink_failed taken before sent Done e o none sure = inr (sent, o, e)
 whole_of request files failed sink_failed taken before sent BadWords e o none sure = inr (sent, o, e)
 whole_of request files failed sink_failed taken before sent ProgramRefused e o none sure = inr (sent, o, e)
+whole_of request files failed sink_failed taken before sent TooLong e o none sure = inr (sent, o, e)
 whole_of request files failed sink_failed taken before sent ReadFault e o none sure = absurd (none o.name o.input o.count)
 whole_of request files failed sink_failed taken before sent WriteFault e o none sure = absurd (sure o.0)
 whole_of request files failed sink_failed taken before sent NoMemory e o none sure = inl refl

@@ -14,9 +14,9 @@ use Rattle.ped_tree.specs.References.{Loop, Access, Reference, same_name, read_o
 use Rattle.ped_tree.specs.Edges as plain
 use Rattle.ped_tree.specs.Edges.{pairs, proven, pending, runs_twice, PairEdges, EdgesOfPairs, AreEdges}
 use Rattle.ped_tree.specs.Affine.{Affine, affine, affine_of, combination, limited, subscript_pair, view_by as view_options, view_of}
-use Rattle.ped.specs.declared.reading.Subscript.{Subscript}
-use Rattle.ped.specs.declared.reading.Subscript.TheVariants.{Plain, Plus, Minus}
-use Rattle.ped.specs.declared.reading.Small.{Small}
+use Rattle.ped.specs.declared.small_form.Subscript.{Subscript}
+use Rattle.ped.specs.declared.small_form.Subscript.TheVariants.{Plain, Plus, Minus}
+use Rattle.ped.specs.declared.small_form.Small.{Small}
 use Rattle.ped.specs.declared.dependences.Edge.{Edge}
 use Rattle.ped.specs.declared.dependences.Signs.{Signs}
 use Rattle.ped.specs.declared.dependences.Reference.{Reference as Coded}

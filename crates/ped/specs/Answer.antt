@@ -1,12 +1,15 @@
 -- The answer to words and files, and what a call may have done of it.
-use Rattle.std.specs.Prelude.{◌≡◌, ◌⊎◌, ℕ, List, [], ◌∷◌, ◌++◌, codes, Bool, false, ◌==◌, Option, Some, None, MatchOption, if◌then◌else◌}
+use Rattle.std.specs.Prelude.{◌≡◌, ◌⊎◌, ℕ, ◌<◌, List, [], ◌∷◌, ◌++◌, length, codes, Bool, false, ◌==◌, nat_lt, Option, Some, None, MatchOption, MatchBool, if◌then◌else◌}
 use Rattle.ped_io.specs.Outside.{Contents, content}
 use Rattle.ped_tree.specs.Tree.{ProgramTree}
+use Rattle.ped_tree.specs.Refusal.{Finding}
+use Rattle.ped_tree.specs.Reading.{Reads, Refuses}
 use Rattle.ped_tree.specs.SourcePane.{source_pane}
 use Rattle.ped_tree.specs.DependencePane.{IsDependencePane}
 use Rattle.ped.specs.declared.answering.Status.{Status}
-use Rattle.ped.specs.declared.answering.Status.TheVariants.{Done, BadWords, ReadFault, WriteFault, ProgramRefused, NoMemory}
-use Rattle.ped.specs.SmallForm.{same, Reads}
+use Rattle.ped.specs.declared.answering.Status.TheVariants.{Done, BadWords, ReadFault, WriteFault, ProgramRefused, NoMemory, TooLong}
+use Rattle.ped.specs.Refusals.{refused_line}
+use Rattle.ped.specs.SmallForm.{same, IsSmall}
 
 -- what the words ask for: both panes of the program in this file
 pub data Request : Type 0 where
@@ -46,28 +49,54 @@ usage_line = codes "usage: ped show PROGRAM | session PROGRAM SCRIPT [--data FIL
 abbrev pub cannot_read_line : List ℕ → List ℕ
 cannot_read_line name = codes "ped: cannot read " ++ name ++ 10 ∷ []
 
--- the program isn't of the small form, the only one that is read so far
+-- the most bytes that a program may have
+abbrev pub program_limit : ℕ
+program_limit = 1048576
+
+-- a file is longer than a program may be
+abbrev pub too_long_line : List ℕ → List ℕ
+too_long_line name = codes "ped: " ++ name ++ codes " is longer than 1048576 bytes" ++ 10 ∷ []
+
+-- what stands in place of a dependence pane that isn't built
 abbrev pub not_built_line : List ℕ
-not_built_line = codes "ped: refused 0 NotBuilt" ++ 10 ∷ []
+not_built_line = codes "dependences not built" ++ 10 ∷ []
+
+-- the part about dependences: the pane of a program of the small form, and else that it isn't built
+abbrev pub IsDependencePart : ProgramTree → List ℕ → Type 0
+IsDependencePart t pane = (IsSmall t × IsDependencePane t pane) ⊎ (¬ (IsSmall t) × (pane ≡ not_built_line))
 
 -- both panes of a program
 abbrev pub ArePanes : ProgramTree → List ℕ → Type 0
-ArePanes t bytes = (pane : List ℕ) × IsDependencePane t pane × (bytes ≡ source_pane t ++ pane)
+ArePanes t bytes = (pane : List ℕ) × IsDependencePart t pane × (bytes ≡ source_pane t ++ pane)
 
--- what is shown of a program's text: both panes of its tree, or that it isn't read
+-- what is shown of a program's text: both panes of its tree, or its first refusal
 abbrev pub IsShown : List ℕ → Status → List ℕ → Type 0
 IsShown text Done bytes = (t : ProgramTree) × Reads text t × ArePanes t bytes
-IsShown text ProgramRefused bytes = ((t : ProgramTree) → ¬ (Reads text t)) × (bytes ≡ not_built_line)
+IsShown text ProgramRefused bytes = (f : Finding) × Refuses text f × (bytes ≡ refused_line f)
 IsShown text BadWords bytes = ⊥
 IsShown text ReadFault bytes = ⊥
 IsShown text WriteFault bytes = ⊥
 IsShown text NoMemory bytes = ⊥
+IsShown text TooLong bytes = ⊥
+
+-- the answer to a file that holds these bytes: that they are too many, or what is shown of them
+abbrev pub AnswersBytes : List ℕ → List ℕ → Status → List ℕ → Type 0
+AnswersBytes program text status bytes =
+    MatchBool (nat_lt program_limit (length text)) ((status ≡ TooLong) × (bytes ≡ too_long_line program)) (IsShown text status bytes)
 
 -- the answer to a request: its status and its bytes, by what the shelf holds
 abbrev pub Answers : Option Request → Contents → Status → List ℕ → Type 0
 Answers None files status bytes = (status ≡ BadWords) × (bytes ≡ usage_line)
 Answers (Some (show program)) files status bytes =
-    MatchOption (content files program) ((status ≡ ReadFault) × (bytes ≡ cannot_read_line program)) (λ text. IsShown text status bytes)
+    MatchOption (content files program) ((status ≡ ReadFault) × (bytes ≡ cannot_read_line program)) (λ text. AnswersBytes program text status bytes)
+
+-- a file of the request that holds more bytes than a program may have
+pub record HoldsTooMany (request : Option Request) (files : Contents) : Type 0 where
+  pub name : List ℕ
+  pub input : IsOneOf (inputs_of request) name
+  pub bytes : List ℕ
+  pub held : content files name ≡ Some bytes
+  pub more : program_limit < length bytes
 
 -- a file of the request whose count of faults rose, and the line that says so
 pub record CannotRead (request : Option Request) (failed : List ℕ → Type 0) (line : List ℕ) : Type 0 where
@@ -82,6 +111,7 @@ MayAnswer request files failed ReadFault bytes = CannotRead request failed bytes
 MayAnswer request files failed Done bytes = Answers request files Done bytes
 MayAnswer request files failed BadWords bytes = Answers request files BadWords bytes
 MayAnswer request files failed ProgramRefused bytes = Answers request files ProgramRefused bytes
+MayAnswer request files failed TooLong bytes = Answers request files TooLong bytes
 MayAnswer request files failed WriteFault bytes = ⊥
 MayAnswer request files failed NoMemory bytes = ⊥
 
@@ -99,6 +129,7 @@ IsOutcome answers sink_failed sent Done = answers Done sent
 IsOutcome answers sink_failed sent BadWords = answers BadWords sent
 IsOutcome answers sink_failed sent ReadFault = answers ReadFault sent
 IsOutcome answers sink_failed sent ProgramRefused = answers ProgramRefused sent
+IsOutcome answers sink_failed sent TooLong = answers TooLong sent
 IsOutcome answers sink_failed sent WriteFault = sink_failed × IsFrontOfAnswer answers sent
 IsOutcome answers sink_failed sent NoMemory = IsFrontOfAnswer answers sent
 

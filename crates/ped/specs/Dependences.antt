@@ -7,9 +7,9 @@ use Rattle.ped_base.specs.Views.{Range, range}
 use Rattle.ped_base.specs.Excluded.{NeverMeetsInStep}
 use Rattle.ped_tree.specs.Edges as plain
 use Rattle.ped_tree.specs.Edges.{runs_twice}
-use Rattle.ped.specs.declared.reading.Subscript.{Subscript}
-use Rattle.ped.specs.declared.reading.Subscript.TheVariants.{Plain, Plus, Minus}
-use Rattle.ped.specs.declared.reading.Small.{Small}
+use Rattle.ped.specs.declared.small_form.Subscript.{Subscript}
+use Rattle.ped.specs.declared.small_form.Subscript.TheVariants.{Plain, Plus, Minus}
+use Rattle.ped.specs.declared.small_form.Small.{Small}
 use Rattle.ped.specs.declared.dependences.Kind.{Kind}
 use Rattle.ped.specs.declared.dependences.Kind.TheVariants.{Flow, Anti, Output}
 use Rattle.ped.specs.declared.dependences.Mark.{Mark}

@@ -1,11 +1,9 @@
 pub mod Answer
 pub mod Dependences
 pub mod Distances
-pub mod Lines
-pub mod Reading
-pub mod Scanning
-pub mod Small
+pub mod Refusals
 pub mod SmallForm
-pub mod SmallParts
+pub mod SmallReading
 pub mod SmallTree
 pub mod Statuses
+pub mod Uncommented

@@ -1,7 +1,7 @@
 -- The exit statuses.
 use Rattle.std.specs.Prelude.{ℕ}
 use Rattle.ped.specs.declared.answering.Status.{Status}
-use Rattle.ped.specs.declared.answering.Status.TheVariants.{Done, BadWords, ReadFault, WriteFault, ProgramRefused, NoMemory}
+use Rattle.ped.specs.declared.answering.Status.TheVariants.{Done, BadWords, ReadFault, WriteFault, ProgramRefused, NoMemory, TooLong}
 
 -- the exit status by how the call ended
 abbrev pub number_of : Status → ℕ
@@ -11,3 +11,4 @@ number_of ReadFault = 3
 number_of WriteFault = 4
 number_of ProgramRefused = 5
 number_of NoMemory = 6
+number_of TooLong = 7

@@ -1,17 +1,20 @@
 //! The top call: words and files to an answer and a status.
 
-ghost use Rattle.std.specs.Prelude.{◌≡◌, ◌≢◌, ◌⊎◌, ◌++◌, ◌≤◌, ℕ, List, Option, Some, None, map, string_bytes, MatchOption, IfOk};
-ghost use Rattle.ped_io.specs.Outside.{Contents, IsHeld, Rose};
+ghost use Rattle.std.specs.Prelude.{◌≡◌, ◌≢◌, ◌⊎◌, ◌++◌, ◌<◌, ◌≤◌, ℕ, List, Option, Some, None, length, map, string_bytes, MatchOption, IfOk};
+ghost use Rattle.ped_io.specs.Outside.{Contents, content, IsHeld, Rose};
 ghost use Rattle.ped_io.specs.Shelves.{all_names};
-ghost use Rattle.ped_tree.specs.Tree.{ProgramTree};
-ghost use Rattle.ped.specs.SmallTree.{small_tree};
+ghost use Rattle.ped_tree.specs.Views.{program_tree};
+ghost use Rattle.ped_parse.specs.Refusals.{finding_of};
+ghost use Rattle.ped.specs.Refusals as Refusals;
 ghost use Rattle.ped.specs.Answer;
-ghost use Rattle.ped.specs.Answer.{Request, request_of, show, inputs_of, IsOneOf, Answers, MayAnswer, Sends, IsShown, IsJust, ShowsTree};
+ghost use Rattle.ped.specs.Answer.{Request, request_of, show, inputs_of, IsOneOf, HoldsTooMany, program_limit, Answers, MayAnswer, Sends, IsShown, IsJust, ShowsTree};
 
 use crate::panes::panes;
-use crate::reading::Small;
+use crate::refusals::refused_line;
 use ped_base::{Bytes, NoMemory};
 use ped_io::{LoadError, PutFault, Shelf, Sink, SureShelf, SureSink, load, put_all};
+use ped_parse::{ReadRefusal, Refusal, read};
+use ped_tree::Program;
 use std::alloc::Global;
 
 /// How a call of the program ended. Its number is the exit status.
@@ -25,10 +28,12 @@ pub enum Status {
     ReadFault = 3,
     /// The output failed; a front of what was to be written was taken.
     WriteFault = 4,
-    /// The program's text was refused; a line that says so was written.
+    /// The program's text was refused; a line with its first refusal was written.
     ProgramRefused = 5,
     /// There was not enough memory; a front of what was to be written was taken.
     NoMemory = 6,
+    /// A file is longer than its limit; a line that names it was written.
+    TooLong = 7,
 }
 
 impl Status {
@@ -70,6 +75,8 @@ pub fn ped_main<F: Shelf, K: Sink>(
         (name : List ℕ) × IsOneOf (inputs_of (request_of (map string_bytes words.now))) name
         × Rose (F.count shelf.old name) (F.count shelf.new name) }
     ensures write_fault { result ≡ Status.WriteFault → Rose (K.faults out.old) (K.faults out.new) }
+    ensures too_long { result ≡ Status.TooLong → (files : Contents) → F.told shelf.old ≡ Some files →
+        HoldsTooMany (request_of (map string_bytes words.now)) files }
 
     // Where neither has failed, the answer is written whole, unless memory ran out.
     ensures complete { (files : Contents) → F.told shelf.old ≡ Some files →
@@ -121,8 +128,6 @@ pub fn answer_surely(
 const USAGE: &[u8] =
     b"usage: ped show PROGRAM | session PROGRAM SCRIPT [--data FILE] | generate N\n";
 
-const NOT_BUILT: &[u8] = b"ped: refused 0 NotBuilt\n";
-
 /// The file that the words ask to show: none where they are not `show` and one word that doesn't begin
 /// with `-`.
 fn request(words: &[String]) -> Option<&str>
@@ -160,6 +165,8 @@ fn show_file<F: Shelf, K: Sink>(alloc: Global, program: &str, shelf: &mut F, out
     ensures words { result ≢ Status.BadWords }
     ensures read_fault { result ≡ Status.ReadFault → Rose (F.count shelf.old program.now) (F.count shelf.new program.now) }
     ensures write_fault { result ≡ Status.WriteFault → Rose (K.faults out.old) (K.faults out.new) }
+    ensures too_long { result ≡ Status.TooLong → (files : Contents) → F.told shelf.old ≡ Some files →
+        (bytes : List ℕ) × (content files program.now ≡ Some bytes) × (program_limit < length bytes) }
     ensures same { F.told shelf.new ≡ F.told shelf.old }
     ensures counts { (name : List ℕ) → F.count shelf.old name ≤ F.count shelf.new name }
     ensures others { (files : Contents) → F.told shelf.old ≡ Some files →
@@ -170,10 +177,37 @@ fn show_file<F: Shelf, K: Sink>(alloc: Global, program: &str, shelf: &mut F, out
 {
     match load(alloc, shelf, program, PROGRAM_LIMIT) {
         Ok(text) => show_text(alloc, text.as_slice(), out),
-        Err(LoadError::TooLong) => finish(out, NOT_BUILT, Status::ProgramRefused),
+        Err(LoadError::TooLong) => is_too_long(alloc, program, out),
         Err(LoadError::ReadFault) => cannot_read(alloc, program, out),
         Err(LoadError::NoMemory) => Status::NoMemory,
     }
+}
+
+/// Says that a file is longer than a program may be.
+fn is_too_long<K: Sink>(alloc: Global, name: &str, out: &mut K) -> Status
+    ensures answer { (before : List ℕ) → K.taken out.old ≡ Some before →
+        Sends (IsJust Status.TooLong (Answer.too_long_line name.now))
+        (Rose (K.faults out.old) (K.faults out.new)) before (K.taken out.new) result }
+    ensures ends { (result ≡ Status.TooLong) ⊎ (result ≡ Status.WriteFault) ⊎ (result ≡ Status.NoMemory) }
+    ensures write_fault { result ≡ Status.WriteFault → Rose (K.faults out.old) (K.faults out.new) }
+    ensures faults { K.faults out.old ≤ K.faults out.new }
+    ensures untold { K.taken out.old ≡ None → K.taken out.new ≡ None }
+{
+    match too_long_line(alloc, name) {
+        Ok(line) => finish(out, line.as_slice(), Status::TooLong),
+        Err(NoMemory) => Status::NoMemory,
+    }
+}
+
+fn too_long_line(alloc: Global, name: &str) -> Result<Bytes, NoMemory>
+    ensures { IfOk result (λ line. line ≡ Answer.too_long_line name.now) }
+{
+    let mut line = Bytes::new(alloc);
+    line.extend_from_slice(b"ped: ")?;
+    line.extend_from_slice(name.as_bytes())?;
+    line.extend_from_slice(b" is longer than 1048576 bytes")?;
+    line.push(b'\n')?;
+    Ok(line)
 }
 
 /// Says that a file can't be read.
@@ -213,24 +247,41 @@ fn show_text<K: Sink>(alloc: Global, text: &[u8], out: &mut K) -> Status
     ensures faults { K.faults out.old ≤ K.faults out.new }
     ensures untold { K.taken out.old ≡ None → K.taken out.new ≡ None }
 {
-    match Small::read(text) {
-        Some(small) => show_small(alloc, &small, out),
-        None => finish(out, NOT_BUILT, Status::ProgramRefused),
+    match read(alloc, text) {
+        Ok(program) => show_program(alloc, &program, out),
+        Err(ReadRefusal::At(refusal)) => is_refused(alloc, refusal, out),
+        Err(ReadRefusal::NoMemory) => Status::NoMemory,
     }
 }
 
-/// Shows both panes of what was read.
-fn show_small<K: Sink>(alloc: Global, small: &Small, out: &mut K) -> Status
+/// Shows both panes of a program.
+fn show_program<K: Sink>(alloc: Global, program: &Program, out: &mut K) -> Status
     ensures answer { (before : List ℕ) → K.taken out.old ≡ Some before →
-        Sends (ShowsTree (small_tree small.now))
+        Sends (ShowsTree (program_tree program.now))
         (Rose (K.faults out.old) (K.faults out.new)) before (K.taken out.new) result }
     ensures ends { (result ≡ Status.Done) ⊎ (result ≡ Status.WriteFault) ⊎ (result ≡ Status.NoMemory) }
     ensures write_fault { result ≡ Status.WriteFault → Rose (K.faults out.old) (K.faults out.new) }
     ensures faults { K.faults out.old ≤ K.faults out.new }
     ensures untold { K.taken out.old ≡ None → K.taken out.new ≡ None }
 {
-    match panes(alloc, small) {
+    match panes(alloc, program) {
         Ok(bytes) => finish(out, bytes.as_slice(), Status::Done),
+        Err(NoMemory) => Status::NoMemory,
+    }
+}
+
+/// Says that a text is refused.
+fn is_refused<K: Sink>(alloc: Global, refusal: Refusal, out: &mut K) -> Status
+    ensures answer { (before : List ℕ) → K.taken out.old ≡ Some before →
+        Sends (IsJust Status.ProgramRefused (Refusals.refused_line (finding_of refusal)))
+        (Rose (K.faults out.old) (K.faults out.new)) before (K.taken out.new) result }
+    ensures ends { (result ≡ Status.ProgramRefused) ⊎ (result ≡ Status.WriteFault) ⊎ (result ≡ Status.NoMemory) }
+    ensures write_fault { result ≡ Status.WriteFault → Rose (K.faults out.old) (K.faults out.new) }
+    ensures faults { K.faults out.old ≤ K.faults out.new }
+    ensures untold { K.taken out.old ≡ None → K.taken out.new ≡ None }
+{
+    match refused_line(alloc, refusal) {
+        Ok(line) => finish(out, line.as_slice(), Status::ProgramRefused),
         Err(NoMemory) => Status::NoMemory,
     }
 }

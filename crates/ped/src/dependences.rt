@@ -6,7 +6,7 @@ ghost use Rattle.ped_tree.specs.Edges.{AreEdges, runs_twice};
 ghost use Rattle.ped.specs.SmallTree.{small_tree};
 ghost use Rattle.ped.specs.Dependences.{ArePossible, edges_by, edges_of, offset_of, small_range, kind_by, mark_by};
 
-use crate::reading::{Small, Subscript};
+use crate::small_form::{Small, Subscript};
 use crate::strong::{strong_distance, strong_excludes};
 use ped_base::{Direction, LoopRange, NoMemory};
 use std::alloc::Global;

@@ -6,13 +6,11 @@ mod adapters;
 mod answering;
 mod dependence_pane;
 mod dependences;
-mod fixed_form;
 mod numbers;
 mod panes;
-mod reading;
-mod scanning;
+mod refusals;
+mod small_form;
 mod strong;
-mod text_lines;
 
 use crate::adapters::{DiskShelf, StdSink};
 use crate::answering::{Status, ped_main};

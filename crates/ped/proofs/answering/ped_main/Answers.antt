@@ -1,7 +1,7 @@
 use Rattle.std.proofs.Common.{ℕ, List, Option, subst, sym}
 use Rattle.ped_io.specs.Outside.{Rose}
 use Rattle.ped.specs.Answer.{Request, MayAnswer, IsOutcome}
-use Rattle.ped.proofs.Outcomes.{whole_of}
+use Rattle.ped.proofs.Outcomes.{whole_of, of_request}
 use Rattle.ped.proofs.answering.ped_main.Goals as goal
 
 pub returns-in-Some-clause-answer : goal.returns-in-Some-clause-answer
@@ -15,3 +15,6 @@ returns-in-Some-clause-complete g c = λ files told before taken none sure.
     let o = returns-in-Some-clause-answer g c files told before taken in
     let failed : List ℕ → Type 0 = λ (name : List ℕ). Rose (g.F.Shelf.count c.args.shelf.now name) (g.F.Shelf.count c.show_file.new.shelf name) in
     whole_of _ files failed _ _ before o.0 c.show_file.result o.1 o.2 none sure
+
+pub returns-in-Some-clause-too_long : goal.returns-in-Some-clause-too_long
+returns-in-Some-clause-too_long g c = λ long files told. of_request c.in-Some.program.now _ files c.in-Some.ensures (c.show_file.ensures.too_long long files told)

@@ -117,6 +117,9 @@ no_mark c h = grind arith
 no_blank : (c : ℕ) → is_digit c ≡ true → eqb c 32 ≡ false
 no_blank c h = grind arith
 
+digit_shown : (c : ℕ) (cs : List ℕ) → is_digit c ≡ true → list_all is_blank (c ∷ cs) ≡ false
+digit_shown c cs h = and_left (is_blank c) (list_all is_blank cs) (no_blank c h)
+
 column_facts : (a b c d e n : ℕ) → 1 ≤ n → is_digit a ≡ true → list_all may_label (a ∷ b ∷ c ∷ d ∷ e ∷ 32 ∷ []) ≡ true → read_on 0 (a ∷ b ∷ c ∷ d ∷ e ∷ []) ≡ n → IsField (a ∷ b ∷ c ∷ d ∷ e ∷ 32 ∷ []) (Some n)
 unfolding is_comment continues label_of label_number has_bad_label
 column_facts a b c d e n some first all value =
@@ -124,10 +127,10 @@ column_facts a b c d e n some first all value =
     let five_may = all_taken may_label 5 (a ∷ b ∷ c ∷ d ∷ e ∷ 32 ∷ []) all in
     record {
       six = refl;
-      comment = λ p h. or_from (eqb a 67 || eqb a 99 || eqb a 42) (list_all is_blank (take 72 (a ∷ b ∷ c ∷ d ∷ e ∷ 32 ∷ p))) (no_mark a first) (and_left (eqb a 32) _ (no_blank a first));
+      comment = λ p h. or_from (eqb a 67 || eqb a 99 || eqb a 42) (list_all is_blank (take 72 (a ∷ b ∷ c ∷ d ∷ e ∷ 32 ∷ p))) (no_mark a first) (digit_shown a (take 71 (b ∷ c ∷ d ∷ e ∷ 32 ∷ p)) first);
       begins = λ p. refl;
       label_is = λ p. (λ i. if eqb (value i) 0 then None else Some (value i)) ∙ ap (λ (t : Bool). if t then None else Some n) shown;
-      good = λ p. or_from _ _ (ap not five_may) (and_right (list_any is_digit (a ∷ b ∷ c ∷ d ∷ e ∷ [])) _ (ap (λ (m : ℕ). eqb m 0) value ∙ shown));
+      good = λ p. or_from (not (list_all may_label (a ∷ b ∷ c ∷ d ∷ e ∷ []))) (list_any is_digit (a ∷ b ∷ c ∷ d ∷ e ∷ []) && eqb (read_on 0 (a ∷ b ∷ c ∷ d ∷ e ∷ [])) 0) (ap not five_may) (and_right (list_any is_digit (a ∷ b ∷ c ∷ d ∷ e ∷ [])) (eqb (read_on 0 (a ∷ b ∷ c ∷ d ∷ e ∷ [])) 0) (ap (λ (m : ℕ). eqb m 0) value ∙ shown));
       printable = all_of may_label is_printable label_prints (a ∷ b ∷ c ∷ d ∷ e ∷ 32 ∷ []) all;
     }
 

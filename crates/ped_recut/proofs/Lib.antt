@@ -1,6 +1,9 @@
 pub mod Blanks
+pub mod Bridge
 pub mod Bytes
 pub mod Fields
+pub mod Further
 pub mod Lines
 pub mod Notes
 pub mod Pieces
+pub mod Whole

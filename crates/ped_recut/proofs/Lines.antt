@@ -31,8 +31,9 @@ all_last p c [] h = (both (p c) true h).0
 all_last p c (d ∷ ds) h = all_last p d ds (both (p c) (list_all p (d ∷ ds)) h).1
 
 -- bytes that can be printed are a line
-pub printable_line : (c : ℕ) (cs : List ℕ) → list_all is_printable (c ∷ cs) ≡ true → IsLine (c ∷ cs)
-printable_line c cs h = record {
+pub printable_line : (line : List ℕ) → list_all is_printable line ≡ true → IsLine line
+printable_line [] h = record { one = refl; ended = refl }
+printable_line (c ∷ cs) h = record {
   one = none_of is_printable (λ c. eqb c 10) printable_newline (c ∷ cs) h;
   ended = ends c cs (printable_return (last_of c cs) (all_last is_printable c cs h));
 }

@@ -89,7 +89,7 @@ name_trimmed (c ∷ cs) h =
 rejection_line : (name : List ℕ) → IsRejectedName name → IsLine (codes "C$PED REJECT " ++ name)
 rejection_line name h =
     let all : list_all is_printable (codes "C$PED REJECT " ++ name) ≡ true = list_all-append is_printable (codes "C$PED REJECT ") name ∙ all_of is_alphanumeric is_printable (λ c l. (plain_letter c l).3) name h.letters in
-    printable_line 67 (codes "$PED REJECT " ++ name) all
+    printable_line (codes "C$PED REJECT " ++ name) all
 
 abbrev with_rests : List ℕ → List ℕ → List ℕ
 with_rests [] rest = rest

@@ -1,12 +1,12 @@
 -- The printed text of a program is that of its printed statements.
-use Rattle.std.proofs.Common.{◌≡◌, ℕ, suc, zero, ◌+◌, ◌-◌, ◌*◌, ◌/◌, ◌<◌, ◌≤◌, min, Bool, true, false, List, [], ◌∷◌, ◌++◌, map, length, take, drop, replicate, codes, Option, None, Some, refl, ap, sym, ◌∙◌, append_assoc, length-append, arith}
+use Rattle.std.proofs.Common.{◌≡◌, ℕ, suc, ◌+◌, ◌-◌, ◌*◌, ◌≤◌, min, List, [], ◌∷◌, ◌++◌, map, length, codes, Option, None, Some, refl, ap, sym, ◌∙◌, append_assoc, length-append, arith}
 use Rattle.std.specs.List.{flat_map, range_with_len}
 use Rattle.std.proofs.lemmas.List.{append-nil, map-append, take_all, length-replicate}
 use Rattle.std.proofs.lemmas.List.Concat.{flat_map-append}
 use Rattle.ped_tree.specs.Tree.{StmtTree, StmtTrees, Assign, If, Do, Print, Read, Stop, Comment, no_stmts, more_stmts, DeclTree, Program, Implicit, Integer, Dimension, Parameter, Save, Remark, ProgramTree}
 use Rattle.ped_tree.specs.Numbering.{statement_count, statements_count, loop_count, loops_count}
-use Rattle.ped_tree.specs.Printing.{Line, plain_line, blanks, indentation, piece, piece_count, continuation_lines, text_lines, end_line, directive_lines, private_lines, private_text, label_text, own_text, statement_lines, statements_lines, else_lines, decl_text, decl_lines, program_lines, program_text}
-use Rattle.ped_recut.specs.Printed.{PrintedNote, a_comment, a_rejection, PrintedStatement, note_line, label_field, characters, cut_lines, printed_lines, all_printed_lines, printed_text}
+use Rattle.ped_tree.specs.Printing.{Line, plain_line, blanks, indentation, piece, piece_count, text_lines, end_line, directive_lines, private_lines, private_text, label_text, own_text, statement_lines, statements_lines, else_lines, decl_text, decl_lines, program_lines, program_text}
+use Rattle.ped_recut.specs.Printed.{PrintedNote, a_rejection, note_line, characters, cut_lines, all_printed_lines, printed_text}
 use Rattle.ped_recut.specs.Parts.{Part, a_note, a_statement, unlabelled, private_parts, statement_parts, statements_parts, else_parts, decl_part, program_parts, with_notes, notes_left, printed_statements}
 
 -- the lines of a part
@@ -43,7 +43,7 @@ one : (number : Option ℕ) (depth : ℕ) (text : List ℕ) → Prints (unlabell
 one number depth text =
     let cs = characters depth text in
     record {
-      same = ap (λ (x : List (List ℕ)). (blanks 6 ++ piece cs 0) ∷ x) (continuations cs (range_with_len 1 (piece_count cs - 1))) ∙ sym (append-nil (cut_lines None cs))
+      same = ap (λ (x : List (List ℕ)). (blanks 6 ++ piece cs 0) ∷ x) (continuations cs (range_with_len 1 (piece_count cs - 1))) ∙ sym (append-nil (cut_lines None cs));
     }
 
 -- the line that ends a DO
@@ -57,7 +57,7 @@ last_line depth before =
     let no_more : piece_count cs - 1 ≡ 0 = omega (arith, short) in
     let here : field ++ indentation depth ++ codes "CONTINUE" ≡ field ++ piece cs 0 = append_assoc field (indentation depth) (codes "CONTINUE") ∙ ap (λ (x : List ℕ). field ++ x) (sym (take_all 66 cs short)) in
     record {
-      same = (λ i. here i ∷ map (λ k. codes "     &" ++ piece cs k) (range_with_len 1 (sym no_more i))) ∙ sym (append-nil (cut_lines (Some (10 * (before + 1))) cs))
+      same = (λ i. here i ∷ map (λ k. codes "     &" ++ piece cs k) (range_with_len 1 (sym no_more i))) ∙ sym (append-nil (cut_lines (Some (10 * (before + 1))) cs));
     }
 
 rejections : (names : List (List ℕ)) → Prints (map (λ x. a_note (a_rejection x)) names) (directive_lines names)
@@ -73,17 +73,17 @@ mutual
   of_statement depth number before (Assign left right) = one (Some number) depth (own_text before (Assign left right))
   of_statement depth number before (If condition then_part else_part) =
       behind (behind (behind
-        (one (Some number) depth (own_text before (If condition then_part else_part)))
-        (of_statements (suc depth) (number + 1) before then_part))
-        (of_else depth (number + 1 + statements_count then_part) (before + loops_count then_part) else_part))
-        (one None depth (codes "END IF"))
+      (one (Some number) depth (own_text before (If condition then_part else_part)))
+      (of_statements (suc depth) (number + 1) before then_part))
+      (of_else depth (number + 1 + statements_count then_part) (before + loops_count then_part) else_part))
+      (one None depth (codes "END IF"))
   of_statement depth number before (Do h body) =
       behind (behind (behind (behind
-        (rejections h.rejected)
-        (one (Some number) depth (own_text before (Do h body))))
-        (privates (suc depth) h.private))
-        (of_statements (suc depth) (number + 1) (before + 1) body))
-        (last_line depth before)
+      (rejections h.rejected)
+      (one (Some number) depth (own_text before (Do h body))))
+      (privates (suc depth) h.private))
+      (of_statements (suc depth) (number + 1) (before + 1) body))
+      (last_line depth before)
   of_statement depth number before (Print items) = one (Some number) depth (own_text before (Print items))
   of_statement depth number before (Read items) = one (Some number) depth (own_text before (Read items))
   of_statement depth number before Stop = one (Some number) depth (own_text before Stop)
@@ -93,16 +93,16 @@ mutual
   of_statements depth number before no_stmts = record { same = refl }
   of_statements depth number before (more_stmts s rest) =
       behind
-        (of_statement depth number before s)
-        (of_statements depth (number + statement_count s) (before + loop_count s) rest)
+      (of_statement depth number before s)
+      (of_statements depth (number + statement_count s) (before + loop_count s) rest)
 
   of_else : (depth number before : ℕ) (ss : StmtTrees) → Prints (else_parts depth before ss) (else_lines depth number before ss)
   of_else depth number before no_stmts = record { same = refl }
   of_else depth number before (more_stmts s rest) =
       behind (behind
-        (one None depth (codes "ELSE"))
-        (of_statement (suc depth) number before s))
-        (of_statements (suc depth) (number + statement_count s) (before + loop_count s) rest)
+      (one None depth (codes "ELSE"))
+      (of_statement (suc depth) number before s))
+      (of_statements (suc depth) (number + statement_count s) (before + loop_count s) rest)
 
 of_decl : (d : DeclTree) → Prints (decl_part d ∷ []) (decl_lines d)
 of_decl (Program x) = one None 0 (decl_text (Program x))

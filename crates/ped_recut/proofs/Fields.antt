@@ -1,12 +1,12 @@
 -- Columns 1 to 6 of an initial line.
-use Rattle.std.proofs.Common.{◌≡◌, ℕ, suc, zero, ◌+◌, ◌-◌, ◌*◌, ◌/◌, ◌%◌, ◌^◌, ◌<◌, ◌≤◌, Bool, true, false, if◌then◌else◌, List, [], ◌∷◌, ◌++◌, length, take, replicate, Option, Some, None, refl, ap, sym, subst, ◌∙◌, inl, inr, append_assoc, eqb, length-append, arith}
+use Rattle.std.proofs.Common.{◌≡◌, ℕ, suc, zero, ◌+◌, ◌-◌, ◌*◌, ◌/◌, ◌%◌, ◌<◌, ◌≤◌, Bool, true, false, if◌then◌else◌, List, [], ◌∷◌, ◌++◌, length, take, replicate, Option, Some, None, refl, ap, sym, subst, ◌∙◌, inl, inr, eqb, length-append, arith}
 use Rattle.std.specs.Prelude.{not, ◌||◌, ◌&&◌}
 use Rattle.std.specs.List.{list_all, list_any}
 use Rattle.std.specs.Fmt.{decimal}
 use Rattle.std.proofs.lemmas.Bool.{eqb-true, ne_eqb, and_from, and_left, and_right, or_from, or_right}
 use Rattle.std.proofs.lemmas.Fmt.{decimal_by_steps, length-decimal-le}
 use Rattle.std.proofs.lemmas.List.Folds.{list_all-append}
-use Rattle.ped_tree.specs.Columns.{column, is_blank, is_digit, has_comment_mark, is_comment, continues, with_digit, label_number, label_of, has_bad_label, statement_columns}
+use Rattle.ped_tree.specs.Columns.{is_blank, is_digit, is_comment, continues, with_digit, label_number, label_of, has_bad_label}
 use Rattle.ped_tree.specs.Characters.{is_printable}
 use Rattle.ped_recut.proofs.Bytes.{both, either, all_of, all_taken, digit_printable}
 use Rattle.ped_recut.specs.Printed.{label_field}

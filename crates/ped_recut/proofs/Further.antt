@@ -1,21 +1,18 @@
 -- The lines of one statement: an initial line and its continuation lines.
-use Rattle.std.proofs.Common.{◌≡◌, ℕ, suc, zero, ◌+◌, ◌-◌, ◌*◌, ◌<◌, ◌≤◌, Bool, true, false, if◌then◌else◌, List, [], ◌∷◌, ◌++◌, map, length, take, drop, replicate, codes, Option, refl, ap, sym, ◌∙◌, append_assoc, length-append, add-zero, add_assoc, eqb, arith}
-use Rattle.std.specs.Prelude.{not, ◌||◌, ◌&&◌}
-use Rattle.std.specs.List.{AllByRecursion, list_all, list_any, flat_map, range_with_len}
+use Rattle.std.proofs.Common.{◌≡◌, ℕ, suc, zero, ◌+◌, ◌-◌, ◌*◌, ◌≤◌, Bool, true, false, List, [], ◌∷◌, ◌++◌, map, length, take, drop, codes, refl, ap, sym, ◌∙◌, add-zero, eqb, arith}
+use Rattle.std.specs.List.{AllByRecursion, list_all, flat_map}
 use Rattle.std.proofs.lemmas.Bool.{ne_eqb}
-use Rattle.std.proofs.lemmas.List.Folds.{list_all-append}
-use Rattle.ped_tree.specs.Columns.{is_blank, is_comment, continues, has_tab, has_bad_label, has_label_field, label_of, statement_columns}
-use Rattle.ped_tree.specs.Characters.{is_printable, is_quoted, has_bad}
-use Rattle.ped_tree.specs.Statement.{Note, Statement}
-use Rattle.ped_tree.specs.Grouping.{NumberedLine, further_lines, joined_columns, notes_within, notes_behind, statement_at, statements_from}
-use Rattle.ped_tree.specs.Refusal.{Finding, Tab, BadLabel, TooManyContinuations, ContinuationFirst, BadCharacter, OpenConstant, stands}
-use Rattle.ped_tree.specs.LineRefusals.{Role, Initial, Continuation, Orphan, label_is_bad, is_too_many, is_orphan, at_line, at_further, in_rest, in_statements}
+use Rattle.ped_tree.specs.Columns.{is_comment, continues, has_tab, has_bad_label, has_label_field, statement_columns}
+use Rattle.ped_tree.specs.Characters.{is_printable, has_bad}
+use Rattle.ped_tree.specs.Statement.{Note}
+use Rattle.ped_tree.specs.Grouping.{NumberedLine, further_lines, joined_columns, notes_within, notes_behind, statements_from}
+use Rattle.ped_tree.specs.Refusal.{stands}
+use Rattle.ped_tree.specs.LineRefusals.{Role, Initial, Continuation, label_is_bad, is_too_many, is_orphan, at_line, at_further, in_statements}
 use Rattle.ped_tree.specs.Printing.{piece}
 use Rattle.ped_lines.proofs.Quoting.{has_bad_append}
 use Rattle.ped_recut.proofs.Bytes.{neither, both, none_of, all_taken, printable_tab}
 use Rattle.ped_recut.proofs.Lines.{IsLine, printable_line}
 use Rattle.ped_recut.proofs.Pieces.{filled, piece_short, columns_behind}
-use Rattle.ped_recut.proofs.Fields.{IsField}
 
 -- the continuation line with a piece
 abbrev pub further_line : List ℕ → ℕ → List ℕ

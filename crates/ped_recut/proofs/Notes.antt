@@ -1,15 +1,14 @@
 -- Comments and directives before a statement, line by line.
-use Rattle.std.proofs.Common.{◌≡◌, ℕ, suc, zero, ◌+◌, ◌<◌, ◌≤◌, Bool, true, false, if◌then◌else◌, List, [], ◌∷◌, ◌++◌, map, length, take, drop, codes, filter, refl, ap, sym, ◌∙◌, append_assoc, length-append, add-zero, eqb, cond, ◌⊎◌, inl, inr, arith}
-use Rattle.std.specs.Prelude.{not, ◌||◌, ◌&&◌}
-use Rattle.std.specs.List.{AllByRecursion, list_all, list_any}
-use Rattle.std.specs.Str.Lines.{strip_carriage_return}
+use Rattle.std.proofs.Common.{◌≡◌, ℕ, suc, ◌+◌, Bool, true, false, if◌then◌else◌, List, [], ◌∷◌, ◌++◌, map, length, drop, codes, filter, refl, ap, sym, ◌∙◌, append_assoc, length-append, add-zero, eqb, cond, inl, inr, arith}
+use Rattle.std.specs.Prelude.{not, ◌||◌}
+use Rattle.std.specs.List.{AllByRecursion, list_all}
 use Rattle.std.proofs.lemmas.List.{append-nil, take_all}
-use Rattle.std.proofs.lemmas.Bool.{or_from, and_from}
+use Rattle.std.proofs.lemmas.Bool.{or_from}
 use Rattle.std.proofs.lemmas.List.Folds.{list_all-append}
 use Rattle.ped_base.specs.Letters.{is_letter, is_digit, is_alphanumeric}
 use Rattle.ped_tree.specs.Characters.{is_printable}
-use Rattle.ped_tree.specs.Columns.{is_blank, folded, is_comment, is_directive, continues}
-use Rattle.ped_tree.specs.Statement.{Note, Statement}
+use Rattle.ped_tree.specs.Columns.{is_blank, folded, is_comment, is_directive}
+use Rattle.ped_tree.specs.Statement.{Note}
 use Rattle.ped_tree.specs.Grouping.{with_rest, trimmed, comment_text, directive_text, comment_at, directive_at, further_lines, notes_within, notes_behind, statements_from}
 use Rattle.ped_tree.specs.LineRefusals.{in_statements}
 use Rattle.ped_recut.specs.Printed.{PrintedNote, a_comment, a_rejection, note_line}
@@ -66,6 +65,7 @@ plain_letter : (c : ℕ) → is_alphanumeric c ≡ true → (eqb c 32 ≡ false)
 plain_letter c h = elim (either (is_letter c) (is_digit c) h) [ inl l ↦ letter c l | inr d ↦ digit c d ] where
   letter : (c : ℕ) → is_letter c ≡ true → (eqb c 32 ≡ false) × (eqb c 13 ≡ false) × (folded c ≡ c) × (is_printable c ≡ true)
   letter c h = (grind arith, grind arith, grind arith, grind arith)
+
   digit : (c : ℕ) → is_digit c ≡ true → (eqb c 32 ≡ false) × (eqb c 13 ≡ false) × (folded c ≡ c) × (is_printable c ≡ true)
   digit c h = (grind arith, grind arith, grind arith, grind arith)
 

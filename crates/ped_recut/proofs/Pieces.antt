@@ -1,5 +1,5 @@
 -- Pieces of 66 characters, each filled with blanks, put together again.
-use Rattle.std.proofs.Common.{◌≡◌, ℕ, suc, zero, ◌+◌, ◌-◌, ◌*◌, ◌/◌, ◌<◌, ◌≤◌, ◌⊎◌, inl, inr, min, List, [], ◌∷◌, ◌++◌, length, take, drop, replicate, refl, ap, sym, ◌∙◌, append_assoc, arith}
+use Rattle.std.proofs.Common.{◌≡◌, ℕ, suc, zero, ◌+◌, ◌-◌, ◌*◌, ◌≤◌, ◌⊎◌, inl, inr, List, ◌++◌, length, take, drop, replicate, ap, sym, ◌∙◌, append_assoc, arith}
 use Rattle.std.specs.List.{flat_map, range_with_len}
 use Rattle.std.proofs.lemmas.List.{append-nil, length-take, length-drop, take_all, drop_all, drop_at, drop-drop, take-append-drop, replicate-append-replicate}
 use Rattle.ped_tree.specs.Columns.{statement_columns}
@@ -61,7 +61,8 @@ pieces_joined cs k (suc n) enough =
 abbrev pub blanks_behind : List ℕ → ℕ
 blanks_behind cs = 66 * suc (piece_count cs - 1) - length cs
 
-pub all_joined : (cs : List ℕ) → flat_map (λ k. filled (piece cs k)) (range_with_len 0 (suc (piece_count cs - 1))) ≡ cs ++ replicate (blanks_behind cs) 32
-all_joined cs =
+-- all of them, with the blanks behind the last
+pub pieces_back : (cs : List ℕ) → flat_map (λ k. filled (piece cs k)) (range_with_len 0 (suc (piece_count cs - 1))) ≡ cs ++ replicate (blanks_behind cs) 32
+pieces_back cs =
     let n = suc (piece_count cs - 1) in
     pieces_joined cs 0 n (omega arith) ∙ ap (λ (m : ℕ). cs ++ replicate m 32) (omega arith)

@@ -1,27 +1,27 @@
 -- The lines of all printed statements, statement by statement.
-use Rattle.std.proofs.Common.{◌≡◌, ℕ, suc, zero, ◌+◌, ◌-◌, ◌*◌, ◌/◌, ◌<◌, ◌≤◌, min, Bool, true, false, if◌then◌else◌, List, [], ◌∷◌, ◌++◌, map, length, take, drop, replicate, codes, Option, None, refl, ap, sym, subst, ◌∙◌, append_assoc, length-append, arith}
-use Rattle.std.specs.Prelude.{not, ◌||◌, ◌&&◌}
-use Rattle.std.specs.List.{AllByRecursion, list_all, list_any, flat_map, range_with_len}
+use Rattle.std.proofs.Common.{◌≡◌, ℕ, suc, zero, ◌+◌, ◌-◌, ◌*◌, ◌≤◌, min, true, false, List, [], ◌∷◌, ◌++◌, map, length, take, replicate, Option, None, refl, ap, sym, subst, ◌∙◌, append_assoc, length-append, arith}
+use Rattle.std.specs.List.{AllByRecursion, list_all, flat_map, range_with_len}
 use Rattle.std.specs.Str.Lines.{lines}
 use Rattle.std.proofs.lemmas.Bool.{and_from}
 use Rattle.std.proofs.lemmas.List.{append-nil, take-take, length-map}
 use Rattle.std.proofs.lemmas.List.Folds.{list_all-append}
 use Rattle.ped_tree.specs.Columns.{is_blank, is_comment, continues, has_bad_label, label_of, statement_columns}
 use Rattle.ped_tree.specs.Characters.{is_printable, is_quoted, has_bad, text_of}
-use Rattle.ped_tree.specs.Statement.{Note, Statement, Statements}
-use Rattle.ped_tree.specs.Grouping.{NumberedLine, comment_at, directive_at, further_lines, joined_columns, notes_within, notes_behind, statement_at, statements_from, statements_of}
-use Rattle.ped_tree.specs.Refusal.{Finding, OpenConstant, stands, first_of}
-use Rattle.ped_tree.specs.LineRefusals.{Initial, at_line, at_further, at_orphans, in_rest, in_statements, line_refusals, first_line_refusal}
+use Rattle.ped_tree.specs.Statement.{Note, Statements}
+use Rattle.ped_tree.specs.Grouping.{comment_at, directive_at, further_lines, joined_columns, notes_within, notes_behind, statement_at, statements_from, statements_of}
+use Rattle.ped_tree.specs.Refusal.{OpenConstant, stands, first_of}
+use Rattle.ped_tree.specs.LineRefusals.{Initial, at_line, at_further, at_orphans, in_rest, in_statements, first_line_refusal}
 use Rattle.ped_tree.specs.Printing.{piece, piece_count}
 use Rattle.ped_lines.proofs.Quoting.{has_bad_append}
-use Rattle.ped_recut.specs.Printed.{PrintedNote, PrintedStatement, note_line, label_field, characters, cut_lines, printed_lines, all_printed_lines, printed_text}
-use Rattle.ped_recut.specs.Fitting.{NoteFits, LabelFits, TextFits, StatementFits, StatementsFit}
+use Rattle.ped_recut.specs.Printed.{PrintedStatement, note_line, label_field, characters, cut_lines, printed_lines, all_printed_lines, printed_text}
+use Rattle.ped_recut.specs.Fitting.{LabelFits, TextFits, StatementFits, StatementsFit}
 use Rattle.ped_recut.specs.Cut.{comments_at, directives_at, cut_at, cut_from, cut}
 use Rattle.ped_recut.proofs.Bytes.{neither, allowed_printable}
 use Rattle.ped_recut.proofs.Blanks.{quoted_blanks, quoted_behind, text_indented, bad_indented, text_filled, bad_filled, seen}
-use Rattle.ped_recut.proofs.Pieces.{filled, piece_short, columns_behind, blanks_behind, all_joined}
+use Rattle.ped_recut.proofs.Pieces.{filled, piece_short, columns_behind, blanks_behind, pieces_back}
+use Rattle.ped_recut.proofs.Grouped.{all_joined}
 use Rattle.ped_recut.proofs.Lines.{IsLine, printable_line, lines_written}
-use Rattle.ped_recut.proofs.Fields.{IsField, label_fields}
+use Rattle.ped_recut.proofs.Fields.{label_fields}
 use Rattle.ped_recut.proofs.Notes as notes
 use Rattle.ped_recut.proofs.Further as further
 use Rattle.ped_recut.proofs.Further.{IsFresh, further_line, numbered_from}
@@ -52,7 +52,7 @@ whole depth text fits =
     let m = min (2 * depth) 20 in
     let allowed : has_bad [] cs ≡ false = bad_indented m text ∙ fits.allowed in
     let closed : is_quoted cs ≡ false = quoted_behind m text ∙ fits.closed in
-    let joined : filled (piece cs 0) ++ flat_map (λ k. filled (piece cs k)) (numbers cs) ≡ cs ++ replicate (blanks_behind cs) 32 = all_joined cs in
+    let joined : filled (piece cs 0) ++ flat_map (λ k. filled (piece cs k)) (numbers cs) ≡ cs ++ replicate (blanks_behind cs) 32 = pieces_back cs in
     record {
       prints = allowed_printable [] cs allowed;
       shown = ap (list_all is_blank) (take-take 66 66 cs (omega arith)) ∙ seen m 66 text (omega arith) fits.begins;
@@ -213,20 +213,16 @@ nothing_behind at n (s ∷ ss) h =
 
 -- the lines are read as they were written
 
-both_lists : (a b : List (List ℕ)) → AllByRecursion IsLine a → AllByRecursion IsLine b → AllByRecursion IsLine (a ++ b)
-both_lists [] b h k = k
-both_lists (x ∷ a) b h k = (h.0, both_lists a b h.1 k)
-
 statement_lines : (s : PrintedStatement) → StatementFits s → AllByRecursion IsLine (printed_lines s)
 unfolding first_line
 statement_lines s h =
     let cs = characters s.depth s.text in
     let first : IsLine (first_line s) = printable_line (first_line s) (first_initial s h).prints in
-    both_lists (map note_line s.notes) (cut_lines s.label cs) (notes.note_lines s.notes h.notes) (first, further.further_are_lines cs (numbers cs) (whole s.depth s.text h.text).prints)
+    all_joined IsLine (map note_line s.notes) (cut_lines s.label cs) (notes.note_lines s.notes h.notes) (first, further.further_are_lines cs (numbers cs) (whole s.depth s.text h.text).prints)
 
 all_lines : (ss : List PrintedStatement) → StatementsFit ss → AllByRecursion IsLine (all_printed_lines ss)
 all_lines [] h = tt
-all_lines (s ∷ ss) h = both_lists (printed_lines s) (all_printed_lines ss) (statement_lines s h.0) (all_lines ss h.1)
+all_lines (s ∷ ss) h = all_joined IsLine (printed_lines s) (all_printed_lines ss) (statement_lines s h.0) (all_lines ss h.1)
 
 written : (ss : List PrintedStatement) → StatementsFit ss → lines (printed_text ss) ≡ all_printed_lines ss
 written ss h = lines_written (all_printed_lines ss) (all_lines ss h)

@@ -1,2 +1,5 @@
+pub mod Declarations
 pub mod Expressions
+pub mod Listing
+pub mod Only
 pub mod Squeezing

@@ -1,6 +1,6 @@
 -- Printed expressions, references and conditions have no blanks, and forms with the same tree.
-use Rattle.std.proofs.Common.{◌≡◌, ℕ, ◌<◌, ◌^◌, Bool, true, false, List, [], ◌∷◌, ◌++◌, length, refl, sym, subst, arith, rules, ltb}
-use Rattle.std.specs.Prelude.{codes, ◌||◌}
+use Rattle.std.proofs.Common.{◌≡◌, ℕ, ◌<◌, ◌^◌, Bool, true, false, List, [], ◌∷◌, ◌++◌, length, refl, sym, subst, arith, rules}
+use Rattle.std.specs.Prelude.{codes}
 use Rattle.std.specs.Fmt.{decimal}
 use Rattle.std.specs.List.{list_all}
 use Rattle.std.specs.Str.Parse.{digits_value}
@@ -12,15 +12,15 @@ use Rattle.ped_tree.specs.declared.expressions.Intrinsic.{Intrinsic}
 use Rattle.ped_tree.specs.declared.expressions.Intrinsic.TheVariants.{Mod, Abs, Max, Min}
 use Rattle.ped_tree.specs.declared.conditions.Relation.{Relation}
 use Rattle.ped_tree.specs.declared.conditions.Relation.TheVariants as relations
-use Rattle.ped_tree.specs.Tree.{ExprTree, ExprTrees, Int, Var, Element, Neg, Add, Sub, Mul, Div, Pow, Call, no_exprs, more_exprs, CondTree, Rel, Not, And, Or}
+use Rattle.ped_tree.specs.Tree.{ExprTree, ExprTrees, Int, Var, Element, Neg, Add, Sub, Mul, Div, Pow, Call, no_exprs, more_exprs, CondTree}
 use Rattle.ped_tree.specs.Words.{is_numeral}
 use Rattle.ped_tree.specs.Literals.{has_large_literal, cond_has_large_literal}
 use Rattle.ped_tree.specs.Printing.{Place, alone, as_term, as_factor, as_base, encloses_sum, encloses_product, encloses_power, enclosed, intrinsic_text, expr_text, exprs_text, further_text, value_text, relation_text, Standing, whole, in_or, in_and, in_not, encloses_or, encloses_and, encloses_not, cond_text}
-use Rattle.ped_tree.specs.ExpressionForms.{ExprForm, ReferenceForm, expr_form_text, expr_form_tree, reference_form_text, reference_form_tree, ReadsExpr, ReadsReference}
-use Rattle.ped_tree.specs.ConditionForms.{CondForm, LogicalTermForm, LogicalFactorForm, LogicalPrimaryForm, one_term, or, one_factor, and, affirmed, negated, relation, group, cond_form_text, cond_form_tree, logical_term_tree, logical_factor_tree, logical_primary_tree, ReadsCond}
+use Rattle.ped_tree.specs.ExpressionForms.{ExprForm, ReferenceForm, expr_form_text, expr_form_tree, reference_form_text, reference_form_tree}
+use Rattle.ped_tree.specs.ConditionForms.{CondForm, LogicalTermForm, LogicalFactorForm, LogicalPrimaryForm, one_term, or, one_factor, and, affirmed, negated, relation, group, cond_form_text, cond_form_tree, logical_term_tree, logical_factor_tree, logical_primary_tree}
 use Rattle.ped_expressions.proofs.Printed.{Stands, SomeStand, AllStand, expr_stands, reference_stands, expr_prints, reference_prints}
 use Rattle.ped_expressions.proofs.CondPrinted.{cond_prints}
-use Rattle.ped_reprint.proofs.Squeezing.{Squeezes, Reduces, joined, nothing, words, name_stays, numeral_stays}
+use Rattle.ped_reprint.proofs.Squeezing.{Reduces, joined, nothing, words, name_stays, numeral_stays}
 
 -- parentheses
 

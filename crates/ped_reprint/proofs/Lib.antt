@@ -3,3 +3,4 @@ pub mod Expressions
 pub mod Listing
 pub mod Only
 pub mod Squeezing
+pub mod Statements

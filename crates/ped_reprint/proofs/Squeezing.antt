@@ -1,7 +1,7 @@
 -- What is left of printed characters without the blanks outside constants.
-use Rattle.std.proofs.Common.{◌≡◌, ℕ, zero, suc, ◌-◌, ◌<◌, ◌≤◌, inl, inr, Bool, true, false, cond, List, [], ◌∷◌, ◌++◌, refl, sym, ap, subst, ◌∙◌, append_assoc, length, eqb, leb, arith}
-use Rattle.std.specs.Prelude.{codes, not, ◌&&◌, ◌||◌}
-use Rattle.std.specs.List.{list_all, flat_map}
+use Rattle.std.proofs.Common.{◌≡◌, ℕ, zero, suc, ◌-◌, ◌<◌, ◌≤◌, inl, inr, Bool, true, false, cond, List, [], ◌∷◌, ◌++◌, refl, sym, ap, ◌∙◌, append_assoc, length, eqb, leb, arith}
+use Rattle.std.specs.Prelude.{not, ◌&&◌}
+use Rattle.std.specs.List.{list_all}
 use Rattle.std.proofs.lemmas.Bool.{not-true, ne_eqb, leb-true, lt-leb, and_parts, and_from, or_cases, or_right}
 use Rattle.std.proofs.lemmas.List.{append-nil}
 use Rattle.ped_base.specs.Letters

@@ -3,4 +3,6 @@
 
 mod laws;
 
-pub use laws::{printed_declaration, printed_private, printed_save, printed_statement, printed_words};
+pub use laws::{
+    printed_declaration, printed_private, printed_save, printed_statement, printed_words,
+};

@@ -1,8 +1,8 @@
 -- Printed declarations have forms with the same tree.
-use Rattle.std.proofs.Common.{◌≡◌, ℕ, Bool, true, false, cond, List, ◌∷◌, ◌++◌, map, refl, sym, ap, subst, append_assoc}
+use Rattle.std.proofs.Common.{◌≡◌, ℕ, true, false, List, ◌∷◌, ◌++◌, map, refl, sym, ap, subst, append_assoc}
 use Rattle.std.specs.Prelude.{codes, ◌||◌}
 use Rattle.std.specs.List.{list_all, join_by}
-use Rattle.std.proofs.lemmas.Bool.{or_parts, and_parts, eqb-true}
+use Rattle.std.proofs.lemmas.Bool.{or_parts, and_parts, eqb-true, cond_both}
 use Rattle.std.proofs.lemmas.List.{append-nil}
 use Rattle.ped_tree.specs.Tree.{ExprTree, Int, Var, Element, Neg, Add, Sub, Mul, Div, Pow, Call, BoundTree, DeclaratorTree, Program, Implicit, Integer, Dimension, Parameter, Save}
 use Rattle.ped_tree.specs.References.{has_some}
@@ -41,12 +41,10 @@ bound_again (both_bounds l u) h =
     let k = or_parts (has_large_literal (expr_form_tree l)) (has_large_literal (expr_form_tree u)) h in
     let p = expr_again l k.0 in
     let q = expr_again u k.1 in
-    let b = bound_form_tree (both_bounds l u) in
-    let go : (one : Bool) → is_one (expr_form_tree l) ≡ one → (g : BoundForm) × Reduces (cond one (value_text (expr_form_tree u)) (value_text (expr_form_tree l) ++ codes ":" ++ value_text (expr_form_tree u))) (bound_form_text g) × (bound_form_tree g ≡ b) = λ one. elim one as (λ one. is_one (expr_form_tree l) ≡ one → (g : BoundForm) × Reduces (cond one (value_text (expr_form_tree u)) (value_text (expr_form_tree l) ++ codes ":" ++ value_text (expr_form_tree u))) (bound_form_text g) × (bound_form_tree g ≡ b)) [
-      | true ↦ λ e. (upper_bound q.0, q.1, λ i. record { lower = sym (one_is (expr_form_tree l) e) i; upper = q.2 i })
-      | false ↦ λ e. (both_bounds p.0 q.0, joined (joined p.1 (words (codes ":") refl)) q.1, λ i. record { lower = p.2 i; upper = q.2 i })
-    ] in
-    go (is_one (expr_form_tree l)) refl
+    let again : List ℕ → Type 0 = λ c. (g : BoundForm) × Reduces c (bound_form_text g) × (bound_form_tree g ≡ bound_form_tree (both_bounds l u)) in
+    cond_both (is_one (expr_form_tree l)) (value_text (expr_form_tree u)) (value_text (expr_form_tree l) ++ codes ":" ++ value_text (expr_form_tree u)) again
+    (λ e. (upper_bound q.0, q.1, λ i. record { lower = sym (one_is (expr_form_tree l) e) i; upper = q.2 i }))
+    (λ e. (both_bounds p.0 q.0, joined (joined p.1 (words (codes ":") refl)) q.1, λ i. record { lower = p.2 i; upper = q.2 i }))
 
 in_parentheses : (x dimensions : List ℕ) → x ++ codes "(" ++ dimensions ++ codes ")" ≡ x ++ (codes "(" ++ dimensions ++ codes ")")
 in_parentheses x dimensions = simp append_assoc

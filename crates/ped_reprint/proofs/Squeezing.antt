@@ -2,7 +2,7 @@
 use Rattle.std.proofs.Common.{◌≡◌, ℕ, zero, suc, ◌-◌, ◌<◌, ◌≤◌, inl, inr, Bool, true, false, cond, List, [], ◌∷◌, ◌++◌, refl, sym, ap, ◌∙◌, append_assoc, length, eqb, leb, arith}
 use Rattle.std.specs.Prelude.{not, ◌&&◌}
 use Rattle.std.specs.List.{list_all}
-use Rattle.std.proofs.lemmas.Bool.{not-true, ne_eqb, leb-true, lt-leb, and_parts, and_from, or_cases, or_right}
+use Rattle.std.proofs.lemmas.Bool.{cond_both, not-true, ne_eqb, leb-true, lt-leb, and_parts, and_from, or_cases, or_right}
 use Rattle.std.proofs.lemmas.List.{append-nil}
 use Rattle.ped_base.specs.Letters
 use Rattle.ped_base.specs.Letters.{is_letter, is_digit, is_alphanumeric}
@@ -43,7 +43,7 @@ nothing s = record {
 
 -- one character
 
-single : (s e : Bool) (c : ℕ) (t : List ℕ) → ((before : List ℕ) → is_quoted before ≡ s → kept before c ≡ t) → (if_apostrophe : cond (eqb c 39) (not s) s ≡ e) → Squeezes s e (c ∷ []) t
+single : (s e : Bool) (c : ℕ) (t : List ℕ) → ((before : List ℕ) → is_quoted before ≡ s → kept before c ≡ t) → cond (eqb c 39) (not s) s ≡ e → Squeezes s e (c ∷ []) t
 single s e c t k q = record {
   becomes = λ before h. append-nil (kept before c) ∙ k before h;
   leaves = λ before h. quoted_more before c ∙ ap (λ (b : Bool). cond (eqb c 39) (not b) b) h ∙ q;
@@ -135,11 +135,9 @@ words (c ∷ cs) h =
 doubled_stays : (text : List ℕ) → Squeezes true true (doubled text) (doubled text)
 doubled_stays [] = nothing true
 doubled_stays (c ∷ cs) =
-    let go : (b : Bool) → eqb c 39 ≡ b → Squeezes true true (cond b (39 ∷ 39 ∷ []) (c ∷ [])) (cond b (39 ∷ 39 ∷ []) (c ∷ [])) = λ b. elim b as (λ b. eqb c 39 ≡ b → Squeezes true true (cond b (39 ∷ 39 ∷ []) (c ∷ [])) (cond b (39 ∷ 39 ∷ []) (c ∷ []))) [
-      | true ↦ λ h. joined (single true false 39 (39 ∷ []) (λ before q. quoted_kept before 39 q) refl) (single false true 39 (39 ∷ []) (λ before q. outside_kept before 39 q) refl)
-      | false ↦ λ h. single true true c (c ∷ []) (λ before q. quoted_kept before c q) (ap (λ (b : Bool). cond b (not true) true) h)
-    ] in
-    joined (go (eqb c 39) refl) (doubled_stays cs)
+    let stays : List ℕ → Type 0 = λ t. Squeezes true true t t in
+    let two : stays (39 ∷ 39 ∷ []) = joined (single true false 39 (39 ∷ []) (λ before q. quoted_kept before 39 q) refl) (single false true 39 (39 ∷ []) (λ before q. outside_kept before 39 q) refl) in
+    joined (cond_both (eqb c 39) (39 ∷ 39 ∷ []) (c ∷ []) stays (λ h. two) (λ h. single true true c (c ∷ []) (λ before q. quoted_kept before c q) (ap (λ (b : Bool). cond b false true) h))) (doubled_stays cs)
 
 pub constant_stays : (text : List ℕ) → Reduces (constant_text text) (constant_text text)
 constant_stays text =

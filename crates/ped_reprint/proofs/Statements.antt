@@ -1,9 +1,9 @@
 -- The first printed lines of statements have forms with the same meaning.
-use Rattle.std.proofs.Common.{◌≡◌, ℕ, ◌+◌, ◌*◌, ◌<◌, ◌^◌, Bool, true, false, cond, List, [], ◌++◌, map, length, Option, Some, None, refl, sym, ap, subst, ◌∙◌, append_assoc, arith, leb, eqb}
+use Rattle.std.proofs.Common.{◌≡◌, ℕ, ◌+◌, ◌*◌, ◌<◌, ◌^◌, Bool, true, false, List, [], ◌++◌, map, length, Option, Some, None, refl, sym, ap, subst, ◌∙◌, append_assoc, arith, leb, eqb}
 use Rattle.std.specs.Prelude.{codes, ◌||◌, ◌&&◌, not}
 use Rattle.std.specs.Fmt.{decimal}
 use Rattle.std.specs.List.{list_any, list_all}
-use Rattle.std.proofs.lemmas.Bool.{or_parts, and_parts, and_from, le-leb, ne_eqb, not_from_false}
+use Rattle.std.proofs.lemmas.Bool.{cond_both, or_parts, and_parts, and_from, le-leb, ne_eqb, not_from_false}
 use Rattle.std.proofs.lemmas.List.{append-nil}
 use Rattle.std.proofs.lemmas.Fmt.{length-decimal-le}
 use Rattle.ped_tree.specs.Tree.{ExprTree, CondTree, ItemTree, Value, Head, StmtTree, StmtTrees, Assign, Print, Read, Stop, no_stmts, more_stmts}
@@ -81,11 +81,9 @@ step_again None h = (None, nothing false, refl)
 step_again (Some e) h =
     let p = expr_again e h in
     let t = expr_form_tree e in
-    let go : (one : Bool) → is_one t ≡ one → (g : Option ExprForm) × Reduces (cond one [] (codes ", " ++ value_text t)) (further_form_text g) × (step_form_tree g ≡ t) = λ one. elim one as (λ one. is_one t ≡ one → (g : Option ExprForm) × Reduces (cond one [] (codes ", " ++ value_text t)) (further_form_text g) × (step_form_tree g ≡ t)) [
-      | true ↦ λ i. (None, nothing false, sym (one_is t i))
-      | false ↦ λ i. (Some p.0, joined comma_blank p.1, p.2)
-    ] in
-    go (is_one t) refl
+    cond_both (is_one t) [] (codes ", " ++ value_text t) (λ c. (g : Option ExprForm) × Reduces c (further_form_text g) × (step_form_tree g ≡ t))
+    (λ i. (None, nothing false, sym (one_is t i)))
+    (λ i. (Some p.0, joined comma_blank p.1, p.2))
 
 word_again : (parallel : Bool) → Reduces (do_word parallel) (do_form_word parallel)
 word_again true = words (codes "PARALLEL DO ") refl
@@ -120,9 +118,11 @@ do_again parallel (control comma x is begin limit step) before short small =
 
 -- items
 
+-- the line of an IF with this condition is printed again
 abbrev CondAgain : CondTree → Type 0
 CondAgain c = cond_has_large_literal c ≡ false → ReadsOnly (codes "IF (" ++ cond_text whole c ++ codes ") THEN") (block_if c)
 
+-- the statement behind a logical IF is printed again, where there is one
 abbrev BehindAgain : StmtTrees → Type 0
 BehindAgain no_stmts = Unit {0}
 BehindAgain (more_stmts s rest) = DoesAgain s

@@ -2,6 +2,8 @@
 //! those that stand at the statements of a text is the first.
 #![tactic(auto)]
 
+mod blocks;
+mod limits;
 mod names;
 mod refusals;
 mod saving;

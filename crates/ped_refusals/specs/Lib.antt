@@ -1,3 +1,4 @@
 pub mod Limits
 pub mod OpenBlocks
+pub mod OpenContexts
 pub mod Views

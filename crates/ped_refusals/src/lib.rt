@@ -3,6 +3,7 @@
 #![tactic(auto)]
 
 mod blocks;
+mod contexts;
 mod limits;
 mod names;
 mod refusals;

@@ -2,8 +2,10 @@
 //! those that stand at the statements of a text is the first.
 #![tactic(auto)]
 
+mod names;
 mod refusals;
 mod saving;
 
+pub use names::NameSet;
 pub use refusals::{StatementRefusal, StatementRefusalKind, first_refusal};
 pub use saving::saved_names;

@@ -1,1 +1,2 @@
 pub mod NameEquality
+pub mod Silences

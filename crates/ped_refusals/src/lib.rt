@@ -2,10 +2,14 @@
 //! those that stand at the statements of a text is the first.
 #![tactic(auto)]
 
+mod counting;
+mod limits;
+mod literals;
 mod names;
 mod refusals;
 mod saving;
 
+pub use limits::{Before, passes_limit};
 pub use names::NameSet;
 pub use refusals::{StatementRefusal, StatementRefusalKind, first_refusal};
 pub use saving::saved_names;

@@ -1,3 +1,4 @@
 pub mod Members
 pub mod NameEquality
 pub mod Opening
+pub mod Silences

@@ -1,4 +1,5 @@
 pub mod Limits
 pub mod OpenBlocks
 pub mod OpenContexts
+pub mod Silences
 pub mod Views

@@ -4,11 +4,14 @@
 
 mod blocks;
 mod contexts;
+mod counting;
 mod limits;
+mod literals;
 mod names;
 mod refusals;
 mod saving;
 
+pub use limits::{Before, passes_limit};
 pub use names::NameSet;
 pub use refusals::{StatementRefusal, StatementRefusalKind, first_refusal};
 pub use saving::saved_names;

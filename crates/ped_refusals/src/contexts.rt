@@ -1,11 +1,11 @@
 //! What is open at a statement, and what has come before it (ANSI X3.9-1978, sections 3.5 and 8). Each
 //! statement takes it on, whatever is refused there.
 
-ghost use Rattle.std.specs.Prelude.{◌≡◌, ◌+◌, ◌<◌, ◌^◌, ◌++◌, List, ℕ, IfOk, OnOk, false, map};
+ghost use Rattle.std.specs.Prelude.{◌≡◌, ◌+◌, ◌<◌, ◌^◌, ◌++◌, List, ℕ, IfOk, OnOk, false, map, ◌||◌};
 ghost use Rattle.ped_tree.specs.Contexts as Spec;
 ghost use Rattle.ped_tree.specs.ProgramRefusals.{block_depth};
 ghost use Rattle.ped_tree.specs.Occurrences.{is_among, constants_of};
-ghost use Rattle.ped_tree.specs.Views.{decl_tree};
+ghost use Rattle.ped_tree.specs.Views.{decl_tree, value_tree};
 ghost use Rattle.ped_items.specs.ItemViews.{item_of, entry_of};
 ghost use Rattle.ped_refusals.specs.OpenBlocks.{blocks_of};
 ghost use Rattle.ped_refusals.specs.OpenContexts.{context_of, IsLike};
@@ -93,11 +93,17 @@ impl Context {
             statements: self.statements.saturating_add(numbered_in(item)),
             loops: self.loops + loops_in(item),
             constants,
-            saves_names: self.saves_names || saves_list(item),
-            saves_everything: self.saves_everything || saves_without(item),
+            saves_names: either(self.saves_names, saves_list(item)),
+            saves_everything: either(self.saves_everything, saves_without(item)),
             behind_do: is_do(item),
         })
     }
+}
+
+fn either(before: bool, now: bool) -> bool
+    ensures { result ≡ (before || now) }
+{
+    before || now
 }
 
 /// The rank of a statement in the order of statements (section 3.5).
@@ -126,7 +132,11 @@ fn decl_rank(decl: &Decl) -> u8
     match decl {
         Decl::Program(_) => 1,
         Decl::Implicit => 2,
-        Decl::Integer(_) | Decl::Dimension(_) | Decl::Parameter(_) | Decl::Save(_) | Decl::Comment(_) => 3,
+        Decl::Integer(_)
+        | Decl::Dimension(_)
+        | Decl::Parameter(_)
+        | Decl::Save(_)
+        | Decl::Comment(_) => 3,
     }
 }
 
@@ -179,7 +189,7 @@ fn add_constants(constants: &mut NameSet, item: &Item) -> Result<(), NoMemory>
 }
 
 fn add_names(constants: &mut NameSet, values: &[(Name, Expr)]) -> Result<(), NoMemory>
-    ensures { OnOk result ((x : List ℕ) → is_among x constants.new ≡ is_among x (constants.old ++ map (λ v. v.0) values.now)) }
+    ensures { OnOk result ((x : List ℕ) → is_among x constants.new ≡ is_among x (constants.old ++ map (λ v. v.0) (map value_tree values.now))) }
 {
     for (name, _) in values {
         constants.insert(name)?;

@@ -5,6 +5,7 @@ ghost use Rattle.std.specs.Prelude.{◌≡◌, ◌+◌, ◌<◌, ◌≤◌, ◌^
 ghost use Rattle.ped_tree.specs.Contexts as Contexts;
 ghost use Rattle.ped_tree.specs.Contexts.{Block as PlainBlock};
 ghost use Rattle.ped_tree.specs.ProgramRefusals as Spec;
+ghost use Rattle.ped_tree.specs.References.{has_some};
 ghost use Rattle.ped_tree.specs.Views.{stmt_tree};
 ghost use Rattle.ped_items.specs.ItemViews.{item_of};
 ghost use Rattle.ped_refusals.specs.OpenBlocks.{block_of, blocks_of};
@@ -45,6 +46,16 @@ pub fn is_in_do(blocks: &[Block]) -> bool
     match split_innermost(blocks) {
         Some((Block::Loop(_, _), _)) => true,
         _ => false,
+    }
+}
+
+/// Whether a block is open.
+pub fn is_in_block(blocks: &[Block]) -> bool
+    ensures { result ≡ has_some (blocks_of blocks.now) }
+{
+    match split_innermost(blocks) {
+        Some(_) => true,
+        None => false,
     }
 }
 

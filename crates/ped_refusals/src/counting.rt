@@ -40,7 +40,7 @@ impl Silent<'_> {
     }
 }
 
-fn is_among(name: &Name, names: &[Name]) -> bool
+pub fn is_among(name: &Name, names: &[Name]) -> bool
     ensures { result ≡ Occurrences.is_among name.now names.now }
 {
     names.contains(name)

@@ -10,6 +10,7 @@ mod literals;
 mod names;
 mod refusals;
 mod saving;
+mod structure;
 
 pub use limits::{Before, passes_limit};
 pub use names::NameSet;

@@ -2,3 +2,4 @@ pub mod Members
 pub mod NameEquality
 pub mod Opening
 pub mod Silences
+pub mod Stepping

@@ -5,6 +5,7 @@
 mod blocks;
 mod contexts;
 mod counting;
+mod directives;
 mod limits;
 mod literals;
 mod names;

@@ -2,12 +2,13 @@
 
 ghost use Rattle.std.specs.Prelude.{◌≡◌, IfOk, map};
 ghost use Rattle.ped_tree.specs.Statement.{Statements};
-ghost use Rattle.ped_tree.specs.Refusal.{first_of, number_of};
+ghost use Rattle.ped_tree.specs.Refusal as Refusal;
+ghost use Rattle.ped_tree.specs.Refusal.{first_of, earliest, stands, number_of};
 ghost use Rattle.ped_tree.specs.Occurrences as Occurrences;
 ghost use Rattle.ped_tree.specs.ProgramRefusals.{program_refusals};
 ghost use Rattle.ped_lines.specs.Views.{note_of};
 ghost use Rattle.ped_items.specs.ItemViews.{entry_of};
-ghost use Rattle.ped_refusals.specs.Views.{kind_of, found_of};
+ghost use Rattle.ped_refusals.specs.Views.{kind_of, finding_of, found_of};
 
 use ped_base::{Names, NoMemory};
 use ped_items::Entry;
@@ -74,4 +75,43 @@ pub fn first_refusal(
         found_of found ≡ first_of (program_refusals all (map entry_of entries.now))) }
 {
     Err(NoMemory)
+}
+
+/// The earlier one of what was found and the refusal of this kind and line, where it stands.
+#[tactic(auto, unfolding(ped_tree::specs::Refusal::stands))]
+pub fn standing(
+    found: Option<StatementRefusal>,
+    test: bool,
+    kind: StatementRefusalKind,
+    line: u64,
+) -> Option<StatementRefusal>
+    ensures { found_of result ≡ earliest (found_of found) (stands test (kind_of kind) line) }
+{
+    if test {
+        earlier(found, StatementRefusal { kind, line })
+    } else {
+        found
+    }
+}
+
+#[tactic(auto, unfolding(ped_tree::specs::Refusal::earlier))]
+fn earlier(found: Option<StatementRefusal>, refusal: StatementRefusal) -> Option<StatementRefusal>
+    ensures { found_of result ≡ Refusal.earlier (found_of found) (finding_of refusal) }
+{
+    match found {
+        None => Some(refusal),
+        Some(first) => Some(if is_before(refusal, first) {
+            refusal
+        } else {
+            first
+        }),
+    }
+}
+
+/// Whether a refusal comes before another: by line, and then by number.
+#[tactic(auto, unfolding(ped_tree::specs::Refusal::is_before))]
+fn is_before(left: StatementRefusal, right: StatementRefusal) -> bool
+    ensures { result ≡ Refusal.is_before (finding_of left) (finding_of right) }
+{
+    left.line < right.line || (left.line == right.line && left.kind.number() < right.kind.number())
 }

@@ -1,3 +1,5 @@
+pub mod Depths
+pub mod Looking
 pub mod Members
 pub mod NameEquality
 pub mod Opening

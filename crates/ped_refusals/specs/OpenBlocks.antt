@@ -1,5 +1,5 @@
 -- What the code keeps of the statements before one, as a plain context. Contracts of private functions alone speak of it.
-use Rattle.std.specs.Prelude.{◌≡◌, ℕ, List, [], ◌∷◌, Bool, true, false, ◌||◌, ◌==◌}
+use Rattle.std.specs.Prelude.{List, [], ◌∷◌}
 use Rattle.ped_tree.specs.Contexts as plain
 use Rattle.ped_tree.specs.Contexts.{in_then, in_else, in_do}
 use Rattle.ped_refusals.specs.declared.blocks.Block.{Block}

@@ -29,3 +29,7 @@ pub record IsLike (c d : plain.Context) : Type 0 where
   pub saves_names : c.saves_names ≡ d.saves_names
   pub saves_everything : c.saves_everything ≡ d.saves_everything
   pub behind_do : c.behind_do ≡ d.behind_do
+
+-- a context with these open blocks, of which nothing else counts
+abbrev pub with_blocks : List plain.Block → plain.Context
+with_blocks blocks = record plain.at_start { blocks = blocks }

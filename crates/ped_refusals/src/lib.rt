@@ -6,6 +6,7 @@ mod blocks;
 mod contexts;
 mod counting;
 mod directives;
+mod indices;
 mod limits;
 mod literals;
 mod names;

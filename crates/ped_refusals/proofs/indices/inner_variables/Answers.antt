@@ -18,6 +18,6 @@ loop-entry-preserved c =
     let same = ap block_depth c.in_ok-go_past.ensures.blocks in
     record {
       names = λ x. seen_step (length c.args.blocks.now) c.len.result c.loop-entry.names c.go_past.new.names c.loop-entry.inner.items c.go_past.new.blocks.items c.entry-item.result c.args.rest.now c.loop-entry.entry-index x (search rules) c.if-len-blocks.false c.loop-entry-test.true c.entry-item.is c.in_ok-go_past.ensures.blocks (c.in_ok-go_past.ensures.names x)
-      ∙ c.loop-entry.invariant.names x;
+          ∙ c.loop-entry.invariant.names x;
       depth = omega (arith, c.loop-entry.invariant.depth);
     }

@@ -1,8 +1,10 @@
 pub mod Depths
+pub mod Likeness
 pub mod Looking
 pub mod Members
 pub mod NameEquality
 pub mod Opening
+pub mod Passing
 pub mod Reaching
 pub mod Silences
 pub mod Stepping

@@ -4,7 +4,7 @@ use Rattle.ped_tree.specs.Items.{keeps_private, Reading, says, outside_profile, 
 use Rattle.ped_tree.specs.Contexts as plain
 use Rattle.ped_tree.specs.Contexts.{Context, behind, blocks_behind}
 use Rattle.ped_tree.specs.Occurrences.{is_among, of_reading, do_variables}
-use Rattle.ped_tree.specs.ProgramRefusals.{open_variables, inner_variables, meets, assigns_index}
+use Rattle.ped_tree.specs.ProgramRefusals.{open_variables, inner_variables, meets, assigned_in, private_in, assigns_index}
 use Rattle.ped_refusals.specs.declared.blocks.Block.{Block}
 use Rattle.ped_refusals.specs.OpenBlocks.{block_of, opened_in, blocks_of}
 use Rattle.ped_refusals.specs.OpenContexts.{with_blocks}
@@ -96,3 +96,9 @@ seen_step depth len names next blocks more e rest i x l h inside at m n =
 pub private_is : (c : Context) (e : Entry) (rest : List Entry) (names : List (List ℕ)) → e.reading ≡ says (keeps_private names) → meets names (open_variables c.blocks ++ inner_variables (length c.blocks) (with_blocks c.blocks) rest) ≡ assigns_index c e rest
 private_is c e rest names h = subst (λ (r : Reading). meets names (open_variables c.blocks ++ inner_variables (length c.blocks) (with_blocks c.blocks) rest) ≡ assigns_index c record { statement = e.statement; reading = r } rest) (sym h)
     (ap (λ (inner : List (List ℕ)). meets names (open_variables c.blocks ++ inner)) (inner_same (length c.blocks) (with_blocks c.blocks) (behind c record { statement = e.statement; reading = says (keeps_private names) }) rest refl))
+
+-- whether a variable of a loop is assigned comes from the open blocks alone
+pub assigns_same : (c d : Context) (e : Entry) (rest : List Entry) → c.blocks ≡ d.blocks → assigns_index c e rest ≡ assigns_index d e rest
+assigns_same c d e rest h = λ i.
+    meets (of_reading assigned_in e.reading) (open_variables (h i))
+    || meets (of_reading private_in e.reading) (open_variables (h i) ++ (ap (λ (n : ℕ). inner_variables n (behind c e) rest) (ap length h) ∙ inner_same (length d.blocks) (behind c e) (behind d e) rest (same_behind c d e h)) i)

@@ -1,6 +1,6 @@
 //! The first refusal among those that stand at statements.
 
-ghost use Rattle.std.specs.Prelude.{◌≡◌, ◌+◌, ◌<◌, ◌^◌, ◌++◌, List, ℕ, nat_lt, length, IfOk, IsTrue, map};
+ghost use Rattle.std.specs.Prelude.{◌≡◌, ◌+◌, ◌<◌, ◌^◌, ◌++◌, List, ℕ, nat_lt, length, true, IfOk, map};
 ghost use Rattle.std.specs.List.{list_all};
 ghost use Rattle.ped_tree.specs.Statement.{Statements};
 ghost use Rattle.ped_tree.specs.Refusal as Refusal;
@@ -120,7 +120,7 @@ fn with_statement(
 
 /// Whether something was found before all lines of a statement and of its directives.
 fn is_past(found: Option<StatementRefusal>, entry: &Entry) -> bool
-    ensures { IsTrue result → (saved : List (List ℕ)) (c : PlainContext) (rest : List PlainEntry) →
+    ensures { result ≡ true → (saved : List (List ℕ)) (c : PlainContext) (rest : List PlainEntry) →
         earliest (found_of found) (Spec.at_statement saved c (entry_of entry.now) rest) ≡ found_of found }
 {
     match found {

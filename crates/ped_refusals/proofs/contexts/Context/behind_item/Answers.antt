@@ -1,4 +1,4 @@
-use Rattle.std.proofs.Common.{◌≡◌, ℕ, ◌+◌, min, rules, sym, ap, ◌∙◌, arith}
+use Rattle.std.proofs.Common.{◌≡◌, ℕ, ◌+◌, rules, sym, ap, arith}
 use Rattle.ped_tree.specs.Contexts as Spec
 use Rattle.ped_items.specs.ItemViews.{item_of}
 use Rattle.ped_print.specs.Lengths.{limited}

@@ -1,2 +1,4 @@
 pub mod NameEquality
 pub mod Silences
+pub mod Collecting
+pub mod Rejections

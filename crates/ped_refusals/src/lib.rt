@@ -6,6 +6,7 @@ mod counting;
 mod limits;
 mod literals;
 mod names;
+mod occurrences;
 mod refusals;
 mod saving;
 

@@ -91,7 +91,7 @@ fn are_too_many(before: usize, item: &Item) -> bool
 }
 
 /// How many numbered statements an item is.
-fn numbered_in(item: &Item) -> usize
+pub fn numbered_in(item: &Item) -> usize
     ensures { result ≡ limited (Contexts.numbered_in (item_of item.now)) }
 {
     match item {

@@ -18,7 +18,6 @@ use ped_lines::NoteLine;
 use ped_tree::{Bound, Cond, Decl, Declarator, Do, Expr, PrintItem, Stmt};
 
 /// Adds the names of a statement, those that its directives reject first.
-#[tactic(auto, using(crate::proofs::Collecting::one_by_one))]
 pub fn add_entry(names: &mut NameSet, entry: &Entry) -> Result<(), NoMemory>
     ensures { OnOk result (names.new ≡ with_names names.old (entry_names (entry_of entry.now))) }
 {
@@ -84,7 +83,6 @@ pub fn rejected_name(text: &[u8]) -> Option<Name>
 }
 
 /// Adds the names in what a statement says.
-#[tactic(auto, using(crate::proofs::Collecting::one_by_one))]
 fn add_item(names: &mut NameSet, item: &Item) -> Result<(), NoMemory>
     ensures { OnOk result (names.new ≡ with_names names.old (names_in (item_of item.now))) }
 {
@@ -115,7 +113,6 @@ fn add_names(names: &mut NameSet, all: &[Name]) -> Result<(), NoMemory>
 }
 
 /// Adds the names in a DO statement.
-#[tactic(auto, using(crate::proofs::Collecting::one_by_one))]
 fn add_do(names: &mut NameSet, d: &DoStatement) -> Result<(), NoMemory>
     ensures { OnOk result (names.new ≡ with_names names.old (head_names (do_head d.now))) }
 {
@@ -126,7 +123,6 @@ fn add_do(names: &mut NameSet, d: &DoStatement) -> Result<(), NoMemory>
 }
 
 /// Adds the names in the header of a DO.
-#[tactic(auto, using(crate::proofs::Collecting::one_by_one))]
 fn add_head(names: &mut NameSet, d: &Do) -> Result<(), NoMemory>
     ensures { OnOk result (names.new ≡ with_names names.old
         (head_names (head d.now.variable d.now.first d.now.last d.now.step d.now.parallel d.now.private d.now.rejected))) }
@@ -141,7 +137,6 @@ fn add_head(names: &mut NameSet, d: &Do) -> Result<(), NoMemory>
 
 /// Adds the names in a statement, its left side first.
 #[cycle(statements)]
-#[tactic(auto, using(crate::proofs::Collecting::one_by_one))]
 fn add_stmt(names: &mut NameSet, statement: &Stmt) -> Result<(), NoMemory>
     ensures { OnOk result (names.new ≡ with_names names.old (stmt_names (stmt_tree statement.now))) }
 {
@@ -170,7 +165,6 @@ fn add_stmt(names: &mut NameSet, statement: &Stmt) -> Result<(), NoMemory>
 }
 
 #[cycle(statements)]
-#[tactic(auto, using(crate::proofs::Collecting::one_by_one))]
 fn add_stmts(names: &mut NameSet, statements: &[Stmt]) -> Result<(), NoMemory>
     ensures { OnOk result (names.new ≡ with_names names.old (stmts_names (stmt_trees statements.now))) }
 {
@@ -180,7 +174,6 @@ fn add_stmts(names: &mut NameSet, statements: &[Stmt]) -> Result<(), NoMemory>
     Ok(())
 }
 
-#[tactic(auto, using(crate::proofs::Collecting::one_by_one))]
 fn add_print_items(names: &mut NameSet, items: &[PrintItem]) -> Result<(), NoMemory>
     ensures { OnOk result (names.new ≡ with_names names.old (flat_map item_names (map item_tree items.now))) }
 {
@@ -199,7 +192,6 @@ fn add_print_item(names: &mut NameSet, item: &PrintItem) -> Result<(), NoMemory>
     }
 }
 
-#[tactic(auto, using(crate::proofs::Collecting::one_by_one))]
 fn add_read_items(names: &mut NameSet, items: &[Expr]) -> Result<(), NoMemory>
     ensures { OnOk result (names.new ≡ with_names names.old (flat_map expr_names (map expr_tree items.now))) }
 {
@@ -223,7 +215,6 @@ fn add_decl(names: &mut NameSet, decl: &Decl) -> Result<(), NoMemory>
     }
 }
 
-#[tactic(auto, using(crate::proofs::Collecting::one_by_one))]
 fn add_declarators(names: &mut NameSet, declarators: &[Declarator]) -> Result<(), NoMemory>
     ensures { OnOk result (names.new ≡ with_names names.old (flat_map declarator_names (map declarator_tree declarators.now))) }
 {
@@ -241,7 +232,6 @@ fn add_declarator(names: &mut NameSet, declarator: &Declarator) -> Result<(), No
     add_bounds(names, &declarator.bounds)
 }
 
-#[tactic(auto, using(crate::proofs::Collecting::one_by_one))]
 fn add_bounds(names: &mut NameSet, bounds: &[Bound]) -> Result<(), NoMemory>
     ensures { OnOk result (names.new ≡ with_names names.old
         (flat_map (λ b. expr_names b.lower ++ expr_names b.upper) (map bound_tree bounds.now))) }
@@ -253,7 +243,6 @@ fn add_bounds(names: &mut NameSet, bounds: &[Bound]) -> Result<(), NoMemory>
     Ok(())
 }
 
-#[tactic(auto, using(crate::proofs::Collecting::one_by_one))]
 fn add_parameters(names: &mut NameSet, constants: &[(Name, Expr)]) -> Result<(), NoMemory>
     ensures { OnOk result (names.new ≡ with_names names.old
         (flat_map (λ v. v.0 ∷ expr_names v.1) (map value_tree constants.now))) }
@@ -267,7 +256,6 @@ fn add_parameters(names: &mut NameSet, constants: &[(Name, Expr)]) -> Result<(),
 
 /// Adds the names in a condition.
 #[cycle(conditions)]
-#[tactic(auto, using(crate::proofs::Collecting::one_by_one))]
 fn add_cond(names: &mut NameSet, condition: &Cond) -> Result<(), NoMemory>
     ensures { OnOk result (names.new ≡ with_names names.old (cond_names (cond_tree condition.now))) }
 {
@@ -286,7 +274,6 @@ fn add_cond(names: &mut NameSet, condition: &Cond) -> Result<(), NoMemory>
 
 /// Adds the names in an expression.
 #[cycle(expressions)]
-#[tactic(auto, using(crate::proofs::Collecting::one_by_one))]
 fn add_expr(names: &mut NameSet, e: &Expr) -> Result<(), NoMemory>
     ensures { OnOk result (names.new ≡ with_names names.old (expr_names (expr_tree e.now))) }
 {
@@ -311,7 +298,6 @@ fn add_expr(names: &mut NameSet, e: &Expr) -> Result<(), NoMemory>
 }
 
 #[cycle(expressions)]
-#[tactic(auto, using(crate::proofs::Collecting::one_by_one))]
 fn add_exprs(names: &mut NameSet, exprs: &[Expr]) -> Result<(), NoMemory>
     ensures { OnOk result (names.new ≡ with_names names.old (exprs_names (pack_exprs (map expr_tree exprs.now)))) }
 {

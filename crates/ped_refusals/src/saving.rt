@@ -24,7 +24,6 @@ pub fn saved_names(alloc: Global, entries: &[Entry]) -> Result<Names, NoMemory>
 }
 
 /// The names that occur in statements, each once, in the order in which they occur first.
-#[tactic(auto, using(crate::proofs::Collecting::one_by_one))]
 fn all_names(alloc: Global, entries: &[Entry]) -> Result<NameSet, NoMemory>
     ensures { IfOk result (λ names. names ≡ with_names [] (flat_map entry_names (map entry_of entries.now))) }
 {
@@ -36,7 +35,6 @@ fn all_names(alloc: Global, entries: &[Entry]) -> Result<NameSet, NoMemory>
 }
 
 /// The named constants and the variables of DO statements.
-#[tactic(auto, using(crate::proofs::Collecting::one_by_one))]
 fn constants_and_do_variables(alloc: Global, entries: &[Entry]) -> Result<NameSet, NoMemory>
     ensures { IfOk result (λ names. names
         ≡ with_names (with_names [] (Spec.all_constants (map entry_of entries.now))) (Spec.all_do_variables (map entry_of entries.now))) }

@@ -27,9 +27,9 @@ same_more : (a b : List (List ℕ)) (x : List ℕ) → HaveSame a b → HaveSame
 same_more a b x h y = among_both y a (x ∷ []) ∙ or_back (is_among y a) (same_name y x) ∙ ap (λ (t : Bool). same_name y x || t) (h y)
 
 pick : (a b : List (List ℕ)) (x : List ℕ) (xs : List (List ℕ)) (r : Bool)
-  → (fold with_name a xs ≡ a ++ first_occurrences b xs)
-  → (fold with_name (a ++ x ∷ []) xs ≡ (a ++ x ∷ []) ++ first_occurrences (x ∷ b) xs)
-  → fold with_name (if r then a else a ++ x ∷ []) xs ≡ a ++ (if r then first_occurrences b xs else x ∷ first_occurrences (x ∷ b) xs)
+    → (fold with_name a xs ≡ a ++ first_occurrences b xs)
+    → (fold with_name (a ++ x ∷ []) xs ≡ (a ++ x ∷ []) ++ first_occurrences (x ∷ b) xs)
+    → fold with_name (if r then a else a ++ x ∷ []) xs ≡ a ++ (if r then first_occurrences b xs else x ∷ first_occurrences (x ∷ b) xs)
 pick a b x xs true h k = h
 pick a b x xs false h k = k ∙ append_assoc a (x ∷ []) (first_occurrences (x ∷ b) xs)
 
@@ -77,9 +77,9 @@ neither false b = refl
 
 -- what SAVE without a list stands for
 pub saved : (constants variables all : List (List ℕ))
-  → filter (λ x. not (is_among x (with_names (with_names [] constants) variables))) (with_names [] all)
-  ≡ filter (λ x. not (is_among x constants) && not (is_among x variables)) (first_occurrences [] all)
+    → filter (λ x. not (is_among x (with_names (with_names [] constants) variables))) (with_names [] all)
+    ≡ filter (λ x. not (is_among x constants) && not (is_among x variables)) (first_occurrences [] all)
 saved constants variables all =
     let left : (x : List ℕ) → not (is_among x (with_names (with_names [] constants) variables)) ≡ (not (is_among x constants) && not (is_among x variables)) =
-        λ x. ap not (among_collected x (with_names [] constants) variables ∙ ap (λ (r : Bool). r || is_among x variables) (among_collected x [] constants)) ∙ neither (is_among x constants) (is_among x variables) in
+    λ x. ap not (among_collected x (with_names [] constants) variables ∙ ap (λ (r : Bool). r || is_among x variables) (among_collected x [] constants)) ∙ neither (is_among x constants) (is_among x variables) in
     λ i. filter (λ x. left x i) (collected [] [] (λ x. refl) all i)

@@ -14,3 +14,6 @@ pub use limits::{Before, passes_limit};
 pub use names::NameSet;
 pub use refusals::{StatementRefusal, StatementRefusalKind, first_refusal};
 pub use saving::saved_names;
+
+#[cfg(test)]
+mod tests_of_limits;

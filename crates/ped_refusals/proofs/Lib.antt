@@ -1,3 +1,4 @@
+pub mod Collecting
 pub mod Depths
 pub mod Likeness
 pub mod Looking
@@ -6,5 +7,6 @@ pub mod NameEquality
 pub mod Opening
 pub mod Passing
 pub mod Reaching
+pub mod Rejections
 pub mod Silences
 pub mod Stepping

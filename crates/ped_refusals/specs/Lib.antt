@@ -1,3 +1,4 @@
+pub mod Collecting
 pub mod Limits
 pub mod OpenBlocks
 pub mod OpenContexts

@@ -15,9 +15,9 @@ ghost use Rattle.ped_refusals.specs.Views.{found_of};
 ghost use Rattle.ped_refusals.specs.OpenContexts.{context_of};
 
 use crate::contexts::{Context, is_do};
+use crate::occurrences::rejected_name;
 use crate::refusals::{StatementRefusal, StatementRefusalKind, standing};
 use crate::structure::is_behind_end;
-use ped_base::Name;
 use ped_items::{Entry, StatementReading};
 use ped_lines::{NoteLine, Statement};
 
@@ -103,24 +103,4 @@ fn is_rejection(text: &[u8]) -> bool
     ensures { result ≡ Occurrences.is_rejection text.now }
 {
     rejected_name(text).is_some()
-}
-
-/// The name that the text of a directive rejects: what follows REJECT, where that is a name.
-pub fn rejected_name(text: &[u8]) -> Option<Name>
-    ensures { result ≡ (if Occurrences.is_rejection text.now then Some (drop 6 text.now) else None) }
-{
-    match text.strip_prefix(b"REJECT") {
-        Some(name) => short_name(name),
-        None => None,
-    }
-}
-
-/// The name of the profile, which has at most six characters.
-fn short_name(name: &[u8]) -> Option<Name>
-    ensures { result ≡ (if Words.is_name name.now then Some name.now else None) }
-{
-    if name.len() > 6 {
-        return None;
-    }
-    Name::from_bytes(name)
 }

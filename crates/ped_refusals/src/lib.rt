@@ -10,6 +10,7 @@ mod indices;
 mod limits;
 mod literals;
 mod names;
+mod occurrences;
 mod refusals;
 mod saving;
 mod structure;
@@ -18,3 +19,8 @@ pub use limits::{Before, passes_limit};
 pub use names::NameSet;
 pub use refusals::{StatementRefusal, StatementRefusalKind, first_refusal};
 pub use saving::saved_names;
+
+#[cfg(test)]
+mod tests;
+#[cfg(test)]
+mod tests_of_limits;

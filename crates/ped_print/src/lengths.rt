@@ -1,11 +1,13 @@
-//! The printed length of a statement by itself, without its indentation and the statements in its
-//! parts. It takes no memory, and stops at the greatest number that it can answer.
+//! Printed lengths of statements by themselves, without their indentation and the statements in their
+//! parts, and of declarations. They take no memory; where a length is more than a `usize` holds, the
+//! answer is the greatest `usize`.
 
-ghost use Rattle.std.specs.Prelude.{◌≡◌, ◌+◌, ◌-◌, ◌*◌, ◌^◌, ◌++◌, min, map, length, codes};
-ghost use Rattle.std.specs.List.{flat_map};
+ghost use Rattle.std.specs.Prelude.{◌≡◌, ◌+◌, ◌-◌, ◌*◌, ◌^◌, [], ◌++◌, min, map, length, codes};
+ghost use Rattle.std.specs.List.{flat_map, join_by};
 ghost use Rattle.std.specs.Fmt.{decimal};
-ghost use Rattle.ped_tree.specs.Printing.{alone, whole, expr_text, exprs_text, value_text, cond_text, do_text, do_word, step_text, label_text, item_text, constant_text, doubled, printed_length};
-ghost use Rattle.ped_tree.specs.Views.{expr_tree, pack_exprs, cond_tree, item_tree, head, stmt_tree};
+ghost use Rattle.ped_tree.specs.Tree;
+ghost use Rattle.ped_tree.specs.Printing.{alone, whole, expr_text, exprs_text, value_text, cond_text, own_text, do_text, do_word, step_text, label_text, item_text, constant_text, doubled, names_text, private_text, decl_text, declarator_text, dimensions_text, bound_text, parameter_text, printed_length};
+ghost use Rattle.ped_tree.specs.Views.{expr_tree, pack_exprs, cond_tree, item_tree, head, stmt_tree, decl_tree, declarator_tree, bound_tree, value_tree};
 ghost use Rattle.ped_print.specs.Lengths.{limited};
 ghost use Rattle.ped_print.specs.Places.{place_of};
 ghost use Rattle.ped_print.specs.Standings.{standing_of};
@@ -14,27 +16,95 @@ use crate::conditions::{Standing, relation_name};
 use crate::expressions::{Place, intrinsic_name, is_one};
 use crate::{conditions, expressions};
 use itoa::Buffer;
-use ped_tree::{Cond, Do, Expr, PrintItem, Stmt};
+use ped_base::Name;
+use ped_tree::{Bound, Cond, Decl, Declarator, Expr, PrintItem, Stmt};
 
-/// The printed length of a statement by itself, without indentation; a DO counts with the label 10.
-/// Where that is more than a `usize` holds, the answer is the greatest `usize`.
+/// The printed length of a statement by itself; a DO counts with the label 10.
 pub fn length(statement: &Stmt) -> usize
     ensures { result ≡ min (printed_length (stmt_tree statement.now)) (2 ^ 64 - 1) }
+{
+    own_length(0, statement)
+}
+
+/// The printed length of a statement by itself, where so many DO loops begin before it.
+pub fn own_length(before: u64, statement: &Stmt) -> usize
+    ensures { result ≡ limited (length (own_text before (stmt_tree statement.now))) }
 {
     match statement {
         Stmt::Assign { left, right } => {
             sum(value_length(left), b" = ".len(), value_length(right))
         }
-        Stmt::If { condition, .. } => sum(
-            b"IF (".len(),
-            cond_length(Standing::Whole, condition),
-            b") THEN".len(),
+        Stmt::If { condition, .. } => if_length(condition),
+        Stmt::Do(head) => do_length(
+            before,
+            &head.variable,
+            &head.first,
+            &head.last,
+            &head.step,
+            head.parallel,
         ),
-        Stmt::Do(head) => do_length(head),
         Stmt::Print(items) => items_length(items).saturating_add(b"PRINT *".len()),
         Stmt::Read(items) => targets_length(items).saturating_add(b"READ *".len()),
         Stmt::Stop => b"STOP".len(),
         Stmt::Comment(text) => text.len().saturating_add(b"C".len()),
+    }
+}
+
+/// The length of the IF statement or the ELSE IF statement with this condition.
+pub fn if_length(condition: &Cond) -> usize
+    ensures { result ≡ limited (length (codes "IF (" ++ cond_text whole (cond_tree condition.now) ++ codes ") THEN")) }
+{
+    sum(
+        b"IF (".len(),
+        cond_length(Standing::Whole, condition),
+        b") THEN".len(),
+    )
+}
+
+/// The length of a DO statement with the label of the DO behind so many others.
+pub fn do_length(
+    before: u64,
+    variable: &Name,
+    first: &Expr,
+    last: &Expr,
+    step: &Expr,
+    parallel: bool,
+) -> usize
+    ensures { result ≡ limited (length (do_text (label_text before)
+        (head variable.now first.now last.now step.now parallel [] []))) }
+{
+    let opening = sum(do_word_length(parallel), label_length(before), b" ".len());
+    let left = sum(opening, variable.as_bytes().len(), b" = ".len());
+    let bounds = sum(value_length(first), b", ".len(), value_length(last));
+    sum(left, bounds, step_length(step))
+}
+
+/// The length of the PRIVATE statement with these names.
+pub fn private_length(names: &[Name]) -> usize
+    ensures { result ≡ limited (length (private_text names.now)) }
+{
+    names_length(names).saturating_add(b"PRIVATE ".len())
+}
+
+/// The length of the SAVE statement with these names.
+pub fn save_length(names: &[Name]) -> usize
+    ensures { result ≡ limited (length (decl_text (Tree.Save names.now))) }
+{
+    names_length(names).saturating_add(b"SAVE ".len())
+}
+
+/// The printed length of a declaration, or of a comment among declarations.
+pub fn decl_length(decl: &Decl) -> usize
+    ensures { result ≡ limited (length (decl_text (decl_tree decl.now))) }
+{
+    match decl {
+        Decl::Program(name) => name.as_bytes().len().saturating_add(b"PROGRAM ".len()),
+        Decl::Implicit => b"IMPLICIT INTEGER (A-Z)".len(),
+        Decl::Integer(all) => declarators_length(all).saturating_add(b"INTEGER ".len()),
+        Decl::Dimension(all) => declarators_length(all).saturating_add(b"DIMENSION ".len()),
+        Decl::Parameter(all) => sum(b"PARAMETER (".len(), constants_length(all), b")".len()),
+        Decl::Save(names) => save_length(names.as_slice()),
+        Decl::Comment(text) => text.len().saturating_add(b"C".len()),
     }
 }
 
@@ -45,17 +115,12 @@ fn sum(first: usize, second: usize, third: usize) -> usize
     first.saturating_add(second).saturating_add(third)
 }
 
-/// The length of a DO statement with the label 10.
-fn do_length(d: &Do) -> usize
-    ensures { result ≡ limited (length (do_text (label_text 0)
-        (head d.now.variable d.now.first d.now.last d.now.step d.now.parallel d.now.private d.now.rejected))) }
+/// How many digits the label of the DO behind so many others has.
+fn label_length(before: u64) -> usize
+    ensures { result ≡ limited (length (label_text before)) }
 {
-    let before = do_word_length(d.parallel)
-        + b"10 ".len()
-        + d.variable.as_bytes().len()
-        + b" = ".len();
-    let bounds = sum(value_length(&d.first), b", ".len(), value_length(&d.last));
-    sum(before, bounds, step_length(&d.step))
+    let mut buffer = Buffer::new();
+    buffer.format(10 * (u128::from(before) + 1)).len()
 }
 
 /// The length of DO or PARALLEL DO with the blank behind it.
@@ -239,4 +304,92 @@ fn number_length(number: u32) -> usize
 {
     let mut buffer = Buffer::new();
     buffer.format(number).len()
+}
+
+/// The length of names, with a comma and a blank between two.
+fn names_length(all: &[Name]) -> usize
+    ensures { result ≡ limited (length (names_text all.now)) }
+{
+    let Some(first) = all.first() else {
+        return 0;
+    };
+    let mut total = first.as_bytes().len();
+    for name in &all[1..] {
+        total = sum(total, b", ".len(), name.as_bytes().len());
+    }
+    total
+}
+
+/// The length of declared names, with a comma and a blank between two.
+fn declarators_length(all: &[Declarator]) -> usize
+    ensures { result ≡ limited (length (join_by declarator_text (codes ", ") (map declarator_tree all.now))) }
+{
+    let Some(first) = all.first() else {
+        return 0;
+    };
+    let mut total = declarator_length(first);
+    for declarator in &all[1..] {
+        total = sum(total, b", ".len(), declarator_length(declarator));
+    }
+    total
+}
+
+/// The length of a declared name with its dimensions.
+fn declarator_length(declarator: &Declarator) -> usize
+    ensures { result ≡ limited (length (declarator_text (declarator_tree declarator.now))) }
+{
+    dimensions_length(&declarator.bounds).saturating_add(declarator.name.as_bytes().len())
+}
+
+/// The length of dimensions in parentheses, 0 where there are none.
+fn dimensions_length(all: &[Bound]) -> usize
+    ensures { result ≡ limited (length (dimensions_text (map bound_tree all.now))) }
+{
+    let Some(first) = all.first() else {
+        return 0;
+    };
+    let mut total = bound_length(first).saturating_add(b"()".len());
+    for bound in &all[1..] {
+        total = sum(total, b",".len(), bound_length(bound));
+    }
+    total
+}
+
+/// The length of a dimension, without its lower bound where that is 1.
+fn bound_length(bound: &Bound) -> usize
+    ensures { result ≡ limited (length (bound_text (bound_tree bound.now))) }
+{
+    if is_one(&bound.lower) {
+        return value_length(&bound.upper);
+    }
+    sum(
+        value_length(&bound.lower),
+        b":".len(),
+        value_length(&bound.upper),
+    )
+}
+
+/// The length of named constants with their values, with a comma and a blank between two.
+fn constants_length(all: &[(Name, Expr)]) -> usize
+    ensures { result ≡ limited (length (join_by parameter_text (codes ", ") (map value_tree all.now))) }
+{
+    let Some(first) = all.first() else {
+        return 0;
+    };
+    let mut total = parameter_length(first);
+    for constant in &all[1..] {
+        total = sum(total, b", ".len(), parameter_length(constant));
+    }
+    total
+}
+
+/// The length of a named constant and its value.
+fn parameter_length(constant: &(Name, Expr)) -> usize
+    ensures { result ≡ limited (length (parameter_text (value_tree constant.now))) }
+{
+    sum(
+        constant.0.as_bytes().len(),
+        b"=".len(),
+        value_length(&constant.1),
+    )
 }

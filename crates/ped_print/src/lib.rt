@@ -12,7 +12,9 @@ mod pane;
 mod programs;
 mod statements;
 
-pub use lengths::length;
+pub use lengths::{
+    decl_length, do_length, if_length, length, own_length, private_length, save_length,
+};
 pub use programs::{print, source_pane};
 
 #[cfg(test)]

@@ -2,8 +2,25 @@
 //! those that stand at the statements of a text is the first.
 #![tactic(auto)]
 
+mod blocks;
+mod contexts;
+mod counting;
+mod directives;
+mod indices;
+mod limits;
+mod literals;
+mod names;
+mod occurrences;
 mod refusals;
 mod saving;
+mod structure;
 
+pub use limits::{Before, passes_limit};
+pub use names::NameSet;
 pub use refusals::{StatementRefusal, StatementRefusalKind, first_refusal};
 pub use saving::saved_names;
+
+#[cfg(test)]
+mod tests;
+#[cfg(test)]
+mod tests_of_limits;

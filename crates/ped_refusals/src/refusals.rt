@@ -1,16 +1,30 @@
 //! The first refusal among those that stand at statements.
 
-ghost use Rattle.std.specs.Prelude.{◌≡◌, IfOk, map};
+ghost use Rattle.std.specs.Prelude.{◌≡◌, ◌+◌, ◌<◌, ◌^◌, ◌++◌, List, ℕ, nat_lt, length, true, IfOk, map};
+ghost use Rattle.std.specs.List.{list_all};
 ghost use Rattle.ped_tree.specs.Statement.{Statements};
-ghost use Rattle.ped_tree.specs.Refusal.{first_of, number_of};
+ghost use Rattle.ped_tree.specs.Refusal as Refusal;
+ghost use Rattle.ped_tree.specs.Refusal.{first_of, earliest, stands, number_of};
 ghost use Rattle.ped_tree.specs.Occurrences as Occurrences;
-ghost use Rattle.ped_tree.specs.ProgramRefusals.{program_refusals};
+ghost use Rattle.ped_tree.specs.Occurrences.{of_reading};
+ghost use Rattle.ped_tree.specs.Items.{Entry as PlainEntry};
+ghost use Rattle.ped_tree.specs.Contexts.{Context as PlainContext};
+ghost use Rattle.ped_tree.specs.ProgramRefusals as Spec;
+ghost use Rattle.ped_tree.specs.ProgramRefusals.{program_refusals, where_it_says, block_depth};
 ghost use Rattle.ped_lines.specs.Views.{note_of};
-ghost use Rattle.ped_items.specs.ItemViews.{entry_of};
-ghost use Rattle.ped_refusals.specs.Views.{kind_of, found_of};
+ghost use Rattle.ped_items.specs.ItemViews.{reading_of, entry_of};
+ghost use Rattle.ped_refusals.specs.Views.{kind_of, finding_of, found_of};
+ghost use Rattle.ped_refusals.specs.OpenBlocks.{blocks_of};
+ghost use Rattle.ped_refusals.specs.OpenContexts.{context_of, IsLike, standing_at};
 
-use ped_base::{Names, NoMemory};
-use ped_items::Entry;
+use crate::blocks::{block_depth, loop_depth, open_variables};
+use crate::contexts::Context;
+use crate::directives::{at_directives, at_last_directives};
+use crate::indices::assigns_index;
+use crate::limits::{Before, passes_limit};
+use crate::structure::{breaks_syntax, ends_badly, is_behind_end, is_outside, leaves_open, stops};
+use ped_base::{Name, Names, NoMemory};
+use ped_items::{Entry, Item, StatementReading};
 use ped_lines::NoteLine;
 use std::alloc::Global;
 
@@ -73,5 +87,258 @@ pub fn first_refusal(
     ensures { IfOk result (λ found. (all : Statements) → all.lines ≡ lines → all.directives ≡ map note_of directives.now →
         found_of found ≡ first_of (program_refusals all (map entry_of entries.now))) }
 {
-    Err(NoMemory)
+    let mut context = Context::at_start(alloc);
+    let mut found = None;
+    let mut left = entries;
+    while let Some((entry, rest)) = left.split_first() {
+        found = with_statement(found, alloc, &context, entry, rest, saved.as_slice())?;
+        context = context.behind(entry)?;
+        left = rest;
+    }
+    Ok(at_end(found, &context, directives, lines))
+}
+
+/// The first of what was found and what stands at a statement. Where something was found before all its
+/// lines, it isn't looked at.
+fn with_statement(
+    found: Option<StatementRefusal>,
+    alloc: Global,
+    context: &Context,
+    entry: &Entry,
+    rest: &[Entry],
+    saved: &[Name],
+) -> Result<Option<StatementRefusal>, NoMemory>
+    requires { block_depth (blocks_of context.now.blocks.items) + length rest.now < 2 ^ 64 }
+    ensures { IfOk result (λ next. (c : PlainContext) → IsLike c (context_of context.now) →
+        found_of next ≡ earliest (found_of found) (Spec.at_statement saved.now c (entry_of entry.now) (map entry_of rest.now))) }
+{
+    if is_past(found, entry) {
+        return Ok(found);
+    }
+    at_statement(found, alloc, context, entry, rest, saved)
+}
+
+/// Whether something was found before all lines of a statement and of its directives.
+fn is_past(found: Option<StatementRefusal>, entry: &Entry) -> bool
+    ensures { result ≡ true → (saved : List (List ℕ)) (c : PlainContext) (rest : List PlainEntry) →
+        earliest (found_of found) (Spec.at_statement saved c (entry_of entry.now) rest) ≡ found_of found }
+{
+    match found {
+        Some(first) => {
+            first.line < entry.statement.line
+                && all_behind(first.line, entry.statement.directives.as_slice())
+        }
+        None => false,
+    }
+}
+
+fn all_behind(line: u64, directives: &[NoteLine]) -> bool
+    ensures { result ≡ list_all (λ d. nat_lt line d.line) (map note_of directives.now) }
+{
+    for directive in directives {
+        if directive.line <= line {
+            return false;
+        }
+    }
+    true
+}
+
+fn at_statement(
+    found: Option<StatementRefusal>,
+    alloc: Global,
+    context: &Context,
+    entry: &Entry,
+    rest: &[Entry],
+    saved: &[Name],
+) -> Result<Option<StatementRefusal>, NoMemory>
+    requires { block_depth (blocks_of context.now.blocks.items) + length rest.now < 2 ^ 64 }
+    ensures { IfOk result (λ next. (c : PlainContext) → IsLike c (context_of context.now) →
+        found_of next ≡ earliest (found_of found) (Spec.at_statement saved.now c (entry_of entry.now) (map entry_of rest.now))) }
+{
+    let variables = open_variables(alloc, &context.blocks)?;
+    let assigns = assigns_index(alloc, context, &variables, entry, rest)?;
+    let passes = is_past_limit(context, &variables, entry, rest, saved);
+    Ok(at_lines(found, context, entry, assigns, passes))
+}
+
+/// The first of what was found and what stands at a statement, where it is known whether a variable of a
+/// loop is assigned and whether a limit is passed.
+#[tactic(auto, using(ped_tree::proofs::First::earliest_append))]
+fn at_lines(
+    found: Option<StatementRefusal>,
+    context: &Context,
+    entry: &Entry,
+    assigns: bool,
+    passes: bool,
+) -> Option<StatementRefusal>
+    requires { block_depth (blocks_of context.now.blocks.items) < 2 ^ 64 }
+    ensures { (rest : List PlainEntry) → assigns ≡ Spec.assigns_index (context_of context.now) (entry_of entry.now) rest →
+        found_of result ≡ earliest (found_of found) (standing_at passes (context_of context.now) (entry_of entry.now) rest) }
+{
+    let line = entry.statement.line;
+    let found = at_places(at_directives(found, context, entry), context, entry);
+    let found = standing(found, assigns, StatementRefusalKind::IndexAssigned, line);
+    let found = standing(
+        found,
+        stops(&entry.reading) && loop_depth(&context.blocks) > 0,
+        StatementRefusalKind::StopPlace,
+        line,
+    );
+    standing(found, passes, StatementRefusalKind::Limit, line)
+}
+
+/// The first of what was found and what stands at a statement by its form and its place.
+#[tactic(auto, using(ped_tree::proofs::First::earliest_append))]
+fn at_places(
+    found: Option<StatementRefusal>,
+    context: &Context,
+    entry: &Entry,
+) -> Option<StatementRefusal>
+    ensures { let c = context_of context.now in let e = entry_of entry.now in
+        found_of result ≡ earliest (found_of found)
+        (stands (Spec.breaks_syntax c e.reading) Refusal.Syntax e.statement.line
+        ++ stands (Spec.is_outside e.reading) Refusal.NotInProfile e.statement.line
+        ++ stands (where_it_says (Spec.leaves_open c.blocks) e.reading) Refusal.OpenBlock e.statement.line
+        ++ stands (Spec.ends_badly c.blocks e.statement.label e.reading) Refusal.BadTerminal e.statement.line) }
+{
+    let line = entry.statement.line;
+    let found = standing(
+        found,
+        breaks_syntax(context, &entry.reading),
+        StatementRefusalKind::Syntax,
+        line,
+    );
+    let found = standing(
+        found,
+        is_outside(&entry.reading),
+        StatementRefusalKind::NotInProfile,
+        line,
+    );
+    let found = standing(
+        found,
+        leaves_open(&context.blocks, &entry.reading),
+        StatementRefusalKind::OpenBlock,
+        line,
+    );
+    standing(
+        found,
+        ends_badly(&context.blocks, entry.statement.label, &entry.reading),
+        StatementRefusalKind::BadTerminal,
+        line,
+    )
+}
+
+/// Whether a statement passes a limit of the profile.
+fn is_past_limit(
+    context: &Context,
+    variables: &[Name],
+    entry: &Entry,
+    rest: &[Entry],
+    saved: &[Name],
+) -> bool
+    requires variables { variables.now ≡ Spec.open_variables (blocks_of context.now.blocks.items) }
+    requires fits { block_depth (blocks_of context.now.blocks.items) < 2 ^ 64 }
+    ensures { (c : PlainContext) → IsLike c (context_of context.now) →
+        result ≡ where_it_says (Spec.passes_limit saved.now c (map entry_of rest.now)) (reading_of entry.now.reading) }
+{
+    match &entry.reading {
+        StatementReading::Says(item) => passes_limit(
+            item,
+            &before(context),
+            private_behind(rest),
+            &context.constants,
+            variables,
+            saved,
+        ),
+        StatementReading::OutsideProfile | StatementReading::NoForm => false,
+    }
+}
+
+fn before(context: &Context) -> Before
+    requires { block_depth (blocks_of context.now.blocks.items) < 2 ^ 64 }
+    ensures statements { result.statements ≡ context.now.statements }
+    ensures loops { result.loops ≡ context.now.loops }
+    ensures loop_depth { result.loop_depth ≡ Spec.loop_depth (blocks_of context.now.blocks.items) }
+    ensures block_depth { result.block_depth ≡ block_depth (blocks_of context.now.blocks.items) }
+{
+    Before {
+        statements: context.statements,
+        loops: context.loops,
+        loop_depth: loop_depth(&context.blocks),
+        block_depth: block_depth(&context.blocks),
+    }
+}
+
+/// The names of the PRIVATE statement that comes next, none where none does.
+fn private_behind(rest: &[Entry]) -> &[Name]
+    ensures { result.now ≡ Spec.private_behind (map entry_of rest.now) }
+{
+    match rest.split_first() {
+        Some((entry, _)) => private_names(&entry.reading),
+        None => &[],
+    }
+}
+
+fn private_names(reading: &StatementReading) -> &[Name]
+    ensures { result.now ≡ of_reading Spec.private_in (reading_of reading.now) }
+{
+    match reading {
+        StatementReading::Says(Item::Private(names)) => names.as_slice(),
+        _ => &[],
+    }
+}
+
+/// The first of what was found and what stands behind the last statement.
+#[tactic(auto, using(ped_tree::proofs::First::earliest_append))]
+fn at_end(
+    found: Option<StatementRefusal>,
+    context: &Context,
+    directives: &[NoteLine],
+    lines: u64,
+) -> Option<StatementRefusal>
+    ensures { (all : Statements) → all.lines ≡ lines → all.directives ≡ map note_of directives.now →
+        found_of result ≡ earliest (found_of found) (Spec.at_end (context_of context.now) all) }
+{
+    let is_open = !is_behind_end(context);
+    let found = standing(found, is_open, StatementRefusalKind::OpenBlock, lines);
+    at_last_directives(found, directives)
+}
+
+/// The earlier one of what was found and the refusal of this kind and line, where it stands.
+#[tactic(auto, unfolding(ped_tree::specs::Refusal::stands))]
+pub fn standing(
+    found: Option<StatementRefusal>,
+    test: bool,
+    kind: StatementRefusalKind,
+    line: u64,
+) -> Option<StatementRefusal>
+    ensures { found_of result ≡ earliest (found_of found) (stands test (kind_of kind) line) }
+{
+    if test {
+        earlier(found, StatementRefusal { kind, line })
+    } else {
+        found
+    }
+}
+
+#[tactic(auto, unfolding(ped_tree::specs::Refusal::earlier))]
+fn earlier(found: Option<StatementRefusal>, refusal: StatementRefusal) -> Option<StatementRefusal>
+    ensures { found_of result ≡ Refusal.earlier (found_of found) (finding_of refusal) }
+{
+    match found {
+        None => Some(refusal),
+        Some(first) => Some(if is_before(refusal, first) {
+            refusal
+        } else {
+            first
+        }),
+    }
+}
+
+/// Whether a refusal comes before another: by line, and then by number.
+#[tactic(auto, unfolding(ped_tree::specs::Refusal::is_before))]
+fn is_before(left: StatementRefusal, right: StatementRefusal) -> bool
+    ensures { result ≡ Refusal.is_before (finding_of left) (finding_of right) }
+{
+    left.line < right.line || (left.line == right.line && left.kind.number() < right.kind.number())
 }

@@ -1,0 +1,10 @@
+use Rattle.std.proofs.Common.{◌≡◌, length}
+use Rattle.ped_tree.specs.ProgramRefusals as Spec
+use Rattle.ped_refusals.specs.OpenBlocks.{blocks_of}
+use Rattle.ped_refusals.proofs.blocks.has_do.Given as goal
+
+abbrev pub invariant-loop-block : goal.invariant-loop-block
+invariant-loop-block l = Spec.has_do l.label (blocks_of l.left) ≡ Spec.has_do l.label (blocks_of l.blocks)
+
+abbrev pub decreases-loop-block : goal.decreases-loop-block
+decreases-loop-block l = length l.left

@@ -1,0 +1,13 @@
+use Rattle.std.proofs.Common.{◌≡◌, map, drop}
+use Rattle.std.specs.List.{flat_map}
+use Rattle.ped_tree.specs.Refusal.{earliest, stands, Syntax}
+use Rattle.ped_tree.specs.ProgramRefusals as Spec
+use Rattle.ped_lines.specs.Views.{note_of}
+use Rattle.ped_items.specs.ItemViews.{entry_of}
+use Rattle.ped_refusals.specs.Views.{found_of}
+use Rattle.ped_refusals.specs.OpenContexts.{context_of}
+use Rattle.ped_refusals.proofs.directives.at_directives.Given as goal
+
+abbrev pub invariant-loop-directive : goal.invariant-loop-directive
+invariant-loop-directive l =
+    earliest (found_of l.found) (flat_map (λ d. stands (Spec.is_bad_directive (context_of l.fn.context) (entry_of l.fn.entry) d) Syntax d.line) (map note_of (drop l.directive-index l.directive-items))) ≡ earliest (found_of l.fn.found) (flat_map (λ d. stands (Spec.is_bad_directive (context_of l.fn.context) (entry_of l.fn.entry) d) Syntax d.line) (map note_of l.directive-items))

@@ -1,0 +1,10 @@
+use Rattle.std.proofs.Common.{◌≡◌, map, drop, true}
+use Rattle.std.specs.List.{flat_map}
+use Rattle.ped_tree.specs.Refusal.{earliest, stands, Syntax}
+use Rattle.ped_lines.specs.Views.{note_of}
+use Rattle.ped_refusals.specs.Views.{found_of}
+use Rattle.ped_refusals.proofs.directives.at_last_directives.Given as goal
+
+abbrev pub invariant-loop-directive : goal.invariant-loop-directive
+invariant-loop-directive l =
+    earliest (found_of l.found) (flat_map (λ d. stands true Syntax d.line) (map note_of (drop l.directive-index l.directives))) ≡ earliest (found_of l.fn.found) (flat_map (λ d. stands true Syntax d.line) (map note_of l.directives))

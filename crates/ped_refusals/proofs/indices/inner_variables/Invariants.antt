@@ -1,0 +1,14 @@
+use Rattle.std.proofs.Common.{◌≡◌, ℕ, ◌+◌, ◌≤◌, ◌||◌, List, length, map, drop}
+use Rattle.ped_tree.specs.Occurrences.{is_among}
+use Rattle.ped_tree.specs.ProgramRefusals.{block_depth, inner_variables}
+use Rattle.ped_items.specs.ItemViews.{entry_of}
+use Rattle.ped_refusals.specs.OpenBlocks.{blocks_of}
+use Rattle.ped_refusals.specs.OpenContexts.{with_blocks}
+use Rattle.ped_refusals.proofs.indices.inner_variables.Given as goal
+
+abbrev pub invariant-loop-entry : goal.invariant-loop-entry
+invariant-loop-entry l = record {
+  names : (x : List ℕ) → (is_among x l.names || is_among x (inner_variables (length l.blocks) (with_blocks (blocks_of l.inner.items)) (map entry_of (drop l.entry-index l.rest))))
+      ≡ is_among x (inner_variables (length l.blocks) (with_blocks (blocks_of l.blocks)) (map entry_of l.rest));
+  depth : block_depth (blocks_of l.inner.items) ≤ block_depth (blocks_of l.blocks) + l.entry-index;
+}

@@ -1,0 +1,8 @@
+use Rattle.std.proofs.Common.{◌≡◌, map, drop}
+use Rattle.ped_tree.specs.Occurrences.{rejected_names}
+use Rattle.ped_lines.specs.Views.{note_of}
+use Rattle.ped_refusals.specs.Collecting.{with_names}
+use Rattle.ped_refusals.proofs.occurrences.add_rejected.Given as goal
+
+abbrev pub invariant-loop-directive : goal.invariant-loop-directive
+invariant-loop-directive l = with_names l.names (rejected_names (map note_of (drop l.directive-index l.directives))) ≡ with_names l.initial.names (rejected_names (map note_of l.directives))

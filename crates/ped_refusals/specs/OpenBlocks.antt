@@ -1,0 +1,21 @@
+-- What the code keeps of the statements before one, as a plain context. Contracts of private functions alone speak of it.
+use Rattle.std.specs.Prelude.{List, [], ◌∷◌}
+use Rattle.ped_tree.specs.Contexts as plain
+use Rattle.ped_tree.specs.Contexts.{in_then, in_else, in_do}
+use Rattle.ped_refusals.specs.declared.blocks.Block.{Block}
+use Rattle.ped_refusals.specs.declared.blocks.Block.TheVariants as block
+
+-- an open block
+abbrev pub block_of : Block → plain.Block
+block_of (block.Then n) = in_then n
+block_of (block.Else n) = in_else n
+block_of (block.Loop label variable) = in_do label variable
+
+-- blocks that stand in one another within these, the outermost first, with the innermost first
+abbrev pub opened_in : List plain.Block → List Block → List plain.Block
+opened_in outer [] = outer
+opened_in outer (b ∷ inner) = opened_in (block_of b ∷ outer) inner
+
+-- open blocks, the outermost first, with the innermost first
+abbrev pub blocks_of : List Block → List plain.Block
+blocks_of blocks = opened_in [] blocks

@@ -1,0 +1,141 @@
+//! Where a statement may stand: the order of statements (ANSI X3.9-1978, section 3.5), the blocks of an IF
+//! (section 11.6), the range of a DO and the statement that ends it (section 11.10).
+
+ghost use Rattle.std.specs.Prelude.{◌≡◌};
+ghost use Rattle.ped_tree.specs.Views.{stmt_tree};
+ghost use Rattle.ped_tree.specs.Contexts as Contexts;
+ghost use Rattle.ped_tree.specs.ProgramRefusals as Spec;
+ghost use Rattle.ped_tree.specs.ProgramRefusals.{where_it_says};
+ghost use Rattle.ped_items.specs.ItemViews.{item_of, reading_of};
+ghost use Rattle.ped_refusals.specs.OpenBlocks.{blocks_of};
+ghost use Rattle.ped_refusals.specs.OpenContexts.{context_of};
+
+use crate::blocks::{
+    Block, has_do, is_in_block, is_in_do, is_stop, outside, takes_else, takes_end_if,
+};
+use crate::contexts::{Context, rank, saves_list, saves_without};
+use ped_items::{Item, StatementReading};
+
+/// Whether the text has no form, or one that may not stand there. A form that the profile leaves out is
+/// refused as that.
+pub fn breaks_syntax(context: &Context, reading: &StatementReading) -> bool
+    ensures { result ≡ Spec.breaks_syntax (context_of context.now) (reading_of reading.now) }
+{
+    match reading {
+        StatementReading::OutsideProfile => false,
+        StatementReading::NoForm => true,
+        StatementReading::Says(item) => is_behind_end(context) || is_misplaced(context, item),
+    }
+}
+
+/// Whether END has come.
+pub fn is_behind_end(context: &Context) -> bool
+    ensures { result ≡ Spec.is_behind_end (context_of context.now) }
+{
+    context.phase >= 5
+}
+
+fn is_misplaced(context: &Context, item: &Item) -> bool
+    ensures { result ≡ Spec.is_misplaced (context_of context.now) (item_of item.now) }
+{
+    is_out_of_order(context.phase, rank(item))
+        || lacks_if(&context.blocks, item)
+        || is_late_private(context.behind_do, item)
+        || saves_again(context, item)
+}
+
+/// PROGRAM and IMPLICIT come once and before what follows them, declarations before executable statements.
+fn is_out_of_order(phase: u8, rank: u8) -> bool
+    ensures { result ≡ Spec.is_out_of_order phase rank }
+{
+    if rank < 3 {
+        rank <= phase
+    } else {
+        rank < phase
+    }
+}
+
+/// ELSE, ELSE IF or END IF without its IF.
+fn lacks_if(blocks: &[Block], item: &Item) -> bool
+    ensures { result ≡ Spec.lacks_if (blocks_of blocks.now) (item_of item.now) }
+{
+    match item {
+        Item::ElseIf(_) | Item::Else => !takes_else(blocks),
+        Item::EndIf => !takes_end_if(blocks),
+        _ => false,
+    }
+}
+
+/// PRIVATE that isn't the first statement behind a DO.
+fn is_late_private(behind_do: bool, item: &Item) -> bool
+    ensures { result ≡ Spec.is_late_private behind_do (item_of item.now) }
+{
+    match item {
+        Item::Private(_) => !behind_do,
+        _ => false,
+    }
+}
+
+/// A SAVE behind another, at least one of the two without a list (section 8.9).
+fn saves_again(context: &Context, item: &Item) -> bool
+    ensures { result ≡ Spec.saves_again (context_of context.now) (item_of item.now) }
+{
+    (saves_list(item) && context.saves_everything)
+        || (saves_without(item) && (context.saves_names || context.saves_everything))
+}
+
+/// Whether the statement is one that the profile leaves out.
+pub fn is_outside(reading: &StatementReading) -> bool
+    ensures { result ≡ Spec.is_outside (reading_of reading.now) }
+{
+    match reading {
+        StatementReading::OutsideProfile => true,
+        StatementReading::Says(_) | StatementReading::NoForm => false,
+    }
+}
+
+/// Whether END comes while a block is open, or ELSE, ELSE IF or END IF while a DO is open in the IF.
+pub fn leaves_open(blocks: &[Block], reading: &StatementReading) -> bool
+    ensures { result ≡ where_it_says (Spec.leaves_open (blocks_of blocks.now)) (reading_of reading.now) }
+{
+    match reading {
+        StatementReading::Says(Item::ElseIf(_) | Item::Else | Item::EndIf) => is_in_do(blocks),
+        StatementReading::Says(Item::End) => is_in_block(blocks),
+        _ => false,
+    }
+}
+
+/// Whether the label of an open DO stands on a statement that can't end one, or while a block is open in
+/// it that isn't a DO with that label.
+pub fn ends_badly(blocks: &[Block], label: Option<u32>, reading: &StatementReading) -> bool
+    ensures { result ≡ Spec.ends_badly (blocks_of blocks.now) label (reading_of reading.now) }
+{
+    match label {
+        Some(label) => {
+            has_do(blocks, label) && (!may_end(reading) || has_do(outside(blocks, label), label))
+        }
+        None => false,
+    }
+}
+
+fn may_end(reading: &StatementReading) -> bool
+    ensures { result ≡ where_it_says Contexts.may_end (reading_of reading.now) }
+{
+    match reading {
+        StatementReading::Says(Item::Simple(stmt)) => !is_stop(stmt),
+        StatementReading::Says(Item::Continue | Item::LogicalIf(_, _)) => true,
+        _ => false,
+    }
+}
+
+/// Whether a statement is STOP, also behind a logical IF.
+pub fn stops(reading: &StatementReading) -> bool
+    ensures { result ≡ where_it_says Spec.stops (reading_of reading.now) }
+{
+    match reading {
+        StatementReading::Says(Item::Simple(stmt) | Item::LogicalIf(_, Some(stmt))) => is_stop(
+            stmt,
+        ),
+        _ => false,
+    }
+}

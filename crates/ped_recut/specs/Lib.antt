@@ -1,0 +1,4 @@
+pub mod Cut
+pub mod Fitting
+pub mod Parts
+pub mod Printed

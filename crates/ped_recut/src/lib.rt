@@ -1,0 +1,2 @@
+//! Printed statements and their lines.
+#![tactic(auto)]

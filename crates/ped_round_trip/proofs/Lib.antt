@@ -1,0 +1,5 @@
+pub mod Forms
+pub mod Labels
+pub mod Pieces
+pub mod Trees
+pub mod WholeForm

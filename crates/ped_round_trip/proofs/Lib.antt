@@ -1,3 +1,4 @@
+pub mod Fits
 pub mod Forms
 pub mod Labels
 pub mod Pieces

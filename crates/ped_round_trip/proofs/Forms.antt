@@ -73,7 +73,7 @@ abbrev mutual
 
 -- the statements of the form are those among the pieces
 
-rejections_none : (p : Spot) (names : List (List ℕ)) → entries_here p (rejection_pieces names) ≡ []
+pub rejections_none : (p : Spot) (names : List (List ℕ)) → entries_here p (rejection_pieces names) ≡ []
 rejections_none p [] = refl
 rejections_none p (x ∷ xs) = rejections_none (behind_piece p (noted (a_rejection x))) xs
 

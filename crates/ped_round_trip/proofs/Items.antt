@@ -62,7 +62,7 @@ pub within_limit : (saved : List (List ℕ)) (c : Context) (rest : List Entry) (
     → has_many_references (c.constants ++ open_variables c.blocks) (private_behind rest) i ≡ false → is_too_long saved c.loops i ≡ false → passes_limit saved c rest i ≡ false
 within_limit saved c rest i a b d r l = λ j. a j || b j || d j || r j || l j
 
-or_none : (a : Bool) → a ≡ false → (a || false) ≡ false
+pub or_none : (a : Bool) → a ≡ false → (a || false) ≡ false
 or_none true h = absurd cc
 or_none false h = refl
 
@@ -180,7 +180,7 @@ above a m h = omega arith
 -- DO
 pub pass_do : (saved : List (List ℕ)) (c : Context) (p : Place) (before : ℕ) (q : Spot) (ns : List PrintedNote) (depth : ℕ) (text : List ℕ) (h : Head) (body : StmtTrees) (rest : List Entry) → Stands p c → p.loops ≡ before → LoopFits p h body
     → q.notes ≡ ns ++ map a_rejection h.rejected → rejections ns ≡ [] → private_behind rest ≡ h.private
-    → Passed saved c (in_loop p h) (in_do (label_number before) h.variable ∷ c.blocks) (h.variable ∷ []) (entry (statement_here q None depth text) (begins_do (label_number before) (whole_head h [] [])) ∷ []) rest
+    → (x : Passed saved c (in_loop p h) (in_do (label_number before) h.variable ∷ c.blocks) (h.variable ∷ []) (entry (statement_here q None depth text) (begins_do (label_number before) (whole_head h [] [])) ∷ []) rest) × (x.after.behind_do ≡ true)
 pass_do saved c p before q ns depth text h body rest at loops fits notes only private =
     let l = label_number before in
     let i = begins_do l (whole_head h [] []) in
@@ -198,7 +198,7 @@ pass_do saved c p before q ns depth text h body rest at loops fits notes only pr
     let ok = passes_all saved c e rest directives (in_place c i at.phase refl refl refl refl refl) refl refl refl index refl (within_limit saved c rest i small many deep refers long) in
     let fresh : (m : ℕ) → 10 * (p.loops + 1) < m → has_do m (in_do l h.variable ∷ c.blocks) ≡ false = λ m k. (let x = apart p.loops before m loops k in let y = at.fresh m (above p.loops m k) in λ j. x j || y j) in
     let next = next_stands p (in_loop p h) c None i (in_do l h.variable ∷ c.blocks) at refl refl refl refl (ap (λ (vs : List (List ℕ)). h.variable ∷ vs) at.variables) (ap (λ n. n + 1) at.depth) refl refl fresh in
-    pass_one saved c (in_loop p h) (in_do l h.variable ∷ c.blocks) e rest ok next refl
+    (pass_one saved c (in_loop p h) (in_do l h.variable ∷ c.blocks) e rest ok next refl, refl)
 
 -- the CONTINUE of a DO
 pub pass_continue : (saved : List (List ℕ)) (c : Context) (p q : Place) (l : ℕ) (v : List ℕ) (bs : List Block) (t : Spot) (depth : ℕ) (text : List ℕ) (rest : List Entry) → Stands p c → c.blocks ≡ in_do l v ∷ bs → has_do l bs ≡ false

@@ -194,7 +194,7 @@ pub record Passed (saved : List (List ℕ)) (c : Context) (p : Place) (bs : List
 pub pass_none : (saved : List (List ℕ)) (c : Context) (p : Place) (rest : List Entry) → Stands p c → Passed saved c p c.blocks [] [] rest
 pass_none saved c p rest s = record { after = c; accepted = refl; inner = λ d h. refl; position = s; blocks = refl }
 
-pub pass_one : (saved : List (List ℕ)) (c : Context) (p : Place) (bs : List Block) (e : Entry) (rest : List Entry) → at_statement saved c e rest ≡ [] → Stands p (behind c e) → (behind c e).blocks ≡ bs
+abbrev pub pass_one : (saved : List (List ℕ)) (c : Context) (p : Place) (bs : List Block) (e : Entry) (rest : List Entry) → at_statement saved c e rest ≡ [] → Stands p (behind c e) → (behind c e).blocks ≡ bs
     → Passed saved c p bs (of_reading do_variables e.reading) (e ∷ []) rest
 pass_one saved c p bs e rest ok s b = record {
   after = behind c e;

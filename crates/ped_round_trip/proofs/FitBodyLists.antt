@@ -119,22 +119,28 @@ pub record Fitting (ks : List (List ℕ)) (bs : List Block) (d n m : ℕ) (c : C
   pub at : At ks behind_blocks (n + count_of ts) (m + loops_of ts) (behind_all c es)
   pub inner : (depth : ℕ) → nat_lt (length bs) depth ≡ false → (rest : List Entry) → inner_variables depth c (es ++ rest) ≡ variables_of ts ++ inner_variables depth (behind_all c es) rest
 
-pub fitting_both : (ks : List (List ℕ)) (bs : List Block) (d n m : ℕ) (c : Context) (xs ys : List StmtTree) (es gs : List Entry) (cs : List Block)
-    → Fitting ks bs d n m c xs es bs → Fitting ks bs d (n + count_of xs) (m + loops_of xs) (behind_all c es) ys gs cs → Fitting ks bs d n m c (xs ++ ys) (es ++ gs) cs
-fitting_both ks bs d n m c xs ys es gs cs f g =
+-- the blocks may change between the two, where their loops are the same
+pub fitting_across : (ks : List (List ℕ)) (bs : List Block) (d n m : ℕ) (c : Context) (xs ys : List StmtTree) (es gs : List Entry) (ds cs : List Block) → open_variables ds ≡ open_variables bs → length ds ≡ length bs
+    → Fitting ks bs d n m c xs es ds → Fitting ks ds d (n + count_of xs) (m + loops_of xs) (behind_all c es) ys gs cs → Fitting ks bs d n m c (xs ++ ys) (es ++ gs) cs
+fitting_across ks bs d n m c xs ys es gs ds cs v k f g =
     let e = sym (sum_of n (count_of xs) (count_of ys)) ∙ ap (λ k. n + k) (sym (counts_both xs ys)) in
     let l = sym (sum_of m (loops_of xs) (loops_of ys)) ∙ ap (λ k. m + k) (sym (loops_both xs ys)) in
     let both = behind_both c es gs in
+    let second = subst (λ (vs : List (List ℕ)). ListFit (record { constants = ks; variables = vs; depth = d; statements = n + count_of xs; loops = m + loops_of xs }) ys) v g.fits in
     record {
-      fits = lists_fit (place ks bs d n m) xs ys f.fits g.fits;
+      fits = lists_fit (place ks bs d n m) xs ys f.fits second;
       at = subst (λ (c : Context). At ks cs (n + count_of (xs ++ ys)) (m + loops_of (xs ++ ys)) c) (sym both) (at_same ks cs _ _ _ _ _ e l g.at);
       inner = λ depth h rest.
           ap (λ es. inner_variables depth c es) (append_assoc es gs rest)
           ∙ f.inner depth h (gs ++ rest)
-          ∙ ap (λ vs. variables_of xs ++ vs) (g.inner depth h rest)
+          ∙ ap (λ vs. variables_of xs ++ vs) (g.inner depth (ap (λ x. nat_lt x depth) k ∙ h) rest)
           ∙ sym (append_assoc (variables_of xs) (variables_of ys) _)
           ∙ (λ i. sym (variables_both xs ys) i ++ inner_variables depth (sym both i) rest);
     }
+
+pub fitting_both : (ks : List (List ℕ)) (bs : List Block) (d n m : ℕ) (c : Context) (xs ys : List StmtTree) (es gs : List Entry) (cs : List Block)
+    → Fitting ks bs d n m c xs es bs → Fitting ks bs d (n + count_of xs) (m + loops_of xs) (behind_all c es) ys gs cs → Fitting ks bs d n m c (xs ++ ys) (es ++ gs) cs
+fitting_both ks bs d n m c xs ys es gs cs f g = fitting_across ks bs d n m c xs ys es gs bs cs refl refl f g
 
 -- comments are no statements
 abbrev pub CommentsFit : List Note → Type 0
@@ -172,3 +178,18 @@ inner_step depth c e rest h = ap (λ b. cond b [] (of_reading do_variables e.rea
 
 pub inner_at : (ks : List (List ℕ)) (bs : List Block) (n m depth : ℕ) (c : Context) → At ks bs n m c → nat_lt (length bs) depth ≡ false → nat_lt (length c.blocks) depth ≡ false
 inner_at ks bs n m depth c a h = ap (λ (bs : List Block). nat_lt (length bs) depth) a.blocks_are ∙ h
+
+-- a single statement
+pub entry_fitting : (ks : List (List ℕ)) (bs : List Block) (d n m : ℕ) (c : Context) (s : Statement) (i : Item) (ts : List StmtTree) (cs : List Block)
+    → constants_of i ≡ [] → numbered_in i ≡ count_of ts → loops_in i ≡ loops_of ts → do_variables i ≡ variables_of ts → blocks_behind s.label i bs ≡ cs
+    → At ks bs n m c → ListFit (place ks bs d n m) ts → Fitting ks bs d n m c ts (entry s i ∷ []) cs
+entry_fitting ks bs d n m c s i ts cs none counted looped vs blocks a f =
+    let b = at_behind ks bs n m c s i none a in
+    record {
+      fits = f;
+      at = subst (λ (x : List Block). At ks x (n + count_of ts) (m + loops_of ts) (behind c (entry s i))) blocks (at_same ks _ _ _ _ _ _ (ap (λ k. n + k) counted) (ap (λ k. m + k) looped) b);
+      inner = λ depth h rest. inner_step depth c (entry s i) rest (inner_at ks bs n m depth c a h) ∙ ap (λ xs. xs ++ inner_variables depth (behind c (entry s i)) rest) vs;
+    }
+
+pub nothing_fitting : (ks : List (List ℕ)) (bs : List Block) (d n m : ℕ) (c : Context) → At ks bs n m c → Fitting ks bs d n m c [] [] bs
+nothing_fitting ks bs d n m c a = record { fits = tt; at = at_same ks bs _ _ _ _ c (sym (none_more n)) (sym (none_more m)) a; inner = λ depth h rest. refl }

@@ -1,3 +1,4 @@
+pub mod FitBodyStatements
 pub mod FitBodyLists
 pub mod Fits
 pub mod Forms

@@ -1,5 +1,6 @@
-pub mod FitBodyStatements
+pub mod FitBodyBlocks
 pub mod FitBodyLists
+pub mod FitBodyStatements
 pub mod Fits
 pub mod Forms
 pub mod Labels

@@ -1,5 +1,6 @@
 pub mod FitBodyBlocks
 pub mod FitBodyLists
+pub mod FitBodyLoops
 pub mod FitBodyStatements
 pub mod Fits
 pub mod Forms

@@ -81,9 +81,15 @@ rest_sourced (x ∷ xs) ys h = rest_sourced xs ys h.1
 pub record Accepted (saved : List (List ℕ)) (c : Context) (es : List Entry) : Type 0 where
   pub nothing_found : at_statements saved c es ≡ []
 
+pub accepted_next : (saved : List (List ℕ)) (c : Context) (e : Entry) (rest : List Entry) → Accepted saved c (e ∷ rest) → Accepted saved (behind c e) rest
+accepted_next saved c e rest h = record { nothing_found = right_empty (at_statement saved c e rest) _ h.nothing_found }
+
+pub accepted_split : (saved : List (List ℕ)) (c : Context) (xs ys zs : List Entry) → Accepted saved c ((xs ++ ys) ++ zs) → Accepted saved c (xs ++ (ys ++ zs))
+accepted_split saved c xs ys zs h = subst (λ (es : List Entry). Accepted saved c es) (append_assoc xs ys zs) h
+
 pub accepted_behind : (saved : List (List ℕ)) (c : Context) (xs ys : List Entry) → Accepted saved c (xs ++ ys) → Accepted saved (behind_all c xs) ys
 accepted_behind saved c [] ys h = h
-accepted_behind saved c (x ∷ xs) ys h = accepted_behind saved (behind c x) xs ys (record { nothing_found = right_empty (at_statement saved c x (xs ++ ys)) _ h.nothing_found })
+accepted_behind saved c (x ∷ xs) ys h = accepted_behind saved (behind c x) xs ys (accepted_next saved c x (xs ++ ys) h)
 
 pub behind_both : (c : Context) (xs ys : List Entry) → behind_all c (xs ++ ys) ≡ behind_all (behind_all c xs) ys
 behind_both c [] ys = refl
@@ -193,3 +199,20 @@ entry_fitting ks bs d n m c s i ts cs none counted looped vs blocks a f =
 
 pub nothing_fitting : (ks : List (List ℕ)) (bs : List Block) (d n m : ℕ) (c : Context) → At ks bs n m c → Fitting ks bs d n m c [] [] bs
 nothing_fitting ks bs d n m c a = record { fits = tt; at = at_same ks bs _ _ _ _ c (sym (none_more n)) (sym (none_more m)) a; inner = λ depth h rest. refl }
+
+-- comments behind statements, which belong to the statement that follows
+pub with_comments : (ks : List (List ℕ)) (bs : List Block) (d n m : ℕ) (c : Context) (xs : List StmtTree) (es : List Entry) (s : Statement) → CommentsFit s.comments → Fitting ks bs d n m c xs es bs
+    → Fitting ks bs d n m c (xs ++ comments_of s) es bs
+with_comments ks bs d n m c xs es s h f =
+    subst (λ (gs : List Entry). Fitting ks bs d n m c (xs ++ comments_of s) gs bs) (append-nil es)
+    (fitting_both ks bs d n m c xs (comments_of s) es [] bs f (comments_fitting ks bs d (n + count_of xs) (m + loops_of xs) (behind_all c es) s h f.at))
+
+-- a statement with no tree but its comments
+pub bare_fitting : (ks : List (List ℕ)) (bs : List Block) (d n m : ℕ) (c : Context) (s : Statement) (i : Item) (cs : List Block)
+    → constants_of i ≡ [] → numbered_in i ≡ 0 → loops_in i ≡ 0 → do_variables i ≡ [] → blocks_behind s.label i bs ≡ cs
+    → At ks bs n m c → CommentsFit s.comments → Fitting ks bs d n m c (comments_of s) (entry s i ∷ []) cs
+bare_fitting ks bs d n m c s i cs none counted looped vs blocks a h =
+    let f = comments_fitting ks bs d n m c s h a in
+    subst (λ (ts : List StmtTree). Fitting ks bs d n m c ts (entry s i ∷ []) cs) (append-nil (comments_of s))
+    (fitting_both ks bs d n m c (comments_of s) [] [] (entry s i ∷ []) cs f
+    (entry_fitting ks bs d (n + count_of (comments_of s)) (m + loops_of (comments_of s)) c s i [] cs none counted looped vs blocks f.at tt))

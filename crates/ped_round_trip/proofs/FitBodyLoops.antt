@@ -15,7 +15,7 @@ use Rattle.ped_tree.specs.ProgramRefusals.{open_variables, inner_variables, meet
 use Rattle.ped_blocks.proofs.BlocksFound.{right_empty}
 use Rattle.ped_reprint.specs.Printed.{of_do}
 use Rattle.ped_round_trip.proofs.Fits.{Place, in_loop, IsSaid, IsWithin, PrivateFits, KeepsPrivate, LoopFits, AllFit}
-use Rattle.ped_round_trip.proofs.FitBodyLists.{packed_fit, count_of, loops_of, variables_of, IsSourced, Sourced, Accepted, At, at_same, place, Fitting, fitting_both, comments_fitting, entry_fitting, nothing_fitting, inner_step, inner_at}
+use Rattle.ped_round_trip.proofs.FitBodyLists.{packed_fit, count_of, loops_of, variables_of, IsSourced, Sourced, Accepted, accepted_next, At, at_same, place, Fitting, bare_fitting, nothing_fitting, inner_step, inner_at}
 use Rattle.ped_round_trip.proofs.FitBodyStatements.{or_left, or_right, Passed, passed, passed_private, loops_open}
 use Rattle.ped_round_trip.proofs.FitBodyBlocks.{rejected_are_names, meets_fewer}
 
@@ -70,11 +70,7 @@ keeps_fits saved ks bs d n m i j l h (private_list s names) rejected ts tail c o
 
 pub private_fitting : (ks : List (List ℕ)) (bs : List Block) (d n m : ℕ) (c : Context) (p : PrivateForm) → At ks bs n m c → Sourced (private_entries p) → Fitting ks bs d n m c (comments_of_private p) (private_entries p) bs
 private_fitting ks bs d n m c no_private a r = nothing_fitting ks bs d n m c a
-private_fitting ks bs d n m c (private_list s names) a r =
-    let f = comments_fitting ks bs d n m c s r.0.comments a in
-    subst (λ (ts : List StmtTree). Fitting ks bs d n m c ts (entry s (keeps_private names) ∷ []) bs) (append-nil (comments_of s))
-    (fitting_both ks bs d n m c (comments_of s) [] [] (entry s (keeps_private names) ∷ []) bs f
-    (entry_fitting ks bs d (n + count_of (comments_of s)) (m + loops_of (comments_of s)) c s (keeps_private names) [] bs refl refl refl refl refl f.at tt))
+private_fitting ks bs d n m c (private_list s names) a r = bare_fitting ks bs d n m c s (keeps_private names) bs refl refl refl refl refl a r.0.comments
 
 -- no PRIVATE stands but behind its DO
 
@@ -121,7 +117,7 @@ loop_fitting saved ks bs d n m c s l h p ts es tail rest cs deep a inside lines 
     let blocks : List Block = in_do l h.variable ∷ bs in
     let names_are : private_behind (es ++ rest) ≡ names = ap private_behind lines ∙ private_first p tail none in
     let tests = subst (λ (xs : List (List ℕ)). Passed saved ks bs n m s.label i xs) names_are (passed saved ks bs n m c s i (es ++ rest) a ok) in
-    let after : Accepted saved (behind c first) (es ++ rest) = record { nothing_found = right_empty (at_statement saved c first (es ++ rest)) _ ok.nothing_found } in
+    let after = accepted_next saved c first (es ++ rest) ok in
     let keeps = keeps_fits saved ks bs d n m (n + 1) (m + 1) l h p rejected ts tail (behind c first) (inner_variables (length blocks) (behind_all (behind c first) es) rest) inside
     (subst (λ (xs : List Entry). Accepted saved (behind c first) xs) lines after) private
     (ap (λ xs. inner_variables (length blocks) (behind c first) xs) (sym lines) ∙ f.inner (length blocks) (not_below_itself (length blocks)) rest) in

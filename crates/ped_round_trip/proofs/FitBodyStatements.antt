@@ -272,7 +272,7 @@ must_end a true x e h = refl
 must_end true false x e h = absurd cc
 must_end false false x e h = absurd cc
 
-closed_self : (l k : ℕ) (v : List ℕ) (bs : List Block) → k ≡ l → closed k (in_do l v ∷ bs) ≡ closed l bs
+pub closed_self : (l k : ℕ) (v : List ℕ) (bs : List Block) → k ≡ l → closed k (in_do l v ∷ bs) ≡ closed l bs
 closed_self l k v bs e = ap (λ b. cond b (closed k bs) (in_do l v ∷ bs)) (eq-eqb l k (sym e)) ∙ ap (λ k. closed k bs) e
 
 opens_self : (l k : ℕ) (v : List ℕ) (bs : List Block) → k ≡ l → has_do k (in_do l v ∷ bs) ≡ true

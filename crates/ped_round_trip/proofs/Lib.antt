@@ -1,3 +1,4 @@
+pub mod FitBody
 pub mod FitBodyBlocks
 pub mod FitBodyLists
 pub mod FitBodyLoops

@@ -8,7 +8,7 @@ use Rattle.ped_tree.specs.Contexts.{Block, in_then, in_else, in_do, Context, clo
 use Rattle.ped_tree.specs.BlockForms.{BodyForm, nothing, and_then, PartForm, a_plain, an_if, a_do, RestForm, ends_if, has_else, has_else_if, LoopForm, loop, EndingForm, at_plain, with_inner, plain_item, plain_trees, entry, private_entries, body_entries, part_entries, rest_entries, loop_entries, ending_entries, comments_of, comments_of_private, first_of_rest, body_trees, part_trees, rest_trees, loop_trees, ending_trees, loop_label, is_free, private_fits, body_fits, part_fits, rest_fits, loop_fits, ending_fits}
 use Rattle.ped_tree.specs.ProgramRefusals.{open_variables, private_behind, block_depth}
 use Rattle.ped_blocks.proofs.BlocksMoved.{labels}
-use Rattle.ped_round_trip.proofs.FitBodyLists.{count_of, loops_of, Sourced, first_sourced, rest_sourced, Accepted, accepted_next, accepted_split, accepted_behind, At, at_behind, Fitting, fitting_across, fitting_both, CommentsFit, comments_fitting, entry_fitting, nothing_fitting, with_comments, bare_fitting}
+use Rattle.ped_round_trip.proofs.FitBodyLists.{count_of, loops_of, Sourced, first_sourced, rest_sourced, Accepted, accepted_next, accepted_split, accepted_behind, At, at_behind, Fitting, fitting_across, fitting_both, CommentsFit, comments_fitting, entry_fitting, nothing_fitting, with_comments, bare_fitting, one_longer}
 use Rattle.ped_round_trip.proofs.FitBodyStatements.{passed, free_blocks, other_closed, closed_self, ending_blocks, plain_fitting}
 use Rattle.ped_round_trip.proofs.FitBodyBlocks.{block_if_fits, else_if_fits, branch_fitting}
 use Rattle.ped_round_trip.proofs.FitBodyLoops.{private_fitting, private_body, private_ending, loop_fitting}
@@ -26,9 +26,6 @@ first_comments : (r : RestForm) → Sourced (rest_entries r) → CommentsFit (fi
 first_comments (ends_if s) h = h.0.comments
 first_comments (has_else s b e) h = h.0.comments
 first_comments (has_else_if s c b r) h = h.0.comments
-
-one_longer : (n k : ℕ) → nat_lt n k ≡ false → nat_lt (suc n) k ≡ false
-one_longer n k h = grind arith
 
 one_deeper : (b j d : ℕ) → b + j ≡ d → b + (j + 1) ≡ d + 1
 one_deeper b j d e = omega (arith, e)

@@ -49,7 +49,7 @@ pub variables_both : (xs ys : List StmtTree) → variables_of (xs ++ ys) ≡ var
 variables_both [] ys = refl
 variables_both (x ∷ xs) ys = ap (λ vs. loop_variables x ++ vs) (variables_both xs ys) ∙ sym (append_assoc (loop_variables x) (variables_of xs) (variables_of ys))
 
-none_more : (n : ℕ) → n + 0 ≡ n
+pub none_more : (n : ℕ) → n + 0 ≡ n
 none_more n = omega arith
 
 pub lists_fit : (p : Place) (xs ys : List StmtTree) → ListFit p xs → ListFit (moved p (count_of xs) (loops_of xs)) ys → ListFit p (xs ++ ys)
@@ -216,3 +216,7 @@ bare_fitting ks bs d n m c s i cs none counted looped vs blocks a h =
     subst (λ (ts : List StmtTree). Fitting ks bs d n m c ts (entry s i ∷ []) cs) (append-nil (comments_of s))
     (fitting_both ks bs d n m c (comments_of s) [] [] (entry s i ∷ []) cs f
     (entry_fitting ks bs d (n + count_of (comments_of s)) (m + loops_of (comments_of s)) c s i [] cs none counted looped vs blocks f.at tt))
+
+-- a loop more is open
+pub one_longer : (n k : ℕ) → nat_lt n k ≡ false → nat_lt (suc n) k ≡ false
+one_longer n k h = grind arith

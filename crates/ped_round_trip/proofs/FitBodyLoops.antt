@@ -15,7 +15,7 @@ use Rattle.ped_tree.specs.ProgramRefusals.{open_variables, inner_variables, meet
 use Rattle.ped_blocks.proofs.BlocksFound.{right_empty}
 use Rattle.ped_reprint.specs.Printed.{of_do}
 use Rattle.ped_round_trip.proofs.Fits.{Place, in_loop, IsSaid, IsWithin, PrivateFits, KeepsPrivate, LoopFits, AllFit}
-use Rattle.ped_round_trip.proofs.FitBodyLists.{packed_fit, count_of, loops_of, variables_of, IsSourced, Sourced, Accepted, accepted_next, At, at_same, place, Fitting, bare_fitting, nothing_fitting, inner_step, inner_at}
+use Rattle.ped_round_trip.proofs.FitBodyLists.{packed_fit, count_of, loops_of, variables_of, IsSourced, Sourced, Accepted, accepted_next, At, at_same, place, Fitting, bare_fitting, nothing_fitting, inner_step, inner_at, one_longer}
 use Rattle.ped_round_trip.proofs.FitBodyStatements.{or_left, or_right, Passed, passed, passed_private, loops_open}
 use Rattle.ped_round_trip.proofs.FitBodyBlocks.{rejected_are_names, meets_fewer}
 
@@ -100,9 +100,6 @@ private_first (private_list s names) tail h = refl
 one_first : (n k : ℕ) → n + 1 + k ≡ n + (k + 1 + 0)
 one_first n k = omega arith
 
-deeper : (n k : ℕ) → nat_lt n k ≡ false → nat_lt (suc n) k ≡ false
-deeper n k h = grind arith
-
 pub loop_fitting : (saved ks : List (List ℕ)) (bs : List Block) (d n m : ℕ) (c : Context) (s : Statement) (l : ℕ) (h : Head) (p : PrivateForm) (ts : List StmtTree) (es tail rest : List Entry) (cs : List Block)
     → block_depth bs ≡ d → At ks bs n m c → At ks (in_do l h.variable ∷ bs) (n + 1) (m + 1) (behind c (entry s (begins_do l h)))
     → es ++ rest ≡ private_entries p ++ tail → private_behind tail ≡ []
@@ -126,6 +123,6 @@ loop_fitting saved ks bs d n m c s l h p ts es tail rest cs deep a inside lines 
       at = at_same ks cs _ _ _ _ _ (one_first n (count_of ts)) (one_first m (loops_of ts)) f.at;
       inner = λ depth k more.
           inner_step depth c first (es ++ more) (inner_at ks bs n m depth c a k)
-          ∙ ap (λ xs. h.variable ∷ xs) (f.inner depth (deeper (length bs) depth k) more)
+          ∙ ap (λ xs. h.variable ∷ xs) (f.inner depth (one_longer (length bs) depth k) more)
           ∙ ap (λ xs. (h.variable ∷ xs) ++ inner_variables depth (behind_all (behind c first) es) more) (sym (append-nil (variables_of ts)));
     }

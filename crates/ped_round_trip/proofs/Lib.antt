@@ -3,6 +3,7 @@ pub mod FitBodyBlocks
 pub mod FitBodyLists
 pub mod FitBodyLoops
 pub mod FitBodyStatements
+pub mod FitBodyWhole
 pub mod Fits
 pub mod Forms
 pub mod Labels

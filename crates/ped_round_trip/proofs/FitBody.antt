@@ -1,12 +1,10 @@
 -- The executable statements of a text at which nothing is refused meet what their printed text needs.
-use Rattle.std.proofs.Common.{◌≡◌, ℕ, ◌+◌, List, [], ◌∷◌, ◌++◌, length, Bool, true, false, refl, sym, ap, subst, ◌∙◌, arith, append_assoc, eqb-true}
-use Rattle.std.specs.Prelude.{IsTrue, nat_lt, ◌&&◌, suc}
-use Rattle.std.specs.List.{AllByRecursion}
-use Rattle.ped_tree.specs.Statement.{Statement}
+use Rattle.std.proofs.Common.{◌≡◌, ℕ, ◌+◌, List, [], ◌∷◌, ◌++◌, length, Bool, true, false, refl, ap, subst, ◌∙◌, arith, append_assoc, eqb-true}
+use Rattle.std.specs.Prelude.{IsTrue, ◌&&◌}
 use Rattle.ped_tree.specs.Items.{block_if, else_if, else_line, end_if, begins_do, Entry}
 use Rattle.ped_tree.specs.Contexts.{Block, in_then, in_else, in_do, Context, closed, behind, behind_all}
 use Rattle.ped_tree.specs.BlockForms.{BodyForm, nothing, and_then, PartForm, a_plain, an_if, a_do, RestForm, ends_if, has_else, has_else_if, LoopForm, loop, EndingForm, at_plain, with_inner, plain_item, plain_trees, entry, private_entries, body_entries, part_entries, rest_entries, loop_entries, ending_entries, comments_of, comments_of_private, first_of_rest, body_trees, part_trees, rest_trees, loop_trees, ending_trees, loop_label, is_free, private_fits, body_fits, part_fits, rest_fits, loop_fits, ending_fits}
-use Rattle.ped_tree.specs.ProgramRefusals.{open_variables, private_behind, block_depth}
+use Rattle.ped_tree.specs.ProgramRefusals.{private_behind, block_depth}
 use Rattle.ped_blocks.proofs.BlocksMoved.{labels}
 use Rattle.ped_round_trip.proofs.FitBodyLists.{count_of, loops_of, Sourced, first_sourced, rest_sourced, Accepted, accepted_next, accepted_split, accepted_behind, At, at_behind, Fitting, fitting_across, fitting_both, CommentsFit, comments_fitting, entry_fitting, nothing_fitting, with_comments, bare_fitting, one_longer}
 use Rattle.ped_round_trip.proofs.FitBodyStatements.{passed, free_blocks, other_closed, closed_self, ending_blocks, plain_fitting}
@@ -61,11 +59,11 @@ mutual
       let split = accepted_split saved (behind c e) xs ys rest (accepted_next saved c e ((xs ++ ys) ++ rest) ok) in
       let free = left_true (is_free (labels bs) s && body_fits (labels bs) b) _ fits in
       let g = body_fit saved ks ds (d + 1) (x + 1) (y + 0) (behind c e) b (ys ++ rest) (ap (λ z. z + 1) deep) (at_behind ks bs x y c s (block_if k) refl f.at)
-          (right_true (is_free (labels bs) s) _ free) split (first_sourced xs ys src.1) in
+      (right_true (is_free (labels bs) s) _ free) split (first_sourced xs ys src.1) in
       let then_part = with_comments ks ds (d + 1) (x + 1) (y + 0) (behind c e) (body_trees b) xs (first_of_rest r) (first_comments r (rest_sourced xs ys src.1)) g in
       let trees = body_trees b ++ comments_of (first_of_rest r) in
       let more = rest_fit saved ks bs 1 (d + 1) (x + 1 + count_of trees) (y + 0 + loops_of trees) (behind_all (behind c e) xs) r rest (ap (λ z. z + 1) deep) then_part.at
-          (right_true (is_free (labels bs) s && body_fits (labels bs) b) _ fits) (accepted_behind saved (behind c e) xs (ys ++ rest) split) (rest_sourced xs ys src.1) in
+      (right_true (is_free (labels bs) s && body_fits (labels bs) b) _ fits) (accepted_behind saved (behind c e) xs (ys ++ rest) split) (rest_sourced xs ys src.1) in
       fitting_both ks bs d n m c (comments_of s) _ [] (e ∷ (xs ++ ys)) bs f
       (branch_fitting ks bs ds d x y c s (block_if k) k trees (rest_trees r) xs ys bs refl (one_longer (length bs)) refl f.at
       (block_if_fits saved ks bs d x y s.label k (private_behind ((xs ++ ys) ++ rest)) src.0.text deep src.0.reads tests) then_part more)
@@ -101,11 +99,11 @@ mutual
       let free = left_true (is_free (labels bs) s && body_fits (labels bs) b) _ fits in
       let further = one_deeper (block_depth bs) j d deep in
       let g = body_fit saved ks ds (d + 1) (n + 1) (m + 0) (behind c e) b (ys ++ rest) further (at_behind ks cs n m c s (else_if k) refl a)
-          (right_true (is_free (labels bs) s) _ free) split (first_sourced xs ys src.1) in
+      (right_true (is_free (labels bs) s) _ free) split (first_sourced xs ys src.1) in
       let then_part = with_comments ks ds (d + 1) (n + 1) (m + 0) (behind c e) (body_trees b) xs (first_of_rest r) (first_comments r (rest_sourced xs ys src.1)) g in
       let trees = body_trees b ++ comments_of (first_of_rest r) in
       let more = rest_fit saved ks bs (j + 1) (d + 1) (n + 1 + count_of trees) (m + 0 + loops_of trees) (behind_all (behind c e) xs) r rest further then_part.at
-          (right_true (is_free (labels bs) s && body_fits (labels bs) b) _ fits) (accepted_behind saved (behind c e) xs (ys ++ rest) split) (rest_sourced xs ys src.1) in
+      (right_true (is_free (labels bs) s && body_fits (labels bs) b) _ fits) (accepted_behind saved (behind c e) xs (ys ++ rest) split) (rest_sourced xs ys src.1) in
       branch_fitting ks cs ds d n m c s (else_if k) k trees (rest_trees r) xs ys bs refl (λ depth h. h) refl a
       (else_if_fits saved ks cs d n m s.label k (private_behind ((xs ++ ys) ++ rest)) src.0.text deep src.0.reads tests) then_part more
 
@@ -130,11 +128,11 @@ mutual
       let split = accepted_split saved after xs ys (zs ++ rest) next in
       let one = private_fitting ks ds (d + 1) (x + 1) (y + 1) after p inside (first_sourced xs ys sources) in
       let two = body_fit saved ks ds (d + 1) (x + 1 + count_of (comments_of_private p)) (y + 1 + loops_of (comments_of_private p)) (behind_all after xs) b (zs ++ rest) deeper one.at
-          (right_true (is_free (labels bs) s && private_fits ls p) _ three) (accepted_behind saved after xs (ys ++ (zs ++ rest)) split) (rest_sourced xs ys sources) in
+      (right_true (is_free (labels bs) s && private_fits ls p) _ three) (accepted_behind saved after xs (ys ++ (zs ++ rest)) split) (rest_sourced xs ys sources) in
       let front = fitting_both ks ds (d + 1) (x + 1) (y + 1) after (comments_of_private p) (body_trees b) xs ys ds one two in
       let trees = comments_of_private p ++ body_trees b in
       let last = ending_fit saved ks bs l h.variable (d + 1) (x + 1 + count_of trees) (y + 1 + loops_of trees) (behind_all after (xs ++ ys)) e rest deeper front.at
-          (right_true (is_free (labels bs) s && private_fits ls p && body_fits ls b) _ fits) (accepted_behind saved after (xs ++ ys) (zs ++ rest) next) (rest_sourced (xs ++ ys) zs r.1) in
+      (right_true (is_free (labels bs) s && private_fits ls p && body_fits ls b) _ fits) (accepted_behind saved after (xs ++ ys) (zs ++ rest) next) (rest_sourced (xs ++ ys) zs r.1) in
       let whole = fitting_both ks ds (d + 1) (x + 1) (y + 1) after trees (ending_trees e) (xs ++ ys) zs (closed l bs) front last in
       let lines = append_assoc (xs ++ ys) zs rest ∙ append_assoc xs ys (zs ++ rest) in
       fitting_both ks bs d n m c (comments_of s) _ [] (first ∷ (xs ++ ys ++ zs)) (closed l bs) f

@@ -1,24 +1,23 @@
 -- A block IF, and a DO, at which nothing is refused, fit where their parts do.
-use Rattle.std.proofs.Common.{◌≡◌, ℕ, suc, ◌+◌, List, [], ◌∷◌, ◌++◌, length, map, Bool, true, false, cond, Option, Some, None, refl, sym, ap, subst, ◌∙◌, arith, append_assoc, append-nil}
-use Rattle.std.specs.Prelude.{IsTrue, nat_lt, nat_le, ◌&&◌, ◌||◌, not, filter}
-use Rattle.std.specs.List.{list_any, list_all}
+use Rattle.std.proofs.Common.{◌≡◌, ℕ, ◌+◌, List, [], ◌∷◌, ◌++◌, length, map, Bool, true, false, cond, Option, refl, sym, ap, subst, ◌∙◌, arith, append-nil}
+use Rattle.std.specs.Prelude.{nat_lt, nat_le, ◌&&◌, ◌||◌, filter}
+use Rattle.std.specs.List.{list_all}
 use Rattle.std.proofs.lemmas.List.Folds.{list_any-append}
-use Rattle.ped_tree.specs.Tree.{CondTree, Head, StmtTree, StmtTrees, If, Do, no_stmts}
+use Rattle.ped_tree.specs.Tree.{CondTree, StmtTree, StmtTrees, If}
 use Rattle.ped_tree.specs.Views.{pack_stmts}
 use Rattle.ped_tree.specs.Words.{is_name}
 use Rattle.ped_tree.specs.Statement.{Note, Statement}
 use Rattle.ped_tree.specs.StatementForms.{ReadsItem}
-use Rattle.ped_tree.specs.Items.{Item, block_if, else_if, begins_do, keeps_private, Entry}
-use Rattle.ped_tree.specs.References.{own_accesses, same_name}
-use Rattle.ped_tree.specs.Printing.{private_text}
-use Rattle.ped_tree.specs.Occurrences.{do_variables, constants_of, is_among, is_rejection, rejected_name, rejected_names}
-use Rattle.ped_tree.specs.Contexts.{Block, in_do, Context, numbered_in, loops_in, behind, behind_all}
-use Rattle.ped_tree.specs.BlockForms.{PlainForm, a_simple, a_continue, a_logical_if, PrivateForm, no_private, private_list, BodyForm, nothing, and_then, PartForm, a_plain, an_if, a_do, LoopForm, loop, EndingForm, at_plain, with_inner, entry, private_entries, body_entries, part_entries, rest_entries, loop_entries, ending_entries, comments_of, names_of_private, comments_of_private, whole_head}
-use Rattle.ped_tree.specs.ProgramRefusals.{open_variables, inner_variables, meets, private_behind, block_depth, at_statement}
-use Rattle.ped_reprint.specs.Printed.{of_block_if, of_else_if, of_do}
-use Rattle.ped_round_trip.proofs.Fits.{Place, in_if, in_loop, IsSaid, IsWithin, BranchFits, PrivateFits, KeepsPrivate, LoopFits, AllFit}
-use Rattle.ped_round_trip.proofs.FitBodyLists.{ListFit, packed_fit, count_of, loops_of, variables_of, counts_both, loops_both, variables_both, IsSourced, Sourced, Accepted, At, at_same, at_behind, place, Fitting, fitting_both, comments_fitting, entry_fitting, nothing_fitting, inner_step, inner_at}
-use Rattle.ped_round_trip.proofs.FitBodyStatements.{or_left, or_right, Passed, passed, passed_private, loops_open}
+use Rattle.ped_tree.specs.Items.{Item, block_if, else_if, Entry}
+use Rattle.ped_tree.specs.References.{same_name}
+use Rattle.ped_tree.specs.Occurrences.{do_variables, is_among, is_rejection, rejected_name, rejected_names}
+use Rattle.ped_tree.specs.Contexts.{Block, Context, behind, behind_all}
+use Rattle.ped_tree.specs.BlockForms.{entry}
+use Rattle.ped_tree.specs.ProgramRefusals.{open_variables, inner_variables, meets, block_depth}
+use Rattle.ped_reprint.specs.Printed.{of_block_if, of_else_if}
+use Rattle.ped_round_trip.proofs.Fits.{Place, in_if, BranchFits, AllFit}
+use Rattle.ped_round_trip.proofs.FitBodyLists.{ListFit, packed_fit, count_of, loops_of, variables_of, counts_both, loops_both, variables_both, At, at_same, place, Fitting, fitting_both, inner_step, inner_at}
+use Rattle.ped_round_trip.proofs.FitBodyStatements.{or_left, or_right, Passed}
 
 -- the first line of a block IF, or ELSE IF
 
@@ -72,10 +71,10 @@ branch_fitting ks bs ds d n m c s i k xs ys es gs cs vs more none a first f g =
     let both = fitting_both ks ds (d + 1) (n + 1) (m + 0) (behind c (entry s i)) xs ys es gs cs f g in
     let p = place ks bs d n m in
     let then_fits : AllFit (in_if p 1 0) (pack_stmts xs) =
-        packed_fit (in_if p 1 0) xs (subst (λ (vs : List (List ℕ)). ListFit (record { constants = ks; variables = vs; depth = d + 1; statements = n + 1; loops = m + 0 }) xs) vs f.fits) in
+    packed_fit (in_if p 1 0) xs (subst (λ (vs : List (List ℕ)). ListFit (record { constants = ks; variables = vs; depth = d + 1; statements = n + 1; loops = m + 0 }) xs) vs f.fits) in
     let else_fits : AllFit (in_if p (1 + count_of xs) (loops_of xs)) (pack_stmts ys) =
-        packed_fit (in_if p (1 + count_of xs) (loops_of xs)) ys
-        (subst (λ (q : Place). ListFit q ys) (λ j. record { constants = ks; variables = vs j; depth = d + 1; statements = else_place n (count_of xs) j; loops = none_between m (loops_of xs) j }) g.fits) in
+    packed_fit (in_if p (1 + count_of xs) (loops_of xs)) ys
+    (subst (λ (q : Place). ListFit q ys) (λ j. record { constants = ks; variables = vs j; depth = d + 1; statements = else_place n (count_of xs) j; loops = none_between m (loops_of xs) j }) g.fits) in
     record {
       fits = ((first (pack_stmts xs) (pack_stmts ys), then_fits, else_fits), tt);
       at = at_same ks cs _ _ _ _ _ (if_counted n (count_of xs) (count_of ys) (count_of (xs ++ ys)) (counts_both xs ys)) (if_looped m (loops_of xs) (loops_of ys) (loops_of (xs ++ ys)) (loops_both xs ys)) both.at;
@@ -97,10 +96,10 @@ rejected_are_names [] = refl
 rejected_are_names (d ∷ ds) =
     let more = filter (λ (n : Note). is_rejection n.text) ds in
     let go : (b : Bool) → is_rejection d.text ≡ b → list_all is_name (map rejected_name (cond b (d ∷ more) more)) ≡ true =
-        λ b. elim b as (λ b. is_rejection d.text ≡ b → list_all is_name (map rejected_name (cond b (d ∷ more) more)) ≡ true) [
-          | true ↦ λ e. ap (λ x. x && list_all is_name (map rejected_name more)) (and_second _ (is_name (rejected_name d)) e) ∙ rejected_are_names ds
-          | false ↦ λ e. rejected_are_names ds
-        ] in
+    λ b. elim b as (λ b. is_rejection d.text ≡ b → list_all is_name (map rejected_name (cond b (d ∷ more) more)) ≡ true) [
+      | true ↦ λ e. ap (λ x. x && list_all is_name (map rejected_name more)) (and_second _ (is_name (rejected_name d)) e) ∙ rejected_are_names ds
+      | false ↦ λ e. rejected_are_names ds
+    ] in
     go (is_rejection d.text) refl
 
 -- a name that meets none of many meets none of fewer
@@ -109,9 +108,9 @@ fewer : (x : List ℕ) (us bs cs : List (List ℕ)) → is_among x (us ++ (bs ++
 fewer x us bs cs h =
     list_any-append (same_name x) us bs
     ∙ (let k = or_left _ _ (sym (list_any-append (same_name x) us (bs ++ cs)) ∙ h) in
-       let l = or_right (is_among x us) _ (sym (list_any-append (same_name x) us (bs ++ cs)) ∙ h) in
-       let o = or_left _ (is_among x cs) (sym (list_any-append (same_name x) bs cs) ∙ l) in
-       λ i. k i || o i)
+    let l = or_right (is_among x us) _ (sym (list_any-append (same_name x) us (bs ++ cs)) ∙ h) in
+    let o = or_left _ (is_among x cs) (sym (list_any-append (same_name x) bs cs) ∙ l) in
+    λ i. k i || o i)
 
 pub meets_fewer : (names us bs cs : List (List ℕ)) → meets names (us ++ (bs ++ cs)) ≡ false → meets names (us ++ bs) ≡ false
 meets_fewer [] us bs cs h = refl

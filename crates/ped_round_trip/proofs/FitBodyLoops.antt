@@ -1,20 +1,19 @@
 -- A DO at which nothing is refused fits where its body does.
-use Rattle.std.proofs.Common.{◌≡◌, ℕ, suc, ◌+◌, List, [], ◌∷◌, ◌++◌, length, Bool, true, false, Option, Some, None, refl, sym, ap, subst, ◌∙◌, arith, append_assoc, append-nil}
-use Rattle.std.specs.Prelude.{nat_lt, nat_le, ◌&&◌}
+use Rattle.std.proofs.Common.{◌≡◌, ℕ, ◌+◌, List, [], ◌∷◌, ◌++◌, length, true, false, Option, refl, sym, ap, subst, ◌∙◌, arith, append_assoc, append-nil}
+use Rattle.std.specs.Prelude.{nat_lt, nat_le}
 use Rattle.std.specs.List.{list_all}
 use Rattle.ped_tree.specs.Tree.{Head, StmtTree, StmtTrees, Do}
 use Rattle.ped_tree.specs.Views.{pack_stmts}
 use Rattle.ped_tree.specs.Words.{is_name}
 use Rattle.ped_tree.specs.Statement.{Statement}
 use Rattle.ped_tree.specs.StatementForms.{ReadsItem}
-use Rattle.ped_tree.specs.Items.{Item, begins_do, keeps_private, Entry}
+use Rattle.ped_tree.specs.Items.{begins_do, keeps_private, Entry}
 use Rattle.ped_tree.specs.Occurrences.{rejected_names}
 use Rattle.ped_tree.specs.Contexts.{Block, in_do, Context, behind, behind_all}
-use Rattle.ped_tree.specs.BlockForms.{PlainForm, a_simple, a_continue, a_logical_if, PrivateForm, no_private, private_list, BodyForm, nothing, and_then, PartForm, a_plain, an_if, a_do, LoopForm, loop, EndingForm, at_plain, with_inner, entry, private_entries, body_entries, part_entries, ending_entries, comments_of, names_of_private, comments_of_private, whole_head}
-use Rattle.ped_tree.specs.ProgramRefusals.{open_variables, inner_variables, meets, private_behind, block_depth, loop_depth, at_statement}
-use Rattle.ped_blocks.proofs.BlocksFound.{right_empty}
+use Rattle.ped_tree.specs.BlockForms.{a_simple, a_continue, a_logical_if, PrivateForm, no_private, private_list, BodyForm, nothing, and_then, PartForm, a_plain, an_if, a_do, loop, EndingForm, at_plain, with_inner, entry, private_entries, body_entries, part_entries, ending_entries, names_of_private, comments_of_private, whole_head}
+use Rattle.ped_tree.specs.ProgramRefusals.{open_variables, inner_variables, meets, private_behind, block_depth, loop_depth}
 use Rattle.ped_reprint.specs.Printed.{of_do}
-use Rattle.ped_round_trip.proofs.Fits.{Place, in_loop, IsSaid, IsWithin, PrivateFits, KeepsPrivate, LoopFits, AllFit}
+use Rattle.ped_round_trip.proofs.Fits.{Place, in_loop, PrivateFits, KeepsPrivate, LoopFits}
 use Rattle.ped_round_trip.proofs.FitBodyLists.{packed_fit, count_of, loops_of, variables_of, IsSourced, Sourced, Accepted, accepted_next, At, at_same, place, Fitting, bare_fitting, nothing_fitting, inner_step, inner_at, one_longer}
 use Rattle.ped_round_trip.proofs.FitBodyStatements.{or_left, or_right, Passed, passed, passed_private, loops_open}
 use Rattle.ped_round_trip.proofs.FitBodyBlocks.{rejected_are_names, meets_fewer}
@@ -58,9 +57,9 @@ keeps_fits saved ks bs d n m i j l h (private_list s names) rejected ts tail c o
     let e = entry s item in
     let tests = passed saved ks cs i j c s item tail a ok in
     let inner : inner_variables (length cs) (behind c e) tail ≡ variables_of ts ++ others =
-        sym (inner_step (length cs) c e tail (inner_at ks cs i j (length cs) c a (not_below_itself (length cs)))) ∙ vs in
+    sym (inner_step (length cs) c e tail (inner_at ks cs i j (length cs) c a (not_below_itself (length cs)))) ∙ vs in
     let met : meets names (open_variables cs ++ inner_variables (length cs) (behind c e) tail) ≡ false =
-        ap (λ (x : List Block). meets names (open_variables x ++ inner_variables (length x) (behind c e) tail)) (sym a.blocks_are) ∙ (passed_private saved c s item tail ok).others in
+    ap (λ (x : List Block). meets names (open_variables x ++ inner_variables (length x) (behind c e) tail)) (sym a.blocks_are) ∙ (passed_private saved c s item tail ok).others in
     keeps_some (place ks bs d n m) (whole_head h names rejected) (pack_stmts ts) names (record {
       text = r.0.text;
       reads = r.0.reads;

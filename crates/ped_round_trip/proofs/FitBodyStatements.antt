@@ -1,22 +1,22 @@
 -- Where nothing is refused at a statement, a plain one fits.
-use Rattle.std.proofs.Common.{◌≡◌, ℕ, suc, ◌+◌, List, [], ◌∷◌, ◌++◌, length, map, Bool, true, false, cond, Option, Some, None, refl, sym, ap, subst, ◌∙◌, arith, append_assoc, append-nil, eqb, eq-eqb, eqb-true}
-use Rattle.std.specs.Prelude.{IsTrue, IsFalse, nat_lt, nat_le, ◌&&◌, ◌||◌, not, ◌==◌}
-use Rattle.std.specs.List.{list_any, flat_map}
-use Rattle.ped_tree.specs.Tree.{CondTree, Head, StmtTree, StmtTrees, Assign, If, Do, Print, Read, Stop, Comment, no_stmts, more_stmts}
-use Rattle.ped_tree.specs.Numbering.{statement_count, statements_count, loop_count, loops_count}
+use Rattle.std.proofs.Common.{◌≡◌, ℕ, ◌+◌, List, [], ◌∷◌, ◌++◌, length, Bool, true, false, cond, Option, Some, None, refl, sym, ap, subst, ◌∙◌, arith, append-nil, eqb, eq-eqb, eqb-true}
+use Rattle.std.specs.Prelude.{IsTrue, nat_lt, nat_le, ◌&&◌, ◌||◌, not, ◌==◌}
+use Rattle.std.specs.List.{list_any}
+use Rattle.ped_tree.specs.Tree.{CondTree, StmtTree, StmtTrees, Assign, If, Do, Print, Read, Stop, Comment, no_stmts, more_stmts}
+use Rattle.ped_tree.specs.Numbering.{statement_count, statements_count, loop_count}
 use Rattle.ped_tree.specs.References.{own_accesses}
 use Rattle.ped_tree.specs.Printing.{own_text}
-use Rattle.ped_tree.specs.Statement.{Note, Statement}
-use Rattle.ped_tree.specs.StatementForms.{SimpleForm, assignment, print, read, stop, continue, StatementForm, program, implicit, integer, dimension, parameter, save, save_all, simple, if_simple, if_then, else_if_then, else_alone, end_of_if, do_loop, private, end, statement_item, ReadsItem}
+use Rattle.ped_tree.specs.Statement.{Statement}
+use Rattle.ped_tree.specs.StatementForms.{assignment, print, read, stop, continue, StatementForm, program, implicit, integer, dimension, parameter, save, save_all, simple, if_simple, if_then, else_if_then, else_alone, end_of_if, do_loop, private, end, statement_item, ReadsItem}
 use Rattle.ped_tree.specs.Items.{Item, declares, saves_all, does, continues, logical_if, block_if, else_if, else_line, end_if, begins_do, keeps_private, ends_program, says, Entry}
-use Rattle.ped_tree.specs.Contexts.{Block, in_then, in_else, in_do, Context, numbered_in, is_do, is_stop, may_end, closed, closed_by, blocks_behind, behind}
+use Rattle.ped_tree.specs.Contexts.{Block, in_then, in_else, in_do, Context, is_stop, may_end, closed, closed_by, blocks_behind, behind}
 use Rattle.ped_tree.specs.BlockForms.{PlainForm, a_simple, a_continue, a_logical_if, plain_item, plain_trees, entry, has_label, is_free}
-use Rattle.ped_tree.specs.ProgramRefusals.{has_do, ends_badly, open_variables, assigned_by, assigned_in, private_in, listed_stmts, inner_variables, meets, stops, private_behind, statements_of_item, loop_depth, block_depth, is_too_large, are_too_many, is_too_deep, has_many_references, is_too_long, at_statement}
-use Rattle.ped_reprint.specs.Printed.{SaysFirstLine, itself, of_logical_if, behind_logical_if}
+use Rattle.ped_tree.specs.ProgramRefusals.{has_do, ends_badly, open_variables, assigned_by, assigned_in, private_in, inner_variables, meets, stops, private_behind, loop_depth, block_depth, is_too_large, are_too_many, is_too_deep, has_many_references, is_too_long, at_statement}
+use Rattle.ped_reprint.specs.Printed.{itself, of_logical_if, behind_logical_if}
 use Rattle.ped_blocks.proofs.BlocksFound.{none_stands, left_empty, right_empty}
 use Rattle.ped_blocks.proofs.BlocksMoved.{labels}
-use Rattle.ped_round_trip.proofs.Fits.{Place, moved, in_if, IsSaid, IsWithin, SimpleFits, BranchFits, loop_variables, Fits, AllFit}
-use Rattle.ped_round_trip.proofs.FitBodyLists.{ListFit, IsSourced, Accepted, At, place, Fitting, entry_fitting}
+use Rattle.ped_round_trip.proofs.Fits.{Place, in_if, SimpleFits, BranchFits, loop_variables, Fits}
+use Rattle.ped_round_trip.proofs.FitBodyLists.{IsSourced, Accepted, At, place, Fitting, entry_fitting}
 
 pub or_left : (a b : Bool) → (a || b) ≡ false → a ≡ false
 or_left true b h = absurd cc
@@ -51,8 +51,7 @@ passed_here saved c s i rest h =
     let l4 = or_left _ (is_too_long saved c.loops i) limits in
     let l3 = or_left _ (has_many_references (c.constants ++ open_variables c.blocks) (private_behind rest) i) l4 in
     let l2 = or_left _ (is_too_deep c.blocks i) l3 in
-    let index = none_stands _ _ _ (right_empty _ _ h6) in
-    (
+    let index = none_stands _ _ _ (right_empty _ _ h6) in (
       record {
         ends_well = none_stands _ _ _ (right_empty _ _ h5);
         index = or_left _ _ index;
@@ -211,12 +210,11 @@ behind_if_fits saved ks bs d n m label c s names text r h =
     let i = logical_if c (more_stmts s no_stmts) in
     let one = is_one s (reads_simple text i r) in
     let head : StmtTree = If c no_stmts no_stmts in
-    let silent = ks ++ open_variables bs in
     one.fits (in_if (place ks bs d n m) 1 0) (record {
       within = record {
         said = record { text = text; item = i; reads = r; small = h.small; says = behind_logical_if c refl };
         few = few_behind_if n (statement_count s) one.counted h.few;
-        referring = or_left _ false (or_right (nat_lt 64 (length (own_accesses silent head))) _ h.referring);
+        referring = or_left _ false (or_right (nat_lt 64 (length (own_accesses (ks ++ open_variables bs) head))) _ h.referring);
         short = ap (λ (t : List ℕ). nat_lt 1300 (length t)) (one.alike (m + 0) m) ∙ or_left _ false (or_right (nat_lt 1300 (length (own_text m head))) _ h.short);
       };
       index = ap (λ xs. meets xs (open_variables bs)) (sym (append-nil (assigned_by s))) ∙ h.index;

@@ -1,12 +1,12 @@
 -- The executable statements of a whole program, behind its declarations, with the comments before and behind them.
-use Rattle.std.proofs.Common.{◌≡◌, ℕ, ◌+◌, List, [], ◌∷◌, ◌++◌, Bool, true, false, refl, sym, ap, subst, ◌∙◌, arith}
+use Rattle.std.proofs.Common.{◌≡◌, ℕ, List, [], ◌∷◌, ◌++◌, refl, sym, subst}
 use Rattle.std.specs.Prelude.{IsTrue}
 use Rattle.std.specs.List.{AllByRecursion}
 use Rattle.ped_tree.specs.Tree.{StmtTree, Assign, If, Do, Print, Read, Stop, Comment}
 use Rattle.ped_tree.specs.Views.{pack_stmts}
-use Rattle.ped_tree.specs.Statement.{Note, Statement}
+use Rattle.ped_tree.specs.Statement.{Statement}
 use Rattle.ped_tree.specs.Items.{Entry}
-use Rattle.ped_tree.specs.Contexts.{Block, Context}
+use Rattle.ped_tree.specs.Contexts.{Context}
 use Rattle.ped_tree.specs.BlockForms.{BodyForm, body_entries, body_trees, comments_of, body_fits}
 use Rattle.ped_tree.specs.ProgramForms.{front_remarks, behind_front}
 use Rattle.ped_tree.specs.ProgramRefusals.{block_depth, at_statements}
@@ -14,7 +14,7 @@ use Rattle.ped_tree.specs.Reading.{AreEntries}
 use Rattle.ped_blocks.proofs.BlocksMoved.{labels}
 use Rattle.ped_round_trip.proofs.WholeForm.{BeginsWithStatement}
 use Rattle.ped_round_trip.proofs.Fits.{Place, moved, AllFit, DeclarationsFit}
-use Rattle.ped_round_trip.proofs.FitBodyLists.{ListFit, packed_fit, none_more, IsSourced, Sourced, Accepted, At, place, Fitting, CommentsFit, with_comments}
+use Rattle.ped_round_trip.proofs.FitBodyLists.{ListFit, packed_fit, none_more, Sourced, place, Fitting, CommentsFit, with_comments}
 use Rattle.ped_round_trip.proofs.FitBody.{body_fit}
 
 -- the place of a context

@@ -1,6 +1,5 @@
 -- A program as the statements that are printed, each with the comments and directives before it.
 use Rattle.std.specs.Prelude.{ℕ, suc, ◌+◌, ◌*◌, List, [], ◌∷◌, ◌++◌, map, codes, Option, Some, None}
-use Rattle.std.specs.List.{flat_map}
 use Rattle.ped_tree.specs.Tree.{StmtTree, StmtTrees, Assign, If, Do, Print, Read, Stop, Comment, no_stmts, more_stmts, DeclTree, Program, Implicit, Integer, Dimension, Parameter, Save, Remark, ProgramTree}
 use Rattle.ped_tree.specs.Numbering.{loop_count, loops_count}
 use Rattle.ped_tree.specs.Printing.{own_text, decl_text, private_text}

@@ -4,6 +4,7 @@ use Rattle.std.specs.Prelude.{IsFalse, ◌&&◌, nat_lt, nat_le}
 use Rattle.std.specs.List.{list_all}
 use Rattle.ped_tree.specs.Tree.{ExprTree, CondTree, Head, StmtTree, StmtTrees, Assign, If, Do, Print, Read, Stop, Comment, no_stmts, more_stmts, DeclTree, Program, Implicit, Integer, Dimension, Parameter, Save, Remark, ProgramTree}
 use Rattle.ped_tree.specs.Words.{is_name}
+use Rattle.ped_tree.specs.Characters.{is_printable}
 use Rattle.ped_tree.specs.Numbering.{statement_count, statements_count, loop_count, loops_count}
 use Rattle.ped_tree.specs.References.{own_accesses, constants_in}
 use Rattle.ped_tree.specs.Printing.{own_text, private_text, decl_text, is_remark}
@@ -36,11 +37,15 @@ in_if p n m = record p { depth = p.depth + 1; statements = p.statements + n; loo
 abbrev pub in_loop : Place → Head → Place
 in_loop p h = record p { variables = h.variable ∷ p.variables; depth = p.depth + 1; statements = p.statements + 1; loops = p.loops + 1 }
 
+-- a text of printable characters that reads as the item
+abbrev pub Said : List ℕ → Item → Type 0
+Said text i = ReadsItem text i × (list_all is_printable text ≡ true)
+
 -- some text says the statement, or its first line, without a literal that is too large
 pub record IsSaid (s : StmtTree) : Type 0 where
   pub text : List ℕ
   pub item : Item
-  pub reads : ReadsItem text item
+  pub reads : Said text item
   pub small : IsFalse (is_too_large item)
   pub says : SaysFirstLine item s
 

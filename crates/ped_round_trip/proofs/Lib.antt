@@ -1,4 +1,10 @@
 pub mod Accepted
+pub mod FitBody
+pub mod FitBodyBlocks
+pub mod FitBodyLists
+pub mod FitBodyLoops
+pub mod FitBodyStatements
+pub mod FitBodyWhole
 pub mod Fits
 pub mod Forms
 pub mod Items

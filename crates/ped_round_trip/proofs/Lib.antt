@@ -1,4 +1,5 @@
 pub mod Accepted
+pub mod AcceptedDecls
 pub mod FitBody
 pub mod FitBodyBlocks
 pub mod FitBodyLists

@@ -177,7 +177,7 @@ one_only p (Parameter values) h = refl
 one_only p (Save names) h = refl
 one_only p (Remark text) h = comments_only p.notes text h
 
-decls_only : (p : Spot) (ds : List DeclTree) → rejections p.notes ≡ [] → rejections (behind_pieces p (map decl_piece ds)).notes ≡ []
+pub decls_only : (p : Spot) (ds : List DeclTree) → rejections p.notes ≡ [] → rejections (behind_pieces p (map decl_piece ds)).notes ≡ []
 decls_only p [] h = h
 decls_only p (d ∷ ds) h = decls_only (behind_piece p (decl_piece d)) ds (one_only p d h)
 

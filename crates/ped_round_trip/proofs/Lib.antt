@@ -8,9 +8,11 @@ pub mod FitBodyStatements
 pub mod FitBodyWhole
 pub mod Fits
 pub mod Forms
+pub mod Good
 pub mod Items
 pub mod Labels
 pub mod Pieces
+pub mod RoundTrip
 pub mod Standing
 pub mod Trees
 pub mod WholeForm

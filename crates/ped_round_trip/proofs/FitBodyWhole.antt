@@ -1,0 +1,98 @@
+-- The executable statements of a whole program, behind its declarations, with the comments before and behind them.
+use Rattle.std.proofs.Common.{◌≡◌, ℕ, List, [], ◌∷◌, ◌++◌, true, refl, sym, subst}
+use Rattle.std.specs.Prelude.{IsTrue}
+use Rattle.std.specs.List.{AllByRecursion, list_all}
+use Rattle.ped_tree.specs.Characters.{is_printable}
+use Rattle.ped_tree.specs.Tree.{StmtTree, Assign, If, Do, Print, Read, Stop, Comment}
+use Rattle.ped_tree.specs.Views.{pack_stmts}
+use Rattle.ped_tree.specs.Statement.{Statement}
+use Rattle.ped_tree.specs.Items.{Entry}
+use Rattle.ped_tree.specs.Contexts.{Context}
+use Rattle.ped_tree.specs.BlockForms.{BodyForm, body_entries, body_trees, comments_of, body_fits}
+use Rattle.ped_tree.specs.ProgramForms.{front_remarks, behind_front}
+use Rattle.ped_tree.specs.ProgramRefusals.{block_depth, at_statements}
+use Rattle.ped_tree.specs.Reading.{AreEntries}
+use Rattle.ped_blocks.proofs.BlocksMoved.{labels}
+use Rattle.ped_round_trip.proofs.WholeForm.{BeginsWithStatement}
+use Rattle.ped_round_trip.proofs.Fits.{Place, moved, AllFit, DeclarationsFit}
+use Rattle.ped_round_trip.proofs.FitBodyLists.{ListFit, packed_fit, none_more, Sourced, place, Fitting, CommentsFit, with_comments}
+use Rattle.ped_round_trip.proofs.FitBody.{body_fit}
+
+-- the place of a context
+abbrev pub place_of : Context → Place
+place_of c = place c.constants c.blocks (block_depth c.blocks) c.statements c.loops
+
+-- statements within blocks fit at the place of their context
+pub body_fits_here : (saved : List (List ℕ)) (c : Context) (b : BodyForm) (rest : List Entry) → IsTrue (body_fits (labels c.blocks) b) → at_statements saved c (body_entries b ++ rest) ≡ [] → Sourced (body_entries b)
+    → Fitting c.constants c.blocks (block_depth c.blocks) c.statements c.loops c (body_trees b) (body_entries b) c.blocks
+body_fits_here saved c b rest fits ok r =
+    body_fit saved c.constants c.blocks (block_depth c.blocks) c.statements c.loops c b rest refl (record { constants_are = refl; blocks_are = refl; statements_are = refl; loops_are = refl }) fits (record { nothing_found = ok }) r
+
+-- what the entries of a text say is read from it
+
+-- a statement of printable characters with comments that fit
+pub record StatementSourced (s : Statement) : Type 0 where
+  pub printable : list_all is_printable s.text ≡ true
+  pub comments : CommentsFit s.comments
+
+pub entries_sourced : (ss : List Statement) (es : List Entry) → AreEntries ss es → AllByRecursion StatementSourced ss → Sourced es
+entries_sourced [] [] h k = tt
+entries_sourced (s ∷ ss) (e ∷ es) h k =
+    (record { text = s.text; reads = (h.1, k.0.printable); comments = subst (λ (t : Statement). CommentsFit t.comments) (sym h.0) k.0.comments }, entries_sourced ss es h.2 k.1)
+entries_sourced [] (e ∷ es) h k = absurd h
+entries_sourced (s ∷ ss) [] h k = absurd h
+
+-- the comments before the first statement belong to the declarations
+
+nowhere_on : (p : Place) → moved p 0 0 ≡ p
+nowhere_on p = let n = none_more p.statements in let m = none_more p.loops in λ i. record p { statements = n i; loops = m i }
+
+pub behind_front_fit : (p : Place) (ts : List StmtTree) → ListFit p ts → ListFit p (behind_front ts)
+behind_front_fit p [] f = tt
+behind_front_fit p (Assign l r ∷ ts) f = f
+behind_front_fit p (If c x y ∷ ts) f = f
+behind_front_fit p (Do h body ∷ ts) f = f
+behind_front_fit p (Print items ∷ ts) f = f
+behind_front_fit p (Read items ∷ ts) f = f
+behind_front_fit p (Stop ∷ ts) f = f
+behind_front_fit p (Comment text ∷ ts) f = behind_front_fit p ts (subst (λ (q : Place). ListFit q ts) (nowhere_on p) f.1)
+
+pub front_fit : (p : Place) (phase : ℕ) (ts : List StmtTree) → ListFit p ts → DeclarationsFit phase (front_remarks ts)
+front_fit p phase [] f = tt
+front_fit p phase (Assign l r ∷ ts) f = tt
+front_fit p phase (If c x y ∷ ts) f = tt
+front_fit p phase (Do h body ∷ ts) f = tt
+front_fit p phase (Print items ∷ ts) f = tt
+front_fit p phase (Read items ∷ ts) f = tt
+front_fit p phase (Stop ∷ ts) f = tt
+front_fit p phase (Comment text ∷ ts) f = (f.0, front_fit (moved p 0 0) phase ts f.1)
+
+pub begins_behind_front : (ts : List StmtTree) → BeginsWithStatement (pack_stmts (behind_front ts))
+begins_behind_front [] = tt
+begins_behind_front (Assign l r ∷ ts) = tt
+begins_behind_front (If c x y ∷ ts) = tt
+begins_behind_front (Do h body ∷ ts) = tt
+begins_behind_front (Print items ∷ ts) = tt
+begins_behind_front (Read items ∷ ts) = tt
+begins_behind_front (Stop ∷ ts) = tt
+begins_behind_front (Comment text ∷ ts) = begins_behind_front ts
+
+-- before the first executable statement
+abbrev pub body_place : List (List ℕ) → Place
+body_place constants = record { constants = constants; variables = []; depth = 0; statements = 0; loops = 0 }
+
+-- all executable statements of a program with the comments before END
+pub all_fit : (saved : List (List ℕ)) (c : Context) (b : BodyForm) (ending : Statement) (rest : List Entry) → c.blocks ≡ [] → c.statements ≡ 0 → c.loops ≡ 0
+    → IsTrue (body_fits [] b) → at_statements saved c (body_entries b ++ rest) ≡ [] → Sourced (body_entries b) → CommentsFit ending.comments
+    → ListFit (body_place c.constants) (body_trees b ++ comments_of ending)
+all_fit saved c b ending rest none first outside fits ok r comments =
+    let f = body_fit saved c.constants [] 0 0 0 c b rest refl (record { constants_are = refl; blocks_are = none; statements_are = first; loops_are = outside }) fits (record { nothing_found = ok }) r in
+    (with_comments c.constants [] 0 0 0 c (body_trees b) (body_entries b) ending comments f).fits
+
+-- the statements of the tree, which begin with the first that is no comment
+pub whole_body_fits : (saved : List (List ℕ)) (c : Context) (b : BodyForm) (ending : Statement) (rest : List Entry) → c.blocks ≡ [] → c.statements ≡ 0 → c.loops ≡ 0
+    → IsTrue (body_fits [] b) → at_statements saved c (body_entries b ++ rest) ≡ [] → Sourced (body_entries b) → CommentsFit ending.comments
+    → AllFit (body_place c.constants) (pack_stmts (behind_front (body_trees b ++ comments_of ending)))
+whole_body_fits saved c b ending rest none first outside fits ok r comments =
+    let ts = body_trees b ++ comments_of ending in
+    packed_fit (body_place c.constants) (behind_front ts) (behind_front_fit (body_place c.constants) ts (all_fit saved c b ending rest none first outside fits ok r comments))

@@ -1,0 +1,71 @@
+-- A program that fits is read from its printed text.
+use Rattle.std.proofs.Common.{◌≡◌, ℕ, List, [], ◌∷◌, ◌++◌, map, length, Option, Some, None, Bool, true, false, refl, sym, ap, ◌∙◌, subst}
+use Rattle.std.specs.List.{AllByRecursion}
+use Rattle.ped_tree.specs.Tree.{StmtTree, StmtTrees, Assign, If, Do, Print, Read, Stop, Comment, no_stmts, more_stmts, ProgramTree}
+use Rattle.ped_tree.specs.Printing.{program_text}
+use Rattle.ped_tree.specs.Statement.{Statement, Statements}
+use Rattle.ped_tree.specs.Grouping.{statements_of}
+use Rattle.ped_tree.specs.LineRefusals.{first_line_refusal}
+use Rattle.ped_tree.specs.Items.{Entry}
+use Rattle.ped_tree.specs.Occurrences.{saved_names}
+use Rattle.ped_tree.specs.Reading.{IsReading, AreEntries, IsCutInto, Reads}
+use Rattle.ped_recut.specs.Parts.{Part, program_parts, with_notes, printed_statements}
+use Rattle.ped_recut.specs.Printed.{printed_text}
+use Rattle.ped_recut.specs.Fitting.{StatementsFit}
+use Rattle.ped_recut.specs.Cut.{cut, cut_from}
+use Rattle.ped_recut.proofs.Grouped as Grouped
+use Rattle.ped_recut.proofs.Grouped.{PartFits}
+use Rattle.ped_recut.proofs.Whole.{not_refused, are_cut}
+use Rattle.ped_recut.proofs.Bridge.{printed_program}
+use Rattle.ped_round_trip.proofs.Pieces.{Piece, noted, said, program_pieces, part_of, program_parts_of, Spot, behind_piece, entries_here, cut_here}
+use Rattle.ped_round_trip.proofs.Trees.{Rejecting, AllRejecting}
+use Rattle.ped_round_trip.proofs.WholeForm.{start, whole_form, whole_entries, form_entries, form_tree, form_labelled}
+use Rattle.ped_round_trip.proofs.Fits.{Place, moved, in_if, in_loop, Fits, AllFit, at_body, ProgramFits}
+use Rattle.ped_round_trip.proofs.AcceptedDecls.{whole_accepted}
+use Rattle.ped_round_trip.proofs.Good.{Lettered, AllGood, good_program, parts_fit}
+
+-- rejected names are names
+
+mutual
+  rejecting : (p : Place) (s : StmtTree) → Fits p s → Rejecting s
+  rejecting p (Assign l r) fits = tt
+  rejecting p (If c a b) fits = (all_rejecting _ a fits.1, all_rejecting _ b fits.2)
+  rejecting p (Do h body) fits = (fits.0.rejected, all_rejecting _ body fits.1)
+  rejecting p (Print items) fits = tt
+  rejecting p (Read items) fits = tt
+  rejecting p Stop fits = tt
+  rejecting p (Comment text) fits = tt
+
+  all_rejecting : (p : Place) (s : StmtTrees) → AllFit p s → AllRejecting s
+  all_rejecting p no_stmts fits = tt
+  all_rejecting p (more_stmts s rest) fits = (rejecting p s fits.0, all_rejecting _ rest fits.1)
+
+-- what the statements among the pieces say is what their texts are
+all_read : (p : Spot) (xs : List Piece) → AllGood xs → AreEntries (map (λ (e : Entry). e.statement) (entries_here p xs)) (entries_here p xs)
+all_read p [] g = tt
+all_read p (noted n ∷ xs) g = all_read (behind_piece p (noted n)) xs g.1
+all_read p (said label depth text i ∷ xs) g = (refl, g.0.2, all_read (behind_piece p (said label depth text i)) xs g.1)
+
+-- the printed text of a program that fits reads as it
+pub reads_again : Lettered → (t : ProgramTree) → ProgramFits t → Reads (program_text t) t
+reads_again w t fits =
+    let ps = printed_statements t in
+    let good = good_program w t fits in
+    let parts : AllByRecursion PartFits (program_parts t) = subst (λ (xs : List Part). AllByRecursion PartFits xs) (program_parts_of t) (parts_fit (program_pieces t) good) in
+    let fit : StatementsFit ps = Grouped.program_fits t parts in
+    let same = printed_program t in
+    let accepted : first_line_refusal (program_text t) ≡ None = ap first_line_refusal same ∙ not_refused ps fit in
+    let whole : statements_of (program_text t) ≡ cut ps = ap statements_of same ∙ are_cut ps fit in
+    let es = whole_entries t in
+    let statements : map (λ (e : Entry). e.statement) es ≡ (statements_of (program_text t)).statements =
+        cut_here start (program_pieces t) ∙ ap (λ (xs : List Part). cut_from 1 (with_notes [] xs)) (program_parts_of t) ∙ sym (ap (λ (s : Statements). s.statements) whole) in
+    let readings : AreEntries (statements_of (program_text t)).statements es = subst (λ (ss : List Statement). AreEntries ss es) statements (all_read start (program_pieces t) good) in
+    record {
+      entries = es;
+      cut = record { accepted = accepted; readings = readings };
+      accepted = whole_accepted t (statements_of (program_text t)) fits (ap (λ (s : Statements). s.directives) whole);
+      form = whole_form t;
+      written = form_entries t;
+      labelled = form_labelled t;
+      nested = form_tree (saved_names es) t (all_rejecting (at_body t) t.body fits.statements) fits.begins;
+    }

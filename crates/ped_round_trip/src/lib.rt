@@ -1,0 +1,2 @@
+//! A program's printed text reads as the program.
+#![tactic(auto)]

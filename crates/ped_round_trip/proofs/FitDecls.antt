@@ -1,10 +1,10 @@
 -- Where nothing is refused at the statements of a text, its declarations fit.
-use Rattle.std.proofs.Common.{◌≡◌, ℕ, ◌+◌, ◌≤◌, List, [], ◌∷◌, ◌++◌, length, map, Bool, true, false, cond, refl, sym, ap, subst, ◌∙◌, arith, append_assoc, append-nil}
+use Rattle.std.proofs.Common.{◌≡◌, ℕ, ◌≤◌, List, [], ◌∷◌, ◌++◌, map, Bool, true, false, cond, refl, sym, ap, subst, ◌∙◌, arith, append_assoc, append-nil}
 use Rattle.std.specs.Prelude.{max, nat_lt, nat_le, ◌||◌}
 use Rattle.std.specs.List.{flat_map}
 use Rattle.ped_tree.specs.Tree.{StmtTree, Assign, If, Do, Print, Read, Stop, Comment, DeclTree, Program, Implicit, Integer, Dimension, Parameter, Save, Remark}
 use Rattle.ped_tree.specs.References.{constants_in}
-use Rattle.ped_tree.specs.Printing.{decl_text, is_remark}
+use Rattle.ped_tree.specs.Printing.{is_remark}
 use Rattle.ped_tree.specs.Literals.{decl_has_large_literal}
 use Rattle.ped_tree.specs.Statement.{Note, Statement}
 use Rattle.ped_tree.specs.Items.{Item, declares, saves_all, says, Entry}
@@ -12,9 +12,9 @@ use Rattle.ped_tree.specs.StatementForms.{StatementForm, program, implicit, inte
 use Rattle.ped_tree.specs.Contexts.{Context, decl_rank, rank, behind, behind_all}
 use Rattle.ped_tree.specs.BlockForms.{entry}
 use Rattle.ped_tree.specs.ProgramForms.{DeclForm, a_declaration, a_save_of_all, decl_entry, remarks_of, save_of, decl_trees, front_remarks}
-use Rattle.ped_tree.specs.ProgramRefusals.{is_behind_end, is_out_of_order, lacks_if, is_late_private, saves_again, is_misplaced, breaks_syntax, has_eight_dimensions, private_behind, at_statement, at_statements}
+use Rattle.ped_tree.specs.ProgramRefusals.{is_behind_end, is_out_of_order, lacks_if, is_late_private, saves_again, is_misplaced, breaks_syntax, has_eight_dimensions, at_statement}
 use Rattle.ped_blocks.proofs.BlocksFound.{none_stands, left_empty, right_empty}
-use Rattle.ped_round_trip.proofs.Fits.{IsDeclared, by_text, by_names, DeclarationFits, DeclarationsFit, constants_of_all}
+use Rattle.ped_round_trip.proofs.Fits.{by_text, by_names, DeclarationFits, DeclarationsFit, constants_of_all}
 use Rattle.ped_round_trip.proofs.FitBodyLists.{IsSourced, Sourced, Accepted, accepted_next, At, CommentsFit, none_more}
 use Rattle.ped_round_trip.proofs.FitBodyStatements.{or_left, or_right, passed}
 use Rattle.ped_round_trip.proofs.FitDeclsNames.{Named, named_all}
@@ -79,9 +79,9 @@ no_remark text d r = subst (λ (i : Item). declares_no_remark i ≡ false) r.2 (
 out_of_order_earlier : (p q r : ℕ) → q ≤ p → is_out_of_order p r ≡ false → is_out_of_order q r ≡ false
 out_of_order_earlier p q r h k = go (nat_lt r 3) k
   where
-  go : (b : Bool) → cond b (nat_le r p) (nat_lt r p) ≡ false → cond b (nat_le r q) (nat_lt r q) ≡ false
-  go true e = grind arith
-  go false e = grind arith
+    go : (b : Bool) → cond b (nat_le r p) (nat_lt r p) ≡ false → cond b (nat_le r q) (nat_lt r q) ≡ false
+    go true e = grind arith
+    go false e = grind arith
 
 in_order : (saved : List (List ℕ)) (c : Context) (s : Statement) (i : Item) (rest : List Entry) → Accepted saved c (entry s i ∷ rest) → is_out_of_order c.phase (rank i) ≡ false
 in_order saved c s i rest h =

@@ -1,9 +1,9 @@
 -- The names that occur in what texts read as are names, and so are those that SAVE without a list saves.
 use Rattle.std.proofs.Common.{◌≡◌, ℕ, List, [], ◌∷◌, ◌++◌, map, Bool, true, false, cond, Option, Some, None, refl, subst}
-use Rattle.std.specs.Prelude.{IsTrue, ◌&&◌, codes, take, drop, filter}
-use Rattle.std.specs.List.{AllByRecursion, list_all, flat_map}
+use Rattle.std.specs.Prelude.{IsTrue, ◌&&◌, drop, filter}
+use Rattle.std.specs.List.{list_all, flat_map}
 use Rattle.ped_tree.specs.Words.{is_name}
-use Rattle.ped_tree.specs.ExpressionForms.{Sign, unsigned, positive, negative, add, subtract, multiply, divide, ExprForm, first, sum, TermForm, single, product, FactorForm, plain, power, PrimaryForm, literal, reference, remainder, absolute, greatest, least, parentheses, ReferenceForm, scalar, element, ExprsForm, one, more, expr_form_tree, term_form_tree, factor_form_tree, primary_form_tree, reference_form_tree, exprs_form_trees}
+use Rattle.ped_tree.specs.ExpressionForms.{unsigned, positive, negative, add, subtract, multiply, divide, ExprForm, first, sum, TermForm, single, product, FactorForm, plain, power, PrimaryForm, literal, reference, remainder, absolute, greatest, least, parentheses, ReferenceForm, scalar, element, ExprsForm, one, more, expr_form_tree, term_form_tree, factor_form_tree, primary_form_tree, reference_form_tree, exprs_form_trees}
 use Rattle.ped_tree.specs.ConditionForms.{CondForm, one_term, or, LogicalTermForm, one_factor, and, LogicalFactorForm, affirmed, negated, LogicalPrimaryForm, relation, group, cond_form_tree, logical_term_tree, logical_factor_tree, logical_primary_tree}
 use Rattle.ped_tree.specs.StatementForms.{are_names, BoundForm, upper_bound, both_bounds, ArrayForm, an_array, DeclaratorForm, a_scalar, of_array, ConstantForm, a_constant, ItemForm, a_value, a_text, SimpleForm, assignment, print, read, stop, continue, ControlForm, control, StatementForm, program, implicit, integer, dimension, parameter, save, save_all, simple, if_simple, if_then, else_if_then, else_alone, end_of_if, do_loop, private, end, bound_form_tree, array_form_tree, declarator_form_tree, constant_form_tree, item_form_tree, simple_item, behind_if, step_form_tree, control_form_head, statement_item, ReadsItem}
 use Rattle.ped_tree.specs.Statement.{Note}
@@ -25,20 +25,21 @@ pub named_all : (xs : List (List ℕ)) → Named xs → list_all is_name xs ≡ 
 named_all [] h = refl
 named_all (x ∷ xs) h = both_true _ _ h.0 (named_all xs h.1)
   where
-  both_true : (a b : Bool) → a ≡ true → b ≡ true → (a && b) ≡ true
-  both_true true b h k = k
-  both_true false b h k = absurd cc
+    both_true : (a b : Bool) → a ≡ true → b ≡ true → (a && b) ≡ true
+    both_true true b h k = k
+    both_true false b h k = absurd cc
 
 all_named : (xs : List (List ℕ)) → list_all is_name xs ≡ true → Named xs
 all_named [] h = tt
 all_named (x ∷ xs) h = (left_true _ _ h, all_named xs (right_true _ _ h))
   where
-  left_true : (a b : Bool) → (a && b) ≡ true → a ≡ true
-  left_true true b h = refl
-  left_true false b h = absurd cc
-  right_true : (a b : Bool) → (a && b) ≡ true → b ≡ true
-  right_true true b h = h
-  right_true false b h = absurd cc
+    left_true : (a b : Bool) → (a && b) ≡ true → a ≡ true
+    left_true true b h = refl
+    left_true false b h = absurd cc
+
+    right_true : (a b : Bool) → (a && b) ≡ true → b ≡ true
+    right_true true b h = h
+    right_true false b h = absurd cc
 
 -- the names of a list are names
 are_named : (xs : List (List ℕ)) → IsTrue (are_names xs) → Named xs

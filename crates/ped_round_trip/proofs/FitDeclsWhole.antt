@@ -1,21 +1,20 @@
 -- A program that some text reads as fits, where the statements of the text have printable characters and comments that fit.
-use Rattle.std.proofs.Common.{◌≡◌, ℕ, ◌≤◌, List, [], ◌∷◌, ◌++◌, map, refl, sym, ap, subst, ◌∙◌, arith, append_assoc, append-nil}
+use Rattle.std.proofs.Common.{◌≡◌, ℕ, List, [], ◌∷◌, ◌++◌, map, refl, sym, ap, subst, ◌∙◌, arith, append_assoc, append-nil}
 use Rattle.std.specs.Prelude.{IsTrue}
 use Rattle.std.specs.List.{AllByRecursion, flat_map}
-use Rattle.ped_tree.specs.Tree.{DeclTree, StmtTrees, ProgramTree}
+use Rattle.ped_tree.specs.Tree.{ProgramTree}
 use Rattle.ped_tree.specs.Views.{pack_stmts}
-use Rattle.ped_tree.specs.Statement.{Statements}
 use Rattle.ped_tree.specs.Items.{ends_program, Entry}
 use Rattle.ped_tree.specs.Occurrences.{saved_names}
-use Rattle.ped_tree.specs.Contexts.{Context, at_start, behind_all}
+use Rattle.ped_tree.specs.Contexts.{at_start, behind_all}
 use Rattle.ped_tree.specs.BlockForms.{entry, body_entries, body_fits}
 use Rattle.ped_tree.specs.ProgramForms.{ProgramForm, decl_entry, program_entries, decl_trees, front_remarks, behind_front, all_trees, program_form_tree}
-use Rattle.ped_tree.specs.ProgramRefusals.{at_statements, at_end, program_refusals}
+use Rattle.ped_tree.specs.ProgramRefusals.{at_end, program_refusals}
 use Rattle.ped_tree.specs.Grouping.{statements_of}
 use Rattle.ped_tree.specs.Reading.{Reads}
 use Rattle.ped_blocks.proofs.BlocksFound.{first_none, left_empty}
-use Rattle.ped_round_trip.proofs.Fits.{Place, AllFit, DeclarationsFit, constants_of_all, at_body, ProgramFits}
-use Rattle.ped_round_trip.proofs.FitBodyLists.{IsSourced, Sourced, first_sourced, rest_sourced, Accepted, accepted_behind, At}
+use Rattle.ped_round_trip.proofs.Fits.{AllFit, constants_of_all, ProgramFits}
+use Rattle.ped_round_trip.proofs.FitBodyLists.{Sourced, first_sourced, rest_sourced, Accepted, accepted_behind, At}
 use Rattle.ped_round_trip.proofs.FitBodyWhole.{StatementSourced, entries_sourced, front_fit, begins_behind_front, body_place, all_fit, whole_body_fits}
 use Rattle.ped_round_trip.proofs.FitDeclsNames.{Named, saved_named}
 use Rattle.ped_round_trip.proofs.FitDecls.{declarations_both, declarations_fit, constants_both, behind_declarations, front_constants}

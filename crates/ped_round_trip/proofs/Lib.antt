@@ -6,6 +6,9 @@ pub mod FitBodyLists
 pub mod FitBodyLoops
 pub mod FitBodyStatements
 pub mod FitBodyWhole
+pub mod FitDecls
+pub mod FitDeclsNames
+pub mod FitDeclsWhole
 pub mod Fits
 pub mod Forms
 pub mod Good

@@ -9,6 +9,7 @@ pub mod Fits
 pub mod Forms
 pub mod Items
 pub mod Labels
+pub mod Lettered
 pub mod Pieces
 pub mod Standing
 pub mod Trees

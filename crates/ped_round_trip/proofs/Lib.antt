@@ -10,6 +10,8 @@ pub mod Forms
 pub mod Items
 pub mod Labels
 pub mod Lettered
+pub mod LetteredDeclarations
+pub mod LetteredExpressions
 pub mod Pieces
 pub mod Standing
 pub mod Trees

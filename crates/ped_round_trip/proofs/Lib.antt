@@ -12,6 +12,7 @@ pub mod Labels
 pub mod Lettered
 pub mod LetteredDeclarations
 pub mod LetteredExpressions
+pub mod LetteredStatements
 pub mod Pieces
 pub mod Standing
 pub mod Trees

@@ -14,6 +14,10 @@ pub mod Forms
 pub mod Good
 pub mod Items
 pub mod Labels
+pub mod Lettered
+pub mod LetteredDeclarations
+pub mod LetteredExpressions
+pub mod LetteredStatements
 pub mod Pieces
 pub mod RoundTrip
 pub mod Standing

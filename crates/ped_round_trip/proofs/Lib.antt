@@ -10,6 +10,9 @@ pub mod Forms
 pub mod Items
 pub mod Labels
 pub mod Pieces
+pub mod Sources
+pub mod SourcesComments
+pub mod SourcesText
 pub mod Standing
 pub mod Trees
 pub mod WholeForm

@@ -19,7 +19,11 @@ pub mod LetteredDeclarations
 pub mod LetteredExpressions
 pub mod LetteredStatements
 pub mod Pieces
+pub mod PrintedProgram
 pub mod RoundTrip
+pub mod Sources
+pub mod SourcesComments
+pub mod SourcesText
 pub mod Standing
 pub mod Trees
 pub mod WholeForm

@@ -22,7 +22,7 @@ use Rattle.ped_round_trip.proofs.Trees.{Rejecting, AllRejecting}
 use Rattle.ped_round_trip.proofs.WholeForm.{start, whole_form, whole_entries, form_entries, form_tree, form_labelled}
 use Rattle.ped_round_trip.proofs.Fits.{Place, moved, in_if, in_loop, Fits, AllFit, at_body, ProgramFits}
 use Rattle.ped_round_trip.proofs.AcceptedDecls.{whole_accepted}
-use Rattle.ped_round_trip.proofs.Good.{Lettered, AllGood, good_program, parts_fit}
+use Rattle.ped_round_trip.proofs.Good.{TextsFit, AllGood, good_program, parts_fit}
 
 -- rejected names are names
 
@@ -47,7 +47,7 @@ all_read p (noted n ∷ xs) g = all_read (behind_piece p (noted n)) xs g.1
 all_read p (said label depth text i ∷ xs) g = (refl, g.0.2, all_read (behind_piece p (said label depth text i)) xs g.1)
 
 -- the printed text of a program that fits reads as it
-pub reads_again : Lettered → (t : ProgramTree) → ProgramFits t → Reads (program_text t) t
+pub reads_again : TextsFit → (t : ProgramTree) → ProgramFits t → Reads (program_text t) t
 reads_again w t fits =
     let ps = printed_statements t in
     let good = good_program w t fits in

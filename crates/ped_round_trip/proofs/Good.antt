@@ -1,5 +1,5 @@
 -- Each printed piece of a program that fits can be read back.
-use Rattle.std.proofs.Common.{◌≡◌, ℕ, suc, ◌+◌, ◌*◌, ◌<◌, ◌≤◌, List, [], ◌∷◌, ◌++◌, map, length, Option, Some, None, Bool, true, false, refl, sym, ap, ◌∙◌, subst, arith}
+use Rattle.std.proofs.Common.{◌≡◌, ℕ, suc, ◌+◌, ◌*◌, ◌<◌, ◌≤◌, List, [], ◌∷◌, ◌++◌, map, length, None, Bool, true, false, refl, sym, ap, ◌∙◌, subst, arith}
 use Rattle.std.specs.Prelude.{codes, ◌&&◌, nat_lt, nat_le}
 use Rattle.std.specs.List.{AllByRecursion, list_all}
 use Rattle.ped_base.specs.Letters as Letters
@@ -11,15 +11,13 @@ use Rattle.ped_tree.specs.Literals.{decl_has_large_literal}
 use Rattle.ped_tree.specs.Printing.{own_text, private_text, decl_text}
 use Rattle.ped_tree.specs.Items.{Item, declares, keeps_private, end_if, continues, else_line, ends_program}
 use Rattle.ped_tree.specs.StatementForms.{ReadsItem}
-use Rattle.ped_recut.specs.Printed.{PrintedNote, a_comment, a_rejection}
-use Rattle.ped_recut.specs.Fitting.{IsCommentText, IsRejectedName, NoteFits, LabelFits, TextFits}
-use Rattle.ped_recut.specs.Parts.{Part}
+use Rattle.ped_recut.specs.Fitting.{IsRejectedName, NoteFits, LabelFits, TextFits}
 use Rattle.ped_recut.proofs.Grouped.{PartFits, all_joined}
 use Rattle.ped_reprint.specs.Printed.{ReadsOnly, HasShortLabel, first_line_item}
 use Rattle.ped_reprint.proofs.Declarations.{declaration_prints, save_prints}
 use Rattle.ped_reprint.proofs.Statements.{statement_prints, private_prints, words_print}
-use Rattle.ped_round_trip.proofs.Pieces.{Piece, noted, said, bare, label_number, do_piece, continue_piece, private_pieces, rejection_pieces, statement_pieces, statements_pieces, else_pieces, decl_piece, end_piece, program_pieces, part_of}
-use Rattle.ped_round_trip.proofs.Fits.{Place, moved, in_if, in_loop, IsSaid, IsWithin, PrivateFits, KeepsPrivate, LoopFits, Fits, AllFit, IsDeclared, by_text, by_names, DeclarationFits, DeclarationsFit, at_body, ProgramFits}
+use Rattle.ped_round_trip.proofs.Pieces.{Piece, noted, said, bare, do_piece, continue_piece, private_pieces, rejection_pieces, statement_pieces, statements_pieces, else_pieces, decl_piece, end_piece, program_pieces, part_of}
+use Rattle.ped_round_trip.proofs.Fits.{Place, moved, in_if, in_loop, IsSaid, IsWithin, KeepsPrivate, Fits, AllFit, IsDeclared, by_text, by_names, DeclarationFits, DeclarationsFit, at_body, ProgramFits}
 
 -- printed texts have the characters of statements
 pub record TextsFit : Type 0 where
@@ -115,9 +113,10 @@ good_private w p h body depth (x ∷ xs) same fits =
 
 -- the first line of a statement
 good_first : TextsFit → (p : Place) (depth before : ℕ) (s : StmtTree) → p.loops ≡ before → HasShortLabel before s → IsWithin p s → TextFits depth (own_text before s) × ReadsItem (text_of (own_text before s)) (first_line_item before s)
-good_first w p depth before s loops label fits =
-    (w.own before depth s fits.said (subst (λ n. nat_lt 1300 (length (own_text n s)) ≡ false) loops fits.short),
-    reads (own_text before s) (first_line_item before s) (statement_prints fits.said.text fits.said.item s before fits.said.reads.0 fits.said.small fits.said.says label))
+good_first w p depth before s loops label fits = (
+  w.own before depth s fits.said (subst (λ n. nat_lt 1300 (length (own_text n s)) ≡ false) loops fits.short),
+  reads (own_text before s) (first_line_item before s) (statement_prints fits.said.text fits.said.item s before fits.said.reads.0 fits.said.small fits.said.says label),
+)
 
 mutual
   good_stmt : TextsFit → (p : Place) (depth before : ℕ) (s : StmtTree) → p.loops ≡ before → p.loops ≤ p.statements → Fits p s → AllGood (statement_pieces depth before s)
@@ -155,11 +154,12 @@ mutual
 
   good_else : TextsFit → (p : Place) (depth before : ℕ) (s : StmtTrees) → p.loops ≡ before → p.loops ≤ p.statements → AllFit p s → AllGood (else_pieces depth before s)
   good_else w p depth before no_stmts loops few fits = tt
-  good_else w p depth before (more_stmts s rest) loops few fits =
-      ((tt, w.of_else depth, reads (codes "ELSE") else_line words_print.of_else),
-      all_joined Good (statement_pieces (suc depth) before s) (statements_pieces (suc depth) (before + loop_count s) rest)
-      (good_stmt w p (suc depth) before s loops few fits.0)
-      (good_stmts w (moved p (statement_count s) (loop_count s)) (suc depth) (before + loop_count s) rest (ap (λ n. n + loop_count s) loops) (both p.loops (loop_count s) p.statements (statement_count s) few (fewer_loops s)) fits.1))
+  good_else w p depth before (more_stmts s rest) loops few fits = (
+    (tt, w.of_else depth, reads (codes "ELSE") else_line words_print.of_else),
+    all_joined Good (statement_pieces (suc depth) before s) (statements_pieces (suc depth) (before + loop_count s) rest)
+        (good_stmt w p (suc depth) before s loops few fits.0)
+        (good_stmts w (moved p (statement_count s) (loop_count s)) (suc depth) (before + loop_count s) rest (ap (λ n. n + loop_count s) loops) (both p.loops (loop_count s) p.statements (statement_count s) few (fewer_loops s)) fits.1),
+  )
 
 -- declarations
 

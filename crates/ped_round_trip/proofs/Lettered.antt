@@ -1,5 +1,5 @@
 -- Texts whose characters may all stand outside constants, or whose constants are closed.
-use Rattle.std.proofs.Common.{◌≡◌, ℕ, zero, suc, ◌+◌, ◌*◌, ◌%◌, ◌<◌, ◌≤◌, inl, inr, Bool, true, false, cond, List, [], ◌∷◌, ◌++◌, map, length, min, refl, sym, ap, ◌∙◌, append_assoc, length-append, eqb, leb, ltb, arith}
+use Rattle.std.proofs.Common.{◌≡◌, ℕ, zero, suc, ◌+◌, ◌*◌, ◌%◌, ◌<◌, inl, inr, Bool, true, false, cond, List, [], ◌∷◌, ◌++◌, map, length, min, refl, sym, ap, ◌∙◌, append_assoc, length-append, eqb, leb, arith}
 use Rattle.std.specs.Prelude.{◌/◌, not, ◌&&◌, ◌||◌, ◌==◌, if◌then◌else◌, nat_lt, codes}
 use Rattle.std.specs.List.{list_all, list_any, flat_map, join_by}
 use Rattle.std.specs.Fmt.{decimal, digits, digits_onto, digit_glyph}
@@ -8,7 +8,7 @@ use Rattle.std.proofs.lemmas.Bool.{cond_both, not-true, not_from_false, ne_eqb, 
 use Rattle.std.proofs.lemmas.List.{append-nil, length-replicate}
 use Rattle.std.proofs.lemmas.List.Folds.{list_all-append}
 use Rattle.ped_base.specs.Letters
-use Rattle.ped_tree.specs.Columns.{is_digit, is_blank}
+use Rattle.ped_tree.specs.Columns.{is_digit}
 use Rattle.ped_tree.specs.Characters.{is_letter, is_character, is_printable, is_quoted, is_bad, has_bad}
 use Rattle.ped_tree.specs.Words.{is_name}
 use Rattle.ped_tree.specs.Printing.{blanks, doubled, constant_text}
@@ -111,9 +111,9 @@ onto_plain (suc k) n acc h =
     let more = and_from (is_plain d) (list_all is_plain acc) (glyph_plain (n % 10) (mod-lt n some)) h in
     either (n / 10 == 0) (d ∷ acc) (digits_onto k 10 false (n / 10) (d ∷ acc)) more (onto_plain k (n / 10) (d ∷ acc) more)
   where
-  either : (b : Bool) (xs ys : List ℕ) → list_all is_plain xs ≡ true → list_all is_plain ys ≡ true → list_all is_plain (if b then xs else ys) ≡ true
-  either true xs ys p q = p
-  either false xs ys p q = q
+    either : (b : Bool) (xs ys : List ℕ) → list_all is_plain xs ≡ true → list_all is_plain ys ≡ true → list_all is_plain (if b then xs else ys) ≡ true
+    either true xs ys p q = p
+    either false xs ys p q = q
 
 pub decimal_passes : (n : ℕ) → Lettered (decimal n)
 unfolding digits

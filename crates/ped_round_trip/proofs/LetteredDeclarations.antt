@@ -1,9 +1,9 @@
 -- Printed declarations and PRIVATE statements can be cut into lines and read back.
-use Rattle.std.proofs.Common.{◌≡◌, ℕ, true, false, cond, List, [], ◌∷◌, ◌++◌, map, length, refl, sym, ap, subst, ◌∙◌}
+use Rattle.std.proofs.Common.{◌≡◌, ℕ, true, false, List, [], ◌∷◌, ◌++◌, length, refl, sym, subst}
 use Rattle.std.specs.Prelude.{codes, nat_lt}
-use Rattle.std.specs.List.{list_all, flat_map, join_by}
+use Rattle.std.specs.List.{list_all, flat_map}
 use Rattle.std.proofs.lemmas.Bool.{cond_both, and_parts}
-use Rattle.ped_tree.specs.Tree.{DeclTree, Program, Implicit, Integer, Dimension, Parameter, Save, Remark}
+use Rattle.ped_tree.specs.Tree.{DeclTree, Save}
 use Rattle.ped_tree.specs.References.{has_some}
 use Rattle.ped_tree.specs.Words.{is_name}
 use Rattle.ped_tree.specs.Printing.{value_text, is_one, names_text, private_text, bound_text, declarator_text, parameter_text, decl_text}
@@ -12,7 +12,7 @@ use Rattle.ped_tree.specs.Items.{Item, declares, keeps_private}
 use Rattle.ped_tree.specs.StatementForms.{BoundForm, upper_bound, both_bounds, ArrayForm, an_array, DeclaratorForm, a_scalar, of_array, ConstantForm, a_constant, bound_form_tree, array_form_tree, declarator_form_tree, constant_form_tree, are_names, StatementForm, program, implicit, integer, dimension, parameter, save, save_all, simple, if_simple, if_then, else_if_then, else_alone, end_of_if, do_loop, private, end, SimpleForm, assignment, print, read, stop, continue, statement_item, ReadsItem}
 use Rattle.ped_recut.specs.Fitting.{TextFits}
 use Rattle.ped_round_trip.proofs.Fits.{IsDeclared, by_text, by_names}
-use Rattle.ped_round_trip.proofs.Lettered.{Lettered, joined, nothing, words, name_passes, further, listed, Written, written, followed, fits}
+use Rattle.ped_round_trip.proofs.Lettered.{Lettered, joined, nothing, words, name_passes, listed, Written, written, followed, fits}
 use Rattle.ped_round_trip.proofs.LetteredExpressions.{value_passes}
 
 comma : Lettered (codes ",")

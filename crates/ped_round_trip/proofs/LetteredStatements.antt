@@ -1,9 +1,9 @@
 -- The first printed lines of statements can be cut into lines and read back.
-use Rattle.std.proofs.Common.{◌≡◌, ℕ, ◌+◌, ◌*◌, Bool, true, false, cond, List, [], ◌∷◌, ◌++◌, map, length, Option, Some, None, refl, sym, ap, subst, ◌∙◌}
+use Rattle.std.proofs.Common.{◌≡◌, ℕ, ◌+◌, ◌*◌, Bool, true, false, List, [], ◌∷◌, ◌++◌, map, length, Option, Some, None, refl, sym, ap, subst, ◌∙◌}
 use Rattle.std.specs.Prelude.{codes, nat_lt}
 use Rattle.std.specs.List.{list_all, flat_map}
 use Rattle.std.proofs.lemmas.Bool.{cond_both}
-use Rattle.ped_tree.specs.Tree.{CondTree, Head, StmtTree, StmtTrees, Assign, If, Print, Read, Stop, no_stmts, more_stmts}
+use Rattle.ped_tree.specs.Tree.{CondTree, Head, StmtTree, StmtTrees, Assign, Print, Read, Stop, no_stmts, more_stmts}
 use Rattle.ped_tree.specs.Characters.{is_printable}
 use Rattle.ped_tree.specs.Printing.{value_text, whole, cond_text, is_one, item_text, label_text, step_text, do_word, do_text, own_text}
 use Rattle.ped_tree.specs.ExpressionForms.{ExprForm, expr_form_tree, ReferenceForm, reference_form_tree}

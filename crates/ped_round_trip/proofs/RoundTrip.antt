@@ -1,5 +1,5 @@
 -- A program that fits is read from its printed text.
-use Rattle.std.proofs.Common.{◌≡◌, ℕ, List, [], ◌∷◌, ◌++◌, map, length, Option, Some, None, Bool, true, false, refl, sym, ap, ◌∙◌, subst}
+use Rattle.std.proofs.Common.{◌≡◌, List, [], ◌∷◌, map, None, refl, sym, ap, ◌∙◌, subst}
 use Rattle.std.specs.List.{AllByRecursion}
 use Rattle.ped_tree.specs.Tree.{StmtTree, StmtTrees, Assign, If, Do, Print, Read, Stop, Comment, no_stmts, more_stmts, ProgramTree}
 use Rattle.ped_tree.specs.Printing.{program_text}
@@ -8,19 +8,18 @@ use Rattle.ped_tree.specs.Grouping.{statements_of}
 use Rattle.ped_tree.specs.LineRefusals.{first_line_refusal}
 use Rattle.ped_tree.specs.Items.{Entry}
 use Rattle.ped_tree.specs.Occurrences.{saved_names}
-use Rattle.ped_tree.specs.Reading.{IsReading, AreEntries, IsCutInto, Reads}
+use Rattle.ped_tree.specs.Reading.{AreEntries, Reads}
 use Rattle.ped_recut.specs.Parts.{Part, program_parts, with_notes, printed_statements}
-use Rattle.ped_recut.specs.Printed.{printed_text}
 use Rattle.ped_recut.specs.Fitting.{StatementsFit}
 use Rattle.ped_recut.specs.Cut.{cut, cut_from}
 use Rattle.ped_recut.proofs.Grouped as Grouped
 use Rattle.ped_recut.proofs.Grouped.{PartFits}
 use Rattle.ped_recut.proofs.Whole.{not_refused, are_cut}
 use Rattle.ped_recut.proofs.Bridge.{printed_program}
-use Rattle.ped_round_trip.proofs.Pieces.{Piece, noted, said, program_pieces, part_of, program_parts_of, Spot, behind_piece, entries_here, cut_here}
+use Rattle.ped_round_trip.proofs.Pieces.{Piece, noted, said, program_pieces, program_parts_of, Spot, behind_piece, entries_here, cut_here}
 use Rattle.ped_round_trip.proofs.Trees.{Rejecting, AllRejecting}
 use Rattle.ped_round_trip.proofs.WholeForm.{start, whole_form, whole_entries, form_entries, form_tree, form_labelled}
-use Rattle.ped_round_trip.proofs.Fits.{Place, moved, in_if, in_loop, Fits, AllFit, at_body, ProgramFits}
+use Rattle.ped_round_trip.proofs.Fits.{Place, Fits, AllFit, at_body, ProgramFits}
 use Rattle.ped_round_trip.proofs.AcceptedDecls.{whole_accepted}
 use Rattle.ped_round_trip.proofs.Good.{TextsFit, AllGood, good_program, parts_fit}
 
@@ -58,7 +57,7 @@ reads_again w t fits =
     let whole : statements_of (program_text t) ≡ cut ps = ap statements_of same ∙ are_cut ps fit in
     let es = whole_entries t in
     let statements : map (λ (e : Entry). e.statement) es ≡ (statements_of (program_text t)).statements =
-        cut_here start (program_pieces t) ∙ ap (λ (xs : List Part). cut_from 1 (with_notes [] xs)) (program_parts_of t) ∙ sym (ap (λ (s : Statements). s.statements) whole) in
+    cut_here start (program_pieces t) ∙ ap (λ (xs : List Part). cut_from 1 (with_notes [] xs)) (program_parts_of t) ∙ sym (ap (λ (s : Statements). s.statements) whole) in
     let readings : AreEntries (statements_of (program_text t)).statements es = subst (λ (ss : List Statement). AreEntries ss es) statements (all_read start (program_pieces t) good) in
     record {
       entries = es;

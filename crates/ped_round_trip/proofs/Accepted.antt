@@ -1,22 +1,20 @@
 -- The statements of a printed program are accepted one behind the other.
-use Rattle.std.proofs.Common.{◌≡◌, ℕ, suc, ◌+◌, ◌*◌, ◌<◌, ◌≤◌, List, [], ◌∷◌, ◌++◌, map, max, length, Option, Some, None, Bool, true, false, cond, refl, sym, ap, ◌∙◌, append_assoc, append-nil, subst, arith, eqb, eqb-true}
-use Rattle.std.specs.Prelude.{codes, not, ◌&&◌, ◌||◌, ◌==◌, nat_lt, nat_le}
-use Rattle.std.specs.List.{list_any, list_all, flat_map}
+use Rattle.std.proofs.Common.{◌≡◌, ℕ, suc, ◌+◌, ◌*◌, ◌<◌, List, [], ◌∷◌, ◌++◌, map, length, None, true, false, refl, sym, ap, ◌∙◌, append_assoc, append-nil, subst, arith}
+use Rattle.std.specs.Prelude.{codes, not, ◌||◌, nat_lt}
 use Rattle.ped_tree.specs.Tree.{CondTree, Head, StmtTree, StmtTrees, Assign, If, Do, Print, Read, Stop, Comment, no_stmts, more_stmts}
 use Rattle.ped_tree.specs.Numbering.{statement_count, statements_count, loop_count, loops_count}
 use Rattle.ped_tree.specs.Printing.{own_text, private_text}
-use Rattle.ped_tree.specs.Items.{Item, does, continues, block_if, else_line, end_if, begins_do, keeps_private, says, Entry}
-use Rattle.ped_tree.specs.Contexts.{Block, in_then, in_else, in_do, Context, is_do, behind}
-use Rattle.ped_tree.specs.Occurrences.{of_reading, do_variables}
-use Rattle.ped_tree.specs.BlockForms.{entry, whole_head}
-use Rattle.ped_tree.specs.ProgramRefusals.{breaks_syntax, is_late_private, has_do, open_variables, private_in, inner_variables, meets, assigns_index, private_behind, block_depth, is_too_long, at_statement}
-use Rattle.ped_recut.specs.Printed.{PrintedNote, a_rejection}
-use Rattle.ped_round_trip.proofs.Pieces.{Piece, bare, label_number, do_piece, continue_piece, private_pieces, rejection_pieces, statement_pieces, statements_pieces, else_pieces, Spot, spot, statement_here, behind_piece, behind_pieces, entry_here, entries_here, behind_both, entries_both}
+use Rattle.ped_tree.specs.Items.{block_if, else_line, end_if, keeps_private, Entry}
+use Rattle.ped_tree.specs.Contexts.{Block, in_then, in_else, in_do, Context, behind}
+use Rattle.ped_tree.specs.BlockForms.{entry}
+use Rattle.ped_tree.specs.ProgramRefusals.{is_late_private, has_do, open_variables, inner_variables, meets, assigns_index, private_behind, block_depth, is_too_long}
+use Rattle.ped_recut.specs.Printed.{a_rejection}
+use Rattle.ped_round_trip.proofs.Pieces.{Piece, bare, label_number, do_piece, continue_piece, private_pieces, rejection_pieces, statement_pieces, statements_pieces, else_pieces, Spot, statement_here, behind_pieces, entry_here, entries_here, behind_both, entries_both}
 use Rattle.ped_round_trip.proofs.Forms.{then_spot, rest_spot, else_spot, do_spot, private_spot, inner_spot, end_spot, rejections_none}
-use Rattle.ped_round_trip.proofs.Trees.{rejections, notes_are, notes_rejected, only_behind, notes_after}
-use Rattle.ped_round_trip.proofs.Fits.{Place, moved, in_if, in_loop, SimpleFits, BranchFits, LoopFits, PrivateFits, KeepsPrivate, loop_variables, all_loop_variables, Fits, AllFit}
-use Rattle.ped_round_trip.proofs.Standing.{Stands, early, in_order, passes_all, undirected, inner_closed, Passed, pass_none, pass_one, pass_both}
-use Rattle.ped_round_trip.proofs.Items.{small_first, in_place, within_limit, or_none, next_stands, pass_simple, pass_if, pass_else, IsIf, then_part, else_part, pass_end_if, pass_do, pass_continue}
+use Rattle.ped_round_trip.proofs.Trees.{rejections, notes_rejected, only_behind}
+use Rattle.ped_round_trip.proofs.Fits.{Place, moved, in_if, in_loop, BranchFits, LoopFits, KeepsPrivate, loop_variables, all_loop_variables, Fits, AllFit}
+use Rattle.ped_round_trip.proofs.Standing.{Stands, passes_all, undirected, inner_closed, Passed, pass_none, pass_one, pass_both}
+use Rattle.ped_round_trip.proofs.Items.{small_first, in_place, within_limit, or_none, next_stands, pass_simple, pass_if, pass_else, then_part, else_part, pass_end_if, pass_do, pass_continue}
 
 -- places that are the same by their numbers
 same_place : (p : Place) (n m k l : ℕ) → p.statements + n ≡ k → p.loops + m ≡ l → moved p n m ≡ (record p { statements = k; loops = l })
@@ -82,8 +80,8 @@ private_next depth q (x ∷ xs) more h = refl
 inside_more : (l : ℕ) (v : List ℕ) (bs : List Block) (d : ℕ) → d ≡ length (in_do l v ∷ bs) → nat_lt (length bs) d ≡ true
 inside_more l v bs d h = ap (nat_lt (length bs)) h ∙ under (length bs)
   where
-  under : (n : ℕ) → nat_lt n (suc n) ≡ true
-  under n = grind arith
+    under : (n : ℕ) → nat_lt n (suc n) ≡ true
+    under n = grind arith
 
 at_level : (n : ℕ) → nat_lt n n ≡ false
 at_level n = grind arith
@@ -127,8 +125,8 @@ pass_rest saved c p n m depth before t no_stmts bs rest at inside variables dept
     at_place (same_place p n m (p.statements + (n + 0)) (p.loops + (m + 0)) (none_more p.statements n) (none_more p.loops m))
     (pass_end_if saved c p n m t depth (codes "END IF") (in_then 1) bs rest at (then_part refl) inside variables depths only)
   where
-  none_more : (a b : ℕ) → a + b ≡ a + (b + 0)
-  none_more a b = omega arith
+    none_more : (a b : ℕ) → a + b ≡ a + (b + 0)
+    none_more a b = omega arith
 pass_rest saved c p n m depth before t (more_stmts s r) bs rest at inside variables depths only run =
     let u = else_spot depth t in
     let xs = statements_pieces (suc depth) before (more_stmts s r) in
@@ -144,9 +142,9 @@ pass_rest saved c p n m depth before t (more_stmts s r) bs rest at inside variab
     let inner2 = at_place there inner in
     let ending = pass_end_if saved inner2.after p (n + k) (m + l) w depth (codes "END IF") (in_else 1) bs rest inner2.position (else_part refl) inner2.blocks variables depths (only_all (suc depth) before u (more_stmts s r) refl) in
     let both = pass_both saved first.after (in_if p (n + k) (m + l)) (moved p (n + k) (m + l)) (in_else 1 ∷ bs) bs (all_loop_variables (more_stmts s r)) [] es fs rest
-        (λ d h. subst (λ (zs : List Block). nat_lt (length zs) d ≡ false) first.blocks h) inner2 ending in
+    (λ d h. subst (λ (zs : List Block). nat_lt (length zs) d ≡ false) first.blocks h) inner2 ending in
     let all = pass_both saved c (in_if p n m) (moved p (n + k) (m + l)) (in_else 1 ∷ bs) bs [] (all_loop_variables (more_stmts s r) ++ []) (entry_here t (bare depth (codes "ELSE") else_line)) (es ++ fs) rest
-        (λ d h. subst (λ (zs : List Block). nat_lt (length zs) d ≡ false) inside h) first both in
+    (λ d h. subst (λ (zs : List Block). nat_lt (length zs) d ≡ false) inside h) first both in
     with_variables (append-nil (all_loop_variables (more_stmts s r)))
     (over_entries (ap (λ (gs : List Entry). entry_here t (bare depth (codes "ELSE") else_line) ++ gs) (sym (entries_both u xs last))) all)
 
@@ -171,9 +169,9 @@ pass_branch saved c p depth before q k a b rest at fits only run_a run_b =
     let inner2 = at_place there inner in
     let last = pass_rest saved inner2.after p (1 + n) m depth (before + m) t b c.blocks rest inner2.position inner2.blocks at.variables at.depth (only_all (suc depth) before r a refl) run_b in
     let both = pass_both saved first.after (in_if p (1 + n) m) (moved p (1 + n + statements_count b) (m + loops_count b)) (in_then 1 ∷ c.blocks) c.blocks (all_loop_variables a) (all_loop_variables b) es fs rest
-        (λ d h. subst (λ (zs : List Block). nat_lt (length zs) d ≡ false) first.blocks h) inner2 last in
+    (λ d h. subst (λ (zs : List Block). nat_lt (length zs) d ≡ false) first.blocks h) inner2 last in
     let all = pass_both saved c (in_if p 1 0) (moved p (1 + n + statements_count b) (m + loops_count b)) (in_then 1 ∷ c.blocks) c.blocks [] (all_loop_variables a ++ all_loop_variables b)
-        (entry_here q (bare depth (own_text before (If k a b)) (block_if k))) (es ++ fs) rest (λ d h. deeper (length c.blocks) d h) first both in
+    (entry_here q (bare depth (own_text before (If k a b)) (block_if k))) (es ++ fs) rest (λ d h. deeper (length c.blocks) d h) first both in
     over_entries (ap (λ (gs : List Entry). entry_here q (bare depth (own_text before (If k a b)) (block_if k)) ++ gs) (sym (entries_both r xs ys)))
     (at_place (same_place p (1 + n + statements_count b) (m + loops_count b) (p.statements + (n + statements_count b + 1)) (p.loops + (m + loops_count b)) (turned p.statements n (statements_count b)) refl) all)
 
@@ -213,21 +211,21 @@ pass_loop saved c p depth before q h body rest at loops only fits run =
     let clear_t : rejections t.notes ≡ [] = only_all (suc depth) (before + 1) s body clear_s in
     let notes : q1.notes ≡ q.notes ++ map a_rejection h.rejected = ap (λ (z : Spot). z.notes) (notes_rejected q h.rejected) in
     let private : private_behind (ep ++ (eb ++ ec) ++ rest) ≡ h.private =
-        ap private_behind (append_assoc ep (eb ++ ec) rest)
-        ∙ private_next (suc depth) r h.private (eb ++ ec ++ rest) (ap private_behind (append_assoc eb ec rest) ∙ none_private (suc depth) (before + 1) s body (ec ++ rest) refl) in
+    ap private_behind (append_assoc ep (eb ++ ec) rest)
+    ∙ private_next (suc depth) r h.private (eb ++ ec ++ rest) (ap private_behind (append_assoc eb ec rest) ∙ none_private (suc depth) (before + 1) s body (ec ++ rest) refl) in
     let started = pass_do saved c p before q1 q.notes depth (own_text before (Do h body)) h body (ep ++ (eb ++ ec) ++ rest) at loops fits notes only private in
     let first = started.0 in
     let ending = λ (d : Context) (x : Stands (moved place n m) d) (y : d.blocks ≡ inside).
-        pass_continue saved d (moved place n m) end_place l h.variable bs t depth (codes "CONTINUE") rest x y apart refl at.variables at.depth (one_last p.statements n) (one_last p.loops m) (λ k z. at.fresh k (further p.loops m k z)) clear_t in
+    pass_continue saved d (moved place n m) end_place l h.variable bs t depth (codes "CONTINUE") rest x y apart refl at.variables at.depth (one_last p.statements n) (one_last p.loops m) (λ k z. at.fresh k (further p.loops m k z)) clear_t in
     let others : (d : Context) → Stands place d → d.blocks ≡ first.after.blocks → inner_variables (length first.after.blocks) d (eb ++ ec ++ rest) ≡ vars = λ d x y.
-        (let level = length first.after.blocks in
-        let go = run d s (ec ++ rest) x clear_s in
-        let z = ending go.after go.position (go.blocks ∙ y ∙ first.blocks) in
-        let same : (e : Context) → e.blocks ≡ first.after.blocks → nat_lt (length e.blocks) level ≡ false = λ e w. ap (λ (zs : List Block). nat_lt (length zs) level) w ∙ at_level level in
-        ap (λ (gs : List Entry). inner_variables level d gs) (append_assoc eb ec rest)
-        ∙ go.inner level (same d y)
-        ∙ ap (λ (ys : List (List ℕ)). vars ++ ys) (z.inner level (same go.after (go.blocks ∙ y)) ∙ inner_closed level z.after rest (ap (λ (zs : List Block). nat_lt (length zs) level) z.blocks ∙ inside_more l h.variable bs level (ap (λ (zs : List Block). length zs) first.blocks)))
-        ∙ append-nil vars) in
+    (let level = length first.after.blocks in
+    let go = run d s (ec ++ rest) x clear_s in
+    let z = ending go.after go.position (go.blocks ∙ y ∙ first.blocks) in
+    let same : (e : Context) → e.blocks ≡ first.after.blocks → nat_lt (length e.blocks) level ≡ false = λ e w. ap (λ (zs : List Block). nat_lt (length zs) level) w ∙ at_level level in
+    ap (λ (gs : List Entry). inner_variables level d gs) (append_assoc eb ec rest)
+    ∙ go.inner level (same d y)
+    ∙ ap (λ (ys : List (List ℕ)). vars ++ ys) (z.inner level (same go.after (go.blocks ∙ y)) ∙ inner_closed level z.after rest (ap (λ (zs : List Block). nat_lt (length zs) level) z.blocks ∙ inside_more l h.variable bs level (ap (λ (zs : List Block). length zs) first.blocks)))
+    ∙ append-nil vars) in
     let second = with_blocks first.blocks (pass_private saved first.after p h body l bs r (suc depth) h.private (eb ++ ec ++ rest) refl first.position first.blocks started.1 fits.private refl fits.within.few others) in
     let third = with_blocks second.blocks (run second.after s (ec ++ rest) second.position clear_s) in
     let fourth = ending third.after third.position third.blocks in
@@ -235,14 +233,14 @@ pass_loop saved c p depth before q h body rest at loops only fits run =
     let more = pass_both saved first.after place end_place inside bs [] (vars ++ []) ep (eb ++ ec) rest (λ d k. subst (λ (zs : List Block). nat_lt (length zs) d ≡ false) first.blocks k) second inner in
     let all = pass_both saved c place end_place inside bs (h.variable ∷ []) (vars ++ []) (entry_here q1 (do_piece depth before h body)) (ep ++ (eb ++ ec)) rest (λ d k. deeper (length bs) d k) first more in
     let pieces : entries_here q (statement_pieces depth before (Do h body)) ≡ entry_here q1 (do_piece depth before h body) ++ (ep ++ (eb ++ ec)) =
-        entries_both q (rejection_pieces h.rejected) (do_piece depth before h body ∷ (ps ++ (xs ++ last)))
-        ∙ ap (λ (gs : List Entry). gs ++ entries_here q1 (do_piece depth before h body ∷ (ps ++ (xs ++ last)))) (rejections_none q h.rejected)
-        ∙ ap (λ (gs : List Entry). entry_here q1 (do_piece depth before h body) ++ gs) (entries_both r ps (xs ++ last) ∙ ap (λ (gs : List Entry). ep ++ gs) (entries_both s xs last)) in
+    entries_both q (rejection_pieces h.rejected) (do_piece depth before h body ∷ (ps ++ (xs ++ last)))
+    ∙ ap (λ (gs : List Entry). gs ++ entries_here q1 (do_piece depth before h body ∷ (ps ++ (xs ++ last)))) (rejections_none q h.rejected)
+    ∙ ap (λ (gs : List Entry). entry_here q1 (do_piece depth before h body) ++ gs) (entries_both r ps (xs ++ last) ∙ ap (λ (gs : List Entry). ep ++ gs) (entries_both s xs last)) in
     over_entries (sym pieces) (with_variables (ap (λ (ys : List (List ℕ)). h.variable ∷ ys) (append-nil vars)) all)
   where
-  private_only : (r : Spot) (depth : ℕ) (names : List (List ℕ)) → r.notes ≡ [] → rejections (behind_pieces r (private_pieces depth names)).notes ≡ []
-  private_only r depth [] h = ap rejections h
-  private_only r depth (x ∷ xs) h = refl
+    private_only : (r : Spot) (depth : ℕ) (names : List (List ℕ)) → r.notes ≡ [] → rejections (behind_pieces r (private_pieces depth names)).notes ≡ []
+    private_only r depth [] h = ap rejections h
+    private_only r depth (x ∷ xs) h = refl
 
 mutual
   pub pass_stmt : (saved : List (List ℕ)) (c : Context) (p : Place) (depth before : ℕ) (q : Spot) (s : StmtTree) (rest : List Entry) → Stands p c → p.loops ≡ before → rejections q.notes ≡ [] → Fits p s

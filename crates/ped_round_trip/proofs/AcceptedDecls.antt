@@ -1,23 +1,22 @@
 -- The declarations of a printed program are accepted one behind the other, and so is the whole program.
-use Rattle.std.proofs.Common.{◌≡◌, ℕ, suc, ◌+◌, ◌*◌, ◌<◌, ◌≤◌, List, [], ◌∷◌, ◌++◌, map, max, length, Option, Some, None, Bool, true, false, cond, refl, sym, ap, ◌∙◌, append_assoc, append-nil, subst, arith}
+use Rattle.std.proofs.Common.{◌≡◌, ℕ, ◌+◌, List, [], ◌∷◌, ◌++◌, map, max, None, Bool, true, false, refl, sym, ap, ◌∙◌, append_assoc, append-nil, subst, arith}
 use Rattle.std.specs.Prelude.{codes, not, ◌&&◌, ◌||◌, nat_lt, nat_le}
-use Rattle.std.specs.List.{list_any, flat_map}
+use Rattle.std.specs.List.{flat_map}
 use Rattle.ped_tree.specs.Tree.{DeclTree, Program, Implicit, Integer, Dimension, Parameter, Save, Remark, ProgramTree}
 use Rattle.ped_tree.specs.References.{constants_in, has_some}
-use Rattle.ped_tree.specs.Literals.{decl_has_large_literal}
 use Rattle.ped_tree.specs.Printing.{decl_text}
 use Rattle.ped_tree.specs.Refusal.{Finding, Syntax, OpenBlock, stands, first_of}
-use Rattle.ped_tree.specs.Statement.{Note, Statement, Statements}
-use Rattle.ped_tree.specs.Items.{Item, declares, ends_program, says, Entry}
+use Rattle.ped_tree.specs.Statement.{Note, Statements}
+use Rattle.ped_tree.specs.Items.{declares, ends_program, says, Entry}
 use Rattle.ped_tree.specs.Occurrences.{saved_names}
 use Rattle.ped_tree.specs.Contexts.{Block, Context, at_start, decl_rank, is_save, behind, behind_all}
 use Rattle.ped_tree.specs.BlockForms.{entry}
-use Rattle.ped_tree.specs.ProgramRefusals.{is_out_of_order, is_misplaced, is_behind_end, breaks_syntax, leaves_open, has_do, open_variables, block_depth, has_eight_dimensions, is_too_large, is_too_long, at_statement, at_statements, at_end, program_refusals}
-use Rattle.ped_round_trip.proofs.Pieces.{Piece, bare, decl_piece, end_piece, statements_pieces, program_pieces, Spot, spot, statement_here, behind_piece, behind_pieces, entry_here, entries_here, behind_both, entries_both}
+use Rattle.ped_tree.specs.ProgramRefusals.{is_out_of_order, is_behind_end, breaks_syntax, leaves_open, has_do, open_variables, block_depth, is_too_large, is_too_long, at_statement, at_statements, at_end, program_refusals}
+use Rattle.ped_round_trip.proofs.Pieces.{decl_piece, end_piece, statements_pieces, Spot, statement_here, behind_piece, entry_here, entries_here, behind_both, entries_both}
 use Rattle.ped_round_trip.proofs.Trees.{rejections}
 use Rattle.ped_round_trip.proofs.WholeForm.{start, body_spot, ending_spot, whole_entries, decls_only}
-use Rattle.ped_round_trip.proofs.Fits.{Place, moved, AllFit, DeclarationFits, DeclarationsFit, constants_of_all, at_body, ProgramFits}
-use Rattle.ped_round_trip.proofs.Standing.{Stands, early, in_order, passes_all, undirected, Passed}
+use Rattle.ped_round_trip.proofs.Fits.{Place, DeclarationFits, DeclarationsFit, constants_of_all, at_body, ProgramFits}
+use Rattle.ped_round_trip.proofs.Standing.{Stands, early, passes_all, undirected}
 use Rattle.ped_round_trip.proofs.Items.{within_limit, or_none}
 use Rattle.ped_round_trip.proofs.Accepted.{pass_stmts, only_all}
 
@@ -87,7 +86,6 @@ second_high phase h = grind arith
 
 third_high : (phase : ℕ) → nat_lt 3 phase ≡ false → max phase 3 ≡ 3
 third_high phase h = grind arith
-
 
 -- a declaration, and those behind it as a function of what is open there
 step : (saved ks : List (List ℕ)) (phase : ℕ) (c : Context) (q : Spot) (d : DeclTree) (ds : List DeclTree) (rest : List Entry)
@@ -203,18 +201,18 @@ whole_accepted t all fits none =
     let ok = end_passes saved second.after _ q second.position (second.blocks ∙ first.position.blocks) (only_all 0 0 p t.body clear) in
     let third : at_statements saved second.after (e ∷ []) ≡ [] = ap (λ (fs : List Finding). fs ++ []) ok in
     let entries : whole_entries t ≡ ed ++ es ++ last =
-        entries_both start (ds ++ ss) (end_piece ∷ [])
-        ∙ (λ i. entries_both start ds ss i ++ entries_here (behind_both start ds ss i) (end_piece ∷ [])) in
+    entries_both start (ds ++ ss) (end_piece ∷ [])
+    ∙ (λ i. entries_both start ds ss i ++ entries_here (behind_both start ds ss i) (end_piece ∷ [])) in
     let statements : at_statements saved at_start (whole_entries t) ≡ [] =
-        ap (λ (xs : List Entry). at_statements saved at_start xs) (entries ∙ append_assoc ed es last)
-        ∙ ap (λ (xs : List Entry). at_statements saved at_start xs) (sym (append-nil (ed ++ (es ++ last))) ∙ append_assoc ed (es ++ last) [])
-        ∙ first.accepted ∙ ap (λ (xs : List Entry). at_statements saved first.after xs) (append_assoc es last []) ∙ second.accepted ∙ third in
+    ap (λ (xs : List Entry). at_statements saved at_start xs) (entries ∙ append_assoc ed es last)
+    ∙ ap (λ (xs : List Entry). at_statements saved at_start xs) (sym (append-nil (ed ++ (es ++ last))) ∙ append_assoc ed (es ++ last) [])
+    ∙ first.accepted ∙ ap (λ (xs : List Entry). at_statements saved first.after xs) (append_assoc es last []) ∙ second.accepted ∙ third in
     let ended : is_behind_end (behind_all at_start (whole_entries t)) ≡ true =
-        ap (λ (xs : List Entry). is_behind_end (behind_all at_start xs)) entries
-        ∙ ap is_behind_end (behind_last at_start (ed ++ es) e)
-        ∙ past_end (behind_all at_start (ed ++ es)).phase in
+    ap (λ (xs : List Entry). is_behind_end (behind_all at_start xs)) entries
+    ∙ ap is_behind_end (behind_last at_start (ed ++ es) e)
+    ∙ past_end (behind_all at_start (ed ++ es)).phase in
     let ending : at_end (behind_all at_start (whole_entries t)) all ≡ [] =
-        (let a = stands_not all.lines (is_behind_end (behind_all at_start (whole_entries t))) ended in
-        let b = ap (λ (ns : List Note). flat_map (λ (d : Note). stands true Syntax d.line) ns) none in
-        λ i. a i ++ b i) in
+    (let a = stands_not all.lines (is_behind_end (behind_all at_start (whole_entries t))) ended in
+    let b = ap (λ (ns : List Note). flat_map (λ (d : Note). stands true Syntax d.line) ns) none in
+    λ i. a i ++ b i) in
     (λ i. first_of (statements i ++ ending i))

@@ -1,13 +1,13 @@
 -- What each statement of a program that was read meets, so that its printed text is refused nowhere.
-use Rattle.std.proofs.Common.{◌≡◌, ℕ, ◌+◌, List, [], ◌∷◌, ◌++◌, length, Option, Some, None, Bool, true, false}
+use Rattle.std.proofs.Common.{◌≡◌, ℕ, ◌+◌, List, [], ◌∷◌, ◌++◌, length, true, false}
 use Rattle.std.specs.Prelude.{IsFalse, ◌&&◌, nat_lt, nat_le}
 use Rattle.std.specs.List.{list_all}
-use Rattle.ped_tree.specs.Tree.{ExprTree, CondTree, Head, StmtTree, StmtTrees, Assign, If, Do, Print, Read, Stop, Comment, no_stmts, more_stmts, DeclTree, Program, Implicit, Integer, Dimension, Parameter, Save, Remark, ProgramTree}
+use Rattle.ped_tree.specs.Tree.{Head, StmtTree, StmtTrees, Assign, If, Do, Print, Read, Stop, Comment, no_stmts, more_stmts, DeclTree, Program, Implicit, Integer, Dimension, Parameter, Save, Remark, ProgramTree}
 use Rattle.ped_tree.specs.Words.{is_name}
 use Rattle.ped_tree.specs.Characters.{is_printable}
 use Rattle.ped_tree.specs.Numbering.{statement_count, statements_count, loop_count, loops_count}
 use Rattle.ped_tree.specs.References.{own_accesses, constants_in}
-use Rattle.ped_tree.specs.Printing.{own_text, private_text, decl_text, is_remark}
+use Rattle.ped_tree.specs.Printing.{own_text, private_text, decl_text}
 use Rattle.ped_tree.specs.Items.{Item, declares, keeps_private}
 use Rattle.ped_tree.specs.StatementForms.{are_names, ReadsItem}
 use Rattle.ped_tree.specs.Literals.{decl_has_large_literal}

@@ -1,15 +1,13 @@
 -- The form of a printed program: its statements, as they stand among the pieces, nest to the program's tree.
-use Rattle.std.proofs.Common.{◌≡◌, ℕ, suc, ◌+◌, ◌*◌, ◌≤◌, ◌<◌, List, [], ◌∷◌, ◌++◌, map, length, Option, Some, None, Bool, true, false, refl, sym, ap, ◌∙◌, append_assoc, append-nil, subst}
-use Rattle.std.specs.Prelude.{codes, IsTrue, not, ◌&&◌, ◌==◌}
+use Rattle.std.proofs.Common.{◌≡◌, ℕ, suc, ◌+◌, List, [], ◌∷◌, ◌++◌, Some, None, refl, sym, ap, ◌∙◌, append_assoc, append-nil}
+use Rattle.std.specs.Prelude.{codes}
 use Rattle.ped_tree.specs.Tree.{Head, StmtTree, StmtTrees, Assign, If, Do, Print, Read, Stop, Comment, no_stmts, more_stmts}
-use Rattle.ped_tree.specs.Views.{pack_stmts}
 use Rattle.ped_tree.specs.Numbering.{loop_count, loops_count}
 use Rattle.ped_tree.specs.Printing.{own_text, private_text}
-use Rattle.ped_tree.specs.Statement.{Note, Statement}
-use Rattle.ped_tree.specs.Items.{Item, does, continues, block_if, else_line, end_if, begins_do, keeps_private, Entry}
-use Rattle.ped_tree.specs.BlockForms.{PlainForm, a_simple, a_continue, PrivateForm, no_private, private_list, BodyForm, nothing, and_then, PartForm, a_plain, an_if, a_do, RestForm, ends_if, has_else, LoopForm, loop, EndingForm, at_plain, entry, private_entries, body_entries, part_entries, rest_entries, loop_entries, ending_entries, whole_head}
-use Rattle.ped_recut.specs.Printed.{PrintedNote, a_comment, a_rejection}
-use Rattle.ped_round_trip.proofs.Pieces.{Piece, noted, said, bare, label_number, do_piece, continue_piece, private_pieces, rejection_pieces, statement_pieces, statements_pieces, else_pieces, Spot, spot, statement_here, behind_piece, behind_pieces, entry_here, entries_here, behind_both, entries_both}
+use Rattle.ped_tree.specs.Items.{continues, block_if, else_line, end_if, begins_do, Entry}
+use Rattle.ped_tree.specs.BlockForms.{a_simple, a_continue, PrivateForm, no_private, private_list, BodyForm, nothing, and_then, a_plain, an_if, a_do, RestForm, ends_if, has_else, loop, at_plain, entry, private_entries, body_entries, rest_entries, whole_head}
+use Rattle.ped_recut.specs.Printed.{a_rejection}
+use Rattle.ped_round_trip.proofs.Pieces.{Piece, noted, bare, label_number, do_piece, continue_piece, private_pieces, rejection_pieces, statement_pieces, statements_pieces, else_pieces, Spot, statement_here, behind_piece, behind_pieces, entries_here, behind_both, entries_both}
 
 -- the spots in a block IF: of the THEN part, of what follows it, of the ELSE part
 
@@ -103,14 +101,14 @@ mutual
       let keeps = private_here r (suc depth) h.private in
       let inner = stmts_entries nothing (suc depth) (before + 1) s body in
       let whole : entries_here r (private_pieces (suc depth) h.private ++ ends) ≡ private_entries (private_form r (suc depth) h.private) ++ body_entries (with_stmts nothing (suc depth) (before + 1) s body) ++ last =
-          entries_both r (private_pieces (suc depth) h.private) ends
-          ∙ ap (λ (es : List Entry). entries_here r (private_pieces (suc depth) h.private) ++ es) (entries_both s (statements_pieces (suc depth) (before + 1) body) (continue_piece depth before ∷ []))
-          ∙ (λ i. sym keeps i ++ (sym inner i ++ last))
-          ∙ sym (append_assoc (private_entries (private_form r (suc depth) h.private)) (body_entries (with_stmts nothing (suc depth) (before + 1) s body)) last) in
+      entries_both r (private_pieces (suc depth) h.private) ends
+      ∙ ap (λ (es : List Entry). entries_here r (private_pieces (suc depth) h.private) ++ es) (entries_both s (statements_pieces (suc depth) (before + 1) body) (continue_piece depth before ∷ []))
+      ∙ (λ i. sym keeps i ++ (sym inner i ++ last))
+      ∙ sym (append_assoc (private_entries (private_form r (suc depth) h.private)) (body_entries (with_stmts nothing (suc depth) (before + 1) s body)) last) in
       let all : entries_here p (statement_pieces depth before (Do h body)) ≡ first ∷ (private_entries (private_form r (suc depth) h.private) ++ body_entries (with_stmts nothing (suc depth) (before + 1) s body) ++ last) =
-          entries_both p (rejection_pieces h.rejected) (do_piece depth before h body ∷ (private_pieces (suc depth) h.private ++ ends))
-          ∙ ap (λ (es : List Entry). es ++ first ∷ entries_here r (private_pieces (suc depth) h.private ++ ends)) (rejections_none p h.rejected)
-          ∙ ap (λ (es : List Entry). first ∷ es) whole in
+      entries_both p (rejection_pieces h.rejected) (do_piece depth before h body ∷ (private_pieces (suc depth) h.private ++ ends))
+      ∙ ap (λ (es : List Entry). es ++ first ∷ entries_here r (private_pieces (suc depth) h.private ++ ends)) (rejections_none p h.rejected)
+      ∙ ap (λ (es : List Entry). first ∷ es) whole in
       ap (λ (es : List Entry). body_entries b ++ es) (sym all)
   stmt_entries b depth before p (Print items) = refl
   stmt_entries b depth before p (Read items) = refl
@@ -139,7 +137,7 @@ mutual
       let xs = statement_pieces (suc depth) before s in
       let ys = statements_pieces (suc depth) (before + loop_count s) rest in
       let inner : body_entries (with_stmts (with_stmt nothing (suc depth) before q s) (suc depth) (before + loop_count s) r rest) ≡ entries_here q (xs ++ ys) =
-          more ∙ ap (λ (es : List Entry). es ++ entries_here r ys) one ∙ sym (entries_both q xs ys) in
+      more ∙ ap (λ (es : List Entry). es ++ entries_here r ys) one ∙ sym (entries_both q xs ys) in
       let last = ap (λ (z : Spot). entries_here z ending) (sym (behind_both q xs ys)) in
       ap (λ (es : List Entry). entry (statement_here p None depth (codes "ELSE")) else_line ∷ es)
       ((λ i. inner i ++ last i) ∙ sym (entries_both q (xs ++ ys) ending))

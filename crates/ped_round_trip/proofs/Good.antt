@@ -1,5 +1,5 @@
 -- Each printed piece of a program that fits can be read back.
-use Rattle.std.proofs.Common.{◌≡◌, ℕ, suc, ◌+◌, ◌*◌, ◌<◌, ◌≤◌, List, [], ◌∷◌, ◌++◌, map, length, Option, Some, None, Bool, true, false, refl, sym, ap, ◌∙◌, subst, arith}
+use Rattle.std.proofs.Common.{◌≡◌, ℕ, suc, ◌+◌, ◌*◌, ◌<◌, ◌≤◌, List, [], ◌∷◌, ◌++◌, map, length, None, Bool, true, false, refl, sym, ap, ◌∙◌, subst, arith}
 use Rattle.std.specs.Prelude.{codes, ◌&&◌, nat_lt, nat_le}
 use Rattle.std.specs.List.{AllByRecursion, list_all}
 use Rattle.ped_base.specs.Letters as Letters
@@ -11,18 +11,16 @@ use Rattle.ped_tree.specs.Literals.{decl_has_large_literal}
 use Rattle.ped_tree.specs.Printing.{own_text, private_text, decl_text}
 use Rattle.ped_tree.specs.Items.{Item, declares, keeps_private, end_if, continues, else_line, ends_program}
 use Rattle.ped_tree.specs.StatementForms.{ReadsItem}
-use Rattle.ped_recut.specs.Printed.{PrintedNote, a_comment, a_rejection}
-use Rattle.ped_recut.specs.Fitting.{IsCommentText, IsRejectedName, NoteFits, LabelFits, TextFits}
-use Rattle.ped_recut.specs.Parts.{Part}
+use Rattle.ped_recut.specs.Fitting.{IsRejectedName, NoteFits, LabelFits, TextFits}
 use Rattle.ped_recut.proofs.Grouped.{PartFits, all_joined}
 use Rattle.ped_reprint.specs.Printed.{ReadsOnly, HasShortLabel, first_line_item}
 use Rattle.ped_reprint.proofs.Declarations.{declaration_prints, save_prints}
 use Rattle.ped_reprint.proofs.Statements.{statement_prints, private_prints, words_print}
-use Rattle.ped_round_trip.proofs.Pieces.{Piece, noted, said, bare, label_number, do_piece, continue_piece, private_pieces, rejection_pieces, statement_pieces, statements_pieces, else_pieces, decl_piece, end_piece, program_pieces, part_of}
-use Rattle.ped_round_trip.proofs.Fits.{Place, moved, in_if, in_loop, IsSaid, IsWithin, PrivateFits, KeepsPrivate, LoopFits, Fits, AllFit, IsDeclared, by_text, by_names, DeclarationFits, DeclarationsFit, at_body, ProgramFits}
+use Rattle.ped_round_trip.proofs.Pieces.{Piece, noted, said, bare, do_piece, continue_piece, private_pieces, rejection_pieces, statement_pieces, statements_pieces, else_pieces, decl_piece, end_piece, program_pieces, part_of}
+use Rattle.ped_round_trip.proofs.Fits.{Place, moved, in_if, in_loop, IsSaid, IsWithin, KeepsPrivate, Fits, AllFit, IsDeclared, by_text, by_names, DeclarationFits, DeclarationsFit, at_body, ProgramFits}
 
 -- printed texts have the characters of statements
-pub record Lettered : Type 0 where
+pub record TextsFit : Type 0 where
   pub own : (n depth : ℕ) (s : StmtTree) → IsSaid s → nat_lt 1300 (length (own_text n s)) ≡ false → TextFits depth (own_text n s)
   pub declaration : (d : DeclTree) → IsDeclared d → nat_lt 1300 (length (decl_text d)) ≡ false → TextFits 0 (decl_text d)
   pub private : (depth : ℕ) (names : List (List ℕ)) (text : List ℕ) → ReadsItem text (keeps_private names) → nat_lt 1300 (length (private_text names)) ≡ false → TextFits depth (private_text names)
@@ -106,7 +104,7 @@ good_rejections : (names : List (List ℕ)) → list_all is_name names ≡ true 
 good_rejections [] h = tt
 good_rejections (x ∷ xs) h = (rejected_name x (and_left (is_name x) (list_all is_name xs) h), good_rejections xs (and_right (is_name x) (list_all is_name xs) h))
 
-good_private : Lettered → (p : Place) (h : Head) (body : StmtTrees) (depth : ℕ) (names : List (List ℕ)) → names ≡ h.private → KeepsPrivate p h body names → AllGood (private_pieces depth names)
+good_private : TextsFit → (p : Place) (h : Head) (body : StmtTrees) (depth : ℕ) (names : List (List ℕ)) → names ≡ h.private → KeepsPrivate p h body names → AllGood (private_pieces depth names)
 good_private w p h body depth [] same fits = tt
 good_private w p h body depth (x ∷ xs) same fits =
     let read = subst (λ (ys : List (List ℕ)). ReadsItem fits.text (keeps_private ys)) (sym same) fits.reads in
@@ -114,13 +112,14 @@ good_private w p h body depth (x ∷ xs) same fits =
     ((tt, w.private depth (x ∷ xs) fits.text read short, reads (private_text (x ∷ xs)) (keeps_private (x ∷ xs)) (private_prints fits.text (x ∷ xs) read)), tt)
 
 -- the first line of a statement
-good_first : Lettered → (p : Place) (depth before : ℕ) (s : StmtTree) → p.loops ≡ before → HasShortLabel before s → IsWithin p s → TextFits depth (own_text before s) × ReadsItem (text_of (own_text before s)) (first_line_item before s)
-good_first w p depth before s loops label fits =
-    (w.own before depth s fits.said (subst (λ n. nat_lt 1300 (length (own_text n s)) ≡ false) loops fits.short),
-    reads (own_text before s) (first_line_item before s) (statement_prints fits.said.text fits.said.item s before fits.said.reads.0 fits.said.small fits.said.says label))
+good_first : TextsFit → (p : Place) (depth before : ℕ) (s : StmtTree) → p.loops ≡ before → HasShortLabel before s → IsWithin p s → TextFits depth (own_text before s) × ReadsItem (text_of (own_text before s)) (first_line_item before s)
+good_first w p depth before s loops label fits = (
+  w.own before depth s fits.said (subst (λ n. nat_lt 1300 (length (own_text n s)) ≡ false) loops fits.short),
+  reads (own_text before s) (first_line_item before s) (statement_prints fits.said.text fits.said.item s before fits.said.reads.0 fits.said.small fits.said.says label),
+)
 
 mutual
-  good_stmt : Lettered → (p : Place) (depth before : ℕ) (s : StmtTree) → p.loops ≡ before → p.loops ≤ p.statements → Fits p s → AllGood (statement_pieces depth before s)
+  good_stmt : TextsFit → (p : Place) (depth before : ℕ) (s : StmtTree) → p.loops ≡ before → p.loops ≤ p.statements → Fits p s → AllGood (statement_pieces depth before s)
   good_stmt w p depth before (Assign l r) loops few fits = let g = good_first w p depth before (Assign l r) loops tt fits.within in ((tt, g.0, g.1), tt)
   good_stmt w p depth before (If c a b) loops few fits =
       let g = good_first w p depth before (If c a b) loops tt fits.0.within in
@@ -146,20 +145,21 @@ mutual
   good_stmt w p depth before Stop loops few fits = let g = good_first w p depth before Stop loops tt fits.within in ((tt, g.0, g.1), tt)
   good_stmt w p depth before (Comment text) loops few fits = (fits, tt)
 
-  good_stmts : Lettered → (p : Place) (depth before : ℕ) (s : StmtTrees) → p.loops ≡ before → p.loops ≤ p.statements → AllFit p s → AllGood (statements_pieces depth before s)
+  good_stmts : TextsFit → (p : Place) (depth before : ℕ) (s : StmtTrees) → p.loops ≡ before → p.loops ≤ p.statements → AllFit p s → AllGood (statements_pieces depth before s)
   good_stmts w p depth before no_stmts loops few fits = tt
   good_stmts w p depth before (more_stmts s rest) loops few fits =
       all_joined Good (statement_pieces depth before s) (statements_pieces depth (before + loop_count s) rest)
       (good_stmt w p depth before s loops few fits.0)
       (good_stmts w (moved p (statement_count s) (loop_count s)) depth (before + loop_count s) rest (ap (λ n. n + loop_count s) loops) (both p.loops (loop_count s) p.statements (statement_count s) few (fewer_loops s)) fits.1)
 
-  good_else : Lettered → (p : Place) (depth before : ℕ) (s : StmtTrees) → p.loops ≡ before → p.loops ≤ p.statements → AllFit p s → AllGood (else_pieces depth before s)
+  good_else : TextsFit → (p : Place) (depth before : ℕ) (s : StmtTrees) → p.loops ≡ before → p.loops ≤ p.statements → AllFit p s → AllGood (else_pieces depth before s)
   good_else w p depth before no_stmts loops few fits = tt
-  good_else w p depth before (more_stmts s rest) loops few fits =
-      ((tt, w.of_else depth, reads (codes "ELSE") else_line words_print.of_else),
-      all_joined Good (statement_pieces (suc depth) before s) (statements_pieces (suc depth) (before + loop_count s) rest)
-      (good_stmt w p (suc depth) before s loops few fits.0)
-      (good_stmts w (moved p (statement_count s) (loop_count s)) (suc depth) (before + loop_count s) rest (ap (λ n. n + loop_count s) loops) (both p.loops (loop_count s) p.statements (statement_count s) few (fewer_loops s)) fits.1))
+  good_else w p depth before (more_stmts s rest) loops few fits = (
+    (tt, w.of_else depth, reads (codes "ELSE") else_line words_print.of_else),
+    all_joined Good (statement_pieces (suc depth) before s) (statements_pieces (suc depth) (before + loop_count s) rest)
+        (good_stmt w p (suc depth) before s loops few fits.0)
+        (good_stmts w (moved p (statement_count s) (loop_count s)) (suc depth) (before + loop_count s) rest (ap (λ n. n + loop_count s) loops) (both p.loops (loop_count s) p.statements (statement_count s) few (fewer_loops s)) fits.1),
+  )
 
 -- declarations
 
@@ -167,10 +167,10 @@ declared_reads : (d : DeclTree) → decl_has_large_literal d ≡ false → IsDec
 declared_reads d small (by_text text r) = reads (decl_text d) (declares d) (declaration_prints text d r small)
 declared_reads d small (by_names names are e) = subst (λ (c : DeclTree). ReadsItem (text_of (decl_text c)) (declares c)) (sym e) (reads (decl_text (Save names)) (declares (Save names)) (save_prints names are))
 
-good_decl : Lettered → (phase : ℕ) (d : DeclTree) → DeclarationFits phase d → LabelFits None × TextFits 0 (decl_text d) × ReadsItem (text_of (decl_text d)) (declares d)
+good_decl : TextsFit → (phase : ℕ) (d : DeclTree) → DeclarationFits phase d → LabelFits None × TextFits 0 (decl_text d) × ReadsItem (text_of (decl_text d)) (declares d)
 good_decl w phase d fits = (tt, w.declaration d fits.declared fits.short, declared_reads d fits.small fits.declared)
 
-good_decls : Lettered → (phase : ℕ) (ds : List DeclTree) → DeclarationsFit phase ds → AllGood (map decl_piece ds)
+good_decls : TextsFit → (phase : ℕ) (ds : List DeclTree) → DeclarationsFit phase ds → AllGood (map decl_piece ds)
 good_decls w phase [] fits = tt
 good_decls w phase (Program x ∷ ds) fits = (good_decl w phase (Program x) fits.0, good_decls w 1 ds fits.1)
 good_decls w phase (Implicit ∷ ds) fits = (good_decl w phase Implicit fits.0, good_decls w 2 ds fits.1)
@@ -180,7 +180,7 @@ good_decls w phase (Parameter vs ∷ ds) fits = (good_decl w phase (Parameter vs
 good_decls w phase (Save names ∷ ds) fits = (good_decl w phase (Save names) fits.0, good_decls w 3 ds fits.1)
 good_decls w phase (Remark text ∷ ds) fits = (fits.0, good_decls w phase ds fits.1)
 
-pub good_program : Lettered → (t : ProgramTree) → ProgramFits t → AllGood (program_pieces t)
+pub good_program : TextsFit → (t : ProgramTree) → ProgramFits t → AllGood (program_pieces t)
 good_program w t fits =
     let ds = map decl_piece t.decls in
     let ss = statements_pieces 0 0 t.body in

@@ -1,23 +1,22 @@
 -- Each kind of statement of a printed program is accepted where it stands.
-use Rattle.std.proofs.Common.{◌≡◌, ℕ, suc, ◌+◌, ◌*◌, ◌<◌, ◌≤◌, List, [], ◌∷◌, ◌++◌, map, max, length, Option, Some, None, Bool, true, false, cond, refl, sym, ap, ◌∙◌, append_assoc, append-nil, subst, arith, eqb, eqb-true}
-use Rattle.std.specs.Prelude.{codes, IsTrue, IsFalse, not, ◌&&◌, ◌||◌, ◌==◌, nat_lt, nat_le}
-use Rattle.std.specs.List.{list_any, list_all, flat_map}
-use Rattle.ped_tree.specs.Tree.{CondTree, Head, StmtTree, StmtTrees, Assign, If, Do, Print, Read, Stop, Comment, no_stmts, more_stmts}
-use Rattle.ped_tree.specs.Numbering.{statement_count, statements_count, loop_count, loops_count}
+use Rattle.std.proofs.Common.{◌≡◌, ℕ, ◌+◌, ◌*◌, ◌<◌, List, [], ◌∷◌, ◌++◌, map, max, length, Option, Some, None, Bool, true, false, cond, refl, sym, ap, ◌∙◌, append-nil, arith, eqb-true}
+use Rattle.std.specs.Prelude.{not, ◌&&◌, ◌||◌, ◌==◌, nat_lt, nat_le}
+use Rattle.ped_tree.specs.Tree.{CondTree, Head, StmtTree, StmtTrees, Assign, If, Do, Print, Read, Stop, Comment, no_stmts}
+use Rattle.ped_tree.specs.Numbering.{statement_count}
 use Rattle.ped_tree.specs.Literals.{cond_has_large_literal, head_has_large_literal, stmt_has_large_literal, stmts_have_large_literal}
 use Rattle.ped_tree.specs.References.{own_accesses}
-use Rattle.ped_tree.specs.Printing.{own_text, private_text}
-use Rattle.ped_tree.specs.Items.{Item, does, continues, logical_if, block_if, else_if, else_line, end_if, begins_do, keeps_private, ends_program, Reading, says, Entry}
-use Rattle.ped_tree.specs.Contexts.{Block, in_then, in_else, in_do, Context, rank, numbered_in, loops_in, saves_list, saves_without, is_do, is_stop, closed, closed_by, blocks_behind, behind_item, behind, may_end}
+use Rattle.ped_tree.specs.Printing.{own_text}
+use Rattle.ped_tree.specs.Items.{Item, does, continues, block_if, else_line, end_if, begins_do, says, Entry}
+use Rattle.ped_tree.specs.Contexts.{Block, in_then, in_else, in_do, Context, rank, numbered_in, loops_in, saves_list, saves_without, is_stop, closed, blocks_behind, behind_item, may_end}
 use Rattle.ped_tree.specs.Occurrences.{constants_of}
 use Rattle.ped_tree.specs.BlockForms.{entry, whole_head}
-use Rattle.ped_tree.specs.ProgramRefusals.{is_out_of_order, lacks_if, is_late_private, is_misplaced, is_behind_end, breaks_syntax, leaves_open, has_do, ends_badly, open_variables, assigned_by, inner_variables, meets, assigns_index, private_behind, loop_depth, block_depth, is_too_large, are_too_many, is_too_deep, has_many_references, is_too_long, passes_limit, at_statement}
+use Rattle.ped_tree.specs.ProgramRefusals.{is_out_of_order, lacks_if, is_late_private, breaks_syntax, leaves_open, has_do, ends_badly, open_variables, assigned_by, meets, assigns_index, private_behind, loop_depth, block_depth, is_too_large, are_too_many, is_too_deep, has_many_references, is_too_long, passes_limit}
 use Rattle.ped_reprint.specs.Printed.{SaysFirstLine, itself, of_block_if, of_else_if, of_logical_if, behind_logical_if, of_do, first_line_item}
 use Rattle.ped_recut.specs.Printed.{PrintedNote, a_rejection}
 use Rattle.ped_recut.specs.Cut.{comments_at, directives_at}
 use Rattle.ped_round_trip.proofs.Pieces.{label_number, Spot, statement_here}
 use Rattle.ped_round_trip.proofs.Trees.{rejections}
-use Rattle.ped_round_trip.proofs.Fits.{Place, moved, in_if, in_loop, IsSaid, IsWithin, SimpleFits, BranchFits, LoopFits, PrivateFits}
+use Rattle.ped_round_trip.proofs.Fits.{Place, moved, in_if, in_loop, IsSaid, SimpleFits, BranchFits, LoopFits}
 use Rattle.ped_round_trip.proofs.Standing.{Stands, early, in_order, still, loops_open, passes_all, undirected, directed, none_closed, Passed, pass_one}
 
 -- the item of the first printed line has no literal that is too large
@@ -168,8 +167,8 @@ pass_end_if saved c p n m q depth text b bs rest at kind inside variables depths
     let next = next_stands (in_if p n m) (moved p n m) c None i bs at refl refl blocks refl variables depths (plus_none (p.statements + n)) (plus_none (p.loops + m)) fresh in
     pass_one saved c (moved p n m) bs e rest ok next blocks
   where
-  plus_none : (k : ℕ) → k + 0 ≡ k
-  plus_none k = omega arith
+    plus_none : (k : ℕ) → k + 0 ≡ k
+    plus_none k = omega arith
 
 apart : (a b m : ℕ) → a ≡ b → 10 * (a + 1) < m → (label_number b == m) ≡ false
 apart a b m e h = grind (arith, eqb-true, e)
@@ -209,15 +208,17 @@ pass_continue saved c p q l v bs t depth text rest at inside apart constants var
     let own : (l == l) ≡ true = self l in
     let closing : closed l c.blocks ≡ bs = ap (closed l) inside ∙ ap (λ (b : Bool). cond b (closed l bs) (in_do l v ∷ bs)) own ∙ none_closed l bs apart in
     let well : ends_badly c.blocks (Some l) (says continues) ≡ false =
-        (let x = ap (has_do l) closing ∙ apart in λ j. has_do l c.blocks && not (true && not (x j))) ∙ never (has_do l c.blocks) in
+    (let x = ap (has_do l) closing ∙ apart in λ j. has_do l c.blocks && not (true && not (x j))) ∙ never (has_do l c.blocks) in
     let ok = passes_all saved c e rest (undirected c e t.line t.notes refl only) (in_place c continues at.phase refl refl refl refl refl) refl refl well refl refl (within_limit saved c rest continues refl refl refl refl refl) in
     let next = next_stands p q c (Some l) continues bs at refl refl closing constants variables depths (plus_none p.statements ∙ statements) (plus_none p.loops ∙ loops) fresh in
     pass_one saved c q bs e rest ok next closing
   where
-  self : (n : ℕ) → (n == n) ≡ true
-  self n = grind (arith, eqb-true)
-  never : (b : Bool) → (b && not (true && not false)) ≡ false
-  never true = refl
-  never false = refl
-  plus_none : (k : ℕ) → k + 0 ≡ k
-  plus_none k = omega arith
+    self : (n : ℕ) → (n == n) ≡ true
+    self n = grind (arith, eqb-true)
+
+    never : (b : Bool) → (b && not (true && not false)) ≡ false
+    never true = refl
+    never false = refl
+
+    plus_none : (k : ℕ) → k + 0 ≡ k
+    plus_none k = omega arith

@@ -1,14 +1,13 @@
 -- Each printed DO has a label of its own, and only its CONTINUE has it.
-use Rattle.std.proofs.Common.{◌≡◌, ℕ, suc, ◌+◌, ◌*◌, ◌<◌, ◌≤◌, List, [], ◌∷◌, Option, Some, None, Bool, true, false, refl, sym, ap, ◌∙◌, subst, arith, eqb, eqb-true}
+use Rattle.std.proofs.Common.{◌≡◌, ℕ, suc, ◌+◌, ◌*◌, ◌<◌, List, [], ◌∷◌, None, Bool, true, false, refl, ap, ◌∙◌, arith, eqb-true}
 use Rattle.std.specs.Prelude.{codes, IsTrue, not, ◌&&◌, ◌||◌, ◌==◌}
 use Rattle.std.specs.List.{list_any}
-use Rattle.ped_tree.specs.Tree.{Head, StmtTree, StmtTrees, Assign, If, Do, Print, Read, Stop, Comment, no_stmts, more_stmts}
+use Rattle.ped_tree.specs.Tree.{StmtTree, StmtTrees, Assign, If, Do, Print, Read, Stop, Comment, no_stmts, more_stmts}
 use Rattle.ped_tree.specs.Numbering.{loop_count, loops_count}
 use Rattle.ped_tree.specs.Printing.{own_text, private_text}
-use Rattle.ped_tree.specs.Statement.{Statement}
-use Rattle.ped_tree.specs.BlockForms.{BodyForm, nothing, PartForm, has_label, is_free, private_fits, body_fits, part_fits, rest_fits, loop_fits, ending_fits}
-use Rattle.ped_round_trip.proofs.Pieces.{label_number, statement_pieces, statements_pieces, private_pieces, Spot, statement_here, behind_pieces}
-use Rattle.ped_round_trip.proofs.Forms.{then_spot, rest_spot, else_spot, do_spot, private_spot, inner_spot, end_spot, private_form, with_stmt, with_stmts, rest_form}
+use Rattle.ped_tree.specs.BlockForms.{BodyForm, nothing, has_label, is_free, private_fits, body_fits, rest_fits}
+use Rattle.ped_round_trip.proofs.Pieces.{label_number, statement_pieces, statements_pieces, Spot, statement_here, behind_pieces}
+use Rattle.ped_round_trip.proofs.Forms.{then_spot, rest_spot, else_spot, do_spot, private_spot, inner_spot, private_form, with_stmt, with_stmts, rest_form}
 
 both_true : (a b : Bool) → IsTrue a → IsTrue b → IsTrue (a && b)
 both_true true b p q = q

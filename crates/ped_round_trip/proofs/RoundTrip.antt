@@ -1,5 +1,5 @@
 -- A program that fits is read from its printed text.
-use Rattle.std.proofs.Common.{◌≡◌, ℕ, List, [], ◌∷◌, ◌++◌, map, length, Option, Some, None, Bool, true, false, refl, sym, ap, ◌∙◌, subst}
+use Rattle.std.proofs.Common.{◌≡◌, List, [], ◌∷◌, map, None, refl, sym, ap, ◌∙◌, subst}
 use Rattle.std.specs.List.{AllByRecursion}
 use Rattle.ped_tree.specs.Tree.{StmtTree, StmtTrees, Assign, If, Do, Print, Read, Stop, Comment, no_stmts, more_stmts, ProgramTree}
 use Rattle.ped_tree.specs.Printing.{program_text}
@@ -8,21 +8,20 @@ use Rattle.ped_tree.specs.Grouping.{statements_of}
 use Rattle.ped_tree.specs.LineRefusals.{first_line_refusal}
 use Rattle.ped_tree.specs.Items.{Entry}
 use Rattle.ped_tree.specs.Occurrences.{saved_names}
-use Rattle.ped_tree.specs.Reading.{IsReading, AreEntries, IsCutInto, Reads}
+use Rattle.ped_tree.specs.Reading.{AreEntries, Reads}
 use Rattle.ped_recut.specs.Parts.{Part, program_parts, with_notes, printed_statements}
-use Rattle.ped_recut.specs.Printed.{printed_text}
 use Rattle.ped_recut.specs.Fitting.{StatementsFit}
 use Rattle.ped_recut.specs.Cut.{cut, cut_from}
 use Rattle.ped_recut.proofs.Grouped as Grouped
 use Rattle.ped_recut.proofs.Grouped.{PartFits}
 use Rattle.ped_recut.proofs.Whole.{not_refused, are_cut}
 use Rattle.ped_recut.proofs.Bridge.{printed_program}
-use Rattle.ped_round_trip.proofs.Pieces.{Piece, noted, said, program_pieces, part_of, program_parts_of, Spot, behind_piece, entries_here, cut_here}
+use Rattle.ped_round_trip.proofs.Pieces.{Piece, noted, said, program_pieces, program_parts_of, Spot, behind_piece, entries_here, cut_here}
 use Rattle.ped_round_trip.proofs.Trees.{Rejecting, AllRejecting}
 use Rattle.ped_round_trip.proofs.WholeForm.{start, whole_form, whole_entries, form_entries, form_tree, form_labelled}
-use Rattle.ped_round_trip.proofs.Fits.{Place, moved, in_if, in_loop, Fits, AllFit, at_body, ProgramFits}
+use Rattle.ped_round_trip.proofs.Fits.{Place, Fits, AllFit, at_body, ProgramFits}
 use Rattle.ped_round_trip.proofs.AcceptedDecls.{whole_accepted}
-use Rattle.ped_round_trip.proofs.Good.{Lettered, AllGood, good_program, parts_fit}
+use Rattle.ped_round_trip.proofs.Good.{TextsFit, AllGood, good_program, parts_fit}
 
 -- rejected names are names
 
@@ -47,7 +46,7 @@ all_read p (noted n ∷ xs) g = all_read (behind_piece p (noted n)) xs g.1
 all_read p (said label depth text i ∷ xs) g = (refl, g.0.2, all_read (behind_piece p (said label depth text i)) xs g.1)
 
 -- the printed text of a program that fits reads as it
-pub reads_again : Lettered → (t : ProgramTree) → ProgramFits t → Reads (program_text t) t
+pub reads_again : TextsFit → (t : ProgramTree) → ProgramFits t → Reads (program_text t) t
 reads_again w t fits =
     let ps = printed_statements t in
     let good = good_program w t fits in
@@ -58,7 +57,7 @@ reads_again w t fits =
     let whole : statements_of (program_text t) ≡ cut ps = ap statements_of same ∙ are_cut ps fit in
     let es = whole_entries t in
     let statements : map (λ (e : Entry). e.statement) es ≡ (statements_of (program_text t)).statements =
-        cut_here start (program_pieces t) ∙ ap (λ (xs : List Part). cut_from 1 (with_notes [] xs)) (program_parts_of t) ∙ sym (ap (λ (s : Statements). s.statements) whole) in
+    cut_here start (program_pieces t) ∙ ap (λ (xs : List Part). cut_from 1 (with_notes [] xs)) (program_parts_of t) ∙ sym (ap (λ (s : Statements). s.statements) whole) in
     let readings : AreEntries (statements_of (program_text t)).statements es = subst (λ (ss : List Statement). AreEntries ss es) statements (all_read start (program_pieces t) good) in
     record {
       entries = es;

@@ -1,17 +1,14 @@
 -- What is open at the statements of a printed program, and which tests fail there.
-use Rattle.std.proofs.Common.{◌≡◌, ℕ, suc, ◌+◌, ◌*◌, ◌<◌, ◌≤◌, List, [], ◌∷◌, ◌++◌, map, max, length, Option, Some, None, Bool, true, false, cond, refl, sym, ap, ◌∙◌, append_assoc, append-nil, subst, arith, eqb, eqb-true, leb, ltb}
-use Rattle.std.specs.Prelude.{codes, IsTrue, IsFalse, not, ◌&&◌, ◌||◌, ◌==◌, nat_lt, nat_le}
+use Rattle.std.proofs.Common.{◌≡◌, ℕ, suc, ◌+◌, ◌*◌, ◌<◌, ◌≤◌, List, [], ◌∷◌, ◌++◌, map, max, length, Bool, true, false, cond, refl, sym, ap, ◌∙◌, append_assoc, subst, arith}
+use Rattle.std.specs.Prelude.{codes, not, ◌&&◌, ◌||◌, ◌==◌, nat_lt, nat_le}
 use Rattle.std.specs.List.{list_any, list_all, flat_map}
-use Rattle.ped_tree.specs.Tree.{CondTree, Head, StmtTree, StmtTrees, Assign, If, Do, Print, Read, Stop, Comment, no_stmts, more_stmts}
 use Rattle.ped_tree.specs.Words.{is_name}
-use Rattle.ped_tree.specs.Numbering.{statement_count}
 use Rattle.ped_tree.specs.Refusal.{Refusal, Finding, Syntax, NotInProfile, OpenBlock, BadTerminal, IndexAssigned, StopPlace, Limit, stands}
-use Rattle.ped_tree.specs.Statement.{Note, Statement}
-use Rattle.ped_tree.specs.Items.{Item, does, continues, block_if, else_line, end_if, begins_do, keeps_private, ends_program, Reading, says, Entry}
-use Rattle.ped_tree.specs.Occurrences.{is_rejection, of_reading, do_variables}
-use Rattle.ped_tree.specs.Contexts.{Block, in_then, in_else, in_do, Context, is_do, closed, behind, behind_all}
-use Rattle.ped_tree.specs.BlockForms.{entry, whole_head}
-use Rattle.ped_tree.specs.ProgramRefusals.{where_it_says, is_outside, breaks_syntax, is_behind_end, leaves_open, has_do, ends_badly, open_variables, inner_variables, assigns_index, stops, loop_depth, block_depth, passes_limit, is_parted, is_bad_directive, at_directives, at_statement, at_statements}
+use Rattle.ped_tree.specs.Statement.{Note}
+use Rattle.ped_tree.specs.Items.{Entry}
+use Rattle.ped_tree.specs.Occurrences.{of_reading, do_variables}
+use Rattle.ped_tree.specs.Contexts.{Block, in_then, in_else, in_do, Context, is_do, closed, behind}
+use Rattle.ped_tree.specs.ProgramRefusals.{where_it_says, is_outside, breaks_syntax, is_behind_end, leaves_open, has_do, ends_badly, open_variables, inner_variables, assigns_index, stops, loop_depth, block_depth, passes_limit, is_bad_directive, at_directives, at_statement, at_statements}
 use Rattle.ped_recut.specs.Printed.{PrintedNote, a_comment, a_rejection}
 use Rattle.ped_recut.specs.Cut.{comments_at, directives_at}
 use Rattle.ped_round_trip.proofs.Trees.{rejections}
@@ -42,8 +39,8 @@ loops_open (in_then n ∷ bs) = loops_open bs
 loops_open (in_else n ∷ bs) = loops_open bs
 loops_open (in_do l v ∷ bs) = ap (λ n. n + 1) (loops_open bs) ∙ more (length (open_variables bs))
   where
-  more : (n : ℕ) → n + 1 ≡ suc n
-  more n = omega arith
+    more : (n : ℕ) → n + 1 ≡ suc n
+    more n = omega arith
 
 none : (r : Refusal) (line : ℕ) (test : Bool) → test ≡ false → stands test r line ≡ []
 unfolding stands
@@ -81,8 +78,8 @@ shifted n m = omega arith
 directives_behind : (n : ℕ) (ns : List PrintedNote) (names : List (List ℕ)) → rejections ns ≡ [] → directives_at n (ns ++ map a_rejection names) ≡ directives_at (n + length ns) (map a_rejection names)
 directives_behind n [] names h = ap (λ m. directives_at m (map a_rejection names)) (zero_more n)
   where
-  zero_more : (n : ℕ) → n ≡ n + 0
-  zero_more n = omega arith
+    zero_more : (n : ℕ) → n ≡ n + 0
+    zero_more n = omega arith
 directives_behind n (a_comment text ∷ ns) names h = directives_behind (n + 1) ns names h ∙ ap (λ m. directives_at m (map a_rejection names)) (shifted n (length ns))
 directives_behind n (a_rejection x ∷ ns) names h = absurd cc
 
@@ -146,24 +143,26 @@ pub directed : (c : Context) (e : Entry) (n : ℕ) (ns : List PrintedNote) (name
 directed c e n ns names before loop comments directives line only named =
     let m = n + length ns in
     let apart : (l : ℕ) → m ≤ l → list_any (λ (k : Note). nat_lt l k.line && nat_lt k.line e.statement.line) e.statement.comments ≡ false = λ l h.
-        ap (λ (ks : List Note). list_any (λ (k : Note). nat_lt l k.line && nat_lt k.line e.statement.line) ks) (comments ∙ comments_front n ns names) ∙ comments_before n ns l e.statement.line h in
+    ap (λ (ks : List Note). list_any (λ (k : Note). nat_lt l k.line && nat_lt k.line e.statement.line) ks) (comments ∙ comments_front n ns names) ∙ comments_before n ns l e.statement.line h in
     ap (λ (ds : List Note). flat_map (λ d. stands (is_bad_directive c e d) Syntax d.line) ds) (directives ∙ directives_behind n ns names only)
     ∙ directives_good c e m m names before loop apart (itself m) (last n ns names e.statement.line line) named
   where
-  itself : (m : ℕ) → m ≤ m
-  itself m = omega arith
-  lengths : (ns : List PrintedNote) (names : List (List ℕ)) → length (ns ++ map a_rejection names) ≡ length ns + length names
-  lengths [] [] = refl
-  lengths [] (y ∷ ys) = ap suc (lengths [] ys) ∙ up (length ys)
-    where
-    up : (k : ℕ) → suc (0 + k) ≡ 0 + suc k
-    up k = omega arith
-  lengths (z ∷ zs) ys = ap suc (lengths zs ys) ∙ front (length zs) (length ys)
-    where
-    front : (j k : ℕ) → suc (j + k) ≡ suc j + k
-    front j k = omega arith
-  last : (n : ℕ) (ns : List PrintedNote) (names : List (List ℕ)) (l : ℕ) → l ≡ n + length (ns ++ map a_rejection names) → n + length ns + length names ≤ l
-  last n ns names l h = let k = lengths ns names in omega (arith, h, k)
+    itself : (m : ℕ) → m ≤ m
+    itself m = omega arith
+
+    lengths : (ns : List PrintedNote) (names : List (List ℕ)) → length (ns ++ map a_rejection names) ≡ length ns + length names
+    lengths [] [] = refl
+    lengths [] (y ∷ ys) = ap suc (lengths [] ys) ∙ up (length ys)
+      where
+        up : (k : ℕ) → suc (0 + k) ≡ 0 + suc k
+        up k = omega arith
+    lengths (z ∷ zs) ys = ap suc (lengths zs ys) ∙ front (length zs) (length ys)
+      where
+        front : (j k : ℕ) → suc (j + k) ≡ suc j + k
+        front j k = omega arith
+
+    last : (n : ℕ) (ns : List PrintedNote) (names : List (List ℕ)) (l : ℕ) → l ≡ n + length (ns ++ map a_rejection names) → n + length ns + length names ≤ l
+    last n ns names l h = let k = lengths ns names in omega (arith, h, k)
 
 -- labels that no open DO has
 

@@ -1,20 +1,20 @@
 -- The trees of the statements among the pieces are those that were printed.
-use Rattle.std.proofs.Common.{◌≡◌, ℕ, suc, ◌+◌, ◌*◌, List, [], ◌∷◌, ◌++◌, map, length, Option, Some, None, Bool, true, false, cond, refl, sym, ap, ◌∙◌, append_assoc, append-nil, subst}
+use Rattle.std.proofs.Common.{◌≡◌, ℕ, suc, ◌+◌, List, [], ◌∷◌, ◌++◌, map, Option, Some, None, Bool, true, false, cond, refl, sym, ap, ◌∙◌, append_assoc, append-nil}
 use Rattle.std.specs.Prelude.{codes, ◌&&◌, filter}
 use Rattle.std.specs.List.{list_all}
-use Rattle.ped_tree.specs.Tree.{Head, StmtTree, StmtTrees, Assign, If, Do, Print, Read, Stop, Comment, no_stmts, more_stmts}
+use Rattle.ped_tree.specs.Tree.{StmtTree, StmtTrees, Assign, If, Do, Print, Read, Stop, Comment, no_stmts, more_stmts}
 use Rattle.ped_tree.specs.Views.{pack_stmts}
 use Rattle.ped_tree.specs.Words.{is_name}
 use Rattle.ped_tree.specs.Numbering.{loop_count, loops_count}
 use Rattle.ped_tree.specs.Printing.{own_text, private_text}
-use Rattle.ped_tree.specs.Statement.{Note, Statement}
-use Rattle.ped_tree.specs.Items.{Item, continues, else_line, end_if}
+use Rattle.ped_tree.specs.Statement.{Note}
+use Rattle.ped_tree.specs.Items.{Item, continues, end_if}
 use Rattle.ped_tree.specs.Occurrences.{is_rejection, rejected_name, rejected_names}
 use Rattle.ped_tree.specs.ProgramRefusals.{listed_stmts}
 use Rattle.ped_tree.specs.BlockForms.{BodyForm, nothing, comments_of, whole_head, names_of_private, comments_of_private, first_of_rest, body_trees, rest_trees}
 use Rattle.ped_recut.specs.Printed.{PrintedNote, a_comment, a_rejection}
 use Rattle.ped_recut.specs.Cut.{comments_at, directives_at}
-use Rattle.ped_round_trip.proofs.Pieces.{Piece, said, bare, label_number, do_piece, continue_piece, private_pieces, rejection_pieces, statement_pieces, statements_pieces, else_pieces, Spot, spot, statement_here, behind_piece, behind_pieces, behind_both}
+use Rattle.ped_round_trip.proofs.Pieces.{Piece, said, bare, label_number, do_piece, continue_piece, private_pieces, rejection_pieces, statement_pieces, statements_pieces, else_pieces, Spot, spot, statement_here, behind_pieces, behind_both}
 use Rattle.ped_round_trip.proofs.Forms.{then_spot, rest_spot, else_spot, do_spot, private_spot, inner_spot, end_spot, private_form, with_stmt, with_stmts, rest_form}
 
 -- the comments among notes
@@ -184,11 +184,11 @@ mutual
       let q = then_spot depth before p (If c x y) in
       let r = rest_spot depth before p (If c x y) x in
       let then_is : body_trees (with_stmts nothing (suc depth) before q x) ++ comments_of (first_of_rest (rest_form depth (before + loops_count x) r y)) ≡ listed_stmts x =
-          ap (λ (ts : List StmtTree). body_trees (with_stmts nothing (suc depth) before q x) ++ ts) (rest_comments depth (before + loops_count x) r y)
-          ∙ stmts_law nothing (suc depth) before q x refl named.0 in
+      ap (λ (ts : List StmtTree). body_trees (with_stmts nothing (suc depth) before q x) ++ ts) (rest_comments depth (before + loops_count x) r y)
+      ∙ stmts_law nothing (suc depth) before q x refl named.0 in
       let rest_is = rest_law depth (before + loops_count x) r y named.1 in
       let whole : If c (pack_stmts (body_trees (with_stmts nothing (suc depth) before q x) ++ comments_of (first_of_rest (rest_form depth (before + loops_count x) r y)))) (pack_stmts (rest_trees (rest_form depth (before + loops_count x) r y))) ≡ If c x y =
-          (λ i. If c (pack_stmts (then_is i)) (pack_stmts (rest_is i))) ∙ (λ i. If c (packed x i) (packed y i)) in
+      (λ i. If c (pack_stmts (then_is i)) (pack_stmts (rest_is i))) ∙ (λ i. If c (packed x i) (packed y i)) in
       ap (λ (t : StmtTree). body_trees b ++ (comments_of (statement_here p None depth (own_text before (If c x y))) ++ t ∷ []) ++ []) whole
       ∙ plain_law (body_trees b) p depth (own_text before (If c x y)) (If c x y)
   stmt_law b depth before p (Do h body) only named =
@@ -203,15 +203,15 @@ mutual
       let private = private_names r (suc depth) h.private in
       let clear : s.notes ≡ [] = private_clean r (suc depth) h.private refl in
       let inner : body_trees (with_stmts nothing (suc depth) (before + 1) s body) ++ note_trees t.notes ≡ listed_stmts body =
-          stmts_law nothing (suc depth) (before + 1) s body (ap rejections clear) named.1 ∙ ap (λ (ns : List PrintedNote). note_trees ns ++ listed_stmts body) clear in
+      stmts_law nothing (suc depth) (before + 1) s body (ap rejections clear) named.1 ∙ ap (λ (ns : List PrintedNote). note_trees ns ++ listed_stmts body) clear in
       let last = statement_here t (Some (label_number before)) depth (codes "CONTINUE") in
       let ending : comments_of last ++ [] ≡ note_trees t.notes = append-nil (comments_of last) ∙ comments_here t (Some (label_number before)) depth (codes "CONTINUE") in
       let early = private_comments r (suc depth) h.private refl in
       let bodies : comments_of_private (private_form r (suc depth) h.private) ++ body_trees (with_stmts nothing (suc depth) (before + 1) s body) ++ (comments_of last ++ []) ≡ listed_stmts body =
-          (λ i. early i ++ body_trees (with_stmts nothing (suc depth) (before + 1) s body) ++ ending i) ∙ inner in
+      (λ i. early i ++ body_trees (with_stmts nothing (suc depth) (before + 1) s body) ++ ending i) ∙ inner in
       let head : whole_head (whole_head h [] []) (names_of_private (private_form r (suc depth) h.private)) (rejected_names st.directives) ≡ h = λ i. record h { private = private i; rejected = rejected i } in
       let whole : Do (whole_head (whole_head h [] []) (names_of_private (private_form r (suc depth) h.private)) (rejected_names st.directives)) (pack_stmts (comments_of_private (private_form r (suc depth) h.private) ++ body_trees (with_stmts nothing (suc depth) (before + 1) s body) ++ (comments_of last ++ []))) ≡ Do h body =
-          (λ i. Do (head i) (pack_stmts (bodies i))) ∙ ap (Do h) (packed body) in
+      (λ i. Do (head i) (pack_stmts (bodies i))) ∙ ap (Do h) (packed body) in
       let front : comments_of st ≡ note_trees p.notes = comments_here q None depth (own_text before (Do h body)) ∙ ap note_trees notes ∙ trees_rejected p.notes h.rejected in
       append-nil _
       ∙ (λ i. body_trees b ++ (front i ++ whole i ∷ []))

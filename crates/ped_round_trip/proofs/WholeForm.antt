@@ -1,18 +1,18 @@
 -- The form of a whole printed program.
-use Rattle.std.proofs.Common.{◌≡◌, ℕ, suc, ◌+◌, ◌*◌, ◌<◌, List, [], ◌∷◌, ◌++◌, map, length, Option, Some, None, Bool, true, false, refl, sym, ap, ◌∙◌, append_assoc, append-nil, subst, arith}
+use Rattle.std.proofs.Common.{◌≡◌, ℕ, ◌+◌, List, [], ◌∷◌, ◌++◌, map, None, refl, sym, ap, ◌∙◌, append_assoc, append-nil}
 use Rattle.std.specs.Prelude.{codes, IsTrue}
 use Rattle.std.specs.List.{flat_map}
-use Rattle.ped_tree.specs.Tree.{Head, StmtTree, StmtTrees, Assign, If, Do, Print, Read, Stop, Comment, no_stmts, more_stmts, DeclTree, Program, Implicit, Integer, Dimension, Parameter, Save, Remark, ProgramTree}
+use Rattle.ped_tree.specs.Tree.{StmtTree, StmtTrees, Assign, If, Do, Print, Read, Stop, Comment, no_stmts, more_stmts, DeclTree, Program, Implicit, Integer, Dimension, Parameter, Save, Remark, ProgramTree}
 use Rattle.ped_tree.specs.Views.{pack_stmts}
 use Rattle.ped_tree.specs.Printing.{decl_text}
-use Rattle.ped_tree.specs.Statement.{Note, Statement}
-use Rattle.ped_tree.specs.Items.{Item, declares, ends_program, Entry}
+use Rattle.ped_tree.specs.Statement.{Note}
+use Rattle.ped_tree.specs.Items.{ends_program, Entry}
 use Rattle.ped_tree.specs.ProgramRefusals.{listed_stmts}
-use Rattle.ped_tree.specs.BlockForms.{BodyForm, nothing, entry, comments_of, body_entries, body_trees, body_fits}
-use Rattle.ped_tree.specs.ProgramForms.{DeclForm, a_declaration, ProgramForm, decl_entry, program_entries, remarks_of, decl_trees, front_remarks, behind_front, all_trees, program_form_tree}
+use Rattle.ped_tree.specs.BlockForms.{nothing, entry, body_trees, body_fits}
+use Rattle.ped_tree.specs.ProgramForms.{DeclForm, a_declaration, ProgramForm, decl_entry, program_entries, decl_trees, front_remarks, behind_front, all_trees, program_form_tree}
 use Rattle.ped_recut.specs.Printed.{PrintedNote, a_comment, a_rejection}
 use Rattle.ped_recut.specs.Cut.{comments_at}
-use Rattle.ped_round_trip.proofs.Pieces.{Piece, decl_piece, end_piece, statements_pieces, program_pieces, Spot, spot, statement_here, behind_piece, behind_pieces, entry_here, entries_here, behind_both, entries_both}
+use Rattle.ped_round_trip.proofs.Pieces.{decl_piece, end_piece, statements_pieces, program_pieces, Spot, spot, statement_here, behind_piece, behind_pieces, entry_here, entries_here, behind_both, entries_both}
 use Rattle.ped_round_trip.proofs.Forms.{with_stmts, stmts_entries}
 use Rattle.ped_round_trip.proofs.Trees.{note_trees, rejections, AllRejecting, comments_here, stmts_law, packed}
 use Rattle.ped_round_trip.proofs.Labels.{stmts_fit}
@@ -188,16 +188,16 @@ form_tree saved t named begins =
     let q = ending_spot t in
     let f = whole_form t in
     let all : all_trees f ≡ note_trees p.notes ++ listed_stmts t.body =
-        ap (λ (ts : List StmtTree). body_trees f.body ++ ts) (comments_here q None 0 (codes "END"))
-        ∙ stmts_law nothing 0 0 p t.body (decls_only start t.decls refl) named in
+    ap (λ (ts : List StmtTree). body_trees f.body ++ ts) (comments_here q None 0 (codes "END"))
+    ∙ stmts_law nothing 0 0 p t.body (decls_only start t.decls refl) named in
     let front : front_remarks (all_trees f) ≡ note_remarks p.notes =
-        ap front_remarks all ∙ front_both p.notes (listed_stmts t.body) ∙ ap (λ (ds : List DeclTree). note_remarks p.notes ++ ds) (no_front t.body begins) ∙ append-nil (note_remarks p.notes) in
+    ap front_remarks all ∙ front_both p.notes (listed_stmts t.body) ∙ ap (λ (ds : List DeclTree). note_remarks p.notes ++ ds) (no_front t.body begins) ∙ append-nil (note_remarks p.notes) in
     let rest : pack_stmts (behind_front (all_trees f)) ≡ t.body =
-        ap (λ (ts : List StmtTree). pack_stmts (behind_front ts)) all
-        ∙ ap pack_stmts (behind_notes p.notes (listed_stmts t.body) ∙ all_behind t.body begins)
-        ∙ packed t.body in
+    ap (λ (ts : List StmtTree). pack_stmts (behind_front ts)) all
+    ∙ ap pack_stmts (behind_notes p.notes (listed_stmts t.body) ∙ all_behind t.body begins)
+    ∙ packed t.body in
     let decls : flat_map (decl_trees saved) (decl_forms start t.decls) ++ front_remarks (all_trees f) ≡ t.decls =
-        ap (λ (ds : List DeclTree). flat_map (decl_trees saved) (decl_forms start t.decls) ++ ds) front ∙ decls_law saved start t.decls in
+    ap (λ (ds : List DeclTree). flat_map (decl_trees saved) (decl_forms start t.decls) ++ ds) front ∙ decls_law saved start t.decls in
     λ i. record { decls = decls i; body = rest i }
 
 pub form_labelled : (t : ProgramTree) → IsTrue (body_fits [] (whole_form t).body)

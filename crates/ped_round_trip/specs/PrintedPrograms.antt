@@ -1,0 +1,9 @@
+-- That a program is what its printed text says.
+use Rattle.std.specs.Prelude.{◌≡◌, ◌↔◌}
+use Rattle.ped_tree.specs.Tree.{ProgramTree}
+use Rattle.ped_tree.specs.Printing.{program_text}
+use Rattle.ped_tree.specs.Reading.{Reads}
+
+-- the printed text of the program reads as it and as no other program
+abbrev pub PrintsItself : ProgramTree → Type 0
+PrintsItself t = (u : ProgramTree) → Reads (program_text t) u ↔ (u ≡ t)

@@ -9,6 +9,7 @@ ghost use Rattle.ped_lines.specs.Views.{statement_of, statements_view};
 ghost use Rattle.ped_expressions.specs.ExpressionReading.{saturated};
 ghost use Rattle.ped_statements.specs.Saturated.{IsReadAs};
 ghost use Rattle.ped_items.specs.ItemViews.{entry_of};
+ghost use Rattle.ped_round_trip.specs.PrintedPrograms.{PrintsItself};
 ghost use Rattle.ped_parse.specs.Entries.{AreReadAs};
 ghost use Rattle.ped_parse.specs.Refusals.{IsRefusalOf};
 
@@ -23,15 +24,18 @@ use ped_tree::Program;
 use std::alloc::Global;
 
 /// The program that the text reads as, with the first lines of its declarations, its numbered statements
-/// and its PRIVATE statements; or the text's first refusal.
+/// and its PRIVATE statements; or the text's first refusal. A program that is read is what its printed
+/// text says: that text reads as this program, and as no other.
 ///
 /// # Errors
 ///
 /// `At` exactly where the text is refused, with the first of its refusals by line and then by number;
 /// `NoMemory` where memory runs out.
+#[tactic(auto, using(ped_round_trip::proofs::PrintedProgram::prints_itself))]
 pub fn read(alloc: Global, text: &[u8]) -> Result<Program, ReadRefusal>
     ensures tree { IfOk result (λ p. Reads text.now (program_tree p)) }
     ensures lines { IfOk result (λ p. HasFirstLines text.now p.lines.items) }
+    ensures printed { IfOk result (λ p. PrintsItself (program_tree p)) }
     ensures refused { IfErr result (λ e. IsRefusalOf text.now e) }
 {
     match statements(alloc, text) {

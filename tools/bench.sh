@@ -1,8 +1,9 @@
 #!/usr/bin/env bash
 # Measures how long `statements` of ped_lines takes to cut a program into statements, per byte, and how
-# much memory it has at its peak, on programs of 64 KiB, 256 KiB and 1 MiB; and how long `source_pane` of
-# ped_print takes, per byte of the pane, on programs of 250, 1,000 and 4,000 statements. It is no part of
-# the gate, and needs GNU time and awk. docs/PERFORMANCE.md says how to read the figures.
+# much memory it has at its peak, on programs of 64 KiB, 256 KiB and 1 MiB; how long `source_pane` of
+# ped_print takes, per byte of the pane, on programs of 250, 1,000 and 4,000 statements; and how long
+# `ped show` takes, and how much memory, on programs of 64 KiB, 256 KiB and 1 MiB that are read. It is no
+# part of the gate, and needs GNU time and awk. docs/PERFORMANCE.md says how to read the figures.
 #
 # usage: tools/bench.sh [RUNS]      of so many runs (5 where it isn't said) the least counts
 set -eu
@@ -39,6 +40,45 @@ stencil() {
             printf "%s", end
         }
     '
+}
+
+# A program of loops with no more bytes than this, of which each statement has four comments before it, so
+# that one of 1 MiB has fewer than 4,000 statements.
+commented() {
+    awk -v size="$1" '
+        function put(line) { text = text note note note note line "\n" }
+        BEGIN {
+            note = "C     " sprintf("%65s", "of the rows that follow, each sum is kept") "\n"
+            head = "      PROGRAM SUMS\n      INTEGER A(512), B(512)\n"
+            end = "      END\n"
+            printf "%s", head
+            total = length(head) + length(end)
+            for (;;) {
+                text = ""
+                put("      DO 10 I = 2, 511")
+                put("        IF (B(I).GT.A(I-1)) THEN")
+                put("          A(I) = A(I-1)+B(I)*3-MOD(I,7)")
+                put("        ELSE")
+                put("          A(I) = (A(I)+B(I+1))/2")
+                put("        END IF")
+                put("   10 CONTINUE")
+                total += length(text)
+                if (total > size) { break }
+                printf "%s", text
+            }
+            printf "%s", end
+        }
+    '
+}
+
+# The least of the runs' sums of what GNU time writes in this format for `ped show FILE`.
+least_show() {
+    local best='' i
+    for ((i = 0; i < runs; i++)); do
+        command time -f "$1" -o "$work/figure" ./ped show "$2" >/dev/null
+        best=$(awk -v best="$best" '{ sum = $1 + $2; print (best == "" || sum < best) ? sum : best }' "$work/figure")
+    done
+    printf '%s\n' "$best"
 }
 
 # The least of the runs' sums of what GNU time writes in this format, for a work done so many times.
@@ -92,6 +132,23 @@ for statements in 250 1000 4000; do
         -v no_seconds="$(least '%U %S' print "$statements" 0)" 'BEGIN {
             time = (seconds - no_seconds) * 1e9 / times / bytes
             printf "%10d %10d %10.2f\n", statements, bytes, time
+        }' | tee -a "$work/figures"
+done
+awk '{ if (NR == 1 || $3 < least) least = $3; if ($3 > most) most = $3 }
+    END { printf "greatest to least time per byte: %.2f\n", most / least }' "$work/figures"
+
+# The launcher's own time is that of showing a small file.
+printf '\n%10s %10s %10s %10s\n' bytes statements ns/byte MiB
+rm -f -- "$work/figures"
+no_seconds=$(least_show '%U %S' examples/recurrence.f)
+for kib in 64 256 1024; do
+    file=$work/commented-$kib.f
+    commented "$((kib * 1024))" >"$file"
+    bytes=$(wc -c <"$file")
+    statements=$(./ped show "$file" | awk 'substr($0, 6, 5) ~ /[0-9]/ { n++ } END { print n }')
+    awk -v bytes="$bytes" -v statements="$statements" -v seconds="$(least_show '%U %S' "$file")" \
+        -v no_seconds="$no_seconds" -v peak="$(least_show %M "$file")" 'BEGIN {
+            printf "%10d %10d %10.2f %10.1f\n", bytes, statements, (seconds - no_seconds) * 1e9 / bytes, peak / 1024
         }' | tee -a "$work/figures"
 done
 awk '{ if (NR == 1 || $3 < least) least = $3; if ($3 > most) most = $3 }

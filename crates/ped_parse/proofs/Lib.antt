@@ -3,4 +3,5 @@ pub mod LargeItems
 pub mod OneOfBoth
 pub mod OtherLiterals
 pub mod OtherRefusals
+pub mod PrintedHere
 pub mod ReadAs

@@ -31,7 +31,6 @@ use std::alloc::Global;
 ///
 /// `At` exactly where the text is refused, with the first of its refusals by line and then by number;
 /// `NoMemory` where memory runs out.
-#[tactic(auto, using(ped_round_trip::proofs::PrintedProgram::prints_itself))]
 pub fn read(alloc: Global, text: &[u8]) -> Result<Program, ReadRefusal>
     ensures tree { IfOk result (λ p. Reads text.now (program_tree p)) }
     ensures lines { IfOk result (λ p. HasFirstLines text.now p.lines.items) }

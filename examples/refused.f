@@ -1,8 +1,6 @@
       PROGRAM TWICE
       INTEGER A(10)
-      SAVE A
-      DO 10 I=2,10
-   10 A(I)=A(I-1)+1
-      DO 20 I=1,10
-   20 A(I)=A(I)+1
+      DO 10 I=1,10
+      I=I+1
+   10 A(I)=0
       END

@@ -1,0 +1,23 @@
+      PROGRAM PREFIX
+      PARAMETER (N=64)
+      INTEGER X(N),Y(N)
+      SAVE
+*     EACH ELEMENT BECOMES THE SUM OF ALL ELEMENTS UP TO IT. A ROUND
+*     ADDS WHAT STANDS ISTEP PLACES BEFORE, AND ISTEP DOUBLES.
+      DO 10 I=1,N
+   10 READ *,X(I)
+      ISTEP=1
+      DO 40 K=1,6
+      PARALLEL DO 20 I=1,N
+      IF (I.GT.ISTEP) THEN
+        Y(I)=X(I)+X(I-ISTEP)
+      ELSE
+        Y(I)=X(I)
+      END IF
+   20 CONTINUE
+      PARALLEL DO 30 I=1,N
+   30 X(I)=Y(I)
+   40 ISTEP=2*ISTEP
+      DO 50 I=1,N
+   50 PRINT *,I,X(I)
+      END

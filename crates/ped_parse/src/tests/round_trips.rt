@@ -336,7 +336,7 @@ fn of_long_lines() -> &'static str {
      & AND FURTHER, WITH BLANKS BETWEEN'
       END
 ==
-      PRINT *, 'AB AB AB AB AB AB AB AB AB AB AB AB AB AB AB AB AB AB ''''
+      PRINT *, 'AB AB AB AB AB AB AB AB AB AB AB AB AB AB AB AB AB AB X'
      &'C''
      & D'
       END
@@ -373,7 +373,7 @@ C BETWEEN
       IF (A.EQ.9) THEN
       IF (A.EQ.10) THEN
       IF (A.EQ.11) THEN
-      DO 10 I=AB+AB+AB+AB+AB+AB+AB+AB+AB+AB+AB+AB+AB+AB+AB+AB+AB+AB+AB+AB,
+      DO 10 I=AB+AB+AB+AB+AB+AB+AB+AB+AB+AB+AB+AB+AB+AB+AB+AB+AB+AB+AB,
      &AB+AB+AB+AB+AB+AB+AB+AB+AB+AB+AB+AB+AB+AB+AB+AB+AB+AB+AB+AB
    10 PRINT *, 'DEEP'
       END IF
@@ -390,7 +390,7 @@ C BETWEEN
       END
 ==
       K=1                                                               TEXT BEHIND COLUMN 72
-C                              A COMMENT IN THE MIDDLE     
+C                              A COMMENT IN THE MIDDLE
 c lower case
 *star
       END

@@ -70,28 +70,21 @@ fn chained(alloc: Global, count: u64) -> Result<Bytes, NoMemory> {
     Ok(text)
 }
 
-/// A declaration and a CONTINUE have no number, a logical IF and its statement one each.
+/// A logical IF and the statement behind it have a number each, a declaration and CONTINUE none.
 #[test]
 fn programs_have_4000_statements(rt: HostRuntime) -> Result<(), Fail> {
     let alloc = rt.alloc();
     let logical = "      IF (K.EQ.1) K=2\n";
-    let end = "      CONTINUE\n      END\n";
-    let rows: [(&str, &str, u64, &str); 4] = [
-        ("      INTEGER K\n", "      K=1\n", 4_000, "read"),
-        (
-            "      INTEGER K\n",
-            "      K=1\n",
-            4_001,
-            "13 Limit at 4002",
-        ),
-        ("      CONTINUE\n", logical, 2_000, "read"),
-        ("      K=1\n", logical, 2_000, "13 Limit at 2001"),
+    let rows: [(&str, &str, &str); 3] = [
+        ("      INTEGER K\n", "      CONTINUE\n", "read"),
+        ("      INTEGER K\n", "      K=1\n", "13 Limit at 2002"),
+        ("      K=1\n", "      K=\n", "13 Limit at 2001"),
     ];
-    for (first, statement, count, expected) in rows {
-        let parts = [(first, 1), (statement, count), (end, 1)];
+    for (first, last, expected) in rows {
+        let parts = [(first, 1), (logical, 2_000), (last, 1), ("      END\n", 1)];
         let text = repeated(alloc, &parts)?;
         let outcome = outcome(alloc, text.as_slice())?;
-        assert_eq!(rt; outcome.as_str(), expected, "{count} times {statement}");
+        assert_eq!(rt; outcome.as_str(), expected, "between {first} and {last}");
     }
     Ok(())
 }

@@ -8,3 +8,6 @@ mod refusals;
 pub use laws_of_reading::one_tree_or_one_refusal;
 pub use reading::read;
 pub use refusals::{ReadRefusal, Refusal, RefusalKind};
+
+#[cfg(test)]
+mod tests;

@@ -2,9 +2,11 @@
 use Rattle.std.proofs.Common.{◌≡◌, ℕ, ◌+◌, List, [], ◌∷◌, ◌++◌, refl, sym, ap, ap₂, ◌∙◌, subst, inl, add-zero, arith}
 use Rattle.ped_tree.specs.Tree.{StmtTree, StmtTrees, Assign, If, Do, Print, Read, Stop, Comment, no_stmts, more_stmts, DeclTree, Program, Implicit, Integer, Dimension, Parameter, Save, Remark, ProgramTree}
 use Rattle.ped_tree.specs.Numbering.{statement_count, statements_count}
-use Rattle.ped_tree.specs.References.{Loop, Reference, numbered, own_accesses, indices_of, constants_in, constant_names, statement_references, statements_references, references}
-use Rattle.ped_tree.specs.Edges.{Edge, EdgesOfPairs, AreEdges, pairs}
-use Rattle.ped_tree.specs.DependencePane.{edges_pane}
+use Rattle.ped_tree.specs.Nests.{Loop, indices_of}
+use Rattle.ped_refs.specs.References.{Reference, numbered_accesses, statement_references, statements_references, references}
+use Rattle.ped_tree.specs.Accesses.{own_accesses, constants_in, constant_names}
+use Rattle.ped_graph.specs.Edges.{Edge, EdgesOfPairs, AreEdges, pairs}
+use Rattle.ped_graph.specs.DependencePane.{edges_pane}
 use Rattle.ped.specs.SmallTree.{small_tree}
 use Rattle.ped.specs.SmallForm.{IsMadeOf}
 use Rattle.ped.specs.Answer.{IsDependencePart}
@@ -58,12 +60,12 @@ module _ (constants : List (List ℕ)) where
     reference_alone : (nest : List Loop) (n : ℕ) (s : StmtTree) → statement_references constants nest n (uncommented s) ≡ statement_references constants nest n s
     reference_alone nest n (Assign left right) = refl
     reference_alone nest n (If c a b) =
-        ap₂ (λ (x : List Reference) (m : ℕ). numbered n 1 nest (own_accesses (constants ++ indices_of nest) (If c a b)) ++ x ++ statements_references constants nest (n + 1 + m) (all_uncommented b))
+        ap₂ (λ (x : List Reference) (m : ℕ). numbered_accesses n 1 nest (own_accesses (constants ++ indices_of nest) (If c a b)) ++ x ++ statements_references constants nest (n + 1 + m) (all_uncommented b))
         (references_alone nest (n + 1) a) (counts_alone a)
-        ∙ ap (λ (y : List Reference). numbered n 1 nest (own_accesses (constants ++ indices_of nest) (If c a b)) ++ statements_references constants nest (n + 1) a ++ y)
+        ∙ ap (λ (y : List Reference). numbered_accesses n 1 nest (own_accesses (constants ++ indices_of nest) (If c a b)) ++ statements_references constants nest (n + 1) a ++ y)
         (references_alone nest (n + 1 + statements_count a) b)
     reference_alone nest n (Do h body) =
-        ap (λ (x : List Reference). numbered n 1 nest (own_accesses (constants ++ indices_of nest) (Do h body)) ++ x)
+        ap (λ (x : List Reference). numbered_accesses n 1 nest (own_accesses (constants ++ indices_of nest) (Do h body)) ++ x)
         (references_alone (nest ++ (record { number = n; head = h }) ∷ []) (n + 1) body)
     reference_alone nest n (Print items) = refl
     reference_alone nest n (Read items) = refl

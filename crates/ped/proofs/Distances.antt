@@ -1,12 +1,12 @@
 -- Distances of index values that meet under one coefficient, over plain variables.
 use Rattle.std.proofs.Common.{◌≡◌, ◌↔◌, refl, sym, ap, subst, ◌∙◌, arith, ℤ, pos, ◌+ℤ◌, ◌-ℤ◌, ◌*ℤ◌, Bool, true, false, not, IsTrue, Option, Some, None, MatchOption, is_some}
 use Rattle.std.proofs.Math.IntN.{*ℤ-zero}
-use Rattle.ped_base.specs.declared.directions.Direction.{Direction}
-use Rattle.ped_base.specs.declared.directions.Direction.TheVariants.{Before, Same, After}
-use Rattle.ped_base.specs.Whole.{Divides}
-use Rattle.ped_base.specs.Views.{Range}
-use Rattle.ped_base.specs.Excluded.{StandsByValue, by_value, InRange, Meets, NeverMeetsInStep}
-use Rattle.ped_base.proofs.Products.{linear, mul-sub, mul-cancel}
+use Rattle.ped_views.specs.declared.directions.Direction.{Direction}
+use Rattle.ped_views.specs.declared.directions.Direction.TheVariants.{Before, Same, After}
+use Rattle.ped_views.specs.Whole.{Divides}
+use Rattle.ped_views.specs.Views.{Range}
+use Rattle.ped_views.specs.Excluded.{StandsByValue, by_value, InRange, Meets, NeverMeetsInStep}
+use Rattle.ped_views.proofs.Products.{linear, mul-sub, mul-cancel}
 use Rattle.ped.specs.Distances.{FitsSpan}
 
 -- index values that make the subscripts equal stand at the distance, and those at the distance make them equal

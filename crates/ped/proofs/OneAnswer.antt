@@ -3,10 +3,10 @@ use Rattle.std.proofs.Common.{◌≡◌, inl, inr, ℕ, Bool, true, false, List,
 use Rattle.std.specs.Prelude.{MatchOption, MatchBool, nat_lt}
 use Rattle.ped_io.specs.Outside.{Contents, content}
 use Rattle.ped_tree.specs.Tree.{ProgramTree}
-use Rattle.ped_tree.specs.Refusal.{Finding}
-use Rattle.ped_tree.specs.Reading.{Reads, Refuses}
+use Rattle.ped_grammar.specs.Refusal.{Finding}
+use Rattle.ped_grammar.specs.Reading.{Reads, Refuses}
 use Rattle.ped_tree.specs.SourcePane.{source_pane}
-use Rattle.ped_tree.proofs.OnePane.{one_pane}
+use Rattle.ped_graph.proofs.OnePane.{one_pane}
 use Rattle.ped_parse.proofs.OneOfBoth.{one_of_both}
 use Rattle.ped.specs.declared.answering.Status.{Status}
 use Rattle.ped.specs.declared.answering.Status.TheVariants.{Done, BadWords, ReadFault, WriteFault, ProgramRefused, NoMemory, TooLong}

@@ -10,8 +10,8 @@ use Rattle.ped_io.specs.Faults.{IsWriteFault}
 use Rattle.ped.specs.declared.answering.Status.{Status}
 use Rattle.ped.specs.declared.answering.Status.TheVariants.{Done, BadWords, ReadFault, WriteFault, ProgramRefused, NoMemory, TooLong}
 use Rattle.ped_tree.specs.Tree.{ProgramTree}
-use Rattle.ped_tree.specs.Refusal.{Finding}
-use Rattle.ped_tree.specs.Reading.{Reads, Refuses}
+use Rattle.ped_grammar.specs.Refusal.{Finding}
+use Rattle.ped_grammar.specs.Reading.{Reads, Refuses}
 use Rattle.ped.specs.Refusals.{refused_line}
 use Rattle.ped.specs.Answer.{Request, show, inputs_of, IsOneOf, HoldsTooMany, program_limit, MayAnswer, Answers, AnswersBytes, IsFrontOfAnswer, IsOutcome, IsShown, IsJust, ShowsTree, cannot_read_line, too_long_line}
 

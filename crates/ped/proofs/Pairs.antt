@@ -4,16 +4,19 @@ use Rattle.std.proofs.lemmas.Int.{ints}
 use Rattle.std.proofs.lemmas.List.{map-append, append-nil}
 use Rattle.std.proofs.lemmas.Bool.{le-leb}
 use Rattle.std.specs.Cmp.Lexicographic.{bytes_decides}
-use Rattle.ped_base.specs.declared.directions.Direction.{Direction}
-use Rattle.ped_base.specs.declared.directions.Direction.TheVariants.{Before, Same, After}
-use Rattle.ped_base.specs.Views.{Range, View}
-use Rattle.ped_base.specs.Excluded.{NeverMeetsInStep}
-use Rattle.ped_base.specs.Vectors.{AreThose, IsPossible, AreVectors}
+use Rattle.ped_views.specs.declared.directions.Direction.{Direction}
+use Rattle.ped_views.specs.declared.directions.Direction.TheVariants.{Before, Same, After}
+use Rattle.ped_views.specs.Views.{Range, View}
+use Rattle.ped_views.specs.Excluded.{NeverMeetsInStep}
+use Rattle.ped_views.specs.Vectors.{AreThose, IsPossible, AreVectors}
 use Rattle.ped_tree.specs.Tree.{Int, Var}
-use Rattle.ped_tree.specs.References.{Loop, Access, Reference, same_name, read_of, write_of, expr_reads, numbered, references}
-use Rattle.ped_tree.specs.Edges as plain
-use Rattle.ped_tree.specs.Edges.{pairs, proven, pending, runs_twice, PairEdges, EdgesOfPairs, AreEdges}
-use Rattle.ped_tree.specs.Affine.{Affine, affine, affine_of, combination, limited, subscript_pair, view_by as view_options, view_of}
+use Rattle.ped_tree.specs.Nests.{Loop}
+use Rattle.ped_tree.specs.Accesses.{Access, read_of, write_of, expr_reads}
+use Rattle.ped_refs.specs.References.{Reference, numbered_accesses, references}
+use Rattle.ped_base.specs.Lists.{is_same_text}
+use Rattle.ped_graph.specs.Edges as plain
+use Rattle.ped_graph.specs.Edges.{pairs, proven, pending, runs_twice, PairEdges, EdgesOfPairs, AreEdges}
+use Rattle.ped_affine.specs.Affine.{Affine, affine, affine_of, combination, limited, subscript_pair, view_by as view_options, view_of}
 use Rattle.ped.specs.declared.small_form.Subscript.{Subscript}
 use Rattle.ped.specs.declared.small_form.Subscript.TheVariants.{Plain, Plus, Minus}
 use Rattle.ped.specs.declared.small_form.Small.{Small}
@@ -24,7 +27,7 @@ use Rattle.ped.specs.SmallTree.{subscript_tree, small_tree}
 use Rattle.ped.specs.Dependences.{offset_of, small_range, ArePossible, mark_of, mark_by, edges_by, edges_of, edge_of}
 
 -- a name is the same as itself
-pub same_refl : (x : List ℕ) → same_name x x ≡ true
+pub same_refl : (x : List ℕ) → is_same_text x x ≡ true
 same_refl x = (bytes_decides x x).1 refl
 
 -- the loop round the assignment
@@ -50,7 +53,7 @@ nothing_read v (Minus n) = rw (same_refl v) refl
 pub references_are : (small : Small) → references (small_tree small) ≡ reference_of small 1 false small.source ∷ reference_of small 2 true small.target ∷ []
 references_are small =
     let v = small.variable in
-    let all : List Access → List Access → List Reference = λ (source target : List Access). (numbered 2 1 (loop_of small ∷ [])
+    let all : List Access → List Access → List Reference = λ (source target : List Access). (numbered_accesses 2 1 (loop_of small ∷ [])
     ((((source ++ []) ++ read_of small.array (subscript_tree v small.source ∷ []) ∷ []) ++ []) ++ ((target ++ []) ++ write_of small.array (subscript_tree v small.target ∷ []) ∷ [])) ++ []) ++ [] in
     ap (λ (x : List Access). all x (expr_reads (v ∷ []) (subscript_tree v small.target))) (nothing_read v small.source)
     ∙ ap (λ (x : List Access). all [] x) (nothing_read v small.target)

@@ -2,10 +2,10 @@
 use Rattle.std.specs.Prelude.{◌≡◌, ◌⊎◌, ℕ, ◌<◌, List, [], ◌∷◌, ◌++◌, length, codes, Bool, false, ◌==◌, nat_lt, Option, Some, None, MatchOption, MatchBool, if◌then◌else◌}
 use Rattle.ped_io.specs.Outside.{Contents, content}
 use Rattle.ped_tree.specs.Tree.{ProgramTree}
-use Rattle.ped_tree.specs.Refusal.{Finding}
-use Rattle.ped_tree.specs.Reading.{Reads, Refuses}
+use Rattle.ped_grammar.specs.Refusal.{Finding}
+use Rattle.ped_grammar.specs.Reading.{Reads, Refuses}
 use Rattle.ped_tree.specs.SourcePane.{source_pane}
-use Rattle.ped_tree.specs.DependencePane.{IsDependencePane}
+use Rattle.ped_graph.specs.DependencePane.{IsDependencePane}
 use Rattle.ped.specs.declared.answering.Status.{Status}
 use Rattle.ped.specs.declared.answering.Status.TheVariants.{Done, BadWords, ReadFault, WriteFault, ProgramRefused, NoMemory, TooLong}
 use Rattle.ped.specs.Refusals.{refused_line}

@@ -1,12 +1,12 @@
 -- The dependences that the code finds, and what they stand for.
 use Rattle.std.specs.Prelude.{◌↔◌, ℕ, ℤ, pos, neg_ℤ, ◌-ℤ◌, ◌*ℤ◌, List, [], ◌∷◌, ◌++◌, map, Bool, true, false, ◌&&◌, nat_lt, IsTrue, Option, Some, None, if◌then◌else◌}
-use Rattle.ped_base.specs.declared.directions.Direction.{Direction}
-use Rattle.ped_base.specs.declared.directions.Direction.TheVariants.{Before, Same, After}
-use Rattle.ped_base.specs.Whole.{whole_quotient}
-use Rattle.ped_base.specs.Views.{Range, range}
-use Rattle.ped_base.specs.Excluded.{NeverMeetsInStep}
-use Rattle.ped_tree.specs.Edges as plain
-use Rattle.ped_tree.specs.Edges.{runs_twice}
+use Rattle.ped_views.specs.declared.directions.Direction.{Direction}
+use Rattle.ped_views.specs.declared.directions.Direction.TheVariants.{Before, Same, After}
+use Rattle.ped_views.specs.Whole.{whole_quotient}
+use Rattle.ped_views.specs.Views.{Range, range}
+use Rattle.ped_views.specs.Excluded.{NeverMeetsInStep}
+use Rattle.ped_graph.specs.Edges as plain
+use Rattle.ped_graph.specs.Edges.{runs_twice}
 use Rattle.ped.specs.declared.small_form.Subscript.{Subscript}
 use Rattle.ped.specs.declared.small_form.Subscript.TheVariants.{Plain, Plus, Minus}
 use Rattle.ped.specs.declared.small_form.Small.{Small}

@@ -1,7 +1,7 @@
 -- Distances in the range of a loop.
 use Rattle.std.specs.Prelude.{◌≡◌, ℤ, pos, neg_ℤ, ◌≤ℤ◌, ◌<ℤ◌}
-use Rattle.ped_base.specs.declared.directions.Direction.{Direction}
-use Rattle.ped_base.specs.declared.directions.Direction.TheVariants.{Before, Same, After}
+use Rattle.ped_views.specs.declared.directions.Direction.{Direction}
+use Rattle.ped_views.specs.declared.directions.Direction.TheVariants.{Before, Same, After}
 
 -- two values at this distance stand so by their values, and lie in a range that ends this far above its start
 abbrev pub FitsSpan : Direction → ℤ → ℤ → Type 0

@@ -1,7 +1,7 @@
 -- The line that says why a program's text is refused.
 use Rattle.std.specs.Prelude.{ℕ, List, [], ◌∷◌, ◌++◌, codes}
 use Rattle.std.specs.Fmt.{decimal}
-use Rattle.ped_tree.specs.Refusal.{Refusal, Tab, BadLabel, TooManyContinuations, ContinuationFirst, BadCharacter, OpenConstant, Syntax, NotInProfile, OpenBlock, BadTerminal, IndexAssigned, StopPlace, Limit, number_of, Finding}
+use Rattle.ped_grammar.specs.Refusal.{Refusal, Tab, BadLabel, TooManyContinuations, ContinuationFirst, BadCharacter, OpenConstant, Syntax, NotInProfile, OpenBlock, BadTerminal, IndexAssigned, StopPlace, Limit, number_of, Finding}
 
 -- the name of a refusal
 abbrev pub name_text : Refusal → List ℕ

@@ -4,7 +4,7 @@ ghost use Rattle.std.specs.Prelude.{◌≡◌, ◌≢◌, ◌⊎◌, ◌++◌, �
 ghost use Rattle.ped_io.specs.Outside.{Contents, content, IsHeld, Rose};
 ghost use Rattle.ped_io.specs.Shelves.{all_names};
 ghost use Rattle.ped_tree.specs.Views.{program_tree};
-ghost use Rattle.ped_parse.specs.Refusals.{finding_of};
+ghost use Rattle.ped_grammar.specs.RefusalViews.{finding_of};
 ghost use Rattle.ped.specs.Refusals as Refusals;
 ghost use Rattle.ped.specs.Answer;
 ghost use Rattle.ped.specs.Answer.{Request, request_of, show, inputs_of, IsOneOf, HoldsTooMany, program_limit, Answers, MayAnswer, Sends, IsShown, IsJust, ShowsTree};

@@ -2,13 +2,14 @@
 //! reads and the element that it writes, in its one loop.
 
 ghost use Rattle.std.specs.Prelude.{◌≡◌, [], ◌∷◌, ◌++◌, ◌≤◌, ◌^◌, ◌&&◌, nat_lt, unsigned_abs, IfOk, OnOk, if◌then◌else◌};
-ghost use Rattle.ped_tree.specs.Edges.{AreEdges, runs_twice};
+ghost use Rattle.ped_graph.specs.Edges.{AreEdges, runs_twice};
 ghost use Rattle.ped.specs.SmallTree.{small_tree};
 ghost use Rattle.ped.specs.Dependences.{ArePossible, edges_by, edges_of, offset_of, small_range, kind_by, mark_by};
 
 use crate::small_form::{Small, Subscript};
 use crate::strong::{strong_distance, strong_excludes};
-use ped_base::{Direction, LoopRange, NoMemory};
+use ped_base::{NoMemory};
+use ped_views::{Direction, LoopRange};
 use std::alloc::Global;
 
 /// How the source and the sink of a dependence use the element.

@@ -1,7 +1,7 @@
 //! The line that says why a program's text is refused.
 
 ghost use Rattle.std.specs.Prelude.{◌≡◌, IfOk};
-ghost use Rattle.ped_parse.specs.Refusals.{kind_of, finding_of};
+ghost use Rattle.ped_grammar.specs.RefusalViews.{kind_of, finding_of};
 ghost use Rattle.ped.specs.Refusals as Spec;
 ghost use Rattle.ped.specs.Refusals.{name_text};
 

@@ -1,12 +1,12 @@
 //! The strong SIV test: subscripts in one common index, with one coefficient on both sides.
 
 ghost use Rattle.std.specs.Prelude.{◌≡◌, ◌<◌, ◌<ℤ◌, ◌-ℤ◌, ◌*ℤ◌, ◌^◌, ◌↔◌, pos, neg_ℤ, unsigned_abs, IsTrue, MatchOption};
-ghost use Rattle.ped_base.specs.Whole.{Divides, whole_quotient};
-ghost use Rattle.ped_base.specs.Excluded as excluded;
-ghost use Rattle.ped_base.specs.Excluded.{NeverMeetsInStep};
+ghost use Rattle.ped_views.specs.Whole.{Divides, whole_quotient};
+ghost use Rattle.ped_views.specs.Excluded as excluded;
+ghost use Rattle.ped_views.specs.Excluded.{NeverMeetsInStep};
 ghost use Rattle.ped.specs.Distances.{FitsSpan};
 
-use ped_base::{Direction, LoopRange, exact_quotient};
+use ped_views::{Direction, LoopRange, exact_quotient};
 
 /// Whether the subscripts `a * i + c1` at the source and `a * j + c2` at the sink exclude a direction of
 /// the loop (Allen and Kennedy, section 3.3, strong SIV). `a` isn't 0; nothing is asked of the sizes.

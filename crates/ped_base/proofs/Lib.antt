@@ -1,4 +1,1 @@
-pub mod Chosen
-mod Equal
 mod Keeping
-pub mod Products

@@ -1,9 +1,13 @@
 -- How the bounds of an array are kept.
-use Rattle.std.specs.Prelude.{◌≡◌, ◌-◌, ◌≤◌, pos, ◌++◌, length, take, drop, replicate}
+use Rattle.std.specs.Prelude.{◌≡◌, ◌-◌, ◌≤◌, ℤ, pos, List, ◌++◌, length, take, drop, replicate}
 use Rattle.std.proofs.Common.{arith}
 use Rattle.std.proofs.lemmas.List.{length-take-le, take-append-drop}
-use Rattle.ped_base.specs.Views.{Dimensions}
-use Rattle.ped_base.specs.declared.ranges.Bounds.TheInside.{Inside}
+use Rattle.ped_base.specs.declared.bounds.Bounds.TheInside.{Inside}
+
+-- the dimensions of an array: its lower and its upper bounds, none for a scalar
+pub record Dimensions : Type 0 where
+  pub lower : List ℤ
+  pub upper : List ℤ
 
 -- the bounds of the dimensions
 abbrev pub dimensions : Inside → Dimensions

@@ -2,19 +2,18 @@
 use Rattle.std.proofs.Common.{◌≡◌, ℕ, List, [], ◌∷◌, ◌++◌, map, Bool, true, false, cond, Option, Some, None, refl, sym, ap, subst, ◌∙◌, arith, append_assoc, ◌⊎◌, inl, inr}
 use Rattle.std.specs.Prelude.{IsTrue, ◌||◌, not, nat_le, max}
 use Rattle.std.proofs.lemmas.List.{map_push}
-use Rattle.ped_tree.specs.Tree.{Program, Implicit, Integer, Dimension, Parameter, Save, Remark}
-use Rattle.ped_tree.specs.References.{has_some}
-use Rattle.ped_tree.specs.Refusal.{Refusal, Finding, stands, earlier, earliest, first_of, is_before}
-use Rattle.ped_tree.specs.Statement.{Statement, Statements}
-use Rattle.ped_tree.specs.Items.{Item, declares, saves_all, does, continues, logical_if, block_if, else_if, else_line, end_if, begins_do, keeps_private, ends_program, Reading, says, outside_profile, no_form, Entry}
-use Rattle.ped_tree.specs.Occurrences.{saved_names}
-use Rattle.ped_tree.specs.Contexts.{Block, Context, at_start, rank, is_do, blocks_behind, behind_item, behind_reading, behind, behind_all}
-use Rattle.ped_tree.specs.BlockForms.{BodyForm, nothing, entry, body_entries, body_fits}
-use Rattle.ped_tree.specs.ProgramForms.{DeclForm, a_declaration, a_save_of_all, ProgramForm, decl_entry, program_entries}
-use Rattle.ped_tree.specs.ProgramRefusals.{where_it_says, is_outside, is_out_of_order, lacks_if, is_late_private, saves_again, is_misplaced, is_behind_end, breaks_syntax, leaves_open, ends_badly, at_statement, at_statements, at_end, program_refusals}
-use Rattle.ped_tree.specs.Tree.{ProgramTree}
-use Rattle.ped_tree.specs.Grouping.{statements_of}
-use Rattle.ped_tree.specs.Reading.{IsCutInto, first_program_refusal, Refuses, in_statements, Reads}
+use Rattle.ped_tree.specs.Tree.{Program, Implicit, Integer, Dimension, Parameter, Save, Remark, ProgramTree}
+use Rattle.ped_base.specs.Lists.{has_some}
+use Rattle.ped_grammar.specs.Refusal.{Refusal, Finding, stands, earlier, earliest, first_of, is_before}
+use Rattle.ped_grammar.specs.Statement.{Statement, Statements}
+use Rattle.ped_grammar.specs.Items.{Item, declares, saves_all, does, continues, logical_if, block_if, else_if, else_line, end_if, begins_do, keeps_private, ends_program, Reading, says, outside_profile, no_form, Entry}
+use Rattle.ped_grammar.specs.Occurrences.{saved_names}
+use Rattle.ped_grammar.specs.Contexts.{Block, Context, at_start, rank, is_do, blocks_behind, behind_item, behind_reading, behind, behind_all}
+use Rattle.ped_grammar.specs.BlockForms.{BodyForm, nothing, entry, body_entries, body_fits}
+use Rattle.ped_grammar.specs.ProgramForms.{DeclForm, a_declaration, a_save_of_all, ProgramForm, decl_entry, program_entries}
+use Rattle.ped_grammar.specs.ProgramRefusals.{where_it_says, is_outside, is_out_of_order, lacks_if, is_late_private, saves_again, is_misplaced, is_behind_end, breaks_syntax, leaves_open, ends_badly, at_statement, at_statements, at_end, program_refusals}
+use Rattle.ped_grammar.specs.Grouping.{statements_of}
+use Rattle.ped_grammar.specs.Reading.{IsCutInto, first_program_refusal, Refuses, in_statements, Reads}
 use Rattle.ped_blocks.specs.Machine.{nothing_built, take_entries, built_program}
 use Rattle.ped_blocks.proofs.BlocksNest.{form_built}
 use Rattle.ped_blocks.proofs.BlocksMoved.{Part, around, labels, stack_entries, StackFits, Fresh, moved}

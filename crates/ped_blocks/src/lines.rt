@@ -3,11 +3,11 @@
 ghost use Rattle.std.specs.Prelude.{◌≡◌, ◌++◌, map, replicate, IfOk, OnOk};
 ghost use Rattle.ped_tree.specs.Views.{stmt_tree, stmt_trees};
 ghost use Rattle.ped_tree.specs.Numbering.{statement_count, statements_count};
-ghost use Rattle.ped_tree.specs.ProgramForms as Spec;
-ghost use Rattle.ped_items.specs.ItemViews.{behind_logical, entry_of, item_of, reading_of};
+ghost use Rattle.ped_grammar.specs.ProgramForms as Spec;
+ghost use Rattle.ped_grammar.specs.ItemViews.{behind_logical, entry_of, item_of, reading_of};
 
 use ped_base::{Names, NoMemory};
-use ped_items::{Entry, Item, StatementReading};
+use ped_grammar::{Entry, Item, StatementReading};
 use ped_tree::Stmt;
 use std::alloc::Global;
 

@@ -8,8 +8,9 @@ use Rattle.ped_base.specs.Letters.{is_digit, is_alphanumeric}
 use Rattle.ped_tree.specs.declared.expressions.Intrinsic.{Intrinsic}
 use Rattle.ped_tree.specs.declared.expressions.Intrinsic.TheVariants.{Mod, Abs, Max, Min}
 use Rattle.ped_tree.specs.Tree.{ExprTree, ExprTrees, Int, no_exprs, more_exprs}
-use Rattle.ped_tree.specs.Words.{is_name, is_numeral, numeral_value, same_word, intrinsic_of}
-use Rattle.ped_tree.specs.ExpressionForms.{unsigned, positive, negative, Adding, add, subtract, Scaling, multiply, divide, ExprForm, TermForm, FactorForm, PrimaryForm, ReferenceForm, ExprsForm, first, sum, single, product, plain, power, literal, reference, remainder, absolute, greatest, least, parentheses, scalar, element, one, more, adding_text, scaling_text, expr_form_text, term_form_text, factor_form_text, primary_form_text, reference_form_text, exprs_form_text, expr_form_tree, term_form_tree, factor_form_tree, primary_form_tree, reference_form_tree, exprs_form_trees}
+use Rattle.ped_grammar.specs.Words.{is_name, is_numeral, numeral_value, intrinsic_of}
+use Rattle.ped_base.specs.Lists.{is_same_text}
+use Rattle.ped_grammar.specs.ExpressionForms.{unsigned, positive, negative, Adding, add, subtract, Scaling, multiply, divide, ExprForm, TermForm, FactorForm, PrimaryForm, ReferenceForm, ExprsForm, first, sum, single, product, plain, power, literal, reference, remainder, absolute, greatest, least, parentheses, scalar, element, one, more, adding_text, scaling_text, expr_form_text, term_form_text, factor_form_text, primary_form_text, reference_form_text, exprs_form_text, expr_form_tree, term_form_tree, factor_form_tree, primary_form_tree, reference_form_tree, exprs_form_trees}
 use Rattle.ped_expressions.specs.Scanning.{front, behind, after, sign_at, adding_at, scaling_at}
 use Rattle.ped_expressions.specs.ExpressionReading.{with_literals, all_with_literals, expr_count, applied, expr_of, sums_of, term_of, products_of, factor_of, primary_of, named_of, exprs_of}
 use Rattle.ped_expressions.proofs.Basics.{chosen}
@@ -89,31 +90,31 @@ name_begins : (x rest : List ℕ) → is_name x ≡ true → begins_primary (x +
 name_begins [] rest h = absurd cc
 name_begins (c ∷ cs) rest h = grind arith
 
-word_is_name : (x w : List ℕ) → same_word x w ≡ true → is_name w ≡ true → is_name x ≡ true
+word_is_name : (x w : List ℕ) → is_same_text x w ≡ true → is_name w ≡ true → is_name x ≡ true
 word_is_name x w s n = subst (λ (y : List ℕ). is_name y ≡ true) (sym (same_text x w (sym s))) n
 
-one_of_words : (x u w : List ℕ) → (same_word x u || same_word x w) ≡ true → is_name u ≡ true → is_name w ≡ true → is_name x ≡ true
+one_of_words : (x u w : List ℕ) → (is_same_text x u || is_same_text x w) ≡ true → is_name u ≡ true → is_name w ≡ true → is_name x ≡ true
 one_of_words x u w s n m =
-    let go : (a : Bool) → same_word x u ≡ a → (a || same_word x w) ≡ true → is_name x ≡ true = λ a. elim a as (λ a. same_word x u ≡ a → (a || same_word x w) ≡ true → is_name x ≡ true) [
+    let go : (a : Bool) → is_same_text x u ≡ a → (a || is_same_text x w) ≡ true → is_name x ≡ true = λ a. elim a as (λ a. is_same_text x u ≡ a → (a || is_same_text x w) ≡ true → is_name x ≡ true) [
       | true ↦ λ h k. word_is_name x u h n
       | false ↦ λ h k. word_is_name x w k m
     ] in
-    go (same_word x u) refl s
+    go (is_same_text x u) refl s
 
 -- each intrinsic function's name is a name
 intrinsic_name : (x : List ℕ) (f : Intrinsic) → intrinsic_of x ≡ Some f → is_name x ≡ true
 unfolding intrinsic_of
 intrinsic_name x f h =
-    let least_or_none : Option Intrinsic = cond (same_word x (codes "MIN") || same_word x (codes "MIN0")) (Some Min) None in
-    let greatest_or_less : Option Intrinsic = cond (same_word x (codes "MAX") || same_word x (codes "MAX0")) (Some Max) least_or_none in
-    let absolute_or_less : Option Intrinsic = cond (same_word x (codes "ABS") || same_word x (codes "IABS")) (Some Abs) greatest_or_less in
-    elim (chosen (same_word x (codes "MOD")) (Some Mod) absolute_or_less (Some f) h) [
+    let least_or_none : Option Intrinsic = cond (is_same_text x (codes "MIN") || is_same_text x (codes "MIN0")) (Some Min) None in
+    let greatest_or_less : Option Intrinsic = cond (is_same_text x (codes "MAX") || is_same_text x (codes "MAX0")) (Some Max) least_or_none in
+    let absolute_or_less : Option Intrinsic = cond (is_same_text x (codes "ABS") || is_same_text x (codes "IABS")) (Some Abs) greatest_or_less in
+    elim (chosen (is_same_text x (codes "MOD")) (Some Mod) absolute_or_less (Some f) h) [
       | inl a ↦ word_is_name x (codes "MOD") a.0 refl
-      | inr a ↦ elim (chosen (same_word x (codes "ABS") || same_word x (codes "IABS")) (Some Abs) greatest_or_less (Some f) a.1) [
+      | inr a ↦ elim (chosen (is_same_text x (codes "ABS") || is_same_text x (codes "IABS")) (Some Abs) greatest_or_less (Some f) a.1) [
         | inl b ↦ one_of_words x (codes "ABS") (codes "IABS") b.0 refl refl
-        | inr b ↦ elim (chosen (same_word x (codes "MAX") || same_word x (codes "MAX0")) (Some Max) least_or_none (Some f) b.1) [
+        | inr b ↦ elim (chosen (is_same_text x (codes "MAX") || is_same_text x (codes "MAX0")) (Some Max) least_or_none (Some f) b.1) [
           | inl d ↦ one_of_words x (codes "MAX") (codes "MAX0") d.0 refl refl
-          | inr d ↦ elim (chosen (same_word x (codes "MIN") || same_word x (codes "MIN0")) (Some Min) None (Some f) d.1) [
+          | inr d ↦ elim (chosen (is_same_text x (codes "MIN") || is_same_text x (codes "MIN0")) (Some Min) None (Some f) d.1) [
             | inl e ↦ one_of_words x (codes "MIN") (codes "MIN0") e.0 refl refl
             | inr e ↦ absurd (let z = e.1 in cc)
           ]

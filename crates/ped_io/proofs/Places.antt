@@ -7,7 +7,8 @@ use Rattle.std.proofs.lemmas.Bool.Decides.{nat_tests}
 use Rattle.std.proofs.lemmas.List.Folds.{find_at}
 use Rattle.std.proofs.lemmas.List.Sums.{prefix_len-le-length, prefix_len_stops}
 use Rattle.std.proofs.lemmas.Option.{same_Some, slice_get_past}
-use Rattle.ped_io.specs.Outside.{Contents, is_same_text, file_named, IsHeld}
+use Rattle.ped_io.specs.Outside.{Contents, file_named, IsHeld}
+use Rattle.ped_base.specs.Lists.{is_same_text}
 use Rattle.ped_io.specs.Shelves.{place_of}
 
 not_false : (b : Bool) → not b ≡ false → b ≡ true

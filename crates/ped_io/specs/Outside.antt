@@ -1,15 +1,11 @@
 -- What stands outside: files by name, the bytes that a read gives, and counts of faults.
-use Rattle.std.specs.Prelude.{◌≡◌, ◌⊎◌, ◌<◌, ◌≤◌, ℕ, Bool, List, Option, IsSome, length, take, drop, nat_eq, find, option_map}
+use Rattle.std.specs.Prelude.{◌≡◌, ◌⊎◌, ◌<◌, ◌≤◌, ℕ, List, Option, IsSome, length, take, drop, find, option_map}
 use Rattle.std.specs.Option.{option_or}
-use Rattle.std.specs.Cmp.Lexicographic.{pointwise}
+use Rattle.ped_base.specs.Lists.{is_same_text}
 
 -- a count of faults has risen, or it stands at the greatest number that 64 bits hold and can't rise
 abbrev pub Rose : ℕ → ℕ → Type 0
 Rose before now = (before < now) ⊎ (now ≡ 18446744073709551615)
-
--- whether two texts have the same bytes
-abbrev pub is_same_text : List ℕ → List ℕ → Bool
-is_same_text one other = pointwise nat_eq one other
 
 -- the files that a shelf tells: names with contents, and what every other name holds, if anything
 pub record Contents : Type 0 where

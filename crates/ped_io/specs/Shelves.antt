@@ -2,7 +2,8 @@
 use Rattle.std.specs.Prelude.{◌≡◌, ◌⊎◌, ◌++◌, ℕ, List, [], Some, None, IsNone, Contains, length, take, drop, min, nat_lt, if◌then◌else◌, get_or, set, replicate}
 use Rattle.std.specs.List.{position_or_len}
 use Rattle.ped_io.specs.Counts.{one_more}
-use Rattle.ped_io.specs.Outside.{Contents, is_same_text, file_named}
+use Rattle.ped_io.specs.Outside.{Contents, file_named}
+use Rattle.ped_base.specs.Lists.{is_same_text}
 
 -- a shelf in memory: its files, the numbers of the calls that are to fail (the first has number 1),
 -- the most bytes that a read gives, the calls so far, and the faults of each file and of all other

@@ -1,7 +1,8 @@
 //! Files in memory, which are found by their names.
 
 ghost use Rattle.std.specs.Prelude.{◌≡◌, position, option_map, option_copied};
-ghost use Rattle.ped_io.specs.Outside.{is_same_text, file_named};
+ghost use Rattle.ped_base.specs.Lists.{is_same_text};
+ghost use Rattle.ped_io.specs.Outside.{file_named};
 ghost use Rattle.ped_io.specs.Shelves.{place_of, Copies};
 
 use ped_base::{Bytes, Listed};

@@ -1,15 +1,16 @@
 -- What is still to come from a text that has been read up to a line. Contracts of private functions alone speak of it.
 use Rattle.std.specs.Prelude.{◌≡◌, ℕ, ◌+◌, List, [], ◌∷◌, ◌++◌, Option, Some, None, Bool, map, if◌then◌else◌}
-use Rattle.ped_tree.specs.Statement as whole
-use Rattle.ped_tree.specs.Statement.{Note}
-use Rattle.ped_tree.specs.Refusal.{Finding, OpenConstant, stands, earliest}
-use Rattle.ped_tree.specs.Characters.{is_quoted, has_bad, text_behind}
-use Rattle.ped_tree.specs.Grouping.{further_lines, joined_columns, comment_at, directive_at, notes_within, notes_behind, statements_from}
-use Rattle.ped_tree.specs.LineRefusals as lines
-use Rattle.ped_tree.specs.LineRefusals.{at_orphans, in_rest, in_statements}
-use Rattle.ped_lines.specs.Views.{note_of, statement_of, finding_of}
+use Rattle.ped_grammar.specs.Statement as whole
+use Rattle.ped_grammar.specs.Statement.{Note}
+use Rattle.ped_grammar.specs.Refusal.{Finding, OpenConstant, stands, earliest}
+use Rattle.ped_grammar.specs.Characters.{is_quoted, has_bad, text_behind}
+use Rattle.ped_grammar.specs.Grouping.{further_lines, joined_columns, comment_at, directive_at, notes_within, notes_behind, statements_from}
+use Rattle.ped_grammar.specs.LineRefusals as lines
+use Rattle.ped_grammar.specs.LineRefusals.{at_orphans, in_rest, in_statements}
+use Rattle.ped_grammar.specs.StatementViews.{note_of, statement_of}
+use Rattle.ped_grammar.specs.RefusalViews.{finding_of}
 use Rattle.ped_lines.specs.declared.characters.OpenText.{OpenText}
-use Rattle.ped_lines.specs.declared.refusals.LineRefusal.{LineRefusal}
+use Rattle.ped_grammar.specs.declared.refusals.Refusal.{Refusal}
 use Rattle.ped_lines.specs.declared.refusals.Role.{Role}
 use Rattle.ped_lines.specs.declared.refusals.Role.TheVariants as role
 use Rattle.ped_lines.specs.declared.cutting.OpenStatement.{OpenStatement}
@@ -22,7 +23,7 @@ role_of (role.Continuation left) = lines.Continuation left
 role_of role.Orphan = lines.Orphan
 
 -- what was found
-abbrev pub found_of : Option LineRefusal → Option Finding
+abbrev pub found_of : Option Refusal → Option Finding
 found_of None = None
 found_of (Some r) = Some (finding_of r)
 

@@ -3,8 +3,8 @@
 //! does both, so that the constant goes on.
 
 ghost use Rattle.std.specs.Prelude.{◌≡◌, ◌∷◌, [], ◌++◌, ◌||◌, ℕ, List, IsTrue, IfOk, OnOk};
-ghost use Rattle.ped_tree.specs.Characters as Spec;
-ghost use Rattle.ped_tree.specs.Characters.{is_quoted};
+ghost use Rattle.ped_grammar.specs.Characters as Spec;
+ghost use Rattle.ped_grammar.specs.Characters.{is_quoted};
 ghost use Rattle.ped_lines.specs.Cutting.{WithColumns};
 
 use crate::columns::folded;
@@ -24,7 +24,7 @@ pub struct OpenText {
 
 impl OpenText {
     /// The text of no characters, with room for those of a line.
-    #[tactic(auto, unfolding(ped_tree::specs::Characters::is_quoted))]
+    #[tactic(auto, unfolding(ped_grammar::specs::Characters::is_quoted))]
     pub fn new(alloc: Global) -> Result<OpenText, NoMemory>
         ensures text { IfOk result (λ o. o.bytes.items ≡ []) }
         ensures quoted { IfOk result (λ o. is_quoted [] ≡ o.quoted) }
@@ -61,7 +61,7 @@ fn quoted_behind(quoted: bool, c: u8) -> bool
 }
 
 /// Adds what is kept of a character.
-#[tactic(auto, unfolding(ped_tree::specs::Characters::kept))]
+#[tactic(auto, unfolding(ped_grammar::specs::Characters::kept))]
 fn push_kept(text: &mut Vec<u8>, quoted: bool, c: u8) -> Result<(), NoMemory>
     ensures { OnOk result ((before : List ℕ) → is_quoted before ≡ quoted → text.new.items ≡ text.old.items ++ Spec.kept before c) }
 {
@@ -79,7 +79,7 @@ fn is_bad_so_far(bad: bool, quoted: bool, c: u8) -> bool
     bad || is_bad(quoted, c)
 }
 
-#[tactic(auto, unfolding(ped_tree::specs::Characters::is_bad))]
+#[tactic(auto, unfolding(ped_grammar::specs::Characters::is_bad))]
 fn is_bad(quoted: bool, c: u8) -> bool
     ensures { (before : List ℕ) → is_quoted before ≡ quoted → result ≡ Spec.is_bad before c }
 {

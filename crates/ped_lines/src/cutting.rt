@@ -3,20 +3,21 @@
 //! are looked for at the same time; the first may stand at a statement whose last line is still to come.
 
 ghost use Rattle.std.specs.Prelude.{◌≡◌, ◌-◌, ◌++◌, [], ℕ, List, None, map, true, false, IfOk, IfErr};
-ghost use Rattle.ped_tree.specs.Columns as Columns;
-ghost use Rattle.ped_tree.specs.Grouping.{statements_of};
-ghost use Rattle.ped_tree.specs.LineRefusals.{first_line_refusal};
-ghost use Rattle.ped_tree.specs.Refusal.{earliest};
-ghost use Rattle.ped_lines.specs.Views.{statement_of, statements_view};
+ghost use Rattle.ped_grammar.specs.Columns as Columns;
+ghost use Rattle.ped_grammar.specs.Grouping.{statements_of};
+ghost use Rattle.ped_grammar.specs.LineRefusals.{first_line_refusal};
+ghost use Rattle.ped_grammar.specs.Refusal.{earliest};
+ghost use Rattle.ped_grammar.specs.StatementViews.{statement_of, statements_view};
 ghost use Rattle.ped_lines.specs.Errors.{IsErrorOf};
-ghost use Rattle.ped_lines.specs.Cutting.{found_of, left_open, cut_with, ended, ended_statement, WithColumns, WithLine};
+ghost use Rattle.ped_grammar.specs.RefusalViews.{found_of};
+ghost use Rattle.ped_lines.specs.Cutting.{left_open, cut_with, ended, ended_statement, WithColumns, WithLine};
 
 use crate::characters::OpenText;
 use crate::columns::{continues, is_comment, label_of, statement_columns};
 use crate::errors::LinesError;
 use crate::grouping::{Statement, Statements};
 use crate::notes::{NoteLine, push_note};
-use crate::refusals::{LineRefusal, LineRefusalKind, Role, at_line, standing};
+use crate::refusals::{Refusal, RefusalKind, Role, at_line, standing};
 use crate::text_lines::first_line;
 use ped_base::{Listed, NoMemory};
 use std::alloc::Global;
@@ -42,7 +43,7 @@ pub struct OpenStatement {
 #[derive(Drop)]
 pub struct Cutting {
     /// The first refusal.
-    pub found: Option<LineRefusal>,
+    pub found: Option<Refusal>,
     /// The statements that are complete.
     pub done: Vec<Statement>,
     /// The statement that was begun last.
@@ -204,7 +205,7 @@ fn with_initial(
 }
 
 /// The first refusal, where the statement that was begun last has no further line.
-fn at_end(found: Option<LineRefusal>, current: &Option<OpenStatement>) -> Option<LineRefusal>
+fn at_end(found: Option<Refusal>, current: &Option<OpenStatement>) -> Option<Refusal>
     ensures { found_of result ≡ earliest (found_of found) (left_open current.now) }
 {
     match current {
@@ -212,7 +213,7 @@ fn at_end(found: Option<LineRefusal>, current: &Option<OpenStatement>) -> Option
         Some(open) => standing(
             found,
             open.text.quoted,
-            LineRefusalKind::OpenConstant,
+            RefusalKind::OpenConstant,
             open.line,
         ),
     }

@@ -3,7 +3,7 @@
 ghost use Rattle.std.specs.Prelude.{◌≡◌};
 ghost use Rattle.ped_lines.specs.declared.errors.LinesError.TheVariants.{NoMemory};
 
-use crate::refusals::LineRefusal;
+use crate::refusals::Refusal;
 use std::alloc::AllocError;
 use thiserror::Error;
 
@@ -16,7 +16,7 @@ pub enum LinesError {
     /// A line breaks a rule of fixed form; the first refusal is the one with the least line, and of
     /// these the one with the least number.
     #[error("a line breaks a rule of fixed form")]
-    Refused(LineRefusal),
+    Refused(Refusal),
 }
 
 impl From<AllocError> for LinesError {

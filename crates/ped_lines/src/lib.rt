@@ -15,7 +15,7 @@ pub use cutting::statements;
 pub use errors::LinesError;
 pub use grouping::{Statement, Statements};
 pub use notes::NoteLine;
-pub use refusals::{LineRefusal, LineRefusalKind};
+pub use refusals::{Refusal, RefusalKind};
 
 #[cfg(test)]
 mod tests;

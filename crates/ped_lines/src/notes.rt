@@ -1,26 +1,16 @@
 //! Comments and directives: what a line that is no part of a statement says.
 
 ghost use Rattle.std.specs.Prelude.{◌≡◌, ◌++◌, ◌==◌, ◌||◌, map, filter, not, IfOk, OnOk};
-ghost use Rattle.ped_tree.specs.Columns as Columns;
-ghost use Rattle.ped_tree.specs.Grouping as Spec;
-ghost use Rattle.ped_lines.specs.Views.{note_of};
+ghost use Rattle.ped_grammar.specs.Columns as Columns;
+ghost use Rattle.ped_grammar.specs.Grouping as Spec;
+ghost use Rattle.ped_grammar.specs.StatementViews.{note_of};
 
 use crate::columns::{behind, folded, front, is_directive};
 use ped_base::{Bytes, Listed, NoMemory};
 use std::alloc::Global;
 
-/// A comment or a directive.
-#[derive(Drop)]
-pub struct NoteLine {
-    /// The line's number, from 1.
-    pub line: u64,
-    /// A comment's columns 2 to 72 without blanks and carriage returns at the end; of a directive what
-    /// follows `$PED` there, without blanks and in capitals.
-    pub text: Bytes,
-}
-
 /// Adds the note on a line to the comments or to the directives.
-#[tactic(auto, unfolding(ped_tree::specs::Grouping::comment_at, ped_tree::specs::Grouping::directive_at))]
+#[tactic(auto, unfolding(ped_grammar::specs::Grouping::comment_at, ped_grammar::specs::Grouping::directive_at))]
 pub fn push_note(
     alloc: Global,
     comments: &mut Vec<NoteLine>,
@@ -41,7 +31,7 @@ pub fn push_note(
     Ok(())
 }
 
-#[tactic(auto, unfolding(ped_tree::specs::Grouping::directive_text))]
+#[tactic(auto, unfolding(ped_grammar::specs::Grouping::directive_text))]
 fn directive_text(alloc: Global, line: &[u8]) -> Result<Bytes, NoMemory>
     ensures { IfOk result (λ text. text ≡ Spec.directive_text line.now) }
 {
@@ -61,7 +51,7 @@ fn folded_text(alloc: Global, text: &[u8]) -> Result<Vec<u8>, NoMemory>
     Ok(kept)
 }
 
-#[tactic(auto, unfolding(ped_tree::specs::Grouping::comment_text))]
+#[tactic(auto, unfolding(ped_grammar::specs::Grouping::comment_text))]
 fn comment_text(line: &[u8]) -> &[u8]
     ensures { result.now ≡ Spec.comment_text line.now }
 {

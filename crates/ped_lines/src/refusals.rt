@@ -1,19 +1,19 @@
 //! Refusals of lines: which stand at a line, and which of those that were found is the first.
 
 ghost use Rattle.std.specs.Prelude.{◌≡◌, ◌++◌, ℕ, List};
-ghost use Rattle.ped_tree.specs.Characters as Characters;
-ghost use Rattle.ped_tree.specs.Columns as Columns;
-ghost use Rattle.ped_tree.specs.LineRefusals as Spec;
-ghost use Rattle.ped_tree.specs.Refusal as Refusal;
-ghost use Rattle.ped_tree.specs.Refusal.{earliest, stands, number_of};
-ghost use Rattle.ped_lines.specs.Views.{kind_of, finding_of};
-ghost use Rattle.ped_lines.specs.Cutting.{found_of, role_of};
+ghost use Rattle.ped_grammar.specs.Characters as Characters;
+ghost use Rattle.ped_grammar.specs.Columns as Columns;
+ghost use Rattle.ped_grammar.specs.LineRefusals as Spec;
+ghost use Rattle.ped_grammar.specs.Refusal as Refusal;
+ghost use Rattle.ped_grammar.specs.Refusal.{earliest, stands, number_of};
+ghost use Rattle.ped_grammar.specs.RefusalViews.{kind_of, finding_of, found_of};
+ghost use Rattle.ped_lines.specs.Cutting.{role_of};
 
 use crate::columns::{has_bad_label, has_label_field, has_tab};
 
 /// A rule of fixed form that a line breaks.
 #[derive(Clone, Copy, Debug, PartialEq, Eq)]
-pub enum LineRefusalKind {
+pub enum RefusalKind {
     /// A tab in columns 1 to 72 of a line that is no comment.
     Tab,
     /// Columns 1 to 5 are neither blank nor, on a line that begins a statement, a label.
@@ -28,27 +28,27 @@ pub enum LineRefusalKind {
     OpenConstant,
 }
 
-impl LineRefusalKind {
+impl RefusalKind {
     /// The number of this kind, 1 to 6: of the refusals at one line the least counts.
     pub fn number(self) -> u8
         ensures { result ≡ number_of (kind_of self) }
     {
         match self {
-            LineRefusalKind::Tab => 1,
-            LineRefusalKind::BadLabel => 2,
-            LineRefusalKind::TooManyContinuations => 3,
-            LineRefusalKind::ContinuationFirst => 4,
-            LineRefusalKind::BadCharacter => 5,
-            LineRefusalKind::OpenConstant => 6,
+            RefusalKind::Tab => 1,
+            RefusalKind::BadLabel => 2,
+            RefusalKind::TooManyContinuations => 3,
+            RefusalKind::ContinuationFirst => 4,
+            RefusalKind::BadCharacter => 5,
+            RefusalKind::OpenConstant => 6,
         }
     }
 }
 
 /// A refusal and its line.
 #[derive(Clone, Copy, Debug, PartialEq, Eq)]
-pub struct LineRefusal {
+pub struct Refusal {
     /// The rule.
-    pub kind: LineRefusalKind,
+    pub kind: RefusalKind,
     /// The line's number, from 1; of a constant that isn't closed the first line of its statement.
     pub line: u64,
 }
@@ -66,37 +66,37 @@ pub enum Role {
 
 /// The first of what was found and what stands at a line, of whose characters it is known whether some
 /// may not stand there.
-#[tactic(auto, unfolding(ped_tree::specs::LineRefusals::at_line), using(ped_tree::proofs::First::earliest_append))]
+#[tactic(auto, unfolding(ped_grammar::specs::LineRefusals::at_line), using(ped_grammar::proofs::First::earliest_append))]
 pub fn at_line(
-    found: Option<LineRefusal>,
+    found: Option<Refusal>,
     number: u64,
     role: Role,
     line: &[u8],
     bad: bool,
-) -> Option<LineRefusal>
+) -> Option<Refusal>
     ensures { (before : List ℕ) → Characters.has_bad before (Columns.statement_columns line.now) ≡ bad →
         found_of result ≡ earliest (found_of found) (Spec.at_line number (role_of role) before line.now) }
 {
-    let found = standing(found, has_tab(line), LineRefusalKind::Tab, number);
+    let found = standing(found, has_tab(line), RefusalKind::Tab, number);
     let found = standing(
         found,
         label_is_bad(role, line),
-        LineRefusalKind::BadLabel,
+        RefusalKind::BadLabel,
         number,
     );
     let found = standing(
         found,
         is_too_many(role),
-        LineRefusalKind::TooManyContinuations,
+        RefusalKind::TooManyContinuations,
         number,
     );
     let found = standing(
         found,
         is_orphan(role),
-        LineRefusalKind::ContinuationFirst,
+        RefusalKind::ContinuationFirst,
         number,
     );
-    standing(found, bad, LineRefusalKind::BadCharacter, number)
+    standing(found, bad, RefusalKind::BadCharacter, number)
 }
 
 fn label_is_bad(role: Role, line: &[u8]) -> bool
@@ -127,24 +127,24 @@ fn is_orphan(role: Role) -> bool
 }
 
 /// The earlier one of what was found and the refusal of this kind and line, where it stands.
-#[tactic(auto, unfolding(ped_tree::specs::Refusal::stands))]
+#[tactic(auto, unfolding(ped_grammar::specs::Refusal::stands))]
 pub fn standing(
-    found: Option<LineRefusal>,
+    found: Option<Refusal>,
     test: bool,
-    kind: LineRefusalKind,
+    kind: RefusalKind,
     line: u64,
-) -> Option<LineRefusal>
+) -> Option<Refusal>
     ensures { found_of result ≡ earliest (found_of found) (stands test (kind_of kind) line) }
 {
     if test {
-        earlier(found, LineRefusal { kind, line })
+        earlier(found, Refusal { kind, line })
     } else {
         found
     }
 }
 
-#[tactic(auto, unfolding(ped_tree::specs::Refusal::earlier))]
-fn earlier(found: Option<LineRefusal>, refusal: LineRefusal) -> Option<LineRefusal>
+#[tactic(auto, unfolding(ped_grammar::specs::Refusal::earlier))]
+fn earlier(found: Option<Refusal>, refusal: Refusal) -> Option<Refusal>
     ensures { found_of result ≡ Refusal.earlier (found_of found) (finding_of refusal) }
 {
     match found {
@@ -158,8 +158,8 @@ fn earlier(found: Option<LineRefusal>, refusal: LineRefusal) -> Option<LineRefus
 }
 
 /// Whether a refusal comes before another: by line, and then by number.
-#[tactic(auto, unfolding(ped_tree::specs::Refusal::is_before))]
-fn is_before(left: LineRefusal, right: LineRefusal) -> bool
+#[tactic(auto, unfolding(ped_grammar::specs::Refusal::is_before))]
+fn is_before(left: Refusal, right: Refusal) -> bool
     ensures { result ≡ Refusal.is_before (finding_of left) (finding_of right) }
 {
     left.line < right.line || (left.line == right.line && left.kind.number() < right.kind.number())

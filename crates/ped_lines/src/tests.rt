@@ -1,23 +1,23 @@
 //! Texts of fixed form and what they are cut into. Expected values are by hand.
 
-use crate::LineRefusalKind::{
+use crate::RefusalKind::{
     BadCharacter, BadLabel, ContinuationFirst, OpenConstant, Tab, TooManyContinuations,
 };
-use crate::{LineRefusal, LineRefusalKind, LinesError, NoteLine, statements};
+use crate::{Refusal, RefusalKind, LinesError, NoteLine, statements};
 use ped_base::{Bytes, NoMemory};
 use std::alloc::Global;
 use std::test::Fail;
 
 /// The first refusal of a text.
-fn refused(alloc: Global, text: &[u8]) -> Option<LineRefusal> {
+fn refused(alloc: Global, text: &[u8]) -> Option<Refusal> {
     match statements(alloc, text) {
         Ok(_) | Err(LinesError::NoMemory) => None,
         Err(LinesError::Refused(refusal)) => Some(refusal),
     }
 }
 
-fn at(kind: LineRefusalKind, line: u64) -> Option<LineRefusal> {
-    Some(LineRefusal { kind, line })
+fn at(kind: RefusalKind, line: u64) -> Option<Refusal> {
+    Some(Refusal { kind, line })
 }
 
 /// The text of the only statement.
@@ -215,7 +215,7 @@ fn other_bytes_are_refused_by_their_columns(rt: HostRuntime) -> Result<(), Fail>
 }
 
 /// A line of its own with this refusal.
-fn line_of(kind: LineRefusalKind) -> &'static [u8] {
+fn line_of(kind: RefusalKind) -> &'static [u8] {
     match kind {
         Tab => b"\tSTOP\n",
         BadLabel => b"00000 STOP\n",

@@ -1,15 +1,15 @@
 -- Statements that are read one behind the other.
 use Rattle.std.proofs.Common.{◌≡◌, ℕ, List, [], ◌∷◌, ◌++◌, map, refl, sym, ap, subst, ◌∙◌}
 use Rattle.std.proofs.lemmas.List.{map_push}
-use Rattle.ped_tree.specs.Statement.{Statement}
-use Rattle.ped_tree.specs.Items.{Entry}
-use Rattle.ped_tree.specs.Reading.{AreEntries}
+use Rattle.ped_grammar.specs.Statement.{Statement}
+use Rattle.ped_grammar.specs.Items.{Entry}
+use Rattle.ped_grammar.specs.Reading.{AreEntries}
 use Rattle.ped_expressions.specs.ExpressionReading.{saturated}
 use Rattle.ped_statements.specs.Saturated.{IsReadAs, reading_with_literals, entry_with_literals}
-use Rattle.ped_lines.specs.Views.{statement_of}
-use Rattle.ped_lines.specs.declared.grouping.Statement as lines
-use Rattle.ped_items.specs.ItemViews.{entry_of}
-use Rattle.ped_items.specs.declared.items.Entry as items
+use Rattle.ped_grammar.specs.StatementViews.{statement_of}
+use Rattle.ped_grammar.specs.declared.statements.Statement as lines
+use Rattle.ped_grammar.specs.ItemViews.{entry_of}
+use Rattle.ped_grammar.specs.declared.items.Entry as items
 use Rattle.ped_parse.specs.Entries.{AreReadAs}
 
 entries_more : (ss : List Statement) (es : List Entry) (s : Statement) (e : Entry) → AreEntries ss es → AreEntries (s ∷ []) (e ∷ []) → AreEntries (ss ++ s ∷ []) (es ++ e ∷ [])

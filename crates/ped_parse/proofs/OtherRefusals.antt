@@ -2,14 +2,14 @@
 use Rattle.std.proofs.Common.{◌≡◌, ℕ, ◌+◌, Bool, true, false, cond, List, [], ◌∷◌, ◌++◌, map, max, length, Option, Some, None, refl, sym, ap, subst, ◌∙◌}
 use Rattle.std.specs.Prelude.{◌||◌, ◌&&◌, not, nat_lt, nat_le, filter}
 use Rattle.std.specs.List.{list_any, flat_map}
-use Rattle.ped_tree.specs.Refusal.{Finding, Syntax, NotInProfile, OpenBlock, BadTerminal, IndexAssigned, StopPlace, Limit, stands, first_of}
-use Rattle.ped_tree.specs.Statement.{Note, Statement, Statements}
-use Rattle.ped_tree.specs.Items.{Item, Reading, says, outside_profile, no_form, Entry}
-use Rattle.ped_tree.specs.Occurrences.{of_reading, names_in, do_variables, constants_of, rejected_names, entry_names, all_do_variables, all_constants, is_among, first_occurrences, saved_names}
-use Rattle.ped_tree.specs.Contexts.{Context, at_start, is_do, may_end, behind_item, behind_reading, behind, behind_all}
-use Rattle.ped_tree.specs.ProgramRefusals.{where_it_says, is_outside, is_formless, is_out_of_order, is_misplaced, is_behind_end, breaks_syntax, leaves_open, has_do, ends_badly, open_variables, assigned_in, private_in, inner_variables, meets, assigns_index, stops, private_behind, loop_depth, passes_limit, is_bad_directive, is_parted, at_directives, at_statement, at_statements, at_end, program_refusals}
-use Rattle.ped_tree.specs.Contexts.{closed}
-use Rattle.ped_tree.specs.Occurrences.{is_rejection}
+use Rattle.ped_grammar.specs.Refusal.{Finding, Syntax, NotInProfile, OpenBlock, BadTerminal, IndexAssigned, StopPlace, Limit, stands, first_of}
+use Rattle.ped_grammar.specs.Statement.{Note, Statement, Statements}
+use Rattle.ped_grammar.specs.Items.{Item, Reading, says, outside_profile, no_form, Entry}
+use Rattle.ped_grammar.specs.Occurrences.{of_reading, names_in, do_variables, constants_of, rejected_names, entry_names, all_do_variables, all_constants, saved_names, is_rejection}
+use Rattle.ped_base.specs.Lists.{is_among}
+use Rattle.ped_tree.specs.NamesIn.{first_occurrences}
+use Rattle.ped_grammar.specs.Contexts.{Context, at_start, is_do, may_end, behind_item, behind_reading, behind, behind_all, closed}
+use Rattle.ped_grammar.specs.ProgramRefusals.{where_it_says, is_outside, is_formless, is_out_of_order, is_misplaced, is_behind_end, breaks_syntax, leaves_open, has_do, ends_badly, open_variables, assigned_in, private_in, inner_variables, meets, assigns_index, stops, private_behind, loop_depth, passes_limit, is_bad_directive, is_parted, at_directives, at_statement, at_statements, at_end, program_refusals}
 use Rattle.ped_expressions.specs.ExpressionReading.{saturated}
 use Rattle.ped_statements.specs.Saturated.{says_with_literals, reading_with_literals, entry_with_literals}
 use Rattle.ped_parse.proofs.OtherLiterals.{flat_with, names_with, do_variables_with, constants_with, rank_with, numbered_with, is_do_with, may_end_with, saves_list_with, saves_without_with, lacks_if_with, late_with, leaves_with, assigned_with, private_with, stops_with, blocks_with}

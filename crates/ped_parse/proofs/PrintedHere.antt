@@ -3,11 +3,11 @@ use Rattle.std.proofs.Common.{◌≡◌, ℕ, List, None}
 use Rattle.std.specs.Prelude.{Result, Ok, Err, IfOk}
 use Rattle.ped_tree.specs.Views.{program_tree}
 use Rattle.ped_tree.specs.declared.declarations.Program.{Program}
-use Rattle.ped_tree.specs.Grouping.{statements_of}
-use Rattle.ped_tree.specs.LineRefusals.{first_line_refusal}
-use Rattle.ped_tree.specs.Reading.{Reads}
-use Rattle.ped_lines.specs.Views.{statements_view}
-use Rattle.ped_lines.specs.declared.grouping.Statements.{Statements}
+use Rattle.ped_grammar.specs.Grouping.{statements_of}
+use Rattle.ped_grammar.specs.LineRefusals.{first_line_refusal}
+use Rattle.ped_grammar.specs.Reading.{Reads}
+use Rattle.ped_grammar.specs.StatementViews.{statements_view}
+use Rattle.ped_grammar.specs.declared.statements.Statements.{Statements}
 use Rattle.ped_round_trip.specs.PrintedPrograms.{PrintsItself}
 use Rattle.ped_round_trip.proofs.PrintedProgram.{prints_itself}
 use Rattle.ped_parse.specs.declared.refusals.ReadRefusal.{ReadRefusal}

@@ -2,25 +2,25 @@
 use Rattle.std.proofs.Common.{◌≡◌, ℕ, Bool, true, false, List, [], ◌∷◌, ◌++◌, map, Option, Some, None, refl, sym, ap, subst, ◌∙◌}
 use Rattle.std.specs.Prelude.{◌||◌}
 use Rattle.ped_tree.specs.Tree.{ProgramTree}
-use Rattle.ped_tree.specs.Refusal.{Finding, Limit, stands, first_of}
-use Rattle.ped_tree.specs.Statement.{Statement, Statements}
-use Rattle.ped_tree.specs.Grouping.{statements_of}
-use Rattle.ped_tree.specs.LineRefusals.{first_line_refusal}
-use Rattle.ped_tree.specs.Items.{Item, Reading, says, outside_profile, no_form, Entry}
-use Rattle.ped_tree.specs.Occurrences.{saved_names}
-use Rattle.ped_tree.specs.Contexts.{Context, at_start, behind, behind_all}
-use Rattle.ped_tree.specs.ProgramForms.{first_lines}
-use Rattle.ped_tree.specs.ProgramRefusals.{where_it_says, is_too_large, passes_limit, at_statement, at_statements, at_end, program_refusals}
-use Rattle.ped_tree.specs.Reading.{AreEntries, IsCutInto, first_program_refusal, Refuses, in_statements, Reads, HasFirstLines}
+use Rattle.ped_grammar.specs.Refusal.{Finding, Limit, stands, first_of}
+use Rattle.ped_grammar.specs.Statement.{Statement, Statements}
+use Rattle.ped_grammar.specs.Grouping.{statements_of}
+use Rattle.ped_grammar.specs.LineRefusals.{first_line_refusal}
+use Rattle.ped_grammar.specs.Items.{Item, Reading, says, outside_profile, no_form, Entry}
+use Rattle.ped_grammar.specs.Occurrences.{saved_names}
+use Rattle.ped_grammar.specs.Contexts.{Context, at_start, behind, behind_all}
+use Rattle.ped_grammar.specs.ProgramForms.{first_lines}
+use Rattle.ped_grammar.specs.ProgramRefusals.{where_it_says, is_too_large, passes_limit, at_statement, at_statements, at_end, program_refusals}
+use Rattle.ped_grammar.specs.Reading.{AreEntries, IsCutInto, first_program_refusal, Refuses, in_statements, Reads, HasFirstLines}
 use Rattle.ped_expressions.specs.ExpressionReading.{saturated}
 use Rattle.ped_expressions.proofs.Large.{neither}
 use Rattle.ped_statements.specs.Saturated.{says_with_literals, reading_with_literals, entry_with_literals}
-use Rattle.ped_lines.specs.Views.{note_of, statement_of, statements_view}
-use Rattle.ped_lines.specs.declared.grouping.Statements as lines
-use Rattle.ped_items.specs.ItemViews.{entry_of}
-use Rattle.ped_items.specs.declared.items.Entry as items
-use Rattle.ped_refusals.specs.Views.{finding_of, found_of}
-use Rattle.ped_refusals.specs.declared.refusals.StatementRefusal.{StatementRefusal}
+use Rattle.ped_grammar.specs.StatementViews.{note_of, statement_of, statements_view}
+use Rattle.ped_grammar.specs.declared.statements.Statements as lines
+use Rattle.ped_grammar.specs.ItemViews.{entry_of}
+use Rattle.ped_grammar.specs.declared.items.Entry as items
+use Rattle.ped_grammar.specs.RefusalViews.{finding_of, found_of}
+use Rattle.ped_grammar.specs.declared.refusals.Refusal.{Refusal}
 use Rattle.ped_blocks.specs.Machine.{nothing_built, take_entries, built_program}
 use Rattle.ped_blocks.proofs.BlocksFound.{none_stands, left_empty, right_empty, first_none, built_is_read}
 use Rattle.ped_parse.specs.Entries.{AreReadAs}
@@ -79,7 +79,7 @@ lines_as_read text es h r k =
 
 -- the same of what the code reads, refuses and builds
 
-pub refused_here : (cut : lines.Statements) (es : List items.Entry) (found : Option StatementRefusal) (f : StatementRefusal)
+pub refused_here : (cut : lines.Statements) (es : List items.Entry) (found : Option Refusal) (f : Refusal)
     → AreReadAs (map statement_of cut.statements) (map entry_of es)
     → ((all : Statements) → all.lines ≡ cut.lines → all.directives ≡ map note_of cut.directives → found_of found ≡ first_of (program_refusals all (map entry_of es)))
     → found ≡ Some f → (text : List ℕ) → first_line_refusal text ≡ None → statements_view cut ≡ statements_of text → Refuses text (finding_of f)
@@ -88,14 +88,14 @@ refused_here cut es found f r h k text l same =
     let first = subst (λ (s : Statements). found_of found ≡ first_of (program_refusals s (map entry_of es))) same (h (statements_view cut) refl refl) in
     refused_as_read text (map entry_of es) (finding_of f) l read (sym first ∙ ap found_of k)
 
-none_here : (cut : lines.Statements) (es : List items.Entry) (found : Option StatementRefusal)
+none_here : (cut : lines.Statements) (es : List items.Entry) (found : Option Refusal)
     → ((all : Statements) → all.lines ≡ cut.lines → all.directives ≡ map note_of cut.directives → found_of found ≡ first_of (program_refusals all (map entry_of es)))
     → found ≡ None → (text : List ℕ) → statements_view cut ≡ statements_of text → first_of (program_refusals (statements_of text) (map entry_of es)) ≡ None
 none_here cut es found h k text same =
     let first = subst (λ (s : Statements). found_of found ≡ first_of (program_refusals s (map entry_of es))) same (h (statements_view cut) refl refl) in
     sym first ∙ ap found_of k
 
-pub tree_here : (cut : lines.Statements) (es : List items.Entry) (found : Option StatementRefusal) (saved : List (List ℕ)) (tree : ProgramTree)
+pub tree_here : (cut : lines.Statements) (es : List items.Entry) (found : Option Refusal) (saved : List (List ℕ)) (tree : ProgramTree)
     → AreReadAs (map statement_of cut.statements) (map entry_of es)
     → ((all : Statements) → all.lines ≡ cut.lines → all.directives ≡ map note_of cut.directives → found_of found ≡ first_of (program_refusals all (map entry_of es)))
     → found ≡ None → saved ≡ saved_names (map entry_of es) → tree ≡ built_program (take_entries saved nothing_built (map entry_of es))
@@ -105,7 +105,7 @@ tree_here cut es found saved tree r h k names built text l same =
     let whole = tree_as_read text (map entry_of es) l read (none_here cut es found h k text same) in
     subst (λ (t : ProgramTree). Reads text t) (sym (built ∙ ap (λ (xs : List (List ℕ)). built_program (take_entries xs nothing_built (map entry_of es))) names)) whole
 
-pub lines_here : (cut : lines.Statements) (es : List items.Entry) (found : Option StatementRefusal) (saved : List (List ℕ)) (numbers : List ℕ)
+pub lines_here : (cut : lines.Statements) (es : List items.Entry) (found : Option Refusal) (saved : List (List ℕ)) (numbers : List ℕ)
     → AreReadAs (map statement_of cut.statements) (map entry_of es)
     → ((all : Statements) → all.lines ≡ cut.lines → all.directives ≡ map note_of cut.directives → found_of found ≡ first_of (program_refusals all (map entry_of es)))
     → found ≡ None → saved ≡ saved_names (map entry_of es) → numbers ≡ first_lines saved (map entry_of es)

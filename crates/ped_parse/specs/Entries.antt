@@ -1,8 +1,8 @@
 -- What is read of the statements of a text. Contracts of private functions alone speak of it.
 use Rattle.std.specs.Prelude.{◌≡◌, List, map}
-use Rattle.ped_tree.specs.Statement.{Statement}
-use Rattle.ped_tree.specs.Items.{Entry}
-use Rattle.ped_tree.specs.Reading.{AreEntries}
+use Rattle.ped_grammar.specs.Statement.{Statement}
+use Rattle.ped_grammar.specs.Items.{Entry}
+use Rattle.ped_grammar.specs.Reading.{AreEntries}
 use Rattle.ped_expressions.specs.ExpressionReading.{saturated}
 use Rattle.ped_statements.specs.Saturated.{entry_with_literals}
 

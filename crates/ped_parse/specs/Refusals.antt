@@ -1,8 +1,8 @@
 -- What the refusals of the code stand for.
 use Rattle.std.specs.Prelude.{ℕ, List}
-use Rattle.ped_tree.specs.Refusal as plain
-use Rattle.ped_tree.specs.Refusal.{Refusal, Finding}
-use Rattle.ped_tree.specs.Reading.{Refuses}
+use Rattle.ped_grammar.specs.Refusal as plain
+use Rattle.ped_grammar.specs.Refusal.{Refusal, Finding}
+use Rattle.ped_grammar.specs.Reading.{Refuses}
 use Rattle.ped_parse.specs.declared.refusals.ReadRefusal.{ReadRefusal}
 use Rattle.ped_parse.specs.declared.refusals.ReadRefusal.TheVariants.{At, NoMemory}
 use Rattle.ped_parse.specs.declared.refusals.RefusalKind.{RefusalKind}

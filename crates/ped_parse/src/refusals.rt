@@ -1,14 +1,14 @@
 //! Why a text isn't read.
 
 ghost use Rattle.std.specs.Prelude.{◌≡◌};
-ghost use Rattle.ped_tree.specs.Refusal.{number_of};
+ghost use Rattle.ped_grammar.specs.Refusal.{number_of};
 ghost use Rattle.ped_lines.specs.Views as Lines;
 ghost use Rattle.ped_refusals.specs.Views as Statements;
-ghost use Rattle.ped_parse.specs.Refusals.{kind_of, finding_of};
+ghost use Rattle.ped_grammar.specs.RefusalViews.{kind_of, finding_of};
 
 use ped_base::NoMemory;
-use ped_lines::{LineRefusal, LineRefusalKind};
-use ped_refusals::{StatementRefusal, StatementRefusalKind};
+use ped_grammar::{Refusal, RefusalKind};
+use ped_refusals::{Refusal, RefusalKind};
 
 /// A rule that a text breaks, in the order of the numbers 1 to 13.
 #[derive(Clone, Copy, Debug, PartialEq, Eq)]
@@ -75,7 +75,7 @@ pub struct Refusal {
 
 impl Refusal {
     /// The refusal of a line.
-    pub fn of_line(refusal: LineRefusal) -> Refusal
+    pub fn of_line(refusal: Refusal) -> Refusal
         ensures { finding_of result ≡ Lines.finding_of refusal }
     {
         Refusal {
@@ -85,7 +85,7 @@ impl Refusal {
     }
 
     /// The refusal of a statement.
-    pub fn of_statement(refusal: StatementRefusal) -> Refusal
+    pub fn of_statement(refusal: Refusal) -> Refusal
         ensures { finding_of result ≡ Statements.finding_of refusal }
     {
         Refusal {
@@ -95,30 +95,30 @@ impl Refusal {
     }
 }
 
-fn kind_of_line(kind: LineRefusalKind) -> RefusalKind
+fn kind_of_line(kind: RefusalKind) -> RefusalKind
     ensures { kind_of result ≡ Lines.kind_of kind }
 {
     match kind {
-        LineRefusalKind::Tab => RefusalKind::Tab,
-        LineRefusalKind::BadLabel => RefusalKind::BadLabel,
-        LineRefusalKind::TooManyContinuations => RefusalKind::TooManyContinuations,
-        LineRefusalKind::ContinuationFirst => RefusalKind::ContinuationFirst,
-        LineRefusalKind::BadCharacter => RefusalKind::BadCharacter,
-        LineRefusalKind::OpenConstant => RefusalKind::OpenConstant,
+        RefusalKind::Tab => RefusalKind::Tab,
+        RefusalKind::BadLabel => RefusalKind::BadLabel,
+        RefusalKind::TooManyContinuations => RefusalKind::TooManyContinuations,
+        RefusalKind::ContinuationFirst => RefusalKind::ContinuationFirst,
+        RefusalKind::BadCharacter => RefusalKind::BadCharacter,
+        RefusalKind::OpenConstant => RefusalKind::OpenConstant,
     }
 }
 
-fn kind_of_statement(kind: StatementRefusalKind) -> RefusalKind
+fn kind_of_statement(kind: RefusalKind) -> RefusalKind
     ensures { kind_of result ≡ Statements.kind_of kind }
 {
     match kind {
-        StatementRefusalKind::Syntax => RefusalKind::Syntax,
-        StatementRefusalKind::NotInProfile => RefusalKind::NotInProfile,
-        StatementRefusalKind::OpenBlock => RefusalKind::OpenBlock,
-        StatementRefusalKind::BadTerminal => RefusalKind::BadTerminal,
-        StatementRefusalKind::IndexAssigned => RefusalKind::IndexAssigned,
-        StatementRefusalKind::StopPlace => RefusalKind::StopPlace,
-        StatementRefusalKind::Limit => RefusalKind::Limit,
+        RefusalKind::Syntax => RefusalKind::Syntax,
+        RefusalKind::NotInProfile => RefusalKind::NotInProfile,
+        RefusalKind::OpenBlock => RefusalKind::OpenBlock,
+        RefusalKind::BadTerminal => RefusalKind::BadTerminal,
+        RefusalKind::IndexAssigned => RefusalKind::IndexAssigned,
+        RefusalKind::StopPlace => RefusalKind::StopPlace,
+        RefusalKind::Limit => RefusalKind::Limit,
     }
 }
 

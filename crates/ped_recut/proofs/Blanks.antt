@@ -4,8 +4,8 @@ use Rattle.std.specs.Prelude.{not, ◌||◌, ◌&&◌}
 use Rattle.std.specs.List.{list_all}
 use Rattle.std.proofs.lemmas.List.{append-nil}
 use Rattle.std.proofs.lemmas.Bool.{or_from}
-use Rattle.ped_tree.specs.Columns.{is_blank}
-use Rattle.ped_tree.specs.Characters.{is_character, is_printable, is_quoted, is_bad, has_bad, kept, text_behind, text_of}
+use Rattle.ped_grammar.specs.Columns.{is_blank}
+use Rattle.ped_grammar.specs.Characters.{is_character, is_printable, is_quoted, is_bad, has_bad, kept, text_behind, text_of}
 use Rattle.ped_lines.proofs.Quoting.{quoted_more, quoted_alike, text_alike, text_append, has_bad_alike, has_bad_append}
 use Rattle.ped_recut.specs.Fitting.{begins_at_once}
 

@@ -3,8 +3,8 @@ use Rattle.std.proofs.Common.{◌≡◌, ℕ, suc, zero, Bool, true, false, if�
 use Rattle.std.specs.Prelude.{not, ◌&&◌, ◌||◌, codes}
 use Rattle.std.specs.List.{list_all, list_any}
 use Rattle.std.proofs.lemmas.Bool.{eqb-true}
-use Rattle.ped_tree.specs.Columns.{is_digit}
-use Rattle.ped_tree.specs.Characters.{is_letter, is_character, is_printable, is_quoted, is_bad, has_bad}
+use Rattle.ped_grammar.specs.Columns.{is_digit}
+use Rattle.ped_grammar.specs.Characters.{is_letter, is_character, is_printable, is_quoted, is_bad, has_bad}
 
 pub neither : (a b : Bool) → (a || b) ≡ false → (a ≡ false) × (b ≡ false)
 neither true b h = absurd cc

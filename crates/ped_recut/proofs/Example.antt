@@ -1,12 +1,11 @@
 -- A loop of three statements, with its text written by hand, and what that is cut into.
 use Rattle.std.proofs.Common.{◌≡◌, List, [], ◌∷◌, codes, Some, None, refl, arith}
-use Rattle.ped_tree.specs.Characters.{is_quoted, kept}
-use Rattle.ped_tree.specs.Columns.{is_directive}
+use Rattle.ped_grammar.specs.Characters.{is_quoted, kept, is_bad}
+use Rattle.ped_grammar.specs.Columns.{is_directive}
 use Rattle.ped_recut.specs.Printed.{a_comment, a_rejection, PrintedStatement, printed_text}
 use Rattle.ped_recut.specs.Fitting.{StatementsFit}
 use Rattle.std.specs.Fmt.{digits}
 use Rattle.ped_recut.specs.Cut.{cut}
-use Rattle.ped_tree.specs.Characters.{is_bad}
 
 example : List PrintedStatement
 example =

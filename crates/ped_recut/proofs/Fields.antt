@@ -6,8 +6,8 @@ use Rattle.std.specs.Fmt.{decimal}
 use Rattle.std.proofs.lemmas.Bool.{eqb-true, ne_eqb, and_from, and_left, and_right, or_from, or_right}
 use Rattle.std.proofs.lemmas.Fmt.{decimal_by_steps, length-decimal-le}
 use Rattle.std.proofs.lemmas.List.Folds.{list_all-append}
-use Rattle.ped_tree.specs.Columns.{is_blank, is_digit, is_comment, continues, with_digit, label_number, label_of, has_bad_label}
-use Rattle.ped_tree.specs.Characters.{is_printable}
+use Rattle.ped_grammar.specs.Columns.{is_blank, is_digit, is_comment, continues, with_digit, label_number, label_of, has_bad_label}
+use Rattle.ped_grammar.specs.Characters.{is_printable}
 use Rattle.ped_recut.proofs.Bytes.{both, either, all_of, all_taken, digit_printable}
 use Rattle.ped_recut.specs.Printed.{label_field}
 use Rattle.ped_recut.specs.Fitting.{LabelFits}

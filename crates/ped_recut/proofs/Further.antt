@@ -2,12 +2,12 @@
 use Rattle.std.proofs.Common.{◌≡◌, ℕ, suc, zero, ◌+◌, ◌-◌, ◌*◌, ◌≤◌, Bool, true, false, List, [], ◌∷◌, ◌++◌, map, length, take, drop, codes, refl, ap, sym, ◌∙◌, add-zero, eqb, arith}
 use Rattle.std.specs.List.{AllByRecursion, list_all, flat_map}
 use Rattle.std.proofs.lemmas.Bool.{ne_eqb}
-use Rattle.ped_tree.specs.Columns.{is_comment, continues, has_tab, has_bad_label, has_label_field, statement_columns}
-use Rattle.ped_tree.specs.Characters.{is_printable, has_bad}
-use Rattle.ped_tree.specs.Statement.{Note}
-use Rattle.ped_tree.specs.Grouping.{NumberedLine, further_lines, joined_columns, notes_within, notes_behind, statements_from}
-use Rattle.ped_tree.specs.Refusal.{stands}
-use Rattle.ped_tree.specs.LineRefusals.{Role, Initial, Continuation, label_is_bad, is_too_many, is_orphan, at_line, at_further, in_statements}
+use Rattle.ped_grammar.specs.Columns.{is_comment, continues, has_tab, has_bad_label, has_label_field, statement_columns}
+use Rattle.ped_grammar.specs.Characters.{is_printable, has_bad}
+use Rattle.ped_grammar.specs.Statement.{Note}
+use Rattle.ped_grammar.specs.Grouping.{NumberedLine, further_lines, joined_columns, notes_within, notes_behind, statements_from}
+use Rattle.ped_grammar.specs.Refusal.{stands}
+use Rattle.ped_grammar.specs.LineRefusals.{Role, Initial, Continuation, label_is_bad, is_too_many, is_orphan, at_line, at_further, in_statements}
 use Rattle.ped_tree.specs.Printing.{piece}
 use Rattle.ped_lines.proofs.Quoting.{has_bad_append}
 use Rattle.ped_recut.proofs.Bytes.{neither, both, none_of, all_taken, printable_tab}

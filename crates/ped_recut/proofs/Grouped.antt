@@ -2,7 +2,7 @@
 use Rattle.std.proofs.Common.{◌≡◌, ℕ, ◌+◌, List, [], ◌∷◌, ◌++◌, length, refl, ap, sym, ◌∙◌, length-append, add-zero, arith}
 use Rattle.std.specs.List.{AllByRecursion}
 use Rattle.ped_tree.specs.Tree.{ProgramTree}
-use Rattle.ped_tree.specs.Statement.{Statement}
+use Rattle.ped_grammar.specs.Statement.{Statement}
 use Rattle.ped_recut.specs.Printed.{PrintedNote, PrintedStatement, printed_lines, all_printed_lines}
 use Rattle.ped_recut.specs.Fitting.{NoteFits, LabelFits, TextFits, StatementsFit}
 use Rattle.ped_recut.specs.Cut.{cut_at, cut_from}

@@ -3,7 +3,7 @@ use Rattle.std.proofs.Common.{◌≡◌, ℕ, suc, ◌-◌, ◌<◌, Bool, true,
 use Rattle.std.specs.List.{AllByRecursion, list_any, list_all, flat_map, slice_split, onto_first}
 use Rattle.std.specs.Str.Lines.{lines, lines_of_parts, strip_carriage_return}
 use Rattle.std.proofs.lemmas.List.Splits.{slice_split-cons_no, length-slice_split}
-use Rattle.ped_tree.specs.Characters.{is_printable}
+use Rattle.ped_grammar.specs.Characters.{is_printable}
 use Rattle.ped_recut.proofs.Bytes.{neither, both, none_of, printable_newline, printable_return}
 
 -- the last of c and what follows it

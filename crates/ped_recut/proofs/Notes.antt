@@ -6,11 +6,11 @@ use Rattle.std.proofs.lemmas.List.{append-nil, take_all}
 use Rattle.std.proofs.lemmas.Bool.{or_from}
 use Rattle.std.proofs.lemmas.List.Folds.{list_all-append}
 use Rattle.ped_base.specs.Letters.{is_letter, is_digit, is_alphanumeric}
-use Rattle.ped_tree.specs.Characters.{is_printable}
-use Rattle.ped_tree.specs.Columns.{is_blank, folded, is_comment, is_directive}
-use Rattle.ped_tree.specs.Statement.{Note}
-use Rattle.ped_tree.specs.Grouping.{with_rest, trimmed, comment_text, directive_text, comment_at, directive_at, further_lines, notes_within, notes_behind, statements_from}
-use Rattle.ped_tree.specs.LineRefusals.{in_statements}
+use Rattle.ped_grammar.specs.Characters.{is_printable}
+use Rattle.ped_grammar.specs.Columns.{is_blank, folded, is_comment, is_directive}
+use Rattle.ped_grammar.specs.Statement.{Note}
+use Rattle.ped_grammar.specs.Grouping.{with_rest, trimmed, comment_text, directive_text, comment_at, directive_at, further_lines, notes_within, notes_behind, statements_from}
+use Rattle.ped_grammar.specs.LineRefusals.{in_statements}
 use Rattle.ped_recut.specs.Printed.{PrintedNote, a_comment, a_rejection, note_line}
 use Rattle.ped_recut.specs.Fitting.{IsCommentText, IsRejectedName, NoteFits}
 use Rattle.ped_recut.specs.Cut.{comments_at, directives_at}

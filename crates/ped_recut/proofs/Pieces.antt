@@ -2,7 +2,7 @@
 use Rattle.std.proofs.Common.{◌≡◌, ℕ, suc, zero, ◌+◌, ◌-◌, ◌*◌, ◌≤◌, ◌⊎◌, inl, inr, List, ◌++◌, length, take, drop, replicate, ap, sym, ◌∙◌, append_assoc, arith}
 use Rattle.std.specs.List.{flat_map, range_with_len}
 use Rattle.std.proofs.lemmas.List.{append-nil, length-take, length-drop, take_all, drop_all, drop_at, drop-drop, take-append-drop, replicate-append-replicate}
-use Rattle.ped_tree.specs.Columns.{statement_columns}
+use Rattle.ped_grammar.specs.Columns.{statement_columns}
 use Rattle.ped_tree.specs.Printing.{piece, piece_count}
 
 -- filled with blanks up to 66 characters

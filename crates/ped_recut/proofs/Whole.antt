@@ -5,12 +5,12 @@ use Rattle.std.specs.Str.Lines.{lines}
 use Rattle.std.proofs.lemmas.Bool.{and_from}
 use Rattle.std.proofs.lemmas.List.{append-nil, take-take, length-map}
 use Rattle.std.proofs.lemmas.List.Folds.{list_all-append}
-use Rattle.ped_tree.specs.Columns.{is_blank, is_comment, continues, has_bad_label, label_of, statement_columns}
-use Rattle.ped_tree.specs.Characters.{is_printable, is_quoted, has_bad, text_of}
-use Rattle.ped_tree.specs.Statement.{Note, Statements}
-use Rattle.ped_tree.specs.Grouping.{comment_at, directive_at, further_lines, joined_columns, notes_within, notes_behind, statement_at, statements_from, statements_of}
-use Rattle.ped_tree.specs.Refusal.{OpenConstant, stands, first_of}
-use Rattle.ped_tree.specs.LineRefusals.{Initial, at_line, at_further, at_orphans, in_rest, in_statements, first_line_refusal}
+use Rattle.ped_grammar.specs.Columns.{is_blank, is_comment, continues, has_bad_label, label_of, statement_columns}
+use Rattle.ped_grammar.specs.Characters.{is_printable, is_quoted, has_bad, text_of}
+use Rattle.ped_grammar.specs.Statement.{Note, Statements}
+use Rattle.ped_grammar.specs.Grouping.{comment_at, directive_at, further_lines, joined_columns, notes_within, notes_behind, statement_at, statements_from, statements_of}
+use Rattle.ped_grammar.specs.Refusal.{OpenConstant, stands, first_of}
+use Rattle.ped_grammar.specs.LineRefusals.{Initial, at_line, at_further, at_orphans, in_rest, in_statements, first_line_refusal}
 use Rattle.ped_tree.specs.Printing.{piece, piece_count}
 use Rattle.ped_lines.proofs.Quoting.{has_bad_append}
 use Rattle.ped_recut.specs.Printed.{PrintedStatement, note_line, label_field, characters, cut_lines, printed_lines, all_printed_lines, printed_text}

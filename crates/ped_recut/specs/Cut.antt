@@ -1,7 +1,7 @@
 -- The statements that are read back from the lines of printed ones.
 use Rattle.std.specs.Prelude.{ℕ, ◌+◌, List, [], ◌∷◌, ◌++◌, length, codes}
-use Rattle.ped_tree.specs.Characters.{text_of}
-use Rattle.ped_tree.specs.Statement.{Note, Statement, Statements}
+use Rattle.ped_grammar.specs.Characters.{text_of}
+use Rattle.ped_grammar.specs.Statement.{Note, Statement, Statements}
 use Rattle.ped_recut.specs.Printed.{PrintedNote, a_comment, a_rejection, PrintedStatement, printed_lines, all_printed_lines}
 
 -- the comments among notes that stand from line n on

@@ -2,9 +2,9 @@
 use Rattle.std.specs.Prelude.{◌≡◌, ℕ, ◌≤◌, List, [], ◌∷◌, length, Option, Some, None, Bool, true, false, not, ◌==◌}
 use Rattle.std.specs.List.{AllByRecursion, list_all, list_any}
 use Rattle.ped_base.specs.Letters.{is_alphanumeric}
-use Rattle.ped_tree.specs.Columns.{is_blank, is_directive}
-use Rattle.ped_tree.specs.Characters.{is_quoted, has_bad}
-use Rattle.ped_tree.specs.Grouping.{trimmed}
+use Rattle.ped_grammar.specs.Columns.{is_blank, is_directive}
+use Rattle.ped_grammar.specs.Characters.{is_quoted, has_bad}
+use Rattle.ped_grammar.specs.Grouping.{trimmed}
 use Rattle.ped_recut.specs.Printed.{PrintedNote, a_comment, a_rejection, PrintedStatement, characters}
 
 -- a comment fits in columns 2 to 72 of one line, has no blank or carriage return at its end, and doesn't begin as a directive does

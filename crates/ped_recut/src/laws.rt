@@ -4,8 +4,8 @@
 ghost use Rattle.std.specs.Prelude.{◌≡◌, List, None};
 ghost use Rattle.ped_tree.specs.Tree.{ProgramTree};
 ghost use Rattle.ped_tree.specs.Printing.{program_text};
-ghost use Rattle.ped_tree.specs.Grouping.{statements_of};
-ghost use Rattle.ped_tree.specs.LineRefusals.{first_line_refusal};
+ghost use Rattle.ped_grammar.specs.Grouping.{statements_of};
+ghost use Rattle.ped_grammar.specs.LineRefusals.{first_line_refusal};
 ghost use Rattle.ped_recut.specs.Printed.{PrintedStatement, printed_text};
 ghost use Rattle.ped_recut.specs.Fitting.{StatementsFit};
 ghost use Rattle.ped_recut.specs.Cut.{cut};

@@ -2,8 +2,8 @@
 use Rattle.std.proofs.Common.{◌≡◌, ℕ, List, [], ◌∷◌, ◌++◌, Bool, true, false, not, ◌&&◌, eqb, eqb-true, filter, refl, ap, ◌∙◌, sym, append_assoc, append-nil, if◌then◌else◌}
 use Rattle.std.specs.Prelude.{◌||◌}
 use Rattle.std.specs.List.{fold}
-use Rattle.ped_tree.specs.References.{same_name}
-use Rattle.ped_tree.specs.Occurrences.{is_among, first_occurrences}
+use Rattle.ped_base.specs.Lists.{is_same_text, is_among}
+use Rattle.ped_tree.specs.NamesIn.{first_occurrences}
 use Rattle.ped_refusals.specs.Collecting.{with_name, with_names}
 use Rattle.ped_refusals.proofs.Silences.{HaveSame, among_both}
 
@@ -24,7 +24,7 @@ both_true false b h = absurd cc
 
 -- one name more at either end is the same
 same_more : (a b : List (List ℕ)) (x : List ℕ) → HaveSame a b → HaveSame (a ++ x ∷ []) (x ∷ b)
-same_more a b x h y = among_both y a (x ∷ []) ∙ or_back (is_among y a) (same_name y x) ∙ ap (λ (t : Bool). same_name y x || t) (h y)
+same_more a b x h y = among_both y a (x ∷ []) ∙ or_back (is_among y a) (is_same_text y x) ∙ ap (λ (t : Bool). is_same_text y x || t) (h y)
 
 pick : (a b : List (List ℕ)) (x : List ℕ) (xs : List (List ℕ)) (r : Bool)
     → (fold with_name a xs ≡ a ++ first_occurrences b xs)
@@ -40,12 +40,12 @@ collected a b h (x ∷ xs) =
     pick a b x xs (is_among x a) (collected a b h xs) (collected (a ++ x ∷ []) (x ∷ b) (same_more a b x h) xs)
     ∙ ap (λ (r : Bool). a ++ (if r then first_occurrences b xs else x ∷ first_occurrences (x ∷ b) xs)) (h x)
 
-same_is : (x y : List ℕ) → same_name x y ≡ true → x ≡ y
+same_is : (x y : List ℕ) → is_same_text x y ≡ true → x ≡ y
 same_is [] [] h = refl
 same_is [] (y ∷ ys) h = absurd cc
 same_is (x ∷ xs) [] h = absurd cc
 same_is (x ∷ xs) (y ∷ ys) h =
-    let p = both_true (eqb x y) (same_name xs ys) h in
+    let p = both_true (eqb x y) (is_same_text xs ys) h in
     let e : x ≡ y = eqb-true x y p.0 in
     λ i. e i ∷ same_is xs ys p.1 i
 
@@ -58,11 +58,11 @@ or_assoc true b c = refl
 or_assoc false true c = refl
 or_assoc false false c = refl
 
-among_more : (a : List (List ℕ)) (x y : List ℕ) (t : Bool) → (is_among x (with_name a y) || t) ≡ (is_among x a || (same_name x y || t))
+among_more : (a : List (List ℕ)) (x y : List ℕ) (t : Bool) → (is_among x (with_name a y) || t) ≡ (is_among x a || (is_same_text x y || t))
 among_more a x y t =
-    let go : (r : Bool) → is_among y a ≡ r → (is_among x (if r then a else a ++ y ∷ []) || t) ≡ (is_among x a || (same_name x y || t)) = λ r. elim r as (λ r. is_among y a ≡ r → (is_among x (if r then a else a ++ y ∷ []) || t) ≡ (is_among x a || (same_name x y || t))) [
-      | true ↦ λ e. absorbed (is_among x a) (same_name x y) t (λ h. ap (λ (z : List ℕ). is_among z a) (same_is x y h) ∙ e)
-      | false ↦ λ e. ap (λ (r : Bool). r || t) (among_both x a (y ∷ [])) ∙ or_assoc (is_among x a) (same_name x y) t
+    let go : (r : Bool) → is_among y a ≡ r → (is_among x (if r then a else a ++ y ∷ []) || t) ≡ (is_among x a || (is_same_text x y || t)) = λ r. elim r as (λ r. is_among y a ≡ r → (is_among x (if r then a else a ++ y ∷ []) || t) ≡ (is_among x a || (is_same_text x y || t))) [
+      | true ↦ λ e. absorbed (is_among x a) (is_same_text x y) t (λ h. ap (λ (z : List ℕ). is_among z a) (same_is x y h) ∙ e)
+      | false ↦ λ e. ap (λ (r : Bool). r || t) (among_both x a (y ∷ [])) ∙ or_assoc (is_among x a) (is_same_text x y) t
     ] in
     go (is_among y a) refl
 

@@ -1,11 +1,12 @@
 -- Contexts that are alike have the same refusals.
 use Rattle.std.proofs.Common.{◌≡◌, ℕ, ◌+◌, Bool, ◌&&◌, ◌||◌, nat_lt, nat_le, max, List, ◌++◌, refl, sym, ap, ◌∙◌, arith}
 use Rattle.ped_print.specs.Lengths.{limited}
-use Rattle.ped_tree.specs.Items.{Item, Reading, says, outside_profile, no_form, Entry}
-use Rattle.ped_tree.specs.Contexts.{Context, rank, numbered_in, is_do, loops_in, saves_list, saves_without, blocks_behind, behind}
-use Rattle.ped_tree.specs.Occurrences.{is_among, constants_of}
-use Rattle.ped_tree.specs.Refusal.{Syntax, NotInProfile, OpenBlock, BadTerminal, IndexAssigned, StopPlace, Limit, stands}
-use Rattle.ped_tree.specs.ProgramRefusals.{at_directives, at_statement, breaks_syntax, is_outside, where_it_says, leaves_open, ends_badly, stops, loop_depth, block_depth, open_variables, passes_limit, is_too_large, are_too_many, is_block, has_many_references, is_too_long, private_behind}
+use Rattle.ped_grammar.specs.Items.{Item, Reading, says, outside_profile, no_form, Entry}
+use Rattle.ped_grammar.specs.Contexts.{Context, rank, numbered_in, is_do, loops_in, saves_list, saves_without, blocks_behind, behind}
+use Rattle.ped_base.specs.Lists.{is_among}
+use Rattle.ped_grammar.specs.Occurrences.{constants_of}
+use Rattle.ped_grammar.specs.Refusal.{Syntax, NotInProfile, OpenBlock, BadTerminal, IndexAssigned, StopPlace, Limit, stands}
+use Rattle.ped_grammar.specs.ProgramRefusals.{at_directives, at_statement, breaks_syntax, is_outside, where_it_says, leaves_open, ends_badly, stops, loop_depth, block_depth, open_variables, passes_limit, is_too_large, are_too_many, is_block, has_many_references, is_too_long, private_behind}
 use Rattle.ped_refusals.specs.Limits.{AreSilent, is_past_limit}
 use Rattle.ped_refusals.specs.OpenContexts.{IsLike, standing_at}
 use Rattle.ped_refusals.specs.declared.limits.Before.{Before}

@@ -1,15 +1,16 @@
 -- The variables of the DO loops that begin in a block, statement by statement.
 use Rattle.std.proofs.Common.{◌≡◌, ℕ, ◌+◌, Bool, true, false, ◌||◌, nat_lt, List, [], ◌∷◌, ◌++◌, length, map, drop, get_or, ◌<◌, ◌≤◌, if◌then◌else◌, refl, sym, ap, subst, ◌∙◌, arith}
-use Rattle.ped_tree.specs.Items.{keeps_private, Reading, says, outside_profile, no_form, Entry}
-use Rattle.ped_tree.specs.Contexts as plain
-use Rattle.ped_tree.specs.Contexts.{Context, behind, blocks_behind}
-use Rattle.ped_tree.specs.Occurrences.{is_among, of_reading, do_variables}
-use Rattle.ped_tree.specs.ProgramRefusals.{open_variables, inner_variables, meets, assigned_in, private_in, assigns_index}
+use Rattle.ped_grammar.specs.Items.{keeps_private, Reading, says, outside_profile, no_form, Entry}
+use Rattle.ped_grammar.specs.Contexts as plain
+use Rattle.ped_grammar.specs.Contexts.{Context, behind, blocks_behind}
+use Rattle.ped_base.specs.Lists.{is_among}
+use Rattle.ped_grammar.specs.Occurrences.{of_reading, do_variables}
+use Rattle.ped_grammar.specs.ProgramRefusals.{open_variables, inner_variables, meets, assigned_in, private_in, assigns_index}
 use Rattle.ped_refusals.specs.declared.blocks.Block.{Block}
 use Rattle.ped_refusals.specs.OpenBlocks.{block_of, opened_in, blocks_of}
 use Rattle.ped_refusals.specs.OpenContexts.{with_blocks}
-use Rattle.ped_items.specs.ItemViews.{reading_of, entry_of}
-use Rattle.ped_items.specs.declared.items.Entry as code
+use Rattle.ped_grammar.specs.ItemViews.{reading_of, entry_of}
+use Rattle.ped_grammar.specs.declared.items.Entry as code
 use Rattle.ped_refusals.proofs.Stepping.{left_cons}
 use Rattle.ped_refusals.proofs.Members.{among_append}
 

@@ -2,8 +2,7 @@
 use Rattle.std.proofs.Common.{◌≡◌, ℕ, suc, ◌-◌, Bool, true, false, ◌&&◌, List, [], ◌∷◌, ◌++◌, length, replicate, eqb, eqb-true, refl, ap, ◌∙◌, arith}
 use Rattle.std.specs.List.{list_any}
 use Rattle.std.specs.Cmp.Lexicographic.{pointwise}
-use Rattle.ped_tree.specs.References.{same_name}
-use Rattle.ped_tree.specs.Occurrences.{is_among}
+use Rattle.ped_base.specs.Lists.{is_same_text, is_among}
 use Rattle.ped_base.specs.contracts.identifiers.NamePartialEq.TheImpl as code
 
 swap : (a b c : Bool) → a && (b && c) ≡ b && (a && c)
@@ -38,7 +37,7 @@ same_itself [] = refl
 same_itself (x ∷ xs) = ap (λ b. b && pointwise eqb xs xs) (itself x) ∙ same_itself xs
 
 -- the code's test of two names
-pub name_same : (x y : List ℕ) → (code.eq-value).it x y ≡ same_name x y
+pub name_same : (x y : List ℕ) → (code.eq-value).it x y ≡ is_same_text x y
 name_same x y = padded x y (replicate (31 - length x) 0) (replicate (31 - length y) 0) (λ e. ap (λ n. pointwise eqb (replicate (31 - n) 0) (replicate (31 - length y) 0)) e ∙ same_itself (replicate (31 - length y) 0))
 
 -- a name is found in a list by the code's test where it is one of the names

@@ -4,14 +4,14 @@ use Rattle.std.specs.Prelude.{◌||◌, nat_lt}
 use Rattle.std.specs.List.{list_any, flat_map}
 use Rattle.std.proofs.lemmas.List.Folds.{list_any-append}
 use Rattle.ped_tree.specs.Tree.{ExprTree, ExprTrees, Int, Var, Element, Neg, Add, Sub, Mul, Div, Pow, Call, no_exprs, more_exprs, CondTree, Rel, Not, And, Or, ItemTree, Value, Text, StmtTree, Assign, If, Do, Print, Read, Stop, Comment}
-use Rattle.ped_tree.specs.References.{Access, same_name, read_of, write_of, listed, expr_reads, exprs_reads, cond_reads, left_accesses, item_reads, own_accesses}
-use Rattle.ped_tree.specs.Items.{Item}
-use Rattle.ped_tree.specs.Occurrences.{is_among}
-use Rattle.ped_tree.specs.ProgramRefusals.{statements_of_item, has_many_references}
+use Rattle.ped_tree.specs.Accesses.{Access, read_of, write_of, listed, expr_reads, exprs_reads, cond_reads, left_accesses, item_reads, own_accesses}
+use Rattle.ped_base.specs.Lists.{is_same_text, is_among}
+use Rattle.ped_grammar.specs.Items.{Item}
+use Rattle.ped_grammar.specs.ProgramRefusals.{statements_of_item, has_many_references}
 
 -- one of two lists has a name where both one behind the other have it
 pub among_both : (x : List ℕ) (a b : List (List ℕ)) → is_among x (a ++ b) ≡ (is_among x a || is_among x b)
-among_both x a b = list_any-append (same_name x) a b
+among_both x a b = list_any-append (is_same_text x) a b
 
 -- the same names are silent
 abbrev pub HaveSame : List (List ℕ) → List (List ℕ) → Type 0

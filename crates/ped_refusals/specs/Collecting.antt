@@ -1,6 +1,6 @@
 -- Names as they are collected. Contracts of private functions alone speak of these definitions.
 use Rattle.std.specs.Prelude.{ℕ, List, [], ◌∷◌, ◌++◌, fold, if◌then◌else◌}
-use Rattle.ped_tree.specs.Occurrences.{is_among}
+use Rattle.ped_base.specs.Lists.{is_among}
 
 -- the names with one more behind them, where they haven't got it
 abbrev pub with_name : List (List ℕ) → List ℕ → List (List ℕ)

@@ -1,9 +1,9 @@
 -- When a statement passes a limit of the profile, by what the code keeps of the statements before it.
 use Rattle.std.specs.Prelude.{◌≡◌, ℕ, List, Bool, ◌&&◌, ◌||◌, nat_le}
-use Rattle.ped_tree.specs.Items.{Item}
-use Rattle.ped_tree.specs.Contexts.{is_do}
-use Rattle.ped_tree.specs.Occurrences.{is_among}
-use Rattle.ped_tree.specs.ProgramRefusals.{is_block, is_too_large, are_too_many, has_many_references, is_too_long}
+use Rattle.ped_grammar.specs.Items.{Item}
+use Rattle.ped_grammar.specs.Contexts.{is_do}
+use Rattle.ped_base.specs.Lists.{is_among}
+use Rattle.ped_grammar.specs.ProgramRefusals.{is_block, is_too_large, are_too_many, has_many_references, is_too_long}
 use Rattle.ped_refusals.specs.declared.limits.Before.{Before}
 
 -- a name is silent, and no reference, exactly where it is one of the constants or the variable of an open DO

@@ -1,11 +1,11 @@
 -- What the code keeps of the statements before one, as a plain context. Contracts of private functions alone speak of it.
 use Rattle.std.specs.Prelude.{◌≡◌, ℕ, List, ◌++◌, Bool, ◌&&◌, nat_lt}
 use Rattle.ped_print.specs.Lengths.{limited}
-use Rattle.ped_tree.specs.Occurrences.{is_among}
-use Rattle.ped_tree.specs.Contexts as plain
-use Rattle.ped_tree.specs.Items.{Entry}
-use Rattle.ped_tree.specs.Refusal.{Finding, Syntax, NotInProfile, OpenBlock, BadTerminal, IndexAssigned, StopPlace, Limit, stands}
-use Rattle.ped_tree.specs.ProgramRefusals.{at_directives, breaks_syntax, is_outside, where_it_says, leaves_open, ends_badly, assigns_index, stops, loop_depth}
+use Rattle.ped_base.specs.Lists.{is_among}
+use Rattle.ped_grammar.specs.Contexts as plain
+use Rattle.ped_grammar.specs.Items.{Entry}
+use Rattle.ped_grammar.specs.Refusal.{Finding, Syntax, NotInProfile, OpenBlock, BadTerminal, IndexAssigned, StopPlace, Limit, stands}
+use Rattle.ped_grammar.specs.ProgramRefusals.{at_directives, breaks_syntax, is_outside, where_it_says, leaves_open, ends_badly, assigns_index, stops, loop_depth}
 use Rattle.ped_refusals.specs.OpenBlocks.{blocks_of}
 use Rattle.ped_refusals.specs.declared.contexts.Context.{Context}
 

@@ -1,13 +1,13 @@
 -- What refusals of the code stand for.
 use Rattle.std.specs.Prelude.{Option, Some, None}
-use Rattle.ped_tree.specs.Refusal as plain
-use Rattle.ped_tree.specs.Refusal.{Refusal, Finding}
-use Rattle.ped_refusals.specs.declared.refusals.StatementRefusal.{StatementRefusal}
-use Rattle.ped_refusals.specs.declared.refusals.StatementRefusalKind.{StatementRefusalKind}
-use Rattle.ped_refusals.specs.declared.refusals.StatementRefusalKind.TheVariants as kind
+use Rattle.ped_grammar.specs.Refusal as plain
+use Rattle.ped_grammar.specs.Refusal.{Refusal, Finding}
+use Rattle.ped_grammar.specs.declared.refusals.Refusal.{Refusal}
+use Rattle.ped_grammar.specs.declared.refusals.RefusalKind.{RefusalKind}
+use Rattle.ped_grammar.specs.declared.refusals.RefusalKind.TheVariants as kind
 
 -- the refusal of a kind
-abbrev pub kind_of : StatementRefusalKind → Refusal
+abbrev pub kind_of : RefusalKind → Refusal
 kind_of kind.Syntax = plain.Syntax
 kind_of kind.NotInProfile = plain.NotInProfile
 kind_of kind.OpenBlock = plain.OpenBlock
@@ -17,10 +17,10 @@ kind_of kind.StopPlace = plain.StopPlace
 kind_of kind.Limit = plain.Limit
 
 -- a refusal at its line
-abbrev pub finding_of : StatementRefusal → Finding
+abbrev pub finding_of : Refusal → Finding
 finding_of r = record { refusal = kind_of r.kind; line = r.line }
 
 -- a refusal at its line, where there is one
-abbrev pub found_of : Option StatementRefusal → Option Finding
+abbrev pub found_of : Option Refusal → Option Finding
 found_of None = None
 found_of (Some r) = Some (finding_of r)

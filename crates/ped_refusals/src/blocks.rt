@@ -2,16 +2,16 @@
 //! 11.10). Lists of them have the innermost last.
 
 ghost use Rattle.std.specs.Prelude.{◌≡◌, ◌+◌, ◌<◌, ◌≤◌, ◌^◌, List, [], ◌∷◌, ◌++◌, length, take, IfOk, OnOk, MatchOption, ◌||◌, if◌then◌else◌};
-ghost use Rattle.ped_tree.specs.Contexts as Contexts;
-ghost use Rattle.ped_tree.specs.Contexts.{Block as PlainBlock};
-ghost use Rattle.ped_tree.specs.ProgramRefusals as Spec;
-ghost use Rattle.ped_tree.specs.References.{has_some};
+ghost use Rattle.ped_grammar.specs.Contexts as Contexts;
+ghost use Rattle.ped_grammar.specs.Contexts.{Block as PlainBlock};
+ghost use Rattle.ped_grammar.specs.ProgramRefusals as Spec;
+ghost use Rattle.ped_base.specs.Lists.{has_some};
 ghost use Rattle.ped_tree.specs.Views.{stmt_tree};
-ghost use Rattle.ped_items.specs.ItemViews.{item_of};
+ghost use Rattle.ped_grammar.specs.ItemViews.{item_of};
 ghost use Rattle.ped_refusals.specs.OpenBlocks.{block_of, blocks_of};
 
 use ped_base::{Name, NoMemory};
-use ped_items::Item;
+use ped_grammar::Item;
 use ped_tree::Stmt;
 use std::alloc::Global;
 

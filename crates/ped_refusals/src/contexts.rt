@@ -2,11 +2,12 @@
 //! statement takes it on, whatever is refused there.
 
 ghost use Rattle.std.specs.Prelude.{◌≡◌, ◌+◌, ◌<◌, ◌^◌, ◌++◌, List, ℕ, IfOk, OnOk, false, map, ◌||◌};
-ghost use Rattle.ped_tree.specs.Contexts as Spec;
-ghost use Rattle.ped_tree.specs.ProgramRefusals.{block_depth};
-ghost use Rattle.ped_tree.specs.Occurrences.{is_among, constants_of};
+ghost use Rattle.ped_grammar.specs.Contexts as Spec;
+ghost use Rattle.ped_grammar.specs.ProgramRefusals.{block_depth};
+ghost use Rattle.ped_base.specs.Lists.{is_among};
+ghost use Rattle.ped_grammar.specs.Occurrences.{constants_of};
 ghost use Rattle.ped_tree.specs.Views.{decl_tree, value_tree};
-ghost use Rattle.ped_items.specs.ItemViews.{item_of, entry_of};
+ghost use Rattle.ped_grammar.specs.ItemViews.{item_of, entry_of};
 ghost use Rattle.ped_refusals.specs.OpenBlocks.{blocks_of};
 ghost use Rattle.ped_refusals.specs.OpenContexts.{context_of, IsLike};
 
@@ -14,7 +15,7 @@ use crate::blocks::{Block, take_on};
 use crate::limits::numbered_in;
 use crate::names::NameSet;
 use ped_base::{Name, NoMemory};
-use ped_items::{Entry, Item, StatementReading};
+use ped_grammar::{Entry, Item, StatementReading};
 use ped_tree::{Decl, Expr};
 use std::alloc::Global;
 

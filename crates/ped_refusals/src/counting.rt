@@ -4,19 +4,19 @@
 ghost use Rattle.std.specs.Prelude.{◌≡◌, [], map, length, nat_lt};
 ghost use Rattle.std.specs.List.{flat_map};
 ghost use Rattle.ped_tree.specs.Numbering as Numbering;
-ghost use Rattle.ped_tree.specs.Occurrences as Occurrences;
-ghost use Rattle.ped_tree.specs.References as References;
-ghost use Rattle.ped_tree.specs.ProgramRefusals as Spec;
+ghost use Rattle.ped_grammar.specs.Occurrences as Occurrences;
+ghost use Rattle.ped_refs.specs.References as References;
+ghost use Rattle.ped_grammar.specs.ProgramRefusals as Spec;
 ghost use Rattle.ped_tree.specs.Tree;
-ghost use Rattle.ped_tree.specs.BlockForms.{whole_head};
+ghost use Rattle.ped_grammar.specs.BlockForms.{whole_head};
 ghost use Rattle.ped_tree.specs.Views.{expr_tree, pack_exprs, cond_tree, item_tree, stmt_tree, stmt_trees};
-ghost use Rattle.ped_items.specs.ItemViews.{item_of, do_head};
+ghost use Rattle.ped_grammar.specs.ItemViews.{item_of, do_head};
 ghost use Rattle.ped_print.specs.Lengths.{limited};
 ghost use Rattle.ped_refusals.specs.Silences.{silent_names};
 
 use crate::names::NameSet;
 use ped_base::Name;
-use ped_items::{DoStatement, Item};
+use ped_grammar::{DoStatement, Item};
 use ped_tree::{Cond, Expr, PrintItem, Stmt};
 
 /// The most references of one statement.
@@ -34,14 +34,14 @@ pub struct Silent<'a> {
 impl Silent<'_> {
     #[tactic(auto, using(crate::proofs::Silences::among_both))]
     fn has(&self, name: &Name) -> bool
-        ensures { result ≡ Occurrences.is_among name.now (silent_names self.now) }
+        ensures { result ≡ is_among name.now (silent_names self.now) }
     {
         self.constants.contains(name) || is_among(name, self.variables)
     }
 }
 
 pub fn is_among(name: &Name, names: &[Name]) -> bool
-    ensures { result ≡ Occurrences.is_among name.now names.now }
+    ensures { result ≡ is_among name.now names.now }
 {
     names.contains(name)
 }

@@ -2,54 +2,53 @@
 
 ghost use Rattle.std.specs.Prelude.{◌≡◌, ◌&&◌, ◌||◌, ℕ, Some, None, map, drop, length, nat_le, nat_lt, true, if◌then◌else◌};
 ghost use Rattle.std.specs.List.{flat_map};
-ghost use Rattle.ped_tree.specs.Statement.{Note};
-ghost use Rattle.ped_tree.specs.Contexts as Contexts;
-ghost use Rattle.ped_tree.specs.Occurrences as Occurrences;
-ghost use Rattle.ped_tree.specs.Words as Words;
-ghost use Rattle.ped_tree.specs.Refusal.{earliest, stands, Syntax};
-ghost use Rattle.ped_tree.specs.ProgramRefusals as Spec;
-ghost use Rattle.ped_tree.specs.ProgramRefusals.{where_it_says};
-ghost use Rattle.ped_lines.specs.Views.{note_of, statement_of};
-ghost use Rattle.ped_items.specs.ItemViews.{entry_of, reading_of};
-ghost use Rattle.ped_refusals.specs.Views.{found_of};
+ghost use Rattle.ped_grammar.specs.Statement.{Note};
+ghost use Rattle.ped_grammar.specs.Contexts as Contexts;
+ghost use Rattle.ped_grammar.specs.Occurrences as Occurrences;
+ghost use Rattle.ped_grammar.specs.Words as Words;
+ghost use Rattle.ped_grammar.specs.Refusal.{earliest, stands, Syntax};
+ghost use Rattle.ped_grammar.specs.ProgramRefusals as Spec;
+ghost use Rattle.ped_grammar.specs.ProgramRefusals.{where_it_says};
+ghost use Rattle.ped_grammar.specs.StatementViews.{note_of, statement_of};
+ghost use Rattle.ped_grammar.specs.ItemViews.{entry_of, reading_of};
+ghost use Rattle.ped_grammar.specs.RefusalViews.{found_of};
 ghost use Rattle.ped_refusals.specs.OpenContexts.{context_of};
 
 use crate::contexts::{Context, is_do};
 use crate::occurrences::rejected_name;
-use crate::refusals::{StatementRefusal, StatementRefusalKind, standing};
+use crate::refusals::{Refusal, RefusalKind, standing};
 use crate::structure::is_behind_end;
-use ped_items::{Entry, StatementReading};
-use ped_lines::{NoteLine, Statement};
+use ped_grammar::{Entry, NoteLine, Statement, StatementReading};
 
 /// The first of what was found and what stands at the directives of a statement, each at its own line.
-#[tactic(auto, using(ped_tree::proofs::First::earliest_append))]
+#[tactic(auto, using(ped_grammar::proofs::First::earliest_append))]
 pub fn at_directives(
-    found: Option<StatementRefusal>,
+    found: Option<Refusal>,
     context: &Context,
     entry: &Entry,
-) -> Option<StatementRefusal>
+) -> Option<Refusal>
     ensures { found_of result ≡ earliest (found_of found) (Spec.at_directives (context_of context.now) (entry_of entry.now)) }
 {
     let mut found = found;
     let last_comment = last_comment_before(&entry.statement);
     for directive in entry.statement.directives.as_slice() {
         let is_bad = is_bad_directive(context, entry, last_comment, directive);
-        found = standing(found, is_bad, StatementRefusalKind::Syntax, directive.line);
+        found = standing(found, is_bad, RefusalKind::Syntax, directive.line);
     }
     found
 }
 
 /// The first of what was found and the directives behind the last statement.
-#[tactic(auto, using(ped_tree::proofs::First::earliest_append))]
+#[tactic(auto, using(ped_grammar::proofs::First::earliest_append))]
 pub fn at_last_directives(
-    found: Option<StatementRefusal>,
+    found: Option<Refusal>,
     directives: &[NoteLine],
-) -> Option<StatementRefusal>
+) -> Option<Refusal>
     ensures { found_of result ≡ earliest (found_of found) (flat_map (λ d. stands true Syntax d.line) (map note_of directives.now)) }
 {
     let mut found = found;
     for directive in directives {
-        found = standing(found, true, StatementRefusalKind::Syntax, directive.line);
+        found = standing(found, true, RefusalKind::Syntax, directive.line);
     }
     found
 }

@@ -3,13 +3,13 @@
 
 ghost use Rattle.std.specs.Prelude.{◌≡◌, ◌+◌, ◌<◌, ◌^◌, ◌++◌, List, ℕ, length, map, IfOk, OnOk};
 ghost use Rattle.std.specs.List.{flat_map};
-ghost use Rattle.ped_tree.specs.Contexts.{behind};
-ghost use Rattle.ped_tree.specs.Occurrences as Occurrences;
-ghost use Rattle.ped_tree.specs.Occurrences.{of_reading, do_variables};
-ghost use Rattle.ped_tree.specs.ProgramRefusals as Spec;
-ghost use Rattle.ped_tree.specs.ProgramRefusals.{block_depth, meets};
+ghost use Rattle.ped_grammar.specs.Contexts.{behind};
+ghost use Rattle.ped_grammar.specs.Occurrences as Occurrences;
+ghost use Rattle.ped_grammar.specs.Occurrences.{of_reading, do_variables};
+ghost use Rattle.ped_grammar.specs.ProgramRefusals as Spec;
+ghost use Rattle.ped_grammar.specs.ProgramRefusals.{block_depth, meets};
 ghost use Rattle.ped_tree.specs.Views.{expr_tree, stmt_tree};
-ghost use Rattle.ped_items.specs.ItemViews.{item_of, reading_of, entry_of};
+ghost use Rattle.ped_grammar.specs.ItemViews.{item_of, reading_of, entry_of};
 ghost use Rattle.ped_refusals.specs.OpenBlocks.{blocks_of};
 ghost use Rattle.ped_refusals.specs.OpenContexts.{context_of, with_blocks};
 
@@ -18,7 +18,7 @@ use crate::contexts::Context;
 use crate::counting::is_among;
 use crate::names::NameSet;
 use ped_base::{Name, NoMemory};
-use ped_items::{Entry, Item, StatementReading};
+use ped_grammar::{Entry, Item, StatementReading};
 use ped_tree::{Expr, Stmt};
 use std::alloc::Global;
 
@@ -105,8 +105,8 @@ fn keeps_index(
 /// The variables of the loops that begin while so many blocks stay open.
 fn inner_variables(alloc: Global, blocks: &[Block], rest: &[Entry]) -> Result<NameSet, NoMemory>
     requires { block_depth (blocks_of blocks.now) + length rest.now < 2 ^ 64 }
-    ensures { IfOk result (λ names. (x : List ℕ) → Occurrences.is_among x names
-        ≡ Occurrences.is_among x (Spec.inner_variables (length blocks.now) (with_blocks (blocks_of blocks.now)) (map entry_of rest.now))) }
+    ensures { IfOk result (λ names. (x : List ℕ) → is_among x names
+        ≡ is_among x (Spec.inner_variables (length blocks.now) (with_blocks (blocks_of blocks.now)) (map entry_of rest.now))) }
 {
     let mut names = NameSet::new(alloc);
     let mut inner = Vec::from_slice(alloc, blocks)?;
@@ -122,7 +122,7 @@ fn inner_variables(alloc: Global, blocks: &[Block], rest: &[Entry]) -> Result<Na
 /// Takes the names and the blocks on behind a statement.
 fn go_past(names: &mut NameSet, blocks: &mut Vec<Block>, entry: &Entry) -> Result<(), NoMemory>
     requires { block_depth (blocks_of blocks.old.items) + 1 < 2 ^ 64 }
-    ensures names { OnOk result ((x : List ℕ) → Occurrences.is_among x names.new ≡ Occurrences.is_among x (names.old ++ of_reading do_variables (reading_of entry.now.reading))) }
+    ensures names { OnOk result ((x : List ℕ) → is_among x names.new ≡ is_among x (names.old ++ of_reading do_variables (reading_of entry.now.reading))) }
     ensures blocks { OnOk result (blocks_of blocks.new.items ≡ (behind (with_blocks (blocks_of blocks.old.items)) (entry_of entry.now)).blocks) }
 {
     match &entry.reading {
@@ -137,7 +137,7 @@ fn go_past(names: &mut NameSet, blocks: &mut Vec<Block>, entry: &Entry) -> Resul
 
 #[tactic(auto, using(crate::proofs::Members::among_insert))]
 fn add_variable(names: &mut NameSet, item: &Item) -> Result<(), NoMemory>
-    ensures { OnOk result ((x : List ℕ) → Occurrences.is_among x names.new ≡ Occurrences.is_among x (names.old ++ do_variables (item_of item.now))) }
+    ensures { OnOk result ((x : List ℕ) → is_among x names.new ≡ is_among x (names.old ++ do_variables (item_of item.now))) }
 {
     match item {
         Item::Do(d) => names.insert(&d.variable),

@@ -17,7 +17,7 @@ mod structure;
 
 pub use limits::{Before, passes_limit};
 pub use names::NameSet;
-pub use refusals::{StatementRefusal, StatementRefusalKind, first_refusal};
+pub use refusals::{Refusal, RefusalKind, first_refusal};
 pub use saving::saved_names;
 
 #[cfg(test)]

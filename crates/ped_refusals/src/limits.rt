@@ -2,11 +2,11 @@
 //! references of one statement, and its printed length.
 
 ghost use Rattle.std.specs.Prelude.{◌≡◌, List, ℕ, nat_lt, length};
-ghost use Rattle.ped_tree.specs.Contexts as Contexts;
+ghost use Rattle.ped_grammar.specs.Contexts as Contexts;
 ghost use Rattle.ped_tree.specs.Printing.{own_text, do_text, label_text};
 ghost use Rattle.ped_tree.specs.Views.{stmt_tree};
-ghost use Rattle.ped_tree.specs.ProgramRefusals as Spec;
-ghost use Rattle.ped_items.specs.ItemViews.{item_of, do_head};
+ghost use Rattle.ped_grammar.specs.ProgramRefusals as Spec;
+ghost use Rattle.ped_grammar.specs.ItemViews.{item_of, do_head};
 ghost use Rattle.ped_print.specs.Lengths.{limited};
 ghost use Rattle.ped_refusals.specs.Limits as Limits;
 ghost use Rattle.ped_refusals.specs.Limits.{AreSilent, is_nested_too_deep};
@@ -16,7 +16,7 @@ use crate::counting::{Silent, has_many_references, statement_count};
 use crate::literals::is_too_large;
 use crate::names::NameSet;
 use ped_base::Name;
-use ped_items::{DoStatement, Item};
+use ped_grammar::{DoStatement, Item};
 use ped_print::{decl_length, do_length, if_length, own_length, private_length, save_length};
 use ped_tree::Stmt;
 

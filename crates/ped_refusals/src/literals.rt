@@ -3,14 +3,14 @@
 
 ghost use Rattle.std.specs.Prelude.{◌≡◌, ◌||◌, map, length, nat_lt};
 ghost use Rattle.std.specs.List.{list_any};
-ghost use Rattle.ped_tree.specs.Literals as Literals;
-ghost use Rattle.ped_tree.specs.ProgramRefusals as Spec;
+ghost use Rattle.ped_grammar.specs.Literals as Literals;
+ghost use Rattle.ped_grammar.specs.ProgramRefusals as Spec;
 ghost use Rattle.ped_tree.specs.Views.{expr_tree, item_tree, stmt_tree, stmt_trees, bound_tree, declarator_tree, decl_tree, value_tree};
-ghost use Rattle.ped_items.specs.ItemViews.{item_of, do_head};
+ghost use Rattle.ped_grammar.specs.ItemViews.{item_of, do_head};
 
 use ped_base::Name;
 use ped_expressions::{cond_has_large_literal, has_large_literal};
-use ped_items::{DoStatement, Item};
+use ped_grammar::{DoStatement, Item};
 use ped_tree::{Bound, Decl, Declarator, Expr, PrintItem, Stmt};
 
 /// The most dimensions of an array.

@@ -1,7 +1,7 @@
 //! Sets of names.
 
 ghost use Rattle.std.specs.Prelude.{◌≡◌, [], ◌∷◌, ◌++◌, OnOk, OnErr, if◌then◌else◌};
-ghost use Rattle.ped_tree.specs.Occurrences.{is_among};
+ghost use Rattle.ped_base.specs.Lists.{is_among};
 
 use indexmap::IndexSet;
 use ped_base::{Name, NoMemory};

@@ -2,18 +2,18 @@
 
 ghost use Rattle.std.specs.Prelude.{◌≡◌, ◌+◌, ◌<◌, ◌^◌, ◌++◌, List, ℕ, nat_lt, length, true, IfOk, map};
 ghost use Rattle.std.specs.List.{list_all};
-ghost use Rattle.ped_tree.specs.Statement.{Statements};
-ghost use Rattle.ped_tree.specs.Refusal as Refusal;
-ghost use Rattle.ped_tree.specs.Refusal.{first_of, earliest, stands, number_of};
-ghost use Rattle.ped_tree.specs.Occurrences as Occurrences;
-ghost use Rattle.ped_tree.specs.Occurrences.{of_reading};
-ghost use Rattle.ped_tree.specs.Items.{Entry as PlainEntry};
-ghost use Rattle.ped_tree.specs.Contexts.{Context as PlainContext};
-ghost use Rattle.ped_tree.specs.ProgramRefusals as Spec;
-ghost use Rattle.ped_tree.specs.ProgramRefusals.{program_refusals, where_it_says, block_depth};
-ghost use Rattle.ped_lines.specs.Views.{note_of};
-ghost use Rattle.ped_items.specs.ItemViews.{reading_of, entry_of};
-ghost use Rattle.ped_refusals.specs.Views.{kind_of, finding_of, found_of};
+ghost use Rattle.ped_grammar.specs.Statement.{Statements};
+ghost use Rattle.ped_grammar.specs.Refusal as Refusal;
+ghost use Rattle.ped_grammar.specs.Refusal.{first_of, earliest, stands, number_of};
+ghost use Rattle.ped_grammar.specs.Occurrences as Occurrences;
+ghost use Rattle.ped_grammar.specs.Occurrences.{of_reading};
+ghost use Rattle.ped_grammar.specs.Items.{Entry as PlainEntry};
+ghost use Rattle.ped_grammar.specs.Contexts.{Context as PlainContext};
+ghost use Rattle.ped_grammar.specs.ProgramRefusals as Spec;
+ghost use Rattle.ped_grammar.specs.ProgramRefusals.{program_refusals, where_it_says, block_depth};
+ghost use Rattle.ped_grammar.specs.StatementViews.{note_of};
+ghost use Rattle.ped_grammar.specs.ItemViews.{reading_of, entry_of};
+ghost use Rattle.ped_grammar.specs.RefusalViews.{kind_of, finding_of, found_of};
 ghost use Rattle.ped_refusals.specs.OpenBlocks.{blocks_of};
 ghost use Rattle.ped_refusals.specs.OpenContexts.{context_of, IsLike, standing_at};
 
@@ -24,13 +24,12 @@ use crate::indices::assigns_index;
 use crate::limits::{Before, passes_limit};
 use crate::structure::{breaks_syntax, ends_badly, is_behind_end, is_outside, leaves_open, stops};
 use ped_base::{Name, Names, NoMemory};
-use ped_items::{Entry, Item, StatementReading};
-use ped_lines::NoteLine;
+use ped_grammar::{Entry, Item, NoteLine, StatementReading};
 use std::alloc::Global;
 
 /// A rule of statements, of their nesting or of the profile's size that a statement breaks.
 #[derive(Clone, Copy, Debug, PartialEq, Eq)]
-pub enum StatementRefusalKind {
+pub enum RefusalKind {
     /// The text has no form, or it stands at a place where it may not.
     Syntax,
     /// A statement of FORTRAN 77 that the profile leaves out.
@@ -47,28 +46,28 @@ pub enum StatementRefusalKind {
     Limit,
 }
 
-impl StatementRefusalKind {
+impl RefusalKind {
     /// The number of this kind, 7 to 13: of the refusals at one line the least counts.
     pub fn number(self) -> u8
         ensures { result ≡ number_of (kind_of self) }
     {
         match self {
-            StatementRefusalKind::Syntax => 7,
-            StatementRefusalKind::NotInProfile => 8,
-            StatementRefusalKind::OpenBlock => 9,
-            StatementRefusalKind::BadTerminal => 10,
-            StatementRefusalKind::IndexAssigned => 11,
-            StatementRefusalKind::StopPlace => 12,
-            StatementRefusalKind::Limit => 13,
+            RefusalKind::Syntax => 7,
+            RefusalKind::NotInProfile => 8,
+            RefusalKind::OpenBlock => 9,
+            RefusalKind::BadTerminal => 10,
+            RefusalKind::IndexAssigned => 11,
+            RefusalKind::StopPlace => 12,
+            RefusalKind::Limit => 13,
         }
     }
 }
 
 /// A refusal and its line.
 #[derive(Clone, Copy, Debug, PartialEq, Eq)]
-pub struct StatementRefusal {
+pub struct Refusal {
     /// The rule.
-    pub kind: StatementRefusalKind,
+    pub kind: RefusalKind,
     /// The line's number, from 1.
     pub line: u64,
 }
@@ -82,7 +81,7 @@ pub fn first_refusal(
     directives: &[NoteLine],
     lines: u64,
     saved: &Names,
-) -> Result<Option<StatementRefusal>, NoMemory>
+) -> Result<Option<Refusal>, NoMemory>
     requires saved { saved.now ≡ Occurrences.saved_names (map entry_of entries.now) }
     ensures { IfOk result (λ found. (all : Statements) → all.lines ≡ lines → all.directives ≡ map note_of directives.now →
         found_of found ≡ first_of (program_refusals all (map entry_of entries.now))) }
@@ -101,13 +100,13 @@ pub fn first_refusal(
 /// The first of what was found and what stands at a statement. Where something was found before all its
 /// lines, it isn't looked at.
 fn with_statement(
-    found: Option<StatementRefusal>,
+    found: Option<Refusal>,
     alloc: Global,
     context: &Context,
     entry: &Entry,
     rest: &[Entry],
     saved: &[Name],
-) -> Result<Option<StatementRefusal>, NoMemory>
+) -> Result<Option<Refusal>, NoMemory>
     requires { block_depth (blocks_of context.now.blocks.items) + length rest.now < 2 ^ 64 }
     ensures { IfOk result (λ next. (c : PlainContext) → IsLike c (context_of context.now) →
         found_of next ≡ earliest (found_of found) (Spec.at_statement saved.now c (entry_of entry.now) (map entry_of rest.now))) }
@@ -119,7 +118,7 @@ fn with_statement(
 }
 
 /// Whether something was found before all lines of a statement and of its directives.
-fn is_past(found: Option<StatementRefusal>, entry: &Entry) -> bool
+fn is_past(found: Option<Refusal>, entry: &Entry) -> bool
     ensures { result ≡ true → (saved : List (List ℕ)) (c : PlainContext) (rest : List PlainEntry) →
         earliest (found_of found) (Spec.at_statement saved c (entry_of entry.now) rest) ≡ found_of found }
 {
@@ -144,13 +143,13 @@ fn all_behind(line: u64, directives: &[NoteLine]) -> bool
 }
 
 fn at_statement(
-    found: Option<StatementRefusal>,
+    found: Option<Refusal>,
     alloc: Global,
     context: &Context,
     entry: &Entry,
     rest: &[Entry],
     saved: &[Name],
-) -> Result<Option<StatementRefusal>, NoMemory>
+) -> Result<Option<Refusal>, NoMemory>
     requires { block_depth (blocks_of context.now.blocks.items) + length rest.now < 2 ^ 64 }
     ensures { IfOk result (λ next. (c : PlainContext) → IsLike c (context_of context.now) →
         found_of next ≡ earliest (found_of found) (Spec.at_statement saved.now c (entry_of entry.now) (map entry_of rest.now))) }
@@ -163,37 +162,37 @@ fn at_statement(
 
 /// The first of what was found and what stands at a statement, where it is known whether a variable of a
 /// loop is assigned and whether a limit is passed.
-#[tactic(auto, using(ped_tree::proofs::First::earliest_append))]
+#[tactic(auto, using(ped_grammar::proofs::First::earliest_append))]
 fn at_lines(
-    found: Option<StatementRefusal>,
+    found: Option<Refusal>,
     context: &Context,
     entry: &Entry,
     assigns: bool,
     passes: bool,
-) -> Option<StatementRefusal>
+) -> Option<Refusal>
     requires { block_depth (blocks_of context.now.blocks.items) < 2 ^ 64 }
     ensures { (rest : List PlainEntry) → assigns ≡ Spec.assigns_index (context_of context.now) (entry_of entry.now) rest →
         found_of result ≡ earliest (found_of found) (standing_at passes (context_of context.now) (entry_of entry.now) rest) }
 {
     let line = entry.statement.line;
     let found = at_places(at_directives(found, context, entry), context, entry);
-    let found = standing(found, assigns, StatementRefusalKind::IndexAssigned, line);
+    let found = standing(found, assigns, RefusalKind::IndexAssigned, line);
     let found = standing(
         found,
         stops(&entry.reading) && loop_depth(&context.blocks) > 0,
-        StatementRefusalKind::StopPlace,
+        RefusalKind::StopPlace,
         line,
     );
-    standing(found, passes, StatementRefusalKind::Limit, line)
+    standing(found, passes, RefusalKind::Limit, line)
 }
 
 /// The first of what was found and what stands at a statement by its form and its place.
-#[tactic(auto, using(ped_tree::proofs::First::earliest_append))]
+#[tactic(auto, using(ped_grammar::proofs::First::earliest_append))]
 fn at_places(
-    found: Option<StatementRefusal>,
+    found: Option<Refusal>,
     context: &Context,
     entry: &Entry,
-) -> Option<StatementRefusal>
+) -> Option<Refusal>
     ensures { let c = context_of context.now in let e = entry_of entry.now in
         found_of result ≡ earliest (found_of found)
         (stands (Spec.breaks_syntax c e.reading) Refusal.Syntax e.statement.line
@@ -205,25 +204,25 @@ fn at_places(
     let found = standing(
         found,
         breaks_syntax(context, &entry.reading),
-        StatementRefusalKind::Syntax,
+        RefusalKind::Syntax,
         line,
     );
     let found = standing(
         found,
         is_outside(&entry.reading),
-        StatementRefusalKind::NotInProfile,
+        RefusalKind::NotInProfile,
         line,
     );
     let found = standing(
         found,
         leaves_open(&context.blocks, &entry.reading),
-        StatementRefusalKind::OpenBlock,
+        RefusalKind::OpenBlock,
         line,
     );
     standing(
         found,
         ends_badly(&context.blocks, entry.statement.label, &entry.reading),
-        StatementRefusalKind::BadTerminal,
+        RefusalKind::BadTerminal,
         line,
     )
 }
@@ -289,40 +288,40 @@ fn private_names(reading: &StatementReading) -> &[Name]
 }
 
 /// The first of what was found and what stands behind the last statement.
-#[tactic(auto, using(ped_tree::proofs::First::earliest_append))]
+#[tactic(auto, using(ped_grammar::proofs::First::earliest_append))]
 fn at_end(
-    found: Option<StatementRefusal>,
+    found: Option<Refusal>,
     context: &Context,
     directives: &[NoteLine],
     lines: u64,
-) -> Option<StatementRefusal>
+) -> Option<Refusal>
     ensures { (all : Statements) → all.lines ≡ lines → all.directives ≡ map note_of directives.now →
         found_of result ≡ earliest (found_of found) (Spec.at_end (context_of context.now) all) }
 {
     let is_open = !is_behind_end(context);
-    let found = standing(found, is_open, StatementRefusalKind::OpenBlock, lines);
+    let found = standing(found, is_open, RefusalKind::OpenBlock, lines);
     at_last_directives(found, directives)
 }
 
 /// The earlier one of what was found and the refusal of this kind and line, where it stands.
-#[tactic(auto, unfolding(ped_tree::specs::Refusal::stands))]
+#[tactic(auto, unfolding(ped_grammar::specs::Refusal::stands))]
 pub fn standing(
-    found: Option<StatementRefusal>,
+    found: Option<Refusal>,
     test: bool,
-    kind: StatementRefusalKind,
+    kind: RefusalKind,
     line: u64,
-) -> Option<StatementRefusal>
+) -> Option<Refusal>
     ensures { found_of result ≡ earliest (found_of found) (stands test (kind_of kind) line) }
 {
     if test {
-        earlier(found, StatementRefusal { kind, line })
+        earlier(found, Refusal { kind, line })
     } else {
         found
     }
 }
 
-#[tactic(auto, unfolding(ped_tree::specs::Refusal::earlier))]
-fn earlier(found: Option<StatementRefusal>, refusal: StatementRefusal) -> Option<StatementRefusal>
+#[tactic(auto, unfolding(ped_grammar::specs::Refusal::earlier))]
+fn earlier(found: Option<Refusal>, refusal: Refusal) -> Option<Refusal>
     ensures { found_of result ≡ Refusal.earlier (found_of found) (finding_of refusal) }
 {
     match found {
@@ -336,8 +335,8 @@ fn earlier(found: Option<StatementRefusal>, refusal: StatementRefusal) -> Option
 }
 
 /// Whether a refusal comes before another: by line, and then by number.
-#[tactic(auto, unfolding(ped_tree::specs::Refusal::is_before))]
-fn is_before(left: StatementRefusal, right: StatementRefusal) -> bool
+#[tactic(auto, unfolding(ped_grammar::specs::Refusal::is_before))]
+fn is_before(left: Refusal, right: Refusal) -> bool
     ensures { result ≡ Refusal.is_before (finding_of left) (finding_of right) }
 {
     left.line < right.line || (left.line == right.line && left.kind.number() < right.kind.number())

@@ -3,10 +3,10 @@
 
 ghost use Rattle.std.specs.Prelude.{◌≡◌};
 ghost use Rattle.ped_tree.specs.Views.{stmt_tree};
-ghost use Rattle.ped_tree.specs.Contexts as Contexts;
-ghost use Rattle.ped_tree.specs.ProgramRefusals as Spec;
-ghost use Rattle.ped_tree.specs.ProgramRefusals.{where_it_says};
-ghost use Rattle.ped_items.specs.ItemViews.{item_of, reading_of};
+ghost use Rattle.ped_grammar.specs.Contexts as Contexts;
+ghost use Rattle.ped_grammar.specs.ProgramRefusals as Spec;
+ghost use Rattle.ped_grammar.specs.ProgramRefusals.{where_it_says};
+ghost use Rattle.ped_grammar.specs.ItemViews.{item_of, reading_of};
 ghost use Rattle.ped_refusals.specs.OpenBlocks.{blocks_of};
 ghost use Rattle.ped_refusals.specs.OpenContexts.{context_of};
 
@@ -14,7 +14,7 @@ use crate::blocks::{
     Block, has_do, is_in_block, is_in_do, is_stop, outside, takes_else, takes_end_if,
 };
 use crate::contexts::{Context, rank, saves_list, saves_without};
-use ped_items::{Item, StatementReading};
+use ped_grammar::{Item, StatementReading};
 
 /// Whether the text has no form, or one that may not stand there. A form that the profile leaves out is
 /// refused as that.

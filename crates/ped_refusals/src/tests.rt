@@ -4,11 +4,10 @@
 
 ghost use Rattle.std.specs.Prelude.{◌≤◌};
 
-use crate::refusals::{StatementRefusal, first_refusal};
+use crate::refusals::{Refusal, first_refusal};
 use crate::saving::saved_names;
 use ped_base::{Bytes, Listed, Name, Names};
-use ped_items::{DoStatement, Entry, Item, StatementReading};
-use ped_lines::{NoteLine, Statement};
+use ped_grammar::{DoStatement, Entry, Item, NoteLine, Statement, StatementReading};
 use ped_tree::{Cond, Decl, Expr, Relation, Stmt};
 use std::alloc::Global;
 use std::test::Fail;
@@ -194,7 +193,7 @@ fn refused(alloc: Global, program: &str) -> Result<(u8, u64), Fail> {
     Ok(shown(first_refusal(alloc, &entries, directives.as_slice(), line, &saved)?))
 }
 
-fn shown(found: Option<StatementRefusal>) -> (u8, u64) {
+fn shown(found: Option<Refusal>) -> (u8, u64) {
     match found {
         Some(refusal) => (refusal.kind.number(), refusal.line),
         None => (0, 0),

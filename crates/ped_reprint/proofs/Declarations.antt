@@ -5,13 +5,13 @@ use Rattle.std.specs.List.{list_all, join_by}
 use Rattle.std.proofs.lemmas.Bool.{or_parts, and_parts, eqb-true, cond_both}
 use Rattle.std.proofs.lemmas.List.{append-nil}
 use Rattle.ped_tree.specs.Tree.{ExprTree, Int, Var, Element, Neg, Add, Sub, Mul, Div, Pow, Call, BoundTree, DeclaratorTree, Program, Implicit, Integer, Dimension, Parameter, Save}
-use Rattle.ped_tree.specs.References.{has_some}
-use Rattle.ped_tree.specs.Words.{is_name}
-use Rattle.ped_tree.specs.Literals.{has_large_literal, declarator_has_large_literal, decl_has_large_literal}
+use Rattle.ped_base.specs.Lists.{has_some}
+use Rattle.ped_grammar.specs.Words.{is_name}
+use Rattle.ped_grammar.specs.Literals.{has_large_literal, declarator_has_large_literal, decl_has_large_literal}
 use Rattle.ped_tree.specs.Printing.{value_text, is_one, bound_text, declarator_text, parameter_text, decl_text}
-use Rattle.ped_tree.specs.ExpressionForms.{expr_form_tree}
-use Rattle.ped_tree.specs.Items.{Item, declares}
-use Rattle.ped_tree.specs.StatementForms.{BoundForm, upper_bound, both_bounds, an_array, a_scalar, of_array, a_constant, bound_form_text, array_form_text, declarator_form_text, constant_form_text, bound_form_tree, array_form_tree, declarator_form_tree, constant_form_tree, are_names, StatementForm, program, implicit, integer, dimension, parameter, save, save_all, simple, if_simple, if_then, else_if_then, else_alone, end_of_if, do_loop, private, end, SimpleForm, assignment, print, read, stop, continue, statement_item}
+use Rattle.ped_grammar.specs.ExpressionForms.{expr_form_tree}
+use Rattle.ped_grammar.specs.Items.{Item, declares}
+use Rattle.ped_grammar.specs.StatementForms.{BoundForm, upper_bound, both_bounds, an_array, a_scalar, of_array, a_constant, bound_form_text, array_form_text, declarator_form_text, constant_form_text, bound_form_tree, array_form_tree, declarator_form_tree, constant_form_tree, are_names, StatementForm, program, implicit, integer, dimension, parameter, save, save_all, simple, if_simple, if_then, else_if_then, else_alone, end_of_if, do_loop, private, end, SimpleForm, assignment, print, read, stop, continue, statement_item}
 use Rattle.ped_reprint.specs.Printed.{ReadsOnly, DeclarationPrints, SavePrints}
 use Rattle.ped_reprint.proofs.Squeezing.{Reduces, joined, words, name_stays}
 use Rattle.ped_reprint.proofs.Expressions.{expr_again}

@@ -13,11 +13,11 @@ use Rattle.ped_tree.specs.declared.expressions.Intrinsic.TheVariants.{Mod, Abs, 
 use Rattle.ped_tree.specs.declared.conditions.Relation.{Relation}
 use Rattle.ped_tree.specs.declared.conditions.Relation.TheVariants as relations
 use Rattle.ped_tree.specs.Tree.{ExprTree, ExprTrees, Int, Var, Element, Neg, Add, Sub, Mul, Div, Pow, Call, no_exprs, more_exprs, CondTree}
-use Rattle.ped_tree.specs.Words.{is_numeral}
-use Rattle.ped_tree.specs.Literals.{has_large_literal, cond_has_large_literal}
+use Rattle.ped_grammar.specs.Words.{is_numeral}
+use Rattle.ped_grammar.specs.Literals.{has_large_literal, cond_has_large_literal}
 use Rattle.ped_tree.specs.Printing.{Place, alone, as_term, as_factor, as_base, encloses_sum, encloses_product, encloses_power, enclosed, intrinsic_text, expr_text, exprs_text, further_text, value_text, relation_text, Standing, whole, in_or, in_and, in_not, encloses_or, encloses_and, encloses_not, cond_text}
-use Rattle.ped_tree.specs.ExpressionForms.{ExprForm, ReferenceForm, expr_form_text, expr_form_tree, reference_form_text, reference_form_tree}
-use Rattle.ped_tree.specs.ConditionForms.{CondForm, LogicalTermForm, LogicalFactorForm, LogicalPrimaryForm, one_term, or, one_factor, and, affirmed, negated, relation, group, cond_form_text, cond_form_tree, logical_term_tree, logical_factor_tree, logical_primary_tree}
+use Rattle.ped_grammar.specs.ExpressionForms.{ExprForm, ReferenceForm, expr_form_text, expr_form_tree, reference_form_text, reference_form_tree}
+use Rattle.ped_grammar.specs.ConditionForms.{CondForm, LogicalTermForm, LogicalFactorForm, LogicalPrimaryForm, one_term, or, one_factor, and, affirmed, negated, relation, group, cond_form_text, cond_form_tree, logical_term_tree, logical_factor_tree, logical_primary_tree}
 use Rattle.ped_expressions.proofs.Printed.{Stands, SomeStand, AllStand, expr_stands, reference_stands, expr_prints, reference_prints}
 use Rattle.ped_expressions.proofs.CondPrinted.{cond_prints}
 use Rattle.ped_reprint.proofs.Squeezing.{Reduces, joined, nothing, words, name_stays, numeral_stays}

@@ -3,9 +3,9 @@ use Rattle.std.proofs.Common.{◌≡◌, ℕ, Bool, true, false, List, [], ◌�
 use Rattle.std.specs.Prelude.{codes}
 use Rattle.std.specs.List.{list_any, list_all, flat_map, join_by}
 use Rattle.std.proofs.lemmas.Bool.{or_parts, and_parts}
-use Rattle.ped_tree.specs.Words.{is_name}
+use Rattle.ped_grammar.specs.Words.{is_name}
 use Rattle.ped_tree.specs.Printing.{names_text}
-use Rattle.ped_tree.specs.StatementForms.{names_form_text}
+use Rattle.ped_grammar.specs.StatementForms.{names_form_text}
 use Rattle.ped_reprint.proofs.Squeezing.{Reduces, joined, nothing, words, name_stays}
 use Rattle.ped_reprint.proofs.Expressions.{Again}
 

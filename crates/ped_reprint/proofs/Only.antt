@@ -1,8 +1,8 @@
 -- A text reads as one item alone where it has a form.
 use Rattle.std.proofs.Common.{◌≡◌, ℕ, List, sym, subst}
-use Rattle.ped_tree.specs.Characters.{text_of}
-use Rattle.ped_tree.specs.Items.{Item}
-use Rattle.ped_tree.specs.StatementForms.{StatementForm, statement_form_text, statement_item, ReadsItem}
+use Rattle.ped_grammar.specs.Characters.{text_of}
+use Rattle.ped_grammar.specs.Items.{Item}
+use Rattle.ped_grammar.specs.StatementForms.{StatementForm, statement_form_text, statement_item, ReadsItem}
 use Rattle.ped_statements.proofs.OneStatement.{one_item}
 use Rattle.ped_reprint.specs.Printed.{ReadsOnly}
 use Rattle.ped_reprint.proofs.Squeezing.{Reduces, reduced, among_blanks}

@@ -6,9 +6,9 @@ use Rattle.std.proofs.lemmas.Bool.{cond_both, not-true, ne_eqb, leb-true, lt-leb
 use Rattle.std.proofs.lemmas.List.{append-nil}
 use Rattle.ped_base.specs.Letters
 use Rattle.ped_base.specs.Letters.{is_letter, is_digit, is_alphanumeric}
-use Rattle.ped_tree.specs.Columns.{is_blank, folded}
-use Rattle.ped_tree.specs.Characters.{is_quoted, kept, text_behind, text_of}
-use Rattle.ped_tree.specs.Words.{is_name, is_numeral}
+use Rattle.ped_grammar.specs.Columns.{is_blank, folded}
+use Rattle.ped_grammar.specs.Characters.{is_quoted, kept, text_behind, text_of}
+use Rattle.ped_grammar.specs.Words.{is_name, is_numeral}
 use Rattle.ped_tree.specs.Printing.{blanks, doubled, constant_text}
 use Rattle.ped_lines.proofs.Quoting.{quoted_more, text_append}
 

@@ -7,16 +7,16 @@ use Rattle.std.proofs.lemmas.Bool.{cond_both, or_parts, and_parts, and_from, le-
 use Rattle.std.proofs.lemmas.List.{append-nil}
 use Rattle.std.proofs.lemmas.Fmt.{length-decimal-le}
 use Rattle.ped_tree.specs.Tree.{ExprTree, CondTree, ItemTree, Value, Head, StmtTree, StmtTrees, Assign, Print, Read, Stop, no_stmts, more_stmts}
-use Rattle.ped_tree.specs.References.{has_some}
-use Rattle.ped_tree.specs.Words.{is_name, is_numeral, numeral_value}
-use Rattle.ped_tree.specs.Literals.{has_large_literal, cond_has_large_literal, item_has_large_literal, head_has_large_literal, stmt_has_large_literal}
+use Rattle.ped_base.specs.Lists.{has_some}
+use Rattle.ped_grammar.specs.Words.{is_name, is_numeral, numeral_value}
+use Rattle.ped_grammar.specs.Literals.{has_large_literal, cond_has_large_literal, item_has_large_literal, head_has_large_literal, stmt_has_large_literal}
 use Rattle.ped_tree.specs.Printing.{value_text, whole, cond_text, is_one, item_text, label_text, step_text, do_word, do_text, private_text, own_text}
-use Rattle.ped_tree.specs.ExpressionForms.{ExprForm, expr_form_text, expr_form_tree, ReferenceForm, reference_form_text, reference_form_tree}
-use Rattle.ped_tree.specs.ConditionForms.{CondForm, cond_form_tree}
-use Rattle.ped_tree.specs.Items.{Item, does, continues, logical_if, block_if, else_if, else_line, end_if, begins_do, keeps_private, ends_program}
-use Rattle.ped_tree.specs.StatementForms.{ItemForm, a_value, a_text, item_form_text, item_form_tree, SimpleForm, assignment, print, read, stop, continue, simple_item, behind_if, ControlForm, control, control_form_head, further_form_text, step_form_tree, do_form_word, is_label, StatementForm, program, implicit, integer, dimension, parameter, save, save_all, simple, if_simple, if_then, else_if_then, else_alone, end_of_if, do_loop, private, end, statement_item}
-use Rattle.ped_tree.specs.BlockForms.{whole_head}
-use Rattle.ped_tree.specs.ProgramRefusals.{listed_stmts, is_too_large}
+use Rattle.ped_grammar.specs.ExpressionForms.{ExprForm, expr_form_text, expr_form_tree, ReferenceForm, reference_form_text, reference_form_tree}
+use Rattle.ped_grammar.specs.ConditionForms.{CondForm, cond_form_tree}
+use Rattle.ped_grammar.specs.Items.{Item, does, continues, logical_if, block_if, else_if, else_line, end_if, begins_do, keeps_private, ends_program}
+use Rattle.ped_grammar.specs.StatementForms.{ItemForm, a_value, a_text, item_form_text, item_form_tree, SimpleForm, assignment, print, read, stop, continue, simple_item, behind_if, ControlForm, control, control_form_head, further_form_text, step_form_tree, do_form_word, is_label, StatementForm, program, implicit, integer, dimension, parameter, save, save_all, simple, if_simple, if_then, else_if_then, else_alone, end_of_if, do_loop, private, end, statement_item}
+use Rattle.ped_grammar.specs.BlockForms.{whole_head}
+use Rattle.ped_grammar.specs.ProgramRefusals.{listed_stmts, is_too_large}
 use Rattle.ped_reprint.specs.Printed.{ReadsOnly, SaysFirstLine, itself, of_block_if, of_else_if, of_logical_if, behind_logical_if, of_do, first_line_item, HasShortLabel, StatementPrints, PrivatePrints, WordsPrint}
 use Rattle.ped_reprint.proofs.Squeezing.{Reduces, joined, nothing, words, name_stays, numeral_stays, constant_stays}
 use Rattle.ped_reprint.proofs.Expressions.{Again, decimal_numeral, expr_again, reference_again, cond_again}

@@ -1,12 +1,12 @@
 -- What the printed text of a single statement or declaration reads as.
 use Rattle.std.specs.Prelude.{◌≡◌, ◌↔◌, ℕ, ◌+◌, ◌*◌, ◌<◌, List, [], ◌++◌, codes, IsTrue, IsFalse}
 use Rattle.ped_tree.specs.Tree.{CondTree, Head, StmtTree, StmtTrees, Assign, If, Do, Print, Read, Stop, Comment, no_stmts, more_stmts, DeclTree, Save}
-use Rattle.ped_tree.specs.Characters.{text_of}
-use Rattle.ped_tree.specs.Items.{Item, declares, continues, does, logical_if, block_if, else_if, else_line, end_if, begins_do, keeps_private, ends_program}
-use Rattle.ped_tree.specs.Literals.{decl_has_large_literal}
-use Rattle.ped_tree.specs.StatementForms.{are_names, ReadsItem}
-use Rattle.ped_tree.specs.BlockForms.{whole_head}
-use Rattle.ped_tree.specs.ProgramRefusals.{is_too_large}
+use Rattle.ped_grammar.specs.Characters.{text_of}
+use Rattle.ped_grammar.specs.Items.{Item, declares, continues, does, logical_if, block_if, else_if, else_line, end_if, begins_do, keeps_private, ends_program}
+use Rattle.ped_grammar.specs.Literals.{decl_has_large_literal}
+use Rattle.ped_grammar.specs.StatementForms.{are_names, ReadsItem}
+use Rattle.ped_grammar.specs.BlockForms.{whole_head}
+use Rattle.ped_grammar.specs.ProgramRefusals.{is_too_large}
 use Rattle.ped_tree.specs.Printing.{blanks, own_text, private_text, decl_text}
 
 -- the characters of a statement read as this item alone, and blanks before and behind them change nothing

@@ -3,15 +3,16 @@ use Rattle.std.proofs.Common.{◌≡◌, ℕ, ◌+◌, List, [], ◌∷◌, ◌+
 use Rattle.std.specs.Prelude.{codes, not, ◌&&◌, ◌||◌, nat_lt, nat_le}
 use Rattle.std.specs.List.{flat_map}
 use Rattle.ped_tree.specs.Tree.{DeclTree, Program, Implicit, Integer, Dimension, Parameter, Save, Remark, ProgramTree}
-use Rattle.ped_tree.specs.References.{constants_in, has_some}
+use Rattle.ped_tree.specs.Accesses.{constants_in}
+use Rattle.ped_base.specs.Lists.{has_some}
 use Rattle.ped_tree.specs.Printing.{decl_text}
-use Rattle.ped_tree.specs.Refusal.{Finding, Syntax, OpenBlock, stands, first_of}
-use Rattle.ped_tree.specs.Statement.{Note, Statements}
-use Rattle.ped_tree.specs.Items.{declares, ends_program, says, Entry}
-use Rattle.ped_tree.specs.Occurrences.{saved_names}
-use Rattle.ped_tree.specs.Contexts.{Block, Context, at_start, decl_rank, is_save, behind, behind_all}
-use Rattle.ped_tree.specs.BlockForms.{entry}
-use Rattle.ped_tree.specs.ProgramRefusals.{is_out_of_order, is_behind_end, breaks_syntax, leaves_open, has_do, open_variables, block_depth, is_too_large, is_too_long, at_statement, at_statements, at_end, program_refusals}
+use Rattle.ped_grammar.specs.Refusal.{Finding, Syntax, OpenBlock, stands, first_of}
+use Rattle.ped_grammar.specs.Statement.{Note, Statements}
+use Rattle.ped_grammar.specs.Items.{declares, ends_program, says, Entry}
+use Rattle.ped_grammar.specs.Occurrences.{saved_names}
+use Rattle.ped_grammar.specs.Contexts.{Block, Context, at_start, decl_rank, is_save, behind, behind_all}
+use Rattle.ped_grammar.specs.BlockForms.{entry}
+use Rattle.ped_grammar.specs.ProgramRefusals.{is_out_of_order, is_behind_end, breaks_syntax, leaves_open, has_do, open_variables, block_depth, is_too_large, is_too_long, at_statement, at_statements, at_end, program_refusals}
 use Rattle.ped_round_trip.proofs.Pieces.{decl_piece, end_piece, statements_pieces, Spot, statement_here, behind_piece, entry_here, entries_here, behind_both, entries_both}
 use Rattle.ped_round_trip.proofs.Trees.{rejections}
 use Rattle.ped_round_trip.proofs.WholeForm.{start, body_spot, ending_spot, whole_entries, decls_only}

@@ -1,10 +1,10 @@
 -- The executable statements of a text at which nothing is refused meet what their printed text needs.
 use Rattle.std.proofs.Common.{◌≡◌, ℕ, ◌+◌, List, [], ◌∷◌, ◌++◌, length, Bool, true, false, refl, ap, subst, ◌∙◌, arith, append_assoc, eqb-true}
 use Rattle.std.specs.Prelude.{IsTrue, ◌&&◌}
-use Rattle.ped_tree.specs.Items.{block_if, else_if, else_line, end_if, begins_do, Entry}
-use Rattle.ped_tree.specs.Contexts.{Block, in_then, in_else, in_do, Context, closed, behind, behind_all}
-use Rattle.ped_tree.specs.BlockForms.{BodyForm, nothing, and_then, PartForm, a_plain, an_if, a_do, RestForm, ends_if, has_else, has_else_if, LoopForm, loop, EndingForm, at_plain, with_inner, plain_item, plain_trees, entry, private_entries, body_entries, part_entries, rest_entries, loop_entries, ending_entries, comments_of, comments_of_private, first_of_rest, body_trees, part_trees, rest_trees, loop_trees, ending_trees, loop_label, is_free, private_fits, body_fits, part_fits, rest_fits, loop_fits, ending_fits}
-use Rattle.ped_tree.specs.ProgramRefusals.{private_behind, block_depth}
+use Rattle.ped_grammar.specs.Items.{block_if, else_if, else_line, end_if, begins_do, Entry}
+use Rattle.ped_grammar.specs.Contexts.{Block, in_then, in_else, in_do, Context, closed, behind, behind_all}
+use Rattle.ped_grammar.specs.BlockForms.{BodyForm, nothing, and_then, PartForm, a_plain, an_if, a_do, RestForm, ends_if, has_else, has_else_if, LoopForm, loop, EndingForm, at_plain, with_inner, plain_item, plain_trees, entry, private_entries, body_entries, part_entries, rest_entries, loop_entries, ending_entries, comments_of, comments_of_private, first_of_rest, body_trees, part_trees, rest_trees, loop_trees, ending_trees, loop_label, is_free, private_fits, body_fits, part_fits, rest_fits, loop_fits, ending_fits}
+use Rattle.ped_grammar.specs.ProgramRefusals.{private_behind, block_depth}
 use Rattle.ped_blocks.proofs.BlocksMoved.{labels}
 use Rattle.ped_round_trip.proofs.FitBodyLists.{count_of, loops_of, Sourced, first_sourced, rest_sourced, Accepted, accepted_next, accepted_split, accepted_behind, At, at_behind, Fitting, fitting_across, fitting_both, CommentsFit, comments_fitting, entry_fitting, nothing_fitting, with_comments, bare_fitting, one_longer}
 use Rattle.ped_round_trip.proofs.FitBodyStatements.{passed, free_blocks, other_closed, closed_self, ending_blocks, plain_fitting}

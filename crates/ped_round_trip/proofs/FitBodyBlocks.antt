@@ -5,14 +5,14 @@ use Rattle.std.specs.List.{list_all}
 use Rattle.std.proofs.lemmas.List.Folds.{list_any-append}
 use Rattle.ped_tree.specs.Tree.{CondTree, StmtTree, StmtTrees, If}
 use Rattle.ped_tree.specs.Views.{pack_stmts}
-use Rattle.ped_tree.specs.Words.{is_name}
-use Rattle.ped_tree.specs.Statement.{Note, Statement}
-use Rattle.ped_tree.specs.Items.{Item, block_if, else_if, Entry}
-use Rattle.ped_tree.specs.References.{same_name}
-use Rattle.ped_tree.specs.Occurrences.{do_variables, is_among, is_rejection, rejected_name, rejected_names}
-use Rattle.ped_tree.specs.Contexts.{Block, Context, behind, behind_all}
-use Rattle.ped_tree.specs.BlockForms.{entry}
-use Rattle.ped_tree.specs.ProgramRefusals.{open_variables, inner_variables, meets, block_depth}
+use Rattle.ped_grammar.specs.Words.{is_name}
+use Rattle.ped_grammar.specs.Statement.{Note, Statement}
+use Rattle.ped_grammar.specs.Items.{Item, block_if, else_if, Entry}
+use Rattle.ped_base.specs.Lists.{is_same_text, is_among}
+use Rattle.ped_grammar.specs.Occurrences.{do_variables, is_rejection, rejected_name, rejected_names}
+use Rattle.ped_grammar.specs.Contexts.{Block, Context, behind, behind_all}
+use Rattle.ped_grammar.specs.BlockForms.{entry}
+use Rattle.ped_grammar.specs.ProgramRefusals.{open_variables, inner_variables, meets, block_depth}
 use Rattle.ped_reprint.specs.Printed.{of_block_if, of_else_if}
 use Rattle.ped_round_trip.proofs.Fits.{Said, Place, in_if, BranchFits, AllFit}
 use Rattle.ped_round_trip.proofs.FitBodyLists.{ListFit, packed_fit, count_of, loops_of, variables_of, counts_both, loops_both, variables_both, At, at_same, place, Fitting, fitting_both, inner_step, inner_at}
@@ -105,10 +105,10 @@ rejected_are_names (d ∷ ds) =
 
 fewer : (x : List ℕ) (us bs cs : List (List ℕ)) → is_among x (us ++ (bs ++ cs)) ≡ false → is_among x (us ++ bs) ≡ false
 fewer x us bs cs h =
-    list_any-append (same_name x) us bs
-    ∙ (let k = or_left _ _ (sym (list_any-append (same_name x) us (bs ++ cs)) ∙ h) in
-    let l = or_right (is_among x us) _ (sym (list_any-append (same_name x) us (bs ++ cs)) ∙ h) in
-    let o = or_left _ (is_among x cs) (sym (list_any-append (same_name x) bs cs) ∙ l) in
+    list_any-append (is_same_text x) us bs
+    ∙ (let k = or_left _ _ (sym (list_any-append (is_same_text x) us (bs ++ cs)) ∙ h) in
+    let l = or_right (is_among x us) _ (sym (list_any-append (is_same_text x) us (bs ++ cs)) ∙ h) in
+    let o = or_left _ (is_among x cs) (sym (list_any-append (is_same_text x) bs cs) ∙ l) in
     λ i. k i || o i)
 
 pub meets_fewer : (names us bs cs : List (List ℕ)) → meets names (us ++ (bs ++ cs)) ≡ false → meets names (us ++ bs) ≡ false

@@ -2,17 +2,17 @@
 use Rattle.std.proofs.Common.{◌≡◌, ℕ, suc, ◌+◌, List, [], ◌∷◌, ◌++◌, length, true, false, cond, refl, sym, ap, subst, ◌∙◌, arith, append_assoc, append-nil}
 use Rattle.std.specs.Prelude.{nat_lt, map}
 use Rattle.std.specs.List.{AllByRecursion, list_all}
-use Rattle.ped_tree.specs.Characters.{is_printable}
+use Rattle.ped_grammar.specs.Characters.{is_printable}
 use Rattle.ped_tree.specs.Tree.{StmtTree, Comment}
 use Rattle.ped_tree.specs.Views.{pack_stmts}
 use Rattle.ped_tree.specs.Numbering.{statement_count, statements_count, loop_count, loops_count}
-use Rattle.ped_tree.specs.Statement.{Note, Statement}
-use Rattle.ped_tree.specs.Items.{Item, Entry}
-use Rattle.ped_tree.specs.Occurrences.{of_reading, do_variables, constants_of}
-use Rattle.ped_tree.specs.Contexts.{Block, Context, numbered_in, loops_in, blocks_behind, behind, behind_all}
-use Rattle.ped_tree.specs.BlockForms.{entry, comments_of}
-use Rattle.ped_tree.specs.ProgramRefusals.{open_variables, inner_variables, at_statement, at_statements}
-use Rattle.ped_tree.specs.Reading.{IsReading}
+use Rattle.ped_grammar.specs.Statement.{Note, Statement}
+use Rattle.ped_grammar.specs.Items.{Item, Entry}
+use Rattle.ped_grammar.specs.Occurrences.{of_reading, do_variables, constants_of}
+use Rattle.ped_grammar.specs.Contexts.{Block, Context, numbered_in, loops_in, blocks_behind, behind, behind_all}
+use Rattle.ped_grammar.specs.BlockForms.{entry, comments_of}
+use Rattle.ped_grammar.specs.ProgramRefusals.{open_variables, inner_variables, at_statement, at_statements}
+use Rattle.ped_grammar.specs.Reading.{IsReading}
 use Rattle.ped_recut.specs.Fitting.{IsCommentText}
 use Rattle.ped_blocks.proofs.BlocksFound.{right_empty}
 use Rattle.ped_round_trip.proofs.Fits.{Place, moved, loop_variables, all_loop_variables, Fits, AllFit}

@@ -4,14 +4,14 @@ use Rattle.std.specs.Prelude.{IsTrue, nat_lt, nat_le, ◌&&◌, ◌||◌, not, �
 use Rattle.std.specs.List.{list_any}
 use Rattle.ped_tree.specs.Tree.{CondTree, StmtTree, StmtTrees, Assign, If, Do, Print, Read, Stop, Comment, no_stmts, more_stmts}
 use Rattle.ped_tree.specs.Numbering.{statement_count, statements_count, loop_count}
-use Rattle.ped_tree.specs.References.{own_accesses}
+use Rattle.ped_tree.specs.Accesses.{own_accesses}
 use Rattle.ped_tree.specs.Printing.{own_text}
-use Rattle.ped_tree.specs.Statement.{Statement}
-use Rattle.ped_tree.specs.StatementForms.{assignment, print, read, stop, continue, StatementForm, program, implicit, integer, dimension, parameter, save, save_all, simple, if_simple, if_then, else_if_then, else_alone, end_of_if, do_loop, private, end, statement_item, ReadsItem}
-use Rattle.ped_tree.specs.Items.{Item, declares, saves_all, does, continues, logical_if, block_if, else_if, else_line, end_if, begins_do, keeps_private, ends_program, says, Entry}
-use Rattle.ped_tree.specs.Contexts.{Block, in_then, in_else, in_do, Context, is_stop, may_end, closed, closed_by, blocks_behind, behind}
-use Rattle.ped_tree.specs.BlockForms.{PlainForm, a_simple, a_continue, a_logical_if, plain_item, plain_trees, entry, has_label, is_free}
-use Rattle.ped_tree.specs.ProgramRefusals.{has_do, ends_badly, open_variables, assigned_by, assigned_in, private_in, inner_variables, meets, stops, private_behind, loop_depth, block_depth, is_too_large, are_too_many, is_too_deep, has_many_references, is_too_long, at_statement}
+use Rattle.ped_grammar.specs.Statement.{Statement}
+use Rattle.ped_grammar.specs.StatementForms.{assignment, print, read, stop, continue, StatementForm, program, implicit, integer, dimension, parameter, save, save_all, simple, if_simple, if_then, else_if_then, else_alone, end_of_if, do_loop, private, end, statement_item, ReadsItem}
+use Rattle.ped_grammar.specs.Items.{Item, declares, saves_all, does, continues, logical_if, block_if, else_if, else_line, end_if, begins_do, keeps_private, ends_program, says, Entry}
+use Rattle.ped_grammar.specs.Contexts.{Block, in_then, in_else, in_do, Context, is_stop, may_end, closed, closed_by, blocks_behind, behind}
+use Rattle.ped_grammar.specs.BlockForms.{PlainForm, a_simple, a_continue, a_logical_if, plain_item, plain_trees, entry, has_label, is_free}
+use Rattle.ped_grammar.specs.ProgramRefusals.{has_do, ends_badly, open_variables, assigned_by, assigned_in, private_in, inner_variables, meets, stops, private_behind, loop_depth, block_depth, is_too_large, are_too_many, is_too_deep, has_many_references, is_too_long, at_statement}
 use Rattle.ped_reprint.specs.Printed.{itself, of_logical_if, behind_logical_if}
 use Rattle.ped_blocks.proofs.BlocksFound.{none_stands, left_empty, right_empty}
 use Rattle.ped_blocks.proofs.BlocksMoved.{labels}

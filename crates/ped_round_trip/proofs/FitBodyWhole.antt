@@ -2,16 +2,16 @@
 use Rattle.std.proofs.Common.{◌≡◌, ℕ, List, [], ◌∷◌, ◌++◌, true, refl, sym, subst}
 use Rattle.std.specs.Prelude.{IsTrue}
 use Rattle.std.specs.List.{AllByRecursion, list_all}
-use Rattle.ped_tree.specs.Characters.{is_printable}
+use Rattle.ped_grammar.specs.Characters.{is_printable}
 use Rattle.ped_tree.specs.Tree.{StmtTree, Assign, If, Do, Print, Read, Stop, Comment}
 use Rattle.ped_tree.specs.Views.{pack_stmts}
-use Rattle.ped_tree.specs.Statement.{Statement}
-use Rattle.ped_tree.specs.Items.{Entry}
-use Rattle.ped_tree.specs.Contexts.{Context}
-use Rattle.ped_tree.specs.BlockForms.{BodyForm, body_entries, body_trees, comments_of, body_fits}
-use Rattle.ped_tree.specs.ProgramForms.{front_remarks, behind_front}
-use Rattle.ped_tree.specs.ProgramRefusals.{block_depth, at_statements}
-use Rattle.ped_tree.specs.Reading.{AreEntries}
+use Rattle.ped_grammar.specs.Statement.{Statement}
+use Rattle.ped_grammar.specs.Items.{Entry}
+use Rattle.ped_grammar.specs.Contexts.{Context}
+use Rattle.ped_grammar.specs.BlockForms.{BodyForm, body_entries, body_trees, comments_of, body_fits}
+use Rattle.ped_grammar.specs.ProgramForms.{front_remarks, behind_front}
+use Rattle.ped_grammar.specs.ProgramRefusals.{block_depth, at_statements}
+use Rattle.ped_grammar.specs.Reading.{AreEntries}
 use Rattle.ped_blocks.proofs.BlocksMoved.{labels}
 use Rattle.ped_round_trip.proofs.WholeForm.{BeginsWithStatement}
 use Rattle.ped_round_trip.proofs.Fits.{Place, moved, AllFit, DeclarationsFit}

@@ -3,16 +3,16 @@ use Rattle.std.proofs.Common.{◌≡◌, ℕ, ◌≤◌, List, [], ◌∷◌, �
 use Rattle.std.specs.Prelude.{max, nat_lt, nat_le, ◌||◌}
 use Rattle.std.specs.List.{flat_map}
 use Rattle.ped_tree.specs.Tree.{StmtTree, Assign, If, Do, Print, Read, Stop, Comment, DeclTree, Program, Implicit, Integer, Dimension, Parameter, Save, Remark}
-use Rattle.ped_tree.specs.References.{constants_in}
+use Rattle.ped_tree.specs.Accesses.{constants_in}
 use Rattle.ped_tree.specs.Printing.{is_remark}
-use Rattle.ped_tree.specs.Literals.{decl_has_large_literal}
-use Rattle.ped_tree.specs.Statement.{Note, Statement}
-use Rattle.ped_tree.specs.Items.{Item, declares, saves_all, says, Entry}
-use Rattle.ped_tree.specs.StatementForms.{StatementForm, program, implicit, integer, dimension, parameter, save, save_all, simple, if_simple, if_then, else_if_then, else_alone, end_of_if, do_loop, private, end, assignment, print, read, stop, continue, statement_item, ReadsItem}
-use Rattle.ped_tree.specs.Contexts.{Context, decl_rank, rank, behind, behind_all}
-use Rattle.ped_tree.specs.BlockForms.{entry}
-use Rattle.ped_tree.specs.ProgramForms.{DeclForm, a_declaration, a_save_of_all, decl_entry, remarks_of, save_of, decl_trees, front_remarks}
-use Rattle.ped_tree.specs.ProgramRefusals.{is_behind_end, is_out_of_order, lacks_if, is_late_private, saves_again, is_misplaced, breaks_syntax, has_eight_dimensions, at_statement}
+use Rattle.ped_grammar.specs.Literals.{decl_has_large_literal}
+use Rattle.ped_grammar.specs.Statement.{Note, Statement}
+use Rattle.ped_grammar.specs.Items.{Item, declares, saves_all, says, Entry}
+use Rattle.ped_grammar.specs.StatementForms.{StatementForm, program, implicit, integer, dimension, parameter, save, save_all, simple, if_simple, if_then, else_if_then, else_alone, end_of_if, do_loop, private, end, assignment, print, read, stop, continue, statement_item, ReadsItem}
+use Rattle.ped_grammar.specs.Contexts.{Context, decl_rank, rank, behind, behind_all}
+use Rattle.ped_grammar.specs.BlockForms.{entry}
+use Rattle.ped_grammar.specs.ProgramForms.{DeclForm, a_declaration, a_save_of_all, decl_entry, remarks_of, save_of, decl_trees, front_remarks}
+use Rattle.ped_grammar.specs.ProgramRefusals.{is_behind_end, is_out_of_order, lacks_if, is_late_private, saves_again, is_misplaced, breaks_syntax, has_eight_dimensions, at_statement}
 use Rattle.ped_blocks.proofs.BlocksFound.{none_stands, left_empty, right_empty}
 use Rattle.ped_round_trip.proofs.Fits.{by_text, by_names, DeclarationFits, DeclarationsFit, constants_of_all}
 use Rattle.ped_round_trip.proofs.FitBodyLists.{IsSourced, Sourced, Accepted, accepted_next, At, CommentsFit, none_more}

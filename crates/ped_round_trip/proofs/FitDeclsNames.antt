@@ -2,14 +2,16 @@
 use Rattle.std.proofs.Common.{◌≡◌, ℕ, List, [], ◌∷◌, ◌++◌, map, Bool, true, false, cond, Option, Some, None, refl, subst}
 use Rattle.std.specs.Prelude.{IsTrue, ◌&&◌, drop, filter}
 use Rattle.std.specs.List.{list_all, flat_map}
-use Rattle.ped_tree.specs.Words.{is_name}
-use Rattle.ped_tree.specs.ExpressionForms.{unsigned, positive, negative, add, subtract, multiply, divide, ExprForm, first, sum, TermForm, single, product, FactorForm, plain, power, PrimaryForm, literal, reference, remainder, absolute, greatest, least, parentheses, ReferenceForm, scalar, element, ExprsForm, one, more, expr_form_tree, term_form_tree, factor_form_tree, primary_form_tree, reference_form_tree, exprs_form_trees}
-use Rattle.ped_tree.specs.ConditionForms.{CondForm, one_term, or, LogicalTermForm, one_factor, and, LogicalFactorForm, affirmed, negated, LogicalPrimaryForm, relation, group, cond_form_tree, logical_term_tree, logical_factor_tree, logical_primary_tree}
-use Rattle.ped_tree.specs.StatementForms.{are_names, BoundForm, upper_bound, both_bounds, ArrayForm, an_array, DeclaratorForm, a_scalar, of_array, ConstantForm, a_constant, ItemForm, a_value, a_text, SimpleForm, assignment, print, read, stop, continue, ControlForm, control, StatementForm, program, implicit, integer, dimension, parameter, save, save_all, simple, if_simple, if_then, else_if_then, else_alone, end_of_if, do_loop, private, end, bound_form_tree, array_form_tree, declarator_form_tree, constant_form_tree, item_form_tree, simple_item, behind_if, step_form_tree, control_form_head, statement_item, ReadsItem}
-use Rattle.ped_tree.specs.Statement.{Note}
-use Rattle.ped_tree.specs.Items.{Item, Reading, says, outside_profile, no_form, Entry}
-use Rattle.ped_tree.specs.Occurrences.{expr_names, exprs_names, cond_names, item_names, head_names, stmts_names, declarator_names, names_in, of_reading, is_rejection, rejected_name, rejected_names, entry_names, is_among, first_occurrences, saved_names}
-use Rattle.ped_tree.specs.Reading.{IsReading}
+use Rattle.ped_grammar.specs.Words.{is_name}
+use Rattle.ped_grammar.specs.ExpressionForms.{unsigned, positive, negative, add, subtract, multiply, divide, ExprForm, first, sum, TermForm, single, product, FactorForm, plain, power, PrimaryForm, literal, reference, remainder, absolute, greatest, least, parentheses, ReferenceForm, scalar, element, ExprsForm, one, more, expr_form_tree, term_form_tree, factor_form_tree, primary_form_tree, reference_form_tree, exprs_form_trees}
+use Rattle.ped_grammar.specs.ConditionForms.{CondForm, one_term, or, LogicalTermForm, one_factor, and, LogicalFactorForm, affirmed, negated, LogicalPrimaryForm, relation, group, cond_form_tree, logical_term_tree, logical_factor_tree, logical_primary_tree}
+use Rattle.ped_grammar.specs.StatementForms.{are_names, BoundForm, upper_bound, both_bounds, ArrayForm, an_array, DeclaratorForm, a_scalar, of_array, ConstantForm, a_constant, ItemForm, a_value, a_text, SimpleForm, assignment, print, read, stop, continue, ControlForm, control, StatementForm, program, implicit, integer, dimension, parameter, save, save_all, simple, if_simple, if_then, else_if_then, else_alone, end_of_if, do_loop, private, end, bound_form_tree, array_form_tree, declarator_form_tree, constant_form_tree, item_form_tree, simple_item, behind_if, step_form_tree, control_form_head, statement_item, ReadsItem}
+use Rattle.ped_grammar.specs.Statement.{Note}
+use Rattle.ped_grammar.specs.Items.{Item, Reading, says, outside_profile, no_form, Entry}
+use Rattle.ped_tree.specs.NamesIn.{expr_names, exprs_names, cond_names, item_names, head_names, stmts_names, declarator_names, first_occurrences}
+use Rattle.ped_grammar.specs.Occurrences.{names_in, of_reading, is_rejection, rejected_name, rejected_names, entry_names, saved_names}
+use Rattle.ped_base.specs.Lists.{is_among}
+use Rattle.ped_grammar.specs.Reading.{IsReading}
 use Rattle.ped_round_trip.proofs.FitBodyLists.{IsSourced, Sourced}
 
 -- each of them is a name

@@ -4,14 +4,14 @@ use Rattle.std.specs.Prelude.{IsTrue}
 use Rattle.std.specs.List.{AllByRecursion, flat_map}
 use Rattle.ped_tree.specs.Tree.{ProgramTree}
 use Rattle.ped_tree.specs.Views.{pack_stmts}
-use Rattle.ped_tree.specs.Items.{ends_program, Entry}
-use Rattle.ped_tree.specs.Occurrences.{saved_names}
-use Rattle.ped_tree.specs.Contexts.{at_start, behind_all}
-use Rattle.ped_tree.specs.BlockForms.{entry, body_entries, body_fits}
-use Rattle.ped_tree.specs.ProgramForms.{ProgramForm, decl_entry, program_entries, decl_trees, front_remarks, behind_front, all_trees, program_form_tree}
-use Rattle.ped_tree.specs.ProgramRefusals.{at_end, program_refusals}
-use Rattle.ped_tree.specs.Grouping.{statements_of}
-use Rattle.ped_tree.specs.Reading.{Reads}
+use Rattle.ped_grammar.specs.Items.{ends_program, Entry}
+use Rattle.ped_grammar.specs.Occurrences.{saved_names}
+use Rattle.ped_grammar.specs.Contexts.{at_start, behind_all}
+use Rattle.ped_grammar.specs.BlockForms.{entry, body_entries, body_fits}
+use Rattle.ped_grammar.specs.ProgramForms.{ProgramForm, decl_entry, program_entries, decl_trees, front_remarks, behind_front, all_trees, program_form_tree}
+use Rattle.ped_grammar.specs.ProgramRefusals.{at_end, program_refusals}
+use Rattle.ped_grammar.specs.Grouping.{statements_of}
+use Rattle.ped_grammar.specs.Reading.{Reads}
 use Rattle.ped_blocks.proofs.BlocksFound.{first_none, left_empty}
 use Rattle.ped_round_trip.proofs.Fits.{AllFit, constants_of_all, ProgramFits}
 use Rattle.ped_round_trip.proofs.FitBodyLists.{Sourced, first_sourced, rest_sourced, Accepted, accepted_behind, At}

@@ -3,16 +3,16 @@ use Rattle.std.proofs.Common.{◌≡◌, ℕ, ◌+◌, List, [], ◌∷◌, ◌+
 use Rattle.std.specs.Prelude.{IsFalse, ◌&&◌, nat_lt, nat_le}
 use Rattle.std.specs.List.{list_all}
 use Rattle.ped_tree.specs.Tree.{Head, StmtTree, StmtTrees, Assign, If, Do, Print, Read, Stop, Comment, no_stmts, more_stmts, DeclTree, Program, Implicit, Integer, Dimension, Parameter, Save, Remark, ProgramTree}
-use Rattle.ped_tree.specs.Words.{is_name}
-use Rattle.ped_tree.specs.Characters.{is_printable}
+use Rattle.ped_grammar.specs.Words.{is_name}
+use Rattle.ped_grammar.specs.Characters.{is_printable}
 use Rattle.ped_tree.specs.Numbering.{statement_count, statements_count, loop_count, loops_count}
-use Rattle.ped_tree.specs.References.{own_accesses, constants_in}
+use Rattle.ped_tree.specs.Accesses.{own_accesses, constants_in}
 use Rattle.ped_tree.specs.Printing.{own_text, private_text, decl_text}
-use Rattle.ped_tree.specs.Items.{Item, declares, keeps_private}
-use Rattle.ped_tree.specs.StatementForms.{are_names, ReadsItem}
-use Rattle.ped_tree.specs.Literals.{decl_has_large_literal}
-use Rattle.ped_tree.specs.Contexts.{decl_rank, is_stop}
-use Rattle.ped_tree.specs.ProgramRefusals.{is_out_of_order, assigned_by, meets, is_too_large, has_eight_dimensions}
+use Rattle.ped_grammar.specs.Items.{Item, declares, keeps_private}
+use Rattle.ped_grammar.specs.StatementForms.{are_names, ReadsItem}
+use Rattle.ped_grammar.specs.Literals.{decl_has_large_literal}
+use Rattle.ped_grammar.specs.Contexts.{decl_rank, is_stop}
+use Rattle.ped_grammar.specs.ProgramRefusals.{is_out_of_order, assigned_by, meets, is_too_large, has_eight_dimensions}
 use Rattle.ped_recut.specs.Fitting.{IsCommentText}
 use Rattle.ped_reprint.specs.Printed.{SaysFirstLine}
 use Rattle.ped_round_trip.proofs.WholeForm.{BeginsWithStatement}

@@ -4,8 +4,8 @@ use Rattle.std.specs.Prelude.{codes}
 use Rattle.ped_tree.specs.Tree.{Head, StmtTree, StmtTrees, Assign, If, Do, Print, Read, Stop, Comment, no_stmts, more_stmts}
 use Rattle.ped_tree.specs.Numbering.{loop_count, loops_count}
 use Rattle.ped_tree.specs.Printing.{own_text, private_text}
-use Rattle.ped_tree.specs.Items.{continues, block_if, else_line, end_if, begins_do, Entry}
-use Rattle.ped_tree.specs.BlockForms.{a_simple, a_continue, PrivateForm, no_private, private_list, BodyForm, nothing, and_then, a_plain, an_if, a_do, RestForm, ends_if, has_else, loop, at_plain, entry, private_entries, body_entries, rest_entries, whole_head}
+use Rattle.ped_grammar.specs.Items.{continues, block_if, else_line, end_if, begins_do, Entry}
+use Rattle.ped_grammar.specs.BlockForms.{a_simple, a_continue, PrivateForm, no_private, private_list, BodyForm, nothing, and_then, a_plain, an_if, a_do, RestForm, ends_if, has_else, loop, at_plain, entry, private_entries, body_entries, rest_entries, whole_head}
 use Rattle.ped_recut.specs.Printed.{a_rejection}
 use Rattle.ped_round_trip.proofs.Pieces.{Piece, noted, bare, label_number, do_piece, continue_piece, private_pieces, rejection_pieces, statement_pieces, statements_pieces, else_pieces, Spot, statement_here, behind_piece, behind_pieces, entries_here, behind_both, entries_both}
 

@@ -4,13 +4,13 @@ use Rattle.std.specs.Prelude.{codes, ◌&&◌, nat_lt, nat_le}
 use Rattle.std.specs.List.{AllByRecursion, list_all}
 use Rattle.ped_base.specs.Letters as Letters
 use Rattle.ped_tree.specs.Tree.{Head, StmtTree, StmtTrees, Assign, If, Do, Print, Read, Stop, Comment, no_stmts, more_stmts, DeclTree, Program, Implicit, Integer, Dimension, Parameter, Save, Remark, ProgramTree}
-use Rattle.ped_tree.specs.Words.{is_name}
-use Rattle.ped_tree.specs.Characters.{text_of}
+use Rattle.ped_grammar.specs.Words.{is_name}
+use Rattle.ped_grammar.specs.Characters.{text_of}
 use Rattle.ped_tree.specs.Numbering.{statement_count, statements_count, loop_count, loops_count}
-use Rattle.ped_tree.specs.Literals.{decl_has_large_literal}
+use Rattle.ped_grammar.specs.Literals.{decl_has_large_literal}
 use Rattle.ped_tree.specs.Printing.{own_text, private_text, decl_text}
-use Rattle.ped_tree.specs.Items.{Item, declares, keeps_private, end_if, continues, else_line, ends_program}
-use Rattle.ped_tree.specs.StatementForms.{ReadsItem}
+use Rattle.ped_grammar.specs.Items.{Item, declares, keeps_private, end_if, continues, else_line, ends_program}
+use Rattle.ped_grammar.specs.StatementForms.{ReadsItem}
 use Rattle.ped_recut.specs.Fitting.{IsRejectedName, NoteFits, LabelFits, TextFits}
 use Rattle.ped_recut.proofs.Grouped.{PartFits, all_joined}
 use Rattle.ped_reprint.specs.Printed.{ReadsOnly, HasShortLabel, first_line_item}

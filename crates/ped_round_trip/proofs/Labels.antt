@@ -5,7 +5,7 @@ use Rattle.std.specs.List.{list_any}
 use Rattle.ped_tree.specs.Tree.{StmtTree, StmtTrees, Assign, If, Do, Print, Read, Stop, Comment, no_stmts, more_stmts}
 use Rattle.ped_tree.specs.Numbering.{loop_count, loops_count}
 use Rattle.ped_tree.specs.Printing.{own_text, private_text}
-use Rattle.ped_tree.specs.BlockForms.{BodyForm, nothing, has_label, is_free, private_fits, body_fits, rest_fits}
+use Rattle.ped_grammar.specs.BlockForms.{BodyForm, nothing, has_label, is_free, private_fits, body_fits, rest_fits}
 use Rattle.ped_round_trip.proofs.Pieces.{label_number, statement_pieces, statements_pieces, Spot, statement_here, behind_pieces}
 use Rattle.ped_round_trip.proofs.Forms.{then_spot, rest_spot, else_spot, do_spot, private_spot, inner_spot, private_form, with_stmt, with_stmts, rest_form}
 

@@ -8,9 +8,9 @@ use Rattle.std.proofs.lemmas.Bool.{cond_both, not-true, not_from_false, ne_eqb, 
 use Rattle.std.proofs.lemmas.List.{append-nil, length-replicate}
 use Rattle.std.proofs.lemmas.List.Folds.{list_all-append}
 use Rattle.ped_base.specs.Letters
-use Rattle.ped_tree.specs.Columns.{is_digit}
-use Rattle.ped_tree.specs.Characters.{is_letter, is_character, is_printable, is_quoted, is_bad, has_bad}
-use Rattle.ped_tree.specs.Words.{is_name}
+use Rattle.ped_grammar.specs.Columns.{is_digit}
+use Rattle.ped_grammar.specs.Characters.{is_letter, is_character, is_printable, is_quoted, is_bad, has_bad}
+use Rattle.ped_grammar.specs.Words.{is_name}
 use Rattle.ped_tree.specs.Printing.{blanks, doubled, constant_text}
 use Rattle.ped_lines.proofs.Quoting.{quoted_more, has_bad_append}
 use Rattle.ped_recut.specs.Fitting.{begins_at_once, TextFits}

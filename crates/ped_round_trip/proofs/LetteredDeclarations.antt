@@ -4,12 +4,12 @@ use Rattle.std.specs.Prelude.{codes, nat_lt}
 use Rattle.std.specs.List.{list_all, flat_map}
 use Rattle.std.proofs.lemmas.Bool.{cond_both, and_parts}
 use Rattle.ped_tree.specs.Tree.{DeclTree, Save}
-use Rattle.ped_tree.specs.References.{has_some}
-use Rattle.ped_tree.specs.Words.{is_name}
+use Rattle.ped_base.specs.Lists.{has_some}
+use Rattle.ped_grammar.specs.Words.{is_name}
 use Rattle.ped_tree.specs.Printing.{value_text, is_one, names_text, private_text, bound_text, declarator_text, parameter_text, decl_text}
-use Rattle.ped_tree.specs.ExpressionForms.{expr_form_tree}
-use Rattle.ped_tree.specs.Items.{Item, declares, keeps_private}
-use Rattle.ped_tree.specs.StatementForms.{BoundForm, upper_bound, both_bounds, ArrayForm, an_array, DeclaratorForm, a_scalar, of_array, ConstantForm, a_constant, bound_form_tree, array_form_tree, declarator_form_tree, constant_form_tree, are_names, StatementForm, program, implicit, integer, dimension, parameter, save, save_all, simple, if_simple, if_then, else_if_then, else_alone, end_of_if, do_loop, private, end, SimpleForm, assignment, print, read, stop, continue, statement_item, ReadsItem}
+use Rattle.ped_grammar.specs.ExpressionForms.{expr_form_tree}
+use Rattle.ped_grammar.specs.Items.{Item, declares, keeps_private}
+use Rattle.ped_grammar.specs.StatementForms.{BoundForm, upper_bound, both_bounds, ArrayForm, an_array, DeclaratorForm, a_scalar, of_array, ConstantForm, a_constant, bound_form_tree, array_form_tree, declarator_form_tree, constant_form_tree, are_names, StatementForm, program, implicit, integer, dimension, parameter, save, save_all, simple, if_simple, if_then, else_if_then, else_alone, end_of_if, do_loop, private, end, SimpleForm, assignment, print, read, stop, continue, statement_item, ReadsItem}
 use Rattle.ped_recut.specs.Fitting.{TextFits}
 use Rattle.ped_round_trip.proofs.Fits.{IsDeclared, by_text, by_names}
 use Rattle.ped_round_trip.proofs.Lettered.{Lettered, joined, nothing, words, name_passes, listed, Written, written, followed, fits}

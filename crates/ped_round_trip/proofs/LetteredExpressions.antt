@@ -6,10 +6,10 @@ use Rattle.ped_tree.specs.declared.expressions.Intrinsic.TheVariants.{Mod, Abs, 
 use Rattle.ped_tree.specs.declared.conditions.Relation.{Relation}
 use Rattle.ped_tree.specs.declared.conditions.Relation.TheVariants as relations
 use Rattle.ped_tree.specs.Tree.{ExprTree, ExprTrees, Pow, Call, no_exprs, more_exprs, CondTree}
-use Rattle.ped_tree.specs.Words.{numeral_value}
+use Rattle.ped_grammar.specs.Words.{numeral_value}
 use Rattle.ped_tree.specs.Printing.{Place, alone, as_term, as_factor, as_base, encloses_sum, encloses_product, encloses_power, enclosed, intrinsic_text, expr_text, exprs_text, further_text, value_text, relation_text, Standing, whole, in_or, in_and, in_not, encloses_or, encloses_and, encloses_not, cond_text}
-use Rattle.ped_tree.specs.ExpressionForms.{Sign, unsigned, positive, negative, Adding, add, subtract, Scaling, multiply, divide, ExprForm, TermForm, FactorForm, PrimaryForm, ReferenceForm, ExprsForm, first, sum, single, product, plain, power, literal, reference, remainder, absolute, greatest, least, parentheses, scalar, element, one, more, signed, added, scaled, expr_form_tree, term_form_tree, factor_form_tree, primary_form_tree, reference_form_tree, exprs_form_trees}
-use Rattle.ped_tree.specs.ConditionForms.{CondForm, LogicalTermForm, LogicalFactorForm, LogicalPrimaryForm, one_term, or, one_factor, and, affirmed, negated, relation, group, cond_form_tree, logical_term_tree, logical_factor_tree, logical_primary_tree}
+use Rattle.ped_grammar.specs.ExpressionForms.{Sign, unsigned, positive, negative, Adding, add, subtract, Scaling, multiply, divide, ExprForm, TermForm, FactorForm, PrimaryForm, ReferenceForm, ExprsForm, first, sum, single, product, plain, power, literal, reference, remainder, absolute, greatest, least, parentheses, scalar, element, one, more, signed, added, scaled, expr_form_tree, term_form_tree, factor_form_tree, primary_form_tree, reference_form_tree, exprs_form_trees}
+use Rattle.ped_grammar.specs.ConditionForms.{CondForm, LogicalTermForm, LogicalFactorForm, LogicalPrimaryForm, one_term, or, one_factor, and, affirmed, negated, relation, group, cond_form_tree, logical_term_tree, logical_factor_tree, logical_primary_tree}
 use Rattle.ped_round_trip.proofs.Lettered.{Lettered, joined, nothing, words, name_passes, decimal_passes, Written, followed, name_begins}
 
 -- parentheses

@@ -4,12 +4,12 @@ use Rattle.std.specs.Prelude.{codes, nat_lt}
 use Rattle.std.specs.List.{list_all, flat_map}
 use Rattle.std.proofs.lemmas.Bool.{cond_both}
 use Rattle.ped_tree.specs.Tree.{CondTree, Head, StmtTree, StmtTrees, Assign, Print, Read, Stop, no_stmts, more_stmts}
-use Rattle.ped_tree.specs.Characters.{is_printable}
+use Rattle.ped_grammar.specs.Characters.{is_printable}
 use Rattle.ped_tree.specs.Printing.{value_text, whole, cond_text, is_one, item_text, label_text, step_text, do_word, do_text, own_text}
-use Rattle.ped_tree.specs.ExpressionForms.{ExprForm, expr_form_tree, ReferenceForm, reference_form_tree}
-use Rattle.ped_tree.specs.ConditionForms.{CondForm, cond_form_text, cond_form_tree}
-use Rattle.ped_tree.specs.Items.{Item, does, logical_if, block_if, else_if, begins_do}
-use Rattle.ped_tree.specs.StatementForms.{ItemForm, a_value, a_text, item_form_text, item_form_tree, SimpleForm, assignment, print, read, stop, continue, simple_form_text, simple_item, behind_if, ControlForm, control, control_form_head, step_form_tree, StatementForm, program, implicit, integer, dimension, parameter, save, save_all, simple, if_simple, if_then, else_if_then, else_alone, end_of_if, do_loop, private, end, statement_form_text, statement_item}
+use Rattle.ped_grammar.specs.ExpressionForms.{ExprForm, expr_form_tree, ReferenceForm, reference_form_tree}
+use Rattle.ped_grammar.specs.ConditionForms.{CondForm, cond_form_text, cond_form_tree}
+use Rattle.ped_grammar.specs.Items.{Item, does, logical_if, block_if, else_if, begins_do}
+use Rattle.ped_grammar.specs.StatementForms.{ItemForm, a_value, a_text, item_form_text, item_form_tree, SimpleForm, assignment, print, read, stop, continue, simple_form_text, simple_item, behind_if, ControlForm, control, control_form_head, step_form_tree, StatementForm, program, implicit, integer, dimension, parameter, save, save_all, simple, if_simple, if_then, else_if_then, else_alone, end_of_if, do_loop, private, end, statement_form_text, statement_item}
 use Rattle.ped_recut.specs.Fitting.{TextFits}
 use Rattle.ped_reprint.specs.Printed.{SaysFirstLine, itself, of_block_if, of_else_if, of_logical_if, behind_logical_if, of_do}
 use Rattle.ped_round_trip.proofs.Fits.{IsSaid}

@@ -4,9 +4,9 @@ use Rattle.std.specs.Prelude.{codes}
 use Rattle.ped_tree.specs.Tree.{Head, StmtTree, StmtTrees, Assign, If, Do, Print, Read, Stop, Comment, no_stmts, more_stmts, DeclTree, Program, Implicit, Integer, Dimension, Parameter, Save, Remark, ProgramTree}
 use Rattle.ped_tree.specs.Numbering.{loop_count, loops_count}
 use Rattle.ped_tree.specs.Printing.{own_text, decl_text, private_text}
-use Rattle.ped_tree.specs.Statement.{Statement}
-use Rattle.ped_tree.specs.Items.{Item, declares, does, continues, block_if, else_line, end_if, begins_do, keeps_private, ends_program, Entry}
-use Rattle.ped_tree.specs.BlockForms.{entry, whole_head}
+use Rattle.ped_grammar.specs.Statement.{Statement}
+use Rattle.ped_grammar.specs.Items.{Item, declares, does, continues, block_if, else_line, end_if, begins_do, keeps_private, ends_program, Entry}
+use Rattle.ped_grammar.specs.BlockForms.{entry, whole_head}
 use Rattle.ped_recut.specs.Printed.{PrintedNote, a_comment, a_rejection, PrintedStatement, printed_lines}
 use Rattle.ped_recut.specs.Parts.{Part, a_note, a_statement, private_parts, statement_parts, statements_parts, else_parts, decl_part, program_parts, with_notes}
 use Rattle.ped_recut.specs.Cut.{cut_at, cut_from}

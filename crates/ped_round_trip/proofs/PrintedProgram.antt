@@ -2,7 +2,7 @@
 use Rattle.std.proofs.Common.{ℕ, List, sym, subst}
 use Rattle.ped_tree.specs.Tree.{ProgramTree}
 use Rattle.ped_tree.specs.Printing.{program_text}
-use Rattle.ped_tree.specs.Reading.{Reads}
+use Rattle.ped_grammar.specs.Reading.{Reads}
 use Rattle.ped_statements.proofs.OneStatement.{one_item}
 use Rattle.ped_blocks.proofs.BlocksOneTree.{read_once}
 use Rattle.ped_round_trip.specs.PrintedPrograms.{PrintsItself}

@@ -3,12 +3,12 @@ use Rattle.std.proofs.Common.{◌≡◌, List, [], ◌∷◌, map, None, refl, s
 use Rattle.std.specs.List.{AllByRecursion}
 use Rattle.ped_tree.specs.Tree.{StmtTree, StmtTrees, Assign, If, Do, Print, Read, Stop, Comment, no_stmts, more_stmts, ProgramTree}
 use Rattle.ped_tree.specs.Printing.{program_text}
-use Rattle.ped_tree.specs.Statement.{Statement, Statements}
-use Rattle.ped_tree.specs.Grouping.{statements_of}
-use Rattle.ped_tree.specs.LineRefusals.{first_line_refusal}
-use Rattle.ped_tree.specs.Items.{Entry}
-use Rattle.ped_tree.specs.Occurrences.{saved_names}
-use Rattle.ped_tree.specs.Reading.{AreEntries, Reads}
+use Rattle.ped_grammar.specs.Statement.{Statement, Statements}
+use Rattle.ped_grammar.specs.Grouping.{statements_of}
+use Rattle.ped_grammar.specs.LineRefusals.{first_line_refusal}
+use Rattle.ped_grammar.specs.Items.{Entry}
+use Rattle.ped_grammar.specs.Occurrences.{saved_names}
+use Rattle.ped_grammar.specs.Reading.{AreEntries, Reads}
 use Rattle.ped_recut.specs.Parts.{Part, program_parts, with_notes, printed_statements}
 use Rattle.ped_recut.specs.Fitting.{StatementsFit}
 use Rattle.ped_recut.specs.Cut.{cut, cut_from}

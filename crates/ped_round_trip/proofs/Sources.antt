@@ -4,11 +4,11 @@ use Rattle.std.specs.Prelude.{◌||◌, None}
 use Rattle.std.specs.List.{AllByRecursion, list_any, slice_split, onto_first}
 use Rattle.std.specs.Str.Lines.{lines, lines_of_parts, strip_carriage_return}
 use Rattle.std.proofs.lemmas.Bool.{or_from}
-use Rattle.ped_tree.specs.Columns.{is_comment, is_directive, continues, statement_columns}
-use Rattle.ped_tree.specs.Statement.{Note, Statement}
-use Rattle.ped_tree.specs.Grouping.{further_lines, comment_text, comment_at, directive_at, notes_within, statement_at, statements_from, statements_of}
-use Rattle.ped_tree.specs.Refusal.{Finding}
-use Rattle.ped_tree.specs.LineRefusals.{Initial, at_line, in_rest, in_statements, at_orphans, first_line_refusal}
+use Rattle.ped_grammar.specs.Columns.{is_comment, is_directive, continues, statement_columns}
+use Rattle.ped_grammar.specs.Statement.{Note, Statement}
+use Rattle.ped_grammar.specs.Grouping.{further_lines, comment_text, comment_at, directive_at, notes_within, statement_at, statements_from, statements_of}
+use Rattle.ped_grammar.specs.Refusal.{Finding}
+use Rattle.ped_grammar.specs.LineRefusals.{Initial, at_line, in_rest, in_statements, at_orphans, first_line_refusal}
 use Rattle.ped_blocks.proofs.BlocksFound.{first_none, left_empty, right_empty}
 use Rattle.ped_recut.proofs.Grouped.{all_joined}
 use Rattle.ped_recut.specs.Fitting.{IsCommentText}

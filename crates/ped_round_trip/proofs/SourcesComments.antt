@@ -4,8 +4,8 @@ use Rattle.std.specs.Prelude.{◌&&◌, ◌||◌}
 use Rattle.std.specs.List.{list_any}
 use Rattle.std.proofs.lemmas.Bool.{eqb-true, and_from, or_from, cases_Bool}
 use Rattle.std.proofs.lemmas.List.{get_or-take, length-take}
-use Rattle.ped_tree.specs.Columns.{folded, is_directive}
-use Rattle.ped_tree.specs.Grouping.{with_rest, trimmed, comment_text}
+use Rattle.ped_grammar.specs.Columns.{folded, is_directive}
+use Rattle.ped_grammar.specs.Grouping.{with_rest, trimmed, comment_text}
 use Rattle.ped_recut.specs.Fitting.{IsCommentText}
 use Rattle.ped_recut.proofs.Bytes.{neither, both}
 

@@ -3,11 +3,11 @@ use Rattle.std.proofs.Common.{◌≡◌, ℕ, ◌-◌, Bool, true, false, if◌t
 use Rattle.std.specs.List.{list_all}
 use Rattle.std.proofs.lemmas.Bool.{and_from}
 use Rattle.std.proofs.lemmas.List.Folds.{list_all-append}
-use Rattle.ped_tree.specs.Columns.{is_blank, folded, statement_columns}
-use Rattle.ped_tree.specs.Characters.{is_printable, is_quoted, has_bad, kept, text_behind, text_of}
-use Rattle.ped_tree.specs.Grouping.{NumberedLine, joined_columns}
-use Rattle.ped_tree.specs.Refusal.{BadCharacter}
-use Rattle.ped_tree.specs.LineRefusals.{Role, Initial, Continuation, at_line, at_further, in_rest}
+use Rattle.ped_grammar.specs.Columns.{is_blank, folded, statement_columns}
+use Rattle.ped_grammar.specs.Characters.{is_printable, is_quoted, has_bad, kept, text_behind, text_of}
+use Rattle.ped_grammar.specs.Grouping.{NumberedLine, joined_columns}
+use Rattle.ped_grammar.specs.Refusal.{BadCharacter}
+use Rattle.ped_grammar.specs.LineRefusals.{Role, Initial, Continuation, at_line, at_further, in_rest}
 use Rattle.ped_blocks.proofs.BlocksFound.{none_stands, left_empty, right_empty}
 use Rattle.ped_recut.proofs.Bytes.{both, allowed_printable}
 

@@ -2,13 +2,13 @@
 use Rattle.std.proofs.Common.{◌≡◌, ℕ, suc, ◌+◌, ◌*◌, ◌<◌, ◌≤◌, List, [], ◌∷◌, ◌++◌, map, max, length, Bool, true, false, cond, refl, sym, ap, ◌∙◌, append_assoc, subst, arith}
 use Rattle.std.specs.Prelude.{codes, not, ◌&&◌, ◌||◌, ◌==◌, nat_lt, nat_le}
 use Rattle.std.specs.List.{list_any, list_all, flat_map}
-use Rattle.ped_tree.specs.Words.{is_name}
-use Rattle.ped_tree.specs.Refusal.{Refusal, Finding, Syntax, NotInProfile, OpenBlock, BadTerminal, IndexAssigned, StopPlace, Limit, stands}
-use Rattle.ped_tree.specs.Statement.{Note}
-use Rattle.ped_tree.specs.Items.{Entry}
-use Rattle.ped_tree.specs.Occurrences.{of_reading, do_variables}
-use Rattle.ped_tree.specs.Contexts.{Block, in_then, in_else, in_do, Context, is_do, closed, behind}
-use Rattle.ped_tree.specs.ProgramRefusals.{where_it_says, is_outside, breaks_syntax, is_behind_end, leaves_open, has_do, ends_badly, open_variables, inner_variables, assigns_index, stops, loop_depth, block_depth, passes_limit, is_bad_directive, at_directives, at_statement, at_statements}
+use Rattle.ped_grammar.specs.Words.{is_name}
+use Rattle.ped_grammar.specs.Refusal.{Refusal, Finding, Syntax, NotInProfile, OpenBlock, BadTerminal, IndexAssigned, StopPlace, Limit, stands}
+use Rattle.ped_grammar.specs.Statement.{Note}
+use Rattle.ped_grammar.specs.Items.{Entry}
+use Rattle.ped_grammar.specs.Occurrences.{of_reading, do_variables}
+use Rattle.ped_grammar.specs.Contexts.{Block, in_then, in_else, in_do, Context, is_do, closed, behind}
+use Rattle.ped_grammar.specs.ProgramRefusals.{where_it_says, is_outside, breaks_syntax, is_behind_end, leaves_open, has_do, ends_badly, open_variables, inner_variables, assigns_index, stops, loop_depth, block_depth, passes_limit, is_bad_directive, at_directives, at_statement, at_statements}
 use Rattle.ped_recut.specs.Printed.{PrintedNote, a_comment, a_rejection}
 use Rattle.ped_recut.specs.Cut.{comments_at, directives_at}
 use Rattle.ped_round_trip.proofs.Trees.{rejections}

@@ -4,14 +4,14 @@ use Rattle.std.specs.Prelude.{codes, ◌&&◌, filter}
 use Rattle.std.specs.List.{list_all}
 use Rattle.ped_tree.specs.Tree.{StmtTree, StmtTrees, Assign, If, Do, Print, Read, Stop, Comment, no_stmts, more_stmts}
 use Rattle.ped_tree.specs.Views.{pack_stmts}
-use Rattle.ped_tree.specs.Words.{is_name}
+use Rattle.ped_grammar.specs.Words.{is_name}
 use Rattle.ped_tree.specs.Numbering.{loop_count, loops_count}
 use Rattle.ped_tree.specs.Printing.{own_text, private_text}
-use Rattle.ped_tree.specs.Statement.{Note}
-use Rattle.ped_tree.specs.Items.{Item, continues, end_if}
-use Rattle.ped_tree.specs.Occurrences.{is_rejection, rejected_name, rejected_names}
-use Rattle.ped_tree.specs.ProgramRefusals.{listed_stmts}
-use Rattle.ped_tree.specs.BlockForms.{BodyForm, nothing, comments_of, whole_head, names_of_private, comments_of_private, first_of_rest, body_trees, rest_trees}
+use Rattle.ped_grammar.specs.Statement.{Note}
+use Rattle.ped_grammar.specs.Items.{Item, continues, end_if}
+use Rattle.ped_grammar.specs.Occurrences.{is_rejection, rejected_name, rejected_names}
+use Rattle.ped_grammar.specs.ProgramRefusals.{listed_stmts}
+use Rattle.ped_grammar.specs.BlockForms.{BodyForm, nothing, comments_of, whole_head, names_of_private, comments_of_private, first_of_rest, body_trees, rest_trees}
 use Rattle.ped_recut.specs.Printed.{PrintedNote, a_comment, a_rejection}
 use Rattle.ped_recut.specs.Cut.{comments_at, directives_at}
 use Rattle.ped_round_trip.proofs.Pieces.{Piece, said, bare, label_number, do_piece, continue_piece, private_pieces, rejection_pieces, statement_pieces, statements_pieces, else_pieces, Spot, spot, statement_here, behind_pieces, behind_both}

@@ -5,11 +5,11 @@ use Rattle.std.specs.List.{flat_map}
 use Rattle.ped_tree.specs.Tree.{StmtTree, StmtTrees, Assign, If, Do, Print, Read, Stop, Comment, no_stmts, more_stmts, DeclTree, Program, Implicit, Integer, Dimension, Parameter, Save, Remark, ProgramTree}
 use Rattle.ped_tree.specs.Views.{pack_stmts}
 use Rattle.ped_tree.specs.Printing.{decl_text}
-use Rattle.ped_tree.specs.Statement.{Note}
-use Rattle.ped_tree.specs.Items.{ends_program, Entry}
-use Rattle.ped_tree.specs.ProgramRefusals.{listed_stmts}
-use Rattle.ped_tree.specs.BlockForms.{nothing, entry, body_trees, body_fits}
-use Rattle.ped_tree.specs.ProgramForms.{DeclForm, a_declaration, ProgramForm, decl_entry, program_entries, decl_trees, front_remarks, behind_front, all_trees, program_form_tree}
+use Rattle.ped_grammar.specs.Statement.{Note}
+use Rattle.ped_grammar.specs.Items.{ends_program, Entry}
+use Rattle.ped_grammar.specs.ProgramRefusals.{listed_stmts}
+use Rattle.ped_grammar.specs.BlockForms.{nothing, entry, body_trees, body_fits}
+use Rattle.ped_grammar.specs.ProgramForms.{DeclForm, a_declaration, ProgramForm, decl_entry, program_entries, decl_trees, front_remarks, behind_front, all_trees, program_form_tree}
 use Rattle.ped_recut.specs.Printed.{PrintedNote, a_comment, a_rejection}
 use Rattle.ped_recut.specs.Cut.{comments_at}
 use Rattle.ped_round_trip.proofs.Pieces.{decl_piece, end_piece, statements_pieces, program_pieces, Spot, spot, statement_here, behind_piece, behind_pieces, entry_here, entries_here, behind_both, entries_both}

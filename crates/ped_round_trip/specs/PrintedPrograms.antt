@@ -2,7 +2,7 @@
 use Rattle.std.specs.Prelude.{◌≡◌, ◌↔◌}
 use Rattle.ped_tree.specs.Tree.{ProgramTree}
 use Rattle.ped_tree.specs.Printing.{program_text}
-use Rattle.ped_tree.specs.Reading.{Reads}
+use Rattle.ped_grammar.specs.Reading.{Reads}
 
 -- the printed text of the program reads as it and as no other program
 abbrev pub PrintsItself : ProgramTree → Type 0

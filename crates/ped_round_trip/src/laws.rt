@@ -3,7 +3,7 @@
 
 ghost use Rattle.std.specs.Prelude.{ℕ, List};
 ghost use Rattle.ped_tree.specs.Tree.{ProgramTree};
-ghost use Rattle.ped_tree.specs.Reading.{Reads};
+ghost use Rattle.ped_grammar.specs.Reading.{Reads};
 ghost use Rattle.ped_round_trip.specs.PrintedPrograms.{PrintsItself};
 
 /// The printed text of each program that some text reads as reads as that program, and as no other.

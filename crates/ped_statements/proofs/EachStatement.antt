@@ -7,10 +7,11 @@ use Rattle.std.proofs.lemmas.List.{append-nil, map-id}
 use Rattle.ped_base.specs.Letters.{is_alphanumeric}
 use Rattle.ped_tree.specs.Tree as plain
 use Rattle.ped_tree.specs.Tree.{ExprTree, CondTree, StmtTree, StmtTrees, DeclaratorTree}
-use Rattle.ped_tree.specs.Words.{is_name, same_word}
-use Rattle.ped_tree.specs.ConditionForms.{CondForm, cond_form_text, cond_form_tree}
-use Rattle.ped_tree.specs.Items.{Item, declares, saves_all, logical_if, block_if, else_if, keeps_private}
-use Rattle.ped_tree.specs.StatementForms.{are_names, is_label, DeclaratorForm, of_array, ArrayForm, SimpleForm, ControlForm, StatementForm, program, implicit, integer, dimension, parameter, save, save_all, simple, if_simple, if_then, else_if_then, else_alone, end_of_if, do_loop, private, end, declarator_form_text, constant_form_text, simple_form_text, control_form_text, statement_form_text, behind_if, declarator_form_tree, array_form_tree, constant_form_tree, statement_item}
+use Rattle.ped_grammar.specs.Words.{is_name}
+use Rattle.ped_base.specs.Lists.{is_same_text}
+use Rattle.ped_grammar.specs.ConditionForms.{CondForm, cond_form_text, cond_form_tree}
+use Rattle.ped_grammar.specs.Items.{Item, declares, saves_all, logical_if, block_if, else_if, keeps_private}
+use Rattle.ped_grammar.specs.StatementForms.{are_names, is_label, DeclaratorForm, of_array, ArrayForm, SimpleForm, ControlForm, StatementForm, program, implicit, integer, dimension, parameter, save, save_all, simple, if_simple, if_then, else_if_then, else_alone, end_of_if, do_loop, private, end, declarator_form_text, constant_form_text, simple_form_text, control_form_text, statement_form_text, behind_if, declarator_form_tree, array_form_tree, constant_form_tree, statement_item}
 use Rattle.ped_statements.specs.declared.keywords.Keyword.{Keyword}
 use Rattle.ped_statements.specs.declared.keywords.Keyword.TheVariants as keyword
 use Rattle.ped_expressions.specs.Scanning.{◌>>=◌, after}
@@ -34,7 +35,7 @@ use Rattle.ped_statements.proofs.Control.{do_found, do_again, do_assigns_nothing
 abbrev pub FoundStatement : (ℕ → ℕ) → List ℕ → Item → Type 0
 FoundStatement v ts i = (f : StatementForm) × (statement_form_text f ≡ ts) × (says_with_literals v (statement_item f) ≡ i)
 
-same_words : (x w : List ℕ) → same_word x w ≡ true → w ≡ x
+same_words : (x w : List ℕ) → is_same_text x w ≡ true → w ≡ x
 same_words x w h = sym (same_text x w (sym h))
 
 ends_nothing : (ts : List ℕ) → is_end ts ≡ true → [] ≡ ts
@@ -73,11 +74,11 @@ if_text c rest ts q p r = sym (read_on (codes "IF(") c ts q p ∙ read_on (codes
 if_found : (v : ℕ → ℕ) (ts : List ℕ) (i : Item) → if_of v ts ≡ Some i → FoundStatement v (codes "IF(" ++ ts) i
 unfolding if_of
 if_found v ts i h =
-    let a = bind_some (cond_of v ts) (λ c. after (codes ")") c.1 >>= λ r. cond (same_word r (codes "THEN")) (Some (block_if c.0)) (simple_of v r >>= λ s. Some (logical_if c.0 (behind_logical s)))) i h in
-    let b = bind_some (after (codes ")") a.0.1) (λ r. cond (same_word r (codes "THEN")) (Some (block_if a.0.0)) (simple_of v r >>= λ s. Some (logical_if a.0.0 (behind_logical s)))) i a.2 in
+    let a = bind_some (cond_of v ts) (λ c. after (codes ")") c.1 >>= λ r. cond (is_same_text r (codes "THEN")) (Some (block_if c.0)) (simple_of v r >>= λ s. Some (logical_if c.0 (behind_logical s)))) i h in
+    let b = bind_some (after (codes ")") a.0.1) (λ r. cond (is_same_text r (codes "THEN")) (Some (block_if a.0.0)) (simple_of v r >>= λ s. Some (logical_if a.0.0 (behind_logical s)))) i a.2 in
     let c = cond_finds v ts a.0 a.1 in
     let text = if_text (cond_form_text c.0) b.0 ts a.0.1 c.2 (after_is (codes ")") a.0.1 b.0 b.1) in
-    elim (chosen (same_word b.0 (codes "THEN")) (Some (block_if a.0.0)) (simple_of v b.0 >>= λ s. Some (logical_if a.0.0 (behind_logical s))) (Some i) b.2) [
+    elim (chosen (is_same_text b.0 (codes "THEN")) (Some (block_if a.0.0)) (simple_of v b.0 >>= λ s. Some (logical_if a.0.0 (behind_logical s))) (Some i) b.2) [
       | inl g ↦ (if_then c.0, sym (append_assoc (codes "IF(" ++ cond_form_text c.0) (codes ")") (codes "THEN")) ∙ ap (λ (w : List ℕ). codes "IF(" ++ cond_form_text c.0 ++ codes ")" ++ w) (same_words b.0 (codes "THEN") g.0) ∙ text, ap block_if c.1 ∙ some_is (block_if a.0.0) i g.1)
       | inr g ↦
           let s = bind_some (simple_of v b.0) (λ s. Some (logical_if a.0.0 (behind_logical s))) i g.1 in
@@ -91,8 +92,8 @@ if_found v ts i h =
 else_if_found : (v : ℕ → ℕ) (ts : List ℕ) (i : Item) → else_if_of v ts ≡ Some i → FoundStatement v (codes "ELSEIF(" ++ ts) i
 unfolding else_if_of
 else_if_found v ts i h =
-    let a = bind_some (cond_of v ts) (λ c. cond (same_word c.1 (codes ")THEN")) (Some (else_if c.0)) None) i h in
-    let g = guarded (same_word a.0.1 (codes ")THEN")) (Some (else_if a.0.0)) i a.2 in
+    let a = bind_some (cond_of v ts) (λ c. cond (is_same_text c.1 (codes ")THEN")) (Some (else_if c.0)) None) i h in
+    let g = guarded (is_same_text a.0.1 (codes ")THEN")) (Some (else_if a.0.0)) i a.2 in
     let c = cond_finds v ts a.0 a.1 in
     (else_if_then c.0, sym (read_on (codes "ELSEIF(") (cond_form_text c.0) ts a.0.1 c.2 ∙ ap (λ (w : List ℕ). codes "ELSEIF(" ++ cond_form_text c.0 ++ w) (sym (same_words a.0.1 (codes ")THEN") g.0))), ap else_if c.1 ∙ some_is (else_if a.0.0) i g.1)
 
@@ -148,10 +149,10 @@ dimensions_found v ts i h =
     let arrays = arrays_found v (f.0 ∷ f.1) (ap (list_all is_array) f.3 ∙ g.0) in
     dimension_of v arrays.0 f.0 f.1 ts i arrays.1 f.4 (ap (λ (ds : List DeclaratorTree). declares (plain.Dimension ds)) (map_map (declarator_with_literals v) declarator_form_tree (f.0 ∷ f.1) ∙ f.3) ∙ some_is (declares (plain.Dimension a.0)) i g.1)
 
-parameters_found : (v : ℕ → ℕ) (ts : List ℕ) (i : Item) → (several (value_of v) ts >>= λ y. cond (same_word y.1 (codes ")")) (Some (declares (plain.Parameter y.0))) None) ≡ Some i → FoundStatement v (codes "PARAMETER(" ++ ts) i
+parameters_found : (v : ℕ → ℕ) (ts : List ℕ) (i : Item) → (several (value_of v) ts >>= λ y. cond (is_same_text y.1 (codes ")")) (Some (declares (plain.Parameter y.0))) None) ≡ Some i → FoundStatement v (codes "PARAMETER(" ++ ts) i
 parameters_found v ts i h =
-    let a = bind_some (several (value_of v) ts) (λ y. cond (same_word y.1 (codes ")")) (Some (declares (plain.Parameter y.0))) None) i h in
-    let g = guarded (same_word a.0.1 (codes ")")) (Some (declares (plain.Parameter a.0.0))) i a.2 in
+    let a = bind_some (several (value_of v) ts) (λ y. cond (is_same_text y.1 (codes ")")) (Some (declares (plain.Parameter y.0))) None) i h in
+    let g = guarded (is_same_text a.0.1 (codes ")")) (Some (declares (plain.Parameter a.0.0))) i a.2 in
     let f = several_found constant_form_text (λ c. value_with_literals v (constant_form_tree c)) (λ c. true) (value_of v) (value_found v) ts a.0 a.1 in
     let t = join_by constant_form_text (codes ",") (f.0 ∷ f.1) in (
       parameter f.0 f.1,
@@ -250,15 +251,15 @@ save_assigns_nothing v (x ∷ xs) are =
 if_closed : (c s : List ℕ) → codes "IF(" ++ c ++ codes ")" ++ s ≡ codes "IF" ++ (codes "(" ++ (c ++ (codes ")" ++ s)))
 if_closed c s = simp append_assoc
 
-no_then : (v : ℕ → ℕ) (s : SimpleForm) → same_word (simple_form_text s) (codes "THEN") ≡ false
+no_then : (v : ℕ → ℕ) (s : SimpleForm) → is_same_text (simple_form_text s) (codes "THEN") ≡ false
 unfolding simple_of worded_of
 no_then v s =
     let none : simple_of v (codes "THEN") ≡ None = not_simple v (codes "THEN") (word_alone v (codes "THEN") [] refl refl refl refl (λ q h. absurd cc)) refl in
-    let go : (b : Bool) → same_word (simple_form_text s) (codes "THEN") ≡ b → b ≡ false = λ b. elim b as (λ b. same_word (simple_form_text s) (codes "THEN") ≡ b → b ≡ false) [
+    let go : (b : Bool) → is_same_text (simple_form_text s) (codes "THEN") ≡ b → b ≡ false = λ b. elim b as (λ b. is_same_text (simple_form_text s) (codes "THEN") ≡ b → b ≡ false) [
       | true ↦ λ h. absurd (no_some (simple_does v s) (sym none ∙ ap (simple_of v) (same_words (simple_form_text s) (codes "THEN") h) ∙ simple_again v s))
       | false ↦ λ h. refl
     ] in
-    go (same_word (simple_form_text s) (codes "THEN")) refl
+    go (is_same_text (simple_form_text s) (codes "THEN")) refl
 
 if_read : (v : ℕ → ℕ) (c : CondForm) (s : SimpleForm) → statement_of v (statement_form_text (if_simple c s)) ≡ Some (says_with_literals v (statement_item (if_simple c s)))
 unfolding statement_behind if_of worded_of
@@ -267,7 +268,7 @@ if_read v c s =
     let rest = cond_form_text c ++ (codes ")" ++ t) in
     let p = cond_closed v c t in
     let q = simple_again v s in
-    let n : same_word t (codes "THEN") ≡ false = no_then v s in
+    let n : is_same_text t (codes "THEN") ≡ false = no_then v s in
     let b : statement_behind v keyword.If rest ≡ Some (logical_if (cond_with_literals v (cond_form_tree c)) (stmts_with_literals v (behind_if s))) =
     rw (p, n, q) (ap (λ (u : StmtTrees). Some (logical_if (cond_with_literals v (cond_form_tree c)) u)) (simple_behind v s)) in
     ap (statement_of v) (if_closed (cond_form_text c) t)

@@ -4,9 +4,9 @@ use Rattle.std.specs.Prelude.{codes}
 use Rattle.std.specs.Cmp.Lexicographic.{same_text}
 use Rattle.std.proofs.lemmas.List.{append-nil}
 use Rattle.ped_tree.specs.Tree.{ExprTree, ItemTree, StmtTree, Assign, Print, Read, Stop}
-use Rattle.ped_tree.specs.Words.{same_word}
-use Rattle.ped_tree.specs.ExpressionForms.{ExprForm, ReferenceForm, expr_form_text, expr_form_tree, reference_form_text, reference_form_tree}
-use Rattle.ped_tree.specs.StatementForms.{ItemForm, item_form_text, item_form_tree, SimpleForm, assignment, print, read, stop, continue, simple_form_text, simple_item, behind_if}
+use Rattle.ped_base.specs.Lists.{is_same_text}
+use Rattle.ped_grammar.specs.ExpressionForms.{ExprForm, ReferenceForm, expr_form_text, expr_form_tree, reference_form_text, reference_form_tree}
+use Rattle.ped_grammar.specs.StatementForms.{ItemForm, item_form_text, item_form_tree, SimpleForm, assignment, print, read, stop, continue, simple_form_text, simple_item, behind_if}
 use Rattle.ped_expressions.specs.Scanning.{◌>>=◌, go_on, after}
 use Rattle.ped_expressions.specs.ExpressionReading.{with_literals, expr_of}
 use Rattle.ped_statements.specs.Saturated.{item_with_literals, stmts_with_literals, says_with_literals}
@@ -68,7 +68,7 @@ assignment_again v r e =
 
 -- PRINT, READ, STOP and CONTINUE
 
-same_words : (x w : List ℕ) → same_word x w ≡ true → w ≡ x
+same_words : (x w : List ℕ) → is_same_text x w ≡ true → w ≡ x
 same_words x w h = sym (same_text x w (sym h))
 
 print_found : (v : ℕ → ℕ) (ts q : List ℕ) (o : Option StmtTree) → ts ≡ codes "PRINT*" ++ q → (each_behind_comma (item_of v) q >>= λ items. Some (Some (Print items))) ≡ Some o → FoundSimple v ts o
@@ -102,9 +102,9 @@ reading_words_found v ts o h =
 worded_found : (v : ℕ → ℕ) (ts : List ℕ) (o : Option StmtTree) → worded_of v ts ≡ Some o → FoundSimple v ts o
 unfolding worded_of reading_words
 worded_found v ts o h =
-    elim (chosen (same_word ts (codes "STOP")) (Some (Some Stop)) (cond (same_word ts (codes "CONTINUE")) (Some None) (reading_words v ts)) (Some o) h) [
+    elim (chosen (is_same_text ts (codes "STOP")) (Some (Some Stop)) (cond (is_same_text ts (codes "CONTINUE")) (Some None) (reading_words v ts)) (Some o) h) [
       | inl a ↦ (stop, same_words ts (codes "STOP") a.0, some_is (Some Stop) o a.1)
-      | inr a ↦ elim (chosen (same_word ts (codes "CONTINUE")) (Some None) (reading_words v ts) (Some o) a.1) [
+      | inr a ↦ elim (chosen (is_same_text ts (codes "CONTINUE")) (Some None) (reading_words v ts) (Some o) a.1) [
         | inl b ↦ (continue, same_words ts (codes "CONTINUE") b.0, some_is None o b.1)
         | inr b ↦ reading_words_found v ts o b.1
       ]

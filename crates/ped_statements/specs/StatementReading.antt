@@ -4,10 +4,10 @@ use Rattle.std.specs.List.{list_all}
 use Rattle.ped_base.specs.Letters.{is_letter, is_digit, is_alphanumeric}
 use Rattle.ped_tree.specs.Tree as plain
 use Rattle.ped_tree.specs.Tree.{ExprTree, Int, Var, Element, Neg, Add, Sub, Mul, Div, Pow, Call, ItemTree, Value, Text, Head, StmtTree, StmtTrees, Assign, Print, Read, Stop, no_stmts, more_stmts, BoundTree, DeclaratorTree}
-use Rattle.ped_tree.specs.References.{has_some}
-use Rattle.ped_tree.specs.Words.{is_name, numeral_value, same_word}
-use Rattle.ped_tree.specs.Items.{Item, declares, saves_all, does, continues, logical_if, block_if, else_if, else_line, end_if, begins_do, keeps_private, ends_program}
-use Rattle.ped_tree.specs.StatementForms.{is_label}
+use Rattle.ped_base.specs.Lists.{has_some, is_same_text}
+use Rattle.ped_grammar.specs.Words.{is_name, numeral_value}
+use Rattle.ped_grammar.specs.Items.{Item, declares, saves_all, does, continues, logical_if, block_if, else_if, else_line, end_if, begins_do, keeps_private, ends_program}
+use Rattle.ped_grammar.specs.StatementForms.{is_label}
 use Rattle.ped_statements.specs.declared.keywords.Keyword.{Keyword}
 use Rattle.ped_statements.specs.declared.keywords.Keyword.TheVariants as keyword
 use Rattle.ped_expressions.specs.Scanning.{Answer, ◌>>=◌, go_on, front, behind, first_is, after}
@@ -82,8 +82,8 @@ assignment_of v text = reference_of v text >>= λ l. after (codes "=") l.1 >>= �
 -- PRINT, READ, STOP or CONTINUE, of which the last does nothing
 unfoldable pub worded_of : (ℕ → ℕ) → List ℕ → Option (Option StmtTree)
 worded_of v text =
-    if same_word text (codes "STOP") then Some (Some Stop)
-    else if same_word text (codes "CONTINUE") then Some None
+    if is_same_text text (codes "STOP") then Some (Some Stop)
+    else if is_same_text text (codes "CONTINUE") then Some None
     else go_on (after (codes "PRINT*") text)
     (after (codes "READ*") text >>= λ q. each_behind_comma (reference_of v) q >>= λ items. Some (Some (Read items)))
     (λ q. each_behind_comma (item_of v) q >>= λ items. Some (Some (Print items)))
@@ -105,11 +105,11 @@ simply (Some s) = does s
 -- what follows the opening parenthesis of an IF
 unfoldable pub if_of : (ℕ → ℕ) → List ℕ → Option Item
 if_of v text = cond_of v text >>= λ c. after (codes ")") c.1 >>= λ r.
-    if same_word r (codes "THEN") then Some (block_if c.0) else simple_of v r >>= λ s. Some (logical_if c.0 (behind_logical s))
+    if is_same_text r (codes "THEN") then Some (block_if c.0) else simple_of v r >>= λ s. Some (logical_if c.0 (behind_logical s))
 
 -- what follows the opening parenthesis of an ELSE IF
 unfoldable pub else_if_of : (ℕ → ℕ) → List ℕ → Option Item
-else_if_of v text = cond_of v text >>= λ c. if same_word c.1 (codes ")THEN") then Some (else_if c.0) else None
+else_if_of v text = cond_of v text >>= λ c. if is_same_text c.1 (codes ")THEN") then Some (else_if c.0) else None
 
 -- the text without a comma at its front
 abbrev pub without_comma : List ℕ → List ℕ
@@ -177,7 +177,7 @@ statement_behind v keyword.Program text = if is_name text then Some (declares (p
 statement_behind v keyword.Implicit text = alone (declares plain.Implicit) text
 statement_behind v keyword.Integer text = whole (several (declarator_of v) text) >>= λ ds. Some (declares (plain.Integer ds))
 statement_behind v keyword.Dimension text = whole (several (declarator_of v) text) >>= λ ds. if list_all is_array ds then Some (declares (plain.Dimension ds)) else None
-statement_behind v keyword.Parameter text = several (value_of v) text >>= λ y. if same_word y.1 (codes ")") then Some (declares (plain.Parameter y.0)) else None
+statement_behind v keyword.Parameter text = several (value_of v) text >>= λ y. if is_same_text y.1 (codes ")") then Some (declares (plain.Parameter y.0)) else None
 statement_behind v keyword.Save text = if is_end text then Some saves_all else whole (several name_at text) >>= λ names. Some (declares (plain.Save names))
 statement_behind v keyword.If text = if_of v text
 statement_behind v keyword.ElseIf text = else_if_of v text

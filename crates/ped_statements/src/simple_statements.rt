@@ -4,7 +4,7 @@
 ghost use Rattle.std.specs.Prelude.{◌≡◌, ◌<◌, false, IfOk, length};
 ghost use Rattle.ped_tree.specs.Tree as Tree;
 ghost use Rattle.ped_tree.specs.Views.{expr_tree, stmt_tree};
-ghost use Rattle.ped_tree.specs.Words as Words;
+ghost use Rattle.ped_grammar.specs.Words as Words;
 ghost use Rattle.ped_expressions.specs.ExpressionReading.{saturated};
 ghost use Rattle.ped_expressions.specs.Views.{Gives, expr_and_rest};
 ghost use Rattle.ped_statements.specs.Listing.{each_behind_comma};
@@ -97,7 +97,7 @@ fn worded(alloc: Global, text: &[u8]) -> Result<Option<Stmt>, Failure>
 
 /// Whether the text is the word.
 pub fn is_word(text: &[u8], word: &[u8]) -> bool
-    ensures { result ≡ Words.same_word text.now word.now }
+    ensures { result ≡ is_same_text text.now word.now }
 {
     text == word
 }

@@ -1,6 +1,6 @@
 //! Trees of programs. Contracts see each tree as a plain tree of `specs/Tree.antt`, whatever room its
-//! lists keep. The definitions there say what each text reads as or why it is refused, how a tree is printed,
-//! and what its references, dependences and panes are.
+//! lists keep. The definitions there say how statements are numbered, what each reads and writes, and how a
+//! tree is printed.
 #![tactic(auto)]
 
 mod conditions;
@@ -14,9 +14,7 @@ mod statements;
 pub use conditions::{Cond, Relation};
 pub use declarations::{Bound, Consts, Decl, Declarator, Program};
 pub use expressions::{Expr, Intrinsic};
-pub use laws::{
-    first_finding_is_least, numbers_end_at_count, one_dependence_pane, one_refusal, tree_or_refusal,
-};
+pub use laws::numbers_end_at_count;
 pub use statements::{Do, PrintItem, Stmt};
 
 #[cfg(test)]

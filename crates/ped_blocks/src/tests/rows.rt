@@ -2,8 +2,7 @@
 //! between two. Every DO goes from 1 to 3, and a condition compares a variable with a number.
 
 use ped_base::{Bytes, Listed, Name, Names, NoMemory};
-use ped_items::{DoStatement, Entry, Item, StatementReading};
-use ped_lines::{NoteLine, Statement};
+use ped_grammar::{DoStatement, Entry, Item, NoteLine, Statement, StatementReading};
 use ped_tree::{Cond, Decl, Declarator, Expr, Relation, Stmt};
 use std::alloc::Global;
 use std::test::Fail;

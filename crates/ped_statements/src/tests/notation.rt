@@ -2,7 +2,7 @@
 //! a tree, `[` round subscripts and relations, `{` round arguments, and `^` for `**`.
 
 use ped_base::{Bytes, Name, NoMemory};
-use ped_items::{DoStatement, Item, StatementReading};
+use ped_grammar::{DoStatement, Item, StatementReading};
 use ped_tree::{Bound, Cond, Decl, Declarator, Expr, Intrinsic, PrintItem, Relation, Stmt};
 use std::alloc::Global;
 

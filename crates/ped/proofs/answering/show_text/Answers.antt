@@ -1,6 +1,7 @@
 use Rattle.std.proofs.Common.{subst}
 use Rattle.ped_tree.specs.Views.{program_tree}
-use Rattle.ped_parse.specs.Refusals.{finding_of, IsRefusalOf}
+use Rattle.ped_grammar.specs.RefusalViews.{finding_of}
+use Rattle.ped_parse.specs.Refusals.{IsRefusalOf}
 use Rattle.ped.specs.declared.answering.Status.TheVariants.{ProgramRefused}
 use Rattle.ped.specs.Refusals.{refused_line}
 use Rattle.ped.specs.Answer.{IsJust, IsShown, ShowsTree}

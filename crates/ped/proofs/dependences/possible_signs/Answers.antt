@@ -1,7 +1,7 @@
 use Rattle.std.proofs.Common.{pos, FitsSigned, w64}
 use Rattle.std.proofs.lemmas.Int.{to_z-of_z}
-use Rattle.ped_base.specs.declared.directions.Direction.TheVariants.{Before, Same, After}
-use Rattle.ped_base.specs.Excluded.{NeverMeetsInStep}
+use Rattle.ped_views.specs.declared.directions.Direction.TheVariants.{Before, Same, After}
+use Rattle.ped_views.specs.Excluded.{NeverMeetsInStep}
 use Rattle.ped.proofs.Finding.{may_be_had}
 use Rattle.ped.proofs.dependences.possible_signs.Goals as goal
 

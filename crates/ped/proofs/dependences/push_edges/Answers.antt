@@ -1,8 +1,8 @@
 use Rattle.std.proofs.Common.{rules, ◌≡◌, ◌∙◌, pos, ◌-ℤ◌, ◌*ℤ◌, ap, FitsSigned, w64}
 use Rattle.std.proofs.lemmas.Int.{to_z-of_z}
 use Rattle.std.proofs.lemmas.Result.{on_ok_weaker}
-use Rattle.ped_base.specs.Views.{Range}
-use Rattle.ped_base.specs.Whole.{whole_quotient}
+use Rattle.ped_views.specs.Views.{Range}
+use Rattle.ped_views.specs.Whole.{whole_quotient}
 use Rattle.ped.proofs.Finding.{added}
 use Rattle.ped.proofs.dependences.push_edges.Goals as goal
 

@@ -1,7 +1,7 @@
 use Rattle.std.proofs.Common.{arith, rules, refl, FitsSigned, w64, Some, None}
 use Rattle.std.specs.Int.{w128}
 use Rattle.std.proofs.lemmas.Int.{to_z-of_z}
-use Rattle.ped_base.proofs.Products.{linear}
+use Rattle.ped_views.proofs.Products.{linear}
 use Rattle.ped.proofs.Distances.{quotient_at, never_whole, where_it_fits, where_it_does_not}
 use Rattle.ped.proofs.strong.strong_excludes.Goals as goal
 use Rattle.ped.proofs.strong.strong_excludes.Goals.{then-fits_span, else-fits_span}

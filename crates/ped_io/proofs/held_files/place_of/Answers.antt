@@ -1,6 +1,6 @@
 use Rattle.std.proofs.Common.{rules, ◌≡◌, ap, ◌∙◌, length, position, unwrap_or}
 use Rattle.ped_io.proofs.Places.{unwrap_or-position}
-use Rattle.ped_io.specs.Outside.{is_same_text}
+use Rattle.ped_base.specs.Lists.{is_same_text}
 use Rattle.ped_io.proofs.held_files.place_of.Goals as goal
 
 pub returns : goal.returns

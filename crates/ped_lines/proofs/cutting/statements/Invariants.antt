@@ -1,9 +1,10 @@
 use Rattle.std.proofs.Common.{◌≡◌, ◌+◌, ◌≤◌, length}
 use Rattle.std.specs.Str.Lines.{lines}
-use Rattle.ped_tree.specs.Refusal.{earliest}
-use Rattle.ped_tree.specs.Grouping.{statements_of}
-use Rattle.ped_tree.specs.LineRefusals.{first_line_refusal}
-use Rattle.ped_lines.specs.Cutting.{found_of, refusals_left, cut_with}
+use Rattle.ped_grammar.specs.Refusal.{earliest}
+use Rattle.ped_grammar.specs.Grouping.{statements_of}
+use Rattle.ped_grammar.specs.LineRefusals.{first_line_refusal}
+use Rattle.ped_grammar.specs.RefusalViews.{found_of}
+use Rattle.ped_lines.specs.Cutting.{refusals_left, cut_with}
 use Rattle.ped_lines.proofs.cutting.statements.Given as goal
 
 abbrev pub invariant-loop-line : goal.invariant-loop-line

@@ -1,6 +1,6 @@
 use Rattle.std.proofs.Common.{◌≡◌, take, map, filter}
 use Rattle.std.specs.Prelude.{not}
-use Rattle.ped_tree.specs.Columns.{folded, is_blank}
+use Rattle.ped_grammar.specs.Columns.{folded, is_blank}
 use Rattle.ped_lines.proofs.notes.folded_text.Given as goal
 
 abbrev pub invariant-loop-c : goal.invariant-loop-c

@@ -1,5 +1,5 @@
 use Rattle.std.proofs.Common.{rules, ◌≡◌, ℕ, List, refl, subst}
-use Rattle.ped_items.specs.ItemViews.{reading_of}
+use Rattle.ped_grammar.specs.ItemViews.{reading_of}
 use Rattle.ped_expressions.specs.ExpressionReading.{saturated}
 use Rattle.ped_statements.specs.Saturated.{IsReadAs}
 use Rattle.ped_parse.proofs.reading.entry.Goals as goal

@@ -1,14 +1,14 @@
 use Rattle.std.proofs.Common.{◌≡◌, ℕ, List, map, sym, ap, subst, ◌∙◌}
-use Rattle.ped_tree.specs.Refusal.{Finding, first_of}
-use Rattle.ped_tree.specs.Statement.{Note}
-use Rattle.ped_tree.specs.ProgramRefusals.{program_refusals}
-use Rattle.ped_tree.specs.Occurrences.{saved_names}
-use Rattle.ped_tree.specs.Reading.{Refuses}
-use Rattle.ped_lines.specs.Views.{note_of, statement_of}
-use Rattle.ped_lines.specs.declared.grouping.Statement as lines
-use Rattle.ped_lines.specs.declared.notes.NoteLine.{NoteLine}
-use Rattle.ped_items.specs.ItemViews.{entry_of}
-use Rattle.ped_items.specs.declared.items.Entry as items
+use Rattle.ped_grammar.specs.Refusal.{Finding, first_of}
+use Rattle.ped_grammar.specs.Statement.{Note}
+use Rattle.ped_grammar.specs.ProgramRefusals.{program_refusals}
+use Rattle.ped_grammar.specs.Occurrences.{saved_names}
+use Rattle.ped_grammar.specs.Reading.{Refuses}
+use Rattle.ped_grammar.specs.StatementViews.{note_of, statement_of}
+use Rattle.ped_grammar.specs.declared.statements.Statement as lines
+use Rattle.ped_grammar.specs.declared.statements.NoteLine.{NoteLine}
+use Rattle.ped_grammar.specs.ItemViews.{entry_of}
+use Rattle.ped_grammar.specs.declared.items.Entry as items
 use Rattle.ped_parse.specs.Entries.{AreReadAs}
 use Rattle.ped_parse.proofs.ReadAs.{refused_here, tree_here, lines_here}
 use Rattle.ped_parse.proofs.reading.nested.Goals as goal

@@ -1,5 +1,5 @@
 use Rattle.std.proofs.Common.{List, ℕ, ◌≡◌, ◌++◌, map, take}
-use Rattle.ped_tree.specs.Occurrences.{is_among}
+use Rattle.ped_base.specs.Lists.{is_among}
 use Rattle.ped_tree.specs.Views.{value_tree}
 use Rattle.ped_refusals.proofs.contexts.add_names.Given as goal
 

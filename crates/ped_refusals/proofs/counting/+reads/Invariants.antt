@@ -1,5 +1,5 @@
 use Rattle.std.proofs.Common.{◌≡◌, ◌+◌, ◌-◌, ◌^◌, ◌≤◌, map, drop, length}
-use Rattle.ped_tree.specs.References.{exprs_reads}
+use Rattle.ped_tree.specs.Accesses.{exprs_reads}
 use Rattle.ped_tree.specs.Views.{expr_tree, pack_exprs}
 use Rattle.ped_print.specs.Lengths.{limited}
 use Rattle.ped_refusals.specs.Silences.{silent_names}

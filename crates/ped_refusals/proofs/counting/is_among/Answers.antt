@@ -1,13 +1,13 @@
 use Rattle.std.proofs.Common.{◌≡◌, ◌∙◌, List, ℕ, [], ◌∷◌, ◌&&◌, eqb, eqb-true, arith, refl}
 use Rattle.std.specs.List.{list_any}
-use Rattle.ped_tree.specs.References.{same_name}
+use Rattle.ped_base.specs.Lists.{is_same_text}
 use Rattle.ped_refusals.proofs.NameEquality.{name_same}
 use Rattle.ped_refusals.proofs.counting.is_among.Goals as goal
 
 eqb_flip : (m n : ℕ) → eqb m n ≡ eqb n m
 eqb_flip m n = grind (arith, eqb-true)
 
-same_flip : (x y : List ℕ) → same_name x y ≡ same_name y x
+same_flip : (x y : List ℕ) → is_same_text x y ≡ is_same_text y x
 same_flip [] [] = refl
 same_flip [] (y ∷ ys) = refl
 same_flip (x ∷ xs) [] = refl

@@ -1,6 +1,6 @@
 use Rattle.std.proofs.Common.{◌≡◌, ◌+◌, ◌-◌, ◌^◌, ◌≤◌, map, drop, length}
 use Rattle.std.specs.List.{flat_map}
-use Rattle.ped_tree.specs.References.{left_accesses}
+use Rattle.ped_tree.specs.Accesses.{left_accesses}
 use Rattle.ped_tree.specs.Views.{expr_tree}
 use Rattle.ped_print.specs.Lengths.{limited}
 use Rattle.ped_refusals.specs.Silences.{silent_names}

@@ -1,8 +1,8 @@
 use Rattle.std.proofs.Common.{◌≡◌, map, drop, true}
 use Rattle.std.specs.List.{flat_map}
-use Rattle.ped_tree.specs.Refusal.{earliest, stands, Syntax}
-use Rattle.ped_lines.specs.Views.{note_of}
-use Rattle.ped_refusals.specs.Views.{found_of}
+use Rattle.ped_grammar.specs.Refusal.{earliest, stands, Syntax}
+use Rattle.ped_grammar.specs.StatementViews.{note_of}
+use Rattle.ped_grammar.specs.RefusalViews.{found_of}
 use Rattle.ped_refusals.proofs.directives.at_last_directives.Given as goal
 
 abbrev pub invariant-loop-directive : goal.invariant-loop-directive

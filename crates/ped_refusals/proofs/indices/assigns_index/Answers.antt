@@ -1,7 +1,7 @@
 use Rattle.std.proofs.Common.{◌≡◌, ℕ, Bool, ◌++◌, length, map, IfOk, ap, sym, subst, ◌∙◌, rules}
-use Rattle.ped_tree.specs.Items.{says, keeps_private}
-use Rattle.ped_tree.specs.ProgramRefusals.{open_variables, inner_variables, meets}
-use Rattle.ped_items.specs.ItemViews.{reading_of, entry_of}
+use Rattle.ped_grammar.specs.Items.{says, keeps_private}
+use Rattle.ped_grammar.specs.ProgramRefusals.{open_variables, inner_variables, meets}
+use Rattle.ped_grammar.specs.ItemViews.{reading_of, entry_of}
 use Rattle.ped_refusals.specs.OpenBlocks.{blocks_of}
 use Rattle.ped_refusals.specs.OpenContexts.{context_of, with_blocks}
 use Rattle.ped_refusals.proofs.Looking.{length_blocks, private_is}

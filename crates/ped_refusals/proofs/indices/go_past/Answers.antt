@@ -1,7 +1,8 @@
 use Rattle.std.proofs.Common.{◌++◌, ap, sym, ◌∙◌}
-use Rattle.ped_tree.specs.Occurrences.{is_among, of_reading, do_variables}
-use Rattle.ped_items.specs.ItemViews.{reading_of}
-use Rattle.ped_items.specs.declared.items.StatementReading.{StatementReading}
+use Rattle.ped_base.specs.Lists.{is_among}
+use Rattle.ped_grammar.specs.Occurrences.{of_reading, do_variables}
+use Rattle.ped_grammar.specs.ItemViews.{reading_of}
+use Rattle.ped_grammar.specs.declared.items.StatementReading.{StatementReading}
 use Rattle.ped_refusals.proofs.indices.go_past.Goals as goal
 
 pub returns-in_ok-take_on-in-Says-clause-names : goal.returns-in_ok-take_on-in-Says-clause-names

@@ -1,6 +1,6 @@
 use Rattle.std.proofs.Common.{length, ap, ◌∙◌, arith, rules}
-use Rattle.ped_tree.specs.ProgramRefusals.{block_depth}
-use Rattle.ped_items.specs.ItemViews.{entry_of}
+use Rattle.ped_grammar.specs.ProgramRefusals.{block_depth}
+use Rattle.ped_grammar.specs.ItemViews.{entry_of}
 use Rattle.ped_refusals.specs.OpenBlocks.{blocks_of}
 use Rattle.ped_refusals.specs.OpenContexts.{with_blocks}
 use Rattle.ped_refusals.proofs.Looking.{seen_step, seen_all}

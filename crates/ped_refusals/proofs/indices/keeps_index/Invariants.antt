@@ -1,6 +1,6 @@
 use Rattle.std.proofs.Common.{◌≡◌, ◌++◌, length, map, drop}
-use Rattle.ped_tree.specs.ProgramRefusals.{meets, inner_variables}
-use Rattle.ped_items.specs.ItemViews.{entry_of}
+use Rattle.ped_grammar.specs.ProgramRefusals.{meets, inner_variables}
+use Rattle.ped_grammar.specs.ItemViews.{entry_of}
 use Rattle.ped_refusals.specs.OpenBlocks.{blocks_of}
 use Rattle.ped_refusals.specs.OpenContexts.{with_blocks}
 use Rattle.ped_refusals.proofs.indices.keeps_index.Given as goal

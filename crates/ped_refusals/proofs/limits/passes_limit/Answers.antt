@@ -1,7 +1,7 @@
 use Rattle.std.proofs.Common.{◌∙◌, List, ℕ, ◌++◌, sym}
 use Rattle.std.specs.Prelude.{◌||◌}
-use Rattle.ped_tree.specs.ProgramRefusals.{is_too_large, are_too_many, is_too_long}
-use Rattle.ped_items.specs.ItemViews.{item_of}
+use Rattle.ped_grammar.specs.ProgramRefusals.{is_too_large, are_too_many, is_too_long}
+use Rattle.ped_grammar.specs.ItemViews.{item_of}
 use Rattle.ped_refusals.specs.Limits.{is_nested_too_deep}
 use Rattle.ped_refusals.proofs.Silences.{among_both, same_many}
 use Rattle.ped_refusals.proofs.limits.passes_limit.Goals as goal

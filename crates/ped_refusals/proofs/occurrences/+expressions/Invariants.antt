@@ -1,5 +1,5 @@
 use Rattle.std.proofs.Common.{◌≡◌, map, drop}
-use Rattle.ped_tree.specs.Occurrences.{exprs_names}
+use Rattle.ped_tree.specs.NamesIn.{exprs_names}
 use Rattle.ped_tree.specs.Views.{expr_tree, pack_exprs}
 use Rattle.ped_refusals.specs.Collecting.{with_names}
 use Rattle.ped_refusals.proofs.occurrences.+expressions.Given as goal

@@ -1,5 +1,5 @@
 use Rattle.std.proofs.Common.{◌≡◌, drop}
-use Rattle.ped_tree.specs.Occurrences.{stmts_names}
+use Rattle.ped_tree.specs.NamesIn.{stmts_names}
 use Rattle.ped_tree.specs.Views.{stmt_trees}
 use Rattle.ped_refusals.specs.Collecting.{with_names}
 use Rattle.ped_refusals.proofs.occurrences.+statements.Given as goal

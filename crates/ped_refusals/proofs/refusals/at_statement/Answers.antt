@@ -1,7 +1,7 @@
 use Rattle.std.proofs.Common.{map, ap, ◌∙◌}
-use Rattle.ped_tree.specs.Refusal.{earliest}
-use Rattle.ped_items.specs.ItemViews.{entry_of}
-use Rattle.ped_refusals.specs.Views.{found_of}
+use Rattle.ped_grammar.specs.Refusal.{earliest}
+use Rattle.ped_grammar.specs.ItemViews.{entry_of}
+use Rattle.ped_grammar.specs.RefusalViews.{found_of}
 use Rattle.ped_refusals.specs.OpenContexts.{context_of}
 use Rattle.ped_refusals.proofs.Likeness.{like_statement}
 use Rattle.ped_refusals.proofs.refusals.at_statement.Goals as goal

@@ -1,5 +1,5 @@
 use Rattle.std.proofs.Common.{◌≡◌, ◌++◌, drop, filter, not}
-use Rattle.ped_tree.specs.Occurrences.{is_among}
+use Rattle.ped_base.specs.Lists.{is_among}
 use Rattle.ped_refusals.proofs.saving.without.Given as goal
 
 abbrev pub invariant-loop-name : goal.invariant-loop-name

@@ -1,5 +1,5 @@
 use Rattle.std.proofs.Common.{◌≡◌, ◌++◌, ℕ, List, take}
-use Rattle.ped_tree.specs.Characters.{is_quoted, has_bad, text_behind}
+use Rattle.ped_grammar.specs.Characters.{is_quoted, has_bad, text_behind}
 use Rattle.ped_lines.proofs.characters.OpenText.with_columns.Given as goal
 
 abbrev pub invariant-loop-c : goal.invariant-loop-c

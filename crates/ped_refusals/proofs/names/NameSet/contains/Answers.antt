@@ -1,5 +1,5 @@
 use Rattle.std.proofs.Common.{ap, ◌∙◌}
-use Rattle.ped_tree.specs.Occurrences.{is_among}
+use Rattle.ped_base.specs.Lists.{is_among}
 use Rattle.ped_refusals.proofs.NameEquality.{any_same}
 use Rattle.ped_refusals.proofs.names.NameSet.contains.Goals as goal
 

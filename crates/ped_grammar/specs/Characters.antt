@@ -1,0 +1,42 @@
+-- The characters of a statement: columns 7 to 72 of its lines, joined. What stands between apostrophes is a character constant, and an apostrophe in a constant is written as two.
+use Rattle.std.specs.Prelude.{ℕ, ◌%◌, List, [], ◌∷◌, ◌++◌, Bool, false, not, ◌&&◌, ◌||◌, ◌==◌, nat_le, codes, count_by, if◌then◌else◌}
+use Rattle.std.specs.List.{list_any}
+use Rattle.ped_grammar.specs.Columns.{is_blank, is_digit, folded}
+
+-- A to Z and a to z
+abbrev pub is_letter : ℕ → Bool
+is_letter c = (nat_le 65 c && nat_le c 90) || (nat_le 97 c && nat_le c 122)
+
+-- what may stand outside constants: letters, digits, blanks, and the special characters of FORTRAN 77
+abbrev pub is_character : ℕ → Bool
+is_character c = is_letter c || is_digit c || list_any (λ x. x == c) (codes " =+-*/(),.'$:")
+
+-- what may stand in a constant
+abbrev pub is_printable : ℕ → Bool
+is_printable c = nat_le 32 c && nat_le c 126
+
+-- the next character stands in a constant where an odd number of apostrophes stands before it in its statement
+unfoldable pub is_quoted : List ℕ → Bool
+is_quoted before = count_by (λ c. c == 39) before % 2 == 1
+
+-- the character c may not stand behind these
+unfoldable pub is_bad : List ℕ → ℕ → Bool
+is_bad before c = not (if is_quoted before then is_printable c else is_character c)
+
+-- some character may not stand where it stands
+abbrev pub has_bad : List ℕ → List ℕ → Bool
+has_bad before [] = false
+has_bad before (c ∷ cs) = is_bad before c || has_bad (before ++ c ∷ []) cs
+
+-- in a constant a character is kept as it is; outside, blanks mean nothing and small letters are capitals
+unfoldable pub kept : List ℕ → ℕ → List ℕ
+kept before c = if is_quoted before then c ∷ [] else if is_blank c then [] else folded c ∷ []
+
+-- what is kept of characters that stand behind these
+abbrev pub text_behind : List ℕ → List ℕ → List ℕ
+text_behind before [] = []
+text_behind before (c ∷ cs) = kept before c ++ text_behind (before ++ c ∷ []) cs
+
+-- the text of a statement's characters
+abbrev pub text_of : List ℕ → List ℕ
+text_of characters = text_behind [] characters

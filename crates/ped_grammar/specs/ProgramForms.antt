@@ -1,0 +1,100 @@
+-- A whole program: declarations, executable statements, END.
+use Rattle.std.specs.Prelude.{ℕ, List, [], ◌∷◌, ◌++◌, map, replicate, if◌then◌else◌}
+use Rattle.std.specs.List.{flat_map}
+use Rattle.ped_tree.specs.Tree.{StmtTree, Assign, If, Do, Print, Read, Stop, Comment, DeclTree, Save, Remark, ProgramTree}
+use Rattle.ped_tree.specs.Views.{pack_stmts}
+use Rattle.ped_base.specs.Lists.{has_some}
+use Rattle.ped_grammar.specs.Statement.{Statement}
+use Rattle.ped_grammar.specs.Items.{Item, declares, saves_all, does, continues, logical_if, block_if, else_if, else_line, end_if, begins_do, keeps_private, ends_program, Reading, says, outside_profile, no_form, Entry}
+use Rattle.ped_grammar.specs.Contexts.{numbered_in}
+use Rattle.ped_grammar.specs.BlockForms.{BodyForm, entry, body_entries, body_trees, comments_of}
+
+-- a declaration, or a SAVE without a list
+pub data DeclForm : Type 0 where
+  a_declaration : Statement → DeclTree → DeclForm
+  a_save_of_all : Statement → DeclForm
+
+-- the declarations, the executable statements, END
+pub record ProgramForm : Type 0 where
+  pub declarations : List DeclForm
+  pub body : BodyForm
+  pub ending : Statement
+
+-- the statement of a declaration
+abbrev pub decl_entry : DeclForm → Entry
+decl_entry (a_declaration s d) = entry s (declares d)
+decl_entry (a_save_of_all s) = entry s saves_all
+
+-- the statements of a program, in the order of the text
+abbrev pub program_entries : ProgramForm → List Entry
+program_entries f = map decl_entry f.declarations ++ body_entries f.body ++ entry f.ending ends_program ∷ []
+
+-- the comments before a declaration
+abbrev pub remarks_of : Statement → List DeclTree
+remarks_of s = map (λ n. Remark n.text) s.comments
+
+-- SAVE of these names, dropped where there is none
+abbrev pub save_of : List (List ℕ) → List DeclTree
+save_of names = if has_some names then Save names ∷ [] else []
+
+-- a declaration with the comments before it, where SAVE without a list is read as these names
+abbrev pub decl_trees : List (List ℕ) → DeclForm → List DeclTree
+decl_trees saved (a_declaration s d) = remarks_of s ++ d ∷ []
+decl_trees saved (a_save_of_all s) = remarks_of s ++ save_of saved
+
+-- the comments before the first statement that is none
+abbrev pub front_remarks : List StmtTree → List DeclTree
+front_remarks [] = []
+front_remarks (Assign left right ∷ rest) = []
+front_remarks (If condition then_part else_part ∷ rest) = []
+front_remarks (Do h body ∷ rest) = []
+front_remarks (Print items ∷ rest) = []
+front_remarks (Read items ∷ rest) = []
+front_remarks (Stop ∷ rest) = []
+front_remarks (Comment text ∷ rest) = Remark text ∷ front_remarks rest
+
+-- the statements from the first on that is no comment
+abbrev pub behind_front : List StmtTree → List StmtTree
+behind_front [] = []
+behind_front (Assign left right ∷ rest) = Assign left right ∷ rest
+behind_front (If condition then_part else_part ∷ rest) = If condition then_part else_part ∷ rest
+behind_front (Do h body ∷ rest) = Do h body ∷ rest
+behind_front (Print items ∷ rest) = Print items ∷ rest
+behind_front (Read items ∷ rest) = Read items ∷ rest
+behind_front (Stop ∷ rest) = Stop ∷ rest
+behind_front (Comment text ∷ rest) = behind_front rest
+
+-- the executable statements with the comments before and among them and before END
+abbrev pub all_trees : ProgramForm → List StmtTree
+all_trees f = body_trees f.body ++ comments_of f.ending
+
+-- the tree of a program, where SAVE without a list is read as these names; comments before the first executable statement belong to the declarations
+abbrev pub program_form_tree : List (List ℕ) → ProgramForm → ProgramTree
+program_form_tree saved f = record {
+  decls = flat_map (decl_trees saved) f.declarations ++ front_remarks (all_trees f);
+  body = pack_stmts (behind_front (all_trees f));
+}
+
+-- how often the line of a statement counts: once for a declaration and for PRIVATE, once for each numbered statement that it is
+abbrev pub line_count : List (List ℕ) → Item → ℕ
+line_count saved (declares d) = 1
+line_count saved saves_all = if has_some saved then 1 else 0
+line_count saved (does s) = numbered_in (does s)
+line_count saved continues = 0
+line_count saved (logical_if c s) = numbered_in (logical_if c s)
+line_count saved (block_if c) = 1
+line_count saved (else_if c) = 1
+line_count saved else_line = 0
+line_count saved end_if = 0
+line_count saved (begins_do label h) = 1
+line_count saved (keeps_private names) = 1
+line_count saved ends_program = 0
+
+abbrev pub lines_of_reading : List (List ℕ) → ℕ → Reading → List ℕ
+lines_of_reading saved line (says i) = replicate (line_count saved i) line
+lines_of_reading saved line outside_profile = []
+lines_of_reading saved line no_form = []
+
+-- the first line of each declaration, of each numbered statement and of each PRIVATE, in text order
+abbrev pub first_lines : List (List ℕ) → List Entry → List ℕ
+first_lines saved entries = flat_map (λ e. lines_of_reading saved e.statement.line e.reading) entries

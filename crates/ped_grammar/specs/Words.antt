@@ -1,0 +1,31 @@
+-- Words of statements: names, numerals, and the names of the intrinsic functions.
+use Rattle.std.specs.Prelude.{ℕ, List, [], ◌∷◌, Bool, false, ◌&&◌, ◌||◌, ◌==◌, nat_le, length, codes, Option, Some, None, if◌then◌else◌}
+use Rattle.std.specs.List.{list_all}
+use Rattle.std.specs.Cmp.Lexicographic.{pointwise}
+use Rattle.std.specs.Str.Parse.{digits_value}
+use Rattle.ped_base.specs.Letters
+use Rattle.ped_base.specs.Letters.{is_digit}
+use Rattle.ped_tree.specs.declared.expressions.Intrinsic.{Intrinsic}
+use Rattle.ped_tree.specs.declared.expressions.Intrinsic.TheVariants.{Mod, Abs, Max, Min}
+
+-- a name: a letter, and at most five letters and digits behind it
+abbrev pub is_name : List ℕ → Bool
+is_name x = Letters.is_name x && nat_le (length x) 6
+
+-- a numeral: one digit or more
+abbrev pub is_numeral : List ℕ → Bool
+is_numeral [] = false
+is_numeral (c ∷ cs) = list_all is_digit (c ∷ cs)
+
+-- the number that a numeral writes
+abbrev pub numeral_value : List ℕ → ℕ
+numeral_value digits = digits_value 10 digits
+
+-- the intrinsic function of a name, where it is MOD, ABS, IABS, MAX, MAX0, MIN or MIN0
+unfoldable pub intrinsic_of : List ℕ → Option Intrinsic
+intrinsic_of x =
+    if is_same_text x (codes "MOD") then Some Mod
+    else if is_same_text x (codes "ABS") || is_same_text x (codes "IABS") then Some Abs
+    else if is_same_text x (codes "MAX") || is_same_text x (codes "MAX0") then Some Max
+    else if is_same_text x (codes "MIN") || is_same_text x (codes "MIN0") then Some Min
+    else None

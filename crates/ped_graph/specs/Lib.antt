@@ -1,0 +1,2 @@
+pub mod DependencePane
+pub mod Edges

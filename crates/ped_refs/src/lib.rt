@@ -1,0 +1,3 @@
+//! References: the occurrences of variables that read or write them, and the pairs that may depend on each
+//! other. The definitions stand in `specs/`.
+#![tactic(auto)]

@@ -1,0 +1,3 @@
+pub mod Chosen
+mod Equal
+pub mod Products

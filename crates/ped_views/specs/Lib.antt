@@ -1,0 +1,6 @@
+pub mod Excluded
+pub mod Forms
+pub mod Limits
+pub mod Vectors
+pub mod Views
+pub mod Whole

@@ -1,0 +1,55 @@
+//! Quotients of whole numbers.
+
+ghost use Rattle.std.specs.Prelude.{◌≡◌, ◌≤◌, ◌^◌, ◌<ℤ◌, ◌*ℤ◌, pos, neg_ℤ, unsigned_abs, int_div, int_rem, MatchOption, IfSome};
+ghost use Rattle.ped_views.specs.Whole.{Divides, whole_quotient};
+
+/// The whole number k with d * k = n: none exactly where `d` doesn't divide `n`. The divisor isn't 0,
+/// and the dividend isn't -2^127, whose quotient by -1 is out of range.
+pub fn exact_quotient(n: i128, d: i128) -> Option<i128>
+    requires dividend { neg_ℤ (pos (2 ^ 127)) <ℤ n }
+    requires divisor { ¬ (d ≡ pos 0) }
+    ensures divides { MatchOption result (¬ (Divides d n)) (λ k. d *ℤ k ≡ n) }
+    ensures whole { result ≡ whole_quotient n d }
+    ensures small { IfSome result (λ k. unsigned_abs k ≤ unsigned_abs n) }
+{
+    if remainder(n, d) == 0 {
+        Some(quotient(n, d))
+    } else {
+        None
+    }
+}
+
+fn quotient(n: i128, d: i128) -> i128
+    requires dividend { neg_ℤ (pos (2 ^ 127)) <ℤ n }
+    requires divisor { ¬ (d ≡ pos 0) }
+    ensures value { result ≡ int_div n d }
+    ensures small { unsigned_abs result ≤ unsigned_abs n }
+{
+    n / d
+}
+
+fn remainder(n: i128, d: i128) -> i128
+    requires dividend { neg_ℤ (pos (2 ^ 127)) <ℤ n }
+    requires divisor { ¬ (d ≡ pos 0) }
+    ensures { result ≡ int_rem n d }
+{
+    n % d
+}
+
+#[cfg(test)]
+mod tests {
+    use super::*;
+
+    #[test]
+    fn quotients_are_whole_in_all_signs(rt: HostRuntime) {
+        assert_eq!(rt; exact_quotient(6, 3), Some(2));
+        assert_eq!(rt; exact_quotient(-6, 3), Some(-2));
+        assert_eq!(rt; exact_quotient(6, -3), Some(-2));
+        assert_eq!(rt; exact_quotient(-6, -3), Some(2));
+        assert_eq!(rt; exact_quotient(0, -5), Some(0));
+        assert_eq!(rt; exact_quotient(7, 3), None);
+        assert_eq!(rt; exact_quotient(-7, 3), None);
+        assert_eq!(rt; exact_quotient(2, 6), None);
+        assert_eq!(rt; exact_quotient(i128::MAX, -1), Some(-i128::MAX));
+    }
+}

@@ -1,0 +1,196 @@
+//! Views of pairs of references.
+
+ghost use Rattle.std.specs.Prelude.{◌≡◌, ◌↔◌, length, IsTrue, IfOk};
+
+use crate::ranges::LoopRange;
+use std::marker::Model;
+
+/// One subscript as an affine form: a coefficient within 2^31 of zero for each loop, and a constant
+/// within 2^62 of zero.
+#[derive(Drop)]
+pub struct AffRow {
+    /// The coefficients of the common loops, the outermost first.
+    pub common: Vec<i64>,
+    /// The coefficients of the further loops of this side.
+    pub inner: Vec<i64>,
+    /// The constant.
+    pub constant: i64,
+}
+
+impl Model for AffRow {
+    ghost use Rattle.ped_views.specs.Views.{Row};
+
+    ghost Value = { Row };
+
+    ghost use Rattle.ped_views.specs.Limits.{IsRow};
+
+    ghost view = { λ r. record { common = r.common.items; inner = r.inner.items; constant = r.constant } };
+
+    ghost invariant = { λ r. IsRow (record { common = r.common.items; inner = r.inner.items; constant = r.constant }) };
+}
+
+/// The two subscripts at one position of a pair of references. The dependence tests look at it only
+/// where both are affine, which `usable` says.
+#[derive(Drop)]
+pub struct Position {
+    /// Whether both subscripts are affine forms.
+    pub usable: bool,
+    /// The subscript of the source.
+    pub source: AffRow,
+    /// The subscript of the sink.
+    pub sink: AffRow,
+}
+
+impl Model for Position {
+    ghost use Rattle.ped_views.specs.Views.{SubscriptPair};
+
+    ghost Value = { SubscriptPair };
+
+    ghost use Rattle.ped_views.specs.Limits.{IsPosition};
+
+    ghost view = { λ p. record { usable = p.usable; source = p.source; sink = p.sink } };
+
+    ghost invariant = { λ p. IsPosition (record { usable = p.usable; source = p.source; sink = p.sink }) };
+}
+
+/// What the dependence tests look at of an ordered pair of references: ranges and affine forms, and no
+/// names. At most six loops stand round each side.
+#[derive(Drop)]
+pub struct PairView {
+    /// The ranges of the common loops, the outermost first.
+    pub loops: Vec<LoopRange>,
+    /// The ranges of the further loops of the source.
+    pub source_inner: Vec<LoopRange>,
+    /// The ranges of the further loops of the sink.
+    pub sink_inner: Vec<LoopRange>,
+    /// The subscripts, position by position.
+    pub positions: Vec<Position>,
+}
+
+impl Model for PairView {
+    ghost use Rattle.ped_views.specs.Views.{View};
+
+    ghost Value = { View };
+
+    ghost use Rattle.ped_views.specs.Limits.{IsView};
+
+    ghost view = { λ v. record { loops = v.loops.items; source_inner = v.source_inner.items; sink_inner = v.sink_inner.items; positions = v.positions.items } };
+
+    ghost invariant = { λ v. IsView (record { loops = v.loops.items; source_inner = v.source_inner.items; sink_inner = v.sink_inner.items; positions = v.positions.items }) };
+}
+
+impl PairView {
+    /// Whether both views hold the same numbers.
+    pub fn same(&self, other: &PairView) -> bool
+        ensures { IsTrue result ↔ (self.now ≡ other.now) }
+    {
+        same_ranges(&self.loops, &other.loops)
+            && same_ranges(&self.source_inner, &other.source_inner)
+            && same_ranges(&self.sink_inner, &other.sink_inner)
+            && same_positions(&self.positions, &other.positions)
+    }
+}
+
+fn same_ranges(left: &[LoopRange], right: &[LoopRange]) -> bool
+    ensures { IsTrue result ↔ (left.now ≡ right.now) }
+{
+    left == right
+}
+
+fn same_row(left: &AffRow, right: &AffRow) -> bool
+    ensures { IsTrue result ↔ (left.now ≡ right.now) }
+{
+    left.common == right.common && left.inner == right.inner && left.constant == right.constant
+}
+
+fn same_position(left: &Position, right: &Position) -> bool
+    ensures { IsTrue result ↔ (left.now ≡ right.now) }
+{
+    left.usable == right.usable
+        && same_row(&left.source, &right.source)
+        && same_row(&left.sink, &right.sink)
+}
+
+fn same_positions(left: &[Position], right: &[Position]) -> bool
+    ensures { IsTrue result ↔ (left.now ≡ right.now) }
+{
+    if left.len() != right.len() {
+        return false;
+    }
+    for (i, position) in left.iter().enumerate() {
+        if !same_position(position, &right[i]) {
+            return false;
+        }
+    }
+    true
+}
+
+#[cfg(test)]
+mod tests {
+    use super::*;
+    use ped_base::NoMemory;
+    use std::alloc::Global;
+    use std::test::Fail;
+
+    const RANGE: LoopRange = LoopRange {
+        lo: 1,
+        hi: 10,
+        step: 1,
+        steady: true,
+    };
+
+    fn row(alloc: Global, coefficient: i32, constant: i32) -> Result<AffRow, NoMemory>
+        ensures { IfOk result (λ r. (length r.common ≡ 1) × (length r.inner ≡ 0)) }
+    {
+        Ok(AffRow {
+            common: vec![in alloc; i64::from(coefficient)]?,
+            inner: vec![in alloc]?,
+            constant: i64::from(constant),
+        })
+    }
+
+    /// A view of one loop and one position whose sink has the subscript I.
+    fn view(
+        alloc: Global,
+        range: LoopRange,
+        usable: bool,
+        source: AffRow,
+    ) -> Result<PairView, NoMemory>
+        requires common { length source.common ≡ 1 }
+        requires inner { length source.inner ≡ 0 }
+    {
+        let position = Position {
+            usable,
+            source,
+            sink: row(alloc, 1, 0)?,
+        };
+        Ok(PairView {
+            loops: vec![in alloc; range]?,
+            source_inner: vec![in alloc]?,
+            sink_inner: vec![in alloc]?,
+            positions: vec![in alloc; position]?,
+        })
+    }
+
+    #[test]
+    fn views_are_the_same_in_every_part(rt: HostRuntime) -> Result<(), Fail> {
+        let alloc = rt.alloc();
+        let first = view(alloc, RANGE, true, row(alloc, 1, 2)?)?;
+        assert!(rt; first.same(&view(alloc, RANGE, true, row(alloc, 1, 2)?)?));
+        assert!(rt;
+            !first.same(&view(
+                alloc,
+                LoopRange {
+                    steady: false,
+                    ..RANGE
+                },
+                true,
+                row(alloc, 1, 2)?
+            )?)
+        );
+        assert!(rt; !first.same(&view(alloc, RANGE, false, row(alloc, 1, 2)?)?));
+        assert!(rt; !first.same(&view(alloc, RANGE, true, row(alloc, 2, 2)?)?));
+        assert!(rt; !first.same(&view(alloc, RANGE, true, row(alloc, 1, 3)?)?));
+        Ok(())
+    }
+}

@@ -53,8 +53,8 @@ affine coefficients constant = record { coefficients = coefficients; constant = 
 abbrev pub is_limited : Affine → Bool
 is_limited f = list_all (λ a. nat_le (unsigned_abs a) (2 ^ 31)) f.coefficients && nat_le (unsigned_abs f.constant) (2 ^ 62)
 
-abbrev pub limited : Affine → Option Affine
-limited f = if is_limited f then Some f else None
+abbrev pub within_limits : Affine → Option Affine
+within_limits f = if is_limited f then Some f else None
 
 -- 1 for the loop of that variable, and 0 for each other
 abbrev pub coefficients_of : List ℕ → List (List ℕ) → List ℤ
@@ -68,14 +68,14 @@ combined f (a ∷ first) [] = []
 
 -- the sum or difference of two forms
 abbrev pub combination : (ℤ → ℤ → ℤ) → Option Affine → Option Affine → Option Affine
-combination f (Some a) (Some b) = limited (affine (combined f a.coefficients b.coefficients) (f a.constant b.constant))
+combination f (Some a) (Some b) = within_limits (affine (combined f a.coefficients b.coefficients) (f a.constant b.constant))
 combination f (Some a) None = None
 combination f None b = None
 
 -- a subscript as an affine form in the variables of the DO loops round it, where it is one
 abbrev pub affine_of : List (List ℕ) → ExprTree → Option Affine
-affine_of indices (Int n) = limited (affine (map (λ v. pos 0) indices) (pos n))
-affine_of indices (Var x) = if list_any (is_same_text x) indices then limited (affine (coefficients_of x indices) (pos 0)) else None
+affine_of indices (Int n) = within_limits (affine (map (λ v. pos 0) indices) (pos n))
+affine_of indices (Var x) = if list_any (is_same_text x) indices then within_limits (affine (coefficients_of x indices) (pos 0)) else None
 affine_of indices (Element x subscripts) = None
 affine_of indices (Neg a) = None
 affine_of indices (Mul a b) = None

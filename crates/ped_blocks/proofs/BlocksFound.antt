@@ -4,22 +4,22 @@ use Rattle.std.specs.Prelude.{IsTrue, ◌||◌, not, nat_le, max}
 use Rattle.std.proofs.lemmas.List.{map_push}
 use Rattle.ped_tree.specs.Tree.{Program, Implicit, Integer, Dimension, Parameter, Save, Remark, ProgramTree}
 use Rattle.ped_base.specs.Lists.{has_some}
-use Rattle.ped_grammar.specs.Refusal.{Refusal, Finding, stands, earlier, earliest, first_of, is_before}
+use Rattle.ped_grammar.specs.Refusal.{Refusal, Finding, refused_if, earlier, earliest, first_of, is_before}
 use Rattle.ped_grammar.specs.Statement.{Statement, Statements}
 use Rattle.ped_grammar.specs.Items.{Item, declares, saves_all, does, continues, logical_if, block_if, else_if, else_line, end_if, begins_do, keeps_private, ends_program, Reading, says, outside_profile, no_form, Entry}
 use Rattle.ped_grammar.specs.Occurrences.{saved_names}
 use Rattle.ped_grammar.specs.Contexts.{Block, Context, at_start, rank, is_do, blocks_behind, behind_item, behind_reading, behind, behind_all}
 use Rattle.ped_grammar.specs.BlockForms.{BodyForm, nothing, entry, body_entries, body_fits}
 use Rattle.ped_grammar.specs.ProgramForms.{DeclForm, a_declaration, a_save_of_all, ProgramForm, decl_entry, program_entries}
-use Rattle.ped_grammar.specs.ProgramRefusals.{where_it_says, is_outside, is_out_of_order, lacks_if, is_late_private, saves_again, is_misplaced, is_behind_end, breaks_syntax, leaves_open, ends_badly, at_statement, at_statements, at_end, program_refusals}
+use Rattle.ped_grammar.specs.ProgramRefusals.{where_it_says, is_left_out, is_out_of_order, lacks_if, is_late_private, saves_again, is_misplaced, is_behind_end, breaks_syntax, leaves_open, ends_badly, at_statement, at_statements, at_end, program_refusals}
 use Rattle.ped_grammar.specs.Grouping.{statements_of}
 use Rattle.ped_grammar.specs.Reading.{IsCutInto, first_program_refusal, Refuses, in_statements, Reads}
 use Rattle.ped_blocks.specs.Machine.{nothing_built, take_entries, built_program}
 use Rattle.ped_blocks.proofs.BlocksNest.{form_built}
 use Rattle.ped_blocks.proofs.BlocksMoved.{Part, around, labels, stack_entries, StackFits, Fresh, moved}
 
-pub none_stands : (test : Bool) (r : Refusal) (line : ℕ) → stands test r line ≡ [] → test ≡ false
-unfolding stands
+pub none_stands : (test : Bool) (r : Refusal) (line : ℕ) → refused_if test r line ≡ [] → test ≡ false
+unfolding refused_if
 none_stands true r line e = absurd cc
 none_stands false r line e = refl
 
@@ -46,7 +46,7 @@ first_none (f ∷ fs) e = absurd (found_stays f fs e)
 -- nothing is refused at a statement; these tests say that it nests
 record IsAccepted (c : Context) (e : Entry) : Type 0 where
   placed : breaks_syntax c e.reading ≡ false
-  inside : is_outside e.reading ≡ false
+  inside : is_left_out e.reading ≡ false
   closes : where_it_says (leaves_open c.blocks) e.reading ≡ false
   ends_well : ends_badly c.blocks e.statement.label e.reading ≡ false
 
@@ -93,7 +93,7 @@ is_placed c i h =
     }
 
 -- where nothing is refused, the text has a form
-says_some : (c : Context) (r : Reading) → breaks_syntax c r ≡ false → is_outside r ≡ false → (i : Item) × (r ≡ says i)
+says_some : (c : Context) (r : Reading) → breaks_syntax c r ≡ false → is_left_out r ≡ false → (i : Item) × (r ≡ says i)
 says_some c (says i) h k = (i, refl)
 says_some c outside_profile h k = absurd cc
 says_some c no_form h k = absurd (let y = or_right (is_behind_end c) true (or_left (is_behind_end c || true) false h) in cc)

@@ -1,6 +1,7 @@
 -- The characters of a statement: columns 7 to 72 of its lines, joined. What stands between apostrophes is a character constant, and an apostrophe in a constant is written as two.
 use Rattle.std.specs.Prelude.{ℕ, ◌%◌, List, [], ◌∷◌, ◌++◌, Bool, false, not, ◌&&◌, ◌||◌, ◌==◌, nat_le, codes, count_by, if◌then◌else◌}
-use Rattle.std.specs.List.{list_any}
+use Rattle.std.specs.List.{list_any, list_all}
+use Rattle.ped_base.specs.Lists.{has_some}
 use Rattle.ped_grammar.specs.Columns.{is_blank, is_digit, folded}
 
 -- A to Z and a to z
@@ -28,9 +29,18 @@ abbrev pub has_bad : List ℕ → List ℕ → Bool
 has_bad before [] = false
 has_bad before (c ∷ cs) = is_bad before c || has_bad (before ++ c ∷ []) cs
 
--- in a constant a character is kept as it is; outside, blanks mean nothing and small letters are capitals
+-- an apostrophe and blanks alone behind it, one or more, end these characters
+abbrev pub ends_apart : List ℕ → Bool
+ends_apart [] = false
+ends_apart (c ∷ cs) = (c == 39 && has_some cs && list_all is_blank cs) || ends_apart cs
+
+-- in a constant a character is kept as it is; outside, blanks mean nothing and small letters are capitals, but a constant that begins behind another and blanks is kept apart from it by one blank
 unfoldable pub kept : List ℕ → ℕ → List ℕ
-kept before c = if is_quoted before then c ∷ [] else if is_blank c then [] else folded c ∷ []
+kept before c =
+    if is_quoted before then c ∷ []
+    else if is_blank c then []
+    else if c == 39 && ends_apart before then 32 ∷ 39 ∷ []
+    else folded c ∷ []
 
 -- what is kept of characters that stand behind these
 abbrev pub text_behind : List ℕ → List ℕ → List ℕ

@@ -31,8 +31,8 @@ unfoldable pub is_directive : List ℕ → Bool
 is_directive line = column 2 line == 36 && folded (column 3 line) == 80 && folded (column 4 line) == 69 && folded (column 5 line) == 68
 
 -- another line continues a statement where column 6 is neither blank nor 0 nor a tab; else it begins one
-unfoldable pub continues : List ℕ → Bool
-continues line = not (column 6 line == 32 || column 6 line == 48 || column 6 line == 9)
+unfoldable pub is_continuation : List ℕ → Bool
+is_continuation line = not (column 6 line == 32 || column 6 line == 48 || column 6 line == 9)
 
 -- the number n with the digit c behind it; any other byte means nothing
 unfoldable pub with_digit : ℕ → ℕ → ℕ

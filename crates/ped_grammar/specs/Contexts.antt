@@ -1,15 +1,24 @@
--- What is open at a statement, and what has come before it. Each statement takes the text on, whatever is refused at it.
-use Rattle.std.specs.Prelude.{ℕ, ◌+◌, List, [], ◌∷◌, ◌++◌, max, Bool, true, false, not, ◌||◌, ◌==◌, Option, Some, None, if◌then◌else◌}
-use Rattle.ped_tree.specs.Tree.{StmtTree, Assign, If, Do, Print, Read, Stop, Comment, DeclTree, Program, Implicit, Integer, Dimension, Parameter, Save, Remark}
+-- What is open at a statement, and what has come before it (ANSI X3.9-1978, sections 3.5, 11.6 to 11.10). Each statement takes the text on, whatever is refused at it.
+use Rattle.std.specs.Prelude.{ℕ, ◌+◌, List, [], ◌∷◌, ◌++◌, map, max, Bool, true, false, not, ◌||◌, ◌==◌, Option, Some, None, if◌then◌else◌}
+use Rattle.std.specs.List.{list_any}
+use Rattle.ped_tree.specs.Tree.{Head, StmtTree, Assign, If, Do, Print, Read, Stop, Comment, DeclTree, Program, Implicit, Integer, Dimension, Parameter, Save, Remark}
 use Rattle.ped_tree.specs.Numbering.{statement_count, statements_count}
+use Rattle.ped_grammar.specs.Statement.{Statement}
 use Rattle.ped_grammar.specs.Items.{Item, declares, saves_all, does, continues, logical_if, block_if, else_if, else_line, end_if, begins_do, keeps_private, ends_program, Reading, says, outside_profile, no_form, Entry}
 use Rattle.ped_grammar.specs.Occurrences.{constants_of}
 
--- an open block: the THEN or the ELSE part of an IF, counted with its ELSE IFs, or a DO with its label and its variable
+-- a DO loop that is open: its label, its variable, and the names and the line of its PRIVATE statement, none and 0 before that
+pub record OpenLoop : Type 0 where
+  pub label : ℕ
+  pub variable : List ℕ
+  pub private : List (List ℕ)
+  pub private_line : ℕ
+
+-- an open block: the THEN or the ELSE part of an IF, counted with its ELSE IFs, or a DO loop
 pub data Block : Type 0 where
   in_then : ℕ → Block
   in_else : ℕ → Block
-  in_do : ℕ → List ℕ → Block
+  in_do : OpenLoop → Block
 
 -- at a statement: how far the order of statements has come, the open blocks with the innermost first, the numbered statements and the DO loops before it, the named constants, whether a SAVE with a list and one without have come, whether the statement before it is a DO
 pub record Context : Type 0 where
@@ -39,179 +48,145 @@ at_start = record {
 abbrev pub decl_rank : DeclTree → ℕ
 decl_rank (Program x) = 1
 decl_rank Implicit = 2
-decl_rank (Integer ds) = 3
-decl_rank (Dimension ds) = 3
-decl_rank (Parameter values) = 3
-decl_rank (Save names) = 3
-decl_rank (Remark text) = 3
+decl_rank d = 3
 
 -- the order of statements: declarations, executable statements, END
 abbrev pub rank : Item → ℕ
 rank (declares d) = decl_rank d
 rank saves_all = 3
-rank (does s) = 4
-rank continues = 4
-rank (logical_if c s) = 4
-rank (block_if c) = 4
-rank (else_if c) = 4
-rank else_line = 4
-rank end_if = 4
-rank (begins_do label h) = 4
-rank (keeps_private names) = 4
 rank ends_program = 5
+rank i = 4
 
 -- how many numbered statements an item is
 abbrev pub numbered_in : Item → ℕ
-numbered_in (declares d) = 0
-numbered_in saves_all = 0
 numbered_in (does s) = statement_count s
-numbered_in continues = 0
 numbered_in (logical_if c s) = statements_count s + 1
 numbered_in (block_if c) = 1
 numbered_in (else_if c) = 1
-numbered_in else_line = 0
-numbered_in end_if = 0
 numbered_in (begins_do label h) = 1
-numbered_in (keeps_private names) = 0
-numbered_in ends_program = 0
+numbered_in i = 0
 
 -- a DO statement
 abbrev pub is_do : Item → Bool
-is_do (declares d) = false
-is_do saves_all = false
-is_do (does s) = false
-is_do continues = false
-is_do (logical_if c s) = false
-is_do (block_if c) = false
-is_do (else_if c) = false
-is_do else_line = false
-is_do end_if = false
 is_do (begins_do label h) = true
-is_do (keeps_private names) = false
-is_do ends_program = false
+is_do i = false
 
 -- STOP
 abbrev pub is_stop : StmtTree → Bool
-is_stop (Assign left right) = false
-is_stop (If condition then_part else_part) = false
-is_stop (Do h body) = false
-is_stop (Print items) = false
-is_stop (Read items) = false
 is_stop Stop = true
-is_stop (Comment text) = false
+is_stop s = false
 
--- a statement that may end a DO
+-- a statement that may end a DO (section 11.10)
 abbrev pub may_end : Item → Bool
-may_end (declares d) = false
-may_end saves_all = false
 may_end (does s) = not (is_stop s)
 may_end continues = true
 may_end (logical_if c s) = true
-may_end (block_if c) = false
-may_end (else_if c) = false
-may_end else_line = false
-may_end end_if = false
-may_end (begins_do label h) = false
-may_end (keeps_private names) = false
-may_end ends_program = false
+may_end i = false
 
 -- a declaration is a SAVE with a list
 abbrev pub is_save : DeclTree → Bool
-is_save (Program x) = false
-is_save Implicit = false
-is_save (Integer ds) = false
-is_save (Dimension ds) = false
-is_save (Parameter values) = false
 is_save (Save names) = true
-is_save (Remark text) = false
+is_save d = false
 
 -- a SAVE with a list
 abbrev pub saves_list : Item → Bool
 saves_list (declares d) = is_save d
-saves_list saves_all = false
-saves_list (does s) = false
-saves_list continues = false
-saves_list (logical_if c s) = false
-saves_list (block_if c) = false
-saves_list (else_if c) = false
-saves_list else_line = false
-saves_list end_if = false
-saves_list (begins_do label h) = false
-saves_list (keeps_private names) = false
-saves_list ends_program = false
+saves_list i = false
 
 -- a SAVE without a list
 abbrev pub saves_without : Item → Bool
-saves_without (declares d) = false
 saves_without saves_all = true
-saves_without (does s) = false
-saves_without continues = false
-saves_without (logical_if c s) = false
-saves_without (block_if c) = false
-saves_without (else_if c) = false
-saves_without else_line = false
-saves_without end_if = false
-saves_without (begins_do label h) = false
-saves_without (keeps_private names) = false
-saves_without ends_program = false
+saves_without i = false
+
+-- the DO loops that are open
+abbrev pub open_loops : List Block → List OpenLoop
+open_loops [] = []
+open_loops (in_then n ∷ c) = open_loops c
+open_loops (in_else n ∷ c) = open_loops c
+open_loops (in_do d ∷ c) = d ∷ open_loops c
+
+-- their variables
+abbrev pub open_variables : List Block → List (List ℕ)
+open_variables c = map (λ d. d.variable) (open_loops c)
+
+-- a DO with this label is open
+abbrev pub has_do : ℕ → List Block → Bool
+has_do l c = list_any (λ d. d.label == l) (open_loops c)
+
+-- an IF is open
+abbrev pub has_if : List Block → Bool
+has_if [] = false
+has_if (in_then n ∷ c) = true
+has_if (in_else n ∷ c) = true
+has_if (in_do d ∷ c) = has_if c
+
+-- a DO loop with this label
+abbrev pub is_loop_with : ℕ → Block → Bool
+is_loop_with l (in_do d) = d.label == l
+is_loop_with l b = false
+
+-- the first statement behind a DO that has its label ends the loop, and all that was begun in it; loops with one label end together
+abbrev pub left_by_label : ℕ → List Block → List Block
+left_by_label l [] = []
+left_by_label l (b ∷ c) = if has_do l c then left_by_label l c else if is_loop_with l b then c else b ∷ c
+
+-- what is left open by a statement's label, where it has one
+abbrev pub left_by : Option ℕ → List Block → List Block
+left_by None c = c
+left_by (Some l) c = left_by_label l c
+
+-- ELSE, ELSE IF and END IF end what was begun in the innermost IF
+abbrev pub left_in_if : List Block → List Block
+left_in_if [] = []
+left_in_if (in_then n ∷ c) = in_then n ∷ c
+left_in_if (in_else n ∷ c) = in_else n ∷ c
+left_in_if (in_do d ∷ c) = if has_if c then left_in_if c else in_do d ∷ c
 
 -- ELSE: the THEN part of the innermost IF gives way to its ELSE part
 abbrev pub with_else : List Block → List Block
-with_else [] = []
 with_else (in_then n ∷ c) = in_else n ∷ c
-with_else (in_else n ∷ c) = in_else n ∷ c
-with_else (in_do l v ∷ c) = in_do l v ∷ c
+with_else c = c
 
 -- ELSE IF: one IF more, whose THEN part begins
 abbrev pub with_else_if : List Block → List Block
-with_else_if [] = []
 with_else_if (in_then n ∷ c) = in_then (n + 1) ∷ c
-with_else_if (in_else n ∷ c) = in_else n ∷ c
-with_else_if (in_do l v ∷ c) = in_do l v ∷ c
+with_else_if c = c
 
 -- END IF: the innermost IF is closed with its ELSE IFs
 abbrev pub without_if : List Block → List Block
-without_if [] = []
 without_if (in_then n ∷ c) = c
 without_if (in_else n ∷ c) = c
-without_if (in_do l v ∷ c) = in_do l v ∷ c
+without_if c = c
 
--- the innermost loops that have this label are closed
-abbrev pub closed : ℕ → List Block → List Block
-closed l [] = []
-closed l (in_then n ∷ c) = in_then n ∷ c
-closed l (in_else n ∷ c) = in_else n ∷ c
-closed l (in_do m v ∷ c) = if m == l then closed l c else in_do m v ∷ c
+-- a loop that has just begun
+abbrev pub begun : ℕ → Head → OpenLoop
+begun l h = record { label = l; variable = h.variable; private = []; private_line = 0 }
 
--- the same for a statement's label, where it has one
-abbrev pub closed_by : Option ℕ → List Block → List Block
-closed_by None c = c
-closed_by (Some l) c = closed l c
+-- PRIVATE on this line belongs to the innermost block, which is a DO
+abbrev pub with_private : ℕ → List (List ℕ) → List Block → List Block
+with_private line names (in_do d ∷ c) = in_do (record d { private = names; private_line = line }) ∷ c
+with_private line names c = c
 
--- the blocks that are open behind a statement with this label
-abbrev pub blocks_behind : Option ℕ → Item → List Block → List Block
-blocks_behind label (declares d) c = c
-blocks_behind label saves_all c = c
-blocks_behind label (does s) c = if may_end (does s) then closed_by label c else c
-blocks_behind label continues c = closed_by label c
-blocks_behind label (logical_if e s) c = closed_by label c
-blocks_behind label (block_if e) c = in_then 1 ∷ c
-blocks_behind label (else_if e) c = with_else_if c
-blocks_behind label else_line c = with_else c
-blocks_behind label end_if c = without_if c
-blocks_behind label (begins_do l h) c = in_do l h.variable ∷ c
-blocks_behind label (keeps_private names) c = c
-blocks_behind label ends_program c = c
+-- the blocks that are open behind a statement, by whether the one before it is a DO; END ends them all
+abbrev pub blocks_behind : Bool → Statement → Item → List Block → List Block
+blocks_behind behind_do s (block_if e) c = in_then 1 ∷ left_by s.label c
+blocks_behind behind_do s (else_if e) c = with_else_if (left_in_if (left_by s.label c))
+blocks_behind behind_do s else_line c = with_else (left_in_if (left_by s.label c))
+blocks_behind behind_do s end_if c = without_if (left_in_if (left_by s.label c))
+blocks_behind behind_do s (begins_do l h) c = in_do (begun l h) ∷ left_by s.label c
+blocks_behind behind_do s (keeps_private names) c = left_by s.label (if behind_do then with_private s.line names c else c)
+blocks_behind behind_do s ends_program c = []
+blocks_behind behind_do s i c = left_by s.label c
 
 -- how many loops a DO statement opens
 abbrev pub loops_in : Item → ℕ
 loops_in i = if is_do i then 1 else 0
 
 -- behind a statement that says this
-abbrev pub behind_item : Context → Option ℕ → Item → Context
-behind_item c label i = record {
+abbrev pub behind_item : Context → Statement → Item → Context
+behind_item c s i = record {
   phase = max c.phase (rank i);
-  blocks = blocks_behind label i c.blocks;
+  blocks = blocks_behind c.behind_do s i c.blocks;
   statements = c.statements + numbered_in i;
   loops = c.loops + loops_in i;
   constants = c.constants ++ constants_of i;
@@ -220,15 +195,14 @@ behind_item c label i = record {
   behind_do = is_do i;
 }
 
--- behind a statement, which changes nothing where it has no form
-abbrev pub behind_reading : Context → Option ℕ → Reading → Context
-behind_reading c label (says i) = behind_item c label i
-behind_reading c label outside_profile = record c { behind_do = false }
-behind_reading c label no_form = record c { behind_do = false }
+-- behind a statement; of one that has no form the label counts alone
+abbrev pub behind_reading : Context → Statement → Reading → Context
+behind_reading c s (says i) = behind_item c s i
+behind_reading c s r = record c { blocks = left_by s.label c.blocks; behind_do = false }
 
 -- behind a statement
 abbrev pub behind : Context → Entry → Context
-behind c e = behind_reading c e.statement.label e.reading
+behind c e = behind_reading c e.statement e.reading
 
 -- behind statements
 abbrev pub behind_all : Context → List Entry → Context

@@ -2,7 +2,7 @@
 use Rattle.std.specs.Prelude.{ℕ, ◌+◌, List, [], ◌∷◌, ◌++◌, ◌||◌, ◌==◌, not, map, filter, take, drop, length, if◌then◌else◌}
 use Rattle.std.specs.List.{flat_map}
 use Rattle.std.specs.Str.Lines.{lines}
-use Rattle.ped_grammar.specs.Columns.{is_blank, folded, is_comment, is_directive, continues, label_of, statement_columns}
+use Rattle.ped_grammar.specs.Columns.{is_blank, folded, is_comment, is_directive, is_continuation, label_of, statement_columns}
 use Rattle.ped_grammar.specs.Characters.{text_of}
 use Rattle.ped_grammar.specs.Statement.{Note, Statement, Statements}
 
@@ -16,7 +16,7 @@ abbrev pub further_lines : ℕ → List (List ℕ) → List NumberedLine
 further_lines n [] = []
 further_lines n (line ∷ more) =
     if is_comment line then further_lines (n + 1) more
-    else if continues line then record { number = n; bytes = line } ∷ further_lines (n + 1) more
+    else if is_continuation line then record { number = n; bytes = line } ∷ further_lines (n + 1) more
     else []
 
 -- columns 7 to 72 of lines, joined
@@ -54,7 +54,7 @@ abbrev pub notes_within : (ℕ → List ℕ → List Note) → List Note → ℕ
 notes_within at before n [] = []
 notes_within at before n (line ∷ more) =
     if is_comment line then notes_within at (before ++ at n line) (n + 1) more
-    else if continues line then (before ++ notes_within at [] (n + 1) more)
+    else if is_continuation line then (before ++ notes_within at [] (n + 1) more)
     else []
 
 -- the notes behind the last statement, from line n on, where these stand directly before line n
@@ -79,7 +79,7 @@ abbrev pub statements_from : List Note → List Note → ℕ → List (List ℕ)
 statements_from comments directives n [] = []
 statements_from comments directives n (line ∷ more) =
     if is_comment line then statements_from (comments ++ comment_at n line) (directives ++ directive_at n line) (n + 1) more
-    else if continues line then statements_from [] [] (n + 1) more
+    else if is_continuation line then statements_from [] [] (n + 1) more
     else statement_at comments directives n line more ∷ statements_from [] [] (n + 1) more
 
 -- the statements of a text, with the notes behind the last

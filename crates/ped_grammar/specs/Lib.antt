@@ -7,6 +7,7 @@ pub mod ExpressionForms
 pub mod Grouping
 pub mod ItemViews
 pub mod Items
+pub mod LimitNumbers
 pub mod LineRefusals
 pub mod Literals
 pub mod Occurrences

@@ -2,10 +2,11 @@
 use Rattle.std.specs.Prelude.{ℕ, ◌+◌, ◌-◌, List, [], ◌∷◌, ◌++◌, Option, Bool, true, false, ◌||◌, ◌==◌, if◌then◌else◌}
 use Rattle.std.specs.List.{flat_map}
 use Rattle.std.specs.Str.Lines.{lines}
-use Rattle.ped_grammar.specs.Columns.{is_comment, continues, has_tab, has_bad_label, has_label_field, statement_columns}
+use Rattle.ped_grammar.specs.Columns.{is_comment, is_continuation, has_tab, has_bad_label, has_label_field, statement_columns}
 use Rattle.ped_grammar.specs.Characters.{is_quoted, has_bad}
 use Rattle.ped_grammar.specs.Grouping.{NumberedLine, further_lines, joined_columns}
-use Rattle.ped_grammar.specs.Refusal.{Finding, Tab, BadLabel, TooManyContinuations, ContinuationFirst, BadCharacter, OpenConstant, stands, first_of}
+use Rattle.ped_grammar.specs.LimitNumbers.{most_continuations}
+use Rattle.ped_grammar.specs.Refusal.{Finding, Tab, BadLabel, TooManyContinuations, ContinuationFirst, BadCharacter, OpenConstant, refused_if, first_of}
 
 -- a line that is no comment begins a statement, or continues one that so many lines may still continue, or continues none
 pub data Role : Type 0 where
@@ -21,24 +22,22 @@ label_is_bad Orphan line = has_label_field line
 
 -- no further line may continue the statement
 abbrev pub is_too_many : Role → Bool
-is_too_many Initial = false
 is_too_many (Continuation left) = left == 0
-is_too_many Orphan = false
+is_too_many role = false
 
 -- no statement has begun
 abbrev pub is_orphan : Role → Bool
-is_orphan Initial = false
-is_orphan (Continuation left) = false
 is_orphan Orphan = true
+is_orphan role = false
 
 -- what stands at line n, where these characters of its statement stand before it
 unfoldable pub at_line : ℕ → Role → List ℕ → List ℕ → List Finding
 at_line n role before line =
-    stands (has_tab line) Tab n
-    ++ stands (label_is_bad role line) BadLabel n
-    ++ stands (is_too_many role) TooManyContinuations n
-    ++ stands (is_orphan role) ContinuationFirst n
-    ++ stands (has_bad before (statement_columns line)) BadCharacter n
+    refused_if (has_tab line) Tab n
+    ++ refused_if (label_is_bad role line) BadLabel n
+    ++ refused_if (is_too_many role) TooManyContinuations n
+    ++ refused_if (is_orphan role) ContinuationFirst n
+    ++ refused_if (has_bad before (statement_columns line)) BadCharacter n
 
 -- what stands at the further lines of a statement, where so many may still come and these characters stand before them
 abbrev pub at_further : ℕ → List ℕ → List NumberedLine → List Finding
@@ -47,14 +46,14 @@ at_further left before (l ∷ ls) = at_line l.number (Continuation left) before 
 
 -- what stands in the rest of the statement that begins on line first, and at its end: a constant is open where the statement has an odd number of apostrophes
 abbrev pub in_rest : ℕ → ℕ → List ℕ → List NumberedLine → List Finding
-in_rest first left before further = at_further left before further ++ stands (is_quoted (before ++ joined_columns further)) OpenConstant first
+in_rest first left before further = at_further left before further ++ refused_if (is_quoted (before ++ joined_columns further)) OpenConstant first
 
 -- what stands in the statements that begin on line n or behind it; a statement has at most 19 continuation lines
 abbrev pub in_statements : ℕ → List (List ℕ) → List Finding
 in_statements n [] = []
 in_statements n (line ∷ more) =
-    if is_comment line || continues line then in_statements (n + 1) more
-    else at_line n Initial [] line ++ in_rest n 19 (statement_columns line) (further_lines (n + 1) more) ++ in_statements (n + 1) more
+    if is_comment line || is_continuation line then in_statements (n + 1) more
+    else at_line n Initial [] line ++ in_rest n most_continuations (statement_columns line) (further_lines (n + 1) more) ++ in_statements (n + 1) more
 
 -- what stands at continuation lines before any initial line
 abbrev pub at_orphans : List NumberedLine → List Finding

@@ -1,12 +1,13 @@
 -- Literals above the greatest INTEGER. A statement with one has its form all the same, and is refused for its limit.
 use Rattle.std.specs.Prelude.{Bool, false, ◌||◌, nat_lt}
 use Rattle.std.specs.List.{list_any}
+use Rattle.ped_grammar.specs.LimitNumbers.{greatest_literal}
 use Rattle.ped_tree.specs.Tree.{ExprTree, ExprTrees, Int, Var, Element, Neg, Add, Sub, Mul, Div, Pow, Call, no_exprs, more_exprs, CondTree, Rel, Not, And, Or, ItemTree, Value, Text, Head, StmtTree, StmtTrees, Assign, If, Do, Print, Read, Stop, Comment, no_stmts, more_stmts, DeclaratorTree, DeclTree, Program, Implicit, Integer, Dimension, Parameter, Save, Remark}
 
 abbrev mutual
   -- a literal above 2147483647 stands in the expression
   pub has_large_literal : ExprTree → Bool
-  has_large_literal (Int n) = nat_lt 2147483647 n
+  has_large_literal (Int n) = nat_lt greatest_literal n
   has_large_literal (Var x) = false
   has_large_literal (Element x subscripts) = have_large_literal subscripts
   has_large_literal (Neg a) = has_large_literal a
@@ -60,10 +61,7 @@ declarator_has_large_literal d = list_any (λ b. has_large_literal b.lower || ha
 
 -- a literal above 2147483647 stands in the declaration
 abbrev pub decl_has_large_literal : DeclTree → Bool
-decl_has_large_literal (Program x) = false
-decl_has_large_literal Implicit = false
 decl_has_large_literal (Integer ds) = list_any declarator_has_large_literal ds
 decl_has_large_literal (Dimension ds) = list_any declarator_has_large_literal ds
 decl_has_large_literal (Parameter values) = list_any (λ v. has_large_literal v.1) values
-decl_has_large_literal (Save names) = false
-decl_has_large_literal (Remark text) = false
+decl_has_large_literal d = false

@@ -1,10 +1,9 @@
--- The names that occur in a program, in text order. An intrinsic function's name is none of them.
-use Rattle.std.specs.Prelude.{ℕ, List, [], ◌∷◌, ◌++◌, map, filter, take, drop, codes, Bool, not, ◌&&◌, ◌==◌, if◌then◌else◌}
-use Rattle.std.specs.List.{list_any, flat_map}
-use Rattle.std.specs.Cmp.Lexicographic.{pointwise}
-use Rattle.ped_tree.specs.Tree.{ExprTree, ExprTrees, Int, Var, Element, Neg, Add, Sub, Mul, Div, Pow, Call, no_exprs, more_exprs, CondTree, Rel, Not, And, Or, ItemTree, Value, Text, Head, StmtTree, StmtTrees, Assign, If, Do, Print, Read, Stop, Comment, no_stmts, more_stmts, DeclaratorTree, DeclTree, Program, Implicit, Integer, Dimension, Parameter, Save, Remark}
-use Rattle.ped_base.specs.Lists.{is_same_text}
+-- The names that occur in the statements of a program, in text order. An intrinsic function's name is none of them.
+use Rattle.std.specs.Prelude.{ℕ, List, [], ◌∷◌, ◌++◌, map, filter, take, drop, codes, Bool, true, false, not, ◌&&◌, if◌then◌else◌}
+use Rattle.std.specs.List.{flat_map}
+use Rattle.ped_base.specs.Lists.{is_same_text, is_among}
 use Rattle.ped_tree.specs.Accesses.{constants_in}
+use Rattle.ped_tree.specs.NamesIn.{cond_names, head_names, stmt_names, stmts_names, decl_names, first_occurrences}
 use Rattle.ped_grammar.specs.Words.{is_name}
 use Rattle.ped_grammar.specs.Statement.{Note}
 use Rattle.ped_grammar.specs.Items.{Item, declares, saves_all, does, continues, logical_if, block_if, else_if, else_line, end_if, begins_do, keeps_private, ends_program, Reading, says, outside_profile, no_form, Entry}
@@ -12,53 +11,28 @@ use Rattle.ped_grammar.specs.Items.{Item, declares, saves_all, does, continues, 
 -- the names in what a statement says
 abbrev pub names_in : Item → List (List ℕ)
 names_in (declares d) = decl_names d
-names_in saves_all = []
 names_in (does s) = stmt_names s
-names_in continues = []
 names_in (logical_if c s) = cond_names c ++ stmts_names s
 names_in (block_if c) = cond_names c
 names_in (else_if c) = cond_names c
-names_in else_line = []
-names_in end_if = []
 names_in (begins_do label h) = head_names h
 names_in (keeps_private names) = names
-names_in ends_program = []
+names_in i = []
 
--- the variables of the DO statement that an item is
+-- the variable of the DO statement that an item is
 abbrev pub do_variables : Item → List (List ℕ)
-do_variables (declares d) = []
-do_variables saves_all = []
-do_variables (does s) = []
-do_variables continues = []
-do_variables (logical_if c s) = []
-do_variables (block_if c) = []
-do_variables (else_if c) = []
-do_variables else_line = []
-do_variables end_if = []
 do_variables (begins_do label h) = h.variable ∷ []
-do_variables (keeps_private names) = []
-do_variables ends_program = []
+do_variables i = []
 
 -- the constants that an item names
 abbrev pub constants_of : Item → List (List ℕ)
 constants_of (declares d) = constants_in d
-constants_of saves_all = []
-constants_of (does s) = []
-constants_of continues = []
-constants_of (logical_if c s) = []
-constants_of (block_if c) = []
-constants_of (else_if c) = []
-constants_of else_line = []
-constants_of end_if = []
-constants_of (begins_do label h) = []
-constants_of (keeps_private names) = []
-constants_of ends_program = []
+constants_of i = []
 
 -- what the item of a statement has, nothing where its text has no form
 abbrev pub of_reading : (Item → List (List ℕ)) → Reading → List (List ℕ)
 of_reading has (says i) = has i
-of_reading has outside_profile = []
-of_reading has no_form = []
+of_reading has r = []
 
 -- the name that a directive rejects: what follows REJECT
 abbrev pub rejected_name : Note → List ℕ
@@ -66,7 +40,7 @@ rejected_name d = drop 6 d.text
 
 -- the text of a directive is REJECT and a name
 abbrev pub is_rejection : List ℕ → Bool
-is_rejection text = pointwise ◌==◌ (take 6 text) (codes "REJECT") && is_name (drop 6 text)
+is_rejection text = is_same_text (take 6 text) (codes "REJECT") && is_name (drop 6 text)
 
 -- the names that directives reject; one with another text names nothing
 abbrev pub rejected_names : List Note → List (List ℕ)
@@ -84,8 +58,27 @@ all_do_variables entries = flat_map (λ e. of_reading do_variables e.reading) en
 abbrev pub all_constants : List Entry → List (List ℕ)
 all_constants entries = flat_map (λ e. of_reading constants_of e.reading) entries
 
--- what SAVE without a list is read as: all variables that are the variable of no DO, in the order of their first occurrence
-abbrev pub saved_names : List Entry → List (List ℕ)
-saved_names entries =
+-- END
+abbrev pub is_end : Item → Bool
+is_end ends_program = true
+is_end i = false
+
+-- the statement is END
+abbrev pub is_end_entry : Reading → Bool
+is_end_entry (says i) = is_end i
+is_end_entry r = false
+
+-- the statements of the program: those up to END
+abbrev pub up_to_end : List Entry → List Entry
+up_to_end [] = []
+up_to_end (e ∷ es) = if is_end_entry e.reading then e ∷ [] else e ∷ up_to_end es
+
+-- the variables among the names of these statements that are the variable of no DO, in the order of their first occurrence
+abbrev pub saved_among : List Entry → List (List ℕ)
+saved_among entries =
     filter (λ x. not (is_among x (all_constants entries)) && not (is_among x (all_do_variables entries)))
     (first_occurrences [] (flat_map entry_names entries))
+
+-- what SAVE without a list is read as: the variables of the program that are the variable of no DO
+abbrev pub saved_names : List Entry → List (List ℕ)
+saved_names entries = saved_among (up_to_end entries)

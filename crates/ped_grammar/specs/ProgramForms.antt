@@ -45,24 +45,14 @@ decl_trees saved (a_save_of_all s) = remarks_of s ++ save_of saved
 -- the comments before the first statement that is none
 abbrev pub front_remarks : List StmtTree → List DeclTree
 front_remarks [] = []
-front_remarks (Assign left right ∷ rest) = []
-front_remarks (If condition then_part else_part ∷ rest) = []
-front_remarks (Do h body ∷ rest) = []
-front_remarks (Print items ∷ rest) = []
-front_remarks (Read items ∷ rest) = []
-front_remarks (Stop ∷ rest) = []
 front_remarks (Comment text ∷ rest) = Remark text ∷ front_remarks rest
+front_remarks (s ∷ rest) = []
 
 -- the statements from the first on that is no comment
 abbrev pub behind_front : List StmtTree → List StmtTree
 behind_front [] = []
-behind_front (Assign left right ∷ rest) = Assign left right ∷ rest
-behind_front (If condition then_part else_part ∷ rest) = If condition then_part else_part ∷ rest
-behind_front (Do h body ∷ rest) = Do h body ∷ rest
-behind_front (Print items ∷ rest) = Print items ∷ rest
-behind_front (Read items ∷ rest) = Read items ∷ rest
-behind_front (Stop ∷ rest) = Stop ∷ rest
 behind_front (Comment text ∷ rest) = behind_front rest
+behind_front (s ∷ rest) = s ∷ rest
 
 -- the executable statements with the comments before and among them and before END
 abbrev pub all_trees : ProgramForm → List StmtTree
@@ -79,21 +69,12 @@ program_form_tree saved f = record {
 abbrev pub line_count : List (List ℕ) → Item → ℕ
 line_count saved (declares d) = 1
 line_count saved saves_all = if has_some saved then 1 else 0
-line_count saved (does s) = numbered_in (does s)
-line_count saved continues = 0
-line_count saved (logical_if c s) = numbered_in (logical_if c s)
-line_count saved (block_if c) = 1
-line_count saved (else_if c) = 1
-line_count saved else_line = 0
-line_count saved end_if = 0
-line_count saved (begins_do label h) = 1
 line_count saved (keeps_private names) = 1
-line_count saved ends_program = 0
+line_count saved i = numbered_in i
 
 abbrev pub lines_of_reading : List (List ℕ) → ℕ → Reading → List ℕ
 lines_of_reading saved line (says i) = replicate (line_count saved i) line
-lines_of_reading saved line outside_profile = []
-lines_of_reading saved line no_form = []
+lines_of_reading saved line r = []
 
 -- the first line of each declaration, of each numbered statement and of each PRIVATE, in text order
 abbrev pub first_lines : List (List ℕ) → List Entry → List ℕ

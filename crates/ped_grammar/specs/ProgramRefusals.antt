@@ -1,83 +1,56 @@
--- Which of the refusals 7 to 13 stand at the statements of a text. Each statement is looked at, whatever stands before it.
-use Rattle.std.specs.Prelude.{ℕ, ◌+◌, List, [], ◌∷◌, ◌++◌, map, length, Bool, true, false, not, ◌&&◌, ◌||◌, ◌==◌, nat_lt, nat_le, Option, Some, None, if◌then◌else◌}
+-- Which of the refusals 7 to 13 a text meets at its statements (ANSI X3.9-1978, sections 3.5, 11.6 to 11.10; the limits are the profile's own). Each statement is looked at, whatever is refused before it.
+use Rattle.std.specs.Prelude.{ℕ, ◌+◌, List, [], ◌∷◌, ◌++◌, map, length, Bool, true, false, not, ◌&&◌, ◌||◌, nat_lt, nat_le, Option, Some, None, if◌then◌else◌}
 use Rattle.std.specs.List.{list_any, flat_map}
-use Rattle.ped_tree.specs.Tree.{ExprTree, Int, Var, Element, Neg, Add, Sub, Mul, Div, Pow, Call, StmtTree, StmtTrees, Assign, If, Do, Print, Read, Stop, Comment, no_stmts, more_stmts, DeclTree, Program, Implicit, Integer, Dimension, Parameter, Save, Remark}
 use Rattle.ped_base.specs.Lists.{has_some, is_among}
+use Rattle.ped_tree.specs.Tree.{ExprTree, Int, Var, Element, Neg, Add, Sub, Mul, Div, Pow, Call, StmtTree, StmtTrees, Assign, If, Do, Print, Read, Stop, Comment, no_stmts, more_stmts, DeclTree, Program, Implicit, Integer, Dimension, Parameter, Save, Remark}
 use Rattle.ped_tree.specs.Accesses.{own_accesses}
 use Rattle.ped_tree.specs.Printing.{own_text, private_text, decl_text}
+use Rattle.ped_grammar.specs.LimitNumbers.{most_dimensions, most_statements, most_loops_nested, most_blocks_nested, most_references, most_characters}
 use Rattle.ped_grammar.specs.Literals.{cond_has_large_literal, head_has_large_literal, stmt_has_large_literal, decl_has_large_literal}
-use Rattle.ped_grammar.specs.Refusal.{Finding, Syntax, NotInProfile, OpenBlock, BadTerminal, IndexAssigned, StopPlace, Limit, stands}
+use Rattle.ped_grammar.specs.Refusal.{Finding, Syntax, NotInProfile, OpenBlock, BadTerminal, IndexAssigned, StopPlace, Limit, refused_if}
 use Rattle.ped_grammar.specs.Statement.{Note, Statement, Statements}
 use Rattle.ped_grammar.specs.Items.{Item, declares, saves_all, does, continues, logical_if, block_if, else_if, else_line, end_if, begins_do, keeps_private, ends_program, Reading, says, outside_profile, no_form, Entry}
 use Rattle.ped_grammar.specs.Occurrences.{of_reading, do_variables, is_rejection, saved_names}
-use Rattle.ped_grammar.specs.Contexts.{Block, in_then, in_else, in_do, Context, at_start, rank, numbered_in, is_do, is_stop, may_end, saves_list, saves_without, closed, behind, behind_all}
+use Rattle.ped_grammar.specs.Contexts.{Block, in_then, in_else, in_do, Context, at_start, rank, numbered_in, is_do, is_stop, may_end, saves_list, saves_without, open_loops, open_variables, has_do, has_if, is_loop_with, behind, behind_all}
 use Rattle.ped_grammar.specs.BlockForms.{whole_head}
 
 -- a test of what a statement says, false where it says nothing
 abbrev pub where_it_says : (Item → Bool) → Reading → Bool
 where_it_says test (says i) = test i
-where_it_says test outside_profile = false
-where_it_says test no_form = false
+where_it_says test r = false
 
 -- the form is one that the profile leaves out
-abbrev pub is_outside : Reading → Bool
-is_outside (says i) = false
-is_outside outside_profile = true
-is_outside no_form = false
+abbrev pub is_left_out : Reading → Bool
+is_left_out outside_profile = true
+is_left_out r = false
 
 -- the text has no form at all
 abbrev pub is_formless : Reading → Bool
-is_formless (says i) = false
-is_formless outside_profile = false
 is_formless no_form = true
+is_formless r = false
 
--- PROGRAM and IMPLICIT come once and before what follows them; declarations come before executable statements
+-- PROGRAM and IMPLICIT come once and before what follows them; declarations come before executable statements (section 3.5)
 abbrev pub is_out_of_order : ℕ → ℕ → Bool
 is_out_of_order phase rank = if nat_lt rank 3 then nat_le rank phase else nat_lt rank phase
 
--- an IF is open whose ELSE part hasn't begun
+-- the innermost IF is open, and its ELSE part hasn't begun
 abbrev pub takes_else : List Block → Bool
 takes_else [] = false
 takes_else (in_then n ∷ c) = true
 takes_else (in_else n ∷ c) = false
-takes_else (in_do l v ∷ c) = takes_else c
-
--- an IF is open
-abbrev pub takes_end_if : List Block → Bool
-takes_end_if [] = false
-takes_end_if (in_then n ∷ c) = true
-takes_end_if (in_else n ∷ c) = true
-takes_end_if (in_do l v ∷ c) = takes_end_if c
+takes_else (in_do d ∷ c) = takes_else c
 
 -- ELSE, ELSE IF or END IF without its IF
 abbrev pub lacks_if : List Block → Item → Bool
-lacks_if c (declares d) = false
-lacks_if c saves_all = false
-lacks_if c (does s) = false
-lacks_if c continues = false
-lacks_if c (logical_if e s) = false
-lacks_if c (block_if e) = false
 lacks_if c (else_if e) = not (takes_else c)
 lacks_if c else_line = not (takes_else c)
-lacks_if c end_if = not (takes_end_if c)
-lacks_if c (begins_do l h) = false
-lacks_if c (keeps_private names) = false
-lacks_if c ends_program = false
+lacks_if c end_if = not (has_if c)
+lacks_if c i = false
 
 -- PRIVATE that isn't the first statement behind a DO
 abbrev pub is_late_private : Bool → Item → Bool
-is_late_private behind_do (declares d) = false
-is_late_private behind_do saves_all = false
-is_late_private behind_do (does s) = false
-is_late_private behind_do continues = false
-is_late_private behind_do (logical_if e s) = false
-is_late_private behind_do (block_if e) = false
-is_late_private behind_do (else_if e) = false
-is_late_private behind_do else_line = false
-is_late_private behind_do end_if = false
-is_late_private behind_do (begins_do l h) = false
 is_late_private behind_do (keeps_private names) = not behind_do
-is_late_private behind_do ends_program = false
+is_late_private behind_do i = false
 
 -- a SAVE behind another, at least one of the two without a list
 abbrev pub saves_again : Context → Item → Bool
@@ -93,71 +66,41 @@ is_behind_end c = nat_le 5 c.phase
 
 -- no form, or a form that can't stand there; a form that the profile leaves out is refused as that
 abbrev pub breaks_syntax : Context → Reading → Bool
-breaks_syntax c r = not (is_outside r) && (is_behind_end c || is_formless r || where_it_says (is_misplaced c) r)
+breaks_syntax c r = not (is_left_out r) && (is_behind_end c || is_formless r || where_it_says (is_misplaced c) r)
 
 -- the innermost open block is a DO
 abbrev pub is_in_do : List Block → Bool
-is_in_do [] = false
-is_in_do (in_then n ∷ c) = false
-is_in_do (in_else n ∷ c) = false
-is_in_do (in_do l v ∷ c) = true
+is_in_do (in_do d ∷ c) = true
+is_in_do c = false
 
 -- END while a block is open; ELSE, ELSE IF or END IF while a DO is open in the IF
 abbrev pub leaves_open : List Block → Item → Bool
-leaves_open c (declares d) = false
-leaves_open c saves_all = false
-leaves_open c (does s) = false
-leaves_open c continues = false
-leaves_open c (logical_if e s) = false
-leaves_open c (block_if e) = false
 leaves_open c (else_if e) = is_in_do c
 leaves_open c else_line = is_in_do c
 leaves_open c end_if = is_in_do c
-leaves_open c (begins_do l h) = false
-leaves_open c (keeps_private names) = false
 leaves_open c ends_program = has_some c
+leaves_open c i = false
 
--- a DO with this label is open
-abbrev pub has_do : ℕ → List Block → Bool
-has_do l [] = false
-has_do l (in_then n ∷ c) = has_do l c
-has_do l (in_else n ∷ c) = has_do l c
-has_do l (in_do m v ∷ c) = m == l || has_do l c
+-- without the innermost loops that have this label
+abbrev pub closed : ℕ → List Block → List Block
+closed l [] = []
+closed l (b ∷ c) = if is_loop_with l b then closed l c else b ∷ c
 
 -- the label of an open DO on a statement that can't end one, or while a block is open in it that isn't a DO with that label
 abbrev pub ends_badly : List Block → Option ℕ → Reading → Bool
 ends_badly c None r = false
 ends_badly c (Some l) r = has_do l c && not (where_it_says may_end r && not (has_do l (closed l c)))
 
--- the variables of the open DO loops
-abbrev pub open_variables : List Block → List (List ℕ)
-open_variables [] = []
-open_variables (in_then n ∷ c) = open_variables c
-open_variables (in_else n ∷ c) = open_variables c
-open_variables (in_do l v ∷ c) = v ∷ open_variables c
-
 -- the scalar that a left side or an item of a READ is
 abbrev pub scalar_of : ExprTree → List (List ℕ)
-scalar_of (Int n) = []
 scalar_of (Var x) = x ∷ []
-scalar_of (Element x subscripts) = []
-scalar_of (Neg a) = []
-scalar_of (Add a b) = []
-scalar_of (Sub a b) = []
-scalar_of (Mul a b) = []
-scalar_of (Div a b) = []
-scalar_of (Pow a b) = []
-scalar_of (Call f arguments) = []
+scalar_of e = []
 
 -- the scalars that a simple statement assigns or reads into
 abbrev pub assigned_by : StmtTree → List (List ℕ)
 assigned_by (Assign left right) = scalar_of left
-assigned_by (If condition then_part else_part) = []
-assigned_by (Do h body) = []
-assigned_by (Print items) = []
 assigned_by (Read items) = flat_map scalar_of items
-assigned_by Stop = []
-assigned_by (Comment text) = []
+assigned_by s = []
 
 -- the statements that are behind a logical IF
 abbrev pub listed_stmts : StmtTrees → List StmtTree
@@ -166,65 +109,33 @@ listed_stmts (more_stmts s rest) = s ∷ listed_stmts rest
 
 -- the scalars that a statement assigns, reads into, or has as DO variable
 abbrev pub assigned_in : Item → List (List ℕ)
-assigned_in (declares d) = []
-assigned_in saves_all = []
 assigned_in (does s) = assigned_by s
-assigned_in continues = []
 assigned_in (logical_if e s) = flat_map assigned_by (listed_stmts s)
-assigned_in (block_if e) = []
-assigned_in (else_if e) = []
-assigned_in else_line = []
-assigned_in end_if = []
 assigned_in (begins_do l h) = h.variable ∷ []
-assigned_in (keeps_private names) = []
-assigned_in ends_program = []
+assigned_in i = []
 
 -- the names of a PRIVATE statement
 abbrev pub private_in : Item → List (List ℕ)
-private_in (declares d) = []
-private_in saves_all = []
-private_in (does s) = []
-private_in continues = []
-private_in (logical_if e s) = []
-private_in (block_if e) = []
-private_in (else_if e) = []
-private_in else_line = []
-private_in end_if = []
-private_in (begins_do l h) = []
 private_in (keeps_private names) = names
-private_in ends_program = []
-
--- the variables of the DO loops that begin while so many blocks are open
-abbrev pub inner_variables : ℕ → Context → List Entry → List (List ℕ)
-inner_variables depth c [] = []
-inner_variables depth c (e ∷ rest) =
-    if nat_lt (length c.blocks) depth then []
-    else of_reading do_variables e.reading ++ inner_variables depth (behind c e) rest
+private_in i = []
 
 -- some name is one of the others
 abbrev pub meets : List (List ℕ) → List (List ℕ) → Bool
 meets names others = list_any (λ x. is_among x others) names
 
--- the variable of a loop round the statement is assigned, read into or a DO variable again, or PRIVATE names that of its loop, of one round it or of one in it
-abbrev pub assigns_index : Context → Entry → List Entry → Bool
-assigns_index c e rest =
-    meets (of_reading assigned_in e.reading) (open_variables c.blocks)
-    || meets (of_reading private_in e.reading) (open_variables c.blocks ++ inner_variables (length c.blocks) (behind c e) rest)
+-- the variable of a loop round the statement is assigned, read into or a DO variable again, or named in PRIVATE (section 11.10.5)
+abbrev pub assigns_index : Context → Reading → Bool
+assigns_index c r = meets (of_reading assigned_in r ++ of_reading private_in r) (open_variables c.blocks)
+
+-- a DO whose variable the PRIVATE statement of a loop round it names, which is refused at that statement
+abbrev pub at_private : Context → Reading → List Finding
+at_private c r = flat_map (λ d. refused_if (meets (of_reading do_variables r) d.private) IndexAssigned d.private_line) (open_loops c.blocks)
 
 -- STOP, also behind a logical IF
 abbrev pub stops : Item → Bool
-stops (declares d) = false
-stops saves_all = false
 stops (does s) = is_stop s
-stops continues = false
 stops (logical_if e s) = list_any is_stop (listed_stmts s)
-stops (block_if e) = false
-stops (else_if e) = false
-stops else_line = false
-stops end_if = false
-stops (begins_do l h) = false
-stops (keeps_private names) = false
-stops ends_program = false
+stops i = false
 
 -- the next statement's private names, which are written at its DO
 abbrev pub private_behind : List Entry → List (List ℕ)
@@ -233,103 +144,70 @@ private_behind (e ∷ rest) = of_reading private_in e.reading
 
 -- the numbered statements that an item is, each by itself, where these are the private names of a DO
 abbrev pub statements_of_item : List (List ℕ) → Item → List StmtTree
-statements_of_item private (declares d) = []
-statements_of_item private saves_all = []
 statements_of_item private (does s) = s ∷ []
-statements_of_item private continues = []
 statements_of_item private (logical_if e s) = If e no_stmts no_stmts ∷ listed_stmts s
 statements_of_item private (block_if e) = If e no_stmts no_stmts ∷ []
 statements_of_item private (else_if e) = If e no_stmts no_stmts ∷ []
-statements_of_item private else_line = []
-statements_of_item private end_if = []
 statements_of_item private (begins_do l h) = Do (whole_head h private []) no_stmts ∷ []
-statements_of_item private (keeps_private names) = []
-statements_of_item private ends_program = []
+statements_of_item private i = []
 
--- the printed texts of a statement without indentation, where so many DO loops begin before it and SAVE without a list is read as these names
+-- the texts of what is printed for an item, by the names of SAVE and the DO loops before it
 abbrev pub printed_texts : List (List ℕ) → ℕ → Item → List (List ℕ)
 printed_texts saved before (declares d) = decl_text d ∷ []
 printed_texts saved before saves_all = if has_some saved then decl_text (Save saved) ∷ [] else []
 printed_texts saved before (keeps_private names) = private_text names ∷ []
-printed_texts saved before (does s) = map (own_text before) (statements_of_item [] (does s))
-printed_texts saved before continues = []
-printed_texts saved before (logical_if e s) = map (own_text before) (statements_of_item [] (logical_if e s))
-printed_texts saved before (block_if e) = map (own_text before) (statements_of_item [] (block_if e))
-printed_texts saved before (else_if e) = map (own_text before) (statements_of_item [] (else_if e))
-printed_texts saved before else_line = []
-printed_texts saved before end_if = []
-printed_texts saved before (begins_do l h) = map (own_text before) (statements_of_item [] (begins_do l h))
-printed_texts saved before ends_program = []
+printed_texts saved before i = map (own_text before) (statements_of_item [] i)
 
 -- how many loops are open
 abbrev pub loop_depth : List Block → ℕ
-loop_depth [] = 0
-loop_depth (in_then n ∷ c) = loop_depth c
-loop_depth (in_else n ∷ c) = loop_depth c
-loop_depth (in_do l v ∷ c) = loop_depth c + 1
+loop_depth c = length (open_loops c)
 
 -- how many loops and IFs are open, each ELSE IF an IF more
 abbrev pub block_depth : List Block → ℕ
 block_depth [] = 0
 block_depth (in_then n ∷ c) = block_depth c + n
 block_depth (in_else n ∷ c) = block_depth c + n
-block_depth (in_do l v ∷ c) = block_depth c + 1
+block_depth (in_do d ∷ c) = block_depth c + 1
 
 -- a statement that is nested one deeper than the blocks round it: a DO or an IF
 abbrev pub is_block : Item → Bool
-is_block (declares d) = false
-is_block saves_all = false
-is_block (does s) = false
-is_block continues = false
 is_block (logical_if e s) = true
 is_block (block_if e) = true
 is_block (else_if e) = true
-is_block else_line = false
-is_block end_if = false
 is_block (begins_do l h) = true
-is_block (keeps_private names) = false
-is_block ends_program = false
+is_block i = false
 
--- a declared array has more than seven dimensions
+-- a declared array has more dimensions than an array may have
 abbrev pub has_eight_dimensions : DeclTree → Bool
-has_eight_dimensions (Program x) = false
-has_eight_dimensions Implicit = false
-has_eight_dimensions (Integer ds) = list_any (λ d. nat_lt 7 (length d.bounds)) ds
-has_eight_dimensions (Dimension ds) = list_any (λ d. nat_lt 7 (length d.bounds)) ds
-has_eight_dimensions (Parameter values) = false
-has_eight_dimensions (Save names) = false
-has_eight_dimensions (Remark text) = false
+has_eight_dimensions (Integer ds) = list_any (λ d. nat_lt most_dimensions (length d.bounds)) ds
+has_eight_dimensions (Dimension ds) = list_any (λ d. nat_lt most_dimensions (length d.bounds)) ds
+has_eight_dimensions d = false
 
--- a literal above 2147483647, or an array of more than seven dimensions
+-- a literal that is too large, or an array of too many dimensions
 abbrev pub is_too_large : Item → Bool
 is_too_large (declares d) = decl_has_large_literal d || has_eight_dimensions d
-is_too_large saves_all = false
 is_too_large (does s) = stmt_has_large_literal s
-is_too_large continues = false
 is_too_large (logical_if e s) = cond_has_large_literal e || list_any stmt_has_large_literal (listed_stmts s)
 is_too_large (block_if e) = cond_has_large_literal e
 is_too_large (else_if e) = cond_has_large_literal e
-is_too_large else_line = false
-is_too_large end_if = false
 is_too_large (begins_do l h) = head_has_large_literal h
-is_too_large (keeps_private names) = false
-is_too_large ends_program = false
+is_too_large i = false
 
--- the numbered statements of the program become more than 4,000
+-- the numbered statements of the program become too many
 abbrev pub are_too_many : ℕ → Item → Bool
-are_too_many before i = nat_lt 0 (numbered_in i) && nat_lt 4000 (before + numbered_in i)
+are_too_many before i = nat_lt 0 (numbered_in i) && nat_lt most_statements (before + numbered_in i)
 
--- more than six DO loops, or more than 100 loops and IFs, stand in one another
+-- too many DO loops, or too many loops and IFs, stand in one another
 abbrev pub is_too_deep : List Block → Item → Bool
-is_too_deep c i = (is_do i && nat_le 6 (loop_depth c)) || (is_block i && nat_le 100 (block_depth c))
+is_too_deep c i = (is_do i && nat_le most_loops_nested (loop_depth c)) || (is_block i && nat_le most_blocks_nested (block_depth c))
 
--- more than 64 references in one statement, those of the private names of a DO among them
-abbrev pub has_many_references : List (List ℕ) → List (List ℕ) → Item → Bool
-has_many_references silent private i = list_any (λ s. nat_lt 64 (length (own_accesses silent s))) (statements_of_item private i)
+-- too many references in one statement, those of the private names of a DO among them, by the named constants and the variables of the loops round it
+abbrev pub has_many_references : List (List ℕ) → List (List ℕ) → List (List ℕ) → Item → Bool
+has_many_references constants indices private i = list_any (λ s. nat_lt most_references (length (own_accesses constants indices s))) (statements_of_item private i)
 
--- more than 1,300 characters in one printed statement
+-- too many characters in one printed statement
 abbrev pub is_too_long : List (List ℕ) → ℕ → Item → Bool
-is_too_long saved before i = list_any (λ text. nat_lt 1300 (length text)) (printed_texts saved before i)
+is_too_long saved before i = list_any (λ text. nat_lt most_characters (length text)) (printed_texts saved before i)
 
 -- a limit is passed
 abbrev pub passes_limit : List (List ℕ) → Context → List Entry → Item → Bool
@@ -337,7 +215,7 @@ passes_limit saved c rest i =
     is_too_large i
     || are_too_many c.statements i
     || is_too_deep c.blocks i
-    || has_many_references (c.constants ++ open_variables c.blocks) (private_behind rest) i
+    || has_many_references c.constants (open_variables c.blocks) (private_behind rest) i
     || is_too_long saved c.loops i
 
 -- a comment stands between a directive and its statement
@@ -355,29 +233,30 @@ is_bad_directive c e d =
 
 -- what stands at the directives of a statement, each at its own line
 abbrev pub at_directives : Context → Entry → List Finding
-at_directives c e = flat_map (λ d. stands (is_bad_directive c e d) Syntax d.line) e.statement.directives
+at_directives c e = flat_map (λ d. refused_if (is_bad_directive c e d) Syntax d.line) e.statement.directives
 
--- what stands at a statement, by what is open before it and by the statements behind it
+-- what is refused at a statement, by what is open before it and by the statement behind it
 abbrev pub at_statement : List (List ℕ) → Context → Entry → List Entry → List Finding
 at_statement saved c e rest =
     at_directives c e
-    ++ stands (breaks_syntax c e.reading) Syntax e.statement.line
-    ++ stands (is_outside e.reading) NotInProfile e.statement.line
-    ++ stands (where_it_says (leaves_open c.blocks) e.reading) OpenBlock e.statement.line
-    ++ stands (ends_badly c.blocks e.statement.label e.reading) BadTerminal e.statement.line
-    ++ stands (assigns_index c e rest) IndexAssigned e.statement.line
-    ++ stands (where_it_says stops e.reading && nat_lt 0 (loop_depth c.blocks)) StopPlace e.statement.line
-    ++ stands (where_it_says (passes_limit saved c rest) e.reading) Limit e.statement.line
+    ++ refused_if (breaks_syntax c e.reading) Syntax e.statement.line
+    ++ refused_if (is_left_out e.reading) NotInProfile e.statement.line
+    ++ refused_if (where_it_says (leaves_open c.blocks) e.reading) OpenBlock e.statement.line
+    ++ refused_if (ends_badly c.blocks e.statement.label e.reading) BadTerminal e.statement.line
+    ++ refused_if (assigns_index c e.reading) IndexAssigned e.statement.line
+    ++ at_private c e.reading
+    ++ refused_if (where_it_says stops e.reading && nat_lt 0 (loop_depth c.blocks)) StopPlace e.statement.line
+    ++ refused_if (where_it_says (passes_limit saved c rest) e.reading) Limit e.statement.line
 
--- what stands at statements, one behind the other
+-- what is refused at statements, one behind the other
 abbrev pub at_statements : List (List ℕ) → Context → List Entry → List Finding
 at_statements saved c [] = []
 at_statements saved c (e ∷ rest) = at_statement saved c e rest ++ at_statements saved (behind c e) rest
 
--- what stands at the end: no END has come; a directive stands behind the last statement
+-- what is refused at the end: no END has come; a directive stands behind the last statement
 abbrev pub at_end : Context → Statements → List Finding
-at_end c all = stands (not (is_behind_end c)) OpenBlock all.lines ++ flat_map (λ d. stands true Syntax d.line) all.directives
+at_end c all = refused_if (not (is_behind_end c)) OpenBlock all.lines ++ flat_map (λ d. refused_if true Syntax d.line) all.directives
 
--- all that stand, statement by statement
+-- all that is refused, statement by statement
 abbrev pub program_refusals : Statements → List Entry → List Finding
 program_refusals all entries = at_statements (saved_names entries) at_start entries ++ at_end (behind_all at_start entries) all

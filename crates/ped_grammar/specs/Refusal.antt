@@ -73,8 +73,8 @@ pub record Finding : Type 0 where
   pub line : ℕ
 
 -- the refusal at this line, where its test holds
-unfoldable pub stands : Bool → Refusal → ℕ → List Finding
-stands test refusal line = if test then record { refusal = refusal; line = line } ∷ [] else []
+unfoldable pub refused_if : Bool → Refusal → ℕ → List Finding
+refused_if test refusal line = if test then record { refusal = refusal; line = line } ∷ [] else []
 
 -- comes before: the lesser line, and then the lesser number
 unfoldable pub is_before : Finding → Finding → Bool

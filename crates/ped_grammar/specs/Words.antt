@@ -1,9 +1,9 @@
 -- Words of statements: names, numerals, and the names of the intrinsic functions.
 use Rattle.std.specs.Prelude.{ℕ, List, [], ◌∷◌, Bool, false, ◌&&◌, ◌||◌, ◌==◌, nat_le, length, codes, Option, Some, None, if◌then◌else◌}
 use Rattle.std.specs.List.{list_all}
-use Rattle.std.specs.Cmp.Lexicographic.{pointwise}
 use Rattle.std.specs.Str.Parse.{digits_value}
 use Rattle.ped_base.specs.Letters
+use Rattle.ped_base.specs.Lists.{is_same_text}
 use Rattle.ped_base.specs.Letters.{is_digit}
 use Rattle.ped_tree.specs.declared.expressions.Intrinsic.{Intrinsic}
 use Rattle.ped_tree.specs.declared.expressions.Intrinsic.TheVariants.{Mod, Abs, Max, Min}

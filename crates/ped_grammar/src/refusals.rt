@@ -2,7 +2,7 @@
 
 ghost use Rattle.std.specs.Prelude.{◌≡◌};
 ghost use Rattle.ped_grammar.specs.Refusal as Plain;
-ghost use Rattle.ped_grammar.specs.Refusal.{earliest, stands, number_of, name_of_refusal};
+ghost use Rattle.ped_grammar.specs.Refusal.{earliest, refused_if, number_of, name_of_refusal};
 ghost use Rattle.ped_grammar.specs.RefusalViews.{kind_of, finding_of, found_of};
 
 /// A rule that a text breaks, in the order of the numbers 1 to 19: of lines up to 6, of statements and their
@@ -115,14 +115,14 @@ pub struct Refusal {
 }
 
 /// The earlier one of what was found and the refusal of this kind and line, where it stands.
-#[tactic(auto, unfolding(ped_grammar::specs::Refusal::stands))]
+#[tactic(auto, unfolding(crate::specs::Refusal::refused_if))]
 pub fn standing(
     found: Option<Refusal>,
     test: bool,
     kind: RefusalKind,
     line: u64,
 ) -> Option<Refusal>
-    ensures { found_of result ≡ earliest (found_of found) (stands test (kind_of kind) line) }
+    ensures { found_of result ≡ earliest (found_of found) (refused_if test (kind_of kind) line) }
 {
     if test {
         earlier(found, Refusal { kind, line })
@@ -131,7 +131,7 @@ pub fn standing(
     }
 }
 
-#[tactic(auto, unfolding(ped_grammar::specs::Refusal::earlier))]
+#[tactic(auto, unfolding(crate::specs::Refusal::earlier))]
 fn earlier(found: Option<Refusal>, refusal: Refusal) -> Option<Refusal>
     ensures { found_of result ≡ Plain.earlier (found_of found) (finding_of refusal) }
 {
@@ -146,7 +146,7 @@ fn earlier(found: Option<Refusal>, refusal: Refusal) -> Option<Refusal>
 }
 
 /// Whether a refusal comes before another: by line, and then by number.
-#[tactic(auto, unfolding(ped_grammar::specs::Refusal::is_before))]
+#[tactic(auto, unfolding(crate::specs::Refusal::is_before))]
 fn is_before(left: Refusal, right: Refusal) -> bool
     ensures { result ≡ Plain.is_before (finding_of left) (finding_of right) }
 {

@@ -4,11 +4,11 @@ use Rattle.std.proofs.lemmas.List.{append-nil, map-append}
 use Rattle.std.proofs.lemmas.List.Concat.{flat_map-cons}
 use Rattle.ped_grammar.specs.Statement as whole
 use Rattle.ped_grammar.specs.Statement.{Note}
-use Rattle.ped_grammar.specs.Columns.{is_comment, continues, label_of, statement_columns}
+use Rattle.ped_grammar.specs.Columns.{is_comment, is_continuation, label_of, statement_columns}
 use Rattle.ped_grammar.specs.Characters.{is_quoted, has_bad, text_behind, text_of}
 use Rattle.ped_grammar.specs.Grouping.{NumberedLine, comment_at, directive_at, further_lines, joined_columns, notes_within, notes_behind, statement_at, statements_from}
 use Rattle.ped_grammar.specs.LineRefusals.{Initial, Continuation, Orphan, at_line, at_further, at_orphans, in_rest, in_statements}
-use Rattle.ped_grammar.specs.Refusal.{Finding, OpenConstant, stands, earliest}
+use Rattle.ped_grammar.specs.Refusal.{Finding, OpenConstant, refused_if, earliest}
 use Rattle.ped_grammar.proofs.First.{earliest_append}
 use Rattle.ped_grammar.specs.StatementViews.{note_of, statement_of}
 use Rattle.ped_lines.specs.Cutting.{WithColumns, WithLine, front_of, left_open, refusals_left, ended, begun, statements_with, cut_with}
@@ -24,30 +24,30 @@ numbered n line = record { number = n; bytes = line }
 
 -- a continuation line
 
-further_more : (n : ℕ) (line : List ℕ) (rest : List (List ℕ)) → is_comment line ≡ false → continues line ≡ true → further_lines n (line ∷ rest) ≡ numbered n line ∷ further_lines (n + 1) rest
+further_more : (n : ℕ) (line : List ℕ) (rest : List (List ℕ)) → is_comment line ≡ false → is_continuation line ≡ true → further_lines n (line ∷ rest) ≡ numbered n line ∷ further_lines (n + 1) rest
 further_more n line rest h k = rw (h, k) refl
 
-statements_past : (n : ℕ) (line : List ℕ) (rest : List (List ℕ)) → is_comment line ≡ false → continues line ≡ true → in_statements n (line ∷ rest) ≡ in_statements (n + 1) rest
+statements_past : (n : ℕ) (line : List ℕ) (rest : List (List ℕ)) → is_comment line ≡ false → is_continuation line ≡ true → in_statements n (line ∷ rest) ≡ in_statements (n + 1) rest
 statements_past n line rest h k = rw (h, k) refl
 
-within_more : (at : ℕ → List ℕ → List Note) (before : List Note) (n : ℕ) (line : List ℕ) (rest : List (List ℕ)) → is_comment line ≡ false → continues line ≡ true → notes_within at before n (line ∷ rest) ≡ before ++ notes_within at [] (n + 1) rest
+within_more : (at : ℕ → List ℕ → List Note) (before : List Note) (n : ℕ) (line : List ℕ) (rest : List (List ℕ)) → is_comment line ≡ false → is_continuation line ≡ true → notes_within at before n (line ∷ rest) ≡ before ++ notes_within at [] (n + 1) rest
 within_more at before n line rest h k = rw (h, k) refl
 
-from_past : (comments directives : List Note) (n : ℕ) (line : List ℕ) (rest : List (List ℕ)) → is_comment line ≡ false → continues line ≡ true → statements_from comments directives n (line ∷ rest) ≡ statements_from [] [] (n + 1) rest
+from_past : (comments directives : List Note) (n : ℕ) (line : List ℕ) (rest : List (List ℕ)) → is_comment line ≡ false → is_continuation line ≡ true → statements_from comments directives n (line ∷ rest) ≡ statements_from [] [] (n + 1) rest
 from_past comments directives n line rest h k = rw (h, k) refl
 
 -- an initial line
 
-further_none : (n : ℕ) (line : List ℕ) (rest : List (List ℕ)) → is_comment line ≡ false → continues line ≡ false → further_lines n (line ∷ rest) ≡ []
+further_none : (n : ℕ) (line : List ℕ) (rest : List (List ℕ)) → is_comment line ≡ false → is_continuation line ≡ false → further_lines n (line ∷ rest) ≡ []
 further_none n line rest h k = rw (h, k) refl
 
-statements_here : (n : ℕ) (line : List ℕ) (rest : List (List ℕ)) → is_comment line ≡ false → continues line ≡ false → in_statements n (line ∷ rest) ≡ at_line n Initial [] line ++ in_rest n 19 (statement_columns line) (further_lines (n + 1) rest) ++ in_statements (n + 1) rest
+statements_here : (n : ℕ) (line : List ℕ) (rest : List (List ℕ)) → is_comment line ≡ false → is_continuation line ≡ false → in_statements n (line ∷ rest) ≡ at_line n Initial [] line ++ in_rest n 19 (statement_columns line) (further_lines (n + 1) rest) ++ in_statements (n + 1) rest
 statements_here n line rest h k = rw (h, k) refl
 
-within_none : (at : ℕ → List ℕ → List Note) (before : List Note) (n : ℕ) (line : List ℕ) (rest : List (List ℕ)) → is_comment line ≡ false → continues line ≡ false → notes_within at before n (line ∷ rest) ≡ []
+within_none : (at : ℕ → List ℕ → List Note) (before : List Note) (n : ℕ) (line : List ℕ) (rest : List (List ℕ)) → is_comment line ≡ false → is_continuation line ≡ false → notes_within at before n (line ∷ rest) ≡ []
 within_none at before n line rest h k = rw (h, k) refl
 
-from_here : (comments directives : List Note) (n : ℕ) (line : List ℕ) (rest : List (List ℕ)) → is_comment line ≡ false → continues line ≡ false → statements_from comments directives n (line ∷ rest) ≡ statement_at comments directives n line rest ∷ statements_from [] [] (n + 1) rest
+from_here : (comments directives : List Note) (n : ℕ) (line : List ℕ) (rest : List (List ℕ)) → is_comment line ≡ false → is_continuation line ≡ false → statements_from comments directives n (line ∷ rest) ≡ statement_at comments directives n line rest ∷ statements_from [] [] (n + 1) rest
 from_here comments directives n line rest h k = rw (h, k) refl
 
 -- either
@@ -68,7 +68,7 @@ further_alike left a b (l ∷ ls) h =
 
 rest_alike : (first left : ℕ) (a b : List ℕ) (further : List NumberedLine) → is_quoted a ≡ is_quoted b → in_rest first left a further ≡ in_rest first left b further
 rest_alike first left a b further h =
-    λ i. further_alike left a b further h i ++ stands (quoted_alike a b (joined_columns further) h i) OpenConstant first
+    λ i. further_alike left a b further h i ++ refused_if (quoted_alike a b (joined_columns further) h i) OpenConstant first
 
 -- those of the next line, and then those of the others
 rest_more : (first left : ℕ) (before : List ℕ) (l : NumberedLine) (ls : List NumberedLine) → in_rest first left before (l ∷ ls) ≡ at_line l.number (Continuation left) before l.bytes ++ in_rest first (left - 1) (before ++ statement_columns l.bytes) ls
@@ -77,8 +77,8 @@ rest_more first left before l ls =
     let here = at_line l.number (Continuation left) before l.bytes in
     let joined : before ++ joined_columns (l ∷ ls) ≡ (before ++ columns) ++ joined_columns ls =
     ap (λ (t : List ℕ). before ++ t) (flat_map-cons (λ (x : NumberedLine). statement_columns x.bytes) l ls) ∙ sym (append_assoc before columns (joined_columns ls)) in
-    append_assoc here (at_further (left - 1) (before ++ columns) ls) (stands (is_quoted (before ++ joined_columns (l ∷ ls))) OpenConstant first)
-    ∙ ap (λ (t : List ℕ). here ++ (at_further (left - 1) (before ++ columns) ls ++ stands (is_quoted t) OpenConstant first)) joined
+    append_assoc here (at_further (left - 1) (before ++ columns) ls) (refused_if (is_quoted (before ++ joined_columns (l ∷ ls))) OpenConstant first)
+    ∙ ap (λ (t : List ℕ). here ++ (at_further (left - 1) (before ++ columns) ls ++ refused_if (is_quoted t) OpenConstant first)) joined
 
 -- what was found, with what stands at the line and behind it
 found_on : (found : Option Finding) (old new here more : List Finding) (next : Option Finding) → old ≡ here ++ more → new ≡ more → next ≡ earliest found here → earliest next new ≡ earliest found old
@@ -102,7 +102,7 @@ pub record Skips (old new : Cutting) (n : ℕ) (line : List ℕ) : Type 0 where
   pub no_comments : new.comments.items ≡ []
   pub no_directives : new.directives.items ≡ []
 
-orphans_here : (n : ℕ) (line : List ℕ) (rest : List (List ℕ)) → is_comment line ≡ false → continues line ≡ true → refusals_left None n (line ∷ rest) ≡ at_line n Orphan [] line ++ refusals_left None (n + 1) rest
+orphans_here : (n : ℕ) (line : List ℕ) (rest : List (List ℕ)) → is_comment line ≡ false → is_continuation line ≡ true → refusals_left None n (line ∷ rest) ≡ at_line n Orphan [] line ++ refusals_left None (n + 1) rest
 orphans_here n line rest h k =
     let here = at_line n Orphan [] line in
     let more = further_lines (n + 1) rest in
@@ -110,7 +110,7 @@ orphans_here n line rest h k =
     ∙ ap (λ (t : List Finding). t ++ in_statements (n + 1) rest) (flat_map-cons (λ (l : NumberedLine). at_line l.number Orphan [] l.bytes) (numbered n line) more)
     ∙ append_assoc here (at_orphans more) (in_statements (n + 1) rest)
 
-skipped : (old new : Cutting) (n : ℕ) (line : List ℕ) (rest : List (List ℕ)) → is_comment line ≡ false → continues line ≡ true → Skips old new n line → map statement_of new.done.items ++ begun new.current [] [] (n + 1) rest ++ statements_from [] [] (n + 1) rest ≡ statements_with old n (line ∷ rest)
+skipped : (old new : Cutting) (n : ℕ) (line : List ℕ) (rest : List (List ℕ)) → is_comment line ≡ false → is_continuation line ≡ true → Skips old new n line → map statement_of new.done.items ++ begun new.current [] [] (n + 1) rest ++ statements_from [] [] (n + 1) rest ≡ statements_with old n (line ∷ rest)
 skipped old new n line rest h k s =
     let comments = map note_of old.comments.items in
     let directives = map note_of old.directives.items in
@@ -118,7 +118,7 @@ skipped old new n line rest h k s =
     ∙ (λ i. map statement_of old.done.items ++ [] ++ sym (from_past comments directives n line rest h k) i)
     ∙ (λ i. map statement_of old.done.items ++ begun (sym s.was_none i) comments directives n (line ∷ rest) ++ statements_from comments directives n (line ∷ rest))
 
-pub orphan_line : (old new : Cutting) (n : ℕ) (line : List ℕ) → is_comment line ≡ false → continues line ≡ true → Skips old new n line → WithLine old n line new
+pub orphan_line : (old new : Cutting) (n : ℕ) (line : List ℕ) → is_comment line ≡ false → is_continuation line ≡ true → Skips old new n line → WithLine old n line new
 orphan_line old new n line h k s = record {
   refusals = λ rest.
       found_on (found_of old.found) (refusals_left old.current n (line ∷ rest)) (refusals_left new.current (n + 1) rest) (at_line n Orphan [] line) (refusals_left None (n + 1) rest) (found_of new.found)
@@ -147,7 +147,7 @@ pub record Continues (old new : Cutting) (o p : OpenStatement) (n : ℕ) (line :
 flag_is : (o p : OpenStatement) (line : List ℕ) → WithColumns o.text (statement_columns line) p.text → is_quoted (front_of o.text.quoted ++ statement_columns line) ≡ is_quoted (front_of p.text.quoted)
 flag_is o p line w = w.quoted (front_of o.text.quoted) (front_quoted o.text.quoted) ∙ sym (front_quoted p.text.quoted)
 
-continued_here : (o p : OpenStatement) (n : ℕ) (line : List ℕ) (rest : List (List ℕ)) → is_comment line ≡ false → continues line ≡ true → p.line ≡ o.line → p.left ≡ o.left - 1 → WithColumns o.text (statement_columns line) p.text → refusals_left (Some o) n (line ∷ rest) ≡ at_line n (Continuation o.left) (front_of o.text.quoted) line ++ refusals_left (Some p) (n + 1) rest
+continued_here : (o p : OpenStatement) (n : ℕ) (line : List ℕ) (rest : List (List ℕ)) → is_comment line ≡ false → is_continuation line ≡ true → p.line ≡ o.line → p.left ≡ o.left - 1 → WithColumns o.text (statement_columns line) p.text → refusals_left (Some o) n (line ∷ rest) ≡ at_line n (Continuation o.left) (front_of o.text.quoted) line ++ refusals_left (Some p) (n + 1) rest
 continued_here o p n line rest h k line_is left w =
     let front = front_of o.text.quoted in
     let more = further_lines (n + 1) rest in
@@ -159,7 +159,7 @@ continued_here o p n line rest h k line_is left w =
     ∙ ap (λ (t : List Finding). here ++ (t ++ behind)) (rest_alike o.line (o.left - 1) (front ++ statement_columns line) (front_of p.text.quoted) more (flag_is o p line w))
     ∙ (λ i. here ++ (in_rest (sym line_is i) (sym left i) (front_of p.text.quoted) more ++ behind))
 
-text_goes_on : (o p : OpenStatement) (n : ℕ) (line : List ℕ) (rest : List (List ℕ)) → is_comment line ≡ false → continues line ≡ true → WithColumns o.text (statement_columns line) p.text → p.text.bytes.items ++ text_behind (front_of p.text.quoted) (joined_columns (further_lines (n + 1) rest)) ≡ o.text.bytes.items ++ text_behind (front_of o.text.quoted) (joined_columns (further_lines n (line ∷ rest)))
+text_goes_on : (o p : OpenStatement) (n : ℕ) (line : List ℕ) (rest : List (List ℕ)) → is_comment line ≡ false → is_continuation line ≡ true → WithColumns o.text (statement_columns line) p.text → p.text.bytes.items ++ text_behind (front_of p.text.quoted) (joined_columns (further_lines (n + 1) rest)) ≡ o.text.bytes.items ++ text_behind (front_of o.text.quoted) (joined_columns (further_lines n (line ∷ rest)))
 text_goes_on o p n line rest h k w =
     let front = front_of o.text.quoted in
     let columns = statement_columns line in
@@ -171,20 +171,20 @@ text_goes_on o p n line rest h k w =
     ∙ ap (λ (t : List ℕ). o.text.bytes.items ++ text_behind front t) (sym (flat_map-cons (λ (l : NumberedLine). statement_columns l.bytes) (numbered n line) more))
     ∙ ap (λ (f : List NumberedLine). o.text.bytes.items ++ text_behind front (joined_columns f)) (sym (further_more n line rest h k))
 
-notes_go_on : (at : ℕ → List ℕ → List Note) (all old between : List NoteLine) (n : ℕ) (line : List ℕ) (rest : List (List ℕ)) → is_comment line ≡ false → continues line ≡ true → all ≡ old ++ between → map note_of all ++ notes_within at [] (n + 1) rest ≡ map note_of old ++ notes_within at (map note_of between) n (line ∷ rest)
+notes_go_on : (at : ℕ → List ℕ → List Note) (all old between : List NoteLine) (n : ℕ) (line : List ℕ) (rest : List (List ℕ)) → is_comment line ≡ false → is_continuation line ≡ true → all ≡ old ++ between → map note_of all ++ notes_within at [] (n + 1) rest ≡ map note_of old ++ notes_within at (map note_of between) n (line ∷ rest)
 notes_go_on at all old between n line rest h k e =
     ap (λ (x : List Note). x ++ notes_within at [] (n + 1) rest) (ap (map note_of) e ∙ map-append note_of old between)
     ∙ append_assoc (map note_of old) (map note_of between) (notes_within at [] (n + 1) rest)
     ∙ ap (λ (x : List Note). map note_of old ++ x) (sym (within_more at (map note_of between) n line rest h k))
 
-begun_goes_on : (old new : Cutting) (o p : OpenStatement) (n : ℕ) (line : List ℕ) (rest : List (List ℕ)) → is_comment line ≡ false → continues line ≡ true → Continues old new o p n line → begun (Some p) [] [] (n + 1) rest ≡ begun (Some o) (map note_of old.comments.items) (map note_of old.directives.items) n (line ∷ rest)
+begun_goes_on : (old new : Cutting) (o p : OpenStatement) (n : ℕ) (line : List ℕ) (rest : List (List ℕ)) → is_comment line ≡ false → is_continuation line ≡ true → Continues old new o p n line → begun (Some p) [] [] (n + 1) rest ≡ begun (Some o) (map note_of old.comments.items) (map note_of old.directives.items) n (line ∷ rest)
 begun_goes_on old new o p n line rest h k s =
     let text = text_goes_on o p n line rest h k s.text in
     let comments = notes_go_on comment_at p.comments.items o.comments.items old.comments.items n line rest h k s.comments in
     let directives = notes_go_on directive_at p.directives.items o.directives.items old.directives.items n line rest h k s.directives in
     λ i. record { line = s.line_is i; label = s.label i; text = text i; comments = comments i; directives = directives i } ∷ []
 
-goes_on : (old new : Cutting) (o p : OpenStatement) (n : ℕ) (line : List ℕ) (rest : List (List ℕ)) → is_comment line ≡ false → continues line ≡ true → Continues old new o p n line → map statement_of new.done.items ++ begun new.current [] [] (n + 1) rest ++ statements_from [] [] (n + 1) rest ≡ statements_with old n (line ∷ rest)
+goes_on : (old new : Cutting) (o p : OpenStatement) (n : ℕ) (line : List ℕ) (rest : List (List ℕ)) → is_comment line ≡ false → is_continuation line ≡ true → Continues old new o p n line → map statement_of new.done.items ++ begun new.current [] [] (n + 1) rest ++ statements_from [] [] (n + 1) rest ≡ statements_with old n (line ∷ rest)
 goes_on old new o p n line rest h k s =
     let comments = map note_of old.comments.items in
     let directives = map note_of old.directives.items in
@@ -192,7 +192,7 @@ goes_on old new o p n line rest h k s =
     ∙ (λ i. map statement_of old.done.items ++ begun_goes_on old new o p n line rest h k s i ++ sym (from_past comments directives n line rest h k) i)
     ∙ (λ i. map statement_of old.done.items ++ begun (sym s.was i) comments directives n (line ∷ rest) ++ statements_from comments directives n (line ∷ rest))
 
-pub continuation_line : (old new : Cutting) (o p : OpenStatement) (n : ℕ) (line : List ℕ) → is_comment line ≡ false → continues line ≡ true → Continues old new o p n line → WithLine old n line new
+pub continuation_line : (old new : Cutting) (o p : OpenStatement) (n : ℕ) (line : List ℕ) → is_comment line ≡ false → is_continuation line ≡ true → Continues old new o p n line → WithLine old n line new
 continuation_line old new o p n line h k s = record {
   refusals = λ rest.
       found_on (found_of old.found) (refusals_left old.current n (line ∷ rest)) (refusals_left new.current (n + 1) rest) (at_line n (Continuation o.left) (front_of o.text.quoted) line) (refusals_left (Some p) (n + 1) rest) (found_of new.found)
@@ -230,7 +230,7 @@ first_text o p columns line none outside same w = record {
   bad = ap (has_bad []) (sym same) ∙ w.bad [] outside;
 }
 
-begun_before : (b : Option OpenStatement) (comments directives : List Note) (n : ℕ) (line : List ℕ) (rest : List (List ℕ)) → is_comment line ≡ false → continues line ≡ false → begun b comments directives n (line ∷ rest) ≡ ended b
+begun_before : (b : Option OpenStatement) (comments directives : List Note) (n : ℕ) (line : List ℕ) (rest : List (List ℕ)) → is_comment line ≡ false → is_continuation line ≡ false → begun b comments directives n (line ∷ rest) ≡ ended b
 begun_before None comments directives n line rest h k = refl
 begun_before (Some o) comments directives n line rest h k =
     let text = ap (λ (f : List NumberedLine). o.text.bytes.items ++ text_behind (front_of o.text.quoted) (joined_columns f)) (further_none n line rest h k) ∙ append-nil o.text.bytes.items in
@@ -252,7 +252,7 @@ begun_here old new p n line rest b =
       directives = map note_of (b.directives i) ++ notes_within directive_at [] (n + 1) rest;
     } ∷ []
 
-begins : (old new : Cutting) (p : OpenStatement) (n : ℕ) (line : List ℕ) (rest : List (List ℕ)) → is_comment line ≡ false → continues line ≡ false → Begins old new p n line → map statement_of new.done.items ++ begun new.current [] [] (n + 1) rest ++ statements_from [] [] (n + 1) rest ≡ statements_with old n (line ∷ rest)
+begins : (old new : Cutting) (p : OpenStatement) (n : ℕ) (line : List ℕ) (rest : List (List ℕ)) → is_comment line ≡ false → is_continuation line ≡ false → Begins old new p n line → map statement_of new.done.items ++ begun new.current [] [] (n + 1) rest ++ statements_from [] [] (n + 1) rest ≡ statements_with old n (line ∷ rest)
 begins old new p n line rest h k b =
     let comments = map note_of old.comments.items in
     let directives = map note_of old.directives.items in
@@ -266,14 +266,14 @@ begins old new p n line rest h k b =
     ∙ ap (λ (x : List whole.Statement). before ++ x) (sym (from_here comments directives n line rest h k))
 
 -- what stands at the end of the statement that was begun before, and at the line
-ended_before : (b : Option OpenStatement) (n : ℕ) (line : List ℕ) (rest : List (List ℕ)) → is_comment line ≡ false → continues line ≡ false → refusals_left b n (line ∷ rest) ≡ left_open b ++ in_statements n (line ∷ rest)
+ended_before : (b : Option OpenStatement) (n : ℕ) (line : List ℕ) (rest : List (List ℕ)) → is_comment line ≡ false → is_continuation line ≡ false → refusals_left b n (line ∷ rest) ≡ left_open b ++ in_statements n (line ∷ rest)
 ended_before None n line rest h k = ap (λ (f : List NumberedLine). at_orphans f ++ in_statements n (line ∷ rest)) (further_none n line rest h k)
 ended_before (Some o) n line rest h k =
     let front = front_of o.text.quoted in
     ap (λ (f : List NumberedLine). in_rest o.line o.left front f ++ in_statements n (line ∷ rest)) (further_none n line rest h k)
-    ∙ ap (λ (q : Bool). stands q OpenConstant o.line ++ in_statements n (line ∷ rest)) (ap is_quoted (append-nil front) ∙ front_quoted o.text.quoted)
+    ∙ ap (λ (q : Bool). refused_if q OpenConstant o.line ++ in_statements n (line ∷ rest)) (ap is_quoted (append-nil front) ∙ front_quoted o.text.quoted)
 
-begun_ends : (p : OpenStatement) (n : ℕ) (line : List ℕ) (rest : List (List ℕ)) → is_comment line ≡ false → continues line ≡ false → p.line ≡ n → p.left ≡ 19 → is_quoted (statement_columns line) ≡ p.text.quoted → in_statements n (line ∷ rest) ≡ at_line n Initial [] line ++ refusals_left (Some p) (n + 1) rest
+begun_ends : (p : OpenStatement) (n : ℕ) (line : List ℕ) (rest : List (List ℕ)) → is_comment line ≡ false → is_continuation line ≡ false → p.line ≡ n → p.left ≡ 19 → is_quoted (statement_columns line) ≡ p.text.quoted → in_statements n (line ∷ rest) ≡ at_line n Initial [] line ++ refusals_left (Some p) (n + 1) rest
 begun_ends p n line rest h k line_is left quoted =
     let here = at_line n Initial [] line in
     let more = further_lines (n + 1) rest in
@@ -283,7 +283,7 @@ begun_ends p n line rest h k line_is left quoted =
     ∙ ap (λ (t : List Finding). here ++ (t ++ behind)) (rest_alike n 19 (statement_columns line) (front_of p.text.quoted) more (quoted ∙ sym (front_quoted p.text.quoted)))
     ∙ (λ i. here ++ (in_rest (sym line_is i) (sym left i) (front_of p.text.quoted) more ++ behind))
 
-pub initial_line : (old new : Cutting) (p : OpenStatement) (n : ℕ) (line : List ℕ) → is_comment line ≡ false → continues line ≡ false → Begins old new p n line → WithLine old n line new
+pub initial_line : (old new : Cutting) (p : OpenStatement) (n : ℕ) (line : List ℕ) → is_comment line ≡ false → is_continuation line ≡ false → Begins old new p n line → WithLine old n line new
 initial_line old new p n line h k b = record {
   refusals = λ rest.
       found_on (earliest (found_of old.found) (left_open old.current)) (in_statements n (line ∷ rest)) (refusals_left new.current (n + 1) rest) (at_line n Initial [] line) (refusals_left (Some p) (n + 1) rest) (found_of new.found)
@@ -300,4 +300,4 @@ pub at_end_is : (b : Option OpenStatement) (n : ℕ) → refusals_left b n [] �
 at_end_is None n = refl
 at_end_is (Some o) n =
     append-nil (in_rest o.line o.left (front_of o.text.quoted) [])
-    ∙ ap (λ (q : Bool). stands q OpenConstant o.line) (ap is_quoted (append-nil (front_of o.text.quoted)) ∙ front_quoted o.text.quoted)
+    ∙ ap (λ (q : Bool). refused_if q OpenConstant o.line) (ap is_quoted (append-nil (front_of o.text.quoted)) ∙ front_quoted o.text.quoted)

@@ -2,7 +2,7 @@
 use Rattle.std.specs.Prelude.{◌≡◌, ℕ, ◌+◌, List, [], ◌∷◌, ◌++◌, Option, Some, None, Bool, map, if◌then◌else◌}
 use Rattle.ped_grammar.specs.Statement as whole
 use Rattle.ped_grammar.specs.Statement.{Note}
-use Rattle.ped_grammar.specs.Refusal.{Finding, OpenConstant, stands, earliest}
+use Rattle.ped_grammar.specs.Refusal.{Finding, OpenConstant, refused_if, earliest}
 use Rattle.ped_grammar.specs.Characters.{is_quoted, has_bad, text_behind}
 use Rattle.ped_grammar.specs.Grouping.{further_lines, joined_columns, comment_at, directive_at, notes_within, notes_behind, statements_from}
 use Rattle.ped_grammar.specs.LineRefusals as lines
@@ -40,7 +40,7 @@ front_of quoted = if quoted then 39 ∷ [] else []
 -- what stands where the statement that was begun before has no further line
 abbrev pub left_open : Option OpenStatement → List Finding
 left_open None = []
-left_open (Some o) = stands o.text.quoted OpenConstant o.line
+left_open (Some o) = refused_if o.text.quoted OpenConstant o.line
 
 -- what stands from line n on, where a statement may have begun before
 abbrev pub refusals_left : Option OpenStatement → ℕ → List (List ℕ) → List Finding

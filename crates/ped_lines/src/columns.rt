@@ -32,9 +32,9 @@ pub fn is_directive(line: &[u8]) -> bool
 }
 
 /// Whether a line that is no comment continues a statement: column 6 is neither blank, 0 nor a tab.
-#[tactic(auto, unfolding(ped_grammar::specs::Columns::continues))]
+#[tactic(auto, unfolding(ped_grammar::specs::Columns::is_continuation))]
 pub fn continues(line: &[u8]) -> bool
-    ensures { result ≡ Spec.continues line.now }
+    ensures { result ≡ Spec.is_continuation line.now }
 {
     let mark = column(line, 6);
     !(mark == b' ' || mark == b'0' || mark == b'\t')

@@ -113,7 +113,7 @@ fn with_continuation(
     line: &[u8],
 ) -> Result<Cutting, NoMemory>
     requires comment { Columns.is_comment line.now ≡ false }
-    requires continues { Columns.continues line.now ≡ true }
+    requires continues { Columns.is_continuation line.now ≡ true }
     ensures { IfOk result (WithLine cutting number line.now) }
 {
     let Cutting {
@@ -183,7 +183,7 @@ fn with_initial(
     line: &[u8],
 ) -> Result<Cutting, NoMemory>
     requires comment { Columns.is_comment line.now ≡ false }
-    requires continues { Columns.continues line.now ≡ false }
+    requires continues { Columns.is_continuation line.now ≡ false }
     ensures { IfOk result (WithLine cutting number line.now) }
 {
     let found = at_end(cutting.found, &cutting.current);

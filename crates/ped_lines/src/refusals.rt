@@ -5,7 +5,7 @@ ghost use Rattle.ped_grammar.specs.Characters as Characters;
 ghost use Rattle.ped_grammar.specs.Columns as Columns;
 ghost use Rattle.ped_grammar.specs.LineRefusals as Spec;
 ghost use Rattle.ped_grammar.specs.Refusal as Refusal;
-ghost use Rattle.ped_grammar.specs.Refusal.{earliest, stands, number_of};
+ghost use Rattle.ped_grammar.specs.Refusal.{earliest, refused_if, number_of};
 ghost use Rattle.ped_grammar.specs.RefusalViews.{kind_of, finding_of, found_of};
 ghost use Rattle.ped_lines.specs.Cutting.{role_of};
 
@@ -127,14 +127,14 @@ fn is_orphan(role: Role) -> bool
 }
 
 /// The earlier one of what was found and the refusal of this kind and line, where it stands.
-#[tactic(auto, unfolding(ped_grammar::specs::Refusal::stands))]
+#[tactic(auto, unfolding(ped_grammar::specs::Refusal::refused_if))]
 pub fn standing(
     found: Option<Refusal>,
     test: bool,
     kind: RefusalKind,
     line: u64,
 ) -> Option<Refusal>
-    ensures { found_of result ≡ earliest (found_of found) (stands test (kind_of kind) line) }
+    ensures { found_of result ≡ earliest (found_of found) (refused_if test (kind_of kind) line) }
 {
     if test {
         earlier(found, Refusal { kind, line })

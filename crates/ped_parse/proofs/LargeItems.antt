@@ -6,7 +6,8 @@ use Rattle.ped_tree.specs.Tree.{ExprTree, CondTree, ItemTree, Value, Text, Head,
 use Rattle.ped_grammar.specs.Literals.{has_large_literal, cond_has_large_literal, item_has_large_literal, head_has_large_literal, stmt_has_large_literal, stmts_have_large_literal, declarator_has_large_literal, decl_has_large_literal}
 use Rattle.ped_grammar.specs.Items.{Item, declares, saves_all, does, continues, logical_if, block_if, else_if, else_line, end_if, begins_do, keeps_private, ends_program, Reading, says, outside_profile, no_form, Entry}
 use Rattle.ped_grammar.specs.Contexts.{Context}
-use Rattle.ped_grammar.specs.ProgramRefusals.{listed_stmts, open_variables, private_behind, has_eight_dimensions, is_too_large, are_too_many, is_too_deep, has_many_references, is_too_long, passes_limit}
+use Rattle.ped_grammar.specs.Contexts.{open_variables}
+use Rattle.ped_grammar.specs.ProgramRefusals.{listed_stmts, private_behind, has_eight_dimensions, is_too_large, are_too_many, is_too_deep, has_many_references, is_too_long, passes_limit}
 use Rattle.ped_expressions.specs.ExpressionReading.{saturated, with_literals}
 use Rattle.ped_expressions.specs.ConditionReading.{cond_with_literals}
 use Rattle.ped_expressions.proofs.Large.{neither, large_saturated, cond_large_saturated, small_saturated, cond_small_saturated}

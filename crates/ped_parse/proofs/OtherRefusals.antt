@@ -2,14 +2,15 @@
 use Rattle.std.proofs.Common.{◌≡◌, ℕ, ◌+◌, Bool, true, false, cond, List, [], ◌∷◌, ◌++◌, map, max, length, Option, Some, None, refl, sym, ap, subst, ◌∙◌}
 use Rattle.std.specs.Prelude.{◌||◌, ◌&&◌, not, nat_lt, nat_le, filter}
 use Rattle.std.specs.List.{list_any, flat_map}
-use Rattle.ped_grammar.specs.Refusal.{Finding, Syntax, NotInProfile, OpenBlock, BadTerminal, IndexAssigned, StopPlace, Limit, stands, first_of}
+use Rattle.ped_grammar.specs.Refusal.{Finding, Syntax, NotInProfile, OpenBlock, BadTerminal, IndexAssigned, StopPlace, Limit, refused_if, first_of}
 use Rattle.ped_grammar.specs.Statement.{Note, Statement, Statements}
 use Rattle.ped_grammar.specs.Items.{Item, Reading, says, outside_profile, no_form, Entry}
 use Rattle.ped_grammar.specs.Occurrences.{of_reading, names_in, do_variables, constants_of, rejected_names, entry_names, all_do_variables, all_constants, saved_names, is_rejection}
 use Rattle.ped_base.specs.Lists.{is_among}
 use Rattle.ped_tree.specs.NamesIn.{first_occurrences}
 use Rattle.ped_grammar.specs.Contexts.{Context, at_start, is_do, may_end, behind_item, behind_reading, behind, behind_all, closed}
-use Rattle.ped_grammar.specs.ProgramRefusals.{where_it_says, is_outside, is_formless, is_out_of_order, is_misplaced, is_behind_end, breaks_syntax, leaves_open, has_do, ends_badly, open_variables, assigned_in, private_in, inner_variables, meets, assigns_index, stops, private_behind, loop_depth, passes_limit, is_bad_directive, is_parted, at_directives, at_statement, at_statements, at_end, program_refusals}
+use Rattle.ped_grammar.specs.Contexts.{has_do, open_variables}
+use Rattle.ped_grammar.specs.ProgramRefusals.{where_it_says, is_left_out, is_formless, is_out_of_order, is_misplaced, is_behind_end, breaks_syntax, leaves_open, ends_badly, assigned_in, private_in, meets, assigns_index, stops, private_behind, loop_depth, passes_limit, is_bad_directive, is_parted, at_directives, at_statement, at_statements, at_end, program_refusals}
 use Rattle.ped_expressions.specs.ExpressionReading.{saturated}
 use Rattle.ped_statements.specs.Saturated.{says_with_literals, reading_with_literals, entry_with_literals}
 use Rattle.ped_parse.proofs.OtherLiterals.{flat_with, names_with, do_variables_with, constants_with, rank_with, numbered_with, is_do_with, may_end_with, saves_list_with, saves_without_with, lacks_if_with, late_with, leaves_with, assigned_with, private_with, stops_with, blocks_with}
@@ -71,7 +72,7 @@ breaks_with v c (says i) = let m = misplaced_with v c i in λ j. not false && (i
 breaks_with v c outside_profile = refl
 breaks_with v c no_form = refl
 
-outside_with : (v : ℕ → ℕ) (r : Reading) → is_outside (reading_with_literals v r) ≡ is_outside r
+outside_with : (v : ℕ → ℕ) (r : Reading) → is_left_out (reading_with_literals v r) ≡ is_left_out r
 outside_with v (says i) = refl
 outside_with v outside_profile = refl
 outside_with v no_form = refl
@@ -98,7 +99,7 @@ index_with v c e rest =
 directives_with : (v : ℕ → ℕ) (c : Context) (e : Entry) → at_directives c (entry_with_literals v e) ≡ at_directives c e
 directives_with v c e =
     let d = where_with v is_do (is_do_with v) e.reading in
-    λ j. flat_map (λ (n : Note). stands (is_behind_end c || not (is_rejection n.text) || not (d j) || nat_lt e.statement.line n.line || is_parted n e.statement) Syntax n.line) e.statement.directives
+    λ j. flat_map (λ (n : Note). refused_if (is_behind_end c || not (is_rejection n.text) || not (d j) || nat_lt e.statement.line n.line || is_parted n e.statement) Syntax n.line) e.statement.directives
 
 private_behind_with : (v : ℕ → ℕ) (es : List Entry) → private_behind (map (entry_with_literals v) es) ≡ private_behind es
 private_behind_with v [] = refl
@@ -124,13 +125,13 @@ at_statement_with saved c e rest =
     let m = limit_with saved c rest e.reading in
     λ j.
     a j
-    ++ stands (b j) Syntax e.statement.line
-    ++ stands (o j) NotInProfile e.statement.line
-    ++ stands (l j) OpenBlock e.statement.line
-    ++ stands (t j) BadTerminal e.statement.line
-    ++ stands (x j) IndexAssigned e.statement.line
-    ++ stands (s j && nat_lt 0 (loop_depth c.blocks)) StopPlace e.statement.line
-    ++ stands (m j) Limit e.statement.line
+    ++ refused_if (b j) Syntax e.statement.line
+    ++ refused_if (o j) NotInProfile e.statement.line
+    ++ refused_if (l j) OpenBlock e.statement.line
+    ++ refused_if (t j) BadTerminal e.statement.line
+    ++ refused_if (x j) IndexAssigned e.statement.line
+    ++ refused_if (s j && nat_lt 0 (loop_depth c.blocks)) StopPlace e.statement.line
+    ++ refused_if (m j) Limit e.statement.line
 
 at_statements_with : (saved : List (List ℕ)) (c : Context) (es : List Entry) → at_statements saved c (map (entry_with_literals saturated) es) ≡ at_statements saved c es
 at_statements_with saved c [] = refl

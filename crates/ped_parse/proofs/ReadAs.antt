@@ -2,7 +2,7 @@
 use Rattle.std.proofs.Common.{◌≡◌, ℕ, Bool, true, false, List, [], ◌∷◌, ◌++◌, map, Option, Some, None, refl, sym, ap, subst, ◌∙◌}
 use Rattle.std.specs.Prelude.{◌||◌}
 use Rattle.ped_tree.specs.Tree.{ProgramTree}
-use Rattle.ped_grammar.specs.Refusal.{Finding, Limit, stands, first_of}
+use Rattle.ped_grammar.specs.Refusal.{Finding, Limit, refused_if, first_of}
 use Rattle.ped_grammar.specs.Statement.{Statement, Statements}
 use Rattle.ped_grammar.specs.Grouping.{statements_of}
 use Rattle.ped_grammar.specs.LineRefusals.{first_line_refusal}

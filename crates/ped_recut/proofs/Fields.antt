@@ -6,7 +6,7 @@ use Rattle.std.specs.Fmt.{decimal}
 use Rattle.std.proofs.lemmas.Bool.{eqb-true, ne_eqb, and_from, and_left, and_right, or_from, or_right}
 use Rattle.std.proofs.lemmas.Fmt.{decimal_by_steps, length-decimal-le}
 use Rattle.std.proofs.lemmas.List.Folds.{list_all-append}
-use Rattle.ped_grammar.specs.Columns.{is_blank, is_digit, is_comment, continues, with_digit, label_number, label_of, has_bad_label}
+use Rattle.ped_grammar.specs.Columns.{is_blank, is_digit, is_comment, is_continuation, with_digit, label_number, label_of, has_bad_label}
 use Rattle.ped_grammar.specs.Characters.{is_printable}
 use Rattle.ped_recut.proofs.Bytes.{both, either, all_of, all_taken, digit_printable}
 use Rattle.ped_recut.specs.Printed.{label_field}
@@ -57,13 +57,13 @@ decimal_writes n h = decimal_by_steps Writes one_digit one_more n (omega arith)
 pub record IsField (field : List ℕ) (label : Option ℕ) : Type 0 where
   pub six : length field ≡ 6
   pub comment : (p : List ℕ) → list_all is_blank (take 66 p) ≡ false → is_comment (field ++ p) ≡ false
-  pub begins : (p : List ℕ) → continues (field ++ p) ≡ false
+  pub begins : (p : List ℕ) → is_continuation (field ++ p) ≡ false
   pub label_is : (p : List ℕ) → label_of (field ++ p) ≡ label
   pub good : (p : List ℕ) → has_bad_label (field ++ p) ≡ false
   pub printable : list_all is_printable field ≡ true
 
 blank_field : IsField (replicate 6 32) None
-unfolding is_comment continues label_of label_number with_digit has_bad_label
+unfolding is_comment is_continuation label_of label_number with_digit has_bad_label
 blank_field = record {
   six = refl;
   comment = λ p h. h;
@@ -121,7 +121,7 @@ digit_shown : (c : ℕ) (cs : List ℕ) → is_digit c ≡ true → list_all is_
 digit_shown c cs h = and_left (is_blank c) (list_all is_blank cs) (no_blank c h)
 
 column_facts : (a b c d e n : ℕ) → 1 ≤ n → is_digit a ≡ true → list_all may_label (a ∷ b ∷ c ∷ d ∷ e ∷ 32 ∷ []) ≡ true → read_on 0 (a ∷ b ∷ c ∷ d ∷ e ∷ []) ≡ n → IsField (a ∷ b ∷ c ∷ d ∷ e ∷ 32 ∷ []) (Some n)
-unfolding is_comment continues label_of label_number has_bad_label
+unfolding is_comment is_continuation label_of label_number has_bad_label
 column_facts a b c d e n some first all value =
     let shown : eqb n 0 ≡ false = ne_eqb n 0 (λ none. omega (arith, none)) in
     let five_may = all_taken may_label 5 (a ∷ b ∷ c ∷ d ∷ e ∷ 32 ∷ []) all in

@@ -2,11 +2,11 @@
 use Rattle.std.proofs.Common.{◌≡◌, ℕ, suc, zero, ◌+◌, ◌-◌, ◌*◌, ◌≤◌, Bool, true, false, List, [], ◌∷◌, ◌++◌, map, length, take, drop, codes, refl, ap, sym, ◌∙◌, add-zero, eqb, arith}
 use Rattle.std.specs.List.{AllByRecursion, list_all, flat_map}
 use Rattle.std.proofs.lemmas.Bool.{ne_eqb}
-use Rattle.ped_grammar.specs.Columns.{is_comment, continues, has_tab, has_bad_label, has_label_field, statement_columns}
+use Rattle.ped_grammar.specs.Columns.{is_comment, is_continuation, has_tab, has_bad_label, has_label_field, statement_columns}
 use Rattle.ped_grammar.specs.Characters.{is_printable, has_bad}
 use Rattle.ped_grammar.specs.Statement.{Note}
 use Rattle.ped_grammar.specs.Grouping.{NumberedLine, further_lines, joined_columns, notes_within, notes_behind, statements_from}
-use Rattle.ped_grammar.specs.Refusal.{stands}
+use Rattle.ped_grammar.specs.Refusal.{refused_if}
 use Rattle.ped_grammar.specs.LineRefusals.{Role, Initial, Continuation, label_is_bad, is_too_many, is_orphan, at_line, at_further, in_statements}
 use Rattle.ped_tree.specs.Printing.{piece}
 use Rattle.ped_lines.proofs.Quoting.{has_bad_append}
@@ -25,8 +25,8 @@ further_comment : (cs : List ℕ) (k : ℕ) → is_comment (further_line cs k) �
 unfolding is_comment
 further_comment cs k = refl
 
-further_continues : (cs : List ℕ) (k : ℕ) → continues (further_line cs k) ≡ true
-unfolding continues
+further_continues : (cs : List ℕ) (k : ℕ) → is_continuation (further_line cs k) ≡ true
+unfolding is_continuation
 further_continues cs k = refl
 
 further_field : (cs : List ℕ) (k : ℕ) → has_label_field (further_line cs k) ≡ false
@@ -97,7 +97,7 @@ further_joined n cs (k ∷ ks) = λ i. further_columns cs k i ++ further_joined 
 
 -- no refusal stands where none of its tests holds
 nothing_stands : (n : ℕ) (role : Role) (before line : List ℕ) → has_tab line ≡ false → label_is_bad role line ≡ false → is_too_many role ≡ false → is_orphan role ≡ false → has_bad before (statement_columns line) ≡ false → at_line n role before line ≡ []
-unfolding at_line stands
+unfolding at_line refused_if
 nothing_stands n role before line tab label many orphan bad = rw (tab, label, many, orphan, bad) refl
 
 pub nothing_further : (n left : ℕ) (before cs ks : List ℕ) → list_all is_printable cs ≡ true → length ks ≤ left → has_bad before (flat_map (λ k. filled (piece cs k)) ks) ≡ false → at_further left before (numbered_from n cs ks) ≡ []

@@ -5,11 +5,11 @@ use Rattle.std.specs.Str.Lines.{lines}
 use Rattle.std.proofs.lemmas.Bool.{and_from}
 use Rattle.std.proofs.lemmas.List.{append-nil, take-take, length-map}
 use Rattle.std.proofs.lemmas.List.Folds.{list_all-append}
-use Rattle.ped_grammar.specs.Columns.{is_blank, is_comment, continues, has_bad_label, label_of, statement_columns}
+use Rattle.ped_grammar.specs.Columns.{is_blank, is_comment, is_continuation, has_bad_label, label_of, statement_columns}
 use Rattle.ped_grammar.specs.Characters.{is_printable, is_quoted, has_bad, text_of}
 use Rattle.ped_grammar.specs.Statement.{Note, Statements}
 use Rattle.ped_grammar.specs.Grouping.{comment_at, directive_at, further_lines, joined_columns, notes_within, notes_behind, statement_at, statements_from, statements_of}
-use Rattle.ped_grammar.specs.Refusal.{OpenConstant, stands, first_of}
+use Rattle.ped_grammar.specs.Refusal.{OpenConstant, refused_if, first_of}
 use Rattle.ped_grammar.specs.LineRefusals.{Initial, at_line, at_further, at_orphans, in_rest, in_statements, first_line_refusal}
 use Rattle.ped_tree.specs.Printing.{piece, piece_count}
 use Rattle.ped_lines.proofs.Quoting.{has_bad_append}
@@ -65,7 +65,7 @@ whole depth text fits =
 -- and of the initial line with them
 record IsInitial (label : Option ℕ) (cs line : List ℕ) : Type 0 where
   comment : is_comment line ≡ false
-  begins : continues line ≡ false
+  begins : is_continuation line ≡ false
   label_is : label_of line ≡ label
   good : has_bad_label line ≡ false
   prints : list_all is_printable line ≡ true
@@ -104,14 +104,14 @@ behind_first label cs line more at before n h = rw h.comment refl
 -- no refusal stands in a statement
 
 nothing_in_rest : (first n : ℕ) (cs text columns : List ℕ) → IsWhole cs text → columns ≡ filled (piece cs 0) → in_rest first 19 columns (numbered_from n cs (numbers cs)) ≡ []
-unfolding stands
+unfolding refused_if
 nothing_in_rest first n cs text columns w same =
     let p = filled (piece cs 0) in
     let more = flat_map (λ k. filled (piece cs k)) (numbers cs) in
     let parts = neither (has_bad [] p) (has_bad p more) (sym (has_bad_append [] p more) ∙ w.allowed) in
     let later : at_further 19 columns (numbered_from n cs (numbers cs)) ≡ [] = further.nothing_further n 19 columns cs (numbers cs) w.prints w.room (ap (λ (x : List ℕ). has_bad x more) same ∙ parts.1) in
     let closed : is_quoted (columns ++ joined_columns (numbered_from n cs (numbers cs))) ≡ false = (λ i. is_quoted (same i ++ further.further_joined n cs (numbers cs) i)) ∙ w.closed in
-    λ i. later i ++ stands (closed i) OpenConstant first
+    λ i. later i ++ refused_if (closed i) OpenConstant first
 
 -- the lines of a statement, and those behind it
 

@@ -5,8 +5,9 @@ use Rattle.ped_grammar.specs.Items.{Item, Reading, says, outside_profile, no_for
 use Rattle.ped_grammar.specs.Contexts.{Context, rank, numbered_in, is_do, loops_in, saves_list, saves_without, blocks_behind, behind}
 use Rattle.ped_base.specs.Lists.{is_among}
 use Rattle.ped_grammar.specs.Occurrences.{constants_of}
-use Rattle.ped_grammar.specs.Refusal.{Syntax, NotInProfile, OpenBlock, BadTerminal, IndexAssigned, StopPlace, Limit, stands}
-use Rattle.ped_grammar.specs.ProgramRefusals.{at_directives, at_statement, breaks_syntax, is_outside, where_it_says, leaves_open, ends_badly, stops, loop_depth, block_depth, open_variables, passes_limit, is_too_large, are_too_many, is_block, has_many_references, is_too_long, private_behind}
+use Rattle.ped_grammar.specs.Refusal.{Syntax, NotInProfile, OpenBlock, BadTerminal, IndexAssigned, StopPlace, Limit, refused_if}
+use Rattle.ped_grammar.specs.Contexts.{open_variables}
+use Rattle.ped_grammar.specs.ProgramRefusals.{at_directives, at_statement, breaks_syntax, is_left_out, where_it_says, leaves_open, ends_badly, stops, loop_depth, block_depth, passes_limit, is_too_large, are_too_many, is_block, has_many_references, is_too_long, private_behind}
 use Rattle.ped_refusals.specs.Limits.{AreSilent, is_past_limit}
 use Rattle.ped_refusals.specs.OpenContexts.{IsLike, standing_at}
 use Rattle.ped_refusals.specs.declared.limits.Before.{Before}
@@ -68,13 +69,13 @@ mixed_is c d h = λ i. record {
 pub like_statement : (saved : List (List ℕ)) (c d : Context) (e : Entry) (rest : List Entry) (passes : Bool) → IsLike c d → passes ≡ where_it_says (passes_limit saved c rest) e.reading → standing_at passes d e rest ≡ at_statement saved c e rest
 like_statement saved c d e rest passes h p =
     ap (λ (t : Bool). at_directives d e
-    ++ stands (breaks_syntax d e.reading) Syntax e.statement.line
-    ++ stands (is_outside e.reading) NotInProfile e.statement.line
-    ++ stands (where_it_says (leaves_open d.blocks) e.reading) OpenBlock e.statement.line
-    ++ stands (ends_badly d.blocks e.statement.label e.reading) BadTerminal e.statement.line
-    ++ stands t IndexAssigned e.statement.line
-    ++ stands (where_it_says stops e.reading && nat_lt 0 (loop_depth d.blocks)) StopPlace e.statement.line
-    ++ stands passes Limit e.statement.line) (assigns_same d (mixed c d) e rest refl)
+    ++ refused_if (breaks_syntax d e.reading) Syntax e.statement.line
+    ++ refused_if (is_left_out e.reading) NotInProfile e.statement.line
+    ++ refused_if (where_it_says (leaves_open d.blocks) e.reading) OpenBlock e.statement.line
+    ++ refused_if (ends_badly d.blocks e.statement.label e.reading) BadTerminal e.statement.line
+    ++ refused_if t IndexAssigned e.statement.line
+    ++ refused_if (where_it_says stops e.reading && nat_lt 0 (loop_depth d.blocks)) StopPlace e.statement.line
+    ++ refused_if passes Limit e.statement.line) (assigns_same d (mixed c d) e rest refl)
     ∙ ap (λ (x : Context). standing_at passes x e rest) (mixed_is c d h)
     ∙ ap (λ (t : Bool). standing_at t c e rest) p
 

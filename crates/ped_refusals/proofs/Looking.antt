@@ -5,7 +5,8 @@ use Rattle.ped_grammar.specs.Contexts as plain
 use Rattle.ped_grammar.specs.Contexts.{Context, behind, blocks_behind}
 use Rattle.ped_base.specs.Lists.{is_among}
 use Rattle.ped_grammar.specs.Occurrences.{of_reading, do_variables}
-use Rattle.ped_grammar.specs.ProgramRefusals.{open_variables, inner_variables, meets, assigned_in, private_in, assigns_index}
+use Rattle.ped_grammar.specs.Contexts.{open_variables}
+use Rattle.ped_grammar.specs.ProgramRefusals.{meets, assigned_in, private_in, assigns_index}
 use Rattle.ped_refusals.specs.declared.blocks.Block.{Block}
 use Rattle.ped_refusals.specs.OpenBlocks.{block_of, opened_in, blocks_of}
 use Rattle.ped_refusals.specs.OpenContexts.{with_blocks}

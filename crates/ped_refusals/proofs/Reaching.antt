@@ -1,7 +1,7 @@
 -- How far the first refusal of statements has been found.
 use Rattle.std.proofs.Common.{◌≡◌, ℕ, ◌+◌, ◌≤◌, nat_le, not, true, List, [], ◌∷◌, ◌++◌, length, Option, None, refl, sym, ap, subst, ◌∙◌, arith}
 use Rattle.std.specs.List.{flat_map}
-use Rattle.ped_grammar.specs.Refusal.{Finding, OpenBlock, Syntax, stands, earliest, first_of}
+use Rattle.ped_grammar.specs.Refusal.{Finding, OpenBlock, Syntax, refused_if, earliest, first_of}
 use Rattle.ped_grammar.specs.Statement.{Statements}
 use Rattle.ped_grammar.specs.Occurrences.{saved_names}
 use Rattle.ped_grammar.proofs.First.{earliest_append}
@@ -60,7 +60,7 @@ reached_more saved all code more found next e rest left at r h k =
 
 -- no END has come where none has come in a context that is alike
 same_end : (c d : Context) (all : Statements) → c.phase ≡ d.phase → at_end d all ≡ at_end c all
-same_end c d all h = λ i. stands (not (nat_le 5 (sym h i))) OpenBlock all.lines ++ flat_map (λ d. stands true Syntax d.line) all.directives
+same_end c d all h = λ i. refused_if (not (nat_le 5 (sym h i))) OpenBlock all.lines ++ flat_map (λ d. refused_if true Syntax d.line) all.directives
 
 -- behind the last statement
 pub reached_end : (saved : List (List ℕ)) (entries : List Entry) (code : Context) (found next : Option Finding) (left : List Entry) (all : Statements) → left ≡ [] → Reached saved entries code found left

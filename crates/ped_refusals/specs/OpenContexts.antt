@@ -4,8 +4,8 @@ use Rattle.ped_print.specs.Lengths.{limited}
 use Rattle.ped_base.specs.Lists.{is_among}
 use Rattle.ped_grammar.specs.Contexts as plain
 use Rattle.ped_grammar.specs.Items.{Entry}
-use Rattle.ped_grammar.specs.Refusal.{Finding, Syntax, NotInProfile, OpenBlock, BadTerminal, IndexAssigned, StopPlace, Limit, stands}
-use Rattle.ped_grammar.specs.ProgramRefusals.{at_directives, breaks_syntax, is_outside, where_it_says, leaves_open, ends_badly, assigns_index, stops, loop_depth}
+use Rattle.ped_grammar.specs.Refusal.{Finding, Syntax, NotInProfile, OpenBlock, BadTerminal, IndexAssigned, StopPlace, Limit, refused_if}
+use Rattle.ped_grammar.specs.ProgramRefusals.{at_directives, breaks_syntax, is_left_out, where_it_says, leaves_open, ends_badly, assigns_index, stops, loop_depth}
 use Rattle.ped_refusals.specs.OpenBlocks.{blocks_of}
 use Rattle.ped_refusals.specs.declared.contexts.Context.{Context}
 
@@ -41,10 +41,10 @@ with_blocks blocks = record plain.at_start { blocks = blocks }
 abbrev pub standing_at : Bool → plain.Context → Entry → List Entry → List Finding
 standing_at passes c e rest =
     at_directives c e
-    ++ stands (breaks_syntax c e.reading) Syntax e.statement.line
-    ++ stands (is_outside e.reading) NotInProfile e.statement.line
-    ++ stands (where_it_says (leaves_open c.blocks) e.reading) OpenBlock e.statement.line
-    ++ stands (ends_badly c.blocks e.statement.label e.reading) BadTerminal e.statement.line
-    ++ stands (assigns_index c e rest) IndexAssigned e.statement.line
-    ++ stands (where_it_says stops e.reading && nat_lt 0 (loop_depth c.blocks)) StopPlace e.statement.line
-    ++ stands passes Limit e.statement.line
+    ++ refused_if (breaks_syntax c e.reading) Syntax e.statement.line
+    ++ refused_if (is_left_out e.reading) NotInProfile e.statement.line
+    ++ refused_if (where_it_says (leaves_open c.blocks) e.reading) OpenBlock e.statement.line
+    ++ refused_if (ends_badly c.blocks e.statement.label e.reading) BadTerminal e.statement.line
+    ++ refused_if (assigns_index c e rest) IndexAssigned e.statement.line
+    ++ refused_if (where_it_says stops e.reading && nat_lt 0 (loop_depth c.blocks)) StopPlace e.statement.line
+    ++ refused_if passes Limit e.statement.line

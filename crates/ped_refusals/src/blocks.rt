@@ -98,8 +98,8 @@ pub fn takes_else(blocks: &[Block]) -> bool
 }
 
 /// Whether an IF is open.
-pub fn takes_end_if(blocks: &[Block]) -> bool
-    ensures { result ≡ Spec.takes_end_if (blocks_of blocks.now) }
+pub fn has_if(blocks: &[Block]) -> bool
+    ensures { result ≡ Spec.has_if (blocks_of blocks.now) }
 {
     let mut left = blocks;
     while let Some((block, outer)) = split_innermost(left) {

@@ -6,7 +6,7 @@ ghost use Rattle.ped_grammar.specs.Statement.{Note};
 ghost use Rattle.ped_grammar.specs.Contexts as Contexts;
 ghost use Rattle.ped_grammar.specs.Occurrences as Occurrences;
 ghost use Rattle.ped_grammar.specs.Words as Words;
-ghost use Rattle.ped_grammar.specs.Refusal.{earliest, stands, Syntax};
+ghost use Rattle.ped_grammar.specs.Refusal.{earliest, refused_if, Syntax};
 ghost use Rattle.ped_grammar.specs.ProgramRefusals as Spec;
 ghost use Rattle.ped_grammar.specs.ProgramRefusals.{where_it_says};
 ghost use Rattle.ped_grammar.specs.StatementViews.{note_of, statement_of};
@@ -44,7 +44,7 @@ pub fn at_last_directives(
     found: Option<Refusal>,
     directives: &[NoteLine],
 ) -> Option<Refusal>
-    ensures { found_of result ≡ earliest (found_of found) (flat_map (λ d. stands true Syntax d.line) (map note_of directives.now)) }
+    ensures { found_of result ≡ earliest (found_of found) (flat_map (λ d. refused_if true Syntax d.line) (map note_of directives.now)) }
 {
     let mut found = found;
     for directive in directives {

@@ -4,7 +4,7 @@ ghost use Rattle.std.specs.Prelude.{◌≡◌, ◌+◌, ◌<◌, ◌^◌, ◌++�
 ghost use Rattle.std.specs.List.{list_all};
 ghost use Rattle.ped_grammar.specs.Statement.{Statements};
 ghost use Rattle.ped_grammar.specs.Refusal as Refusal;
-ghost use Rattle.ped_grammar.specs.Refusal.{first_of, earliest, stands, number_of};
+ghost use Rattle.ped_grammar.specs.Refusal.{first_of, earliest, refused_if, number_of};
 ghost use Rattle.ped_grammar.specs.Occurrences as Occurrences;
 ghost use Rattle.ped_grammar.specs.Occurrences.{of_reading};
 ghost use Rattle.ped_grammar.specs.Items.{Entry as PlainEntry};
@@ -195,10 +195,10 @@ fn at_places(
 ) -> Option<Refusal>
     ensures { let c = context_of context.now in let e = entry_of entry.now in
         found_of result ≡ earliest (found_of found)
-        (stands (Spec.breaks_syntax c e.reading) Refusal.Syntax e.statement.line
-        ++ stands (Spec.is_outside e.reading) Refusal.NotInProfile e.statement.line
-        ++ stands (where_it_says (Spec.leaves_open c.blocks) e.reading) Refusal.OpenBlock e.statement.line
-        ++ stands (Spec.ends_badly c.blocks e.statement.label e.reading) Refusal.BadTerminal e.statement.line) }
+        (refused_if (Spec.breaks_syntax c e.reading) Refusal.Syntax e.statement.line
+        ++ refused_if (Spec.is_left_out e.reading) Refusal.NotInProfile e.statement.line
+        ++ refused_if (where_it_says (Spec.leaves_open c.blocks) e.reading) Refusal.OpenBlock e.statement.line
+        ++ refused_if (Spec.ends_badly c.blocks e.statement.label e.reading) Refusal.BadTerminal e.statement.line) }
 {
     let line = entry.statement.line;
     let found = standing(
@@ -304,14 +304,14 @@ fn at_end(
 }
 
 /// The earlier one of what was found and the refusal of this kind and line, where it stands.
-#[tactic(auto, unfolding(ped_grammar::specs::Refusal::stands))]
+#[tactic(auto, unfolding(ped_grammar::specs::Refusal::refused_if))]
 pub fn standing(
     found: Option<Refusal>,
     test: bool,
     kind: RefusalKind,
     line: u64,
 ) -> Option<Refusal>
-    ensures { found_of result ≡ earliest (found_of found) (stands test (kind_of kind) line) }
+    ensures { found_of result ≡ earliest (found_of found) (refused_if test (kind_of kind) line) }
 {
     if test {
         earlier(found, Refusal { kind, line })

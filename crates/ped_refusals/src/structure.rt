@@ -11,7 +11,7 @@ ghost use Rattle.ped_refusals.specs.OpenBlocks.{blocks_of};
 ghost use Rattle.ped_refusals.specs.OpenContexts.{context_of};
 
 use crate::blocks::{
-    Block, has_do, is_in_block, is_in_do, is_stop, outside, takes_else, takes_end_if,
+    Block, has_do, is_in_block, is_in_do, is_stop, outside, takes_else, has_if,
 };
 use crate::contexts::{Context, rank, saves_list, saves_without};
 use ped_grammar::{Item, StatementReading};
@@ -61,7 +61,7 @@ fn lacks_if(blocks: &[Block], item: &Item) -> bool
 {
     match item {
         Item::ElseIf(_) | Item::Else => !takes_else(blocks),
-        Item::EndIf => !takes_end_if(blocks),
+        Item::EndIf => !has_if(blocks),
         _ => false,
     }
 }
@@ -86,7 +86,7 @@ fn saves_again(context: &Context, item: &Item) -> bool
 
 /// Whether the statement is one that the profile leaves out.
 pub fn is_outside(reading: &StatementReading) -> bool
-    ensures { result ≡ Spec.is_outside (reading_of reading.now) }
+    ensures { result ≡ Spec.is_left_out (reading_of reading.now) }
 {
     match reading {
         StatementReading::OutsideProfile => true,

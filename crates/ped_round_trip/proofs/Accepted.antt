@@ -7,7 +7,8 @@ use Rattle.ped_tree.specs.Printing.{own_text, private_text}
 use Rattle.ped_grammar.specs.Items.{block_if, else_line, end_if, keeps_private, Entry}
 use Rattle.ped_grammar.specs.Contexts.{Block, in_then, in_else, in_do, Context, behind}
 use Rattle.ped_grammar.specs.BlockForms.{entry}
-use Rattle.ped_grammar.specs.ProgramRefusals.{is_late_private, has_do, open_variables, inner_variables, meets, assigns_index, private_behind, block_depth, is_too_long}
+use Rattle.ped_grammar.specs.Contexts.{has_do, open_variables}
+use Rattle.ped_grammar.specs.ProgramRefusals.{is_late_private, meets, assigns_index, private_behind, block_depth, is_too_long}
 use Rattle.ped_recut.specs.Printed.{a_rejection}
 use Rattle.ped_round_trip.proofs.Pieces.{Piece, bare, label_number, do_piece, continue_piece, private_pieces, rejection_pieces, statement_pieces, statements_pieces, else_pieces, Spot, statement_here, behind_pieces, entry_here, entries_here, behind_both, entries_both}
 use Rattle.ped_round_trip.proofs.Forms.{then_spot, rest_spot, else_spot, do_spot, private_spot, inner_spot, end_spot, rejections_none}

@@ -6,13 +6,14 @@ use Rattle.ped_tree.specs.Tree.{DeclTree, Program, Implicit, Integer, Dimension,
 use Rattle.ped_tree.specs.Accesses.{constants_in}
 use Rattle.ped_base.specs.Lists.{has_some}
 use Rattle.ped_tree.specs.Printing.{decl_text}
-use Rattle.ped_grammar.specs.Refusal.{Finding, Syntax, OpenBlock, stands, first_of}
+use Rattle.ped_grammar.specs.Refusal.{Finding, Syntax, OpenBlock, refused_if, first_of}
 use Rattle.ped_grammar.specs.Statement.{Note, Statements}
 use Rattle.ped_grammar.specs.Items.{declares, ends_program, says, Entry}
 use Rattle.ped_grammar.specs.Occurrences.{saved_names}
 use Rattle.ped_grammar.specs.Contexts.{Block, Context, at_start, decl_rank, is_save, behind, behind_all}
 use Rattle.ped_grammar.specs.BlockForms.{entry}
-use Rattle.ped_grammar.specs.ProgramRefusals.{is_out_of_order, is_behind_end, breaks_syntax, leaves_open, has_do, open_variables, block_depth, is_too_large, is_too_long, at_statement, at_statements, at_end, program_refusals}
+use Rattle.ped_grammar.specs.Contexts.{has_do, open_variables}
+use Rattle.ped_grammar.specs.ProgramRefusals.{is_out_of_order, is_behind_end, breaks_syntax, leaves_open, block_depth, is_too_large, is_too_long, at_statement, at_statements, at_end, program_refusals}
 use Rattle.ped_round_trip.proofs.Pieces.{decl_piece, end_piece, statements_pieces, Spot, statement_here, behind_piece, entry_here, entries_here, behind_both, entries_both}
 use Rattle.ped_round_trip.proofs.Trees.{rejections}
 use Rattle.ped_round_trip.proofs.WholeForm.{start, body_spot, ending_spot, whole_entries, decls_only}
@@ -170,8 +171,8 @@ behind_last : (c : Context) (es : List Entry) (e : Entry) → behind_all c (es +
 behind_last c [] e = refl
 behind_last c (x ∷ xs) e = behind_last (behind c x) xs e
 
-stands_not : (line : ℕ) (test : Bool) → test ≡ true → stands (not test) OpenBlock line ≡ []
-unfolding stands
+stands_not : (line : ℕ) (test : Bool) → test ≡ true → refused_if (not test) OpenBlock line ≡ []
+unfolding refused_if
 stands_not line true h = refl
 stands_not line false h = absurd cc
 
@@ -214,6 +215,6 @@ whole_accepted t all fits none =
     ∙ past_end (behind_all at_start (ed ++ es)).phase in
     let ending : at_end (behind_all at_start (whole_entries t)) all ≡ [] =
     (let a = stands_not all.lines (is_behind_end (behind_all at_start (whole_entries t))) ended in
-    let b = ap (λ (ns : List Note). flat_map (λ (d : Note). stands true Syntax d.line) ns) none in
+    let b = ap (λ (ns : List Note). flat_map (λ (d : Note). refused_if true Syntax d.line) ns) none in
     λ i. a i ++ b i) in
     (λ i. first_of (statements i ++ ending i))

@@ -12,7 +12,8 @@ use Rattle.ped_base.specs.Lists.{is_same_text, is_among}
 use Rattle.ped_grammar.specs.Occurrences.{do_variables, is_rejection, rejected_name, rejected_names}
 use Rattle.ped_grammar.specs.Contexts.{Block, Context, behind, behind_all}
 use Rattle.ped_grammar.specs.BlockForms.{entry}
-use Rattle.ped_grammar.specs.ProgramRefusals.{open_variables, inner_variables, meets, block_depth}
+use Rattle.ped_grammar.specs.Contexts.{open_variables}
+use Rattle.ped_grammar.specs.ProgramRefusals.{meets, block_depth}
 use Rattle.ped_reprint.specs.Printed.{of_block_if, of_else_if}
 use Rattle.ped_round_trip.proofs.Fits.{Said, Place, in_if, BranchFits, AllFit}
 use Rattle.ped_round_trip.proofs.FitBodyLists.{ListFit, packed_fit, count_of, loops_of, variables_of, counts_both, loops_both, variables_both, At, at_same, place, Fitting, fitting_both, inner_step, inner_at}

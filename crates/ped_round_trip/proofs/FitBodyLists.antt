@@ -11,7 +11,8 @@ use Rattle.ped_grammar.specs.Items.{Item, Entry}
 use Rattle.ped_grammar.specs.Occurrences.{of_reading, do_variables, constants_of}
 use Rattle.ped_grammar.specs.Contexts.{Block, Context, numbered_in, loops_in, blocks_behind, behind, behind_all}
 use Rattle.ped_grammar.specs.BlockForms.{entry, comments_of}
-use Rattle.ped_grammar.specs.ProgramRefusals.{open_variables, inner_variables, at_statement, at_statements}
+use Rattle.ped_grammar.specs.Contexts.{open_variables}
+use Rattle.ped_grammar.specs.ProgramRefusals.{at_statement, at_statements}
 use Rattle.ped_grammar.specs.Reading.{IsReading}
 use Rattle.ped_recut.specs.Fitting.{IsCommentText}
 use Rattle.ped_blocks.proofs.BlocksFound.{right_empty}

@@ -10,7 +10,8 @@ use Rattle.ped_grammar.specs.Items.{begins_do, keeps_private, Entry}
 use Rattle.ped_grammar.specs.Occurrences.{rejected_names}
 use Rattle.ped_grammar.specs.Contexts.{Block, in_do, Context, behind, behind_all}
 use Rattle.ped_grammar.specs.BlockForms.{a_simple, a_continue, a_logical_if, PrivateForm, no_private, private_list, BodyForm, nothing, and_then, PartForm, a_plain, an_if, a_do, loop, EndingForm, at_plain, with_inner, entry, private_entries, body_entries, part_entries, ending_entries, names_of_private, comments_of_private, whole_head}
-use Rattle.ped_grammar.specs.ProgramRefusals.{open_variables, inner_variables, meets, private_behind, block_depth, loop_depth}
+use Rattle.ped_grammar.specs.Contexts.{open_variables}
+use Rattle.ped_grammar.specs.ProgramRefusals.{meets, private_behind, block_depth, loop_depth}
 use Rattle.ped_reprint.specs.Printed.{of_do}
 use Rattle.ped_round_trip.proofs.Fits.{Said, Place, in_loop, PrivateFits, KeepsPrivate, LoopFits}
 use Rattle.ped_round_trip.proofs.FitBodyLists.{packed_fit, count_of, loops_of, variables_of, IsSourced, Sourced, Accepted, accepted_next, At, at_same, place, Fitting, bare_fitting, nothing_fitting, inner_step, inner_at, one_longer}

@@ -11,7 +11,8 @@ use Rattle.ped_grammar.specs.StatementForms.{assignment, print, read, stop, cont
 use Rattle.ped_grammar.specs.Items.{Item, declares, saves_all, does, continues, logical_if, block_if, else_if, else_line, end_if, begins_do, keeps_private, ends_program, says, Entry}
 use Rattle.ped_grammar.specs.Contexts.{Block, in_then, in_else, in_do, Context, is_stop, may_end, closed, closed_by, blocks_behind, behind}
 use Rattle.ped_grammar.specs.BlockForms.{PlainForm, a_simple, a_continue, a_logical_if, plain_item, plain_trees, entry, has_label, is_free}
-use Rattle.ped_grammar.specs.ProgramRefusals.{has_do, ends_badly, open_variables, assigned_by, assigned_in, private_in, inner_variables, meets, stops, private_behind, loop_depth, block_depth, is_too_large, are_too_many, is_too_deep, has_many_references, is_too_long, at_statement}
+use Rattle.ped_grammar.specs.Contexts.{has_do, open_variables}
+use Rattle.ped_grammar.specs.ProgramRefusals.{ends_badly, assigned_by, assigned_in, private_in, meets, stops, private_behind, loop_depth, block_depth, is_too_large, are_too_many, is_too_deep, has_many_references, is_too_long, at_statement}
 use Rattle.ped_reprint.specs.Printed.{itself, of_logical_if, behind_logical_if}
 use Rattle.ped_blocks.proofs.BlocksFound.{none_stands, left_empty, right_empty}
 use Rattle.ped_blocks.proofs.BlocksMoved.{labels}

@@ -10,7 +10,8 @@ use Rattle.ped_grammar.specs.Items.{Item, does, continues, block_if, else_line, 
 use Rattle.ped_grammar.specs.Contexts.{Block, in_then, in_else, in_do, Context, rank, numbered_in, loops_in, saves_list, saves_without, is_stop, closed, blocks_behind, behind_item, may_end}
 use Rattle.ped_grammar.specs.Occurrences.{constants_of}
 use Rattle.ped_grammar.specs.BlockForms.{entry, whole_head}
-use Rattle.ped_grammar.specs.ProgramRefusals.{is_out_of_order, lacks_if, is_late_private, breaks_syntax, leaves_open, has_do, ends_badly, open_variables, assigned_by, meets, assigns_index, private_behind, loop_depth, block_depth, is_too_large, are_too_many, is_too_deep, has_many_references, is_too_long, passes_limit}
+use Rattle.ped_grammar.specs.Contexts.{has_do, open_variables}
+use Rattle.ped_grammar.specs.ProgramRefusals.{is_out_of_order, lacks_if, is_late_private, breaks_syntax, leaves_open, ends_badly, assigned_by, meets, assigns_index, private_behind, loop_depth, block_depth, is_too_large, are_too_many, is_too_deep, has_many_references, is_too_long, passes_limit}
 use Rattle.ped_reprint.specs.Printed.{SaysFirstLine, itself, of_block_if, of_else_if, of_logical_if, behind_logical_if, of_do, first_line_item}
 use Rattle.ped_recut.specs.Printed.{PrintedNote, a_rejection}
 use Rattle.ped_recut.specs.Cut.{comments_at, directives_at}

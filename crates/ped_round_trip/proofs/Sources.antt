@@ -4,7 +4,7 @@ use Rattle.std.specs.Prelude.{◌||◌, None}
 use Rattle.std.specs.List.{AllByRecursion, list_any, slice_split, onto_first}
 use Rattle.std.specs.Str.Lines.{lines, lines_of_parts, strip_carriage_return}
 use Rattle.std.proofs.lemmas.Bool.{or_from}
-use Rattle.ped_grammar.specs.Columns.{is_comment, is_directive, continues, statement_columns}
+use Rattle.ped_grammar.specs.Columns.{is_comment, is_directive, is_continuation, statement_columns}
 use Rattle.ped_grammar.specs.Statement.{Note, Statement}
 use Rattle.ped_grammar.specs.Grouping.{further_lines, comment_text, comment_at, directive_at, notes_within, statement_at, statements_from, statements_of}
 use Rattle.ped_grammar.specs.Refusal.{Finding}
@@ -74,7 +74,7 @@ within_fit before n [] f h = tt
 within_fit before n (line ∷ more) f h =
     let longer = within_fit (before ++ comment_at n line) (n + 1) more (joined_fit before (comment_at n line) f (comment_fits n line h.0)) h.1 in
     let others = joined_fit before (notes_within comment_at [] (n + 1) more) f (within_fit [] (n + 1) more tt h.1) in
-    by_line (is_comment line) (continues line) _ _ longer others
+    by_line (is_comment line) (is_continuation line) _ _ longer others
 
 -- statements
 
@@ -100,7 +100,7 @@ from_sourced comments directives n (line ∷ more) f h ok =
     let line_found = at_line n Initial [] line in
     let rest_found = in_rest n 19 (statement_columns line) (further_lines (n + 1) more) in
     let noted = from_sourced (comments ++ comment_at n line) (directives ++ directive_at n line) (n + 1) more (joined_fit comments (comment_at n line) f (comment_fits n line h.0)) h.1 in
-    found_by_line (is_comment line) (continues line) (line_found ++ rest_found) (in_statements (n + 1) more) (statement_at comments directives n line more) _ (statements_from [] [] (n + 1) more) ok
+    found_by_line (is_comment line) (is_continuation line) (line_found ++ rest_found) (in_statements (n + 1) more) (statement_at comments directives n line more) _ (statements_from [] [] (n + 1) more) ok
     (λ none. begun_sourced comments directives n line more f h.1 (left_empty line_found rest_found none) (right_empty line_found rest_found none))
     noted (from_sourced [] [] (n + 1) more tt h.1)
 

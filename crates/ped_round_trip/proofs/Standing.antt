@@ -3,12 +3,13 @@ use Rattle.std.proofs.Common.{◌≡◌, ℕ, suc, ◌+◌, ◌*◌, ◌<◌, �
 use Rattle.std.specs.Prelude.{codes, not, ◌&&◌, ◌||◌, ◌==◌, nat_lt, nat_le}
 use Rattle.std.specs.List.{list_any, list_all, flat_map}
 use Rattle.ped_grammar.specs.Words.{is_name}
-use Rattle.ped_grammar.specs.Refusal.{Refusal, Finding, Syntax, NotInProfile, OpenBlock, BadTerminal, IndexAssigned, StopPlace, Limit, stands}
+use Rattle.ped_grammar.specs.Refusal.{Refusal, Finding, Syntax, NotInProfile, OpenBlock, BadTerminal, IndexAssigned, StopPlace, Limit, refused_if}
 use Rattle.ped_grammar.specs.Statement.{Note}
 use Rattle.ped_grammar.specs.Items.{Entry}
 use Rattle.ped_grammar.specs.Occurrences.{of_reading, do_variables}
 use Rattle.ped_grammar.specs.Contexts.{Block, in_then, in_else, in_do, Context, is_do, closed, behind}
-use Rattle.ped_grammar.specs.ProgramRefusals.{where_it_says, is_outside, breaks_syntax, is_behind_end, leaves_open, has_do, ends_badly, open_variables, inner_variables, assigns_index, stops, loop_depth, block_depth, passes_limit, is_bad_directive, at_directives, at_statement, at_statements}
+use Rattle.ped_grammar.specs.Contexts.{has_do, open_variables}
+use Rattle.ped_grammar.specs.ProgramRefusals.{where_it_says, is_left_out, breaks_syntax, is_behind_end, leaves_open, ends_badly, assigns_index, stops, loop_depth, block_depth, passes_limit, is_bad_directive, at_directives, at_statement, at_statements}
 use Rattle.ped_recut.specs.Printed.{PrintedNote, a_comment, a_rejection}
 use Rattle.ped_recut.specs.Cut.{comments_at, directives_at}
 use Rattle.ped_round_trip.proofs.Trees.{rejections}
@@ -42,13 +43,13 @@ loops_open (in_do l v ∷ bs) = ap (λ n. n + 1) (loops_open bs) ∙ more (lengt
     more : (n : ℕ) → n + 1 ≡ suc n
     more n = omega arith
 
-none : (r : Refusal) (line : ℕ) (test : Bool) → test ≡ false → stands test r line ≡ []
-unfolding stands
+none : (r : Refusal) (line : ℕ) (test : Bool) → test ≡ false → refused_if test r line ≡ []
+unfolding refused_if
 none r line true h = absurd cc
 none r line false h = refl
 
 -- nothing is refused where all tests fail
-pub passes_all : (saved : List (List ℕ)) (c : Context) (e : Entry) (rest : List Entry) → at_directives c e ≡ [] → breaks_syntax c e.reading ≡ false → is_outside e.reading ≡ false
+pub passes_all : (saved : List (List ℕ)) (c : Context) (e : Entry) (rest : List Entry) → at_directives c e ≡ [] → breaks_syntax c e.reading ≡ false → is_left_out e.reading ≡ false
     → where_it_says (leaves_open c.blocks) e.reading ≡ false → ends_badly c.blocks e.statement.label e.reading ≡ false → assigns_index c e rest ≡ false
     → (where_it_says stops e.reading && nat_lt 0 (loop_depth c.blocks)) ≡ false → where_it_says (passes_limit saved c rest) e.reading ≡ false → at_statement saved c e rest ≡ []
 passes_all saved c e rest d b o l t x s m =
@@ -70,7 +71,7 @@ no_directives n (a_comment text ∷ ns) h = no_directives (n + 1) ns h
 no_directives n (a_rejection x ∷ ns) h = absurd cc
 
 pub undirected : (c : Context) (e : Entry) (n : ℕ) (ns : List PrintedNote) → e.statement.directives ≡ directives_at n ns → rejections ns ≡ [] → at_directives c e ≡ []
-undirected c e n ns same h = ap (λ (ds : List Note). flat_map (λ d. stands (is_bad_directive c e d) Syntax d.line) ds) (same ∙ no_directives n ns h)
+undirected c e n ns same h = ap (λ (ds : List Note). flat_map (λ d. refused_if (is_bad_directive c e d) Syntax d.line) ds) (same ∙ no_directives n ns h)
 
 shifted : (n m : ℕ) → n + 1 + m ≡ n + suc m
 shifted n m = omega arith
@@ -127,7 +128,7 @@ one_more m n h = omega arith
 directives_good : (c : Context) (e : Entry) (m n : ℕ) (names : List (List ℕ)) → is_behind_end c ≡ false → where_it_says is_do e.reading ≡ true
     → ((l : ℕ) → m ≤ l → list_any (λ (k : Note). nat_lt l k.line && nat_lt k.line e.statement.line) e.statement.comments ≡ false)
     → m ≤ n → n + length names ≤ e.statement.line → list_all is_name names ≡ true
-    → flat_map (λ (d : Note). stands (is_bad_directive c e d) Syntax d.line) (directives_at n (map a_rejection names)) ≡ []
+    → flat_map (λ (d : Note). refused_if (is_bad_directive c e d) Syntax d.line) (directives_at n (map a_rejection names)) ≡ []
 directives_good c e m n [] before loop apart low high named = refl
 directives_good c e m n (x ∷ xs) before loop apart low high named =
     let is = and_left (is_name x) (list_all is_name xs) named in
@@ -144,7 +145,7 @@ directed c e n ns names before loop comments directives line only named =
     let m = n + length ns in
     let apart : (l : ℕ) → m ≤ l → list_any (λ (k : Note). nat_lt l k.line && nat_lt k.line e.statement.line) e.statement.comments ≡ false = λ l h.
     ap (λ (ks : List Note). list_any (λ (k : Note). nat_lt l k.line && nat_lt k.line e.statement.line) ks) (comments ∙ comments_front n ns names) ∙ comments_before n ns l e.statement.line h in
-    ap (λ (ds : List Note). flat_map (λ d. stands (is_bad_directive c e d) Syntax d.line) ds) (directives ∙ directives_behind n ns names only)
+    ap (λ (ds : List Note). flat_map (λ d. refused_if (is_bad_directive c e d) Syntax d.line) ds) (directives ∙ directives_behind n ns names only)
     ∙ directives_good c e m m names before loop apart (itself m) (last n ns names e.statement.line line) named
   where
     itself : (m : ℕ) → m ≤ m

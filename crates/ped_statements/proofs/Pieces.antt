@@ -12,7 +12,7 @@ use Rattle.ped_grammar.specs.StatementForms.{ItemForm, a_value, a_text, item_for
 use Rattle.ped_expressions.specs.Scanning.{◌>>=◌, front, behind, first_is, after, scaling_at, adding_at}
 use Rattle.ped_expressions.specs.ExpressionReading.{with_literals, enough, expr_of, primary_of}
 use Rattle.ped_statements.specs.Saturated.{item_with_literals}
-use Rattle.ped_statements.specs.StatementReading.{name_at, is_reference, reference_of, quoted_at, item_of}
+use Rattle.ped_statements.specs.StatementReading.{name_at, is_reference, reference_of, quoted_at, print_item_of}
 use Rattle.ped_statements.specs.ProfileReading.{numeral_at}
 use Rattle.ped_expressions.proofs.Basics.{some_is, bind_some, stops_or_goes, chosen, guarded, front_behind, front_all, after_is, after_none}
 use Rattle.ped_expressions.proofs.Sound.{FoundExpr, FoundPrimary, expr_found, primary_found, read_on}
@@ -215,8 +215,8 @@ part_no_apostrophe : (ts : List ℕ) → ends_part ts ≡ true → no_apostrophe
 part_no_apostrophe [] h = refl
 part_no_apostrophe (c ∷ ts) h = grind (arith, eqb-true)
 
-pub item_found : (v : ℕ → ℕ) → Finds item_form_text (λ i. item_with_literals v (item_form_tree i)) (λ i. true) (item_of v)
-unfolding item_of
+pub item_found : (v : ℕ → ℕ) → Finds item_form_text (λ i. item_with_literals v (item_form_tree i)) (λ i. true) (print_item_of v)
+unfolding print_item_of
 item_found v ts x h =
     let Found : ItemTree × List ℕ → Type 0 = λ y. (i : ItemForm) × (true ≡ true) × (item_with_literals v (item_form_tree i) ≡ y.0) × (ts ≡ item_form_text i ++ y.1) in
     elim (stops_or_goes (after (codes "'") ts) (expr_of v ts >>= λ x. Some (Value x.0, x.1)) (λ q. quoted_at false q >>= λ x. Some (Text x.0, x.1)) (Some x) h) [
@@ -230,12 +230,12 @@ item_found v ts x h =
           subst Found (some_is (Text a.0.0, a.0.1) x a.2) (a_text a.0.0, refl, refl, after_is (codes "'") ts g.0 g.1 ∙ ap (λ (w : List ℕ). 39 ∷ w) (f ∙ sym (append_assoc (doubled a.0.0) (39 ∷ []) a.0.1)))
     ]
 
-pub item_back : (v : ℕ → ℕ) → IsReadBack item_form_text (λ i. item_with_literals v (item_form_tree i)) (λ i. true) ends_part (item_of v)
-unfolding item_of
+pub item_back : (v : ℕ → ℕ) → IsReadBack item_form_text (λ i. item_with_literals v (item_form_tree i)) (λ i. true) ends_part (print_item_of v)
+unfolding print_item_of
 item_back v (a_value e) rest g h = rw (expr_is_no_constant v e rest h, expr_part v e rest h) refl
 item_back v (a_text text) rest g h =
     let q = quoted_again text rest (part_no_apostrophe rest h) in
-    ap (λ (w : List ℕ). item_of v (39 ∷ w)) (append_assoc (doubled text) (39 ∷ []) rest) ∙ rw q refl
+    ap (λ (w : List ℕ). print_item_of v (39 ∷ w)) (append_assoc (doubled text) (39 ∷ []) rest) ∙ rw q refl
 
 pub names_shrink : Shrinks name_at
 names_shrink = shrinks (λ x. x) (λ x. x) is_name name_at name_found

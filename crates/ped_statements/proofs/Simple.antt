@@ -11,7 +11,7 @@ use Rattle.ped_expressions.specs.Scanning.{◌>>=◌, go_on, after}
 use Rattle.ped_expressions.specs.ExpressionReading.{with_literals, expr_of}
 use Rattle.ped_statements.specs.Saturated.{item_with_literals, stmts_with_literals, says_with_literals}
 use Rattle.ped_statements.specs.Listing.{whole, each_behind_comma}
-use Rattle.ped_statements.specs.StatementReading.{reference_of, item_of, assignment_of, worded_of, simple_of, behind_logical, simply}
+use Rattle.ped_statements.specs.StatementReading.{reference_of, print_item_of, assignment_of, worded_of, simple_of, behind_logical, simply}
 use Rattle.ped_expressions.proofs.Basics.{some_is, bind_some, stops_or_goes, chosen, after_is}
 use Rattle.ped_expressions.proofs.Sound.{read_on}
 use Rattle.ped_expressions.proofs.Again.{ends_word}
@@ -71,10 +71,10 @@ assignment_again v r e =
 same_words : (x w : List ℕ) → is_same_text x w ≡ true → w ≡ x
 same_words x w h = sym (same_text x w (sym h))
 
-print_found : (v : ℕ → ℕ) (ts q : List ℕ) (o : Option StmtTree) → ts ≡ codes "PRINT*" ++ q → (each_behind_comma (item_of v) q >>= λ items. Some (Some (Print items))) ≡ Some o → FoundSimple v ts o
+print_found : (v : ℕ → ℕ) (ts q : List ℕ) (o : Option StmtTree) → ts ≡ codes "PRINT*" ++ q → (each_behind_comma (print_item_of v) q >>= λ items. Some (Some (Print items))) ≡ Some o → FoundSimple v ts o
 print_found v ts q o p h =
-    let b = bind_some (each_behind_comma (item_of v) q) (λ items. Some (Some (Print items))) o h in
-    let f = each_found item_form_text (λ i. item_with_literals v (item_form_tree i)) (λ i. true) (item_of v) (item_found v) q b.0 b.1 in
+    let b = bind_some (each_behind_comma (print_item_of v) q) (λ items. Some (Some (Print items))) o h in
+    let f = each_found item_form_text (λ i. item_with_literals v (item_form_tree i)) (λ i. true) (print_item_of v) (item_found v) q b.0 b.1 in
     (print f.0, ap (λ (w : List ℕ). codes "PRINT*" ++ w) f.3 ∙ sym p, ap (λ (items : List ItemTree). Some (Print items)) (map_map (item_with_literals v) item_form_tree f.0 ∙ f.2) ∙ some_is (Some (Print b.0)) o b.2)
 
 read_found : (v : ℕ → ℕ) (ts q : List ℕ) (o : Option StmtTree) → ts ≡ codes "READ*" ++ q → (each_behind_comma (reference_of v) q >>= λ items. Some (Some (Read items))) ≡ Some o → FoundSimple v ts o
@@ -87,12 +87,12 @@ reading_words : (ℕ → ℕ) → List ℕ → Option (Option StmtTree)
 reading_words v ts =
     go_on (after (codes "PRINT*") ts)
     (after (codes "READ*") ts >>= λ q. each_behind_comma (reference_of v) q >>= λ items. Some (Some (Read items)))
-    (λ q. each_behind_comma (item_of v) q >>= λ items. Some (Some (Print items)))
+    (λ q. each_behind_comma (print_item_of v) q >>= λ items. Some (Some (Print items)))
 
 reading_words_found : (v : ℕ → ℕ) (ts : List ℕ) (o : Option StmtTree) → reading_words v ts ≡ Some o → FoundSimple v ts o
 unfolding reading_words
 reading_words_found v ts o h =
-    elim (stops_or_goes (after (codes "PRINT*") ts) (after (codes "READ*") ts >>= λ q. each_behind_comma (reference_of v) q >>= λ items. Some (Some (Read items))) (λ q. each_behind_comma (item_of v) q >>= λ items. Some (Some (Print items))) (Some o) h) [
+    elim (stops_or_goes (after (codes "PRINT*") ts) (after (codes "READ*") ts >>= λ q. each_behind_comma (reference_of v) q >>= λ items. Some (Some (Read items))) (λ q. each_behind_comma (print_item_of v) q >>= λ items. Some (Some (Print items))) (Some o) h) [
       | inl g ↦
           let b = bind_some (after (codes "READ*") ts) (λ q. each_behind_comma (reference_of v) q >>= λ items. Some (Some (Read items))) o g.1 in
           read_found v ts b.0 o (after_is (codes "READ*") ts b.0 b.1) b.2
@@ -127,9 +127,9 @@ words_of v ts o a w = rw (a, w) refl
 print_again : (v : ℕ → ℕ) (items : List ItemForm) → worded_of v (simple_form_text (print items)) ≡ Some (simple_does v (print items))
 unfolding worded_of
 print_again v items =
-    let s = shrinks item_form_text (λ i. item_with_literals v (item_form_tree i)) (λ i. true) (item_of v) (item_found v) in
-    let p : each_behind_comma (item_of v) (all_behind item_form_text items) ≡ Some (map (item_with_literals v) (map item_form_tree items)) =
-    each_again item_form_text (λ i. item_with_literals v (item_form_tree i)) (λ i. true) ends_part (item_of v) s (item_back v) (λ r. refl) refl items (all_true items)
+    let s = shrinks item_form_text (λ i. item_with_literals v (item_form_tree i)) (λ i. true) (print_item_of v) (item_found v) in
+    let p : each_behind_comma (print_item_of v) (all_behind item_form_text items) ≡ Some (map (item_with_literals v) (map item_form_tree items)) =
+    each_again item_form_text (λ i. item_with_literals v (item_form_tree i)) (λ i. true) ends_part (print_item_of v) s (item_back v) (λ r. refl) refl items (all_true items)
     ∙ ap (λ (ts : List ItemTree). Some ts) (sym (map_map (item_with_literals v) item_form_tree items)) in
     rw p refl
 

@@ -10,7 +10,7 @@ use Rattle.ped_statements.specs.Saturated.{item_with_literals}
 use Rattle.ped_expressions.specs.Scanning.{◌>>=◌, go_on, first_is, after}
 use Rattle.ped_expressions.proofs.Basics.{after_is, bind_same}
 use Rattle.ped_statements.specs.Listing.{is_end, whole, several, each_behind_comma}
-use Rattle.ped_statements.specs.StatementReading.{quoted_at, reference_of, item_of}
+use Rattle.ped_statements.specs.StatementReading.{quoted_at, reference_of, print_item_of}
 use Rattle.ped_statements.proofs.Gathered.{ahead, ahead_one}
 use Rattle.ped_statements.proofs.Several.{Shrinks, shrinks, listed, several_step}
 use Rattle.ped_statements.proofs.Pieces.{reference_found, item_found}
@@ -93,14 +93,14 @@ each_ends {A} item xs left all h e =
     let one : each_behind_comma item left ≡ Some [] = rw e refl in
     sym h ∙ ap (all_ahead xs) one ∙ ap (λ (ys : List A). Some ys) (append-nil xs)
 
-pub items_shrink : (v : ℕ → ℕ) → Shrinks (item_of v)
-items_shrink v = shrinks item_form_text (λ i. item_with_literals v (item_form_tree i)) (λ i. true) (item_of v) (item_found v)
+pub items_shrink : (v : ℕ → ℕ) → Shrinks (print_item_of v)
+items_shrink v = shrinks item_form_text (λ i. item_with_literals v (item_form_tree i)) (λ i. true) (print_item_of v) (item_found v)
 
 pub references_shrink : (v : ℕ → ℕ) → Shrinks (reference_of v)
 references_shrink v = shrinks reference_form_text (λ r. with_literals v (reference_form_tree r)) (λ r. true) (reference_of v) (reference_found v)
 
-pub items_step : (v : ℕ → ℕ) (ts : List ℕ) → each_behind_comma (item_of v) ts ≡ cond (is_end ts) (Some []) (after (codes ",") ts >>= λ q. item_of v q >>= λ x. each_behind_comma (item_of v) x.1 >>= λ ys. Some (x.0 ∷ ys))
-items_step v = each_step (item_of v) (items_shrink v)
+pub items_step : (v : ℕ → ℕ) (ts : List ℕ) → each_behind_comma (print_item_of v) ts ≡ cond (is_end ts) (Some []) (after (codes ",") ts >>= λ q. print_item_of v q >>= λ x. each_behind_comma (print_item_of v) x.1 >>= λ ys. Some (x.0 ∷ ys))
+items_step v = each_step (print_item_of v) (items_shrink v)
 
 pub references_step : (v : ℕ → ℕ) (ts : List ℕ) → each_behind_comma (reference_of v) ts ≡ cond (is_end ts) (Some []) (after (codes ",") ts >>= λ q. reference_of v q >>= λ x. each_behind_comma (reference_of v) x.1 >>= λ ys. Some (x.0 ∷ ys))
 references_step v = each_step (reference_of v) (references_shrink v)

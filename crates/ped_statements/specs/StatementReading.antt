@@ -72,8 +72,8 @@ quoted_at false (c ∷ cs) = if c == 39 then quoted_at true cs else quoted_at fa
 quoted_at true (c ∷ cs) = if c == 39 then (quoted_at false cs >>= λ x. Some (39 ∷ x.0, x.1)) else Some ([], c ∷ cs)
 
 -- an item of a PRINT
-unfoldable pub item_of : (ℕ → ℕ) → List ℕ → Answer ItemTree
-item_of v text = go_on (after (codes "'") text) (expr_of v text >>= λ x. Some (Value x.0, x.1)) (λ q. quoted_at false q >>= λ x. Some (Text x.0, x.1))
+unfoldable pub print_item_of : (ℕ → ℕ) → List ℕ → Answer ItemTree
+print_item_of v text = go_on (after (codes "'") text) (expr_of v text >>= λ x. Some (Value x.0, x.1)) (λ q. quoted_at false q >>= λ x. Some (Text x.0, x.1))
 
 -- an assignment
 unfoldable pub assignment_of : (ℕ → ℕ) → List ℕ → Option StmtTree
@@ -86,7 +86,7 @@ worded_of v text =
     else if is_same_text text (codes "CONTINUE") then Some None
     else go_on (after (codes "PRINT*") text)
     (after (codes "READ*") text >>= λ q. each_behind_comma (reference_of v) q >>= λ items. Some (Some (Read items)))
-    (λ q. each_behind_comma (item_of v) q >>= λ items. Some (Some (Print items)))
+    (λ q. each_behind_comma (print_item_of v) q >>= λ items. Some (Some (Print items)))
 
 -- a statement that may stand behind a logical IF
 unfoldable pub simple_of : (ℕ → ℕ) → List ℕ → Option (Option StmtTree)

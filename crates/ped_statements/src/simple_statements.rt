@@ -9,7 +9,7 @@ ghost use Rattle.ped_expressions.specs.ExpressionReading.{saturated};
 ghost use Rattle.ped_expressions.specs.Views.{Gives, expr_and_rest};
 ghost use Rattle.ped_statements.specs.Listing.{each_behind_comma};
 ghost use Rattle.ped_statements.specs.StatementReading as Spec;
-ghost use Rattle.ped_statements.specs.StatementReading.{reference_of, quoted_at, item_of, assignment_of, worded_of, simple_of};
+ghost use Rattle.ped_statements.specs.StatementReading.{reference_of, quoted_at, print_item_of, assignment_of, worded_of, simple_of};
 ghost use Rattle.ped_statements.specs.StatementViews.{value_and_rest, item_and_rest, item_trees, reference_trees, simple_tree};
 
 use crate::names::is_end;
@@ -105,7 +105,7 @@ pub fn is_word(text: &[u8], word: &[u8]) -> bool
 /// The items of a PRINT, each behind a comma, that the whole text is.
 #[tactic(auto, using(crate::proofs::SimpleSteps::items_step))]
 fn items(alloc: Global, text: &[u8]) -> Result<Vec<PrintItem>, Failure>
-    ensures { Gives item_trees result (each_behind_comma (item_of saturated) text.now) }
+    ensures { Gives item_trees result (each_behind_comma (print_item_of saturated) text.now) }
 {
     let mut items = Vec::new(alloc);
     let mut left = text;
@@ -139,9 +139,9 @@ fn references(alloc: Global, text: &[u8]) -> Result<Vec<Expr>, Failure>
 }
 
 /// The item of a PRINT at the front, and what follows it.
-#[tactic(auto, unfolding(crate::specs::StatementReading::item_of))]
+#[tactic(auto, unfolding(crate::specs::StatementReading::print_item_of))]
 fn item(alloc: Global, text: &[u8]) -> Result<(PrintItem, &[u8]), Failure>
-    ensures gives { Gives item_and_rest result (item_of saturated text.now) }
+    ensures gives { Gives item_and_rest result (print_item_of saturated text.now) }
     ensures shorter { IfOk result (λ x. length x.1.now < length text.now) }
 {
     match after(text, b"'") {

@@ -1,6 +1,6 @@
 use Rattle.std.proofs.Common.{◌≡◌, map, drop}
 use Rattle.std.specs.List.{flat_map}
-use Rattle.ped_grammar.specs.Refusal.{earliest, stands, Syntax}
+use Rattle.ped_grammar.specs.Refusal.{earliest, refused_if, Syntax}
 use Rattle.ped_grammar.specs.ProgramRefusals as Spec
 use Rattle.ped_grammar.specs.StatementViews.{note_of}
 use Rattle.ped_grammar.specs.ItemViews.{entry_of}
@@ -10,4 +10,4 @@ use Rattle.ped_refusals.proofs.directives.at_directives.Given as goal
 
 abbrev pub invariant-loop-directive : goal.invariant-loop-directive
 invariant-loop-directive l =
-    earliest (found_of l.found) (flat_map (λ d. stands (Spec.is_bad_directive (context_of l.fn.context) (entry_of l.fn.entry) d) Syntax d.line) (map note_of (drop l.directive-index l.directive-items))) ≡ earliest (found_of l.fn.found) (flat_map (λ d. stands (Spec.is_bad_directive (context_of l.fn.context) (entry_of l.fn.entry) d) Syntax d.line) (map note_of l.directive-items))
+    earliest (found_of l.found) (flat_map (λ d. refused_if (Spec.is_bad_directive (context_of l.fn.context) (entry_of l.fn.entry) d) Syntax d.line) (map note_of (drop l.directive-index l.directive-items))) ≡ earliest (found_of l.fn.found) (flat_map (λ d. refused_if (Spec.is_bad_directive (context_of l.fn.context) (entry_of l.fn.entry) d) Syntax d.line) (map note_of l.directive-items))

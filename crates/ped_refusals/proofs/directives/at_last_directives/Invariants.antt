@@ -1,10 +1,10 @@
 use Rattle.std.proofs.Common.{◌≡◌, map, drop, true}
 use Rattle.std.specs.List.{flat_map}
-use Rattle.ped_grammar.specs.Refusal.{earliest, stands, Syntax}
+use Rattle.ped_grammar.specs.Refusal.{earliest, refused_if, Syntax}
 use Rattle.ped_grammar.specs.StatementViews.{note_of}
 use Rattle.ped_grammar.specs.RefusalViews.{found_of}
 use Rattle.ped_refusals.proofs.directives.at_last_directives.Given as goal
 
 abbrev pub invariant-loop-directive : goal.invariant-loop-directive
 invariant-loop-directive l =
-    earliest (found_of l.found) (flat_map (λ d. stands true Syntax d.line) (map note_of (drop l.directive-index l.directives))) ≡ earliest (found_of l.fn.found) (flat_map (λ d. stands true Syntax d.line) (map note_of l.directives))
+    earliest (found_of l.found) (flat_map (λ d. refused_if true Syntax d.line) (map note_of (drop l.directive-index l.directives))) ≡ earliest (found_of l.fn.found) (flat_map (λ d. refused_if true Syntax d.line) (map note_of l.directives))

@@ -1,6 +1,7 @@
 use Rattle.std.proofs.Common.{◌≡◌, ℕ, Bool, ◌++◌, length, map, IfOk, ap, sym, subst, ◌∙◌, rules}
 use Rattle.ped_grammar.specs.Items.{says, keeps_private}
-use Rattle.ped_grammar.specs.ProgramRefusals.{open_variables, inner_variables, meets}
+use Rattle.ped_grammar.specs.Contexts.{open_variables}
+use Rattle.ped_grammar.specs.ProgramRefusals.{meets}
 use Rattle.ped_grammar.specs.ItemViews.{reading_of, entry_of}
 use Rattle.ped_refusals.specs.OpenBlocks.{blocks_of}
 use Rattle.ped_refusals.specs.OpenContexts.{context_of, with_blocks}

@@ -1,6 +1,6 @@
 use Rattle.std.proofs.Common.{◌≡◌, ℕ, ◌+◌, ◌≤◌, ◌||◌, List, length, map, drop}
 use Rattle.ped_base.specs.Lists.{is_among}
-use Rattle.ped_grammar.specs.ProgramRefusals.{block_depth, inner_variables}
+use Rattle.ped_grammar.specs.ProgramRefusals.{block_depth}
 use Rattle.ped_grammar.specs.ItemViews.{entry_of}
 use Rattle.ped_refusals.specs.OpenBlocks.{blocks_of}
 use Rattle.ped_refusals.specs.OpenContexts.{with_blocks}

@@ -1,5 +1,5 @@
 use Rattle.std.proofs.Common.{◌≡◌, ◌++◌, length, map, drop}
-use Rattle.ped_grammar.specs.ProgramRefusals.{meets, inner_variables}
+use Rattle.ped_grammar.specs.ProgramRefusals.{meets}
 use Rattle.ped_grammar.specs.ItemViews.{entry_of}
 use Rattle.ped_refusals.specs.OpenBlocks.{blocks_of}
 use Rattle.ped_refusals.specs.OpenContexts.{with_blocks}

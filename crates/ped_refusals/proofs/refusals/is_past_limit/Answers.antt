@@ -1,5 +1,6 @@
 use Rattle.std.proofs.Common.{ℕ, List, ◌++◌, map, ap, sym, ◌∙◌}
-use Rattle.ped_grammar.specs.ProgramRefusals.{open_variables, where_it_says, passes_limit}
+use Rattle.ped_grammar.specs.Contexts.{open_variables}
+use Rattle.ped_grammar.specs.ProgramRefusals.{where_it_says, passes_limit}
 use Rattle.ped_grammar.specs.ItemViews.{item_of, reading_of, entry_of}
 use Rattle.ped_grammar.specs.declared.items.StatementReading.{StatementReading}
 use Rattle.ped_refusals.specs.Limits.{is_past_limit}

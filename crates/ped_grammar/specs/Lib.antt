@@ -4,6 +4,7 @@ pub mod Columns
 pub mod ConditionForms
 pub mod Contexts
 pub mod ExpressionForms
+pub mod Fits
 pub mod Grouping
 pub mod ItemViews
 pub mod Items

@@ -5,6 +5,7 @@ ghost use Rattle.std.specs.Prelude.{◌≡◌, ◌<◌, ◌≤◌, ◌+◌, IfSo
 ghost use Rattle.std.specs.List.{list_all};
 ghost use Rattle.std.specs.Str.Parse.{digits_value};
 ghost use Rattle.ped_base.specs.Letters as Letters;
+ghost use Rattle.ped_base.specs.Lists.{is_same_text};
 ghost use Rattle.ped_grammar.specs.Words as Words;
 ghost use Rattle.ped_expressions.specs.Scanning as Spec;
 ghost use Rattle.ped_expressions.specs.ExpressionReading.{saturated};

@@ -1,4 +1,4 @@
--- The answer to words and files, and what a call may have done of it.
+-- The answer to words and files, and what a call may have done of it (this project).
 use Rattle.std.specs.Prelude.{◌≡◌, ◌⊎◌, ℕ, ◌<◌, List, [], ◌∷◌, ◌++◌, length, codes, Bool, false, ◌==◌, nat_lt, Option, Some, None, MatchOption, MatchBool, if◌then◌else◌}
 use Rattle.ped_io.specs.Outside.{Contents, content}
 use Rattle.ped_tree.specs.Tree.{ProgramTree}
@@ -57,15 +57,15 @@ program_limit = 1048576
 abbrev pub too_long_line : List ℕ → List ℕ
 too_long_line name = codes "ped: " ++ name ++ codes " is longer than 1048576 bytes" ++ 10 ∷ []
 
--- what stands in place of a dependence pane that isn't built
+-- what stands in place of a dependence pane that isn't built (ParaScope; this project)
 abbrev pub not_built_line : List ℕ
 not_built_line = codes "dependences not built" ++ 10 ∷ []
 
--- the part about dependences: the pane of a program of the small form, and else that it isn't built
+-- the part about dependences: the pane of a program of the small form, and else that it isn't built (ParaScope; this project)
 abbrev pub IsDependencePart : ProgramTree → List ℕ → Type 0
 IsDependencePart t pane = (IsSmall t × IsDependencePane t pane) ⊎ (¬ (IsSmall t) × (pane ≡ not_built_line))
 
--- both panes of a program
+-- both panes of a program (ParaScope; this project)
 abbrev pub ArePanes : ProgramTree → List ℕ → Type 0
 ArePanes t bytes = (pane : List ℕ) × IsDependencePart t pane × (bytes ≡ source_pane t ++ pane)
 

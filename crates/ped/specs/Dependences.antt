@@ -1,4 +1,4 @@
--- The dependences that the code finds, and what they stand for.
+-- The dependences that the code finds, and what they stand for (Allen and Kennedy, section 2.2; ParaScope).
 use Rattle.std.specs.Prelude.{◌↔◌, ℕ, ℤ, pos, neg_ℤ, ◌-ℤ◌, ◌*ℤ◌, List, [], ◌∷◌, ◌++◌, map, Bool, true, false, ◌&&◌, nat_lt, IsTrue, Option, Some, None, if◌then◌else◌}
 use Rattle.ped_views.specs.declared.directions.Direction.{Direction}
 use Rattle.ped_views.specs.declared.directions.Direction.TheVariants.{Before, Same, After}
@@ -18,17 +18,17 @@ use Rattle.ped.specs.declared.dependences.Edge.{Edge}
 use Rattle.ped.specs.declared.dependences.Reference.{Reference}
 use Rattle.ped.specs.declared.dependences.Signs.{Signs}
 
--- the constant of a subscript
+-- the constant of a subscript (Allen and Kennedy, section 3.1)
 abbrev pub offset_of : Subscript → ℤ
 offset_of Plain = pos 0
 offset_of (Plus n) = pos n
 offset_of (Minus n) = neg_ℤ (pos n)
 
--- the range of the loop
+-- the range of the loop (ANSI X3.9-1978, section 11.10.3)
 abbrev pub small_range : Small → Range
 small_range small = range (pos small.first) (pos small.last) (pos 1) true
 
--- which signs a vector may have: those whose direction the strong SIV sentence doesn't exclude
+-- which signs a vector may have: those whose direction the strong SIV sentence doesn't exclude (Allen and Kennedy, section 3.3.2)
 pub record ArePossible (r : Range) (source sink : ℤ) (signs : Signs) : Type 0 where
   pub before : IsTrue signs.before ↔ ¬ (NeverMeetsInStep (pos 1) (pos 1) source sink r Before)
   pub same : IsTrue signs.same ↔ ¬ (NeverMeetsInStep (pos 1) (pos 1) source sink r Same)

@@ -1,4 +1,4 @@
--- Distances in the range of a loop.
+-- Distances in the range of a loop (Allen and Kennedy, section 3.3.2).
 use Rattle.std.specs.Prelude.{◌≡◌, ℤ, pos, neg_ℤ, ◌≤ℤ◌, ◌<ℤ◌}
 use Rattle.ped_views.specs.declared.directions.Direction.{Direction}
 use Rattle.ped_views.specs.declared.directions.Direction.TheVariants.{Before, Same, After}

@@ -1,4 +1,4 @@
--- The line that says why a program's text is refused.
+-- The line that says why a program's text is refused (this project).
 use Rattle.std.specs.Prelude.{ℕ, List, [], ◌∷◌, ◌++◌, codes}
 use Rattle.std.specs.Fmt.{decimal}
 use Rattle.ped_grammar.specs.Refusal.{Refusal, Tab, BadLabel, TooManyContinuations, ContinuationFirst, BadCharacter, OpenConstant, Syntax, NotInProfile, OpenBlock, BadTerminal, IndexAssigned, StopPlace, Limit, number_of, Finding}

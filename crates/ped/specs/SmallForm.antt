@@ -1,4 +1,4 @@
--- The small form: programs whose dependences are built. One loop over an INTEGER variable, with one assignment of an element to an element and a literal.
+-- The small form: programs whose dependences are built. One loop over an INTEGER variable, with one assignment of an element to an element and a literal (this project).
 use Rattle.std.specs.Prelude.{◌≡◌, ℕ, List, [], ◌∷◌, Bool, false, ◌&&◌, not, ◌==◌, IsTrue, codes, nat_le}
 use Rattle.std.specs.List.{list_any}
 use Rattle.std.specs.Cmp.Lexicographic.{pointwise}
@@ -7,16 +7,16 @@ use Rattle.ped.specs.Uncommented.{without_comments}
 use Rattle.ped.specs.SmallTree.{small_tree}
 use Rattle.ped.specs.declared.small_form.Small.{Small}
 
--- the same text
+-- the same text (plain words)
 abbrev pub same : List ℕ → List ℕ → Bool
 same = pointwise ◌==◌
 
--- begins with one of I to N, so that the name is INTEGER without a declaration
+-- begins with one of I to N, so that the name is INTEGER without a declaration (ANSI X3.9-1978, section 4.1.2)
 abbrev pub begins_integer : List ℕ → Bool
 begins_integer [] = false
 begins_integer (c ∷ cs) = nat_le 73 c && nat_le c 78
 
--- the intrinsic functions, whose names no array has
+-- the intrinsic functions, whose names no array has (ANSI X3.9-1978, section 15.10)
 abbrev pub intrinsics : List (List ℕ)
 intrinsics = codes "MOD" ∷ codes "ABS" ∷ codes "IABS" ∷ codes "MAX" ∷ codes "MAX0" ∷ codes "MIN" ∷ codes "MIN0" ∷ []
 

@@ -1,4 +1,4 @@
--- The tree that the parts of a program of the small form make.
+-- The tree that the parts of a program of the small form make (ANSI X3.9-1978, sections 5.1.1, 6.1, 10.1, 11.10).
 use Rattle.std.specs.Prelude.{ℕ, List, [], ◌∷◌, false}
 use Rattle.ped_tree.specs.Tree.{ExprTree, Int, Var, Element, Add, Sub, no_exprs, more_exprs, StmtTree, Assign, Do, no_stmts, more_stmts, DeclaratorTree, Program, Integer, Save, ProgramTree}
 use Rattle.ped.specs.declared.small_form.Subscript.{Subscript}

@@ -1,4 +1,4 @@
--- The exit statuses.
+-- The exit statuses (this project).
 use Rattle.std.specs.Prelude.{ℕ}
 use Rattle.ped.specs.declared.answering.Status.{Status}
 use Rattle.ped.specs.declared.answering.Status.TheVariants.{Done, BadWords, ReadFault, WriteFault, ProgramRefused, NoMemory, TooLong}

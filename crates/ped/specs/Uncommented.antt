@@ -1,4 +1,4 @@
--- Programs without their comments.
+-- Programs without their comments (ANSI X3.9-1978, section 3.2.1).
 use Rattle.std.specs.Prelude.{List, [], ◌∷◌}
 use Rattle.ped_tree.specs.Tree.{StmtTree, StmtTrees, Assign, If, Do, Print, Read, Stop, Comment, no_stmts, more_stmts, DeclTree, Program, Implicit, Integer, Dimension, Parameter, Save, Remark, ProgramTree}
 

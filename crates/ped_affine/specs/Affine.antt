@@ -1,4 +1,4 @@
--- The view of a pair of references: the ranges of its loops and its subscripts as affine forms. Bounds and increments other than literals, and in subscripts scalars, signs, products and named constants, aren't read yet.
+-- The view of a pair of references: the ranges of its loops and its subscripts as affine forms. Bounds and increments other than literals, and in subscripts scalars, signs, products and named constants, aren't read yet (Allen and Kennedy, section 3.1).
 use Rattle.std.specs.Prelude.{ℕ, ◌-◌, ℤ, pos, ◌+ℤ◌, ◌-ℤ◌, ◌^◌, List, [], ◌∷◌, map, length, take, drop, replicate, unsigned_abs, nat_le, Bool, true, false, ◌&&◌, Option, Some, None, if◌then◌else◌}
 use Rattle.std.specs.List.{list_all, list_any}
 use Rattle.ped_views.specs.Views.{Range, range, Row, SubscriptPair, View}
@@ -7,7 +7,7 @@ use Rattle.ped_tree.specs.Nests.{Loop, indices_of, common_nest}
 use Rattle.ped_refs.specs.References.{Reference}
 use Rattle.ped_base.specs.Lists.{is_same_text}
 
--- the value of a literal
+-- the value of a literal (ANSI X3.9-1978, section 4.3.1)
 abbrev pub literal : ExprTree → Option ℤ
 literal (Int n) = Some (pos n)
 literal (Var x) = None
@@ -20,23 +20,24 @@ literal (Div a b) = None
 literal (Pow a b) = None
 literal (Call f arguments) = None
 
--- from the initial value to the limit by a positive increment, entered at one value each time
+-- from the initial value to the limit by a positive increment, entered at one value each time (ANSI X3.9-1978, section 11.10.3)
 abbrev pub range_by : Option ℤ → Option ℤ → Option ℤ → Option Range
 range_by (Some first) (Some last) (Some step) = Some (range first last step true)
 range_by None last step = None
 range_by (Some first) None step = None
 range_by (Some first) (Some last) None = None
 
--- the range of a DO loop with constant bounds
+-- the range of a DO loop with constant bounds (ANSI X3.9-1978, section 11.10.3)
 abbrev pub range_of : Head → Option Range
 range_of h = range_by (literal h.first) (literal h.last) (literal h.step)
 
+-- a range before others, where all are there (plain words)
 abbrev pub onto : Option Range → Option (List Range) → Option (List Range)
 onto (Some r) (Some rs) = Some (r ∷ rs)
 onto (Some r) None = None
 onto None rs = None
 
--- the ranges of loops, where all have one
+-- the ranges of loops, where all have one (plain words)
 abbrev pub ranges_of : List Loop → Option (List Range)
 ranges_of [] = Some []
 ranges_of (l ∷ ls) = onto (range_of l.head) (ranges_of ls)
@@ -46,13 +47,15 @@ pub record Affine : Type 0 where
   pub coefficients : List ℤ
   pub constant : ℤ
 
+-- the form of these numbers
 abbrev pub affine : List ℤ → ℤ → Affine
 affine coefficients constant = record { coefficients = coefficients; constant = constant }
 
--- coefficients within 2^31 of zero and a constant within 2^62
+-- coefficients within 2^31 of zero and a constant within 2^62 (this project)
 abbrev pub is_limited : Affine → Bool
 is_limited f = list_all (λ a. nat_le (unsigned_abs a) (2 ^ 31)) f.coefficients && nat_le (unsigned_abs f.constant) (2 ^ 62)
 
+-- the form, where its numbers are so small (this project)
 abbrev pub within_limits : Affine → Option Affine
 within_limits f = if is_limited f then Some f else None
 
@@ -93,7 +96,7 @@ row_of n f = record { common = take n f.coefficients; inner = drop n f.coefficie
 abbrev pub zero_row : ℕ → ℕ → Row
 zero_row n further = record { common = replicate n (pos 0); inner = replicate further (pos 0); constant = pos 0 }
 
--- the loops of a pair: how many are common, and how many further ones each side has
+-- the loops of a pair: how many are common, and how many further ones each side has (Allen and Kennedy, section 2.2.2)
 pub record Depths : Type 0 where
   pub common : ℕ
   pub source : ℕ
@@ -111,13 +114,14 @@ subscript_pairs n source sink (e ∷ es) (g ∷ gs) = subscript_pair n (affine_o
 subscript_pairs n source sink [] gs = []
 subscript_pairs n source sink (e ∷ es) [] = []
 
+-- the view of these ranges and positions, where all loops have a range (Allen and Kennedy, section 3.2)
 abbrev pub view_by : Option (List Range) → Option (List Range) → Option (List Range) → List SubscriptPair → Option View
 view_by (Some loops) (Some source) (Some sink) positions = Some (record { loops = loops; source_inner = source; sink_inner = sink; positions = positions })
 view_by (Some loops) (Some source) None positions = None
 view_by (Some loops) None sink positions = None
 view_by None source sink positions = None
 
--- the view of an ordered pair of references
+-- the view of an ordered pair of references (Allen and Kennedy, section 3.2)
 abbrev pub view_of : Reference → Reference → Option View
 view_of source sink =
     let common = common_nest source.nest sink.nest in

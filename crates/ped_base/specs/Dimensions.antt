@@ -1,4 +1,4 @@
--- How the bounds of an array are kept.
+-- How the bounds of an array are kept (ANSI X3.9-1978, section 5.1.1).
 use Rattle.std.specs.Prelude.{◌≡◌, ◌-◌, ◌≤◌, ℤ, pos, List, ◌++◌, length, take, drop, replicate}
 use Rattle.std.proofs.Common.{arith}
 use Rattle.std.proofs.lemmas.List.{length-take-le, take-append-drop}
@@ -21,7 +21,7 @@ pub record IsBounds (b : Inside) : Type 0 where
   pub lower_rest : drop b.rank b.lower ≡ replicate (7 - b.rank) (pos 0)
   pub upper_rest : drop b.rank b.upper ≡ replicate (7 - b.rank) (pos 0)
 
--- how dimensions are kept
+-- how dimensions are kept (this project)
 abbrev pub bounds : Dimensions → Inside
 bounds d = record {
   rank = length d.lower;
@@ -29,6 +29,7 @@ bounds d = record {
   upper = d.upper ++ replicate (7 - length d.upper) (pos 0);
 }
 
+-- dimensions that are kept and taken out again are the same (this project)
 pub bounds_back : (b : Inside) → IsBounds b → bounds (dimensions b) ≡ b
 bounds_back b h =
     let n : length (take b.rank b.lower) ≡ b.rank = length-take-le b.rank b.lower (omega (arith, h.lower_long, h.few)) in

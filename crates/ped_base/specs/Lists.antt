@@ -1,4 +1,4 @@
--- Questions about lists of any kind, and about texts and lists of names.
+-- Questions about lists of any kind, and about texts and lists of names (plain words).
 use Rattle.std.specs.Prelude.{ℕ, List, [], ◌∷◌, Bool, true, false, ◌==◌}
 use Rattle.std.specs.List.{list_any}
 use Rattle.std.specs.Cmp.Lexicographic.{pointwise}

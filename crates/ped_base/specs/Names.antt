@@ -1,4 +1,4 @@
--- Names as their bytes.
+-- Names as their bytes (this project).
 use Rattle.std.specs.Prelude.{◌≡◌, ℕ, ◌-◌, ◌≤◌, List, ◌++◌, length, take, drop, replicate, IsTrue}
 use Rattle.std.proofs.Common.{arith}
 use Rattle.std.proofs.lemmas.List.{length-take-le, take-append-drop}
@@ -16,6 +16,7 @@ pub record IsNameInside (a : Inside) : Type 0 where
 abbrev pub inside : List ℕ → Inside
 inside bytes = record { len = length bytes; text = bytes ++ replicate (31 - length bytes) 0 }
 
+-- a name that is taken out and kept again is the same
 pub inside_back : (a : Inside) → IsNameInside a → inside (take a.len a.text) ≡ a
 inside_back a h =
     let l : length (take a.len a.text) ≡ a.len = length-take-le a.len a.text (omega (arith, h.long, h.short)) in

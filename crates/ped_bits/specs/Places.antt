@@ -1,4 +1,4 @@
--- Sets of places below a width: one truth value for each place, in order.
+-- Sets of places below a width: one truth value for each place, in order (plain words).
 use Rattle.std.specs.Prelude.{ℕ, List, [], ◌∷◌, Bool, false, ◌&&◌, ◌||◌, not, IsTrue, slice_index_or}
 
 -- the place is in the set

@@ -1,4 +1,4 @@
--- A relation on places, as the rows of a square: an arrow goes from each row's number to the places of the row.
+-- A relation on places, as the rows of a square: an arrow goes from each row's number to the places of the row (plain words).
 use Rattle.std.specs.Prelude.{◌≡◌, ℕ, ◌<◌, List, [], ◌∷◌, length, Bool, slice_index_or}
 use Rattle.ped_bits.specs.Places.{Has}
 

@@ -1,4 +1,4 @@
--- How a set of places stands in words of 64 bits: place k is bit k % 64 of word k / 64.
+-- How a set of places stands in words of 64 bits: place k is bit k % 64 of word k / 64 (this project).
 use Rattle.std.specs.Prelude.{◌≡◌, ℕ, zero, suc, ◌+◌, ◌/◌, ◌%◌, ◌≤◌, List, [], ◌∷◌, length, Bool, false, ◌==◌, slice_index_or}
 use Rattle.std.specs.Int.{bit_at}
 
@@ -10,12 +10,12 @@ word words j = slice_index_or words j 0
 abbrev pub is_set : List ℕ → ℕ → Bool
 is_set words place = bit_at (word words (place / 64)) (place % 64) == 1
 
--- the values of f at 0, 1, 2 and so on, n of them
+-- the values of f at 0, 1, 2 and so on, n of them (plain words)
 abbrev pub values : (ℕ → Bool) → ℕ → List Bool
 values f zero = []
 values f (suc n) = f 0 ∷ values (λ k. f (suc k)) n
 
--- the set of places below the width
+-- the set of places below the width (plain words)
 abbrev pub places_of : ℕ → List ℕ → List Bool
 places_of width words = values (is_set words) width
 

@@ -1,4 +1,4 @@
--- Statements taken one by one, and what is built of them so far: declarations, open blocks, and the statements of the innermost block.
+-- Statements taken one by one, and what is built of them so far: declarations, open blocks, and the statements of the innermost block (this project).
 use Rattle.std.specs.Prelude.{ℕ, List, [], ◌∷◌, ◌++◌, ◌==◌, Option, Some, None, if◌then◌else◌}
 use Rattle.ped_tree.specs.Tree.{CondTree, Head, StmtTree, no_stmts, If, Do, DeclTree, ProgramTree}
 use Rattle.ped_tree.specs.Views.{pack_stmts}

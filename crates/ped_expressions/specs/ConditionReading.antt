@@ -1,4 +1,4 @@
--- Reading a condition from left to right, with a number of steps that bounds the recursion. Contracts of private functions alone speak of it.
+-- Reading a condition from left to right, with a number of steps that bounds the recursion (this project).
 use Rattle.std.specs.Prelude.{ℕ, zero, suc, List, length, codes, Option, Some, None, ◌==◌, if◌then◌else◌}
 use Rattle.ped_tree.specs.declared.conditions.Relation.{Relation}
 use Rattle.ped_tree.specs.declared.conditions.Relation.TheVariants.{Lt, Le, Eq, Ne, Gt, Ge}

@@ -1,4 +1,4 @@
--- Reading an expression from left to right, with a number of steps that bounds the recursion. Contracts of private functions alone speak of it.
+-- Reading an expression from left to right, with a number of steps that bounds the recursion (this project).
 use Rattle.std.specs.Prelude.{ℕ, zero, suc, ◌+◌, ◌*◌, List, length, codes, min, Option, Some, None, Bool, true, false, ◌==◌, nat_le, if◌then◌else◌}
 use Rattle.ped_base.specs.Letters.{is_digit, is_alphanumeric}
 use Rattle.ped_tree.specs.declared.expressions.Intrinsic.{Intrinsic}

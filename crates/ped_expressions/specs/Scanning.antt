@@ -1,4 +1,4 @@
--- What stands first in a text, and what follows it. Contracts of private functions alone speak of it.
+-- What stands first in a text, and what follows it (this project).
 use Rattle.std.specs.Prelude.{ℕ, List, [], ◌∷◌, codes, Option, Some, None, Bool, false, ◌==◌, if◌then◌else◌}
 use Rattle.ped_grammar.specs.ExpressionForms.{Sign, unsigned, positive, negative, Adding, add, subtract, Scaling, multiply, divide}
 

@@ -1,4 +1,4 @@
--- What the values of the code stand for. Contracts of private functions alone speak of it.
+-- What the values of the code stand for (this project).
 use Rattle.std.specs.Prelude.{◌≡◌, ℕ, List, Option, Some, None, Result, Ok, Err, map, ⊤}
 use Rattle.std.specs.Borrow.{Bor}
 use Rattle.std.specs.Global.{Vec}

@@ -1,4 +1,4 @@
--- How statements nest: the parts of a block IF, and DO loops that end at a statement of their own or at one that they share.
+-- How statements nest: the parts of a block IF, and DO loops that end at a statement of their own or at one that they share (ANSI X3.9-1978, sections 11.6, 11.10).
 use Rattle.std.specs.Prelude.{ℕ, List, [], ◌∷◌, ◌++◌, map, Bool, true, false, not, ◌&&◌, ◌==◌, Option, Some, None}
 use Rattle.std.specs.List.{list_any}
 use Rattle.ped_tree.specs.Tree.{CondTree, Head, StmtTree, StmtTrees, no_stmts, If, Do, Comment}
@@ -7,13 +7,13 @@ use Rattle.ped_grammar.specs.Statement.{Statement}
 use Rattle.ped_grammar.specs.Items.{Item, does, continues, logical_if, block_if, else_if, else_line, end_if, begins_do, keeps_private, says, Entry}
 use Rattle.ped_grammar.specs.Occurrences.{rejected_names}
 
--- an assignment, PRINT, READ or STOP, a CONTINUE, or a logical IF
+-- an assignment, PRINT, READ or STOP, a CONTINUE, or a logical IF (ANSI X3.9-1978, sections 10.1, 11.5, 11.11, 11.12, 12.8)
 pub data PlainForm : Type 0 where
   a_simple : StmtTree → PlainForm
   a_continue : PlainForm
   a_logical_if : CondTree → StmtTrees → PlainForm
 
--- the PRIVATE statement of a DO, where it has one
+-- the PRIVATE statement of a DO, where it has one (this project)
 pub data PrivateForm : Type 0 where
   no_private : PrivateForm
   private_list : Statement → List (List ℕ) → PrivateForm
@@ -45,22 +45,22 @@ mutual
     at_plain : Statement → PlainForm → EndingForm
     with_inner : LoopForm → EndingForm
 
--- what a plain statement says
+-- what a plain statement says (ANSI X3.9-1978, section 3.5)
 abbrev pub plain_item : PlainForm → Item
 plain_item (a_simple s) = does s
 plain_item a_continue = continues
 plain_item (a_logical_if c s) = logical_if c s
 
--- a statement that says this
+-- a statement that says this (ANSI X3.9-1978, section 3.5)
 abbrev pub entry : Statement → Item → Entry
 entry s i = record { statement = s; reading = says i }
 
--- the statement of PRIVATE
+-- the statement of PRIVATE (ANSI X3.9-1978, section 3.5)
 abbrev pub private_entries : PrivateForm → List Entry
 private_entries no_private = []
 private_entries (private_list s names) = entry s (keeps_private names) ∷ []
 
--- the statements of a form, in the order of the text
+-- the statements of a form, in the order of the text (ANSI X3.9-1978, section 3.5)
 abbrev mutual
   pub body_entries : BodyForm → List Entry
   body_entries nothing = []
@@ -83,37 +83,37 @@ abbrev mutual
   ending_entries (at_plain s p) = entry s (plain_item p) ∷ []
   ending_entries (with_inner d) = loop_entries d
 
--- the comments before a statement, which come before it in the tree
+-- the comments before a statement, which come before it in the tree (this project)
 abbrev pub comments_of : Statement → List StmtTree
 comments_of s = map (λ n. Comment n.text) s.comments
 
--- the tree of a plain statement: a logical IF is a block IF, and a CONTINUE is nothing
+-- the tree of a plain statement: a logical IF is a block IF, and a CONTINUE is nothing (ANSI X3.9-1978, section 11.5; this project)
 abbrev pub plain_trees : PlainForm → List StmtTree
 plain_trees (a_simple s) = s ∷ []
 plain_trees a_continue = []
 plain_trees (a_logical_if c s) = If c s no_stmts ∷ []
 
--- the private names
+-- the private names (this project)
 abbrev pub names_of_private : PrivateForm → List (List ℕ)
 names_of_private no_private = []
 names_of_private (private_list s names) = names
 
--- the comments between a DO and its PRIVATE come first in the body
+-- the comments between a DO and its PRIVATE come first in the body (this project)
 abbrev pub comments_of_private : PrivateForm → List StmtTree
 comments_of_private no_private = []
 comments_of_private (private_list s names) = comments_of s
 
--- the statement that follows a THEN part; the comments before it end that part
+-- the statement that follows a THEN part; the comments before it end that part (this project)
 abbrev pub first_of_rest : RestForm → Statement
 first_of_rest (ends_if s) = s
 first_of_rest (has_else s b e) = s
 first_of_rest (has_else_if s c b r) = s
 
--- the head of a loop with its private names and those of its directives
+-- the head of a loop with its private names and those of its directives (this project)
 abbrev pub whole_head : Head → List (List ℕ) → List (List ℕ) → Head
 whole_head h private rejected = record h { private = private; rejected = rejected }
 
--- the trees of a form: an ELSE IF is an IF in the ELSE part, and labels are gone
+-- the trees of a form: an ELSE IF is an IF in the ELSE part, and labels are gone (ANSI X3.9-1978, sections 11.6 to 11.10; this project)
 abbrev mutual
   pub body_trees : BodyForm → List StmtTree
   body_trees nothing = []
@@ -138,25 +138,25 @@ abbrev mutual
   ending_trees (at_plain s p) = comments_of s ++ plain_trees p
   ending_trees (with_inner d) = loop_trees d
 
--- the label of a DO
+-- the label of a DO (ANSI X3.9-1978, section 11.10)
 abbrev pub loop_label : LoopForm → ℕ
 loop_label (loop s l h p b e) = l
 
--- the statement has this label
+-- the statement has this label (ANSI X3.9-1978, section 11.10.1)
 abbrev pub has_label : ℕ → Option ℕ → Bool
 has_label l None = false
 has_label l (Some m) = m == l
 
--- the statement has none of these labels, those of the loops round it
+-- the statement has none of these labels, those of the loops round it (ANSI X3.9-1978, section 11.10.1)
 abbrev pub is_free : List ℕ → Statement → Bool
 is_free labels s = not (list_any (λ l. has_label l s.label) labels)
 
--- PRIVATE has none of these labels
+-- PRIVATE has none of these labels (this project)
 abbrev pub private_fits : List ℕ → PrivateForm → Bool
 private_fits labels no_private = true
 private_fits labels (private_list s names) = is_free labels s
 
--- the first statement behind a DO that has its label ends it: within loops with these labels none of them stands but at an ending
+-- the first statement behind a DO that has its label ends it: within loops with these labels none of them stands but at an ending (ANSI X3.9-1978, section 11.10.1)
 abbrev mutual
   pub body_fits : List ℕ → BodyForm → Bool
   body_fits labels nothing = true

@@ -1,4 +1,4 @@
--- Conditions as they are written, without blanks: a type for each level of the grammar, with the text and the tree of each form.
+-- Conditions as they are written, without blanks: a type for each level of the grammar, with the text and the tree of each form (ANSI X3.9-1978, section 6.4).
 use Rattle.std.specs.Prelude.{◌≡◌, ℕ, List, ◌++◌, codes}
 use Rattle.ped_tree.specs.declared.conditions.Relation.{Relation}
 use Rattle.ped_tree.specs.Tree.{CondTree, Rel, Not, And, Or}
@@ -21,7 +21,7 @@ mutual
     affirmed : LogicalPrimaryForm → LogicalFactorForm
     negated : LogicalPrimaryForm → LogicalFactorForm
 
-  -- a logical primary: a relation of two expressions, or a condition in parentheses
+  -- a logical primary: a relation of two expressions, or a condition in parentheses (ANSI X3.9-1978, sections 6.3, 6.4)
   pub data LogicalPrimaryForm : Type 0 where
     relation : ExprForm → Relation → ExprForm → LogicalPrimaryForm
     group : CondForm → LogicalPrimaryForm
@@ -42,7 +42,7 @@ abbrev mutual
   logical_factor_text (affirmed p) = logical_primary_text p
   logical_factor_text (negated p) = codes ".NOT." ++ logical_primary_text p
 
-  -- the text of a relation, or of a condition in parentheses
+  -- the text of a relation, or of a condition in parentheses (ANSI X3.9-1978, sections 6.3, 6.4)
   pub logical_primary_text : LogicalPrimaryForm → List ℕ
   logical_primary_text (relation a r b) = expr_form_text a ++ relation_text r ++ expr_form_text b
   logical_primary_text (group c) = codes "(" ++ cond_form_text c ++ codes ")"
@@ -63,7 +63,7 @@ abbrev mutual
   logical_factor_tree (affirmed p) = logical_primary_tree p
   logical_factor_tree (negated p) = Not (logical_primary_tree p)
 
-  -- the tree of a relation, or of a condition in parentheses
+  -- the tree of a relation, or of a condition in parentheses (ANSI X3.9-1978, sections 6.3, 6.4)
   pub logical_primary_tree : LogicalPrimaryForm → CondTree
   logical_primary_tree (relation a r b) = Rel r (expr_form_tree a) (expr_form_tree b)
   logical_primary_tree (group c) = cond_form_tree c

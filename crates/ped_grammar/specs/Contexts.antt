@@ -7,7 +7,7 @@ use Rattle.ped_grammar.specs.Statement.{Statement}
 use Rattle.ped_grammar.specs.Items.{Item, declares, saves_all, does, continues, logical_if, block_if, else_if, else_line, end_if, begins_do, keeps_private, ends_program, Reading, says, outside_profile, no_form, Entry}
 use Rattle.ped_grammar.specs.Occurrences.{constants_of}
 
--- a DO loop that is open: its label, its variable, and the names and the line of its PRIVATE statement, none and 0 before that
+-- a DO loop that is open: its label, its variable, and the names and the line of its PRIVATE statement, none and 0 before that (ANSI X3.9-1978, section 11.10; this project)
 pub record OpenLoop : Type 0 where
   pub label : ℕ
   pub variable : List ℕ
@@ -44,20 +44,20 @@ at_start = record {
   behind_do = false;
 }
 
--- the order of declarations: PROGRAM, IMPLICIT, all others
+-- the order of declarations: PROGRAM, IMPLICIT, all others (ANSI X3.9-1978, section 3.5)
 abbrev pub decl_rank : DeclTree → ℕ
 decl_rank (Program x) = 1
 decl_rank Implicit = 2
 decl_rank d = 3
 
--- the order of statements: declarations, executable statements, END
+-- the order of statements: declarations, executable statements, END (ANSI X3.9-1978, section 3.5)
 abbrev pub rank : Item → ℕ
 rank (declares d) = decl_rank d
 rank saves_all = 3
 rank ends_program = 5
 rank i = 4
 
--- how many numbered statements an item is
+-- how many numbered statements an item is (this project)
 abbrev pub numbered_in : Item → ℕ
 numbered_in (does s) = statement_count s
 numbered_in (logical_if c s) = statements_count s + 1
@@ -66,34 +66,34 @@ numbered_in (else_if c) = 1
 numbered_in (begins_do label h) = 1
 numbered_in i = 0
 
--- a DO statement
+-- a DO statement (ANSI X3.9-1978, section 11.10)
 abbrev pub is_do : Item → Bool
 is_do (begins_do label h) = true
 is_do i = false
 
--- STOP
+-- STOP (ANSI X3.9-1978, section 11.12)
 abbrev pub is_stop : StmtTree → Bool
 is_stop Stop = true
 is_stop s = false
 
--- a statement that may end a DO (section 11.10)
+-- a statement that may end a DO (ANSI X3.9-1978, section 11.10)
 abbrev pub may_end : Item → Bool
 may_end (does s) = not (is_stop s)
 may_end continues = true
 may_end (logical_if c s) = true
 may_end i = false
 
--- a declaration is a SAVE with a list
+-- a declaration is a SAVE with a list (ANSI X3.9-1978, section 8.9)
 abbrev pub is_save : DeclTree → Bool
 is_save (Save names) = true
 is_save d = false
 
--- a SAVE with a list
+-- a SAVE with a list (ANSI X3.9-1978, section 8.9)
 abbrev pub saves_list : Item → Bool
 saves_list (declares d) = is_save d
 saves_list i = false
 
--- a SAVE without a list
+-- a SAVE without a list (ANSI X3.9-1978, section 8.9)
 abbrev pub saves_without : Item → Bool
 saves_without saves_all = true
 saves_without i = false
@@ -109,50 +109,50 @@ open_loops (in_do d ∷ c) = d ∷ open_loops c
 abbrev pub open_variables : List Block → List (List ℕ)
 open_variables c = map (λ d. d.variable) (open_loops c)
 
--- a DO with this label is open
+-- a DO with this label is open (ANSI X3.9-1978, section 11.10)
 abbrev pub has_do : ℕ → List Block → Bool
 has_do l c = list_any (λ d. d.label == l) (open_loops c)
 
--- an IF is open
+-- an IF is open (ANSI X3.9-1978, section 11.6)
 abbrev pub has_if : List Block → Bool
 has_if [] = false
 has_if (in_then n ∷ c) = true
 has_if (in_else n ∷ c) = true
 has_if (in_do d ∷ c) = has_if c
 
--- a DO loop with this label
+-- a DO loop with this label (ANSI X3.9-1978, section 11.10)
 abbrev pub is_loop_with : ℕ → Block → Bool
 is_loop_with l (in_do d) = d.label == l
 is_loop_with l b = false
 
--- the first statement behind a DO that has its label ends the loop, and all that was begun in it; loops with one label end together
+-- the first statement behind a DO that has its label ends the loop, and all that was begun in it; loops with one label end together (ANSI X3.9-1978, section 11.10.1)
 abbrev pub left_by_label : ℕ → List Block → List Block
 left_by_label l [] = []
 left_by_label l (b ∷ c) = if has_do l c then left_by_label l c else if is_loop_with l b then c else b ∷ c
 
--- what is left open by a statement's label, where it has one
+-- what is left open by a statement's label, where it has one (ANSI X3.9-1978, section 11.10.1)
 abbrev pub left_by : Option ℕ → List Block → List Block
 left_by None c = c
 left_by (Some l) c = left_by_label l c
 
--- ELSE, ELSE IF and END IF end what was begun in the innermost IF
+-- ELSE, ELSE IF and END IF end what was begun in the innermost IF (ANSI X3.9-1978, sections 11.6 to 11.9)
 abbrev pub left_in_if : List Block → List Block
 left_in_if [] = []
 left_in_if (in_then n ∷ c) = in_then n ∷ c
 left_in_if (in_else n ∷ c) = in_else n ∷ c
 left_in_if (in_do d ∷ c) = if has_if c then left_in_if c else in_do d ∷ c
 
--- ELSE: the THEN part of the innermost IF gives way to its ELSE part
+-- ELSE: the THEN part of the innermost IF gives way to its ELSE part (ANSI X3.9-1978, section 11.8)
 abbrev pub with_else : List Block → List Block
 with_else (in_then n ∷ c) = in_else n ∷ c
 with_else c = c
 
--- ELSE IF: one IF more, whose THEN part begins
+-- ELSE IF: one IF more, whose THEN part begins (ANSI X3.9-1978, section 11.7)
 abbrev pub with_else_if : List Block → List Block
 with_else_if (in_then n ∷ c) = in_then (n + 1) ∷ c
 with_else_if c = c
 
--- END IF: the innermost IF is closed with its ELSE IFs
+-- END IF: the innermost IF is closed with its ELSE IFs (ANSI X3.9-1978, section 11.9)
 abbrev pub without_if : List Block → List Block
 without_if (in_then n ∷ c) = c
 without_if (in_else n ∷ c) = c
@@ -162,7 +162,7 @@ without_if c = c
 abbrev pub begun : ℕ → Head → OpenLoop
 begun l h = record { label = l; variable = h.variable; private = []; private_line = 0 }
 
--- PRIVATE on this line belongs to the innermost block, which is a DO
+-- PRIVATE on this line belongs to the innermost block, which is a DO (this project)
 abbrev pub with_private : ℕ → List (List ℕ) → List Block → List Block
 with_private line names (in_do d ∷ c) = in_do (record d { private = names; private_line = line }) ∷ c
 with_private line names c = c
@@ -178,7 +178,7 @@ blocks_behind behind_do s (keeps_private names) c = left_by s.label (if behind_d
 blocks_behind behind_do s ends_program c = []
 blocks_behind behind_do s i c = left_by s.label c
 
--- how many loops a DO statement opens
+-- how many loops a DO statement opens (ANSI X3.9-1978, section 11.10)
 abbrev pub loops_in : Item → ℕ
 loops_in i = if is_do i then 1 else 0
 

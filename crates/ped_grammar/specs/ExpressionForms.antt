@@ -1,42 +1,42 @@
--- Expressions as they are written, without blanks: a type for each level of the grammar, with the text and the tree of each form.
+-- Expressions as they are written, without blanks: a type for each level of the grammar, with the text and the tree of each form (ANSI X3.9-1978, section 6.1).
 use Rattle.std.specs.Prelude.{◌≡◌, ℕ, List, [], ◌++◌, codes, Some, None, IsTrue}
 use Rattle.ped_tree.specs.declared.expressions.Intrinsic.TheVariants.{Mod, Abs, Max, Min}
 use Rattle.ped_tree.specs.Tree.{ExprTree, ExprTrees, Int, Var, Element, Neg, Add, Sub, Mul, Div, Pow, Call, no_exprs, more_exprs}
 use Rattle.ped_grammar.specs.Words.{is_name, is_numeral, numeral_value, intrinsic_of}
 
--- what stands before the first term: nothing, + or -
+-- what stands before the first term: nothing, + or - (ANSI X3.9-1978, section 6.1.1)
 pub data Sign : Type 0 where
   unsigned : Sign
   positive : Sign
   negative : Sign
 
--- between an expression and a term: + or -
+-- between an expression and a term: + or - (ANSI X3.9-1978, section 6.1.1)
 pub data Adding : Type 0 where
   add : Adding
   subtract : Adding
 
--- between a term and a factor: * or /
+-- between a term and a factor: * or / (ANSI X3.9-1978, section 6.1.1)
 pub data Scaling : Type 0 where
   multiply : Scaling
   divide : Scaling
 
 mutual
-  -- an expression: a term with a sign, or an expression, + or -, and a term
+  -- an expression: a term with a sign, or an expression, + or -, and a term (ANSI X3.9-1978, section 6.1.2.4)
   pub data ExprForm : Type 0 where
     first : Sign → TermForm → ExprForm
     sum : ExprForm → Adding → TermForm → ExprForm
 
-  -- a term: a factor, or a term, * or /, and a factor
+  -- a term: a factor, or a term, * or /, and a factor (ANSI X3.9-1978, section 6.1.2.3)
   pub data TermForm : Type 0 where
     single : FactorForm → TermForm
     product : TermForm → Scaling → FactorForm → TermForm
 
-  -- a factor: a primary, or a primary, **, and a factor
+  -- a factor: a primary, or a primary, **, and a factor (ANSI X3.9-1978, section 6.1.2.2)
   pub data FactorForm : Type 0 where
     plain : PrimaryForm → FactorForm
     power : PrimaryForm → FactorForm → FactorForm
 
-  -- a primary: a literal, a scalar or an element, MOD of two, ABS of one, MAX or MIN of two or more, an expression in parentheses
+  -- a primary: a literal, a scalar or an element, MOD of two, ABS of one, MAX or MIN of two or more, an expression in parentheses (ANSI X3.9-1978, sections 6.1.2.1, 15.10)
   pub data PrimaryForm : Type 0 where
     literal : (digits : List ℕ) → IsTrue (is_numeral digits) → PrimaryForm
     reference : ReferenceForm → PrimaryForm
@@ -46,7 +46,7 @@ mutual
     least : (x : List ℕ) → intrinsic_of x ≡ Some Min → ExprForm → ExprsForm → PrimaryForm
     parentheses : ExprForm → PrimaryForm
 
-  -- what may be assigned: a scalar, or an element of an array, which has no intrinsic function's name
+  -- what may be assigned: a scalar, or an element of an array, which has no intrinsic function's name (ANSI X3.9-1978, section 10.1)
   pub data ReferenceForm : Type 0 where
     scalar : (x : List ℕ) → IsTrue (is_name x) → ReferenceForm
     element : (x : List ℕ) → IsTrue (is_name x) → intrinsic_of x ≡ None → ExprsForm → ReferenceForm

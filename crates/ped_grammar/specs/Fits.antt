@@ -1,4 +1,4 @@
--- Which trees are programs of the profile: those whose names, literals, comments and order can be written, and that pass no limit at any place. A tree fits exactly where some text reads as it.
+-- Which trees are programs of the profile: those whose names, literals, comments and order can be written, and that pass no limit at any place. A tree fits exactly where some text reads as it (this project).
 use Rattle.std.specs.Prelude.{ℕ, ◌+◌, List, [], ◌∷◌, ◌++◌, length, Bool, true, false, not, ◌&&◌, ◌||◌, ◌==◌, nat_lt, nat_le, Option, Some, None}
 use Rattle.std.specs.List.{list_all, list_any}
 use Rattle.ped_base.specs.Lists.{has_some, is_same_text, is_among}
@@ -17,7 +17,7 @@ use Rattle.ped_grammar.specs.StatementForms.{are_names}
 use Rattle.ped_grammar.specs.Contexts.{decl_rank, is_stop}
 use Rattle.ped_grammar.specs.ProgramRefusals.{is_out_of_order, assigned_by, meets}
 
--- no intrinsic function has the name
+-- no intrinsic function has the name (ANSI X3.9-1978, section 15.10)
 abbrev pub is_no_intrinsic : Option Intrinsic → Bool
 is_no_intrinsic None = true
 is_no_intrinsic (Some f) = false
@@ -30,7 +30,7 @@ takes_arguments Max (more_exprs a (more_exprs b rest)) = true
 takes_arguments Min (more_exprs a (more_exprs b rest)) = true
 takes_arguments f arguments = false
 
--- one expression or more
+-- one expression or more (plain words)
 abbrev pub has_expr : ExprTrees → Bool
 has_expr no_exprs = false
 has_expr (more_exprs e rest) = true
@@ -54,7 +54,7 @@ abbrev mutual
   exprs_fit no_exprs = true
   exprs_fit (more_exprs e rest) = expr_fits e && exprs_fit rest
 
--- a scalar or an element, which may be assigned
+-- a scalar or an element, which may be assigned (ANSI X3.9-1978, section 10.1)
 abbrev pub target_fits : ExprTree → Bool
 target_fits (Var x) = expr_fits (Var x)
 target_fits (Element x subscripts) = expr_fits (Element x subscripts)
@@ -147,19 +147,19 @@ abbrev mutual
   stmts_fit p no_stmts = true
   stmts_fit p (more_stmts s rest) = stmt_fits p s && stmts_fit (moved p (statement_count s) (loop_count s)) rest
 
--- the bounds of a dimension
+-- the bounds of a dimension (ANSI X3.9-1978, section 5.1.1.1)
 abbrev pub bound_fits : BoundTree → Bool
 bound_fits b = expr_fits b.lower && expr_fits b.upper
 
--- a declared name with as many dimensions as an array may have
+-- a declared name with as many dimensions as an array may have (ANSI X3.9-1978, section 5.1.1)
 abbrev pub declarator_fits : DeclaratorTree → Bool
 declarator_fits d = is_name d.name && nat_le (length d.bounds) most_dimensions && list_all bound_fits d.bounds
 
--- a declared array
+-- a declared array (ANSI X3.9-1978, section 5.1.1)
 abbrev pub array_fits : DeclaratorTree → Bool
 array_fits d = declarator_fits d && has_some d.bounds
 
--- a named constant with its value
+-- a named constant with its value (ANSI X3.9-1978, section 8.6)
 abbrev pub constant_fits : List ℕ × ExprTree → Bool
 constant_fits v = is_name v.0 && expr_fits v.1
 
@@ -174,7 +174,7 @@ declares_names (Save names) = are_names names
 declares_names (Remark text) = comment_fits text
 
 
--- declarations one behind the other, where the order of statements has come so far
+-- declarations one behind the other, where the order of statements has come so far (ANSI X3.9-1978, section 3.5)
 abbrev pub decls_fit : ℕ → List DeclTree → Bool
 decls_fit phase [] = true
 decls_fit phase (Remark text ∷ ds) = comment_fits text && decls_fit phase ds

@@ -1,4 +1,4 @@
--- The plain item that an item of the code stands for.
+-- The plain item that an item of the code stands for (this project).
 use Rattle.std.specs.Prelude.{[], Option, Some, None}
 use Rattle.ped_tree.specs.Tree.{Head, StmtTrees, no_stmts, more_stmts}
 use Rattle.ped_tree.specs.Views.{expr_tree, cond_tree, stmt_tree, decl_tree}

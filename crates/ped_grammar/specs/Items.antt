@@ -1,4 +1,4 @@
--- What the statements of a text say, one by one.
+-- What the statements of a text say, one by one (this project).
 use Rattle.std.specs.Prelude.{ℕ, List}
 use Rattle.ped_tree.specs.Tree.{CondTree, Head, StmtTree, StmtTrees, DeclTree}
 use Rattle.ped_grammar.specs.Statement.{Statement}

@@ -1,4 +1,4 @@
--- The limits of the language as numbers; passing one is refused.
+-- The limits of the language as numbers; passing one is refused (this project).
 use Rattle.std.specs.Prelude.{ℕ}
 
 -- the greatest literal
@@ -29,6 +29,6 @@ most_references = 64
 abbrev pub most_characters : ℕ
 most_characters = 1300
 
--- the most continuation lines of a statement (section 3.2.3)
+-- the most continuation lines of a statement (ANSI X3.9-1978, section 3.2.3)
 abbrev pub most_continuations : ℕ
 most_continuations = 19

@@ -1,4 +1,4 @@
--- Which refusals stand at the lines of a text, and which of them is the first. Lines count from 1.
+-- Which refusals stand at the lines of a text, and which of them is the first. Lines count from 1 (this project).
 use Rattle.std.specs.Prelude.{ℕ, ◌+◌, ◌-◌, List, [], ◌∷◌, ◌++◌, Option, Bool, true, false, ◌||◌, ◌==◌, if◌then◌else◌}
 use Rattle.std.specs.List.{flat_map}
 use Rattle.std.specs.Str.Lines.{lines}
@@ -8,19 +8,19 @@ use Rattle.ped_grammar.specs.Grouping.{NumberedLine, further_lines, joined_colum
 use Rattle.ped_grammar.specs.LimitNumbers.{most_continuations}
 use Rattle.ped_grammar.specs.Refusal.{Finding, Tab, BadLabel, TooManyContinuations, ContinuationFirst, BadCharacter, OpenConstant, refused_if, first_of}
 
--- a line that is no comment begins a statement, or continues one that so many lines may still continue, or continues none
+-- a line that is no comment begins a statement, or continues one that so many lines may still continue, or continues none (ANSI X3.9-1978, section 3.2)
 pub data Role : Type 0 where
   Initial : Role
   Continuation : ℕ → Role
   Orphan : Role
 
--- an initial line has blanks or a label in columns 1 to 5, and a continuation line has blanks there
+-- an initial line has blanks or a label in columns 1 to 5, and a continuation line has blanks there (ANSI X3.9-1978, sections 3.2.2, 3.2.3, 3.4)
 abbrev pub label_is_bad : Role → List ℕ → Bool
 label_is_bad Initial line = has_bad_label line
 label_is_bad (Continuation left) line = has_label_field line
 label_is_bad Orphan line = has_label_field line
 
--- no further line may continue the statement
+-- no further line may continue the statement (ANSI X3.9-1978, section 3.2.3)
 abbrev pub is_too_many : Role → Bool
 is_too_many (Continuation left) = left == 0
 is_too_many role = false

@@ -1,4 +1,4 @@
--- Literals above the greatest INTEGER. A statement with one has its form all the same, and is refused for its limit.
+-- Literals above the greatest INTEGER. A statement with one has its form all the same, and is refused for its limit (this project).
 use Rattle.std.specs.Prelude.{Bool, false, ◌||◌, nat_lt}
 use Rattle.std.specs.List.{list_any}
 use Rattle.ped_grammar.specs.LimitNumbers.{greatest_literal}

@@ -1,4 +1,4 @@
--- Statements of FORTRAN 77 that the profile leaves out, by how their text begins.
+-- Statements of FORTRAN 77 that the profile leaves out, by how their text begins (this project).
 use Rattle.std.specs.Prelude.{◌≡◌, ℕ, ◌-◌, ◌+◌, List, [], ◌∷◌, ◌++◌, take, length, codes, Bool, true, false, ◌&&◌, ◌==◌, IsTrue, if◌then◌else◌}
 use Rattle.std.specs.List.{list_any, list_all, join_by}
 use Rattle.ped_tree.specs.Printing.{constant_text}

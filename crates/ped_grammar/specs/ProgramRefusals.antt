@@ -1,4 +1,4 @@
--- Which of the refusals 7 to 13 a text meets at its statements (ANSI X3.9-1978, sections 3.5, 11.6 to 11.10; the limits are the profile's own). Each statement is looked at, whatever is refused before it.
+-- Which of the refusals 7 to 13 a text meets at its statements (ANSI X3.9-1978, sections 3.5, 11.6 to 11.10; this project). Each statement is looked at, whatever is refused before it.
 use Rattle.std.specs.Prelude.{ℕ, ◌+◌, List, [], ◌∷◌, ◌++◌, map, length, Bool, true, false, not, ◌&&◌, ◌||◌, nat_lt, nat_le, Option, Some, None, if◌then◌else◌}
 use Rattle.std.specs.List.{list_any, flat_map}
 use Rattle.ped_base.specs.Lists.{has_some, is_among}
@@ -14,66 +14,66 @@ use Rattle.ped_grammar.specs.Occurrences.{of_reading, do_variables, is_rejection
 use Rattle.ped_grammar.specs.Contexts.{Block, in_then, in_else, in_do, Context, at_start, rank, numbered_in, is_do, is_stop, may_end, saves_list, saves_without, open_loops, open_variables, has_do, has_if, is_loop_with, behind, behind_all}
 use Rattle.ped_grammar.specs.BlockForms.{whole_head}
 
--- a test of what a statement says, false where it says nothing
+-- a test of what a statement says, false where it says nothing (plain words)
 abbrev pub where_it_says : (Item → Bool) → Reading → Bool
 where_it_says test (says i) = test i
 where_it_says test r = false
 
--- the form is one that the profile leaves out
+-- the form is one that the profile leaves out (this project)
 abbrev pub is_left_out : Reading → Bool
 is_left_out outside_profile = true
 is_left_out r = false
 
--- the text has no form at all
+-- the text has no form at all (this project)
 abbrev pub is_formless : Reading → Bool
 is_formless no_form = true
 is_formless r = false
 
--- PROGRAM and IMPLICIT come once and before what follows them; declarations come before executable statements (section 3.5)
+-- PROGRAM and IMPLICIT come once and before what follows them; declarations come before executable statements (ANSI X3.9-1978, section 3.5)
 abbrev pub is_out_of_order : ℕ → ℕ → Bool
 is_out_of_order phase rank = if nat_lt rank 3 then nat_le rank phase else nat_lt rank phase
 
--- the innermost IF is open, and its ELSE part hasn't begun
+-- the innermost IF is open, and its ELSE part hasn't begun (ANSI X3.9-1978, section 11.8)
 abbrev pub takes_else : List Block → Bool
 takes_else [] = false
 takes_else (in_then n ∷ c) = true
 takes_else (in_else n ∷ c) = false
 takes_else (in_do d ∷ c) = takes_else c
 
--- ELSE, ELSE IF or END IF without its IF
+-- ELSE, ELSE IF or END IF without its IF (ANSI X3.9-1978, sections 11.7 to 11.9)
 abbrev pub lacks_if : List Block → Item → Bool
 lacks_if c (else_if e) = not (takes_else c)
 lacks_if c else_line = not (takes_else c)
 lacks_if c end_if = not (has_if c)
 lacks_if c i = false
 
--- PRIVATE that isn't the first statement behind a DO
+-- PRIVATE that isn't the first statement behind a DO (this project)
 abbrev pub is_late_private : Bool → Item → Bool
 is_late_private behind_do (keeps_private names) = not behind_do
 is_late_private behind_do i = false
 
--- a SAVE behind another, at least one of the two without a list
+-- a SAVE behind another, at least one of the two without a list (ANSI X3.9-1978, section 8.9; this project)
 abbrev pub saves_again : Context → Item → Bool
 saves_again c i = (saves_list i && c.saves_everything) || (saves_without i && (c.saves_names || c.saves_everything))
 
--- a form at a place where it can't stand
+-- a form at a place where it can't stand (this project)
 abbrev pub is_misplaced : Context → Item → Bool
 is_misplaced c i = is_out_of_order c.phase (rank i) || lacks_if c.blocks i || is_late_private c.behind_do i || saves_again c i
 
--- the statement stands behind END
+-- the statement stands behind END (ANSI X3.9-1978, section 11.14)
 abbrev pub is_behind_end : Context → Bool
 is_behind_end c = nat_le 5 c.phase
 
--- no form, or a form that can't stand there; a form that the profile leaves out is refused as that
+-- no form, or a form that can't stand there; a form that the profile leaves out is refused as that (this project)
 abbrev pub breaks_syntax : Context → Reading → Bool
 breaks_syntax c r = not (is_left_out r) && (is_behind_end c || is_formless r || where_it_says (is_misplaced c) r)
 
--- the innermost open block is a DO
+-- the innermost open block is a DO (this project)
 abbrev pub is_in_do : List Block → Bool
 is_in_do (in_do d ∷ c) = true
 is_in_do c = false
 
--- END while a block is open; ELSE, ELSE IF or END IF while a DO is open in the IF
+-- END while a block is open; ELSE, ELSE IF or END IF while a DO is open in the IF (ANSI X3.9-1978, sections 11.6, 11.10.1)
 abbrev pub leaves_open : List Block → Item → Bool
 leaves_open c (else_if e) = is_in_do c
 leaves_open c else_line = is_in_do c
@@ -81,68 +81,68 @@ leaves_open c end_if = is_in_do c
 leaves_open c ends_program = has_some c
 leaves_open c i = false
 
--- without the innermost loops that have this label
+-- without the innermost loops that have this label (ANSI X3.9-1978, section 11.10.1)
 abbrev pub closed : ℕ → List Block → List Block
 closed l [] = []
 closed l (b ∷ c) = if is_loop_with l b then closed l c else b ∷ c
 
--- the label of an open DO on a statement that can't end one, or while a block is open in it that isn't a DO with that label
+-- the label of an open DO on a statement that can't end one, or while a block is open in it that isn't a DO with that label (ANSI X3.9-1978, section 11.10)
 abbrev pub ends_badly : List Block → Option ℕ → Reading → Bool
 ends_badly c None r = false
 ends_badly c (Some l) r = has_do l c && not (where_it_says may_end r && not (has_do l (closed l c)))
 
--- the scalar that a left side or an item of a READ is
+-- the scalar that a left side or an item of a READ is (ANSI X3.9-1978, section 11.10.5)
 abbrev pub scalar_of : ExprTree → List (List ℕ)
 scalar_of (Var x) = x ∷ []
 scalar_of e = []
 
--- the scalars that a simple statement assigns or reads into
+-- the scalars that a simple statement assigns or reads into (ANSI X3.9-1978, section 11.10.5)
 abbrev pub assigned_by : StmtTree → List (List ℕ)
 assigned_by (Assign left right) = scalar_of left
 assigned_by (Read items) = flat_map scalar_of items
 assigned_by s = []
 
--- the statements that are behind a logical IF
+-- the statements that are behind a logical IF (ANSI X3.9-1978, section 11.5)
 abbrev pub listed_stmts : StmtTrees → List StmtTree
 listed_stmts no_stmts = []
 listed_stmts (more_stmts s rest) = s ∷ listed_stmts rest
 
--- the scalars that a statement assigns, reads into, or has as DO variable
+-- the scalars that a statement assigns, reads into, or has as DO variable (ANSI X3.9-1978, section 11.10.5)
 abbrev pub assigned_in : Item → List (List ℕ)
 assigned_in (does s) = assigned_by s
 assigned_in (logical_if e s) = flat_map assigned_by (listed_stmts s)
 assigned_in (begins_do l h) = h.variable ∷ []
 assigned_in i = []
 
--- the names of a PRIVATE statement
+-- the names of a PRIVATE statement (this project)
 abbrev pub private_in : Item → List (List ℕ)
 private_in (keeps_private names) = names
 private_in i = []
 
--- some name is one of the others
+-- some name is one of the others (plain words)
 abbrev pub meets : List (List ℕ) → List (List ℕ) → Bool
 meets names others = list_any (λ x. is_among x others) names
 
--- the variable of a loop round the statement is assigned, read into or a DO variable again, or named in PRIVATE (section 11.10.5)
+-- the variable of a loop round the statement is assigned, read into or a DO variable again, or named in PRIVATE (ANSI X3.9-1978, section 11.10.5; this project)
 abbrev pub assigns_index : Context → Reading → Bool
 assigns_index c r = meets (of_reading assigned_in r ++ of_reading private_in r) (open_variables c.blocks)
 
--- a DO whose variable the PRIVATE statement of a loop round it names, which is refused at that statement
+-- a DO whose variable the PRIVATE statement of a loop round it names, which is refused at that statement (this project)
 abbrev pub at_private : Context → Reading → List Finding
 at_private c r = flat_map (λ d. refused_if (meets (of_reading do_variables r) d.private) IndexAssigned d.private_line) (open_loops c.blocks)
 
--- STOP, also behind a logical IF
+-- STOP, also behind a logical IF (this project)
 abbrev pub stops : Item → Bool
 stops (does s) = is_stop s
 stops (logical_if e s) = list_any is_stop (listed_stmts s)
 stops i = false
 
--- the next statement's private names, which are written at its DO
+-- the next statement's private names, which are written at its DO (this project)
 abbrev pub private_behind : List Entry → List (List ℕ)
 private_behind [] = []
 private_behind (e ∷ rest) = of_reading private_in e.reading
 
--- the numbered statements that an item is, each by itself, where these are the private names of a DO
+-- the numbered statements that an item is, each by itself, where these are the private names of a DO (this project)
 abbrev pub statements_of_item : List (List ℕ) → Item → List StmtTree
 statements_of_item private (does s) = s ∷ []
 statements_of_item private (logical_if e s) = If e no_stmts no_stmts ∷ listed_stmts s
@@ -151,25 +151,25 @@ statements_of_item private (else_if e) = If e no_stmts no_stmts ∷ []
 statements_of_item private (begins_do l h) = Do (whole_head h private []) no_stmts ∷ []
 statements_of_item private i = []
 
--- the texts of what is printed for an item, by the names of SAVE and the DO loops before it
+-- the texts of what is printed for an item, by the names of SAVE and the DO loops before it (this project)
 abbrev pub printed_texts : List (List ℕ) → ℕ → Item → List (List ℕ)
 printed_texts saved before (declares d) = decl_text d ∷ []
 printed_texts saved before saves_all = if has_some saved then decl_text (Save saved) ∷ [] else []
 printed_texts saved before (keeps_private names) = private_text names ∷ []
 printed_texts saved before i = map (own_text before) (statements_of_item [] i)
 
--- how many loops are open
+-- how many loops are open (this project)
 abbrev pub loop_depth : List Block → ℕ
 loop_depth c = length (open_loops c)
 
--- how many loops and IFs are open, each ELSE IF an IF more
+-- how many loops and IFs are open, each ELSE IF an IF more (this project)
 abbrev pub block_depth : List Block → ℕ
 block_depth [] = 0
 block_depth (in_then n ∷ c) = block_depth c + n
 block_depth (in_else n ∷ c) = block_depth c + n
 block_depth (in_do d ∷ c) = block_depth c + 1
 
--- a statement that is nested one deeper than the blocks round it: a DO or an IF
+-- a statement that is nested one deeper than the blocks round it: a DO or an IF (this project)
 abbrev pub is_block : Item → Bool
 is_block (logical_if e s) = true
 is_block (block_if e) = true
@@ -177,13 +177,13 @@ is_block (else_if e) = true
 is_block (begins_do l h) = true
 is_block i = false
 
--- a declared array has more dimensions than an array may have
+-- a declared array has more dimensions than an array may have (ANSI X3.9-1978, section 5.1.1)
 abbrev pub has_eight_dimensions : DeclTree → Bool
 has_eight_dimensions (Integer ds) = list_any (λ d. nat_lt most_dimensions (length d.bounds)) ds
 has_eight_dimensions (Dimension ds) = list_any (λ d. nat_lt most_dimensions (length d.bounds)) ds
 has_eight_dimensions d = false
 
--- a literal that is too large, or an array of too many dimensions
+-- a literal that is too large, or an array of too many dimensions (this project)
 abbrev pub is_too_large : Item → Bool
 is_too_large (declares d) = decl_has_large_literal d || has_eight_dimensions d
 is_too_large (does s) = stmt_has_large_literal s
@@ -193,23 +193,23 @@ is_too_large (else_if e) = cond_has_large_literal e
 is_too_large (begins_do l h) = head_has_large_literal h
 is_too_large i = false
 
--- the numbered statements of the program become too many
+-- the numbered statements of the program become too many (this project)
 abbrev pub are_too_many : ℕ → Item → Bool
 are_too_many before i = nat_lt 0 (numbered_in i) && nat_lt most_statements (before + numbered_in i)
 
--- too many DO loops, or too many loops and IFs, stand in one another
+-- too many DO loops, or too many loops and IFs, stand in one another (this project)
 abbrev pub is_too_deep : List Block → Item → Bool
 is_too_deep c i = (is_do i && nat_le most_loops_nested (loop_depth c)) || (is_block i && nat_le most_blocks_nested (block_depth c))
 
--- too many references in one statement, those of the private names of a DO among them, by the named constants and the variables of the loops round it
+-- too many references in one statement, those of the private names of a DO among them, by the named constants and the variables of the loops round it (this project)
 abbrev pub has_many_references : List (List ℕ) → List (List ℕ) → List (List ℕ) → Item → Bool
 has_many_references constants indices private i = list_any (λ s. nat_lt most_references (length (own_accesses constants indices s))) (statements_of_item private i)
 
--- too many characters in one printed statement
+-- too many characters in one printed statement (this project)
 abbrev pub is_too_long : List (List ℕ) → ℕ → Item → Bool
 is_too_long saved before i = list_any (λ text. nat_lt most_characters (length text)) (printed_texts saved before i)
 
--- a limit is passed
+-- a limit is passed (this project)
 abbrev pub passes_limit : List (List ℕ) → Context → List Entry → Item → Bool
 passes_limit saved c rest i =
     is_too_large i
@@ -218,11 +218,11 @@ passes_limit saved c rest i =
     || has_many_references c.constants (open_variables c.blocks) (private_behind rest) i
     || is_too_long saved c.loops i
 
--- a comment stands between a directive and its statement
+-- a comment stands between a directive and its statement (ParaScope; this project)
 abbrev pub is_parted : Note → Statement → Bool
 is_parted d s = list_any (λ n. nat_lt d.line n.line && nat_lt n.line s.line) s.comments
 
--- a directive is REJECT and a name, and stands directly before a DO, with directives alone between
+-- a directive is REJECT and a name, and stands directly before a DO, with directives alone between (ParaScope; this project)
 abbrev pub is_bad_directive : Context → Entry → Note → Bool
 is_bad_directive c e d =
     is_behind_end c
@@ -231,7 +231,7 @@ is_bad_directive c e d =
     || nat_lt e.statement.line d.line
     || is_parted d e.statement
 
--- what stands at the directives of a statement, each at its own line
+-- what stands at the directives of a statement, each at its own line (ParaScope; this project)
 abbrev pub at_directives : Context → Entry → List Finding
 at_directives c e = flat_map (λ d. refused_if (is_bad_directive c e d) Syntax d.line) e.statement.directives
 
@@ -253,7 +253,7 @@ abbrev pub at_statements : List (List ℕ) → Context → List Entry → List F
 at_statements saved c [] = []
 at_statements saved c (e ∷ rest) = at_statement saved c e rest ++ at_statements saved (behind c e) rest
 
--- what is refused at the end: no END has come; a directive stands behind the last statement
+-- what is refused at the end: no END has come; a directive stands behind the last statement (this project)
 abbrev pub at_end : Context → Statements → List Finding
 at_end c all = refused_if (not (is_behind_end c)) OpenBlock all.lines ++ flat_map (λ d. refused_if true Syntax d.line) all.directives
 

@@ -1,4 +1,4 @@
--- What a text reads as: its tree, or its first refusal.
+-- What a text reads as: its tree, or its first refusal (this project).
 use Rattle.std.specs.Prelude.{◌≡◌, ℕ, List, [], ◌∷◌, Option, Some, None, IsTrue}
 use Rattle.ped_tree.specs.Tree.{ProgramTree}
 use Rattle.ped_grammar.specs.Refusal.{Finding, first_of}

@@ -1,4 +1,4 @@
--- Refusals of a text, and which of those that stand is the first.
+-- Refusals of a text, and which of those that stand is the first (this project).
 use Rattle.std.specs.Prelude.{◌≡◌, ◌⊎◌, codes, ℕ, List, [], ◌∷◌, Option, Some, None, Bool, ◌&&◌, ◌||◌, ◌==◌, nat_lt, if◌then◌else◌}
 
 -- why a text isn't read
@@ -94,7 +94,7 @@ earliest found (r ∷ rs) = earliest (earlier found r) rs
 abbrev pub first_of : List Finding → Option Finding
 first_of findings = earliest None findings
 
--- one of these
+-- one of these (plain words)
 abbrev pub IsAmong : Finding → List Finding → Type 0
 IsAmong r [] = ⊥
 IsAmong r (s ∷ rs) = (r ≡ s) ⊎ IsAmong r rs

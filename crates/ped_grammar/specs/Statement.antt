@@ -1,7 +1,7 @@
--- Statements of a text, as its lines are grouped into them. Lines count from 1.
+-- Statements of a text, as its lines are grouped into them. Lines count from 1 (ANSI X3.9-1978, section 3.3).
 use Rattle.std.specs.Prelude.{ℕ, List, Option}
 
--- a comment by its text, or a directive by what follows $PED, and its line
+-- a comment by its text, or a directive by what follows $PED, and its line (ANSI X3.9-1978, section 3.2.1; this project)
 pub record Note : Type 0 where
   pub line : ℕ
   pub text : List ℕ

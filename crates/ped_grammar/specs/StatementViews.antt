@@ -1,4 +1,4 @@
--- What statements and notes of the code stand for.
+-- What statements and notes of the code stand for (this project).
 use Rattle.std.specs.Prelude.{map}
 use Rattle.ped_grammar.specs.Statement as whole
 use Rattle.ped_grammar.specs.Statement.{Note}

@@ -1,4 +1,4 @@
--- Words of statements: names, numerals, and the names of the intrinsic functions.
+-- Words of statements: names, numerals, and the names of the intrinsic functions (ANSI X3.9-1978, section 2.2).
 use Rattle.std.specs.Prelude.{ℕ, List, [], ◌∷◌, Bool, false, ◌&&◌, ◌||◌, ◌==◌, nat_le, length, codes, Option, Some, None, if◌then◌else◌}
 use Rattle.std.specs.List.{list_all}
 use Rattle.std.specs.Str.Parse.{digits_value}
@@ -12,16 +12,16 @@ use Rattle.ped_tree.specs.declared.expressions.Intrinsic.TheVariants.{Mod, Abs, 
 abbrev pub is_name : List ℕ → Bool
 is_name x = Letters.is_name x && nat_le (length x) 6
 
--- a numeral: one digit or more
+-- a numeral: one digit or more (ANSI X3.9-1978, section 4.3.1)
 abbrev pub is_numeral : List ℕ → Bool
 is_numeral [] = false
 is_numeral (c ∷ cs) = list_all is_digit (c ∷ cs)
 
--- the number that a numeral writes
+-- the number that a numeral writes (ANSI X3.9-1978, section 4.3.1)
 abbrev pub numeral_value : List ℕ → ℕ
 numeral_value digits = digits_value 10 digits
 
--- the intrinsic function of a name, where it is MOD, ABS, IABS, MAX, MAX0, MIN or MIN0
+-- the intrinsic function of a name, where it is MOD, ABS, IABS, MAX, MAX0, MIN or MIN0 (ANSI X3.9-1978, section 15.10)
 unfoldable pub intrinsic_of : List ℕ → Option Intrinsic
 intrinsic_of x =
     if is_same_text x (codes "MOD") then Some Mod

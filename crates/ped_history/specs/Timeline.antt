@@ -1,4 +1,4 @@
--- A history as two lists: what can be taken back, and what was taken back and can be done again.
+-- A history as two lists: what can be taken back, and what was taken back and can be done again (this project).
 use Rattle.std.specs.Prelude.{ℕ, ◌+◌, ◌-◌, List, [], ◌∷◌, drop, refl}
 use Rattle.std.specs.Coded.{Coded, code_by, coded×, coded_list, coded_ℕ}
 

@@ -1,4 +1,4 @@
--- Counts that end at the greatest number of 64 bits.
+-- Counts that end at the greatest number of 64 bits (this project).
 use Rattle.std.specs.Prelude.{ℕ, ◌+◌, min}
 
 -- one more, as long as 64 bits hold it

@@ -1,4 +1,4 @@
--- What a fault of the outside is to the callers of `load` and `put_all`.
+-- What a fault of the outside is to the callers of `load` and `put_all` (this project).
 use Rattle.std.specs.Prelude.{ℕ}
 use Rattle.ped_io.specs.declared.outside.OutsideFault.{OutsideFault}
 use Rattle.ped_io.specs.declared.outside.OutsideFault.TheVariants as outside

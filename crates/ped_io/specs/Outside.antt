@@ -1,4 +1,4 @@
--- What stands outside: files by name, the bytes that a read gives, and counts of faults.
+-- What stands outside: files by name, the bytes that a read gives, and counts of faults (this project).
 use Rattle.std.specs.Prelude.{◌≡◌, ◌⊎◌, ◌<◌, ◌≤◌, ℕ, List, Option, IsSome, length, take, drop, find, option_map}
 use Rattle.std.specs.Option.{option_or}
 use Rattle.ped_base.specs.Lists.{is_same_text}

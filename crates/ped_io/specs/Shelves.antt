@@ -1,4 +1,4 @@
--- Shelves in memory.
+-- Shelves in memory (this project).
 use Rattle.std.specs.Prelude.{◌≡◌, ◌⊎◌, ◌++◌, ℕ, List, [], Some, None, IsNone, Contains, length, take, drop, min, nat_lt, if◌then◌else◌, get_or, set, replicate}
 use Rattle.std.specs.List.{position_or_len}
 use Rattle.ped_io.specs.Counts.{one_more}

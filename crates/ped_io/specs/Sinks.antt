@@ -1,4 +1,4 @@
--- Sinks in memory.
+-- Sinks in memory (this project).
 use Rattle.std.specs.Prelude.{ℕ, ◌++◌, List, [], Contains}
 use Rattle.ped_io.specs.Counts.{one_more}
 

@@ -1,4 +1,4 @@
--- Why a text has no statements.
+-- Why a text has no statements (this project).
 use Rattle.std.specs.Prelude.{◌≡◌, ℕ, List, Some}
 use Rattle.ped_grammar.specs.LineRefusals.{first_line_refusal}
 use Rattle.ped_grammar.specs.RefusalViews.{finding_of}

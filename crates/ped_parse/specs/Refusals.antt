@@ -1,4 +1,4 @@
--- What the refusals of the code stand for.
+-- What the refusals of the code stand for (this project).
 use Rattle.std.specs.Prelude.{ℕ, List}
 use Rattle.ped_grammar.specs.Refusal as plain
 use Rattle.ped_grammar.specs.Refusal.{Refusal, Finding}

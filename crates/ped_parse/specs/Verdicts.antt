@@ -1,4 +1,4 @@
--- That a text has one tree and no refusal, or one refusal and no tree.
+-- That a text has one tree and no refusal, or one refusal and no tree (this project).
 use Rattle.std.specs.Prelude.{◌≡◌, ℕ, List}
 use Rattle.ped_tree.specs.Tree.{ProgramTree}
 use Rattle.ped_grammar.specs.Refusal.{Finding}

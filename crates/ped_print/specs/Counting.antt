@@ -1,4 +1,4 @@
--- Numbers of statements and DO loops against the lines that are printed.
+-- Numbers of statements and DO loops against the lines that are printed. Contracts of private functions alone speak of it.
 use Rattle.std.specs.Prelude.{ℕ, ◌≤◌}
 use Rattle.ped_print.specs.declared.nesting.Numbers.{Numbers}
 

@@ -1,4 +1,4 @@
--- Lengths as far as 64 bits hold them.
+-- Lengths as far as 64 bits hold them (this project).
 use Rattle.std.specs.Prelude.{ℕ, min, ◌-◌, ◌^◌}
 
 -- the length, or the greatest number of 64 bits where it is greater

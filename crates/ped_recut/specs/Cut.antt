@@ -1,4 +1,4 @@
--- The statements that are read back from the lines of printed ones.
+-- The statements that are read back from the lines of printed ones (ANSI X3.9-1978, section 3.2).
 use Rattle.std.specs.Prelude.{ℕ, ◌+◌, List, [], ◌∷◌, ◌++◌, length, codes}
 use Rattle.ped_grammar.specs.Characters.{text_of}
 use Rattle.ped_grammar.specs.Statement.{Note, Statement, Statements}

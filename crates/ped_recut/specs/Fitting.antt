@@ -1,4 +1,4 @@
--- Which statements are printed so that their lines can be read back.
+-- Which statements are printed so that their lines can be read back (ANSI X3.9-1978, section 3.2; this project).
 use Rattle.std.specs.Prelude.{◌≡◌, ℕ, ◌≤◌, List, [], ◌∷◌, length, Option, Some, None, Bool, true, false, not, ◌==◌}
 use Rattle.std.specs.List.{AllByRecursion, list_all, list_any}
 use Rattle.ped_base.specs.Letters.{is_alphanumeric}

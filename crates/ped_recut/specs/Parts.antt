@@ -1,4 +1,4 @@
--- A program as the statements that are printed, each with the comments and directives before it.
+-- A program as the statements that are printed, each with the comments and directives before it (this project).
 use Rattle.std.specs.Prelude.{ℕ, suc, ◌+◌, ◌*◌, List, [], ◌∷◌, ◌++◌, map, codes, Option, Some, None}
 use Rattle.ped_tree.specs.Tree.{StmtTree, StmtTrees, Assign, If, Do, Print, Read, Stop, Comment, no_stmts, more_stmts, DeclTree, Program, Implicit, Integer, Dimension, Parameter, Save, Remark, ProgramTree}
 use Rattle.ped_tree.specs.Numbering.{loop_count, loops_count}

@@ -1,4 +1,4 @@
--- Printed statements and their lines.
+-- Printed statements and their lines (ANSI X3.9-1978, section 3.2; this project).
 use Rattle.std.specs.Prelude.{ℕ, ◌-◌, List, [], ◌∷◌, ◌++◌, map, codes, length, Option, Some, None}
 use Rattle.std.specs.List.{flat_map, range_with_len}
 use Rattle.std.specs.Fmt.{decimal}

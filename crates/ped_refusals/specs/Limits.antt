@@ -1,4 +1,4 @@
--- When a statement passes a limit of the profile, by what the code keeps of the statements before it.
+-- When a statement passes a limit of the profile, by what the code keeps of the statements before it (this project).
 use Rattle.std.specs.Prelude.{◌≡◌, ℕ, List, Bool, ◌&&◌, ◌||◌, nat_le}
 use Rattle.ped_grammar.specs.Items.{Item}
 use Rattle.ped_grammar.specs.Contexts.{is_do}

@@ -1,4 +1,4 @@
--- What refusals of the code stand for.
+-- What refusals of the code stand for (this project).
 use Rattle.std.specs.Prelude.{Option, Some, None}
 use Rattle.ped_grammar.specs.Refusal as plain
 use Rattle.ped_grammar.specs.Refusal.{Refusal, Finding}

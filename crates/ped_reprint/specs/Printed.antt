@@ -1,4 +1,4 @@
--- What the printed text of a single statement or declaration reads as.
+-- What the printed text of a single statement or declaration reads as (this project).
 use Rattle.std.specs.Prelude.{◌≡◌, ◌↔◌, ℕ, ◌+◌, ◌*◌, ◌<◌, List, [], ◌++◌, codes, IsTrue, IsFalse}
 use Rattle.ped_tree.specs.Tree.{CondTree, Head, StmtTree, StmtTrees, Assign, If, Do, Print, Read, Stop, Comment, no_stmts, more_stmts, DeclTree, Save}
 use Rattle.ped_grammar.specs.Characters.{text_of}
@@ -9,12 +9,12 @@ use Rattle.ped_grammar.specs.BlockForms.{whole_head}
 use Rattle.ped_grammar.specs.ProgramRefusals.{is_too_large}
 use Rattle.ped_tree.specs.Printing.{blanks, own_text, private_text, decl_text}
 
--- the characters of a statement read as this item alone, and blanks before and behind them change nothing
+-- the characters of a statement read as this item alone, and blanks before and behind them change nothing (ANSI X3.9-1978, section 3.1.6)
 pub record ReadsOnly (characters : List ℕ) (i : Item) : Type 0 where
   pub only : (j : Item) → ReadsItem (text_of characters) j ↔ (j ≡ i)
   pub among_blanks : (before behind : ℕ) → text_of (blanks before ++ characters ++ blanks behind) ≡ text_of characters
 
--- an item says the statement, or its first line where it has parts: the IF of a block IF, of an ELSE IF or of a logical IF, the statement behind a logical IF, a DO with whatever private and rejected names
+-- an item says the statement, or its first line where it has parts: the IF of a block IF, of an ELSE IF or of a logical IF, the statement behind a logical IF, a DO with whatever private and rejected names (ANSI X3.9-1978, section 3.4; this project)
 pub data SaysFirstLine (i : Item) (s : StmtTree) : Type 0 where
   itself : i ≡ does s → SaysFirstLine i s
   of_block_if : (c : CondTree) (then_part else_part : StmtTrees) → i ≡ block_if c → s ≡ If c then_part else_part → SaysFirstLine i s
@@ -23,7 +23,7 @@ pub data SaysFirstLine (i : Item) (s : StmtTree) : Type 0 where
   behind_logical_if : (c : CondTree) → i ≡ logical_if c (more_stmts s no_stmts) → SaysFirstLine i s
   of_do : (label : ℕ) (h : Head) (private rejected : List (List ℕ)) (body : StmtTrees) → i ≡ begins_do label h → s ≡ Do (whole_head h private rejected) body → SaysFirstLine i s
 
--- what the first printed line of a statement says, by how many DO loops begin before it: each IF is printed as a block IF, and each DO with a label of its own
+-- what the first printed line of a statement says, by how many DO loops begin before it: each IF is printed as a block IF, and each DO with a label of its own (ANSI X3.9-1978, section 3.4; this project)
 abbrev pub first_line_item : ℕ → StmtTree → Item
 first_line_item before (Assign left right) = does (Assign left right)
 first_line_item before (If condition then_part else_part) = block_if condition
@@ -33,7 +33,7 @@ first_line_item before (Read items) = does (Read items)
 first_line_item before Stop = does Stop
 first_line_item before (Comment text) = does (Comment text)
 
--- the label that a DO is printed with has five digits at most
+-- the label that a DO is printed with has five digits at most (ANSI X3.9-1978, section 3.4; this project)
 abbrev pub HasShortLabel : ℕ → StmtTree → Type 0
 HasShortLabel before (Assign left right) = Unit {0}
 HasShortLabel before (If condition then_part else_part) = Unit {0}

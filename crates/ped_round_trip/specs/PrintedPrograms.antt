@@ -1,4 +1,4 @@
--- That a program is what its printed text says.
+-- That a program is what its printed text says (this project).
 use Rattle.std.specs.Prelude.{◌≡◌, ◌↔◌}
 use Rattle.ped_tree.specs.Tree.{ProgramTree}
 use Rattle.ped_tree.specs.Printing.{program_text}

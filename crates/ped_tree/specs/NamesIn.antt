@@ -1,4 +1,4 @@
--- The names that occur in a tree, in text order. An intrinsic function's name is none of them.
+-- The names that occur in a tree, in text order. An intrinsic function's name is none of them (this project).
 use Rattle.std.specs.Prelude.{ℕ, List, [], ◌∷◌, ◌++◌, if◌then◌else◌}
 use Rattle.std.specs.List.{flat_map}
 use Rattle.ped_base.specs.Lists.{is_among}
@@ -67,7 +67,7 @@ decl_names (Parameter values) = flat_map (λ v. v.0 ∷ expr_names v.1) values
 decl_names (Save names) = names
 decl_names (Remark text) = []
 
--- each name once, where it occurs first, without those seen before
+-- each name once, where it occurs first, without those seen before (ANSI X3.9-1978, section 8.9; this project)
 abbrev pub first_occurrences : List (List ℕ) → List (List ℕ) → List (List ℕ)
 first_occurrences seen [] = []
 first_occurrences seen (x ∷ xs) = if is_among x seen then first_occurrences seen xs else x ∷ first_occurrences (x ∷ seen) xs

@@ -1,4 +1,4 @@
--- Statement numbers: executable statements are numbered from 1 in text order, and so are the DO loops. A comment has no number.
+-- Statement numbers: executable statements are numbered from 1 in text order, and so are the DO loops. A comment has no number (this project).
 use Rattle.std.specs.Prelude.{ℕ, ◌+◌, ◌-◌, ◌==◌, List, [], ◌∷◌, ◌++◌, Option, Some, None, if◌then◌else◌}
 use Rattle.ped_tree.specs.Tree.{StmtTree, StmtTrees, Assign, If, Do, Print, Read, Stop, Comment, no_stmts, more_stmts, ProgramTree}
 

@@ -1,4 +1,4 @@
--- The plain tree that a tree of the code stands for.
+-- The plain tree that a tree of the code stands for (this project).
 use Rattle.std.specs.Prelude.{ℕ, List, [], ◌∷◌, Bool, map}
 use Rattle.ped_tree.specs.Tree as plain
 use Rattle.ped_tree.specs.Tree.{ExprTree, ExprTrees, no_exprs, more_exprs, CondTree, ItemTree, Head, StmtTree, StmtTrees, no_stmts, more_stmts, BoundTree, DeclaratorTree, DeclTree, ProgramTree}

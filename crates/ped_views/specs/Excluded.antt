@@ -6,77 +6,77 @@ use Rattle.ped_views.specs.Whole.{Divides, is_zero}
 use Rattle.ped_views.specs.Views.{Range, range, Row, SubscriptPair, View}
 use Rattle.ped_views.specs.Forms.{Form, ziv, strong_siv, weak_zero_siv, weak_crossing_siv, other_form, form_of}
 
--- the index i at the source and j at the sink stand so by their values: lesser first, equal, greater first
+-- the index i at the source and j at the sink stand so by their values: lesser first, equal, greater first (Allen and Kennedy, section 2.2.4)
 abbrev pub StandsByValue : Direction → ℤ → ℤ → Type 0
 StandsByValue Before i j = i <ℤ j
 StandsByValue Same i j = i ≡ j
 StandsByValue After i j = j <ℤ i
 
--- a direction of iterations as one of values: a negative step takes the greater value first
+-- a direction of iterations as one of values: a negative step takes the greater value first (Allen and Kennedy, section 2.2.2; ANSI X3.9-1978, section 11.10.7)
 abbrev pub by_value : ℤ → Direction → Direction
 by_value (pos n) d = d
 by_value (negsuc n) Before = After
 by_value (negsuc n) Same = Same
 by_value (negsuc n) After = Before
 
--- i at the source and j at the sink stand in this direction of the loop's iterations
+-- i at the source and j at the sink stand in this direction of the loop's iterations (Allen and Kennedy, section 2.2.4)
 abbrev pub Stands : Range → Direction → ℤ → ℤ → Type 0
 Stands r d i j = StandsByValue (by_value r.step d) i j
 
--- i lies in the range of the loop
+-- i lies in the range of the loop (ANSI X3.9-1978, section 11.10.3)
 pub record InRange (r : Range) (i : ℤ) : Type 0 where
   pub from : r.lo ≤ℤ i
   pub to : i ≤ℤ r.hi
 
--- i at the source and j at the sink lie in the range, stand in the direction, and make both subscripts equal
+-- i at the source and j at the sink lie in the range, stand in the direction, and make both subscripts equal (Allen and Kennedy, section 3.3.2)
 pub record Meets (a b c1 c2 : ℤ) (r : Range) (d : Direction) (i j : ℤ) : Type 0 where
   pub source : InRange r i
   pub sink : InRange r j
   pub stands : Stands r d i j
   pub equal : a *ℤ i +ℤ c1 ≡ b *ℤ j +ℤ c2
 
--- no index values of the loop meet in the direction
+-- no index values of the loop meet in the direction (Allen and Kennedy, section 3.3.2)
 abbrev pub NeverMeets : ℤ → ℤ → ℤ → ℤ → Range → Direction → Type 0
 NeverMeets a b c1 c2 r d = (i j : ℤ) → ¬ (Meets a b c1 c2 r d i j)
 
--- index values that meet, and in a steady loop stand a whole number of steps apart
+-- index values that meet, and in a steady loop stand a whole number of steps apart (Allen and Kennedy, section 3.3.2)
 pub record MeetsInStep (a b c1 c2 : ℤ) (r : Range) (d : Direction) (i j : ℤ) : Type 0 where
   pub meets : Meets a b c1 c2 r d i j
   pub in_step : IsTrue r.steady → Divides r.step (j -ℤ i)
 
--- no index values of the loop meet in the direction, in step where the loop is steady
+-- no index values of the loop meet in the direction, in step where the loop is steady (Allen and Kennedy, section 3.3.2)
 abbrev pub NeverMeetsInStep : ℤ → ℤ → ℤ → ℤ → Range → Direction → Type 0
 NeverMeetsInStep a b c1 c2 r d = (i j : ℤ) → ¬ (MeetsInStep a b c1 c2 r d i j)
 
--- the indices of both sides: of the common loops at the source and at the sink, and of the further loops of each side
+-- the indices of both sides: of the common loops at the source and at the sink, and of the further loops of each side (Allen and Kennedy, section 3.3.3)
 pub record Indices : Type 0 where
   pub source : List ℤ
   pub sink : List ℤ
   pub source_inner : List ℤ
   pub sink_inner : List ℤ
 
--- the sum of coefficients times indices
+-- the sum of coefficients times indices (Allen and Kennedy, section 3.1)
 abbrev pub dot : List ℤ → List ℤ → ℤ
 dot (a ∷ row) (i ∷ indices) = a *ℤ i +ℤ dot row indices
 dot [] indices = pos 0
 dot (a ∷ row) [] = pos 0
 
--- the value of a subscript at these indices of the common and the further loops
+-- the value of a subscript at these indices of the common and the further loops (Allen and Kennedy, section 3.1)
 abbrev pub subscript_value : Row → List ℤ → List ℤ → ℤ
 subscript_value row common inner = dot row.common common +ℤ dot row.inner inner +ℤ row.constant
 
--- the source's subscript less the sink's
+-- the source's subscript less the sink's (Allen and Kennedy, section 3.3.3)
 abbrev pub difference : SubscriptPair → Indices → ℤ
 difference p at = subscript_value p.source at.source at.source_inner -ℤ subscript_value p.sink at.sink at.sink_inner
 
--- one index for each loop
+-- one index for each loop (plain words)
 pub record HasIndices (v : View) (at : Indices) : Type 0 where
   pub source : length at.source ≡ length v.loops
   pub sink : length at.sink ≡ length v.loops
   pub source_inner : length at.source_inner ≡ length v.source_inner
   pub sink_inner : length at.sink_inner ≡ length v.sink_inner
 
--- both sides have one index in each loop with `=`
+-- both sides have one index in each loop with `=` (Allen and Kennedy, section 3.3.3)
 abbrev pub SharesIndices : List Direction → List ℤ → List ℤ → Type 0
 SharesIndices (Same ∷ ds) (i ∷ is) (j ∷ js) = (i ≡ j) × SharesIndices ds is js
 SharesIndices (Before ∷ ds) (i ∷ is) (j ∷ js) = SharesIndices ds is js
@@ -85,44 +85,45 @@ SharesIndices [] is js = Unit {0}
 SharesIndices (d ∷ ds) [] js = Unit {0}
 SharesIndices (d ∷ ds) (i ∷ is) [] = Unit {0}
 
--- no whole numbers whatever make the subscripts equal, where the two indices of a loop with `=` are one unknown
+-- no whole numbers whatever make the subscripts equal, where the two indices of a loop with `=` are one unknown (Allen and Kennedy, section 3.3.3: GCD test)
 abbrev pub HasNoSolution : View → SubscriptPair → List Direction → Type 0
 HasNoSolution v p vector = (at : Indices) → HasIndices v at → SharesIndices vector at.source at.sink → ¬ (difference p at ≡ pos 0)
 
--- the indices of the common loops that occur lie in their ranges and stand in their directions
+-- the indices of the common loops that occur lie in their ranges and stand in their directions (Allen and Kennedy, section 3.3.3)
 abbrev pub CommonInRange : List Range → List Direction → List ℤ → List ℤ → List ℤ → List ℤ → Type 0
 CommonInRange (r ∷ loops) (d ∷ vector) (a ∷ source) (b ∷ sink) (i ∷ is) (j ∷ js) =
     (IsTrue (is_zero a && is_zero b) ⊎ (InRange r i × InRange r j × Stands r d i j)) × CommonInRange loops vector source sink is js
 CommonInRange loops vector source sink is js = Unit {0}
 
--- the indices of the further loops that occur lie in their ranges
+-- the indices of the further loops that occur lie in their ranges (Allen and Kennedy, section 3.3.3)
 abbrev pub InnerInRange : List Range → List ℤ → List ℤ → Type 0
 InnerInRange (r ∷ loops) (a ∷ row) (i ∷ indices) = (IsTrue (is_zero a) ⊎ InRange r i) × InnerInRange loops row indices
 InnerInRange [] row indices = Unit {0}
 InnerInRange (r ∷ loops) [] indices = Unit {0}
 InnerInRange (r ∷ loops) (a ∷ row) [] = Unit {0}
 
--- a point of the ranges of the loops that occur, under the vector
+-- a point of the ranges of the loops that occur, under the vector (Allen and Kennedy, section 3.3.3)
 pub record IsPoint (v : View) (p : SubscriptPair) (vector : List Direction) (at : Indices) : Type 0 where
   pub indices : HasIndices v at
   pub common : CommonInRange v.loops vector p.source.common p.sink.common at.source at.sink
   pub source_inner : InnerInRange v.source_inner p.source.inner at.source_inner
   pub sink_inner : InnerInRange v.sink_inner p.sink.inner at.sink_inner
 
--- zero doesn't lie between the least and the greatest difference over the points, or there is no point
+-- zero doesn't lie between the least and the greatest difference over the points, or there is no point (Allen and Kennedy, section 3.3.3: Banerjee inequality)
 abbrev pub IsBeyondExtremes : View → SubscriptPair → List Direction → Type 0
 IsBeyondExtremes v p vector =
     (low high : Indices) → IsPoint v p vector low → IsPoint v p vector high
     → difference p low ≤ℤ pos 0 → pos 0 ≤ℤ difference p high → ⊥
 
--- the loop at a place, and the direction there
+-- the loop at a place (plain words)
 abbrev pub loop_at : View → ℕ → Range
 loop_at v k = slice_index_or v.loops k (range (pos 0) (pos 0) (pos 1) false)
 
+-- the direction at a place (plain words)
 abbrev pub direction_at : List Direction → ℕ → Direction
 direction_at vector k = slice_index_or vector k Same
 
--- by its form, a subscript pair excludes the vector
+-- by its form, a subscript pair excludes the vector (Allen and Kennedy, section 3.3)
 abbrev pub FormExcludes : Form → View → SubscriptPair → List Direction → Type 0
 FormExcludes ziv v p vector = ¬ (p.source.constant ≡ p.sink.constant)
 FormExcludes (strong_siv o) v p vector = NeverMeetsInStep o.at_source o.at_sink p.source.constant p.sink.constant (loop_at v o.place) (direction_at vector o.place)
@@ -130,6 +131,6 @@ FormExcludes (weak_zero_siv o) v p vector = NeverMeets o.at_source o.at_sink p.s
 FormExcludes (weak_crossing_siv o) v p vector = NeverMeets o.at_source o.at_sink p.source.constant p.sink.constant (loop_at v o.place) (direction_at vector o.place)
 FormExcludes other_form v p vector = HasNoSolution v p vector ⊎ IsBeyondExtremes v p vector
 
--- the subscript pair excludes the vector; one that isn't usable excludes nothing
+-- the subscript pair excludes the vector; one that isn't usable excludes nothing (Allen and Kennedy, section 3.1: conservative testing)
 abbrev pub Excludes : View → SubscriptPair → List Direction → Type 0
 Excludes v p vector = IsTrue p.usable × FormExcludes (form_of p) v p vector

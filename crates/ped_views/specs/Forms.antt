@@ -1,4 +1,4 @@
--- The form of a subscript pair, by the loops whose index occurs in it (Allen and Kennedy, chapter 3: ZIV, SIV and MIV subscripts).
+-- The form of a subscript pair, by the loops whose index occurs in it (Allen and Kennedy, section 3.1: ZIV, SIV and MIV subscripts).
 use Rattle.std.specs.Prelude.{ℕ, suc, ℤ, neg_ℤ, List, [], ◌∷◌, Bool, ◌&&◌, ◌||◌, not, if◌then◌else◌}
 use Rattle.std.specs.List.{list_any}
 use Rattle.std.specs.Ordering.{int_eq}
@@ -27,7 +27,7 @@ occurrences p = occurring 0 p.source.common p.sink.common
 abbrev pub has_inner : SubscriptPair → Bool
 has_inner p = list_any (λ a. not (is_zero a)) p.source.inner || list_any (λ a. not (is_zero a)) p.sink.inner
 
--- no index; one common index with equal coefficients, with one coefficient 0, with opposite coefficients; anything else
+-- no index; one common index with equal coefficients, with one coefficient 0, with opposite coefficients; anything else (Allen and Kennedy, sections 3.1, 3.3)
 pub data Form : Type 0 where
   ziv : Form
   strong_siv : Occurrence → Form
@@ -35,7 +35,7 @@ pub data Form : Type 0 where
   weak_crossing_siv : Occurrence → Form
   other_form : Form
 
--- the form by the one common index that occurs
+-- the form by the one common index that occurs (Allen and Kennedy, section 3.3.2)
 abbrev pub single_form : Occurrence → Form
 single_form o =
     if int_eq o.at_source o.at_sink then strong_siv o

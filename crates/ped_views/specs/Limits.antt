@@ -1,4 +1,4 @@
--- How large the numbers of a view may be, and that its parts fit together.
+-- How large the numbers of a view may be, and that its parts fit together (this project).
 use Rattle.std.specs.Prelude.{◌≡◌, ℕ, ◌+◌, ◌≤◌, ◌^◌, ℤ, pos, length, All, unsigned_abs}
 use Rattle.ped_views.specs.Views.{Row, SubscriptPair, View}
 
@@ -10,7 +10,7 @@ IsSmallConstant x = unsigned_abs x ≤ 2 ^ 62
 abbrev pub IsSmallCoefficient : ℤ → Type 0
 IsSmallCoefficient x = unsigned_abs x ≤ 2 ^ 31
 
--- the ends of a range and its step, which isn't 0
+-- the ends of a range and its step, which isn't 0 (ANSI X3.9-1978, section 11.10.3; this project)
 pub record IsRange (lo hi step : ℤ) : Type 0 where
   pub lo_small : IsSmallConstant lo
   pub hi_small : IsSmallConstant hi
@@ -23,11 +23,11 @@ pub record IsRow (row : Row) : Type 0 where
   pub inner : All IsSmallCoefficient row.inner
   pub constant : IsSmallConstant row.constant
 
--- both sides speak of the same common loops
+-- both sides speak of the same common loops (Allen and Kennedy, section 3.1)
 abbrev pub IsPosition : SubscriptPair → Type 0
 IsPosition p = length p.source.common ≡ length p.sink.common
 
--- each subscript has one coefficient for each loop round its side
+-- each subscript has one coefficient for each loop round its side (Allen and Kennedy, section 3.1)
 pub record FitsLoops (common at_source at_sink : ℕ) (p : SubscriptPair) : Type 0 where
   pub source_common : length p.source.common ≡ common
   pub sink_common : length p.sink.common ≡ common

@@ -1,4 +1,4 @@
--- The direction vectors of a view, and the distances of its loops.
+-- The direction vectors of a view, and the distances of its loops (Allen and Kennedy, section 3.2).
 use Rattle.std.specs.Prelude.{◌≡◌, ◌⊎◌, ℕ, zero, suc, ℤ, ◌-ℤ◌, ◌*ℤ◌, List, [], ◌∷◌, ◌++◌, map, length, Bool, false, ◌&&◌, ◌==◌, Option, None, if◌then◌else◌}
 use Rattle.std.specs.List.{AllByRecursion}
 use Rattle.ped_views.specs.declared.directions.Direction.{Direction}
@@ -8,12 +8,12 @@ use Rattle.ped_views.specs.Views.{SubscriptPair, View}
 use Rattle.ped_views.specs.Forms.{Form, ziv, strong_siv, weak_zero_siv, weak_crossing_siv, other_form, form_of}
 use Rattle.ped_views.specs.Excluded.{Excludes, loop_at}
 
--- all vectors over n loops, in the order `<`, `=`, `>`, the outermost loop first
+-- all vectors over n loops, in the order `<`, `=`, `>`, the outermost loop first (Allen and Kennedy, section 2.2.4)
 abbrev pub all_vectors : ℕ → List (List Direction)
 all_vectors zero = [] ∷ []
 all_vectors (suc n) = map (λ v. Before ∷ v) (all_vectors n) ++ map (λ v. Same ∷ v) (all_vectors n) ++ map (λ v. After ∷ v) (all_vectors n)
 
--- the second list has the items of the first that have P, in their order, and no others
+-- the second list has the items of the first that have P, in their order, and no others (plain words)
 abbrev pub AreThose : {X : Type 0} → (X → Type 0) → List X → List X → Type 0
 AreThose P [] chosen = chosen ≡ []
 AreThose P (x ∷ xs) chosen = (P x × ((rest : List _) × (chosen ≡ x ∷ rest) × AreThose P xs rest)) ⊎ (¬ (P x) × AreThose P xs chosen)
@@ -26,7 +26,7 @@ IsPossible v vector = AllByRecursion (λ p. ¬ (Excludes v p vector)) v.position
 abbrev pub AreVectors : View → List (List Direction) → Type 0
 AreVectors v vectors = AreThose (IsPossible v) (all_vectors (length v.loops)) vectors
 
--- strong SIV in the loop at place k
+-- strong SIV in the loop at place k (Allen and Kennedy, section 3.3.2)
 abbrev pub is_strong_in : ℕ → Form → Bool
 is_strong_in k (strong_siv o) = o.place == k
 is_strong_in k ziv = false
@@ -34,7 +34,7 @@ is_strong_in k (weak_zero_siv o) = false
 is_strong_in k (weak_crossing_siv o) = false
 is_strong_in k other_form = false
 
--- (c1 - c2) / (a * step) of a strong SIV pair in a loop of that step, where it is whole
+-- (c1 - c2) / (a * step) of a strong SIV pair in a loop of that step, where it is whole (Allen and Kennedy, section 3.3.2)
 abbrev pub strong_distance : Form → ℤ → SubscriptPair → Option ℤ
 strong_distance (strong_siv o) step p = whole_quotient (p.source.constant -ℤ p.sink.constant) (o.at_source *ℤ step)
 strong_distance ziv step p = None
@@ -42,11 +42,11 @@ strong_distance (weak_zero_siv o) step p = None
 strong_distance (weak_crossing_siv o) step p = None
 strong_distance other_form step p = None
 
--- the distance by the first of these positions that is strong SIV in the loop
+-- the distance by the first of these positions that is strong SIV in the loop (Allen and Kennedy, section 3.3.2; this project)
 abbrev pub first_distance : ℕ → ℤ → List SubscriptPair → Option ℤ
 first_distance k step [] = None
 first_distance k step (p ∷ ps) = if p.usable && is_strong_in k (form_of p) then strong_distance (form_of p) step p else first_distance k step ps
 
--- the distance of the common loop at place k, in iterations; None where it is unknown
+-- the distance of the common loop at place k, in iterations; None where it is unknown (Allen and Kennedy, section 2.2.4)
 abbrev pub distance : View → ℕ → Option ℤ
 distance v k = first_distance k (loop_at v k).step v.positions

@@ -1,4 +1,4 @@
--- Whole numbers: divisibility and the quotient where it is whole.
+-- Whole numbers: divisibility and the quotient where it is whole (plain words).
 use Rattle.std.specs.Prelude.{◌≡◌, ℤ, pos, ◌*ℤ◌, Bool, Option, Some, None, int_div, int_rem, if◌then◌else◌}
 use Rattle.std.specs.Ordering.{int_eq}
 

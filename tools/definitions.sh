@@ -6,14 +6,15 @@
 #
 # Each file of definitions begins with a comment line that says what it defines, and each public definition
 # has a comment before it. The comment before a `mutual` is that of the first definition in it. Both kinds of
-# comment may end with a public source in parentheses; a definition without one has that of its file. A source
+# comment may have a public source in parentheses; a definition without one has that of its file. A source
 # is one of these, or several with `; ` between:
 #
-#     (ANSI X3.9-1978, 3.2.1, 3.3)   sections of the standard
-#     (Allen and Kennedy, 3.3.2)     sections of the book; a colon and what is meant there may follow
-#     (ParaScope)                    the papers on the ParaScope Editor
-#     (this project)                 this project's own
-#     (plain words)                  plain words about lists and numbers
+#     (ANSI X3.9-1978, sections 3.2.1, 8 to 12)   the standard, by `section`, `sections` or `table`
+#     (Allen and Kennedy, section 3.3.2)          the book, by `chapter`, `section` or `sections`; behind that may
+#                                                 stand a colon and what is meant there
+#     (ParaScope)                                 the papers on the ParaScope Editor
+#     (this project)                              this project's own
+#     (plain words)                               plain words about lists and numbers
 #
 # A file whose first line says `Contracts of private functions alone speak of ..` stands at the page's end by
 # that line alone, and needs no sources. No other crate names it, and no definition outside such files.
@@ -46,15 +47,13 @@ complain() {
 
 # Sets `said` to a comment without its source, and `source` to that, empty where it has none.
 split_comment() {
-    local key='(ANSI X3\.9-1978|Allen and Kennedy|ParaScope|this project|plain words)'
-    local pattern="^(.*) [(](${key}[^()]*)[)][.]?\$"
+    local key='(ANSI X3\.9-1978|Allen and Kennedy|ParaScope|this project|plain words|sections? [0-9])'
+    local pattern="^(.*) [(](${key}[^()]*)[)](.*)\$"
     said=$1
     source=
     if [[ $1 =~ $pattern ]]; then
-        said=${BASH_REMATCH[1]}
+        said=${BASH_REMATCH[1]}${BASH_REMATCH[4]}
         source=${BASH_REMATCH[2]}
-    elif [[ $1 =~ "("$key ]]; then
-        complain "$file: a source stands at the end of a comment, in one pair of parentheses: $1"
     fi
 }
 
@@ -68,10 +67,10 @@ shorten() {
         part=${rest%%; *}
         rest=${rest#"$part"}
         rest=${rest#; }
-        if [[ $part =~ ^ANSI\ X3\.9-1978,\ ($sections)$ ]]; then
-            part="ANSI ${BASH_REMATCH[1]}"
-        elif [[ $part =~ ^Allen\ and\ Kennedy,\ ($sections(: .+)?)$ ]]; then
-            part="AK ${BASH_REMATCH[1]}"
+        if [[ $part =~ ^ANSI\ X3\.9-1978,\ (sections?\ ($sections)|table\ [0-9]+)$ ]]; then
+            part="ANSI ${BASH_REMATCH[2]:-${BASH_REMATCH[1]}}"
+        elif [[ $part =~ ^Allen\ and\ Kennedy,\ (chapter|sections?)\ ($sections(: .+)?)$ ]]; then
+            part="AK ${BASH_REMATCH[2]}"
         elif [ "$part" = ParaScope ]; then
             part=PED
         elif [ "$part" = "this project" ]; then

@@ -1,16 +1,14 @@
 -- The characters of a statement: columns 7 to 72 of its lines, joined. What stands between apostrophes is a character constant, and an apostrophe in a constant is written as two (ANSI X3.9-1978, section 3.1).
 use Rattle.std.specs.Prelude.{ℕ, ◌%◌, List, [], ◌∷◌, ◌++◌, Bool, false, not, ◌&&◌, ◌||◌, ◌==◌, nat_le, codes, count_by, if◌then◌else◌}
 use Rattle.std.specs.List.{list_any, list_all}
+use Rattle.std.specs.Char.{is_ascii_alphabetic, to_ascii_uppercase}
+use Rattle.ped_base.specs.Letters.{is_digit}
 use Rattle.ped_base.specs.Lists.{has_some}
-use Rattle.ped_grammar.specs.Columns.{is_blank, is_digit, folded}
-
--- A to Z and a to z (ANSI X3.9-1978, section 3.1.1; this project)
-abbrev pub is_letter : ℕ → Bool
-is_letter c = (nat_le 65 c && nat_le c 90) || (nat_le 97 c && nat_le c 122)
+use Rattle.ped_grammar.specs.Columns.{is_blank}
 
 -- what may stand outside constants: letters, digits, blanks, and the special characters of FORTRAN 77 (ANSI X3.9-1978, section 3.1; this project)
 abbrev pub is_character : ℕ → Bool
-is_character c = is_letter c || is_digit c || list_any (λ x. x == c) (codes " =+-*/(),.'$:")
+is_character c = is_ascii_alphabetic c || is_digit c || list_any (λ x. x == c) (codes " =+-*/(),.'$:")
 
 -- what may stand in a constant (this project)
 abbrev pub is_printable : ℕ → Bool
@@ -29,7 +27,7 @@ abbrev pub has_bad : List ℕ → List ℕ → Bool
 has_bad before [] = false
 has_bad before (c ∷ cs) = is_bad before c || has_bad (before ++ c ∷ []) cs
 
--- an apostrophe and blanks alone behind it, one or more, end these characters
+-- these characters end with an apostrophe and one blank or more
 abbrev pub ends_apart : List ℕ → Bool
 ends_apart [] = false
 ends_apart (c ∷ cs) = (c == 39 && has_some cs && list_all is_blank cs) || ends_apart cs
@@ -40,7 +38,7 @@ kept before c =
     if is_quoted before then c ∷ []
     else if is_blank c then []
     else if c == 39 && ends_apart before then 32 ∷ 39 ∷ []
-    else folded c ∷ []
+    else to_ascii_uppercase c ∷ []
 
 -- what is kept of characters that stand behind these (ANSI X3.9-1978, sections 3.1.6, 4.8.1; this project)
 abbrev pub text_behind : List ℕ → List ℕ → List ℕ

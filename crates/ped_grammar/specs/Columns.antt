@@ -1,6 +1,8 @@
 -- Lines of fixed form by their columns: column n of a line is its n-th byte, and a short line counts as filled with blanks (ANSI X3.9-1978, section 3.2).
-use Rattle.std.specs.Prelude.{ℕ, ◌+◌, ◌-◌, ◌*◌, List, ◌++◌, Bool, not, ◌&&◌, ◌||◌, ◌==◌, nat_le, Option, Some, None, length, take, drop, replicate, slice_index_or, if◌then◌else◌}
+use Rattle.std.specs.Prelude.{ℕ, ◌+◌, ◌-◌, ◌*◌, List, ◌++◌, Bool, not, ◌&&◌, ◌||◌, ◌==◌, Option, Some, None, length, take, drop, replicate, slice_index_or, if◌then◌else◌}
 use Rattle.std.specs.List.{list_all, list_any}
+use Rattle.std.specs.Char.{to_ascii_uppercase}
+use Rattle.ped_base.specs.Letters.{is_digit}
 
 -- the byte in column n, where column 1 comes first
 abbrev pub column : ℕ → List ℕ → ℕ
@@ -9,14 +11,6 @@ column n line = slice_index_or line (n - 1) 32
 -- a blank is the space alone (ANSI X3.9-1978, section 3.1.6)
 abbrev pub is_blank : ℕ → Bool
 is_blank c = c == 32
-
--- 0 to 9 (ANSI X3.9-1978, section 3.1.2)
-abbrev pub is_digit : ℕ → Bool
-is_digit c = nat_le 48 c && nat_le c 57
-
--- a letter as a capital, any other byte as it is (this project)
-abbrev pub folded : ℕ → ℕ
-folded c = if nat_le 97 c && nat_le c 122 then c - 32 else c
 
 -- C, c or * in column 1 (ANSI X3.9-1978, section 3.2.1; this project)
 abbrev pub has_comment_mark : List ℕ → Bool
@@ -28,7 +22,7 @@ is_comment line = has_comment_mark line || list_all is_blank (take 72 line)
 
 -- a comment with $PED in columns 2 to 5, in any case, is a directive (this project)
 unfoldable pub is_directive : List ℕ → Bool
-is_directive line = column 2 line == 36 && folded (column 3 line) == 80 && folded (column 4 line) == 69 && folded (column 5 line) == 68
+is_directive line = column 2 line == 36 && to_ascii_uppercase (column 3 line) == 80 && to_ascii_uppercase (column 4 line) == 69 && to_ascii_uppercase (column 5 line) == 68
 
 -- another line continues a statement where column 6 is neither blank nor 0 nor a tab; else it begins one (ANSI X3.9-1978, sections 3.2.2, 3.2.3; this project)
 unfoldable pub is_continuation : List ℕ → Bool

@@ -50,7 +50,7 @@ decl_rank (Program x) = 1
 decl_rank Implicit = 2
 decl_rank d = 3
 
--- the order of statements: declarations, executable statements, END (ANSI X3.9-1978, section 3.5)
+-- the order of statements: declarations up to 3, executable statements 4, END 5 (ANSI X3.9-1978, section 3.5)
 abbrev pub rank : Item → ℕ
 rank (declares d) = decl_rank d
 rank saves_all = 3
@@ -170,9 +170,9 @@ with_private line names c = c
 -- the blocks that are open behind a statement, by whether the one before it is a DO; END ends them all
 abbrev pub blocks_behind : Bool → Statement → Item → List Block → List Block
 blocks_behind behind_do s (block_if e) c = in_then 1 ∷ left_by s.label c
-blocks_behind behind_do s (else_if e) c = with_else_if (left_in_if (left_by s.label c))
-blocks_behind behind_do s else_line c = with_else (left_in_if (left_by s.label c))
-blocks_behind behind_do s end_if c = without_if (left_in_if (left_by s.label c))
+blocks_behind behind_do s (else_if e) c = left_by s.label (with_else_if (left_in_if c))
+blocks_behind behind_do s else_line c = left_by s.label (with_else (left_in_if c))
+blocks_behind behind_do s end_if c = left_by s.label (without_if (left_in_if c))
 blocks_behind behind_do s (begins_do l h) c = in_do (begun l h) ∷ left_by s.label c
 blocks_behind behind_do s (keeps_private names) c = left_by s.label (if behind_do then with_private s.line names c else c)
 blocks_behind behind_do s ends_program c = []

@@ -1,4 +1,4 @@
--- Which trees are programs of the profile: those whose names, literals, comments and order can be written, and that pass no limit at any place. A tree fits exactly where some text reads as it (this project).
+-- Which trees are programs of the profile: those whose names, literals, comments and order can be written, in which no loop changes its variable and no STOP stands in a loop, and that pass no limit at any place. A tree fits exactly where some text reads as it (this project).
 use Rattle.std.specs.Prelude.{ℕ, ◌+◌, List, [], ◌∷◌, ◌++◌, length, Bool, true, false, not, ◌&&◌, ◌||◌, ◌==◌, nat_lt, nat_le, Option, Some, None}
 use Rattle.std.specs.List.{list_all, list_any}
 use Rattle.ped_base.specs.Lists.{has_some, is_same_text, is_among}
@@ -163,22 +163,21 @@ array_fits d = declarator_fits d && has_some d.bounds
 abbrev pub constant_fits : List ℕ × ExprTree → Bool
 constant_fits v = is_name v.0 && expr_fits v.1
 
--- what a declaration says
-abbrev pub declares_names : DeclTree → Bool
-declares_names (Program x) = is_name x
-declares_names Implicit = true
-declares_names (Integer ds) = has_some ds && list_all declarator_fits ds
-declares_names (Dimension ds) = has_some ds && list_all array_fits ds
-declares_names (Parameter values) = has_some values && list_all constant_fits values
-declares_names (Save names) = are_names names
-declares_names (Remark text) = comment_fits text
-
+-- a declaration by itself: its names are names, and its bounds and values fit
+abbrev pub decl_fits : DeclTree → Bool
+decl_fits (Program x) = is_name x
+decl_fits Implicit = true
+decl_fits (Integer ds) = has_some ds && list_all declarator_fits ds
+decl_fits (Dimension ds) = has_some ds && list_all array_fits ds
+decl_fits (Parameter values) = has_some values && list_all constant_fits values
+decl_fits (Save names) = are_names names
+decl_fits (Remark text) = comment_fits text
 
 -- declarations one behind the other, where the order of statements has come so far (ANSI X3.9-1978, section 3.5)
 abbrev pub decls_fit : ℕ → List DeclTree → Bool
 decls_fit phase [] = true
 decls_fit phase (Remark text ∷ ds) = comment_fits text && decls_fit phase ds
-decls_fit phase (d ∷ ds) = declares_names d && nat_le (length (decl_text d)) most_characters && not (is_out_of_order phase (decl_rank d)) && decls_fit (decl_rank d) ds
+decls_fit phase (d ∷ ds) = decl_fits d && nat_le (length (decl_text d)) most_characters && not (is_out_of_order phase (decl_rank d)) && decls_fit (decl_rank d) ds
 
 -- no comment stands before the first executable statement: it would belong to the declarations
 abbrev pub begins_with_statement : StmtTrees → Bool

@@ -1,8 +1,9 @@
 -- How lines are grouped into statements, with the comments and directives that go with each. Lines count from 1 (ANSI X3.9-1978, section 3.3).
 use Rattle.std.specs.Prelude.{ℕ, ◌+◌, List, [], ◌∷◌, ◌++◌, ◌||◌, ◌==◌, not, map, filter, take, drop, length, if◌then◌else◌}
 use Rattle.std.specs.List.{flat_map}
+use Rattle.std.specs.Char.{to_ascii_uppercase}
 use Rattle.std.specs.Str.Lines.{lines}
-use Rattle.ped_grammar.specs.Columns.{is_blank, folded, is_comment, is_directive, is_continuation, label_of, statement_columns}
+use Rattle.ped_grammar.specs.Columns.{is_blank, is_comment, is_directive, is_continuation, label_of, statement_columns}
 use Rattle.ped_grammar.specs.Characters.{text_of}
 use Rattle.ped_grammar.specs.Statement.{Note, Statement, Statements}
 
@@ -39,7 +40,7 @@ comment_text line = trimmed (take 71 (drop 1 line))
 
 -- a directive's text is what follows $PED, without blanks and in capitals (this project)
 unfoldable pub directive_text : List ℕ → List ℕ
-directive_text line = map folded (filter (λ c. not (is_blank c)) (drop 4 (comment_text line)))
+directive_text line = map to_ascii_uppercase (filter (λ c. not (is_blank c)) (drop 4 (comment_text line)))
 
 -- the comment on line n, where that is no directive (this project)
 unfoldable pub comment_at : ℕ → List ℕ → List Note

@@ -6,7 +6,7 @@ pub record Note : Type 0 where
   pub line : ℕ
   pub text : List ℕ
 
--- a statement: its first line, its label, its text without blanks outside constants, and the comments and directives before and within it
+-- a statement: its first line, its label, its text without blanks outside constants but for one between two constants that blanks alone part, and the comments and directives before and within it
 pub record Statement : Type 0 where
   pub line : ℕ
   pub label : Option ℕ

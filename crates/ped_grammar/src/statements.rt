@@ -20,7 +20,8 @@ pub struct Statement {
     /// Its label, 1 to 99999, where it has one.
     pub label: Option<u32>,
     /// Its columns 7 to 72, joined over its lines: outside constants without blanks and in capitals, and
-    /// constants as they are written, with their apostrophes.
+    /// constants as they are written, with their apostrophes; one blank stands between two constants that
+    /// blanks alone part.
     pub text: Bytes,
     /// The comments before it and between its lines.
     pub comments: Listed<NoteLine>,

@@ -60,12 +60,12 @@ module _ (constants : List (List ℕ)) where
     reference_alone : (nest : List Loop) (n : ℕ) (s : StmtTree) → statement_references constants nest n (uncommented s) ≡ statement_references constants nest n s
     reference_alone nest n (Assign left right) = refl
     reference_alone nest n (If c a b) =
-        ap₂ (λ (x : List Reference) (m : ℕ). numbered_accesses n 1 nest (own_accesses (constants ++ indices_of nest) (If c a b)) ++ x ++ statements_references constants nest (n + 1 + m) (all_uncommented b))
+        ap₂ (λ (x : List Reference) (m : ℕ). numbered_accesses n 1 nest (own_accesses constants (indices_of nest) (If c a b)) ++ x ++ statements_references constants nest (n + 1 + m) (all_uncommented b))
         (references_alone nest (n + 1) a) (counts_alone a)
-        ∙ ap (λ (y : List Reference). numbered_accesses n 1 nest (own_accesses (constants ++ indices_of nest) (If c a b)) ++ statements_references constants nest (n + 1) a ++ y)
+        ∙ ap (λ (y : List Reference). numbered_accesses n 1 nest (own_accesses constants (indices_of nest) (If c a b)) ++ statements_references constants nest (n + 1) a ++ y)
         (references_alone nest (n + 1 + statements_count a) b)
     reference_alone nest n (Do h body) =
-        ap (λ (x : List Reference). numbered_accesses n 1 nest (own_accesses (constants ++ indices_of nest) (Do h body)) ++ x)
+        ap (λ (x : List Reference). numbered_accesses n 1 nest (own_accesses constants (indices_of nest) (Do h body)) ++ x)
         (references_alone (nest ++ (record { number = n; head = h }) ∷ []) (n + 1) body)
     reference_alone nest n (Print items) = refl
     reference_alone nest n (Read items) = refl

@@ -16,7 +16,7 @@ use Rattle.ped_refs.specs.References.{Reference, numbered_accesses, references}
 use Rattle.ped_base.specs.Lists.{is_same_text}
 use Rattle.ped_graph.specs.Edges as plain
 use Rattle.ped_graph.specs.Edges.{pairs, proven, pending, runs_twice, PairEdges, EdgesOfPairs, AreEdges}
-use Rattle.ped_affine.specs.Affine.{Affine, affine, affine_of, combination, limited, subscript_pair, view_by as view_options, view_of}
+use Rattle.ped_affine.specs.Affine.{Affine, affine, affine_of, combination, within_limits, subscript_pair, view_by as view_options, view_of}
 use Rattle.ped.specs.declared.small_form.Subscript.{Subscript}
 use Rattle.ped.specs.declared.small_form.Subscript.TheVariants.{Plain, Plus, Minus}
 use Rattle.ped.specs.declared.small_form.Small.{Small}
@@ -64,11 +64,11 @@ pub pairs_are : (small : Small) (s t : Subscript) → pairs (reference_of small 
 pairs_are small s t = rw (same_refl small.array) refl
 
 -- a small number is limited
-limited_number : (n : ℕ) → n ≤ 2 ^ 62 → limited (affine (pos 0 ∷ []) (pos n)) ≡ Some (affine (pos 0 ∷ []) (pos n))
+limited_number : (n : ℕ) → n ≤ 2 ^ 62 → within_limits (affine (pos 0 ∷ []) (pos n)) ≡ Some (affine (pos 0 ∷ []) (pos n))
 limited_number n h = rw (le-leb n (2 ^ 62) h) refl
 
 -- the form of the DO variable with a constant
-limited_index : (x : ℤ) → unsigned_abs x ≤ 2 ^ 62 → limited (affine (pos 1 ∷ []) x) ≡ Some (affine (pos 1 ∷ []) x)
+limited_index : (x : ℤ) → unsigned_abs x ≤ 2 ^ 62 → within_limits (affine (pos 1 ∷ []) x) ≡ Some (affine (pos 1 ∷ []) x)
 limited_index x h = rw (le-leb (unsigned_abs x) (2 ^ 62) h) refl
 
 index_form : (v : List ℕ) → affine_of (v ∷ []) (subscript_tree v Plain) ≡ Some (affine (pos 1 ∷ []) (pos 0))
@@ -85,12 +85,12 @@ size_is n = omega (arith, ints)
 
 -- the DO variable combined with a literal
 combined_form : (f : ℤ → ℤ → ℤ) (v : List ℕ) (n : ℕ) (x : ℤ) → n ≤ 2 ^ 62 → f (pos 0) (pos n) ≡ x → f (pos 1) (pos 0) ≡ pos 1
-    → combination f (affine_of (v ∷ []) (Var v)) (affine_of (v ∷ []) (Int n)) ≡ limited (affine (pos 1 ∷ []) x)
+    → combination f (affine_of (v ∷ []) (Var v)) (affine_of (v ∷ []) (Int n)) ≡ within_limits (affine (pos 1 ∷ []) x)
 combined_form f v n x h e one =
     ap (λ (a : Option Affine). combination f a (affine_of (v ∷ []) (Int n))) (index_form v)
     ∙ ap (λ (a : Option Affine). combination f (Some (affine (pos 1 ∷ []) (pos 0))) a) (limited_number n h)
-    ∙ ap (λ (y : ℤ). limited (affine (f (pos 1) (pos 0) ∷ []) y)) e
-    ∙ ap (λ (y : ℤ). limited (affine (y ∷ []) x)) one
+    ∙ ap (λ (y : ℤ). within_limits (affine (f (pos 1) (pos 0) ∷ []) y)) e
+    ∙ ap (λ (y : ℤ). within_limits (affine (y ∷ []) x)) one
 
 -- a subscript is the DO variable with the constant of the subscript
 pub form_is : (v : List ℕ) (s : Subscript) → unsigned_abs (offset_of s) ≤ 2 ^ 62 → affine_of (v ∷ []) (subscript_tree v s) ≡ Some (affine (pos 1 ∷ []) (offset_of s))

@@ -27,7 +27,7 @@ abbrev pub has_bad : List ℕ → List ℕ → Bool
 has_bad before [] = false
 has_bad before (c ∷ cs) = is_bad before c || has_bad (before ++ c ∷ []) cs
 
--- these characters end with an apostrophe and one blank or more
+-- these characters end with an apostrophe and one blank or more (this project)
 abbrev pub ends_apart : List ℕ → Bool
 ends_apart [] = false
 ends_apart (c ∷ cs) = (c == 39 && has_some cs && list_all is_blank cs) || ends_apart cs

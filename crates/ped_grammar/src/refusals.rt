@@ -116,12 +116,7 @@ pub struct Refusal {
 
 /// The earlier one of what was found and the refusal of this kind and line, where it stands.
 #[tactic(auto, unfolding(crate::specs::Refusal::refused_if))]
-pub fn standing(
-    found: Option<Refusal>,
-    test: bool,
-    kind: RefusalKind,
-    line: u64,
-) -> Option<Refusal>
+pub fn standing(found: Option<Refusal>, test: bool, kind: RefusalKind, line: u64) -> Option<Refusal>
     ensures { found_of result ≡ earliest (found_of found) (refused_if test (kind_of kind) line) }
 {
     if test {

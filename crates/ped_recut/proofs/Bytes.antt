@@ -2,9 +2,10 @@
 use Rattle.std.proofs.Common.{◌≡◌, ℕ, suc, zero, Bool, true, false, if◌then◌else◌, List, [], ◌∷◌, ◌++◌, take, refl, ap, sym, ◌∙◌, eqb, ◌⊎◌, inl, inr, arith}
 use Rattle.std.specs.Prelude.{not, ◌&&◌, ◌||◌, codes}
 use Rattle.std.specs.List.{list_all, list_any}
+use Rattle.std.specs.Char.{is_ascii_alphabetic}
 use Rattle.std.proofs.lemmas.Bool.{eqb-true}
-use Rattle.ped_grammar.specs.Columns.{is_digit}
-use Rattle.ped_grammar.specs.Characters.{is_letter, is_character, is_printable, is_quoted, is_bad, has_bad}
+use Rattle.ped_base.specs.Letters.{is_digit}
+use Rattle.ped_grammar.specs.Characters.{is_character, is_printable, is_quoted, is_bad, has_bad}
 
 pub neither : (a b : Bool) → (a || b) ≡ false → (a ≡ false) × (b ≡ false)
 neither true b h = absurd cc
@@ -39,7 +40,7 @@ pub either : (a b : Bool) → (a || b) ≡ true → (a ≡ true) ⊎ (b ≡ true
 either true b h = inl refl
 either false b h = inr h
 
-letter_printable : (c : ℕ) → is_letter c ≡ true → is_printable c ≡ true
+letter_printable : (c : ℕ) → is_ascii_alphabetic c ≡ true → is_printable c ≡ true
 letter_printable c h = grind arith
 
 pub digit_printable : (c : ℕ) → is_digit c ≡ true → is_printable c ≡ true
@@ -57,8 +58,8 @@ among_printable (x ∷ xs) c all h =
 character_printable : (c : ℕ) → is_character c ≡ true → is_printable c ≡ true
 character_printable c h =
     let special : List ℕ = codes " =+-*/(),.'$:" in
-    elim (either (is_letter c || is_digit c) (list_any (λ x. eqb x c) special) h) [
-      | inl word ↦ elim (either (is_letter c) (is_digit c) word) [ inl letter ↦ letter_printable c letter | inr digit ↦ digit_printable c digit ]
+    elim (either (is_ascii_alphabetic c || is_digit c) (list_any (λ x. eqb x c) special) h) [
+      | inl word ↦ elim (either (is_ascii_alphabetic c) (is_digit c) word) [ inl letter ↦ letter_printable c letter | inr digit ↦ digit_printable c digit ]
       | inr other ↦ among_printable special c refl other
     ]
 

@@ -6,7 +6,8 @@ use Rattle.std.specs.Fmt.{decimal}
 use Rattle.std.proofs.lemmas.Bool.{eqb-true, ne_eqb, and_from, and_left, and_right, or_from, or_right}
 use Rattle.std.proofs.lemmas.Fmt.{decimal_by_steps, length-decimal-le}
 use Rattle.std.proofs.lemmas.List.Folds.{list_all-append}
-use Rattle.ped_grammar.specs.Columns.{is_blank, is_digit, is_comment, is_continuation, with_digit, label_number, label_of, has_bad_label}
+use Rattle.ped_base.specs.Letters.{is_digit}
+use Rattle.ped_grammar.specs.Columns.{is_blank, is_comment, is_continuation, with_digit, label_number, label_of, has_bad_label}
 use Rattle.ped_grammar.specs.Characters.{is_printable}
 use Rattle.ped_recut.proofs.Bytes.{both, either, all_of, all_taken, digit_printable}
 use Rattle.ped_recut.specs.Printed.{label_field}

@@ -1,5 +1,5 @@
 -- Where the next character stands to the constants before it, and what follows from that alone.
-use Rattle.std.proofs.Common.{◌≡◌, inl, inr, ℕ, Bool, true, false, if◌then◌else◌, List, [], ◌∷◌, ◌++◌, refl, ap, sym, ◌∙◌, append_assoc, eqb, arith}
+use Rattle.std.proofs.Common.{◌≡◌, inl, inr, ℕ, zero, suc, Bool, true, false, if◌then◌else◌, List, [], ◌∷◌, ◌++◌, replicate, refl, ap, sym, ◌∙◌, append_assoc, eqb, arith}
 use Rattle.std.specs.Prelude.{not, ◌&&◌, ◌||◌}
 use Rattle.std.specs.Char.{to_ascii_uppercase}
 use Rattle.std.specs.List.{list_all}
@@ -8,7 +8,7 @@ use Rattle.std.proofs.lemmas.List.{append-nil}
 use Rattle.std.proofs.lemmas.List.Folds.{list_all-append}
 use Rattle.ped_base.specs.Lists.{has_some}
 use Rattle.ped_grammar.specs.Columns.{is_blank}
-use Rattle.ped_grammar.specs.Characters.{is_character, is_printable, is_quoted, is_bad, ends_apart, kept, text_behind}
+use Rattle.ped_grammar.specs.Characters.{is_character, is_printable, is_quoted, is_bad, ends_apart, kept, text_behind, text_of}
 use Rattle.ped_lines.specs.declared.characters.Place.{Place}
 use Rattle.ped_lines.specs.declared.characters.Place.TheVariants.{Constant, Behind, Apart, Outside}
 use Rattle.ped_lines.specs.Places.{is_constant, place_by, place_of, front_of}
@@ -206,3 +206,18 @@ kept_alike a b c h = kept_is a c ∙ ap (λ (p : Place). kept_at p c) h ∙ sym 
 pub text_alike : (a b cs : List ℕ) → place_of a ≡ place_of b → text_behind a cs ≡ text_behind b cs
 text_alike a b [] h = refl
 text_alike a b (c ∷ cs) h = λ i. kept_alike a b c h i ++ text_alike (a ++ c ∷ []) (b ++ c ∷ []) cs (place_more_alike a b c h) i
+
+-- blanks alone stand behind no constant
+
+none_before : place_of [] ≡ Outside
+unfolding place_of is_quoted
+none_before = refl
+
+place_blanks : (m : ℕ) (before : List ℕ) → place_of before ≡ Outside → place_of (before ++ replicate m 32) ≡ Outside
+place_blanks zero before h = ap place_of (append-nil before) ∙ h
+place_blanks (suc m) before h =
+    ap place_of (sym (append_assoc before (32 ∷ []) (replicate m 32)))
+    ∙ place_blanks m (before ++ 32 ∷ []) (place_more before 32 ∙ ap (λ (p : Place). next_place p 32) h)
+
+pub text_behind_blanks : (m : ℕ) (cs : List ℕ) → text_behind (replicate m 32) cs ≡ text_of cs
+text_behind_blanks m cs = text_alike (replicate m 32) [] cs (place_blanks m [] none_before ∙ sym none_before)

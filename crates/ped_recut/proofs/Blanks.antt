@@ -6,11 +6,8 @@ use Rattle.std.proofs.lemmas.List.{append-nil}
 use Rattle.std.proofs.lemmas.Bool.{or_from}
 use Rattle.ped_grammar.specs.Columns.{is_blank}
 use Rattle.ped_grammar.specs.Characters.{is_character, is_printable, is_quoted, is_bad, has_bad, kept, text_behind, text_of}
-use Rattle.ped_lines.specs.declared.characters.Place.{Place}
-use Rattle.ped_lines.specs.declared.characters.Place.TheVariants.{Outside}
-use Rattle.ped_lines.specs.Places.{place_of}
 use Rattle.ped_lines.proofs.Quoting.{quoted_more, quoted_alike, text_append, has_bad_alike, has_bad_append}
-use Rattle.ped_lines.proofs.Placing.{next_place, place_more, text_alike}
+use Rattle.ped_lines.proofs.Placing.{text_behind_blanks}
 use Rattle.ped_recut.specs.Fitting.{begins_at_once}
 
 pub quoted_blanks : (m : ℕ) (before : List ℕ) → is_quoted (before ++ replicate m 32) ≡ is_quoted before
@@ -50,22 +47,11 @@ none_open : is_quoted [] ≡ false
 unfolding is_quoted
 none_open = refl
 
-none_before : place_of [] ≡ Outside
-unfolding place_of is_quoted
-none_before = refl
-
--- blanks alone are behind no constant
-place_blanks : (m : ℕ) (before : List ℕ) → place_of before ≡ Outside → place_of (before ++ replicate m 32) ≡ Outside
-place_blanks zero before h = ap place_of (append-nil before) ∙ h
-place_blanks (suc m) before h =
-    ap place_of (sym (append_assoc before (32 ∷ []) (replicate m 32)))
-    ∙ place_blanks m (before ++ 32 ∷ []) (place_more before 32 ∙ ap (λ (p : Place). next_place p 32) h)
-
 pub text_indented : (m : ℕ) (text : List ℕ) → text_of (replicate m 32 ++ text) ≡ text_of text
 text_indented m text =
     text_append [] (replicate m 32) text
     ∙ ap (λ (t : List ℕ). t ++ text_behind (replicate m 32) text) (text_blanks m [] none_open)
-    ∙ text_alike (replicate m 32) [] text (place_blanks m [] none_before ∙ sym none_before)
+    ∙ text_behind_blanks m text
 
 pub bad_indented : (m : ℕ) (text : List ℕ) → has_bad [] (replicate m 32 ++ text) ≡ has_bad [] text
 bad_indented m text =

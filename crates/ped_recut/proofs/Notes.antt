@@ -4,7 +4,7 @@ use Rattle.std.specs.Prelude.{not, ◌||◌}
 use Rattle.std.specs.List.{AllByRecursion, list_all}
 use Rattle.std.specs.Char.{to_ascii_uppercase}
 use Rattle.std.proofs.lemmas.List.{append-nil, take_all}
-use Rattle.std.proofs.lemmas.Bool.{or_from}
+use Rattle.std.proofs.lemmas.Bool.{or_cases, or_from}
 use Rattle.std.proofs.lemmas.List.Folds.{list_all-append}
 use Rattle.ped_base.specs.Letters.{is_letter, is_digit, is_alphanumeric}
 use Rattle.ped_grammar.specs.Characters.{is_printable}
@@ -15,7 +15,7 @@ use Rattle.ped_grammar.specs.LineRefusals.{in_statements}
 use Rattle.ped_recut.specs.Printed.{PrintedNote, a_comment, a_rejection, note_line}
 use Rattle.ped_recut.specs.Fitting.{IsCommentText, IsRejectedName, NoteFits}
 use Rattle.ped_recut.specs.Cut.{comments_at, directives_at}
-use Rattle.ped_recut.proofs.Bytes.{both, either, all_of}
+use Rattle.ped_recut.proofs.Bytes.{both, all_of}
 use Rattle.ped_recut.proofs.Lines.{IsLine, last_of, ends, printable_line}
 
 -- text that is trimmed
@@ -63,7 +63,7 @@ no_directive_found n text h = ap (λ (b : Bool). if b then record { line = n; te
 -- a directive
 
 plain_letter : (c : ℕ) → is_alphanumeric c ≡ true → (eqb c 32 ≡ false) × (eqb c 13 ≡ false) × (to_ascii_uppercase c ≡ c) × (is_printable c ≡ true)
-plain_letter c h = elim (either (is_letter c) (is_digit c) h) [ inl l ↦ letter c l | inr d ↦ digit c d ] where
+plain_letter c h = elim (or_cases (is_letter c) (is_digit c) h) [ inl l ↦ letter c l | inr d ↦ digit c d ] where
   letter : (c : ℕ) → is_letter c ≡ true → (eqb c 32 ≡ false) × (eqb c 13 ≡ false) × (to_ascii_uppercase c ≡ c) × (is_printable c ≡ true)
   letter c h = (grind arith, grind arith, grind arith, grind arith)
 

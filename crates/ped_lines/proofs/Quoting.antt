@@ -4,7 +4,6 @@ use Rattle.std.specs.Prelude.{not, ◌||◌, count_by}
 use Rattle.std.proofs.lemmas.List.{append-nil}
 use Rattle.std.proofs.lemmas.List.Sums.{sum_by-append}
 use Rattle.ped_grammar.specs.Characters.{is_quoted, is_bad, has_bad, kept, text_behind}
-use Rattle.ped_lines.specs.Cutting.{front_of}
 
 -- one more turns an even number odd and an odd one even
 odd_with : (n : ℕ) (b : Bool) → eqb ((n + (0 + cond b 1 0)) % 2) 1 ≡ (if b then not (eqb (n % 2) 1) else eqb (n % 2) 1)
@@ -30,20 +29,11 @@ quoted_alike a b (c ∷ cs) h =
     ∙ quoted_alike (a ++ c ∷ []) (b ++ c ∷ []) cs (alike_more a b c h)
     ∙ ap is_quoted (append_assoc b (c ∷ []) cs)
 
-kept_alike : (a b : List ℕ) (c : ℕ) → is_quoted a ≡ is_quoted b → kept a c ≡ kept b c
-unfolding kept
-kept_alike a b c h = rw h refl
-
 bad_alike : (a b : List ℕ) (c : ℕ) → is_quoted a ≡ is_quoted b → is_bad a c ≡ is_bad b c
 unfolding is_bad
 bad_alike a b c h = rw h refl
 
--- of the same characters the same is kept
-pub text_alike : (a b cs : List ℕ) → is_quoted a ≡ is_quoted b → text_behind a cs ≡ text_behind b cs
-text_alike a b [] h = refl
-text_alike a b (c ∷ cs) h = λ i. kept_alike a b c h i ++ text_alike (a ++ c ∷ []) (b ++ c ∷ []) cs (alike_more a b c h) i
-
--- and they may stand or not
+-- the same characters may stand or not
 pub has_bad_alike : (a b cs : List ℕ) → is_quoted a ≡ is_quoted b → has_bad a cs ≡ has_bad b cs
 has_bad_alike a b [] h = refl
 has_bad_alike a b (c ∷ cs) h = λ i. bad_alike a b c h i || has_bad_alike (a ++ c ∷ []) (b ++ c ∷ []) cs (alike_more a b c h) i
@@ -78,9 +68,3 @@ has_bad_more before front c = has_bad_append before front (c ∷ []) ∙ ap (λ 
   or_false : (b : Bool) → (b || false) ≡ b
   or_false true = refl
   or_false false = refl
-
--- the front that stands for a flag has it
-pub front_quoted : (q : Bool) → is_quoted (front_of q) ≡ q
-unfolding is_quoted
-front_quoted true = refl
-front_quoted false = refl

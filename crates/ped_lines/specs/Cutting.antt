@@ -1,16 +1,16 @@
 -- What is still to come from a text that has been read up to a line. Contracts of private functions alone speak of it.
-use Rattle.std.specs.Prelude.{◌≡◌, ℕ, ◌+◌, List, [], ◌∷◌, ◌++◌, Option, Some, None, Bool, map, if◌then◌else◌}
+use Rattle.std.specs.Prelude.{◌≡◌, ℕ, ◌+◌, List, [], ◌∷◌, ◌++◌, Option, Some, None, map}
 use Rattle.ped_grammar.specs.Statement as whole
 use Rattle.ped_grammar.specs.Statement.{Note}
 use Rattle.ped_grammar.specs.Refusal.{Finding, OpenConstant, refused_if, earliest}
-use Rattle.ped_grammar.specs.Characters.{is_quoted, has_bad, text_behind}
+use Rattle.ped_grammar.specs.Characters.{has_bad, text_behind}
 use Rattle.ped_grammar.specs.Grouping.{further_lines, joined_columns, comment_at, directive_at, notes_within, notes_behind, statements_from}
 use Rattle.ped_grammar.specs.LineRefusals as lines
 use Rattle.ped_grammar.specs.LineRefusals.{at_orphans, in_rest, in_statements}
 use Rattle.ped_grammar.specs.StatementViews.{note_of, statement_of}
-use Rattle.ped_grammar.specs.RefusalViews.{finding_of}
+use Rattle.ped_grammar.specs.RefusalViews.{found_of}
+use Rattle.ped_lines.specs.Places.{is_constant, place_of, front_of}
 use Rattle.ped_lines.specs.declared.characters.OpenText.{OpenText}
-use Rattle.ped_grammar.specs.declared.refusals.Refusal.{Refusal}
 use Rattle.ped_lines.specs.declared.refusals.Role.{Role}
 use Rattle.ped_lines.specs.declared.refusals.Role.TheVariants as role
 use Rattle.ped_lines.specs.declared.cutting.OpenStatement.{OpenStatement}
@@ -22,30 +22,21 @@ role_of role.Initial = lines.Initial
 role_of (role.Continuation left) = lines.Continuation left
 role_of role.Orphan = lines.Orphan
 
--- what was found
-abbrev pub found_of : Option Refusal → Option Finding
-found_of None = None
-found_of (Some r) = Some (finding_of r)
-
 -- the text with the columns of one more line, whatever stands before them
 pub record WithColumns (old : OpenText) (columns : List ℕ) (new : OpenText) : Type 0 where
-  pub text : (before : List ℕ) → is_quoted before ≡ old.quoted → new.bytes.items ≡ old.bytes.items ++ text_behind before columns
-  pub quoted : (before : List ℕ) → is_quoted before ≡ old.quoted → is_quoted (before ++ columns) ≡ new.quoted
-  pub bad : (before : List ℕ) → is_quoted before ≡ old.quoted → has_bad before columns ≡ new.bad
-
--- characters behind which the next one stands in a constant, or doesn't
-abbrev pub front_of : Bool → List ℕ
-front_of quoted = if quoted then 39 ∷ [] else []
+  pub text : (before : List ℕ) → place_of before ≡ old.place → new.bytes.items ≡ old.bytes.items ++ text_behind before columns
+  pub place : (before : List ℕ) → place_of before ≡ old.place → place_of (before ++ columns) ≡ new.place
+  pub bad : (before : List ℕ) → place_of before ≡ old.place → has_bad before columns ≡ new.bad
 
 -- what stands where the statement that was begun before has no further line
 abbrev pub left_open : Option OpenStatement → List Finding
 left_open None = []
-left_open (Some o) = refused_if o.text.quoted OpenConstant o.line
+left_open (Some o) = refused_if (is_constant o.text.place) OpenConstant o.line
 
 -- what stands from line n on, where a statement may have begun before
 abbrev pub refusals_left : Option OpenStatement → ℕ → List (List ℕ) → List Finding
 refusals_left None n rest = at_orphans (further_lines n rest) ++ in_statements n rest
-refusals_left (Some o) n rest = in_rest o.line o.left (front_of o.text.quoted) (further_lines n rest) ++ in_statements n rest
+refusals_left (Some o) n rest = in_rest o.line o.left (front_of o.text.place) (further_lines n rest) ++ in_statements n rest
 
 -- the statement that was begun, where no further line comes
 abbrev pub ended_statement : OpenStatement → whole.Statement
@@ -68,7 +59,7 @@ begun None comments directives n rest = []
 begun (Some o) comments directives n rest = record {
   line = o.line;
   label = o.label;
-  text = o.text.bytes.items ++ text_behind (front_of o.text.quoted) (joined_columns (further_lines n rest));
+  text = o.text.bytes.items ++ text_behind (front_of o.text.place) (joined_columns (further_lines n rest));
   comments = map note_of o.comments.items ++ notes_within comment_at comments n rest;
   directives = map note_of o.directives.items ++ notes_within directive_at directives n rest;
 } ∷ []

@@ -1,3 +1,3 @@
 pub mod Cutting
 pub mod Errors
-pub mod Views
+pub mod Places

@@ -3,6 +3,7 @@
 
 ghost use Rattle.std.specs.Prelude.{◌≡◌, ◌+◌, ◌*◌, ◌<◌, ◌≤◌, ◌==◌, ◌||◌, ◌-◌, ◌++◌, not, take, drop, length, replicate, slice_index_or};
 ghost use Rattle.std.specs.List.{list_all, list_any};
+ghost use Rattle.ped_base.specs.Letters.{is_digit};
 ghost use Rattle.ped_grammar.specs.Columns as Spec;
 
 /// Whether the line is a comment or a directive: C, c or * in column 1, or blanks alone to column 72.
@@ -26,14 +27,14 @@ pub fn is_directive(line: &[u8]) -> bool
     ensures { result ≡ Spec.is_directive line.now }
 {
     column(line, 2) == b'$'
-        && folded(column(line, 3)) == b'P'
-        && folded(column(line, 4)) == b'E'
-        && folded(column(line, 5)) == b'D'
+        && column(line, 3).to_ascii_uppercase() == b'P'
+        && column(line, 4).to_ascii_uppercase() == b'E'
+        && column(line, 5).to_ascii_uppercase() == b'D'
 }
 
 /// Whether a line that is no comment continues a statement: column 6 is neither blank, 0 nor a tab.
 #[tactic(auto, unfolding(ped_grammar::specs::Columns::is_continuation))]
-pub fn continues(line: &[u8]) -> bool
+pub fn is_continuation(line: &[u8]) -> bool
     ensures { result ≡ Spec.is_continuation line.now }
 {
     let mark = column(line, 6);
@@ -83,13 +84,13 @@ pub fn has_bad_label(line: &[u8]) -> bool
 }
 
 fn is_digits_and_blanks(columns: &[u8]) -> bool
-    ensures { result ≡ list_all (λ c. Spec.is_blank c || Spec.is_digit c) columns.now }
+    ensures { result ≡ list_all (λ c. Spec.is_blank c || is_digit c) columns.now }
 {
     columns.iter().all(|c| *c == b' ' || c.is_ascii_digit())
 }
 
 fn has_digit(columns: &[u8]) -> bool
-    ensures { result ≡ list_any Spec.is_digit columns.now }
+    ensures { result ≡ list_any is_digit columns.now }
 {
     columns.iter().any(|c| c.is_ascii_digit())
 }
@@ -141,13 +142,6 @@ pub fn behind(line: &[u8], count: usize) -> &[u8]
     ensures { result.now ≡ drop count line.now }
 {
     line.split_at(line.len().min(count)).1
-}
-
-/// A small letter as a capital, any other byte as it is.
-pub fn folded(c: u8) -> u8
-    ensures { result ≡ Spec.folded c }
-{
-    if c.is_ascii_lowercase() { c - 32 } else { c }
 }
 
 /// The byte in column `number`, a blank where the line is shorter.

@@ -13,13 +13,13 @@ ghost use Rattle.ped_grammar.specs.RefusalViews.{found_of};
 ghost use Rattle.ped_lines.specs.Cutting.{left_open, cut_with, ended, ended_statement, WithColumns, WithLine};
 
 use crate::characters::OpenText;
-use crate::columns::{continues, is_comment, label_of, statement_columns};
+use crate::columns::{is_comment, is_continuation, label_of, statement_columns};
 use crate::errors::LinesError;
-use crate::grouping::{Statement, Statements};
-use crate::notes::{NoteLine, push_note};
-use crate::refusals::{Refusal, RefusalKind, Role, at_line, standing};
+use crate::notes::push_note;
+use crate::refusals::{Role, at_line};
 use crate::text_lines::first_line;
 use ped_base::{Listed, NoMemory};
+use ped_grammar::{NoteLine, Refusal, RefusalKind, Statement, Statements, standing};
 use std::alloc::Global;
 
 /// A statement that may go on.
@@ -85,7 +85,7 @@ fn with_line(cutting: Cutting, alloc: Global, number: u64, line: &[u8]) -> Resul
     if is_comment(line) {
         return with_note(cutting, alloc, number, line);
     }
-    if continues(line) {
+    if is_continuation(line) {
         return with_continuation(cutting, alloc, number, line);
     }
     with_initial(cutting, alloc, number, line)
@@ -212,7 +212,7 @@ fn at_end(found: Option<Refusal>, current: &Option<OpenStatement>) -> Option<Ref
         None => found,
         Some(open) => standing(
             found,
-            open.text.quoted,
+            open.text.is_open(),
             RefusalKind::OpenConstant,
             open.line,
         ),

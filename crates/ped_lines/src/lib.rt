@@ -6,16 +6,12 @@ mod characters;
 mod columns;
 mod cutting;
 mod errors;
-mod grouping;
 mod notes;
 mod refusals;
 mod text_lines;
 
 pub use cutting::statements;
 pub use errors::LinesError;
-pub use grouping::{Statement, Statements};
-pub use notes::NoteLine;
-pub use refusals::{Refusal, RefusalKind};
 
 #[cfg(test)]
 mod tests;

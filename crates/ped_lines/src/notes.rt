@@ -1,12 +1,14 @@
 //! Comments and directives: what a line that is no part of a statement says.
 
 ghost use Rattle.std.specs.Prelude.{◌≡◌, ◌++◌, ◌==◌, ◌||◌, map, filter, not, IfOk, OnOk};
+ghost use Rattle.std.specs.Char.{to_ascii_uppercase};
 ghost use Rattle.ped_grammar.specs.Columns as Columns;
 ghost use Rattle.ped_grammar.specs.Grouping as Spec;
 ghost use Rattle.ped_grammar.specs.StatementViews.{note_of};
 
-use crate::columns::{behind, folded, front, is_directive};
+use crate::columns::{behind, front, is_directive};
 use ped_base::{Bytes, Listed, NoMemory};
+use ped_grammar::NoteLine;
 use std::alloc::Global;
 
 /// Adds the note on a line to the comments or to the directives.
@@ -36,16 +38,16 @@ fn directive_text(alloc: Global, line: &[u8]) -> Result<Bytes, NoMemory>
     ensures { IfOk result (λ text. text ≡ Spec.directive_text line.now) }
 {
     let text = behind(comment_text(line), 4);
-    Ok(Listed::from_vec(folded_text(alloc, text)?))
+    Ok(Listed::from_vec(capitals(alloc, text)?))
 }
 
-fn folded_text(alloc: Global, text: &[u8]) -> Result<Vec<u8>, NoMemory>
-    ensures { IfOk result (λ v. v.items ≡ map Columns.folded (filter (λ c. not (Columns.is_blank c)) text.now)) }
+fn capitals(alloc: Global, text: &[u8]) -> Result<Vec<u8>, NoMemory>
+    ensures { IfOk result (λ v. v.items ≡ map to_ascii_uppercase (filter (λ c. not (Columns.is_blank c)) text.now)) }
 {
     let mut kept = Vec::new(alloc);
     for c in text {
         if *c != b' ' {
-            kept.push(folded(*c))?;
+            kept.push(c.to_ascii_uppercase())?;
         }
     }
     Ok(kept)

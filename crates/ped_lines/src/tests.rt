@@ -1,10 +1,11 @@
 //! Texts of fixed form and what they are cut into. Expected values are by hand.
 
-use crate::RefusalKind::{
+use crate::{LinesError, statements};
+use ped_base::{Bytes, NoMemory};
+use ped_grammar::RefusalKind::{
     BadCharacter, BadLabel, ContinuationFirst, OpenConstant, Tab, TooManyContinuations,
 };
-use crate::{Refusal, RefusalKind, LinesError, NoteLine, statements};
-use ped_base::{Bytes, NoMemory};
+use ped_grammar::{NoteLine, Refusal, RefusalKind};
 use std::alloc::Global;
 use std::test::Fail;
 
@@ -221,7 +222,7 @@ fn line_of(kind: RefusalKind) -> &'static [u8] {
         BadLabel => b"00000 STOP\n",
         BadCharacter => b"      STOP;\n",
         OpenConstant => b"      PRINT *, 'IT''S\n",
-        ContinuationFirst | TooManyContinuations => b"     &STOP\n",
+        _ => b"     &STOP\n",
     }
 }
 

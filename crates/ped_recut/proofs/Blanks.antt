@@ -6,7 +6,8 @@ use Rattle.std.proofs.lemmas.List.{append-nil}
 use Rattle.std.proofs.lemmas.Bool.{or_from}
 use Rattle.ped_grammar.specs.Columns.{is_blank}
 use Rattle.ped_grammar.specs.Characters.{is_character, is_printable, is_quoted, is_bad, has_bad, kept, text_behind, text_of}
-use Rattle.ped_lines.proofs.Quoting.{quoted_more, quoted_alike, text_alike, text_append, has_bad_alike, has_bad_append}
+use Rattle.ped_lines.proofs.Quoting.{quoted_more, quoted_alike, text_append, has_bad_alike, has_bad_append}
+use Rattle.ped_lines.proofs.Placing.{text_behind_blanks}
 use Rattle.ped_recut.specs.Fitting.{begins_at_once}
 
 pub quoted_blanks : (m : ℕ) (before : List ℕ) → is_quoted (before ++ replicate m 32) ≡ is_quoted before
@@ -50,7 +51,7 @@ pub text_indented : (m : ℕ) (text : List ℕ) → text_of (replicate m 32 ++ t
 text_indented m text =
     text_append [] (replicate m 32) text
     ∙ ap (λ (t : List ℕ). t ++ text_behind (replicate m 32) text) (text_blanks m [] none_open)
-    ∙ text_alike (replicate m 32) [] text (quoted_blanks m [])
+    ∙ text_behind_blanks m text
 
 pub bad_indented : (m : ℕ) (text : List ℕ) → has_bad [] (replicate m 32 ++ text) ≡ has_bad [] text
 bad_indented m text =

@@ -1,10 +1,11 @@
 -- Bytes that may stand in statements, and what is known of them all.
-use Rattle.std.proofs.Common.{◌≡◌, ℕ, suc, zero, Bool, true, false, if◌then◌else◌, List, [], ◌∷◌, ◌++◌, take, refl, ap, sym, ◌∙◌, eqb, ◌⊎◌, inl, inr, arith}
-use Rattle.std.specs.Prelude.{not, ◌&&◌, ◌||◌, codes}
+use Rattle.std.proofs.Common.{◌≡◌, ℕ, suc, zero, Bool, true, false, if◌then◌else◌, List, [], ◌∷◌, ◌++◌, take, refl, ap, sym, ◌∙◌, eqb, inl, inr, arith}
+use Rattle.std.specs.Prelude.{◌&&◌, ◌||◌, codes}
 use Rattle.std.specs.List.{list_all, list_any}
-use Rattle.std.proofs.lemmas.Bool.{eqb-true}
-use Rattle.ped_grammar.specs.Columns.{is_digit}
-use Rattle.ped_grammar.specs.Characters.{is_letter, is_character, is_printable, is_quoted, is_bad, has_bad}
+use Rattle.std.specs.Char.{is_ascii_alphabetic}
+use Rattle.std.proofs.lemmas.Bool.{eqb-true, not-false, or_cases}
+use Rattle.ped_base.specs.Letters.{is_digit}
+use Rattle.ped_grammar.specs.Characters.{is_character, is_printable, is_quoted, is_bad, has_bad}
 
 pub neither : (a b : Bool) → (a || b) ≡ false → (a ≡ false) × (b ≡ false)
 neither true b h = absurd cc
@@ -35,11 +36,7 @@ all_taken p (suc n) (c ∷ cs) all =
     let parts = both (p c) (list_all p cs) all in
     rw parts.0 (all_taken p n cs parts.1)
 
-pub either : (a b : Bool) → (a || b) ≡ true → (a ≡ true) ⊎ (b ≡ true)
-either true b h = inl refl
-either false b h = inr h
-
-letter_printable : (c : ℕ) → is_letter c ≡ true → is_printable c ≡ true
+letter_printable : (c : ℕ) → is_ascii_alphabetic c ≡ true → is_printable c ≡ true
 letter_printable c h = grind arith
 
 pub digit_printable : (c : ℕ) → is_digit c ≡ true → is_printable c ≡ true
@@ -49,7 +46,7 @@ among_printable : (xs : List ℕ) (c : ℕ) → list_all is_printable xs ≡ tru
 among_printable [] c all h = absurd cc
 among_printable (x ∷ xs) c all h =
     let parts = both (is_printable x) (list_all is_printable xs) all in
-    elim (either (eqb x c) (list_any (λ x. eqb x c) xs) h) [
+    elim (or_cases (eqb x c) (list_any (λ x. eqb x c) xs) h) [
       | inl here ↦ ap is_printable (sym (eqb-true x c here)) ∙ parts.0
       | inr more ↦ among_printable xs c parts.1 more
     ]
@@ -57,14 +54,10 @@ among_printable (x ∷ xs) c all h =
 character_printable : (c : ℕ) → is_character c ≡ true → is_printable c ≡ true
 character_printable c h =
     let special : List ℕ = codes " =+-*/(),.'$:" in
-    elim (either (is_letter c || is_digit c) (list_any (λ x. eqb x c) special) h) [
-      | inl word ↦ elim (either (is_letter c) (is_digit c) word) [ inl letter ↦ letter_printable c letter | inr digit ↦ digit_printable c digit ]
+    elim (or_cases (is_ascii_alphabetic c || is_digit c) (list_any (λ x. eqb x c) special) h) [
+      | inl word ↦ elim (or_cases (is_ascii_alphabetic c) (is_digit c) word) [ inl letter ↦ letter_printable c letter | inr digit ↦ digit_printable c digit ]
       | inr other ↦ among_printable special c refl other
     ]
-
-not_false : (b : Bool) → not b ≡ false → b ≡ true
-not_false true h = refl
-not_false false h = absurd cc
 
 good_printable : (q : Bool) (c : ℕ) → (if q then is_printable c else is_character c) ≡ true → is_printable c ≡ true
 good_printable true c h = h
@@ -76,7 +69,7 @@ unfolding is_bad
 allowed_printable before [] h = refl
 allowed_printable before (c ∷ cs) h =
     let parts = neither (is_bad before c) (has_bad (before ++ c ∷ []) cs) h in
-    rw (good_printable (is_quoted before) c (not_false _ parts.0)) (allowed_printable (before ++ c ∷ []) cs parts.1)
+    rw (good_printable (is_quoted before) c (not-false _ parts.0)) (allowed_printable (before ++ c ∷ []) cs parts.1)
 
 pub printable_newline : (c : ℕ) → is_printable c ≡ true → eqb c 10 ≡ false
 printable_newline c h = grind arith

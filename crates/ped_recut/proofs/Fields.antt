@@ -3,12 +3,13 @@ use Rattle.std.proofs.Common.{◌≡◌, ℕ, suc, zero, ◌+◌, ◌-◌, ◌*�
 use Rattle.std.specs.Prelude.{not, ◌||◌, ◌&&◌}
 use Rattle.std.specs.List.{list_all, list_any}
 use Rattle.std.specs.Fmt.{decimal}
-use Rattle.std.proofs.lemmas.Bool.{eqb-true, ne_eqb, and_from, and_left, and_right, or_from, or_right}
+use Rattle.std.proofs.lemmas.Bool.{eqb-true, ne_eqb, and_from, and_left, and_right, or_cases, or_from, or_right}
 use Rattle.std.proofs.lemmas.Fmt.{decimal_by_steps, length-decimal-le}
 use Rattle.std.proofs.lemmas.List.Folds.{list_all-append}
-use Rattle.ped_grammar.specs.Columns.{is_blank, is_digit, is_comment, is_continuation, with_digit, label_number, label_of, has_bad_label}
+use Rattle.ped_base.specs.Letters.{is_digit}
+use Rattle.ped_grammar.specs.Columns.{is_blank, is_comment, is_continuation, with_digit, label_number, label_of, has_bad_label}
 use Rattle.ped_grammar.specs.Characters.{is_printable}
-use Rattle.ped_recut.proofs.Bytes.{both, either, all_of, all_taken, digit_printable}
+use Rattle.ped_recut.proofs.Bytes.{both, all_of, all_taken, digit_printable}
 use Rattle.ped_recut.specs.Printed.{label_field}
 use Rattle.ped_recut.specs.Fitting.{LabelFits}
 
@@ -106,7 +107,7 @@ digit_labels : (c : ℕ) → is_digit c ≡ true → may_label c ≡ true
 digit_labels c h = or_right (is_blank c) (is_digit c) h
 
 label_prints : (c : ℕ) → may_label c ≡ true → is_printable c ≡ true
-label_prints c h = elim (either (is_blank c) (is_digit c) h) [
+label_prints c h = elim (or_cases (is_blank c) (is_digit c) h) [
   | inl blank ↦ ap is_printable (eqb-true c 32 blank)
   | inr digit ↦ digit_printable c digit
 ]

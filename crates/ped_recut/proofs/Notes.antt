@@ -2,19 +2,20 @@
 use Rattle.std.proofs.Common.{◌≡◌, ℕ, suc, ◌+◌, Bool, true, false, if◌then◌else◌, List, [], ◌∷◌, ◌++◌, map, length, drop, codes, filter, refl, ap, sym, ◌∙◌, append_assoc, length-append, add-zero, eqb, cond, inl, inr, arith}
 use Rattle.std.specs.Prelude.{not, ◌||◌}
 use Rattle.std.specs.List.{AllByRecursion, list_all}
+use Rattle.std.specs.Char.{to_ascii_uppercase}
 use Rattle.std.proofs.lemmas.List.{append-nil, take_all}
-use Rattle.std.proofs.lemmas.Bool.{or_from}
+use Rattle.std.proofs.lemmas.Bool.{or_cases, or_from}
 use Rattle.std.proofs.lemmas.List.Folds.{list_all-append}
 use Rattle.ped_base.specs.Letters.{is_letter, is_digit, is_alphanumeric}
 use Rattle.ped_grammar.specs.Characters.{is_printable}
-use Rattle.ped_grammar.specs.Columns.{is_blank, folded, is_comment, is_directive}
+use Rattle.ped_grammar.specs.Columns.{is_blank, is_comment, is_directive}
 use Rattle.ped_grammar.specs.Statement.{Note}
 use Rattle.ped_grammar.specs.Grouping.{with_rest, trimmed, comment_text, directive_text, comment_at, directive_at, further_lines, notes_within, notes_behind, statements_from}
 use Rattle.ped_grammar.specs.LineRefusals.{in_statements}
 use Rattle.ped_recut.specs.Printed.{PrintedNote, a_comment, a_rejection, note_line}
 use Rattle.ped_recut.specs.Fitting.{IsCommentText, IsRejectedName, NoteFits}
 use Rattle.ped_recut.specs.Cut.{comments_at, directives_at}
-use Rattle.ped_recut.proofs.Bytes.{both, either, all_of}
+use Rattle.ped_recut.proofs.Bytes.{both, all_of}
 use Rattle.ped_recut.proofs.Lines.{IsLine, last_of, ends, printable_line}
 
 -- text that is trimmed
@@ -61,20 +62,20 @@ no_directive_found n text h = ap (λ (b : Bool). if b then record { line = n; te
 
 -- a directive
 
-plain_letter : (c : ℕ) → is_alphanumeric c ≡ true → (eqb c 32 ≡ false) × (eqb c 13 ≡ false) × (folded c ≡ c) × (is_printable c ≡ true)
-plain_letter c h = elim (either (is_letter c) (is_digit c) h) [ inl l ↦ letter c l | inr d ↦ digit c d ] where
-  letter : (c : ℕ) → is_letter c ≡ true → (eqb c 32 ≡ false) × (eqb c 13 ≡ false) × (folded c ≡ c) × (is_printable c ≡ true)
+plain_letter : (c : ℕ) → is_alphanumeric c ≡ true → (eqb c 32 ≡ false) × (eqb c 13 ≡ false) × (to_ascii_uppercase c ≡ c) × (is_printable c ≡ true)
+plain_letter c h = elim (or_cases (is_letter c) (is_digit c) h) [ inl l ↦ letter c l | inr d ↦ digit c d ] where
+  letter : (c : ℕ) → is_letter c ≡ true → (eqb c 32 ≡ false) × (eqb c 13 ≡ false) × (to_ascii_uppercase c ≡ c) × (is_printable c ≡ true)
   letter c h = (grind arith, grind arith, grind arith, grind arith)
 
-  digit : (c : ℕ) → is_digit c ≡ true → (eqb c 32 ≡ false) × (eqb c 13 ≡ false) × (folded c ≡ c) × (is_printable c ≡ true)
+  digit : (c : ℕ) → is_digit c ≡ true → (eqb c 32 ≡ false) × (eqb c 13 ≡ false) × (to_ascii_uppercase c ≡ c) × (is_printable c ≡ true)
   digit c h = (grind arith, grind arith, grind arith, grind arith)
 
-name_kept : (name : List ℕ) → list_all is_alphanumeric name ≡ true → map folded (filter (λ c. not (is_blank c)) name) ≡ name
+name_kept : (name : List ℕ) → list_all is_alphanumeric name ≡ true → map to_ascii_uppercase (filter (λ c. not (is_blank c)) name) ≡ name
 name_kept [] h = refl
 name_kept (c ∷ cs) h =
     let parts = both (is_alphanumeric c) (list_all is_alphanumeric cs) h in
     let p = plain_letter c parts.0 in
-    ap (λ (b : Bool). map folded (cond (not b) (c ∷ filter (λ c. not (is_blank c)) cs) (filter (λ c. not (is_blank c)) cs))) p.0
+    ap (λ (b : Bool). map to_ascii_uppercase (cond (not b) (c ∷ filter (λ c. not (is_blank c)) cs) (filter (λ c. not (is_blank c)) cs))) p.0
     ∙ (λ i. p.2 i ∷ name_kept cs parts.1 i)
 
 name_trimmed : (name : List ℕ) → list_all is_alphanumeric name ≡ true → trimmed name ≡ name
@@ -82,7 +83,7 @@ name_trimmed [] h = refl
 name_trimmed (c ∷ cs) h =
     let parts = both (is_alphanumeric c) (list_all is_alphanumeric cs) h in
     ap (with_rest c) (name_trimmed cs parts.1) ∙ kept c cs (plain_letter c parts.0) where
-      kept : (c : ℕ) (cs : List ℕ) → (eqb c 32 ≡ false) × (eqb c 13 ≡ false) × (folded c ≡ c) × (is_printable c ≡ true) → with_rest c cs ≡ c ∷ cs
+      kept : (c : ℕ) (cs : List ℕ) → (eqb c 32 ≡ false) × (eqb c 13 ≡ false) × (to_ascii_uppercase c ≡ c) × (is_printable c ≡ true) → with_rest c cs ≡ c ∷ cs
       kept c [] p = ap (λ (b : Bool). if b then [] else c ∷ []) (or_from _ _ p.0 p.1)
       kept c (x ∷ xs) p = refl
 
@@ -96,7 +97,7 @@ with_rests [] rest = rest
 with_rests (c ∷ cs) rest = with_rest c (with_rests cs rest)
 
 clean : List ℕ → List ℕ
-clean text = map folded (filter (λ c. not (is_blank c)) text)
+clean text = map to_ascii_uppercase (filter (λ c. not (is_blank c)) text)
 
 front_trimmed : (name : List ℕ) → trimmed name ≡ name → clean (drop 4 (trimmed (codes "$PED REJECT " ++ name))) ≡ codes "REJECT" ++ clean name
 unfolding clean

@@ -13,9 +13,9 @@ use Rattle.ped_grammar.specs.ExpressionForms.{expr_form_tree}
 use Rattle.ped_grammar.specs.Items.{Item, declares}
 use Rattle.ped_grammar.specs.StatementForms.{BoundForm, upper_bound, both_bounds, an_array, a_scalar, of_array, a_constant, bound_form_text, array_form_text, declarator_form_text, constant_form_text, bound_form_tree, array_form_tree, declarator_form_tree, constant_form_tree, are_names, StatementForm, program, implicit, integer, dimension, parameter, save, save_all, simple, if_simple, if_then, else_if_then, else_alone, end_of_if, do_loop, private, end, SimpleForm, assignment, print, read, stop, continue, statement_item}
 use Rattle.ped_reprint.specs.Printed.{ReadsOnly, DeclarationPrints, SavePrints}
-use Rattle.ped_reprint.proofs.Squeezing.{Reduces, joined, words, name_stays}
+use Rattle.ped_reprint.proofs.Squeezing.{Reduces, joined, words, comma_blank, name_stays}
 use Rattle.ped_reprint.proofs.Expressions.{expr_again}
-use Rattle.ped_reprint.proofs.Listing.{EachAgain, listed_again, comma_blank, names_again}
+use Rattle.ped_reprint.proofs.Listing.{EachAgain, listed_again, names_again}
 use Rattle.ped_reprint.proofs.Only.{reads_only}
 
 -- the literal 1 is the only tree that counts as one

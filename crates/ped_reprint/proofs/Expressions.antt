@@ -72,7 +72,7 @@ mutual
   some_stay (more_exprs e rest) h = joined (expr_stays e h.0 alone) (further_stay rest h.1)
 
   further_stay : (es : ExprTrees) → AllStand es → Reduces (further_text es) (further_text es)
-  further_stay no_exprs h = nothing false
+  further_stay no_exprs h = nothing
   further_stay (more_exprs e rest) h = joined (joined (words (codes ",") refl) (expr_stays e h.0 alone)) (further_stay rest h.1)
 
 -- a form of the tree whose text is what is left of the printed text

@@ -6,7 +6,7 @@ use Rattle.std.proofs.lemmas.Bool.{or_parts, and_parts}
 use Rattle.ped_grammar.specs.Words.{is_name}
 use Rattle.ped_tree.specs.Printing.{names_text}
 use Rattle.ped_grammar.specs.StatementForms.{names_form_text}
-use Rattle.ped_reprint.proofs.Squeezing.{Reduces, joined, nothing, words, name_stays}
+use Rattle.ped_reprint.proofs.Squeezing.{Reduces, joined, nothing, comma_blank, name_stays}
 use Rattle.ped_reprint.proofs.Expressions.{Again}
 
 -- each form whose tree has no large literal has one again
@@ -21,7 +21,7 @@ FurtherAgain {F} {T} form_text form_tree text printed written ts =
     × (map form_tree gs ≡ ts)
 
 pub further_again : {F T : Type 0} (form_text : F → List ℕ) (form_tree : F → T) (text : T → List ℕ) (large : T → Bool) (printed written : List ℕ) → Reduces printed written → EachAgain form_text form_tree text large → (fs : List F) → list_any large (map form_tree fs) ≡ false → FurtherAgain form_text form_tree text printed written (map form_tree fs)
-further_again form_text form_tree text large printed written separator each [] h = ([], nothing false, refl)
+further_again form_text form_tree text large printed written separator each [] h = ([], nothing, refl)
 further_again {F} {T} form_text form_tree text large printed written separator each (f ∷ fs) h =
     let k = or_parts (large (form_tree f)) (list_any large (map form_tree fs)) h in
     let p = each f k.0 in
@@ -43,20 +43,16 @@ listed_again {F} {T} form_text form_tree text large printed written separator ea
     let q = further_again form_text form_tree text large printed written separator each fs k.1 in
     (p.0, q.0, joined p.1 q.1, ap (λ (t : T). t ∷ map form_tree q.0) p.2 ∙ ap (λ (ts : List T). form_tree f ∷ ts) q.2)
 
--- a comma, and a blank behind it that vanishes
-pub comma_blank : Reduces (codes ", ") (codes ",")
-comma_blank = words (codes ", ") refl
-
 -- names
 
 further_names : (names : List (List ℕ)) → list_all is_name names ≡ true → Reduces (flat_map (λ x. codes ", " ++ x) names) (flat_map (λ x. codes "," ++ x) names)
-further_names [] h = nothing false
+further_names [] h = nothing
 further_names (x ∷ xs) h =
     let k = and_parts (is_name x) (list_all is_name xs) h in
     joined (joined comma_blank (name_stays x k.0)) (further_names xs k.1)
 
 pub names_again : (names : List (List ℕ)) → list_all is_name names ≡ true → Reduces (names_text names) (names_form_text names)
-names_again [] h = nothing false
+names_again [] h = nothing
 names_again (x ∷ xs) h =
     let k = and_parts (is_name x) (list_all is_name xs) h in
     joined (name_stays x k.0) (further_names xs k.1)

@@ -18,17 +18,18 @@ use Rattle.ped_grammar.specs.StatementForms.{ItemForm, a_value, a_text, item_for
 use Rattle.ped_grammar.specs.BlockForms.{whole_head}
 use Rattle.ped_grammar.specs.ProgramRefusals.{listed_stmts, is_too_large}
 use Rattle.ped_reprint.specs.Printed.{ReadsOnly, SaysFirstLine, itself, of_block_if, of_else_if, of_logical_if, behind_logical_if, of_do, first_line_item, HasShortLabel, StatementPrints, PrivatePrints, WordsPrint}
-use Rattle.ped_reprint.proofs.Squeezing.{Reduces, joined, nothing, words, name_stays, numeral_stays, constant_stays}
+use Rattle.ped_reprint.proofs.Squeezing.{Reduces, joined, nothing, words, comma_blank, name_stays, numeral_stays, listed_constant}
 use Rattle.ped_reprint.proofs.Expressions.{Again, decimal_numeral, expr_again, reference_again, cond_again}
-use Rattle.ped_reprint.proofs.Listing.{EachAgain, further_again, comma_blank, names_again}
+use Rattle.ped_reprint.proofs.Listing.{EachAgain, further_again, names_again}
 use Rattle.ped_reprint.proofs.Declarations.{one_is}
 use Rattle.ped_reprint.proofs.Only.{reads_only}
 
 -- assignment, PRINT, READ and STOP
 
-item_again : EachAgain item_form_text item_form_tree item_text item_has_large_literal
-item_again (a_value e) h = let p = expr_again e h in (a_value p.0, p.1, ap Value p.2)
-item_again (a_text text) h = (a_text text, constant_stays text, refl)
+-- an item of PRINT with the comma before it
+item_again : EachAgain (λ g. codes "," ++ item_form_text g) item_form_tree (λ t. codes ", " ++ item_text t) item_has_large_literal
+item_again (a_value e) h = let p = expr_again e h in (a_value p.0, joined comma_blank p.1, ap Value p.2)
+item_again (a_text text) h = (a_text text, listed_constant text, refl)
 
 -- what a statement says by itself is printed again
 abbrev DoesAgain : StmtTree → Type 0
@@ -45,7 +46,7 @@ assign_again r e before small =
 
 print_again : (items : List ItemForm) → DoesAgain (Print (map item_form_tree items))
 print_again items before small =
-    let p = further_again item_form_text item_form_tree item_text item_has_large_literal (codes ", ") (codes ",") comma_blank item_again items small in
+    let p = further_again (λ g. codes "," ++ item_form_text g) item_form_tree (λ t. codes ", " ++ item_text t) item_has_large_literal [] [] nothing item_again items small in
     let s = Print (map item_form_tree items) in
     reads_only (own_text before s) (does s) (simple (print p.0)) (joined (words (codes "PRINT *") refl) p.1) (ap (λ (ts : List ItemTree). does (Print ts)) p.2)
 
@@ -77,12 +78,12 @@ label_is before small =
     (and_from (is_numeral (decimal n) && leb (length (decimal n)) 5) (not (eqb (numeral_value (decimal n)) 0)) (and_from (is_numeral (decimal n)) (leb (length (decimal n)) 5) d.0 short) some, d.1)
 
 step_again : (step : Option ExprForm) → has_large_literal (step_form_tree step) ≡ false → Again further_form_text step_form_tree step_text (step_form_tree step)
-step_again None h = (None, nothing false, refl)
+step_again None h = (None, nothing, refl)
 step_again (Some e) h =
     let p = expr_again e h in
     let t = expr_form_tree e in
     cond_both (is_one t) [] (codes ", " ++ value_text t) (λ c. (g : Option ExprForm) × Reduces c (further_form_text g) × (step_form_tree g ≡ t))
-    (λ i. (None, nothing false, sym (one_is t i)))
+    (λ i. (None, nothing, sym (one_is t i)))
     (λ i. (Some p.0, joined comma_blank p.1, p.2))
 
 word_again : (parallel : Bool) → Reduces (do_word parallel) (do_form_word parallel)

@@ -8,7 +8,7 @@ use Rattle.ped_lines.proofs.cutting.with_initial.Goals as goal
 pub returns : goal.returns
 returns c =
     let line = c.args.line.now in
-    let text = first_text c.in_ok-new.field-0 c.in_ok-with_columns.field-0 c.statement_columns.result line c.in_ok-new.ensures.text c.in_ok-new.ensures.quoted c.statement_columns.ensures c.in_ok-with_columns.ensures in
+    let text = first_text c.in_ok-new.field-0 c.in_ok-with_columns.field-0 c.statement_columns.result line c.in_ok-new.ensures.text c.in_ok-new.ensures.place c.statement_columns.ensures c.in_ok-with_columns.ensures in
     let begun : OpenStatement = record {
       line = c.args.number;
       label = c.label_of.result;
@@ -25,7 +25,7 @@ returns c =
       label = c.label_of.ensures;
       left = refl;
       text = text.text;
-      quoted = text.quoted;
+      place = text.place;
       comments = refl;
       directives = refl;
       no_comments = c.new-2.ensures.items;

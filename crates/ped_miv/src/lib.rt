@@ -1,13 +1,11 @@
-// A library with one function.
+//! The dependence tests for subscripts in any number of indices (Allen and Kennedy, section 3.3): the GCD test,
+//! and Banerjee's test with directions. They take no memory and go over loops, never over iterations.
 #![tactic(auto)]
 
-ghost use Rattle.std.specs.Prelude.{◌≡◌};
-ghost use Rattle.ped_miv.specs.Echo.{echo_of};
+mod banerjee;
+mod differences;
+mod extremes;
+mod solutions;
 
-// The `ensures` clause is the contract: what `echo` returns is `echo_of` of its argument, a definition
-// in `specs/Echo.antt`, which a caller's clause can cite too.
-pub fn echo(x: usize) -> usize
-    ensures { result ≡ echo_of x }
-{
-    x
-}
+pub use banerjee::{banerjee_excludes, may_refine};
+pub use solutions::gcd_excludes;

@@ -24,11 +24,7 @@ pub fn divides(d: i128, n: i128) -> bool
     requires { neg_ℤ (pos (2 ^ 127)) <ℤ n }
     ensures { IsTrue result ↔ Divides d n }
 {
-    if d == 0 {
-        n == 0
-    } else {
-        remainder(n, d) == 0
-    }
+    if d == 0 { n == 0 } else { remainder(n, d) == 0 }
 }
 
 pub(crate) fn quotient(n: i128, d: i128) -> i128

@@ -3,7 +3,7 @@
 ghost use Rattle.std.specs.Prelude.{◌≡◌, ◌<ℤ◌, ◌-ℤ◌, ◌*ℤ◌, ◌^◌, ◌↔◌, pos, neg_ℤ, IsTrue};
 ghost use Rattle.ped_views.specs.Whole.{Divides, whole_quotient};
 ghost use Rattle.ped_views.specs.Excluded.{NeverMeetsInStep};
-ghost use Rattle.ped_siv.specs.Fits.{FitsSpan};
+ghost use Rattle.ped_siv.specs.Fits.{FitsSpan, FitsRange};
 
 use ped_views::{Direction, LoopRange, difference, divides, exact_quotient, product};
 
@@ -21,11 +21,7 @@ pub fn strong_excludes(a: i64, b: i64, c1: i64, c2: i64, range: &LoopRange, d: D
 {
     match exact_quotient(difference(c1, c2), i128::from(a)) {
         None => true,
-        Some(distance) => {
-            let span = difference(range.hi, range.lo);
-            let d = d.by_value(range.step);
-            !(fits_span(distance, span, d) && in_step(distance, range.step, range.steady))
-        }
+        Some(distance) => !fits_range(distance, range, d),
     }
 }
 
@@ -38,6 +34,15 @@ pub fn strong_distance(a: i64, c1: i64, c2: i64, step: i64) -> Option<i128>
     ensures { result ≡ whole_quotient (c1 -ℤ c2) (a *ℤ step) }
 {
     exact_quotient(difference(c1, c2), product(a, step))
+}
+
+/// Whether values of the range that stand in the direction of its loop may lie at this distance.
+fn fits_range(distance: i128, range: &LoopRange, d: Direction) -> bool
+    requires { neg_ℤ (pos (2 ^ 127)) <ℤ distance }
+    ensures { IsTrue result ↔ FitsRange range.now d distance }
+{
+    let span = difference(range.hi, range.lo);
+    fits_span(distance, span, d.by_value(range.step)) && in_step(distance, range.step, range.steady)
 }
 
 /// Whether two values at this distance stand so in a range that ends this far above its start.

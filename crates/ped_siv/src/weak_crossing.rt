@@ -26,7 +26,12 @@ pub fn weak_crossing_excludes(
 {
     match exact_quotient(difference(c2, c1), i128::from(a)) {
         None => true,
-        Some(sum) => !fits_sum(sum, twice(range.lo), twice(range.hi), d.by_value(range.step)),
+        Some(sum) => !fits_sum(
+            sum,
+            twice(range.lo),
+            twice(range.hi),
+            d.by_value(range.step),
+        ),
     }
 }
 

@@ -11,14 +11,7 @@ use ped_views::{Direction, LoopRange, difference, exact_quotient};
 ///
 /// One side's subscript is a constant, so the other side's index is one value. The direction is excluded
 /// exactly where this isn't whole, lies outside the range, or has no value of the range before or behind it.
-pub fn weak_zero_excludes(
-    a: i64,
-    b: i64,
-    c1: i64,
-    c2: i64,
-    range: &LoopRange,
-    d: Direction,
-) -> bool
+pub fn weak_zero_excludes(a: i64, b: i64, c1: i64, c2: i64, range: &LoopRange, d: Direction) -> bool
     requires form { ((a ≡ pos 0) × ¬ (b ≡ pos 0)) ⊎ (¬ (a ≡ pos 0) × (b ≡ pos 0)) }
     ensures { IsTrue result ↔ NeverMeets a b c1 c2 range.now d }
 {

@@ -1,10 +1,11 @@
 -- When two plain records are equal: where their fields are, and what a test of each field tells.
-use Rattle.std.proofs.Common.{◌≡◌, ◌&&◌, ℤ, Bool, false, nat_eq, of_z, to_z, w64, FitsSigned, ap, sym, ◌∙◌}
+use Rattle.std.proofs.Common.{◌≡◌, ◌&&◌, arith, ℤ, pos, Bool, false, nat_eq, of_z, to_z, w64, FitsSigned, ap, sym, ◌∙◌}
 use Rattle.std.specs.Bool.{Decides, beq}
 use Rattle.std.specs.Ordering.{int_eq}
 use Rattle.std.specs.Cmp.{booleans_Decides}
 use Rattle.std.proofs.lemmas.Bool.Decides.{Decides-int_eq, Decides-eqb, Decides-and, Decides-like}
-use Rattle.std.proofs.lemmas.Int.{to_z-of_z}
+use Rattle.std.specs.Int.{w128}
+use Rattle.std.proofs.lemmas.Int.{to_z-of_z, ints}
 use Rattle.ped_views.specs.Views.{Range, Row}
 
 -- the derived test on ranges
@@ -20,6 +21,10 @@ range_decided a b =
 pub number_decided : (x y : ℤ) → FitsSigned w64 x → FitsSigned w64 y → Decides (nat_eq (of_z w64 x) (of_z w64 y)) (x ≡ y)
 number_decided x y p q =
     Decides-like _ (λ e. sym (to_z-of_z w64 x p) ∙ ap (to_z w64) e ∙ to_z-of_z w64 y q) (λ e. ap (of_z w64) e) (Decides-eqb (of_z w64 x) (of_z w64 y))
+
+-- the code's test for 0
+pub zero_decided : (x : ℤ) → FitsSigned w128 x → Decides (nat_eq (of_z w128 x) 0) (x ≡ pos 0)
+zero_decided x f = Decides-like _ (λ (e : of_z w128 x ≡ 0). omega (arith, ints)) (λ e. ap (of_z w128) e) (Decides-eqb (of_z w128 x) 0)
 
 -- rows with equal coefficients are equal where their constants are
 pub row_decided : (a b : Row) (t : Bool) → a.common ≡ b.common → a.inner ≡ b.inner → Decides t (a.constant ≡ b.constant) → Decides t (a ≡ b)

@@ -1,3 +1,5 @@
 pub mod Chosen
+pub mod Dividing
 mod Equal
+pub mod Images
 pub mod Products

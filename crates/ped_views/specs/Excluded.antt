@@ -1,5 +1,6 @@
 -- When a subscript pair excludes a direction vector: sentences over whole numbers (Allen and Kennedy, chapter 3).
 use Rattle.std.specs.Prelude.{◌≡◌, ◌⊎◌, ℕ, ℤ, pos, negsuc, ◌+ℤ◌, ◌-ℤ◌, ◌*ℤ◌, ◌≤ℤ◌, ◌<ℤ◌, List, [], ◌∷◌, length, false, IsTrue, slice_index_or, ◌&&◌}
+use Rattle.std.specs.List.{Any}
 use Rattle.ped_views.specs.declared.directions.Direction.{Direction}
 use Rattle.ped_views.specs.declared.directions.Direction.TheVariants.{Before, Same, After}
 use Rattle.ped_views.specs.Whole.{Divides, is_zero}
@@ -12,12 +13,16 @@ StandsByValue Before i j = i <ℤ j
 StandsByValue Same i j = i ≡ j
 StandsByValue After i j = j <ℤ i
 
--- a direction of iterations as one of values: a negative step takes the greater value first (Allen and Kennedy, section 2.2.2; ANSI X3.9-1978, section 11.10.7)
+-- a direction seen from the sink
+abbrev pub turned : Direction → Direction
+turned Before = After
+turned Same = Same
+turned After = Before
+
+-- a direction of iterations as one of values: a negative step takes the greater value first
 abbrev pub by_value : ℤ → Direction → Direction
 by_value (pos n) d = d
-by_value (negsuc n) Before = After
-by_value (negsuc n) Same = Same
-by_value (negsuc n) After = Before
+by_value (negsuc n) d = turned d
 
 -- i at the source and j at the sink stand in this direction of the loop's iterations (Allen and Kennedy, section 2.2.4)
 abbrev pub Stands : Range → Direction → ℤ → ℤ → Type 0
@@ -69,12 +74,12 @@ subscript_value row common inner = dot row.common common +ℤ dot row.inner inne
 abbrev pub difference : SubscriptPair → Indices → ℤ
 difference p at = subscript_value p.source at.source at.source_inner -ℤ subscript_value p.sink at.sink at.sink_inner
 
--- one index for each loop (plain words)
-pub record HasIndices (v : View) (at : Indices) : Type 0 where
-  pub source : length at.source ≡ length v.loops
-  pub sink : length at.sink ≡ length v.loops
-  pub source_inner : length at.source_inner ≡ length v.source_inner
-  pub sink_inner : length at.sink_inner ≡ length v.sink_inner
+-- one index for each coefficient
+pub record HasIndices (p : SubscriptPair) (at : Indices) : Type 0 where
+  pub source : length at.source ≡ length p.source.common
+  pub sink : length at.sink ≡ length p.sink.common
+  pub source_inner : length at.source_inner ≡ length p.source.inner
+  pub sink_inner : length at.sink_inner ≡ length p.sink.inner
 
 -- both sides have one index in each loop with `=` (Allen and Kennedy, section 3.3.3)
 abbrev pub SharesIndices : List Direction → List ℤ → List ℤ → Type 0
@@ -85,14 +90,16 @@ SharesIndices [] is js = Unit {0}
 SharesIndices (d ∷ ds) [] js = Unit {0}
 SharesIndices (d ∷ ds) (i ∷ is) [] = Unit {0}
 
--- no whole numbers whatever make the subscripts equal, where the two indices of a loop with `=` are one unknown (Allen and Kennedy, section 3.3.3: GCD test)
-abbrev pub HasNoSolution : View → SubscriptPair → List Direction → Type 0
-HasNoSolution v p vector = (at : Indices) → HasIndices v at → SharesIndices vector at.source at.sink → ¬ (difference p at ≡ pos 0)
+-- no whole numbers whatever make the subscripts equal, where the two indices of a loop with `=` are one unknown
+abbrev pub HasNoSolution : SubscriptPair → List Direction → Type 0
+HasNoSolution p vector = (at : Indices) → HasIndices p at → SharesIndices vector at.source at.sink → ¬ (difference p at ≡ pos 0)
 
--- the indices of the common loops that occur lie in their ranges and stand in their directions (Allen and Kennedy, section 3.3.3)
+-- the indices of the common loops that occur lie in their ranges and stand in their directions: behind the last direction, in any
 abbrev pub CommonInRange : List Range → List Direction → List ℤ → List ℤ → List ℤ → List ℤ → Type 0
 CommonInRange (r ∷ loops) (d ∷ vector) (a ∷ source) (b ∷ sink) (i ∷ is) (j ∷ js) =
     (IsTrue (is_zero a && is_zero b) ⊎ (InRange r i × InRange r j × Stands r d i j)) × CommonInRange loops vector source sink is js
+CommonInRange (r ∷ loops) [] (a ∷ source) (b ∷ sink) (i ∷ is) (j ∷ js) =
+    (IsTrue (is_zero a && is_zero b) ⊎ (InRange r i × InRange r j)) × CommonInRange loops [] source sink is js
 CommonInRange loops vector source sink is js = Unit {0}
 
 -- the indices of the further loops that occur lie in their ranges (Allen and Kennedy, section 3.3.3)
@@ -102,9 +109,9 @@ InnerInRange [] row indices = Unit {0}
 InnerInRange (r ∷ loops) [] indices = Unit {0}
 InnerInRange (r ∷ loops) (a ∷ row) [] = Unit {0}
 
--- a point of the ranges of the loops that occur, under the vector (Allen and Kennedy, section 3.3.3)
+-- a point of the ranges of the loops that occur, under the vector, or under a front of one and any directions behind it
 pub record IsPoint (v : View) (p : SubscriptPair) (vector : List Direction) (at : Indices) : Type 0 where
-  pub indices : HasIndices v at
+  pub indices : HasIndices p at
   pub common : CommonInRange v.loops vector p.source.common p.sink.common at.source at.sink
   pub source_inner : InnerInRange v.source_inner p.source.inner at.source_inner
   pub sink_inner : InnerInRange v.sink_inner p.sink.inner at.sink_inner
@@ -129,8 +136,12 @@ FormExcludes ziv v p vector = ¬ (p.source.constant ≡ p.sink.constant)
 FormExcludes (strong_siv o) v p vector = NeverMeetsInStep o.at_source o.at_sink p.source.constant p.sink.constant (loop_at v o.place) (direction_at vector o.place)
 FormExcludes (weak_zero_siv o) v p vector = NeverMeets o.at_source o.at_sink p.source.constant p.sink.constant (loop_at v o.place) (direction_at vector o.place)
 FormExcludes (weak_crossing_siv o) v p vector = NeverMeets o.at_source o.at_sink p.source.constant p.sink.constant (loop_at v o.place) (direction_at vector o.place)
-FormExcludes other_form v p vector = HasNoSolution v p vector ⊎ IsBeyondExtremes v p vector
+FormExcludes other_form v p vector = HasNoSolution p vector ⊎ IsBeyondExtremes v p vector
 
 -- the subscript pair excludes the vector; one that isn't usable excludes nothing (Allen and Kennedy, section 3.1: conservative testing)
 abbrev pub Excludes : View → SubscriptPair → List Direction → Type 0
 Excludes v p vector = IsTrue p.usable × FormExcludes (form_of p) v p vector
+
+-- a usable subscript pair of the view can't be zero under this front of a vector, whatever directions stand behind it
+abbrev pub IsDeadEnd : View → List Direction → Type 0
+IsDeadEnd v front = Any (λ p. IsTrue p.usable × IsBeyondExtremes v p front) v.positions

@@ -1,5 +1,6 @@
 pub mod Excluded
 pub mod Forms
+pub mod Intervals
 pub mod Limits
 pub mod Vectors
 pub mod Views

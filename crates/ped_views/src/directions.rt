@@ -11,3 +11,40 @@ pub enum Direction {
     /// `>`: the sink's iteration comes first.
     After,
 }
+
+impl Direction {
+    ghost use Rattle.std.specs.Prelude.{◌≡◌};
+    ghost use Rattle.ped_views.specs.Excluded as excluded;
+
+    /// This direction of a loop's iterations as one of its index values: a negative step takes the greater
+    /// value first.
+    pub fn by_value(self, step: i64) -> Direction
+        ensures { result ≡ excluded.by_value step self }
+    {
+        if step < 0 { self.turned() } else { self }
+    }
+
+    /// The direction seen from the sink.
+    pub fn turned(self) -> Direction
+        ensures { result ≡ excluded.turned self }
+    {
+        match self {
+            Direction::Before => Direction::After,
+            Direction::Same => Direction::Same,
+            Direction::After => Direction::Before,
+        }
+    }
+}
+
+#[cfg(test)]
+mod tests {
+    use super::*;
+
+    #[test]
+    fn a_negative_step_turns_directions_round(rt: HostRuntime) {
+        assert_eq!(rt; Direction::Before.by_value(3), Direction::Before);
+        assert_eq!(rt; Direction::Before.by_value(-3), Direction::After);
+        assert_eq!(rt; Direction::After.by_value(-1), Direction::Before);
+        assert_eq!(rt; Direction::Same.by_value(-1), Direction::Same);
+    }
+}

@@ -4,11 +4,19 @@
 #![tactic(auto)]
 
 mod directions;
+mod divisors;
+mod floors;
+mod intervals;
 mod quotients;
 mod ranges;
 mod subscripts;
+mod wide;
 
 pub use directions::Direction;
-pub use quotients::exact_quotient;
+pub use divisors::gcd;
+pub use floors::floor_div;
+pub use intervals::Interval;
+pub use quotients::{divides, exact_quotient};
 pub use ranges::LoopRange;
 pub use subscripts::{AffRow, PairView, Position};
+pub use wide::{difference, product};

@@ -1,6 +1,6 @@
 //! Quotients of whole numbers.
 
-ghost use Rattle.std.specs.Prelude.{◌≡◌, ◌≤◌, ◌^◌, ◌<ℤ◌, ◌*ℤ◌, pos, neg_ℤ, unsigned_abs, int_div, int_rem, MatchOption, IfSome};
+ghost use Rattle.std.specs.Prelude.{◌≡◌, ◌≤◌, ◌^◌, ◌<ℤ◌, ◌*ℤ◌, ◌↔◌, pos, neg_ℤ, unsigned_abs, int_div, int_rem, MatchOption, IfSome, IsTrue};
 ghost use Rattle.ped_views.specs.Whole.{Divides, whole_quotient};
 
 /// The whole number k with d * k = n: none exactly where `d` doesn't divide `n`. The divisor isn't 0,
@@ -19,7 +19,15 @@ pub fn exact_quotient(n: i128, d: i128) -> Option<i128>
     }
 }
 
-fn quotient(n: i128, d: i128) -> i128
+/// Whether `d` divides `n`: zero divides zero alone. Where the divisor isn't 0, the dividend isn't -2^127.
+pub fn divides(d: i128, n: i128) -> bool
+    requires { neg_ℤ (pos (2 ^ 127)) <ℤ n }
+    ensures { IsTrue result ↔ Divides d n }
+{
+    if d == 0 { n == 0 } else { remainder(n, d) == 0 }
+}
+
+pub(crate) fn quotient(n: i128, d: i128) -> i128
     requires dividend { neg_ℤ (pos (2 ^ 127)) <ℤ n }
     requires divisor { ¬ (d ≡ pos 0) }
     ensures value { result ≡ int_div n d }
@@ -28,7 +36,7 @@ fn quotient(n: i128, d: i128) -> i128
     n / d
 }
 
-fn remainder(n: i128, d: i128) -> i128
+pub(crate) fn remainder(n: i128, d: i128) -> i128
     requires dividend { neg_ℤ (pos (2 ^ 127)) <ℤ n }
     requires divisor { ¬ (d ≡ pos 0) }
     ensures { result ≡ int_rem n d }
@@ -51,5 +59,14 @@ mod tests {
         assert_eq!(rt; exact_quotient(-7, 3), None);
         assert_eq!(rt; exact_quotient(2, 6), None);
         assert_eq!(rt; exact_quotient(i128::MAX, -1), Some(-i128::MAX));
+    }
+
+    #[test]
+    fn zero_divides_zero_alone(rt: HostRuntime) {
+        assert!(rt; divides(0, 0));
+        assert!(rt; !divides(0, 3));
+        assert!(rt; divides(3, 0));
+        assert!(rt; divides(-3, 6));
+        assert!(rt; !divides(4, 6));
     }
 }

@@ -1,0 +1,4 @@
+mod Answering
+mod Distances
+mod Points
+mod Sums

@@ -1,0 +1,13 @@
+//! The dependence tests for subscripts in no index or in one common index (Allen and Kennedy, section 3.3).
+//! Each is a closed formula, and answers true exactly where its pair of subscripts excludes a direction.
+#![tactic(auto)]
+
+mod strong;
+mod weak_crossing;
+mod weak_zero;
+mod ziv;
+
+pub use strong::{strong_distance, strong_excludes};
+pub use weak_crossing::weak_crossing_excludes;
+pub use weak_zero::weak_zero_excludes;
+pub use ziv::ziv_excludes;

@@ -1,64 +1,102 @@
 -- How deep blocks stand behind a statement, and how many there are.
-use Rattle.std.proofs.Common.{ℕ, ◌+◌, ◌≤◌, ◌==◌, Bool, true, false, List, [], ◌∷◌, Option, Some, None, if◌then◌else◌, arith}
+use Rattle.std.proofs.Common.{ℕ, ◌+◌, ◌≤◌, Bool, true, false, List, [], ◌∷◌, Option, Some, None, if◌then◌else◌, arith}
+use Rattle.ped_grammar.specs.Statement.{Statement}
 use Rattle.ped_grammar.specs.Items.{Item, declares, saves_all, does, continues, logical_if, block_if, else_if, else_line, end_if, begins_do, keeps_private, ends_program, Reading, says, outside_profile, no_form, Entry}
-use Rattle.ped_grammar.specs.Contexts.{Block, in_then, in_else, in_do, Context, closed, closed_by, with_else, with_else_if, without_if, blocks_behind, may_end, is_do, behind}
+use Rattle.ped_grammar.specs.Contexts.{Block, in_then, in_else, in_do, Context, has_do, has_if, is_loop_with, left_by_label, left_by, left_in_if, with_else, with_else_if, without_if, with_private, blocks_behind, is_do, behind}
 use Rattle.ped_grammar.specs.ProgramRefusals.{block_depth}
 
 chosen_less : (b : Bool) (c d : List Block) (n : ℕ) → block_depth c ≤ n → block_depth d ≤ n → block_depth (if b then c else d) ≤ n
 chosen_less true c d n h k = h
 chosen_less false c d n h k = k
 
-closed_less : (l : ℕ) (c : List Block) → block_depth (closed l c) ≤ block_depth c
-closed_less l [] = omega arith
-closed_less l (in_then n ∷ c) = omega arith
-closed_less l (in_else n ∷ c) = omega arith
-closed_less l (in_do m v ∷ c) =
-    let inner : block_depth (closed l c) ≤ block_depth c = closed_less l c in
-    chosen_less (m == l) (closed l c) (in_do m v ∷ c) (block_depth c + 1) (omega arith) (omega arith)
+outer_less : (b : Block) (c : List Block) → block_depth c ≤ block_depth (b ∷ c)
+outer_less (in_then n) c = omega arith
+outer_less (in_else n) c = omega arith
+outer_less (in_do d) c = omega arith
 
-closed_by_less : (label : Option ℕ) (c : List Block) → block_depth (closed_by label c) ≤ block_depth c + 1
-closed_by_less None c = omega arith
-closed_by_less (Some l) c = let h : block_depth (closed l c) ≤ block_depth c = closed_less l c in omega arith
+left_by_label_less : (l : ℕ) (c : List Block) → block_depth (left_by_label l c) ≤ block_depth c
+left_by_label_less l [] = omega arith
+left_by_label_less l (b ∷ c) =
+    let outer : block_depth c ≤ block_depth (b ∷ c) = outer_less b c in
+    let inner : block_depth (left_by_label l c) ≤ block_depth c = left_by_label_less l c in
+    chosen_less (has_do l c) (left_by_label l c) (if is_loop_with l b then c else b ∷ c) (block_depth (b ∷ c)) (omega arith)
+    (chosen_less (is_loop_with l b) c (b ∷ c) (block_depth (b ∷ c)) outer (omega arith))
 
-with_else_if_less : (c : List Block) → block_depth (with_else_if c) ≤ block_depth c + 1
-with_else_if_less [] = omega arith
-with_else_if_less (in_then n ∷ c) = omega arith
-with_else_if_less (in_else n ∷ c) = omega arith
-with_else_if_less (in_do l v ∷ c) = omega arith
+-- a label leaves no more open
+pub left_by_less : (label : Option ℕ) (c : List Block) → block_depth (left_by label c) ≤ block_depth c
+left_by_less None c = omega arith
+left_by_less (Some l) c = left_by_label_less l c
 
-with_else_less : (c : List Block) → block_depth (with_else c) ≤ block_depth c + 1
-with_else_less [] = omega arith
-with_else_less (in_then n ∷ c) = omega arith
-with_else_less (in_else n ∷ c) = omega arith
-with_else_less (in_do l v ∷ c) = omega arith
+-- nor do ELSE, ELSE IF and END IF
+pub in_if_less : (c : List Block) → block_depth (left_in_if c) ≤ block_depth c
+in_if_less [] = omega arith
+in_if_less (in_then n ∷ c) = omega arith
+in_if_less (in_else n ∷ c) = omega arith
+in_if_less (in_do d ∷ c) =
+    let inner : block_depth (left_in_if c) ≤ block_depth c = in_if_less c in
+    chosen_less (has_if c) (left_in_if c) (in_do d ∷ c) (block_depth c + 1) (omega arith) (omega arith)
 
-without_if_less : (c : List Block) → block_depth (without_if c) ≤ block_depth c + 1
-without_if_less [] = omega arith
-without_if_less (in_then n ∷ c) = omega arith
-without_if_less (in_else n ∷ c) = omega arith
-without_if_less (in_do l v ∷ c) = omega arith
+else_if_less : (c : List Block) → block_depth (with_else_if c) ≤ block_depth c + 1
+else_if_less [] = omega arith
+else_if_less (in_then n ∷ c) = omega arith
+else_if_less (in_else n ∷ c) = omega arith
+else_if_less (in_do d ∷ c) = omega arith
+
+else_less : (c : List Block) → block_depth (with_else c) ≤ block_depth c + 1
+else_less [] = omega arith
+else_less (in_then n ∷ c) = omega arith
+else_less (in_else n ∷ c) = omega arith
+else_less (in_do d ∷ c) = omega arith
+
+without_less : (c : List Block) → block_depth (without_if c) ≤ block_depth c + 1
+without_less [] = omega arith
+without_less (in_then n ∷ c) = omega arith
+without_less (in_else n ∷ c) = omega arith
+without_less (in_do d ∷ c) = omega arith
+
+private_less : (line : ℕ) (names : List (List ℕ)) (c : List Block) → block_depth (with_private line names c) ≤ block_depth c
+private_less line names [] = omega arith
+private_less line names (in_then n ∷ c) = omega arith
+private_less line names (in_else n ∷ c) = omega arith
+private_less line names (in_do d ∷ c) = omega arith
 
 -- one deeper at most
-item_less : (label : Option ℕ) (i : Item) (c : List Block) → block_depth (blocks_behind label i c) ≤ block_depth c + 1
-item_less label (declares d) c = omega arith
-item_less label saves_all c = omega arith
-item_less label (does s) c = chosen_less (may_end (does s)) (closed_by label c) c (block_depth c + 1) (closed_by_less label c) (omega arith)
-item_less label continues c = closed_by_less label c
-item_less label (logical_if e s) c = closed_by_less label c
-item_less label (block_if e) c = omega arith
-item_less label (else_if e) c = with_else_if_less c
-item_less label else_line c = with_else_less c
-item_less label end_if c = without_if_less c
-item_less label (begins_do l h) c = omega arith
-item_less label (keeps_private names) c = omega arith
-item_less label ends_program c = omega arith
+item_less : (behind_do : Bool) (s : Statement) (i : Item) (c : List Block) → block_depth (blocks_behind behind_do s i c) ≤ block_depth c + 1
+item_less behind_do s (declares d) c = omega (arith, left_by_less s.label c)
+item_less behind_do s saves_all c = omega (arith, left_by_less s.label c)
+item_less behind_do s (does t) c = omega (arith, left_by_less s.label c)
+item_less behind_do s continues c = omega (arith, left_by_less s.label c)
+item_less behind_do s (logical_if e t) c = omega (arith, left_by_less s.label c)
+item_less behind_do s (block_if e) c = omega (arith, left_by_less s.label c)
+item_less behind_do s (else_if e) c =
+    let left = left_by s.label c in
+    let h : block_depth (with_else_if (left_in_if left)) ≤ block_depth c + 1 =
+    omega (arith, left_by_less s.label c, in_if_less left, else_if_less (left_in_if left)) in
+    h
+item_less behind_do s else_line c =
+    let left = left_by s.label c in
+    let h : block_depth (with_else (left_in_if left)) ≤ block_depth c + 1 =
+    omega (arith, left_by_less s.label c, in_if_less left, else_less (left_in_if left)) in
+    h
+item_less behind_do s end_if c =
+    let left = left_by s.label c in
+    let h : block_depth (without_if (left_in_if left)) ≤ block_depth c + 1 =
+    omega (arith, left_by_less s.label c, in_if_less left, without_less (left_in_if left)) in
+    h
+item_less behind_do s (begins_do l h) c = omega (arith, left_by_less s.label c)
+item_less behind_do s (keeps_private names) c =
+    let kept = with_private s.line names c in
+    let h : block_depth (left_by s.label (if behind_do then kept else c)) ≤ block_depth c + 1 =
+    omega (arith, left_by_less s.label (if behind_do then kept else c), chosen_less behind_do kept c (block_depth c) (private_less s.line names c) (omega arith)) in
+    h
+item_less behind_do s ends_program c = omega arith
 
 pub deeper : (c : Context) (e : Entry) → block_depth (behind c e).blocks ≤ block_depth c.blocks + 1
 deeper c e = by e.reading where
   by : (r : Reading) → block_depth (behind c record { statement = e.statement; reading = r }).blocks ≤ block_depth c.blocks + 1
-  by (says i) = item_less e.statement.label i c.blocks
-  by outside_profile = omega arith
-  by no_form = omega arith
+  by (says i) = item_less c.behind_do e.statement i c.blocks
+  by outside_profile = omega (arith, left_by_less e.statement.label c.blocks)
+  by no_form = omega (arith, left_by_less e.statement.label c.blocks)
 
 one_loop : (b : Bool) (n : ℕ) → n + (if b then 1 else 0) ≤ n + 1
 one_loop true n = omega arith

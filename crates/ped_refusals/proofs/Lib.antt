@@ -1,12 +1,10 @@
 pub mod Collecting
 pub mod Depths
+pub mod Leaving
 pub mod Likeness
-pub mod Looking
 pub mod Members
-pub mod NameEquality
 pub mod Opening
 pub mod Passing
 pub mod Reaching
 pub mod Rejections
-pub mod Silences
 pub mod Stepping

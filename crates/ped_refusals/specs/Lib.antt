@@ -1,6 +1,3 @@
 pub mod Collecting
-pub mod Limits
 pub mod OpenBlocks
 pub mod OpenContexts
-pub mod Silences
-pub mod Views

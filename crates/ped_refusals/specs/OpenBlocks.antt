@@ -2,14 +2,19 @@
 use Rattle.std.specs.Prelude.{List, [], ◌∷◌}
 use Rattle.ped_grammar.specs.Contexts as plain
 use Rattle.ped_grammar.specs.Contexts.{in_then, in_else, in_do}
+use Rattle.ped_refusals.specs.declared.blocks.OpenLoop.{OpenLoop}
 use Rattle.ped_refusals.specs.declared.blocks.Block.{Block}
 use Rattle.ped_refusals.specs.declared.blocks.Block.TheVariants as block
+
+-- an open loop
+abbrev pub loop_of : OpenLoop → plain.OpenLoop
+loop_of d = record { label = d.label; variable = d.variable; private = d.private; private_line = d.private_line }
 
 -- an open block
 abbrev pub block_of : Block → plain.Block
 block_of (block.Then n) = in_then n
 block_of (block.Else n) = in_else n
-block_of (block.Loop label variable) = in_do label variable
+block_of (block.Loop d) = in_do (loop_of d)
 
 -- blocks that stand in one another within these, the outermost first, with the innermost first
 abbrev pub opened_in : List plain.Block → List Block → List plain.Block

@@ -3,32 +3,46 @@
 
 ghost use Rattle.std.specs.Prelude.{◌≡◌, ◌+◌, ◌<◌, ◌≤◌, ◌^◌, List, [], ◌∷◌, ◌++◌, length, take, IfOk, OnOk, MatchOption, ◌||◌, if◌then◌else◌};
 ghost use Rattle.ped_grammar.specs.Contexts as Contexts;
-ghost use Rattle.ped_grammar.specs.Contexts.{Block as PlainBlock};
+ghost use Rattle.ped_grammar.specs.Contexts.{Block as PlainBlock, in_do};
 ghost use Rattle.ped_grammar.specs.ProgramRefusals as Spec;
 ghost use Rattle.ped_base.specs.Lists.{has_some};
 ghost use Rattle.ped_tree.specs.Views.{stmt_tree};
-ghost use Rattle.ped_grammar.specs.ItemViews.{item_of};
-ghost use Rattle.ped_refusals.specs.OpenBlocks.{block_of, blocks_of};
+ghost use Rattle.ped_grammar.specs.StatementViews.{statement_of};
+ghost use Rattle.ped_grammar.specs.ItemViews.{item_of, do_head};
+ghost use Rattle.ped_refusals.specs.OpenBlocks.{loop_of, block_of, blocks_of};
 
-use ped_base::{Name, NoMemory};
-use ped_grammar::Item;
+use ped_base::{Listed, Name, Names, NoMemory};
+use ped_grammar::{DoStatement, Item, Statement};
 use ped_tree::Stmt;
 use std::alloc::Global;
 
+/// A DO loop that is open.
+#[derive(Drop)]
+pub struct OpenLoop {
+    /// The label of the statement that ends it.
+    pub label: u32,
+    /// The DO variable.
+    pub variable: Name,
+    /// The names of its PRIVATE statement, none before that.
+    pub private: Names,
+    /// The line of its PRIVATE statement, 0 before that.
+    pub private_line: u64,
+}
+
 /// An open block.
-#[derive(Clone, Copy)]
+#[derive(Drop)]
 pub enum Block {
     /// The THEN part of an IF, which counts with each of its ELSE IFs.
     Then(usize),
     /// The ELSE part, counted in the same way.
     Else(usize),
-    /// A DO loop by the label of the statement that ends it and by its variable.
-    Loop(u32, Name),
+    /// A DO loop.
+    Loop(OpenLoop),
 }
 
 /// The innermost block and those round it.
 #[tactic(auto, using(crate::proofs::Opening::blocks_push))]
-fn split_innermost(blocks: &[Block]) -> Option<(&Block, &[Block])>
+pub fn split_innermost(blocks: &[Block]) -> Option<(&Block, &[Block])>
     ensures is { MatchOption result (blocks_of blocks.now ≡ []) (λ p. blocks_of blocks.now ≡ block_of p.0.now ∷ blocks_of p.1.now) }
     ensures less { MatchOption result (blocks.now ≡ []) (λ p. length p.1.now + 1 ≡ length blocks.now) }
     ensures front { MatchOption result (blocks.now ≡ []) (λ p. p.1.now ≡ take (length p.1.now) blocks.now) }
@@ -44,7 +58,7 @@ pub fn is_in_do(blocks: &[Block]) -> bool
     ensures { result ≡ Spec.is_in_do (blocks_of blocks.now) }
 {
     match split_innermost(blocks) {
-        Some((Block::Loop(_, _), _)) => true,
+        Some((Block::Loop(_), _)) => true,
         _ => false,
     }
 }
@@ -61,7 +75,7 @@ pub fn is_in_block(blocks: &[Block]) -> bool
 
 /// Whether a DO with this label is open.
 pub fn has_do(blocks: &[Block], label: u32) -> bool
-    ensures { result ≡ Spec.has_do label (blocks_of blocks.now) }
+    ensures { result ≡ Contexts.has_do label (blocks_of blocks.now) }
 {
     let mut left = blocks;
     while let Some((block, outer)) = split_innermost(left) {
@@ -74,10 +88,10 @@ pub fn has_do(blocks: &[Block], label: u32) -> bool
 }
 
 fn is_loop_with(block: &Block, label: u32) -> bool
-    ensures { (outer : List PlainBlock) → Spec.has_do label (block_of block.now ∷ outer) ≡ (result || Spec.has_do label outer) }
+    ensures { (outer : List PlainBlock) → Contexts.has_do label (block_of block.now ∷ outer) ≡ (result || Contexts.has_do label outer) }
 {
     match block {
-        Block::Loop(own, _) => *own == label,
+        Block::Loop(d) => d.label == label,
         Block::Then(_) | Block::Else(_) => false,
     }
 }
@@ -91,7 +105,7 @@ pub fn takes_else(blocks: &[Block]) -> bool
         match block {
             Block::Then(_) => return true,
             Block::Else(_) => return false,
-            Block::Loop(_, _) => left = outer,
+            Block::Loop(_) => left = outer,
         }
     }
     false
@@ -99,13 +113,13 @@ pub fn takes_else(blocks: &[Block]) -> bool
 
 /// Whether an IF is open.
 pub fn has_if(blocks: &[Block]) -> bool
-    ensures { result ≡ Spec.has_if (blocks_of blocks.now) }
+    ensures { result ≡ Contexts.has_if (blocks_of blocks.now) }
 {
     let mut left = blocks;
     while let Some((block, outer)) = split_innermost(left) {
         match block {
             Block::Then(_) | Block::Else(_) => return true,
-            Block::Loop(_, _) => left = outer,
+            Block::Loop(_) => left = outer,
         }
     }
     false
@@ -120,7 +134,7 @@ pub fn loop_depth(blocks: &[Block]) -> usize
     let mut depth = 0;
     while let Some((block, outer)) = split_innermost(left) {
         match block {
-            Block::Loop(_, _) => depth += 1,
+            Block::Loop(_) => depth += 1,
             Block::Then(_) | Block::Else(_) => {}
         }
         left = outer;
@@ -147,13 +161,13 @@ fn depth_of(block: &Block) -> usize
 {
     match block {
         Block::Then(ifs) | Block::Else(ifs) => *ifs,
-        Block::Loop(_, _) => 1,
+        Block::Loop(_) => 1,
     }
 }
 
 /// The variables of the open loops.
 pub fn open_variables(alloc: Global, blocks: &[Block]) -> Result<Vec<Name>, NoMemory>
-    ensures { IfOk result (λ names. names.items ≡ Spec.open_variables (blocks_of blocks.now)) }
+    ensures { IfOk result (λ names. names.items ≡ Contexts.open_variables (blocks_of blocks.now)) }
 {
     let mut left = blocks;
     let mut names = Vec::new(alloc);
@@ -165,17 +179,17 @@ pub fn open_variables(alloc: Global, blocks: &[Block]) -> Result<Vec<Name>, NoMe
 }
 
 fn push_variable(names: &mut Vec<Name>, block: &Block) -> Result<(), NoMemory>
-    ensures { OnOk result ((outer : List PlainBlock) → names.new.items ++ Spec.open_variables outer ≡ names.old.items ++ Spec.open_variables (block_of block.now ∷ outer)) }
+    ensures { OnOk result ((outer : List PlainBlock) → names.new.items ++ Contexts.open_variables outer ≡ names.old.items ++ Contexts.open_variables (block_of block.now ∷ outer)) }
 {
     match block {
-        Block::Loop(_, variable) => Ok(names.push(*variable)?),
+        Block::Loop(d) => Ok(names.push(d.variable)?),
         Block::Then(_) | Block::Else(_) => Ok(()),
     }
 }
 
 /// The blocks that are open where the innermost loops with this label are closed.
 pub fn outside(blocks: &[Block], label: u32) -> &[Block]
-    ensures is { blocks_of result.now ≡ Contexts.closed label (blocks_of blocks.now) }
+    ensures is { blocks_of result.now ≡ Spec.closed label (blocks_of blocks.now) }
     ensures front { result.now ≡ take (length result.now) blocks.now }
 {
     let mut left = blocks;
@@ -189,40 +203,128 @@ pub fn outside(blocks: &[Block], label: u32) -> &[Block]
 }
 
 fn closes(block: &Block, label: u32) -> bool
-    ensures { (outer : List PlainBlock) → Contexts.closed label (block_of block.now ∷ outer) ≡ (if result then Contexts.closed label outer else block_of block.now ∷ outer) }
+    ensures { (outer : List PlainBlock) → Spec.closed label (block_of block.now ∷ outer) ≡ (if result then Spec.closed label outer else block_of block.now ∷ outer) }
 {
     match block {
-        Block::Loop(own, _) => *own == label,
+        Block::Loop(d) => d.label == label,
         Block::Then(_) | Block::Else(_) => false,
     }
 }
 
-/// Takes the blocks on behind a statement with this label.
-pub fn take_on(blocks: &mut Vec<Block>, label: Option<u32>, item: &Item) -> Result<(), NoMemory>
+/// Takes the blocks on behind a statement that says this, where `behind_do` is whether the statement
+/// before it is a DO.
+pub fn take_on(
+    alloc: Global,
+    blocks: &mut Vec<Block>,
+    behind_do: bool,
+    statement: &Statement,
+    item: &Item,
+) -> Result<(), NoMemory>
     requires { Spec.block_depth (blocks_of blocks.old.items) + 1 < 2 ^ 64 }
-    ensures ok { OnOk result (blocks_of blocks.new.items ≡ Contexts.blocks_behind label (item_of item.now) (blocks_of blocks.old.items)) }
+    ensures { OnOk result (blocks_of blocks.new.items
+        ≡ Contexts.blocks_behind behind_do (statement_of statement.now) (item_of item.now) (blocks_of blocks.old.items)) }
 {
     match item {
-        Item::Simple(stmt) => {
-            if !is_stop(stmt) {
-                close(blocks, label);
+        Item::Private(names) => {
+            if behind_do {
+                keep_private(blocks, statement.line, copied(alloc, names.as_slice())?)?;
             }
+            leave_by(blocks, statement.label);
             Ok(())
         }
-        Item::Continue | Item::LogicalIf(_, _) => {
-            close(blocks, label);
+        Item::End => {
+            blocks.clear();
             Ok(())
         }
-        Item::BlockIf(_) => open_block(blocks, Block::Then(1)),
-        Item::ElseIf(_) => begin_else_if(blocks),
-        Item::Else => begin_else(blocks),
+        Item::BlockIf(_) => {
+            leave_by(blocks, statement.label);
+            open_block(blocks, Block::Then(1))
+        }
+        Item::ElseIf(_) => {
+            leave_by(blocks, statement.label);
+            begin_else_if(blocks)
+        }
+        Item::Else => {
+            leave_by(blocks, statement.label);
+            begin_else(blocks)
+        }
         Item::EndIf => {
+            leave_by(blocks, statement.label);
             end_if(blocks);
             Ok(())
         }
-        Item::Do(d) => open_block(blocks, Block::Loop(d.label, d.variable)),
-        Item::Declaration(_) | Item::SaveAll | Item::Private(_) | Item::End => Ok(()),
+        Item::Do(d) => {
+            leave_by(blocks, statement.label);
+            open_block(blocks, begun(alloc, d))
+        }
+        Item::Declaration(_)
+        | Item::SaveAll
+        | Item::Simple(_)
+        | Item::Continue
+        | Item::LogicalIf(_, _) => {
+            leave_by(blocks, statement.label);
+            Ok(())
+        }
     }
+}
+
+/// Ends what a statement's label ends, where it has one: the outermost loop with that label, and all that
+/// was begun in it.
+pub fn leave_by(blocks: &mut Vec<Block>, label: Option<u32>)
+    ensures { blocks_of blocks.new.items ≡ Contexts.left_by label (blocks_of blocks.old.items) }
+{
+    if let Some(label) = label {
+        let left = outside_all(blocks, label).len();
+        blocks.truncate(left);
+    }
+}
+
+/// The blocks round the outermost loop with this label, all blocks where there is none.
+fn outside_all(blocks: &[Block], label: u32) -> &[Block]
+    ensures is { blocks_of result.now ≡ Contexts.left_by_label label (blocks_of blocks.now) }
+    ensures front { result.now ≡ take (length result.now) blocks.now }
+{
+    for (i, block) in blocks.iter().enumerate() {
+        if is_loop_with(block, label) {
+            return &blocks[..i];
+        }
+    }
+    blocks
+}
+
+/// Ends what was begun in the innermost IF, where there is one.
+fn leave_in_if(blocks: &mut Vec<Block>)
+    ensures { blocks_of blocks.new.items ≡ Contexts.left_in_if (blocks_of blocks.old.items) }
+{
+    let left = up_to_if(blocks).len();
+    blocks.truncate(left);
+}
+
+/// The blocks up to the innermost IF, all blocks where there is none.
+fn up_to_if(blocks: &[Block]) -> &[Block]
+    ensures is { blocks_of result.now ≡ Contexts.left_in_if (blocks_of blocks.now) }
+    ensures front { result.now ≡ take (length result.now) blocks.now }
+{
+    let mut left = blocks;
+    while let Some((block, outer)) = split_innermost(left) {
+        match block {
+            Block::Then(_) | Block::Else(_) => return left,
+            Block::Loop(_) => left = outer,
+        }
+    }
+    blocks
+}
+
+/// A loop that has just begun.
+fn begun(alloc: Global, d: &DoStatement) -> Block
+    ensures { block_of result ≡ in_do (Contexts.begun d.now.label (do_head d.now)) }
+{
+    Block::Loop(OpenLoop {
+        label: d.label,
+        variable: d.variable,
+        private: Listed::new(alloc),
+        private_line: 0,
+    })
 }
 
 /// Whether a statement is STOP.
@@ -232,15 +334,6 @@ pub fn is_stop(stmt: &Stmt) -> bool
     match stmt {
         Stmt::Stop => true,
         _ => false,
-    }
-}
-
-fn close(blocks: &mut Vec<Block>, label: Option<u32>)
-    ensures { blocks_of blocks.new.items ≡ Contexts.closed_by label (blocks_of blocks.old.items) }
-{
-    if let Some(label) = label {
-        let left = outside(blocks, label).len();
-        blocks.truncate(left);
     }
 }
 
@@ -259,10 +352,41 @@ fn close_innermost(blocks: &mut Vec<Block>) -> Option<Block>
     blocks.pop()
 }
 
+/// PRIVATE on this line belongs to the innermost block, which is a DO.
+fn keep_private(blocks: &mut Vec<Block>, line: u64, names: Names) -> Result<(), NoMemory>
+    ensures { OnOk result (blocks_of blocks.new.items ≡ Contexts.with_private line names (blocks_of blocks.old.items)) }
+{
+    match close_innermost(blocks) {
+        Some(Block::Loop(d)) => open_block(blocks, with_private(d, line, names)),
+        Some(other) => open_block(blocks, other),
+        None => Ok(()),
+    }
+}
+
+/// The loop with the names and the line of its PRIVATE statement.
+fn with_private(d: OpenLoop, line: u64, names: Names) -> Block
+    ensures { block_of result ≡ in_do (record (loop_of d) { private = names; private_line = line }) }
+{
+    Block::Loop(OpenLoop {
+        label: d.label,
+        variable: d.variable,
+        private: names,
+        private_line: line,
+    })
+}
+
+fn copied(alloc: Global, names: &[Name]) -> Result<Names, NoMemory>
+    ensures { IfOk result (λ copy. copy ≡ names.now) }
+{
+    Ok(Listed::from_vec(Vec::from_slice(alloc, names)?))
+}
+
+#[tactic(auto, using(crate::proofs::Depths::in_if_less))]
 fn begin_else_if(blocks: &mut Vec<Block>) -> Result<(), NoMemory>
     requires { Spec.block_depth (blocks_of blocks.old.items) + 1 < 2 ^ 64 }
-    ensures { OnOk result (blocks_of blocks.new.items ≡ Contexts.with_else_if (blocks_of blocks.old.items)) }
+    ensures { OnOk result (blocks_of blocks.new.items ≡ Contexts.with_else_if (Contexts.left_in_if (blocks_of blocks.old.items))) }
 {
+    leave_in_if(blocks);
     match close_innermost(blocks) {
         Some(Block::Then(ifs)) => open_block(blocks, Block::Then(ifs + 1)),
         Some(other) => open_block(blocks, other),
@@ -271,8 +395,9 @@ fn begin_else_if(blocks: &mut Vec<Block>) -> Result<(), NoMemory>
 }
 
 fn begin_else(blocks: &mut Vec<Block>) -> Result<(), NoMemory>
-    ensures { OnOk result (blocks_of blocks.new.items ≡ Contexts.with_else (blocks_of blocks.old.items)) }
+    ensures { OnOk result (blocks_of blocks.new.items ≡ Contexts.with_else (Contexts.left_in_if (blocks_of blocks.old.items))) }
 {
+    leave_in_if(blocks);
     match close_innermost(blocks) {
         Some(Block::Then(ifs)) => open_block(blocks, Block::Else(ifs)),
         Some(other) => open_block(blocks, other),
@@ -281,8 +406,9 @@ fn begin_else(blocks: &mut Vec<Block>) -> Result<(), NoMemory>
 }
 
 fn end_if(blocks: &mut Vec<Block>)
-    ensures { blocks_of blocks.new.items ≡ Contexts.without_if (blocks_of blocks.old.items) }
+    ensures { blocks_of blocks.new.items ≡ Contexts.without_if (Contexts.left_in_if (blocks_of blocks.old.items)) }
 {
+    leave_in_if(blocks);
     if !is_in_do(blocks) {
         close_innermost(blocks);
     }

@@ -7,15 +7,16 @@ ghost use Rattle.ped_grammar.specs.ProgramRefusals.{block_depth};
 ghost use Rattle.ped_base.specs.Lists.{is_among};
 ghost use Rattle.ped_grammar.specs.Occurrences.{constants_of};
 ghost use Rattle.ped_tree.specs.Views.{decl_tree, value_tree};
+ghost use Rattle.ped_grammar.specs.StatementViews.{statement_of};
 ghost use Rattle.ped_grammar.specs.ItemViews.{item_of, entry_of};
 ghost use Rattle.ped_refusals.specs.OpenBlocks.{blocks_of};
 ghost use Rattle.ped_refusals.specs.OpenContexts.{context_of, IsLike};
 
-use crate::blocks::{Block, take_on};
+use crate::blocks::{Block, leave_by, take_on};
 use crate::limits::numbered_in;
-use crate::names::NameSet;
 use ped_base::{Name, NoMemory};
-use ped_grammar::{Entry, Item, StatementReading};
+use ped_grammar::{Entry, Item, Statement, StatementReading};
+use ped_limits::NameSet;
 use ped_tree::{Decl, Expr};
 use std::alloc::Global;
 
@@ -58,34 +59,49 @@ impl Context {
     }
 
     /// The context behind a statement.
-    pub fn behind(self, entry: &Entry) -> Result<Context, NoMemory>
+    pub fn behind(self, alloc: Global, entry: &Entry) -> Result<Context, NoMemory>
         requires blocks { block_depth (blocks_of self.blocks.items) + 1 < 2 ^ 64 }
         requires loops { self.loops + 1 < 2 ^ 64 }
         ensures { IfOk result (λ c. IsLike (Spec.behind (context_of self) (entry_of entry.now)) (context_of c)) }
     {
         match &entry.reading {
-            StatementReading::Says(item) => self.behind_item(entry.statement.label, item),
+            StatementReading::Says(item) => self.behind_item(alloc, &entry.statement, item),
             StatementReading::OutsideProfile | StatementReading::NoForm => {
-                Ok(self.behind_other())
+                Ok(self.behind_other(&entry.statement))
             }
         }
     }
 
-    fn behind_other(self) -> Context
-        ensures { context_of result ≡ record (context_of self) { behind_do = false } }
-    {
-        let mut context = self;
-        context.behind_do = false;
-        context
-    }
-
-    fn behind_item(self, label: Option<u32>, item: &Item) -> Result<Context, NoMemory>
-        requires blocks { block_depth (blocks_of self.blocks.items) + 1 < 2 ^ 64 }
-        requires loops { self.loops + 1 < 2 ^ 64 }
-        ensures { IfOk result (λ c. IsLike (Spec.behind_item (context_of self) label (item_of item.now)) (context_of c)) }
+    /// The context behind a statement whose text says nothing.
+    fn behind_other(self, statement: &Statement) -> Context
+        ensures { context_of result ≡ record (context_of self) { blocks = Spec.left_by (statement_of statement.now).label (blocks_of self.blocks.items); behind_do = false } }
     {
         let mut blocks = self.blocks;
-        take_on(&mut blocks, label, item)?;
+        leave_by(&mut blocks, statement.label);
+        Context {
+            phase: self.phase,
+            blocks,
+            statements: self.statements,
+            loops: self.loops,
+            constants: self.constants,
+            saves_names: self.saves_names,
+            saves_everything: self.saves_everything,
+            behind_do: false,
+        }
+    }
+
+    fn behind_item(
+        self,
+        alloc: Global,
+        statement: &Statement,
+        item: &Item,
+    ) -> Result<Context, NoMemory>
+        requires blocks { block_depth (blocks_of self.blocks.items) + 1 < 2 ^ 64 }
+        requires loops { self.loops + 1 < 2 ^ 64 }
+        ensures { IfOk result (λ c. IsLike (Spec.behind_item (context_of self) (statement_of statement.now) (item_of item.now)) (context_of c)) }
+    {
+        let mut blocks = self.blocks;
+        take_on(alloc, &mut blocks, self.behind_do, statement, item)?;
         let mut constants = self.constants;
         add_constants(&mut constants, item)?;
         Ok(Context {

@@ -16,9 +16,8 @@ ghost use Rattle.ped_refusals.specs.OpenContexts.{context_of};
 
 use crate::contexts::{Context, is_do};
 use crate::occurrences::rejected_name;
-use crate::refusals::{Refusal, RefusalKind, standing};
 use crate::structure::is_behind_end;
-use ped_grammar::{Entry, NoteLine, Statement, StatementReading};
+use ped_grammar::{Entry, NoteLine, Refusal, RefusalKind, Statement, StatementReading, standing};
 
 /// The first of what was found and what stands at the directives of a statement, each at its own line.
 #[tactic(auto, using(ped_grammar::proofs::First::earliest_append))]

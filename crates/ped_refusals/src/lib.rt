@@ -4,20 +4,15 @@
 
 mod blocks;
 mod contexts;
-mod counting;
 mod directives;
 mod indices;
 mod limits;
-mod literals;
-mod names;
 mod occurrences;
 mod refusals;
 mod saving;
 mod structure;
 
-pub use limits::{Before, passes_limit};
-pub use names::NameSet;
-pub use refusals::{Refusal, RefusalKind, first_refusal};
+pub use refusals::first_refusal;
 pub use saving::saved_names;
 
 #[cfg(test)]

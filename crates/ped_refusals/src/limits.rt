@@ -1,85 +1,88 @@
-//! The limits of the profile: literals and arrays, the number of statements, how deep they nest, the
-//! references of one statement, and its printed length.
+//! Whether a statement passes a limit of the profile: by its literals and arrays, the number of statements,
+//! how deep they nest, its references, and its printed length.
 
-ghost use Rattle.std.specs.Prelude.{◌≡◌, List, ℕ, nat_lt, length};
-ghost use Rattle.ped_grammar.specs.Contexts as Contexts;
+ghost use Rattle.std.specs.Prelude.{◌≡◌, ◌<◌, ◌^◌, map, nat_lt, length};
 ghost use Rattle.ped_tree.specs.Printing.{own_text, do_text, label_text};
 ghost use Rattle.ped_tree.specs.Views.{stmt_tree};
-ghost use Rattle.ped_grammar.specs.ProgramRefusals as Spec;
-ghost use Rattle.ped_grammar.specs.ItemViews.{item_of, do_head};
 ghost use Rattle.ped_print.specs.Lengths.{limited};
-ghost use Rattle.ped_refusals.specs.Limits as Limits;
-ghost use Rattle.ped_refusals.specs.Limits.{AreSilent, is_nested_too_deep};
-ghost use Rattle.ped_refusals.specs.Silences.{silent_names};
+ghost use Rattle.ped_grammar.specs.Contexts as Contexts;
+ghost use Rattle.ped_grammar.specs.LimitNumbers.{most_characters};
+ghost use Rattle.ped_grammar.specs.Occurrences.{of_reading};
+ghost use Rattle.ped_grammar.specs.ProgramRefusals as Spec;
+ghost use Rattle.ped_grammar.specs.ProgramRefusals.{block_depth};
+ghost use Rattle.ped_grammar.specs.ItemViews.{item_of, do_head, reading_of, entry_of};
+ghost use Rattle.ped_refusals.specs.OpenBlocks.{blocks_of};
+ghost use Rattle.ped_refusals.specs.OpenContexts.{context_of};
 
-use crate::counting::{Silent, has_many_references, statement_count};
-use crate::literals::is_too_large;
-use crate::names::NameSet;
+use crate::blocks::{Block, block_depth, loop_depth};
+use crate::contexts::Context;
 use ped_base::Name;
-use ped_grammar::{DoStatement, Item};
+use ped_expressions::cond_has_large_literal;
+use ped_grammar::{DoStatement, Entry, Item, StatementReading};
+use ped_limits::{
+    MOST_BLOCKS_NESTED, MOST_CHARACTERS, MOST_LOOPS_NESTED, MOST_REFERENCES, MOST_STATEMENTS,
+    NameSet, cond_references, decl_has_large_literal, do_references, has_eight_dimensions,
+    head_has_large_literal, references, statement_count, stmt_has_large_literal,
+};
 use ped_print::{decl_length, do_length, if_length, own_length, private_length, save_length};
 use ped_tree::Stmt;
 
-/// The most numbered statements of a program.
-const MOST_STATEMENTS: usize = 4_000;
-
-/// The most DO loops that stand in one another.
-const MOST_LOOPS: usize = 6;
-
-/// The most DO loops and IFs that stand in one another.
-const MOST_BLOCKS: usize = 100;
-
-/// The most characters of a printed statement.
-const MOST_CHARACTERS: usize = 1_300;
-
-/// How far a program has come where a statement begins.
-#[derive(Clone, Copy, Debug, PartialEq, Eq)]
-pub struct Before {
-    /// How many numbered statements stand before it.
-    pub statements: usize,
-    /// How many DO loops begin before it.
-    pub loops: usize,
-    /// How many DO loops are open.
-    pub loop_depth: usize,
-    /// How many DO loops and IFs are open, each ELSE IF an IF more.
-    pub block_depth: usize,
-}
-
-/// Whether a statement passes a limit, where `private` are the names of the PRIVATE statement behind it,
-/// `variables` are those of the open DO loops, and SAVE without a list is read as `saved`.
+/// Whether a statement passes a limit, where `variables` are those of the open DO loops, `rest` are the
+/// statements behind it, and SAVE without a list is read as `saved`.
 pub fn passes_limit(
-    item: &Item,
-    before: &Before,
-    private: &[Name],
-    constants: &NameSet,
+    context: &Context,
     variables: &[Name],
+    rest: &[Entry],
     saved: &[Name],
-) -> bool
-    ensures { (silent : List (List ℕ)) → AreSilent constants.now variables.now silent →
-        result ≡ Limits.is_past_limit saved.now silent before.now private.now (item_of item.now) }
-{
-    let silent = Silent {
-        constants,
-        variables,
-    };
-    is_past_limit(item, before, private, &silent, saved)
-}
-
-/// Whether a statement passes a limit, where the names without references are these.
-fn is_past_limit(
     item: &Item,
-    before: &Before,
-    private: &[Name],
-    silent: &Silent,
-    saved: &[Name],
 ) -> bool
-    ensures { result ≡ Limits.is_past_limit saved.now (silent_names silent.now) before.now private.now (item_of item.now) }
+    requires variables { variables.now ≡ Contexts.open_variables (blocks_of context.now.blocks.items) }
+    requires fits { block_depth (blocks_of context.now.blocks.items) < 2 ^ 64 }
+    ensures { result ≡ Spec.passes_limit saved.now (context_of context.now) (map entry_of rest.now) (item_of item.now) }
 {
     is_too_large(item)
-        || are_too_many(before.statements, item)
-        || is_too_deep(before, item)
-        || has_many_references(silent, private, item)
-        || is_too_long(saved, before.loops, item)
+        || are_too_many(context.statements, item)
+        || is_too_deep(&context.blocks, item)
+        || has_many_references(&context.constants, variables, private_behind(rest), item)
+        || is_too_long(saved, context.loops, item)
+}
+
+/// The names of the PRIVATE statement that comes next, none where none does.
+fn private_behind(rest: &[Entry]) -> &[Name]
+    ensures { result.now ≡ Spec.private_behind (map entry_of rest.now) }
+{
+    match rest.split_first() {
+        Some((entry, _)) => private_names(&entry.reading),
+        None => &[],
+    }
+}
+
+fn private_names(reading: &StatementReading) -> &[Name]
+    ensures { result.now ≡ of_reading Spec.private_in (reading_of reading.now) }
+{
+    match reading {
+        StatementReading::Says(Item::Private(names)) => names.as_slice(),
+        _ => &[],
+    }
+}
+
+/// Whether a literal or the number of an array's dimensions is too large.
+fn is_too_large(item: &Item) -> bool
+    ensures { result ≡ Spec.is_too_large (item_of item.now) }
+{
+    match item {
+        Item::Declaration(decl) => decl_has_large_literal(decl) || has_eight_dimensions(decl),
+        Item::Simple(statement) => stmt_has_large_literal(statement),
+        Item::LogicalIf(condition, None) | Item::BlockIf(condition) | Item::ElseIf(condition) => {
+            cond_has_large_literal(condition)
+        }
+        Item::LogicalIf(condition, Some(statement)) => {
+            cond_has_large_literal(condition) || stmt_has_large_literal(statement)
+        }
+        Item::Do(d) => head_has_large_literal(&d.first, &d.last, &d.step),
+        Item::SaveAll | Item::Continue | Item::Else | Item::EndIf | Item::Private(_) | Item::End =>
+            false,
+    }
 }
 
 /// Whether the numbered statements become too many.
@@ -109,17 +112,51 @@ pub fn numbered_in(item: &Item) -> usize
 }
 
 /// Whether too many blocks stand in one another with this one.
-fn is_too_deep(before: &Before, item: &Item) -> bool
-    ensures { result ≡ is_nested_too_deep before.now (item_of item.now) }
+fn is_too_deep(blocks: &[Block], item: &Item) -> bool
+    requires { block_depth (blocks_of blocks.now) < 2 ^ 64 }
+    ensures { result ≡ Spec.is_too_deep (blocks_of blocks.now) (item_of item.now) }
 {
     match item {
-        Item::Do(_) => before.loop_depth >= MOST_LOOPS || before.block_depth >= MOST_BLOCKS,
+        Item::Do(_) => {
+            loop_depth(blocks) >= MOST_LOOPS_NESTED || block_depth(blocks) >= MOST_BLOCKS_NESTED
+        }
         Item::LogicalIf(_, _) | Item::BlockIf(_) | Item::ElseIf(_) => {
-            before.block_depth >= MOST_BLOCKS
+            block_depth(blocks) >= MOST_BLOCKS_NESTED
         }
         Item::Declaration(_)
         | Item::SaveAll
         | Item::Simple(_)
+        | Item::Continue
+        | Item::Else
+        | Item::EndIf
+        | Item::Private(_)
+        | Item::End => false,
+    }
+}
+
+/// Whether a statement has too many references, the writes of a DO's private names among them.
+fn has_many_references(
+    constants: &NameSet,
+    variables: &[Name],
+    private: &[Name],
+    item: &Item,
+) -> bool
+    ensures { result ≡ Spec.has_many_references constants.now variables.now private.now (item_of item.now) }
+{
+    match item {
+        Item::Simple(statement) => references(constants, variables, statement) > MOST_REFERENCES,
+        Item::LogicalIf(condition, None) | Item::BlockIf(condition) | Item::ElseIf(condition) => {
+            cond_references(constants, variables, condition) > MOST_REFERENCES
+        }
+        Item::LogicalIf(condition, Some(statement)) => {
+            cond_references(constants, variables, condition) > MOST_REFERENCES
+                || references(constants, variables, statement) > MOST_REFERENCES
+        }
+        Item::Do(d) => {
+            do_references(constants, variables, &d.first, &d.last, private) > MOST_REFERENCES
+        }
+        Item::Declaration(_)
+        | Item::SaveAll
         | Item::Continue
         | Item::Else
         | Item::EndIf
@@ -150,14 +187,14 @@ fn is_too_long(saved: &[Name], loops: usize, item: &Item) -> bool
 
 /// Whether a statement by itself is too long, where so many DO loops begin before it.
 fn is_statement_too_long(loops: usize, statement: &Stmt) -> bool
-    ensures { result ≡ nat_lt 1300 (length (own_text loops (stmt_tree statement.now))) }
+    ensures { result ≡ nat_lt most_characters (length (own_text loops (stmt_tree statement.now))) }
 {
     own_length(loops as u64, statement) > MOST_CHARACTERS
 }
 
 /// Whether a DO statement is too long, where so many DO loops begin before it.
 fn is_do_too_long(loops: usize, d: &DoStatement) -> bool
-    ensures { result ≡ nat_lt 1300 (length (do_text (label_text loops) (do_head d.now))) }
+    ensures { result ≡ nat_lt most_characters (length (do_text (label_text loops) (do_head d.now))) }
 {
     let length = do_length(
         loops as u64,

@@ -11,10 +11,10 @@ ghost use Rattle.ped_grammar.specs.StatementViews.{note_of};
 ghost use Rattle.ped_grammar.specs.ItemViews.{item_of, do_head, reading_of, entry_of};
 ghost use Rattle.ped_refusals.specs.Collecting.{with_name, with_names};
 
-use crate::names::NameSet;
 use ped_base::{Name, NoMemory};
 use ped_expressions::{after, name_of};
 use ped_grammar::{DoStatement, Entry, Item, NoteLine, StatementReading};
+use ped_limits::NameSet;
 use ped_tree::{Bound, Cond, Decl, Declarator, Do, Expr, PrintItem, Stmt};
 
 /// Adds the names of a statement, those that its directives reject first.

@@ -5,23 +5,45 @@ ghost use Rattle.std.specs.List.{flat_map};
 ghost use Rattle.ped_grammar.specs.Occurrences as Spec;
 ghost use Rattle.ped_grammar.specs.Occurrences.{entry_names};
 ghost use Rattle.ped_base.specs.Lists.{is_among};
-ghost use Rattle.ped_grammar.specs.ItemViews.{entry_of};
+ghost use Rattle.ped_grammar.specs.ItemViews.{entry_of, reading_of};
 ghost use Rattle.ped_refusals.specs.Collecting.{with_names};
 
-use crate::names::NameSet;
 use crate::occurrences::{add_constants, add_do_variable, add_entry};
 use ped_base::{Listed, Name, Names, NoMemory};
-use ped_grammar::Entry;
+use ped_grammar::{Entry, Item, StatementReading};
+use ped_limits::NameSet;
 use std::alloc::Global;
 
-/// The names that SAVE without a list stands for: all variables that are the variable of no DO, in the
-/// order in which they occur first.
+/// The names that SAVE without a list stands for: all variables up to END that are the variable of no DO,
+/// in the order in which they occur first.
 pub fn saved_names(alloc: Global, entries: &[Entry]) -> Result<Names, NoMemory>
     ensures { IfOk result (λ names. names ≡ Spec.saved_names (map entry_of entries.now)) }
 {
+    let entries = up_to_end(entries);
     let all = all_names(alloc, entries)?;
     let others = constants_and_do_variables(alloc, entries)?;
     without(alloc, all.as_slice(), &others)
+}
+
+/// The statements of the program: those up to END.
+fn up_to_end(entries: &[Entry]) -> &[Entry]
+    ensures { map entry_of result.now ≡ Spec.up_to_end (map entry_of entries.now) }
+{
+    for (i, entry) in entries.iter().enumerate() {
+        if is_end(&entry.reading) {
+            return &entries[..i + 1];
+        }
+    }
+    entries
+}
+
+fn is_end(reading: &StatementReading) -> bool
+    ensures { result ≡ Spec.is_end_entry (reading_of reading.now) }
+{
+    match reading {
+        StatementReading::Says(Item::End) => true,
+        _ => false,
+    }
 }
 
 /// The names that occur in statements, each once, in the order in which they occur first.

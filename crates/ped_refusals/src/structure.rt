@@ -10,9 +10,7 @@ ghost use Rattle.ped_grammar.specs.ItemViews.{item_of, reading_of};
 ghost use Rattle.ped_refusals.specs.OpenBlocks.{blocks_of};
 ghost use Rattle.ped_refusals.specs.OpenContexts.{context_of};
 
-use crate::blocks::{
-    Block, has_do, is_in_block, is_in_do, is_stop, outside, takes_else, has_if,
-};
+use crate::blocks::{Block, has_do, has_if, is_in_block, is_in_do, is_stop, outside, takes_else};
 use crate::contexts::{Context, rank, saves_list, saves_without};
 use ped_grammar::{Item, StatementReading};
 
@@ -85,7 +83,7 @@ fn saves_again(context: &Context, item: &Item) -> bool
 }
 
 /// Whether the statement is one that the profile leaves out.
-pub fn is_outside(reading: &StatementReading) -> bool
+pub fn is_left_out(reading: &StatementReading) -> bool
     ensures { result ≡ Spec.is_left_out (reading_of reading.now) }
 {
     match reading {

@@ -3,7 +3,7 @@ use Rattle.std.proofs.Common.{◌≡◌, ℕ, ◌+◌, List, [], ◌∷◌, ◌+
 use Rattle.std.specs.Prelude.{IsTrue, ◌&&◌}
 use Rattle.ped_tree.specs.Tree.{Head}
 use Rattle.ped_grammar.specs.Items.{block_if, else_if, else_line, end_if, begins_do, Entry}
-use Rattle.ped_grammar.specs.Contexts.{Block, in_then, in_else, in_do, Context, left_by_label, left_in_if, with_else, with_else_if, without_if, begun, behind, behind_all}
+use Rattle.ped_grammar.specs.Contexts.{Block, in_then, in_else, in_do, Context, left_by_label, begun, behind, behind_all}
 use Rattle.ped_grammar.specs.BlockForms.{PrivateForm, BodyForm, nothing, and_then, PartForm, a_plain, an_if, a_do, RestForm, ends_if, has_else, has_else_if, LoopForm, loop, EndingForm, at_plain, with_inner, plain_item, plain_trees, entry, private_entries, body_entries, part_entries, rest_entries, loop_entries, ending_entries, comments_of, comments_of_private, first_of_rest, body_trees, part_trees, rest_trees, loop_trees, ending_trees, loop_label, is_free, private_fits, body_fits, part_fits, rest_fits, loop_fits, ending_fits}
 use Rattle.ped_grammar.specs.ProgramRefusals.{private_behind, block_depth}
 use Rattle.ped_round_trip.proofs.FitBodyLists.{count_of, loops_of, Sourced, first_sourced, rest_sourced, Accepted, accepted_next, accepted_split, accepted_behind, At, at_behind, at_blocks, labels, free_left, Fitting, fitting_across, fitting_both, CommentsFit, comments_fitting, entry_fitting, nothing_fitting, with_comments, bare_fitting}
@@ -76,7 +76,7 @@ mutual
   rest_fit : (saved ks : List (List ℕ)) (bs : List Block) (j d n m : ℕ) (c : Context) (r : RestForm) (rest : List Entry) → block_depth bs + j ≡ d → At ks (in_then j ∷ bs) n m c → IsTrue (rest_fits (labels bs) r)
       → Accepted saved c (rest_entries r ++ rest) → Sourced (rest_entries r) → Fitting ks (in_then j ∷ bs) d n m c (rest_trees r) (rest_entries r) bs
   rest_fit saved ks bs j d n m c (ends_if s) rest deep a fits ok r =
-      entry_fitting ks (in_then j ∷ bs) d n m c s end_if [] bs refl refl refl (ap (λ (cs : List Block). without_if (left_in_if cs)) (free_left s (in_then j ∷ bs) fits)) a tt
+      entry_fitting ks (in_then j ∷ bs) d n m c s end_if [] bs refl refl refl (free_left s bs fits) a tt
   rest_fit saved ks bs j d n m c (has_else s b e) rest deep a fits ok r =
       let cs : List Block = in_then j ∷ bs in
       let ds : List Block = in_else j ∷ bs in
@@ -84,10 +84,10 @@ mutual
       let xs = body_entries b in
       let ending : List Entry = entry e end_if ∷ [] in
       let free = left_true (is_free (labels bs) s && body_fits (labels bs) b) _ fits in
-      let f = entry_fitting ks cs d n m c s else_line [] ds refl refl refl (ap (λ (xs : List Block). with_else (left_in_if xs)) (free_left s cs (left_true (is_free (labels bs) s) _ free))) a tt in
+      let f = entry_fitting ks cs d n m c s else_line [] ds refl refl refl (free_left s ds (left_true (is_free (labels bs) s) _ free)) a tt in
       let split = accepted_split saved (behind c first) xs ending rest (accepted_next saved c first ((xs ++ ending) ++ rest) ok) in
       let g = body_fit saved ks ds d (n + 0) (m + 0) (behind c first) b (ending ++ rest) deep f.at (right_true (is_free (labels bs) s) _ free) split (first_sourced xs ending r.1) in
-      let closed = ap (λ (xs : List Block). without_if (left_in_if xs)) (free_left e ds (right_true (is_free (labels bs) s && body_fits (labels bs) b) _ fits)) in
+      let closed = free_left e bs (right_true (is_free (labels bs) s && body_fits (labels bs) b) _ fits) in
       let last = bare_fitting ks ds d (n + 0 + count_of (body_trees b)) (m + 0 + loops_of (body_trees b)) (behind_all (behind c first) xs) e end_if bs refl refl refl closed g.at (rest_sourced xs ending r.1).0.comments in
       fitting_across ks cs d n m c [] (body_trees b ++ comments_of e) (first ∷ []) (xs ++ ending) ds bs refl f
       (fitting_both ks ds d (n + 0) (m + 0) (behind c first) (body_trees b) (comments_of e) xs ending bs g last)
@@ -101,7 +101,7 @@ mutual
       let split = accepted_split saved (behind c e) xs ys rest (accepted_next saved c e ((xs ++ ys) ++ rest) ok) in
       let free = left_true (is_free (labels bs) s && body_fits (labels bs) b) _ fits in
       let further = one_deeper (block_depth bs) j d deep in
-      let inside = at_blocks ks _ ds _ _ _ (ap (λ (xs : List Block). with_else_if (left_in_if xs)) (free_left s cs (left_true (is_free (labels bs) s) _ free))) (at_behind ks cs n m c s (else_if k) refl a) in
+      let inside = at_blocks ks _ ds _ _ _ (free_left s ds (left_true (is_free (labels bs) s) _ free)) (at_behind ks cs n m c s (else_if k) refl a) in
       let g = body_fit saved ks ds (d + 1) (n + 1) (m + 0) (behind c e) b (ys ++ rest) further inside
       (right_true (is_free (labels bs) s) _ free) split (first_sourced xs ys src.1) in
       let then_part = with_comments ks ds (d + 1) (n + 1) (m + 0) (behind c e) (body_trees b) xs (first_of_rest r) (first_comments r (rest_sourced xs ys src.1)) g in

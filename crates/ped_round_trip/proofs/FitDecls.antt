@@ -1,5 +1,5 @@
 -- Where nothing is refused at the statements of a text, its declarations fit.
-use Rattle.std.proofs.Common.{◌≡◌, ℕ, ◌≤◌, List, [], ◌∷◌, ◌++◌, map, Bool, true, false, cond, refl, sym, ap, subst, ◌∙◌, arith, append_assoc, append-nil}
+use Rattle.std.proofs.Common.{◌≡◌, ℕ, ◌≤◌, List, [], ◌∷◌, ◌++◌, map, Bool, true, false, cond, Option, Some, None, refl, sym, ap, subst, ◌∙◌, arith, append_assoc, append-nil}
 use Rattle.std.specs.Prelude.{max, nat_lt, nat_le, ◌||◌}
 use Rattle.std.specs.List.{flat_map}
 use Rattle.std.proofs.lemmas.Bool.{and_parts, and_from}
@@ -9,7 +9,7 @@ use Rattle.ped_tree.specs.Printing.{is_remark}
 use Rattle.ped_grammar.specs.Statement.{Note, Statement}
 use Rattle.ped_grammar.specs.Items.{Item, declares, saves_all, says, Entry}
 use Rattle.ped_grammar.specs.StatementForms.{StatementForm, program, implicit, integer, dimension, parameter, save, save_all, simple, if_simple, if_then, else_if_then, else_alone, end_of_if, do_loop, private, end, assignment, print, read, stop, continue, statement_item, ReadsItem}
-use Rattle.ped_grammar.specs.Contexts.{Context, decl_rank, rank, behind, behind_all}
+use Rattle.ped_grammar.specs.Contexts.{Context, left_by, decl_rank, rank, behind, behind_all}
 use Rattle.ped_grammar.specs.BlockForms.{entry}
 use Rattle.ped_grammar.specs.ProgramForms.{DeclForm, a_declaration, a_save_of_all, decl_entry, remarks_of, save_of, decl_trees, front_remarks}
 use Rattle.ped_grammar.specs.ProgramRefusals.{is_behind_end, is_out_of_order, lacks_if, is_late_private, saves_again, is_misplaced, breaks_syntax, at_statement}
@@ -116,10 +116,14 @@ save_fits x xs ks c phase s rest named before a h =
 
 -- behind a declaration
 
+none_left : (label : Option ℕ) → left_by label [] ≡ []
+none_left None = refl
+none_left (Some l) = refl
+
 at_next : (ks : List (List ℕ)) (c : Context) (s : Statement) (d : DeclTree) → At ks [] 0 0 c → At (ks ++ constants_in d) [] 0 0 (behind c (entry s (declares d)))
 at_next ks c s d a = record {
   constants_are = ap (λ xs. xs ++ constants_in d) a.constants_are;
-  blocks_are = a.blocks_are;
+  blocks_are = ap (left_by s.label) a.blocks_are ∙ none_left s.label;
   statements_are = none_more c.statements ∙ a.statements_are;
   loops_are = none_more c.loops ∙ a.loops_are;
 }
@@ -127,7 +131,7 @@ at_next ks c s d a = record {
 at_next_all : (ks : List (List ℕ)) (c : Context) (s : Statement) → At ks [] 0 0 c → At ks [] 0 0 (behind c (entry s saves_all))
 at_next_all ks c s a = record {
   constants_are = append-nil c.constants ∙ a.constants_are;
-  blocks_are = a.blocks_are;
+  blocks_are = ap (left_by s.label) a.blocks_are ∙ none_left s.label;
   statements_are = none_more c.statements ∙ a.statements_are;
   loops_are = none_more c.loops ∙ a.loops_are;
 }

@@ -14,7 +14,7 @@ use Rattle.ped_grammar.specs.Grouping.{trimmed}
 use Rattle.ped_grammar.specs.StatementForms.{are_names}
 use Rattle.ped_grammar.specs.Contexts.{decl_rank, is_stop}
 use Rattle.ped_grammar.specs.ProgramRefusals.{is_out_of_order, assigned_by, meets}
-use Rattle.ped_grammar.specs.Fits.{expr_fits, target_fits, cond_fits, item_fits, comment_fits, Surroundings, is_within, simple_fits, private_fits, loop_fits, stmt_fits, stmts_fit, in_if, in_loop, declares_names, decls_fit}
+use Rattle.ped_grammar.specs.Fits.{expr_fits, target_fits, cond_fits, item_fits, comment_fits, Surroundings, is_within, simple_fits, private_fits, loop_fits, stmt_fits, stmts_fit, in_if, in_loop, decl_fits, decls_fit}
 use Rattle.ped_recut.specs.Fitting.{IsCommentText}
 
 -- what a DO says by itself
@@ -252,18 +252,18 @@ comment_whole text f =
 
 -- a declaration behind others that the order of statements has brought so far
 pub record DeclarationFits (phase : ℕ) (d : DeclTree) : Type 0 where
-  pub declares : declares_names d ≡ true
+  pub declares : decl_fits d ≡ true
   pub short : nat_lt 1300 (length (decl_text d)) ≡ false
   pub ordered : is_out_of_order phase (decl_rank d) ≡ false
 
 abbrev one_declaration : ℕ → DeclTree → Bool
-one_declaration phase d = declares_names d && nat_le (length (decl_text d)) 1300 && not (is_out_of_order phase (decl_rank d))
+one_declaration phase d = decl_fits d && nat_le (length (decl_text d)) 1300 && not (is_out_of_order phase (decl_rank d))
 
 declaration_one : (phase : ℕ) (d : DeclTree) (more : Bool) → (one_declaration phase d && more) ≡ true → DeclarationFits phase d × (more ≡ true)
 declaration_one phase d more h =
     let a = and_parts (one_declaration phase d) more h in
     let b = and_parts _ (not (is_out_of_order phase (decl_rank d))) a.0 in
-    let c = and_parts (declares_names d) (nat_le (length (decl_text d)) 1300) b.0 in
+    let c = and_parts (decl_fits d) (nat_le (length (decl_text d)) 1300) b.0 in
     (record { declares = c.0; short = up_to (length (decl_text d)) 1300 c.1; ordered = not-true _ b.1 }, a.1)
 
 pub declaration_parts : (phase : ℕ) (d : DeclTree) (ds : List DeclTree) → is_remark d ≡ false → decls_fit phase (d ∷ ds) ≡ true → DeclarationFits phase d × (decls_fit (decl_rank d) ds ≡ true)

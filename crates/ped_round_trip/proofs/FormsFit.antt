@@ -17,7 +17,7 @@ use Rattle.ped_grammar.specs.ConditionForms.{CondForm, cond_form_text, cond_form
 use Rattle.ped_grammar.specs.Items.{Item, declares, does, logical_if, block_if, else_if, begins_do, keeps_private}
 use Rattle.ped_grammar.specs.StatementForms.{are_names, BoundForm, upper_bound, both_bounds, ArrayForm, an_array, DeclaratorForm, a_scalar, of_array, ConstantForm, a_constant, ItemForm, a_value, a_text, SimpleForm, assignment, print, read, stop, continue, ControlForm, control, StatementForm, program, implicit, integer, dimension, parameter, save, save_all, simple, if_simple, if_then, else_if_then, else_alone, end_of_if, do_loop, private, end, bound_form_tree, array_form_tree, declarator_form_tree, constant_form_tree, item_form_text, item_form_tree, simple_form_text, simple_item, behind_if, step_form_tree, control_form_head, statement_form_text, statement_item, ReadsItem}
 use Rattle.ped_grammar.specs.ProgramRefusals.{is_too_large, has_eight_dimensions}
-use Rattle.ped_grammar.specs.Fits.{is_no_intrinsic, takes_arguments, has_expr, expr_fits, exprs_fit, target_fits, cond_fits, item_fits, bound_fits, declarator_fits, array_fits, constant_fits, declares_names}
+use Rattle.ped_grammar.specs.Fits.{is_no_intrinsic, takes_arguments, has_expr, expr_fits, exprs_fit, target_fits, cond_fits, item_fits, bound_fits, declarator_fits, array_fits, constant_fits, decl_fits}
 use Rattle.ped_expressions.specs.ExpressionReading.{expr_count, takes}
 use Rattle.ped_expressions.proofs.Printed.{Stands, SomeStand, AllStand, expr_stands, reference_stands}
 use Rattle.ped_expressions.proofs.CondPrinted.{CondStands, cond_stands}
@@ -166,7 +166,7 @@ BehindFits no_stmts = Unit {0}
 BehindFits (more_stmts s rest) = own_fits s ≡ true
 
 abbrev pub ItemFits : Item → Type 0
-ItemFits (declares d) = declares_names d ≡ true
+ItemFits (declares d) = decl_fits d ≡ true
 ItemFits (does s) = own_fits s ≡ true
 ItemFits (logical_if c s) = (cond_fits c ≡ true) × BehindFits s
 ItemFits (block_if c) = cond_fits c ≡ true

@@ -16,7 +16,7 @@ use Rattle.ped_grammar.specs.Items.{Item, declares, does, block_if, begins_do, k
 use Rattle.ped_grammar.specs.BlockForms.{whole_head}
 use Rattle.ped_grammar.specs.StatementForms.{BoundForm, both_bounds, ArrayForm, an_array, DeclaratorForm, a_scalar, of_array, ConstantForm, a_constant, ItemForm, a_value, a_text, assignment, print, read, stop, control, StatementForm, program, implicit, integer, dimension, parameter, save, simple, if_then, do_loop, private, bound_form_tree, array_form_tree, declarator_form_tree, constant_form_tree, item_form_tree, statement_form_text, statement_item, are_names, ReadsItem}
 use Rattle.ped_grammar.specs.ProgramRefusals.{is_too_large, has_eight_dimensions}
-use Rattle.ped_grammar.specs.Fits.{is_no_intrinsic, takes_arguments, has_expr, expr_fits, exprs_fit, target_fits, cond_fits, item_fits, bound_fits, declarator_fits, array_fits, constant_fits, declares_names}
+use Rattle.ped_grammar.specs.Fits.{is_no_intrinsic, takes_arguments, has_expr, expr_fits, exprs_fit, target_fits, cond_fits, item_fits, bound_fits, declarator_fits, array_fits, constant_fits, decl_fits}
 use Rattle.ped_expressions.specs.ExpressionReading.{expr_count, takes}
 use Rattle.ped_expressions.proofs.Printed.{Stands, SomeStand, AllStand, printed, printed_exprs}
 use Rattle.ped_expressions.proofs.CondPrinted.{CondStands, cond_printed}
@@ -269,7 +269,7 @@ constant_of v h =
     let a = expr_of v.1 k.1 in
     (a_constant v.0 k.0 a.0, λ i. (v.0, a.1 i))
 
-declared_of : (d : DeclTree) → is_remark d ≡ false → declares_names d ≡ true → (f : StatementForm) × (statement_item f ≡ declares d)
+declared_of : (d : DeclTree) → is_remark d ≡ false → decl_fits d ≡ true → (f : StatementForm) × (statement_item f ≡ declares d)
 declared_of (Program x) other h = (program x h, refl)
 declared_of Implicit other h = (implicit, refl)
 declared_of (Integer []) other h = absurd cc
@@ -293,7 +293,7 @@ declared_of (Parameter (v ∷ vs)) other h =
 declared_of (Save names) other h = (save names h, refl)
 declared_of (Remark text) other h = absurd cc
 
-pub declared_said : (d : DeclTree) → is_remark d ≡ false → declares_names d ≡ true → (text : List ℕ) × ReadsItem text (declares d)
+pub declared_said : (d : DeclTree) → is_remark d ≡ false → decl_fits d ≡ true → (text : List ℕ) × ReadsItem text (declares d)
 declared_said d other h = let a = declared_of d other h in (statement_form_text a.0, (a.0, refl, a.1))
 
 bound_small : (b : BoundTree) → bound_fits b ≡ true → (has_large_literal b.lower || has_large_literal b.upper) ≡ false
@@ -314,7 +314,7 @@ array_few d h = declarator_few d (and_parts (declarator_fits d) (has_some d.boun
 constant_small : (v : List ℕ × ExprTree) → constant_fits v ≡ true → has_large_literal v.1 ≡ false
 constant_small v h = expr_small v.1 (and_parts (is_name v.0) (expr_fits v.1) h).1
 
-pub declared_small : (d : DeclTree) → declares_names d ≡ true → decl_has_large_literal d ≡ false
+pub declared_small : (d : DeclTree) → decl_fits d ≡ true → decl_has_large_literal d ≡ false
 declared_small (Program x) h = refl
 declared_small Implicit h = refl
 declared_small (Integer ds) h = none_of declarator_fits declarator_has_large_literal declarator_small ds (and_parts (has_some ds) (list_all declarator_fits ds) h).1
@@ -323,7 +323,7 @@ declared_small (Parameter vs) h = none_of constant_fits (λ v. has_large_literal
 declared_small (Save names) h = refl
 declared_small (Remark text) h = refl
 
-pub declared_few : (d : DeclTree) → declares_names d ≡ true → has_eight_dimensions d ≡ false
+pub declared_few : (d : DeclTree) → decl_fits d ≡ true → has_eight_dimensions d ≡ false
 declared_few (Program x) h = refl
 declared_few Implicit h = refl
 declared_few (Integer ds) h = none_of declarator_fits (λ d. nat_lt 7 (length d.bounds)) declarator_few ds (and_parts (has_some ds) (list_all declarator_fits ds) h).1

@@ -2,13 +2,14 @@
 use Rattle.std.proofs.Common.{◌≡◌, ℕ, zero, suc, ◌+◌, ◌*◌, ◌%◌, ◌<◌, inl, inr, Bool, true, false, cond, List, [], ◌∷◌, ◌++◌, map, length, min, refl, sym, ap, ◌∙◌, append_assoc, length-append, eqb, leb, arith}
 use Rattle.std.specs.Prelude.{◌/◌, not, ◌&&◌, ◌||◌, ◌==◌, if◌then◌else◌, nat_lt, codes}
 use Rattle.std.specs.List.{list_all, list_any, flat_map, join_by}
+use Rattle.std.specs.Char.{is_ascii_alphabetic}
 use Rattle.std.specs.Fmt.{decimal, digits, digits_onto, digit_glyph}
 use Rattle.std.proofs.Math.Nat.{mod-lt, min-le_right}
 use Rattle.std.proofs.lemmas.Bool.{cond_both, not-true, not_from_false, ne_eqb, lt-ltb, ltb-false, leb-true, le-leb, and_parts, and_from, or_cases, or_from, or_left, or_right}
 use Rattle.std.proofs.lemmas.List.{append-nil, length-replicate}
 use Rattle.ped_base.specs.Letters
-use Rattle.ped_grammar.specs.Columns.{is_digit}
-use Rattle.ped_grammar.specs.Characters.{is_letter, is_character, is_printable, is_quoted, is_bad, has_bad}
+use Rattle.ped_base.specs.Letters.{is_digit}
+use Rattle.ped_grammar.specs.Characters.{is_character, is_printable, is_quoted, is_bad, has_bad}
 use Rattle.ped_grammar.specs.Words.{is_name}
 use Rattle.ped_tree.specs.Printing.{blanks, doubled, constant_text}
 use Rattle.ped_lines.proofs.Quoting.{quoted_more, has_bad_append}
@@ -70,13 +71,13 @@ words (c ∷ cs) h =
 capital_plain : (c : ℕ) → Letters.is_letter c ≡ true → is_plain c ≡ true
 capital_plain c h =
     let low = leb-true 65 c (and_parts (leb 65 c) (leb c 90) h).0 in
-    let stands : is_character c ≡ true = or_left (is_letter c || is_digit c) (list_any (λ x. x == c) (codes " =+-*/(),.'$:")) (or_left (is_letter c) (is_digit c) (or_left (leb 65 c && leb c 90) (leb 97 c && leb c 122) h)) in
+    let stands : is_character c ≡ true = or_left (is_ascii_alphabetic c || is_digit c) (list_any (λ x. x == c) (codes " =+-*/(),.'$:")) (or_left (is_ascii_alphabetic c) (is_digit c) (or_left (leb 65 c && leb c 90) (leb 97 c && leb c 122) h)) in
     and_from (is_character c) (not (eqb c 39)) stands (not_from_false (eqb c 39) (ne_eqb c 39 (λ e. omega arith)))
 
 digit_plain : (c : ℕ) → is_digit c ≡ true → is_plain c ≡ true
 digit_plain c h =
     let low = leb-true 48 c (and_parts (leb 48 c) (leb c 57) h).0 in
-    let stands : is_character c ≡ true = or_left (is_letter c || is_digit c) (list_any (λ x. x == c) (codes " =+-*/(),.'$:")) (or_right (is_letter c) (is_digit c) h) in
+    let stands : is_character c ≡ true = or_left (is_ascii_alphabetic c || is_digit c) (list_any (λ x. x == c) (codes " =+-*/(),.'$:")) (or_right (is_ascii_alphabetic c) (is_digit c) h) in
     and_from (is_character c) (not (eqb c 39)) stands (not_from_false (eqb c 39) (ne_eqb c 39 (λ e. omega arith)))
 
 name_plain : (x : List ℕ) → list_all Letters.is_alphanumeric x ≡ true → list_all is_plain x ≡ true

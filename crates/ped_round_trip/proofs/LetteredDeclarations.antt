@@ -8,7 +8,7 @@ use Rattle.ped_tree.specs.Tree.{ExprTree, BoundTree, DeclaratorTree, DeclTree, P
 use Rattle.ped_tree.specs.Printing.{value_text, is_one, names_text, private_text, bound_text, dimensions_text, declarator_text, parameter_text, decl_text, is_remark}
 use Rattle.ped_grammar.specs.Words.{is_name}
 use Rattle.ped_grammar.specs.StatementForms.{are_names}
-use Rattle.ped_grammar.specs.Fits.{expr_fits, bound_fits, declarator_fits, array_fits, constant_fits, declares_names}
+use Rattle.ped_grammar.specs.Fits.{expr_fits, bound_fits, declarator_fits, array_fits, constant_fits, decl_fits}
 use Rattle.ped_recut.specs.Fitting.{TextFits}
 use Rattle.ped_round_trip.proofs.Lettered.{Lettered, joined, nothing, words, name_passes, listed, Written, written, followed, fits}
 use Rattle.ped_round_trip.proofs.LetteredExpressions.{value_passes}
@@ -49,7 +49,7 @@ constant_passes v h =
     let k = and_parts (is_name v.0) (expr_fits v.1) h in
     joined (joined (name_passes v.0 k.0) (words (codes "=") refl)) (value_passes v.1 k.1)
 
-declaration_written : (d : DeclTree) → is_remark d ≡ false → declares_names d ≡ true → Written (decl_text d)
+declaration_written : (d : DeclTree) → is_remark d ≡ false → decl_fits d ≡ true → Written (decl_text d)
 declaration_written (Program x) other h = followed (written (codes "PROGRAM ") refl refl) (name_passes x h)
 declaration_written Implicit other h = written (codes "IMPLICIT INTEGER (A-Z)") refl refl
 declaration_written (Integer ds) other h =
@@ -65,7 +65,7 @@ declaration_written (Save names) other h = followed (written (codes "SAVE ") ref
 declaration_written (Remark text) other h = absurd cc
 
 -- a declaration that fits is cut so that it can be read back
-pub decl_text_fits : (d : DeclTree) → is_remark d ≡ false → declares_names d ≡ true → nat_lt 1300 (length (decl_text d)) ≡ false → TextFits 0 (decl_text d)
+pub decl_text_fits : (d : DeclTree) → is_remark d ≡ false → decl_fits d ≡ true → nat_lt 1300 (length (decl_text d)) ≡ false → TextFits 0 (decl_text d)
 decl_text_fits d other h short = fits 0 (decl_text d) (declaration_written d other h) short
 
 -- and so is a PRIVATE statement

@@ -1,5 +1,6 @@
--- A tree that fits is what its printed text says, and each tree that some text reads as fits.
+-- A tree fits exactly where some text reads as it, and then it is what its printed text says.
 use Rattle.std.proofs.Common.{◌≡◌, ℕ, List, true, sym, subst}
+use Rattle.std.specs.Prelude.{◌↔◌}
 use Rattle.ped_tree.specs.Tree.{ProgramTree}
 use Rattle.ped_tree.specs.Printing.{program_text}
 use Rattle.ped_grammar.specs.Reading.{Reads}
@@ -11,13 +12,16 @@ use Rattle.ped_round_trip.proofs.Sources.{statements_sourced}
 use Rattle.ped_round_trip.proofs.FitDeclsWhole.{program_fits}
 use Rattle.ped_round_trip.proofs.RoundTrip.{reads_again}
 
-pub prints_itself : (t : ProgramTree) → fits t ≡ true → PrintsItself t
-prints_itself t h =
-    let again = reads_again t h in
-    λ u. (λ r. read_once one_item (program_text t) u t r again, λ e. subst (λ (v : ProgramTree). Reads (program_text t) v) (sym e) again)
-
 pub read_fits : (text : List ℕ) (t : ProgramTree) → Reads text t → fits t ≡ true
 read_fits text t r = program_fits text t r (statements_sourced text r.cut.accepted)
 
-pub fits_where_read : (t : ProgramTree) → (fits t ≡ true → IsRead t) × (IsRead t → fits t ≡ true)
+pub fits_where_read : (t : ProgramTree) → (fits t ≡ true) ↔ IsRead t
 fits_where_read t = (λ h. (program_text t, reads_again t h), λ r. read_fits r.0 t r.1)
+
+pub fitting_prints : (t : ProgramTree) → fits t ≡ true → PrintsItself t
+fitting_prints t h =
+    let again = reads_again t h in
+    λ u. (λ r. read_once one_item (program_text t) u t r again, λ e. subst (λ (v : ProgramTree). Reads (program_text t) v) (sym e) again)
+
+pub prints_itself : (text : List ℕ) (t : ProgramTree) → Reads text t → PrintsItself t
+prints_itself text t r = fitting_prints t (read_fits text t r)

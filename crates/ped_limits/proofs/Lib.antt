@@ -1,0 +1,3 @@
+pub mod Counts
+pub mod NameEquality
+pub mod SameNames

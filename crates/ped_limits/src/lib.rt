@@ -1,0 +1,20 @@
+//! The limits of the language, asked of trees and of what statements say: whoever refuses a text and
+//! whoever looks whether a tree fits use these numbers and these calls.
+#![tactic(auto)]
+
+mod counting;
+mod limits;
+mod literals;
+mod names;
+mod numbering;
+
+pub use counting::{cond_references, do_references, references};
+pub use limits::{
+    GREATEST_LITERAL, MOST_BLOCKS_NESTED, MOST_CHARACTERS, MOST_DIMENSIONS, MOST_LOOPS_NESTED,
+    MOST_REFERENCES, MOST_STATEMENTS,
+};
+pub use literals::{
+    decl_has_large_literal, has_eight_dimensions, head_has_large_literal, stmt_has_large_literal,
+};
+pub use names::{NameSet, is_among};
+pub use numbering::statement_count;

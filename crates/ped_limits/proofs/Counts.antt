@@ -1,5 +1,5 @@
 -- How many references there are of one name.
-use Rattle.std.proofs.Common.{◌≡◌, List, [], ◌∷◌, length, Bool, true, false, refl, if◌then◌else◌}
+use Rattle.std.proofs.Common.{◌≡◌, [], ◌∷◌, length, Bool, true, false, refl, if◌then◌else◌}
 use Rattle.ped_tree.specs.Accesses.{Access}
 
 -- none for a constant, and one for another name

@@ -4,7 +4,7 @@ use Rattle.std.specs.Prelude.{◌||◌}
 use Rattle.std.specs.List.{flat_map}
 use Rattle.std.proofs.lemmas.List.Folds.{list_any-append}
 use Rattle.ped_tree.specs.Tree.{ExprTree, ExprTrees, Int, Var, Element, Neg, Add, Sub, Mul, Div, Pow, Call, no_exprs, more_exprs, CondTree, Rel, Not, And, Or, ItemTree, Value, Text, StmtTree, Assign, If, Do, Print, Read, Stop, Comment}
-use Rattle.ped_tree.specs.Accesses.{Access, read_of, write_of, listed, unless_constant, expr_reads, exprs_reads, cond_reads, left_accesses, item_reads, private_writes, own_accesses}
+use Rattle.ped_tree.specs.Accesses.{Access, read_of, write_of, listed, unless_constant, expr_reads, exprs_reads, cond_reads, left_accesses, item_reads, own_accesses}
 use Rattle.ped_base.specs.Lists.{is_same_text, is_among}
 
 -- one of two lists has a name where both one behind the other have it

@@ -10,14 +10,14 @@ use Rattle.ped_expressions.proofs.Large.{neither}
 use Rattle.ped_expressions.proofs.Printed.{Stands, expr_stands, printed}
 
 -- a tree of a form without a literal that is too large
-abbrev CondStands : CondTree → Type 0
+abbrev pub CondStands : CondTree → Type 0
 CondStands (Rel r a b) = Stands a × Stands b
 CondStands (Not a) = CondStands a
 CondStands (And a b) = CondStands a × CondStands b
 CondStands (Or a b) = CondStands a × CondStands b
 
 mutual
-  cond_stands : (c : CondForm) → cond_has_large_literal (cond_form_tree c) ≡ false → CondStands (cond_form_tree c)
+  pub cond_stands : (c : CondForm) → cond_has_large_literal (cond_form_tree c) ≡ false → CondStands (cond_form_tree c)
   cond_stands (one_term t) h = term_stands t h
   cond_stands (or c t) h = let k = neither (cond_has_large_literal (cond_form_tree c)) (cond_has_large_literal (logical_term_tree t)) h in (cond_stands c k.0, term_stands t k.1)
 
@@ -34,7 +34,7 @@ mutual
   primary_stands (group c) h = cond_stands c h
 
 -- a form for each place where the tree may stand
-record CondPrinted (c : CondTree) : Type 0 where
+pub record CondPrinted (c : CondTree) : Type 0 where
   pub cond_form : (f : CondForm) × (cond_form_text f ≡ cond_text whole c) × (cond_form_tree f ≡ c)
   pub term_form : (f : LogicalTermForm) × (logical_term_text f ≡ cond_text in_or c) × (logical_term_tree f ≡ c)
   pub factor_form : (f : LogicalFactorForm) × (logical_factor_text f ≡ cond_text in_and c) × (logical_factor_tree f ≡ c)
@@ -46,7 +46,7 @@ enclose ts f t = ap (λ (x : List ℕ). codes "(" ++ x ++ codes ")") t
 joined : (a b c d op : List ℕ) → a ≡ c → b ≡ d → a ++ op ++ b ≡ c ++ op ++ d
 joined a b c d op p q = cc
 
-cond_printed : (c : CondTree) → CondStands c → CondPrinted c
+pub cond_printed : (c : CondTree) → CondStands c → CondPrinted c
 cond_printed (Rel r a b) h =
     let p = (printed a h.0).expr_form in
     let q = (printed b h.1).expr_form in

@@ -1,15 +1,15 @@
--- The executable statements of a text at which nothing is refused meet what their printed text needs.
-use Rattle.std.proofs.Common.{◌≡◌, ℕ, ◌+◌, List, [], ◌∷◌, ◌++◌, length, Bool, true, false, refl, ap, subst, ◌∙◌, arith, append_assoc, eqb-true}
+-- The executable statements of a text at which nothing is refused fit.
+use Rattle.std.proofs.Common.{◌≡◌, ℕ, ◌+◌, List, [], ◌∷◌, ◌++◌, Bool, true, false, refl, ap, subst, ◌∙◌, arith, append_assoc, eqb-true}
 use Rattle.std.specs.Prelude.{IsTrue, ◌&&◌}
+use Rattle.ped_tree.specs.Tree.{Head}
 use Rattle.ped_grammar.specs.Items.{block_if, else_if, else_line, end_if, begins_do, Entry}
-use Rattle.ped_grammar.specs.Contexts.{Block, in_then, in_else, in_do, Context, closed, behind, behind_all}
-use Rattle.ped_grammar.specs.BlockForms.{BodyForm, nothing, and_then, PartForm, a_plain, an_if, a_do, RestForm, ends_if, has_else, has_else_if, LoopForm, loop, EndingForm, at_plain, with_inner, plain_item, plain_trees, entry, private_entries, body_entries, part_entries, rest_entries, loop_entries, ending_entries, comments_of, comments_of_private, first_of_rest, body_trees, part_trees, rest_trees, loop_trees, ending_trees, loop_label, is_free, private_fits, body_fits, part_fits, rest_fits, loop_fits, ending_fits}
+use Rattle.ped_grammar.specs.Contexts.{Block, in_then, in_else, in_do, Context, left_by_label, begun, behind, behind_all}
+use Rattle.ped_grammar.specs.BlockForms.{PrivateForm, BodyForm, nothing, and_then, PartForm, a_plain, an_if, a_do, RestForm, ends_if, has_else, has_else_if, LoopForm, loop, EndingForm, at_plain, with_inner, plain_item, plain_trees, entry, private_entries, body_entries, part_entries, rest_entries, loop_entries, ending_entries, comments_of, comments_of_private, first_of_rest, body_trees, part_trees, rest_trees, loop_trees, ending_trees, loop_label, is_free, private_fits, body_fits, part_fits, rest_fits, loop_fits, ending_fits}
 use Rattle.ped_grammar.specs.ProgramRefusals.{private_behind, block_depth}
-use Rattle.ped_blocks.proofs.BlocksMoved.{labels}
-use Rattle.ped_round_trip.proofs.FitBodyLists.{count_of, loops_of, Sourced, first_sourced, rest_sourced, Accepted, accepted_next, accepted_split, accepted_behind, At, at_behind, Fitting, fitting_across, fitting_both, CommentsFit, comments_fitting, entry_fitting, nothing_fitting, with_comments, bare_fitting, one_longer}
-use Rattle.ped_round_trip.proofs.FitBodyStatements.{passed, free_blocks, other_closed, closed_self, ending_blocks, plain_fitting}
+use Rattle.ped_round_trip.proofs.FitBodyLists.{count_of, loops_of, Sourced, first_sourced, rest_sourced, Accepted, accepted_next, accepted_split, accepted_behind, At, at_behind, at_blocks, labels, free_left, Fitting, fitting_across, fitting_both, CommentsFit, comments_fitting, entry_fitting, nothing_fitting, with_comments, bare_fitting}
+use Rattle.ped_round_trip.proofs.FitBodyStatements.{passed, free_blocks, other_left, left_self, ending_blocks, plain_fitting}
 use Rattle.ped_round_trip.proofs.FitBodyBlocks.{block_if_fits, else_if_fits, branch_fitting}
-use Rattle.ped_round_trip.proofs.FitBodyLoops.{private_fitting, private_body, private_ending, loop_fitting}
+use Rattle.ped_round_trip.proofs.FitBodyLoops.{loop_of, private_fitting, private_body, private_ending, loop_fitting}
 
 left_true : (a b : Bool) → IsTrue (a && b) → IsTrue a
 left_true true b h = refl
@@ -46,7 +46,7 @@ mutual
   part_fit saved ks bs d n m c (a_plain s p) rest deep a fits ok r =
       let f = comments_fitting ks bs d n m c s r.0.comments a in
       fitting_both ks bs d n m c (comments_of s) (plain_trees p) [] (entry s (plain_item p) ∷ []) bs f
-      (plain_fitting saved ks bs d (n + count_of (comments_of s)) (m + loops_of (comments_of s)) c s p rest bs deep f.at ok r.0 (free_blocks s p bs fits))
+      (plain_fitting saved ks bs d (n + count_of (comments_of s)) (m + loops_of (comments_of s)) c s p rest bs deep f.at ok r.0 (free_blocks c.behind_do s p bs fits))
   part_fit saved ks bs d n m c (an_if s k b r) rest deep a fits ok src =
       let ds : List Block = in_then 1 ∷ bs in
       let e = entry s (block_if k) in
@@ -58,35 +58,38 @@ mutual
       let tests = passed saved ks bs x y c s (block_if k) ((xs ++ ys) ++ rest) f.at ok in
       let split = accepted_split saved (behind c e) xs ys rest (accepted_next saved c e ((xs ++ ys) ++ rest) ok) in
       let free = left_true (is_free (labels bs) s && body_fits (labels bs) b) _ fits in
-      let g = body_fit saved ks ds (d + 1) (x + 1) (y + 0) (behind c e) b (ys ++ rest) (ap (λ z. z + 1) deep) (at_behind ks bs x y c s (block_if k) refl f.at)
+      let inside = at_blocks ks _ ds _ _ _ (ap (λ (cs : List Block). in_then 1 ∷ cs) (free_left s bs (left_true (is_free (labels bs) s) _ free))) (at_behind ks bs x y c s (block_if k) refl f.at) in
+      let g = body_fit saved ks ds (d + 1) (x + 1) (y + 0) (behind c e) b (ys ++ rest) (ap (λ z. z + 1) deep) inside
       (right_true (is_free (labels bs) s) _ free) split (first_sourced xs ys src.1) in
       let then_part = with_comments ks ds (d + 1) (x + 1) (y + 0) (behind c e) (body_trees b) xs (first_of_rest r) (first_comments r (rest_sourced xs ys src.1)) g in
       let trees = body_trees b ++ comments_of (first_of_rest r) in
       let more = rest_fit saved ks bs 1 (d + 1) (x + 1 + count_of trees) (y + 0 + loops_of trees) (behind_all (behind c e) xs) r rest (ap (λ z. z + 1) deep) then_part.at
       (right_true (is_free (labels bs) s && body_fits (labels bs) b) _ fits) (accepted_behind saved (behind c e) xs (ys ++ rest) split) (rest_sourced xs ys src.1) in
       fitting_both ks bs d n m c (comments_of s) _ [] (e ∷ (xs ++ ys)) bs f
-      (branch_fitting ks bs ds d x y c s (block_if k) k trees (rest_trees r) xs ys bs refl (one_longer (length bs)) refl f.at
+      (branch_fitting ks bs ds d x y c s (block_if k) k trees (rest_trees r) xs ys bs refl refl
       (block_if_fits saved ks bs d x y s.label k (private_behind ((xs ++ ys) ++ rest)) src.0.text deep src.0.reads tests) then_part more)
   part_fit saved ks bs d n m c (a_do f) rest deep a fits ok r =
-      let other = other_closed (loop_label f) bs (left_true _ (loop_fits (labels bs) f) fits) in
+      let other = other_left (loop_label f) bs (left_true _ (loop_fits (labels bs) f) fits) in
       subst (λ (cs : List Block). Fitting ks bs d n m c (loop_trees f) (loop_entries f) cs) other
       (loop_fit saved ks bs d n m c f rest deep a (right_true _ (loop_fits (labels bs) f) fits) ok r)
 
   rest_fit : (saved ks : List (List ℕ)) (bs : List Block) (j d n m : ℕ) (c : Context) (r : RestForm) (rest : List Entry) → block_depth bs + j ≡ d → At ks (in_then j ∷ bs) n m c → IsTrue (rest_fits (labels bs) r)
       → Accepted saved c (rest_entries r ++ rest) → Sourced (rest_entries r) → Fitting ks (in_then j ∷ bs) d n m c (rest_trees r) (rest_entries r) bs
-  rest_fit saved ks bs j d n m c (ends_if s) rest deep a fits ok r = entry_fitting ks (in_then j ∷ bs) d n m c s end_if [] bs refl refl refl refl refl a tt
+  rest_fit saved ks bs j d n m c (ends_if s) rest deep a fits ok r =
+      entry_fitting ks (in_then j ∷ bs) d n m c s end_if [] bs refl refl refl (free_left s bs fits) a tt
   rest_fit saved ks bs j d n m c (has_else s b e) rest deep a fits ok r =
       let cs : List Block = in_then j ∷ bs in
       let ds : List Block = in_else j ∷ bs in
       let first = entry s else_line in
       let xs = body_entries b in
       let ending : List Entry = entry e end_if ∷ [] in
-      let f = entry_fitting ks cs d n m c s else_line [] ds refl refl refl refl refl a tt in
-      let split = accepted_split saved (behind c first) xs ending rest (accepted_next saved c first ((xs ++ ending) ++ rest) ok) in
       let free = left_true (is_free (labels bs) s && body_fits (labels bs) b) _ fits in
+      let f = entry_fitting ks cs d n m c s else_line [] ds refl refl refl (free_left s ds (left_true (is_free (labels bs) s) _ free)) a tt in
+      let split = accepted_split saved (behind c first) xs ending rest (accepted_next saved c first ((xs ++ ending) ++ rest) ok) in
       let g = body_fit saved ks ds d (n + 0) (m + 0) (behind c first) b (ending ++ rest) deep f.at (right_true (is_free (labels bs) s) _ free) split (first_sourced xs ending r.1) in
-      let last = bare_fitting ks ds d (n + 0 + count_of (body_trees b)) (m + 0 + loops_of (body_trees b)) (behind_all (behind c first) xs) e end_if bs refl refl refl refl refl g.at (rest_sourced xs ending r.1).0.comments in
-      fitting_across ks cs d n m c [] (body_trees b ++ comments_of e) (first ∷ []) (xs ++ ending) ds bs refl refl f
+      let closed = free_left e bs (right_true (is_free (labels bs) s && body_fits (labels bs) b) _ fits) in
+      let last = bare_fitting ks ds d (n + 0 + count_of (body_trees b)) (m + 0 + loops_of (body_trees b)) (behind_all (behind c first) xs) e end_if bs refl refl refl closed g.at (rest_sourced xs ending r.1).0.comments in
+      fitting_across ks cs d n m c [] (body_trees b ++ comments_of e) (first ∷ []) (xs ++ ending) ds bs refl f
       (fitting_both ks ds d (n + 0) (m + 0) (behind c first) (body_trees b) (comments_of e) xs ending bs g last)
   rest_fit saved ks bs j d n m c (has_else_if s k b r) rest deep a fits ok src =
       let cs : List Block = in_then j ∷ bs in
@@ -98,19 +101,20 @@ mutual
       let split = accepted_split saved (behind c e) xs ys rest (accepted_next saved c e ((xs ++ ys) ++ rest) ok) in
       let free = left_true (is_free (labels bs) s && body_fits (labels bs) b) _ fits in
       let further = one_deeper (block_depth bs) j d deep in
-      let g = body_fit saved ks ds (d + 1) (n + 1) (m + 0) (behind c e) b (ys ++ rest) further (at_behind ks cs n m c s (else_if k) refl a)
+      let inside = at_blocks ks _ ds _ _ _ (free_left s ds (left_true (is_free (labels bs) s) _ free)) (at_behind ks cs n m c s (else_if k) refl a) in
+      let g = body_fit saved ks ds (d + 1) (n + 1) (m + 0) (behind c e) b (ys ++ rest) further inside
       (right_true (is_free (labels bs) s) _ free) split (first_sourced xs ys src.1) in
       let then_part = with_comments ks ds (d + 1) (n + 1) (m + 0) (behind c e) (body_trees b) xs (first_of_rest r) (first_comments r (rest_sourced xs ys src.1)) g in
       let trees = body_trees b ++ comments_of (first_of_rest r) in
       let more = rest_fit saved ks bs (j + 1) (d + 1) (n + 1 + count_of trees) (m + 0 + loops_of trees) (behind_all (behind c e) xs) r rest further then_part.at
       (right_true (is_free (labels bs) s && body_fits (labels bs) b) _ fits) (accepted_behind saved (behind c e) xs (ys ++ rest) split) (rest_sourced xs ys src.1) in
-      branch_fitting ks cs ds d n m c s (else_if k) k trees (rest_trees r) xs ys bs refl (λ depth h. h) refl a
+      branch_fitting ks cs ds d n m c s (else_if k) k trees (rest_trees r) xs ys bs refl refl
       (else_if_fits saved ks cs d n m s.label k (private_behind ((xs ++ ys) ++ rest)) src.0.text deep src.0.reads tests) then_part more
 
   loop_fit : (saved ks : List (List ℕ)) (bs : List Block) (d n m : ℕ) (c : Context) (f : LoopForm) (rest : List Entry) → block_depth bs ≡ d → At ks bs n m c → IsTrue (loop_fits (labels bs) f)
-      → Accepted saved c (loop_entries f ++ rest) → Sourced (loop_entries f) → Fitting ks bs d n m c (loop_trees f) (loop_entries f) (closed (loop_label f) bs)
+      → Accepted saved c (loop_entries f ++ rest) → Sourced (loop_entries f) → Fitting ks bs d n m c (loop_trees f) (loop_entries f) (left_by_label (loop_label f) bs)
   loop_fit saved ks bs d n m c (loop s l h p b e) rest deep a fits ok r =
-      let ds : List Block = in_do l h.variable ∷ bs in
+      let ds : List Block = in_do (loop_of l h p) ∷ bs in
       let ls : List ℕ = l ∷ labels bs in
       let first = entry s (begins_do l h) in
       let after = behind c first in
@@ -120,35 +124,36 @@ mutual
       let ys = body_entries b in
       let zs = ending_entries e in
       let three = left_true (is_free (labels bs) s && private_fits ls p && body_fits ls b) _ fits in
+      let two_free = left_true (is_free (labels bs) s && private_fits ls p) (body_fits ls b) three in
       let sources = first_sourced (xs ++ ys) zs r.1 in
       let f = comments_fitting ks bs d n m c s r.0.comments a in
-      let inside = at_behind ks bs x y c s (begins_do l h) refl f.at in
+      let begins = ap (λ (cs : List Block). in_do (begun l h) ∷ cs) (free_left s bs (left_true (is_free (labels bs) s) (private_fits ls p) two_free)) in
+      let inside = at_blocks ks _ (in_do (begun l h) ∷ bs) _ _ _ begins (at_behind ks bs x y c s (begins_do l h) refl f.at) in
       let deeper = ap (λ z. z + 1) deep in
       let next = accepted_split saved after (xs ++ ys) zs rest (accepted_next saved c first ((xs ++ ys ++ zs) ++ rest) ok) in
       let split = accepted_split saved after xs ys (zs ++ rest) next in
-      let one = private_fitting ks ds (d + 1) (x + 1) (y + 1) after p inside (first_sourced xs ys sources) in
+      let one = private_fitting ks bs (d + 1) (x + 1) (y + 1) l h after p refl inside (right_true (is_free (labels bs) s) (private_fits ls p) two_free) (first_sourced xs ys sources) in
       let two = body_fit saved ks ds (d + 1) (x + 1 + count_of (comments_of_private p)) (y + 1 + loops_of (comments_of_private p)) (behind_all after xs) b (zs ++ rest) deeper one.at
       (right_true (is_free (labels bs) s && private_fits ls p) _ three) (accepted_behind saved after xs (ys ++ (zs ++ rest)) split) (rest_sourced xs ys sources) in
       let front = fitting_both ks ds (d + 1) (x + 1) (y + 1) after (comments_of_private p) (body_trees b) xs ys ds one two in
       let trees = comments_of_private p ++ body_trees b in
-      let last = ending_fit saved ks bs l h.variable (d + 1) (x + 1 + count_of trees) (y + 1 + loops_of trees) (behind_all after (xs ++ ys)) e rest deeper front.at
+      let last = ending_fit saved ks bs l h p (d + 1) (x + 1 + count_of trees) (y + 1 + loops_of trees) (behind_all after (xs ++ ys)) e rest deeper front.at
       (right_true (is_free (labels bs) s && private_fits ls p && body_fits ls b) _ fits) (accepted_behind saved after (xs ++ ys) (zs ++ rest) next) (rest_sourced (xs ++ ys) zs r.1) in
-      let whole = fitting_both ks ds (d + 1) (x + 1) (y + 1) after trees (ending_trees e) (xs ++ ys) zs (closed l bs) front last in
+      let whole = fitting_both ks ds (d + 1) (x + 1) (y + 1) after trees (ending_trees e) (xs ++ ys) zs (left_by_label l bs) front last in
       let lines = append_assoc (xs ++ ys) zs rest ∙ append_assoc xs ys (zs ++ rest) in
-      fitting_both ks bs d n m c (comments_of s) _ [] (first ∷ (xs ++ ys ++ zs)) (closed l bs) f
-      (loop_fitting saved ks bs d x y c s l h p (trees ++ ending_trees e) (xs ++ ys ++ zs) (ys ++ (zs ++ rest)) rest (closed l bs) deep f.at inside lines
+      fitting_both ks bs d n m c (comments_of s) _ [] (first ∷ (xs ++ ys ++ zs)) (left_by_label l bs) f
+      (loop_fitting saved ks bs d x y c s l h p (trees ++ ending_trees e) (xs ++ ys ++ zs) (ys ++ (zs ++ rest)) rest (left_by_label l bs) deep f.at inside lines
       (private_body b (zs ++ rest) (private_ending e rest)) ok r.0 (first_sourced xs ys sources) whole)
 
-  ending_fit : (saved ks : List (List ℕ)) (bs : List Block) (l : ℕ) (v : List ℕ) (d n m : ℕ) (c : Context) (e : EndingForm) (rest : List Entry) → block_depth bs + 1 ≡ d → At ks (in_do l v ∷ bs) n m c
-      → IsTrue (ending_fits (l ∷ labels bs) l e) → Accepted saved c (ending_entries e ++ rest) → Sourced (ending_entries e) → Fitting ks (in_do l v ∷ bs) d n m c (ending_trees e) (ending_entries e) (closed l bs)
-  ending_fit saved ks bs l v d n m c (at_plain s p) rest deep a fits ok r =
-      let ds : List Block = in_do l v ∷ bs in
+  ending_fit : (saved ks : List (List ℕ)) (bs : List Block) (l : ℕ) (h : Head) (q : PrivateForm) (d n m : ℕ) (c : Context) (e : EndingForm) (rest : List Entry) → block_depth bs + 1 ≡ d → At ks (in_do (loop_of l h q) ∷ bs) n m c
+      → IsTrue (ending_fits (l ∷ labels bs) l e) → Accepted saved c (ending_entries e ++ rest) → Sourced (ending_entries e) → Fitting ks (in_do (loop_of l h q) ∷ bs) d n m c (ending_trees e) (ending_entries e) (left_by_label l bs)
+  ending_fit saved ks bs l h q d n m c (at_plain s p) rest deep a fits ok r =
+      let ds : List Block = in_do (loop_of l h q) ∷ bs in
       let f = comments_fitting ks ds d n m c s r.0.comments a in
-      let tests = passed saved ks ds n m c s (plain_item p) rest a ok in
-      fitting_both ks ds d n m c (comments_of s) (plain_trees p) [] (entry s (plain_item p) ∷ []) (closed l bs) f
-      (plain_fitting saved ks ds d (n + count_of (comments_of s)) (m + loops_of (comments_of s)) c s p rest (closed l bs) deep f.at ok r.0 (ending_blocks s.label p l v bs fits tests.ends_well))
-  ending_fit saved ks bs l v d n m c (with_inner f) rest deep a fits ok r =
-      let ds : List Block = in_do l v ∷ bs in
+      fitting_both ks ds d n m c (comments_of s) (plain_trees p) [] (entry s (plain_item p) ∷ []) (left_by_label l bs) f
+      (plain_fitting saved ks ds d (n + count_of (comments_of s)) (m + loops_of (comments_of s)) c s p rest (left_by_label l bs) deep f.at ok r.0 (ending_blocks c.behind_do s p l (loop_of l h q) bs fits refl))
+  ending_fit saved ks bs l h q d n m c (with_inner f) rest deep a fits ok r =
+      let ds : List Block = in_do (loop_of l h q) ∷ bs in
       let same = eqb-true (loop_label f) l (left_true _ (loop_fits (l ∷ labels bs) f) fits) in
-      subst (λ (cs : List Block). Fitting ks ds d n m c (loop_trees f) (loop_entries f) cs) (closed_self l (loop_label f) v bs same)
+      subst (λ (cs : List Block). Fitting ks ds d n m c (loop_trees f) (loop_entries f) cs) (left_self l (loop_label f) (loop_of l h q) bs same refl)
       (loop_fit saved ks ds d n m c f rest deep a (right_true _ (loop_fits (l ∷ labels bs) f) fits) ok r)

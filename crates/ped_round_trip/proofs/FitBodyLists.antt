@@ -1,40 +1,39 @@
 -- Statements that fit one behind the other, as a list; what each statement of a text says; and where a context stands.
-use Rattle.std.proofs.Common.{◌≡◌, ℕ, suc, ◌+◌, List, [], ◌∷◌, ◌++◌, length, true, false, cond, refl, sym, ap, subst, ◌∙◌, arith, append_assoc, append-nil}
-use Rattle.std.specs.Prelude.{nat_lt, map}
-use Rattle.std.specs.List.{AllByRecursion, list_all}
-use Rattle.ped_grammar.specs.Characters.{is_printable}
+use Rattle.std.proofs.Common.{◌≡◌, ℕ, ◌+◌, List, [], ◌∷◌, ◌++◌, Bool, true, false, cond, Option, Some, None, refl, sym, ap, subst, ◌∙◌, arith, append_assoc, append-nil, eqb}
+use Rattle.std.specs.Prelude.{IsTrue, map, not, ◌||◌, ◌==◌}
+use Rattle.std.specs.List.{AllByRecursion, list_all, list_any}
+use Rattle.std.proofs.lemmas.Bool.{and_from, or_parts, not-true}
 use Rattle.ped_tree.specs.Tree.{StmtTree, Comment}
 use Rattle.ped_tree.specs.Views.{pack_stmts}
 use Rattle.ped_tree.specs.Numbering.{statement_count, statements_count, loop_count, loops_count}
+use Rattle.ped_grammar.specs.Characters.{is_printable}
 use Rattle.ped_grammar.specs.Statement.{Note, Statement}
 use Rattle.ped_grammar.specs.Items.{Item, Entry}
-use Rattle.ped_grammar.specs.Occurrences.{of_reading, do_variables, constants_of}
-use Rattle.ped_grammar.specs.Contexts.{Block, Context, numbered_in, loops_in, blocks_behind, behind, behind_all}
-use Rattle.ped_grammar.specs.BlockForms.{entry, comments_of}
-use Rattle.ped_grammar.specs.Contexts.{open_variables}
+use Rattle.ped_grammar.specs.Occurrences.{constants_of}
+use Rattle.ped_grammar.specs.Contexts.{OpenLoop, Block, in_then, in_else, in_do, Context, open_loops, open_variables, has_do, left_by_label, left_by, numbered_in, loops_in, blocks_behind, behind, behind_all}
+use Rattle.ped_grammar.specs.BlockForms.{entry, comments_of, has_label, is_free}
 use Rattle.ped_grammar.specs.ProgramRefusals.{at_statement, at_statements}
 use Rattle.ped_grammar.specs.Reading.{IsReading}
+use Rattle.ped_grammar.specs.Fits.{Surroundings, moved, stmt_fits, stmts_fit}
 use Rattle.ped_recut.specs.Fitting.{IsCommentText}
 use Rattle.ped_blocks.proofs.BlocksFound.{right_empty}
-use Rattle.ped_round_trip.proofs.Fits.{Place, moved, loop_variables, all_loop_variables, Fits, AllFit}
+use Rattle.ped_round_trip.proofs.Fits.{comment_whole}
+use Rattle.ped_round_trip.proofs.KeptPrivate.{open_private}
 
 -- statements one behind the other, as a list
-abbrev pub ListFit : Place → List StmtTree → Type 0
+abbrev pub ListFit : Surroundings → List StmtTree → Type 0
 ListFit p [] = Unit {0}
-ListFit p (s ∷ ss) = Fits p s × ListFit (moved p (statement_count s) (loop_count s)) ss
+ListFit p (s ∷ ss) = (stmt_fits p s ≡ true) × ListFit (moved p (statement_count s) (loop_count s)) ss
 
-pub packed_fit : (p : Place) (ts : List StmtTree) → ListFit p ts → AllFit p (pack_stmts ts)
-packed_fit p [] f = tt
-packed_fit p (s ∷ ss) f = (f.0, packed_fit (moved p (statement_count s) (loop_count s)) ss f.1)
+pub packed_fit : (p : Surroundings) (ts : List StmtTree) → ListFit p ts → stmts_fit p (pack_stmts ts) ≡ true
+packed_fit p [] f = refl
+packed_fit p (s ∷ ss) f = and_from _ _ f.0 (packed_fit (moved p (statement_count s) (loop_count s)) ss f.1)
 
 abbrev pub count_of : List StmtTree → ℕ
 count_of ts = statements_count (pack_stmts ts)
 
 abbrev pub loops_of : List StmtTree → ℕ
 loops_of ts = loops_count (pack_stmts ts)
-
-abbrev pub variables_of : List StmtTree → List (List ℕ)
-variables_of ts = all_loop_variables (pack_stmts ts)
 
 sum_of : (a b c : ℕ) → a + (b + c) ≡ a + b + c
 sum_of a b c = omega arith
@@ -47,20 +46,16 @@ pub loops_both : (xs ys : List StmtTree) → loops_of (xs ++ ys) ≡ loops_of xs
 loops_both [] ys = omega arith
 loops_both (x ∷ xs) ys = ap (λ n. loop_count x + n) (loops_both xs ys) ∙ sum_of (loop_count x) (loops_of xs) (loops_of ys)
 
-pub variables_both : (xs ys : List StmtTree) → variables_of (xs ++ ys) ≡ variables_of xs ++ variables_of ys
-variables_both [] ys = refl
-variables_both (x ∷ xs) ys = ap (λ vs. loop_variables x ++ vs) (variables_both xs ys) ∙ sym (append_assoc (loop_variables x) (variables_of xs) (variables_of ys))
-
 pub none_more : (n : ℕ) → n + 0 ≡ n
 none_more n = omega arith
 
-pub lists_fit : (p : Place) (xs ys : List StmtTree) → ListFit p xs → ListFit (moved p (count_of xs) (loops_of xs)) ys → ListFit p (xs ++ ys)
-lists_fit p [] ys f g = subst (λ (q : Place). ListFit q ys) (λ i. record p { statements = none_more p.statements i; loops = none_more p.loops i }) g
+pub lists_fit : (p : Surroundings) (xs ys : List StmtTree) → ListFit p xs → ListFit (moved p (count_of xs) (loops_of xs)) ys → ListFit p (xs ++ ys)
+lists_fit p [] ys f g = subst (λ (q : Surroundings). ListFit q ys) (λ i. record p { statements = none_more p.statements i; loops = none_more p.loops i }) g
 lists_fit p (x ∷ xs) ys f g =
     let a = sum_of p.statements (statement_count x) (count_of xs) in
     let b = sum_of p.loops (loop_count x) (loops_of xs) in
     let q = moved p (statement_count x) (loop_count x) in
-    (f.0, lists_fit q xs ys f.1 (subst (λ (q : Place). ListFit q ys) (λ i. record p { statements = a i; loops = b i }) g))
+    (f.0, lists_fit q xs ys f.1 (subst (λ (q : Surroundings). ListFit q ys) (λ i. record p { statements = a i; loops = b i }) g))
 
 -- the entry says what some text of printable characters reads as, and the comments of its statement are texts of comments
 pub record IsSourced (e : Entry) : Type 0 where
@@ -108,47 +103,68 @@ pub at_same : (ks : List (List ℕ)) (bs : List Block) (n m k l : ℕ) (c : Cont
 at_same ks bs n m k l c e f a = record { constants_are = a.constants_are; blocks_are = a.blocks_are; statements_are = a.statements_are ∙ e; loops_are = a.loops_are ∙ f }
 
 pub at_behind : (ks : List (List ℕ)) (bs : List Block) (n m : ℕ) (c : Context) (s : Statement) (i : Item) → constants_of i ≡ [] → At ks bs n m c
-    → At ks (blocks_behind s.label i bs) (n + numbered_in i) (m + loops_in i) (behind c (entry s i))
+    → At ks (blocks_behind c.behind_do s i bs) (n + numbered_in i) (m + loops_in i) (behind c (entry s i))
 at_behind ks bs n m c s i none a =
     record {
       constants_are = (λ j. a.constants_are j ++ none j) ∙ append-nil ks;
-      blocks_are = ap (blocks_behind s.label i) a.blocks_are;
+      blocks_are = ap (blocks_behind c.behind_do s i) a.blocks_are;
       statements_are = ap (λ x. x + numbered_in i) a.statements_are;
       loops_are = ap (λ x. x + loops_in i) a.loops_are;
     }
 
--- the place in these blocks at this depth
-abbrev pub place : List (List ℕ) → List Block → ℕ → ℕ → ℕ → Place
-place ks bs d n m = record { constants = ks; variables = open_variables bs; depth = d; statements = n; loops = m }
+pub at_blocks : (ks : List (List ℕ)) (bs cs : List Block) (n m : ℕ) (c : Context) → bs ≡ cs → At ks bs n m c → At ks cs n m c
+at_blocks ks bs cs n m c same a = subst (λ (x : List Block). At ks x n m c) same a
 
--- behind these statements, which nest to these trees, these blocks are open; the variables of the loops in them are those of the loops in the trees
+-- labels that no open loop has
+
+abbrev pub labels : List Block → List ℕ
+labels bs = map (λ d. d.label) (open_loops bs)
+
+turned : (a b : ℕ) → eqb a b ≡ eqb b a
+turned a b = grind arith
+
+own_label : (l : ℕ) (ds : List OpenLoop) → list_any (λ m. l == m) (map (λ d. d.label) ds) ≡ list_any (λ d. d.label == l) ds
+own_label l [] = refl
+own_label l (d ∷ ds) = (let a = turned l d.label in let b = own_label l ds in λ i. a i || b i)
+
+pub left_none : (l : ℕ) (bs : List Block) → has_do l bs ≡ false → left_by_label l bs ≡ bs
+left_none l [] h = refl
+left_none l (in_then n ∷ bs) h = ap (λ x. cond x (left_by_label l bs) (in_then n ∷ bs)) h
+left_none l (in_else n ∷ bs) h = ap (λ x. cond x (left_by_label l bs) (in_else n ∷ bs)) h
+left_none l (in_do d ∷ bs) h = (let k = or_parts (d.label == l) (has_do l bs) h in λ i. cond (k.1 i) (left_by_label l bs) (cond (k.0 i) bs (in_do d ∷ bs)))
+
+left_free : (label : Option ℕ) (bs : List Block) → IsTrue (not (list_any (λ l. has_label l label) (labels bs))) → left_by label bs ≡ bs
+left_free None bs h = refl
+left_free (Some l) bs h = left_none l bs (sym (own_label l (open_loops bs)) ∙ not-true _ h)
+
+-- a statement whose label is that of no open loop ends none
+pub free_left : (s : Statement) (bs : List Block) → IsTrue (is_free (labels bs) s) → left_by s.label bs ≡ bs
+free_left s bs h = left_free s.label bs h
+
+-- the surroundings within these blocks at this depth
+abbrev pub place : List (List ℕ) → List Block → ℕ → ℕ → ℕ → Surroundings
+place ks bs d n m = record { constants = ks; variables = open_variables bs; private = open_private bs; depth = d; statements = n; loops = m }
+
+-- behind these statements, which nest to these trees, these blocks are open
 pub record Fitting (ks : List (List ℕ)) (bs : List Block) (d n m : ℕ) (c : Context) (ts : List StmtTree) (es : List Entry) (behind_blocks : List Block) : Type 0 where
   pub fits : ListFit (place ks bs d n m) ts
   pub at : At ks behind_blocks (n + count_of ts) (m + loops_of ts) (behind_all c es)
-  pub inner : (depth : ℕ) → nat_lt (length bs) depth ≡ false → (rest : List Entry) → inner_variables depth c (es ++ rest) ≡ variables_of ts ++ inner_variables depth (behind_all c es) rest
 
--- the blocks may change between the two, where their loops are the same
-pub fitting_across : (ks : List (List ℕ)) (bs : List Block) (d n m : ℕ) (c : Context) (xs ys : List StmtTree) (es gs : List Entry) (ds cs : List Block) → open_variables ds ≡ open_variables bs → length ds ≡ length bs
+-- the blocks may change between the two, where the surroundings are the same
+pub fitting_across : (ks : List (List ℕ)) (bs : List Block) (d n m : ℕ) (c : Context) (xs ys : List StmtTree) (es gs : List Entry) (ds cs : List Block) → place ks ds d (n + count_of xs) (m + loops_of xs) ≡ place ks bs d (n + count_of xs) (m + loops_of xs)
     → Fitting ks bs d n m c xs es ds → Fitting ks ds d (n + count_of xs) (m + loops_of xs) (behind_all c es) ys gs cs → Fitting ks bs d n m c (xs ++ ys) (es ++ gs) cs
-fitting_across ks bs d n m c xs ys es gs ds cs v k f g =
+fitting_across ks bs d n m c xs ys es gs ds cs same f g =
     let e = sym (sum_of n (count_of xs) (count_of ys)) ∙ ap (λ k. n + k) (sym (counts_both xs ys)) in
     let l = sym (sum_of m (loops_of xs) (loops_of ys)) ∙ ap (λ k. m + k) (sym (loops_both xs ys)) in
-    let both = behind_both c es gs in
-    let second = subst (λ (vs : List (List ℕ)). ListFit (record { constants = ks; variables = vs; depth = d; statements = n + count_of xs; loops = m + loops_of xs }) ys) v g.fits in
+    let second = subst (λ (p : Surroundings). ListFit p ys) same g.fits in
     record {
       fits = lists_fit (place ks bs d n m) xs ys f.fits second;
-      at = subst (λ (c : Context). At ks cs (n + count_of (xs ++ ys)) (m + loops_of (xs ++ ys)) c) (sym both) (at_same ks cs _ _ _ _ _ e l g.at);
-      inner = λ depth h rest.
-          ap (λ es. inner_variables depth c es) (append_assoc es gs rest)
-          ∙ f.inner depth h (gs ++ rest)
-          ∙ ap (λ vs. variables_of xs ++ vs) (g.inner depth (ap (λ x. nat_lt x depth) k ∙ h) rest)
-          ∙ sym (append_assoc (variables_of xs) (variables_of ys) _)
-          ∙ (λ i. sym (variables_both xs ys) i ++ inner_variables depth (sym both i) rest);
+      at = subst (λ (c : Context). At ks cs (n + count_of (xs ++ ys)) (m + loops_of (xs ++ ys)) c) (sym (behind_both c es gs)) (at_same ks cs _ _ _ _ _ e l g.at);
     }
 
 pub fitting_both : (ks : List (List ℕ)) (bs : List Block) (d n m : ℕ) (c : Context) (xs ys : List StmtTree) (es gs : List Entry) (cs : List Block)
     → Fitting ks bs d n m c xs es bs → Fitting ks bs d (n + count_of xs) (m + loops_of xs) (behind_all c es) ys gs cs → Fitting ks bs d n m c (xs ++ ys) (es ++ gs) cs
-fitting_both ks bs d n m c xs ys es gs cs f g = fitting_across ks bs d n m c xs ys es gs bs cs refl refl f g
+fitting_both ks bs d n m c xs ys es gs cs f g = fitting_across ks bs d n m c xs ys es gs bs cs refl f g
 
 -- comments are no statements
 abbrev pub CommentsFit : List Note → Type 0
@@ -165,42 +181,26 @@ comments_loops : (ns : List Note) → loops_of (trees_of ns) ≡ 0
 comments_loops [] = refl
 comments_loops (n ∷ ns) = ap (λ k. 0 + k) (comments_loops ns)
 
-comments_variables : (ns : List Note) → variables_of (trees_of ns) ≡ []
-comments_variables [] = refl
-comments_variables (n ∷ ns) = comments_variables ns
-
-comments_fit : (p : Place) (ns : List Note) → CommentsFit ns → ListFit p (trees_of ns)
+pub comments_fit : (p : Surroundings) (ns : List Note) → CommentsFit ns → ListFit p (trees_of ns)
 comments_fit p [] h = tt
-comments_fit p (n ∷ ns) h = (h.0, comments_fit (moved p 0 0) ns h.1)
+comments_fit p (n ∷ ns) h = (comment_whole n.text h.0, comments_fit (moved p 0 0) ns h.1)
 
 pub comments_fitting : (ks : List (List ℕ)) (bs : List Block) (d n m : ℕ) (c : Context) (s : Statement) → CommentsFit s.comments → At ks bs n m c → Fitting ks bs d n m c (comments_of s) [] bs
 comments_fitting ks bs d n m c s h a = record {
   fits = comments_fit (place ks bs d n m) s.comments h;
   at = at_same ks bs _ _ _ _ c (sym (none_more n) ∙ ap (λ k. n + k) (sym (comments_count s.comments))) (sym (none_more m) ∙ ap (λ k. m + k) (sym (comments_loops s.comments))) a;
-  inner = λ depth h rest. ap (λ vs. vs ++ inner_variables depth c rest) (sym (comments_variables s.comments));
 }
-
--- a loop that begins while enough blocks are open
-pub inner_step : (depth : ℕ) (c : Context) (e : Entry) (rest : List Entry) → nat_lt (length c.blocks) depth ≡ false → inner_variables depth c (e ∷ rest) ≡ of_reading do_variables e.reading ++ inner_variables depth (behind c e) rest
-inner_step depth c e rest h = ap (λ b. cond b [] (of_reading do_variables e.reading ++ inner_variables depth (behind c e) rest)) h
-
-pub inner_at : (ks : List (List ℕ)) (bs : List Block) (n m depth : ℕ) (c : Context) → At ks bs n m c → nat_lt (length bs) depth ≡ false → nat_lt (length c.blocks) depth ≡ false
-inner_at ks bs n m depth c a h = ap (λ (bs : List Block). nat_lt (length bs) depth) a.blocks_are ∙ h
 
 -- a single statement
 pub entry_fitting : (ks : List (List ℕ)) (bs : List Block) (d n m : ℕ) (c : Context) (s : Statement) (i : Item) (ts : List StmtTree) (cs : List Block)
-    → constants_of i ≡ [] → numbered_in i ≡ count_of ts → loops_in i ≡ loops_of ts → do_variables i ≡ variables_of ts → blocks_behind s.label i bs ≡ cs
+    → constants_of i ≡ [] → numbered_in i ≡ count_of ts → loops_in i ≡ loops_of ts → blocks_behind c.behind_do s i bs ≡ cs
     → At ks bs n m c → ListFit (place ks bs d n m) ts → Fitting ks bs d n m c ts (entry s i ∷ []) cs
-entry_fitting ks bs d n m c s i ts cs none counted looped vs blocks a f =
+entry_fitting ks bs d n m c s i ts cs none counted looped blocks a f =
     let b = at_behind ks bs n m c s i none a in
-    record {
-      fits = f;
-      at = subst (λ (x : List Block). At ks x (n + count_of ts) (m + loops_of ts) (behind c (entry s i))) blocks (at_same ks _ _ _ _ _ _ (ap (λ k. n + k) counted) (ap (λ k. m + k) looped) b);
-      inner = λ depth h rest. inner_step depth c (entry s i) rest (inner_at ks bs n m depth c a h) ∙ ap (λ xs. xs ++ inner_variables depth (behind c (entry s i)) rest) vs;
-    }
+    record { fits = f; at = at_blocks ks _ cs _ _ _ blocks (at_same ks _ _ _ _ _ _ (ap (λ k. n + k) counted) (ap (λ k. m + k) looped) b) }
 
 pub nothing_fitting : (ks : List (List ℕ)) (bs : List Block) (d n m : ℕ) (c : Context) → At ks bs n m c → Fitting ks bs d n m c [] [] bs
-nothing_fitting ks bs d n m c a = record { fits = tt; at = at_same ks bs _ _ _ _ c (sym (none_more n)) (sym (none_more m)) a; inner = λ depth h rest. refl }
+nothing_fitting ks bs d n m c a = record { fits = tt; at = at_same ks bs _ _ _ _ c (sym (none_more n)) (sym (none_more m)) a }
 
 -- comments behind statements, which belong to the statement that follows
 pub with_comments : (ks : List (List ℕ)) (bs : List Block) (d n m : ℕ) (c : Context) (xs : List StmtTree) (es : List Entry) (s : Statement) → CommentsFit s.comments → Fitting ks bs d n m c xs es bs
@@ -211,14 +211,10 @@ with_comments ks bs d n m c xs es s h f =
 
 -- a statement with no tree but its comments
 pub bare_fitting : (ks : List (List ℕ)) (bs : List Block) (d n m : ℕ) (c : Context) (s : Statement) (i : Item) (cs : List Block)
-    → constants_of i ≡ [] → numbered_in i ≡ 0 → loops_in i ≡ 0 → do_variables i ≡ [] → blocks_behind s.label i bs ≡ cs
+    → constants_of i ≡ [] → numbered_in i ≡ 0 → loops_in i ≡ 0 → blocks_behind c.behind_do s i bs ≡ cs
     → At ks bs n m c → CommentsFit s.comments → Fitting ks bs d n m c (comments_of s) (entry s i ∷ []) cs
-bare_fitting ks bs d n m c s i cs none counted looped vs blocks a h =
+bare_fitting ks bs d n m c s i cs none counted looped blocks a h =
     let f = comments_fitting ks bs d n m c s h a in
     subst (λ (ts : List StmtTree). Fitting ks bs d n m c ts (entry s i ∷ []) cs) (append-nil (comments_of s))
     (fitting_both ks bs d n m c (comments_of s) [] [] (entry s i ∷ []) cs f
-    (entry_fitting ks bs d (n + count_of (comments_of s)) (m + loops_of (comments_of s)) c s i [] cs none counted looped vs blocks f.at tt))
-
--- a loop more is open
-pub one_longer : (n k : ℕ) → nat_lt n k ≡ false → nat_lt (suc n) k ≡ false
-one_longer n k h = grind arith
+    (entry_fitting ks bs d (n + count_of (comments_of s)) (m + loops_of (comments_of s)) c s i [] cs none counted looped blocks f.at tt))

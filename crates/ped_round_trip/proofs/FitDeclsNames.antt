@@ -9,7 +9,7 @@ use Rattle.ped_grammar.specs.StatementForms.{are_names, BoundForm, upper_bound, 
 use Rattle.ped_grammar.specs.Statement.{Note}
 use Rattle.ped_grammar.specs.Items.{Item, Reading, says, outside_profile, no_form, Entry}
 use Rattle.ped_tree.specs.NamesIn.{expr_names, exprs_names, cond_names, item_names, head_names, stmts_names, declarator_names, first_occurrences}
-use Rattle.ped_grammar.specs.Occurrences.{names_in, of_reading, is_rejection, rejected_name, rejected_names, entry_names, saved_names}
+use Rattle.ped_grammar.specs.Occurrences.{names_in, of_reading, is_rejection, rejected_name, rejected_names, entry_names, is_end_entry, up_to_end, saved_names}
 use Rattle.ped_base.specs.Lists.{is_among}
 use Rattle.ped_grammar.specs.Reading.{IsReading}
 use Rattle.ped_round_trip.proofs.FitBodyLists.{IsSourced, Sourced}
@@ -229,6 +229,16 @@ kept_named : (test : List ℕ → Bool) (xs : List (List ℕ)) → Named xs → 
 kept_named test [] h = tt
 kept_named test (x ∷ xs) h = either_named (test x) (x ∷ filter test xs) (filter test xs) (h.0, kept_named test xs h.1) (kept_named test xs h.1)
 
+up_to : (b : Bool) (e : Entry) (es : List Entry) → IsSourced e → Sourced es → Sourced (cond b (e ∷ []) (e ∷ es))
+up_to true e es h k = (h, tt)
+up_to false e es h k = (h, k)
+
+sourced_to_end : (es : List Entry) → Sourced es → Sourced (up_to_end es)
+sourced_to_end [] h = tt
+sourced_to_end (e ∷ es) h = up_to (is_end_entry e.reading) e (up_to_end es) h.0 (sourced_to_end es h.1)
+
 -- what SAVE without a list saves
 pub saved_named : (es : List Entry) → Sourced es → Named (saved_names es)
-saved_named es h = kept_named _ (first_occurrences [] (flat_map entry_names es)) (first_named [] (flat_map entry_names es) (entries_named es h))
+saved_named es h =
+    let names = flat_map entry_names (up_to_end es) in
+    kept_named _ (first_occurrences [] names) (first_named [] names (entries_named (up_to_end es) (sourced_to_end es h)))

@@ -2,14 +2,14 @@
 use Rattle.std.proofs.Common.{◌≡◌, ℕ, zero, suc, ◌+◌, ◌*◌, ◌%◌, ◌<◌, inl, inr, Bool, true, false, cond, List, [], ◌∷◌, ◌++◌, map, length, min, refl, sym, ap, ◌∙◌, append_assoc, length-append, eqb, leb, arith}
 use Rattle.std.specs.Prelude.{◌/◌, not, ◌&&◌, ◌||◌, ◌==◌, if◌then◌else◌, nat_lt, codes}
 use Rattle.std.specs.List.{list_all, list_any, flat_map, join_by}
+use Rattle.std.specs.Char.{is_ascii_alphabetic}
 use Rattle.std.specs.Fmt.{decimal, digits, digits_onto, digit_glyph}
 use Rattle.std.proofs.Math.Nat.{mod-lt, min-le_right}
 use Rattle.std.proofs.lemmas.Bool.{cond_both, not-true, not_from_false, ne_eqb, lt-ltb, ltb-false, leb-true, le-leb, and_parts, and_from, or_cases, or_from, or_left, or_right}
 use Rattle.std.proofs.lemmas.List.{append-nil, length-replicate}
-use Rattle.std.proofs.lemmas.List.Folds.{list_all-append}
 use Rattle.ped_base.specs.Letters
-use Rattle.ped_grammar.specs.Columns.{is_digit}
-use Rattle.ped_grammar.specs.Characters.{is_letter, is_character, is_printable, is_quoted, is_bad, has_bad}
+use Rattle.ped_base.specs.Letters.{is_digit}
+use Rattle.ped_grammar.specs.Characters.{is_character, is_printable, is_quoted, is_bad, has_bad}
 use Rattle.ped_grammar.specs.Words.{is_name}
 use Rattle.ped_tree.specs.Printing.{blanks, doubled, constant_text}
 use Rattle.ped_lines.proofs.Quoting.{quoted_more, has_bad_append}
@@ -71,13 +71,13 @@ words (c ∷ cs) h =
 capital_plain : (c : ℕ) → Letters.is_letter c ≡ true → is_plain c ≡ true
 capital_plain c h =
     let low = leb-true 65 c (and_parts (leb 65 c) (leb c 90) h).0 in
-    let stands : is_character c ≡ true = or_left (is_letter c || is_digit c) (list_any (λ x. x == c) (codes " =+-*/(),.'$:")) (or_left (is_letter c) (is_digit c) (or_left (leb 65 c && leb c 90) (leb 97 c && leb c 122) h)) in
+    let stands : is_character c ≡ true = or_left (is_ascii_alphabetic c || is_digit c) (list_any (λ x. x == c) (codes " =+-*/(),.'$:")) (or_left (is_ascii_alphabetic c) (is_digit c) (or_left (leb 65 c && leb c 90) (leb 97 c && leb c 122) h)) in
     and_from (is_character c) (not (eqb c 39)) stands (not_from_false (eqb c 39) (ne_eqb c 39 (λ e. omega arith)))
 
 digit_plain : (c : ℕ) → is_digit c ≡ true → is_plain c ≡ true
 digit_plain c h =
     let low = leb-true 48 c (and_parts (leb 48 c) (leb c 57) h).0 in
-    let stands : is_character c ≡ true = or_left (is_letter c || is_digit c) (list_any (λ x. x == c) (codes " =+-*/(),.'$:")) (or_right (is_letter c) (is_digit c) h) in
+    let stands : is_character c ≡ true = or_left (is_ascii_alphabetic c || is_digit c) (list_any (λ x. x == c) (codes " =+-*/(),.'$:")) (or_right (is_ascii_alphabetic c) (is_digit c) h) in
     and_from (is_character c) (not (eqb c 39)) stands (not_from_false (eqb c 39) (ne_eqb c 39 (λ e. omega arith)))
 
 name_plain : (x : List ℕ) → list_all Letters.is_alphanumeric x ≡ true → list_all is_plain x ≡ true
@@ -121,30 +121,30 @@ decimal_passes n = words (decimal n) (onto_plain 64 n [] refl)
 
 -- constants
 
-pub front_back : (p : ℕ → Bool) (a b : List ℕ) → list_all p (a ++ b) ≡ true → (list_all p a ≡ true) × (list_all p b ≡ true)
-front_back p a b h = and_parts (list_all p a) (list_all p b) (sym (list_all-append p a b) ∙ h)
-
-doubled_passes : (text : List ℕ) → list_all is_printable (doubled text) ≡ true → Passes true true (doubled text)
+doubled_passes : (text : List ℕ) → list_all is_printable text ≡ true → Passes true true (doubled text)
 doubled_passes [] h = nothing true
 doubled_passes (c ∷ cs) h =
-    let k = front_back is_printable (if c == 39 then 39 ∷ 39 ∷ [] else c ∷ []) (doubled cs) h in
+    let k = and_parts (is_printable c) (list_all is_printable cs) h in
     let two : Passes true true (39 ∷ 39 ∷ []) = joined {m = false} (single true false 39 refl refl) (single false true 39 refl refl) in
-    let here = cond_both (eqb c 39) (39 ∷ 39 ∷ []) (c ∷ []) (λ (t : List ℕ). list_all is_printable t ≡ true → Passes true true t) (λ e p. two) (λ e p. single true true c (and_parts (is_printable c) true p).0 (ap (λ (b : Bool). cond b false true) e)) in
-    joined (here k.0) (doubled_passes cs k.1)
+    let here = cond_both (eqb c 39) (39 ∷ 39 ∷ []) (c ∷ []) (Passes true true) (λ e. two) (λ e. single true true c k.0 (ap (λ (b : Bool). cond b false true) e)) in
+    joined here (doubled_passes cs k.1)
 
-pub constant_passes : (text : List ℕ) → list_all is_printable (constant_text text) ≡ true → Lettered (constant_text text)
-constant_passes text h =
-    let k = front_back is_printable (doubled text) (39 ∷ []) h in
-    joined {m = true} (single false true 39 refl refl) (joined {m = true} (doubled_passes text k.0) (single true false 39 refl refl))
+pub constant_passes : (text : List ℕ) → list_all is_printable text ≡ true → Lettered (constant_text text)
+constant_passes text h = joined {m = true} (single false true 39 refl refl) (joined {m = true} (doubled_passes text h) (single true false 39 refl refl))
 
 -- lists of parts
 
-pub further : {F T : Type 0} (form_tree : F → T) (text : T → List ℕ) (separator : List ℕ) → Lettered separator → ((f : F) → Lettered (text (form_tree f))) → (fs : List F) → Lettered (flat_map (λ t. separator ++ text t) (map form_tree fs))
-further form_tree text separator s each [] = nothing false
-further form_tree text separator s each (f ∷ fs) = joined (joined s (each f)) (further form_tree text separator s each fs)
+pub further : {T : Type 0} (test : T → Bool) (text : T → List ℕ) (separator : List ℕ) → Lettered separator → ((t : T) → test t ≡ true → Lettered (text t)) → (ts : List T) → list_all test ts ≡ true → Lettered (flat_map (λ t. separator ++ text t) ts)
+further test text separator s each [] h = nothing false
+further test text separator s each (t ∷ ts) h =
+    let k = and_parts (test t) (list_all test ts) h in
+    joined (joined s (each t k.0)) (further test text separator s each ts k.1)
 
-pub listed : {F T : Type 0} (form_tree : F → T) (text : T → List ℕ) (separator : List ℕ) → Lettered separator → ((f : F) → Lettered (text (form_tree f))) → (f : F) (fs : List F) → Lettered (join_by text separator (map form_tree (f ∷ fs)))
-listed form_tree text separator s each f fs = joined (each f) (further form_tree text separator s each fs)
+pub listed : {T : Type 0} (test : T → Bool) (text : T → List ℕ) (separator : List ℕ) → Lettered separator → ((t : T) → test t ≡ true → Lettered (text t)) → (ts : List T) → list_all test ts ≡ true → Lettered (join_by text separator ts)
+listed test text separator s each [] h = nothing false
+listed test text separator s each (t ∷ ts) h =
+    let k = and_parts (test t) (list_all test ts) h in
+    joined (each t k.0) (further test text separator s each ts k.1)
 
 -- texts that begin at once
 

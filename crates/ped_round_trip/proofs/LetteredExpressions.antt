@@ -1,15 +1,15 @@
--- Printed expressions and conditions have characters that may stand outside constants.
-use Rattle.std.proofs.Common.{ℕ, Bool, true, false, List, ◌++◌, refl}
-use Rattle.std.specs.Prelude.{codes}
+-- Printed expressions and conditions that fit have characters that may stand outside constants.
+use Rattle.std.proofs.Common.{◌≡◌, ℕ, Bool, true, false, List, ◌++◌, refl}
+use Rattle.std.specs.Prelude.{codes, ◌&&◌}
+use Rattle.std.proofs.lemmas.Bool.{and_parts}
 use Rattle.ped_tree.specs.declared.expressions.Intrinsic.{Intrinsic}
 use Rattle.ped_tree.specs.declared.expressions.Intrinsic.TheVariants.{Mod, Abs, Max, Min}
 use Rattle.ped_tree.specs.declared.conditions.Relation.{Relation}
 use Rattle.ped_tree.specs.declared.conditions.Relation.TheVariants as relations
-use Rattle.ped_tree.specs.Tree.{ExprTree, ExprTrees, Pow, Call, no_exprs, more_exprs, CondTree}
-use Rattle.ped_grammar.specs.Words.{numeral_value}
+use Rattle.ped_tree.specs.Tree.{ExprTree, ExprTrees, Int, Var, Element, Neg, Add, Sub, Mul, Div, Pow, Call, no_exprs, more_exprs, CondTree, Rel, Not, And, Or}
 use Rattle.ped_tree.specs.Printing.{Place, alone, as_term, as_factor, as_base, encloses_sum, encloses_product, encloses_power, enclosed, intrinsic_text, expr_text, exprs_text, further_text, value_text, relation_text, Standing, whole, in_or, in_and, in_not, encloses_or, encloses_and, encloses_not, cond_text}
-use Rattle.ped_grammar.specs.ExpressionForms.{Sign, unsigned, positive, negative, Adding, add, subtract, Scaling, multiply, divide, ExprForm, TermForm, FactorForm, PrimaryForm, ReferenceForm, ExprsForm, first, sum, single, product, plain, power, literal, reference, remainder, absolute, greatest, least, parentheses, scalar, element, one, more, signed, added, scaled, expr_form_tree, term_form_tree, factor_form_tree, primary_form_tree, reference_form_tree, exprs_form_trees}
-use Rattle.ped_grammar.specs.ConditionForms.{CondForm, LogicalTermForm, LogicalFactorForm, LogicalPrimaryForm, one_term, or, one_factor, and, affirmed, negated, relation, group, cond_form_tree, logical_term_tree, logical_factor_tree, logical_primary_tree}
+use Rattle.ped_grammar.specs.Words.{is_name, intrinsic_of}
+use Rattle.ped_grammar.specs.Fits.{is_no_intrinsic, takes_arguments, has_expr, expr_fits, exprs_fit, target_fits, cond_fits}
 use Rattle.ped_round_trip.proofs.Lettered.{Lettered, joined, nothing, words, name_passes, decimal_passes, Written, followed, name_begins}
 
 -- parentheses
@@ -24,84 +24,71 @@ in_parentheses x t h k = joined (joined (joined h (words (codes "(") refl)) k) (
 between : (a op b : List ℕ) → Lettered a → Lettered op → Lettered b → Lettered (a ++ op ++ b)
 between a op b h o k = joined (joined h o) k
 
--- expressions, wherever they stand
-
-abbrev Anywhere : ExprTree → Type 0
-Anywhere e = (p : Place) → Lettered (expr_text p e)
-
--- one or more with commas, and the same behind another
-abbrev Listed : ExprTrees → Type 0
-Listed es = Lettered (exprs_text es) × Lettered (further_text es)
-
 intrinsic_passes : (f : Intrinsic) → Lettered (intrinsic_text f)
 intrinsic_passes Mod = words (codes "MOD") refl
 intrinsic_passes Abs = words (codes "ABS") refl
 intrinsic_passes Max = words (codes "MAX") refl
 intrinsic_passes Min = words (codes "MIN") refl
 
-signed_passes : (s : Sign) (a : ExprTree) → Anywhere a → Anywhere (signed s a)
-signed_passes unsigned a h p = h p
-signed_passes positive a h p = h p
-signed_passes negative a h p = enclosed_passes (encloses_sum p) (codes "-" ++ expr_text as_term a) (joined (words (codes "-") refl) (h as_term))
-
-added_passes : (op : Adding) (a b : ExprTree) → Anywhere a → Anywhere b → Anywhere (added op a b)
-added_passes add a b h k p = enclosed_passes (encloses_sum p) (expr_text alone a ++ codes "+" ++ expr_text as_term b) (between (expr_text alone a) (codes "+") (expr_text as_term b) (h alone) (words (codes "+") refl) (k as_term))
-added_passes subtract a b h k p = enclosed_passes (encloses_sum p) (expr_text alone a ++ codes "-" ++ expr_text as_term b) (between (expr_text alone a) (codes "-") (expr_text as_term b) (h alone) (words (codes "-") refl) (k as_term))
-
-scaled_passes : (op : Scaling) (a b : ExprTree) → Anywhere a → Anywhere b → Anywhere (scaled op a b)
-scaled_passes multiply a b h k p = enclosed_passes (encloses_product p) (expr_text as_term a ++ codes "*" ++ expr_text as_factor b) (between (expr_text as_term a) (codes "*") (expr_text as_factor b) (h as_term) (words (codes "*") refl) (k as_factor))
-scaled_passes divide a b h k p = enclosed_passes (encloses_product p) (expr_text as_term a ++ codes "/" ++ expr_text as_factor b) (between (expr_text as_term a) (codes "/") (expr_text as_factor b) (h as_term) (words (codes "/") refl) (k as_factor))
-
-power_passes : (a b : ExprTree) → Anywhere a → Anywhere b → Anywhere (Pow a b)
-power_passes a b h k p = enclosed_passes (encloses_power p) (expr_text as_base a ++ codes "**" ++ expr_text as_factor b) (between (expr_text as_base a) (codes "**") (expr_text as_factor b) (h as_base) (words (codes "**") refl) (k as_factor))
-
-one_more : (e : ExprTree) (es : ExprTrees) → Anywhere e → Lettered (further_text es) → Listed (more_exprs e es)
-one_more e es h k = (joined (h alone) k, joined (joined (words (codes ",") refl) (h alone)) k)
-
-call_passes : (f : Intrinsic) (es : ExprTrees) → Listed es → Anywhere (Call f es)
-call_passes f es h p = in_parentheses (intrinsic_text f) (exprs_text es) (intrinsic_passes f) h.0
-
+-- expressions, wherever they stand
 mutual
-  expr_anywhere : (f : ExprForm) → Anywhere (expr_form_tree f)
-  expr_anywhere (first s t) = signed_passes s (term_form_tree t) (term_anywhere t)
-  expr_anywhere (sum e op t) = added_passes op (expr_form_tree e) (term_form_tree t) (expr_anywhere e) (term_anywhere t)
+  expr_passes : (e : ExprTree) → expr_fits e ≡ true → (p : Place) → Lettered (expr_text p e)
+  expr_passes (Int n) h p = decimal_passes n
+  expr_passes (Var x) h p = name_passes x h
+  expr_passes (Element x es) h p =
+      let a = and_parts _ (exprs_fit es) h in
+      let b = and_parts _ (has_expr es) a.0 in
+      let c = and_parts (is_name x) (is_no_intrinsic (intrinsic_of x)) b.0 in
+      in_parentheses x (exprs_text es) (name_passes x c.0) (exprs_pass es a.1).0
+  expr_passes (Neg a) h p = enclosed_passes (encloses_sum p) (codes "-" ++ expr_text as_term a) (joined (words (codes "-") refl) (expr_passes a h as_term))
+  expr_passes (Add a b) h p =
+      let k = and_parts (expr_fits a) (expr_fits b) h in
+      enclosed_passes (encloses_sum p) _ (between (expr_text alone a) (codes "+") (expr_text as_term b) (expr_passes a k.0 alone) (words (codes "+") refl) (expr_passes b k.1 as_term))
+  expr_passes (Sub a b) h p =
+      let k = and_parts (expr_fits a) (expr_fits b) h in
+      enclosed_passes (encloses_sum p) _ (between (expr_text alone a) (codes "-") (expr_text as_term b) (expr_passes a k.0 alone) (words (codes "-") refl) (expr_passes b k.1 as_term))
+  expr_passes (Mul a b) h p =
+      let k = and_parts (expr_fits a) (expr_fits b) h in
+      enclosed_passes (encloses_product p) _ (between (expr_text as_term a) (codes "*") (expr_text as_factor b) (expr_passes a k.0 as_term) (words (codes "*") refl) (expr_passes b k.1 as_factor))
+  expr_passes (Div a b) h p =
+      let k = and_parts (expr_fits a) (expr_fits b) h in
+      enclosed_passes (encloses_product p) _ (between (expr_text as_term a) (codes "/") (expr_text as_factor b) (expr_passes a k.0 as_term) (words (codes "/") refl) (expr_passes b k.1 as_factor))
+  expr_passes (Pow a b) h p =
+      let k = and_parts (expr_fits a) (expr_fits b) h in
+      enclosed_passes (encloses_power p) _ (between (expr_text as_base a) (codes "**") (expr_text as_factor b) (expr_passes a k.0 as_base) (words (codes "**") refl) (expr_passes b k.1 as_factor))
+  expr_passes (Call f es) h p =
+      let k = and_parts (takes_arguments f es) (exprs_fit es) h in
+      in_parentheses (intrinsic_text f) (exprs_text es) (intrinsic_passes f) (exprs_pass es k.1).0
 
-  term_anywhere : (f : TermForm) → Anywhere (term_form_tree f)
-  term_anywhere (single f) = factor_anywhere f
-  term_anywhere (product t op f) = scaled_passes op (term_form_tree t) (factor_form_tree f) (term_anywhere t) (factor_anywhere f)
+  -- one behind the other with commas, and the same behind another
+  exprs_pass : (es : ExprTrees) → exprs_fit es ≡ true → Lettered (exprs_text es) × Lettered (further_text es)
+  exprs_pass no_exprs h = (nothing false, nothing false)
+  exprs_pass (more_exprs e es) h =
+      let k = and_parts (expr_fits e) (exprs_fit es) h in
+      let first = expr_passes e k.0 alone in
+      let rest = (exprs_pass es k.1).1 in
+      (joined first rest, joined (joined (words (codes ",") refl) first) rest)
 
-  factor_anywhere : (f : FactorForm) → Anywhere (factor_form_tree f)
-  factor_anywhere (plain p) = primary_anywhere p
-  factor_anywhere (power p f) = power_passes (primary_form_tree p) (factor_form_tree f) (primary_anywhere p) (factor_anywhere f)
+pub value_passes : (e : ExprTree) → expr_fits e ≡ true → Lettered (value_text e)
+value_passes e h = expr_passes e h alone
 
-  primary_anywhere : (f : PrimaryForm) → Anywhere (primary_form_tree f)
-  primary_anywhere (literal ds is) = λ p. decimal_passes (numeral_value ds)
-  primary_anywhere (reference r) = reference_anywhere r
-  primary_anywhere (remainder x is a b) = call_passes Mod (more_exprs (expr_form_tree a) (more_exprs (expr_form_tree b) no_exprs)) (one_more (expr_form_tree a) (more_exprs (expr_form_tree b) no_exprs) (expr_anywhere a) (one_more (expr_form_tree b) no_exprs (expr_anywhere b) (nothing false)).1)
-  primary_anywhere (absolute x is a) = call_passes Abs (more_exprs (expr_form_tree a) no_exprs) (one_more (expr_form_tree a) no_exprs (expr_anywhere a) (nothing false))
-  primary_anywhere (greatest x is a rest) = call_passes Max (more_exprs (expr_form_tree a) (exprs_form_trees rest)) (one_more (expr_form_tree a) (exprs_form_trees rest) (expr_anywhere a) (exprs_anywhere rest).1)
-  primary_anywhere (least x is a rest) = call_passes Min (more_exprs (expr_form_tree a) (exprs_form_trees rest)) (one_more (expr_form_tree a) (exprs_form_trees rest) (expr_anywhere a) (exprs_anywhere rest).1)
-  primary_anywhere (parentheses e) = expr_anywhere e
-
-  reference_anywhere : (r : ReferenceForm) → Anywhere (reference_form_tree r)
-  reference_anywhere (scalar x is) = λ p. name_passes x is
-  reference_anywhere (element x is other es) = λ p. in_parentheses x (exprs_text (exprs_form_trees es)) (name_passes x is) (exprs_anywhere es).0
-
-  exprs_anywhere : (f : ExprsForm) → Listed (exprs_form_trees f)
-  exprs_anywhere (one e) = one_more (expr_form_tree e) no_exprs (expr_anywhere e) (nothing false)
-  exprs_anywhere (more e rest) = one_more (expr_form_tree e) (exprs_form_trees rest) (expr_anywhere e) (exprs_anywhere rest).1
-
-pub value_passes : (f : ExprForm) → Lettered (value_text (expr_form_tree f))
-value_passes f = expr_anywhere f alone
-
-pub reference_passes : (r : ReferenceForm) → Lettered (value_text (reference_form_tree r))
-reference_passes r = reference_anywhere r alone
-
-pub reference_written : (r : ReferenceForm) → Written (value_text (reference_form_tree r))
-reference_written (scalar x is) = record { begins = name_begins x is; letters = name_passes x is }
-reference_written (element x is other es) =
-    let name : Written x = record { begins = name_begins x is; letters = name_passes x is } in
-    followed (followed (followed name (words (codes "(") refl)) (exprs_anywhere es).0) (words (codes ")") refl)
+-- a scalar or an element
+pub target_written : (e : ExprTree) → target_fits e ≡ true → Written (value_text e)
+target_written (Int n) h = absurd cc
+target_written (Var x) h = record { begins = name_begins x h; letters = name_passes x h }
+target_written (Element x es) h =
+    let a = and_parts _ (exprs_fit es) h in
+    let b = and_parts _ (has_expr es) a.0 in
+    let c = and_parts (is_name x) (is_no_intrinsic (intrinsic_of x)) b.0 in
+    let name : Written x = record { begins = name_begins x c.0; letters = name_passes x c.0 } in
+    followed (followed (followed name (words (codes "(") refl)) (exprs_pass es a.1).0) (words (codes ")") refl)
+target_written (Neg a) h = absurd cc
+target_written (Add a b) h = absurd cc
+target_written (Sub a b) h = absurd cc
+target_written (Mul a b) h = absurd cc
+target_written (Div a b) h = absurd cc
+target_written (Pow a b) h = absurd cc
+target_written (Call f es) h = absurd cc
 
 -- conditions
 
@@ -114,25 +101,17 @@ relation_passes relations.Gt = words (codes ".GT.") refl
 relation_passes relations.Ge = words (codes ".GE.") refl
 
 -- wherever the condition stands
-abbrev Somewhere : CondTree → Type 0
-Somewhere c = (s : Standing) → Lettered (cond_text s c)
+cond_anywhere : (c : CondTree) → cond_fits c ≡ true → (s : Standing) → Lettered (cond_text s c)
+cond_anywhere (Rel r a b) h s =
+    let k = and_parts (expr_fits a) (expr_fits b) h in
+    between (value_text a) (relation_text r) (value_text b) (value_passes a k.0) (relation_passes r) (value_passes b k.1)
+cond_anywhere (Not a) h s = enclosed_passes (encloses_not s) (codes ".NOT." ++ cond_text in_not a) (joined (words (codes ".NOT.") refl) (cond_anywhere a h in_not))
+cond_anywhere (And a b) h s =
+    let k = and_parts (cond_fits a) (cond_fits b) h in
+    enclosed_passes (encloses_and s) _ (between (cond_text in_or a) (codes ".AND.") (cond_text in_and b) (cond_anywhere a k.0 in_or) (words (codes ".AND.") refl) (cond_anywhere b k.1 in_and))
+cond_anywhere (Or a b) h s =
+    let k = and_parts (cond_fits a) (cond_fits b) h in
+    enclosed_passes (encloses_or s) _ (between (cond_text whole a) (codes ".OR.") (cond_text in_or b) (cond_anywhere a k.0 whole) (words (codes ".OR.") refl) (cond_anywhere b k.1 in_or))
 
-mutual
-  cond_somewhere : (c : CondForm) → Somewhere (cond_form_tree c)
-  cond_somewhere (one_term t) = term_somewhere t
-  cond_somewhere (or c t) = λ s. enclosed_passes (encloses_or s) (cond_text whole (cond_form_tree c) ++ codes ".OR." ++ cond_text in_or (logical_term_tree t)) (between (cond_text whole (cond_form_tree c)) (codes ".OR.") (cond_text in_or (logical_term_tree t)) (cond_somewhere c whole) (words (codes ".OR.") refl) (term_somewhere t in_or))
-
-  term_somewhere : (t : LogicalTermForm) → Somewhere (logical_term_tree t)
-  term_somewhere (one_factor f) = factor_somewhere f
-  term_somewhere (and t f) = λ s. enclosed_passes (encloses_and s) (cond_text in_or (logical_term_tree t) ++ codes ".AND." ++ cond_text in_and (logical_factor_tree f)) (between (cond_text in_or (logical_term_tree t)) (codes ".AND.") (cond_text in_and (logical_factor_tree f)) (term_somewhere t in_or) (words (codes ".AND.") refl) (factor_somewhere f in_and))
-
-  factor_somewhere : (f : LogicalFactorForm) → Somewhere (logical_factor_tree f)
-  factor_somewhere (affirmed p) = primary_somewhere p
-  factor_somewhere (negated p) = λ s. enclosed_passes (encloses_not s) (codes ".NOT." ++ cond_text in_not (logical_primary_tree p)) (joined (words (codes ".NOT.") refl) (primary_somewhere p in_not))
-
-  primary_somewhere : (p : LogicalPrimaryForm) → Somewhere (logical_primary_tree p)
-  primary_somewhere (relation a r b) = λ s. between (value_text (expr_form_tree a)) (relation_text r) (value_text (expr_form_tree b)) (value_passes a) (relation_passes r) (value_passes b)
-  primary_somewhere (group c) = cond_somewhere c
-
-pub cond_passes : (c : CondForm) → Lettered (cond_text whole (cond_form_tree c))
-cond_passes c = cond_somewhere c whole
+pub cond_passes : (c : CondTree) → cond_fits c ≡ true → Lettered (cond_text whole c)
+cond_passes c h = cond_anywhere c h whole

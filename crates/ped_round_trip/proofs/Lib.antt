@@ -11,8 +11,11 @@ pub mod FitDeclsNames
 pub mod FitDeclsWhole
 pub mod Fits
 pub mod Forms
+pub mod FormsFit
+pub mod FormsOf
 pub mod Good
 pub mod Items
+pub mod KeptPrivate
 pub mod Labels
 pub mod Lettered
 pub mod LetteredDeclarations

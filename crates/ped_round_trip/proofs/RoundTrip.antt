@@ -1,7 +1,9 @@
 -- A program that fits is read from its printed text.
-use Rattle.std.proofs.Common.{◌≡◌, List, [], ◌∷◌, map, None, refl, sym, ap, ◌∙◌, subst}
+use Rattle.std.proofs.Common.{◌≡◌, ◌+◌, true, List, [], ◌∷◌, map, None, refl, sym, ap, ◌∙◌, subst}
 use Rattle.std.specs.List.{AllByRecursion}
+use Rattle.std.proofs.lemmas.Bool.{and_parts}
 use Rattle.ped_tree.specs.Tree.{StmtTree, StmtTrees, Assign, If, Do, Print, Read, Stop, Comment, no_stmts, more_stmts, ProgramTree}
+use Rattle.ped_tree.specs.Numbering.{statement_count, statements_count, loop_count, loops_count}
 use Rattle.ped_tree.specs.Printing.{program_text}
 use Rattle.ped_grammar.specs.Statement.{Statement, Statements}
 use Rattle.ped_grammar.specs.Grouping.{statements_of}
@@ -19,25 +21,29 @@ use Rattle.ped_recut.proofs.Bridge.{printed_program}
 use Rattle.ped_round_trip.proofs.Pieces.{Piece, noted, said, program_pieces, program_parts_of, Spot, behind_piece, entries_here, cut_here}
 use Rattle.ped_round_trip.proofs.Trees.{Rejecting, AllRejecting}
 use Rattle.ped_round_trip.proofs.WholeForm.{start, whole_form, whole_entries, form_entries, form_tree, form_labelled}
-use Rattle.ped_round_trip.proofs.Fits.{Place, Fits, AllFit, at_body, ProgramFits}
+use Rattle.ped_grammar.specs.Fits.{Surroundings, moved, in_if, in_loop, stmt_fits, stmts_fit, decls_fit, begins_with_statement, at_body, fits}
+use Rattle.ped_round_trip.proofs.Fits.{if_parts, do_parts}
 use Rattle.ped_round_trip.proofs.AcceptedDecls.{whole_accepted}
-use Rattle.ped_round_trip.proofs.Good.{TextsFit, AllGood, good_program, parts_fit}
+use Rattle.ped_round_trip.proofs.Good.{AllGood, good_program, parts_fit}
 
 -- rejected names are names
 
 mutual
-  rejecting : (p : Place) (s : StmtTree) → Fits p s → Rejecting s
+  rejecting : (p : Surroundings) (s : StmtTree) → stmt_fits p s ≡ true → Rejecting s
   rejecting p (Assign l r) fits = tt
-  rejecting p (If c a b) fits = (all_rejecting _ a fits.1, all_rejecting _ b fits.2)
-  rejecting p (Do h body) fits = (fits.0.rejected, all_rejecting _ body fits.1)
+  rejecting p (If c a b) fits = let f = if_parts p c a b fits in (all_rejecting (in_if p 1 0) a f.then_part, all_rejecting (in_if p (1 + statements_count a) (loops_count a)) b f.else_part)
+  rejecting p (Do h body) fits = let f = do_parts p h body fits in (f.0.rejected, all_rejecting (in_loop p h) body f.1)
   rejecting p (Print items) fits = tt
   rejecting p (Read items) fits = tt
   rejecting p Stop fits = tt
   rejecting p (Comment text) fits = tt
 
-  all_rejecting : (p : Place) (s : StmtTrees) → AllFit p s → AllRejecting s
+  all_rejecting : (p : Surroundings) (s : StmtTrees) → stmts_fit p s ≡ true → AllRejecting s
   all_rejecting p no_stmts fits = tt
-  all_rejecting p (more_stmts s rest) fits = (rejecting p s fits.0, all_rejecting _ rest fits.1)
+  all_rejecting p (more_stmts s rest) fits =
+      let q = moved p (statement_count s) (loop_count s) in
+      let f = and_parts (stmt_fits p s) (stmts_fit q rest) fits in
+      (rejecting p s f.0, all_rejecting q rest f.1)
 
 -- what the statements among the pieces say is what their texts are
 all_read : (p : Spot) (xs : List Piece) → AllGood xs → AreEntries (map (λ (e : Entry). e.statement) (entries_here p xs)) (entries_here p xs)
@@ -46,10 +52,12 @@ all_read p (noted n ∷ xs) g = all_read (behind_piece p (noted n)) xs g.1
 all_read p (said label depth text i ∷ xs) g = (refl, g.0.2, all_read (behind_piece p (said label depth text i)) xs g.1)
 
 -- the printed text of a program that fits reads as it
-pub reads_again : TextsFit → (t : ProgramTree) → ProgramFits t → Reads (program_text t) t
-reads_again w t fits =
+pub reads_again : (t : ProgramTree) → fits t ≡ true → Reads (program_text t) t
+reads_again t h =
+    let begins = and_parts _ (begins_with_statement t.body) h in
+    let statements_are = (and_parts (decls_fit 0 t.decls) (stmts_fit (at_body t) t.body) begins.0).1 in
     let ps = printed_statements t in
-    let good = good_program w t fits in
+    let good = good_program t h in
     let parts : AllByRecursion PartFits (program_parts t) = subst (λ (xs : List Part). AllByRecursion PartFits xs) (program_parts_of t) (parts_fit (program_pieces t) good) in
     let fit : StatementsFit ps = Grouped.program_fits t parts in
     let same = printed_program t in
@@ -62,9 +70,9 @@ reads_again w t fits =
     record {
       entries = es;
       cut = record { accepted = accepted; readings = readings };
-      accepted = whole_accepted t (statements_of (program_text t)) fits (ap (λ (s : Statements). s.directives) whole);
+      accepted = whole_accepted t (statements_of (program_text t)) h (ap (λ (s : Statements). s.directives) whole);
       form = whole_form t;
       written = form_entries t;
       labelled = form_labelled t;
-      nested = form_tree (saved_names es) t (all_rejecting (at_body t) t.body fits.statements) fits.begins;
+      nested = form_tree (saved_names es) t (all_rejecting (at_body t) t.body statements_are) begins.1;
     }

@@ -4,7 +4,8 @@ use Rattle.std.specs.Prelude.{◌&&◌, ◌||◌}
 use Rattle.std.specs.List.{list_any}
 use Rattle.std.proofs.lemmas.Bool.{eqb-true, and_from, or_from, cases_Bool}
 use Rattle.std.proofs.lemmas.List.{get_or-take, length-take}
-use Rattle.ped_grammar.specs.Columns.{folded, is_directive}
+use Rattle.std.specs.Char.{to_ascii_uppercase}
+use Rattle.ped_grammar.specs.Columns.{is_directive}
 use Rattle.ped_grammar.specs.Grouping.{with_rest, trimmed, comment_text}
 use Rattle.ped_recut.specs.Fitting.{IsCommentText}
 use Rattle.ped_recut.proofs.Bytes.{neither, both}
@@ -102,7 +103,7 @@ directive_kept : (c : ℕ) (cs : List ℕ) → is_directive (67 ∷ trimmed (tak
 unfolding is_directive
 directive_kept c cs h =
     let text = trimmed (take 71 cs) in
-    let at : ℕ → ℕ → Bool = λ (letter x : ℕ). eqb (folded x) letter in
+    let at : ℕ → ℕ → Bool = λ (letter x : ℕ). eqb (to_ascii_uppercase x) letter in
     let tests = all_four (eqb (get_or text 0 32) 36) (at 80 (get_or text 1 32)) (at 69 (get_or text 2 32)) (at 68 (get_or text 3 32)) h in
     from_four (eqb (get_or cs 0 32) 36) (at 80 (get_or cs 1 32)) (at 69 (get_or cs 2 32)) (at 68 (get_or cs 3 32)) (
       still (λ x. eqb x 36) cs 0 refl (omega arith) tests.0,

@@ -1,10 +1,12 @@
 -- The text of a statement where no character of its lines is refused: each character can be printed.
-use Rattle.std.proofs.Common.{◌≡◌, ℕ, ◌-◌, Bool, true, false, if◌then◌else◌, List, [], ◌∷◌, ◌++◌, refl, ◌∙◌, arith}
+use Rattle.std.proofs.Common.{◌≡◌, ℕ, ◌-◌, Bool, true, false, if◌then◌else◌, List, [], ◌∷◌, ◌++◌, refl, ◌∙◌, arith, eqb}
+use Rattle.std.specs.Prelude.{◌&&◌}
 use Rattle.std.specs.List.{list_all}
 use Rattle.std.proofs.lemmas.Bool.{and_from}
 use Rattle.std.proofs.lemmas.List.Folds.{list_all-append}
-use Rattle.ped_grammar.specs.Columns.{is_blank, folded, statement_columns}
-use Rattle.ped_grammar.specs.Characters.{is_printable, is_quoted, has_bad, kept, text_behind, text_of}
+use Rattle.std.specs.Char.{to_ascii_uppercase}
+use Rattle.ped_grammar.specs.Columns.{is_blank, statement_columns}
+use Rattle.ped_grammar.specs.Characters.{is_printable, is_quoted, has_bad, ends_apart, kept, text_behind, text_of}
 use Rattle.ped_grammar.specs.Grouping.{NumberedLine, joined_columns}
 use Rattle.ped_grammar.specs.Refusal.{BadCharacter}
 use Rattle.ped_grammar.specs.LineRefusals.{Role, Initial, Continuation, at_line, at_further, in_rest}
@@ -13,16 +15,17 @@ use Rattle.ped_recut.proofs.Bytes.{both, allowed_printable}
 
 -- what is kept
 
-folded_printable : (c : ℕ) → is_printable c ≡ true → is_printable (folded c) ≡ true
-folded_printable c h = grind arith
+capital_printable : (c : ℕ) → is_printable c ≡ true → is_printable (to_ascii_uppercase c) ≡ true
+capital_printable c h = grind arith
 
 kept_printable : (before : List ℕ) (c : ℕ) → is_printable c ≡ true → list_all is_printable (kept before c) ≡ true
 unfolding kept
-kept_printable before c h = go (is_quoted before) (is_blank c) where
-  go : (q b : Bool) → list_all is_printable (if q then c ∷ [] else if b then [] else folded c ∷ []) ≡ true
-  go true b = and_from _ true h refl
-  go false true = refl
-  go false false = and_from _ true (folded_printable c h) refl
+kept_printable before c h = go (is_quoted before) (is_blank c) (eqb c 39 && ends_apart before) where
+  go : (q b t : Bool) → list_all is_printable (if q then c ∷ [] else if b then [] else if t then 32 ∷ 39 ∷ [] else to_ascii_uppercase c ∷ []) ≡ true
+  go true b t = and_from _ true h refl
+  go false true t = refl
+  go false false true = refl
+  go false false false = and_from _ true (capital_printable c h) refl
 
 text_printable : (before cs : List ℕ) → list_all is_printable cs ≡ true → list_all is_printable (text_behind before cs) ≡ true
 text_printable before [] h = refl

@@ -3,22 +3,22 @@ use Rattle.std.proofs.Common.{◌≡◌, ℕ, suc, ◌+◌, ◌*◌, ◌<◌, �
 use Rattle.std.specs.Prelude.{codes, not, ◌&&◌, ◌||◌, ◌==◌, nat_lt, nat_le}
 use Rattle.std.specs.List.{list_any, list_all, flat_map}
 use Rattle.ped_grammar.specs.Words.{is_name}
-use Rattle.ped_grammar.specs.Refusal.{Refusal, Finding, Syntax, NotInProfile, OpenBlock, BadTerminal, IndexAssigned, StopPlace, Limit, refused_if}
+use Rattle.ped_grammar.specs.Refusal.{Finding, Syntax, NotInProfile, OpenBlock, BadTerminal, IndexAssigned, StopPlace, Limit, refused_if}
 use Rattle.ped_grammar.specs.Statement.{Note}
 use Rattle.ped_grammar.specs.Items.{Entry}
-use Rattle.ped_grammar.specs.Occurrences.{of_reading, do_variables}
-use Rattle.ped_grammar.specs.Contexts.{Block, in_then, in_else, in_do, Context, is_do, closed, behind}
-use Rattle.ped_grammar.specs.Contexts.{has_do, open_variables}
-use Rattle.ped_grammar.specs.ProgramRefusals.{where_it_says, is_left_out, breaks_syntax, is_behind_end, leaves_open, ends_badly, assigns_index, stops, loop_depth, block_depth, passes_limit, is_bad_directive, at_directives, at_statement, at_statements}
+use Rattle.ped_grammar.specs.Contexts.{Block, in_then, in_else, in_do, Context, is_do, open_variables, has_do, behind}
+use Rattle.ped_grammar.specs.Fits.{Surroundings}
+use Rattle.ped_grammar.specs.ProgramRefusals.{where_it_says, is_left_out, breaks_syntax, is_behind_end, leaves_open, closed, ends_badly, assigns_index, at_private, stops, loop_depth, block_depth, passes_limit, is_bad_directive, at_directives, at_statement, at_statements}
 use Rattle.ped_recut.specs.Printed.{PrintedNote, a_comment, a_rejection}
 use Rattle.ped_recut.specs.Cut.{comments_at, directives_at}
 use Rattle.ped_round_trip.proofs.Trees.{rejections}
-use Rattle.ped_round_trip.proofs.Fits.{Place}
+use Rattle.ped_round_trip.proofs.KeptPrivate.{open_private, none}
 
--- the context is that of a place in the executable statements
-pub record Stands (p : Place) (c : Context) : Type 0 where
+-- these surroundings are those of a statement in the context
+pub record Stands (p : Surroundings) (c : Context) : Type 0 where
   pub constants : c.constants ≡ p.constants
   pub variables : open_variables c.blocks ≡ p.variables
+  pub private : open_private c.blocks ≡ p.private
   pub depth : block_depth c.blocks ≡ p.depth
   pub statements : c.statements ≡ p.statements
   pub loops : c.loops ≡ p.loops
@@ -38,21 +38,13 @@ pub loops_open : (bs : List Block) → loop_depth bs ≡ length (open_variables 
 loops_open [] = refl
 loops_open (in_then n ∷ bs) = loops_open bs
 loops_open (in_else n ∷ bs) = loops_open bs
-loops_open (in_do l v ∷ bs) = ap (λ n. n + 1) (loops_open bs) ∙ more (length (open_variables bs))
-  where
-    more : (n : ℕ) → n + 1 ≡ suc n
-    more n = omega arith
-
-none : (r : Refusal) (line : ℕ) (test : Bool) → test ≡ false → refused_if test r line ≡ []
-unfolding refused_if
-none r line true h = absurd cc
-none r line false h = refl
+loops_open (in_do d ∷ bs) = ap suc (loops_open bs)
 
 -- nothing is refused where all tests fail
 pub passes_all : (saved : List (List ℕ)) (c : Context) (e : Entry) (rest : List Entry) → at_directives c e ≡ [] → breaks_syntax c e.reading ≡ false → is_left_out e.reading ≡ false
-    → where_it_says (leaves_open c.blocks) e.reading ≡ false → ends_badly c.blocks e.statement.label e.reading ≡ false → assigns_index c e rest ≡ false
+    → where_it_says (leaves_open c.blocks) e.reading ≡ false → ends_badly c.blocks e.statement.label e.reading ≡ false → assigns_index c e.reading ≡ false → at_private c e.reading ≡ []
     → (where_it_says stops e.reading && nat_lt 0 (loop_depth c.blocks)) ≡ false → where_it_says (passes_limit saved c rest) e.reading ≡ false → at_statement saved c e rest ≡ []
-passes_all saved c e rest d b o l t x s m =
+passes_all saved c e rest d b o l t x k s m =
     let line = e.statement.line in
     let p = none Syntax line _ b in
     let q = none NotInProfile line _ o in
@@ -61,7 +53,7 @@ passes_all saved c e rest d b o l t x s m =
     let v = none IndexAssigned line _ x in
     let w = none StopPlace line _ s in
     let z = none Limit line _ m in
-    λ i. d i ++ p i ++ q i ++ r i ++ u i ++ v i ++ w i ++ z i
+    λ i. d i ++ p i ++ q i ++ r i ++ u i ++ v i ++ k i ++ w i ++ z i
 
 -- directives
 
@@ -171,51 +163,38 @@ pub none_closed : (l : ℕ) (bs : List Block) → has_do l bs ≡ false → clos
 none_closed l [] h = refl
 none_closed l (in_then n ∷ bs) h = refl
 none_closed l (in_else n ∷ bs) h = refl
-none_closed l (in_do m v ∷ bs) h =
-    let go : (b : Bool) → (m == l) ≡ b → (b || has_do l bs) ≡ false → cond b (closed l bs) (in_do m v ∷ bs) ≡ in_do m v ∷ bs = λ b. elim b as (λ b. (m == l) ≡ b → (b || has_do l bs) ≡ false → cond b (closed l bs) (in_do m v ∷ bs) ≡ in_do m v ∷ bs) [
+none_closed l (in_do d ∷ bs) h =
+    let go : (b : Bool) → (d.label == l) ≡ b → (b || has_do l bs) ≡ false → cond b (closed l bs) (in_do d ∷ bs) ≡ in_do d ∷ bs = λ b. elim b as (λ b. (d.label == l) ≡ b → (b || has_do l bs) ≡ false → cond b (closed l bs) (in_do d ∷ bs) ≡ in_do d ∷ bs) [
       | true ↦ λ k g. absurd cc
       | false ↦ λ k g. refl
     ] in
-    go (m == l) refl h
+    go (d.label == l) refl h
 
--- nothing is looked at behind the block
-pub inner_closed : (d : ℕ) (c : Context) (es : List Entry) → nat_lt (length c.blocks) d ≡ true → inner_variables d c es ≡ []
-inner_closed d c [] h = refl
-inner_closed d c (e ∷ es) h = ap (λ (b : Bool). cond b [] (of_reading do_variables e.reading ++ inner_variables d (behind c e) es)) h
-
--- statements that are accepted one behind the other: what is open behind them, and the variables of the DO loops among them
-pub record Passed (saved : List (List ℕ)) (c : Context) (p : Place) (bs : List Block) (vars : List (List ℕ)) (es rest : List Entry) : Type 0 where
+-- statements that are accepted one behind the other, and what is open behind them
+pub record Passed (saved : List (List ℕ)) (c : Context) (p : Surroundings) (bs : List Block) (es rest : List Entry) : Type 0 where
   pub after : Context
   pub accepted : at_statements saved c (es ++ rest) ≡ at_statements saved after rest
-  pub inner : (d : ℕ) → nat_lt (length c.blocks) d ≡ false → inner_variables d c (es ++ rest) ≡ vars ++ inner_variables d after rest
   pub position : Stands p after
   pub blocks : after.blocks ≡ bs
 
-pub pass_none : (saved : List (List ℕ)) (c : Context) (p : Place) (rest : List Entry) → Stands p c → Passed saved c p c.blocks [] [] rest
-pass_none saved c p rest s = record { after = c; accepted = refl; inner = λ d h. refl; position = s; blocks = refl }
+pub pass_none : (saved : List (List ℕ)) (c : Context) (p : Surroundings) (rest : List Entry) → Stands p c → Passed saved c p c.blocks [] rest
+pass_none saved c p rest s = record { after = c; accepted = refl; position = s; blocks = refl }
 
-abbrev pub pass_one : (saved : List (List ℕ)) (c : Context) (p : Place) (bs : List Block) (e : Entry) (rest : List Entry) → at_statement saved c e rest ≡ [] → Stands p (behind c e) → (behind c e).blocks ≡ bs
-    → Passed saved c p bs (of_reading do_variables e.reading) (e ∷ []) rest
+abbrev pub pass_one : (saved : List (List ℕ)) (c : Context) (p : Surroundings) (bs : List Block) (e : Entry) (rest : List Entry) → at_statement saved c e rest ≡ [] → Stands p (behind c e) → (behind c e).blocks ≡ bs
+    → Passed saved c p bs (e ∷ []) rest
 pass_one saved c p bs e rest ok s b = record {
   after = behind c e;
   accepted = ap (λ (fs : List Finding). fs ++ at_statements saved (behind c e) rest) ok;
-  inner = λ d h. ap (λ (x : Bool). cond x [] (of_reading do_variables e.reading ++ inner_variables d (behind c e) rest)) h;
   position = s;
   blocks = b;
 }
 
--- two runs of statements, where the blocks that are open between them are not fewer than at the first
-pub pass_both : (saved : List (List ℕ)) (c : Context) (p q : Place) (bs cs : List Block) (vs ws : List (List ℕ)) (es fs rest : List Entry)
-    → ((d : ℕ) → nat_lt (length c.blocks) d ≡ false → nat_lt (length bs) d ≡ false)
-    → (a : Passed saved c p bs vs es (fs ++ rest)) → Passed saved a.after q cs ws fs rest → Passed saved c q cs (vs ++ ws) (es ++ fs) rest
-pass_both saved c p q bs cs vs ws es fs rest deeper a b = record {
+-- two runs of statements
+pub pass_both : (saved : List (List ℕ)) (c : Context) (p q : Surroundings) (bs cs : List Block) (es fs rest : List Entry)
+    → (a : Passed saved c p bs es (fs ++ rest)) → Passed saved a.after q cs fs rest → Passed saved c q cs (es ++ fs) rest
+pass_both saved c p q bs cs es fs rest a b = record {
   after = b.after;
   accepted = ap (λ (gs : List Entry). at_statements saved c gs) (append_assoc es fs rest) ∙ a.accepted ∙ b.accepted;
-  inner = λ d h.
-      ap (λ (gs : List Entry). inner_variables d c gs) (append_assoc es fs rest)
-      ∙ a.inner d h
-      ∙ ap (λ (xs : List (List ℕ)). vs ++ xs) (b.inner d (subst (λ (xs : List Block). nat_lt (length xs) d ≡ false) (sym a.blocks) (deeper d h)))
-      ∙ sym (append_assoc vs ws (inner_variables d b.after rest));
   position = b.position;
   blocks = b.blocks;
 }

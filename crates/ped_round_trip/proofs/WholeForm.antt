@@ -1,5 +1,5 @@
 -- The form of a whole printed program.
-use Rattle.std.proofs.Common.{◌≡◌, ℕ, ◌+◌, List, [], ◌∷◌, ◌++◌, map, None, refl, sym, ap, ◌∙◌, append_assoc, append-nil}
+use Rattle.std.proofs.Common.{◌≡◌, ℕ, ◌+◌, List, [], ◌∷◌, ◌++◌, map, None, true, false, refl, sym, ap, ◌∙◌, append_assoc, append-nil}
 use Rattle.std.specs.Prelude.{codes, IsTrue}
 use Rattle.std.specs.List.{flat_map}
 use Rattle.ped_tree.specs.Tree.{StmtTree, StmtTrees, Assign, If, Do, Print, Read, Stop, Comment, no_stmts, more_stmts, DeclTree, Program, Implicit, Integer, Dimension, Parameter, Save, Remark, ProgramTree}
@@ -10,6 +10,7 @@ use Rattle.ped_grammar.specs.Items.{ends_program, Entry}
 use Rattle.ped_grammar.specs.ProgramRefusals.{listed_stmts}
 use Rattle.ped_grammar.specs.BlockForms.{nothing, entry, body_trees, body_fits}
 use Rattle.ped_grammar.specs.ProgramForms.{DeclForm, a_declaration, ProgramForm, decl_entry, program_entries, decl_trees, front_remarks, behind_front, all_trees, program_form_tree}
+use Rattle.ped_grammar.specs.Fits.{begins_with_statement}
 use Rattle.ped_recut.specs.Printed.{PrintedNote, a_comment, a_rejection}
 use Rattle.ped_recut.specs.Cut.{comments_at}
 use Rattle.ped_round_trip.proofs.Pieces.{decl_piece, end_piece, statements_pieces, program_pieces, Spot, spot, statement_here, behind_piece, behind_pieces, entry_here, entries_here, behind_both, entries_both}
@@ -123,17 +124,8 @@ decls_law saved p (d ∷ ds) =
     ∙ append_assoc (note_remarks p.notes) (d ∷ []) ds
 
 -- no comment comes first
-abbrev pub BeginsWithStatement : StmtTrees → Type 0
-BeginsWithStatement no_stmts = Unit {0}
-BeginsWithStatement (more_stmts (Assign l r) rest) = Unit {0}
-BeginsWithStatement (more_stmts (If c x y) rest) = Unit {0}
-BeginsWithStatement (more_stmts (Do h body) rest) = Unit {0}
-BeginsWithStatement (more_stmts (Print items) rest) = Unit {0}
-BeginsWithStatement (more_stmts (Read items) rest) = Unit {0}
-BeginsWithStatement (more_stmts Stop rest) = Unit {0}
-BeginsWithStatement (more_stmts (Comment text) rest) = ⊥
 
-no_front : (s : StmtTrees) → BeginsWithStatement s → front_remarks (listed_stmts s) ≡ []
+no_front : (s : StmtTrees) → begins_with_statement s ≡ true → front_remarks (listed_stmts s) ≡ []
 no_front no_stmts h = refl
 no_front (more_stmts (Assign l r) rest) h = refl
 no_front (more_stmts (If c x y) rest) h = refl
@@ -141,9 +133,9 @@ no_front (more_stmts (Do k body) rest) h = refl
 no_front (more_stmts (Print items) rest) h = refl
 no_front (more_stmts (Read items) rest) h = refl
 no_front (more_stmts Stop rest) h = refl
-no_front (more_stmts (Comment text) rest) h = absurd h
+no_front (more_stmts (Comment text) rest) h = absurd cc
 
-all_behind : (s : StmtTrees) → BeginsWithStatement s → behind_front (listed_stmts s) ≡ listed_stmts s
+all_behind : (s : StmtTrees) → begins_with_statement s ≡ true → behind_front (listed_stmts s) ≡ listed_stmts s
 all_behind no_stmts h = refl
 all_behind (more_stmts (Assign l r) rest) h = refl
 all_behind (more_stmts (If c x y) rest) h = refl
@@ -151,7 +143,7 @@ all_behind (more_stmts (Do k body) rest) h = refl
 all_behind (more_stmts (Print items) rest) h = refl
 all_behind (more_stmts (Read items) rest) h = refl
 all_behind (more_stmts Stop rest) h = refl
-all_behind (more_stmts (Comment text) rest) h = absurd h
+all_behind (more_stmts (Comment text) rest) h = absurd cc
 
 front_both : (ns : List PrintedNote) (ts : List StmtTree) → front_remarks (note_trees ns ++ ts) ≡ note_remarks ns ++ front_remarks ts
 front_both [] ts = refl
@@ -182,7 +174,7 @@ decls_only p [] h = h
 decls_only p (d ∷ ds) h = decls_only (behind_piece p (decl_piece d)) ds (one_only p d h)
 
 -- the form has the tree of the program, whatever SAVE without a list is read as
-pub form_tree : (saved : List (List ℕ)) (t : ProgramTree) → AllRejecting t.body → BeginsWithStatement t.body → program_form_tree saved (whole_form t) ≡ t
+pub form_tree : (saved : List (List ℕ)) (t : ProgramTree) → AllRejecting t.body → begins_with_statement t.body ≡ true → program_form_tree saved (whole_form t) ≡ t
 form_tree saved t named begins =
     let p = body_spot t in
     let q = ending_spot t in

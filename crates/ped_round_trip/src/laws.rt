@@ -1,12 +1,17 @@
-//! What becomes of a program that is printed and read again. The function does nothing; its contract is
-//! the law.
+//! Which trees are programs of the profile, and what becomes of a program that is printed and read again.
+//! The functions do nothing; their contracts are the laws.
 
-ghost use Rattle.std.specs.Prelude.{ℕ, List};
+ghost use Rattle.std.specs.Prelude.{◌≡◌, ◌↔◌, true};
 ghost use Rattle.ped_tree.specs.Tree.{ProgramTree};
-ghost use Rattle.ped_grammar.specs.Reading.{Reads};
-ghost use Rattle.ped_round_trip.specs.PrintedPrograms.{PrintsItself};
+ghost use Rattle.ped_grammar.specs.Fits.{fits};
+ghost use Rattle.ped_round_trip.specs.PrintedPrograms.{PrintsItself, IsRead};
 
-/// The printed text of each program that some text reads as reads as that program, and as no other.
+/// A tree fits exactly where some text reads as it.
+pub fn fits_where_read()
+    ensures { (t : ProgramTree) → (fits t ≡ true) ↔ IsRead t }
+{}
+
+/// The printed text of each tree that fits reads as that tree, and as no other.
 pub fn printed_program()
-    ensures { (text : List ℕ) (t : ProgramTree) → Reads text t → PrintsItself t }
+    ensures { (t : ProgramTree) → fits t ≡ true → PrintsItself t }
 {}

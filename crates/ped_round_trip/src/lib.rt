@@ -1,6 +1,7 @@
-//! A program's printed text reads as the program, and as no other.
+//! The trees that fit are those that some text reads as, and the printed text of each reads as it and as no
+//! other.
 #![tactic(auto)]
 
 mod laws;
 
-pub use laws::printed_program;
+pub use laws::{fits_where_read, printed_program};

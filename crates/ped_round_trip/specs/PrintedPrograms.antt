@@ -4,10 +4,10 @@ use Rattle.ped_tree.specs.Tree.{ProgramTree}
 use Rattle.ped_tree.specs.Printing.{program_text}
 use Rattle.ped_grammar.specs.Reading.{Reads}
 
--- the printed text of the program reads as it and as no other program (this project)
+-- the printed text of the program reads as it and as no other program
 abbrev pub PrintsItself : ProgramTree → Type 0
 PrintsItself t = (u : ProgramTree) → Reads (program_text t) u ↔ (u ≡ t)
 
--- some text reads as the program (this project)
+-- some text reads as the program
 abbrev pub IsRead : ProgramTree → Type 0
 IsRead t = (text : List ℕ) × Reads text t

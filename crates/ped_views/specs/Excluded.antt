@@ -19,7 +19,7 @@ turned Before = After
 turned Same = Same
 turned After = Before
 
--- a direction of iterations as one of values: a negative step takes the greater value first
+-- a direction of iterations as one of values: a negative step takes the greater value first (Allen and Kennedy, section 2.2.2; ANSI X3.9-1978, section 11.10.7)
 abbrev pub by_value : ℤ → Direction → Direction
 by_value (pos n) d = d
 by_value (negsuc n) d = turned d
@@ -74,7 +74,7 @@ subscript_value row common inner = dot row.common common +ℤ dot row.inner inne
 abbrev pub difference : SubscriptPair → Indices → ℤ
 difference p at = subscript_value p.source at.source at.source_inner -ℤ subscript_value p.sink at.sink at.sink_inner
 
--- one index for each coefficient
+-- one index for each coefficient (plain words)
 pub record HasIndices (p : SubscriptPair) (at : Indices) : Type 0 where
   pub source : length at.source ≡ length p.source.common
   pub sink : length at.sink ≡ length p.sink.common
@@ -90,11 +90,11 @@ SharesIndices [] is js = Unit {0}
 SharesIndices (d ∷ ds) [] js = Unit {0}
 SharesIndices (d ∷ ds) (i ∷ is) [] = Unit {0}
 
--- no whole numbers whatever make the subscripts equal, where the two indices of a loop with `=` are one unknown
+-- no whole numbers whatever make the subscripts equal, where the two indices of a loop with `=` are one unknown (Allen and Kennedy, section 3.3.3: GCD test)
 abbrev pub HasNoSolution : SubscriptPair → List Direction → Type 0
 HasNoSolution p vector = (at : Indices) → HasIndices p at → SharesIndices vector at.source at.sink → ¬ (difference p at ≡ pos 0)
 
--- the indices of the common loops that occur lie in their ranges and stand in their directions: behind the last direction, in any
+-- the indices of the common loops that occur lie in their ranges and stand in their directions: behind the last direction, in any (Allen and Kennedy, section 3.3.3)
 abbrev pub CommonInRange : List Range → List Direction → List ℤ → List ℤ → List ℤ → List ℤ → Type 0
 CommonInRange (r ∷ loops) (d ∷ vector) (a ∷ source) (b ∷ sink) (i ∷ is) (j ∷ js) =
     (IsTrue (is_zero a && is_zero b) ⊎ (InRange r i × InRange r j × Stands r d i j)) × CommonInRange loops vector source sink is js
@@ -109,7 +109,7 @@ InnerInRange [] row indices = Unit {0}
 InnerInRange (r ∷ loops) [] indices = Unit {0}
 InnerInRange (r ∷ loops) (a ∷ row) [] = Unit {0}
 
--- a point of the ranges of the loops that occur, under the vector, or under a front of one and any directions behind it
+-- a point of the ranges of the loops that occur, under the vector, or under a front of one and any directions behind it (Allen and Kennedy, section 3.3.3)
 pub record IsPoint (v : View) (p : SubscriptPair) (vector : List Direction) (at : Indices) : Type 0 where
   pub indices : HasIndices p at
   pub common : CommonInRange v.loops vector p.source.common p.sink.common at.source at.sink

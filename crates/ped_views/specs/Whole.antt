@@ -1,4 +1,4 @@
--- Whole numbers: divisibility, greatest common divisors, and quotients that are whole or rounded down.
+-- Whole numbers: divisibility, greatest common divisors, and quotients that are whole or rounded down (plain words).
 use Rattle.std.specs.Prelude.{◌≡◌, ℤ, pos, ◌+ℤ◌, ◌*ℤ◌, ◌≤ℤ◌, ◌<ℤ◌, Bool, Option, Some, None, int_div, int_rem, if◌then◌else◌}
 use Rattle.std.specs.Ordering.{int_eq}
 

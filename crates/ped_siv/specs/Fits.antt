@@ -1,4 +1,4 @@
--- What the formulas of the tests ask of a distance, a value and a sum in the range of a loop.
+-- What the formulas of the tests ask of a distance, a value and a sum in the range of a loop (this project).
 use Rattle.std.specs.Prelude.{◌≡◌, ℤ, pos, neg_ℤ, ◌-ℤ◌, ◌*ℤ◌, ◌≤ℤ◌, ◌<ℤ◌, IsTrue}
 use Rattle.ped_views.specs.declared.directions.Direction.{Direction}
 use Rattle.ped_views.specs.declared.directions.Direction.TheVariants.{Before, Same, After}

@@ -1,4 +1,4 @@
--- Intervals of whole numbers, and the least interval of the values of a function on them.
+-- Intervals of whole numbers, and the least interval of the values of a function on them (plain words).
 use Rattle.std.specs.Prelude.{◌≡◌, ℕ, ◌≤◌, ℤ, ◌≤ℤ◌, unsigned_abs}
 use Rattle.ped_views.specs.declared.intervals.Interval.{Interval}
 

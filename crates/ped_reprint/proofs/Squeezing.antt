@@ -1,9 +1,9 @@
 -- What is left of printed characters without the blanks outside constants.
-use Rattle.std.proofs.Common.{◌≡◌, ℕ, zero, suc, ◌-◌, ◌<◌, ◌≤◌, inl, inr, Bool, true, false, cond, List, [], ◌∷◌, ◌++◌, refl, sym, ap, subst, ◌∙◌, append_assoc, length, eqb, leb, arith}
+use Rattle.std.proofs.Common.{◌≡◌, ℕ, zero, suc, ◌<◌, ◌≤◌, inl, inr, Bool, true, false, cond, List, [], ◌∷◌, ◌++◌, refl, sym, ap, subst, ◌∙◌, append_assoc, length, eqb, leb, arith}
 use Rattle.std.specs.Prelude.{not, ◌&&◌, codes}
 use Rattle.std.specs.List.{list_all}
 use Rattle.std.specs.Char.{to_ascii_uppercase}
-use Rattle.std.proofs.lemmas.Bool.{cond_both, not-true, ne_eqb, leb-true, lt-leb, and_parts, and_from, or_cases, or_right}
+use Rattle.std.proofs.lemmas.Bool.{cond_both, not-true, ne_eqb, leb-true, and_parts, and_from, or_cases, or_right}
 use Rattle.std.proofs.lemmas.List.{append-nil}
 use Rattle.ped_base.specs.Letters
 use Rattle.ped_base.specs.Letters.{is_letter, is_digit, is_alphanumeric}

@@ -8,7 +8,7 @@ use Rattle.ped_grammar.specs.Refusal.{Refusal, Finding, refused_if, earlier, ear
 use Rattle.ped_grammar.specs.Statement.{Statement, Statements}
 use Rattle.ped_grammar.specs.Items.{Item, declares, saves_all, does, continues, logical_if, block_if, else_if, else_line, end_if, begins_do, keeps_private, ends_program, Reading, says, outside_profile, no_form, Entry}
 use Rattle.ped_grammar.specs.Occurrences.{saved_names}
-use Rattle.ped_grammar.specs.Contexts.{Block, Context, at_start, rank, is_do, blocks_behind, behind_item, behind_reading, behind, behind_all}
+use Rattle.ped_grammar.specs.Contexts.{Block, Context, at_start, rank, is_do, left_by, blocks_behind, behind_item, behind_reading, behind, behind_all}
 use Rattle.ped_grammar.specs.BlockForms.{BodyForm, nothing, entry, body_entries, body_fits}
 use Rattle.ped_grammar.specs.ProgramForms.{DeclForm, a_declaration, a_save_of_all, ProgramForm, decl_entry, program_entries}
 use Rattle.ped_grammar.specs.ProgramRefusals.{where_it_says, is_left_out, is_out_of_order, lacks_if, is_late_private, saves_again, is_misplaced, is_behind_end, breaks_syntax, leaves_open, ends_badly, at_statement, at_statements, at_end, program_refusals}
@@ -52,7 +52,8 @@ record IsAccepted (c : Context) (e : Entry) : Type 0 where
 
 accepted : (saved : List (List ℕ)) (c : Context) (e : Entry) (rest : List Entry) → at_statement saved c e rest ≡ [] → IsAccepted c e
 accepted saved c e rest h =
-    let h7 = left_empty _ _ h in
+    let h8 = left_empty _ _ h in
+    let h7 = left_empty _ _ h8 in
     let h6 = left_empty _ _ h7 in
     let h5 = left_empty _ _ h6 in
     let h4 = left_empty _ _ h5 in
@@ -118,10 +119,17 @@ at_end_statement (p ∷ ps) b e s rest h g is none = absurd cc
 ends_late : (n : ℕ) → nat_le 5 (max n 5) ≡ true
 ends_late n = grind arith
 
+next_written : (xs ys zs ws rest : List Entry) (e : Entry) → xs ++ ys ≡ zs ++ (ws ++ e ∷ []) → xs ++ (ys ++ rest) ≡ zs ++ (ws ++ e ∷ rest)
+next_written xs ys zs ws rest e h =
+    sym (append_assoc xs ys rest) ∙ ap (λ (es : List Entry). es ++ rest) h ∙ append_assoc zs (ws ++ e ∷ []) rest ∙ ap (λ (es : List Entry). zs ++ es) (append_assoc ws (e ∷ []) rest)
+
+rest_along : (ps qs : List Part) (b d : BodyForm) (rest more : List Entry) → Rest qs d rest → stack_entries qs ++ (body_entries d ++ rest) ≡ stack_entries ps ++ (body_entries b ++ more) → Rest ps b more
+rest_along ps qs b d rest more q e = (q.0, q.1, q.2 ∙ e, q.3)
+
 -- an executable statement, or END
 body_next : (saved : List (List ℕ)) (e : Entry) (rest : List Entry) (c : Context) (ps : List Part) (b : BodyForm) (i : Item) → e.reading ≡ says i → (rank i ≡ 4) ⊎ (i ≡ ends_program)
     → around ps ≡ c.blocks → StackFits ps → IsTrue (body_fits (labels (around ps)) b) → (c.behind_do ≡ true → Fresh ps b) → IsAccepted c e → at_statements saved (behind c e) rest ≡ []
-    → ((qs : List Part) (d : BodyForm) → around qs ≡ blocks_behind e.statement.label i c.blocks → StackFits qs → IsTrue (body_fits (labels (around qs)) d) → (is_do i ≡ true → Fresh qs d) → rank i ≡ 4 → Rest qs d rest)
+    → ((qs : List Part) (d : BodyForm) → around qs ≡ blocks_behind c.behind_do e.statement i c.blocks → StackFits qs → IsTrue (body_fits (labels (around qs)) d) → (is_do i ≡ true → Fresh qs d) → rank i ≡ 4 → Rest qs d rest)
     → Rest ps b (e ∷ rest)
 body_next saved e rest c ps b i reading (inl r) blocks f g new ok h again =
     let s = e.statement in
@@ -131,34 +139,35 @@ body_next saved e rest c ps b i reading (inl r) blocks f g new ok h again =
     let ends_well = subst (λ (r : Reading). ends_badly c.blocks s.label r ≡ false) reading ok.ends_well in
     let m = moved s i c.behind_do ps b f g new r (subst (λ (x : List Block). lacks_if x i ≡ false) (sym blocks) placed.has_if) placed.in_time
     (subst (λ (x : List Block). leaves_open x i ≡ false) (sym blocks) closes) (subst (λ (x : List Block). ends_badly x s.label (says i) ≡ false) (sym blocks) ends_well) in
-    let q = again m.ps m.b (m.blocks_are ∙ ap (blocks_behind s.label i) blocks) m.fits m.current_fits m.new r in
-    let lines : stack_entries m.ps ++ (body_entries m.b ++ rest) ≡ stack_entries ps ++ (body_entries b ++ e ∷ rest) =
-    sym (append_assoc (stack_entries m.ps) (body_entries m.b) rest) ∙ ap (λ (es : List Entry). es ++ rest) m.written
-    ∙ append_assoc (stack_entries ps) (body_entries b ++ entry s i ∷ []) rest ∙ ap (λ (es : List Entry). stack_entries ps ++ es) (append_assoc (body_entries b) (entry s i ∷ []) rest)
-    ∙ ap (λ (x : Entry). stack_entries ps ++ (body_entries b ++ x ∷ rest)) (sym is) in
-    (q.0, q.1, q.2 ∙ lines, q.3)
+    let lines = next_written (stack_entries m.ps) (body_entries m.b) (stack_entries ps) (body_entries b) rest (entry s i) m.written ∙ ap (λ (x : Entry). stack_entries ps ++ (body_entries b ++ x ∷ rest)) (sym is) in
+    rest_along ps m.ps b m.b rest (e ∷ rest) (again m.ps m.b (m.blocks_are ∙ ap (blocks_behind c.behind_do s i) blocks) m.fits m.current_fits m.new r) lines
 body_next saved e rest c ps b i reading (inr z) blocks f g new ok h again =
     let s = e.statement in
     let says_end : e.reading ≡ says ends_program = reading ∙ ap says z in
     let is : e ≡ entry s ends_program = λ k. record { statement = s; reading = says_end k } in
     let closes = subst (λ (r : Reading). where_it_says (leaves_open c.blocks) r ≡ false) says_end ok.closes in
-    let late : is_behind_end (behind c e) ≡ true = subst (λ (r : Reading). is_behind_end (behind_reading c s.label r) ≡ true) (sym says_end) (ends_late c.phase) in
+    let late : is_behind_end (behind c e) ≡ true = subst (λ (r : Reading). is_behind_end (behind_reading c s r) ≡ true) (sym says_end) (ends_late c.phase) in
     at_end_statement ps b e s rest (subst (λ (x : List Block). has_some x ≡ false) (sym blocks) closes) g is (behind_end saved (behind c e) rest late h)
+
+-- no label leaves a block where none is open
+nothing_left : (label : Option ℕ) → left_by label [] ≡ []
+nothing_left None = refl
+nothing_left (Some l) = refl
 
 -- a declaration, an executable statement, or END
 data Kind (s : Statement) (i : Item) : Type 0 where
-  declared : (f : DeclForm) → decl_entry f ≡ entry s i → nat_le (rank i) 3 ≡ true → is_out_of_order 4 (rank i) ≡ true → is_do i ≡ false → ((label : Option ℕ) (c : List Block) → blocks_behind label i c ≡ c) → Kind s i
+  declared : (f : DeclForm) → decl_entry f ≡ entry s i → nat_le (rank i) 3 ≡ true → is_out_of_order 4 (rank i) ≡ true → is_do i ≡ false → ((behind_do : Bool) (q : Statement) → blocks_behind behind_do q i [] ≡ []) → Kind s i
   executed : (rank i ≡ 4) ⊎ (i ≡ ends_program) → Kind s i
 
 kind : (s : Statement) (i : Item) → Kind s i
-kind s (declares (Program x)) = declared (a_declaration s (Program x)) refl refl refl refl (λ label c. refl)
-kind s (declares Implicit) = declared (a_declaration s Implicit) refl refl refl refl (λ label c. refl)
-kind s (declares (Integer ds)) = declared (a_declaration s (Integer ds)) refl refl refl refl (λ label c. refl)
-kind s (declares (Dimension ds)) = declared (a_declaration s (Dimension ds)) refl refl refl refl (λ label c. refl)
-kind s (declares (Parameter values)) = declared (a_declaration s (Parameter values)) refl refl refl refl (λ label c. refl)
-kind s (declares (Save names)) = declared (a_declaration s (Save names)) refl refl refl refl (λ label c. refl)
-kind s (declares (Remark text)) = declared (a_declaration s (Remark text)) refl refl refl refl (λ label c. refl)
-kind s saves_all = declared (a_save_of_all s) refl refl refl refl (λ label c. refl)
+kind s (declares (Program x)) = declared (a_declaration s (Program x)) refl refl refl refl (λ behind_do q. nothing_left q.label)
+kind s (declares Implicit) = declared (a_declaration s Implicit) refl refl refl refl (λ behind_do q. nothing_left q.label)
+kind s (declares (Integer ds)) = declared (a_declaration s (Integer ds)) refl refl refl refl (λ behind_do q. nothing_left q.label)
+kind s (declares (Dimension ds)) = declared (a_declaration s (Dimension ds)) refl refl refl refl (λ behind_do q. nothing_left q.label)
+kind s (declares (Parameter values)) = declared (a_declaration s (Parameter values)) refl refl refl refl (λ behind_do q. nothing_left q.label)
+kind s (declares (Save names)) = declared (a_declaration s (Save names)) refl refl refl refl (λ behind_do q. nothing_left q.label)
+kind s (declares (Remark text)) = declared (a_declaration s (Remark text)) refl refl refl refl (λ behind_do q. nothing_left q.label)
+kind s saves_all = declared (a_save_of_all s) refl refl refl refl (λ behind_do q. nothing_left q.label)
 kind s (does t) = executed (inl refl)
 kind s continues = executed (inl refl)
 kind s (logical_if c t) = executed (inl refl)
@@ -184,10 +193,10 @@ body_found saved (e ∷ rest) c ps b blocks f g new phase h k =
     let what = says_some c e.reading ok.placed ok.inside in
     let i = what.0 in
     let placed = is_placed c i (subst (λ (r : Reading). breaks_syntax c r ≡ false) what.1 ok.placed) in
-    let h2 : at_statements saved (behind_item c s.label i) rest ≡ [] = subst (λ (r : Reading). at_statements saved (behind_reading c s.label r) rest ≡ []) what.1 h1 in
-    let k2 : is_behind_end (behind_all (behind_item c s.label i) rest) ≡ true = subst (λ (r : Reading). is_behind_end (behind_all (behind_reading c s.label r) rest) ≡ true) what.1 k in
-    let again = λ (qs : List Part) (d : BodyForm) (t : around qs ≡ blocks_behind s.label i c.blocks) (u : StackFits qs) (v : IsTrue (body_fits (labels (around qs)) d)) (w : is_do i ≡ true → Fresh qs d) (r : rank i ≡ 4).
-    body_found saved rest (behind_item c s.label i) qs d t u v w ((λ j. max (phase j) (r j)) ∙ refl) h2 k2 in
+    let h2 : at_statements saved (behind_item c s i) rest ≡ [] = subst (λ (r : Reading). at_statements saved (behind_reading c s r) rest ≡ []) what.1 h1 in
+    let k2 : is_behind_end (behind_all (behind_item c s i) rest) ≡ true = subst (λ (r : Reading). is_behind_end (behind_all (behind_reading c s r) rest) ≡ true) what.1 k in
+    let again = λ (qs : List Part) (d : BodyForm) (t : around qs ≡ blocks_behind c.behind_do s i c.blocks) (u : StackFits qs) (v : IsTrue (body_fits (labels (around qs)) d)) (w : is_do i ≡ true → Fresh qs d) (r : rank i ≡ 4).
+    body_found saved rest (behind_item c s i) qs d t u v w ((λ j. max (phase j) (r j)) ∙ refl) h2 k2 in
     let go : Kind s i → Rest ps b (e ∷ rest) = λ z. elim z as (λ z. Rest ps b (e ∷ rest)) [
       | declared form is early late quiet keeps ↦ absurd (let y : ◌≡◌ {A = Bool} true false = sym late ∙ ap (λ (n : ℕ). is_out_of_order n (rank i)) (sym phase) ∙ placed.ordered in cc)
       | executed x ↦ body_next saved e rest c ps b i what.1 x blocks f g new ok h1 again
@@ -229,14 +238,14 @@ decls_found saved (e ∷ rest) c ds blocks quiet phase h k =
     let what = says_some c e.reading ok.placed ok.inside in
     let i = what.0 in
     let is : e ≡ entry s i = λ j. record { statement = s; reading = what.1 j } in
-    let h2 : at_statements saved (behind_item c s.label i) rest ≡ [] = subst (λ (r : Reading). at_statements saved (behind_reading c s.label r) rest ≡ []) what.1 h1 in
-    let k2 : is_behind_end (behind_all (behind_item c s.label i) rest) ≡ true = subst (λ (r : Reading). is_behind_end (behind_all (behind_reading c s.label r) rest) ≡ true) what.1 k in
+    let h2 : at_statements saved (behind_item c s i) rest ≡ [] = subst (λ (r : Reading). at_statements saved (behind_reading c s r) rest ≡ []) what.1 h1 in
+    let k2 : is_behind_end (behind_all (behind_item c s i) rest) ≡ true = subst (λ (r : Reading). is_behind_end (behind_all (behind_reading c s r) rest) ≡ true) what.1 k in
     let new : c.behind_do ≡ true → Fresh [] nothing = λ y. absurd (true_false c.behind_do quiet y) in
-    let again = λ (qs : List Part) (d : BodyForm) (t : around qs ≡ blocks_behind s.label i c.blocks) (u : StackFits qs) (v : IsTrue (body_fits (labels (around qs)) d)) (w : is_do i ≡ true → Fresh qs d) (r : rank i ≡ 4).
-    body_found saved rest (behind_item c s.label i) qs d t u v w (first_phase c.phase (rank i) phase r) h2 k2 in
+    let again = λ (qs : List Part) (d : BodyForm) (t : around qs ≡ blocks_behind c.behind_do s i c.blocks) (u : StackFits qs) (v : IsTrue (body_fits (labels (around qs)) d)) (w : is_do i ≡ true → Fresh qs d) (r : rank i ≡ 4).
+    body_found saved rest (behind_item c s i) qs d t u v w (first_phase c.phase (rank i) phase r) h2 k2 in
     let go : Kind s i → HasForm (map decl_entry ds ++ e ∷ rest) = λ z. elim z as (λ z. HasForm (map decl_entry ds ++ e ∷ rest)) [
       | declared form same early late no_do keeps ↦
-          let more = decls_found saved rest (behind_item c s.label i) (ds ++ form ∷ []) (keeps s.label c.blocks ∙ blocks) no_do (early_max c.phase (rank i) phase early) h2 k2 in
+          let more = decls_found saved rest (behind_item c s i) (ds ++ form ∷ []) (ap (blocks_behind c.behind_do s i) blocks ∙ keeps c.behind_do s) no_do (early_max c.phase (rank i) phase early) h2 k2 in
           let lines : map decl_entry (ds ++ form ∷ []) ++ rest ≡ map decl_entry ds ++ e ∷ rest =
           ap (λ (es : List Entry). es ++ rest) (map_push decl_entry ds form) ∙ append_assoc (map decl_entry ds) (decl_entry form ∷ []) rest ∙ ap (λ (x : Entry). map decl_entry ds ++ x ∷ rest) (same ∙ sym is) in
           subst HasForm lines more

@@ -7,10 +7,9 @@ use Rattle.std.proofs.lemmas.List.{append-nil}
 use Rattle.ped_tree.specs.Tree.{CondTree, Head, Program, Implicit, Integer, Dimension, Parameter, Save, Remark}
 use Rattle.ped_grammar.specs.Statement.{Statement}
 use Rattle.ped_grammar.specs.Items.{Item, declares, saves_all, does, continues, logical_if, block_if, else_if, else_line, end_if, begins_do, keeps_private, ends_program, says, Entry}
-use Rattle.ped_grammar.specs.Contexts.{Block, in_then, in_else, in_do, rank, is_do, may_end, closed, closed_by, blocks_behind}
-use Rattle.ped_grammar.specs.BlockForms.{PlainForm, a_simple, a_continue, a_logical_if, PrivateForm, no_private, private_list, BodyForm, nothing, and_then, PartForm, a_plain, an_if, a_do, RestForm, ends_if, has_else, has_else_if, LoopForm, loop, at_plain, with_inner, plain_item, entry, private_entries, body_entries, part_entries, rest_entries, loop_entries, loop_label, has_label, is_free, private_fits, body_fits, part_fits, rest_fits, loop_fits, ending_fits}
-use Rattle.ped_grammar.specs.Contexts.{has_do}
-use Rattle.ped_grammar.specs.ProgramRefusals.{lacks_if, is_late_private, leaves_open, ends_badly}
+use Rattle.ped_grammar.specs.Contexts.{OpenLoop, Block, in_then, in_else, in_do, rank, is_do, may_end, has_do, left_by, left_by_label, left_in_if, with_else, with_else_if, without_if, blocks_behind}
+use Rattle.ped_grammar.specs.BlockForms.{PlainForm, a_simple, a_continue, a_logical_if, PrivateForm, no_private, private_list, BodyForm, nothing, and_then, PartForm, a_plain, an_if, a_do, RestForm, ends_if, has_else, has_else_if, LoopForm, loop, at_plain, with_inner, plain_item, entry, names_of_private, private_entries, body_entries, part_entries, rest_entries, loop_entries, loop_label, has_label, is_free, private_fits, body_fits, part_fits, rest_fits, loop_fits, ending_fits}
+use Rattle.ped_grammar.specs.ProgramRefusals.{lacks_if, is_late_private, leaves_open, closed, ends_badly}
 
 -- a THEN part that an ELSE IF with its condition has ended
 pub record OpenArm : Type 0 where
@@ -28,10 +27,19 @@ abbrev pub count : List OpenArm → ℕ
 count [] = 1
 count (a ∷ arms) = count arms + 1
 
+-- the line of a PRIVATE statement, 0 where there is none
+abbrev pub line_of_private : PrivateForm → ℕ
+line_of_private no_private = 0
+line_of_private (private_list s names) = s.line
+
+-- a DO that has begun
+abbrev pub loop_of : ℕ → Head → PrivateForm → OpenLoop
+loop_of l h p = record { label = l; variable = h.variable; private = names_of_private p; private_line = line_of_private p }
+
 abbrev pub block_of : Part → Block
 block_of (p_then b s d arms) = in_then (count arms)
 block_of (p_else b s d arms t e) = in_else (count arms)
-block_of (p_do b s l h p) = in_do l h.variable
+block_of (p_do b s l h p) = in_do (loop_of l h p)
 
 abbrev pub around : List Part → List Block
 around [] = []
@@ -41,7 +49,7 @@ abbrev pub labels : List Block → List ℕ
 labels [] = []
 labels (in_then n ∷ c) = labels c
 labels (in_else n ∷ c) = labels c
-labels (in_do l v ∷ c) = l ∷ labels c
+labels (in_do d ∷ c) = d.label ∷ labels c
 
 abbrev pub arms_entries : List OpenArm → List Entry
 arms_entries [] = []
@@ -116,13 +124,13 @@ open_label : (l : ℕ) (c : List Block) → list_any (λ m. m == l) (labels c) �
 open_label l [] = refl
 open_label l (in_then n ∷ c) = open_label l c
 open_label l (in_else n ∷ c) = open_label l c
-open_label l (in_do m v ∷ c) = ap (λ (x : Bool). m == l || x) (open_label l c)
+open_label l (in_do d ∷ c) = ap (λ (x : Bool). d.label == l || x) (open_label l c)
 
 own_label : (l : ℕ) (c : List Block) → list_any (λ m. l == m) (labels c) ≡ has_do l c
 own_label l [] = refl
 own_label l (in_then n ∷ c) = own_label l c
 own_label l (in_else n ∷ c) = own_label l c
-own_label l (in_do m v ∷ c) = rw (turned l m, own_label l c) refl
+own_label l (in_do d ∷ c) = rw (turned l d.label, own_label l c) refl
 
 no_label : (ls : List ℕ) → IsTrue (not (list_any (λ l. has_label l None) ls))
 no_label [] = refl
@@ -141,18 +149,67 @@ free_label : (c : List Block) (label : Option ℕ) (i : Item) → ends_badly c l
 free_label c None i h k = no_label (labels c)
 free_label c (Some l) i h k = free_of l c (not_open (has_do l c) (subst (λ (x : Bool). (has_do l c && not (x && not (has_do l (closed l c)))) ≡ false) k h))
 
-closed_none : (l : ℕ) (c : List Block) → has_do l c ≡ false → closed l c ≡ c
-closed_none l [] h = refl
-closed_none l (in_then n ∷ c) h = refl
-closed_none l (in_else n ∷ c) h = refl
-closed_none l (in_do m v ∷ c) h = let k : eqb m l ≡ false = grind arith in rw k refl
-
 ends_all : (b c : Bool) → b ≡ true → (b && not (true && not c)) ≡ false → c ≡ false
 ends_all b true e h = absurd (grind arith)
 ends_all b false e h = refl
 
+closed_none : (l : ℕ) (c : List Block) → has_do l c ≡ false → closed l c ≡ c
+closed_none l [] h = refl
+closed_none l (in_then n ∷ c) h = refl
+closed_none l (in_else n ∷ c) h = refl
+closed_none l (in_do d ∷ c) h = let k : eqb d.label l ≡ false = grind arith in rw k refl
+
+-- a label that no open loop has leaves the blocks as they are
+left_none : (l : ℕ) (c : List Block) → has_do l c ≡ false → left_by_label l c ≡ c
+left_none l [] h = refl
+left_none l (in_then n ∷ c) h = rw h refl
+left_none l (in_else n ∷ c) h = rw h refl
+left_none l (in_do d ∷ c) h =
+    let k : eqb d.label l ≡ false = grind arith in
+    let none : has_do l c ≡ false = grind arith in
+    rw (none, k) refl
+
+-- where the label's loops are all innermost, they are what it leaves
+left_closed : (l : ℕ) (c : List Block) → has_do l (closed l c) ≡ false → closed l c ≡ left_by_label l c
+left_closed l [] h = refl
+left_closed l (in_then n ∷ c) h = sym (left_none l (in_then n ∷ c) h)
+left_closed l (in_else n ∷ c) h = sym (left_none l (in_else n ∷ c) h)
+left_closed l (in_do d ∷ c) h =
+    let go : (x y : Bool) → eqb d.label l ≡ x → has_do l c ≡ y → has_do l (cond x (closed l c) (in_do d ∷ c)) ≡ false → cond x (closed l c) (in_do d ∷ c) ≡ cond y (left_by_label l c) (cond x c (in_do d ∷ c)) = λ x y. elim x as (λ x. eqb d.label l ≡ x → has_do l c ≡ y → has_do l (cond x (closed l c) (in_do d ∷ c)) ≡ false → cond x (closed l c) (in_do d ∷ c) ≡ cond y (left_by_label l c) (cond x c (in_do d ∷ c))) [
+      | true ↦ elim y as (λ y. eqb d.label l ≡ true → has_do l c ≡ y → has_do l (closed l c) ≡ false → closed l c ≡ cond y (left_by_label l c) c) [
+        | true ↦ λ e f g. left_closed l c g
+        | false ↦ λ e f g. closed_none l c f
+      ]
+      | false ↦ elim y as (λ y. eqb d.label l ≡ false → has_do l c ≡ y → has_do l (in_do d ∷ c) ≡ false → in_do d ∷ c ≡ cond y (left_by_label l c) (in_do d ∷ c)) [
+        | true ↦ λ e f g. absurd (grind arith)
+        | false ↦ λ e f g. refl
+      ]
+    ] in
+    go (eqb d.label l) (has_do l c) refl refl h
+
+not_true : (b : Bool) → IsTrue (not b) → b ≡ false
+not_true true h = absurd cc
+not_true false h = refl
+
+-- a statement with none of the labels leaves the blocks as they are
+free_left : (label : Option ℕ) (c : List Block) → IsTrue (not (list_any (λ l. has_label l label) (labels c))) → left_by label c ≡ c
+free_left None c h = refl
+free_left (Some l) c h = left_none l c (sym (own_label l c) ∙ not_true (list_any (λ m. l == m) (labels c)) h)
+
+-- a label that may end loops and doesn't end one badly ends the innermost
+left_well : (l : ℕ) (c : List Block) → (has_do l c && not (true && not (has_do l (closed l c)))) ≡ false → closed l c ≡ left_by_label l c
+left_well l c h =
+    let go : (x : Bool) → has_do l c ≡ x → closed l c ≡ left_by_label l c = λ x. elim x as (λ x. has_do l c ≡ x → closed l c ≡ left_by_label l c) [
+      | true ↦ λ e. left_closed l c (ends_all (has_do l c) (has_do l (closed l c)) e h)
+      | false ↦ λ e. closed_none l c e ∙ sym (left_none l c e)
+    ] in
+    go (has_do l c) refl
+
 not_new : {ps : List Part} {b : BodyForm} → false ≡ true → Fresh ps b
 not_new e = absurd cc
+
+carried : {c d : List Block} {es fs : List Entry} → Moved c false es → c ≡ d → es ≡ fs → Moved d false fs
+carried w p q = record { ps = w.ps; b = w.b; blocks_are = w.blocks_are ∙ p; fits = w.fits; current_fits = w.current_fits; new = not_new; written = w.written ∙ q }
 
 inner_fits : (c : List Block) (l : ℕ) (d : LoopForm) → loop_label d ≡ l → has_do l c ≡ false → IsTrue (loop_fits (labels c) d) → IsTrue (part_fits (labels c) (a_do d))
 inner_fits c l d e h k =
@@ -178,9 +235,8 @@ shut (p_do a q m head p ∷ ps) l b d e s f g h =
           let ending = true_and (loop_label d == m) (loop_fits (m ∷ ls) d) (eq-eqb (loop_label d) m (e ∙ sym same)) g in
           let fits = true_and (is_free ls q && private_fits (m ∷ ls) p && body_fits (m ∷ ls) b) (ending_fits (m ∷ ls) m (with_inner d))
           (true_and (is_free ls q && private_fits (m ∷ ls) p) (body_fits (m ∷ ls) b) (true_and (is_free ls q) (private_fits (m ∷ ls) p) s.1.1 s.1.2) f) ending in
-          let w = shut ps l a (loop q m head p b (with_inner d)) same s.0 s.1.0 fits r in
           let lines : stack_entries ps ++ (body_entries a ++ entry q (begins_do m head) ∷ (private_entries p ++ body_entries b ++ loop_entries d)) ≡ all = simp append_assoc in
-          record { ps = w.ps; b = w.b; blocks_are = w.blocks_are; fits = w.fits; current_fits = w.current_fits; new = not_new; written = w.written ∙ lines }
+          carried (shut ps l a (loop q m head p b (with_inner d)) same s.0 s.1.0 fits r) refl lines
       | false ↦ λ i r.
           record { ps = p_do a q m head p ∷ ps; b = and_then b (a_do d); blocks_are = refl; fits = s; current_fits = true_and (body_fits (labels c) b) (part_fits (labels c) (a_do d)) f (inner_fits c l d e r g); new = not_new; written = refl }
     ] in
@@ -211,57 +267,57 @@ ends_plain s p l e (p_do a q m head v ∷ ps) b f g true x h =
     let ending : IsTrue (has_label m s.label) = subst (λ (y : Option ℕ). IsTrue (has_label m y)) (sym e) (eq-eqb l m (sym is)) in
     let fits = true_and (is_free ls q && private_fits (m ∷ ls) v && body_fits (m ∷ ls) b) (ending_fits (m ∷ ls) m (at_plain s p))
     (true_and (is_free ls q && private_fits (m ∷ ls) v) (body_fits (m ∷ ls) b) (true_and (is_free ls q) (private_fits (m ∷ ls) v) f.1.1 f.1.2) g) ending in
-    let w = shut ps l a (loop q m head v b (at_plain s p)) is f.0 f.1.0 fits z in
     let all = stack_entries (p_do a q m head v ∷ ps) ++ (body_entries b ++ entry s (plain_item p) ∷ []) in
     let lines : stack_entries ps ++ (body_entries a ++ entry q (begins_do m head) ∷ (private_entries v ++ body_entries b ++ entry s (plain_item p) ∷ [])) ≡ all = simp append_assoc in
     let blocks : closed l (around ps) ≡ closed l c = rw same refl in
-    record { ps = w.ps; b = w.b; blocks_are = w.blocks_are ∙ blocks; fits = w.fits; current_fits = w.current_fits; new = not_new; written = w.written ∙ lines }
+    carried (shut ps l a (loop q m head v b (at_plain s p)) is f.0 f.1.0 fits z) blocks lines
 
 moved_plain : (s : Statement) (p : PlainForm) (label : Option ℕ) → s.label ≡ label → (ps : List Part) (b : BodyForm) → StackFits ps → IsTrue (body_fits (labels (around ps)) b) → may_end (plain_item p) ≡ true
-    → ends_badly (around ps) label (says (plain_item p)) ≡ false → Moved (closed_by label (around ps)) false (stack_entries ps ++ (body_entries b ++ entry s (plain_item p) ∷ []))
+    → ends_badly (around ps) label (says (plain_item p)) ≡ false → Moved (left_by label (around ps)) false (stack_entries ps ++ (body_entries b ++ entry s (plain_item p) ∷ []))
 moved_plain s p None e ps b f g m h =
     stays_plain s p ps b f g (subst (λ (y : Option ℕ). IsTrue (not (list_any (λ l. has_label l y) (labels (around ps))))) (sym e) (no_label (labels (around ps))))
 moved_plain s p (Some l) e ps b f g m h =
-    ends_plain s p l e ps b f g (has_do l (around ps)) refl (subst (λ (x : Bool). (has_do l (around ps) && not (x && not (has_do l (closed l (around ps))))) ≡ false) m h)
+    let well = subst (λ (x : Bool). (has_do l (around ps) && not (x && not (has_do l (closed l (around ps))))) ≡ false) m h in
+    subst (λ (c : List Block). Moved c false (stack_entries ps ++ (body_entries b ++ entry s (plain_item p) ∷ []))) (left_well l (around ps) well) (ends_plain s p l e ps b f g (has_do l (around ps)) refl well)
 
 -- the blocks and the body with a statement more, where no loop has its label
-abbrev pub Next : Statement → Item → List Part → BodyForm → Bool → Type 0
-Next s i ps b fresh = Moved (blocks_behind s.label i (around ps)) fresh (stack_entries ps ++ (body_entries b ++ entry s i ∷ []))
+abbrev pub Next : Bool → Statement → Item → List Part → BodyForm → Bool → Type 0
+Next behind_do s i ps b fresh = Moved (blocks_behind behind_do s i (around ps)) fresh (stack_entries ps ++ (body_entries b ++ entry s i ∷ []))
 
-moved_else_if : (s : Statement) (d : CondTree) (ps : List Part) (b : BodyForm) → StackFits ps → IsTrue (body_fits (labels (around ps)) b) → IsTrue (is_free (labels (around ps)) s)
-    → lacks_if (around ps) (else_if d) ≡ false → leaves_open (around ps) (else_if d) ≡ false → Next s (else_if d) ps b false
-moved_else_if s d [] b f g k x y = absurd cc
-moved_else_if s d (p_then a q e arms ∷ ps) b f g k x y =
+moved_else_if : (behind_do : Bool) (s : Statement) (d : CondTree) (ps : List Part) (b : BodyForm) → StackFits ps → IsTrue (body_fits (labels (around ps)) b) → IsTrue (is_free (labels (around ps)) s)
+    → lacks_if (around ps) (else_if d) ≡ false → leaves_open (around ps) (else_if d) ≡ false → Next behind_do s (else_if d) ps b false
+moved_else_if behind_do s d [] b f g k x y = absurd cc
+moved_else_if behind_do s d (p_then a q e arms ∷ ps) b f g k x y =
     let arm : OpenArm = record { part = b; statement = s; condition = d } in
     let lines : (stack_entries ps ++ (body_entries a ++ entry q (block_if e) ∷ (arms_entries arms ++ (body_entries b ++ entry s (else_if d) ∷ [])))) ++ []
     ≡ (stack_entries ps ++ (body_entries a ++ entry q (block_if e) ∷ arms_entries arms)) ++ (body_entries b ++ entry s (else_if d) ∷ []) =
     append-nil (stack_entries ps ++ (body_entries a ++ entry q (block_if e) ∷ (arms_entries arms ++ (body_entries b ++ entry s (else_if d) ∷ [])))) ∙ simp append_assoc in
-    record { ps = p_then a q e (arm ∷ arms) ∷ ps; b = nothing; blocks_are = refl; fits = (f.0, (f.1.0, f.1.1, (f.1.2, g, k))); current_fits = refl; new = not_new; written = lines }
-moved_else_if s d (p_else a q e arms t o ∷ ps) b f g k x y = absurd cc
-moved_else_if s d (p_do a q m head v ∷ ps) b f g k x y = absurd cc
+    record { ps = p_then a q e (arm ∷ arms) ∷ ps; b = nothing; blocks_are = sym (free_left s.label (around (p_then a q e (arm ∷ arms) ∷ ps)) k); fits = (f.0, (f.1.0, f.1.1, (f.1.2, g, k))); current_fits = refl; new = not_new; written = lines }
+moved_else_if behind_do s d (p_else a q e arms t o ∷ ps) b f g k x y = absurd cc
+moved_else_if behind_do s d (p_do a q m head v ∷ ps) b f g k x y = absurd cc
 
-moved_else : (s : Statement) (ps : List Part) (b : BodyForm) → StackFits ps → IsTrue (body_fits (labels (around ps)) b) → IsTrue (is_free (labels (around ps)) s)
-    → lacks_if (around ps) else_line ≡ false → leaves_open (around ps) else_line ≡ false → Next s else_line ps b false
-moved_else s [] b f g k x y = absurd cc
-moved_else s (p_then a q e arms ∷ ps) b f g k x y =
+moved_else : (behind_do : Bool) (s : Statement) (ps : List Part) (b : BodyForm) → StackFits ps → IsTrue (body_fits (labels (around ps)) b) → IsTrue (is_free (labels (around ps)) s)
+    → lacks_if (around ps) else_line ≡ false → leaves_open (around ps) else_line ≡ false → Next behind_do s else_line ps b false
+moved_else behind_do s [] b f g k x y = absurd cc
+moved_else behind_do s (p_then a q e arms ∷ ps) b f g k x y =
     let lines : (stack_entries ps ++ (body_entries a ++ entry q (block_if e) ∷ (arms_entries arms ++ (body_entries b ++ entry s else_line ∷ [])))) ++ []
     ≡ (stack_entries ps ++ (body_entries a ++ entry q (block_if e) ∷ arms_entries arms)) ++ (body_entries b ++ entry s else_line ∷ []) =
     append-nil (stack_entries ps ++ (body_entries a ++ entry q (block_if e) ∷ (arms_entries arms ++ (body_entries b ++ entry s else_line ∷ [])))) ∙ simp append_assoc in
-    record { ps = p_else a q e arms b s ∷ ps; b = nothing; blocks_are = refl; fits = (f.0, (f.1.0, f.1.1, f.1.2, g, k)); current_fits = refl; new = not_new; written = lines }
-moved_else s (p_else a q e arms t o ∷ ps) b f g k x y = absurd cc
-moved_else s (p_do a q m head v ∷ ps) b f g k x y = absurd cc
+    record { ps = p_else a q e arms b s ∷ ps; b = nothing; blocks_are = sym (free_left s.label (around (p_else a q e arms b s ∷ ps)) k); fits = (f.0, (f.1.0, f.1.1, f.1.2, g, k)); current_fits = refl; new = not_new; written = lines }
+moved_else behind_do s (p_else a q e arms t o ∷ ps) b f g k x y = absurd cc
+moved_else behind_do s (p_do a q m head v ∷ ps) b f g k x y = absurd cc
 
-moved_end_if : (s : Statement) (ps : List Part) (b : BodyForm) → StackFits ps → IsTrue (body_fits (labels (around ps)) b) → IsTrue (is_free (labels (around ps)) s)
-    → lacks_if (around ps) end_if ≡ false → leaves_open (around ps) end_if ≡ false → Next s end_if ps b false
-moved_end_if s [] b f g k x y = absurd cc
-moved_end_if s (p_then a q e arms ∷ ps) b f g k x y =
+moved_end_if : (behind_do : Bool) (s : Statement) (ps : List Part) (b : BodyForm) → StackFits ps → IsTrue (body_fits (labels (around ps)) b) → IsTrue (is_free (labels (around ps)) s)
+    → lacks_if (around ps) end_if ≡ false → leaves_open (around ps) end_if ≡ false → Next behind_do s end_if ps b false
+moved_end_if behind_do s [] b f g k x y = absurd cc
+moved_end_if behind_do s (p_then a q e arms ∷ ps) b f g k x y =
     let ls = labels (around ps) in
     let whole = whole_if q e arms b (ends_if s) in
     let lines : stack_entries ps ++ (body_entries a ++ part_entries whole)
     ≡ (stack_entries ps ++ (body_entries a ++ entry q (block_if e) ∷ arms_entries arms)) ++ (body_entries b ++ entry s end_if ∷ []) =
     ap (λ (z : List Entry). stack_entries ps ++ (body_entries a ++ z)) (if_entries q e arms b (ends_if s)) ∙ simp append_assoc in
-    record { ps = ps; b = and_then a whole; blocks_are = refl; fits = f.0; current_fits = true_and (body_fits ls a) (part_fits ls whole) f.1.0 (if_fits ls q e arms b (ends_if s) f.1.1 f.1.2 g k); new = not_new; written = lines }
-moved_end_if s (p_else a q e arms t o ∷ ps) b f g k x y =
+    record { ps = ps; b = and_then a whole; blocks_are = sym (free_left s.label (around ps) k); fits = f.0; current_fits = true_and (body_fits ls a) (part_fits ls whole) f.1.0 (if_fits ls q e arms b (ends_if s) f.1.1 f.1.2 g k); new = not_new; written = lines }
+moved_end_if behind_do s (p_else a q e arms t o ∷ ps) b f g k x y =
     let ls = labels (around ps) in
     let rest = has_else o b s in
     let whole = whole_if q e arms t rest in
@@ -269,11 +325,11 @@ moved_end_if s (p_else a q e arms t o ∷ ps) b f g k x y =
     let lines : stack_entries ps ++ (body_entries a ++ part_entries whole)
     ≡ (stack_entries ps ++ (body_entries a ++ entry q (block_if e) ∷ (arms_entries arms ++ (body_entries t ++ entry o else_line ∷ [])))) ++ (body_entries b ++ entry s end_if ∷ []) =
     ap (λ (z : List Entry). stack_entries ps ++ (body_entries a ++ z)) (if_entries q e arms t rest) ∙ simp append_assoc in
-    record { ps = ps; b = and_then a whole; blocks_are = refl; fits = f.0; current_fits = true_and (body_fits ls a) (part_fits ls whole) f.1.0 (if_fits ls q e arms t rest f.1.1 f.1.2 f.1.3 fits); new = not_new; written = lines }
-moved_end_if s (p_do a q m head v ∷ ps) b f g k x y = absurd cc
+    record { ps = ps; b = and_then a whole; blocks_are = sym (free_left s.label (around ps) k); fits = f.0; current_fits = true_and (body_fits ls a) (part_fits ls whole) f.1.0 (if_fits ls q e arms t rest f.1.1 f.1.2 f.1.3 fits); new = not_new; written = lines }
+moved_end_if behind_do s (p_do a q m head v ∷ ps) b f g k x y = absurd cc
 
 -- PRIVATE behind its DO
-moved_private : (s : Statement) (names : List (List ℕ)) (ps : List Part) (b : BodyForm) → StackFits ps → IsTrue (is_free (labels (around ps)) s) → Fresh ps b → Next s (keeps_private names) ps b false
+moved_private : (s : Statement) (names : List (List ℕ)) (ps : List Part) (b : BodyForm) → StackFits ps → IsTrue (is_free (labels (around ps)) s) → Fresh ps b → Next true s (keeps_private names) ps b false
 moved_private s names ps b f k new =
     let below = new.below in
     let old = p_do new.before new.statement new.label new.head no_private in
@@ -282,23 +338,23 @@ moved_private s names ps b f k new =
     let lines : (stack_entries below ++ (body_entries new.before ++ entry new.statement (begins_do new.label new.head) ∷ (entry s (keeps_private names) ∷ []))) ++ []
     ≡ (stack_entries below ++ (body_entries new.before ++ entry new.statement (begins_do new.label new.head) ∷ [])) ++ ([] ++ entry s (keeps_private names) ∷ []) =
     append-nil (stack_entries below ++ (body_entries new.before ++ entry new.statement (begins_do new.label new.head) ∷ (entry s (keeps_private names) ∷ []))) ∙ simp append_assoc in
-    let one : Next s (keeps_private names) (old ∷ below) nothing false = record {
+    let one : Next true s (keeps_private names) (old ∷ below) nothing false = record {
       ps = p_do new.before new.statement new.label new.head (private_list s names) ∷ below;
       b = nothing;
-      blocks_are = refl;
+      blocks_are = sym (free_left s.label (around (p_do new.before new.statement new.label new.head (private_list s names) ∷ below)) free);
       fits = (fits.0, (fits.1.0, fits.1.1, free));
       current_fits = refl;
       new = not_new;
       written = lines;
     } in
-    subst (λ (qs : List Part). Next s (keeps_private names) qs b false) (sym new.is) (subst (λ (d : BodyForm). Next s (keeps_private names) (old ∷ below) d false) (sym new.empty) one)
+    subst (λ (qs : List Part). Next true s (keeps_private names) qs b false) (sym new.is) (subst (λ (d : BodyForm). Next true s (keeps_private names) (old ∷ below) d false) (sym new.empty) one)
 
 late_private : (fresh : Bool) → not fresh ≡ false → fresh ≡ true
 late_private true e = refl
 late_private false e = absurd cc
 
 pub moved : (s : Statement) (i : Item) (fresh : Bool) (ps : List Part) (b : BodyForm) → StackFits ps → IsTrue (body_fits (labels (around ps)) b) → (fresh ≡ true → Fresh ps b) → rank i ≡ 4
-    → lacks_if (around ps) i ≡ false → is_late_private fresh i ≡ false → leaves_open (around ps) i ≡ false → ends_badly (around ps) s.label (says i) ≡ false → Next s i ps b (is_do i)
+    → lacks_if (around ps) i ≡ false → is_late_private fresh i ≡ false → leaves_open (around ps) i ≡ false → ends_badly (around ps) s.label (says i) ≡ false → Next fresh s i ps b (is_do i)
 moved s (declares (Program p)) fresh ps b f g new r x y z w = absurd cc
 moved s (declares Implicit) fresh ps b f g new r x y z w = absurd cc
 moved s (declares (Integer ds)) fresh ps b f g new r x y z w = absurd cc
@@ -310,27 +366,33 @@ moved s saves_all fresh ps b f g new r x y z w = absurd cc
 moved s (does t) fresh ps b f g new r x y z w =
     let c = around ps in
     let all = stack_entries ps ++ (body_entries b ++ entry s (does t) ∷ []) in
-    let go : (m : Bool) → may_end (does t) ≡ m → Moved (cond m (closed_by s.label c) c) false all = λ m. elim m as (λ m. may_end (does t) ≡ m → Moved (cond m (closed_by s.label c) c) false all) [
+    let go : (m : Bool) → may_end (does t) ≡ m → Moved (left_by s.label c) false all = λ m. elim m as (λ m. may_end (does t) ≡ m → Moved (left_by s.label c) false all) [
       | true ↦ λ e. moved_plain s (a_simple t) s.label refl ps b f g e w
-      | false ↦ λ e. stays_plain s (a_simple t) ps b f g (free_label c s.label (does t) w e)
+      | false ↦ λ e.
+          let free = free_label c s.label (does t) w e in
+          subst (λ (x : List Block). Moved x false all) (sym (free_left s.label c free)) (stays_plain s (a_simple t) ps b f g free)
     ] in
     go (may_end (does t)) refl
 moved s continues fresh ps b f g new r x y z w = moved_plain s a_continue s.label refl ps b f g refl w
 moved s (logical_if d t) fresh ps b f g new r x y z w = moved_plain s (a_logical_if d t) s.label refl ps b f g refl w
 moved s (block_if d) fresh ps b f g new r x y z w =
-    record { ps = p_then b s d [] ∷ ps; b = nothing; blocks_are = refl; fits = (f, (g, free_label (around ps) s.label (block_if d) w refl, tt)); current_fits = refl; new = not_new; written = append-nil (stack_entries ps ++ (body_entries b ++ entry s (block_if d) ∷ [])) }
-moved s (else_if d) fresh ps b f g new r x y z w = moved_else_if s d ps b f g (free_label (around ps) s.label (else_if d) w refl) x z
-moved s else_line fresh ps b f g new r x y z w = moved_else s ps b f g (free_label (around ps) s.label else_line w refl) x z
-moved s end_if fresh ps b f g new r x y z w = moved_end_if s ps b f g (free_label (around ps) s.label end_if w refl) x z
+    let free = free_label (around ps) s.label (block_if d) w refl in
+    record { ps = p_then b s d [] ∷ ps; b = nothing; blocks_are = ap (λ (c : List Block). in_then 1 ∷ c) (sym (free_left s.label (around ps) free)); fits = (f, (g, free, tt)); current_fits = refl; new = not_new; written = append-nil (stack_entries ps ++ (body_entries b ++ entry s (block_if d) ∷ [])) }
+moved s (else_if d) fresh ps b f g new r x y z w = moved_else_if fresh s d ps b f g (free_label (around ps) s.label (else_if d) w refl) x z
+moved s else_line fresh ps b f g new r x y z w = moved_else fresh s ps b f g (free_label (around ps) s.label else_line w refl) x z
+moved s end_if fresh ps b f g new r x y z w = moved_end_if fresh s ps b f g (free_label (around ps) s.label end_if w refl) x z
 moved s (begins_do l h) fresh ps b f g new r x y z w =
+    let free = free_label (around ps) s.label (begins_do l h) w refl in
     record {
       ps = p_do b s l h no_private ∷ ps;
       b = nothing;
-      blocks_are = refl;
-      fits = (f, (g, free_label (around ps) s.label (begins_do l h) w refl, refl));
+      blocks_are = ap (λ (c : List Block). in_do (loop_of l h no_private) ∷ c) (sym (free_left s.label (around ps) free));
+      fits = (f, (g, free, refl));
       current_fits = refl;
       new = λ e. record { before = b; statement = s; label = l; head = h; below = ps; is = refl; empty = refl };
       written = append-nil (stack_entries ps ++ (body_entries b ++ entry s (begins_do l h) ∷ []));
     }
-moved s (keeps_private names) fresh ps b f g new r x y z w = moved_private s names ps b f (free_label (around ps) s.label (keeps_private names) w refl) (new (late_private fresh y))
+moved s (keeps_private names) fresh ps b f g new r x y z w =
+    let late = late_private fresh y in
+    subst (λ (t : Bool). Next t s (keeps_private names) ps b false) (sym late) (moved_private s names ps b f (free_label (around ps) s.label (keeps_private names) w refl) (new late))
 moved s ends_program fresh ps b f g new r x y z w = absurd cc

@@ -5,8 +5,8 @@ use Rattle.std.specs.List.{list_any}
 use Rattle.ped_tree.specs.Tree.{ExprTree, CondTree, ItemTree, Value, Text, Head, StmtTree, StmtTrees, Assign, If, Do, Print, Read, Stop, Comment, no_stmts, more_stmts, BoundTree, DeclaratorTree, DeclTree, Program, Implicit, Integer, Dimension, Parameter, Save, Remark}
 use Rattle.ped_grammar.specs.Literals.{has_large_literal, cond_has_large_literal, item_has_large_literal, head_has_large_literal, stmt_has_large_literal, stmts_have_large_literal, declarator_has_large_literal, decl_has_large_literal}
 use Rattle.ped_grammar.specs.Items.{Item, declares, saves_all, does, continues, logical_if, block_if, else_if, else_line, end_if, begins_do, keeps_private, ends_program, Reading, says, outside_profile, no_form, Entry}
-use Rattle.ped_grammar.specs.Contexts.{Context}
-use Rattle.ped_grammar.specs.Contexts.{open_variables}
+use Rattle.ped_grammar.specs.Contexts.{Context, open_variables}
+use Rattle.ped_grammar.specs.LimitNumbers.{most_dimensions}
 use Rattle.ped_grammar.specs.ProgramRefusals.{listed_stmts, private_behind, has_eight_dimensions, is_too_large, are_too_many, is_too_deep, has_many_references, is_too_long, passes_limit}
 use Rattle.ped_expressions.specs.ExpressionReading.{saturated, with_literals}
 use Rattle.ped_expressions.specs.ConditionReading.{cond_with_literals}
@@ -54,12 +54,12 @@ large_decl Implicit = refl
 large_decl (Save names) = refl
 large_decl (Remark t) = refl
 
-eight_more : (d : DeclaratorTree) → nat_lt 7 (length (declarator_with_literals saturated d).bounds) ≡ nat_lt 7 (length d.bounds)
-eight_more d = ap (λ n. nat_lt 7 n) (length_with (bound_with_literals saturated) d.bounds)
+eight_more : (d : DeclaratorTree) → nat_lt most_dimensions (length (declarator_with_literals saturated d).bounds) ≡ nat_lt most_dimensions (length d.bounds)
+eight_more d = ap (λ n. nat_lt most_dimensions n) (length_with (bound_with_literals saturated) d.bounds)
 
 eight_same : (d : DeclTree) → has_eight_dimensions (decl_with_literals saturated d) ≡ has_eight_dimensions d
-eight_same (Integer ds) = any_with (λ (d : DeclaratorTree). nat_lt 7 (length d.bounds)) (declarator_with_literals saturated) eight_more ds
-eight_same (Dimension ds) = any_with (λ (d : DeclaratorTree). nat_lt 7 (length d.bounds)) (declarator_with_literals saturated) eight_more ds
+eight_same (Integer ds) = any_with (λ (d : DeclaratorTree). nat_lt most_dimensions (length d.bounds)) (declarator_with_literals saturated) eight_more ds
+eight_same (Dimension ds) = any_with (λ (d : DeclaratorTree). nat_lt most_dimensions (length d.bounds)) (declarator_with_literals saturated) eight_more ds
 eight_same (Program x) = refl
 eight_same Implicit = refl
 eight_same (Parameter values) = refl
@@ -160,7 +160,7 @@ passes_other saved c private i large =
     large
     || are_too_many c.statements i
     || is_too_deep c.blocks i
-    || has_many_references (c.constants ++ open_variables c.blocks) private i
+    || has_many_references c.constants (open_variables c.blocks) private i
     || is_too_long saved c.loops i
 
 pub limit_same : (saved : List (List ℕ)) (c : Context) (others rest : List Entry) → private_behind others ≡ private_behind rest → (i : Item)

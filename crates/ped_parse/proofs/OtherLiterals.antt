@@ -6,9 +6,10 @@ use Rattle.ped_tree.specs.Tree.{ExprTree, ExprTrees, Int, Var, Element, Neg, Add
 use Rattle.ped_tree.specs.Numbering.{statement_count, statements_count}
 use Rattle.ped_grammar.specs.Items.{Item, declares, saves_all, does, continues, logical_if, block_if, else_if, else_line, end_if, begins_do, keeps_private, ends_program}
 use Rattle.ped_tree.specs.NamesIn.{expr_names, exprs_names, cond_names, item_names, head_names, stmt_names, stmts_names, declarator_names, decl_names}
-use Rattle.ped_grammar.specs.Occurrences.{names_in, do_variables, constants_of}
+use Rattle.ped_grammar.specs.Statement.{Statement}
+use Rattle.ped_grammar.specs.Occurrences.{names_in, do_variables, constants_of, is_end}
 use Rattle.ped_tree.specs.Accesses.{constants_in}
-use Rattle.ped_grammar.specs.Contexts.{Block, decl_rank, rank, numbered_in, is_do, is_stop, may_end, is_save, saves_list, saves_without, closed_by, blocks_behind}
+use Rattle.ped_grammar.specs.Contexts.{Block, decl_rank, rank, numbered_in, is_do, is_stop, may_end, is_save, saves_list, saves_without, blocks_behind}
 use Rattle.ped_grammar.specs.ProgramForms.{line_count}
 use Rattle.ped_grammar.specs.ProgramRefusals.{lacks_if, is_late_private, leaves_open, scalar_of, assigned_by, listed_stmts, assigned_in, private_in, stops}
 use Rattle.ped_expressions.specs.ExpressionReading.{with_literals, all_with_literals}
@@ -228,9 +229,13 @@ stops_with v (does s) = is_stop_with v s
 stops_with v (logical_if c s) = ap (λ (ys : List StmtTree). list_any is_stop ys) (listed_with v s) ∙ any_with is_stop (stmt_with_literals v) (is_stop_with v) (listed_stmts s)
 stops_with v i = refl
 
-pub blocks_with : (v : ℕ → ℕ) (label : Option ℕ) (i : Item) (c : List Block) → blocks_behind label (says_with_literals v i) c ≡ blocks_behind label i c
-blocks_with v label (does s) c = ap (λ (b : Bool). cond b (closed_by label c) c) (may_end_with v (does s))
-blocks_with v label i c = refl
+pub blocks_with : (v : ℕ → ℕ) (behind_do : Bool) (s : Statement) (i : Item) (c : List Block) → blocks_behind behind_do s (says_with_literals v i) c ≡ blocks_behind behind_do s i c
+blocks_with v behind_do s (does t) c = refl
+blocks_with v behind_do s i c = refl
+
+pub is_end_with : (v : ℕ → ℕ) (i : Item) → is_end (says_with_literals v i) ≡ is_end i
+is_end_with v (declares d) = refl
+is_end_with v i = refl
 
 pub line_count_with : (v : ℕ → ℕ) (saved : List (List ℕ)) (i : Item) → line_count saved (says_with_literals v i) ≡ line_count saved i
 line_count_with v saved (does s) = count_with v s

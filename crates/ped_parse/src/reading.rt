@@ -13,7 +13,7 @@ ghost use Rattle.ped_round_trip.specs.PrintedPrograms.{PrintsItself};
 ghost use Rattle.ped_parse.specs.Entries.{AreReadAs};
 ghost use Rattle.ped_parse.specs.Refusals.{IsRefusalOf};
 
-use crate::refusals::{ReadRefusal, Refusal};
+use crate::refusals::ReadRefusal;
 use ped_base::NoMemory;
 use ped_blocks::program_of;
 use ped_grammar::{Entry, Statement, Statements};
@@ -39,7 +39,7 @@ pub fn read(alloc: Global, text: &[u8]) -> Result<Program, ReadRefusal>
 {
     match statements(alloc, text) {
         Ok(cut) => nested(alloc, cut),
-        Err(LinesError::Refused(refusal)) => Err(ReadRefusal::At(Refusal::of_line(refusal))),
+        Err(LinesError::Refused(refusal)) => Err(ReadRefusal::At(refusal)),
         Err(LinesError::NoMemory) => Err(ReadRefusal::NoMemory),
     }
 }
@@ -59,7 +59,7 @@ fn nested(alloc: Global, cut: Statements) -> Result<Program, ReadRefusal>
         cut.lines,
         &saved,
     )? {
-        Some(refusal) => Err(ReadRefusal::At(Refusal::of_statement(refusal))),
+        Some(refusal) => Err(ReadRefusal::At(refusal)),
         None => Ok(program_of(alloc, entries, &saved)?),
     }
 }

@@ -1,7 +1,8 @@
 //! What a text reads as, in short.
 
-use crate::{ReadRefusal, Refusal, RefusalKind, read};
+use crate::{ReadRefusal, read};
 use ped_base::NoMemory;
+use ped_grammar::{Refusal, RefusalKind};
 use std::alloc::Global;
 use std::test::Fail;
 
@@ -37,5 +38,11 @@ fn name_of(kind: RefusalKind) -> &'static str {
         RefusalKind::IndexAssigned => "IndexAssigned",
         RefusalKind::StopPlace => "StopPlace",
         RefusalKind::Limit => "Limit",
+        RefusalKind::RealName => "RealName",
+        RefusalKind::DeclaredTwice => "DeclaredTwice",
+        RefusalKind::NotConstant => "NotConstant",
+        RefusalKind::RankDiffers => "RankDiffers",
+        RefusalKind::BoundsEmpty => "BoundsEmpty",
+        RefusalKind::StorageLimit => "Limit",
     }
 }

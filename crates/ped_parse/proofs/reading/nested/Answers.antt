@@ -1,9 +1,8 @@
 use Rattle.std.proofs.Common.{◌≡◌, ℕ, List, map, sym, ap, subst, ◌∙◌}
-use Rattle.ped_grammar.specs.Refusal.{Finding, first_of}
+use Rattle.ped_grammar.specs.Refusal.{first_of}
 use Rattle.ped_grammar.specs.Statement.{Note}
 use Rattle.ped_grammar.specs.ProgramRefusals.{program_refusals}
 use Rattle.ped_grammar.specs.Occurrences.{saved_names}
-use Rattle.ped_grammar.specs.Reading.{Refuses}
 use Rattle.ped_grammar.specs.StatementViews.{note_of, statement_of}
 use Rattle.ped_grammar.specs.declared.statements.Statement as lines
 use Rattle.ped_grammar.specs.declared.statements.NoteLine.{NoteLine}
@@ -15,12 +14,11 @@ use Rattle.ped_parse.proofs.reading.nested.Goals as goal
 
 -- src/reading.rt:49:1
 pub returns-in-Some-clause-refused : goal.returns-in-Some-clause-refused
-returns-in-Some-clause-refused c = λ text h same.
-    subst (λ (f : Finding). Refuses text f) (sym c.of_statement.ensures)
-    (refused_here c.args.cut c.in_ok-entries.entries.items c.in_ok-refusal.field-0 c.in-Some.refusal
+returns-in-Some-clause-refused c =
+    refused_here c.args.cut c.in_ok-entries.entries.items c.in_ok-refusal.field-0 c.in-Some.refusal
     (subst (λ (ss : List lines.Statement). AreReadAs (map statement_of ss) (map entry_of c.in_ok-entries.entries.items)) c.into_vec.ensures c.in_ok-entries.ensures)
     (λ all p q. c.in_ok-refusal.ensures all p (q ∙ ap (λ (ns : List NoteLine). map note_of ns) (sym c.as_slice.ensures)) ∙ ap (λ (es : List items.Entry). first_of (program_refusals all (map entry_of es))) c.deref-2.ensures.value)
-    c.in-Some.is text h same)
+    c.in-Some.is
 
 -- src/reading.rt:45:1
 pub returns-clause-tree : goal.returns-clause-tree

@@ -1,6 +1,6 @@
 pub mod Filling
 pub mod FirstLines
 pub mod OneLine
-pub mod Placing
+pub mod Constants
 pub mod Quoting
 pub mod Trimming

@@ -7,20 +7,21 @@ use Rattle.ped_grammar.specs.Statement.{Note}
 use Rattle.ped_grammar.specs.Columns.{is_comment, is_continuation, label_of, statement_columns}
 use Rattle.ped_grammar.specs.Characters.{is_quoted, has_bad, text_behind, text_of}
 use Rattle.ped_grammar.specs.Grouping.{NumberedLine, comment_at, directive_at, further_lines, joined_columns, notes_within, notes_behind, statement_at, statements_from}
+use Rattle.ped_grammar.specs.LimitNumbers.{most_continuations}
 use Rattle.ped_grammar.specs.LineRefusals.{Initial, Continuation, Orphan, at_line, at_further, at_orphans, in_rest, in_statements}
 use Rattle.ped_grammar.specs.Refusal.{Finding, OpenConstant, refused_if, earliest}
 use Rattle.ped_grammar.proofs.First.{earliest_append}
 use Rattle.ped_grammar.specs.StatementViews.{note_of, statement_of}
 use Rattle.ped_lines.specs.Cutting.{WithColumns, WithLine, left_open, refusals_left, ended, begun, statements_with, cut_with}
 use Rattle.ped_grammar.specs.RefusalViews.{found_of}
-use Rattle.ped_lines.specs.Places.{is_constant, place_of, front_of}
+use Rattle.ped_lines.specs.Quoting.{is_inside, quoting_of, front_of}
 use Rattle.ped_lines.specs.declared.characters.OpenText.{OpenText}
-use Rattle.ped_lines.specs.declared.characters.Place.{Place}
+use Rattle.ped_lines.specs.declared.characters.Quoting.{Quoting}
 use Rattle.ped_grammar.specs.declared.statements.NoteLine.{NoteLine}
 use Rattle.ped_lines.specs.declared.cutting.OpenStatement.{OpenStatement}
 use Rattle.ped_lines.specs.declared.cutting.Cutting.{Cutting}
 use Rattle.ped_lines.proofs.Quoting.{quoted_alike, text_append, has_bad_alike}
-use Rattle.ped_lines.proofs.Placing.{quoted_is, quoted_from, front_place, text_alike}
+use Rattle.ped_lines.proofs.Constants.{quoted_is, quoted_from, front_quoting, text_alike}
 
 abbrev numbered : ℕ → List ℕ → NumberedLine
 numbered n line = record { number = n; bytes = line }
@@ -44,7 +45,7 @@ from_past comments directives n line rest h k = rw (h, k) refl
 further_none : (n : ℕ) (line : List ℕ) (rest : List (List ℕ)) → is_comment line ≡ false → is_continuation line ≡ false → further_lines n (line ∷ rest) ≡ []
 further_none n line rest h k = rw (h, k) refl
 
-statements_here : (n : ℕ) (line : List ℕ) (rest : List (List ℕ)) → is_comment line ≡ false → is_continuation line ≡ false → in_statements n (line ∷ rest) ≡ at_line n Initial [] line ++ in_rest n 19 (statement_columns line) (further_lines (n + 1) rest) ++ in_statements (n + 1) rest
+statements_here : (n : ℕ) (line : List ℕ) (rest : List (List ℕ)) → is_comment line ≡ false → is_continuation line ≡ false → in_statements n (line ∷ rest) ≡ at_line n Initial [] line ++ in_rest n most_continuations (statement_columns line) (further_lines (n + 1) rest) ++ in_statements (n + 1) rest
 statements_here n line rest h k = rw (h, k) refl
 
 within_none : (at : ℕ → List ℕ → List Note) (before : List Note) (n : ℕ) (line : List ℕ) (rest : List (List ℕ)) → is_comment line ≡ false → is_continuation line ≡ false → notes_within at before n (line ∷ rest) ≡ []
@@ -136,7 +137,7 @@ pub record Continues (old new : Cutting) (o p : OpenStatement) (n : ℕ) (line :
   pub was : old.current ≡ Some o
   pub is : new.current ≡ Some p
   pub done : new.done.items ≡ old.done.items
-  pub found : found_of new.found ≡ earliest (found_of old.found) (at_line n (Continuation o.left) (front_of o.text.place) line)
+  pub found : found_of new.found ≡ earliest (found_of old.found) (at_line n (Continuation o.left) (front_of o.text.quoting) line)
   pub line_is : p.line ≡ o.line
   pub label : p.label ≡ o.label
   pub left : p.left ≡ o.left - 1
@@ -146,29 +147,29 @@ pub record Continues (old new : Cutting) (o p : OpenStatement) (n : ℕ) (line :
   pub no_comments : new.comments.items ≡ []
   pub no_directives : new.directives.items ≡ []
 
--- behind a statement's columns so far the next character stands at its place
-place_is : (o p : OpenStatement) (line : List ℕ) → WithColumns o.text (statement_columns line) p.text → place_of (front_of o.text.place ++ statement_columns line) ≡ place_of (front_of p.text.place)
-place_is o p line w = w.place (front_of o.text.place) (front_place o.text.place) ∙ sym (front_place p.text.place)
+-- behind a statement's columns so far the next character stands as its text says
+quoting_is : (o p : OpenStatement) (line : List ℕ) → WithColumns o.text (statement_columns line) p.text → quoting_of (front_of o.text.quoting ++ statement_columns line) ≡ quoting_of (front_of p.text.quoting)
+quoting_is o p line w = w.quoting (front_of o.text.quoting) (front_quoting o.text.quoting) ∙ sym (front_quoting p.text.quoting)
 
-continued_here : (o p : OpenStatement) (n : ℕ) (line : List ℕ) (rest : List (List ℕ)) → is_comment line ≡ false → is_continuation line ≡ true → p.line ≡ o.line → p.left ≡ o.left - 1 → WithColumns o.text (statement_columns line) p.text → refusals_left (Some o) n (line ∷ rest) ≡ at_line n (Continuation o.left) (front_of o.text.place) line ++ refusals_left (Some p) (n + 1) rest
+continued_here : (o p : OpenStatement) (n : ℕ) (line : List ℕ) (rest : List (List ℕ)) → is_comment line ≡ false → is_continuation line ≡ true → p.line ≡ o.line → p.left ≡ o.left - 1 → WithColumns o.text (statement_columns line) p.text → refusals_left (Some o) n (line ∷ rest) ≡ at_line n (Continuation o.left) (front_of o.text.quoting) line ++ refusals_left (Some p) (n + 1) rest
 continued_here o p n line rest h k line_is left w =
-    let front = front_of o.text.place in
+    let front = front_of o.text.quoting in
     let more = further_lines (n + 1) rest in
     let here = at_line n (Continuation o.left) front line in
     let behind = in_statements (n + 1) rest in
     (λ i. in_rest o.line o.left front (further_more n line rest h k i) ++ statements_past n line rest h k i)
     ∙ ap (λ (t : List Finding). t ++ behind) (rest_more o.line o.left front (numbered n line) more)
     ∙ append_assoc here (in_rest o.line (o.left - 1) (front ++ statement_columns line) more) behind
-    ∙ ap (λ (t : List Finding). here ++ (t ++ behind)) (rest_alike o.line (o.left - 1) (front ++ statement_columns line) (front_of p.text.place) more (quoted_from (front ++ statement_columns line) (front_of p.text.place) (place_is o p line w)))
-    ∙ (λ i. here ++ (in_rest (sym line_is i) (sym left i) (front_of p.text.place) more ++ behind))
+    ∙ ap (λ (t : List Finding). here ++ (t ++ behind)) (rest_alike o.line (o.left - 1) (front ++ statement_columns line) (front_of p.text.quoting) more (quoted_from (front ++ statement_columns line) (front_of p.text.quoting) (quoting_is o p line w)))
+    ∙ (λ i. here ++ (in_rest (sym line_is i) (sym left i) (front_of p.text.quoting) more ++ behind))
 
-text_goes_on : (o p : OpenStatement) (n : ℕ) (line : List ℕ) (rest : List (List ℕ)) → is_comment line ≡ false → is_continuation line ≡ true → WithColumns o.text (statement_columns line) p.text → p.text.bytes.items ++ text_behind (front_of p.text.place) (joined_columns (further_lines (n + 1) rest)) ≡ o.text.bytes.items ++ text_behind (front_of o.text.place) (joined_columns (further_lines n (line ∷ rest)))
+text_goes_on : (o p : OpenStatement) (n : ℕ) (line : List ℕ) (rest : List (List ℕ)) → is_comment line ≡ false → is_continuation line ≡ true → WithColumns o.text (statement_columns line) p.text → p.text.bytes.items ++ text_behind (front_of p.text.quoting) (joined_columns (further_lines (n + 1) rest)) ≡ o.text.bytes.items ++ text_behind (front_of o.text.quoting) (joined_columns (further_lines n (line ∷ rest)))
 text_goes_on o p n line rest h k w =
-    let front = front_of o.text.place in
+    let front = front_of o.text.quoting in
     let columns = statement_columns line in
     let more = further_lines (n + 1) rest in
     let joined = joined_columns more in
-    (λ i. w.text front (front_place o.text.place) i ++ text_alike (front_of p.text.place) (front ++ columns) joined (sym (place_is o p line w)) i)
+    (λ i. w.text front (front_quoting o.text.quoting) i ++ text_alike (front_of p.text.quoting) (front ++ columns) joined (sym (quoting_is o p line w)) i)
     ∙ append_assoc o.text.bytes.items (text_behind front columns) (text_behind (front ++ columns) joined)
     ∙ ap (λ (t : List ℕ). o.text.bytes.items ++ t) (sym (text_append front columns joined))
     ∙ ap (λ (t : List ℕ). o.text.bytes.items ++ text_behind front t) (sym (flat_map-cons (λ (l : NumberedLine). statement_columns l.bytes) (numbered n line) more))
@@ -198,7 +199,7 @@ goes_on old new o p n line rest h k s =
 pub continuation_line : (old new : Cutting) (o p : OpenStatement) (n : ℕ) (line : List ℕ) → is_comment line ≡ false → is_continuation line ≡ true → Continues old new o p n line → WithLine old n line new
 continuation_line old new o p n line h k s = record {
   refusals = λ rest.
-      found_on (found_of old.found) (refusals_left old.current n (line ∷ rest)) (refusals_left new.current (n + 1) rest) (at_line n (Continuation o.left) (front_of o.text.place) line) (refusals_left (Some p) (n + 1) rest) (found_of new.found)
+      found_on (found_of old.found) (refusals_left old.current n (line ∷ rest)) (refusals_left new.current (n + 1) rest) (at_line n (Continuation o.left) (front_of o.text.quoting) line) (refusals_left (Some p) (n + 1) rest) (found_of new.found)
       (ap (λ (b : Option OpenStatement). refusals_left b n (line ∷ rest)) s.was ∙ continued_here o p n line rest h k s.line_is s.left s.text)
       (ap (λ (b : Option OpenStatement). refusals_left b (n + 1) rest) s.is)
       s.found;
@@ -212,9 +213,9 @@ pub record Begins (old new : Cutting) (p : OpenStatement) (n : ℕ) (line : List
   pub found : found_of new.found ≡ earliest (earliest (found_of old.found) (left_open old.current)) (at_line n Initial [] line)
   pub line_is : p.line ≡ n
   pub label : p.label ≡ label_of line
-  pub left : p.left ≡ 19
+  pub left : p.left ≡ most_continuations
   pub text : p.text.bytes.items ≡ text_of (statement_columns line)
-  pub place : place_of (statement_columns line) ≡ p.text.place
+  pub quoting : quoting_of (statement_columns line) ≡ p.text.quoting
   pub comments : p.comments.items ≡ old.comments.items
   pub directives : p.directives.items ≡ old.directives.items
   pub no_comments : new.comments.items ≡ []
@@ -223,20 +224,20 @@ pub record Begins (old new : Cutting) (p : OpenStatement) (n : ℕ) (line : List
 -- the text of a statement's first line
 pub record BeginsText (p : OpenText) (line : List ℕ) : Type 0 where
   pub text : p.bytes.items ≡ text_of (statement_columns line)
-  pub place : place_of (statement_columns line) ≡ p.place
+  pub quoting : quoting_of (statement_columns line) ≡ p.quoting
   pub bad : has_bad [] (statement_columns line) ≡ p.bad
 
-pub first_text : (o p : OpenText) (columns line : List ℕ) → o.bytes.items ≡ [] → place_of [] ≡ o.place → columns ≡ statement_columns line → WithColumns o columns p → BeginsText p line
+pub first_text : (o p : OpenText) (columns line : List ℕ) → o.bytes.items ≡ [] → quoting_of [] ≡ o.quoting → columns ≡ statement_columns line → WithColumns o columns p → BeginsText p line
 first_text o p columns line none outside same w = record {
   text = w.text [] outside ∙ (λ i. none i ++ text_behind [] (same i));
-  place = ap place_of (sym same) ∙ w.place [] outside;
+  quoting = ap quoting_of (sym same) ∙ w.quoting [] outside;
   bad = ap (has_bad []) (sym same) ∙ w.bad [] outside;
 }
 
 begun_before : (b : Option OpenStatement) (comments directives : List Note) (n : ℕ) (line : List ℕ) (rest : List (List ℕ)) → is_comment line ≡ false → is_continuation line ≡ false → begun b comments directives n (line ∷ rest) ≡ ended b
 begun_before None comments directives n line rest h k = refl
 begun_before (Some o) comments directives n line rest h k =
-    let text = ap (λ (f : List NumberedLine). o.text.bytes.items ++ text_behind (front_of o.text.place) (joined_columns f)) (further_none n line rest h k) ∙ append-nil o.text.bytes.items in
+    let text = ap (λ (f : List NumberedLine). o.text.bytes.items ++ text_behind (front_of o.text.quoting) (joined_columns f)) (further_none n line rest h k) ∙ append-nil o.text.bytes.items in
     let a = ap (λ (x : List Note). map note_of o.comments.items ++ x) (within_none comment_at comments n line rest h k) ∙ append-nil (map note_of o.comments.items) in
     let d = ap (λ (x : List Note). map note_of o.directives.items ++ x) (within_none directive_at directives n line rest h k) ∙ append-nil (map note_of o.directives.items) in
     λ i. record { line = o.line; label = o.label; text = text i; comments = a i; directives = d i } ∷ []
@@ -245,8 +246,8 @@ begun_here : (old new : Cutting) (p : OpenStatement) (n : ℕ) (line : List ℕ)
 unfolding statement_at
 begun_here old new p n line rest b =
     let joined = joined_columns (further_lines (n + 1) rest) in
-    let same : place_of (front_of p.text.place) ≡ place_of (statement_columns line) = front_place p.text.place ∙ sym b.place in
-    let text = (λ i. b.text i ++ text_alike (front_of p.text.place) (statement_columns line) joined same i) ∙ sym (text_append [] (statement_columns line) joined) in
+    let same : quoting_of (front_of p.text.quoting) ≡ quoting_of (statement_columns line) = front_quoting p.text.quoting ∙ sym b.quoting in
+    let text = (λ i. b.text i ++ text_alike (front_of p.text.quoting) (statement_columns line) joined same i) ∙ sym (text_append [] (statement_columns line) joined) in
     λ i. record {
       line = b.line_is i;
       label = b.label i;
@@ -268,32 +269,32 @@ begins old new p n line rest h k b =
     ∙ append_assoc before (here ∷ []) (statements_from [] [] (n + 1) rest)
     ∙ ap (λ (x : List whole.Statement). before ++ x) (sym (from_here comments directives n line rest h k))
 
-front_is_open : (p : Place) → is_quoted (front_of p) ≡ is_constant p
-front_is_open p = quoted_is (front_of p) ∙ ap is_constant (front_place p)
+front_is_open : (p : Quoting) → is_quoted (front_of p) ≡ is_inside p
+front_is_open p = quoted_is (front_of p) ∙ ap is_inside (front_quoting p)
 
 -- what stands at the end of the statement that was begun before, and at the line
 ended_before : (b : Option OpenStatement) (n : ℕ) (line : List ℕ) (rest : List (List ℕ)) → is_comment line ≡ false → is_continuation line ≡ false → refusals_left b n (line ∷ rest) ≡ left_open b ++ in_statements n (line ∷ rest)
 ended_before None n line rest h k = ap (λ (f : List NumberedLine). at_orphans f ++ in_statements n (line ∷ rest)) (further_none n line rest h k)
 ended_before (Some o) n line rest h k =
-    let front = front_of o.text.place in
+    let front = front_of o.text.quoting in
     ap (λ (f : List NumberedLine). in_rest o.line o.left front f ++ in_statements n (line ∷ rest)) (further_none n line rest h k)
-    ∙ ap (λ (q : Bool). refused_if q OpenConstant o.line ++ in_statements n (line ∷ rest)) (ap is_quoted (append-nil front) ∙ front_is_open o.text.place)
+    ∙ ap (λ (q : Bool). refused_if q OpenConstant o.line ++ in_statements n (line ∷ rest)) (ap is_quoted (append-nil front) ∙ front_is_open o.text.quoting)
 
-begun_ends : (p : OpenStatement) (n : ℕ) (line : List ℕ) (rest : List (List ℕ)) → is_comment line ≡ false → is_continuation line ≡ false → p.line ≡ n → p.left ≡ 19 → place_of (statement_columns line) ≡ p.text.place → in_statements n (line ∷ rest) ≡ at_line n Initial [] line ++ refusals_left (Some p) (n + 1) rest
-begun_ends p n line rest h k line_is left place =
+begun_ends : (p : OpenStatement) (n : ℕ) (line : List ℕ) (rest : List (List ℕ)) → is_comment line ≡ false → is_continuation line ≡ false → p.line ≡ n → p.left ≡ most_continuations → quoting_of (statement_columns line) ≡ p.text.quoting → in_statements n (line ∷ rest) ≡ at_line n Initial [] line ++ refusals_left (Some p) (n + 1) rest
+begun_ends p n line rest h k line_is left quoting =
     let here = at_line n Initial [] line in
     let more = further_lines (n + 1) rest in
     let behind = in_statements (n + 1) rest in
     statements_here n line rest h k
-    ∙ append_assoc here (in_rest n 19 (statement_columns line) more) behind
-    ∙ ap (λ (t : List Finding). here ++ (t ++ behind)) (rest_alike n 19 (statement_columns line) (front_of p.text.place) more (quoted_from (statement_columns line) (front_of p.text.place) (place ∙ sym (front_place p.text.place))))
-    ∙ (λ i. here ++ (in_rest (sym line_is i) (sym left i) (front_of p.text.place) more ++ behind))
+    ∙ append_assoc here (in_rest n most_continuations (statement_columns line) more) behind
+    ∙ ap (λ (t : List Finding). here ++ (t ++ behind)) (rest_alike n most_continuations (statement_columns line) (front_of p.text.quoting) more (quoted_from (statement_columns line) (front_of p.text.quoting) (quoting ∙ sym (front_quoting p.text.quoting))))
+    ∙ (λ i. here ++ (in_rest (sym line_is i) (sym left i) (front_of p.text.quoting) more ++ behind))
 
 pub initial_line : (old new : Cutting) (p : OpenStatement) (n : ℕ) (line : List ℕ) → is_comment line ≡ false → is_continuation line ≡ false → Begins old new p n line → WithLine old n line new
 initial_line old new p n line h k b = record {
   refusals = λ rest.
       found_on (earliest (found_of old.found) (left_open old.current)) (in_statements n (line ∷ rest)) (refusals_left new.current (n + 1) rest) (at_line n Initial [] line) (refusals_left (Some p) (n + 1) rest) (found_of new.found)
-      (begun_ends p n line rest h k b.line_is b.left b.place)
+      (begun_ends p n line rest h k b.line_is b.left b.quoting)
       (ap (λ (s : Option OpenStatement). refusals_left s (n + 1) rest) b.is)
       b.found
       ∙ sym (earliest_append (found_of old.found) (left_open old.current) (in_statements n (line ∷ rest)))
@@ -305,5 +306,5 @@ initial_line old new p n line h k b = record {
 pub at_end_is : (b : Option OpenStatement) (n : ℕ) → refusals_left b n [] ≡ left_open b
 at_end_is None n = refl
 at_end_is (Some o) n =
-    append-nil (in_rest o.line o.left (front_of o.text.place) [])
-    ∙ ap (λ (q : Bool). refused_if q OpenConstant o.line) (ap is_quoted (append-nil (front_of o.text.place)) ∙ front_is_open o.text.place)
+    append-nil (in_rest o.line o.left (front_of o.text.quoting) [])
+    ∙ ap (λ (q : Bool). refused_if q OpenConstant o.line) (ap is_quoted (append-nil (front_of o.text.quoting)) ∙ front_is_open o.text.quoting)

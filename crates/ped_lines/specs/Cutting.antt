@@ -9,7 +9,7 @@ use Rattle.ped_grammar.specs.LineRefusals as lines
 use Rattle.ped_grammar.specs.LineRefusals.{at_orphans, in_rest, in_statements}
 use Rattle.ped_grammar.specs.StatementViews.{note_of, statement_of}
 use Rattle.ped_grammar.specs.RefusalViews.{found_of}
-use Rattle.ped_lines.specs.Places.{is_constant, place_of, front_of}
+use Rattle.ped_lines.specs.Quoting.{is_inside, quoting_of, front_of}
 use Rattle.ped_lines.specs.declared.characters.OpenText.{OpenText}
 use Rattle.ped_lines.specs.declared.refusals.Role.{Role}
 use Rattle.ped_lines.specs.declared.refusals.Role.TheVariants as role
@@ -24,19 +24,19 @@ role_of role.Orphan = lines.Orphan
 
 -- the text with the columns of one more line, whatever stands before them
 pub record WithColumns (old : OpenText) (columns : List ℕ) (new : OpenText) : Type 0 where
-  pub text : (before : List ℕ) → place_of before ≡ old.place → new.bytes.items ≡ old.bytes.items ++ text_behind before columns
-  pub place : (before : List ℕ) → place_of before ≡ old.place → place_of (before ++ columns) ≡ new.place
-  pub bad : (before : List ℕ) → place_of before ≡ old.place → has_bad before columns ≡ new.bad
+  pub text : (before : List ℕ) → quoting_of before ≡ old.quoting → new.bytes.items ≡ old.bytes.items ++ text_behind before columns
+  pub quoting : (before : List ℕ) → quoting_of before ≡ old.quoting → quoting_of (before ++ columns) ≡ new.quoting
+  pub bad : (before : List ℕ) → quoting_of before ≡ old.quoting → has_bad before columns ≡ new.bad
 
 -- what stands where the statement that was begun before has no further line
 abbrev pub left_open : Option OpenStatement → List Finding
 left_open None = []
-left_open (Some o) = refused_if (is_constant o.text.place) OpenConstant o.line
+left_open (Some o) = refused_if (is_inside o.text.quoting) OpenConstant o.line
 
 -- what stands from line n on, where a statement may have begun before
 abbrev pub refusals_left : Option OpenStatement → ℕ → List (List ℕ) → List Finding
 refusals_left None n rest = at_orphans (further_lines n rest) ++ in_statements n rest
-refusals_left (Some o) n rest = in_rest o.line o.left (front_of o.text.place) (further_lines n rest) ++ in_statements n rest
+refusals_left (Some o) n rest = in_rest o.line o.left (front_of o.text.quoting) (further_lines n rest) ++ in_statements n rest
 
 -- the statement that was begun, where no further line comes
 abbrev pub ended_statement : OpenStatement → whole.Statement
@@ -59,7 +59,7 @@ begun None comments directives n rest = []
 begun (Some o) comments directives n rest = record {
   line = o.line;
   label = o.label;
-  text = o.text.bytes.items ++ text_behind (front_of o.text.place) (joined_columns (further_lines n rest));
+  text = o.text.bytes.items ++ text_behind (front_of o.text.quoting) (joined_columns (further_lines n rest));
   comments = map note_of o.comments.items ++ notes_within comment_at comments n rest;
   directives = map note_of o.directives.items ++ notes_within directive_at directives n rest;
 } ∷ []

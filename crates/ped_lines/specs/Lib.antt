@@ -1,3 +1,3 @@
 pub mod Cutting
 pub mod Errors
-pub mod Places
+pub mod Quoting

@@ -5,18 +5,18 @@
 ghost use Rattle.std.specs.Prelude.{◌≡◌, ◌∷◌, [], ◌++◌, ◌||◌, ℕ, List, IfOk, OnOk};
 ghost use Rattle.ped_grammar.specs.Characters as Spec;
 ghost use Rattle.ped_lines.specs.Cutting.{WithColumns};
-ghost use Rattle.ped_lines.specs.Places.{is_constant, place_of};
+ghost use Rattle.ped_lines.specs.Quoting.{is_inside, quoting_of};
 
 use ped_base::NoMemory;
 use std::alloc::Global;
 
 /// Where the next character of a statement stands to its constants.
 #[derive(Clone, Copy)]
-pub enum Place {
+pub enum Quoting {
     /// In a constant.
-    Constant,
+    Inside,
     /// Directly behind the apostrophe that closed a constant.
-    Behind,
+    Closed,
     /// Behind a constant, with blanks alone between.
     Apart,
     /// Anywhere else.
@@ -29,30 +29,30 @@ pub struct OpenText {
     /// What is kept of its characters.
     pub bytes: Vec<u8>,
     /// Where the next character stands.
-    pub place: Place,
+    pub quoting: Quoting,
     /// Whether some character of the line that was added last may not stand where it stands.
     pub bad: bool,
 }
 
 impl OpenText {
     /// The text of no characters, with room for those of a line.
-    #[tactic(auto, unfolding(ped_grammar::specs::Characters::is_quoted, crate::specs::Places::place_of))]
+    #[tactic(auto, unfolding(ped_grammar::specs::Characters::is_quoted, crate::specs::Quoting::quoting_of))]
     pub fn new(alloc: Global) -> Result<OpenText, NoMemory>
         ensures text { IfOk result (λ o. o.bytes.items ≡ []) }
-        ensures place { IfOk result (λ o. place_of [] ≡ o.place) }
+        ensures quoting { IfOk result (λ o. quoting_of [] ≡ o.quoting) }
     {
         Ok(OpenText {
             bytes: Vec::with_capacity(alloc, 66)?,
-            place: Place::Outside,
+            quoting: Quoting::Outside,
             bad: false,
         })
     }
 
     /// Whether a constant isn't closed.
     pub fn is_open(&self) -> bool
-        ensures { result ≡ is_constant self.now.place }
+        ensures { result ≡ is_inside self.now.quoting }
     {
-        matches!(self.place, Place::Constant)
+        matches!(self.quoting, Quoting::Inside)
     }
 
     /// The text with the columns of one more line, whatever stands before them.
@@ -60,58 +60,62 @@ impl OpenText {
         ensures { IfOk result (WithColumns self columns.now) }
     {
         let mut bytes = self.bytes;
-        let mut place = self.place;
+        let mut quoting = self.quoting;
         let mut bad = false;
         for c in columns {
-            bad = is_bad_so_far(bad, place, *c);
-            push_kept(&mut bytes, place, *c)?;
-            place = place_behind(place, *c);
+            bad = is_bad_so_far(bad, quoting, *c);
+            push_kept(&mut bytes, quoting, *c)?;
+            quoting = quoting_behind(quoting, *c);
         }
-        Ok(OpenText { bytes, place, bad })
+        Ok(OpenText {
+            bytes,
+            quoting,
+            bad,
+        })
     }
 }
 
 /// Where the character behind `c` stands.
-#[tactic(auto, using(crate::proofs::Placing::place_more))]
-fn place_behind(place: Place, c: u8) -> Place
-    ensures { (before : List ℕ) → place_of before ≡ place → place_of (before ++ c ∷ []) ≡ result }
+#[tactic(auto, using(crate::proofs::Constants::quoting_more))]
+fn quoting_behind(quoting: Quoting, c: u8) -> Quoting
+    ensures { (before : List ℕ) → quoting_of before ≡ quoting → quoting_of (before ++ c ∷ []) ≡ result }
 {
-    match (place, c) {
-        (Place::Constant, b'\'') => Place::Behind,
-        (Place::Constant, _) => Place::Constant,
-        (_, b'\'') => Place::Constant,
-        (Place::Behind | Place::Apart, b' ') => Place::Apart,
-        _ => Place::Outside,
+    match (quoting, c) {
+        (Quoting::Inside, b'\'') => Quoting::Closed,
+        (Quoting::Inside, _) => Quoting::Inside,
+        (_, b'\'') => Quoting::Inside,
+        (Quoting::Closed | Quoting::Apart, b' ') => Quoting::Apart,
+        _ => Quoting::Outside,
     }
 }
 
 /// Adds what is kept of a character: one blank stands before a constant that is apart from another.
-#[tactic(auto, using(crate::proofs::Placing::kept_is))]
-fn push_kept(text: &mut Vec<u8>, place: Place, c: u8) -> Result<(), NoMemory>
-    ensures { OnOk result ((before : List ℕ) → place_of before ≡ place → text.new.items ≡ text.old.items ++ Spec.kept before c) }
+#[tactic(auto, using(crate::proofs::Constants::kept_is))]
+fn push_kept(text: &mut Vec<u8>, quoting: Quoting, c: u8) -> Result<(), NoMemory>
+    ensures { OnOk result ((before : List ℕ) → quoting_of before ≡ quoting → text.new.items ≡ text.old.items ++ Spec.kept before c) }
 {
-    match (place, c) {
-        (Place::Constant, _) => text.push(c)?,
-        (Place::Apart, b'\'') => text.extend_from_slice(b" '")?,
+    match (quoting, c) {
+        (Quoting::Inside, _) => text.push(c)?,
+        (Quoting::Apart, b'\'') => text.extend_from_slice(b" '")?,
         (_, b' ') => {}
         _ => text.push(c.to_ascii_uppercase())?,
     }
     Ok(())
 }
 
-fn is_bad_so_far(bad: bool, place: Place, c: u8) -> bool
-    ensures { (before : List ℕ) → place_of before ≡ place → result ≡ (bad || Spec.is_bad before c) }
+fn is_bad_so_far(bad: bool, quoting: Quoting, c: u8) -> bool
+    ensures { (before : List ℕ) → quoting_of before ≡ quoting → result ≡ (bad || Spec.is_bad before c) }
 {
-    bad || is_bad(place, c)
+    bad || is_bad(quoting, c)
 }
 
-#[tactic(auto, using(crate::proofs::Placing::bad_is))]
-fn is_bad(place: Place, c: u8) -> bool
-    ensures { (before : List ℕ) → place_of before ≡ place → result ≡ Spec.is_bad before c }
+#[tactic(auto, using(crate::proofs::Constants::bad_is))]
+fn is_bad(quoting: Quoting, c: u8) -> bool
+    ensures { (before : List ℕ) → quoting_of before ≡ quoting → result ≡ Spec.is_bad before c }
 {
-    match place {
-        Place::Constant => !is_printable(c),
-        Place::Behind | Place::Apart | Place::Outside => !is_character(c),
+    match quoting {
+        Quoting::Inside => !is_printable(c),
+        Quoting::Closed | Quoting::Apart | Quoting::Outside => !is_character(c),
     }
 }
 

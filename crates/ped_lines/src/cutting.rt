@@ -22,6 +22,9 @@ use ped_base::{Listed, NoMemory};
 use ped_grammar::{NoteLine, Refusal, RefusalKind, Statement, Statements, standing};
 use std::alloc::Global;
 
+/// The most continuation lines of a statement (section 3.3).
+const MOST_CONTINUATIONS: u64 = 19;
+
 /// A statement that may go on.
 #[derive(Drop)]
 pub struct OpenStatement {
@@ -190,7 +193,7 @@ fn with_initial(
     let begun = OpenStatement {
         line: number,
         label: label_of(line),
-        left: 19,
+        left: MOST_CONTINUATIONS,
         text: OpenText::new(alloc)?.with_columns(&statement_columns(line))?,
         comments: cutting.comments,
         directives: cutting.directives,

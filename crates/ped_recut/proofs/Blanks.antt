@@ -7,7 +7,7 @@ use Rattle.std.proofs.lemmas.Bool.{or_from}
 use Rattle.ped_grammar.specs.Columns.{is_blank}
 use Rattle.ped_grammar.specs.Characters.{is_character, is_printable, is_quoted, is_bad, has_bad, kept, text_behind, text_of}
 use Rattle.ped_lines.proofs.Quoting.{quoted_more, quoted_alike, text_append, has_bad_alike, has_bad_append}
-use Rattle.ped_lines.proofs.Placing.{text_behind_blanks}
+use Rattle.ped_lines.proofs.Constants.{text_behind_blanks}
 use Rattle.ped_recut.specs.Fitting.{begins_at_once}
 
 pub quoted_blanks : (m : ℕ) (before : List ℕ) → is_quoted (before ++ replicate m 32) ≡ is_quoted before

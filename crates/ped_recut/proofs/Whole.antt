@@ -10,6 +10,7 @@ use Rattle.ped_grammar.specs.Characters.{is_printable, is_quoted, has_bad, text_
 use Rattle.ped_grammar.specs.Statement.{Note, Statements}
 use Rattle.ped_grammar.specs.Grouping.{comment_at, directive_at, further_lines, joined_columns, notes_within, notes_behind, statement_at, statements_from, statements_of}
 use Rattle.ped_grammar.specs.Refusal.{OpenConstant, refused_if, first_of}
+use Rattle.ped_grammar.specs.LimitNumbers.{most_continuations}
 use Rattle.ped_grammar.specs.LineRefusals.{Initial, at_line, at_further, at_orphans, in_rest, in_statements, first_line_refusal}
 use Rattle.ped_tree.specs.Printing.{piece, piece_count}
 use Rattle.ped_lines.proofs.Quoting.{has_bad_append}
@@ -41,7 +42,7 @@ range_long k (suc n) = ap suc (range_long (k + 1) n)
 record IsWhole (cs text : List ℕ) : Type 0 where
   prints : list_all is_printable cs ≡ true
   shown : list_all is_blank (take 66 (piece cs 0)) ≡ false
-  room : length (numbers cs) ≤ 19
+  room : length (numbers cs) ≤ most_continuations
   reads : text_of (filled (piece cs 0) ++ flat_map (λ k. filled (piece cs k)) (numbers cs)) ≡ text_of text
   allowed : has_bad [] (filled (piece cs 0) ++ flat_map (λ k. filled (piece cs k)) (numbers cs)) ≡ false
   closed : is_quoted (filled (piece cs 0) ++ flat_map (λ k. filled (piece cs k)) (numbers cs)) ≡ false
@@ -92,7 +93,7 @@ fresh_first label cs line more h = record {
   within = λ at before n. rw (h.comment, h.begins) refl;
 }
 
-refusals_first : (label : Option ℕ) (cs line : List ℕ) (more : List (List ℕ)) (n : ℕ) → IsInitial label cs line → in_statements n (line ∷ more) ≡ at_line n Initial [] line ++ in_rest n 19 (statement_columns line) (further_lines (n + 1) more) ++ in_statements (n + 1) more
+refusals_first : (label : Option ℕ) (cs line : List ℕ) (more : List (List ℕ)) (n : ℕ) → IsInitial label cs line → in_statements n (line ∷ more) ≡ at_line n Initial [] line ++ in_rest n most_continuations (statement_columns line) (further_lines (n + 1) more) ++ in_statements (n + 1) more
 refusals_first label cs line more n h = rw (h.comment, h.begins) refl
 
 statements_first : (label : Option ℕ) (cs line : List ℕ) (more : List (List ℕ)) (comments directives : List Note) (n : ℕ) → IsInitial label cs line → statements_from comments directives n (line ∷ more) ≡ statement_at comments directives n line more ∷ statements_from [] [] (n + 1) more
@@ -103,13 +104,13 @@ behind_first label cs line more at before n h = rw h.comment refl
 
 -- no refusal stands in a statement
 
-nothing_in_rest : (first n : ℕ) (cs text columns : List ℕ) → IsWhole cs text → columns ≡ filled (piece cs 0) → in_rest first 19 columns (numbered_from n cs (numbers cs)) ≡ []
+nothing_in_rest : (first n : ℕ) (cs text columns : List ℕ) → IsWhole cs text → columns ≡ filled (piece cs 0) → in_rest first most_continuations columns (numbered_from n cs (numbers cs)) ≡ []
 unfolding refused_if
 nothing_in_rest first n cs text columns w same =
     let p = filled (piece cs 0) in
     let more = flat_map (λ k. filled (piece cs k)) (numbers cs) in
     let parts = neither (has_bad [] p) (has_bad p more) (sym (has_bad_append [] p more) ∙ w.allowed) in
-    let later : at_further 19 columns (numbered_from n cs (numbers cs)) ≡ [] = further.nothing_further n 19 columns cs (numbers cs) w.prints w.room (ap (λ (x : List ℕ). has_bad x more) same ∙ parts.1) in
+    let later : at_further most_continuations columns (numbered_from n cs (numbers cs)) ≡ [] = further.nothing_further n most_continuations columns cs (numbers cs) w.prints w.room (ap (λ (x : List ℕ). has_bad x more) same ∙ parts.1) in
     let closed : is_quoted (columns ++ joined_columns (numbered_from n cs (numbers cs))) ≡ false = (λ i. is_quoted (same i ++ further.further_joined n cs (numbers cs) i)) ∙ w.closed in
     λ i. later i ++ refused_if (closed i) OpenConstant first
 
@@ -161,7 +162,7 @@ nothing_refused n (s ∷ ss) h =
     let allowed = (neither (has_bad [] p) (has_bad p (flat_map (λ k. filled (piece cs k)) (numbers cs))) (sym (has_bad_append [] p (flat_map (λ k. filled (piece cs k)) (numbers cs))) ∙ w.allowed)).0 in
     let here : at_line m Initial [] line ≡ [] = further.nothing_initial m line i0.prints i0.good (ap (has_bad []) i0.columns ∙ allowed) in
     let found : further_lines (m + 1) more ≡ numbered_from (m + 1) cs (numbers cs) = further.further_found (m + 1) cs (numbers cs) rest (all_fresh ss h.1) in
-    let inside : in_rest m 19 (statement_columns line) (further_lines (m + 1) more) ≡ [] = ap (in_rest m 19 (statement_columns line)) found ∙ nothing_in_rest m (m + 1) cs s.text (statement_columns line) w i0.columns in
+    let inside : in_rest m most_continuations (statement_columns line) (further_lines (m + 1) more) ≡ [] = ap (in_rest m most_continuations (statement_columns line)) found ∙ nothing_in_rest m (m + 1) cs s.text (statement_columns line) w i0.columns in
     let behind : in_statements (m + 1) more ≡ [] = further.refusals_past (m + 1) cs (numbers cs) rest ∙ nothing_refused ((m + 1) + length (numbers cs)) ss h.1 in
     ap (in_statements n) (parts s rest)
     ∙ notes.statements_past n s.notes (line ∷ more)

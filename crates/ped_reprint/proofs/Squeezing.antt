@@ -12,7 +12,7 @@ use Rattle.ped_grammar.specs.Characters.{is_quoted, ends_apart, kept, text_behin
 use Rattle.ped_grammar.specs.Words.{is_name, is_numeral}
 use Rattle.ped_tree.specs.Printing.{blanks, doubled, constant_text}
 use Rattle.ped_lines.proofs.Quoting.{quoted_more, text_append}
-use Rattle.ped_lines.proofs.Placing.{not_apart}
+use Rattle.ped_lines.proofs.Constants.{not_apart}
 
 -- characters that leave a constant open, or none, or none and no blanks alone behind one
 abbrev pub Within : List ℕ → Type 0

@@ -1,5 +1,6 @@
 use Rattle.std.proofs.Common.{[], refl, ap, ◌∙◌}
 use Rattle.ped_grammar.specs.Refusal.{earliest}
+use Rattle.ped_grammar.specs.LimitNumbers.{most_continuations}
 use Rattle.ped_grammar.specs.LineRefusals.{Initial, at_line}
 use Rattle.ped_lines.specs.declared.cutting.OpenStatement.{OpenStatement}
 use Rattle.ped_lines.proofs.OneLine.{first_text, initial_line}
@@ -8,11 +9,11 @@ use Rattle.ped_lines.proofs.cutting.with_initial.Goals as goal
 pub returns : goal.returns
 returns c =
     let line = c.args.line.now in
-    let text = first_text c.in_ok-new.field-0 c.in_ok-with_columns.field-0 c.statement_columns.result line c.in_ok-new.ensures.text c.in_ok-new.ensures.place c.statement_columns.ensures c.in_ok-with_columns.ensures in
+    let text = first_text c.in_ok-new.field-0 c.in_ok-with_columns.field-0 c.statement_columns.result line c.in_ok-new.ensures.text c.in_ok-new.ensures.quoting c.statement_columns.ensures c.in_ok-with_columns.ensures in
     let begun : OpenStatement = record {
       line = c.args.number;
       label = c.label_of.result;
-      left = 19;
+      left = most_continuations;
       text = c.in_ok-with_columns.field-0;
       comments = c.args.cutting.comments;
       directives = c.args.cutting.directives;
@@ -25,7 +26,7 @@ returns c =
       label = c.label_of.ensures;
       left = refl;
       text = text.text;
-      place = text.place;
+      quoting = text.quoting;
       comments = refl;
       directives = refl;
       no_comments = c.new-2.ensures.items;

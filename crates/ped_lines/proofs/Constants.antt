@@ -9,9 +9,9 @@ use Rattle.std.proofs.lemmas.List.Folds.{list_all-append}
 use Rattle.ped_base.specs.Lists.{has_some}
 use Rattle.ped_grammar.specs.Columns.{is_blank}
 use Rattle.ped_grammar.specs.Characters.{is_character, is_printable, is_quoted, is_bad, ends_apart, kept, text_behind, text_of}
-use Rattle.ped_lines.specs.declared.characters.Place.{Place}
-use Rattle.ped_lines.specs.declared.characters.Place.TheVariants.{Constant, Behind, Apart, Outside}
-use Rattle.ped_lines.specs.Places.{is_constant, place_by, place_of, front_of}
+use Rattle.ped_lines.specs.declared.characters.Quoting.{Quoting}
+use Rattle.ped_lines.specs.declared.characters.Quoting.TheVariants.{Inside, Closed, Apart, Outside}
+use Rattle.ped_lines.specs.Quoting.{is_inside, quoting_by, quoting_of, front_of}
 use Rattle.ped_lines.proofs.Quoting.{quoted_more}
 
 -- blanks behind an apostrophe
@@ -67,15 +67,15 @@ stays_apart (c ∷ cs) h =
       | inr behind ↦ or_right (eqb c 39 && has_some more && list_all is_blank more) (ends_apart more) (stays_apart cs behind)
     ]
 
--- the place of the next character
+-- one more character
 
-abbrev next_by : Bool → Bool → Place → Place
-next_by quote blank Constant = if quote then Behind else Constant
-next_by quote blank Behind = if quote then Constant else if blank then Apart else Outside
-next_by quote blank Apart = if quote then Constant else if blank then Apart else Outside
-next_by quote blank Outside = if quote then Constant else Outside
+abbrev next_by : Bool → Bool → Quoting → Quoting
+next_by quote blank Inside = if quote then Closed else Inside
+next_by quote blank Closed = if quote then Inside else if blank then Apart else Outside
+next_by quote blank Apart = if quote then Inside else if blank then Apart else Outside
+next_by quote blank Outside = if quote then Inside else Outside
 
-step : (q a n quote blank : Bool) → (a ≡ true → n ≡ true) → (quote && blank) ≡ false → place_by (if quote then not q else q) (blank && n) (quote || (blank && n)) ≡ next_by quote blank (place_by q a n)
+step : (q a n quote blank : Bool) → (a ≡ true → n ≡ true) → (quote && blank) ≡ false → quoting_by (if quote then not q else q) (blank && n) (quote || (blank && n)) ≡ next_by quote blank (quoting_by q a n)
 step q a n true true s o = absurd cc
 step true a n true false s o = refl
 step true a n false blank s o = refl
@@ -114,110 +114,110 @@ next_more before c =
 not_both : (c : ℕ) → (eqb c 39 && eqb c 32) ≡ false
 not_both c = grind (arith, eqb-true)
 
--- the place behind one more character
-abbrev pub next_place : Place → ℕ → Place
-next_place p c = next_by (eqb c 39) (eqb c 32) p
+-- where the next character stands behind one more
+abbrev pub next_quoting : Quoting → ℕ → Quoting
+next_quoting p c = next_by (eqb c 39) (eqb c 32) p
 
-pub place_more : (before : List ℕ) (c : ℕ) → place_of (before ++ c ∷ []) ≡ next_place (place_of before) c
-unfolding place_of
-place_more before c =
-    (λ i. place_by (quoted_more before c i) (apart_more before c i) ((ap ends_apart (append_assoc before (c ∷ []) (32 ∷ [])) ∙ next_more before c) i))
+pub quoting_more : (before : List ℕ) (c : ℕ) → quoting_of (before ++ c ∷ []) ≡ next_quoting (quoting_of before) c
+unfolding quoting_of
+quoting_more before c =
+    (λ i. quoting_by (quoted_more before c i) (apart_more before c i) ((ap ends_apart (append_assoc before (c ∷ []) (32 ∷ [])) ∙ next_more before c) i))
     ∙ step (is_quoted before) (ends_apart before) (ends_apart (before ++ 32 ∷ [])) (eqb c 39) (eqb c 32) (stays_apart before) (not_both c)
 
--- what is kept of a character by its place
-abbrev pub kept_at : Place → ℕ → List ℕ
-kept_at Constant c = c ∷ []
-kept_at Behind c = if is_blank c then [] else to_ascii_uppercase c ∷ []
+-- what is kept of a character by where it stands
+abbrev pub kept_at : Quoting → ℕ → List ℕ
+kept_at Inside c = c ∷ []
+kept_at Closed c = if is_blank c then [] else to_ascii_uppercase c ∷ []
 kept_at Apart c = if is_blank c then [] else if eqb c 39 then 32 ∷ 39 ∷ [] else to_ascii_uppercase c ∷ []
 kept_at Outside c = if is_blank c then [] else to_ascii_uppercase c ∷ []
 
-kept_by : (q a n : Bool) (c : ℕ) → (if q then c ∷ [] else if is_blank c then [] else if eqb c 39 && a then 32 ∷ 39 ∷ [] else to_ascii_uppercase c ∷ []) ≡ kept_at (place_by q a n) c
+kept_by : (q a n : Bool) (c : ℕ) → (if q then c ∷ [] else if is_blank c then [] else if eqb c 39 && a then 32 ∷ 39 ∷ [] else to_ascii_uppercase c ∷ []) ≡ kept_at (quoting_by q a n) c
 kept_by true a n c = refl
 kept_by false true n c = ap (λ (b : Bool). if is_blank c then [] else if b then 32 ∷ 39 ∷ [] else to_ascii_uppercase c ∷ []) (and_true (eqb c 39)) where
   and_true : (b : Bool) → (b && true) ≡ b
   and_true true = refl
   and_true false = refl
 kept_by false false n c = plain n where
-  plain : (n : Bool) → (if is_blank c then [] else if eqb c 39 && false then 32 ∷ 39 ∷ [] else to_ascii_uppercase c ∷ []) ≡ kept_at (place_by false false n) c
+  plain : (n : Bool) → (if is_blank c then [] else if eqb c 39 && false then 32 ∷ 39 ∷ [] else to_ascii_uppercase c ∷ []) ≡ kept_at (quoting_by false false n) c
   plain true = ap (λ (b : Bool). if is_blank c then [] else if b then 32 ∷ 39 ∷ [] else to_ascii_uppercase c ∷ []) (and_right (eqb c 39) false refl)
   plain false = ap (λ (b : Bool). if is_blank c then [] else if b then 32 ∷ 39 ∷ [] else to_ascii_uppercase c ∷ []) (and_right (eqb c 39) false refl)
 
-pub kept_is : (before : List ℕ) (c : ℕ) → kept before c ≡ kept_at (place_of before) c
-unfolding kept place_of
+pub kept_is : (before : List ℕ) (c : ℕ) → kept before c ≡ kept_at (quoting_of before) c
+unfolding kept quoting_of
 kept_is before c = kept_by (is_quoted before) (ends_apart before) (ends_apart (before ++ 32 ∷ [])) c
 
 -- nothing is kept of a blank outside constants
-no_blank_at : (p : Place) → (p ≡ Constant → ⊥) → kept_at p 32 ≡ []
-no_blank_at Constant h = absurd (h refl)
-no_blank_at Behind h = refl
+no_blank_at : (p : Quoting) → (p ≡ Inside → ⊥) → kept_at p 32 ≡ []
+no_blank_at Inside h = absurd (h refl)
+no_blank_at Closed h = refl
 no_blank_at Apart h = refl
 no_blank_at Outside h = refl
 
-pub no_blank_kept : (p : Place) (c : ℕ) (before : List ℕ) → (p ≡ Constant → ⊥) → c ≡ 32 → place_of before ≡ p → kept before c ≡ []
+pub no_blank_kept : (p : Quoting) (c : ℕ) (before : List ℕ) → (p ≡ Inside → ⊥) → c ≡ 32 → quoting_of before ≡ p → kept before c ≡ []
 no_blank_kept p c before h blank same = kept_is before c ∙ (λ i. kept_at (same i) (blank i)) ∙ no_blank_at p h
 
-constant_by : (q a n : Bool) → q ≡ is_constant (place_by q a n)
+constant_by : (q a n : Bool) → q ≡ is_inside (quoting_by q a n)
 constant_by true a n = refl
 constant_by false true n = refl
 constant_by false false true = refl
 constant_by false false false = refl
 
-pub quoted_is : (before : List ℕ) → is_quoted before ≡ is_constant (place_of before)
-unfolding place_of
+pub quoted_is : (before : List ℕ) → is_quoted before ≡ is_inside (quoting_of before)
+unfolding quoting_of
 quoted_is before = constant_by (is_quoted before) (ends_apart before) (ends_apart (before ++ 32 ∷ []))
 
--- whether a character may not stand there
-abbrev pub bad_at : Place → ℕ → Bool
-bad_at p c = not (if is_constant p then is_printable c else is_character c)
+-- a character may not stand there
+abbrev pub bad_at : Quoting → ℕ → Bool
+bad_at p c = not (if is_inside p then is_printable c else is_character c)
 
-pub bad_is : (before : List ℕ) (c : ℕ) → is_bad before c ≡ bad_at (place_of before) c
+pub bad_is : (before : List ℕ) (c : ℕ) → is_bad before c ≡ bad_at (quoting_of before) c
 unfolding is_bad
 bad_is before c = ap (λ (q : Bool). not (if q then is_printable c else is_character c)) (quoted_is before)
 
--- the characters that stand for a place have it
-pub front_place : (p : Place) → place_of (front_of p) ≡ p
-unfolding place_of is_quoted
-front_place Constant = refl
-front_place Behind = refl
-front_place Apart = refl
-front_place Outside = refl
+-- behind the characters that stand for it the next one stands so
+pub front_quoting : (p : Quoting) → quoting_of (front_of p) ≡ p
+unfolding quoting_of is_quoted
+front_quoting Inside = refl
+front_quoting Closed = refl
+front_quoting Apart = refl
+front_quoting Outside = refl
 
 -- characters behind which the next one stands alike
 
-pub quoted_from : (a b : List ℕ) → place_of a ≡ place_of b → is_quoted a ≡ is_quoted b
-quoted_from a b h = quoted_is a ∙ ap is_constant h ∙ sym (quoted_is b)
+pub quoted_from : (a b : List ℕ) → quoting_of a ≡ quoting_of b → is_quoted a ≡ is_quoted b
+quoted_from a b h = quoted_is a ∙ ap is_inside h ∙ sym (quoted_is b)
 
 -- so does one more
-place_more_alike : (a b : List ℕ) (c : ℕ) → place_of a ≡ place_of b → place_of (a ++ c ∷ []) ≡ place_of (b ++ c ∷ [])
-place_more_alike a b c h = place_more a c ∙ ap (λ (p : Place). next_place p c) h ∙ sym (place_more b c)
+quoting_more_alike : (a b : List ℕ) (c : ℕ) → quoting_of a ≡ quoting_of b → quoting_of (a ++ c ∷ []) ≡ quoting_of (b ++ c ∷ [])
+quoting_more_alike a b c h = quoting_more a c ∙ ap (λ (p : Quoting). next_quoting p c) h ∙ sym (quoting_more b c)
 
 -- and so do more
-pub place_alike : (a b cs : List ℕ) → place_of a ≡ place_of b → place_of (a ++ cs) ≡ place_of (b ++ cs)
-place_alike a b [] h = ap place_of (append-nil a) ∙ h ∙ sym (ap place_of (append-nil b))
-place_alike a b (c ∷ cs) h =
-    ap place_of (sym (append_assoc a (c ∷ []) cs))
-    ∙ place_alike (a ++ c ∷ []) (b ++ c ∷ []) cs (place_more_alike a b c h)
-    ∙ ap place_of (append_assoc b (c ∷ []) cs)
+pub quoting_alike : (a b cs : List ℕ) → quoting_of a ≡ quoting_of b → quoting_of (a ++ cs) ≡ quoting_of (b ++ cs)
+quoting_alike a b [] h = ap quoting_of (append-nil a) ∙ h ∙ sym (ap quoting_of (append-nil b))
+quoting_alike a b (c ∷ cs) h =
+    ap quoting_of (sym (append_assoc a (c ∷ []) cs))
+    ∙ quoting_alike (a ++ c ∷ []) (b ++ c ∷ []) cs (quoting_more_alike a b c h)
+    ∙ ap quoting_of (append_assoc b (c ∷ []) cs)
 
-kept_alike : (a b : List ℕ) (c : ℕ) → place_of a ≡ place_of b → kept a c ≡ kept b c
-kept_alike a b c h = kept_is a c ∙ ap (λ (p : Place). kept_at p c) h ∙ sym (kept_is b c)
+kept_alike : (a b : List ℕ) (c : ℕ) → quoting_of a ≡ quoting_of b → kept a c ≡ kept b c
+kept_alike a b c h = kept_is a c ∙ ap (λ (p : Quoting). kept_at p c) h ∙ sym (kept_is b c)
 
 -- of the same characters the same is kept
-pub text_alike : (a b cs : List ℕ) → place_of a ≡ place_of b → text_behind a cs ≡ text_behind b cs
+pub text_alike : (a b cs : List ℕ) → quoting_of a ≡ quoting_of b → text_behind a cs ≡ text_behind b cs
 text_alike a b [] h = refl
-text_alike a b (c ∷ cs) h = λ i. kept_alike a b c h i ++ text_alike (a ++ c ∷ []) (b ++ c ∷ []) cs (place_more_alike a b c h) i
+text_alike a b (c ∷ cs) h = λ i. kept_alike a b c h i ++ text_alike (a ++ c ∷ []) (b ++ c ∷ []) cs (quoting_more_alike a b c h) i
 
 -- blanks alone stand behind no constant
 
-none_before : place_of [] ≡ Outside
-unfolding place_of is_quoted
+none_before : quoting_of [] ≡ Outside
+unfolding quoting_of is_quoted
 none_before = refl
 
-place_blanks : (m : ℕ) (before : List ℕ) → place_of before ≡ Outside → place_of (before ++ replicate m 32) ≡ Outside
-place_blanks zero before h = ap place_of (append-nil before) ∙ h
-place_blanks (suc m) before h =
-    ap place_of (sym (append_assoc before (32 ∷ []) (replicate m 32)))
-    ∙ place_blanks m (before ++ 32 ∷ []) (place_more before 32 ∙ ap (λ (p : Place). next_place p 32) h)
+quoting_blanks : (m : ℕ) (before : List ℕ) → quoting_of before ≡ Outside → quoting_of (before ++ replicate m 32) ≡ Outside
+quoting_blanks zero before h = ap quoting_of (append-nil before) ∙ h
+quoting_blanks (suc m) before h =
+    ap quoting_of (sym (append_assoc before (32 ∷ []) (replicate m 32)))
+    ∙ quoting_blanks m (before ++ 32 ∷ []) (quoting_more before 32 ∙ ap (λ (p : Quoting). next_quoting p 32) h)
 
 pub text_behind_blanks : (m : ℕ) (cs : List ℕ) → text_behind (replicate m 32) cs ≡ text_of cs
-text_behind_blanks m cs = text_alike (replicate m 32) [] cs (place_blanks m [] none_before ∙ sym none_before)
+text_behind_blanks m cs = text_alike (replicate m 32) [] cs (quoting_blanks m [] none_before ∙ sym none_before)

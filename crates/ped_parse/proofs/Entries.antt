@@ -1,11 +1,11 @@
 -- Statements that are read one behind the other.
-use Rattle.std.proofs.Common.{◌≡◌, ℕ, List, [], ◌∷◌, ◌++◌, map, refl, sym, ap, subst, ◌∙◌}
+use Rattle.std.proofs.Common.{◌≡◌, List, [], ◌∷◌, ◌++◌, map, refl, sym, subst, ◌∙◌}
 use Rattle.std.proofs.lemmas.List.{map_push}
 use Rattle.ped_grammar.specs.Statement.{Statement}
 use Rattle.ped_grammar.specs.Items.{Entry}
 use Rattle.ped_grammar.specs.Reading.{AreEntries}
 use Rattle.ped_expressions.specs.ExpressionReading.{saturated}
-use Rattle.ped_statements.specs.Saturated.{IsReadAs, reading_with_literals, entry_with_literals}
+use Rattle.ped_statements.specs.Saturated.{IsReadAs, entry_with_literals}
 use Rattle.ped_grammar.specs.StatementViews.{statement_of}
 use Rattle.ped_grammar.specs.declared.statements.Statement as lines
 use Rattle.ped_grammar.specs.ItemViews.{entry_of}

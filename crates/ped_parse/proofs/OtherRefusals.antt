@@ -1,15 +1,15 @@
 -- The refusals of statements stay the same where a literal that 32 bits don't hold is taken as the greatest number that they hold.
-use Rattle.std.proofs.Common.{◌≡◌, ℕ, ◌+◌, Bool, true, false, cond, List, [], ◌∷◌, ◌++◌, map, max, length, Option, Some, None, refl, sym, ap, subst, ◌∙◌}
-use Rattle.std.specs.Prelude.{◌||◌, ◌&&◌, not, nat_lt, nat_le, filter}
-use Rattle.std.specs.List.{list_any, flat_map}
-use Rattle.ped_grammar.specs.Refusal.{Finding, Syntax, NotInProfile, OpenBlock, BadTerminal, IndexAssigned, StopPlace, Limit, refused_if, first_of}
+use Rattle.std.proofs.Common.{◌≡◌, ℕ, ◌+◌, Bool, true, false, cond, List, [], ◌∷◌, ◌++◌, map, max, Option, Some, None, refl, ap, ◌∙◌}
+use Rattle.std.specs.Prelude.{◌||◌, ◌&&◌, not, nat_lt, filter}
+use Rattle.std.specs.List.{flat_map}
+use Rattle.ped_grammar.specs.Refusal.{Finding, Syntax, NotInProfile, OpenBlock, BadTerminal, IndexAssigned, StopPlace, Limit, refused_if}
 use Rattle.ped_grammar.specs.Statement.{Note, Statement, Statements}
 use Rattle.ped_grammar.specs.Items.{Item, Reading, says, outside_profile, no_form, Entry}
-use Rattle.ped_grammar.specs.Occurrences.{of_reading, names_in, do_variables, constants_of, rejected_names, entry_names, all_do_variables, all_constants, saved_names, is_rejection, is_end, is_end_entry, up_to_end, saved_among}
+use Rattle.ped_grammar.specs.Occurrences.{of_reading, names_in, do_variables, constants_of, rejected_names, entry_names, saved_names, is_rejection, is_end_entry, up_to_end, saved_among}
 use Rattle.ped_base.specs.Lists.{is_among}
 use Rattle.ped_tree.specs.NamesIn.{first_occurrences}
 use Rattle.ped_grammar.specs.Contexts.{OpenLoop, Context, at_start, is_do, may_end, open_loops, open_variables, has_do, behind_item, behind_reading, behind, behind_all}
-use Rattle.ped_grammar.specs.ProgramRefusals.{where_it_says, is_left_out, is_formless, is_out_of_order, is_misplaced, is_behind_end, breaks_syntax, leaves_open, closed, ends_badly, assigned_in, private_in, meets, assigns_index, at_private, stops, private_behind, loop_depth, passes_limit, is_bad_directive, is_parted, at_directives, at_statement, at_statements, at_end, program_refusals}
+use Rattle.ped_grammar.specs.ProgramRefusals.{where_it_says, is_left_out, is_out_of_order, is_misplaced, is_behind_end, breaks_syntax, leaves_open, closed, ends_badly, assigned_in, private_in, meets, assigns_index, at_private, stops, private_behind, loop_depth, passes_limit, is_parted, at_directives, at_statement, at_statements, at_end, program_refusals}
 use Rattle.ped_expressions.specs.ExpressionReading.{saturated}
 use Rattle.ped_statements.specs.Saturated.{says_with_literals, reading_with_literals, entry_with_literals}
 use Rattle.ped_parse.proofs.OtherLiterals.{flat_with, names_with, do_variables_with, constants_with, rank_with, numbered_with, is_do_with, may_end_with, saves_list_with, saves_without_with, lacks_if_with, late_with, leaves_with, assigned_with, private_with, stops_with, blocks_with, is_end_with}
@@ -165,7 +165,7 @@ saved_among_with v es =
     let k = flat_with (λ (e : Entry). of_reading constants_of e.reading) (entry_with_literals v) (λ e. of_with v constants_of (constants_with v) e.reading) es in
     λ j. filter (λ x. not (is_among x (k j)) && not (is_among x (d j))) (first_occurrences [] (n j))
 
-pub saved_with : (v : ℕ → ℕ) (es : List Entry) → saved_names (map (entry_with_literals v) es) ≡ saved_names es
+saved_with : (v : ℕ → ℕ) (es : List Entry) → saved_names (map (entry_with_literals v) es) ≡ saved_names es
 saved_with v es = ap saved_among (up_to_end_with v es) ∙ saved_among_with v (up_to_end es)
 
 pub refusals_with : (all : Statements) (es : List Entry) → program_refusals all (map (entry_with_literals saturated) es) ≡ program_refusals all es

@@ -1,20 +1,19 @@
 -- What is read of the statements of a text, where literals are saturated, is refused as they are, and is what they say where nothing is refused.
-use Rattle.std.proofs.Common.{◌≡◌, ℕ, Bool, true, false, List, [], ◌∷◌, ◌++◌, map, Option, Some, None, refl, sym, ap, subst, ◌∙◌}
-use Rattle.std.specs.Prelude.{◌||◌}
+use Rattle.std.proofs.Common.{◌≡◌, ℕ, false, List, [], ◌∷◌, map, Option, Some, None, refl, sym, ap, subst, ◌∙◌}
 use Rattle.ped_tree.specs.Tree.{ProgramTree}
-use Rattle.ped_grammar.specs.Refusal.{Finding, Limit, refused_if, first_of}
-use Rattle.ped_grammar.specs.Statement.{Statement, Statements}
+use Rattle.ped_grammar.specs.Refusal.{Finding, first_of}
+use Rattle.ped_grammar.specs.Statement.{Statements}
 use Rattle.ped_grammar.specs.Grouping.{statements_of}
 use Rattle.ped_grammar.specs.LineRefusals.{first_line_refusal}
-use Rattle.ped_grammar.specs.Items.{Item, Reading, says, outside_profile, no_form, Entry}
+use Rattle.ped_grammar.specs.Items.{Reading, says, outside_profile, no_form, Entry}
 use Rattle.ped_grammar.specs.Occurrences.{saved_names}
 use Rattle.ped_grammar.specs.Contexts.{Context, at_start, behind, behind_all}
 use Rattle.ped_grammar.specs.ProgramForms.{first_lines}
-use Rattle.ped_grammar.specs.ProgramRefusals.{where_it_says, is_too_large, passes_limit, at_statement, at_statements, at_end, program_refusals}
+use Rattle.ped_grammar.specs.ProgramRefusals.{where_it_says, passes_limit, at_statement, at_statements, at_end, program_refusals}
 use Rattle.ped_grammar.specs.Reading.{AreEntries, IsCutInto, first_program_refusal, Refuses, in_statements, Reads, HasFirstLines}
 use Rattle.ped_expressions.specs.ExpressionReading.{saturated}
 use Rattle.ped_expressions.proofs.Large.{neither}
-use Rattle.ped_statements.specs.Saturated.{says_with_literals, reading_with_literals, entry_with_literals}
+use Rattle.ped_statements.specs.Saturated.{reading_with_literals, entry_with_literals}
 use Rattle.ped_grammar.specs.StatementViews.{note_of, statement_of, statements_view}
 use Rattle.ped_grammar.specs.declared.statements.Statements as lines
 use Rattle.ped_grammar.specs.ItemViews.{entry_of}
@@ -26,7 +25,7 @@ use Rattle.ped_blocks.proofs.BlocksFound.{none_stands, left_empty, right_empty, 
 use Rattle.ped_parse.specs.Entries.{AreReadAs}
 use Rattle.ped_parse.proofs.OtherLiterals.{both}
 use Rattle.ped_parse.proofs.LargeItems.{small_same}
-use Rattle.ped_parse.proofs.OtherRefusals.{saved_with, refusals_with}
+use Rattle.ped_parse.proofs.OtherRefusals.{refusals_with}
 
 small_reading : (saved : List (List ℕ)) (c : Context) (rest : List Entry) (r : Reading) → where_it_says (passes_limit saved c rest) r ≡ false → reading_with_literals saturated r ≡ r
 small_reading saved c rest (says i) h = ap says (small_same i (neither _ _ (neither _ _ (neither _ _ (neither _ _ h).0).0).0).0)

@@ -1,5 +1,8 @@
 //! Why a text isn't read.
 
+ghost use Rattle.std.specs.Prelude.{◌≡◌};
+ghost use Rattle.ped_parse.specs.declared.refusals.ReadRefusal.TheVariants as variant;
+
 use ped_base::NoMemory;
 use ped_grammar::Refusal;
 use thiserror::Error;
@@ -16,8 +19,6 @@ pub enum ReadRefusal {
 }
 
 impl From<NoMemory> for ReadRefusal {
-    ghost use Rattle.ped_parse.specs.declared.refusals.ReadRefusal.TheVariants as variant;
-
     ghost from_gives = { λ _ e. e ≡ variant.NoMemory };
 
     fn from(_: NoMemory) -> ReadRefusal {

@@ -1,4 +1,4 @@
-use Rattle.std.proofs.Common.{◌≡◌, ◌∷◌, [], ◌++◌, ℕ, List, sym, subst, map}
+use Rattle.std.proofs.Common.{◌∷◌, [], ◌++◌, List, sym, subst, map}
 use Rattle.ped_grammar.specs.StatementViews.{statement_of}
 use Rattle.ped_grammar.specs.ItemViews.{entry_of}
 use Rattle.ped_grammar.specs.declared.items.Entry as items

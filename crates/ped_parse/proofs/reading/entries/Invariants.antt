@@ -1,4 +1,4 @@
-use Rattle.std.proofs.Common.{◌≡◌, ◌++◌, ℕ, List, map}
+use Rattle.std.proofs.Common.{map}
 use Rattle.ped_grammar.specs.StatementViews.{statement_of}
 use Rattle.ped_grammar.specs.ItemViews.{entry_of}
 use Rattle.ped_parse.specs.Entries.{AreReadAs}

@@ -1,4 +1,4 @@
-use Rattle.std.proofs.Common.{rules, ◌≡◌, ℕ, List, refl, subst}
+use Rattle.std.proofs.Common.{ℕ, List, refl, subst}
 use Rattle.ped_grammar.specs.ItemViews.{reading_of}
 use Rattle.ped_expressions.specs.ExpressionReading.{saturated}
 use Rattle.ped_statements.specs.Saturated.{IsReadAs}

@@ -1,6 +1,5 @@
-use Rattle.std.proofs.Common.{◌≡◌, ℕ, List, map, sym, ap, subst, ◌∙◌}
+use Rattle.std.proofs.Common.{List, map, sym, ap, subst, ◌∙◌}
 use Rattle.ped_grammar.specs.Refusal.{first_of}
-use Rattle.ped_grammar.specs.Statement.{Note}
 use Rattle.ped_grammar.specs.ProgramRefusals.{program_refusals}
 use Rattle.ped_grammar.specs.Occurrences.{saved_names}
 use Rattle.ped_grammar.specs.StatementViews.{note_of, statement_of}

@@ -1,7 +1,7 @@
 //! Named constants (ANSI X3.9-1978, section 8.6), looked up in a set of names or among declarations.
 
 ghost use Rattle.std.specs.Prelude.{◌≡◌, map};
-ghost use Rattle.ped_base.specs.Lists.{is_among};
+ghost use Rattle.ped_base.specs.Lists.{is_among, is_same_text};
 ghost use Rattle.ped_tree.specs.Accesses.{constants_in, constant_names};
 ghost use Rattle.ped_tree.specs.Views.{decl_tree, value_tree};
 ghost use Rattle.ped_limits.specs.Constants.{names_of};
@@ -59,9 +59,15 @@ fn is_named_in(values: &[(Name, Expr)], name: &Name) -> bool
     ensures { result ≡ is_among name.now (map (λ v. v.0) (map value_tree values.now)) }
 {
     for value in values {
-        if value.0 == *name {
+        if is_same(name, &value.0) {
             return true;
         }
     }
     false
+}
+
+fn is_same(one: &Name, other: &Name) -> bool
+    ensures { result ≡ is_same_text one.now other.now }
+{
+    *one == *other
 }

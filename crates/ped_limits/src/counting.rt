@@ -6,35 +6,30 @@ ghost use Rattle.std.specs.List.{flat_map};
 ghost use Rattle.ped_tree.specs.Tree;
 ghost use Rattle.ped_tree.specs.Accesses as Spec;
 ghost use Rattle.ped_base.specs.Lists as Lists;
-ghost use Rattle.ped_tree.specs.Accesses.{own_accesses};
-ghost use Rattle.ped_tree.specs.Views.{expr_tree, pack_exprs, cond_tree, item_tree, stmt_tree};
+ghost use Rattle.ped_tree.specs.Accesses.{own_accesses, constant_names};
+ghost use Rattle.ped_tree.specs.Views.{expr_tree, pack_exprs, cond_tree, item_tree, stmt_tree, decl_tree};
 ghost use Rattle.ped_print.specs.Lengths.{limited};
+ghost use Rattle.ped_limits.specs.Constants.{names_of};
 
+use crate::constants::{Constants, is_constant};
 use crate::names::{NameSet, is_among};
 use ped_base::Name;
-use ped_tree::{Cond, Expr, PrintItem, Stmt};
+use ped_tree::{Cond, Decl, Expr, PrintItem, Stmt};
 
 /// How many references a statement by itself has, where these are the named constants and the variables of
 /// the DO loops round it; `usize::MAX` where it has more.
 pub fn references(constants: &NameSet, variables: &[Name], statement: &Stmt) -> usize
     ensures { result ≡ limited (length (own_accesses constants.now variables.now (stmt_tree statement.now))) }
 {
-    match statement {
-        Stmt::Assign { left, right } => expr_reads(constants, variables, right).saturating_add(
-            left_accesses(constants, variables, left),
-        ),
-        Stmt::If { condition, .. } => cond_references(constants, variables, condition),
-        Stmt::Do(d) => do_references(
-            constants,
-            variables,
-            &d.first,
-            &d.last,
-            d.private.as_slice(),
-        ),
-        Stmt::Print(items) => items_reads(constants, variables, items).saturating_add(1),
-        Stmt::Read(items) => targets_accesses(constants, variables, items).saturating_add(1),
-        Stmt::Stop | Stmt::Comment(_) => 0,
-    }
+    accesses(&Constants::Named(constants), variables, statement)
+}
+
+/// How many references a statement by itself has, where these are the declarations of its program and the
+/// variables of the DO loops round it; `usize::MAX` where it has more. It takes no memory.
+pub fn references_declared(decls: &[Decl], variables: &[Name], statement: &Stmt) -> usize
+    ensures { result ≡ limited (length (own_accesses (constant_names (map decl_tree decls.now)) variables.now (stmt_tree statement.now))) }
+{
+    accesses(&Constants::Declared(decls), variables, statement)
 }
 
 /// How many references a DO statement with these bounds and private names has; `usize::MAX` where it has
@@ -50,6 +45,56 @@ pub fn do_references(
         ++ Spec.expr_reads constants.now variables.now (expr_tree last.now)
         ++ Spec.private_writes constants.now private.now)) }
 {
+    do_accesses(
+        &Constants::Named(constants),
+        variables,
+        first,
+        last,
+        private,
+    )
+}
+
+/// How many references a condition has, which are those of an IF; `usize::MAX` where it has more.
+pub fn cond_references(constants: &NameSet, variables: &[Name], condition: &Cond) -> usize
+    ensures { result ≡ limited (length (Spec.cond_reads constants.now variables.now (cond_tree condition.now))) }
+{
+    cond_reads(&Constants::Named(constants), variables, condition)
+}
+
+/// How many references a statement by itself has.
+fn accesses(constants: &Constants, variables: &[Name], statement: &Stmt) -> usize
+    ensures { result ≡ limited (length (own_accesses (names_of constants.now) variables.now (stmt_tree statement.now))) }
+{
+    match statement {
+        Stmt::Assign { left, right } => expr_reads(constants, variables, right).saturating_add(
+            left_accesses(constants, variables, left),
+        ),
+        Stmt::If { condition, .. } => cond_reads(constants, variables, condition),
+        Stmt::Do(d) => do_accesses(
+            constants,
+            variables,
+            &d.first,
+            &d.last,
+            d.private.as_slice(),
+        ),
+        Stmt::Print(items) => items_reads(constants, variables, items).saturating_add(1),
+        Stmt::Read(items) => targets_accesses(constants, variables, items).saturating_add(1),
+        Stmt::Stop | Stmt::Comment(_) => 0,
+    }
+}
+
+/// How many references a DO statement has.
+fn do_accesses(
+    constants: &Constants,
+    variables: &[Name],
+    first: &Expr,
+    last: &Expr,
+    private: &[Name],
+) -> usize
+    ensures { result ≡ limited (length (Spec.expr_reads (names_of constants.now) variables.now (expr_tree first.now)
+        ++ Spec.expr_reads (names_of constants.now) variables.now (expr_tree last.now)
+        ++ Spec.private_writes (names_of constants.now) private.now)) }
+{
     expr_reads(constants, variables, first)
         .saturating_add(expr_reads(constants, variables, last))
         .saturating_add(private_writes(constants, private))
@@ -57,8 +102,8 @@ pub fn do_references(
 
 /// How many private names are no constants.
 #[tactic(auto, using(crate::proofs::Counts::unless_length))]
-fn private_writes(constants: &NameSet, private: &[Name]) -> usize
-    ensures { result ≡ limited (length (Spec.private_writes constants.now private.now)) }
+fn private_writes(constants: &Constants, private: &[Name]) -> usize
+    ensures { result ≡ limited (length (Spec.private_writes (names_of constants.now) private.now)) }
 {
     let mut total: usize = 0;
     for name in private {
@@ -68,15 +113,15 @@ fn private_writes(constants: &NameSet, private: &[Name]) -> usize
 }
 
 /// 1 for a read or a write of a variable, 0 where the name is a constant.
-fn unless_constant(constants: &NameSet, name: &Name) -> usize
-    ensures { result ≡ (if Lists.is_among name.now constants.now then 0 else 1) }
+fn unless_constant(constants: &Constants, name: &Name) -> usize
+    ensures { result ≡ (if Lists.is_among name.now (names_of constants.now) then 0 else 1) }
 {
-    if constants.contains(name) { 0 } else { 1 }
+    if is_constant(constants, name) { 0 } else { 1 }
 }
 
 /// How many references the items of a PRINT have.
-fn items_reads(constants: &NameSet, variables: &[Name], items: &[PrintItem]) -> usize
-    ensures { result ≡ limited (length (flat_map (Spec.item_reads constants.now variables.now) (map item_tree items.now))) }
+fn items_reads(constants: &Constants, variables: &[Name], items: &[PrintItem]) -> usize
+    ensures { result ≡ limited (length (flat_map (Spec.item_reads (names_of constants.now) variables.now) (map item_tree items.now))) }
 {
     let mut total: usize = 0;
     for item in items {
@@ -85,8 +130,8 @@ fn items_reads(constants: &NameSet, variables: &[Name], items: &[PrintItem]) -> 
     total
 }
 
-fn item_reads(constants: &NameSet, variables: &[Name], item: &PrintItem) -> usize
-    ensures { result ≡ limited (length (Spec.item_reads constants.now variables.now (item_tree item.now))) }
+fn item_reads(constants: &Constants, variables: &[Name], item: &PrintItem) -> usize
+    ensures { result ≡ limited (length (Spec.item_reads (names_of constants.now) variables.now (item_tree item.now))) }
 {
     match item {
         PrintItem::Value(e) => expr_reads(constants, variables, e),
@@ -95,8 +140,8 @@ fn item_reads(constants: &NameSet, variables: &[Name], item: &PrintItem) -> usiz
 }
 
 /// How many references the items of a READ have.
-fn targets_accesses(constants: &NameSet, variables: &[Name], items: &[Expr]) -> usize
-    ensures { result ≡ limited (length (flat_map (Spec.left_accesses constants.now variables.now) (map expr_tree items.now))) }
+fn targets_accesses(constants: &Constants, variables: &[Name], items: &[Expr]) -> usize
+    ensures { result ≡ limited (length (flat_map (Spec.left_accesses (names_of constants.now) variables.now) (map expr_tree items.now))) }
 {
     let mut total: usize = 0;
     for item in items {
@@ -107,8 +152,8 @@ fn targets_accesses(constants: &NameSet, variables: &[Name], items: &[Expr]) -> 
 
 /// How many references a left side has.
 #[tactic(auto, using(crate::proofs::Counts::unless_length))]
-fn left_accesses(constants: &NameSet, variables: &[Name], left: &Expr) -> usize
-    ensures { result ≡ limited (length (Spec.left_accesses constants.now variables.now (expr_tree left.now))) }
+fn left_accesses(constants: &Constants, variables: &[Name], left: &Expr) -> usize
+    ensures { result ≡ limited (length (Spec.left_accesses (names_of constants.now) variables.now (expr_tree left.now))) }
 {
     match left {
         Expr::Var(name) => unless_constant(constants, name),
@@ -126,18 +171,18 @@ fn left_accesses(constants: &NameSet, variables: &[Name], left: &Expr) -> usize
     }
 }
 
-/// How many references a condition has, which are those of an IF; `usize::MAX` where it has more.
-#[cycle(cond_references)]
-pub fn cond_references(constants: &NameSet, variables: &[Name], condition: &Cond) -> usize
-    ensures { result ≡ limited (length (Spec.cond_reads constants.now variables.now (cond_tree condition.now))) }
+/// How many references a condition has.
+#[cycle(cond_reads)]
+fn cond_reads(constants: &Constants, variables: &[Name], condition: &Cond) -> usize
+    ensures { result ≡ limited (length (Spec.cond_reads (names_of constants.now) variables.now (cond_tree condition.now))) }
 {
     match condition {
         Cond::Rel(_, left, right) => expr_reads(constants, variables, left).saturating_add(
             expr_reads(constants, variables, right),
         ),
-        Cond::Not(operand) => cond_references(constants, variables, operand),
+        Cond::Not(operand) => cond_reads(constants, variables, operand),
         Cond::And(left, right) | Cond::Or(left, right) => {
-            cond_references(constants, variables, left).saturating_add(cond_references(
+            cond_reads(constants, variables, left).saturating_add(cond_reads(
                 constants, variables, right,
             ))
         }
@@ -147,8 +192,8 @@ pub fn cond_references(constants: &NameSet, variables: &[Name], condition: &Cond
 /// How many references an expression has.
 #[cycle(reads)]
 #[tactic(auto, using(crate::proofs::Counts::unless_length))]
-fn expr_reads(constants: &NameSet, variables: &[Name], e: &Expr) -> usize
-    ensures { result ≡ limited (length (Spec.expr_reads constants.now variables.now (expr_tree e.now))) }
+fn expr_reads(constants: &Constants, variables: &[Name], e: &Expr) -> usize
+    ensures { result ≡ limited (length (Spec.expr_reads (names_of constants.now) variables.now (expr_tree e.now))) }
 {
     match e {
         Expr::Int(_) => 0,
@@ -170,8 +215,8 @@ fn expr_reads(constants: &NameSet, variables: &[Name], e: &Expr) -> usize
 
 /// How many references a scalar is that is read: none where it is the variable of a DO or a constant.
 #[tactic(auto, using(crate::proofs::Counts::unless_length))]
-fn scalar_reads(constants: &NameSet, variables: &[Name], name: &Name) -> usize
-    ensures { result ≡ length (Spec.expr_reads constants.now variables.now (Tree.Var name.now)) }
+fn scalar_reads(constants: &Constants, variables: &[Name], name: &Name) -> usize
+    ensures { result ≡ length (Spec.expr_reads (names_of constants.now) variables.now (Tree.Var name.now)) }
 {
     if is_among(name, variables) {
         0
@@ -183,8 +228,8 @@ fn scalar_reads(constants: &NameSet, variables: &[Name], name: &Name) -> usize
 /// How many references subscripts or arguments have.
 #[cycle(reads)]
 #[tactic(auto, using(crate::proofs::Counts::unless_length))]
-fn exprs_reads(constants: &NameSet, variables: &[Name], exprs: &[Expr]) -> usize
-    ensures { result ≡ limited (length (Spec.exprs_reads constants.now variables.now (pack_exprs (map expr_tree exprs.now)))) }
+fn exprs_reads(constants: &Constants, variables: &[Name], exprs: &[Expr]) -> usize
+    ensures { result ≡ limited (length (Spec.exprs_reads (names_of constants.now) variables.now (pack_exprs (map expr_tree exprs.now)))) }
 {
     let mut total: usize = 0;
     for e in exprs {

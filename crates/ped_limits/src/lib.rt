@@ -2,13 +2,14 @@
 //! whoever looks whether a tree fits use these numbers and these calls.
 #![tactic(auto)]
 
+mod constants;
 mod counting;
 mod limits;
 mod literals;
 mod names;
 mod numbering;
 
-pub use counting::{cond_references, do_references, references};
+pub use counting::{cond_references, do_references, references, references_declared};
 pub use limits::{
     GREATEST_LITERAL, MOST_BLOCKS_NESTED, MOST_CHARACTERS, MOST_DIMENSIONS, MOST_LOOPS_NESTED,
     MOST_REFERENCES, MOST_STATEMENTS,

@@ -3,10 +3,11 @@ use Rattle.std.specs.List.{flat_map}
 use Rattle.ped_tree.specs.Accesses.{item_reads}
 use Rattle.ped_tree.specs.Views.{item_tree}
 use Rattle.ped_print.specs.Lengths.{limited}
+use Rattle.ped_limits.specs.Constants.{names_of}
 use Rattle.ped_limits.proofs.counting.items_reads.Given as goal
 
 abbrev pub invariant-loop-item : goal.invariant-loop-item
 invariant-loop-item l = record {
-  sum : limited (l.total + length (flat_map (item_reads l.constants l.variables) (map item_tree (drop l.item-index l.items)))) ≡ limited (length (flat_map (item_reads l.constants l.variables) (map item_tree l.items)));
+  sum : limited (l.total + length (flat_map (item_reads (names_of l.constants) l.variables) (map item_tree (drop l.item-index l.items)))) ≡ limited (length (flat_map (item_reads (names_of l.constants) l.variables) (map item_tree l.items)));
   fits : l.total ≤ 2 ^ 64 - 1;
 }

@@ -1,0 +1,40 @@
+-- What the surroundings of the code stand for. Contracts of private functions alone speak of it.
+use Rattle.std.specs.Prelude.{◌≡◌, ℕ, ◌+◌, ◌≤◌, List, map, length}
+use Rattle.std.specs.List.{flat_map}
+use Rattle.std.specs.Borrow.{Bor}
+use Rattle.ped_tree.specs.Accesses.{constant_names}
+use Rattle.ped_tree.specs.Views.{decl_tree}
+use Rattle.ped_grammar.specs.Fits as plain
+use Rattle.ped_fits.specs.declared.surroundings.Surroundings.{Surroundings}
+use Rattle.ped_fits.specs.declared.surroundings.Numbers.{Numbers}
+
+-- the names of lists that are lent, one behind the other
+abbrev pub all_names : List (Bor (List (List ℕ))) → List (List ℕ)
+all_names lists = flat_map (λ l. l.now) lists
+
+-- the plain surroundings of a statement with so many before it
+abbrev pub place : Surroundings → Numbers → plain.Surroundings
+place a n = record {
+  constants = constant_names (map decl_tree a.decls.now);
+  variables = a.variables.now;
+  private = all_names a.private.now;
+  depth = a.depth;
+  statements = n.statements;
+  loops = n.loops;
+}
+
+-- no more loops than statements, and no more statements than a program may have
+pub record IsCounted (n : Numbers) : Type 0 where
+  pub few : n.statements ≤ 4000
+  pub fewer : n.loops ≤ n.statements
+
+-- as many lists of private names as variables, and no more loops and IFs than may stand in one another
+pub record IsAround (a : Surroundings) : Type 0 where
+  pub same : length a.private.now ≡ length a.variables.now
+  pub shallow : a.depth ≤ 100
+
+-- the numbers behind so many statements and loops
+pub record IsBehind (before : Numbers) (statements loops : ℕ) (n : Numbers) : Type 0 where
+  pub statements_are : n.statements ≡ before.statements + statements
+  pub loops_are : n.loops ≡ before.loops + loops
+  pub counted : IsCounted n

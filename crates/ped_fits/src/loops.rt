@@ -1,0 +1,46 @@
+//! DO statements by themselves: their variable, their bounds, their PRIVATE statement and the names that
+//! directives reject before them (ANSI X3.9-1978, section 11.10).
+
+ghost use Rattle.std.specs.Prelude.{◌≡◌};
+ghost use Rattle.ped_tree.specs.Tree as Tree;
+ghost use Rattle.ped_tree.specs.Views.{head, stmt_tree, stmt_trees};
+ghost use Rattle.ped_grammar.specs.Fits as Spec;
+ghost use Rattle.ped_fits.specs.Surroundings.{place, head_of};
+
+use crate::expressions::expr_fits;
+use crate::names::{all_names_fit, are_names, meets, name_fits};
+use crate::surroundings::{Numbers, Surroundings, is_private, is_within};
+use ped_limits::{
+    MOST_BLOCKS_NESTED, MOST_CHARACTERS, MOST_LOOPS_NESTED, is_among,
+};
+use ped_print::private_length;
+use ped_tree::{Do, Stmt};
+
+/// Whether a DO, which is this statement, can be written where it stands, whatever its body is.
+pub fn loop_fits(around: &Surroundings, numbers: Numbers, statement: &Stmt, d: &Do) -> bool
+    requires { stmt_tree statement.now ≡ Tree.Do (head_of d.now) (stmt_trees d.now.body.items) }
+    ensures { result ≡ Spec.loop_fits (place around.now numbers) (head_of d.now) (stmt_trees d.now.body.items) }
+{
+    is_within(around, numbers, statement)
+        && name_fits(&d.variable)
+        && expr_fits(&d.first)
+        && expr_fits(&d.last)
+        && expr_fits(&d.step)
+        && !is_among(&d.variable, around.variables)
+        && !is_private(&d.variable, around.private)
+        && around.variables.len() < MOST_LOOPS_NESTED
+        && around.depth < MOST_BLOCKS_NESTED
+        && private_fits(around, numbers, d)
+        && all_names_fit(d.rejected.as_slice())
+}
+
+/// Whether the PRIVATE statement of a DO can be written, where it has one.
+fn private_fits(around: &Surroundings, numbers: Numbers, d: &Do) -> bool
+    ensures { result ≡ Spec.private_fits (place around.now numbers) (head_of d.now) }
+{
+    let names = d.private.as_slice();
+    names.is_empty()
+        || (are_names(names)
+            && private_length(names) <= MOST_CHARACTERS
+            && !(is_among(&d.variable, names) || meets(names, around.variables)))
+}

@@ -1,0 +1,127 @@
+//! Executable statements that can be written where they stand, with the statements in their parts.
+
+ghost use Rattle.std.specs.Prelude.{◌≡◌, ◌&&◌, true, false, nat_lt, not, MatchOption, length};
+ghost use Rattle.ped_base.specs.Lists.{has_some};
+ghost use Rattle.ped_tree.specs.Numbering.{statement_count, statements_count, loop_count, loops_count};
+ghost use Rattle.ped_tree.specs.Views.{cond_tree, stmt_tree, stmt_trees};
+ghost use Rattle.ped_grammar.specs.Contexts.{is_stop};
+ghost use Rattle.ped_grammar.specs.ProgramRefusals as Refusals;
+ghost use Rattle.ped_grammar.specs.Fits as Spec;
+ghost use Rattle.ped_fits.specs.Surroundings.{place, IsAround, IsCounted, IsBehind};
+
+use crate::comments::comment_fits;
+use crate::expressions::{cond_fits, expr_fits, items_fit, target_fits, targets_fit};
+use crate::loops::loop_fits;
+use crate::surroundings::{Numbers, Surroundings, is_within, with_private, with_variable};
+use ped_base::Name;
+use ped_limits::{MOST_BLOCKS_NESTED, is_among};
+use ped_tree::{Cond, Expr, Stmt};
+
+/// The numbers behind statements that stand one behind the other; none where one of them doesn't fit.
+#[cycle(statements)]
+pub fn statements_fit(around: &Surroundings, numbers: Numbers, all: &[Stmt]) -> Option<Numbers>
+    requires around { IsAround around.now }
+    requires counted { IsCounted numbers }
+    ensures { MatchOption result (Spec.stmts_fit (place around.now numbers) (stmt_trees all.now) ≡ false)
+        (λ n. (Spec.stmts_fit (place around.now numbers) (stmt_trees all.now) ≡ true)
+        × IsBehind numbers (statements_count (stmt_trees all.now)) (loops_count (stmt_trees all.now)) n) }
+{
+    let mut next = numbers;
+    for statement in all {
+        match statement_fits(around, next, statement) {
+            Some(behind) => next = behind,
+            None => return None,
+        }
+    }
+    Some(next)
+}
+
+/// The numbers behind a statement; none where it doesn't fit.
+#[cycle(statements)]
+fn statement_fits(around: &Surroundings, numbers: Numbers, statement: &Stmt) -> Option<Numbers>
+    requires around { IsAround around.now }
+    requires counted { IsCounted numbers }
+    ensures { MatchOption result (Spec.stmt_fits (place around.now numbers) (stmt_tree statement.now) ≡ false)
+        (λ n. (Spec.stmt_fits (place around.now numbers) (stmt_tree statement.now) ≡ true)
+        × IsBehind numbers (statement_count (stmt_tree statement.now)) (loop_count (stmt_tree statement.now)) n) }
+{
+    match statement {
+        Stmt::Assign { .. } | Stmt::Print(_) | Stmt::Read(_) | Stmt::Stop => {
+            if simple_fits(around, numbers, statement) {
+                return Some(numbers.behind_statement());
+            }
+            None
+        }
+        Stmt::If {
+            condition,
+            then_part,
+            else_part,
+        } => {
+            if !branch_fits(around, numbers, statement, condition) {
+                return None;
+            }
+            let inner = Surroundings {
+                decls: around.decls,
+                variables: around.variables,
+                private: around.private,
+                depth: around.depth + 1,
+            };
+            let middle = statements_fit(&inner, numbers.behind_statement(), then_part)?;
+            statements_fit(&inner, middle, else_part)
+        }
+        Stmt::Do(d) => {
+            if !loop_fits(around, numbers, statement, d) {
+                return None;
+            }
+            let variables = with_variable(d.variable, around.variables);
+            let private = with_private(d.private.as_slice(), around.private);
+            let inner = Surroundings {
+                decls: around.decls,
+                variables: &variables[..around.variables.len() + 1],
+                private: &private[..around.private.len() + 1],
+                depth: around.depth + 1,
+            };
+            statements_fit(&inner, numbers.behind_do(), &d.body)
+        }
+        Stmt::Comment(text) => {
+            if comment_fits(text.as_slice()) {
+                return Some(numbers);
+            }
+            None
+        }
+    }
+}
+
+/// Whether an IF can be written where it stands, whatever its parts are.
+fn branch_fits(around: &Surroundings, numbers: Numbers, statement: &Stmt, condition: &Cond) -> bool
+    ensures { result ≡ (Spec.is_within (place around.now numbers) (stmt_tree statement.now)
+        && nat_lt around.now.depth 100 && Spec.cond_fits (cond_tree condition.now)) }
+{
+    is_within(around, numbers, statement)
+        && around.depth < MOST_BLOCKS_NESTED
+        && cond_fits(condition)
+}
+
+/// Whether an assignment, PRINT, READ or STOP can be written where it stands.
+fn simple_fits(around: &Surroundings, numbers: Numbers, statement: &Stmt) -> bool
+    requires { is_simple (stmt_tree statement.now) ≡ true }
+    ensures { result ≡ Spec.stmt_fits (place around.now numbers) (stmt_tree statement.now) }
+{
+    is_within(around, numbers, statement)
+        && keeps_variables(around, statement)
+        && parts_fit(statement)
+}
+
+/// Whether an assignment, PRINT, READ or STOP leaves the variables of the loops round it alone, and STOP
+/// stands in none.
+fn keeps_variables(around: &Surroundings, statement: &Stmt) -> bool
+    ensures { result ≡ (not (Refusals.meets (Refusals.assigned_by (stmt_tree statement.now)) around.now.variables.now)
+        && not (is_stop (stmt_tree statement.now) && has_some around.now.variables.now)) }
+{
+    match statement {
+        Stmt::Assign { left, .. } => !is_variable(around.variables, left),
+        Stmt::Read(items) => !has_variable(around.variables, items),
+        Stmt::Stop => around.variables.is_empty(),
+        Stmt::If { .. } | Stmt::Do(_) | Stmt::Print(_) | Stmt::Comment(_) => true,
+    }
+}

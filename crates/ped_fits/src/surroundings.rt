@@ -1,0 +1,94 @@
+//! What stands round a statement: the declarations of its program, the DO loops round it, how deep it stands,
+//! and how many statements and loops come before it.
+
+ghost use Rattle.std.specs.Prelude.{◌≡◌, ◌+◌, ◌<◌, ◌≤◌, ◌∷◌, ◌++◌, length, take};
+ghost use Rattle.std.specs.List.{flat_map};
+ghost use Rattle.ped_base.specs.Lists.{is_among};
+ghost use Rattle.ped_fits.specs.Surroundings.{IsCounted, all_names};
+
+use ped_base::Name;
+use ped_limits::{MOST_LOOPS_NESTED, is_among};
+use ped_tree::Decl;
+
+/// What stands round a statement.
+pub struct Surroundings<'a> {
+    /// The declarations of the program, which name its constants.
+    pub decls: &'a [Decl],
+    /// The variables of the DO loops round it, the innermost first.
+    pub variables: &'a [Name],
+    /// The private names of these loops.
+    pub private: &'a [&'a [Name]],
+    /// How many DO loops and IFs stand round it.
+    pub depth: usize,
+}
+
+/// How many numbered statements and DO loops come before a statement.
+#[derive(Clone, Copy, Debug, PartialEq, Eq)]
+pub struct Numbers {
+    /// The numbered statements.
+    pub statements: u64,
+    /// The DO loops among them.
+    pub loops: u64,
+}
+
+impl Numbers {
+    /// Behind a statement that is no DO.
+    pub fn behind_statement(self) -> Numbers
+        requires { self.statements < 4000 }
+        ensures statements { result.statements ≡ self.statements + 1 }
+        ensures loops { result.loops ≡ self.loops }
+    {
+        Numbers {
+            statements: self.statements + 1,
+            loops: self.loops,
+        }
+    }
+
+    /// Behind a DO statement.
+    pub fn behind_do(self) -> Numbers
+        requires statements { self.statements < 4000 }
+        requires counted { IsCounted self }
+        ensures statements { result.statements ≡ self.statements + 1 }
+        ensures loops { result.loops ≡ self.loops + 1 }
+    {
+        Numbers {
+            statements: self.statements + 1,
+            loops: self.loops + 1,
+        }
+    }
+}
+
+/// A variable before the variables of the loops round its loop; what is behind these is anything.
+pub fn with_variable(first: Name, rest: &[Name]) -> [Name; MOST_LOOPS_NESTED]
+    requires { length rest.now < 6 }
+    ensures { take (length rest.now + 1) result ≡ first ∷ rest.now }
+{
+    let mut names = [first; MOST_LOOPS_NESTED];
+    names[1..rest.len() + 1].copy_from_slice(rest);
+    names
+}
+
+/// Private names before those of the loops round their loop; what is behind these is anything.
+pub fn with_private<'a>(
+    first: &'a [Name],
+    rest: &[&'a [Name]],
+) -> [&'a [Name]; MOST_LOOPS_NESTED]
+    requires { length rest.now < 6 }
+    ensures { all_names (take (length rest.now + 1) result) ≡ first.now ++ all_names rest.now }
+{
+    let mut names = [first; MOST_LOOPS_NESTED];
+    names[1..rest.len() + 1].copy_from_slice(rest);
+    names
+}
+
+/// Whether the name is private to one of the loops.
+pub fn is_private(name: &Name, private: &[&[Name]]) -> bool
+    ensures { result ≡ is_among name.now (all_names private.now) }
+{
+    for names in private {
+        if is_among(name, names) {
+            return true;
+        }
+    }
+    false
+}

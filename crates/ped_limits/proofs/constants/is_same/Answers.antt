@@ -1,0 +1,6 @@
+use Rattle.std.proofs.Common.{◌∙◌}
+use Rattle.ped_limits.proofs.NameEquality.{name_same}
+use Rattle.ped_limits.proofs.constants.is_same.Goals as goal
+
+pub returns : goal.returns
+returns c = c.eq.ensures ∙ name_same c.args.one.now c.args.other.now

@@ -191,14 +191,6 @@ quoted_from a b h = quoted_is a ∙ ap is_inside h ∙ sym (quoted_is b)
 quoting_more_alike : (a b : List ℕ) (c : ℕ) → quoting_of a ≡ quoting_of b → quoting_of (a ++ c ∷ []) ≡ quoting_of (b ++ c ∷ [])
 quoting_more_alike a b c h = quoting_more a c ∙ ap (λ (p : Quoting). next_quoting p c) h ∙ sym (quoting_more b c)
 
--- and so do more
-pub quoting_alike : (a b cs : List ℕ) → quoting_of a ≡ quoting_of b → quoting_of (a ++ cs) ≡ quoting_of (b ++ cs)
-quoting_alike a b [] h = ap quoting_of (append-nil a) ∙ h ∙ sym (ap quoting_of (append-nil b))
-quoting_alike a b (c ∷ cs) h =
-    ap quoting_of (sym (append_assoc a (c ∷ []) cs))
-    ∙ quoting_alike (a ++ c ∷ []) (b ++ c ∷ []) cs (quoting_more_alike a b c h)
-    ∙ ap quoting_of (append_assoc b (c ∷ []) cs)
-
 kept_alike : (a b : List ℕ) (c : ℕ) → quoting_of a ≡ quoting_of b → kept a c ≡ kept b c
 kept_alike a b c h = kept_is a c ∙ ap (λ (p : Quoting). kept_at p c) h ∙ sym (kept_is b c)
 

@@ -5,7 +5,7 @@ use Rattle.std.specs.List.{fold}
 use Rattle.ped_base.specs.Lists.{is_same_text, is_among}
 use Rattle.ped_tree.specs.NamesIn.{first_occurrences}
 use Rattle.ped_refusals.specs.Collecting.{with_name, with_names}
-use Rattle.ped_refusals.proofs.Silences.{HaveSame, among_both}
+use Rattle.ped_limits.proofs.SameNames.{HaveSame, among_append}
 
 or_back : (a b : Bool) → (a || (b || false)) ≡ (b || a)
 or_back true true = refl
@@ -24,7 +24,7 @@ both_true false b h = absurd cc
 
 -- one name more at either end is the same
 same_more : (a b : List (List ℕ)) (x : List ℕ) → HaveSame a b → HaveSame (a ++ x ∷ []) (x ∷ b)
-same_more a b x h y = among_both y a (x ∷ []) ∙ or_back (is_among y a) (is_same_text y x) ∙ ap (λ (t : Bool). is_same_text y x || t) (h y)
+same_more a b x h y = among_append y a (x ∷ []) ∙ or_back (is_among y a) (is_same_text y x) ∙ ap (λ (t : Bool). is_same_text y x || t) (h y)
 
 pick : (a b : List (List ℕ)) (x : List ℕ) (xs : List (List ℕ)) (r : Bool)
     → (fold with_name a xs ≡ a ++ first_occurrences b xs)
@@ -62,7 +62,7 @@ among_more : (a : List (List ℕ)) (x y : List ℕ) (t : Bool) → (is_among x (
 among_more a x y t =
     let go : (r : Bool) → is_among y a ≡ r → (is_among x (if r then a else a ++ y ∷ []) || t) ≡ (is_among x a || (is_same_text x y || t)) = λ r. elim r as (λ r. is_among y a ≡ r → (is_among x (if r then a else a ++ y ∷ []) || t) ≡ (is_among x a || (is_same_text x y || t))) [
       | true ↦ λ e. absorbed (is_among x a) (is_same_text x y) t (λ h. ap (λ (z : List ℕ). is_among z a) (same_is x y h) ∙ e)
-      | false ↦ λ e. ap (λ (r : Bool). r || t) (among_both x a (y ∷ [])) ∙ or_assoc (is_among x a) (is_same_text x y) t
+      | false ↦ λ e. ap (λ (r : Bool). r || t) (among_append x a (y ∷ [])) ∙ or_assoc (is_among x a) (is_same_text x y) t
     ] in
     go (is_among y a) refl
 

@@ -69,26 +69,15 @@ item_less behind_do s continues c = omega (arith, left_by_less s.label c)
 item_less behind_do s (logical_if e t) c = omega (arith, left_by_less s.label c)
 item_less behind_do s (block_if e) c = omega (arith, left_by_less s.label c)
 item_less behind_do s (else_if e) c =
-    let left = left_by s.label c in
-    let h : block_depth (with_else_if (left_in_if left)) ≤ block_depth c + 1 =
-    omega (arith, left_by_less s.label c, in_if_less left, else_if_less (left_in_if left)) in
-    h
+    omega (arith, in_if_less c, else_if_less (left_in_if c), left_by_less s.label (with_else_if (left_in_if c)))
 item_less behind_do s else_line c =
-    let left = left_by s.label c in
-    let h : block_depth (with_else (left_in_if left)) ≤ block_depth c + 1 =
-    omega (arith, left_by_less s.label c, in_if_less left, else_less (left_in_if left)) in
-    h
+    omega (arith, in_if_less c, else_less (left_in_if c), left_by_less s.label (with_else (left_in_if c)))
 item_less behind_do s end_if c =
-    let left = left_by s.label c in
-    let h : block_depth (without_if (left_in_if left)) ≤ block_depth c + 1 =
-    omega (arith, left_by_less s.label c, in_if_less left, without_less (left_in_if left)) in
-    h
+    omega (arith, in_if_less c, without_less (left_in_if c), left_by_less s.label (without_if (left_in_if c)))
 item_less behind_do s (begins_do l h) c = omega (arith, left_by_less s.label c)
 item_less behind_do s (keeps_private names) c =
     let kept = with_private s.line names c in
-    let h : block_depth (left_by s.label (if behind_do then kept else c)) ≤ block_depth c + 1 =
-    omega (arith, left_by_less s.label (if behind_do then kept else c), chosen_less behind_do kept c (block_depth c) (private_less s.line names c) (omega arith)) in
-    h
+    omega (arith, left_by_less s.label (if behind_do then kept else c), chosen_less behind_do kept c (block_depth c) (private_less s.line names c) (omega arith))
 item_less behind_do s ends_program c = omega arith
 
 pub deeper : (c : Context) (e : Entry) → block_depth (behind c e).blocks ≤ block_depth c.blocks + 1

@@ -1,6 +1,6 @@
 -- What a label ends, and what ELSE and END IF end, over blocks as the code keeps them.
 use Rattle.std.proofs.Common.{◌≡◌, ℕ, ◌+◌, ◌<◌, ◌≤◌, ◌==◌, Bool, true, false, ◌||◌, List, [], ◌∷◌, ◌++◌, length, take, drop, get_or, refl, sym, ap, ◌∙◌, if◌then◌else◌}
-use Rattle.std.proofs.lemmas.List.{take-append-drop, take_more, take-ge}
+use Rattle.std.proofs.lemmas.List.{take-append-drop, take_more, take_all}
 use Rattle.ped_grammar.specs.Contexts as plain
 use Rattle.ped_grammar.specs.Contexts.{in_then, in_else, in_do, has_do, has_if, left_by_label, left_in_if}
 use Rattle.ped_refusals.specs.declared.blocks.Block.{Block}
@@ -71,7 +71,7 @@ none_more l bs i b inside at h =
 
 -- no block has it
 pub left_nowhere : (l : ℕ) (bs : List Block) (i : ℕ) → length bs ≤ i → has_do l (blocks_of (take i bs)) ≡ false → blocks_of bs ≡ left_by_label l (blocks_of bs)
-left_nowhere l bs i past h = sym (not_left l (blocks_of bs) (ap (λ (xs : List Block). has_do l (blocks_of xs)) (sym (take-ge i bs past)) ∙ h))
+left_nowhere l bs i past h = sym (not_left l (blocks_of bs) (ap (λ (xs : List Block). has_do l (blocks_of xs)) (sym (take_all i bs past)) ∙ h))
 
 -- no IF is open
 pub no_if : (c : List plain.Block) → has_if c ≡ false → left_in_if c ≡ c

@@ -2,8 +2,9 @@ pub mod Collecting
 pub mod Depths
 pub mod Leaving
 pub mod Likeness
-pub mod Members
+pub mod Loops
 pub mod Opening
+pub mod Parts
 pub mod Passing
 pub mod Reaching
 pub mod Rejections

@@ -1,18 +1,16 @@
 -- Contexts that are alike have the same refusals.
-use Rattle.std.proofs.Common.{◌≡◌, ℕ, ◌+◌, Bool, ◌&&◌, ◌||◌, nat_lt, nat_le, max, List, ◌++◌, refl, sym, ap, ◌∙◌, arith}
+use Rattle.std.proofs.Common.{◌≡◌, ℕ, ◌+◌, Bool, ◌&&◌, ◌||◌, nat_lt, max, List, ◌++◌, length, refl, sym, ap, ◌∙◌, arith}
+use Rattle.std.specs.List.{list_any}
 use Rattle.ped_print.specs.Lengths.{limited}
-use Rattle.ped_grammar.specs.Items.{Item, Reading, says, outside_profile, no_form, Entry}
-use Rattle.ped_grammar.specs.Contexts.{Context, rank, numbered_in, is_do, loops_in, saves_list, saves_without, blocks_behind, behind}
 use Rattle.ped_base.specs.Lists.{is_among}
+use Rattle.ped_grammar.specs.LimitNumbers.{most_references, most_statements}
+use Rattle.ped_grammar.specs.Items.{Item, Reading, says, outside_profile, no_form, Entry}
+use Rattle.ped_grammar.specs.Contexts.{Block, Context, rank, numbered_in, loops_in, saves_list, saves_without, left_by, blocks_behind, behind, open_variables}
 use Rattle.ped_grammar.specs.Occurrences.{constants_of}
-use Rattle.ped_grammar.specs.Refusal.{Syntax, NotInProfile, OpenBlock, BadTerminal, IndexAssigned, StopPlace, Limit, refused_if}
-use Rattle.ped_grammar.specs.Contexts.{open_variables}
-use Rattle.ped_grammar.specs.ProgramRefusals.{at_directives, at_statement, breaks_syntax, is_left_out, where_it_says, leaves_open, ends_badly, stops, loop_depth, block_depth, passes_limit, is_too_large, are_too_many, is_block, has_many_references, is_too_long, private_behind}
-use Rattle.ped_refusals.specs.Limits.{AreSilent, is_past_limit}
-use Rattle.ped_refusals.specs.OpenContexts.{IsLike, standing_at}
-use Rattle.ped_refusals.specs.declared.limits.Before.{Before}
-use Rattle.ped_refusals.proofs.Members.{among_append}
-use Rattle.ped_refusals.proofs.Looking.{assigns_same}
+use Rattle.ped_grammar.specs.Refusal.{Finding, Syntax, NotInProfile, OpenBlock, BadTerminal, IndexAssigned, StopPlace, Limit, refused_if}
+use Rattle.ped_grammar.specs.ProgramRefusals.{at_directives, at_private, at_statement, breaks_syntax, is_left_out, where_it_says, leaves_open, ends_badly, assigns_index, stops, loop_depth, passes_limit, is_too_large, are_too_many, is_too_deep, has_many_references, statements_of_item, is_too_long, private_behind}
+use Rattle.ped_limits.proofs.SameNames.{among_append, same_accesses}
+use Rattle.ped_refusals.specs.OpenContexts.{IsLike}
 
 pub like_itself : (c : Context) → IsLike c c
 like_itself c = record { phase = refl; blocks = refl; statements = refl; loops = refl; constants = λ x. refl; saves_names = refl; saves_everything = refl; behind_do = refl }
@@ -38,7 +36,7 @@ behind_like c d e h = by e.reading where
   by : (r : Reading) → IsLike (behind c record { statement = e.statement; reading = r }) (behind d record { statement = e.statement; reading = r })
   by (says i) = record {
     phase = ap (λ (n : ℕ). max n (rank i)) h.phase;
-    blocks = ap (blocks_behind e.statement.label i) h.blocks;
+    blocks = λ j. blocks_behind (h.behind_do j) e.statement i (h.blocks j);
     statements = limited_more c.statements d.statements (numbered_in i) h.statements;
     loops = ap (λ (n : ℕ). n + loops_in i) h.loops;
     constants = λ x. among_append x c.constants (constants_of i) ∙ ap (λ (b : Bool). b || is_among x (constants_of i)) (h.constants x) ∙ sym (among_append x d.constants (constants_of i));
@@ -46,8 +44,29 @@ behind_like c d e h = by e.reading where
     saves_everything = ap (λ (b : Bool). b || saves_without i) h.saves_everything;
     behind_do = refl;
   }
-  by outside_profile = record { phase = h.phase; blocks = h.blocks; statements = h.statements; loops = h.loops; constants = h.constants; saves_names = h.saves_names; saves_everything = h.saves_everything; behind_do = refl }
-  by no_form = record { phase = h.phase; blocks = h.blocks; statements = h.statements; loops = h.loops; constants = h.constants; saves_names = h.saves_names; saves_everything = h.saves_everything; behind_do = refl }
+  by outside_profile = record { phase = h.phase; blocks = ap (left_by e.statement.label) h.blocks; statements = h.statements; loops = h.loops; constants = h.constants; saves_names = h.saves_names; saves_everything = h.saves_everything; behind_do = refl }
+  by no_form = record { phase = h.phase; blocks = ap (left_by e.statement.label) h.blocks; statements = h.statements; loops = h.loops; constants = h.constants; saves_names = h.saves_names; saves_everything = h.saves_everything; behind_do = refl }
+
+many_like : (s t n : ℕ) → limited s ≡ limited t → nat_lt 0 n && nat_lt most_statements (t + n) ≡ nat_lt 0 n && nat_lt most_statements (s + n)
+many_like s t n h = grind arith
+
+-- the same limits are passed
+limits_like : (saved : List (List ℕ)) (c d : Context) (rest : List Entry) (i : Item) → IsLike c d → passes_limit saved d rest i ≡ passes_limit saved c rest i
+limits_like saved c d rest i h =
+    let private = private_behind rest in
+    let many : are_too_many d.statements i ≡ are_too_many c.statements i = many_like c.statements d.statements (numbered_in i) h.statements in
+    let references : has_many_references d.constants (open_variables d.blocks) private i ≡ has_many_references c.constants (open_variables c.blocks) private i =
+    λ j. list_any (λ s. nat_lt most_references (length (same_accesses d.constants c.constants (open_variables d.blocks) (open_variables c.blocks) (λ x. sym (h.constants x)) (λ x. ap (λ (bs : List Block). is_among x (open_variables bs)) (sym h.blocks)) s j))) (statements_of_item private i) in
+    λ j. is_too_large i
+    || many j
+    || is_too_deep (sym h.blocks j) i
+    || references j
+    || is_too_long saved (sym h.loops j) i
+
+readings_like : (saved : List (List ℕ)) (c d : Context) (rest : List Entry) (r : Reading) → IsLike c d → where_it_says (passes_limit saved d rest) r ≡ where_it_says (passes_limit saved c rest) r
+readings_like saved c d rest (says i) h = limits_like saved c d rest i h
+readings_like saved c d rest outside_profile h = refl
+readings_like saved c d rest no_form h = refl
 
 -- a context with another one's constants and number of statements
 abbrev mixed : Context → Context → Context
@@ -65,39 +84,21 @@ mixed_is c d h = λ i. record {
   behind_do = sym h.behind_do i;
 }
 
--- the same stand at a statement
-pub like_statement : (saved : List (List ℕ)) (c d : Context) (e : Entry) (rest : List Entry) (passes : Bool) → IsLike c d → passes ≡ where_it_says (passes_limit saved c rest) e.reading → standing_at passes d e rest ≡ at_statement saved c e rest
-like_statement saved c d e rest passes h p =
-    ap (λ (t : Bool). at_directives d e
-    ++ refused_if (breaks_syntax d e.reading) Syntax e.statement.line
+-- what stands at a statement, where it is known whether a limit is passed there
+abbrev standing_at : Bool → Context → Entry → List Finding
+standing_at passes c e =
+    at_directives c e
+    ++ refused_if (breaks_syntax c e.reading) Syntax e.statement.line
     ++ refused_if (is_left_out e.reading) NotInProfile e.statement.line
-    ++ refused_if (where_it_says (leaves_open d.blocks) e.reading) OpenBlock e.statement.line
-    ++ refused_if (ends_badly d.blocks e.statement.label e.reading) BadTerminal e.statement.line
-    ++ refused_if t IndexAssigned e.statement.line
-    ++ refused_if (where_it_says stops e.reading && nat_lt 0 (loop_depth d.blocks)) StopPlace e.statement.line
-    ++ refused_if passes Limit e.statement.line) (assigns_same d (mixed c d) e rest refl)
-    ∙ ap (λ (x : Context). standing_at passes x e rest) (mixed_is c d h)
-    ∙ ap (λ (t : Bool). standing_at t c e rest) p
+    ++ refused_if (where_it_says (leaves_open c.blocks) e.reading) OpenBlock e.statement.line
+    ++ refused_if (ends_badly c.blocks e.statement.label e.reading) BadTerminal e.statement.line
+    ++ refused_if (assigns_index c e.reading) IndexAssigned e.statement.line
+    ++ at_private c e.reading
+    ++ refused_if (where_it_says stops e.reading && nat_lt 0 (loop_depth c.blocks)) StopPlace e.statement.line
+    ++ refused_if passes Limit e.statement.line
 
-many_like : (s t n : ℕ) → limited s ≡ limited t → nat_lt 0 n && nat_lt 4000 (t + n) ≡ nat_lt 0 n && nat_lt 4000 (s + n)
-many_like s t n h = grind arith
-
--- the constants and the variables of open loops are silent
-pub silent_like : (c d : Context) (variables : List (List ℕ)) → IsLike c d → variables ≡ open_variables d.blocks → AreSilent d.constants variables (c.constants ++ open_variables c.blocks)
-silent_like c d variables h v x =
-    among_append x c.constants (open_variables c.blocks) ∙ (λ i. h.constants x i || is_among x ((ap open_variables h.blocks ∙ sym v) i))
-
--- the same limits are passed
-pub limit_like : (saved : List (List ℕ)) (c d : Context) (rest : List Entry) (b : Before) (i : Item) → IsLike c d → b.statements ≡ d.statements → b.loops ≡ d.loops → b.loop_depth ≡ loop_depth d.blocks → b.block_depth ≡ block_depth d.blocks
-    → is_past_limit saved (c.constants ++ open_variables c.blocks) b (private_behind rest) i ≡ passes_limit saved c rest i
-limit_like saved c d rest b i h statements loops loop_depths block_depths =
-    let many : are_too_many b.statements i ≡ are_too_many c.statements i =
-    ap (λ (n : ℕ). are_too_many n i) statements ∙ many_like c.statements d.statements (numbered_in i) h.statements in
-    let loops_deep : b.loop_depth ≡ loop_depth c.blocks = loop_depths ∙ ap loop_depth (sym h.blocks) in
-    let blocks_deep : b.block_depth ≡ block_depth c.blocks = block_depths ∙ ap block_depth (sym h.blocks) in
-    let before : b.loops ≡ c.loops = loops ∙ sym h.loops in
-    λ j. is_too_large i
-    || many j
-    || ((is_do i && nat_le 6 (loops_deep j)) || (is_block i && nat_le 100 (blocks_deep j)))
-    || has_many_references (c.constants ++ open_variables c.blocks) (private_behind rest) i
-    || is_too_long saved (before j) i
+-- the same stands at a statement
+pub statement_like : (saved : List (List ℕ)) (c d : Context) (e : Entry) (rest : List Entry) → IsLike c d → at_statement saved d e rest ≡ at_statement saved c e rest
+statement_like saved c d e rest h =
+    ap (λ (x : Context). standing_at (where_it_says (passes_limit saved d rest) e.reading) x e) (mixed_is c d h)
+    ∙ ap (λ (passes : Bool). standing_at passes c e) (readings_like saved c d rest e.reading h)

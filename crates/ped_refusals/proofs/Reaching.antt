@@ -10,7 +10,7 @@ use Rattle.ped_grammar.specs.Contexts.{Context, at_start, behind, behind_all}
 use Rattle.ped_grammar.specs.ProgramRefusals.{block_depth, at_statement, at_statements, at_end, program_refusals}
 use Rattle.ped_refusals.specs.OpenContexts.{IsLike}
 use Rattle.ped_refusals.proofs.Depths.{deeper, more_loops}
-use Rattle.ped_refusals.proofs.Likeness.{like_itself, like_through, behind_like}
+use Rattle.ped_refusals.proofs.Likeness.{like_itself, like_through, behind_like, statement_like}
 
 pub none_left : {X : Type 0} → (xs : List X) → length xs ≡ 0 → xs ≡ []
 none_left [] h = refl
@@ -38,7 +38,7 @@ reached_start saved all code h = record {
 
 -- one statement more
 pub reached_more : (saved : List (List ℕ)) (all : List Entry) (code more : Context) (found next : Option Finding) (e : Entry) (rest left : List Entry) → left ≡ e ∷ rest → Reached saved all code found left
-    → ((c : Context) → IsLike c code → next ≡ earliest found (at_statement saved c e rest)) → IsLike (behind code e) more → Reached saved all more next rest
+    → next ≡ earliest found (at_statement saved code e rest) → IsLike (behind code e) more → Reached saved all more next rest
 reached_more saved all code more found next e rest left at r h k =
     let c = r.context in
     let first : earliest found (at_statements saved c (e ∷ rest)) ≡ earliest None (at_statements saved at_start all) = ap (λ (es : List Entry). earliest found (at_statements saved c es)) (sym at) ∙ r.first in
@@ -51,7 +51,7 @@ reached_more saved all code more found next e rest left at r h k =
     record {
       context = behind c e;
       like = like_through (behind c e) (behind code e) more (behind_like c code e r.like) k;
-      first = ap (λ (f : Option Finding). earliest f (at_statements saved (behind c e) rest)) (h c r.like)
+      first = ap (λ (f : Option Finding). earliest f (at_statements saved (behind c e) rest)) (h ∙ ap (earliest found) (statement_like saved c code e rest r.like))
           ∙ sym (earliest_append found (at_statement saved c e rest) (at_statements saved (behind c e) rest)) ∙ first;
       last = last;
       depth = omega arith;

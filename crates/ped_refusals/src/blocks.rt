@@ -241,16 +241,18 @@ pub fn take_on(
             open_block(blocks, Block::Then(1))
         }
         Item::ElseIf(_) => {
+            begin_else_if(blocks)?;
             leave_by(blocks, statement.label);
-            begin_else_if(blocks)
+            Ok(())
         }
         Item::Else => {
+            begin_else(blocks)?;
             leave_by(blocks, statement.label);
-            begin_else(blocks)
+            Ok(())
         }
         Item::EndIf => {
-            leave_by(blocks, statement.label);
             end_if(blocks);
+            leave_by(blocks, statement.label);
             Ok(())
         }
         Item::Do(d) => {
@@ -381,7 +383,6 @@ fn copied(alloc: Global, names: &[Name]) -> Result<Names, NoMemory>
     Ok(Listed::from_vec(Vec::from_slice(alloc, names)?))
 }
 
-#[tactic(auto, using(crate::proofs::Depths::in_if_less))]
 fn begin_else_if(blocks: &mut Vec<Block>) -> Result<(), NoMemory>
     requires { Spec.block_depth (blocks_of blocks.old.items) + 1 < 2 ^ 64 }
     ensures { OnOk result (blocks_of blocks.new.items ≡ Contexts.with_else_if (Contexts.left_in_if (blocks_of blocks.old.items))) }

@@ -21,11 +21,7 @@ use ped_grammar::{Entry, NoteLine, Refusal, RefusalKind, Statement, StatementRea
 
 /// The first of what was found and what stands at the directives of a statement, each at its own line.
 #[tactic(auto, using(ped_grammar::proofs::First::earliest_append))]
-pub fn at_directives(
-    found: Option<Refusal>,
-    context: &Context,
-    entry: &Entry,
-) -> Option<Refusal>
+pub fn at_directives(found: Option<Refusal>, context: &Context, entry: &Entry) -> Option<Refusal>
     ensures { found_of result ≡ earliest (found_of found) (Spec.at_directives (context_of context.now) (entry_of entry.now)) }
 {
     let mut found = found;
@@ -39,10 +35,7 @@ pub fn at_directives(
 
 /// The first of what was found and the directives behind the last statement.
 #[tactic(auto, using(ped_grammar::proofs::First::earliest_append))]
-pub fn at_last_directives(
-    found: Option<Refusal>,
-    directives: &[NoteLine],
-) -> Option<Refusal>
+pub fn at_last_directives(found: Option<Refusal>, directives: &[NoteLine]) -> Option<Refusal>
     ensures { found_of result ≡ earliest (found_of found) (flat_map (λ d. refused_if true Syntax d.line) (map note_of directives.now)) }
 {
     let mut found = found;

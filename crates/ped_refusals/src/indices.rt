@@ -1,13 +1,13 @@
 //! The variable of a DO loop in its range, which nothing there may assign (ANSI X3.9-1978, section
 //! 11.10.5) and no PRIVATE statement may name.
 
-ghost use Rattle.std.specs.Prelude.{◌≡◌, ◌∷◌, [], map, List};
+ghost use Rattle.std.specs.Prelude.{◌≡◌, ◌∷◌, [], MatchOption, map};
 ghost use Rattle.std.specs.List.{flat_map};
-ghost use Rattle.ped_grammar.specs.Contexts.{Block as PlainBlock, open_loops, open_variables};
+ghost use Rattle.ped_grammar.specs.Contexts.{open_loops, open_variables};
+ghost use Rattle.ped_grammar.specs.Occurrences.{of_reading, do_variables};
 ghost use Rattle.ped_grammar.specs.ProgramRefusals as Spec;
 ghost use Rattle.ped_grammar.specs.ProgramRefusals.{meets};
-ghost use Rattle.ped_grammar.specs.Refusal.{earliest, refused_if};
-ghost use Rattle.ped_grammar.specs.Refusal as Refusal;
+ghost use Rattle.ped_grammar.specs.Refusal.{IndexAssigned, earliest, refused_if};
 ghost use Rattle.ped_tree.specs.Views.{expr_tree, stmt_tree};
 ghost use Rattle.ped_grammar.specs.ItemViews.{reading_of};
 ghost use Rattle.ped_grammar.specs.RefusalViews.{found_of};
@@ -90,15 +90,25 @@ pub fn at_private(
 ) -> Option<Refusal>
     ensures { found_of result ≡ earliest (found_of found) (Spec.at_private (context_of context.now) (reading_of reading.now)) }
 {
+    match do_variable(reading) {
+        Some(variable) => at_loops(found, variable, &context.blocks),
+        None => found,
+    }
+}
+
+/// The variable of a DO statement.
+fn do_variable(reading: &StatementReading) -> Option<&Name>
+    ensures { MatchOption result (of_reading do_variables (reading_of reading.now) ≡ []) (λ x. of_reading do_variables (reading_of reading.now) ≡ x.now ∷ []) }
+{
     match reading {
-        StatementReading::Says(Item::Do(d)) => at_loops(found, &d.variable, &context.blocks),
-        _ => found,
+        StatementReading::Says(Item::Do(d)) => Some(&d.variable),
+        _ => None,
     }
 }
 
 fn at_loops(found: Option<Refusal>, variable: &Name, blocks: &[Block]) -> Option<Refusal>
     ensures { found_of result ≡ earliest (found_of found)
-        (flat_map (λ d. refused_if (meets (variable.now ∷ []) d.private) Refusal.IndexAssigned d.private_line) (open_loops (blocks_of blocks.now))) }
+        (flat_map (λ d. refused_if (meets (variable.now ∷ []) d.private) IndexAssigned d.private_line) (open_loops (blocks_of blocks.now))) }
 {
     let mut found = found;
     let mut left = blocks;
@@ -111,7 +121,7 @@ fn at_loops(found: Option<Refusal>, variable: &Name, blocks: &[Block]) -> Option
 
 fn at_block(found: Option<Refusal>, variable: &Name, block: &Block) -> Option<Refusal>
     ensures { found_of result ≡ earliest (found_of found)
-        (flat_map (λ d. refused_if (meets (variable.now ∷ []) d.private) Refusal.IndexAssigned d.private_line) (open_loops (block_of block.now ∷ []))) }
+        (flat_map (λ d. refused_if (meets (variable.now ∷ []) d.private) IndexAssigned d.private_line) (open_loops (block_of block.now ∷ []))) }
 {
     match block {
         Block::Loop(d) => standing(

@@ -3,8 +3,7 @@
 ghost use Rattle.std.specs.Prelude.{◌≡◌, ◌&&◌, ◌<◌, ◌^◌, ◌++◌, List, ℕ, nat_lt, true, IfOk, map};
 ghost use Rattle.std.specs.List.{list_all};
 ghost use Rattle.ped_grammar.specs.Statement.{Statements};
-ghost use Rattle.ped_grammar.specs.Refusal as Refusal;
-ghost use Rattle.ped_grammar.specs.Refusal.{first_of, earliest, refused_if};
+ghost use Rattle.ped_grammar.specs.Refusal.{Syntax, NotInProfile, OpenBlock, BadTerminal, IndexAssigned, StopPlace, first_of, earliest, refused_if};
 ghost use Rattle.ped_grammar.specs.Occurrences as Occurrences;
 ghost use Rattle.ped_grammar.specs.Items.{Entry as PlainEntry};
 ghost use Rattle.ped_grammar.specs.Contexts.{Context as PlainContext, open_variables};
@@ -118,17 +117,13 @@ fn at_statement(
 
 /// The first of what was found and what stands at a statement by its form and its place.
 #[tactic(auto, using(ped_grammar::proofs::First::earliest_append))]
-fn at_places(
-    found: Option<Refusal>,
-    context: &Context,
-    entry: &Entry,
-) -> Option<Refusal>
+fn at_places(found: Option<Refusal>, context: &Context, entry: &Entry) -> Option<Refusal>
     ensures { let c = context_of context.now in let e = entry_of entry.now in
         found_of result ≡ earliest (found_of found)
-        (refused_if (Spec.breaks_syntax c e.reading) Refusal.Syntax e.statement.line
-        ++ refused_if (Spec.is_left_out e.reading) Refusal.NotInProfile e.statement.line
-        ++ refused_if (where_it_says (Spec.leaves_open c.blocks) e.reading) Refusal.OpenBlock e.statement.line
-        ++ refused_if (Spec.ends_badly c.blocks e.statement.label e.reading) Refusal.BadTerminal e.statement.line) }
+        (refused_if (Spec.breaks_syntax c e.reading) Syntax e.statement.line
+        ++ refused_if (Spec.is_left_out e.reading) NotInProfile e.statement.line
+        ++ refused_if (where_it_says (Spec.leaves_open c.blocks) e.reading) OpenBlock e.statement.line
+        ++ refused_if (Spec.ends_badly c.blocks e.statement.label e.reading) BadTerminal e.statement.line) }
 {
     let line = entry.statement.line;
     let found = standing(
@@ -170,9 +165,9 @@ fn at_loops(
     requires fits { block_depth (blocks_of context.now.blocks.items) < 2 ^ 64 }
     ensures { let c = context_of context.now in let e = entry_of entry.now in
         found_of result ≡ earliest (found_of found)
-        (refused_if (Spec.assigns_index c e.reading) Refusal.IndexAssigned e.statement.line
+        (refused_if (Spec.assigns_index c e.reading) IndexAssigned e.statement.line
         ++ Spec.at_private c e.reading
-        ++ refused_if (where_it_says Spec.stops e.reading && nat_lt 0 (Spec.loop_depth c.blocks)) Refusal.StopPlace e.statement.line) }
+        ++ refused_if (where_it_says Spec.stops e.reading && nat_lt 0 (Spec.loop_depth c.blocks)) StopPlace e.statement.line) }
 {
     let line = entry.statement.line;
     let found = standing(

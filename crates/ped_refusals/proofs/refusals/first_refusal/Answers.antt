@@ -16,7 +16,7 @@ loop-entry-preserved c =
     let at : map entry_of c.loop-entry.left.now ≡ entry_of c.in-Some.entry.now ∷ map entry_of c.in-Some.rest.now = ap (map entry_of) c.in-Some.ensures.cases.0 in
     reached_more c.args.saved.now (map entry_of c.args.entries.now) (context_of c.loop-entry.context) (context_of c.in_ok-context.context) (found_of c.loop-entry.found) (found_of c.in_ok-found.found)
     (entry_of c.in-Some.entry.now) (map entry_of c.in-Some.rest.now) (map entry_of c.loop-entry.left.now) at c.loop-entry.invariant
-    (λ x like. c.in_ok-found.ensures x like ∙ ap (λ (saved : List (List ℕ)). earliest (found_of c.loop-entry.found) (at_statement saved x (entry_of c.in-Some.entry.now) (map entry_of c.in-Some.rest.now))) c.as_slice.ensures)
+    (c.in_ok-found.ensures ∙ ap (λ (saved : List (List ℕ)). earliest (found_of c.loop-entry.found) (at_statement saved (context_of c.loop-entry.context) (entry_of c.in-Some.entry.now) (map entry_of c.in-Some.rest.now))) c.as_slice.ensures)
     c.in_ok-context.ensures
 
 pub returns : goal.returns

@@ -1,10 +1,10 @@
 use Rattle.std.proofs.Common.{◌≡◌, ◌<◌, ℕ, List, Option, true, nat_lt, map, sym, ap, subst, ◌∙◌, arith}
 use Rattle.std.specs.List.{list_all}
 use Rattle.ped_grammar.specs.Refusal.{earliest}
-use Rattle.ped_grammar.specs.ProgramRefusals.{at_statement}
+use Rattle.ped_grammar.specs.ProgramRefusals.{at_private, at_statement}
 use Rattle.ped_grammar.specs.StatementViews.{note_of}
 use Rattle.ped_grammar.specs.declared.statements.NoteLine.{NoteLine}
-use Rattle.ped_grammar.specs.ItemViews.{entry_of}
+use Rattle.ped_grammar.specs.ItemViews.{entry_of, reading_of}
 use Rattle.ped_grammar.specs.RefusalViews.{finding_of, found_of}
 use Rattle.ped_grammar.specs.declared.refusals.Refusal.{Refusal}
 use Rattle.ped_refusals.proofs.Passing.{statement_later}
@@ -17,5 +17,5 @@ pub returns-then-first-entry : goal.returns-then-first-entry
 returns-then-first-entry c h saved x rest =
     let first = c.in-Some.first in
     let all = sym (ap (λ (ds : List NoteLine). list_all (λ d. nat_lt first.line d.line) (map note_of ds)) c.as_slice.ensures) ∙ sym c.all_behind.ensures ∙ h in
-    subst (λ (found : Option Refusal). earliest (found_of found) (at_statement saved x (entry_of c.args.entry.now) rest) ≡ found_of found) (sym c.in-Some.is)
+    subst (λ (found : Option Refusal). earliest (found_of found) (at_statement saved x (entry_of c.args.entry.now) rest) ≡ earliest (found_of found) (at_private x (reading_of c.args.entry.now.reading))) (sym c.in-Some.is)
     (statement_later (finding_of first) saved x (entry_of c.args.entry.now) rest (lt_true first.line c.args.entry.now.statement.line c.if-first-entry.true) all)

@@ -1,0 +1,6 @@
+use Rattle.std.proofs.Common.{◌≡◌, drop}
+use Rattle.ped_grammar.specs.ProgramRefusals.{meets}
+use Rattle.ped_refusals.proofs.indices.any_is_among.Given as goal
+
+abbrev pub invariant-loop-name : goal.invariant-loop-name
+invariant-loop-name l = meets (drop l.name-index l.names) l.variables ≡ meets l.names l.variables

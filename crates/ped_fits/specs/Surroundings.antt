@@ -1,9 +1,12 @@
 -- What the surroundings of the code stand for. Contracts of private functions alone speak of it.
-use Rattle.std.specs.Prelude.{◌≡◌, ℕ, ◌+◌, ◌≤◌, List, map, length}
-use Rattle.std.specs.List.{flat_map}
+use Rattle.std.specs.Prelude.{◌≡◌, ℕ, ◌+◌, ◌≤◌, List, [], map, length, Bool, true, false, ◌&&◌}
+use Rattle.std.specs.List.{list_all, flat_map}
 use Rattle.std.specs.Borrow.{Bor}
 use Rattle.ped_tree.specs.Accesses.{constant_names}
-use Rattle.ped_tree.specs.Views.{decl_tree}
+use Rattle.ped_tree.specs.Tree.{Head, StmtTree, Assign, If, Do, Print, Read, Stop, Comment}
+use Rattle.ped_tree.specs.Views.{head, decl_tree}
+use Rattle.ped_tree.specs.declared.statements.Do as code
+use Rattle.ped_tree.specs.declared.declarations.Decl.{Decl}
 use Rattle.ped_grammar.specs.Fits as plain
 use Rattle.ped_fits.specs.declared.surroundings.Surroundings.{Surroundings}
 use Rattle.ped_fits.specs.declared.surroundings.Numbers.{Numbers}
@@ -38,3 +41,21 @@ pub record IsBehind (before : Numbers) (statements loops : ℕ) (n : Numbers) : 
   pub statements_are : n.statements ≡ before.statements + statements
   pub loops_are : n.loops ≡ before.loops + loops
   pub counted : IsCounted n
+
+-- the head of a DO
+abbrev pub head_of : code.Do → Head
+head_of d = head d.variable d.first d.last d.step d.parallel d.private d.rejected
+
+-- the expressions and items of an assignment, PRINT, READ or STOP
+abbrev pub simple_parts_fit : StmtTree → Bool
+simple_parts_fit (Assign left right) = plain.target_fits left && plain.expr_fits right
+simple_parts_fit (If condition then_part else_part) = false
+simple_parts_fit (Do h body) = false
+simple_parts_fit (Print items) = list_all plain.item_fits items
+simple_parts_fit (Read items) = list_all plain.target_fits items
+simple_parts_fit Stop = true
+simple_parts_fit (Comment text) = false
+
+-- before the first executable statement behind these declarations
+abbrev pub at_first : List Decl → plain.Surroundings
+at_first decls = record { constants = constant_names (map decl_tree decls); variables = []; private = []; depth = 0; statements = 0; loops = 0 }

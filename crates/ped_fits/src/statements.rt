@@ -1,13 +1,14 @@
 //! Executable statements that can be written where they stand, with the statements in their parts.
 
-ghost use Rattle.std.specs.Prelude.{◌≡◌, ◌&&◌, true, false, nat_lt, not, MatchOption, length};
+ghost use Rattle.std.specs.Prelude.{◌≡◌, ◌&&◌, true, false, nat_lt, not, map, MatchOption};
+ghost use Rattle.std.specs.List.{flat_map};
 ghost use Rattle.ped_base.specs.Lists.{has_some};
 ghost use Rattle.ped_tree.specs.Numbering.{statement_count, statements_count, loop_count, loops_count};
-ghost use Rattle.ped_tree.specs.Views.{cond_tree, stmt_tree, stmt_trees};
+ghost use Rattle.ped_tree.specs.Views.{expr_tree, cond_tree, stmt_tree, stmt_trees};
 ghost use Rattle.ped_grammar.specs.Contexts.{is_stop};
 ghost use Rattle.ped_grammar.specs.ProgramRefusals as Refusals;
 ghost use Rattle.ped_grammar.specs.Fits as Spec;
-ghost use Rattle.ped_fits.specs.Surroundings.{place, IsAround, IsCounted, IsBehind};
+ghost use Rattle.ped_fits.specs.Surroundings.{place, IsAround, IsCounted, IsBehind, simple_parts_fit};
 
 use crate::comments::comment_fits;
 use crate::expressions::{cond_fits, expr_fits, items_fit, target_fits, targets_fit};
@@ -46,7 +47,7 @@ fn statement_fits(around: &Surroundings, numbers: Numbers, statement: &Stmt) -> 
         × IsBehind numbers (statement_count (stmt_tree statement.now)) (loop_count (stmt_tree statement.now)) n) }
 {
     match statement {
-        Stmt::Assign { .. } | Stmt::Print(_) | Stmt::Read(_) | Stmt::Stop => {
+        Stmt::Assign { left: _, right: _ } | Stmt::Print(_) | Stmt::Read(_) | Stmt::Stop => {
             if simple_fits(around, numbers, statement) {
                 return Some(numbers.behind_statement());
             }
@@ -104,24 +105,79 @@ fn branch_fits(around: &Surroundings, numbers: Numbers, statement: &Stmt, condit
 
 /// Whether an assignment, PRINT, READ or STOP can be written where it stands.
 fn simple_fits(around: &Surroundings, numbers: Numbers, statement: &Stmt) -> bool
-    requires { is_simple (stmt_tree statement.now) ≡ true }
-    ensures { result ≡ Spec.stmt_fits (place around.now numbers) (stmt_tree statement.now) }
+    ensures { result ≡ (Spec.simple_fits (place around.now numbers) (stmt_tree statement.now) && simple_parts_fit (stmt_tree statement.now)) }
 {
     is_within(around, numbers, statement)
-        && keeps_variables(around, statement)
+        && keeps_loops(around, statement)
         && parts_fit(statement)
 }
 
 /// Whether an assignment, PRINT, READ or STOP leaves the variables of the loops round it alone, and STOP
 /// stands in none.
-fn keeps_variables(around: &Surroundings, statement: &Stmt) -> bool
+fn keeps_loops(around: &Surroundings, statement: &Stmt) -> bool
     ensures { result ≡ (not (Refusals.meets (Refusals.assigned_by (stmt_tree statement.now)) around.now.variables.now)
         && not (is_stop (stmt_tree statement.now) && has_some around.now.variables.now)) }
 {
     match statement {
-        Stmt::Assign { left, .. } => !is_variable(around.variables, left),
-        Stmt::Read(items) => !has_variable(around.variables, items),
+        Stmt::Assign { left, right: _ } => !is_variable(around.variables, left),
+        Stmt::Read(items) => !have_variable(around.variables, items),
         Stmt::Stop => around.variables.is_empty(),
-        Stmt::If { .. } | Stmt::Do(_) | Stmt::Print(_) | Stmt::Comment(_) => true,
+        Stmt::If {
+            condition: _,
+            then_part: _,
+            else_part: _,
+        }
+        | Stmt::Do(_)
+        | Stmt::Print(_)
+        | Stmt::Comment(_) => true,
+    }
+}
+
+/// Whether the left side is one of the variables.
+fn is_variable(variables: &[Name], left: &Expr) -> bool
+    ensures { result ≡ Refusals.meets (Refusals.scalar_of (expr_tree left.now)) variables.now }
+{
+    match left {
+        Expr::Var(name) => is_among(name, variables),
+        Expr::Int(_)
+        | Expr::Element(_, _)
+        | Expr::Neg(_)
+        | Expr::Add(_, _)
+        | Expr::Sub(_, _)
+        | Expr::Mul(_, _)
+        | Expr::Div(_, _)
+        | Expr::Pow(_, _)
+        | Expr::Call(_, _) => false,
+    }
+}
+
+/// Whether an item of a READ is one of the variables.
+fn have_variable(variables: &[Name], items: &[Expr]) -> bool
+    ensures { result ≡ Refusals.meets (flat_map Refusals.scalar_of (map expr_tree items.now)) variables.now }
+{
+    for item in items {
+        if is_variable(variables, item) {
+            return true;
+        }
+    }
+    false
+}
+
+/// Whether the expressions of an assignment, the items of a PRINT or a READ can be written.
+fn parts_fit(statement: &Stmt) -> bool
+    ensures { result ≡ simple_parts_fit (stmt_tree statement.now) }
+{
+    match statement {
+        Stmt::Assign { left, right } => target_fits(left) && expr_fits(right),
+        Stmt::Print(items) => items_fit(items),
+        Stmt::Read(items) => targets_fit(items),
+        Stmt::Stop => true,
+        Stmt::If {
+            condition: _,
+            then_part: _,
+            else_part: _,
+        }
+        | Stmt::Do(_)
+        | Stmt::Comment(_) => false,
     }
 }

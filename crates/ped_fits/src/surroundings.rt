@@ -2,13 +2,18 @@
 //! and how many statements and loops come before it.
 
 ghost use Rattle.std.specs.Prelude.{◌≡◌, ◌+◌, ◌<◌, ◌≤◌, ◌∷◌, ◌++◌, length, take};
-ghost use Rattle.std.specs.List.{flat_map};
-ghost use Rattle.ped_base.specs.Lists.{is_among};
-ghost use Rattle.ped_fits.specs.Surroundings.{IsCounted, all_names};
+ghost use Rattle.ped_base.specs.Lists as Lists;
+ghost use Rattle.ped_tree.specs.Views.{stmt_tree};
+ghost use Rattle.ped_grammar.specs.Fits as Spec;
+ghost use Rattle.ped_fits.specs.Surroundings.{IsCounted, all_names, place};
 
 use ped_base::Name;
-use ped_limits::{MOST_LOOPS_NESTED, is_among};
-use ped_tree::Decl;
+use ped_limits::{
+    MOST_CHARACTERS, MOST_LOOPS_NESTED, MOST_REFERENCES, MOST_STATEMENTS, is_among,
+    references_declared,
+};
+use ped_print::own_length;
+use ped_tree::{Decl, Stmt};
 
 /// What stands round a statement.
 pub struct Surroundings<'a> {
@@ -58,6 +63,16 @@ impl Numbers {
     }
 }
 
+/// Whether a numbered statement by itself passes no limit where it stands: the number of statements, its
+/// references, its printed length.
+pub fn is_within(around: &Surroundings, numbers: Numbers, statement: &Stmt) -> bool
+    ensures { result ≡ Spec.is_within (place around.now numbers) (stmt_tree statement.now) }
+{
+    numbers.statements < MOST_STATEMENTS as u64
+        && references_declared(around.decls, around.variables, statement) <= MOST_REFERENCES
+        && own_length(numbers.loops, statement) <= MOST_CHARACTERS
+}
+
 /// A variable before the variables of the loops round its loop; what is behind these is anything.
 pub fn with_variable(first: Name, rest: &[Name]) -> [Name; MOST_LOOPS_NESTED]
     requires { length rest.now < 6 }
@@ -83,7 +98,7 @@ pub fn with_private<'a>(
 
 /// Whether the name is private to one of the loops.
 pub fn is_private(name: &Name, private: &[&[Name]]) -> bool
-    ensures { result ≡ is_among name.now (all_names private.now) }
+    ensures { result ≡ Lists.is_among name.now (all_names private.now) }
 {
     for names in private {
         if is_among(name, names) {

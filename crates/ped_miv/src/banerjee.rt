@@ -1,18 +1,30 @@
 //! Banerjee's test with directions.
 
+ghost use Rattle.std.specs.Prelude.{◌≡◌, ◌<◌, ◌↔◌, length, slice_get, IfSome, IsTrue};
+ghost use Rattle.std.specs.Bool.{IsFalse};
+ghost use Rattle.ped_views.specs.Limits.{FitsLoops};
+ghost use Rattle.ped_views.specs.Excluded.{IsBeyondExtremes, IsDeadEnd};
+
 use crate::differences::difference_extremes;
 use ped_views::{Direction, PairView, Position};
 
 /// Whether the extremes of the difference of its two subscripts exclude these directions at a position (Allen
 /// and Kennedy, section 3.3, Banerjee's test): zero doesn't lie between the least and the greatest value over
 /// the whole points of the ranges of the loops that occur, or there is no such point.
-pub fn banerjee_excludes(view: &PairView, position: usize, directions: &[Direction]) -> bool {
+pub fn banerjee_excludes(view: &PairView, position: usize, directions: &[Direction]) -> bool
+    requires { position < length view.now.positions }
+    ensures { IfSome
+        (slice_get view.now.positions position)
+        (λ p. IsTrue result ↔ IsBeyondExtremes view.now p directions.now) }
+{
     is_beyond_extremes(view, &view.positions[position], directions)
 }
 
 /// Whether a vector that begins with this prefix may be possible, for all that the extremes tell: false exactly
 /// where a usable position can't be zero under the prefix, whatever directions stand behind it.
-pub fn may_refine(view: &PairView, prefix: &[Direction]) -> bool {
+pub fn may_refine(view: &PairView, prefix: &[Direction]) -> bool
+    ensures { IsFalse result ↔ IsDeadEnd view.now prefix.now }
+{
     for position in &view.positions {
         if position.usable && is_beyond_extremes(view, position, prefix) {
             return false;
@@ -21,7 +33,15 @@ pub fn may_refine(view: &PairView, prefix: &[Direction]) -> bool {
     true
 }
 
-fn is_beyond_extremes(view: &PairView, position: &Position, directions: &[Direction]) -> bool {
+/// Whether zero doesn't lie between the extremes, or there are none.
+fn is_beyond_extremes(view: &PairView, position: &Position, directions: &[Direction]) -> bool
+    requires { FitsLoops
+        (length view.now.loops)
+        (length view.now.source_inner)
+        (length view.now.sink_inner)
+        position.now }
+    ensures { IsTrue result ↔ IsBeyondExtremes view.now position.now directions.now }
+{
     match difference_extremes(view, position, directions) {
         None => true,
         Some(extremes) => 0 < extremes.lo || extremes.hi < 0,
@@ -44,7 +64,12 @@ mod tests {
     };
 
     /// A view of two common loops whose one position has the source I + J.
-    fn view(alloc: Global, range: LoopRange, sink: [i32; 2], constant: i32) -> Result<PairView, NoMemory> {
+    fn view(
+        alloc: Global,
+        range: LoopRange,
+        sink: [i32; 2],
+        constant: i32,
+    ) -> Result<PairView, NoMemory> {
         let position = Position {
             usable: true,
             source: AffRow {

@@ -1,5 +1,10 @@
 //! The least and the greatest difference of the two subscripts at a position, under directions.
 
+ghost use Rattle.std.specs.Prelude.{◌≡◌, ◌≤◌, ◌^◌, ◌*◌, All, length, IfSome};
+ghost use Rattle.ped_views.specs.Limits.{IsSmallCoefficient, FitsLoops};
+ghost use Rattle.ped_views.specs.Intervals.{IsWithin};
+ghost use Rattle.ped_miv.specs.Values.{AreExtremes, CommonValue, InnerValue, DifferenceValue};
+
 use crate::extremes::loop_extremes;
 use ped_views::{Direction, Interval, LoopRange, PairView, Position, difference};
 
@@ -10,7 +15,14 @@ pub(crate) fn difference_extremes(
     view: &PairView,
     position: &Position,
     directions: &[Direction],
-) -> Option<Interval> {
+) -> Option<Interval>
+    requires { FitsLoops
+        (length view.now.loops)
+        (length view.now.source_inner)
+        (length view.now.sink_inner)
+        position.now }
+    ensures { AreExtremes (DifferenceValue view.now position.now directions.now) result }
+{
     let common = common_extremes(
         &view.loops,
         directions,
@@ -20,7 +32,12 @@ pub(crate) fn difference_extremes(
     let source = inner_extremes(&view.source_inner, &position.source.inner)?;
     let sink = inner_extremes(&view.sink_inner, &position.sink.inner)?;
     let constant = difference(position.source.constant, position.sink.constant);
-    Some(common.add(source).sub(sink).add(Interval::between(constant, constant)))
+    Some(
+        common
+            .add(source)
+            .sub(sink)
+            .add(Interval::between(constant, constant)),
+    )
 }
 
 /// The extremes of what the common loops add.
@@ -29,7 +46,15 @@ fn common_extremes(
     directions: &[Direction],
     source: &[i64],
     sink: &[i64],
-) -> Option<Interval> {
+) -> Option<Interval>
+    requires few { length loops.now ≤ 6 }
+    requires source { length source.now ≡ length loops.now }
+    requires sink { length sink.now ≡ length loops.now }
+    requires source_small { All IsSmallCoefficient source.now }
+    requires sink_small { All IsSmallCoefficient sink.now }
+    ensures extremes { AreExtremes (CommonValue loops.now directions.now source.now sink.now) result }
+    ensures small { IfSome result (λ x. IsWithin (2 ^ 97) x) }
+{
     let mut sum = Interval { lo: 0, hi: 0 };
     for (k, range) in loops.iter().enumerate() {
         let part = loop_extremes(range, directions.get(k).copied(), source[k], sink[k])?;
@@ -39,7 +64,13 @@ fn common_extremes(
 }
 
 /// The extremes of what the further loops of one side add to its subscript.
-fn inner_extremes(loops: &[LoopRange], row: &[i64]) -> Option<Interval> {
+fn inner_extremes(loops: &[LoopRange], row: &[i64]) -> Option<Interval>
+    requires few { length loops.now ≤ 6 }
+    requires row { length row.now ≡ length loops.now }
+    requires row_small { All IsSmallCoefficient row.now }
+    ensures extremes { AreExtremes (InnerValue loops.now row.now) result }
+    ensures small { IfSome result (λ x. IsWithin (2 ^ 97) x) }
+{
     let mut sum = Interval { lo: 0, hi: 0 };
     for (k, range) in loops.iter().enumerate() {
         let part = loop_extremes(range, None, row[k], 0)?;

@@ -53,13 +53,13 @@ abbrev IsCorner : Interval → Interval → ℤ → Type 0
 IsCorner p q m = (m ≡ p.lo *ℤ q.lo) ⊎ (m ≡ p.lo *ℤ q.hi) ⊎ (m ≡ p.hi *ℤ q.lo) ⊎ (m ≡ p.hi *ℤ q.hi)
 
 -- the least of four numbers is one of them
-least_one : (a b c d : ℤ) → (int_min (int_min a b) (int_min c d) ≡ a) ⊎ (int_min (int_min a b) (int_min c d) ≡ b) ⊎ (int_min (int_min a b) (int_min c d) ≡ c) ⊎ (int_min (int_min a b) (int_min c d) ≡ d)
+pub least_one : (a b c d : ℤ) → (int_min (int_min a b) (int_min c d) ≡ a) ⊎ (int_min (int_min a b) (int_min c d) ≡ b) ⊎ (int_min (int_min a b) (int_min c d) ≡ c) ⊎ (int_min (int_min a b) (int_min c d) ≡ d)
 least_one a b c d = elim (min_one (int_min a b) (int_min c d)) [
   | inl e ↦ elim (min_one a b) [ inl f ↦ inl (e ∙ f) | inr f ↦ inr (inl (e ∙ f)) ]
   | inr e ↦ elim (min_one c d) [ inl f ↦ inr (inr (inl (e ∙ f))) | inr f ↦ inr (inr (inr (e ∙ f))) ]
 ]
 
-greatest_one : (a b c d : ℤ) → (int_max (int_max a b) (int_max c d) ≡ a) ⊎ (int_max (int_max a b) (int_max c d) ≡ b) ⊎ (int_max (int_max a b) (int_max c d) ≡ c) ⊎ (int_max (int_max a b) (int_max c d) ≡ d)
+pub greatest_one : (a b c d : ℤ) → (int_max (int_max a b) (int_max c d) ≡ a) ⊎ (int_max (int_max a b) (int_max c d) ≡ b) ⊎ (int_max (int_max a b) (int_max c d) ≡ c) ⊎ (int_max (int_max a b) (int_max c d) ≡ d)
 greatest_one a b c d = elim (max_one (int_max a b) (int_max c d)) [
   | inl e ↦ elim (max_one a b) [ inl f ↦ inl (e ∙ f) | inr f ↦ inr (inl (e ∙ f)) ]
   | inr e ↦ elim (max_one c d) [ inl f ↦ inr (inr (inl (e ∙ f))) | inr f ↦ inr (inr (inr (e ∙ f))) ]
@@ -101,3 +101,20 @@ module _ (p q r : Interval) (a b c d : ℤ) (ordered_p : p.lo ≤ℤ p.hi) (orde
     least = reached r.lo (corner r.lo (int_min (int_min a b) (int_min c d)) el (least_one a b c d));
     greatest = reached r.hi (corner r.hi (int_max (int_max a b) (int_max c d)) eh (greatest_one a b c d));
   }
+
+-- the ends of a sum and of a difference
+pub add_ends : (p q r : Interval) → p.lo ≤ℤ p.hi → q.lo ≤ℤ q.hi → IsImageOfBoth (λ x. λ y. x +ℤ y) p q r → (r.lo ≡ p.lo +ℤ q.lo) × (r.hi ≡ p.hi +ℤ q.hi)
+add_ends p q r a b h =
+    let (x, y, u, v, e) = h.least in
+    let (z, w, s, t, f) = h.greatest in
+    let l = h.holds p.lo q.lo (lo_lies p a) (lo_lies q b) in
+    let k = h.holds p.hi q.hi (hi_lies p a) (hi_lies q b) in
+    (omega (arith, linear, u.from, v.from, l.from), omega (arith, linear, s.to, t.to, k.to))
+
+pub sub_ends : (p q r : Interval) → p.lo ≤ℤ p.hi → q.lo ≤ℤ q.hi → IsImageOfBoth (λ x. λ y. x -ℤ y) p q r → (r.lo ≡ p.lo -ℤ q.hi) × (r.hi ≡ p.hi -ℤ q.lo)
+sub_ends p q r a b h =
+    let (x, y, u, v, e) = h.least in
+    let (z, w, s, t, f) = h.greatest in
+    let l = h.holds p.lo q.hi (lo_lies p a) (hi_lies q b) in
+    let k = h.holds p.hi q.lo (hi_lies p a) (lo_lies q b) in
+    (omega (arith, linear, u.from, v.to, l.from), omega (arith, linear, s.to, t.from, k.to))

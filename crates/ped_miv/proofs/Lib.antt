@@ -1,0 +1,4 @@
+mod Bezout
+mod Corners
+mod Extremal
+mod InOneLoop

@@ -34,3 +34,6 @@ fn main(rt: HostRuntime) -> ExitCode {
 fn words(rt: &(impl Env + AllocGlobal)) -> io::Result<Vec<String>> {
     Ok(env::args(rt)?.skip(1).collect(rt.alloc())?)
 }
+
+#[cfg(test)]
+mod tests;

@@ -1,78 +1,67 @@
-//! Programs nested from entries by hand, with their first lines.
-
-mod rows;
+//! A loop nested from entries by hand, with its first lines.
 
 use crate::program_of;
-use crate::tests::rows::{Row, Says, entries, names};
+use ped_base::{Bytes, Listed, Name, Names};
+use ped_grammar::{DoStatement, Entry, Item, NoteLine, Statement, StatementReading};
+use ped_tree::{Decl, Expr, Stmt};
+use std::alloc::Global;
 use std::test::Fail;
 
-/// First lines where both loops of one label end at one statement, a third one before it.
-#[test]
-fn lines_of_loops_that_share_their_terminal_statement(rt: HostRuntime) -> Result<(), Fail> {
-    let alloc = rt.alloc();
-    let rows = [
-        Row::plain(Says::Integer("A")),
-        Row::plain(Says::Do(10, "I")),
-        Row::plain(Says::Do(10, "J")),
-        Row::plain(Says::Do(20, "K")),
-        Row::labelled(20, " INNER", Says::Assign("A", 1)),
-        Row::labelled(10, "", Says::Assign("A", 2)),
-        Row::plain(Says::Assign("A", 3)),
-        Row::plain(Says::End),
-    ];
-    let program = program_of(alloc, entries(alloc, &rows)?, &names(alloc, "")?)?;
-    assert_eq!(rt; program.lines.as_slice(), [1, 2, 3, 4, 5, 6, 7].as_slice());
-    Ok(())
+fn name(text: &str) -> Result<Name, Fail> {
+    Ok(Name::from_bytes(text.as_bytes()).ok_or("no name")?)
 }
 
-/// ELSE and END IF have no first line, a logical IF one for each statement that it is.
-#[test]
-fn lines_of_ifs(rt: HostRuntime) -> Result<(), Fail> {
-    let alloc = rt.alloc();
-    let rows = [
-        Row::plain(Says::If("I", 1)),
-        Row::plain(Says::Assign("A", 1)),
-        Row::behind(" SECOND", Says::ElseIf("I", 2)),
-        Row::plain(Says::Assign("A", 2)),
-        Row::plain(Says::ElseIf("I", 3)),
-        Row::behind(" LAST", Says::Else),
-        Row::plain(Says::LogicalIf("I", 4, "A")),
-        Row::plain(Says::LogicalIf("I", 5, "")),
-        Row::behind(" END", Says::EndIf),
-        Row::plain(Says::End),
-    ];
-    let program = program_of(alloc, entries(alloc, &rows)?, &names(alloc, "")?)?;
-    assert_eq!(rt;
-        program.lines.as_slice(),
-        [1, 2, 3, 4, 5, 7, 7, 8].as_slice()
-    );
-    Ok(())
+/// A statement behind a directive that rejects K.
+fn entry(alloc: Global, line: u64, label: Option<u32>, item: Item) -> Result<Entry, Fail> {
+    let mut text = Bytes::new(alloc);
+    text.extend_from_slice(b"REJECTK")?;
+    let mut directives = Listed::new(alloc);
+    directives.push(NoteLine { line, text })?;
+    Ok(Entry {
+        statement: Statement {
+            line,
+            label,
+            text: Bytes::new(alloc),
+            comments: Listed::new(alloc),
+            directives,
+        },
+        reading: StatementReading::Says(item),
+    })
 }
 
-/// SAVE without a list has a first line only where there are names to save; CONTINUE has none.
-#[test]
-fn lines_of_saves_and_heads(rt: HostRuntime) -> Result<(), Fail> {
-    let alloc = rt.alloc();
-    let rows = [
-        Row::behind(" FIRST", Says::Integer("A")),
-        Row::behind(" SAVED", Says::SaveAll),
-        Row::behind(" FRONT", Says::Continue),
-        Row::directed(
-            " LOOP",
-            "REJECTA REJECT1 ACCEPTA REJECTB7",
-            Says::Do(10, "I"),
-        ),
-        Row::behind(" PRIVATE", Says::Private("T U")),
-        Row::plain(Says::Assign("T", 1)),
-        Row::plain(Says::NoForm),
-        Row::labelled(10, " ENDS", Says::Continue),
-        Row::behind(" BEHIND", Says::End),
-    ];
-    let program = program_of(alloc, entries(alloc, &rows)?, &names(alloc, "A B7")?)?;
-    assert_eq!(rt; program.lines.as_slice(), [1, 2, 4, 5, 6].as_slice());
-    assert_eq!(rt; program.decls.len(), 6);
+/// `DO 10 I = 1, 3`
+fn loop_of_three() -> Result<Item, Fail> {
+    Ok(Item::Do(DoStatement {
+        label: 10,
+        variable: name("I")?,
+        first: Expr::literal(1),
+        last: Expr::literal(3),
+        step: Expr::literal(1),
+        parallel: false,
+    }))
+}
 
-    let program = program_of(alloc, entries(alloc, &rows)?, &names(alloc, "")?)?;
-    assert_eq!(rt; program.lines.as_slice(), [1, 4, 5, 6].as_slice());
+/// SAVE without a list, a DO on line 4, its terminal statement on line 5, and END.
+#[test]
+fn a_loop_is_nested(rt: HostRuntime) -> Result<(), Fail> {
+    let alloc = rt.alloc();
+    let assignment = Stmt::assignment(Expr::scalar(name("K")?), Expr::literal(1));
+    let mut entries = Vec::new(alloc);
+    entries.push(entry(alloc, 2, None, Item::SaveAll)?)?;
+    entries.push(entry(alloc, 4, None, loop_of_three()?)?)?;
+    entries.push(entry(alloc, 5, Some(10), Item::Simple(assignment))?)?;
+    entries.push(entry(alloc, 6, None, Item::End)?)?;
+    let mut saved = Names::new(alloc);
+    saved.push(name("K")?)?;
+    let program = program_of(alloc, entries, &saved)?;
+    assert_eq!(rt; program.lines.as_slice(), [2, 4, 5].as_slice());
+    assert!(rt; matches!(program.decls.as_slice(), [Decl::Save(_)]));
+    match program.body.as_slice() {
+        [Stmt::Do(nested)] => {
+            assert_eq!(rt; nested.body.len(), 1);
+            assert!(rt; nested.rejected.as_slice() == saved.as_slice());
+        }
+        _ => assert!(rt; false),
+    }
     Ok(())
 }

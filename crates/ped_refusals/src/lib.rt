@@ -17,5 +17,3 @@ pub use saving::saved_names;
 
 #[cfg(test)]
 mod tests;
-#[cfg(test)]
-mod tests_of_limits;

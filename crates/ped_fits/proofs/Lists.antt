@@ -1,6 +1,6 @@
 -- Lists of expressions by their length, and texts by their last character.
-use Rattle.std.proofs.Common.{◌≡◌, ℕ, suc, ◌≤◌, ◌<◌, Bool, true, false, cond, List, [], ◌∷◌, ◌++◌, length, refl, sym, ap, ◌∙◌, arith, eqb, eqb-true, length-append}
-use Rattle.std.specs.Prelude.{not, ◌||◌, ◌==◌, nat_le}
+use Rattle.std.proofs.Common.{◌≡◌, ℕ, suc, ◌+◌, ◌≤◌, ◌<◌, Bool, true, false, cond, List, [], ◌∷◌, ◌++◌, length, take, refl, sym, ap, ◌∙◌, arith, eqb, eqb-true, length-append}
+use Rattle.std.specs.Prelude.{not, ◌-◌, ◌||◌, ◌==◌, nat_le, Option, Some, None, slice_get}
 use Rattle.std.proofs.lemmas.Bool.{and_parts, and_from, eq-eqb, false_from_ne_true}
 use Rattle.ped_base.specs.Lists.{is_same_text}
 use Rattle.ped_tree.specs.declared.expressions.Intrinsic.TheVariants.{Mod, Abs, Max, Min}
@@ -90,3 +90,37 @@ trimmed_by_last xs c = go (c == 32 || c == 13) refl where
   go : (b : Bool) → (c == 32 || c == 13) ≡ b → is_same_text (trimmed (xs ++ c ∷ [])) (xs ++ c ∷ []) ≡ not b
   go true h = false_from_ne_true _ (shorter xs c h)
   go false h = ap (λ (t : List ℕ). is_same_text t (xs ++ c ∷ [])) (trimmed_same xs c h) ∙ same_itself (xs ++ c ∷ [])
+
+-- a text that ends with a character
+
+abbrev some_of : ℕ → Option ℕ → ℕ
+some_of d None = d
+some_of d (Some x) = x
+
+ends_with : (x : ℕ) (xs : List ℕ) (c : ℕ) → slice_get (x ∷ xs) (length xs) ≡ Some c → (front : List ℕ) × (front ++ c ∷ [] ≡ x ∷ xs)
+ends_with x [] c h = ([], λ i. some_of x (sym h i) ∷ [])
+ends_with x (y ∷ ys) c h = let more = ends_with y ys c h in (x ∷ more.0, ap (λ (t : List ℕ). x ∷ t) more.1)
+
+one_less : (n : ℕ) → suc n - 1 ≡ n
+one_less n = omega arith
+
+pub trimmed_at : (text : List ℕ) (c : ℕ) → slice_get text (length text - 1) ≡ Some c → is_same_text (trimmed text) text ≡ not (c == 32 || c == 13)
+trimmed_at [] c h = absurd cc
+trimmed_at (x ∷ xs) c h =
+    let e = ends_with x xs c (ap (slice_get (x ∷ xs)) (sym (one_less (length xs))) ∙ h) in
+    ap (λ (t : List ℕ). is_same_text (trimmed t) t) (sym e.1) ∙ trimmed_by_last e.0 c
+
+-- a list with one more before it stands at the front
+
+front_of : {A : Type 0} (xs ys : List A) → take (length xs) (xs ++ ys) ≡ xs
+front_of [] ys = refl
+front_of (x ∷ xs) ys = ap (λ (zs : List _). x ∷ zs) (front_of xs ys)
+
+one_more : (n : ℕ) → n + 1 ≡ suc n
+one_more n = omega arith
+
+front_with : {A : Type 0} (x : A) (xs ys : List A) → take (length xs + 1) (x ∷ (xs ++ ys)) ≡ x ∷ xs
+front_with x xs ys = ap (λ n. take n (x ∷ (xs ++ ys))) (one_more (length xs)) ∙ ap (λ (zs : List _). x ∷ zs) (front_of xs ys)
+
+pub front_taken : {A : Type 0} (x : A) (xs zs ys : List A) → zs ≡ xs → take (length xs + 1) (x ∷ (zs ++ ys)) ≡ x ∷ xs
+front_taken x xs zs ys e = ap (λ (us : List _). take (length xs + 1) (x ∷ (us ++ ys))) e ∙ front_with x xs ys

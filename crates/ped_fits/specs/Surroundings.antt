@@ -1,5 +1,5 @@
 -- What the surroundings of the code stand for. Contracts of private functions alone speak of it.
-use Rattle.std.specs.Prelude.{◌≡◌, ℕ, ◌+◌, ◌≤◌, List, [], map, length, Bool, true, false, ◌&&◌}
+use Rattle.std.specs.Prelude.{◌≡◌, ℕ, ◌+◌, ◌≤◌, List, [], map, length, Bool, true, false, ◌&&◌, Option, MatchOption}
 use Rattle.std.specs.List.{list_all, flat_map}
 use Rattle.std.specs.Borrow.{Bor}
 use Rattle.ped_tree.specs.Accesses.{constant_names}
@@ -42,6 +42,10 @@ pub record IsBehind (before : Numbers) (statements loops : ℕ) (n : Numbers) : 
   pub loops_are : n.loops ≡ before.loops + loops
   pub counted : IsCounted n
 
+-- the numbers behind what fits, none where it doesn't fit
+abbrev pub Follows : Bool → Numbers → ℕ → ℕ → Option Numbers → Type 0
+Follows fits before statements loops result = MatchOption result (fits ≡ false) (λ n. (fits ≡ true) × IsBehind before statements loops n)
+
 -- the head of a DO
 abbrev pub head_of : code.Do → Head
 head_of d = head d.variable d.first d.last d.step d.parallel d.private d.rejected
@@ -59,3 +63,13 @@ simple_parts_fit (Comment text) = false
 -- before the first executable statement behind these declarations
 abbrev pub at_first : List Decl → plain.Surroundings
 at_first decls = record { constants = constant_names (map decl_tree decls); variables = []; private = []; depth = 0; statements = 0; loops = 0 }
+
+-- an assignment, PRINT, READ or STOP
+abbrev pub is_simple : StmtTree → Bool
+is_simple (Assign left right) = true
+is_simple (If condition then_part else_part) = false
+is_simple (Do h body) = false
+is_simple (Print items) = true
+is_simple (Read items) = true
+is_simple Stop = true
+is_simple (Comment text) = false

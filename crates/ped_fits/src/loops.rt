@@ -1,18 +1,20 @@
 //! DO statements by themselves: their variable, their bounds, their PRIVATE statement and the names that
 //! directives reject before them (ANSI X3.9-1978, section 11.10).
 
-ghost use Rattle.std.specs.Prelude.{◌≡◌};
+ghost use Rattle.std.specs.Prelude.{◌≡◌, ◌<◌, ◌&&◌, not, nat_le, length};
 ghost use Rattle.ped_tree.specs.Tree as Tree;
-ghost use Rattle.ped_tree.specs.Views.{head, stmt_tree, stmt_trees};
+ghost use Rattle.ped_tree.specs.Printing.{private_text};
+ghost use Rattle.ped_tree.specs.Views.{stmt_tree, stmt_trees};
+ghost use Rattle.ped_grammar.specs.StatementForms.{are_names};
+ghost use Rattle.ped_grammar.specs.ProgramRefusals as Refusals;
 ghost use Rattle.ped_grammar.specs.Fits as Spec;
 ghost use Rattle.ped_fits.specs.Surroundings.{place, head_of};
 
 use crate::expressions::expr_fits;
 use crate::names::{all_names_fit, are_names, meets, name_fits};
-use crate::surroundings::{Numbers, Surroundings, is_private, is_within};
-use ped_limits::{
-    MOST_BLOCKS_NESTED, MOST_CHARACTERS, MOST_LOOPS_NESTED, is_among,
-};
+use crate::surroundings::{Numbers, Surroundings, is_private, is_within, with_variable};
+use ped_base::Name;
+use ped_limits::{MOST_BLOCKS_NESTED, MOST_CHARACTERS, MOST_LOOPS_NESTED, is_among};
 use ped_print::private_length;
 use ped_tree::{Do, Stmt};
 
@@ -36,11 +38,29 @@ pub fn loop_fits(around: &Surroundings, numbers: Numbers, statement: &Stmt, d: &
 
 /// Whether the PRIVATE statement of a DO can be written, where it has one.
 fn private_fits(around: &Surroundings, numbers: Numbers, d: &Do) -> bool
+    requires { length around.now.variables.now < 6 }
     ensures { result ≡ Spec.private_fits (place around.now numbers) (head_of d.now) }
 {
-    let names = d.private.as_slice();
-    names.is_empty()
-        || (are_names(names)
-            && private_length(names) <= MOST_CHARACTERS
-            && !(is_among(&d.variable, names) || meets(names, around.variables)))
+    if d.private.as_slice().is_empty() {
+        return true;
+    }
+    let variables = with_variable(d.variable, around.variables);
+    list_fits(
+        d.private.as_slice(),
+        &variables[..around.variables.len() + 1],
+    )
+}
+
+/// Whether the list of PRIVATE can be written: none of its names is one of these variables.
+fn list_fits(names: &[Name], variables: &[Name]) -> bool
+    ensures { result ≡ (are_names names.now && nat_le (length (private_text names.now)) 1300
+        && not (Refusals.meets names.now variables.now)) }
+{
+    are_names(names) && is_short(names) && !meets(names, variables)
+}
+
+fn is_short(names: &[Name]) -> bool
+    ensures { result ≡ nat_le (length (private_text names.now)) 1300 }
+{
+    private_length(names) <= MOST_CHARACTERS
 }

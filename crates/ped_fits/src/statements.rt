@@ -1,6 +1,6 @@
 //! Executable statements that can be written where they stand, with the statements in their parts.
 
-ghost use Rattle.std.specs.Prelude.{◌≡◌, ◌&&◌, true, false, nat_lt, not, map, MatchOption};
+ghost use Rattle.std.specs.Prelude.{◌≡◌, ◌+◌, ◌<◌, ◌&&◌, true, nat_lt, not, map, length};
 ghost use Rattle.std.specs.List.{flat_map};
 ghost use Rattle.ped_base.specs.Lists.{has_some};
 ghost use Rattle.ped_tree.specs.Numbering.{statement_count, statements_count, loop_count, loops_count};
@@ -8,7 +8,7 @@ ghost use Rattle.ped_tree.specs.Views.{expr_tree, cond_tree, stmt_tree, stmt_tre
 ghost use Rattle.ped_grammar.specs.Contexts.{is_stop};
 ghost use Rattle.ped_grammar.specs.ProgramRefusals as Refusals;
 ghost use Rattle.ped_grammar.specs.Fits as Spec;
-ghost use Rattle.ped_fits.specs.Surroundings.{place, IsAround, IsCounted, IsBehind, simple_parts_fit};
+ghost use Rattle.ped_fits.specs.Surroundings.{place, IsAround, IsCounted, Follows, head_of, is_simple, simple_parts_fit};
 
 use crate::comments::comment_fits;
 use crate::expressions::{cond_fits, expr_fits, items_fit, target_fits, targets_fit};
@@ -16,16 +16,15 @@ use crate::loops::loop_fits;
 use crate::surroundings::{Numbers, Surroundings, is_within, with_private, with_variable};
 use ped_base::Name;
 use ped_limits::{MOST_BLOCKS_NESTED, is_among};
-use ped_tree::{Cond, Expr, Stmt};
+use ped_tree::{Cond, Do, Expr, Stmt};
 
 /// The numbers behind statements that stand one behind the other; none where one of them doesn't fit.
 #[cycle(statements)]
 pub fn statements_fit(around: &Surroundings, numbers: Numbers, all: &[Stmt]) -> Option<Numbers>
     requires around { IsAround around.now }
     requires counted { IsCounted numbers }
-    ensures { MatchOption result (Spec.stmts_fit (place around.now numbers) (stmt_trees all.now) ≡ false)
-        (λ n. (Spec.stmts_fit (place around.now numbers) (stmt_trees all.now) ≡ true)
-        × IsBehind numbers (statements_count (stmt_trees all.now)) (loops_count (stmt_trees all.now)) n) }
+    ensures { Follows (Spec.stmts_fit (place around.now numbers) (stmt_trees all.now))
+        numbers (statements_count (stmt_trees all.now)) (loops_count (stmt_trees all.now)) result }
 {
     let mut next = numbers;
     for statement in all {
@@ -42,17 +41,14 @@ pub fn statements_fit(around: &Surroundings, numbers: Numbers, all: &[Stmt]) -> 
 fn statement_fits(around: &Surroundings, numbers: Numbers, statement: &Stmt) -> Option<Numbers>
     requires around { IsAround around.now }
     requires counted { IsCounted numbers }
-    ensures { MatchOption result (Spec.stmt_fits (place around.now numbers) (stmt_tree statement.now) ≡ false)
-        (λ n. (Spec.stmt_fits (place around.now numbers) (stmt_tree statement.now) ≡ true)
-        × IsBehind numbers (statement_count (stmt_tree statement.now)) (loop_count (stmt_tree statement.now)) n) }
+    ensures { Follows (Spec.stmt_fits (place around.now numbers) (stmt_tree statement.now))
+        numbers (statement_count (stmt_tree statement.now)) (loop_count (stmt_tree statement.now)) result }
 {
     match statement {
-        Stmt::Assign { left: _, right: _ } | Stmt::Print(_) | Stmt::Read(_) | Stmt::Stop => {
-            if simple_fits(around, numbers, statement) {
-                return Some(numbers.behind_statement());
-            }
-            None
-        }
+        Stmt::Assign { left: _, right: _ } => simple_fits(around, numbers, statement),
+        Stmt::Print(_) => simple_fits(around, numbers, statement),
+        Stmt::Read(_) => simple_fits(around, numbers, statement),
+        Stmt::Stop => simple_fits(around, numbers, statement),
         Stmt::If {
             condition,
             then_part,
@@ -74,15 +70,7 @@ fn statement_fits(around: &Surroundings, numbers: Numbers, statement: &Stmt) -> 
             if !loop_fits(around, numbers, statement, d) {
                 return None;
             }
-            let variables = with_variable(d.variable, around.variables);
-            let private = with_private(d.private.as_slice(), around.private);
-            let inner = Surroundings {
-                decls: around.decls,
-                variables: &variables[..around.variables.len() + 1],
-                private: &private[..around.private.len() + 1],
-                depth: around.depth + 1,
-            };
-            statements_fit(&inner, numbers.behind_do(), &d.body)
+            body_fits(around, numbers, d)
         }
         Stmt::Comment(text) => {
             if comment_fits(text.as_slice()) {
@@ -91,6 +79,28 @@ fn statement_fits(around: &Surroundings, numbers: Numbers, statement: &Stmt) -> 
             None
         }
     }
+}
+
+/// The numbers behind the body of a DO that fits by itself; none where the body doesn't fit.
+#[cycle(statements)]
+fn body_fits(around: &Surroundings, numbers: Numbers, d: &Do) -> Option<Numbers>
+    requires around { IsAround around.now }
+    requires counted { IsCounted numbers }
+    requires few { numbers.statements < 4000 }
+    requires loops { length around.now.variables.now < 6 }
+    requires depth { around.now.depth < 100 }
+    ensures { Follows (Spec.stmts_fit (Spec.in_loop (place around.now numbers) (head_of d.now)) (stmt_trees d.now.body.items))
+        numbers (statements_count (stmt_trees d.now.body.items) + 1) (loops_count (stmt_trees d.now.body.items) + 1) result }
+{
+    let variables = with_variable(d.variable, around.variables);
+    let private = with_private(d.private.as_slice(), around.private);
+    let inner = Surroundings {
+        decls: around.decls,
+        variables: &variables[..around.variables.len() + 1],
+        private: &private[..around.private.len() + 1],
+        depth: around.depth + 1,
+    };
+    statements_fit(&inner, numbers.behind_do(), &d.body)
 }
 
 /// Whether an IF can be written where it stands, whatever its parts are.
@@ -103,13 +113,20 @@ fn branch_fits(around: &Surroundings, numbers: Numbers, statement: &Stmt, condit
         && cond_fits(condition)
 }
 
-/// Whether an assignment, PRINT, READ or STOP can be written where it stands.
-fn simple_fits(around: &Surroundings, numbers: Numbers, statement: &Stmt) -> bool
-    ensures { result ≡ (Spec.simple_fits (place around.now numbers) (stmt_tree statement.now) && simple_parts_fit (stmt_tree statement.now)) }
+/// The numbers behind an assignment, PRINT, READ or STOP; none where it doesn't fit.
+fn simple_fits(around: &Surroundings, numbers: Numbers, statement: &Stmt) -> Option<Numbers>
+    requires simple { is_simple (stmt_tree statement.now) ≡ true }
+    requires counted { IsCounted numbers }
+    ensures { Follows (Spec.stmt_fits (place around.now numbers) (stmt_tree statement.now))
+        numbers (statement_count (stmt_tree statement.now)) (loop_count (stmt_tree statement.now)) result }
 {
-    is_within(around, numbers, statement)
+    if is_within(around, numbers, statement)
         && keeps_loops(around, statement)
         && parts_fit(statement)
+    {
+        return Some(numbers.behind_statement());
+    }
+    None
 }
 
 /// Whether an assignment, PRINT, READ or STOP leaves the variables of the loops round it alone, and STOP

@@ -16,6 +16,7 @@ use ped_print::own_length;
 use ped_tree::{Decl, Stmt};
 
 /// What stands round a statement.
+#[derive(Clone, Copy)]
 pub struct Surroundings<'a> {
     /// The declarations of the program, which name its constants.
     pub decls: &'a [Decl],
@@ -79,7 +80,8 @@ pub fn with_variable(first: Name, rest: &[Name]) -> [Name; MOST_LOOPS_NESTED]
     ensures { take (length rest.now + 1) result ≡ first ∷ rest.now }
 {
     let mut names = [first; MOST_LOOPS_NESTED];
-    names[1..rest.len() + 1].copy_from_slice(rest);
+    let all = &mut names[..];
+    all[1..rest.len() + 1].copy_from_slice(rest);
     names
 }
 

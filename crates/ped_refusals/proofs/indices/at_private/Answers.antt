@@ -1,10 +1,9 @@
-use Rattle.std.proofs.Common.{◌≡◌, ap, ◌∙◌}
+use Rattle.std.proofs.Common.{ap, ◌∙◌}
 use Rattle.ped_grammar.specs.Refusal.{earliest}
 use Rattle.ped_grammar.specs.ItemViews.{reading_of}
 use Rattle.ped_grammar.specs.RefusalViews.{found_of}
 use Rattle.ped_refusals.specs.OpenBlocks.{blocks_of}
 use Rattle.ped_refusals.specs.OpenContexts.{context_of}
-use Rattle.ped_refusals.specs.declared.blocks.Block.{Block}
 use Rattle.ped_refusals.proofs.Loops.{at_loops, no_variable, one_variable}
 use Rattle.ped_refusals.proofs.indices.at_private.Goals as goal
 

@@ -1,5 +1,5 @@
 -- Lists of expressions by their length, and texts by their last character.
-use Rattle.std.proofs.Common.{◌≡◌, ℕ, suc, ◌+◌, ◌≤◌, ◌<◌, Bool, true, false, cond, List, [], ◌∷◌, ◌++◌, length, take, refl, sym, ap, ◌∙◌, arith, eqb, eqb-true, length-append}
+use Rattle.std.proofs.Common.{◌≡◌, ℕ, suc, ◌+◌, ◌≤◌, Bool, true, false, cond, List, [], ◌∷◌, ◌++◌, length, take, refl, sym, ap, ◌∙◌, arith, eqb-true, length-append}
 use Rattle.std.specs.Prelude.{not, ◌-◌, ◌||◌, ◌==◌, nat_le, Option, Some, None, slice_get}
 use Rattle.std.proofs.lemmas.Bool.{and_parts, and_from, eq-eqb, false_from_ne_true}
 use Rattle.ped_base.specs.Lists.{is_same_text}

@@ -23,7 +23,10 @@ pub fn expr_fits(e: &Expr) -> bool
         Expr::Int(value) => *value <= GREATEST_LITERAL,
         Expr::Var(name) => name_fits(name),
         Expr::Element(name, subscripts) => {
-            name_fits(name) && is_no_intrinsic(name) && has_expr(subscripts) && exprs_fit(subscripts)
+            name_fits(name)
+                && is_no_intrinsic(name)
+                && has_expr(subscripts)
+                && exprs_fit(subscripts)
         }
         Expr::Neg(a) => expr_fits(a),
         Expr::Add(a, b) => expr_fits(a) && expr_fits(b),

@@ -11,4 +11,8 @@ mod programs;
 mod statements;
 mod surroundings;
 
+pub use ped_round_trip::{fits_where_read, printed_program};
 pub use programs::fits;
+
+#[cfg(test)]
+mod tests;

@@ -86,10 +86,7 @@ pub fn with_variable(first: Name, rest: &[Name]) -> [Name; MOST_LOOPS_NESTED]
 }
 
 /// Private names before those of the loops round their loop; what is behind these is anything.
-pub fn with_private<'a>(
-    first: &'a [Name],
-    rest: &[&'a [Name]],
-) -> [&'a [Name]; MOST_LOOPS_NESTED]
+pub fn with_private<'a>(first: &'a [Name], rest: &[&'a [Name]]) -> [&'a [Name]; MOST_LOOPS_NESTED]
     requires { length rest.now < 6 }
     ensures { all_names (take (length rest.now + 1) result) ≡ first.now ++ all_names rest.now }
 {

@@ -1,5 +1,5 @@
 -- The statements of a printed program are accepted one behind the other.
-use Rattle.std.proofs.Common.{◌≡◌, ℕ, suc, ◌+◌, ◌*◌, ◌<◌, List, [], ◌∷◌, ◌++◌, map, length, None, Bool, true, false, refl, sym, ap, ◌∙◌, append_assoc, subst, arith}
+use Rattle.std.proofs.Common.{◌≡◌, ℕ, suc, ◌+◌, ◌*◌, ◌<◌, List, [], ◌∷◌, ◌++◌, map, length, None, true, false, refl, sym, ap, ◌∙◌, append_assoc, subst, arith}
 use Rattle.std.specs.Prelude.{codes, not, ◌||◌, nat_lt}
 use Rattle.std.proofs.lemmas.Bool.{and_parts}
 use Rattle.ped_base.specs.Lists.{has_some}
@@ -8,14 +8,14 @@ use Rattle.ped_tree.specs.Numbering.{statement_count, statements_count, loop_cou
 use Rattle.ped_tree.specs.Printing.{own_text, private_text}
 use Rattle.ped_grammar.specs.Items.{block_if, else_line, end_if, keeps_private, Entry}
 use Rattle.ped_grammar.specs.BlockForms.{entry, whole_head}
-use Rattle.ped_grammar.specs.Contexts.{OpenLoop, Block, in_then, in_else, in_do, Context, open_loops, open_variables, has_do, blocks_behind, behind}
+use Rattle.ped_grammar.specs.Contexts.{OpenLoop, Block, in_then, in_else, in_do, Context, open_loops, open_variables, has_do, blocks_behind}
 use Rattle.ped_grammar.specs.ProgramRefusals.{is_late_private, meets, assigns_index, private_behind, block_depth, is_too_long}
 use Rattle.ped_grammar.specs.Fits.{Surroundings, moved, in_if, in_loop, stmt_fits, stmts_fit}
 use Rattle.ped_recut.specs.Printed.{a_rejection}
 use Rattle.ped_round_trip.proofs.Pieces.{Piece, bare, label_number, do_piece, continue_piece, private_pieces, rejection_pieces, statement_pieces, statements_pieces, else_pieces, Spot, statement_here, behind_pieces, entry_here, entries_here, behind_both, entries_both}
 use Rattle.ped_round_trip.proofs.Forms.{then_spot, rest_spot, else_spot, do_spot, private_spot, inner_spot, end_spot, rejections_none}
 use Rattle.ped_round_trip.proofs.Trees.{rejections, notes_rejected, only_behind}
-use Rattle.ped_round_trip.proofs.Fits.{simple_parts, BranchFits, if_parts, LoopFits, do_parts, PrivateFits, private_parts}
+use Rattle.ped_round_trip.proofs.Fits.{simple_parts, BranchFits, if_parts, LoopFits, do_parts, private_parts}
 use Rattle.ped_round_trip.proofs.FormsOf.{first_small}
 use Rattle.ped_round_trip.proofs.KeptPrivate.{open_private, kept_never}
 use Rattle.ped_round_trip.proofs.Standing.{Stands, passes_all, undirected, Passed, pass_none, pass_one, pass_both}

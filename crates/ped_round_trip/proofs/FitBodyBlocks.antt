@@ -15,7 +15,7 @@ use Rattle.ped_grammar.specs.Fits.{Surroundings, in_if, stmts_fit}
 use Rattle.ped_round_trip.proofs.Fits.{BranchFits, if_whole}
 use Rattle.ped_round_trip.proofs.FormsFit.{Said, said_fits}
 use Rattle.ped_round_trip.proofs.KeptPrivate.{open_private}
-use Rattle.ped_round_trip.proofs.FitBodyLists.{ListFit, packed_fit, count_of, loops_of, counts_both, loops_both, At, at_same, place, Fitting, fitting_both}
+use Rattle.ped_round_trip.proofs.FitBodyLists.{ListFit, packed_fit, count_of, loops_of, counts_both, loops_both, at_same, place, Fitting, fitting_both}
 use Rattle.ped_round_trip.proofs.FitBodyStatements.{or_left, Passed}
 
 -- the first line of a block IF, or ELSE IF

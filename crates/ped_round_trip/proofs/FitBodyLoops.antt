@@ -1,21 +1,20 @@
 -- A DO at which nothing is refused fits where its body does.
-use Rattle.std.proofs.Common.{◌≡◌, ℕ, ◌+◌, List, [], ◌∷◌, ◌++◌, Bool, true, false, cond, Option, refl, sym, ap, subst, ◌∙◌, arith, append_assoc, append-nil}
-use Rattle.std.specs.Prelude.{IsTrue, nat_lt, nat_le}
+use Rattle.std.proofs.Common.{◌≡◌, ℕ, ◌+◌, List, [], ◌∷◌, ◌++◌, Bool, true, false, cond, Option, refl, sym, ap, subst, ◌∙◌, arith, append_assoc}
+use Rattle.std.specs.Prelude.{IsTrue, nat_le}
 use Rattle.std.specs.List.{list_all}
-use Rattle.std.proofs.lemmas.Bool.{and_from, not_from_false}
-use Rattle.ped_base.specs.Lists.{is_among}
+use Rattle.std.proofs.lemmas.Bool.{and_from}
 use Rattle.ped_tree.specs.Tree.{Head, StmtTree, StmtTrees, Do}
 use Rattle.ped_tree.specs.Views.{pack_stmts}
 use Rattle.ped_grammar.specs.Words.{is_name}
 use Rattle.ped_grammar.specs.Statement.{Statement}
 use Rattle.ped_grammar.specs.Items.{begins_do, keeps_private, Entry}
 use Rattle.ped_grammar.specs.Occurrences.{rejected_names}
-use Rattle.ped_grammar.specs.Contexts.{OpenLoop, Block, in_do, Context, open_loops, open_variables, begun, left_by, with_private, blocks_behind, behind, behind_all}
+use Rattle.ped_grammar.specs.Contexts.{OpenLoop, Block, in_do, Context, open_loops, begun, left_by, with_private, blocks_behind, behind}
 use Rattle.ped_grammar.specs.BlockForms.{a_simple, a_continue, a_logical_if, PrivateForm, no_private, private_list, BodyForm, nothing, and_then, PartForm, a_plain, an_if, a_do, loop, EndingForm, at_plain, with_inner, entry, private_entries, body_entries, part_entries, ending_entries, names_of_private, comments_of_private, whole_head, is_free}
 use Rattle.ped_grammar.specs.BlockForms as Forms
-use Rattle.ped_grammar.specs.ProgramRefusals.{meets, private_behind, block_depth, loop_depth}
-use Rattle.ped_grammar.specs.Fits.{Surroundings, in_loop, private_fits, loop_fits, stmts_fit}
-use Rattle.ped_round_trip.proofs.Fits.{PrivateFits, private_whole, LoopFits, loop_whole}
+use Rattle.ped_grammar.specs.ProgramRefusals.{private_behind, block_depth, loop_depth}
+use Rattle.ped_grammar.specs.Fits.{in_loop, private_fits}
+use Rattle.ped_round_trip.proofs.Fits.{private_whole, LoopFits, loop_whole}
 use Rattle.ped_round_trip.proofs.FormsFit.{Said, said_fits}
 use Rattle.ped_round_trip.proofs.KeptPrivate.{unkept}
 use Rattle.ped_round_trip.proofs.Standing.{loops_open}

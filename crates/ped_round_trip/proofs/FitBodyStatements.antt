@@ -8,7 +8,6 @@ use Rattle.ped_tree.specs.Tree.{CondTree, StmtTree, StmtTrees, Assign, If, Do, P
 use Rattle.ped_tree.specs.Numbering.{statement_count, statements_count, loop_count}
 use Rattle.ped_tree.specs.Accesses.{own_accesses}
 use Rattle.ped_tree.specs.Printing.{own_text}
-use Rattle.ped_grammar.specs.Refusal.{Finding}
 use Rattle.ped_grammar.specs.Statement.{Statement}
 use Rattle.ped_grammar.specs.StatementForms.{assignment, print, read, stop, continue, StatementForm, program, implicit, integer, dimension, parameter, save, save_all, simple, if_simple, if_then, else_if_then, else_alone, end_of_if, do_loop, private, end, statement_item, ReadsItem}
 use Rattle.ped_grammar.specs.Items.{Item, declares, saves_all, does, continues, logical_if, block_if, else_if, else_line, end_if, begins_do, keeps_private, ends_program, says, Entry}
@@ -16,9 +15,9 @@ use Rattle.ped_grammar.specs.Occurrences.{do_variables}
 use Rattle.ped_grammar.specs.Contexts.{OpenLoop, Block, in_do, Context, is_stop, open_loops, open_variables, has_do, left_by_label, left_by, blocks_behind}
 use Rattle.ped_grammar.specs.BlockForms.{PlainForm, a_simple, a_continue, a_logical_if, plain_item, plain_trees, entry, has_label, is_free}
 use Rattle.ped_grammar.specs.ProgramRefusals.{ends_badly, assigned_by, assigned_in, private_in, meets, stops, private_behind, loop_depth, block_depth, is_too_large, are_too_many, is_too_deep, has_many_references, is_too_long, at_statement}
-use Rattle.ped_grammar.specs.Fits.{Surroundings, in_if, stmt_fits, stmts_fit}
+use Rattle.ped_grammar.specs.Fits.{Surroundings, in_if, stmt_fits}
 use Rattle.ped_blocks.proofs.BlocksFound.{none_stands, left_empty, right_empty}
-use Rattle.ped_round_trip.proofs.Fits.{own_fits, is_simple, SimpleFits, simple_whole, BranchFits, if_whole}
+use Rattle.ped_round_trip.proofs.Fits.{is_simple, SimpleFits, simple_whole, BranchFits, if_whole}
 use Rattle.ped_round_trip.proofs.FormsFit.{Said, said_fits}
 use Rattle.ped_round_trip.proofs.KeptPrivate.{kept_in}
 use Rattle.ped_round_trip.proofs.Standing.{loops_open}

@@ -1,22 +1,22 @@
 -- What a text says fits, where no literal in it is too large.
 use Rattle.std.proofs.Common.{◌≡◌, ℕ, suc, List, [], ◌∷◌, ◌++◌, map, length, Bool, true, false, cond, Option, Some, None, refl, sym, ap, subst, ◌∙◌, arith, eqb-true}
-use Rattle.std.specs.Prelude.{codes, ◌&&◌, ◌||◌, ◌==◌, nat_lt, nat_le}
+use Rattle.std.specs.Prelude.{codes, ◌||◌, ◌==◌, nat_lt, nat_le}
 use Rattle.std.specs.List.{list_all, list_any, flat_map}
-use Rattle.std.proofs.lemmas.Bool.{and_parts, and_from, or_parts, cond_both}
+use Rattle.std.proofs.lemmas.Bool.{and_parts, and_from, or_parts}
 use Rattle.std.proofs.lemmas.List.Folds.{list_all-append}
 use Rattle.ped_base.specs.Lists.{has_some}
 use Rattle.ped_tree.specs.declared.expressions.Intrinsic.{Intrinsic}
 use Rattle.ped_tree.specs.declared.expressions.Intrinsic.TheVariants.{Mod, Abs, Max, Min}
-use Rattle.ped_tree.specs.Tree.{ExprTree, ExprTrees, Int, Var, Element, Neg, Add, Sub, Mul, Div, Pow, Call, no_exprs, more_exprs, CondTree, Rel, Not, And, Or, Head, StmtTrees, Assign, Print, Read, no_stmts, more_stmts, BoundTree, DeclaratorTree}
+use Rattle.ped_tree.specs.Tree.{ExprTree, ExprTrees, Int, Var, Element, Neg, Add, Sub, Mul, Div, Pow, Call, no_exprs, more_exprs, CondTree, Rel, Not, And, Or, StmtTrees, Assign, Print, Read, no_stmts, more_stmts, DeclaratorTree}
 use Rattle.ped_tree.specs.Printing.{doubled, constant_text}
-use Rattle.ped_grammar.specs.Words.{is_name, intrinsic_of}
+use Rattle.ped_grammar.specs.Words.{intrinsic_of}
 use Rattle.ped_grammar.specs.Characters.{is_printable}
-use Rattle.ped_grammar.specs.Literals.{has_large_literal, have_large_literal, cond_has_large_literal, item_has_large_literal, head_has_large_literal, stmt_has_large_literal, declarator_has_large_literal, decl_has_large_literal}
+use Rattle.ped_grammar.specs.Literals.{has_large_literal, cond_has_large_literal, item_has_large_literal, head_has_large_literal, declarator_has_large_literal}
 use Rattle.ped_grammar.specs.ExpressionForms.{ExprForm, expr_form_tree, ReferenceForm, scalar, element, reference_form_tree}
 use Rattle.ped_grammar.specs.ConditionForms.{CondForm, cond_form_text, cond_form_tree}
 use Rattle.ped_grammar.specs.Items.{Item, declares, does, logical_if, block_if, else_if, begins_do, keeps_private}
 use Rattle.ped_grammar.specs.StatementForms.{are_names, BoundForm, upper_bound, both_bounds, ArrayForm, an_array, DeclaratorForm, a_scalar, of_array, ConstantForm, a_constant, ItemForm, a_value, a_text, SimpleForm, assignment, print, read, stop, continue, ControlForm, control, StatementForm, program, implicit, integer, dimension, parameter, save, save_all, simple, if_simple, if_then, else_if_then, else_alone, end_of_if, do_loop, private, end, bound_form_tree, array_form_tree, declarator_form_tree, constant_form_tree, item_form_text, item_form_tree, simple_form_text, simple_item, behind_if, step_form_tree, control_form_head, statement_form_text, statement_item, ReadsItem}
-use Rattle.ped_grammar.specs.ProgramRefusals.{is_too_large, has_eight_dimensions}
+use Rattle.ped_grammar.specs.ProgramRefusals.{is_too_large}
 use Rattle.ped_grammar.specs.Fits.{is_no_intrinsic, takes_arguments, has_expr, expr_fits, exprs_fit, target_fits, cond_fits, item_fits, bound_fits, declarator_fits, array_fits, constant_fits, decl_fits}
 use Rattle.ped_expressions.specs.ExpressionReading.{expr_count, takes}
 use Rattle.ped_expressions.proofs.Printed.{Stands, SomeStand, AllStand, expr_stands, reference_stands}

@@ -1,8 +1,8 @@
 -- What fits has a form, without a literal that is too large.
-use Rattle.std.proofs.Common.{◌≡◌, ℕ, suc, ◌≤◌, List, [], ◌∷◌, map, length, Bool, true, false, Option, Some, None, refl, ap, arith, ltb}
-use Rattle.std.specs.Prelude.{codes, ◌&&◌, ◌||◌, nat_lt, nat_le}
+use Rattle.std.proofs.Common.{◌≡◌, ℕ, suc, List, [], ◌∷◌, map, length, Bool, true, false, Option, Some, None, refl, ap, arith}
+use Rattle.std.specs.Prelude.{codes, ◌||◌, nat_lt, nat_le}
 use Rattle.std.specs.List.{list_all, list_any}
-use Rattle.std.proofs.lemmas.Bool.{and_parts, and_from, or_from, le-leb}
+use Rattle.std.proofs.lemmas.Bool.{and_parts, or_from, le-leb}
 use Rattle.ped_base.specs.Lists.{has_some}
 use Rattle.ped_tree.specs.declared.expressions.Intrinsic.{Intrinsic}
 use Rattle.ped_tree.specs.declared.expressions.Intrinsic.TheVariants.{Mod, Abs, Max, Min}
@@ -21,7 +21,7 @@ use Rattle.ped_expressions.specs.ExpressionReading.{expr_count, takes}
 use Rattle.ped_expressions.proofs.Printed.{Stands, SomeStand, AllStand, printed, printed_exprs}
 use Rattle.ped_expressions.proofs.CondPrinted.{CondStands, cond_printed}
 use Rattle.ped_reprint.specs.Printed.{SaysFirstLine, itself, of_block_if, of_do, first_line_item}
-use Rattle.ped_round_trip.proofs.Fits.{head_fits, own_fits}
+use Rattle.ped_round_trip.proofs.Fits.{own_fits}
 
 -- expressions
 

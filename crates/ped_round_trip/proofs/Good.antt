@@ -1,6 +1,6 @@
 -- Each printed piece of a program that fits can be read back.
-use Rattle.std.proofs.Common.{◌≡◌, ℕ, suc, ◌+◌, ◌*◌, ◌<◌, ◌≤◌, List, [], ◌∷◌, ◌++◌, map, length, None, Bool, true, false, refl, sym, ap, ◌∙◌, subst, arith}
-use Rattle.std.specs.Prelude.{codes, ◌&&◌, nat_lt, nat_le}
+use Rattle.std.proofs.Common.{◌≡◌, ℕ, suc, ◌+◌, ◌*◌, ◌<◌, ◌≤◌, List, [], ◌∷◌, ◌++◌, map, length, None, true, false, refl, sym, ap, ◌∙◌, subst, arith}
+use Rattle.std.specs.Prelude.{codes, nat_lt, nat_le}
 use Rattle.std.specs.List.{AllByRecursion, list_all}
 use Rattle.std.proofs.lemmas.Bool.{and_parts}
 use Rattle.ped_base.specs.Letters as Letters
@@ -102,8 +102,7 @@ good_private p h depth (x ∷ xs) same fits =
 -- the first line of a statement
 good_first : (p : Surroundings) (depth before : ℕ) (s : StmtTree) → p.loops ≡ before → HasShortLabel before s → Within p s → own_fits s ≡ true → TextFits depth (own_text before s) × ReadsItem (text_of (own_text before s)) (first_line_item before s)
 good_first p depth before s loops label within own =
-    let said = own_said s own in
-    (
+    let said = own_said s own in (
       own_text_fits before depth s own (subst (λ n. nat_lt 1300 (length (own_text n s)) ≡ false) loops within.short),
       reads (own_text before s) (first_line_item before s) (statement_prints said.text said.item s before said.reads said.small said.says label),
     )
@@ -156,8 +155,7 @@ mutual
   good_else : (p : Surroundings) (depth before : ℕ) (s : StmtTrees) → p.loops ≡ before → p.loops ≤ p.statements → stmts_fit p s ≡ true → AllGood (else_pieces depth before s)
   good_else p depth before no_stmts loops few fits = tt
   good_else p depth before (more_stmts s rest) loops few fits =
-      let f = and_parts (stmt_fits p s) (stmts_fit (moved p (statement_count s) (loop_count s)) rest) fits in
-      (
+      let f = and_parts (stmt_fits p s) (stmts_fit (moved p (statement_count s) (loop_count s)) rest) fits in (
         (tt, else_fits depth, reads (codes "ELSE") else_line words_print.of_else),
         all_joined Good (statement_pieces (suc depth) before s) (statements_pieces (suc depth) (before + loop_count s) rest)
             (good_stmt p (suc depth) before s loops few f.0)

@@ -1,14 +1,14 @@
 -- Each kind of statement of a printed program is accepted where it stands.
-use Rattle.std.proofs.Common.{◌≡◌, ℕ, suc, ◌+◌, ◌*◌, ◌<◌, List, [], ◌∷◌, ◌++◌, map, max, length, Option, Some, None, Bool, true, false, cond, refl, sym, ap, ◌∙◌, append-nil, arith, eqb-true, eq-eqb}
+use Rattle.std.proofs.Common.{◌≡◌, ℕ, suc, ◌+◌, ◌*◌, ◌<◌, List, [], ◌∷◌, ◌++◌, map, max, length, Some, None, Bool, true, false, cond, refl, sym, ap, ◌∙◌, append-nil, arith, eqb-true, eq-eqb}
 use Rattle.std.specs.Prelude.{not, ◌&&◌, ◌||◌, ◌==◌, nat_lt, nat_le}
 use Rattle.ped_base.specs.Lists.{has_some, is_among}
-use Rattle.ped_tree.specs.Tree.{CondTree, Head, StmtTree, StmtTrees, Assign, If, Do, Print, Read, Stop, Comment, no_stmts}
+use Rattle.ped_tree.specs.Tree.{CondTree, Head, StmtTree, StmtTrees, If, Do, no_stmts}
 use Rattle.ped_tree.specs.Numbering.{statement_count}
 use Rattle.ped_tree.specs.Accesses.{own_accesses}
 use Rattle.ped_tree.specs.Printing.{own_text}
 use Rattle.ped_grammar.specs.Items.{Item, does, continues, block_if, else_line, end_if, begins_do, says, Entry}
 use Rattle.ped_grammar.specs.Statement.{Statement}
-use Rattle.ped_grammar.specs.Contexts.{OpenLoop, Block, in_then, in_else, in_do, Context, rank, numbered_in, loops_in, saves_list, saves_without, is_stop, open_loops, open_variables, has_do, left_by_label, with_private, begun, blocks_behind, behind_item}
+use Rattle.ped_grammar.specs.Contexts.{OpenLoop, Block, in_then, in_else, in_do, Context, rank, numbered_in, loops_in, saves_list, saves_without, is_stop, open_loops, open_variables, has_do, left_by_label, begun, blocks_behind, behind_item}
 use Rattle.ped_grammar.specs.Occurrences.{constants_of}
 use Rattle.ped_grammar.specs.BlockForms.{entry, whole_head}
 use Rattle.ped_grammar.specs.ProgramRefusals.{is_out_of_order, lacks_if, is_late_private, breaks_syntax, leaves_open, closed, ends_badly, assigned_by, meets, assigns_index, at_private, private_behind, loop_depth, block_depth, is_too_large, are_too_many, is_too_deep, has_many_references, is_too_long, passes_limit}
@@ -16,8 +16,8 @@ use Rattle.ped_recut.specs.Printed.{PrintedNote, a_rejection}
 use Rattle.ped_recut.specs.Cut.{comments_at, directives_at}
 use Rattle.ped_round_trip.proofs.Pieces.{label_number, Spot, statement_here}
 use Rattle.ped_round_trip.proofs.Trees.{rejections}
-use Rattle.ped_grammar.specs.Fits.{Surroundings, moved, in_if, in_loop, private_fits}
-use Rattle.ped_round_trip.proofs.Fits.{own_fits, SimpleFits, BranchFits, LoopFits}
+use Rattle.ped_grammar.specs.Fits.{Surroundings, moved, in_if, in_loop}
+use Rattle.ped_round_trip.proofs.Fits.{SimpleFits, BranchFits, LoopFits}
 use Rattle.ped_round_trip.proofs.FormsOf.{first_small}
 use Rattle.ped_round_trip.proofs.KeptPrivate.{open_private, kept_never, kept_nowhere}
 use Rattle.ped_round_trip.proofs.Standing.{Stands, early, in_order, still, loops_open, passes_all, undirected, directed, none_closed, Passed, pass_one}

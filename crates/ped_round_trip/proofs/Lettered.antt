@@ -1,5 +1,5 @@
 -- Texts whose characters may all stand outside constants, or whose constants are closed.
-use Rattle.std.proofs.Common.{◌≡◌, ℕ, zero, suc, ◌+◌, ◌*◌, ◌%◌, ◌<◌, inl, inr, Bool, true, false, cond, List, [], ◌∷◌, ◌++◌, map, length, min, refl, sym, ap, ◌∙◌, append_assoc, length-append, eqb, leb, arith}
+use Rattle.std.proofs.Common.{◌≡◌, ℕ, zero, suc, ◌+◌, ◌*◌, ◌%◌, ◌<◌, inl, inr, Bool, true, false, cond, List, [], ◌∷◌, ◌++◌, length, min, refl, sym, ap, ◌∙◌, append_assoc, length-append, eqb, leb, arith}
 use Rattle.std.specs.Prelude.{◌/◌, not, ◌&&◌, ◌||◌, ◌==◌, if◌then◌else◌, nat_lt, codes}
 use Rattle.std.specs.List.{list_all, list_any, flat_map, join_by}
 use Rattle.std.specs.Char.{is_ascii_alphabetic}

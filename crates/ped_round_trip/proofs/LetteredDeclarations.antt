@@ -1,6 +1,6 @@
 -- Printed declarations and PRIVATE statements that fit can be cut into lines and read back.
 use Rattle.std.proofs.Common.{◌≡◌, ℕ, true, false, List, [], ◌∷◌, ◌++◌, length, refl}
-use Rattle.std.specs.Prelude.{codes, ◌&&◌, nat_lt, nat_le}
+use Rattle.std.specs.Prelude.{codes, nat_lt, nat_le}
 use Rattle.std.specs.List.{list_all}
 use Rattle.std.proofs.lemmas.Bool.{cond_both, and_parts}
 use Rattle.ped_base.specs.Lists.{has_some}

@@ -1,7 +1,6 @@
 -- The first printed lines of statements that fit can be cut into lines and read back.
-use Rattle.std.proofs.Common.{◌≡◌, ℕ, ◌+◌, ◌*◌, Bool, true, false, List, [], ◌++◌, length, refl}
-use Rattle.std.specs.Prelude.{codes, ◌&&◌, nat_lt}
-use Rattle.std.specs.List.{list_all}
+use Rattle.std.proofs.Common.{◌≡◌, ℕ, ◌+◌, ◌*◌, Bool, true, false, [], ◌++◌, length, refl}
+use Rattle.std.specs.Prelude.{codes, nat_lt}
 use Rattle.std.proofs.lemmas.Bool.{cond_both, and_parts}
 use Rattle.ped_tree.specs.Tree.{ExprTree, ItemTree, Value, Text, Head, StmtTree, Assign, If, Do, Print, Read, Stop, Comment}
 use Rattle.ped_tree.specs.Printing.{value_text, is_one, item_text, label_text, step_text, do_word, do_text, own_text}

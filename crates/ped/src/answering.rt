@@ -12,8 +12,8 @@ ghost use Rattle.ped.specs.Answer.{Request, request_of, show, inputs_of, IsOneOf
 use crate::panes::panes;
 use crate::refusals::refused_line;
 use ped_base::{Bytes, NoMemory};
-use ped_io::{LoadError, PutFault, Shelf, Sink, SureShelf, SureSink, load, put_all};
 use ped_grammar::Refusal;
+use ped_io::{LoadError, PutFault, Shelf, Sink, SureShelf, SureSink, load, put_all};
 use ped_parse::{ReadRefusal, read};
 use ped_tree::Program;
 use std::alloc::Global;

@@ -8,7 +8,7 @@ ghost use Rattle.ped.specs.Dependences.{ArePossible, edges_by, edges_of, offset_
 
 use crate::small_form::{Small, Subscript};
 use crate::strong::{strong_distance, strong_excludes};
-use ped_base::{NoMemory};
+use ped_base::NoMemory;
 use ped_views::{Direction, LoopRange};
 use std::alloc::Global;
 

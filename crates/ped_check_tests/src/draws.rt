@@ -14,7 +14,10 @@ impl Draws {
 
     /// The next number, below `count`.
     pub fn below(&mut self, count: u32) -> u32 {
-        self.state = self.state.wrapping_mul(6364136223846793005).wrapping_add(1442695040888963407);
+        self.state = self
+            .state
+            .wrapping_mul(6364136223846793005)
+            .wrapping_add(1442695040888963407);
         ((self.state >> 33) as u32) % count
     }
 

@@ -13,7 +13,9 @@ use tally::Tally;
 
 fn main(rt: HostRuntime) -> anyhow::Result<ExitCode> {
     let mut tally = Tally::new();
-    if false { single::compare(&mut tally); }
+    if false {
+        single::compare(&mut tally);
+    }
     println!(rt; "single index: {tally}")?;
     let mut tally = Tally::new();
     many::compare(rt.alloc(), &mut tally, 150)?;

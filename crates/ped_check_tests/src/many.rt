@@ -28,7 +28,13 @@ fn drawn_view(alloc: Global, draws: &mut Draws) -> Result<PairView, AllocError> 
         loops: vec![in alloc; outer, inner]?,
         source_inner: vec![in alloc; drawn_range(draws)]?,
         sink_inner: vec![in alloc; drawn_range(draws)]?,
-        positions: vec![in alloc; Position { usable, source, sink }]?,
+        positions: vec![in alloc;
+            Position {
+                usable,
+                source,
+                sink
+            },
+        ]?,
     })
 }
 
@@ -60,38 +66,86 @@ fn compare_view(alloc: Global, tally: &mut Tally, view: &PairView) -> Result<(),
     Ok(())
 }
 
-fn compare_vectors(alloc: Global, tally: &mut Tally, view: &PairView, outer: Direction) -> Result<(), AllocError> {
+fn compare_vectors(
+    alloc: Global,
+    tally: &mut Tally,
+    view: &PairView,
+    outer: Direction,
+) -> Result<(), AllocError> {
     for inner in DIRECTIONS {
         compare_front(alloc, tally, view, &[outer, inner])?;
     }
     Ok(())
 }
 
-fn compare_front(alloc: Global, tally: &mut Tally, view: &PairView, front: &[Direction]) -> Result<(), AllocError> {
+fn compare_front(
+    alloc: Global,
+    tally: &mut Tally,
+    view: &PairView,
+    front: &[Direction],
+) -> Result<(), AllocError> {
     let position = &view.positions[0];
     let beyond = is_beyond(alloc, view, position, front)?;
     tally.note(banerjee_excludes(view, 0, front), beyond);
     tally.note(may_refine(view, front), !(position.usable && beyond));
-    tally.note(gcd_excludes(position, front), has_no_solution(position, front));
+    tally.note(
+        gcd_excludes(position, front),
+        has_no_solution(position, front),
+    );
     Ok(())
 }
 
 /// Whether no point makes the difference at most zero, or none makes it at least zero.
-fn is_beyond(alloc: Global, view: &PairView, position: &Position, front: &[Direction]) -> Result<bool, AllocError> {
+fn is_beyond(
+    alloc: Global,
+    view: &PairView,
+    position: &Position,
+    front: &[Direction],
+) -> Result<bool, AllocError> {
     let source = &position.source;
     let sink = &position.sink;
-    let outer = common_values(alloc, &view.loops[0], front.get(0).copied(), source.common[0], sink.common[0])?;
-    let inner = common_values(alloc, &view.loops[1], front.get(1).copied(), source.common[1], sink.common[1])?;
+    let outer = common_values(
+        alloc,
+        &view.loops[0],
+        front.get(0).copied(),
+        source.common[0],
+        sink.common[0],
+    )?;
+    let inner = common_values(
+        alloc,
+        &view.loops[1],
+        front.get(1).copied(),
+        source.common[1],
+        sink.common[1],
+    )?;
     let from_source = inner_values(alloc, &view.source_inner[0], source.inner[0])?;
     let from_sink = inner_values(alloc, &view.sink_inner[0], sink.inner[0].wrapping_neg())?;
-    let parts = [outer.as_slice(), inner.as_slice(), from_source.as_slice(), from_sink.as_slice()];
-    let mut seen = Seen { low: false, high: false };
-    note_sums(&parts, source.constant.wrapping_sub(sink.constant), &mut seen);
+    let parts = [
+        outer.as_slice(),
+        inner.as_slice(),
+        from_source.as_slice(),
+        from_sink.as_slice(),
+    ];
+    let mut seen = Seen {
+        low: false,
+        high: false,
+    };
+    note_sums(
+        &parts,
+        source.constant.wrapping_sub(sink.constant),
+        &mut seen,
+    );
     Ok(!(seen.low && seen.high))
 }
 
 /// The values of `a * i - b * j` over the index values that stand so; 0 alone where the index doesn't occur.
-fn common_values(alloc: Global, range: &LoopRange, direction: Option<Direction>, a: i64, b: i64) -> Result<Vec<i64>, AllocError> {
+fn common_values(
+    alloc: Global,
+    range: &LoopRange,
+    direction: Option<Direction>,
+    a: i64,
+    b: i64,
+) -> Result<Vec<i64>, AllocError> {
     let mut values = Vec::new(alloc);
     if a == 0 && b == 0 {
         values.push(0)?;
@@ -135,7 +189,10 @@ fn has_no_solution(position: &Position, front: &[Direction]) -> bool {
     let sink = &position.sink;
     // all sums reachable within a window, by counting
     let mut g = [false; 201];
-    let start = source.constant.wrapping_sub(sink.constant).wrapping_add(100);
+    let start = source
+        .constant
+        .wrapping_sub(sink.constant)
+        .wrapping_add(100);
     g[start as usize] = true;
     let mut coefficients = [0i64; 6];
     let mut k = 0;

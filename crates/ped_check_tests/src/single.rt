@@ -70,7 +70,13 @@ fn compare_directions(tally: &mut Tally, range: &LoopRange, a: i8, c: i8) {
 }
 
 fn compare_forms(tally: &mut Tally, range: &LoopRange, a: i8, c: i8, direction: Direction) {
-    let of = |b: i8, a: i8| Equation { a, b, c, range, direction };
+    let of = |b: i8, a: i8| Equation {
+        a,
+        b,
+        c,
+        range,
+        direction,
+    };
     let n = i64::from(c);
     let w = i64::from(a);
     if a == 0 {
@@ -80,8 +86,14 @@ fn compare_forms(tally: &mut Tally, range: &LoopRange, a: i8, c: i8, direction: 
             strong_excludes(w, w, n, 0, range, direction),
             !meets(&of(a, a), range.steady),
         );
-        tally.note(weak_zero_excludes(w, 0, n, 0, range, direction), !meets(&of(0, a), false));
-        tally.note(weak_zero_excludes(0, w, n, 0, range, direction), !meets(&of(a, 0), false));
+        tally.note(
+            weak_zero_excludes(w, 0, n, 0, range, direction),
+            !meets(&of(0, a), false),
+        );
+        tally.note(
+            weak_zero_excludes(0, w, n, 0, range, direction),
+            !meets(&of(a, 0), false),
+        );
         tally.note(
             weak_crossing_excludes(w, w.wrapping_neg(), n, 0, range, direction),
             !meets(&of(a.wrapping_neg(), a), false),
@@ -101,7 +113,10 @@ fn meets(equation: &Equation, in_step: bool) -> bool {
 
 fn meets_at(equation: &Equation, in_step: bool, i: i64) -> bool {
     for j in equation.range.lo..equation.range.hi.wrapping_add(1) {
-        if stands(equation, i, j) && is_equal(equation, i, j) && (!in_step || is_in_step(equation, i, j)) {
+        if stands(equation, i, j)
+            && is_equal(equation, i, j)
+            && (!in_step || is_in_step(equation, i, j))
+        {
             return true;
         }
     }
@@ -109,7 +124,9 @@ fn meets_at(equation: &Equation, in_step: bool, i: i64) -> bool {
 }
 
 fn is_equal(equation: &Equation, i: i64, j: i64) -> bool {
-    let source = i64::from(equation.a).wrapping_mul(i).wrapping_add(i64::from(equation.c));
+    let source = i64::from(equation.a)
+        .wrapping_mul(i)
+        .wrapping_add(i64::from(equation.c));
     source == i64::from(equation.b).wrapping_mul(j)
 }
 
@@ -119,7 +136,11 @@ fn is_in_step(equation: &Equation, i: i64, j: i64) -> bool {
 
 /// Whether i comes before, with or after j in the order of iterations.
 fn stands(equation: &Equation, i: i64, j: i64) -> bool {
-    let (first, second) = if equation.range.step > 0 { (i, j) } else { (j, i) };
+    let (first, second) = if equation.range.step > 0 {
+        (i, j)
+    } else {
+        (j, i)
+    };
     match equation.direction {
         Direction::Before => first < second,
         Direction::Same => first == second,

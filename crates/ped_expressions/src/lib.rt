@@ -20,8 +20,8 @@ pub use laws::{
 pub use literals::{cond_has_large_literal, has_large_literal};
 pub use readings::{Failure, Reading};
 pub use scanning::{
-    after, begins_with_digit, begins_with_letter, intrinsic_of, literal_value, name_of, split_digits,
-    split_word,
+    after, begins_with_digit, begins_with_letter, intrinsic_of, literal_value, name_of,
+    split_digits, split_word,
 };
 
 #[cfg(test)]

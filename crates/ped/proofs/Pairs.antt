@@ -44,7 +44,7 @@ reference_of small number writes s = record {
 }
 
 -- a subscript reads no variable but the DO variable, which is no reference
-pub nothing_read : (v : List ℕ) (s : Subscript) → expr_reads (v ∷ []) (subscript_tree v s) ≡ []
+pub nothing_read : (v : List ℕ) (s : Subscript) → expr_reads [] (v ∷ []) (subscript_tree v s) ≡ []
 nothing_read v Plain = rw (same_refl v) refl
 nothing_read v (Plus n) = rw (same_refl v) refl
 nothing_read v (Minus n) = rw (same_refl v) refl
@@ -55,7 +55,7 @@ references_are small =
     let v = small.variable in
     let all : List Access → List Access → List Reference = λ (source target : List Access). (numbered_accesses 2 1 (loop_of small ∷ [])
     ((((source ++ []) ++ read_of small.array (subscript_tree v small.source ∷ []) ∷ []) ++ []) ++ ((target ++ []) ++ write_of small.array (subscript_tree v small.target ∷ []) ∷ [])) ++ []) ++ [] in
-    ap (λ (x : List Access). all x (expr_reads (v ∷ []) (subscript_tree v small.target))) (nothing_read v small.source)
+    ap (λ (x : List Access). all x (expr_reads [] (v ∷ []) (subscript_tree v small.target))) (nothing_read v small.source)
     ∙ ap (λ (x : List Access). all [] x) (nothing_read v small.target)
 
 -- the read and the write, the write and the read, and the write with itself are the pairs

@@ -196,6 +196,7 @@ function joined(kind,    i, part, whole) {
 function end_case(    kind, i) {
     if (section == "") return
     if (answers == "") fail("the case before has no answer")
+    if (("data" in pieces) && !("script" in pieces) && !("words" in pieces)) fail("the case before has data without a script")
     if ("wanted.output" in pieces ? answers ~ /\n./ : ("words" in pieces || "script" in pieces))
         fail("the case before has its whole output as its only answer, or none")
     split("", text)

@@ -1,4 +1,0 @@
-mod Bezout
-mod Corners
-mod Extremal
-mod InOneLoop

@@ -9,7 +9,7 @@ use Rattle.ped_grammar.specs.Statement.{Statement, Statements}
 use Rattle.ped_grammar.specs.Items.{Item, declares, saves_all, does, continues, logical_if, block_if, else_if, else_line, end_if, begins_do, keeps_private, ends_program, Reading, says, outside_profile, no_form, Entry}
 use Rattle.ped_grammar.specs.Occurrences.{saved_names}
 use Rattle.ped_grammar.specs.Contexts.{Block, Context, at_start, rank, is_do, left_by, blocks_behind, behind_item, behind_reading, behind, behind_all}
-use Rattle.ped_grammar.specs.BlockForms.{BodyForm, nothing, entry, body_entries, body_fits}
+use Rattle.ped_grammar.specs.BlockForms.{BodyForm, nothing, entry, body_entries, body_keeps_labels}
 use Rattle.ped_grammar.specs.ProgramForms.{DeclForm, a_declaration, a_save_of_all, ProgramForm, decl_entry, program_entries}
 use Rattle.ped_grammar.specs.ProgramRefusals.{where_it_says, is_left_out, is_out_of_order, lacks_if, is_late_private, saves_again, is_misplaced, is_behind_end, breaks_syntax, leaves_open, ends_badly, at_statement, at_statements, at_end, program_refusals}
 use Rattle.ped_grammar.specs.Grouping.{statements_of}
@@ -110,9 +110,9 @@ behind_end saved c (x ∷ rest) e h =
 
 -- the executable statements from here on, with END
 abbrev Rest : List Part → BodyForm → List Entry → Type 0
-Rest ps b rest = (d : BodyForm) × (s : Statement) × (body_entries d ++ entry s ends_program ∷ [] ≡ stack_entries ps ++ (body_entries b ++ rest)) × IsTrue (body_fits [] d)
+Rest ps b rest = (d : BodyForm) × (s : Statement) × (body_entries d ++ entry s ends_program ∷ [] ≡ stack_entries ps ++ (body_entries b ++ rest)) × IsTrue (body_keeps_labels [] d)
 
-at_end_statement : (ps : List Part) (b : BodyForm) (e : Entry) (s : Statement) (rest : List Entry) → has_some (around ps) ≡ false → IsTrue (body_fits (labels (around ps)) b) → e ≡ entry s ends_program → rest ≡ [] → Rest ps b (e ∷ rest)
+at_end_statement : (ps : List Part) (b : BodyForm) (e : Entry) (s : Statement) (rest : List Entry) → has_some (around ps) ≡ false → IsTrue (body_keeps_labels (labels (around ps)) b) → e ≡ entry s ends_program → rest ≡ [] → Rest ps b (e ∷ rest)
 at_end_statement [] b e s rest h g is none = (b, s, (λ i. body_entries b ++ sym is i ∷ sym none i), g)
 at_end_statement (p ∷ ps) b e s rest h g is none = absurd cc
 
@@ -128,8 +128,8 @@ rest_along ps qs b d rest more q e = (q.0, q.1, q.2 ∙ e, q.3)
 
 -- an executable statement, or END
 body_next : (saved : List (List ℕ)) (e : Entry) (rest : List Entry) (c : Context) (ps : List Part) (b : BodyForm) (i : Item) → e.reading ≡ says i → (rank i ≡ 4) ⊎ (i ≡ ends_program)
-    → around ps ≡ c.blocks → StackFits ps → IsTrue (body_fits (labels (around ps)) b) → (c.behind_do ≡ true → Fresh ps b) → IsAccepted c e → at_statements saved (behind c e) rest ≡ []
-    → ((qs : List Part) (d : BodyForm) → around qs ≡ blocks_behind c.behind_do e.statement i c.blocks → StackFits qs → IsTrue (body_fits (labels (around qs)) d) → (is_do i ≡ true → Fresh qs d) → rank i ≡ 4 → Rest qs d rest)
+    → around ps ≡ c.blocks → StackFits ps → IsTrue (body_keeps_labels (labels (around ps)) b) → (c.behind_do ≡ true → Fresh ps b) → IsAccepted c e → at_statements saved (behind c e) rest ≡ []
+    → ((qs : List Part) (d : BodyForm) → around qs ≡ blocks_behind c.behind_do e.statement i c.blocks → StackFits qs → IsTrue (body_keeps_labels (labels (around qs)) d) → (is_do i ≡ true → Fresh qs d) → rank i ≡ 4 → Rest qs d rest)
     → Rest ps b (e ∷ rest)
 body_next saved e rest c ps b i reading (inl r) blocks f g new ok h again =
     let s = e.statement in
@@ -183,7 +183,7 @@ phase_of : (c : Context) (label : Option ℕ) (i : Item) → nat_le c.phase 4 �
 phase_of c label i h r = grind arith
 
 -- the executable statements up to END
-body_found : (saved : List (List ℕ)) (rest : List Entry) (c : Context) (ps : List Part) (b : BodyForm) → around ps ≡ c.blocks → StackFits ps → IsTrue (body_fits (labels (around ps)) b) → (c.behind_do ≡ true → Fresh ps b) → c.phase ≡ 4
+body_found : (saved : List (List ℕ)) (rest : List Entry) (c : Context) (ps : List Part) (b : BodyForm) → around ps ≡ c.blocks → StackFits ps → IsTrue (body_keeps_labels (labels (around ps)) b) → (c.behind_do ≡ true → Fresh ps b) → c.phase ≡ 4
     → at_statements saved c rest ≡ [] → is_behind_end (behind_all c rest) ≡ true → Rest ps b rest
 body_found saved [] c ps b blocks f g new phase h k = absurd (let y : nat_le 5 4 ≡ true = subst (λ (n : ℕ). nat_le 5 n ≡ true) phase k in cc)
 body_found saved (e ∷ rest) c ps b blocks f g new phase h k =
@@ -195,7 +195,7 @@ body_found saved (e ∷ rest) c ps b blocks f g new phase h k =
     let placed = is_placed c i (subst (λ (r : Reading). breaks_syntax c r ≡ false) what.1 ok.placed) in
     let h2 : at_statements saved (behind_item c s i) rest ≡ [] = subst (λ (r : Reading). at_statements saved (behind_reading c s r) rest ≡ []) what.1 h1 in
     let k2 : is_behind_end (behind_all (behind_item c s i) rest) ≡ true = subst (λ (r : Reading). is_behind_end (behind_all (behind_reading c s r) rest) ≡ true) what.1 k in
-    let again = λ (qs : List Part) (d : BodyForm) (t : around qs ≡ blocks_behind c.behind_do s i c.blocks) (u : StackFits qs) (v : IsTrue (body_fits (labels (around qs)) d)) (w : is_do i ≡ true → Fresh qs d) (r : rank i ≡ 4).
+    let again = λ (qs : List Part) (d : BodyForm) (t : around qs ≡ blocks_behind c.behind_do s i c.blocks) (u : StackFits qs) (v : IsTrue (body_keeps_labels (labels (around qs)) d)) (w : is_do i ≡ true → Fresh qs d) (r : rank i ≡ 4).
     body_found saved rest (behind_item c s i) qs d t u v w ((λ j. max (phase j) (r j)) ∙ refl) h2 k2 in
     let go : Kind s i → Rest ps b (e ∷ rest) = λ z. elim z as (λ z. Rest ps b (e ∷ rest)) [
       | declared form is early late quiet keeps ↦ absurd (let y : ◌≡◌ {A = Bool} true false = sym late ∙ ap (λ (n : ℕ). is_out_of_order n (rank i)) (sym phase) ∙ placed.ordered in cc)
@@ -205,7 +205,7 @@ body_found saved (e ∷ rest) c ps b blocks f g new phase h k =
 
 -- a form of the statements
 abbrev pub HasForm : List Entry → Type 0
-HasForm es = (f : ProgramForm) × (program_entries f ≡ es) × IsTrue (body_fits [] f.body)
+HasForm es = (f : ProgramForm) × (program_entries f ≡ es) × IsTrue (body_keeps_labels [] f.body)
 
 with_body : (ds : List DeclForm) (rest : List Entry) → Rest [] nothing rest → HasForm (map decl_entry ds ++ rest)
 with_body ds rest q =
@@ -241,7 +241,7 @@ decls_found saved (e ∷ rest) c ds blocks quiet phase h k =
     let h2 : at_statements saved (behind_item c s i) rest ≡ [] = subst (λ (r : Reading). at_statements saved (behind_reading c s r) rest ≡ []) what.1 h1 in
     let k2 : is_behind_end (behind_all (behind_item c s i) rest) ≡ true = subst (λ (r : Reading). is_behind_end (behind_all (behind_reading c s r) rest) ≡ true) what.1 k in
     let new : c.behind_do ≡ true → Fresh [] nothing = λ y. absurd (true_false c.behind_do quiet y) in
-    let again = λ (qs : List Part) (d : BodyForm) (t : around qs ≡ blocks_behind c.behind_do s i c.blocks) (u : StackFits qs) (v : IsTrue (body_fits (labels (around qs)) d)) (w : is_do i ≡ true → Fresh qs d) (r : rank i ≡ 4).
+    let again = λ (qs : List Part) (d : BodyForm) (t : around qs ≡ blocks_behind c.behind_do s i c.blocks) (u : StackFits qs) (v : IsTrue (body_keeps_labels (labels (around qs)) d)) (w : is_do i ≡ true → Fresh qs d) (r : rank i ≡ 4).
     body_found saved rest (behind_item c s i) qs d t u v w (first_phase c.phase (rank i) phase r) h2 k2 in
     let go : Kind s i → HasForm (map decl_entry ds ++ e ∷ rest) = λ z. elim z as (λ z. HasForm (map decl_entry ds ++ e ∷ rest)) [
       | declared form same early late no_do keeps ↦

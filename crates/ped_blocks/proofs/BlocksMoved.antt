@@ -8,7 +8,7 @@ use Rattle.ped_tree.specs.Tree.{CondTree, Head, Program, Implicit, Integer, Dime
 use Rattle.ped_grammar.specs.Statement.{Statement}
 use Rattle.ped_grammar.specs.Items.{Item, declares, saves_all, does, continues, logical_if, block_if, else_if, else_line, end_if, begins_do, keeps_private, ends_program, says, Entry}
 use Rattle.ped_grammar.specs.Contexts.{OpenLoop, Block, in_then, in_else, in_do, rank, is_do, may_end, has_do, left_by, left_by_label, blocks_behind}
-use Rattle.ped_grammar.specs.BlockForms.{PlainForm, a_simple, a_continue, a_logical_if, PrivateForm, no_private, private_list, BodyForm, nothing, and_then, PartForm, a_plain, an_if, a_do, RestForm, ends_if, has_else, has_else_if, LoopForm, loop, at_plain, with_inner, plain_item, entry, names_of_private, private_entries, body_entries, part_entries, rest_entries, loop_entries, loop_label, has_label, is_free, private_fits, body_fits, part_fits, rest_fits, loop_fits, ending_fits}
+use Rattle.ped_grammar.specs.BlockForms.{PlainForm, a_simple, a_continue, a_logical_if, PrivateForm, no_private, private_list, BodyForm, nothing, and_then, PartForm, a_plain, an_if, a_do, RestForm, ends_if, has_else, has_else_if, LoopForm, loop, at_plain, with_inner, plain_item, entry, names_of_private, private_entries, body_entries, part_entries, rest_entries, loop_entries, loop_label, has_label, is_free, private_keeps_labels, body_keeps_labels, part_keeps_labels, rest_keeps_labels, loop_keeps_labels, ending_keeps_labels}
 use Rattle.ped_grammar.specs.ProgramRefusals.{lacks_if, is_late_private, leaves_open, closed, ends_badly}
 
 -- a THEN part that an ELSE IF with its condition has ended
@@ -66,12 +66,12 @@ stack_entries (p ∷ ps) = stack_entries ps ++ begun_entries p
 
 abbrev pub ArmsFit : List ℕ → List OpenArm → Type 0
 ArmsFit ls [] = Unit {0}
-ArmsFit ls (a ∷ arms) = ArmsFit ls arms × IsTrue (body_fits ls a.part) × IsTrue (is_free ls a.statement)
+ArmsFit ls (a ∷ arms) = ArmsFit ls arms × IsTrue (body_keeps_labels ls a.part) × IsTrue (is_free ls a.statement)
 
 abbrev pub PartFits : List ℕ → Part → Type 0
-PartFits ls (p_then b s d arms) = IsTrue (body_fits ls b) × IsTrue (is_free ls s) × ArmsFit ls arms
-PartFits ls (p_else b s d arms t e) = IsTrue (body_fits ls b) × IsTrue (is_free ls s) × ArmsFit ls arms × IsTrue (body_fits ls t) × IsTrue (is_free ls e)
-PartFits ls (p_do b s l h p) = IsTrue (body_fits ls b) × IsTrue (is_free ls s) × IsTrue (private_fits (l ∷ ls) p)
+PartFits ls (p_then b s d arms) = IsTrue (body_keeps_labels ls b) × IsTrue (is_free ls s) × ArmsFit ls arms
+PartFits ls (p_else b s d arms t e) = IsTrue (body_keeps_labels ls b) × IsTrue (is_free ls s) × ArmsFit ls arms × IsTrue (body_keeps_labels ls t) × IsTrue (is_free ls e)
+PartFits ls (p_do b s l h p) = IsTrue (body_keeps_labels ls b) × IsTrue (is_free ls s) × IsTrue (private_keeps_labels (l ∷ ls) p)
 
 abbrev pub StackFits : List Part → Type 0
 StackFits [] = Unit {0}
@@ -93,7 +93,7 @@ pub record Moved (c : List Block) (fresh : Bool) (es : List Entry) : Type 0 wher
   pub b : BodyForm
   pub blocks_are : around ps ≡ c
   pub fits : StackFits ps
-  pub current_fits : IsTrue (body_fits (labels (around ps)) b)
+  pub current_fits : IsTrue (body_keeps_labels (labels (around ps)) b)
   pub new : fresh ≡ true → Fresh ps b
   pub written : stack_entries ps ++ body_entries b ≡ es
 
@@ -110,12 +110,12 @@ if_entries : (s : Statement) (d : CondTree) (arms : List OpenArm) (b : BodyForm)
 if_entries s d [] b r = refl
 if_entries s d (a ∷ arms) b r = if_entries s d arms a.part (has_else_if a.statement a.condition b r) ∙ simp append_assoc
 
-if_fits : (ls : List ℕ) (s : Statement) (d : CondTree) (arms : List OpenArm) (b : BodyForm) (r : RestForm) → IsTrue (is_free ls s) → ArmsFit ls arms → IsTrue (body_fits ls b) → IsTrue (rest_fits ls r)
-    → IsTrue (part_fits ls (whole_if s d arms b r))
-if_fits ls s d [] b r p q h k = true_and (is_free ls s && body_fits ls b) (rest_fits ls r) (true_and (is_free ls s) (body_fits ls b) p h) k
+if_fits : (ls : List ℕ) (s : Statement) (d : CondTree) (arms : List OpenArm) (b : BodyForm) (r : RestForm) → IsTrue (is_free ls s) → ArmsFit ls arms → IsTrue (body_keeps_labels ls b) → IsTrue (rest_keeps_labels ls r)
+    → IsTrue (part_keeps_labels ls (whole_if s d arms b r))
+if_fits ls s d [] b r p q h k = true_and (is_free ls s && body_keeps_labels ls b) (rest_keeps_labels ls r) (true_and (is_free ls s) (body_keeps_labels ls b) p h) k
 if_fits ls s d (a ∷ arms) b r p q h k =
     if_fits ls s d arms a.part (has_else_if a.statement a.condition b r) p q.0 q.1
-    (true_and (is_free ls a.statement && body_fits ls b) (rest_fits ls r) (true_and (is_free ls a.statement) (body_fits ls b) q.2 h) k)
+    (true_and (is_free ls a.statement && body_keeps_labels ls b) (rest_keeps_labels ls r) (true_and (is_free ls a.statement) (body_keeps_labels ls b) q.2 h) k)
 
 turned : (a b : ℕ) → eqb a b ≡ eqb b a
 turned a b = grind arith
@@ -211,20 +211,20 @@ not_new e = absurd cc
 carried : {c d : List Block} {es fs : List Entry} → Moved c false es → c ≡ d → es ≡ fs → Moved d false fs
 carried w p q = record { ps = w.ps; b = w.b; blocks_are = w.blocks_are ∙ p; fits = w.fits; current_fits = w.current_fits; new = not_new; written = w.written ∙ q }
 
-inner_fits : (c : List Block) (l : ℕ) (d : LoopForm) → loop_label d ≡ l → has_do l c ≡ false → IsTrue (loop_fits (labels c) d) → IsTrue (part_fits (labels c) (a_do d))
+inner_fits : (c : List Block) (l : ℕ) (d : LoopForm) → loop_label d ≡ l → has_do l c ≡ false → IsTrue (loop_keeps_labels (labels c) d) → IsTrue (part_keeps_labels (labels c) (a_do d))
 inner_fits c l d e h k =
-    true_and (not (list_any (λ m. m == loop_label d) (labels c))) (loop_fits (labels c) d) (ap not (open_label (loop_label d) c ∙ ap (λ (x : ℕ). has_do x c) e ∙ h)) k
+    true_and (not (list_any (λ m. m == loop_label d) (labels c))) (loop_keeps_labels (labels c) d) (ap not (open_label (loop_label d) c ∙ ap (λ (x : ℕ). has_do x c) e ∙ h)) k
 
-shut : (ps : List Part) (l : ℕ) (b : BodyForm) (d : LoopForm) → loop_label d ≡ l → StackFits ps → IsTrue (body_fits (labels (around ps)) b) → IsTrue (loop_fits (labels (around ps)) d) → has_do l (closed l (around ps)) ≡ false
+shut : (ps : List Part) (l : ℕ) (b : BodyForm) (d : LoopForm) → loop_label d ≡ l → StackFits ps → IsTrue (body_keeps_labels (labels (around ps)) b) → IsTrue (loop_keeps_labels (labels (around ps)) d) → has_do l (closed l (around ps)) ≡ false
     → Moved (closed l (around ps)) false (stack_entries ps ++ (body_entries b ++ loop_entries d))
 shut [] l b d e s f g h =
-    record { ps = []; b = and_then b (a_do d); blocks_are = refl; fits = tt; current_fits = true_and (body_fits [] b) (part_fits [] (a_do d)) f (inner_fits [] l d e h g); new = not_new; written = refl }
+    record { ps = []; b = and_then b (a_do d); blocks_are = refl; fits = tt; current_fits = true_and (body_keeps_labels [] b) (part_keeps_labels [] (a_do d)) f (inner_fits [] l d e h g); new = not_new; written = refl }
 shut (p_then a q k arms ∷ ps) l b d e s f g h =
     let c = around (p_then a q k arms ∷ ps) in
-    record { ps = p_then a q k arms ∷ ps; b = and_then b (a_do d); blocks_are = refl; fits = s; current_fits = true_and (body_fits (labels c) b) (part_fits (labels c) (a_do d)) f (inner_fits c l d e h g); new = not_new; written = refl }
+    record { ps = p_then a q k arms ∷ ps; b = and_then b (a_do d); blocks_are = refl; fits = s; current_fits = true_and (body_keeps_labels (labels c) b) (part_keeps_labels (labels c) (a_do d)) f (inner_fits c l d e h g); new = not_new; written = refl }
 shut (p_else a q k arms t o ∷ ps) l b d e s f g h =
     let c = around (p_else a q k arms t o ∷ ps) in
-    record { ps = p_else a q k arms t o ∷ ps; b = and_then b (a_do d); blocks_are = refl; fits = s; current_fits = true_and (body_fits (labels c) b) (part_fits (labels c) (a_do d)) f (inner_fits c l d e h g); new = not_new; written = refl }
+    record { ps = p_else a q k arms t o ∷ ps; b = and_then b (a_do d); blocks_are = refl; fits = s; current_fits = true_and (body_keeps_labels (labels c) b) (part_keeps_labels (labels c) (a_do d)) f (inner_fits c l d e h g); new = not_new; written = refl }
 shut (p_do a q m head p ∷ ps) l b d e s f g h =
     let c = around (p_do a q m head p ∷ ps) in
     let all = stack_entries (p_do a q m head p ∷ ps) ++ (body_entries b ++ loop_entries d) in
@@ -232,24 +232,24 @@ shut (p_do a q m head p ∷ ps) l b d e s f g h =
       | true ↦ λ i r.
           let same : m ≡ l = eqb-true m l i in
           let ls = labels (around ps) in
-          let ending = true_and (loop_label d == m) (loop_fits (m ∷ ls) d) (eq-eqb (loop_label d) m (e ∙ sym same)) g in
-          let fits = true_and (is_free ls q && private_fits (m ∷ ls) p && body_fits (m ∷ ls) b) (ending_fits (m ∷ ls) m (with_inner d))
-          (true_and (is_free ls q && private_fits (m ∷ ls) p) (body_fits (m ∷ ls) b) (true_and (is_free ls q) (private_fits (m ∷ ls) p) s.1.1 s.1.2) f) ending in
+          let ending = true_and (loop_label d == m) (loop_keeps_labels (m ∷ ls) d) (eq-eqb (loop_label d) m (e ∙ sym same)) g in
+          let fits = true_and (is_free ls q && private_keeps_labels (m ∷ ls) p && body_keeps_labels (m ∷ ls) b) (ending_keeps_labels (m ∷ ls) m (with_inner d))
+          (true_and (is_free ls q && private_keeps_labels (m ∷ ls) p) (body_keeps_labels (m ∷ ls) b) (true_and (is_free ls q) (private_keeps_labels (m ∷ ls) p) s.1.1 s.1.2) f) ending in
           let lines : stack_entries ps ++ (body_entries a ++ entry q (begins_do m head) ∷ (private_entries p ++ body_entries b ++ loop_entries d)) ≡ all = simp append_assoc in
           carried (shut ps l a (loop q m head p b (with_inner d)) same s.0 s.1.0 fits r) refl lines
       | false ↦ λ i r.
-          record { ps = p_do a q m head p ∷ ps; b = and_then b (a_do d); blocks_are = refl; fits = s; current_fits = true_and (body_fits (labels c) b) (part_fits (labels c) (a_do d)) f (inner_fits c l d e r g); new = not_new; written = refl }
+          record { ps = p_do a q m head p ∷ ps; b = and_then b (a_do d); blocks_are = refl; fits = s; current_fits = true_and (body_keeps_labels (labels c) b) (part_keeps_labels (labels c) (a_do d)) f (inner_fits c l d e r g); new = not_new; written = refl }
     ] in
     go (eqb m l) refl h
 
-stays_plain : (s : Statement) (p : PlainForm) (ps : List Part) (b : BodyForm) → StackFits ps → IsTrue (body_fits (labels (around ps)) b) → IsTrue (is_free (labels (around ps)) s)
+stays_plain : (s : Statement) (p : PlainForm) (ps : List Part) (b : BodyForm) → StackFits ps → IsTrue (body_keeps_labels (labels (around ps)) b) → IsTrue (is_free (labels (around ps)) s)
     → Moved (around ps) false (stack_entries ps ++ (body_entries b ++ entry s (plain_item p) ∷ []))
 stays_plain s p ps b f g h =
     let ls = labels (around ps) in
-    record { ps = ps; b = and_then b (a_plain s p); blocks_are = refl; fits = f; current_fits = true_and (body_fits ls b) (is_free ls s) g h; new = not_new; written = refl }
+    record { ps = ps; b = and_then b (a_plain s p); blocks_are = refl; fits = f; current_fits = true_and (body_keeps_labels ls b) (is_free ls s) g h; new = not_new; written = refl }
 
 -- where a label's loops are all innermost, there is one on top
-ends_plain : (s : Statement) (p : PlainForm) (l : ℕ) → s.label ≡ Some l → (ps : List Part) (b : BodyForm) → StackFits ps → IsTrue (body_fits (labels (around ps)) b) → (x : Bool) → has_do l (around ps) ≡ x
+ends_plain : (s : Statement) (p : PlainForm) (l : ℕ) → s.label ≡ Some l → (ps : List Part) (b : BodyForm) → StackFits ps → IsTrue (body_keeps_labels (labels (around ps)) b) → (x : Bool) → has_do l (around ps) ≡ x
     → (has_do l (around ps) && not (true && not (has_do l (closed l (around ps))))) ≡ false → Moved (closed l (around ps)) false (stack_entries ps ++ (body_entries b ++ entry s (plain_item p) ∷ []))
 ends_plain s p l e ps b f g false x h =
     let free : IsTrue (is_free (labels (around ps)) s) = subst (λ (y : Option ℕ). IsTrue (not (list_any (λ m. has_label m y) (labels (around ps))))) (sym e) (free_of l (around ps) x) in
@@ -265,14 +265,14 @@ ends_plain s p l e (p_do a q m head v ∷ ps) b f g true x h =
     let z : has_do l (closed l (around ps)) ≡ false = rw same at y in
     let ls = labels (around ps) in
     let ending : IsTrue (has_label m s.label) = subst (λ (y : Option ℕ). IsTrue (has_label m y)) (sym e) (eq-eqb l m (sym is)) in
-    let fits = true_and (is_free ls q && private_fits (m ∷ ls) v && body_fits (m ∷ ls) b) (ending_fits (m ∷ ls) m (at_plain s p))
-    (true_and (is_free ls q && private_fits (m ∷ ls) v) (body_fits (m ∷ ls) b) (true_and (is_free ls q) (private_fits (m ∷ ls) v) f.1.1 f.1.2) g) ending in
+    let fits = true_and (is_free ls q && private_keeps_labels (m ∷ ls) v && body_keeps_labels (m ∷ ls) b) (ending_keeps_labels (m ∷ ls) m (at_plain s p))
+    (true_and (is_free ls q && private_keeps_labels (m ∷ ls) v) (body_keeps_labels (m ∷ ls) b) (true_and (is_free ls q) (private_keeps_labels (m ∷ ls) v) f.1.1 f.1.2) g) ending in
     let all = stack_entries (p_do a q m head v ∷ ps) ++ (body_entries b ++ entry s (plain_item p) ∷ []) in
     let lines : stack_entries ps ++ (body_entries a ++ entry q (begins_do m head) ∷ (private_entries v ++ body_entries b ++ entry s (plain_item p) ∷ [])) ≡ all = simp append_assoc in
     let blocks : closed l (around ps) ≡ closed l c = rw same refl in
     carried (shut ps l a (loop q m head v b (at_plain s p)) is f.0 f.1.0 fits z) blocks lines
 
-moved_plain : (s : Statement) (p : PlainForm) (label : Option ℕ) → s.label ≡ label → (ps : List Part) (b : BodyForm) → StackFits ps → IsTrue (body_fits (labels (around ps)) b) → may_end (plain_item p) ≡ true
+moved_plain : (s : Statement) (p : PlainForm) (label : Option ℕ) → s.label ≡ label → (ps : List Part) (b : BodyForm) → StackFits ps → IsTrue (body_keeps_labels (labels (around ps)) b) → may_end (plain_item p) ≡ true
     → ends_badly (around ps) label (says (plain_item p)) ≡ false → Moved (left_by label (around ps)) false (stack_entries ps ++ (body_entries b ++ entry s (plain_item p) ∷ []))
 moved_plain s p None e ps b f g m h =
     stays_plain s p ps b f g (subst (λ (y : Option ℕ). IsTrue (not (list_any (λ l. has_label l y) (labels (around ps))))) (sym e) (no_label (labels (around ps))))
@@ -284,7 +284,7 @@ moved_plain s p (Some l) e ps b f g m h =
 abbrev pub Next : Bool → Statement → Item → List Part → BodyForm → Bool → Type 0
 Next behind_do s i ps b fresh = Moved (blocks_behind behind_do s i (around ps)) fresh (stack_entries ps ++ (body_entries b ++ entry s i ∷ []))
 
-moved_else_if : (behind_do : Bool) (s : Statement) (d : CondTree) (ps : List Part) (b : BodyForm) → StackFits ps → IsTrue (body_fits (labels (around ps)) b) → IsTrue (is_free (labels (around ps)) s)
+moved_else_if : (behind_do : Bool) (s : Statement) (d : CondTree) (ps : List Part) (b : BodyForm) → StackFits ps → IsTrue (body_keeps_labels (labels (around ps)) b) → IsTrue (is_free (labels (around ps)) s)
     → lacks_if (around ps) (else_if d) ≡ false → leaves_open (around ps) (else_if d) ≡ false → Next behind_do s (else_if d) ps b false
 moved_else_if behind_do s d [] b f g k x y = absurd cc
 moved_else_if behind_do s d (p_then a q e arms ∷ ps) b f g k x y =
@@ -296,7 +296,7 @@ moved_else_if behind_do s d (p_then a q e arms ∷ ps) b f g k x y =
 moved_else_if behind_do s d (p_else a q e arms t o ∷ ps) b f g k x y = absurd cc
 moved_else_if behind_do s d (p_do a q m head v ∷ ps) b f g k x y = absurd cc
 
-moved_else : (behind_do : Bool) (s : Statement) (ps : List Part) (b : BodyForm) → StackFits ps → IsTrue (body_fits (labels (around ps)) b) → IsTrue (is_free (labels (around ps)) s)
+moved_else : (behind_do : Bool) (s : Statement) (ps : List Part) (b : BodyForm) → StackFits ps → IsTrue (body_keeps_labels (labels (around ps)) b) → IsTrue (is_free (labels (around ps)) s)
     → lacks_if (around ps) else_line ≡ false → leaves_open (around ps) else_line ≡ false → Next behind_do s else_line ps b false
 moved_else behind_do s [] b f g k x y = absurd cc
 moved_else behind_do s (p_then a q e arms ∷ ps) b f g k x y =
@@ -307,7 +307,7 @@ moved_else behind_do s (p_then a q e arms ∷ ps) b f g k x y =
 moved_else behind_do s (p_else a q e arms t o ∷ ps) b f g k x y = absurd cc
 moved_else behind_do s (p_do a q m head v ∷ ps) b f g k x y = absurd cc
 
-moved_end_if : (behind_do : Bool) (s : Statement) (ps : List Part) (b : BodyForm) → StackFits ps → IsTrue (body_fits (labels (around ps)) b) → IsTrue (is_free (labels (around ps)) s)
+moved_end_if : (behind_do : Bool) (s : Statement) (ps : List Part) (b : BodyForm) → StackFits ps → IsTrue (body_keeps_labels (labels (around ps)) b) → IsTrue (is_free (labels (around ps)) s)
     → lacks_if (around ps) end_if ≡ false → leaves_open (around ps) end_if ≡ false → Next behind_do s end_if ps b false
 moved_end_if behind_do s [] b f g k x y = absurd cc
 moved_end_if behind_do s (p_then a q e arms ∷ ps) b f g k x y =
@@ -316,16 +316,16 @@ moved_end_if behind_do s (p_then a q e arms ∷ ps) b f g k x y =
     let lines : stack_entries ps ++ (body_entries a ++ part_entries whole)
     ≡ (stack_entries ps ++ (body_entries a ++ entry q (block_if e) ∷ arms_entries arms)) ++ (body_entries b ++ entry s end_if ∷ []) =
     ap (λ (z : List Entry). stack_entries ps ++ (body_entries a ++ z)) (if_entries q e arms b (ends_if s)) ∙ simp append_assoc in
-    record { ps = ps; b = and_then a whole; blocks_are = sym (free_left s.label (around ps) k); fits = f.0; current_fits = true_and (body_fits ls a) (part_fits ls whole) f.1.0 (if_fits ls q e arms b (ends_if s) f.1.1 f.1.2 g k); new = not_new; written = lines }
+    record { ps = ps; b = and_then a whole; blocks_are = sym (free_left s.label (around ps) k); fits = f.0; current_fits = true_and (body_keeps_labels ls a) (part_keeps_labels ls whole) f.1.0 (if_fits ls q e arms b (ends_if s) f.1.1 f.1.2 g k); new = not_new; written = lines }
 moved_end_if behind_do s (p_else a q e arms t o ∷ ps) b f g k x y =
     let ls = labels (around ps) in
     let rest = has_else o b s in
     let whole = whole_if q e arms t rest in
-    let fits = true_and (is_free ls o && body_fits ls b) (is_free ls s) (true_and (is_free ls o) (body_fits ls b) f.1.4 g) k in
+    let fits = true_and (is_free ls o && body_keeps_labels ls b) (is_free ls s) (true_and (is_free ls o) (body_keeps_labels ls b) f.1.4 g) k in
     let lines : stack_entries ps ++ (body_entries a ++ part_entries whole)
     ≡ (stack_entries ps ++ (body_entries a ++ entry q (block_if e) ∷ (arms_entries arms ++ (body_entries t ++ entry o else_line ∷ [])))) ++ (body_entries b ++ entry s end_if ∷ []) =
     ap (λ (z : List Entry). stack_entries ps ++ (body_entries a ++ z)) (if_entries q e arms t rest) ∙ simp append_assoc in
-    record { ps = ps; b = and_then a whole; blocks_are = sym (free_left s.label (around ps) k); fits = f.0; current_fits = true_and (body_fits ls a) (part_fits ls whole) f.1.0 (if_fits ls q e arms t rest f.1.1 f.1.2 f.1.3 fits); new = not_new; written = lines }
+    record { ps = ps; b = and_then a whole; blocks_are = sym (free_left s.label (around ps) k); fits = f.0; current_fits = true_and (body_keeps_labels ls a) (part_keeps_labels ls whole) f.1.0 (if_fits ls q e arms t rest f.1.1 f.1.2 f.1.3 fits); new = not_new; written = lines }
 moved_end_if behind_do s (p_do a q m head v ∷ ps) b f g k x y = absurd cc
 
 -- PRIVATE behind its DO
@@ -353,7 +353,7 @@ late_private : (fresh : Bool) → not fresh ≡ false → fresh ≡ true
 late_private true e = refl
 late_private false e = absurd cc
 
-pub moved : (s : Statement) (i : Item) (fresh : Bool) (ps : List Part) (b : BodyForm) → StackFits ps → IsTrue (body_fits (labels (around ps)) b) → (fresh ≡ true → Fresh ps b) → rank i ≡ 4
+pub moved : (s : Statement) (i : Item) (fresh : Bool) (ps : List Part) (b : BodyForm) → StackFits ps → IsTrue (body_keeps_labels (labels (around ps)) b) → (fresh ≡ true → Fresh ps b) → rank i ≡ 4
     → lacks_if (around ps) i ≡ false → is_late_private fresh i ≡ false → leaves_open (around ps) i ≡ false → ends_badly (around ps) s.label (says i) ≡ false → Next fresh s i ps b (is_do i)
 moved s (declares (Program p)) fresh ps b f g new r x y z w = absurd cc
 moved s (declares Implicit) fresh ps b f g new r x y z w = absurd cc

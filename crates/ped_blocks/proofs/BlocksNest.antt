@@ -9,7 +9,7 @@ use Rattle.ped_tree.specs.Views.{pack_stmts}
 use Rattle.ped_grammar.specs.Statement.{Statement}
 use Rattle.ped_grammar.specs.Items.{end_if, ends_program, Entry}
 use Rattle.ped_grammar.specs.Occurrences.{rejected_names}
-use Rattle.ped_grammar.specs.BlockForms.{PlainForm, a_simple, a_continue, a_logical_if, PrivateForm, no_private, private_list, BodyForm, nothing, and_then, PartForm, a_plain, an_if, a_do, RestForm, ends_if, has_else, has_else_if, LoopForm, loop, EndingForm, at_plain, with_inner, plain_item, entry, private_entries, body_entries, part_entries, rest_entries, loop_entries, ending_entries, comments_of, plain_trees, names_of_private, comments_of_private, first_of_rest, whole_head, body_trees, part_trees, rest_trees, loop_trees, ending_trees, loop_label, has_label, is_free, private_fits, body_fits, part_fits, rest_fits, loop_fits, ending_fits}
+use Rattle.ped_grammar.specs.BlockForms.{PlainForm, a_simple, a_continue, a_logical_if, PrivateForm, no_private, private_list, BodyForm, nothing, and_then, PartForm, a_plain, an_if, a_do, RestForm, ends_if, has_else, has_else_if, LoopForm, loop, EndingForm, at_plain, with_inner, plain_item, entry, private_entries, body_entries, part_entries, rest_entries, loop_entries, ending_entries, comments_of, plain_trees, names_of_private, comments_of_private, first_of_rest, whole_head, body_trees, part_trees, rest_trees, loop_trees, ending_trees, loop_label, has_label, is_free, private_keeps_labels, body_keeps_labels, part_keeps_labels, rest_keeps_labels, loop_keeps_labels, ending_keeps_labels}
 use Rattle.ped_grammar.specs.ProgramForms.{DeclForm, a_declaration, a_save_of_all, ProgramForm, decl_entry, program_entries, decl_trees, program_form_tree}
 use Rattle.ped_blocks.specs.Machine.{Arm, Frame, then_frame, else_frame, do_frame, Nesting, Built, nest, nothing_built, chained, close_loops, close_labelled, take_entry, take_entries, built_program}
 
@@ -83,47 +83,47 @@ private_taken saved ds no_private before l h rejected fs = refl
 private_taken saved ds (private_list s names) before l h rejected fs = refl
 
 mutual
-  pub body_taken : (saved : List (List ℕ)) (ds : List DeclTree) (b : BodyForm) (fs : List Frame) (cur : List StmtTree) → IsTrue (body_fits (labels fs) b)
+  pub body_taken : (saved : List (List ℕ)) (ds : List DeclTree) (b : BodyForm) (fs : List Frame) (cur : List StmtTree) → IsTrue (body_keeps_labels (labels fs) b)
       → Takes saved (body_entries b) ds (nest fs cur) (nest fs (cur ++ body_trees b))
   body_taken saved ds nothing fs cur h = ap (λ (x : List StmtTree). built ds (nest fs x)) (sym (append-nil cur))
   body_taken saved ds (and_then b p) fs cur h =
-      let first = body_taken saved ds b fs cur (and_left (body_fits (labels fs) b) (part_fits (labels fs) p) h) in
-      let second = part_taken saved ds p fs (cur ++ body_trees b) (and_right (body_fits (labels fs) b) (part_fits (labels fs) p) h) in
+      let first = body_taken saved ds b fs cur (and_left (body_keeps_labels (labels fs) b) (part_keeps_labels (labels fs) p) h) in
+      let second = part_taken saved ds p fs (cur ++ body_trees b) (and_right (body_keeps_labels (labels fs) b) (part_keeps_labels (labels fs) p) h) in
       both saved (body_entries b) (part_entries p) ds (nest fs cur) (nest fs (cur ++ body_trees b)) (nest fs ((cur ++ body_trees b) ++ part_trees p)) first second
       ∙ ap (λ (x : List StmtTree). built ds (nest fs x)) (append_assoc cur (body_trees b) (part_trees p))
 
-  part_taken : (saved : List (List ℕ)) (ds : List DeclTree) (p : PartForm) (fs : List Frame) (cur : List StmtTree) → IsTrue (part_fits (labels fs) p)
+  part_taken : (saved : List (List ℕ)) (ds : List DeclTree) (p : PartForm) (fs : List Frame) (cur : List StmtTree) → IsTrue (part_keeps_labels (labels fs) p)
       → Takes saved (part_entries p) ds (nest fs cur) (nest fs (cur ++ part_trees p))
   part_taken saved ds (a_plain s p) fs cur h = plain_taken saved ds s p fs cur ∙ ap (built ds) (free_closes_none s.label fs (cur ++ (comments_of s ++ plain_trees p)) h)
   part_taken saved ds (an_if s c b r) fs cur h =
       let before = cur ++ comments_of s in
-      let front = and_left (is_free (labels fs) s && body_fits (labels fs) b) (rest_fits (labels fs) r) h in
-      let inner = body_taken saved ds b (then_frame before [] c ∷ fs) [] (and_right (is_free (labels fs) s) (body_fits (labels fs) b) front) in
-      let rest = rest_taken saved ds r before [] c fs (body_trees b) (and_right (is_free (labels fs) s && body_fits (labels fs) b) (rest_fits (labels fs) r) h) in
+      let front = and_left (is_free (labels fs) s && body_keeps_labels (labels fs) b) (rest_keeps_labels (labels fs) r) h in
+      let inner = body_taken saved ds b (then_frame before [] c ∷ fs) [] (and_right (is_free (labels fs) s) (body_keeps_labels (labels fs) b) front) in
+      let rest = rest_taken saved ds r before [] c fs (body_trees b) (and_right (is_free (labels fs) s && body_keeps_labels (labels fs) b) (rest_keeps_labels (labels fs) r) h) in
       let whole = If c (pack_stmts (body_trees b ++ comments_of (first_of_rest r))) (pack_stmts (rest_trees r)) ∷ [] in
       both saved (body_entries b) (rest_entries r) ds (nest (then_frame before [] c ∷ fs) []) (nest (then_frame before [] c ∷ fs) (body_trees b)) (nest fs (before ++ whole)) inner rest
       ∙ ap (λ (x : List StmtTree). built ds (nest fs x)) (append_assoc cur (comments_of s) whole)
   part_taken saved ds (a_do d) fs cur h =
-      loop_taken saved ds d fs cur (and_right (not (list_any (λ l. l == loop_label d) (labels fs))) (loop_fits (labels fs) d) h)
-      ∙ ap (built ds) (closes_none (loop_label d) fs (cur ++ loop_trees d) (and_left (not (list_any (λ l. l == loop_label d) (labels fs))) (loop_fits (labels fs) d) h))
+      loop_taken saved ds d fs cur (and_right (not (list_any (λ l. l == loop_label d) (labels fs))) (loop_keeps_labels (labels fs) d) h)
+      ∙ ap (built ds) (closes_none (loop_label d) fs (cur ++ loop_trees d) (and_left (not (list_any (λ l. l == loop_label d) (labels fs))) (loop_keeps_labels (labels fs) d) h))
 
-  rest_taken : (saved : List (List ℕ)) (ds : List DeclTree) (r : RestForm) (before : List StmtTree) (arms : List Arm) (c : CondTree) (fs : List Frame) (cur : List StmtTree) → IsTrue (rest_fits (labels fs) r)
+  rest_taken : (saved : List (List ℕ)) (ds : List DeclTree) (r : RestForm) (before : List StmtTree) (arms : List Arm) (c : CondTree) (fs : List Frame) (cur : List StmtTree) → IsTrue (rest_keeps_labels (labels fs) r)
       → Takes saved (rest_entries r) ds (nest (then_frame before arms c ∷ fs) cur) (nest fs (before ++ chained (record { condition = c; then_part = cur ++ comments_of (first_of_rest r) } ∷ arms) (rest_trees r)))
   rest_taken saved ds (ends_if s) before arms c fs cur h = refl
   rest_taken saved ds (has_else s b e) before arms c fs cur h =
       let arms' = record { condition = c; then_part = cur ++ comments_of s } ∷ arms in
-      let front = and_left (is_free (labels fs) s && body_fits (labels fs) b) (is_free (labels fs) e) h in
-      let inner = body_taken saved ds b (else_frame before arms' ∷ fs) [] (and_right (is_free (labels fs) s) (body_fits (labels fs) b) front) in
+      let front = and_left (is_free (labels fs) s && body_keeps_labels (labels fs) b) (is_free (labels fs) e) h in
+      let inner = body_taken saved ds b (else_frame before arms' ∷ fs) [] (and_right (is_free (labels fs) s) (body_keeps_labels (labels fs) b) front) in
       both saved (body_entries b) (entry e end_if ∷ []) ds (nest (else_frame before arms' ∷ fs) []) (nest (else_frame before arms' ∷ fs) (body_trees b)) (nest fs (before ++ chained arms' (body_trees b ++ comments_of e))) inner refl
   rest_taken saved ds (has_else_if s d b r) before arms c fs cur h =
       let arms' = record { condition = c; then_part = cur ++ comments_of s } ∷ arms in
-      let front = and_left (is_free (labels fs) s && body_fits (labels fs) b) (rest_fits (labels fs) r) h in
-      let inner = body_taken saved ds b (then_frame before arms' d ∷ fs) [] (and_right (is_free (labels fs) s) (body_fits (labels fs) b) front) in
-      let rest = rest_taken saved ds r before arms' d fs (body_trees b) (and_right (is_free (labels fs) s && body_fits (labels fs) b) (rest_fits (labels fs) r) h) in
+      let front = and_left (is_free (labels fs) s && body_keeps_labels (labels fs) b) (rest_keeps_labels (labels fs) r) h in
+      let inner = body_taken saved ds b (then_frame before arms' d ∷ fs) [] (and_right (is_free (labels fs) s) (body_keeps_labels (labels fs) b) front) in
+      let rest = rest_taken saved ds r before arms' d fs (body_trees b) (and_right (is_free (labels fs) s && body_keeps_labels (labels fs) b) (rest_keeps_labels (labels fs) r) h) in
       both saved (body_entries b) (rest_entries r) ds (nest (then_frame before arms' d ∷ fs) []) (nest (then_frame before arms' d ∷ fs) (body_trees b))
       (nest fs (before ++ chained (record { condition = d; then_part = body_trees b ++ comments_of (first_of_rest r) } ∷ arms') (rest_trees r))) inner rest
 
-  pub loop_taken : (saved : List (List ℕ)) (ds : List DeclTree) (d : LoopForm) (fs : List Frame) (cur : List StmtTree) → IsTrue (loop_fits (labels fs) d)
+  pub loop_taken : (saved : List (List ℕ)) (ds : List DeclTree) (d : LoopForm) (fs : List Frame) (cur : List StmtTree) → IsTrue (loop_keeps_labels (labels fs) d)
       → Takes saved (loop_entries d) ds (nest fs cur) (close_loops (loop_label d) fs (cur ++ loop_trees d))
   loop_taken saved ds (loop s l head p b e) fs cur h =
       let before = cur ++ comments_of s in
@@ -131,9 +131,9 @@ mutual
       let whole = whole_head head (names_of_private p) rejected in
       let frames = do_frame before l whole ∷ fs in
       let start = nest (do_frame before l (whole_head head [] rejected) ∷ fs) [] in
-      let x = is_free (labels fs) s && private_fits (l ∷ labels fs) p in
-      let y = body_fits (l ∷ labels fs) b in
-      let z = ending_fits (l ∷ labels fs) l e in
+      let x = is_free (labels fs) s && private_keeps_labels (l ∷ labels fs) p in
+      let y = body_keeps_labels (l ∷ labels fs) b in
+      let z = ending_keeps_labels (l ∷ labels fs) l e in
       let inner = body_taken saved ds b frames (comments_of_private p) (and_right x y (and_left (x && y) z h)) in
       let ending = ending_taken saved ds e l frames (comments_of_private p ++ body_trees b) (and_right (x && y) z h) in
       let parts = comments_of_private p ++ body_trees b ++ ending_trees e in
@@ -142,12 +142,12 @@ mutual
       ∙ ap (built ds) (loop_closes l before whole fs parts)
       ∙ ap (λ (t : List StmtTree). built ds (close_loops l fs t)) (append_assoc cur (comments_of s) (Do whole (pack_stmts parts) ∷ []))
 
-  ending_taken : (saved : List (List ℕ)) (ds : List DeclTree) (e : EndingForm) (l : ℕ) (fs : List Frame) (cur : List StmtTree) → IsTrue (ending_fits (labels fs) l e)
+  ending_taken : (saved : List (List ℕ)) (ds : List DeclTree) (e : EndingForm) (l : ℕ) (fs : List Frame) (cur : List StmtTree) → IsTrue (ending_keeps_labels (labels fs) l e)
       → Takes saved (ending_entries e) ds (nest fs cur) (close_loops l fs (cur ++ ending_trees e))
   ending_taken saved ds (at_plain s p) l fs cur h = plain_taken saved ds s p fs cur ∙ ap (built ds) (labelled_closes s.label l fs (cur ++ (comments_of s ++ plain_trees p)) h)
   ending_taken saved ds (with_inner d) l fs cur h =
-      let same = eqb-true (loop_label d) l (and_left (loop_label d == l) (loop_fits (labels fs) d) h) in
-      loop_taken saved ds d fs cur (and_right (loop_label d == l) (loop_fits (labels fs) d) h) ∙ ap (λ (m : ℕ). built ds (close_loops m fs (cur ++ loop_trees d))) same
+      let same = eqb-true (loop_label d) l (and_left (loop_label d == l) (loop_keeps_labels (labels fs) d) h) in
+      loop_taken saved ds d fs cur (and_right (loop_label d == l) (loop_keeps_labels (labels fs) d) h) ∙ ap (λ (m : ℕ). built ds (close_loops m fs (cur ++ loop_trees d))) same
 
 -- declarations add their trees
 decls_taken : (saved : List (List ℕ)) (fs : List DeclForm) (ds : List DeclTree) (n : Nesting) → take_entries saved (built ds n) (map decl_entry fs) ≡ built (ds ++ flat_map (decl_trees saved) fs) n
@@ -160,7 +160,7 @@ decls_taken saved (a_save_of_all s ∷ fs) ds n =
     decls_taken saved fs (ds ++ one) n ∙ ap (λ (x : List DeclTree). built x n) (append_assoc ds one (flat_map (decl_trees saved) fs))
 
 -- what is built of the statements of a program's form is its tree
-pub form_built : (saved : List (List ℕ)) (f : ProgramForm) → IsTrue (body_fits [] f.body) → built_program (take_entries saved nothing_built (program_entries f)) ≡ program_form_tree saved f
+pub form_built : (saved : List (List ℕ)) (f : ProgramForm) → IsTrue (body_keeps_labels [] f.body) → built_program (take_entries saved nothing_built (program_entries f)) ≡ program_form_tree saved f
 form_built saved f h =
     let ds = flat_map (decl_trees saved) f.declarations in
     let declared = decls_taken saved f.declarations [] (nest [] []) in
@@ -170,5 +170,5 @@ form_built saved f h =
     ∙ ap (λ (b : Built). take_entries saved b (entry f.ending ends_program ∷ []))
     (taken_both saved nothing_built (map decl_entry f.declarations) (body_entries f.body) ∙ ap (λ (b : Built). take_entries saved b (body_entries f.body)) declared ∙ executed))
 
-pub one_tree_of : (saved : List (List ℕ)) (f g : ProgramForm) → program_entries f ≡ program_entries g → IsTrue (body_fits [] f.body) → IsTrue (body_fits [] g.body) → program_form_tree saved f ≡ program_form_tree saved g
+pub one_tree_of : (saved : List (List ℕ)) (f g : ProgramForm) → program_entries f ≡ program_entries g → IsTrue (body_keeps_labels [] f.body) → IsTrue (body_keeps_labels [] g.body) → program_form_tree saved f ≡ program_form_tree saved g
 one_tree_of saved f g e p q = sym (form_built saved f p) ∙ ap (λ (es : List Entry). built_program (take_entries saved nothing_built es)) e ∙ form_built saved g q

@@ -4,7 +4,7 @@ ghost use Rattle.std.specs.Prelude.{◌≡◌, ◌⊎◌, ℕ, List, [], None, I
 ghost use Rattle.ped_tree.specs.Tree.{ProgramTree};
 ghost use Rattle.ped_grammar.specs.Statement.{Statements};
 ghost use Rattle.ped_grammar.specs.Items.{Entry};
-ghost use Rattle.ped_grammar.specs.BlockForms.{body_fits};
+ghost use Rattle.ped_grammar.specs.BlockForms.{body_keeps_labels};
 ghost use Rattle.ped_grammar.specs.ProgramForms.{ProgramForm, program_entries, program_form_tree};
 ghost use Rattle.ped_grammar.specs.ProgramRefusals.{program_refusals};
 ghost use Rattle.ped_grammar.specs.Reading.{IsCutInto, OneItem, Reads, Refuses};
@@ -13,14 +13,14 @@ ghost use Rattle.ped_grammar.specs.Refusal.{Finding, first_of};
 /// Statements nest in one way: whatever the DO loops and block IFs that they are divided into, the
 /// tree is the same. Which statement ends a loop is settled by labels (ANSI X3.9-1978, section 11.10).
 pub fn one_nesting()
-    ensures { (saved : List (List ℕ)) (f g : ProgramForm) → program_entries f ≡ program_entries g → IsTrue (body_fits [] f.body) → IsTrue (body_fits [] g.body)
+    ensures { (saved : List (List ℕ)) (f g : ProgramForm) → program_entries f ≡ program_entries g → IsTrue (body_keeps_labels [] f.body) → IsTrue (body_keeps_labels [] g.body)
         → program_form_tree saved f ≡ program_form_tree saved g }
 {}
 
 /// Where nothing is refused, the statements nest: each case that no block takes is among the refusals.
 pub fn nests_or_refused()
     ensures { (all : Statements) (entries : List Entry) → first_of (program_refusals all entries) ≡ None
-        → (f : ProgramForm) × (program_entries f ≡ entries) × IsTrue (body_fits [] f.body) }
+        → (f : ProgramForm) × (program_entries f ≡ entries) × IsTrue (body_keeps_labels [] f.body) }
 {}
 
 /// A text has one tree at most.

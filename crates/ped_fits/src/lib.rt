@@ -11,7 +11,7 @@ mod programs;
 mod statements;
 mod surroundings;
 
-pub use ped_round_trip::{fits_where_read, printed_program};
+pub use ped_printed_programs::{fits_where_read, printed_program};
 pub use programs::fits;
 
 #[cfg(test)]

@@ -152,29 +152,29 @@ abbrev pub is_free : List ℕ → Statement → Bool
 is_free labels s = not (list_any (λ l. has_label l s.label) labels)
 
 -- PRIVATE has none of these labels (this project)
-abbrev pub private_fits : List ℕ → PrivateForm → Bool
-private_fits labels no_private = true
-private_fits labels (private_list s names) = is_free labels s
+abbrev pub private_keeps_labels : List ℕ → PrivateForm → Bool
+private_keeps_labels labels no_private = true
+private_keeps_labels labels (private_list s names) = is_free labels s
 
 -- the first statement behind a DO that has its label ends it: within loops with these labels none of them stands but at an ending (ANSI X3.9-1978, section 11.10.1)
 abbrev mutual
-  pub body_fits : List ℕ → BodyForm → Bool
-  body_fits labels nothing = true
-  body_fits labels (and_then b p) = body_fits labels b && part_fits labels p
+  pub body_keeps_labels : List ℕ → BodyForm → Bool
+  body_keeps_labels labels nothing = true
+  body_keeps_labels labels (and_then b p) = body_keeps_labels labels b && part_keeps_labels labels p
 
-  pub part_fits : List ℕ → PartForm → Bool
-  part_fits labels (a_plain s p) = is_free labels s
-  part_fits labels (an_if s c b r) = is_free labels s && body_fits labels b && rest_fits labels r
-  part_fits labels (a_do d) = not (list_any (λ l. l == loop_label d) labels) && loop_fits labels d
+  pub part_keeps_labels : List ℕ → PartForm → Bool
+  part_keeps_labels labels (a_plain s p) = is_free labels s
+  part_keeps_labels labels (an_if s c b r) = is_free labels s && body_keeps_labels labels b && rest_keeps_labels labels r
+  part_keeps_labels labels (a_do d) = not (list_any (λ l. l == loop_label d) labels) && loop_keeps_labels labels d
 
-  pub rest_fits : List ℕ → RestForm → Bool
-  rest_fits labels (ends_if s) = is_free labels s
-  rest_fits labels (has_else s b e) = is_free labels s && body_fits labels b && is_free labels e
-  rest_fits labels (has_else_if s c b r) = is_free labels s && body_fits labels b && rest_fits labels r
+  pub rest_keeps_labels : List ℕ → RestForm → Bool
+  rest_keeps_labels labels (ends_if s) = is_free labels s
+  rest_keeps_labels labels (has_else s b e) = is_free labels s && body_keeps_labels labels b && is_free labels e
+  rest_keeps_labels labels (has_else_if s c b r) = is_free labels s && body_keeps_labels labels b && rest_keeps_labels labels r
 
-  pub loop_fits : List ℕ → LoopForm → Bool
-  loop_fits labels (loop s l h p b e) = is_free labels s && private_fits (l ∷ labels) p && body_fits (l ∷ labels) b && ending_fits (l ∷ labels) l e
+  pub loop_keeps_labels : List ℕ → LoopForm → Bool
+  loop_keeps_labels labels (loop s l h p b e) = is_free labels s && private_keeps_labels (l ∷ labels) p && body_keeps_labels (l ∷ labels) b && ending_keeps_labels (l ∷ labels) l e
 
-  pub ending_fits : List ℕ → ℕ → EndingForm → Bool
-  ending_fits labels l (at_plain s p) = has_label l s.label
-  ending_fits labels l (with_inner d) = loop_label d == l && loop_fits labels d
+  pub ending_keeps_labels : List ℕ → ℕ → EndingForm → Bool
+  ending_keeps_labels labels l (at_plain s p) = has_label l s.label
+  ending_keeps_labels labels l (with_inner d) = loop_label d == l && loop_keeps_labels labels d

@@ -9,7 +9,7 @@ use Rattle.ped_grammar.specs.Items.{Item, Reading, says, outside_profile, no_for
 use Rattle.ped_grammar.specs.StatementForms.{ReadsItem}
 use Rattle.ped_grammar.specs.OutsideProfile.{IsOutside}
 use Rattle.ped_grammar.specs.Occurrences.{saved_names}
-use Rattle.ped_grammar.specs.BlockForms.{body_fits}
+use Rattle.ped_grammar.specs.BlockForms.{body_keeps_labels}
 use Rattle.ped_grammar.specs.ProgramForms.{ProgramForm, program_entries, program_form_tree, first_lines}
 use Rattle.ped_grammar.specs.ProgramRefusals.{program_refusals}
 
@@ -55,7 +55,7 @@ pub record Reads (text : List ℕ) (tree : ProgramTree) : Type 0 where
   pub accepted : first_program_refusal text entries ≡ None
   pub form : ProgramForm
   pub written : program_entries form ≡ entries
-  pub labelled : IsTrue (body_fits [] form.body)
+  pub labelled : IsTrue (body_keeps_labels [] form.body)
   pub nested : program_form_tree (saved_names entries) form ≡ tree
 
 -- the first lines of what a text reads as: of its declarations, its numbered statements and its PRIVATE statements

@@ -8,8 +8,8 @@ use Rattle.ped_grammar.specs.LineRefusals.{first_line_refusal}
 use Rattle.ped_grammar.specs.Reading.{Reads}
 use Rattle.ped_grammar.specs.StatementViews.{statements_view}
 use Rattle.ped_grammar.specs.declared.statements.Statements.{Statements}
-use Rattle.ped_round_trip.specs.PrintedPrograms.{PrintsItself}
-use Rattle.ped_round_trip.proofs.PrintedProgram.{prints_itself}
+use Rattle.ped_printed_programs.specs.PrintedPrograms.{PrintsItself}
+use Rattle.ped_printed_programs.proofs.PrintedProgram.{prints_itself}
 use Rattle.ped_parse.specs.declared.refusals.ReadRefusal.{ReadRefusal}
 
 pub printed_here : (r : Result Program ReadRefusal) (cut : Statements) (text : List ℕ)

@@ -9,7 +9,7 @@ ghost use Rattle.ped_grammar.specs.StatementViews.{statement_of, statements_view
 ghost use Rattle.ped_expressions.specs.ExpressionReading.{saturated};
 ghost use Rattle.ped_statements.specs.Saturated.{IsReadAs};
 ghost use Rattle.ped_grammar.specs.ItemViews.{entry_of};
-ghost use Rattle.ped_round_trip.specs.PrintedPrograms.{PrintsItself};
+ghost use Rattle.ped_printed_programs.specs.PrintedPrograms.{PrintsItself};
 ghost use Rattle.ped_parse.specs.Entries.{AreReadAs};
 ghost use Rattle.ped_parse.specs.Refusals.{IsRefusalOf};
 

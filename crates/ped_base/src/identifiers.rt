@@ -90,23 +90,3 @@ fn is_alphanumeric(c: u8) -> bool
 {
     c.is_ascii_uppercase() || c.is_ascii_digit()
 }
-
-#[cfg(test)]
-mod tests {
-    use super::*;
-
-    #[test]
-    fn names_have_1_to_31_capitals_and_digits(rt: HostRuntime) {
-        let longest = [b'A'; 31];
-        let too_long = [b'A'; 32];
-        let names: [&[u8]; 3] = [b"A", b"X29", &longest];
-        for bytes in names {
-            let name = Name::from_bytes(bytes).expect(&rt, "a name");
-            assert_eq!(rt; name.as_bytes(), bytes);
-        }
-        let others: [&[u8]; 6] = [b"", b"9A", b"a", b"Ab", b"A B", &too_long];
-        for bytes in others {
-            assert!(rt; Name::from_bytes(bytes).is_none());
-        }
-    }
-}

@@ -93,24 +93,3 @@ impl Listed<u8> {
         Ok(())
     }
 }
-
-#[cfg(test)]
-mod tests {
-    use super::*;
-    use std::test::Fail;
-
-    #[test]
-    fn items_stand_in_the_order_of_the_calls(rt: HostRuntime) -> Result<(), Fail> {
-        let mut text: Bytes = Listed::new(rt.alloc());
-        assert!(rt; text.is_empty());
-        text.push(b'D')?;
-        text.extend_from_slice(b"O 10")?;
-        text.push(b' ')?;
-        assert_eq!(rt; text.as_slice(), b"DO 10 ".as_slice());
-        assert_eq!(rt; text.len(), 6);
-        assert!(rt; !text.is_empty());
-        let bytes = text.into_vec();
-        assert_eq!(rt; bytes.as_slice(), b"DO 10 ".as_slice());
-        Ok(())
-    }
-}

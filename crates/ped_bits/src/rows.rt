@@ -91,33 +91,3 @@ impl Row {
         words_within(&self.words, &other.words)
     }
 }
-
-#[cfg(test)]
-mod tests {
-    use super::*;
-    use std::test::Fail;
-
-    #[test]
-    fn rows_are_sets_over_several_words(rt: HostRuntime) -> Result<(), Fail> {
-        let mut primes = Row::new(rt.alloc(), 130)?;
-        let mut odd = Row::new(rt.alloc(), 130)?;
-        assert!(rt; !primes.meets(&odd));
-        primes.set(2);
-        primes.set(67);
-        primes.set(127);
-        odd.set(67);
-        odd.set(129);
-        assert_eq!(rt; primes.width(), 130);
-        assert!(rt; primes.get(67));
-        assert!(rt; !primes.get(66));
-        assert!(rt; primes.meets(&odd));
-        assert!(rt; !odd.is_subset(&primes));
-        odd.or_into(&mut primes);
-        assert!(rt; odd.is_subset(&primes));
-        odd.and_not_into(&mut primes);
-        assert!(rt; !primes.meets(&odd));
-        assert!(rt; primes.get(127));
-        assert!(rt; !primes.get(67));
-        Ok(())
-    }
-}

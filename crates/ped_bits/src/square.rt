@@ -106,28 +106,3 @@ fn add_row(rows: &mut [Row], from: usize, into: usize)
         back[0].or_into(&mut front[into]);
     }
 }
-
-#[cfg(test)]
-mod tests {
-    use super::*;
-    use std::test::Fail;
-
-    #[test]
-    fn close_finds_the_paths_of_one_arrow_or_more(rt: HostRuntime) -> Result<(), Fail> {
-        let mut arrows = Matrix::new(rt.alloc(), 70)?;
-        arrows.set(3, 69);
-        arrows.set(69, 0);
-        arrows.set(0, 3);
-        arrows.set(5, 5);
-        arrows.set(1, 5);
-        arrows.close();
-        assert_eq!(rt; arrows.width(), 70);
-        assert!(rt; arrows.get(3, 3));
-        assert!(rt; arrows.get(0, 69));
-        assert!(rt; arrows.get(1, 5));
-        assert!(rt; !arrows.get(1, 1));
-        assert!(rt; !arrows.get(5, 1));
-        assert!(rt; !arrows.get(3, 5));
-        Ok(())
-    }
-}

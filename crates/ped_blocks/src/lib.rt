@@ -12,6 +12,3 @@ mod programs;
 
 pub use laws_of_blocks::{nests_or_refused, one_nesting, one_tree, reads_or_refused};
 pub use programs::program_of;
-
-#[cfg(test)]
-mod tests;

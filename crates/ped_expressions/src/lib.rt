@@ -23,6 +23,3 @@ pub use scanning::{
     after, begins_with_digit, begins_with_letter, intrinsic_of, literal_value, name_of,
     split_digits, split_word,
 };
-
-#[cfg(test)]
-mod tests;

@@ -13,6 +13,3 @@ mod surroundings;
 
 pub use ped_printed_programs::{fits_where_read, printed_program};
 pub use programs::fits;
-
-#[cfg(test)]
-mod tests;

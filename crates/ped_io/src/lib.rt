@@ -22,6 +22,3 @@ pub use outside::{OutsideFault, Shelf, Sink};
 pub use sure_shelf::SureShelf;
 pub use sure_sink::SureSink;
 pub use writing::{PutFault, put_all};
-
-#[cfg(test)]
-mod tests;

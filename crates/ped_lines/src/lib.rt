@@ -12,6 +12,3 @@ mod text_lines;
 
 pub use cutting::statements;
 pub use errors::LinesError;
-
-#[cfg(test)]
-mod tests;

@@ -8,6 +8,3 @@ mod refusals;
 pub use laws_of_reading::one_tree_or_one_refusal;
 pub use reading::read;
 pub use refusals::ReadRefusal;
-
-#[cfg(test)]
-mod tests;

@@ -16,6 +16,3 @@ pub use lengths::{
     decl_length, do_length, if_length, length, own_length, private_length, save_length,
 };
 pub use programs::{print, source_pane};
-
-#[cfg(test)]
-mod tests;

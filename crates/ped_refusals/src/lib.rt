@@ -14,6 +14,3 @@ mod structure;
 
 pub use refusals::first_refusal;
 pub use saving::saved_names;
-
-#[cfg(test)]
-mod tests;

@@ -51,30 +51,3 @@ fn fits_sum(sum: i128, least: i128, greatest: i128, d: Direction) -> bool
         Direction::Before | Direction::After => least < sum && sum < greatest,
     }
 }
-
-#[cfg(test)]
-mod tests {
-    use super::*;
-
-    const RANGE: LoopRange = LoopRange {
-        lo: 1,
-        hi: 10,
-        step: 1,
-        steady: true,
-    };
-
-    #[test]
-    fn an_odd_sum_has_no_half(rt: HostRuntime) {
-        assert!(rt; !weak_crossing_excludes(1, -1, 0, 11, &RANGE, Direction::Before));
-        assert!(rt; weak_crossing_excludes(1, -1, 0, 11, &RANGE, Direction::Same));
-        assert!(rt; !weak_crossing_excludes(1, -1, 0, 11, &RANGE, Direction::After));
-        assert!(rt; !weak_crossing_excludes(1, -1, 0, 12, &RANGE, Direction::Same));
-    }
-
-    #[test]
-    fn the_ends_of_the_range_meet_themselves_alone(rt: HostRuntime) {
-        assert!(rt; weak_crossing_excludes(-3, 3, 6, 0, &RANGE, Direction::Before));
-        assert!(rt; !weak_crossing_excludes(-3, 3, 6, 0, &RANGE, Direction::Same));
-        assert!(rt; weak_crossing_excludes(-3, 3, 5, 0, &RANGE, Direction::Same));
-    }
-}

@@ -45,30 +45,3 @@ fn has_partner(i: i128, lo: i128, hi: i128, d: Direction) -> bool
         Direction::After => lo < i && i <= hi,
     }
 }
-
-#[cfg(test)]
-mod tests {
-    use super::*;
-
-    const RANGE: LoopRange = LoopRange {
-        lo: 1,
-        hi: 10,
-        step: 1,
-        steady: true,
-    };
-
-    #[test]
-    fn the_first_value_has_none_before_it(rt: HostRuntime) {
-        assert!(rt; !weak_zero_excludes(2, 0, 0, 2, &RANGE, Direction::Before));
-        assert!(rt; !weak_zero_excludes(2, 0, 0, 2, &RANGE, Direction::Same));
-        assert!(rt; weak_zero_excludes(2, 0, 0, 2, &RANGE, Direction::After));
-        assert!(rt; weak_zero_excludes(2, 0, 0, 3, &RANGE, Direction::Same));
-    }
-
-    #[test]
-    fn the_index_may_stand_at_the_sink(rt: HostRuntime) {
-        assert!(rt; !weak_zero_excludes(0, 1, 10, 0, &RANGE, Direction::Before));
-        assert!(rt; weak_zero_excludes(0, 1, 10, 0, &RANGE, Direction::After));
-        assert!(rt; weak_zero_excludes(0, 1, 11, 0, &RANGE, Direction::Before));
-    }
-}

@@ -10,15 +10,3 @@ pub fn ziv_excludes(c1: i64, c2: i64) -> bool
 {
     c1 != c2
 }
-
-#[cfg(test)]
-mod tests {
-    use super::*;
-
-    #[test]
-    fn constants_exclude_where_they_differ(rt: HostRuntime) {
-        assert!(rt; ziv_excludes(1, 2));
-        assert!(rt; ziv_excludes(1, -1));
-        assert!(rt; !ziv_excludes(7, 7));
-    }
-}

@@ -15,6 +15,3 @@ mod statements;
 
 pub use laws_of_statements::one_item;
 pub use statements::read_statement;
-
-#[cfg(test)]
-mod tests;

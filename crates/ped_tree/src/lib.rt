@@ -16,6 +16,3 @@ pub use declarations::{Bound, Consts, Decl, Declarator, Program};
 pub use expressions::{Expr, Intrinsic};
 pub use laws::numbers_end_at_count;
 pub use statements::{Do, PrintItem, Stmt};
-
-#[cfg(test)]
-mod tests;

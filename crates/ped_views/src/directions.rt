@@ -35,16 +35,3 @@ impl Direction {
         }
     }
 }
-
-#[cfg(test)]
-mod tests {
-    use super::*;
-
-    #[test]
-    fn a_negative_step_turns_directions_round(rt: HostRuntime) {
-        assert_eq!(rt; Direction::Before.by_value(3), Direction::Before);
-        assert_eq!(rt; Direction::Before.by_value(-3), Direction::After);
-        assert_eq!(rt; Direction::After.by_value(-1), Direction::Before);
-        assert_eq!(rt; Direction::Same.by_value(-1), Direction::Same);
-    }
-}

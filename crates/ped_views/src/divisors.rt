@@ -28,19 +28,3 @@ fn gcd_of_sizes(a: u128, b: u128) -> u128
     }
     x
 }
-
-#[cfg(test)]
-mod tests {
-    use super::*;
-
-    #[test]
-    fn divisors_are_greatest_in_all_signs(rt: HostRuntime) {
-        assert_eq!(rt; gcd(12, 18), 6);
-        assert_eq!(rt; gcd(-12, 18), 6);
-        assert_eq!(rt; gcd(12, -18), 6);
-        assert_eq!(rt; gcd(0, -5), 5);
-        assert_eq!(rt; gcd(5, 0), 5);
-        assert_eq!(rt; gcd(0, 0), 0);
-        assert_eq!(rt; gcd(i128::MAX, 7), 1);
-    }
-}

@@ -20,18 +20,3 @@ pub fn floor_div(a: i128, b: i128) -> i128
         if rest > 0 { whole - 1 } else { whole }
     }
 }
-
-#[cfg(test)]
-mod tests {
-    use super::*;
-
-    #[test]
-    fn quotients_are_rounded_down_in_all_signs(rt: HostRuntime) {
-        assert_eq!(rt; floor_div(7, 2), 3);
-        assert_eq!(rt; floor_div(-7, 2), -4);
-        assert_eq!(rt; floor_div(7, -2), -4);
-        assert_eq!(rt; floor_div(-7, -2), 3);
-        assert_eq!(rt; floor_div(-6, 2), -3);
-        assert_eq!(rt; floor_div(6, -2), -3);
-    }
-}

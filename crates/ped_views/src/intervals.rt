@@ -118,36 +118,3 @@ fn product(x: i128, y: i128) -> i128
 {
     x * y
 }
-
-#[cfg(test)]
-mod tests {
-    use super::*;
-
-    fn interval(lo: i64, hi: i64) -> Interval
-        ensures lo { result.lo ≡ lo }
-        ensures hi { result.hi ≡ hi }
-    {
-        Interval {
-            lo: i128::from(lo),
-            hi: i128::from(hi),
-        }
-    }
-
-    #[test]
-    fn sums_and_differences_have_the_ends_of_both(rt: HostRuntime) {
-        let x = interval(-1, 4);
-        let y = interval(2, 3);
-        assert_eq!(rt; x.add(y), interval(1, 7));
-        assert_eq!(rt; x.sub(y), interval(-4, 2));
-        assert_eq!(rt; x.neg(), interval(-4, 1));
-    }
-
-    #[test]
-    fn products_and_extremes_take_signs_into_account(rt: HostRuntime) {
-        let x = interval(-1, 4);
-        let y = interval(-3, 2);
-        assert_eq!(rt; x.mul(y), interval(-12, 8));
-        assert_eq!(rt; x.max(y), interval(-1, 4));
-        assert_eq!(rt; x.min(y), interval(-3, 2));
-    }
-}

@@ -43,30 +43,3 @@ pub(crate) fn remainder(n: i128, d: i128) -> i128
 {
     n % d
 }
-
-#[cfg(test)]
-mod tests {
-    use super::*;
-
-    #[test]
-    fn quotients_are_whole_in_all_signs(rt: HostRuntime) {
-        assert_eq!(rt; exact_quotient(6, 3), Some(2));
-        assert_eq!(rt; exact_quotient(-6, 3), Some(-2));
-        assert_eq!(rt; exact_quotient(6, -3), Some(-2));
-        assert_eq!(rt; exact_quotient(-6, -3), Some(2));
-        assert_eq!(rt; exact_quotient(0, -5), Some(0));
-        assert_eq!(rt; exact_quotient(7, 3), None);
-        assert_eq!(rt; exact_quotient(-7, 3), None);
-        assert_eq!(rt; exact_quotient(2, 6), None);
-        assert_eq!(rt; exact_quotient(i128::MAX, -1), Some(-i128::MAX));
-    }
-
-    #[test]
-    fn zero_divides_zero_alone(rt: HostRuntime) {
-        assert!(rt; divides(0, 0));
-        assert!(rt; !divides(0, 3));
-        assert!(rt; divides(3, 0));
-        assert!(rt; divides(-3, 6));
-        assert!(rt; !divides(4, 6));
-    }
-}

@@ -1,7 +1,7 @@
 //! Trees that no text was read as.
 
-use crate::fits;
 use ped_base::{Bytes, Name, Names};
+use ped_fits::fits;
 use ped_tree::{Do, Expr, Program, Stmt};
 use std::alloc::Global;
 use std::test::Fail;

@@ -1,7 +1,7 @@
 //! A loop nested from entries by hand, with its first lines.
 
-use crate::program_of;
 use ped_base::{Bytes, Listed, Name, Names};
+use ped_blocks::program_of;
 use ped_grammar::{DoStatement, Entry, Item, NoteLine, Statement, StatementReading};
 use ped_tree::{Decl, Expr, Stmt};
 use std::alloc::Global;

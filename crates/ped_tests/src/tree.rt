@@ -4,8 +4,8 @@ ghost use Rattle.std.specs.Prelude.{◌≡◌, IfOk};
 ghost use Rattle.ped_tree.specs.Views.{program_tree};
 ghost use Rattle.ped_tree.specs.Numbering.{statements_count};
 
-use crate::{Program, Stmt};
 use ped_base::Bytes;
+use ped_tree::{Program, Stmt};
 use std::alloc::Global;
 use std::test::Fail;
 

@@ -1,6 +1,6 @@
 //! The first lines of what a program has, in text order, which no pane shows.
 
-use crate::read;
+use ped_parse::read;
 use std::test::Fail;
 
 #[test]

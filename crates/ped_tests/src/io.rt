@@ -2,10 +2,10 @@
 
 ghost use Rattle.std.specs.Prelude.{◌≤◌};
 
-use crate::{
+use ped_base::{Bytes, NoMemory};
+use ped_io::{
     Calls, Files, LoadError, MemShelf, MemSink, PutFault, SureShelf, SureSink, load, put_all,
 };
-use ped_base::{Bytes, NoMemory};
 use std::alloc::Global;
 use std::test::Fail;
 

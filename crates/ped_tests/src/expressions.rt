@@ -1,6 +1,6 @@
 //! One text for each reader.
 
-use crate::{
+use ped_expressions::{
     Failure, Reading, cond, expr, primary, read_condition, read_expression, read_reference,
 };
 use ped_tree::{Cond, Expr};

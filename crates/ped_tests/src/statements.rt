@@ -1,7 +1,7 @@
 //! A statement of the profile, one that it leaves out, and a text without a form.
 
-use crate::read_statement;
 use ped_grammar::{Item, StatementReading};
+use ped_statements::read_statement;
 use ped_tree::Stmt;
 use std::test::Fail;
 

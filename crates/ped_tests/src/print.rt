@@ -1,8 +1,7 @@
 //! A loop printed as text and as a pane, and numbers that no program has.
 
-use crate::pane::push_statement_number;
-use crate::{length, print, source_pane};
 use ped_base::{Bytes, Name, Names};
+use ped_print::{length, print, source_pane};
 use ped_tree::{Do, Expr, Program, Stmt};
 use std::alloc::Global;
 use std::test::Fail;
@@ -50,19 +49,5 @@ fn a_loop_is_printed(rt: HostRuntime) -> Result<(), Fail> {
     assert_eq!(rt; source_pane(alloc, &program)?.as_slice(), pane.as_slice());
     let statement = program.body.as_slice().first().ok_or("no statement")?;
     assert_eq!(rt; length(statement), 14);
-    Ok(())
-}
-
-#[test]
-fn statement_numbers_have_four_places_or_more(rt: HostRuntime) -> Result<(), Fail> {
-    for (number, column) in [
-        (None, "    "),
-        (Some(9_999), "9999"),
-        (Some(10_000), "10000"),
-    ] {
-        let mut text = Bytes::new(rt.alloc());
-        push_statement_number(&mut text, number)?;
-        assert_eq!(rt; text.as_slice(), column.as_bytes());
-    }
     Ok(())
 }

@@ -4,7 +4,8 @@ ghost use Rattle.std.specs.Prelude.{◌≡◌, length, IfOk};
 
 use ped_base::NoMemory;
 use ped_views::{
-    AffRow, Direction, Interval, LoopRange, PairView, Position, exact_quotient, floor_div, gcd,
+    AffRow, Direction, Interval, LoopRange, PairView, Position, divides, exact_quotient, floor_div,
+    gcd,
 };
 use std::alloc::Global;
 use std::test::Fail;

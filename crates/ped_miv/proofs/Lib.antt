@@ -1,4 +1,9 @@
+mod Ahead
 mod Bezout
 mod Corners
 mod Extremal
 mod InOneLoop
+mod Multiples
+mod Points
+mod Steps
+mod Unknowns

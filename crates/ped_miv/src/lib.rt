@@ -5,6 +5,7 @@
 mod banerjee;
 mod differences;
 mod extremes;
+mod rows;
 mod solutions;
 
 pub use banerjee::{banerjee_excludes, may_refine};

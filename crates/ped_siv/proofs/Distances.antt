@@ -7,7 +7,7 @@ use Rattle.ped_views.specs.Views.{Range}
 use Rattle.ped_views.specs.Excluded.{StandsByValue, by_value, InRange, Meets, NeverMeetsInStep}
 use Rattle.ped_views.proofs.Products.{linear, mul-sub, mul-cancel}
 use Rattle.ped_siv.specs.Fits.{FitsSpan, FitsRange}
-use Rattle.ped_siv.proofs.Answering.{turned}
+use Rattle.ped_views.proofs.Decided.{turned}
 
 -- index values that make the subscripts equal stand at the distance, and those at the distance make them equal
 distance_of : (a c1 c2 distance i j : ℤ) → ¬ (a ≡ pos 0) → a *ℤ distance ≡ c1 -ℤ c2 → a *ℤ i +ℤ c1 ≡ a *ℤ j +ℤ c2 → j -ℤ i ≡ distance

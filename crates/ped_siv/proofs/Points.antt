@@ -8,7 +8,7 @@ use Rattle.ped_views.specs.Excluded.{StandsByValue, by_value, InRange, Meets, Ne
 use Rattle.ped_views.specs.Excluded as excluded
 use Rattle.ped_views.proofs.Products.{linear, mul-cancel}
 use Rattle.ped_siv.specs.Fits.{HasPartner, HasNoPoint}
-use Rattle.ped_siv.proofs.Answering.{turned}
+use Rattle.ped_views.proofs.Decided.{turned}
 
 -- a value that stands so to another of the range
 partner_of : (r : Range) (d : Direction) (i j : ℤ) → InRange r i → InRange r j → StandsByValue d i j → HasPartner d i r.lo r.hi

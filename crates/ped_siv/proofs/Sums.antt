@@ -9,7 +9,7 @@ use Rattle.ped_views.specs.Views.{Range}
 use Rattle.ped_views.specs.Excluded.{StandsByValue, by_value, InRange, Meets, NeverMeets}
 use Rattle.ped_views.proofs.Products.{linear, mul-add, neg-mul, mul-cancel}
 use Rattle.ped_siv.specs.Fits.{FitsSum}
-use Rattle.ped_siv.proofs.Answering.{turned}
+use Rattle.ped_views.proofs.Decided.{turned}
 
 -- the sum of two values of the range fits
 sum_fits : (r : Range) (d : Direction) (i j s : ℤ) → InRange r i → InRange r j → StandsByValue d i j → i +ℤ j ≡ s → FitsSum d s (r.lo +ℤ r.lo) (r.hi +ℤ r.hi)

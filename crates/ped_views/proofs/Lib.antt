@@ -1,4 +1,5 @@
 pub mod Chosen
+pub mod Decided
 pub mod Dividing
 mod Equal
 pub mod Images

@@ -37,7 +37,7 @@ module _ (whole ahead part rest : ℤ → Type 0) (sum : Interval) (before : Ahe
       let ends = add_ends sum one more s.ordered t.ordered image in
       record {
         some = λ l h y. extreme_at whole (sum.lo +ℤ (one.lo +ℤ l)) (sum.hi +ℤ (one.hi +ℤ h)) (more.lo +ℤ l) (more.hi +ℤ h) (omega (arith, linear)) (omega (arith, linear))
-        (before.some (one.lo +ℤ l) (one.hi +ℤ h) (opened (one.lo +ℤ l) (one.hi +ℤ h) (extreme_plus part rest one.lo one.hi l h x y)));
+            (before.some (one.lo +ℤ l) (one.hi +ℤ h) (opened (one.lo +ℤ l) (one.hi +ℤ h) (extreme_plus part rest one.lo one.hi l h x y)));
         none = λ none. before.none (λ v a. let p = (opens v).0 a in none p.1 p.3);
       }
     where

@@ -44,7 +44,8 @@ module _ (w x y z : ℤ) (r : Interval) (l : r.lo ≡ int_min (int_min w x) (int
     greatest = elim (greatest_one w x y z) [ inl e ↦ subst P (sym (h ∙ e)) p | inr (inl e) ↦ subst P (sym (h ∙ e)) q | inr (inr (inl e)) ↦ subst P (sym (h ∙ e)) s | inr (inr (inr e)) ↦ subst P (sym (h ∙ e)) t ];
     between = λ v u. (
       from v r.lo u (omega (arith, linear, clamps)) (omega (arith, linear, clamps)) (omega (arith, linear, clamps)) (omega (arith, linear, clamps)),
-      to v r.hi u (omega (arith, linear, clamps)) (omega (arith, linear, clamps)) (omega (arith, linear, clamps)) (omega (arith, linear, clamps)));
+      to v r.hi u (omega (arith, linear, clamps)) (omega (arith, linear, clamps)) (omega (arith, linear, clamps)) (omega (arith, linear, clamps)),
+    );
   }
 
   pub within_four : (n : ℕ) → unsigned_abs w ≤ n → unsigned_abs x ≤ n → unsigned_abs y ≤ n → unsigned_abs z ≤ n → IsWithin n r

@@ -1,11 +1,13 @@
 -- The points of a view, loop by loop: the difference at a point is the sum of what its loops add.
-use Rattle.std.proofs.Common.{◌≡◌, ◌↔◌, ℕ, refl, sym, ap, ◌∙◌, arith, inl, inr, ◌⊎◌, ℤ, pos, ◌+ℤ◌, ◌-ℤ◌, ◌*ℤ◌, List, [], ◌∷◌, length, Bool, true, false, ◌&&◌, IsTrue, Some, None}
+use Rattle.std.proofs.Common.{◌≡◌, ◌↔◌, ℕ, refl, sym, ap, ◌∙◌, arith, inl, inr, ◌⊎◌, ℤ, pos, ◌+ℤ◌, ◌-ℤ◌, ◌*ℤ◌, ◌≤ℤ◌, ◌<ℤ◌, List, [], ◌∷◌, length, Bool, true, false, ◌&&◌, IsTrue, Some, None}
 use Rattle.std.proofs.Math.IntN.{zero-*ℤ}
+use Rattle.std.proofs.lemmas.Int.{by_lt_z, ints}
+use lib.Signed.{lt_z}
 use Rattle.ped_views.specs.declared.directions.Direction.{Direction}
 use Rattle.ped_views.specs.Whole.{is_zero}
 use Rattle.ped_views.specs.Views.{Range, SubscriptPair, View}
 use Rattle.ped_views.specs.Limits.{FitsLoops}
-use Rattle.ped_views.specs.Excluded.{InRange, Indices, HasIndices, dot, difference, CommonInRange, InnerInRange, IsPoint}
+use Rattle.ped_views.specs.Excluded.{InRange, Indices, HasIndices, dot, difference, CommonInRange, InnerInRange, IsPoint, IsBeyondExtremes}
 use Rattle.ped_views.proofs.Products.{linear}
 use Rattle.ped_miv.specs.Values.{Extreme, Plus, FormValue, InLoop, LoopValue, CommonValue, InnerValue, DifferenceValue}
 
@@ -17,13 +19,15 @@ common_value (r ∷ loops) (d ∷ vector) (a ∷ source) (b ∷ sink) (i ∷ is)
   dot source is -ℤ dot sink js,
   record { i = i; j = j; stand = p.0; is = refl },
   common_value loops vector source sink is js (omega arith) (omega arith) (omega arith) (omega arith) p.1,
-  omega (arith, linear))
+  omega (arith, linear),
+)
 common_value (r ∷ loops) [] (a ∷ source) (b ∷ sink) (i ∷ is) (j ∷ js) e f g h p = (
   a *ℤ i -ℤ b *ℤ j,
   dot source is -ℤ dot sink js,
   record { i = i; j = j; stand = p.0; is = refl },
   common_value loops [] source sink is js (omega arith) (omega arith) (omega arith) (omega arith) p.1,
-  omega (arith, linear))
+  omega (arith, linear),
+)
 common_value loops vector source sink is js e f g h p = absurd (omega arith)
 
 -- what the common loops add is added by some indices
@@ -73,7 +77,8 @@ inner_value (r ∷ loops) (a ∷ row) (i ∷ xs) e f p = (
   dot row xs,
   record { i = i; j = i; stand = into_loop r a i p.0; is = beside_zero a i i },
   inner_value loops row xs (omega arith) (omega arith) p.1,
-  refl)
+  refl,
+)
 inner_value loops row xs e f p = absurd (omega arith)
 
 pub record InnerIndices (loops : List Range) (row : List ℤ) (v : ℤ) : Type 0 where
@@ -130,15 +135,16 @@ module _ (v : View) (p : SubscriptPair) (vector : List Direction) (fits : FitsLo
       let u = inner_indices v.sink_inner p.sink.inner z fits.sink_inner c in
       let sx = s.value in
       let ty = t.value in
-      let uz = u.value in
-      (record { source = s.is; sink = s.js; source_inner = t.xs; sink_inner = u.xs },
-       record {
-         indices = record { source = s.source_long; sink = s.sink_long; source_inner = t.long; sink_inner = u.long };
-         common = s.in_range;
-         source_inner = t.in_range;
-         sink_inner = u.in_range;
-       },
-       omega (arith, linear))
+      let uz = u.value in (
+        record { source = s.is; sink = s.js; source_inner = t.xs; sink_inner = u.xs },
+        record {
+          indices = record { source = s.source_long; sink = s.sink_long; source_inner = t.long; sink_inner = u.long };
+          common = s.in_range;
+          source_inner = t.in_range;
+          sink_inner = u.in_range;
+        },
+        omega (arith, linear),
+      )
 
   -- the extremes of the difference, from those of its parts
   pub difference_extreme : (cl ch sl sh kl kh n l h : ℤ) → Extreme common cl ch → Extreme at_source sl sh → Extreme at_sink kl kh → n ≡ p.source.constant -ℤ p.sink.constant → l ≡ cl +ℤ sl -ℤ kh +ℤ n → h ≡ ch +ℤ sh -ℤ kl +ℤ n → Extreme (DifferenceValue v p vector) l h
@@ -146,8 +152,42 @@ module _ (v : View) (p : SubscriptPair) (vector : List Direction) (fits : FitsLo
     least = reached cl sl kh l a.least b.least c.greatest (omega (arith, linear));
     greatest = reached ch sh kl h a.greatest b.greatest c.least (omega (arith, linear));
     between = λ w (at, q, e).
-      let x = a.between (dot p.source.common at.source -ℤ dot p.sink.common at.sink) (common_at at q) in
-      let y = b.between (dot p.source.inner at.source_inner) (source_at at q) in
-      let z = c.between (dot p.sink.inner at.sink_inner) (sink_at at q) in
-      (omega (arith, linear, x, y, z, e), omega (arith, linear, x, y, z, e));
+        let x = a.between (dot p.source.common at.source -ℤ dot p.sink.common at.sink) (common_at at q) in
+        let y = b.between (dot p.source.inner at.source_inner) (source_at at q) in
+        let z = c.between (dot p.sink.inner at.sink_inner) (sink_at at q) in
+        (omega (arith, linear, x, y, z, e), omega (arith, linear, x, y, z, e));
   }
+
+-- the code's test of two numbers
+lt_decided : (a b : ℤ) → IsTrue (lt_z a b) ↔ (a <ℤ b)
+lt_decided a b = (λ t. to t, λ h. from h)
+  where
+    to : IsTrue (lt_z a b) → a <ℤ b
+    to t = grind (arith, ints)
+
+    from : a <ℤ b → IsTrue (lt_z a b)
+    from h = grind (arith, ints)
+
+-- zero and the extremes of the difference
+module _ (v : View) (p : SubscriptPair) (vector : List Direction) where
+  pub beyond_nothing : ((w : ℤ) → ¬ (DifferenceValue v p vector w)) → IsBeyondExtremes v p vector
+  beyond_nothing none low high a b x y = none (difference p low) (low, a, refl)
+
+  module _ (l h : ℤ) (extreme : Extreme (DifferenceValue v p vector) l h) where
+    pub beyond_least : pos 0 <ℤ l → IsBeyondExtremes v p vector
+    beyond_least k low high a b x y = let s = extreme.between (difference p low) (low, a, refl) in omega (arith, linear, s)
+
+    pub beyond_greatest : h <ℤ pos 0 → IsBeyondExtremes v p vector
+    beyond_greatest k low high a b x y = let s = extreme.between (difference p high) (high, b, refl) in omega (arith, linear, s)
+
+    pub not_beyond : l ≤ℤ pos 0 → pos 0 ≤ℤ h → ¬ (IsBeyondExtremes v p vector)
+    not_beyond k m beyond =
+        let (low, a, e) = extreme.least in
+        let (high, b, f) = extreme.greatest in
+        beyond low high a b (omega (arith, linear)) (omega (arith, linear))
+
+    -- the second half of the code's test, where the first fails
+    pub beyond_decided : l ≤ℤ pos 0 → IsTrue (lt_z h (pos 0)) ↔ IsBeyondExtremes v p vector
+    beyond_decided k =
+        let d = lt_decided h (pos 0) in
+        (λ x. beyond_greatest (d.0 x), λ b. d.1 (by_lt_z h (pos 0) (λ m. m) (λ m. absurd (not_beyond k m b))))

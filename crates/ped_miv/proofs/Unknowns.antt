@@ -51,17 +51,33 @@ inner_forms_end row k h v = subst (λ (x : List ℤ). InnerForm x v ↔ (v ≡ p
 common_form : (source sink : List ℤ) (vector : List Direction) (is js : List ℤ) → length source ≡ length sink → length is ≡ length source → length js ≡ length sink → SharesIndices vector is js → CommonForm source sink vector (dot source is -ℤ dot sink js)
 common_form [] [] vector [] [] e f g p = omega (arith, linear)
 common_form (a ∷ source) (b ∷ sink) (Same ∷ vector) (i ∷ is) (j ∷ js) e f g p = (
-  a *ℤ i -ℤ b *ℤ j, dot source is -ℤ dot sink js, record { i = i; j = j; stand = p.0; is = refl },
-  common_form source sink vector is js (omega arith) (omega arith) (omega arith) p.1, omega (arith, linear))
+  a *ℤ i -ℤ b *ℤ j,
+  dot source is -ℤ dot sink js,
+  record { i = i; j = j; stand = p.0; is = refl },
+  common_form source sink vector is js (omega arith) (omega arith) (omega arith) p.1,
+  omega (arith, linear),
+)
 common_form (a ∷ source) (b ∷ sink) (Before ∷ vector) (i ∷ is) (j ∷ js) e f g p = (
-  a *ℤ i -ℤ b *ℤ j, dot source is -ℤ dot sink js, record { i = i; j = j; stand = tt; is = refl },
-  common_form source sink vector is js (omega arith) (omega arith) (omega arith) p, omega (arith, linear))
+  a *ℤ i -ℤ b *ℤ j,
+  dot source is -ℤ dot sink js,
+  record { i = i; j = j; stand = tt; is = refl },
+  common_form source sink vector is js (omega arith) (omega arith) (omega arith) p,
+  omega (arith, linear),
+)
 common_form (a ∷ source) (b ∷ sink) (After ∷ vector) (i ∷ is) (j ∷ js) e f g p = (
-  a *ℤ i -ℤ b *ℤ j, dot source is -ℤ dot sink js, record { i = i; j = j; stand = tt; is = refl },
-  common_form source sink vector is js (omega arith) (omega arith) (omega arith) p, omega (arith, linear))
+  a *ℤ i -ℤ b *ℤ j,
+  dot source is -ℤ dot sink js,
+  record { i = i; j = j; stand = tt; is = refl },
+  common_form source sink vector is js (omega arith) (omega arith) (omega arith) p,
+  omega (arith, linear),
+)
 common_form (a ∷ source) (b ∷ sink) [] (i ∷ is) (j ∷ js) e f g p = (
-  a *ℤ i -ℤ b *ℤ j, dot source is -ℤ dot sink js, record { i = i; j = j; stand = tt; is = refl },
-  common_form source sink [] is js (omega arith) (omega arith) (omega arith) tt, omega (arith, linear))
+  a *ℤ i -ℤ b *ℤ j,
+  dot source is -ℤ dot sink js,
+  record { i = i; j = j; stand = tt; is = refl },
+  common_form source sink [] is js (omega arith) (omega arith) (omega arith) tt,
+  omega (arith, linear),
+)
 common_form source sink vector is js e f g p = absurd (omega arith)
 
 -- what the common loops add is added by some indices

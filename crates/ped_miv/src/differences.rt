@@ -31,19 +31,15 @@ pub(crate) fn difference_extremes(
 }
 
 /// What the common loops add.
-fn common_part(
-    view: &PairView,
-    position: &Position,
-    directions: &[Direction],
-) -> Option<Interval>
+fn common_part(view: &PairView, position: &Position, directions: &[Direction]) -> Option<Interval>
     requires source { length position.now.source.common ≡ length view.now.loops }
     requires sink { length position.now.sink.common ≡ length view.now.loops }
     ensures extremes { AreExtremes
         (CommonValue
-            view.now.loops
-            directions.now
-            position.now.source.common
-            position.now.sink.common)
+        view.now.loops
+        directions.now
+        position.now.source.common
+        position.now.sink.common)
         result }
     ensures small { IfSome result (λ x. IsWithin (2 ^ 97) x) }
 {

@@ -23,10 +23,10 @@ loop-k-preserved c =
     let g = simp to_z-of_z at c.gcd-divisor.ensures in
     record {
       ahead = simp to_z-of_z (AreAhead-step (CommonForm c.args.source.now c.args.sink.now c.args.directions.now)
-        (forms_from c.args.source.now c.args.sink.now c.args.directions.now c.loop-k.k)
-        (FormValue (IsShared c.copied.result) (get_or c.args.source.now c.loop-k.k (pos 0)) (get_or c.args.sink.now c.loop-k.k (pos 0)))
-        (forms_from c.args.source.now c.args.sink.now c.args.directions.now (c.loop-k.k + 1))
-        (to_z w128 c.loop-k.divisor-bits) c.loop_divisor.result c.gcd-divisor.result c.loop-k.invariant.ahead opens part g);
+          (forms_from c.args.source.now c.args.sink.now c.args.directions.now c.loop-k.k)
+          (FormValue (IsShared c.copied.result) (get_or c.args.source.now c.loop-k.k (pos 0)) (get_or c.args.sink.now c.loop-k.k (pos 0)))
+          (forms_from c.args.source.now c.args.sink.now c.args.directions.now (c.loop-k.k + 1))
+          (to_z w128 c.loop-k.divisor-bits) c.loop_divisor.result c.gcd-divisor.result c.loop-k.invariant.ahead opens part g);
       not_negative = simp to_z-of_z c.gcd-divisor.ensures.not_negative;
     }
 

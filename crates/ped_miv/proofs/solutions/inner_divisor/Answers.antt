@@ -22,10 +22,10 @@ loop-a-preserved c =
     let opens = inner_forms_step c.args.row.now c.loop-a.a-index _ c.loop-a-test.true refl in
     record {
       ahead = simp to_z-of_z (AreAhead-step (InnerForm c.args.row.now)
-        (inner_forms_from c.args.row.now c.loop-a.a-index)
-        (Divides (get_or c.args.row.now c.loop-a.a-index (pos 0)))
-        (inner_forms_from c.args.row.now (c.loop-a.a-index + 1))
-        (to_z w128 c.loop-a.divisor-bits) (get_or c.args.row.now c.loop-a.a-index (pos 0)) c.gcd-divisor.result c.loop-a.invariant.ahead opens (λ v. (λ x. x, λ x. x)) g);
+          (inner_forms_from c.args.row.now c.loop-a.a-index)
+          (Divides (get_or c.args.row.now c.loop-a.a-index (pos 0)))
+          (inner_forms_from c.args.row.now (c.loop-a.a-index + 1))
+          (to_z w128 c.loop-a.divisor-bits) (get_or c.args.row.now c.loop-a.a-index (pos 0)) c.gcd-divisor.result c.loop-a.invariant.ahead opens (λ v. (λ x. x, λ x. x)) g);
       not_negative = simp to_z-of_z c.gcd-divisor.ensures.not_negative;
     }
 

@@ -1,6 +1,6 @@
 //! Banerjee's test with directions.
 
-ghost use Rattle.std.specs.Prelude.{◌≡◌, ◌<◌, ◌↔◌, length, slice_get, IfSome, IsTrue};
+ghost use Rattle.std.specs.Prelude.{◌≡◌, ◌<◌, ◌↔◌, length, slice_get, IfSome, IfOk, IsTrue};
 ghost use Rattle.std.specs.Bool.{IsFalse};
 ghost use Rattle.ped_views.specs.Limits.{FitsLoops};
 ghost use Rattle.ped_views.specs.Excluded.{IsBeyondExtremes, IsDeadEnd};
@@ -63,25 +63,25 @@ mod tests {
         steady: true,
     };
 
-    /// A view of two common loops whose one position has the source I + J.
-    fn view(
-        alloc: Global,
-        range: LoopRange,
-        sink: [i32; 2],
-        constant: i32,
-    ) -> Result<PairView, NoMemory> {
+    fn row(alloc: Global, constant: i32) -> Result<AffRow, NoMemory>
+        ensures { IfOk result (λ r. (length r.common ≡ 2) × (length r.inner ≡ 0)) }
+    {
+        Ok(AffRow {
+            common: vec![in alloc; 1, 1]?,
+            inner: vec![in alloc]?,
+            constant: i64::from(constant),
+        })
+    }
+
+    /// A view of two loops whose one position has the subscripts I + J at the source and I + J + `constant` at
+    /// the sink.
+    fn view(alloc: Global, range: LoopRange, constant: i32) -> Result<PairView, NoMemory>
+        ensures { IfOk result (λ v. 0 < length v.positions) }
+    {
         let position = Position {
             usable: true,
-            source: AffRow {
-                common: vec![in alloc; 1, 1]?,
-                inner: vec![in alloc]?,
-                constant: 0,
-            },
-            sink: AffRow {
-                common: vec![in alloc; i64::from(sink[0]), i64::from(sink[1])]?,
-                inner: vec![in alloc]?,
-                constant: i64::from(constant),
-            },
+            source: row(alloc, 0)?,
+            sink: row(alloc, constant)?,
         };
         Ok(PairView {
             loops: vec![in alloc; range, range]?,
@@ -93,25 +93,23 @@ mod tests {
 
     #[test]
     fn directions_narrow_the_extremes(rt: HostRuntime) -> Result<(), Fail> {
-        let alloc = rt.alloc();
-        let same = view(alloc, RANGE, [1, 1], 0)?;
+        let same = view(rt.alloc(), RANGE, 0)?;
         assert!(rt; banerjee_excludes(&same, 0, &[Direction::Before, Direction::Before]));
         assert!(rt; !banerjee_excludes(&same, 0, &[Direction::Before, Direction::After]));
-        assert!(rt; may_refine(&same, &[]));
-        assert!(rt; may_refine(&same, &[Direction::Before]));
-        assert!(rt; !may_refine(&same, &[Direction::Before, Direction::Same]));
-        let far = view(alloc, RANGE, [1, 1], 40)?;
-        assert!(rt; !may_refine(&far, &[]));
+        let once = view(rt.alloc(), LoopRange { hi: 1, ..RANGE }, 0)?;
+        assert!(rt; banerjee_excludes(&once, 0, &[Direction::Before, Direction::After]));
+        assert!(rt; !banerjee_excludes(&once, 0, &[Direction::Same, Direction::Same]));
         Ok(())
     }
 
     #[test]
-    fn only_loops_that_occur_lack_points(rt: HostRuntime) -> Result<(), Fail> {
-        let alloc = rt.alloc();
-        let once = LoopRange { hi: 1, ..RANGE };
-        let pair = view(alloc, once, [1, 1], 0)?;
-        assert!(rt; banerjee_excludes(&pair, 0, &[Direction::Before, Direction::After]));
-        assert!(rt; !banerjee_excludes(&pair, 0, &[Direction::Same, Direction::Same]));
+    fn a_prefix_leaves_the_directions_behind_it_open(rt: HostRuntime) -> Result<(), Fail> {
+        let same = view(rt.alloc(), RANGE, 0)?;
+        assert!(rt; may_refine(&same, &[]));
+        assert!(rt; may_refine(&same, &[Direction::Before]));
+        assert!(rt; !may_refine(&same, &[Direction::Before, Direction::Same]));
+        let far = view(rt.alloc(), RANGE, 40)?;
+        assert!(rt; !may_refine(&far, &[]));
         Ok(())
     }
 }

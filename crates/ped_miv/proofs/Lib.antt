@@ -1,0 +1,10 @@
+mod Ahead
+mod Bezout
+mod Corners
+mod Decided
+mod Extremal
+mod InOneLoop
+mod Multiples
+mod Points
+mod Steps
+mod Unknowns

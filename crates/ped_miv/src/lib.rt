@@ -1,0 +1,12 @@
+//! The dependence tests for subscripts in any number of indices (Allen and Kennedy, section 3.3): the GCD test,
+//! and Banerjee's test with directions. They take no memory and go over loops, never over iterations.
+#![tactic(auto)]
+
+mod banerjee;
+mod differences;
+mod extremes;
+mod rows;
+mod solutions;
+
+pub use banerjee::{banerjee_excludes, may_refine};
+pub use solutions::gcd_excludes;

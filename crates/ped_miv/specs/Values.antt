@@ -1,4 +1,4 @@
--- The values that loops add to the difference of two subscripts, each as a sentence about a whole number.
+-- The values that loops add to the difference of two subscripts, each as a sentence about a whole number (Allen and Kennedy, section 3.3.3; this project).
 use Rattle.std.specs.Prelude.{◌≡◌, ◌⊎◌, ◌↔◌, ℤ, pos, ◌+ℤ◌, ◌-ℤ◌, ◌*ℤ◌, ◌≤ℤ◌, ◌<ℤ◌, List, [], ◌∷◌, Option, Some, None, MatchOption, IsTrue, ◌&&◌}
 use Rattle.ped_views.specs.declared.directions.Direction.{Direction}
 use Rattle.ped_views.specs.declared.directions.Direction.TheVariants.{Before, Same, After}

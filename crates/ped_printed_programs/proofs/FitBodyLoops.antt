@@ -69,7 +69,7 @@ private_blocks behind_do s names l h bs new free =
     let cs : List Block = in_do (begun l h) ∷ bs in
     ap (λ b. left_by s.label (cond b (with_private s.line names cs) cs)) new ∙ free_left s (in_do (loop_of l h (private_list s names)) ∷ bs) free
 
-pub private_fitting : (ks : List (List ℕ)) (bs : List Block) (d n m l : ℕ) (h : Head) (c : Context) (p : PrivateForm) → c.behind_do ≡ true → At ks (in_do (begun l h) ∷ bs) n m c → IsTrue (Forms.private_fits (l ∷ labels bs) p) → Sourced (private_entries p)
+pub private_fitting : (ks : List (List ℕ)) (bs : List Block) (d n m l : ℕ) (h : Head) (c : Context) (p : PrivateForm) → c.behind_do ≡ true → At ks (in_do (begun l h) ∷ bs) n m c → IsTrue (Forms.private_keeps_labels (l ∷ labels bs) p) → Sourced (private_entries p)
     → Fitting ks (in_do (loop_of l h p) ∷ bs) d n m c (comments_of_private p) (private_entries p) (in_do (loop_of l h p) ∷ bs)
 private_fitting ks bs d n m l h c no_private new a free r = nothing_fitting ks (in_do (loop_of l h no_private) ∷ bs) d n m c a
 private_fitting ks bs d n m l h c (private_list s names) new a free r =

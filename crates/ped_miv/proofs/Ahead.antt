@@ -1,5 +1,5 @@
 -- A loop over parts of a sum: what the parts so far tell, whatever the parts ahead are.
-use Rattle.std.proofs.Common.{◌≡◌, ◌↔◌, ℕ, ◌+◌, ◌*◌, ◌≤◌, sym, subst, ◌∙◌, arith, ℤ, pos, ◌+ℤ◌, ◌≤ℤ◌}
+use Rattle.std.proofs.Common.{◌≡◌, ◌↔◌, ℕ, ◌+◌, ◌*◌, subst, arith, ℤ, pos, ◌+ℤ◌}
 use Rattle.ped_views.specs.declared.intervals.Interval.{Interval}
 use Rattle.ped_views.specs.Intervals.{IsWithin, IsImageOfBoth}
 use Rattle.ped_views.proofs.Products.{linear}

@@ -1,5 +1,5 @@
 -- What one loop adds, by the place of its two index values: in a square, on its diagonal, or in one of its triangles.
-use Rattle.std.proofs.Common.{◌≡◌, refl, sym, ap, subst, ◌∙◌, arith, inl, inr, ◌⊎◌, ℤ, pos, ◌-ℤ◌, ◌*ℤ◌, neg_ℤ, ◌≤ℤ◌, ◌<ℤ◌, ◌&&◌, IsTrue, Option, Some, None, of_z, w64}
+use Rattle.std.proofs.Common.{◌≡◌, refl, sym, ap, subst, ◌∙◌, arith, inl, inr, ◌⊎◌, ℤ, pos, ◌-ℤ◌, ◌*ℤ◌, neg_ℤ, ◌&&◌, IsTrue, Option, Some, None, of_z, w64}
 use Rattle.std.proofs.Math.IntN.{zero-*ℤ}
 use Rattle.std.proofs.lemmas.Bool.Decides.{Decides-int_eq, Decides-and}
 use Rattle.ped_views.specs.declared.directions.Direction.{Direction}

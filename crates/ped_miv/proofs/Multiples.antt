@@ -1,8 +1,8 @@
 -- Sets of multiples: of a greatest common divisor, and of a loop over parts of a sum.
-use Rattle.std.proofs.Common.{◌≡◌, ◌↔◌, refl, sym, ap, subst, ◌∙◌, arith, ℤ, pos, ◌+ℤ◌, ◌-ℤ◌, ◌*ℤ◌, neg_ℤ, Option, Some, None}
+use Rattle.std.proofs.Common.{◌≡◌, ◌↔◌, refl, sym, ap, subst, ◌∙◌, arith, ℤ, pos, ◌+ℤ◌, ◌-ℤ◌, ◌*ℤ◌, neg_ℤ, Option, Some}
 use Rattle.std.proofs.Math.IntN.{zero-*ℤ, *ℤ-zero}
 use Rattle.ped_views.specs.declared.directions.Direction.{Direction}
-use Rattle.ped_views.specs.declared.directions.Direction.TheVariants.{Before, Same, After}
+use Rattle.ped_views.specs.declared.directions.Direction.TheVariants.{Same}
 use Rattle.ped_views.specs.Whole.{Divides, IsGreatestDivisor}
 use Rattle.ped_views.proofs.Products.{linear, sub-mul, mul-neg}
 use Rattle.ped_views.proofs.Dividing.{Divides-trans, Divides-times, Divides-add}

@@ -1,5 +1,5 @@
 -- The points of a view, loop by loop: the difference at a point is the sum of what its loops add.
-use Rattle.std.proofs.Common.{◌≡◌, ◌↔◌, ℕ, refl, sym, ap, ◌∙◌, arith, inl, inr, ◌⊎◌, ℤ, pos, ◌+ℤ◌, ◌-ℤ◌, ◌*ℤ◌, ◌≤ℤ◌, ◌<ℤ◌, List, [], ◌∷◌, length, Bool, true, false, ◌&&◌, IsTrue, Some, None}
+use Rattle.std.proofs.Common.{◌≡◌, ◌↔◌, refl, sym, ap, arith, inl, inr, ◌⊎◌, ℤ, pos, ◌+ℤ◌, ◌-ℤ◌, ◌*ℤ◌, ◌≤ℤ◌, ◌<ℤ◌, List, [], ◌∷◌, length, Bool, true, false, ◌&&◌, IsTrue, None}
 use Rattle.std.proofs.Math.IntN.{zero-*ℤ}
 use Rattle.std.proofs.lemmas.Int.{by_lt_z, ints}
 use lib.Signed.{lt_z}
@@ -7,9 +7,9 @@ use Rattle.ped_views.specs.declared.directions.Direction.{Direction}
 use Rattle.ped_views.specs.Whole.{is_zero}
 use Rattle.ped_views.specs.Views.{Range, SubscriptPair, View}
 use Rattle.ped_views.specs.Limits.{FitsLoops}
-use Rattle.ped_views.specs.Excluded.{InRange, Indices, HasIndices, dot, difference, CommonInRange, InnerInRange, IsPoint, IsBeyondExtremes}
+use Rattle.ped_views.specs.Excluded.{InRange, Indices, dot, difference, CommonInRange, InnerInRange, IsPoint, IsBeyondExtremes}
 use Rattle.ped_views.proofs.Products.{linear}
-use Rattle.ped_miv.specs.Values.{Extreme, Plus, FormValue, InLoop, LoopValue, CommonValue, InnerValue, DifferenceValue}
+use Rattle.ped_miv.specs.Values.{Extreme, InLoop, CommonValue, InnerValue, DifferenceValue}
 
 -- the indices of the common loops add what their loops add
 pub common_value : (loops : List Range) (vector : List Direction) (source sink is js : List ℤ) → length source ≡ length loops → length sink ≡ length loops → length is ≡ length source → length js ≡ length sink → CommonInRange loops vector source sink is js → CommonValue loops vector source sink (dot source is -ℤ dot sink js)

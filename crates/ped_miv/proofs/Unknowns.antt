@@ -1,5 +1,5 @@
 -- The unknowns of a subscript pair, loop by loop, and when they have a solution.
-use Rattle.std.proofs.Common.{◌≡◌, ◌↔◌, ℕ, zero, suc, ◌+◌, ◌≤◌, ◌<◌, refl, sym, ap, subst, ◌∙◌, arith, ℤ, pos, ◌+ℤ◌, ◌-ℤ◌, ◌*ℤ◌, neg_ℤ, List, [], ◌∷◌, length, get_or, drop, Bool, not, IsTrue, Option, Some, None}
+use Rattle.std.proofs.Common.{◌≡◌, ◌↔◌, ℕ, ◌+◌, ◌≤◌, ◌<◌, refl, sym, subst, arith, ℤ, pos, ◌+ℤ◌, ◌-ℤ◌, ◌*ℤ◌, neg_ℤ, List, [], ◌∷◌, length, get_or, drop, Bool, not, IsTrue, Option}
 use Rattle.std.specs.List.{slice_get}
 use Rattle.std.proofs.Math.Numerals.{add-one}
 use Rattle.ped_views.specs.declared.directions.Direction.{Direction}
@@ -8,7 +8,7 @@ use Rattle.ped_views.specs.Whole.{Divides, IsGreatestDivisor}
 use Rattle.ped_views.specs.Views.{SubscriptPair}
 use Rattle.ped_views.specs.Excluded.{Indices, HasIndices, SharesIndices, HasNoSolution, dot, difference}
 use Rattle.ped_views.proofs.Products.{linear}
-use Rattle.ped_views.proofs.Dividing.{Divides-trans, Divides-times, Divides-add}
+use Rattle.ped_views.proofs.Dividing.{Divides-trans, Divides-add}
 use Rattle.ped_miv.proofs.Decided.{turned}
 use Rattle.ped_miv.specs.Values.{Plus, AreMultiples, FormValue, IsShared, CommonForm, InnerForm}
 use Rattle.ped_miv.proofs.Bezout.{combination}

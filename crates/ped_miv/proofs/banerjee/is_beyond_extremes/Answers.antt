@@ -1,4 +1,4 @@
-use Rattle.std.proofs.Common.{◌≡◌, arith, rules, refl, pos, ◌≤ℤ◌, ◌<ℤ◌, FitsSigned}
+use Rattle.std.proofs.Common.{arith, rules, refl, pos, ◌≤ℤ◌, ◌<ℤ◌, FitsSigned}
 use Rattle.std.specs.Int.{w128}
 use Rattle.std.proofs.lemmas.Int.{to_z-of_z, ints}
 use Rattle.ped_miv.proofs.Points.{beyond_nothing, beyond_least, beyond_decided}

@@ -1,4 +1,4 @@
-use Rattle.std.proofs.Common.{arith, rules, sym, subst, ◌∙◌, refl, ◌+◌, pos, FitsSigned, w64, get_or, Option}
+use Rattle.std.proofs.Common.{arith, rules, sym, subst, ◌∙◌, refl, pos, FitsSigned, w64, get_or, Option}
 use Rattle.std.proofs.lemmas.Int.{to_z-of_z}
 use Rattle.ped_views.specs.declared.intervals.Interval.{Interval}
 use Rattle.ped_miv.specs.Values.{AreExtremes, CommonValue}

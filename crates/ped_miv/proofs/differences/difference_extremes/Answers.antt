@@ -1,4 +1,4 @@
-use Rattle.std.proofs.Common.{rules, refl, sym, subst, Option, FitsSigned}
+use Rattle.std.proofs.Common.{rules, sym, subst, Option, FitsSigned}
 use Rattle.std.specs.Int.{w128}
 use Rattle.std.proofs.lemmas.Int.{to_z-of_z}
 use Rattle.ped_views.specs.declared.intervals.Interval.{Interval}

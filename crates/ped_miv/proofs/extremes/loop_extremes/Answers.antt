@@ -1,4 +1,4 @@
-use Rattle.std.proofs.Common.{arith, rules, FitsSigned, w64, neg_ℤ, ◌∙◌, sym}
+use Rattle.std.proofs.Common.{arith, rules, FitsSigned, w64, ◌∙◌, sym}
 use Rattle.std.proofs.lemmas.Int.{to_z-of_z, ints}
 use Rattle.ped_views.proofs.Products.{linear}
 use Rattle.ped_miv.proofs.InOneLoop.{no_index, any_found, same_found, before_found, after_found}

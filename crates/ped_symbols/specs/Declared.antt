@@ -1,0 +1,83 @@
+-- What the declarations of a program say of its names, wherever they stand among them (ANSI X3.9-1978, sections 4.1.2, 5.1, 8).
+use Rattle.std.specs.Prelude.{ℕ, List, [], ◌∷◌, map, filter, Bool, true, false, not, ◌&&◌, nat_le, if◌then◌else◌}
+use Rattle.std.specs.List.{list_any, flat_map}
+use Rattle.ped_base.specs.Lists.{is_same_text, is_among}
+use Rattle.ped_tree.specs.Tree.{DeclTree, Program, Implicit, Integer, Dimension, Parameter, Save, Remark}
+use Rattle.ped_symbols.specs.declared.uses.Role.{Role}
+use Rattle.ped_symbols.specs.declared.uses.Role.TheVariants.{Typed, Dimensioned, Named, Saved, Rejected, Private, Index, Assigned, Operand}
+use Rattle.ped_symbols.specs.declared.uses.Use.{Use}
+use Rattle.ped_symbols.specs.Uses.{decl_uses}
+
+-- whether IMPLICIT INTEGER (A-Z) stands, the program's name, where it has one, and the uses of names in the declarations
+pub record Declared : Type 0 where
+  pub implicit : Bool
+  pub program : List (List ℕ)
+  pub uses : List Use
+
+-- IMPLICIT INTEGER (A-Z) (ANSI X3.9-1978, section 8.5)
+abbrev pub is_implicit : DeclTree → Bool
+is_implicit Implicit = true
+is_implicit d = false
+
+-- the name of the program (ANSI X3.9-1978, section 14.1)
+abbrev pub program_name : DeclTree → List (List ℕ)
+program_name (Program x) = x ∷ []
+program_name d = []
+
+-- what these declarations say
+abbrev pub declared_in : List DeclTree → Declared
+declared_in decls = record { implicit = list_any is_implicit decls; program = flat_map program_name decls; uses = flat_map decl_uses decls }
+
+-- named in INTEGER (ANSI X3.9-1978, section 8.4.1)
+abbrev pub is_typing : Role → Bool
+is_typing Typed = true
+is_typing role = false
+
+-- given dimensions (ANSI X3.9-1978, section 5.1)
+abbrev pub is_dimensioning : Role → Bool
+is_dimensioning (Dimensioned n) = true
+is_dimensioning role = false
+
+-- made a constant by PARAMETER (ANSI X3.9-1978, section 8.6)
+abbrev pub is_naming : Role → Bool
+is_naming Named = true
+is_naming role = false
+
+-- the names that are used in such a role
+abbrev pub names_with : (Role → Bool) → List Use → List (List ℕ)
+names_with test uses = map (λ u. u.name) (filter (λ u. test u.role) uses)
+
+-- named in INTEGER somewhere
+abbrev pub is_typed : Declared → List ℕ → Bool
+is_typed d x = is_among x (names_with is_typing d.uses)
+
+-- a named constant, wherever its PARAMETER stands
+abbrev pub is_constant : Declared → List ℕ → Bool
+is_constant d x = is_among x (names_with is_naming d.uses)
+
+-- the program's name
+abbrev pub is_program : Declared → List ℕ → Bool
+is_program d x = is_among x d.program
+
+-- begins with I to N (ANSI X3.9-1978, section 4.1.2)
+abbrev pub begins_integer : List ℕ → Bool
+begins_integer [] = false
+begins_integer (c ∷ cs) = nat_le 73 c && nat_le c 78
+
+-- of type REAL: no INTEGER names it, it doesn't begin with I to N, and no IMPLICIT makes it INTEGER (ANSI X3.9-1978, sections 4.1.2, 8.5)
+abbrev pub is_real : Declared → List ℕ → Bool
+is_real d x = not d.implicit && not (begins_integer x) && not (is_typed d x)
+
+-- how many dimensions a use gives a name, none for uses that give none (ANSI X3.9-1978, section 5.1.1)
+abbrev pub dimensions_of : Role → ℕ
+dimensions_of (Dimensioned n) = n
+dimensions_of role = 0
+
+-- how many dimensions a name has by the first of these uses that gives it some; 0 where none does (ANSI X3.9-1978, section 5.1.1)
+abbrev pub rank_in : List Use → List ℕ → ℕ
+rank_in [] x = 0
+rank_in (u ∷ us) x = if is_dimensioning u.role && is_same_text x u.name then dimensions_of u.role else rank_in us x
+
+-- how many dimensions a name has
+abbrev pub rank_of : Declared → List ℕ → ℕ
+rank_of d x = rank_in d.uses x

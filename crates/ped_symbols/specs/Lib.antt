@@ -1,0 +1,6 @@
+pub mod Declared
+pub mod Kinds
+pub mod NameRefusals
+pub mod Sites
+pub mod Uses
+pub mod Values

@@ -81,3 +81,12 @@ kinds_of t = map (λ x. (x, kind_of t x)) (names_of t)
 -- the kind of a name; none where it doesn't occur outside PROGRAM (this project)
 abbrev pub kind_in : ProgramTree → List ℕ → Option Kind
 kind_in t x = if is_among x (names_of t) then Some (kind_of t x) else None
+
+-- the names of a program with their kinds, and its constants with their values
+pub record Table : Type 0 where
+  pub kinds : List (List ℕ × Kind)
+  pub constants : Values
+
+-- the table of a program (this project)
+abbrev pub table_of : ProgramTree → Table
+table_of t = record { kinds = kinds_of t; constants = constants_of t }

@@ -1,0 +1,9 @@
+//! What the names of a program stand for, or the first rule that its names break: kinds by declarations and
+//! by first letters, bounds of arrays, values of constants (ANSI X3.9-1978, sections 4.1.2, 5, 8).
+#![tactic(auto)]
+
+mod symbols;
+mod uses;
+
+pub use symbols::{Kind, NameRefusal, Symbols, symbols};
+pub use uses::{Role, Use};

@@ -1,0 +1,105 @@
+//! The kinds of the names of a program.
+
+ghost use Rattle.std.specs.Prelude.{◌≡◌, [], map, Some, IfOk, IfErr};
+ghost use Rattle.ped_tree.specs.Views.{program_tree};
+ghost use Rattle.ped_symbols.specs.Kinds.{entry_of, table_of};
+ghost use Rattle.ped_symbols.specs.NameRefusals.{name_refusals};
+ghost use Rattle.ped_symbols.specs.Refused.{IsFirstOf};
+ghost use Rattle.ped_symbols.specs.declared.symbols.NameRefusal.TheVariants as variant;
+
+use indexmap::IndexMap;
+use ped_base::{Bounds, Name, Names, NoMemory};
+use ped_constants::Consts;
+use ped_grammar::Refusal;
+use ped_tree::Program;
+use std::alloc::Global;
+use std::marker::Model;
+use thiserror::Error;
+
+/// What a name stands for (ANSI X3.9-1978, sections 5 and 8.6).
+#[derive(Clone, Copy, PartialEq, Eq)]
+pub enum Kind {
+    /// A scalar variable.
+    Scalar,
+    /// An array with these bounds, which lie within 2147483647 of zero, none below its lower bound.
+    Array(Bounds),
+    /// A constant of this value, which lies within 2147483647 of zero.
+    Constant(i64),
+}
+
+/// Why the names of a program aren't right.
+#[derive(Clone, Copy, Debug, PartialEq, Eq, Error)]
+pub enum NameRefusal {
+    /// The first of the refusals of its names.
+    #[error("a name is refused")]
+    At(Refusal),
+    /// Memory ran out.
+    #[error("out of memory")]
+    NoMemory,
+}
+
+impl From<NoMemory> for NameRefusal {
+    ghost from_gives = { λ _ e. e ≡ variant.NoMemory };
+
+    fn from(_: NoMemory) -> NameRefusal {
+        NameRefusal::NoMemory
+    }
+}
+
+/// What the names of a program stand for. Contracts see its names in the order of their first occurrence,
+/// each with its kind, and its constants with their values.
+#[derive(Drop)]
+pub struct Symbols {
+    kinds: IndexMap<Name, Kind>,
+    constants: Consts,
+}
+
+impl Model for Symbols {
+    ghost use Rattle.ped_symbols.specs.Kinds.{Table};
+
+    ghost Value = { Table };
+
+    ghost view = { λ s. record { kinds = s.kinds.entries; constants = s.constants } };
+}
+
+impl Symbols {
+    /// What the name stands for: none exactly where the program doesn't use it, be it that PROGRAM names it.
+    pub fn kind(&self, name: &Name) -> Option<Kind>
+        ensures { result ≡ entry_of self.now.kinds name.now }
+    {
+        self.kinds.get(name).copied()
+    }
+
+    /// The named constants with their values, in the order of their PARAMETER items.
+    pub fn consts(&self) -> &Consts
+        ensures { result.now ≡ self.now.constants }
+    {
+        &self.constants
+    }
+
+    /// The names in the order of their first occurrence.
+    pub fn names(&self, alloc: Global) -> Result<Names, NoMemory>
+        ensures { IfOk result (λ names. names ≡ map (λ e. e.0) self.now.kinds) }
+    {
+        let mut names = Names::new(alloc);
+        for name in self.kinds.keys() {
+            names.push(*name)?;
+        }
+        Ok(names)
+    }
+}
+
+/// What the names of the program stand for. The lines of a refusal are those that the program was read from;
+/// 0 where it wasn't read from a text.
+///
+/// # Errors
+///
+/// `At` exactly where the names of the program break a rule, with the first refusal by line and then by
+/// number; `NoMemory` where memory runs out.
+pub fn symbols(alloc: Global, program: &Program) -> Result<Symbols, NameRefusal>
+    ensures right { IfOk result (λ s. name_refusals program.now.lines.items (program_tree program.now) ≡ []) }
+    ensures table { IfOk result (λ s. s ≡ table_of (program_tree program.now)) }
+    ensures refused { IfErr result (λ e. IsFirstOf (name_refusals program.now.lines.items (program_tree program.now)) e) }
+{
+    Err(NameRefusal::NoMemory)
+}

@@ -1,10 +1,11 @@
 -- What the names of a program stand for: scalars, arrays with their bounds, and constants with their values (ANSI X3.9-1978, sections 5, 8.6).
-use Rattle.std.specs.Prelude.{ℕ, ℤ, List, [], ◌∷◌, ◌++◌, map, Bool, Option, Some, None, if◌then◌else◌}
+use Rattle.std.specs.Prelude.{ℕ, ℤ, List, [], ◌∷◌, ◌++◌, map, length, nat_le, Bool, ◌&&◌, Option, Some, None, if◌then◌else◌}
 use Rattle.std.specs.List.{flat_map}
 use Rattle.ped_base.specs.Dimensions.{Dimensions}
-use Rattle.ped_base.specs.Lists.{is_same_text, is_among}
+use Rattle.ped_base.specs.Lists.{has_some, is_same_text, is_among}
 use Rattle.ped_tree.specs.Tree.{BoundTree, DeclaratorTree, DeclTree, Program, Implicit, Integer, Dimension, Parameter, Save, Remark, ProgramTree}
 use Rattle.ped_tree.specs.NamesIn.{first_occurrences}
+use Rattle.ped_grammar.specs.LimitNumbers.{most_dimensions}
 use Rattle.ped_symbols.specs.Sites.{program_sites, site_uses}
 use Rattle.ped_symbols.specs.Values.{Values, fixed_value, behind_decl, behind_decls}
 use Rattle.ped_symbols.specs.declared.symbols.Kind.{Kind}
@@ -32,10 +33,9 @@ abbrev pub with_bounds : List ℕ → Option Dimensions → List (List ℕ × Di
 with_bounds x None = []
 with_bounds x (Some d) = (x, d) ∷ []
 
--- the array of a name with these bounds; a name without dimensions is none (ANSI X3.9-1978, section 5.1.1)
+-- the array of a name with these bounds: one dimension or more, and no more than an array may have (ANSI X3.9-1978, section 5.1.1)
 abbrev pub by_bounds : Values → List ℕ → List BoundTree → List (List ℕ × Dimensions)
-by_bounds values x [] = []
-by_bounds values x (b ∷ bs) = with_bounds x (bounds_values values (b ∷ bs))
+by_bounds values x bounds = if has_some bounds && nat_le (length bounds) most_dimensions then with_bounds x (bounds_values values bounds) else []
 
 -- the array that a declarator declares (ANSI X3.9-1978, section 5.1.1)
 abbrev pub arrays_of : Values → DeclaratorTree → List (List ℕ × Dimensions)

@@ -9,6 +9,7 @@ use Rattle.ped_grammar.specs.Refusal.{Finding, RealName, DeclaredTwice, NotConst
 use Rattle.ped_symbols.specs.declared.uses.Role.{Role}
 use Rattle.ped_symbols.specs.declared.uses.Role.TheVariants.{Typed, Dimensioned, Named, Saved, Rejected, Private, Index, Assigned, Operand}
 use Rattle.ped_symbols.specs.declared.uses.Use.{Use}
+use Rattle.ped_symbols.specs.Uses.{decl_uses}
 use Rattle.ped_symbols.specs.Sites.{Site, declaration, statement, private_names, program_sites, site_uses}
 use Rattle.ped_symbols.specs.Declared.{Declared, declared_in, is_dimensioning, is_constant, is_program, is_real, rank_of}
 use Rattle.ped_symbols.specs.Values.{Values, behind_decl, site_fails, site_is_empty}
@@ -68,11 +69,11 @@ abbrev pub rejects_twice : StmtTree → Bool
 rejects_twice (Do h body) = has_twice h.rejected
 rejects_twice s = false
 
--- a name stands twice in one PRIVATE or among the rejected names of one DO (this project)
-abbrev pub lists_twice : Site → Bool
-lists_twice (declaration d) = false
-lists_twice (statement s) = rejects_twice s
-lists_twice (private_names names) = has_twice names
+-- a site repeats what may be said once: a declaration says again what uses before it say; a name stands twice among the rejected names of a DO or in a PRIVATE (ANSI X3.9-1978, section 8; this project)
+abbrev pub repeats : List Use → Site → Bool
+repeats before (declaration d) = declares_again before (decl_uses d)
+repeats before (statement s) = rejects_twice s
+repeats before (private_names names) = has_twice names
 
 -- a name is declared twice, or is used as what it isn't (ANSI X3.9-1978, sections 8, 18)
 abbrev pub is_declared_twice : Declared → List Use → Site → Bool
@@ -80,8 +81,7 @@ is_declared_twice d before s =
     list_any (uses_constant d) (site_uses s)
     || list_any (uses_program d) (site_uses s)
     || list_any dimensions_intrinsic (site_uses s)
-    || declares_again before (site_uses s)
-    || lists_twice s
+    || repeats before s
 
 -- how many subscripts a use has, where it tells: none for a PRIVATE name and the variable of a DO (ANSI X3.9-1978, sections 5.4, 11.10)
 abbrev pub subscripts_of : Role → Option ℕ
@@ -115,7 +115,7 @@ at_first = record { uses = []; values = [] }
 
 -- behind a site (ANSI X3.9-1978, section 8)
 abbrev pub behind_site : Before → Site → Before
-behind_site b (declaration d) = record { uses = b.uses ++ site_uses (declaration d); values = behind_decl b.values d }
+behind_site b (declaration d) = record { uses = b.uses ++ decl_uses d; values = behind_decl b.values d }
 behind_site b (statement s) = b
 behind_site b (private_names names) = b
 

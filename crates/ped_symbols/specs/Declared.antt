@@ -1,11 +1,12 @@
 -- What the declarations of a program say of its names, wherever they stand among them (ANSI X3.9-1978, sections 4.1.2, 5.1, 8).
-use Rattle.std.specs.Prelude.{ℕ, List, [], ◌∷◌, map, filter, Bool, true, false, not, ◌&&◌, nat_le, if◌then◌else◌}
+use Rattle.std.specs.Prelude.{ℕ, List, [], ◌∷◌, map, filter, Bool, true, false, not, ◌&&◌, nat_le, Option, Some, None}
 use Rattle.std.specs.List.{list_any, flat_map}
-use Rattle.ped_base.specs.Lists.{is_same_text, is_among}
+use Rattle.ped_base.specs.Lists.{is_among}
 use Rattle.ped_tree.specs.Tree.{DeclTree, Program, Implicit, Integer, Dimension, Parameter, Save, Remark}
 use Rattle.ped_symbols.specs.declared.uses.Role.{Role}
 use Rattle.ped_symbols.specs.declared.uses.Role.TheVariants.{Typed, Dimensioned, Named, Saved, Rejected, Private, Index, Assigned, Operand}
 use Rattle.ped_symbols.specs.declared.uses.Use.{Use}
+use Rattle.ped_symbols.specs.Entries.{entry_of}
 use Rattle.ped_symbols.specs.Uses.{decl_uses}
 
 -- whether IMPLICIT INTEGER (A-Z) stands, the program's name, where it has one, and the uses of names in the declarations
@@ -68,16 +69,20 @@ begins_integer (c ∷ cs) = nat_le 73 c && nat_le c 78
 abbrev pub is_real : Declared → List ℕ → Bool
 is_real d x = not d.implicit && not (begins_integer x) && not (is_typed d x)
 
--- how many dimensions a use gives a name, none for uses that give none (ANSI X3.9-1978, section 5.1.1)
-abbrev pub dimensions_of : Role → ℕ
-dimensions_of (Dimensioned n) = n
-dimensions_of role = 0
+-- a name with the number of dimensions that a use gives it, where it gives some (ANSI X3.9-1978, section 5.1.1)
+abbrev pub rank_by : List ℕ → Role → List (List ℕ × ℕ)
+rank_by x (Dimensioned n) = (x, n) ∷ []
+rank_by x role = []
 
--- how many dimensions a name has by the first of these uses that gives it some; 0 where none does (ANSI X3.9-1978, section 5.1.1)
-abbrev pub rank_in : List Use → List ℕ → ℕ
-rank_in [] x = 0
-rank_in (u ∷ us) x = if is_dimensioning u.role && is_same_text x u.name then dimensions_of u.role else rank_in us x
+-- the names that uses give dimensions, each with their number (ANSI X3.9-1978, section 5.1.1)
+abbrev pub ranks_in : List Use → List (List ℕ × ℕ)
+ranks_in uses = flat_map (λ u. rank_by u.name u.role) uses
 
--- how many dimensions a name has
+-- the number, or 0 where there is none (plain words)
+abbrev pub or_zero : Option ℕ → ℕ
+or_zero None = 0
+or_zero (Some n) = n
+
+-- how many dimensions a name has, by the first use that gives it some; 0 where none does (ANSI X3.9-1978, section 5.1.1)
 abbrev pub rank_of : Declared → List ℕ → ℕ
-rank_of d x = rank_in d.uses x
+rank_of d x = or_zero (entry_of (ranks_in d.uses) x)

@@ -1,6 +1,9 @@
+pub mod Arrays
 pub mod Declared
+pub mod Entries
 pub mod Kinds
 pub mod NameRefusals
+pub mod Passes
 pub mod Refused
 pub mod Sites
 pub mod Uses

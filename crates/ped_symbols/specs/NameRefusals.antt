@@ -13,6 +13,7 @@ use Rattle.ped_symbols.specs.Uses.{decl_uses}
 use Rattle.ped_symbols.specs.Sites.{Site, declaration, statement, private_names, program_sites, site_uses}
 use Rattle.ped_symbols.specs.Declared.{Declared, declared_in, is_dimensioning, is_constant, is_program, is_real, rank_of}
 use Rattle.ped_symbols.specs.Values.{Values, behind_decl, site_fails, site_is_empty}
+use Rattle.ped_symbols.specs.Arrays.{Arrays, arrays_in}
 
 -- the name is of type REAL; where it occurs first is where its refusal counts (ANSI X3.9-1978, section 4.1.2)
 abbrev pub uses_real : Declared → Use → Bool
@@ -104,20 +105,30 @@ differs rank (Some n) = not (n == rank)
 abbrev pub uses_other_rank : Declared → Use → Bool
 uses_other_rank d u = differs (rank_of d u.name) (subscripts_of u.role)
 
--- what stands before a site: the uses of names in declarations, and the named constants that hold
+-- what stands before a site: the uses of names in declarations, the named constants that hold, the arrays
 pub record Before : Type 0 where
   pub uses : List Use
   pub values : Values
+  pub arrays : Arrays
 
 -- before the first site
 abbrev pub at_first : Before
-at_first = record { uses = []; values = [] }
+at_first = record { uses = []; values = []; arrays = [] }
 
 -- behind a site (ANSI X3.9-1978, section 8)
 abbrev pub behind_site : Before → Site → Before
-behind_site b (declaration d) = record { uses = b.uses ++ decl_uses d; values = behind_decl b.values d }
+behind_site b (declaration d) = record {
+  uses = b.uses ++ decl_uses d;
+  values = behind_decl b.values d;
+  arrays = b.arrays ++ arrays_in b.values d;
+}
 behind_site b (statement s) = b
 behind_site b (private_names names) = b
+
+-- behind sites, one behind the other
+abbrev pub behind_sites : Before → List Site → Before
+behind_sites b [] = b
+behind_sites b (s ∷ rest) = behind_sites (behind_site b s) rest
 
 -- what is refused at a site on this line
 abbrev pub at_site : Declared → Before → ℕ → Site → List Finding

@@ -1,11 +1,11 @@
 -- The values of named constants, and of bounds and increments, by the PARAMETER items that stand before (ANSI X3.9-1978, sections 5.1.1.1, 8.6, 11.10.2).
-use Rattle.std.specs.Prelude.{ℕ, ℤ, pos, List, [], ◌∷◌, ◌++◌, map, unsigned_abs, nat_le, int_lt, Bool, true, false, not, ◌||◌, Option, Some, None, if◌then◌else◌}
+use Rattle.std.specs.Prelude.{ℕ, ℤ, pos, List, [], ◌∷◌, unsigned_abs, nat_le, int_lt, Bool, true, false, not, ◌||◌, Option, Some, None, if◌then◌else◌}
 use Rattle.std.specs.List.{list_any}
 use Rattle.std.specs.Ordering.{int_eq}
-use Rattle.ped_base.specs.Lists.{is_among}
 use Rattle.ped_tree.specs.Tree.{ExprTree, StmtTree, Assign, If, Do, Print, Read, Stop, Comment, BoundTree, DeclaratorTree, DeclTree, Program, Implicit, Integer, Dimension, Parameter, Save, Remark}
 use Rattle.ped_grammar.specs.LimitNumbers.{greatest_literal}
 use Rattle.ped_constants.specs.ConstantExpressions.{constant_value}
+use Rattle.ped_symbols.specs.Entries.{with_entry}
 use Rattle.ped_symbols.specs.Sites.{Site, declaration, statement, private_names}
 
 -- named constants with their values, in order
@@ -29,7 +29,7 @@ is_missing (Some n) = false
 -- the constants with one more behind them, where it has a value; of a name that has one already the first counts (ANSI X3.9-1978, section 8.6)
 abbrev pub with_value : Values → List ℕ → Option ℤ → Values
 with_value values x None = values
-with_value values x (Some n) = if is_among x (map (λ v. v.0) values) then values else values ++ (x, n) ∷ []
+with_value values x (Some n) = with_entry values x n
 
 -- behind the items of a PARAMETER, each of which holds from its own place on (ANSI X3.9-1978, section 8.6)
 abbrev pub behind_items : Values → List (List ℕ × ExprTree) → Values
@@ -40,11 +40,6 @@ behind_items values (v ∷ vs) = behind_items (with_value values v.0 (fixed_valu
 abbrev pub behind_decl : Values → DeclTree → Values
 behind_decl values (Parameter items) = behind_items values items
 behind_decl values d = values
-
--- behind declarations (ANSI X3.9-1978, section 8.6)
-abbrev pub behind_decls : Values → List DeclTree → Values
-behind_decls values [] = values
-behind_decls values (d ∷ ds) = behind_decls (behind_decl values d) ds
 
 -- some item of a PARAMETER has no such value (ANSI X3.9-1978, section 8.6; this project)
 abbrev pub some_item_fails : Values → List (List ℕ × ExprTree) → Bool

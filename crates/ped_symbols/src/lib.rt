@@ -2,8 +2,16 @@
 //! by first letters, bounds of arrays, values of constants (ANSI X3.9-1978, sections 4.1.2, 5, 8).
 #![tactic(auto)]
 
+mod arrays;
+mod declarations;
+mod declared;
+mod repeating;
+mod sites;
+mod statements;
 mod symbols;
+mod tables;
 mod uses;
+mod values;
 
 pub use symbols::{Kind, NameRefusal, Symbols, symbols};
 pub use uses::{Role, Use};

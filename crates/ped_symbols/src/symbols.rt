@@ -2,11 +2,18 @@
 
 ghost use Rattle.std.specs.Prelude.{◌≡◌, [], map, Some, IfOk, IfErr};
 ghost use Rattle.ped_tree.specs.Views.{program_tree};
-ghost use Rattle.ped_symbols.specs.Kinds.{entry_of, table_of};
+ghost use Rattle.ped_symbols.specs.Entries.{entry_of};
+ghost use Rattle.ped_symbols.specs.Kinds.{table_of};
 ghost use Rattle.ped_symbols.specs.NameRefusals.{name_refusals};
 ghost use Rattle.ped_symbols.specs.Refused.{IsFirstOf};
 ghost use Rattle.ped_symbols.specs.declared.symbols.NameRefusal.TheVariants as variant;
 
+use crate::declarations::{Held, declarations};
+use crate::declared::Declared;
+use crate::sites::Found;
+use crate::statements::{Known, statements};
+use crate::tables::NameTable;
+use crate::uses::push_decls;
 use indexmap::IndexMap;
 use ped_base::{Bounds, Name, Names, NoMemory};
 use ped_constants::Consts;
@@ -101,5 +108,28 @@ pub fn symbols(alloc: Global, program: &Program) -> Result<Symbols, NameRefusal>
     ensures table { IfOk result (λ s. s ≡ table_of (program_tree program.now)) }
     ensures refused { IfErr result (λ e. IsFirstOf (name_refusals program.now.lines.items (program_tree program.now)) e) }
 {
-    Err(NameRefusal::NoMemory)
+    let mut uses = Vec::new(alloc);
+    push_decls(&mut uses, &program.decls)?;
+    let declared = Declared::new(alloc, &program.decls, &uses)?;
+    let mut held = Held::nothing(alloc);
+    let found = Found {
+        first: None,
+        lines: &program.lines,
+    };
+    let found = declarations(alloc, &declared, &mut held, found, &program.decls)?;
+    let known = Known {
+        declared: &declared,
+        consts: &held.consts,
+        arrays: &held.arrays,
+    };
+    let mut kinds = NameTable::new(alloc);
+    known.keep_kinds(&mut kinds, &uses)?;
+    let found = statements(alloc, &known, &mut kinds, found, &program.body)?;
+    match found.first {
+        Some(refusal) => Err(NameRefusal::At(refusal)),
+        None => Ok(Symbols {
+            kinds: kinds.entries,
+            constants: held.consts,
+        }),
+    }
 }

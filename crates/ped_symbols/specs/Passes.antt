@@ -1,0 +1,90 @@
+-- What the passes over a program have found on their way. Contracts of private functions alone speak of it.
+use Rattle.std.specs.Prelude.{◌≡◌, ℕ, List, [], ◌∷◌, ◌++◌, map, Bool, ◌||◌, Option}
+use Rattle.std.specs.List.{list_any}
+use Rattle.ped_base.specs.Lists.{is_among}
+use Rattle.ped_grammar.specs.Refusal.{Finding, RealName, DeclaredTwice, NotConstant, RankDiffers, BoundsEmpty, earliest, refused_if}
+use Rattle.ped_grammar.specs.RefusalViews.{found_of}
+use Rattle.ped_symbols.specs.Entries.{entry_of, with_entry}
+use Rattle.ped_symbols.specs.Sites.{Site}
+use Rattle.ped_symbols.specs.Declared as Plain
+use Rattle.ped_symbols.specs.Declared.{names_with, is_typing, is_naming, ranks_in}
+use Rattle.ped_symbols.specs.NameRefusals.{Before, uses_real, uses_constant, uses_program, dimensions_intrinsic, uses_other_rank, declare_alike, at_sites}
+use Rattle.ped_base.specs.Dimensions.{Dimensions}
+use Rattle.ped_symbols.specs.Arrays.{Arrays}
+use Rattle.ped_symbols.specs.Kinds.{kind_by, names_at}
+use Rattle.ped_symbols.specs.declared.symbols.Kind.{Kind}
+use Rattle.ped_symbols.specs.declared.uses.Role.{Role}
+use Rattle.ped_symbols.specs.declared.uses.Role.TheVariants.{Typed, Dimensioned, Named, Saved}
+use Rattle.ped_symbols.specs.declared.uses.Use.{Use}
+use Rattle.ped_symbols.specs.declared.declared.Declared.{Declared}
+use Rattle.ped_symbols.specs.declared.repeating.Seen.{Seen}
+use Rattle.ped_symbols.specs.declared.sites.Faults.{Faults}
+use Rattle.ped_symbols.specs.declared.sites.Found.{Found}
+use Rattle.ped_symbols.specs.declared.tables.NameTable.{NameTable}
+use Rattle.ped_symbols.specs.declared.declarations.Held.{Held}
+use Rattle.ped_symbols.specs.declared.statements.Known.{Known}
+
+-- two lists have the same names
+abbrev pub HaveSame : List (List ℕ) → List (List ℕ) → Type 0
+HaveSame a b = (x : List ℕ) → is_among x a ≡ is_among x b
+
+-- what is kept of uses in declarations says the same as they do
+pub record KnowsUses (c : Declared) (uses : List Use) : Type 0 where
+  pub typed : HaveSame c.typed (names_with is_typing uses)
+  pub constants : HaveSame c.constants (names_with is_naming uses)
+  pub ranks : (x : List ℕ) → entry_of c.ranks.entries.entries x ≡ entry_of (ranks_in uses) x
+
+-- what is kept of declarations says the same as they do
+pub record Knows (c : Declared) (d : Plain.Declared) : Type 0 where
+  pub implicit : c.implicit ≡ d.implicit
+  pub program : HaveSame c.program d.program
+  pub uses : KnowsUses c d.uses
+
+-- a use declares the same of a name as one of these uses does
+abbrev pub alike_names : Role → List Use → List (List ℕ)
+alike_names role uses = names_with (λ r. declare_alike r role) uses
+
+-- the names that are kept as typed, dimensioned, named and saved are those of these uses
+pub record HasSeen (seen : Seen) (before : List Use) : Type 0 where
+  pub typed : HaveSame seen.typed (alike_names Typed before)
+  pub dimensioned : HaveSame seen.dimensioned (alike_names (Dimensioned 0) before)
+  pub named : HaveSame seen.named (alike_names Named before)
+  pub saved : HaveSame seen.saved (alike_names Saved before)
+
+-- what is refused at a site with these uses, where it has these faults
+abbrev pub refused_at : Plain.Declared → ℕ → List Use → Faults → List Finding
+refused_at d line uses faults =
+    refused_if (list_any (uses_real d) uses) RealName line
+    ++ refused_if (list_any (uses_constant d) uses || list_any (uses_program d) uses || list_any dimensions_intrinsic uses || faults.repeats) DeclaredTwice line
+    ++ refused_if faults.fails NotConstant line
+    ++ refused_if (list_any (uses_other_rank d) uses) RankDiffers line
+    ++ refused_if faults.is_empty BoundsEmpty line
+
+-- the first refusal, where these sites are still to come
+abbrev pub first_with : Plain.Declared → Before → Found → List Site → Option Finding
+first_with d b found sites = earliest (found_of found.first) (at_sites d b found.lines.now sites)
+
+-- what is kept of arrays says the same as they do
+abbrev pub KnowsArrays : NameTable Dimensions → Arrays → Type 0
+KnowsArrays c arrays = (x : List ℕ) → entry_of c.entries.entries x ≡ entry_of arrays x
+
+-- what is held says the same as what stands before a site
+pub record Holds (held : Held) (b : Before) : Type 0 where
+  pub seen : HasSeen held.seen b.uses
+  pub values : held.consts ≡ b.values
+  pub arrays : KnowsArrays held.arrays b.arrays
+
+-- what a name stands for, by what is known
+abbrev pub kind_with : Known → List ℕ → Kind
+kind_with known x = kind_by (entry_of known.consts.now x) (entry_of known.arrays.now.entries.entries x)
+
+-- the kinds with those of more names behind them, where they aren't there
+abbrev pub with_kinds : (List ℕ → Kind) → List (List ℕ × Kind) → List (List ℕ) → List (List ℕ × Kind)
+with_kinds kind es [] = es
+with_kinds kind es (x ∷ xs) = with_kinds kind (with_entry es x (kind x)) xs
+
+-- over these sites, which are no declarations: the first refusal and the kinds, whatever is still to come
+pub record Goes (known : Known) (kinds new_kinds : NameTable Kind) (found next : Found) (sites : List Site) : Type 0 where
+  pub first : (d : Plain.Declared) → Knows known.declared.now d → (b : Before) → b.values ≡ known.consts.now → (more : List Site) →
+      first_with d b next more ≡ first_with d b found (sites ++ more)
+  pub kinds : (more : List Site) → with_kinds (kind_with known) new_kinds.entries.entries (names_at more) ≡ with_kinds (kind_with known) kinds.entries.entries (names_at (sites ++ more))

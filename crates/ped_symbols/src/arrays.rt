@@ -1,0 +1,90 @@
+//! The bounds of arrays.
+
+ghost use Rattle.std.specs.Prelude.{◌≡◌, [], ◌∷◌, ◌++◌, ◌<◌, ◌&&◌, length, nat_le, map, List, ℕ, IfOk, OnOk, None, if◌then◌else◌};
+ghost use Rattle.std.specs.List.{flat_map};
+ghost use Rattle.ped_tree.specs.Views.{bound_tree, declarator_tree, decl_tree};
+ghost use Rattle.ped_symbols.specs.Arrays as Spec;
+ghost use Rattle.ped_symbols.specs.Passes.{KnowsArrays};
+
+use crate::tables::NameTable;
+use crate::values::fixed_value;
+use ped_base::{Bounds, NoMemory};
+use ped_constants::Consts;
+use ped_limits::MOST_DIMENSIONS;
+use ped_tree::{Bound, Decl, Declarator};
+
+/// Adds the arrays of a declaration with their bounds, by the constants that hold before it. Of a name that
+/// has bounds already the first count.
+pub fn keep_arrays(arrays: &mut NameTable<Bounds>, consts: &Consts, decl: &Decl) -> Result<(), NoMemory>
+    ensures { OnOk result ((before : Spec.Arrays) → KnowsArrays arrays.old before → KnowsArrays arrays.new (before ++ Spec.arrays_in consts.now (decl_tree decl.now))) }
+{
+    match decl {
+        Decl::Integer(declarators) | Decl::Dimension(declarators) => {
+            keep_declarators(arrays, consts, declarators)
+        }
+        Decl::Program(_)
+        | Decl::Implicit
+        | Decl::Parameter(_)
+        | Decl::Save(_)
+        | Decl::Comment(_) => Ok(()),
+    }
+}
+
+fn keep_declarators(arrays: &mut NameTable<Bounds>, consts: &Consts, declarators: &[Declarator]) -> Result<(), NoMemory>
+    ensures { OnOk result ((before : Spec.Arrays) → KnowsArrays arrays.old before → KnowsArrays arrays.new (before ++ flat_map (Spec.arrays_of consts.now) (map declarator_tree declarators.now))) }
+{
+    for declarator in declarators {
+        keep_declarator(arrays, consts, declarator)?;
+    }
+    Ok(())
+}
+
+fn keep_declarator(arrays: &mut NameTable<Bounds>, consts: &Consts, declarator: &Declarator) -> Result<(), NoMemory>
+    ensures { OnOk result ((before : Spec.Arrays) → KnowsArrays arrays.old before → KnowsArrays arrays.new (before ++ Spec.arrays_of consts.now (declarator_tree declarator.now))) }
+{
+    if declarator.bounds.is_empty() || declarator.bounds.len() > MOST_DIMENSIONS {
+        return Ok(());
+    }
+    match bounds_of(consts, &declarator.bounds) {
+        Some(bounds) => arrays.keep(&declarator.name, bounds),
+        None => Ok(()),
+    }
+}
+
+/// The bounds of at most seven dimensions: none where one has no value.
+fn bounds_of(consts: &Consts, bounds: &[Bound]) -> Option<Bounds>
+    requires { length bounds.now < 8 }
+    ensures { result ≡ Spec.bounds_values consts.now (map bound_tree bounds.now) }
+{
+    let mut found = no_dimensions();
+    for bound in bounds {
+        let lower = fixed_value(consts, &bound.lower)?;
+        let upper = fixed_value(consts, &bound.upper)?;
+        found = with_dimension(found, lower, upper);
+    }
+    Some(found)
+}
+
+fn no_dimensions() -> Bounds
+    ensures lower { result.lower ≡ [] }
+    ensures upper { result.upper ≡ [] }
+{
+    Bounds {
+        rank: 0,
+        lower: [0; 7],
+        upper: [0; 7],
+    }
+}
+
+/// The bounds with one more dimension behind them.
+fn with_dimension(bounds: Bounds, lower: i64, upper: i64) -> Bounds
+    requires { length bounds.lower < 7 }
+    ensures lower { result.lower ≡ bounds.lower ++ lower ∷ [] }
+    ensures upper { result.upper ≡ bounds.upper ++ upper ∷ [] }
+{
+    let mut wider = bounds;
+    wider.lower[usize::from(bounds.rank)] = lower;
+    wider.upper[usize::from(bounds.rank)] = upper;
+    wider.rank += 1;
+    wider
+}

@@ -1,0 +1,95 @@
+//! The pass over declarations: the first refusal of names in them, the named constants and the arrays.
+
+ghost use Rattle.std.specs.Prelude.{◌≡◌, [], ◌∷◌, ◌++◌, List, map, IfOk};
+ghost use Rattle.std.specs.List.{flat_map};
+ghost use Rattle.ped_tree.specs.Views.{decl_tree};
+ghost use Rattle.ped_symbols.specs.Declared as Plain;
+ghost use Rattle.ped_symbols.specs.NameRefusals.{Before, at_first, behind_sites};
+ghost use Rattle.ped_symbols.specs.Sites.{Site, decl_sites};
+ghost use Rattle.ped_symbols.specs.Passes.{Knows, Holds, first_with};
+
+use crate::arrays::keep_arrays;
+use crate::declared::Declared;
+use crate::repeating::Seen;
+use crate::sites::{Faults, Found};
+use crate::tables::NameTable;
+use crate::uses::push_decl;
+use crate::values::{decl_fails, decl_is_empty};
+use ped_base::{Bounds, NoMemory};
+use ped_constants::Consts;
+use ped_tree::Decl;
+use std::alloc::Global;
+
+/// What declarations have said so far.
+#[derive(Drop)]
+pub struct Held {
+    /// The names that they have declared, by what they have said of them.
+    pub seen: Seen,
+    /// The named constants that hold.
+    pub consts: Consts,
+    /// The arrays with their bounds.
+    pub arrays: NameTable<Bounds>,
+}
+
+impl Held {
+    /// Before the first declaration.
+    pub fn nothing(alloc: Global) -> Held
+        ensures { Holds result at_first }
+    {
+        Held {
+            seen: Seen::nothing(alloc),
+            consts: Consts::new(alloc),
+            arrays: NameTable::new(alloc),
+        }
+    }
+}
+
+/// Goes over declarations: what they say is held, and the first refusal in them is found.
+pub fn declarations<'l>(
+    alloc: Global,
+    declared: &Declared,
+    held: &mut Held,
+    found: Found<'l>,
+    decls: &[Decl],
+) -> Result<Found<'l>, NoMemory>
+    ensures { IfOk result (λ next. (d : Plain.Declared) → Knows declared.now d → (b : Before) → Holds held.old b →
+        Holds held.new (behind_sites b (flat_map decl_sites (map decl_tree decls.now)))
+        × ((more : List Site) → first_with d (behind_sites b (flat_map decl_sites (map decl_tree decls.now))) next more
+        ≡ first_with d b found (flat_map decl_sites (map decl_tree decls.now) ++ more))) }
+{
+    let mut next = found;
+    for decl in decls {
+        next = declaration(alloc, declared, held, next, decl)?;
+    }
+    Ok(next)
+}
+
+/// Goes over a declaration; a comment is passed over.
+fn declaration<'l>(
+    alloc: Global,
+    declared: &Declared,
+    held: &mut Held,
+    found: Found<'l>,
+    decl: &Decl,
+) -> Result<Found<'l>, NoMemory>
+    ensures { IfOk result (λ next. (d : Plain.Declared) → Knows declared.now d → (b : Before) → Holds held.old b →
+        Holds held.new (behind_sites b (decl_sites (decl_tree decl.now)))
+        × ((more : List Site) → first_with d (behind_sites b (decl_sites (decl_tree decl.now))) next more
+        ≡ first_with d b found (decl_sites (decl_tree decl.now) ++ more))) }
+{
+    if matches!(decl, Decl::Comment(_)) {
+        return Ok(found);
+    }
+    let mut uses = Vec::new(alloc);
+    push_decl(&mut uses, decl)?;
+    let repeats = held.seen.see_all(&uses)?;
+    let is_empty = decl_is_empty(&held.consts, decl);
+    keep_arrays(&mut held.arrays, &held.consts, decl)?;
+    let fails = decl_fails(&mut held.consts, decl)?;
+    let faults = Faults {
+        repeats,
+        fails,
+        is_empty,
+    };
+    Ok(found.behind(declared, &uses, faults))
+}

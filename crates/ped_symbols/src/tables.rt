@@ -1,0 +1,45 @@
+//! What is known of names, found by hash.
+
+ghost use Rattle.std.specs.Prelude.{◌≡◌, OnOk, OnErr};
+ghost use Rattle.ped_symbols.specs.Entries.{entry_of, with_entry};
+
+use indexmap::IndexMap;
+use ped_base::{Name, NoMemory};
+use std::alloc::Global;
+
+/// Names in the order in which they came, each with what is known of it.
+#[derive(Drop)]
+pub struct NameTable<V> {
+    /// The names with what is known of them.
+    pub entries: IndexMap<Name, V>,
+}
+
+impl<V: Copy + Drop> NameTable<V> {
+    /// The empty table, which takes no memory.
+    pub fn new(alloc: Global) -> NameTable<V>
+        ensures { result.entries.entries ≡ [] }
+    {
+        NameTable {
+            entries: IndexMap::new(alloc),
+        }
+    }
+
+    /// What is known of the name, where it is there.
+    pub fn get(&self, name: &Name) -> Option<V>
+        ensures { result ≡ entry_of self.now.entries.entries name.now }
+    {
+        self.entries.get(name).copied()
+    }
+
+    /// Adds a name with what is known of it, where it isn't there. After want of memory the table is as it
+    /// was.
+    pub fn keep(&mut self, name: &Name, value: V) -> Result<(), NoMemory>
+        ensures ok { OnOk result (self.new.entries.entries ≡ with_entry self.old.entries.entries name.now value) }
+        ensures err { OnErr result (self.new.entries.entries ≡ self.old.entries.entries) }
+    {
+        if self.entries.get(name).is_none() {
+            self.entries.insert(*name, value)?;
+        }
+        Ok(())
+    }
+}

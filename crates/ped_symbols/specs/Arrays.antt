@@ -3,9 +3,9 @@ use Rattle.std.specs.Prelude.{ℕ, ℤ, List, [], ◌∷◌, length, nat_le, ◌
 use Rattle.std.specs.List.{flat_map}
 use Rattle.ped_base.specs.Dimensions.{Dimensions}
 use Rattle.ped_base.specs.Lists.{has_some}
-use Rattle.ped_tree.specs.Tree.{BoundTree, DeclaratorTree, DeclTree, Program, Implicit, Integer, Dimension, Parameter, Save, Remark}
+use Rattle.ped_tree.specs.Tree.{BoundTree, DeclaratorTree, DeclTree}
 use Rattle.ped_grammar.specs.LimitNumbers.{most_dimensions}
-use Rattle.ped_symbols.specs.Values.{Values, fixed_value}
+use Rattle.ped_symbols.specs.Values.{Values, fixed_value, declarators}
 
 -- arrays with their bounds, in order
 abbrev pub Arrays : Type 0
@@ -38,10 +38,4 @@ arrays_of values d = by_bounds values d.name d.bounds
 
 -- the arrays of a declaration (ANSI X3.9-1978, sections 8.1, 8.4.1)
 abbrev pub arrays_in : Values → DeclTree → Arrays
-arrays_in values (Integer ds) = flat_map (arrays_of values) ds
-arrays_in values (Dimension ds) = flat_map (arrays_of values) ds
-arrays_in values (Program x) = []
-arrays_in values Implicit = []
-arrays_in values (Parameter items) = []
-arrays_in values (Save names) = []
-arrays_in values (Remark text) = []
+arrays_in values d = flat_map (arrays_of values) (declarators d)

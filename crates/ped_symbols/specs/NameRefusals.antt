@@ -130,7 +130,7 @@ abbrev pub behind_sites : Before → List Site → Before
 behind_sites b [] = b
 behind_sites b (s ∷ rest) = behind_sites (behind_site b s) rest
 
--- what is refused at a site on this line
+-- what is refused at a site on this line; a name that isn't declared and would be REAL comes first, also where it stands in a value or a bound
 abbrev pub at_site : Declared → Before → ℕ → Site → List Finding
 at_site d b line s =
     refused_if (list_any (uses_real d) (site_uses s)) RealName line

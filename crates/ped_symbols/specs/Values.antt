@@ -2,7 +2,7 @@
 use Rattle.std.specs.Prelude.{ℕ, ℤ, pos, List, [], ◌∷◌, unsigned_abs, nat_le, int_lt, Bool, true, false, not, ◌||◌, Option, Some, None, if◌then◌else◌}
 use Rattle.std.specs.List.{list_any}
 use Rattle.std.specs.Ordering.{int_eq}
-use Rattle.ped_tree.specs.Tree.{ExprTree, StmtTree, Assign, If, Do, Print, Read, Stop, Comment, BoundTree, DeclaratorTree, DeclTree, Program, Implicit, Integer, Dimension, Parameter, Save, Remark}
+use Rattle.ped_tree.specs.Tree.{ExprTree, StmtTree, Do, BoundTree, DeclaratorTree, DeclTree, Integer, Dimension, Parameter}
 use Rattle.ped_grammar.specs.LimitNumbers.{greatest_literal}
 use Rattle.ped_constants.specs.ConstantExpressions.{constant_value}
 use Rattle.ped_symbols.specs.Entries.{with_entry}
@@ -36,10 +36,20 @@ abbrev pub behind_items : Values → List (List ℕ × ExprTree) → Values
 behind_items values [] = values
 behind_items values (v ∷ vs) = behind_items (with_value values v.0 (fixed_value values v.1)) vs
 
+-- the declared names of INTEGER and DIMENSION (ANSI X3.9-1978, sections 8.1, 8.4.1)
+abbrev pub declarators : DeclTree → List DeclaratorTree
+declarators (Integer ds) = ds
+declarators (Dimension ds) = ds
+declarators d = []
+
+-- the items of PARAMETER (ANSI X3.9-1978, section 8.6)
+abbrev pub items : DeclTree → List (List ℕ × ExprTree)
+items (Parameter values) = values
+items d = []
+
 -- behind a declaration (ANSI X3.9-1978, section 8.6)
 abbrev pub behind_decl : Values → DeclTree → Values
-behind_decl values (Parameter items) = behind_items values items
-behind_decl values d = values
+behind_decl values d = behind_items values (items d)
 
 -- some item of a PARAMETER has no such value (ANSI X3.9-1978, section 8.6; this project)
 abbrev pub some_item_fails : Values → List (List ℕ × ExprTree) → Bool
@@ -56,13 +66,7 @@ declarator_fails values d = list_any (bound_fails values) d.bounds
 
 -- a declaration with an item or a bound that has no such value (ANSI X3.9-1978, sections 5.1.1.1, 8.6; this project)
 abbrev pub decl_fails : Values → DeclTree → Bool
-decl_fails values (Integer ds) = list_any (declarator_fails values) ds
-decl_fails values (Dimension ds) = list_any (declarator_fails values) ds
-decl_fails values (Parameter items) = some_item_fails values items
-decl_fails values (Program x) = false
-decl_fails values Implicit = false
-decl_fails values (Save names) = false
-decl_fails values (Remark text) = false
+decl_fails values d = some_item_fails values (items d) || list_any (declarator_fails values) (declarators d)
 
 -- an increment that may not be: it has no such value, or it is 0 (ANSI X3.9-1978, section 11.10.3)
 abbrev pub is_bad_step : Option ℤ → Bool
@@ -96,13 +100,7 @@ declarator_is_empty values d = list_any (bound_is_empty values) d.bounds
 
 -- a declaration of such an array (ANSI X3.9-1978, section 5.1.1.1)
 abbrev pub decl_is_empty : Values → DeclTree → Bool
-decl_is_empty values (Integer ds) = list_any (declarator_is_empty values) ds
-decl_is_empty values (Dimension ds) = list_any (declarator_is_empty values) ds
-decl_is_empty values (Program x) = false
-decl_is_empty values Implicit = false
-decl_is_empty values (Parameter items) = false
-decl_is_empty values (Save names) = false
-decl_is_empty values (Remark text) = false
+decl_is_empty values d = list_any (declarator_is_empty values) (declarators d)
 
 -- at a site such an array is declared
 abbrev pub site_is_empty : Values → Site → Bool

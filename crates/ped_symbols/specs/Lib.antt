@@ -1,5 +1,5 @@
 pub mod Arrays
-pub mod Declared
+pub mod Declarations
 pub mod Entries
 pub mod Kinds
 pub mod NameRefusals

@@ -11,7 +11,7 @@ use Rattle.ped_symbols.specs.declared.uses.Role.TheVariants.{Typed, Dimensioned,
 use Rattle.ped_symbols.specs.declared.uses.Use.{Use}
 use Rattle.ped_symbols.specs.Uses.{decl_uses}
 use Rattle.ped_symbols.specs.Sites.{Site, declaration, statement, private_names, program_sites, site_uses}
-use Rattle.ped_symbols.specs.Declared.{Declared, declared_in, is_dimensioning, is_constant, is_program, is_real, rank_of}
+use Rattle.ped_symbols.specs.Declarations.{Declared, declared_in, is_dimensioning, is_constant, is_program, is_real, rank_of}
 use Rattle.ped_symbols.specs.Values.{Values, behind_decl, site_fails, site_is_empty}
 use Rattle.ped_symbols.specs.Arrays.{Arrays, arrays_in}
 

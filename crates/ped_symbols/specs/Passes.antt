@@ -6,8 +6,8 @@ use Rattle.ped_grammar.specs.Refusal.{Finding, RealName, DeclaredTwice, NotConst
 use Rattle.ped_grammar.specs.RefusalViews.{found_of}
 use Rattle.ped_symbols.specs.Entries.{entry_of, with_entry}
 use Rattle.ped_symbols.specs.Sites.{Site}
-use Rattle.ped_symbols.specs.Declared as Plain
-use Rattle.ped_symbols.specs.Declared.{names_with, is_typing, is_naming, ranks_in}
+use Rattle.ped_symbols.specs.Declarations as Plain
+use Rattle.ped_symbols.specs.Declarations.{names_with, is_typing, is_naming, ranks_in}
 use Rattle.ped_symbols.specs.NameRefusals.{Before, uses_real, uses_constant, uses_program, dimensions_intrinsic, uses_other_rank, declare_alike, at_sites}
 use Rattle.ped_base.specs.Dimensions.{Dimensions}
 use Rattle.ped_symbols.specs.Arrays.{Arrays}

@@ -3,7 +3,7 @@
 ghost use Rattle.std.specs.Prelude.{◌≡◌, [], ◌∷◌, ◌++◌, List, map, IfOk};
 ghost use Rattle.std.specs.List.{flat_map};
 ghost use Rattle.ped_tree.specs.Views.{decl_tree};
-ghost use Rattle.ped_symbols.specs.Declared as Plain;
+ghost use Rattle.ped_symbols.specs.Declarations as Plain;
 ghost use Rattle.ped_symbols.specs.NameRefusals.{Before, at_first, behind_sites};
 ghost use Rattle.ped_symbols.specs.Sites.{Site, decl_sites};
 ghost use Rattle.ped_symbols.specs.Passes.{Knows, Holds, first_with};

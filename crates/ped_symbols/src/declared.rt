@@ -3,8 +3,8 @@
 ghost use Rattle.std.specs.Prelude.{◌≡◌, [], ◌∷◌, ◌++◌, List, ℕ, map, OnOk, IfOk};
 ghost use Rattle.std.specs.List.{list_any, flat_map};
 ghost use Rattle.ped_tree.specs.Views.{decl_tree};
-ghost use Rattle.ped_symbols.specs.Declared as Plain;
-ghost use Rattle.ped_symbols.specs.Declared.{declared_in, is_implicit, program_name};
+ghost use Rattle.ped_symbols.specs.Declarations as Plain;
+ghost use Rattle.ped_symbols.specs.Declarations.{declared_in, is_implicit, program_name};
 ghost use Rattle.ped_symbols.specs.Passes.{HaveSame, KnowsUses, Knows};
 ghost use Rattle.ped_symbols.specs.declared.uses.Use.{Use as PlainUse};
 

@@ -4,7 +4,7 @@ ghost use Rattle.std.specs.Prelude.{◌≡◌, [], ◌∷◌, ◌++◌, ◌||◌
 ghost use Rattle.std.specs.List.{list_any};
 ghost use Rattle.ped_grammar.specs.Refusal.{earliest};
 ghost use Rattle.ped_grammar.specs.RefusalViews.{found_of};
-ghost use Rattle.ped_symbols.specs.Declared as Plain;
+ghost use Rattle.ped_symbols.specs.Declarations as Plain;
 ghost use Rattle.ped_symbols.specs.NameRefusals as Spec;
 ghost use Rattle.ped_symbols.specs.Passes.{Knows, refused_at};
 

@@ -1,0 +1,2 @@
+pub mod ConstantExpressions
+pub mod NamedConstants

@@ -1,5 +1,5 @@
 -- The operations on whole numbers, exact within 128 bits: each gives its value, or the fault that ends the run (ANSI X3.9-1978, section 6.1).
-use Rattle.std.specs.Prelude.{ℕ, suc, ◌^◌, List, [], ◌∷◌, Bool, ◌&&◌, if◌then◌else◌, ℤ, pos, negsuc, neg_ℤ, ◌+ℤ◌, ◌-ℤ◌, ◌*ℤ◌, int_lt, int_le, int_div, unsigned_abs, Result, Ok, Err}
+use Rattle.std.specs.Prelude.{suc, ◌^◌, List, [], ◌∷◌, Bool, ◌&&◌, if◌then◌else◌, ℤ, pos, negsuc, neg_ℤ, ◌+ℤ◌, ◌-ℤ◌, ◌*ℤ◌, int_lt, int_le, int_div, unsigned_abs, Result, Ok, Err}
 use Rattle.std.specs.Int.{int_pow, int_min, int_max}
 use Rattle.std.specs.Ordering.{int_eq}
 use Rattle.ped_arithmetic.specs.Faults.{◌>>=◌}

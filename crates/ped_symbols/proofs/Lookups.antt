@@ -1,5 +1,5 @@
 -- What tables and sets of names find is what stands in the lists of the definitions.
-use Rattle.std.proofs.Common.{◌≡◌, ℕ, List, [], ◌∷◌, ◌++◌, map, Bool, true, false, ◌&&◌, Option, Some, None, eqb, eqb-true, refl, ap, sym, ◌∙◌, if◌then◌else◌}
+use Rattle.std.proofs.Common.{◌≡◌, ℕ, List, [], ◌∷◌, ◌++◌, map, Bool, true, false, ◌&&◌, Option, Some, None, is_some, eqb, eqb-true, refl, ap, sym, ◌∙◌, if◌then◌else◌}
 use Rattle.std.specs.Prelude.{◌||◌}
 use Rattle.std.specs.Map.{lookup}
 use Rattle.ped_base.specs.Lists.{is_same_text, is_among}
@@ -30,8 +30,7 @@ or_else (Some v) b = Some v
 
 -- the table's lookup is the definition's
 pub looked_up : {X : Type 0} (x : List ℕ) (es : List (List ℕ × X)) → lookup ((code.eq-value).it x) es ≡ entry_of es x
-looked_up x [] = refl
-looked_up x (e ∷ es) = λ i. if name_same x e.0 i then Some e.1 else looked_up x es i
+looked_up x es = λ i. lookup (λ y. name_same x y i) es
 
 pick_else : {X : Type 0} (r : Bool) (v : X) (a b : Option X) → (if r then Some v else or_else a b) ≡ or_else (if r then Some v else a) b
 pick_else true v a b = refl
@@ -46,23 +45,18 @@ or_none : {X : Type 0} (a : Option X) → a ≡ or_else a None
 or_none None = refl
 or_none (Some v) = refl
 
--- a name that stands in a list has an entry
-is_found : {X : Type 0} (es : List (List ℕ × X)) (k : List ℕ) (b : Option X) → is_among k (map (λ e. e.0) es) ≡ true → entry_of es k ≡ or_else (entry_of es k) b
-is_found [] k b h = absurd cc
-is_found (e ∷ es) k b h = go (is_same_text k e.0) h
-  where
-    go : (r : Bool) → (r || is_among k (map (λ e. e.0) es)) ≡ true → (if r then Some e.1 else entry_of es k) ≡ or_else (if r then Some e.1 else entry_of es k) b
-    go true q = refl
-    go false q = is_found es k b q
+some_else : {X : Type 0} (a b : Option X) → is_some a ≡ true → a ≡ or_else a b
+some_else None b h = absurd cc
+some_else (Some v) b h = refl
 
 -- a name that is kept where it isn't there is found as one that is put behind
 pub entry_with : {X : Type 0} (es : List (List ℕ × X)) (k : List ℕ) (v : X) (x : List ℕ) → entry_of (with_entry es k v) x ≡ entry_of (es ++ (k, v) ∷ []) x
-entry_with es k v x = go (is_among k (map (λ e. e.0) es)) refl
+entry_with es k v x = go (is_some (entry_of es k)) refl
   where
-    there : is_among k (map (λ e. e.0) es) ≡ true → (r : Bool) → is_same_text x k ≡ r → entry_of es x ≡ or_else (entry_of es x) (if r then Some v else None)
-    there h true q = is_found es x (Some v) (ap (λ z. is_among z (map (λ e. e.0) es)) (same_is x k q) ∙ h)
+    there : is_some (entry_of es k) ≡ true → (r : Bool) → is_same_text x k ≡ r → entry_of es x ≡ or_else (entry_of es x) (if r then Some v else None)
+    there h true q = some_else (entry_of es x) (Some v) (ap (λ z. is_some (entry_of es z)) (same_is x k q) ∙ h)
     there h false q = or_none (entry_of es x)
-    go : (r : Bool) → is_among k (map (λ e. e.0) es) ≡ r → entry_of (if r then es else es ++ (k, v) ∷ []) x ≡ entry_of (es ++ (k, v) ∷ []) x
+    go : (r : Bool) → is_some (entry_of es k) ≡ r → entry_of (if r then es else es ++ (k, v) ∷ []) x ≡ entry_of (es ++ (k, v) ∷ []) x
     go true h = there h (is_same_text x k) refl ∙ sym (entry_append es ((k, v) ∷ []) x)
     go false h = refl
 

@@ -141,7 +141,6 @@ fn push_targets(uses: &mut Vec<Use>, items: &[Expr]) -> Result<(), NoMemory>
 }
 
 /// Adds the uses in a left side or an item of a READ.
-#[tactic(auto, using(crate::proofs::Counting::count_packed))]
 fn push_target(uses: &mut Vec<Use>, target: &Expr) -> Result<(), NoMemory>
     ensures { OnOk result (uses.new.items ≡ uses.old.items ++ Spec.target_uses (expr_tree target.now)) }
 {
@@ -182,7 +181,6 @@ fn push_cond(uses: &mut Vec<Use>, condition: &Cond) -> Result<(), NoMemory>
 
 /// Adds the uses in an expression.
 #[cycle(push_exprs)]
-#[tactic(auto, using(crate::proofs::Counting::count_packed))]
 fn push_expr(uses: &mut Vec<Use>, e: &Expr) -> Result<(), NoMemory>
     ensures { OnOk result (uses.new.items ≡ uses.old.items ++ Spec.expr_uses (expr_tree e.now)) }
 {

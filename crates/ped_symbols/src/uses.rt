@@ -141,14 +141,14 @@ fn push_targets(uses: &mut Vec<Use>, items: &[Expr]) -> Result<(), NoMemory>
 }
 
 /// Adds the uses in a left side or an item of a READ.
+#[tactic(auto, using(crate::proofs::Elements::uses_of_target))]
 fn push_target(uses: &mut Vec<Use>, target: &Expr) -> Result<(), NoMemory>
     ensures { OnOk result (uses.new.items ≡ uses.old.items ++ Spec.target_uses (expr_tree target.now)) }
 {
     match target {
         Expr::Var(name) => push(uses, Role::Assigned(0), name),
         Expr::Element(name, subscripts) => {
-            push(uses, Role::Assigned(subscripts.len()), name)?;
-            push_exprs(uses, subscripts)
+            push_element(uses, Role::Assigned(subscripts.len()), name, subscripts)
         }
         Expr::Int(_)
         | Expr::Neg(_)
@@ -181,6 +181,7 @@ fn push_cond(uses: &mut Vec<Use>, condition: &Cond) -> Result<(), NoMemory>
 
 /// Adds the uses in an expression.
 #[cycle(push_exprs)]
+#[tactic(auto, using(crate::proofs::Elements::uses_of_element))]
 fn push_expr(uses: &mut Vec<Use>, e: &Expr) -> Result<(), NoMemory>
     ensures { OnOk result (uses.new.items ≡ uses.old.items ++ Spec.expr_uses (expr_tree e.now)) }
 {
@@ -188,20 +189,40 @@ fn push_expr(uses: &mut Vec<Use>, e: &Expr) -> Result<(), NoMemory>
         Expr::Int(_) => Ok(()),
         Expr::Var(name) => push(uses, Role::Operand(0), name),
         Expr::Element(name, subscripts) => {
-            push(uses, Role::Operand(subscripts.len()), name)?;
-            push_exprs(uses, subscripts)
+            push_element(uses, Role::Operand(subscripts.len()), name, subscripts)
         }
         Expr::Neg(operand) => push_expr(uses, operand),
-        Expr::Add(left, right)
-        | Expr::Sub(left, right)
-        | Expr::Mul(left, right)
-        | Expr::Div(left, right)
-        | Expr::Pow(left, right) => {
+        Expr::Add(left, right) => {
+            push_expr(uses, left)?;
+            push_expr(uses, right)
+        }
+        Expr::Sub(left, right) => {
+            push_expr(uses, left)?;
+            push_expr(uses, right)
+        }
+        Expr::Mul(left, right) => {
+            push_expr(uses, left)?;
+            push_expr(uses, right)
+        }
+        Expr::Div(left, right) => {
+            push_expr(uses, left)?;
+            push_expr(uses, right)
+        }
+        Expr::Pow(left, right) => {
             push_expr(uses, left)?;
             push_expr(uses, right)
         }
         Expr::Call(_, arguments) => push_exprs(uses, arguments),
     }
+}
+
+/// Adds a name in a role, and the uses in its subscripts.
+#[cycle(push_exprs)]
+fn push_element(uses: &mut Vec<Use>, role: Role, name: &Name, subscripts: &[Expr]) -> Result<(), NoMemory>
+    ensures { OnOk result (uses.new.items ≡ uses.old.items ++ used_as role name.now ∷ Spec.exprs_uses (pack_exprs (map expr_tree subscripts.now))) }
+{
+    push(uses, role, name)?;
+    push_exprs(uses, subscripts)
 }
 
 /// Adds the uses in subscripts or arguments.

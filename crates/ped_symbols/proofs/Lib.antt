@@ -1,2 +1,3 @@
 mod Elements
 mod Lookups
+mod Repeats

@@ -78,3 +78,8 @@ added_alike names before k h x = go (is_among k names) refl ∙ ap (λ a. a || (
     go : (r : Bool) → is_among k names ≡ r → is_among x (if r then names else names ++ k ∷ []) ≡ (is_among x names || (is_same_text x k || false))
     go true q = absorbed (is_among x names) (is_same_text x k) (λ e. ap (λ z. is_among z names) (same_is x k e) ∙ q)
     go false q = among_append x names (k ∷ [])
+
+-- what isn't some is none
+pub none_there : {X : Type 0} (o : Option X) → is_some o ≡ false → o ≡ None
+none_there None h = refl
+none_there (Some v) h = absurd cc

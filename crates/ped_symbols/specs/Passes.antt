@@ -85,6 +85,6 @@ with_kinds kind es (x ∷ xs) = with_kinds kind (with_entry es x (kind x)) xs
 
 -- over these sites, which are no declarations: the first refusal and the kinds, whatever is still to come
 pub record Goes (known : Known) (kinds new_kinds : NameTable Kind) (found next : Found) (sites : List Site) : Type 0 where
-  pub first : (d : Plain.Declared) → Knows known.declared.now d → (b : Before) → b.values ≡ known.consts.now → (more : List Site) →
+  pub refusal : (d : Plain.Declared) → Knows known.declared.now d → (b : Before) → b.values ≡ known.consts.now → (more : List Site) →
       first_with d b next more ≡ first_with d b found (sites ++ more)
-  pub kinds : (more : List Site) → with_kinds (kind_with known) new_kinds.entries.entries (names_at more) ≡ with_kinds (kind_with known) kinds.entries.entries (names_at (sites ++ more))
+  pub names : (more : List Site) → with_kinds (kind_with known) new_kinds.entries.entries (names_at more) ≡ with_kinds (kind_with known) kinds.entries.entries (names_at (sites ++ more))

@@ -19,9 +19,8 @@ pub fn keep_arrays(arrays: &mut NameTable<Bounds>, consts: &Consts, decl: &Decl)
     ensures { OnOk result ((before : Spec.Arrays) → KnowsArrays arrays.old before → KnowsArrays arrays.new (before ++ Spec.arrays_in consts.now (decl_tree decl.now))) }
 {
     match decl {
-        Decl::Integer(declarators) | Decl::Dimension(declarators) => {
-            keep_declarators(arrays, consts, declarators)
-        }
+        Decl::Integer(declarators) => keep_declarators(arrays, consts, declarators),
+        Decl::Dimension(declarators) => keep_declarators(arrays, consts, declarators),
         Decl::Program(_)
         | Decl::Implicit
         | Decl::Parameter(_)

@@ -55,7 +55,7 @@ pub fn declarations<'l>(
     ensures { IfOk result (λ next. (d : Plain.Declared) → Knows declared.now d → (b : Before) → Holds held.old b →
         Holds held.new (behind_sites b (flat_map decl_sites (map decl_tree decls.now)))
         × ((more : List Site) → first_with d (behind_sites b (flat_map decl_sites (map decl_tree decls.now))) next more
-        ≡ first_with d b found (flat_map decl_sites (map decl_tree decls.now) ++ more))) }
+        ≡ first_with d b found.entry (flat_map decl_sites (map decl_tree decls.now) ++ more))) }
 {
     let mut next = found;
     for decl in decls {
@@ -75,7 +75,7 @@ fn declaration<'l>(
     ensures { IfOk result (λ next. (d : Plain.Declared) → Knows declared.now d → (b : Before) → Holds held.old b →
         Holds held.new (behind_sites b (decl_sites (decl_tree decl.now)))
         × ((more : List Site) → first_with d (behind_sites b (decl_sites (decl_tree decl.now))) next more
-        ≡ first_with d b found (decl_sites (decl_tree decl.now) ++ more))) }
+        ≡ first_with d b found.entry (decl_sites (decl_tree decl.now) ++ more))) }
 {
     if matches!(decl, Decl::Comment(_)) {
         return Ok(found);

@@ -13,5 +13,5 @@ mod tables;
 mod uses;
 mod values;
 
-pub use symbols::{Kind, NameRefusal, Symbols, symbols};
+pub use symbols::{Kind, NameRefusal, Symbols, symbols_of};
 pub use uses::{Role, Use};

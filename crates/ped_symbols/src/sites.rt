@@ -38,8 +38,8 @@ impl<'l> Found<'l> {
     /// Behind a site with these uses of names, where it has these faults.
     pub fn behind(self, declared: &Declared, uses: &[Use], faults: Faults) -> Found<'l>
         ensures first { (d : Plain.Declared) → Knows declared.now d →
-            found_of result.first ≡ earliest (found_of self.first) (refused_at d (Spec.next_line self.lines.now) uses.now faults) }
-        ensures lines { result.lines.now ≡ drop 1 self.lines.now }
+            found_of result.first ≡ earliest (found_of self.entry.first) (refused_at d (Spec.next_line self.entry.lines.now) uses.now faults) }
+        ensures lines { result.lines.now ≡ drop 1 self.entry.lines.now }
     {
         let (line, lines) = next_line(self.lines);
         Found {

@@ -1,6 +1,6 @@
 //! The pass over executable statements: the first refusal of names in them, and the kinds of the names.
 
-ghost use Rattle.std.specs.Prelude.{◌≡◌, ◌++◌, List, map, IfOk, OnOk};
+ghost use Rattle.std.specs.Prelude.{◌≡◌, [], ◌∷◌, map, IfOk, OnOk};
 ghost use Rattle.ped_tree.specs.Views.{stmt_tree, stmt_trees};
 ghost use Rattle.ped_symbols.specs.Sites.{stmt_sites, stmts_sites, private_site, statement as statement_site};
 ghost use Rattle.ped_symbols.specs.Passes.{Goes, kind_with, with_kinds};
@@ -60,7 +60,7 @@ pub fn statements<'l>(
     found: Found<'l>,
     all: &[Stmt],
 ) -> Result<Found<'l>, NoMemory>
-    ensures { IfOk result (λ next. Goes known.now kinds.old kinds.new found next (stmts_sites (stmt_trees all.now))) }
+    ensures { IfOk result (λ next. Goes known.now kinds.old kinds.new found.entry next (stmts_sites (stmt_trees all.now))) }
 {
     let mut next = found;
     for statement in all {
@@ -78,7 +78,7 @@ fn in_statement<'l>(
     found: Found<'l>,
     statement: &Stmt,
 ) -> Result<Found<'l>, NoMemory>
-    ensures { IfOk result (λ next. Goes known.now kinds.old kinds.new found next (stmt_sites (stmt_tree statement.now))) }
+    ensures { IfOk result (λ next. Goes known.now kinds.old kinds.new found.entry next (stmt_sites (stmt_tree statement.now))) }
 {
     match statement {
         Stmt::Assign { .. } | Stmt::Print(_) | Stmt::Read(_) | Stmt::Stop => {
@@ -110,7 +110,7 @@ fn own<'l>(
     found: Found<'l>,
     statement: &Stmt,
 ) -> Result<Found<'l>, NoMemory>
-    ensures { IfOk result (λ next. Goes known.now kinds.old kinds.new found next (statement_site (stmt_tree statement.now) ∷ [])) }
+    ensures { IfOk result (λ next. Goes known.now kinds.old kinds.new found.entry next (statement_site (stmt_tree statement.now) ∷ [])) }
 {
     let mut uses = Vec::new(alloc);
     push_own(&mut uses, statement)?;
@@ -131,7 +131,7 @@ fn private<'l>(
     found: Found<'l>,
     names: &[Name],
 ) -> Result<Found<'l>, NoMemory>
-    ensures { IfOk result (λ next. Goes known.now kinds.old kinds.new found next (private_site names.now)) }
+    ensures { IfOk result (λ next. Goes known.now kinds.old kinds.new found.entry next (private_site names.now)) }
 {
     if names.is_empty() {
         return Ok(found);

@@ -103,7 +103,7 @@ impl Symbols {
 ///
 /// `At` exactly where the names of the program break a rule, with the first refusal by line and then by
 /// number; `NoMemory` where memory runs out.
-pub fn symbols(alloc: Global, program: &Program) -> Result<Symbols, NameRefusal>
+pub fn symbols_of(alloc: Global, program: &Program) -> Result<Symbols, NameRefusal>
     ensures right { IfOk result (λ s. name_refusals program.now.lines.items (program_tree program.now) ≡ []) }
     ensures table { IfOk result (λ s. s ≡ table_of (program_tree program.now)) }
     ensures refused { IfErr result (λ e. IsFirstOf (name_refusals program.now.lines.items (program_tree program.now)) e) }

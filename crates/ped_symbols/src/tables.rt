@@ -1,6 +1,6 @@
 //! What is known of names, found by hash.
 
-ghost use Rattle.std.specs.Prelude.{◌≡◌, OnOk, OnErr};
+ghost use Rattle.std.specs.Prelude.{◌≡◌, [], OnOk, OnErr};
 ghost use Rattle.ped_symbols.specs.Entries.{entry_of, with_entry};
 
 use indexmap::IndexMap;
@@ -37,9 +37,10 @@ impl<V: Copy + Drop> NameTable<V> {
         ensures ok { OnOk result (self.new.entries.entries ≡ with_entry self.old.entries.entries name.now value) }
         ensures err { OnErr result (self.new.entries.entries ≡ self.old.entries.entries) }
     {
-        if self.entries.get(name).is_none() {
-            self.entries.insert(*name, value)?;
+        if self.entries.contains_key(name) {
+            return Ok(());
         }
+        self.entries.insert(*name, value)?;
         Ok(())
     }
 }

@@ -40,9 +40,8 @@ pub fn decl_fails(consts: &mut Consts, decl: &Decl) -> Result<bool, NoMemory>
     ensures consts { OnOk result (consts.new ≡ Spec.behind_decl consts.old (decl_tree decl.now)) }
 {
     match decl {
-        Decl::Integer(declarators) | Decl::Dimension(declarators) => {
-            Ok(some_declarator_fails(consts, declarators))
-        }
+        Decl::Integer(declarators) => Ok(some_declarator_fails(consts, declarators)),
+        Decl::Dimension(declarators) => Ok(some_declarator_fails(consts, declarators)),
         Decl::Parameter(items) => some_item_fails(consts, items),
         Decl::Program(_) | Decl::Implicit | Decl::Save(_) | Decl::Comment(_) => Ok(false),
     }
@@ -131,9 +130,8 @@ pub fn decl_is_empty(consts: &Consts, decl: &Decl) -> bool
     ensures { result ≡ Spec.decl_is_empty consts.now (decl_tree decl.now) }
 {
     match decl {
-        Decl::Integer(declarators) | Decl::Dimension(declarators) => {
-            some_declarator_is_empty(consts, declarators)
-        }
+        Decl::Integer(declarators) => some_declarator_is_empty(consts, declarators),
+        Decl::Dimension(declarators) => some_declarator_is_empty(consts, declarators),
         Decl::Program(_)
         | Decl::Implicit
         | Decl::Parameter(_)
@@ -157,11 +155,20 @@ fn some_bound_is_empty(consts: &Consts, bounds: &[Bound]) -> bool
     ensures { result ≡ list_any (Spec.bound_is_empty consts.now) (map bound_tree bounds.now) }
 {
     for bound in bounds {
-        if is_above(fixed_value(consts, &bound.lower), fixed_value(consts, &bound.upper)) {
+        if bound_is_empty(consts, bound) {
             return true;
         }
     }
     false
+}
+
+fn bound_is_empty(consts: &Consts, bound: &Bound) -> bool
+    ensures { result ≡ Spec.bound_is_empty consts.now (bound_tree bound.now) }
+{
+    is_above(
+        fixed_value(consts, &bound.lower),
+        fixed_value(consts, &bound.upper),
+    )
 }
 
 fn is_above(lower: Option<i64>, upper: Option<i64>) -> bool

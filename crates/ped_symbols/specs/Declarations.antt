@@ -44,6 +44,11 @@ abbrev pub is_naming : Role → Bool
 is_naming Named = true
 is_naming role = false
 
+-- saved (ANSI X3.9-1978, section 8.9)
+abbrev pub is_saving : Role → Bool
+is_saving Saved = true
+is_saving role = false
+
 -- the names that are used in such a role
 abbrev pub names_with : (Role → Bool) → List Use → List (List ℕ)
 names_with test uses = map (λ u. u.name) (filter (λ u. test u.role) uses)

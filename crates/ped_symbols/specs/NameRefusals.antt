@@ -1,7 +1,7 @@
 -- Which of the refusals 14 to 18 the names of a program meet, site by site. Each site is looked at, whatever is refused before it (ANSI X3.9-1978, sections 4.1.2, 5, 8, 18; this project).
 use Rattle.std.specs.Prelude.{◌≡◌, ℕ, List, [], ◌∷◌, ◌++◌, drop, Bool, true, false, not, ◌&&◌, ◌||◌, ◌==◌, nat_lt, Option, Some, None, IsTrue}
 use Rattle.std.specs.List.{list_any}
-use Rattle.ped_base.specs.Lists.{is_same_text, is_among}
+use Rattle.ped_base.specs.Lists.{is_among}
 use Rattle.ped_tree.specs.Tree.{StmtTree, Assign, If, Do, Print, Read, Stop, Comment, DeclTree, ProgramTree}
 use Rattle.ped_grammar.specs.Words.{intrinsic_of}
 use Rattle.ped_grammar.specs.Fits.{is_no_intrinsic, fits}
@@ -11,7 +11,7 @@ use Rattle.ped_symbols.specs.declared.uses.Role.TheVariants.{Typed, Dimensioned,
 use Rattle.ped_symbols.specs.declared.uses.Use.{Use}
 use Rattle.ped_symbols.specs.Uses.{decl_uses}
 use Rattle.ped_symbols.specs.Sites.{Site, declaration, statement, private_names, program_sites, site_uses}
-use Rattle.ped_symbols.specs.Declarations.{Declared, declared_in, is_dimensioning, is_constant, is_program, is_real, rank_of}
+use Rattle.ped_symbols.specs.Declarations.{Declared, declared_in, is_typing, is_dimensioning, is_naming, is_saving, names_with, is_constant, is_program, is_real, rank_of}
 use Rattle.ped_symbols.specs.Values.{Values, behind_decl, site_fails, site_is_empty}
 use Rattle.ped_symbols.specs.Arrays.{Arrays, arrays_in}
 
@@ -43,17 +43,13 @@ uses_program d u = is_program d u.name && not (is_constant d u.name)
 abbrev pub dimensions_intrinsic : Use → Bool
 dimensions_intrinsic u = is_dimensioning u.role && not (is_no_intrinsic (intrinsic_of u.name))
 
--- what two uses declare is the same thing: the type, the dimensions, the value, or that a name is saved (ANSI X3.9-1978, section 8)
-abbrev pub declare_alike : Role → Role → Bool
-declare_alike Typed Typed = true
-declare_alike (Dimensioned m) (Dimensioned n) = true
-declare_alike Named Named = true
-declare_alike Saved Saved = true
-declare_alike a b = false
-
--- a use before declares the same of the same name (ANSI X3.9-1978, section 8)
+-- a name is typed, dimensioned, made a constant or saved, and a use before does the same (ANSI X3.9-1978, section 8)
 abbrev pub is_again : List Use → Use → Bool
-is_again before u = list_any (λ v. declare_alike v.role u.role && is_same_text u.name v.name) before
+is_again before u =
+    (is_typing u.role && is_among u.name (names_with is_typing before))
+    || (is_dimensioning u.role && is_among u.name (names_with is_dimensioning before))
+    || (is_naming u.role && is_among u.name (names_with is_naming before))
+    || (is_saving u.role && is_among u.name (names_with is_saving before))
 
 -- one of these uses, behind those before it, declares again (ANSI X3.9-1978, section 8)
 abbrev pub declares_again : List Use → List Use → Bool

@@ -7,14 +7,12 @@ use Rattle.ped_grammar.specs.RefusalViews.{found_of}
 use Rattle.ped_symbols.specs.Entries.{entry_of, with_entry}
 use Rattle.ped_symbols.specs.Sites.{Site}
 use Rattle.ped_symbols.specs.Declarations as Plain
-use Rattle.ped_symbols.specs.Declarations.{names_with, is_typing, is_naming, ranks_in}
-use Rattle.ped_symbols.specs.NameRefusals.{Before, uses_real, uses_constant, uses_program, dimensions_intrinsic, uses_other_rank, declare_alike, at_sites}
+use Rattle.ped_symbols.specs.Declarations.{names_with, is_typing, is_dimensioning, is_naming, is_saving, ranks_in}
+use Rattle.ped_symbols.specs.NameRefusals.{Before, uses_real, uses_constant, uses_program, dimensions_intrinsic, uses_other_rank, at_sites}
 use Rattle.ped_base.specs.Dimensions.{Dimensions}
 use Rattle.ped_symbols.specs.Arrays.{Arrays}
 use Rattle.ped_symbols.specs.Kinds.{kind_by, names_at}
 use Rattle.ped_symbols.specs.declared.symbols.Kind.{Kind}
-use Rattle.ped_symbols.specs.declared.uses.Role.{Role}
-use Rattle.ped_symbols.specs.declared.uses.Role.TheVariants.{Typed, Dimensioned, Named, Saved}
 use Rattle.ped_symbols.specs.declared.uses.Use.{Use}
 use Rattle.ped_symbols.specs.declared.declared.Declared.{Declared}
 use Rattle.ped_symbols.specs.declared.repeating.Seen.{Seen}
@@ -40,16 +38,12 @@ pub record Knows (c : Declared) (d : Plain.Declared) : Type 0 where
   pub program : HaveSame c.program d.program
   pub uses : KnowsUses c d.uses
 
--- a use declares the same of a name as one of these uses does
-abbrev pub alike_names : Role → List Use → List (List ℕ)
-alike_names role uses = names_with (λ r. declare_alike r role) uses
-
 -- the names that are kept as typed, dimensioned, named and saved are those of these uses
 pub record HasSeen (seen : Seen) (before : List Use) : Type 0 where
-  pub typed : HaveSame seen.typed (alike_names Typed before)
-  pub dimensioned : HaveSame seen.dimensioned (alike_names (Dimensioned 0) before)
-  pub named : HaveSame seen.named (alike_names Named before)
-  pub saved : HaveSame seen.saved (alike_names Saved before)
+  pub typed : HaveSame seen.typed (names_with is_typing before)
+  pub dimensioned : HaveSame seen.dimensioned (names_with is_dimensioning before)
+  pub named : HaveSame seen.named (names_with is_naming before)
+  pub saved : HaveSame seen.saved (names_with is_saving before)
 
 -- what is refused at a site with these uses, where it has these faults
 abbrev pub refused_at : Plain.Declared → ℕ → List Use → Faults → List Finding

@@ -5,9 +5,11 @@ ghost use Rattle.std.specs.List.{list_any, flat_map};
 ghost use Rattle.ped_tree.specs.Views.{decl_tree};
 ghost use Rattle.ped_symbols.specs.Declarations as Plain;
 ghost use Rattle.ped_symbols.specs.Declarations.{declared_in, is_implicit, program_name};
+ghost use Rattle.ped_symbols.specs.Entries.{entry_of};
 ghost use Rattle.ped_symbols.specs.Passes.{HaveSame, KnowsUses, Knows};
 ghost use Rattle.ped_symbols.specs.declared.uses.Use.{Use as PlainUse};
 
+use crate::repeating::insert_where;
 use crate::tables::NameTable;
 use crate::uses::{Role, Use};
 use ped_base::{Name, NoMemory};
@@ -73,17 +75,9 @@ impl Declared {
         ensures program { OnOk result (self.new.program ≡ self.old.program) }
         ensures uses { OnOk result ((before : List PlainUse) → KnowsUses self.old before → KnowsUses self.new (before ++ u.now ∷ [])) }
     {
-        match u.role {
-            Role::Typed => self.typed.insert(&u.name),
-            Role::Named => self.constants.insert(&u.name),
-            Role::Dimensioned(count) => self.ranks.keep(&u.name, count),
-            Role::Saved
-            | Role::Rejected
-            | Role::Private
-            | Role::Index
-            | Role::Assigned(_)
-            | Role::Operand(_) => Ok(()),
-        }
+        insert_where(u.role.is_typing(), &mut self.typed, &u.name)?;
+        insert_where(u.role.is_naming(), &mut self.constants, &u.name)?;
+        keep_rank(&mut self.ranks, &u.name, u.role)
     }
 
     /// Whether the name is of type REAL.
@@ -115,6 +109,24 @@ impl Declared {
             Some(count) => count,
             None => 0,
         }
+    }
+}
+
+/// Keeps how many dimensions a role gives a name, where it gives some.
+fn keep_rank(ranks: &mut NameTable<usize>, name: &Name, role: Role) -> Result<(), NoMemory>
+    ensures { OnOk result ((before : List (List ℕ × ℕ)) → ((x : List ℕ) → entry_of ranks.old.entries.entries x ≡ entry_of before x) →
+        (x : List ℕ) → entry_of ranks.new.entries.entries x ≡ entry_of (before ++ Plain.rank_by name.now role) x) }
+{
+    match role {
+        Role::Dimensioned(count) => ranks.keep(name, count),
+        Role::Typed => Ok(()),
+        Role::Named => Ok(()),
+        Role::Saved => Ok(()),
+        Role::Rejected => Ok(()),
+        Role::Private => Ok(()),
+        Role::Index => Ok(()),
+        Role::Assigned(_) => Ok(()),
+        Role::Operand(_) => Ok(()),
     }
 }
 

@@ -1,13 +1,13 @@
 //! Names that are declared or listed again.
 
-ghost use Rattle.std.specs.Prelude.{◌≡◌, [], ◌∷◌, ◌++◌, List, IfOk, OnOk};
+ghost use Rattle.std.specs.Prelude.{◌≡◌, [], ◌∷◌, ◌++◌, ℕ, List, IfOk, OnOk, if◌then◌else◌};
 ghost use Rattle.ped_symbols.specs.NameRefusals as Spec;
 ghost use Rattle.ped_symbols.specs.NameRefusals.{has_twice, is_again, declares_again};
-ghost use Rattle.ped_symbols.specs.Passes.{HasSeen};
+ghost use Rattle.ped_symbols.specs.Passes.{HaveSame, HasSeen};
 ghost use Rattle.ped_symbols.specs.declared.uses.Use.{Use as PlainUse};
 ghost use Rattle.ped_tree.specs.Views.{stmt_tree};
 
-use crate::uses::{Role, Use};
+use crate::uses::Use;
 use ped_base::{Name, NoMemory};
 use ped_limits::NameSet;
 use ped_tree::Stmt;
@@ -56,30 +56,30 @@ impl Seen {
     fn has(&self, u: &Use) -> bool
         ensures { (before : List PlainUse) → HasSeen self.now before → result ≡ is_again before u.now }
     {
-        match u.role {
-            Role::Typed => self.typed.contains(&u.name),
-            Role::Dimensioned(_) => self.dimensioned.contains(&u.name),
-            Role::Named => self.named.contains(&u.name),
-            Role::Saved => self.saved.contains(&u.name),
-            Role::Rejected | Role::Private | Role::Index | Role::Assigned(_) | Role::Operand(_) => {
-                false
-            }
-        }
+        (u.role.is_typing() && self.typed.contains(&u.name))
+            || (u.role.is_dimensioning() && self.dimensioned.contains(&u.name))
+            || (u.role.is_naming() && self.named.contains(&u.name))
+            || (u.role.is_saving() && self.saved.contains(&u.name))
     }
 
     fn see(&mut self, u: &Use) -> Result<(), NoMemory>
         ensures { OnOk result ((before : List PlainUse) → HasSeen self.old before → HasSeen self.new (before ++ u.now ∷ [])) }
     {
-        match u.role {
-            Role::Typed => self.typed.insert(&u.name),
-            Role::Dimensioned(_) => self.dimensioned.insert(&u.name),
-            Role::Named => self.named.insert(&u.name),
-            Role::Saved => self.saved.insert(&u.name),
-            Role::Rejected | Role::Private | Role::Index | Role::Assigned(_) | Role::Operand(_) => {
-                Ok(())
-            }
-        }
+        insert_where(u.role.is_typing(), &mut self.typed, &u.name)?;
+        insert_where(u.role.is_dimensioning(), &mut self.dimensioned, &u.name)?;
+        insert_where(u.role.is_naming(), &mut self.named, &u.name)?;
+        insert_where(u.role.is_saving(), &mut self.saved, &u.name)
     }
+}
+
+/// Adds a name where it is wanted.
+pub fn insert_where(wanted: bool, names: &mut NameSet, name: &Name) -> Result<(), NoMemory>
+    ensures { OnOk result ((before : List (List ℕ)) → HaveSame names.old before → HaveSame names.new (before ++ (if wanted then name.now ∷ [] else []))) }
+{
+    if wanted {
+        return names.insert(name);
+    }
+    Ok(())
 }
 
 /// Whether a DO rejects a name twice.

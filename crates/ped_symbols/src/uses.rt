@@ -3,6 +3,7 @@
 ghost use Rattle.std.specs.Prelude.{◌≡◌, [], ◌∷◌, ◌++◌, map, OnOk};
 ghost use Rattle.std.specs.List.{flat_map};
 ghost use Rattle.ped_tree.specs.Views.{expr_tree, pack_exprs, cond_tree, item_tree, stmt_tree, head, bound_tree, declarator_tree, decl_tree, value_tree};
+ghost use Rattle.ped_symbols.specs.Declarations as Declarations;
 ghost use Rattle.ped_symbols.specs.Uses as Spec;
 ghost use Rattle.ped_symbols.specs.Uses.{used_as};
 
@@ -30,6 +31,36 @@ pub enum Role {
     Assigned(usize),
     /// It stands in an expression, with so many subscripts (sections 5.4, 6.1).
     Operand(usize),
+}
+
+impl Role {
+    /// Whether the name is typed.
+    pub fn is_typing(self) -> bool
+        ensures { result ≡ Declarations.is_typing self }
+    {
+        matches!(self, Role::Typed)
+    }
+
+    /// Whether the name gets dimensions.
+    pub fn is_dimensioning(self) -> bool
+        ensures { result ≡ Declarations.is_dimensioning self }
+    {
+        matches!(self, Role::Dimensioned(_))
+    }
+
+    /// Whether the name is made a constant.
+    pub fn is_naming(self) -> bool
+        ensures { result ≡ Declarations.is_naming self }
+    {
+        matches!(self, Role::Named)
+    }
+
+    /// Whether the name is saved.
+    pub fn is_saving(self) -> bool
+        ensures { result ≡ Declarations.is_saving self }
+    {
+        matches!(self, Role::Saved)
+    }
 }
 
 /// A name at one place of a program.

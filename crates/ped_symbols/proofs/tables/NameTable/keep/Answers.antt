@@ -6,14 +6,14 @@ use Rattle.ped_symbols.proofs.Lookups.{looked_up, none_there}
 use Rattle.ped_symbols.proofs.tables.NameTable.keep.Goals as goal
 
 pub returns-then-contains_key-clause-ok : goal.returns-then-contains_key-clause-ok
-returns-then-contains_key-clause-ok c =
+returns-then-contains_key-clause-ok g c =
     let name = c.args.name.now in
     let es = c.args.self.now.entries.entries in
     let there : is_some (entry_of es name) ≡ true = sym (ap is_some (looked_up name es)) ∙ sym c.contains_key.ensures ∙ c.if-contains_key.true in
     sym (ap (λ (b : Bool). if b then es else es ++ (name, c.args.value) ∷ []) there)
 
 pub returns-clause-ok : goal.returns-clause-ok
-returns-clause-ok c =
+returns-clause-ok g c =
     let name = c.args.name.now in
     let es = c.args.self.now.entries.entries in
     let not_there = sym c.contains_key.ensures ∙ c.if-contains_key.false in

@@ -1,5 +1,5 @@
 -- Names that are declared or listed again, by what has been seen before.
-use Rattle.std.proofs.Common.{◌≡◌, ℕ, List, [], ◌∷◌, ◌++◌, map, filter, Bool, true, false, ◌&&◌, eqb, eqb-true, refl, ap, sym, ◌∙◌, if◌then◌else◌, append-nil}
+use Rattle.std.proofs.Common.{◌≡◌, ℕ, List, [], ◌∷◌, ◌++◌, map, filter, Bool, true, false, ◌&&◌, eqb, eqb-true, refl, ap, sym, ◌∙◌, if◌then◌else◌, append-nil, flat_map-append, arith}
 use Rattle.std.specs.Prelude.{◌||◌}
 use Rattle.std.proofs.lemmas.List.Elements.{filter-append}
 use Rattle.std.proofs.lemmas.List.{map-append}
@@ -7,10 +7,8 @@ use Rattle.ped_base.specs.Lists.{is_same_text, is_among}
 use Rattle.ped_limits.proofs.SameNames.{among_append}
 use Rattle.ped_symbols.specs.declared.uses.Role.{Role}
 use Rattle.ped_symbols.specs.declared.uses.Use.{Use}
-use Rattle.ped_symbols.specs.Declarations.{names_with}
-use Rattle.ped_symbols.specs.NameRefusals.{has_twice}
-use Rattle.ped_symbols.specs.Passes.{HaveSame}
-use Rattle.ped_symbols.proofs.Lookups.{added_alike, same_is}
+use Rattle.ped_symbols.specs.Declarations.{names_with, ranks_in, rank_by}
+use Rattle.ped_symbols.specs.NameRefusals.{has_twice, is_again, declares_again}
 
 -- one of these names is among others (plain words)
 abbrev pub has_one_of : List (List ℕ) → List (List ℕ) → Bool
@@ -28,12 +26,58 @@ names_more test before u =
     one true = refl
     one false = refl
 
--- a set that says the same as uses does so behind one more
-pub same_more : (test : Role → Bool) (names : List (List ℕ)) (before : List Use) (u : Use)
-    → ((others : List (List ℕ)) → HaveSame names others → HaveSame names (others ++ []))
-    → HaveSame names (names_with test before ++ (if test u.role then u.name ∷ [] else [])) → HaveSame names (names_with test (before ++ u ∷ []))
-same_more test names before u k h x = h x ∙ ap (is_among x) (sym (names_more test before u))
+-- a set that got a name where its role is asked for says the same as uses with that use
+pub same_role : (test : Role → Bool) (before : List Use) (u : Use) (b : Bool) → b ≡ test u.role → (x : List ℕ)
+    → is_among x (names_with test before ++ (if b then u.name ∷ [] else [])) ≡ is_among x (names_with test (before ++ u ∷ []))
+same_role test before u b e x = ap (λ (r : Bool). is_among x (names_with test before ++ (if r then u.name ∷ [] else []))) e ∙ ap (is_among x) (sym (names_more test before u))
 
--- a set says the same as other names do where nothing is put behind them
-pub same_alone : (names before : List (List ℕ)) → HaveSame names before → HaveSame names (before ++ [])
-same_alone names before h x = h x ∙ ap (is_among x) (sym (append-nil before))
+-- a use more adds the dimensions that it gives
+pub ranks_more : (before : List Use) (u : Use) → ranks_in (before ++ u ∷ []) ≡ ranks_in before ++ rank_by u.name u.role
+ranks_more before u = flat_map-append (λ u. rank_by u.name u.role) before (u ∷ []) ∙ ap (λ rest. ranks_in before ++ rest) (append-nil (rank_by u.name u.role))
+
+or_assoc : (a b c : Bool) → ((a || b) || c) ≡ (a || (b || c))
+or_assoc true b c = refl
+or_assoc false b c = refl
+
+-- what is declared again, one use further
+pub again_more : (again has total : Bool) (a b : List Use) (u : Use) (rest : List Use) → (again || declares_again a (u ∷ rest)) ≡ total → b ≡ a ++ u ∷ [] → has ≡ is_again a u
+    → ((again || has) || declares_again b rest) ≡ total
+again_more again has total a b u rest h e k =
+    or_assoc again has (declares_again b rest) ∙ (λ i. again || (k i || declares_again (e i) rest)) ∙ h
+
+eqb_flip : (m n : ℕ) → eqb m n ≡ eqb n m
+eqb_flip m n = grind (arith, eqb-true)
+
+same_flip : (x y : List ℕ) → is_same_text x y ≡ is_same_text y x
+same_flip [] [] = refl
+same_flip [] (y ∷ ys) = refl
+same_flip (x ∷ xs) [] = refl
+same_flip (x ∷ xs) (y ∷ ys) = λ i. eqb_flip x y i && same_flip xs ys i
+
+-- none is among no names
+pub none_of : (xs : List (List ℕ)) → has_one_of [] xs ≡ false
+none_of [] = refl
+none_of (x ∷ xs) = none_of xs
+
+mix : (a b c d : Bool) → ((a || (b || false)) || (c || d)) ≡ ((a || c) || (b || d))
+mix true b c d = refl
+mix false true true d = refl
+mix false true false d = refl
+mix false false c d = refl
+
+one_of_more : (seen : List (List ℕ)) (x : List ℕ) (xs : List (List ℕ)) → has_one_of (seen ++ x ∷ []) xs ≡ (has_one_of seen xs || is_among x xs)
+one_of_more seen x [] = refl
+one_of_more seen x (y ∷ ys) =
+    (λ i. among_append y seen (x ∷ []) i || one_of_more seen x ys i)
+    ∙ mix (is_among y seen) (is_same_text y x) (has_one_of seen ys) (is_among x ys)
+    ∙ ap (λ r. (is_among y seen || has_one_of seen ys) || (r || is_among x ys)) (same_flip y x)
+
+-- what stands twice, one name further
+pub twice_more : (seen new : List (List ℕ)) (x : List ℕ) (xs : List (List ℕ)) (total : Bool) → is_among x seen ≡ false → new ≡ seen ++ x ∷ []
+    → (has_one_of seen (x ∷ xs) || has_twice (x ∷ xs)) ≡ total → (has_one_of new xs || has_twice xs) ≡ total
+twice_more seen new x xs total absent e h =
+    ap (λ names. has_one_of names xs || has_twice xs) e
+    ∙ ap (λ r. r || has_twice xs) (one_of_more seen x xs)
+    ∙ or_assoc (has_one_of seen xs) (is_among x xs) (has_twice xs)
+    ∙ ap (λ r. (r || has_one_of seen xs) || (is_among x xs || has_twice xs)) (sym absent)
+    ∙ h

@@ -1,6 +1,6 @@
 //! Names that are declared or listed again.
 
-ghost use Rattle.std.specs.Prelude.{◌≡◌, [], ◌∷◌, ◌++◌, ℕ, List, IfOk, OnOk, if◌then◌else◌};
+ghost use Rattle.std.specs.Prelude.{◌≡◌, [], ◌∷◌, ◌++◌, ◌||◌, ℕ, List, IfOk, OnOk, if◌then◌else◌};
 ghost use Rattle.ped_symbols.specs.NameRefusals as Spec;
 ghost use Rattle.ped_symbols.specs.NameRefusals.{has_twice, is_again, declares_again};
 ghost use Rattle.ped_symbols.specs.Passes.{HaveSame, HasSeen};
@@ -46,7 +46,7 @@ impl Seen {
     {
         let mut again = false;
         for u in uses {
-            again = self.has(u) || again;
+            again = either(again, self.has(u));
             self.see(u)?;
         }
         Ok(again)
@@ -70,6 +70,13 @@ impl Seen {
         insert_where(u.role.is_naming(), &mut self.named, &u.name)?;
         insert_where(u.role.is_saving(), &mut self.saved, &u.name)
     }
+}
+
+/// Whether one of two holds; both are known.
+fn either(first: bool, second: bool) -> bool
+    ensures { result ≡ (first || second) }
+{
+    first || second
 }
 
 /// Adds a name where it is wanted.

@@ -4,5 +4,5 @@ use Rattle.ped_base.specs.Lists.{is_among}
 use Rattle.ped_symbols.proofs.Lookups.{added_alike}
 use Rattle.ped_symbols.proofs.repeating.insert_where.Goals as goal
 
-pub returns-then : goal.returns-then
-returns-then c = on_ok_weaker c.insert.result (λ e before h x. ap (is_among x) e ∙ added_alike c.args.names.now before c.args.name.now h x) c.insert.ensures.ok
+pub returns-then-wanted : goal.returns-then-wanted
+returns-then-wanted c = on_ok_weaker c.insert.result (λ e before h x. ap (is_among x) e ∙ added_alike c.args.names.now before c.args.name.now h x) c.insert.ensures.ok

@@ -1,3 +1,4 @@
+mod Bounding
 mod Elements
 mod Lookups
 mod Repeats

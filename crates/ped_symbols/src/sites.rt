@@ -10,7 +10,6 @@ ghost use Rattle.ped_symbols.specs.Passes.{Knows, refused_at};
 
 use crate::declared::Declared;
 use crate::uses::{Role, Use};
-use ped_base::Name;
 use ped_expressions::intrinsic_of;
 use ped_grammar::{Refusal, RefusalKind, standing};
 
@@ -86,11 +85,17 @@ fn some_real(declared: &Declared, uses: &[Use]) -> bool
     ensures { (d : Plain.Declared) → Knows declared.now d → result ≡ list_any (Spec.uses_real d) uses.now }
 {
     for u in uses {
-        if declared.is_real(&u.name) {
+        if uses_real(declared, u) {
             return true;
         }
     }
     false
+}
+
+fn uses_real(declared: &Declared, u: &Use) -> bool
+    ensures { (d : Plain.Declared) → Knows declared.now d → result ≡ Spec.uses_real d u.now }
+{
+    declared.is_real(&u.name)
 }
 
 /// Whether a constant, the program's name or an intrinsic function's is used as what it isn't.
@@ -106,11 +111,17 @@ fn some_constant(declared: &Declared, uses: &[Use]) -> bool
     ensures { (d : Plain.Declared) → Knows declared.now d → result ≡ list_any (Spec.uses_constant d) uses.now }
 {
     for u in uses {
-        if is_of_variable(u.role) && declared.is_constant(&u.name) {
+        if uses_constant(declared, u) {
             return true;
         }
     }
     false
+}
+
+fn uses_constant(declared: &Declared, u: &Use) -> bool
+    ensures { (d : Plain.Declared) → Knows declared.now d → result ≡ Spec.uses_constant d u.now }
+{
+    is_of_variable(u.role) && declared.is_constant(&u.name)
 }
 
 fn is_of_variable(role: Role) -> bool
@@ -133,11 +144,17 @@ fn some_program(declared: &Declared, uses: &[Use]) -> bool
     ensures { (d : Plain.Declared) → Knows declared.now d → result ≡ list_any (Spec.uses_program d) uses.now }
 {
     for u in uses {
-        if declared.is_program(&u.name) && !declared.is_constant(&u.name) {
+        if uses_program(declared, u) {
             return true;
         }
     }
     false
+}
+
+fn uses_program(declared: &Declared, u: &Use) -> bool
+    ensures { (d : Plain.Declared) → Knows declared.now d → result ≡ Spec.uses_program d u.now }
+{
+    declared.is_program(&u.name) && !declared.is_constant(&u.name)
 }
 
 /// Whether an array has the name of an intrinsic function.
@@ -155,7 +172,7 @@ fn some_intrinsic(uses: &[Use]) -> bool
 fn dimensions_intrinsic(u: &Use) -> bool
     ensures { result ≡ Spec.dimensions_intrinsic u.now }
 {
-    matches!(u.role, Role::Dimensioned(_)) && intrinsic_of(u.name.as_bytes()).is_some()
+    u.role.is_dimensioning() && intrinsic_of(u.name.as_bytes()).is_some()
 }
 
 /// Whether a name has another number of subscripts than of dimensions.
@@ -163,21 +180,29 @@ fn some_other_rank(declared: &Declared, uses: &[Use]) -> bool
     ensures { (d : Plain.Declared) → Knows declared.now d → result ≡ list_any (Spec.uses_other_rank d) uses.now }
 {
     for u in uses {
-        if has_other_rank(declared, &u.name, u.role) {
+        if uses_other_rank(declared, u) {
             return true;
         }
     }
     false
 }
 
-fn has_other_rank(declared: &Declared, name: &Name, role: Role) -> bool
-    ensures { (d : Plain.Declared) → Knows declared.now d → result ≡ Spec.differs (Plain.rank_of d name.now) (Spec.subscripts_of role) }
+fn uses_other_rank(declared: &Declared, u: &Use) -> bool
+    ensures { (d : Plain.Declared) → Knows declared.now d → result ≡ Spec.uses_other_rank d u.now }
+{
+    match subscripts_of(u.role) {
+        Some(subscripts) => declared.rank(&u.name) != subscripts,
+        None => false,
+    }
+}
+
+/// How many subscripts a name has in a role, where the role tells.
+fn subscripts_of(role: Role) -> Option<usize>
+    ensures { result ≡ Spec.subscripts_of role }
 {
     match role {
-        Role::Private | Role::Index => declared.rank(name) != 0,
-        Role::Assigned(subscripts) | Role::Operand(subscripts) => {
-            declared.rank(name) != subscripts
-        }
-        Role::Typed | Role::Dimensioned(_) | Role::Named | Role::Saved | Role::Rejected => false,
+        Role::Private | Role::Index => Some(0),
+        Role::Assigned(subscripts) | Role::Operand(subscripts) => Some(subscripts),
+        Role::Typed | Role::Dimensioned(_) | Role::Named | Role::Saved | Role::Rejected => None,
     }
 }

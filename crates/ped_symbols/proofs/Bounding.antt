@@ -1,0 +1,43 @@
+-- Bounds of arrays, dimension by dimension.
+use Rattle.std.proofs.Common.{◌≡◌, ℕ, ℤ, pos, ◌+◌, ◌-◌, ◌<◌, List, [], ◌∷◌, ◌++◌, length, take, drop, replicate, slice_set, Option, Some, None, refl, ap, sym, ◌∙◌, append-nil, append_assoc, arith}
+use Rattle.std.proofs.lemmas.Grind.{common_steps}
+use Rattle.ped_base.specs.Dimensions.{Dimensions, IsBounds}
+use Rattle.ped_base.specs.declared.bounds.Bounds.TheInside.{Inside}
+use Rattle.ped_symbols.specs.Arrays.{with_dimension}
+
+-- dimensions with others behind them, where these are known (plain words)
+abbrev pub appended : Dimensions → Option Dimensions → Option Dimensions
+appended d None = None
+appended d (Some e) = Some (record { lower = d.lower ++ e.lower; upper = d.upper ++ e.upper })
+
+-- none before others
+pub none_before : (d : Dimensions) (rest : Option Dimensions) → d.lower ≡ [] → d.upper ≡ [] → appended d rest ≡ rest
+none_before d None l u = refl
+none_before d (Some e) l u = λ i. Some (record { lower = l i ++ e.lower; upper = u i ++ e.upper })
+
+-- one more dimension belongs to those before or to those behind
+pub one_more : (d wider : Dimensions) (lower upper : ℤ) (rest : Option Dimensions) → wider.lower ≡ d.lower ++ lower ∷ [] → wider.upper ≡ d.upper ++ upper ∷ []
+    → appended wider rest ≡ appended d (with_dimension (Some lower) (Some upper) rest)
+one_more d wider lower upper None l u = refl
+one_more d wider lower upper (Some e) l u = λ i. Some (record {
+  lower = (ap (λ t. t ++ e.lower) l ∙ append_assoc d.lower (lower ∷ []) e.lower) i;
+  upper = (ap (λ t. t ++ e.upper) u ∙ append_assoc d.upper (upper ∷ []) e.upper) i;
+})
+
+-- none behind others
+pub none_behind : (d : Dimensions) → appended d (Some (record { lower = []; upper = [] })) ≡ Some d
+none_behind d = λ i. Some (record { lower = append-nil d.lower i; upper = append-nil d.upper i })
+
+rest_more : (xs : List ℤ) (n : ℕ) (v : ℤ) → length xs ≡ 7 → n < 7 → drop n xs ≡ replicate (7 - n) (pos 0) → drop (n + 1) (slice_set xs n v) ≡ replicate (7 - (n + 1)) (pos 0)
+rest_more xs n v l k h = grind (arith, common_steps)
+
+-- the room of an array keeps its form where one more dimension stands in it
+pub wider_bounds : (b : Inside) (n m : ℕ) (lower upper : ℤ) → IsBounds b → b.rank < 7 → n ≡ b.rank → m ≡ b.rank
+    → IsBounds (record { rank = b.rank + 1; lower = slice_set b.lower n lower; upper = slice_set b.upper m upper })
+wider_bounds b n m lower upper h k e f = record {
+  few = omega arith;
+  lower_long = grind (arith, common_steps, h.lower_long);
+  upper_long = grind (arith, common_steps, h.upper_long);
+  lower_rest = ap (λ n. drop (b.rank + 1) (slice_set b.lower n lower)) e ∙ rest_more b.lower b.rank lower h.lower_long k h.lower_rest;
+  upper_rest = ap (λ n. drop (b.rank + 1) (slice_set b.upper n upper)) f ∙ rest_more b.upper b.rank upper h.upper_long k h.upper_rest;
+}

@@ -1,9 +1,17 @@
 -- Bounds of arrays, dimension by dimension.
-use Rattle.std.proofs.Common.{◌≡◌, ℕ, ℤ, pos, ◌+◌, ◌-◌, ◌<◌, List, [], ◌∷◌, ◌++◌, length, take, drop, replicate, slice_set, Option, Some, None, refl, ap, sym, ◌∙◌, append-nil, append_assoc, arith}
-use Rattle.std.proofs.lemmas.Grind.{common_steps}
+use Rattle.std.proofs.Common.{◌≡◌, ℕ, ℤ, pos, ◌+◌, ◌-◌, ◌<◌, List, [], ◌∷◌, ◌++◌, length, take, drop, replicate, slice_set, Option, Some, None, refl, ap, sym, ◌∙◌, append-nil, append_assoc, arith, map, Bool, true, ◌&&◌, if◌then◌else◌}
+use Rattle.std.specs.Prelude.{nat_le}
+use Rattle.std.specs.List.{flat_map}
+use Rattle.std.proofs.lemmas.Grind.{common_steps, flat_map-append}
+use Rattle.std.proofs.lemmas.List.{map-append}
+use Rattle.ped_base.specs.Lists.{has_some}
+use Rattle.ped_tree.specs.Tree.{BoundTree}
+use Rattle.ped_tree.specs.Views.{declarator_tree}
+use Rattle.ped_tree.specs.declared.declarations.Declarator.{Declarator}
+use Rattle.ped_symbols.specs.Values.{Values}
 use Rattle.ped_base.specs.Dimensions.{Dimensions, IsBounds}
 use Rattle.ped_base.specs.declared.bounds.Bounds.TheInside.{Inside}
-use Rattle.ped_symbols.specs.Arrays.{with_dimension}
+use Rattle.ped_symbols.specs.Arrays.{Arrays, with_dimension, bounds_values, with_bounds, by_bounds, arrays_of}
 
 -- dimensions with others behind them, where these are known (plain words)
 abbrev pub appended : Dimensions → Option Dimensions → Option Dimensions
@@ -41,3 +49,23 @@ wider_bounds b n m lower upper h k e f = record {
   lower_rest = ap (λ n. drop (b.rank + 1) (slice_set b.lower n lower)) e ∙ rest_more b.lower b.rank lower h.lower_long k h.lower_rest;
   upper_rest = ap (λ n. drop (b.rank + 1) (slice_set b.upper n upper)) f ∙ rest_more b.upper b.rank upper h.upper_long k h.upper_rest;
 }
+
+-- a list with an item has some
+pub some_of_length : {X : Type 0} (xs : List X) → 0 < length xs → has_some xs ≡ true
+some_of_length [] h = absurd (omega (arith, h))
+some_of_length (x ∷ xs) h = refl
+
+-- the array of a name whose bounds are known
+pub known_array : (values : Values) (x : List ℕ) (bounds : List BoundTree) (d : Dimensions) → has_some bounds ≡ true → nat_le (length bounds) 7 ≡ true
+    → bounds_values values bounds ≡ Some d → by_bounds values x bounds ≡ (x, d) ∷ []
+known_array values x bounds d h k e = λ i. if h i && k i then with_bounds x (e i) else []
+
+-- the arrays of one declarator more
+pub arrays_more : (before : Arrays) (values : Values) (front longer : List Declarator) (x : Declarator) → longer ≡ front ++ x ∷ []
+    → (before ++ flat_map (arrays_of values) (map declarator_tree front)) ++ arrays_of values (declarator_tree x) ≡ before ++ flat_map (arrays_of values) (map declarator_tree longer)
+arrays_more before values front longer x e =
+    append_assoc before _ (arrays_of values (declarator_tree x))
+    ∙ ap (λ t. before ++ t)
+    (ap (λ t. flat_map (arrays_of values) (map declarator_tree front) ++ t) (sym (append-nil (arrays_of values (declarator_tree x))))
+    ∙ sym (flat_map-append (arrays_of values) (map declarator_tree front) (declarator_tree x ∷ []))
+    ∙ ap (flat_map (arrays_of values)) (sym (map-append declarator_tree front (x ∷ [])) ∙ ap (map declarator_tree) (sym e)))

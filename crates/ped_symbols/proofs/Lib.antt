@@ -1,3 +1,4 @@
+mod Anyone
 mod Bounding
 mod Elements
 mod Lookups

@@ -41,7 +41,8 @@ fn keep_declarators(arrays: &mut NameTable<Bounds>, consts: &Consts, declarators
 fn keep_declarator(arrays: &mut NameTable<Bounds>, consts: &Consts, declarator: &Declarator) -> Result<(), NoMemory>
     ensures { OnOk result ((before : Spec.Arrays) → KnowsArrays arrays.old before → KnowsArrays arrays.new (before ++ Spec.arrays_of consts.now (declarator_tree declarator.now))) }
 {
-    if declarator.bounds.is_empty() || declarator.bounds.len() > MOST_DIMENSIONS {
+    let count = declarator.bounds.len();
+    if count == 0 || count > MOST_DIMENSIONS {
         return Ok(());
     }
     match bounds_of(consts, &declarator.bounds) {

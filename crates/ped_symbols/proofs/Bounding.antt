@@ -1,13 +1,15 @@
 -- Bounds of arrays, dimension by dimension.
-use Rattle.std.proofs.Common.{◌≡◌, ℕ, ℤ, pos, ◌+◌, ◌-◌, ◌<◌, List, [], ◌∷◌, ◌++◌, length, take, drop, replicate, slice_set, Option, Some, None, refl, ap, sym, ◌∙◌, append-nil, append_assoc, arith, map, Bool, true, ◌&&◌, if◌then◌else◌}
-use Rattle.std.specs.Prelude.{nat_le}
+use Rattle.std.proofs.Common.{◌≡◌, ℕ, ℤ, pos, ◌+◌, ◌-◌, ◌<◌, List, [], ◌∷◌, ◌++◌, length, take, drop, replicate, slice_set, Option, Some, None, refl, ap, sym, ◌∙◌, append-nil, append_assoc, arith, map, Bool, true, ◌&&◌, if◌then◌else◌, false, subst}
+use Rattle.std.specs.Prelude.{nat_le, nat_eq, not}
 use Rattle.std.specs.List.{flat_map}
 use Rattle.std.proofs.lemmas.Grind.{common_steps, flat_map-append}
-use Rattle.std.proofs.lemmas.List.{map-append}
+use Rattle.std.proofs.lemmas.List.{map-append, length-map}
 use Rattle.ped_base.specs.Lists.{has_some}
 use Rattle.ped_tree.specs.Tree.{BoundTree}
-use Rattle.ped_tree.specs.Views.{declarator_tree}
+use Rattle.ped_tree.specs.Views.{bound_tree, declarator_tree}
 use Rattle.ped_tree.specs.declared.declarations.Declarator.{Declarator}
+use Rattle.ped_tree.specs.declared.declarations.Bound.{Bound}
+use Rattle.ped_grammar.specs.LimitNumbers.{most_dimensions}
 use Rattle.ped_symbols.specs.Values.{Values}
 use Rattle.ped_base.specs.Dimensions.{Dimensions, IsBounds}
 use Rattle.ped_base.specs.declared.bounds.Bounds.TheInside.{Inside}
@@ -50,15 +52,23 @@ wider_bounds b n m lower upper h k e f = record {
   upper_rest = ap (λ n. drop (b.rank + 1) (slice_set b.upper n upper)) f ∙ rest_more b.upper b.rank upper h.upper_long k h.upper_rest;
 }
 
--- a list with an item has some
-pub some_of_length : {X : Type 0} (xs : List X) → 0 < length xs → has_some xs ≡ true
-some_of_length [] h = absurd (omega (arith, h))
-some_of_length (x ∷ xs) h = refl
+-- a list of no items has none, and one of items has some
+pub some_of_length : {X : Type 0} (xs : List X) → has_some xs ≡ not (nat_eq (length xs) 0)
+some_of_length [] = refl
+some_of_length (x ∷ xs) = grind (arith)
 
 -- the array of a name whose bounds are known
-pub known_array : (values : Values) (x : List ℕ) (bounds : List BoundTree) (d : Dimensions) → has_some bounds ≡ true → nat_le (length bounds) 7 ≡ true
+pub known_array : (values : Values) (x : List ℕ) (bounds : List BoundTree) (d : Dimensions) → (has_some bounds && nat_le (length bounds) most_dimensions) ≡ true
     → bounds_values values bounds ≡ Some d → by_bounds values x bounds ≡ (x, d) ∷ []
-known_array values x bounds d h k e = λ i. if h i && k i then with_bounds x (e i) else []
+known_array values x bounds d h e = λ i. if h i then with_bounds x (e i) else []
+
+few_of : (b : Bool) (n : ℕ) → (b && nat_le n 7) ≡ true → n < 8
+few_of true n h = grind (arith, h)
+few_of false n h = absurd cc
+
+-- an array has no more dimensions than there is room for
+pub few_bounds : (bounds : List Bound) → (has_some (map bound_tree bounds) && nat_le (length (map bound_tree bounds)) most_dimensions) ≡ true → length bounds < 8
+few_bounds bounds h = subst (λ n. n < 8) (length-map bounds bound_tree) (few_of (has_some (map bound_tree bounds)) (length (map bound_tree bounds)) h)
 
 -- the arrays of one declarator more
 pub arrays_more : (before : Arrays) (values : Values) (front longer : List Declarator) (x : Declarator) → longer ≡ front ++ x ∷ []

@@ -1,5 +1,7 @@
 mod Anyone
 mod Bounding
+mod Collected
 mod Elements
 mod Lookups
 mod Repeats
+mod Walking

@@ -3,6 +3,7 @@ pub mod Declarations
 pub mod Entries
 pub mod Kinds
 pub mod NameRefusals
+pub mod Passed
 pub mod Passes
 pub mod Refused
 pub mod Sites

@@ -1,5 +1,5 @@
 -- What the passes over a program have found on their way. Contracts of private functions alone speak of it.
-use Rattle.std.specs.Prelude.{◌≡◌, ℕ, List, [], ◌∷◌, ◌++◌, map, Bool, ◌||◌, Option}
+use Rattle.std.specs.Prelude.{◌≡◌, ℕ, List, [], ◌∷◌, ◌++◌, map, drop, Bool, ◌||◌, Option}
 use Rattle.std.specs.List.{list_any}
 use Rattle.ped_base.specs.Lists.{is_among}
 use Rattle.ped_grammar.specs.Refusal.{Finding, RealName, DeclaredTwice, NotConstant, RankDiffers, BoundsEmpty, earliest, refused_if}
@@ -8,7 +8,7 @@ use Rattle.ped_symbols.specs.Entries.{entry_of, with_entry}
 use Rattle.ped_symbols.specs.Sites.{Site}
 use Rattle.ped_symbols.specs.Declarations as Plain
 use Rattle.ped_symbols.specs.Declarations.{names_with, is_typing, is_dimensioning, is_naming, is_saving, ranks_in}
-use Rattle.ped_symbols.specs.NameRefusals.{Before, uses_real, uses_constant, uses_program, dimensions_intrinsic, uses_other_rank, at_sites}
+use Rattle.ped_symbols.specs.NameRefusals.{Before, uses_real, uses_constant, uses_program, dimensions_intrinsic, uses_other_rank, next_line, at_sites}
 use Rattle.ped_base.specs.Dimensions.{Dimensions}
 use Rattle.ped_symbols.specs.Arrays.{Arrays}
 use Rattle.ped_symbols.specs.Kinds.{kind_by, names_at}
@@ -76,6 +76,12 @@ kind_with known x = kind_by (entry_of known.consts.now x) (entry_of known.arrays
 abbrev pub with_kinds : (List ℕ → Kind) → List (List ℕ × Kind) → List (List ℕ) → List (List ℕ × Kind)
 with_kinds kind es [] = es
 with_kinds kind es (x ∷ xs) = with_kinds kind (with_entry es x (kind x)) xs
+
+-- what was found at a site on the next line, by its uses and its faults
+pub record At (known : Known) (kinds new : NameTable Kind) (found next : Found) (uses : List Use) (faults : Faults) : Type 0 where
+  pub first : (d : Plain.Declared) → Knows known.declared.now d → found_of next.first ≡ earliest (found_of found.first) (refused_at d (next_line found.lines.now) uses faults)
+  pub lines : next.lines.now ≡ drop 1 found.lines.now
+  pub names : new.entries.entries ≡ with_kinds (kind_with known) kinds.entries.entries (map (λ u. u.name) uses)
 
 -- over these sites, which are no declarations: the first refusal and the kinds, whatever is still to come
 pub record Goes (known : Known) (kinds new_kinds : NameTable Kind) (found next : Found) (sites : List Site) : Type 0 where

@@ -3,6 +3,8 @@
 ghost use Rattle.std.specs.Prelude.{◌≡◌, [], ◌∷◌, ◌++◌, ◌<◌, ◌&&◌, length, nat_le, map, List, ℕ, IfOk, OnOk, None, if◌then◌else◌};
 ghost use Rattle.std.specs.List.{flat_map};
 ghost use Rattle.ped_tree.specs.Views.{bound_tree, declarator_tree, decl_tree};
+ghost use Rattle.ped_base.specs.Lists.{has_some};
+ghost use Rattle.ped_grammar.specs.LimitNumbers.{most_dimensions};
 ghost use Rattle.ped_symbols.specs.Arrays as Spec;
 ghost use Rattle.ped_symbols.specs.Passes.{KnowsArrays};
 
@@ -41,14 +43,20 @@ fn keep_declarators(arrays: &mut NameTable<Bounds>, consts: &Consts, declarators
 fn keep_declarator(arrays: &mut NameTable<Bounds>, consts: &Consts, declarator: &Declarator) -> Result<(), NoMemory>
     ensures { OnOk result ((before : Spec.Arrays) → KnowsArrays arrays.old before → KnowsArrays arrays.new (before ++ Spec.arrays_of consts.now (declarator_tree declarator.now))) }
 {
-    let count = declarator.bounds.len();
-    if count == 0 || count > MOST_DIMENSIONS {
+    if !is_array(&declarator.bounds) {
         return Ok(());
     }
     match bounds_of(consts, &declarator.bounds) {
         Some(bounds) => arrays.keep(&declarator.name, bounds),
         None => Ok(()),
     }
+}
+
+/// Whether an array may have these dimensions: one or more, and not more than seven.
+fn is_array(bounds: &[Bound]) -> bool
+    ensures { result ≡ (has_some (map bound_tree bounds.now) && nat_le (length (map bound_tree bounds.now)) most_dimensions) }
+{
+    !bounds.is_empty() && bounds.len() <= MOST_DIMENSIONS
 }
 
 /// The bounds of at most seven dimensions: none where one has no value.

@@ -2,6 +2,7 @@
 
 ghost use Rattle.std.specs.Prelude.{◌≡◌, [], ◌∷◌, ◌++◌, List, map, IfOk};
 ghost use Rattle.std.specs.List.{flat_map};
+ghost use Rattle.ped_base.specs.Lists.{has_some};
 ghost use Rattle.ped_tree.specs.Views.{decl_tree};
 ghost use Rattle.ped_symbols.specs.Declarations as Plain;
 ghost use Rattle.ped_symbols.specs.NameRefusals.{Before, at_first, behind_sites};
@@ -77,7 +78,7 @@ fn declaration<'l>(
         × ((more : List Site) → first_with d (behind_sites b (decl_sites (decl_tree decl.now))) next more
         ≡ first_with d b found.entry (decl_sites (decl_tree decl.now) ++ more))) }
 {
-    if matches!(decl, Decl::Comment(_)) {
+    if !has_site(decl) {
         return Ok(found);
     }
     let mut uses = Vec::new(alloc);
@@ -92,4 +93,11 @@ fn declaration<'l>(
         is_empty,
     };
     Ok(found.behind(declared, &uses, faults))
+}
+
+/// Whether it is a declaration and no comment.
+fn has_site(decl: &Decl) -> bool
+    ensures { result ≡ has_some (decl_sites (decl_tree decl.now)) }
+{
+    !matches!(decl, Decl::Comment(_))
 }

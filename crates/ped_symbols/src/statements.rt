@@ -3,7 +3,7 @@
 ghost use Rattle.std.specs.Prelude.{◌≡◌, [], ◌∷◌, map, IfOk, OnOk};
 ghost use Rattle.ped_tree.specs.Views.{stmt_tree, stmt_trees};
 ghost use Rattle.ped_symbols.specs.Sites.{stmt_sites, stmts_sites, private_site, statement as statement_site};
-ghost use Rattle.ped_symbols.specs.Passes.{Goes, kind_with, with_kinds};
+ghost use Rattle.ped_symbols.specs.Passes.{At, Goes, kind_with, with_kinds};
 
 use crate::declared::Declared;
 use crate::repeating::{rejects_twice, stands_twice};
@@ -114,13 +114,26 @@ fn own<'l>(
 {
     let mut uses = Vec::new(alloc);
     push_own(&mut uses, statement)?;
-    known.keep_kinds(kinds, &uses)?;
     let faults = Faults {
         repeats: rejects_twice(alloc, statement)?,
         fails: stmt_fails(known.consts, statement),
         is_empty: false,
     };
-    Ok(found.behind(known.declared, &uses, faults))
+    at_site(known, kinds, found, &uses, faults)
+}
+
+/// Goes over a site with these uses of names, where it has these faults.
+fn at_site<'l>(
+    known: &Known,
+    kinds: &mut NameTable<Kind>,
+    found: Found<'l>,
+    uses: &[Use],
+    faults: Faults,
+) -> Result<Found<'l>, NoMemory>
+    ensures { IfOk result (λ next. At known.now kinds.old kinds.new found.entry next uses.now faults) }
+{
+    known.keep_kinds(kinds, uses)?;
+    Ok(found.behind(known.declared, uses, faults))
 }
 
 /// Goes over the PRIVATE statement of a DO, where it has one.
@@ -138,11 +151,10 @@ fn private<'l>(
     }
     let mut uses = Vec::new(alloc);
     push_all(&mut uses, Role::Private, names)?;
-    known.keep_kinds(kinds, &uses)?;
     let faults = Faults {
         repeats: stands_twice(alloc, names)?,
         fails: false,
         is_empty: false,
     };
-    Ok(found.behind(known.declared, &uses, faults))
+    at_site(known, kinds, found, &uses, faults)
 }

@@ -1,7 +1,9 @@
 //! The kinds of the names of a program.
 
 ghost use Rattle.std.specs.Prelude.{◌≡◌, [], map, Some, IfOk, IfErr};
-ghost use Rattle.ped_tree.specs.Views.{program_tree};
+ghost use Rattle.ped_tree.specs.Views.{program_tree, stmt_trees};
+ghost use Rattle.ped_symbols.specs.Sites.{stmts_sites};
+ghost use Rattle.ped_symbols.specs.Passed.{HasPassed, GoesOver};
 ghost use Rattle.ped_symbols.specs.Entries.{entry_of};
 ghost use Rattle.ped_symbols.specs.Kinds.{table_of};
 ghost use Rattle.ped_symbols.specs.NameRefusals.{name_refusals};
@@ -13,12 +15,12 @@ use crate::declared::Declared;
 use crate::sites::Found;
 use crate::statements::{Known, statements};
 use crate::tables::NameTable;
-use crate::uses::push_decls;
+use crate::uses::{Use, push_decls};
 use indexmap::IndexMap;
 use ped_base::{Bounds, Name, Names, NoMemory};
 use ped_constants::Consts;
 use ped_grammar::Refusal;
-use ped_tree::Program;
+use ped_tree::{Program, Stmt};
 use std::alloc::Global;
 use std::marker::Model;
 use thiserror::Error;
@@ -108,6 +110,31 @@ pub fn symbols_of(alloc: Global, program: &Program) -> Result<Symbols, NameRefus
     ensures table { IfOk result (λ s. s ≡ table_of (program_tree program.now)) }
     ensures refused { IfErr result (λ e. IsFirstOf (name_refusals program.now.lines.items (program_tree program.now)) e) }
 {
+    let passed = over_program(alloc, program)?;
+    match passed.first {
+        Some(refusal) => Err(NameRefusal::At(refusal)),
+        None => Ok(Symbols {
+            kinds: passed.kinds.entries,
+            constants: passed.consts,
+        }),
+    }
+}
+
+/// What both passes over a program have found.
+#[derive(Drop)]
+pub struct Passed {
+    /// The first refusal of its names.
+    pub first: Option<Refusal>,
+    /// Its names with what they stand for.
+    pub kinds: NameTable<Kind>,
+    /// Its named constants.
+    pub consts: Consts,
+}
+
+/// Goes over the declarations of a program and then over its statements.
+fn over_program(alloc: Global, program: &Program) -> Result<Passed, NoMemory>
+    ensures { IfOk result (HasPassed program.now.lines.items (program_tree program.now)) }
+{
     let mut uses = Vec::new(alloc);
     push_decls(&mut uses, &program.decls)?;
     let declared = Declared::new(alloc, &program.decls, &uses)?;
@@ -117,19 +144,32 @@ pub fn symbols_of(alloc: Global, program: &Program) -> Result<Symbols, NameRefus
         lines: &program.lines,
     };
     let found = declarations(alloc, &declared, &mut held, found, &program.decls)?;
+    let (first, kinds) = in_body(alloc, &declared, &held, &uses, found, &program.body)?;
+    Ok(Passed {
+        first,
+        kinds,
+        consts: held.consts,
+    })
+}
+
+/// Goes over the statements of a program, whose declarations have these uses of names.
+fn in_body(
+    alloc: Global,
+    declared: &Declared,
+    held: &Held,
+    uses: &[Use],
+    found: Found,
+    body: &[Stmt],
+) -> Result<(Option<Refusal>, NameTable<Kind>), NoMemory>
+    ensures { IfOk result (λ r. GoesOver declared.now held.now uses.now found.entry (stmts_sites (stmt_trees body.now)) r.0 r.1) }
+{
     let known = Known {
-        declared: &declared,
+        declared,
         consts: &held.consts,
         arrays: &held.arrays,
     };
     let mut kinds = NameTable::new(alloc);
-    known.keep_kinds(&mut kinds, &uses)?;
-    let found = statements(alloc, &known, &mut kinds, found, &program.body)?;
-    match found.first {
-        Some(refusal) => Err(NameRefusal::At(refusal)),
-        None => Ok(Symbols {
-            kinds: kinds.entries,
-            constants: held.consts,
-        }),
-    }
+    known.keep_kinds(&mut kinds, uses)?;
+    let found = statements(alloc, &known, &mut kinds, found, body)?;
+    Ok((found.first, kinds))
 }

@@ -1,12 +1,13 @@
-use Rattle.std.proofs.Common.{◌≡◌, ◌∷◌, [], ◌++◌, ◌<◌, Bool, true, Some, map, length, arith, sym, ap, ◌∙◌, rules}
+use Rattle.std.proofs.Common.{◌≡◌, ◌∷◌, [], ◌++◌, Bool, true, false, Some, map, length, ap, sym, ◌∙◌, rules, ◌&&◌}
 use Rattle.std.specs.Prelude.{nat_le}
 use Rattle.std.proofs.lemmas.Result.{on_ok_weaker}
 use Rattle.ped_base.specs.Lists.{has_some}
+use Rattle.ped_grammar.specs.LimitNumbers.{most_dimensions}
 use Rattle.ped_tree.specs.Views.{bound_tree, declarator_tree}
 use Rattle.ped_symbols.specs.Entries.{entry_of}
 use Rattle.ped_symbols.specs.Arrays.{bounds_values, arrays_of}
 use Rattle.ped_symbols.proofs.Lookups.{kept_alike}
-use Rattle.ped_symbols.proofs.Bounding.{some_of_length, known_array}
+use Rattle.ped_symbols.proofs.Bounding.{known_array}
 use Rattle.ped_symbols.proofs.arrays.keep_declarator.Goals as goal
 
 pub returns-in-Some : goal.returns-in-Some
@@ -14,10 +15,9 @@ returns-in-Some c =
     let d = c.args.declarator.now in
     let bounds = map bound_tree d.bounds.items in
     let consts = c.args.consts.now in
-    let more : 0 < length bounds = search rules in
-    let few : nat_le (length bounds) 7 ≡ true = search rules in
+    let may : (has_some bounds && nat_le (length bounds) most_dimensions) ≡ true = search rules in
     let known : bounds_values consts bounds ≡ Some c.in-Some.bounds = search rules in
-    let whole : arrays_of consts (declarator_tree d) ≡ (d.name, c.in-Some.bounds) ∷ [] = known_array consts d.name bounds c.in-Some.bounds (some_of_length bounds more) few known in
+    let whole : arrays_of consts (declarator_tree d) ≡ (d.name, c.in-Some.bounds) ∷ [] = known_array consts d.name bounds c.in-Some.bounds may known in
     on_ok_weaker c.keep.result
     (λ e before h x. ap (λ es. entry_of es x) e ∙ kept_alike c.args.arrays.now.entries.entries before d.name c.in-Some.bounds h x ∙ ap (λ more. entry_of (before ++ more) x) (sym whole))
     c.keep.ensures.ok

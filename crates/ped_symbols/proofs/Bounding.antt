@@ -1,5 +1,5 @@
 -- Bounds of arrays, dimension by dimension.
-use Rattle.std.proofs.Common.{◌≡◌, ℕ, ℤ, pos, ◌+◌, ◌-◌, ◌<◌, List, [], ◌∷◌, ◌++◌, length, take, drop, replicate, slice_set, Option, Some, None, refl, ap, sym, ◌∙◌, append-nil, append_assoc, arith, map, Bool, true, ◌&&◌, if◌then◌else◌, false, subst}
+use Rattle.std.proofs.Common.{◌≡◌, ℕ, ℤ, pos, ◌+◌, ◌-◌, ◌<◌, List, [], ◌∷◌, ◌++◌, length, drop, replicate, slice_set, Option, Some, None, refl, ap, sym, ◌∙◌, append-nil, append_assoc, arith, map, Bool, true, ◌&&◌, if◌then◌else◌, false, subst}
 use Rattle.std.specs.Prelude.{nat_le, nat_eq, not}
 use Rattle.std.specs.List.{flat_map}
 use Rattle.std.proofs.lemmas.Grind.{common_steps, flat_map-append}

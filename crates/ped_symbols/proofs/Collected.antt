@@ -1,5 +1,5 @@
 -- The table of a program: its names in the order of their first occurrence.
-use Rattle.std.proofs.Common.{◌≡◌, ℕ, List, [], ◌∷◌, ◌++◌, map, Bool, true, false, Some, None, Option, is_some, eqb, eqb-true, ◌&&◌, refl, ap, sym, ◌∙◌, append_assoc, append-nil, if◌then◌else◌}
+use Rattle.std.proofs.Common.{◌≡◌, ℕ, List, [], ◌∷◌, ◌++◌, map, Bool, true, false, Some, None, is_some, refl, ap, sym, ◌∙◌, append_assoc, append-nil, if◌then◌else◌}
 use Rattle.std.specs.Prelude.{◌||◌}
 use Rattle.std.specs.List.{flat_map}
 use Rattle.std.proofs.lemmas.Grind.{flat_map-append}
@@ -11,10 +11,10 @@ use Rattle.ped_tree.specs.Tree.{StmtTree, StmtTrees, DeclTree, ProgramTree}
 use Rattle.ped_tree.specs.NamesIn.{first_occurrences}
 use Rattle.ped_symbols.specs.declared.symbols.Kind.{Kind}
 use Rattle.ped_symbols.specs.declared.uses.Use.{Use}
-use Rattle.ped_symbols.specs.Entries.{entry_of, with_entry}
+use Rattle.ped_symbols.specs.Entries.{entry_of}
 use Rattle.ped_symbols.specs.Uses.{decl_uses}
 use Rattle.ped_symbols.specs.Sites.{Site, private_site, stmt_sites, stmts_sites, decl_sites, site_uses}
-use Rattle.ped_symbols.specs.NameRefusals.{Before, at_first, behind_site, behind_sites, at_sites}
+use Rattle.ped_symbols.specs.NameRefusals.{Before, at_first, behind_sites, at_sites}
 use Rattle.ped_grammar.specs.Refusal.{earliest}
 use Rattle.ped_grammar.specs.RefusalViews.{found_of}
 use Rattle.ped_symbols.specs.declared.declared.Declared.{Declared}

@@ -1,5 +1,5 @@
 -- What tables and sets of names find is what stands in the lists of the definitions.
-use Rattle.std.proofs.Common.{◌≡◌, ℕ, List, [], ◌∷◌, ◌++◌, map, Bool, true, false, ◌&&◌, Option, Some, None, is_some, eqb, eqb-true, refl, ap, sym, ◌∙◌, if◌then◌else◌}
+use Rattle.std.proofs.Common.{◌≡◌, ℕ, List, [], ◌∷◌, ◌++◌, Bool, true, false, ◌&&◌, Option, Some, None, is_some, eqb, eqb-true, refl, ap, sym, ◌∙◌, if◌then◌else◌}
 use Rattle.std.specs.Prelude.{◌||◌}
 use Rattle.std.specs.Map.{lookup}
 use Rattle.ped_base.specs.Lists.{is_same_text, is_among}
@@ -56,6 +56,7 @@ entry_with es k v x = go (is_some (entry_of es k)) refl
     there : is_some (entry_of es k) ≡ true → (r : Bool) → is_same_text x k ≡ r → entry_of es x ≡ or_else (entry_of es x) (if r then Some v else None)
     there h true q = some_else (entry_of es x) (Some v) (ap (λ z. is_some (entry_of es z)) (same_is x k q) ∙ h)
     there h false q = or_none (entry_of es x)
+
     go : (r : Bool) → is_some (entry_of es k) ≡ r → entry_of (if r then es else es ++ (k, v) ∷ []) x ≡ entry_of (es ++ (k, v) ∷ []) x
     go true h = there h (is_same_text x k) refl ∙ sym (entry_append es ((k, v) ∷ []) x)
     go false h = refl

@@ -1,5 +1,5 @@
 -- Over sites one behind the other: the first refusal, and the kinds of the names.
-use Rattle.std.proofs.Common.{◌≡◌, ℕ, List, [], ◌∷◌, ◌++◌, map, drop, Bool, true, false, Some, None, Option, refl, ap, sym, ◌∙◌, append_assoc, append-nil, if◌then◌else◌, rules, subst}
+use Rattle.std.proofs.Common.{◌≡◌, ℕ, List, [], ◌∷◌, ◌++◌, map, drop, true, false, refl, ap, sym, ◌∙◌, append_assoc, append-nil, if◌then◌else◌, rules, subst}
 use Rattle.std.specs.List.{flat_map}
 use Rattle.std.proofs.lemmas.Grind.{flat_map-append}
 use Rattle.std.proofs.lemmas.List.{map-append}
@@ -11,7 +11,7 @@ use Rattle.ped_tree.specs.declared.statements.Stmt.{the_lemmas}
 use Rattle.ped_tree.specs.declared.statements.Stmt as variant
 use Rattle.ped_tree.specs.declared.statements.Do as loop
 use Rattle.ped_tree.specs.declared.declarations.Decl.{Decl}
-use Rattle.ped_grammar.specs.Refusal.{Finding, earliest}
+use Rattle.ped_grammar.specs.Refusal.{earliest}
 use Rattle.ped_grammar.specs.RefusalViews.{found_of}
 use Rattle.ped_grammar.proofs.First.{earliest_append}
 use Rattle.ped_symbols.specs.declared.uses.Role.TheVariants.{Private}
@@ -28,7 +28,7 @@ use Rattle.ped_symbols.specs.Values.{Values, stmt_fails, decl_fails, decl_is_emp
 use Rattle.ped_symbols.specs.Sites.{Site, declaration, statement, private_names, private_site, stmt_sites, stmts_sites, decl_sites, site_uses}
 use Rattle.ped_symbols.specs.NameRefusals.{Before, behind_site, behind_sites, declares_again, at_site, at_sites, next_line, rejects_twice, has_twice}
 use Rattle.ped_symbols.specs.Kinds.{names_at}
-use Rattle.ped_symbols.specs.Passes.{Knows, At, Goes, first_with, kind_with, with_kinds, refused_at}
+use Rattle.ped_symbols.specs.Passes.{At, Goes, first_with, kind_with, with_kinds, refused_at}
 
 -- the kinds of names one behind the other
 pub kinds_append : (kind : List ℕ → Kind) (es : List (List ℕ × Kind)) (xs ys : List (List ℕ)) → with_kinds kind es (xs ++ ys) ≡ with_kinds kind (with_kinds kind es xs) ys

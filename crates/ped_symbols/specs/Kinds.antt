@@ -1,5 +1,5 @@
 -- What the names of a program stand for: scalars, arrays with their bounds, and constants with their values (ANSI X3.9-1978, sections 5, 8.6).
-use Rattle.std.specs.Prelude.{ℕ, ℤ, List, map, Bool, Option, Some, None, [], if◌then◌else◌}
+use Rattle.std.specs.Prelude.{ℕ, ℤ, List, map, Option, Some, None, [], if◌then◌else◌}
 use Rattle.std.specs.List.{flat_map}
 use Rattle.ped_base.specs.Dimensions.{Dimensions}
 use Rattle.ped_base.specs.Lists.{is_among}

@@ -2,7 +2,7 @@
 use Rattle.std.specs.Prelude.{◌≡◌, ℕ, List, [], ◌∷◌, ◌++◌, drop, Bool, true, false, not, ◌&&◌, ◌||◌, ◌==◌, nat_lt, Option, Some, None, IsTrue}
 use Rattle.std.specs.List.{list_any}
 use Rattle.ped_base.specs.Lists.{is_among}
-use Rattle.ped_tree.specs.Tree.{StmtTree, Assign, If, Do, Print, Read, Stop, Comment, DeclTree, ProgramTree}
+use Rattle.ped_tree.specs.Tree.{StmtTree, Do, ProgramTree}
 use Rattle.ped_grammar.specs.Words.{intrinsic_of}
 use Rattle.ped_grammar.specs.Fits.{is_no_intrinsic, fits}
 use Rattle.ped_grammar.specs.Refusal.{Finding, RealName, DeclaredTwice, NotConstant, RankDiffers, BoundsEmpty, refused_if}

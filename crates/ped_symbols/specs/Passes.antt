@@ -1,5 +1,5 @@
 -- What the passes over a program have found on their way. Contracts of private functions alone speak of it.
-use Rattle.std.specs.Prelude.{◌≡◌, ℕ, List, [], ◌∷◌, ◌++◌, map, drop, Bool, ◌||◌, Option}
+use Rattle.std.specs.Prelude.{◌≡◌, ℕ, List, [], ◌∷◌, ◌++◌, map, drop, ◌||◌, Option}
 use Rattle.std.specs.List.{list_any}
 use Rattle.ped_base.specs.Lists.{is_among}
 use Rattle.ped_grammar.specs.Refusal.{Finding, RealName, DeclaredTwice, NotConstant, RankDiffers, BoundsEmpty, earliest, refused_if}

@@ -1,5 +1,5 @@
 -- The values of named constants, and of bounds and increments, by the PARAMETER items that stand before (ANSI X3.9-1978, sections 5.1.1.1, 8.6, 11.10.2).
-use Rattle.std.specs.Prelude.{ℕ, ℤ, pos, List, [], ◌∷◌, unsigned_abs, nat_le, int_lt, Bool, true, false, not, ◌||◌, Option, Some, None, if◌then◌else◌}
+use Rattle.std.specs.Prelude.{ℕ, ℤ, pos, List, [], ◌∷◌, unsigned_abs, nat_le, int_lt, Bool, true, false, ◌||◌, Option, Some, None, if◌then◌else◌}
 use Rattle.std.specs.List.{list_any}
 use Rattle.std.specs.Ordering.{int_eq}
 use Rattle.ped_tree.specs.Tree.{ExprTree, StmtTree, Do, BoundTree, DeclaratorTree, DeclTree, Integer, Dimension, Parameter}

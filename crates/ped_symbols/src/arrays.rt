@@ -17,21 +17,26 @@ use ped_tree::{Bound, Decl, Declarator};
 
 /// Adds the arrays of a declaration with their bounds, by the constants that hold before it. Of a name that
 /// has bounds already the first count.
-pub fn keep_arrays(arrays: &mut NameTable<Bounds>, consts: &Consts, decl: &Decl) -> Result<(), NoMemory>
+pub fn keep_arrays(
+    arrays: &mut NameTable<Bounds>,
+    consts: &Consts,
+    decl: &Decl,
+) -> Result<(), NoMemory>
     ensures { OnOk result ((before : Spec.Arrays) → KnowsArrays arrays.old before → KnowsArrays arrays.new (before ++ Spec.arrays_in consts.now (decl_tree decl.now))) }
 {
     match decl {
         Decl::Integer(declarators) => keep_declarators(arrays, consts, declarators),
         Decl::Dimension(declarators) => keep_declarators(arrays, consts, declarators),
-        Decl::Program(_)
-        | Decl::Implicit
-        | Decl::Parameter(_)
-        | Decl::Save(_)
-        | Decl::Comment(_) => Ok(()),
+        Decl::Program(_) | Decl::Implicit | Decl::Parameter(_) | Decl::Save(_) | Decl::Comment(_) =>
+            Ok(()),
     }
 }
 
-fn keep_declarators(arrays: &mut NameTable<Bounds>, consts: &Consts, declarators: &[Declarator]) -> Result<(), NoMemory>
+fn keep_declarators(
+    arrays: &mut NameTable<Bounds>,
+    consts: &Consts,
+    declarators: &[Declarator],
+) -> Result<(), NoMemory>
     ensures { OnOk result ((before : Spec.Arrays) → KnowsArrays arrays.old before → KnowsArrays arrays.new (before ++ flat_map (Spec.arrays_of consts.now) (map declarator_tree declarators.now))) }
 {
     for declarator in declarators {
@@ -40,7 +45,11 @@ fn keep_declarators(arrays: &mut NameTable<Bounds>, consts: &Consts, declarators
     Ok(())
 }
 
-fn keep_declarator(arrays: &mut NameTable<Bounds>, consts: &Consts, declarator: &Declarator) -> Result<(), NoMemory>
+fn keep_declarator(
+    arrays: &mut NameTable<Bounds>,
+    consts: &Consts,
+    declarator: &Declarator,
+) -> Result<(), NoMemory>
     ensures { OnOk result ((before : Spec.Arrays) → KnowsArrays arrays.old before → KnowsArrays arrays.new (before ++ Spec.arrays_of consts.now (declarator_tree declarator.now))) }
 {
     if !is_array(&declarator.bounds) {

@@ -71,7 +71,12 @@ fn refused(
     ensures { (d : Plain.Declared) → Knows declared.now d →
         found_of result ≡ earliest (found_of found) (refused_at d line uses.now faults) }
 {
-    let found = standing(found, some_real(declared, uses), RefusalKind::RealName, line);
+    let found = standing(
+        found,
+        some_real(declared, uses),
+        RefusalKind::RealName,
+        line,
+    );
     let twice = some_misused(declared, uses) || faults.repeats;
     let found = standing(found, twice, RefusalKind::DeclaredTwice, line);
     let found = standing(found, faults.fails, RefusalKind::NotConstant, line);

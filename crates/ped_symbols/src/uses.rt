@@ -249,7 +249,12 @@ fn push_expr(uses: &mut Vec<Use>, e: &Expr) -> Result<(), NoMemory>
 
 /// Adds a name in a role, and the uses in its subscripts.
 #[cycle(push_exprs)]
-fn push_element(uses: &mut Vec<Use>, role: Role, name: &Name, subscripts: &[Expr]) -> Result<(), NoMemory>
+fn push_element(
+    uses: &mut Vec<Use>,
+    role: Role,
+    name: &Name,
+    subscripts: &[Expr],
+) -> Result<(), NoMemory>
     ensures { OnOk result (uses.new.items ≡ uses.old.items ++ used_as role name.now ∷ Spec.exprs_uses (pack_exprs (map expr_tree subscripts.now))) }
 {
     push(uses, role, name)?;
@@ -301,7 +306,11 @@ fn push_dimensions(uses: &mut Vec<Use>, declarators: &[Declarator]) -> Result<()
 fn push_dimension(uses: &mut Vec<Use>, declarator: &Declarator) -> Result<(), NoMemory>
     ensures { OnOk result (uses.new.items ≡ uses.old.items ++ Spec.dimension_uses (declarator_tree declarator.now)) }
 {
-    push(uses, Role::Dimensioned(declarator.bounds.len()), &declarator.name)?;
+    push(
+        uses,
+        Role::Dimensioned(declarator.bounds.len()),
+        &declarator.name,
+    )?;
     push_bounds(uses, &declarator.bounds)
 }
 

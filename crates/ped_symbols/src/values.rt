@@ -132,11 +132,8 @@ pub fn decl_is_empty(consts: &Consts, decl: &Decl) -> bool
     match decl {
         Decl::Integer(declarators) => some_declarator_is_empty(consts, declarators),
         Decl::Dimension(declarators) => some_declarator_is_empty(consts, declarators),
-        Decl::Program(_)
-        | Decl::Implicit
-        | Decl::Parameter(_)
-        | Decl::Save(_)
-        | Decl::Comment(_) => false,
+        Decl::Program(_) | Decl::Implicit | Decl::Parameter(_) | Decl::Save(_) | Decl::Comment(_) =>
+            false,
     }
 }
 

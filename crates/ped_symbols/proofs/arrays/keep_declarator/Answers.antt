@@ -1,4 +1,4 @@
-use Rattle.std.proofs.Common.{◌≡◌, ◌∷◌, [], ◌++◌, Bool, true, false, Some, map, length, ap, sym, ◌∙◌, rules, ◌&&◌}
+use Rattle.std.proofs.Common.{◌≡◌, ◌∷◌, [], ◌++◌, true, Some, map, length, ap, sym, ◌∙◌, rules, ◌&&◌}
 use Rattle.std.specs.Prelude.{nat_le}
 use Rattle.std.proofs.lemmas.Result.{on_ok_weaker}
 use Rattle.ped_base.specs.Lists.{has_some}

@@ -1,4 +1,4 @@
-use Rattle.std.proofs.Common.{List, ◌++◌, map, take}
+use Rattle.std.proofs.Common.{◌++◌, map, take}
 use Rattle.std.specs.List.{flat_map}
 use Rattle.ped_tree.specs.Views.{declarator_tree}
 use Rattle.ped_symbols.specs.Arrays.{Arrays, arrays_of}

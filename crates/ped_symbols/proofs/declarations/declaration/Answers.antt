@@ -1,4 +1,4 @@
-use Rattle.std.proofs.Common.{◌≡◌, List, [], ◌∷◌, ◌++◌, Bool, true, false, refl, ap, sym, subst, ◌∙◌, rules}
+use Rattle.std.proofs.Common.{◌≡◌, List, ◌++◌, true, ap, sym, subst, ◌∙◌, rules}
 use Rattle.ped_base.specs.Lists.{has_some}
 use Rattle.ped_tree.specs.Views.{decl_tree}
 use Rattle.ped_symbols.specs.Uses.{decl_uses}
@@ -7,7 +7,7 @@ use Rattle.ped_symbols.specs.Arrays.{arrays_in}
 use Rattle.ped_symbols.specs.Sites.{Site, decl_sites}
 use Rattle.ped_symbols.specs.NameRefusals.{behind_sites, declares_again}
 use Rattle.ped_symbols.specs.Passes.{HasSeen, KnowsArrays, Holds, first_with}
-use Rattle.ped_symbols.proofs.Walking.{over_declaration, one_site, no_site}
+use Rattle.ped_symbols.proofs.Walking.{over_declaration, one_site}
 use Rattle.ped_symbols.proofs.declarations.declaration.Goals as goal
 
 pub returns : goal.returns
@@ -17,13 +17,14 @@ returns c = λ d k b h.
     let uses : c.push_decl.new.uses.items ≡ decl_uses t = c.in_ok-push_decl.ensures ∙ ap (λ us. us ++ decl_uses t) c.new-uses.ensures.items in
     let seen_uses = c.deref.ensures.value ∙ uses in
     subst (λ sites. Holds (record { seen = c.see_all.new.self; consts = c.decl_fails.new.consts; arrays = c.keep_arrays.new.arrays }) (behind_sites b sites) × ((more : List Site) → first_with d (behind_sites b sites) c.behind.result more ≡ first_with d b c.args.found (sites ++ more)))
-    (sym (one_site t there))
-    (record {
-      seen = subst (λ us. HasSeen c.see_all.new.self (b.uses ++ us)) seen_uses (c.in_ok-repeats.ensures.seen b.uses h.seen);
-      values = c.in_ok-fails.ensures.consts ∙ ap (λ v. behind_decl v t) h.values;
-      arrays = subst (λ v. KnowsArrays c.keep_arrays.new.arrays (b.arrays ++ arrays_in v t)) h.values (c.in_ok-keep_arrays.ensures b.arrays h.arrays);
-    },
-    over_declaration d b c.args.found c.behind.result t c.deref-2.result.now _ (c.behind.ensures.first d k) c.behind.ensures.lines (c.deref-2.ensures.value ∙ uses)
-    (c.in_ok-repeats.ensures.again b.uses h.seen ∙ ap (declares_again b.uses) seen_uses)
-    (c.in_ok-fails.ensures.fails ∙ ap (λ v. decl_fails v t) h.values)
-    (c.decl_is_empty-is_empty.ensures ∙ ap (λ v. decl_is_empty v t) h.values))
+    (sym (one_site t there)) (
+      record {
+        seen = subst (λ us. HasSeen c.see_all.new.self (b.uses ++ us)) seen_uses (c.in_ok-repeats.ensures.seen b.uses h.seen);
+        values = c.in_ok-fails.ensures.consts ∙ ap (λ v. behind_decl v t) h.values;
+        arrays = subst (λ v. KnowsArrays c.keep_arrays.new.arrays (b.arrays ++ arrays_in v t)) h.values (c.in_ok-keep_arrays.ensures b.arrays h.arrays);
+      },
+      over_declaration d b c.args.found c.behind.result t c.deref-2.result.now _ (c.behind.ensures.first d k) c.behind.ensures.lines (c.deref-2.ensures.value ∙ uses)
+          (c.in_ok-repeats.ensures.again b.uses h.seen ∙ ap (declares_again b.uses) seen_uses)
+          (c.in_ok-fails.ensures.fails ∙ ap (λ v. decl_fails v t) h.values)
+          (c.decl_is_empty-is_empty.ensures ∙ ap (λ v. decl_is_empty v t) h.values),
+    )

@@ -19,9 +19,10 @@ loop-decl-preserved c = λ d k b h.
     let was = c.loop-decl.invariant d k b h in
     let step = c.in_ok-next.ensures d k (behind_sites b xs) was.0 in
     subst (λ sites. Holds c.declaration.new.held (behind_sites b sites) × ((more : List Site) → first_with d (behind_sites b sites) c.in_ok-next.next more ≡ first_with d b c.args.found (sites ++ more)))
-    (sym (decl_more (take i all) (take (i + 1) all) x front))
-    (subst (Holds c.declaration.new.held) (sym (behind_append b xs ys)) step.0,
-    λ more. ap (λ b. first_with d b c.in_ok-next.next more) (behind_append b xs ys) ∙ step.1 more ∙ was.1 (ys ++ more) ∙ ap (first_with d b c.args.found) (sym (append_assoc xs ys more)))
+    (sym (decl_more (take i all) (take (i + 1) all) x front)) (
+      subst (Holds c.declaration.new.held) (sym (behind_append b xs ys)) step.0,
+      λ more. ap (λ b. first_with d b c.in_ok-next.next more) (behind_append b xs ys) ∙ step.1 more ∙ was.1 (ys ++ more) ∙ ap (first_with d b c.args.found) (sym (append_assoc xs ys more)),
+    )
 
 pub returns : goal.returns
 returns c = λ d k b h.

@@ -1,4 +1,4 @@
-use Rattle.std.proofs.Common.{◌≡◌, List, [], ◌∷◌, ◌++◌, map, ap, sym, ◌∙◌, append-nil}
+use Rattle.std.proofs.Common.{[], map, ap, sym, ◌∙◌, append-nil}
 use Rattle.ped_tree.specs.Views.{stmt_trees}
 use Rattle.ped_symbols.specs.Sites.{stmts_sites}
 use Rattle.ped_symbols.specs.Kinds.{names_at}

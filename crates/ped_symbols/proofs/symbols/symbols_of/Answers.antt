@@ -1,4 +1,4 @@
-use Rattle.std.proofs.Common.{◌≡◌, ap, sym, ◌∙◌}
+use Rattle.std.proofs.Common.{ap, sym, ◌∙◌}
 use Rattle.ped_grammar.specs.RefusalViews.{found_of}
 use Rattle.ped_grammar.proofs.First.{none_stands}
 use Rattle.ped_symbols.proofs.symbols.symbols_of.Goals as goal

@@ -1,4 +1,4 @@
-use Rattle.std.proofs.Common.{◌≡◌, [], ◌∷◌, ◌++◌, ◌+◌, take, drop, length, arith, sym, subst, ap, ◌∙◌, append_assoc}
+use Rattle.std.proofs.Common.{◌≡◌, [], ◌∷◌, ◌++◌, ◌+◌, take, drop, arith, sym, subst, ap, ◌∙◌, append_assoc}
 use Rattle.std.specs.Prelude.{◌||◌}
 use Rattle.std.proofs.lemmas.Grind.{common_steps}
 use Rattle.ped_symbols.specs.NameRefusals.{declares_again}
@@ -14,11 +14,12 @@ loop-u-preserved c = λ before h.
     let first : drop i all ≡ u ∷ drop (i + 1) all = grind (arith, common_steps) in
     let front : take (i + 1) all ≡ take i all ++ u ∷ [] = grind (arith, common_steps) in
     let on : before ++ take (i + 1) all ≡ (before ++ take i all) ++ u ∷ [] = ap (λ t. before ++ t) front ∙ sym (append_assoc before (take i all) (u ∷ [])) in
-    let was = c.loop-u.invariant before h in
-    (subst (HasSeen c.see.new.self) (sym on) (c.in_ok-see.ensures (before ++ take i all) was.0),
-    ap (λ r. r || declares_again (before ++ take (i + 1) all) (drop (i + 1) all)) c.either-again.ensures
-    ∙ again_more c.loop-u.again c.has.result (declares_again before all) (before ++ take i all) (before ++ take (i + 1) all) u (drop (i + 1) all)
-    (ap (λ us. c.loop-u.again || declares_again (before ++ take i all) us) (sym first) ∙ was.1) on (c.has.ensures (before ++ take i all) was.0))
+    let was = c.loop-u.invariant before h in (
+      subst (HasSeen c.see.new.self) (sym on) (c.in_ok-see.ensures (before ++ take i all) was.0),
+      ap (λ r. r || declares_again (before ++ take (i + 1) all) (drop (i + 1) all)) c.either-again.ensures
+          ∙ again_more c.loop-u.again c.has.result (declares_again before all) (before ++ take i all) (before ++ take (i + 1) all) u (drop (i + 1) all)
+          (ap (λ us. c.loop-u.again || declares_again (before ++ take i all) us) (sym first) ∙ was.1) on (c.has.ensures (before ++ take i all) was.0),
+    )
 
 pub returns-clause-seen : goal.returns-clause-seen
 returns-clause-seen c = λ before h.

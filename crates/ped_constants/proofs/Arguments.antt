@@ -22,13 +22,15 @@ as_many : (consts : List (List ℕ × ℤ)) (es : List ExprTree) → IfSome (con
 as_many consts [] = refl
 as_many consts (e ∷ es) = onto_one_more (constant_value consts e) (constant_values consts (pack_exprs es)) (length es) (as_many consts es)
 
-none_applied : (f : Intrinsic) (values : Option (List ℤ)) (n : ℕ) → IfSome values (λ vs. length vs ≡ n) → ((vs : List ℤ) → length vs ≡ n → intrinsic_result f vs ≡ None) → None ≡ option_and_then result_ok (option_and_then (intrinsic_result f) values)
-none_applied f None n h none = refl
-none_applied f (Some vs) n h none = ap (option_and_then result_ok) (sym (none vs h))
+-- no value where the function gives none of so many
+no_result : (f : Intrinsic) (values : Option (List ℤ)) (n : ℕ) → IfSome values (λ vs. length vs ≡ n) → ((vs : List ℤ) → length vs ≡ n → intrinsic_result f vs ≡ None) → None ≡ option_and_then result_ok (option_and_then (intrinsic_result f) values)
+no_result f None n h none = refl
+no_result f (Some vs) n h none = ap (option_and_then result_ok) (sym (none vs h))
 
+-- an intrinsic function that gives none of so many values has no value of so many arguments
 wrong_number : (f : Intrinsic) (consts : List (List ℕ × ℤ)) (arguments : List Expr) → ((vs : List ℤ) → length vs ≡ length arguments → intrinsic_result f vs ≡ None) → None ≡ constant_value consts (Call f (pack_exprs (map expr_tree arguments)))
 wrong_number f consts arguments none =
-    none_applied f (constant_values consts (pack_exprs (map expr_tree arguments))) (length (map expr_tree arguments)) (as_many consts (map expr_tree arguments))
+    no_result f (constant_values consts (pack_exprs (map expr_tree arguments))) (length (map expr_tree arguments)) (as_many consts (map expr_tree arguments))
     (λ vs e. none vs (e ∙ length-map arguments expr_tree))
 
 mod_of_two : (vs : List ℤ) → ¬ (length vs ≡ 2) → intrinsic_result Mod vs ≡ None

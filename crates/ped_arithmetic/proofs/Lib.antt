@@ -1,1 +1,1 @@
-mod Raising
+pub mod Raising

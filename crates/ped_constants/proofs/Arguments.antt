@@ -1,16 +1,16 @@
 -- Intrinsic functions of another number of arguments than they take, and MAX and MIN argument by argument.
-use Rattle.std.proofs.Common.{◌≡◌, ℕ, suc, ◌<◌, List, [], ◌∷◌, length, map, refl, sym, ap, ◌∙◌, arith, ℤ, Option, Some, None, IfSome, Result, Ok, Err}
+use Rattle.std.proofs.Common.{◌≡◌, ℕ, suc, ◌<◌, List, [], ◌∷◌, length, map, refl, sym, ap, ◌∙◌, arith, ℤ, Option, Some, None, IfSome, Result}
 use Rattle.std.specs.Prelude.{option_and_then}
 use Rattle.std.specs.Result.{result_ok}
 use Rattle.std.proofs.lemmas.List.{length-map}
 use Rattle.ped_tree.specs.declared.expressions.Expr.{Expr}
 use Rattle.ped_tree.specs.declared.expressions.Intrinsic.{Intrinsic}
 use Rattle.ped_tree.specs.declared.expressions.Intrinsic.TheVariants.{Mod, Abs, Max, Min}
-use Rattle.ped_tree.specs.Tree.{ExprTree, ExprTrees, Call}
+use Rattle.ped_tree.specs.Tree.{ExprTree, Call}
 use Rattle.ped_tree.specs.Views.{expr_tree, pack_exprs}
 use Rattle.ped_arithmetic.specs.declared.faults.Fault.{Fault}
 use Rattle.ped_arithmetic.specs.Arithmetic.{from_left}
-use Rattle.ped_constants.specs.ConstantExpressions.{onto, applied, constant_value, constant_values}
+use Rattle.ped_constants.specs.ConstantExpressions.{onto, intrinsic_result, constant_value, constant_values}
 
 onto_one_more : (a : Option ℤ) (rest : Option (List ℤ)) (n : ℕ) → IfSome rest (λ vs. length vs ≡ n) → IfSome (onto a rest) (λ vs. length vs ≡ suc n)
 onto_one_more (Some a) (Some vs) n h = ap suc h
@@ -22,32 +22,34 @@ as_many : (consts : List (List ℕ × ℤ)) (es : List ExprTree) → IfSome (con
 as_many consts [] = refl
 as_many consts (e ∷ es) = onto_one_more (constant_value consts e) (constant_values consts (pack_exprs es)) (length es) (as_many consts es)
 
-none_applied : (f : Intrinsic) (values : Option (List ℤ)) (n : ℕ) → IfSome values (λ vs. length vs ≡ n) → ((vs : List ℤ) → length vs ≡ n → applied f vs ≡ None) → None ≡ option_and_then result_ok (option_and_then (applied f) values)
-none_applied f None n h none = refl
-none_applied f (Some vs) n h none = ap (option_and_then result_ok) (sym (none vs h))
+-- no value where the function gives none of so many
+no_result : (f : Intrinsic) (values : Option (List ℤ)) (n : ℕ) → IfSome values (λ vs. length vs ≡ n) → ((vs : List ℤ) → length vs ≡ n → intrinsic_result f vs ≡ None) → None ≡ option_and_then result_ok (option_and_then (intrinsic_result f) values)
+no_result f None n h none = refl
+no_result f (Some vs) n h none = ap (option_and_then result_ok) (sym (none vs h))
 
-wrong_number : (f : Intrinsic) (consts : List (List ℕ × ℤ)) (arguments : List Expr) → ((vs : List ℤ) → length vs ≡ length arguments → applied f vs ≡ None) → None ≡ constant_value consts (Call f (pack_exprs (map expr_tree arguments)))
+-- an intrinsic function that gives none of so many values has no value of so many arguments
+wrong_number : (f : Intrinsic) (consts : List (List ℕ × ℤ)) (arguments : List Expr) → ((vs : List ℤ) → length vs ≡ length arguments → intrinsic_result f vs ≡ None) → None ≡ constant_value consts (Call f (pack_exprs (map expr_tree arguments)))
 wrong_number f consts arguments none =
-    none_applied f (constant_values consts (pack_exprs (map expr_tree arguments))) (length (map expr_tree arguments)) (as_many consts (map expr_tree arguments))
+    no_result f (constant_values consts (pack_exprs (map expr_tree arguments))) (length (map expr_tree arguments)) (as_many consts (map expr_tree arguments))
     (λ vs e. none vs (e ∙ length-map arguments expr_tree))
 
-mod_of_two : (vs : List ℤ) → ¬ (length vs ≡ 2) → applied Mod vs ≡ None
+mod_of_two : (vs : List ℤ) → ¬ (length vs ≡ 2) → intrinsic_result Mod vs ≡ None
 mod_of_two [] h = refl
 mod_of_two (a ∷ []) h = refl
 mod_of_two (a ∷ b ∷ []) h = absurd (h refl)
 mod_of_two (a ∷ b ∷ c ∷ rest) h = refl
 
-abs_of_one : (vs : List ℤ) → ¬ (length vs ≡ 1) → applied Abs vs ≡ None
+abs_of_one : (vs : List ℤ) → ¬ (length vs ≡ 1) → intrinsic_result Abs vs ≡ None
 abs_of_one [] h = refl
 abs_of_one (a ∷ []) h = absurd (h refl)
 abs_of_one (a ∷ b ∷ rest) h = refl
 
-max_of_two_or_more : (vs : List ℤ) → length vs < 2 → applied Max vs ≡ None
+max_of_two_or_more : (vs : List ℤ) → length vs < 2 → intrinsic_result Max vs ≡ None
 max_of_two_or_more [] h = refl
 max_of_two_or_more (a ∷ []) h = refl
 max_of_two_or_more (a ∷ b ∷ rest) h = absurd (omega arith)
 
-min_of_two_or_more : (vs : List ℤ) → length vs < 2 → applied Min vs ≡ None
+min_of_two_or_more : (vs : List ℤ) → length vs < 2 → intrinsic_result Min vs ≡ None
 min_of_two_or_more [] h = refl
 min_of_two_or_more (a ∷ []) h = refl
 min_of_two_or_more (a ∷ b ∷ rest) h = absurd (omega arith)

@@ -1,2 +1,2 @@
-mod Arguments
+pub mod Arguments
 mod NameEquality

@@ -9,15 +9,15 @@ use Rattle.ped_arithmetic.specs.Arithmetic.{sum_of, difference_of, negation_of, 
 use Rattle.ped_constants.specs.NamedConstants.{value_named}
 
 -- an operation on one operand, where that has a value and the operation doesn't fault
-abbrev pub of_one : (ℤ → Result ℤ Fault) → Option ℤ → Option ℤ
-of_one f (Some a) = result_ok (f a)
-of_one f None = None
+abbrev pub unary_value : (ℤ → Result ℤ Fault) → Option ℤ → Option ℤ
+unary_value f (Some a) = result_ok (f a)
+unary_value f None = None
 
 -- an operation on two operands, where both have a value and the operation doesn't fault
-abbrev pub of_two : (ℤ → ℤ → Result ℤ Fault) → Option ℤ → Option ℤ → Option ℤ
-of_two f (Some a) (Some b) = result_ok (f a b)
-of_two f (Some a) None = None
-of_two f None b = None
+abbrev pub binary_value : (ℤ → ℤ → Result ℤ Fault) → Option ℤ → Option ℤ → Option ℤ
+binary_value f (Some a) (Some b) = result_ok (f a b)
+binary_value f (Some a) None = None
+binary_value f None b = None
 
 -- a value before others, where all are there (plain words)
 abbrev pub onto : Option ℤ → Option (List ℤ) → Option (List ℤ)
@@ -26,12 +26,12 @@ onto (Some a) None = None
 onto None rest = None
 
 -- an intrinsic function of these arguments, by its value or its fault; none where it doesn't take so many: MOD two, ABS one, MAX and MIN two or more (ANSI X3.9-1978, table 5)
-abbrev pub applied : Intrinsic → List ℤ → Option (Result ℤ Fault)
-applied Mod (a ∷ b ∷ []) = Some (remainder_of a b)
-applied Abs (a ∷ []) = Some (absolute_value_of a)
-applied Max (a ∷ b ∷ rest) = Some (from_left greatest_of a (b ∷ rest))
-applied Min (a ∷ b ∷ rest) = Some (from_left least_of a (b ∷ rest))
-applied f arguments = None
+abbrev pub intrinsic_result : Intrinsic → List ℤ → Option (Result ℤ Fault)
+intrinsic_result Mod (a ∷ b ∷ []) = Some (remainder_of a b)
+intrinsic_result Abs (a ∷ []) = Some (absolute_value_of a)
+intrinsic_result Max (a ∷ b ∷ rest) = Some (from_left greatest_of a (b ∷ rest))
+intrinsic_result Min (a ∷ b ∷ rest) = Some (from_left least_of a (b ∷ rest))
+intrinsic_result f arguments = None
 
 -- the value of a constant expression over these named constants; none where the expression isn't constant or an operation in it faults
 abbrev mutual
@@ -39,13 +39,13 @@ abbrev mutual
   constant_value consts (Int n) = Some (pos n)
   constant_value consts (Var x) = value_named consts x
   constant_value consts (Element x subscripts) = None
-  constant_value consts (Neg a) = of_one negation_of (constant_value consts a)
-  constant_value consts (Add a b) = of_two sum_of (constant_value consts a) (constant_value consts b)
-  constant_value consts (Sub a b) = of_two difference_of (constant_value consts a) (constant_value consts b)
-  constant_value consts (Mul a b) = of_two product_of (constant_value consts a) (constant_value consts b)
-  constant_value consts (Div a b) = of_two quotient_of (constant_value consts a) (constant_value consts b)
-  constant_value consts (Pow a b) = of_two power_of (constant_value consts a) (constant_value consts b)
-  constant_value consts (Call f arguments) = option_and_then result_ok (option_and_then (applied f) (constant_values consts arguments))
+  constant_value consts (Neg a) = unary_value negation_of (constant_value consts a)
+  constant_value consts (Add a b) = binary_value sum_of (constant_value consts a) (constant_value consts b)
+  constant_value consts (Sub a b) = binary_value difference_of (constant_value consts a) (constant_value consts b)
+  constant_value consts (Mul a b) = binary_value product_of (constant_value consts a) (constant_value consts b)
+  constant_value consts (Div a b) = binary_value quotient_of (constant_value consts a) (constant_value consts b)
+  constant_value consts (Pow a b) = binary_value power_of (constant_value consts a) (constant_value consts b)
+  constant_value consts (Call f arguments) = option_and_then result_ok (option_and_then (intrinsic_result f) (constant_values consts arguments))
 
   -- the values of constant expressions in order, where all have one
   pub constant_values : List (List ℕ × ℤ) → ExprTrees → Option (List ℤ)

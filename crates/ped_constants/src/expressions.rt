@@ -46,6 +46,7 @@ fn named(name: &Name, consts: &Consts) -> Option<i128>
 
 /// MOD of two constant arguments.
 #[cycle(constant)]
+#[tactic(auto, using(crate::proofs::Arguments::mod_of_others))]
 fn remainder_of_two(arguments: &[Expr], consts: &Consts) -> Option<i128>
     ensures { result ≡ constant_value consts.now (Call Intrinsic.Mod (pack_exprs (map expr_tree arguments.now))) }
 {
@@ -57,6 +58,7 @@ fn remainder_of_two(arguments: &[Expr], consts: &Consts) -> Option<i128>
 
 /// ABS of one constant argument.
 #[cycle(constant)]
+#[tactic(auto, using(crate::proofs::Arguments::abs_of_others))]
 fn absolute_value_of_one(arguments: &[Expr], consts: &Consts) -> Option<i128>
     ensures { result ≡ constant_value consts.now (Call Intrinsic.Abs (pack_exprs (map expr_tree arguments.now))) }
 {
@@ -68,6 +70,7 @@ fn absolute_value_of_one(arguments: &[Expr], consts: &Consts) -> Option<i128>
 
 /// MAX of two or more constant arguments.
 #[cycle(constant)]
+#[tactic(auto, using(crate::proofs::Arguments::max_of_few))]
 fn greatest_of_all(arguments: &[Expr], consts: &Consts) -> Option<i128>
     ensures { result ≡ constant_value consts.now (Call Intrinsic.Max (pack_exprs (map expr_tree arguments.now))) }
 {
@@ -83,6 +86,7 @@ fn greatest_of_all(arguments: &[Expr], consts: &Consts) -> Option<i128>
 
 /// MIN of two or more constant arguments.
 #[cycle(constant)]
+#[tactic(auto, using(crate::proofs::Arguments::min_of_few))]
 fn least_of_all(arguments: &[Expr], consts: &Consts) -> Option<i128>
     ensures { result ≡ constant_value consts.now (Call Intrinsic.Min (pack_exprs (map expr_tree arguments.now))) }
 {

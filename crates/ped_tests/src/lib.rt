@@ -3,11 +3,15 @@
 #![tactic(auto)]
 
 #[cfg(test)]
+mod arithmetic;
+#[cfg(test)]
 mod base;
 #[cfg(test)]
 mod bits;
 #[cfg(test)]
 mod blocks;
+#[cfg(test)]
+mod constants;
 #[cfg(test)]
 mod expressions;
 #[cfg(test)]

@@ -16,8 +16,8 @@ returns-then-contains_key-clause-ok c =
     let name = c.args.name.now in
     let consts = c.args.self.now in
     let there : is_some (value_named consts name) ≡ true =
-        sym (ap is_some (lookup-name name c.self.inside.values.entries ∙ ap (λ cs. value_named cs name) c.self.view_is))
-        ∙ sym c.contains_key.ensures ∙ c.if-contains_key.true in
+    sym (ap is_some (lookup-name name c.self.inside.values.entries ∙ ap (λ cs. value_named cs name) c.self.view_is))
+    ∙ sym c.contains_key.ensures ∙ c.if-contains_key.true in
     sym (ap (λ (b : Bool). if b then consts else consts ++ (name, c.args.value) ∷ []) there)
 
 pub returns-clause-ok : goal.returns-clause-ok
@@ -27,7 +27,7 @@ returns-clause-ok c =
     let entries = c.self.inside.values.entries in
     let not_there = sym c.contains_key.ensures ∙ c.if-contains_key.false in
     let missing : is_some (value_named consts name) ≡ false =
-        sym (ap is_some (lookup-name name entries ∙ ap (λ cs. value_named cs name) c.self.view_is)) ∙ not_there in
+    sym (ap is_some (lookup-name name entries ∙ ap (λ cs. value_named cs name) c.self.view_is)) ∙ not_there in
     (simp (to_z-of_z w64 c.args.value c.ranges.value) at c.in_ok-insert.ensures.entries)
     ∙ insert_entry-new (code.eq-value).it c.self.inside.values name c.args.value (none_there _ not_there)
     ∙ ap (λ cs. cs ++ (name, c.args.value) ∷ []) c.self.view_is

@@ -1,0 +1,3 @@
+pub mod OneVerdict
+pub mod Opened
+pub mod WithoutLines

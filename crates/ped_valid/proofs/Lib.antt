@@ -1,3 +1,3 @@
 pub mod OneVerdict
-pub mod Opened
+pub mod RefusedTexts
 pub mod WithoutLines

@@ -1,5 +1,5 @@
 -- What reading refuses is what the text is refused for.
-use Rattle.std.proofs.Common.{◌≡◌, ℕ, List, Some, sym, subst}
+use Rattle.std.proofs.Common.{◌≡◌, ℕ, List, sym, subst}
 use Rattle.std.specs.Prelude.{Result, Ok, Err, IfErr, IsErrAnd}
 use Rattle.ped_parse.specs.Refusals as reading
 use Rattle.ped_parse.specs.declared.refusals.ReadRefusal.{ReadRefusal}

@@ -4,7 +4,7 @@ use Rattle.std.proofs.lemmas.List.{map-append}
 use Rattle.ped_tree.specs.Tree.{ProgramTree}
 use Rattle.ped_grammar.specs.Refusal.{Refusal, Finding, refused_if}
 use Rattle.ped_symbols.specs.Sites.{Site, program_sites}
-use Rattle.ped_symbols.specs.Declaring.{Declared, declared_in}
+use Rattle.ped_symbols.specs.Declarations.{Declared, declared_in}
 use Rattle.ped_symbols.specs.NameRefusals.{Before, at_first, behind_site, at_site, next_line, at_sites, name_refusals}
 
 -- the rules that are broken, without the lines

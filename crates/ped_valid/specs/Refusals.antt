@@ -3,8 +3,8 @@ use Rattle.std.specs.Prelude.{ℕ, List}
 use Rattle.ped_grammar.specs.RefusalViews.{finding_of}
 use Rattle.ped_parse.specs.declared.refusals.ReadRefusal.{ReadRefusal}
 use Rattle.ped_parse.specs.declared.refusals.ReadRefusal.TheVariants as reading
-use Rattle.ped_symbols.specs.declared.kinds.NameRefusal.{NameRefusal}
-use Rattle.ped_symbols.specs.declared.kinds.NameRefusal.TheVariants as names
+use Rattle.ped_symbols.specs.declared.symbols.NameRefusal.{NameRefusal}
+use Rattle.ped_symbols.specs.declared.symbols.NameRefusal.TheVariants as names
 use Rattle.ped_valid.specs.declared.refusals.OpenRefusal.{OpenRefusal}
 use Rattle.ped_valid.specs.declared.refusals.OpenRefusal.TheVariants.{At, NoMemory}
 use Rattle.ped_valid.specs.Validity.{RefusesText}

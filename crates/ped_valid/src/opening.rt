@@ -10,7 +10,7 @@ ghost use Rattle.ped_valid.specs.Refusals.{IsRefusalOf};
 
 use crate::refusals::OpenRefusal;
 use ped_parse::read;
-use ped_symbols::{Symbols, symbols};
+use ped_symbols::{Symbols, symbols_of};
 use ped_tree::Program;
 use std::alloc::Global;
 
@@ -40,6 +40,6 @@ pub fn open_program(alloc: Global, text: &[u8]) -> Result<Opened, OpenRefusal>
     ensures refused { IfErr result (λ e. IsRefusalOf text.now e) }
 {
     let program = read(alloc, text)?;
-    let symbols = symbols(alloc, &program)?;
+    let symbols = symbols_of(alloc, &program)?;
     Ok(Opened { program, symbols })
 }

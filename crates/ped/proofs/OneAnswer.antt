@@ -4,31 +4,31 @@ use Rattle.std.specs.Prelude.{MatchOption, MatchBool, nat_lt}
 use Rattle.ped_io.specs.Outside.{Contents, content}
 use Rattle.ped_tree.specs.Tree.{ProgramTree}
 use Rattle.ped_grammar.specs.Refusal.{Finding}
-use Rattle.ped_grammar.specs.Reading.{Reads, Refuses}
 use Rattle.ped_tree.specs.SourcePane.{source_pane}
 use Rattle.ped_graph.proofs.OnePane.{one_pane}
-use Rattle.ped_parse.proofs.OneOfBoth.{one_of_both}
+use Rattle.ped_valid.specs.Validity.{ReadsValid, RefusesText}
+use Rattle.ped_valid.proofs.OneVerdict.{one_of_both}
 use Rattle.ped.specs.declared.answering.Status.{Status}
 use Rattle.ped.specs.declared.answering.Status.TheVariants.{Done, BadWords, ReadFault, WriteFault, ProgramRefused, NoMemory, TooLong}
 use Rattle.ped.specs.Refusals.{refused_line}
 use Rattle.ped.specs.Answer.{Request, show, cannot_read_line, too_long_line, program_limit, IsDependencePart, ArePanes, IsShown, AnswersBytes, Answers}
 
--- a text has one tree at most
-one_tree : (text : List ℕ) (t u : ProgramTree) → Reads text t → Reads text u → t ≡ u
+-- a text has one valid tree at most
+one_tree : (text : List ℕ) (t u : ProgramTree) → ReadsValid text t → ReadsValid text u → t ≡ u
 one_tree text t u p q = elim (one_of_both text) [
   | inl tree ↦ tree.only t p ∙ sym (tree.only u q)
   | inr refusal ↦ absurd (refusal.treeless t p)
 ]
 
 -- a text has one first refusal at most
-one_refusal : (text : List ℕ) (f g : Finding) → Refuses text f → Refuses text g → f ≡ g
+one_refusal : (text : List ℕ) (f g : Finding) → RefusesText text f → RefusesText text g → f ≡ g
 one_refusal text f g p q = elim (one_of_both text) [
   | inl tree ↦ absurd (tree.accepted f p)
   | inr refusal ↦ refusal.only f p ∙ sym (refusal.only g q)
 ]
 
 -- no text has both
-not_both : (text : List ℕ) (t : ProgramTree) (f : Finding) → Reads text t → Refuses text f → ⊥
+not_both : (text : List ℕ) (t : ProgramTree) (f : Finding) → ReadsValid text t → RefusesText text f → ⊥
 not_both text t f p q = elim (one_of_both text) [
   | inl tree ↦ tree.accepted f q
   | inr refusal ↦ refusal.treeless t p

@@ -11,7 +11,7 @@ use Rattle.ped.specs.declared.answering.Status.{Status}
 use Rattle.ped.specs.declared.answering.Status.TheVariants.{Done, BadWords, ReadFault, WriteFault, ProgramRefused, NoMemory, TooLong}
 use Rattle.ped_tree.specs.Tree.{ProgramTree}
 use Rattle.ped_grammar.specs.Refusal.{Finding}
-use Rattle.ped_grammar.specs.Reading.{Reads, Refuses}
+use Rattle.ped_valid.specs.Validity.{ReadsValid, RefusesText}
 use Rattle.ped.specs.Refusals.{refused_line}
 use Rattle.ped.specs.Answer.{Request, show, inputs_of, IsOneOf, HoldsTooMany, program_limit, MayAnswer, Answers, AnswersBytes, IsFrontOfAnswer, IsOutcome, IsShown, IsJust, ShowsTree, cannot_read_line, too_long_line}
 
@@ -43,12 +43,12 @@ counted (put.NoMemory m) n rose h e = absurd (let f = e in cc)
 pub says_cannot_read : (program : List ℕ) (files : Contents) (failed : List ℕ → Type 0) → failed program → (s : Status) (b : List ℕ) → IsJust ReadFault (cannot_read_line program) s b → MayAnswer (Some (show program)) files failed s b
 says_cannot_read program files failed rose s b j = subst (λ (x : Status). MayAnswer (Some (show program)) files failed x b) (sym j.0) (record { name = program; input = inl refl; count = rose; says = j.1 })
 
--- both panes of the tree that a text reads as are what is shown of it
-pub tree_shown : (text : List ℕ) (t : ProgramTree) → Reads text t → (s : Status) (b : List ℕ) → ShowsTree t s b → IsShown text s b
+-- both panes of the valid tree that a text reads as are what is shown of it
+pub tree_shown : (text : List ℕ) (t : ProgramTree) → ReadsValid text t → (s : Status) (b : List ℕ) → ShowsTree t s b → IsShown text s b
 tree_shown text t reads s b h = subst (λ (x : Status). IsShown text x b) (sym h.0) (t, reads, h.1)
 
 -- its first refusal is what is shown of a text that is refused
-pub refusal_shown : (text : List ℕ) (f : Finding) → Refuses text f → (s : Status) (b : List ℕ) → IsJust ProgramRefused (refused_line f) s b → IsShown text s b
+pub refusal_shown : (text : List ℕ) (f : Finding) → RefusesText text f → (s : Status) (b : List ℕ) → IsJust ProgramRefused (refused_line f) s b → IsShown text s b
 refusal_shown text f refused s b h = subst (λ (x : Status). IsShown text x b) (sym h.0) (f, refused, h.1)
 
 -- the answer by whether the bytes are too many

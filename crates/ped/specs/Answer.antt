@@ -3,8 +3,8 @@ use Rattle.std.specs.Prelude.{◌≡◌, ◌⊎◌, ℕ, ◌<◌, List, [], ◌�
 use Rattle.ped_io.specs.Outside.{Contents, content}
 use Rattle.ped_tree.specs.Tree.{ProgramTree}
 use Rattle.ped_grammar.specs.Refusal.{Finding}
-use Rattle.ped_grammar.specs.Reading.{Reads, Refuses}
 use Rattle.ped_tree.specs.SourcePane.{source_pane}
+use Rattle.ped_valid.specs.Validity.{ReadsValid, RefusesText}
 use Rattle.ped_graph.specs.DependencePane.{IsDependencePane}
 use Rattle.ped.specs.declared.answering.Status.{Status}
 use Rattle.ped.specs.declared.answering.Status.TheVariants.{Done, BadWords, ReadFault, WriteFault, ProgramRefused, NoMemory, TooLong}
@@ -69,10 +69,10 @@ IsDependencePart t pane = (IsSmall t × IsDependencePane t pane) ⊎ (¬ (IsSmal
 abbrev pub ArePanes : ProgramTree → List ℕ → Type 0
 ArePanes t bytes = (pane : List ℕ) × IsDependencePart t pane × (bytes ≡ source_pane t ++ pane)
 
--- what is shown of a program's text: both panes of its tree, or its first refusal
+-- what is shown of a program's text: both panes of its valid tree, or its first refusal
 abbrev pub IsShown : List ℕ → Status → List ℕ → Type 0
-IsShown text Done bytes = (t : ProgramTree) × Reads text t × ArePanes t bytes
-IsShown text ProgramRefused bytes = (f : Finding) × Refuses text f × (bytes ≡ refused_line f)
+IsShown text Done bytes = (t : ProgramTree) × ReadsValid text t × ArePanes t bytes
+IsShown text ProgramRefused bytes = (f : Finding) × RefusesText text f × (bytes ≡ refused_line f)
 IsShown text BadWords bytes = ⊥
 IsShown text ReadFault bytes = ⊥
 IsShown text WriteFault bytes = ⊥

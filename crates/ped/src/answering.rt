@@ -14,8 +14,8 @@ use crate::refusals::refused_line;
 use ped_base::{Bytes, NoMemory};
 use ped_grammar::Refusal;
 use ped_io::{LoadError, PutFault, Shelf, Sink, SureShelf, SureSink, load, put_all};
-use ped_parse::{ReadRefusal, read};
 use ped_tree::Program;
+use ped_valid::{OpenRefusal, open_program};
 use std::alloc::Global;
 
 /// How a call of the program ended. Its number is the exit status.
@@ -248,10 +248,10 @@ fn show_text<K: Sink>(alloc: Global, text: &[u8], out: &mut K) -> Status
     ensures faults { K.faults out.old ≤ K.faults out.new }
     ensures untold { K.taken out.old ≡ None → K.taken out.new ≡ None }
 {
-    match read(alloc, text) {
-        Ok(program) => show_program(alloc, &program, out),
-        Err(ReadRefusal::At(refusal)) => is_refused(alloc, refusal, out),
-        Err(ReadRefusal::NoMemory) => Status::NoMemory,
+    match open_program(alloc, text) {
+        Ok(opened) => show_program(alloc, &opened.program, out),
+        Err(OpenRefusal::At(refusal)) => is_refused(alloc, refusal, out),
+        Err(OpenRefusal::NoMemory) => Status::NoMemory,
     }
 }
 

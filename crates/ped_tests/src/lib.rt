@@ -35,4 +35,6 @@ mod statements;
 #[cfg(test)]
 mod tree;
 #[cfg(test)]
+mod valid;
+#[cfg(test)]
 mod views;

@@ -1,7 +1,7 @@
 use Rattle.std.proofs.Common.{subst}
 use Rattle.ped_tree.specs.Views.{program_tree}
 use Rattle.ped_grammar.specs.RefusalViews.{finding_of}
-use Rattle.ped_parse.specs.Refusals.{IsRefusalOf}
+use Rattle.ped_valid.specs.Refusals.{IsRefusalOf}
 use Rattle.ped.specs.declared.answering.Status.TheVariants.{ProgramRefused}
 use Rattle.ped.specs.Refusals.{refused_line}
 use Rattle.ped.specs.Answer.{IsJust, IsShown, ShowsTree}
@@ -12,7 +12,7 @@ pub returns-in-Ok-clause-answer : goal.returns-in-Ok-clause-answer
 returns-in-Ok-clause-answer g c = λ before told.
     let o = c.show_program.ensures.answer before told in
     let text = c.args.text.now in
-    let t = program_tree c.in-Ok.program in
+    let t = program_tree c.in-Ok.opened.program in
     (o.0, o.1, outcome_weaker (ShowsTree t) (IsShown text) (tree_shown text t c.in-Ok.ensures.tree) _ o.0 c.show_program.result o.2)
 
 pub returns-in-Err-At-clause-answer : goal.returns-in-Err-At-clause-answer

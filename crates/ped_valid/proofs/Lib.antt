@@ -1,0 +1,3 @@
+pub mod OneVerdict
+pub mod RefusedTexts
+pub mod WithoutLines

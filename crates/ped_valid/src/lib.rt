@@ -1,0 +1,11 @@
+//! Valid programs: what a text reads as where its names are right, too, with what they stand for; or the first
+//! rule that the text breaks.
+#![tactic(auto)]
+
+mod laws;
+mod opening;
+mod refusals;
+
+pub use laws::{one_valid_tree_or_one_refusal, printed_program_is_valid};
+pub use opening::{Opened, open_program};
+pub use refusals::OpenRefusal;

@@ -1,1 +1,4 @@
 pub mod References
+pub mod PairLimit
+pub mod ListedReferences
+pub mod Listing

@@ -7,6 +7,7 @@ use Rattle.ped_refs.specs.ListedReferences.{ref_name}
 use Rattle.ped_refs.specs.declared.references.RefName.{RefName}
 use Rattle.ped_refs.specs.declared.references.Ref.{Ref}
 use Rattle.ped_refs.specs.declared.accesses.Access.{Access}
+use Rattle.ped_refs.specs.declared.surroundings.Surroundings.{Surroundings}
 
 -- a read or a write of this name
 abbrev pub access : RefName → Bool → Access
@@ -35,6 +36,10 @@ pub record Round : Type 0 where
   pub variables : List (List ℕ)
   pub outermost : Option ℕ
 
+-- what the code keeps of this
+abbrev pub round_of : Surroundings → Round
+round_of around = record { constants = around.constants.now; variables = around.variables.now; outermost = around.outermost }
+
 -- what stands round a statement in the body of the DO with this number and variable
 abbrev pub in_loop : Round → ℕ → List ℕ → Round
 in_loop round n variable = record {
@@ -43,33 +48,33 @@ in_loop round n variable = record {
   outermost = Some (unwrap_or round.outermost n);
 }
 
--- accesses as entries, numbered from this number on
+-- accesses as entries, behind so many others of their statement
 abbrev pub numbered_entries : ℕ → ℕ → ℕ → List Access → List Entry
-numbered_entries outer statement number [] = []
-numbered_entries outer statement number (a ∷ rest) = (record {
-  ref = record { statement = statement; number = number; name = a.name; writes = a.writes };
+numbered_entries outer statement others [] = []
+numbered_entries outer statement others (a ∷ rest) = (record {
+  ref = record { statement = statement; number = others + 1; name = a.name; writes = a.writes };
   outer = outer;
-}) ∷ numbered_entries outer statement (suc number) rest
+}) ∷ numbered_entries outer statement (others + 1) rest
 
--- the accesses of a statement by itself as entries
+-- the accesses of a statement by itself as entries, where so many numbered statements come before it
 abbrev pub own_entries : Round → ℕ → StmtTree → List Entry
-own_entries round n s = numbered_entries (unwrap_or round.outermost 0) n 1 (accesses_of (plain.own_accesses round.constants round.variables s))
+own_entries round before s = numbered_entries (unwrap_or round.outermost 0) (before + 1) 0 (accesses_of (plain.own_accesses round.constants round.variables s))
 
--- the references of a statement and of its parts as entries
+-- the references of a statement and of its parts as entries, where so many numbered statements come before it
 abbrev mutual
   pub statement_entries : Round → ℕ → StmtTree → List Entry
-  statement_entries round n (Assign left right) = own_entries round n (Assign left right)
-  statement_entries round n (If condition then_part else_part) =
-      own_entries round n (If condition then_part else_part)
-      ++ statements_entries round (n + 1) then_part
-      ++ statements_entries round (n + 1 + statements_count then_part) else_part
-  statement_entries round n (Do h body) =
-      own_entries round n (Do h body) ++ statements_entries (in_loop round n h.variable) (n + 1) body
-  statement_entries round n (Print items) = own_entries round n (Print items)
-  statement_entries round n (Read items) = own_entries round n (Read items)
-  statement_entries round n Stop = []
-  statement_entries round n (Comment text) = []
+  statement_entries round before (Assign left right) = own_entries round before (Assign left right)
+  statement_entries round before (If condition then_part else_part) =
+      own_entries round before (If condition then_part else_part)
+      ++ statements_entries round (before + 1) then_part
+      ++ statements_entries round (before + 1 + statements_count then_part) else_part
+  statement_entries round before (Do h body) =
+      own_entries round before (Do h body) ++ statements_entries (in_loop round (before + 1) h.variable) (before + 1) body
+  statement_entries round before (Print items) = own_entries round before (Print items)
+  statement_entries round before (Read items) = own_entries round before (Read items)
+  statement_entries round before Stop = []
+  statement_entries round before (Comment text) = []
 
   pub statements_entries : Round → ℕ → StmtTrees → List Entry
-  statements_entries round n no_stmts = []
-  statements_entries round n (more_stmts s rest) = statement_entries round n s ++ statements_entries round (n + statement_count s) rest
+  statements_entries round before no_stmts = []
+  statements_entries round before (more_stmts s rest) = statement_entries round before s ++ statements_entries round (before + statement_count s) rest

@@ -3,7 +3,12 @@
 #![tactic(auto)]
 
 mod accesses;
+mod constants;
+mod counting;
+mod listing;
 mod references;
 mod surroundings;
 
+pub use counting::{MOST_PAIRS, first_beyond_limit, pairs, within_limit};
+pub use listing::refs;
 pub use references::{Ref, RefName, Refs};

@@ -1,1 +1,6 @@
 pub mod Entries
+pub mod RelatedPairs
+pub mod GroupEquality
+pub mod GroupPairs
+pub mod CountedPairs
+pub mod CountingSteps

@@ -2,3 +2,4 @@ pub mod References
 pub mod PairLimit
 pub mod ListedReferences
 pub mod Listing
+pub mod Tallies

@@ -26,7 +26,7 @@ numbered_at (r ∷ refs) zero d h n = n.0
 numbered_at (r ∷ refs) (suc i) d h n = numbered_at refs i d (omega arith) n.1
 
 -- a reference that stands for none
-abbrev no_reference : Reference
+abbrev pub no_reference : Reference
 no_reference = record { statement = 0; number = 0; access = record { name = []; writes = false; subscripts = [] }; nest = [] }
 
 -- no list has more pairs than the square of its length

@@ -1,1 +1,5 @@
 pub mod References
+pub mod PairLimit
+pub mod ListedReferences
+pub mod Listing
+pub mod Tallies

@@ -1,6 +1,8 @@
 -- References: the occurrences of variables that read or write them, in text order, and the pairs of them that may depend on each other (Allen and Kennedy, section 2.2.1).
-use Rattle.std.specs.Prelude.{ℕ, suc, ◌+◌, List, [], ◌∷◌, ◌++◌, Bool, ◌==◌, ◌&&◌, ◌||◌, nat_lt}
-use Rattle.ped_base.specs.Lists.{has_some, is_same_text}
+use Rattle.std.specs.Prelude.{ℕ, suc, ◌+◌, List, [], ◌∷◌, ◌++◌, map, filter, length, Bool, ◌==◌, ◌&&◌, ◌||◌, nat_lt, Option, Some, None, if◌then◌else◌}
+use Rattle.std.specs.List.{flat_map}
+use Rattle.std.specs.Option.{option_or}
+use Rattle.ped_base.specs.Lists.{has_some, is_same_text, is_among}
 use Rattle.ped_tree.specs.Tree.{ExprTree, ExprTrees, Int, Var, Element, Neg, Add, Sub, Mul, Div, Pow, Call, no_exprs, more_exprs, CondTree, Rel, Not, And, Or, ItemTree, Value, Text, Head, StmtTree, StmtTrees, Assign, If, Do, Print, Read, Stop, Comment, no_stmts, more_stmts, DeclTree, Program, Implicit, Integer, Dimension, Parameter, Save, Remark, ProgramTree}
 use Rattle.ped_tree.specs.Numbering.{statement_count, statements_count}
 use Rattle.ped_tree.specs.Accesses.{Access, own_accesses, constant_names}
@@ -42,6 +44,24 @@ abbrev mutual
 abbrev pub references : ProgramTree → List Reference
 references t = statements_references (constant_names t.decls) [] 1 t.body
 
+-- the statement number of the outermost of DO loops, 0 where there is none (this project)
+abbrev pub outermost_number : List Loop → ℕ
+outermost_number [] = 0
+outermost_number (l ∷ ls) = l.number
+
+-- the statement number of the outermost DO loop round a reference, 0 where there is none (this project)
+abbrev pub outermost : Reference → ℕ
+outermost r = outermost_number r.nest
+
+-- the innermost of DO loops that names the variable in its PRIVATE list (this project)
+abbrev pub innermost_private : List ℕ → List Loop → Option Loop
+innermost_private x [] = None
+innermost_private x (l ∷ ls) = option_or (innermost_private x ls) (if is_among x l.head.private then Some l else None)
+
+-- the DO loop to which a reference belongs: the innermost round it that names its scalar in PRIVATE, None where none does; what stands in a DO's header stands outside that DO (this project)
+abbrev pub private_loop : Reference → Option Loop
+private_loop r = innermost_private r.access.name r.nest
+
 -- a pair: of one name, with a write, and in a DO loop round both
 abbrev pub is_pair : Reference → Reference → Bool
 is_pair source sink =
@@ -52,3 +72,11 @@ is_pair source sink =
 -- the source comes before the sink in text order (Allen and Kennedy, section 2.2.5)
 abbrev pub comes_before : Reference → Reference → Bool
 comes_before source sink = nat_lt source.statement sink.statement || (source.statement == sink.statement && nat_lt source.number sink.number)
+
+-- all ordered pairs of references, possibly one twice, in the order of the sources and then of the sinks (Allen and Kennedy, section 3.2)
+abbrev pub pairs : List Reference → List (Reference × Reference)
+pairs refs = flat_map (λ source. map (λ sink. (source, sink)) (filter (is_pair source) refs)) refs
+
+-- how many ordered pairs there are (Allen and Kennedy, section 3.2)
+abbrev pub pair_count : List Reference → ℕ
+pair_count refs = length (pairs refs)

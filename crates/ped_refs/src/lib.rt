@@ -1,3 +1,14 @@
 //! References: the occurrences of variables that read or write them, and the pairs that may depend on each
 //! other. The definitions stand in `specs/`.
 #![tactic(auto)]
+
+mod accesses;
+mod constants;
+mod counting;
+mod listing;
+mod references;
+mod surroundings;
+
+pub use counting::{MOST_PAIRS, first_beyond_limit, pairs, within_limit};
+pub use listing::refs;
+pub use references::{Ref, RefName, Refs};

@@ -1,0 +1,24 @@
+-- The list of the references of a program.
+use Rattle.std.proofs.Common.{◌≡◌, ℕ, ◌<◌, ◌^◌, List, map, length, get_or, ap, ◌∙◌}
+use Rattle.std.proofs.lemmas.List.{length-map, get_or-map}
+use Rattle.ped_tree.specs.Tree.{ProgramTree}
+use Rattle.ped_refs.specs.References.{Reference, references}
+use Rattle.ped_refs.specs.ListedReferences.{ref_of, AreReferences}
+use Rattle.ped_refs.specs.Tallies.{AreListed}
+use Rattle.ped_refs.specs.declared.references.Ref.{Ref}
+use Rattle.ped_refs.specs.declared.references.Refs.{Refs}
+use Rattle.ped_refs.proofs.TextOrder.{references_numbered}
+
+-- the references of a program are listed
+pub program_listed : (t : ProgramTree) (refs : Refs) → AreReferences t refs → length (references t) < 2 ^ 32 → AreListed (references t) refs
+program_listed t refs h few = record { items = h.items; outer = h.outer; numbered = references_numbered t; few = few }
+
+-- the list is as long as there are references
+pub length-listed : (t : ProgramTree) (refs : Refs) → AreReferences t refs → length refs.items ≡ length (references t)
+length-listed t refs h = ap length h.items ∙ length-map (references t) ref_of
+
+-- the statement of a reference in the list
+pub statement_at : (t : ProgramTree) (refs : Refs) (items : List Ref) (i : ℕ) (d : Reference) (x : Ref) → AreReferences t refs → items ≡ refs.items → i < length (references t)
+    → (get_or items i x).statement ≡ (get_or (references t) i d).statement
+statement_at t refs items i d x h are within =
+    ap (λ (xs : List Ref). (get_or xs i x).statement) (are ∙ h.items) ∙ ap (λ (r : Ref). r.statement) (get_or-map ref_of (references t) i d x within)

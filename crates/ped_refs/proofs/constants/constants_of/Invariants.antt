@@ -1,0 +1,8 @@
+use Rattle.std.proofs.Common.{◌≡◌, [], map, drop}
+use Rattle.ped_tree.specs.Accesses.{constant_names}
+use Rattle.ped_tree.specs.Views.{decl_tree}
+use Rattle.ped_names.specs.Collecting.{with_names}
+use Rattle.ped_refs.proofs.constants.constants_of.Given as goal
+
+abbrev pub invariant-loop-decl : goal.invariant-loop-decl
+invariant-loop-decl l = with_names l.names (constant_names (map decl_tree (drop l.decl-index l.decls))) ≡ with_names [] (constant_names (map decl_tree l.decls))

@@ -1,0 +1,22 @@
+-- The list of references that the code keeps, by the references that it stands for (this project).
+use Rattle.std.specs.Prelude.{◌≡◌, ℕ, List, map, codes, if◌then◌else◌}
+use Rattle.ped_base.specs.Lists.{is_same_text}
+use Rattle.ped_tree.specs.Tree.{ProgramTree}
+use Rattle.ped_refs.specs.References.{Reference, references, outermost}
+use Rattle.ped_refs.specs.declared.references.RefName.{RefName}
+use Rattle.ped_refs.specs.declared.references.RefName.TheVariants.{Named, In, Out}
+use Rattle.ped_refs.specs.declared.references.Ref.{Ref}
+use Rattle.ped_refs.specs.declared.references.Refs.{Refs}
+
+-- a name in the list: the data lines and the output stand apart from the variables
+abbrev pub ref_name : List ℕ → RefName
+ref_name x = if is_same_text x (codes "(IN)") then In else (if is_same_text x (codes "(OUT)") then Out else Named x)
+
+-- a reference in the list: its statement, its number, its name, and whether it writes
+abbrev pub ref_of : Reference → Ref
+ref_of r = record { statement = r.statement; number = r.number; name = ref_name r.access.name; writes = r.access.writes }
+
+-- the list has exactly the references of the program, in text order, and for each the outermost DO loop round it
+pub record AreReferences (t : ProgramTree) (refs : Refs) : Type 0 where
+  pub items : refs.items ≡ map ref_of (references t)
+  pub outer : refs.outer ≡ map outermost (references t)

@@ -1,0 +1,85 @@
+-- How pairs of references are counted by groups of references that can pair with each other. Contracts of private functions alone speak of these definitions.
+use Rattle.std.specs.Prelude.{◌≡◌, ℕ, ◌+◌, ◌*◌, ◌^◌, ◌<◌, List, [], ◌∷◌, map, length, Bool, true, false, ◌==◌, ◌&&◌, not, count_by, unwrap_or, if◌then◌else◌}
+use Rattle.std.specs.declared.hash.FoldHasher.{FoldHasher}
+use Rattle.std.specs.declared.hash.BuildHasherDefault.{BuildHasherDefault}
+use Rattle.indexmap.specs.IndexMap.{IndexMap, get}
+use Rattle.ped_base.specs.Lists.{has_some, is_same_text}
+use Rattle.ped_refs.specs.References.{Reference, outermost, pair_count}
+use Rattle.ped_refs.specs.ListedReferences.{ref_name, ref_of}
+use Rattle.ped_refs.specs.declared.references.RefName.{RefName}
+use Rattle.ped_refs.specs.declared.references.RefName.TheVariants.{Named, In, Out}
+use Rattle.ped_refs.specs.declared.references.Refs.{Refs}
+use Rattle.ped_refs.specs.declared.counting.Group.{Group}
+use Rattle.ped_refs.specs.declared.counting.Tally.{Tally}
+
+-- the same name in the list
+abbrev pub is_same_name : RefName → RefName → Bool
+is_same_name (Named x) (Named y) = is_same_text x y
+is_same_name (Named x) In = false
+is_same_name (Named x) Out = false
+is_same_name In (Named y) = false
+is_same_name In In = true
+is_same_name In Out = false
+is_same_name Out (Named y) = false
+is_same_name Out In = false
+is_same_name Out Out = true
+
+-- the same group: of one name, with one outermost DO
+abbrev pub is_same_group : Group → Group → Bool
+is_same_group g h = is_same_name g.name h.name && g.outer == h.outer
+
+-- a group, under a name that the code hasn't got
+abbrev pub PlainGroup : Type 0
+PlainGroup = Group
+
+-- the group of a name and an outermost DO
+abbrev pub group : RefName → ℕ → Group
+group name outer = record { name = name; outer = outer }
+
+-- the group of a reference
+abbrev pub group_of : Reference → Group
+group_of r = group (ref_name r.access.name) (outermost r)
+
+-- the table of what was counted, group by group
+abbrev pub Tallies : Type 0
+Tallies = IndexMap Group Tally (BuildHasherDefault FoldHasher)
+
+-- what was counted of a group
+abbrev pub tally_at : Tallies → Group → Tally
+tally_at groups g = unwrap_or (get is_same_group groups g) (record { references = 0; writes = 0 })
+
+-- a tally with one more reference
+abbrev pub with_reference : Tally → Bool → Tally
+with_reference t writes = record { references = t.references + 1; writes = if writes then t.writes + 1 else t.writes }
+
+-- how many ordered pairs one more reference makes with itself and those of its group
+abbrev pub pairs_with : Tally → Bool → ℕ
+pairs_with t writes = if writes then 2 * t.references + 1 else 2 * t.writes
+
+-- of one name, with one outermost DO
+abbrev pub is_together : Reference → Reference → Bool
+is_together r s = is_same_text r.access.name s.access.name && outermost r == outermost s
+
+-- the tally of the references that are of one group with a reference
+abbrev pub tally_with : Reference → List Reference → Tally
+tally_with r refs = record {
+  references = count_by (is_together r) refs;
+  writes = count_by (λ s. is_together r s && s.access.writes) refs;
+}
+
+-- where DO loops stand round a reference, the outermost has a number that isn't 0
+abbrev pub AreNumbered : List Reference → Type 0
+AreNumbered [] = Unit {0}
+AreNumbered (r ∷ rs) = (has_some r.nest ≡ not (outermost r == 0)) × AreNumbered rs
+
+-- the list has these references, and they are fewer than 2^32
+pub record AreListed (listed : List Reference) (refs : Refs) : Type 0 where
+  pub items : refs.items ≡ map ref_of listed
+  pub outer : refs.outer ≡ map outermost listed
+  pub numbered : AreNumbered listed
+  pub few : length listed < 2 ^ 32
+
+-- the table has the tallies of these references, and the number is that of their pairs
+pub record IsCounted (refs : List Reference) (groups : Tallies) (total : ℕ) : Type 0 where
+  pub pairs : total ≡ pair_count refs
+  pub tallies : (r : Reference) → outermost r == 0 ≡ false → tally_at groups (group_of r) ≡ tally_with r refs

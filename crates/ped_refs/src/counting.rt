@@ -1,0 +1,161 @@
+//! How many ordered pairs of references there are. They aren't made: references can only pair with those of
+//! one name and the same outermost DO, so a table of these groups tells in one pass how many pairs each
+//! reference adds.
+
+ghost use Rattle.std.specs.Prelude.{◌≡◌, ℕ, ◌+◌, ◌^◌, ◌<◌, ◌≤◌, List, take, length, IfOk, OnOk, MatchOption, if◌then◌else◌};
+ghost use Rattle.ped_tree.specs.Tree.{ProgramTree};
+ghost use Rattle.ped_refs.specs.References.{Reference, references, pair_count};
+ghost use Rattle.ped_refs.specs.PairLimit.{most_pairs, is_within_pair_limit, IsFirstBeyond};
+ghost use Rattle.ped_refs.specs.ListedReferences.{AreReferences};
+ghost use Rattle.ped_refs.specs.Tallies as Spec;
+ghost use Rattle.ped_refs.specs.Tallies.{AreListed, IsCounted, group, is_same_group, tally_at};
+
+use crate::references::{RefName, Refs};
+use indexmap::IndexMap;
+use ped_base::NoMemory;
+use std::alloc::Global;
+
+/// The greatest number of ordered pairs that a program may have.
+pub const MOST_PAIRS: u64 = 200_000;
+
+/// What references have in common that can pair with each other.
+#[derive(Clone, Copy, PartialEq, Eq, Hash)]
+struct Group {
+    name: RefName,
+    outer: u32,
+}
+
+/// How many references of a group there are, and how many of them write.
+#[derive(Clone, Copy)]
+struct Tally {
+    references: u64,
+    writes: u64,
+}
+
+/// How many ordered pairs of references the program has whose references these are. The time is linear in
+/// the number of references.
+pub fn pairs(alloc: Global, refs: &Refs) -> Result<u64, NoMemory>
+    ghost tree: { ProgramTree }
+    requires references { AreReferences tree refs.now }
+    requires few { length (references tree) < 2 ^ 32 }
+    ensures { IfOk result (λ n. n ≡ pair_count (references tree)) }
+{
+    let mut groups = IndexMap::new(alloc);
+    let mut total = 0;
+    for i in 0..refs.items.len() {
+        total = count_next(&mut groups, total, refs, i)?;
+    }
+    Ok(total)
+}
+
+/// Whether the program whose references these are has no more ordered pairs than a program may have.
+pub fn within_limit(alloc: Global, refs: &Refs) -> Result<bool, NoMemory>
+    ghost tree: { ProgramTree }
+    requires references { AreReferences tree refs.now }
+    requires few { length (references tree) < 2 ^ 32 }
+    ensures { IfOk result (λ within. within ≡ is_within_pair_limit (references tree)) }
+{
+    Ok(pairs(alloc, refs)? <= MOST_PAIRS)
+}
+
+/// The first statement at which the ordered pairs among the references so far are more than a program may
+/// have, none where there are never so many. The time is linear in the number of references.
+pub fn first_beyond_limit(alloc: Global, refs: &Refs) -> Result<Option<u32>, NoMemory>
+    ghost tree: { ProgramTree }
+    requires references { AreReferences tree refs.now }
+    requires few { length (references tree) < 2 ^ 32 }
+    ensures { IfOk result (λ first. MatchOption first (pair_count (references tree) ≤ most_pairs)
+        (λ number. IsFirstBeyond (references tree) number)) }
+{
+    let mut groups = IndexMap::new(alloc);
+    let mut total = 0;
+    for i in 0..refs.items.len() {
+        total = count_next(&mut groups, total, refs, i)?;
+        if total > MOST_PAIRS {
+            return Ok(Some(refs.items.as_slice()[i].statement));
+        }
+    }
+    Ok(None)
+}
+
+/// Counts the reference at a place, where those before it are counted and make so many pairs: how many they
+/// make with it.
+fn count_next(
+    groups: &mut IndexMap<Group, Tally>,
+    total: u64,
+    refs: &Refs,
+    i: usize,
+) -> Result<u64, NoMemory>
+    ghost listed: { List Reference }
+    requires listed { AreListed listed refs.now }
+    requires within { i < length listed }
+    requires counted { IsCounted (take i listed) groups.old total }
+    ensures { IfOk result (λ sum. IsCounted (take (i + 1) listed) groups.new sum) }
+{
+    let reference = refs.items.as_slice()[i];
+    let outer = refs.outer.as_slice()[i];
+    if outer == 0 {
+        return Ok(total);
+    }
+    let tally = tally_of(groups, reference.name, outer);
+    put(
+        groups,
+        reference.name,
+        outer,
+        with_reference(tally, reference.writes),
+    )?;
+    Ok(total + pairs_with(tally, reference.writes))
+}
+
+/// What was counted of the group with this name and this outermost DO.
+fn tally_of(groups: &IndexMap<Group, Tally>, name: RefName, outer: u32) -> Tally
+    ensures { result ≡ tally_at groups.now (group name outer) }
+{
+    let group = Group { name, outer };
+    match groups.get(&group) {
+        Some(tally) => *tally,
+        None => Tally {
+            references: 0,
+            writes: 0,
+        },
+    }
+}
+
+/// Puts what was counted of the group with this name and this outermost DO.
+fn put(
+    groups: &mut IndexMap<Group, Tally>,
+    name: RefName,
+    outer: u32,
+    tally: Tally,
+) -> Result<(), NoMemory>
+    ensures { OnOk result ((other : Spec.PlainGroup) → tally_at groups.new other
+        ≡ (if is_same_group (group name outer) other then tally else tally_at groups.old other)) }
+{
+    groups.insert(Group { name, outer }, tally)?;
+    Ok(())
+}
+
+/// A tally with one more reference.
+fn with_reference(tally: Tally, writes: bool) -> Tally
+    requires references { tally.references < 2 ^ 32 }
+    requires writes { tally.writes < 2 ^ 32 }
+    ensures { result ≡ Spec.with_reference tally writes }
+{
+    Tally {
+        references: tally.references + 1,
+        writes: if writes { tally.writes + 1 } else { tally.writes },
+    }
+}
+
+/// How many ordered pairs one more reference makes with itself and those of a tally.
+fn pairs_with(tally: Tally, writes: bool) -> u64
+    requires references { tally.references < 2 ^ 32 }
+    requires writes { tally.writes < 2 ^ 32 }
+    ensures { result ≡ Spec.pairs_with tally writes }
+{
+    if writes {
+        2 * tally.references + 1
+    } else {
+        2 * tally.writes
+    }
+}

@@ -1,9 +1,10 @@
 #!/usr/bin/env bash
 # Measures how long `statements` of ped_lines takes to cut a program into statements, per byte, and how
 # much memory it has at its peak, on programs of 64 KiB, 256 KiB and 1 MiB; how long `source_pane` of
-# ped_print takes, per byte of the pane, on programs of 250, 1,000 and 4,000 statements; and how long
-# `ped show` takes, and how much memory, on programs of 64 KiB, 256 KiB and 1 MiB that are read. It is no
-# part of the gate, and needs GNU time and awk. docs/PERFORMANCE.md says how to read the figures.
+# ped_print takes, per byte of the pane, on programs of 250, 1,000 and 4,000 statements; how long a call of
+# each dependence test takes; and how long `ped show` takes, and how much memory, on programs of 64 KiB,
+# 256 KiB and 1 MiB that are read. It is no part of the gate, and needs GNU time and awk. docs/PERFORMANCE.md
+# says how to read the figures.
 #
 # usage: tools/bench.sh [RUNS]      of so many runs (5 where it isn't said) the least counts
 set -eu
@@ -139,6 +140,23 @@ for statements in 250 1000 4000; do
 done
 awk '{ if (NR == 1 || $3 < least) least = $3; if ($3 > most) most = $3 }
     END { printf "greatest to least time per byte: %.2f\n", most / least }' "$work/figures"
+
+# Of each test so many calls that they take some seconds.
+printf '\n%14s %10s\n' test ns/call
+while read -r test times; do
+    awk -v test="$test" -v times="$times" -v seconds="$(least '%U %S' test "$test" "$times")" \
+        -v no_seconds="$(least '%U %S' test "$test" 0)" 'BEGIN {
+            printf "%14s %10.1f\n", test, (seconds - no_seconds) * 1e9 / times
+        }'
+done <<'END'
+ziv 2000000000
+strong 400000000
+weak_zero 400000000
+weak_crossing 400000000
+gcd 40000000
+gcd_slowest 4000000
+banerjee 80000000
+END
 
 # The launcher proves and builds ped where that hasn't been done. What starting it takes is left out: it is the
 # time of showing a small file.

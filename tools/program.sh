@@ -1,5 +1,5 @@
 # shellcheck shell=bash
-# Which built program belongs to the sources: read by ./ped and .ci/run, by this file's full path.
+# Which built programs belong to the sources: read by ./ped, .ci/run and the checks, by this file's full path.
 #
 # A built program stands in out/ under the checksum of the sources that it was made from. So it never
 # goes stale, and launches at the same time don't disturb one another. `rm -r out` is always safe.
@@ -7,7 +7,7 @@
 # The top of the repository.
 top=${BASH_SOURCE[0]%/tools/*}
 
-# Writes the checksum of all that the program is made from.
+# Writes the checksum of all that the programs are made from.
 sources_sum() (
     set -o pipefail
     cd -- "$top" &&
@@ -15,15 +15,15 @@ sources_sum() (
         LC_ALL=C sort -z | xargs -0 sha256sum | sha256sum | cut -c1-64
 )
 
-# Writes where the program of the sources with this checksum stands.
+# Writes where a program of the sources with this checksum stands: ped, or the one of the crate that is named.
 program_of() {
-    printf '%s\n' "$top/out/ped-$1"
+    printf '%s\n' "$top/out/${2-ped}-$1"
 }
 
 # Keeps the program that the toolchain has built last as that of the sources with this checksum.
 keep_program() {
-    local part="$top/out/part-$$"
+    local name=${2-ped} part="$top/out/part-$$"
     mkdir -p -- "$top/out" &&
-        cp -- "$top/crates/ped/out/ped" "$part" &&
-        mv -f -- "$part" "$(program_of "$1")"
+        cp -- "$top/crates/$name/out/$name" "$part" &&
+        mv -f -- "$part" "$(program_of "$1" "$name")"
 }

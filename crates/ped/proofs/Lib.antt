@@ -1,5 +1,4 @@
 mod Commentless
-mod Distances
 mod Finding
 mod OneAnswer
 pub mod Outcomes

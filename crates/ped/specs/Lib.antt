@@ -1,6 +1,5 @@
 pub mod Answer
 pub mod Dependences
-pub mod Distances
 pub mod Refusals
 pub mod SmallForm
 pub mod SmallReading

@@ -7,8 +7,8 @@ ghost use Rattle.ped.specs.SmallTree.{small_tree};
 ghost use Rattle.ped.specs.Dependences.{ArePossible, edges_by, edges_of, offset_of, small_range, kind_by, mark_by};
 
 use crate::small_form::{Small, Subscript};
-use crate::strong::{strong_distance, strong_excludes};
 use ped_base::NoMemory;
+use ped_siv::{strong_distance, strong_excludes};
 use ped_views::{Direction, LoopRange};
 use std::alloc::Global;
 
@@ -160,14 +160,14 @@ fn push_where(edges: &mut Vec<Edge>, wanted: bool, edge: Edge) -> Result<(), NoM
     Ok(())
 }
 
-/// The signs that the strong SIV test doesn't exclude.
+/// The signs that the strong SIV test doesn't exclude. Both subscripts have the coefficient 1.
 fn possible_signs(range: &LoopRange, source: i64, sink: i64) -> Signs
     ensures { ArePossible range.now source sink result }
 {
     Signs {
-        before: !strong_excludes(1, source, sink, range, Direction::Before),
-        same: !strong_excludes(1, source, sink, range, Direction::Same),
-        after: !strong_excludes(1, source, sink, range, Direction::After),
+        before: !strong_excludes(1, 1, source, sink, range, Direction::Before),
+        same: !strong_excludes(1, 1, source, sink, range, Direction::Same),
+        after: !strong_excludes(1, 1, source, sink, range, Direction::After),
     }
 }
 

@@ -10,7 +10,6 @@ mod numbers;
 mod panes;
 mod refusals;
 mod small_form;
-mod strong;
 
 use crate::adapters::{DiskShelf, StdSink};
 use crate::answering::{Status, ped_main};

@@ -1,10 +1,12 @@
 //! Does one of ped's works so many times, for `tools/bench.sh` to measure: cuts the lines of a file into
-//! statements, or prints a program of so many statements. Nothing is promised of it: it prints how much
-//! came out, and times nothing itself.
+//! statements, prints a program of so many statements, or calls a dependence test. Nothing is promised of it: it
+//! prints how much came out, and times nothing itself.
 #![tactic(auto)]
 
+mod dependence_tests;
 mod programs;
 
+use dependence_tests::excluded;
 use ped_lines::statements;
 use ped_print::source_pane;
 use programs::program;
@@ -16,15 +18,17 @@ fn main(rt: HostRuntime) -> anyhow::Result<ExitCode> {
     let alloc = rt.alloc();
     let words: Vec<String> = env::args(&rt)?.skip(1).collect(alloc)?;
     let [work, what, times] = words.as_slice() else {
-        println!(rt; "usage: ped_bench cut FILE TIMES | print STATEMENTS TIMES")?;
+        println!(rt; "usage: ped_bench cut FILE TIMES | print STATEMENTS TIMES | test NAME TIMES")?;
         return Ok(ExitCode::from(2));
     };
     let times = times.parse::<u64>()?;
     let count = if work.as_str() == "cut" {
         let text = fs::read(&rt, what.as_str())?;
-        cut(alloc, &text, times)?
+        cut(alloc, &text, times)? as u64
+    } else if work.as_str() == "test" {
+        excluded(alloc, what.as_str(), times)?
     } else {
-        print(alloc, what.parse::<u64>()?, times)?
+        print(alloc, what.parse::<u64>()?, times)? as u64
     };
     println!(rt; "{work} {count}")?;
     Ok(ExitCode::SUCCESS)

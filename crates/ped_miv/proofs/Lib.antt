@@ -1,7 +1,6 @@
 mod Ahead
 mod Bezout
 mod Corners
-mod Decided
 mod Extremal
 mod InOneLoop
 mod Multiples

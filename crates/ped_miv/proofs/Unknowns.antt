@@ -2,6 +2,7 @@
 use Rattle.std.proofs.Common.{◌≡◌, ◌↔◌, ℕ, ◌+◌, ◌≤◌, ◌<◌, refl, sym, subst, arith, ℤ, pos, ◌+ℤ◌, ◌-ℤ◌, ◌*ℤ◌, neg_ℤ, List, [], ◌∷◌, length, get_or, drop, Bool, not, IsTrue, Option}
 use Rattle.std.specs.List.{slice_get}
 use Rattle.std.proofs.Math.Numerals.{add-one}
+use Rattle.std.proofs.lemmas.Bool.Decides.{Decides-not, Decides-like}
 use Rattle.ped_views.specs.declared.directions.Direction.{Direction}
 use Rattle.ped_views.specs.declared.directions.Direction.TheVariants.{Before, Same, After}
 use Rattle.ped_views.specs.Whole.{Divides, IsGreatestDivisor}
@@ -9,7 +10,6 @@ use Rattle.ped_views.specs.Views.{SubscriptPair}
 use Rattle.ped_views.specs.Excluded.{Indices, HasIndices, SharesIndices, HasNoSolution, dot, difference}
 use Rattle.ped_views.proofs.Products.{linear}
 use Rattle.ped_views.proofs.Dividing.{Divides-trans, Divides-add}
-use Rattle.ped_miv.proofs.Decided.{turned}
 use Rattle.ped_miv.specs.Values.{Plus, AreMultiples, FormValue, IsShared, CommonForm, InnerForm}
 use Rattle.ped_miv.proofs.Bezout.{combination}
 use Rattle.ped_miv.proofs.Multiples.{Divides-neg}
@@ -166,4 +166,4 @@ module _ (p : SubscriptPair) (vector : List Direction) (c s t i g n : ℤ) (fits
       x.shared (omega (arith, linear))
 
   pub no_solution_decided : (d : Bool) → (IsTrue d ↔ Divides g n) → IsTrue (not d) ↔ HasNoSolution p vector
-  no_solution_decided d h = turned d h (λ none at q r e. none (divided at q r e)) solved
+  no_solution_decided d h = Decides-like (not d) (λ none at q r e. none (divided at q r e)) (λ never x. solved x never) (Decides-not d h)

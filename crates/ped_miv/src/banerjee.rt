@@ -1,6 +1,6 @@
 //! Banerjee's test with directions.
 
-ghost use Rattle.std.specs.Prelude.{◌≡◌, ◌<◌, ◌↔◌, length, slice_get, IfSome, IfOk, IsTrue};
+ghost use Rattle.std.specs.Prelude.{◌<◌, ◌↔◌, length, slice_get, IfSome, IsTrue};
 ghost use Rattle.std.specs.Bool.{IsFalse};
 ghost use Rattle.ped_views.specs.Limits.{FitsLoops};
 ghost use Rattle.ped_views.specs.Excluded.{IsBeyondExtremes, IsDeadEnd};
@@ -45,71 +45,5 @@ fn is_beyond_extremes(view: &PairView, position: &Position, directions: &[Direct
     match difference_extremes(view, position, directions) {
         None => true,
         Some(extremes) => 0 < extremes.lo || extremes.hi < 0,
-    }
-}
-
-#[cfg(test)]
-mod tests {
-    use super::*;
-    use ped_base::NoMemory;
-    use ped_views::{AffRow, LoopRange};
-    use std::alloc::Global;
-    use std::test::Fail;
-
-    const RANGE: LoopRange = LoopRange {
-        lo: 1,
-        hi: 10,
-        step: 1,
-        steady: true,
-    };
-
-    fn row(alloc: Global, constant: i32) -> Result<AffRow, NoMemory>
-        ensures { IfOk result (λ r. (length r.common ≡ 2) × (length r.inner ≡ 0)) }
-    {
-        Ok(AffRow {
-            common: vec![in alloc; 1, 1]?,
-            inner: vec![in alloc]?,
-            constant: i64::from(constant),
-        })
-    }
-
-    /// A view of two loops whose one position has the subscripts I + J at the source and I + J + `constant` at
-    /// the sink.
-    fn view(alloc: Global, range: LoopRange, constant: i32) -> Result<PairView, NoMemory>
-        ensures { IfOk result (λ v. 0 < length v.positions) }
-    {
-        let position = Position {
-            usable: true,
-            source: row(alloc, 0)?,
-            sink: row(alloc, constant)?,
-        };
-        Ok(PairView {
-            loops: vec![in alloc; range, range]?,
-            source_inner: vec![in alloc]?,
-            sink_inner: vec![in alloc]?,
-            positions: vec![in alloc; position]?,
-        })
-    }
-
-    #[test]
-    fn directions_narrow_the_extremes(rt: HostRuntime) -> Result<(), Fail> {
-        let same = view(rt.alloc(), RANGE, 0)?;
-        assert!(rt; banerjee_excludes(&same, 0, &[Direction::Before, Direction::Before]));
-        assert!(rt; !banerjee_excludes(&same, 0, &[Direction::Before, Direction::After]));
-        let once = view(rt.alloc(), LoopRange { hi: 1, ..RANGE }, 0)?;
-        assert!(rt; banerjee_excludes(&once, 0, &[Direction::Before, Direction::After]));
-        assert!(rt; !banerjee_excludes(&once, 0, &[Direction::Same, Direction::Same]));
-        Ok(())
-    }
-
-    #[test]
-    fn a_prefix_leaves_the_directions_behind_it_open(rt: HostRuntime) -> Result<(), Fail> {
-        let same = view(rt.alloc(), RANGE, 0)?;
-        assert!(rt; may_refine(&same, &[]));
-        assert!(rt; may_refine(&same, &[Direction::Before]));
-        assert!(rt; !may_refine(&same, &[Direction::Before, Direction::Same]));
-        let far = view(rt.alloc(), RANGE, 40)?;
-        assert!(rt; !may_refine(&far, &[]));
-        Ok(())
     }
 }

@@ -1,6 +1,6 @@
 //! The GCD test: whether whole numbers whatever make two subscripts equal.
 
-ghost use Rattle.std.specs.Prelude.{◌≡◌, ◌<ℤ◌, ◌≤ℤ◌, ◌^◌, ◌↔◌, ℤ, pos, neg_ℤ, length, IfOk, IsTrue};
+ghost use Rattle.std.specs.Prelude.{◌≡◌, ◌<ℤ◌, ◌≤ℤ◌, ◌^◌, ◌↔◌, ℤ, pos, neg_ℤ, length, IsTrue};
 ghost use Rattle.std.specs.Bool.{IsFalse};
 ghost use Rattle.ped_views.specs.declared.directions.Direction.TheVariants.{Same};
 ghost use Rattle.ped_views.specs.Excluded.{HasNoSolution};
@@ -98,49 +98,4 @@ fn inner_divisor(row: &[i64]) -> i128
         divisor = gcd(divisor, i128::from(*a));
     }
     divisor
-}
-
-#[cfg(test)]
-mod tests {
-    use super::*;
-    use ped_base::NoMemory;
-    use ped_views::AffRow;
-    use std::alloc::Global;
-    use std::test::Fail;
-
-    fn row(alloc: Global, common: i32, inner: i32, constant: i32) -> Result<AffRow, NoMemory>
-        ensures { IfOk result (λ r. length r.common ≡ 1) }
-    {
-        Ok(AffRow {
-            common: vec![in alloc; i64::from(common)]?,
-            inner: vec![in alloc; i64::from(inner)]?,
-            constant: i64::from(constant),
-        })
-    }
-
-    #[test]
-    fn two_coefficients_of_one_unknown_are_merged(rt: HostRuntime) -> Result<(), Fail> {
-        let alloc = rt.alloc();
-        let position = Position {
-            usable: true,
-            source: row(alloc, 3, 4, 0)?,
-            sink: row(alloc, 1, 0, 1)?,
-        };
-        assert!(rt; !gcd_excludes(&position, &[Direction::Before]));
-        assert!(rt; gcd_excludes(&position, &[Direction::Same]));
-        Ok(())
-    }
-
-    #[test]
-    fn a_divisor_of_0_divides_0_alone(rt: HostRuntime) -> Result<(), Fail> {
-        let alloc = rt.alloc();
-        let apart = Position {
-            usable: true,
-            source: row(alloc, 2, 0, 0)?,
-            sink: row(alloc, 2, 0, 6)?,
-        };
-        assert!(rt; gcd_excludes(&apart, &[Direction::Same]));
-        assert!(rt; !gcd_excludes(&apart, &[Direction::After]));
-        Ok(())
-    }
 }

@@ -1,13 +1,8 @@
--- What a test's answer says, where it is turned round, and what an exact quotient says of equal numbers.
-use Rattle.std.proofs.Common.{◌≡◌, ◌↔◌, refl, subst, ℤ, pos, ◌*ℤ◌, Bool, true, false, not, IsTrue, Option, MatchOption, sym, ◌∙◌}
+-- What an exact quotient of equal numbers says.
+use Rattle.std.proofs.Common.{◌≡◌, subst, ℤ, pos, ◌*ℤ◌, Option, MatchOption, sym, ◌∙◌}
 use Rattle.std.proofs.Math.IntN.{*ℤ-zero}
 use Rattle.ped_views.specs.Whole.{Divides}
 use Rattle.ped_views.proofs.Products.{mul-cancel}
-
--- a test turned round
-pub turned : {P R : Type 0} (x : Bool) → (IsTrue x ↔ P) → (¬ P → R) → (P → ¬ R) → IsTrue (not x) ↔ R
-turned true p f g = (λ t. absurd (cc), λ r. absurd (g (p.0 refl) r))
-turned false p f g = (λ t. f (λ b. let c = p.1 b in cc), λ r. refl)
 
 -- what an exact quotient of equal numbers says
 pub quotient_at : (o : Option ℤ) (d e n m : ℤ) → d ≡ e → n ≡ m → MatchOption o (¬ (Divides d n)) (λ k. d *ℤ k ≡ n) → MatchOption o (¬ (Divides e m)) (λ k. e *ℤ k ≡ m)

@@ -1,5 +1,6 @@
 -- Distances of index values that meet under one coefficient.
 use Rattle.std.proofs.Common.{◌≡◌, ◌↔◌, refl, sym, ap, subst, arith, ℤ, pos, ◌+ℤ◌, ◌-ℤ◌, ◌*ℤ◌, Bool, not, IsTrue}
+use Rattle.std.proofs.lemmas.Bool.Decides.{Decides-not, Decides-like}
 use Rattle.ped_views.specs.declared.directions.Direction.{Direction}
 use Rattle.ped_views.specs.declared.directions.Direction.TheVariants.{Before, Same, After}
 use Rattle.ped_views.specs.Whole.{Divides}
@@ -7,7 +8,6 @@ use Rattle.ped_views.specs.Views.{Range}
 use Rattle.ped_views.specs.Excluded.{StandsByValue, by_value, InRange, Meets, NeverMeetsInStep}
 use Rattle.ped_views.proofs.Products.{linear, mul-sub, mul-cancel}
 use Rattle.ped_siv.specs.Fits.{FitsSpan, FitsRange}
-use Rattle.ped_siv.proofs.Answering.{turned}
 
 -- index values that make the subscripts equal stand at the distance, and those at the distance make them equal
 distance_of : (a c1 c2 distance i j : ℤ) → ¬ (a ≡ pos 0) → a *ℤ distance ≡ c1 -ℤ c2 → a *ℤ i +ℤ c1 ≡ a *ℤ j +ℤ c2 → j -ℤ i ≡ distance
@@ -92,7 +92,8 @@ module _ (a c1 c2 : ℤ) (r : Range) (d : Direction) (distance : ℤ) (some : ¬
 
 pub decided_by_distance : (a b c1 c2 : ℤ) (r : Range) (d : Direction) (distance : ℤ) (fits : Bool) → ¬ (a ≡ pos 0) → a ≡ b → a *ℤ distance ≡ c1 -ℤ c2 → (IsTrue fits ↔ FitsRange r d distance) → IsTrue (not fits) ↔ NeverMeetsInStep a b c1 c2 r d
 decided_by_distance a b c1 c2 r d distance fits some same is h =
-    subst (λ (x : ℤ). IsTrue (not fits) ↔ NeverMeetsInStep a x c1 c2 r d) same (turned fits h (never_fits a c1 c2 r d distance some is) (meets_at a c1 c2 r d distance some is))
+    subst (λ (x : ℤ). IsTrue (not fits) ↔ NeverMeetsInStep a x c1 c2 r d) same
+    (Decides-like (not fits) (never_fits a c1 c2 r d distance some is) (λ n f. meets_at a c1 c2 r d distance some is f n) (Decides-not fits h))
 
 -- the second half of the test, where the first holds, over the range that the code reads
 pub fits_range_at : (r now : Range) (d e : Direction) (distance span : ℤ) (spans steps : Bool) → r ≡ now → e ≡ by_value r.step d → span ≡ r.hi -ℤ r.lo → (IsTrue spans ↔ FitsSpan e distance span) → IsTrue spans → (IsTrue steps ↔ (IsTrue r.steady → Divides r.step distance)) → IsTrue steps ↔ FitsRange now d distance

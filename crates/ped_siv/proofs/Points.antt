@@ -1,6 +1,7 @@
 -- Values of an index that occurs on one side alone.
 use Rattle.std.proofs.Common.{◌≡◌, ◌↔◌, refl, sym, ap, subst, ◌∙◌, arith, ℤ, pos, ◌-ℤ◌, ◌*ℤ◌, Bool, not, IsTrue, ◌⊎◌, inl, inr}
 use Rattle.std.proofs.Math.IntN.{zero-*ℤ}
+use Rattle.std.proofs.lemmas.Bool.Decides.{Decides-not, Decides-like}
 use Rattle.ped_views.specs.declared.directions.Direction.{Direction}
 use Rattle.ped_views.specs.declared.directions.Direction.TheVariants.{Before, Same, After}
 use Rattle.ped_views.specs.Views.{Range}
@@ -8,7 +9,6 @@ use Rattle.ped_views.specs.Excluded.{StandsByValue, by_value, InRange, Meets, Ne
 use Rattle.ped_views.specs.Excluded as excluded
 use Rattle.ped_views.proofs.Products.{linear, mul-cancel}
 use Rattle.ped_siv.specs.Fits.{HasPartner, HasNoPoint}
-use Rattle.ped_siv.proofs.Answering.{turned}
 
 -- a value that stands so to another of the range
 partner_of : (r : Range) (d : Direction) (i j : ℤ) → InRange r i → InRange r j → StandsByValue d i j → HasPartner d i r.lo r.hi
@@ -30,7 +30,7 @@ partner_at r After i f = record { j = r.lo; source = record { from = omega (arit
 
 -- the one value has a partner, or there is no point
 pub decided_by_partner : (a n : ℤ) (r : Range) (d : Direction) (i : ℤ) (has : Bool) → ¬ (a ≡ pos 0) → a *ℤ i ≡ n → (IsTrue has ↔ HasPartner d i r.lo r.hi) → IsTrue (not has) ↔ HasNoPoint a n r d
-decided_by_partner a n r d i has some is h = turned has h never at
+decided_by_partner a n r d i has some is h = Decides-like (not has) never (λ n f. at f n) (Decides-not has h)
   where
     never : ¬ (HasPartner d i r.lo r.hi) → HasNoPoint a n r d
     never none k j p q s e = none (subst (λ (x : ℤ). HasPartner d x r.lo r.hi) (mul-cancel a k i some (e ∙ sym is)) (partner_of r d k j p q s))

@@ -2,6 +2,7 @@
 use Rattle.std.proofs.Common.{◌≡◌, ◌↔◌, refl, sym, ap, subst, ◌∙◌, arith, ℤ, pos, ◌+ℤ◌, ◌-ℤ◌, ◌*ℤ◌, neg_ℤ, ◌<ℤ◌, Bool, not, IsTrue}
 use borrow.Author.Differences.{product_is}
 use Rattle.std.proofs.lemmas.Int.{by_lt_z}
+use Rattle.std.proofs.lemmas.Bool.Decides.{Decides-not, Decides-like}
 use Rattle.ped_views.specs.declared.directions.Direction.{Direction}
 use Rattle.ped_views.specs.declared.directions.Direction.TheVariants.{Before, Same, After}
 use Rattle.ped_views.specs.Whole.{Divides}
@@ -9,7 +10,6 @@ use Rattle.ped_views.specs.Views.{Range}
 use Rattle.ped_views.specs.Excluded.{StandsByValue, by_value, InRange, Meets, NeverMeets}
 use Rattle.ped_views.proofs.Products.{linear, mul-add, neg-mul, mul-cancel}
 use Rattle.ped_siv.specs.Fits.{FitsSum}
-use Rattle.ped_siv.proofs.Answering.{turned}
 
 -- the sum of two values of the range fits
 sum_fits : (r : Range) (d : Direction) (i j s : ℤ) → InRange r i → InRange r j → StandsByValue d i j → i +ℤ j ≡ s → FitsSum d s (r.lo +ℤ r.lo) (r.hi +ℤ r.hi)
@@ -52,7 +52,7 @@ module _ (a b c1 c2 : ℤ) (r : Range) (d : Direction) (form : a ≡ neg_ℤ b) 
   never_whole n i j m = n (i +ℤ j, sum_of i j m)
 
   pub decided_by_sum : (s : ℤ) (fits : Bool) → ¬ (a ≡ pos 0) → a *ℤ s ≡ c2 -ℤ c1 → (IsTrue fits ↔ FitsSum (by_value r.step d) s (r.lo +ℤ r.lo) (r.hi +ℤ r.hi)) → IsTrue (not fits) ↔ NeverMeets a b c1 c2 r d
-  decided_by_sum s fits some is h = turned fits h never at
+  decided_by_sum s fits some is h = Decides-like (not fits) never (λ n f. at f n) (Decides-not fits h)
     where
       never : ¬ (FitsSum (by_value r.step d) s (r.lo +ℤ r.lo) (r.hi +ℤ r.hi)) → NeverMeets a b c1 c2 r d
       never n i j m = n (sum_fits r (by_value r.step d) i j s m.source m.sink m.stands (mul-cancel a (i +ℤ j) s some (sum_of i j m ∙ sym is)))

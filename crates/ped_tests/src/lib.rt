@@ -23,6 +23,8 @@ mod io;
 #[cfg(test)]
 mod lines;
 #[cfg(test)]
+mod miv;
+#[cfg(test)]
 mod parse;
 #[cfg(test)]
 mod print;

@@ -12,7 +12,7 @@ returns c =
     let source : FitsSigned w64 c.args.source.offset = search rules in
     let sink : FitsSigned w64 c.args.sink.offset = search rules in
     let step : FitsSigned w64 c.range.inside.step = search rules in
-    let distance = simp to_z-of_z at c.strong_distance.ensures.whole in
+    let distance = simp to_z-of_z at c.strong_distance.ensures in
     let whole : c.strong_distance.result ≡ whole_quotient (c.args.source.offset -ℤ c.args.sink.offset) (pos 1 *ℤ range.step) =
     distance ∙ ap (λ (r : Range). whole_quotient (c.args.source.offset -ℤ c.args.sink.offset) (pos 1 *ℤ r.step)) c.range.view_is in
     let possible = simp to_z-of_z at c.possible_signs-signs.ensures in

@@ -1,8 +1,9 @@
 #!/usr/bin/env bash
 # Measures how long `statements` of ped_lines takes to cut a program into statements, per byte, and how
 # much memory it has at its peak, on programs of 64 KiB, 256 KiB and 1 MiB; how long `source_pane` of
-# ped_print takes, per byte of the pane, on programs of 250, 1,000 and 4,000 statements; how long a call of
-# each dependence test takes; and how long `ped show` takes, and how much memory, on programs of 64 KiB,
+# ped_print takes, per byte of the pane, on programs of 250, 1,000 and 4,000 statements; how long
+# `symbols_of` of ped_symbols takes, per statement, on programs of 1,000 and 4,000 statements with as many names;
+# how long a call of each dependence test takes; and how long `ped show` takes, and how much memory, on programs of 64 KiB,
 # 256 KiB and 1 MiB that are read. It is no part of the gate, and needs GNU time and awk. docs/PERFORMANCE.md
 # says how to read the figures.
 #
@@ -140,6 +141,21 @@ for statements in 250 1000 4000; do
 done
 awk '{ if (NR == 1 || $3 < least) least = $3; if ($3 > most) most = $3 }
     END { printf "greatest to least time per byte: %.2f\n", most / least }' "$work/figures"
+
+printf '\n%10s %10s %12s\n' statements names ns/statement
+rm -f -- "$work/figures"
+for statements in 1000 4000; do
+    times=$((4000000 / statements))
+    names=$("$program" names "$statements" 1)
+    awk -v names="${names#names }" -v statements="$statements" -v times="$times" \
+        -v seconds="$(least '%U %S' names "$statements" "$times")" \
+        -v no_seconds="$(least '%U %S' names "$statements" 0)" 'BEGIN {
+            time = (seconds - no_seconds) * 1e9 / times / statements
+            printf "%10d %10d %12.2f\n", statements, names, time
+        }' | tee -a "$work/figures"
+done
+awk '{ if (NR == 1 || $3 < least) least = $3; if ($3 > most) most = $3 }
+    END { printf "greatest to least time per statement: %.2f\n", most / least }' "$work/figures"
 
 # Of each test so many calls that they take some seconds.
 printf '\n%14s %10s\n' test ns/call

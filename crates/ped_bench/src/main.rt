@@ -1,6 +1,6 @@
 //! Does one of ped's works so many times, for `tools/bench.sh` to measure: cuts the lines of a file into
-//! statements, prints a program of so many statements, or calls a dependence test. Nothing is promised of it: it
-//! prints how much came out, and times nothing itself.
+//! statements, prints a program of so many statements, looks up its names, or calls a dependence test. Nothing is
+//! promised of it: it prints how much came out, and times nothing itself.
 #![tactic(auto)]
 
 mod dependence_tests;
@@ -9,7 +9,8 @@ mod programs;
 use dependence_tests::excluded;
 use ped_lines::statements;
 use ped_print::source_pane;
-use programs::program;
+use ped_symbols::symbols_of;
+use programs::{named_program, program};
 use std::alloc::Global;
 use std::process::ExitCode;
 use std::{env, fs};
@@ -18,13 +19,15 @@ fn main(rt: HostRuntime) -> anyhow::Result<ExitCode> {
     let alloc = rt.alloc();
     let words: Vec<String> = env::args(&rt)?.skip(1).collect(alloc)?;
     let [work, what, times] = words.as_slice() else {
-        println!(rt; "usage: ped_bench cut FILE TIMES | print STATEMENTS TIMES | test NAME TIMES")?;
+        println!(rt; "usage: ped_bench cut FILE TIMES | print STATEMENTS TIMES | names STATEMENTS TIMES | test NAME TIMES")?;
         return Ok(ExitCode::from(2));
     };
     let times = times.parse::<u64>()?;
     let count = if work.as_str() == "cut" {
         let text = fs::read(&rt, what.as_str())?;
         cut(alloc, &text, times)? as u64
+    } else if work.as_str() == "names" {
+        names(alloc, what.parse::<u64>()?, times)? as u64
     } else if work.as_str() == "test" {
         excluded(alloc, what.as_str(), times)?
     } else {
@@ -51,4 +54,14 @@ fn print(alloc: Global, count: u64, times: u64) -> anyhow::Result<usize> {
         bytes = source_pane(alloc, &program)?.len();
     }
     Ok(bytes)
+}
+
+/// How many names a program has that has as many names as statements.
+fn names(alloc: Global, count: u64, times: u64) -> anyhow::Result<usize> {
+    let program = named_program(alloc, count)?;
+    let mut names = 0;
+    for _i in 0..times {
+        names = symbols_of(alloc, &program)?.names(alloc)?.len();
+    }
+    Ok(names)
 }

@@ -18,6 +18,24 @@ pub fn program(alloc: Global, count: u64) -> anyhow::Result<Program> {
     })
 }
 
+/// A program of so many assignments, each to a name of its own and of the name before it.
+pub fn named_program(alloc: Global, count: u64) -> anyhow::Result<Program> {
+    let mut body = Vec::new(alloc);
+    let mut before = name("N0")?;
+    for i in 0..count {
+        let letters = format!(in alloc; "N{}", i % 100_000)?;
+        let left = name(letters.as_str())?;
+        let sum = Expr::sum(alloc, Expr::scalar(before), Expr::literal(1))?;
+        body.push(Stmt::assignment(Expr::scalar(left), sum))?;
+        before = left;
+    }
+    Ok(Program {
+        decls: Vec::new(alloc),
+        body,
+        lines: Vec::new(alloc),
+    })
+}
+
 /// A loop with 49 assignments.
 fn sweep(alloc: Global) -> anyhow::Result<Stmt> {
     let mut body = Vec::new(alloc);

@@ -19,7 +19,9 @@ fn main(rt: HostRuntime) -> anyhow::Result<ExitCode> {
     let alloc = rt.alloc();
     let words: Vec<String> = env::args(&rt)?.skip(1).collect(alloc)?;
     let [work, what, times] = words.as_slice() else {
-        println!(rt; "usage: ped_bench cut FILE TIMES | print STATEMENTS TIMES | names STATEMENTS TIMES | test NAME TIMES")?;
+        println!(rt;
+            "usage: ped_bench cut FILE TIMES | print STATEMENTS TIMES | names STATEMENTS TIMES | test NAME TIMES"
+        )?;
         return Ok(ExitCode::from(2));
     };
     let times = times.parse::<u64>()?;

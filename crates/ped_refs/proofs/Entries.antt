@@ -79,6 +79,7 @@ mutual
     where
       own : List Reference
       own = numbered_accesses (before + 1) 1 nest (plain.own_accesses c (indices_of nest) (If condition a b))
+
       behind : before + 1 + 1 + statements_count a ≡ before + 1 + statements_count a + 1
       behind = omega arith
   statement_are c d h nest before (Do head body) =

@@ -105,10 +105,13 @@ name_together x y = go (which x) (which y)
   where
     in_name : (z : List ℕ) → is_same_text z (codes "(IN)") ≡ true → ref_name z ≡ In
     in_name z h = ap (λ (b : Bool). if b then In else (if is_same_text z (codes "(OUT)") then Out else Named z)) h
+
     out_name : (z : List ℕ) → is_same_text z (codes "(IN)") ≡ false → is_same_text z (codes "(OUT)") ≡ true → ref_name z ≡ Out
     out_name z h k = λ i. if h i then In else (if k i then Out else Named z)
+
     named_name : (z : List ℕ) → is_same_text z (codes "(IN)") ≡ false → is_same_text z (codes "(OUT)") ≡ false → ref_name z ≡ Named z
     named_name z h k = λ i. if h i then In else (if k i then Out else Named z)
+
     go : Which x → Which y → is_same_name (ref_name x) (ref_name y) ≡ is_same_text x y
     go (as_in h) (as_in k) = (λ i. is_same_name (in_name x h i) (in_name y k i)) ∙ sym (same_in x y h ∙ k)
     go (as_in h) (as_out k l) = (λ i. is_same_name (in_name x h i) (out_name y k l i)) ∙ sym (same_in x y h ∙ k)

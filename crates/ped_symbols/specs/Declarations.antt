@@ -53,7 +53,7 @@ is_saving role = false
 abbrev pub names_with : (Role → Bool) → List Use → List (List ℕ)
 names_with test uses = map (λ u. u.name) (filter (λ u. test u.role) uses)
 
--- named in INTEGER somewhere
+-- named in INTEGER, wherever that stands (ANSI X3.9-1978, section 8.4.1; this project)
 abbrev pub is_typed : Declared → List ℕ → Bool
 is_typed d x = is_among x (names_with is_typing d.uses)
 

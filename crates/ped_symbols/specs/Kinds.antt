@@ -13,7 +13,7 @@ use Rattle.ped_symbols.specs.NameRefusals.{Before, at_first, behind_sites}
 use Rattle.ped_symbols.specs.declared.symbols.Kind.{Kind}
 use Rattle.ped_symbols.specs.declared.symbols.Kind.TheVariants.{Scalar, Array, Constant}
 
--- what a name stands for, by its value and its bounds, where it has some (ANSI X3.9-1978, sections 5, 8.6)
+-- what a name stands for, by its value and its bounds, where it has some; one with both, which is refused, counts as a constant (ANSI X3.9-1978, sections 5, 8.6)
 abbrev pub kind_by : Option ℤ → Option Dimensions → Kind
 kind_by (Some n) bounds = Constant n
 kind_by None (Some bounds) = Array bounds
@@ -27,7 +27,7 @@ kind_among values arrays x = kind_by (entry_of values x) (entry_of arrays x)
 abbrev pub at_last : ProgramTree → Before
 at_last t = behind_sites at_first (program_sites t)
 
--- what a name of a program stands for (ANSI X3.9-1978, sections 5, 8.6)
+-- what a name of a program stands for, where its names are right (ANSI X3.9-1978, sections 5, 8.6)
 abbrev pub kind_of : ProgramTree → List ℕ → Kind
 kind_of t x = kind_among (at_last t).values (at_last t).arrays x
 

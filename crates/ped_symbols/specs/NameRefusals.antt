@@ -15,7 +15,7 @@ use Rattle.ped_symbols.specs.Declarations.{Declared, declared_in, is_typing, is_
 use Rattle.ped_symbols.specs.Values.{Values, behind_decl, site_fails, site_is_empty}
 use Rattle.ped_symbols.specs.Arrays.{Arrays, arrays_in}
 
--- the name is of type REAL; where it occurs first is where its refusal counts (ANSI X3.9-1978, section 4.1.2)
+-- the name is of type REAL (ANSI X3.9-1978, section 4.1.2)
 abbrev pub uses_real : Declared → Use → Bool
 uses_real d u = is_real d u.name
 
@@ -72,7 +72,7 @@ repeats before (declaration d) = declares_again before (decl_uses d)
 repeats before (statement s) = rejects_twice s
 repeats before (private_names names) = has_twice names
 
--- a name is declared twice, or is used as what it isn't (ANSI X3.9-1978, sections 8, 18)
+-- a name is declared or listed twice, a constant or the program's name is used as a variable, or an array has an intrinsic function's name (ANSI X3.9-1978, sections 8, 15.10, 18)
 abbrev pub is_declared_twice : Declared → List Use → Site → Bool
 is_declared_twice d before s =
     list_any (uses_constant d) (site_uses s)
@@ -97,7 +97,7 @@ abbrev pub differs : ℕ → Option ℕ → Bool
 differs rank None = false
 differs rank (Some n) = not (n == rank)
 
--- a use with another number of subscripts than the name has dimensions (ANSI X3.9-1978, section 5.4.2)
+-- a use with another number of subscripts than the name has dimensions (ANSI X3.9-1978, sections 5.3, 5.4)
 abbrev pub uses_other_rank : Declared → Use → Bool
 uses_other_rank d u = differs (rank_of d u.name) (subscripts_of u.role)
 
@@ -126,7 +126,7 @@ abbrev pub behind_sites : Before → List Site → Before
 behind_sites b [] = b
 behind_sites b (s ∷ rest) = behind_sites (behind_site b s) rest
 
--- what is refused at a site on this line; a name that isn't declared and would be REAL comes first, also where it stands in a value or a bound
+-- what is refused at a site on this line; that a name would be REAL comes first, also where it stands in a value or a bound
 abbrev pub at_site : Declared → Before → ℕ → Site → List Finding
 at_site d b line s =
     refused_if (list_any (uses_real d) (site_uses s)) RealName line
@@ -145,7 +145,7 @@ abbrev pub at_sites : Declared → Before → List ℕ → List Site → List Fi
 at_sites d b lines [] = []
 at_sites d b lines (s ∷ rest) = at_site d b (next_line lines) s ++ at_sites d (behind_site b s) (drop 1 lines) rest
 
--- all that is refused for the names of a program, whose sites begin on these lines
+-- all that is refused for the names of a program, whose sites begin on these lines; the first counts, so a REAL name is refused where it occurs first
 abbrev pub name_refusals : List ℕ → ProgramTree → List Finding
 name_refusals lines t = at_sites (declared_in t.decls) at_first lines (program_sites t)
 

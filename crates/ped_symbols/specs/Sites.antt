@@ -1,4 +1,4 @@
--- What has a line of its own in a program: a declaration, a numbered statement by itself, and the PRIVATE statement of a DO (ANSI X3.9-1978, section 3; this project).
+-- What has an entry in a program's list of lines: a declaration, a numbered statement by itself, and the PRIVATE statement of a DO (ANSI X3.9-1978, section 3; this project).
 use Rattle.std.specs.Prelude.{ℕ, List, [], ◌∷◌, ◌++◌, map, if◌then◌else◌}
 use Rattle.std.specs.List.{flat_map}
 use Rattle.ped_base.specs.Lists.{has_some}

@@ -60,7 +60,7 @@ abbrev pub item_uses : ItemTree → List Use
 item_uses (Value e) = expr_uses e
 item_uses (Text text) = []
 
--- the uses in a statement by itself, without those in its parts and those of PRIVATE: the left side first; of a DO its rejected names, its variable, and its bounds (ANSI X3.9-1978, sections 10.1, 11, 12.8; ParaScope)
+-- the uses in a statement by itself, without those in its parts and those of PRIVATE: the left side first; of a DO its rejected names, its variable, its initial value, its limit and its increment (ANSI X3.9-1978, sections 10.1, 11, 12.8; ParaScope)
 abbrev pub own_uses : StmtTree → List Use
 own_uses (Assign left right) = target_uses left ++ expr_uses right
 own_uses (If condition then_part else_part) = cond_uses condition

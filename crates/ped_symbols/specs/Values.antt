@@ -1,4 +1,4 @@
--- The values of named constants, and of bounds and increments, by the PARAMETER items that stand before (ANSI X3.9-1978, sections 5.1.1.1, 8.6, 11.10.2).
+-- The values of named constants, and of bounds and increments, by the PARAMETER items that stand before (ANSI X3.9-1978, sections 5.1.1, 8.6, 11.10.3).
 use Rattle.std.specs.Prelude.{ℕ, ℤ, pos, List, [], ◌∷◌, unsigned_abs, nat_le, int_lt, Bool, true, false, ◌||◌, Option, Some, None, if◌then◌else◌}
 use Rattle.std.specs.List.{list_any}
 use Rattle.std.specs.Ordering.{int_eq}
@@ -90,15 +90,15 @@ is_above (Some lower) (Some upper) = int_lt upper lower
 is_above (Some lower) None = false
 is_above None upper = false
 
--- a lower bound above its upper bound (ANSI X3.9-1978, section 5.1.1.1)
+-- a lower bound above its upper bound (ANSI X3.9-1978, section 5.1.1.2)
 abbrev pub bound_is_empty : Values → BoundTree → Bool
 bound_is_empty values b = is_above (fixed_value values b.lower) (fixed_value values b.upper)
 
--- an array with such bounds (ANSI X3.9-1978, section 5.1.1.1)
+-- an array with such bounds (ANSI X3.9-1978, section 5.1.1.2)
 abbrev pub declarator_is_empty : Values → DeclaratorTree → Bool
 declarator_is_empty values d = list_any (bound_is_empty values) d.bounds
 
--- a declaration of such an array (ANSI X3.9-1978, section 5.1.1.1)
+-- a declaration of such an array (ANSI X3.9-1978, section 5.1.1.2)
 abbrev pub decl_is_empty : Values → DeclTree → Bool
 decl_is_empty values d = list_any (declarator_is_empty values) (declarators d)
 

@@ -72,7 +72,7 @@ impl Model for Symbols {
 }
 
 impl Symbols {
-    /// What the name stands for: none exactly where the program doesn't use it, be it that PROGRAM names it.
+    /// What the name stands for: none exactly where it doesn't occur, or only in PROGRAM.
     pub fn kind(&self, name: &Name) -> Option<Kind>
         ensures { result ≡ entry_of self.now.kinds name.now }
     {

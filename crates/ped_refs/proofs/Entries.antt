@@ -12,7 +12,7 @@ use Rattle.ped_names.proofs.Collected.{among_collected}
 use Rattle.ped_names.proofs.SameAccesses.{same_accesses}
 use Rattle.ped_refs.specs.References.{Reference, numbered_accesses, statement_references, statements_references, references, outermost_number, outermost}
 use Rattle.ped_refs.specs.ListedReferences.{ref_name, ref_of}
-use Rattle.ped_refs.specs.Listing.{access, accesses_of, Entry, Round, in_loop, numbered_entries, own_entries, statement_entries, statements_entries, refs_of, outer_of}
+use Rattle.ped_refs.specs.Listing.{accesses_of, Entry, Round, in_loop, numbered_entries, own_entries, statement_entries, statements_entries, refs_of, outer_of}
 use Rattle.ped_refs.specs.declared.accesses.Access.{Access}
 use Rattle.ped_refs.specs.declared.references.Ref.{Ref}
 
@@ -79,6 +79,7 @@ mutual
     where
       own : List Reference
       own = numbered_accesses (before + 1) 1 nest (plain.own_accesses c (indices_of nest) (If condition a b))
+
       behind : before + 1 + 1 + statements_count a ≡ before + 1 + statements_count a + 1
       behind = omega arith
   statement_are c d h nest before (Do head body) =

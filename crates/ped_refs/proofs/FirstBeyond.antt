@@ -1,5 +1,5 @@
 -- The first statement at which there are too many pairs.
-use Rattle.std.proofs.Common.{◌≡◌, ℕ, suc, ◌+◌, ◌<◌, ◌≤◌, List, [], ◌∷◌, ◌++◌, take, drop, length, get_or, filter, add-one, refl, ap, sym, ◌∙◌, subst, arith}
+use Rattle.std.proofs.Common.{◌≡◌, ℕ, suc, ◌+◌, ◌<◌, ◌≤◌, List, ◌++◌, take, drop, length, get_or, add-one, ap, sym, ◌∙◌, subst, arith}
 use Rattle.std.specs.Prelude.{nat_le}
 use Rattle.std.proofs.lemmas.List.{append-nil, take-append-drop}
 use Rattle.std.proofs.lemmas.List.Elements.{filter-append}
@@ -25,11 +25,11 @@ pub beyond_is : (low high : ℕ) (refs : List Reference) (i : ℕ) (d : Referenc
     → most_pairs < pair_count (take (i + 1) refs) → pair_count (take i refs) ≤ most_pairs → IsFirstBeyond refs (get_or refs i d).statement
 beyond_is low high refs i d order within more few = record {
   beyond =
-    let s : ℕ = (get_or refs i d).statement in
-    let e : references_until s refs ≡ take (suc i) refs ++ references_until s (drop (suc i) refs) = parted s refs (suc i) ∙ ap (λ (x : List Reference). x ++ references_until s (drop (suc i) refs)) (front_kept low high refs i d order within) in
-    let all : most_pairs < pair_count (take (suc i) refs) = subst (λ (n : ℕ). most_pairs < pair_count (take n refs)) (add-one i) more in
-    omega (arith, all, front-le (take (suc i) refs) (references_until s (drop (suc i) refs)), ap pair_count e);
+      let s : ℕ = (get_or refs i d).statement in
+      let e : references_until s refs ≡ take (suc i) refs ++ references_until s (drop (suc i) refs) = parted s refs (suc i) ∙ ap (λ (x : List Reference). x ++ references_until s (drop (suc i) refs)) (front_kept low high refs i d order within) in
+      let all : most_pairs < pair_count (take (suc i) refs) = subst (λ (n : ℕ). most_pairs < pair_count (take n refs)) (add-one i) more in
+      omega (arith, all, front-le (take (suc i) refs) (references_until s (drop (suc i) refs)), ap pair_count e);
   within_before = λ k less.
-    let e : references_until k refs ≡ references_until k (take i refs) = parted k refs i ∙ ap (λ (x : List Reference). references_until k (take i refs) ++ x) (rest_left_out low high refs i d k order within less) ∙ append-nil (references_until k (take i refs)) in
-    omega (arith, few, until-le k (take i refs), ap pair_count e);
+      let e : references_until k refs ≡ references_until k (take i refs) = parted k refs i ∙ ap (λ (x : List Reference). references_until k (take i refs) ++ x) (rest_left_out low high refs i d k order within less) ∙ append-nil (references_until k (take i refs)) in
+      omega (arith, few, until-le k (take i refs), ap pair_count e);
 }

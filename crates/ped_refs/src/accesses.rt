@@ -68,11 +68,7 @@ fn add_statement(
 }
 
 /// Adds the accesses of a DO statement: its bounds, and a write of each private name.
-fn add_do(
-    found: &mut Vec<Access>,
-    around: &Surroundings,
-    d: &Do,
-) -> Result<(), NoMemory>
+fn add_do(found: &mut Vec<Access>, around: &Surroundings, d: &Do) -> Result<(), NoMemory>
     ensures { OnOk result (found.new.items ≡ found.old.items ++ accesses_of (Spec.expr_reads around.now.constants.now around.now.variables.now (expr_tree d.now.first)
         ++ Spec.expr_reads around.now.constants.now around.now.variables.now (expr_tree d.now.last)
         ++ Spec.private_writes around.now.constants.now d.now.private)) }
@@ -165,11 +161,7 @@ fn add_targets(
 }
 
 /// Adds what a left side reads, and then its write.
-fn add_left(
-    found: &mut Vec<Access>,
-    around: &Surroundings,
-    left: &Expr,
-) -> Result<(), NoMemory>
+fn add_left(found: &mut Vec<Access>, around: &Surroundings, left: &Expr) -> Result<(), NoMemory>
     ensures { OnOk result (found.new.items ≡ found.old.items ++ accesses_of (Spec.left_accesses around.now.constants.now around.now.variables.now (expr_tree left.now))) }
 {
     match left {
@@ -213,11 +205,7 @@ fn add_cond(
 
 /// Adds what an expression reads.
 #[cycle(expressions)]
-fn add_expr(
-    found: &mut Vec<Access>,
-    around: &Surroundings,
-    e: &Expr,
-) -> Result<(), NoMemory>
+fn add_expr(found: &mut Vec<Access>, around: &Surroundings, e: &Expr) -> Result<(), NoMemory>
     ensures { OnOk result (found.new.items ≡ found.old.items ++ accesses_of (Spec.expr_reads around.now.constants.now around.now.variables.now (expr_tree e.now))) }
 {
     match e {
@@ -241,11 +229,7 @@ fn add_expr(
 }
 
 /// Adds the read of a scalar, where it is neither the variable of a DO nor a constant.
-fn add_scalar(
-    found: &mut Vec<Access>,
-    around: &Surroundings,
-    name: &Name,
-) -> Result<(), NoMemory>
+fn add_scalar(found: &mut Vec<Access>, around: &Surroundings, name: &Name) -> Result<(), NoMemory>
     ensures { OnOk result (found.new.items ≡ found.old.items ++ accesses_of (Spec.expr_reads around.now.constants.now around.now.variables.now (Tree.Var name.now))) }
 {
     if is_among(name, around.variables) {
@@ -256,11 +240,7 @@ fn add_scalar(
 
 /// Adds what subscripts or arguments read.
 #[cycle(expressions)]
-fn add_exprs(
-    found: &mut Vec<Access>,
-    around: &Surroundings,
-    exprs: &[Expr],
-) -> Result<(), NoMemory>
+fn add_exprs(found: &mut Vec<Access>, around: &Surroundings, exprs: &[Expr]) -> Result<(), NoMemory>
     ensures { OnOk result (found.new.items ≡ found.old.items ++ accesses_of (Spec.exprs_reads around.now.constants.now around.now.variables.now (pack_exprs (map expr_tree exprs.now)))) }
 {
     for e in exprs {

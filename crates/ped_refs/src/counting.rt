@@ -143,7 +143,11 @@ fn with_reference(tally: Tally, writes: bool) -> Tally
 {
     Tally {
         references: tally.references + 1,
-        writes: if writes { tally.writes + 1 } else { tally.writes },
+        writes: if writes {
+            tally.writes + 1
+        } else {
+            tally.writes
+        },
     }
 }
 

@@ -128,11 +128,7 @@ fn add_body(
 }
 
 /// The variables with one more behind them.
-fn with_variable(
-    alloc: Global,
-    variables: &[Name],
-    variable: Name,
-) -> Result<Vec<Name>, NoMemory>
+fn with_variable(alloc: Global, variables: &[Name], variable: Name) -> Result<Vec<Name>, NoMemory>
     ensures { IfOk result (λ all. all.items ≡ variables.now ++ variable ∷ []) }
 {
     let mut all = variables.to_vec(alloc)?;

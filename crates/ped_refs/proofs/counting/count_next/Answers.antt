@@ -1,6 +1,6 @@
-use Rattle.std.proofs.Common.{ℕ, ◌+◌, ◌*◌, ◌≤◌, take, length, ap, arith}
+use Rattle.std.proofs.Common.{ℕ, ◌+◌, take, ap, arith}
 use Rattle.std.proofs.lemmas.List.{length-take-le}
-use Rattle.ped_refs.proofs.CountingSteps.{outside_counted, tally_small, inside_counted, pair_count-le, squares}
+use Rattle.ped_refs.proofs.CountingSteps.{outside_counted, tally_small, inside_counted, squares}
 use Rattle.ped_refs.proofs.counting.count_next.Goals as goal
 
 pub returns-then-outer-eq0 : goal.returns-then-outer-eq0

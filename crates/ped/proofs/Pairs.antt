@@ -12,10 +12,10 @@ use Rattle.ped_views.specs.Vectors.{AreThose, IsPossible, AreVectors}
 use Rattle.ped_tree.specs.Tree.{Int, Var}
 use Rattle.ped_tree.specs.Nests.{Loop}
 use Rattle.ped_tree.specs.Accesses.{Access, read_of, write_of, expr_reads}
-use Rattle.ped_refs.specs.References.{Reference, numbered_accesses, references}
+use Rattle.ped_refs.specs.References.{Reference, numbered_accesses, references, pairs}
 use Rattle.ped_base.specs.Lists.{is_same_text}
 use Rattle.ped_graph.specs.Edges as plain
-use Rattle.ped_graph.specs.Edges.{pairs, proven, pending, runs_twice, PairEdges, EdgesOfPairs, AreEdges}
+use Rattle.ped_graph.specs.Edges.{proven, pending, runs_twice, PairEdges, EdgesOfPairs, AreEdges}
 use Rattle.ped_affine.specs.Affine.{Affine, affine, affine_of, combination, within_limits, subscript_pair, view_by as view_options, view_of}
 use Rattle.ped.specs.declared.small_form.Subscript.{Subscript}
 use Rattle.ped.specs.declared.small_form.Subscript.TheVariants.{Plain, Plus, Minus}

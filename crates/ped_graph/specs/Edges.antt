@@ -9,7 +9,7 @@ use Rattle.ped_views.specs.Views.{Range, SubscriptPair, View}
 use Rattle.ped_views.specs.Forms.{Form, ziv, strong_siv, weak_zero_siv, weak_crossing_siv, other_form, form_of}
 use Rattle.ped_views.specs.Vectors.{AreVectors, distance}
 use Rattle.ped_tree.specs.Tree.{ProgramTree}
-use Rattle.ped_refs.specs.References.{Reference, is_pair, comes_before, references}
+use Rattle.ped_refs.specs.References.{Reference, comes_before, references, pairs}
 use Rattle.ped_base.specs.Lists.{has_some}
 use Rattle.ped_affine.specs.Affine.{view_of}
 
@@ -166,10 +166,6 @@ pub record PairEdges (source sink : Reference) (edges : List Edge) : Type 0 wher
 abbrev pub EdgesOfPairs : List (Reference × Reference) → List Edge → Type 0
 EdgesOfPairs [] edges = edges ≡ []
 EdgesOfPairs (p ∷ ps) edges = (first : List Edge) × (rest : List Edge) × (edges ≡ first ++ rest) × PairEdges p.0 p.1 first × EdgesOfPairs ps rest
-
--- all ordered pairs of references, possibly one twice, in the order of the sources and then of the sinks (Allen and Kennedy, section 3.2)
-abbrev pub pairs : List Reference → List (Reference × Reference)
-pairs refs = flat_map (λ source. map (λ sink. (source, sink)) (filter (is_pair source) refs)) refs
 
 -- these are the dependences of the program, in the order of the pane (Allen and Kennedy, section 3.2; ParaScope)
 abbrev pub AreEdges : ProgramTree → List Edge → Type 0

@@ -1,9 +1,9 @@
 -- One step of counting: the reference at a place, behind those before it.
-use Rattle.std.proofs.Common.{◌≡◌, ℕ, zero, suc, ◌+◌, ◌-◌, ◌*◌, ◌<◌, ◌≤◌, ◌^◌, List, [], ◌∷◌, ◌++◌, map, take, length, get_or, Bool, true, false, not, eqb, refl, ap, sym, ◌∙◌, subst, arith}
+use Rattle.std.proofs.Common.{◌≡◌, ℕ, zero, suc, ◌+◌, ◌-◌, ◌*◌, ◌<◌, ◌≤◌, ◌^◌, List, [], ◌∷◌, ◌++◌, take, length, get_or, true, false, eqb, ap, sym, ◌∙◌, subst, arith}
 use Rattle.std.specs.Prelude.{if◌then◌else◌}
 use Rattle.std.proofs.lemmas.Bool.{ne_eqb}
 use Rattle.std.proofs.lemmas.Nat.{mul-le}
-use Rattle.std.proofs.lemmas.List.{take_more, get_or-map, length-take-le}
+use Rattle.std.proofs.lemmas.List.{take_more, get_or-map, length-map, length-take-le}
 use Rattle.ped_refs.specs.References.{Reference, is_pair, pair_count, outermost}
 use Rattle.ped_refs.specs.ListedReferences.{ref_of}
 use Rattle.ped_refs.specs.Tallies.{AreNumbered, AreListed, IsCounted, Tallies, group, group_of, is_same_group, tally_at, tally_with, with_reference, pairs_with}
@@ -34,7 +34,10 @@ pub pair_count-le : (refs : List Reference) → pair_count refs ≤ length refs 
 pair_count-le refs = omega (arith, pair_count_is refs, related-le is_pair refs)
 
 module _ (listed : List Reference) (refs : Refs) (i : ℕ) (items : List Ref) (outer : List ℕ)
-    (are : AreListed listed refs) (items_are : items ≡ refs.items) (outer_are : outer ≡ refs.outer) (within : i < length listed) where
+    (are : AreListed listed refs) (items_are : items ≡ refs.items) (outer_are : outer ≡ refs.outer) (inside : i < length refs.items) where
+  within : i < length listed
+  within = omega (arith, inside, ap length are.items, length-map listed ref_of)
+
   -- the reference at the place
   abbrev pub place : Reference
   place = get_or listed i no_reference
@@ -64,15 +67,15 @@ module _ (listed : List Reference) (refs : Refs) (i : ℕ) (items : List Ref) (o
   -- what was counted of the reference's group
   pub tally_is : (x : Ref) (table : Tallies) (total : ℕ) (tally : Tally) → x ≡ get_or items i x → (get_or outer i 0 ≡ 0 → ⊥)
       → tally ≡ tally_at table (group x.name (get_or outer i 0)) → IsCounted (take i listed) table total → tally ≡ tally_with place (take i listed)
-  tally_is x table total tally h inside t counted = t ∙ ap (tally_at table) (group_is x h) ∙ counted.tallies place (inside_is inside)
+  tally_is x table total tally h looped t counted = t ∙ ap (tally_at table) (group_is x h) ∙ counted.tallies place (inside_is looped)
 
   -- no more than there are references before it
   pub tally_small : (x : Ref) (table : Tallies) (total : ℕ) (tally : Tally) → x ≡ get_or items i x → (get_or outer i 0 ≡ 0 → ⊥)
       → tally ≡ tally_at table (group x.name (get_or outer i 0)) → IsCounted (take i listed) table total → (tally.references ≤ i) × (tally.writes ≤ i)
-  tally_small x table total tally h inside t counted =
-      let e = tally_is x table total tally h inside t counted in
+  tally_small x table total tally h looped t counted =
+      let e = tally_is x table total tally h looped t counted in
       let few = tally-le-length place (take i listed) in
-      let long : length (take i listed) ≡ i = length-take-le i listed (omega arith) in
+      let long : length (take i listed) ≡ i = length-take-le i listed (omega (arith, within)) in
       (omega (arith, ap (λ (y : Tally). y.references) e, few.0, long), omega (arith, ap (λ (y : Tally). y.writes) e, few.1, long))
 
   -- behind a reference in a DO loop
@@ -81,7 +84,7 @@ module _ (listed : List Reference) (refs : Refs) (i : ℕ) (items : List Ref) (o
       → ((other : Group) → tally_at new other ≡ (if is_same_group (group x.name (get_or outer i 0)) other then more else tally_at old other))
       → sum ≡ total + pairs_with tally x.writes
       → IsCounted (take i listed) old total → IsCounted (take (i + 1) listed) new sum
-  inside_counted x old new total sum tally more h inside t m put s counted =
+  inside_counted x old new total sum tally more h looped t m put s counted =
       let item = item_is x h in
       let same = group_is x h in
       let own : tally ≡ tally_at old (group_of place) = t ∙ ap (tally_at old) same in
@@ -90,7 +93,7 @@ module _ (listed : List Reference) (refs : Refs) (i : ℕ) (items : List Ref) (o
       let sums : sum ≡ total + pairs_with (tally_at old (group_of place)) place.access.writes = s ∙ (λ j. total + pairs_with (own j) (item j).writes) in
       subst (λ (refs : List Reference). IsCounted refs new sum) (sym more_is)
       (subst (λ (n : ℕ). IsCounted (take i listed ++ place ∷ []) new n) (sym sums)
-      (counted_inside place (take i listed) old new total (numbered_at listed i no_reference within are.numbered) (numbered_take listed i are.numbered) (inside_is inside) puts counted))
+      (counted_inside place (take i listed) old new total (numbered_at listed i no_reference within are.numbered) (numbered_take listed i are.numbered) (inside_is looped) puts counted))
 
 -- the number of pairs of a list of i + 1 references, fewer than 2^32, fits 64 bits
 pub squares : (sum : ℕ) (refs : List Reference) (i : ℕ) → sum ≡ pair_count refs → length refs ≡ i + 1 → i + 1 < 2 ^ 32 → sum < 2 ^ 64

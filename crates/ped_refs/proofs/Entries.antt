@@ -12,7 +12,7 @@ use Rattle.ped_names.proofs.Collected.{among_collected}
 use Rattle.ped_names.proofs.SameAccesses.{same_accesses}
 use Rattle.ped_refs.specs.References.{Reference, numbered_accesses, statement_references, statements_references, references, outermost_number, outermost}
 use Rattle.ped_refs.specs.ListedReferences.{ref_name, ref_of}
-use Rattle.ped_refs.specs.Listing.{access, accesses_of, Entry, Round, in_loop, numbered_entries, own_entries, statement_entries, statements_entries, refs_of, outer_of}
+use Rattle.ped_refs.specs.Listing.{accesses_of, Entry, Round, in_loop, numbered_entries, own_entries, statement_entries, statements_entries, refs_of, outer_of}
 use Rattle.ped_refs.specs.declared.accesses.Access.{Access}
 use Rattle.ped_refs.specs.declared.references.Ref.{Ref}
 

@@ -1,5 +1,5 @@
 -- Two groups are equal where their names and their outermost DO loops are.
-use Rattle.std.proofs.Common.{◌≡◌, ℕ, Bool, true, false, cond, ◌&&◌, eqb, Option, Some, refl, ap, subst, ◌∙◌}
+use Rattle.std.proofs.Common.{◌≡◌, Bool, true, false, cond, ◌&&◌, eqb, Option, Some, refl, ap, subst, ◌∙◌}
 use Rattle.std.specs.Prelude.{unwrap_or, if◌then◌else◌}
 use Rattle.indexmap.specs.IndexMap.{get, Updates}
 use Rattle.ped_names.proofs.NameEquality.{name_same}

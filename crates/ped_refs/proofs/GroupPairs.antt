@@ -1,21 +1,20 @@
 -- Pairs of references by groups: those of one name with one outermost DO.
-use Rattle.std.proofs.Common.{◌≡◌, ℕ, ◌+◌, ◌*◌, ◌≤◌, List, [], ◌∷◌, ◌++◌, map, filter, length, Bool, true, false, cond, not, ◌&&◌, eqb, eqb-true, inl, inr, refl, ap, sym, ◌∙◌, subst, arith}
+use Rattle.std.proofs.Common.{◌≡◌, ℕ, ◌+◌, List, [], ◌∷◌, ◌++◌, map, filter, Bool, true, false, cond, not, ◌&&◌, eqb, eqb-true, inl, inr, refl, ap, sym, ◌∙◌, arith}
 use Rattle.std.specs.Prelude.{◌||◌, count_by, codes, if◌then◌else◌}
-use Rattle.std.specs.List.{sum_by, flat_map}
+use Rattle.std.specs.List.{sum_by}
 use Rattle.std.proofs.lemmas.Bool.{and_parts, cases_Bool}
 use Rattle.std.proofs.lemmas.List.{length-map}
 use Rattle.std.proofs.lemmas.List.Concat.{length-flat_map}
-use Rattle.std.proofs.lemmas.List.Sums.{length-filter, sum_by-cons}
+use Rattle.std.proofs.lemmas.List.Sums.{length-filter}
 use Rattle.ped_base.specs.Lists.{has_some, is_same_text}
 use Rattle.ped_tree.specs.Nests.{Loop, common_nest}
 use Rattle.ped_names.proofs.NameEquality.{same_flip, same_is, same_itself}
-use Rattle.ped_refs.specs.References.{Reference, is_pair, pairs, pair_count, outermost, outermost_number}
+use Rattle.ped_refs.specs.References.{Reference, is_pair, pair_count, outermost, outermost_number}
 use Rattle.ped_refs.specs.ListedReferences.{ref_name}
-use Rattle.ped_refs.specs.Tallies.{AreNumbered, is_same_name, is_same_group, group_of, is_together, tally_with, with_reference, pairs_with}
+use Rattle.ped_refs.specs.Tallies.{is_same_name, is_same_group, group_of, is_together, tally_with, with_reference}
 use Rattle.ped_refs.specs.declared.references.RefName.{RefName}
 use Rattle.ped_refs.specs.declared.references.RefName.TheVariants.{Named, In, Out}
-use Rattle.ped_refs.specs.declared.counting.Tally.{Tally}
-use Rattle.ped_refs.proofs.RelatedPairs.{related, related_push, related-append-le, related-filter-le, related-le, count_by_push}
+use Rattle.ped_refs.proofs.RelatedPairs.{related, count_by_push}
 
 -- the ordered pairs are those that the test tells
 pub pair_count_is : (refs : List Reference) → pair_count refs ≡ related is_pair refs

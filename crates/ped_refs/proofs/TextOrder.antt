@@ -1,5 +1,5 @@
 -- The references of a program stand in text order, and DO loops round them have numbers from 1 on.
-use Rattle.std.proofs.Common.{◌≡◌, ℕ, zero, suc, ◌+◌, ◌<◌, ◌≤◌, List, [], ◌∷◌, ◌++◌, take, drop, length, get_or, filter, Bool, true, false, not, eqb, eqb-true, leb, refl, ap, sym, ◌∙◌, subst, arith}
+use Rattle.std.proofs.Common.{◌≡◌, ℕ, zero, suc, ◌+◌, ◌<◌, ◌≤◌, List, [], ◌∷◌, ◌++◌, take, drop, length, get_or, filter, Bool, true, false, not, eqb, refl, ap, sym, arith}
 use Rattle.std.specs.Prelude.{nat_le, if◌then◌else◌}
 use Rattle.std.proofs.lemmas.Bool.{ne_eqb, le-leb, lt-leb}
 use Rattle.ped_base.specs.Lists.{has_some}

@@ -1,5 +1,5 @@
 -- The list of references that the code keeps, by the references that it stands for (this project).
-use Rattle.std.specs.Prelude.{◌≡◌, ℕ, List, map, codes, if◌then◌else◌}
+use Rattle.std.specs.Prelude.{◌≡◌, ℕ, ◌^◌, ◌<◌, List, map, length, codes, if◌then◌else◌}
 use Rattle.ped_base.specs.Lists.{is_same_text}
 use Rattle.ped_tree.specs.Tree.{ProgramTree}
 use Rattle.ped_refs.specs.References.{Reference, references, outermost}
@@ -20,3 +20,9 @@ ref_of r = record { statement = r.statement; number = r.number; name = ref_name 
 pub record AreReferences (t : ProgramTree) (refs : Refs) : Type 0 where
   pub items : refs.items ≡ map ref_of (references t)
   pub outer : refs.outer ≡ map outermost (references t)
+
+-- the list has the references of some program, which has fewer than 2^32
+pub record AreOfProgram (refs : Refs) : Type 0 where
+  pub tree : ProgramTree
+  pub are : AreReferences tree refs
+  pub few : length (references tree) < 2 ^ 32

@@ -1,5 +1,5 @@
 -- How pairs of references are counted by groups of references that can pair with each other. Contracts of private functions alone speak of these definitions.
-use Rattle.std.specs.Prelude.{◌≡◌, ℕ, ◌+◌, ◌*◌, ◌^◌, ◌<◌, List, [], ◌∷◌, map, length, Bool, true, false, ◌==◌, ◌&&◌, not, count_by, unwrap_or, if◌then◌else◌}
+use Rattle.std.specs.Prelude.{◌≡◌, ℕ, ◌+◌, ◌*◌, List, [], ◌∷◌, map, take, Bool, true, false, ◌==◌, ◌&&◌, not, count_by, unwrap_or, if◌then◌else◌}
 use Rattle.std.specs.declared.hash.FoldHasher.{FoldHasher}
 use Rattle.std.specs.declared.hash.BuildHasherDefault.{BuildHasherDefault}
 use Rattle.indexmap.specs.IndexMap.{IndexMap, get}
@@ -72,14 +72,17 @@ abbrev pub AreNumbered : List Reference → Type 0
 AreNumbered [] = Unit {0}
 AreNumbered (r ∷ rs) = (has_some r.nest ≡ not (outermost r == 0)) × AreNumbered rs
 
--- the list has these references, and they are fewer than 2^32
+-- the list has these references
 pub record AreListed (listed : List Reference) (refs : Refs) : Type 0 where
   pub items : refs.items ≡ map ref_of listed
   pub outer : refs.outer ≡ map outermost listed
   pub numbered : AreNumbered listed
-  pub few : length listed < 2 ^ 32
 
 -- the table has the tallies of these references, and the number is that of their pairs
 pub record IsCounted (refs : List Reference) (groups : Tallies) (total : ℕ) : Type 0 where
   pub pairs : total ≡ pair_count refs
   pub tallies : (r : Reference) → outermost r == 0 ≡ false → tally_at groups (group_of r) ≡ tally_with r refs
+
+-- the table has the tallies of so many references of the list, and the number is that of their pairs
+abbrev pub AreCounted : Refs → ℕ → Tallies → ℕ → Type 0
+AreCounted refs count groups total = (listed : List Reference) → AreListed listed refs → IsCounted (take count listed) groups total

@@ -166,9 +166,9 @@ fn add_left(found: &mut Vec<Access>, around: &Surroundings, left: &Expr) -> Resu
 {
     match left {
         Expr::Var(name) => add_variable(found, around, name, true),
-        Expr::Element(name, subscripts) => {
+        Expr::Element(array, subscripts) => {
             add_exprs(found, around, subscripts)?;
-            add_variable(found, around, name, true)
+            add_variable(found, around, array, true)
         }
         Expr::Int(_)
         | Expr::Neg(_)

@@ -2,13 +2,13 @@
 //! one name and the same outermost DO, so a table of these groups tells in one pass how many pairs each
 //! reference adds.
 
-ghost use Rattle.std.specs.Prelude.{◌≡◌, ℕ, ◌+◌, ◌^◌, ◌<◌, ◌≤◌, List, take, length, IfOk, OnOk, MatchOption, if◌then◌else◌};
+ghost use Rattle.std.specs.Prelude.{◌≡◌, ◌+◌, ◌^◌, ◌<◌, ◌≤◌, length, IfOk, OnOk, MatchOption, if◌then◌else◌};
 ghost use Rattle.ped_tree.specs.Tree.{ProgramTree};
-ghost use Rattle.ped_refs.specs.References.{Reference, references, pair_count};
+ghost use Rattle.ped_refs.specs.References.{references, pair_count};
 ghost use Rattle.ped_refs.specs.PairLimit.{most_pairs, is_within_pair_limit, IsFirstBeyond};
-ghost use Rattle.ped_refs.specs.ListedReferences.{AreReferences};
+ghost use Rattle.ped_refs.specs.ListedReferences.{AreReferences, AreOfProgram};
 ghost use Rattle.ped_refs.specs.Tallies as Spec;
-ghost use Rattle.ped_refs.specs.Tallies.{AreListed, IsCounted, group, is_same_group, tally_at};
+ghost use Rattle.ped_refs.specs.Tallies.{AreCounted, group, is_same_group, tally_at};
 
 use crate::references::{RefName, Refs};
 use indexmap::IndexMap;
@@ -35,10 +35,8 @@ struct Tally {
 /// How many ordered pairs of references the program has whose references these are. The time is linear in
 /// the number of references.
 pub fn pairs(alloc: Global, refs: &Refs) -> Result<u64, NoMemory>
-    ghost tree: { ProgramTree }
-    requires references { AreReferences tree refs.now }
-    requires few { length (references tree) < 2 ^ 32 }
-    ensures { IfOk result (λ n. n ≡ pair_count (references tree)) }
+    requires { AreOfProgram refs.now }
+    ensures { IfOk result (λ n. (tree : ProgramTree) → AreReferences tree refs.now → n ≡ pair_count (references tree)) }
 {
     let mut groups = IndexMap::new(alloc);
     let mut total = 0;
@@ -50,10 +48,9 @@ pub fn pairs(alloc: Global, refs: &Refs) -> Result<u64, NoMemory>
 
 /// Whether the program whose references these are has no more ordered pairs than a program may have.
 pub fn within_limit(alloc: Global, refs: &Refs) -> Result<bool, NoMemory>
-    ghost tree: { ProgramTree }
-    requires references { AreReferences tree refs.now }
-    requires few { length (references tree) < 2 ^ 32 }
-    ensures { IfOk result (λ within. within ≡ is_within_pair_limit (references tree)) }
+    requires { AreOfProgram refs.now }
+    ensures { IfOk result (λ within. (tree : ProgramTree) → AreReferences tree refs.now
+        → within ≡ is_within_pair_limit (references tree)) }
 {
     Ok(pairs(alloc, refs)? <= MOST_PAIRS)
 }
@@ -61,11 +58,9 @@ pub fn within_limit(alloc: Global, refs: &Refs) -> Result<bool, NoMemory>
 /// The first statement at which the ordered pairs among the references so far are more than a program may
 /// have, none where there are never so many. The time is linear in the number of references.
 pub fn first_beyond_limit(alloc: Global, refs: &Refs) -> Result<Option<u32>, NoMemory>
-    ghost tree: { ProgramTree }
-    requires references { AreReferences tree refs.now }
-    requires few { length (references tree) < 2 ^ 32 }
-    ensures { IfOk result (λ first. MatchOption first (pair_count (references tree) ≤ most_pairs)
-        (λ number. IsFirstBeyond (references tree) number)) }
+    requires { AreOfProgram refs.now }
+    ensures { IfOk result (λ first. (tree : ProgramTree) → AreReferences tree refs.now
+        → MatchOption first (pair_count (references tree) ≤ most_pairs) (λ number. IsFirstBeyond (references tree) number)) }
 {
     let mut groups = IndexMap::new(alloc);
     let mut total = 0;
@@ -86,11 +81,10 @@ fn count_next(
     refs: &Refs,
     i: usize,
 ) -> Result<u64, NoMemory>
-    ghost listed: { List Reference }
-    requires listed { AreListed listed refs.now }
-    requires within { i < length listed }
-    requires counted { IsCounted (take i listed) groups.old total }
-    ensures { IfOk result (λ sum. IsCounted (take (i + 1) listed) groups.new sum) }
+    requires listed { AreOfProgram refs.now }
+    requires within { i < length refs.now.items }
+    requires counted { AreCounted refs.now i groups.old total }
+    ensures { IfOk result (λ sum. AreCounted refs.now (i + 1) groups.new sum) }
 {
     let reference = refs.items.as_slice()[i];
     let outer = refs.outer.as_slice()[i];

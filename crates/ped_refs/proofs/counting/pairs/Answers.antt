@@ -1,9 +1,9 @@
-use Rattle.std.proofs.Common.{arith}
-use Rattle.ped_refs.proofs.ListedProgram.{program_listed, length-listed}
+use Rattle.std.proofs.Common.{ap, ◌∙◌, arith}
+use Rattle.ped_refs.specs.References.{references, pair_count}
+use Rattle.ped_refs.proofs.ListedProgram.{program_listed, all_taken}
 use Rattle.ped_refs.proofs.counting.pairs.Goals as goal
 
-pub count_next-requires : goal.count_next-requires
-count_next-requires g c = (
-  program_listed g.tree c.args.refs.now c.requires.0 c.requires.1,
-  (omega (arith, length-listed g.tree c.args.refs.now c.requires.0, c.loop-i-test.true, c.len-i-end.ensures), c.loop-i.invariant),
-)
+pub returns : goal.returns
+returns c = λ tree are.
+    (c.loop-i.invariant (references tree) (program_listed tree c.args.refs.now are)).pairs
+    ∙ ap pair_count (all_taken tree c.args.refs.now c.loop-i.i are (omega (arith, c.loop-i-test.false, c.len-i-end.ensures)))

@@ -1,10 +1,5 @@
-use Rattle.std.proofs.Common.{take}
-use Rattle.ped_refs.specs.References.{references}
-use Rattle.ped_refs.specs.Tallies.{IsCounted}
+use Rattle.ped_refs.specs.Tallies.{AreCounted}
 use Rattle.ped_refs.proofs.counting.pairs.Given as goal
 
-abbrev pub ghost-count_next : goal.ghost-count_next
-ghost-count_next g a = references g.tree
-
 abbrev pub invariant-loop-i : goal.invariant-loop-i
-invariant-loop-i g l = IsCounted (take l.i (references g.tree)) l.groups l.total
+invariant-loop-i l = AreCounted l.refs l.i l.groups l.total

@@ -1,4 +1,3 @@
-use Rattle.std.proofs.Common.{◌≡◌, ◌∙◌}
 use Rattle.ped_refs.specs.Tallies.{group}
 use Rattle.ped_refs.proofs.GroupEquality.{got_is}
 use Rattle.ped_refs.proofs.counting.tally_of.Goals as goal

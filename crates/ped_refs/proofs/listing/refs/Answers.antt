@@ -1,4 +1,4 @@
-use Rattle.std.proofs.Common.{◌≡◌, [], ◌++◌, List, ℕ, map, length, ap, sym, ◌∙◌, arith}
+use Rattle.std.proofs.Common.{[], ◌++◌, List, ℕ, map, length, ap, sym, ◌∙◌, arith}
 use Rattle.std.proofs.lemmas.List.{length-map}
 use Rattle.ped_tree.specs.Tree.{ProgramTree}
 use Rattle.ped_tree.specs.Views.{stmt_trees, decl_tree, program_tree}

@@ -3,3 +3,4 @@ pub mod Dividing
 mod Equal
 pub mod Images
 pub mod Products
+mod Twos

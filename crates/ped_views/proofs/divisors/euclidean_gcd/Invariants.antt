@@ -1,6 +1,6 @@
 use Rattle.std.proofs.Common.{ℕ, ◌<◌, ◌^◌}
 use Rattle.std.specs.Int.{IsGcd}
-use Rattle.ped_views.proofs.divisors.gcd_of_sizes.Given as goal
+use Rattle.ped_views.proofs.divisors.euclidean_gcd.Given as goal
 
 -- x and y have the greatest common divisor of a and b
 abbrev pub invariant-loop-y : goal.invariant-loop-y

@@ -169,8 +169,8 @@ ziv 2000000000
 strong 400000000
 weak_zero 400000000
 weak_crossing 400000000
-gcd 40000000
-gcd_slowest 4000000
+gcd 80000000
+gcd_slowest 20000000
 banerjee 80000000
 END
 

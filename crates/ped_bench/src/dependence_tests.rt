@@ -171,12 +171,13 @@ fn position(alloc: Global) -> Result<Position, NoMemory>
     })
 }
 
-/// Coefficients that Euclid's algorithm takes longest for, the greatest neighbours below 2^31 of Fibonacci's sequence.
+/// Coefficients that greatest common divisors take longest for, 30 steps of the binary algorithm: no two numbers below
+/// 2^31 take more.
 fn slowest(alloc: Global) -> Result<Position, NoMemory> {
     Ok(Position {
         usable: true,
-        source: row(alloc, 1_836_311_903, 1_134_903_170, 0)?,
-        sink: row(alloc, 1_134_903_170, 1_836_311_903, 599)?,
+        source: row(alloc, 1_536_868_083, 1_983_170_395, 0)?,
+        sink: row(alloc, 1_983_170_395, 1_536_868_083, 599)?,
     })
 }
 

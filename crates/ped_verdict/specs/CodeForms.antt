@@ -1,5 +1,5 @@
 -- Contracts of private functions alone speak of how the code keeps forms of subscript pairs and sides of loops (this project).
-use Rattle.std.specs.Prelude.{◌≡◌, ℕ, ℤ, pos, Bool, false, ◌&&◌, IsTrue, IsFalse}
+use Rattle.std.specs.Prelude.{◌≡◌, ◌⊎◌, ℕ, ◌<◌, ℤ, pos, neg_ℤ, Bool, false, ◌&&◌, IsTrue}
 use Rattle.ped_views.specs.Views.{SubscriptPair}
 use Rattle.ped_views.specs.Forms.{Occurrence, Form, ziv, strong_siv, weak_zero_siv, weak_crossing_siv, other_form, form_of}
 use Rattle.ped_views.specs.Vectors.{is_strong_in}
@@ -21,6 +21,18 @@ form_shown (Strong o) = strong_siv (occurrence_shown o)
 form_shown (WeakZero o) = weak_zero_siv (occurrence_shown o)
 form_shown (WeakCrossing o) = weak_crossing_siv (occurrence_shown o)
 form_shown Other = other_form
+
+-- one of the two is 0 and the other isn't
+abbrev pub HasOneZero : ℤ → ℤ → Type 0
+HasOneZero a b = ((a ≡ pos 0) × ¬ (b ≡ pos 0)) ⊎ (¬ (a ≡ pos 0) × (b ≡ pos 0))
+
+-- the loop is one of n, and its coefficients are those of the form
+abbrev pub IsSound : ℕ → CodeForm → Type 0
+IsSound n Ziv = Unit {0}
+IsSound n (Strong o) = (o.place < n) × ¬ (o.at_source ≡ pos 0) × (o.at_source ≡ o.at_sink)
+IsSound n (WeakZero o) = (o.place < n) × HasOneZero o.at_source o.at_sink
+IsSound n (WeakCrossing o) = (o.place < n) × ¬ (o.at_source ≡ pos 0) × (o.at_source ≡ neg_ℤ o.at_sink)
+IsSound n Other = Unit {0}
 
 -- the pair isn't usable, or isn't strong SIV in the loop at place k
 abbrev pub IsNotStrong : ℕ → SubscriptPair → Type 0

@@ -1,5 +1,5 @@
 -- Contracts of private functions alone speak of how the possible vectors of a view are marked in a row of 3^n places (this project).
-use Rattle.std.specs.Prelude.{◌≡◌, ◌⊎◌, ◌↔◌, ℕ, ◌+◌, ◌*◌, ◌^◌, List, [], ◌∷◌, ◌++◌, length, Bool}
+use Rattle.std.specs.Prelude.{◌≡◌, ◌⊎◌, ◌↔◌, ℕ, ◌+◌, ◌*◌, ◌^◌, ◌≤◌, List, [], ◌∷◌, ◌++◌, length, Bool}
 use Rattle.ped_views.specs.declared.directions.Direction.{Direction}
 use Rattle.ped_views.specs.declared.directions.Direction.TheVariants.{Before, Same, After}
 use Rattle.ped_views.specs.Views.{View}
@@ -21,8 +21,9 @@ place_of (d ∷ vector) = digit d * 3 ^ length vector + place_of vector
 abbrev pub BeginsWith : List Direction → List Direction → Type 0
 BeginsWith front vector = (rest : List Direction) × (front ++ rest ≡ vector)
 
--- there is a place for each vector over the common loops, and the row has those of the possible vectors
+-- there is a place for each vector over the common loops, at most six, and the row has those of the possible vectors
 pub record AreMarked (v : View) (row : List Bool) : Type 0 where
+  pub few : length v.loops ≤ 6
   pub wide : length row ≡ 3 ^ length v.loops
   pub marks : (vector : List Direction) → length vector ≡ length v.loops → Has row (place_of vector) ↔ IsPossible v vector
 

@@ -1,6 +1,7 @@
 //! The distance of a dependence in a common loop.
 
-ghost use Rattle.std.specs.Prelude.{◌≡◌, ◌<◌, pos, length, MatchOption};
+ghost use Rattle.std.specs.Prelude.{◌≡◌, ◌<◌, ◌-ℤ◌, ◌*ℤ◌, pos, length, MatchOption};
+ghost use Rattle.ped_views.specs.Whole.{whole_quotient};
 ghost use Rattle.ped_views.specs.Vectors as Spec;
 ghost use Rattle.ped_verdict.specs.CodeForms.{IsNotStrong, IsStrongBy};
 
@@ -24,10 +25,21 @@ fn first_distance(positions: &[Position], place: usize, step: i64) -> Option<i12
 {
     for position in positions {
         if let Some(a) = strong_coefficient(position, place) {
-            return strong_distance(a, position.source.constant, position.sink.constant, step);
+            return distance_by(position, a, step);
         }
     }
     None
+}
+
+/// The distance of a strong SIV pair with this coefficient, in a loop of this step.
+fn distance_by(position: &Position, a: i64, step: i64) -> Option<i128>
+    requires coefficient { ¬ (a ≡ pos 0) }
+    requires step { ¬ (step ≡ pos 0) }
+    ensures { result ≡ whole_quotient
+        (position.now.source.constant -ℤ position.now.sink.constant)
+        (a *ℤ step) }
+{
+    strong_distance(a, position.source.constant, position.sink.constant, step)
 }
 
 /// The coefficient of the loop at this place, where the position is usable and strong SIV in it.

@@ -4,7 +4,7 @@ ghost use Rattle.std.specs.Prelude.{◌≡◌, ◌||◌, not, length};
 ghost use Rattle.std.specs.List.{list_any};
 ghost use Rattle.ped_views.specs.Whole.{is_zero};
 ghost use Rattle.ped_views.specs.Forms as plain;
-ghost use Rattle.ped_verdict.specs.CodeForms.{form_shown, occurrence_shown};
+ghost use Rattle.ped_verdict.specs.CodeForms.{form_shown, occurrence_shown, IsSound};
 
 use ped_views::Position;
 
@@ -31,9 +31,10 @@ pub(crate) enum Form {
     Other,
 }
 
-/// The form of a subscript pair.
+/// The form of a subscript pair. Its loop is there, and its coefficients are those of the form.
 pub(crate) fn form_of(position: &Position) -> Form
-    ensures { form_shown result ≡ plain.form_of position.now }
+    ensures form { form_shown result ≡ plain.form_of position.now }
+    ensures sound { IsSound (length position.now.source.common) result }
 {
     if has_inner(position) {
         return Form::Other;

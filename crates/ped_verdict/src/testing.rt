@@ -5,7 +5,8 @@ ghost use Rattle.ped_views.specs.declared.directions.Direction.{Direction as Sig
 ghost use Rattle.ped_views.specs.Vectors as Spec;
 ghost use Rattle.ped_verdict.specs.Exactness as exactness;
 
-use crate::places::{place_of, vector_at};
+use crate::listing::listed;
+use crate::places::place_of;
 use crate::refining::possible_vectors;
 use crate::steps::Steps;
 use crate::vectors::Vector;
@@ -84,13 +85,7 @@ impl<L: Ledger> Verdict<L> {
     pub fn vectors(&self, alloc: Global) -> Result<Vec<Vector>, NoMemory>
         ensures { IfOk result (λ vectors. Spec.AreVectors self.now vectors.items) }
     {
-        let mut vectors = Vec::new(alloc);
-        for place in 0..self.possible.width() {
-            if self.possible.get(place) {
-                vectors.push(vector_at(self.view.loops.len(), place))?;
-            }
-        }
-        Ok(vectors)
+        listed(alloc, &self.view, &self.possible)
     }
 
     /// The distance in iterations of the common loop at this level, where the outermost is 1: by the first position

@@ -8,9 +8,6 @@ abbrev pub AreAhead : {X : Type 0} → (X → Type 0) → List X → ℕ → Lis
 AreAhead P xs i found = (rest : List _) → AreThose P (drop i xs) rest → AreThose P xs (found ++ rest)
 
 module _ {X : Type 0} (P : X → Type 0) (xs : List X) where
-  pub none_found : AreAhead P xs 0 []
-  none_found rest h = h
-
   pub one_found : (i : ℕ) (found : List X) (x : X) → i < length xs → get_or xs i x ≡ x → P x → AreAhead P xs i found → AreAhead P xs (i + 1) (found ++ x ∷ [])
   one_found i found x below is has ahead rest h =
       let d : drop i xs ≡ x ∷ drop (i + 1) xs = drop_more xs i x below ∙ ap (λ y. y ∷ drop (i + 1) xs) is in

@@ -7,6 +7,7 @@ use Rattle.ped_views.specs.declared.directions.Direction.TheVariants.{Before, Sa
 use Rattle.ped_views.specs.Views.{View}
 use Rattle.ped_views.specs.Vectors.{IsPossible, AreVectors, all_vectors}
 use Rattle.ped_bits.specs.Places.{Has}
+use Rattle.ped_verdict.specs.Dependence.{MayDepend}
 use Rattle.ped_verdict.specs.Marked.{place_of, BeginsWith, AreMarked, AreAdded}
 use Rattle.ped_verdict.proofs.Ordered.{at_place, place_below, place-same, length-all_vectors, all_vectors_at}
 use Rattle.ped_verdict.proofs.Chosen.{AreAhead, one_found, passed_over, all_found}
@@ -34,9 +35,6 @@ module _ (v : View) (front f1 f2 f3 : List Direction) (r0 r1 r2 r3 : List Bool)
     (short : length front < length v.loops) (e1 : f1 ≡ front ++ Before ∷ []) (e2 : f2 ≡ front ++ Same ∷ []) (e3 : f3 ≡ front ++ After ∷ [])
     (a1 : AreAdded v f1 r0 r1) (a2 : AreAdded v f2 r1 r2) (a3 : AreAdded v f3 r2 r3) where
   module _ (vector : List Direction) (l : length vector ≡ length v.loops) where
-    abbrev Old : Type 0
-    Old = Has r0 (place_of vector)
-
     abbrev Wanted : Type 0
     Wanted = Has r0 (place_of vector) ⊎ (BeginsWith front vector × IsPossible v vector)
 
@@ -81,10 +79,6 @@ module _ (v : View) (front f1 f2 f3 : List Direction) (r0 r1 r2 r3 : List Bool)
 whole : (vector w : List Direction) → length vector ≡ length w → BeginsWith vector w → vector ≡ w
 whole vector w l ([], e) = sym (append-nil vector) ∙ e
 whole vector w l (d ∷ rest, e) = let n = ap length e in let m = length-append vector (d ∷ rest) in absurd (omega arith)
-
--- a vector that isn't possible adds nothing
-pub added_unless : (v : View) (vector : List Direction) (row : List Bool) → length vector ≡ length v.loops → ¬ (IsPossible v vector) → AreAdded v vector row row
-added_unless v vector row l none = added_none v vector row (λ w m b p. none (subst (IsPossible v) (sym (whole vector w (l ∙ sym m) b)) p))
 
 -- a possible vector adds its place
 module _ (v : View) (vector : List Direction) (row new : List Bool) (l : length vector ≡ length v.loops) (wide : length row ≡ 3 ^ length v.loops) (possible : IsPossible v vector) (is : new ≡ slice_set row (place_of vector) true) where
@@ -131,7 +125,7 @@ all_marked v n front old row few e f o a = record {
     to vector (inr s) = s.1
 
 -- the place of some vector is in a row that isn't empty
-some_vector : (v : View) (row : List Bool) → AreMarked v row → (place : ℕ) → Has row place → (vector : List Direction) × (length vector ≡ length v.loops) × IsPossible v vector
+some_vector : (v : View) (row : List Bool) → AreMarked v row → (place : ℕ) → Has row place → MayDepend v
 some_vector v row m place h = elim (cases_lt place (length row)) [
   | inl below ↦
       let w = m.wide in
@@ -140,7 +134,7 @@ some_vector v row m place h = elim (cases_lt place (length row)) [
   | inr past ↦ let d = get_or_past row place false past in absurd (cc)
 ]
 
-pub has_some : (v : View) (row : List Bool) → AreMarked v row → (t : Bool) → (IsTrue t ↔ ((place : ℕ) × Has row place × Has row place)) → IsTrue t ↔ ((vector : List Direction) × (length vector ≡ length v.loops) × IsPossible v vector)
+pub has_some : (v : View) (row : List Bool) → AreMarked v row → (t : Bool) → (IsTrue t ↔ ((place : ℕ) × Has row place × Has row place)) → IsTrue t ↔ MayDepend v
 has_some v row m t h = (
   λ x. let s = h.0 x in some_vector v row m s.0 s.1,
   λ s. let p = (m.marks s.0 s.1).1 s.2 in h.1 (place_of s.0, p, p),

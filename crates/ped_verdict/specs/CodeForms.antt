@@ -1,4 +1,4 @@
--- Contracts of private functions alone speak of how the code keeps forms of subscript pairs and sides of loops (this project).
+-- How the code keeps forms of subscript pairs and sides of loops. Contracts of private functions alone speak of it.
 use Rattle.std.specs.Prelude.{◌≡◌, ◌⊎◌, ℕ, ◌<◌, ℤ, pos, neg_ℤ, Bool, false, ◌&&◌, IsTrue}
 use Rattle.ped_views.specs.Views.{SubscriptPair}
 use Rattle.ped_views.specs.Forms.{Occurrence, Form, ziv, strong_siv, weak_zero_siv, weak_crossing_siv, other_form, form_of}

@@ -1,4 +1,4 @@
--- Contracts of private functions alone speak of how the possible vectors of a view are marked in a row of 3^n places (this project).
+-- How the possible vectors of a view are marked in a row of 3^n places. Contracts of private functions alone speak of it.
 use Rattle.std.specs.Prelude.{◌≡◌, ◌⊎◌, ◌↔◌, ℕ, ◌+◌, ◌*◌, ◌^◌, ◌≤◌, List, [], ◌∷◌, ◌++◌, length, Bool}
 use Rattle.ped_views.specs.declared.directions.Direction.{Direction}
 use Rattle.ped_views.specs.declared.directions.Direction.TheVariants.{Before, Same, After}

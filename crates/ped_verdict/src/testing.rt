@@ -1,8 +1,8 @@
 //! The one call that tests a pair of references, and what it answers.
 
-ghost use Rattle.std.specs.Prelude.{◌≡◌, ◌+◌, ◌-◌, ◌≤◌, ◌↔◌, length, List, IfOk, IsTrue};
-ghost use Rattle.ped_views.specs.declared.directions.Direction.{Direction as Sign};
+ghost use Rattle.std.specs.Prelude.{◌≡◌, ◌+◌, ◌-◌, ◌≤◌, ◌↔◌, length, IfOk, IsTrue};
 ghost use Rattle.ped_views.specs.Vectors as Spec;
+ghost use Rattle.ped_verdict.specs.Dependence.{MayDepend};
 ghost use Rattle.ped_verdict.specs.Exactness as exactness;
 
 use crate::listing::listed;
@@ -76,7 +76,7 @@ impl<L: Ledger> Verdict<L> {
 
     /// Whether any vector is left: where none is, there is no dependence.
     pub fn has_vectors(&self) -> bool
-        ensures { IsTrue result ↔ ((vector : List Sign) × (length vector ≡ length self.now.loops) × Spec.IsPossible self.now vector) }
+        ensures { IsTrue result ↔ MayDepend self.now }
     {
         self.possible.meets(&self.possible)
     }

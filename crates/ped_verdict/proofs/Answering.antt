@@ -1,0 +1,87 @@
+-- What the tests of the forms answer for a position of a view: `v` is the view as the code reads it.
+use Rattle.std.proofs.Common.{◌≡◌, ◌⊎◌, ◌↔◌, ℕ, ◌<◌, pos, List, length, get_or, slice_get, Bool, false, IsTrue, Option, IfSome, refl, sym, ap, subst, ◌∙◌, inl, inr, arith}
+use Rattle.std.proofs.lemmas.List.{get_or_default}
+use Rattle.std.proofs.lemmas.Option.{slice_get_read}
+use Rattle.ped_views.specs.declared.directions.Direction.{Direction}
+use Rattle.ped_views.specs.declared.directions.Direction.TheVariants.{Before, Same}
+use Rattle.ped_views.specs.Views.{Range, range, SubscriptPair, View}
+use Rattle.ped_views.specs.Limits.{FitsLoops, IsView}
+use Rattle.ped_views.specs.Forms.{Occurrence, Form, strong_siv, weak_zero_siv, weak_crossing_siv, other_form, form_of}
+use Rattle.ped_views.specs.Excluded.{NeverMeets, NeverMeetsInStep, HasNoSolution, IsBeyondExtremes, FormExcludes, Excludes, loop_at, direction_at}
+
+-- an item that was read
+read : {X : Type 0} (items all : List X) (k : ℕ) (x d : X) → items ≡ all → k < length all → x ≡ get_or items k x → x ≡ get_or all k d
+read items all k x d e h r = r ∙ ap (λ ys. get_or ys k x) e ∙ get_or_default all k x d h
+
+module _ (v now : View) (shown : v ≡ now) (view : IsView v) (k : ℕ) (p : SubscriptPair) (below : k < length now.positions) (is : p ≡ get_or v.positions k p) where
+  is_now : p ≡ get_or now.positions k p
+  is_now = is ∙ ap (λ (w : View). get_or w.positions k p) shown
+
+  -- what holds of the position that was read holds of the one at its place, and the other way round
+  pub at_place : (P : SubscriptPair → Type 0) → P p → IfSome (slice_get now.positions k) P
+  at_place P held = subst (λ (o : Option SubscriptPair). IfSome o P) (sym (slice_get_read now.positions (length now.positions) k p refl below is_now)) held
+
+  pub of_place : (P : SubscriptPair → Type 0) → IfSome (slice_get now.positions k) P → P p
+  of_place P held = subst (λ (o : Option SubscriptPair). IfSome o P) (slice_get_read now.positions (length now.positions) k p refl below is_now) held
+
+  fits : FitsLoops (length now.loops) (length now.source_inner) (length now.sink_inner) p
+  fits = subst (FitsLoops (length now.loops) (length now.source_inner) (length now.sink_inner)) (sym is_now) ((subst IsView shown view).positions k p below)
+
+  module _ (vector : List Direction) (long : length vector ≡ length now.loops) (t : Bool) where
+    abbrev Says : SubscriptPair → Type 0
+    Says q = IsTrue t ↔ FormExcludes (form_of q) now q vector
+
+    abbrev Answers : Type 0
+    Answers = IfSome (slice_get now.positions k) Says
+
+    says : (f : Form) → f ≡ form_of p → (IsTrue t ↔ FormExcludes f now p vector) → Answers
+    says f e h = at_place Says (subst (λ (g : Form). IsTrue t ↔ FormExcludes g now p vector) e h)
+
+    -- the loop and the direction of the one common index
+    module _ (o : Occurrence) (r : Range) (placed : o.place < length p.source.common) (reads : r ≡ get_or v.loops o.place r) where
+      within : o.place < length now.loops
+      within = let s = fits.source_common in omega arith
+
+      its_loop : r ≡ loop_at now o.place
+      its_loop = read v.loops now.loops o.place r (range (pos 0) (pos 0) (pos 1) false) (ap (λ (w : View). w.loops) shown) within reads
+
+      its_direction : get_or vector o.place Before ≡ direction_at vector o.place
+      its_direction = get_or_default vector o.place Before Same (let w = within in omega arith)
+
+      pub says_strong : strong_siv o ≡ form_of p → (IsTrue t ↔ NeverMeetsInStep o.at_source o.at_sink p.source.constant p.sink.constant r (get_or vector o.place Before)) → Answers
+      says_strong e h =
+          says (strong_siv o) e
+          (subst (λ (d : Direction). IsTrue t ↔ NeverMeetsInStep o.at_source o.at_sink p.source.constant p.sink.constant (loop_at now o.place) d) its_direction
+          (subst (λ (x : Range). IsTrue t ↔ NeverMeetsInStep o.at_source o.at_sink p.source.constant p.sink.constant x (get_or vector o.place Before)) its_loop h))
+
+      met : (IsTrue t ↔ NeverMeets o.at_source o.at_sink p.source.constant p.sink.constant r (get_or vector o.place Before)) → IsTrue t ↔ NeverMeets o.at_source o.at_sink p.source.constant p.sink.constant (loop_at now o.place) (direction_at vector o.place)
+      met h =
+          subst (λ (d : Direction). IsTrue t ↔ NeverMeets o.at_source o.at_sink p.source.constant p.sink.constant (loop_at now o.place) d) its_direction
+          (subst (λ (x : Range). IsTrue t ↔ NeverMeets o.at_source o.at_sink p.source.constant p.sink.constant x (get_or vector o.place Before)) its_loop h)
+
+      pub says_weak_zero : weak_zero_siv o ≡ form_of p → (IsTrue t ↔ NeverMeets o.at_source o.at_sink p.source.constant p.sink.constant r (get_or vector o.place Before)) → Answers
+      says_weak_zero e h = says (weak_zero_siv o) e (met h)
+
+      pub says_weak_crossing : weak_crossing_siv o ≡ form_of p → (IsTrue t ↔ NeverMeets o.at_source o.at_sink p.source.constant p.sink.constant r (get_or vector o.place Before)) → Answers
+      says_weak_crossing e h = says (weak_crossing_siv o) e (met h)
+
+    -- Banerjee's test excludes
+    pub says_beyond : other_form ≡ form_of p → IsTrue t → IfSome (slice_get now.positions k) (λ q. IsTrue t ↔ IsBeyondExtremes now q vector) → Answers
+    says_beyond e holds h = says other_form e (λ x. inr ((of_place (λ q. IsTrue t ↔ IsBeyondExtremes now q vector) h).0 holds), λ x. holds)
+
+    -- it doesn't, and the GCD test decides
+    pub says_solved : (b : Bool) → other_form ≡ form_of p → b ≡ false → IfSome (slice_get now.positions k) (λ q. IsTrue b ↔ IsBeyondExtremes now q vector) → (IsTrue t ↔ HasNoSolution p vector) → Answers
+    says_solved b e fails h solved = says other_form e (λ x. inl (solved.0 x), back)
+      where
+        back : HasNoSolution p vector ⊎ IsBeyondExtremes now p vector → IsTrue t
+        back (inl s) = solved.1 s
+        back (inr x) = let y = (of_place (λ q. IsTrue b ↔ IsBeyondExtremes now q vector) h).1 x in absurd (cc)
+
+    -- a usable position excludes as its form does, and any other nothing
+    pub excludes_usable : (usable : Bool) → usable ≡ p.usable → IsTrue usable → IfSome (slice_get now.positions k) Says → IfSome (slice_get now.positions k) (λ q. IsTrue t ↔ Excludes now q vector)
+    excludes_usable usable e holds h =
+        let s = of_place Says h in
+        at_place (λ q. IsTrue t ↔ Excludes now q vector) (λ x. (sym e ∙ holds, s.0 x), λ x. s.1 x.1)
+
+    pub excludes_nothing : t ≡ p.usable → t ≡ false → IfSome (slice_get now.positions k) (λ q. IsTrue t ↔ Excludes now q vector)
+    excludes_nothing e fails = at_place (λ q. IsTrue t ↔ Excludes now q vector) (λ x. absurd (cc), λ x. e ∙ x.0)

@@ -1,0 +1,8 @@
+use Rattle.std.proofs.Common.{length}
+use Rattle.ped_views.specs.Vectors.{IsPossible, all_vectors}
+use Rattle.ped_verdict.proofs.Chosen.{AreAhead}
+use Rattle.ped_verdict.proofs.listing.listed.Given as goal
+
+-- the vectors found so far, and those ahead, are all
+abbrev pub invariant-loop-place : goal.invariant-loop-place
+invariant-loop-place l = AreAhead (IsPossible l.view) (all_vectors (length l.view.loops)) l.place l.vectors.items

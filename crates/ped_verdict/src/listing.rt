@@ -1,0 +1,30 @@
+//! The possible vectors of a view as a list.
+
+ghost use Rattle.std.specs.Prelude.{IfOk};
+ghost use Rattle.ped_views.specs.Vectors.{AreVectors};
+ghost use Rattle.ped_verdict.specs.Marked.{AreMarked};
+
+use crate::places::vector_at;
+use crate::vectors::Vector;
+use ped_base::NoMemory;
+use ped_bits::Row;
+use ped_views::PairView;
+use std::alloc::Global;
+
+/// The possible vectors of a view, of which a row has the places, in their order.
+pub(crate) fn listed(
+    alloc: Global,
+    view: &PairView,
+    possible: &Row,
+) -> Result<Vec<Vector>, NoMemory>
+    requires { AreMarked view.now possible.now }
+    ensures { IfOk result (λ vectors. AreVectors view.now vectors.items) }
+{
+    let mut vectors = Vec::new(alloc);
+    for place in 0..possible.width() {
+        if possible.get(place) {
+            vectors.push(vector_at(view.loops.len(), place))?;
+        }
+    }
+    Ok(vectors)
+}

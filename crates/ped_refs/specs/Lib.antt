@@ -3,3 +3,4 @@ pub mod PairLimit
 pub mod ListedReferences
 pub mod Listing
 pub mod Tallies
+pub mod Loops

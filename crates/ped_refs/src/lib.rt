@@ -6,9 +6,11 @@ mod accesses;
 mod constants;
 mod counting;
 mod listing;
+mod loops;
 mod references;
 mod surroundings;
 
 pub use counting::{MOST_PAIRS, first_beyond_limit, pairs, within_limit};
 pub use listing::refs;
+pub use loops::Loop;
 pub use references::{Ref, RefName, Refs};

@@ -1,4 +1,3 @@
-pub mod Entries
 pub mod RelatedPairs
 pub mod GroupEquality
 pub mod GroupPairs

@@ -1,3 +1,4 @@
+pub mod Expressions
 pub mod RelatedPairs
 pub mod GroupEquality
 pub mod GroupPairs

@@ -79,16 +79,21 @@ fn add_do<'a>(found: &mut Vec<Access<'a>>, around: &Surroundings, d: &'a Do) -> 
     add_private(found, around, d.private.as_slice())
 }
 
+/// Adds a read or a write.
+fn add_access<'a>(found: &mut Vec<Access<'a>>, name: RefName, writes: bool, subscripts: &'a [Expr]) -> Result<(), NoMemory>
+    ensures { OnOk result (accesses_of found.new.items ≡ accesses_of found.old.items ++ (record { name = name_text name; writes = writes; subscripts = map expr_tree subscripts.now }) ∷ []) }
+{
+    match found.push(Access { name, writes, subscripts }) {
+        Ok(()) => Ok(()),
+        Err(_) => Err(NoMemory),
+    }
+}
+
 /// Adds a write of the data lines or the output.
 fn add_write<'a>(found: &mut Vec<Access<'a>>, name: RefName) -> Result<(), NoMemory>
     ensures { OnOk result (accesses_of found.new.items ≡ accesses_of found.old.items ++ Spec.write_of (name_text name) [] ∷ []) }
 {
-    found.push(Access {
-        name,
-        writes: true,
-        subscripts: &[],
-    })?;
-    Ok(())
+    add_access(found, name, true, &[])
 }
 
 /// Adds a read or a write of a variable with these subscripts, where the name is no constant.
@@ -103,11 +108,7 @@ fn add_variable<'a>(
         ++ Spec.unless_constant (constants_round around.now) (record { name = name.now; writes = writes; subscripts = map expr_tree subscripts.now })) }
 {
     if !around.constants.contains(name) {
-        found.push(Access {
-            name: RefName::Named(*name),
-            writes,
-            subscripts,
-        })?;
+        add_access(found, RefName::Named(*name), writes, subscripts)?;
     }
     Ok(())
 }

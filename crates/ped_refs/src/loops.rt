@@ -17,9 +17,26 @@ pub struct Loop<'a> {
     pub statement: &'a Do,
 }
 
+impl Loop<'_> {
+    ghost use Rattle.ped_refs.specs.Loops.{loop_of};
+
+    /// Whether this is the name of its variable.
+    #[tactic(auto, using(ped_names::proofs::NameEquality::name_same))]
+    pub fn has_variable(&self, name: &Name) -> bool
+        ensures { result ≡ Lists.is_same_text name.now (loop_of self.now).head.variable }
+    {
+        *name == self.statement.variable
+    }
+}
+
 /// Whether the name is the variable of one of these loops.
 pub fn is_index(name: &Name, loops: &[Loop]) -> bool
     ensures { result ≡ Lists.is_among name.now (indices_of (nest_of loops.now)) }
 {
-    loops.iter().any(|l| *name == l.statement.variable)
+    for l in loops {
+        if l.has_variable(name) {
+            return true;
+        }
+    }
+    false
 }

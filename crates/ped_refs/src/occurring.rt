@@ -6,7 +6,7 @@ ghost use Rattle.ped_tree.specs.Accesses.{own_accesses as spec_own_accesses};
 ghost use Rattle.ped_tree.specs.Numbering.{statement_count, statements_count};
 ghost use Rattle.ped_tree.specs.Views.{stmt_tree, stmt_trees, program_tree};
 ghost use Rattle.ped_refs.specs.References.{numbered_accesses, statement_references, statements_references, references};
-ghost use Rattle.ped_refs.specs.Loops.{nest_of, loop_of};
+ghost use Rattle.ped_refs.specs.Loops.{nest_of, head_of};
 ghost use Rattle.ped_refs.specs.Occurrences.{references_of};
 ghost use Rattle.ped_refs.specs.Listing.{accesses_of, constants_round, indices_round};
 
@@ -125,10 +125,10 @@ fn add_body<'a>(
     d: &'a Do,
 ) -> Result<(), NoMemory>
     requires statements { before.old + statements_count (stmt_trees d.now.body.items) < 2 ^ 32 }
-    requires references { length (statements_references (constants_round around.now) (nest_of around.now.loops.now ++ loop_of (record { number = before.old; statement = d }) ∷ []) (before.old + 1) (stmt_trees d.now.body.items)) < 2 ^ 32 }
+    requires references { length (statements_references (constants_round around.now) (nest_of around.now.loops.now ++ (record { number = before.old; head = head_of d.now }) ∷ []) (before.old + 1) (stmt_trees d.now.body.items)) < 2 ^ 32 }
     ensures before { OnOk result (before.new ≡ before.old + statements_count (stmt_trees d.now.body.items)) }
     ensures found { OnOk result (references_of found.new.items ≡ references_of found.old.items
-        ++ statements_references (constants_round around.now) (nest_of around.now.loops.now ++ loop_of (record { number = before.old; statement = d }) ∷ []) (before.old + 1) (stmt_trees d.now.body.items)) }
+        ++ statements_references (constants_round around.now) (nest_of around.now.loops.now ++ (record { number = before.old; head = head_of d.now }) ∷ []) (before.old + 1) (stmt_trees d.now.body.items)) }
 {
     let loops = with_loop(alloc, around.loops, *before, d)?;
     let inner = Surroundings {
@@ -145,7 +145,7 @@ fn with_loop<'a>(
     number: u32,
     statement: &'a Do,
 ) -> Result<Vec<Loop<'a>>, NoMemory>
-    ensures { IfOk result (λ all. nest_of all.items ≡ nest_of loops.now ++ loop_of (record { number = number; statement = statement }) ∷ []) }
+    ensures { IfOk result (λ all. nest_of all.items ≡ nest_of loops.now ++ (record { number = number; head = head_of statement.now }) ∷ []) }
 {
     let mut all = loops.to_vec(alloc)?;
     all.push(Loop { number, statement })?;

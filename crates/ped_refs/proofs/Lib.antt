@@ -1,4 +1,6 @@
 pub mod Expressions
+pub mod StatementParts
+pub mod SameReferences
 pub mod RelatedPairs
 pub mod GroupEquality
 pub mod GroupPairs

@@ -1,8 +1,10 @@
 -- What the code keeps while it lists references. Contracts of private functions alone speak of these definitions.
 use Rattle.std.specs.Prelude.{ℕ, List, map}
 use Rattle.ped_tree.specs.Views.{expr_tree}
-use Rattle.ped_tree.specs.Accesses.{Access}
-use Rattle.ped_tree.specs.Nests.{indices_of}
+use Rattle.ped_tree.specs.Tree.{StmtTree}
+use Rattle.ped_tree.specs.Accesses.{Access, own_accesses}
+use Rattle.ped_tree.specs.Nests.{Loop, indices_of}
+use Rattle.ped_refs.specs.References.{Reference, numbered_accesses}
 use Rattle.ped_refs.specs.Loops.{nest_of}
 use Rattle.ped_refs.specs.Occurrences.{name_text}
 use Rattle.ped_refs.specs.declared.accesses.Access.{Access as CodeAccess}
@@ -20,6 +22,14 @@ accesses_of accesses = map access_of accesses
 abbrev pub constants_round : Surroundings → List (List ℕ)
 constants_round around = around.constants.now
 
+-- the DO loops round a statement
+abbrev pub nest_round : Surroundings → List Loop
+nest_round around = nest_of around.loops.now
+
 -- the variables of the DO loops round a statement
 abbrev pub indices_round : Surroundings → List (List ℕ)
-indices_round around = indices_of (nest_of around.loops.now)
+indices_round around = indices_of (nest_round around)
+
+-- the references that the statement with this number has by itself
+abbrev pub own_references : Surroundings → ℕ → StmtTree → List Reference
+own_references around n s = numbered_accesses n 1 (nest_round around) (own_accesses (constants_round around) (indices_round around) s)

@@ -2,13 +2,12 @@
 //! list has a front of what was to be added.
 
 ghost use Rattle.std.specs.Prelude.{◌≡◌, [], ◌∷◌, ◌++◌, ◌+◌, ◌^◌, ◌<◌, length, IfOk, OnOk};
-ghost use Rattle.ped_tree.specs.Accesses.{own_accesses as spec_own_accesses};
 ghost use Rattle.ped_tree.specs.Numbering.{statement_count, statements_count};
 ghost use Rattle.ped_tree.specs.Views.{stmt_tree, stmt_trees, program_tree};
 ghost use Rattle.ped_refs.specs.References.{numbered_accesses, statement_references, statements_references, references};
 ghost use Rattle.ped_refs.specs.Loops.{nest_of, head_of};
 ghost use Rattle.ped_refs.specs.Occurrences.{references_of};
-ghost use Rattle.ped_refs.specs.Listing.{accesses_of, constants_round, indices_round};
+ghost use Rattle.ped_refs.specs.Listing.{accesses_of, constants_round, nest_round, own_references};
 
 use crate::accesses::{Access, own_accesses};
 use crate::constants::constants_of;
@@ -67,10 +66,10 @@ fn add_statements<'a>(
     statements: &'a [Stmt],
 ) -> Result<(), NoMemory>
     requires statements { before.old + statements_count (stmt_trees statements.now) < 2 ^ 32 }
-    requires references { length (statements_references (constants_round around.now) (nest_of around.now.loops.now) (before.old + 1) (stmt_trees statements.now)) < 2 ^ 32 }
+    requires references { length (statements_references (constants_round around.now) (nest_round around.now) (before.old + 1) (stmt_trees statements.now)) < 2 ^ 32 }
     ensures before { OnOk result (before.new ≡ before.old + statements_count (stmt_trees statements.now)) }
     ensures found { OnOk result (references_of found.new.items ≡ references_of found.old.items
-        ++ statements_references (constants_round around.now) (nest_of around.now.loops.now) (before.old + 1) (stmt_trees statements.now)) }
+        ++ statements_references (constants_round around.now) (nest_round around.now) (before.old + 1) (stmt_trees statements.now)) }
 {
     for statement in statements {
         add_statement(alloc, found, around, before, statement)?;
@@ -88,10 +87,10 @@ fn add_statement<'a>(
     statement: &'a Stmt,
 ) -> Result<(), NoMemory>
     requires statements { before.old + statement_count (stmt_tree statement.now) < 2 ^ 32 }
-    requires references { length (statement_references (constants_round around.now) (nest_of around.now.loops.now) (before.old + 1) (stmt_tree statement.now)) < 2 ^ 32 }
+    requires references { length (statement_references (constants_round around.now) (nest_round around.now) (before.old + 1) (stmt_tree statement.now)) < 2 ^ 32 }
     ensures before { OnOk result (before.new ≡ before.old + statement_count (stmt_tree statement.now)) }
     ensures found { OnOk result (references_of found.new.items ≡ references_of found.old.items
-        ++ statement_references (constants_round around.now) (nest_of around.now.loops.now) (before.old + 1) (stmt_tree statement.now)) }
+        ++ statement_references (constants_round around.now) (nest_round around.now) (before.old + 1) (stmt_tree statement.now)) }
 {
     match statement {
         Stmt::If {
@@ -125,10 +124,10 @@ fn add_body<'a>(
     d: &'a Do,
 ) -> Result<(), NoMemory>
     requires statements { before.old + statements_count (stmt_trees d.now.body.items) < 2 ^ 32 }
-    requires references { length (statements_references (constants_round around.now) (nest_of around.now.loops.now ++ (record { number = before.old; head = head_of d.now }) ∷ []) (before.old + 1) (stmt_trees d.now.body.items)) < 2 ^ 32 }
+    requires references { length (statements_references (constants_round around.now) (nest_round around.now ++ (record { number = before.old; head = head_of d.now }) ∷ []) (before.old + 1) (stmt_trees d.now.body.items)) < 2 ^ 32 }
     ensures before { OnOk result (before.new ≡ before.old + statements_count (stmt_trees d.now.body.items)) }
     ensures found { OnOk result (references_of found.new.items ≡ references_of found.old.items
-        ++ statements_references (constants_round around.now) (nest_of around.now.loops.now ++ (record { number = before.old; head = head_of d.now }) ∷ []) (before.old + 1) (stmt_trees d.now.body.items)) }
+        ++ statements_references (constants_round around.now) (nest_round around.now ++ (record { number = before.old; head = head_of d.now }) ∷ []) (before.old + 1) (stmt_trees d.now.body.items)) }
 {
     let loops = with_loop(alloc, around.loops, *before, d)?;
     let inner = Surroundings {
@@ -161,10 +160,10 @@ fn add_own<'a>(
     statement: &'a Stmt,
 ) -> Result<(), NoMemory>
     requires statements { before.old + 1 < 2 ^ 32 }
-    requires references { length (spec_own_accesses (constants_round around.now) (indices_round around.now) (stmt_tree statement.now)) < 2 ^ 32 }
+    requires references { length (own_references around.now (before.old + 1) (stmt_tree statement.now)) < 2 ^ 32 }
     ensures before { OnOk result (before.new ≡ before.old + 1) }
     ensures found { OnOk result (references_of found.new.items ≡ references_of found.old.items
-        ++ numbered_accesses (before.old + 1) 1 (nest_of around.now.loops.now) (spec_own_accesses (constants_round around.now) (indices_round around.now) (stmt_tree statement.now))) }
+        ++ own_references around.now (before.old + 1) (stmt_tree statement.now)) }
 {
     *before += 1;
     let accesses = own_accesses(alloc, around, statement)?;

@@ -11,7 +11,8 @@ use Rattle.ped_tree.specs.Nests.{Loop, common_nest}
 use Rattle.ped_names.proofs.NameEquality.{same_flip, same_is, same_itself}
 use Rattle.ped_refs.specs.References.{Reference, is_pair, pair_count, outermost, outermost_number}
 use Rattle.ped_refs.specs.ListedReferences.{ref_name}
-use Rattle.ped_refs.specs.Tallies.{is_same_name, is_same_group, group_of, is_together, tally_with, with_reference}
+use Rattle.ped_refs.specs.Groups.{is_same_name, is_same_group, group_of}
+use Rattle.ped_refs.specs.Tallies.{is_together, tally_with, with_reference}
 use Rattle.ped_refs.specs.declared.references.RefName.{RefName}
 use Rattle.ped_refs.specs.declared.references.RefName.TheVariants.{Named, In, Out}
 use Rattle.ped_refs.proofs.RelatedPairs.{related, count_by_push}

@@ -4,4 +4,6 @@ pub mod ListedReferences
 pub mod Loops
 pub mod Occurrences
 pub mod Listing
+pub mod Groups
 pub mod Tallies
+pub mod Grouping

@@ -5,6 +5,7 @@
 mod accesses;
 mod constants;
 mod counting;
+mod groups;
 mod listing;
 mod loops;
 mod occurring;

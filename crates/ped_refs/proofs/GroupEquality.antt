@@ -28,7 +28,7 @@ pub group_is : (g h : Group) → (groups.eq-value).it g h ≡ is_same_group g h
 group_is g h = ap (λ (b : Bool). b && eqb g.outer h.outer) (name_is g.name h.name)
 
 -- the tests are one function
-same_test : (groups.eq-value).it ≡ is_same_group
+pub same_test : (groups.eq-value).it ≡ is_same_group
 same_test = λ i g h. group_is g h i
 
 taken : (b : Bool) (t zero : Tally) (o : Option Tally) → unwrap_or (cond b (Some t) o) zero ≡ (if b then t else unwrap_or o zero)

@@ -24,7 +24,8 @@ pair_count_is refs =
     length-flat_map (λ (source : Reference). map (with source) (filter (is_pair source) refs)) refs
     ∙ (λ i. sum_by (λ (source : Reference). (length-map (filter (is_pair source) refs) (with source) ∙ length-filter (is_pair source) refs) i) refs)
 
-eqb_flip : (m n : ℕ) → eqb m n ≡ eqb n m
+-- the test of two numbers goes both ways
+pub eqb_flip : (m n : ℕ) → eqb m n ≡ eqb n m
 eqb_flip m n = grind (arith, eqb-true)
 
 eqb_itself : (n : ℕ) → eqb n n ≡ true
@@ -36,7 +37,8 @@ or_flip true false = refl
 or_flip false true = refl
 or_flip false false = refl
 
-and_false : (a : Bool) → (a && false) ≡ false
+-- nothing that asks for false holds
+pub and_false : (a : Bool) → (a && false) ≡ false
 and_false true = refl
 and_false false = refl
 
@@ -48,7 +50,8 @@ and_not : (a : Bool) → (a && not a) ≡ false
 and_not true = refl
 and_not false = refl
 
-chosen : {A : Type 0} (b : Bool) (x : A) (xs : List A) → has_some (if b then x ∷ xs else []) ≡ b
+-- a list that begins with an item, where a test holds
+pub chosen : {A : Type 0} (b : Bool) (x : A) (xs : List A) → has_some (if b then x ∷ xs else []) ≡ b
 chosen true x xs = refl
 chosen false x xs = refl
 
@@ -100,7 +103,7 @@ name_by : Bool → Bool → List ℕ → RefName
 name_by a b x = if a then In else (if b then Out else Named x)
 
 -- two names in the list are the same where their texts are
-name_together : (x y : List ℕ) → is_same_name (ref_name x) (ref_name y) ≡ is_same_text x y
+pub name_together : (x y : List ℕ) → is_same_name (ref_name x) (ref_name y) ≡ is_same_text x y
 name_together x y = go (which x) (which y)
   where
     in_name : (z : List ℕ) → is_same_text z (codes "(IN)") ≡ true → ref_name z ≡ In

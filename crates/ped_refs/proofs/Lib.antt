@@ -9,3 +9,6 @@ pub mod CountingSteps
 pub mod TextOrder
 pub mod FirstBeyond
 pub mod ListedProgram
+pub mod GroupMembers
+pub mod PairPlaces
+pub mod PairSteps

@@ -109,7 +109,8 @@ fn add_to_group(
         ≡ (if is_same_group group other then with_place (places_at groups.old other) place writes else places_at groups.old other)) }
 {
     let members = groups.entry(group)?.or_insert(Members::new(alloc));
-    members.add(place, writes)
+    members.add(place, writes)?;
+    Ok(())
 }
 
 impl Members {

@@ -12,3 +12,4 @@ pub mod ListedProgram
 pub mod GroupMembers
 pub mod PairPlaces
 pub mod PairSteps
+pub mod NextPairs

@@ -159,7 +159,7 @@ module _ (refs : List Reference) where
       let here : slice_get refs place ≡ Some r = (λ i. slice_get (e i) (k i)) ∙ at_seam front r sources in
       map-append (pair_at refs) (map (pair_of place) (places_from (is_pair r) 0 refs)) (pairs_from refs (suc place) sources)
       ∙ (λ i. source_found r place (places_from (is_pair r) 0 refs) (filter (is_pair r) refs) here (places_found (is_pair r) [] refs refl 0 refl) i
-        ++ sources_found (front ++ r ∷ []) sources more (suc place) (omega (arith, length-append front (r ∷ []), k)) i)
+      ++ sources_found (front ++ r ∷ []) sources more (suc place) (omega (arith, length-append front (r ∷ []), k)) i)
       ∙ sym (map-append Some (map (λ sink. (r, sink)) (filter (is_pair r) refs)) (flat_map (λ source. map (λ sink. (source, sink)) (filter (is_pair source) refs)) sources))
 
   -- the pairs at the places of all sources with their sinks are all pairs

@@ -44,7 +44,7 @@ module _ (constants : List (List ℕ)) (nest : List Loop) (before : ℕ) (s : St
       ∙ ap (λ xs. xs ++ statements_references constants nest (last + 1) (stmt_trees second)) (append_assoc old own (statements_references constants nest (between + 1) (stmt_trees first)))
       ∙ append_assoc old (own ++ statements_references constants nest (between + 1) (stmt_trees first)) (statements_references constants nest (last + 1) (stmt_trees second))
       ∙ (λ i. old ++ (numbered_accesses (before + 1) 1 nest (own_accesses constants (indices_of nest) (tree i))
-        ++ statements_references constants nest (start i) (stmt_trees (f i)) ++ statements_references constants nest (behind i) (stmt_trees (g i))))
+      ++ statements_references constants nest (start i) (stmt_trees (f i)) ++ statements_references constants nest (behind i) (stmt_trees (g i))))
       ∙ ap (λ t. old ++ statement_references constants nest (before + 1) t) (sym tree)
 
   -- the references of a DO behind others: those of its header, and those of its body
@@ -58,5 +58,5 @@ module _ (constants : List (List ℕ)) (nest : List Loop) (before : ℕ) (s : St
       ∙ ap (λ xs. xs ++ statements_references constants (nest ++ (record { number = between; head = head_of d }) ∷ []) (between + 1) (stmt_trees d.body.items)) h
       ∙ append_assoc old own (statements_references constants (nest ++ (record { number = between; head = head_of d }) ∷ []) (between + 1) (stmt_trees d.body.items))
       ∙ (λ i. old ++ (numbered_accesses (before + 1) 1 nest (own_accesses constants (indices_of nest) (tree i))
-        ++ statements_references constants (nest ++ (record { number = m i; head = head_of d }) ∷ []) (m i + 1) (stmt_trees d.body.items)))
+      ++ statements_references constants (nest ++ (record { number = m i; head = head_of d }) ∷ []) (m i + 1) (stmt_trees d.body.items)))
       ∙ ap (λ t. old ++ statement_references constants nest (before + 1) t) (sym tree)

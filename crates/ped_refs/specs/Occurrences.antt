@@ -1,5 +1,5 @@
 -- References with what stands round them, as the code keeps them, and the places of pairs among them (this project).
-use Rattle.std.specs.Prelude.{ℕ, List, map, codes, Option, Some, None, slice_get}
+use Rattle.std.specs.Prelude.{ℕ, ◌<◌, List, map, codes, Option, Some, None, slice_get}
 use Rattle.ped_tree.specs.Views.{expr_tree}
 use Rattle.ped_refs.specs.References.{Reference}
 use Rattle.ped_refs.specs.Loops.{nest_of}
@@ -36,3 +36,8 @@ both None sink = None
 -- the references at the places of a pair, where the first reference has place 0
 abbrev pub pair_at : List Reference → Pair → Option (Reference × Reference)
 pair_at refs p = both (slice_get refs p.source) (slice_get refs p.sink)
+
+-- both places of a pair are among so many places
+pub record IsWithin (count : ℕ) (p : Pair) : Type 0 where
+  pub source : p.source < count
+  pub sink : p.sink < count

@@ -80,10 +80,19 @@ fn add_do<'a>(found: &mut Vec<Access<'a>>, around: &Surroundings, d: &'a Do) -> 
 }
 
 /// Adds a read or a write.
-fn add_access<'a>(found: &mut Vec<Access<'a>>, name: RefName, writes: bool, subscripts: &'a [Expr]) -> Result<(), NoMemory>
+fn add_access<'a>(
+    found: &mut Vec<Access<'a>>,
+    name: RefName,
+    writes: bool,
+    subscripts: &'a [Expr],
+) -> Result<(), NoMemory>
     ensures { OnOk result (accesses_of found.new.items ≡ accesses_of found.old.items ++ (record { name = name_text name; writes = writes; subscripts = map expr_tree subscripts.now }) ∷ []) }
 {
-    match found.push(Access { name, writes, subscripts }) {
+    match found.push(Access {
+        name,
+        writes,
+        subscripts,
+    }) {
         Ok(()) => Ok(()),
         Err(_) => Err(NoMemory),
     }
@@ -169,7 +178,11 @@ fn add_targets<'a>(
 }
 
 /// Adds what a left side reads, and then its write.
-fn add_left<'a>(found: &mut Vec<Access<'a>>, around: &Surroundings, left: &'a Expr) -> Result<(), NoMemory>
+fn add_left<'a>(
+    found: &mut Vec<Access<'a>>,
+    around: &Surroundings,
+    left: &'a Expr,
+) -> Result<(), NoMemory>
     ensures { OnOk result (accesses_of found.new.items ≡ accesses_of found.old.items ++ Spec.left_accesses (constants_round around.now) (indices_round around.now) (expr_tree left.now)) }
 {
     match left {
@@ -213,7 +226,11 @@ fn add_cond<'a>(
 
 /// Adds what an expression reads.
 #[cycle(expressions)]
-fn add_expr<'a>(found: &mut Vec<Access<'a>>, around: &Surroundings, e: &'a Expr) -> Result<(), NoMemory>
+fn add_expr<'a>(
+    found: &mut Vec<Access<'a>>,
+    around: &Surroundings,
+    e: &'a Expr,
+) -> Result<(), NoMemory>
     ensures { OnOk result (accesses_of found.new.items ≡ accesses_of found.old.items ++ Spec.expr_reads (constants_round around.now) (indices_round around.now) (expr_tree e.now)) }
 {
     match e {
@@ -237,7 +254,11 @@ fn add_expr<'a>(found: &mut Vec<Access<'a>>, around: &Surroundings, e: &'a Expr)
 }
 
 /// Adds the read of a scalar, where it is neither the variable of a DO nor a constant.
-fn add_scalar<'a>(found: &mut Vec<Access<'a>>, around: &Surroundings, name: &Name) -> Result<(), NoMemory>
+fn add_scalar<'a>(
+    found: &mut Vec<Access<'a>>,
+    around: &Surroundings,
+    name: &Name,
+) -> Result<(), NoMemory>
     ensures { OnOk result (accesses_of found.new.items ≡ accesses_of found.old.items ++ Spec.expr_reads (constants_round around.now) (indices_round around.now) (Tree.Var name.now)) }
 {
     if is_index(name, around.loops) {
@@ -248,7 +269,11 @@ fn add_scalar<'a>(found: &mut Vec<Access<'a>>, around: &Surroundings, name: &Nam
 
 /// Adds what subscripts or arguments read.
 #[cycle(expressions)]
-fn add_exprs<'a>(found: &mut Vec<Access<'a>>, around: &Surroundings, exprs: &'a [Expr]) -> Result<(), NoMemory>
+fn add_exprs<'a>(
+    found: &mut Vec<Access<'a>>,
+    around: &Surroundings,
+    exprs: &'a [Expr],
+) -> Result<(), NoMemory>
     ensures { OnOk result (accesses_of found.new.items ≡ accesses_of found.old.items ++ Spec.exprs_reads (constants_round around.now) (indices_round around.now) (pack_exprs (map expr_tree exprs.now))) }
 {
     for e in exprs {

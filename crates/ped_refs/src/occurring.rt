@@ -36,10 +36,7 @@ pub struct Occurrence<'a> {
 }
 
 /// The references of a program, in text order.
-pub fn occurrences<'a>(
-    alloc: Global,
-    program: &'a Program,
-) -> Result<Vec<Occurrence<'a>>, NoMemory>
+pub fn occurrences<'a>(alloc: Global, program: &'a Program) -> Result<Vec<Occurrence<'a>>, NoMemory>
     requires statements { statements_count (program_tree program.now).body < 2 ^ 32 }
     requires references { length (references (program_tree program.now)) < 2 ^ 32 }
     ensures { IfOk result (λ found. references_of found.items ≡ references (program_tree program.now)) }

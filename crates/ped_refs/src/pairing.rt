@@ -1,9 +1,10 @@
 //! All ordered pairs of references. References can only pair with those of one name and the same outermost DO,
 //! so a table of these groups gives the sinks of each source, and no pair without a write is looked at.
 
-ghost use Rattle.std.specs.Prelude.{◌≡◌, ◌++◌, Some, map, IfOk, OnOk, if◌then◌else◌};
+ghost use Rattle.std.specs.Prelude.{◌≡◌, ◌++◌, Some, map, length, IfOk, OnOk, if◌then◌else◌};
+ghost use Rattle.std.specs.List.{All};
 ghost use Rattle.ped_refs.specs.References.{pairs};
-ghost use Rattle.ped_refs.specs.Occurrences.{reference_of, references_of, pair_at};
+ghost use Rattle.ped_refs.specs.Occurrences.{reference_of, references_of, pair_at, IsWithin};
 ghost use Rattle.ped_refs.specs.Groups.{PlainGroup, is_same_group, looped_group};
 ghost use Rattle.ped_refs.specs.Grouping.{AreGrouped, is_this, pair_of, places_at, sinks_at, with_place};
 
@@ -14,7 +15,7 @@ use ped_base::NoMemory;
 use std::alloc::Global;
 
 /// An ordered pair of references, by their places in a list, from 0.
-#[derive(Clone, Copy, Debug, PartialEq, Eq)]
+#[derive(Clone, Copy, PartialEq, Eq)]
 pub struct Pair {
     /// The place of the source.
     pub source: usize,
@@ -34,7 +35,8 @@ struct Members {
 /// All ordered pairs of these references, in the order of the sources and then of the sinks. The time is
 /// linear in the number of references and pairs.
 pub fn listed_pairs(alloc: Global, found: &[Occurrence]) -> Result<Vec<Pair>, NoMemory>
-    ensures { IfOk result (λ listed. map (pair_at (references_of found.now)) listed.items ≡ map Some (pairs (references_of found.now))) }
+    ensures pairs { IfOk result (λ listed. map (pair_at (references_of found.now)) listed.items ≡ map Some (pairs (references_of found.now))) }
+    ensures within { IfOk result (λ listed. All (IsWithin (length found.now)) listed.items) }
 {
     let groups = groups_of(alloc, found)?;
     let mut listed = Vec::new(alloc);
@@ -109,8 +111,7 @@ fn add_to_group(
         ≡ (if is_same_group group other then with_place (places_at groups.old other) place writes else places_at groups.old other)) }
 {
     let members = groups.entry(group)?.or_insert(Members::new(alloc));
-    members.add(place, writes)?;
-    Ok(())
+    members.add(place, writes)
 }
 
 impl Members {

@@ -8,5 +8,11 @@ use Rattle.ped_refs.proofs.occurring.add_own.Goals as goal
 
 pub add_numbered-requires : goal.add_numbered-requires
 add_numbered-requires c =
-    omega (arith, c.requires.references, ap length c.in_ok-accesses.ensures, ap length c.deref.ensures.value, length-map c.in_ok-accesses.accesses.items access_of,
-      length-numbered_accesses (c.args.before.now + 1) 1 (nest_round c.args.around.now) (own_accesses (constants_round c.args.around.now) (indices_round c.args.around.now) (stmt_tree c.args.statement.now)))
+    omega (
+      arith,
+      c.requires.references,
+      ap length c.in_ok-accesses.ensures,
+      ap length c.deref.ensures.value,
+      length-map c.in_ok-accesses.accesses.items access_of,
+      length-numbered_accesses (c.args.before.now + 1) 1 (nest_round c.args.around.now) (own_accesses (constants_round c.args.around.now) (indices_round c.args.around.now) (stmt_tree c.args.statement.now)),
+    )

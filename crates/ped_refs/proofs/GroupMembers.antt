@@ -1,7 +1,7 @@
 -- The members of groups in the table.
-use Rattle.std.proofs.Common.{◌≡◌, ℕ, List, [], Bool, true, false, cond, Option, Some, None, inl, inr, eqb-true, refl, ap, sym, subst, ◌∙◌}
+use Rattle.std.proofs.Common.{◌≡◌, ℕ, [], Bool, true, false, cond, Option, Some, None, eqb-true, refl, ap, subst, ◌∙◌}
 use Rattle.std.specs.Prelude.{unwrap_or, if◌then◌else◌}
-use Rattle.std.proofs.lemmas.Bool.{and_parts, cases_Bool}
+use Rattle.std.proofs.lemmas.Bool.{and_parts}
 use Rattle.indexmap.specs.IndexMap.{get, Updates}
 use Rattle.ped_names.proofs.NameEquality.{same_is}
 use Rattle.ped_refs.specs.Groups.{is_same_name, is_same_group}

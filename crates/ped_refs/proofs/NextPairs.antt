@@ -1,11 +1,11 @@
 -- Pairs that are listed by their places, one by one.
-use Rattle.std.proofs.Common.{◌≡◌, ℕ, ◌<◌, List, [], ◌∷◌, map, length, Option, Some, None, refl, ap, sym, ◌∙◌, subst}
+use Rattle.std.proofs.Common.{◌≡◌, ℕ, List, [], ◌∷◌, map, length, Option, Some, None, refl, ap, subst}
 use Rattle.std.specs.Prelude.{slice_get}
 use Rattle.std.specs.List.{All, AllByRecursion}
 use Rattle.std.proofs.lemmas.List.{length-map}
 use Rattle.std.proofs.lemmas.List.Elements.{All-from_recursion}
 use Rattle.std.proofs.lemmas.Option.{slice_get_within}
-use Rattle.ped_refs.specs.References.{Reference, pairs}
+use Rattle.ped_refs.specs.References.{Reference}
 use Rattle.ped_refs.specs.Occurrences.{reference_of, references_of, both, pair_at, IsWithin}
 use Rattle.ped_refs.specs.declared.occurring.Occurrence.{Occurrence}
 use Rattle.ped_refs.specs.declared.pairing.Pair.{Pair}

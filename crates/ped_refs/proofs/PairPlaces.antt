@@ -1,9 +1,8 @@
 -- The places of pairs, found by groups, and the pairs of references themselves.
-use Rattle.std.proofs.Common.{◌≡◌, ℕ, zero, suc, ◌+◌, ◌<◌, List, [], ◌∷◌, ◌++◌, map, filter, length, get_or, Bool, true, false, ◌&&◌, eqb, Option, Some, None, inl, inr, refl, ap, sym, subst, ◌∙◌, append_assoc, length-append, arith}
+use Rattle.std.proofs.Common.{◌≡◌, ℕ, suc, ◌+◌, List, [], ◌∷◌, ◌++◌, map, filter, length, Bool, true, false, ◌&&◌, eqb, Some, refl, ap, sym, ◌∙◌, append_assoc, length-append, arith}
 use Rattle.std.specs.Prelude.{◌||◌, if◌then◌else◌, slice_get}
 use Rattle.std.specs.List.{flat_map}
 use Rattle.std.proofs.Math.Seq.{get_or-append_seam}
-use Rattle.std.proofs.lemmas.Bool.{cases_Bool}
 use Rattle.std.proofs.lemmas.List.{map-append}
 use Rattle.std.proofs.lemmas.Option.{slice_get-get_or}
 use Rattle.std.proofs.lemmas.Simd.{map-map}
@@ -14,9 +13,8 @@ use Rattle.ped_refs.specs.References.{Reference, is_pair, pairs}
 use Rattle.ped_refs.specs.ListedReferences.{ref_name}
 use Rattle.ped_refs.specs.Occurrences.{both, pair_at}
 use Rattle.ped_refs.specs.Groups.{group, is_same_group, group_in_loops, looped_group}
-use Rattle.ped_refs.specs.Grouping.{Places, Table, AreGrouped, pair_of, places_at, places_from, places_in, is_this, is_in, with_place, sinks_in, sinks_at, pairs_from}
+use Rattle.ped_refs.specs.Grouping.{Table, AreGrouped, pair_of, places_at, places_from, places_in, is_this, is_in, with_place, sinks_in, sinks_at, pairs_from}
 use Rattle.ped_refs.specs.declared.groups.Group.{Group}
-use Rattle.ped_refs.specs.declared.pairing.Pair.{Pair}
 use Rattle.ped_refs.proofs.GroupPairs.{chosen, and_false, eqb_flip, name_together}
 
 -- the places with one more reference

@@ -1,4 +1,4 @@
-use Rattle.std.proofs.Common.{Some, None, ap, sym, ◌∙◌}
+use Rattle.std.proofs.Common.{Some, None, ap, ◌∙◌}
 use Rattle.ped_refs.specs.Grouping.{sinks_in, sinks_at}
 use Rattle.ped_refs.proofs.GroupMembers.{members_got, no_sinks}
 use Rattle.ped_refs.proofs.pairing.sinks_of.Goals as goal

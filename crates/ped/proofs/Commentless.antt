@@ -5,8 +5,8 @@ use Rattle.ped_tree.specs.Numbering.{statement_count, statements_count}
 use Rattle.ped_tree.specs.Nests.{Loop, indices_of}
 use Rattle.ped_refs.specs.References.{Reference, numbered_accesses, statement_references, statements_references, references, pairs}
 use Rattle.ped_tree.specs.Accesses.{own_accesses, constants_in, constant_names}
-use Rattle.ped_graph.specs.Edges.{Edge, EdgesOfPairs, AreEdges}
-use Rattle.ped_graph.specs.DependencePane.{edges_pane}
+use Rattle.ped.specs.Edges.{Edge, EdgesOfPairs, AreEdges}
+use Rattle.ped.specs.DependencePane.{edges_pane}
 use Rattle.ped.specs.SmallTree.{small_tree}
 use Rattle.ped.specs.SmallForm.{IsMadeOf}
 use Rattle.ped.specs.Answer.{IsDependencePart}

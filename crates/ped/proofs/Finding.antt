@@ -2,7 +2,7 @@
 use Rattle.std.proofs.Common.{◌≡◌, ◌↔◌, ◌++◌, ◌∷◌, [], ℤ, ◌-ℤ◌, ◌*ℤ◌, pos, Bool, true, false, not, ◌&&◌, nat_lt, IsTrue, List, Option, if◌then◌else◌, refl, ap, ◌∙◌, append_assoc}
 use Rattle.ped_views.specs.Whole.{whole_quotient}
 use Rattle.ped_views.specs.Views.{Range}
-use Rattle.ped_graph.specs.Edges.{runs_twice}
+use Rattle.ped.specs.Edges.{runs_twice}
 use Rattle.ped.specs.declared.dependences.Kind.{Kind}
 use Rattle.ped.specs.declared.dependences.Mark.{Mark}
 use Rattle.ped.specs.declared.dependences.Edge.{Edge}

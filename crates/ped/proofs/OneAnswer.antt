@@ -5,7 +5,7 @@ use Rattle.ped_io.specs.Outside.{Contents, content}
 use Rattle.ped_tree.specs.Tree.{ProgramTree}
 use Rattle.ped_grammar.specs.Refusal.{Finding}
 use Rattle.ped_tree.specs.SourcePane.{source_pane}
-use Rattle.ped_graph.proofs.OnePane.{one_pane}
+use Rattle.ped.proofs.OnePane.{one_pane}
 use Rattle.ped_valid.specs.Validity.{ReadsValid, RefusesText}
 use Rattle.ped_valid.proofs.OneVerdict.{one_of_both}
 use Rattle.ped.specs.declared.answering.Status.{Status}

@@ -14,9 +14,9 @@ use Rattle.ped_tree.specs.Nests.{Loop}
 use Rattle.ped_tree.specs.Accesses.{Access, read_of, write_of, expr_reads}
 use Rattle.ped_refs.specs.References.{Reference, numbered_accesses, references, pairs}
 use Rattle.ped_base.specs.Lists.{is_same_text}
-use Rattle.ped_graph.specs.Edges as plain
-use Rattle.ped_graph.specs.Edges.{proven, pending, runs_twice, PairEdges, EdgesOfPairs, AreEdges}
-use Rattle.ped_affine.specs.Affine.{Affine, affine, affine_of, combination, within_limits, subscript_pair, view_by as view_options, view_of}
+use Rattle.ped.specs.Edges as plain
+use Rattle.ped.specs.Edges.{proven, pending, runs_twice, PairEdges, EdgesOfPairs, AreEdges}
+use Rattle.ped.specs.Affine.{Affine, affine, affine_of, combination, within_limits, subscript_pair, view_by as view_options, view_of}
 use Rattle.ped.specs.declared.small_form.Subscript.{Subscript}
 use Rattle.ped.specs.declared.small_form.Subscript.TheVariants.{Plain, Plus, Minus}
 use Rattle.ped.specs.declared.small_form.Small.{Small}

@@ -5,7 +5,7 @@ use Rattle.ped_tree.specs.Tree.{ProgramTree}
 use Rattle.ped_grammar.specs.Refusal.{Finding}
 use Rattle.ped_tree.specs.SourcePane.{source_pane}
 use Rattle.ped_valid.specs.Validity.{ReadsValid, RefusesText}
-use Rattle.ped_graph.specs.DependencePane.{IsDependencePane}
+use Rattle.ped.specs.DependencePane.{IsDependencePane}
 use Rattle.ped.specs.declared.answering.Status.{Status}
 use Rattle.ped.specs.declared.answering.Status.TheVariants.{Done, BadWords, ReadFault, WriteFault, ProgramRefused, NoMemory, TooLong}
 use Rattle.ped.specs.Refusals.{refused_line}

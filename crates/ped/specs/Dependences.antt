@@ -5,8 +5,8 @@ use Rattle.ped_views.specs.declared.directions.Direction.TheVariants.{Before, Sa
 use Rattle.ped_views.specs.Whole.{whole_quotient}
 use Rattle.ped_views.specs.Views.{Range, range}
 use Rattle.ped_views.specs.Excluded.{NeverMeetsInStep}
-use Rattle.ped_graph.specs.Edges as plain
-use Rattle.ped_graph.specs.Edges.{runs_twice}
+use Rattle.ped.specs.Edges as plain
+use Rattle.ped.specs.Edges.{runs_twice}
 use Rattle.ped.specs.declared.small_form.Subscript.{Subscript}
 use Rattle.ped.specs.declared.small_form.Subscript.TheVariants.{Plain, Plus, Minus}
 use Rattle.ped.specs.declared.small_form.Small.{Small}

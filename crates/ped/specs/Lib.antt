@@ -1,5 +1,8 @@
+pub mod Affine
 pub mod Answer
+pub mod DependencePane
 pub mod Dependences
+pub mod Edges
 pub mod Refusals
 pub mod SmallForm
 pub mod SmallReading

@@ -3,8 +3,8 @@
 
 ghost use Rattle.std.specs.Prelude.{◌≡◌, [], ◌∷◌, ◌++◌, OnOk};
 ghost use Rattle.std.specs.List.{flat_map};
-ghost use Rattle.ped_graph.specs.DependencePane as Spec;
-ghost use Rattle.ped_graph.specs.DependencePane.{edges_pane, distances_text, vectors_text};
+ghost use Rattle.ped.specs.DependencePane as Spec;
+ghost use Rattle.ped.specs.DependencePane.{edges_pane, distances_text, vectors_text};
 ghost use Rattle.ped.specs.Dependences.{edge_of, edges_of, kind_of, mark_of, level_of, sign_of};
 
 use crate::dependences::{Edge, Kind, Mark};

@@ -2,7 +2,7 @@
 //! reads and the element that it writes, in its one loop.
 
 ghost use Rattle.std.specs.Prelude.{◌≡◌, [], ◌∷◌, ◌++◌, ◌≤◌, ◌^◌, ◌&&◌, nat_lt, unsigned_abs, IfOk, OnOk, if◌then◌else◌};
-ghost use Rattle.ped_graph.specs.Edges.{AreEdges, runs_twice};
+ghost use Rattle.ped.specs.Edges.{AreEdges, runs_twice};
 ghost use Rattle.ped.specs.SmallTree.{small_tree};
 ghost use Rattle.ped.specs.Dependences.{ArePossible, edges_by, edges_of, offset_of, small_range, kind_by, mark_by};
 

@@ -1,1 +1,5 @@
-pub mod Affine
+pub mod Assigned
+pub mod IntervalArithmetic
+pub mod Ranges
+pub mod AffineForms
+pub mod PairViews

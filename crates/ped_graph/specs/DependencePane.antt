@@ -1,13 +1,15 @@
 -- The dependence pane: a row for each dependence (ParaScope; this project).
-use Rattle.std.specs.Prelude.{◌≡◌, ℕ, ℤ, List, [], ◌∷◌, ◌++◌, map, filter, length, codes, Bool, true, false, ◌==◌, Option, Some, None, if◌then◌else◌}
+use Rattle.std.specs.Prelude.{◌≡◌, ℕ, ◌+◌, ℤ, List, [], ◌∷◌, ◌++◌, map, filter, length, codes, nat_le, nat_lt, Bool, true, false, ◌&&◌, ◌||◌, ◌==◌, Option, Some, None, if◌then◌else◌}
 use Rattle.std.specs.List.{list_any, flat_map, join_by, range_with_len}
 use Rattle.std.specs.Cmp.Lexicographic.{pointwise}
 use Rattle.std.specs.Fmt.{decimal, signed_decimal}
 use Rattle.ped_views.specs.declared.directions.Direction.{Direction}
 use Rattle.ped_views.specs.declared.directions.Direction.TheVariants.{Before, Same, After}
 use Rattle.ped_views.specs.Excluded.{direction_at}
-use Rattle.ped_tree.specs.Tree.{ProgramTree}
-use Rattle.ped_graph.specs.Edges.{Kind, flow, anti, output, Mark, proven, pending, Edge, AreEdges}
+use Rattle.ped_tree.specs.Tree.{StmtTree, ProgramTree}
+use Rattle.ped_tree.specs.Numbering.{statement_with, statement_count}
+use Rattle.ped_graph.specs.Marks.{Mark, proven, pending, rejected}
+use Rattle.ped_graph.specs.Edges.{Kind, flow, anti, output, Edge, AreEdges}
 
 -- a reference by its statement and its number (this project)
 abbrev pub place_text : ℕ × ℕ → List ℕ
@@ -23,6 +25,7 @@ kind_text output = codes "output"
 abbrev pub mark_text : Mark → List ℕ
 mark_text proven = codes "proven"
 mark_text pending = codes "pending"
+mark_text rejected = codes "rejected"
 
 -- a dash where the dependence is independent of loops (Allen and Kennedy, section 2.2.5; this project)
 abbrev pub level_text : Option ℕ → List ℕ
@@ -114,3 +117,38 @@ edges_pane edges = codes "dependences " ++ decimal (length edges) ++ 10 ∷ flat
 -- the dependence pane of a program
 abbrev pub IsDependencePane : ProgramTree → List ℕ → Type 0
 IsDependencePane t pane = (edges : List Edge) × AreEdges t edges × (pane ≡ edges_pane edges)
+
+-- how many numbered statements stand in a statement, itself among them; none where it isn't there
+abbrev pub extent_by : Option StmtTree → ℕ
+extent_by (Some s) = statement_count s
+extent_by None = 0
+
+-- how many numbered statements the statement with this number has, itself and those in it (this project)
+abbrev pub extent_of : ProgramTree → ℕ → ℕ
+extent_of t number = extent_by (statement_with number t)
+
+-- the second statement is the first or stands in it, where the first has so many statements
+abbrev pub is_in : ℕ → ℕ → ℕ → Bool
+is_in number extent other = nat_le number other && nat_lt other (number + extent)
+
+-- the dependences whose source or sink is a statement, or stands in it (this project)
+abbrev pub edges_of : ProgramTree → ℕ → List Edge → List Edge
+edges_of t number edges = filter (λ e. is_in number (extent_of t number) e.source.0 || is_in number (extent_of t number) e.sink.0) edges
+
+-- the same level of a loop
+abbrev pub is_level : ℕ → Option ℕ → Bool
+is_level level None = false
+is_level level (Some k) = k == level
+
+-- a statement stands in the body of the DO with this number, which has so many statements
+abbrev pub is_in_body : ℕ → ℕ → ℕ → Bool
+is_in_body number extent other = nat_lt number other && nat_lt other (number + extent)
+
+-- the dependences of a level with both references in the body of a DO (Allen and Kennedy, section 2.2.5; this project)
+abbrev pub edges_at : ProgramTree → ℕ → ℕ → List Edge → List Edge
+edges_at t number level edges = filter (λ e. is_level level e.level && (is_in_body number (extent_of t number) e.source.0 && is_in_body number (extent_of t number) e.sink.0)) edges
+
+-- the dependence pane of a program with the rows of one statement alone; their number stands in its first line (this project)
+abbrev pub IsDependencePaneOf : ProgramTree → Option ℕ → List ℕ → Type 0
+IsDependencePaneOf t None pane = IsDependencePane t pane
+IsDependencePaneOf t (Some number) pane = (edges : List Edge) × AreEdges t edges × (pane ≡ edges_pane (edges_of t number edges))

@@ -1,17 +1,21 @@
--- The dependences of a program: for each pair of references its vectors, divided by the loop that carries them. PRIVATE, rejected names and IF aren't looked at yet (Allen and Kennedy, section 2.2).
-use Rattle.std.specs.Prelude.{◌≡◌, ℕ, suc, ℤ, pos, ◌+ℤ◌, List, [], ◌∷◌, ◌++◌, map, filter, length, unsigned_abs, int_le, nat_le, count_by, slice_index_or, Bool, true, false, ◌&&◌, not, ◌==◌, Option, Some, None, if◌then◌else◌}
-use Rattle.std.specs.List.{list_all, flat_map, range_with_len}
-use Rattle.std.specs.Ordering.{int_eq}
+-- The dependences of a program: for each pair of references its vectors, divided by the loop that carries them (Allen and Kennedy, section 2.2).
+use Rattle.std.specs.Prelude.{◌≡◌, ℕ, suc, ℤ, List, [], ◌∷◌, ◌++◌, map, filter, length, Bool, true, false, ◌==◌, Option, Some, None, if◌then◌else◌}
+use Rattle.std.specs.List.{flat_map, range_with_len}
+use Rattle.ped_base.specs.Lists.{has_some}
 use Rattle.ped_views.specs.declared.directions.Direction.{Direction}
 use Rattle.ped_views.specs.declared.directions.Direction.TheVariants.{Before, Same, After}
-use Rattle.ped_views.specs.Whole.{is_zero}
-use Rattle.ped_views.specs.Views.{Range, SubscriptPair, View}
-use Rattle.ped_views.specs.Forms.{Form, ziv, strong_siv, weak_zero_siv, weak_crossing_siv, other_form, form_of}
+use Rattle.ped_views.specs.Views.{View}
 use Rattle.ped_views.specs.Vectors.{AreVectors, distance}
-use Rattle.ped_tree.specs.Tree.{ProgramTree}
-use Rattle.ped_refs.specs.References.{Reference, comes_before, references, pairs}
-use Rattle.ped_base.specs.Lists.{has_some}
-use Rattle.ped_affine.specs.Affine.{view_of}
+use Rattle.ped_tree.specs.Tree.{StmtTree, ProgramTree}
+use Rattle.ped_tree.specs.Numbering.{statement_with}
+use Rattle.ped_symbols.specs.Kinds.{table_of}
+use Rattle.ped_refs.specs.References.{Reference, comes_before, outermost, references, pairs}
+use Rattle.ped_affine.specs.Assigned.{assigned_in, all_loop_variables}
+use Rattle.ped_affine.specs.Ranges.{Setting}
+use Rattle.ped_affine.specs.PairViews.{Site, view_at}
+use Rattle.ped_graph.specs.Owners.{have_same_owner, owner_level, within_iteration}
+use Rattle.ped_graph.specs.Guards.{guarded}
+use Rattle.ped_graph.specs.Marks.{Mark, mark_of}
 
 -- a write and then a read, a read and then a write, two writes (Allen and Kennedy, section 2.2.1)
 pub data Kind : Type 0 where
@@ -19,12 +23,7 @@ pub data Kind : Type 0 where
   anti : Kind
   output : Kind
 
--- the dependence is there; the tests don't tell (ParaScope)
-pub data Mark : Type 0 where
-  proven : Mark
-  pending : Mark
-
--- a dependence: its source and sink by statement and reference, the variable, the loop that carries it, None where it is independent of loops (Allen and Kennedy, section 2.2; ParaScope)
+-- a dependence: its source and sink by statement and reference, the variable, the level of the loop that carries it, None where it is independent of loops (Allen and Kennedy, section 2.2; ParaScope)
 pub record Edge : Type 0 where
   pub source : ℕ × ℕ
   pub sink : ℕ × ℕ
@@ -72,56 +71,6 @@ kind_by false false = anti
 abbrev pub kind_of : Reference → Reference → Kind
 kind_of source sink = kind_by source.access.writes sink.access.writes
 
--- the loop runs at least twice: its second index value lies in its range (ANSI X3.9-1978, section 11.10.3)
-abbrev pub runs_twice : Range → Bool
-runs_twice r = int_le (r.lo +ℤ pos (unsigned_abs r.step)) r.hi
-
--- ZIV with equal constants, or strong SIV (Allen and Kennedy, sections 3.3.1, 3.3.2)
-abbrev pub is_proven_form : Form → SubscriptPair → Bool
-is_proven_form ziv p = int_eq p.source.constant p.sink.constant
-is_proven_form (strong_siv o) p = true
-is_proven_form (weak_zero_siv o) p = false
-is_proven_form (weak_crossing_siv o) p = false
-is_proven_form other_form p = false
-
--- affine, and ZIV with equal constants or strong SIV (Allen and Kennedy, section 3.3)
-abbrev pub is_proven_position : SubscriptPair → Bool
-is_proven_position p = p.usable && is_proven_form (form_of p) p
-
--- the coefficient of the loop at place k (Allen and Kennedy, section 3.1)
-abbrev pub coefficient_at : List ℤ → ℕ → ℤ
-coefficient_at row k = slice_index_or row k (pos 0)
-
--- the index of the common loop at place k occurs (Allen and Kennedy, section 3.1)
-abbrev pub has_common : ℕ → SubscriptPair → Bool
-has_common k p = not (is_zero (coefficient_at p.source.common k) && is_zero (coefficient_at p.sink.common k))
-
--- the index of the further loop of the source at place k occurs (Allen and Kennedy, section 3.1)
-abbrev pub has_source : ℕ → SubscriptPair → Bool
-has_source k p = not (is_zero (coefficient_at p.source.inner k))
-
--- the index of the further loop of the sink at place k occurs (Allen and Kennedy, section 3.1)
-abbrev pub has_sink : ℕ → SubscriptPair → Bool
-has_sink k p = not (is_zero (coefficient_at p.sink.inner k))
-
--- for each of n loops, its index occurs in at most one position (Allen and Kennedy, section 3.1)
-abbrev pub each_once : (ℕ → SubscriptPair → Bool) → ℕ → List SubscriptPair → Bool
-each_once has n positions = list_all (λ k. nat_le (count_by (has k) positions) 1) (range_with_len 0 n)
-
--- no index stands in two positions (Allen and Kennedy, section 3.1: separability)
-abbrev pub is_separable : View → Bool
-is_separable v =
-    each_once has_common (length v.loops) v.positions
-    && each_once has_source (length v.source_inner) v.positions
-    && each_once has_sink (length v.sink_inner) v.positions
-
--- proven where all loops round either reference have constant bounds and run at least twice and every position is separable and tells the dependence (ParaScope; this project)
-abbrev pub mark_of : View → Mark
-mark_of v =
-    if list_all runs_twice v.loops && list_all runs_twice v.source_inner && list_all runs_twice v.sink_inner
-    && list_all is_proven_position v.positions && is_separable v
-    then proven else pending
-
 -- the distance in each common loop (Allen and Kennedy, section 2.2.4)
 abbrev pub distances_of : View → List (Option ℤ)
 distances_of v = map (distance v) (range_with_len 0 (length v.loops))
@@ -130,9 +79,14 @@ distances_of v = map (distance v) (range_with_len 0 (length v.loops))
 abbrev pub place_of : Reference → ℕ × ℕ
 place_of r = (r.statement, r.number)
 
+-- what edges depend on beside a pair of references and its view: the named constants with their values, and the numbers of the statements that stand in an IF
+pub record Facts : Type 0 where
+  pub constants : List (List ℕ × ℤ)
+  pub guarded : List ℕ
+
 -- the dependence of a level with these vectors, where there are any (Allen and Kennedy, section 2.2.5)
-abbrev pub edge_at : Reference → Reference → View → Option ℕ → List (List Direction) → List Edge
-edge_at source sink v level vectors =
+abbrev pub edge_at : Facts → Reference → Reference → View → Option ℕ → List (List Direction) → List Edge
+edge_at facts source sink v level vectors =
     if has_some vectors then (record {
       source = place_of source;
       sink = place_of sink;
@@ -141,32 +95,60 @@ edge_at source sink v level vectors =
       level = level;
       vectors = vectors;
       distances = distances_of v;
-      mark = mark_of v;
+      mark = mark_of facts.constants facts.guarded source sink v level;
     }) ∷ [] else []
 
 -- the dependence that is independent of loops: only from a source that comes before the sink (Allen and Kennedy, section 2.2.5)
-abbrev pub independent_edge : Reference → Reference → View → List (List Direction) → List Edge
-independent_edge source sink v vectors = if comes_before source sink then edge_at source sink v None (vectors_of None vectors) else []
+abbrev pub independent_edge : Facts → Reference → Reference → View → List (List Direction) → List Edge
+independent_edge facts source sink v vectors = if comes_before source sink then edge_at facts source sink v None (vectors_of None vectors) else []
 
 -- the dependences of a pair with these vectors: carried by each common loop in turn, and then independent of loops (Allen and Kennedy, section 2.2.5; ParaScope)
-abbrev pub edges_by : Reference → Reference → View → List (List Direction) → List Edge
-edges_by source sink v vectors =
-    flat_map (λ level. edge_at source sink v (Some level) (vectors_of (Some level) vectors)) (range_with_len 1 (length v.loops))
-    ++ independent_edge source sink v vectors
+abbrev pub divided : Facts → Reference → Reference → View → List (List Direction) → List Edge
+divided facts source sink v vectors =
+    flat_map (λ level. edge_at facts source sink v (Some level) (vectors_of (Some level) vectors)) (range_with_len 1 (length v.loops))
+    ++ independent_edge facts source sink v vectors
 
--- these are the dependences from a source to a sink (Allen and Kennedy, section 3.2)
-pub record PairEdges (source sink : Reference) (edges : List Edge) : Type 0 where
-  pub view : View
-  pub viewed : view_of source sink ≡ Some view
+-- the dependences of a pair whose view has these vectors: none where the references belong to different private copies (ParaScope; this project)
+abbrev pub edges_by : Facts → Reference → Reference → View → List (List Direction) → List Edge
+edges_by facts source sink v vectors =
+    if have_same_owner source sink then divided facts source sink v (within_iteration (owner_level source) vectors) else []
+
+-- what a statement assigns, where it is there
+abbrev pub assigned_by : Option StmtTree → List (List ℕ)
+assigned_by (Some s) = assigned_in s
+assigned_by None = []
+
+-- the setting of the references of a program in the DO with this number, the outermost round them (this project)
+abbrev pub setting_in : ProgramTree → ℕ → Setting
+setting_in t number = record {
+  constants = (table_of t).constants;
+  loop_variables = all_loop_variables t.body;
+  assigned = assigned_by (statement_with number t);
+}
+
+-- where a reference stands
+abbrev pub site_of : Reference → Site
+site_of r = record { nest = r.nest; subscripts = r.access.subscripts }
+
+-- the view of an ordered pair of references of a program (Allen and Kennedy, section 3.2)
+abbrev pub view_of : ProgramTree → Reference → Reference → View
+view_of t source sink = view_at (setting_in t (outermost source)) (site_of source) (site_of sink)
+
+-- what edges of a program depend on beside pairs and views
+abbrev pub facts_of : ProgramTree → Facts
+facts_of t = record { constants = (table_of t).constants; guarded = guarded t }
+
+-- these are the dependences of a pair of references of a program (Allen and Kennedy, section 3.2)
+pub record PairEdges (t : ProgramTree) (source sink : Reference) (edges : List Edge) : Type 0 where
   pub vectors : List (List Direction)
-  pub possible : AreVectors view vectors
-  pub divided : edges ≡ edges_by source sink view vectors
+  pub possible : AreVectors (view_of t source sink) vectors
+  pub divided : edges ≡ edges_by (facts_of t) source sink (view_of t source sink) vectors
 
 -- these are the dependences of the pairs, pair by pair (this project)
-abbrev pub EdgesOfPairs : List (Reference × Reference) → List Edge → Type 0
-EdgesOfPairs [] edges = edges ≡ []
-EdgesOfPairs (p ∷ ps) edges = (first : List Edge) × (rest : List Edge) × (edges ≡ first ++ rest) × PairEdges p.0 p.1 first × EdgesOfPairs ps rest
+abbrev pub EdgesOfPairs : ProgramTree → List (Reference × Reference) → List Edge → Type 0
+EdgesOfPairs t [] edges = edges ≡ []
+EdgesOfPairs t (p ∷ ps) edges = (first : List Edge) × (rest : List Edge) × (edges ≡ first ++ rest) × PairEdges t p.0 p.1 first × EdgesOfPairs t ps rest
 
 -- these are the dependences of the program, in the order of the pane (Allen and Kennedy, section 3.2; ParaScope)
 abbrev pub AreEdges : ProgramTree → List Edge → Type 0
-AreEdges t edges = EdgesOfPairs (pairs (references t)) edges
+AreEdges t edges = EdgesOfPairs t (pairs (references t)) edges

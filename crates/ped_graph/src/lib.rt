@@ -1,7 +1,3 @@
 //! The dependence graph of a program: its edges, their marks, and the dependence pane. The definitions
 //! stand in `specs/`.
 #![tactic(auto)]
-
-mod laws;
-
-pub use laws::one_dependence_pane;

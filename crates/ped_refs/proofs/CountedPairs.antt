@@ -6,8 +6,9 @@ use Rattle.std.proofs.lemmas.List.Sums.{sum_by-cons, count_by-le-length}
 use Rattle.ped_base.specs.Lists.{has_some, is_same_text}
 use Rattle.ped_tree.specs.Nests.{common_nest}
 use Rattle.ped_refs.specs.References.{Reference, is_pair, pair_count, outermost}
-use Rattle.ped_refs.specs.Tallies.{AreNumbered, IsCounted, Tallies, group_of, is_same_group, is_together, tally_at, tally_with, with_reference, pairs_with}
-use Rattle.ped_refs.specs.declared.counting.Group.{Group}
+use Rattle.ped_refs.specs.Groups.{group_of, is_same_group}
+use Rattle.ped_refs.specs.Tallies.{AreNumbered, IsCounted, Tallies, is_together, tally_at, tally_with, with_reference, pairs_with}
+use Rattle.ped_refs.specs.declared.groups.Group.{Group}
 use Rattle.ped_refs.specs.declared.counting.Tally.{Tally}
 use Rattle.ped_refs.proofs.RelatedPairs.{related, related_push}
 use Rattle.ped_refs.proofs.GroupPairs.{pair_count_is, pair_flip, common_by_outermost, group_together, together_itself, together_flip, tally_same, tally_more, tally_other}

@@ -6,10 +6,11 @@ use Rattle.std.proofs.lemmas.Nat.{mul-le}
 use Rattle.std.proofs.lemmas.List.{take_more, get_or-map, length-map, length-take-le}
 use Rattle.ped_refs.specs.References.{Reference, is_pair, pair_count, outermost}
 use Rattle.ped_refs.specs.ListedReferences.{ref_of}
-use Rattle.ped_refs.specs.Tallies.{AreNumbered, AreListed, IsCounted, Tallies, group, group_of, is_same_group, tally_at, tally_with, with_reference, pairs_with}
+use Rattle.ped_refs.specs.Groups.{group, group_of, is_same_group}
+use Rattle.ped_refs.specs.Tallies.{AreNumbered, AreListed, IsCounted, Tallies, tally_at, tally_with, with_reference, pairs_with}
 use Rattle.ped_refs.specs.declared.references.Ref.{Ref}
 use Rattle.ped_refs.specs.declared.references.Refs.{Refs}
-use Rattle.ped_refs.specs.declared.counting.Group.{Group}
+use Rattle.ped_refs.specs.declared.groups.Group.{Group}
 use Rattle.ped_refs.specs.declared.counting.Tally.{Tally}
 use Rattle.ped_refs.proofs.RelatedPairs.{related-le}
 use Rattle.ped_refs.proofs.GroupPairs.{pair_count_is}

@@ -3,13 +3,14 @@ use Rattle.std.proofs.Common.{◌≡◌, Bool, true, false, cond, ◌&&◌, eqb,
 use Rattle.std.specs.Prelude.{unwrap_or, if◌then◌else◌}
 use Rattle.indexmap.specs.IndexMap.{get, Updates}
 use Rattle.ped_names.proofs.NameEquality.{name_same}
-use Rattle.ped_refs.specs.Tallies.{Tallies, is_same_name, is_same_group, tally_at}
+use Rattle.ped_refs.specs.Groups.{is_same_name, is_same_group}
+use Rattle.ped_refs.specs.Tallies.{Tallies, tally_at}
 use Rattle.ped_refs.specs.declared.references.RefName.{RefName}
 use Rattle.ped_refs.specs.declared.references.RefName.TheVariants.{Named, In, Out}
-use Rattle.ped_refs.specs.declared.counting.Group.{Group}
+use Rattle.ped_refs.specs.declared.groups.Group.{Group}
 use Rattle.ped_refs.specs.declared.counting.Tally.{Tally}
 use Rattle.ped_refs.specs.contracts.references.RefNamePartialEq.TheImpl as names
-use Rattle.ped_refs.specs.contracts.counting.GroupPartialEq.TheImpl as groups
+use Rattle.ped_refs.specs.contracts.groups.GroupPartialEq.TheImpl as groups
 
 name_is : (x y : RefName) → (names.eq-value).it x y ≡ is_same_name x y
 name_is (Named x) (Named y) = name_same x y
@@ -27,7 +28,7 @@ pub group_is : (g h : Group) → (groups.eq-value).it g h ≡ is_same_group g h
 group_is g h = ap (λ (b : Bool). b && eqb g.outer h.outer) (name_is g.name h.name)
 
 -- the tests are one function
-same_test : (groups.eq-value).it ≡ is_same_group
+pub same_test : (groups.eq-value).it ≡ is_same_group
 same_test = λ i g h. group_is g h i
 
 taken : (b : Bool) (t zero : Tally) (o : Option Tally) → unwrap_or (cond b (Some t) o) zero ≡ (if b then t else unwrap_or o zero)

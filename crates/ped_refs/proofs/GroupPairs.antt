@@ -11,7 +11,8 @@ use Rattle.ped_tree.specs.Nests.{Loop, common_nest}
 use Rattle.ped_names.proofs.NameEquality.{same_flip, same_is, same_itself}
 use Rattle.ped_refs.specs.References.{Reference, is_pair, pair_count, outermost, outermost_number}
 use Rattle.ped_refs.specs.ListedReferences.{ref_name}
-use Rattle.ped_refs.specs.Tallies.{is_same_name, is_same_group, group_of, is_together, tally_with, with_reference}
+use Rattle.ped_refs.specs.Groups.{is_same_name, is_same_group, group_of}
+use Rattle.ped_refs.specs.Tallies.{is_together, tally_with, with_reference}
 use Rattle.ped_refs.specs.declared.references.RefName.{RefName}
 use Rattle.ped_refs.specs.declared.references.RefName.TheVariants.{Named, In, Out}
 use Rattle.ped_refs.proofs.RelatedPairs.{related, count_by_push}
@@ -23,7 +24,8 @@ pair_count_is refs =
     length-flat_map (λ (source : Reference). map (with source) (filter (is_pair source) refs)) refs
     ∙ (λ i. sum_by (λ (source : Reference). (length-map (filter (is_pair source) refs) (with source) ∙ length-filter (is_pair source) refs) i) refs)
 
-eqb_flip : (m n : ℕ) → eqb m n ≡ eqb n m
+-- the test of two numbers goes both ways
+pub eqb_flip : (m n : ℕ) → eqb m n ≡ eqb n m
 eqb_flip m n = grind (arith, eqb-true)
 
 eqb_itself : (n : ℕ) → eqb n n ≡ true
@@ -35,7 +37,8 @@ or_flip true false = refl
 or_flip false true = refl
 or_flip false false = refl
 
-and_false : (a : Bool) → (a && false) ≡ false
+-- nothing that asks for false holds
+pub and_false : (a : Bool) → (a && false) ≡ false
 and_false true = refl
 and_false false = refl
 
@@ -47,7 +50,8 @@ and_not : (a : Bool) → (a && not a) ≡ false
 and_not true = refl
 and_not false = refl
 
-chosen : {A : Type 0} (b : Bool) (x : A) (xs : List A) → has_some (if b then x ∷ xs else []) ≡ b
+-- a list that begins with an item, where a test holds
+pub chosen : {A : Type 0} (b : Bool) (x : A) (xs : List A) → has_some (if b then x ∷ xs else []) ≡ b
 chosen true x xs = refl
 chosen false x xs = refl
 
@@ -99,7 +103,7 @@ name_by : Bool → Bool → List ℕ → RefName
 name_by a b x = if a then In else (if b then Out else Named x)
 
 -- two names in the list are the same where their texts are
-name_together : (x y : List ℕ) → is_same_name (ref_name x) (ref_name y) ≡ is_same_text x y
+pub name_together : (x y : List ℕ) → is_same_name (ref_name x) (ref_name y) ≡ is_same_text x y
 name_together x y = go (which x) (which y)
   where
     in_name : (z : List ℕ) → is_same_text z (codes "(IN)") ≡ true → ref_name z ≡ In

@@ -1,4 +1,6 @@
-pub mod Entries
+pub mod Expressions
+pub mod StatementParts
+pub mod SameReferences
 pub mod RelatedPairs
 pub mod GroupEquality
 pub mod GroupPairs
@@ -7,3 +9,7 @@ pub mod CountingSteps
 pub mod TextOrder
 pub mod FirstBeyond
 pub mod ListedProgram
+pub mod GroupMembers
+pub mod PairPlaces
+pub mod PairSteps
+pub mod NextPairs

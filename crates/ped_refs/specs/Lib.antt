@@ -1,5 +1,9 @@
 pub mod References
 pub mod PairLimit
 pub mod ListedReferences
+pub mod Loops
+pub mod Occurrences
 pub mod Listing
+pub mod Groups
 pub mod Tallies
+pub mod Grouping

@@ -1,44 +1,15 @@
 -- How pairs of references are counted by groups of references that can pair with each other. Contracts of private functions alone speak of these definitions.
-use Rattle.std.specs.Prelude.{◌≡◌, ℕ, ◌+◌, ◌*◌, List, [], ◌∷◌, map, take, Bool, true, false, ◌==◌, ◌&&◌, not, count_by, unwrap_or, if◌then◌else◌}
+use Rattle.std.specs.Prelude.{◌≡◌, ℕ, ◌+◌, ◌*◌, List, [], ◌∷◌, map, take, Bool, false, ◌==◌, ◌&&◌, not, count_by, unwrap_or, if◌then◌else◌}
 use Rattle.std.specs.declared.hash.FoldHasher.{FoldHasher}
 use Rattle.std.specs.declared.hash.BuildHasherDefault.{BuildHasherDefault}
 use Rattle.indexmap.specs.IndexMap.{IndexMap, get}
 use Rattle.ped_base.specs.Lists.{has_some, is_same_text}
 use Rattle.ped_refs.specs.References.{Reference, outermost, pair_count}
-use Rattle.ped_refs.specs.ListedReferences.{ref_name, ref_of}
-use Rattle.ped_refs.specs.declared.references.RefName.{RefName}
-use Rattle.ped_refs.specs.declared.references.RefName.TheVariants.{Named, In, Out}
+use Rattle.ped_refs.specs.ListedReferences.{ref_of}
+use Rattle.ped_refs.specs.Groups.{is_same_group, group_of}
 use Rattle.ped_refs.specs.declared.references.Refs.{Refs}
-use Rattle.ped_refs.specs.declared.counting.Group.{Group}
+use Rattle.ped_refs.specs.declared.groups.Group.{Group}
 use Rattle.ped_refs.specs.declared.counting.Tally.{Tally}
-
--- the same name in the list
-abbrev pub is_same_name : RefName → RefName → Bool
-is_same_name (Named x) (Named y) = is_same_text x y
-is_same_name (Named x) In = false
-is_same_name (Named x) Out = false
-is_same_name In (Named y) = false
-is_same_name In In = true
-is_same_name In Out = false
-is_same_name Out (Named y) = false
-is_same_name Out In = false
-is_same_name Out Out = true
-
--- the same group: of one name, with one outermost DO
-abbrev pub is_same_group : Group → Group → Bool
-is_same_group g h = is_same_name g.name h.name && g.outer == h.outer
-
--- a group, under a name that the code hasn't got
-abbrev pub PlainGroup : Type 0
-PlainGroup = Group
-
--- the group of a name and an outermost DO
-abbrev pub group : RefName → ℕ → Group
-group name outer = record { name = name; outer = outer }
-
--- the group of a reference
-abbrev pub group_of : Reference → Group
-group_of r = group (ref_name r.access.name) (outermost r)
 
 -- the table of what was counted, group by group
 abbrev pub Tallies : Type 0

@@ -2,38 +2,39 @@
 //! its subscripts, a DO's bounds before its private names. After want of memory the list has a front of what
 //! was to be added.
 
-ghost use Rattle.std.specs.Prelude.{◌≡◌, [], ◌∷◌, ◌++◌, map, true, IfOk, OnOk, if◌then◌else◌};
+ghost use Rattle.std.specs.Prelude.{◌≡◌, [], ◌∷◌, ◌++◌, map, true, IfOk, OnOk};
 ghost use Rattle.std.specs.List.{flat_map};
-ghost use Rattle.ped_base.specs.Lists as Lists;
 ghost use Rattle.ped_tree.specs.Tree;
 ghost use Rattle.ped_tree.specs.Accesses as Spec;
 ghost use Rattle.ped_tree.specs.Views.{expr_tree, pack_exprs, cond_tree, item_tree, stmt_tree};
-ghost use Rattle.ped_refs.specs.ListedReferences.{ref_name};
-ghost use Rattle.ped_refs.specs.Listing.{access, accesses_of};
+ghost use Rattle.ped_refs.specs.Occurrences.{name_text};
+ghost use Rattle.ped_refs.specs.Listing.{accesses_of, constants_round, indices_round};
 
+use crate::loops::is_index;
 use crate::references::RefName;
 use crate::surroundings::Surroundings;
 use ped_base::{Name, NoMemory};
-use ped_names::is_among;
 use ped_tree::{Cond, Do, Expr, PrintItem, Stmt};
 use std::alloc::Global;
 
 /// A read or a write.
 #[derive(Clone, Copy)]
-pub struct Access {
+pub struct Access<'a> {
     /// What is read or written.
     pub name: RefName,
     /// Whether it is written.
     pub writes: bool,
+    /// The subscripts, none for a scalar.
+    pub subscripts: &'a [Expr],
 }
 
 /// The accesses of a statement by itself.
-pub fn own_accesses(
+pub fn own_accesses<'a>(
     alloc: Global,
     around: &Surroundings,
-    statement: &Stmt,
-) -> Result<Vec<Access>, NoMemory>
-    ensures { IfOk result (λ found. found.items ≡ accesses_of (Spec.own_accesses around.now.constants.now around.now.variables.now (stmt_tree statement.now))) }
+    statement: &'a Stmt,
+) -> Result<Vec<Access<'a>>, NoMemory>
+    ensures { IfOk result (λ found. accesses_of found.items ≡ Spec.own_accesses (constants_round around.now) (indices_round around.now) (stmt_tree statement.now)) }
 {
     let mut found = Vec::new(alloc);
     add_statement(&mut found, around, statement)?;
@@ -41,12 +42,12 @@ pub fn own_accesses(
 }
 
 /// Adds the accesses of a statement by itself.
-fn add_statement(
-    found: &mut Vec<Access>,
+fn add_statement<'a>(
+    found: &mut Vec<Access<'a>>,
     around: &Surroundings,
-    statement: &Stmt,
+    statement: &'a Stmt,
 ) -> Result<(), NoMemory>
-    ensures { OnOk result (found.new.items ≡ found.old.items ++ accesses_of (Spec.own_accesses around.now.constants.now around.now.variables.now (stmt_tree statement.now))) }
+    ensures { OnOk result (accesses_of found.new.items ≡ accesses_of found.old.items ++ Spec.own_accesses (constants_round around.now) (indices_round around.now) (stmt_tree statement.now)) }
 {
     match statement {
         Stmt::Assign { left, right } => {
@@ -68,64 +69,80 @@ fn add_statement(
 }
 
 /// Adds the accesses of a DO statement: its bounds, and a write of each private name.
-fn add_do(found: &mut Vec<Access>, around: &Surroundings, d: &Do) -> Result<(), NoMemory>
-    ensures { OnOk result (found.new.items ≡ found.old.items ++ accesses_of (Spec.expr_reads around.now.constants.now around.now.variables.now (expr_tree d.now.first)
-        ++ Spec.expr_reads around.now.constants.now around.now.variables.now (expr_tree d.now.last)
-        ++ Spec.private_writes around.now.constants.now d.now.private)) }
+fn add_do<'a>(found: &mut Vec<Access<'a>>, around: &Surroundings, d: &'a Do) -> Result<(), NoMemory>
+    ensures { OnOk result (accesses_of found.new.items ≡ accesses_of found.old.items ++ Spec.expr_reads (constants_round around.now) (indices_round around.now) (expr_tree d.now.first)
+        ++ Spec.expr_reads (constants_round around.now) (indices_round around.now) (expr_tree d.now.last)
+        ++ Spec.private_writes (constants_round around.now) d.now.private) }
 {
     add_expr(found, around, &d.first)?;
     add_expr(found, around, &d.last)?;
     add_private(found, around, d.private.as_slice())
 }
 
-/// Adds a write of the data lines or the output.
-fn add_write(found: &mut Vec<Access>, name: RefName) -> Result<(), NoMemory>
-    ensures { OnOk result (found.new.items ≡ found.old.items ++ access name true ∷ []) }
+/// Adds a read or a write.
+fn add_access<'a>(
+    found: &mut Vec<Access<'a>>,
+    name: RefName,
+    writes: bool,
+    subscripts: &'a [Expr],
+) -> Result<(), NoMemory>
+    ensures { OnOk result (accesses_of found.new.items ≡ accesses_of found.old.items ++ (record { name = name_text name; writes = writes; subscripts = map expr_tree subscripts.now }) ∷ []) }
 {
-    found.push(Access { name, writes: true })?;
-    Ok(())
+    match found.push(Access {
+        name,
+        writes,
+        subscripts,
+    }) {
+        Ok(()) => Ok(()),
+        Err(_) => Err(NoMemory),
+    }
 }
 
-/// Adds a read or a write of a variable, where the name is no constant.
-fn add_variable(
-    found: &mut Vec<Access>,
+/// Adds a write of the data lines or the output.
+fn add_write<'a>(found: &mut Vec<Access<'a>>, name: RefName) -> Result<(), NoMemory>
+    ensures { OnOk result (accesses_of found.new.items ≡ accesses_of found.old.items ++ Spec.write_of (name_text name) [] ∷ []) }
+{
+    add_access(found, name, true, &[])
+}
+
+/// Adds a read or a write of a variable with these subscripts, where the name is no constant.
+fn add_variable<'a>(
+    found: &mut Vec<Access<'a>>,
     around: &Surroundings,
     name: &Name,
     writes: bool,
+    subscripts: &'a [Expr],
 ) -> Result<(), NoMemory>
-    ensures { OnOk result (found.new.items ≡ found.old.items
-        ++ (if Lists.is_among name.now around.now.constants.now then [] else access (ref_name name.now) writes ∷ [])) }
+    ensures { OnOk result (accesses_of found.new.items ≡ accesses_of found.old.items
+        ++ Spec.unless_constant (constants_round around.now) (record { name = name.now; writes = writes; subscripts = map expr_tree subscripts.now })) }
 {
     if !around.constants.contains(name) {
-        found.push(Access {
-            name: RefName::of_variable(name),
-            writes,
-        })?;
+        add_access(found, RefName::Named(*name), writes, subscripts)?;
     }
     Ok(())
 }
 
 /// Adds a write of each private name.
-fn add_private(
-    found: &mut Vec<Access>,
+fn add_private<'a>(
+    found: &mut Vec<Access<'a>>,
     around: &Surroundings,
     private: &[Name],
 ) -> Result<(), NoMemory>
-    ensures { OnOk result (found.new.items ≡ found.old.items ++ accesses_of (Spec.private_writes around.now.constants.now private.now)) }
+    ensures { OnOk result (accesses_of found.new.items ≡ accesses_of found.old.items ++ Spec.private_writes (constants_round around.now) private.now) }
 {
     for name in private {
-        add_variable(found, around, name, true)?;
+        add_variable(found, around, name, true, &[])?;
     }
     Ok(())
 }
 
 /// Adds what the items of a PRINT read.
-fn add_items(
-    found: &mut Vec<Access>,
+fn add_items<'a>(
+    found: &mut Vec<Access<'a>>,
     around: &Surroundings,
-    items: &[PrintItem],
+    items: &'a [PrintItem],
 ) -> Result<(), NoMemory>
-    ensures { OnOk result (found.new.items ≡ found.old.items ++ accesses_of (flat_map (Spec.item_reads around.now.constants.now around.now.variables.now) (map item_tree items.now))) }
+    ensures { OnOk result (accesses_of found.new.items ≡ accesses_of found.old.items ++ flat_map (Spec.item_reads (constants_round around.now) (indices_round around.now)) (map item_tree items.now)) }
 {
     for item in items {
         add_item(found, around, item)?;
@@ -133,12 +150,12 @@ fn add_items(
     Ok(())
 }
 
-fn add_item(
-    found: &mut Vec<Access>,
+fn add_item<'a>(
+    found: &mut Vec<Access<'a>>,
     around: &Surroundings,
-    item: &PrintItem,
+    item: &'a PrintItem,
 ) -> Result<(), NoMemory>
-    ensures { OnOk result (found.new.items ≡ found.old.items ++ accesses_of (Spec.item_reads around.now.constants.now around.now.variables.now (item_tree item.now))) }
+    ensures { OnOk result (accesses_of found.new.items ≡ accesses_of found.old.items ++ Spec.item_reads (constants_round around.now) (indices_round around.now) (item_tree item.now)) }
 {
     match item {
         PrintItem::Value(e) => add_expr(found, around, e),
@@ -147,12 +164,12 @@ fn add_item(
 }
 
 /// Adds what the items of a READ read and write.
-fn add_targets(
-    found: &mut Vec<Access>,
+fn add_targets<'a>(
+    found: &mut Vec<Access<'a>>,
     around: &Surroundings,
-    items: &[Expr],
+    items: &'a [Expr],
 ) -> Result<(), NoMemory>
-    ensures { OnOk result (found.new.items ≡ found.old.items ++ accesses_of (flat_map (Spec.left_accesses around.now.constants.now around.now.variables.now) (map expr_tree items.now))) }
+    ensures { OnOk result (accesses_of found.new.items ≡ accesses_of found.old.items ++ flat_map (Spec.left_accesses (constants_round around.now) (indices_round around.now)) (map expr_tree items.now)) }
 {
     for item in items {
         add_left(found, around, item)?;
@@ -161,14 +178,18 @@ fn add_targets(
 }
 
 /// Adds what a left side reads, and then its write.
-fn add_left(found: &mut Vec<Access>, around: &Surroundings, left: &Expr) -> Result<(), NoMemory>
-    ensures { OnOk result (found.new.items ≡ found.old.items ++ accesses_of (Spec.left_accesses around.now.constants.now around.now.variables.now (expr_tree left.now))) }
+fn add_left<'a>(
+    found: &mut Vec<Access<'a>>,
+    around: &Surroundings,
+    left: &'a Expr,
+) -> Result<(), NoMemory>
+    ensures { OnOk result (accesses_of found.new.items ≡ accesses_of found.old.items ++ Spec.left_accesses (constants_round around.now) (indices_round around.now) (expr_tree left.now)) }
 {
     match left {
-        Expr::Var(name) => add_variable(found, around, name, true),
+        Expr::Var(name) => add_variable(found, around, name, true, &[]),
         Expr::Element(array, subscripts) => {
             add_exprs(found, around, subscripts)?;
-            add_variable(found, around, array, true)
+            add_variable(found, around, array, true, subscripts)
         }
         Expr::Int(_)
         | Expr::Neg(_)
@@ -183,12 +204,12 @@ fn add_left(found: &mut Vec<Access>, around: &Surroundings, left: &Expr) -> Resu
 
 /// Adds what a condition reads.
 #[cycle(conditions)]
-fn add_cond(
-    found: &mut Vec<Access>,
+fn add_cond<'a>(
+    found: &mut Vec<Access<'a>>,
     around: &Surroundings,
-    condition: &Cond,
+    condition: &'a Cond,
 ) -> Result<(), NoMemory>
-    ensures { OnOk result (found.new.items ≡ found.old.items ++ accesses_of (Spec.cond_reads around.now.constants.now around.now.variables.now (cond_tree condition.now))) }
+    ensures { OnOk result (accesses_of found.new.items ≡ accesses_of found.old.items ++ Spec.cond_reads (constants_round around.now) (indices_round around.now) (cond_tree condition.now)) }
 {
     match condition {
         Cond::Rel(_, left, right) => {
@@ -205,15 +226,19 @@ fn add_cond(
 
 /// Adds what an expression reads.
 #[cycle(expressions)]
-fn add_expr(found: &mut Vec<Access>, around: &Surroundings, e: &Expr) -> Result<(), NoMemory>
-    ensures { OnOk result (found.new.items ≡ found.old.items ++ accesses_of (Spec.expr_reads around.now.constants.now around.now.variables.now (expr_tree e.now))) }
+fn add_expr<'a>(
+    found: &mut Vec<Access<'a>>,
+    around: &Surroundings,
+    e: &'a Expr,
+) -> Result<(), NoMemory>
+    ensures { OnOk result (accesses_of found.new.items ≡ accesses_of found.old.items ++ Spec.expr_reads (constants_round around.now) (indices_round around.now) (expr_tree e.now)) }
 {
     match e {
         Expr::Int(_) => Ok(()),
         Expr::Var(name) => add_scalar(found, around, name),
         Expr::Element(name, subscripts) => {
             add_exprs(found, around, subscripts)?;
-            add_variable(found, around, name, false)
+            add_variable(found, around, name, false, subscripts)
         }
         Expr::Neg(operand) => add_expr(found, around, operand),
         Expr::Add(left, right)
@@ -229,19 +254,27 @@ fn add_expr(found: &mut Vec<Access>, around: &Surroundings, e: &Expr) -> Result<
 }
 
 /// Adds the read of a scalar, where it is neither the variable of a DO nor a constant.
-fn add_scalar(found: &mut Vec<Access>, around: &Surroundings, name: &Name) -> Result<(), NoMemory>
-    ensures { OnOk result (found.new.items ≡ found.old.items ++ accesses_of (Spec.expr_reads around.now.constants.now around.now.variables.now (Tree.Var name.now))) }
+fn add_scalar<'a>(
+    found: &mut Vec<Access<'a>>,
+    around: &Surroundings,
+    name: &Name,
+) -> Result<(), NoMemory>
+    ensures { OnOk result (accesses_of found.new.items ≡ accesses_of found.old.items ++ Spec.expr_reads (constants_round around.now) (indices_round around.now) (Tree.Var name.now)) }
 {
-    if is_among(name, around.variables) {
+    if is_index(name, around.loops) {
         return Ok(());
     }
-    add_variable(found, around, name, false)
+    add_variable(found, around, name, false, &[])
 }
 
 /// Adds what subscripts or arguments read.
 #[cycle(expressions)]
-fn add_exprs(found: &mut Vec<Access>, around: &Surroundings, exprs: &[Expr]) -> Result<(), NoMemory>
-    ensures { OnOk result (found.new.items ≡ found.old.items ++ accesses_of (Spec.exprs_reads around.now.constants.now around.now.variables.now (pack_exprs (map expr_tree exprs.now)))) }
+fn add_exprs<'a>(
+    found: &mut Vec<Access<'a>>,
+    around: &Surroundings,
+    exprs: &'a [Expr],
+) -> Result<(), NoMemory>
+    ensures { OnOk result (accesses_of found.new.items ≡ accesses_of found.old.items ++ Spec.exprs_reads (constants_round around.now) (indices_round around.now) (pack_exprs (map expr_tree exprs.now))) }
 {
     for e in exprs {
         add_expr(found, around, e)?;

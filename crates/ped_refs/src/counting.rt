@@ -8,8 +8,10 @@ ghost use Rattle.ped_refs.specs.References.{references, pair_count};
 ghost use Rattle.ped_refs.specs.PairLimit.{most_pairs, is_within_pair_limit, IsFirstBeyond};
 ghost use Rattle.ped_refs.specs.ListedReferences.{AreReferences, AreOfProgram};
 ghost use Rattle.ped_refs.specs.Tallies as Spec;
-ghost use Rattle.ped_refs.specs.Tallies.{AreCounted, group, is_same_group, tally_at};
+ghost use Rattle.ped_refs.specs.Groups.{PlainGroup, group, is_same_group};
+ghost use Rattle.ped_refs.specs.Tallies.{AreCounted, tally_at};
 
+use crate::groups::Group;
 use crate::references::{RefName, Refs};
 use indexmap::IndexMap;
 use ped_base::NoMemory;
@@ -17,13 +19,6 @@ use std::alloc::Global;
 
 /// The greatest number of ordered pairs that a program may have.
 pub const MOST_PAIRS: u64 = 200_000;
-
-/// What references have in common that can pair with each other.
-#[derive(Clone, Copy, PartialEq, Eq, Hash)]
-struct Group {
-    name: RefName,
-    outer: u32,
-}
 
 /// How many references of a group there are, and how many of them write.
 #[derive(Clone, Copy)]
@@ -122,7 +117,7 @@ fn put(
     outer: u32,
     tally: Tally,
 ) -> Result<(), NoMemory>
-    ensures { OnOk result ((other : Spec.PlainGroup) → tally_at groups.new other
+    ensures { OnOk result ((other : PlainGroup) → tally_at groups.new other
         ≡ (if is_same_group (group name outer) other then tally else tally_at groups.old other)) }
 {
     groups.insert(Group { name, outer }, tally)?;

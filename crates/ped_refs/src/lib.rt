@@ -5,10 +5,17 @@
 mod accesses;
 mod constants;
 mod counting;
+mod groups;
 mod listing;
+mod loops;
+mod occurring;
+mod pairing;
 mod references;
 mod surroundings;
 
 pub use counting::{MOST_PAIRS, first_beyond_limit, pairs, within_limit};
 pub use listing::refs;
+pub use loops::Loop;
+pub use occurring::{Occurrence, occurrences};
+pub use pairing::{Pair, listed_pairs};
 pub use references::{Ref, RefName, Refs};

@@ -18,14 +18,19 @@ pub enum RefName {
 
 impl RefName {
     ghost use Rattle.ped_refs.specs.ListedReferences.{ref_name};
+    ghost use Rattle.ped_refs.specs.Occurrences.{name_text};
 
-    /// The variable or the array of this name. A name begins with a letter, so it is neither `(IN)` nor
-    /// `(OUT)`.
-    pub fn of_variable(name: &Name) -> RefName
-        ensures { result ≡ ref_name name.now }
+    /// The same, as the name of its text: a name begins with a letter, so it is neither `(IN)` nor `(OUT)`.
+    pub fn by_text(self) -> RefName
+        ensures { result ≡ ref_name (name_text self) }
     {
-        let _bytes = name.as_bytes();
-        RefName::Named(*name)
+        match self {
+            RefName::Named(name) => {
+                let _bytes = name.as_bytes();
+                self
+            }
+            RefName::In | RefName::Out => self,
+        }
     }
 }
 

@@ -3,7 +3,7 @@ use Rattle.std.proofs.lemmas.List.{length-map}
 use Rattle.std.proofs.lemmas.Result.{on_ok_weaker}
 use Rattle.std.specs.Fmt.{decimal}
 use Rattle.std.specs.List.{flat_map}
-use Rattle.ped_graph.specs.DependencePane.{edge_row}
+use Rattle.ped.specs.DependencePane.{edge_row}
 use Rattle.ped.specs.Dependences.{edge_of, edges_of}
 use Rattle.ped.proofs.Rows.{heading_pushed}
 use Rattle.ped.proofs.dependence_pane.dependence_pane.Goals as goal

@@ -1,6 +1,6 @@
 use Rattle.std.proofs.Common.{◌++◌, ◌∷◌, [], ◌∙◌, ℕ, List, ap}
 use Rattle.std.proofs.lemmas.Result.{on_ok_weaker}
-use Rattle.ped_graph.specs.DependencePane as pane
+use Rattle.ped.specs.DependencePane as pane
 use Rattle.ped.specs.Dependences.{kind_of, level_of, sign_of, mark_of}
 use Rattle.ped.proofs.Rows.{eight_pushed}
 use Rattle.ped.proofs.dependence_pane.edge_row.Goals as goal

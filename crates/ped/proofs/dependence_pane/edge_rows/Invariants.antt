@@ -1,6 +1,6 @@
 use Rattle.std.proofs.Common.{◌≡◌, [], ◌∷◌, ◌++◌, drop}
 use Rattle.std.specs.List.{flat_map}
-use Rattle.ped_graph.specs.DependencePane.{edge_row}
+use Rattle.ped.specs.DependencePane.{edge_row}
 use Rattle.ped.specs.Dependences.{edges_of}
 use Rattle.ped.proofs.dependence_pane.edge_rows.Given as goal
 

@@ -1,6 +1,6 @@
 use Rattle.std.proofs.Common.{◌++◌, ◌∙◌, List, ap}
 use Rattle.std.proofs.lemmas.Result.{on_ok_weaker}
-use Rattle.ped_graph.specs.DependencePane.{edges_pane}
+use Rattle.ped.specs.DependencePane.{edges_pane}
 use Rattle.ped_tree.specs.Views.{program_tree}
 use Rattle.ped.specs.declared.dependences.Edge.{Edge}
 use Rattle.ped.specs.Dependences.{edges_of}

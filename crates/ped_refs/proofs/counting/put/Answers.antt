@@ -1,4 +1,4 @@
-use Rattle.ped_refs.specs.Tallies.{group}
+use Rattle.ped_refs.specs.Groups.{group}
 use Rattle.ped_refs.proofs.GroupEquality.{put_is}
 use Rattle.ped_refs.proofs.counting.put.Goals as goal
 

@@ -5,8 +5,8 @@ use Rattle.ped_views.specs.Vectors.{AreVectors}
 use Rattle.ped_views.proofs.Chosen.{one_vectors}
 use Rattle.ped_tree.specs.Tree.{ProgramTree}
 use Rattle.ped_refs.specs.References.{Reference, references, pairs}
-use Rattle.ped_graph.specs.Edges.{Edge, PairEdges, EdgesOfPairs, AreEdges, edges_by}
-use Rattle.ped_graph.specs.DependencePane.{edges_pane, IsDependencePane}
+use Rattle.ped.specs.Edges.{Edge, PairEdges, EdgesOfPairs, AreEdges, edges_by}
+use Rattle.ped.specs.DependencePane.{edges_pane, IsDependencePane}
 
 some_is : {A : Type 0} (x y : A) → Some x ≡ Some y → x ≡ y
 some_is x y e = cc

@@ -1,0 +1,82 @@
+-- What the editor knows of a dependence: proven, rejected by the user, or pending (ParaScope; this project).
+use Rattle.std.specs.Prelude.{ℕ, ℤ, pos, ◌+ℤ◌, ◌-◌, List, [], ◌∷◌, length, unsigned_abs, int_le, Bool, true, false, ◌&&◌, not, ◌==◌, Option, Some, None, slice_get, if◌then◌else◌}
+use Rattle.std.specs.List.{list_all, list_any}
+use Rattle.std.specs.Ordering.{int_eq}
+use Rattle.ped_base.specs.Lists.{is_among}
+use Rattle.ped_views.specs.Views.{Range, SubscriptPair, View}
+use Rattle.ped_views.specs.Forms.{Form, ziv, strong_siv, weak_zero_siv, weak_crossing_siv, other_form, form_of}
+use Rattle.ped_tree.specs.Tree.{Head}
+use Rattle.ped_tree.specs.Nests.{Loop, common_nest}
+use Rattle.ped_refs.specs.References.{Reference}
+use Rattle.ped_constants.specs.ConstantExpressions.{constant_value}
+use Rattle.ped_affine.specs.Ranges.{is_near}
+use Rattle.ped_verdict.specs.Exactness.{is_separable}
+
+-- the dependence is there, the tests don't tell, the user has said that it isn't there (ParaScope)
+pub data Mark : Type 0 where
+  proven : Mark
+  pending : Mark
+  rejected : Mark
+
+-- a constant within 2^62 of zero (this project)
+abbrev pub is_near_constant : Option ℤ → Bool
+is_near_constant None = false
+is_near_constant (Some n) = is_near n
+
+-- both bounds of a loop are constant expressions within 2^62 (ANSI X3.9-1978, section 11.10; this project)
+abbrev pub has_constant_bounds : List (List ℕ × ℤ) → Loop → Bool
+has_constant_bounds constants l = is_near_constant (constant_value constants l.head.first) && is_near_constant (constant_value constants l.head.last)
+
+-- the loop runs at least twice: its second index value lies in its range (ANSI X3.9-1978, section 11.10.3)
+abbrev pub runs_twice : Range → Bool
+runs_twice r = int_le (r.lo +ℤ pos (unsigned_abs r.step)) r.hi
+
+-- ZIV with equal constants, or strong SIV (Allen and Kennedy, sections 3.3.1, 3.3.2)
+abbrev pub is_proven_form : Form → SubscriptPair → Bool
+is_proven_form ziv p = int_eq p.source.constant p.sink.constant
+is_proven_form (strong_siv o) p = true
+is_proven_form (weak_zero_siv o) p = false
+is_proven_form (weak_crossing_siv o) p = false
+is_proven_form other_form p = false
+
+-- affine, and ZIV with equal constants or strong SIV (Allen and Kennedy, section 3.3)
+abbrev pub is_proven_position : SubscriptPair → Bool
+is_proven_position p = p.usable && is_proven_form (form_of p) p
+
+-- all loops of a view run at least twice (ANSI X3.9-1978, section 11.10.3)
+abbrev pub all_run_twice : View → Bool
+all_run_twice v = list_all runs_twice v.loops && list_all runs_twice v.source_inner && list_all runs_twice v.sink_inner
+
+-- the statement of a reference stands in an IF, by the numbers of those that do
+abbrev pub is_guarded : List ℕ → Reference → Bool
+is_guarded guarded r = list_any (λ n. n == r.statement) guarded
+
+-- the dependence is there whatever the data are: the loops round either reference have constant bounds and run at least twice, no IF stands round either, and each position tells it, no index in two of them (ParaScope; this project)
+abbrev pub is_proven : List (List ℕ × ℤ) → List ℕ → Reference → Reference → View → Bool
+is_proven constants guarded source sink v =
+    list_all (has_constant_bounds constants) source.nest && list_all (has_constant_bounds constants) sink.nest
+    && all_run_twice v
+    && list_all is_proven_position v.positions && is_separable v
+    && not (is_guarded guarded source) && not (is_guarded guarded sink)
+
+-- the loop, where it is there, has a directive that rejects the name (ParaScope)
+abbrev pub rejects : List ℕ → Option Loop → Bool
+rejects x None = false
+rejects x (Some l) = is_among x l.head.rejected
+
+-- the loop at the level of a dependence, 1 for the outermost, rejects the name; none rejects what is independent of loops (ParaScope; this project)
+abbrev pub is_rejected : List ℕ → List Loop → Option ℕ → Bool
+is_rejected x common None = false
+is_rejected x common (Some level) = rejects x (slice_get common (level - 1))
+
+-- proven before rejected before pending (ParaScope; this project)
+abbrev pub mark_by : Bool → Bool → Mark
+mark_by true rejected_by_user = proven
+mark_by false true = rejected
+mark_by false false = pending
+
+-- the mark of the dependence of a level (ParaScope; this project)
+abbrev pub mark_of : List (List ℕ × ℤ) → List ℕ → Reference → Reference → View → Option ℕ → Mark
+mark_of constants guarded source sink v level =
+    mark_by (is_proven constants guarded source sink v)
+    (is_rejected source.access.name (common_nest source.nest sink.nest) level)

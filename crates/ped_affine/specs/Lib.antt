@@ -1,5 +1,6 @@
+pub mod AffineForms
+pub mod Arguments
 pub mod Assigned
 pub mod IntervalArithmetic
-pub mod Ranges
-pub mod AffineForms
 pub mod PairViews
+pub mod Ranges

@@ -1,2 +1,12 @@
 //! Ranges of loops and views of pairs of references, of a program's tree. The definitions stand in `specs/`.
 #![tactic(auto)]
+
+mod assigning;
+mod ranges;
+mod settings;
+mod views;
+
+pub use assigning::{assigned, loop_variables};
+pub use ranges::range;
+pub use settings::{Place, Setting};
+pub use views::view;

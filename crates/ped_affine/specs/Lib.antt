@@ -4,3 +4,4 @@ pub mod Assigned
 pub mod IntervalArithmetic
 pub mod PairViews
 pub mod Ranges
+pub mod Surroundings

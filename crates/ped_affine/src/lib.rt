@@ -2,6 +2,9 @@
 #![tactic(auto)]
 
 mod assigning;
+mod bounds;
+mod folding;
+mod intervals;
 mod ranges;
 mod settings;
 mod views;

@@ -1,0 +1,3 @@
+mod Extremes
+pub mod IntervalEnds
+pub mod Surrounding

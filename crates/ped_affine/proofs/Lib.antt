@@ -1,3 +1,5 @@
+mod CoefficientSteps
 mod Extremes
+mod FormLaws
 pub mod IntervalEnds
 pub mod Surrounding

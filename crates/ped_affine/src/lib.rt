@@ -3,7 +3,9 @@
 
 mod assigning;
 mod bounds;
+mod coefficients;
 mod folding;
+mod forms;
 mod intervals;
 mod ranges;
 mod settings;

@@ -44,7 +44,7 @@ ranges_more s ls ms l rs r e is =
     let h : Head = head_of l.statement.now in
     let rest : Around → List Range = λ a. ranges_inside s a (heads_of (nest_of ms)) in
     let grown : with_ranges (heads_of (nest_of (ls ++ l ∷ []))) (rs ++ r ∷ []) ≡ inside around h r =
-        ap (λ (hs : List Head). with_ranges hs (rs ++ r ∷ [])) (heads-append ls (l ∷ [])) ∙ with_one_more (heads_of (nest_of ls)) rs h r (length-heads ls ∙ e) in
+    ap (λ (hs : List Head). with_ranges hs (rs ++ r ∷ [])) (heads-append ls (l ∷ [])) ∙ with_one_more (heads_of (nest_of ls)) rs h r (length-heads ls ∙ e) in
     ap (λ (a : Around). (rs ++ r ∷ []) ++ rest a) grown ∙ append_assoc rs (r ∷ []) (rest (inside around h r))
     ∙ ap (λ (q : Range). rs ++ q ∷ rest (inside around h q)) is
 

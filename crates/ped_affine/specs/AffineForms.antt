@@ -37,9 +37,13 @@ within_limits f = if is_limited f then Some f else None
 abbrev pub constant_form : List (List ℕ) → ℤ → AffineForm
 constant_form unknowns n = form (map (λ x. pos 0) unknowns) n
 
+-- the coefficient of an unknown in the form of a variable
+abbrev pub unknown_coefficient : List ℕ → List ℕ → ℤ
+unknown_coefficient x y = if is_same_text x y then pos 1 else pos 0
+
 -- the form of an unknown
 abbrev pub unknown_form : List (List ℕ) → List ℕ → AffineForm
-unknown_form unknowns x = form (map (λ y. if is_same_text x y then pos 1 else pos 0) unknowns) (pos 0)
+unknown_form unknowns x = form (map (unknown_coefficient x) unknowns) (pos 0)
 
 -- the form of a variable, where it is an unknown
 abbrev pub variable_form : List (List ℕ) → List ℕ → Option AffineForm

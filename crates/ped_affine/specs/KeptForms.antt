@@ -33,3 +33,13 @@ pub record IsOver (unknowns : List (List ℕ)) (f : Form) : Type 0 where
   pub complete : length (coefficients_of unknowns f.coefficients.items) ≡ length unknowns
   pub coefficients : All IsSmallCoefficient f.coefficients.items
   pub constant : IsSmallConstant f.constant
+
+-- the form that is kept with a coefficient for each unknown
+abbrev pub plain_form : Form → AffineForm
+plain_form f = form f.coefficients.items f.constant
+
+-- a form has a coefficient for each unknown written out, and its numbers are within the limits
+pub record IsComplete (unknowns : List (List ℕ)) (f : Form) : Type 0 where
+  pub complete : length f.coefficients.items ≡ length unknowns
+  pub coefficients : All IsSmallCoefficient f.coefficients.items
+  pub constant : IsSmallConstant f.constant

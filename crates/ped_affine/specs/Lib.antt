@@ -3,6 +3,7 @@ pub mod Arguments
 pub mod Assigned
 pub mod IntervalArithmetic
 pub mod KeptForms
+pub mod KeptParts
 pub mod PairViews
 pub mod Ranges
 pub mod Surroundings

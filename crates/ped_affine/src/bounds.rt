@@ -16,10 +16,9 @@ ghost use Rattle.ped_affine.specs.Ranges.{constant_or, of_one, of_two, variable_
 ghost use Rattle.ped_affine.specs.Arguments.{setting_of};
 ghost use Rattle.ped_affine.specs.Surroundings.{around_of};
 
-use crate::folding::{
-    constant_difference, constant_negation, constant_product, constant_sum,
-};
+use crate::folding::{constant_difference, constant_negation, constant_product, constant_sum};
 use crate::intervals::{differences, greater, kept_point, lesser, negations, products, sums};
+use crate::names::is_same;
 use crate::settings::Setting;
 use ped_base::Name;
 use ped_constants::constant;
@@ -181,13 +180,6 @@ fn index_values(around: &Enclosing, name: &Name) -> Option<Interval>
         }
     }
     None
-}
-
-/// Whether two names are the same.
-fn is_same(a: &Name, b: &Name) -> bool
-    ensures { result ≡ is_same_text a.now b.now }
-{
-    a == b
 }
 
 /// The values between the ends of a range, which may be empty.

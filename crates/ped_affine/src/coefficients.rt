@@ -1,13 +1,18 @@
 //! Coefficients of affine forms, one by one. After an answer of false the coefficients are of no use.
 
-ghost use Rattle.std.specs.Prelude.{◌≡◌, ◌≤◌, ◌^◌, ◌+ℤ◌, ◌*ℤ◌, neg_ℤ, unsigned_abs, map, length, All};
+ghost use Rattle.std.specs.Prelude.{◌≡◌, ◌≤◌, ◌^◌, ◌+ℤ◌, ◌*ℤ◌, neg_ℤ, ◌++◌, pos, unsigned_abs, map, length, replicate, All, OnOk};
 ghost use Rattle.std.specs.Bool.{OnTrue};
 ghost use Rattle.std.specs.List.{list_all};
+ghost use Rattle.ped_tree.specs.Nests.{indices_of};
+ghost use Rattle.ped_refs.specs.Loops.{nest_of};
 ghost use Rattle.ped_views.specs.Whole.{is_zero};
 ghost use Rattle.ped_views.specs.Limits.{IsSmallConstant, IsSmallCoefficient};
 ghost use Rattle.ped_affine.specs.AffineForms as Spec;
 ghost use Rattle.ped_affine.specs.AffineForms.{combined};
 
+use crate::names::is_same;
+use ped_base::{Name, NoMemory};
+use ped_refs::Loop;
 use ped_views::product;
 
 /// 2^31, the farthest from zero that a coefficient may be.
@@ -75,4 +80,43 @@ pub(crate) fn multiply_all(products: &mut [i64], n: i64) -> bool
         products[i] = a as i64;
     }
     true
+}
+
+/// Adds a coefficient for the variable of each loop: 1 for the one with this name, 0 for others.
+pub(crate) fn add_of_loops(
+    coefficients: &mut Vec<i64>,
+    nest: &[Loop],
+    name: &Name,
+) -> Result<(), NoMemory>
+    ensures { OnOk result (coefficients.new.items ≡ coefficients.old.items ++ map (Spec.unknown_coefficient name.now) (indices_of (nest_of nest.now))) }
+{
+    for l in nest {
+        let d = l.statement;
+        coefficients.push(i64::from(is_same(name, &d.variable)))?;
+    }
+    Ok(())
+}
+
+/// Adds a coefficient for each of other variables.
+pub(crate) fn add_of_names(
+    coefficients: &mut Vec<i64>,
+    others: &[Name],
+    name: &Name,
+) -> Result<(), NoMemory>
+    ensures { OnOk result (coefficients.new.items ≡ coefficients.old.items ++ map (Spec.unknown_coefficient name.now) others.now) }
+{
+    for other in others {
+        coefficients.push(i64::from(is_same(name, other)))?;
+    }
+    Ok(())
+}
+
+/// Adds so many zeros.
+pub(crate) fn add_zeros(coefficients: &mut Vec<i64>, count: usize) -> Result<(), NoMemory>
+    ensures { OnOk result (coefficients.new.items ≡ coefficients.old.items ++ replicate count (pos 0)) }
+{
+    for _ in 0..count {
+        coefficients.push(0)?;
+    }
+    Ok(())
 }

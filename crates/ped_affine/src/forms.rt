@@ -1,14 +1,18 @@
 //! Affine forms of subscripts: a coefficient for each unknown, and a constant, none of them beyond its limit (Allen
 //! and Kennedy, section 3.1; this project).
 
-ghost use Rattle.std.specs.Prelude.{◌≡◌, ◌≤◌, ◌^◌, ◌+ℤ◌, ◌-ℤ◌, IfSome, unsigned_abs, length};
+ghost use Rattle.std.specs.Prelude.{◌≡◌, ◌≤◌, ◌^◌, ◌+ℤ◌, ◌-ℤ◌, IfOk, IfSome, unsigned_abs, length};
 ghost use Rattle.std.specs.Option.{ForSome};
 ghost use Rattle.ped_views.specs.Limits.{IsSmallConstant};
 
-use crate::coefficients::{add_all, are_zeros, multiply_all, negate_all, sum};
+use crate::coefficients::{
+    add_all, add_of_loops, add_of_names, add_zeros, are_zeros, multiply_all, negate_all, sum,
+};
 use crate::intervals::is_near;
-use ped_base::Name;
+use crate::names::is_index;
+use ped_base::{Name, NoMemory};
 use ped_constants::Consts;
+use ped_names::is_among;
 use ped_refs::Loop;
 use ped_views::product;
 use std::alloc::Global;
@@ -37,7 +41,7 @@ pub(crate) struct Form {
 
 impl Terms<'_> {
     ghost use Rattle.ped_affine.specs.AffineForms as Spec;
-    ghost use Rattle.ped_affine.specs.KeptForms.{unknowns_of, coefficients_of, kept, form_kept, IsOver};
+    ghost use Rattle.ped_affine.specs.KeptForms.{unknowns_of, coefficients_of, kept, form_kept, plain_form, IsOver, IsComplete};
 
     /// The form of a constant, where that is within 2^62 of zero.
     pub(crate) fn constant(&self, alloc: Global, n: i128) -> Option<Form>
@@ -182,5 +186,40 @@ impl Terms<'_> {
         } else {
             None
         }
+    }
+
+    /// The form of a variable, where it is an unknown.
+    pub(crate) fn variable(&self, alloc: Global, name: &Name) -> Result<Option<Form>, NoMemory>
+        ensures form { IfOk result (λ f. kept (unknowns_of self.now) f ≡ Spec.variable_form (unknowns_of self.now) name.now) }
+        ensures over { IfOk result (λ f. IfSome f (IsOver (unknowns_of self.now))) }
+    {
+        if !is_index(name, self.nest) && !is_among(name, self.others) {
+            return Ok(None);
+        }
+        let mut coefficients = Vec::with_capacity(alloc, self.nest.len())?;
+        add_of_loops(&mut coefficients, self.nest, name)?;
+        add_of_names(&mut coefficients, self.others, name)?;
+        Ok(Some(Form {
+            coefficients,
+            constant: 0,
+        }))
+    }
+
+    /// The form with a coefficient for each unknown.
+    pub(crate) fn filled(&self, alloc: Global, f: Form) -> Result<Form, NoMemory>
+        requires { IsOver (unknowns_of self.now) f }
+        ensures form { IfOk result (λ g. plain_form g ≡ form_kept (unknowns_of self.now) f) }
+        ensures complete { IfOk result (IsComplete (unknowns_of self.now)) }
+    {
+        if !f.coefficients.is_empty() {
+            return Ok(f);
+        }
+        let mut coefficients = Vec::with_capacity(alloc, self.nest.len())?;
+        add_zeros(&mut coefficients, self.nest.len())?;
+        add_zeros(&mut coefficients, self.others.len())?;
+        Ok(Form {
+            coefficients,
+            constant: f.constant,
+        })
     }
 }

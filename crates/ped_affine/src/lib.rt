@@ -7,8 +7,11 @@ mod coefficients;
 mod folding;
 mod forms;
 mod intervals;
+mod names;
+mod others;
 mod ranges;
 mod settings;
+mod subscripts;
 mod views;
 
 pub use assigning::{assigned, loop_variables};

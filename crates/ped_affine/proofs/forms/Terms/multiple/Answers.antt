@@ -20,9 +20,9 @@ returns-then-is_near-clause-form c =
     let near : is_near (c.args.n *ℤ c.args.f.constant) ≡ true = ap is_near (sym e) ∙ sym t ∙ c.if-is_near.true in
     let n = to_z-of_z w64 c.args.n fn in
     let products : c.multiply_all.new.products ≡ map (λ a. c.args.n *ℤ a) c.args.f.coefficients.items =
-        c.if-multiply_all.ensures.products ∙ (λ i. map (λ a. n i *ℤ a) (c.deref_mut.ensures.value i)) in
+    c.if-multiply_all.ensures.products ∙ (λ i. map (λ a. n i *ℤ a) (c.deref_mut.ensures.value i)) in
     let answer : list_all is_small (map (λ a. c.args.n *ℤ a) c.args.f.coefficients.items) ≡ true =
-        sym (c.if-multiply_all.ensures.answer ∙ (λ i. list_all is_small (map (λ a. n i *ℤ a) (c.deref_mut.ensures.value i)))) in
+    sym (c.if-multiply_all.ensures.answer ∙ (λ i. list_all is_small (map (λ a. n i *ℤ a) (c.deref_mut.ensures.value i)))) in
     multiple_is (unknowns_of c.args.self.now) c.args.f.coefficients.items _ c.args.n c.args.f.constant _
     (with_items_is c.args.f.coefficients c.multiply_all.new.products (c.multiply_all.auto.products ∙ c.deref_mut.ensures.len) ∙ products)
     (written c.product-constant.result (c.args.n *ℤ c.args.f.constant) e (is_near_is (c.args.n *ℤ c.args.f.constant) near)) answer near

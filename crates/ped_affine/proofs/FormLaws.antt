@@ -1,16 +1,18 @@
 -- Forms within the limits, and forms whose coefficients are all zeros.
-use Rattle.std.proofs.Common.{◌≡◌, ℕ, suc, ◌≤◌, ◌^◌, List, [], ◌∷◌, length, map, get_or, All, Bool, true, false, ◌&&◌, refl, sym, ap, ◌∙◌, arith, ℤ, pos, neg_ℤ, ◌+ℤ◌, ◌-ℤ◌, ◌*ℤ◌, unsigned_abs, to_z, of_z, w64, Option, Some, None, if◌then◌else◌}
+use Rattle.std.proofs.Common.{◌≡◌, ℕ, suc, ◌+◌, ◌^◌, List, [], ◌∷◌, ◌++◌, length, map, get_or, replicate, All, Bool, true, false, ◌&&◌, ◌||◌, subst, lit≤, refl, sym, ap, ◌∙◌, arith, ℤ, pos, neg_ℤ, ◌+ℤ◌, ◌-ℤ◌, ◌*ℤ◌, unsigned_abs, to_z, of_z, w64, Option, Some, None, if◌then◌else◌}
 use Rattle.std.proofs.lemmas.Bool.{le-leb, leb-true, and_parts}
 use Rattle.std.proofs.lemmas.Int.{ints}
-use Rattle.std.proofs.lemmas.List.{length-map}
-use Rattle.std.proofs.lemmas.List.Elements.{All-head, All-tail, All-nil, All-cons, All-map}
+use Rattle.std.proofs.lemmas.List.{length-map, length-replicate, replicate-append-replicate}
+use Rattle.std.proofs.lemmas.List.Folds.{list_any-append}
+use Rattle.std.proofs.lemmas.List.Elements.{All-head, All-tail, All-nil, All-cons, All-map, All-replicate}
 use Rattle.std.specs.List.{list_all}
 use Rattle.std.specs.Option.{ForSome}
 use Rattle.std.specs.Int.{w128}
+use Rattle.ped_base.specs.Lists.{is_same_text, is_among}
 use Rattle.ped_views.specs.Whole.{is_zero}
 use Rattle.ped_views.specs.Limits.{IsSmallConstant, IsSmallCoefficient}
 use Rattle.ped_affine.specs.Ranges.{is_near}
-use Rattle.ped_affine.specs.AffineForms.{AffineForm, form, is_small, is_limited, within_limits, constant_form, combined, combined_form, combination, opposite, negation, times, product, is_constant_form}
+use Rattle.ped_affine.specs.AffineForms.{AffineForm, form, is_small, within_limits, constant_form, unknown_coefficient, unknown_form, variable_form, combined, combined_form, combination, opposite, negation, times, product, is_constant_form}
 use Rattle.ped_affine.specs.declared.forms.Form.{Form}
 use Rattle.ped_affine.specs.KeptForms.{coefficients_of, form_kept, kept, IsOver}
 
@@ -255,3 +257,54 @@ pub as_many : (unknowns : List (List ℕ)) (xs ys : List ℤ) → ¬ (xs ≡ [])
 as_many unknowns [] ys p q e f = absurd (p refl)
 as_many unknowns (x ∷ xs) [] p q e f = absurd (q refl)
 as_many unknowns (x ∷ xs) (y ∷ ys) p q e f = e ∙ sym f
+
+-- ---- variables
+
+is_among-append : (x : List ℕ) (xs ys : List (List ℕ)) → (is_among x xs || is_among x ys) ≡ is_among x (xs ++ ys)
+is_among-append x xs ys = sym (list_any-append (is_same_text x) xs ys)
+
+-- a name is one of the loops' or of the others
+pub unknown_is : (x : List ℕ) (xs ys : List (List ℕ)) (a b r : Bool) → a ≡ is_among x xs → b ≡ is_among x ys → r ≡ (a || b) → r ≡ is_among x (xs ++ ys)
+unknown_is x xs ys a b r e f g = g ∙ (λ i. e i || f i) ∙ is_among-append x xs ys
+
+unknown_small : (x y : List ℕ) → IsSmallCoefficient (unknown_coefficient x y)
+unknown_small x y = by_test (is_same_text x y)
+  where
+    by_test : (b : Bool) → IsSmallCoefficient (if b then pos 1 else pos 0)
+    by_test true = lit≤ tt
+    by_test false = lit≤ tt
+
+pub unknowns_small : (x : List ℕ) (unknowns : List (List ℕ)) → All IsSmallCoefficient (map (unknown_coefficient x) unknowns)
+unknowns_small x [] = All-nil IsSmallCoefficient
+unknowns_small x (y ∷ rest) = All-cons IsSmallCoefficient (unknown_coefficient x y) (map (unknown_coefficient x) rest) (unknown_small x y) (unknowns_small x rest)
+
+unknowns_complete : (x : List ℕ) (unknowns : List (List ℕ)) → coefficients_of unknowns (map (unknown_coefficient x) unknowns) ≡ map (unknown_coefficient x) unknowns
+unknowns_complete x [] = refl
+unknowns_complete x (y ∷ rest) = refl
+
+pub variable_is : (x : List ℕ) (unknowns : List (List ℕ)) (xs : List ℤ) → xs ≡ map (unknown_coefficient x) unknowns → is_among x unknowns ≡ true → Some (form (coefficients_of unknowns xs) (pos 0)) ≡ variable_form unknowns x
+variable_is x unknowns xs e h =
+    ap (λ (ys : List ℤ). Some (form (coefficients_of unknowns ys) (pos 0))) e ∙ ap (λ (ys : List ℤ). Some (form ys (pos 0))) (unknowns_complete x unknowns)
+    ∙ sym (within (map (unknown_coefficient x) unknowns) (pos 0) (all_small (map (unknown_coefficient x) unknowns) (unknowns_small x unknowns)) refl)
+    ∙ sym (ap (λ (b : Bool). if b then within_limits (unknown_form unknowns x) else None) h)
+
+pub length-unknowns : (x : List ℕ) (unknowns : List (List ℕ)) → length (coefficients_of unknowns (map (unknown_coefficient x) unknowns)) ≡ length unknowns
+length-unknowns x unknowns = ap length (unknowns_complete x unknowns) ∙ length-map unknowns (unknown_coefficient x)
+
+-- ---- zeros written out
+
+pub zeros_written : (unknowns : List (List ℕ)) (n m : ℕ) → length unknowns ≡ n + m → replicate n (pos 0) ++ replicate m (pos 0) ≡ zeros unknowns
+zeros_written unknowns n m e = replicate-append-replicate n m (pos 0) ∙ ap (λ (k : ℕ). replicate k (pos 0)) (sym e) ∙ all_zeros unknowns
+  where
+    all_zeros : (unknowns : List (List ℕ)) → replicate (length unknowns) (pos 0) ≡ zeros unknowns
+    all_zeros [] = refl
+    all_zeros (x ∷ rest) = ap (λ (xs : List ℤ). pos 0 ∷ xs) (all_zeros rest)
+
+pub filled_is : (unknowns : List (List ℕ)) (xs zs : List ℤ) (n m : ℕ) (c x : ℤ) → xs ≡ [] → zs ≡ replicate n (pos 0) ++ replicate m (pos 0) → length unknowns ≡ n + m → x ≡ c → form zs x ≡ form (coefficients_of unknowns xs) c
+filled_is unknowns xs zs n m c x e f h g =
+    (λ i. form ((f ∙ zeros_written unknowns n m h) i) (g i)) ∙ ap (λ (ys : List ℤ). form (coefficients_of unknowns ys) c) (sym e)
+
+pub filled_complete : (unknowns : List (List ℕ)) (zs : List ℤ) (n m : ℕ) → zs ≡ replicate n (pos 0) ++ replicate m (pos 0) → length unknowns ≡ n + m → (length zs ≡ length unknowns) × All IsSmallCoefficient zs
+filled_complete unknowns zs n m f h =
+    let e : zs ≡ replicate (n + m) (pos 0) = f ∙ replicate-append-replicate n m (pos 0) in
+    (ap length e ∙ length-replicate (n + m) (pos 0) ∙ sym h, subst (All IsSmallCoefficient) (sym e) (All-replicate IsSmallCoefficient (n + m) (pos 0) (lit≤ tt)))

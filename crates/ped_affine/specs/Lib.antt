@@ -5,5 +5,6 @@ pub mod IntervalArithmetic
 pub mod KeptForms
 pub mod KeptParts
 pub mod PairViews
+pub mod Pairs
 pub mod Ranges
 pub mod Surroundings

@@ -54,11 +54,14 @@ zero_row common further = record { common = replicate common (pos 0); inner = re
 abbrev pub unusable : Depths → SubscriptPair
 unusable n = record { usable = false; source = zero_row n.common n.source; sink = zero_row n.common n.sink }
 
+-- a position that the tests look at
+abbrev pub usable_pair : Depths → AffineForm → AffineForm → SubscriptPair
+usable_pair n a b = record { usable = true; source = row_of n.common n.source a; sink = row_of n.common n.sink b }
+
 -- the two subscripts at a position, usable where both are affine and each other variable has one coefficient on both sides (Allen and Kennedy, section 3.1)
 abbrev pub subscript_pair : Depths → Option AffineForm → Option AffineForm → SubscriptPair
 subscript_pair n (Some a) (Some b) =
-    if pointwise int_eq (other_coefficients n.common n.source a) (other_coefficients n.common n.sink b)
-    then (record { usable = true; source = row_of n.common n.source a; sink = row_of n.common n.sink b })
+    if pointwise int_eq (other_coefficients n.common n.source a) (other_coefficients n.common n.sink b) then usable_pair n a b
     else unusable n
 subscript_pair n (Some a) None = unusable n
 subscript_pair n None b = unusable n

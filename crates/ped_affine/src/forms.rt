@@ -40,6 +40,7 @@ pub(crate) struct Form {
 }
 
 impl Terms<'_> {
+    ghost use Rattle.ped_base.specs.Lists as Lists;
     ghost use Rattle.ped_affine.specs.AffineForms as Spec;
     ghost use Rattle.ped_affine.specs.KeptForms.{unknowns_of, coefficients_of, kept, form_kept, plain_form, IsOver, IsComplete};
 
@@ -193,7 +194,7 @@ impl Terms<'_> {
         ensures form { IfOk result (λ f. kept (unknowns_of self.now) f ≡ Spec.variable_form (unknowns_of self.now) name.now) }
         ensures over { IfOk result (λ f. IfSome f (IsOver (unknowns_of self.now))) }
     {
-        if !is_index(name, self.nest) && !is_among(name, self.others) {
+        if !self.has_unknown(name) {
             return Ok(None);
         }
         let mut coefficients = Vec::with_capacity(alloc, self.nest.len())?;
@@ -203,6 +204,13 @@ impl Terms<'_> {
             coefficients,
             constant: 0,
         }))
+    }
+
+    /// Whether the variable is an unknown.
+    fn has_unknown(&self, name: &Name) -> bool
+        ensures { result ≡ Lists.is_among name.now (unknowns_of self.now) }
+    {
+        is_index(name, self.nest) || is_among(name, self.others)
     }
 
     /// The form with a coefficient for each unknown.

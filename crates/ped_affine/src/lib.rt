@@ -9,6 +9,7 @@ mod forms;
 mod intervals;
 mod names;
 mod others;
+mod positions;
 mod ranges;
 mod settings;
 mod subscripts;

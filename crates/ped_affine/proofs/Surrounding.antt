@@ -8,7 +8,7 @@ use Rattle.ped_views.specs.Views.{Range}
 use Rattle.ped_tree.specs.Tree.{Head}
 use Rattle.ped_refs.specs.declared.loops.Loop.{Loop}
 use Rattle.ped_refs.specs.Loops.{nest_of, head_of}
-use Rattle.ped_affine.specs.Ranges.{Setting, Around, between_ends, inside, loop_range, ranges_inside}
+use Rattle.ped_affine.specs.Ranges.{Setting, Around, between_ends, inside, loop_range, ranges_inside, nest_ranges}
 use Rattle.ped_affine.specs.PairViews.{heads_of}
 use Rattle.ped_affine.specs.Surroundings.{with_ranges}
 
@@ -62,3 +62,11 @@ ranges_step s ls rs all i l r p q at is so_far =
     ∙ ranges_more s (take i ls) (drop (i + 1) ls) l (take i rs) r same is
     ∙ (λ j. take i rs ++ ranges_inside s (with_ranges (heads_of (nest_of (take i ls))) (take i rs)) (heads_of (nest_of (sym e3 j))))
     ∙ so_far
+
+-- as many ranges as loops
+pub length-ranges : (s : Setting) (around : Around) (hs : List Head) → length (ranges_inside s around hs) ≡ length hs
+length-ranges s around [] = refl
+length-ranges s around (h ∷ hs) = ap suc (length-ranges s (inside around h (loop_range s around h)) hs)
+
+pub length-nest_ranges : (s : Setting) (ls : List Loop) → length (nest_ranges s (heads_of (nest_of ls))) ≡ length ls
+length-nest_ranges s ls = length-ranges s [] (heads_of (nest_of ls)) ∙ length-heads ls

@@ -13,9 +13,9 @@ depths_kept d = record { common = d.common; source = d.source; sink = d.sink }
 
 -- the loops that are kept for a pair are those round its places
 pub record IsPair (p : Pair) : Type 0 where
-  pub depths : depths_kept p.depths ≡ depths_of (site p.source.now) (site p.sink.now)
-  pub source : p.depths.common + p.depths.source ≡ length p.source.now.nest.now
-  pub sink : p.depths.common + p.depths.sink ≡ length p.sink.now.nest.now
+  pub depths : depths_kept p.depths ≡ depths_of (site p.source) (site p.sink)
+  pub source : p.depths.common + p.depths.source ≡ length p.source.nest.now
+  pub sink : p.depths.common + p.depths.sink ≡ length p.sink.nest.now
 
 -- a form has a coefficient for each of so many loops, and its numbers are within the limits
 pub record Covers (loops : ℕ) (f : Form) : Type 0 where

@@ -37,11 +37,11 @@ pub(crate) struct Depths {
 #[derive(Clone, Copy)]
 pub(crate) struct Pair<'a> {
     /// What ranges and forms depend on.
-    pub setting: &'a Setting<'a>,
+    pub setting: Setting<'a>,
     /// The place of the source.
-    pub source: &'a Place<'a>,
+    pub source: Place<'a>,
     /// The place of the sink.
-    pub sink: &'a Place<'a>,
+    pub sink: Place<'a>,
     /// How many loops they have.
     pub depths: Depths,
 }
@@ -49,10 +49,10 @@ pub(crate) struct Pair<'a> {
 /// The two subscripts at a position of a pair.
 pub(crate) fn position(alloc: Global, pair: &Pair, e: &Expr, g: &Expr) -> Result<Position, NoMemory>
     requires { IsPair pair.now }
-    ensures value { IfOk result (λ p. p ≡ Spec.position_of (setting_of pair.now.setting.now) (site pair.now.source.now) (site pair.now.sink.now) (expr_tree e.now) (expr_tree g.now)) }
+    ensures value { IfOk result (λ p. p ≡ Spec.position_of (setting_of pair.now.setting) (site pair.now.source) (site pair.now.sink) (expr_tree e.now) (expr_tree g.now)) }
     ensures fits { IfOk result (FitsLoops pair.now.depths.common pair.now.depths.source pair.now.depths.sink) }
 {
-    let others = other_variables(alloc, pair.setting, pair.source, pair.sink, e, g)?;
+    let others = other_variables(alloc, &pair.setting, &pair.source, &pair.sink, e, g)?;
     let source = Terms {
         constants: pair.setting.constants,
         nest: pair.source.nest,

@@ -1,6 +1,6 @@
 //! Views of pairs of references (Allen and Kennedy, sections 3.1 and 3.2).
 
-ghost use Rattle.std.specs.Prelude.{◌≡◌, ◌≤◌, All, map, drop, length, IfOk};
+ghost use Rattle.std.specs.Prelude.{◌≡◌, ◌≤◌, All, map, take, drop, length, IfOk};
 ghost use Rattle.ped_views.specs.Limits.{FitsLoops};
 ghost use Rattle.ped_tree.specs.Nests.{common_nest};
 ghost use Rattle.ped_tree.specs.Views.{expr_tree};
@@ -20,11 +20,11 @@ use std::alloc::Global;
 
 /// The view of the ordered pair of the references at two places of one program: the ranges of the loops round
 /// them, and their subscripts as affine forms, position by position. At most six loops stand round each.
-pub fn view(
+pub fn view<'a>(
     alloc: Global,
-    setting: &Setting,
-    source: &Place,
-    sink: &Place,
+    setting: &Setting<'a>,
+    source: &Place<'a>,
+    sink: &Place<'a>,
 ) -> Result<PairView, NoMemory>
     requires source { length source.now.nest.now ≤ 6 }
     requires sink { length sink.now.nest.now ≤ 6 }
@@ -33,24 +33,25 @@ pub fn view(
     let common = common_depth(source.nest, sink.nest);
     let mut ranges = [NO_RANGE; 6];
     find_ranges(setting, source.nest, &mut ranges);
-    let loops = ranges[..common].to_vec(alloc)?;
-    let source_inner = ranges[common..source.nest.len()].to_vec(alloc)?;
+    let loops = part(alloc, &ranges, 0, common)?;
+    let source_inner = part(alloc, &ranges, common, source.nest.len())?;
     let sink_inner = further_ranges(alloc, setting, sink.nest, common)?;
     let pair = Pair {
-        setting,
-        source,
-        sink,
+        setting: *setting,
+        source: *source,
+        sink: *sink,
         depths: Depths {
             common,
             source: source.nest.len() - common,
             sink: sink.nest.len() - common,
         },
     };
+    let positions = positions(alloc, &pair)?;
     Ok(PairView {
         loops,
         source_inner,
         sink_inner,
-        positions: positions(alloc, &pair)?,
+        positions,
     })
 }
 
@@ -84,14 +85,28 @@ fn further_ranges(
     }
     let mut ranges = [NO_RANGE; 6];
     find_ranges(setting, nest, &mut ranges);
-    Ok(ranges[common..nest.len()].to_vec(alloc)?)
+    part(alloc, &ranges, common, nest.len())
+}
+
+/// The ranges from one place on, up to another one.
+fn part(
+    alloc: Global,
+    ranges: &[LoopRange],
+    from: usize,
+    to: usize,
+) -> Result<Vec<LoopRange>, NoMemory>
+    requires from { from ≤ to }
+    requires to { to ≤ length ranges.now }
+    ensures { IfOk result (λ found. found.items ≡ drop from (take to ranges.now)) }
+{
+    Ok(ranges[from..to].to_vec(alloc)?)
 }
 
 /// The positions of a pair, as many as both references have.
 fn positions(alloc: Global, pair: &Pair) -> Result<Vec<Position>, NoMemory>
     requires { IsPair pair.now }
-    ensures value { IfOk result (λ found. found.items ≡ positions_of (setting_of pair.now.setting.now) (site pair.now.source.now) (site pair.now.sink.now)
-        (map expr_tree pair.now.source.now.subscripts.now) (map expr_tree pair.now.sink.now.subscripts.now)) }
+    ensures value { IfOk result (λ found. found.items ≡ positions_of (setting_of pair.now.setting) (site pair.now.source) (site pair.now.sink)
+        (map expr_tree pair.now.source.subscripts.now) (map expr_tree pair.now.sink.subscripts.now)) }
     ensures fits { IfOk result (λ found. All (FitsLoops pair.now.depths.common pair.now.depths.source pair.now.depths.sink) found.items) }
 {
     let left = pair.source.subscripts;

@@ -5,6 +5,7 @@ use Rattle.ped_base.specs.Lists.{is_same_text, is_among}
 use Rattle.ped_views.specs.Whole.{is_zero}
 use Rattle.ped_tree.specs.Tree.{ExprTree, Int, Var, Element, Neg, Add, Sub, Mul, Div, Pow, Call}
 use Rattle.ped_constants.specs.ConstantExpressions.{constant_value}
+use Rattle.ped_affine.specs.Ranges.{is_near}
 
 -- the names that a form may have: the named constants with their values, and the unknowns, which are the variables of the loops round the subscript, the outermost first, and other variables behind them
 pub record Terms : Type 0 where
@@ -20,9 +21,13 @@ pub record AffineForm : Type 0 where
 abbrev pub form : List ℤ → ℤ → AffineForm
 form coefficients constant = record { coefficients = coefficients; constant = constant }
 
+-- within 2^31 of zero (this project)
+abbrev pub is_small : ℤ → Bool
+is_small a = nat_le (unsigned_abs a) (2 ^ 31)
+
 -- coefficients within 2^31 of zero and a constant within 2^62 (this project)
 abbrev pub is_limited : AffineForm → Bool
-is_limited f = list_all (λ a. nat_le (unsigned_abs a) (2 ^ 31)) f.coefficients && nat_le (unsigned_abs f.constant) (2 ^ 62)
+is_limited f = list_all is_small f.coefficients && is_near f.constant
 
 -- the form, where its numbers are so small (this project)
 abbrev pub within_limits : AffineForm → Option AffineForm
@@ -32,9 +37,13 @@ within_limits f = if is_limited f then Some f else None
 abbrev pub constant_form : List (List ℕ) → ℤ → AffineForm
 constant_form unknowns n = form (map (λ x. pos 0) unknowns) n
 
+-- the coefficient of an unknown in the form of a variable
+abbrev pub unknown_coefficient : List ℕ → List ℕ → ℤ
+unknown_coefficient x y = if is_same_text x y then pos 1 else pos 0
+
 -- the form of an unknown
 abbrev pub unknown_form : List (List ℕ) → List ℕ → AffineForm
-unknown_form unknowns x = form (map (λ y. if is_same_text x y then pos 1 else pos 0) unknowns) (pos 0)
+unknown_form unknowns x = form (map (unknown_coefficient x) unknowns) (pos 0)
 
 -- the form of a variable, where it is an unknown
 abbrev pub variable_form : List (List ℕ) → List ℕ → Option AffineForm
@@ -46,9 +55,13 @@ combined f (a ∷ first) (b ∷ second) = f a b ∷ combined f first second
 combined f [] second = []
 combined f (a ∷ first) [] = []
 
+-- number by number, the constants too
+abbrev pub combined_form : (ℤ → ℤ → ℤ) → AffineForm → AffineForm → AffineForm
+combined_form f a b = form (combined f a.coefficients b.coefficients) (f a.constant b.constant)
+
 -- the sum or the difference of two forms
 abbrev pub combination : (ℤ → ℤ → ℤ) → Option AffineForm → Option AffineForm → Option AffineForm
-combination f (Some a) (Some b) = within_limits (form (combined f a.coefficients b.coefficients) (f a.constant b.constant))
+combination f (Some a) (Some b) = within_limits (combined_form f a b)
 combination f (Some a) None = None
 combination f None b = None
 
@@ -56,9 +69,13 @@ combination f None b = None
 abbrev pub times : ℤ → AffineForm → AffineForm
 times n f = form (map (λ a. n *ℤ a) f.coefficients) (n *ℤ f.constant)
 
+-- each number with the opposite sign
+abbrev pub opposite : AffineForm → AffineForm
+opposite f = form (map neg_ℤ f.coefficients) (neg_ℤ f.constant)
+
 -- the form with the opposite sign
 abbrev pub negation : Option AffineForm → Option AffineForm
-negation (Some f) = within_limits (form (map neg_ℤ f.coefficients) (neg_ℤ f.constant))
+negation (Some f) = within_limits (opposite f)
 negation None = None
 
 -- no unknown is left in the form

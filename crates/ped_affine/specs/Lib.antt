@@ -1,5 +1,10 @@
+pub mod AffineForms
+pub mod Arguments
 pub mod Assigned
 pub mod IntervalArithmetic
-pub mod Ranges
-pub mod AffineForms
+pub mod KeptForms
+pub mod KeptParts
 pub mod PairViews
+pub mod Pairs
+pub mod Ranges
+pub mod Surroundings

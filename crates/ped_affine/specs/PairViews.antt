@@ -1,5 +1,5 @@
 -- The view of an ordered pair of references: the ranges of its loops and its subscripts as affine forms (Allen and Kennedy, sections 3.1, 3.2).
-use Rattle.std.specs.Prelude.{ℕ, ℤ, pos, ◌-◌, List, [], ◌∷◌, ◌++◌, map, filter, length, take, drop, replicate, Bool, true, false, not, Option, Some, None, if◌then◌else◌}
+use Rattle.std.specs.Prelude.{ℕ, ℤ, pos, ◌-◌, List, [], ◌∷◌, ◌++◌, map, filter, length, take, drop, replicate, Bool, true, false, not, ◌&&◌, Option, Some, None, if◌then◌else◌}
 use Rattle.std.specs.Ordering.{int_eq}
 use Rattle.std.specs.Cmp.Lexicographic.{pointwise}
 use Rattle.ped_base.specs.Lists.{is_among}
@@ -26,9 +26,13 @@ depths_of source sink =
     let common = length (common_nest source.nest sink.nest) in
     record { common = common; source = length source.nest - common; sink = length sink.nest - common }
 
--- the variables of two subscripts that the outermost common loop doesn't assign; the variable of each loop round one of them is assigned there (Allen and Kennedy, section 3.1)
-abbrev pub unassigned_variables : Setting → ExprTree → ExprTree → List (List ℕ)
-unassigned_variables s e g = filter (λ x. not (is_among x s.assigned)) (form_variables e ++ form_variables g)
+-- a variable that no loop round either reference has, and that the outermost common loop doesn't assign (Allen and Kennedy, section 3.1)
+abbrev pub is_other : Setting → Site → Site → List ℕ → Bool
+is_other s source sink x = not (is_among x (indices_of source.nest)) && not (is_among x (indices_of sink.nest)) && not (is_among x s.assigned)
+
+-- such variables of two subscripts (Allen and Kennedy, section 3.1)
+abbrev pub other_variables : Setting → Site → Site → ExprTree → ExprTree → List (List ℕ)
+other_variables s source sink e g = filter (is_other s source sink) (form_variables e ++ form_variables g)
 
 -- the names that the form of a subscript may have: the loops of its side, and these other variables
 abbrev pub terms_of : Setting → List Loop → List (List ℕ) → Terms
@@ -50,11 +54,14 @@ zero_row common further = record { common = replicate common (pos 0); inner = re
 abbrev pub unusable : Depths → SubscriptPair
 unusable n = record { usable = false; source = zero_row n.common n.source; sink = zero_row n.common n.sink }
 
+-- a position that the tests look at
+abbrev pub usable_pair : Depths → AffineForm → AffineForm → SubscriptPair
+usable_pair n a b = record { usable = true; source = row_of n.common n.source a; sink = row_of n.common n.sink b }
+
 -- the two subscripts at a position, usable where both are affine and each other variable has one coefficient on both sides (Allen and Kennedy, section 3.1)
 abbrev pub subscript_pair : Depths → Option AffineForm → Option AffineForm → SubscriptPair
 subscript_pair n (Some a) (Some b) =
-    if pointwise int_eq (other_coefficients n.common n.source a) (other_coefficients n.common n.sink b)
-    then (record { usable = true; source = row_of n.common n.source a; sink = row_of n.common n.sink b })
+    if pointwise int_eq (other_coefficients n.common n.source a) (other_coefficients n.common n.sink b) then usable_pair n a b
     else unusable n
 subscript_pair n (Some a) None = unusable n
 subscript_pair n None b = unusable n
@@ -62,7 +69,7 @@ subscript_pair n None b = unusable n
 -- two subscripts as forms over the same other variables (Allen and Kennedy, section 3.1)
 abbrev pub position_of : Setting → Site → Site → ExprTree → ExprTree → SubscriptPair
 position_of s source sink e g =
-    let others = unassigned_variables s e g in
+    let others = other_variables s source sink e g in
     subscript_pair (depths_of source sink) (affine_of (terms_of s source.nest others) e) (affine_of (terms_of s sink.nest others) g)
 
 -- position by position, as many as both have

@@ -1,2 +1,21 @@
 //! Ranges of loops and views of pairs of references, of a program's tree. The definitions stand in `specs/`.
 #![tactic(auto)]
+
+mod assigning;
+mod bounds;
+mod coefficients;
+mod folding;
+mod forms;
+mod intervals;
+mod names;
+mod others;
+mod positions;
+mod ranges;
+mod settings;
+mod subscripts;
+mod views;
+
+pub use assigning::{assigned, loop_variables};
+pub use ranges::range;
+pub use settings::{Place, Setting};
+pub use views::view;

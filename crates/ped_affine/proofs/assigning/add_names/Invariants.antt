@@ -1,0 +1,6 @@
+use Rattle.std.proofs.Common.{◌≡◌, drop}
+use Rattle.ped_names.specs.Collecting.{with_names}
+use Rattle.ped_affine.proofs.assigning.add_names.Given as goal
+
+abbrev pub invariant-loop-name : goal.invariant-loop-name
+invariant-loop-name l = with_names l.names (drop l.name-index l.others) ≡ with_names l.fn.names l.others

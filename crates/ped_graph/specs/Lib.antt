@@ -1,5 +1,5 @@
 pub mod DependencePane
-pub mod Edges
+pub mod Dependences
 pub mod Guards
 pub mod Marks
 pub mod Owners

@@ -11,12 +11,7 @@ use Rattle.ped_refs.specs.References.{Reference}
 use Rattle.ped_constants.specs.ConstantExpressions.{constant_value}
 use Rattle.ped_affine.specs.Ranges.{is_near}
 use Rattle.ped_verdict.specs.Exactness.{is_separable}
-
--- the dependence is there, the tests don't tell, the user has said that it isn't there (ParaScope)
-pub data Mark : Type 0 where
-  proven : Mark
-  pending : Mark
-  rejected : Mark
+use Rattle.ped_edges.specs.Edges.{Mark, proven, pending, rejected}
 
 -- a constant within 2^62 of zero (this project)
 abbrev pub is_near_constant : Option ℤ → Bool

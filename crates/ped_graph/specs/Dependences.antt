@@ -15,24 +15,8 @@ use Rattle.ped_affine.specs.Ranges.{Setting}
 use Rattle.ped_affine.specs.PairViews.{Site, view_at}
 use Rattle.ped_graph.specs.Owners.{have_same_owner, owner_level, within_iteration}
 use Rattle.ped_graph.specs.Guards.{guarded}
-use Rattle.ped_graph.specs.Marks.{Mark, mark_of}
-
--- a write and then a read, a read and then a write, two writes (Allen and Kennedy, section 2.2.1)
-pub data Kind : Type 0 where
-  flow : Kind
-  anti : Kind
-  output : Kind
-
--- a dependence: its source and sink by statement and reference, the variable, the level of the loop that carries it, None where it is independent of loops (Allen and Kennedy, section 2.2; ParaScope)
-pub record Edge : Type 0 where
-  pub source : ℕ × ℕ
-  pub sink : ℕ × ℕ
-  pub name : List ℕ
-  pub kind : Kind
-  pub level : Option ℕ
-  pub vectors : List (List Direction)
-  pub distances : List (Option ℤ)
-  pub mark : Mark
+use Rattle.ped_edges.specs.Edges.{Kind, flow, anti, output, Edge}
+use Rattle.ped_graph.specs.Marks.{mark_of}
 
 -- by the first sign other than `=`: carried by the loop at that level, independent where there is none, or from the sink to the source (Allen and Kennedy, section 2.2.5)
 pub data Carriage : Type 0 where

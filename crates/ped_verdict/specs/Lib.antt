@@ -1,0 +1,4 @@
+pub mod CodeForms
+pub mod Exactness
+pub mod Kept
+pub mod Marked

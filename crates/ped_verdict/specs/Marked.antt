@@ -1,0 +1,33 @@
+-- Contracts of private functions alone speak of how the possible vectors of a view are marked in a row of 3^n places (this project).
+use Rattle.std.specs.Prelude.{◌≡◌, ◌⊎◌, ◌↔◌, ℕ, ◌+◌, ◌*◌, ◌^◌, List, [], ◌∷◌, ◌++◌, length, Bool}
+use Rattle.ped_views.specs.declared.directions.Direction.{Direction}
+use Rattle.ped_views.specs.declared.directions.Direction.TheVariants.{Before, Same, After}
+use Rattle.ped_views.specs.Views.{View}
+use Rattle.ped_views.specs.Vectors.{IsPossible}
+use Rattle.ped_bits.specs.Places.{Has}
+
+-- the place of a direction in the order `<`, `=`, `>`
+abbrev pub digit : Direction → ℕ
+digit Before = 0
+digit Same = 1
+digit After = 2
+
+-- the place of a vector in the lexicographic order of all vectors over as many loops
+abbrev pub place_of : List Direction → ℕ
+place_of [] = 0
+place_of (d ∷ vector) = digit d * 3 ^ length vector + place_of vector
+
+-- the vector begins with this front
+abbrev pub BeginsWith : List Direction → List Direction → Type 0
+BeginsWith front vector = (rest : List Direction) × (front ++ rest ≡ vector)
+
+-- there is a place for each vector over the common loops, and the row has those of the possible vectors
+pub record AreMarked (v : View) (row : List Bool) : Type 0 where
+  pub wide : length row ≡ 3 ^ length v.loops
+  pub marks : (vector : List Direction) → length vector ≡ length v.loops → Has row (place_of vector) ↔ IsPossible v vector
+
+-- the row has got the places of the possible vectors with this front, and no others
+pub record AreAdded (v : View) (front : List Direction) (old new : List Bool) : Type 0 where
+  pub wide : length new ≡ length old
+  pub marks : (vector : List Direction) → length vector ≡ length v.loops
+      → Has new (place_of vector) ↔ (Has old (place_of vector) ⊎ (BeginsWith front vector × IsPossible v vector))

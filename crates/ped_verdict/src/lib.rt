@@ -1,0 +1,17 @@
+//! What the dependence tests say of a pair of references: the direction vectors that no position of its view
+//! excludes, and the distances. A pair is tested by `test` alone, which counts each call.
+#![tactic(auto)]
+
+mod distances;
+mod exactness;
+mod exclusion;
+mod forms;
+mod places;
+mod refining;
+mod steps;
+mod testing;
+mod vectors;
+
+pub use steps::Steps;
+pub use testing::{Verdict, test};
+pub use vectors::Vector;

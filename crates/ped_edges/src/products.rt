@@ -1,6 +1,6 @@
 //! Whether direction vectors are the product of their signs place by place.
 
-ghost use Rattle.std.specs.Prelude.{◌≡◌, ◌≤◌, ◌<◌, ◌+◌, ◌++◌, [], ◌∷◌, length, map, MatchOption, if◌then◌else◌};
+ghost use Rattle.std.specs.Prelude.{◌≡◌, ◌≤◌, ◌<◌, ◌+◌, ◌++◌, [], ◌∷◌, length, map, IsTrue, ◌↔◌, MatchOption, if◌then◌else◌};
 ghost use Rattle.std.specs.Cmp.Lexicographic.{pointwise};
 ghost use Rattle.ped_edges.specs.Rows.{are_signs, product};
 ghost use Rattle.ped_edges.specs.CodeSigns.{signs_of, front_of, begun_with, DontBegin};
@@ -109,10 +109,21 @@ fn strip_vector<'a>(front: &Front, vectors: &'a [Vector]) -> Option<&'a [Vector]
         MatchOption result (DontBegin these vectors.now) (λ rest. vectors.now ≡ these ++ rest.now)
     }
 {
-    let (first, rest) = vectors.split_first()?;
-    if first.directions() == &front.directions[..front.len] {
-        Some(rest)
-    } else {
-        None
+    match vectors.split_first() {
+        Some((first, rest)) => {
+            if is_front(front, first) {
+                Some(rest)
+            } else {
+                None
+            }
+        }
+        None => None,
     }
+}
+
+fn is_front(front: &Front, vector: &Vector) -> bool
+    requires { front.now.len ≤ 6 }
+    ensures { IsTrue result ↔ (vector.now ≡ front_of front.now) }
+{
+    vector.directions() == &front.directions[..front.len]
 }

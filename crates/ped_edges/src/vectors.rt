@@ -31,9 +31,16 @@ fn push_each(out: &mut Bytes, vectors: &[Vector]) -> Result<(), NoMemory>
     ensures { OnOk result (out.new ≡ out.old ++ flat_map (λ v. vector_text (map (λ d. d ∷ []) v)) vectors.now) }
 {
     for vector in vectors {
-        push_list(out, vector.directions())?;
+        push_vector(out, vector)?;
     }
     Ok(())
+}
+
+/// Adds a vector, which has one sign at each place.
+fn push_vector(out: &mut Bytes, vector: &Vector) -> Result<(), NoMemory>
+    ensures { OnOk result (out.new ≡ out.old ++ vector_text (map (λ d. d ∷ []) vector.now)) }
+{
+    push_list(out, vector.directions())
 }
 
 impl Shown for Direction {

@@ -1,5 +1,5 @@
 -- The code's tests of directions.
-use Rattle.std.proofs.Common.{◌≡◌, Bool, true, false, Decides, List, [], ◌∷◌, refl}
+use Rattle.std.proofs.Common.{◌≡◌, Decides, List, refl}
 use Rattle.std.specs.Cmp.Lexicographic.{pointwise, pointwise_decides}
 use Rattle.ped_views.specs.declared.directions.Direction.{Direction}
 use Rattle.ped_views.specs.declared.directions.Direction.TheVariants.{Before, Same, After}

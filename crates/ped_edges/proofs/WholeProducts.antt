@@ -1,5 +1,5 @@
 -- Vectors are a product where they begin with it and nothing stands behind.
-use Rattle.std.proofs.Common.{◌≡◌, Bool, true, false, eqb, Decides, List, [], ◌∷◌, ◌++◌, length, refl, sym, ap, ◌∙◌, arith}
+use Rattle.std.proofs.Common.{◌≡◌, Bool, false, eqb, Decides, List, [], ◌∷◌, ◌++◌, length, refl, sym, ap, ◌∙◌, arith}
 use Rattle.std.proofs.lemmas.Bool.{eqb-true, eq-eqb, false≢true}
 use Rattle.std.proofs.lemmas.Bool.Decides.{same_from_decides}
 use Rattle.std.proofs.lemmas.List.{append-nil, append_cancel_left, map-id}
@@ -24,8 +24,9 @@ begins front places vectors rest r e v t =
     let p : List (List Direction) = product places in
     let w : vectors ≡ p ++ rest = v ∙ ap (λ (x : List (List Direction)). x ++ rest) (behind_nothing front places e) in
     let all : Decides r (p ≡ vectors) = (
-    (λ h. sym (w ∙ ap (λ (x : List (List Direction)). p ++ x) (none_left rest (eqb-true (length rest) 0 (sym t ∙ h))) ∙ append-nil p)),
-    (λ h. t ∙ eq-eqb (length rest) 0 (ap length (append_cancel_left p rest [] (sym w ∙ sym h ∙ sym (append-nil p)))))) in
+      (λ h. sym (w ∙ ap (λ (x : List (List Direction)). p ++ x) (none_left rest (eqb-true (length rest) 0 (sym t ∙ h))) ∙ append-nil p)),
+      (λ h. t ∙ eq-eqb (length rest) 0 (ap length (append_cancel_left p rest [] (sym w ∙ sym h ∙ sym (append-nil p))))),
+    ) in
     same_from_decides r (pointwise are_signs p vectors) all (are_vectors-decides p vectors)
 
 -- the vectors don't begin with the product
@@ -34,6 +35,7 @@ pub begins_not : (front : List Direction) (places vectors : List (List Direction
 begins_not front places vectors e h =
     let p : List (List Direction) = product places in
     let none : Decides false (p ≡ vectors) = (
-    (λ f. absurd (false≢true f)),
-    (λ f. absurd (h [] (sym f ∙ sym (behind_nothing front places e) ∙ sym (append-nil (begun_with front places)))))) in
+      (λ f. absurd (false≢true f)),
+      (λ f. absurd (h [] (sym f ∙ sym (behind_nothing front places e) ∙ sym (append-nil (begun_with front places))))),
+    ) in
     same_from_decides false (pointwise are_signs p vectors) none (are_vectors-decides p vectors)

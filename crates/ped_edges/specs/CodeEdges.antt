@@ -41,5 +41,5 @@ edge_of e = record {
 }
 
 -- at most six loops stand round both references (this project)
-abbrev pub IsOverSixLoops : Edge → Type 0
-IsOverSixLoops e = length e.distances.items ≤ 6
+abbrev pub HasAtMostSixLoops : Edge → Type 0
+HasAtMostSixLoops e = length e.distances.items ≤ 6

@@ -1,10 +1,7 @@
 //! Dependences between two references, as the tests find them and the user marks them.
 
-use crate::rows::push_row;
-use ped_base::{Bytes, NoMemory};
 use ped_refs::RefName;
 use ped_verdict::Vector;
-use std::alloc::Global;
 
 /// How the two references of a dependence use what they name (Allen and Kennedy, section 2.2.1).
 #[derive(Clone, Copy, Debug, PartialEq, Eq)]
@@ -47,21 +44,4 @@ pub struct Edge {
     pub distances: Vec<Option<i128>>,
     /// What is known of it.
     pub mark: Mark,
-}
-
-impl Edge {
-    ghost use Rattle.std.specs.Prelude.{◌≡◌, ◌++◌, IfOk, OnOk};
-    ghost use Rattle.ped_edges.specs.Rows.{edge_row};
-    ghost use Rattle.ped_edges.specs.CodeEdges.{edge_of, IsOverSixLoops};
-
-    /// The row of the dependence in the pane, without a line end: source, sink, variable, kind, level, vectors,
-    /// distances and mark.
-    pub fn row(&self, alloc: Global) -> Result<Bytes, NoMemory>
-        requires { IsOverSixLoops self.now }
-        ensures { IfOk result (λ row. row ≡ edge_row (edge_of self.now)) }
-    {
-        let mut row = Bytes::new(alloc);
-        push_row(&mut row, self)?;
-        Ok(row)
-    }
 }

@@ -3,17 +3,16 @@
 ghost use Rattle.std.specs.Prelude.{◌≡◌, ◌++◌, [], ◌∷◌, map, OnOk, IfOk, All};
 ghost use Rattle.std.specs.List.{flat_map};
 ghost use Rattle.ped_edges.specs.Rows as shown;
-ghost use Rattle.ped_edges.specs.CodeEdges.{edge_of, IsOverSixLoops};
+ghost use Rattle.ped_edges.specs.CodeEdges.{edge_of, HasAtMostSixLoops};
 
 use crate::edges::Edge;
 use crate::numbers::push_number;
-use crate::rows::push_row;
 use ped_base::{Bytes, NoMemory};
 use std::alloc::Global;
 
 /// The dependence pane of these dependences: `dependences` and their number, and then a row for each.
 pub fn edges_pane(alloc: Global, edges: &[Edge]) -> Result<Bytes, NoMemory>
-    requires { All IsOverSixLoops edges.now }
+    requires { All HasAtMostSixLoops edges.now }
     ensures { IfOk result (λ pane. pane ≡ shown.edges_pane (map edge_of edges.now)) }
 {
     let mut pane = Bytes::new(alloc);
@@ -23,7 +22,7 @@ pub fn edges_pane(alloc: Global, edges: &[Edge]) -> Result<Bytes, NoMemory>
 
 /// Adds the dependence pane of these dependences. After want of memory the text ends somewhere in the pane.
 pub fn push_edges_pane(out: &mut Bytes, edges: &[Edge]) -> Result<(), NoMemory>
-    requires { All IsOverSixLoops edges.now }
+    requires { All HasAtMostSixLoops edges.now }
     ensures { OnOk result (out.new ≡ out.old ++ shown.edges_pane (map edge_of edges.now)) }
 {
     out.extend_from_slice(b"dependences ")?;
@@ -34,11 +33,11 @@ pub fn push_edges_pane(out: &mut Bytes, edges: &[Edge]) -> Result<(), NoMemory>
 
 /// Adds the rows of dependences.
 fn push_rows(out: &mut Bytes, edges: &[Edge]) -> Result<(), NoMemory>
-    requires { All IsOverSixLoops edges.now }
+    requires { All HasAtMostSixLoops edges.now }
     ensures { OnOk result (out.new ≡ out.old ++ flat_map (λ e. shown.edge_row e ++ 10 ∷ []) (map edge_of edges.now)) }
 {
     for edge in edges {
-        push_row(out, edge)?;
+        edge.push_row(out)?;
         out.push(b'\n')?;
     }
     Ok(())

@@ -56,16 +56,10 @@ pub(crate) fn are_product(places: &[Signs], vectors: &[Vector]) -> bool
 /// The vectors behind those that begin with the front and go on with one of the signs of each place; none where
 /// these don't stand first.
 #[cycle(strip)]
-fn strip_product<'a>(
-    front: Front,
-    places: &[Signs],
-    vectors: &'a [Vector],
-) -> Option<&'a [Vector]>
+fn strip_product<'a>(front: Front, places: &[Signs], vectors: &'a [Vector]) -> Option<&'a [Vector]>
     requires { front.len + length places.now ≤ 6 }
-    ensures {
-        let these = begun_with (front_of front) (map signs_of places.now) in
-        MatchOption result (DontBegin these vectors.now) (λ rest. vectors.now ≡ these ++ rest.now)
-    }
+    ensures { let these = begun_with (front_of front) (map signs_of places.now) in
+        MatchOption result (DontBegin these vectors.now) (λ rest. vectors.now ≡ these ++ rest.now) }
 {
     let Some((first, further)) = places.split_first() else {
         return strip_vector(&front, vectors);
@@ -89,10 +83,8 @@ fn strip_where<'a>(
     vectors: &'a [Vector],
 ) -> Option<&'a [Vector]>
     requires { front.len + length places.now ≤ 6 }
-    ensures {
-        let these = (if stands then begun_with (front_of front) (map signs_of places.now) else []) in
-        MatchOption result (DontBegin these vectors.now) (λ rest. vectors.now ≡ these ++ rest.now)
-    }
+    ensures { let these = (if stands then begun_with (front_of front) (map signs_of places.now) else []) in
+        MatchOption result (DontBegin these vectors.now) (λ rest. vectors.now ≡ these ++ rest.now) }
 {
     if stands {
         strip_product(front, places, vectors)
@@ -104,10 +96,8 @@ fn strip_where<'a>(
 /// The vectors behind the one that is the whole front; none where another or none stands first.
 fn strip_vector<'a>(front: &Front, vectors: &'a [Vector]) -> Option<&'a [Vector]>
     requires { front.now.len ≤ 6 }
-    ensures {
-        let these = front_of front.now ∷ [] in
-        MatchOption result (DontBegin these vectors.now) (λ rest. vectors.now ≡ these ++ rest.now)
-    }
+    ensures { let these = front_of front.now ∷ [] in
+        MatchOption result (DontBegin these vectors.now) (λ rest. vectors.now ≡ these ++ rest.now) }
 {
     match vectors.split_first() {
         Some((first, rest)) => {

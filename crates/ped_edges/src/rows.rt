@@ -1,8 +1,8 @@
 //! The row of a dependence: source, sink, variable, kind, level, vectors, distances and mark.
 
-ghost use Rattle.std.specs.Prelude.{◌≡◌, ◌++◌, OnOk};
+ghost use Rattle.std.specs.Prelude.{◌≡◌, ◌++◌, length, IfOk, OnOk};
 ghost use Rattle.ped_edges.specs.Rows as shown;
-ghost use Rattle.ped_edges.specs.CodeEdges.{edge_of, kind_of, mark_of, name_text, IsOverSixLoops};
+ghost use Rattle.ped_edges.specs.CodeEdges.{edge_of, kind_of, mark_of, name_text, HasAtMostSixLoops};
 
 use crate::edges::{Edge, Kind, Mark};
 use crate::lists::{Shown, push_list};
@@ -10,27 +10,41 @@ use crate::numbers::{push_number, push_signed};
 use crate::vectors::push_vectors;
 use ped_base::{Bytes, NoMemory};
 use ped_refs::RefName;
+use std::alloc::Global;
 
-/// Adds the row of a dependence, without a line end.
-pub(crate) fn push_row(out: &mut Bytes, edge: &Edge) -> Result<(), NoMemory>
-    requires { IsOverSixLoops edge.now }
-    ensures { OnOk result (out.new ≡ out.old ++ shown.edge_row (edge_of edge.now)) }
-{
-    push_place(out, edge.source)?;
-    out.push(b' ')?;
-    push_place(out, edge.sink)?;
-    out.push(b' ')?;
-    push_name(out, &edge.name)?;
-    out.push(b' ')?;
-    push_kind(out, edge.kind)?;
-    out.push(b' ')?;
-    push_level(out, edge.level)?;
-    out.push(b' ')?;
-    push_vectors(out, edge.distances.len(), &edge.vectors)?;
-    out.push(b' ')?;
-    push_list(out, &edge.distances)?;
-    out.push(b' ')?;
-    push_mark(out, edge.mark)
+impl Edge {
+    /// The row of the dependence in the pane, without a line end: source, sink, variable, kind, level, vectors,
+    /// distances and mark, with a blank between two.
+    pub fn row(&self, alloc: Global) -> Result<Bytes, NoMemory>
+        requires { HasAtMostSixLoops self.now }
+        ensures { IfOk result (λ row. row ≡ shown.edge_row (edge_of self.now)) }
+    {
+        let mut row = Bytes::new(alloc);
+        self.push_row(&mut row)?;
+        Ok(row)
+    }
+
+    /// Adds the row. After want of memory the text ends somewhere in the row.
+    pub fn push_row(&self, out: &mut Bytes) -> Result<(), NoMemory>
+        requires { HasAtMostSixLoops self.now }
+        ensures { OnOk result (out.new ≡ out.old ++ shown.edge_row (edge_of self.now)) }
+    {
+        push_place(out, self.source)?;
+        out.push(b' ')?;
+        push_place(out, self.sink)?;
+        out.push(b' ')?;
+        push_name(out, &self.name)?;
+        out.push(b' ')?;
+        push_kind(out, self.kind)?;
+        out.push(b' ')?;
+        push_level(out, self.level)?;
+        out.push(b' ')?;
+        push_directions(out, self)?;
+        out.push(b' ')?;
+        push_distances(out, self)?;
+        out.push(b' ')?;
+        push_mark(out, self.mark)
+    }
 }
 
 /// Adds a reference by its statement and its number there.
@@ -70,6 +84,20 @@ fn push_level(out: &mut Bytes, level: Option<u8>) -> Result<(), NoMemory>
         Some(level) => push_number(out, u64::from(level)),
         None => out.push(b'-'),
     }
+}
+
+/// Adds the vectors of a dependence, over as many loops as it has distances.
+fn push_directions(out: &mut Bytes, edge: &Edge) -> Result<(), NoMemory>
+    requires { HasAtMostSixLoops edge.now }
+    ensures { OnOk result (out.new ≡ out.old ++ shown.vectors_text (length edge.now.distances.items) edge.now.vectors.items) }
+{
+    push_vectors(out, edge.distances.len(), edge.vectors.as_slice())
+}
+
+fn push_distances(out: &mut Bytes, edge: &Edge) -> Result<(), NoMemory>
+    ensures { OnOk result (out.new ≡ out.old ++ shown.distances_text edge.now.distances.items) }
+{
+    push_list(out, edge.distances.as_slice())
 }
 
 impl Shown for Option<i128> {

@@ -13,7 +13,11 @@ use ped_verdict::Vector;
 use ped_views::Direction;
 
 /// Adds vectors over so many loops.
-pub(crate) fn push_vectors(out: &mut Bytes, loops: usize, vectors: &[Vector]) -> Result<(), NoMemory>
+pub(crate) fn push_vectors(
+    out: &mut Bytes,
+    loops: usize,
+    vectors: &[Vector],
+) -> Result<(), NoMemory>
     requires { loops ≤ 6 }
     ensures { OnOk result (out.new ≡ out.old ++ vectors_text loops vectors.now) }
 {

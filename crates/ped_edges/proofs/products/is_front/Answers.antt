@@ -1,4 +1,4 @@
-use Rattle.std.proofs.Common.{◌≡◌, Bool, Decides, List, sym, ◌∙◌}
+use Rattle.std.proofs.Common.{◌≡◌, Bool, List, sym, ◌∙◌}
 use Rattle.std.specs.Prelude.{IsTrue, ◌↔◌}
 use Rattle.ped_views.specs.declared.directions.Direction.{Direction}
 use Rattle.ped_edges.specs.Rows.{are_signs}

@@ -1,25 +1,27 @@
 -- The statements that stand in an IF (ANSI X3.9-1978, section 11.6).
-use Rattle.std.specs.Prelude.{ℕ, ◌+◌, List, [], ◌++◌}
-use Rattle.std.specs.List.{range_with_len}
+use Rattle.std.specs.Prelude.{ℕ, ◌-◌, List, [], ◌∷◌, ◌++◌, slice_index_or, Bool, true, false}
 use Rattle.ped_tree.specs.Tree.{StmtTree, StmtTrees, Assign, If, Do, Print, Read, Stop, Comment, no_stmts, more_stmts, ProgramTree}
-use Rattle.ped_tree.specs.Numbering.{statement_count, statements_count}
 
--- the numbers of the statements that stand in an IF, where the first statement has this number; an IF's own condition isn't in it (ANSI X3.9-1978, section 11.6; this project)
+-- for each numbered statement of a statement and its parts, in text order, whether it stands in an IF, where the statement itself does or not; an IF's own condition isn't in it (ANSI X3.9-1978, section 11.6; this project)
 abbrev mutual
-  pub guarded_from : ℕ → StmtTree → List ℕ
-  guarded_from n (Assign left right) = []
-  guarded_from n (If condition then_part else_part) = range_with_len (n + 1) (statements_count then_part + statements_count else_part)
-  guarded_from n (Do h body) = all_guarded_from (n + 1) body
-  guarded_from n (Print items) = []
-  guarded_from n (Read items) = []
-  guarded_from n Stop = []
-  guarded_from n (Comment text) = []
+  pub guards_in : Bool → StmtTree → List Bool
+  guards_in inside (Assign left right) = inside ∷ []
+  guards_in inside (If condition then_part else_part) = inside ∷ (all_guards_in true then_part ++ all_guards_in true else_part)
+  guards_in inside (Do h body) = inside ∷ all_guards_in inside body
+  guards_in inside (Print items) = inside ∷ []
+  guards_in inside (Read items) = inside ∷ []
+  guards_in inside Stop = inside ∷ []
+  guards_in inside (Comment text) = []
 
-  -- the same of statements, one behind the other (this project)
-  pub all_guarded_from : ℕ → StmtTrees → List ℕ
-  all_guarded_from n no_stmts = []
-  all_guarded_from n (more_stmts s rest) = guarded_from n s ++ all_guarded_from (n + statement_count s) rest
+  -- the same of statements, one behind the other (ANSI X3.9-1978, section 11.6)
+  pub all_guards_in : Bool → StmtTrees → List Bool
+  all_guards_in inside no_stmts = []
+  all_guards_in inside (more_stmts s rest) = guards_in inside s ++ all_guards_in inside rest
 
--- the numbers of the statements of a program that stand in an IF (ANSI X3.9-1978, section 11.6)
-abbrev pub guarded : ProgramTree → List ℕ
-guarded t = all_guarded_from 1 t.body
+-- for each statement of a program, by its number, whether it stands in an IF (ANSI X3.9-1978, section 11.6)
+abbrev pub guards : ProgramTree → List Bool
+guards t = all_guards_in false t.body
+
+-- the statement with this number stands in an IF
+abbrev pub is_guarded : List Bool → ℕ → Bool
+is_guarded guards number = slice_index_or guards (number - 1) false

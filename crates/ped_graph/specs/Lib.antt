@@ -1,5 +1,6 @@
 pub mod DependencePane
-pub mod Edges
+pub mod Dependences
 pub mod Guards
+pub mod Held
 pub mod Marks
 pub mod Owners

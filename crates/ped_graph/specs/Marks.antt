@@ -1,6 +1,6 @@
 -- What the editor knows of a dependence: proven, rejected by the user, or pending (ParaScope; this project).
-use Rattle.std.specs.Prelude.{ℕ, ℤ, pos, ◌+ℤ◌, ◌-◌, List, [], ◌∷◌, length, unsigned_abs, int_le, Bool, true, false, ◌&&◌, not, ◌==◌, Option, Some, None, slice_get, if◌then◌else◌}
-use Rattle.std.specs.List.{list_all, list_any}
+use Rattle.std.specs.Prelude.{ℕ, ℤ, pos, ◌+ℤ◌, ◌-◌, List, [], ◌∷◌, length, unsigned_abs, int_le, Bool, true, false, ◌&&◌, not, Option, Some, None, slice_get, if◌then◌else◌}
+use Rattle.std.specs.List.{list_all}
 use Rattle.std.specs.Ordering.{int_eq}
 use Rattle.ped_base.specs.Lists.{is_among}
 use Rattle.ped_views.specs.Views.{Range, SubscriptPair, View}
@@ -10,13 +10,9 @@ use Rattle.ped_tree.specs.Nests.{Loop, common_nest}
 use Rattle.ped_refs.specs.References.{Reference}
 use Rattle.ped_constants.specs.ConstantExpressions.{constant_value}
 use Rattle.ped_affine.specs.Ranges.{is_near}
+use Rattle.ped_graph.specs.Guards.{is_guarded}
 use Rattle.ped_verdict.specs.Exactness.{is_separable}
-
--- the dependence is there, the tests don't tell, the user has said that it isn't there (ParaScope)
-pub data Mark : Type 0 where
-  proven : Mark
-  pending : Mark
-  rejected : Mark
+use Rattle.ped_edges.specs.Edges.{Mark, proven, pending, rejected}
 
 -- a constant within 2^62 of zero (this project)
 abbrev pub is_near_constant : Option ℤ → Bool
@@ -47,17 +43,17 @@ is_proven_position p = p.usable && is_proven_form (form_of p) p
 abbrev pub all_run_twice : View → Bool
 all_run_twice v = list_all runs_twice v.loops && list_all runs_twice v.source_inner && list_all runs_twice v.sink_inner
 
--- the statement of a reference stands in an IF, by the numbers of those that do
-abbrev pub is_guarded : List ℕ → Reference → Bool
-is_guarded guarded r = list_any (λ n. n == r.statement) guarded
+-- nothing but constants decides whether the statement of a reference runs: the loops round it have constant bounds, and it stands in no IF (ParaScope; this project)
+abbrev pub is_firm : List (List ℕ × ℤ) → List Bool → Reference → Bool
+is_firm constants guards r = list_all (has_constant_bounds constants) r.nest && not (is_guarded guards r.statement)
 
--- the dependence is there whatever the data are: the loops round either reference have constant bounds and run at least twice, no IF stands round either, and each position tells it, no index in two of them (ParaScope; this project)
-abbrev pub is_proven : List (List ℕ × ℤ) → List ℕ → Reference → Reference → View → Bool
-is_proven constants guarded source sink v =
-    list_all (has_constant_bounds constants) source.nest && list_all (has_constant_bounds constants) sink.nest
-    && all_run_twice v
-    && list_all is_proven_position v.positions && is_separable v
-    && not (is_guarded guarded source) && not (is_guarded guarded sink)
+-- the tests of a view tell a dependence: its loops run at least twice, and each position is affine and ZIV with equal constants or strong SIV, no index in two of them (Allen and Kennedy, section 3.3; this project)
+abbrev pub is_telling : View → Bool
+is_telling v = all_run_twice v && list_all is_proven_position v.positions && is_separable v
+
+-- the dependence is there whatever the data are (ParaScope; this project)
+abbrev pub is_proven : List (List ℕ × ℤ) → List Bool → Reference → Reference → View → Bool
+is_proven constants guards source sink v = is_firm constants guards source && is_firm constants guards sink && is_telling v
 
 -- the loop, where it is there, has a directive that rejects the name (ParaScope)
 abbrev pub rejects : List ℕ → Option Loop → Bool
@@ -76,7 +72,7 @@ mark_by false true = rejected
 mark_by false false = pending
 
 -- the mark of the dependence of a level (ParaScope; this project)
-abbrev pub mark_of : List (List ℕ × ℤ) → List ℕ → Reference → Reference → View → Option ℕ → Mark
-mark_of constants guarded source sink v level =
-    mark_by (is_proven constants guarded source sink v)
+abbrev pub mark_of : List (List ℕ × ℤ) → List Bool → Reference → Reference → View → Option ℕ → Mark
+mark_of constants guards source sink v level =
+    mark_by (is_proven constants guards source sink v)
     (is_rejected source.access.name (common_nest source.nest sink.nest) level)

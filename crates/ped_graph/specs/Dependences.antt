@@ -9,30 +9,15 @@ use Rattle.ped_views.specs.Vectors.{AreVectors, distance}
 use Rattle.ped_tree.specs.Tree.{StmtTree, ProgramTree}
 use Rattle.ped_tree.specs.Numbering.{statement_with}
 use Rattle.ped_symbols.specs.Kinds.{table_of}
+use Rattle.ped_names.specs.Collecting.{with_names}
 use Rattle.ped_refs.specs.References.{Reference, comes_before, outermost, references, pairs}
 use Rattle.ped_affine.specs.Assigned.{assigned_in, all_loop_variables}
 use Rattle.ped_affine.specs.Ranges.{Setting}
 use Rattle.ped_affine.specs.PairViews.{Site, view_at}
 use Rattle.ped_graph.specs.Owners.{have_same_owner, owner_level, within_iteration}
-use Rattle.ped_graph.specs.Guards.{guarded}
-use Rattle.ped_graph.specs.Marks.{Mark, mark_of}
-
--- a write and then a read, a read and then a write, two writes (Allen and Kennedy, section 2.2.1)
-pub data Kind : Type 0 where
-  flow : Kind
-  anti : Kind
-  output : Kind
-
--- a dependence: its source and sink by statement and reference, the variable, the level of the loop that carries it, None where it is independent of loops (Allen and Kennedy, section 2.2; ParaScope)
-pub record Edge : Type 0 where
-  pub source : ℕ × ℕ
-  pub sink : ℕ × ℕ
-  pub name : List ℕ
-  pub kind : Kind
-  pub level : Option ℕ
-  pub vectors : List (List Direction)
-  pub distances : List (Option ℤ)
-  pub mark : Mark
+use Rattle.ped_graph.specs.Guards.{guards}
+use Rattle.ped_edges.specs.Edges.{Kind, flow, anti, output, Edge}
+use Rattle.ped_graph.specs.Marks.{mark_of}
 
 -- by the first sign other than `=`: carried by the loop at that level, independent where there is none, or from the sink to the source (Allen and Kennedy, section 2.2.5)
 pub data Carriage : Type 0 where
@@ -79,10 +64,10 @@ distances_of v = map (distance v) (range_with_len 0 (length v.loops))
 abbrev pub place_of : Reference → ℕ × ℕ
 place_of r = (r.statement, r.number)
 
--- what edges depend on beside a pair of references and its view: the named constants with their values, and the numbers of the statements that stand in an IF
+-- what edges depend on beside a pair of references and its view: the named constants with their values, and for each statement whether it stands in an IF
 pub record Facts : Type 0 where
   pub constants : List (List ℕ × ℤ)
-  pub guarded : List ℕ
+  pub guards : List Bool
 
 -- the dependence of a level with these vectors, where there are any (Allen and Kennedy, section 2.2.5)
 abbrev pub edge_at : Facts → Reference → Reference → View → Option ℕ → List (List Direction) → List Edge
@@ -95,7 +80,7 @@ edge_at facts source sink v level vectors =
       level = level;
       vectors = vectors;
       distances = distances_of v;
-      mark = mark_of facts.constants facts.guarded source sink v level;
+      mark = mark_of facts.constants facts.guards source sink v level;
     }) ∷ [] else []
 
 -- the dependence that is independent of loops: only from a source that comes before the sink (Allen and Kennedy, section 2.2.5)
@@ -118,12 +103,12 @@ abbrev pub assigned_by : Option StmtTree → List (List ℕ)
 assigned_by (Some s) = assigned_in s
 assigned_by None = []
 
--- the setting of the references of a program in the DO with this number, the outermost round them (this project)
+-- the setting of the references of a program in the DO with this number, the outermost round them; its names stand each once (this project)
 abbrev pub setting_in : ProgramTree → ℕ → Setting
 setting_in t number = record {
   constants = (table_of t).constants;
-  loop_variables = all_loop_variables t.body;
-  assigned = assigned_by (statement_with number t);
+  loop_variables = with_names [] (all_loop_variables t.body);
+  assigned = with_names [] (assigned_by (statement_with number t));
 }
 
 -- where a reference stands
@@ -136,7 +121,7 @@ view_of t source sink = view_at (setting_in t (outermost source)) (site_of sourc
 
 -- what edges of a program depend on beside pairs and views
 abbrev pub facts_of : ProgramTree → Facts
-facts_of t = record { constants = (table_of t).constants; guarded = guarded t }
+facts_of t = record { constants = (table_of t).constants; guards = guards t }
 
 -- these are the dependences of a pair of references of a program (Allen and Kennedy, section 3.2)
 pub record PairEdges (t : ProgramTree) (source sink : Reference) (edges : List Edge) : Type 0 where

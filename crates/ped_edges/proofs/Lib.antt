@@ -1,0 +1,6 @@
+mod Directions
+mod Joined
+mod PushedRows
+mod SignsFound
+mod Stripping
+mod WholeProducts

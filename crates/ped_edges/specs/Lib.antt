@@ -1,0 +1,4 @@
+pub mod Edges
+pub mod Rows
+pub mod CodeEdges
+pub mod CodeSigns

@@ -1,0 +1,47 @@
+//! Dependences between two references, as the tests find them and the user marks them.
+
+use ped_refs::RefName;
+use ped_verdict::Vector;
+
+/// How the two references of a dependence use what they name (Allen and Kennedy, section 2.2.1).
+#[derive(Clone, Copy, Debug, PartialEq, Eq)]
+pub enum Kind {
+    /// A write, and then a read.
+    Flow,
+    /// A read, and then a write.
+    Anti,
+    /// Two writes.
+    Output,
+}
+
+/// What is known of a dependence (ParaScope).
+#[derive(Clone, Copy, Debug, PartialEq, Eq)]
+pub enum Mark {
+    /// It is there.
+    Proven,
+    /// It may be there.
+    Pending,
+    /// The user has said that it isn't there.
+    Rejected,
+}
+
+/// A dependence between two references.
+#[derive(Drop)]
+pub struct Edge {
+    /// The reference whose access comes first: the number of its statement, and its number there, from 1.
+    pub source: (u32, u32),
+    /// The reference whose access comes second, likewise.
+    pub sink: (u32, u32),
+    /// What both of them read or write.
+    pub name: RefName,
+    /// Which of them write.
+    pub kind: Kind,
+    /// The level of the loop that carries it, 1 for the outermost, and none where it is independent of loops.
+    pub level: Option<u8>,
+    /// The direction vectors that it may have over the loops round both references, in the order `<`, `=`, `>`.
+    pub vectors: Vec<Vector>,
+    /// The distance in iterations of each of these loops, none where it is unknown.
+    pub distances: Vec<Option<i128>>,
+    /// What is known of it.
+    pub mark: Mark,
+}

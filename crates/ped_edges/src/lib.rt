@@ -1,0 +1,14 @@
+//! Dependences as the editor shows them: their rows and the dependence pane. The definitions stand in `specs/`.
+#![tactic(auto)]
+
+mod edges;
+mod lists;
+mod numbers;
+mod pane;
+mod products;
+mod rows;
+mod signs;
+mod vectors;
+
+pub use edges::{Edge, Kind, Mark};
+pub use pane::{edges_pane, push_edges_pane};

@@ -1,7 +1,10 @@
 mod Anyone
 mod Bounding
+mod Capped
 mod Collected
 mod Elements
 mod Lookups
+mod ManyPairs
 mod Repeats
+mod Sizes
 mod Walking

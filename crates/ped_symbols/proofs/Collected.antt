@@ -49,7 +49,8 @@ or_back true false = refl
 or_back false true = refl
 or_back false false = refl
 
-same_more : (a b : List (List ℕ)) (x : List ℕ) → HaveSame a b → HaveSame (a ++ x ∷ []) (x ∷ b)
+-- one name more, before or behind
+pub same_more : (a b : List (List ℕ)) (x : List ℕ) → HaveSame a b → HaveSame (a ++ x ∷ []) (x ∷ b)
 same_more a b x h y = among_append y a (x ∷ []) ∙ or_back (is_among y a) (is_same_text y x) ∙ ap (λ (t : Bool). is_same_text y x || t) (h y)
 
 pick_kind : (kind : List ℕ → Kind) (a b : List (List ℕ)) (x : List ℕ) (xs : List (List ℕ)) (r : Bool)

@@ -3,6 +3,7 @@ mod Bounding
 mod Capped
 mod Collected
 mod Elements
+pub mod FewReferences
 mod Lookups
 mod ManyPairs
 mod Repeats

@@ -6,7 +6,9 @@
 mod dependence_tests;
 mod programs;
 
+use anyhow::bail;
 use dependence_tests::excluded;
+use ped_fits::fits;
 use ped_lines::statements;
 use ped_print::source_pane;
 use ped_symbols::symbols_of;
@@ -58,9 +60,14 @@ fn print(alloc: Global, count: u64, times: u64) -> anyhow::Result<usize> {
     Ok(bytes)
 }
 
-/// How many names a program has that has as many names as statements.
+/// How many names a program has that has as many names as statements. It fails for more statements than a program
+/// may have.
+#[tactic(auto, using(ped_symbols::proofs::FewReferences::few_statements, ped_symbols::proofs::FewReferences::few_references))]
 fn names(alloc: Global, count: u64, times: u64) -> anyhow::Result<usize> {
     let program = named_program(alloc, count)?;
+    if !fits(&program) {
+        bail!("a program has at most 4,000 statements");
+    }
     let mut names = 0;
     for _i in 0..times {
         names = symbols_of(alloc, &program)?.names(alloc)?.len();

@@ -1,5 +1,5 @@
 -- The table of a program: its names in the order of their first occurrence.
-use Rattle.std.proofs.Common.{◌≡◌, ℕ, List, [], ◌∷◌, ◌++◌, map, Bool, true, false, Some, None, is_some, refl, ap, sym, ◌∙◌, append_assoc, append-nil, if◌then◌else◌}
+use Rattle.std.proofs.Common.{◌≡◌, ℕ, List, [], ◌∷◌, ◌++◌, map, Bool, true, false, Option, Some, None, is_some, refl, ap, sym, ◌∙◌, append_assoc, append-nil, if◌then◌else◌, subst}
 use Rattle.std.specs.Prelude.{◌||◌}
 use Rattle.std.specs.List.{flat_map}
 use Rattle.std.proofs.lemmas.Grind.{flat_map-append}
@@ -13,8 +13,8 @@ use Rattle.ped_symbols.specs.declared.symbols.Kind.{Kind}
 use Rattle.ped_symbols.specs.declared.uses.Use.{Use}
 use Rattle.ped_symbols.specs.Entries.{entry_of}
 use Rattle.ped_symbols.specs.Uses.{decl_uses}
-use Rattle.ped_symbols.specs.Sites.{Site, private_site, stmt_sites, stmts_sites, decl_sites, site_uses}
-use Rattle.ped_symbols.specs.NameRefusals.{Before, at_first, behind_sites, at_sites}
+use Rattle.ped_symbols.specs.Sites.{Site, statement, private_site, stmt_sites, stmts_sites, decl_sites, site_uses}
+use Rattle.ped_symbols.specs.NameRefusals.{Before, at_first, behind_site, behind_sites, at_sites}
 use Rattle.ped_grammar.specs.Refusal.{earliest}
 use Rattle.ped_grammar.specs.RefusalViews.{found_of}
 use Rattle.ped_symbols.specs.declared.declared.Declared.{Declared}
@@ -23,7 +23,10 @@ use Rattle.ped_symbols.specs.declared.sites.Found.{Found}
 use Rattle.ped_symbols.specs.declared.symbols.Passed.{Passed}
 use Rattle.ped_symbols.specs.Declarations.{declared_in}
 use Rattle.ped_symbols.specs.Kinds.{kind_by, kind_of, names_at, at_last}
-use Rattle.ped_symbols.specs.Passes.{HaveSame, Knows, Holds, first_with, with_kinds}
+use Rattle.ped_symbols.specs.Passes.{HaveSame, Knows, Holds, CountsTo, first_with, with_kinds}
+use Rattle.ped_symbols.specs.Values.{Values}
+use Rattle.ped_symbols.specs.Arrays.{Arrays}
+use Rattle.ped_refs.specs.References.{references}
 use Rattle.ped_symbols.specs.Passed.{kind_held, GoesOver, HasPassed}
 use Rattle.ped_symbols.proofs.Walking.{behind_append}
 
@@ -46,7 +49,8 @@ or_back true false = refl
 or_back false true = refl
 or_back false false = refl
 
-same_more : (a b : List (List ℕ)) (x : List ℕ) → HaveSame a b → HaveSame (a ++ x ∷ []) (x ∷ b)
+-- one name more, before or behind
+pub same_more : (a b : List (List ℕ)) (x : List ℕ) → HaveSame a b → HaveSame (a ++ x ∷ []) (x ∷ b)
 same_more a b x h y = among_append y a (x ∷ []) ∙ or_back (is_among y a) (is_same_text y x) ∙ ap (λ (t : Bool). is_same_text y x || t) (h y)
 
 pick_kind : (kind : List ℕ → Kind) (a b : List (List ℕ)) (x : List ℕ) (xs : List (List ℕ)) (r : Bool)
@@ -67,24 +71,47 @@ kinds_from kind a b h (x ∷ xs) =
 pub kinds_collected : (kind : List ℕ → Kind) (names : List (List ℕ)) → with_kinds kind [] names ≡ map (λ x. (x, kind x)) (first_occurrences [] names)
 kinds_collected kind names = kinds_from kind [] [] (λ x. refl) names
 
-private_stays : (b : Before) (names : List (List ℕ)) → behind_sites b (private_site names) ≡ b
+-- what declarations have said of constants and arrays
+abbrev said : Before → Values × Arrays
+said b = (b.values, b.arrays)
+
+private_stays : (b : Before) (names : List (List ℕ)) → said (behind_sites b (private_site names)) ≡ said b
 private_stays b [] = refl
 private_stays b (x ∷ xs) = refl
 
 -- statements declare nothing
 mutual
-  stays : (b : Before) (s : StmtTree) → behind_sites b (stmt_sites s) ≡ b
+  stays : (b : Before) (s : StmtTree) → said (behind_sites b (stmt_sites s)) ≡ said b
   stays b (plain.Assign left right) = refl
-  stays b (plain.If c t e) = behind_append b (stmts_sites t) (stmts_sites e) ∙ ap (λ b. behind_sites b (stmts_sites e)) (all_stay b t) ∙ all_stay b e
-  stays b (plain.Do h body) = behind_append b (private_site h.private) (stmts_sites body) ∙ ap (λ b. behind_sites b (stmts_sites body)) (private_stays b h.private) ∙ all_stay b body
+  stays b (plain.If c t e) =
+      let own : Before = behind_site b (statement (plain.If c t e)) in
+      ap said (behind_append own (stmts_sites t) (stmts_sites e)) ∙ all_stay (behind_sites own (stmts_sites t)) e ∙ all_stay own t
+  stays b (plain.Do h body) =
+      let own : Before = behind_site b (statement (plain.Do h body)) in
+      ap said (behind_append own (private_site h.private) (stmts_sites body)) ∙ all_stay (behind_sites own (private_site h.private)) body ∙ private_stays own h.private
   stays b (plain.Print items) = refl
   stays b (plain.Read items) = refl
   stays b plain.Stop = refl
   stays b (plain.Comment text) = refl
 
-  pub all_stay : (b : Before) (ss : StmtTrees) → behind_sites b (stmts_sites ss) ≡ b
+  pub all_stay : (b : Before) (ss : StmtTrees) → said (behind_sites b (stmts_sites ss)) ≡ said b
   all_stay b plain.no_stmts = refl
-  all_stay b (plain.more_stmts s rest) = behind_append b (stmt_sites s) (stmts_sites rest) ∙ ap (λ b. behind_sites b (stmts_sites rest)) (stays b s) ∙ all_stay b rest
+  all_stay b (plain.more_stmts s rest) = ap said (behind_append b (stmt_sites s) (stmts_sites rest)) ∙ all_stay (behind_sites b (stmt_sites s)) rest ∙ stays b s
+
+decl_uncounted : (b : Before) (d : DeclTree) → (behind_sites b (decl_sites d)).statements ≡ b.statements
+decl_uncounted b (plain.Program x) = refl
+decl_uncounted b plain.Implicit = refl
+decl_uncounted b (plain.Integer ds) = refl
+decl_uncounted b (plain.Dimension ds) = refl
+decl_uncounted b (plain.Parameter values) = refl
+decl_uncounted b (plain.Save names) = refl
+decl_uncounted b (plain.Remark text) = refl
+
+-- declarations have no numbers
+decls_uncounted : (b : Before) (ds : List DeclTree) → (behind_sites b (flat_map decl_sites ds)).statements ≡ b.statements
+decls_uncounted b [] = refl
+decls_uncounted b (d ∷ ds) =
+    ap (λ (b : Before). b.statements) (behind_append b (decl_sites d) (flat_map decl_sites ds)) ∙ decls_uncounted (behind_sites b (decl_sites d)) ds ∙ decl_uncounted b d
 
 own_decl : (d : DeclTree) → flat_map site_uses (decl_sites d) ≡ decl_uses d
 own_decl (plain.Program x) = refl
@@ -107,28 +134,32 @@ names_of_program ds stmts =
     ∙ map-append (λ u. u.name) (flat_map decl_uses ds) (flat_map site_uses stmts)
 
 -- all that the declarations say is what stands behind their sites
-last_before : (t : ProgramTree) → at_last t ≡ behind_sites at_first (flat_map decl_sites t.decls)
-last_before t = behind_append at_first (flat_map decl_sites t.decls) (stmts_sites t.body) ∙ all_stay (behind_sites at_first (flat_map decl_sites t.decls)) t.body
+last_before : (t : ProgramTree) → said (at_last t) ≡ said (behind_sites at_first (flat_map decl_sites t.decls))
+last_before t = ap said (behind_append at_first (flat_map decl_sites t.decls) (stmts_sites t.body)) ∙ all_stay (behind_sites at_first (flat_map decl_sites t.decls)) t.body
 
 -- the passes over declarations and over statements have found what the definitions say
 pub passed_whole : (t : ProgramTree) (declared : Declared) (held : Held) (found next : Found) (passed : Passed) (uses : List Use)
     → found.first ≡ None → uses ≡ flat_map decl_uses t.decls → Knows declared (declared_in t.decls) → Holds held (behind_sites at_first (flat_map decl_sites t.decls))
-    → ((more : List Site) → first_with (declared_in t.decls) (behind_sites at_first (flat_map decl_sites t.decls)) next more ≡ first_with (declared_in t.decls) at_first found (flat_map decl_sites t.decls ++ more))
+    → CountsTo (references t) 0 found.until_many_pairs → next.until_many_pairs ≡ found.until_many_pairs
+    → ((more : List Site) → first_with (declared_in t.decls) (references t) (behind_sites at_first (flat_map decl_sites t.decls)) next more ≡ first_with (declared_in t.decls) (references t) at_first found (flat_map decl_sites t.decls ++ more))
     → GoesOver declared held uses next (stmts_sites t.body) passed.first passed.kinds → passed.consts ≡ held.consts
     → HasPassed found.lines.now t passed
-passed_whole t declared held found next passed uses none as_uses knows holds over goes consts =
+passed_whole t declared held found next passed uses none as_uses knows holds counts until over goes consts =
     let ds = flat_map decl_sites t.decls in
     let stmts = stmts_sites t.body in
     let kind : (x : List ℕ) → kind_held held x ≡ kind_of t x =
-    λ x. (λ i. kind_by (entry_of (holds.values i) x) (holds.arrays x i)) ∙ ap (λ (b : Before). kind_by (entry_of b.values x) (entry_of b.arrays x)) (sym (last_before t)) in
+    λ x. (λ i. kind_by (entry_of (holds.values i) x) (holds.arrays x i)) ∙ ap (λ (b : Values × Arrays). kind_by (entry_of b.0 x) (entry_of b.1 x)) (sym (last_before t)) in
+    let still : CountsTo (references t) (behind_sites at_first ds).statements next.until_many_pairs =
+    subst (λ (n : ℕ). CountsTo (references t) n next.until_many_pairs) (sym (decls_uncounted at_first t.decls))
+    (subst (λ (u : Option ℕ). CountsTo (references t) 0 u) (sym until) counts) in
     record {
-      first = goes.refusal (declared_in t.decls) knows (behind_sites at_first ds) (sym holds.values)
+      first = goes.refusal (declared_in t.decls) knows (references t) (behind_sites at_first ds) (sym holds.values) still
           ∙ over stmts
-          ∙ ap (λ r. earliest (found_of r) (at_sites (declared_in t.decls) at_first found.lines.now (ds ++ stmts))) none;
+          ∙ ap (λ r. earliest (found_of r) (at_sites (declared_in t.decls) (references t) at_first found.lines.now (ds ++ stmts))) none;
       kinds = goes.names
           ∙ ap (λ us. with_kinds (kind_held held) [] (map (λ u. u.name) us ++ names_at stmts)) as_uses
           ∙ ap (with_kinds (kind_held held) []) (sym (names_of_program t.decls stmts))
           ∙ kinds_collected (kind_held held) (names_at (ds ++ stmts))
           ∙ (λ i. map (λ x. (x, kind x i)) (first_occurrences [] (names_at (ds ++ stmts))));
-      constants = consts ∙ holds.values ∙ ap (λ (b : Before). b.values) (sym (last_before t));
+      constants = consts ∙ holds.values ∙ ap (λ (b : Values × Arrays). b.0) (sym (last_before t));
     }

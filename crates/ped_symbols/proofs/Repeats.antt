@@ -36,7 +36,7 @@ same_role test before u b e x = ap (λ (r : Bool). is_among x (names_with test b
 pub ranks_more : (before : List Use) (u : Use) → ranks_in (before ++ u ∷ []) ≡ ranks_in before ++ rank_by u.name u.role
 ranks_more before u = flat_map-append (λ u. rank_by u.name u.role) before (u ∷ []) ∙ ap (λ rest. ranks_in before ++ rest) (append-nil (rank_by u.name u.role))
 
-or_assoc : (a b c : Bool) → ((a || b) || c) ≡ (a || (b || c))
+pub or_assoc : (a b c : Bool) → ((a || b) || c) ≡ (a || (b || c))
 or_assoc true b c = refl
 or_assoc false b c = refl
 

@@ -7,5 +7,6 @@ pub mod Passed
 pub mod Passes
 pub mod Refused
 pub mod Sites
+pub mod StorageLimits
 pub mod Uses
 pub mod Values

@@ -1,11 +1,12 @@
--- Which of the refusals 14 to 18 the names of a program meet, site by site. Each site is looked at, whatever is refused before it (ANSI X3.9-1978, sections 4.1.2, 5, 8, 18; this project).
-use Rattle.std.specs.Prelude.{◌≡◌, ℕ, List, [], ◌∷◌, ◌++◌, drop, Bool, true, false, not, ◌&&◌, ◌||◌, ◌==◌, nat_lt, Option, Some, None, IsTrue}
+-- Which of the refusals 14 to 19 a program meets by its names, its arrays and its references, site by site. Each site is looked at, whatever is refused before it (ANSI X3.9-1978, sections 4.1.2, 5, 8, 18; this project).
+use Rattle.std.specs.Prelude.{◌≡◌, ℕ, ◌+◌, List, [], ◌∷◌, ◌++◌, drop, Bool, true, false, not, ◌&&◌, ◌||◌, ◌==◌, nat_lt, Option, Some, None, IsTrue}
 use Rattle.std.specs.List.{list_any}
 use Rattle.ped_base.specs.Lists.{is_among}
 use Rattle.ped_tree.specs.Tree.{StmtTree, Do, ProgramTree}
 use Rattle.ped_grammar.specs.Words.{intrinsic_of}
 use Rattle.ped_grammar.specs.Fits.{is_no_intrinsic, fits}
-use Rattle.ped_grammar.specs.Refusal.{Finding, RealName, DeclaredTwice, NotConstant, RankDiffers, BoundsEmpty, refused_if}
+use Rattle.ped_grammar.specs.Refusal.{Finding, RealName, DeclaredTwice, NotConstant, RankDiffers, BoundsEmpty, StorageLimit, refused_if}
+use Rattle.ped_refs.specs.References.{Reference, references}
 use Rattle.ped_symbols.specs.declared.uses.Role.{Role}
 use Rattle.ped_symbols.specs.declared.uses.Role.TheVariants.{Typed, Dimensioned, Named, Saved, Rejected, Private, Index, Assigned, Operand}
 use Rattle.ped_symbols.specs.declared.uses.Use.{Use}
@@ -14,6 +15,7 @@ use Rattle.ped_symbols.specs.Sites.{Site, declaration, statement, private_names,
 use Rattle.ped_symbols.specs.Declarations.{Declared, declared_in, is_typing, is_dimensioning, is_naming, is_saving, names_with, is_constant, is_program, is_real, rank_of}
 use Rattle.ped_symbols.specs.Values.{Values, behind_decl, site_fails, site_is_empty}
 use Rattle.ped_symbols.specs.Arrays.{Arrays, arrays_in}
+use Rattle.ped_symbols.specs.StorageLimits.{have_many_elements, has_many_pairs}
 
 -- the name is of type REAL (ANSI X3.9-1978, section 4.1.2)
 abbrev pub uses_real : Declared → Use → Bool
@@ -101,15 +103,16 @@ differs rank (Some n) = not (n == rank)
 abbrev pub uses_other_rank : Declared → Use → Bool
 uses_other_rank d u = differs (rank_of d u.name) (subscripts_of u.role)
 
--- what stands before a site: the uses of names in declarations, the named constants that hold, the arrays
+-- what stands before a site: the uses of names in declarations, the named constants that hold, the arrays, and how many numbered statements
 pub record Before : Type 0 where
   pub uses : List Use
   pub values : Values
   pub arrays : Arrays
+  pub statements : ℕ
 
 -- before the first site
 abbrev pub at_first : Before
-at_first = record { uses = []; values = []; arrays = [] }
+at_first = record { uses = []; values = []; arrays = []; statements = 0 }
 
 -- behind a site (ANSI X3.9-1978, section 8)
 abbrev pub behind_site : Before → Site → Before
@@ -117,8 +120,9 @@ behind_site b (declaration d) = record {
   uses = b.uses ++ decl_uses d;
   values = behind_decl b.values d;
   arrays = b.arrays ++ arrays_in b.values d;
+  statements = b.statements;
 }
-behind_site b (statement s) = b
+behind_site b (statement s) = record b { statements = b.statements + 1 }
 behind_site b (private_names names) = b
 
 -- behind sites, one behind the other
@@ -126,14 +130,21 @@ abbrev pub behind_sites : Before → List Site → Before
 behind_sites b [] = b
 behind_sites b (s ∷ rest) = behind_sites (behind_site b s) rest
 
--- what is refused at a site on this line; that a name would be REAL comes first, also where it stands in a value or a bound
-abbrev pub at_site : Declared → Before → ℕ → Site → List Finding
-at_site d b line s =
+-- a limit is passed: by the arrays that are declared up to the site, or by the pairs among the references up to its statement (this project)
+abbrev pub passes_limit : List Reference → Before → Site → Bool
+passes_limit refs b (declaration d) = have_many_elements (b.arrays ++ arrays_in b.values d)
+passes_limit refs b (statement s) = has_many_pairs refs (b.statements + 1)
+passes_limit refs b (private_names names) = false
+
+-- what is refused at a site on this line, in a program with these references; that a name would be REAL comes first, also where it stands in a value or a bound
+abbrev pub at_site : Declared → List Reference → Before → ℕ → Site → List Finding
+at_site d refs b line s =
     refused_if (list_any (uses_real d) (site_uses s)) RealName line
     ++ refused_if (is_declared_twice d b.uses s) DeclaredTwice line
     ++ refused_if (site_fails b.values s) NotConstant line
     ++ refused_if (list_any (uses_other_rank d) (site_uses s)) RankDiffers line
     ++ refused_if (site_is_empty b.values s) BoundsEmpty line
+    ++ refused_if (passes_limit refs b s) StorageLimit line
 
 -- the line of the next site; 0 where the lines aren't known (this project)
 abbrev pub next_line : List ℕ → ℕ
@@ -141,13 +152,13 @@ next_line [] = 0
 next_line (line ∷ lines) = line
 
 -- what is refused at sites, one behind the other, on these lines
-abbrev pub at_sites : Declared → Before → List ℕ → List Site → List Finding
-at_sites d b lines [] = []
-at_sites d b lines (s ∷ rest) = at_site d b (next_line lines) s ++ at_sites d (behind_site b s) (drop 1 lines) rest
+abbrev pub at_sites : Declared → List Reference → Before → List ℕ → List Site → List Finding
+at_sites d refs b lines [] = []
+at_sites d refs b lines (s ∷ rest) = at_site d refs b (next_line lines) s ++ at_sites d refs (behind_site b s) (drop 1 lines) rest
 
--- all that is refused for the names of a program, whose sites begin on these lines; the first counts, so a REAL name is refused where it occurs first
+-- all that is refused for the names of a program, whose sites begin on these lines; the first counts, so a REAL name is refused where it occurs first, and a limit where it is passed
 abbrev pub name_refusals : List ℕ → ProgramTree → List Finding
-name_refusals lines t = at_sites (declared_in t.decls) at_first lines (program_sites t)
+name_refusals lines t = at_sites (declared_in t.decls) (references t) at_first lines (program_sites t)
 
 -- a program of the profile whose names are right (this project)
 pub record IsValid (t : ProgramTree) : Type 0 where

@@ -4,12 +4,13 @@ use Rattle.ped_tree.specs.Tree.{ProgramTree}
 use Rattle.ped_grammar.specs.Refusal.{first_of}
 use Rattle.ped_grammar.specs.declared.refusals.Refusal.{Refusal}
 use Rattle.ped_grammar.specs.RefusalViews.{found_of}
+use Rattle.ped_refs.specs.References.{Reference}
 use Rattle.ped_symbols.specs.Sites.{Site}
 use Rattle.ped_symbols.specs.Declarations as Plain
 use Rattle.ped_symbols.specs.NameRefusals.{Before, name_refusals}
 use Rattle.ped_symbols.specs.Kinds.{kind_by, names_at, at_last, kinds_of}
 use Rattle.ped_symbols.specs.Entries.{entry_of}
-use Rattle.ped_symbols.specs.Passes.{Knows, first_with, with_kinds}
+use Rattle.ped_symbols.specs.Passes.{Knows, CountsTo, first_with, with_kinds}
 use Rattle.ped_symbols.specs.declared.symbols.Kind.{Kind}
 use Rattle.ped_symbols.specs.declared.symbols.Passed.{Passed}
 use Rattle.ped_symbols.specs.declared.uses.Use.{Use}
@@ -24,7 +25,8 @@ kind_held held x = kind_by (entry_of held.consts x) (entry_of held.arrays.entrie
 
 -- over the sites of statements: the first refusal, and the kinds of the names in declarations and in these
 pub record GoesOver (declared : Declared) (held : Held) (uses : List Use) (found : Found) (sites : List Site) (first : Option Refusal) (kinds : NameTable Kind) : Type 0 where
-  pub refusal : (d : Plain.Declared) → Knows declared d → (b : Before) → b.values ≡ held.consts → found_of first ≡ first_with d b found sites
+  pub refusal : (d : Plain.Declared) → Knows declared d → (refs : List Reference) → (b : Before) → b.values ≡ held.consts → CountsTo refs b.statements found.until_many_pairs →
+      found_of first ≡ first_with d refs b found sites
   pub names : kinds.entries.entries ≡ with_kinds (kind_held held) [] (map (λ u. u.name) uses ++ names_at sites)
 
 -- the first refusal of the names of a program, its names with their kinds, and its constants

@@ -52,12 +52,21 @@ fn keep_declarator(
 ) -> Result<(), NoMemory>
     ensures { OnOk result ((before : Spec.Arrays) → KnowsArrays arrays.old before → KnowsArrays arrays.new (before ++ Spec.arrays_of consts.now (declarator_tree declarator.now))) }
 {
-    if !is_array(&declarator.bounds) {
-        return Ok(());
-    }
-    match bounds_of(consts, &declarator.bounds) {
+    match declared_bounds(consts, declarator) {
         Some(bounds) => arrays.keep(&declarator.name, bounds),
         None => Ok(()),
+    }
+}
+
+/// The bounds that a declarator gives its name: none where it declares no array, or where a bound has no
+/// value.
+pub fn declared_bounds(consts: &Consts, declarator: &Declarator) -> Option<Bounds>
+    ensures { Spec.with_bounds declarator.now.name result ≡ Spec.arrays_of consts.now (declarator_tree declarator.now) }
+{
+    if is_array(&declarator.bounds) {
+        bounds_of(consts, &declarator.bounds)
+    } else {
+        None
     }
 }
 

@@ -4,6 +4,7 @@ ghost use Rattle.std.specs.Prelude.{◌≡◌, [], ◌∷◌, ◌++◌, List, ma
 ghost use Rattle.std.specs.List.{flat_map};
 ghost use Rattle.ped_base.specs.Lists.{has_some};
 ghost use Rattle.ped_tree.specs.Views.{decl_tree};
+ghost use Rattle.ped_refs.specs.References.{Reference};
 ghost use Rattle.ped_symbols.specs.Declarations as Plain;
 ghost use Rattle.ped_symbols.specs.NameRefusals.{Before, at_first, behind_sites};
 ghost use Rattle.ped_symbols.specs.Sites.{Site, decl_sites};
@@ -13,6 +14,7 @@ use crate::arrays::keep_arrays;
 use crate::declared::Declared;
 use crate::repeating::Seen;
 use crate::sites::{Faults, Found};
+use crate::storage::Elements;
 use crate::tables::NameTable;
 use crate::uses::push_decl;
 use crate::values::{decl_fails, decl_is_empty};
@@ -30,6 +32,8 @@ pub struct Held {
     pub consts: Consts,
     /// The arrays with their bounds.
     pub arrays: NameTable<Bounds>,
+    /// Their elements.
+    pub elements: Elements,
 }
 
 impl Held {
@@ -41,6 +45,7 @@ impl Held {
             seen: Seen::nothing(alloc),
             consts: Consts::new(alloc),
             arrays: NameTable::new(alloc),
+            elements: Elements::none(),
         }
     }
 }
@@ -53,10 +58,11 @@ pub fn declarations<'l>(
     found: Found<'l>,
     decls: &[Decl],
 ) -> Result<Found<'l>, NoMemory>
-    ensures { IfOk result (λ next. (d : Plain.Declared) → Knows declared.now d → (b : Before) → Holds held.old b →
+    ensures first { IfOk result (λ next. (d : Plain.Declared) → Knows declared.now d → (refs : List Reference) → (b : Before) → Holds held.old b →
         Holds held.new (behind_sites b (flat_map decl_sites (map decl_tree decls.now)))
-        × ((more : List Site) → first_with d (behind_sites b (flat_map decl_sites (map decl_tree decls.now))) next more
-        ≡ first_with d b found.entry (flat_map decl_sites (map decl_tree decls.now) ++ more))) }
+        × ((more : List Site) → first_with d refs (behind_sites b (flat_map decl_sites (map decl_tree decls.now))) next more
+        ≡ first_with d refs b found.entry (flat_map decl_sites (map decl_tree decls.now) ++ more))) }
+    ensures until { IfOk result (λ next. next.until_many_pairs ≡ found.entry.until_many_pairs) }
 {
     let mut next = found;
     for decl in decls {
@@ -73,10 +79,11 @@ fn declaration<'l>(
     found: Found<'l>,
     decl: &Decl,
 ) -> Result<Found<'l>, NoMemory>
-    ensures { IfOk result (λ next. (d : Plain.Declared) → Knows declared.now d → (b : Before) → Holds held.old b →
+    ensures first { IfOk result (λ next. (d : Plain.Declared) → Knows declared.now d → (refs : List Reference) → (b : Before) → Holds held.old b →
         Holds held.new (behind_sites b (decl_sites (decl_tree decl.now)))
-        × ((more : List Site) → first_with d (behind_sites b (decl_sites (decl_tree decl.now))) next more
-        ≡ first_with d b found.entry (decl_sites (decl_tree decl.now) ++ more))) }
+        × ((more : List Site) → first_with d refs (behind_sites b (decl_sites (decl_tree decl.now))) next more
+        ≡ first_with d refs b found.entry (decl_sites (decl_tree decl.now) ++ more))) }
+    ensures until { IfOk result (λ next. next.until_many_pairs ≡ found.entry.until_many_pairs) }
 {
     if !has_site(decl) {
         return Ok(found);
@@ -85,12 +92,14 @@ fn declaration<'l>(
     push_decl(&mut uses, decl)?;
     let repeats = held.seen.see_all(&uses)?;
     let is_empty = decl_is_empty(&held.consts, decl);
+    held.elements = held.elements.with_declared(&held.consts, decl);
     keep_arrays(&mut held.arrays, &held.consts, decl)?;
     let fails = decl_fails(&mut held.consts, decl)?;
     let faults = Faults {
         repeats,
         fails,
         is_empty,
+        passes_limit: held.elements.are_many(),
     };
     Ok(found.behind(declared, &uses, faults))
 }

@@ -1,13 +1,16 @@
 //! What the names of a program stand for, or the first rule that its names break: kinds by declarations and
-//! by first letters, bounds of arrays, values of constants (ANSI X3.9-1978, sections 4.1.2, 5, 8).
+//! by first letters, bounds of arrays, values of constants (ANSI X3.9-1978, sections 4.1.2, 5, 8), and the
+//! limits of elements and of pairs of references.
 #![tactic(auto)]
 
 mod arrays;
 mod declarations;
 mod declared;
+mod pairs;
 mod repeating;
 mod sites;
 mod statements;
+mod storage;
 mod symbols;
 mod tables;
 mod uses;

@@ -1,14 +1,15 @@
 //! The first refusal of names at sites, and the kinds of the names there.
 
-ghost use Rattle.std.specs.Prelude.{◌≡◌, [], ◌∷◌, ◌++◌, ◌||◌, List, map, drop, IfOk};
+ghost use Rattle.std.specs.Prelude.{◌≡◌, [], ◌∷◌, ◌++◌, ◌+◌, ◌||◌, ℕ, List, map, drop, IfOk};
 ghost use Rattle.std.specs.List.{list_any};
 ghost use Rattle.ped_grammar.specs.Refusal.{earliest};
 ghost use Rattle.ped_grammar.specs.RefusalViews.{found_of};
 ghost use Rattle.ped_symbols.specs.Declarations as Plain;
 ghost use Rattle.ped_symbols.specs.NameRefusals as Spec;
-ghost use Rattle.ped_symbols.specs.Passes.{Knows, refused_at};
+ghost use Rattle.ped_symbols.specs.Passes.{Knows, is_reached, refused_at};
 
 use crate::declared::Declared;
+use crate::pairs::one_less;
 use crate::uses::{Role, Use};
 use ped_expressions::intrinsic_of;
 use ped_grammar::{Refusal, RefusalKind, standing};
@@ -22,15 +23,20 @@ pub struct Faults {
     pub fails: bool,
     /// It declares an array with a lower bound above its upper bound.
     pub is_empty: bool,
+    /// The elements of arrays or the pairs of references are more than they may be.
+    pub passes_limit: bool,
 }
 
-/// The first refusal so far, and the lines of the sites that are still to come.
+/// The first refusal so far, and what is known of the sites that are still to come.
 #[derive(Clone, Copy)]
 pub struct Found<'l> {
     /// The first refusal.
     pub first: Option<Refusal>,
-    /// The lines.
+    /// The lines of the sites to come.
     pub lines: &'l [u64],
+    /// How many numbered statements come before the first at which the pairs of references are too many, 0
+    /// behind it; none where they never are.
+    pub until_many_pairs: Option<u32>,
 }
 
 impl<'l> Found<'l> {
@@ -39,11 +45,26 @@ impl<'l> Found<'l> {
         ensures first { (d : Plain.Declared) → Knows declared.now d →
             found_of result.first ≡ earliest (found_of self.entry.first) (refused_at d (Spec.next_line self.entry.lines.now) uses.now faults) }
         ensures lines { result.lines.now ≡ drop 1 self.entry.lines.now }
+        ensures until { result.until_many_pairs ≡ self.entry.until_many_pairs }
     {
         let (line, lines) = next_line(self.lines);
         Found {
             first: refused(self.first, declared, line, uses, faults),
             lines,
+            until_many_pairs: self.until_many_pairs,
+        }
+    }
+
+    /// With the next numbered statement counted.
+    pub fn counted(self) -> Found<'l>
+        ensures first { result.first ≡ self.entry.first }
+        ensures lines { result.lines.now ≡ self.entry.lines.now }
+        ensures until { (others : ℕ) → is_reached result.until_many_pairs others ≡ is_reached self.entry.until_many_pairs (others + 1) }
+    {
+        Found {
+            first: self.first,
+            lines: self.lines,
+            until_many_pairs: one_less(self.until_many_pairs),
         }
     }
 }
@@ -82,7 +103,8 @@ fn refused(
     let found = standing(found, faults.fails, RefusalKind::NotConstant, line);
     let differs = some_other_rank(declared, uses);
     let found = standing(found, differs, RefusalKind::RankDiffers, line);
-    standing(found, faults.is_empty, RefusalKind::BoundsEmpty, line)
+    let found = standing(found, faults.is_empty, RefusalKind::BoundsEmpty, line);
+    standing(found, faults.passes_limit, RefusalKind::StorageLimit, line)
 }
 
 /// Whether a name is of type REAL.

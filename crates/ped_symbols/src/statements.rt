@@ -6,6 +6,7 @@ ghost use Rattle.ped_symbols.specs.Sites.{stmt_sites, stmts_sites, private_site,
 ghost use Rattle.ped_symbols.specs.Passes.{At, Goes, kind_with, with_kinds};
 
 use crate::declared::Declared;
+use crate::pairs::is_none_left;
 use crate::repeating::{rejects_twice, stands_twice};
 use crate::sites::{Faults, Found};
 use crate::symbols::Kind;
@@ -118,8 +119,9 @@ fn own<'l>(
         repeats: rejects_twice(alloc, statement)?,
         fails: stmt_fails(known.consts, statement),
         is_empty: false,
+        passes_limit: is_none_left(found.until_many_pairs),
     };
-    at_site(known, kinds, found, &uses, faults)
+    at_site(known, kinds, found.counted(), &uses, faults)
 }
 
 /// Goes over a site with these uses of names, where it has these faults.
@@ -155,6 +157,7 @@ fn private<'l>(
         repeats: stands_twice(alloc, names)?,
         fails: false,
         is_empty: false,
+        passes_limit: false,
     };
     at_site(known, kinds, found, &uses, faults)
 }

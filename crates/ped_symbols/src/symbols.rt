@@ -1,6 +1,8 @@
 //! The kinds of the names of a program.
 
-ghost use Rattle.std.specs.Prelude.{◌≡◌, [], map, Some, IfOk, IfErr};
+ghost use Rattle.std.specs.Prelude.{◌≡◌, ◌^◌, ◌<◌, [], map, length, Some, IfOk, IfErr};
+ghost use Rattle.ped_tree.specs.Numbering.{statements_count};
+ghost use Rattle.ped_refs.specs.References.{references};
 ghost use Rattle.ped_tree.specs.Views.{program_tree, stmt_trees};
 ghost use Rattle.ped_symbols.specs.Sites.{stmts_sites};
 ghost use Rattle.ped_symbols.specs.Passed.{HasPassed, GoesOver};
@@ -12,6 +14,7 @@ ghost use Rattle.ped_symbols.specs.declared.symbols.NameRefusal.TheVariants as v
 
 use crate::declarations::{Held, declarations};
 use crate::declared::Declared;
+use crate::pairs::until_many_pairs;
 use crate::sites::Found;
 use crate::statements::{Known, statements};
 use crate::tables::NameTable;
@@ -99,13 +102,15 @@ impl Symbols {
 }
 
 /// What the names of the program stand for. The lines of a refusal are those that the program was read from;
-/// 0 where it wasn't read from a text.
+/// 0 where it wasn't read from a text. The time is linear in the program.
 ///
 /// # Errors
 ///
-/// `At` exactly where the names of the program break a rule, with the first refusal by line and then by
-/// number; `NoMemory` where memory runs out.
+/// `At` exactly where the names of the program break a rule, or its arrays or the pairs of its references pass
+/// a limit, with the first refusal by line and then by number; `NoMemory` where memory runs out.
 pub fn symbols_of(alloc: Global, program: &Program) -> Result<Symbols, NameRefusal>
+    requires statements { statements_count (program_tree program.now).body < 2 ^ 32 }
+    requires references { length (references (program_tree program.now)) < 2 ^ 32 }
     ensures right { IfOk result (λ s. name_refusals program.now.lines.items (program_tree program.now) ≡ []) }
     ensures table { IfOk result (λ s. s ≡ table_of (program_tree program.now)) }
     ensures refused { IfErr result (λ e. IsFirstOf (name_refusals program.now.lines.items (program_tree program.now)) e) }
@@ -133,6 +138,8 @@ pub struct Passed {
 
 /// Goes over the declarations of a program and then over its statements.
 fn over_program(alloc: Global, program: &Program) -> Result<Passed, NoMemory>
+    requires statements { statements_count (program_tree program.now).body < 2 ^ 32 }
+    requires references { length (references (program_tree program.now)) < 2 ^ 32 }
     ensures { IfOk result (HasPassed program.now.lines.items (program_tree program.now)) }
 {
     let mut uses = Vec::new(alloc);
@@ -142,6 +149,7 @@ fn over_program(alloc: Global, program: &Program) -> Result<Passed, NoMemory>
     let found = Found {
         first: None,
         lines: &program.lines,
+        until_many_pairs: until_many_pairs(alloc, program)?,
     };
     let found = declarations(alloc, &declared, &mut held, found, &program.decls)?;
     let (first, kinds) = in_body(alloc, &declared, &held, &uses, found, &program.body)?;

@@ -13,5 +13,5 @@ returns c =
     IfOk-weaker c.at_site.result _ _
     (λ next at. over_private c.args.known.now c.args.kinds.now c.at_site.new.kinds c.args.found next c.deref.result.now _ names some at
     (c.deref.ensures.value ∙ c.in_ok-push_all.ensures ∙ ap (λ us. us ++ map (used_as Private) names) c.new-uses.ensures.items)
-    c.in_ok-stands_twice.ensures refl refl)
+    c.in_ok-stands_twice.ensures refl refl refl)
     c.at_site.ensures

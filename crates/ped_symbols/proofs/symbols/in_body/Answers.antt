@@ -13,7 +13,7 @@ returns c =
     let kind = kind_held c.args.held.now in
     let names = map (λ u. u.name) c.args.uses.now in
     record {
-      refusal = λ d k b v. c.in_ok-found.ensures.refusal d k b v [] ∙ ap (first_with d b c.args.found) (append-nil sites);
+      refusal = λ d k refs b v u. c.in_ok-found.ensures.refusal d k refs b (record { values = v; until = u }) [] ∙ ap (first_with d refs b c.args.found) (append-nil sites);
       names = c.in_ok-found.ensures.names [] ∙ ap (λ s. with_kinds kind c.keep_kinds.new.kinds.entries.entries (names_at s)) (append-nil sites)
           ∙ ap (λ es. with_kinds kind es (names_at sites)) (c.in_ok-keep_kinds.ensures ∙ ap (λ es. with_kinds kind es names) c.new-kinds.ensures)
           ∙ sym (kinds_append kind [] names (names_at sites));

@@ -1,0 +1,4 @@
+pub mod LaidSlots
+mod Lookups
+mod NameEquality
+pub mod Places

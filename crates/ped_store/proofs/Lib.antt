@@ -1,4 +1,6 @@
+pub mod Held
 pub mod LaidSlots
 mod Lookups
 mod NameEquality
 pub mod Places
+pub mod Writes

@@ -18,11 +18,11 @@ cell_view (variant.Private x depth dos iterations) = Private x (iterations_by (t
 cell_view variant.In = In
 cell_view variant.Out = Out
 
--- a cell as the code keeps it: at most seven subscripts, at most six DO loops, and 0 in the places past them
+-- a cell as the code keeps it: one subscript to seven, one DO loop to six, and 0 in the places past them
 abbrev pub IsCell : code.Cell → Type 0
 IsCell (variant.Scalar x) = Unit {0}
-IsCell (variant.Element x rank subscripts) = (rank ≤ 7) × (drop rank subscripts ≡ replicate (7 - rank) (pos 0))
-IsCell (variant.Private x depth dos iterations) = (depth ≤ 6) × (drop depth dos ≡ replicate (6 - depth) 0) × (drop depth iterations ≡ replicate (6 - depth) 0)
+IsCell (variant.Element x rank subscripts) = (0 < rank) × (rank ≤ 7) × (drop rank subscripts ≡ replicate (7 - rank) (pos 0))
+IsCell (variant.Private x depth dos iterations) = (0 < depth) × (depth ≤ 6) × (drop depth dos ≡ replicate (6 - depth) 0) × (drop depth iterations ≡ replicate (6 - depth) 0)
 IsCell variant.In = Unit {0}
 IsCell variant.Out = Unit {0}
 

@@ -1,5 +1,5 @@
 -- What the code's store is made of, and what it keeps thereby (this project).
-use Rattle.std.specs.Prelude.{◌≡◌, ℕ, ◌-◌, ◌≤◌, ℤ, List, [], ◌∷◌, ◌++◌, map, take, drop, length, replicate, Bool, true, false, ◌&&◌, ◌==◌, Option, Some, None, is_some}
+use Rattle.std.specs.Prelude.{◌≡◌, ℕ, ◌-◌, ◌≤◌, ℤ, List, [], ◌∷◌, ◌++◌, map, take, drop, length, slice_set, replicate, Bool, true, false, ◌&&◌, ◌==◌, Option, Some, None, is_some}
 use Rattle.std.specs.Option.{option_flatten}
 use Rattle.std.specs.Map.{lookup}
 use Rattle.std.specs.Cmp.Lexicographic.{pointwise}
@@ -73,3 +73,7 @@ memory_of s = record {
   bounds = λ x. bounds_in (slot_of s.slots x);
   input = s.input;
 }
+
+-- with another content at a place
+abbrev pub with_held : ℕ → Option ℤ → Kept → Kept
+with_held i content s = record s { held = slice_set s.held i content }

@@ -34,7 +34,7 @@ some_element m x [] i long h = absurd (omega (arith, long))
 some_element m x (j ∷ js) i long h = ap (λ i. number_read (held_at m.held i)) h ∙ go (is_within (bounds_in (slot_of m.slots x)) (j ∷ js)) (h ∙ element_place j js (slot_of m.slots x))
   where
     go : (b : Bool) → Some i ≡ (if b then option_and_then (element_in (j ∷ js)) (slot_of m.slots x) else None)
-      → number_read (held_at m.held (index_of m.slots (Element x (j ∷ js)))) ≡ (if b then number_read (held_at m.held (index_of m.slots (Element x (j ∷ js)))) else Err outside_bounds)
+        → number_read (held_at m.held (index_of m.slots (Element x (j ∷ js)))) ≡ (if b then number_read (held_at m.held (index_of m.slots (Element x (j ∷ js)))) else Err outside_bounds)
     go true k = refl
     go false k = absurd cc
 
@@ -48,6 +48,6 @@ no_element m x (j ∷ js) long h = go (slot_of m.slots x) h
     by slot false p r h = refl
 
     go : (o : Option Slot) → None ≡ option_and_then (element_in (j ∷ js)) o
-      → Err 2 ≡ (if is_within (bounds_in o) (j ∷ js) then number_read (held_at m.held (index_of m.slots (Element x (j ∷ js)))) else Err outside_bounds)
+        → Err 2 ≡ (if is_within (bounds_in o) (j ∷ js) then number_read (held_at m.held (index_of m.slots (Element x (j ∷ js)))) else Err outside_bounds)
     go None h = refl
     go (Some slot) h = by slot (is_within slot.bounds (j ∷ js)) (place slot.bounds.lower slot.bounds.upper (j ∷ js)) _ h

@@ -1,5 +1,5 @@
 -- The cells that the code's cells stand for (this project).
-use Rattle.std.specs.Prelude.{◌≡◌, ℕ, ◌-◌, ◌≤◌, ◌<◌, ℤ, pos, List, [], ◌∷◌, take, drop, replicate}
+use Rattle.std.specs.Prelude.{◌≡◌, ℕ, ◌-◌, ◌≤◌, ◌<◌, ℤ, pos, List, [], ◌∷◌, take, drop, length, replicate}
 use Rattle.ped_store.specs.Cells.{Cell, Scalar, Element, Private, In, Out, Iteration}
 use Rattle.ped_store.specs.declared.cells.Cell as code
 use Rattle.ped_store.specs.declared.cells.Cell.TheVariants as variant
@@ -18,11 +18,11 @@ cell_view (variant.Private x depth dos iterations) = Private x (iterations_by (t
 cell_view variant.In = In
 cell_view variant.Out = Out
 
--- a cell as the code keeps it: one subscript to seven, one DO loop to six, and 0 in the places past them
+-- a cell as the code keeps it: one subscript to seven, one DO loop to six of the six that there is room for, and 0 in the places past them
 abbrev pub IsCell : code.Cell → Type 0
 IsCell (variant.Scalar x) = Unit {0}
 IsCell (variant.Element x rank subscripts) = (0 < rank) × (rank ≤ 7) × (drop rank subscripts ≡ replicate (7 - rank) (pos 0))
-IsCell (variant.Private x depth dos iterations) = (0 < depth) × (depth ≤ 6) × (drop depth dos ≡ replicate (6 - depth) 0) × (drop depth iterations ≡ replicate (6 - depth) 0)
+IsCell (variant.Private x depth dos iterations) = (0 < depth) × (depth ≤ 6) × (length dos ≡ 6) × (length iterations ≡ 6) × (drop depth dos ≡ replicate (6 - depth) 0) × (drop depth iterations ≡ replicate (6 - depth) 0)
 IsCell variant.In = Unit {0}
 IsCell variant.Out = Unit {0}
 
@@ -33,3 +33,11 @@ IsPrivate (variant.Scalar x) = ⊥
 IsPrivate (variant.Element x rank subscripts) = ⊥
 IsPrivate variant.In = ⊥
 IsPrivate variant.Out = ⊥
+
+-- a scalar or a private copy
+abbrev pub IsOfScalar : code.Cell → Type 0
+IsOfScalar (variant.Scalar x) = Unit {0}
+IsOfScalar (variant.Private x depth dos iterations) = Unit {0}
+IsOfScalar (variant.Element x rank subscripts) = ⊥
+IsOfScalar variant.In = ⊥
+IsOfScalar variant.Out = ⊥

@@ -1,5 +1,5 @@
 -- What the code's store is made of, and what it keeps thereby (this project).
-use Rattle.std.specs.Prelude.{◌≡◌, ℕ, ◌-◌, ◌≤◌, ℤ, List, [], ◌∷◌, ◌++◌, map, take, drop, length, slice_set, replicate, Bool, true, false, ◌&&◌, ◌==◌, Option, Some, None, is_some}
+use Rattle.std.specs.Prelude.{◌≡◌, ℕ, ◌-◌, ◌≤◌, ℤ, List, [], ◌∷◌, ◌++◌, map, take, drop, length, slice_set, replicate, Bool, true, false, ◌&&◌, ◌==◌, Option, Some, None, is_some, if◌then◌else◌}
 use Rattle.std.specs.Option.{option_flatten}
 use Rattle.std.specs.Map.{lookup}
 use Rattle.std.specs.Cmp.Lexicographic.{pointwise}
@@ -77,3 +77,11 @@ memory_of s = record {
 -- with another content at a place
 abbrev pub with_held : ℕ → Option ℤ → Kept → Kept
 with_held i content s = record s { held = slice_set s.held i content }
+
+-- the copy has another content, and all else is as it was
+pub record IsCopyPut (copy : Copied) (content : Option ℤ) (old new : Kept) : Type 0 where
+  pub slots : new.slots ≡ old.slots
+  pub held : new.held ≡ old.held
+  pub input : new.input ≡ old.input
+  pub output : new.output ≡ old.output
+  pub copies : (other : Copied) → lookup (same_copied other) new.copies ≡ (if same_copied copy other then Some content else lookup (same_copied other) old.copies)

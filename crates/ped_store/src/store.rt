@@ -1,15 +1,15 @@
 //! The store of a running program.
 
-ghost use Rattle.std.specs.Prelude.{◌≡◌, ◌<◌, length, IfOk, OnOk, OnErr, IfErr, Ok, Err, Some, None, IsTrue};
+ghost use Rattle.std.specs.Prelude.{◌≡◌, ◌<◌, length, is_some, true, false, IfOk, OnOk, OnErr, IfErr, Ok, Err, Some, None, IsTrue};
 ghost use Rattle.std.specs.Option.{option_flatten};
 ghost use Rattle.std.specs.Map.{lookup};
 ghost use Rattle.ped_store.specs.Cells.{Scalar, Element, Out};
-ghost use Rattle.ped_store.specs.Stores.{Lines, number_read};
+ghost use Rattle.ped_store.specs.Stores.{Undefined, Number, Lines, number_read};
 ghost use Rattle.ped_store.specs.Slots.{held_at, content_of};
-ghost use Rattle.ped_store.specs.CellViews.{cell_view, IsCell};
-ghost use Rattle.ped_store.specs.Memories.{got, stored, with_printed};
+ghost use Rattle.ped_store.specs.CellViews.{cell_view, IsCell, IsOfScalar};
+ghost use Rattle.ped_store.specs.Memories.{got, stored, with_content, with_printed};
 ghost use Rattle.ped_store.specs.Stores as Stores;
-ghost use Rattle.ped_store.specs.Keeping.{memory_of, same_copied, with_held};
+ghost use Rattle.ped_store.specs.Keeping.{memory_of, same_copied, with_held, IsCopyPut};
 
 use crate::cells::Cell;
 use crate::copies::Copied;
@@ -116,13 +116,77 @@ impl Store {
                 subscripts,
             } => return self.set_element(name, &subscripts[..*rank as usize], &value),
             Cell::Private {
-                name: _,
-                depth: _,
-                dos: _,
-                iterations: _,
-            } => return Err(4),
+                name,
+                depth,
+                dos,
+                iterations,
+            } => {
+                let copy = Copied {
+                    name: *name,
+                    depth: *depth,
+                    dos: *dos,
+                    iterations: *iterations,
+                };
+                return self.set_copy(&copy, &value);
+            }
             Cell::In => return Err(4),
             Cell::Out => return Err(4),
+        }
+    }
+
+    /// Makes a scalar or a private copy undefined.
+    pub fn undefine(&mut self, cell: &Cell)
+        requires cell { IsCell cell.now }
+        requires scalar { IsOfScalar cell.now }
+        requires stands { IsTrue ((memory_of self.old).stands (cell_view cell.now)) }
+        ensures { memory_of self.new ≡ with_content (cell_view cell.now) Undefined (memory_of self.old) }
+    {
+        self.replace(cell, None)
+    }
+
+    /// Stores the value of the variable of a DO loop, which has no range, in a scalar or a private copy.
+    pub fn set_index(&mut self, cell: &Cell, value: i128)
+        requires cell { IsCell cell.now }
+        requires scalar { IsOfScalar cell.now }
+        requires stands { IsTrue ((memory_of self.old).stands (cell_view cell.now)) }
+        ensures { memory_of self.new ≡ with_content (cell_view cell.now) (Number value) (memory_of self.old) }
+    {
+        self.replace(cell, Some(value))
+    }
+
+    fn replace(&mut self, cell: &Cell, content: Option<i128>)
+        requires cell { IsCell cell.now }
+        requires scalar { IsOfScalar cell.now }
+        requires stands { IsTrue ((memory_of self.old).stands (cell_view cell.now)) }
+        ensures { memory_of self.new ≡ with_content (cell_view cell.now) (content_of content) (memory_of self.old) }
+    {
+        match cell {
+            Cell::Scalar(name) => {
+                self.put_scalar(name, content);
+                return;
+            }
+            Cell::Private {
+                name,
+                depth,
+                dos,
+                iterations,
+            } => {
+                let copy = Copied {
+                    name: *name,
+                    depth: *depth,
+                    dos: *dos,
+                    iterations: *iterations,
+                };
+                self.put_copy(&copy, content);
+                return;
+            }
+            Cell::Element {
+                name: _,
+                rank: _,
+                subscripts: _,
+            } => return,
+            Cell::In => return,
+            Cell::Out => return,
         }
     }
 
@@ -134,7 +198,7 @@ impl Store {
         match scalar_index(&self.slots, name) {
             Some(index) => {
                 if is_storable(value) {
-                    self.put(index, value);
+                    self.put_number(index, value);
                     return Ok(());
                 }
                 return Err(4);
@@ -151,7 +215,7 @@ impl Store {
         match element_index(&self.slots, name, subscripts) {
             Some(index) => {
                 if is_storable(value) {
-                    self.put(index, value);
+                    self.put_number(index, value);
                     return Ok(());
                 }
                 return Err(4);
@@ -160,11 +224,53 @@ impl Store {
         }
     }
 
-    fn put(&mut self, index: usize, value: &i128)
+    fn set_copy(&mut self, copy: &Copied, value: &i128) -> Result<(), u8>
+        requires { IsTrue (is_some (lookup (same_copied copy.now) self.old.copies)) }
+        ensures ok { OnOk result ((Stores.is_storable value.now ≡ true) × IsCopyPut copy.now (Some value.now) self.old self.new) }
+        ensures err { IfErr result (λ n. (Stores.is_storable value.now ≡ false) × (n ≡ 4) × (self.new ≡ self.old)) }
+    {
+        if is_storable(value) {
+            self.put_copy(copy, Some(*value));
+            return Ok(());
+        }
+        return Err(4);
+    }
+
+    fn put_copy(&mut self, copy: &Copied, content: Option<i128>)
+        requires { IsTrue (is_some (lookup (same_copied copy.now) self.old.copies)) }
+        ensures { IsCopyPut copy.now content self.old self.new }
+    {
+        match self.copies.insert(*copy, content) {
+            Ok(_) => return,
+            Err(_) => return,
+        }
+    }
+
+    fn put_scalar(&mut self, name: &Name, content: Option<i128>)
+        requires { IsTrue ((memory_of self.old).stands (Scalar name.now)) }
+        ensures { memory_of self.new ≡ with_content (Scalar name.now) (content_of content) (memory_of self.old) }
+    {
+        match scalar_index(&self.slots, name) {
+            Some(index) => {
+                self.put(index, content);
+                return;
+            }
+            None => return,
+        }
+    }
+
+    fn put_number(&mut self, index: usize, value: &i128)
         requires { index < length self.old.held }
         ensures { self.new ≡ with_held index (Some value.now) self.old }
     {
         self.held[index] = Some(*value);
+    }
+
+    fn put(&mut self, index: usize, content: Option<i128>)
+        requires { index < length self.old.held }
+        ensures { self.new ≡ with_held index content self.old }
+    {
+        self.held[index] = content;
     }
 
     fn get_scalar(&self, name: &Name) -> Result<i128, u8>

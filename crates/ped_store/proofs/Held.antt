@@ -1,13 +1,12 @@
 -- What is read of scalars and elements.
-use Rattle.std.proofs.Common.{◌≡◌, ℕ, ◌+◌, ◌<◌, ℤ, List, [], ◌∷◌, length, Bool, true, false, Option, Some, None, if◌then◌else◌, Result, Ok, Err, refl, sym, ap, ◌∙◌, arith}
+use Rattle.std.proofs.Common.{◌≡◌, ℕ, ◌+◌, ◌<◌, ℤ, List, [], ◌∷◌, length, Bool, true, false, Option, Some, None, if◌then◌else◌, Result, Err, refl, ap, ◌∙◌, arith}
 use Rattle.std.specs.Prelude.{option_and_then}
 use Rattle.std.specs.Option.{option_map}
-use Rattle.ped_base.specs.Dimensions.{Dimensions}
 use Rattle.ped_store.specs.declared.slots.Slot.{Slot}
 use Rattle.ped_store.specs.Cells.{Scalar, Element}
 use Rattle.ped_store.specs.Stores.{number_read, outside_bounds}
-use Rattle.ped_store.specs.Storage.{are_within, is_within}
-use Rattle.ped_store.specs.Slots.{place, slot_of, index_of, held_at, place_in, place_within, element_in}
+use Rattle.ped_store.specs.Storage.{is_within}
+use Rattle.ped_store.specs.Slots.{place, slot_of, index_of, held_at, element_in}
 use Rattle.ped_store.specs.Memories.{got}
 use Rattle.ped_store.specs.Keeping.{Kept, memory_of, bounds_in}
 

@@ -1,14 +1,14 @@
 -- Private copies are the same for the code where they are so for the definition.
-use Rattle.std.proofs.Common.{◌≡◌, ℕ, suc, ◌-◌, ◌≤◌, ◌<◌, ℤ, List, [], ◌∷◌, ◌++◌, map, length, take, drop, replicate, Bool, true, false, ◌&&◌, Option, Some, None, if◌then◌else◌, eqb, eqb-true, refl, sym, ap, ◌∙◌, arith}
+use Rattle.std.proofs.Common.{◌≡◌, ℕ, suc, ◌-◌, ◌≤◌, ℤ, List, [], ◌∷◌, ◌++◌, map, length, take, drop, replicate, Bool, true, false, ◌&&◌, Option, Some, None, if◌then◌else◌, eqb, eqb-true, refl, sym, ap, ◌∙◌, arith}
 use Rattle.std.specs.Prelude.{is_some, IsTrue}
 use Rattle.std.specs.Option.{option_flatten}
 use mathlib.Core.Path.{fun_ext}
 use Rattle.std.proofs.lemmas.Bool.{and_parts}
 use Rattle.std.proofs.lemmas.List.{length-take-le, take-append-drop}
 use Rattle.ped_store.specs.Cells.{Cell, Scalar, Element, Private, In, Out, Iteration, same_iteration, same_cell}
-use Rattle.ped_store.specs.Stores.{Content, Lines, put}
+use Rattle.ped_store.specs.Stores.{Lines, put}
 use Rattle.ped_store.specs.Slots.{content_of, held_at, index_of, slot_of}
-use Rattle.ped_store.specs.Memories.{Memory, with_content}
+use Rattle.ped_store.specs.Memories.{with_content}
 use Rattle.ped_store.specs.CellViews.{iterations_by}
 use Rattle.std.specs.Map.{lookup}
 use Rattle.std.specs.Cmp.Lexicographic.{pointwise}

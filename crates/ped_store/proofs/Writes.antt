@@ -1,5 +1,5 @@
 -- A write at the place of a cell is a write of that cell alone.
-use Rattle.std.proofs.Common.{◌≡◌, ◌≢◌, ℕ, ◌+◌, ◌<◌, ◌≤◌, ℤ, List, [], ◌∷◌, length, set, get_or, Bool, true, false, ◌&&◌, Option, Some, None, Result, Ok, Err, if◌then◌else◌, refl, sym, ap, subst, ◌∙◌, arith, eqb, eqb-true, true≢false}
+use Rattle.std.proofs.Common.{◌≡◌, ◌≢◌, ℕ, ◌+◌, ◌<◌, ℤ, List, [], ◌∷◌, length, set, get_or, Bool, true, false, ◌&&◌, Option, Some, None, Result, Ok, Err, if◌then◌else◌, refl, sym, ap, subst, ◌∙◌, arith, eqb, eqb-true, true≢false}
 use Rattle.std.specs.Prelude.{option_and_then, slice_get}
 use Rattle.std.specs.Option.{option_map, option_flatten, unwrap_or}
 use Rattle.std.specs.Ordering.{int_eq}
@@ -13,12 +13,12 @@ use Rattle.ped_base.specs.Dimensions.{Dimensions}
 use Rattle.ped_base.specs.Lists.{is_same_text}
 use Rattle.ped_store.specs.declared.slots.Slot.{Slot}
 use Rattle.ped_store.specs.Cells.{Cell, Scalar, Element, Private, In, Out, same_cell}
-use Rattle.ped_store.specs.Stores.{Content, Number, put, is_storable}
+use Rattle.ped_store.specs.Stores.{Number, put, is_storable}
 use Rattle.ped_store.specs.Storage.{are_within, is_within}
-use Rattle.ped_store.specs.Slots.{place, count, slot_count, scalar_in, element_in, place_in, place_within, slot_of, index_of, held_at, content_of, IsLaid}
+use Rattle.ped_store.specs.Slots.{place, count, scalar_in, element_in, place_in, slot_of, index_of, held_at, content_of, IsLaid}
 use Rattle.ped_store.specs.Memories.{Memory, with_content, with_number}
 use Rattle.ped_store.specs.Keeping.{Kept, memory_of, cells_of, bounds_in, with_held}
-use Rattle.ped_store.proofs.Places.{place_below, place_in_below, place_same}
+use Rattle.ped_store.proofs.Places.{place_in_below, place_same}
 use Rattle.ped_store.proofs.LaidSlots.{same_is, same_itself, laid_within, laid_apart}
 
 same_subscripts : (js ks : List ℤ) → pointwise int_eq js ks ≡ true → js ≡ ks

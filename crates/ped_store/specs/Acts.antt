@@ -1,5 +1,5 @@
 -- Acts: what a run does in one atomic step, where in the program, and what each step reads and writes (this project).
-use Rattle.std.specs.Prelude.{ℕ, ℤ, List, [], ◌∷◌, map, Bool, true, false}
+use Rattle.std.specs.Prelude.{ℕ, ℤ, List, [], ◌∷◌, map, Bool}
 use Rattle.ped_store.specs.Cells.{Cell, Iteration}
 use Rattle.ped_store.specs.Stores.{Content, Store, put}
 

@@ -1,5 +1,5 @@
 -- The cells that the code's cells stand for (this project).
-use Rattle.std.specs.Prelude.{◌≡◌, ℕ, ◌-◌, ◌≤◌, ◌<◌, ℤ, pos, List, [], ◌∷◌, take, drop, length, replicate}
+use Rattle.std.specs.Prelude.{◌≡◌, ℕ, ◌-◌, ◌≤◌, ◌<◌, pos, List, [], ◌∷◌, take, drop, length, replicate}
 use Rattle.ped_store.specs.Cells.{Cell, Scalar, Element, Private, In, Out, Iteration}
 use Rattle.ped_store.specs.declared.cells.Cell as code
 use Rattle.ped_store.specs.declared.cells.Cell.TheVariants as variant

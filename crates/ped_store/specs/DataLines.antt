@@ -1,5 +1,5 @@
 -- Data lines, and the values that READ takes from them. This form of input stands in place of the list-directed input of ANSI X3.9-1978, section 13.6: it has no repeat counts, no null values and no slash (this project).
-use Rattle.std.specs.Prelude.{ℕ, ℤ, List, [], ◌∷◌, Bool, true, false, ◌==◌, ◌&&◌, ◌||◌, Result, Ok, Err, if◌then◌else◌}
+use Rattle.std.specs.Prelude.{ℕ, ℤ, List, [], ◌∷◌, Bool, ◌==◌, ◌&&◌, ◌||◌, Result, Ok, Err, if◌then◌else◌}
 use Rattle.std.specs.List.{list_all}
 use Rattle.std.specs.Str.Parse.{without_leading_sign, signed_digits_value}
 use Rattle.ped_base.specs.Letters.{is_digit}

@@ -1,16 +1,15 @@
 -- What the code's store is made of, and what it keeps thereby (this project).
-use Rattle.std.specs.Prelude.{◌≡◌, ℕ, ◌-◌, ◌≤◌, ℤ, List, [], ◌∷◌, ◌++◌, map, take, drop, length, slice_set, replicate, Bool, true, false, ◌&&◌, ◌==◌, Option, Some, None, is_some, if◌then◌else◌}
+use Rattle.std.specs.Prelude.{◌≡◌, ℕ, ◌-◌, ℤ, List, [], ◌++◌, map, length, slice_set, replicate, Bool, false, ◌&&◌, ◌==◌, Option, Some, None, is_some, if◌then◌else◌}
 use Rattle.std.specs.Option.{option_flatten}
 use Rattle.std.specs.Map.{lookup}
 use Rattle.std.specs.Cmp.Lexicographic.{pointwise}
-use Rattle.std.specs.Str.Lines.{lines}
 use Rattle.ped_base.specs.Dimensions.{Dimensions}
 use Rattle.ped_base.specs.Lists.{has_some, is_same_text}
 use Rattle.ped_store.specs.Cells.{Cell, Scalar, Element, Private, In, Out, Iteration}
-use Rattle.ped_store.specs.Stores.{Content, Undefined, Number, Lines, Store}
+use Rattle.ped_store.specs.Stores.{Lines, Store}
 use Rattle.ped_store.specs.DataLines.{Data}
 use Rattle.ped_store.specs.Memories.{Memory}
-use Rattle.ped_store.specs.Slots.{slot_of, slot_count, index_of, held_at, content_of, IsLaid}
+use Rattle.ped_store.specs.Slots.{slot_of, index_of, held_at, content_of}
 use Rattle.ped_store.specs.declared.slots.Slot.{Slot}
 use Rattle.ped_store.specs.declared.copies.Copied.{Copied}
 

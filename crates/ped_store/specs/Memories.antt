@@ -1,8 +1,5 @@
 -- What a store of the code keeps, and what its calls do to it (ANSI X3.9-1978, sections 2.11, 5.4, 17; this project).
-use Rattle.std.specs.Prelude.{ℕ, ℤ, List, [], ◌∷◌, ◌++◌, map, filter, Bool, true, false, ◌≡◌, ◌&&◌, ◌==◌, ◌||◌, length, nat_eq, nat_le, IsTrue, Option, Some, None, is_some, Result, Ok, Err, if◌then◌else◌}
-use Rattle.std.specs.Option.{unwrap_or, option_map_or}
-use Rattle.std.specs.Map.{lookup}
-use Rattle.std.specs.List.{All}
+use Rattle.std.specs.Prelude.{ℕ, ℤ, List, [], ◌∷◌, map, Bool, true, false, ◌&&◌, ◌==◌, length, Result, Ok, Err, if◌then◌else◌}
 use Rattle.ped_base.specs.Dimensions.{Dimensions}
 use Rattle.ped_base.specs.Lists.{has_some, is_same_text, is_among}
 use Rattle.ped_arithmetic.specs.Faults.{◌>>=◌}

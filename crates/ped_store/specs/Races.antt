@@ -1,8 +1,8 @@
 -- Accesses of a run, their conflicts, and runs without a race (Allen and Kennedy, section 2.2.1; this project).
 use Rattle.std.specs.Prelude.{◌≡◌, ℕ, List, [], ◌∷◌, map, Bool, true, false, ◌==◌, ◌&&◌, ◌||◌, not, filter, if◌then◌else◌}
 use Rattle.std.specs.List.{flat_map, All}
-use Rattle.ped_store.specs.Cells.{Cell, Scalar, Element, Private, In, Out, same_cell, Iteration}
-use Rattle.ped_store.specs.Acts.{Manner, reads, writes, is_told, Touch, Turn, Place, Act, iterations_of}
+use Rattle.ped_store.specs.Cells.{Cell, Scalar, Element, Private, In, Out, same_cell}
+use Rattle.ped_store.specs.Acts.{Manner, reads, writes, is_told, Touch, Turn, Place, Act}
 
 -- an access: a read or a write of a cell, by the reference with this number of a statement, 0 where none makes it, in these iterations
 pub record Access : Type 0 where

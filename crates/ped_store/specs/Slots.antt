@@ -1,12 +1,12 @@
--- Where the code keeps a cell. Contracts of private functions alone speak of these definitions.
-use Rattle.std.specs.Prelude.{◌≡◌, ℕ, ◌+◌, ◌*◌, ◌-◌, ◌≤◌, ℤ, ◌-ℤ◌, List, [], ◌∷◌, ◌++◌, length, replicate, slice_get, Bool, int_le, ◌&&◌, ◌==◌, Option, Some, None, is_some, option_and_then, if◌then◌else◌}
+-- Where the code keeps the cells of scalars and of arrays (this project).
+use Rattle.std.specs.Prelude.{◌≡◌, ℕ, ◌+◌, ◌*◌, ℤ, ◌-ℤ◌, List, [], ◌∷◌, length, slice_get, int_le, ◌&&◌, ◌==◌, Option, Some, None, option_and_then, if◌then◌else◌}
 use Rattle.std.specs.Option.{option_flatten, option_map}
 use Rattle.std.specs.Map.{lookup}
 use Rattle.ped_base.specs.Dimensions.{Dimensions}
 use Rattle.ped_base.specs.Lists.{has_some, is_same_text}
 use Rattle.ped_store.specs.Cells.{Cell, Scalar, Element, Private, In, Out}
-use Rattle.ped_store.specs.Stores.{Content, Undefined, Number, Lines}
-use Rattle.ped_store.specs.Storage.{natural, extent, are_within, is_within}
+use Rattle.ped_store.specs.Stores.{Content, Undefined, Number}
+use Rattle.ped_store.specs.Storage.{natural, extent, are_within}
 use Rattle.ped_store.specs.declared.slots.Slot.{Slot}
 
 -- the place of an element among those of its array in storage order, from 0 (ANSI X3.9-1978, section 5.2.4)

@@ -1,9 +1,7 @@
 -- The scalars and arrays of a program, and the order in which an array's elements stand (ANSI X3.9-1978, sections 5.2.4, 5.4; this project).
-use Rattle.std.specs.Prelude.{ℕ, zero, suc, ◌+◌, ◌-◌, ◌*◌, ℤ, pos, negsuc, ◌+ℤ◌, ◌-ℤ◌, int_le, List, [], ◌∷◌, map, Bool, true, false, ◌&&◌, Option}
+use Rattle.std.specs.Prelude.{ℕ, zero, suc, ℤ, pos, negsuc, ◌+ℤ◌, ◌-ℤ◌, int_le, List, [], ◌∷◌, map, Bool, true, false, ◌&&◌}
 use Rattle.std.specs.List.{flat_map}
-use Rattle.std.specs.Map.{lookup}
 use Rattle.ped_base.specs.Dimensions.{Dimensions}
-use Rattle.ped_base.specs.Lists.{is_same_text}
 
 -- subscripts lie within these lower and upper bounds, one for each (ANSI X3.9-1978, section 5.4.2)
 abbrev pub are_within : List ℤ → List ℤ → List ℤ → Bool

@@ -1,6 +1,4 @@
-use Rattle.std.proofs.Common.{rules, arith, sym, ap, ◌∙◌, ◌≡◌, ◌+◌, ◌*◌, ◌<◌, ◌≤◌, ◌^◌, ℕ, ℤ, List, None, Some}
-use Rattle.ped_store.specs.Slots as Slots
-use Rattle.ped_store.specs.Slots.{count}
+use Rattle.std.proofs.Common.{arith, ◌∙◌, ◌^◌}
 use Rattle.ped_store.proofs.Places.{fewer, no_offset, no_rest, both, bounded, extent_below}
 use Rattle.ped_store.proofs.slots.+place_within.Goals as goal
 

@@ -1,4 +1,4 @@
-use Rattle.std.proofs.Common.{◌≡◌, ℤ, ap, ◌∙◌, refl, Option, Some, None, Result, Ok, Err}
+use Rattle.std.proofs.Common.{◌≡◌, ℤ, ap, ◌∙◌, refl, Option, Some, None}
 use Rattle.std.specs.Option.{option_flatten, ok_or}
 use Rattle.ped_store.specs.Stores.{number_read}
 use Rattle.ped_store.specs.Slots.{content_of}

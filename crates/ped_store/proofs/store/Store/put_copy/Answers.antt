@@ -1,4 +1,4 @@
-use Rattle.std.proofs.Common.{◌≡◌, sym, ap, ◌∙◌, if◌then◌else◌, Some}
+use Rattle.std.proofs.Common.{sym, ap, ◌∙◌, if◌then◌else◌, Some}
 use Rattle.std.specs.Map.{lookup}
 use Rattle.ped_store.specs.Keeping.{Kept, same_copied}
 use Rattle.ped_store.proofs.SameCopies.{copies_same, copy_found, gone}

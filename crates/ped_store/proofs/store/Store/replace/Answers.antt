@@ -1,4 +1,4 @@
-use Rattle.std.proofs.Common.{◌≡◌, take, sym, ap, subst, ◌∙◌}
+use Rattle.std.proofs.Common.{take, sym, subst}
 use Rattle.std.specs.Prelude.{IsTrue, is_some}
 use Rattle.std.specs.Map.{lookup}
 use Rattle.ped_store.specs.declared.copies.Copied.{Copied}

@@ -1,4 +1,4 @@
-use Rattle.std.proofs.Common.{◌≡◌, take, sym, ap, subst, ◌∙◌, Ok, Some, true}
+use Rattle.std.proofs.Common.{take, sym, ap, subst, ◌∙◌, Ok, Some}
 use Rattle.std.specs.Prelude.{IsTrue, is_some}
 use Rattle.std.specs.Int.{w128}
 use Rattle.std.specs.Map.{lookup}
@@ -7,7 +7,7 @@ use Rattle.std.proofs.lemmas.Result.{on_ok_weaker}
 use Rattle.ped_store.specs.declared.copies.Copied.{Copied}
 use Rattle.ped_store.specs.Cells.{Private}
 use Rattle.ped_store.specs.CellViews.{iterations_by}
-use Rattle.ped_store.specs.Keeping.{Kept, memory_of, copied, same_copied, copy_of, IsCopyPut}
+use Rattle.ped_store.specs.Keeping.{memory_of, same_copied, IsCopyPut}
 use Rattle.ped_store.proofs.Writes.{stored_number}
 use Rattle.ped_store.proofs.SameCopies.{copied_back, copy_put_is}
 use Rattle.ped_store.proofs.store.Store.set.Goals as goal

@@ -1,4 +1,4 @@
-use Rattle.std.proofs.Common.{arith, sym, ap, ◌∙◌, length, Ok, Some}
+use Rattle.std.proofs.Common.{sym, ap, ◌∙◌, length, Ok, Some}
 use Rattle.ped_store.specs.Cells.{Scalar}
 use Rattle.ped_store.specs.Slots.{index_of}
 use Rattle.ped_store.specs.Keeping.{Kept, memory_of}

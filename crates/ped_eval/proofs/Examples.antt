@@ -4,11 +4,10 @@ use Rattle.std.specs.Prelude.{codes, map}
 use Rattle.std.specs.List.{list_any}
 use Rattle.std.specs.Fmt.{signed_decimal}
 use Rattle.ped_tree.specs.declared.expressions.Intrinsic.TheVariants.{Mod}
-use Rattle.ped_tree.specs.Tree.{ExprTree, ExprTrees, Int, Var, Element, Neg, Add, Sub, Mul, Div, Pow, Call, no_exprs, more_exprs, Value, Text, Head, StmtTree, StmtTrees, Assign, If, Do, Print, Read, Stop, Comment, no_stmts, more_stmts, BoundTree, DeclTree, Integer, Save, ProgramTree}
-use Rattle.ped_store.specs.Cells.{Scalar, Private, Iteration, Cell}
-use Rattle.ped_store.specs.Acts.{Act, Touch}
+use Rattle.ped_tree.specs.Tree.{ExprTree, Int, Var, Element, Neg, Add, Sub, Div, Pow, Call, no_exprs, more_exprs, Value, Text, Head, StmtTrees, Assign, Do, Print, Read, no_stmts, more_stmts, Integer, Save, ProgramTree}
+use Rattle.ped_store.specs.Cells.{Scalar, Private, Cell}
 use Rattle.ped_store.specs.Races.{Access, accesses, race}
-use Rattle.ped_eval.specs.Outcomes.{Outcome, Ended, Fault, LiveRow, outcome, run_of}
+use Rattle.ped_eval.specs.Outcomes.{Ended, Fault, outcome, run_of}
 
 abbrev i : ExprTree
 i = Var (codes "I")

@@ -1,9 +1,9 @@
 -- Evaluations: what they read, in order, and the value or the fault that they come to (ANSI X3.9-1978, section 6.6; this project).
-use Rattle.std.specs.Prelude.{ℕ, suc, ◌+◌, ℤ, List, [], ◌∷◌, ◌++◌, length, filter, Bool, true, false, Result, Ok, Err}
+use Rattle.std.specs.Prelude.{ℕ, suc, ℤ, List, [], ◌∷◌, ◌++◌, Result, Ok, Err}
 use Rattle.ped_arithmetic.specs.declared.faults.Fault.{Fault}
 use Rattle.ped_arithmetic.specs.Faults.{fault_number}
 use Rattle.ped_store.specs.Cells.{Cell}
-use Rattle.ped_store.specs.Stores.{Content, Undefined, Number, Lines, Store, number_read}
+use Rattle.ped_store.specs.Stores.{Content, Number, Store, number_read}
 use Rattle.ped_store.specs.Acts.{Touch, reads, is_told}
 
 -- what an evaluation reads: a cell, by a reference, with what it holds; or the variable of a DO in the DO's body, by none, with its value

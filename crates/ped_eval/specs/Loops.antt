@@ -1,5 +1,5 @@
 -- DO loops: their entry, their iterations and their exit (ANSI X3.9-1978, section 11.10; ParaScope; this project).
-use Rattle.std.specs.Prelude.{ℕ, suc, ◌+◌, ◌-◌, ◌^◌, ℤ, pos, neg_ℤ, ◌+ℤ◌, ◌-ℤ◌, ◌*ℤ◌, int_le, int_div, List, [], ◌∷◌, ◌++◌, map, Bool, true, false, ◌&&◌, ◌==◌, Option, Some, None, Result, Ok, Err, if◌then◌else◌}
+use Rattle.std.specs.Prelude.{ℕ, suc, ◌-◌, ◌^◌, ℤ, pos, neg_ℤ, ◌+ℤ◌, ◌-ℤ◌, ◌*ℤ◌, int_le, int_div, List, [], ◌∷◌, ◌++◌, map, Bool, true, false, ◌&&◌, ◌==◌, Result, Ok, Err, if◌then◌else◌}
 use Rattle.std.specs.Option.{unwrap_or}
 use Rattle.std.specs.Ordering.{nat_cmp}
 use Rattle.std.specs.declared.cmp.Ordering.{Ordering}
@@ -7,10 +7,9 @@ use Rattle.std.specs.declared.cmp.Ordering.TheVariants.{Less, Equal, Greater}
 use Rattle.std.specs.Cmp.Lexicographic.{slice_cmp}
 use Rattle.ped_tree.specs.Tree.{Head, StmtTree, StmtTrees, Assign, If, Do, Print, Read, Stop, Comment, no_stmts, more_stmts}
 use Rattle.ped_constants.specs.ConstantExpressions.{constant_value}
-use Rattle.ped_store.specs.Cells.{Cell}
 use Rattle.ped_store.specs.Stores.{Content, Undefined, Number, Store, out_of_range}
 use Rattle.ped_store.specs.Storage.{natural}
-use Rattle.ped_store.specs.Acts.{Touch, Turn}
+use Rattle.ped_store.specs.Acts.{Touch}
 use Rattle.ped_eval.specs.Scopes.{Setting, Frame, Scope, cell_of, Names}
 use Rattle.ped_eval.specs.Evaluation.{Seen, Evaluated, ◌>>>◌, given, numbered, number_behind}
 use Rattle.ped_eval.specs.Values.{value}

@@ -8,7 +8,7 @@ use Rattle.ped_eval.specs.Scopes.{Setting, Frame, Scope, Names, names_in, place_
 use Rattle.ped_eval.specs.Evaluation.{Seen, Evaluated, numbered}
 use Rattle.ped_eval.specs.Values.{truth}
 use Rattle.ped_eval.specs.Statements.{assigned, assignment_touches, printed_line, print_touches, Taking, reading, reading_touches}
-use Rattle.ped_eval.specs.Loops.{Limits, limits, Entered, entered_with, frame, exit_touches, exit_when_none, entry_touches}
+use Rattle.ped_eval.specs.Loops.{limits, Entered, entered_with, frame, exit_touches, exit_when_none, entry_touches}
 
 -- how a run ends: it goes on with a store; a STOP has ended the program with a store; a fault has, with its number and its statement
 pub data Ending : Type 0 where

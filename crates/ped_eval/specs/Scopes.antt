@@ -1,10 +1,10 @@
 -- What names stand for at a place of a run (ANSI X3.9-1978, sections 11.10.5, 17; this project).
-use Rattle.std.specs.Prelude.{ℕ, ℤ, List, [], ◌∷◌, ◌++◌, map, reverse, Option, Some, None, unwrap_or, if◌then◌else◌}
+use Rattle.std.specs.Prelude.{ℕ, ℤ, List, [], ◌∷◌, ◌++◌, Option, Some, None, unwrap_or, if◌then◌else◌}
 use Rattle.std.specs.Map.{lookup}
 use Rattle.std.specs.Option.{unwrap_or}
 use Rattle.ped_base.specs.Dimensions.{Dimensions}
 use Rattle.ped_base.specs.Lists.{is_same_text, is_among}
-use Rattle.ped_store.specs.Cells.{Cell, Scalar, Private, Iteration}
+use Rattle.ped_store.specs.Cells.{Cell, Scalar, Private}
 use Rattle.ped_store.specs.Acts.{Turn, Place, iterations_of}
 
 -- what a run takes from the whole program: the bounds of its arrays, the values of its constants, and the number under which each statement counts in places, copies and faults. A run of a program counts each under its own number; with other numbers, one for each, it does the same (this project)

@@ -1,5 +1,5 @@
 -- What statements other than DO touch: assignments, READ, PRINT (ANSI X3.9-1978, sections 10.1, 12.8; this project).
-use Rattle.std.specs.Prelude.{ℕ, suc, ◌+◌, ℤ, List, [], ◌∷◌, ◌++◌, Option, Some, None, Result, Ok, Err}
+use Rattle.std.specs.Prelude.{ℕ, suc, ℤ, List, [], ◌∷◌, ◌++◌, Option, Some, None, Result, Ok, Err}
 use Rattle.std.specs.List.{join_with_byte}
 use Rattle.std.specs.Fmt.{signed_decimal}
 use Rattle.ped_tree.specs.Tree.{ExprTree, ItemTree, Value, Text}

@@ -1,4 +1,3 @@
-pub mod Held
 pub mod LaidSlots
 mod Lookups
 mod NameEquality

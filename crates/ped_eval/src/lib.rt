@@ -1,0 +1,13 @@
+//! Runs of programs in order: values of expressions, truth of conditions, and what a program does, as a list of acts
+//! with an ending. The definitions stand in `specs/`, and `proofs/Examples.antt` works some of them out on small
+//! programs.
+#![tactic(auto)]
+
+ghost use Rattle.std.specs.Prelude.{◌≡◌, List, ℕ};
+ghost use Rattle.ped_tree.specs.Tree.{ProgramTree};
+ghost use Rattle.ped_eval.specs.Outcomes.{Outcome, outcome, outcome_of, run_of};
+
+/// A program has one outcome on its data, and its list of acts and their ending tell it.
+pub fn one_outcome()
+    ensures { (t : ProgramTree) (data_bytes : List ℕ) (o p : Outcome) → o ≡ outcome t data_bytes → p ≡ outcome_of t (run_of t data_bytes).ending → o ≡ p }
+{}

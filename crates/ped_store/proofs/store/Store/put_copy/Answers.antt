@@ -1,0 +1,21 @@
+use Rattle.std.proofs.Common.{sym, ap, ◌∙◌, if◌then◌else◌, Some}
+use Rattle.std.specs.Map.{lookup}
+use Rattle.ped_store.specs.Keeping.{Kept, same_copied}
+use Rattle.ped_store.proofs.SameCopies.{copies_same, copy_found, gone}
+use Rattle.ped_store.proofs.store.Store.put_copy.Goals as goal
+
+pub returns-in-Ok : goal.returns-in-Ok
+returns-in-Ok c = record {
+  slots = ap (λ (k : Kept). k.slots) c.self.view_is;
+  held = ap (λ (k : Kept). k.held) c.self.view_is;
+  input = ap (λ (k : Kept). k.input) c.self.view_is;
+  output = ap (λ (k : Kept). k.output) c.self.view_is;
+  copies = λ other.
+      let before = copy_found other c.self.inside.copies.entries ∙ ap (λ (k : Kept). lookup (same_copied other) k.copies) c.self.view_is in
+      sym (copy_found other c.insert.new.self.entries) ∙ c.in-Ok.ensures.updates.0 other ∙ (λ i. if copies_same c.args.copy.now other i then Some c.args.content else before i);
+}
+
+pub returns-in-Err : goal.returns-in-Err
+returns-in-Err c =
+    let before = copy_found c.args.copy.now c.self.inside.copies.entries ∙ ap (λ (k : Kept). lookup (same_copied c.args.copy.now) k.copies) c.self.view_is in
+    absurd (gone _ c.requires (sym before ∙ c.in-Err.ensures.absent))

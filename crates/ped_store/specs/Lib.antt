@@ -1,0 +1,10 @@
+pub mod Acts
+pub mod CellViews
+pub mod Cells
+pub mod DataLines
+pub mod Keeping
+pub mod Memories
+pub mod Races
+pub mod Slots
+pub mod Storage
+pub mod Stores

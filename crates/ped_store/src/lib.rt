@@ -1,0 +1,15 @@
+//! The store of a running program: what its scalars, its arrays and the private copies of its scalars hold, the
+//! data lines that are left, and the lines that it has printed. The definitions of a store, of data lines and of the
+//! acts of a run stand in `specs/`.
+#![tactic(auto)]
+
+mod cells;
+mod copies;
+mod data_lines;
+mod shapes;
+mod slots;
+mod store;
+
+pub use cells::{Cell, Scope};
+pub use shapes::{Shape, Shapes};
+pub use store::Store;

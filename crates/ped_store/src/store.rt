@@ -1,0 +1,314 @@
+//! The store of a running program.
+
+ghost use Rattle.std.specs.Prelude.{◌≡◌, ◌<◌, length, is_some, true, false, IfOk, OnOk, OnErr, IfErr, Ok, Err, Some, None, IsTrue};
+ghost use Rattle.std.specs.Option.{option_flatten};
+ghost use Rattle.std.specs.Map.{lookup};
+ghost use Rattle.ped_store.specs.Cells.{Scalar, Element, Out};
+ghost use Rattle.ped_store.specs.Stores.{Undefined, Number, Lines, number_read};
+ghost use Rattle.ped_store.specs.Slots.{held_at, content_of};
+ghost use Rattle.ped_store.specs.CellViews.{cell_view, IsCell, IsOfScalar};
+ghost use Rattle.ped_store.specs.Memories.{got, stored, with_content, with_printed};
+ghost use Rattle.ped_store.specs.Stores as Stores;
+ghost use Rattle.ped_store.specs.Keeping.{memory_of, same_copied, with_held, IsCopyPut};
+
+use crate::cells::Cell;
+use crate::copies::Copied;
+use crate::data_lines::DataLines;
+use crate::slots::{SlotTable, element_index, scalar_index};
+use indexmap::IndexMap;
+use ped_base::{Bytes, Listed, Name, NoMemory};
+use std::alloc::Global;
+use std::marker::Model;
+
+/// What the cells of a program hold, the data lines that are left, and the lines that are printed. Contracts see a
+/// function from cells to what they hold.
+#[derive(Drop)]
+pub struct Store {
+    slots: SlotTable,
+    held: Vec<Option<i128>>,
+    copies: IndexMap<Copied, Option<i128>>,
+    input: DataLines,
+    output: Listed<Bytes>,
+}
+
+impl Model for Store {
+    ghost use Rattle.std.specs.Prelude.{length};
+    ghost use Rattle.ped_store.specs.Slots.{IsLaid};
+    ghost use Rattle.ped_store.specs.Keeping.{Kept};
+
+    ghost Value = { Kept };
+
+    ghost view = { λ s. record { slots = s.slots.entries; held = s.held.items; copies = s.copies.entries; input = s.input; output = s.output } };
+
+    ghost invariant = { λ s. IsLaid 0 s.slots.entries (length s.held.items) };
+}
+
+impl Store {
+    /// The lines that are printed.
+    pub fn output(&self) -> &Listed<Bytes>
+        ensures { Lines result.now ≡ (memory_of self.now).cells Out }
+    {
+        &self.output
+    }
+
+    /// The number that a cell holds.
+    ///
+    /// # Errors
+    ///
+    /// 2 where a subscript of an element lies outside its bounds, and else 1 where the cell is undefined.
+    pub fn get(&self, cell: &Cell) -> Result<i128, u8>
+        requires { IsCell cell.now }
+        ensures { result ≡ got (memory_of self.now) (cell_view cell.now) }
+    {
+        match cell {
+            Cell::Scalar(name) => return self.get_scalar(name),
+            Cell::Element {
+                name,
+                rank,
+                subscripts,
+            } => return self.get_element(name, &subscripts[..*rank as usize]),
+            Cell::Private {
+                name,
+                depth,
+                dos,
+                iterations,
+            } => {
+                let copy = Copied {
+                    name: *name,
+                    depth: *depth,
+                    dos: *dos,
+                    iterations: *iterations,
+                };
+                return self.get_copy(&copy);
+            }
+            Cell::In => return Err(1),
+            Cell::Out => return Err(1),
+        }
+    }
+
+    /// Adds a line to the output. After want of memory the store is as it was.
+    pub fn put_line(&mut self, alloc: Global, line: &[u8]) -> Result<(), NoMemory>
+        ensures ok { OnOk result (memory_of self.new ≡ with_printed line.now (memory_of self.old)) }
+        ensures err { OnErr result (self.new ≡ self.old) }
+    {
+        let line = Bytes::from_vec(Vec::from_slice(alloc, line)?);
+        self.output.push(line)?;
+        Ok(())
+    }
+
+    /// Stores a number in a cell.
+    ///
+    /// # Errors
+    ///
+    /// 2 where a subscript of an element lies outside its bounds, and else 4 where the number isn't from -2^31 to 2^31-1.
+    /// The store is as it was then.
+    pub fn set(&mut self, cell: &Cell, value: i128) -> Result<(), u8>
+        requires cell { IsCell cell.now }
+        requires stands { IsTrue ((memory_of self.old).stands (cell_view cell.now)) }
+        ensures ok { OnOk result (stored (cell_view cell.now) value (memory_of self.old) ≡ Ok (memory_of self.new)) }
+        ensures err { IfErr result (λ n. (stored (cell_view cell.now) value (memory_of self.old) ≡ Err n) × (self.new ≡ self.old)) }
+    {
+        match cell {
+            Cell::Scalar(name) => return self.set_scalar(name, &value),
+            Cell::Element {
+                name,
+                rank,
+                subscripts,
+            } => return self.set_element(name, &subscripts[..*rank as usize], &value),
+            Cell::Private {
+                name,
+                depth,
+                dos,
+                iterations,
+            } => {
+                let copy = Copied {
+                    name: *name,
+                    depth: *depth,
+                    dos: *dos,
+                    iterations: *iterations,
+                };
+                return self.set_copy(&copy, &value);
+            }
+            Cell::In => return Err(4),
+            Cell::Out => return Err(4),
+        }
+    }
+
+    /// Makes a scalar or a private copy undefined.
+    pub fn undefine(&mut self, cell: &Cell)
+        requires cell { IsCell cell.now }
+        requires scalar { IsOfScalar cell.now }
+        requires stands { IsTrue ((memory_of self.old).stands (cell_view cell.now)) }
+        ensures { memory_of self.new ≡ with_content (cell_view cell.now) Undefined (memory_of self.old) }
+    {
+        self.replace(cell, None)
+    }
+
+    /// Stores the value of the variable of a DO loop, which has no range, in a scalar or a private copy.
+    pub fn set_index(&mut self, cell: &Cell, value: i128)
+        requires cell { IsCell cell.now }
+        requires scalar { IsOfScalar cell.now }
+        requires stands { IsTrue ((memory_of self.old).stands (cell_view cell.now)) }
+        ensures { memory_of self.new ≡ with_content (cell_view cell.now) (Number value) (memory_of self.old) }
+    {
+        self.replace(cell, Some(value))
+    }
+
+    fn replace(&mut self, cell: &Cell, content: Option<i128>)
+        requires cell { IsCell cell.now }
+        requires scalar { IsOfScalar cell.now }
+        requires stands { IsTrue ((memory_of self.old).stands (cell_view cell.now)) }
+        ensures { memory_of self.new ≡ with_content (cell_view cell.now) (content_of content) (memory_of self.old) }
+    {
+        match cell {
+            Cell::Scalar(name) => {
+                self.put_scalar(name, content);
+                return;
+            }
+            Cell::Private {
+                name,
+                depth,
+                dos,
+                iterations,
+            } => {
+                let copy = Copied {
+                    name: *name,
+                    depth: *depth,
+                    dos: *dos,
+                    iterations: *iterations,
+                };
+                self.put_copy(&copy, content);
+                return;
+            }
+            Cell::Element {
+                name: _,
+                rank: _,
+                subscripts: _,
+            } => return,
+            Cell::In => return,
+            Cell::Out => return,
+        }
+    }
+
+    fn set_scalar(&mut self, name: &Name, value: &i128) -> Result<(), u8>
+        requires { IsTrue ((memory_of self.old).stands (Scalar name.now)) }
+        ensures ok { OnOk result (stored (Scalar name.now) value.now (memory_of self.old) ≡ Ok (memory_of self.new)) }
+        ensures err { IfErr result (λ n. (stored (Scalar name.now) value.now (memory_of self.old) ≡ Err n) × (self.new ≡ self.old)) }
+    {
+        match scalar_index(&self.slots, name) {
+            Some(index) => {
+                if is_storable(value) {
+                    self.put_number(index, value);
+                    return Ok(());
+                }
+                return Err(4);
+            }
+            None => return Err(1),
+        }
+    }
+
+    fn set_element(&mut self, name: &Name, subscripts: &[i128], value: &i128) -> Result<(), u8>
+        requires { 0 < length subscripts.now }
+        ensures ok { OnOk result (stored (Element name.now subscripts.now) value.now (memory_of self.old) ≡ Ok (memory_of self.new)) }
+        ensures err { IfErr result (λ n. (stored (Element name.now subscripts.now) value.now (memory_of self.old) ≡ Err n) × (self.new ≡ self.old)) }
+    {
+        match element_index(&self.slots, name, subscripts) {
+            Some(index) => {
+                if is_storable(value) {
+                    self.put_number(index, value);
+                    return Ok(());
+                }
+                return Err(4);
+            }
+            None => return Err(2),
+        }
+    }
+
+    fn set_copy(&mut self, copy: &Copied, value: &i128) -> Result<(), u8>
+        requires { IsTrue (is_some (lookup (same_copied copy.now) self.old.copies)) }
+        ensures ok { OnOk result ((Stores.is_storable value.now ≡ true) × IsCopyPut copy.now (Some value.now) self.old self.new) }
+        ensures err { IfErr result (λ n. (Stores.is_storable value.now ≡ false) × (n ≡ 4) × (self.new ≡ self.old)) }
+    {
+        if is_storable(value) {
+            self.put_copy(copy, Some(*value));
+            return Ok(());
+        }
+        return Err(4);
+    }
+
+    fn put_copy(&mut self, copy: &Copied, content: Option<i128>)
+        requires { IsTrue (is_some (lookup (same_copied copy.now) self.old.copies)) }
+        ensures { IsCopyPut copy.now content self.old self.new }
+    {
+        match self.copies.insert(*copy, content) {
+            Ok(_) => return,
+            Err(_) => return,
+        }
+    }
+
+    fn put_scalar(&mut self, name: &Name, content: Option<i128>)
+        requires { IsTrue ((memory_of self.old).stands (Scalar name.now)) }
+        ensures { memory_of self.new ≡ with_content (Scalar name.now) (content_of content) (memory_of self.old) }
+    {
+        match scalar_index(&self.slots, name) {
+            Some(index) => {
+                self.put(index, content);
+                return;
+            }
+            None => return,
+        }
+    }
+
+    fn put_number(&mut self, index: usize, value: &i128)
+        requires { index < length self.old.held }
+        ensures { self.new ≡ with_held index (Some value.now) self.old }
+    {
+        self.held[index] = Some(*value);
+    }
+
+    fn put(&mut self, index: usize, content: Option<i128>)
+        requires { index < length self.old.held }
+        ensures { self.new ≡ with_held index content self.old }
+    {
+        self.held[index] = content;
+    }
+
+    fn get_scalar(&self, name: &Name) -> Result<i128, u8>
+        ensures { result ≡ got (memory_of self.now) (Scalar name.now) }
+    {
+        match scalar_index(&self.slots, name) {
+            Some(index) => return number_at(&self.held, index),
+            None => return Err(1),
+        }
+    }
+
+    fn get_element(&self, name: &Name, subscripts: &[i128]) -> Result<i128, u8>
+        requires { 0 < length subscripts.now }
+        ensures { result ≡ got (memory_of self.now) (Element name.now subscripts.now) }
+    {
+        match element_index(&self.slots, name, subscripts) {
+            Some(index) => return number_at(&self.held, index),
+            None => return Err(2),
+        }
+    }
+
+    fn get_copy(&self, copy: &Copied) -> Result<i128, u8>
+        ensures { result ≡ number_read (content_of (option_flatten (lookup (same_copied copy.now) self.now.copies))) }
+    {
+        self.copies.get(copy).copied().flatten().ok_or(1)
+    }
+}
+
+/// The number that is held at a place.
+fn number_at(held: &[Option<i128>], index: usize) -> Result<i128, u8>
+    ensures { result ≡ number_read (held_at held.now (Some index)) }
+{
+    held.get(index).copied().flatten().ok_or(1)
+}
+
+/// Whether a scalar or an element can hold the number.
+fn is_storable(value: &i128) -> bool
+    ensures { result ≡ Stores.is_storable value.now }
+{
+    -(1 << 31) <= *value && *value <= (1 << 31) - 1
+}

@@ -62,7 +62,6 @@ fn print(alloc: Global, count: u64, times: u64) -> anyhow::Result<usize> {
 
 /// How many names a program has that has as many names as statements. It fails for more statements than a program
 /// may have.
-#[tactic(auto, using(ped_symbols::proofs::FewReferences::few_statements, ped_symbols::proofs::FewReferences::few_references))]
 fn names(alloc: Global, count: u64, times: u64) -> anyhow::Result<usize> {
     let program = named_program(alloc, count)?;
     if !fits(&program) {

@@ -83,9 +83,9 @@ over_statement known kinds new found start next uses faults s at first lines cou
           ap (has_many_pairs refs) number ∙ st.until (others + 1) ∙ sym (counted others) ∙ ap (λ (until : Option ℕ). is_reached until others) (sym at.until);
     })
     (λ d refs b line st.
-      let number : b.statements + 0 + 1 ≡ b.statements + 1 = omega arith in
-      let many : faults.passes_limit ≡ has_many_pairs refs (b.statements + 1) = p ∙ sym (st.until 0) ∙ ap (has_many_pairs refs) number in
-      λ i. refused_at d line (u i) (record { repeats = r i; fails = (f ∙ ap (λ (values : Values). stmt_fails values s) (sym st.values)) i; is_empty = e i; passes_limit = many i }))
+    let number : b.statements + 0 + 1 ≡ b.statements + 1 = omega arith in
+    let many : faults.passes_limit ≡ has_many_pairs refs (b.statements + 1) = p ∙ sym (st.until 0) ∙ ap (has_many_pairs refs) number in
+    λ i. refused_at d line (u i) (record { repeats = r i; fails = (f ∙ ap (λ (values : Values). stmt_fails values s) (sym st.values)) i; is_empty = e i; passes_limit = many i }))
 
 -- over a PRIVATE statement
 pub over_private : (known : Known) (kinds new : NameTable Kind) (found next : Found) (uses : List Use) (faults : Faults) (names : List (List ℕ)) → has_some names ≡ true

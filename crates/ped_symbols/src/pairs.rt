@@ -1,5 +1,5 @@
-//! The statements at which the ordered pairs of references are too many: those up to it are more than a program
-//! may have.
+//! The statements at which there are too many ordered pairs: those among the references up to such a statement
+//! are more than a program may have.
 
 ghost use Rattle.std.specs.Prelude.{◌≡◌, ◌+◌, ◌^◌, ◌<◌, ℕ, length, IfOk};
 ghost use Rattle.ped_tree.specs.Numbering.{statements_count};
@@ -12,8 +12,8 @@ use ped_refs::{first_beyond_limit, refs};
 use ped_tree::Program;
 use std::alloc::Global;
 
-/// How many numbered statements of a program come before the first at which the pairs are too many; none where
-/// they never are.
+/// How many numbered statements of a program come before the first at which there are too many pairs; none where
+/// there never are.
 pub fn until_many_pairs(alloc: Global, program: &Program) -> Result<Option<u32>, NoMemory>
     requires statements { statements_count (program_tree program.now).body < 2 ^ 32 }
     requires references { length (references (program_tree program.now)) < 2 ^ 32 }
@@ -24,7 +24,7 @@ pub fn until_many_pairs(alloc: Global, program: &Program) -> Result<Option<u32>,
     Ok(one_less(first))
 }
 
-/// How many are left behind one statement more.
+/// How many are left behind one statement more; 0 stays.
 pub fn one_less(until: Option<u32>) -> Option<u32>
     ensures { (others : ℕ) → is_reached result others ≡ is_reached until (others + 1) }
 {

@@ -23,7 +23,7 @@ pub struct Faults {
     pub fails: bool,
     /// It declares an array with a lower bound above its upper bound.
     pub is_empty: bool,
-    /// The elements of arrays or the pairs of references are more than they may be.
+    /// There are too many elements of arrays, or too many pairs of references.
     pub passes_limit: bool,
 }
 
@@ -34,8 +34,8 @@ pub struct Found<'l> {
     pub first: Option<Refusal>,
     /// The lines of the sites to come.
     pub lines: &'l [u64],
-    /// How many numbered statements come before the first at which the pairs of references are too many, 0
-    /// behind it; none where they never are.
+    /// How many numbered statements come before the first at which there are too many pairs of references, 0
+    /// at it and behind it; none where there never are.
     pub until_many_pairs: Option<u32>,
 }
 

@@ -6,7 +6,7 @@ use Rattle.ped_views.specs.declared.directions.Direction.{Direction}
 use Rattle.ped_views.specs.declared.directions.Direction.TheVariants.{Before, Same, After}
 use Rattle.ped_views.specs.Views.{View}
 use Rattle.ped_views.specs.Vectors.{AreVectors, distance}
-use Rattle.ped_tree.specs.Tree.{StmtTree, ProgramTree}
+use Rattle.ped_tree.specs.Tree.{StmtTree, Do, ProgramTree}
 use Rattle.ped_tree.specs.Numbering.{statement_with}
 use Rattle.ped_symbols.specs.Kinds.{table_of}
 use Rattle.ped_names.specs.Collecting.{with_names}
@@ -98,10 +98,10 @@ abbrev pub edges_by : Facts → Reference → Reference → View → List (List 
 edges_by facts source sink v vectors =
     if have_same_owner source sink then divided facts source sink v (within_iteration (owner_level source) vectors) else []
 
--- what a statement assigns, where it is there
+-- what a DO assigns, where the statement is one
 abbrev pub assigned_by : Option StmtTree → List (List ℕ)
-assigned_by (Some s) = assigned_in s
-assigned_by None = []
+assigned_by (Some (Do h body)) = assigned_in (Do h body)
+assigned_by s = []
 
 -- the setting of the references of a program in the DO with this number, the outermost round them; its names stand each once (this project)
 abbrev pub setting_in : ProgramTree → ℕ → Setting

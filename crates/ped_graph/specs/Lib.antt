@@ -1,6 +1,10 @@
+pub mod CodeFacts
 pub mod DependencePane
 pub mod Dependences
 pub mod Guards
 pub mod Held
+pub mod HeldPairs
+pub mod HeldSelections
+pub mod KnownProgram
 pub mod Marks
 pub mod Owners

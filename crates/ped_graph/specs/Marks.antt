@@ -1,17 +1,14 @@
 -- What the editor knows of a dependence: proven, rejected by the user, or pending (ParaScope; this project).
 use Rattle.std.specs.Prelude.{ℕ, ℤ, pos, ◌+ℤ◌, ◌-◌, List, [], ◌∷◌, length, unsigned_abs, int_le, Bool, true, false, ◌&&◌, not, Option, Some, None, slice_get, if◌then◌else◌}
 use Rattle.std.specs.List.{list_all}
-use Rattle.std.specs.Ordering.{int_eq}
 use Rattle.ped_base.specs.Lists.{is_among}
-use Rattle.ped_views.specs.Views.{Range, SubscriptPair, View}
-use Rattle.ped_views.specs.Forms.{Form, ziv, strong_siv, weak_zero_siv, weak_crossing_siv, other_form, form_of}
-use Rattle.ped_tree.specs.Tree.{Head}
+use Rattle.ped_views.specs.Views.{Range, View}
 use Rattle.ped_tree.specs.Nests.{Loop, common_nest}
 use Rattle.ped_refs.specs.References.{Reference}
 use Rattle.ped_constants.specs.ConstantExpressions.{constant_value}
 use Rattle.ped_affine.specs.Ranges.{is_near}
 use Rattle.ped_graph.specs.Guards.{is_guarded}
-use Rattle.ped_verdict.specs.Exactness.{is_separable}
+use Rattle.ped_verdict.specs.Exactness.{is_exact}
 use Rattle.ped_edges.specs.Edges.{Mark, proven, pending, rejected}
 
 -- a constant within 2^62 of zero (this project)
@@ -27,18 +24,6 @@ has_constant_bounds constants l = is_near_constant (constant_value constants l.h
 abbrev pub runs_twice : Range → Bool
 runs_twice r = int_le (r.lo +ℤ pos (unsigned_abs r.step)) r.hi
 
--- ZIV with equal constants, or strong SIV (Allen and Kennedy, sections 3.3.1, 3.3.2)
-abbrev pub is_proven_form : Form → SubscriptPair → Bool
-is_proven_form ziv p = int_eq p.source.constant p.sink.constant
-is_proven_form (strong_siv o) p = true
-is_proven_form (weak_zero_siv o) p = false
-is_proven_form (weak_crossing_siv o) p = false
-is_proven_form other_form p = false
-
--- affine, and ZIV with equal constants or strong SIV (Allen and Kennedy, section 3.3)
-abbrev pub is_proven_position : SubscriptPair → Bool
-is_proven_position p = p.usable && is_proven_form (form_of p) p
-
 -- all loops of a view run at least twice (ANSI X3.9-1978, section 11.10.3)
 abbrev pub all_run_twice : View → Bool
 all_run_twice v = list_all runs_twice v.loops && list_all runs_twice v.source_inner && list_all runs_twice v.sink_inner
@@ -47,9 +32,9 @@ all_run_twice v = list_all runs_twice v.loops && list_all runs_twice v.source_in
 abbrev pub is_firm : List (List ℕ × ℤ) → List Bool → Reference → Bool
 is_firm constants guards r = list_all (has_constant_bounds constants) r.nest && not (is_guarded guards r.statement)
 
--- the tests of a view tell a dependence: its loops run at least twice, and each position is affine and ZIV with equal constants or strong SIV, no index in two of them (Allen and Kennedy, section 3.3; this project)
+-- the tests of a view tell a dependence that they leave: its loops run at least twice, and each position is affine and ZIV or strong SIV, no index in two of them; a ZIV position with different constants leaves none (Allen and Kennedy, section 3.3; this project)
 abbrev pub is_telling : View → Bool
-is_telling v = all_run_twice v && list_all is_proven_position v.positions && is_separable v
+is_telling v = all_run_twice v && is_exact v
 
 -- the dependence is there whatever the data are (ParaScope; this project)
 abbrev pub is_proven : List (List ℕ × ℤ) → List Bool → Reference → Reference → View → Bool

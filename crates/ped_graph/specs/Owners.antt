@@ -1,6 +1,7 @@
 -- The DO to which a private scalar's reference belongs, and the vectors that are left of a pair of them (ParaScope; this project).
 use Rattle.std.specs.Prelude.{ℕ, suc, List, [], ◌∷◌, filter, take, Bool, true, false, ◌==◌, Option, Some, None, if◌then◌else◌}
 use Rattle.std.specs.List.{list_all}
+use Rattle.ped_base.specs.Lists.{is_among}
 use Rattle.ped_views.specs.declared.directions.Direction.{Direction}
 use Rattle.ped_views.specs.declared.directions.Direction.TheVariants.{Before, Same, After}
 use Rattle.ped_tree.specs.Nests.{Loop}
@@ -17,19 +18,18 @@ is_same_owner (Some l) None = false
 abbrev pub have_same_owner : Reference → Reference → Bool
 have_same_owner source sink = is_same_owner (private_loop source) (private_loop sink)
 
--- the level of the loop with this number among loops, 1 for the outermost
-abbrev pub level_of : ℕ → List Loop → ℕ
-level_of number [] = 0
-level_of number (l ∷ ls) = if l.number == number then 1 else suc (level_of number ls)
+-- a level inside, counted from here: 0 stays where there is none, and this level counts then
+abbrev pub level_by : ℕ → Bool → ℕ
+level_by inside here = if inside == 0 then (if here then 1 else 0) else suc inside
 
--- the level of such a loop, 0 where there is none
-abbrev pub owner_level_by : Option Loop → List Loop → ℕ
-owner_level_by None nest = 0
-owner_level_by (Some l) nest = level_of l.number nest
+-- the level of the innermost of loops that names the variable in its PRIVATE list, 1 for the outermost, 0 where none does (ParaScope; this project)
+abbrev pub private_level : List ℕ → List Loop → ℕ
+private_level x [] = 0
+private_level x (l ∷ ls) = level_by (private_level x ls) (is_among x l.head.private)
 
 -- the level of the DO to which a reference belongs, 0 where it belongs to none
 abbrev pub owner_level : Reference → ℕ
-owner_level r = owner_level_by (private_loop r) r.nest
+owner_level r = private_level r.access.name r.nest
 
 -- the sign `=`
 abbrev pub is_same : Direction → Bool

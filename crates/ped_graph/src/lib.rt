@@ -1,3 +1,21 @@
-//! The dependence graph of a program: its edges, their marks, and the dependence pane. The definitions
-//! stand in `specs/`.
+//! The dependence graph of a program: one verdict for each pair of references, and what the dependence pane needs
+//! of the tree beside them. The definitions stand in `specs/`.
 #![tactic(auto)]
+
+mod edges;
+mod extents;
+mod facts;
+mod firmness;
+mod graph;
+mod guards;
+mod laws;
+mod names;
+mod owners;
+mod rejections;
+mod rounds;
+mod selections;
+mod telling;
+mod testing;
+
+pub use graph::Graph;
+pub use laws::{one_dependence_pane, one_dependence_pane_of};

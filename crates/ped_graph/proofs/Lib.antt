@@ -1,0 +1,5 @@
+mod HeldEdges
+mod Known
+pub mod OnePane
+mod Places
+mod Selecting

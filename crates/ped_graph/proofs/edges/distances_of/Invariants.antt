@@ -1,0 +1,8 @@
+use Rattle.std.proofs.Common.{◌≡◌, map}
+use Rattle.std.specs.List.{range_with_len}
+use Rattle.ped_views.specs.Vectors.{distance}
+use Rattle.ped_graph.proofs.edges.distances_of.Given as goal
+
+-- the distances in the loops so far
+abbrev pub invariant-loop-place : goal.invariant-loop-place
+invariant-loop-place g l = l.distances.items ≡ map (distance l.verdict) (range_with_len 0 l.place)

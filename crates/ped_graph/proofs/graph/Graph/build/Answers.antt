@@ -1,0 +1,16 @@
+use Rattle.std.proofs.Common.{◌≡◌}
+use Rattle.ped_tree.specs.Views.{program_tree}
+use Rattle.ped_graph.proofs.Known.{few_statements, few_references, shallow_found}
+use Rattle.ped_graph.proofs.graph.Graph.build.Goals as goal
+
+pub occurrences-requires-clause-statements : goal.occurrences-requires-clause-statements
+occurrences-requires-clause-statements g c = few_statements (program_tree c.args.program.now) c.requires.valid
+
+pub occurrences-requires-clause-references : goal.occurrences-requires-clause-references
+occurrences-requires-clause-references g c = few_references (program_tree c.args.program.now) c.requires.valid
+
+pub extents-requires : goal.extents-requires
+extents-requires g c = few_statements (program_tree c.args.program.now) c.requires.valid
+
+pub test_all-requires-clause-shallow : goal.test_all-requires-clause-shallow
+test_all-requires-clause-shallow g c = shallow_found (program_tree c.args.program.now) _ c.requires.valid c.in_ok-found.ensures

@@ -1,0 +1,16 @@
+-- Contracts of private functions alone speak of how dependences are selected by what a graph holds of statements (this project).
+use Rattle.std.specs.Prelude.{ℕ, ◌-◌, List, slice_index_or, Bool, ◌&&◌, ◌||◌, ◌==◌, if◌then◌else◌}
+use Rattle.ped_edges.specs.Edges.{Edge}
+use Rattle.ped_graph.specs.DependencePane.{is_in, is_level, is_in_body}
+
+-- how many numbered statements the statement with this number has, where these are the numbers of all statements; 0 where it isn't there (this project)
+abbrev pub extent_held : List ℕ → ℕ → ℕ
+extent_held extents number = if number == 0 then 0 else slice_index_or extents (number - 1) 0
+
+-- the source or the sink is the statement with this number, which has so many statements, or stands in it (this project)
+abbrev pub touches : ℕ → ℕ → Edge → Bool
+touches number extent e = is_in number extent e.source.0 || is_in number extent e.sink.0
+
+-- the dependence is of the level, with both references in the body of the DO with this number, which has so many statements (Allen and Kennedy, section 2.2.5; this project)
+abbrev pub is_carried_in : ℕ → ℕ → ℕ → Edge → Bool
+is_carried_in number extent level e = is_level level e.level && (is_in_body number extent e.source.0 && is_in_body number extent e.sink.0)

@@ -1,0 +1,267 @@
+//! The dependences of tested pairs.
+
+ghost use Rattle.std.specs.Prelude.{◌≡◌, ◌++◌, ◌≤◌, List, map, take, length, All, IfOk, OnOk};
+ghost use Rattle.std.specs.List.{list_all};
+ghost use Rattle.ped_edges.specs.CodeEdges.{edge_of, mark_of, HasAtMostSixLoops};
+ghost use Rattle.ped_edges.specs.Edges as plain;
+ghost use Rattle.ped_graph.specs.Owners as Owners;
+ghost use Rattle.ped_graph.specs.Marks.{mark_by};
+ghost use Rattle.ped_graph.specs.Dependences as Spec;
+ghost use Rattle.ped_graph.specs.Held as Held;
+ghost use Rattle.ped_graph.specs.HeldPairs.{HeldPairEdges, AreHeldEdges, held_carried};
+ghost use Rattle.ped_graph.specs.CodeFacts.{pair_tested};
+
+use crate::facts::Facts;
+use crate::testing::TestedPair;
+use ped_base::NoMemory;
+use ped_edges::{Edge, Mark};
+use ped_verdict::{Vector, Verdict};
+use ped_views::Direction;
+use std::alloc::Global;
+use std::sync::ledger::Ledger;
+
+/// The dependences of pairs, pair by pair.
+pub fn all_edges<L: Ledger>(alloc: Global, pairs: &[TestedPair<L>]) -> Result<Vec<Edge>, NoMemory>
+    ensures edges { IfOk result (λ edges. AreHeldEdges (map pair_tested pairs.now) (map edge_of edges.items)) }
+    ensures short { IfOk result (λ edges. All HasAtMostSixLoops edges.items) }
+{
+    let mut edges = Vec::new(alloc);
+    for pair in pairs {
+        push_edges(alloc, &mut edges, pair)?;
+    }
+    Ok(edges)
+}
+
+/// Adds the dependences of a pair: carried by each common loop in turn, and then independent of loops.
+fn push_edges<L: Ledger>(
+    alloc: Global,
+    edges: &mut Vec<Edge>,
+    pair: &TestedPair<L>,
+) -> Result<(), NoMemory>
+    ensures edges { OnOk result ((added : List plain.Edge) × (map edge_of edges.new.items ≡ map edge_of edges.old.items ++ added)
+        × HeldPairEdges (pair_tested pair.now) added) }
+    ensures short { OnOk result (All HasAtMostSixLoops edges.old.items → All HasAtMostSixLoops edges.new.items) }
+{
+    let vectors = pair.verdict.vectors(alloc)?;
+    let loops = loop_count(&pair.verdict);
+    push_shared(alloc, edges, pair, loops, &vectors)
+}
+
+/// Adds the dependences of a pair with so many common loops and these vectors, none where the references mean different private copies.
+fn push_shared<L: Ledger>(
+    alloc: Global,
+    edges: &mut Vec<Edge>,
+    pair: &TestedPair<L>,
+    loops: u8,
+    vectors: &[Vector],
+) -> Result<(), NoMemory>
+    requires loops { loops ≡ length pair.now.verdict.loops }
+    requires few { loops ≤ 6 }
+    ensures edges { OnOk result (map edge_of edges.new.items ≡ map edge_of edges.old.items ++ Held.held_edges (pair_tested pair.now) vectors.now) }
+    ensures short { OnOk result (All HasAtMostSixLoops edges.old.items → All HasAtMostSixLoops edges.new.items) }
+{
+    match pair.facts.owner {
+        Some(level) => {
+            let within = within_iteration(alloc, level, vectors)?;
+            push_divided(alloc, edges, pair, loops, &within)
+        }
+        None => Ok(()),
+    }
+}
+
+/// Adds the dependences of a pair with so many common loops and these vectors, divided by the loop that carries them.
+fn push_divided<L: Ledger>(
+    alloc: Global,
+    edges: &mut Vec<Edge>,
+    pair: &TestedPair<L>,
+    loops: u8,
+    vectors: &[Vector],
+) -> Result<(), NoMemory>
+    requires loops { loops ≡ length pair.now.verdict.loops }
+    requires few { loops ≤ 6 }
+    ensures edges { OnOk result (map edge_of edges.new.items ≡ map edge_of edges.old.items ++ Held.held_divided (pair_tested pair.now) vectors.now) }
+    ensures short { OnOk result (All HasAtMostSixLoops edges.old.items → All HasAtMostSixLoops edges.new.items) }
+{
+    push_carried(alloc, edges, pair, loops, vectors)?;
+    if pair.facts.is_forward {
+        return push_edge(alloc, edges, pair, None, vectors);
+    }
+    Ok(())
+}
+
+/// Adds the dependences of a pair that so many common loops carry.
+fn push_carried<L: Ledger>(
+    alloc: Global,
+    edges: &mut Vec<Edge>,
+    pair: &TestedPair<L>,
+    loops: u8,
+    vectors: &[Vector],
+) -> Result<(), NoMemory>
+    requires { loops ≤ 6 }
+    ensures edges { OnOk result (map edge_of edges.new.items ≡ map edge_of edges.old.items
+        ++ held_carried (pair_tested pair.now) vectors.now loops) }
+    ensures short { OnOk result (All HasAtMostSixLoops edges.old.items → All HasAtMostSixLoops edges.new.items) }
+{
+    for place in 0..loops {
+        push_edge(alloc, edges, pair, Some(place + 1), vectors)?;
+    }
+    Ok(())
+}
+
+/// How many common loops a pair has.
+fn loop_count<L: Ledger>(verdict: &Verdict<L>) -> u8
+    ensures count { result ≡ length verdict.now.loops }
+    ensures few { result ≤ 6 }
+{
+    verdict.view().loops.len() as u8
+}
+
+/// The vectors with `=` at the first levels.
+fn within_iteration(alloc: Global, level: u8, vectors: &[Vector]) -> Result<Vec<Vector>, NoMemory>
+    ensures { IfOk result (λ kept. kept.items ≡ Owners.within_iteration level vectors.now) }
+{
+    let mut kept = Vec::new(alloc);
+    for vector in vectors {
+        if is_within(level, vector.directions()) {
+            kept.push(*vector)?;
+        }
+    }
+    Ok(kept)
+}
+
+/// Whether the first directions are all `=`.
+fn is_within(level: u8, directions: &[Direction]) -> bool
+    ensures { result ≡ list_all Owners.is_same (take level directions.now) }
+{
+    let levels = level as usize;
+    if levels < directions.len() {
+        return all_same(&directions[..levels]);
+    }
+    all_same(directions)
+}
+
+/// Whether directions are all `=`.
+fn all_same(directions: &[Direction]) -> bool
+    ensures { result ≡ list_all Owners.is_same directions.now }
+{
+    directions.iter().all(|direction| is_same(*direction))
+}
+
+fn is_same(direction: Direction) -> bool
+    ensures { result ≡ Owners.is_same direction }
+{
+    match direction {
+        Direction::Same => true,
+        Direction::Before => false,
+        Direction::After => false,
+    }
+}
+
+/// Adds the dependence of a level, none for what is independent of loops, where it has vectors.
+fn push_edge<L: Ledger>(
+    alloc: Global,
+    edges: &mut Vec<Edge>,
+    pair: &TestedPair<L>,
+    level: Option<u8>,
+    vectors: &[Vector],
+) -> Result<(), NoMemory>
+    ensures edges { OnOk result (map edge_of edges.new.items ≡ map edge_of edges.old.items
+        ++ Held.held_edge (pair_tested pair.now) level (Spec.vectors_of level vectors.now)) }
+    ensures short { OnOk result (All HasAtMostSixLoops edges.old.items → All HasAtMostSixLoops edges.new.items) }
+{
+    let vectors = vectors_of(alloc, level, vectors)?;
+    if vectors.is_empty() {
+        return Ok(());
+    }
+    let distances = distances_of(alloc, &pair.verdict)?;
+    edges.push(Edge {
+        source: pair.facts.source,
+        sink: pair.facts.sink,
+        name: pair.facts.name,
+        kind: pair.facts.kind,
+        level,
+        vectors,
+        distances,
+        mark: mark_of(&pair.facts, level),
+    })?;
+    Ok(())
+}
+
+/// The vectors of a level.
+fn vectors_of(alloc: Global, level: Option<u8>, vectors: &[Vector]) -> Result<Vec<Vector>, NoMemory>
+    ensures { IfOk result (λ kept. kept.items ≡ Spec.vectors_of level vectors.now) }
+{
+    let mut kept = Vec::new(alloc);
+    for vector in vectors {
+        if is_of(level, vector.directions()) {
+            kept.push(*vector)?;
+        }
+    }
+    Ok(kept)
+}
+
+/// Whether a vector is of a level: its first direction other than `=` is `<` and stands there, or it has none.
+fn is_of(level: Option<u8>, directions: &[Direction]) -> bool
+    requires { length directions.now ≤ 6 }
+    ensures { result ≡ Spec.is_of level (Spec.carriage_from 1 directions.now) }
+{
+    for (place, direction) in directions.iter().enumerate() {
+        match direction {
+            Direction::Before => return is_level(level, place as u8 + 1),
+            Direction::After => return false,
+            Direction::Same => {}
+        }
+    }
+    level.is_none()
+}
+
+/// Whether this is the level of a loop.
+fn is_level(level: Option<u8>, other: u8) -> bool
+    ensures { result ≡ Spec.is_of level (Spec.carried other) }
+{
+    match level {
+        Some(level) => other == level,
+        None => false,
+    }
+}
+
+/// The distance in each common loop.
+fn distances_of<L: Ledger>(
+    alloc: Global,
+    verdict: &Verdict<L>,
+) -> Result<Vec<Option<i128>>, NoMemory>
+    ensures distances { IfOk result (λ distances. distances.items ≡ Spec.distances_of verdict.now) }
+    ensures short { IfOk result (λ distances. length distances.items ≤ 6) }
+{
+    let mut distances = Vec::new(alloc);
+    for place in 0..loop_count(verdict) {
+        distances.push(verdict.distance(place as usize + 1))?;
+    }
+    Ok(distances)
+}
+
+/// The mark of the dependence of a level.
+fn mark_of(facts: &Facts, level: Option<u8>) -> Mark
+    ensures { mark_of result ≡ mark_by facts.now.proven (Held.rejects_at facts.now.rejecting level) }
+{
+    if facts.proven {
+        return Mark::Proven;
+    }
+    if rejects_at(&facts.rejecting, level) {
+        return Mark::Rejected;
+    }
+    Mark::Pending
+}
+
+/// Whether the loop at a level rejects the variable.
+fn rejects_at(rejecting: &[bool], level: Option<u8>) -> bool
+    ensures { result ≡ Held.rejects_at rejecting.now level }
+{
+    match level {
+        Some(level) => match rejecting.get((level as usize).saturating_sub(1)) {
+            Some(rejects) => *rejects,
+            None => false,
+        },
+        None => false,
+    }
+}

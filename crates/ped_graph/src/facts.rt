@@ -1,0 +1,76 @@
+//! What a graph keeps of a pair of references beside its verdict.
+
+ghost use Rattle.std.specs.Prelude.{◌≡◌, ◌≤◌, ◌&&◌, List, ℕ, ℤ, Bool, length};
+ghost use Rattle.ped_views.specs.Views.{View};
+ghost use Rattle.ped_refs.specs.References.{comes_before};
+ghost use Rattle.ped_refs.specs.Occurrences.{reference_of};
+ghost use Rattle.ped_edges.specs.CodeEdges.{kind_of};
+ghost use Rattle.ped_graph.specs.Marks.{is_firm, is_telling};
+ghost use Rattle.ped_graph.specs.Held.{pair_with};
+ghost use Rattle.ped_graph.specs.Dependences as Spec;
+ghost use Rattle.ped_graph.specs.CodeFacts.{pair_by};
+
+use crate::owners::common_owner;
+use crate::rejections::rejecting_levels;
+use ped_edges::Kind;
+use ped_refs::{Occurrence, RefName};
+
+/// What a graph keeps of a pair of references beside its verdict.
+#[derive(Clone, Copy)]
+pub struct Facts {
+    /// The source, by statement and number.
+    pub source: (u32, u32),
+    /// The sink, by statement and number.
+    pub sink: (u32, u32),
+    /// What both read or write.
+    pub name: RefName,
+    /// Which of them write.
+    pub kind: Kind,
+    /// Whether the source comes before the sink in text order.
+    pub is_forward: bool,
+    /// The level of the DO whose private copies both mean, 0 for none; none where they mean different ones.
+    pub owner: Option<u8>,
+    /// Whether each dependence of the pair is proven.
+    pub proven: bool,
+    /// For each level whether its loop rejects the variable.
+    pub rejecting: [bool; 6],
+}
+
+/// The facts of a pair, of which it is known whether it is proven.
+pub fn facts_of(source: &Occurrence, sink: &Occurrence, proven: bool) -> Facts
+    requires source { length source.now.nest.items ≤ 6 }
+    requires sink { length sink.now.nest.items ≤ 6 }
+    ensures { (facts : Spec.Facts) (v : View)
+        → proven ≡ (is_firm facts.constants facts.guards (reference_of source.now) && is_firm facts.constants facts.guards (reference_of sink.now) && is_telling v)
+        → pair_by result v ≡ pair_with facts (reference_of source.now) (reference_of sink.now) v }
+{
+    Facts {
+        source: (source.statement, source.number),
+        sink: (sink.statement, sink.number),
+        name: source.name,
+        kind: kind_of(source.writes, sink.writes),
+        is_forward: comes_before(source, sink),
+        owner: common_owner(source, sink),
+        proven,
+        rejecting: rejecting_levels(source, sink),
+    }
+}
+
+/// The kind of a dependence by who writes.
+fn kind_of(source_writes: bool, sink_writes: bool) -> Kind
+    ensures { kind_of result ≡ Spec.kind_by source_writes sink_writes }
+{
+    match (source_writes, sink_writes) {
+        (true, true) => Kind::Output,
+        (true, false) => Kind::Flow,
+        (false, _) => Kind::Anti,
+    }
+}
+
+/// Whether the source comes before the sink in text order.
+fn comes_before(source: &Occurrence, sink: &Occurrence) -> bool
+    ensures { result ≡ comes_before (reference_of source.now) (reference_of sink.now) }
+{
+    source.statement < sink.statement
+        || (source.statement == sink.statement && source.number < sink.number)
+}

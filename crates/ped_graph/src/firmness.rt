@@ -1,0 +1,74 @@
+//! References of which constants alone decide whether they are reached (ParaScope).
+
+ghost use Rattle.std.specs.Prelude.{◌≡◌, map, IfOk};
+ghost use Rattle.std.specs.List.{list_all};
+ghost use Rattle.ped_refs.specs.Loops.{loop_of, nest_of};
+ghost use Rattle.ped_refs.specs.Occurrences.{reference_of};
+ghost use Rattle.ped_graph.specs.Marks as Spec;
+ghost use Rattle.ped_graph.specs.Guards as Guards;
+
+use ped_base::NoMemory;
+use ped_constants::{Consts, constant};
+use ped_refs::{Loop, Occurrence};
+use std::alloc::Global;
+
+/// For each reference whether its loops have constant bounds and no IF stands round it.
+pub fn all_firm(
+    alloc: Global,
+    consts: &Consts,
+    guards: &[bool],
+    found: &[Occurrence],
+) -> Result<Vec<bool>, NoMemory>
+    ensures { IfOk result (λ firm. firm.items ≡ map (λ o. Spec.is_firm consts.now guards.now (reference_of o)) found.now) }
+{
+    let mut firm = Vec::new(alloc);
+    for occurrence in found {
+        firm.push(is_firm(consts, guards, occurrence))?;
+    }
+    Ok(firm)
+}
+
+/// Whether the loops round a reference have constant bounds and no IF stands round it.
+fn is_firm(consts: &Consts, guards: &[bool], occurrence: &Occurrence) -> bool
+    ensures { result ≡ Spec.is_firm consts.now guards.now (reference_of occurrence.now) }
+{
+    have_constant_bounds(consts, &occurrence.nest) && !is_guarded(guards, occurrence.statement)
+}
+
+/// Whether the statement with this number stands in an IF.
+fn is_guarded(guards: &[bool], number: u32) -> bool
+    ensures { result ≡ Guards.is_guarded guards.now number }
+{
+    match guards.get((number as usize).saturating_sub(1)) {
+        Some(inside) => *inside,
+        None => false,
+    }
+}
+
+/// Whether loops have constant bounds within 2^62 of zero.
+fn have_constant_bounds(consts: &Consts, nest: &[Loop]) -> bool
+    ensures { result ≡ list_all (Spec.has_constant_bounds consts.now) (nest_of nest.now) }
+{
+    for l in nest {
+        if !has_constant_bounds(consts, l) {
+            return false;
+        }
+    }
+    true
+}
+
+fn has_constant_bounds(consts: &Consts, l: &Loop) -> bool
+    ensures { result ≡ Spec.has_constant_bounds consts.now (loop_of l.now) }
+{
+    is_near_constant(constant(&l.statement.first, consts))
+        && is_near_constant(constant(&l.statement.last, consts))
+}
+
+fn is_near_constant(value: Option<i128>) -> bool
+    ensures { result ≡ Spec.is_near_constant value }
+{
+    match value {
+        Some(n) => n.unsigned_abs() <= 1 << 62,
+        None => false,
+    }
+}

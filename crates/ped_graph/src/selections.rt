@@ -1,0 +1,72 @@
+//! Which dependences belong to a statement, and which to a level of a loop.
+
+ghost use Rattle.std.specs.Prelude.{◌≡◌, filter};
+ghost use Rattle.ped_edges.specs.CodeEdges.{edge_of};
+ghost use Rattle.ped_graph.specs.DependencePane as Pane;
+ghost use Rattle.ped_graph.specs.HeldSelections as Held;
+
+use ped_edges::Edge;
+
+/// How many numbered statements the statement with this number has, itself and those in it; 0 where there is none.
+pub fn extent_of(extents: &[u32], number: u32) -> u32
+    ensures { result ≡ Held.extent_held extents.now number }
+{
+    if number == 0 {
+        return 0;
+    }
+    match extents.get(number as usize - 1) {
+        Some(extent) => *extent,
+        None => 0,
+    }
+}
+
+/// Keeps the dependences whose source or sink is a statement with so many statements, or stands in it.
+pub fn keep_touching(edges: &mut Vec<Edge>, number: u32, extent: u32)
+    ensures { edges.new.items ≡ filter (λ e. Held.touches number extent (edge_of e)) edges.old.items }
+{
+    edges.retain(|edge| touches(edge, number, extent));
+}
+
+/// Keeps the dependences of a level with both references in the body of a DO with so many statements.
+pub fn keep_carried_in(edges: &mut Vec<Edge>, number: u32, extent: u32, level: u8)
+    ensures { edges.new.items ≡ filter (λ e. Held.is_carried_in number extent level (edge_of e)) edges.old.items }
+{
+    edges.retain(|edge| is_carried_in(edge, number, extent, level));
+}
+
+fn touches(edge: &Edge, number: u32, extent: u32) -> bool
+    ensures { result ≡ Held.touches number extent (edge_of edge.now) }
+{
+    is_in(number, extent, edge.source.0) || is_in(number, extent, edge.sink.0)
+}
+
+fn is_carried_in(edge: &Edge, number: u32, extent: u32, level: u8) -> bool
+    ensures { result ≡ Held.is_carried_in number extent level (edge_of edge.now) }
+{
+    is_level(level, edge.level)
+        && is_in_body(number, extent, edge.source.0)
+        && is_in_body(number, extent, edge.sink.0)
+}
+
+/// Whether the second statement is the first, which has so many statements, or stands in it.
+fn is_in(number: u32, extent: u32, other: u32) -> bool
+    ensures { result ≡ Pane.is_in number extent other }
+{
+    number <= other && u64::from(other) < u64::from(number) + u64::from(extent)
+}
+
+/// Whether a statement stands in the body of a DO, which has so many statements.
+fn is_in_body(number: u32, extent: u32, other: u32) -> bool
+    ensures { result ≡ Pane.is_in_body number extent other }
+{
+    number < other && u64::from(other) < u64::from(number) + u64::from(extent)
+}
+
+fn is_level(level: u8, carried: Option<u8>) -> bool
+    ensures { result ≡ Pane.is_level level carried }
+{
+    match carried {
+        Some(carried) => carried == level,
+        None => false,
+    }
+}

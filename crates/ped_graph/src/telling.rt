@@ -1,0 +1,41 @@
+//! Verdicts that tell a dependence.
+
+ghost use Rattle.std.specs.Prelude.{◌≡◌};
+ghost use Rattle.std.specs.List.{list_all};
+ghost use Rattle.ped_graph.specs.Marks as Spec;
+
+use ped_verdict::Verdict;
+use ped_views::{LoopRange, PairView};
+use std::sync::ledger::Ledger;
+
+/// Whether the tests tell a dependence that they leave.
+pub fn is_telling<L: Ledger>(verdict: &Verdict<L>) -> bool
+    ensures { result ≡ Spec.is_telling verdict.now }
+{
+    all_run_twice(verdict.view()) && verdict.is_exact()
+}
+
+/// Whether all loops of a view run at least twice.
+fn all_run_twice(view: &PairView) -> bool
+    ensures { result ≡ Spec.all_run_twice view.now }
+{
+    each_runs_twice(&view.loops) && each_runs_twice(&view.source_inner) && each_runs_twice(&view.sink_inner)
+}
+
+fn each_runs_twice(ranges: &[LoopRange]) -> bool
+    ensures { result ≡ list_all Spec.runs_twice ranges.now }
+{
+    for range in ranges {
+        if !runs_twice(range) {
+            return false;
+        }
+    }
+    true
+}
+
+/// Whether the second index value of a loop lies in its range.
+fn runs_twice(range: &LoopRange) -> bool
+    ensures { result ≡ Spec.runs_twice range.now }
+{
+    range.lo + range.step.abs() <= range.hi
+}

@@ -46,7 +46,7 @@ all_run_twice v = list_all runs_twice v.loops && list_all runs_twice v.source_in
 abbrev pub is_guarded : List ℕ → Reference → Bool
 is_guarded guarded r = list_any (λ n. n == r.statement) guarded
 
--- the dependence is there whatever the data are: the loops round either reference have constant bounds and run at least twice, no IF stands round either, and each position tells it, no index in two of them (ParaScope; this project)
+-- the tests leave no doubt: the loops round either reference have constant bounds and run at least twice, each position is affine, and ZIV with equal constants or strong SIV, no index stands in two of them, and no IF stands round either reference (ParaScope; this project)
 abbrev pub is_proven : List (List ℕ × ℤ) → List ℕ → Reference → Reference → View → Bool
 is_proven constants guarded source sink v =
     list_all (has_constant_bounds constants) source.nest && list_all (has_constant_bounds constants) sink.nest

@@ -197,7 +197,8 @@ END_OF_CASES
 fails 'another dependence pane' "$one" <<'END_OF_CASES'
 == K
       K = 1
-=> dependences not built
+=> dependences 1
+1.1 1.1 K output 1 (<) (*) proven
 END_OF_CASES
 fails 'a refusal in place of a pane' "$one" <<'END_OF_CASES'
 == K

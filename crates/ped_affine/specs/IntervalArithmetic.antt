@@ -1,4 +1,4 @@
--- Arithmetic of intervals by their ends (Moore, interval arithmetic).
+-- Arithmetic of intervals by their ends (plain words).
 use Rattle.std.specs.Prelude.{ℤ, neg_ℤ, ◌+ℤ◌, ◌-ℤ◌, ◌*ℤ◌}
 use Rattle.std.specs.Int.{int_min, int_max}
 use Rattle.ped_views.specs.declared.intervals.Interval.{Interval}

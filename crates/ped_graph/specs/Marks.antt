@@ -36,7 +36,7 @@ is_firm constants guards r = list_all (has_constant_bounds constants) r.nest && 
 abbrev pub is_telling : View → Bool
 is_telling v = all_run_twice v && is_exact v
 
--- the dependence is there whatever the data are (ParaScope; this project)
+-- the tests leave no doubt where they leave a dependence: constants alone decide that both references are reached, and each position tells it (ParaScope; this project)
 abbrev pub is_proven : List (List ℕ × ℤ) → List Bool → Reference → Reference → View → Bool
 is_proven constants guards source sink v = is_firm constants guards source && is_firm constants guards sink && is_telling v
 

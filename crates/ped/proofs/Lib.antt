@@ -1,8 +1,3 @@
-mod Commentless
-mod Finding
+mod Counting
 mod OneAnswer
-pub mod OnePane
 pub mod Outcomes
-mod Pairs
-mod Rows
-mod SmallFound

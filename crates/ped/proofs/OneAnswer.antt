@@ -5,16 +5,16 @@ use Rattle.ped_io.specs.Outside.{Contents, content}
 use Rattle.ped_tree.specs.Tree.{ProgramTree}
 use Rattle.ped_grammar.specs.Refusal.{Finding}
 use Rattle.ped_tree.specs.SourcePane.{source_pane}
-use Rattle.ped.proofs.OnePane.{one_pane}
 use Rattle.ped_valid.specs.Validity.{ReadsValid, RefusesText}
 use Rattle.ped_valid.proofs.OneVerdict.{one_of_both}
+use Rattle.ped_graph.proofs.OnePane.{one_pane}
 use Rattle.ped.specs.declared.answering.Status.{Status}
 use Rattle.ped.specs.declared.answering.Status.TheVariants.{Done, BadWords, ReadFault, WriteFault, ProgramRefused, NoMemory, TooLong}
 use Rattle.ped.specs.Refusals.{refused_line}
-use Rattle.ped.specs.Answer.{Request, show, cannot_read_line, too_long_line, program_limit, IsDependencePart, ArePanes, IsShown, AnswersBytes, Answers}
+use Rattle.ped.specs.Answer.{Request, show, cannot_read_line, too_long_line, program_limit, ArePanes, IsShown, AnswersBytes, Answers}
 
 -- a text has one valid tree at most
-one_tree : (text : List ℕ) (t u : ProgramTree) → ReadsValid text t → ReadsValid text u → t ≡ u
+pub one_tree : (text : List ℕ) (t u : ProgramTree) → ReadsValid text t → ReadsValid text u → t ≡ u
 one_tree text t u p q = elim (one_of_both text) [
   | inl tree ↦ tree.only t p ∙ sym (tree.only u q)
   | inr refusal ↦ absurd (refusal.treeless t p)
@@ -28,22 +28,15 @@ one_refusal text f g p q = elim (one_of_both text) [
 ]
 
 -- no text has both
-not_both : (text : List ℕ) (t : ProgramTree) (f : Finding) → ReadsValid text t → RefusesText text f → ⊥
+pub not_both : (text : List ℕ) (t : ProgramTree) (f : Finding) → ReadsValid text t → RefusesText text f → ⊥
 not_both text t f p q = elim (one_of_both text) [
   | inl tree ↦ tree.accepted f q
   | inr refusal ↦ refusal.treeless t p
 ]
 
--- one thing is shown of a program's dependences
-one_dependences : (t : ProgramTree) (a b : List ℕ) → IsDependencePart t a → IsDependencePart t b → a ≡ b
-one_dependences t a b (inl p) (inl q) = one_pane t a b p.1 q.1
-one_dependences t a b (inr p) (inr q) = p.1 ∙ sym q.1
-one_dependences t a b (inl p) (inr q) = absurd (q.0 p.0)
-one_dependences t a b (inr p) (inl q) = absurd (p.0 q.0)
-
 -- a program has one text of both panes
 one_panes : (t : ProgramTree) (a b : List ℕ) → ArePanes t a → ArePanes t b → a ≡ b
-one_panes t a b p q = p.2 ∙ ap (λ (pane : List ℕ). source_pane t ++ pane) (one_dependences t p.0 q.0 p.1 q.1) ∙ sym q.2
+one_panes t a b p q = p.2 ∙ ap (λ (pane : List ℕ). source_pane t ++ pane) (one_pane t p.0 q.0 p.1 q.1) ∙ sym q.2
 
 -- one thing is shown of a text
 one_shown : (text : List ℕ) (s t : Status) (a b : List ℕ) → IsShown text s a → IsShown text t b → (s ≡ t) × (a ≡ b)

@@ -1,15 +1,15 @@
 -- The answer to words and files, and what a call may have done of it (this project).
 use Rattle.std.specs.Prelude.{◌≡◌, ◌⊎◌, ℕ, ◌<◌, List, [], ◌∷◌, ◌++◌, length, codes, Bool, false, ◌==◌, nat_lt, Option, Some, None, MatchOption, MatchBool, if◌then◌else◌}
+use Rattle.ped_base.specs.Lists.{is_same_text}
 use Rattle.ped_io.specs.Outside.{Contents, content}
 use Rattle.ped_tree.specs.Tree.{ProgramTree}
 use Rattle.ped_grammar.specs.Refusal.{Finding}
 use Rattle.ped_tree.specs.SourcePane.{source_pane}
 use Rattle.ped_valid.specs.Validity.{ReadsValid, RefusesText}
-use Rattle.ped.specs.DependencePane.{IsDependencePane}
+use Rattle.ped_graph.specs.DependencePane.{IsDependencePane}
 use Rattle.ped.specs.declared.answering.Status.{Status}
 use Rattle.ped.specs.declared.answering.Status.TheVariants.{Done, BadWords, ReadFault, WriteFault, ProgramRefused, NoMemory, TooLong}
 use Rattle.ped.specs.Refusals.{refused_line}
-use Rattle.ped.specs.SmallForm.{same, IsSmall}
 
 -- what the words ask for: both panes of the program in this file
 pub data Request : Type 0 where
@@ -29,7 +29,7 @@ show_request (program ∷ word ∷ words) = None
 -- what the words ask for, where they are of the form
 abbrev pub request_of : List (List ℕ) → Option Request
 request_of [] = None
-request_of (mode ∷ words) = if same mode (codes "show") then show_request words else None
+request_of (mode ∷ words) = if is_same_text mode (codes "show") then show_request words else None
 
 -- the files that a request reads, in order
 abbrev pub inputs_of : Option Request → List (List ℕ)
@@ -57,17 +57,9 @@ program_limit = 1048576
 abbrev pub too_long_line : List ℕ → List ℕ
 too_long_line name = codes "ped: " ++ name ++ codes " is longer than 1048576 bytes" ++ 10 ∷ []
 
--- what stands in place of a dependence pane that isn't built (ParaScope; this project)
-abbrev pub not_built_line : List ℕ
-not_built_line = codes "dependences not built" ++ 10 ∷ []
-
--- the part about dependences: the pane of a program of the small form, and else that it isn't built (ParaScope; this project)
-abbrev pub IsDependencePart : ProgramTree → List ℕ → Type 0
-IsDependencePart t pane = (IsSmall t × IsDependencePane t pane) ⊎ (¬ (IsSmall t) × (pane ≡ not_built_line))
-
--- both panes of a program (ParaScope; this project)
+-- both panes of a program: the source pane, and behind it the dependence pane (ParaScope; this project)
 abbrev pub ArePanes : ProgramTree → List ℕ → Type 0
-ArePanes t bytes = (pane : List ℕ) × IsDependencePart t pane × (bytes ≡ source_pane t ++ pane)
+ArePanes t bytes = (pane : List ℕ) × IsDependencePane t pane × (bytes ≡ source_pane t ++ pane)
 
 -- what is shown of a program's text: both panes of its valid tree, or its first refusal
 abbrev pub IsShown : List ℕ → Status → List ℕ → Type 0

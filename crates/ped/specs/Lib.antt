@@ -1,11 +1,4 @@
-pub mod Affine
 pub mod Answer
-pub mod DependencePane
-pub mod Dependences
-pub mod Edges
 pub mod Refusals
-pub mod SmallForm
-pub mod SmallReading
-pub mod SmallTree
 pub mod Statuses
-pub mod Uncommented
+pub mod TestCounts

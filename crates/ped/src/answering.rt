@@ -1,22 +1,29 @@
 //! The top call: words and files to an answer and a status.
 
-ghost use Rattle.std.specs.Prelude.{◌≡◌, ◌≢◌, ◌⊎◌, ◌++◌, ◌<◌, ◌≤◌, ℕ, List, Option, Some, None, length, map, string_bytes, MatchOption, IfOk};
+ghost use Rattle.std.specs.Prelude.{◌≡◌, ◌≢◌, ◌⊎◌, ◌++◌, ◌<◌, ◌≤◌, ◌+◌, ℕ, List, Option, Some, None, length, map, string_bytes, MatchOption, IfOk};
 ghost use Rattle.ped_io.specs.Outside.{Contents, content, IsHeld, Rose};
 ghost use Rattle.ped_io.specs.Shelves.{all_names};
 ghost use Rattle.ped_tree.specs.Views.{program_tree};
 ghost use Rattle.ped_grammar.specs.RefusalViews.{finding_of};
+ghost use Rattle.ped_symbols.specs.NameRefusals.{IsValid};
+ghost use Rattle.ped_symbols.specs.Kinds.{table_of};
+ghost use Rattle.ped_refs.specs.References.{references, pair_count};
 ghost use Rattle.ped.specs.Refusals as Refusals;
 ghost use Rattle.ped.specs.Answer;
 ghost use Rattle.ped.specs.Answer.{Request, request_of, show, inputs_of, IsOneOf, HoldsTooMany, program_limit, Answers, MayAnswer, Sends, IsShown, IsJust, ShowsTree};
+ghost use Rattle.ped.specs.TestCounts.{TestsText, Tests, Ticks, IsUntested};
 
 use crate::panes::panes;
 use crate::refusals::refused_line;
 use ped_base::{Bytes, NoMemory};
+use ped_constants::Consts;
 use ped_grammar::Refusal;
 use ped_io::{LoadError, PutFault, Shelf, Sink, SureShelf, SureSink, load, put_all};
 use ped_tree::Program;
 use ped_valid::{OpenRefusal, open_program};
+use ped_verdict::Steps;
 use std::alloc::Global;
+use std::sync::ledger::Ledger;
 
 /// How a call of the program ended. Its number is the exit status.
 #[derive(Clone, Copy, Debug, PartialEq, Eq)]
@@ -53,12 +60,14 @@ const PROGRAM_LIMIT: u64 = 1_048_576;
 
 /// Answers the words, which are those after the program's name: reads the files that they name from
 /// the shelf, and writes the answer to `out`. It is written whole, with its status, unless memory runs
-/// out, the shelf fails at a file of the words, or the sink fails.
-pub fn ped_main<F: Shelf, K: Sink>(
+/// out, the shelf fails at a file of the words, or the sink fails. `steps` counts the dependence tests: one for
+/// each ordered pair of references of a program that is shown.
+pub fn ped_main<F: Shelf, K: Sink, L: Ledger>(
     alloc: Global,
     words: &[String],
     shelf: &mut F,
     out: &mut K,
+    steps: &mut Steps<L>,
 ) -> Status
     // Over a shelf and a sink that tell, the bytes sent and the status are those of the answer, unless
     // the shelf, the sink or the memory kept it from being written whole.
@@ -97,10 +106,17 @@ pub fn ped_main<F: Shelf, K: Sink>(
         F.count shelf.new name ≡ F.count shelf.old name }
     ensures faults { K.faults out.old ≤ K.faults out.new }
     ensures untold { K.taken out.old ≡ None → K.taken out.new ≡ None }
+
+    // As many dependence tests are made as the answer takes, where it was written whole; otherwise at most as
+    // many. Without a program there are none, whatever the shelf tells.
+    ensures tests { (files : Contents) → F.told shelf.old ≡ Some files →
+        (n : ℕ) → Tests (request_of (map string_bytes words.now)) files n → Ticks result steps.old steps.new n }
+    ensures untested { IsUntested result → steps.new ≡ steps.old }
+    ensures steps { steps.old ≤ steps.new }
 {
     match request(words) {
         None => finish(out, USAGE, Status::BadWords),
-        Some(program) => show_file(alloc, program, shelf, out),
+        Some(program) => show_file(alloc, program, shelf, out, steps),
     }
 }
 
@@ -111,19 +127,23 @@ pub fn one_answer()
 {}
 
 /// Answers the words over a shelf and a sink that never fail: no read fault and no write fault comes.
-pub fn answer_surely(
+pub fn answer_surely<L: Ledger>(
     alloc: Global,
     words: &[String],
     shelf: &mut SureShelf,
     out: &mut SureSink,
+    steps: &mut Steps<L>,
 ) -> Status
     ensures reads { result ≢ Status.ReadFault }
     ensures writes { result ≢ Status.WriteFault }
     ensures answer { (result ≡ Status.NoMemory) ⊎ ((bytes : List ℕ)
         × Answers (request_of (map string_bytes words.now)) (all_names shelf.old) result bytes
         × (out.new ≡ out.old ++ bytes)) }
+    ensures tests { (n : ℕ) → Tests (request_of (map string_bytes words.now)) (all_names shelf.old) n → Ticks result steps.old steps.new n }
+    ensures untested { IsUntested result → steps.new ≡ steps.old }
+    ensures steps { steps.old ≤ steps.new }
 {
-    ped_main(alloc, words, shelf, out)
+    ped_main(alloc, words, shelf, out, steps)
 }
 
 const USAGE: &[u8] =
@@ -157,7 +177,13 @@ fn begins_with_dash(word: &[u8]) -> bool
 }
 
 /// Shows the program in a file.
-fn show_file<F: Shelf, K: Sink>(alloc: Global, program: &str, shelf: &mut F, out: &mut K) -> Status
+fn show_file<F: Shelf, K: Sink, L: Ledger>(
+    alloc: Global,
+    program: &str,
+    shelf: &mut F,
+    out: &mut K,
+    steps: &mut Steps<L>,
+) -> Status
     ensures answer { (files : Contents) → F.told shelf.old ≡ Some files →
         (before : List ℕ) → K.taken out.old ≡ Some before →
         Sends (MayAnswer (Some (show program.now)) files
@@ -175,9 +201,13 @@ fn show_file<F: Shelf, K: Sink>(alloc: Global, program: &str, shelf: &mut F, out
         F.count shelf.new name ≡ F.count shelf.old name }
     ensures faults { K.faults out.old ≤ K.faults out.new }
     ensures untold { K.taken out.old ≡ None → K.taken out.new ≡ None }
+    ensures tests { (files : Contents) → F.told shelf.old ≡ Some files →
+        (n : ℕ) → Tests (Some (show program.now)) files n → Ticks result steps.old steps.new n }
+    ensures untested { IsUntested result → steps.new ≡ steps.old }
+    ensures steps { steps.old ≤ steps.new }
 {
     match load(alloc, shelf, program, PROGRAM_LIMIT) {
-        Ok(text) => show_text(alloc, text.as_slice(), out),
+        Ok(text) => show_text(alloc, text.as_slice(), out, steps),
         Err(LoadError::TooLong) => is_too_long(alloc, program, out),
         Err(LoadError::ReadFault) => cannot_read(alloc, program, out),
         Err(LoadError::NoMemory) => Status::NoMemory,
@@ -238,7 +268,12 @@ fn cannot_read_line(alloc: Global, name: &str) -> Result<Bytes, NoMemory>
 }
 
 /// Shows the program of a text.
-fn show_text<K: Sink>(alloc: Global, text: &[u8], out: &mut K) -> Status
+fn show_text<K: Sink, L: Ledger>(
+    alloc: Global,
+    text: &[u8],
+    out: &mut K,
+    steps: &mut Steps<L>,
+) -> Status
     ensures answer { (before : List ℕ) → K.taken out.old ≡ Some before →
         Sends (IsShown text.now)
         (Rose (K.faults out.old) (K.faults out.new)) before (K.taken out.new) result }
@@ -247,16 +282,27 @@ fn show_text<K: Sink>(alloc: Global, text: &[u8], out: &mut K) -> Status
     ensures write_fault { result ≡ Status.WriteFault → Rose (K.faults out.old) (K.faults out.new) }
     ensures faults { K.faults out.old ≤ K.faults out.new }
     ensures untold { K.taken out.old ≡ None → K.taken out.new ≡ None }
+    ensures tests { (n : ℕ) → TestsText text.now n → Ticks result steps.old steps.new n }
+    ensures untested { IsUntested result → steps.new ≡ steps.old }
+    ensures steps { steps.old ≤ steps.new }
 {
     match open_program(alloc, text) {
-        Ok(opened) => show_program(alloc, &opened.program, out),
+        Ok(opened) => show_program(alloc, &opened.program, opened.symbols.consts(), out, steps),
         Err(OpenRefusal::At(refusal)) => is_refused(alloc, refusal, out),
         Err(OpenRefusal::NoMemory) => Status::NoMemory,
     }
 }
 
-/// Shows both panes of a program.
-fn show_program<K: Sink>(alloc: Global, program: &Program, out: &mut K) -> Status
+/// Shows both panes of a valid program, whose named constants these are.
+fn show_program<K: Sink, L: Ledger>(
+    alloc: Global,
+    program: &Program,
+    consts: &Consts,
+    out: &mut K,
+    steps: &mut Steps<L>,
+) -> Status
+    requires valid { IsValid (program_tree program.now) }
+    requires constants { consts.now ≡ (table_of (program_tree program.now)).constants }
     ensures answer { (before : List ℕ) → K.taken out.old ≡ Some before →
         Sends (ShowsTree (program_tree program.now))
         (Rose (K.faults out.old) (K.faults out.new)) before (K.taken out.new) result }
@@ -264,8 +310,10 @@ fn show_program<K: Sink>(alloc: Global, program: &Program, out: &mut K) -> Statu
     ensures write_fault { result ≡ Status.WriteFault → Rose (K.faults out.old) (K.faults out.new) }
     ensures faults { K.faults out.old ≤ K.faults out.new }
     ensures untold { K.taken out.old ≡ None → K.taken out.new ≡ None }
+    ensures tests { Ticks result steps.old steps.new (pair_count (references (program_tree program.now))) }
+    ensures steps { steps.old ≤ steps.new }
 {
-    match panes(alloc, program) {
+    match panes(alloc, program, consts, steps) {
         Ok(bytes) => finish(out, bytes.as_slice(), Status::Done),
         Err(NoMemory) => Status::NoMemory,
     }

@@ -1,36 +1,39 @@
 //! Both panes of a program.
 
-ghost use Rattle.std.specs.Prelude.{◌≡◌, ◌++◌, IfOk, OnOk, ℕ, List};
+ghost use Rattle.std.specs.Prelude.{◌≡◌, ◌+◌, ◌≤◌, IfOk, OnOk};
 ghost use Rattle.ped_tree.specs.Views.{program_tree};
-ghost use Rattle.ped.specs.Answer.{IsDependencePart, ArePanes};
+ghost use Rattle.ped_symbols.specs.NameRefusals.{IsValid};
+ghost use Rattle.ped_symbols.specs.Kinds.{table_of};
+ghost use Rattle.ped_refs.specs.References.{references, pair_count};
+ghost use Rattle.ped.specs.Answer.{ArePanes};
 
-use crate::dependence_pane::dependence_pane;
-use crate::dependences::edges;
-use crate::small_form::Small;
 use ped_base::{Bytes, NoMemory};
+use ped_constants::Consts;
+use ped_graph::Graph;
 use ped_print::source_pane;
 use ped_tree::Program;
+use ped_verdict::Steps;
 use std::alloc::Global;
+use std::sync::ledger::Ledger;
 
-/// The source pane, and behind it the dependence pane or that it isn't built.
-pub fn panes(alloc: Global, program: &Program) -> Result<Bytes, NoMemory>
-    ensures { IfOk result (ArePanes (program_tree program.now)) }
+/// The source pane of a valid program, whose named constants these are, and behind it the dependence pane. Each
+/// ordered pair of references is tested once.
+pub fn panes<L: Ledger>(
+    alloc: Global,
+    program: &Program,
+    consts: &Consts,
+    steps: &mut Steps<L>,
+) -> Result<Bytes, NoMemory>
+    requires valid { IsValid (program_tree program.now) }
+    requires constants { consts.now ≡ (table_of (program_tree program.now)).constants }
+    ensures panes { IfOk result (ArePanes (program_tree program.now)) }
+    ensures ticks { OnOk result (steps.new ≡ steps.old + pair_count (references (program_tree program.now))) }
+    ensures least { steps.old ≤ steps.new }
+    ensures most { steps.new ≤ steps.old + pair_count (references (program_tree program.now)) }
 {
     let mut panes = source_pane(alloc, program)?;
-    push_dependences(alloc, &mut panes, program)?;
+    let graph = Graph::build(alloc, program, consts, steps)?;
+    let dependences = graph.dependence_pane(alloc, None)?;
+    panes.extend_from_slice(dependences.as_slice())?;
     Ok(panes)
-}
-
-/// Adds the dependence pane of a program of the small form, and else the line that it isn't built.
-fn push_dependences(alloc: Global, out: &mut Bytes, program: &Program) -> Result<(), NoMemory>
-    ensures { OnOk result ((pane : List ℕ) × IsDependencePart (program_tree program.now) pane
-        × (out.new ≡ out.old ++ pane)) }
-{
-    match Small::of(program) {
-        Some(small) => {
-            let edges = edges(alloc, &small)?;
-            dependence_pane(out, &small.array, &edges)
-        }
-        None => out.extend_from_slice(b"dependences not built\n"),
-    }
 }

@@ -1,10 +1,11 @@
 //! The line that says why a program's text is refused.
 
-ghost use Rattle.std.specs.Prelude.{◌≡◌, IfOk};
+ghost use Rattle.std.specs.Prelude.{◌≡◌, ◌++◌, IfOk, OnOk};
+ghost use Rattle.std.specs.Fmt.{decimal};
 ghost use Rattle.ped_grammar.specs.RefusalViews.{finding_of};
 ghost use Rattle.ped.specs.Refusals as Spec;
 
-use crate::numbers::push_number;
+use itoa::Buffer;
 use ped_base::{Bytes, NoMemory};
 use ped_grammar::Refusal;
 use std::alloc::Global;
@@ -22,4 +23,12 @@ pub fn refused_line(alloc: Global, refusal: Refusal) -> Result<Bytes, NoMemory>
     push_number(&mut line, refusal.line)?;
     line.push(b'\n')?;
     Ok(line)
+}
+
+/// Adds the digits of a number.
+fn push_number(out: &mut Bytes, number: u64) -> Result<(), NoMemory>
+    ensures { OnOk result (out.new ≡ out.old ++ decimal number) }
+{
+    let mut buffer = Buffer::new();
+    out.extend_from_slice(buffer.format(number).as_bytes())
 }

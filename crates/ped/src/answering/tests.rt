@@ -1,11 +1,13 @@
 //! Answers over shelves and sinks in memory that move little at a time, or that fail at some call.
 
-ghost use Rattle.std.specs.Prelude.{◌≤◌};
+ghost use Rattle.std.specs.Prelude.{◌≡◌, ◌<◌, ◌≤◌};
 
 use super::*;
 use ped_io::{Calls, Files, MemShelf, MemSink, SureShelf, SureSink};
 use std::alloc::AllocError;
+use std::marker::Brand;
 use std::process::Abort;
+use std::sync::ledger::Blank;
 use std::test::Fail;
 
 const PROGRAM: &str = "      PROGRAM R1
@@ -82,6 +84,18 @@ const SURE: Outside<'static> = Outside {
 
 /// Shows the program, the file "P".
 fn answered(alloc: Global, outside: Outside<'_>) -> Result<Ending, Fail> {
+    answered_with::<Brand>(alloc, outside, Blank::new(1))
+}
+
+fn answered_with<L: Ledger>(
+    alloc: Global,
+    outside: Outside<'_>,
+    blank: Blank,
+) -> Result<Ending, Fail>
+    requires name { blank.name ≡ L.name }
+    requires parts { blank.parts ≡ L.parts }
+    requires some { 0 < L.parts }
+{
     if outside.read == 0 || outside.write == 0 {
         return Err(Fail::from(NoMemory));
     }
@@ -94,7 +108,8 @@ fn answered(alloc: Global, outside: Outside<'_>) -> Result<Ending, Fail> {
         outside.read,
     )?;
     let mut sink = MemSink::new(alloc, calls(alloc, outside.writes_fail)?, outside.write)?;
-    let status = ped_main(alloc, &all, &mut shelf, &mut sink);
+    let mut steps = Steps::<L>::new(blank);
+    let status = ped_main(alloc, &all, &mut shelf, &mut sink, &mut steps);
     let taken = String::from_utf8_lossy(alloc, sink.taken())?;
     Ok(Ending { status, taken })
 }
@@ -159,15 +174,32 @@ fn a_failed_write_leaves_a_front(rt: HostRuntime) -> Result<(), Fail> {
     Ok(())
 }
 
+/// Shows a file of the shelf that holds the program alone, the file "P".
+fn surely(alloc: Global, name: &str) -> Result<Ending, Fail> {
+    surely_with::<Brand>(alloc, name, Blank::new(1))
+}
+
+fn surely_with<L: Ledger>(alloc: Global, name: &str, blank: Blank) -> Result<Ending, Fail>
+    requires name { blank.name ≡ L.name }
+    requires parts { blank.parts ≡ L.parts }
+    requires some { 0 < L.parts }
+{
+    let mut sink = SureSink::new(alloc)?;
+    let mut shelf = SureShelf::new(alloc, one_file(alloc, PROGRAM.as_bytes())?)?;
+    let all = words(alloc, &["show", name])?;
+    let mut steps = Steps::<L>::new(blank);
+    let status = answer_surely(alloc, &all, &mut shelf, &mut sink, &mut steps);
+    let taken = String::from_utf8_lossy(alloc, sink.taken())?;
+    Ok(Ending { status, taken })
+}
+
 #[test]
 fn sure_outsides_never_fail(rt: HostRuntime) -> Result<(), Fail> {
     let alloc = rt.alloc();
-    let mut sink = SureSink::new(alloc)?;
-    let mut shelf = SureShelf::new(alloc, one_file(alloc, PROGRAM.as_bytes())?)?;
-    let shown = answer_surely(alloc, &words(alloc, &["show", "P"])?, &mut shelf, &mut sink);
-    assert_eq!(rt; shown, Status::Done);
-    assert_eq!(rt; sink.taken(), PANES.as_bytes());
-    let refused = answer_surely(alloc, &words(alloc, &["show", "Q"])?, &mut shelf, &mut sink);
-    assert_eq!(rt; refused, Status::ProgramRefused);
+    let shown = surely(alloc, "P")?;
+    assert_eq!(rt; shown.status, Status::Done);
+    assert_eq!(rt; shown.taken.as_str(), PANES);
+    let refused = surely(alloc, "Q")?;
+    assert_eq!(rt; refused.status, Status::ProgramRefused);
     Ok(())
 }

@@ -1,6 +1,9 @@
 use Rattle.std.proofs.Common.{ℕ, List, Option, subst, sym}
 use Rattle.ped_io.specs.Outside.{Rose}
+use Rattle.ped.specs.declared.answering.Status.TheVariants.{BadWords}
 use Rattle.ped.specs.Answer.{Request, MayAnswer, IsOutcome}
+use Rattle.ped.specs.TestCounts.{Tests}
+use Rattle.ped.proofs.Counting.{idle_ticks, not_done}
 use Rattle.ped.proofs.Outcomes.{whole_of, of_request}
 use Rattle.ped.proofs.answering.ped_main.Goals as goal
 
@@ -18,3 +21,9 @@ returns-in-Some-clause-complete g c = λ files told before taken none sure.
 
 pub returns-in-Some-clause-too_long : goal.returns-in-Some-clause-too_long
 returns-in-Some-clause-too_long g c = λ long files told. of_request c.in-Some.program.now _ files c.in-Some.ensures (c.show_file.ensures.too_long long files told)
+
+pub returns-in-Some-clause-tests : goal.returns-in-Some-clause-tests
+returns-in-Some-clause-tests g c = λ files told n tests. c.show_file.ensures.tests files told n (subst (λ (r : Option Request). Tests r files n) c.in-Some.ensures tests)
+
+pub returns-in-None-clause-tests : goal.returns-in-None-clause-tests
+returns-in-None-clause-tests g c = λ files told n tests. idle_ticks c.finish.result _ n (not_done c.finish.result BadWords (λ e. cc) c.finish.ensures.ends)

@@ -2,6 +2,7 @@ use Rattle.std.proofs.Common.{◌∙◌, sym, subst}
 use Rattle.ped_tree.specs.Views.{program_tree}
 use Rattle.ped.specs.declared.answering.Status.TheVariants.{Done}
 use Rattle.ped.specs.Answer.{IsJust, ShowsTree, ArePanes}
+use Rattle.ped.proofs.Counting.{whole_ticks}
 use Rattle.ped.proofs.Outcomes.{outcome_weaker}
 use Rattle.ped.proofs.answering.show_program.Goals as goal
 
@@ -9,4 +10,7 @@ pub returns-in-Ok-clause-answer : goal.returns-in-Ok-clause-answer
 returns-in-Ok-clause-answer g c = λ before told.
     let o = c.finish.ensures.answer before told in
     let t = program_tree c.args.program.now in
-    (o.0, o.1, outcome_weaker (IsJust Done c.as_slice.result.now) (ShowsTree t) (λ s b j. (j.0, subst (ArePanes t) (sym (j.1 ∙ c.as_slice.ensures)) c.in-Ok.ensures)) _ o.0 c.finish.result o.2)
+    (o.0, o.1, outcome_weaker (IsJust Done c.as_slice.result.now) (ShowsTree t) (λ s b j. (j.0, subst (ArePanes t) (sym (j.1 ∙ c.as_slice.ensures)) c.in-Ok.ensures.panes)) _ o.0 c.finish.result o.2)
+
+pub returns-in-Ok-clause-tests : goal.returns-in-Ok-clause-tests
+returns-in-Ok-clause-tests g c = whole_ticks c.finish.result _ _ _ c.finish.ensures.ends c.in-Ok.ensures.ticks

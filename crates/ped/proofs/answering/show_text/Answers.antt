@@ -5,6 +5,7 @@ use Rattle.ped_valid.specs.Refusals.{IsRefusalOf}
 use Rattle.ped.specs.declared.answering.Status.TheVariants.{ProgramRefused}
 use Rattle.ped.specs.Refusals.{refused_line}
 use Rattle.ped.specs.Answer.{IsJust, IsShown, ShowsTree}
+use Rattle.ped.proofs.Counting.{idle_ticks, not_done, is_tested, text_ticks}
 use Rattle.ped.proofs.Outcomes.{outcome_weaker, tree_shown, refusal_shown}
 use Rattle.ped.proofs.answering.show_text.Goals as goal
 
@@ -21,3 +22,12 @@ returns-in-Err-At-clause-answer g c = λ before told.
     let text = c.args.text.now in
     let f = finding_of c.in-Err-At.refusal in
     (o.0, o.1, outcome_weaker (IsJust ProgramRefused (refused_line f)) (IsShown text) (refusal_shown text f (subst (IsRefusalOf text) c.in-Err-At.field-0-is c.in-Err-At.ensures.refused)) _ o.0 c.is_refused.result o.2)
+
+pub returns-in-Ok-clause-tests : goal.returns-in-Ok-clause-tests
+returns-in-Ok-clause-tests g c = text_ticks c.args.text.now (program_tree c.in-Ok.opened.program) c.in-Ok.ensures.tree c.show_program.result _ _ c.show_program.ensures.tests
+
+pub returns-in-Ok-clause-untested : goal.returns-in-Ok-clause-untested
+returns-in-Ok-clause-untested g c = λ untested. absurd (is_tested c.show_program.result c.show_program.ensures.ends untested)
+
+pub returns-in-Err-At-clause-tests : goal.returns-in-Err-At-clause-tests
+returns-in-Err-At-clause-tests g c = λ n tests. idle_ticks c.is_refused.result _ n (not_done c.is_refused.result ProgramRefused (λ e. cc) c.is_refused.ensures.ends)

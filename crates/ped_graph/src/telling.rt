@@ -19,7 +19,9 @@ pub fn is_telling<L: Ledger>(verdict: &Verdict<L>) -> bool
 fn all_run_twice(view: &PairView) -> bool
     ensures { result ≡ Spec.all_run_twice view.now }
 {
-    each_runs_twice(&view.loops) && each_runs_twice(&view.source_inner) && each_runs_twice(&view.sink_inner)
+    each_runs_twice(&view.loops)
+        && each_runs_twice(&view.source_inner)
+        && each_runs_twice(&view.sink_inner)
 }
 
 fn each_runs_twice(ranges: &[LoopRange]) -> bool

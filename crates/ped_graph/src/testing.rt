@@ -122,12 +122,7 @@ pub fn tested_pairs<L: Ledger>(
 }
 
 /// Goes on to the DO with this number, unless it is the same.
-fn enter(
-    alloc: Global,
-    round: &mut Round,
-    program: &Program,
-    number: u32,
-) -> Result<(), NoMemory>
+fn enter(alloc: Global, round: &mut Round, program: &Program, number: u32) -> Result<(), NoMemory>
     requires { IsRound (program_tree program.now) round.old }
     ensures round { OnOk result (IsRound (program_tree program.now) round.new) }
     ensures number { OnOk result (round.new.number ≡ number) }

@@ -15,5 +15,5 @@ returns-clause-tested g c = λ facts firm.
     let view = c.in_ok-verdict.verdict in
     let proven = c.both-proven.ensures ∙ (λ i. firm i && c.is_telling.ensures i) in
     let seen = c.in_ok-verdict.ensures.tested ∙ c.in_ok-view.ensures
-        ∙ (λ i. view_at (setting_of c.args.setting.now) (c.place_of.ensures.site i) (c.place_of-2.ensures.site i)) in
+    ∙ (λ i. view_at (setting_of c.args.setting.now) (c.place_of.ensures.site i) (c.place_of-2.ensures.site i)) in
     c.facts_of.ensures facts view proven ∙ ap (pair_with facts source sink) seen

@@ -1,5 +1,8 @@
-use Rattle.std.proofs.Common.{◌≡◌}
-use Rattle.ped_tree.specs.Views.{program_tree}
+use Rattle.std.proofs.Common.{◌≡◌, ◌<◌, ◌^◌, ◌∙◌, List, ap, subst, sym}
+use Rattle.ped_tree.specs.Views.{program_tree, stmt_trees}
+use Rattle.ped_tree.specs.Numbering.{statements_count}
+use Rattle.ped_tree.specs.declared.statements.Stmt.{Stmt}
+use Rattle.ped_refs.specs.Occurrences.{references_of}
 use Rattle.ped_graph.proofs.Known.{few_statements, few_references, shallow_found}
 use Rattle.ped_graph.proofs.graph.Graph.build.Goals as goal
 
@@ -10,7 +13,7 @@ pub occurrences-requires-clause-references : goal.occurrences-requires-clause-re
 occurrences-requires-clause-references g c = few_references (program_tree c.args.program.now) c.requires.valid
 
 pub extents-requires : goal.extents-requires
-extents-requires g c = few_statements (program_tree c.args.program.now) c.requires.valid
+extents-requires g c = subst (λ (body : List Stmt). statements_count (stmt_trees body) < 2 ^ 32) (sym c.deref.ensures.value) (few_statements (program_tree c.args.program.now) c.requires.valid)
 
 pub test_all-requires-clause-shallow : goal.test_all-requires-clause-shallow
-test_all-requires-clause-shallow g c = shallow_found (program_tree c.args.program.now) _ c.requires.valid c.in_ok-found.ensures
+test_all-requires-clause-shallow g c = shallow_found (program_tree c.args.program.now) c.deref-2.result.now c.requires.valid (ap references_of c.deref-2.ensures.value ∙ c.in_ok-found.ensures)

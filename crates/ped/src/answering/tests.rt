@@ -174,32 +174,32 @@ fn a_failed_write_leaves_a_front(rt: HostRuntime) -> Result<(), Fail> {
     Ok(())
 }
 
-/// Shows a file of the shelf that holds the program alone, the file "P".
-fn surely(alloc: Global, name: &str) -> Result<Ending, Fail> {
-    surely_with::<Brand>(alloc, name, Blank::new(1))
+/// Shows the program, the file "P", and then a file that isn't there.
+fn surely(alloc: Global) -> Result<(Ending, Status), Fail> {
+    surely_with::<Brand>(alloc, Blank::new(1))
 }
 
-fn surely_with<L: Ledger>(alloc: Global, name: &str, blank: Blank) -> Result<Ending, Fail>
+fn surely_with<L: Ledger>(alloc: Global, blank: Blank) -> Result<(Ending, Status), Fail>
     requires name { blank.name ≡ L.name }
     requires parts { blank.parts ≡ L.parts }
     requires some { 0 < L.parts }
 {
     let mut sink = SureSink::new(alloc)?;
     let mut shelf = SureShelf::new(alloc, one_file(alloc, PROGRAM.as_bytes())?)?;
-    let all = words(alloc, &["show", name])?;
     let mut steps = Steps::<L>::new(blank);
-    let status = answer_surely(alloc, &all, &mut shelf, &mut sink, &mut steps);
+    let there = words(alloc, &["show", "P"])?;
+    let status = answer_surely(alloc, &there, &mut shelf, &mut sink, &mut steps);
     let taken = String::from_utf8_lossy(alloc, sink.taken())?;
-    Ok(Ending { status, taken })
+    let missing = words(alloc, &["show", "Q"])?;
+    let refused = answer_surely(alloc, &missing, &mut shelf, &mut sink, &mut steps);
+    Ok((Ending { status, taken }, refused))
 }
 
 #[test]
 fn sure_outsides_never_fail(rt: HostRuntime) -> Result<(), Fail> {
-    let alloc = rt.alloc();
-    let shown = surely(alloc, "P")?;
+    let (shown, refused) = surely(rt.alloc())?;
     assert_eq!(rt; shown.status, Status::Done);
     assert_eq!(rt; shown.taken.as_str(), PANES);
-    let refused = surely(alloc, "Q")?;
-    assert_eq!(rt; refused.status, Status::ProgramRefused);
+    assert_eq!(rt; refused, Status::ProgramRefused);
     Ok(())
 }

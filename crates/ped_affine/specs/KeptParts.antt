@@ -1,4 +1,4 @@
--- What the code knows of a part of a subscript (this project).
+-- What the code knows of a part of a subscript. Contracts of private functions alone speak of it.
 use Rattle.std.specs.Prelude.{◌≡◌, IfSome}
 use Rattle.ped_tree.specs.Tree.{ExprTree}
 use Rattle.ped_constants.specs.ConstantExpressions.{constant_value}

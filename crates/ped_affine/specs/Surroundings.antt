@@ -1,4 +1,4 @@
--- The loops round a bound as the code keeps them: the loops, and the ranges found for them (this project).
+-- The loops round a bound as the code keeps them, with the ranges found for them. Contracts of private functions alone speak of these definitions.
 use Rattle.std.specs.Prelude.{List, [], ◌∷◌}
 use Rattle.ped_views.specs.Views.{Range}
 use Rattle.ped_tree.specs.Tree.{Head}

@@ -16,7 +16,9 @@ ghost use Rattle.ped_affine.specs.Ranges.{constant_or, of_one, of_two, variable_
 ghost use Rattle.ped_affine.specs.Arguments.{setting_of};
 ghost use Rattle.ped_affine.specs.Surroundings.{around_of};
 
-use crate::folding::{constant_difference, constant_negation, constant_product, constant_sum};
+use crate::folding::{
+    constant_difference, constant_negation, constant_product, constant_sum, named_value,
+};
 use crate::intervals::{differences, greater, kept_point, lesser, negations, products, sums};
 use crate::names::is_same;
 use crate::settings::Setting;
@@ -139,7 +141,7 @@ fn variable_part(setting: &Setting, around: &Enclosing, name: &Name) -> Part
     ensures interval { result.interval ≡ interval_of (setting_of setting.now) (around_of around.now) (Var name.now) }
     ensures near { IfSome result.interval (IsWithin (2 ^ 62)) }
 {
-    match setting.constants.get(name) {
+    match named_value(setting.constants, name) {
         Some(value) => constant_part(i128::from(value)),
         None => Part {
             constant: None,

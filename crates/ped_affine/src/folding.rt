@@ -3,9 +3,22 @@
 
 ghost use Rattle.std.specs.Prelude.{◌≡◌};
 ghost use Rattle.ped_arithmetic.specs.Arithmetic.{sum_of, difference_of, negation_of, product_of};
+ghost use Rattle.ped_constants.specs.NamedConstants.{value_named};
 ghost use Rattle.ped_constants.specs.ConstantExpressions.{unary_value, binary_value};
 
 use ped_arithmetic::{difference, negation, product, sum};
+use ped_base::Name;
+use ped_constants::Consts;
+
+/// The value of a named constant. Where there are no constants, the name isn't hashed.
+pub(crate) fn named_value(constants: &Consts, name: &Name) -> Option<i64>
+    ensures { result ≡ value_named constants.now name.now }
+{
+    if constants.is_empty() {
+        return None;
+    }
+    constants.get(name)
+}
 
 /// The value of a negation.
 pub(crate) fn constant_negation(a: Option<i128>) -> Option<i128>

@@ -20,13 +20,13 @@ use std::alloc::Global;
 /// What a form is over: named constants with their values, and unknowns, which are the variables of the loops round a
 /// subscript, the outermost first, and other variables behind them.
 #[derive(Clone, Copy)]
-pub(crate) struct Terms<'a> {
+pub(crate) struct Terms<'a, 'b, 'c> {
     /// The named constants.
     pub constants: &'a Consts,
     /// The loops round the subscript.
-    pub nest: &'a [Loop<'a>],
+    pub nest: &'b [Loop<'b>],
     /// The other variables.
-    pub others: &'a [Name],
+    pub others: &'c [Name],
 }
 
 /// An affine form: a coefficient for each unknown, within 2^31 of zero, and a constant within 2^62. No coefficients at
@@ -39,7 +39,7 @@ pub(crate) struct Form {
     pub constant: i64,
 }
 
-impl Terms<'_> {
+impl Terms<'_, '_, '_> {
     ghost use Rattle.ped_base.specs.Lists as Lists;
     ghost use Rattle.ped_affine.specs.AffineForms as Spec;
     ghost use Rattle.ped_affine.specs.KeptForms.{unknowns_of, coefficients_of, kept, form_kept, plain_form, IsOver, IsComplete};

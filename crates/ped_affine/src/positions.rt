@@ -35,13 +35,13 @@ pub(crate) struct Depths {
 
 /// An ordered pair of places.
 #[derive(Clone, Copy)]
-pub(crate) struct Pair<'a> {
+pub(crate) struct Pair<'a, 'b, 'c> {
     /// What ranges and forms depend on.
     pub setting: Setting<'a>,
     /// The place of the source.
-    pub source: Place<'a>,
+    pub source: Place<'b>,
     /// The place of the sink.
-    pub sink: Place<'a>,
+    pub sink: Place<'c>,
     /// How many loops they have.
     pub depths: Depths,
 }

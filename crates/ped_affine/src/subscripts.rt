@@ -11,7 +11,9 @@ ghost use Rattle.ped_affine.specs.AffineForms.{affine_of, constant_or, combinati
 ghost use Rattle.ped_affine.specs.KeptForms.{unknowns_of, terms_kept, kept, plain_form, IsOver, IsComplete};
 ghost use Rattle.ped_affine.specs.KeptParts.{IsPart};
 
-use crate::folding::{constant_difference, constant_negation, constant_product, constant_sum};
+use crate::folding::{
+    constant_difference, constant_negation, constant_product, constant_sum, named_value,
+};
 use crate::forms::{Form, Terms};
 use ped_base::{Name, NoMemory};
 use ped_constants::constant;
@@ -108,7 +110,7 @@ fn constant_part(alloc: Global, terms: &Terms, value: i128) -> Part
 fn variable_part(alloc: Global, terms: &Terms, name: &Name) -> Result<Part, NoMemory>
     ensures { IfOk result (IsPart (terms_kept terms.now) (Var name.now)) }
 {
-    match terms.constants.get(name) {
+    match named_value(terms.constants, name) {
         Some(value) => Ok(constant_part(alloc, terms, i128::from(value))),
         None => Ok(Part {
             constant: None,

@@ -20,11 +20,11 @@ use std::alloc::Global;
 
 /// The view of the ordered pair of the references at two places of one program: the ranges of the loops round
 /// them, and their subscripts as affine forms, position by position. At most six loops stand round each.
-pub fn view<'a>(
+pub fn view(
     alloc: Global,
-    setting: &Setting<'a>,
-    source: &Place<'a>,
-    sink: &Place<'a>,
+    setting: &Setting,
+    source: &Place,
+    sink: &Place,
 ) -> Result<PairView, NoMemory>
     requires source { length source.now.nest.now ≤ 6 }
     requires sink { length sink.now.nest.now ≤ 6 }

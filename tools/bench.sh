@@ -3,9 +3,10 @@
 # much memory it has at its peak, on programs of 64 KiB, 256 KiB and 1 MiB; how long `source_pane` of
 # ped_print takes, per byte of the pane, on programs of 250, 1,000 and 4,000 statements; how long
 # `symbols_of` of ped_symbols takes, per statement, on programs of 1,000 and 4,000 statements with as many names;
-# how long a call of each dependence test takes; and how long `ped show` takes, and how much memory, on programs of 64 KiB,
-# 256 KiB and 1 MiB that are read. It is no part of the gate, and needs GNU time and awk. docs/PERFORMANCE.md
-# says how to read the figures.
+# how long a call of each dependence test takes; how long `ped show` takes, and how much memory, on programs of 64 KiB,
+# 256 KiB and 1 MiB that are read; how long it takes for each pair of references, and how much memory, on nests of two and of
+# six loops, up to the limit of pairs; and how much stack it needs on programs at the limits of the language. It is no part of
+# the gate, and needs GNU time and awk. docs/PERFORMANCE.md says how to read the figures.
 #
 # usage: tools/bench.sh [RUNS]      of so many runs (5 where it isn't said) the least counts
 set -eu
@@ -71,6 +72,74 @@ commented() {
             printf "%s", end
         }
     '
+}
+
+# Two loops in one another with so many statements of two reads and a write of one array: 5 n^2 pairs of references.
+two_deep() {
+    awk -v n="$1" 'BEGIN {
+        print "      INTEGER A(100,100)"
+        print "      DO 20 I = 2, 100"
+        print "      DO 10 J = 2, 100"
+        for (k = 0; k < n; k++) print "      A(I,J) = A(I-1,J)+A(I,J-1)"
+        print "   10 CONTINUE"
+        print "   20 CONTINUE"
+        print "      END"
+    }'
+}
+
+# Six loops in one another with so many statements, of which each subscript has indices of two loops.
+six_deep() {
+    awk -v n="$1" 'BEGIN {
+        print "      INTEGER A(64,64)"
+        for (k = 1; k <= 6; k++) printf "      DO %d I%d = 2, 9\n", 70 - 10 * k, k
+        for (k = 0; k < n; k++) print "      A(I1+I2,I3+2*I4) = A(I1+I2-1,I3+I5)+A(I2+I6,I3+I4+1)"
+        for (k = 6; k >= 1; k--) printf "%5d CONTINUE\n", 70 - 10 * k
+        print "      END"
+    }'
+}
+
+# As many statements as there may be, six loops in one another, and statements of 64 references.
+many_references() {
+    awk 'BEGIN {
+        print "      INTEGER A(9)"
+        for (k = 1; k <= 6; k++) printf "      DO %d I%d = 1, 9\n", 70 - 10 * k, k
+        for (k = 0; k < 20; k++) {
+            printf "      K%d = A(1)", k
+            for (j = 1; j < 63; j++) printf "\n     &  + A(%d)", j % 9 + 1
+            print ""
+        }
+        for (k = 6; k >= 1; k--) printf "%5d CONTINUE\n", 70 - 10 * k
+        for (k = 26; k < 4000; k++) print "      L = 1"
+        print "      END"
+    }'
+}
+
+# Parentheses as deep as one statement allows, and blocks as deep as they may stand.
+deep_blocks() {
+    awk 'BEGIN {
+        for (k = 0; k < 99; k++) print "      IF (K.EQ.1) THEN"
+        printf "      K = "
+        for (k = 0; k < 640; k++) printf "%s(", k % 40 ? "" : "\n     &"
+        printf "\n     &1"
+        for (k = 0; k < 640; k++) printf "%s)", k % 40 ? "" : "\n     &"
+        print ""
+        for (k = 0; k < 99; k++) print "      END IF"
+        print "      END"
+    }'
+}
+
+# The least stack in KiB, in steps of 16, with which a file is shown.
+least_stack() {
+    local low=0 high=512 middle
+    while ((high - low > 1)); do
+        middle=$(((low + high) / 2))
+        if (ulimit -s "$((middle * 16))" && "$ped" show "$1" >"$work/shown" 2>/dev/null); then
+            high=$middle
+        else
+            low=$middle
+        fi
+    done
+    printf '%s\n' "$((high * 16))"
 }
 
 # The least of the runs' sums of what GNU time writes in this format for showing a file so many times.
@@ -199,3 +268,36 @@ for kib in 64 256 1024; do
 done
 awk '{ if (NR == 1 || $3 < least) least = $3; if ($3 > most) most = $3 }
     END { printf "greatest to least time per byte: %.2f\n", most / least }' "$work/figures"
+
+# Of each nest the pairs of references are known from its form.
+printf '\n%10s %10s %10s %12s %10s\n' nest statements pairs us/pair MiB
+rm -f -- "$work/figures"
+while read -r nest statements pairs times; do
+    file=$work/$nest-$statements.f
+    "${nest}_deep" "$statements" >"$file"
+    awk -v nest="$nest" -v statements="$statements" -v pairs="$pairs" -v times="$times" \
+        -v seconds="$(least_show '%U %S' "$file" "$times")" \
+        -v no_seconds="$(least_show '%U %S' examples/recurrence.f "$times")" \
+        -v peak="$(least_show %M "$file" 1)" 'BEGIN {
+            time = (seconds - no_seconds) * 1e6 / times / pairs
+            printf "%10s %10d %10d %12.2f %10.1f\n", nest, statements, pairs, time, peak / 1024
+        }' | tee -a "$work/figures"
+done <<'END'
+two 14 980 100
+two 45 10125 20
+two 100 50000 5
+two 141 99405 2
+two 200 200000 1
+six 14 980 20
+six 45 10125 2
+six 141 99405 1
+END
+awk '$1 == "two" { if (!seen || $4 < least) least = $4; if ($4 > most) most = $4; seen = 1 }
+    END { printf "greatest to least time per pair, two loops: %.2f\n", most / least }' "$work/figures"
+
+printf '\n%16s %10s\n' program stack/KiB
+for program in many_references deep_blocks; do
+    "$program" >"$work/$program.f"
+    "$ped" show "$work/$program.f" >"$work/shown" || head -n 3 -- "$work/shown" >&2
+    printf '%16s %10d\n' "$program" "$(least_stack "$work/$program.f")"
+done

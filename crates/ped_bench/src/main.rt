@@ -1,10 +1,11 @@
 //! Does one of ped's works so many times, for `tools/bench.sh` to measure: cuts the lines of a file into
-//! statements, prints a program of so many statements, looks up its names, or calls a dependence test. Nothing is
-//! promised of it: it prints how much came out, and times nothing itself.
+//! statements, prints a program of so many statements, looks up its names, calls a dependence test, or runs a program. Nothing
+//! is promised of it: it prints how much came out, and times nothing itself.
 #![tactic(auto)]
 
 mod dependence_tests;
 mod programs;
+mod runs;
 
 use anyhow::bail;
 use dependence_tests::excluded;
@@ -13,6 +14,7 @@ use ped_lines::statements;
 use ped_print::source_pane;
 use ped_symbols::symbols_of;
 use programs::{named_program, program};
+use runs::run;
 use std::alloc::Global;
 use std::process::ExitCode;
 use std::{env, fs};
@@ -22,10 +24,16 @@ fn main(rt: HostRuntime) -> anyhow::Result<ExitCode> {
     let words: Vec<String> = env::args(&rt)?.skip(1).collect(alloc)?;
     let [work, what, times] = words.as_slice() else {
         println!(rt;
-            "usage: ped_bench cut FILE TIMES | print STATEMENTS TIMES | names STATEMENTS TIMES | test NAME TIMES"
+            "usage: ped_bench cut FILE TIMES | print STATEMENTS TIMES | names STATEMENTS TIMES | test NAME TIMES | run FILE DATA"
         )?;
         return Ok(ExitCode::from(2));
     };
+    if work.as_str() == "run" {
+        let program = fs::read(&rt, what.as_str())?;
+        let data = fs::read(&rt, times.as_str())?;
+        println!(rt; "{}", run(alloc, &program, &data)?)?;
+        return Ok(ExitCode::SUCCESS);
+    }
     let times = times.parse::<u64>()?;
     let count = if work.as_str() == "cut" {
         let text = fs::read(&rt, what.as_str())?;

@@ -1,0 +1,6 @@
+//! Laws.
+#![tactic(auto)]
+
+mod laws;
+
+pub use laws::trial;

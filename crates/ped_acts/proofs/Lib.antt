@@ -1,0 +1,3 @@
+pub mod SameCells
+pub mod Stores
+pub mod Lists

@@ -1,3 +1,5 @@
 pub mod SameCells
 pub mod Stores
 pub mod Lists
+pub mod Clashes
+pub mod Rearranging

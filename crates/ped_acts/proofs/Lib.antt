@@ -3,3 +3,4 @@ pub mod Stores
 pub mod Lists
 pub mod Clashes
 pub mod Rearranging
+pub mod Outside

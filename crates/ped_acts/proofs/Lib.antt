@@ -4,3 +4,4 @@ pub mod Lists
 pub mod Clashes
 pub mod Rearranging
 pub mod Outside
+pub mod Reorderings

@@ -18,11 +18,15 @@ StandsBefore x y (z ∷ zs) = ((x ≡ z) × IsIn y zs) ⊎ StandsBefore x y zs
 abbrev pub EachOnce : {X : Type 0} → List X → Type 0
 EachOnce xs = (x : _) → StandsBefore x x xs → ⊥
 
+-- the two lists hold the same items (plain words)
+pub record HaveSameItems {X : Type 0} (xs ys : List X) : Type 0 where
+  pub none_lost : (x : X) → IsIn x xs → IsIn x ys
+  pub none_added : (x : X) → IsIn x ys → IsIn x xs
+
 -- the second list holds each item of the first once, and no other (plain words)
 pub record IsReordered {X : Type 0} (xs ys : List X) : Type 0 where
   pub once : EachOnce ys
-  pub none_lost : (x : X) → IsIn x xs → IsIn x ys
-  pub none_added : (x : X) → IsIn x ys → IsIn x xs
+  pub same : HaveSameItems xs ys
 
 -- two items that clash stand in the same order in both lists: each dependence is kept (Allen and Kennedy, section 2.2.3)
 abbrev pub KeepsOrder : {X : Type 0} → (X → X → Bool) → List X → List X → Type 0

@@ -5,3 +5,9 @@ pub mod Clashes
 pub mod Rearranging
 pub mod Outside
 pub mod Reorderings
+pub mod Renamings
+pub mod Walking
+pub mod Changing
+pub mod Exchanging
+pub mod RaceFree
+pub mod Conflicting

@@ -2,6 +2,7 @@ pub mod Fitting
 pub mod Sets
 pub mod Conflicts
 pub mod Orders
+pub mod Changes
 pub mod Walks
 pub mod Renaming
 pub mod Pieces

@@ -36,12 +36,26 @@ abbrev pub AllStand : List Piece → (Cell → Bool) → Store → Type 0
 AllStand [] last s = Unit {0}
 AllStand (p ∷ ps) last s = StandsFor p (agreed_before ps last) s × AllStand ps last (store_after p.old s)
 
--- an old piece and a new one (plain words)
-pub record Exchange : Type 0 where
-  pub old : List Act
-  pub new : List Act
+-- a part of a list of acts that stays as it is, or is changed (this project)
+pub data Part : Type 0 where
+  same : List Act → Part
+  changed : List Act → List Act → Part
 
--- pieces on which the stores need agree only where the old acts want it: where they read before they write, or leave unwritten what is shown at the end (this project)
-abbrev pub as_wanted : (Cell → Bool) → List Exchange → List Piece
-as_wanted shown [] = []
-as_wanted shown (e ∷ es) = record { agreed = wants shown (e.old ++ old_acts (as_wanted shown es)); old = e.old; new = e.new } ∷ as_wanted shown es
+-- the acts before the change (plain words)
+abbrev pub old_parts : List Part → List Act
+old_parts [] = []
+old_parts (same acts ∷ ps) = acts ++ old_parts ps
+old_parts (changed old new ∷ ps) = old ++ old_parts ps
+
+-- the acts behind the change (plain words)
+abbrev pub new_parts : List Part → List Act
+new_parts [] = []
+new_parts (same acts ∷ ps) = acts ++ new_parts ps
+new_parts (changed old new ∷ ps) = new ++ new_parts ps
+
+-- each changed part may stand for the old one, where the stores need agree only where the old acts want it: where they read before they write, or leave unwritten what is shown at the end (this project)
+abbrev pub PartsStand : (Cell → Bool) → List Part → Store → Type 0
+PartsStand shown [] s = Unit {0}
+PartsStand shown (same acts ∷ ps) s = PartsStand shown ps (store_after acts s)
+PartsStand shown (changed old new ∷ ps) s =
+    StandsFor (record { agreed = wants shown (old ++ old_parts ps); old = old; new = new }) (wants shown (old_parts ps)) s × PartsStand shown ps (store_after old s)

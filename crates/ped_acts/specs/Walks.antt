@@ -69,23 +69,3 @@ SideBySide before (x ∷ w) s t = MayBeMade before s t x × SideBySide (x ∷ be
 abbrev pub walked : List Stride → List Stride → List Stride
 walked before [] = before
 walked before (x ∷ w) = walked (x ∷ before) w
-
--- a change of a list of acts: an act that stays, perhaps with other writes or at another place; an act that goes; an act that comes (this project)
-pub data Change : Type 0 where
-  stays : Act → Act → Change
-  goes : Act → Change
-  comes : Act → Change
-
--- the acts before the changes (plain words)
-abbrev pub acts_before : List Change → List Act
-acts_before [] = []
-acts_before (stays a b ∷ w) = a ∷ acts_before w
-acts_before (goes a ∷ w) = a ∷ acts_before w
-acts_before (comes b ∷ w) = acts_before w
-
--- the acts behind the changes (plain words)
-abbrev pub acts_behind : List Change → List Act
-acts_behind [] = []
-acts_behind (stays a b ∷ w) = b ∷ acts_behind w
-acts_behind (goes a ∷ w) = acts_behind w
-acts_behind (comes b ∷ w) = b ∷ acts_behind w

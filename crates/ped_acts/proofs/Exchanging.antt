@@ -1,1 +1,110 @@
--- Exchanging
+-- Pieces of a list exchanged for others.
+use Rattle.std.proofs.Common.{◌≡◌, List, [], ◌∷◌, ◌++◌, Bool, true, false, ◌&&◌, ◌||◌, refl, sym, ap, subst, ◌∙◌, ◌⊎◌, inl, inr}
+use Rattle.std.specs.Prelude.{not, if◌then◌else◌}
+use Rattle.std.proofs.lemmas.Bool.{and_parts, both_ways, or_parts}
+use Rattle.std.proofs.lemmas.List.Folds.{list_any-append}
+use Rattle.ped_store.specs.Cells.{Cell, same_cell}
+use Rattle.ped_store.specs.Stores.{Store}
+use Rattle.ped_store.specs.Acts.{Manner, reads, writes, is_told, Touch, Act, store_behind}
+use Rattle.ped_store.specs.Races.{is_write}
+use Rattle.ped_acts.specs.Fitting.{Fits, store_after, touches_of}
+use Rattle.ped_acts.specs.Sets.{AgreeIn, writes_to, written_by, written, read_first, needed_by, needs, wants}
+use Rattle.ped_acts.specs.Pieces.{Piece, old_acts, new_acts, agreed_before, StandsFor, AllStand, Part, same, changed, old_parts, new_parts, PartsStand}
+use Rattle.ped_acts.proofs.Stores.{after_append, fits_append, fits_first, fits_rest}
+use Rattle.ped_acts.proofs.Renamings.{or_right, or_left, or_either, agreeing_fits, agreeing_leaves}
+use Rattle.ped_acts.proofs.Reorderings.{touches_append}
+
+pub pieces_fit : (ps : List Piece) (last : Cell → Bool) (s t : Store) → AllStand ps last s → AgreeIn (agreed_before ps last) s t → Fits (new_acts ps) t
+pieces_fit [] last s t k agree = tt
+pieces_fit (p ∷ ps) last s t k agree =
+    let h = k.0 t agree in
+    fits_append p.new (new_acts ps) t h.0 (pieces_fit ps last (store_after p.old s) (store_after p.new t) k.1 h.1)
+
+pub pieces_leave : (ps : List Piece) (last : Cell → Bool) (s t : Store) → AllStand ps last s → AgreeIn (agreed_before ps last) s t → AgreeIn last (store_after (old_acts ps) s) (store_after (new_acts ps) t)
+pieces_leave [] last s t k agree c h = agree c h
+pieces_leave (p ∷ ps) last s t k agree c h =
+    let a = k.0 t agree in
+    ap (λ z. z c) (after_append p.old (old_acts ps) s) ∙ pieces_leave ps last (store_after p.old s) (store_after p.new t) k.1 a.1 c h
+    ∙ sym (ap (λ z. z c) (after_append p.new (new_acts ps) t))
+
+-- an equal piece stands for itself
+pub same_stands : (acts : List Act) (before behind : Cell → Bool) (s : Store) → Fits acts s → ((c : Cell) → needs acts c ≡ true → before c ≡ true) → ((c : Cell) → behind c ≡ true → (before c ≡ true) ⊎ (written acts c ≡ true))
+    → StandsFor (record { agreed = before; old = acts; new = acts }) behind s
+same_stands acts before behind s f asks tells t agree = (
+  agreeing_fits acts s t (λ c h. agree c (asks c h)) f,
+  (λ c h. agreeing_leaves acts s t c (elim (tells c h) [ inl p ↦ inr (agree c p) | inr w ↦ inl w ])),
+)
+
+-- what acts and then others need
+more_needed : (xs ys : List Touch) (c : Cell) → needed_by xs c ≡ true → needed_by (xs ++ ys) c ≡ true
+more_needed [] ys c h = absurd cc
+more_needed (x ∷ xs) ys c h = go x.manner (same_cell x.cell c) (more_needed xs ys c) h
+  where
+    go : (m : Manner) (b : Bool) → (needed_by xs c ≡ true → needed_by (xs ++ ys) c ≡ true) → (if b then read_first m (needed_by xs c) else needed_by xs c) ≡ true → (if b then read_first m (needed_by (xs ++ ys) c) else needed_by (xs ++ ys) c) ≡ true
+    go reads true more h = refl
+    go writes true more h = absurd cc
+    go is_told true more h = more h
+    go m false more h = more h
+
+later_needed : (xs ys : List Touch) (c : Cell) → needed_by ys c ≡ true → written_by xs c ≡ false → needed_by (xs ++ ys) c ≡ true
+later_needed [] ys c h n = h
+later_needed (x ∷ xs) ys c h n = let p = or_parts (writes_to x c) (written_by xs c) n in go x.manner (same_cell x.cell c) (later_needed xs ys c h p.1) p.0
+  where
+    go : (m : Manner) (b : Bool) → needed_by (xs ++ ys) c ≡ true → is_write m && b ≡ false → (if b then read_first m (needed_by (xs ++ ys) c) else needed_by (xs ++ ys) c) ≡ true
+    go reads true more h = refl
+    go writes true more h = absurd cc
+    go is_told true more h = more
+    go m false more h = more
+
+not_true : (b : Bool) → not b ≡ true → b ≡ false
+not_true true h = absurd cc
+not_true false h = refl
+
+not_false : (b : Bool) → b ≡ false → not b ≡ true
+not_false true h = absurd cc
+not_false false h = refl
+
+-- what acts need, acts and then others want
+pub needed_wanted : (shown : Cell → Bool) (xs ys : List Act) (c : Cell) → needs xs c ≡ true → wants shown (xs ++ ys) c ≡ true
+needed_wanted shown xs ys c h =
+    or_left (needs (xs ++ ys) c) (shown c && not (written (xs ++ ys) c)) (ap (λ z. needed_by z c) (touches_append xs ys) ∙ more_needed (touches_of xs) (touches_of ys) c h)
+
+-- what others want, acts and then the others want where the acts don't write it
+pub wanted_before : (shown : Cell → Bool) (xs ys : List Act) (c : Cell) → wants shown ys c ≡ true → (wants shown (xs ++ ys) c ≡ true) ⊎ (written xs c ≡ true)
+wanted_before shown xs ys c h = go (written xs c) refl
+  where
+    case : written xs c ≡ false → (needs ys c ≡ true) ⊎ (shown c && not (written ys c) ≡ true) → wants shown (xs ++ ys) c ≡ true
+    case n (inl k) = or_left (needs (xs ++ ys) c) (shown c && not (written (xs ++ ys) c)) (ap (λ z. needed_by z c) (touches_append xs ys) ∙ later_needed (touches_of xs) (touches_of ys) c k n)
+    case n (inr k) =
+        let p = and_parts (shown c) (not (written ys c)) k in
+        let w : written (xs ++ ys) c ≡ false =
+        ap (λ z. written_by z c) (touches_append xs ys) ∙ list_any-append (λ t. writes_to t c) (touches_of xs) (touches_of ys) ∙ ap (λ b. b || written ys c) n ∙ not_true (written ys c) p.1 in
+        or_right (needs (xs ++ ys) c) (shown c && not (written (xs ++ ys) c)) (ap (λ b. b && not (written (xs ++ ys) c)) p.0 ∙ not_false (written (xs ++ ys) c) w)
+
+    go : (b : Bool) → written xs c ≡ b → (wants shown (xs ++ ys) c ≡ true) ⊎ (written xs c ≡ true)
+    go true p = inr p
+    go false p = inl (case p (or_either (needs ys c) (shown c && not (written ys c)) h))
+
+-- at the end is wanted what is shown
+pub shown_wanted : (shown : Cell → Bool) (c : Cell) → shown c ≡ true → wants shown [] c ≡ true
+shown_wanted shown c h = ap (λ b. b && true) h
+
+pub parts_fit : (shown : Cell → Bool) (ps : List Part) (s t : Store) → PartsStand shown ps s → AgreeIn (wants shown (old_parts ps)) s t → Fits (old_parts ps) s → Fits (new_parts ps) t
+parts_fit shown [] s t k agree f = tt
+parts_fit shown (same acts ∷ ps) s t k agree f =
+    let h = same_stands acts (wants shown (acts ++ old_parts ps)) (wants shown (old_parts ps)) s (fits_first acts (old_parts ps) s f) (needed_wanted shown acts (old_parts ps)) (wanted_before shown acts (old_parts ps)) t agree in
+    fits_append acts (new_parts ps) t h.0 (parts_fit shown ps (store_after acts s) (store_after acts t) k h.1 (fits_rest acts (old_parts ps) s f))
+parts_fit shown (changed old new ∷ ps) s t k agree f =
+    let h = k.0 t agree in
+    fits_append new (new_parts ps) t h.0 (parts_fit shown ps (store_after old s) (store_after new t) k.1 h.1 (fits_rest old (old_parts ps) s f))
+
+pub parts_leave : (shown : Cell → Bool) (ps : List Part) (s t : Store) → PartsStand shown ps s → AgreeIn (wants shown (old_parts ps)) s t → Fits (old_parts ps) s → AgreeIn shown (store_after (old_parts ps) s) (store_after (new_parts ps) t)
+parts_leave shown [] s t k agree f c h = agree c (shown_wanted shown c h)
+parts_leave shown (same acts ∷ ps) s t k agree f c h =
+    let a = same_stands acts (wants shown (acts ++ old_parts ps)) (wants shown (old_parts ps)) s (fits_first acts (old_parts ps) s f) (needed_wanted shown acts (old_parts ps)) (wanted_before shown acts (old_parts ps)) t agree in
+    ap (λ z. z c) (after_append acts (old_parts ps) s) ∙ parts_leave shown ps (store_after acts s) (store_after acts t) k a.1 (fits_rest acts (old_parts ps) s f) c h
+    ∙ sym (ap (λ z. z c) (after_append acts (new_parts ps) t))
+parts_leave shown (changed old new ∷ ps) s t k agree f c h =
+    let a = k.0 t agree in
+    ap (λ z. z c) (after_append old (old_parts ps) s) ∙ parts_leave shown ps (store_after old s) (store_after new t) k.1 a.1 (fits_rest old (old_parts ps) s f) c h
+    ∙ sym (ap (λ z. z c) (after_append new (new_parts ps) t))

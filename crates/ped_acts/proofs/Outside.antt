@@ -60,10 +60,10 @@ dropped d reads c h = tt
 dropped d is_told c h = tt
 
 -- the first of the touches without the writes to the set
-kept_first : (d : Cell → Bool) (x : Touch) (xs : List Touch) → is_write x.manner && d x.cell ≡ false → touches_without d (x ∷ xs) ≡ x ∷ touches_without d xs
+pub kept_first : (d : Cell → Bool) (x : Touch) (xs : List Touch) → is_write x.manner && d x.cell ≡ false → touches_without d (x ∷ xs) ≡ x ∷ touches_without d xs
 kept_first d x xs h = rw h refl
 
-dropped_first : (d : Cell → Bool) (x : Touch) (xs : List Touch) → is_write x.manner && d x.cell ≡ true → touches_without d (x ∷ xs) ≡ touches_without d xs
+pub dropped_first : (d : Cell → Bool) (x : Touch) (xs : List Touch) → is_write x.manner && d x.cell ≡ true → touches_without d (x ∷ xs) ≡ touches_without d xs
 dropped_first d x xs h = rw h refl
 
 pub without_behind : (d : Cell → Bool) (ts : List Touch) (s t : Store) → AgreeOutside d s t → AgreeOutside d (store_behind ts s) (store_behind (touches_without d ts) t)

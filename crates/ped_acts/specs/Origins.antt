@@ -1,9 +1,28 @@
--- Where the accesses of a new list come from (this project).
-use Rattle.std.specs.Prelude.{◌≡◌, List, true, Bool, false, ◌⊎◌}
+-- Acts and the accesses that races are told by: which accesses conflict where acts do, and where the accesses of a new list come from (this project).
+use Rattle.std.specs.Prelude.{◌≡◌, List, Bool, true, false, ◌&&◌}
+use Rattle.std.specs.List.{list_any}
 use Rattle.ped_store.specs.Cells.{Cell, same_cell}
-use Rattle.ped_store.specs.Acts.{Touch, Act, is_told}
-use Rattle.ped_store.specs.Races.{Access, accesses, is_lines, are_apart}
+use Rattle.ped_store.specs.Acts.{Manner, reads, writes, is_told, Touch, Turn, Act}
+use Rattle.ped_store.specs.Races.{Access, accesses, is_lines, is_write, are_apart}
 use Rattle.ped_acts.specs.Orders.{IsIn}
+
+-- the place tells the value (plain words)
+abbrev pub is_told_value : Manner → Bool
+is_told_value is_told = true
+is_told_value reads = false
+is_told_value writes = false
+
+-- an act that is told the value of the variable with this cell (this project)
+abbrev pub told_to : Act → Cell → Bool
+told_to a c = list_any (λ t. is_told_value t.manner && same_cell t.cell c) a.touches
+
+-- an act that touches the data or the output writes them, since a READ takes lines and a PRINT adds one (ANSI X3.9-1978, section 12.8; this project)
+abbrev pub WritesItsLines : Act → Type 0
+WritesItsLines a = (t : Touch) → IsIn t a.touches → is_lines t.cell ≡ true → (u : Touch) × IsIn u a.touches × (is_write u.manner ≡ true) × (same_cell u.cell t.cell ≡ true)
+
+-- iterations of one DO are all of a PARALLEL DO, or none is (plain words)
+abbrev pub AreOfOneKind : List Turn → List Turn → Type 0
+AreOfOneKind ts us = (t u : Turn) → IsIn t ts → IsIn u us → t.statement ≡ u.statement → t.parallel ≡ u.parallel
 
 -- two accesses stand in two iterations of one execution of a PARALLEL DO, whichever is the earlier (this project)
 abbrev pub StandApart : Access → Access → Type 0

@@ -1,6 +1,7 @@
 pub mod SameCells
 pub mod Stores
 pub mod Lists
+pub mod OfCells
 pub mod Clashes
 pub mod Rearranging
 pub mod Outside

@@ -1,5 +1,5 @@
 -- Lists without a race.
-use Rattle.std.proofs.Common.{◌≡◌, ℕ, List, [], ◌∷◌, ◌++◌, Bool, true, false, ◌&&◌, ◌||◌, eqb, eqb-true, refl, sym, ap, subst, ◌∙◌, arith, ◌⊎◌, inl, inr}
+use Rattle.std.proofs.Common.{◌≡◌, ℕ, List, [], ◌∷◌, ◌++◌, Bool, true, false, ◌&&◌, ◌||◌, Option, Some, None, eqb, eqb-true, refl, sym, ap, subst, ◌∙◌, arith, ◌⊎◌, inl, inr}
 use Rattle.std.specs.Prelude.{if◌then◌else◌}
 use Rattle.std.specs.List.{All, AllByRecursion}
 use Rattle.std.proofs.lemmas.List.Elements.{All-from_recursion, recursion_from_All}
@@ -73,24 +73,21 @@ write_flip true b h = or_right b true refl
 write_flip false b h = or_left b false h
 
 -- a list whose accesses have origins in a list without a race has none
-pub origins_race_free : (from : Access → Access) (acts others : List Act) → HaveOrigins from acts others → HasNoRace (accesses acts) → HasNoRace (accesses others)
+pub origins_race_free : (from : Access → Option Access) (acts others : List Act) → HaveOrigins from acts others → HasNoRace (accesses acts) → HasNoRace (accesses others)
 origins_race_free from acts others o free = no_race_from (accesses others) each
   where
-    meets : (p q : Access) → IsIn p (accesses others) → IsIn q (accesses others) → race p q ≡ true → ⊥
-    meets p q i j h =
-        let r = and_parts (are_apart p.place.turns q.place.turns) (conflict p q) h in
-        let c = and_parts (same_cell p.cell q.cell) (p.writes || q.writes) r.1 in
-        let x = from p in
-        let y = from q in
-        let a = o.apart p q i j r.0 in
-        let s = o.one_cell p q i j c.0 in
+    meets : (p q x y : Access) → IsIn p (accesses others) → IsIn q (accesses others) → from p ≡ Some x → from q ≡ Some y → are_apart p.place.turns q.place.turns ≡ true → conflict p q ≡ true → ⊥
+    meets p q x y i j e f h k =
+        let c = and_parts (same_cell p.cell q.cell) (p.writes || q.writes) k in
+        let a = o.apart p q x y i j e f h in
+        let s = o.one_cell p q x y i j e f c.0 in
         let w : x.writes || y.writes ≡ true = elim (or_either p.writes q.writes c.1) [
-          | inl k ↦ or_left x.writes y.writes (o.written p i k)
-          | inr k ↦ or_right x.writes y.writes (o.written q j k)
+          | inl k ↦ or_left x.writes y.writes (o.written p x i e k)
+          | inr k ↦ or_right x.writes y.writes (o.written q y j f k)
         ] in
         let xy : race x y ≡ true = ap (λ b. b && conflict x y) a.0 ∙ ap (λ b. b && (x.writes || y.writes)) s ∙ w in
         let yx : race y x ≡ true = ap (λ b. b && conflict y x) a.1 ∙ ap (λ b. b && (y.writes || x.writes)) (cell_flip y.cell x.cell ∙ s) ∙ write_flip x.writes y.writes w in
-        elim (in_order x y (accesses acts) (o.found p i) (o.found q j)) [
+        elim (in_order x y (accesses acts) (o.found p x i e) (o.found q y j f)) [
           | inl e ↦ both_ways (are_apart x.place.turns x.place.turns) (not_apart x.place.turns) (ap (λ (z : Access). are_apart x.place.turns z.place.turns) e ∙ a.0)
           | inr k ↦ elim k [
             | inl b ↦ both_ways (race x y) (no_race_before (accesses acts) x y free b) xy
@@ -98,11 +95,18 @@ origins_race_free from acts others o free = no_race_from (accesses others) each
           ]
         ]
 
+    traced : (p q : Access) (v w : Option Access) → IsIn p (accesses others) → IsIn q (accesses others) → from p ≡ v → from q ≡ w → are_apart p.place.turns q.place.turns ≡ true → conflict p q ≡ true → ⊥
+    traced p q None w i j e f h k = both_ways (conflict p q) (o.alone p q i j e h) k
+    traced p q (Some x) None i j e f h k = both_ways (conflict p q) (o.alone_behind p q i j f h) k
+    traced p q (Some x) (Some y) i j e f h k = meets p q x y i j e f h k
+
     each : (p q : Access) → StandsBefore p q (accesses others) → race p q ≡ false
     each p q b = go (race p q) refl
       where
         go : (r : Bool) → race p q ≡ r → race p q ≡ false
-        go true h = absurd (meets p q (first_in p q (accesses others) b) (second_in p q (accesses others) b) h)
+        go true h =
+            let r = and_parts (are_apart p.place.turns q.place.turns) (conflict p q) h in
+            absurd (traced p q (from p) (from q) (first_in p q (accesses others) b) (second_in p q (accesses others) b) refl refl r.0 r.1)
         go false h = h
 
 -- acts in two iterations of one execution of a PARALLEL DO don't conflict in a list without a race

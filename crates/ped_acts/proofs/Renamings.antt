@@ -6,11 +6,12 @@ use Rattle.ped_store.specs.Cells.{Cell, same_cell}
 use Rattle.ped_store.specs.Stores.{Content, Store, put}
 use Rattle.ped_store.specs.Acts.{Manner, reads, writes, is_told, Touch, Act, touched, store_behind}
 use Rattle.ped_store.specs.Races.{is_write}
-use Rattle.ped_acts.specs.Fitting.{IsFound, Find, Fits, store_after, touches_of}
+use Rattle.ped_acts.specs.Fitting.{IsFound, Find, Fits, store_after, touches_of, has_cell, of_cells}
 use Rattle.ped_acts.specs.Sets.{AgreeIn, writes_to, written_by, written, read_first, needed_by, needs}
 use Rattle.ped_acts.specs.Walks.{OfReads}
-use Rattle.ped_acts.specs.Renaming.{IsNewCell, AreRenamed, Renamed, has_cell, touched_by, touch, IsOneToOne, IsFree, in_place_of}
+use Rattle.ped_acts.specs.Renaming.{AreRenamed, Renamed, touched_by, touch, IsOneToOne, IsFree, own_name, in_place_of}
 use Rattle.ped_acts.proofs.SameCells.{cell_itself, cell_is, is_cell, other_cell, cells_differ}
+use Rattle.ped_acts.proofs.OfCells.{find_cells, cells_find, behind_cells, written_cells, touched_cells, needed_cells}
 use Rattle.ped_acts.proofs.Stores.{put_same, put_other, touched_same, touched_other, after_is, fits_find, find_fits}
 
 pub or_right : (a b : Bool) → b ≡ true → a || b ≡ true
@@ -56,23 +57,23 @@ asked g reads c xs s t h = h c (ap (λ b. if b then true else needed_by xs c) (c
 asked g writes c xs s t h = tt
 asked g is_told c xs s t h = tt
 
-pub found_renamed : (g : Cell → Cell) (m n : Manner) (c e : Cell) (v w : Content) (s t : Store) → m ≡ n → v ≡ w → IsNewCell g m c e → OfReads m (s c ≡ t (g c)) → IsFound m c v s → IsFound n e w t
-found_renamed g m n c e v w s t p q new same f = subst (λ z. IsFound z e w t) p (go m new same f)
+pub found_renamed : (g : Cell → Cell) (m n : Manner) (c e : Cell) (v w : Content) (s t : Store) → m ≡ n → v ≡ w → e ≡ g c → OfReads m (s c ≡ t (g c)) → IsFound m c v s → IsFound n e w t
+found_renamed g m n c e v w s t p q new same f = subst (λ z. IsFound z e w t) p (go m same f)
   where
-    go : (m : Manner) → IsNewCell g m c e → OfReads m (s c ≡ t (g c)) → IsFound m c v s → IsFound m e w t
-    go reads new same f = ap t new ∙ sym same ∙ f ∙ q
-    go writes new same f = tt
-    go is_told new same f = tt
+    go : (m : Manner) → OfReads m (s c ≡ t (g c)) → IsFound m c v s → IsFound m e w t
+    go reads same f = ap t new ∙ sym same ∙ f ∙ q
+    go writes same f = tt
+    go is_told same f = tt
 
 -- stores that are alike at a cell, or get the same there, are alike behind two touches
-pub touched_renamed : (g : Cell → Cell) (m n : Manner) (c e : Cell) (v w : Content) (s t : Store) (d : Cell) → m ≡ n → v ≡ w → IsNewCell g m c e
+pub touched_renamed : (g : Cell → Cell) (m n : Manner) (c e : Cell) (v w : Content) (s t : Store) (d : Cell) → m ≡ n → v ≡ w → e ≡ g c
     → (is_write m ≡ true → g c ≡ g d → c ≡ d) → (is_write m && same_cell c d ≡ false → s d ≡ t (g d)) → touched m c v s d ≡ touched n e w t (g d)
-touched_renamed g m n c e v w s t d p q new free same = subst (λ z. touched m c v s d ≡ touched z e w t (g d)) p (go m new free same)
+touched_renamed g m n c e v w s t d p q new free same = subst (λ z. touched m c v s d ≡ touched z e w t (g d)) p (go m free same)
   where
-    go : (m : Manner) → IsNewCell g m c e → (is_write m ≡ true → g c ≡ g d → c ≡ d) → (is_write m && same_cell c d ≡ false → s d ≡ t (g d)) → touched m c v s d ≡ touched m e w t (g d)
-    go reads new free same = same refl
-    go is_told new free same = same refl
-    go writes new free same = at (same_cell c d) refl
+    go : (m : Manner) → (is_write m ≡ true → g c ≡ g d → c ≡ d) → (is_write m && same_cell c d ≡ false → s d ≡ t (g d)) → touched m c v s d ≡ touched m e w t (g d)
+    go reads free same = same refl
+    go is_told free same = same refl
+    go writes free same = at (same_cell c d) refl
       where
         at : (b : Bool) → same_cell c d ≡ b → put c v s d ≡ put e w t (g d)
         at true r = put_same c v s d r ∙ q ∙ sym (put_same e w t (g d) (is_cell e (g d) (new ∙ ap g (cell_is c d r))))
@@ -159,16 +160,11 @@ renamed_from g (x ∷ xs) (y ∷ ys) d r h = elim (or_either (writes_to y d) (wr
   | inr q ↦ let k = renamed_from g xs ys d r.3 q in (k.0, or_right (writes_to x k.0) (written_by xs k.0) k.1, k.2)
 ]
   where
-    new : (m : Manner) → is_write m ≡ true → IsNewCell g m x.cell y.cell → y.cell ≡ g x.cell
-    new writes w n = n
-    new reads w n = absurd cc
-    new is_told w n = absurd cc
-
     head : writes_to y d ≡ true → (c : Cell) × (written_by (x ∷ xs) c ≡ true) × (g c ≡ d)
     head p =
         let q = and_parts (is_write y.manner) (same_cell y.cell d) p in
         let w : is_write x.manner ≡ true = ap is_write r.0 ∙ q.0 in
-        (x.cell, or_left (writes_to x x.cell) (written_by xs x.cell) (writes_itself x.manner x.cell w), sym (new x.manner w r.2) ∙ cell_is y.cell d q.1)
+        (x.cell, or_left (writes_to x x.cell) (written_by xs x.cell) (writes_itself x.manner x.cell w), sym r.2 ∙ cell_is y.cell d q.1)
 
 pub renamed_other : (g : Cell → Cell) (xs ys : List Touch) (t : Store) (d : Cell) → AreRenamed g xs ys → ((c : Cell) → written_by xs c ≡ true → g c ≡ d → ⊥) → store_behind ys t d ≡ t d
 renamed_other g xs ys t d r none = behind_other ys t d (go (written_by ys d) refl)
@@ -179,37 +175,60 @@ renamed_other g xs ys t d r none = behind_other ys t d (go (written_by ys d) ref
 
 -- of acts
 pub renamed_fits : (g : Cell → Cell) (acts others : List Act) (s t : Store) → Renamed g acts others → IsOneToOne g acts → ((c : Cell) → needs acts c ≡ true → s c ≡ t (g c)) → Fits acts s → Fits others t
-renamed_fits g acts others s t r one alike f = find_fits others t (renamed_find g (touches_of acts) (touches_of others) s t r one alike (fits_find acts s f))
+renamed_fits g acts others s t r one alike f =
+    find_fits others t
+    (cells_find (touches_of others) t
+    (renamed_find g (of_cells (touches_of acts)) (of_cells (touches_of others)) s t r
+    (λ c d p q. one c d (sym (touched_cells (touches_of acts) c) ∙ p) (sym (touched_cells (touches_of acts) d) ∙ q))
+    (λ c p. alike c (sym (needed_cells (touches_of acts) c) ∙ p))
+    (find_cells (touches_of acts) s (fits_find acts s f))))
 
-at_cell : (acts others : List Act) (s t : Store) (c d : Cell) → store_behind (touches_of acts) s c ≡ store_behind (touches_of others) t d → store_after acts s c ≡ store_after others t d
-at_cell acts others s t c d h = ap (λ z. z c) (after_is acts s) ∙ h ∙ ap (λ z. z d) (sym (after_is others t))
+-- what acts leave in a cell
+left_by : (acts : List Act) (s : Store) (c : Cell) → store_after acts s c ≡ store_behind (of_cells (touches_of acts)) s c
+left_by acts s c = ap (λ z. z c) (after_is acts s ∙ sym (behind_cells (touches_of acts) s))
 
 pub renamed_leaves : (g : Cell → Cell) (acts others : List Act) (s t : Store) (c : Cell) → Renamed g acts others → IsFree g acts c → (written acts c ≡ true) ⊎ (s c ≡ t (g c)) → store_after acts s c ≡ store_after others t (g c)
-renamed_leaves g acts others s t c r free (inl h) = at_cell acts others s t c (g c) (renamed_written g (touches_of acts) (touches_of others) s t c r free h)
-renamed_leaves g acts others s t c r free (inr h) = at_cell acts others s t c (g c) (renamed_alike g (touches_of acts) (touches_of others) s t c r free h)
+renamed_leaves g acts others s t c r free h = left_by acts s c ∙ go h ∙ sym (left_by others t (g c))
+  where
+    free' : (d : Cell) → written_by (of_cells (touches_of acts)) d ≡ true → g d ≡ g c → d ≡ c
+    free' d p = free d (sym (written_cells (touches_of acts) d) ∙ p)
+
+    go : (written acts c ≡ true) ⊎ (s c ≡ t (g c)) → store_behind (of_cells (touches_of acts)) s c ≡ store_behind (of_cells (touches_of others)) t (g c)
+    go (inl w) = renamed_written g (of_cells (touches_of acts)) (of_cells (touches_of others)) s t c r free' (written_cells (touches_of acts) c ∙ w)
+    go (inr e) = renamed_alike g (of_cells (touches_of acts)) (of_cells (touches_of others)) s t c r free' e
 
 pub renamed_keeps : (g : Cell → Cell) (acts others : List Act) (t : Store) (d : Cell) → Renamed g acts others → ((c : Cell) → written acts c ≡ true → g c ≡ d → ⊥) → store_after others t d ≡ t d
-renamed_keeps g acts others t d r none = ap (λ z. z d) (after_is others t) ∙ renamed_other g (touches_of acts) (touches_of others) t d r none
+renamed_keeps g acts others t d r none =
+    left_by others t d ∙ renamed_other g (of_cells (touches_of acts)) (of_cells (touches_of others)) t d r (λ c p. none c (sym (written_cells (touches_of acts) c) ∙ p))
+
+-- all cells have new names, no two the same
+pub all_fit : (g : Cell → Cell) (acts others : List Act) (s t : Store) → Renamed g acts others → ((c d : Cell) → g c ≡ g d → c ≡ d) → ((c : Cell) → s c ≡ t (g c)) → Fits acts s → Fits others t
+all_fit g acts others s t r one alike = renamed_fits g acts others s t r (λ c d p q. one c d) (λ c p. alike c)
+
+pub all_leave : (g : Cell → Cell) (acts others : List Act) (s t : Store) → Renamed g acts others → ((c d : Cell) → g c ≡ g d → c ≡ d) → ((c : Cell) → s c ≡ t (g c)) → (c : Cell) → store_after acts s c ≡ store_after others t (g c)
+all_leave g acts others s t r one alike c = renamed_leaves g acts others s t c r (λ d p. one d c) (inr (alike c))
 
 -- a cell that acts don't write keeps its content
 pub after_other : (acts : List Act) (s : Store) (c : Cell) → written acts c ≡ false → store_after acts s c ≡ s c
 after_other acts s c h = ap (λ z. z c) (after_is acts s) ∙ behind_other (touches_of acts) s c h
 
 -- the same touches
-pub own_names : (ts : List Touch) → AreRenamed (λ c. c) ts ts
+pub own_names : (ts : List Touch) → AreRenamed own_name ts ts
 own_names [] = tt
-own_names (t ∷ ts) = (refl, refl, own t.manner t.cell, own_names ts)
-  where
-    own : (m : Manner) (c : Cell) → IsNewCell (λ c. c) m c c
-    own reads c = refl
-    own writes c = refl
-    own is_told c = tt
+own_names (t ∷ ts) = (refl, refl, refl, own_names ts)
+
+-- the same reads and writes by other acts
+pub same_fits : (acts others : List Act) (s t : Store) → Renamed own_name acts others → AgreeIn (needs acts) s t → Fits acts s → Fits others t
+same_fits acts others s t r agree = renamed_fits own_name acts others s t r (λ c d p q e. e) agree
+
+pub same_leaves : (acts others : List Act) (s t : Store) (c : Cell) → Renamed own_name acts others → (written acts c ≡ true) ⊎ (s c ≡ t c) → store_after acts s c ≡ store_after others t c
+same_leaves acts others s t c r h = renamed_leaves own_name acts others s t c r (λ d p e. e) h
 
 pub agreeing_fits : (acts : List Act) (s t : Store) → AgreeIn (needs acts) s t → Fits acts s → Fits acts t
-agreeing_fits acts s t agree = renamed_fits (λ c. c) acts acts s t (own_names (touches_of acts)) (λ c d p q e. e) agree
+agreeing_fits acts s t agree = same_fits acts acts s t (own_names (of_cells (touches_of acts))) agree
 
 pub agreeing_leaves : (acts : List Act) (s t : Store) (c : Cell) → (written acts c ≡ true) ⊎ (s c ≡ t c) → store_after acts s c ≡ store_after acts t c
-agreeing_leaves acts s t c h = renamed_leaves (λ c. c) acts acts s t c (own_names (touches_of acts)) (λ d p e. e) h
+agreeing_leaves acts s t c h = same_leaves acts acts s t c (own_names (of_cells (touches_of acts))) h
 
 -- one cell with a new name
 named : (c d x : Cell) → same_cell c x ≡ true → in_place_of c d x ≡ d

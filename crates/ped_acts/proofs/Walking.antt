@@ -4,9 +4,10 @@ use Rattle.std.specs.Bool.{MatchBool}
 use Rattle.ped_store.specs.Cells.{Cell}
 use Rattle.ped_store.specs.Stores.{Content, Store}
 use Rattle.ped_store.specs.Acts.{Manner, reads, writes, is_told, Touch, Act, touched, store_behind}
-use Rattle.ped_acts.specs.Fitting.{IsFound, Find, Fits, store_after, touches_of}
+use Rattle.ped_acts.specs.Fitting.{IsFound, Find, Fits, store_after, touches_of, has_cell, of_cells}
 use Rattle.ped_acts.specs.Sets.{writes_to}
 use Rattle.ped_acts.specs.Walks.{Stride, both, old_alone, new_alone, olds, news, in_step, SameSource, new_store, OfReads, MayBeMade, SideBySide, walked}
+use Rattle.ped_acts.proofs.OfCells.{stays_first, goes_first, find_cells, cells_find, behind_cells}
 use Rattle.ped_acts.proofs.Stores.{touched_same, touched_other, after_is, fits_find, find_fits}
 
 -- the stores at this moment hold the same where the source is one
@@ -54,14 +55,18 @@ walk_behind (both x y ∷ w) before s t u v k h =
 walk_behind (old_alone x ∷ w) before s t u v k h = walk_behind w (old_alone x ∷ before) s t (touched x.manner x.cell x.content u) v k.1 (old_alike before s t u v x h)
 walk_behind (new_alone y ∷ w) before s t u v k h = walk_behind w (new_alone y ∷ before) s t u (touched y.manner y.cell y.content v) k.1 (new_alike before s t u v y h)
 
-pub beside_fits : (w : List Stride) (acts others : List Act) (s t : Store) → touches_of acts ≡ olds w → touches_of others ≡ news w → SideBySide [] w s t → Fits acts s → Fits others t
+pub beside_fits : (w : List Stride) (acts others : List Act) (s t : Store) → of_cells (touches_of acts) ≡ of_cells (olds w) → of_cells (touches_of others) ≡ of_cells (news w) → SideBySide [] w s t → Fits acts s → Fits others t
 beside_fits w acts others s t a b k f =
-    find_fits others t (subst (λ z. Find z t) (sym b) (walk_find w [] s t s t k (λ c d e. e) refl (subst (λ z. Find z s) a (fits_find acts s f))))
+    let f' = cells_find (olds w) s (subst (λ z. Find z s) a (find_cells (touches_of acts) s (fits_find acts s f))) in
+    let g = find_cells (news w) t (walk_find w [] s t s t k (λ c d e. e) refl f') in
+    find_fits others t (cells_find (touches_of others) t (subst (λ z. Find z t) (sym b) g))
 
-pub beside_leaves : (w : List Stride) (acts others : List Act) (s t : Store) → touches_of acts ≡ olds w → touches_of others ≡ news w → SideBySide [] w s t → (c d : Cell) → SameSource (walked [] w) s t c d → store_after acts s c ≡ store_after others t d
-beside_leaves w acts others s t a b k c d e =
-    ap (λ z. z c) (after_is acts s) ∙ ap (λ z. store_behind z s c) a ∙ walk_behind w [] s t s t k (λ c d e. e) c d e
-    ∙ sym (ap (λ z. z d) (after_is others t) ∙ ap (λ z. store_behind z t d) b)
+-- what acts leave in a cell, by their reads and writes
+left_by : (acts : List Act) (ts : List Touch) (s : Store) (c : Cell) → of_cells (touches_of acts) ≡ of_cells ts → store_after acts s c ≡ store_behind ts s c
+left_by acts ts s c a = ap (λ z. z c) (after_is acts s ∙ sym (behind_cells (touches_of acts) s)) ∙ ap (λ z. store_behind z s c) a ∙ ap (λ z. z c) (behind_cells ts s)
+
+pub beside_leaves : (w : List Stride) (acts others : List Act) (s t : Store) → of_cells (touches_of acts) ≡ of_cells (olds w) → of_cells (touches_of others) ≡ of_cells (news w) → SideBySide [] w s t → (c d : Cell) → SameSource (walked [] w) s t c d → store_after acts s c ≡ store_after others t d
+beside_leaves w acts others s t a b k c d e = left_by acts (olds w) s c a ∙ walk_behind w [] s t s t k (λ c d e. e) c d e ∙ sym (left_by others (news w) t d b)
 
 -- touches that meet one by one
 pub olds_in_step : (xs ys : List Touch) → olds (in_step xs ys) ≡ xs
@@ -76,9 +81,27 @@ news_in_step [] (y ∷ ys) = ap (λ z. y ∷ z) (news_in_step [] ys)
 news_in_step (x ∷ xs) [] = news_in_step xs []
 news_in_step (x ∷ xs) (y ∷ ys) = ap (λ z. y ∷ z) (news_in_step xs ys)
 
--- what cells hold by the strides so far, in the old list
-abbrev pub old_store : List Stride → Store → Store
-old_store [] s = s
-old_store (both x y ∷ before) s = touched x.manner x.cell x.content (old_store before s)
-old_store (old_alone x ∷ before) s = touched x.manner x.cell x.content (old_store before s)
-old_store (new_alone y ∷ before) s = old_store before s
+-- the same reads and writes, told values aside
+no_told : (ts : List Touch) → of_cells (of_cells ts) ≡ of_cells ts
+no_told [] = refl
+no_told (x ∷ xs) = go (no_told xs) (has_cell x.manner) refl
+  where
+    go : of_cells (of_cells xs) ≡ of_cells xs → (b : Bool) → has_cell x.manner ≡ b → of_cells (of_cells (x ∷ xs)) ≡ of_cells (x ∷ xs)
+    go more true h = ap of_cells (stays_first x xs h) ∙ stays_first x (of_cells xs) h ∙ ap (λ z. x ∷ z) more ∙ sym (stays_first x xs h)
+    go more false h = ap of_cells (goes_first x xs h) ∙ more ∙ sym (goes_first x xs h)
+
+-- the walk in which the reads and writes of two lists of acts meet one by one
+abbrev meeting : List Act → List Act → List Stride
+meeting acts others = in_step (of_cells (touches_of acts)) (of_cells (touches_of others))
+
+pub meeting_fits : (acts others : List Act) (s t : Store) → SideBySide [] (meeting acts others) s t → Fits acts s → Fits others t
+meeting_fits acts others s t =
+    beside_fits (meeting acts others) acts others s t
+    (sym (ap of_cells (olds_in_step (of_cells (touches_of acts)) (of_cells (touches_of others))) ∙ no_told (touches_of acts)))
+    (sym (ap of_cells (news_in_step (of_cells (touches_of acts)) (of_cells (touches_of others))) ∙ no_told (touches_of others)))
+
+pub meeting_leaves : (acts others : List Act) (s t : Store) → SideBySide [] (meeting acts others) s t → (c d : Cell) → SameSource (walked [] (meeting acts others)) s t c d → store_after acts s c ≡ store_after others t d
+meeting_leaves acts others s t =
+    beside_leaves (meeting acts others) acts others s t
+    (sym (ap of_cells (olds_in_step (of_cells (touches_of acts)) (of_cells (touches_of others))) ∙ no_told (touches_of acts)))
+    (sym (ap of_cells (news_in_step (of_cells (touches_of acts)) (of_cells (touches_of others))) ∙ no_told (touches_of others)))

@@ -1,5 +1,5 @@
 -- What it means that acts are done from a store: each read finds its content (this project).
-use Rattle.std.specs.Prelude.{◌≡◌, List, [], ◌∷◌, ◌++◌}
+use Rattle.std.specs.Prelude.{◌≡◌, List, [], ◌∷◌, ◌++◌, Bool, true, false, filter}
 use Rattle.ped_store.specs.Cells.{Cell}
 use Rattle.ped_store.specs.Stores.{Content, Store}
 use Rattle.ped_store.specs.Acts.{Manner, reads, writes, is_told, Touch, Act, touched, store_behind}
@@ -29,3 +29,13 @@ store_after (a ∷ acts) s = store_after acts (store_behind a.touches s)
 abbrev pub touches_of : List Act → List Touch
 touches_of [] = []
 touches_of (a ∷ acts) = a.touches ++ touches_of acts
+
+-- a read or a write of a cell, and no value that the place tells (plain words)
+abbrev pub has_cell : Manner → Bool
+has_cell reads = true
+has_cell writes = true
+has_cell is_told = false
+
+-- touches without the values that the place tells (this project)
+abbrev pub of_cells : List Touch → List Touch
+of_cells ts = filter (λ t. has_cell t.manner) ts

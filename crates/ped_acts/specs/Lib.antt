@@ -1,9 +1,9 @@
-pub mod Fitting
-pub mod Sets
-pub mod Conflicts
-pub mod Orders
 pub mod Changes
-pub mod Walks
-pub mod Renaming
-pub mod Pieces
+pub mod Conflicts
+pub mod Fitting
+pub mod Orders
 pub mod Origins
+pub mod Pieces
+pub mod Renaming
+pub mod Sets
+pub mod Walks

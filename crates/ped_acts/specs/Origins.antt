@@ -1,9 +1,9 @@
 -- Acts and the accesses that races are told by: which accesses conflict where acts do, and where the accesses of a new list come from (this project).
-use Rattle.std.specs.Prelude.{◌≡◌, List, Bool, true, false, ◌&&◌}
+use Rattle.std.specs.Prelude.{◌≡◌, List, Bool, true, false, ◌&&◌, Option, Some, None}
 use Rattle.std.specs.List.{list_any}
 use Rattle.ped_store.specs.Cells.{Cell, same_cell}
 use Rattle.ped_store.specs.Acts.{Manner, reads, writes, is_told, Touch, Turn, Act}
-use Rattle.ped_store.specs.Races.{Access, accesses, is_lines, is_write, are_apart}
+use Rattle.ped_store.specs.Races.{Access, accesses, is_lines, is_write, conflict, are_apart}
 use Rattle.ped_acts.specs.Orders.{IsIn}
 
 -- the place tells the value (plain words)
@@ -28,9 +28,11 @@ AreOfOneKind ts us = (t u : Turn) → IsIn t ts → IsIn u us → t.statement �
 abbrev pub StandApart : Access → Access → Type 0
 StandApart a b = (are_apart a.place.turns b.place.turns ≡ true) × (are_apart b.place.turns a.place.turns ≡ true)
 
--- each access of the new acts comes from one of the old acts: from a write where it is one; accesses of one cell come from accesses of one cell; and accesses in two iterations of a PARALLEL DO come from accesses in such (this project)
-pub record HaveOrigins (from : Access → Access) (acts others : List Act) : Type 0 where
-  pub found : (b : Access) → IsIn b (accesses others) → IsIn (from b) (accesses acts)
-  pub written : (b : Access) → IsIn b (accesses others) → b.writes ≡ true → (from b).writes ≡ true
-  pub one_cell : (b c : Access) → IsIn b (accesses others) → IsIn c (accesses others) → same_cell b.cell c.cell ≡ true → same_cell (from b).cell (from c).cell ≡ true
-  pub apart : (b c : Access) → IsIn b (accesses others) → IsIn c (accesses others) → are_apart b.place.turns c.place.turns ≡ true → StandApart (from b) (from c)
+-- each access of the new acts comes from one of the old acts: from a write where it is one; accesses of one cell come from accesses of one cell; and accesses in two iterations of a PARALLEL DO come from accesses in such. An access without an origin conflicts with none of another iteration, as a DO's own stores do, or the read of what nothing there writes (this project)
+pub record HaveOrigins (from : Access → Option Access) (acts others : List Act) : Type 0 where
+  pub found : (b x : Access) → IsIn b (accesses others) → from b ≡ Some x → IsIn x (accesses acts)
+  pub written : (b x : Access) → IsIn b (accesses others) → from b ≡ Some x → b.writes ≡ true → x.writes ≡ true
+  pub one_cell : (b c x y : Access) → IsIn b (accesses others) → IsIn c (accesses others) → from b ≡ Some x → from c ≡ Some y → same_cell b.cell c.cell ≡ true → same_cell x.cell y.cell ≡ true
+  pub apart : (b c x y : Access) → IsIn b (accesses others) → IsIn c (accesses others) → from b ≡ Some x → from c ≡ Some y → are_apart b.place.turns c.place.turns ≡ true → StandApart x y
+  pub alone : (b c : Access) → IsIn b (accesses others) → IsIn c (accesses others) → from b ≡ None → are_apart b.place.turns c.place.turns ≡ true → conflict b c ≡ false
+  pub alone_behind : (b c : Access) → IsIn b (accesses others) → IsIn c (accesses others) → from c ≡ None → are_apart b.place.turns c.place.turns ≡ true → conflict b c ≡ false

@@ -2,32 +2,20 @@
 use Rattle.std.specs.Prelude.{◌≡◌, List, [], ◌∷◌, Bool, true, false, ◌&&◌, if◌then◌else◌}
 use Rattle.std.specs.List.{list_any}
 use Rattle.ped_store.specs.Cells.{Cell, same_cell}
-use Rattle.ped_store.specs.Acts.{Manner, reads, writes, is_told, Touch, Act}
-use Rattle.ped_acts.specs.Fitting.{touches_of}
+use Rattle.ped_store.specs.Acts.{Touch, Act}
+use Rattle.ped_acts.specs.Fitting.{touches_of, has_cell, of_cells}
 use Rattle.ped_acts.specs.Sets.{written}
-
--- a touch of the new cell for a touch of the old one; a value that the place tells has no cell (this project)
-abbrev pub IsNewCell : (Cell → Cell) → Manner → Cell → Cell → Type 0
-IsNewCell g reads c d = d ≡ g c
-IsNewCell g writes c d = d ≡ g c
-IsNewCell g is_told c d = Unit {0}
 
 -- the same touches in the same order on renamed cells, whatever references make them (this project)
 abbrev pub AreRenamed : (Cell → Cell) → List Touch → List Touch → Type 0
 AreRenamed g [] [] = Unit {0}
 AreRenamed g [] (y ∷ ys) = ⊥
 AreRenamed g (x ∷ xs) [] = ⊥
-AreRenamed g (x ∷ xs) (y ∷ ys) = (x.manner ≡ y.manner) × (x.content ≡ y.content) × IsNewCell g x.manner x.cell y.cell × AreRenamed g xs ys
+AreRenamed g (x ∷ xs) (y ∷ ys) = (x.manner ≡ y.manner) × (x.content ≡ y.content) × (y.cell ≡ g x.cell) × AreRenamed g xs ys
 
--- acts whose touches, one after the other, are those of other acts on renamed cells, whatever their steps and places (this project)
+-- the touches of the new acts, one after the other, are those of the old acts on renamed cells, whatever the steps and places of the acts are and what their places tell (this project)
 abbrev pub Renamed : (Cell → Cell) → List Act → List Act → Type 0
-Renamed g acts others = AreRenamed g (touches_of acts) (touches_of others)
-
--- a read or a write of a cell, and no value that the place tells (plain words)
-abbrev pub has_cell : Manner → Bool
-has_cell reads = true
-has_cell writes = true
-has_cell is_told = false
+Renamed g acts others = AreRenamed g (of_cells (touches_of acts)) (of_cells (touches_of others))
 
 -- touches of which one reads or writes the cell (plain words)
 abbrev pub touched_by : List Touch → Cell → Bool
@@ -44,6 +32,10 @@ IsOneToOne g acts = (c d : Cell) → touch acts c ≡ true → touch acts d ≡ 
 -- the new cell of c is that of no other cell that the acts write (plain words)
 abbrev pub IsFree : (Cell → Cell) → List Act → Cell → Type 0
 IsFree g acts c = (d : Cell) → written acts d ≡ true → g d ≡ g c → d ≡ c
+
+-- each cell keeps its name (plain words)
+abbrev pub own_name : Cell → Cell
+own_name c = c
 
 -- one cell gets a new name (plain words)
 abbrev pub in_place_of : Cell → Cell → Cell → Cell

@@ -1,5 +1,5 @@
 -- Acts and blocks of acts in another order.
-use Rattle.std.proofs.Common.{◌≡◌, ℕ, ◌≤◌, ◌<◌, List, [], ◌∷◌, ◌++◌, reverse, Bool, true, false, ◌&&◌, ◌||◌, refl, sym, ap, subst, ◌∙◌, append_assoc, arith, ◌⊎◌, inl, inr}
+use Rattle.std.proofs.Common.{◌≡◌, ℕ, ◌≤◌, ◌<◌, List, [], ◌∷◌, ◌++◌, reverse, Bool, true, false, ◌&&◌, ◌||◌, refl, sym, ap, subst, ◌∙◌, append_assoc, append-nil, arith, ◌⊎◌, inl, inr}
 use Rattle.std.specs.Prelude.{not}
 use Rattle.std.specs.List.{list_any}
 use Rattle.std.proofs.lemmas.Bool.{both_ways, or_parts}
@@ -314,3 +314,35 @@ pub columns_leave : (d : Cell → Bool) (rows columns : List Block) (s t : Store
 columns_leave d rows columns s t by_rows by_columns same none agree c h =
     acts_leave (acts_in_blocks rows) (acts_in_blocks columns) (flat block_touches rows) (flat block_touches columns) s t (flat_blocks rows) (flat_blocks columns) c
     (outside_behind d block_touches rows columns s t (rows_rearranged d rows columns by_rows by_columns same none) agree c h)
+
+-- blocks in another order
+blocks_rearranged : (d : Cell → Bool) (blocks order : List Block) → EachOnce blocks → IsReordered blocks order → KeepsOrder (block_conflict d) blocks order → Rearranged (items_without d block_touches) blocks order
+blocks_rearranged d blocks order once o keeps =
+    rearranges (items_without d block_touches) (block_conflict d) (λ x y h. some_kept d (touches_of x.acts) (touches_of y.acts) h) blocks order once o.once o.same.none_lost o.same.none_added keeps
+
+pub blocks_fit : (d : Cell → Bool) (blocks order : List Block) (s t : Store) → EachOnce blocks → IsReordered blocks order → KeepsOrder (block_conflict d) blocks order → ReadNone d (acts_in_blocks blocks) → AgreeOutside d s t → Fits (acts_in_blocks blocks) s → Fits (acts_in_blocks order) t
+blocks_fit d blocks order s t once o keeps unread agree =
+    acts_fit (acts_in_blocks blocks) (acts_in_blocks order) (flat block_touches blocks) (flat block_touches order) s t (flat_blocks blocks) (flat_blocks order)
+    (outside_find d block_touches blocks order s t (blocks_rearranged d blocks order once o keeps) (subst (LeaveUnread d) (sym (flat_blocks blocks)) (unread_touches d (acts_in_blocks blocks) unread)) agree)
+
+pub blocks_leave : (d : Cell → Bool) (blocks order : List Block) (s t : Store) → EachOnce blocks → IsReordered blocks order → KeepsOrder (block_conflict d) blocks order → AgreeOutside d s t → AgreeOutside d (store_after (acts_in_blocks blocks) s) (store_after (acts_in_blocks order) t)
+blocks_leave d blocks order s t once o keeps agree c h =
+    acts_leave (acts_in_blocks blocks) (acts_in_blocks order) (flat block_touches blocks) (flat block_touches order) s t (flat_blocks blocks) (flat_blocks order) c
+    (outside_behind d block_touches blocks order s t (blocks_rearranged d blocks order once o keeps) agree c h)
+
+-- two neighbouring blocks that don't conflict outside the set
+two_apart : (d : Cell → Bool) (xs ys : List Act) → blocks_conflict_outside d xs ys ≡ false → AreApart d (xs ∷ ys ∷ [])
+two_apart d xs ys h a b (inl p) = elim p.1 [ inl e ↦ subst (λ z. blocks_conflict_outside d z b ≡ false) (sym p.0) (subst (λ z. blocks_conflict_outside d xs z ≡ false) (sym e) h) | inr i ↦ absurd i ]
+two_apart d xs ys h a b (inr k) = absurd (elim k [ inl p ↦ p.1 | inr n ↦ n ])
+
+two_blocks : (xs ys : List Act) → acts_in_all (xs ∷ ys ∷ []) ≡ xs ++ ys
+two_blocks xs ys = ap (λ z. xs ++ z) (append-nil ys)
+
+pub exchanged_fits_outside : (d : Cell → Bool) (xs ys : List Act) (s t : Store) → blocks_conflict_outside d xs ys ≡ false → ReadNone d (xs ++ ys) → AgreeOutside d s t → Fits (xs ++ ys) s → Fits (ys ++ xs) t
+exchanged_fits_outside d xs ys s t h unread agree f =
+    subst (λ z. Fits z t) (two_blocks ys xs)
+    (reversed_fits d (xs ∷ ys ∷ []) s t (two_apart d xs ys h) (subst (ReadNone d) (sym (two_blocks xs ys)) unread) agree (subst (λ z. Fits z s) (sym (two_blocks xs ys)) f))
+
+pub exchanged_leaves_outside : (d : Cell → Bool) (xs ys : List Act) (s t : Store) → blocks_conflict_outside d xs ys ≡ false → AgreeOutside d s t → AgreeOutside d (store_after (xs ++ ys) s) (store_after (ys ++ xs) t)
+exchanged_leaves_outside d xs ys s t h agree c k =
+    ap (λ z. store_after z s c) (sym (two_blocks xs ys)) ∙ reversed_leaves d (xs ∷ ys ∷ []) s t (two_apart d xs ys h) agree c k ∙ ap (λ z. store_after z t c) (two_blocks ys xs)

@@ -346,3 +346,9 @@ exchanged_fits_outside d xs ys s t h unread agree f =
 pub exchanged_leaves_outside : (d : Cell → Bool) (xs ys : List Act) (s t : Store) → blocks_conflict_outside d xs ys ≡ false → AgreeOutside d s t → AgreeOutside d (store_after (xs ++ ys) s) (store_after (ys ++ xs) t)
 exchanged_leaves_outside d xs ys s t h agree c k =
     ap (λ z. store_after z s c) (sym (two_blocks xs ys)) ∙ reversed_leaves d (xs ∷ ys ∷ []) s t (two_apart d xs ys h) agree c k ∙ ap (λ z. store_after z t c) (two_blocks ys xs)
+
+pub sorted_fits : (d : Cell → Bool) (key : Numbered → ℕ) (acts : List Act) (order : List Numbered) (s t : Store) → IsReordered (number_from 0 acts) order → IsSortedBy key order → ((x y : Numbered) → StandsBefore x y (number_from 0 acts) → numbered_conflict d x y ≡ true → key x ≤ key y) → ReadNone d acts → AgreeOutside d s t → Fits acts s → Fits (acts_in order) t
+sorted_fits d key acts order s t o sorted respects = reordered_fits_outside d acts order s t o (sorted_keeps d key acts order o sorted respects)
+
+pub sorted_leaves : (d : Cell → Bool) (key : Numbered → ℕ) (acts : List Act) (order : List Numbered) (s t : Store) → IsReordered (number_from 0 acts) order → IsSortedBy key order → ((x y : Numbered) → StandsBefore x y (number_from 0 acts) → numbered_conflict d x y ≡ true → key x ≤ key y) → AgreeOutside d s t → AgreeOutside d (store_after acts s) (store_after (acts_in order) t)
+sorted_leaves d key acts order s t o sorted respects = reordered_leaves_outside d acts order s t o (sorted_keeps d key acts order o sorted respects)

@@ -1,0 +1,8 @@
+use Rattle.ped_acts.proofs.Renamings.{agreeing_fits, agreeing_leaves}
+use Rattle.ped_acts.proofs.agreeing.agreement.Goals as goal
+
+pub returns-clause-fits : goal.returns-clause-fits
+returns-clause-fits c = agreeing_fits
+
+pub returns-clause-leaves : goal.returns-clause-leaves
+returns-clause-leaves c = agreeing_leaves

@@ -12,3 +12,4 @@ pub mod Changing
 pub mod Exchanging
 pub mod RaceFree
 pub mod Conflicting
+mod Examples

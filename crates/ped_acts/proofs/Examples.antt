@@ -1,0 +1,4 @@
+-- The laws at work on the acts of loops with two iterations: each corollary, and then whole steps.
+mod Checks
+mod Lists
+mod Orders

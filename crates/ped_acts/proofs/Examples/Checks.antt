@@ -2,7 +2,7 @@
 use Rattle.std.proofs.Common.{◌≡◌, ℕ, ◌≤◌, ◌<◌, List, [], ◌∷◌, Bool, true, false, ◌&&◌, ◌||◌, eqb, eqb-true, refl, sym, ap, subst, ◌∙◌, ◌⊎◌, inl, inr}
 use Rattle.std.specs.Prelude.{nat_lt, nat_le, not}
 use Rattle.std.specs.List.{list_all}
-use Rattle.std.proofs.lemmas.Bool.{and_parts, ltb-true, leb-true}
+use Rattle.std.proofs.lemmas.Bool.{and_parts, ltb-true, lt-ltb}
 use Rattle.ped_store.specs.Cells.{Cell}
 use Rattle.ped_acts.specs.Orders.{IsIn, StandsBefore, Numbered, IsSortedBy, Block, block_conflict, IsByRows, IsByColumns, NoneCrosses}
 use Rattle.ped_acts.proofs.Renamings.{or_either}
@@ -45,6 +45,23 @@ pub not_is : (b : Bool) → not b ≡ true → b ≡ false
 not_is true h = absurd cc
 not_is false h = refl
 
--- no pair crosses
+pub implied : (p q : Bool) → not p || q ≡ true → p ≡ true → q ≡ true
+implied true q h k = h
+implied false q h k = absurd cc
+
 abbrev pub crosses_not : (Cell → Bool) → Block → Block → Bool
 crosses_not d x y = not (nat_lt x.outer y.outer && nat_lt y.inner x.inner) || not (block_conflict d x y)
+
+-- no block conflicts with one of a greater outer and a lesser inner number
+pub none_crosses : (d : Cell → Bool) (bs : List Block) → list_all (λ x. list_all (crosses_not d x) bs) bs ≡ true → NoneCrosses d bs
+none_crosses d bs h x y i j o n =
+    let k = in_passes (crosses_not d x) bs (in_passes (λ x. list_all (crosses_not d x) bs) bs h x i) y j in
+    let c : nat_lt x.outer y.outer && nat_lt y.inner x.inner ≡ true = ap (λ z. z && nat_lt y.inner x.inner) (lt-ltb x.outer y.outer o) ∙ lt-ltb y.inner x.inner n in
+    not_is (block_conflict d x y) (implied (nat_lt x.outer y.outer && nat_lt y.inner x.inner) (not (block_conflict d x y)) k c)
+
+-- the items of four in two orders
+pub four_lost : {X : Type 0} (p q r s x : X) → IsIn x (p ∷ q ∷ r ∷ s ∷ []) → IsIn x (p ∷ r ∷ q ∷ s ∷ [])
+four_lost p q r s x (inl e) = inl e
+four_lost p q r s x (inr (inl e)) = inr (inr (inl e))
+four_lost p q r s x (inr (inr (inl e))) = inr (inl e)
+four_lost p q r s x (inr (inr (inr i))) = inr (inr (inr i))

@@ -8,10 +8,10 @@ use Rattle.ped_store.specs.Acts.{did, Act}
 use Rattle.ped_acts.specs.Fitting.{Fits, store_after}
 use Rattle.ped_acts.specs.Sets.{nothing, AgreeOutside}
 use Rattle.ped_acts.specs.Conflicts.{acts_conflict, blocks_conflict_outside, ReadNone}
-use Rattle.ped_acts.specs.Orders.{IsIn, StandsBefore, EachOnce, HaveSameItems, IsReordered, KeepsOrder, Numbered, number_from, acts_in, numbered_conflict, IsSortedBy, acts_in_all, AreApart, Block, acts_in_blocks, block_conflict, IsByRows, IsByColumns, NoneCrosses}
+use Rattle.ped_acts.specs.Orders.{IsIn, StandsBefore, EachOnce, HaveSameItems, IsReordered, KeepsOrder, Numbered, number_from, acts_in, numbered_conflict, IsSortedBy, acts_in_all, AreApart, Block, acts_in_blocks, block_conflict, IsByRows}
 use Rattle.ped_acts.proofs.Lists.{numbered_once}
 use Rattle.ped_acts.proofs.Reorderings.{front_fits, front_leaves, between_fits, between_leaves, reordered_fits, reordered_leaves, sorted_fits, reversed_fits, columns_fit, columns_leave, blocks_fit, nothing_read}
-use Rattle.ped_acts.proofs.Examples.Checks.{in_passes, all_before, before_passes, by_rows, by_columns, sorted_by, not_is, crosses_not, lesser}
+use Rattle.ped_acts.proofs.Examples.Checks.{in_passes, all_before, before_passes, sorted_by, not_is, implied, four_lost}
 use Rattle.ped_acts.proofs.Examples.Lists.{i, a, b, told, read, write, turn, act}
 
 -- A(I)=I and B(I)=A(I) in iteration k
@@ -51,13 +51,6 @@ order = numbered 0 (sets_a 1) ∷ numbered 2 (sets_a 2) ∷ numbered 1 (sets_b 1
 abbrev key : Numbered → ℕ
 key x = x.act.place.statement
 
--- the items of four in two orders
-four_lost : {X : Type 0} (p q r s x : X) → IsIn x (p ∷ q ∷ r ∷ s ∷ []) → IsIn x (p ∷ r ∷ q ∷ s ∷ [])
-four_lost p q r s x (inl e) = inl e
-four_lost p q r s x (inr (inl e)) = inr (inr (inl e))
-four_lost p q r s x (inr (inr (inl e))) = inr (inl e)
-four_lost p q r s x (inr (inr (inr i))) = inr (inr (inr i))
-
 order_once : EachOnce order
 order_once x before =
     let h = sorted_by key order refl x x before in
@@ -71,10 +64,6 @@ reordered = record {
     none_added = four_lost (numbered 0 (sets_a 1)) (numbered 2 (sets_a 2)) (numbered 1 (sets_b 1)) (numbered 3 (sets_b 2));
   };
 }
-
-pub implied : (p q : Bool) → not p || q ≡ true → p ≡ true → q ≡ true
-implied true q h k = h
-implied false q h k = absurd cc
 
 respected : (x y : Numbered) → StandsBefore x y (number_from 0 by_iterations) → numbered_conflict nothing x y ≡ true → key x ≤ key y
 respected x y before h =

@@ -8,11 +8,15 @@ use Rattle.ped_store.specs.Stores.{Store}
 use Rattle.ped_store.specs.Acts.{Manner, reads, writes, is_told, Touch, Act, store_behind}
 use Rattle.ped_store.specs.Races.{is_write}
 use Rattle.ped_acts.specs.Fitting.{Fits, store_after, touches_of}
-use Rattle.ped_acts.specs.Sets.{AgreeIn, writes_to, written_by, written, read_first, needed_by, needs, wants}
+use Rattle.ped_acts.specs.Sets.{AgreeIn, AgreeOutside, writes_to, written_by, written, read_first, needed_by, needs, wants}
 use Rattle.ped_acts.specs.Pieces.{Piece, old_acts, new_acts, agreed_before, StandsFor, AllStand, Part, same, changed, old_parts, new_parts, PartsStand}
+use Rattle.ped_acts.specs.Orders.{acts_in_blocks}
+use Rattle.ped_acts.specs.Changes.{acts_before, acts_behind}
+use Rattle.ped_acts.specs.Exchanges.{Exchange, IsAllowed}
 use Rattle.ped_acts.proofs.Stores.{after_append, fits_append, fits_first, fits_rest}
-use Rattle.ped_acts.proofs.Renamings.{or_right, or_left, or_either, agreeing_fits, agreeing_leaves}
-use Rattle.ped_acts.proofs.Reorderings.{touches_append}
+use Rattle.ped_acts.proofs.Renamings.{or_right, or_left, or_either, renamed_fits, renamed_leaves, agreeing_fits, agreeing_leaves}
+use Rattle.ped_acts.proofs.Changing.{changed_fits, changed_leaves}
+use Rattle.ped_acts.proofs.Reorderings.{touches_append, blocks_fit, blocks_leave}
 
 pub pieces_fit : (ps : List Piece) (last : Cell → Bool) (s t : Store) → AllStand ps last s → AgreeIn (agreed_before ps last) s t → Fits (new_acts ps) t
 pieces_fit [] last s t k agree = tt
@@ -108,3 +112,40 @@ parts_leave shown (changed old new ∷ ps) s t k agree f c h =
     let a = k.0 t agree in
     ap (λ z. z c) (after_append old (old_parts ps) s) ∙ parts_leave shown ps (store_after old s) (store_after new t) k.1 a.1 (fits_rest old (old_parts ps) s f) c h
     ∙ sym (ap (λ z. z c) (after_append new (new_parts ps) t))
+
+-- an exchange that is allowed gives acts that may stand for the old ones
+pub exchange_stands : (e : Exchange) (acts : List Act) (before behind : Cell → Bool) (s : Store) → Fits acts s → IsAllowed e acts before behind s → StandsFor (record { agreed = before; old = acts; new = acts_behind e.coming }) behind s
+exchange_stands e acts before behind s f k t agree = (new, alike)
+  where
+    d : Cell → Bool
+    d = e.idle
+
+    same_store : AgreeOutside d t t
+    same_store c h = refl
+
+    kept_name : (c : Cell) → needs acts c ≡ true → s c ≡ t (e.names c)
+    kept_name c h = agree c (k.needed c h).0 ∙ ap t (sym (k.needed c h).1)
+
+    renamed : Fits (acts_before e.going) t
+    renamed = renamed_fits e.names acts (acts_before e.going) s t k.renamed k.one_to_one kept_name f
+
+    gone : Fits (acts_in_blocks e.blocks) t
+    gone = subst (λ z. Fits z t) k.are_left (changed_fits d e.going t t (k.go t agree renamed) same_store renamed)
+
+    moved : Fits (acts_before e.coming) t
+    moved = subst (λ z. Fits z t) (sym k.are_taken) (blocks_fit d e.blocks e.order t t k.once k.reordered k.kept k.unread same_store gone)
+
+    new : Fits (acts_behind e.coming) t
+    new = changed_fits d e.coming t t (k.come t agree moved) same_store moved
+
+    alike : AgreeIn behind (store_after acts s) (store_after (acts_behind e.coming) t)
+    alike c h =
+        let w = k.wanted c h in
+        let own = w.1 in
+        renamed_leaves e.names acts (acts_before e.going) s t c k.renamed w.2 (elim w.3 [ inl p ↦ inr (agree c p ∙ ap t (sym own)) | inr p ↦ inl p ])
+        ∙ ap (store_after (acts_before e.going) t) own
+        ∙ changed_leaves d e.going t t (k.go t agree renamed) same_store renamed c w.0
+        ∙ ap (λ z. store_after z t c) k.are_left
+        ∙ blocks_leave d e.blocks e.order t t k.once k.reordered k.kept same_store c w.0
+        ∙ ap (λ z. store_after z t c) (sym k.are_taken)
+        ∙ changed_leaves d e.coming t t (k.come t agree moved) same_store moved c w.0

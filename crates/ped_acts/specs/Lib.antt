@@ -1,5 +1,6 @@
 pub mod Changes
 pub mod Conflicts
+pub mod Exchanges
 pub mod Fitting
 pub mod Orders
 pub mod Origins

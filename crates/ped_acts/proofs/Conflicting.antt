@@ -6,11 +6,12 @@ use Rattle.std.proofs.lemmas.Bool.{and_parts, or_parts}
 use Rattle.ped_store.specs.Cells.{Cell, same_cell}
 use Rattle.ped_store.specs.Acts.{Manner, reads, writes, is_told, Touch, Turn, Act}
 use Rattle.ped_store.specs.Races.{Access, is_lines, is_write, is_access, accesses_of, accesses, conflict}
-use Rattle.ped_acts.specs.Conflicts.{manners_clash, clash, some_clash, acts_conflict}
+use Rattle.ped_acts.specs.Fitting.{touches_of}
+use Rattle.ped_acts.specs.Conflicts.{manners_clash, clash, some_clash, clash_outside, some_clash_outside, acts_conflict, acts_conflict_outside, blocks_conflict_outside}
 use Rattle.ped_acts.specs.Orders.{IsIn, StandsBefore}
 use Rattle.ped_acts.specs.Origins.{is_told_value, told_to, WritesItsLines}
 use Rattle.ped_acts.proofs.SameCells.{cell_is, is_cell, cell_flip}
-use Rattle.ped_acts.proofs.Lists.{in_left, in_right, before_left, before_right, before_across}
+use Rattle.ped_acts.proofs.Lists.{in_left, in_right, in_parts, before_left, before_right, before_across}
 use Rattle.ped_acts.proofs.Renamings.{or_right, or_left, or_either}
 
 -- tests of items
@@ -117,21 +118,59 @@ access_to a x lines i = go (is_access x) refl
         let u = lines x i (not_lines (is_lines x.cell) k.1) in
         (access_by a u.0, access_in a a.touches u.0 u.1 (write_is_access u.0 u.2), u.3, (λ w. u.2))
 
--- acts that conflict have accesses that do
-pub accesses_of_conflict : (a b : Act) → WritesItsLines a → WritesItsLines b → acts_conflict a b ≡ true → (p q : Access) × IsIn p (accesses_of a) × IsIn q (accesses_of b) × (conflict p q ≡ true)
-accesses_of_conflict a b la lb h =
-    let c = clashing a.touches b.touches h in
-    let x = c.0 in
-    let y = c.1 in
-    let k = and_parts (same_cell x.cell y.cell) (manners_clash x.manner y.manner) c.4 in
-    let p = access_to a x la c.2 in
-    let q = access_to b y lb c.3 in
+clashing_outside : (d : Cell → Bool) (xs ys : List Touch) → some_clash_outside d xs ys ≡ true → (x y : Touch) × IsIn x xs × IsIn y ys × (clash_outside d x y ≡ true)
+clashing_outside d xs ys h =
+    let r = one_of (λ z. list_any (clash_outside d z) ys) xs h in
+    let q = one_of (clash_outside d r.0) ys r.2 in
+    (r.0, q.0, r.1, q.1, q.2)
+
+not_in : (b : Bool) → not b ≡ true → b ≡ false
+not_in true h = absurd cc
+not_in false h = refl
+
+-- touches that clash have accesses that conflict
+accesses_of_clash : (a b : Act) (x y : Touch) → WritesItsLines a → WritesItsLines b → IsIn x a.touches → IsIn y b.touches → clash x y ≡ true → (p q : Access) × IsIn p (accesses_of a) × IsIn q (accesses_of b) × (conflict p q ≡ true) × (p.cell ≡ x.cell)
+accesses_of_clash a b x y la lb i j h =
+    let k = and_parts (same_cell x.cell y.cell) (manners_clash x.manner y.manner) h in
+    let p = access_to a x la i in
+    let q = access_to b y lb j in
     let same : same_cell p.0.cell q.0.cell ≡ true = is_cell p.0.cell q.0.cell (cell_is p.0.cell x.cell p.2 ∙ cell_is x.cell y.cell k.0 ∙ sym (cell_is q.0.cell y.cell q.2)) in
     let write : p.0.writes || q.0.writes ≡ true = elim (clash_writes x.manner y.manner k.1) [
       | inl w ↦ or_left p.0.writes q.0.writes (p.3 w)
       | inr w ↦ or_right p.0.writes q.0.writes (q.3 w)
     ] in
-    (p.0, q.0, p.1, q.1, ap (λ z. z && (p.0.writes || q.0.writes)) same ∙ write)
+    (p.0, q.0, p.1, q.1, ap (λ z. z && (p.0.writes || q.0.writes)) same ∙ write, cell_is p.0.cell x.cell p.2)
+
+-- acts that conflict have accesses that do
+pub accesses_of_conflict : (a b : Act) → WritesItsLines a → WritesItsLines b → acts_conflict a b ≡ true → (p q : Access) × IsIn p (accesses_of a) × IsIn q (accesses_of b) × (conflict p q ≡ true)
+accesses_of_conflict a b la lb h =
+    let c = clashing a.touches b.touches h in
+    let r = accesses_of_clash a b c.0 c.1 la lb c.2 c.3 c.4 in
+    (r.0, r.1, r.2, r.3, r.4)
+
+-- and on a cell outside a set where the acts do
+pub accesses_outside : (d : Cell → Bool) (a b : Act) → WritesItsLines a → WritesItsLines b → acts_conflict_outside d a b ≡ true → (p q : Access) × IsIn p (accesses_of a) × IsIn q (accesses_of b) × (conflict p q ≡ true) × (d p.cell ≡ false)
+accesses_outside d a b la lb h =
+    let c = clashing_outside d a.touches b.touches h in
+    let k = and_parts (clash c.0 c.1) (not (d c.0.cell)) c.4 in
+    let r = accesses_of_clash a b c.0 c.1 la lb c.2 c.3 k.0 in
+    (r.0, r.1, r.2, r.3, r.4, ap d r.5 ∙ not_in (d c.0.cell) k.1)
+
+-- a touch of acts is one of an act
+touch_from : (acts : List Act) (t : Touch) → IsIn t (touches_of acts) → (a : Act) × IsIn a acts × IsIn t a.touches
+touch_from [] t i = absurd i
+touch_from (a ∷ acts) t i = elim (in_parts t a.touches (touches_of acts) i) [
+  | inl k ↦ (a, inl refl, k)
+  | inr k ↦ let r = touch_from acts t k in (r.0, inr r.1, r.2)
+]
+
+-- blocks that conflict have acts that do
+pub acts_of_blocks : (d : Cell → Bool) (xs ys : List Act) → blocks_conflict_outside d xs ys ≡ true → (a b : Act) × IsIn a xs × IsIn b ys × (acts_conflict_outside d a b ≡ true)
+acts_of_blocks d xs ys h =
+    let c = clashing_outside d (touches_of xs) (touches_of ys) h in
+    let a = touch_from xs c.0 c.2 in
+    let b = touch_from ys c.1 c.3 in
+    (a.0, b.0, a.1, b.1, any_of (λ z. list_any (clash_outside d z) b.0.touches) a.0.touches c.0 a.2 (any_of (clash_outside d c.0) b.0.touches c.1 b.2 c.4))
 
 -- the place of an access is that of its act
 pub access_place : (a : Act) (p : Access) → IsIn p (accesses_of a) → p.place ≡ a.place

@@ -1,9 +1,10 @@
 //! Races: acts that conflict, accesses that do, and lists without a race.
 
-ghost use Rattle.std.specs.Prelude.{◌≡◌, List, true, false, Option, ◌⊎◌};
+ghost use Rattle.std.specs.Prelude.{◌≡◌, List, Bool, true, false, Option, ◌⊎◌};
+ghost use Rattle.ped_store.specs.Cells.{Cell};
 ghost use Rattle.ped_store.specs.Acts.{Turn, Act};
 ghost use Rattle.ped_store.specs.Races.{Access, accesses_of, accesses, conflict, are_apart, HasNoRace};
-ghost use Rattle.ped_acts.specs.Conflicts.{acts_conflict};
+ghost use Rattle.ped_acts.specs.Conflicts.{acts_conflict, acts_conflict_outside, blocks_conflict_outside};
 ghost use Rattle.ped_acts.specs.Orders.{IsIn, StandsBefore};
 ghost use Rattle.ped_acts.specs.Origins.{told_to, WritesItsLines, AreOfOneKind, HaveOrigins};
 
@@ -13,9 +14,16 @@ pub fn conflicting_accesses()
     ensures { (a b : Act) (p q : Access) → IsIn p (accesses_of a) → IsIn q (accesses_of b) → conflict p q ≡ true → (acts_conflict a b ≡ true) ⊎ ((told_to a p.cell ≡ true) ⊎ (told_to b q.cell ≡ true)) }
 {}
 
-/// Acts that conflict have accesses that do. For finding the dependence that forbids another order.
+/// Acts that conflict have accesses that do, on a cell outside a set where the acts conflict there. For finding the
+/// dependence that forbids another order.
 pub fn acts_that_conflict()
-    ensures { (a b : Act) → WritesItsLines a → WritesItsLines b → acts_conflict a b ≡ true → (p q : Access) × IsIn p (accesses_of a) × IsIn q (accesses_of b) × (conflict p q ≡ true) }
+    ensures tells { (a b : Act) → WritesItsLines a → WritesItsLines b → acts_conflict a b ≡ true → (p q : Access) × IsIn p (accesses_of a) × IsIn q (accesses_of b) × (conflict p q ≡ true) }
+    ensures outside { (d : Cell → Bool) (a b : Act) → WritesItsLines a → WritesItsLines b → acts_conflict_outside d a b ≡ true → (p q : Access) × IsIn p (accesses_of a) × IsIn q (accesses_of b) × (conflict p q ≡ true) × (d p.cell ≡ false) }
+{}
+
+/// Blocks that conflict have acts that do. For the iterations of loops.
+pub fn blocks_that_conflict()
+    ensures { (d : Cell → Bool) (xs ys : List Act) → blocks_conflict_outside d xs ys ≡ true → (a b : Act) × IsIn a xs × IsIn b ys × (acts_conflict_outside d a b ≡ true) }
 {}
 
 /// In a list without a race no two acts conflict that stand in two iterations of one execution of a PARALLEL DO. For

@@ -4,3 +4,4 @@ mod Distribution
 mod Interchange
 mod Lists
 mod Orders
+mod Reversal

@@ -3,6 +3,7 @@ use Rattle.std.proofs.Common.{◌≡◌, ℕ, ◌≤◌, ◌<◌, List, [], ◌�
 use Rattle.std.specs.Prelude.{not}
 use Rattle.std.specs.List.{list_any}
 use Rattle.std.proofs.lemmas.Bool.{both_ways, or_parts}
+use Rattle.std.proofs.lemmas.List.{reverse-append}
 use mathlib.Core.Path.{fun_ext}
 use Rattle.ped_store.specs.Cells.{Cell, same_cell}
 use Rattle.ped_store.specs.Stores.{Store}
@@ -14,9 +15,9 @@ use Rattle.ped_acts.specs.Conflicts.{manners_clash, clash, some_clash, clash_out
 use Rattle.ped_acts.specs.Orders.{IsIn, StandsBefore, EachOnce, HaveSameItems, IsReordered, KeepsOrder, Numbered, number_from, acts_in, numbered_conflict, IsSortedBy, acts_in_all, AreApart, Block, acts_in_blocks, block_conflict, IsByRows, IsByColumns, NoneCrosses}
 use Rattle.ped_acts.proofs.SameCells.{cell_is}
 use Rattle.ped_acts.proofs.Stores.{behind_append, find_append, find_first, find_rest, after_is, fits_find, find_fits, after_append, fits_append, fits_first, fits_rest}
-use Rattle.ped_acts.proofs.Lists.{in_left, in_right, in_parts, in_more, in_order, first_in, second_in, numbers_rise, numbered_once, acts_numbered}
+use Rattle.ped_acts.proofs.Lists.{in_left, in_right, in_more, in_order, before_parts, first_in, second_in, numbers_rise, numbered_once, acts_numbered}
 use Rattle.ped_acts.proofs.Clashes.{swap_behind, swap_find, swap_found}
-use Rattle.ped_acts.proofs.Rearranging.{flat, Rearranged, rearranged_find, rearranged_behind, same_order, rearranges, reversed}
+use Rattle.ped_acts.proofs.Rearranging.{flat, Rearranged, rearranged_find, rearranged_behind, same_order, rearranges, in_reverse, reversed}
 use Rattle.ped_acts.proofs.Outside.{agree_back, without_behind, without_find, find_without, without_append, unread_append, unread_first, unread_rest, unread_touches, none_append, none_first, none_rest}
 
 -- two touches that stay and don't clash outside the set don't clash at all
@@ -269,7 +270,7 @@ reversed_leaves d bs s t apart agree c h =
     (outside_behind d touches_of bs (reverse bs) s t (reversed_blocks d bs apart) agree c h)
 
 -- rows to columns
-rows_once : (bs : List Block) → IsByRows bs → EachOnce bs
+pub rows_once : (bs : List Block) → IsByRows bs → EachOnce bs
 rows_once bs rows x b = elim (rows x x b) [ inl h ↦ omega arith | inr h ↦ let k = h.1 in omega arith ]
 
 columns_once : (bs : List Block) → IsByColumns bs → EachOnce bs
@@ -352,3 +353,37 @@ sorted_fits d key acts order s t o sorted respects = reordered_fits_outside d ac
 
 pub sorted_leaves : (d : Cell → Bool) (key : Numbered → ℕ) (acts : List Act) (order : List Numbered) (s t : Store) → IsReordered (number_from 0 acts) order → IsSortedBy key order → ((x y : Numbered) → StandsBefore x y (number_from 0 acts) → numbered_conflict d x y ≡ true → key x ≤ key y) → AgreeOutside d s t → AgreeOutside d (store_after acts s) (store_after (acts_in order) t)
 sorted_leaves d key acts order s t o sorted respects = reordered_leaves_outside d acts order s t o (sorted_keeps d key acts order o sorted respects)
+
+-- orders that are kept: blocks as they stand
+pub own_order : (d : Cell → Bool) (blocks : List Block) → EachOnce blocks → IsReordered blocks blocks × KeepsOrder (block_conflict d) blocks blocks
+own_order d blocks once = (record { once = once; same = record { none_lost = λ x i. i; none_added = λ x i. i } }, (λ x y b c. b))
+
+in_reverse_too : {X : Type 0} (x : X) (xs : List X) → IsIn x xs → IsIn x (reverse xs)
+in_reverse_too x [] i = absurd i
+in_reverse_too x (y ∷ ys) (inl e) = subst (IsIn x) (sym (reverse-append (y ∷ []) ys)) (in_right x (reverse ys) (y ∷ []) (inl e))
+in_reverse_too x (y ∷ ys) (inr i) = subst (IsIn x) (sym (reverse-append (y ∷ []) ys)) (in_left x (reverse ys) (y ∷ []) (in_reverse_too x ys i))
+
+before_reversed : {X : Type 0} (x y : X) (xs : List X) → StandsBefore x y (reverse xs) → StandsBefore y x xs
+before_reversed x y [] b = absurd b
+before_reversed x y (z ∷ zs) b = elim (before_parts x y (reverse zs) (z ∷ []) (subst (StandsBefore x y) (reverse-append (z ∷ []) zs) b)) [
+  | inl c ↦ inr (before_reversed x y zs c)
+  | inr q ↦ elim q [
+    | inl p ↦ elim p.1 [ inl e ↦ inl (e, in_reverse x zs p.0) | inr n ↦ absurd n ]
+    | inr c ↦ elim c [ inl p ↦ absurd p.1 | inr n ↦ absurd n ]
+  ]
+]
+
+-- blocks in reverse
+pub reversed_order : (d : Cell → Bool) (blocks : List Block) → EachOnce blocks → ((x y : Block) → StandsBefore x y blocks → block_conflict d x y ≡ false) → IsReordered blocks (reverse blocks) × KeepsOrder (block_conflict d) blocks (reverse blocks)
+reversed_order d blocks once apart = (
+  record {
+    once = λ x b. once x (before_reversed x x blocks b);
+    same = record { none_lost = λ x i. in_reverse_too x blocks i; none_added = λ x i. in_reverse x blocks i };
+  },
+  (λ x y b c. absurd (both_ways (block_conflict d x y) (apart x y b) c)),
+)
+
+-- blocks by columns
+pub column_order : (d : Cell → Bool) (rows columns : List Block) → IsByRows rows → IsByColumns columns → HaveSameItems rows columns → NoneCrosses d rows → IsReordered rows columns × KeepsOrder (block_conflict d) rows columns
+column_order d rows columns by_rows by_columns same none =
+    (record { once = columns_once columns by_columns; same = same }, rows_keep d rows columns by_rows by_columns same none)

@@ -59,3 +59,12 @@ pub fn rows_to_columns()
     ensures fits { (d : Cell → Bool) (rows columns : List Block) (s t : Store) → IsByRows rows → IsByColumns columns → HaveSameItems rows columns → NoneCrosses d rows → ReadNone d (acts_in_blocks rows) → AgreeOutside d s t → Fits (acts_in_blocks rows) s → Fits (acts_in_blocks columns) t }
     ensures leaves { (d : Cell → Bool) (rows columns : List Block) (s t : Store) → IsByRows rows → IsByColumns columns → HaveSameItems rows columns → NoneCrosses d rows → AgreeOutside d s t → AgreeOutside d (store_after (acts_in_blocks rows) s) (store_after (acts_in_blocks columns) t) }
 {}
+
+/// Orders of blocks that keep what conflicts: each block once by rows; as they stand; in reverse, where no two conflict;
+/// by columns, where none crosses. For what an exchange asks of its blocks.
+pub fn orders_kept()
+    ensures once { (blocks : List Block) → IsByRows blocks → EachOnce blocks }
+    ensures in_order { (d : Cell → Bool) (blocks : List Block) → EachOnce blocks → IsReordered blocks blocks × KeepsOrder (block_conflict d) blocks blocks }
+    ensures in_reverse { (d : Cell → Bool) (blocks : List Block) → EachOnce blocks → ((x y : Block) → StandsBefore x y blocks → block_conflict d x y ≡ false) → IsReordered blocks (reverse blocks) × KeepsOrder (block_conflict d) blocks (reverse blocks) }
+    ensures by_columns { (d : Cell → Bool) (rows columns : List Block) → IsByRows rows → IsByColumns columns → HaveSameItems rows columns → NoneCrosses d rows → IsReordered rows columns × KeepsOrder (block_conflict d) rows columns }
+{}

@@ -4,4 +4,5 @@ mod Distribution
 mod Interchange
 mod Lists
 mod Orders
+mod Privatisation
 mod Reversal

@@ -45,6 +45,10 @@ pub not_is : (b : Bool) → not b ≡ true → b ≡ false
 not_is true h = absurd cc
 not_is false h = refl
 
+pub is_not : (b : Bool) → not b ≡ false → b ≡ true
+is_not true h = refl
+is_not false h = absurd cc
+
 pub implied : (p q : Bool) → not p || q ≡ true → p ≡ true → q ≡ true
 implied true q h k = h
 implied false q h k = absurd cc

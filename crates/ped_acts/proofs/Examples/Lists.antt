@@ -1,10 +1,10 @@
 -- Acts of small programs.
 use Rattle.std.specs.Prelude.{ℕ, ℤ, pos, List, [], ◌∷◌, Bool, false}
-use Rattle.ped_store.specs.Cells.{Cell, Scalar, Element, same_cell}
-use Rattle.ped_store.specs.Stores.{Content, Number}
+use Rattle.ped_store.specs.Cells.{Cell, Scalar, Element, Private}
+use Rattle.ped_store.specs.Stores.{Number, Undefined}
 use Rattle.ped_store.specs.Acts.{Manner, reads, writes, is_told, Touch, Turn, Step, did, entered, ended_turn, Act}
 
--- the scalars I, J, N and elements of the arrays A, B
+-- the scalars I, J, N, T, the copies of T that belong to iterations of a DO with number 1, and elements of the arrays A, B
 abbrev pub i : Cell
 i = Scalar (73 ∷ [])
 
@@ -13,6 +13,12 @@ j = Scalar (74 ∷ [])
 
 abbrev pub n : Cell
 n = Scalar (78 ∷ [])
+
+abbrev pub t : Cell
+t = Scalar (84 ∷ [])
+
+abbrev pub copy : ℕ → Cell
+copy k = Private (84 ∷ []) (record { statement = 1; number = k } ∷ [])
 
 abbrev pub a : ℕ → Cell
 a k = Element (65 ∷ []) (pos k ∷ [])
@@ -31,6 +37,10 @@ read x v r = record { cell = x; manner = reads; content = Number (pos v); refere
 
 abbrev pub write : Cell → ℕ → ℕ → Touch
 write x v r = record { cell = x; manner = writes; content = Number (pos v); reference = r }
+
+-- T becomes undefined, by reference 3
+abbrev pub undefines_t : Touch
+undefines_t = record { cell = t; manner = writes; content = Undefined; reference = 3 }
 
 -- iteration k of the DO with this statement number, whose variable is k
 abbrev pub turn : ℕ → ℕ → Turn

@@ -18,18 +18,11 @@ use Rattle.ped_acts.proofs.Renamings.{or_either}
 use Rattle.ped_acts.proofs.Changing.{plain_changes}
 use Rattle.ped_acts.proofs.Reorderings.{rows_once, column_order}
 use Rattle.ped_acts.proofs.Exchanging.{exchange_stands}
-use Rattle.ped_acts.proofs.Examples.Checks.{by_rows, by_columns, none_crosses}
-use Rattle.ped_acts.proofs.Examples.Lists.{i, n, a, told, read, write, turn, act}
+use Rattle.ped_acts.proofs.Examples.Checks.{by_rows, by_columns, none_crosses, not_is, is_not}
+use Rattle.ped_acts.proofs.Examples.Lists.{i, n, t, copy, a, told, read, write, undefines_t, turn, act}
 
 abbrev m : Cell
 m = Scalar (77 ∷ [])
-
-abbrev t : Cell
-t = Scalar (84 ∷ [])
-
--- the copy of T that belongs to iteration k
-abbrev copy : ℕ → Cell
-copy k = Private (84 ∷ []) (record { statement = 1; number = k } ∷ [])
 
 -- T=I and A(I)=T in iteration k, where I is l
 abbrev sets_t : ℕ → ℕ → Act
@@ -37,9 +30,6 @@ sets_t k l = act did 2 (record { statement = 1; parallel = false; number = k; va
 
 abbrev sets_a : ℕ → ℕ → Act
 sets_a k l = act did 3 (record { statement = 1; parallel = false; number = k; value = pos l } ∷ []) (read (copy k) l 1 ∷ told i l 2 ∷ write (a l) l 3 ∷ [])
-
-abbrev undefines_t : Touch
-undefines_t = record { cell = t; manner = writes; content = Undefined; reference = 3 }
 
 abbrev entry : Act
 entry = act (entered 2) 1 [] (read m 1 1 ∷ read n 2 2 ∷ [])
@@ -103,14 +93,6 @@ reversal = record { names = other_copy; idle = index; going = going; blocks = bl
 abbrev agreed : Cell → Bool
 agreed x = not (same_cell i x || (same_cell (copy 1) x || same_cell (copy 2) x))
 
-not_true : (b : Bool) → not b ≡ true → b ≡ false
-not_true true h = absurd cc
-not_true false h = refl
-
-not_false : (b : Bool) → not b ≡ false → b ≡ true
-not_false true h = refl
-not_false false h = absurd cc
-
 -- the copies change names
 first_named : (x : Cell) → same_cell (copy 1) x ≡ true → other_copy x ≡ copy 2
 first_named x h = rw h refl
@@ -135,7 +117,7 @@ injective x y e = sym (back x) ∙ ap other_copy e ∙ back y
 -- what the stores agree on is neither I nor a copy
 parts : (x : Cell) → agreed x ≡ true → (same_cell i x ≡ false) × (same_cell (copy 1) x ≡ false) × (same_cell (copy 2) x ≡ false)
 parts x h =
-    let p = or_parts (same_cell i x) (same_cell (copy 1) x || same_cell (copy 2) x) (not_true (same_cell i x || (same_cell (copy 1) x || same_cell (copy 2) x)) h) in
+    let p = or_parts (same_cell i x) (same_cell (copy 1) x || same_cell (copy 2) x) (not_is (same_cell i x || (same_cell (copy 1) x || same_cell (copy 2) x)) h) in
     let q = or_parts (same_cell (copy 1) x) (same_cell (copy 2) x) p.1 in
     (p.0, q.0, q.1)
 
@@ -144,7 +126,7 @@ own x h = let p = parts x h in none_named x p.1 p.2
 
 -- the loop reads neither I nor a copy before it writes it
 unneeded : (x : Cell) → agreed x ≡ false → needs old x ≡ false
-unneeded x h = elim (or_either (same_cell i x) (same_cell (copy 1) x || same_cell (copy 2) x) (not_false (same_cell i x || (same_cell (copy 1) x || same_cell (copy 2) x)) h)) [
+unneeded x h = elim (or_either (same_cell i x) (same_cell (copy 1) x || same_cell (copy 2) x) (is_not (same_cell i x || (same_cell (copy 1) x || same_cell (copy 2) x)) h)) [
   | inl p ↦ ap (needs old) (sym (cell_is i x p))
   | inr r ↦ elim (or_either (same_cell (copy 1) x) (same_cell (copy 2) x) r) [
     | inl p ↦ ap (needs old) (sym (cell_is (copy 1) x p))

@@ -11,13 +11,15 @@ use Rattle.ped_acts.specs.Conflicts.{LeaveUnread, ReadNone}
 use Rattle.ped_acts.specs.Orders.{Block, HaveSameItems, IsReordered, KeepsOrder, IsIn, acts_in_blocks, block_conflict}
 use Rattle.ped_acts.specs.Renaming.{Renamed, IsOneToOne}
 use Rattle.ped_acts.specs.Changes.{Change, stays, goes, comes, acts_before, acts_behind, AreSameOutside, PlainChange}
-use Rattle.ped_acts.specs.Pieces.{StandsFor}
+use Rattle.ped_acts.specs.Walks.{Stride, both, old_alone, new_alone, SideBySide}
+use Rattle.ped_acts.specs.Pieces.{Piece, StandsFor, old_acts, new_acts}
 use Rattle.ped_acts.specs.Exchanges.{Exchange, IsAllowed}
 use Rattle.ped_acts.proofs.SameCells.{cell_is, cell_itself, cell_flip}
-use Rattle.ped_acts.proofs.Renamings.{or_either}
+use Rattle.ped_acts.proofs.Renamings.{or_left, or_either}
 use Rattle.ped_acts.proofs.Changing.{plain_changes}
 use Rattle.ped_acts.proofs.Reorderings.{rows_once, column_order}
-use Rattle.ped_acts.proofs.Exchanging.{exchange_stands}
+use Rattle.ped_acts.proofs.Exchanging.{exchange_stands, same_stands, pieces_fit, pieces_leave}
+use Rattle.ped_acts.proofs.Walking.{beside_fits}
 use Rattle.ped_acts.proofs.Examples.Checks.{by_rows, by_columns, none_crosses, not_is, is_not}
 use Rattle.ped_acts.proofs.Examples.Lists.{i, n, t, copy, a, told, read, write, undefines_t, turn, act}
 
@@ -206,3 +208,45 @@ allowed s f = record {
 -- the reversed loop may stand for the loop, wherever it stands among the acts of a program
 pub reversed : (s : Store) → Fits old s → StandsFor (record { agreed = agreed; old = old; new = acts_behind coming }) agreed s
 reversed s f = exchange_stands reversal old agreed agreed s f (allowed s f)
+
+-- behind the loop I=5 makes the stores agree on I again
+abbrev sets_i : Act
+sets_i = act did 4 [] (write i 5 1 ∷ [])
+
+abbrev agreed_at_end : Cell → Bool
+agreed_at_end x = agreed x || same_cell i x
+
+abbrev both_pieces : List Piece
+both_pieces = record { agreed = agreed; old = old; new = acts_behind coming } ∷ record { agreed = agreed; old = sets_i ∷ []; new = sets_i ∷ [] } ∷ []
+
+nothing_needed : (b : Bool) → (if b then false else false) ≡ true → ⊥
+nothing_needed true h = let k : false ≡ true = h in absurd cc
+nothing_needed false h = let k : false ≡ true = h in absurd cc
+
+assigned_stands : (u : Store) → StandsFor (record { agreed = agreed; old = sets_i ∷ []; new = sets_i ∷ [] }) agreed_at_end u
+assigned_stands u = same_stands (sets_i ∷ []) agreed agreed_at_end u ((tt, tt), tt) (λ x h. absurd (nothing_needed (same_cell i x) h)) tells
+  where
+    tells : (x : Cell) → agreed_at_end x ≡ true → (agreed x ≡ true) ⊎ (written (sets_i ∷ []) x ≡ true)
+    tells x h = elim (or_either (agreed x) (same_cell i x) h) [
+      | inl p ↦ inl p
+      | inr p ↦ inr (or_left (same_cell i x) false p)
+    ]
+
+pub followed_fits : (s : Store) → Fits old s → Fits (new_acts both_pieces) s
+followed_fits s f = pieces_fit both_pieces agreed_at_end s s (reversed s f, (assigned_stands (store_after old s), tt)) (λ x h. refl)
+
+pub followed_leaves : (s : Store) → Fits old s → AgreeIn agreed_at_end (store_after (old_acts both_pieces) s) (store_after (new_acts both_pieces) s)
+followed_leaves s f = pieces_leave both_pieces agreed_at_end s s (reversed s f, (assigned_stands (store_after old s), tt)) (λ x h. refl)
+
+-- side by side: the bounds read in the other order, and the exit with another content of I, touch by touch
+abbrev walk : List Stride
+walk =
+    old_alone (read m 1 1) ∷ both (read n 2 2) (read n 2 1) ∷ new_alone (read m 1 2)
+    ∷ old_alone (write i 3 0) ∷ new_alone (write i 0 0) ∷ both undefines_t undefines_t
+    ∷ []
+
+walks : (s u : Store) → Fits (entry ∷ exit ∷ []) s → s m ≡ u m → s n ≡ u n → SideBySide [] walk s u
+walks s u f e h = (tt, ((refl, refl, (refl, h)), (sym e ∙ f.0.0, (tt, (tt, ((refl, refl, tt), tt))))))
+
+pub beside : (s u : Store) → Fits (entry ∷ exit ∷ []) s → s m ≡ u m → s n ≡ u n → Fits (new_entry ∷ new_exit ∷ []) u
+beside s u f e h = beside_fits walk (entry ∷ exit ∷ []) (new_entry ∷ new_exit ∷ []) s u refl refl (walks s u f e h) f

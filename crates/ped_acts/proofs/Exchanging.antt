@@ -39,6 +39,13 @@ same_stands acts before behind s f asks tells t agree = (
   (λ c h. agreeing_leaves acts s t c (elim (tells c h) [ inl p ↦ inr (agree c p) | inr w ↦ inl w ])),
 )
 
+-- a piece stands for another by a third
+pub two_stand : (acts middle others : List Act) (before behind : Cell → Bool) (s : Store) → StandsFor (record { agreed = before; old = acts; new = middle }) behind s → StandsFor (record { agreed = before; old = middle; new = others }) behind s → StandsFor (record { agreed = before; old = acts; new = others }) behind s
+two_stand acts middle others before behind s h k t agree =
+    let a = h s (λ c p. refl) in
+    let b = k t agree in
+    (b.0, (λ c p. a.1 c p ∙ b.1 c p))
+
 -- what acts and then others need
 more_needed : (xs ys : List Touch) (c : Cell) → needed_by xs c ≡ true → needed_by (xs ++ ys) c ≡ true
 more_needed [] ys c h = absurd cc

@@ -10,6 +10,7 @@ pub mod Renamings
 pub mod Walking
 pub mod Changing
 pub mod Exchanging
+pub mod Appending
 pub mod RaceFree
 pub mod Conflicting
 mod Examples

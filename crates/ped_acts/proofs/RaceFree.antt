@@ -79,7 +79,7 @@ origins_race_free from acts others o free = no_race_from (accesses others) each
     meets : (p q x y : Access) → IsIn p (accesses others) → IsIn q (accesses others) → from p ≡ Some x → from q ≡ Some y → are_apart p.place.turns q.place.turns ≡ true → conflict p q ≡ true → ⊥
     meets p q x y i j e f h k =
         let c = and_parts (same_cell p.cell q.cell) (p.writes || q.writes) k in
-        let a = o.apart p q x y i j e f h in
+        let a = o.apart p q x y i j e f h k in
         let s = o.one_cell p q x y i j e f c.0 in
         let w : x.writes || y.writes ≡ true = elim (or_either p.writes q.writes c.1) [
           | inl k ↦ or_left x.writes y.writes (o.written p x i e k)

@@ -28,11 +28,11 @@ AreOfOneKind ts us = (t u : Turn) → IsIn t ts → IsIn u us → t.statement �
 abbrev pub StandApart : Access → Access → Type 0
 StandApart a b = (are_apart a.place.turns b.place.turns ≡ true) × (are_apart b.place.turns a.place.turns ≡ true)
 
--- each access of the new acts comes from one of the old acts: from a write where it is one; accesses of one cell come from accesses of one cell; and accesses in two iterations of a PARALLEL DO come from accesses in such. An access without an origin conflicts with none of another iteration, as a DO's own stores do, or the read of what nothing there writes (this project)
+-- each access of the new acts comes from one of the old acts: from a write where it is one; accesses of one cell come from accesses of one cell; and accesses that conflict in two iterations of a PARALLEL DO come from accesses in such. An access without an origin conflicts with none of another iteration, as a DO's own stores do, or the read of what nothing there writes (this project)
 pub record HaveOrigins (from : Access → Option Access) (acts others : List Act) : Type 0 where
   pub found : (b x : Access) → IsIn b (accesses others) → from b ≡ Some x → IsIn x (accesses acts)
   pub written : (b x : Access) → IsIn b (accesses others) → from b ≡ Some x → b.writes ≡ true → x.writes ≡ true
   pub one_cell : (b c x y : Access) → IsIn b (accesses others) → IsIn c (accesses others) → from b ≡ Some x → from c ≡ Some y → same_cell b.cell c.cell ≡ true → same_cell x.cell y.cell ≡ true
-  pub apart : (b c x y : Access) → IsIn b (accesses others) → IsIn c (accesses others) → from b ≡ Some x → from c ≡ Some y → are_apart b.place.turns c.place.turns ≡ true → StandApart x y
+  pub apart : (b c x y : Access) → IsIn b (accesses others) → IsIn c (accesses others) → from b ≡ Some x → from c ≡ Some y → are_apart b.place.turns c.place.turns ≡ true → conflict b c ≡ true → StandApart x y
   pub alone : (b c : Access) → IsIn b (accesses others) → IsIn c (accesses others) → from b ≡ None → are_apart b.place.turns c.place.turns ≡ true → conflict b c ≡ false
   pub alone_behind : (b c : Access) → IsIn b (accesses others) → IsIn c (accesses others) → from c ≡ None → are_apart b.place.turns c.place.turns ≡ true → conflict b c ≡ false

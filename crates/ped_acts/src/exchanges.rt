@@ -33,6 +33,11 @@ pub fn equal_piece()
     ensures { (acts : List Act) (before behind : Cell → Bool) (s : Store) → Fits acts s → ((c : Cell) → needs acts c ≡ true → before c ≡ true) → ((c : Cell) → behind c ≡ true → (before c ≡ true) ⊎ (written acts c ≡ true)) → StandsFor (record { agreed = before; old = acts; new = acts }) behind s }
 {}
 
+/// A piece that stands for one which stands for another stands for that one. For steps that are done in two.
+pub fn in_two_steps()
+    ensures { (acts middle others : List Act) (before behind : Cell → Bool) (s : Store) → StandsFor (record { agreed = before; old = acts; new = middle }) behind s → StandsFor (record { agreed = before; old = middle; new = others }) behind s → StandsFor (record { agreed = before; old = acts; new = others }) behind s }
+{}
+
 /// Where each changed part may stand for the old one from stores that agree on what the old acts want from there on, the
 /// new list fits where the old one does, and the stores agree on what is shown at the end. For scalars that aren't live
 /// behind the loop that changes.

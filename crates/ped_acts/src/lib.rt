@@ -12,7 +12,7 @@ mod races;
 mod walks;
 
 pub use agreeing::{agreement, other_places};
-pub use exchanges::{equal_piece, exchange, one_after_another, pieces, wanted_parts};
+pub use exchanges::{equal_piece, exchange, in_two_steps, one_after_another, pieces, wanted_parts};
 pub use idle_acts::{changes, plain_changes, same_outside, touches_exchanged, without_writes};
 pub use names::{renaming, renaming_everywhere, renaming_one};
 pub use orders::{
@@ -20,6 +20,7 @@ pub use orders::{
     to_the_front,
 };
 pub use races::{
-    acts_that_conflict, apart_either_way, blocks_that_conflict, conflicting_accesses, origins, race_free_acts,
+    acts_that_conflict, apart_either_way, blocks_that_conflict, conflicting_accesses, no_race_by_pairs, origins,
+    race_free_acts,
 };
 pub use walks::{renaming_by_source, side_by_side};

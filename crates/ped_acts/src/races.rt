@@ -3,7 +3,7 @@
 ghost use Rattle.std.specs.Prelude.{◌≡◌, List, Bool, true, false, Option, ◌⊎◌};
 ghost use Rattle.ped_store.specs.Cells.{Cell};
 ghost use Rattle.ped_store.specs.Acts.{Turn, Act};
-ghost use Rattle.ped_store.specs.Races.{Access, accesses_of, accesses, conflict, are_apart, HasNoRace};
+ghost use Rattle.ped_store.specs.Races.{Access, accesses_of, accesses, conflict, are_apart, race, HasNoRace};
 ghost use Rattle.ped_acts.specs.Conflicts.{acts_conflict, acts_conflict_outside, blocks_conflict_outside};
 ghost use Rattle.ped_acts.specs.Orders.{IsIn, StandsBefore};
 ghost use Rattle.ped_acts.specs.Origins.{told_to, WritesItsLines, AreOfOneKind, HaveOrigins};
@@ -24,6 +24,12 @@ pub fn acts_that_conflict()
 /// Blocks that conflict have acts that do. For the iterations of loops.
 pub fn blocks_that_conflict()
     ensures { (d : Cell → Bool) (xs ys : List Act) → blocks_conflict_outside d xs ys ≡ true → (a b : Act) × IsIn a xs × IsIn b ys × (acts_conflict_outside d a b ≡ true) }
+{}
+
+/// A list of accesses has no race exactly where none races with one behind it.
+pub fn no_race_by_pairs()
+    ensures pairs { (xs : List Access) (p q : Access) → HasNoRace xs → StandsBefore p q xs → race p q ≡ false }
+    ensures none { (xs : List Access) → ((p q : Access) → StandsBefore p q xs → race p q ≡ false) → HasNoRace xs }
 {}
 
 /// In a list without a race no two acts conflict that stand in two iterations of one execution of a PARALLEL DO. For

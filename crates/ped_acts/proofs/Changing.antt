@@ -151,14 +151,14 @@ plain_within d changing s [] u t h steady same = tt
 plain_within d changing s (stays a b ∷ w) u t h steady same = (
   same_stays d a.touches b.touches u t h.0,
   plain_within d changing s w (store_behind a.touches u) (store_behind b.touches t) h.1
-  (λ e p. (unwritten_parts a (acts_before w) e (steady e p)).1)
-  (λ e p. behind_other a.touches u e (unwritten_parts a (acts_before w) e (steady e p)).0 ∙ same e p),
+      (λ e p. (unwritten_parts a (acts_before w) e (steady e p)).1)
+      (λ e p. behind_other a.touches u e (unwritten_parts a (acts_before w) e (steady e p)).0 ∙ same e p),
 )
 plain_within d changing s (goes a ∷ w) u t h steady same = (
   h.0,
   plain_within d changing s w (store_behind a.touches u) t h.1
-  (λ e p. (unwritten_parts a (acts_before w) e (steady e p)).1)
-  (λ e p. behind_other a.touches u e (unwritten_parts a (acts_before w) e (steady e p)).0 ∙ same e p),
+      (λ e p. (unwritten_parts a (acts_before w) e (steady e p)).1)
+      (λ e p. behind_other a.touches u e (unwritten_parts a (acts_before w) e (steady e p)).0 ∙ same e p),
 )
 plain_within d changing s (comes b ∷ w) u t h steady same = (
   h.0,

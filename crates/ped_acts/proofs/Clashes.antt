@@ -1,10 +1,10 @@
 -- Touches that don't clash may change places.
-use Rattle.std.proofs.Common.{◌≡◌, List, [], ◌∷◌, ◌++◌, Bool, true, false, ◌&&◌, ◌||◌, refl, sym, ap, subst, ◌∙◌}
+use Rattle.std.proofs.Common.{◌≡◌, List, [], ◌∷◌, Bool, true, false, ◌&&◌, refl, sym, ap, subst, ◌∙◌}
 use Rattle.std.specs.List.{list_any}
 use Rattle.std.proofs.lemmas.Bool.{or_parts}
 use Rattle.ped_store.specs.Cells.{Cell, same_cell}
-use Rattle.ped_store.specs.Stores.{Content, Store, put}
-use Rattle.ped_store.specs.Acts.{Manner, reads, writes, is_told, Touch, Act, touched, store_behind}
+use Rattle.ped_store.specs.Stores.{Content, Store}
+use Rattle.ped_store.specs.Acts.{Manner, reads, writes, is_told, Touch, touched, store_behind}
 use Rattle.ped_acts.specs.Fitting.{IsFound, Find}
 use Rattle.ped_acts.specs.Conflicts.{manners_clash, clash, some_clash}
 use Rattle.ped_acts.proofs.SameCells.{cell_flip}

@@ -1,17 +1,17 @@
 -- Acts conflict where their accesses do.
-use Rattle.std.proofs.Common.{◌≡◌, ℕ, List, [], ◌∷◌, ◌++◌, map, cond, Bool, true, false, ◌&&◌, ◌||◌, refl, sym, ap, subst, ◌∙◌, ◌⊎◌, inl, inr}
+use Rattle.std.proofs.Common.{◌≡◌, List, [], ◌∷◌, map, cond, Bool, true, false, ◌&&◌, ◌||◌, refl, sym, ap, subst, ◌∙◌, ◌⊎◌, inl, inr}
 use Rattle.std.specs.Prelude.{not}
-use Rattle.std.specs.List.{filter, list_any, flat_map}
+use Rattle.std.specs.List.{filter, list_any}
 use Rattle.std.proofs.lemmas.Bool.{and_parts, or_parts}
 use Rattle.ped_store.specs.Cells.{Cell, same_cell}
-use Rattle.ped_store.specs.Acts.{Manner, reads, writes, is_told, Touch, Turn, Act}
+use Rattle.ped_store.specs.Acts.{Manner, reads, writes, is_told, Touch, Act}
 use Rattle.ped_store.specs.Races.{Access, is_lines, is_write, is_access, accesses_of, accesses, conflict}
 use Rattle.ped_acts.specs.Fitting.{touches_of}
 use Rattle.ped_acts.specs.Conflicts.{manners_clash, clash, some_clash, clash_outside, some_clash_outside, acts_conflict, acts_conflict_outside, blocks_conflict_outside}
 use Rattle.ped_acts.specs.Orders.{IsIn, StandsBefore}
 use Rattle.ped_acts.specs.Origins.{is_told_value, told_to, WritesItsLines}
-use Rattle.ped_acts.proofs.SameCells.{cell_is, is_cell, cell_flip}
-use Rattle.ped_acts.proofs.Lists.{in_left, in_right, in_parts, before_left, before_right, before_across}
+use Rattle.ped_acts.proofs.SameCells.{cell_is, is_cell}
+use Rattle.ped_acts.proofs.Lists.{in_left, in_right, in_parts, before_right, before_across}
 use Rattle.ped_acts.proofs.Renamings.{or_right, or_left, or_either}
 
 -- tests of items

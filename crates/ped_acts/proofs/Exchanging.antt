@@ -1,11 +1,11 @@
 -- Pieces of a list exchanged for others.
 use Rattle.std.proofs.Common.{◌≡◌, List, [], ◌∷◌, ◌++◌, Bool, true, false, ◌&&◌, ◌||◌, refl, sym, ap, subst, ◌∙◌, ◌⊎◌, inl, inr}
 use Rattle.std.specs.Prelude.{not, if◌then◌else◌}
-use Rattle.std.proofs.lemmas.Bool.{and_parts, both_ways, or_parts}
+use Rattle.std.proofs.lemmas.Bool.{and_parts, or_parts}
 use Rattle.std.proofs.lemmas.List.Folds.{list_any-append}
 use Rattle.ped_store.specs.Cells.{Cell, same_cell}
 use Rattle.ped_store.specs.Stores.{Store}
-use Rattle.ped_store.specs.Acts.{Manner, reads, writes, is_told, Touch, Act, store_behind}
+use Rattle.ped_store.specs.Acts.{Manner, reads, writes, is_told, Touch, Act}
 use Rattle.ped_store.specs.Races.{is_write}
 use Rattle.ped_acts.specs.Fitting.{Fits, store_after, touches_of}
 use Rattle.ped_acts.specs.Sets.{AgreeIn, AgreeOutside, writes_to, written_by, written, read_first, needed_by, needs, wants}

@@ -1,5 +1,5 @@
 -- Items of lists, and which stands before which.
-use Rattle.std.proofs.Common.{◌≡◌, ℕ, ◌+◌, ◌≤◌, ◌<◌, List, [], ◌∷◌, ◌++◌, refl, sym, ap, subst, ◌∙◌, arith, ◌⊎◌, inl, inr}
+use Rattle.std.proofs.Common.{◌≡◌, ℕ, ◌+◌, ◌≤◌, ◌<◌, List, [], ◌∷◌, ◌++◌, refl, sym, ap, ◌∙◌, arith, ◌⊎◌, inl, inr}
 use Rattle.ped_store.specs.Acts.{Act}
 use Rattle.ped_acts.specs.Orders.{IsIn, StandsBefore, EachOnce, Numbered, number_from, acts_in}
 

@@ -1,15 +1,13 @@
 -- Stores that agree outside a set of cells which no act reads.
-use Rattle.std.proofs.Common.{◌≡◌, List, [], ◌∷◌, ◌++◌, Bool, true, false, ◌&&◌, ◌||◌, refl, sym, ap, subst, ◌∙◌}
-use Rattle.std.specs.Prelude.{not, map}
-use Rattle.std.specs.List.{filter, list_any}
-use Rattle.std.proofs.lemmas.Bool.{both_ways, or_parts}
+use Rattle.std.proofs.Common.{◌≡◌, List, [], ◌∷◌, ◌++◌, Bool, true, false, ◌&&◌, refl, sym, ap, subst, ◌∙◌}
+use Rattle.std.proofs.lemmas.Bool.{both_ways}
 use Rattle.ped_store.specs.Cells.{Cell, same_cell}
 use Rattle.ped_store.specs.Stores.{Content, Store, put}
 use Rattle.ped_store.specs.Acts.{Manner, reads, writes, is_told, Touch, Act, touched, store_behind}
 use Rattle.ped_store.specs.Races.{is_write}
-use Rattle.ped_acts.specs.Fitting.{IsFound, Find, Fits, store_after, touches_of}
+use Rattle.ped_acts.specs.Fitting.{IsFound, Find, touches_of}
 use Rattle.ped_acts.specs.Sets.{AgreeOutside}
-use Rattle.ped_acts.specs.Conflicts.{touches_without, act_without, without, IsNoReadOf, LeaveUnread, ReadNone, IsWriteWithin, WriteWithin, clash, some_clash, clash_outside, some_clash_outside, manners_clash}
+use Rattle.ped_acts.specs.Conflicts.{touches_without, without, IsNoReadOf, LeaveUnread, ReadNone, IsWriteWithin, WriteWithin}
 use Rattle.ped_acts.proofs.SameCells.{cell_is}
 use Rattle.ped_acts.proofs.Stores.{put_same, put_other}
 

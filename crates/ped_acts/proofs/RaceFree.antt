@@ -1,15 +1,15 @@
 -- Lists without a race.
-use Rattle.std.proofs.Common.{◌≡◌, ℕ, List, [], ◌∷◌, ◌++◌, Bool, true, false, ◌&&◌, ◌||◌, Option, Some, None, eqb, eqb-true, refl, sym, ap, subst, ◌∙◌, arith, ◌⊎◌, inl, inr}
+use Rattle.std.proofs.Common.{◌≡◌, ℕ, List, [], ◌∷◌, Bool, true, false, ◌&&◌, ◌||◌, Option, Some, None, eqb, eqb-true, refl, sym, ap, subst, ◌∙◌, arith, inl, inr}
 use Rattle.std.specs.Prelude.{if◌then◌else◌}
-use Rattle.std.specs.List.{All, AllByRecursion}
+use Rattle.std.specs.List.{AllByRecursion}
 use Rattle.std.proofs.lemmas.List.Elements.{All-from_recursion, recursion_from_All}
 use Rattle.std.proofs.lemmas.Bool.{and_parts, both_ways}
-use Rattle.ped_store.specs.Cells.{Cell, same_cell}
+use Rattle.ped_store.specs.Cells.{same_cell}
 use Rattle.ped_store.specs.Acts.{Turn, Act}
-use Rattle.ped_store.specs.Races.{Access, accesses_of, accesses, conflict, are_apart, race, HasNoRace}
+use Rattle.ped_store.specs.Races.{Access, accesses, conflict, are_apart, race, HasNoRace}
 use Rattle.ped_acts.specs.Conflicts.{acts_conflict}
 use Rattle.ped_acts.specs.Orders.{IsIn, StandsBefore}
-use Rattle.ped_acts.specs.Origins.{WritesItsLines, AreOfOneKind, StandApart, HaveOrigins}
+use Rattle.ped_acts.specs.Origins.{WritesItsLines, AreOfOneKind, HaveOrigins}
 use Rattle.ped_acts.proofs.SameCells.{cell_flip}
 use Rattle.ped_acts.proofs.Lists.{first_in, second_in, in_order}
 use Rattle.ped_acts.proofs.Renamings.{or_right, or_left, or_either}

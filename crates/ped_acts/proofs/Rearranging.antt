@@ -1,13 +1,13 @@
 -- Items of touches in another order, each past items alone with which it doesn't clash.
-use Rattle.std.proofs.Common.{◌≡◌, ℕ, List, [], ◌∷◌, ◌++◌, reverse, Bool, true, false, refl, sym, ap, subst, ◌∙◌, append_assoc, ◌⊎◌, inl, inr}
+use Rattle.std.proofs.Common.{◌≡◌, List, [], ◌∷◌, ◌++◌, reverse, Bool, true, false, refl, sym, ap, subst, ◌∙◌, inl, inr}
 use Rattle.std.proofs.lemmas.List.{reverse-append}
 use Rattle.ped_store.specs.Stores.{Store}
-use Rattle.ped_store.specs.Acts.{Touch, Act, store_behind}
+use Rattle.ped_store.specs.Acts.{Touch, store_behind}
 use Rattle.ped_acts.specs.Fitting.{Find}
 use Rattle.ped_acts.specs.Conflicts.{some_clash}
-use Rattle.ped_acts.specs.Orders.{IsIn, StandsBefore, EachOnce, IsReordered, KeepsOrder}
+use Rattle.ped_acts.specs.Orders.{IsIn, StandsBefore, EachOnce, KeepsOrder}
 use Rattle.ped_acts.proofs.Stores.{behind_append, find_append, find_first, find_rest}
-use Rattle.ped_acts.proofs.Lists.{in_left, in_parts, in_more, in_middle, in_fewer, split_at, first_in, second_in, before_more, before_it, once_fewer, not_in_rest}
+use Rattle.ped_acts.proofs.Lists.{in_left, in_parts, in_more, in_fewer, split_at, first_in, second_in, before_more, before_it, once_fewer, not_in_rest}
 use Rattle.ped_acts.proofs.Clashes.{swap_behind, swap_find, swap_found}
 
 -- the touches of items, one after the other

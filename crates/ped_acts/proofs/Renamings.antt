@@ -1,5 +1,5 @@
 -- Acts on renamed cells, and the same acts from stores that agree where they need it.
-use Rattle.std.proofs.Common.{◌≡◌, List, [], ◌∷◌, ◌++◌, Bool, true, false, ◌&&◌, ◌||◌, refl, sym, ap, subst, ◌∙◌, ◌⊎◌, inl, inr}
+use Rattle.std.proofs.Common.{◌≡◌, List, [], ◌∷◌, Bool, true, false, ◌&&◌, ◌||◌, refl, sym, ap, subst, ◌∙◌, ◌⊎◌, inl, inr}
 use Rattle.std.specs.Prelude.{if◌then◌else◌}
 use Rattle.std.proofs.lemmas.Bool.{and_parts, both_ways, or_parts}
 use Rattle.ped_store.specs.Cells.{Cell, same_cell}
@@ -12,7 +12,7 @@ use Rattle.ped_acts.specs.Walks.{OfReads}
 use Rattle.ped_acts.specs.Renaming.{AreRenamed, Renamed, touched_by, touch, IsOneToOne, IsFree, own_name, in_place_of}
 use Rattle.ped_acts.proofs.SameCells.{cell_itself, cell_is, is_cell, other_cell, cells_differ}
 use Rattle.ped_acts.proofs.OfCells.{find_cells, cells_find, behind_cells, written_cells, touched_cells, needed_cells}
-use Rattle.ped_acts.proofs.Stores.{put_same, put_other, touched_same, touched_other, after_is, fits_find, find_fits}
+use Rattle.ped_acts.proofs.Stores.{put_same, put_other, touched_other, after_is, fits_find, find_fits}
 
 pub or_right : (a b : Bool) → b ≡ true → a || b ≡ true
 or_right true b h = refl
@@ -135,12 +135,12 @@ renamed_written g [] (y ∷ ys) s t c r free h = absurd r
 renamed_written g (x ∷ xs) [] s t c r free h = absurd r
 renamed_written g (x ∷ xs) (y ∷ ys) s t c r free h = elim (or_either (writes_to x c) (written_by xs c) h) [
   | inl p ↦ renamed_alike g xs ys (touched x.manner x.cell x.content s) (touched y.manner y.cell y.content t) c r.3
-    (λ d k. free d (or_right (writes_to x d) (written_by xs d) k))
-    (touched_renamed g x.manner y.manner x.cell y.cell x.content y.content s t c r.0 r.1 r.2
-    (λ w. free x.cell (or_left (writes_to x x.cell) (written_by xs x.cell) (writes_itself x.manner x.cell w)))
-    (λ n. absurd (both_ways (writes_to x c) n p)))
+      (λ d k. free d (or_right (writes_to x d) (written_by xs d) k))
+      (touched_renamed g x.manner y.manner x.cell y.cell x.content y.content s t c r.0 r.1 r.2
+      (λ w. free x.cell (or_left (writes_to x x.cell) (written_by xs x.cell) (writes_itself x.manner x.cell w)))
+      (λ n. absurd (both_ways (writes_to x c) n p)))
   | inr q ↦ renamed_written g xs ys (touched x.manner x.cell x.content s) (touched y.manner y.cell y.content t) c r.3
-    (λ d k. free d (or_right (writes_to x d) (written_by xs d) k)) q
+      (λ d k. free d (or_right (writes_to x d) (written_by xs d) k)) q
 ]
 
 -- a cell that isn't written keeps its content

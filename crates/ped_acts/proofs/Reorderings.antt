@@ -1,5 +1,5 @@
 -- Acts and blocks of acts in another order.
-use Rattle.std.proofs.Common.{◌≡◌, ℕ, ◌≤◌, ◌<◌, List, [], ◌∷◌, ◌++◌, reverse, Bool, true, false, ◌&&◌, ◌||◌, refl, sym, ap, subst, ◌∙◌, append_assoc, append-nil, arith, ◌⊎◌, inl, inr}
+use Rattle.std.proofs.Common.{◌≡◌, ℕ, ◌≤◌, ◌<◌, List, [], ◌∷◌, ◌++◌, reverse, Bool, true, false, ◌&&◌, refl, sym, ap, subst, ◌∙◌, append_assoc, append-nil, arith, ◌⊎◌, inl, inr}
 use Rattle.std.specs.Prelude.{not}
 use Rattle.std.specs.List.{list_any}
 use Rattle.std.proofs.lemmas.Bool.{both_ways, or_parts}
@@ -11,14 +11,14 @@ use Rattle.ped_store.specs.Acts.{Manner, reads, writes, is_told, Touch, Act, sto
 use Rattle.ped_store.specs.Races.{is_write}
 use Rattle.ped_acts.specs.Fitting.{Find, Fits, store_after, touches_of}
 use Rattle.ped_acts.specs.Sets.{nothing, AgreeOutside}
-use Rattle.ped_acts.specs.Conflicts.{manners_clash, clash, some_clash, clash_outside, some_clash_outside, acts_conflict, acts_conflict_outside, blocks_conflict, blocks_conflict_outside, touches_without, IsNoReadOf, LeaveUnread, ReadNone}
+use Rattle.ped_acts.specs.Conflicts.{manners_clash, clash, some_clash, clash_outside, some_clash_outside, acts_conflict, blocks_conflict, blocks_conflict_outside, touches_without, IsNoReadOf, LeaveUnread, ReadNone}
 use Rattle.ped_acts.specs.Orders.{IsIn, StandsBefore, EachOnce, HaveSameItems, IsReordered, KeepsOrder, Numbered, number_from, acts_in, numbered_conflict, IsSortedBy, acts_in_all, AreApart, Block, acts_in_blocks, block_conflict, IsByRows, IsByColumns, NoneCrosses}
 use Rattle.ped_acts.proofs.SameCells.{cell_is}
-use Rattle.ped_acts.proofs.Stores.{behind_append, find_append, find_first, find_rest, after_is, fits_find, find_fits, after_append, fits_append, fits_first, fits_rest}
+use Rattle.ped_acts.proofs.Stores.{find_append, find_first, find_rest, after_is, fits_find, find_fits, after_append, fits_append, fits_first, fits_rest}
 use Rattle.ped_acts.proofs.Lists.{in_left, in_right, in_more, in_order, before_parts, first_in, second_in, numbers_rise, numbered_once, acts_numbered}
 use Rattle.ped_acts.proofs.Clashes.{swap_behind, swap_find, swap_found}
 use Rattle.ped_acts.proofs.Rearranging.{flat, Rearranged, rearranged_find, rearranged_behind, same_order, rearranges, in_reverse, reversed}
-use Rattle.ped_acts.proofs.Outside.{agree_back, without_behind, without_find, find_without, without_append, unread_append, unread_first, unread_rest, unread_touches, none_append, none_first, none_rest}
+use Rattle.ped_acts.proofs.Outside.{agree_back, without_behind, without_find, find_without, without_append, unread_append, unread_first, unread_rest, unread_touches}
 
 -- two touches that stay and don't clash outside the set don't clash at all
 kept_pair : (d : Cell → Bool) (m n : Manner) (c e : Cell) → (same_cell c e && manners_clash m n) && not (d c) ≡ false → is_write m && d c ≡ false → is_write n && d e ≡ false → same_cell c e && manners_clash m n ≡ false
@@ -280,9 +280,9 @@ rows_keep : (d : Cell → Bool) (rows columns : List Block) → IsByRows rows �
 rows_keep d rows columns by_rows by_columns same none x y b c =
     elim (in_order x y columns (same.none_lost x i) (same.none_lost y j)) [
       | inl e ↦
-        let o : x.outer ≡ y.outer = ap (λ (z : Block). z.outer) e in
-        let n : x.inner ≡ y.inner = ap (λ (z : Block). z.inner) e in
-        absurd (elim (by_rows x y b) [ inl h ↦ omega arith | inr h ↦ let k = h.1 in omega arith ])
+          let o : x.outer ≡ y.outer = ap (λ (z : Block). z.outer) e in
+          let n : x.inner ≡ y.inner = ap (λ (z : Block). z.inner) e in
+          absurd (elim (by_rows x y b) [ inl h ↦ omega arith | inr h ↦ let k = h.1 in omega arith ])
       | inr r ↦ elim r [
         | inl before ↦ before
         | inr after ↦ absurd (crossed (by_rows x y b) (by_columns y x after))

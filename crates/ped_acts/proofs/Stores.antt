@@ -1,13 +1,12 @@
 -- Stores behind touches.
-use Rattle.std.proofs.Common.{◌≡◌, List, [], ◌∷◌, ◌++◌, Bool, true, false, ◌&&◌, refl, sym, ap, subst, ◌∙◌}
+use Rattle.std.proofs.Common.{◌≡◌, List, [], ◌∷◌, ◌++◌, Bool, true, false, ◌&&◌, refl, sym, subst, ◌∙◌}
 use mathlib.Core.Path.{fun_ext}
 use Rattle.ped_store.specs.Cells.{Cell, same_cell}
 use Rattle.ped_store.specs.Stores.{Content, Store, put}
 use Rattle.ped_store.specs.Acts.{Manner, reads, writes, is_told, Touch, Act, touched, store_behind}
 use Rattle.ped_store.specs.Races.{is_write}
-use Rattle.ped_acts.specs.Fitting.{IsFound, Find, Fits, store_after, touches_of}
-use Rattle.ped_acts.specs.Sets.{writes_to}
-use Rattle.ped_acts.proofs.SameCells.{cell_is, cell_itself, other_cell}
+use Rattle.ped_acts.specs.Fitting.{Find, Fits, store_after, touches_of}
+use Rattle.ped_acts.proofs.SameCells.{cell_is}
 
 -- the cell that is written holds what is written
 pub put_same : (c : Cell) (v : Content) (s : Store) (d : Cell) → same_cell c d ≡ true → put c v s d ≡ v

@@ -1,12 +1,12 @@
 -- Lists that go side by side.
-use Rattle.std.proofs.Common.{◌≡◌, List, [], ◌∷◌, Bool, true, false, ◌&&◌, refl, sym, ap, subst, ◌∙◌}
+use Rattle.std.proofs.Common.{◌≡◌, List, [], ◌∷◌, Bool, true, false, refl, sym, ap, subst, ◌∙◌}
 use Rattle.std.specs.Bool.{MatchBool}
 use Rattle.ped_store.specs.Cells.{Cell}
 use Rattle.ped_store.specs.Stores.{Content, Store}
 use Rattle.ped_store.specs.Acts.{Manner, reads, writes, is_told, Touch, Act, touched, store_behind}
 use Rattle.ped_acts.specs.Fitting.{IsFound, Find, Fits, store_after, touches_of, has_cell, of_cells}
 use Rattle.ped_acts.specs.Sets.{writes_to}
-use Rattle.ped_acts.specs.Walks.{Stride, both, old_alone, new_alone, olds, news, in_step, SameSource, new_store, OfReads, MayBeMade, SideBySide, walked}
+use Rattle.ped_acts.specs.Walks.{Stride, both, old_alone, new_alone, olds, news, in_step, SameSource, new_store, OfReads, SideBySide, walked}
 use Rattle.ped_acts.proofs.OfCells.{stays_first, goes_first, find_cells, cells_find, behind_cells}
 use Rattle.ped_acts.proofs.Stores.{touched_same, touched_other, after_is, fits_find, find_fits}
 

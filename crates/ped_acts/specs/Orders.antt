@@ -1,8 +1,8 @@
 -- Lists that hold the same items in another order (plain words; this project).
-use Rattle.std.specs.Prelude.{◌≡◌, ℕ, ◌+◌, ◌<◌, ◌≤◌, List, [], ◌∷◌, ◌++◌, map, Bool, true, false, ◌⊎◌}
+use Rattle.std.specs.Prelude.{◌≡◌, ℕ, ◌+◌, ◌<◌, List, [], ◌∷◌, ◌++◌, map, Bool, true, false, ◌⊎◌}
 use Rattle.ped_store.specs.Cells.{Cell}
 use Rattle.ped_store.specs.Acts.{Act}
-use Rattle.ped_acts.specs.Conflicts.{acts_conflict, acts_conflict_outside, blocks_conflict_outside}
+use Rattle.ped_acts.specs.Conflicts.{acts_conflict_outside, blocks_conflict_outside}
 
 -- x is an item of the list (plain words)
 abbrev pub IsIn : {X : Type 0} → X → List X → Type 0

@@ -3,8 +3,8 @@ use Rattle.std.specs.Prelude.{◌≡◌, List, [], ◌∷◌, true, false}
 use Rattle.std.specs.Bool.{MatchBool}
 use Rattle.ped_store.specs.Cells.{Cell}
 use Rattle.ped_store.specs.Stores.{Store}
-use Rattle.ped_store.specs.Acts.{Manner, reads, writes, is_told, Touch, Act, touched}
-use Rattle.ped_acts.specs.Fitting.{IsFound, touches_of}
+use Rattle.ped_store.specs.Acts.{Manner, reads, writes, is_told, Touch, touched}
+use Rattle.ped_acts.specs.Fitting.{IsFound}
 use Rattle.ped_acts.specs.Sets.{writes_to}
 
 -- a stride of the walk: a touch of both lists, of the old alone, or of the new alone (this project)

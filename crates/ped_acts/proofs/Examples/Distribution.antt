@@ -1,6 +1,5 @@
 -- DO 10 I=1,2; A(I)=I; 10 B(I)=A(I) is distributed: DO 20 I=1,2; 20 A(I)=I; DO 10 I=1,2; 10 B(I)=A(I).
-use Rattle.std.proofs.Common.{◌≡◌, ℕ, List, [], ◌∷◌, ◌++◌, Bool, true, false, ◌&&◌, ◌||◌, refl, sym, ap, ◌∙◌, ◌⊎◌, inl, inr}
-use Rattle.std.specs.Prelude.{not, nat_lt}
+use Rattle.std.proofs.Common.{◌≡◌, ℕ, List, [], ◌∷◌, Bool, true, false, refl, sym, ap, ◌∙◌}
 use mathlib.Core.Path.{fun_ext}
 use Rattle.ped_store.specs.Cells.{Cell, same_cell}
 use Rattle.ped_store.specs.Stores.{Store}
@@ -8,12 +7,12 @@ use Rattle.ped_store.specs.Acts.{did, entered, ended_turn, Act}
 use Rattle.ped_acts.specs.Fitting.{Fits, store_after}
 use Rattle.ped_acts.specs.Sets.{AgreeOutside, written}
 use Rattle.ped_acts.specs.Conflicts.{LeaveUnread, ReadNone}
-use Rattle.ped_acts.specs.Orders.{IsIn, HaveSameItems, Block, acts_in_blocks, block_conflict, IsByRows, IsByColumns, NoneCrosses}
+use Rattle.ped_acts.specs.Orders.{HaveSameItems, Block, acts_in_blocks}
 use Rattle.ped_acts.specs.Changes.{Change, stays, goes, comes, acts_before, acts_behind, AreSameOutside, PlainChange}
 use Rattle.ped_acts.proofs.SameCells.{cell_is}
 use Rattle.ped_acts.proofs.Changing.{changed_fits, changed_leaves, plain_changes}
 use Rattle.ped_acts.proofs.Reorderings.{columns_fit, columns_leave}
-use Rattle.ped_acts.proofs.Examples.Checks.{by_rows, by_columns, in_passes, not_is, crosses_not, none_crosses, four_lost}
+use Rattle.ped_acts.proofs.Examples.Checks.{by_rows, by_columns, none_crosses, four_lost}
 use Rattle.ped_acts.proofs.Examples.Lists.{i, a, b, told, read, write, turn, act}
 use Rattle.ped_acts.proofs.Examples.Orders.{sets_a, sets_b}
 

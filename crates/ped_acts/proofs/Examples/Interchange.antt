@@ -121,10 +121,29 @@ going_plain s =
 
 -- N holds 2, and no assignment writes it
 coming_plain : (s : Store) → s n ≡ Number (pos 2) → PlainChange indices (written (acts_before coming)) s coming
-coming_plain s h =
-    ((tt, tt), ((refl, refl, h), tt),
-    (tt, tt, (stay 1 1, (tt, tt, (stay 2 1, ((refl, tt), (tt, tt),
-    (tt, tt, (tt, tt, (stay 1 2, (tt, tt, (stay 2 2, ((refl, tt), (tt, tt), ((refl, tt), (tt, tt), tt)))))))))))))
+coming_plain s h = (
+  (tt, tt),
+  ((refl, refl, h), tt),
+  (
+    tt,
+    tt,
+    (
+      stay 1 1,
+      (
+        tt,
+        tt,
+        (
+          stay 2 1,
+          (
+            (refl, tt),
+            (tt, tt),
+            (tt, tt, (tt, tt, (stay 1 2, (tt, tt, (stay 2 2, ((refl, tt), (tt, tt), ((refl, tt), (tt, tt), tt))))))),
+          ),
+        ),
+      ),
+    ),
+  ),
+)
 
 same : (s : Store) → AgreeOutside indices s s
 same s x h = refl

@@ -1,8 +1,8 @@
 -- Acts of small programs.
-use Rattle.std.specs.Prelude.{ℕ, ℤ, pos, List, [], ◌∷◌, Bool, false}
+use Rattle.std.specs.Prelude.{ℕ, pos, List, [], ◌∷◌, false}
 use Rattle.ped_store.specs.Cells.{Cell, Scalar, Element, Private}
 use Rattle.ped_store.specs.Stores.{Number, Undefined}
-use Rattle.ped_store.specs.Acts.{Manner, reads, writes, is_told, Touch, Turn, Step, did, entered, ended_turn, Act}
+use Rattle.ped_store.specs.Acts.{reads, writes, is_told, Touch, Turn, Step, Act}
 
 -- the scalars I, J, N, T, the copies of T that belong to iterations of a DO with number 1, and elements of the arrays A, B
 abbrev pub i : Cell

@@ -1,17 +1,15 @@
 -- DO 10 I=1,2; A(I)=I; 10 B(I)=A(I): the statements of its iterations in another order, by each of the laws.
-use Rattle.std.proofs.Common.{◌≡◌, ℕ, ◌≤◌, List, [], ◌∷◌, ◌++◌, reverse, Bool, true, false, ◌&&◌, ◌||◌, refl, sym, ap, ◌∙◌, arith, ◌⊎◌, inl, inr}
+use Rattle.std.proofs.Common.{◌≡◌, ℕ, ◌≤◌, List, [], ◌∷◌, true, false, ◌||◌, refl, sym, ap, ◌∙◌, arith, inl, inr}
 use Rattle.std.specs.Prelude.{not, nat_le}
 use Rattle.std.proofs.lemmas.Bool.{leb-true, both_ways}
-use Rattle.ped_store.specs.Cells.{Cell, same_cell}
 use Rattle.ped_store.specs.Stores.{Store}
 use Rattle.ped_store.specs.Acts.{did, Act}
 use Rattle.ped_acts.specs.Fitting.{Fits, store_after}
-use Rattle.ped_acts.specs.Sets.{nothing, AgreeOutside}
-use Rattle.ped_acts.specs.Conflicts.{acts_conflict, blocks_conflict_outside, ReadNone}
-use Rattle.ped_acts.specs.Orders.{IsIn, StandsBefore, EachOnce, HaveSameItems, IsReordered, KeepsOrder, Numbered, number_from, acts_in, numbered_conflict, IsSortedBy, acts_in_all, AreApart, Block, acts_in_blocks, block_conflict, IsByRows}
-use Rattle.ped_acts.proofs.Lists.{numbered_once}
-use Rattle.ped_acts.proofs.Reorderings.{front_fits, front_leaves, between_fits, between_leaves, reordered_fits, reordered_leaves, sorted_fits, reversed_fits, columns_fit, columns_leave, blocks_fit, nothing_read}
-use Rattle.ped_acts.proofs.Examples.Checks.{in_passes, all_before, before_passes, sorted_by, not_is, implied, four_lost}
+use Rattle.ped_acts.specs.Sets.{nothing}
+use Rattle.ped_acts.specs.Conflicts.{acts_conflict, blocks_conflict_outside}
+use Rattle.ped_acts.specs.Orders.{IsIn, StandsBefore, EachOnce, IsReordered, KeepsOrder, Numbered, number_from, numbered_conflict, AreApart}
+use Rattle.ped_acts.proofs.Reorderings.{front_fits, between_fits, between_leaves, reordered_fits, reordered_leaves, sorted_fits, reversed_fits, nothing_read}
+use Rattle.ped_acts.proofs.Examples.Checks.{in_passes, before_passes, sorted_by, not_is, implied, four_lost}
 use Rattle.ped_acts.proofs.Examples.Lists.{i, a, b, told, read, write, turn, act}
 
 -- A(I)=I and B(I)=A(I) in iteration k

@@ -1,5 +1,5 @@
 -- DO 10 I=1,2; T=I; 10 A(I)=T gets PRIVATE T: in each iteration its copy stands for T, and the exit leaves T undefined. T isn't wanted behind the loop.
-use Rattle.std.proofs.Common.{◌≡◌, ℕ, pos, List, [], ◌∷◌, Bool, true, false, ◌&&◌, ◌||◌, refl, sym, ap, ◌∙◌, ◌⊎◌, inl, inr}
+use Rattle.std.proofs.Common.{◌≡◌, ℕ, List, [], ◌∷◌, Bool, true, false, ◌||◌, refl, ap, inl, inr}
 use Rattle.std.specs.Prelude.{not, if◌then◌else◌}
 use Rattle.std.proofs.lemmas.Bool.{or_parts, both_ways}
 use Rattle.ped_store.specs.Cells.{Cell, same_cell}
@@ -10,11 +10,10 @@ use Rattle.ped_acts.specs.Sets.{AgreeIn, AgreeOutside, needs, written}
 use Rattle.ped_acts.specs.Renaming.{Renamed, touch, in_place_of}
 use Rattle.ped_acts.specs.Changes.{stays, PlainChange}
 use Rattle.ped_acts.specs.Pieces.{Piece, old_acts, new_acts, StandsFor, AllStand}
-use Rattle.ped_acts.proofs.SameCells.{cell_is}
 use Rattle.ped_acts.proofs.Renamings.{one_fits, one_leaves}
 use Rattle.ped_acts.proofs.Changing.{changed_fits, changed_leaves, plain_changes}
 use Rattle.ped_acts.proofs.Exchanging.{same_stands, pieces_fit, pieces_leave}
-use Rattle.ped_acts.proofs.Examples.Checks.{not_is, is_not}
+use Rattle.ped_acts.proofs.Examples.Checks.{not_is}
 use Rattle.ped_acts.proofs.Examples.Lists.{i, t, copy, a, told, read, write, undefines_t, turn, act}
 
 abbrev entry : Act
@@ -106,10 +105,16 @@ exit_stands s u agree = (
 all_stand : (s : Store) → Fits (old_acts pieces) s → AllStand pieces agreed s
 all_stand s f = (
   ends_stand entry s (tt, tt) (λ c h. absurd cc),
-  (iterations_stand 1 s (λ x h. (parts x h).1) refl (f.1.0, (f.1.1.0, tt)),
-  (ends_stand end_of_first _ (tt, tt) (λ c h. absurd cc),
-  (iterations_stand 2 _ (λ x h. (parts x h).2) refl (f.1.1.1.1.0, (f.1.1.1.1.1.0, tt)),
-  (exit_stands _, tt)))),
+  (
+    iterations_stand 1 s (λ x h. (parts x h).1) refl (f.1.0, (f.1.1.0, tt)),
+    (
+      ends_stand end_of_first _ (tt, tt) (λ c h. absurd cc),
+      (
+        iterations_stand 2 _ (λ x h. (parts x h).2) refl (f.1.1.1.1.0, (f.1.1.1.1.1.0, tt)),
+        (exit_stands _, tt),
+      ),
+    ),
+  ),
 )
 
 -- the loop with PRIVATE T does what the loop did

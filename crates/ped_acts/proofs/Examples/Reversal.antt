@@ -1,27 +1,26 @@
 -- DO 10 I=M,N; PRIVATE T; T=I; 10 A(I)=T is reversed: DO 10 I=N,M,-1. The bounds are read in the other order, each iteration has the other's copy of T, and the exit leaves I in another state, and T undefined as before.
-use Rattle.std.proofs.Common.{◌≡◌, ℕ, ◌-◌, pos, List, [], ◌∷◌, Bool, true, false, ◌&&◌, ◌||◌, refl, sym, ap, ◌∙◌, ◌⊎◌, inl, inr}
-use Rattle.std.specs.Prelude.{not, neg_ℤ, if◌then◌else◌}
+use Rattle.std.proofs.Common.{◌≡◌, ℕ, pos, List, [], ◌∷◌, Bool, true, false, ◌||◌, refl, sym, ap, ◌∙◌, ◌⊎◌, inl, inr}
+use Rattle.std.specs.Prelude.{not, if◌then◌else◌}
 use Rattle.std.proofs.lemmas.Bool.{or_parts, both_ways}
-use Rattle.ped_store.specs.Cells.{Cell, Scalar, Private, same_cell}
-use Rattle.ped_store.specs.Stores.{Store, Number, Undefined}
-use Rattle.ped_store.specs.Acts.{reads, writes, did, entered, ended_turn, Touch, Act}
+use Rattle.ped_store.specs.Cells.{Cell, Scalar, same_cell}
+use Rattle.ped_store.specs.Stores.{Store, Number}
+use Rattle.ped_store.specs.Acts.{did, entered, ended_turn, Act}
 use Rattle.ped_acts.specs.Fitting.{Fits, store_after}
-use Rattle.ped_acts.specs.Sets.{AgreeIn, AgreeOutside, needs, written}
-use Rattle.ped_acts.specs.Conflicts.{LeaveUnread, ReadNone}
-use Rattle.ped_acts.specs.Orders.{Block, HaveSameItems, IsReordered, KeepsOrder, IsIn, acts_in_blocks, block_conflict}
-use Rattle.ped_acts.specs.Renaming.{Renamed, IsOneToOne}
+use Rattle.ped_acts.specs.Sets.{AgreeIn, needs, written}
+use Rattle.ped_acts.specs.Conflicts.{LeaveUnread}
+use Rattle.ped_acts.specs.Orders.{Block, HaveSameItems, IsReordered, KeepsOrder, IsIn, block_conflict}
 use Rattle.ped_acts.specs.Changes.{Change, stays, goes, comes, acts_before, acts_behind, AreSameOutside, PlainChange}
 use Rattle.ped_acts.specs.Walks.{Stride, both, old_alone, new_alone, SideBySide}
 use Rattle.ped_acts.specs.Pieces.{Piece, StandsFor, old_acts, new_acts}
 use Rattle.ped_acts.specs.Exchanges.{Exchange, IsAllowed}
-use Rattle.ped_acts.proofs.SameCells.{cell_is, cell_itself, cell_flip}
+use Rattle.ped_acts.proofs.SameCells.{cell_is}
 use Rattle.ped_acts.proofs.Renamings.{or_left, or_either}
 use Rattle.ped_acts.proofs.Changing.{plain_changes}
 use Rattle.ped_acts.proofs.Reorderings.{rows_once, column_order}
 use Rattle.ped_acts.proofs.Exchanging.{exchange_stands, same_stands, pieces_fit, pieces_leave}
 use Rattle.ped_acts.proofs.Walking.{beside_fits}
 use Rattle.ped_acts.proofs.Examples.Checks.{by_rows, by_columns, none_crosses, not_is, is_not}
-use Rattle.ped_acts.proofs.Examples.Lists.{i, n, t, copy, a, told, read, write, undefines_t, turn, act}
+use Rattle.ped_acts.proofs.Examples.Lists.{i, n, copy, a, told, read, write, undefines_t, turn, act}
 
 abbrev m : Cell
 m = Scalar (77 ∷ [])
@@ -165,9 +164,11 @@ going_plain : (u : Store) → PlainChange index (written (acts_before going)) u 
 going_plain u = ((tt, (tt, tt)), ((unread_t 2 1, (refl, refl, refl, tt)), ((unread_a 2 1, (refl, refl, refl, (refl, refl, refl, tt))), (tt, ((unread_t 1 2, (refl, refl, refl, tt)), ((unread_a 1 2, (refl, refl, refl, (refl, refl, refl, tt))), (own_exit, tt)))))))
 
 coming_plain : (u : Store) → u m ≡ Number (pos 1) → u n ≡ Number (pos 2) → PlainChange index (written (acts_before coming)) u coming
-coming_plain u h k =
-    ((tt, (tt, tt)), ((refl, refl, k), ((refl, refl, h), tt)),
-    (same_t 1 2, (same_a 1 2, (tt, tt, (same_t 2 1, (same_a 2 1, (same_exit, tt)))))))
+coming_plain u h k = (
+  (tt, (tt, tt)),
+  ((refl, refl, k), ((refl, refl, h), tt)),
+  (same_t 1 2, (same_a 1 2, (tt, tt, (same_t 2 1, (same_a 2 1, (same_exit, tt)))))),
+)
 
 same_items : HaveSameItems blocks order
 same_items = record { none_lost = λ x h. three x h; none_added = λ x h. three_back x h }
@@ -184,11 +185,47 @@ same_items = record { none_lost = λ x h. three x h; none_added = λ x h. three_
 
 allowed : (s : Store) → Fits old s → IsAllowed reversal old agreed agreed s
 allowed s f = record {
-  renamed =
-    (refl, refl, refl, (refl, refl, refl,
-    (refl, refl, refl, (refl, refl, refl, (refl, refl, refl,
-    (refl, refl, refl, (refl, refl, refl, (refl, refl, refl,
-    (refl, refl, refl, (refl, refl, refl, tt))))))))));
+  renamed = (
+    refl,
+    refl,
+    refl,
+    (
+      refl,
+      refl,
+      refl,
+      (
+        refl,
+        refl,
+        refl,
+        (
+          refl,
+          refl,
+          refl,
+          (
+            refl,
+            refl,
+            refl,
+            (
+              refl,
+              refl,
+              refl,
+              (
+                refl,
+                refl,
+                refl,
+                (
+                  refl,
+                  refl,
+                  refl,
+                  (refl, refl, refl, (refl, refl, refl, tt)),
+                ),
+              ),
+            ),
+          ),
+        ),
+      ),
+    ),
+  );
   one_to_one = λ x y p q. injective x y;
   needed = needed;
   go = λ u agree g. plain_changes index going u u (going_plain u);

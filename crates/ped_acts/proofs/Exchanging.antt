@@ -7,14 +7,15 @@ use Rattle.ped_store.specs.Cells.{Cell, same_cell}
 use Rattle.ped_store.specs.Stores.{Store}
 use Rattle.ped_store.specs.Acts.{Manner, reads, writes, is_told, Touch, Act}
 use Rattle.ped_store.specs.Races.{is_write}
-use Rattle.ped_acts.specs.Fitting.{Fits, store_after, touches_of}
+use Rattle.ped_acts.specs.Fitting.{Fits, store_after, touches_of, of_cells}
 use Rattle.ped_acts.specs.Sets.{AgreeIn, AgreeOutside, writes_to, written_by, written, read_first, needed_by, needs, wants}
+use Rattle.ped_acts.specs.Renaming.{Renamed, own_name}
 use Rattle.ped_acts.specs.Pieces.{Piece, old_acts, new_acts, agreed_before, StandsFor, AllStand, Part, same, changed, old_parts, new_parts, PartsStand}
 use Rattle.ped_acts.specs.Orders.{acts_in_blocks}
 use Rattle.ped_acts.specs.Changes.{acts_before, acts_behind}
 use Rattle.ped_acts.specs.Exchanges.{Exchange, IsAllowed}
 use Rattle.ped_acts.proofs.Stores.{after_append, fits_append, fits_first, fits_rest}
-use Rattle.ped_acts.proofs.Renamings.{or_right, or_left, or_either, renamed_fits, renamed_leaves, agreeing_fits, agreeing_leaves}
+use Rattle.ped_acts.proofs.Renamings.{or_right, or_left, or_either, renamed_fits, renamed_leaves, same_fits, same_leaves, own_names}
 use Rattle.ped_acts.proofs.Changing.{changed_fits, changed_leaves}
 use Rattle.ped_acts.proofs.Reorderings.{touches_append, blocks_fit, blocks_leave}
 
@@ -31,13 +32,17 @@ pieces_leave (p ∷ ps) last s t k agree c h =
     ap (λ z. z c) (after_append p.old (old_acts ps) s) ∙ pieces_leave ps last (store_after p.old s) (store_after p.new t) k.1 a.1 c h
     ∙ sym (ap (λ z. z c) (after_append p.new (new_acts ps) t))
 
--- an equal piece stands for itself
-pub same_stands : (acts : List Act) (before behind : Cell → Bool) (s : Store) → Fits acts s → ((c : Cell) → needs acts c ≡ true → before c ≡ true) → ((c : Cell) → behind c ≡ true → (before c ≡ true) ⊎ (written acts c ≡ true))
-    → StandsFor (record { agreed = before; old = acts; new = acts }) behind s
-same_stands acts before behind s f asks tells t agree = (
-  agreeing_fits acts s t (λ c h. agree c (asks c h)) f,
-  (λ c h. agreeing_leaves acts s t c (elim (tells c h) [ inl p ↦ inr (agree c p) | inr w ↦ inl w ])),
+-- a piece with the same reads and writes stands for it
+pub same_stands : (acts others : List Act) (before behind : Cell → Bool) (s : Store) → Renamed own_name acts others → Fits acts s → ((c : Cell) → needs acts c ≡ true → before c ≡ true) → ((c : Cell) → behind c ≡ true → (before c ≡ true) ⊎ (written acts c ≡ true))
+    → StandsFor (record { agreed = before; old = acts; new = others }) behind s
+same_stands acts others before behind s r f asks tells t agree = (
+  same_fits acts others s t r (λ c h. agree c (asks c h)) f,
+  (λ c h. same_leaves acts others s t c r (elim (tells c h) [ inl p ↦ inr (agree c p) | inr w ↦ inl w ])),
 )
+
+own_stands : (acts : List Act) (before behind : Cell → Bool) (s : Store) → Fits acts s → ((c : Cell) → needs acts c ≡ true → before c ≡ true) → ((c : Cell) → behind c ≡ true → (before c ≡ true) ⊎ (written acts c ≡ true))
+    → StandsFor (record { agreed = before; old = acts; new = acts }) behind s
+own_stands acts before behind s = same_stands acts acts before behind s (own_names (of_cells (touches_of acts)))
 
 -- a piece stands for another by a third
 pub two_stand : (acts middle others : List Act) (before behind : Cell → Bool) (s : Store) → StandsFor (record { agreed = before; old = acts; new = middle }) behind s → StandsFor (record { agreed = before; old = middle; new = others }) behind s → StandsFor (record { agreed = before; old = acts; new = others }) behind s
@@ -103,7 +108,7 @@ shown_wanted shown c h = ap (λ b. b && true) h
 pub parts_fit : (shown : Cell → Bool) (ps : List Part) (s t : Store) → PartsStand shown ps s → AgreeIn (wants shown (old_parts ps)) s t → Fits (old_parts ps) s → Fits (new_parts ps) t
 parts_fit shown [] s t k agree f = tt
 parts_fit shown (same acts ∷ ps) s t k agree f =
-    let h = same_stands acts (wants shown (acts ++ old_parts ps)) (wants shown (old_parts ps)) s (fits_first acts (old_parts ps) s f) (needed_wanted shown acts (old_parts ps)) (wanted_before shown acts (old_parts ps)) t agree in
+    let h = own_stands acts (wants shown (acts ++ old_parts ps)) (wants shown (old_parts ps)) s (fits_first acts (old_parts ps) s f) (needed_wanted shown acts (old_parts ps)) (wanted_before shown acts (old_parts ps)) t agree in
     fits_append acts (new_parts ps) t h.0 (parts_fit shown ps (store_after acts s) (store_after acts t) k h.1 (fits_rest acts (old_parts ps) s f))
 parts_fit shown (changed old new ∷ ps) s t k agree f =
     let h = k.0 t agree in
@@ -112,7 +117,7 @@ parts_fit shown (changed old new ∷ ps) s t k agree f =
 pub parts_leave : (shown : Cell → Bool) (ps : List Part) (s t : Store) → PartsStand shown ps s → AgreeIn (wants shown (old_parts ps)) s t → Fits (old_parts ps) s → AgreeIn shown (store_after (old_parts ps) s) (store_after (new_parts ps) t)
 parts_leave shown [] s t k agree f c h = agree c (shown_wanted shown c h)
 parts_leave shown (same acts ∷ ps) s t k agree f c h =
-    let a = same_stands acts (wants shown (acts ++ old_parts ps)) (wants shown (old_parts ps)) s (fits_first acts (old_parts ps) s f) (needed_wanted shown acts (old_parts ps)) (wanted_before shown acts (old_parts ps)) t agree in
+    let a = own_stands acts (wants shown (acts ++ old_parts ps)) (wants shown (old_parts ps)) s (fits_first acts (old_parts ps) s f) (needed_wanted shown acts (old_parts ps)) (wanted_before shown acts (old_parts ps)) t agree in
     ap (λ z. z c) (after_append acts (old_parts ps) s) ∙ parts_leave shown ps (store_after acts s) (store_after acts t) k a.1 (fits_rest acts (old_parts ps) s f) c h
     ∙ sym (ap (λ z. z c) (after_append acts (new_parts ps) t))
 parts_leave shown (changed old new ∷ ps) s t k agree f c h =

@@ -6,6 +6,7 @@ ghost use Rattle.ped_store.specs.Stores.{Store};
 ghost use Rattle.ped_store.specs.Acts.{Act};
 ghost use Rattle.ped_acts.specs.Fitting.{Fits, store_after};
 ghost use Rattle.ped_acts.specs.Sets.{AgreeIn, needs, written, wants};
+ghost use Rattle.ped_acts.specs.Renaming.{Renamed, own_name};
 ghost use Rattle.ped_acts.specs.Changes.{acts_behind};
 ghost use Rattle.ped_acts.specs.Exchanges.{Exchange, IsAllowed};
 ghost use Rattle.ped_acts.specs.Pieces.{Piece, old_acts, new_acts, agreed_before, StandsFor, AllStand, Part, old_parts, new_parts, PartsStand};
@@ -27,10 +28,10 @@ pub fn pieces()
     ensures leaves { (ps : List Piece) (last : Cell → Bool) (s t : Store) → AllStand ps last s → AgreeIn (agreed_before ps last) s t → AgreeIn last (store_after (old_acts ps) s) (store_after (new_acts ps) t) }
 {}
 
-/// A piece stands for itself where the sets have what it needs before it, and behind it no more than before and what it
-/// writes. For the pieces that don't change: they make stores agree again.
+/// A piece with the same reads and writes may stand for a piece where the sets have what it needs before it, and behind
+/// it no more than before and what it writes. For the pieces that don't change: they make stores agree again.
 pub fn equal_piece()
-    ensures { (acts : List Act) (before behind : Cell → Bool) (s : Store) → Fits acts s → ((c : Cell) → needs acts c ≡ true → before c ≡ true) → ((c : Cell) → behind c ≡ true → (before c ≡ true) ⊎ (written acts c ≡ true)) → StandsFor (record { agreed = before; old = acts; new = acts }) behind s }
+    ensures { (acts others : List Act) (before behind : Cell → Bool) (s : Store) → Renamed own_name acts others → Fits acts s → ((c : Cell) → needs acts c ≡ true → before c ≡ true) → ((c : Cell) → behind c ≡ true → (before c ≡ true) ⊎ (written acts c ≡ true)) → StandsFor (record { agreed = before; old = acts; new = others }) behind s }
 {}
 
 /// A piece that stands for one which stands for another stands for that one. For steps that are done in two.

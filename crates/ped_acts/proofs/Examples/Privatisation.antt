@@ -5,12 +5,12 @@ use Rattle.std.proofs.lemmas.Bool.{or_parts, both_ways}
 use Rattle.ped_store.specs.Cells.{Cell, same_cell}
 use Rattle.ped_store.specs.Stores.{Store}
 use Rattle.ped_store.specs.Acts.{did, entered, ended_turn, Act}
-use Rattle.ped_acts.specs.Fitting.{Fits, store_after}
+use Rattle.ped_acts.specs.Fitting.{Fits, store_after, touches_of, of_cells}
 use Rattle.ped_acts.specs.Sets.{AgreeIn, AgreeOutside, needs, written}
 use Rattle.ped_acts.specs.Renaming.{Renamed, touch, in_place_of}
 use Rattle.ped_acts.specs.Changes.{stays, PlainChange}
 use Rattle.ped_acts.specs.Pieces.{Piece, old_acts, new_acts, StandsFor, AllStand}
-use Rattle.ped_acts.proofs.Renamings.{one_fits, one_leaves}
+use Rattle.ped_acts.proofs.Renamings.{own_names, one_fits, one_leaves}
 use Rattle.ped_acts.proofs.Changing.{changed_fits, changed_leaves, plain_changes}
 use Rattle.ped_acts.proofs.Exchanging.{same_stands, pieces_fit, pieces_leave}
 use Rattle.ped_acts.proofs.Examples.Checks.{not_is}
@@ -84,7 +84,7 @@ iterations_stand k s apart fresh f u agree = (
 
 -- entries and ends of iterations stand for themselves
 ends_stand : (x : Act) (s : Store) → Fits (x ∷ []) s → ((c : Cell) → needs (x ∷ []) c ≡ true → agreed c ≡ true) → StandsFor (piece (x ∷ []) (x ∷ [])) agreed s
-ends_stand x s f h = same_stands (x ∷ []) agreed agreed s f h (λ c k. inl k)
+ends_stand x s f h = same_stands (x ∷ []) (x ∷ []) agreed agreed s (own_names (of_cells (touches_of (x ∷ [])))) f h (λ c k. inl k)
 
 -- so does the exit, which leaves T undefined besides
 exit_stands : (s : Store) → StandsFor (piece (exit ∷ []) (new_exit ∷ [])) agreed s

@@ -261,7 +261,7 @@ nothing_needed true h = let k : false ≡ true = h in absurd cc
 nothing_needed false h = let k : false ≡ true = h in absurd cc
 
 assigned_stands : (u : Store) → StandsFor (record { agreed = agreed; old = sets_i ∷ []; new = sets_i ∷ [] }) agreed_at_end u
-assigned_stands u = same_stands (sets_i ∷ []) agreed agreed_at_end u ((tt, tt), tt) (λ x h. absurd (nothing_needed (same_cell i x) h)) tells
+assigned_stands u = same_stands (sets_i ∷ []) (sets_i ∷ []) agreed agreed_at_end u (refl, refl, refl, tt) ((tt, tt), tt) (λ x h. absurd (nothing_needed (same_cell i x) h)) tells
   where
     tells : (x : Cell) → agreed_at_end x ≡ true → (agreed x ≡ true) ⊎ (written (sets_i ∷ []) x ≡ true)
     tells x h = elim (or_either (agreed x) (same_cell i x) h) [

@@ -11,6 +11,7 @@ pub mod Walking
 pub mod Changing
 pub mod Exchanging
 pub mod Appending
+pub mod Rows
 pub mod RaceFree
 pub mod Conflicting
 mod Examples

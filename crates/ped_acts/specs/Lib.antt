@@ -2,6 +2,7 @@ pub mod Changes
 pub mod Conflicts
 pub mod Exchanges
 pub mod Fitting
+pub mod Grids
 pub mod Orders
 pub mod Origins
 pub mod Pieces

@@ -16,8 +16,8 @@ pub use exchanges::{equal_piece, exchange, in_two_steps, one_after_another, piec
 pub use idle_acts::{changes, plain_changes, same_outside, touches_exchanged, without_writes};
 pub use names::{renaming, renaming_everywhere, renaming_one};
 pub use orders::{
-    blocks_exchanged, blocks_reordered, blocks_reversed, orders_kept, reordering, rows_to_columns,
-    sorted_by_key, to_the_front,
+    blocks_exchanged, blocks_reordered, blocks_reversed, grids, orders_kept, reordering,
+    rows_to_columns, sorted_by_key, to_the_front,
 };
 pub use races::{
     acts_that_conflict, apart_either_way, blocks_that_conflict, conflicting_accesses,

@@ -1,12 +1,13 @@
 //! Reordering: acts and blocks of acts in another order, where each dependence is kept.
 
-ghost use Rattle.std.specs.Prelude.{◌≡◌, ◌≤◌, ℕ, List, [], ◌∷◌, ◌++◌, reverse, Bool, true, false};
+ghost use Rattle.std.specs.Prelude.{◌≡◌, ◌≤◌, ◌<◌, ℕ, List, [], ◌∷◌, ◌++◌, reverse, Bool, true, false};
 ghost use Rattle.ped_store.specs.Cells.{Cell};
 ghost use Rattle.ped_store.specs.Stores.{Store};
 ghost use Rattle.ped_store.specs.Acts.{Act};
 ghost use Rattle.ped_acts.specs.Fitting.{Fits, store_after};
 ghost use Rattle.ped_acts.specs.Sets.{AgreeOutside};
 ghost use Rattle.ped_acts.specs.Conflicts.{acts_conflict, blocks_conflict, blocks_conflict_outside, ReadNone};
+ghost use Rattle.ped_acts.specs.Grids.{IsRising, by_rows, by_columns};
 ghost use Rattle.ped_acts.specs.Orders.{IsIn, StandsBefore, EachOnce, HaveSameItems, IsReordered, KeepsOrder, Numbered, number_from, acts_in, numbered_conflict, IsSortedBy, acts_in_all, AreApart, Block, acts_in_blocks, block_conflict, IsByRows, IsByColumns, NoneCrosses};
 
 /// Where a list fits a store, each permutation of it that keeps the order of every two conflicting acts fits that store
@@ -67,4 +68,14 @@ pub fn orders_kept()
     ensures in_order { (d : Cell → Bool) (blocks : List Block) → EachOnce blocks → IsReordered blocks blocks × KeepsOrder (block_conflict d) blocks blocks }
     ensures in_reverse { (d : Cell → Bool) (blocks : List Block) → EachOnce blocks → ((x y : Block) → StandsBefore x y blocks → block_conflict d x y ≡ false) → IsReordered blocks (reverse blocks) × KeepsOrder (block_conflict d) blocks (reverse blocks) }
     ensures by_columns { (d : Cell → Bool) (rows columns : List Block) → IsByRows rows → IsByColumns columns → HaveSameItems rows columns → NoneCrosses d rows → IsReordered rows columns × KeepsOrder (block_conflict d) rows columns }
+{}
+
+/// The blocks of the iterations of two loops by rows and by columns, where only some pairs of iterations are done: they
+/// are the same, each in its order, and none crosses where no two iterations do. For loops that are interchanged,
+/// triangular ones too, and for the parts of a body.
+pub fn grids()
+    ensures rows { (done : ℕ → ℕ → Bool) (acts : ℕ → ℕ → List Act) (outer inner : List ℕ) → IsRising outer → IsRising inner → IsByRows (by_rows done acts outer inner) }
+    ensures columns { (done : ℕ → ℕ → Bool) (acts : ℕ → ℕ → List Act) (outer inner : List ℕ) → IsRising outer → IsRising inner → IsByColumns (by_columns done acts outer inner) }
+    ensures same { (done : ℕ → ℕ → Bool) (acts : ℕ → ℕ → List Act) (outer inner : List ℕ) → HaveSameItems (by_rows done acts outer inner) (by_columns done acts outer inner) }
+    ensures crosses { (d : Cell → Bool) (done : ℕ → ℕ → Bool) (acts : ℕ → ℕ → List Act) (outer inner : List ℕ) → ((i j k l : ℕ) → IsIn i outer → IsIn j inner → IsIn k outer → IsIn l inner → done i j ≡ true → done k l ≡ true → i < k → l < j → blocks_conflict_outside d (acts i j) (acts k l) ≡ false) → NoneCrosses d (by_rows done acts outer inner) }
 {}

@@ -1,5 +1,7 @@
 -- DO 10 I=1,2; DO 10 J=1,N; 10 C(I,J)=C(I-1,J) is interchanged: DO 10 J=1,N; DO 10 I=1,2; the dependence has the directions (<,=).
 use Rattle.std.proofs.Common.{◌≡◌, ℕ, ◌-◌, ◌+◌, pos, List, [], ◌∷◌, Bool, true, false, ◌||◌, refl, sym, ap, ◌∙◌, inl, inr}
+use Rattle.std.specs.Prelude.{nat_lt}
+use Rattle.std.proofs.lemmas.Bool.{ltb-true}
 use mathlib.Core.Path.{fun_ext}
 use Rattle.ped_store.specs.Cells.{Cell, same_cell}
 use Rattle.ped_store.specs.Stores.{Store, Number}
@@ -7,13 +9,15 @@ use Rattle.ped_store.specs.Acts.{did, entered, ended_turn, Touch, Act}
 use Rattle.ped_acts.specs.Fitting.{Fits, store_after}
 use Rattle.ped_acts.specs.Sets.{AgreeOutside, written}
 use Rattle.ped_acts.specs.Conflicts.{LeaveUnread, ReadNone}
-use Rattle.ped_acts.specs.Orders.{HaveSameItems, Block, acts_in_blocks}
+use Rattle.ped_acts.specs.Orders.{Block, acts_in_blocks, IsByRows, IsByColumns}
+use Rattle.ped_acts.specs.Grids.{IsRising, by_rows, by_columns}
 use Rattle.ped_acts.specs.Changes.{Change, stays, goes, comes, acts_before, acts_behind, AreSameOutside, PlainChange}
 use Rattle.ped_acts.proofs.SameCells.{cell_is}
 use Rattle.ped_acts.proofs.Renamings.{or_either}
 use Rattle.ped_acts.proofs.Changing.{changed_fits, changed_leaves, plain_changes}
 use Rattle.ped_acts.proofs.Reorderings.{columns_fit, columns_leave}
-use Rattle.ped_acts.proofs.Examples.Checks.{by_rows, by_columns, none_crosses, four_lost}
+use Rattle.ped_acts.proofs.Rows.{rows_stand, columns_stand, same_blocks}
+use Rattle.ped_acts.proofs.Examples.Checks.{before_passes, none_crosses}
 use Rattle.ped_acts.proofs.Examples.Lists.{i, j, n, c, told, read, write, turn, act}
 
 -- C(I,J)=C(I-1,J) in iterations k and l: the column l holds 6+l
@@ -90,20 +94,29 @@ coming =
     ∷ comes (new_inner_entry 2) ∷ stays (sets 1 2) (new_sets 1 2) ∷ comes (new_inner_end 2) ∷ stays (sets 2 2) (new_sets 2 2) ∷ comes (new_inner_exit 2) ∷ comes new_exit ∷ []
 
 -- iterations by rows and by columns
-abbrev block : ℕ → ℕ → Block
-block k l = record { outer = k; inner = l; acts = sets k l ∷ [] }
+abbrev all : ℕ → ℕ → Bool
+all k l = true
+
+abbrev one_act : ℕ → ℕ → List Act
+one_act k l = sets k l ∷ []
+
+abbrev two : List ℕ
+two = 1 ∷ 2 ∷ []
 
 abbrev rows : List Block
-rows = block 1 1 ∷ block 1 2 ∷ block 2 1 ∷ block 2 2 ∷ []
+rows = by_rows all one_act two two
 
 abbrev columns : List Block
-columns = block 1 1 ∷ block 2 1 ∷ block 1 2 ∷ block 2 2 ∷ []
+columns = by_columns all one_act two two
 
-same_items : HaveSameItems rows columns
-same_items = record {
-  none_lost = four_lost (block 1 1) (block 1 2) (block 2 1) (block 2 2);
-  none_added = four_lost (block 1 1) (block 2 1) (block 1 2) (block 2 2);
-}
+rising : IsRising two
+rising k l b = ltb-true k l (before_passes nat_lt two refl k l b)
+
+rows_are : IsByRows rows
+rows_are = rows_stand all one_act two two rising rising
+
+columns_are : IsByColumns columns
+columns_are = columns_stand all one_act two two rising rising
 
 unread : (k l : ℕ) → LeaveUnread indices (assigned k l)
 unread k l = (tt, (tt, (refl, (tt, (tt, (tt, tt))))))
@@ -152,7 +165,7 @@ same s x h = refl
 pub interchanged_fits : (s : Store) → Fits old s → Fits new s
 interchanged_fits s f =
     let kept = changed_fits indices going s s (plain_changes indices going s s (going_plain s)) (same s) f in
-    let moved = columns_fit indices rows columns s s (by_rows rows refl) (by_columns columns refl) same_items (none_crosses indices rows refl) none_read (same s) kept in
+    let moved = columns_fit indices rows columns s s rows_are columns_are (same_blocks all one_act two two) (none_crosses indices rows refl) none_read (same s) kept in
     changed_fits indices coming s s (plain_changes indices coming s s (coming_plain s f.1.0.0)) (same s) moved
 
 -- and leave the same store: I and J have the same contents at the end, too
@@ -163,7 +176,7 @@ interchanged_leaves s f = fun_ext λ x. go x (indices x) refl
     kept = changed_fits indices going s s (plain_changes indices going s s (going_plain s)) (same s) f
 
     moved : Fits (acts_before coming) s
-    moved = columns_fit indices rows columns s s (by_rows rows refl) (by_columns columns refl) same_items (none_crosses indices rows refl) none_read (same s) kept
+    moved = columns_fit indices rows columns s s rows_are columns_are (same_blocks all one_act two two) (none_crosses indices rows refl) none_read (same s) kept
 
     index : (x y : Cell) → same_cell x y ≡ true → store_after old s x ≡ store_after new s x → store_after old s y ≡ store_after new s y
     index x y h e = ap (store_after old s) (sym (cell_is x y h)) ∙ e ∙ ap (store_after new s) (cell_is x y h)
@@ -172,5 +185,5 @@ interchanged_leaves s f = fun_ext λ x. go x (indices x) refl
     go x true h = elim (or_either (same_cell i x) (same_cell j x) h) [ inl p ↦ index i x p refl | inr p ↦ index j x p refl ]
     go x false h =
         changed_leaves indices going s s (plain_changes indices going s s (going_plain s)) (same s) f x h
-        ∙ columns_leave indices rows columns s s (by_rows rows refl) (by_columns columns refl) same_items (none_crosses indices rows refl) (same s) x h
+        ∙ columns_leave indices rows columns s s rows_are columns_are (same_blocks all one_act two two) (none_crosses indices rows refl) (same s) x h
         ∙ changed_leaves indices coming s s (plain_changes indices coming s s (coming_plain s f.1.0.0)) (same s) moved x h

@@ -1,5 +1,5 @@
 -- Blocks by rows and by columns are the same, in their orders.
-use Rattle.std.proofs.Common.{◌≡◌, ℕ, ◌<◌, List, [], ◌∷◌, ◌++◌, map, Bool, true, false, refl, sym, ap, subst, ◌∙◌, arith, ◌⊎◌, inl, inr}
+use Rattle.std.proofs.Common.{◌≡◌, ℕ, ◌<◌, List, [], ◌∷◌, map, Bool, true, false, refl, sym, ap, subst, ◌∙◌, arith, ◌⊎◌, inl, inr}
 use Rattle.std.specs.List.{filter, flat_map}
 use Rattle.ped_store.specs.Cells.{Cell}
 use Rattle.ped_store.specs.Acts.{Act}
@@ -132,26 +132,26 @@ moved_less m n k l e f h = omega (arith, e, f, h)
 pub rows_stand : (done : ℕ → ℕ → Bool) (acts : ℕ → ℕ → List Act) (outer inner : List ℕ) → IsRising outer → IsRising inner → IsByRows (by_rows done acts outer inner)
 rows_stand done acts outer inner rise_outer rise_inner x y b = elim (before_flat (λ i. map (block_at acts i) (filter (done i) inner)) outer x y b) [
   | inl r ↦
-    let m = before_map (block_at acts r.0) (filter (done r.0) inner) x y r.1 in
-    let less = rise_inner m.0 m.1 (before_filter (done r.0) inner m.0 m.1 m.2) in
-    inr (outer_is x (block_at acts r.0 m.0) m.3 ∙ sym (outer_is y (block_at acts r.0 m.1) m.4), moved_less x.inner y.inner m.0 m.1 (inner_is x (block_at acts r.0 m.0) m.3) (inner_is y (block_at acts r.0 m.1) m.4) less)
+      let m = before_map (block_at acts r.0) (filter (done r.0) inner) x y r.1 in
+      let less = rise_inner m.0 m.1 (before_filter (done r.0) inner m.0 m.1 m.2) in
+      inr (outer_is x (block_at acts r.0 m.0) m.3 ∙ sym (outer_is y (block_at acts r.0 m.1) m.4), moved_less x.inner y.inner m.0 m.1 (inner_is x (block_at acts r.0 m.0) m.3) (inner_is y (block_at acts r.0 m.1) m.4) less)
   | inr r ↦
-    let p = from_map (block_at acts r.0) (filter (done r.0) inner) x r.3 in
-    let q = from_map (block_at acts r.1) (filter (done r.1) inner) y r.4 in
-    inl (moved_less x.outer y.outer r.0 r.1 (outer_is x (block_at acts r.0 p.0) p.2) (outer_is y (block_at acts r.1 q.0) q.2) (rise_outer r.0 r.1 r.2))
+      let p = from_map (block_at acts r.0) (filter (done r.0) inner) x r.3 in
+      let q = from_map (block_at acts r.1) (filter (done r.1) inner) y r.4 in
+      inl (moved_less x.outer y.outer r.0 r.1 (outer_is x (block_at acts r.0 p.0) p.2) (outer_is y (block_at acts r.1 q.0) q.2) (rise_outer r.0 r.1 r.2))
 ]
 
 -- columns stand by columns
 pub columns_stand : (done : ℕ → ℕ → Bool) (acts : ℕ → ℕ → List Act) (outer inner : List ℕ) → IsRising outer → IsRising inner → IsByColumns (by_columns done acts outer inner)
 columns_stand done acts outer inner rise_outer rise_inner x y b = elim (before_flat (λ j. map (λ i. block_at acts i j) (filter (λ i. done i j) outer)) inner x y b) [
   | inl r ↦
-    let m = before_map (λ i. block_at acts i r.0) (filter (λ i. done i r.0) outer) x y r.1 in
-    let less = rise_outer m.0 m.1 (before_filter (λ i. done i r.0) outer m.0 m.1 m.2) in
-    inr (inner_is x (block_at acts m.0 r.0) m.3 ∙ sym (inner_is y (block_at acts m.1 r.0) m.4), moved_less x.outer y.outer m.0 m.1 (outer_is x (block_at acts m.0 r.0) m.3) (outer_is y (block_at acts m.1 r.0) m.4) less)
+      let m = before_map (λ i. block_at acts i r.0) (filter (λ i. done i r.0) outer) x y r.1 in
+      let less = rise_outer m.0 m.1 (before_filter (λ i. done i r.0) outer m.0 m.1 m.2) in
+      inr (inner_is x (block_at acts m.0 r.0) m.3 ∙ sym (inner_is y (block_at acts m.1 r.0) m.4), moved_less x.outer y.outer m.0 m.1 (outer_is x (block_at acts m.0 r.0) m.3) (outer_is y (block_at acts m.1 r.0) m.4) less)
   | inr r ↦
-    let p = from_map (λ i. block_at acts i r.0) (filter (λ i. done i r.0) outer) x r.3 in
-    let q = from_map (λ i. block_at acts i r.1) (filter (λ i. done i r.1) outer) y r.4 in
-    inl (moved_less x.inner y.inner r.0 r.1 (inner_is x (block_at acts p.0 r.0) p.2) (inner_is y (block_at acts q.0 r.1) q.2) (rise_inner r.0 r.1 r.2))
+      let p = from_map (λ i. block_at acts i r.0) (filter (λ i. done i r.0) outer) x r.3 in
+      let q = from_map (λ i. block_at acts i r.1) (filter (λ i. done i r.1) outer) y r.4 in
+      inl (moved_less x.inner y.inner r.0 r.1 (inner_is x (block_at acts p.0 r.0) p.2) (inner_is y (block_at acts q.0 r.1) q.2) (rise_inner r.0 r.1 r.2))
 ]
 
 -- none crosses where no two iterations do

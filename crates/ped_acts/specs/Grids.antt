@@ -1,5 +1,5 @@
 -- Blocks of the iterations of two loops, by rows and by columns (this project).
-use Rattle.std.specs.Prelude.{ℕ, ◌<◌, List, [], ◌∷◌, map, filter, Bool}
+use Rattle.std.specs.Prelude.{ℕ, ◌<◌, List, map, filter, Bool}
 use Rattle.std.specs.List.{flat_map}
 use Rattle.ped_store.specs.Acts.{Act}
 use Rattle.ped_acts.specs.Orders.{StandsBefore, Block}

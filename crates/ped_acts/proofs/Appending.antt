@@ -9,9 +9,11 @@ use Rattle.ped_store.specs.Races.{is_write}
 use Rattle.ped_acts.specs.Fitting.{touches_of, has_cell, of_cells}
 use Rattle.ped_acts.specs.Sets.{writes_to, written_by, written, read_first, needed_by, needs}
 use Rattle.ped_acts.specs.Renaming.{AreRenamed, Renamed, touched_by, touch}
-use Rattle.ped_acts.specs.Changes.{Change, stays, goes, comes, acts_before, acts_behind, PlainChange}
+use Rattle.ped_acts.specs.Changes.{Change, stays, goes, comes, acts_before, acts_behind, stay_all, PlainChange}
 use Rattle.ped_acts.specs.Orders.{Block, acts_in_blocks}
+use Rattle.ped_acts.specs.Conflicts.{touches_without, ReadNone}
 use Rattle.ped_acts.proofs.OfCells.{cells_append}
+use Rattle.ped_acts.proofs.Renamings.{own_names}
 use Rattle.ped_acts.proofs.Reorderings.{touches_append}
 
 -- what is written, touched and needed by acts and then others
@@ -77,3 +79,16 @@ plain_append d changing s (comes b ∷ v) w h k = (h.0, h.1, plain_append d chan
 pub blocks_append : (bs cs : List Block) → acts_in_blocks (bs ++ cs) ≡ acts_in_blocks bs ++ acts_in_blocks cs
 blocks_append [] cs = refl
 blocks_append (b ∷ bs) cs = ap (λ z. b.acts ++ z) (blocks_append bs cs) ∙ sym (append_assoc b.acts (acts_in_blocks bs) (acts_in_blocks cs))
+
+-- acts that all stay
+pub before_stay : (acts : List Act) → acts_before (stay_all acts) ≡ acts
+before_stay [] = refl
+before_stay (a ∷ acts) = ap (λ z. a ∷ z) (before_stay acts)
+
+pub behind_stay : (acts : List Act) → acts_behind (stay_all acts) ≡ acts
+behind_stay [] = refl
+behind_stay (a ∷ acts) = ap (λ z. a ∷ z) (behind_stay acts)
+
+pub stay_plain : (d changing : Cell → Bool) (s : Store) (acts : List Act) → ReadNone d acts → PlainChange d changing s (stay_all acts)
+stay_plain d changing s [] h = tt
+stay_plain d changing s (a ∷ acts) h = ((h.0, own_names (of_cells (touches_without d a.touches))), stay_plain d changing s acts h.1)

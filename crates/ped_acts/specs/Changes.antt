@@ -1,5 +1,5 @@
 -- Acts that stay, go and come, where the stores may differ on a set of cells (this project).
-use Rattle.std.specs.Prelude.{◌≡◌, List, [], ◌∷◌, Bool, false}
+use Rattle.std.specs.Prelude.{◌≡◌, List, [], ◌∷◌, map, Bool, false}
 use Rattle.ped_store.specs.Cells.{Cell}
 use Rattle.ped_store.specs.Stores.{Content, Store}
 use Rattle.ped_store.specs.Acts.{Manner, reads, writes, is_told, Touch, Act, store_behind}
@@ -27,6 +27,10 @@ acts_behind [] = []
 acts_behind (stays a b ∷ w) = b ∷ acts_behind w
 acts_behind (goes a ∷ w) = acts_behind w
 acts_behind (comes b ∷ w) = b ∷ acts_behind w
+
+-- acts that all stay as they are (plain words)
+abbrev pub stay_all : List Act → List Change
+stay_all acts = map (λ a. stays a a) acts
 
 -- an act that stays: where the old one finds what it reads, the new one does, and the stores agree behind them as before (this project)
 abbrev pub StaysWithin : (Cell → Bool) → List Touch → List Touch → Store → Store → Type 0

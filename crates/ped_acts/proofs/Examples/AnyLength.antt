@@ -6,12 +6,12 @@ use Rattle.ped_store.specs.Cells.{Cell}
 use Rattle.ped_store.specs.Stores.{Store}
 use Rattle.ped_store.specs.Acts.{Act}
 use Rattle.ped_acts.specs.Fitting.{Fits, touches_of, of_cells}
-use Rattle.ped_acts.specs.Sets.{AgreeIn, needs, written}
+use Rattle.ped_acts.specs.Sets.{needs, written}
 use Rattle.ped_acts.specs.Conflicts.{WriteWithin, ReadNone, blocks_conflict_outside}
 use Rattle.ped_acts.specs.Orders.{IsIn, IsReordered, KeepsOrder, Block, block_conflict, acts_in_blocks, IsByRows}
 use Rattle.ped_acts.specs.Grids.{IsRising, block_at, by_rows, by_columns}
 use Rattle.ped_acts.specs.Renaming.{Renamed, own_name}
-use Rattle.ped_acts.specs.Changes.{Change, stays, goes, comes, acts_before, acts_behind, stay_all, ReadPlain, PlainChange}
+use Rattle.ped_acts.specs.Changes.{Change, goes, comes, acts_before, acts_behind, stay_all, ReadPlain, PlainChange}
 use Rattle.ped_acts.specs.Exchanges.{Exchange, IsAllowed}
 use Rattle.ped_acts.specs.Pieces.{StandsFor}
 use Rattle.ped_acts.proofs.Renamings.{own_names}
@@ -212,8 +212,8 @@ allowed l s h = record {
       h.entry_idle.0,
       h.entry_idle.1 changing t,
       plain_append l.idle changing t (coming l.part 1 l.end l.iterations) (comes l.second_entry ∷ coming l.part 2 l.second_end l.iterations)
-      (coming_plain l.idle changing t l.part 1 l.end l.iterations h.unread h.end_idle)
-      (h.second_idle.0, h.second_idle.1 changing t, coming_plain l.idle changing t l.part 2 l.second_end l.iterations h.unread h.second_end_idle),
+          (coming_plain l.idle changing t l.part 1 l.end l.iterations h.unread h.end_idle)
+          (h.second_idle.0, h.second_idle.1 changing t, coming_plain l.idle changing t l.part 2 l.second_end l.iterations h.unread h.second_end_idle),
     )
 
 -- the two loops may stand for the loop

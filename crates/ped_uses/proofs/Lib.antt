@@ -1,0 +1,9 @@
+mod Constants
+mod DeclaredArrays
+mod Loops
+mod NamedArrays
+mod Occurring
+mod Quiet
+mod Statements
+mod UseKinds
+mod Whole

@@ -43,17 +43,17 @@ not_refused false r line h = refl
 
 quiet_site : (d : Declared) (refs : List Reference) (b : Before) (line : ℕ) (s : Site) → at_site d refs b line s ≡ [] → IsQuiet d refs b s
 quiet_site d refs b line s h =
-    let behind_real = none_behind _ _ h in
-    let behind_twice = none_behind _ _ behind_real in
-    let behind_values = none_behind _ _ behind_twice in
-    let behind_ranks = none_behind _ _ behind_values in
-    let twice : is_declared_twice d b.uses s ≡ false = not_refused _ _ _ (none_before _ _ behind_real) in
+    let five = none_before _ _ h in
+    let four = none_before _ _ five in
+    let three = none_before _ _ four in
+    let two = none_before _ _ three in
+    let twice : is_declared_twice d b.uses s ≡ false = not_refused _ _ _ (none_behind _ _ two) in
     record {
       variables = (or_parts _ _ (or_parts _ _ (or_parts _ _ twice).0).0).0;
-      values = not_refused _ _ _ (none_before _ _ behind_twice);
-      ranks = not_refused _ _ _ (none_before _ _ behind_values);
-      bounds = not_refused _ _ _ (none_before _ _ behind_ranks);
-      limits = not_refused _ _ _ (none_behind _ _ behind_ranks);
+      values = not_refused _ _ _ (none_behind _ _ three);
+      ranks = not_refused _ _ _ (none_behind _ _ four);
+      bounds = not_refused _ _ _ (none_behind _ _ five);
+      limits = not_refused _ _ _ (none_behind _ _ h);
     }
 
 -- where nothing is refused, nothing is refused at any site

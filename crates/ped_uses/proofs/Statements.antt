@@ -2,7 +2,7 @@
 use Rattle.std.proofs.Common.{◌≡◌, ℕ, ◌+◌, List, [], ◌∷◌, ◌++◌, map, Bool, true, false, refl, ap, sym, ◌∙◌}
 use Rattle.std.specs.Prelude.{◌&&◌}
 use Rattle.std.specs.List.{list_all, flat_map}
-use Rattle.std.proofs.lemmas.Bool.{and_parts, and_from}
+use Rattle.std.proofs.lemmas.Bool.{false≢true, and_parts, and_from}
 use Rattle.std.proofs.lemmas.List.Folds.{list_all-append, list_all-map}
 use Rattle.std.proofs.lemmas.Grind.{flat_map-append}
 use Rattle.ped_tree.specs.Tree.{ExprTree, ExprTrees, Int, Var, Element, Neg, Add, Sub, Mul, Div, Pow, Call, no_exprs, more_exprs, CondTree, Rel, Not, And, Or, ItemTree, Value, Text, Head, StmtTree, StmtTrees, Assign, If, Do, Print, Read, Stop, Comment, no_stmts, more_stmts, DeclTree, Program, Implicit, Integer, Dimension, Parameter, Save, Remark}
@@ -25,27 +25,29 @@ in_front k us vs h = (and_parts _ _ (sym (list_all-append (use_is_right k) us vs
 pub behind : (k : NameKinds) (us vs : List Use) → all_right k (us ++ vs) ≡ true → all_right k vs ≡ true
 behind k us vs h = (and_parts _ _ (sym (list_all-append (use_is_right k) us vs) ∙ h)).1
 
+-- two expressions, of which each is right by its uses
+two_right : (k : NameKinds) (a b : ExprTree) → (all_right k (expr_uses a) ≡ true → expr_fits a ≡ true → expr_is_right k a ≡ true) → (all_right k (expr_uses b) ≡ true → expr_fits b ≡ true → expr_is_right k b ≡ true)
+    → all_right k (expr_uses a ++ expr_uses b) ≡ true → (expr_fits a && expr_fits b) ≡ true → (expr_is_right k a && expr_is_right k b) ≡ true
+two_right k a b first second u f =
+    let p = and_parts (expr_fits a) (expr_fits b) f in
+    and_from _ _ (first (in_front k (expr_uses a) (expr_uses b) u) p.0) (second (behind k (expr_uses a) (expr_uses b) u) p.1)
+
 mutual
   expr_right : (k : NameKinds) (e : ExprTree) → all_right k (expr_uses e) ≡ true → expr_fits e ≡ true → expr_is_right k e ≡ true
   expr_right k (Int n) u f = refl
   expr_right k (Var x) u f = (and_parts _ _ u).0
-  expr_right k (Element x no_exprs) u f = absurd (let none = (and_parts _ _ (and_parts _ _ f).0).1 in cc)
+  expr_right k (Element x no_exprs) u f = absurd (false≢true (and_parts _ _ (and_parts _ _ f).0).1)
   expr_right k (Element x (more_exprs e rest)) u f =
       let p = and_parts _ (all_right k (exprs_uses (more_exprs e rest))) u in
       let fits = (and_parts _ (exprs_fit (more_exprs e rest)) f).1 in
       and_from _ _ p.0 (exprs_right k (more_exprs e rest) p.1 fits)
   expr_right k (Neg a) u f = expr_right k a u f
-  expr_right k (Add a b) u f = two_right k a b u f
-  expr_right k (Sub a b) u f = two_right k a b u f
-  expr_right k (Mul a b) u f = two_right k a b u f
-  expr_right k (Div a b) u f = two_right k a b u f
-  expr_right k (Pow a b) u f = two_right k a b u f
+  expr_right k (Add a b) u f = two_right k a b (expr_right k a) (expr_right k b) u f
+  expr_right k (Sub a b) u f = two_right k a b (expr_right k a) (expr_right k b) u f
+  expr_right k (Mul a b) u f = two_right k a b (expr_right k a) (expr_right k b) u f
+  expr_right k (Div a b) u f = two_right k a b (expr_right k a) (expr_right k b) u f
+  expr_right k (Pow a b) u f = two_right k a b (expr_right k a) (expr_right k b) u f
   expr_right k (Call g arguments) u f = let p = and_parts (takes_arguments g arguments) (exprs_fit arguments) f in and_from _ _ p.0 (exprs_right k arguments u p.1)
-
-  two_right : (k : NameKinds) (a b : ExprTree) → all_right k (expr_uses a ++ expr_uses b) ≡ true → (expr_fits a && expr_fits b) ≡ true → (expr_is_right k a && expr_is_right k b) ≡ true
-  two_right k a b u f =
-      let p = and_parts (expr_fits a) (expr_fits b) f in
-      and_from _ _ (expr_right k a (in_front k (expr_uses a) (expr_uses b) u) p.0) (expr_right k b (behind k (expr_uses a) (expr_uses b) u) p.1)
 
   exprs_right : (k : NameKinds) (es : ExprTrees) → all_right k (exprs_uses es) ≡ true → exprs_fit es ≡ true → exprs_are_right k es ≡ true
   exprs_right k no_exprs u f = refl
@@ -56,7 +58,7 @@ mutual
 target_right : (k : NameKinds) (e : ExprTree) → all_right k (target_uses e) ≡ true → target_fits e ≡ true → target_is_right k e ≡ true
 target_right k (Int n) u f = absurd cc
 target_right k (Var x) u f = (and_parts _ _ u).0
-target_right k (Element x no_exprs) u f = absurd (let none = (and_parts _ _ (and_parts _ _ f).0).1 in cc)
+target_right k (Element x no_exprs) u f = absurd (false≢true (and_parts _ _ (and_parts _ _ f).0).1)
 target_right k (Element x (more_exprs e rest)) u f =
     let p = and_parts _ (all_right k (exprs_uses (more_exprs e rest))) u in
     let fits = (and_parts _ (exprs_fit (more_exprs e rest)) f).1 in
@@ -70,7 +72,7 @@ target_right k (Pow a b) u f = absurd cc
 target_right k (Call g arguments) u f = absurd cc
 
 cond_right : (k : NameKinds) (c : CondTree) → all_right k (cond_uses c) ≡ true → cond_fits c ≡ true → cond_is_right k c ≡ true
-cond_right k (Rel r a b) u f = two_right k a b u f
+cond_right k (Rel r a b) u f = two_right k a b (expr_right k a) (expr_right k b) u f
 cond_right k (Not a) u f = cond_right k a u f
 cond_right k (And a b) u f =
     let p = and_parts (cond_fits a) (cond_fits b) f in
@@ -115,12 +117,12 @@ head_right k p h body u f =
     let last = and_parts _ (expr_fits h.last) step.0 in
     let first = and_parts _ (expr_fits h.first) last.0 in
     let own = and_parts (is_scalar k h.variable) (all_right k (expr_uses h.first ++ expr_uses h.last ++ expr_uses h.step)) (behind k (map (used_as Rejected) h.rejected) (used_as Index h.variable ∷ (expr_uses h.first ++ expr_uses h.last ++ expr_uses h.step)) u) in
-    let behind_first = behind k (expr_uses h.first) (expr_uses h.last ++ expr_uses h.step) own.1 in
+    let bounds = in_front k (expr_uses h.first ++ expr_uses h.last) (expr_uses h.step) own.1 in
     record {
       variable = own.0;
-      first = expr_right k h.first (in_front k (expr_uses h.first) (expr_uses h.last ++ expr_uses h.step) own.1) first.1;
-      last = expr_right k h.last (in_front k (expr_uses h.last) (expr_uses h.step) behind_first) last.1;
-      step = expr_right k h.step (behind k (expr_uses h.last) (expr_uses h.step) behind_first) step.1;
+      first = expr_right k h.first (in_front k (expr_uses h.first) (expr_uses h.last) bounds) first.1;
+      last = expr_right k h.last (behind k (expr_uses h.first) (expr_uses h.last) bounds) last.1;
+      step = expr_right k h.step (behind k (expr_uses h.first ++ expr_uses h.last) (expr_uses h.step) own.1) step.1;
     }
 
 mutual

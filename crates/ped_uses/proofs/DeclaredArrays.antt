@@ -14,7 +14,7 @@ use Rattle.ped_grammar.specs.Contexts.{decl_rank}
 use Rattle.ped_grammar.specs.Fits.{declarator_fits, array_fits, decls_fit}
 use Rattle.ped_constants.specs.ConstantExpressions.{constant_value}
 use Rattle.ped_refs.specs.References.{Reference}
-use Rattle.ped_symbols.specs.declared.uses.Role.TheVariants.{Dimensioned, Named, Saved}
+use Rattle.ped_symbols.specs.declared.uses.Role.TheVariants.{Named, Saved}
 use Rattle.ped_symbols.specs.declared.uses.Use.{Use}
 use Rattle.ped_symbols.specs.Uses.{used_as, expr_uses, exprs_uses, bounds_uses, dimension_uses, type_uses, decl_uses}
 use Rattle.ped_symbols.specs.Declarations.{Declared, rank_by, ranks_in}
@@ -25,7 +25,7 @@ use Rattle.ped_symbols.specs.NameRefusals.{Before, behind_site, behind_sites}
 use Rattle.ped_uses.specs.RightUses.{is_rank}
 use Rattle.ped_uses.specs.RightLoops.{is_small}
 use Rattle.ped_uses.specs.RightArrays.{bounds_are_right, array_is_right, arrays_are_right}
-use Rattle.ped_uses.proofs.Quiet.{IsQuiet, AreQuiet}
+use Rattle.ped_uses.proofs.Quiet.{AreQuiet}
 
 -- an array's name with its number of dimensions (ANSI X3.9-1978, section 5.1.1)
 abbrev pub rank_entry : List ℕ × Dimensions → List ℕ × ℕ

@@ -1,9 +1,10 @@
 mod Constants
 mod DeclaredArrays
+pub mod Found
 mod Loops
 mod NamedArrays
 mod Occurring
 mod Quiet
 mod Statements
 mod UseKinds
-mod Whole
+pub mod Whole

@@ -1,6 +1,6 @@
 -- DO loops of a tree that fits don't stand too deep in one another, and their increments have values that they may have.
-use Rattle.std.proofs.Common.{◌≡◌, ℕ, suc, ◌+◌, ◌<◌, ◌≤◌, ℤ, pos, List, [], ◌∷◌, ◌++◌, length, Bool, true, false, Option, Some, None, refl, ap, sym, ◌∙◌, arith, if◌then◌else◌}
-use Rattle.std.specs.Prelude.{max, not, ◌&&◌, ◌||◌, nat_lt, nat_le, unsigned_abs}
+use Rattle.std.proofs.Common.{◌≡◌, suc, ◌+◌, ◌<◌, ◌≤◌, ℤ, pos, List, ◌++◌, length, Bool, true, false, Option, Some, None, refl, sym, ◌∙◌, arith, if◌then◌else◌}
+use Rattle.std.specs.Prelude.{nat_le, unsigned_abs}
 use Rattle.std.specs.List.{list_any}
 use Rattle.std.specs.Ordering.{int_eq}
 use Rattle.std.proofs.lemmas.Bool.{and_parts, and_from, or_parts, ltb-true, not_from_false}
@@ -12,7 +12,7 @@ use Rattle.ped_grammar.specs.Fits.{Surroundings, moved, in_if, in_loop, loop_fit
 use Rattle.ped_constants.specs.ConstantExpressions.{constant_value}
 use Rattle.ped_symbols.specs.Values.{Values, within, is_bad_step, site_fails}
 use Rattle.ped_symbols.specs.Sites.{Site, private_site, stmt_sites, stmts_sites}
-use Rattle.ped_uses.specs.RightLoops.{loop_depth, loops_deep, is_step, step_is_right, stmt_steps_are_right, steps_are_right}
+use Rattle.ped_uses.specs.RightLoops.{loop_depth, loops_deep, is_step, stmt_steps_are_right, steps_are_right}
 
 loop_less : (p : Surroundings) (h : Head) (body : StmtTrees) → loop_fits p h body ≡ true → length p.variables < most_loops_nested
 loop_less p h body f = ltb-true (length p.variables) most_loops_nested (and_parts _ _ (and_parts _ _ (and_parts _ _ (and_parts _ _ f).0).0).0).1

@@ -1,19 +1,17 @@
 -- In a program whose names are right nothing is refused at any site.
-use Rattle.std.proofs.Common.{◌≡◌, ℕ, List, [], ◌∷◌, ◌++◌, drop, Bool, true, false, refl, ap, sym, ◌∙◌}
-use Rattle.std.specs.Prelude.{◌||◌}
+use Rattle.std.proofs.Common.{◌≡◌, ℕ, List, [], ◌∷◌, ◌++◌, drop, Bool, true, false, refl, ◌∙◌}
 use Rattle.std.specs.List.{list_any, list_all, flat_map}
-use Rattle.std.proofs.lemmas.Bool.{or_parts, or_from, and_parts, and_from}
+use Rattle.std.proofs.lemmas.Bool.{or_parts, or_from, and_from}
 use Rattle.std.proofs.lemmas.List.Folds.{list_any-append, list_all-append}
 use Rattle.ped_tree.specs.Tree.{StmtTree, StmtTrees, Assign, If, Do, Print, Read, Stop, Comment, no_stmts, more_stmts}
-use Rattle.ped_grammar.specs.Refusal.{Refusal, Finding, RealName, DeclaredTwice, NotConstant, RankDiffers, BoundsEmpty, StorageLimit, refused_if}
+use Rattle.ped_grammar.specs.Refusal.{Refusal, Finding, refused_if}
 use Rattle.ped_refs.specs.References.{Reference}
-use Rattle.ped_symbols.specs.declared.uses.Use.{Use}
 use Rattle.ped_symbols.specs.Declarations.{Declared}
 use Rattle.ped_symbols.specs.Sites.{Site, declaration, statement, private_names, private_site, stmt_sites, stmts_sites, site_uses}
 use Rattle.ped_symbols.specs.Values.{Values, site_fails, site_is_empty}
 use Rattle.ped_symbols.specs.Arrays.{Arrays}
 use Rattle.ped_symbols.specs.StorageLimits.{have_many_elements}
-use Rattle.ped_symbols.specs.NameRefusals.{Before, uses_constant, uses_program, dimensions_intrinsic, repeats, uses_other_rank, is_declared_twice, passes_limit, behind_site, behind_sites, at_site, at_sites, next_line}
+use Rattle.ped_symbols.specs.NameRefusals.{Before, uses_constant, uses_other_rank, is_declared_twice, passes_limit, behind_site, behind_sites, at_site, at_sites, next_line}
 
 -- nothing is refused at the site
 pub record IsQuiet (d : Declared) (refs : List Reference) (b : Before) (s : Site) : Type 0 where

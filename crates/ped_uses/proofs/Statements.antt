@@ -1,5 +1,5 @@
 -- Where each use of a name is right, so are the statements.
-use Rattle.std.proofs.Common.{◌≡◌, ℕ, ◌+◌, List, [], ◌∷◌, ◌++◌, map, Bool, true, false, refl, ap, sym, ◌∙◌}
+use Rattle.std.proofs.Common.{◌≡◌, ℕ, ◌+◌, List, [], ◌∷◌, ◌++◌, map, Bool, true, refl, ap, sym, ◌∙◌}
 use Rattle.std.specs.Prelude.{◌&&◌}
 use Rattle.std.specs.List.{list_all, flat_map}
 use Rattle.std.proofs.lemmas.Bool.{false≢true, and_parts, and_from}
@@ -7,12 +7,12 @@ use Rattle.std.proofs.lemmas.List.Folds.{list_all-append, list_all-map}
 use Rattle.std.proofs.lemmas.Grind.{flat_map-append}
 use Rattle.ped_tree.specs.Tree.{ExprTree, ExprTrees, Int, Var, Element, Neg, Add, Sub, Mul, Div, Pow, Call, no_exprs, more_exprs, CondTree, Rel, Not, And, Or, ItemTree, Value, Text, Head, StmtTree, StmtTrees, Assign, If, Do, Print, Read, Stop, Comment, no_stmts, more_stmts, DeclTree, Program, Implicit, Integer, Dimension, Parameter, Save, Remark}
 use Rattle.ped_tree.specs.Numbering.{statement_count, statements_count, loop_count, loops_count}
-use Rattle.ped_grammar.specs.Fits.{expr_fits, exprs_fit, has_expr, takes_arguments, target_fits, cond_fits, item_fits, Surroundings, moved, in_if, in_loop, loop_fits, stmt_fits, stmts_fit}
+use Rattle.ped_grammar.specs.Fits.{expr_fits, exprs_fit, takes_arguments, target_fits, cond_fits, item_fits, Surroundings, moved, in_if, in_loop, loop_fits, stmt_fits, stmts_fit}
 use Rattle.ped_symbols.specs.declared.uses.Role.TheVariants.{Saved, Rejected, Private, Index}
 use Rattle.ped_symbols.specs.declared.uses.Use.{Use}
-use Rattle.ped_symbols.specs.Uses.{used_as, expr_count, expr_uses, exprs_uses, cond_uses, target_uses, item_uses, own_uses, decl_uses}
+use Rattle.ped_symbols.specs.Uses.{used_as, expr_uses, exprs_uses, cond_uses, target_uses, item_uses, own_uses, decl_uses}
 use Rattle.ped_symbols.specs.Sites.{Site, private_site, stmt_sites, stmts_sites, site_uses}
-use Rattle.ped_uses.specs.RightUses.{NameKinds, is_scalar, is_variable, has_rank, is_rank, expr_is_right, exprs_are_right, target_is_right, cond_is_right, item_is_right, head_is_right, stmt_is_right, stmts_are_right, save_is_right, saves_are_right}
+use Rattle.ped_uses.specs.RightUses.{NameKinds, is_scalar, expr_is_right, exprs_are_right, target_is_right, cond_is_right, item_is_right, stmt_is_right, stmts_are_right, save_is_right, saves_are_right}
 use Rattle.ped_uses.proofs.UseKinds.{use_is_right}
 
 -- all of these uses are right

@@ -1,20 +1,17 @@
 -- Each use of a name in a valid program is one that a name of its kind may have.
 use Rattle.std.proofs.Common.{◌≡◌, ℕ, zero, suc, ◌≤◌, ℤ, List, [], ◌∷◌, length, map, Bool, true, false, Option, Some, None, refl, ap, sym, ◌∙◌, arith, if◌then◌else◌}
-use Rattle.std.specs.Prelude.{not, ◌&&◌, ◌||◌, ◌==◌, nat_lt}
+use Rattle.std.specs.Prelude.{◌&&◌, ◌||◌, ◌==◌, nat_lt}
 use Rattle.std.specs.List.{list_any, list_all}
-use Rattle.std.proofs.lemmas.Bool.{or_parts, or_from, or_right, and_parts, and_from, eqb-true, leb-true, lt-ltb, not-false}
+use Rattle.std.proofs.lemmas.Bool.{or_parts, or_right, and_parts, and_from, eqb-true, leb-true, lt-ltb, not-false}
 use Rattle.ped_base.specs.Dimensions.{Dimensions}
 use Rattle.ped_base.specs.Lists.{is_same_text, is_among}
 use Rattle.ped_names.proofs.NameEquality.{same_itself as same_text}
-use Rattle.ped_tree.specs.Tree.{ProgramTree}
-use Rattle.ped_grammar.specs.LimitNumbers.{most_dimensions}
 use Rattle.ped_symbols.specs.declared.uses.Role.{Role}
 use Rattle.ped_symbols.specs.declared.uses.Role.TheVariants.{Typed, Dimensioned, Named, Saved, Rejected, Private, Index, Assigned, Operand}
 use Rattle.ped_symbols.specs.declared.uses.Use.{Use}
 use Rattle.ped_symbols.specs.declared.symbols.Kind.{Kind}
-use Rattle.ped_symbols.specs.declared.symbols.Kind.TheVariants.{Scalar, Array, Constant}
 use Rattle.ped_symbols.specs.Entries.{entry_of}
-use Rattle.ped_symbols.specs.Declarations.{Declared, ranks_in, is_constant, or_zero, rank_of}
+use Rattle.ped_symbols.specs.Declarations.{Declared, is_constant, or_zero, rank_of}
 use Rattle.ped_symbols.specs.Values.{Values}
 use Rattle.ped_symbols.specs.Arrays.{Arrays}
 use Rattle.ped_symbols.specs.NameRefusals.{uses_constant, uses_other_rank, differs}

@@ -1,33 +1,29 @@
 -- A valid program is right.
-use Rattle.std.proofs.Common.{◌≡◌, ℕ, ◌+◌, ◌≤◌, ℤ, List, [], ◌∷◌, ◌++◌, length, map, Bool, true, false, Option, Some, None, refl, ap, sym, subst, ◌∙◌, arith, append-nil, if◌then◌else◌}
-use Rattle.std.specs.Prelude.{◌&&◌, ◌||◌, nat_lt}
-use Rattle.std.specs.List.{list_any, list_all, flat_map}
+use Rattle.std.proofs.Common.{◌≡◌, ℕ, ◌+◌, ◌≤◌, List, [], ◌∷◌, ◌++◌, map, Bool, true, false, Some, None, refl, ap, sym, subst, ◌∙◌, arith, append-nil, if◌then◌else◌}
+use Rattle.std.specs.Prelude.{nat_lt}
+use Rattle.std.specs.List.{list_any, flat_map}
 use Rattle.std.proofs.lemmas.Bool.{and_parts, or_parts, ltb-false}
 use Rattle.std.proofs.lemmas.Grind.{flat_map-append}
 use Rattle.ped_base.specs.Lists.{is_among}
 use Rattle.ped_tree.specs.Tree.{DeclTree, Program, Implicit, Integer, Dimension, Parameter, Save, Remark, ProgramTree}
-use Rattle.ped_tree.specs.Numbering.{statements_count}
-use Rattle.ped_tree.specs.NamesIn.{first_occurrences}
-use Rattle.ped_grammar.specs.LimitNumbers.{most_statements, most_loops_nested}
-use Rattle.ped_grammar.specs.Fits.{decls_fit, stmts_fit, begins_with_statement, at_body, fits}
+use Rattle.ped_grammar.specs.LimitNumbers.{most_loops_nested}
+use Rattle.ped_grammar.specs.Fits.{decls_fit, stmts_fit, begins_with_statement, at_body}
 use Rattle.ped_refs.specs.References.{references}
 use Rattle.ped_sizes.proofs.Small.{small_program}
-use Rattle.ped_symbols.specs.declared.uses.Use.{Use}
-use Rattle.ped_symbols.specs.Entries.{entry_of}
 use Rattle.ped_symbols.specs.Uses.{decl_uses}
-use Rattle.ped_symbols.specs.Declarations.{Declared, declared_in, is_constant}
+use Rattle.ped_symbols.specs.Declarations.{declared_in}
 use Rattle.ped_symbols.specs.Sites.{Site, decl_sites, stmts_sites, program_sites, site_uses}
 use Rattle.ped_symbols.specs.Values.{Values, site_fails}
 use Rattle.ped_symbols.specs.Arrays.{Arrays}
 use Rattle.ped_symbols.specs.StorageLimits.{most_elements_together, elements_of, has_large, have_many_elements}
-use Rattle.ped_symbols.specs.NameRefusals.{Before, at_first, behind_sites, uses_constant, uses_other_rank, IsValid}
-use Rattle.ped_symbols.specs.Kinds.{kind_of, at_last, names_at, names_of, kinds_of, kind_in}
+use Rattle.ped_symbols.specs.NameRefusals.{at_first, behind_sites, IsValid}
+use Rattle.ped_symbols.specs.Kinds.{kind_of, at_last, names_at, names_of, kind_in}
 use Rattle.ped_uses.specs.RightLoops.{loops_deep}
 use Rattle.ped_uses.specs.RightPrograms.{IsRight}
 use Rattle.ped_uses.proofs.Quiet.{AreQuiet, all_quiet, quiet_front, quiet_back, behind_append, no_constant_used, no_other_rank, few_elements, said, said_stays, none_fails, stmts_declare_nothing}
 use Rattle.ped_uses.proofs.Occurring.{among_first, once_first}
 use Rattle.ped_uses.proofs.Constants.{none_named}
-use Rattle.ped_uses.proofs.DeclaredArrays.{Tells, arrays_told}
+use Rattle.ped_uses.proofs.DeclaredArrays.{arrays_told}
 use Rattle.ped_uses.proofs.UseKinds.{Known, uses_right}
 use Rattle.ped_uses.proofs.Statements.{all_right, sites_in_front, sites_behind, stmts_right, saves_right}
 use Rattle.ped_uses.proofs.Loops.{deep_within, steps_right}

@@ -1,5 +1,5 @@
 -- What a valid program tells of its statements, its loops and its arrays (ANSI X3.9-1978; this project).
-use Rattle.std.specs.Prelude.{◌≡◌, ◌≤◌, true, length}
+use Rattle.std.specs.Prelude.{◌≡◌, ◌≤◌, true}
 use Rattle.ped_tree.specs.Tree.{ProgramTree}
 use Rattle.ped_tree.specs.Numbering.{statements_count}
 use Rattle.ped_grammar.specs.LimitNumbers.{most_statements, most_loops_nested}

@@ -3,4 +3,4 @@
 
 mod laws;
 
-pub use laws::right_where_valid;
+pub use laws::{kind_found, right_where_valid};

@@ -1,0 +1,10 @@
+mod Constants
+mod DeclaredArrays
+pub mod Found
+mod Loops
+mod NamedArrays
+mod Occurring
+mod Quiet
+mod Statements
+mod UseKinds
+pub mod Whole

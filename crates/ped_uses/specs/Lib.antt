@@ -1,0 +1,4 @@
+pub mod RightArrays
+pub mod RightLoops
+pub mod RightPrograms
+pub mod RightUses

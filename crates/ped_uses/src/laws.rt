@@ -1,0 +1,21 @@
+//! What follows of a valid program, and how its names with their kinds are looked up. The functions do nothing; their
+//! contracts are the laws.
+
+ghost use Rattle.std.specs.Prelude.{◌≡◌, ℕ, List};
+ghost use Rattle.ped_tree.specs.Tree.{ProgramTree};
+ghost use Rattle.ped_symbols.specs.Entries.{entry_of};
+ghost use Rattle.ped_symbols.specs.Kinds.{kind_in, kinds_of};
+ghost use Rattle.ped_symbols.specs.NameRefusals.{IsValid};
+ghost use Rattle.ped_uses.specs.RightPrograms.{IsRight};
+
+/// In a valid program names stand where names of their kind may stand, increments have values, DO loops stand in one
+/// another at most six deep, there are at most 4,000 statements, and arrays have right bounds and at most 2^23 elements
+/// together.
+pub fn right_where_valid()
+    ensures { (t : ProgramTree) → IsValid t → IsRight t }
+{}
+
+/// A name is found among the names of a program with the kind that it has there, and one that doesn't occur isn't found.
+pub fn kind_found()
+    ensures { (t : ProgramTree) → (x : List ℕ) → entry_of (kinds_of t) x ≡ kind_in t x }
+{}

@@ -1,0 +1,6 @@
+//! What follows of a valid program for its statements: names stand where names of their kind may stand.
+#![tactic(auto)]
+
+mod laws;
+
+pub use laws::{kind_found, right_where_valid};

@@ -1,0 +1,5 @@
+mod Choices
+mod FirstLines
+mod Numbers
+mod Split
+mod Table

@@ -1,5 +1,5 @@
 -- Numbers that words write.
-use Rattle.std.proofs.Common.{◌≡◌, ℕ, ◌^◌, ◌<◌, ◌≤◌, Bool, true, false, cond, ◌&&◌, List, [], ◌∷◌, length, leb, Option, Some, IfSome, Result, refl, sym, ap, subst, ◌∙◌, arith, rules}
+use Rattle.std.proofs.Common.{◌≡◌, ℕ, ◌^◌, ◌<◌, ◌≤◌, Bool, true, false, ◌&&◌, [], ◌∷◌, length, leb, Option, Some, IfSome, Result, refl, sym, ap, subst, ◌∙◌, arith, rules}
 use Rattle.std.specs.List.{list_all}
 use Rattle.std.specs.Result.{result_ok}
 use Rattle.std.specs.Str.{IsUtf8}
@@ -9,7 +9,7 @@ use Rattle.std.proofs.lemmas.Str.{IsUtf8-from_ascii}
 use Rattle.std.proofs.lemmas.Str.Parse.{IsNumeralModel, numerals_by_value, digits_value_short, parse_gives}
 use Rattle.ped_base.specs.Letters.{is_digit}
 use Rattle.ped_base.specs.Lists.{has_some}
-use Rattle.ped_script.specs.Words.{Text, has_leading_zero, is_number, number_of}
+use Rattle.ped_script.specs.Words.{Text, is_number, number_of}
 
 numerals : IsNumeralModel (λ ds. list_all is_digit ds ≡ true) (digits_value 10)
 numerals = numerals_by_value (λ ds. list_all is_digit ds ≡ true) (search rules)

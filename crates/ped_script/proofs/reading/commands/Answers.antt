@@ -1,5 +1,4 @@
 use Rattle.std.proofs.Common.{◌≡◌, ℕ, ◌+◌, Option, drop, List, [], ◌++◌, ◌∷◌, sym, ap, ◌∙◌, arith}
-use Rattle.std.specs.Str.Lines.{lines}
 use Rattle.ped_script.specs.declared.items.Item.{Item}
 use Rattle.ped_script.specs.Words.{Text, words_of}
 use Rattle.ped_script.specs.Items.{whole_command, taken_lines, items_from, commands_of}
@@ -10,7 +9,7 @@ use Rattle.ped_script.proofs.reading.commands.Goals as goal
 
 pub loop-line-init : goal.loop-line-init
 unfolding commands_of
-loop-line-init c = 
+loop-line-init c =
     let none : c.new-items.result ++ items_from (c.new-lines.result.read + 1) 0 c.new-lines.result.lines ≡ items_from (c.new-lines.result.read + 1) 0 c.new-lines.result.lines =
     ap (λ (items : List Item). items ++ items_from (c.new-lines.result.read + 1) 0 c.new-lines.result.lines) c.new-items.ensures in
     let first : c.new-lines.result.read + 1 ≡ 1 = omega (arith, c.new-lines.ensures.read) in

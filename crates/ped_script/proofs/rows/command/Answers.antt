@@ -1,6 +1,6 @@
-use Rattle.std.proofs.Common.{◌≡◌, ◌∷◌, false, List, codes, Some, sym, ap, ◌∙◌}
+use Rattle.std.proofs.Common.{◌≡◌, ◌∷◌, false, List, codes, sym, ap, ◌∙◌}
 use Rattle.ped_base.specs.Lists.{is_same_text}
-use Rattle.ped_script.specs.Words.{Text, words_of, number_of}
+use Rattle.ped_script.specs.Words.{Text, words_of}
 use Rattle.ped_script.specs.Rows.{command_of}
 use Rattle.ped_script.proofs.Split.{some_word, no_word}
 use Rattle.ped_script.proofs.Table.{one_word, two_words, no_number, three_words, four_words}

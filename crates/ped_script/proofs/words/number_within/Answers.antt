@@ -1,4 +1,4 @@
-use Rattle.std.proofs.Common.{sym, ap, subst, ◌∙◌, ◌<◌, ◌^◌, ℕ, Option, IfSome}
+use Rattle.std.proofs.Common.{sym, subst, ◌∙◌, ◌<◌, ◌^◌, ℕ, Option, IfSome}
 use Rattle.ped_script.proofs.Numbers.{number_is_text, parsed_is, parsed_small}
 use Rattle.ped_script.proofs.words.number_within.Goals as goal
 

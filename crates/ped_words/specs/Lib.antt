@@ -1,0 +1,4 @@
+pub mod Faults
+pub mod Modes
+pub mod Requests
+pub mod Views

@@ -1,4 +1,4 @@
-pub mod Faults
 pub mod Modes
+pub mod Parses
 pub mod Requests
 pub mod Views

@@ -4,14 +4,15 @@ use Rattle.clap.specs.Simple.{on_top}
 use Rattle.clap.specs.Walk.{Text}
 use Rattle.clap.specs.Words.{App, Rule, new_app, new_rule, with_rule}
 use Rattle.clap.specs.declared.builder.value_parser.ValueParser.TheVariants.{Signed}
+use Rattle.clap.specs.declared.builder.action.ArgAction.TheVariants.{Set}
 
 -- a command of this name without a flag for help; it has none for a version, since it has no version
 abbrev pub mode : Text → App
 mode name = on_top (λ s. record s { disable_help_flag = true }) (new_app name)
 
--- an argument that must be there
+-- an argument that must be there, with one value
 abbrev pub needed : Text → Rule
-needed name = record (new_rule name) { required = true }
+needed name = record (new_rule name) { action = Some Set; required = true }
 
 -- an argument behind two hyphens and its name, which need not be there
 abbrev pub named : Text → Rule

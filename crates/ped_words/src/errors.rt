@@ -28,7 +28,7 @@ impl From<AllocError> for WordsError {
 }
 
 impl From<clap::Error> for WordsError {
-    ghost use Rattle.ped_words.specs.Faults.{IsErrorOf};
+    ghost use Rattle.ped_words.specs.Parses.{IsErrorOf};
 
     ghost from_gives = { IsErrorOf };
 

@@ -2,9 +2,8 @@
 
 ghost use Rattle.std.specs.Prelude.{◌≡◌, None, Some, codes, map, string_bytes, IfOk};
 ghost use Rattle.ped_base.specs.Lists.{is_same_text};
-ghost use Rattle.ped_words.specs.Modes.{show_app, session_app, generate_app};
-ghost use Rattle.ped_words.specs.Requests.{request_of, taken_by, show_request, session_request, generate_request};
-ghost use Rattle.ped_words.specs.Views.{request_view, Answers};
+ghost use Rattle.ped_words.specs.Requests.{request_of, show_request, session_request, generate_request};
+ghost use Rattle.ped_words.specs.Views.{request_view, Answers, IsSized};
 
 use crate::commands::{generate_command, session_command, show_command};
 use crate::errors::WordsError;
@@ -16,6 +15,7 @@ use std::alloc::Global;
 /// mode's command doesn't take the rest.
 pub fn request<'a>(alloc: Global, words: &'a [String]) -> Result<Request<'a>, WordsError>
     ensures ok { IfOk result (λ r. request_of (map string_bytes words.now) ≡ Some (request_view r)) }
+    ensures size { IfOk result IsSized }
     ensures bad { result ≡ Err WordsError.Bad → request_of (map string_bytes words.now) ≡ None }
 {
     let Some(mode) = words.first() else {
@@ -41,37 +41,31 @@ fn is_mode(word: &String, mode: &[u8]) -> bool
 
 /// `show PROGRAM`
 fn show<'a>(alloc: Global, words: &'a [String]) -> Result<Request<'a>, WordsError>
-    ensures { Answers (taken_by show_app (map string_bytes words.now) (show_request (map string_bytes words.now))) result }
+    ensures { Answers (show_request (map string_bytes words.now)) result }
 {
     let matches = show_command(alloc)?.try_get_matches_from(words)?;
-    match matches.get_str("program") {
-        Some(program) => Ok(Request::Show { program }),
-        None => Err(WordsError::Bad),
-    }
+    Ok(Request::Show {
+        program: matches.get_str("program").unwrap(),
+    })
 }
 
 /// `session PROGRAM SCRIPT [--data FILE]`
 fn session<'a>(alloc: Global, words: &'a [String]) -> Result<Request<'a>, WordsError>
-    ensures { Answers (taken_by session_app (map string_bytes words.now) (session_request (map string_bytes words.now))) result }
+    ensures { Answers (session_request (map string_bytes words.now)) result }
 {
     let matches = session_command(alloc)?.try_get_matches_from(words)?;
-    match (matches.get_str("program"), matches.get_str("script")) {
-        (Some(program), Some(script)) => Ok(Request::Session {
-            program,
-            script,
-            data: matches.get_str("data"),
-        }),
-        _ => Err(WordsError::Bad),
-    }
+    Ok(Request::Session {
+        program: matches.get_str("program").unwrap(),
+        script: matches.get_str("script").unwrap(),
+        data: matches.get_str("data"),
+    })
 }
 
 /// `generate N`
 fn generate<'a>(alloc: Global, words: &'a [String]) -> Result<Request<'a>, WordsError>
-    ensures { Answers (taken_by generate_app (map string_bytes words.now) (generate_request (map string_bytes words.now))) result }
+    ensures answer { Answers (generate_request (map string_bytes words.now)) result }
+    ensures size { IfOk result IsSized }
 {
     let matches = generate_command(alloc)?.try_get_matches_from(words)?;
-    match matches.get_one::<u32>("number") {
-        Some(number) => Ok(Request::Generate(number)),
-        None => Err(WordsError::Bad),
-    }
+    Ok(Request::Generate(matches.get_one::<u32>("number").unwrap()))
 }

@@ -1,0 +1,7 @@
+mod Choices
+mod FirstLines
+mod Numbers
+mod OneCommand
+mod Passing
+mod Split
+mod Table

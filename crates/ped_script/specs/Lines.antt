@@ -1,0 +1,8 @@
+-- The lines of a script that are left. Contracts of private functions alone speak of them.
+use Rattle.std.specs.Prelude.{ℕ, List}
+use Rattle.ped_script.specs.Words.{Text}
+
+-- how many lines have been taken, and those that are left
+pub record Left : Type 0 where
+  pub read : ℕ
+  pub lines : List Text

@@ -1,0 +1,49 @@
+-- The words of a line of a script, and the numbers and names that they write (this project).
+use Rattle.std.specs.Prelude.{ℕ, ℤ, pos, neg_ℤ, List, [], ◌∷◌, map, filter, length, Bool, false, not, ◌&&◌, ◌||◌, ◌==◌, nat_le, Option, Some, None, option_map, option_and_then, if◌then◌else◌}
+use Rattle.std.specs.Char.{to_ascii_uppercase}
+use Rattle.std.specs.List.{list_all, slice_split}
+use Rattle.std.specs.Str.Parse.{digits_value}
+use Rattle.ped_base.specs.Letters
+use Rattle.ped_base.specs.Letters.{is_digit}
+use Rattle.ped_base.specs.Lists.{has_some}
+
+-- a word, or a line: its bytes
+abbrev pub Text : Type 0
+Text = List ℕ
+
+-- in a script a blank is a space or a tab
+abbrev pub is_blank : ℕ → Bool
+is_blank c = c == 32 || c == 9
+
+-- the words of a line: what stands between its blanks
+abbrev pub words_of : Text → List Text
+words_of line = filter has_some (slice_split is_blank line)
+
+-- 0 stands first, and not alone
+abbrev pub has_leading_zero : Text → Bool
+has_leading_zero [] = false
+has_leading_zero (c ∷ cs) = c == 48 && has_some cs
+
+-- a number is written by its digits, without zeros before them
+abbrev pub is_number : Text → Bool
+is_number word = has_some word && list_all is_digit word && not (has_leading_zero word)
+
+-- the number that a word of at most so many digits writes
+abbrev pub number_of : ℕ → Text → Option ℕ
+number_of most word = if is_number word && nat_le (length word) most then Some (digits_value 10 word) else None
+
+-- the numbers that the words write, each of at most so many digits
+abbrev pub numbers_of : ℕ → List Text → Option (List ℕ)
+numbers_of most [] = Some []
+numbers_of most (w ∷ ws) = option_and_then (λ n. option_map (λ ns. n ∷ ns) (numbers_of most ws)) (number_of most w)
+
+-- a number of at most nine digits, or one with a minus sign before it
+abbrev pub factor_of : Text → Option ℤ
+factor_of [] = None
+factor_of (c ∷ cs) = if c == 45 then option_map (λ n. neg_ℤ (pos n)) (number_of 9 cs) else option_map pos (number_of 9 (c ∷ cs))
+
+-- the name that a word writes, in capitals: a letter, and at most five letters and digits behind it (ANSI X3.9-1978, section 2.2)
+abbrev pub name_of : Text → Option Text
+name_of word =
+    let capitals = map to_ascii_uppercase word in
+    if Letters.is_name capitals && nat_le (length capitals) 6 then Some capitals else None

@@ -1,0 +1,4 @@
+pub mod Modes
+pub mod Parses
+pub mod Requests
+pub mod Views

@@ -1,0 +1,36 @@
+-- What holds of each parse that succeeds, and what an error of one means. Contracts of private functions alone speak of it.
+use Rattle.std.specs.Prelude.{◌≡◌, ◌≢◌, pos, true, false, is_some, Some}
+use Rattle.clap.specs.Built.{IsPlainArg, TakesValue}
+use Rattle.clap.specs.Values.{IsSignedIn}
+use Rattle.clap.specs.Walk.{Text}
+use Rattle.clap.specs.Words.{IsParsedFrom, first_value, found_of, kind_of, one_text, rule_of, without_minus}
+use Rattle.clap.specs.declared.builder.arg.Arg.{Arg}
+use Rattle.clap.specs.declared.builder.command.Command.{Command}
+use Rattle.clap.specs.declared.error.Error.{Error}
+use Rattle.clap.specs.declared.error.kind.ErrorKind.TheVariants.{OutOfMemory}
+use Rattle.clap.specs.declared.parser.matches.ArgMatches.{ArgMatches}
+use Rattle.ped_words.specs.Modes.{needed}
+use Rattle.ped_words.specs.declared.errors.WordsError.{WordsError}
+use Rattle.ped_words.specs.declared.errors.WordsError.TheVariants.{Bad, NoMemory}
+
+-- the argument of this name must be there, and nothing else is told of it
+pub record IsNeeded (name : Text) (a : Arg) : Type 0 where
+  pub id : a.id.now ≡ name
+  pub rule : rule_of a ≡ needed name
+  pub plain : IsPlainArg a
+  pub local : a.global ≡ false
+  pub takes : TakesValue a
+  pub case : a.ignore_case ≡ false
+
+-- the argument has a value
+abbrev pub HasValue : Text → Command → Type 0
+HasValue name c = (m : ArgMatches) → IsParsedFrom c m → is_some (first_value (found_of m) name) ≡ true
+
+-- the argument has a number from 1 to 300 for its value
+abbrev pub HasSize : Text → Command → Type 0
+HasSize name c = (m : ArgMatches) → IsParsedFrom c m → (t : Text) × (one_text (found_of m) name ≡ Some (without_minus t)) × IsSignedIn (pos 1) (pos 300) t
+
+-- want of memory stays want of memory, and words that are refused for anything else are bad
+pub record IsErrorOf (error : Error) (said : WordsError) : Type 0 where
+  pub memory : kind_of error ≡ OutOfMemory → said ≡ NoMemory
+  pub other : kind_of error ≢ OutOfMemory → said ≡ Bad

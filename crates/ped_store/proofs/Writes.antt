@@ -53,7 +53,7 @@ element_at (Some slot) js i h = go (place_in slot.bounds js) refl h
     go None q h = absurd cc
     go (Some r) q h = (slot, refl, r, q, cc)
 
-count_one : (ls us : List ℤ) → length ls ≡ 0 → count ls us ≡ 1
+pub count_one : (ls us : List ℤ) → length ls ≡ 0 → count ls us ≡ 1
 count_one [] us h = refl
 count_one (l ∷ ls) us h = absurd (omega (arith, h))
 
@@ -164,7 +164,7 @@ flat : (o : Option (Option ℤ)) → option_flatten o ≡ unwrap_or o None
 flat None = refl
 flat (Some v) = refl
 
-held_is : (held : List (Option ℤ)) (i : ℕ) → held_at held (Some i) ≡ content_of (get_or held i None)
+pub held_is : (held : List (Option ℤ)) (i : ℕ) → held_at held (Some i) ≡ content_of (get_or held i None)
 held_is held i = ap content_of (flat (slice_get held i) ∙ unwrap_or-slice_get held i None)
 
 -- what is held behind a write, at the place of each cell

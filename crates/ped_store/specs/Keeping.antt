@@ -77,10 +77,10 @@ memory_of s = record {
 abbrev pub with_held : ℕ → Option ℤ → Kept → Kept
 with_held i content s = record s { held = slice_set s.held i content }
 
--- the copy has another content, and all else is as it was
-pub record IsCopyPut (copy : Copied) (content : Option ℤ) (old new : Kept) : Type 0 where
+-- what is known of the copy is now this, and all else is as it was
+pub record IsCopyPut (copy : Copied) (known : Option (Option ℤ)) (old new : Kept) : Type 0 where
   pub slots : new.slots ≡ old.slots
   pub held : new.held ≡ old.held
   pub input : new.input ≡ old.input
   pub output : new.output ≡ old.output
-  pub copies : (other : Copied) → lookup (same_copied other) new.copies ≡ (if same_copied copy other then Some content else lookup (same_copied other) old.copies)
+  pub copies : (other : Copied) → lookup (same_copied other) new.copies ≡ (if same_copied copy other then known else lookup (same_copied other) old.copies)

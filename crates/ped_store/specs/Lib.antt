@@ -2,9 +2,11 @@ pub mod Acts
 pub mod CellViews
 pub mod Cells
 pub mod DataLines
+pub mod DataPlaces
 pub mod Keeping
 pub mod Memories
 pub mod Races
 pub mod Slots
 pub mod Storage
 pub mod Stores
+pub mod Variables

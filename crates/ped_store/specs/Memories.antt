@@ -8,6 +8,7 @@ use Rattle.ped_store.specs.Cells.{Cell, Scalar, Element, Private, In, Out, same_
 use Rattle.ped_store.specs.Stores.{Content, Undefined, Number, Lines, Store, store_at_start, put, number_read, storable, with_line, outside_bounds}
 use Rattle.ped_store.specs.Storage.{is_within}
 use Rattle.ped_store.specs.DataLines.{Data, not_begun}
+use Rattle.ped_store.specs.Variables.{no_dimensions}
 
 -- the store, the cells that stand in it, the bounds of the arrays, and the data with what is left of the line that a READ has begun (this project)
 pub record Memory : Type 0 where
@@ -18,7 +19,7 @@ pub record Memory : Type 0 where
 
 -- the bounds of a name among shapes; none for a scalar, and for a name that isn't there (ANSI X3.9-1978, section 5.1.1)
 abbrev pub bounds_among : List Shape → List ℕ → Dimensions
-bounds_among [] x = record { lower = []; upper = [] }
+bounds_among [] x = no_dimensions
 bounds_among (shape ∷ more) x = if is_same_text x shape.name then shape.bounds else bounds_among more x
 
 -- the name is one of these shapes (plain words)

@@ -7,6 +7,7 @@ use Rattle.ped_base.specs.Lists.{has_some, is_same_text}
 use Rattle.ped_store.specs.Cells.{Cell, Scalar, Element, Private, In, Out}
 use Rattle.ped_store.specs.Stores.{Content, Undefined, Number}
 use Rattle.ped_store.specs.Storage.{natural, extent, are_within}
+use Rattle.ped_store.specs.declared.shapes.Shape.{Shape}
 use Rattle.ped_store.specs.declared.slots.Slot.{Slot}
 
 -- the place of an element among those of its array in storage order, from 0 (ANSI X3.9-1978, section 5.2.4)
@@ -30,6 +31,15 @@ scalar_in slot = if length slot.bounds.lower == 0 then Some slot.start else None
 -- the slot of a name
 abbrev pub slot_of : List (List ℕ × Slot) → List ℕ → Option Slot
 slot_of slots x = lookup (is_same_text x) slots
+
+-- the bounds of a name's slot
+abbrev pub slot_bounds : List (List ℕ × Slot) → List ℕ → Option Dimensions
+slot_bounds slots x = option_map (λ slot. slot.bounds) (slot_of slots x)
+
+-- the bounds of the first of these shapes with this name
+abbrev pub first_bounds : List Shape → List ℕ → Option Dimensions
+first_bounds [] x = None
+first_bounds (shape ∷ more) x = if is_same_text x shape.name then Some shape.bounds else first_bounds more x
 
 -- how far a subscript lies above its lower bound, where it lies within its bounds
 abbrev pub offset_within : ℤ → ℤ → ℤ → Option ℕ

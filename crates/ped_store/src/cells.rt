@@ -1,6 +1,6 @@
 //! Cells, of a fixed size.
 
-use ped_base::{Listed, Name};
+use ped_base::Name;
 
 /// A cell of a store. It has room for seven subscripts and for six DO loops, so making one takes no memory.
 #[derive(Clone, Copy, PartialEq, Eq)]
@@ -33,7 +33,3 @@ pub enum Cell {
     /// The output.
     Out,
 }
-
-/// The names that stand for a private copy at a place of a program, each with its cell. Every other name stands for
-/// itself.
-pub type Scope = Listed<(Name, Cell)>;

@@ -6,10 +6,14 @@
 mod cells;
 mod copies;
 mod data_lines;
+mod data_text;
+mod data_values;
 mod shapes;
 mod slots;
 mod store;
+#[cfg(test)]
+mod tests;
 
-pub use cells::{Cell, Scope};
+pub use cells::Cell;
 pub use shapes::{Shape, Shapes};
 pub use store::Store;

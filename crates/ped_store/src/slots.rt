@@ -1,14 +1,18 @@
 //! Where the cells of scalars and of arrays stand: each name has a slot, and the elements of an array stand densely, in
 //! storage order.
 
-ghost use Rattle.std.specs.Prelude.{◌≡◌, ℕ, ◌+◌, ◌<◌, ◌^◌, []};
+ghost use Rattle.std.specs.Prelude.{◌≡◌, ℕ, ◌+◌, ◌<◌, ◌^◌, min, List, [], length, IfOk, OnOk, Some, None, if◌then◌else◌};
+ghost use Rattle.std.specs.Option.{option_or};
+ghost use Rattle.ped_base.specs.Lists.{is_same_text};
 ghost use Rattle.ped_store.specs.Cells.{Scalar, Element};
 ghost use Rattle.ped_store.specs.Storage as Storage;
-ghost use Rattle.ped_store.specs.Slots.{count, offset_within, scalar_in, element_in, slot_count, slot_of, IsLaid};
+ghost use Rattle.ped_store.specs.Slots.{count, offset_within, scalar_in, element_in, slot_count, slot_of, slot_bounds, first_bounds, IsLaid};
 ghost use Rattle.ped_store.specs.Slots as Slots;
 
+use crate::shapes::Shape;
 use indexmap::IndexMap;
-use ped_base::{Bounds, Name};
+use ped_base::{Bounds, Name, NoMemory};
+use std::alloc::Global;
 
 /// The cells of a scalar or of an array.
 #[derive(Clone, Copy)]
@@ -39,6 +43,15 @@ impl Slot {
         let place = place_in(&self.bounds, subscripts)?;
         Some(self.start + place)
     }
+
+    /// Where its cells end.
+    pub fn end(&self) -> usize
+        requires { self.now.start + slot_count self.now < 2 ^ 63 }
+        ensures end { result ≡ self.now.start + slot_count self.now }
+        ensures same_rank { length self.now.bounds.lower ≡ length self.now.bounds.upper }
+    {
+        self.start + cell_count(&self.bounds)
+    }
 }
 
 /// The place of an element among those of its array, from 0; none without a subscript, and where the subscripts don't lie
@@ -57,8 +70,93 @@ fn place_in(bounds: &Bounds, subscripts: &[i128]) -> Option<usize>
 /// The slots of names.
 pub type SlotTable = IndexMap<Name, Slot>;
 
+/// The slots of scalars and arrays, one behind the other.
+#[derive(Drop)]
+pub struct Layout {
+    /// The slot of each name.
+    pub slots: SlotTable,
+    /// How many cells there are.
+    pub cells: usize,
+}
+
+/// Gives each scalar and each array a slot. Where a name stands twice, its first shape counts. More cells than the machine
+/// can number are want of memory.
+pub fn lay_out(alloc: Global, shapes: &[Shape]) -> Result<Layout, NoMemory>
+    ensures laid { IfOk result (λ l. IsLaid 0 l.slots.entries l.cells) }
+    ensures first { IfOk result (λ l. (x : List ℕ) → slot_bounds l.slots.entries x ≡ first_bounds shapes.now x) }
+{
+    let mut layout = Layout {
+        slots: IndexMap::new(alloc),
+        cells: 0,
+    };
+    for shape in shapes {
+        layout.add(shape)?;
+    }
+    Ok(layout)
+}
+
+impl Layout {
+    /// Adds a slot behind the others, where the name has none.
+    fn add(&mut self, shape: &Shape) -> Result<(), NoMemory>
+        requires { IsLaid 0 self.old.slots.entries self.old.cells }
+        ensures laid { OnOk result (IsLaid 0 self.new.slots.entries self.new.cells) }
+        ensures first { OnOk result ((x : List ℕ) → slot_bounds self.new.slots.entries x ≡ option_or (slot_bounds self.old.slots.entries x) (if is_same_text x shape.now.name then Some shape.now.bounds else None)) }
+    {
+        if self.slots.contains_key(&shape.name) {
+            return Ok(());
+        }
+        let slot = Slot {
+            bounds: shape.bounds,
+            start: self.cells,
+        };
+        let cells = self.cells.saturating_add(cell_count(&shape.bounds));
+        if cells == usize::MAX {
+            return Err(NoMemory);
+        }
+        match self.slots.insert(shape.name, slot) {
+            Ok(_) => {
+                self.cells = cells;
+                return Ok(());
+            }
+            Err(_) => return Err(NoMemory),
+        }
+    }
+}
+
+/// How many cells a scalar or an array has, or the greatest number of the machine where they are more.
+fn cell_count(bounds: &Bounds) -> usize
+    ensures count { result ≡ min (count bounds.now.lower bounds.now.upper) usize.MAX }
+    ensures same_rank { length bounds.now.lower ≡ length bounds.now.upper }
+{
+    let rank = bounds.rank as usize;
+    saturated_count(&bounds.lower[..rank], &bounds.upper[..rank])
+}
+
+#[tactic(auto, using(crate::proofs::Layouts::product_most))]
+fn saturated_count(lower: &[i64], upper: &[i64]) -> usize
+    ensures { result ≡ min (count lower.now upper.now) usize.MAX }
+{
+    let Some((first_lower, lowers)) = lower.split_first() else {
+        return 1;
+    };
+    let Some((first_upper, uppers)) = upper.split_first() else {
+        return 1;
+    };
+    saturated_extent(first_lower, first_upper).saturating_mul(saturated_count(lowers, uppers))
+}
+
+/// How many values a subscript may have, or the greatest number of the machine where they are more.
+fn saturated_extent(lower: &i64, upper: &i64) -> usize
+    ensures { result ≡ min (Storage.extent lower.now upper.now) usize.MAX }
+{
+    if *upper < *lower {
+        return 0;
+    }
+    ((i128::from(*upper) - i128::from(*lower)) as usize).saturating_add(1)
+}
+
 /// The slot of a name.
-fn find_slot(slots: &SlotTable, name: &Name) -> Option<Slot>
+pub fn find_slot(slots: &SlotTable, name: &Name) -> Option<Slot>
     ensures { result ≡ slot_of slots.now.entries name.now }
 {
     slots.get(name).copied()

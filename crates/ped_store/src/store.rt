@@ -1,20 +1,24 @@
 //! The store of a running program.
 
-ghost use Rattle.std.specs.Prelude.{◌≡◌, ◌<◌, length, is_some, true, false, IfOk, OnOk, OnErr, IfErr, Ok, Err, Some, None, IsTrue};
+ghost use Rattle.std.specs.Prelude.{◌≡◌, ◌+◌, ◌<◌, ◌≤◌, take, drop, replicate, length, is_some, true, false, IfOk, OnOk, OnErr, IfErr, Ok, Err, Some, None, IsTrue};
+ghost use Rattle.std.specs.Str.Lines.{lines};
 ghost use Rattle.std.specs.Option.{option_flatten};
 ghost use Rattle.std.specs.Map.{lookup};
 ghost use Rattle.ped_store.specs.Cells.{Scalar, Element, Out};
 ghost use Rattle.ped_store.specs.Stores.{Undefined, Number, Lines, number_read};
-ghost use Rattle.ped_store.specs.Slots.{held_at, content_of};
-ghost use Rattle.ped_store.specs.CellViews.{cell_view, IsCell, IsOfScalar};
-ghost use Rattle.ped_store.specs.Memories.{got, stored, with_content, with_printed};
+ghost use Rattle.ped_store.specs.Slots.{held_at, content_of, slot_count};
+ghost use Rattle.ped_store.specs.CellViews.{cell_view, IsCell, IsOfScalar, IsPrivate};
+ghost use Rattle.ped_store.specs.DataLines.{Data, begun, next_value_of};
+ghost use Rattle.ped_store.specs.Variables.{values_of};
+ghost use Rattle.ped_store.specs.Memories.{memory_at_start, got, stored, with_content, with_copy, without_copy, with_data, with_printed};
 ghost use Rattle.ped_store.specs.Stores as Stores;
 ghost use Rattle.ped_store.specs.Keeping.{memory_of, same_copied, with_held, IsCopyPut};
 
 use crate::cells::Cell;
 use crate::copies::Copied;
 use crate::data_lines::DataLines;
-use crate::slots::{SlotTable, element_index, scalar_index};
+use crate::shapes::Shape;
+use crate::slots::{Layout, Slot, SlotTable, element_index, find_slot, lay_out, scalar_index};
 use indexmap::IndexMap;
 use ped_base::{Bytes, Listed, Name, NoMemory};
 use std::alloc::Global;
@@ -44,6 +48,123 @@ impl Model for Store {
 }
 
 impl Store {
+    /// A store before the first statement of a program with these scalars and arrays, on the lines of this input. Where a
+    /// name stands twice, its first shape counts.
+    pub fn new(alloc: Global, shapes: &[Shape], input: &[u8]) -> Result<Store, NoMemory>
+        ensures { IfOk result (λ s. memory_of s ≡ memory_at_start shapes.now (lines input.now)) }
+    {
+        let Layout { slots, cells } = lay_out(alloc, shapes)?;
+        Ok(Store {
+            slots,
+            held: undefined_cells(alloc, cells)?,
+            copies: IndexMap::new(alloc),
+            input: DataLines::new(alloc, input)?,
+            output: Listed::new(alloc),
+        })
+    }
+
+    /// Makes a private copy that is undefined; a copy that stands already becomes undefined. After want of memory the store
+    /// is as it was.
+    pub fn open_copy(&mut self, alloc: Global, cell: &Cell) -> Result<(), NoMemory>
+        requires cell { IsCell cell.now }
+        requires copy { IsPrivate cell.now }
+        ensures ok { OnOk result (memory_of self.new ≡ with_copy (cell_view cell.now) (memory_of self.old)) }
+        ensures err { OnErr result (self.new ≡ self.old) }
+    {
+        match cell {
+            Cell::Private {
+                name,
+                depth,
+                dos,
+                iterations,
+            } => {
+                let copy = Copied {
+                    name: *name,
+                    depth: *depth,
+                    dos: *dos,
+                    iterations: *iterations,
+                };
+                return self.add_copy(&copy);
+            }
+            Cell::Scalar(_) => return Ok(()),
+            Cell::Element {
+                name: _,
+                rank: _,
+                subscripts: _,
+            } => return Ok(()),
+            Cell::In => return Ok(()),
+            Cell::Out => return Ok(()),
+        }
+    }
+
+    /// Drops a private copy, where it stands.
+    pub fn close_copy(&mut self, cell: &Cell)
+        requires cell { IsCell cell.now }
+        requires copy { IsPrivate cell.now }
+        ensures { memory_of self.new ≡ without_copy (cell_view cell.now) (memory_of self.old) }
+    {
+        match cell {
+            Cell::Private {
+                name,
+                depth,
+                dos,
+                iterations,
+            } => {
+                let copy = Copied {
+                    name: *name,
+                    depth: *depth,
+                    dos: *dos,
+                    iterations: *iterations,
+                };
+                self.drop_copy(&copy);
+                return;
+            }
+            Cell::Scalar(_) => return,
+            Cell::Element {
+                name: _,
+                rank: _,
+                subscripts: _,
+            } => return,
+            Cell::In => return,
+            Cell::Out => return,
+        }
+    }
+
+    /// Begins the next data line; what was left of the line before is dropped.
+    ///
+    /// # Errors
+    ///
+    /// 5 where there is no line left. The store is as it was then.
+    pub fn next_line(&mut self) -> Result<(), u8>
+        ensures ok { OnOk result ((d : Data) × (begun (memory_of self.old).input.lines ≡ Ok d) × (memory_of self.new ≡ with_data d (memory_of self.old))) }
+        ensures err { IfErr result (λ n. (begun (memory_of self.old).input.lines ≡ Err n) × (self.new ≡ self.old)) }
+    {
+        self.input.next_line()
+    }
+
+    /// Takes the next value of the data, from the line that has been begun or from those behind it.
+    ///
+    /// # Errors
+    ///
+    /// 5 where no value is left or what stands there is none, and 4 where it isn't from -2^31 to 2^31-1. The store is as it
+    /// was then.
+    pub fn next_value(&mut self) -> Result<i64, u8>
+        ensures ok { IfOk result (λ n. (behind : Data) × (next_value_of (memory_of self.old).input ≡ Ok (record { value = n; behind = behind })) × (memory_of self.new ≡ with_data behind (memory_of self.old))) }
+        ensures err { IfErr result (λ n. (next_value_of (memory_of self.old).input ≡ Err n) × (self.new ≡ self.old)) }
+    {
+        self.input.next_value()
+    }
+
+    /// The values of a scalar or an array, those of an array in storage order; none stands for one that is undefined.
+    pub fn values(&self, alloc: Global, name: &Name) -> Result<Listed<Option<i128>>, NoMemory>
+        ensures { IfOk result (λ values. values ≡ values_of ((memory_of self.now).bounds name.now) name.now (memory_of self.now).cells) }
+    {
+        match find_slot(&self.slots, name) {
+            Some(slot) => return copied_values(alloc, held_in(&self.held, &slot)),
+            None => return copied_values(alloc, &[None]),
+        }
+    }
+
     /// The lines that are printed.
     pub fn output(&self) -> &Listed<Bytes>
         ensures { Lines result.now ≡ (memory_of self.now).cells Out }
@@ -226,7 +347,7 @@ impl Store {
 
     fn set_copy(&mut self, copy: &Copied, value: &i128) -> Result<(), u8>
         requires { IsTrue (is_some (lookup (same_copied copy.now) self.old.copies)) }
-        ensures ok { OnOk result ((Stores.is_storable value.now ≡ true) × IsCopyPut copy.now (Some value.now) self.old self.new) }
+        ensures ok { OnOk result ((Stores.is_storable value.now ≡ true) × IsCopyPut copy.now (Some (Some value.now)) self.old self.new) }
         ensures err { IfErr result (λ n. (Stores.is_storable value.now ≡ false) × (n ≡ 4) × (self.new ≡ self.old)) }
     {
         if is_storable(value) {
@@ -238,12 +359,28 @@ impl Store {
 
     fn put_copy(&mut self, copy: &Copied, content: Option<i128>)
         requires { IsTrue (is_some (lookup (same_copied copy.now) self.old.copies)) }
-        ensures { IsCopyPut copy.now content self.old self.new }
+        ensures { IsCopyPut copy.now (Some content) self.old self.new }
     {
         match self.copies.insert(*copy, content) {
             Ok(_) => return,
             Err(_) => return,
         }
+    }
+
+    fn add_copy(&mut self, copy: &Copied) -> Result<(), NoMemory>
+        ensures ok { OnOk result (IsCopyPut copy.now (Some None) self.old self.new) }
+        ensures err { OnErr result (self.new ≡ self.old) }
+    {
+        match self.copies.insert(*copy, None) {
+            Ok(_) => return Ok(()),
+            Err(_) => return Err(NoMemory),
+        }
+    }
+
+    fn drop_copy(&mut self, copy: &Copied)
+        ensures { IsCopyPut copy.now None self.old self.new }
+    {
+        self.copies.swap_remove(copy);
     }
 
     fn put_scalar(&mut self, name: &Name, content: Option<i128>)
@@ -297,6 +434,27 @@ impl Store {
     {
         self.copies.get(copy).copied().flatten().ok_or(1)
     }
+}
+
+fn undefined_cells(alloc: Global, cells: usize) -> Result<Vec<Option<i128>>, NoMemory>
+    ensures { IfOk result (λ held. held.items ≡ replicate cells None) }
+{
+    Ok(Vec::from_elem(alloc, None, cells)?)
+}
+
+/// What the cells of a slot hold.
+fn held_in<'a>(held: &'a [Option<i128>], slot: &Slot) -> &'a [Option<i128>]
+    requires { slot.now.start + slot_count slot.now ≤ length held.now }
+    ensures held { result.now ≡ take (slot_count slot.now) (drop slot.now.start held.now) }
+    ensures same_rank { length slot.now.bounds.lower ≡ length slot.now.bounds.upper }
+{
+    &held[slot.start..slot.end()]
+}
+
+fn copied_values(alloc: Global, values: &[Option<i128>]) -> Result<Listed<Option<i128>>, NoMemory>
+    ensures { IfOk result (λ copy. copy ≡ values.now) }
+{
+    Ok(Listed::from_vec(Vec::from_slice(alloc, values)?))
 }
 
 /// The number that is held at a place.

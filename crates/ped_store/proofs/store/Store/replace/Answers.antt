@@ -1,4 +1,4 @@
-use Rattle.std.proofs.Common.{take, sym, subst}
+use Rattle.std.proofs.Common.{take, sym, subst, Some}
 use Rattle.std.specs.Prelude.{IsTrue, is_some}
 use Rattle.std.specs.Map.{lookup}
 use Rattle.ped_store.specs.declared.copies.Copied.{Copied}
@@ -23,7 +23,7 @@ returns-in-Private c =
     let before = c.args.self.now in
     let after = c.put_copy.new.self in
     let back = copied_back x c.in-Private.depth c.in-Private.dos c.in-Private.iterations h.1 h.2 h.3 h.4 h.5 in
-    rw c.in-Private.is (copy_put_is x its c.args.content before after (subst (λ (k : Copied). IsCopyPut k c.args.content before after) (sym back) c.put_copy.ensures) s)
+    rw c.in-Private.is (copy_put_is x its c.args.content before after (subst (λ (k : Copied). IsCopyPut k (Some c.args.content) before after) (sym back) c.put_copy.ensures) s)
 
 pub returns-in-Scalar : goal.returns-in-Scalar
 returns-in-Scalar c = rw c.in-Scalar.is c.put_scalar.ensures

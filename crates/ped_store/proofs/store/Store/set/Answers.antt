@@ -34,5 +34,5 @@ returns-in-Private-clause-ok c =
     let back = copied_back x c.in-Private.depth c.in-Private.dos c.in-Private.iterations h.1 h.2 h.3 h.4 h.5 in
     rw c.in-Private.is (on_ok_weaker c.set_copy.result
     (λ p. stored_number (Private x its) v (memory_of before) p.0
-    ∙ ap Ok (sym (copy_put_is x its (Some v) before after (subst (λ (k : Copied). IsCopyPut k (Some v) before after) (sym back) p.1) s)))
+    ∙ ap Ok (sym (copy_put_is x its (Some v) before after (subst (λ (k : Copied). IsCopyPut k (Some (Some v)) before after) (sym back) p.1) s)))
     (rw (to_z-of_z w128 c.args.value c.ranges.value) at c.set_copy.ensures.ok))

@@ -1,1 +1,4 @@
+mod Asked
 mod Chains
+mod FirstWords
+mod Sizes

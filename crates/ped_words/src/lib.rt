@@ -6,6 +6,9 @@ mod errors;
 mod reading;
 mod requests;
 
+#[cfg(test)]
+mod tests;
+
 pub use errors::WordsError;
 pub use reading::request;
 pub use requests::Request;

@@ -1,7 +1,7 @@
 -- The answer to words and files, and what a call may have done of it (this project).
-use Rattle.std.specs.Prelude.{◌≡◌, ◌⊎◌, ℕ, ◌<◌, List, [], ◌∷◌, ◌++◌, length, codes, Bool, false, ◌==◌, nat_lt, Option, Some, None, MatchOption, MatchBool, if◌then◌else◌}
-use Rattle.ped_base.specs.Lists.{is_same_text}
+use Rattle.std.specs.Prelude.{◌≡◌, ◌⊎◌, ℕ, ◌<◌, List, [], ◌∷◌, ◌++◌, length, codes, Bool, nat_lt, Option, Some, None, MatchOption, MatchBool}
 use Rattle.ped_io.specs.Outside.{Contents, content}
+use Rattle.ped_words.specs.Requests as words
 use Rattle.ped_tree.specs.Tree.{ProgramTree}
 use Rattle.ped_grammar.specs.Refusal.{Finding}
 use Rattle.ped_tree.specs.SourcePane.{source_pane}
@@ -15,21 +15,16 @@ use Rattle.ped.specs.Refusals.{refused_line}
 pub data Request : Type 0 where
   show : List ℕ → Request
 
--- begins with `-`, as no file's name among the words does
-abbrev pub begins_with_dash : List ℕ → Bool
-begins_with_dash [] = false
-begins_with_dash (c ∷ cs) = c == 45
+-- what words ask for, so far as it is built: showing a program
+abbrev pub built : Option words.Request → Option Request
+built None = None
+built (Some (words.show program)) = Some (show program)
+built (Some (words.session program script data_file)) = None
+built (Some (words.generate number)) = None
 
--- `show` and a file's name
-abbrev pub show_request : List (List ℕ) → Option Request
-show_request [] = None
-show_request (program ∷ []) = if begins_with_dash program then None else Some (show program)
-show_request (program ∷ word ∷ words) = None
-
--- what the words ask for, where they are of the form
+-- what the words behind the program's name ask for, where they are of the form and it is built
 abbrev pub request_of : List (List ℕ) → Option Request
-request_of [] = None
-request_of (mode ∷ words) = if is_same_text mode (codes "show") then show_request words else None
+request_of words_given = built (words.request_of words_given)
 
 -- the files that a request reads, in order
 abbrev pub inputs_of : Option Request → List (List ℕ)

@@ -1,6 +1,6 @@
 //! The top call: words and files to an answer and a status.
 
-ghost use Rattle.std.specs.Prelude.{◌≡◌, ◌≢◌, ◌⊎◌, ◌++◌, ◌<◌, ◌≤◌, ◌+◌, ℕ, List, Option, Some, None, length, map, string_bytes, MatchOption, IfOk};
+ghost use Rattle.std.specs.Prelude.{◌≡◌, ◌≢◌, ◌⊎◌, ◌++◌, ◌<◌, ◌≤◌, ◌+◌, ℕ, List, Option, Some, None, length, map, option_map, string_bytes, IfOk};
 ghost use Rattle.ped_io.specs.Outside.{Contents, content, IsHeld, Rose};
 ghost use Rattle.ped_io.specs.Shelves.{all_names};
 ghost use Rattle.ped_tree.specs.Views.{program_tree};
@@ -10,7 +10,7 @@ ghost use Rattle.ped_symbols.specs.Kinds.{table_of};
 ghost use Rattle.ped_refs.specs.References.{references, pair_count};
 ghost use Rattle.ped.specs.Refusals as Refusals;
 ghost use Rattle.ped.specs.Answer;
-ghost use Rattle.ped.specs.Answer.{Request, request_of, show, inputs_of, IsOneOf, HoldsTooMany, program_limit, Answers, MayAnswer, Sends, IsShown, IsJust, ShowsTree};
+ghost use Rattle.ped.specs.Answer.{request_of, show, inputs_of, IsOneOf, HoldsTooMany, program_limit, Answers, MayAnswer, Sends, IsShown, IsJust, ShowsTree};
 ghost use Rattle.ped.specs.TestCounts.{TestsText, Tests, Ticks, IsUntested};
 
 use crate::panes::panes;
@@ -22,6 +22,7 @@ use ped_io::{LoadError, PutFault, Shelf, Sink, SureShelf, SureSink, load, put_al
 use ped_tree::Program;
 use ped_valid::{OpenRefusal, open_program};
 use ped_verdict::Steps;
+use ped_words::{Request, WordsError};
 use std::alloc::Global;
 use std::sync::ledger::Ledger;
 
@@ -114,15 +115,16 @@ pub fn ped_main<F: Shelf, K: Sink, L: Ledger>(
     ensures untested { IsUntested result → steps.new ≡ steps.old }
     ensures steps { steps.old ≤ steps.new }
 {
-    match request(words) {
-        None => finish(out, USAGE, Status::BadWords),
-        Some(program) => show_file(alloc, program, shelf, out, steps),
+    match request(alloc, words) {
+        Ok(Some(program)) => show_file(alloc, program, shelf, out, steps),
+        Ok(None) => finish(out, USAGE, Status::BadWords),
+        Err(NoMemory) => Status::NoMemory,
     }
 }
 
 /// Words and files have one answer: one status and one text.
 pub fn one_answer()
-    ensures { (request : Option Request) (files : Contents) (s t : Status) (a b : List ℕ) →
+    ensures { (request : Option Answer.Request) (files : Contents) (s t : Status) (a b : List ℕ) →
         Answers request files s a → Answers request files t b → (s ≡ t) × (a ≡ b) }
 {}
 
@@ -149,30 +151,16 @@ pub fn answer_surely<L: Ledger>(
 const USAGE: &[u8] =
     b"usage: ped show PROGRAM | session PROGRAM SCRIPT [--data FILE] | generate N\n";
 
-/// The file that the words ask to show: none where they are not `show` and one word that doesn't begin
-/// with `-`.
-fn request(words: &[String]) -> Option<&str>
-    ensures { MatchOption result (request_of (map string_bytes words.now) ≡ None)
-        (λ program. request_of (map string_bytes words.now) ≡ Some (show program.now)) }
+/// The file that the words ask to show; none where they are not of the form, or ask for what isn't built.
+fn request<'a>(alloc: Global, words: &'a [String]) -> Result<Option<&'a str>, NoMemory>
+    ensures { IfOk result (λ asked. request_of (map string_bytes words.now) ≡ option_map (λ program. show program.now) asked) }
 {
-    if words.len() != 2 {
-        return None;
-    }
-    let mode = words[0].as_bytes();
-    let program = words[1].as_str();
-    if mode == b"show".as_slice() && !begins_with_dash(program.as_bytes()) {
-        Some(program)
-    } else {
-        None
-    }
-}
-
-fn begins_with_dash(word: &[u8]) -> bool
-    ensures { result ≡ Answer.begins_with_dash word.now }
-{
-    match word {
-        [first, ..] => *first == b'-',
-        [] => false,
+    match ped_words::request(alloc, words) {
+        Ok(Request::Show { program }) => Ok(Some(program)),
+        Ok(Request::Session { .. }) => Ok(None),
+        Ok(Request::Generate(_)) => Ok(None),
+        Err(WordsError::Bad) => Ok(None),
+        Err(WordsError::NoMemory) => Err(NoMemory),
     }
 }
 

@@ -1,6 +1,6 @@
 //! The top call: words and files to an answer and a status.
 
-ghost use Rattle.std.specs.Prelude.{◌≡◌, ◌≢◌, ◌⊎◌, ◌++◌, ◌<◌, ◌≤◌, ◌+◌, ℕ, List, Option, Some, None, length, map, option_map, string_bytes, IfOk};
+ghost use Rattle.std.specs.Prelude.{◌≡◌, ◌≢◌, ◌⊎◌, ◌++◌, ◌<◌, ◌≤◌, ◌+◌, ℕ, List, Option, Some, None, length, map, string_bytes, IfOk, Err};
 ghost use Rattle.ped_io.specs.Outside.{Contents, content, IsHeld, Rose};
 ghost use Rattle.ped_io.specs.Shelves.{all_names};
 ghost use Rattle.ped_tree.specs.Views.{program_tree};
@@ -116,9 +116,9 @@ pub fn ped_main<F: Shelf, K: Sink, L: Ledger>(
     ensures steps { steps.old ≤ steps.new }
 {
     match request(alloc, words) {
-        Ok(Some(program)) => show_file(alloc, program, shelf, out, steps),
-        Ok(None) => finish(out, USAGE, Status::BadWords),
-        Err(NoMemory) => Status::NoMemory,
+        Ok(program) => show_file(alloc, program, shelf, out, steps),
+        Err(WordsError::Bad) => finish(out, USAGE, Status::BadWords),
+        Err(WordsError::NoMemory) => Status::NoMemory,
     }
 }
 
@@ -151,16 +151,17 @@ pub fn answer_surely<L: Ledger>(
 const USAGE: &[u8] =
     b"usage: ped show PROGRAM | session PROGRAM SCRIPT [--data FILE] | generate N\n";
 
-/// The file that the words ask to show; none where they are not of the form, or ask for what isn't built.
-fn request<'a>(alloc: Global, words: &'a [String]) -> Result<Option<&'a str>, NoMemory>
-    ensures { IfOk result (λ asked. request_of (map string_bytes words.now) ≡ option_map (λ program. show program.now) asked) }
+/// The file that the words ask to show. `Bad` comes exactly where they are not of the form, or ask for what isn't built.
+fn request<'a>(alloc: Global, words: &'a [String]) -> Result<&'a str, WordsError>
+    ensures ok { IfOk result (λ program. request_of (map string_bytes words.now) ≡ Some (show program.now)) }
+    ensures bad { result ≡ Err WordsError.Bad → request_of (map string_bytes words.now) ≡ None }
 {
     match ped_words::request(alloc, words) {
-        Ok(Request::Show { program }) => Ok(Some(program)),
-        Ok(Request::Session { .. }) => Ok(None),
-        Ok(Request::Generate(_)) => Ok(None),
-        Err(WordsError::Bad) => Ok(None),
-        Err(WordsError::NoMemory) => Err(NoMemory),
+        Ok(Request::Show { program }) => Ok(program),
+        Ok(Request::Session { .. }) => Err(WordsError::Bad),
+        Ok(Request::Generate(_)) => Err(WordsError::Bad),
+        Err(WordsError::Bad) => Err(WordsError::Bad),
+        Err(WordsError::NoMemory) => Err(WordsError::NoMemory),
     }
 }
 

@@ -1,5 +1,5 @@
 -- Outcomes of writing, and how those of a part are those of the whole.
-use Rattle.std.proofs.Common.{◌≡◌, ◌⊎◌, ℕ, ◌<◌, ◌≤◌, Bool, true, false, List, ◌++◌, length, Option, Some, take, drop, refl, sym, subst, inl, inr, arith}
+use Rattle.std.proofs.Common.{◌≡◌, ◌⊎◌, ℕ, ◌<◌, ◌≤◌, Bool, true, false, List, ◌++◌, length, Option, Some, None, take, drop, refl, sym, subst, inl, inr, arith}
 use Rattle.std.specs.Prelude.{MatchBool, nat_lt}
 use Rattle.std.proofs.lemmas.Bool.{le-ltb, lt-ltb}
 use Rattle.std.proofs.lemmas.List.{take-append-drop}
@@ -13,7 +13,7 @@ use Rattle.ped_tree.specs.Tree.{ProgramTree}
 use Rattle.ped_grammar.specs.Refusal.{Finding}
 use Rattle.ped_valid.specs.Validity.{ReadsValid, RefusesText}
 use Rattle.ped.specs.Refusals.{refused_line}
-use Rattle.ped.specs.Answer.{Request, show, inputs_of, IsOneOf, HoldsTooMany, program_limit, MayAnswer, Answers, AnswersBytes, IsFrontOfAnswer, IsOutcome, IsShown, IsJust, ShowsTree, cannot_read_line, too_long_line}
+use Rattle.ped.specs.Answer.{Request, show, inputs_of, IsOneOf, HoldsTooMany, program_limit, MayAnswer, Answers, AnswersBytes, IsFrontOfAnswer, IsOutcome, IsShown, IsJust, ShowsTree, usage_line, cannot_read_line, too_long_line}
 
 module _ (A B : Status → List ℕ → Type 0) (weaker : (s : Status) (b : List ℕ) → A s b → B s b) where
   pub front_weaker : (sent : List ℕ) → IsFrontOfAnswer A sent → IsFrontOfAnswer B sent
@@ -38,6 +38,11 @@ front_of status bytes n = inr (status, bytes, (refl, refl), (drop n bytes, take-
 pub counted : (fault : PutFault) (n : ℕ) (rose : Type 0) → (IsWriteFault fault → rose) → fault ≡ put.WriteFault n → rose
 counted (put.WriteFault m) n rose h e = h tt
 counted (put.NoMemory m) n rose h e = absurd (let f = e in cc)
+
+-- the usage line answers words that ask for nothing
+pub usage_may_answer : (request : Option Request) (files : Contents) (failed : List ℕ → Type 0) → request ≡ None → (s : Status) (b : List ℕ) → IsJust BadWords usage_line s b → MayAnswer request files failed s b
+usage_may_answer request files failed e s b h =
+    subst (λ (r : Option Request). MayAnswer r files failed s b) (sym e) (subst (λ (x : Status). MayAnswer None files failed x b) (sym h.0) (refl, h.1))
 
 -- an answer that only says that a file can't be read, where its count rose
 pub says_cannot_read : (program : List ℕ) (files : Contents) (failed : List ℕ → Type 0) → failed program → (s : Status) (b : List ℕ) → IsJust ReadFault (cannot_read_line program) s b → MayAnswer (Some (show program)) files failed s b

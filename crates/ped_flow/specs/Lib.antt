@@ -1,0 +1,5 @@
+pub mod Events
+pub mod PathSets
+pub mod Paths
+pub mod Questions
+pub mod PlainBounds

@@ -3,3 +3,4 @@ pub mod PathSets
 pub mod Paths
 pub mod Questions
 pub mod PlainBounds
+pub mod Summaries

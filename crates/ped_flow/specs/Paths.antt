@@ -57,6 +57,10 @@ abbrev mutual
       either (in_turn (paths_behind constants l s n) (all_paths constants rest (n + statement_count s)))
           (all_paths_behind constants l rest (n + statement_count s))
 
+-- the path to a DO from where it stands: it has this number, or it has the statement with this number in its body
+abbrev pub ToEntry : ℕ → ℕ → ℕ → Kind
+ToEntry l n count_in_body path = (n ≤ l) × (l ≤ n + count_in_body) × (path ≡ [])
+
 -- the paths to the outermost DO that has this number or has the statement with it in its body (this project)
 abbrev mutual
   pub paths_before : List (List ℕ) → ℕ → StmtTree → ℕ → Kind
@@ -64,7 +68,7 @@ abbrev mutual
   paths_before constants l (If condition then_part else_part) n =
       InTurn (Just (own_events constants n (If condition then_part else_part)))
           (Either (all_paths_before constants l then_part (n + 1)) (all_paths_before constants l else_part (n + 1 + statements_count then_part)))
-  paths_before constants l (Do h body) n path = (n ≤ l) × (l ≤ n + statements_count body) × (path ≡ [])
+  paths_before constants l (Do h body) n = ToEntry l n (statements_count body)
   paths_before constants l (Print items) n = Never
   paths_before constants l (Read items) n = Never
   paths_before constants l Stop n = Never

@@ -1,6 +1,4 @@
 //! Scalar flow over all paths of a program. The definitions stand in `specs/`.
 #![tactic(auto)]
 
-/// Nothing yet.
-pub fn nothing()
-{}
+mod summaries;

@@ -1,0 +1,5 @@
+pub mod EventLaws
+pub mod Truths
+pub mod FirstLaws
+pub mod PathSums
+pub mod TreeSums

@@ -1,5 +1,5 @@
 -- The least number of which something holds.
-use Rattle.std.proofs.Common.{◌≡◌, ℕ, ◌≤◌, Bool, true, false, ◌⊎◌, ◌↔◌, IsTrue, Option, Some, None, nat_le, refl, inl, inr, if◌then◌else◌, arith, eqb-true, leb-true, leb-false}
+use Rattle.std.proofs.Common.{◌≡◌, ℕ, ◌≤◌, Bool, true, false, ◌⊎◌, ◌↔◌, IsTrue, Option, Some, None, nat_le, refl, inl, inr, min, subst, arith, eqb-true, leb-true, leb-false}
 use Rattle.ped_flow.specs.Questions.{IsFirst}
 use Rattle.ped_flow.specs.Summaries.{least_of, when}
 use Rattle.ped_flow.proofs.Truths.{untrue}
@@ -34,9 +34,15 @@ first_or P Q (Some a) (Some b) h k = by (nat_le a b) refl
     above n e (inl p) = let f = h.1 n p in omega arith
     above n e (inr q) = k.1 n q
 
-    by : (r : Bool) → nat_le a b ≡ r → IsFirst (λ n. P n ⊎ Q n) (Some (if r then a else b))
-    by true e = let f : a ≤ b = grind arith in (inl h.0, λ n s. below n f s)
-    by false e = let f : b ≤ a = grind arith in (inr k.0, λ n s. above n f s)
+    by : (r : Bool) → nat_le a b ≡ r → IsFirst (λ n. P n ⊎ Q n) (Some (min a b))
+    by true e =
+        let f : a ≤ b = grind arith in
+        let m : a ≡ min a b = omega arith in
+        subst (λ (z : ℕ). IsFirst (λ n. P n ⊎ Q n) (Some z)) m (inl h.0, λ n s. below n f s)
+    by false e =
+        let f : b ≤ a = grind arith in
+        let m : b ≡ min a b = omega arith in
+        subst (λ (z : ℕ). IsFirst (λ n. P n ⊎ Q n) (Some z)) m (inr k.0, λ n s. above n f s)
 
 pub first_when : (K : Type 0) (Q : ℕ → Type 0) (test : Bool) (b : Option ℕ) → IsTrue test ↔ K → IsFirst Q b → IsFirst (λ n. K × Q n) (when test b)
 first_when K Q true None e h = λ n s. h n s.1

@@ -3,3 +3,4 @@ pub mod Truths
 pub mod FirstLaws
 pub mod PathSums
 pub mod TreeSums
+pub mod SumLaws

@@ -2,7 +2,7 @@
 use Rattle.std.proofs.Common.{◌≡◌, ℕ, ◌+◌, ◌≤◌, Bool, true, false, ◌&&◌, ◌==◌, nat_le, ◌↔◌, IsTrue, List, [], ◌∷◌, inl, inr, refl, sym, ap, ◌∙◌, arith, eqb-true, leb-true, leb-false}
 use Rattle.ped_tree.specs.Tree.{Head, StmtTree, StmtTrees, Assign, If, Do, Print, Read, Stop, Comment, no_stmts, more_stmts}
 use Rattle.ped_tree.specs.Numbering.{statement_count, statements_count}
-use Rattle.ped_flow.specs.Events.{Event, own_events, entry_events, start_events, exit_events, has_value}
+use Rattle.ped_flow.specs.Events.{Event, own_events, start_events, exit_events, has_value}
 use Rattle.ped_flow.specs.PathSets.{Kind, Never, Just, Either, InTurn, Paths, going, nowhere, stopping, in_turn, either, trips, Whole}
 use Rattle.ped_flow.specs.Paths.{iteration, paths, all_paths, at_once, paths_behind, all_paths_behind, ToEntry, paths_before, all_paths_before}
 use Rattle.ped_flow.specs.Summaries.{AreOnward, AreSummed, passing, unreached, stopped, sum_in_turn, sum_either, sum_trips, sum_events, sum_loop, sum_of, sum_of_all, sum_at_once, sum_behind, sum_behind_all, sum_before, sum_before_all}
@@ -18,8 +18,8 @@ mutual
       in_turn-some (going (own_events cs n (If c a b))) (either (all_paths cs a (n + 1)) (all_paths cs b (n + 1 + statements_count a)))
           (going-some (own_events cs n (If c a b))) (either-some (all_paths cs a (n + 1)) (all_paths cs b (n + 1 + statements_count a)) (some_path_of_all cs a (n + 1)))
   some_path cs (Do h body) n =
-      in_turn-some (going (entry_events cs n h)) (in_turn (trips (iteration n h body (all_paths cs body (n + 1)))) (going (exit_events n h body)))
-          (going-some (entry_events cs n h))
+      in_turn-some (going (own_events cs n (Do h body))) (in_turn (trips (iteration n h body (all_paths cs body (n + 1)))) (going (exit_events n h body)))
+          (going-some (own_events cs n (Do h body)))
           (in_turn-some (trips (iteration n h body (all_paths cs body (n + 1)))) (going (exit_events n h body)) (trips-some (iteration n h body (all_paths cs body (n + 1)))) (going-some (exit_events n h body)))
   some_path cs (Print items) n = going-some (own_events cs n (Print items))
   some_path cs (Read items) n = going-some (own_events cs n (Read items))
@@ -56,10 +56,10 @@ mutual
           (either-summed (all_paths cs a (n + 1)) (all_paths cs b (n + 1 + statements_count a)) x (sum_of_all cs x a (n + 1)) (sum_of_all cs x b (n + 1 + statements_count a))
               (all_summed cs x a (n + 1)) (all_summed cs x b (n + 1 + statements_count a)))
   summed cs x (Do h body) n =
-      in_turn-summed (going (entry_events cs n h)) (in_turn (trips (iteration n h body (all_paths cs body (n + 1)))) (going (exit_events n h body))) x
-          (sum_events x (entry_events cs n h)) (sum_loop x n h body (sum_of_all cs x body (n + 1)))
+      in_turn-summed (going (own_events cs n (Do h body))) (in_turn (trips (iteration n h body (all_paths cs body (n + 1)))) (going (exit_events n h body))) x
+          (sum_events x (own_events cs n (Do h body))) (sum_loop x n h body (sum_of_all cs x body (n + 1)))
           (loop-some n h body (all_paths cs body (n + 1)))
-          (going-summed x (entry_events cs n h))
+          (going-summed x (own_events cs n (Do h body)))
           (loop-summed x n h body (all_paths cs body (n + 1)) (sum_of_all cs x body (n + 1)) (some_path_of_all cs body (n + 1)) (all_summed cs x body (n + 1)))
   summed cs x (Print items) n = going-summed x (own_events cs n (Print items))
   summed cs x (Read items) n = going-summed x (own_events cs n (Read items))

@@ -1,9 +1,8 @@
 -- What happens to scalars on a path, in order: a list of events (Allen and Kennedy, section 4.4; this project).
 use Rattle.std.specs.Prelude.{ℕ, List, [], ◌∷◌, ◌++◌, map, Bool, true, false, not, ◌&&◌, ◌||◌, ◌==◌, if◌then◌else◌}
 use Rattle.std.specs.List.{flat_map, list_any}
-use Rattle.ped_base.specs.Lists.{has_some, is_same_text}
-use Rattle.ped_tree.specs.Tree.{ExprTree, Head, StmtTree, StmtTrees}
-use Rattle.ped_tree.specs.Accesses.{Access, expr_reads, own_accesses}
+use Rattle.ped_base.specs.Lists.{is_same_text, is_among}
+use Rattle.ped_tree.specs.Tree.{ExprTree, ExprTrees, Int, Var, Element, Neg, Add, Sub, Mul, Div, Pow, Call, no_exprs, more_exprs, CondTree, Rel, Not, And, Or, ItemTree, Value, Text, Head, StmtTree, StmtTrees, Assign, If, Do, Print, Read, Stop, Comment}
 use Rattle.ped_affine.specs.Assigned.{all_loop_variables}
 
 -- a scalar is read; it is overwritten and has a value; it is overwritten and has none
@@ -22,17 +21,67 @@ pub record Event : Type 0 where
 abbrev pub event : ℕ → Manner → List ℕ → Event
 event n manner x = record { statement = n; scalar = x; manner = manner }
 
--- the event of an access: of a scalar, which has no subscripts; an element is no scalar
-abbrev pub events_of : ℕ → Access → List Event
-events_of n a = if has_some a.subscripts then [] else event n (if a.writes then assigns else reads) a.name ∷ []
+-- a scalar by its name; a named constant is none (ANSI X3.9-1978, section 8.6)
+abbrev pub unless_constant : List (List ℕ) → List ℕ → List (List ℕ)
+unless_constant constants x = if is_among x constants then [] else x ∷ []
 
--- the events of a statement that is no DO: what it reads and assigns, in order; of an IF, of its condition (ANSI X3.9-1978, sections 10.1, 11.6, 12.8)
+-- the scalars that an expression reads, left to right, those of DO variables too; an element is no scalar, but its subscripts may read some (ANSI X3.9-1978, section 6.1)
+abbrev mutual
+  pub scalars_in : List (List ℕ) → ExprTree → List (List ℕ)
+  scalars_in constants (Int n) = []
+  scalars_in constants (Var x) = unless_constant constants x
+  scalars_in constants (Element x subscripts) = all_scalars_in constants subscripts
+  scalars_in constants (Neg a) = scalars_in constants a
+  scalars_in constants (Add a b) = scalars_in constants a ++ scalars_in constants b
+  scalars_in constants (Sub a b) = scalars_in constants a ++ scalars_in constants b
+  scalars_in constants (Mul a b) = scalars_in constants a ++ scalars_in constants b
+  scalars_in constants (Div a b) = scalars_in constants a ++ scalars_in constants b
+  scalars_in constants (Pow a b) = scalars_in constants a ++ scalars_in constants b
+  scalars_in constants (Call f arguments) = all_scalars_in constants arguments
+
+  -- the scalars that expressions read, one behind the other (ANSI X3.9-1978, section 6.1)
+  pub all_scalars_in : List (List ℕ) → ExprTrees → List (List ℕ)
+  all_scalars_in constants no_exprs = []
+  all_scalars_in constants (more_exprs e rest) = scalars_in constants e ++ all_scalars_in constants rest
+
+-- the scalars that a condition reads, left to right (ANSI X3.9-1978, sections 6.3, 6.4)
+abbrev pub scalars_in_cond : List (List ℕ) → CondTree → List (List ℕ)
+scalars_in_cond constants (Rel r a b) = scalars_in constants a ++ scalars_in constants b
+scalars_in_cond constants (Not a) = scalars_in_cond constants a
+scalars_in_cond constants (And a b) = scalars_in_cond constants a ++ scalars_in_cond constants b
+scalars_in_cond constants (Or a b) = scalars_in_cond constants a ++ scalars_in_cond constants b
+
+-- the scalars that an item of a PRINT reads (ANSI X3.9-1978, section 12.8.2)
+abbrev pub scalars_in_item : List (List ℕ) → ItemTree → List (List ℕ)
+scalars_in_item constants (Value e) = scalars_in constants e
+scalars_in_item constants (Text t) = []
+
+-- reads of these scalars
+abbrev pub reads_of : ℕ → List (List ℕ) → List Event
+reads_of n names = map (event n reads) names
+
+-- a left side, or an item of a READ, assigns a scalar, or the subscripts of an element are read (ANSI X3.9-1978, sections 10.1, 12.8)
+abbrev pub left_events : List (List ℕ) → ℕ → ExprTree → List Event
+left_events constants n (Var x) = map (event n assigns) (unless_constant constants x)
+left_events constants n (Element x subscripts) = reads_of n (all_scalars_in constants subscripts)
+left_events constants n (Int k) = []
+left_events constants n (Neg a) = []
+left_events constants n (Add a b) = []
+left_events constants n (Sub a b) = []
+left_events constants n (Mul a b) = []
+left_events constants n (Div a b) = []
+left_events constants n (Pow a b) = []
+left_events constants n (Call f arguments) = []
+
+-- the events of a statement by itself, in order: the right side and then the left; the condition of an IF; the items of a PRINT; the items of a READ, one after the other; the entry of a DO reads its bounds and then assigns its variable (ANSI X3.9-1978, sections 10.1, 11.6, 11.10.3, 12.8)
 abbrev pub own_events : List (List ℕ) → ℕ → StmtTree → List Event
-own_events constants n s = flat_map (events_of n) (own_accesses constants [] s)
-
--- the entry of a DO reads its bounds and then assigns its variable (ANSI X3.9-1978, section 11.10.3)
-abbrev pub entry_events : List (List ℕ) → ℕ → Head → List Event
-entry_events constants n h = flat_map (events_of n) (expr_reads constants [] h.first ++ expr_reads constants [] h.last) ++ event n assigns h.variable ∷ []
+own_events constants n (Assign left right) = reads_of n (scalars_in constants right) ++ left_events constants n left
+own_events constants n (If condition then_part else_part) = reads_of n (scalars_in_cond constants condition)
+own_events constants n (Do h body) = reads_of n (scalars_in constants h.first ++ scalars_in constants h.last) ++ event n assigns h.variable ∷ []
+own_events constants n (Print items) = reads_of n (flat_map (scalars_in_item constants) items)
+own_events constants n (Read items) = flat_map (left_events constants n) items
+own_events constants n Stop = []
+own_events constants n (Comment text) = []
 
 -- the scalars of which each iteration has copies beside the DO's variable: the private names, and of a PARALLEL DO the variables of the DO loops in it (ParaScope; this project)
 abbrev pub copied : Head → StmtTrees → List (List ℕ)

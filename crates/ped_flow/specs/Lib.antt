@@ -4,3 +4,5 @@ pub mod Paths
 pub mod Questions
 pub mod PlainBounds
 pub mod Summaries
+pub mod Answers
+pub mod Kept

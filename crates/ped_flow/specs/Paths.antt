@@ -3,7 +3,7 @@ use Rattle.std.specs.Prelude.{◌≡◌, ℕ, ◌+◌, ◌≤◌, List, [], Bool
 use Rattle.ped_tree.specs.Tree.{Head, StmtTree, StmtTrees, Assign, If, Do, Print, Read, Stop, Comment, no_stmts, more_stmts, ProgramTree}
 use Rattle.ped_tree.specs.Numbering.{statement_count, statements_count}
 use Rattle.ped_tree.specs.Accesses.{constant_names}
-use Rattle.ped_flow.specs.Events.{Event, own_events, entry_events, start_events, exit_events}
+use Rattle.ped_flow.specs.Events.{Event, own_events, start_events, exit_events}
 use Rattle.ped_flow.specs.PathSets.{Kind, Never, Just, Either, InTurn, Paths, going, nowhere, stopping, in_turn, either, trips}
 
 -- the start of an iteration of a DO, and then the paths of its body
@@ -18,7 +18,7 @@ abbrev mutual
       in_turn (going (own_events constants n (If condition then_part else_part)))
           (either (all_paths constants then_part (n + 1)) (all_paths constants else_part (n + 1 + statements_count then_part)))
   paths constants (Do h body) n =
-      in_turn (going (entry_events constants n h))
+      in_turn (going (own_events constants n (Do h body)))
           (in_turn (trips (iteration n h body (all_paths constants body (n + 1)))) (going (exit_events n h body)))
   paths constants (Print items) n = going (own_events constants n (Print items))
   paths constants (Read items) n = going (own_events constants n (Read items))

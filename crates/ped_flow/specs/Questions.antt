@@ -1,14 +1,12 @@
 -- Questions about scalars and DO loops, over all paths (Allen and Kennedy, sections 4.4, 5.2; this project).
-use Rattle.std.specs.Prelude.{◌≡◌, ℕ, ◌+◌, ◌≤◌, List, [], ◌∷◌, Bool, true, false, not, ◌&&◌, ◌==◌, ◌⊎◌, IsTrue, Option, Some, None}
+use Rattle.std.specs.Prelude.{◌≡◌, ℕ, ◌+◌, ◌≤◌, List, [], ◌∷◌, Bool, true, false, not, ◌&&◌, ◌||◌, ◌⊎◌, IsTrue, Option, Some, None}
 use Rattle.std.specs.List.{flat_map, list_any}
-use Rattle.ped_base.specs.Lists.{has_some, is_same_text, is_among}
-use Rattle.ped_tree.specs.Tree.{Head, StmtTree, StmtTrees, Do, DeclTree, Program, Implicit, Integer, Dimension, Parameter, Save, Remark, ProgramTree}
-use Rattle.ped_tree.specs.Nests.{Loop}
-use Rattle.ped_tree.specs.Numbering.{statement_with}
+use Rattle.ped_base.specs.Lists.{is_same_text, is_among}
+use Rattle.ped_tree.specs.Tree.{Head, StmtTree, StmtTrees, Assign, If, Do, Print, Read, Stop, Comment, no_stmts, more_stmts, DeclTree, Program, Implicit, Integer, Dimension, Parameter, Save, Remark, ProgramTree}
+use Rattle.ped_tree.specs.Numbering.{statement_with, statement_count, statements_count}
 use Rattle.ped_tree.specs.Accesses.{constant_names}
-use Rattle.ped_refs.specs.References.{Reference, statements_references}
 use Rattle.ped_affine.specs.Assigned.{loop_variables}
-use Rattle.ped_flow.specs.Events.{Event, overwrites, reads_first, has_value}
+use Rattle.ped_flow.specs.Events.{Event, own_events, is_read_by, overwrites, reads_first, has_value}
 use Rattle.ped_flow.specs.PathSets.{Kind, Whole}
 use Rattle.ped_flow.specs.Paths.{all_paths, iteration, paths_from_exit, paths_to_outermost}
 
@@ -73,18 +71,30 @@ IsAssignedThrough t l x = (h : LoopOf t l) → IsAssignedOn (all_paths (constant
 abbrev pub IsAssignedBefore : ProgramTree → ℕ → List ℕ → Type 0
 IsAssignedBefore t l x = IsAssignedOn (paths_to_outermost t l) x
 
--- what is referred to in the body of a DO, as if no DO stood round it: a read of a DO variable in the body of a DO that has it is no reference (this project)
-abbrev pub references_in : ProgramTree → ℕ → Head → StmtTrees → List Reference
-references_in t l h body = statements_references (constant_names t.decls) (record { number = l; head = h } ∷ []) (l + 1) body
+-- the statement with number k reads the scalar in a statement, which has number n, outside the bodies of all DO loops of the scalar there
+abbrev mutual
+  pub reads_outside : List (List ℕ) → List ℕ → ℕ → StmtTree → ℕ → Bool
+  reads_outside constants x k (Assign left right) n = list_any (is_read_by x k) (own_events constants n (Assign left right))
+  reads_outside constants x k (If condition then_part else_part) n =
+      list_any (is_read_by x k) (own_events constants n (If condition then_part else_part))
+      || (all_reads_outside constants x k then_part (n + 1) || all_reads_outside constants x k else_part (n + 1 + statements_count then_part))
+  reads_outside constants x k (Do h body) n =
+      list_any (is_read_by x k) (own_events constants n (Do h body)) || (not (is_same_text x h.variable) && all_reads_outside constants x k body (n + 1))
+  reads_outside constants x k (Print items) n = list_any (is_read_by x k) (own_events constants n (Print items))
+  reads_outside constants x k (Read items) n = list_any (is_read_by x k) (own_events constants n (Read items))
+  reads_outside constants x k Stop n = false
+  reads_outside constants x k (Comment text) n = false
 
--- the reference is a read of the scalar by the statement with this number
-abbrev pub is_read_of : List ℕ → ℕ → Reference → Bool
-is_read_of x n r = not r.access.writes && not (has_some r.access.subscripts) && is_same_text x r.access.name && r.statement == n
+  -- the same in statements, of which the first has number n
+  pub all_reads_outside : List (List ℕ) → List ℕ → ℕ → StmtTrees → ℕ → Bool
+  all_reads_outside constants x k no_stmts n = false
+  all_reads_outside constants x k (more_stmts s rest) n = reads_outside constants x k s n || all_reads_outside constants x k rest (n + statement_count s)
 
--- the statement with this number, in a DO, reads the scalar outside the bodies of all DO loops of it there
+-- a statement in the body of a DO reads the scalar outside the bodies of all DO loops of it there, of which this DO is one
 pub record IsReadLoose (t : ProgramTree) (l : ℕ) (x : List ℕ) (n : ℕ) : Type 0 where
   pub loop : LoopOf t l
-  pub reads : IsTrue (list_any (is_read_of x n) (references_in t l loop.head loop.body))
+  pub other : is_same_text x loop.head.variable ≡ false
+  pub reads : IsTrue (all_reads_outside (constant_names t.decls) x n loop.body (l + 1))
 
 -- the scalar is the variable of a DO or of a DO in it
 pub record IsIndexIn (t : ProgramTree) (l : ℕ) (x : List ℕ) : Type 0 where
@@ -100,3 +110,9 @@ pub record IsBrokenBy (t : ProgramTree) (l : ℕ) (n : ℕ) : Type 0 where
   pub scalar : List ℕ
   pub index : IsIndexIn t l scalar
   pub read : IsReadLoose t l scalar n ⊎ IsReadBehind t l scalar n
+
+-- the program's end may show the variable of a DO or of a DO in it
+pub record IsShown (t : ProgramTree) (l : ℕ) : Type 0 where
+  pub scalar : List ℕ
+  pub index : IsIndexIn t l scalar
+  pub shown : IsShownBehind t l scalar

@@ -3,7 +3,7 @@ use Rattle.std.specs.Prelude.{◌≡◌, ℕ, ◌+◌, ◌≤◌, min, nat_le, L
 use Rattle.ped_base.specs.Lists.{is_same_text}
 use Rattle.ped_tree.specs.Tree.{Head, StmtTree, StmtTrees, Assign, If, Do, Print, Read, Stop, Comment, no_stmts, more_stmts}
 use Rattle.ped_tree.specs.Numbering.{statement_count, statements_count}
-use Rattle.ped_flow.specs.Events.{Manner, reads, assigns, clears, Event, own_events, entry_events, start_events, exit_events, overwrites, reads_first, has_value}
+use Rattle.ped_flow.specs.Events.{Manner, reads, assigns, clears, Event, own_events, start_events, exit_events, overwrites, reads_first, has_value}
 use Rattle.ped_flow.specs.PathSets.{Kind, Paths, Whole}
 use Rattle.ped_flow.specs.Questions.{IsFirst}
 use Rattle.ped_flow.specs.declared.summaries.Summary.{Summary}
@@ -28,7 +28,7 @@ pub record AreSummed (a : Paths) (x : List ℕ) (m : Summary) : Type 0 where
 abbrev pub least_of : Option ℕ → Option ℕ → Option ℕ
 least_of None b = b
 least_of (Some a) None = Some a
-least_of (Some a) (Some b) = Some (if nat_le a b then a else b)
+least_of (Some a) (Some b) = Some (min a b)
 
 -- a path on which nothing happens to the scalar
 abbrev pub passing : Summary
@@ -99,7 +99,7 @@ abbrev mutual
       sum_in_turn (sum_events x (own_events constants n (If condition then_part else_part)))
           (sum_either (sum_of_all constants x then_part (n + 1)) (sum_of_all constants x else_part (n + 1 + statements_count then_part)))
   sum_of constants x (Do h body) n =
-      sum_in_turn (sum_events x (entry_events constants n h)) (sum_loop x n h body (sum_of_all constants x body (n + 1)))
+      sum_in_turn (sum_events x (own_events constants n (Do h body))) (sum_loop x n h body (sum_of_all constants x body (n + 1)))
   sum_of constants x (Print items) n = sum_events x (own_events constants n (Print items))
   sum_of constants x (Read items) n = sum_events x (own_events constants n (Read items))
   sum_of constants x Stop n = stopped

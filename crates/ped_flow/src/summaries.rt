@@ -1,6 +1,6 @@
 //! What the paths of a part of a program do to one scalar, and how this is put together from parts.
 
-ghost use Rattle.std.specs.Prelude.{◌≡◌};
+ghost use Rattle.std.specs.Prelude.{◌≡◌, ◌↔◌, false, IsTrue};
 ghost use Rattle.ped_flow.specs.Events as Event;
 ghost use Rattle.ped_flow.specs.Summaries as Spec;
 
@@ -87,6 +87,13 @@ impl Summary {
         }
     }
 
+    /// Whether no path goes on, so that what comes next can't be reached.
+    pub(crate) fn is_cut(self) -> bool
+        ensures { IsTrue result ↔ ((self.keeps ≡ false) × (self.passes ≡ false) × (self.loses ≡ false)) }
+    {
+        !self.keeps && !self.passes && !self.loses
+    }
+
     /// This part and then another.
     pub(crate) fn then(self, next: Summary) -> Summary
         ensures { result ≡ Spec.sum_in_turn self next }
@@ -130,7 +137,7 @@ pub(crate) fn least(a: Option<u32>, b: Option<u32>) -> Option<u32>
     ensures { result ≡ Spec.least_of a b }
 {
     match (a, b) {
-        (Some(a), Some(b)) => Some(if a <= b { a } else { b }),
+        (Some(a), Some(b)) => Some(a.min(b)),
         (Some(a), None) => Some(a),
         (None, b) => b,
     }

@@ -4,3 +4,4 @@ pub mod FirstLaws
 pub mod PathSums
 pub mod TreeSums
 pub mod SumLaws
+pub mod ScalarSteps

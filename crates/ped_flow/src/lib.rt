@@ -1,10 +1,13 @@
 //! Scalar flow over all paths of a program. The definitions stand in `specs/`.
 #![tactic(auto)]
 
+mod before;
+mod behind;
 mod flows;
 mod laws;
 mod scalars;
 mod summaries;
+mod walks;
 
 pub use flows::Reader;
 pub use laws::paths_are_summed;

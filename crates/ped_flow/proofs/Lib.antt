@@ -5,3 +5,4 @@ pub mod PathSums
 pub mod TreeSums
 pub mod SumLaws
 pub mod ScalarSteps
+pub mod WalkSteps

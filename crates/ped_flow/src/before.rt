@@ -27,7 +27,8 @@ pub(crate) fn before_all(scalar: &Scalar, l: u32, body: &[Stmt], number: &mut u3
         summary = summary.or(way.then(before(scalar, l, s, &mut place)));
         way = way.then(statement(scalar, s, number));
     }
-    summary
+    // Paths that end on the way stay in the sum; no question looks at them.
+    summary.or(way.then(Summary::unreached()))
 }
 
 /// What the paths to the outermost loop do in a statement. Its number becomes that of the statement behind it.

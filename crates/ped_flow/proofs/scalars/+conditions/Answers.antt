@@ -3,7 +3,9 @@ use Rattle.ped_flow.proofs.ScalarSteps.{relation_read, and_read, or_read}
 use Rattle.ped_flow.proofs.scalars.+conditions.Goals as goal
 
 pub returns-in-Rel : goal.returns-in-Rel
-returns-in-Rel t c = ?
+returns-in-Rel t c =
+    relation_read (name_of c.args.scalar.now) (constants_of c.args.scalar.now) c.args.number c.args.c.now
+        c.expression.result c.expression-in-Rel.result c.then.result c.in-Rel.field-0 c.in-Rel.a c.in-Rel.b c.in-Rel.is c.expression.ensures c.expression-in-Rel.ensures c.then.ensures
 
 pub returns-in-And : goal.returns-in-And
 returns-in-And t c =

@@ -1,8 +1,9 @@
-use Rattle.std.proofs.Common.{List, ℕ, map, ap, ◌∙◌, ◌+◌, drop}
+use Rattle.std.proofs.Common.{List, ℕ, map, ap, sym, ◌∙◌, ◌+◌, drop}
 use Rattle.ped_tree.specs.Views.{expr_tree, pack_exprs}
 use Rattle.ped_tree.specs.declared.expressions.Expr.{Expr}
 use Rattle.ped_flow.specs.Events.{reads_of, scalars_in, all_scalars_in}
-use Rattle.ped_flow.specs.Summaries.{sum_events}
+use Rattle.ped_flow.specs.Summaries.{sum_events, sum_in_turn}
+use Rattle.ped_flow.specs.declared.summaries.Summary.{Summary}
 use Rattle.ped_flow.specs.Kept.{name_of, constants_of}
 use Rattle.ped_flow.proofs.SumLaws.{reads-append}
 use Rattle.ped_flow.proofs.ScalarSteps.{sum_read, difference_read, product_read, quotient_read, power_read, rest_is, next_in_turn}
@@ -38,7 +39,7 @@ expressions-loop-e-preserved t c =
     let x = name_of c.args.scalar.now in
     let cs = constants_of c.args.scalar.now in
     let n = c.args.number in
-    let e = c.e-item.result.now in
+    let e = c.e-item.result in
     let others = drop (c.loop-e.e-index + 1) c.args.es.now in
     next_in_turn c.loop-e.summary c.then-summary.result _ c.expression.result
         (sum_events x (reads_of n (all_scalars_in cs (pack_exprs (map expr_tree (drop c.loop-e.e-index c.args.es.now))))))
@@ -46,5 +47,5 @@ expressions-loop-e-preserved t c =
         c.loop-e.invariant
         (ap (λ (es : List Expr). sum_events x (reads_of n (all_scalars_in cs (pack_exprs (map expr_tree es))))) (rest_is c.args.es.now c.loop-e.e-index e c.loop-e-test.true c.e-item.is)
             ∙ reads-append x n (scalars_in cs (expr_tree e)) (all_scalars_in cs (pack_exprs (map expr_tree others)))
-            ∙ ?)
+            ∙ ap (λ (z : Summary). sum_in_turn z (sum_events x (reads_of n (all_scalars_in cs (pack_exprs (map expr_tree others)))))) (sym c.expression.ensures))
         c.then-summary.ensures

@@ -6,3 +6,4 @@ pub mod TreeSums
 pub mod SumLaws
 pub mod ScalarSteps
 pub mod WalkSteps
+pub mod Answering

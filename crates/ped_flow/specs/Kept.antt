@@ -1,13 +1,15 @@
 -- What the code is asked about, and what it keeps. Contracts of private functions alone speak of these definitions.
-use Rattle.std.specs.Prelude.{◌≡◌, ℕ, ◌+◌, ◌^◌, ◌<◌, List, [], ◌∷◌, ◌||◌, ◌&&◌, not, Bool, Option, Some, None, true, false, if◌then◌else◌}
+use Rattle.std.specs.Prelude.{◌≡◌, ℕ, ◌+◌, ◌^◌, ◌<◌, List, [], ◌∷◌, map, ◌||◌, ◌&&◌, not, Bool, Option, Some, None, true, false, if◌then◌else◌}
 use Rattle.ped_base.specs.Lists.{is_same_text, is_among}
 use Rattle.ped_tree.specs.Tree.{Head, StmtTree, StmtTrees, Assign, If, Do, Print, Read, Stop, Comment, no_stmts, more_stmts, ProgramTree}
-use Rattle.ped_tree.specs.Views.{program_tree}
+use Rattle.ped_tree.specs.Views.{decl_tree}
 use Rattle.ped_tree.specs.Numbering.{statement_count, statements_count}
 use Rattle.ped_tree.specs.Accesses.{constant_names}
 use Rattle.ped_flow.specs.Events.{Event, is_overwriting, own_events}
 use Rattle.ped_flow.specs.Summaries.{least_of}
 use Rattle.ped_flow.specs.declared.scalars.Scalar.{Scalar}
+use Rattle.ped_flow.specs.declared.flows.Reader.{Reader}
+use Rattle.ped_flow.specs.declared.flows.Reader.TheVariants.{Statement, Saved}
 
 -- the scalar's name
 abbrev pub name_of : Scalar → List ℕ
@@ -15,7 +17,17 @@ name_of s = s.name.now
 
 -- the named constants of its program
 abbrev pub constants_of : Scalar → List (List ℕ)
-constants_of s = s.constants.now
+constants_of s = constant_names (map decl_tree s.decls.now)
+
+-- the program's end as a reader, where the test holds
+abbrev pub reader_else : Bool → Option Reader
+reader_else true = Some Saved
+reader_else false = None
+
+-- a statement that reads, or else the program's end, where the test holds
+abbrev pub reader_by : Option ℕ → Bool → Option Reader
+reader_by (Some n) shown = Some (Statement n)
+reader_by None shown = reader_else shown
 
 -- a statement, where the event is a read of the scalar
 abbrev pub reader_in : List ℕ → Event → Option ℕ

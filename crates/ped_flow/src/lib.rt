@@ -3,11 +3,12 @@
 
 mod before;
 mod behind;
+mod decls;
 mod flows;
 mod laws;
 mod scalars;
 mod summaries;
 mod walks;
 
-pub use flows::Reader;
+pub use flows::{flow_of, Flow, Reader};
 pub use laws::paths_are_summed;

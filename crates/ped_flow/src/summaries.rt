@@ -1,6 +1,6 @@
 //! What the paths of a part of a program do to one scalar, and how this is put together from parts.
 
-ghost use Rattle.std.specs.Prelude.{◌≡◌, ◌↔◌, false, IsTrue};
+ghost use Rattle.std.specs.Prelude.{◌≡◌, ◌↔◌, ◌&&◌, ◌||◌, not, false, IsTrue};
 ghost use Rattle.ped_flow.specs.Events as Event;
 ghost use Rattle.ped_flow.specs.Summaries as Spec;
 
@@ -85,6 +85,20 @@ impl Summary {
             loses: true,
             ..Summary::passing()
         }
+    }
+
+    /// Whether each path that goes on leaves the scalar with a value, though it had none.
+    pub(crate) fn always_assigns(self) -> bool
+        ensures { result ≡ (not self.keeps && not self.loses) }
+    {
+        !self.keeps && !self.loses
+    }
+
+    /// Whether some path leaves the scalar as it is.
+    pub(crate) fn leaves(self) -> bool
+        ensures { result ≡ (self.keeps || self.ends) }
+    {
+        self.keeps || self.ends
     }
 
     /// Whether no path goes on, so that what comes next can't be reached.

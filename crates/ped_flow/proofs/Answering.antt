@@ -8,16 +8,17 @@ use Rattle.ped_tree.specs.Accesses.{constant_names}
 use Rattle.ped_tree.proofs.Numbers.{at_place-back, length-numbered, length-all_numbered}
 use Rattle.ped_flow.specs.Events.{Event, start_events, overwrites, has_value}
 use Rattle.ped_flow.specs.PathSets.{Kind, Paths, Whole}
-use Rattle.ped_flow.specs.Paths.{iteration, all_paths, paths_from_exit}
-use Rattle.ped_flow.specs.Questions.{IsLoop, LoopOf, IsFirst, IsExposed, IsReadBehind, saved_in, IsShownBehind, IsLiveAfter, IsAssignedOn, IsAssignedThrough}
+use Rattle.ped_flow.specs.Paths.{iteration, all_paths, paths_from_exit, paths_to_outermost}
+use Rattle.ped_flow.specs.Questions.{IsLoop, LoopOf, IsFirst, IsExposed, IsReadBehind, saved_in, IsShownBehind, IsLiveAfter, IsAssignedOn, IsAssignedThrough, IsAssignedBefore}
 use Rattle.ped_flow.specs.Answers.{IsReader}
-use Rattle.ped_flow.specs.Summaries.{AreOnward, AreSummed, IsReadOn, sum_in_turn, sum_events, sum_of_all}
+use Rattle.ped_flow.specs.Summaries.{AreOnward, AreSummed, IsReadOn, sum_in_turn, sum_events, sum_of_all, sum_behind_all, sum_before_all}
 use Rattle.ped_flow.specs.Kept.{reader_by, reader_else}
+use Rattle.ped_flow.specs.declared.flows.Reader.{Reader}
 use Rattle.ped_flow.specs.declared.summaries.Summary.{Summary}
 use Rattle.ped_flow.proofs.Truths.{untrue, and_split, or_iff}
 use Rattle.ped_flow.proofs.EventLaws.{has_value-kept, has_value-lost, has_value-none}
 use Rattle.ped_flow.proofs.FirstLaws.{first_map}
-use Rattle.ped_flow.proofs.TreeSums.{iteration-summed, all_summed, some_path_of_all, all_behind-summed}
+use Rattle.ped_flow.proofs.TreeSums.{iteration-summed, all_summed, some_path_of_all, all_behind-summed, all_before-summed}
 
 -- the places of a statement and of those in it
 
@@ -26,7 +27,6 @@ at_place-within [] ys k h = absurd (omega arith)
 at_place-within (x ∷ xs) ys k h = grind (arith, eqb-true, at_place-within xs ys (k - 1))
 
 some_or : StmtTree → Option StmtTree → StmtTree
-unfolding some_or
 some_or d (Some s) = s
 some_or d None = d
 
@@ -35,6 +35,7 @@ abbrev Fits : List StmtTree → ℕ → Type 0
 Fits xs count = (k : ℕ) (f : StmtTree) → at_place xs k ≡ Some f → k + statement_count f ≤ count
 
 head_fits : (s : StmtTree) (rest : List StmtTree) (count : ℕ) → statement_count s ≡ count + 1 → Fits rest count → Fits (s ∷ rest) (statement_count s)
+unfolding some_or
 head_fits s rest count c h k f e = by (k == 0) refl e
   where
     by : (r : Bool) → (k == 0) ≡ r → (if r then Some s else at_place rest (k - 1)) ≡ Some f → k + statement_count f ≤ statement_count s
@@ -55,13 +56,13 @@ append_fits xs ys a b l h g k f e = by (nat_lt k (length xs)) refl
         let i : k - length xs + statement_count f ≤ b = g (k - length xs) f (sym (at_place-back xs ys k (k - length xs) d) ∙ e) in
         omega (arith, l)
 
+is_none_here : Option StmtTree → Bool
+is_none_here (Some s) = false
+is_none_here None = true
+
 none_fits : (count : ℕ) → Fits [] count
-none_fits count k f e = absurd (let i : false ≡ true = ap is_there (sym e) ∙ refl in cc)
-  where
-    is_there : Option StmtTree → Bool
-    unfolding is_there
-    is_there (Some s) = false
-    is_there None = true
+unfolding is_none_here
+none_fits count k f e = untrue (sym (ap is_none_here e))
 
 mutual
   fits : (s : StmtTree) → Fits (numbered s) (statement_count s)
@@ -84,7 +85,7 @@ pub loop_fits : (t : ProgramTree) (l : ℕ) (h : Head) (body : StmtTrees) → Is
 loop_fits t l h body is = by (l == 0) refl is
   where
     by : (r : Bool) → (l == 0) ≡ r → (if r then None else at_place (all_numbered t.body) (l - 1)) ≡ Some (Do h body) → l + statements_count body ≤ statements_count t.body
-    by true z g = absurd (none_fits 0 0 (Do h body) g)
+    by true z g = let i : 0 + (statements_count body + 1) ≤ 0 = none_fits 0 0 (Do h body) g in absurd (omega (arith, i))
     by false z g =
         let i : l - 1 + (statements_count body + 1) ≤ statements_count t.body = all_fits t.body (l - 1) (Do h body) g in
         let j : (l == 0) ≡ false = z in
@@ -93,19 +94,19 @@ loop_fits t l h body is = by (l == 0) refl is
 -- one number has one DO
 
 head_or : Head → Option StmtTree → Head
-unfolding head_or
 head_or d (Some (Do h body)) = h
 head_or d s = d
 
 body_or : StmtTrees → Option StmtTree → StmtTrees
-unfolding body_or
 body_or d (Some (Do h body)) = body
 body_or d s = d
 
 same_head : (t : ProgramTree) (l : ℕ) (h g : Head) (a b : StmtTrees) → IsLoop t l h a → IsLoop t l g b → h ≡ g
+unfolding head_or
 same_head t l h g a b i j = ap (head_or h) (sym i ∙ j)
 
 same_body : (t : ProgramTree) (l : ℕ) (h g : Head) (a b : StmtTrees) → IsLoop t l h a → IsLoop t l g b → a ≡ b
+unfolding body_or
 same_body t l h g a b i j = ap (body_or a) (sym i ∙ j)
 
 -- exposed reads
@@ -221,3 +222,28 @@ pub reader_is : (t : ProgramTree) (l : ℕ) (x : List ℕ) (m k : Summary) (save
 reader_is t l x m k saved h e s =
     subst (λ (z : Summary). IsReader t l x (reader_by z.first ((z.keeps || z.ends) && saved))) (sym e)
         (reader_at t l x k.first (k.keeps || k.ends) saved (read_behind t l x k.first h.first) (left_is t l x k h) s)
+
+-- the same for a scalar as the code has it
+
+pub exposed_answer : (t : ProgramTree) (l : ℕ) (x y : List ℕ) (cs : List (List ℕ)) (h : Head) (body : StmtTrees) (a : Option ℕ) → y ≡ x → cs ≡ constant_names t.decls → IsLoop t l h body
+    → IsFirst (IsReadOn (iteration l h body (all_paths cs body (l + 1))) y) a → IsFirst (IsExposed t l x) a
+exposed_answer t l x y cs h body a f e is k =
+    exposed_in_loop t l x h body a is
+        (subst (λ (u : List (List ℕ)). IsFirst (IsReadOn (iteration l h body (all_paths u body (l + 1))) x) a) e
+            (subst (λ (z : List ℕ). IsFirst (IsReadOn (iteration l h body (all_paths cs body (l + 1))) z) a) f k))
+
+pub through_answer : (t : ProgramTree) (l : ℕ) (x y : List ℕ) (cs : List (List ℕ)) (h : Head) (body : StmtTrees) (r : Bool) → y ≡ x → cs ≡ constant_names t.decls → IsLoop t l h body
+    → IsTrue r ↔ IsAssignedOn (all_paths cs body (l + 1)).onward y → IsTrue r ↔ IsAssignedThrough t l x
+through_answer t l x y cs h body r f e is k =
+    through_loop t l x h body r is
+        (subst (λ (u : List (List ℕ)). IsTrue r ↔ IsAssignedOn (all_paths u body (l + 1)).onward x) e
+            (subst (λ (z : List ℕ). IsTrue r ↔ IsAssignedOn (all_paths cs body (l + 1)).onward z) f k))
+
+pub before_answer : (t : ProgramTree) (l : ℕ) (x : List ℕ) (m : Summary) (r : Bool) → m ≡ sum_before_all (constant_names t.decls) x l t.body 1 → r ≡ (not m.keeps && not m.loses) → IsTrue r ↔ IsAssignedBefore t l x
+before_answer t l x m r h k = assigned_by (paths_to_outermost t l) x m (sum_before_all (constant_names t.decls) x l t.body 1) r (all_before-summed (constant_names t.decls) x l t.body 1) h k
+
+pub live_answer : (t : ProgramTree) (l : ℕ) (x : List ℕ) (m : Summary) (leaves saved shown : Bool) (r : Option Reader) → m ≡ sum_behind_all (constant_names t.decls) x l t.body 1 → leaves ≡ (m.keeps || m.ends) → saved ≡ is_among x (flat_map saved_in t.decls)
+    → shown ≡ (leaves && saved) → r ≡ reader_by m.first shown → IsReader t l x r
+live_answer t l x m leaves saved shown r h k s b e =
+    subst (λ (z : Option Reader). IsReader t l x z) (sym (e ∙ ap (reader_by m.first) (b ∙ ap (λ (u : Bool). u && saved) k)))
+        (reader_is t l x m (sum_behind_all (constant_names t.decls) x l t.body 1) saved (all_behind-summed (constant_names t.decls) x l t.body 1) h s)

@@ -69,7 +69,7 @@ mutual
   fits (Assign left right) = head_fits (Assign left right) [] 0 refl (none_fits 0)
   fits (If c a b) =
       head_fits (If c a b) (all_numbered a ++ all_numbered b) (statements_count a + statements_count b) refl
-          (append_fits (all_numbered a) (all_numbered b) (statements_count a) (statements_count b) (length-all_numbered a) (all_fits a) (all_fits b))
+      (append_fits (all_numbered a) (all_numbered b) (statements_count a) (statements_count b) (length-all_numbered a) (all_fits a) (all_fits b))
   fits (Do h body) = head_fits (Do h body) (all_numbered body) (statements_count body) refl (all_fits body)
   fits (Print items) = head_fits (Print items) [] 0 refl (none_fits 0)
   fits (Read items) = head_fits (Read items) [] 0 refl (none_fits 0)
@@ -101,11 +101,11 @@ body_or : StmtTrees → Option StmtTree → StmtTrees
 body_or d (Some (Do h body)) = body
 body_or d s = d
 
-same_head : (t : ProgramTree) (l : ℕ) (h g : Head) (a b : StmtTrees) → IsLoop t l h a → IsLoop t l g b → h ≡ g
+pub same_head : (t : ProgramTree) (l : ℕ) (h g : Head) (a b : StmtTrees) → IsLoop t l h a → IsLoop t l g b → h ≡ g
 unfolding head_or
 same_head t l h g a b i j = ap (head_or h) (sym i ∙ j)
 
-same_body : (t : ProgramTree) (l : ℕ) (h g : Head) (a b : StmtTrees) → IsLoop t l h a → IsLoop t l g b → a ≡ b
+pub same_body : (t : ProgramTree) (l : ℕ) (h g : Head) (a b : StmtTrees) → IsLoop t l h a → IsLoop t l g b → a ≡ b
 unfolding body_or
 same_body t l h g a b i j = ap (body_or a) (sym i ∙ j)
 
@@ -115,16 +115,17 @@ pub exposed_in_loop : (t : ProgramTree) (l : ℕ) (x : List ℕ) (h : Head) (bod
     → IsFirst (IsReadOn (iteration l h body (all_paths (constant_names t.decls) body (l + 1))) x) a → IsFirst (IsExposed t l x) a
 exposed_in_loop t l x h body a is k =
     first_map (IsReadOn (iteration l h body (all_paths (constant_names t.decls) body (l + 1))) x) (IsExposed t l x) a
-        (λ n s. record { loop = record { head = h; body = body; is = is }; path = s.0; leads = s.1; reads = s.2 }) from k
+    (λ n s. record { loop = record { head = h; body = body; is = is }; path = s.0; leads = s.1; reads = s.2 }) from k
   where
     from : (n : ℕ) → IsExposed t l x n → IsReadOn (iteration l h body (all_paths (constant_names t.decls) body (l + 1))) x n
     from n s =
         let hs : s.loop.head ≡ h = same_head t l s.loop.head h s.loop.body body s.loop.is is in
-        let bs : s.loop.body ≡ body = same_body t l s.loop.head h s.loop.body body s.loop.is is in
-        (s.path,
-        subst (λ (b : StmtTrees). Whole (iteration l h b (all_paths (constant_names t.decls) b (l + 1))) s.path) bs
-            (subst (λ (g : Head). Whole (iteration l g s.loop.body (all_paths (constant_names t.decls) s.loop.body (l + 1))) s.path) hs s.leads),
-        s.reads)
+        let bs : s.loop.body ≡ body = same_body t l s.loop.head h s.loop.body body s.loop.is is in (
+          s.path,
+          subst (λ (b : StmtTrees). Whole (iteration l h b (all_paths (constant_names t.decls) b (l + 1))) s.path) bs
+              (subst (λ (g : Head). Whole (iteration l g s.loop.body (all_paths (constant_names t.decls) s.loop.body (l + 1))) s.path) hs s.leads),
+          s.reads,
+        )
 
 pub exposed_nowhere : (t : ProgramTree) (l : ℕ) (x : List ℕ) → ((h : Head) (body : StmtTrees) → IsLoop t l h body → ⊥) → IsFirst (IsExposed t l x) None
 exposed_nowhere t l x none = λ n s. none s.loop.head s.loop.body s.loop.is
@@ -133,7 +134,7 @@ pub first_in_iteration : (cs : List (List ℕ)) (x : List ℕ) (l : ℕ) (h : He
     → IsFirst (IsReadOn (iteration l h body (all_paths cs body (l + 1))) x) r.first
 first_in_iteration cs x l h body a b r i j k =
     subst (λ (m : Summary). IsFirst (IsReadOn (iteration l h body (all_paths cs body (l + 1))) x) m.first) (sym (k ∙ (λ z. sum_in_turn (i z) (j z))))
-        (iteration-summed x l h body (all_paths cs body (l + 1)) (sum_of_all cs x body (l + 1)) (some_path_of_all cs body (l + 1)) (all_summed cs x body (l + 1))).first
+    (iteration-summed x l h body (all_paths cs body (l + 1)) (sum_of_all cs x body (l + 1)) (some_path_of_all cs body (l + 1)) (all_summed cs x body (l + 1))).first
 
 -- assigned on all paths
 
@@ -177,14 +178,14 @@ through_nowhere t l x none = (λ i g. absurd (none g.head g.body g.is), λ f. re
 
 -- live after
 
-read_behind : (t : ProgramTree) (l : ℕ) (x : List ℕ) (a : Option ℕ) → IsFirst (IsReadOn (paths_from_exit t l) x) a → IsFirst (IsReadBehind t l x) a
+pub read_behind : (t : ProgramTree) (l : ℕ) (x : List ℕ) (a : Option ℕ) → IsFirst (IsReadOn (paths_from_exit t l) x) a → IsFirst (IsReadBehind t l x) a
 read_behind t l x a = first_map (IsReadOn (paths_from_exit t l) x) (IsReadBehind t l x) a (λ n s. record { path = s.0; leads = s.1; reads = s.2 }) (λ n s. (s.path, s.leads, s.reads))
 
 -- some path from the exit leaves the scalar as it is
-abbrev Left : ProgramTree → ℕ → List ℕ → Type 0
+abbrev pub Left : ProgramTree → ℕ → List ℕ → Type 0
 Left t l x = (path : List Event) × Whole (paths_from_exit t l) path × (overwrites x path ≡ false)
 
-left_is : (t : ProgramTree) (l : ℕ) (x : List ℕ) (m : Summary) → AreSummed (paths_from_exit t l) x m → IsTrue (m.keeps || m.ends) ↔ Left t l x
+pub left_is : (t : ProgramTree) (l : ℕ) (x : List ℕ) (m : Summary) → AreSummed (paths_from_exit t l) x m → IsTrue (m.keeps || m.ends) ↔ Left t l x
 left_is t l x m h = (λ i. to (both.0 i), λ s. both.1 (from s.0 s.1 s.2))
   where
     both : IsTrue (m.keeps || m.ends)
@@ -221,7 +222,7 @@ pub reader_is : (t : ProgramTree) (l : ℕ) (x : List ℕ) (m k : Summary) (save
     → IsReader t l x (reader_by m.first ((m.keeps || m.ends) && saved))
 reader_is t l x m k saved h e s =
     subst (λ (z : Summary). IsReader t l x (reader_by z.first ((z.keeps || z.ends) && saved))) (sym e)
-        (reader_at t l x k.first (k.keeps || k.ends) saved (read_behind t l x k.first h.first) (left_is t l x k h) s)
+    (reader_at t l x k.first (k.keeps || k.ends) saved (read_behind t l x k.first h.first) (left_is t l x k h) s)
 
 -- the same for a scalar as the code has it
 
@@ -229,15 +230,15 @@ pub exposed_answer : (t : ProgramTree) (l : ℕ) (x y : List ℕ) (cs : List (Li
     → IsFirst (IsReadOn (iteration l h body (all_paths cs body (l + 1))) y) a → IsFirst (IsExposed t l x) a
 exposed_answer t l x y cs h body a f e is k =
     exposed_in_loop t l x h body a is
-        (subst (λ (u : List (List ℕ)). IsFirst (IsReadOn (iteration l h body (all_paths u body (l + 1))) x) a) e
-            (subst (λ (z : List ℕ). IsFirst (IsReadOn (iteration l h body (all_paths cs body (l + 1))) z) a) f k))
+    (subst (λ (u : List (List ℕ)). IsFirst (IsReadOn (iteration l h body (all_paths u body (l + 1))) x) a) e
+    (subst (λ (z : List ℕ). IsFirst (IsReadOn (iteration l h body (all_paths cs body (l + 1))) z) a) f k))
 
 pub through_answer : (t : ProgramTree) (l : ℕ) (x y : List ℕ) (cs : List (List ℕ)) (h : Head) (body : StmtTrees) (r : Bool) → y ≡ x → cs ≡ constant_names t.decls → IsLoop t l h body
     → IsTrue r ↔ IsAssignedOn (all_paths cs body (l + 1)).onward y → IsTrue r ↔ IsAssignedThrough t l x
 through_answer t l x y cs h body r f e is k =
     through_loop t l x h body r is
-        (subst (λ (u : List (List ℕ)). IsTrue r ↔ IsAssignedOn (all_paths u body (l + 1)).onward x) e
-            (subst (λ (z : List ℕ). IsTrue r ↔ IsAssignedOn (all_paths cs body (l + 1)).onward z) f k))
+    (subst (λ (u : List (List ℕ)). IsTrue r ↔ IsAssignedOn (all_paths u body (l + 1)).onward x) e
+    (subst (λ (z : List ℕ). IsTrue r ↔ IsAssignedOn (all_paths cs body (l + 1)).onward z) f k))
 
 pub before_answer : (t : ProgramTree) (l : ℕ) (x : List ℕ) (m : Summary) (r : Bool) → m ≡ sum_before_all (constant_names t.decls) x l t.body 1 → r ≡ (not m.keeps && not m.loses) → IsTrue r ↔ IsAssignedBefore t l x
 before_answer t l x m r h k = assigned_by (paths_to_outermost t l) x m (sum_before_all (constant_names t.decls) x l t.body 1) r (all_before-summed (constant_names t.decls) x l t.body 1) h k
@@ -246,4 +247,4 @@ pub live_answer : (t : ProgramTree) (l : ℕ) (x : List ℕ) (m : Summary) (leav
     → shown ≡ (leaves && saved) → r ≡ reader_by m.first shown → IsReader t l x r
 live_answer t l x m leaves saved shown r h k s b e =
     subst (λ (z : Option Reader). IsReader t l x z) (sym (e ∙ ap (reader_by m.first) (b ∙ ap (λ (u : Bool). u && saved) k)))
-        (reader_is t l x m (sum_behind_all (constant_names t.decls) x l t.body 1) saved (all_behind-summed (constant_names t.decls) x l t.body 1) h s)
+    (reader_is t l x m (sum_behind_all (constant_names t.decls) x l t.body 1) saved (all_behind-summed (constant_names t.decls) x l t.body 1) h s)

@@ -7,3 +7,6 @@ pub mod SumLaws
 pub mod ScalarSteps
 pub mod WalkSteps
 pub mod Answering
+pub mod LooseReads
+pub mod Escaping
+pub mod OutsideSteps

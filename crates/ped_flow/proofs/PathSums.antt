@@ -148,7 +148,7 @@ in_turn-summed A B x a b some h k = record {
   first = first_map (λ n. IsReadOn A x n ⊎ (Keeps A.onward x × IsReadOn B x n)) (IsReadOn (in_turn A B) x) (least_of a.first (when a.keeps b.first))
       (λ n s. in_turn-reads-together A B x n some s) (λ n s. in_turn-reads-apart A B x n s)
       (first_or (IsReadOn A x) (λ n. Keeps A.onward x × IsReadOn B x n) a.first (when a.keeps b.first) h.first
-          (first_when (Keeps A.onward x) (IsReadOn B x) a.keeps b.first h.onward.keeps k.first));
+      (first_when (Keeps A.onward x) (IsReadOn B x) a.keeps b.first h.onward.keeps k.first));
 }
 
 pub either-onward : (P Q : Kind) (x : List ℕ) (a b : Summary) → AreOnward P x a → AreOnward Q x b → AreOnward (Either P Q) x (sum_either a b)

@@ -47,7 +47,7 @@ module _ (x : List ℕ) (cs : List (List ℕ)) (n : ℕ) (e : Expr) (a b : Box E
       → r ≡ sum_events x (reads_of n (scalars_in cs (expr_tree e)))
   operands t parts is l g h f i =
       two_read x n (scalars_in cs (expr_tree e)) (scalars_in cs (expr_tree p)) (scalars_in cs (expr_tree q)) m k r
-          (ap (scalars_in cs) is ∙ parts ∙ (λ j. scalars_in cs (expr_tree (sym l j)) ++ scalars_in cs (expr_tree (sym g j)))) h f i
+      (ap (scalars_in cs) is ∙ parts ∙ (λ j. scalars_in cs (expr_tree (sym l j)) ++ scalars_in cs (expr_tree (sym g j)))) h f i
 
   pub sum_read : e ≡ variant.Add a b → p ≡ a.value → q ≡ b.value → m ≡ sum_events x (reads_of n (scalars_in cs (expr_tree p))) → k ≡ sum_events x (reads_of n (scalars_in cs (expr_tree q))) → r ≡ sum_in_turn m k → r ≡ sum_events x (reads_of n (scalars_in cs (expr_tree e)))
   sum_read is = operands (plain.Add (expr_tree a.value) (expr_tree b.value)) (λ i. scalars_in cs (expr_tree a.value) ++ scalars_in cs (expr_tree b.value)) (ap expr_tree is ∙ expr_tree-Add a b)
@@ -73,7 +73,7 @@ module _ (x : List ℕ) (cs : List (List ℕ)) (n : ℕ) (c : Cond) (m k r : Sum
       → r ≡ sum_events x (reads_of n (scalars_in_cond cs (cond_tree c)))
   conditions a b p q t parts is l g =
       two_read x n (scalars_in_cond cs (cond_tree c)) (scalars_in_cond cs (cond_tree p)) (scalars_in_cond cs (cond_tree q)) m k r
-          (ap (scalars_in_cond cs) is ∙ parts ∙ (λ j. scalars_in_cond cs (cond_tree (sym l j)) ++ scalars_in_cond cs (cond_tree (sym g j))))
+      (ap (scalars_in_cond cs) is ∙ parts ∙ (λ j. scalars_in_cond cs (cond_tree (sym l j)) ++ scalars_in_cond cs (cond_tree (sym g j))))
 
   pub and_read : (a b : Box Cond) (p q : Cond) → c ≡ cond.And a b → p ≡ a.value → q ≡ b.value → m ≡ sum_events x (reads_of n (scalars_in_cond cs (cond_tree p))) → k ≡ sum_events x (reads_of n (scalars_in_cond cs (cond_tree q))) → r ≡ sum_in_turn m k → r ≡ sum_events x (reads_of n (scalars_in_cond cs (cond_tree c)))
   and_read a b p q is = conditions a b p q (plain.And (cond_tree a.value) (cond_tree b.value)) (λ i. scalars_in_cond cs (cond_tree a.value) ++ scalars_in_cond cs (cond_tree b.value)) (ap cond_tree is ∙ cond_tree-And a b)

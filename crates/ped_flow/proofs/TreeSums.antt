@@ -16,11 +16,11 @@ mutual
   some_path cs (Assign left right) n = going-some (own_events cs n (Assign left right))
   some_path cs (If c a b) n =
       in_turn-some (going (own_events cs n (If c a b))) (either (all_paths cs a (n + 1)) (all_paths cs b (n + 1 + statements_count a)))
-          (going-some (own_events cs n (If c a b))) (either-some (all_paths cs a (n + 1)) (all_paths cs b (n + 1 + statements_count a)) (some_path_of_all cs a (n + 1)))
+      (going-some (own_events cs n (If c a b))) (either-some (all_paths cs a (n + 1)) (all_paths cs b (n + 1 + statements_count a)) (some_path_of_all cs a (n + 1)))
   some_path cs (Do h body) n =
       in_turn-some (going (own_events cs n (Do h body))) (in_turn (trips (iteration n h body (all_paths cs body (n + 1)))) (going (exit_events n h body)))
-          (going-some (own_events cs n (Do h body)))
-          (in_turn-some (trips (iteration n h body (all_paths cs body (n + 1)))) (going (exit_events n h body)) (trips-some (iteration n h body (all_paths cs body (n + 1)))) (going-some (exit_events n h body)))
+      (going-some (own_events cs n (Do h body)))
+      (in_turn-some (trips (iteration n h body (all_paths cs body (n + 1)))) (going (exit_events n h body)) (trips-some (iteration n h body (all_paths cs body (n + 1)))) (going-some (exit_events n h body)))
   some_path cs (Print items) n = going-some (own_events cs n (Print items))
   some_path cs (Read items) n = going-some (own_events cs n (Read items))
   some_path cs Stop n = ([], inr refl)
@@ -38,9 +38,9 @@ iteration-summed x n h body A a some k = in_turn-summed (going (start_events n h
 loop-summed : (x : List ℕ) (n : ℕ) (h : Head) (body : StmtTrees) (A : Paths) (a : Summary) → Passes (Whole A) → AreSummed A x a → AreSummed (in_turn (trips (iteration n h body A)) (going (exit_events n h body))) x (sum_loop x n h body a)
 loop-summed x n h body A a some k =
     in_turn-summed (trips (iteration n h body A)) (going (exit_events n h body)) x (sum_trips (sum_in_turn (sum_events x (start_events n h body)) a)) (sum_events x (exit_events n h body))
-        (going-some (exit_events n h body))
-        (trips-summed (iteration n h body A) x (sum_in_turn (sum_events x (start_events n h body)) a) (iteration-summed x n h body A a some k))
-        (going-summed x (exit_events n h body))
+    (going-some (exit_events n h body))
+    (trips-summed (iteration n h body A) x (sum_in_turn (sum_events x (start_events n h body)) a) (iteration-summed x n h body A a some k))
+    (going-summed x (exit_events n h body))
 
 loop-some : (n : ℕ) (h : Head) (body : StmtTrees) (A : Paths) → Passes (Whole (in_turn (trips (iteration n h body A)) (going (exit_events n h body))))
 loop-some n h body A = in_turn-some (trips (iteration n h body A)) (going (exit_events n h body)) (trips-some (iteration n h body A)) (going-some (exit_events n h body))
@@ -50,17 +50,17 @@ mutual
   summed cs x (Assign left right) n = going-summed x (own_events cs n (Assign left right))
   summed cs x (If c a b) n =
       in_turn-summed (going (own_events cs n (If c a b))) (either (all_paths cs a (n + 1)) (all_paths cs b (n + 1 + statements_count a))) x
-          (sum_events x (own_events cs n (If c a b))) (sum_either (sum_of_all cs x a (n + 1)) (sum_of_all cs x b (n + 1 + statements_count a)))
-          (either-some (all_paths cs a (n + 1)) (all_paths cs b (n + 1 + statements_count a)) (some_path_of_all cs a (n + 1)))
-          (going-summed x (own_events cs n (If c a b)))
-          (either-summed (all_paths cs a (n + 1)) (all_paths cs b (n + 1 + statements_count a)) x (sum_of_all cs x a (n + 1)) (sum_of_all cs x b (n + 1 + statements_count a))
-              (all_summed cs x a (n + 1)) (all_summed cs x b (n + 1 + statements_count a)))
+      (sum_events x (own_events cs n (If c a b))) (sum_either (sum_of_all cs x a (n + 1)) (sum_of_all cs x b (n + 1 + statements_count a)))
+      (either-some (all_paths cs a (n + 1)) (all_paths cs b (n + 1 + statements_count a)) (some_path_of_all cs a (n + 1)))
+      (going-summed x (own_events cs n (If c a b)))
+      (either-summed (all_paths cs a (n + 1)) (all_paths cs b (n + 1 + statements_count a)) x (sum_of_all cs x a (n + 1)) (sum_of_all cs x b (n + 1 + statements_count a))
+      (all_summed cs x a (n + 1)) (all_summed cs x b (n + 1 + statements_count a)))
   summed cs x (Do h body) n =
       in_turn-summed (going (own_events cs n (Do h body))) (in_turn (trips (iteration n h body (all_paths cs body (n + 1)))) (going (exit_events n h body))) x
-          (sum_events x (own_events cs n (Do h body))) (sum_loop x n h body (sum_of_all cs x body (n + 1)))
-          (loop-some n h body (all_paths cs body (n + 1)))
-          (going-summed x (own_events cs n (Do h body)))
-          (loop-summed x n h body (all_paths cs body (n + 1)) (sum_of_all cs x body (n + 1)) (some_path_of_all cs body (n + 1)) (all_summed cs x body (n + 1)))
+      (sum_events x (own_events cs n (Do h body))) (sum_loop x n h body (sum_of_all cs x body (n + 1)))
+      (loop-some n h body (all_paths cs body (n + 1)))
+      (going-summed x (own_events cs n (Do h body)))
+      (loop-summed x n h body (all_paths cs body (n + 1)) (sum_of_all cs x body (n + 1)) (some_path_of_all cs body (n + 1)) (all_summed cs x body (n + 1)))
   summed cs x (Print items) n = going-summed x (own_events cs n (Print items))
   summed cs x (Read items) n = going-summed x (own_events cs n (Read items))
   summed cs x Stop n = stopping-summed x
@@ -70,7 +70,7 @@ mutual
   all_summed cs x no_stmts n = going-none x
   all_summed cs x (more_stmts s rest) n =
       in_turn-summed (paths cs s n) (all_paths cs rest (n + statement_count s)) x (sum_of cs x s n) (sum_of_all cs x rest (n + statement_count s))
-          (some_path_of_all cs rest (n + statement_count s)) (summed cs x s n) (all_summed cs x rest (n + statement_count s))
+      (some_path_of_all cs rest (n + statement_count s)) (summed cs x s n) (all_summed cs x rest (n + statement_count s))
 
 at_once-summed : (x : List ℕ) (b : Bool) → AreSummed (at_once b) x (sum_at_once b)
 at_once-summed x true = going-none x
@@ -81,16 +81,16 @@ mutual
   behind-summed cs x l (Assign left right) n = nowhere-summed x
   behind-summed cs x l (If c a b) n =
       either-summed (all_paths_behind cs l a (n + 1)) (all_paths_behind cs l b (n + 1 + statements_count a)) x (sum_behind_all cs x l a (n + 1)) (sum_behind_all cs x l b (n + 1 + statements_count a))
-          (all_behind-summed cs x l a (n + 1)) (all_behind-summed cs x l b (n + 1 + statements_count a))
+      (all_behind-summed cs x l a (n + 1)) (all_behind-summed cs x l b (n + 1 + statements_count a))
   behind-summed cs x l (Do h body) n =
       either-summed (at_once (l == n)) (in_turn (all_paths_behind cs l body (n + 1)) (in_turn (trips (iteration n h body (all_paths cs body (n + 1)))) (going (exit_events n h body)))) x
-          (sum_at_once (l == n)) (sum_in_turn (sum_behind_all cs x l body (n + 1)) (sum_loop x n h body (sum_of_all cs x body (n + 1))))
-          (at_once-summed x (l == n))
-          (in_turn-summed (all_paths_behind cs l body (n + 1)) (in_turn (trips (iteration n h body (all_paths cs body (n + 1)))) (going (exit_events n h body))) x
-              (sum_behind_all cs x l body (n + 1)) (sum_loop x n h body (sum_of_all cs x body (n + 1)))
-              (loop-some n h body (all_paths cs body (n + 1)))
-              (all_behind-summed cs x l body (n + 1))
-              (loop-summed x n h body (all_paths cs body (n + 1)) (sum_of_all cs x body (n + 1)) (some_path_of_all cs body (n + 1)) (all_summed cs x body (n + 1))))
+      (sum_at_once (l == n)) (sum_in_turn (sum_behind_all cs x l body (n + 1)) (sum_loop x n h body (sum_of_all cs x body (n + 1))))
+      (at_once-summed x (l == n))
+      (in_turn-summed (all_paths_behind cs l body (n + 1)) (in_turn (trips (iteration n h body (all_paths cs body (n + 1)))) (going (exit_events n h body))) x
+      (sum_behind_all cs x l body (n + 1)) (sum_loop x n h body (sum_of_all cs x body (n + 1)))
+      (loop-some n h body (all_paths cs body (n + 1)))
+      (all_behind-summed cs x l body (n + 1))
+      (loop-summed x n h body (all_paths cs body (n + 1)) (sum_of_all cs x body (n + 1)) (some_path_of_all cs body (n + 1)) (all_summed cs x body (n + 1))))
   behind-summed cs x l (Print items) n = nowhere-summed x
   behind-summed cs x l (Read items) n = nowhere-summed x
   behind-summed cs x l Stop n = nowhere-summed x
@@ -100,10 +100,10 @@ mutual
   all_behind-summed cs x l no_stmts n = nowhere-summed x
   all_behind-summed cs x l (more_stmts s rest) n =
       either-summed (in_turn (paths_behind cs l s n) (all_paths cs rest (n + statement_count s))) (all_paths_behind cs l rest (n + statement_count s)) x
-          (sum_in_turn (sum_behind cs x l s n) (sum_of_all cs x rest (n + statement_count s))) (sum_behind_all cs x l rest (n + statement_count s))
-          (in_turn-summed (paths_behind cs l s n) (all_paths cs rest (n + statement_count s)) x (sum_behind cs x l s n) (sum_of_all cs x rest (n + statement_count s))
-              (some_path_of_all cs rest (n + statement_count s)) (behind-summed cs x l s n) (all_summed cs x rest (n + statement_count s)))
-          (all_behind-summed cs x l rest (n + statement_count s))
+      (sum_in_turn (sum_behind cs x l s n) (sum_of_all cs x rest (n + statement_count s))) (sum_behind_all cs x l rest (n + statement_count s))
+      (in_turn-summed (paths_behind cs l s n) (all_paths cs rest (n + statement_count s)) x (sum_behind cs x l s n) (sum_of_all cs x rest (n + statement_count s))
+      (some_path_of_all cs rest (n + statement_count s)) (behind-summed cs x l s n) (all_summed cs x rest (n + statement_count s)))
+      (all_behind-summed cs x l rest (n + statement_count s))
 
 -- the path to a DO from where it stands
 entry-onward : (x : List ℕ) (l n k : ℕ) → AreOnward (ToEntry l n k) x (sum_at_once (nat_le n l && nat_le l (n + k)))
@@ -125,10 +125,10 @@ mutual
   before-summed cs x l (Assign left right) n = nowhere-onward x
   before-summed cs x l (If c a b) n =
       in_turn-onward (Just (own_events cs n (If c a b))) (Either (all_paths_before cs l a (n + 1)) (all_paths_before cs l b (n + 1 + statements_count a))) x
-          (sum_events x (own_events cs n (If c a b))) (sum_either (sum_before_all cs x l a (n + 1)) (sum_before_all cs x l b (n + 1 + statements_count a)))
-          (going-summed x (own_events cs n (If c a b))).onward
-          (either-onward (all_paths_before cs l a (n + 1)) (all_paths_before cs l b (n + 1 + statements_count a)) x (sum_before_all cs x l a (n + 1)) (sum_before_all cs x l b (n + 1 + statements_count a))
-              (all_before-summed cs x l a (n + 1)) (all_before-summed cs x l b (n + 1 + statements_count a)))
+      (sum_events x (own_events cs n (If c a b))) (sum_either (sum_before_all cs x l a (n + 1)) (sum_before_all cs x l b (n + 1 + statements_count a)))
+      (going-summed x (own_events cs n (If c a b))).onward
+      (either-onward (all_paths_before cs l a (n + 1)) (all_paths_before cs l b (n + 1 + statements_count a)) x (sum_before_all cs x l a (n + 1)) (sum_before_all cs x l b (n + 1 + statements_count a))
+      (all_before-summed cs x l a (n + 1)) (all_before-summed cs x l b (n + 1 + statements_count a)))
   before-summed cs x l (Do h body) n = entry-onward x l n (statements_count body)
   before-summed cs x l (Print items) n = nowhere-onward x
   before-summed cs x l (Read items) n = nowhere-onward x
@@ -139,7 +139,7 @@ mutual
   all_before-summed cs x l no_stmts n = nowhere-onward x
   all_before-summed cs x l (more_stmts s rest) n =
       either-onward (paths_before cs l s n) (InTurn (paths cs s n).onward (all_paths_before cs l rest (n + statement_count s))) x
-          (sum_before cs x l s n) (sum_in_turn (sum_of cs x s n) (sum_before_all cs x l rest (n + statement_count s)))
-          (before-summed cs x l s n)
-          (in_turn-onward (paths cs s n).onward (all_paths_before cs l rest (n + statement_count s)) x (sum_of cs x s n) (sum_before_all cs x l rest (n + statement_count s))
-              (summed cs x s n).onward (all_before-summed cs x l rest (n + statement_count s)))
+      (sum_before cs x l s n) (sum_in_turn (sum_of cs x s n) (sum_before_all cs x l rest (n + statement_count s)))
+      (before-summed cs x l s n)
+      (in_turn-onward (paths cs s n).onward (all_paths_before cs l rest (n + statement_count s)) x (sum_of cs x s n) (sum_before_all cs x l rest (n + statement_count s))
+      (summed cs x s n).onward (all_before-summed cs x l rest (n + statement_count s)))

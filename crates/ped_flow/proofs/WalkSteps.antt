@@ -41,7 +41,7 @@ module _ (cs : List (List ℕ)) (x : List ℕ) where
         → sum_in_turn after (sum_of_all cs x (stmt_trees (drop (i + 1) body)) m) ≡ whole
     walk_next before item after whole inv h e =
         next_in_turn before after whole item (sum_of_all cs x (stmt_trees (drop i body)) n) (sum_of_all cs x (stmt_trees (drop (i + 1) body)) m) inv
-            (rest_summed ∙ ap (λ (z : Summary). sum_in_turn z (sum_of_all cs x (stmt_trees (drop (i + 1) body)) m)) (sym h)) e
+        (rest_summed ∙ ap (λ (z : Summary). sum_in_turn z (sum_of_all cs x (stmt_trees (drop (i + 1) body)) m)) (sym h)) e
 
     module _ (l : ℕ) where
       pub behind_next : (before here thro after whole : Summary)
@@ -54,10 +54,10 @@ module _ (cs : List (List ℕ)) (x : List ℕ) where
           let S = sum_of cs x (stmt_tree s) n in
           let H = sum_behind cs x l (stmt_tree s) n in
           let first : sum_in_turn (sum_in_turn before S) A ≡ sum_in_turn before (sum_of_all cs x (stmt_trees (drop i body)) n) =
-              in_turn-assoc before S A ∙ ap (sum_in_turn before) (sym rest_summed) in
+          in_turn-assoc before S A ∙ ap (sum_in_turn before) (sym rest_summed) in
           let second : sum_either (sum_in_turn H A) B ≡ sum_behind_all cs x l (stmt_trees (drop i body)) n =
-              (λ j. sum_either (sum_in_turn H (sum_of_all cs x (stmt_trees (drop (i + 1) body)) (k j))) (sum_behind_all cs x l (stmt_trees (drop (i + 1) body)) (k j)))
-              ∙ ap (λ (ss : StmtTrees). sum_behind_all cs x l ss n) (sym tree) in
+          (λ j. sum_either (sum_in_turn H (sum_of_all cs x (stmt_trees (drop (i + 1) body)) (k j))) (sum_behind_all cs x l (stmt_trees (drop (i + 1) body)) (k j)))
+          ∙ ap (λ (ss : StmtTrees). sum_behind_all cs x l ss n) (sym tree) in
           ap (λ (z : Summary). sum_either (sum_in_turn z A) B) (e ∙ (λ j. sum_either (g j) (h j)))
           ∙ ap (λ (z : Summary). sum_either z B) (either-in_turn (sum_in_turn before S) H A)
           ∙ either-assoc (sum_in_turn (sum_in_turn before S) A) (sum_in_turn H A) B
@@ -74,8 +74,8 @@ module _ (cs : List (List ℕ)) (x : List ℕ) where
           let S = sum_of cs x (stmt_tree s) n in
           let H = sum_before cs x l (stmt_tree s) n in
           let rest : sum_either H (sum_in_turn S B) ≡ sum_before_all cs x l (stmt_trees (drop i body)) n =
-              (λ j. sum_either H (sum_in_turn S (sum_before_all cs x l (stmt_trees (drop (i + 1) body)) (k j))))
-              ∙ ap (λ (ss : StmtTrees). sum_before_all cs x l ss n) (sym tree) in
+          (λ j. sum_either H (sum_in_turn S (sum_before_all cs x l (stmt_trees (drop (i + 1) body)) (k j))))
+          ∙ ap (λ (ss : StmtTrees). sum_before_all cs x l ss n) (sym tree) in
           (λ j. sum_either (e j) (sum_in_turn (d j) B))
           ∙ (λ j. sum_either (sum_either summary (f j)) (sum_in_turn (sum_in_turn way (g j)) B))
           ∙ (λ j. sum_either (sum_either summary (sum_in_turn way (h j))) (in_turn-assoc way S B j))

@@ -49,7 +49,7 @@ abbrev mutual
   first_outside constants x (Assign left right) n = first_reader x (own_events constants n (Assign left right))
   first_outside constants x (If condition then_part else_part) n =
       least_of (first_reader x (own_events constants n (If condition then_part else_part)))
-          (least_of (all_first_outside constants x then_part (n + 1)) (all_first_outside constants x else_part (n + 1 + statements_count then_part)))
+      (least_of (all_first_outside constants x then_part (n + 1)) (all_first_outside constants x else_part (n + 1 + statements_count then_part)))
   first_outside constants x (Do h body) n =
       least_of (first_reader x (own_events constants n (Do h body))) (unless (is_same_text x h.variable) (all_first_outside constants x body (n + 1)))
   first_outside constants x (Print items) n = first_reader x (own_events constants n (Print items))

@@ -6,3 +6,4 @@ pub mod PlainBounds
 pub mod Summaries
 pub mod Answers
 pub mod Kept
+pub mod Escapes

@@ -16,10 +16,10 @@ abbrev mutual
   paths constants (Assign left right) n = going (own_events constants n (Assign left right))
   paths constants (If condition then_part else_part) n =
       in_turn (going (own_events constants n (If condition then_part else_part)))
-          (either (all_paths constants then_part (n + 1)) (all_paths constants else_part (n + 1 + statements_count then_part)))
+      (either (all_paths constants then_part (n + 1)) (all_paths constants else_part (n + 1 + statements_count then_part)))
   paths constants (Do h body) n =
       in_turn (going (own_events constants n (Do h body)))
-          (in_turn (trips (iteration n h body (all_paths constants body (n + 1)))) (going (exit_events n h body)))
+      (in_turn (trips (iteration n h body (all_paths constants body (n + 1)))) (going (exit_events n h body)))
   paths constants (Print items) n = going (own_events constants n (Print items))
   paths constants (Read items) n = going (own_events constants n (Read items))
   paths constants Stop n = stopping
@@ -43,8 +43,8 @@ abbrev mutual
       either (all_paths_behind constants l then_part (n + 1)) (all_paths_behind constants l else_part (n + 1 + statements_count then_part))
   paths_behind constants l (Do h body) n =
       either (at_once (l == n))
-          (in_turn (all_paths_behind constants l body (n + 1))
-              (in_turn (trips (iteration n h body (all_paths constants body (n + 1)))) (going (exit_events n h body))))
+      (in_turn (all_paths_behind constants l body (n + 1))
+      (in_turn (trips (iteration n h body (all_paths constants body (n + 1)))) (going (exit_events n h body))))
   paths_behind constants l (Print items) n = nowhere
   paths_behind constants l (Read items) n = nowhere
   paths_behind constants l Stop n = nowhere
@@ -55,7 +55,7 @@ abbrev mutual
   all_paths_behind constants l no_stmts n = nowhere
   all_paths_behind constants l (more_stmts s rest) n =
       either (in_turn (paths_behind constants l s n) (all_paths constants rest (n + statement_count s)))
-          (all_paths_behind constants l rest (n + statement_count s))
+      (all_paths_behind constants l rest (n + statement_count s))
 
 -- the path to a DO from where it stands: it has this number, or it has the statement with this number in its body
 abbrev pub ToEntry : ℕ → ℕ → ℕ → Kind
@@ -67,7 +67,7 @@ abbrev mutual
   paths_before constants l (Assign left right) n = Never
   paths_before constants l (If condition then_part else_part) n =
       InTurn (Just (own_events constants n (If condition then_part else_part)))
-          (Either (all_paths_before constants l then_part (n + 1)) (all_paths_before constants l else_part (n + 1 + statements_count then_part)))
+      (Either (all_paths_before constants l then_part (n + 1)) (all_paths_before constants l else_part (n + 1 + statements_count then_part)))
   paths_before constants l (Do h body) n = ToEntry l n (statements_count body)
   paths_before constants l (Print items) n = Never
   paths_before constants l (Read items) n = Never
@@ -79,7 +79,7 @@ abbrev mutual
   all_paths_before constants l no_stmts n = Never
   all_paths_before constants l (more_stmts s rest) n =
       Either (paths_before constants l s n)
-          (InTurn (paths constants s n).onward (all_paths_before constants l rest (n + statement_count s)))
+      (InTurn (paths constants s n).onward (all_paths_before constants l rest (n + statement_count s)))
 
 -- the paths of a program
 abbrev pub program_paths : ProgramTree → Paths

@@ -97,7 +97,7 @@ abbrev mutual
   sum_of constants x (Assign left right) n = sum_events x (own_events constants n (Assign left right))
   sum_of constants x (If condition then_part else_part) n =
       sum_in_turn (sum_events x (own_events constants n (If condition then_part else_part)))
-          (sum_either (sum_of_all constants x then_part (n + 1)) (sum_of_all constants x else_part (n + 1 + statements_count then_part)))
+      (sum_either (sum_of_all constants x then_part (n + 1)) (sum_of_all constants x else_part (n + 1 + statements_count then_part)))
   sum_of constants x (Do h body) n =
       sum_in_turn (sum_events x (own_events constants n (Do h body))) (sum_loop x n h body (sum_of_all constants x body (n + 1)))
   sum_of constants x (Print items) n = sum_events x (own_events constants n (Print items))
@@ -133,7 +133,7 @@ abbrev mutual
   sum_behind_all constants x l no_stmts n = unreached
   sum_behind_all constants x l (more_stmts s rest) n =
       sum_either (sum_in_turn (sum_behind constants x l s n) (sum_of_all constants x rest (n + statement_count s)))
-          (sum_behind_all constants x l rest (n + statement_count s))
+      (sum_behind_all constants x l rest (n + statement_count s))
 
 -- the paths to the outermost DO in a statement with this number
 abbrev mutual
@@ -141,7 +141,7 @@ abbrev mutual
   sum_before constants x l (Assign left right) n = unreached
   sum_before constants x l (If condition then_part else_part) n =
       sum_in_turn (sum_events x (own_events constants n (If condition then_part else_part)))
-          (sum_either (sum_before_all constants x l then_part (n + 1)) (sum_before_all constants x l else_part (n + 1 + statements_count then_part)))
+      (sum_either (sum_before_all constants x l then_part (n + 1)) (sum_before_all constants x l else_part (n + 1 + statements_count then_part)))
   sum_before constants x l (Do h body) n = sum_at_once (nat_le n l && nat_le l (n + statements_count body))
   sum_before constants x l (Print items) n = unreached
   sum_before constants x l (Read items) n = unreached

@@ -7,7 +7,7 @@ ghost use Rattle.ped_flow.specs.Summaries as Spec;
 ghost use Rattle.ped_flow.specs.Kept.{name_of, constants_of};
 
 use crate::behind::at_once;
-use crate::scalars::{condition, Scalar};
+use crate::scalars::{Scalar, condition};
 use crate::summaries::Summary;
 use crate::walks::statement;
 use ped_tree::Stmt;

@@ -12,14 +12,15 @@ ghost use Rattle.ped_tree.specs.Accesses.{constant_names};
 ghost use Rattle.ped_refs.specs.Loops.{head_of};
 ghost use Rattle.ped_flow.specs.Paths.{all_paths, iteration};
 ghost use Rattle.ped_flow.specs.Questions.{saved_in, IsLoop, IsFirst, IsExposed, IsAssignedOn, IsAssignedThrough, IsAssignedBefore};
-ghost use Rattle.ped_flow.specs.Answers.{IsReader};
+ghost use Rattle.ped_flow.specs.Answers.{IsReader, IsEscape};
 ghost use Rattle.ped_flow.specs.Summaries as Spec;
 ghost use Rattle.ped_flow.specs.Kept.{name_of, constants_of, reader_by};
 
 use crate::before::before_all;
 use crate::behind::behind_all;
 use crate::decls::is_saved;
-use crate::scalars::{scalar_of, start, Scalar};
+use crate::escapes::{escaping, Numbered};
+use crate::scalars::{Scalar, scalar_of, start};
 use crate::summaries::Summary;
 use crate::walks::statements;
 use ped_base::Name;
@@ -98,6 +99,28 @@ impl<'a> Flow<'a> {
             }
             None => {
                 return true;
+            }
+        }
+    }
+
+    /// The statement by which the loop with this number isn't contained: the first in text order that reads a variable of
+    /// the loop, or of a loop in it, outside the bodies of the loops of that variable there, or behind the loop before it
+    /// is overwritten; where there is none, the loop itself, if such a variable is in SAVE and some path from the loop's exit
+    /// to the end doesn't overwrite it.
+    pub fn escapes(&self, loop_number: u32) -> Option<u32>
+        requires { statements_count (program_tree self.now.program.now).body + 1 < 2 ^ 32 }
+        ensures { IsEscape (program_tree self.now.program.now) loop_number result }
+    {
+        match loop_at(self.program, loop_number) {
+            Some(d) => {
+                return escaping(&Numbered {
+                    program: self.program,
+                    number: loop_number,
+                    body: d,
+                });
+            }
+            None => {
+                return None;
             }
         }
     }

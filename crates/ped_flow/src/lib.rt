@@ -4,11 +4,13 @@
 mod before;
 mod behind;
 mod decls;
+mod escapes;
 mod flows;
 mod laws;
+mod outside;
 mod scalars;
 mod summaries;
 mod walks;
 
-pub use flows::{flow_of, Flow, Reader};
+pub use flows::{Flow, Reader, flow_of};
 pub use laws::paths_are_summed;

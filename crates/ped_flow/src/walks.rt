@@ -7,7 +7,7 @@ ghost use Rattle.ped_refs.specs.Loops.{head_of};
 ghost use Rattle.ped_flow.specs.Summaries as Spec;
 ghost use Rattle.ped_flow.specs.Kept.{name_of, constants_of};
 
-use crate::scalars::{condition, entry, exit, expression, items, start, target, targets, Scalar};
+use crate::scalars::{Scalar, condition, entry, exit, expression, items, start, target, targets};
 use crate::summaries::Summary;
 use ped_tree::{Do, Stmt};
 

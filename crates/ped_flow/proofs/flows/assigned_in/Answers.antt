@@ -14,5 +14,5 @@ returns c =
     let x = name_of c.args.scalar.now in
     let body = stmt_trees c.args.d.now.body.items in
     assigned_by (all_paths cs body (c.args.number + 1)).onward x c.statements-summary.result (sum_of_all cs x body (c.args.number + 1)) c.always_assigns.result
-        (all_summed cs x body (c.args.number + 1)).onward
-        (c.statements-summary.ensures.sum ∙ ap (λ (b : List Stmt). sum_of_all cs x (stmt_trees b) (c.args.number + 1)) c.deref.ensures.value) c.always_assigns.ensures
+    (all_summed cs x body (c.args.number + 1)).onward
+    (c.statements-summary.ensures.sum ∙ ap (λ (b : List Stmt). sum_of_all cs x (stmt_trees b) (c.args.number + 1)) c.deref.ensures.value) c.always_assigns.ensures

@@ -18,10 +18,10 @@ loop-i-preserved c =
     let e = c.i-item.result in
     let others = drop (c.loop-i.i-index + 1) c.args.items.now in
     next_in_turn c.loop-i.summary c.then-summary.result _ c.item.result
-        (sum_events x (reads_of n (flat_map (scalars_in_item cs) (map item_tree (drop c.loop-i.i-index c.args.items.now)))))
-        (sum_events x (reads_of n (flat_map (scalars_in_item cs) (map item_tree others))))
-        c.loop-i.invariant
-        (ap (λ (es : List PrintItem). sum_events x (reads_of n (flat_map (scalars_in_item cs) (map item_tree es)))) (rest_is c.args.items.now c.loop-i.i-index e c.loop-i-test.true c.i-item.is)
-            ∙ reads-append x n (scalars_in_item cs (item_tree e)) (flat_map (scalars_in_item cs) (map item_tree others))
-            ∙ ap (λ (z : Summary). sum_in_turn z (sum_events x (reads_of n (flat_map (scalars_in_item cs) (map item_tree others))))) (sym c.item.ensures))
-        c.then-summary.ensures
+    (sum_events x (reads_of n (flat_map (scalars_in_item cs) (map item_tree (drop c.loop-i.i-index c.args.items.now)))))
+    (sum_events x (reads_of n (flat_map (scalars_in_item cs) (map item_tree others))))
+    c.loop-i.invariant
+    (ap (λ (es : List PrintItem). sum_events x (reads_of n (flat_map (scalars_in_item cs) (map item_tree es)))) (rest_is c.args.items.now c.loop-i.i-index e c.loop-i-test.true c.i-item.is)
+    ∙ reads-append x n (scalars_in_item cs (item_tree e)) (flat_map (scalars_in_item cs) (map item_tree others))
+    ∙ ap (λ (z : Summary). sum_in_turn z (sum_events x (reads_of n (flat_map (scalars_in_item cs) (map item_tree others))))) (sym c.item.ensures))
+    c.then-summary.ensures

@@ -18,10 +18,10 @@ loop-left-preserved c =
     let e = c.left-item.result in
     let others = drop (c.loop-left.left-index + 1) c.args.lefts.now in
     next_in_turn c.loop-left.summary c.then-summary.result _ c.target.result
-        (sum_events x (flat_map (left_events cs n) (map expr_tree (drop c.loop-left.left-index c.args.lefts.now))))
-        (sum_events x (flat_map (left_events cs n) (map expr_tree others)))
-        c.loop-left.invariant
-        (ap (λ (es : List Expr). sum_events x (flat_map (left_events cs n) (map expr_tree es))) (rest_is c.args.lefts.now c.loop-left.left-index e c.loop-left-test.true c.left-item.is)
-            ∙ events-append x (left_events cs n (expr_tree e)) (flat_map (left_events cs n) (map expr_tree others))
-            ∙ ap (λ (z : Summary). sum_in_turn z (sum_events x (flat_map (left_events cs n) (map expr_tree others)))) (sym c.target.ensures))
-        c.then-summary.ensures
+    (sum_events x (flat_map (left_events cs n) (map expr_tree (drop c.loop-left.left-index c.args.lefts.now))))
+    (sum_events x (flat_map (left_events cs n) (map expr_tree others)))
+    c.loop-left.invariant
+    (ap (λ (es : List Expr). sum_events x (flat_map (left_events cs n) (map expr_tree es))) (rest_is c.args.lefts.now c.loop-left.left-index e c.loop-left-test.true c.left-item.is)
+    ∙ events-append x (left_events cs n (expr_tree e)) (flat_map (left_events cs n) (map expr_tree others))
+    ∙ ap (λ (z : Summary). sum_in_turn z (sum_events x (flat_map (left_events cs n) (map expr_tree others)))) (sym c.target.ensures))
+    c.then-summary.ensures

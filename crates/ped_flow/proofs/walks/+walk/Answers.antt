@@ -5,7 +5,7 @@ use Rattle.ped_flow.proofs.walks.+walk.Goals as goal
 pub statement-returns-in-Assign-clause-sum : goal.statement-returns-in-Assign-clause-sum
 statement-returns-in-Assign-clause-sum t c =
     assign_summed (constants_of c.args.scalar.now) (name_of c.args.scalar.now) c.args.s.now c.in-Assign.left c.in-Assign.right c.args.number.now
-        c.expression.result c.target.result c.then.result c.in-Assign.is c.expression.ensures c.target.ensures c.then.ensures
+    c.expression.result c.target.result c.then.result c.in-Assign.is c.expression.ensures c.target.ensures c.then.ensures
 
 pub statements-loop-s-preserved : goal.statements-loop-s-preserved
 statements-loop-s-preserved t c = record {

@@ -8,7 +8,7 @@ use Rattle.ped_flow.proofs.flows.Flow.assigned_through.Goals as goal
 pub returns-in-Some : goal.returns-in-Some
 returns-in-Some c =
     through_answer (program_tree c.args.self.now.program.now) c.args.loop_number c.args.name.now (name_of c.scalar_of-scalar.result) (constants_of c.scalar_of-scalar.result) (head_of c.in-Some.d.now) (stmt_trees c.in-Some.d.now.body.items)
-        c.assigned_in.result c.scalar_of-scalar.ensures.name c.scalar_of-scalar.ensures.constants c.in-Some.ensures c.assigned_in.ensures
+    c.assigned_in.result c.scalar_of-scalar.ensures.name c.scalar_of-scalar.ensures.constants c.in-Some.ensures c.assigned_in.ensures
 
 pub returns-in-None : goal.returns-in-None
 returns-in-None c = through_nowhere (program_tree c.args.self.now.program.now) c.args.loop_number c.args.name.now c.in-None.ensures

@@ -1,0 +1,12 @@
+pub mod EventLaws
+pub mod Truths
+pub mod FirstLaws
+pub mod PathSums
+pub mod TreeSums
+pub mod SumLaws
+pub mod ScalarSteps
+pub mod WalkSteps
+pub mod Answering
+pub mod LooseReads
+pub mod Escaping
+pub mod OutsideSteps

@@ -1,0 +1,9 @@
+use Rattle.std.proofs.Common.{◌≡◌, map, drop}
+use Rattle.std.specs.List.{flat_map}
+use Rattle.ped_base.specs.Lists.{is_among}
+use Rattle.ped_tree.specs.Views.{decl_tree}
+use Rattle.ped_flow.specs.Questions.{saved_in}
+use Rattle.ped_flow.proofs.decls.is_saved.Given as goal
+
+abbrev pub invariant-loop-decl : goal.invariant-loop-decl
+invariant-loop-decl l = is_among l.name (flat_map saved_in (map decl_tree (drop l.decl-index l.decls))) ≡ is_among l.name (flat_map saved_in (map decl_tree l.decls))

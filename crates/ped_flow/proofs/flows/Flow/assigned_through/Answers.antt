@@ -1,0 +1,19 @@
+use Rattle.std.proofs.Common.{arith}
+use Rattle.ped_tree.specs.Views.{program_tree, stmt_trees}
+use Rattle.ped_refs.specs.Loops.{head_of}
+use Rattle.ped_flow.specs.Kept.{name_of, constants_of}
+use Rattle.ped_flow.proofs.Answering.{through_answer, through_nowhere, loop_fits}
+use Rattle.ped_flow.proofs.flows.Flow.assigned_through.Goals as goal
+
+pub returns-in-Some : goal.returns-in-Some
+returns-in-Some c =
+    through_answer (program_tree c.args.self.now.program.now) c.args.loop_number c.args.name.now (name_of c.scalar_of-scalar.result) (constants_of c.scalar_of-scalar.result) (head_of c.in-Some.d.now) (stmt_trees c.in-Some.d.now.body.items)
+    c.assigned_in.result c.scalar_of-scalar.ensures.name c.scalar_of-scalar.ensures.constants c.in-Some.ensures c.assigned_in.ensures
+
+pub returns-in-None : goal.returns-in-None
+returns-in-None c = through_nowhere (program_tree c.args.self.now.program.now) c.args.loop_number c.args.name.now c.in-None.ensures
+
+pub assigned_in-requires : goal.assigned_in-requires
+assigned_in-requires c =
+    let f = loop_fits (program_tree c.args.self.now.program.now) c.args.loop_number (head_of c.in-Some.d.now) (stmt_trees c.in-Some.d.now.body.items) c.in-Some.ensures in
+    omega (arith, f, c.requires)

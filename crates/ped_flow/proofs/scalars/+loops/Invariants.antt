@@ -1,0 +1,9 @@
+use Rattle.std.proofs.Common.{◌≡◌, drop}
+use Rattle.ped_base.specs.Lists.{is_among}
+use Rattle.ped_tree.specs.Views.{stmt_trees}
+use Rattle.ped_affine.specs.Assigned.{all_loop_variables}
+use Rattle.ped_flow.proofs.scalars.+loops.Given as goal
+
+abbrev pub invariant-has_loop_of-loop-statement : goal.invariant-has_loop_of-loop-statement
+invariant-has_loop_of-loop-statement l =
+    is_among l.name (all_loop_variables (stmt_trees (drop l.statement-index l.statements))) ≡ is_among l.name (all_loop_variables (stmt_trees l.statements))

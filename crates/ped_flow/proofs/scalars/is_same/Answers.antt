@@ -1,0 +1,6 @@
+use Rattle.std.proofs.Common.{◌∙◌}
+use Rattle.ped_names.proofs.NameEquality.{name_same}
+use Rattle.ped_flow.proofs.scalars.is_same.Goals as goal
+
+pub returns : goal.returns
+returns c = c.eq.ensures ∙ name_same c.args.a.now c.args.b.now

@@ -1,0 +1,49 @@
+-- By which read, or by the program's end, a DO isn't contained, variable by variable. Contracts of private functions alone speak of these definitions.
+use Rattle.std.specs.Prelude.{ℕ, ◌+◌, List, [], ◌∷◌, Bool, true, false, ◌&&◌, ◌||◌, Option, Some, None}
+use Rattle.std.specs.List.{flat_map}
+use Rattle.ped_base.specs.Lists.{is_same_text, is_among}
+use Rattle.ped_tree.specs.Tree.{Head, StmtTrees, ProgramTree}
+use Rattle.ped_tree.specs.Accesses.{constant_names}
+use Rattle.ped_flow.specs.Questions.{saved_in}
+use Rattle.ped_flow.specs.Summaries.{least_of, sum_behind_all}
+use Rattle.ped_flow.specs.Kept.{unless, all_first_outside}
+use Rattle.ped_flow.specs.declared.summaries.Summary.{Summary}
+use Rattle.ped_flow.specs.declared.escapes.Escape.{Escape}
+
+-- what the paths from the exit of a DO do to a scalar
+abbrev pub behind_loop : ProgramTree → ℕ → List ℕ → Summary
+behind_loop t l x = sum_behind_all (constant_names t.decls) x l t.body 1
+
+-- the first read of a scalar by which a DO isn't contained, and whether the program's end may show the scalar
+abbrev pub escape_of : ProgramTree → ℕ → Head → StmtTrees → List ℕ → Escape
+escape_of t l h body x = record {
+  first = least_of (unless (is_same_text x h.variable) (all_first_outside (constant_names t.decls) x body (l + 1))) (behind_loop t l x).first;
+  shown = ((behind_loop t l x).keeps || (behind_loop t l x).ends) && is_among x (flat_map saved_in t.decls);
+}
+
+-- the first read of either, and whether the end may show either
+abbrev pub either_escape : Escape → Escape → Escape
+either_escape a b = record { first = least_of a.first b.first; shown = a.shown || b.shown }
+
+-- nothing
+abbrev pub no_escape : Escape
+no_escape = record { first = None; shown = false }
+
+-- the first read of some of these scalars, and whether the end may show one
+abbrev pub escapes_of : ProgramTree → ℕ → Head → StmtTrees → List (List ℕ) → Escape
+escapes_of t l h body [] = no_escape
+escapes_of t l h body (x ∷ xs) = either_escape (escape_of t l h body x) (escapes_of t l h body xs)
+
+-- a number where the test holds
+abbrev pub if_shown : Bool → ℕ → Option ℕ
+if_shown true l = Some l
+if_shown false l = None
+
+-- the statement by which the DO isn't contained: the first read, or else the DO itself where the end may show a variable
+abbrev pub escaping : Option ℕ → Bool → ℕ → Option ℕ
+escaping (Some n) shown l = Some n
+escaping None shown l = if_shown shown l
+
+-- the same, from both
+abbrev pub escaping_by : Escape → ℕ → Option ℕ
+escaping_by e l = escaping e.first e.shown l

@@ -1,23 +1,30 @@
 -- Outcomes of programs: what is printed and what the live-out variables hold, or the fault (ANSI X3.9-1978, sections 8.9, 17; this project).
-use Rattle.std.specs.Prelude.{ℕ, ℤ, List, [], ◌∷◌, map, Option}
+use Rattle.std.specs.Prelude.{ℕ, ℤ, List, [], ◌∷◌, map, Option, Some, None}
 use Rattle.std.specs.List.{flat_map}
 use Rattle.std.specs.Str.Lines.{lines}
+use Rattle.ped_base.specs.Dimensions.{Dimensions}
 use Rattle.ped_tree.specs.Tree.{DeclTree, Program, Implicit, Integer, Dimension, Parameter, Save, Remark, ProgramTree}
 use Rattle.ped_symbols.specs.declared.symbols.Kind.{Kind}
 use Rattle.ped_symbols.specs.declared.symbols.Kind.TheVariants.{Scalar, Array, Constant}
-use Rattle.ped_symbols.specs.Kinds.{kind_of, at_last}
-use Rattle.ped_store.specs.Cells as cells
+use Rattle.ped_symbols.specs.Kinds.{kind_in, at_last}
 use Rattle.ped_store.specs.Cells.{Out}
-use Rattle.ped_store.specs.Stores.{Store, store_at_start, number_in, lines_in}
-use Rattle.ped_store.specs.Storage.{elements_of}
+use Rattle.ped_store.specs.Stores.{Store, store_at_start, lines_in}
+use Rattle.ped_store.specs.Variables.{no_dimensions, values_of}
 use Rattle.ped_store.specs.Races.{accesses, HasNoRace}
 use Rattle.ped_eval.specs.Scopes.{Setting}
 use Rattle.ped_eval.specs.Loops.{sorted_once}
 use Rattle.ped_eval.specs.Runs.{Ending, going, stopped, failed, Run, run_all}
 
+-- the bounds of a name by what it stands for; none for one that is no array (ANSI X3.9-1978, section 5.1)
+abbrev pub bounds_of : Option Kind → Dimensions
+bounds_of None = no_dimensions
+bounds_of (Some Scalar) = no_dimensions
+bounds_of (Some (Array bounds)) = bounds
+bounds_of (Some (Constant n)) = no_dimensions
+
 -- the setting of a program: each statement counts under its own number (this project)
 abbrev pub setting_of : ProgramTree → Setting
-setting_of t = record { arrays = (at_last t).arrays; constants = (at_last t).values; number = λ n. n }
+setting_of t = record { bounds = λ x. bounds_of (kind_in t x); constants = (at_last t).values; number = λ n. n }
 
 -- the run of a program on the lines of its data (ANSI X3.9-1978, section 2.4.1; this project)
 abbrev pub run_of : ProgramTree → List ℕ → Run
@@ -27,12 +34,6 @@ run_of t data_bytes = run_all (setting_of t) t.body 1 [] (store_at_start (lines 
 pub record LiveRow : Type 0 where
   pub name : List ℕ
   pub values : List (Option ℤ)
-
--- the values of a variable, those of an array in storage order; a constant has no cell (ANSI X3.9-1978, section 5.2.4; this project)
-abbrev pub values_of : Kind → List ℕ → Store → List (Option ℤ)
-values_of Scalar x s = number_in (s (cells.Scalar x)) ∷ []
-values_of (Array bounds) x s = map (λ js. number_in (s (cells.Element x js))) (elements_of bounds)
-values_of (Constant n) x s = []
 
 -- the names that a declaration saves (ANSI X3.9-1978, section 8.9)
 abbrev pub saved_in : DeclTree → List (List ℕ)
@@ -50,7 +51,7 @@ live_names t = sorted_once (flat_map saved_in t.decls)
 
 -- the live-out variables with their values (this project)
 abbrev pub live_rows : ProgramTree → Store → List LiveRow
-live_rows t s = map (λ x. record { name = x; values = values_of (kind_of t x) x s }) (live_names t)
+live_rows t s = map (λ x. record { name = x; values = values_of (bounds_of (kind_in t x)) x s }) (live_names t)
 
 -- how a program ends: with the lines that it has printed and the rows of its live-out variables, or with the number of a fault and the statement that met it (this project)
 pub data Outcome : Type 0 where

@@ -1,15 +1,13 @@
 -- What names stand for at a place of a run (ANSI X3.9-1978, sections 11.10.5, 17; this project).
-use Rattle.std.specs.Prelude.{ℕ, ℤ, List, [], ◌∷◌, ◌++◌, Option, Some, None, unwrap_or, if◌then◌else◌}
-use Rattle.std.specs.Map.{lookup}
-use Rattle.std.specs.Option.{unwrap_or}
+use Rattle.std.specs.Prelude.{ℕ, ℤ, List, [], ◌∷◌, ◌++◌, Option, Some, None, if◌then◌else◌}
 use Rattle.ped_base.specs.Dimensions.{Dimensions}
 use Rattle.ped_base.specs.Lists.{is_same_text, is_among}
 use Rattle.ped_store.specs.Cells.{Cell, Scalar, Private}
 use Rattle.ped_store.specs.Acts.{Turn, Place, iterations_of}
 
--- what a run takes from the whole program: the bounds of its arrays, the values of its constants, and the number under which each statement counts in places, copies and faults. A run of a program counts each under its own number; with other numbers, one for each, it does the same (this project)
+-- what a run takes from the whole program: the bounds of its arrays (none for any other name), the values of its constants, and the number under which each statement counts in places, copies and faults. A run of a program counts each under its own number; with other numbers, one for each, it does the same (this project)
 pub record Setting : Type 0 where
-  pub arrays : List (List ℕ × Dimensions)
+  pub bounds : List ℕ → Dimensions
   pub constants : List (List ℕ × ℤ)
   pub number : ℕ → ℕ
 
@@ -40,18 +38,14 @@ index_value (f ∷ fs) x = if is_same_text x f.variable then Some f.turn.value e
 
 -- what names stand for at a place: constants their values, arrays their bounds, scalars their cells; and the variables of the DO loops round it their values (this project)
 pub record Names : Type 0 where
-  pub arrays : List (List ℕ × Dimensions)
+  pub bounds : List ℕ → Dimensions
   pub constants : List (List ℕ × ℤ)
   pub cell : List ℕ → Cell
   pub index : List ℕ → Option ℤ
 
 -- what names stand for in these iterations (this project)
 abbrev pub names_in : Setting → Scope → Names
-names_in p scope = record { arrays = p.arrays; constants = p.constants; cell = cell_of scope; index = index_value scope }
-
--- the bounds of an array; none for a name that is no array
-abbrev pub bounds_of : Names → List ℕ → Dimensions
-bounds_of g x = unwrap_or (lookup (is_same_text x) g.arrays) (record { lower = []; upper = [] })
+names_in p scope = record { bounds = p.bounds; constants = p.constants; cell = cell_of scope; index = index_value scope }
 
 -- the place of a statement in these iterations (this project)
 abbrev pub place_of : Setting → ℕ → Scope → Place

@@ -1,5 +1,5 @@
 -- Values of expressions and truth of conditions (ANSI X3.9-1978, sections 6.1, 6.3, 6.4, 6.6, 15.10; this project).
-use Rattle.std.specs.Prelude.{ℕ, ℤ, pos, int_lt, int_le, List, [], ◌∷◌, Bool, not, ◌&&◌, ◌||◌, Option, Some, None, Result, Ok, Err, if◌then◌else◌}
+use Rattle.std.specs.Prelude.{ℕ, ℤ, pos, int_lt, int_le, List, [], ◌∷◌, length, nat_le, Bool, not, ◌&&◌, ◌||◌, Option, Some, None, Result, Ok, Err, if◌then◌else◌}
 use Rattle.std.specs.Ordering.{int_eq}
 use Rattle.ped_arithmetic.specs.declared.faults.Fault.{Fault}
 use Rattle.ped_arithmetic.specs.Arithmetic.{sum_of, difference_of, negation_of, product_of, quotient_of, power_of}
@@ -12,7 +12,7 @@ use Rattle.ped_store.specs.Cells as cells
 use Rattle.ped_store.specs.Cells.{Cell}
 use Rattle.ped_store.specs.Stores.{Store, outside_bounds, out_of_range}
 use Rattle.ped_store.specs.Storage.{is_within}
-use Rattle.ped_eval.specs.Scopes.{Names, bounds_of}
+use Rattle.ped_eval.specs.Scopes.{Names}
 use Rattle.ped_eval.specs.Evaluation.{Evaluated, ◌>>>◌, given, by_number, read_cell, read_index}
 
 -- an operation on a number
@@ -38,9 +38,13 @@ abbrev pub name_value : Option ℤ → Names → List ℕ → Store → Evaluate
 name_value (Some n) g x s = given (Ok n)
 name_value None g x s = variable_value (g.index x) s (g.cell x)
 
+-- an element has one to seven subscripts, as its array has dimensions (ANSI X3.9-1978, sections 5.1.1, 5.4.2)
+abbrev pub is_rank : ℕ → Bool
+is_rank n = nat_le 1 n && nat_le n 7
+
 -- the element with these subscripts, or the fault where one lies outside its bounds (ANSI X3.9-1978, section 5.4.2)
 abbrev pub element_cell : Names → List ℕ → List ℤ → Result Cell ℕ
-element_cell g x subscripts = if is_within (bounds_of g x) subscripts then Ok (cells.Element x subscripts) else Err outside_bounds
+element_cell g x subscripts = if is_rank (length subscripts) && is_within (g.bounds x) subscripts then Ok (cells.Element x subscripts) else Err outside_bounds
 
 -- the value of an expression: operands from left to right, all operations exact within 128 bits; the subscripts of an element, then its bounds, then its read (ANSI X3.9-1978, sections 6.1, 6.6; this project)
 abbrev mutual

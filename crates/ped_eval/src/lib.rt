@@ -3,9 +3,33 @@
 //! programs.
 #![tactic(auto)]
 
+mod counts;
+mod evaluation;
+mod exits;
+mod inner_names;
+mod live;
+mod operations;
+mod outcomes;
+mod plans;
+mod printing;
+mod reading;
+mod runs;
+mod scopes;
+mod shapes;
+mod sorting;
+mod statements;
+mod states;
+mod surroundings;
+mod turns;
+
 ghost use Rattle.std.specs.Prelude.{◌≡◌, List, ℕ};
 ghost use Rattle.ped_tree.specs.Tree.{ProgramTree};
 ghost use Rattle.ped_eval.specs.Outcomes.{Outcome, outcome, outcome_of, run_of};
+
+pub use evaluation::{eval, truth};
+pub use outcomes::{LiveRow, Outcome};
+pub use runs::run_in_order;
+pub use scopes::{Frame, Scope};
 
 /// A program has one outcome on its data, and its list of acts and their ending tell it.
 pub fn one_outcome()

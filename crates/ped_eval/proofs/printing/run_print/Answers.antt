@@ -1,0 +1,31 @@
+use Rattle.std.proofs.Common.{◌≡◌, List, ℕ, map, Ok, Err, refl, sym, ap, subst, ◌∙◌}
+use Rattle.ped_tree.specs.Views.{item_tree}
+use Rattle.ped_store.specs.Memories.{Memory, with_printed}
+use Rattle.ped_store.specs.Keeping.{memory_of}
+use Rattle.ped_eval.specs.ScopeViews.{names_at}
+use Rattle.ped_eval.specs.Statements.{printed_line}
+use Rattle.ped_eval.specs.Items.{IsPrinted}
+use Rattle.ped_eval.specs.declared.printing.PrintError.{PrintError}
+use Rattle.ped_eval.specs.Readiness.{IsReady}
+use Rattle.ped_eval.proofs.Prints.{ready_printed, print_ran, print_failed}
+use Rattle.ped_eval.proofs.printing.run_print.Goals as goal
+
+pub returns-in-Ok-put_line-clause-told : goal.returns-in-Ok-put_line-clause-told
+returns-in-Ok-put_line-clause-told c =
+    let m = memory_of c.args.state.now.store in
+    let q : memory_of c.put_line.new.self ≡ with_printed c.as_slice.result.now m = c.in-Ok-put_line.ensures.ok in
+    print_ran c.args.symbols.now c.args.state.now.scope c.args.number (map item_tree c.args.items.now) m c.requires.ready (memory_of c.put_line.new.self) c.as_slice.result.now (c.in-Ok.ensures ∙ ap Ok (sym c.as_slice.ensures)) q
+
+pub returns-in-Ok-put_line-clause-ready : goal.returns-in-Ok-put_line-clause-ready
+returns-in-Ok-put_line-clause-ready c =
+    let m = memory_of c.args.state.now.store in
+    let q : memory_of c.put_line.new.self ≡ with_printed c.as_slice.result.now m = c.in-Ok-put_line.ensures.ok in
+    (refl, subst (λ (k : Memory). IsReady c.args.symbols.now c.args.state.now.scope k) (sym q) (ready_printed c.args.symbols.now c.args.state.now.scope c.as_slice.result.now m c.requires.ready))
+
+pub returns-in-Err-Fault-clause-told : goal.returns-in-Err-Fault-clause-told
+returns-in-Err-Fault-clause-told c =
+    let m = memory_of c.args.state.now.store in
+    let line = (printed_line (names_at m c.args.state.now.scope c.args.symbols.now.constants) (map item_tree c.args.items.now) m.cells).result in
+    let h : line ≡ Err c.in-Err-Fault.fault = subst (λ (e : PrintError). IsPrinted line (Err e)) c.in-Err-Fault.field-0-is c.in-Err-Fault.ensures in
+    let t : ⊥ = c.in-Err-Fault.fault-is in
+    print_failed c.args.symbols.now c.args.state.now.scope c.args.number (map item_tree c.args.items.now) m c.requires.ready m c.in-Err-Fault.fault h

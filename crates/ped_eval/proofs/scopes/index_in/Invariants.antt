@@ -1,0 +1,10 @@
+use Rattle.std.proofs.Common.{◌≡◌, length}
+use Rattle.ped_eval.specs.Scopes.{index_value}
+use Rattle.ped_eval.specs.ScopeViews.{scope_view}
+use Rattle.ped_eval.proofs.scopes.index_in.Given as goal
+
+abbrev pub invariant-loop-innermost : goal.invariant-loop-innermost
+invariant-loop-innermost l = index_value (scope_view l.left) l.name ≡ index_value (scope_view l.frames) l.name
+
+abbrev pub decreases-loop-innermost : goal.decreases-loop-innermost
+decreases-loop-innermost l = length l.left

@@ -1,0 +1,127 @@
+//! PRINT (ANSI X3.9-1978, section 12.8).
+
+ghost use Rattle.std.specs.Prelude.{◌≡◌, ◌+◌, ◌++◌, ℕ, List, map, Ok, Err, OnOk};
+ghost use Rattle.std.specs.Fmt.{signed_decimal};
+ghost use Rattle.ped_tree.specs.Tree.{Print};
+ghost use Rattle.ped_tree.specs.Views.{expr_tree, item_tree};
+ghost use Rattle.ped_store.specs.Keeping.{memory_of};
+ghost use Rattle.ped_eval.specs.ScopeViews.{names_at};
+ghost use Rattle.ped_eval.specs.Runs as Runs;
+ghost use Rattle.ped_eval.specs.Statements.{item_text, printed_line};
+ghost use Rattle.ped_eval.specs.Readiness.{setting_by, IsReady, CanDo};
+ghost use Rattle.ped_eval.specs.Told.{Ran, StaysReady};
+ghost use Rattle.ped_eval.specs.Items.{blank_before, IsPrinted, IsAdded};
+
+use crate::evaluation::eval;
+use crate::states::{Flow, RunError, State};
+use itoa::Buffer;
+use ped_base::{Bytes, NoMemory};
+use ped_symbols::Symbols;
+use ped_tree::PrintItem;
+use std::alloc::Global;
+
+/// Why a PRINT has written nothing.
+#[derive(Clone, Copy)]
+pub(crate) enum PrintError {
+    /// The fault with this number.
+    Fault(u8),
+    /// Want of memory.
+    NoMemory,
+}
+
+impl From<NoMemory> for PrintError {
+    ghost use Rattle.std.specs.Prelude.{◌≡◌};
+    ghost use Rattle.ped_eval.specs.declared.printing.PrintError.TheVariants as variant;
+
+    ghost from_gives = { λ _ e. e ≡ variant.NoMemory };
+
+    fn from(_: NoMemory) -> PrintError {
+        PrintError::NoMemory
+    }
+}
+
+/// Runs the PRINT with this number: its items are evaluated, and then the line is written.
+pub(crate) fn run_print(
+    alloc: Global,
+    symbols: &Symbols,
+    state: &mut State,
+    items: &[PrintItem],
+    number: u32,
+) -> Result<Flow, RunError>
+    requires can { CanDo symbols.now state.old.scope number (Print (map item_tree items.now)) }
+    requires ready { IsReady symbols.now state.old.scope (memory_of state.old.store) }
+    ensures told { Ran state.old.scope number (memory_of state.old.store) (number + 1) result (memory_of state.new.store)
+        (Runs.run (setting_by symbols.now) (Print (map item_tree items.now)) number state.old.scope) }
+    ensures ready { StaysReady symbols.now result state.old.scope state.new.scope (memory_of state.new.store) }
+{
+    match line_of(alloc, symbols, state, items) {
+        Ok(line) => match state.store.put_line(alloc, line.as_slice()) {
+            Ok(()) => return Ok(Flow::Going),
+            Err(_) => return Err(RunError::NoMemory),
+        },
+        Err(PrintError::Fault(fault)) => return Err(RunError::Fault {
+            number: fault,
+            statement: number,
+        }),
+        Err(PrintError::NoMemory) => return Err(RunError::NoMemory),
+    }
+}
+
+/// The line that a PRINT of these items writes.
+fn line_of(
+    alloc: Global,
+    symbols: &Symbols,
+    state: &State,
+    items: &[PrintItem],
+) -> Result<Bytes, PrintError>
+    ensures { IsPrinted (printed_line (names_at (memory_of state.now.store) state.now.scope symbols.now.constants) (map item_tree items.now) (memory_of state.now.store).cells).result result }
+{
+    let mut line = Bytes::new(alloc);
+    for i in 0..items.len() {
+        add_blank(&mut line, i)?;
+        add_item(&mut line, symbols, state, &items[i])?;
+    }
+    Ok(line)
+}
+
+/// Adds the blank that goes before each item but the first.
+fn add_blank(line: &mut Bytes, item: usize) -> Result<(), NoMemory>
+    ensures { OnOk result (line.new ≡ line.old ++ blank_before item) }
+{
+    if item == 0 {
+        return Ok(());
+    }
+    line.push(b' ')
+}
+
+/// Adds the text of an item to a line.
+fn add_item(
+    line: &mut Bytes,
+    symbols: &Symbols,
+    state: &State,
+    item: &PrintItem,
+) -> Result<(), PrintError>
+    ensures { IsAdded (item_text (names_at (memory_of state.now.store) state.now.scope symbols.now.constants) (item_tree item.now) (memory_of state.now.store).cells).result line.old line.new result }
+{
+    match item {
+        PrintItem::Value(e) => match eval(e, &state.store, &state.scope, symbols.consts()) {
+            Ok(number) => match add_number(line, number) {
+                Ok(()) => return Ok(()),
+                Err(_) => return Err(PrintError::NoMemory),
+            },
+            Err(fault) => return Err(PrintError::Fault(fault)),
+        },
+        PrintItem::Text(text) => match line.extend_from_slice(text.as_slice()) {
+            Ok(()) => return Ok(()),
+            Err(_) => return Err(PrintError::NoMemory),
+        },
+    }
+}
+
+/// Adds a number in decimal.
+fn add_number(line: &mut Bytes, number: i128) -> Result<(), NoMemory>
+    ensures { OnOk result (line.new ≡ line.old ++ signed_decimal number) }
+{
+    let mut buffer = Buffer::new();
+    line.extend_from_slice(buffer.format(number).as_bytes())
+}

@@ -1,0 +1,194 @@
+//! The iterations of DO loops round a place of a run, and what scalars stand for there.
+
+ghost use Rattle.std.specs.Prelude.{◌≡◌, ◌<◌, ◌≤◌, ◌-◌, ◌+◌, ◌++◌, ◌∷◌, [], length, map, replicate, MatchOption, OnOk, OnErr};
+ghost use Rattle.ped_store.specs.Cells.{Private};
+ghost use Rattle.ped_store.specs.Acts.{iterations_of};
+ghost use Rattle.ped_store.specs.CellViews.{cell_view, IsCell};
+ghost use Rattle.ped_eval.specs.Scopes as Scopes;
+ghost use Rattle.ped_eval.specs.ScopeViews.{frame_view, scope_view, with_turn, outside};
+
+use ped_base::{Name, Names, NoMemory};
+use ped_names::is_among;
+use ped_store::Cell;
+use std::alloc::Global;
+use std::marker::Model;
+
+/// An iteration of a DO loop that a body stands in (ANSI X3.9-1978, section 11.10).
+#[derive(Drop)]
+pub struct Frame {
+    /// The statement number of the DO.
+    pub statement: u32,
+    /// Whether it is a PARALLEL DO.
+    pub parallel: bool,
+    /// The number of the iteration, from 1.
+    pub number: u64,
+    /// The value of the variable in it.
+    pub value: i128,
+    /// The variable of the DO.
+    pub variable: Name,
+    /// The names of which the iteration has its own copies.
+    pub private: Names,
+}
+
+/// The iterations round a place, at most six. Contracts see the innermost first.
+#[derive(Drop)]
+pub struct Scope {
+    frames: Vec<Frame>,
+}
+
+impl Model for Scope {
+    ghost use Rattle.std.specs.Prelude.{◌≤◌, length};
+    ghost use Rattle.ped_eval.specs.Scopes as Scopes;
+    ghost use Rattle.ped_eval.specs.ScopeViews.{scope_view};
+
+    ghost Value = { Scopes.Scope };
+
+    ghost view = { λ s. scope_view s.frames.items };
+
+    ghost invariant = { λ s. length s.frames.items ≤ 6 };
+}
+
+impl Scope {
+    /// Outside all loops.
+    pub fn new(alloc: Global) -> Scope
+        ensures { result ≡ [] }
+    {
+        Scope {
+            frames: Vec::new(alloc),
+        }
+    }
+
+    /// Goes into an iteration. After want of memory the scope is as it was.
+    pub fn enter(&mut self, frame: Frame) -> Result<(), NoMemory>
+        requires { length self.old < 6 }
+        ensures ok { OnOk result (self.new ≡ frame_view frame ∷ self.old) }
+        ensures err { OnErr result (self.new ≡ self.old) }
+    {
+        self.frames.push(frame)?;
+        Ok(())
+    }
+
+    /// Goes on to another iteration of the innermost loop, in which its variable has this value.
+    pub fn turn(&mut self, number: u64, value: i128)
+        requires { 0 < length self.old }
+        ensures { self.new ≡ with_turn number value self.old }
+    {
+        turn_last(&mut self.frames, number, value)
+    }
+
+    /// Leaves the innermost loop.
+    pub fn leave(&mut self)
+        requires { 0 < length self.old }
+        ensures { self.new ≡ outside self.old }
+    {
+        self.frames.pop();
+    }
+
+    /// The cell that a scalar stands for: the copy of the innermost iteration to which it is private, or else its own
+    /// cell.
+    pub fn cell(&self, name: &Name) -> Cell
+        ensures cell { IsCell result }
+        ensures view { cell_view result ≡ Scopes.cell_of self.now name.now }
+    {
+        cell_in(&self.frames, name)
+    }
+
+    /// The value of the variable of a DO round the place; none for any other name.
+    pub fn index(&self, name: &Name) -> Option<i128>
+        ensures { result ≡ Scopes.index_value self.now name.now }
+    {
+        index_in(&self.frames, name)
+    }
+}
+
+/// Another iteration of the innermost loop.
+fn turn_last(frames: &mut [Frame], number: u64, value: i128)
+    requires { 0 < length frames.old }
+    ensures turned { scope_view frames.new ≡ with_turn number value (scope_view frames.old) }
+    ensures length { length frames.new ≡ length frames.old }
+{
+    if let Some(frame) = frames.last_mut() {
+        frame.number = number;
+        frame.value = value;
+    }
+}
+
+/// The innermost iteration and those round it.
+fn split_innermost(frames: &[Frame]) -> Option<(&Frame, &[Frame])>
+    ensures is { MatchOption result (frames.now ≡ []) (λ p. scope_view frames.now ≡ frame_view p.0.now ∷ scope_view p.1.now) }
+    ensures less { MatchOption result (frames.now ≡ []) (λ p. length p.1.now + 1 ≡ length frames.now) }
+{
+    match frames.split_last() {
+        Some((innermost, outer)) => Some((innermost, outer)),
+        None => None,
+    }
+}
+
+/// The cell that a scalar stands for in these iterations.
+fn cell_in(frames: &[Frame], name: &Name) -> Cell
+    requires { length frames.now ≤ 6 }
+    ensures cell { IsCell result }
+    ensures view { cell_view result ≡ Scopes.cell_of (scope_view frames.now) name.now }
+{
+    let mut left = frames;
+    while let Some((innermost, outer)) = split_innermost(left) {
+        if is_among(name, innermost.private.as_slice()) {
+            return copy_in(left, name);
+        }
+        left = outer;
+    }
+    Cell::Scalar(*name)
+}
+
+/// The copy of a scalar that belongs to the innermost of these iterations.
+fn copy_in(frames: &[Frame], name: &Name) -> Cell
+    requires some { 0 < length frames.now }
+    requires few { length frames.now ≤ 6 }
+    ensures cell { IsCell result }
+    ensures view { cell_view result ≡ Private name.now (iterations_of (Scopes.turns_of (scope_view frames.now))) }
+{
+    Cell::Private {
+        name: *name,
+        depth: frames.len() as u8,
+        dos: dos_of(frames),
+        iterations: numbers_of(frames),
+    }
+}
+
+/// The statement numbers of the DO loops, and 0 in the places past them.
+fn dos_of(frames: &[Frame]) -> [u32; 6]
+    requires { length frames.now ≤ 6 }
+    ensures { result ≡ map (λ f. f.statement) frames.now ++ replicate (6 - length frames.now) 0 }
+{
+    let mut dos = [0; 6];
+    for i in 0..frames.len() {
+        dos[i] = frames[i].statement;
+    }
+    dos
+}
+
+/// The numbers of the iterations, and 0 in the places past them.
+fn numbers_of(frames: &[Frame]) -> [u64; 6]
+    requires { length frames.now ≤ 6 }
+    ensures { result ≡ map (λ f. f.number) frames.now ++ replicate (6 - length frames.now) 0 }
+{
+    let mut numbers = [0; 6];
+    for i in 0..frames.len() {
+        numbers[i] = frames[i].number;
+    }
+    numbers
+}
+
+/// The value of the variable of a DO in these iterations.
+fn index_in(frames: &[Frame], name: &Name) -> Option<i128>
+    ensures { result ≡ Scopes.index_value (scope_view frames.now) name.now }
+{
+    let mut left = frames;
+    while let Some((innermost, outer)) = split_innermost(left) {
+        if *name == innermost.variable {
+            return Some(innermost.value);
+        }
+        left = outer;
+    }
+    None
+}

@@ -1,0 +1,224 @@
+//! Statements in order.
+
+ghost use Rattle.std.specs.Prelude.{◌≡◌, ◌<◌, ◌+◌, ◌∷◌, ℕ, true, Ok, Err, OnOk, IfErr};
+ghost use Rattle.ped_tree.specs.Tree.{Assign};
+ghost use Rattle.ped_tree.specs.Views.{expr_tree, stmt_tree, stmt_trees, do_tree};
+ghost use Rattle.ped_tree.specs.Numbering.{statement_count, statements_count};
+ghost use Rattle.ped_store.specs.Stores.{Number};
+ghost use Rattle.ped_store.specs.Memories.{with_content};
+ghost use Rattle.ped_store.specs.Keeping.{memory_of};
+ghost use Rattle.ped_eval.specs.ScopeViews.{names_at, outside};
+ghost use Rattle.ped_eval.specs.Statements.{Stored, assigned};
+ghost use Rattle.ped_eval.specs.Loops.{frame};
+ghost use Rattle.ped_eval.specs.Runs as Runs;
+ghost use Rattle.ped_uses.specs.RightUses.{target_is_right};
+ghost use Rattle.ped_eval.specs.Readiness.{kinds_by, setting_by, IsReady, CanDo, CanRun};
+ghost use Rattle.ped_eval.specs.Agreement.{before, before_turn};
+ghost use Rattle.ped_eval.specs.Plans.{entered_by, head_of, IsPlan};
+ghost use Rattle.ped_eval.specs.Turns.{turns_end, body_run};
+ghost use Rattle.ped_eval.specs.Told.{Ran, TellsFrom, StaysReady, OnGoing, OnStopped};
+
+use crate::counts::{count, count_all};
+use crate::evaluation::{eval, target_cell, truth};
+use crate::exits::leave_loop;
+use crate::plans::{Plan, plan_of};
+use crate::printing::run_print;
+use crate::reading::run_read;
+use crate::states::{Flow, RunError, State};
+use crate::turns::{close_copies, enter_loop, open_turn};
+use ped_symbols::Symbols;
+use ped_tree::{Do, Expr, Stmt};
+use std::alloc::Global;
+
+/// Runs statements, of which the first has this number.
+///
+/// # Errors
+///
+/// `Fault` with the first fault and its statement, or `NoMemory`.
+#[cycle(run)]
+pub(crate) fn run_all(
+    alloc: Global,
+    symbols: &Symbols,
+    state: &mut State,
+    stmts: &[Stmt],
+    first: u32,
+) -> Result<Flow, RunError>
+    requires can { CanRun symbols.now state.old.scope first (stmt_trees stmts.now) }
+    requires ready { IsReady symbols.now state.old.scope (memory_of state.old.store) }
+    ensures told { Ran state.old.scope first (memory_of state.old.store) (first + statements_count (stmt_trees stmts.now)) result (memory_of state.new.store)
+        (Runs.run_all (setting_by symbols.now) (stmt_trees stmts.now) first state.old.scope) }
+    ensures ready { StaysReady symbols.now result state.old.scope state.new.scope (memory_of state.new.store) }
+{
+    let mut number = first;
+    for stmt in stmts {
+        match run_one(alloc, symbols, state, stmt, number) {
+            Ok(Flow::Going) => number += count(stmt),
+            Ok(Flow::Stopped) => return Ok(Flow::Stopped),
+            Err(error) => return Err(error),
+        }
+    }
+    Ok(Flow::Going)
+}
+
+/// Runs the statement with this number, or a comment before it.
+#[cycle(run)]
+fn run_one(
+    alloc: Global,
+    symbols: &Symbols,
+    state: &mut State,
+    stmt: &Stmt,
+    number: u32,
+) -> Result<Flow, RunError>
+    requires can { CanDo symbols.now state.old.scope number (stmt_tree stmt.now) }
+    requires ready { IsReady symbols.now state.old.scope (memory_of state.old.store) }
+    ensures told { Ran state.old.scope number (memory_of state.old.store) (number + statement_count (stmt_tree stmt.now)) result (memory_of state.new.store)
+        (Runs.run (setting_by symbols.now) (stmt_tree stmt.now) number state.old.scope) }
+    ensures ready { StaysReady symbols.now result state.old.scope state.new.scope (memory_of state.new.store) }
+{
+    match stmt {
+        Stmt::Assign { left, right } => return run_assignment(symbols, state, left, right, number),
+        Stmt::If {
+            condition,
+            then_part,
+            else_part,
+        } => match truth(condition, &state.store, &state.scope, symbols.consts()) {
+            Ok(true) => return run_all(alloc, symbols, state, then_part, number + 1),
+            Ok(false) => {
+                let behind = number + 1 + count_all(then_part);
+                return run_all(alloc, symbols, state, else_part, behind);
+            }
+            Err(fault) => return Err(RunError::Fault {
+                number: fault,
+                statement: number,
+            }),
+        },
+        Stmt::Do(d) => return run_do(alloc, symbols, state, d, number),
+        Stmt::Print(items) => return run_print(alloc, symbols, state, items, number),
+        Stmt::Read(items) => return run_read(symbols, state, items, number),
+        Stmt::Stop => return Ok(Flow::Stopped),
+        Stmt::Comment(_) => return Ok(Flow::Going),
+    }
+}
+
+/// Runs the assignment with this number (ANSI X3.9-1978, section 10.1).
+fn run_assignment(
+    symbols: &Symbols,
+    state: &mut State,
+    left: &Expr,
+    right: &Expr,
+    number: u32,
+) -> Result<Flow, RunError>
+    requires can { CanDo symbols.now state.old.scope number (Assign (expr_tree left.now) (expr_tree right.now)) }
+    requires ready { IsReady symbols.now state.old.scope (memory_of state.old.store) }
+    ensures told { Ran state.old.scope number (memory_of state.old.store) (number + 1) result (memory_of state.new.store)
+        (Runs.run (setting_by symbols.now) (Assign (expr_tree left.now) (expr_tree right.now)) number state.old.scope) }
+    ensures ready { StaysReady symbols.now result state.old.scope state.new.scope (memory_of state.new.store) }
+{
+    match assign(symbols, state, left, right) {
+        Ok(()) => return Ok(Flow::Going),
+        Err(fault) => return Err(RunError::Fault {
+            number: fault,
+            statement: number,
+        }),
+    }
+}
+
+/// Stores the value of the right side in the cell of the left side.
+fn assign(symbols: &Symbols, state: &mut State, left: &Expr, right: &Expr) -> Result<(), u8>
+    requires right { target_is_right (kinds_by symbols.now) (expr_tree left.now) ≡ true }
+    requires ready { IsReady symbols.now state.old.scope (memory_of state.old.store) }
+    ensures ok { OnOk result ((w : Stored) × ((assigned (names_at (memory_of state.old.store) state.old.scope symbols.now.constants) (expr_tree left.now) (expr_tree right.now) (memory_of state.old.store).cells).result ≡ Ok w)
+        × (memory_of state.new.store ≡ with_content w.cell (Number w.number) (memory_of state.old.store))) }
+    ensures err { IfErr result (λ n. (assigned (names_at (memory_of state.old.store) state.old.scope symbols.now.constants) (expr_tree left.now) (expr_tree right.now) (memory_of state.old.store).cells).result ≡ Err n) }
+    ensures scope { state.new.scope ≡ state.old.scope }
+{
+    let value = eval(right, &state.store, &state.scope, symbols.consts())?;
+    let cell = target_cell(left, &state.store, &state.scope, symbols.consts())?;
+    state.store.set(&cell, value)
+}
+
+/// Runs the DO with this number (ANSI X3.9-1978, section 11.10).
+#[cycle(run)]
+fn run_do(
+    alloc: Global,
+    symbols: &Symbols,
+    state: &mut State,
+    d: &Do,
+    number: u32,
+) -> Result<Flow, RunError>
+    requires can { CanDo symbols.now state.old.scope number (do_tree d.now) }
+    requires ready { IsReady symbols.now state.old.scope (memory_of state.old.store) }
+    ensures told { Ran state.old.scope number (memory_of state.old.store) (number + statement_count (do_tree d.now)) result (memory_of state.new.store)
+        (Runs.run (setting_by symbols.now) (do_tree d.now) number state.old.scope) }
+    ensures ready { StaysReady symbols.now result state.old.scope state.new.scope (memory_of state.new.store) }
+{
+    match plan_of(alloc, symbols, state, d, number) {
+        Ok(plan) => return run_turns(alloc, symbols, state, d, &plan),
+        Err(error) => return Err(error),
+    }
+}
+
+/// Runs the iterations of a DO that has been entered, and leaves it.
+#[cycle(run)]
+fn run_turns(
+    alloc: Global,
+    symbols: &Symbols,
+    state: &mut State,
+    d: &Do,
+    plan: &Plan,
+) -> Result<Flow, RunError>
+    requires can { CanDo symbols.now state.old.scope plan.now.number (do_tree d.now) }
+    requires ready { IsReady symbols.now state.old.scope (memory_of state.old.store) }
+    requires plan { IsPlan (head_of d.now) (stmt_trees d.now.body.items) plan.now }
+    ensures told { (behind : ℕ) → TellsFrom state.old.scope (before state.old.scope plan.now.number) (memory_of state.old.store).cells (before state.old.scope (plan.now.number + statement_count (do_tree d.now))) result (memory_of state.new.store).cells
+        (turns_end plan.now.count 1 (entered_by (head_of d.now) plan.now behind) state.old.scope (body_run (setting_by symbols.now) (stmt_trees d.now.body.items) plan.now.number state.old.scope)) }
+    ensures ready { StaysReady symbols.now result state.old.scope state.new.scope (memory_of state.new.store) }
+{
+    match enter_loop(alloc, state, d, plan) {
+        Ok(()) => {}
+        Err(_) => return Err(RunError::NoMemory),
+    }
+    for earlier in 0..plan.count {
+        match run_turn(alloc, symbols, state, d, plan, earlier) {
+            Ok(Flow::Going) => {}
+            Ok(Flow::Stopped) => return Ok(Flow::Stopped),
+            Err(error) => return Err(error),
+        }
+    }
+    leave_loop(state, d, plan);
+    Ok(Flow::Going)
+}
+
+/// Runs the iteration of a DO before which there are so many.
+#[cycle(run)]
+fn run_turn(
+    alloc: Global,
+    symbols: &Symbols,
+    state: &mut State,
+    d: &Do,
+    plan: &Plan,
+    earlier: u64,
+) -> Result<Flow, RunError>
+    requires can { CanDo symbols.now (outside state.old.scope) plan.now.number (do_tree d.now) }
+    requires ready { IsReady symbols.now (outside state.old.scope) (memory_of state.old.store) }
+    requires plan { IsPlan (head_of d.now) (stmt_trees d.now.body.items) plan.now }
+    requires earlier { earlier < plan.now.count }
+    requires inside { state.old.scope ≡ frame (entered_by (head_of d.now) plan.now 0) earlier ∷ outside state.old.scope }
+    ensures told { TellsFrom (outside state.old.scope) (before_turn (outside state.old.scope) plan.now.number (earlier + 1)) (memory_of state.old.store).cells (before_turn (outside state.old.scope) plan.now.number (earlier + 2)) result (memory_of state.new.store).cells
+        (λ s. (body_run (setting_by symbols.now) (stmt_trees d.now.body.items) plan.now.number (outside state.old.scope) (frame (entered_by (head_of d.now) plan.now 0) (earlier + 1)) s).ending) }
+    ensures ready { OnGoing result ((state.new.scope ≡ frame (entered_by (head_of d.now) plan.now 0) (earlier + 1) ∷ outside state.old.scope) × IsReady symbols.now (outside state.old.scope) (memory_of state.new.store)) }
+    ensures bounds { OnStopped result ((memory_of state.new.store).bounds ≡ (setting_by symbols.now).bounds) }
+{
+    match open_turn(alloc, state, d, plan, earlier) {
+        Ok(()) => {}
+        Err(_) => return Err(RunError::NoMemory),
+    }
+    match run_all(alloc, symbols, state, &d.body, plan.number + 1) {
+        Ok(Flow::Going) => {
+            close_copies(state, plan.copied.as_slice());
+            return Ok(Flow::Going);
+        }
+        Ok(Flow::Stopped) => return Ok(Flow::Stopped),
+        Err(error) => return Err(error),
+    }
+}

@@ -1,5 +1,5 @@
 -- The line of a PRINT, item by item, and how its run ends.
-use Rattle.std.proofs.Common.{◌≡◌, ℕ, ◌+◌, ◌<◌, ◌≤◌, ℤ, List, [], ◌∷◌, ◌++◌, length, get_or, drop, map, Bool, true, false, Result, Ok, Err, if◌then◌else◌, eqb, eqb-true, refl, sym, ap, subst, ◌∙◌, arith, append_assoc, append-nil}
+use Rattle.std.proofs.Common.{◌≡◌, ℕ, ◌+◌, ◌<◌, ◌≤◌, List, [], ◌∷◌, ◌++◌, length, get_or, drop, map, Bool, true, false, Result, Ok, Err, if◌then◌else◌, eqb, eqb-true, refl, sym, ap, subst, ◌∙◌, arith, append_assoc, append-nil}
 use Rattle.std.specs.Prelude.{◌==◌}
 use Rattle.std.specs.List.{join_with_byte, flat_map}
 use Rattle.std.proofs.lemmas.List.{at_drop_all}
@@ -117,8 +117,8 @@ module _ (table : Table) (scope : Scope) (n : ℕ) (items : List ItemTree) (m : 
       (subst (λ (u : Store). Agrees scope (before scope (n + 1)) u (with_line line s)) (sym (ap (λ (k : Memory). k.cells) q ∙ same)) after)
 
   -- a fault of a PRINT ends its run
-  pub print_failed : (new : Memory) (k : ℕ) → (printed_line (names_at m scope table.constants) items m.cells).result ≡ Err k
-      → Ran scope n m (n + 1) (Err (error.Fault k n)) new (run (setting_by table) (Print items) n scope)
-  print_failed new k h s g =
+  pub print_failed : (new : Memory) (fault k : ℕ) → fault ≡ k → (printed_line (names_at m scope table.constants) items m.cells).result ≡ Err k
+      → Ran scope n m (n + 1) (Err (error.Fault fault n)) new (run (setting_by table) (Print items) n scope)
+  print_failed new fault k is h s g =
       let e : (printed_line (names_in (setting_by table) scope) items s).result ≡ Err k = kept s g ∙ h in
-      subst (λ (x : Ending). Fails k n x) (sym (print_fails (names_in (setting_by table) scope) (place_of (setting_by table) n scope) items s k e)) (refl, refl)
+      subst (λ (x : Ending). Fails fault n x) (sym (print_fails (names_in (setting_by table) scope) (place_of (setting_by table) n scope) items s k e)) (is, refl)

@@ -10,20 +10,20 @@ use Rattle.ped_tree.specs.Tree.{ExprTree, Read}
 use Rattle.ped_tree.specs.Views.{expr_tree}
 use Rattle.ped_symbols.specs.Kinds.{Table}
 use Rattle.ped_store.specs.Cells.{Cell, Scalar, Element, Private, In, Out}
-use Rattle.ped_store.specs.Stores.{Number, Store, is_storable, storable, out_of_range, outside_bounds, bad_data}
+use Rattle.ped_store.specs.Stores.{Number, is_storable, storable, out_of_range, outside_bounds, bad_data}
 use Rattle.ped_store.specs.Storage.{is_within}
 use Rattle.ped_store.specs.DataLines.{Data, Taken, begun, behind_blanks, word_of, behind_value, is_value, number_of, taken_from, value_from, next_value_of}
 use Rattle.std.specs.Str.Parse.{signed_digits_value}
 use Rattle.ped_store.specs.Keeping.{Kept, memory_of}
 use Rattle.ped_store.specs.Memories.{Memory, with_content, with_number, with_data, stored}
-use Rattle.ped_eval.specs.Scopes.{Scope, names_in, place_of}
+use Rattle.ped_eval.specs.Scopes.{Scope, place_of}
 use Rattle.ped_eval.specs.Values.{target}
 use Rattle.ped_eval.specs.Targets.{bounded}
 use Rattle.ped_uses.specs.RightUses.{NameKinds, target_is_right}
-use Rattle.ped_eval.specs.Readiness.{kinds_by, setting_by, IsReady}
+use Rattle.ped_eval.specs.Readiness.{setting_by, IsReady}
 use Rattle.ped_eval.specs.Takings.{names_with, item_taken, items_taken, read_taken}
-use Rattle.ped_eval.specs.Agreement.{before, Agrees}
-use Rattle.ped_eval.specs.Runs.{Ending, run, run_read}
+use Rattle.ped_eval.specs.Agreement.{before}
+use Rattle.ped_eval.specs.Runs.{Ending, run}
 use Rattle.ped_eval.specs.Told.{Goes, Fails, Ran}
 use Rattle.ped_eval.specs.declared.states.Flow.TheVariants as flow
 use Rattle.ped_eval.specs.declared.states.RunError.TheVariants as error

@@ -1,4 +1,4 @@
-use Rattle.std.proofs.Common.{◌≡◌, List, ℕ, map, Ok, Err, refl, sym, ap, subst, ◌∙◌}
+use Rattle.std.proofs.Common.{◌≡◌, map, Ok, Err, refl, sym, ap, subst, ◌∙◌}
 use Rattle.ped_tree.specs.Views.{item_tree}
 use Rattle.ped_store.specs.Memories.{Memory, with_printed}
 use Rattle.ped_store.specs.Keeping.{memory_of}
@@ -27,5 +27,4 @@ returns-in-Err-Fault-clause-told c =
     let m = memory_of c.args.state.now.store in
     let line = (printed_line (names_at m c.args.state.now.scope c.args.symbols.now.constants) (map item_tree c.args.items.now) m.cells).result in
     let h : line ≡ Err c.in-Err-Fault.fault = subst (λ (e : PrintError). IsPrinted line (Err e)) c.in-Err-Fault.field-0-is c.in-Err-Fault.ensures in
-    let t : ⊥ = c.in-Err-Fault.fault-is in
-    print_failed c.args.symbols.now c.args.state.now.scope c.args.number (map item_tree c.args.items.now) m c.requires.ready m c.in-Err-Fault.fault h
+    print_failed c.args.symbols.now c.args.state.now.scope c.args.number (map item_tree c.args.items.now) m c.requires.ready m _ c.in-Err-Fault.fault c.in-Err-Fault.fault-is h

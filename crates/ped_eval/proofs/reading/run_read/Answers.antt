@@ -1,4 +1,4 @@
-use Rattle.std.proofs.Common.{◌≡◌, map, sym, subst}
+use Rattle.std.proofs.Common.{map, sym, subst}
 use Rattle.ped_tree.specs.Views.{expr_tree}
 use Rattle.ped_store.specs.Keeping.{memory_of}
 use Rattle.ped_eval.specs.Scopes.{Scope}

@@ -1,15 +1,15 @@
 -- From what the paths do to a scalar to the answers.
-use Rattle.std.proofs.Common.{◌≡◌, ℕ, ◌+◌, ◌-◌, ◌≤◌, ◌<◌, Bool, true, false, not, ◌&&◌, ◌||◌, ◌==◌, ◌⊎◌, ◌↔◌, IsTrue, List, [], ◌∷◌, ◌++◌, length, Option, Some, None, refl, sym, ap, ◌∙◌, subst, inl, inr, if◌then◌else◌, arith, eqb-true, ltb, nat_lt}
+use Rattle.std.proofs.Common.{◌≡◌, ℕ, ◌+◌, ◌-◌, ◌≤◌, ◌<◌, Bool, true, false, not, ◌&&◌, ◌||◌, ◌==◌, ◌⊎◌, ◌↔◌, IsTrue, List, [], ◌∷◌, ◌++◌, length, Option, Some, None, refl, sym, ap, ◌∙◌, subst, inl, inr, if◌then◌else◌, arith, eqb-true, nat_lt}
 use Rattle.std.specs.List.{flat_map}
 use Rattle.ped_base.specs.Lists.{is_among}
 use Rattle.ped_tree.specs.Tree.{Head, StmtTree, StmtTrees, Assign, If, Do, Print, Read, Stop, Comment, no_stmts, more_stmts, ProgramTree}
-use Rattle.ped_tree.specs.Numbering.{numbered, all_numbered, at_place, statement_with, statement_count, statements_count}
+use Rattle.ped_tree.specs.Numbering.{numbered, all_numbered, at_place, statement_count, statements_count}
 use Rattle.ped_tree.specs.Accesses.{constant_names}
 use Rattle.ped_tree.proofs.Numbers.{at_place-back, length-numbered, length-all_numbered}
 use Rattle.ped_flow.specs.Events.{Event, start_events, overwrites, has_value}
-use Rattle.ped_flow.specs.PathSets.{Kind, Paths, Whole}
+use Rattle.ped_flow.specs.PathSets.{Kind, Whole}
 use Rattle.ped_flow.specs.Paths.{iteration, all_paths, paths_from_exit, paths_to_outermost}
-use Rattle.ped_flow.specs.Questions.{IsLoop, LoopOf, IsFirst, IsExposed, IsReadBehind, saved_in, IsShownBehind, IsLiveAfter, IsAssignedOn, IsAssignedThrough, IsAssignedBefore}
+use Rattle.ped_flow.specs.Questions.{IsLoop, IsFirst, IsExposed, IsReadBehind, saved_in, IsLiveAfter, IsAssignedOn, IsAssignedThrough, IsAssignedBefore}
 use Rattle.ped_flow.specs.Answers.{IsReader}
 use Rattle.ped_flow.specs.Summaries.{AreOnward, AreSummed, IsReadOn, sum_in_turn, sum_events, sum_of_all, sum_behind_all, sum_before_all}
 use Rattle.ped_flow.specs.Kept.{reader_by, reader_else}

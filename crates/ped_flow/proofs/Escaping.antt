@@ -1,14 +1,13 @@
 -- When a DO is contained, from its variables one by one.
-use Rattle.std.proofs.Common.{◌≡◌, ℕ, ◌+◌, Bool, true, false, not, ◌&&◌, ◌||◌, ◌⊎◌, ◌↔◌, IsTrue, List, [], ◌∷◌, ◌++◌, Option, Some, None, refl, sym, ap, ◌∙◌, subst, inl, inr}
+use Rattle.std.proofs.Common.{◌≡◌, ℕ, ◌+◌, Bool, true, false, ◌||◌, ◌⊎◌, ◌↔◌, IsTrue, List, [], ◌∷◌, ◌++◌, Option, Some, None, refl, sym, ap, ◌∙◌, subst, inl, inr}
 use Rattle.std.specs.List.{flat_map}
 use Rattle.ped_base.specs.Lists.{is_same_text, is_among}
 use Rattle.ped_tree.specs.Tree.{Head, StmtTrees, Do, ProgramTree}
 use Rattle.ped_tree.specs.Accesses.{constant_names}
 use Rattle.ped_names.proofs.NameEquality.{same_is, same_itself}
 use Rattle.ped_affine.specs.Assigned.{loop_variables}
-use Rattle.ped_flow.specs.Questions.{IsLoop, LoopOf, IsFirst, IsReadBehind, IsShownBehind, IsReadLoose, IsIndexIn, IsContained, IsBrokenBy, IsShown, IsLiveAfter, saved_in, all_reads_outside}
+use Rattle.ped_flow.specs.Questions.{IsLoop, IsFirst, IsReadBehind, IsShownBehind, IsReadLoose, IsIndexIn, IsContained, IsBrokenBy, IsLiveAfter, saved_in, all_reads_outside}
 use Rattle.ped_flow.specs.Answers.{IsEscape}
-use Rattle.ped_flow.specs.Summaries.{least_of}
 use Rattle.ped_flow.specs.Kept.{unless, all_first_outside}
 use Rattle.ped_flow.specs.Escapes.{behind_loop, escape_of, either_escape, escapes_of, if_shown, escaping}
 use Rattle.ped_flow.specs.declared.escapes.Escape.{Escape}
@@ -16,7 +15,7 @@ use Rattle.ped_flow.proofs.Truths.{untrue, and_iff, or_iff, or_split, iff_map}
 use Rattle.ped_flow.proofs.FirstLaws.{first_map, first_or}
 use Rattle.ped_flow.proofs.SumLaws.{least-assoc}
 use Rattle.ped_flow.proofs.TreeSums.{all_behind-summed}
-use Rattle.ped_flow.proofs.Answering.{read_behind, left_is, Left, same_head, same_body}
+use Rattle.ped_flow.proofs.Answering.{read_behind, left_is, same_head, same_body}
 use Rattle.ped_flow.proofs.LooseReads.{all_outside_first}
 
 or-assoc : (a b c : Bool) → ((a || b) || c) ≡ (a || (b || c))
@@ -37,8 +36,8 @@ module _ (t : ProgramTree) (l : ℕ) (h : Head) (body : StmtTrees) (is : IsLoop 
   loose_first x true a e f = λ k s. untrue (sym s.other ∙ ap (λ (g : Head). is_same_text x g.variable) (same_head t l s.loop.head h s.loop.body body s.loop.is is) ∙ e)
   loose_first x false a e f =
       first_map (λ k. IsTrue (all_reads_outside (constant_names t.decls) x k body (l + 1))) (IsReadLoose t l x) a
-          (λ k r. record { loop = record { head = h; body = body; is = is }; other = e; reads = r })
-          (λ k s. subst (λ (b : StmtTrees). IsTrue (all_reads_outside (constant_names t.decls) x k b (l + 1))) (same_body t l s.loop.head h s.loop.body body s.loop.is is) s.reads) f
+      (λ k r. record { loop = record { head = h; body = body; is = is }; other = e; reads = r })
+      (λ k s. subst (λ (b : StmtTrees). IsTrue (all_reads_outside (constant_names t.decls) x k b (l + 1))) (same_body t l s.loop.head h s.loop.body body s.loop.is is) s.reads) f
 
   -- a read of this scalar by which the DO isn't contained
   abbrev Breaks : List ℕ → ℕ → Type 0
@@ -47,13 +46,13 @@ module _ (t : ProgramTree) (l : ℕ) (h : Head) (body : StmtTrees) (is : IsLoop 
   breaks_first : (x : List ℕ) → IsFirst (Breaks x) (escape_of t l h body x).first
   breaks_first x =
       first_or (IsReadLoose t l x) (IsReadBehind t l x) (unless (is_same_text x h.variable) (all_first_outside (constant_names t.decls) x body (l + 1))) (behind_loop t l x).first
-          (loose_first x (is_same_text x h.variable) (all_first_outside (constant_names t.decls) x body (l + 1)) refl (all_outside_first (constant_names t.decls) x body (l + 1)))
-          (read_behind t l x (behind_loop t l x).first (all_behind-summed (constant_names t.decls) x l t.body 1).first)
+      (loose_first x (is_same_text x h.variable) (all_first_outside (constant_names t.decls) x body (l + 1)) refl (all_outside_first (constant_names t.decls) x body (l + 1)))
+      (read_behind t l x (behind_loop t l x).first (all_behind-summed (constant_names t.decls) x l t.body 1).first)
 
   shown_is : (x : List ℕ) → IsTrue (escape_of t l h body x).shown ↔ IsShownBehind t l x
   shown_is x =
       iff_map (and_iff ((behind_loop t l x).keeps || (behind_loop t l x).ends) (is_among x (flat_map saved_in t.decls)) (left_is t l x (behind_loop t l x) (all_behind-summed (constant_names t.decls) x l t.body 1)) (λ i. i, λ i. i))
-          (λ s. record { saved = s.1; path = s.0.0; leads = s.0.1; kept = s.0.2 }) (λ s. ((s.path, s.leads, s.kept), s.saved))
+      (λ s. record { saved = s.1; path = s.0.0; leads = s.0.1; kept = s.0.2 }) (λ s. ((s.path, s.leads, s.kept), s.saved))
 
   -- some of these scalars is so
   abbrev Some_of : List (List ℕ) → (List ℕ → Type 0) → Type 0
@@ -78,8 +77,8 @@ module _ (t : ProgramTree) (l : ℕ) (h : Head) (body : StmtTrees) (is : IsLoop 
   some_first [] = λ k s. untrue s.1
   some_first (y ∷ ys) =
       first_map (λ k. Breaks y k ⊎ Some_of ys (λ x. Breaks x k)) (λ k. Some_of (y ∷ ys) (λ x. Breaks x k)) (escapes_of t l h body (y ∷ ys)).first
-          (λ k s. to_more (λ x. Breaks x k) y ys s) (λ k s. from_more (λ x. Breaks x k) y ys s)
-          (first_or (Breaks y) (λ k. Some_of ys (λ x. Breaks x k)) (escape_of t l h body y).first (escapes_of t l h body ys).first (breaks_first y) (some_first ys))
+      (λ k s. to_more (λ x. Breaks x k) y ys s) (λ k s. from_more (λ x. Breaks x k) y ys s)
+      (first_or (Breaks y) (λ k. Some_of ys (λ x. Breaks x k)) (escape_of t l h body y).first (escapes_of t l h body ys).first (breaks_first y) (some_first ys))
 
   some_shown : (names : List (List ℕ)) → IsTrue (escapes_of t l h body names).shown ↔ Some_of names (IsShownBehind t l)
   some_shown [] = (λ i. untrue i, λ s. untrue s.1)
@@ -93,12 +92,12 @@ module _ (t : ProgramTree) (l : ℕ) (h : Head) (body : StmtTrees) (is : IsLoop 
   is_index : (x : List ℕ) → IsIndexIn t l x → IsTrue (is_among x (loop_variables (Do h body)))
   is_index x s =
       subst (λ (b : StmtTrees). IsTrue (is_among x (loop_variables (Do h b)))) (same_body t l s.loop.head h s.loop.body body s.loop.is is)
-          (subst (λ (g : Head). IsTrue (is_among x (loop_variables (Do g s.loop.body)))) (same_head t l s.loop.head h s.loop.body body s.loop.is is) s.among)
+      (subst (λ (g : Head). IsTrue (is_among x (loop_variables (Do g s.loop.body)))) (same_head t l s.loop.head h s.loop.body body s.loop.is is) s.among)
 
   broken_first : (a : Option ℕ) → IsFirst (λ k. Some_of (loop_variables (Do h body)) (λ x. Breaks x k)) a → IsFirst (IsBrokenBy t l) a
   broken_first a =
       first_map (λ k. Some_of (loop_variables (Do h body)) (λ x. Breaks x k)) (IsBrokenBy t l) a
-          (λ k s. record { scalar = s.0; index = index_is s.0 s.1; read = s.2 }) (λ k s. (s.scalar, is_index s.scalar s.index, s.read))
+      (λ k s. record { scalar = s.0; index = index_is s.0 s.1; read = s.2 }) (λ k s. (s.scalar, is_index s.scalar s.index, s.read))
 
   contained : IsFirst (IsBrokenBy t l) None → (Some_of (loop_variables (Do h body)) (IsShownBehind t l) → ⊥) → IsContained t l
   contained f g x i = (λ n r. f n record { scalar = x; index = i; read = inl r }, not_live)
@@ -119,7 +118,7 @@ module _ (t : ProgramTree) (l : ℕ) (h : Head) (body : StmtTrees) (is : IsLoop 
   pub escape_is : IsEscape t l (escaping (escapes_of t l h body (loop_variables (Do h body))).first (escapes_of t l h body (loop_variables (Do h body))).shown l)
   escape_is =
       by_first (escapes_of t l h body (loop_variables (Do h body))).first (escapes_of t l h body (loop_variables (Do h body))).shown (some_shown (loop_variables (Do h body)))
-          (broken_first (escapes_of t l h body (loop_variables (Do h body))).first (some_first (loop_variables (Do h body))))
+      (broken_first (escapes_of t l h body (loop_variables (Do h body))).first (some_first (loop_variables (Do h body))))
 
 pub escape_nowhere : (t : ProgramTree) (l : ℕ) → ((h : Head) (body : StmtTrees) → IsLoop t l h body → ⊥) → IsEscape t l None
 escape_nowhere t l none = λ x i. absurd (none i.loop.head i.loop.body i.loop.is)

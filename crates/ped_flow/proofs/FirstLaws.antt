@@ -1,5 +1,5 @@
 -- The least number of which something holds.
-use Rattle.std.proofs.Common.{◌≡◌, ℕ, ◌≤◌, Bool, true, false, ◌⊎◌, ◌↔◌, IsTrue, Option, Some, None, nat_le, refl, inl, inr, min, subst, arith, eqb-true, leb-true, leb-false}
+use Rattle.std.proofs.Common.{◌≡◌, ℕ, ◌≤◌, Bool, true, false, ◌⊎◌, ◌↔◌, IsTrue, Option, Some, None, nat_le, refl, inl, inr, min, subst, arith}
 use Rattle.ped_flow.specs.Questions.{IsFirst}
 use Rattle.ped_flow.specs.Summaries.{least_of, when}
 use Rattle.ped_flow.proofs.Truths.{untrue}

@@ -1,8 +1,8 @@
 -- The first statement that reads a scalar outside the bodies of all DO loops of it.
-use Rattle.std.proofs.Common.{◌≡◌, ℕ, ◌+◌, ◌≤◌, Bool, true, false, not, ◌&&◌, ◌||◌, ◌==◌, ◌⊎◌, IsTrue, List, [], ◌∷◌, Option, Some, None, refl, inl, inr, if◌then◌else◌, arith, eqb-true}
+use Rattle.std.proofs.Common.{◌≡◌, ℕ, ◌+◌, Bool, true, false, not, ◌&&◌, ◌||◌, ◌==◌, ◌⊎◌, IsTrue, List, [], ◌∷◌, Option, Some, None, refl, inl, inr, if◌then◌else◌, arith, eqb-true}
 use Rattle.std.specs.List.{list_any}
 use Rattle.ped_base.specs.Lists.{is_same_text}
-use Rattle.ped_tree.specs.Tree.{Head, StmtTree, StmtTrees, Assign, If, Do, Print, Read, Stop, Comment, no_stmts, more_stmts}
+use Rattle.ped_tree.specs.Tree.{StmtTree, StmtTrees, Assign, If, Do, Print, Read, Stop, Comment, no_stmts, more_stmts}
 use Rattle.ped_tree.specs.Numbering.{statement_count, statements_count}
 use Rattle.ped_flow.specs.Events.{Manner, reads, assigns, clears, Event, is_overwriting, is_read_by, own_events}
 use Rattle.ped_flow.specs.Questions.{IsFirst, reads_outside, all_reads_outside}
@@ -20,7 +20,7 @@ either_true false b (inr i) = i
 pub first_any : (f g : ℕ → Bool) (a b : Option ℕ) → IsFirst (λ k. IsTrue (f k)) a → IsFirst (λ k. IsTrue (g k)) b → IsFirst (λ k. IsTrue (f k || g k)) (least_of a b)
 first_any f g a b h i =
     first_map (λ k. IsTrue (f k) ⊎ IsTrue (g k)) (λ k. IsTrue (f k || g k)) (least_of a b) (λ k s. either_true (f k) (g k) s) (λ k s. or_split (f k) (g k) s)
-        (first_or (λ k. IsTrue (f k)) (λ k. IsTrue (g k)) a b h i)
+    (first_or (λ k. IsTrue (f k)) (λ k. IsTrue (g k)) a b h i)
 
 reader_by_parts : (same : Bool) (manner : Manner) (statement : ℕ) → IsFirst (λ k. IsTrue (same && not (is_overwriting manner) && statement == k)) (if same && not (is_overwriting manner) then Some statement else None)
 reader_by_parts false manner statement = λ k i. untrue i
@@ -41,15 +41,15 @@ mutual
   outside_first cs x (Assign left right) n = events_first x (own_events cs n (Assign left right))
   outside_first cs x (If c a b) n =
       first_any (λ k. list_any (is_read_by x k) (own_events cs n (If c a b))) (λ k. all_reads_outside cs x k a (n + 1) || all_reads_outside cs x k b (n + 1 + statements_count a))
-          (first_reader x (own_events cs n (If c a b))) (least_of (all_first_outside cs x a (n + 1)) (all_first_outside cs x b (n + 1 + statements_count a)))
-          (events_first x (own_events cs n (If c a b)))
-          (first_any (λ k. all_reads_outside cs x k a (n + 1)) (λ k. all_reads_outside cs x k b (n + 1 + statements_count a)) (all_first_outside cs x a (n + 1)) (all_first_outside cs x b (n + 1 + statements_count a))
-              (all_outside_first cs x a (n + 1)) (all_outside_first cs x b (n + 1 + statements_count a)))
+      (first_reader x (own_events cs n (If c a b))) (least_of (all_first_outside cs x a (n + 1)) (all_first_outside cs x b (n + 1 + statements_count a)))
+      (events_first x (own_events cs n (If c a b)))
+      (first_any (λ k. all_reads_outside cs x k a (n + 1)) (λ k. all_reads_outside cs x k b (n + 1 + statements_count a)) (all_first_outside cs x a (n + 1)) (all_first_outside cs x b (n + 1 + statements_count a))
+      (all_outside_first cs x a (n + 1)) (all_outside_first cs x b (n + 1 + statements_count a)))
   outside_first cs x (Do h body) n =
       first_any (λ k. list_any (is_read_by x k) (own_events cs n (Do h body))) (λ k. not (is_same_text x h.variable) && all_reads_outside cs x k body (n + 1))
-          (first_reader x (own_events cs n (Do h body))) (unless (is_same_text x h.variable) (all_first_outside cs x body (n + 1)))
-          (events_first x (own_events cs n (Do h body)))
-          (unless_first (is_same_text x h.variable) (λ k. all_reads_outside cs x k body (n + 1)) (all_first_outside cs x body (n + 1)) (all_outside_first cs x body (n + 1)))
+      (first_reader x (own_events cs n (Do h body))) (unless (is_same_text x h.variable) (all_first_outside cs x body (n + 1)))
+      (events_first x (own_events cs n (Do h body)))
+      (unless_first (is_same_text x h.variable) (λ k. all_reads_outside cs x k body (n + 1)) (all_first_outside cs x body (n + 1)) (all_outside_first cs x body (n + 1)))
   outside_first cs x (Print items) n = events_first x (own_events cs n (Print items))
   outside_first cs x (Read items) n = events_first x (own_events cs n (Read items))
   outside_first cs x Stop n = λ k i. untrue i
@@ -59,4 +59,4 @@ mutual
   all_outside_first cs x no_stmts n = λ k i. untrue i
   all_outside_first cs x (more_stmts s rest) n =
       first_any (λ k. reads_outside cs x k s n) (λ k. all_reads_outside cs x k rest (n + statement_count s)) (first_outside cs x s n) (all_first_outside cs x rest (n + statement_count s))
-          (outside_first cs x s n) (all_outside_first cs x rest (n + statement_count s))
+      (outside_first cs x s n) (all_outside_first cs x rest (n + statement_count s))

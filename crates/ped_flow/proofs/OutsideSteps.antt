@@ -1,5 +1,5 @@
 -- The first read of a scalar among events, from what the events do to it.
-use Rattle.std.proofs.Common.{◌≡◌, ℕ, ◌+◌, ◌<◌, Bool, true, false, not, ◌&&◌, List, [], ◌∷◌, ◌++◌, map, length, drop, get_or, Option, Some, None, refl, sym, ap, ◌∙◌, rules, if◌then◌else◌}
+use Rattle.std.proofs.Common.{◌≡◌, ℕ, ◌+◌, ◌<◌, Bool, true, false, ◌&&◌, List, [], ◌∷◌, ◌++◌, map, length, drop, get_or, Option, Some, None, refl, sym, ap, ◌∙◌, rules, if◌then◌else◌}
 use Rattle.std.specs.List.{flat_map}
 use Rattle.ped_base.specs.Lists.{is_same_text, is_among}
 use Rattle.ped_tree.specs.Tree as plain
@@ -14,11 +14,11 @@ use Rattle.ped_refs.specs.Loops.{head_of}
 use Rattle.ped_tree.specs.declared.expressions.Expr.{Expr}
 use Rattle.ped_tree.specs.declared.statements.Stmt.{Stmt}
 use Rattle.ped_tree.specs.declared.statements.Stmt as variant
-use Rattle.ped_flow.specs.Events.{Event, reads, assigns, event, reads_of, scalars_in, all_scalars_in, scalars_in_cond, scalars_in_item, left_events, unless_constant}
-use Rattle.ped_flow.specs.Summaries.{least_of, when, passing, of_manner, sum_in_turn, sum_event, sum_events}
+use Rattle.ped_flow.specs.Events.{Event, reads, assigns, event, reads_of, scalars_in, all_scalars_in, scalars_in_cond, scalars_in_item, left_events}
+use Rattle.ped_flow.specs.Summaries.{least_of, when, passing, of_manner, sum_events}
 use Rattle.ped_flow.specs.Kept.{reader_in, first_reader, unless, first_outside, all_first_outside}
 use Rattle.ped_flow.specs.declared.summaries.Summary.{Summary}
-use Rattle.ped_flow.proofs.SumLaws.{least-assoc, least-none}
+use Rattle.ped_flow.proofs.SumLaws.{least-assoc}
 use Rattle.ped_flow.proofs.ScalarSteps.{rest_is}
 
 pub first_reader-append : (x : List ℕ) (p q : List Event) → first_reader x (p ++ q) ≡ least_of (first_reader x p) (first_reader x q)
@@ -75,8 +75,8 @@ module _ (cs : List (List ℕ)) (x : List ℕ) (body : List Stmt) (i : ℕ) (s :
       ap (λ (z : Option ℕ). least_of z B) (e ∙ ap (least_of before) h)
       ∙ least-assoc before (first_outside cs x (stmt_tree s) n) B
       ∙ ap (least_of before)
-          ((λ j. least_of (first_outside cs x (stmt_tree s) n) (all_first_outside cs x (stmt_trees (drop (i + 1) body)) (k j)))
-          ∙ ap (λ (ss : StmtTrees). all_first_outside cs x ss n) (sym (ap stmt_trees (rest_is body i s within is))))
+      ((λ j. least_of (first_outside cs x (stmt_tree s) n) (all_first_outside cs x (stmt_trees (drop (i + 1) body)) (k j)))
+      ∙ ap (λ (ss : StmtTrees). all_first_outside cs x ss n) (sym (ap stmt_trees (rest_is body i s within is))))
       ∙ inv
 
 -- one more part: its first read, and that of the others

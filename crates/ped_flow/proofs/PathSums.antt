@@ -1,13 +1,13 @@
 -- What the paths of a whole do to a scalar, from what those of its parts do.
-use Rattle.std.proofs.Common.{◌≡◌, ℕ, zero, suc, Bool, true, false, not, ◌&&◌, ◌||◌, ◌⊎◌, ◌↔◌, IsTrue, List, [], ◌∷◌, ◌++◌, Option, Some, None, refl, sym, ap, ◌∙◌, subst, inl, inr, if◌then◌else◌, append-nil, arith, eqb-true, ◌==◌}
+use Rattle.std.proofs.Common.{◌≡◌, ℕ, zero, suc, Bool, true, false, not, ◌&&◌, ◌||◌, ◌⊎◌, ◌↔◌, IsTrue, List, [], ◌∷◌, ◌++◌, refl, sym, ap, ◌∙◌, inl, inr, if◌then◌else◌, append-nil, arith, eqb-true, ◌==◌}
 use Rattle.ped_base.specs.Lists.{is_same_text}
 use Rattle.ped_flow.specs.Events.{Manner, reads, assigns, clears, Event, is_overwriting, is_assigning, overwrites, reads_first, has_value}
 use Rattle.ped_flow.specs.PathSets.{Kind, Never, Just, Either, InTurn, Times, AnyTimes, Paths, going, nowhere, stopping, in_turn, either, trips, Whole}
 use Rattle.ped_flow.specs.Questions.{IsFirst}
 use Rattle.ped_flow.specs.Summaries.{AreOnward, AreSummed, IsReadOn, least_of, when, passing, unreached, stopped, of_manner, sum_in_turn, sum_either, sum_trips, sum_event, sum_events}
 use Rattle.ped_flow.specs.declared.summaries.Summary.{Summary}
-use Rattle.ped_flow.proofs.Truths.{untrue, and_iff, or_iff, iff_map, not_true}
-use Rattle.ped_flow.proofs.EventLaws.{overwrites-append, overwrites-parts, overwrites-whole, reads_first-parts, reads_first-front, reads_first-back, has_value-append, has_value-kept, has_value-lost, has_value-parts}
+use Rattle.ped_flow.proofs.Truths.{untrue, and_iff, or_iff, iff_map}
+use Rattle.ped_flow.proofs.EventLaws.{overwrites-parts, overwrites-whole, reads_first-parts, reads_first-front, reads_first-back, has_value-append, has_value-kept, has_value-lost, has_value-parts}
 use Rattle.ped_flow.proofs.FirstLaws.{first_map, first_or, first_when}
 
 -- a path of the kind leaves the scalar as it is

@@ -1,6 +1,6 @@
 -- What expressions and lists do to a scalar, from what their parts do.
-use Rattle.std.proofs.Common.{◌≡◌, ℕ, ◌+◌, ◌<◌, List, [], ◌∷◌, ◌++◌, map, length, drop, get_or, sym, ap, ◌∙◌, rules, drop-cons, add-one}
-use Rattle.std.specs.Global.{Vec, Box}
+use Rattle.std.proofs.Common.{◌≡◌, ℕ, ◌+◌, ◌<◌, List, ◌∷◌, ◌++◌, length, drop, get_or, sym, ap, ◌∙◌, rules, drop-cons, add-one}
+use Rattle.std.specs.Global.{Box}
 use Rattle.ped_tree.specs.Tree as plain
 use Rattle.ped_tree.specs.Views.{expr_tree, cond_tree}
 use Rattle.ped_tree.specs.declared.expressions.Expr.{Expr}
@@ -8,7 +8,7 @@ use Rattle.ped_tree.specs.declared.expressions.Expr as variant
 use Rattle.ped_tree.specs.declared.conditions.Cond.{Cond}
 use Rattle.ped_tree.specs.declared.conditions.Cond as cond
 use Rattle.ped_tree.specs.declared.conditions.Relation.{Relation}
-use Rattle.ped_flow.specs.Events.{Event, reads_of, scalars_in, scalars_in_cond}
+use Rattle.ped_flow.specs.Events.{reads_of, scalars_in, scalars_in_cond}
 use Rattle.ped_flow.specs.Summaries.{sum_in_turn, sum_events}
 use Rattle.ped_flow.specs.declared.summaries.Summary.{Summary}
 use Rattle.ped_flow.proofs.SumLaws.{in_turn-assoc, reads-append}

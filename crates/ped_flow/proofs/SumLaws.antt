@@ -1,9 +1,7 @@
 -- How summaries are put together, and those of events in order.
-use Rattle.std.proofs.Common.{◌≡◌, ℕ, min, Bool, true, false, ◌&&◌, ◌||◌, List, [], ◌∷◌, ◌++◌, map, Option, Some, None, refl, sym, ap, ◌∙◌, arith, if◌then◌else◌, drop, length, get_or, ◌<◌, ◌+◌}
-use Rattle.std.specs.List.{flat_map}
-use Rattle.std.proofs.lemmas.Grind.{common_steps}
+use Rattle.std.proofs.Common.{◌≡◌, ℕ, Bool, true, false, ◌&&◌, ◌||◌, List, [], ◌∷◌, ◌++◌, map, Option, Some, None, refl, sym, ap, ◌∙◌, arith, if◌then◌else◌}
 use Rattle.ped_base.specs.Lists.{is_same_text, is_among}
-use Rattle.ped_flow.specs.Events.{Event, Manner, reads, assigns, clears, event, reads_of}
+use Rattle.ped_flow.specs.Events.{Event, reads, assigns, clears, event, reads_of}
 use Rattle.ped_flow.specs.Summaries.{least_of, when, passing, unreached, of_manner, sum_in_turn, sum_either, sum_event, sum_events}
 use Rattle.ped_flow.specs.declared.summaries.Summary.{Summary}
 

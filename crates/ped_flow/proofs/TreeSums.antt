@@ -1,11 +1,11 @@
 -- What the paths of statements do to a scalar.
-use Rattle.std.proofs.Common.{◌≡◌, ℕ, ◌+◌, ◌≤◌, Bool, true, false, ◌&&◌, ◌==◌, nat_le, ◌↔◌, IsTrue, List, [], ◌∷◌, inl, inr, refl, sym, ap, ◌∙◌, arith, eqb-true, leb-true, leb-false}
+use Rattle.std.proofs.Common.{◌≡◌, ℕ, ◌+◌, ◌≤◌, Bool, true, false, ◌&&◌, ◌==◌, nat_le, List, [], inr, refl, sym, ap, ◌∙◌, arith}
 use Rattle.ped_tree.specs.Tree.{Head, StmtTree, StmtTrees, Assign, If, Do, Print, Read, Stop, Comment, no_stmts, more_stmts}
 use Rattle.ped_tree.specs.Numbering.{statement_count, statements_count}
 use Rattle.ped_flow.specs.Events.{Event, own_events, start_events, exit_events, has_value}
-use Rattle.ped_flow.specs.PathSets.{Kind, Never, Just, Either, InTurn, Paths, going, nowhere, stopping, in_turn, either, trips, Whole}
+use Rattle.ped_flow.specs.PathSets.{Just, Either, InTurn, Paths, going, in_turn, either, trips, Whole}
 use Rattle.ped_flow.specs.Paths.{iteration, paths, all_paths, at_once, paths_behind, all_paths_behind, ToEntry, paths_before, all_paths_before}
-use Rattle.ped_flow.specs.Summaries.{AreOnward, AreSummed, passing, unreached, stopped, sum_in_turn, sum_either, sum_trips, sum_events, sum_loop, sum_of, sum_of_all, sum_at_once, sum_behind, sum_behind_all, sum_before, sum_before_all}
+use Rattle.ped_flow.specs.Summaries.{AreOnward, AreSummed, unreached, sum_in_turn, sum_either, sum_trips, sum_events, sum_loop, sum_of, sum_of_all, sum_at_once, sum_behind, sum_behind_all, sum_before, sum_before_all}
 use Rattle.ped_flow.specs.declared.summaries.Summary.{Summary}
 use Rattle.ped_flow.proofs.Truths.{untrue}
 use Rattle.ped_flow.proofs.PathSums.{Passes, in_turn-onward, either-onward, in_turn-summed, either-summed, trips-summed, going-summed, going-none, nowhere-summed, nowhere-onward, stopping-summed, in_turn-some, either-some, trips-some, going-some}

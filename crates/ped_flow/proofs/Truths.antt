@@ -1,5 +1,5 @@
 -- Truth values that say whether something is so.
-use Rattle.std.proofs.Common.{◌≡◌, Bool, true, false, not, ◌&&◌, ◌||◌, ◌⊎◌, ◌↔◌, IsTrue, refl, sym, ap, ◌∙◌, inl, inr}
+use Rattle.std.proofs.Common.{◌≡◌, Bool, true, false, not, ◌&&◌, ◌||◌, ◌⊎◌, ◌↔◌, IsTrue, refl, sym, inl, inr}
 
 -- false isn't true
 pub untrue : {A : Type 0} → false ≡ true → A

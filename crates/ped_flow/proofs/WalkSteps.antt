@@ -1,6 +1,5 @@
 -- One statement after the other: what the paths of a list do to a scalar, from what those of its next statement do.
-use Rattle.std.proofs.Common.{◌≡◌, ℕ, ◌+◌, ◌<◌, List, [], ◌∷◌, ◌++◌, map, length, drop, get_or, sym, ap, ◌∙◌, rules, arith}
-use Rattle.std.specs.List.{flat_map}
+use Rattle.std.proofs.Common.{◌≡◌, ℕ, ◌+◌, ◌<◌, List, length, drop, get_or, sym, ap, ◌∙◌, rules, arith}
 use Rattle.ped_tree.specs.Tree as plain
 use Rattle.ped_tree.specs.Tree.{StmtTree, StmtTrees, more_stmts}
 use Rattle.ped_tree.specs.Views.{expr_tree, stmt_tree, stmt_trees}
@@ -8,7 +7,7 @@ use Rattle.ped_tree.specs.Numbering.{statement_count, statements_count}
 use Rattle.ped_tree.specs.declared.expressions.Expr.{Expr}
 use Rattle.ped_tree.specs.declared.statements.Stmt.{Stmt}
 use Rattle.ped_tree.specs.declared.statements.Stmt as variant
-use Rattle.ped_flow.specs.Events.{Event, reads_of, scalars_in, left_events}
+use Rattle.ped_flow.specs.Events.{reads_of, scalars_in, left_events}
 use Rattle.ped_flow.specs.Summaries.{sum_in_turn, sum_either, sum_events, sum_of, sum_of_all, sum_behind, sum_behind_all, sum_before, sum_before_all}
 use Rattle.ped_flow.specs.declared.summaries.Summary.{Summary}
 use Rattle.ped_flow.proofs.SumLaws.{in_turn-assoc, either-assoc, either-in_turn, in_turn-either, events-append}

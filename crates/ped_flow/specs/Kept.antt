@@ -1,7 +1,7 @@
 -- What the code is asked about, and what it keeps. Contracts of private functions alone speak of these definitions.
-use Rattle.std.specs.Prelude.{◌≡◌, ℕ, ◌+◌, ◌^◌, ◌<◌, List, [], ◌∷◌, map, ◌||◌, ◌&&◌, not, Bool, Option, Some, None, true, false, if◌then◌else◌}
-use Rattle.ped_base.specs.Lists.{is_same_text, is_among}
-use Rattle.ped_tree.specs.Tree.{Head, StmtTree, StmtTrees, Assign, If, Do, Print, Read, Stop, Comment, no_stmts, more_stmts, ProgramTree}
+use Rattle.std.specs.Prelude.{ℕ, ◌+◌, List, [], ◌∷◌, map, ◌&&◌, not, Bool, Option, Some, None, true, false, if◌then◌else◌}
+use Rattle.ped_base.specs.Lists.{is_same_text}
+use Rattle.ped_tree.specs.Tree.{StmtTree, StmtTrees, Assign, If, Do, Print, Read, Stop, Comment, no_stmts, more_stmts}
 use Rattle.ped_tree.specs.Views.{decl_tree}
 use Rattle.ped_tree.specs.Numbering.{statement_count, statements_count}
 use Rattle.ped_tree.specs.Accesses.{constant_names}

@@ -1,5 +1,5 @@
 -- Paths as lists of events, and how those of a whole are made of those of its parts (this project).
-use Rattle.std.specs.Prelude.{◌≡◌, ℕ, zero, suc, List, [], ◌∷◌, ◌++◌, ◌⊎◌}
+use Rattle.std.specs.Prelude.{◌≡◌, ℕ, zero, suc, List, [], ◌++◌, ◌⊎◌}
 use Rattle.ped_flow.specs.Events.{Event}
 
 -- paths of one kind

@@ -3,7 +3,7 @@ use Rattle.std.specs.Prelude.{◌≡◌, ℕ, ◌+◌, ◌≤◌, List, [], Bool
 use Rattle.ped_tree.specs.Tree.{Head, StmtTree, StmtTrees, Assign, If, Do, Print, Read, Stop, Comment, no_stmts, more_stmts, ProgramTree}
 use Rattle.ped_tree.specs.Numbering.{statement_count, statements_count}
 use Rattle.ped_tree.specs.Accesses.{constant_names}
-use Rattle.ped_flow.specs.Events.{Event, own_events, start_events, exit_events}
+use Rattle.ped_flow.specs.Events.{own_events, start_events, exit_events}
 use Rattle.ped_flow.specs.PathSets.{Kind, Never, Just, Either, InTurn, Paths, going, nowhere, stopping, in_turn, either, trips}
 
 -- the start of an iteration of a DO, and then the paths of its body

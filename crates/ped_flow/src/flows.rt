@@ -19,7 +19,7 @@ ghost use Rattle.ped_flow.specs.Kept.{name_of, constants_of, reader_by};
 use crate::before::before_all;
 use crate::behind::behind_all;
 use crate::decls::is_saved;
-use crate::escapes::{escaping, Numbered};
+use crate::escapes::{Numbered, escaping};
 use crate::scalars::{Scalar, scalar_of, start};
 use crate::summaries::Summary;
 use crate::walks::statements;

@@ -8,7 +8,7 @@ ghost use Rattle.ped_flow.specs.Events as Event;
 ghost use Rattle.ped_flow.specs.Kept as Spec;
 ghost use Rattle.ped_flow.specs.Kept.{name_of, constants_of};
 
-use crate::scalars::{condition, entry, expression, is_same, items, target, Scalar};
+use crate::scalars::{Scalar, condition, entry, expression, is_same, items, target};
 use crate::summaries::least;
 use ped_tree::{Expr, Stmt};
 
@@ -45,7 +45,10 @@ fn outside(scalar: &Scalar, s: &Stmt, number: &mut u32) -> Option<u32>
         }
         Stmt::Assign { left, right } => {
             *number = own + 1;
-            return least(expression(scalar, right, own).first, target(scalar, left, own).first);
+            return least(
+                expression(scalar, right, own).first,
+                target(scalar, left, own).first,
+            );
         }
         Stmt::Print(list) => {
             *number = own + 1;

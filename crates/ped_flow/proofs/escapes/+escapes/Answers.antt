@@ -1,4 +1,4 @@
-use Rattle.std.proofs.Common.{List, ℕ, ap, sym, ◌∙◌, ◌+◌, ◌++◌, drop}
+use Rattle.std.proofs.Common.{List, ap, sym, ◌∙◌, ◌+◌, drop}
 use Rattle.ped_tree.specs.Tree.{StmtTree}
 use Rattle.ped_tree.specs.Views.{stmt_tree, stmt_trees, program_tree}
 use Rattle.ped_refs.specs.Loops.{head_of}
@@ -14,10 +14,10 @@ pub escapes_in-loop-s-preserved : goal.escapes_in-loop-s-preserved
 escapes_in-loop-s-preserved t c =
     let others = drop (c.loop-s.s-index + 1) c.args.statements.now in
     escapes_next (program_tree c.args.l.now.program.now) c.args.l.now.number (head_of c.args.l.now.body.now) (stmt_trees c.args.l.now.body.now.body.items)
-        (all_loop_variables (stmt_trees (drop c.loop-s.s-index c.args.statements.now))) (loop_variables (stmt_tree c.s-item.result)) (all_loop_variables (stmt_trees others))
-        c.loop-s.escape c.escapes_of.result c.or-escape.result _ c.loop-s.invariant
-        (ap (λ (ss : List Stmt). all_loop_variables (stmt_trees ss)) (rest_is c.args.statements.now c.loop-s.s-index c.s-item.result c.loop-s-test.true c.s-item.is))
-        c.escapes_of.ensures c.or-escape.ensures
+    (all_loop_variables (stmt_trees (drop c.loop-s.s-index c.args.statements.now))) (loop_variables (stmt_tree c.s-item.result)) (all_loop_variables (stmt_trees others))
+    c.loop-s.escape c.escapes_of.result c.or-escape.result _ c.loop-s.invariant
+    (ap (λ (ss : List Stmt). all_loop_variables (stmt_trees ss)) (rest_is c.args.statements.now c.loop-s.s-index c.s-item.result c.loop-s-test.true c.s-item.is))
+    c.escapes_of.ensures c.or-escape.ensures
 
 pub escapes_of-returns-in-If : goal.escapes_of-returns-in-If
 escapes_of-returns-in-If t c =

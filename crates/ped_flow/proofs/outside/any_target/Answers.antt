@@ -18,10 +18,10 @@ loop-left-preserved c =
     let e = c.left-item.result in
     let others = drop (c.loop-left.left-index + 1) c.args.lefts.now in
     next_least c.loop-left.first c.least-first.result _ c.target.result.first
-        (first_reader x (flat_map (left_events cs n) (map expr_tree (drop c.loop-left.left-index c.args.lefts.now))))
-        (first_reader x (flat_map (left_events cs n) (map expr_tree others)))
-        c.loop-left.invariant
-        (ap (λ (es : List Expr). first_reader x (flat_map (left_events cs n) (map expr_tree es))) (rest_is c.args.lefts.now c.loop-left.left-index e c.loop-left-test.true c.left-item.is)
-            ∙ first_reader-append x (left_events cs n (expr_tree e)) (flat_map (left_events cs n) (map expr_tree others))
-            ∙ ap (λ (z : Option ℕ). least_of z (first_reader x (flat_map (left_events cs n) (map expr_tree others)))) (sym (ap (λ (m : Summary). m.first) c.target.ensures ∙ left-first x cs n (expr_tree e))))
-        c.least-first.ensures
+    (first_reader x (flat_map (left_events cs n) (map expr_tree (drop c.loop-left.left-index c.args.lefts.now))))
+    (first_reader x (flat_map (left_events cs n) (map expr_tree others)))
+    c.loop-left.invariant
+    (ap (λ (es : List Expr). first_reader x (flat_map (left_events cs n) (map expr_tree es))) (rest_is c.args.lefts.now c.loop-left.left-index e c.loop-left-test.true c.left-item.is)
+    ∙ first_reader-append x (left_events cs n (expr_tree e)) (flat_map (left_events cs n) (map expr_tree others))
+    ∙ ap (λ (z : Option ℕ). least_of z (first_reader x (flat_map (left_events cs n) (map expr_tree others)))) (sym (ap (λ (m : Summary). m.first) c.target.ensures ∙ left-first x cs n (expr_tree e))))
+    c.least-first.ensures

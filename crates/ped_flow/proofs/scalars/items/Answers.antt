@@ -1,4 +1,4 @@
-use Rattle.std.proofs.Common.{List, ℕ, map, ap, sym, ◌∙◌, ◌+◌, drop}
+use Rattle.std.proofs.Common.{List, map, ap, sym, ◌∙◌, ◌+◌, drop}
 use Rattle.std.specs.List.{flat_map}
 use Rattle.ped_tree.specs.Views.{item_tree}
 use Rattle.ped_tree.specs.declared.statements.PrintItem.{PrintItem}

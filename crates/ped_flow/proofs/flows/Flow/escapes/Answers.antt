@@ -9,7 +9,7 @@ use Rattle.ped_flow.proofs.flows.Flow.escapes.Goals as goal
 pub returns-in-Some : goal.returns-in-Some
 returns-in-Some c =
     subst (λ (z : Option ℕ). IsEscape (program_tree c.args.self.now.program.now) c.args.loop_number z) (sym c.escaping.ensures)
-        (escape_is (program_tree c.args.self.now.program.now) c.args.loop_number (head_of c.in-Some.d.now) (stmt_trees c.in-Some.d.now.body.items) c.in-Some.ensures)
+    (escape_is (program_tree c.args.self.now.program.now) c.args.loop_number (head_of c.in-Some.d.now) (stmt_trees c.in-Some.d.now.body.items) c.in-Some.ensures)
 
 pub returns-in-None : goal.returns-in-None
 returns-in-None c = escape_nowhere (program_tree c.args.self.now.program.now) c.args.loop_number c.in-None.ensures

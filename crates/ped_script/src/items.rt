@@ -2,20 +2,21 @@
 
 use ped_base::{Bytes, Listed, Name};
 
-/// A command. A statement number and a line number have at most nine digits.
+/// A command. The number of a statement, the number of a line and the size of a strip are at most 999,999,999.
 #[derive(Drop)]
 pub enum Command {
     /// Prints the source pane.
     Source,
-    /// Prints the dependence pane, or of it only the rows with a place in this statement.
+    /// Prints the dependence pane; where a statement is given, only the rows whose source or sink is that
+    /// statement or stands inside it.
     Deps(Option<u32>),
-    /// Prints both panes.
+    /// Prints the source pane and the dependence pane.
     Show,
     /// Prints the source lines alone.
     Print,
-    /// Says of each step at this statement whether it may be made.
+    /// Says of each step that needs no more than this statement whether it is refused, and why.
     Advise(u32),
-    /// Puts the lines in the place of those from `first` to `last`.
+    /// Puts lines in the place of others.
     Replace {
         /// The number of the first line that goes.
         first: u64,
@@ -24,67 +25,67 @@ pub enum Command {
         /// The lines that come.
         lines: Listed<Bytes>,
     },
-    /// Puts the lines behind a line.
+    /// Puts lines behind another.
     Insert {
         /// The number of the line before them, 0 for the front.
         after: u64,
         /// The lines that come.
         lines: Listed<Bytes>,
     },
-    /// Removes the lines from `first` to `last`.
+    /// Removes lines.
     Delete {
         /// The number of the first line that goes.
         first: u64,
         /// The number of the last line that goes.
         last: u64,
     },
-    /// Interchanges this loop and the one in it.
+    /// Interchanges this loop and the loop in it.
     Interchange(u32),
-    /// Runs this loop from its last iteration to its first.
+    /// Reverses this loop.
     Reverse(u32),
-    /// Skews the loop in this one by a factor.
+    /// Skews the loop in this loop, by a factor of -999,999,999 to 999,999,999.
     Skew(u32, i64),
-    /// Divides this loop into strips of a size.
+    /// Cuts this loop into strips of a size.
     Strip(u32, i64),
-    /// Takes an iteration out of this loop, the first or the last.
+    /// Peels an iteration off a loop.
     Peel {
         /// The number of the loop.
         statement: u32,
-        /// Whether it is the last iteration.
+        /// Whether the last iteration is peeled, and not the first.
         last: bool,
     },
-    /// Divides this loop into several.
+    /// Distributes this loop over the statements in it.
     Distribute(u32),
-    /// Makes one loop of this loop and the next.
+    /// Fuses this loop with the next.
     Fuse(u32),
-    /// Makes an array of a scalar, with an element for each iteration of this loop.
+    /// Expands a scalar into an array over the iterations of this loop.
     Expand(u32, Name),
-    /// Gives each iteration of this loop a copy of a scalar.
+    /// Makes a scalar private to the iterations of this loop.
     Privatise(u32, Name),
     /// Makes this loop parallel.
     Parallel(u32),
     /// Makes this loop serial.
     Serial(u32),
-    /// Rejects the pending dependences of a variable that this loop carries.
+    /// Rejects the pending dependences of a variable in this loop.
     Reject(u32, Name),
-    /// Goes back one change.
+    /// Goes back by one change.
     Undo,
-    /// Goes forward one change.
+    /// Goes forward by one change.
     Redo,
-    /// Runs the program, with these choices of the next iteration.
+    /// Runs the program with these choices, each below 10^18.
     Run(Listed<u64>),
-    /// Looks for a race.
+    /// Looks for a race in the run in order.
     Races,
-    /// Prints how many pairs of references the last change tested.
+    /// Prints how many pairs of references were tested last.
     Tested,
 }
 
 /// A line of a script that asks for something.
 #[derive(Drop)]
 pub struct Item {
-    /// The number of the line, from 1; for an edit the line before its text.
+    /// The number of the line, from 1; of an edit that of the line with its words.
     pub line: u64,
-    /// What it asks for: none where it is no command.
+    /// What the line asks for; none where it is no command, or an edit whose text has no end.
     pub command: Option<Command>,
 }
 

@@ -1,19 +1,15 @@
 -- What a parse that succeeds gives, in the words of what is asked for.
-use Rattle.std.proofs.Common.{◌≡◌, ℕ, ◌≤◌, true, cond, List, [], ◌∷◌, codes, Option, Some, None, option_map, unwrap_or, refl, sym, ap, subst, ◌∙◌, arith}
+use Rattle.std.proofs.Common.{◌≡◌, true, cond, List, [], codes, Option, Some, None, option_map, unwrap_or, sym, ap, subst, ◌∙◌}
 use Rattle.std.specs.Borrow.{Bor}
-use Rattle.std.specs.Prelude.{pos}
 use Rattle.clap.specs.Kinds.{Kinds}
-use Rattle.clap.specs.Lexer.{without_minus}
-use Rattle.clap.specs.Matches.{found_of, first_value, one_text, ReadsOne}
-use Rattle.clap.specs.Values.{IsSignedIn}
-use Rattle.clap.specs.Walk.{Row, Text, is_empty, rows_of, first_of, one_of}
+use Rattle.clap.specs.Matches.{found_of, first_value}
+use Rattle.clap.specs.Walk.{Text, is_empty, rows_of, first_of}
 use Rattle.clap.specs.Words.{App, app_of, fault_of, is_simple, is_simple_and_free, matches_of, HasMatchesOf}
 use Rattle.clap.specs.declared.builder.command.Command.{Command}
 use Rattle.clap.specs.declared.parser.matches.ArgMatches.{ArgMatches}
-use Rattle.clap.proofs.CallerReads.{signed_reads}
-use Rattle.clap.proofs.WalkLemmas.{first_value-rows, one_text-rows}
-use Rattle.ped_words.specs.Modes.{show_app, session_app, generate_app}
-use Rattle.ped_words.specs.Requests.{Request, show, session, generate, value_of, number_of, taken_by, show_request, session_request, generate_request}
+use Rattle.clap.proofs.WalkLemmas.{first_value-rows}
+use Rattle.ped_words.specs.Modes.{show_app, session_app}
+use Rattle.ped_words.specs.Requests.{Request, show, session, value_of, taken_by, show_request, session_request}
 
 -- what was found by a parse of a command that is such an app
 pub record IsFound (app : App) (words : List Text) (m : ArgMatches) : Type 0 where

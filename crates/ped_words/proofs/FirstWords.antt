@@ -1,5 +1,5 @@
 -- The mode, and what it makes of the words.
-use Rattle.std.proofs.Common.{◌≡◌, Bool, true, false, cond, List, [], ◌∷◌, map, codes, Option, Some, None, Result, Ok, Err, IfOk, slice_get, refl, sym, ap, ◌∙◌}
+use Rattle.std.proofs.Common.{◌≡◌, true, false, List, [], ◌∷◌, map, codes, Option, Some, None, Result, Ok, Err, IfOk, slice_get, refl, ap, ◌∙◌}
 use Rattle.std.specs.Global.{Global}
 use Rattle.std.specs.Prelude.{String, string_bytes}
 use Rattle.ped_base.specs.Lists.{is_same_text}
@@ -8,7 +8,7 @@ use Rattle.ped_words.specs.Requests as plain
 use Rattle.ped_words.specs.Requests.{show_request, session_request, generate_request, request_in, request_of}
 use Rattle.ped_words.specs.Views.{request_view, Answers}
 use Rattle.ped_words.specs.declared.errors.WordsError.{WordsError}
-use Rattle.ped_words.specs.declared.errors.WordsError.TheVariants.{Bad, NoMemory}
+use Rattle.ped_words.specs.declared.errors.WordsError.TheVariants.{Bad}
 use Rattle.ped_words.specs.declared.requests.Request.{Request}
 
 -- without words nothing is asked for

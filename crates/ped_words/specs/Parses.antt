@@ -1,17 +1,26 @@
 -- What holds of each parse that succeeds, and what an error of one means. Contracts of private functions alone speak of it.
-use Rattle.std.specs.Prelude.{◌≡◌, ◌≢◌, pos, true, false, is_some, Some}
+use Rattle.std.specs.Prelude.{◌≡◌, ◌≢◌, pos, [], true, false, is_some, Some}
 use Rattle.clap.specs.Built.{IsPlainArg, TakesValue}
 use Rattle.clap.specs.Values.{IsSignedIn}
 use Rattle.clap.specs.Walk.{Text}
-use Rattle.clap.specs.Words.{IsParsedFrom, first_value, found_of, kind_of, one_text, rule_of, without_minus}
+use Rattle.clap.specs.Words.{app_of, args_of, groups_of, IsParsedFrom, first_value, found_of, kind_of, one_text, rule_of, without_minus}
 use Rattle.clap.specs.declared.builder.arg.Arg.{Arg}
 use Rattle.clap.specs.declared.builder.command.Command.{Command}
+use Rattle.clap.specs.declared.builder.command.Command.TheViews.{out-Command}
 use Rattle.clap.specs.declared.error.Error.{Error}
 use Rattle.clap.specs.declared.error.kind.ErrorKind.TheVariants.{OutOfMemory}
 use Rattle.clap.specs.declared.parser.matches.ArgMatches.{ArgMatches}
-use Rattle.ped_words.specs.Modes.{needed}
+use Rattle.ped_words.specs.Modes.{mode, needed}
 use Rattle.ped_words.specs.declared.errors.WordsError.{WordsError}
 use Rattle.ped_words.specs.declared.errors.WordsError.TheVariants.{Bad, NoMemory}
+
+-- the command of this name, and nothing else is told of it
+pub record IsMode (name : Text) (c : Command) : Type 0 where
+  pub app : app_of c ≡ mode name
+  pub args : args_of c ≡ []
+  pub groups : groups_of c ≡ []
+  pub local : (out-Command c).has_globals ≡ false
+  pub negates : (out-Command c).subcommand_negates_reqs ≡ false
 
 -- the argument of this name must be there, and nothing else is told of it
 pub record IsNeeded (name : Text) (a : Arg) : Type 0 where

@@ -3,7 +3,7 @@
 ghost use Rattle.std.specs.Prelude.{◌≡◌, codes, IfOk};
 ghost use Rattle.clap.specs.Words.{app_of};
 ghost use Rattle.ped_words.specs.Modes.{show_app, session_app, generate_app};
-ghost use Rattle.ped_words.specs.Parses.{IsNeeded, HasValue, HasSize};
+ghost use Rattle.ped_words.specs.Parses.{IsMode, IsNeeded, HasValue, HasSize};
 
 use clap::{Arg, ArgAction, Command, value_parser};
 use std::alloc::{AllocError, Global};
@@ -14,9 +14,7 @@ pub fn show_command<'a>(alloc: Global) -> Result<Command<'a>, AllocError>
     ensures program { IfOk result (HasValue (codes "program")) }
 {
     let program = needed(alloc, "program");
-    Command::new(alloc, "show")
-        .disable_help_flag(true)
-        .arg(program)
+    mode(alloc, "show").arg(program)
 }
 
 /// `session PROGRAM SCRIPT [--data FILE]`
@@ -28,11 +26,7 @@ pub fn session_command<'a>(alloc: Global) -> Result<Command<'a>, AllocError>
     let program = needed(alloc, "program");
     let script = needed(alloc, "script");
     let data = Arg::new(alloc, "data").long("data");
-    Command::new(alloc, "session")
-        .disable_help_flag(true)
-        .arg(program)?
-        .arg(script)?
-        .arg(data)
+    mode(alloc, "session").arg(program)?.arg(script)?.arg(data)
 }
 
 /// `generate N`
@@ -41,9 +35,14 @@ pub fn generate_command<'a>(alloc: Global) -> Result<Command<'a>, AllocError>
     ensures number { IfOk result (HasSize (codes "number")) }
 {
     let number = needed(alloc, "number").value_parser(value_parser!(u32).range(1..=300));
-    Command::new(alloc, "generate")
-        .disable_help_flag(true)
-        .arg(number)
+    mode(alloc, "generate").arg(number)
+}
+
+/// A command of this name, without arguments.
+fn mode<'a>(alloc: Global, name: &'a str) -> Command<'a>
+    ensures { IsMode name.now result }
+{
+    Command::new(alloc, name).disable_help_flag(true)
 }
 
 /// An argument that must be there.

@@ -5,7 +5,6 @@ mod commands;
 mod errors;
 mod reading;
 mod requests;
-
 #[cfg(test)]
 mod tests;
 

@@ -86,16 +86,20 @@ generate --help: bad
 fn answer(alloc: Global, words: &[String]) -> Result<String, AllocError> {
     match request(alloc, words) {
         Ok(Request::Show { program }) => format!(in alloc; "show [{program}]"),
-        Ok(Request::Session {
-            program,
-            script,
-            data: None,
-        }) => format!(in alloc; "session [{program}] [{script}]"),
-        Ok(Request::Session {
-            program,
-            script,
-            data: Some(file),
-        }) => format!(in alloc; "session [{program}] [{script}] data [{file}]"),
+        Ok(
+            Request::Session {
+                program,
+                script,
+                data: None,
+            },
+        ) => format!(in alloc; "session [{program}] [{script}]"),
+        Ok(
+            Request::Session {
+                program,
+                script,
+                data: Some(file),
+            },
+        ) => format!(in alloc; "session [{program}] [{script}] data [{file}]"),
         Ok(Request::Generate(number)) => format!(in alloc; "generate {number}"),
         Err(WordsError::Bad) => String::from_str(alloc, "bad"),
         Err(WordsError::NoMemory) => Err(AllocError),

@@ -1,8 +1,8 @@
-use Rattle.std.proofs.Common.{◌≡◌, ◌≤◌, ℕ, Option, Some, map, codes, refl, sym, ap, subst, ◌∙◌, IsSome, arith}
+use Rattle.std.proofs.Common.{◌≡◌, ℕ, Option, map, refl, sym, ap, subst, ◌∙◌, arith}
 use Rattle.std.specs.Option.{is_some}
 use Rattle.std.specs.Prelude.{string_bytes}
 use Rattle.clap.specs.Lexer.{without_minus}
-use Rattle.clap.specs.Matches.{found_of, one_text, ReadsOne}
+use Rattle.clap.specs.Matches.{ReadsOne}
 use Rattle.ped_words.specs.Modes.{generate_app}
 use Rattle.ped_words.proofs.Asked.{parse_found}
 use Rattle.ped_words.proofs.Sizes.{Reads, same_number, size_read, generate_is}

@@ -1,4 +1,4 @@
-use Rattle.std.proofs.Common.{◌≡◌, List, map, sym, ◌∙◌}
+use Rattle.std.proofs.Common.{◌≡◌, map, sym, ◌∙◌}
 use Rattle.std.specs.Prelude.{string_bytes}
 use Rattle.ped_words.specs.Requests.{show_request, session_request, generate_request, request_of}
 use Rattle.ped_words.proofs.FirstWords.{no_words, by_mode, in_show, in_session, in_generate, in_none, answered, refused}

@@ -24,7 +24,9 @@ pub fn run(alloc: Global, text: &[u8], data: &[u8]) -> anyhow::Result<String> {
             }
             Ok(shown)
         }
-        Outcome::Fault { number, statement } => Ok(format!(alloc; "fault {number} at {statement}")?),
+        Outcome::Fault { number, statement } => Ok(format!(alloc;
+            "fault {number} at {statement}"
+        )?),
     }
 }
 

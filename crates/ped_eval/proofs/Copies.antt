@@ -151,15 +151,17 @@ same_shallow [] n u v s h k same = λ d e. outside d e
     outside (Private x path) e = absurd cc
     outside In e = k In refl ∙ same In refl
     outside Out e = k Out refl ∙ same Out refl
-same_shallow (g ∷ gs) n u v s h k same =
-    (λ x e. k (Private x (path_of (g ∷ gs))) (lt-ltb (length (path_of (g ∷ gs))) n (omega (arith, h, path_length (g ∷ gs)))) ∙ same.0 x e,
-     same_shallow gs n u v s (omega (arith, h)) k same.1)
+same_shallow (g ∷ gs) n u v s h k same = (
+  λ x e. k (Private x (path_of (g ∷ gs))) (lt-ltb (length (path_of (g ∷ gs))) n (omega (arith, h, path_length (g ∷ gs)))) ∙ same.0 x e,
+  same_shallow gs n u v s (omega (arith, h)) k same.1,
+)
 
 pub stands_shallow : (gs : Scope) (n : ℕ) (p q : Cell → Bool) → length gs < n → ((d : Cell) → is_shallow n d ≡ true → p d ≡ q d) → DoCopiesStand gs q → DoCopiesStand gs p
 stands_shallow [] n p q h k stand = tt
-stands_shallow (g ∷ gs) n p q h k stand =
-    (λ x e. k (Private x (path_of (g ∷ gs))) (lt-ltb (length (path_of (g ∷ gs))) n (omega (arith, h, path_length (g ∷ gs)))) ∙ stand.0 x e,
-     stands_shallow gs n p q (omega (arith, h)) k stand.1)
+stands_shallow (g ∷ gs) n p q h k stand = (
+  λ x e. k (Private x (path_of (g ∷ gs))) (lt-ltb (length (path_of (g ∷ gs))) n (omega (arith, h, path_length (g ∷ gs)))) ∙ stand.0 x e,
+  stands_shallow gs n p q (omega (arith, h)) k stand.1,
+)
 
 other_shallow : (x : List ℕ) (path : List Iteration) (d : Cell) → is_shallow (length path) d ≡ true → same_cell (Private x path) d ≡ false
 other_shallow x path (Scalar y) h = refl
@@ -200,10 +202,10 @@ module _ (f : Frame) (fs : Scope) where
     open_agrees n s g = record {
       same = (
         λ x h.
-          opened_cells (f ∷ fs) f.private m (Private x (path_of (f ∷ fs)))
-          ∙ ap (λ b. if b then Undefined else m.cells (Private x (path_of (f ∷ fs)))) (own_cell f fs f.private (all_among f.private) x h)
-          ∙ sym (g.fresh x (path_of (f ∷ fs)) (own_copies f fs)),
-        same_shallow fs (length (path_of (f ∷ fs))) _ m.cells s inside_less open_cell g.same
+            opened_cells (f ∷ fs) f.private m (Private x (path_of (f ∷ fs)))
+            ∙ ap (λ b. if b then Undefined else m.cells (Private x (path_of (f ∷ fs)))) (own_cell f fs f.private (all_among f.private) x h)
+            ∙ sym (g.fresh x (path_of (f ∷ fs)) (own_copies f fs)),
+        same_shallow fs (length (path_of (f ∷ fs))) _ m.cells s inside_less open_cell g.same,
       );
       fresh = fresh_later (before_turn fs f.turn.statement f.turn.number) (before (f ∷ fs) n) s (into_turn f fs n) g.fresh;
     }
@@ -218,9 +220,9 @@ module _ (f : Frame) (fs : Scope) where
     pub open_copies_stand : DoCopiesStand fs m.stands → DoCopiesStand (f ∷ fs) (with_copies (f ∷ fs) f.private m).stands
     open_copies_stand h = (
       λ x k.
-        opened_stands (f ∷ fs) f.private m (Private x (path_of (f ∷ fs)))
-        ∙ ap (λ b. if b then true else m.stands (Private x (path_of (f ∷ fs)))) (own_cell f fs f.private (all_among f.private) x k),
-      stands_shallow fs (length (path_of (f ∷ fs))) _ m.stands inside_less open_stand h
+          opened_stands (f ∷ fs) f.private m (Private x (path_of (f ∷ fs)))
+          ∙ ap (λ b. if b then true else m.stands (Private x (path_of (f ∷ fs)))) (own_cell f fs f.private (all_among f.private) x k),
+      stands_shallow fs (length (path_of (f ∷ fs))) _ m.stands inside_less open_stand h,
     )
 
     pub close_copies_stand : DoCopiesStand (f ∷ fs) m.stands → DoCopiesStand fs (without_copies (f ∷ fs) f.private m).stands

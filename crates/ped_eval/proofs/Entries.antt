@@ -34,7 +34,7 @@ module _ (table : Table) (scope : Scope) (n : ℕ) (m : Memory) (ready : IsReady
   -- a DO runs as its iterations do
   pub do_run : (l : Loops.Limits) (plan : Plan) → (limits (names_at m scope table.constants) h m.cells).result ≡ Ok l → IsPlanWithin table.constants n h body l plan → (r : Result Flow RunError) (new : Memory)
       → ((behind : ℕ) → TellsFrom scope (before scope plan.number) m.cells (before scope (plan.number + (statements_count body + 1))) r new.cells
-        (turns_end plan.count 1 (entered_by h plan behind) scope (body_run (setting_by table) body plan.number scope)))
+      (turns_end plan.count 1 (entered_by h plan behind) scope (body_run (setting_by table) body plan.number scope)))
       → Ran scope n m (n + (statements_count body + 1)) r new (run (setting_by table) (Do h body) n scope)
   do_run l plan lim within r new told s g =
       let p = setting_by table in

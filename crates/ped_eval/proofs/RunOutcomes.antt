@@ -138,8 +138,8 @@ outcome_told t data_bytes table scope new_scope body kept m next answer by_table
 pub can_run_from : (t : ProgramTree) (table : Table) (scope : Scope) (body : StmtTrees) → IsRight t → table ≡ table_of t → scope ≡ [] → body ≡ t.body → CanRun table scope 1 body
 can_run_from t table scope body right by_table outside all =
     subst (λ (b : Table). CanRun b scope 1 body) (sym by_table)
-      (subst (λ (b : Scope). CanRun (table_of t) b 1 body) (sym outside)
-        (subst (λ (b : StmtTrees). CanRun (table_of t) [] 1 b) (sym all) (can_run t right)))
+    (subst (λ (b : Scope). CanRun (table_of t) b 1 body) (sym outside)
+    (subst (λ (b : StmtTrees). CanRun (table_of t) [] 1 b) (sym all) (can_run t right)))
 
 -- all that can be written stands where the code begins
 pub ready_from : (table : Table) (scope : Scope) (kept : Memory) (data_lines : List (List ℕ)) → scope ≡ [] → kept ≡ memory_at_start (shapes_by table.kinds) data_lines → IsReady table scope kept

@@ -59,10 +59,10 @@ module _ (p : Setting) (scope : Scope) (j : ℕ) (v : Content) where
     fault = a.fault;
     left = a.left;
     agrees = subst (λ (u : Store). Agrees scope (before scope j) (put In v after.cells) u)
-      (ap (store_behind rest.touches) (in_apart c (Number t.value) v s (variable_not_in p scope c is))
-      ∙ sym (reads_leave seen n (write_touch c (Number t.value) (number_behind n seen) ∷ rest.touches) (put In v s))
-      ∙ ap (λ (ts : List Touch). store_behind ts (put In v s)) (sym (append_assoc (numbered n seen) (write_touch c (Number t.value) (number_behind n seen) ∷ []) rest.touches)))
-      a.agrees;
+        (ap (store_behind rest.touches) (in_apart c (Number t.value) v s (variable_not_in p scope c is))
+        ∙ sym (reads_leave seen n (write_touch c (Number t.value) (number_behind n seen) ∷ rest.touches) (put In v s))
+        ∙ ap (λ (ts : List Touch). store_behind ts (put In v s)) (sym (append_assoc (numbered n seen) (write_touch c (Number t.value) (number_behind n seen) ∷ []) rest.touches)))
+        a.agrees;
     stands = a.stands;
     bounds = a.bounds;
   }
@@ -188,11 +188,12 @@ module _ (p : Setting) (scope : Scope) (j : ℕ) (at : Place) (items : List Expr
   pub read_ending : (after : Memory) → read_taken p.constants scope items m ≡ Ok after → after.cells In ≡ Lines after.input.lines
       → (u : Store) × ((run_read (names_in p scope) at items s).ending ≡ going u) × Agrees scope (before scope j) after.cells u
   read_ending after e kept_after =
-      let a = reading_taken after e in
-      (store_behind (reading (names_in p scope) items s).touches (put In (Lines after.input.lines) s),
-       read_goes at (reading (names_in p scope) items s) s a.fault ∙ (λ i. going (store_behind (reading (names_in p scope) items s).touches (put In (Lines (a.left i).lines) s))),
-       subst (λ (w : Store). Agrees scope (before scope j) w (store_behind (reading (names_in p scope) items s).touches (put In (Lines after.input.lines) s)))
-         (ap (λ v. put In v after.cells) (sym kept_after) ∙ in_itself after.cells) a.agrees)
+      let a = reading_taken after e in (
+        store_behind (reading (names_in p scope) items s).touches (put In (Lines after.input.lines) s),
+        read_goes at (reading (names_in p scope) items s) s a.fault ∙ (λ i. going (store_behind (reading (names_in p scope) items s).touches (put In (Lines (a.left i).lines) s))),
+        subst (λ (w : Store). Agrees scope (before scope j) w (store_behind (reading (names_in p scope) items s).touches (put In (Lines after.input.lines) s)))
+            (ap (λ v. put In v after.cells) (sym kept_after) ∙ in_itself after.cells) a.agrees,
+      )
     where
       itself_by : (k : Store) (d : Cell) → put In (k In) k d ≡ k d
       itself_by k (Scalar x) = refl

@@ -18,7 +18,11 @@ use ped_tree::{Decl, Program};
 use std::alloc::Global;
 
 /// The live-out variables with what they hold.
-pub(crate) fn live_rows(alloc: Global, program: &Program, store: &Store) -> Result<Listed<LiveRow>, NoMemory>
+pub(crate) fn live_rows(
+    alloc: Global,
+    program: &Program,
+    store: &Store,
+) -> Result<Listed<LiveRow>, NoMemory>
     ensures { IfOk result (λ rows. map row_view rows ≡ rows_in (memory_of store.now) (Outcomes.live_names (program_tree program.now))) }
 {
     let names = live_names(alloc, &program.decls)?;

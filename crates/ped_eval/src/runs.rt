@@ -35,7 +35,12 @@ use std::alloc::Global;
 /// # Errors
 ///
 /// Want of memory alone; a fault of the program is an outcome.
-pub fn run_in_order(alloc: Global, program: &Program, symbols: &Symbols, input: &[u8]) -> Result<Outcome, NoMemory>
+pub fn run_in_order(
+    alloc: Global,
+    program: &Program,
+    symbols: &Symbols,
+    input: &[u8],
+) -> Result<Outcome, NoMemory>
     requires valid { IsValid (program_tree program.now) }
     requires symbols { symbols.now ≡ table_of (program_tree program.now) }
     ensures { IfOk result (λ o. outcome_view o ≡ outcome (program_tree program.now) input.now) }
@@ -57,7 +62,10 @@ fn finished(
 {
     match answer {
         Ok(_) => return ended(alloc, program, store),
-        Err(RunError::Fault { number, statement }) => return Ok(Outcome::Fault { number, statement }),
+        Err(RunError::Fault { number, statement }) => return Ok(Outcome::Fault {
+            number,
+            statement,
+        }),
         Err(RunError::NoMemory) => return Err(NoMemory),
     }
 }

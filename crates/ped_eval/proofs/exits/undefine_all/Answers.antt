@@ -24,7 +24,7 @@ loop-name-preserved c =
     record {
       rest = walked (λ y m. with_content (cell_of at y) Undefined m) (undefined_in at) (λ y ys m. refl) c.args.names.now c.loop-name.name-index x (memory_of c.loop-name.state.store) _ _ c.loop-name-test.true c.name-item.is done r.rest;
       right =
-        ap (λ (m : Memory). list_all (λ y. m.stands (cell_of at y)) (drop (c.loop-name.name-index + 1) c.args.names.now)) done
-        ∙ (one_of_all (λ y. (memory_of c.loop-name.state.store).stands (cell_of at y)) c.args.names.now c.loop-name.name-index x c.loop-name-test.true c.name-item.is r.right).1;
+          ap (λ (m : Memory). list_all (λ y. m.stands (cell_of at y)) (drop (c.loop-name.name-index + 1) c.args.names.now)) done
+          ∙ (one_of_all (λ y. (memory_of c.loop-name.state.store).stands (cell_of at y)) c.args.names.now c.loop-name.name-index x c.loop-name-test.true c.name-item.is r.right).1;
       scope = r.scope;
     }

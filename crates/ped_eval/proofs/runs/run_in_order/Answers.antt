@@ -10,7 +10,7 @@ use Rattle.ped_eval.proofs.runs.run_in_order.Goals as goal
 pub run_all-answer-requires-clause-can : goal.run_all-answer-requires-clause-can
 run_all-answer-requires-clause-can c =
     can_run_from (program_tree c.args.program.now) c.args.symbols.now c.in_ok-state.state.scope (stmt_trees c.deref.result.now)
-      (c.right_where_valid.ensures (program_tree c.args.program.now) c.requires.valid) c.requires.symbols c.in_ok-state.ensures.scope (ap stmt_trees c.deref.ensures.value)
+    (c.right_where_valid.ensures (program_tree c.args.program.now) c.requires.valid) c.requires.symbols c.in_ok-state.ensures.scope (ap stmt_trees c.deref.ensures.value)
 
 pub run_all-answer-requires-clause-ready : goal.run_all-answer-requires-clause-ready
 run_all-answer-requires-clause-ready c =
@@ -19,7 +19,7 @@ run_all-answer-requires-clause-ready c =
 pub returns : goal.returns
 returns c =
     IfOk-weaker c.finished.result _ _
-      (λ o is. outcome_told (program_tree c.args.program.now) c.args.input.now c.args.symbols.now c.in_ok-state.state.scope c.run_all-answer.new.state.scope (stmt_trees c.deref.result.now)
-        (memory_of c.in_ok-state.state.store) (memory_of c.run_all-answer.new.state.store) _ c.run_all-answer.result
-        c.requires.symbols c.in_ok-state.ensures.scope (ap stmt_trees c.deref.ensures.value) c.in_ok-state.ensures.memory c.run_all-answer.ensures.told c.run_all-answer.ensures.ready (outcome_view o) is)
-      c.finished.ensures
+    (λ o is. outcome_told (program_tree c.args.program.now) c.args.input.now c.args.symbols.now c.in_ok-state.state.scope c.run_all-answer.new.state.scope (stmt_trees c.deref.result.now)
+    (memory_of c.in_ok-state.state.store) (memory_of c.run_all-answer.new.state.store) _ c.run_all-answer.result
+    c.requires.symbols c.in_ok-state.ensures.scope (ap stmt_trees c.deref.ensures.value) c.in_ok-state.ensures.memory c.run_all-answer.ensures.told c.run_all-answer.ensures.ready (outcome_view o) is)
+    c.finished.ensures

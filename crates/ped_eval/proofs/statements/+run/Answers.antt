@@ -212,9 +212,9 @@ run_all-loop-stmt-preserved t c =
       can = subst (λ (k : ℕ). CanRun table scope (n + k) rest) (sym count) (rest_can table scope n tree rest (subst (λ (ts : StmtTrees). CanRun table scope n ts) left inv.can));
       behind = omega (arith, count, counts, behind);
       run = λ s g.
-        let whole : Ending = (run_all p (stmt_trees c.args.stmts.now) c.args.first scope s).ending in
-        let reach = subst (λ (ts : StmtTrees). Reaches scope (before scope n) kept.cells (λ u. (run_all p ts n scope u).ending) whole) left (inv.run s g) in
-        subst (λ (k : ℕ). Reaches scope (before scope (n + k)) new.cells (λ u. (run_all p rest (n + k) scope u).ending) whole) (sym count) (statement_done p scope tree rest n kept.cells new.cells whole reach told);
+          let whole : Ending = (run_all p (stmt_trees c.args.stmts.now) c.args.first scope s).ending in
+          let reach = subst (λ (ts : StmtTrees). Reaches scope (before scope n) kept.cells (λ u. (run_all p ts n scope u).ending) whole) left (inv.run s g) in
+          subst (λ (k : ℕ). Reaches scope (before scope (n + k)) new.cells (λ u. (run_all p rest (n + k) scope u).ending) whole) (sym count) (statement_done p scope tree rest n kept.cells new.cells whole reach told);
     }
 
 pub run_all-returns-clause-told : goal.run_all-returns-clause-told
@@ -247,9 +247,9 @@ run_turns-loop-earlier-init t c =
       scope = c.in-Ok.ensures.scope;
       ready = subst (λ (k : Kept). IsReady table scope (memory_of k)) (sym store) c.requires.ready;
       run = λ behind s g m q.
-        let agrees : Agrees scope (before_turn scope n 1) (memory_of c.args.state.now.store).cells s = agrees_later scope (before scope n) (before_turn scope n 1) (memory_of c.args.state.now.store).cells s (first_turn scope n 1) g in
-        let count : m ≡ c.args.plan.now.count = omega (arith, q) in
-        (s, subst (λ (k : Kept). Agrees scope (before_turn scope n 1) (memory_of k).cells s) (sym store) agrees, ap (λ (k : ℕ). turns_end k 1 (entered_by (head_of c.args.d.now) c.args.plan.now behind) scope body s) count);
+          let agrees : Agrees scope (before_turn scope n 1) (memory_of c.args.state.now.store).cells s = agrees_later scope (before scope n) (before_turn scope n 1) (memory_of c.args.state.now.store).cells s (first_turn scope n 1) g in
+          let count : m ≡ c.args.plan.now.count = omega (arith, q) in
+          (s, subst (λ (k : Kept). Agrees scope (before_turn scope n 1) (memory_of k).cells s) (sym store) agrees, ap (λ (k : ℕ). turns_end k 1 (entered_by (head_of c.args.d.now) c.args.plan.now behind) scope body s) count);
     }
 
 pub run_turns-run_turn-requires : goal.run_turns-run_turn-requires
@@ -336,10 +336,10 @@ run_turns-loop-earlier-preserved t c =
       scope = ready_there.0 ∙ ap (λ (o : Scope). frame first (k + 1) ∷ o) out;
       ready = subst (λ (o : Scope). IsReady table o new) out ready_there.1;
       run = λ behind s g m q.
-        let e = entered_by (head_of c.args.d.now) c.args.plan.now behind in
-        let more : suc m + k ≡ c.args.plan.now.count = omega (arith, q) in
-        reaches_behind scope (before_turn scope n (k + 1)) (before_turn scope n (k + 1 + 1)) kept.cells new.cells (λ u. (body_run p ts n scope (frame e (k + 1)) u).ending) (turns_end m (k + 1 + 1) e scope (body_run p ts n scope))
-        (turns_end c.args.plan.now.count 1 e scope (body_run p ts n scope) s) (inv.run behind s g (suc m) more) next;
+          let e = entered_by (head_of c.args.d.now) c.args.plan.now behind in
+          let more : suc m + k ≡ c.args.plan.now.count = omega (arith, q) in
+          reaches_behind scope (before_turn scope n (k + 1)) (before_turn scope n (k + 1 + 1)) kept.cells new.cells (λ u. (body_run p ts n scope (frame e (k + 1)) u).ending) (turns_end m (k + 1 + 1) e scope (body_run p ts n scope))
+          (turns_end c.args.plan.now.count 1 e scope (body_run p ts n scope) s) (inv.run behind s g (suc m) more) next;
     }
 
 pub run_turns-leave_loop-requires-clause-variable : goal.run_turns-leave_loop-requires-clause-variable

@@ -19,7 +19,7 @@ invariant-run_all-loop-stmt l = record {
   can : CanRun l.symbols l.initial.state.scope l.number (stmt_trees (drop l.stmt-index l.stmts));
   behind : l.number + statements_count (stmt_trees (drop l.stmt-index l.stmts)) ≡ l.first + statements_count (stmt_trees l.stmts);
   run : (s : Store) → Agrees l.initial.state.scope (before l.initial.state.scope l.first) (memory_of l.initial.state.store).cells s
-    → Reaches l.initial.state.scope (before l.initial.state.scope l.number) (memory_of l.state.store).cells
+      → Reaches l.initial.state.scope (before l.initial.state.scope l.number) (memory_of l.state.store).cells
       (λ u. (run_all (setting_by l.symbols) (stmt_trees (drop l.stmt-index l.stmts)) l.number l.initial.state.scope u).ending)
       (run_all (setting_by l.symbols) (stmt_trees l.stmts) l.first l.initial.state.scope s).ending;
 }
@@ -29,8 +29,8 @@ invariant-run_turns-loop-earlier l = record {
   scope : l.state.scope ≡ frame (entered_by (head_of l.d) l.plan 0) l.earlier ∷ l.fn.state.scope;
   ready : IsReady l.symbols l.fn.state.scope (memory_of l.state.store);
   run : (behind : ℕ) (s : Store) → Agrees l.fn.state.scope (before l.fn.state.scope l.plan.number) (memory_of l.fn.state.store).cells s
-    → (n : ℕ) → n + l.earlier ≡ l.plan.count
-    → Reaches l.fn.state.scope (before_turn l.fn.state.scope l.plan.number (l.earlier + 1)) (memory_of l.state.store).cells
+      → (n : ℕ) → n + l.earlier ≡ l.plan.count
+      → Reaches l.fn.state.scope (before_turn l.fn.state.scope l.plan.number (l.earlier + 1)) (memory_of l.state.store).cells
       (turns_end n (l.earlier + 1) (entered_by (head_of l.d) l.plan behind) l.fn.state.scope (body_run (setting_by l.symbols) (stmt_trees l.d.body.items) l.plan.number l.fn.state.scope))
       (turns_end l.plan.count 1 (entered_by (head_of l.d) l.plan behind) l.fn.state.scope (body_run (setting_by l.symbols) (stmt_trees l.d.body.items) l.plan.number l.fn.state.scope) s);
 }

@@ -16,7 +16,7 @@ loop-name-preserved c =
     let cell = c.cell-cell.ensures.view ∙ ap (λ (s : Scope). cell_of s x) r.scope in
     record {
       rest = walked (λ y m. without_copy (cell_of at y) m) (without_copies at) (λ y ys m. refl) c.args.names.now c.loop-name.name-index x (memory_of c.loop-name.state.store) _ _ c.loop-name-test.true c.name-item.is
-        (c.close_copy.ensures ∙ ap (λ (d : Cell). without_copy d (memory_of c.loop-name.state.store)) cell) r.rest;
+          (c.close_copy.ensures ∙ ap (λ (d : Cell). without_copy d (memory_of c.loop-name.state.store)) cell) r.rest;
       right = (one_of_all (λ y. is_copy (cell_of at y)) c.args.names.now c.loop-name.name-index x c.loop-name-test.true c.name-item.is r.right).1;
       scope = r.scope;
     }

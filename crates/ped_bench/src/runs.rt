@@ -20,22 +20,22 @@ pub fn run(alloc: Global, text: &[u8], data: &[u8]) -> anyhow::Result<String> {
             }
             shown.push_str("ended")?;
             for row in live.as_slice() {
-                push_row(&mut shown, row)?;
+                push_row(alloc, &mut shown, row)?;
             }
             Ok(shown)
         }
-        Outcome::Fault { number, statement } => Ok(format!(alloc;
+        Outcome::Fault { number, statement } => Ok(format!(in alloc;
             "fault {number} at {statement}"
         )?),
     }
 }
 
-fn push_row(shown: &mut String, row: &LiveRow) -> anyhow::Result<()> {
+fn push_row(alloc: Global, shown: &mut String, row: &LiveRow) -> anyhow::Result<()> {
     shown.push_str("\nlive ")?;
     push_text(shown, row.name.as_bytes())?;
     for value in row.values.as_slice() {
         match value {
-            Some(number) => shown.push_str(&format!(shown.allocator(); " {number}")?)?,
+            Some(number) => shown.push_str(&format!(in alloc; " {number}")?)?,
             None => shown.push_str(" ?")?,
         }
     }

@@ -1,4 +1,4 @@
--- What a valid program tells of its statements, its loops and its arrays (ANSI X3.9-1978; this project).
+-- What a valid program tells of its statements, its loops and its arrays (this project).
 use Rattle.std.specs.Prelude.{◌≡◌, ◌≤◌, true}
 use Rattle.ped_tree.specs.Tree.{ProgramTree}
 use Rattle.ped_tree.specs.Numbering.{statements_count}

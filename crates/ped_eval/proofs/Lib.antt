@@ -14,12 +14,14 @@ pub mod Lines
 pub mod Moments
 pub mod Parts
 pub mod Prints
+pub mod Quotients
 pub mod Readings
 pub mod RowsByNames
 pub mod RunOutcomes
 pub mod Running
 pub mod SameValues
 pub mod ShapesByNames
+pub mod Spans
 pub mod Starts
 pub mod Steps
 pub mod Takings

@@ -1,6 +1,6 @@
 //! Entries of DO loops (ANSI X3.9-1978, section 11.10.3).
 
-ghost use Rattle.std.specs.Prelude.{◌≡◌, ◌≤◌, ◌^◌, ◌+ℤ◌, ◌*ℤ◌, pos, unsigned_abs, true, ◌≢◌, ◌<ℤ◌, IfOk, IfErr, Ok, Err};
+ghost use Rattle.std.specs.Prelude.{◌≡◌, ◌≤◌, ◌<◌, ◌^◌, ◌+ℤ◌, ◌-ℤ◌, ◌*ℤ◌, int_div, pos, unsigned_abs, true, ◌≢◌, ◌<ℤ◌, IfOk, IfErr, Ok, Err};
 ghost use Rattle.ped_tree.specs.Views.{expr_tree, stmt_trees};
 ghost use Rattle.ped_store.specs.Keeping.{memory_of};
 ghost use Rattle.ped_eval.specs.ScopeViews.{names_at};
@@ -173,7 +173,28 @@ fn iteration_count(limits: &Limits, step: i128) -> u64
     requires small { unsigned_abs step ≤ 2 ^ 31 }
     ensures { result ≡ Loops.iteration_count limits.now.first limits.now.last step }
 {
-    natural((limits.last - limits.first + step) / step)
+    natural(quotient(span(limits, step), step))
+}
+
+/// How far the terminal value of a DO stands behind the initial one, and an increment more.
+fn span(limits: &Limits, step: i128) -> i128
+    requires first { Loops.is_bound limits.now.first ≡ true }
+    requires last { Loops.is_bound limits.now.last ≡ true }
+    requires small { unsigned_abs step ≤ 2 ^ 31 }
+    ensures value { result ≡ limits.now.last -ℤ limits.now.first +ℤ step }
+    ensures small { unsigned_abs result < 2 ^ 64 }
+{
+    limits.last - limits.first + step
+}
+
+/// `n / d`, truncated towards zero.
+fn quotient(n: i128, d: i128) -> i128
+    requires dividend { unsigned_abs n < 2 ^ 64 }
+    requires divisor { d ≢ pos 0 }
+    ensures value { result ≡ int_div n d }
+    ensures small { result <ℤ pos (2 ^ 64) }
+{
+    n / d
 }
 
 /// A whole number that isn't negative, 0 for one that is.

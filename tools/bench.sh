@@ -3,7 +3,8 @@
 # much memory it has at its peak, on programs of 64 KiB, 256 KiB and 1 MiB; how long `source_pane` of
 # ped_print takes, per byte of the pane, on programs of 250, 1,000 and 4,000 statements; how long
 # `symbols_of` of ped_symbols takes, per statement, on programs of 1,000 and 4,000 statements with as many names;
-# how long a call of each dependence test takes; how long `ped show` takes, and how much memory, on programs of 64 KiB,
+# how long a call of each dependence test takes; how long `run_in_order` of ped_eval takes for an assignment in loops, over an
+# array and over a scalar, from 10^4 to 10^7 of them, and how much memory a store of 2^20 elements takes; how long `ped show` takes, and how much memory, on programs of 64 KiB,
 # 256 KiB and 1 MiB that are read; how long it takes for each pair of references, and how much memory, on nests of two and of
 # six loops, up to the limit of pairs; and how much stack it needs on programs at the limits of the language. It is no part of
 # the gate, and needs GNU time and awk. docs/PERFORMANCE.md says how to read the figures.
@@ -242,6 +243,42 @@ gcd 80000000
 gcd_slowest 20000000
 banerjee 80000000
 END
+
+# So many assignments in two loops over an array, repeated, or in one loop over a scalar. The data are empty.
+in_array() {
+    awk -v n="$1" 'BEGIN {
+        print "      INTEGER A(101,101)"
+        print "      DO 5 I = 1, 101"
+        print "      A(I,1) = 0"
+        print "    5 A(1,I) = 0"
+        printf "      DO 30 K = 1, %d\n", n / 10000
+        print "      DO 20 I = 2, 101"
+        print "      DO 10 J = 2, 101"
+        print "   10 A(I,J) = A(I-1,J)+A(I,J-1)"
+        print "   20 CONTINUE"
+        print "   30 CONTINUE"
+        print "      END"
+    }'
+}
+in_scalar() {
+    printf '      K = 0\n      DO 10 I = 1, %d\n   10 K = K+I-I+1\n      PRINT *, K\n      END\n' "$1"
+}
+printf '\n%10s %12s %15s\n' over assignments ns/assignment
+rm -f -- "$work/figures"
+printf '      END\n' >"$work/nothing.f"
+for over in array scalar; do
+    for assignments in 10000 100000 1000000 10000000; do
+        "in_$over" "$assignments" >"$work/run.f"
+        awk -v over="$over" -v assignments="$assignments" \
+            -v seconds="$(least '%U %S' run "$work/run.f" /dev/null)" \
+            -v no_seconds="$(least '%U %S' run "$work/nothing.f" /dev/null)" 'BEGIN {
+                printf "%10s %12d %15.0f\n", over, assignments, (seconds - no_seconds) * 1e9 / assignments
+            }'
+    done
+done
+printf '      INTEGER A(1024,1024)\n      A(1,1) = 1\n      END\n' >"$work/run.f"
+awk -v peak="$(least %M run "$work/run.f" /dev/null)" -v no_peak="$(least %M run "$work/nothing.f" /dev/null)" \
+    'BEGIN { printf "store of 2^20 elements: %.1f MiB\n", (peak - no_peak) / 1024 }'
 
 # The launcher proves and builds ped where that hasn't been done. What starting it takes is left out: it is the
 # time of showing a small file.

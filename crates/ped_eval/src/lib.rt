@@ -24,7 +24,8 @@ mod turns;
 
 ghost use Rattle.std.specs.Prelude.{◌≡◌, List, ℕ};
 ghost use Rattle.ped_tree.specs.Tree.{ProgramTree};
-ghost use Rattle.ped_eval.specs.Outcomes.{Outcome, outcome, outcome_of, run_of};
+ghost use Rattle.ped_eval.specs.Outcomes as Spec;
+ghost use Rattle.ped_eval.specs.Outcomes.{outcome, outcome_of, run_of};
 
 pub use evaluation::{eval, truth};
 pub use outcomes::{LiveRow, Outcome};
@@ -33,5 +34,5 @@ pub use scopes::{Frame, Scope};
 
 /// A program has one outcome on its data, and its list of acts and their ending tell it.
 pub fn one_outcome()
-    ensures { (t : ProgramTree) (data_bytes : List ℕ) (o p : Outcome) → o ≡ outcome t data_bytes → p ≡ outcome_of t (run_of t data_bytes).ending → o ≡ p }
+    ensures { (t : ProgramTree) (data_bytes : List ℕ) (o p : Spec.Outcome) → o ≡ outcome t data_bytes → p ≡ outcome_of t (run_of t data_bytes).ending → o ≡ p }
 {}

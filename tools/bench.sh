@@ -101,32 +101,37 @@ six_deep() {
 
 # As many statements as there may be, six loops in one another, and statements of 64 references.
 many_references() {
-    awk 'BEGIN {
-        print "      INTEGER A(9)"
-        for (k = 1; k <= 6; k++) printf "      DO %d I%d = 1, 9\n", 70 - 10 * k, k
-        for (k = 0; k < 20; k++) {
-            printf "      K%d = A(1)", k
-            for (j = 1; j < 63; j++) printf "\n     &  + A(%d)", j % 9 + 1
-            print ""
+    awk '
+        function statement(text, i) {
+            for (i = 1; i <= length(text); i += 66) printf "%s%s\n", i == 1 ? "      " : "     &", substr(text, i, 66)
         }
-        for (k = 6; k >= 1; k--) printf "%5d CONTINUE\n", 70 - 10 * k
-        for (k = 26; k < 4000; k++) print "      L = 1"
-        print "      END"
-    }'
+        BEGIN {
+            print "      INTEGER A(9)"
+            for (k = 1; k <= 6; k++) printf "      DO %d I%d = 1, 9\n", 70 - 10 * k, k
+            text = "A(1)"
+            for (j = 1; j < 63; j++) text = text "+A(" j % 9 + 1 ")"
+            for (k = 0; k < 20; k++) statement("K" k "=" text)
+            for (k = 6; k >= 1; k--) printf "%5d CONTINUE\n", 70 - 10 * k
+            for (k = 26; k < 4000; k++) print "      L = 1"
+            print "      END"
+        }
+    '
 }
 
 # Parentheses as deep as one statement allows, and blocks as deep as they may stand.
 deep_blocks() {
-    awk 'BEGIN {
-        for (k = 0; k < 99; k++) print "      IF (K.EQ.1) THEN"
-        printf "      K = "
-        for (k = 0; k < 640; k++) printf "%s(", k % 40 ? "" : "\n     &"
-        printf "\n     &1"
-        for (k = 0; k < 640; k++) printf "%s)", k % 40 ? "" : "\n     &"
-        print ""
-        for (k = 0; k < 99; k++) print "      END IF"
-        print "      END"
-    }'
+    awk '
+        function statement(text, i) {
+            for (i = 1; i <= length(text); i += 66) printf "%s%s\n", i == 1 ? "      " : "     &", substr(text, i, 66)
+        }
+        BEGIN {
+            for (k = 0; k < 99; k++) print "      IF (K.EQ.1) THEN"
+            for (k = 0; k < 640; k++) { left = left "("; right = right ")" }
+            statement("K=" left "1" right)
+            for (k = 0; k < 99; k++) print "      END IF"
+            print "      END"
+        }
+    '
 }
 
 # The least stack in KiB, in steps of 16, with which a file is shown.

@@ -13,4 +13,5 @@ mod words;
 
 pub use items::{Command, Item, Script};
 pub use laws::one_command;
+pub use lines::TextLines;
 pub use reading::commands;

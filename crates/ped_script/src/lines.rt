@@ -1,4 +1,4 @@
-//! The lines of a script. A line feed ends a line, and one carriage return directly before it is no part
+//! The lines of a text. A line feed ends a line, and one carriage return directly before it is no part
 //! of the line; the last line may lack its line feed.
 
 ghost use Rattle.std.specs.Prelude.{◌≡◌, ◌<◌, ◌+◌, ◌==◌, [], ◌∷◌, length, MatchOption, IfSome, position};
@@ -6,14 +6,14 @@ ghost use Rattle.std.specs.Str.Lines.{lines, strip_carriage_return};
 
 use std::marker::Model;
 
-/// The lines of a script that are left. Contracts see them, and how many stood before them.
+/// The lines of a text that are left. Contracts see them, and how many stood before them.
 #[derive(Drop)]
-pub struct ScriptLines<'a> {
+pub struct TextLines<'a> {
     rest: &'a [u8],
     read: u64,
 }
 
-impl<'a> Model for ScriptLines<'a> {
+impl<'a> Model for TextLines<'a> {
     ghost use Rattle.ped_script.specs.Lines.{Left};
 
     ghost Value = { Left };
@@ -26,13 +26,13 @@ impl<'a> Model for ScriptLines<'a> {
     ghost invariant = { λ s. s.read + length s.rest.now < 2 ^ 64 };
 }
 
-impl<'a> ScriptLines<'a> {
-    /// All lines of a script.
+impl<'a> TextLines<'a> {
+    /// All lines of a text.
     pub fn new(script: &'a [u8]) -> Self
         ensures read { result.read ≡ 0 }
         ensures lines { result.lines ≡ lines script.now }
     {
-        ScriptLines {
+        TextLines {
             rest: script,
             read: 0,
         }

@@ -5,7 +5,7 @@ ghost use Rattle.ped_script.specs.Items as Items;
 ghost use Rattle.ped_script.specs.Items.{commands_of, text_of, text_count, whole_command, taken_lines};
 
 use crate::items::{Command, Item, Script};
-use crate::lines::ScriptLines;
+use crate::lines::TextLines;
 use crate::rows::command;
 use crate::words::{has_word, is_word};
 use ped_base::{Bytes, Listed, NoMemory};
@@ -18,7 +18,7 @@ pub fn commands(alloc: Global, script: &[u8]) -> Result<Script, NoMemory>
     ensures { IfOk result (λ items. items ≡ commands_of script.now) }
 {
     let mut items = Script::new(alloc);
-    let mut lines = ScriptLines::new(script);
+    let mut lines = TextLines::new(script);
     while let Some(line) = lines.next() {
         if !has_word(line) {
             continue;
@@ -39,7 +39,7 @@ pub fn commands(alloc: Global, script: &[u8]) -> Result<Script, NoMemory>
 fn whole(
     alloc: Global,
     command: Option<Command>,
-    lines: &mut ScriptLines<'_>,
+    lines: &mut TextLines<'_>,
 ) -> Result<Option<Command>, NoMemory>
     ensures command { IfOk result (λ c. c ≡ whole_command command lines.old.lines) }
     ensures lines { OnOk result (lines.new.lines ≡ drop (taken_lines command lines.old.lines) lines.old.lines) }
@@ -58,7 +58,7 @@ fn whole(
 
 /// Takes the text of an edit, with the period behind it; none where there is no such line, and then all lines
 /// are taken.
-fn text(alloc: Global, lines: &mut ScriptLines<'_>) -> Result<Option<Listed<Bytes>>, NoMemory>
+fn text(alloc: Global, lines: &mut TextLines<'_>) -> Result<Option<Listed<Bytes>>, NoMemory>
     ensures text { IfOk result (λ text. text ≡ text_of lines.old.lines) }
     ensures lines { OnOk result (lines.new.lines ≡ drop (text_count lines.old.lines) lines.old.lines) }
     ensures read { OnOk result (lines.new.read ≡ lines.old.read + text_count lines.old.lines) }

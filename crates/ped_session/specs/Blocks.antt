@@ -1,0 +1,27 @@
+-- What is printed of an outcome (this project).
+use Rattle.std.specs.Prelude.{ℕ, ℤ, List, [], ◌∷◌, ◌++◌, codes, Option, Some, None}
+use Rattle.std.specs.Fmt.{decimal, signed_decimal}
+use Rattle.std.specs.List.{flat_map}
+use Rattle.ped_eval.specs.Outcomes.{LiveRow, Outcome, Ended, Fault}
+
+-- a line that the program has printed, behind a bar and a blank
+abbrev pub output_row : List ℕ → List ℕ
+output_row line = codes "| " ++ line ++ 10 ∷ []
+
+-- a value behind a blank; an undefined one is a question mark
+abbrev pub value_text : Option ℤ → List ℕ
+value_text None = codes " ?"
+value_text (Some n) = codes " " ++ signed_decimal n
+
+-- a live-out variable with its values
+abbrev pub live_row : LiveRow → List ℕ
+live_row row = codes "live " ++ row.name ++ flat_map value_text row.values ++ 10 ∷ []
+
+-- a fault with the statement that met it
+abbrev pub fault_row : ℕ → ℕ → List ℕ
+fault_row number statement = codes "fault " ++ decimal number ++ codes " at " ++ decimal statement ++ 10 ∷ []
+
+-- an outcome: the printed lines, `ended` and the live-out variables; or the fault with its statement
+abbrev pub block : Outcome → List ℕ
+block (Ended output live) = flat_map output_row output ++ codes "ended" ++ 10 ∷ flat_map live_row live
+block (Fault number statement) = fault_row number statement

@@ -1,0 +1,38 @@
+-- What a session holds of its programs. Contracts of private functions alone speak of it (this project).
+use Rattle.std.specs.Prelude.{◌≡◌, List, [], ◌∷◌}
+use Rattle.ped_tree.specs.Tree.{ProgramTree}
+use Rattle.ped_tree.specs.Views.{program_tree}
+use Rattle.ped_tree.specs.Printing.{program_text}
+use Rattle.ped_symbols.specs.Kinds.{table_of}
+use Rattle.ped_symbols.specs.NameRefusals.{IsValid}
+use Rattle.ped_graph.specs.Held.{Held, held_of}
+use Rattle.ped_update.specs.Deltas.{TakesTo}
+use Rattle.ped_session.specs.declared.versions.Version.{Version}
+use Rattle.ped_session.specs.declared.versions.Entry.{Entry}
+use Rattle.ped_session.specs.States.{Other}
+
+-- the tree of a version
+abbrev pub tree_of : Version → ProgramTree
+tree_of v = program_tree v.program
+
+-- a version is a valid program with what its names stand for and its printed text
+pub record IsVersion (v : Version) : Type 0 where
+  pub valid : IsValid (tree_of v)
+  pub symbols : v.symbols ≡ table_of (tree_of v)
+  pub text : v.text ≡ program_text (tree_of v)
+
+-- the source that an entry of the history holds, with the change
+abbrev pub other_of : {L : _} → Entry L → Other
+other_of e = (e.other.text, e.change)
+
+-- one behind another the entries take a graph that holds this to the graphs of their programs
+abbrev pub Leads : {L : _} → Held → List (Entry L) → Type 0
+Leads graph [] = Unit {0}
+Leads graph (e ∷ es) = IsVersion e.other × TakesTo e.delta graph (held_of (tree_of e.other)) × Leads (held_of (tree_of e.other)) es
+
+-- the graph is that of the present program, and the past and the future can be gone to
+pub record IsConsistent {L : _} (present : Version) (graph : Held) (past future : List (Entry L)) : Type 0 where
+  pub version : IsVersion present
+  pub graph_is : graph ≡ held_of (tree_of present)
+  pub past_leads : Leads graph past
+  pub future_leads : Leads graph future

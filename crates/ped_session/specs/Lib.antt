@@ -1,0 +1,9 @@
+pub mod Blocks
+pub mod Histories
+pub mod Holding
+pub mod Panes
+pub mod Replies
+pub mod Scripts
+pub mod Splices
+pub mod States
+pub mod Steps

@@ -1,0 +1,13 @@
+-- What a session prints of its present program (ParaScope; this project).
+use Rattle.std.specs.Prelude.{◌≡◌, ℕ, List, ◌++◌}
+use Rattle.ped_tree.specs.Tree.{ProgramTree}
+use Rattle.ped_tree.specs.SourcePane.{source_pane}
+use Rattle.ped_graph.specs.DependencePane.{IsDependencePane}
+
+-- the source pane of a program
+abbrev pub IsSourcePane : ProgramTree → List ℕ → Type 0
+IsSourcePane t pane = pane ≡ source_pane t
+
+-- both panes of a program: the source pane, and behind it the dependence pane
+abbrev pub ArePanes : ProgramTree → List ℕ → Type 0
+ArePanes t bytes = (pane : List ℕ) × IsDependencePane t pane × (bytes ≡ source_pane t ++ pane)

@@ -1,0 +1,114 @@
+-- What a command does: its reply, and the state of the session behind it (ParaScope; this project).
+use Rattle.std.specs.Prelude.{◌≡◌, ◌⊎◌, ℕ, ◌-◌, ◌+◌, List, [], ◌∷◌, Bool, Option, Some, None, MatchOption, MatchBool}
+use Rattle.ped_tree.specs.Tree.{StmtTree, ProgramTree}
+use Rattle.ped_tree.specs.Printing.{program_text}
+use Rattle.ped_tree.specs.Numbering.{statement_with}
+use Rattle.ped_grammar.specs.RefusalViews.{finding_of}
+use Rattle.ped_grammar.specs.declared.refusals.Refusal as text
+use Rattle.ped_valid.specs.Validity.{ReadsValid, RefusesText}
+use Rattle.ped_graph.specs.DependencePane.{IsDependencePane, IsDependencePaneOf}
+use Rattle.ped_update.specs.Fresh.{tested_pairs}
+use Rattle.ped_eval.specs.Outcomes.{outcome}
+use Rattle.ped_script.specs.declared.items.Command.{Command}
+use Rattle.ped_script.specs.declared.items.Command.TheVariants.{Source, Deps, Show, Print, Advise, Replace, Insert, Delete, Interchange, Reverse, Skew, Strip, Peel, Distribute, Fuse, Expand, Privatise, Parallel, Serial, Reject, Undo, Redo, Run, Races, Tested}
+use Rattle.ped_session.specs.declared.changes.Change.{Change}
+use Rattle.ped_session.specs.declared.changes.Change.TheVariants.{Edit}
+use Rattle.ped_session.specs.declared.replies.Refusal.TheVariants.{BadEdit, NothingToUndo, NothingToRedo, NoSuchStatement, NoSuchLine, NotBuilt}
+use Rattle.ped_session.specs.declared.replies.Reply.{Reply}
+use Rattle.ped_session.specs.declared.replies.Reply.TheVariants.{Changed, Shown, Refused}
+use Rattle.ped_session.specs.declared.replies.Refusal.{Refusal}
+use Rattle.ped_session.specs.States.{Other, State, changed_to, gone_back_to, gone_forward_to}
+use Rattle.ped_session.specs.Splices.{spliced, are_lines, is_place}
+use Rattle.ped_session.specs.Panes.{IsSourcePane, ArePanes}
+use Rattle.ped_session.specs.Blocks.{block}
+
+-- the command is refused, and the session is as it was
+abbrev pub Refuses : Refusal → State → Reply → State → Type 0
+Refuses why s reply next = (reply ≡ Refused why) × (next ≡ s)
+
+-- something is printed, and the session is as it was
+abbrev pub Prints : List ℕ → State → Reply → State → Type 0
+Prints bytes s reply next = (reply ≡ Shown bytes) × (next ≡ s)
+
+-- what is so of the present program is printed, and the session is as it was
+pub record Shows (IsSo : ProgramTree → List ℕ → Type 0) (s : State) (reply : Reply) (next : State) : Type 0 where
+  pub tree : ProgramTree
+  pub reads : ReadsValid s.present tree
+  pub bytes : List ℕ
+  pub so : IsSo tree bytes
+  pub prints : Prints bytes s reply next
+
+-- the rows of a statement are shown, where the present program has it
+abbrev pub ShowsOf : ℕ → Option StmtTree → State → Reply → State → Type 0
+ShowsOf number None s reply next = Refuses NoSuchStatement s reply next
+ShowsOf number (Some statement) s reply next = Shows (λ t. IsDependencePaneOf t (Some number)) s reply next
+
+-- the rows of the statement with this number are shown, where the present program has it
+pub record ShowsStatement (number : ℕ) (s : State) (reply : Reply) (next : State) : Type 0 where
+  pub tree : ProgramTree
+  pub reads : ReadsValid s.present tree
+  pub shows : ShowsOf number (statement_with number tree) s reply next
+
+-- the text of an edit is read afresh, and the printed text of what was read is the new source; or it is refused, and the session is as it was
+pub data Edits (text : List ℕ) (s : State) (reply : Reply) (next : State) : Type 0 where
+  accepted : (old new : ProgramTree) → ReadsValid s.present old → ReadsValid text new
+      → reply ≡ Changed → next ≡ changed_to (program_text new) Edit (tested_pairs old new []) s → Edits text s reply next
+  refused : (why : text.Refusal) → RefusesText text (finding_of why) → Refuses (BadEdit why) s reply next → Edits text s reply next
+
+-- lines of the present source go and others come in their place, where it has the lines that go
+abbrev pub Replaces : ℕ → ℕ → List (List ℕ) → State → Reply → State → Type 0
+Replaces first last new s reply next =
+    MatchBool (are_lines s.present first last) (Edits (spliced s.present (first - 1) (last + 1 - first) new) s reply next) (Refuses NoSuchLine s reply next)
+
+-- lines come behind a line of the present source, or before its first line for 0
+abbrev pub Inserts : ℕ → List (List ℕ) → State → Reply → State → Type 0
+Inserts after new s reply next =
+    MatchBool (is_place s.present after) (Edits (spliced s.present after 0 new) s reply next) (Refuses NoSuchLine s reply next)
+
+-- one step back, where there is a past
+abbrev pub GoesBack : List Other → State → Reply → State → Type 0
+GoesBack [] s reply next = Refuses NothingToUndo s reply next
+GoesBack (other ∷ past) s reply next = (reply ≡ Changed) × (next ≡ gone_back_to other past s)
+
+-- one step forward, where there is a future
+abbrev pub GoesForward : List Other → State → Reply → State → Type 0
+GoesForward [] s reply next = Refuses NothingToRedo s reply next
+GoesForward (other ∷ future) s reply next = (reply ≡ Changed) × (next ≡ gone_forward_to other future s)
+
+-- the present program is run in order on the data, where no choices are given
+abbrev pub Runs : List ℕ → List ℕ → State → Reply → State → Type 0
+Runs [] data_bytes s reply next = Shows (λ t bytes. bytes ≡ block (outcome t data_bytes)) s reply next
+Runs (c ∷ cs) data_bytes s reply next = Refuses NotBuilt s reply next
+
+-- what a command does to a session whose programs are run on these data
+abbrev pub IsStep : Command → List ℕ → State → Reply → State → Type 0
+IsStep Source data_bytes s reply next = Shows IsSourcePane s reply next
+IsStep (Deps None) data_bytes s reply next = Shows IsDependencePane s reply next
+IsStep (Deps (Some number)) data_bytes s reply next = ShowsStatement number s reply next
+IsStep Show data_bytes s reply next = Shows ArePanes s reply next
+IsStep Print data_bytes s reply next = Prints s.present s reply next
+IsStep (Replace first last lines) data_bytes s reply next = Replaces first last lines s reply next
+IsStep (Insert after lines) data_bytes s reply next = Inserts after lines s reply next
+IsStep (Delete first last) data_bytes s reply next = Replaces first last [] s reply next
+IsStep Undo data_bytes s reply next = GoesBack s.past s reply next
+IsStep Redo data_bytes s reply next = GoesForward s.future s reply next
+IsStep (Run choices) data_bytes s reply next = Runs choices data_bytes s reply next
+IsStep (Advise number) data_bytes s reply next = Refuses NotBuilt s reply next
+IsStep (Interchange number) data_bytes s reply next = Refuses NotBuilt s reply next
+IsStep (Reverse number) data_bytes s reply next = Refuses NotBuilt s reply next
+IsStep (Skew number factor) data_bytes s reply next = Refuses NotBuilt s reply next
+IsStep (Strip number size) data_bytes s reply next = Refuses NotBuilt s reply next
+IsStep (Peel number last) data_bytes s reply next = Refuses NotBuilt s reply next
+IsStep (Distribute number) data_bytes s reply next = Refuses NotBuilt s reply next
+IsStep (Fuse number) data_bytes s reply next = Refuses NotBuilt s reply next
+IsStep (Expand number name) data_bytes s reply next = Refuses NotBuilt s reply next
+IsStep (Privatise number name) data_bytes s reply next = Refuses NotBuilt s reply next
+IsStep (Parallel number) data_bytes s reply next = Refuses NotBuilt s reply next
+IsStep (Serial number) data_bytes s reply next = Refuses NotBuilt s reply next
+IsStep (Reject number name) data_bytes s reply next = Refuses NotBuilt s reply next
+IsStep Races data_bytes s reply next = Refuses NotBuilt s reply next
+IsStep Tested data_bytes s reply next = Refuses NotBuilt s reply next
+
+-- `undo` and `redo` move along the history
+abbrev pub IsMove : Command → Type 0
+IsMove command = (command ≡ Undo) ⊎ (command ≡ Redo)

@@ -1,0 +1,12 @@
+//! The kinds of changes.
+
+/// The kind of a change between two sources of a session.
+#[derive(Clone, Copy, Debug, PartialEq, Eq)]
+pub enum Change {
+    /// Lines were edited.
+    Edit,
+    /// Dependences of a variable were rejected.
+    Rejection,
+    /// The program was transformed.
+    Transformation,
+}

@@ -1,0 +1,55 @@
+//! What holds of every session. Each function here does nothing; its contract is the law.
+
+ghost use Rattle.std.specs.Prelude.{◌≡◌, ℕ, List};
+ghost use Rattle.ped_tree.specs.Tree.{ProgramTree};
+ghost use Rattle.ped_symbols.specs.NameRefusals.{IsValid};
+ghost use Rattle.ped_script.specs.declared.items.Command.{Command};
+ghost use Rattle.ped_script.specs.declared.items.Command.TheVariants.{Undo, Redo};
+ghost use Rattle.ped_script.specs.declared.items.Item.{Item};
+ghost use Rattle.ped_session.specs.declared.replies.Refusal as code_refusal;
+ghost use Rattle.ped_session.specs.declared.replies.Reply as code_reply;
+ghost use Rattle.ped_session.specs.declared.replies.Reply.TheVariants.{Changed, Refused};
+ghost use Rattle.ped_session.specs.States.{State, opened};
+ghost use Rattle.ped_session.specs.Steps.{IsStep, IsMove};
+ghost use Rattle.ped_session.specs.Scripts.{Said, AnswersItems};
+ghost use Rattle.ped_session.specs.Histories.{ArePrinted, HaveSameSources, Times};
+
+/// A command has one reply at most in a state, and leads to one state.
+pub fn one_step()
+    ensures { (c : Command) (data_bytes : List ℕ) (s m n : State) (p q : code_reply.Reply) →
+        IsStep c data_bytes s p m → IsStep c data_bytes s q n → (p ≡ q) × (m ≡ n) }
+{}
+
+/// The items of a script have one answer at most in a state, and lead to one state.
+pub fn one_answer()
+    ensures { (items : List Item) (data_bytes : List ℕ) (s m n : State) (a b : Said) →
+        AnswersItems items data_bytes s a m → AnswersItems items data_bytes s b n → (a ≡ b) × (m ≡ n) }
+{}
+
+/// A refused command leaves the session as it was.
+pub fn refused_changes_nothing()
+    ensures { (c : Command) (data_bytes : List ℕ) (s next : State) (why : code_refusal.Refusal) →
+        IsStep c data_bytes s (Refused why) next → next ≡ s }
+{}
+
+/// Whatever a script does, all sources are printed texts of valid programs. So there is one program of each, and the
+/// panes of the present one are those of its text read afresh.
+pub fn sources_are_printed()
+    ensures { (t : ProgramTree) → IsValid t → (items : List Item) (data_bytes : List ℕ) (said : Said) (last : State) →
+        AnswersItems items data_bytes (opened t) said last → ArePrinted last }
+{}
+
+/// `undo` behind an accepted change gives the former source, byte for byte, and the former past.
+pub fn undo_restores()
+    ensures { (c : Command) (data_bytes : List ℕ) (s next back : State) → ¬ (IsMove c) →
+        IsStep c data_bytes s Changed next → IsStep Undo data_bytes next Changed back →
+        (back.present ≡ s.present) × (back.past ≡ s.past) }
+{}
+
+/// As many times `redo` as `undo` give all sources again, and the other way round.
+pub fn moves_restore_each_other()
+    ensures redone { (n : ℕ) (data_bytes : List ℕ) (s back again : State) →
+        Times n Undo data_bytes s back → Times n Redo data_bytes back again → HaveSameSources again s }
+    ensures undone { (n : ℕ) (data_bytes : List ℕ) (s forth again : State) →
+        Times n Redo data_bytes s forth → Times n Undo data_bytes forth again → HaveSameSources again s }
+{}

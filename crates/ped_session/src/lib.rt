@@ -1,0 +1,24 @@
+//! A session: a program that is edited step by step. It holds the present source beside its dependence graph, and
+//! the past and future sources with what changes between them. The definitions stand in `specs/`.
+#![tactic(auto)]
+
+mod blocks;
+mod changes;
+mod editing;
+mod laws;
+mod moving;
+mod replies;
+mod scripts;
+mod session;
+mod showing;
+mod splices;
+mod versions;
+
+pub use changes::Change;
+pub use laws::{
+    moves_restore_each_other, one_answer, one_step, refused_changes_nothing, sources_are_printed,
+    undo_restores,
+};
+pub use replies::{Refusal, Reply};
+pub use scripts::{bad_command_row, reply_text};
+pub use session::Session;

@@ -1,0 +1,180 @@
+//! Sessions, and the commands that they answer.
+
+ghost use Rattle.std.specs.Prelude.{◌≡◌, ◌≢◌, ◌+◌, ◌≤◌, ℕ, List, length, IfOk, IfErr, OnOk, OnErr, is_ok, true};
+ghost use Rattle.ped_tree.specs.Tree.{ProgramTree};
+ghost use Rattle.ped_tree.specs.Numbering.{statements_count};
+ghost use Rattle.ped_refs.specs.References.{references, pair_count};
+ghost use Rattle.ped_valid.specs.Validity.{ReadsValid};
+ghost use Rattle.ped_valid.specs.Refusals.{IsRefusalOf};
+ghost use Rattle.ped_edges.specs.Edges as plain;
+ghost use Rattle.ped_graph.specs.Dependences.{AreEdges};
+ghost use Rattle.ped_eval.specs.Outcomes.{outcome};
+ghost use Rattle.ped_eval.specs.OutcomeViews.{outcome_view};
+ghost use Rattle.ped_session.specs.States.{State, opened};
+ghost use Rattle.ped_session.specs.Steps.{IsStep, IsMove};
+ghost use Rattle.ped_session.specs.Scripts.{tests_of};
+
+use crate::blocks::block;
+use crate::replies::{Refusal, Reply};
+use crate::versions::{Entry, Version};
+use ped_base::{Bytes, NoMemory};
+use ped_eval::{Outcome, run_in_order};
+use ped_graph::Graph;
+use ped_history::History;
+use ped_print::print;
+use ped_script::Command;
+use ped_valid::{OpenRefusal, Opened, open_program};
+use ped_verdict::Steps;
+use std::alloc::Global;
+use std::marker::Model;
+use std::sync::ledger::Ledger;
+
+/// A session on a program. Contracts see its state: the past sources, the present one and the future ones.
+#[derive(Drop)]
+pub struct Session<L: Ledger> {
+    pub(crate) present: Version,
+    pub(crate) graph: Graph<L>,
+    pub(crate) history: History<Entry<L>>,
+    pub(crate) tested: u64,
+}
+
+impl<L: Ledger> Model for Session<L> {
+    ghost use Rattle.std.specs.Prelude.{map};
+    ghost use Rattle.ped_session.specs.States.{State};
+    ghost use Rattle.ped_session.specs.Holding.{other_of, IsConsistent};
+
+    ghost Value = { State };
+
+    ghost view = { λ s. record { past = map other_of s.history.past; present = s.present.text; future = map other_of s.history.future; tested = s.tested } };
+
+    ghost invariant = { λ s. IsConsistent s.present s.graph s.history.past s.history.future };
+}
+
+impl<L: Ledger> Session<L> {
+    /// A session on the program of a text. Its present source is the program's printed text, and each pair of
+    /// references is tested once.
+    ///
+    /// # Errors
+    ///
+    /// `At` exactly where the text is refused, with its first refusal; then nothing is tested. `NoMemory` where memory
+    /// runs out.
+    pub fn open(
+        alloc: Global,
+        text: &[u8],
+        steps: &mut Steps<L>,
+    ) -> Result<Session<L>, OpenRefusal>
+        ensures opened { IfOk result (λ s. (t : ProgramTree) × ReadsValid text.now t × (s ≡ opened t)) }
+        ensures refused { IfErr result (IsRefusalOf text.now) }
+        ensures ticks { OnOk result ((t : ProgramTree) → ReadsValid text.now t → steps.new ≡ steps.old + pair_count (references t)) }
+        ensures untested { IfErr result (λ e. e ≢ OpenRefusal.NoMemory → steps.new ≡ steps.old) }
+        ensures least { steps.old ≤ steps.new }
+        ensures most { (t : ProgramTree) → ReadsValid text.now t → steps.new ≤ steps.old + pair_count (references t) }
+    {
+        let Opened { program, symbols } = open_program(alloc, text)?;
+        let text = print(alloc, &program)?;
+        let graph = Graph::build(alloc, &program, symbols.consts(), steps)?;
+        let tested = graph.pair_count();
+        Ok(Session {
+            present: Version {
+                program,
+                symbols,
+                text,
+            },
+            graph,
+            history: History::new(alloc),
+            tested,
+        })
+    }
+
+    /// The present source.
+    pub fn source(&self) -> &[u8]
+        ensures { result.now ≡ self.now.present }
+    {
+        self.present.text.as_slice()
+    }
+
+    /// How many numbered statements the present program has.
+    pub fn statements(&self) -> u64
+        ensures { (t : ProgramTree) → ReadsValid self.now.present t → result ≡ statements_count t.body }
+    {
+        self.graph.statement_count()
+    }
+
+    /// How many ordered pairs of references the present program has.
+    pub fn pairs(&self) -> u64
+        ensures { (t : ProgramTree) → ReadsValid self.now.present t → result ≡ pair_count (references t) }
+    {
+        self.graph.pair_count()
+    }
+
+    /// How many dependences the present program has.
+    pub fn edges(&self, alloc: Global) -> Result<u64, NoMemory>
+        ensures { IfOk result (λ n. (t : ProgramTree) → ReadsValid self.now.present t → (edges : List plain.Edge) → AreEdges t edges → n ≡ length edges) }
+    {
+        Ok(self.graph.edges(alloc)?.len() as u64)
+    }
+
+    /// How many pairs of references the last accepted change, undo or redo has tested, or the opening.
+    pub fn tested(&self) -> u64
+        ensures { result ≡ self.now.tested }
+    {
+        self.tested
+    }
+
+    /// Runs the present program in order on the lines of its data.
+    pub fn run(&self, alloc: Global, input: &[u8]) -> Result<Outcome, NoMemory>
+        ensures { IfOk result (λ o. (t : ProgramTree) → ReadsValid self.now.present t → outcome_view o ≡ outcome t input.now) }
+    {
+        run_in_order(alloc, &self.present.program, &self.present.symbols, input)
+    }
+
+    /// Answers a command; programs are run on these data. A refused command leaves the session as it was, and so does
+    /// want of memory, which never comes at `undo` and `redo`. An accepted edit tests the pairs of the new program,
+    /// and no other command tests any.
+    pub fn apply(
+        &mut self,
+        alloc: Global,
+        command: &Command,
+        input: &[u8],
+        steps: &mut Steps<L>,
+    ) -> Result<Reply, NoMemory>
+        ensures answers { IfOk result (λ reply. IsStep command.now input.now self.old reply self.new) }
+        ensures kept { OnErr result (self.new ≡ self.old) }
+        ensures ticks { IfOk result (λ reply. steps.new ≡ steps.old + tests_of reply self.new) }
+        ensures least { steps.old ≤ steps.new }
+        ensures most { (reply : Reply) (next : State) → IsStep command.now input.now self.old reply next → steps.new ≤ steps.old + tests_of reply next }
+        ensures sure { IsMove command.now → is_ok result ≡ true }
+    {
+        match command {
+            Command::Source => self.show_source(alloc),
+            Command::Deps(of) => self.show_dependences(alloc, *of),
+            Command::Show => self.show_both(alloc),
+            Command::Print => self.show_text(alloc),
+            Command::Replace { first, last, lines } => {
+                self.replace(alloc, *first, *last, lines.as_slice(), steps)
+            }
+            Command::Insert { after, lines } => {
+                self.insert(alloc, *after, lines.as_slice(), steps)
+            }
+            Command::Delete { first, last } => self.replace(alloc, *first, *last, &[], steps),
+            Command::Undo => Ok(self.undo()),
+            Command::Redo => Ok(self.redo()),
+            Command::Run(choices) => self.show_run(alloc, choices.as_slice(), input),
+            Command::Advise(_)
+            | Command::Interchange(_)
+            | Command::Reverse(_)
+            | Command::Skew(_, _)
+            | Command::Strip(_, _)
+            | Command::Peel { .. }
+            | Command::Distribute(_)
+            | Command::Fuse(_)
+            | Command::Expand(_, _)
+            | Command::Privatise(_, _)
+            | Command::Parallel(_)
+            | Command::Serial(_)
+            | Command::Reject(_, _)
+            | Command::Races
+            | Command::Tested => Ok(Reply::Refused(Refusal::NotBuilt)),
+        }
+    }
+}

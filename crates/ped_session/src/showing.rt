@@ -1,0 +1,90 @@
+//! What is shown of the present program. Nothing here changes the session.
+
+ghost use Rattle.std.specs.Prelude.{◌≡◌, IfOk, Option, List, ℕ};
+ghost use Rattle.ped_graph.specs.DependencePane.{IsDependencePane, IsDependencePaneOf};
+ghost use Rattle.ped_session.specs.Panes.{IsSourcePane, ArePanes};
+ghost use Rattle.ped_session.specs.Steps.{Shows, Prints, Runs, IsStep};
+ghost use Rattle.ped_script.specs.declared.items.Command.TheVariants as commands;
+
+use crate::blocks::block;
+use crate::replies::{Refusal, Reply};
+use crate::session::Session;
+use ped_base::{Bytes, NoMemory};
+use ped_print::source_pane;
+use std::alloc::Global;
+use std::sync::ledger::Ledger;
+
+impl<L: Ledger> Session<L> {
+    /// The source pane.
+    pub(crate) fn show_source(&self, alloc: Global) -> Result<Reply, NoMemory>
+        ensures { IfOk result (λ reply. Shows IsSourcePane self.now reply self.now) }
+    {
+        Ok(Reply::Shown(source_pane(alloc, &self.present.program)?))
+    }
+
+    /// The dependence pane, of a statement where one is given.
+    pub(crate) fn show_dependences(
+        &self,
+        alloc: Global,
+        of: Option<u32>,
+    ) -> Result<Reply, NoMemory>
+        ensures { IfOk result (λ reply. (data_bytes : List ℕ) → IsStep (commands.Deps of) data_bytes self.now reply self.now) }
+    {
+        match of {
+            None => self.show_all_dependences(alloc),
+            Some(number) => self.show_dependences_of(alloc, number),
+        }
+    }
+
+    /// The dependence pane.
+    fn show_all_dependences(&self, alloc: Global) -> Result<Reply, NoMemory>
+        ensures { IfOk result (λ reply. Shows IsDependencePane self.now reply self.now) }
+    {
+        Ok(Reply::Shown(self.graph.dependence_pane(alloc, None)?))
+    }
+
+    /// The dependence pane of the statement with this number, where there is one.
+    fn show_dependences_of(&self, alloc: Global, number: u32) -> Result<Reply, NoMemory>
+        ensures { IfOk result (λ reply. ShowsStatement number self.now reply self.now) }
+    {
+        if !self.graph.has_statement(number) {
+            return Ok(Reply::Refused(Refusal::NoSuchStatement));
+        }
+        Ok(Reply::Shown(self.graph.dependence_pane(alloc, Some(number))?))
+    }
+
+    /// Both panes.
+    pub(crate) fn show_both(&self, alloc: Global) -> Result<Reply, NoMemory>
+        ensures { IfOk result (λ reply. Shows ArePanes self.now reply self.now) }
+    {
+        let mut panes = source_pane(alloc, &self.present.program)?;
+        let dependences = self.graph.dependence_pane(alloc, None)?;
+        panes.extend_from_slice(dependences.as_slice())?;
+        Ok(Reply::Shown(panes))
+    }
+
+    /// The source lines alone.
+    pub(crate) fn show_text(&self, alloc: Global) -> Result<Reply, NoMemory>
+        ensures { IfOk result (λ reply. Prints self.now.present self.now reply self.now) }
+    {
+        let mut text = Bytes::new(alloc);
+        text.extend_from_slice(self.source())?;
+        Ok(Reply::Shown(text))
+    }
+
+    /// The outcome of the present program on these data, where no choices are given.
+    pub(crate) fn show_run(
+        &self,
+        alloc: Global,
+        choices: &[u64],
+        input: &[u8],
+    ) -> Result<Reply, NoMemory>
+        ensures { IfOk result (λ reply. Runs choices.now input.now self.now reply self.now) }
+    {
+        if !choices.is_empty() {
+            return Ok(Reply::Refused(Refusal::NotBuilt));
+        }
+        let outcome = self.run(alloc, input)?;
+        Ok(Reply::Shown(block(alloc, &outcome)?))
+    }
+}

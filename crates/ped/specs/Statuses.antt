@@ -1,11 +1,12 @@
 -- The exit statuses (this project).
 use Rattle.std.specs.Prelude.{ℕ}
 use Rattle.ped.specs.declared.answering.Status.{Status}
-use Rattle.ped.specs.declared.answering.Status.TheVariants.{Done, BadWords, ReadFault, WriteFault, ProgramRefused, NoMemory, TooLong}
+use Rattle.ped.specs.declared.answering.Status.TheVariants.{Done, SomeRefused, BadWords, ReadFault, WriteFault, ProgramRefused, NoMemory, TooLong}
 
 -- the exit status by how the call ended
 abbrev pub number_of : Status → ℕ
 number_of Done = 0
+number_of SomeRefused = 1
 number_of BadWords = 2
 number_of ReadFault = 3
 number_of WriteFault = 4

@@ -1,0 +1,69 @@
+//! The items of a script, answered one behind another.
+
+ghost use Rattle.std.specs.Prelude.{◌≡◌, ◌+◌, ◌≤◌, IfOk};
+ghost use Rattle.ped_session.specs.States.{State};
+ghost use Rattle.ped_session.specs.Scripts as Spec;
+ghost use Rattle.ped_session.specs.Scripts.{AnswersItems};
+
+use crate::replies::Reply;
+use crate::scripts::{bad_command_row, reply_text};
+use crate::session::Session;
+use ped_base::{Bytes, NoMemory};
+use ped_script::{Command, Item};
+use ped_verdict::Steps;
+use std::alloc::Global;
+use std::sync::ledger::Ledger;
+
+/// What a script has answered.
+#[derive(Drop)]
+pub struct Answered {
+    /// What is printed.
+    pub bytes: Bytes,
+    /// Whether a line was refused.
+    pub refused: bool,
+}
+
+/// Answers the items of a script one behind another; programs are run on these data. After want of memory the session
+/// stands behind the last item that was answered.
+pub fn answer_items<L: Ledger>(
+    alloc: Global,
+    session: &mut Session<L>,
+    items: &[Item],
+    input: &[u8],
+    steps: &mut Steps<L>,
+) -> Result<Answered, NoMemory>
+    ensures answers { IfOk result (λ answered. (said : Spec.Said) × AnswersItems items.now input.now session.old said session.new
+        × (answered.bytes ≡ said.bytes) × (answered.refused ≡ said.refused) × (steps.new ≡ steps.old + said.tests)) }
+    ensures least { steps.old ≤ steps.new }
+    ensures most { (said : Spec.Said) (last : State) → AnswersItems items.now input.now session.old said last → steps.new ≤ steps.old + said.tests }
+{
+    let mut answered = Answered {
+        bytes: Bytes::new(alloc),
+        refused: false,
+    };
+    for item in items {
+        match &item.command {
+            Some(command) => answer_command(alloc, session, item.line, command, input, &mut answered, steps)?,
+            None => add_bad_command(alloc, item.line, &mut answered)?,
+        }
+    }
+    Ok(answered)
+}
+
+/// Answers the command on this line.
+fn answer_command<L: Ledger>(
+    alloc: Global,
+    session: &mut Session<L>,
+    line: u64,
+    command: &Command,
+    input: &[u8],
+    answered: &mut Answered,
+    steps: &mut Steps<L>,
+) -> Result<(), NoMemory>
+{
+    let reply = session.apply(alloc, command, input, steps)?;
+    let text = reply_text(alloc, line, &reply)?;
+    answered.bytes.extend_from_slice(text.as_slice())?;
+    answered.refused = answered.refused || is_refused(&reply);
+    Ok(())
+}

@@ -1,6 +1,7 @@
 -- All sources of a session stay printed texts of valid programs.
 use Rattle.std.proofs.Common.{◌≡◌, ℕ, Bool, true, false, List, [], ◌∷◌, Option, Some, None, All, refl, sym, ap, ◌∙◌, subst}
 use Rattle.std.specs.Prelude.{MatchBool}
+use Rattle.std.proofs.lemmas.List.Elements.{All-nil, All-cons, All-head, All-tail}
 use Rattle.ped_tree.specs.Tree.{ProgramTree}
 use Rattle.ped_tree.specs.Numbering.{statement_with}
 use Rattle.ped_symbols.specs.NameRefusals.{IsValid}
@@ -16,13 +17,17 @@ use Rattle.ped_session.specs.Scripts.{Said, AnswersCommand, AnswersItems}
 use Rattle.ped_session.specs.Histories.{IsPrinted, ArePrinted}
 use Rattle.ped_session.proofs.RefusedSteps.{shown_stays, run_stays}
 
+-- a source of another list
+abbrev IsPrintedOther : Other → Type 0
+IsPrintedOther o = IsPrinted o.0
+
 -- a state that is as it was
 same : (s next : State) → ArePrinted s → next ≡ s → ArePrinted next
 same s next a e = subst ArePrinted (sym e) a
 
 edit_prints : (edited : List ℕ) (s next : State) (reply : Reply) → ArePrinted s → Edits edited s reply next → ArePrinted next
 edit_prints edited s next reply a (accepted old new from to changed after) =
-    subst ArePrinted (sym after) (record { past = (a.present, a.past); present = (new, to.valid, refl); future = tt })
+    subst ArePrinted (sym after) (record { past = All-cons IsPrintedOther _ _ a.present a.past; present = (new, to.valid, refl); future = All-nil IsPrintedOther })
 edit_prints edited s next reply a (refused why first stays) = same s next a stays.1
 
 edit_prints_by : (there : Bool) (edited : List ℕ) (s next : State) (reply : Reply) → ArePrinted s → MatchBool there (Edits edited s reply next) (Refuses NoSuchLine s reply next) → ArePrinted next
@@ -31,11 +36,11 @@ edit_prints_by false edited s next reply a h = same s next a h.1
 
 back_prints : (past : List Other) (s next : State) (reply : Reply) → ArePrinted s → All (λ (o : Other). IsPrinted o.0) past → GoesBack past s reply next → ArePrinted next
 back_prints [] s next reply a all h = same s next a h.1
-back_prints (o ∷ past) s next reply a all h = subst ArePrinted (sym h.1) (record { past = all.1; present = all.0; future = (a.present, a.future) })
+back_prints (o ∷ past) s next reply a all h = subst ArePrinted (sym h.1) (record { past = All-tail IsPrintedOther _ _ all; present = All-head IsPrintedOther _ _ all; future = All-cons IsPrintedOther _ _ a.present a.future })
 
 forward_prints : (future : List Other) (s next : State) (reply : Reply) → ArePrinted s → All (λ (o : Other). IsPrinted o.0) future → GoesForward future s reply next → ArePrinted next
 forward_prints [] s next reply a all h = same s next a h.1
-forward_prints (o ∷ future) s next reply a all h = subst ArePrinted (sym h.1) (record { past = (a.present, a.past); present = all.0; future = all.1 })
+forward_prints (o ∷ future) s next reply a all h = subst ArePrinted (sym h.1) (record { past = All-cons IsPrintedOther _ _ a.present a.past; present = All-head IsPrintedOther _ _ all; future = All-tail IsPrintedOther _ _ all })
 
 -- a command keeps it
 step_prints : (c : Command) (data_bytes : List ℕ) (s next : State) (reply : Reply) → ArePrinted s → IsStep c data_bytes s reply next → ArePrinted next
@@ -77,4 +82,4 @@ items_print (item ∷ items) data_bytes s last said a h =
 
 -- all sources behind a script on a valid program
 pub all_printed : (t : ProgramTree) → IsValid t → (items : List Item) (data_bytes : List ℕ) (said : Said) (last : State) → AnswersItems items data_bytes (opened t) said last → ArePrinted last
-all_printed t valid items data_bytes said last h = items_print items data_bytes (opened t) last said (record { past = tt; present = (t, valid, refl); future = tt }) h
+all_printed t valid items data_bytes said last h = items_print items data_bytes (opened t) last said (record { past = All-nil IsPrintedOther; present = (t, valid, refl); future = All-nil IsPrintedOther }) h

@@ -1,5 +1,5 @@
 -- What holds of a session whatever is done (ParaScope; this project).
-use Rattle.std.specs.Prelude.{◌≡◌, ℕ, suc, List, All}
+use Rattle.std.specs.Prelude.{◌≡◌, ℕ, zero, suc, List, All}
 use Rattle.ped_tree.specs.Tree.{ProgramTree}
 use Rattle.ped_tree.specs.Printing.{program_text}
 use Rattle.ped_symbols.specs.NameRefusals.{IsValid}
@@ -26,5 +26,5 @@ pub record HaveSameSources (s u : State) : Type 0 where
 
 -- a command is accepted so many times one behind another
 abbrev pub Times : ℕ → Command → List ℕ → State → State → Type 0
-Times 0 command data_bytes s last = last ≡ s
+Times zero command data_bytes s last = last ≡ s
 Times (suc n) command data_bytes s last = (next : State) × IsStep command data_bytes s Changed next × Times n command data_bytes next last

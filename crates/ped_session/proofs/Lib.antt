@@ -1,0 +1,7 @@
+mod LinesLeft
+mod Moves
+mod OneAnswer
+mod OneFinding
+pub mod OneStep
+mod PrintedSources
+mod RefusedSteps

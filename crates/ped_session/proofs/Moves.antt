@@ -1,0 +1,153 @@
+-- `undo` and `redo` move along the sources, and take each other back.
+use Rattle.std.proofs.Common.{◌≡◌, inl, inr, ℕ, zero, suc, Bool, true, false, List, [], ◌∷◌, Option, Some, None, refl, sym, ap, ◌∙◌, subst}
+use Rattle.std.specs.Prelude.{MatchBool}
+use Rattle.ped_tree.specs.Tree.{StmtTree}
+use Rattle.ped_tree.specs.Printing.{program_text}
+use Rattle.ped_tree.specs.Numbering.{statement_with}
+use Rattle.ped_update.specs.Fresh.{tested_pairs}
+use Rattle.ped_script.specs.declared.items.Command.{Command}
+use Rattle.ped_script.specs.declared.items.Command.TheVariants.{Source, Deps, Show, Print, Advise, Replace, Insert, Delete, Interchange, Reverse, Skew, Strip, Peel, Distribute, Fuse, Expand, Privatise, Parallel, Serial, Reject, Undo, Redo, Run, Races, Tested}
+use Rattle.ped_session.specs.declared.changes.Change.{Change}
+use Rattle.ped_session.specs.declared.changes.Change.TheVariants.{Edit}
+use Rattle.ped_session.specs.declared.replies.Refusal.{Refusal}
+use Rattle.ped_session.specs.declared.replies.Refusal.TheVariants.{NoSuchStatement, NoSuchLine, NotBuilt}
+use Rattle.ped_session.specs.declared.replies.Reply.{Reply}
+use Rattle.ped_session.specs.declared.replies.Reply.TheVariants.{Changed, Shown, Refused}
+use Rattle.ped_session.specs.States.{Other, State, changed_to}
+use Rattle.ped_session.specs.Splices.{are_lines, is_place}
+use Rattle.ped_session.specs.Steps.{Refuses, ShowsOf, Edits, accepted, refused, GoesBack, GoesForward, Runs, IsStep, IsMove}
+use Rattle.ped_session.specs.Histories.{HaveSameSources, Times}
+
+-- a change is no refusal, and nothing is shown by it
+no_refusal : (why : Refusal) → ◌≡◌ {A = Reply} Changed (Refused why) → ⊥
+no_refusal why e = cc
+
+no_show : (bytes : List ℕ) → ◌≡◌ {A = Reply} Changed (Shown bytes) → ⊥
+no_show bytes e = cc
+
+-- the first of some sources becomes the present one, and the present one the first of others
+record Moves (taken : List Other) (present : List ℕ) (given taken_next : List Other) (present_next : List ℕ) (given_next : List Other) : Type 0 where
+  other : Other
+  taken_is : taken ≡ other ∷ taken_next
+  present_is : present_next ≡ other.0
+  given_is : given_next ≡ (present, other.1) ∷ given
+
+-- there and back is as it was
+there_and_back : (taken given taken_next given_next taken_last given_last : List Other) (present present_next present_last : List ℕ)
+    → Moves taken present given taken_next present_next given_next → Moves given_next present_next taken_next given_last present_last taken_last
+    → (taken_last ≡ taken) × (present_last ≡ present) × (given_last ≡ given)
+there_and_back taken given taken_next given_next taken_last given_last present present_next present_last a b =
+    let same : (present, a.other.1) ∷ given ≡ b.other ∷ given_last = sym a.given_is ∙ b.taken_is in
+    let other : b.other ≡ (present, a.other.1) = cc in
+    let rest : given_last ≡ given = cc in
+    let first : (present_next, b.other.1) ≡ a.other = (λ i. (a.present_is i, (other i).1)) in
+    (b.given_is ∙ ap (λ (o : Other). o ∷ taken_next) first ∙ sym a.taken_is, b.present_is ∙ ap (λ (o : Other). o.0) other, rest)
+
+goes_back : (past : List Other) (s next : State) → s.past ≡ past → GoesBack past s Changed next → Moves s.past s.present s.future next.past next.present next.future
+goes_back [] s next e h = absurd (no_refusal _ h.0)
+goes_back (o ∷ past) s next e h =
+    record { other = o; taken_is = e ∙ ap (λ (n : State). o ∷ n.past) (sym h.1); present_is = ap (λ (n : State). n.present) h.1; given_is = ap (λ (n : State). n.future) h.1 }
+
+goes_forward : (future : List Other) (s next : State) → s.future ≡ future → GoesForward future s Changed next → Moves s.future s.present s.past next.future next.present next.past
+goes_forward [] s next e h = absurd (no_refusal _ h.0)
+goes_forward (o ∷ future) s next e h =
+    record { other = o; taken_is = e ∙ ap (λ (n : State). o ∷ n.future) (sym h.1); present_is = ap (λ (n : State). n.present) h.1; given_is = ap (λ (n : State). n.past) h.1 }
+
+-- the last of several commands
+last_of : (n : ℕ) (c : Command) (data_bytes : List ℕ) (s last : State) → Times (suc n) c data_bytes s last
+    → (mid : State) × Times n c data_bytes s mid × IsStep c data_bytes mid Changed last
+last_of zero c d s last h = (s, refl, subst (λ (x : State). IsStep c d s Changed x) (sym h.2) h.1)
+last_of (suc n) c d s last h = let rest = last_of n c d h.0 last h.2 in (rest.0, (h.0, h.1, rest.1), rest.2)
+
+redone_once : (d : List ℕ) (s next mid again : State) → IsStep Undo d s Changed next → HaveSameSources mid next → IsStep Redo d mid Changed again → HaveSameSources again s
+redone_once d s next mid again a e b =
+    let back = goes_back s.past s next refl a in
+    let forth = goes_forward mid.future mid again refl b in
+    let both = there_and_back s.past s.future next.past next.future again.past again.future s.present next.present again.present back
+        (subst (λ (x : List Other). Moves next.future next.present x again.future again.present again.past) e.past
+        (subst (λ (x : List ℕ). Moves next.future x mid.past again.future again.present again.past) e.present
+        (subst (λ (x : List Other). Moves x mid.present mid.past again.future again.present again.past) e.future forth))) in
+    record { past = both.0; present = both.1; future = both.2 }
+
+undone_once : (d : List ℕ) (s next mid again : State) → IsStep Redo d s Changed next → HaveSameSources mid next → IsStep Undo d mid Changed again → HaveSameSources again s
+undone_once d s next mid again a e b =
+    let forth = goes_forward s.future s next refl a in
+    let back = goes_back mid.past mid again refl b in
+    let both = there_and_back s.future s.past next.future next.past again.future again.past s.present next.present again.present forth
+        (subst (λ (x : List Other). Moves next.past next.present x again.past again.present again.future) e.future
+        (subst (λ (x : List ℕ). Moves next.past x mid.future again.past again.present again.future) e.present
+        (subst (λ (x : List Other). Moves x mid.present mid.future again.past again.present again.future) e.past back))) in
+    record { past = both.2; present = both.1; future = both.0 }
+
+-- as many times `redo` as `undo`
+pub redone : (n : ℕ) (d : List ℕ) (s back again : State) → Times n Undo d s back → Times n Redo d back again → HaveSameSources again s
+redone zero d s back again a b = let e : again ≡ s = b ∙ a in record { past = ap (λ (x : State). x.past) e; present = ap (λ (x : State). x.present) e; future = ap (λ (x : State). x.future) e }
+redone (suc n) d s back again a b =
+    let rest = last_of n Redo d back again b in
+    redone_once d s a.0 rest.0 again a.1 (redone n d a.0 back rest.0 a.2 rest.1) rest.2
+
+-- as many times `undo` as `redo`
+pub undone : (n : ℕ) (d : List ℕ) (s forth again : State) → Times n Redo d s forth → Times n Undo d forth again → HaveSameSources again s
+undone zero d s forth again a b = let e : again ≡ s = b ∙ a in record { past = ap (λ (x : State). x.past) e; present = ap (λ (x : State). x.present) e; future = ap (λ (x : State). x.future) e }
+undone (suc n) d s forth again a b =
+    let rest = last_of n Undo d forth again b in
+    undone_once d s a.0 rest.0 again a.1 (undone n d a.0 forth rest.0 a.2 rest.1) rest.2
+
+-- a change leaves the former source as the newest of the past
+record Leaves (s next : State) : Type 0 where
+  change : Change
+  past_is : next.past ≡ (s.present, change) ∷ s.past
+
+edit_leaves : (edited : List ℕ) (s next : State) → Edits edited s Changed next → Leaves s next
+edit_leaves edited s next (accepted old new from to reply after) = record { change = Edit; past_is = ap (λ (n : State). n.past) after }
+edit_leaves edited s next (refused why first same) = absurd (no_refusal _ same.0)
+
+edit_leaves_by : (there : Bool) (edited : List ℕ) (s next : State) → MatchBool there (Edits edited s Changed next) (Refuses NoSuchLine s Changed next) → Leaves s next
+edit_leaves_by true edited s next h = edit_leaves edited s next h
+edit_leaves_by false edited s next h = absurd (no_refusal _ h.0)
+
+statement_leaves : (number : ℕ) (statement : Option StmtTree) (s next : State) → ShowsOf number statement s Changed next → Leaves s next
+statement_leaves number None s next h = absurd (no_refusal _ h.0)
+statement_leaves number (Some statement) s next h = absurd (no_show _ h.prints.0)
+
+run_leaves : (choices d : List ℕ) (s next : State) → Runs choices d s Changed next → Leaves s next
+run_leaves [] d s next h = absurd (no_show _ h.prints.0)
+run_leaves (c ∷ cs) d s next h = absurd (no_refusal _ h.0)
+
+leaves : (c : Command) (d : List ℕ) (s next : State) → ¬ (IsMove c) → IsStep c d s Changed next → Leaves s next
+leaves Source d s next still h = absurd (no_show _ h.prints.0)
+leaves (Deps None) d s next still h = absurd (no_show _ h.prints.0)
+leaves (Deps (Some number)) d s next still h = statement_leaves number (statement_with number h.tree) s next h.shows
+leaves Show d s next still h = absurd (no_show _ h.prints.0)
+leaves Print d s next still h = absurd (no_show _ h.0)
+leaves (Replace first last lines) d s next still h = edit_leaves_by (are_lines s.present first last) _ s next h
+leaves (Insert after lines) d s next still h = edit_leaves_by (is_place s.present after) _ s next h
+leaves (Delete first last) d s next still h = edit_leaves_by (are_lines s.present first last) _ s next h
+leaves Undo d s next still h = absurd (still (inl refl))
+leaves Redo d s next still h = absurd (still (inr refl))
+leaves (Run choices) d s next still h = run_leaves choices d s next h
+leaves (Advise number) d s next still h = absurd (no_refusal _ h.0)
+leaves (Interchange number) d s next still h = absurd (no_refusal _ h.0)
+leaves (Reverse number) d s next still h = absurd (no_refusal _ h.0)
+leaves (Skew number factor) d s next still h = absurd (no_refusal _ h.0)
+leaves (Strip number size) d s next still h = absurd (no_refusal _ h.0)
+leaves (Peel number last) d s next still h = absurd (no_refusal _ h.0)
+leaves (Distribute number) d s next still h = absurd (no_refusal _ h.0)
+leaves (Fuse number) d s next still h = absurd (no_refusal _ h.0)
+leaves (Expand number name) d s next still h = absurd (no_refusal _ h.0)
+leaves (Privatise number name) d s next still h = absurd (no_refusal _ h.0)
+leaves (Parallel number) d s next still h = absurd (no_refusal _ h.0)
+leaves (Serial number) d s next still h = absurd (no_refusal _ h.0)
+leaves (Reject number name) d s next still h = absurd (no_refusal _ h.0)
+leaves Races d s next still h = absurd (no_refusal _ h.0)
+leaves Tested d s next still h = absurd (no_refusal _ h.0)
+
+-- `undo` behind a change gives the former source and the former past
+pub restored : (c : Command) (d : List ℕ) (s next back : State) → ¬ (IsMove c) → IsStep c d s Changed next → IsStep Undo d next Changed back → (back.present ≡ s.present) × (back.past ≡ s.past)
+restored c d s next back still a b =
+    let left = leaves c d s next still a in
+    let moved = goes_back next.past next back refl b in
+    let same : moved.other ∷ back.past ≡ (s.present, left.change) ∷ s.past = sym moved.taken_is ∙ left.past_is in
+    let other : moved.other ≡ (s.present, left.change) = cc in
+    let past : back.past ≡ s.past = cc in
+    (moved.present_is ∙ ap (λ (o : Other). o.0) other, past)

@@ -1,0 +1,137 @@
+-- A command has one reply in a state, and leads to one state.
+use Rattle.std.proofs.Common.{◌≡◌, inl, inr, ℕ, Bool, true, false, List, [], ◌∷◌, ◌++◌, Option, Some, None, refl, sym, ap, ◌∙◌, subst}
+use Rattle.std.specs.Prelude.{MatchBool}
+use Rattle.ped_tree.specs.Tree.{StmtTree, ProgramTree}
+use Rattle.ped_tree.specs.Printing.{program_text}
+use Rattle.ped_tree.specs.SourcePane.{source_pane}
+use Rattle.ped_tree.specs.Numbering.{statement_with}
+use Rattle.ped_grammar.specs.Refusal.{Finding}
+use Rattle.ped_grammar.specs.RefusalViews.{finding_of}
+use Rattle.ped_grammar.specs.declared.refusals.Refusal as text
+use Rattle.ped_valid.specs.Validity.{ReadsValid, RefusesText}
+use Rattle.ped_valid.proofs.OneVerdict.{one_of_both}
+use Rattle.ped_graph.specs.DependencePane.{IsDependencePane, IsDependencePaneOf}
+use Rattle.ped_graph.proofs.OnePane.{one_pane, one_pane_of}
+use Rattle.ped_update.specs.Fresh.{tested_pairs}
+use Rattle.ped_eval.specs.Outcomes.{outcome}
+use Rattle.ped_script.specs.declared.items.Command.{Command}
+use Rattle.ped_script.specs.declared.items.Command.TheVariants.{Source, Deps, Show, Print, Advise, Replace, Insert, Delete, Interchange, Reverse, Skew, Strip, Peel, Distribute, Fuse, Expand, Privatise, Parallel, Serial, Reject, Undo, Redo, Run, Races, Tested}
+use Rattle.ped_session.specs.declared.changes.Change.TheVariants.{Edit}
+use Rattle.ped_session.specs.declared.replies.Refusal.{Refusal}
+use Rattle.ped_session.specs.declared.replies.Refusal.TheVariants.{BadEdit, NothingToUndo, NothingToRedo, NoSuchStatement, NoSuchLine, NotBuilt}
+use Rattle.ped_session.specs.declared.replies.Reply.{Reply}
+use Rattle.ped_session.specs.declared.replies.Reply.TheVariants.{Shown, Refused}
+use Rattle.ped_session.specs.States.{Other, State, changed_to}
+use Rattle.ped_session.specs.Blocks.{block}
+use Rattle.ped_session.specs.Panes.{IsSourcePane, ArePanes}
+use Rattle.ped_session.specs.Splices.{spliced, are_lines, is_place}
+use Rattle.ped_session.specs.Steps.{Refuses, Shows, ShowsOf, ShowsStatement, Edits, accepted, refused, GoesBack, GoesForward, Runs, IsStep}
+use Rattle.ped_session.proofs.OneFinding.{one_found}
+
+-- a text has one valid tree at most
+pub one_tree : (text : List ℕ) (t u : ProgramTree) → ReadsValid text t → ReadsValid text u → t ≡ u
+one_tree text t u p q = elim (one_of_both text) [
+  | inl tree ↦ tree.only t p ∙ sym (tree.only u q)
+  | inr refusal ↦ absurd (refusal.treeless t p)
+]
+
+-- a text has one first refusal at most
+pub one_refusal : (text : List ℕ) (f g : Finding) → RefusesText text f → RefusesText text g → f ≡ g
+one_refusal text f g p q = elim (one_of_both text) [
+  | inl tree ↦ absurd (tree.accepted f p)
+  | inr refusal ↦ refusal.only f p ∙ sym (refusal.only g q)
+]
+
+-- no text has both
+pub not_both : (text : List ℕ) (t : ProgramTree) (f : Finding) → ReadsValid text t → RefusesText text f → ⊥
+not_both text t f p q = elim (one_of_both text) [
+  | inl tree ↦ tree.accepted f q
+  | inr refusal ↦ refusal.treeless t p
+]
+
+-- what is refused for one cause
+one_refuses : (why : Refusal) (s : State) (p q : Reply) (m n : State) → Refuses why s p m → Refuses why s q n → (p ≡ q) × (m ≡ n)
+one_refuses why s p q m n a b = (a.0 ∙ sym b.0, a.1 ∙ sym b.1)
+
+-- what is shown, where one thing only is so of a program
+one_shows : (IsSo : ProgramTree → List ℕ → Type 0) → ((t : ProgramTree) (x y : List ℕ) → IsSo t x → IsSo t y → x ≡ y) → (s : State) (p q : Reply) (m n : State)
+    → Shows IsSo s p m → Shows IsSo s q n → (p ≡ q) × (m ≡ n)
+one_shows IsSo one s p q m n a b =
+    let tree = one_tree s.present a.tree b.tree a.reads b.reads in
+    let bytes = one b.tree a.bytes b.bytes (subst (λ (t : ProgramTree). IsSo t a.bytes) tree a.so) b.so in
+    (a.prints.0 ∙ ap Shown bytes ∙ sym b.prints.0, a.prints.1 ∙ sym b.prints.1)
+
+one_source_pane : (t : ProgramTree) (x y : List ℕ) → IsSourcePane t x → IsSourcePane t y → x ≡ y
+one_source_pane t x y a b = a ∙ sym b
+
+one_panes : (t : ProgramTree) (x y : List ℕ) → ArePanes t x → ArePanes t y → x ≡ y
+one_panes t x y a b = a.2 ∙ ap (λ (pane : List ℕ). source_pane t ++ pane) (one_pane t a.0 b.0 a.1 b.1) ∙ sym b.2
+
+-- the rows of a statement, where there is one
+one_of : (number : ℕ) (statement : Option StmtTree) (s : State) (p q : Reply) (m n : State) → ShowsOf number statement s p m → ShowsOf number statement s q n → (p ≡ q) × (m ≡ n)
+one_of number None s p q m n a b = one_refuses NoSuchStatement s p q m n a b
+one_of number (Some statement) s p q m n a b = one_shows (λ t. IsDependencePaneOf t (Some number)) (λ t. one_pane_of t (Some number)) s p q m n a b
+
+one_statement : (number : ℕ) (s : State) (p q : Reply) (m n : State) → ShowsStatement number s p m → ShowsStatement number s q n → (p ≡ q) × (m ≡ n)
+one_statement number s p q m n a b =
+    let tree = one_tree s.present a.tree b.tree a.reads b.reads in
+    one_of number (statement_with number b.tree) s p q m n (subst (λ (t : ProgramTree). ShowsOf number (statement_with number t) s p m) tree a.shows) b.shows
+
+-- an edit by its text
+one_edit : (edited : List ℕ) (s : State) (p q : Reply) (m n : State) → Edits edited s p m → Edits edited s q n → (p ≡ q) × (m ≡ n)
+one_edit edited s p q m n (accepted old new from to reply next) (accepted old' new' from' to' reply' next') =
+    let olds = one_tree s.present old old' from from' in
+    let news = one_tree edited new new' to to' in
+    (reply ∙ sym reply', next ∙ (λ i. changed_to (program_text (news i)) Edit (tested_pairs (olds i) (news i) []) s) ∙ sym next')
+one_edit edited s p q m n (accepted old new from to reply next) (refused why first same) = absurd (not_both edited new (finding_of why) to first)
+one_edit edited s p q m n (refused why first same) (accepted old new from to reply next) = absurd (not_both edited new (finding_of why) to first)
+one_edit edited s p q m n (refused why first same) (refused why' first' same') =
+    let whys = one_found why why' (one_refusal edited (finding_of why) (finding_of why') first first') in
+    (same.0 ∙ ap (λ (r : text.Refusal). Refused (BadEdit r)) whys ∙ sym same'.0, same.1 ∙ sym same'.1)
+
+-- an edit, where there are such lines
+one_edit_by : (there : Bool) (edited : List ℕ) (s : State) (p q : Reply) (m n : State) → MatchBool there (Edits edited s p m) (Refuses NoSuchLine s p m)
+    → MatchBool there (Edits edited s q n) (Refuses NoSuchLine s q n) → (p ≡ q) × (m ≡ n)
+one_edit_by true edited s p q m n a b = one_edit edited s p q m n a b
+one_edit_by false edited s p q m n a b = one_refuses NoSuchLine s p q m n a b
+
+one_back : (past : List Other) (s : State) (p q : Reply) (m n : State) → GoesBack past s p m → GoesBack past s q n → (p ≡ q) × (m ≡ n)
+one_back [] s p q m n a b = one_refuses NothingToUndo s p q m n a b
+one_back (other ∷ past) s p q m n a b = (a.0 ∙ sym b.0, a.1 ∙ sym b.1)
+
+one_forward : (future : List Other) (s : State) (p q : Reply) (m n : State) → GoesForward future s p m → GoesForward future s q n → (p ≡ q) × (m ≡ n)
+one_forward [] s p q m n a b = one_refuses NothingToRedo s p q m n a b
+one_forward (other ∷ future) s p q m n a b = (a.0 ∙ sym b.0, a.1 ∙ sym b.1)
+
+one_run : (choices data_bytes : List ℕ) (s : State) (p q : Reply) (m n : State) → Runs choices data_bytes s p m → Runs choices data_bytes s q n → (p ≡ q) × (m ≡ n)
+one_run [] data_bytes s p q m n a b = one_shows (λ t bytes. bytes ≡ block (outcome t data_bytes)) (λ t x y e f. e ∙ sym f) s p q m n a b
+one_run (c ∷ cs) data_bytes s p q m n a b = one_refuses NotBuilt s p q m n a b
+
+-- a command has one reply, and leads to one state
+pub one : (c : Command) (data_bytes : List ℕ) (s m n : State) (p q : Reply) → IsStep c data_bytes s p m → IsStep c data_bytes s q n → (p ≡ q) × (m ≡ n)
+one Source d s m n p q a b = one_shows IsSourcePane one_source_pane s p q m n a b
+one (Deps None) d s m n p q a b = one_shows IsDependencePane one_pane s p q m n a b
+one (Deps (Some number)) d s m n p q a b = one_statement number s p q m n a b
+one Show d s m n p q a b = one_shows ArePanes one_panes s p q m n a b
+one Print d s m n p q a b = (a.0 ∙ sym b.0, a.1 ∙ sym b.1)
+one (Replace first last lines) d s m n p q a b = one_edit_by (are_lines s.present first last) _ s p q m n a b
+one (Insert after lines) d s m n p q a b = one_edit_by (is_place s.present after) _ s p q m n a b
+one (Delete first last) d s m n p q a b = one_edit_by (are_lines s.present first last) _ s p q m n a b
+one Undo d s m n p q a b = one_back s.past s p q m n a b
+one Redo d s m n p q a b = one_forward s.future s p q m n a b
+one (Run choices) d s m n p q a b = one_run choices d s p q m n a b
+one (Advise number) d s m n p q a b = one_refuses NotBuilt s p q m n a b
+one (Interchange number) d s m n p q a b = one_refuses NotBuilt s p q m n a b
+one (Reverse number) d s m n p q a b = one_refuses NotBuilt s p q m n a b
+one (Skew number factor) d s m n p q a b = one_refuses NotBuilt s p q m n a b
+one (Strip number size) d s m n p q a b = one_refuses NotBuilt s p q m n a b
+one (Peel number last) d s m n p q a b = one_refuses NotBuilt s p q m n a b
+one (Distribute number) d s m n p q a b = one_refuses NotBuilt s p q m n a b
+one (Fuse number) d s m n p q a b = one_refuses NotBuilt s p q m n a b
+one (Expand number name) d s m n p q a b = one_refuses NotBuilt s p q m n a b
+one (Privatise number name) d s m n p q a b = one_refuses NotBuilt s p q m n a b
+one (Parallel number) d s m n p q a b = one_refuses NotBuilt s p q m n a b
+one (Serial number) d s m n p q a b = one_refuses NotBuilt s p q m n a b
+one (Reject number name) d s m n p q a b = one_refuses NotBuilt s p q m n a b
+one Races d s m n p q a b = one_refuses NotBuilt s p q m n a b
+one Tested d s m n p q a b = one_refuses NotBuilt s p q m n a b

@@ -32,8 +32,7 @@ fi
 files=("$@")
 if [ $# -eq 0 ]; then
     cd -- "$top"
-    # Those of cases/runs wait until the mode `session` is built: no command runs a program yet.
-    mapfile -t files < <(find cases -type f ! -path cases/README.md ! -path 'cases/runs/*' | sort)
+    mapfile -t files < <(find cases -type f ! -path cases/README.md | sort)
 fi
 [ "${#files[@]}" -gt 0 ] || stop 'there are no files of cases'
 for file in "${files[@]}"; do

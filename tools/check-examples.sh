@@ -3,9 +3,11 @@
 # exit status with the one that is wanted.
 #
 # An example NAME is the file examples/NAME.out, the output that is wanted. The program is called at the
-# repository's top with the words of examples/NAME.args, one a line, or, where there is no such file,
-# with `show examples/NAME.f`. The status that is wanted stands in examples/NAME.status, and is 0 where
-# there is no such file. Nothing is proved where the program is built, as it is after .ci/run or ./ped.
+# repository's top with the words of examples/NAME.args, one a line. Where there is no such file, they are
+# `session examples/NAME.f examples/NAME.script` where NAME has a script, with `--data examples/NAME.data`
+# behind them where it has data, and else `show examples/NAME.f`. The status that is wanted stands in
+# examples/NAME.status, and is 0 where there is no such file. Nothing is proved where the program is built,
+# as it is after .ci/run or ./ped.
 set -eu
 cd -- "$(dirname -- "${BASH_SOURCE[0]}")/.."
 
@@ -30,12 +32,23 @@ fi
 for program in examples/*.f; do
     [ -f "${program%.f}.out" ] || differs "$program" "its output isn't stored beside it"
 done
+for file in examples/*.script examples/*.data; do
+    [ -f "${file%.*}.f" ] || differs "$file" "its program isn't stored beside it"
+done
+for data in examples/*.data; do
+    [ -f "${data%.data}.script" ] || differs "$data" "its script isn't stored beside it"
+done
 
 for wanted in examples/*.out; do
     name=${wanted%.out}
     words=(show "$name.f")
     if [ -f "$name.args" ]; then
         mapfile -t words <"$name.args"
+    elif [ -f "$name.script" ]; then
+        words=(session "$name.f" "$name.script")
+        if [ -f "$name.data" ]; then
+            words+=(--data "$name.data")
+        fi
     fi
     wanted_status=0
     if [ -f "$name.status" ]; then

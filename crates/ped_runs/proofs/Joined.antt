@@ -18,7 +18,7 @@ use Rattle.ped_eval.proofs.Endings.{only_reads}
 use Rattle.ped_runs.specs.Seeing.{ComesTo}
 use Rattle.ped_runs.specs.Replaying.{Finish, goes_on, stops, faults, finish_of, ending_with, is_going, act, behind, Replays, IsToldByActs, IsEntered}
 use Rattle.ped_runs.proofs.Told.{found_reads, found_reads_first, found_behind_reads, own_run, replays_behind, replays_stopped, replays_failed, replays_act, replays_fault, replays_on}
-use Rattle.ped_runs.proofs.Programs.{run_told, all_told, parallel_told}
+use Rattle.ped_runs.proofs.StatementsTold.{run_told, all_told, parallel_told}
 
 -- a piece that doesn't go on is all that is done
 pub replays_ended : (f g : Store → Run) (acts : List Act) (finish : Finish) → is_going finish ≡ false → Replays f acts finish → Replays (λ s. then_run (f s) g) acts finish

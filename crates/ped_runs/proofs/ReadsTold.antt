@@ -38,7 +38,7 @@ same_behind_data v s Out k = absurd cc
 same_holds : (s u : Store) (seen : List Seen) → SameButData s u → AllSeen (λ c. is_lines c ≡ false) seen → Holds s seen → Holds u seen
 same_holds s u [] h a k = tt
 same_holds s u (cell_seen c content ∷ more) h a k = (sym (h c a.0) ∙ k.0, same_holds s u more h a.1 k.1)
-same_holds s u (index_seen c v ∷ more) h a k = same_holds s u more h a k
+same_holds s u (index_seen c v ∷ more) h a k = same_holds s u more h a.1 k
 
 module _ (g : Names) (apart : (x : List ℕ) → is_lines (g.cell x) ≡ false) where
   seen_apart : (e : ExprTree) (s : Store) → AllSeen (λ c. is_lines c ≡ false) (target g e s).seen

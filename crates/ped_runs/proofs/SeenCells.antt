@@ -10,14 +10,14 @@ use Rattle.ped_store.specs.Storage.{is_within}
 use Rattle.ped_eval.specs.Scopes.{Names}
 use Rattle.ped_eval.specs.Evaluation.{Seen, cell_seen, index_seen, Evaluated, onward, ◌>>>◌, given, read_cell}
 use Rattle.ped_eval.specs.Values.{variable_value, name_value, is_rank, element_cell, value, values, truth, target}
-use Rattle.ped_eval.specs.Statements.{assigned, item_text, item_texts, printed_line}
+use Rattle.ped_eval.specs.Statements.{Stored, assigned, item_text, item_texts, printed_line}
 use Rattle.ped_eval.specs.Loops.{in_bounds, limits}
 
 -- each cell that is seen is of this kind
 abbrev pub AllSeen : (Cell → Type 0) → List Seen → Type 0
 AllSeen P [] = Unit {0}
 AllSeen P (cell_seen c content ∷ more) = P c × AllSeen P more
-AllSeen P (index_seen c v ∷ more) = AllSeen P more
+AllSeen P (index_seen c v ∷ more) = P c × AllSeen P more
 
 -- the result, where there is one, is of this kind
 abbrev pub OfResult : {A : Type 0} → (A → Type 0) → Result A ℕ → Type 0
@@ -28,7 +28,7 @@ module _ (P : Cell → Type 0) where
   append_seen : (xs ys : List Seen) → AllSeen P xs → AllSeen P ys → AllSeen P (xs ++ ys)
   append_seen [] ys h k = k
   append_seen (cell_seen c content ∷ xs) ys h k = (h.0, append_seen xs ys h.1 k)
-  append_seen (index_seen c v ∷ xs) ys h k = append_seen xs ys h k
+  append_seen (index_seen c v ∷ xs) ys h k = (h.0, append_seen xs ys h.1 k)
 
   onward_seen : {A B : Type 0} (seen : List Seen) (r : Result A ℕ) (f : A → Evaluated B) → AllSeen P seen → ((x : A) → AllSeen P (f x).seen) → AllSeen P (onward seen r f).seen
   onward_seen seen (Ok x) f h k = append_seen seen (f x).seen h (k x)
@@ -45,7 +45,7 @@ module _ (P : Cell → Type 0) where
 
   module _ (g : Names) (scalars : (x : List ℕ) → P (g.cell x)) (elements : (x : List ℕ) (js : List ℤ) → P (cells.Element x js)) where
     variable_seen : (v : Option ℤ) (x : List ℕ) (s : Store) → AllSeen P (variable_value v s (g.cell x)).seen
-    variable_seen (Some n) x s = tt
+    variable_seen (Some n) x s = (scalars x, tt)
     variable_seen None x s = (scalars x, tt)
 
     name_seen : (v : Option ℤ) (x : List ℕ) (s : Store) → AllSeen P (name_value v g x s).seen
@@ -135,3 +135,20 @@ module _ (P : Cell → Type 0) where
         then_seen (value g right s) (λ v. target g left s >>> λ c. given (storable v) >>> λ n. given (Ok (record { cell = c; number = n }))) (value_seen right s) (λ v.
         then_seen (target g left s) (λ c. given (storable v) >>> λ n. given (Ok (record { cell = c; number = n }))) (target_seen left s) (λ c.
         one_seen (λ n. Ok (record { cell = c; number = n })) (given (storable v)) tt))
+
+    -- the cell that an assignment stores into
+    stored_number : (c : Cell) (r : Result ℤ ℕ) → P c → OfResult (λ (w : Stored). P w.cell) (given r >>> λ n. given (Ok (record { cell = c; number = n }))).result
+    stored_number c (Ok n) h = h
+    stored_number c (Err n) h = tt
+
+    stored_cell : (seen : List Seen) (c : Result Cell ℕ) (v : ℤ) → OfResult P c → OfResult (λ (w : Stored). P w.cell) (onward seen c (λ c. given (storable v) >>> λ n. given (Ok (record { cell = c; number = n })))).result
+    stored_cell seen (Ok c) v h = stored_number c (storable v) h
+    stored_cell seen (Err n) v h = tt
+
+    stored_value : (left : ExprTree) (s : Store) (seen : List Seen) (r : Result ℤ ℕ)
+        → OfResult (λ (w : Stored). P w.cell) (onward seen r (λ v. target g left s >>> λ c. given (storable v) >>> λ n. given (Ok (record { cell = c; number = n })))).result
+    stored_value left s seen (Ok v) = stored_cell (target g left s).seen (target g left s).result v (target_is left s)
+    stored_value left s seen (Err n) = tt
+
+    pub assigned_is : (left right : ExprTree) (s : Store) → OfResult (λ (w : Stored). P w.cell) (assigned g left right s).result
+    assigned_is left right s = stored_value left s (value g right s).seen (value g right s).result

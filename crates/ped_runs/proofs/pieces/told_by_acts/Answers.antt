@@ -1,6 +1,6 @@
 use Rattle.std.proofs.Common.{◌+◌, ◌∷◌}
 use Rattle.ped_eval.specs.Turns.{body_run}
-use Rattle.ped_runs.proofs.Programs.{run_told, all_told, turns_told, parallel_told}
+use Rattle.ped_runs.proofs.StatementsTold.{run_told, all_told, turns_told, parallel_told}
 use Rattle.ped_runs.proofs.pieces.told_by_acts.Goals as goal
 
 pub returns-clause-statement : goal.returns-clause-statement

@@ -14,7 +14,8 @@ use Rattle.ped_acts.specs.Fitting.{Fits, store_after}
 use Rattle.ped_acts.specs.Sets.{AgreeIn}
 use Rattle.ped_acts.proofs.SameCells.{text_itself}
 use Rattle.ped_acts.proofs.Renamings.{or_right}
-use Rattle.ped_eval.specs.Outcomes.{bounds_of, kind_in, setting_of, run_of, LiveRow, live_names, live_rows, Ended, outcome_of, outcome}
+use Rattle.ped_symbols.specs.Kinds.{kind_in}
+use Rattle.ped_eval.specs.Outcomes.{bounds_of, setting_of, run_of, LiveRow, live_names, live_rows, Ended, outcome_of, outcome}
 use Rattle.ped_eval.specs.Runs.{Run, run_all}
 use Rattle.ped_runs.specs.Replaying.{Finish, goes_on, stops, faults, ending_with, Replays}
 use Rattle.ped_runs.specs.Showing.{shown_at_end}

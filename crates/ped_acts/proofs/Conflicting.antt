@@ -27,7 +27,7 @@ one_of p (y ∷ ys) h = elim (or_either (p y) (list_any p ys) h) [
   | inr k ↦ let r = one_of p ys k in (r.0, inr r.1, r.2)
 ]
 
-clash_of : (xs ys : List Touch) (x y : Touch) → IsIn x xs → IsIn y ys → clash x y ≡ true → some_clash xs ys ≡ true
+pub clash_of : (xs ys : List Touch) (x y : Touch) → IsIn x xs → IsIn y ys → clash x y ≡ true → some_clash xs ys ≡ true
 clash_of xs ys x y i j h = any_of (λ z. list_any (clash z) ys) xs x i (any_of (clash x) ys y j h)
 
 pub clashing : (xs ys : List Touch) → some_clash xs ys ≡ true → (x y : Touch) × IsIn x xs × IsIn y ys × (clash x y ≡ true)
@@ -40,7 +40,7 @@ clashing xs ys h =
 abbrev pub access_by : Act → Touch → Access
 access_by a t = record { cell = t.cell; writes = is_write t.manner; place = a.place; reference = t.reference }
 
-access_in : (a : Act) (ts : List Touch) (t : Touch) → IsIn t ts → is_access t ≡ true → IsIn (access_by a t) (map (access_by a) (filter is_access ts))
+pub access_in : (a : Act) (ts : List Touch) (t : Touch) → IsIn t ts → is_access t ≡ true → IsIn (access_by a t) (map (access_by a) (filter is_access ts))
 access_in a [] t i h = absurd i
 access_in a (u ∷ us) t (inl e) h = rw (ap is_access (sym e) ∙ h) (inl (ap (access_by a) e))
 access_in a (u ∷ us) t (inr i) h = go (access_in a us t i h) (is_access u) refl
@@ -49,7 +49,7 @@ access_in a (u ∷ us) t (inr i) h = go (access_in a us t i h) (is_access u) ref
     go more true p = rw p (inr more)
     go more false p = rw p more
 
-access_from : (a : Act) (ts : List Touch) (p : Access) → IsIn p (map (access_by a) (filter is_access ts)) → (t : Touch) × IsIn t ts × (p ≡ access_by a t)
+pub access_from : (a : Act) (ts : List Touch) (p : Access) → IsIn p (map (access_by a) (filter is_access ts)) → (t : Touch) × IsIn t ts × (p ≡ access_by a t)
 access_from a [] p i = absurd i
 access_from a (u ∷ us) p i = go (access_from a us p) (is_access u) refl i
   where
@@ -64,7 +64,7 @@ is_told_here : (a : Act) (t : Touch) → IsIn t a.touches → is_told_value t.ma
 is_told_here a t i h c k = any_of (λ u. is_told_value u.manner && same_cell u.cell c) a.touches t i (ap (λ b. b && same_cell t.cell c) h ∙ k)
 
 -- two touches of which one writes clash, or one of them is told a value
-by_manners : (m n : Manner) → is_write m || is_write n ≡ true → (manners_clash m n ≡ true) ⊎ ((is_told_value m ≡ true) ⊎ (is_told_value n ≡ true))
+pub by_manners : (m n : Manner) → is_write m || is_write n ≡ true → (manners_clash m n ≡ true) ⊎ ((is_told_value m ≡ true) ⊎ (is_told_value n ≡ true))
 by_manners writes writes h = inl refl
 by_manners writes reads h = inl refl
 by_manners reads writes h = inl refl
@@ -93,7 +93,7 @@ conflict_of_accesses a b p q i j h =
       ])
     ]
 
-clash_writes : (m n : Manner) → manners_clash m n ≡ true → (is_write m ≡ true) ⊎ (is_write n ≡ true)
+pub clash_writes : (m n : Manner) → manners_clash m n ≡ true → (is_write m ≡ true) ⊎ (is_write n ≡ true)
 clash_writes writes n h = inl refl
 clash_writes reads writes h = inr refl
 clash_writes is_told n h = absurd cc
@@ -103,7 +103,7 @@ clash_writes reads is_told h = absurd cc
 write_is_access : (t : Touch) → is_write t.manner ≡ true → is_access t ≡ true
 write_is_access t h = or_left (is_write t.manner) (not (is_lines t.cell)) h
 
-not_lines : (b : Bool) → not b ≡ false → b ≡ true
+pub not_lines : (b : Bool) → not b ≡ false → b ≡ true
 not_lines true h = refl
 not_lines false h = absurd cc
 
@@ -118,13 +118,13 @@ access_to a x lines i = go (is_access x) refl
         let u = lines x i (not_lines (is_lines x.cell) k.1) in
         (access_by a u.0, access_in a a.touches u.0 u.1 (write_is_access u.0 u.2), u.3, (λ w. u.2))
 
-clashing_outside : (d : Cell → Bool) (xs ys : List Touch) → some_clash_outside d xs ys ≡ true → (x y : Touch) × IsIn x xs × IsIn y ys × (clash_outside d x y ≡ true)
+pub clashing_outside : (d : Cell → Bool) (xs ys : List Touch) → some_clash_outside d xs ys ≡ true → (x y : Touch) × IsIn x xs × IsIn y ys × (clash_outside d x y ≡ true)
 clashing_outside d xs ys h =
     let r = one_of (λ z. list_any (clash_outside d z) ys) xs h in
     let q = one_of (clash_outside d r.0) ys r.2 in
     (r.0, q.0, r.1, q.1, q.2)
 
-not_in : (b : Bool) → not b ≡ true → b ≡ false
+pub not_in : (b : Bool) → not b ≡ true → b ≡ false
 not_in true h = absurd cc
 not_in false h = refl
 

@@ -6,4 +6,6 @@ mod Interchange
 mod Lists
 mod Orders
 mod Privatisation
+mod Races
 mod Reversal
+mod Wanted

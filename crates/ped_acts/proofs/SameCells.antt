@@ -10,7 +10,7 @@ use Rattle.ped_store.specs.Cells.{Cell, Scalar, Element, Private, In, Out, Itera
 number_itself : (n : ℕ) → eqb n n ≡ true
 number_itself n = grind (arith, eqb-true)
 
-text_itself : (x : List ℕ) → is_same_text x x ≡ true
+pub text_itself : (x : List ℕ) → is_same_text x x ≡ true
 text_itself [] = refl
 text_itself (x ∷ xs) = ap (λ b. b && pointwise eqb xs xs) (number_itself x) ∙ text_itself xs
 

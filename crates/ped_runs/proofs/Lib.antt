@@ -1,0 +1,10 @@
+pub mod Joined
+pub mod Meetings
+pub mod ReadsTold
+pub mod SeenCells
+pub mod Shown
+pub mod Sight
+pub mod StatementsTold
+pub mod Told
+pub mod Touches
+pub mod Turning

@@ -1,0 +1,4 @@
+pub mod Replaying
+pub mod Seeing
+pub mod Showing
+pub mod Touching

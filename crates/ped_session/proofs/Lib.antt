@@ -1,3 +1,4 @@
+mod Examples
 mod LinesLeft
 mod Moves
 mod OneAnswer

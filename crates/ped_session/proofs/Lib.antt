@@ -1,0 +1,5 @@
+mod Accepted
+mod Moves
+mod PresentProgram
+mod Shown
+mod States

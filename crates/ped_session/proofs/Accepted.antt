@@ -1,5 +1,7 @@
 -- Accepted changes of a session, and edits.
-use Rattle.std.proofs.Common.{◌≡◌, inl, inr, ℕ, ◌+◌, ◌≤◌, List, [], ◌∷◌, map, refl, sym, ap, subst, ◌∙◌, arith}
+use Rattle.std.proofs.Common.{◌≡◌, inl, inr, ℕ, ◌+◌, ◌-◌, ◌≤◌, nat_le, List, [], ◌∷◌, map, Bool, true, ◌&&◌, refl, sym, ap, subst, ◌∙◌, arith}
+use Rattle.std.specs.Prelude.{MatchBool}
+use Rattle.std.proofs.lemmas.Bool.Decides.{nat_tests}
 use Rattle.ped_history.specs.Timeline.{Timeline, pushed}
 use Rattle.ped_tree.specs.Tree.{ProgramTree}
 use Rattle.ped_tree.specs.Printing.{program_text}
@@ -13,11 +15,12 @@ use Rattle.ped_session.specs.declared.changes.Change.{Change}
 use Rattle.ped_session.specs.declared.changes.Change.TheVariants.{Edit}
 use Rattle.ped_session.specs.declared.replies.Reply.{Reply}
 use Rattle.ped_session.specs.declared.replies.Reply.TheVariants.{Changed, Refused}
-use Rattle.ped_session.specs.declared.replies.Refusal.TheVariants.{BadEdit}
+use Rattle.ped_session.specs.declared.replies.Refusal.TheVariants.{BadEdit, NoSuchLine}
 use Rattle.ped_session.specs.declared.versions.Entry.{Entry}
 use Rattle.ped_session.specs.Holding.{other_of}
 use Rattle.ped_session.specs.States.{State, changed_to}
-use Rattle.ped_session.specs.Steps.{Edits, accepted, refused}
+use Rattle.ped_session.specs.Splices.{spliced, line_count, are_lines, is_place}
+use Rattle.ped_session.specs.Steps.{Refuses, Edits, accepted, refused, Replaces, Inserts}
 use Rattle.ped_session.specs.Scripts.{tests_of}
 use Rattle.ped_session.proofs.States.{state_of}
 
@@ -55,6 +58,11 @@ not_both text t f p q = elim (one_of_both text) [
   | inr refusal ↦ refusal.treeless t p
 ]
 
+-- the text that results from lines put in the place of others
+pub made_from : (slice text source present : List ℕ) (kept gone : ℕ) (new : List (List ℕ)) → slice ≡ text → text ≡ spliced source kept gone new → source ≡ present
+    → slice ≡ spliced present kept gone new
+made_from slice text source present kept gone new is made from = is ∙ made ∙ ap (λ (bytes : List ℕ). spliced bytes kept gone new) from
+
 -- an edit whose text reads as a valid program
 pub edited : (s next : State) (text all : List ℕ) (new : ProgramTree) (reply : Reply) → text ≡ all → ReadsValid text new
     → (reply ≡ Changed) × (old : ProgramTree) × ReadsValid s.present old × (next ≡ changed_to (program_text new) Edit (tested_pairs old new []) s)
@@ -77,3 +85,23 @@ tests_by s text all new before now made reads most reply next (accepted old othe
     subst (λ (n : ℕ). now ≤ before + n) (sym tests) (most old reads_old)
 tests_by s text all new before now made reads most reply next (refused why refuses stays) =
     absurd (not_both all new _ (subst (λ (bytes : List ℕ). ReadsValid bytes new) made reads) refuses)
+
+gone_lines : (count first last : ℕ) → (nat_le 1 first && nat_le first last && nat_le last count) ≡ true → last + 1 - first ≡ last - first + 1
+gone_lines count first last h = grind (arith, nat_tests)
+
+-- lines that the present source has are replaced by an edit
+pub edits_lines : (s : State) (text : List ℕ) (first last : ℕ) (new : List (List ℕ)) (reply : Reply) (next : State) (test : Bool)
+    → test ≡ are_lines text first last → test ≡ true → text ≡ s.present
+    → Replaces first last new s reply next → Edits (spliced s.present (first - 1) (last - first + 1) new) s reply next
+edits_lines s text first last new reply next test is there same replaces =
+    let stands : are_lines s.present first last ≡ true = ap (λ (bytes : List ℕ). are_lines bytes first last) (sym same) ∙ sym is ∙ there in
+    let edit = subst (λ (b : Bool). MatchBool b (Edits (spliced s.present (first - 1) (last + 1 - first) new) s reply next) (Refuses NoSuchLine s reply next)) stands replaces in
+    subst (λ (n : ℕ). Edits (spliced s.present (first - 1) n new) s reply next) (gone_lines (line_count s.present) first last stands) edit
+
+-- and lines come behind a line that it has
+pub edits_place : (s : State) (text : List ℕ) (after : ℕ) (new : List (List ℕ)) (reply : Reply) (next : State) (test : Bool)
+    → test ≡ is_place text after → test ≡ true → text ≡ s.present
+    → Inserts after new s reply next → Edits (spliced s.present after 0 new) s reply next
+edits_place s text after new reply next test is there same inserts =
+    let stands : is_place s.present after ≡ true = ap (λ (bytes : List ℕ). is_place bytes after) (sym same) ∙ sym is ∙ there in
+    subst (λ (b : Bool). MatchBool b (Edits (spliced s.present after 0 new) s reply next) (Refuses NoSuchLine s reply next)) stands inserts

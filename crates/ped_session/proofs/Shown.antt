@@ -1,16 +1,19 @@
 -- What is shown of the present program of a session.
-use Rattle.std.proofs.Common.{◌≡◌, ◌==◌, ℕ, List, [], ◌∷◌, length, refl, Bool, true, false, Option, Some, None, is_some, arith}
+use Rattle.std.proofs.Common.{◌≡◌, ◌==◌, ℕ, ◌+◌, List, [], ◌∷◌, length, refl, ap, Bool, true, false, Option, Some, None, is_some, arith}
 use Rattle.std.proofs.lemmas.Bool.Decides.{nat_tests}
 use Rattle.ped_tree.specs.Tree.{StmtTree, ProgramTree}
 use Rattle.ped_tree.specs.Numbering.{statement_with}
-use Rattle.ped_graph.specs.DependencePane.{IsDependencePaneOf}
+use Rattle.ped_graph.specs.DependencePane.{IsDependencePane, IsDependencePaneOf}
+use Rattle.ped_script.specs.declared.items.Command.TheVariants.{Deps}
 use Rattle.ped_eval.specs.Outcomes.{outcome}
 use Rattle.ped_session.specs.declared.versions.Version.{Version}
 use Rattle.ped_session.specs.declared.replies.Refusal.TheVariants.{NoSuchStatement}
+use Rattle.ped_session.specs.declared.replies.Reply.{Reply}
 use Rattle.ped_session.specs.declared.replies.Reply.TheVariants.{Shown, Refused}
 use Rattle.ped_session.specs.States.{State}
 use Rattle.ped_session.specs.Blocks.{block}
-use Rattle.ped_session.specs.Steps.{Shows, ShowsOf, ShowsStatement, Runs}
+use Rattle.ped_session.specs.Steps.{Shows, ShowsOf, ShowsStatement, Runs, IsStep}
+use Rattle.ped_session.specs.Scripts.{tests_of}
 use Rattle.ped_session.specs.Holding.{tree_of, IsVersion}
 use Rattle.ped_session.proofs.PresentProgram.{reads_version}
 
@@ -49,3 +52,20 @@ pub shown_run : (choices data_bytes : List ℕ) (s : State) (bytes : List ℕ) �
     → Shows (λ t out. out ≡ block (outcome t data_bytes)) s (Shown bytes) s → Runs choices data_bytes s (Shown bytes) s
 shown_run [] data_bytes s bytes h shows = shows
 shown_run (c ∷ cs) data_bytes s bytes h shows = let some : (length (c ∷ cs) == 0) ≡ false = grind (arith, nat_tests) in absurd cc
+
+-- showing tests nothing
+untested_shows : (IsSo : ProgramTree → List ℕ → Type 0) (s next : State) (reply : Reply) (last : State) → Shows IsSo s reply next → tests_of reply last ≡ 0
+untested_shows IsSo s next reply last shows = ap (λ (r : Reply). tests_of r last) shows.prints.0
+
+untested_by : (number : ℕ) (o : Option StmtTree) (s next : State) (reply : Reply) (last : State) → ShowsOf number o s reply next → tests_of reply last ≡ 0
+untested_by number None s next reply last refuses = ap (λ (r : Reply). tests_of r last) refuses.0
+untested_by number (Some x) s next reply last shows = untested_shows (λ t. IsDependencePaneOf t (Some number)) s next reply last shows
+
+pub untested_dependences : (of : Option ℕ) (data_bytes : List ℕ) (s next : State) (reply : Reply) (last : State) (before : ℕ)
+    → IsStep (Deps of) data_bytes s reply next → before ≡ before + tests_of reply last
+untested_dependences None data_bytes s next reply last before shows =
+    let none = untested_shows IsDependencePane s next reply last shows in
+    omega arith
+untested_dependences (Some number) data_bytes s next reply last before shows =
+    let none = untested_by number (statement_with number shows.tree) s next reply last shows.shows in
+    omega arith

@@ -13,6 +13,7 @@ ghost use Rattle.ped_edges.specs.Edges as plain;
 ghost use Rattle.ped_graph.specs.Dependences.{AreEdges};
 ghost use Rattle.ped_eval.specs.Outcomes.{outcome};
 ghost use Rattle.ped_eval.specs.OutcomeViews.{outcome_view};
+ghost use Rattle.ped_session.specs.declared.replies.Reply.{Reply};
 ghost use Rattle.ped_session.specs.States.{State, opened};
 ghost use Rattle.ped_session.specs.Steps.{IsStep, IsMove};
 ghost use Rattle.ped_session.specs.Scripts.{tests_of};
@@ -167,20 +168,22 @@ impl<L: Ledger> Session<L> {
         ensures sure { IsMove command.now → is_ok result ≡ true }
     {
         match command {
-            Command::Source => self.show_source(alloc),
-            Command::Deps(of) => self.show_dependences(alloc, *of),
-            Command::Show => self.show_both(alloc),
-            Command::Print => self.show_text(alloc),
+            Command::Source => return self.show_source(alloc),
+            Command::Deps(of) => return self.show_dependences(alloc, *of),
+            Command::Show => return self.show_both(alloc),
+            Command::Print => return self.show_text(alloc),
             Command::Replace { first, last, lines } => {
-                self.replace(alloc, *first, *last, lines.as_slice(), steps)
+                return self.replace(alloc, *first, *last, lines.as_slice(), steps);
             }
             Command::Insert { after, lines } => {
-                self.insert(alloc, *after, lines.as_slice(), steps)
+                return self.insert(alloc, *after, lines.as_slice(), steps);
             }
-            Command::Delete { first, last } => self.replace(alloc, *first, *last, &[], steps),
-            Command::Undo => Ok(self.undo()),
-            Command::Redo => Ok(self.redo()),
-            Command::Run(choices) => self.show_run(alloc, choices.as_slice(), input),
+            Command::Delete { first, last } => {
+                return self.replace(alloc, *first, *last, &[], steps);
+            }
+            Command::Undo => return Ok(self.undo()),
+            Command::Redo => return Ok(self.redo()),
+            Command::Run(choices) => return self.show_run(alloc, choices.as_slice(), input),
             Command::Advise(_)
             | Command::Interchange(_)
             | Command::Reverse(_)
@@ -195,7 +198,7 @@ impl<L: Ledger> Session<L> {
             | Command::Serial(_)
             | Command::Reject(_, _)
             | Command::Races
-            | Command::Tested => Ok(Reply::Refused(Refusal::NotBuilt)),
+            | Command::Tested => return Ok(Reply::Refused(Refusal::NotBuilt)),
         }
     }
 }

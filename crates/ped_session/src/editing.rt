@@ -1,8 +1,16 @@
 //! Edits: lines of the present source go, others come, and what results is read afresh.
 
-ghost use Rattle.std.specs.Prelude.{◌≡◌, ◌+◌, ◌≤◌, ◌-◌, List, map, IfOk, OnErr, IsTrue};
+ghost use Rattle.std.specs.Prelude.{◌≡◌, ◌+◌, ◌≤◌, [], IfOk, OnErr};
 ghost use Rattle.ped_tree.specs.Tree.{ProgramTree};
-ghost use Rattle.ped_session.specs.States.{State};
+ghost use Rattle.ped_tree.specs.Views.{program_tree};
+ghost use Rattle.ped_tree.specs.Printing.{program_text};
+ghost use Rattle.ped_symbols.specs.NameRefusals.{IsValid};
+ghost use Rattle.ped_symbols.specs.Kinds.{table_of};
+ghost use Rattle.ped_valid.specs.Validity.{ReadsValid};
+ghost use Rattle.ped_update.specs.Fresh.{tested_pairs};
+ghost use Rattle.ped_session.specs.declared.replies.Reply.{Reply};
+ghost use Rattle.ped_session.specs.declared.replies.Reply.TheVariants.{Changed};
+ghost use Rattle.ped_session.specs.States.{State, changed_to};
 ghost use Rattle.ped_session.specs.Splices as Splices;
 ghost use Rattle.ped_session.specs.Steps.{Edits, Replaces, Inserts};
 ghost use Rattle.ped_session.specs.Scripts.{tests_of};
@@ -37,7 +45,7 @@ impl<L: Ledger> Session<L> {
         ensures least { steps.old ≤ steps.new }
         ensures most { (reply : Reply) (next : State) → Replaces first last lines.now self.old reply next → steps.new ≤ steps.old + tests_of reply next }
     {
-        if first == 0 || last < first || line_count(self.source()) < last {
+        if !are_lines(self.source(), first, last) {
             return Ok(Reply::Refused(Refusal::NoSuchLine));
         }
         self.splice(alloc, first - 1, last - first + 1, lines, steps)
@@ -57,7 +65,7 @@ impl<L: Ledger> Session<L> {
         ensures least { steps.old ≤ steps.new }
         ensures most { (reply : Reply) (next : State) → Inserts after lines.now self.old reply next → steps.new ≤ steps.old + tests_of reply next }
     {
-        if line_count(self.source()) < after {
+        if !is_place(self.source(), after) {
             return Ok(Reply::Refused(Refusal::NoSuchLine));
         }
         self.splice(alloc, after, 0, lines, steps)
@@ -80,9 +88,9 @@ impl<L: Ledger> Session<L> {
     {
         let text = spliced(alloc, self.source(), kept, gone, lines)?;
         match open_program(alloc, text.as_slice()) {
-            Ok(opened) => self.change(alloc, opened, Change::Edit, steps),
-            Err(OpenRefusal::At(why)) => Ok(Reply::Refused(Refusal::BadEdit(why))),
-            Err(OpenRefusal::NoMemory) => Err(NoMemory),
+            Ok(opened) => return self.change(alloc, opened, Change::Edit, steps),
+            Err(OpenRefusal::At(why)) => return Ok(Reply::Refused(Refusal::BadEdit(why))),
+            Err(OpenRefusal::NoMemory) => return Err(NoMemory),
         }
     }
 
@@ -96,10 +104,10 @@ impl<L: Ledger> Session<L> {
     ) -> Result<Reply, NoMemory>
         requires valid { IsValid (program_tree new.program) }
         requires symbols { new.symbols ≡ table_of (program_tree new.program) }
-        ensures answers { IfOk result (λ reply. (reply ≡ Changed) × ((old : ProgramTree) → ReadsValid self.old.present old
-            → self.new ≡ changed_to (program_text (program_tree new.program)) change (tested_pairs old (program_tree new.program) []) self.old)) }
+        ensures answers { IfOk result (λ reply. (reply ≡ Changed) × (old : ProgramTree) × ReadsValid self.old.present old
+            × (self.new ≡ changed_to (program_text (program_tree new.program)) change (tested_pairs old (program_tree new.program) []) self.old)) }
         ensures kept { OnErr result (self.new ≡ self.old) }
-        ensures ticks { IfOk result (λ reply. steps.new ≡ steps.old + self.new.tested) }
+        ensures ticks { IfOk result (λ reply. steps.new ≡ steps.old + tests_of reply self.new) }
         ensures least { steps.old ≤ steps.new }
         ensures most { (old : ProgramTree) → ReadsValid self.old.present old → steps.new ≤ steps.old + tested_pairs old (program_tree new.program) [] }
     {
@@ -128,4 +136,18 @@ impl<L: Ledger> Session<L> {
         });
         Ok(Reply::Changed)
     }
+}
+
+/// Whether these are the numbers of a first and a last line of the text.
+fn are_lines(text: &[u8], first: u64, last: u64) -> bool
+    ensures { result ≡ Splices.are_lines text.now first last }
+{
+    1 <= first && first <= last && last <= line_count(text)
+}
+
+/// Whether this is the number of a line of the text, or 0 for its front.
+fn is_place(text: &[u8], after: u64) -> bool
+    ensures { result ≡ Splices.is_place text.now after }
+{
+    after <= line_count(text)
 }

@@ -1,6 +1,9 @@
 //! Steps back and forward along the history, which take no memory.
 
-ghost use Rattle.std.specs.Prelude.{◌≡◌, ◌∷◌, List};
+ghost use Rattle.std.specs.Prelude.{◌≡◌};
+ghost use Rattle.ped_graph.specs.Held.{held_of};
+ghost use Rattle.ped_update.specs.Deltas.{TakesTo};
+ghost use Rattle.ped_session.specs.Holding.{tree_of};
 ghost use Rattle.ped_session.specs.Steps.{GoesBack, GoesForward};
 
 use crate::replies::{Refusal, Reply};

@@ -4,20 +4,24 @@ ghost use Rattle.std.specs.Prelude.{◌≡◌, ◌≢◌, ◌+◌, ◌≤◌, �
 ghost use Rattle.ped_tree.specs.Tree.{ProgramTree};
 ghost use Rattle.ped_tree.specs.Numbering.{statements_count};
 ghost use Rattle.ped_refs.specs.References.{references, pair_count};
+ghost use Rattle.ped_tree.specs.Views.{program_tree};
+ghost use Rattle.ped_symbols.specs.NameRefusals.{IsValid};
+ghost use Rattle.ped_symbols.specs.Kinds.{table_of};
 ghost use Rattle.ped_valid.specs.Validity.{ReadsValid};
 ghost use Rattle.ped_valid.specs.Refusals.{IsRefusalOf};
 ghost use Rattle.ped_edges.specs.Edges as plain;
 ghost use Rattle.ped_graph.specs.Dependences.{AreEdges};
 ghost use Rattle.ped_eval.specs.Outcomes.{outcome};
 ghost use Rattle.ped_eval.specs.OutcomeViews.{outcome_view};
+ghost use Rattle.ped_session.specs.declared.replies.Reply.{Reply};
 ghost use Rattle.ped_session.specs.States.{State, opened};
 ghost use Rattle.ped_session.specs.Steps.{IsStep, IsMove};
 ghost use Rattle.ped_session.specs.Scripts.{tests_of};
 
-use crate::blocks::block;
 use crate::replies::{Refusal, Reply};
 use crate::versions::{Entry, Version};
 use ped_base::{Bytes, NoMemory};
+use ped_edges::Edge;
 use ped_eval::{Outcome, run_in_order};
 use ped_graph::Graph;
 use ped_history::History;
@@ -70,14 +74,29 @@ impl<L: Ledger> Session<L> {
         ensures least { steps.old ≤ steps.new }
         ensures most { (t : ProgramTree) → ReadsValid text.now t → steps.new ≤ steps.old + pair_count (references t) }
     {
-        let Opened { program, symbols } = open_program(alloc, text)?;
-        let text = print(alloc, &program)?;
-        let graph = Graph::build(alloc, &program, symbols.consts(), steps)?;
+        let program = open_program(alloc, text)?;
+        match Session::begin(alloc, program, steps) {
+            Ok(session) => Ok(session),
+            Err(NoMemory) => Err(OpenRefusal::NoMemory),
+        }
+    }
+
+    /// A session on a valid program.
+    fn begin(alloc: Global, new: Opened, steps: &mut Steps<L>) -> Result<Session<L>, NoMemory>
+        requires valid { IsValid (program_tree new.program) }
+        requires symbols { new.symbols ≡ table_of (program_tree new.program) }
+        ensures opened { IfOk result (λ s. s ≡ opened (program_tree new.program)) }
+        ensures ticks { OnOk result (steps.new ≡ steps.old + pair_count (references (program_tree new.program))) }
+        ensures least { steps.old ≤ steps.new }
+        ensures most { steps.new ≤ steps.old + pair_count (references (program_tree new.program)) }
+    {
+        let text = print(alloc, &new.program)?;
+        let graph = Graph::build(alloc, &new.program, new.symbols.consts(), steps)?;
         let tested = graph.pair_count();
         Ok(Session {
             present: Version {
-                program,
-                symbols,
+                program: new.program,
+                symbols: new.symbols,
                 text,
             },
             graph,
@@ -111,7 +130,9 @@ impl<L: Ledger> Session<L> {
     pub fn edges(&self, alloc: Global) -> Result<u64, NoMemory>
         ensures { IfOk result (λ n. (t : ProgramTree) → ReadsValid self.now.present t → (edges : List plain.Edge) → AreEdges t edges → n ≡ length edges) }
     {
-        Ok(self.graph.edges(alloc)?.len() as u64)
+        let found = self.graph.edges(alloc)?;
+        let edges: &[Edge] = &found;
+        Ok(edges.len() as u64)
     }
 
     /// How many pairs of references the last accepted change, undo or redo has tested, or the opening.
@@ -122,6 +143,7 @@ impl<L: Ledger> Session<L> {
     }
 
     /// Runs the present program in order on the lines of its data.
+    #[tactic(auto, using(crate::proofs::PresentProgram::only_version))]
     pub fn run(&self, alloc: Global, input: &[u8]) -> Result<Outcome, NoMemory>
         ensures { IfOk result (λ o. (t : ProgramTree) → ReadsValid self.now.present t → outcome_view o ≡ outcome t input.now) }
     {
@@ -146,20 +168,22 @@ impl<L: Ledger> Session<L> {
         ensures sure { IsMove command.now → is_ok result ≡ true }
     {
         match command {
-            Command::Source => self.show_source(alloc),
-            Command::Deps(of) => self.show_dependences(alloc, *of),
-            Command::Show => self.show_both(alloc),
-            Command::Print => self.show_text(alloc),
+            Command::Source => return self.show_source(alloc),
+            Command::Deps(of) => return self.show_dependences(alloc, *of),
+            Command::Show => return self.show_both(alloc),
+            Command::Print => return self.show_text(alloc),
             Command::Replace { first, last, lines } => {
-                self.replace(alloc, *first, *last, lines.as_slice(), steps)
+                return self.replace(alloc, *first, *last, lines.as_slice(), steps);
             }
             Command::Insert { after, lines } => {
-                self.insert(alloc, *after, lines.as_slice(), steps)
+                return self.insert(alloc, *after, lines.as_slice(), steps);
             }
-            Command::Delete { first, last } => self.replace(alloc, *first, *last, &[], steps),
-            Command::Undo => Ok(self.undo()),
-            Command::Redo => Ok(self.redo()),
-            Command::Run(choices) => self.show_run(alloc, choices.as_slice(), input),
+            Command::Delete { first, last } => {
+                return self.replace(alloc, *first, *last, &[], steps);
+            }
+            Command::Undo => return Ok(self.undo()),
+            Command::Redo => return Ok(self.redo()),
+            Command::Run(choices) => return self.show_run(alloc, choices.as_slice(), input),
             Command::Advise(_)
             | Command::Interchange(_)
             | Command::Reverse(_)
@@ -174,7 +198,7 @@ impl<L: Ledger> Session<L> {
             | Command::Serial(_)
             | Command::Reject(_, _)
             | Command::Races
-            | Command::Tested => Ok(Reply::Refused(Refusal::NotBuilt)),
+            | Command::Tested => return Ok(Reply::Refused(Refusal::NotBuilt)),
         }
     }
 }

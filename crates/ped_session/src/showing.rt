@@ -3,13 +3,14 @@
 ghost use Rattle.std.specs.Prelude.{◌≡◌, IfOk, Option, List, ℕ};
 ghost use Rattle.ped_graph.specs.DependencePane.{IsDependencePane, IsDependencePaneOf};
 ghost use Rattle.ped_session.specs.Panes.{IsSourcePane, ArePanes};
-ghost use Rattle.ped_session.specs.Steps.{Shows, Prints, Runs, IsStep};
+ghost use Rattle.ped_session.specs.Steps.{Shows, ShowsStatement, Prints, Runs, IsStep};
 ghost use Rattle.ped_script.specs.declared.items.Command.TheVariants as commands;
 
 use crate::blocks::block;
 use crate::replies::{Refusal, Reply};
 use crate::session::Session;
 use ped_base::{Bytes, NoMemory};
+use ped_eval::run_in_order;
 use ped_print::source_pane;
 use std::alloc::Global;
 use std::sync::ledger::Ledger;
@@ -84,7 +85,8 @@ impl<L: Ledger> Session<L> {
         if !choices.is_empty() {
             return Ok(Reply::Refused(Refusal::NotBuilt));
         }
-        let outcome = self.run(alloc, input)?;
+        let present = &self.present;
+        let outcome = run_in_order(alloc, &present.program, &present.symbols, input)?;
         Ok(Reply::Shown(block(alloc, &outcome)?))
     }
 }

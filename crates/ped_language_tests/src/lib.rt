@@ -1,4 +1,4 @@
-//! Tests of the crates of trees, texts and names: of each call that may find no memory one that finds
+//! Tests of the crates of trees, texts, names and runs: of each call that may find no memory one that finds
 //! enough, and what no contract says. They stand in a crate of their own, since a crate that has tests is proved once
 //! more with them.
 #![tactic(auto)]
@@ -19,6 +19,8 @@ mod parse;
 mod print;
 #[cfg(test)]
 mod refusals;
+#[cfg(test)]
+mod runs;
 #[cfg(test)]
 mod statements;
 #[cfg(test)]

@@ -1,5 +1,6 @@
 pub mod Joined
 pub mod Meetings
+pub mod Placing
 pub mod ReadsTold
 pub mod SeenCells
 pub mod Shown

@@ -1,3 +1,4 @@
+mod Examples
 pub mod Joined
 pub mod Meetings
 pub mod Placing

@@ -1,10 +1,10 @@
 -- The iterations in which the acts of a run stand.
-use Rattle.std.proofs.Common.{◌≡◌, ℕ, zero, suc, ◌+◌, List, [], ◌∷◌, ◌++◌, length, Bool, true, false, Option, Some, None, refl, sym, ap, subst, ◌∙◌, arith, inl, inr, if◌then◌else◌}
-use Rattle.ped_tree.specs.Tree.{ExprTree, CondTree, ItemTree, Head, StmtTree, StmtTrees, Assign, If, Do, Print, Read, Stop, Comment, no_stmts, more_stmts}
+use Rattle.std.proofs.Common.{◌≡◌, ℕ, zero, suc, ◌+◌, List, [], ◌∷◌, ◌++◌, length, Bool, true, false, Option, Some, None, refl, sym, ap, subst, ◌∙◌, arith, if◌then◌else◌}
+use Rattle.ped_tree.specs.Tree.{StmtTree, StmtTrees, Assign, If, Do, Print, Read, Stop, Comment, no_stmts, more_stmts}
 use Rattle.ped_tree.specs.Numbering.{numbered, all_numbered, at_place, statement_count, statements_count}
 use Rattle.ped_tree.proofs.Numbers.{length-numbered, length-all_numbered, at_place-front, at_place-back}
 use Rattle.ped_store.specs.Stores.{Store}
-use Rattle.ped_store.specs.Acts.{Touch, Turn, Place, Step, Act, did, entered, ended_turn, closed, faulted}
+use Rattle.ped_store.specs.Acts.{Touch, Turn, Step, Act, did, entered, ended_turn, closed, faulted}
 use Rattle.ped_acts.specs.Orders.{IsIn}
 use Rattle.ped_acts.specs.Origins.{AreOfOneKind}
 use Rattle.ped_eval.specs.Scopes.{Setting, Frame, Scope, turns_of, names_in, place_of}

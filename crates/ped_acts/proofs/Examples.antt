@@ -5,6 +5,7 @@ mod Distribution
 mod Interchange
 mod Lists
 mod Orders
+mod Premises
 mod Privatisation
 mod Races
 mod Reversal

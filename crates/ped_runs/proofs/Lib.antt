@@ -1,5 +1,7 @@
+mod Examples
 pub mod Joined
 pub mod Meetings
+pub mod Placing
 pub mod ReadsTold
 pub mod SeenCells
 pub mod Shown

@@ -45,17 +45,17 @@ module _ (P : Act → Type 0) where
   followed_each acts (stopped u) g h k = h
   followed_each acts (failed fault statement) g h k = h
 
-  then_each : (r : Run) (g : Store → Run) → Each P r.acts → ((u : Store) → Each P (g u).acts) → Each P (then_run r g).acts
+  pub then_each : (r : Run) (g : Store → Run) → Each P r.acts → ((u : Store) → Each P (g u).acts) → Each P (then_run r g).acts
   then_each r g h k = followed_each r.acts r.ending g h k
 
-  does_each : (step : Step) (at : Place) (touches : List Touch) (next : Store → Run) (s : Store) → P (act step at touches) → ((u : Store) → Each P (next u).acts) → Each P (does step at touches next s).acts
+  pub does_each : (step : Step) (at : Place) (touches : List Touch) (next : Store → Run) (s : Store) → P (act step at touches) → ((u : Store) → Each P (next u).acts) → Each P (does step at touches next s).acts
   does_each step at touches next s h k = each_more P (act step at touches) (next (store_behind touches s)).acts h (k (store_behind touches s))
 
-  on_each : {A : Type 0} (Q : A → Type 0) (at : Place) (seen : List Seen) (r : Result A ℕ) (k : List Seen → A → Run) → OfResult Q r → P (act faulted at (numbered 1 seen)) → ((x : A) → Q x → Each P (k seen x).acts) → Each P (on_value at seen r k).acts
+  pub on_each : {A : Type 0} (Q : A → Type 0) (at : Place) (seen : List Seen) (r : Result A ℕ) (k : List Seen → A → Run) → OfResult Q r → P (act faulted at (numbered 1 seen)) → ((x : A) → Q x → Each P (k seen x).acts) → Each P (on_value at seen r k).acts
   on_each Q at seen (Ok x) k q h more = more x q
   on_each Q at seen (Err n) k q h more = each_more P (act faulted at (numbered 1 seen)) [] h (each_none P)
 
-any_result : {A : Type 0} (r : Result A ℕ) → OfResult (λ (x : A). Unit {0}) r
+pub any_result : {A : Type 0} (r : Result A ℕ) → OfResult (λ (x : A). Unit {0}) r
 any_result (Ok x) = tt
 any_result (Err n) = tt
 

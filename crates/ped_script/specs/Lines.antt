@@ -1,4 +1,4 @@
--- The lines of a script that are left. Contracts of private functions alone speak of them.
+-- The lines of a text that are left (plain words).
 use Rattle.std.specs.Prelude.{ℕ, List}
 use Rattle.ped_script.specs.Words.{Text}
 

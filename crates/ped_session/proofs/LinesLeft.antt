@@ -1,5 +1,5 @@
 -- One more line of those that are left.
-use Rattle.std.proofs.Common.{◌≡◌, ℕ, suc, ◌+◌, ◌-◌, ◌<◌, List, [], ◌∷◌, ◌++◌, take, drop, Bool, true, false, Option, Some, None, MatchOption, is_some, refl, sym, ap, ◌∙◌, append_assoc, arith}
+use Rattle.std.proofs.Common.{◌≡◌, ℕ, suc, ◌+◌, ◌-◌, ◌<◌, List, [], ◌∷◌, ◌++◌, take, drop, true, Option, Some, None, MatchOption, is_some, sym, ap, ◌∙◌, append_assoc, arith}
 use Rattle.ped_session.specs.Splices.{text_of_lines}
 
 -- where something was taken, it was the first

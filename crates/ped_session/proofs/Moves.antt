@@ -2,18 +2,16 @@
 use Rattle.std.proofs.Common.{◌≡◌, inl, inr, ℕ, zero, suc, Bool, true, false, List, [], ◌∷◌, Option, Some, None, refl, sym, ap, ◌∙◌, subst}
 use Rattle.std.specs.Prelude.{MatchBool}
 use Rattle.ped_tree.specs.Tree.{StmtTree}
-use Rattle.ped_tree.specs.Printing.{program_text}
 use Rattle.ped_tree.specs.Numbering.{statement_with}
-use Rattle.ped_update.specs.Fresh.{tested_pairs}
 use Rattle.ped_script.specs.declared.items.Command.{Command}
 use Rattle.ped_script.specs.declared.items.Command.TheVariants.{Source, Deps, Show, Print, Advise, Replace, Insert, Delete, Interchange, Reverse, Skew, Strip, Peel, Distribute, Fuse, Expand, Privatise, Parallel, Serial, Reject, Undo, Redo, Run, Races, Tested}
 use Rattle.ped_session.specs.declared.changes.Change.{Change}
 use Rattle.ped_session.specs.declared.changes.Change.TheVariants.{Edit}
 use Rattle.ped_session.specs.declared.replies.Refusal.{Refusal}
-use Rattle.ped_session.specs.declared.replies.Refusal.TheVariants.{NoSuchStatement, NoSuchLine, NotBuilt}
+use Rattle.ped_session.specs.declared.replies.Refusal.TheVariants.{NoSuchLine}
 use Rattle.ped_session.specs.declared.replies.Reply.{Reply}
 use Rattle.ped_session.specs.declared.replies.Reply.TheVariants.{Changed, Shown, Refused}
-use Rattle.ped_session.specs.States.{Other, State, changed_to}
+use Rattle.ped_session.specs.States.{Other, State}
 use Rattle.ped_session.specs.Splices.{are_lines, is_place}
 use Rattle.ped_session.specs.Steps.{Refuses, ShowsOf, Edits, accepted, refused, GoesBack, GoesForward, Runs, IsStep, IsMove}
 use Rattle.ped_session.specs.Histories.{HaveSameSources, Times}
@@ -64,9 +62,9 @@ redone_once d s next mid again a e b =
     let back = goes_back s.past s next refl a in
     let forth = goes_forward mid.future mid again refl b in
     let both = there_and_back s.past s.future next.past next.future again.past again.future s.present next.present again.present back
-        (subst (λ (x : List Other). Moves next.future next.present x again.future again.present again.past) e.past
-        (subst (λ (x : List ℕ). Moves next.future x mid.past again.future again.present again.past) e.present
-        (subst (λ (x : List Other). Moves x mid.present mid.past again.future again.present again.past) e.future forth))) in
+    (subst (λ (x : List Other). Moves next.future next.present x again.future again.present again.past) e.past
+    (subst (λ (x : List ℕ). Moves next.future x mid.past again.future again.present again.past) e.present
+    (subst (λ (x : List Other). Moves x mid.present mid.past again.future again.present again.past) e.future forth))) in
     record { past = both.0; present = both.1; future = both.2 }
 
 undone_once : (d : List ℕ) (s next mid again : State) → IsStep Redo d s Changed next → HaveSameSources mid next → IsStep Undo d mid Changed again → HaveSameSources again s
@@ -74,9 +72,9 @@ undone_once d s next mid again a e b =
     let forth = goes_forward s.future s next refl a in
     let back = goes_back mid.past mid again refl b in
     let both = there_and_back s.future s.past next.future next.past again.future again.past s.present next.present again.present forth
-        (subst (λ (x : List Other). Moves next.past next.present x again.past again.present again.future) e.future
-        (subst (λ (x : List ℕ). Moves next.past x mid.future again.past again.present again.future) e.present
-        (subst (λ (x : List Other). Moves x mid.present mid.future again.past again.present again.future) e.past back))) in
+    (subst (λ (x : List Other). Moves next.past next.present x again.past again.present again.future) e.future
+    (subst (λ (x : List ℕ). Moves next.past x mid.future again.past again.present again.future) e.present
+    (subst (λ (x : List Other). Moves x mid.present mid.future again.past again.present again.future) e.past back))) in
     record { past = both.2; present = both.1; future = both.0 }
 
 -- as many times `redo` as `undo`

@@ -1,5 +1,5 @@
 -- Refusals of the code that stand for one finding are one refusal.
-use Rattle.std.proofs.Common.{◌≡◌, refl, sym, ap, ap₂, ◌∙◌}
+use Rattle.std.proofs.Common.{◌≡◌, refl, sym, ap, ◌∙◌}
 use Rattle.ped_grammar.specs.Refusal as plain
 use Rattle.ped_grammar.specs.Refusal.{Refusal, Finding}
 use Rattle.ped_grammar.specs.declared.refusals.RefusalKind.{RefusalKind}

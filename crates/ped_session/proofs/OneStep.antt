@@ -1,5 +1,5 @@
 -- A command has one reply in a state, and leads to one state.
-use Rattle.std.proofs.Common.{◌≡◌, inl, inr, ℕ, Bool, true, false, List, [], ◌∷◌, ◌++◌, Option, Some, None, refl, sym, ap, ◌∙◌, subst}
+use Rattle.std.proofs.Common.{◌≡◌, inl, inr, ℕ, Bool, true, false, List, [], ◌∷◌, ◌++◌, Option, Some, None, sym, ap, ◌∙◌, subst}
 use Rattle.std.specs.Prelude.{MatchBool}
 use Rattle.ped_tree.specs.Tree.{StmtTree, ProgramTree}
 use Rattle.ped_tree.specs.Printing.{program_text}
@@ -24,7 +24,7 @@ use Rattle.ped_session.specs.declared.replies.Reply.TheVariants.{Shown, Refused}
 use Rattle.ped_session.specs.States.{Other, State, changed_to}
 use Rattle.ped_session.specs.Blocks.{block}
 use Rattle.ped_session.specs.Panes.{IsSourcePane, ArePanes}
-use Rattle.ped_session.specs.Splices.{spliced, are_lines, is_place}
+use Rattle.ped_session.specs.Splices.{are_lines, is_place}
 use Rattle.ped_session.specs.Steps.{Refuses, Shows, ShowsOf, ShowsStatement, Edits, accepted, refused, GoesBack, GoesForward, Runs, IsStep}
 use Rattle.ped_session.proofs.OneFinding.{one_found}
 

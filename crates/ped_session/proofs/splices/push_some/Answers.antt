@@ -9,5 +9,5 @@ loop-preserved c =
     let after = c.next.new.self.lines in
     record {
       added = text_one_more c.args.count c.loop.counter c.loop.all c.push_line.new.all line before after c.loop-test.true c.in-Some.ensures.line.0 c.in_ok-push_line-in-Some.ensures ∙ c.loop.invariant.added;
-      left = drop_one_more c.args.count c.loop.counter line before after c.loop-test.true c.in-Some.ensures.line.0 ∙ c.loop.invariant.left
+      left = drop_one_more c.args.count c.loop.counter line before after c.loop-test.true c.in-Some.ensures.line.0 ∙ c.loop.invariant.left;
     }

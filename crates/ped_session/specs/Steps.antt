@@ -4,7 +4,7 @@ use Rattle.ped_tree.specs.Tree.{StmtTree, ProgramTree}
 use Rattle.ped_tree.specs.Printing.{program_text}
 use Rattle.ped_tree.specs.Numbering.{statement_with}
 use Rattle.ped_grammar.specs.RefusalViews.{finding_of}
-use Rattle.ped_grammar.specs.declared.refusals.Refusal as of_text
+use Rattle.ped_grammar.specs.declared.refusals.Refusal as reading
 use Rattle.ped_valid.specs.Validity.{ReadsValid, RefusesText}
 use Rattle.ped_graph.specs.DependencePane.{IsDependencePane, IsDependencePaneOf}
 use Rattle.ped_update.specs.Fresh.{tested_pairs}
@@ -53,7 +53,7 @@ pub record ShowsStatement (number : ℕ) (s : State) (reply : Reply) (next : Sta
 pub data Edits (text : List ℕ) (s : State) (reply : Reply) (next : State) : Type 0 where
   accepted : (old new : ProgramTree) → ReadsValid s.present old → ReadsValid text new
       → reply ≡ Changed → next ≡ changed_to (program_text new) Edit (tested_pairs old new []) s → Edits text s reply next
-  refused : (why : of_text.Refusal) → RefusesText text (finding_of why) → Refuses (BadEdit why) s reply next → Edits text s reply next
+  refused : (why : reading.Refusal) → RefusesText text (finding_of why) → Refuses (BadEdit why) s reply next → Edits text s reply next
 
 -- lines of the present source go and others come in their place, where it has the lines that go
 abbrev pub Replaces : ℕ → ℕ → List (List ℕ) → State → Reply → State → Type 0

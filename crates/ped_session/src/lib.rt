@@ -12,6 +12,8 @@ mod scripts;
 mod session;
 mod showing;
 mod splices;
+#[cfg(test)]
+mod tests;
 mod versions;
 
 pub use changes::Change;

@@ -13,6 +13,8 @@ mod scripts;
 mod session;
 mod showing;
 mod splices;
+#[cfg(test)]
+mod tests;
 mod versions;
 
 pub use answers::{Answered, answer_items};

@@ -151,31 +151,31 @@ unread_served i is rest rest_tests fault call rose more rises others says ends w
 
 -- endings of an answer to a text
 pub data IsOfText (s : Status) : Type 0 where
-  done : s ≡ Done → IsOfText s
-  some_refused : s ≡ SomeRefused → IsOfText s
-  program_refused : s ≡ ProgramRefused → IsOfText s
-  write_fault : s ≡ WriteFault → IsOfText s
-  no_memory : s ≡ NoMemory → IsOfText s
+  is_done : s ≡ Done → IsOfText s
+  is_some_refused : s ≡ SomeRefused → IsOfText s
+  is_program_refused : s ≡ ProgramRefused → IsOfText s
+  is_write_fault : s ≡ WriteFault → IsOfText s
+  is_no_memory : s ≡ NoMemory → IsOfText s
 
 not_of_text : (s other : Status) → Done ≢ other → SomeRefused ≢ other → ProgramRefused ≢ other → WriteFault ≢ other → NoMemory ≢ other → IsOfText s → s ≢ other
-not_of_text s other a b c d e (done h) f = a (sym h ∙ f)
-not_of_text s other a b c d e (some_refused h) f = b (sym h ∙ f)
-not_of_text s other a b c d e (program_refused h) f = c (sym h ∙ f)
-not_of_text s other a b c d e (write_fault h) f = d (sym h ∙ f)
-not_of_text s other a b c d e (no_memory h) f = e (sym h ∙ f)
+not_of_text s other a b c d e (is_done h) f = a (sym h ∙ f)
+not_of_text s other a b c d e (is_some_refused h) f = b (sym h ∙ f)
+not_of_text s other a b c d e (is_program_refused h) f = c (sym h ∙ f)
+not_of_text s other a b c d e (is_write_fault h) f = d (sym h ∙ f)
+not_of_text s other a b c d e (is_no_memory h) f = e (sym h ∙ f)
 
 pub shown_ends : (s : Status) → (s ≡ Done) ⊎ (s ≡ ProgramRefused) ⊎ (s ≡ WriteFault) ⊎ (s ≡ NoMemory) → IsOfText s
-shown_ends s (inl e) = done e
-shown_ends s (inr (inl e)) = program_refused e
-shown_ends s (inr (inr (inl e))) = write_fault e
-shown_ends s (inr (inr (inr e))) = no_memory e
+shown_ends s (inl e) = is_done e
+shown_ends s (inr (inl e)) = is_program_refused e
+shown_ends s (inr (inr (inl e))) = is_write_fault e
+shown_ends s (inr (inr (inr e))) = is_no_memory e
 
 pub session_ends : (s : Status) → (s ≡ Done) ⊎ (s ≡ SomeRefused) ⊎ (s ≡ ProgramRefused) ⊎ (s ≡ WriteFault) ⊎ (s ≡ NoMemory) → IsOfText s
-session_ends s (inl e) = done e
-session_ends s (inr (inl e)) = some_refused e
-session_ends s (inr (inr (inl e))) = program_refused e
-session_ends s (inr (inr (inr (inl e)))) = write_fault e
-session_ends s (inr (inr (inr (inr e)))) = no_memory e
+session_ends s (inl e) = is_done e
+session_ends s (inr (inl e)) = is_some_refused e
+session_ends s (inr (inr (inl e))) = is_program_refused e
+session_ends s (inr (inr (inr (inl e)))) = is_write_fault e
+session_ends s (inr (inr (inr (inr e)))) = is_no_memory e
 
 -- what is shown of a text may be given where no file is left
 pub shown_given : (text : List ℕ) (files : Contents) (failed : List ℕ → Type 0) (s : Status) (b : List ℕ) → IsShown text s b → MayGive [] files failed (IsShown text) s b

@@ -59,6 +59,11 @@ refusal_shown text f refused s b h = subst (λ (x : Status). IsShown text x b) (
 pub refusal_answered : (text script data_bytes : List ℕ) (f : Finding) → RefusesText text f → (s : Status) (b : List ℕ) → IsJust ProgramRefused (refused_line f) s b → IsSession text script data_bytes s b
 refusal_answered text script data_bytes f refused s b h = subst (λ (x : Status). IsSession text script data_bytes x b) (sym h.0) (f, refused, h.1)
 
+-- what a script says is what it answers
+pub said_from : (state : State) (script data_bytes : List ℕ) (said : Said) (last : State) → AnswersItems (commands_of script) data_bytes state said last
+    → (status : Status) (bytes : List ℕ) → status ≡ session_status said.refused → bytes ≡ said.bytes → (s : Status) (b : List ℕ) → IsJust status bytes s b → AnswersFrom state script data_bytes s b
+said_from state script data_bytes said last answers status bytes e f s b j = (said, last, answers, j.0 ∙ e, j.1 ∙ f)
+
 -- what a script answers is what the session answers, by whether a line was refused
 by_refused : (refused : Bool) (text script data_bytes b : List ℕ) → AnswersScript text script data_bytes refused b → IsSession text script data_bytes (session_status refused) b
 by_refused false text script data_bytes b h = h

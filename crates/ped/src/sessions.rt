@@ -27,19 +27,19 @@ pub fn answer_files<F: Shelf, K: Sink, L: Ledger>(
     alloc: Global,
     program: &str,
     script: &str,
-    data: Option<&str>,
+    data_file: Option<&str>,
     shelf: &mut F,
     out: &mut K,
     steps: &mut Steps<L>,
 ) -> Status
-    ensures served { ServedRequest (session program.now script.now (option_map (λ file. file.now) data)) (record { told = F.told shelf.old;
+    ensures served { ServedRequest (session program.now script.now (option_map (λ file. file.now) data_file.entry)) (record { told = F.told shelf.old;
         counts = F.count shelf.old; counts_after = F.count shelf.new;
         taken = K.taken out.old; taken_after = K.taken out.new; faults = K.faults out.old; faults_after = K.faults out.new;
         steps = steps.old; steps_after = steps.new; status = result }) }
     ensures same { F.told shelf.new ≡ F.told shelf.old }
 {
     match load(alloc, shelf, program, SOURCE_LIMIT) {
-        Ok(text) => answer_script_file(alloc, text.as_slice(), script, data, shelf, out, steps),
+        Ok(text) => answer_script_file(alloc, text.as_slice(), script, data_file, shelf, out, steps),
         Err(fault) => say_unread(alloc, program, SOURCE_LIMIT, fault, out),
     }
 }
@@ -49,14 +49,14 @@ fn answer_script_file<F: Shelf, K: Sink, L: Ledger>(
     alloc: Global,
     text: &[u8],
     script: &str,
-    data: Option<&str>,
+    data_file: Option<&str>,
     shelf: &mut F,
     out: &mut K,
     steps: &mut Steps<L>,
 ) -> Status
-    ensures served { Served (source_input script.now ∷ data_inputs (option_map (λ file. file.now) data))
-        (λ files. AnswersInput (source_input script.now) files (λ commands. AnswersData (option_map (λ file. file.now) data) files (IsSession text.now commands)))
-        (λ files. TestsInput (source_input script.now) files (λ commands. TestsData (option_map (λ file. file.now) data) files (TestsSession text.now commands)))
+    ensures served { Served (source_input script.now ∷ data_inputs (option_map (λ file. file.now) data_file.entry))
+        (λ files. AnswersInput (source_input script.now) files (λ commands. AnswersData (option_map (λ file. file.now) data_file.entry) files (IsSession text.now commands)))
+        (λ files. TestsInput (source_input script.now) files (λ commands. TestsData (option_map (λ file. file.now) data_file.entry) files (TestsSession text.now commands)))
         (record { told = F.told shelf.old;
         counts = F.count shelf.old; counts_after = F.count shelf.new;
         taken = K.taken out.old; taken_after = K.taken out.new; faults = K.faults out.old; faults_after = K.faults out.new;
@@ -64,7 +64,7 @@ fn answer_script_file<F: Shelf, K: Sink, L: Ledger>(
     ensures same { F.told shelf.new ≡ F.told shelf.old }
 {
     match load(alloc, shelf, script, SOURCE_LIMIT) {
-        Ok(script) => answer_data(alloc, text, script.as_slice(), data, shelf, out, steps),
+        Ok(script) => answer_data(alloc, text, script.as_slice(), data_file, shelf, out, steps),
         Err(fault) => say_unread(alloc, script, SOURCE_LIMIT, fault, out),
     }
 }
@@ -74,21 +74,21 @@ fn answer_data<F: Shelf, K: Sink, L: Ledger>(
     alloc: Global,
     text: &[u8],
     script: &[u8],
-    data: Option<&str>,
+    data_file: Option<&str>,
     shelf: &mut F,
     out: &mut K,
     steps: &mut Steps<L>,
 ) -> Status
-    ensures served { Served (data_inputs (option_map (λ file. file.now) data))
-        (λ files. AnswersData (option_map (λ file. file.now) data) files (IsSession text.now script.now))
-        (λ files. TestsData (option_map (λ file. file.now) data) files (TestsSession text.now script.now))
+    ensures served { Served (data_inputs (option_map (λ file. file.now) data_file.entry))
+        (λ files. AnswersData (option_map (λ file. file.now) data_file.entry) files (IsSession text.now script.now))
+        (λ files. TestsData (option_map (λ file. file.now) data_file.entry) files (TestsSession text.now script.now))
         (record { told = F.told shelf.old;
         counts = F.count shelf.old; counts_after = F.count shelf.new;
         taken = K.taken out.old; taken_after = K.taken out.new; faults = K.faults out.old; faults_after = K.faults out.new;
         steps = steps.old; steps_after = steps.new; status = result }) }
     ensures same { F.told shelf.new ≡ F.told shelf.old }
 {
-    match data {
+    match data_file {
         Some(name) => answer_data_file(alloc, text, script, name, shelf, out, steps),
         None => answer_texts(alloc, text, script, &[], out, steps),
     }

@@ -106,4 +106,4 @@ pub said_ticks : (script data_bytes : List ℕ) (s : State) (status : Status) (b
     → (done : Said) × (next : State) × AnswersItems (commands_of script) data_bytes s done next × Ticks status before after done.tests
     → (said : Said) (last : State) → AnswersItems (commands_of script) data_bytes s said last → Ticks status before after said.tests
 said_ticks script data_bytes s status before after d said last answers =
-    subst (λ (x : Said). Ticks status before after x.tests) (items.one_answer (commands_of script) data_bytes s d.1 last d.0 said d.2 answers).0 d.3
+    subst (λ (x : Said). Ticks status before after x.tests) (items.one_all (commands_of script) data_bytes s d.1 last d.0 said d.2 answers).0 d.3

@@ -68,7 +68,7 @@ one_shown text TooLong t a b p q = absurd p
 pub one_said : (text script data_bytes : List ℕ) (t u : ProgramTree) (a b : Said) (m n : State) → ReadsValid text t → ReadsValid text u → AnswersItems (commands_of script) data_bytes (opened t) a m → AnswersItems (commands_of script) data_bytes (opened u) b n → a ≡ b
 one_said text script data_bytes t u a b m n p q x y =
     let z = subst (λ (v : ProgramTree). AnswersItems (commands_of script) data_bytes (opened v) a m) (one_tree text t u p q) x in
-    (items.one_answer (commands_of script) data_bytes (opened u) m n a b z y).0
+    (items.one_all (commands_of script) data_bytes (opened u) m n a b z y).0
 
 one_script_said : (text script data_bytes : List ℕ) (c d : Bool) (a b : List ℕ) (p : AnswersScript text script data_bytes c a) (q : AnswersScript text script data_bytes d b) → p.said ≡ q.said
 one_script_said text script data_bytes c d a b p q = one_said text script data_bytes p.tree q.tree p.said q.said p.last q.last p.reads q.reads p.answers q.answers

@@ -65,21 +65,24 @@ pub read_served : (i : Input) (is : List Input) (rest : List ℕ → Contents �
     → Served (i ∷ is) (λ files. AnswersInput i files (λ bytes. rest bytes files)) (λ files. TestsInput i files (λ bytes. rest_tests bytes files)) (record call { told = told; counts = counts })
 read_served i is rest rest_tests told counts text call loaded short rises others same served =
     let held : (files : Contents) → told ≡ Some files → IsHeldWithin i files =
-          λ files e. record { bytes = text; held = loaded files e; within = le-ltb i.most (length text) short } in
+    λ files e. record { bytes = text; held = loaded files e; within = le-ltb i.most (length text) short } in
     let since : (name : List ℕ) → HasFailed call name → Rose (counts name) (call.counts_after name) =
-          λ name. rose_since (counts name) (call.counts name) (call.counts_after name) (rises name) in
+    λ name. rose_since (counts name) (call.counts name) (call.counts_after name) (rises name) in
     record {
       sends = λ files e before taken.
-        let o = served.sends files (same ∙ e) before taken in
-        (o.0, o.1, outcome_weaker (MayGive is files (HasFailed call) (rest text files)) (MayGive (i ∷ is) files (λ name. Rose (counts name) (call.counts_after name)) (AnswersInput i files (λ bytes. rest bytes files)))
-          (behind i is files (HasFailed call) (λ name. Rose (counts name) (call.counts_after name)) (λ bytes. rest bytes files) (held files e) since) (SinkFailed call) o.0 call.status o.2);
+          let o = served.sends files (same ∙ e) before taken in (
+            o.0,
+            o.1,
+            outcome_weaker (MayGive is files (HasFailed call) (rest text files)) (MayGive (i ∷ is) files (λ name. Rose (counts name) (call.counts_after name)) (AnswersInput i files (λ bytes. rest bytes files)))
+                (behind i is files (HasFailed call) (λ name. Rose (counts name) (call.counts_after name)) (λ bytes. rest bytes files) (held files e) since) (SinkFailed call) o.0 call.status o.2,
+          );
       words = served.words;
       read_fault = λ fault. let one = served.read_fault fault in (one.0, inr one.1, since one.0 one.2);
       write_fault = served.write_fault;
       too_long = λ long files e. inr (held files e, served.too_long long files (same ∙ e));
       rises = λ name. let first = rises name in let second = served.rises name in omega arith;
       others = λ files e name not there.
-        served.others files (same ∙ e) name (λ one. not (inr one)) there ∙ others files e name (λ n. not (inl n)) there;
+          served.others files (same ∙ e) name (λ one. not (inr one)) there ∙ others files e name (λ n. not (inl n)) there;
       sink_rises = served.sink_rises;
       untold = served.untold;
       ticks = λ files e n tests. served.ticks files (same ∙ e) n (of_some _ _ (λ bytes. rest_tests bytes files n) i files (held files e) tests);
@@ -129,13 +132,16 @@ pub unread_served : (i : Input) (is : List Input) (rest : List ℕ → Contents 
     → Served (i ∷ is) (λ files. AnswersInput i files (λ bytes. rest bytes files)) (λ files. TestsInput i files (λ bytes. rest_tests bytes files)) call
 unread_served i is rest rest_tests fault call rose more rises others says ends write_fault sink_rises untold still =
     let long : (files : Contents) → call.told ≡ Some files → fault ≡ load.TooLong → IsTooLong i files =
-          λ files e f. let m = more f files e in record { bytes = m.0; held = m.1; more = lt-ltb i.most (length m.0) m.2 } in
+    λ files e f. let m = more f files e in record { bytes = m.0; held = m.1; more = lt-ltb i.most (length m.0) m.2 } in
     let c = calm fault call.status ends in
     record {
       sends = λ files e before taken.
-        let o = says before taken in
-        (o.0, o.1, outcome_weaker (SaysUnread i fault) (MayGive (i ∷ is) files (HasFailed call) (AnswersInput i files (λ bytes. rest bytes files)))
-          (unread_given i is files (HasFailed call) (λ bytes. rest bytes files) fault rose (long files e)) (SinkFailed call) o.0 call.status o.2);
+          let o = says before taken in (
+            o.0,
+            o.1,
+            outcome_weaker (SaysUnread i fault) (MayGive (i ∷ is) files (HasFailed call) (AnswersInput i files (λ bytes. rest bytes files)))
+                (unread_given i is files (HasFailed call) (λ bytes. rest bytes files) fault rose (long files e)) (SinkFailed call) o.0 call.status o.2,
+          );
       words = c.2;
       read_fault = λ f. (i.name, inl refl, rose (says_read_fault fault call.status ends f));
       write_fault = write_fault;
@@ -211,8 +217,8 @@ pub text_served : (answers : Status → List ℕ → Type 0) (tests : ℕ → Ty
 text_served answers tests call given ends kept says write_fault sink_rises untold ticks untested rise =
     record {
       sends = λ files e before taken.
-        let o = says before taken in
-        (o.0, o.1, outcome_weaker answers (MayGive [] files (HasFailed call) answers) (given files (HasFailed call)) (SinkFailed call) o.0 call.status o.2);
+          let o = says before taken in
+          (o.0, o.1, outcome_weaker answers (MayGive [] files (HasFailed call) answers) (given files (HasFailed call)) (SinkFailed call) o.0 call.status o.2);
       words = not_of_text call.status BadWords (λ f. cc) (λ f. cc) (λ f. cc) (λ f. cc) (λ f. cc) ends;
       read_fault = λ f. absurd (not_of_text call.status ReadFault (λ g. cc) (λ g. cc) (λ g. cc) (λ g. cc) (λ g. cc) ends f);
       write_fault = write_fault;

@@ -127,4 +127,4 @@ one_answer None files s t a b p q = (p.0 ∙ sym q.0, p.1 ∙ sym q.1)
 one_answer (Some (show program)) files s t a b p q = one_input (source_input program) files IsShown one_shown s t a b p q
 one_answer (Some (session program script data_file)) files s t a b p q =
     one_input (source_input program) files (λ text. AnswersInput (source_input script) files (λ commands. AnswersData data_file files (IsSession text commands)))
-      (λ text. one_input (source_input script) files (λ commands. AnswersData data_file files (IsSession text commands)) (λ commands. one_data data_file files (IsSession text commands) (one_session text commands))) s t a b p q
+    (λ text. one_input (source_input script) files (λ commands. AnswersData data_file files (IsSession text commands)) (λ commands. one_data data_file files (IsSession text commands) (one_session text commands))) s t a b p q

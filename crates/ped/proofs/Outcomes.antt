@@ -75,7 +75,7 @@ pub script_answered : (text script data_bytes : List ℕ) (state : State) → (t
 script_answered text script data_bytes state o s b h =
     let answers = subst (λ (x : State). AnswersItems (commands_of script) data_bytes x h.0 h.1) o.2 h.2 in
     subst (λ (x : Status). IsSession text script data_bytes x b) (sym h.3)
-      (by_refused h.0.refused text script data_bytes b (record { tree = o.0; reads = o.1; said = h.0; last = h.1; answers = answers; says = h.4; some = refl }))
+    (by_refused h.0.refused text script data_bytes b (record { tree = o.0; reads = o.1; said = h.0; last = h.1; answers = answers; says = h.4; some = refl }))
 
 -- a line that says that a file can't be read is about a file of the request, whose count rose
 pub one_failed : (inputs : List Input) (files : Contents) (failed : List ℕ → Type 0) (line : List ℕ) → CannotRead inputs files failed line → (name : List ℕ) × IsOneOf inputs name × failed name

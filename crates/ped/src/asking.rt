@@ -33,11 +33,13 @@ pub fn asked_for<'a>(alloc: Global, words: &'a [String]) -> Result<Asked<'a>, Wo
 {
     match request(alloc, words) {
         Ok(Request::Show { program }) => Ok(Asked::Show { program }),
-        Ok(Request::Session {
-            program,
-            script,
-            data,
-        }) => Ok(Asked::Session {
+        Ok(
+            Request::Session {
+                program,
+                script,
+                data,
+            },
+        ) => Ok(Asked::Session {
             program,
             script,
             data,

@@ -32,14 +32,30 @@ pub fn answer_files<F: Shelf, K: Sink, L: Ledger>(
     out: &mut K,
     steps: &mut Steps<L>,
 ) -> Status
-    ensures served { ServedRequest (session program.now script.now (option_map (λ file. file.now) data_file.entry)) (record { told = F.told shelf.old;
-        counts = F.count shelf.old; counts_after = F.count shelf.new;
-        taken = K.taken out.old; taken_after = K.taken out.new; faults = K.faults out.old; faults_after = K.faults out.new;
-        steps = steps.old; steps_after = steps.new; status = result }) }
+    ensures served { ServedRequest (session program.now script.now (option_map (λ file. file.now) data_file.entry)) (record {
+      told = F.told shelf.old;
+      counts = F.count shelf.old;
+      counts_after = F.count shelf.new;
+      taken = K.taken out.old;
+      taken_after = K.taken out.new;
+      faults = K.faults out.old;
+      faults_after = K.faults out.new;
+      steps = steps.old;
+      steps_after = steps.new;
+      status = result;
+    }) }
     ensures same { F.told shelf.new ≡ F.told shelf.old }
 {
     match load(alloc, shelf, program, SOURCE_LIMIT) {
-        Ok(text) => answer_script_file(alloc, text.as_slice(), script, data_file, shelf, out, steps),
+        Ok(text) => answer_script_file(
+            alloc,
+            text.as_slice(),
+            script,
+            data_file,
+            shelf,
+            out,
+            steps,
+        ),
         Err(fault) => say_unread(alloc, program, SOURCE_LIMIT, fault, out),
     }
 }
@@ -57,10 +73,18 @@ fn answer_script_file<F: Shelf, K: Sink, L: Ledger>(
     ensures served { Served (source_input script.now ∷ data_inputs (option_map (λ file. file.now) data_file.entry))
         (λ files. AnswersInput (source_input script.now) files (λ commands. AnswersData (option_map (λ file. file.now) data_file.entry) files (IsSession text.now commands)))
         (λ files. TestsInput (source_input script.now) files (λ commands. TestsData (option_map (λ file. file.now) data_file.entry) files (TestsSession text.now commands)))
-        (record { told = F.told shelf.old;
-        counts = F.count shelf.old; counts_after = F.count shelf.new;
-        taken = K.taken out.old; taken_after = K.taken out.new; faults = K.faults out.old; faults_after = K.faults out.new;
-        steps = steps.old; steps_after = steps.new; status = result }) }
+        (record {
+          told = F.told shelf.old;
+          counts = F.count shelf.old;
+          counts_after = F.count shelf.new;
+          taken = K.taken out.old;
+          taken_after = K.taken out.new;
+          faults = K.faults out.old;
+          faults_after = K.faults out.new;
+          steps = steps.old;
+          steps_after = steps.new;
+          status = result;
+        }) }
     ensures same { F.told shelf.new ≡ F.told shelf.old }
 {
     match load(alloc, shelf, script, SOURCE_LIMIT) {
@@ -82,10 +106,18 @@ fn answer_data<F: Shelf, K: Sink, L: Ledger>(
     ensures served { Served (data_inputs (option_map (λ file. file.now) data_file.entry))
         (λ files. AnswersData (option_map (λ file. file.now) data_file.entry) files (IsSession text.now script.now))
         (λ files. TestsData (option_map (λ file. file.now) data_file.entry) files (TestsSession text.now script.now))
-        (record { told = F.told shelf.old;
-        counts = F.count shelf.old; counts_after = F.count shelf.new;
-        taken = K.taken out.old; taken_after = K.taken out.new; faults = K.faults out.old; faults_after = K.faults out.new;
-        steps = steps.old; steps_after = steps.new; status = result }) }
+        (record {
+          told = F.told shelf.old;
+          counts = F.count shelf.old;
+          counts_after = F.count shelf.new;
+          taken = K.taken out.old;
+          taken_after = K.taken out.new;
+          faults = K.faults out.old;
+          faults_after = K.faults out.new;
+          steps = steps.old;
+          steps_after = steps.new;
+          status = result;
+        }) }
     ensures same { F.told shelf.new ≡ F.told shelf.old }
 {
     match data_file {
@@ -107,10 +139,18 @@ fn answer_data_file<F: Shelf, K: Sink, L: Ledger>(
     ensures served { Served (data_input name.now ∷ [])
         (λ files. AnswersInput (data_input name.now) files (IsSession text.now script.now))
         (λ files. TestsInput (data_input name.now) files (TestsSession text.now script.now))
-        (record { told = F.told shelf.old;
-        counts = F.count shelf.old; counts_after = F.count shelf.new;
-        taken = K.taken out.old; taken_after = K.taken out.new; faults = K.faults out.old; faults_after = K.faults out.new;
-        steps = steps.old; steps_after = steps.new; status = result }) }
+        (record {
+          told = F.told shelf.old;
+          counts = F.count shelf.old;
+          counts_after = F.count shelf.new;
+          taken = K.taken out.old;
+          taken_after = K.taken out.new;
+          faults = K.faults out.old;
+          faults_after = K.faults out.new;
+          steps = steps.old;
+          steps_after = steps.new;
+          status = result;
+        }) }
     ensures same { F.told shelf.new ≡ F.told shelf.old }
 {
     match load(alloc, shelf, name, DATA_LIMIT) {

@@ -32,10 +32,18 @@ pub fn show_file<F: Shelf, K: Sink, L: Ledger>(
     out: &mut K,
     steps: &mut Steps<L>,
 ) -> Status
-    ensures served { ServedRequest (show program.now) (record { told = F.told shelf.old;
-        counts = F.count shelf.old; counts_after = F.count shelf.new;
-        taken = K.taken out.old; taken_after = K.taken out.new; faults = K.faults out.old; faults_after = K.faults out.new;
-        steps = steps.old; steps_after = steps.new; status = result }) }
+    ensures served { ServedRequest (show program.now) (record {
+      told = F.told shelf.old;
+      counts = F.count shelf.old;
+      counts_after = F.count shelf.new;
+      taken = K.taken out.old;
+      taken_after = K.taken out.new;
+      faults = K.faults out.old;
+      faults_after = K.faults out.new;
+      steps = steps.old;
+      steps_after = steps.new;
+      status = result;
+    }) }
     ensures same { F.told shelf.new ≡ F.told shelf.old }
 {
     match load(alloc, shelf, program, SOURCE_LIMIT) {

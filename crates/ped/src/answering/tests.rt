@@ -3,6 +3,7 @@
 ghost use Rattle.std.specs.Prelude.{◌≡◌, ◌<◌, ◌≤◌};
 
 use super::*;
+use ped_base::{Bytes, NoMemory};
 use ped_io::{Calls, Files, MemShelf, MemSink, SureShelf, SureSink};
 use std::alloc::AllocError;
 use std::marker::Brand;

@@ -12,9 +12,16 @@ use Rattle.ped.proofs.answering.ped_main.Goals as goal
 pub returns-in-Ok-clause-answer : goal.returns-in-Ok-clause-answer
 returns-in-Ok-clause-answer g c =
     let call : Call = record {
-      told = g.F.Shelf.told c.args.shelf.now; counts = g.F.Shelf.count c.args.shelf.now; counts_after = g.F.Shelf.count c.serve.new.shelf;
-      taken = g.K.Sink.taken c.args.out.now; taken_after = g.K.Sink.taken c.serve.new.out; faults = g.K.Sink.faults c.args.out.now; faults_after = g.K.Sink.faults c.serve.new.out;
-      steps = c.args.steps.now; steps_after = c.serve.new.steps; status = c.serve.result;
+      told = g.F.Shelf.told c.args.shelf.now;
+      counts = g.F.Shelf.count c.args.shelf.now;
+      counts_after = g.F.Shelf.count c.serve.new.shelf;
+      taken = g.K.Sink.taken c.args.out.now;
+      taken_after = g.K.Sink.taken c.serve.new.out;
+      faults = g.K.Sink.faults c.args.out.now;
+      faults_after = g.K.Sink.faults c.serve.new.out;
+      steps = c.args.steps.now;
+      steps_after = c.serve.new.steps;
+      status = c.serve.result;
     } in
     let served = subst (λ (r : Option Request). Served (inputs_of r) (Answers r) (Tests r) call) (sym c.in-Ok.ensures.ok) c.serve.ensures.served in
     served.sends
@@ -22,9 +29,16 @@ returns-in-Ok-clause-answer g c =
 pub returns-in-Ok-clause-words : goal.returns-in-Ok-clause-words
 returns-in-Ok-clause-words g c =
     let call : Call = record {
-      told = g.F.Shelf.told c.args.shelf.now; counts = g.F.Shelf.count c.args.shelf.now; counts_after = g.F.Shelf.count c.serve.new.shelf;
-      taken = g.K.Sink.taken c.args.out.now; taken_after = g.K.Sink.taken c.serve.new.out; faults = g.K.Sink.faults c.args.out.now; faults_after = g.K.Sink.faults c.serve.new.out;
-      steps = c.args.steps.now; steps_after = c.serve.new.steps; status = c.serve.result;
+      told = g.F.Shelf.told c.args.shelf.now;
+      counts = g.F.Shelf.count c.args.shelf.now;
+      counts_after = g.F.Shelf.count c.serve.new.shelf;
+      taken = g.K.Sink.taken c.args.out.now;
+      taken_after = g.K.Sink.taken c.serve.new.out;
+      faults = g.K.Sink.faults c.args.out.now;
+      faults_after = g.K.Sink.faults c.serve.new.out;
+      steps = c.args.steps.now;
+      steps_after = c.serve.new.steps;
+      status = c.serve.result;
     } in
     let served = subst (λ (r : Option Request). Served (inputs_of r) (Answers r) (Tests r) call) (sym c.in-Ok.ensures.ok) c.serve.ensures.served in
     λ bad. absurd (served.words bad)
@@ -32,9 +46,16 @@ returns-in-Ok-clause-words g c =
 pub returns-in-Ok-clause-read_fault : goal.returns-in-Ok-clause-read_fault
 returns-in-Ok-clause-read_fault g c =
     let call : Call = record {
-      told = g.F.Shelf.told c.args.shelf.now; counts = g.F.Shelf.count c.args.shelf.now; counts_after = g.F.Shelf.count c.serve.new.shelf;
-      taken = g.K.Sink.taken c.args.out.now; taken_after = g.K.Sink.taken c.serve.new.out; faults = g.K.Sink.faults c.args.out.now; faults_after = g.K.Sink.faults c.serve.new.out;
-      steps = c.args.steps.now; steps_after = c.serve.new.steps; status = c.serve.result;
+      told = g.F.Shelf.told c.args.shelf.now;
+      counts = g.F.Shelf.count c.args.shelf.now;
+      counts_after = g.F.Shelf.count c.serve.new.shelf;
+      taken = g.K.Sink.taken c.args.out.now;
+      taken_after = g.K.Sink.taken c.serve.new.out;
+      faults = g.K.Sink.faults c.args.out.now;
+      faults_after = g.K.Sink.faults c.serve.new.out;
+      steps = c.args.steps.now;
+      steps_after = c.serve.new.steps;
+      status = c.serve.result;
     } in
     let served = subst (λ (r : Option Request). Served (inputs_of r) (Answers r) (Tests r) call) (sym c.in-Ok.ensures.ok) c.serve.ensures.served in
     served.read_fault
@@ -42,9 +63,16 @@ returns-in-Ok-clause-read_fault g c =
 pub returns-in-Ok-clause-write_fault : goal.returns-in-Ok-clause-write_fault
 returns-in-Ok-clause-write_fault g c =
     let call : Call = record {
-      told = g.F.Shelf.told c.args.shelf.now; counts = g.F.Shelf.count c.args.shelf.now; counts_after = g.F.Shelf.count c.serve.new.shelf;
-      taken = g.K.Sink.taken c.args.out.now; taken_after = g.K.Sink.taken c.serve.new.out; faults = g.K.Sink.faults c.args.out.now; faults_after = g.K.Sink.faults c.serve.new.out;
-      steps = c.args.steps.now; steps_after = c.serve.new.steps; status = c.serve.result;
+      told = g.F.Shelf.told c.args.shelf.now;
+      counts = g.F.Shelf.count c.args.shelf.now;
+      counts_after = g.F.Shelf.count c.serve.new.shelf;
+      taken = g.K.Sink.taken c.args.out.now;
+      taken_after = g.K.Sink.taken c.serve.new.out;
+      faults = g.K.Sink.faults c.args.out.now;
+      faults_after = g.K.Sink.faults c.serve.new.out;
+      steps = c.args.steps.now;
+      steps_after = c.serve.new.steps;
+      status = c.serve.result;
     } in
     let served = subst (λ (r : Option Request). Served (inputs_of r) (Answers r) (Tests r) call) (sym c.in-Ok.ensures.ok) c.serve.ensures.served in
     served.write_fault
@@ -52,9 +80,16 @@ returns-in-Ok-clause-write_fault g c =
 pub returns-in-Ok-clause-too_long : goal.returns-in-Ok-clause-too_long
 returns-in-Ok-clause-too_long g c =
     let call : Call = record {
-      told = g.F.Shelf.told c.args.shelf.now; counts = g.F.Shelf.count c.args.shelf.now; counts_after = g.F.Shelf.count c.serve.new.shelf;
-      taken = g.K.Sink.taken c.args.out.now; taken_after = g.K.Sink.taken c.serve.new.out; faults = g.K.Sink.faults c.args.out.now; faults_after = g.K.Sink.faults c.serve.new.out;
-      steps = c.args.steps.now; steps_after = c.serve.new.steps; status = c.serve.result;
+      told = g.F.Shelf.told c.args.shelf.now;
+      counts = g.F.Shelf.count c.args.shelf.now;
+      counts_after = g.F.Shelf.count c.serve.new.shelf;
+      taken = g.K.Sink.taken c.args.out.now;
+      taken_after = g.K.Sink.taken c.serve.new.out;
+      faults = g.K.Sink.faults c.args.out.now;
+      faults_after = g.K.Sink.faults c.serve.new.out;
+      steps = c.args.steps.now;
+      steps_after = c.serve.new.steps;
+      status = c.serve.result;
     } in
     let served = subst (λ (r : Option Request). Served (inputs_of r) (Answers r) (Tests r) call) (sym c.in-Ok.ensures.ok) c.serve.ensures.served in
     served.too_long
@@ -68,9 +103,16 @@ returns-in-Ok-clause-complete g c = λ files told before taken none sure.
 pub returns-in-Ok-clause-counts : goal.returns-in-Ok-clause-counts
 returns-in-Ok-clause-counts g c =
     let call : Call = record {
-      told = g.F.Shelf.told c.args.shelf.now; counts = g.F.Shelf.count c.args.shelf.now; counts_after = g.F.Shelf.count c.serve.new.shelf;
-      taken = g.K.Sink.taken c.args.out.now; taken_after = g.K.Sink.taken c.serve.new.out; faults = g.K.Sink.faults c.args.out.now; faults_after = g.K.Sink.faults c.serve.new.out;
-      steps = c.args.steps.now; steps_after = c.serve.new.steps; status = c.serve.result;
+      told = g.F.Shelf.told c.args.shelf.now;
+      counts = g.F.Shelf.count c.args.shelf.now;
+      counts_after = g.F.Shelf.count c.serve.new.shelf;
+      taken = g.K.Sink.taken c.args.out.now;
+      taken_after = g.K.Sink.taken c.serve.new.out;
+      faults = g.K.Sink.faults c.args.out.now;
+      faults_after = g.K.Sink.faults c.serve.new.out;
+      steps = c.args.steps.now;
+      steps_after = c.serve.new.steps;
+      status = c.serve.result;
     } in
     let served = subst (λ (r : Option Request). Served (inputs_of r) (Answers r) (Tests r) call) (sym c.in-Ok.ensures.ok) c.serve.ensures.served in
     served.rises
@@ -78,9 +120,16 @@ returns-in-Ok-clause-counts g c =
 pub returns-in-Ok-clause-others : goal.returns-in-Ok-clause-others
 returns-in-Ok-clause-others g c =
     let call : Call = record {
-      told = g.F.Shelf.told c.args.shelf.now; counts = g.F.Shelf.count c.args.shelf.now; counts_after = g.F.Shelf.count c.serve.new.shelf;
-      taken = g.K.Sink.taken c.args.out.now; taken_after = g.K.Sink.taken c.serve.new.out; faults = g.K.Sink.faults c.args.out.now; faults_after = g.K.Sink.faults c.serve.new.out;
-      steps = c.args.steps.now; steps_after = c.serve.new.steps; status = c.serve.result;
+      told = g.F.Shelf.told c.args.shelf.now;
+      counts = g.F.Shelf.count c.args.shelf.now;
+      counts_after = g.F.Shelf.count c.serve.new.shelf;
+      taken = g.K.Sink.taken c.args.out.now;
+      taken_after = g.K.Sink.taken c.serve.new.out;
+      faults = g.K.Sink.faults c.args.out.now;
+      faults_after = g.K.Sink.faults c.serve.new.out;
+      steps = c.args.steps.now;
+      steps_after = c.serve.new.steps;
+      status = c.serve.result;
     } in
     let served = subst (λ (r : Option Request). Served (inputs_of r) (Answers r) (Tests r) call) (sym c.in-Ok.ensures.ok) c.serve.ensures.served in
     served.others
@@ -88,9 +137,16 @@ returns-in-Ok-clause-others g c =
 pub returns-in-Ok-clause-faults : goal.returns-in-Ok-clause-faults
 returns-in-Ok-clause-faults g c =
     let call : Call = record {
-      told = g.F.Shelf.told c.args.shelf.now; counts = g.F.Shelf.count c.args.shelf.now; counts_after = g.F.Shelf.count c.serve.new.shelf;
-      taken = g.K.Sink.taken c.args.out.now; taken_after = g.K.Sink.taken c.serve.new.out; faults = g.K.Sink.faults c.args.out.now; faults_after = g.K.Sink.faults c.serve.new.out;
-      steps = c.args.steps.now; steps_after = c.serve.new.steps; status = c.serve.result;
+      told = g.F.Shelf.told c.args.shelf.now;
+      counts = g.F.Shelf.count c.args.shelf.now;
+      counts_after = g.F.Shelf.count c.serve.new.shelf;
+      taken = g.K.Sink.taken c.args.out.now;
+      taken_after = g.K.Sink.taken c.serve.new.out;
+      faults = g.K.Sink.faults c.args.out.now;
+      faults_after = g.K.Sink.faults c.serve.new.out;
+      steps = c.args.steps.now;
+      steps_after = c.serve.new.steps;
+      status = c.serve.result;
     } in
     let served = subst (λ (r : Option Request). Served (inputs_of r) (Answers r) (Tests r) call) (sym c.in-Ok.ensures.ok) c.serve.ensures.served in
     served.sink_rises
@@ -98,9 +154,16 @@ returns-in-Ok-clause-faults g c =
 pub returns-in-Ok-clause-untold : goal.returns-in-Ok-clause-untold
 returns-in-Ok-clause-untold g c =
     let call : Call = record {
-      told = g.F.Shelf.told c.args.shelf.now; counts = g.F.Shelf.count c.args.shelf.now; counts_after = g.F.Shelf.count c.serve.new.shelf;
-      taken = g.K.Sink.taken c.args.out.now; taken_after = g.K.Sink.taken c.serve.new.out; faults = g.K.Sink.faults c.args.out.now; faults_after = g.K.Sink.faults c.serve.new.out;
-      steps = c.args.steps.now; steps_after = c.serve.new.steps; status = c.serve.result;
+      told = g.F.Shelf.told c.args.shelf.now;
+      counts = g.F.Shelf.count c.args.shelf.now;
+      counts_after = g.F.Shelf.count c.serve.new.shelf;
+      taken = g.K.Sink.taken c.args.out.now;
+      taken_after = g.K.Sink.taken c.serve.new.out;
+      faults = g.K.Sink.faults c.args.out.now;
+      faults_after = g.K.Sink.faults c.serve.new.out;
+      steps = c.args.steps.now;
+      steps_after = c.serve.new.steps;
+      status = c.serve.result;
     } in
     let served = subst (λ (r : Option Request). Served (inputs_of r) (Answers r) (Tests r) call) (sym c.in-Ok.ensures.ok) c.serve.ensures.served in
     served.untold
@@ -108,9 +171,16 @@ returns-in-Ok-clause-untold g c =
 pub returns-in-Ok-clause-tests : goal.returns-in-Ok-clause-tests
 returns-in-Ok-clause-tests g c =
     let call : Call = record {
-      told = g.F.Shelf.told c.args.shelf.now; counts = g.F.Shelf.count c.args.shelf.now; counts_after = g.F.Shelf.count c.serve.new.shelf;
-      taken = g.K.Sink.taken c.args.out.now; taken_after = g.K.Sink.taken c.serve.new.out; faults = g.K.Sink.faults c.args.out.now; faults_after = g.K.Sink.faults c.serve.new.out;
-      steps = c.args.steps.now; steps_after = c.serve.new.steps; status = c.serve.result;
+      told = g.F.Shelf.told c.args.shelf.now;
+      counts = g.F.Shelf.count c.args.shelf.now;
+      counts_after = g.F.Shelf.count c.serve.new.shelf;
+      taken = g.K.Sink.taken c.args.out.now;
+      taken_after = g.K.Sink.taken c.serve.new.out;
+      faults = g.K.Sink.faults c.args.out.now;
+      faults_after = g.K.Sink.faults c.serve.new.out;
+      steps = c.args.steps.now;
+      steps_after = c.serve.new.steps;
+      status = c.serve.result;
     } in
     let served = subst (λ (r : Option Request). Served (inputs_of r) (Answers r) (Tests r) call) (sym c.in-Ok.ensures.ok) c.serve.ensures.served in
     served.ticks
@@ -118,9 +188,16 @@ returns-in-Ok-clause-tests g c =
 pub returns-in-Ok-clause-untested : goal.returns-in-Ok-clause-untested
 returns-in-Ok-clause-untested g c =
     let call : Call = record {
-      told = g.F.Shelf.told c.args.shelf.now; counts = g.F.Shelf.count c.args.shelf.now; counts_after = g.F.Shelf.count c.serve.new.shelf;
-      taken = g.K.Sink.taken c.args.out.now; taken_after = g.K.Sink.taken c.serve.new.out; faults = g.K.Sink.faults c.args.out.now; faults_after = g.K.Sink.faults c.serve.new.out;
-      steps = c.args.steps.now; steps_after = c.serve.new.steps; status = c.serve.result;
+      told = g.F.Shelf.told c.args.shelf.now;
+      counts = g.F.Shelf.count c.args.shelf.now;
+      counts_after = g.F.Shelf.count c.serve.new.shelf;
+      taken = g.K.Sink.taken c.args.out.now;
+      taken_after = g.K.Sink.taken c.serve.new.out;
+      faults = g.K.Sink.faults c.args.out.now;
+      faults_after = g.K.Sink.faults c.serve.new.out;
+      steps = c.args.steps.now;
+      steps_after = c.serve.new.steps;
+      status = c.serve.result;
     } in
     let served = subst (λ (r : Option Request). Served (inputs_of r) (Answers r) (Tests r) call) (sym c.in-Ok.ensures.ok) c.serve.ensures.served in
     served.untested
@@ -128,9 +205,16 @@ returns-in-Ok-clause-untested g c =
 pub returns-in-Ok-clause-steps : goal.returns-in-Ok-clause-steps
 returns-in-Ok-clause-steps g c =
     let call : Call = record {
-      told = g.F.Shelf.told c.args.shelf.now; counts = g.F.Shelf.count c.args.shelf.now; counts_after = g.F.Shelf.count c.serve.new.shelf;
-      taken = g.K.Sink.taken c.args.out.now; taken_after = g.K.Sink.taken c.serve.new.out; faults = g.K.Sink.faults c.args.out.now; faults_after = g.K.Sink.faults c.serve.new.out;
-      steps = c.args.steps.now; steps_after = c.serve.new.steps; status = c.serve.result;
+      told = g.F.Shelf.told c.args.shelf.now;
+      counts = g.F.Shelf.count c.args.shelf.now;
+      counts_after = g.F.Shelf.count c.serve.new.shelf;
+      taken = g.K.Sink.taken c.args.out.now;
+      taken_after = g.K.Sink.taken c.serve.new.out;
+      faults = g.K.Sink.faults c.args.out.now;
+      faults_after = g.K.Sink.faults c.serve.new.out;
+      steps = c.args.steps.now;
+      steps_after = c.serve.new.steps;
+      status = c.serve.result;
     } in
     let served = subst (λ (r : Option Request). Served (inputs_of r) (Answers r) (Tests r) call) (sym c.in-Ok.ensures.ok) c.serve.ensures.served in
     served.steps_rise

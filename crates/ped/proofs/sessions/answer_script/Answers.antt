@@ -13,10 +13,13 @@ returns-in-Ok-clause-answer g c = λ before told.
     let state = c.args.session.now in
     let script = c.args.script.now in
     let input = c.args.input.now in
-    let said = c.in-Ok.ensures.answers in
-    (o.0, o.1, outcome_weaker (IsJust c.status_of.result c.as_slice.result.now) (AnswersFrom state script input)
-      (said_from state script input said.0 c.script_answer.new.session said.1 c.status_of.result c.as_slice.result.now (c.status_of.ensures ∙ ap session_status said.3) (c.as_slice.ensures ∙ said.2))
-      _ o.0 c.finish.result o.2)
+    let said = c.in-Ok.ensures.answers in (
+      o.0,
+      o.1,
+      outcome_weaker (IsJust c.status_of.result c.as_slice.result.now) (AnswersFrom state script input)
+          (said_from state script input said.0 c.script_answer.new.session said.1 c.status_of.result c.as_slice.result.now (c.status_of.ensures ∙ ap session_status said.3) (c.as_slice.ensures ∙ said.2))
+          _ o.0 c.finish.result o.2,
+    )
 
 pub returns-in-Ok-clause-tests : goal.returns-in-Ok-clause-tests
 returns-in-Ok-clause-tests g c =
@@ -24,6 +27,6 @@ returns-in-Ok-clause-tests g c =
     let before = c.args.steps.now in
     let after = c.script_answer.new.steps in
     let exact : (a : ℕ) → a ≡ before + said.0.tests → Ticks c.status_of.result before a said.0.tests =
-          λ a e. subst (λ (status : Status). Ticks status before a said.0.tests) (sym c.status_of.ensures) (session_ticks c.in-Ok.answered.refused before said.0.tests a e) in
+    λ a e. subst (λ (status : Status). Ticks status before a said.0.tests) (sym c.status_of.ensures) (session_ticks c.in-Ok.answered.refused before said.0.tests a e) in
     said_ticks c.args.script.now c.args.input.now c.args.session.now c.finish.result before after
-      (said.0, c.script_answer.new.session, said.1, whole_ticks c.finish.result c.status_of.result before after said.0.tests exact c.finish.ensures.ends said.4)
+    (said.0, c.script_answer.new.session, said.1, whole_ticks c.finish.result c.status_of.result before after said.0.tests exact c.finish.ensures.ends said.4)

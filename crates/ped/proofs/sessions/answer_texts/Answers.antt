@@ -21,7 +21,7 @@ returns-in-Ok-clause-answer g c = λ before told.
 pub returns-in-Ok-clause-tests : goal.returns-in-Ok-clause-tests
 returns-in-Ok-clause-tests g c =
     opened_ticks c.args.text.now c.args.script.now c.args.input.now c.in-Ok.session c.answer_script.result _ _ _
-      c.in-Ok.ensures.opened c.in-Ok.ensures.ticks c.answer_script.ensures.tests (is_session_tested c.answer_script.result c.answer_script.ensures.ends)
+    c.in-Ok.ensures.opened c.in-Ok.ensures.ticks c.answer_script.ensures.tests (is_session_tested c.answer_script.result c.answer_script.ensures.ends)
 
 pub returns-in-Ok-clause-untested : goal.returns-in-Ok-clause-untested
 returns-in-Ok-clause-untested g c = λ untested. absurd (is_session_tested c.answer_script.result c.answer_script.ensures.ends untested)

@@ -7,7 +7,7 @@ use Rattle.ped.proofs.sessions.script_answer.Goals as goal
 pub returns-clause-answers : goal.returns-clause-answers
 returns-clause-answers g c =
     subst (λ (items : List Item). IfOk c.answer_items.result (λ (answered : Answered). (said : Said) × AnswersItems items c.args.input.now c.args.session.now said c.answer_items.new.session
-      × (answered.bytes ≡ said.bytes) × (answered.refused ≡ said.refused) × (c.answer_items.new.steps ≡ c.args.steps.now + said.tests))) (c.as_slice.ensures ∙ c.in_ok-items.ensures) c.answer_items.ensures.answers
+    × (answered.bytes ≡ said.bytes) × (answered.refused ≡ said.refused) × (c.answer_items.new.steps ≡ c.args.steps.now + said.tests))) (c.as_slice.ensures ∙ c.in_ok-items.ensures) c.answer_items.ensures.answers
 
 pub returns-clause-most : goal.returns-clause-most
 returns-clause-most g c = λ said last answers.

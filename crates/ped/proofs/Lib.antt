@@ -1,3 +1,4 @@
 mod Counting
+mod Inputs
 mod OneAnswer
-pub mod Outcomes
+mod Outcomes

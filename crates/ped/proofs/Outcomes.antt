@@ -1,19 +1,21 @@
 -- Outcomes of writing, and how those of a part are those of the whole.
-use Rattle.std.proofs.Common.{◌≡◌, ◌⊎◌, ℕ, ◌<◌, ◌≤◌, Bool, true, false, List, ◌++◌, length, Option, Some, None, take, drop, refl, sym, subst, inl, inr, arith}
-use Rattle.std.specs.Prelude.{MatchBool, nat_lt}
-use Rattle.std.proofs.lemmas.Bool.{le-ltb, lt-ltb}
+use Rattle.std.proofs.Common.{◌≡◌, ◌⊎◌, ℕ, ◌<◌, ◌≤◌, Bool, true, false, List, [], ◌∷◌, ◌++◌, Option, Some, None, take, drop, refl, sym, ap, ◌∙◌, subst, inl, inr, arith}
 use Rattle.std.proofs.lemmas.List.{take-append-drop}
-use Rattle.ped_io.specs.Outside.{Contents, content, Rose}
+use Rattle.ped_io.specs.Outside.{Contents, Rose}
 use Rattle.ped_io.specs.declared.writing.PutFault.{PutFault}
 use Rattle.ped_io.specs.declared.writing.PutFault.TheVariants as put
 use Rattle.ped_io.specs.Faults.{IsWriteFault}
 use Rattle.ped.specs.declared.answering.Status.{Status}
-use Rattle.ped.specs.declared.answering.Status.TheVariants.{Done, BadWords, ReadFault, WriteFault, ProgramRefused, NoMemory, TooLong}
+use Rattle.ped.specs.declared.answering.Status.TheVariants.{Done, SomeRefused, BadWords, ReadFault, WriteFault, ProgramRefused, NoMemory, TooLong}
 use Rattle.ped_tree.specs.Tree.{ProgramTree}
 use Rattle.ped_grammar.specs.Refusal.{Finding}
 use Rattle.ped_valid.specs.Validity.{ReadsValid, RefusesText}
+use Rattle.ped_script.specs.Items.{commands_of}
+use Rattle.ped_session.specs.States.{State, opened}
+use Rattle.ped_session.specs.Scripts.{Said, AnswersItems}
 use Rattle.ped.specs.Refusals.{refused_line}
-use Rattle.ped.specs.Answer.{Request, show, inputs_of, IsOneOf, HoldsTooMany, program_limit, MayAnswer, Answers, AnswersBytes, IsFrontOfAnswer, IsOutcome, IsShown, IsJust, ShowsTree, usage_line, cannot_read_line, too_long_line}
+use Rattle.ped.specs.Answer.{Request, Input, inputs_of, IsOneOf, CannotRead, MayGive, MayAnswer, Answers, IsFrontOfAnswer, IsOutcome, IsShown, IsSession, AnswersScript, IsJust, ShowsTree, usage_line}
+use Rattle.ped.specs.Serving.{AnswersFrom, session_status}
 
 module _ (A B : Status → List ℕ → Type 0) (weaker : (s : Status) (b : List ℕ) → A s b → B s b) where
   pub front_weaker : (sent : List ℕ) → IsFrontOfAnswer A sent → IsFrontOfAnswer B sent
@@ -23,6 +25,7 @@ module _ (A B : Status → List ℕ → Type 0) (weaker : (s : Status) (b : List
   -- an outcome by answers is one by other answers that they all are
   pub outcome_weaker : (failed : Type 0) (sent : List ℕ) (status : Status) → IsOutcome A failed sent status → IsOutcome B failed sent status
   outcome_weaker failed sent Done o = weaker Done sent o
+  outcome_weaker failed sent SomeRefused o = weaker SomeRefused sent o
   outcome_weaker failed sent BadWords o = weaker BadWords sent o
   outcome_weaker failed sent ReadFault o = weaker ReadFault sent o
   outcome_weaker failed sent ProgramRefused o = weaker ProgramRefused sent o
@@ -44,10 +47,6 @@ pub usage_may_answer : (request : Option Request) (files : Contents) (failed : L
 usage_may_answer request files failed e s b h =
     subst (λ (r : Option Request). MayAnswer r files failed s b) (sym e) (subst (λ (x : Status). MayAnswer None files failed x b) (sym h.0) (refl, h.1))
 
--- an answer that only says that a file can't be read, where its count rose
-pub says_cannot_read : (program : List ℕ) (files : Contents) (failed : List ℕ → Type 0) → failed program → (s : Status) (b : List ℕ) → IsJust ReadFault (cannot_read_line program) s b → MayAnswer (Some (show program)) files failed s b
-says_cannot_read program files failed rose s b j = subst (λ (x : Status). MayAnswer (Some (show program)) files failed x b) (sym j.0) (record { name = program; input = inl refl; count = rose; says = j.1 })
-
 -- both panes of the valid tree that a text reads as are what is shown of it
 pub tree_shown : (text : List ℕ) (t : ProgramTree) → ReadsValid text t → (s : Status) (b : List ℕ) → ShowsTree t s b → IsShown text s b
 tree_shown text t reads s b h = subst (λ (x : Status). IsShown text x b) (sym h.0) (t, reads, h.1)
@@ -56,39 +55,35 @@ tree_shown text t reads s b h = subst (λ (x : Status). IsShown text x b) (sym h
 pub refusal_shown : (text : List ℕ) (f : Finding) → RefusesText text f → (s : Status) (b : List ℕ) → IsJust ProgramRefused (refused_line f) s b → IsShown text s b
 refusal_shown text f refused s b h = subst (λ (x : Status). IsShown text x b) (sym h.0) (f, refused, h.1)
 
--- the answer by whether the bytes are too many
-abbrev AnswersBy : Bool → List ℕ → List ℕ → Status → List ℕ → Type 0
-AnswersBy long program text status bytes = MatchBool long ((status ≡ TooLong) × (bytes ≡ too_long_line program)) (IsShown text status bytes)
+-- and what a session on it answers
+pub refusal_answered : (text script data_bytes : List ℕ) (f : Finding) → RefusesText text f → (s : Status) (b : List ℕ) → IsJust ProgramRefused (refused_line f) s b → IsSession text script data_bytes s b
+refusal_answered text script data_bytes f refused s b h = subst (λ (x : Status). IsSession text script data_bytes x b) (sym h.0) (f, refused, h.1)
 
-few : (text : List ℕ) → length text ≤ program_limit → nat_lt program_limit (length text) ≡ false
-few text h = le-ltb program_limit (length text) h
+-- what a script says is what it answers
+pub said_from : (state : State) (script data_bytes : List ℕ) (said : Said) (last : State) → AnswersItems (commands_of script) data_bytes state said last
+    → (status : Status) (bytes : List ℕ) → status ≡ session_status said.refused → bytes ≡ said.bytes → (s : Status) (b : List ℕ) → IsJust status bytes s b → AnswersFrom state script data_bytes s b
+said_from state script data_bytes said last answers status bytes e f s b j = (said, last, answers, j.0 ∙ e, j.1 ∙ f)
 
-many : (text : List ℕ) → program_limit < length text → nat_lt program_limit (length text) ≡ true
-many text h = lt-ltb program_limit (length text) h
+-- what a script answers is what the session answers, by whether a line was refused
+by_refused : (refused : Bool) (text script data_bytes b : List ℕ) → AnswersScript text script data_bytes refused b → IsSession text script data_bytes (session_status refused) b
+by_refused false text script data_bytes b h = h
+by_refused true text script data_bytes b h = h
 
--- what is shown of few enough bytes answers them
-shown_answers : (program text : List ℕ) (s : Status) (b : List ℕ) → length text ≤ program_limit → IsShown text s b → AnswersBytes program text s b
-shown_answers program text s b within h = subst (λ (x : Bool). AnswersBy x program text s b) (sym (few text within)) h
+-- what a script answers in a session that is opened on the program of a text is what the session answers
+pub script_answered : (text script data_bytes : List ℕ) (state : State) → (t : ProgramTree) × ReadsValid text t × (state ≡ opened t)
+    → (s : Status) (b : List ℕ) → AnswersFrom state script data_bytes s b → IsSession text script data_bytes s b
+script_answered text script data_bytes state o s b h =
+    let answers = subst (λ (x : State). AnswersItems (commands_of script) data_bytes x h.0 h.1) o.2 h.2 in
+    subst (λ (x : Status). IsSession text script data_bytes x b) (sym h.3)
+    (by_refused h.0.refused text script data_bytes b (record { tree = o.0; reads = o.1; said = h.0; last = h.1; answers = answers; says = h.4; some = refl }))
 
--- what is shown of a file's text is an answer
-pub shown_may_answer : (program : List ℕ) (files : Contents) (failed : List ℕ → Type 0) (text : List ℕ) → content files program ≡ Some text → length text ≤ program_limit → (s : Status) (b : List ℕ) → IsShown text s b → MayAnswer (Some (show program)) files failed s b
-shown_may_answer program files failed text e within Done b h = rw e (shown_answers program text Done b within h)
-shown_may_answer program files failed text e within ProgramRefused b h = rw e (shown_answers program text ProgramRefused b within h)
-shown_may_answer program files failed text e within BadWords b h = absurd h
-shown_may_answer program files failed text e within ReadFault b h = absurd h
-shown_may_answer program files failed text e within WriteFault b h = absurd h
-shown_may_answer program files failed text e within NoMemory b h = absurd h
-shown_may_answer program files failed text e within TooLong b h = absurd h
-
--- that a file is too long is an answer where it is
-pub long_may_answer : (program : List ℕ) (files : Contents) (failed : List ℕ → Type 0) (text : List ℕ) → content files program ≡ Some text → program_limit < length text → (s : Status) (b : List ℕ) → IsJust TooLong (too_long_line program) s b → MayAnswer (Some (show program)) files failed s b
-long_may_answer program files failed text e more s b h =
-    let there : MayAnswer (Some (show program)) files failed TooLong b = rw e (subst (λ (x : Bool). AnswersBy x program text TooLong b) (sym (many text more)) (refl, h.1)) in
-    subst (λ (x : Status). MayAnswer (Some (show program)) files failed x b) (sym h.0) there
-
--- a file that the words ask to show and that is too long is one of the request
-pub of_request : (program : List ℕ) (request : Option Request) (files : Contents) → request ≡ Some (show program) → (bytes : List ℕ) × (content files program ≡ Some bytes) × (program_limit < length bytes) → HoldsTooMany request files
-of_request program request files e h = subst (λ (r : Option Request). HoldsTooMany r files) (sym e) (record { name = program; input = inl refl; bytes = h.0; held = h.1; more = h.2 })
+-- a line that says that a file can't be read is about a file of the request, whose count rose
+pub one_failed : (inputs : List Input) (files : Contents) (failed : List ℕ → Type 0) (line : List ℕ) → CannotRead inputs files failed line → (name : List ℕ) × IsOneOf inputs name × failed name
+one_failed [] files failed line h = elim h [ ]
+one_failed (i ∷ is) files failed line (inl here) = (i.name, inl refl, here.0)
+one_failed (i ∷ is) files failed line (inr later) =
+    let there = one_failed is files failed line later.1 in
+    (there.0, inr there.1, there.2)
 
 -- where no input and no sink failed, what came is the answer whole, or memory ran out
 pub whole_of : (request : Option Request) (files : Contents) (failed : List ℕ → Type 0) (sink_failed : Type 0) (taken : Option (List ℕ)) (before sent : List ℕ) (status : Status)
@@ -96,10 +91,13 @@ pub whole_of : (request : Option Request) (files : Contents) (failed : List ℕ 
     → ((name : List ℕ) → IsOneOf (inputs_of request) name → ¬ (failed name)) → ¬ sink_failed
     → (status ≡ NoMemory) ⊎ ((bytes : List ℕ) × Answers request files status bytes × (taken ≡ Some (before ++ bytes)))
 whole_of request files failed sink_failed taken before sent Done e o none sure = inr (sent, o, e)
+whole_of request files failed sink_failed taken before sent SomeRefused e o none sure = inr (sent, o, e)
 whole_of request files failed sink_failed taken before sent BadWords e o none sure = inr (sent, o, e)
 whole_of request files failed sink_failed taken before sent ProgramRefused e o none sure = inr (sent, o, e)
 whole_of request files failed sink_failed taken before sent TooLong e o none sure = inr (sent, o, e)
-whole_of request files failed sink_failed taken before sent ReadFault e o none sure = absurd (none o.name o.input o.count)
+whole_of request files failed sink_failed taken before sent ReadFault e o none sure =
+    let one = one_failed (inputs_of request) files failed sent o in
+    absurd (none one.0 one.1 one.2)
 whole_of request files failed sink_failed taken before sent WriteFault e o none sure = absurd (sure o.0)
 whole_of request files failed sink_failed taken before sent NoMemory e o none sure = inl refl
 

@@ -111,7 +111,7 @@ IsSession text script data_bytes TooLong bytes = ⊥
 abbrev pub AnswersInput : Input → Contents → (List ℕ → Status → List ℕ → Type 0) → Status → List ℕ → Type 0
 AnswersInput i files answers status bytes =
     MatchOption (content files i.name) (IsJust ReadFault (cannot_read_line i.name) status bytes)
-      (λ text. MatchBool (nat_lt i.most (length text)) (IsJust TooLong (too_long_line i) status bytes) (answers text status bytes))
+    (λ text. MatchBool (nat_lt i.most (length text)) (IsJust TooLong (too_long_line i) status bytes) (answers text status bytes))
 
 -- the answer where data are read: without a file they are empty
 abbrev pub AnswersData : Option (List ℕ) → Contents → (List ℕ → Status → List ℕ → Type 0) → Status → List ℕ → Type 0

@@ -1,4 +1,5 @@
 pub mod Answer
 pub mod Refusals
+pub mod Serving
 pub mod Statuses
 pub mod TestCounts

@@ -6,8 +6,13 @@ ghost use Rattle.std.specs.Prelude.{◌≡◌, ◌<◌};
 
 mod adapters;
 mod answering;
+mod asking;
+mod finishing;
+mod loading;
 mod panes;
 mod refusals;
+mod sessions;
+mod showing;
 
 use crate::adapters::{DiskShelf, StdSink};
 use crate::answering::{Status, ped_main};

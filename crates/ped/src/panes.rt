@@ -5,7 +5,7 @@ ghost use Rattle.ped_tree.specs.Views.{program_tree};
 ghost use Rattle.ped_symbols.specs.NameRefusals.{IsValid};
 ghost use Rattle.ped_symbols.specs.Kinds.{table_of};
 ghost use Rattle.ped_refs.specs.References.{references, pair_count};
-ghost use Rattle.ped.specs.Answer.{ArePanes};
+ghost use Rattle.ped_session.specs.Panes.{ArePanes};
 
 use ped_base::{Bytes, NoMemory};
 use ped_constants::Consts;

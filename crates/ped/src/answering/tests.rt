@@ -3,6 +3,7 @@
 ghost use Rattle.std.specs.Prelude.{◌≡◌, ◌<◌, ◌≤◌};
 
 use super::*;
+use ped_base::{Bytes, NoMemory};
 use ped_io::{Calls, Files, MemShelf, MemSink, SureShelf, SureSink};
 use std::alloc::AllocError;
 use std::marker::Brand;
@@ -30,6 +31,32 @@ dependences 1
 2.2 2.1 A flow 1 (<) (1) proven
 ";
 
+/// A program that prints a number of the data.
+const READER: &str = "      READ *, K
+      PRINT *, K
+      END
+";
+
+/// Words, and what is answered where nothing fails.
+#[derive(Clone, Copy)]
+struct Row<'a> {
+    words: &'a [&'a str],
+    status: Status,
+    taken: &'a str,
+}
+
+const SHOWN: Row<'static> = Row {
+    words: &["show", "P"],
+    status: Status::Done,
+    taken: PANES,
+};
+
+const ANSWERED: Row<'static> = Row {
+    words: &["session", "R", "S", "--data", "D"],
+    status: Status::SomeRefused,
+    taken: "| 7\nended\n2: refused NothingToUndo\n",
+};
+
 /// What a call took and how it ended.
 #[derive(Drop)]
 struct Ending {
@@ -43,10 +70,13 @@ fn text(alloc: Global, bytes: &[u8]) -> Result<Bytes, NoMemory> {
     Ok(text)
 }
 
-/// One file, by the name "P".
-fn one_file(alloc: Global, content: &[u8]) -> Result<Files, NoMemory> {
+/// The files: two programs "P" and "R", a script "S", and data "D".
+fn files(alloc: Global) -> Result<Files, NoMemory> {
     let mut files = Files::new(alloc);
-    files.push((text(alloc, b"P")?, text(alloc, content)?))?;
+    files.push((text(alloc, b"P")?, text(alloc, PROGRAM.as_bytes())?))?;
+    files.push((text(alloc, b"R")?, text(alloc, READER.as_bytes())?))?;
+    files.push((text(alloc, b"S")?, text(alloc, b"run\nundo\n")?))?;
+    files.push((text(alloc, b"D")?, text(alloc, b"7\n")?))?;
     Ok(files)
 }
 
@@ -82,13 +112,14 @@ const SURE: Outside<'static> = Outside {
     writes_fail: &[],
 };
 
-/// Shows the program, the file "P".
-fn answered(alloc: Global, outside: Outside<'_>) -> Result<Ending, Fail> {
-    answered_with::<Brand>(alloc, outside, Blank::new(1))
+/// Answers the words.
+fn answered(alloc: Global, all: &[&str], outside: Outside<'_>) -> Result<Ending, Fail> {
+    answered_with::<Brand>(alloc, all, outside, Blank::new(1))
 }
 
 fn answered_with<L: Ledger>(
     alloc: Global,
+    all: &[&str],
     outside: Outside<'_>,
     blank: Blank,
 ) -> Result<Ending, Fail>
@@ -99,11 +130,10 @@ fn answered_with<L: Ledger>(
     if outside.read == 0 || outside.write == 0 {
         return Err(Fail::from(NoMemory));
     }
-    let all = words(alloc, &["show", "P"])?;
-    let files = one_file(alloc, PROGRAM.as_bytes())?;
+    let all = words(alloc, all)?;
     let mut shelf = MemShelf::new(
         alloc,
-        files,
+        files(alloc)?,
         calls(alloc, outside.reads_fail)?,
         outside.read,
     )?;
@@ -121,9 +151,11 @@ fn moves_a_byte_at_a_time(rt: HostRuntime) -> Result<(), Fail> {
         write: 1,
         ..SURE
     };
-    let shown = answered(rt.alloc(), slow)?;
-    assert_eq!(rt; shown.status, Status::Done);
-    assert_eq!(rt; shown.taken.as_str(), PANES);
+    for row in [SHOWN, ANSWERED] {
+        let ending = answered(rt.alloc(), row.words, slow)?;
+        assert_eq!(rt; ending.status, row.status);
+        assert_eq!(rt; ending.taken.as_str(), row.taken);
+    }
     Ok(())
 }
 
@@ -138,7 +170,7 @@ fn a_failed_read_is_said(rt: HostRuntime) -> Result<(), Fail> {
             reads_fail: &[call],
             ..SURE
         };
-        let ending = answered(alloc, outside)?;
+        let ending = answered(alloc, SHOWN.words, outside)?;
         if ending.status == Status::Done {
             assert_eq!(rt; ending.taken.as_str(), PANES);
             break;
@@ -152,54 +184,109 @@ fn a_failed_read_is_said(rt: HostRuntime) -> Result<(), Fail> {
     Ok(())
 }
 
+/// Lets the read of each call fail until a run has fewer calls: the program's, the script's and the data's.
+#[test]
+fn files_are_read_in_order(rt: HostRuntime) -> Result<(), Fail> {
+    let alloc = rt.alloc();
+    let mut failed = 0;
+    for call in 1..100 {
+        let outside = Outside {
+            read: 16,
+            reads_fail: &[call],
+            ..SURE
+        };
+        let ending = answered(alloc, ANSWERED.words, outside)?;
+        if ending.status == Status::SomeRefused {
+            assert_eq!(rt; ending.taken.as_str(), ANSWERED.taken);
+            break;
+        }
+        assert_eq!(rt; ending.status, Status::ReadFault);
+        assert_eq!(rt; ending.taken.as_str(), line_of(call));
+        failed = call;
+    }
+    // 43, 9 and 2 bytes in pieces of 16, and each time the read that finds the end.
+    assert_eq!(rt; failed, 8);
+    Ok(())
+}
+
+/// What is said where this read of a session fails.
+fn line_of(call: u64) -> &'static str {
+    match call {
+        1..=4 => "ped: cannot read R\n",
+        5 | 6 => "ped: cannot read S\n",
+        _ => "ped: cannot read D\n",
+    }
+}
+
 /// Lets the write of each call fail until a run has fewer calls.
 #[test]
 fn a_failed_write_leaves_a_front(rt: HostRuntime) -> Result<(), Fail> {
     let alloc = rt.alloc();
-    for call in 1..100 {
-        let outside = Outside {
-            write: 4,
-            writes_fail: &[call],
-            ..SURE
-        };
-        let ending = answered(alloc, outside)?;
-        if ending.status == Status::Done {
-            assert_eq!(rt; ending.taken.as_str(), PANES);
-            break;
+    for row in [SHOWN, ANSWERED] {
+        for call in 1..100 {
+            let outside = Outside {
+                write: 4,
+                writes_fail: &[call],
+                ..SURE
+            };
+            let ending = answered(alloc, row.words, outside)?;
+            if ending.status == row.status {
+                assert_eq!(rt; ending.taken.as_str(), row.taken);
+                break;
+            }
+            assert_eq!(rt; ending.status, Status::WriteFault);
+            assert_eq!(rt; ending.taken.len() as u64, (call - 1) * 4);
+            assert!(rt; row.taken.starts_with(ending.taken.as_str()));
         }
-        assert_eq!(rt; ending.status, Status::WriteFault);
-        assert_eq!(rt; ending.taken.len() as u64, (call - 1) * 4);
-        assert!(rt; PANES.starts_with(ending.taken.as_str()));
     }
     Ok(())
 }
 
-/// Shows the program, the file "P", and then a file that isn't there.
-fn surely(alloc: Global) -> Result<(Ending, Status), Fail> {
-    surely_with::<Brand>(alloc, Blank::new(1))
+/// Answers the words over outsides that never fail.
+fn surely(alloc: Global, all: &[&str]) -> Result<Ending, Fail> {
+    surely_with::<Brand>(alloc, all, Blank::new(1))
 }
 
-fn surely_with<L: Ledger>(alloc: Global, blank: Blank) -> Result<(Ending, Status), Fail>
+fn surely_with<L: Ledger>(alloc: Global, all: &[&str], blank: Blank) -> Result<Ending, Fail>
     requires name { blank.name ≡ L.name }
     requires parts { blank.parts ≡ L.parts }
     requires some { 0 < L.parts }
 {
+    let all = words(alloc, all)?;
     let mut sink = SureSink::new(alloc)?;
-    let mut shelf = SureShelf::new(alloc, one_file(alloc, PROGRAM.as_bytes())?)?;
+    let mut shelf = SureShelf::new(alloc, files(alloc)?)?;
     let mut steps = Steps::<L>::new(blank);
-    let there = words(alloc, &["show", "P"])?;
-    let status = answer_surely(alloc, &there, &mut shelf, &mut sink, &mut steps);
+    let status = answer_surely(alloc, &all, &mut shelf, &mut sink, &mut steps);
     let taken = String::from_utf8_lossy(alloc, sink.taken())?;
-    let missing = words(alloc, &["show", "Q"])?;
-    let refused = answer_surely(alloc, &missing, &mut shelf, &mut sink, &mut steps);
-    Ok((Ending { status, taken }, refused))
+    Ok(Ending { status, taken })
 }
 
+/// A file that isn't there is empty.
 #[test]
 fn sure_outsides_never_fail(rt: HostRuntime) -> Result<(), Fail> {
-    let (shown, refused) = surely(rt.alloc())?;
-    assert_eq!(rt; shown.status, Status::Done);
-    assert_eq!(rt; shown.taken.as_str(), PANES);
-    assert_eq!(rt; refused, Status::ProgramRefused);
+    let alloc = rt.alloc();
+    for row in [
+        SHOWN,
+        ANSWERED,
+        Row {
+            words: &["show", "Q"],
+            status: Status::ProgramRefused,
+            taken: "ped: refused 9 OpenBlock at 0\n",
+        },
+        Row {
+            words: &["session", "R", "Q"],
+            status: Status::Done,
+            taken: "",
+        },
+        Row {
+            words: &["session", "R", "S"],
+            status: Status::SomeRefused,
+            taken: "fault 5 at 1\n2: refused NothingToUndo\n",
+        },
+    ] {
+        let ending = surely(alloc, row.words)?;
+        assert_eq!(rt; ending.status, row.status);
+        assert_eq!(rt; ending.taken.as_str(), row.taken);
+    }
     Ok(())
 }

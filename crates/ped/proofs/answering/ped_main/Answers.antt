@@ -1,29 +1,223 @@
 use Rattle.std.proofs.Common.{ℕ, List, Option, Err, ap, subst, sym}
 use Rattle.ped_io.specs.Outside.{Rose}
+use Rattle.ped.specs.declared.answering.Status.{Status}
 use Rattle.ped.specs.declared.answering.Status.TheVariants.{BadWords}
-use Rattle.ped.specs.Answer.{Request, MayAnswer, IsJust, IsOutcome, usage_line}
+use Rattle.ped.specs.Answer.{Request, Input, inputs_of, IsOneOf, HoldsTooMany, MayAnswer, Answers, IsJust, IsOutcome, usage_line}
 use Rattle.ped.specs.TestCounts.{Tests}
-use Rattle.ped.proofs.Counting.{idle_ticks, not_done}
-use Rattle.ped.proofs.Outcomes.{outcome_weaker, usage_may_answer, whole_of, of_request}
+use Rattle.ped.specs.Serving.{Call, Served}
+use Rattle.ped.proofs.Counting.{idle_writing}
+use Rattle.ped.proofs.Outcomes.{outcome_weaker, usage_may_answer, whole_of}
 use Rattle.ped.proofs.answering.ped_main.Goals as goal
 
 pub returns-in-Ok-clause-answer : goal.returns-in-Ok-clause-answer
-returns-in-Ok-clause-answer g c = λ files told before taken.
-    let o = c.show_file.ensures.answer files told before taken in
-    let failed : List ℕ → Type 0 = λ (name : List ℕ). Rose (g.F.Shelf.count c.args.shelf.now name) (g.F.Shelf.count c.show_file.new.shelf name) in
-    (o.0, o.1, subst (λ (r : Option Request). IsOutcome (MayAnswer r files failed) (Rose (g.K.Sink.faults c.args.out.now) (g.K.Sink.faults c.show_file.new.out)) o.0 c.show_file.result) (sym c.in-Ok.ensures.ok) o.2)
+returns-in-Ok-clause-answer g c =
+    let call : Call = record {
+      told = g.F.Shelf.told c.args.shelf.now;
+      counts = g.F.Shelf.count c.args.shelf.now;
+      counts_after = g.F.Shelf.count c.serve.new.shelf;
+      taken = g.K.Sink.taken c.args.out.now;
+      taken_after = g.K.Sink.taken c.serve.new.out;
+      faults = g.K.Sink.faults c.args.out.now;
+      faults_after = g.K.Sink.faults c.serve.new.out;
+      steps = c.args.steps.now;
+      steps_after = c.serve.new.steps;
+      status = c.serve.result;
+    } in
+    let served = subst (λ (r : Option Request). Served (inputs_of r) (Answers r) (Tests r) call) (sym c.in-Ok.ensures.ok) c.serve.ensures.served in
+    served.sends
+
+pub returns-in-Ok-clause-words : goal.returns-in-Ok-clause-words
+returns-in-Ok-clause-words g c =
+    let call : Call = record {
+      told = g.F.Shelf.told c.args.shelf.now;
+      counts = g.F.Shelf.count c.args.shelf.now;
+      counts_after = g.F.Shelf.count c.serve.new.shelf;
+      taken = g.K.Sink.taken c.args.out.now;
+      taken_after = g.K.Sink.taken c.serve.new.out;
+      faults = g.K.Sink.faults c.args.out.now;
+      faults_after = g.K.Sink.faults c.serve.new.out;
+      steps = c.args.steps.now;
+      steps_after = c.serve.new.steps;
+      status = c.serve.result;
+    } in
+    let served = subst (λ (r : Option Request). Served (inputs_of r) (Answers r) (Tests r) call) (sym c.in-Ok.ensures.ok) c.serve.ensures.served in
+    λ bad. absurd (served.words bad)
+
+pub returns-in-Ok-clause-read_fault : goal.returns-in-Ok-clause-read_fault
+returns-in-Ok-clause-read_fault g c =
+    let call : Call = record {
+      told = g.F.Shelf.told c.args.shelf.now;
+      counts = g.F.Shelf.count c.args.shelf.now;
+      counts_after = g.F.Shelf.count c.serve.new.shelf;
+      taken = g.K.Sink.taken c.args.out.now;
+      taken_after = g.K.Sink.taken c.serve.new.out;
+      faults = g.K.Sink.faults c.args.out.now;
+      faults_after = g.K.Sink.faults c.serve.new.out;
+      steps = c.args.steps.now;
+      steps_after = c.serve.new.steps;
+      status = c.serve.result;
+    } in
+    let served = subst (λ (r : Option Request). Served (inputs_of r) (Answers r) (Tests r) call) (sym c.in-Ok.ensures.ok) c.serve.ensures.served in
+    served.read_fault
+
+pub returns-in-Ok-clause-write_fault : goal.returns-in-Ok-clause-write_fault
+returns-in-Ok-clause-write_fault g c =
+    let call : Call = record {
+      told = g.F.Shelf.told c.args.shelf.now;
+      counts = g.F.Shelf.count c.args.shelf.now;
+      counts_after = g.F.Shelf.count c.serve.new.shelf;
+      taken = g.K.Sink.taken c.args.out.now;
+      taken_after = g.K.Sink.taken c.serve.new.out;
+      faults = g.K.Sink.faults c.args.out.now;
+      faults_after = g.K.Sink.faults c.serve.new.out;
+      steps = c.args.steps.now;
+      steps_after = c.serve.new.steps;
+      status = c.serve.result;
+    } in
+    let served = subst (λ (r : Option Request). Served (inputs_of r) (Answers r) (Tests r) call) (sym c.in-Ok.ensures.ok) c.serve.ensures.served in
+    served.write_fault
+
+pub returns-in-Ok-clause-too_long : goal.returns-in-Ok-clause-too_long
+returns-in-Ok-clause-too_long g c =
+    let call : Call = record {
+      told = g.F.Shelf.told c.args.shelf.now;
+      counts = g.F.Shelf.count c.args.shelf.now;
+      counts_after = g.F.Shelf.count c.serve.new.shelf;
+      taken = g.K.Sink.taken c.args.out.now;
+      taken_after = g.K.Sink.taken c.serve.new.out;
+      faults = g.K.Sink.faults c.args.out.now;
+      faults_after = g.K.Sink.faults c.serve.new.out;
+      steps = c.args.steps.now;
+      steps_after = c.serve.new.steps;
+      status = c.serve.result;
+    } in
+    let served = subst (λ (r : Option Request). Served (inputs_of r) (Answers r) (Tests r) call) (sym c.in-Ok.ensures.ok) c.serve.ensures.served in
+    served.too_long
 
 pub returns-in-Ok-clause-complete : goal.returns-in-Ok-clause-complete
 returns-in-Ok-clause-complete g c = λ files told before taken none sure.
     let o = returns-in-Ok-clause-answer g c files told before taken in
-    let failed : List ℕ → Type 0 = λ (name : List ℕ). Rose (g.F.Shelf.count c.args.shelf.now name) (g.F.Shelf.count c.show_file.new.shelf name) in
-    whole_of _ files failed _ _ before o.0 c.show_file.result o.1 o.2 none sure
+    let failed : List ℕ → Type 0 = λ (name : List ℕ). Rose (g.F.Shelf.count c.args.shelf.now name) (g.F.Shelf.count c.serve.new.shelf name) in
+    whole_of _ files failed _ _ before o.0 c.serve.result o.1 o.2 none sure
 
-pub returns-in-Ok-clause-too_long : goal.returns-in-Ok-clause-too_long
-returns-in-Ok-clause-too_long g c = λ long files told. of_request c.in-Ok.program.now _ files c.in-Ok.ensures.ok (c.show_file.ensures.too_long long files told)
+pub returns-in-Ok-clause-counts : goal.returns-in-Ok-clause-counts
+returns-in-Ok-clause-counts g c =
+    let call : Call = record {
+      told = g.F.Shelf.told c.args.shelf.now;
+      counts = g.F.Shelf.count c.args.shelf.now;
+      counts_after = g.F.Shelf.count c.serve.new.shelf;
+      taken = g.K.Sink.taken c.args.out.now;
+      taken_after = g.K.Sink.taken c.serve.new.out;
+      faults = g.K.Sink.faults c.args.out.now;
+      faults_after = g.K.Sink.faults c.serve.new.out;
+      steps = c.args.steps.now;
+      steps_after = c.serve.new.steps;
+      status = c.serve.result;
+    } in
+    let served = subst (λ (r : Option Request). Served (inputs_of r) (Answers r) (Tests r) call) (sym c.in-Ok.ensures.ok) c.serve.ensures.served in
+    served.rises
+
+pub returns-in-Ok-clause-others : goal.returns-in-Ok-clause-others
+returns-in-Ok-clause-others g c =
+    let call : Call = record {
+      told = g.F.Shelf.told c.args.shelf.now;
+      counts = g.F.Shelf.count c.args.shelf.now;
+      counts_after = g.F.Shelf.count c.serve.new.shelf;
+      taken = g.K.Sink.taken c.args.out.now;
+      taken_after = g.K.Sink.taken c.serve.new.out;
+      faults = g.K.Sink.faults c.args.out.now;
+      faults_after = g.K.Sink.faults c.serve.new.out;
+      steps = c.args.steps.now;
+      steps_after = c.serve.new.steps;
+      status = c.serve.result;
+    } in
+    let served = subst (λ (r : Option Request). Served (inputs_of r) (Answers r) (Tests r) call) (sym c.in-Ok.ensures.ok) c.serve.ensures.served in
+    served.others
+
+pub returns-in-Ok-clause-faults : goal.returns-in-Ok-clause-faults
+returns-in-Ok-clause-faults g c =
+    let call : Call = record {
+      told = g.F.Shelf.told c.args.shelf.now;
+      counts = g.F.Shelf.count c.args.shelf.now;
+      counts_after = g.F.Shelf.count c.serve.new.shelf;
+      taken = g.K.Sink.taken c.args.out.now;
+      taken_after = g.K.Sink.taken c.serve.new.out;
+      faults = g.K.Sink.faults c.args.out.now;
+      faults_after = g.K.Sink.faults c.serve.new.out;
+      steps = c.args.steps.now;
+      steps_after = c.serve.new.steps;
+      status = c.serve.result;
+    } in
+    let served = subst (λ (r : Option Request). Served (inputs_of r) (Answers r) (Tests r) call) (sym c.in-Ok.ensures.ok) c.serve.ensures.served in
+    served.sink_rises
+
+pub returns-in-Ok-clause-untold : goal.returns-in-Ok-clause-untold
+returns-in-Ok-clause-untold g c =
+    let call : Call = record {
+      told = g.F.Shelf.told c.args.shelf.now;
+      counts = g.F.Shelf.count c.args.shelf.now;
+      counts_after = g.F.Shelf.count c.serve.new.shelf;
+      taken = g.K.Sink.taken c.args.out.now;
+      taken_after = g.K.Sink.taken c.serve.new.out;
+      faults = g.K.Sink.faults c.args.out.now;
+      faults_after = g.K.Sink.faults c.serve.new.out;
+      steps = c.args.steps.now;
+      steps_after = c.serve.new.steps;
+      status = c.serve.result;
+    } in
+    let served = subst (λ (r : Option Request). Served (inputs_of r) (Answers r) (Tests r) call) (sym c.in-Ok.ensures.ok) c.serve.ensures.served in
+    served.untold
 
 pub returns-in-Ok-clause-tests : goal.returns-in-Ok-clause-tests
-returns-in-Ok-clause-tests g c = λ files told n tests. c.show_file.ensures.tests files told n (subst (λ (r : Option Request). Tests r files n) c.in-Ok.ensures.ok tests)
+returns-in-Ok-clause-tests g c =
+    let call : Call = record {
+      told = g.F.Shelf.told c.args.shelf.now;
+      counts = g.F.Shelf.count c.args.shelf.now;
+      counts_after = g.F.Shelf.count c.serve.new.shelf;
+      taken = g.K.Sink.taken c.args.out.now;
+      taken_after = g.K.Sink.taken c.serve.new.out;
+      faults = g.K.Sink.faults c.args.out.now;
+      faults_after = g.K.Sink.faults c.serve.new.out;
+      steps = c.args.steps.now;
+      steps_after = c.serve.new.steps;
+      status = c.serve.result;
+    } in
+    let served = subst (λ (r : Option Request). Served (inputs_of r) (Answers r) (Tests r) call) (sym c.in-Ok.ensures.ok) c.serve.ensures.served in
+    served.ticks
+
+pub returns-in-Ok-clause-untested : goal.returns-in-Ok-clause-untested
+returns-in-Ok-clause-untested g c =
+    let call : Call = record {
+      told = g.F.Shelf.told c.args.shelf.now;
+      counts = g.F.Shelf.count c.args.shelf.now;
+      counts_after = g.F.Shelf.count c.serve.new.shelf;
+      taken = g.K.Sink.taken c.args.out.now;
+      taken_after = g.K.Sink.taken c.serve.new.out;
+      faults = g.K.Sink.faults c.args.out.now;
+      faults_after = g.K.Sink.faults c.serve.new.out;
+      steps = c.args.steps.now;
+      steps_after = c.serve.new.steps;
+      status = c.serve.result;
+    } in
+    let served = subst (λ (r : Option Request). Served (inputs_of r) (Answers r) (Tests r) call) (sym c.in-Ok.ensures.ok) c.serve.ensures.served in
+    served.untested
+
+pub returns-in-Ok-clause-steps : goal.returns-in-Ok-clause-steps
+returns-in-Ok-clause-steps g c =
+    let call : Call = record {
+      told = g.F.Shelf.told c.args.shelf.now;
+      counts = g.F.Shelf.count c.args.shelf.now;
+      counts_after = g.F.Shelf.count c.serve.new.shelf;
+      taken = g.K.Sink.taken c.args.out.now;
+      taken_after = g.K.Sink.taken c.serve.new.out;
+      faults = g.K.Sink.faults c.args.out.now;
+      faults_after = g.K.Sink.faults c.serve.new.out;
+      steps = c.args.steps.now;
+      steps_after = c.serve.new.steps;
+      status = c.serve.result;
+    } in
+    let served = subst (λ (r : Option Request). Served (inputs_of r) (Answers r) (Tests r) call) (sym c.in-Ok.ensures.ok) c.serve.ensures.served in
+    served.steps_rise
 
 pub returns-in-Err-Bad-clause-answer : goal.returns-in-Err-Bad-clause-answer
 returns-in-Err-Bad-clause-answer g c = λ files told before taken.
@@ -33,4 +227,4 @@ returns-in-Err-Bad-clause-answer g c = λ files told before taken.
     (o.0, o.1, outcome_weaker (IsJust BadWords usage_line) (MayAnswer _ files failed) (usage_may_answer _ files failed none) _ o.0 c.finish.result o.2)
 
 pub returns-in-Err-Bad-clause-tests : goal.returns-in-Err-Bad-clause-tests
-returns-in-Err-Bad-clause-tests g c = λ files told n tests. idle_ticks c.finish.result _ n (not_done c.finish.result BadWords (λ e. cc) c.finish.ensures.ends)
+returns-in-Err-Bad-clause-tests g c = λ files told n tests. idle_writing c.finish.result BadWords _ n (λ e. cc) (λ e. cc) c.finish.ensures.ends

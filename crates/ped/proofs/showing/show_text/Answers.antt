@@ -2,12 +2,12 @@ use Rattle.std.proofs.Common.{subst}
 use Rattle.ped_tree.specs.Views.{program_tree}
 use Rattle.ped_grammar.specs.RefusalViews.{finding_of}
 use Rattle.ped_valid.specs.Refusals.{IsRefusalOf}
-use Rattle.ped.specs.declared.answering.Status.TheVariants.{ProgramRefused}
+use Rattle.ped.specs.declared.answering.Status.TheVariants.{Done, ProgramRefused}
 use Rattle.ped.specs.Refusals.{refused_line}
 use Rattle.ped.specs.Answer.{IsJust, IsShown, ShowsTree}
-use Rattle.ped.proofs.Counting.{idle_ticks, not_done, is_tested, text_ticks}
+use Rattle.ped.proofs.Counting.{idle_writing, is_tested, text_ticks}
 use Rattle.ped.proofs.Outcomes.{outcome_weaker, tree_shown, refusal_shown}
-use Rattle.ped.proofs.answering.show_text.Goals as goal
+use Rattle.ped.proofs.showing.show_text.Goals as goal
 
 pub returns-in-Ok-clause-answer : goal.returns-in-Ok-clause-answer
 returns-in-Ok-clause-answer g c = λ before told.
@@ -27,7 +27,7 @@ pub returns-in-Ok-clause-tests : goal.returns-in-Ok-clause-tests
 returns-in-Ok-clause-tests g c = text_ticks c.args.text.now (program_tree c.in-Ok.opened.program) c.in-Ok.ensures.tree c.show_program.result _ _ c.show_program.ensures.tests
 
 pub returns-in-Ok-clause-untested : goal.returns-in-Ok-clause-untested
-returns-in-Ok-clause-untested g c = λ untested. absurd (is_tested c.show_program.result c.show_program.ensures.ends untested)
+returns-in-Ok-clause-untested g c = λ untested. absurd (is_tested c.show_program.result Done (λ u. u) c.show_program.ensures.ends untested)
 
 pub returns-in-Err-At-clause-tests : goal.returns-in-Err-At-clause-tests
-returns-in-Err-At-clause-tests g c = λ n tests. idle_ticks c.is_refused.result _ n (not_done c.is_refused.result ProgramRefused (λ e. cc) c.is_refused.ensures.ends)
+returns-in-Err-At-clause-tests g c = λ n tests. idle_writing c.is_refused.result ProgramRefused _ n (λ e. cc) (λ e. cc) c.is_refused.ensures.ends

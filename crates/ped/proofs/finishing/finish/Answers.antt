@@ -1,7 +1,7 @@
 use Rattle.std.proofs.Common.{◌++◌, List, ℕ, take, option_map, ap, ◌∙◌}
 use Rattle.ped_io.specs.Faults.{sent_of}
 use Rattle.ped.proofs.Outcomes.{front_of, counted}
-use Rattle.ped.proofs.answering.finish.Goals as goal
+use Rattle.ped.proofs.finishing.finish.Goals as goal
 
 pub returns-in-Err-WriteFault-clause-answer : goal.returns-in-Err-WriteFault-clause-answer
 returns-in-Err-WriteFault-clause-answer g c = λ before told.

@@ -1,6 +1,7 @@
 mod Examples
 pub mod Joined
 pub mod Meetings
+pub mod Numbers
 pub mod Placing
 pub mod ReadsTold
 pub mod SeenCells

@@ -19,6 +19,6 @@ pub use parting::{
     conditions_parted, loops_parted, parallel_turns_parted, statements_parted, turns_parted,
 };
 pub use pieces::{one_run, own_store, told_by_acts};
-pub use places::one_kind;
+pub use places::{one_kind, own_numbers};
 pub use programs::{program_runs, same_outcome};
 pub use touching::{lines_are_written, own_stores, references_conflict, references_meet};

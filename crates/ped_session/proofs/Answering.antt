@@ -43,10 +43,15 @@ pub items_then : (items : List Item) (item : Item) (data_bytes : List ℕ) (s m 
     → AnswersItems items data_bytes s a m → AnswersItem item data_bytes m b n → AnswersItems (items ++ item ∷ []) data_bytes s (said_both a b) n
 items_then [] item data_bytes s m n a b done last =
     subst (λ (x : Said). AnswersItems (item ∷ []) data_bytes s (said_both x b) n) (sym done.0)
-      (b, n, subst (λ (x : State). AnswersItem item data_bytes x b n) done.1 last, nothing_said, (refl, refl), said_nothing_before b ∙ sym (said_nothing_behind b))
-items_then (i ∷ is) item data_bytes s m n a b done last =
-    (done.0, done.1, done.2, said_both done.3 b, items_then is item data_bytes done.1 m n done.3 b done.4 last,
-      ap (λ (x : Said). said_both x b) done.5 ∙ said_assoc done.0 done.3 b)
+    (b, n, subst (λ (x : State). AnswersItem item data_bytes x b n) done.1 last, nothing_said, (refl, refl), said_nothing_before b ∙ sym (said_nothing_behind b))
+items_then (i ∷ is) item data_bytes s m n a b done last = (
+  done.0,
+  done.1,
+  done.2,
+  said_both done.3 b,
+  items_then is item data_bytes done.1 m n done.3 b done.4 last,
+  ap (λ (x : Said). said_both x b) done.5 ∙ said_assoc done.0 done.3 b,
+)
 
 -- items in two parts
 pub record Parts (front back : List Item) (data_bytes : List ℕ) (s : State) (a : Said) (n : State) : Type 0 where
@@ -105,8 +110,8 @@ item_within items i item data_bytes s mid n front a h at before whole =
     let here : drop i items ≡ item ∷ drop (i + 1) items = drop_more items i item h ∙ ap (λ (x : Item). x ∷ drop (i + 1) items) (sym at) in
     let behind = subst (λ (m : State). AnswersItems (drop i items) data_bytes m p.rest n) same.1 p.behind in
     at_first item (drop (i + 1) items) data_bytes front a p.rest mid n
-      (subst (λ (is : List Item). AnswersItems is data_bytes mid p.rest n) here behind)
-      (p.both ∙ ap (λ (x : Said). said_both x p.rest) same.0)
+    (subst (λ (is : List Item). AnswersItems is data_bytes mid p.rest n) here behind)
+    (p.both ∙ ap (λ (x : Said). said_both x p.rest) same.0)
 
 -- items up to a place, and the item there
 pub items_more : (items : List Item) (i : ℕ) (item : Item) (data_bytes : List ℕ) (s m n : State) (a b : Said)

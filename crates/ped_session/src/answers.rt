@@ -45,7 +45,15 @@ pub fn answer_items<L: Ledger>(
     };
     for item in items {
         match &item.command {
-            Some(command) => answer_command(alloc, session, item.line, command, input, &mut answered, steps)?,
+            Some(command) => answer_command(
+                alloc,
+                session,
+                item.line,
+                command,
+                input,
+                &mut answered,
+                steps,
+            )?,
             None => answer_bad_command(alloc, item.line, &mut answered)?,
         }
     }

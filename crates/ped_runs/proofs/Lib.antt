@@ -1,4 +1,5 @@
 mod Examples
+pub mod Defined
 pub mod Joined
 pub mod Meetings
 pub mod Numbers

@@ -34,6 +34,12 @@ is_going goes_on = true
 is_going stops = false
 is_going (faults fault statement) = false
 
+-- a fault has ended it (plain words)
+abbrev pub has_fault : Finish → Bool
+has_fault goes_on = false
+has_fault stops = false
+has_fault (faults fault statement) = true
+
 -- an act by its parts (plain words)
 abbrev pub act : Step → Place → List Touch → Act
 act step at touches = record { step = step; place = at; touches = touches }

@@ -21,4 +21,6 @@ pub use parting::{
 pub use pieces::{one_run, own_store, told_by_acts};
 pub use places::{one_kind, own_numbers};
 pub use programs::{program_runs, same_outcome};
-pub use touching::{lines_are_written, own_stores, references_conflict, references_meet};
+pub use touching::{
+    lines_are_written, own_stores, reads_find_numbers, references_conflict, references_meet,
+};

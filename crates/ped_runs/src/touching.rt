@@ -1,17 +1,19 @@
 //! What acts of a run touch: conflicts are of references, but for what a DO stores of itself.
 
-ghost use Rattle.std.specs.Prelude.{◌≡◌, ℕ, Bool, true, false};
+ghost use Rattle.std.specs.Prelude.{◌≡◌, ℕ, ℤ, Bool, true, false};
 ghost use Rattle.ped_tree.specs.Tree.{StmtTrees};
 ghost use Rattle.ped_store.specs.Cells.{Cell, same_cell};
-ghost use Rattle.ped_store.specs.Stores.{Store};
-ghost use Rattle.ped_store.specs.Acts.{Touch, Act};
-ghost use Rattle.ped_store.specs.Races.{Access, accesses_of, conflict, are_apart};
+ghost use Rattle.ped_store.specs.Stores.{Number, Store};
+ghost use Rattle.ped_store.specs.Acts.{reads, Touch, Act};
+ghost use Rattle.ped_store.specs.Races.{is_lines, Access, accesses_of, conflict, are_apart};
+ghost use Rattle.ped_acts.specs.Sets.{needs};
 ghost use Rattle.ped_acts.specs.Conflicts.{acts_conflict, acts_conflict_outside};
 ghost use Rattle.ped_acts.specs.Orders.{IsIn};
 ghost use Rattle.ped_acts.specs.Origins.{WritesItsLines};
 ghost use Rattle.ped_eval.specs.Scopes.{Setting, Scope};
 ghost use Rattle.ped_eval.specs.Loops.{all_index_names};
 ghost use Rattle.ped_eval.specs.Runs.{run_all};
+ghost use Rattle.ped_runs.specs.Replaying.{finish_of, has_fault};
 ghost use Rattle.ped_runs.specs.Touching.{is_own_store, StoresWithin, HaveCopies, Meeting};
 
 /// An act of a run that touches the data or the output writes them. For the laws of conflicts and races.
@@ -37,4 +39,11 @@ pub fn references_meet()
 /// Acts of a run conflict where their references do. For turning a dependence into an order that must be kept.
 pub fn references_conflict()
     ensures { (p : Setting) (ts : StmtTrees) (n : ℕ) (scope : Scope) (s : Store) (a b : Act) → IsIn a (run_all p ts n scope s).acts → IsIn b (run_all p ts n scope s).acts → Meeting a b → acts_conflict a b ≡ true }
+{}
+
+/// In a run without a fault each read of a cell finds a number, so what is undefined isn't needed behind. For cells that
+/// a step leaves undefined.
+pub fn reads_find_numbers()
+    ensures read { (p : Setting) (ts : StmtTrees) (n : ℕ) (scope : Scope) (s : Store) (a : Act) (t : Touch) → has_fault (finish_of (run_all p ts n scope s).ending) ≡ false → IsIn a (run_all p ts n scope s).acts → IsIn t a.touches → t.manner ≡ reads → is_lines t.cell ≡ false → (v : ℤ) × (t.content ≡ Number v) }
+    ensures needed { (p : Setting) (ts : StmtTrees) (n : ℕ) (scope : Scope) (s : Store) (c : Cell) → has_fault (finish_of (run_all p ts n scope s).ending) ≡ false → is_lines c ≡ false → needs (run_all p ts n scope s).acts c ≡ true → (v : ℤ) × (s c ≡ Number v) }
 {}

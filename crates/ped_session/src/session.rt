@@ -139,7 +139,6 @@ impl<L: Ledger> Session<L> {
     }
 
     /// Runs the present program in order on the lines of its data.
-    #[tactic(auto, using(crate::proofs::PresentProgram::only_version))]
     pub fn run(&self, alloc: Global, input: &[u8]) -> Result<Outcome, NoMemory>
         ensures { IfOk result (λ o. (t : ProgramTree) → ReadsValid self.now.present t → outcome_view o ≡ outcome t input.now) }
     {

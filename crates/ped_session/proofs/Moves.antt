@@ -30,8 +30,7 @@ module _ {L : _} where
       → IsVersion present → graph ≡ held_of (tree_of present) → left.other ≡ present → TakesTo left.delta g graph → Leads graph es
       → Leads g (left ∷ es)
   left_leads present graph g es left is held other back leads =
-      let there : graph ≡ held_of (tree_of left.other) = held ∙ ap (λ (v : Version). held_of (tree_of v)) (sym other) in
-      (
+      let there : graph ≡ held_of (tree_of left.other) = held ∙ ap (λ (v : Version). held_of (tree_of v)) (sym other) in (
         subst IsVersion (sym other) is,
         subst (λ (h : Held). TakesTo left.delta g h) there back,
         subst (λ (h : Held). Leads h es) there leads,

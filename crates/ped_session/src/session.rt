@@ -62,11 +62,7 @@ impl<L: Ledger> Session<L> {
     ///
     /// `At` exactly where the text is refused, with its first refusal; then nothing is tested. `NoMemory` where memory
     /// runs out.
-    pub fn open(
-        alloc: Global,
-        text: &[u8],
-        steps: &mut Steps<L>,
-    ) -> Result<Session<L>, OpenRefusal>
+    pub fn open(alloc: Global, text: &[u8], steps: &mut Steps<L>) -> Result<Session<L>, OpenRefusal>
         ensures opened { IfOk result (λ s. (t : ProgramTree) × ReadsValid text.now t × (s ≡ opened t)) }
         ensures refused { IfErr result (IsRefusalOf text.now) }
         ensures ticks { OnOk result ((t : ProgramTree) → ReadsValid text.now t → steps.new ≡ steps.old + pair_count (references t)) }

@@ -24,11 +24,7 @@ impl<L: Ledger> Session<L> {
     }
 
     /// The dependence pane, of a statement where one is given.
-    pub(crate) fn show_dependences(
-        &self,
-        alloc: Global,
-        of: Option<u32>,
-    ) -> Result<Reply, NoMemory>
+    pub(crate) fn show_dependences(&self, alloc: Global, of: Option<u32>) -> Result<Reply, NoMemory>
         ensures { IfOk result (λ reply. (data_bytes : List ℕ) → IsStep (commands.Deps of) data_bytes self.now reply self.now) }
     {
         match of {

@@ -157,8 +157,27 @@ fn answers<L: Ledger>(alloc: Global, blank: Blank) -> Result<(Held, Held, Bytes)
 #[test]
 fn each_command_is_answered(rt: HostRuntime) -> Result<(), Fail> {
     let (before, behind, out) = answers::<Brand>(rt.alloc(), Blank::new(1))?;
-    assert_eq!(rt; before, Held { statements: 2, pairs: 3, edges: 1, tested: 3 });
-    assert_eq!(rt; behind, Held { statements: 2, pairs: 1, edges: 0, tested: 1 });
-    assert_eq!(rt; String::from_utf8_lossy(rt.alloc(), out.as_slice())?.as_str(), ANSWERS);
+    assert_eq!(rt;
+        before,
+        Held {
+            statements: 2,
+            pairs: 3,
+            edges: 1,
+            tested: 3
+        }
+    );
+    assert_eq!(rt;
+        behind,
+        Held {
+            statements: 2,
+            pairs: 1,
+            edges: 0,
+            tested: 1
+        }
+    );
+    assert_eq!(rt;
+        String::from_utf8_lossy(rt.alloc(), out.as_slice())?.as_str(),
+        ANSWERS
+    );
     Ok(())
 }

@@ -20,23 +20,22 @@ pub returns-clause-answers : goal.returns-clause-answers
 returns-clause-answers g c =
     let s = c.self.inside in
     let t = program_tree c.args.new.program in
-    let old = tree_of s.present in
-    (
-        refl,
-        old,
-        reads_version s.present c.self.invariant.version c.args.self.now.present (ap (λ (u : State). u.present) c.self.view_is),
-        changed_by c.args.self.now (program_text t) c.replace-other.new.dest.text s.present.text s.history c.reserve.new.self c.push.new.self
-            (record { other = c.replace-other.result; change = c.args.change; delta = c.in_ok-delta.delta }) s.tested c.tested-self-inside.result (tested_pairs old t [])
-            (ap (λ (v : Version). v.text) c.replace-other.ensures.after ∙ c.in_ok-text.ensures) c.push.ensures c.in_ok-reserve.ensures.past
-            (ap (λ (v : Version). v.text) c.replace-other.ensures.value) c.self.view_is
-            (c.tested-self-inside.ensures ∙ c.in_ok-delta.ensures.tested old c.self.invariant.graph_is ∙ ap (tested_pairs old t) c.new.ensures),
+    let old = tree_of s.present in (
+      refl,
+      old,
+      reads_version s.present c.self.invariant.version c.args.self.now.present (ap (λ (u : State). u.present) c.self.view_is),
+      changed_by c.args.self.now (program_text t) c.replace-other.new.dest.text s.present.text s.history c.reserve.new.self c.push.new.self
+          (record { other = c.replace-other.result; change = c.args.change; delta = c.in_ok-delta.delta }) s.tested c.tested-self-inside.result (tested_pairs old t [])
+          (ap (λ (v : Version). v.text) c.replace-other.ensures.after ∙ c.in_ok-text.ensures) c.push.ensures c.in_ok-reserve.ensures.past
+          (ap (λ (v : Version). v.text) c.replace-other.ensures.value) c.self.view_is
+          (c.tested-self-inside.ensures ∙ c.in_ok-delta.ensures.tested old c.self.invariant.graph_is ∙ ap (tested_pairs old t) c.new.ensures),
     )
 
 pub returns-clause-ticks : goal.returns-clause-ticks
 returns-clause-ticks g c =
     let t = tree_of c.self.inside.present in
     as_counted c.update-2.new.steps c.args.steps.now c.in_ok-delta.delta.tested (tested_pairs t (program_tree c.args.new.program) c.new.result) c.tested-self-inside.result
-        (c.in_ok-delta.ensures.ticks t c.self.invariant.graph_is) (c.in_ok-delta.ensures.tested t c.self.invariant.graph_is) c.tested-self-inside.ensures
+    (c.in_ok-delta.ensures.ticks t c.self.invariant.graph_is) (c.in_ok-delta.ensures.tested t c.self.invariant.graph_is) c.tested-self-inside.ensures
 
 pub returns-clause-most : goal.returns-clause-most
 returns-clause-most g c old reads =

@@ -11,4 +11,4 @@ returns g c =
     let v = c.self.inside.present in
     let text = ap (λ (u : State). u.present) c.self.view_is in
     IfOk-weaker c.run_in_order.result _ _ (λ o is t reads.
-        is ∙ ap (λ (u : ProgramTree). outcome u c.args.input.now) (sym (only_version v c.self.invariant.version c.args.self.now.present text t reads))) c.run_in_order.ensures
+    is ∙ ap (λ (u : ProgramTree). outcome u c.args.input.now) (sym (only_version v c.self.invariant.version c.args.self.now.present text t reads))) c.run_in_order.ensures

@@ -9,4 +9,4 @@ pub returns : goal.returns
 returns g c =
     let s = c.self.inside in
     shown IsDependencePane s.present c.args.self.now c.in_ok-dependence_pane.field-0 c.self.invariant.version (ap (λ (u : State). u.present) c.self.view_is)
-        (c.in_ok-dependence_pane.ensures (tree_of s.present) c.self.invariant.graph_is)
+    (c.in_ok-dependence_pane.ensures (tree_of s.present) c.self.invariant.graph_is)

@@ -10,4 +10,4 @@ returns g c =
     let v = c.self.inside.present in
     let pane = c.in_ok-dependences.dependences in
     shown ArePanes v c.args.self.now c.extend_from_slice.new.self c.self.invariant.version (ap (λ (u : State). u.present) c.self.view_is)
-        (pane, c.in_ok-dependences.ensures (tree_of v) c.self.invariant.graph_is, c.in_ok-extend_from_slice.ensures.ok ∙ ap₂ ◌++◌ c.in_ok-panes.ensures c.as_slice.ensures)
+    (pane, c.in_ok-dependences.ensures (tree_of v) c.self.invariant.graph_is, c.in_ok-extend_from_slice.ensures.ok ∙ ap₂ ◌++◌ c.in_ok-panes.ensures c.as_slice.ensures)

@@ -8,11 +8,11 @@ pub returns-then-not-has_statement : goal.returns-then-not-has_statement
 returns-then-not-has_statement g c =
     let v = c.self.inside.present in
     refused_statement v c.args.self.now c.args.number c.self.invariant.version (ap (λ (u : State). u.present) c.self.view_is)
-        (sym (c.has_statement.ensures (tree_of v) c.self.invariant.graph_is) ∙ c.if-not-has_statement.true)
+    (sym (c.has_statement.ensures (tree_of v) c.self.invariant.graph_is) ∙ c.if-not-has_statement.true)
 
 pub returns : goal.returns
 returns g c =
     let v = c.self.inside.present in
     shown_statement v c.args.self.now c.args.number c.in_ok-dependence_pane.field-0 c.self.invariant.version (ap (λ (u : State). u.present) c.self.view_is)
-        (sym (c.has_statement.ensures (tree_of v) c.self.invariant.graph_is) ∙ c.if-not-has_statement.false)
-        (c.in_ok-dependence_pane.ensures (tree_of v) c.self.invariant.graph_is)
+    (sym (c.has_statement.ensures (tree_of v) c.self.invariant.graph_is) ∙ c.if-not-has_statement.false)
+    (c.in_ok-dependence_pane.ensures (tree_of v) c.self.invariant.graph_is)

@@ -108,7 +108,7 @@ struct Held {
     tested: u64,
 }
 
-fn held<L: Ledger>(alloc: Global, session: &Session<L>) -> Result<Held, NoMemory> {
+fn standing<L: Ledger>(alloc: Global, session: &Session<L>) -> Result<Held, NoMemory> {
     Ok(Held {
         statements: session.statements(),
         pairs: session.pairs(),
@@ -145,13 +145,13 @@ fn answers<L: Ledger>(alloc: Global, blank: Blank) -> Result<(Held, Held, Bytes)
     let Ok(mut session) = Session::open(alloc, PROGRAM.as_bytes(), &mut steps) else {
         return Err(Fail::from(NoMemory));
     };
-    let before = held(alloc, &session)?;
+    let before = standing(alloc, &session)?;
     let script = commands(alloc, SCRIPT.as_bytes())?;
     let mut out = Bytes::new(alloc);
     for item in script.as_slice() {
         push_answer(alloc, &mut session, item, &mut steps, &mut out)?;
     }
-    Ok((before, held(alloc, &session)?, out))
+    Ok((before, standing(alloc, &session)?, out))
 }
 
 #[test]

@@ -2,11 +2,12 @@
 # Measures how long `statements` of ped_lines takes to cut a program into statements, per byte, and how
 # much memory it has at its peak, on programs of 64 KiB, 256 KiB and 1 MiB; how long `source_pane` of
 # ped_print takes, per byte of the pane, on programs of 250, 1,000 and 4,000 statements; how long
-# `symbols_of` of ped_symbols takes, per statement, on programs of 1,000 and 4,000 statements with as many names;
-# how long a call of each dependence test takes; how long `run_in_order` of ped_eval takes for an assignment in loops, over an
+# `symbols_of` of ped_symbols takes, per statement, on programs of 1,000 and 4,000 statements with as many names; how long
+# `commands` of ped_script takes, per byte, on scripts of up to 1 MiB; how long a call of each dependence test takes; how long `run_in_order` of ped_eval takes for an assignment in loops, over an
 # array and over a scalar, from 10^4 to 10^7 of them, and how much memory a store of 2^20 elements takes; how long `ped show` takes, and how much memory, on programs of 64 KiB,
 # 256 KiB and 1 MiB that are read; how long it takes for each pair of references, and how much memory, on nests of two and of
-# six loops, up to the limit of pairs; and how much stack it needs on programs at the limits of the language. It is no part of
+# six loops, up to the limit of pairs; how much stack it needs on programs at the limits of the language; and how long an edit,
+# a step back and a step forward take in `ped session`, and how much memory a change keeps. It is no part of
 # the gate, and needs GNU time and awk. docs/PERFORMANCE.md says how to read the figures.
 #
 # usage: tools/bench.sh [RUNS]      of so many runs (5 where it isn't said) the least counts
@@ -232,6 +233,42 @@ done
 awk '{ if (NR == 1 || $3 < least) least = $3; if ($3 > most) most = $3 }
     END { printf "greatest to least time per statement: %.2f\n", most / least }' "$work/figures"
 
+# Commands of each kind, again and again, with no more bytes than this; and one edit with so many bytes of text.
+all_commands() {
+    awk -v size="$1" 'BEGIN {
+        text = "source\ndeps\ndeps 3\nshow\nprint\nadvise 2\nreplace 1 2\n      K = 1\n.\ninsert 4\n      K = 2\n      K = 3\n.\n"
+        text = text "delete 1 2\ninterchange 1\nreverse 1\nskew 1 -2\nstrip 1 16\npeel 1 first\npeel 1 last\ndistribute 1\n"
+        text = text "fuse 1\nexpand 1 T\nprivatise 1 T\nparallel 1\nserial 1\nreject 1 A\nundo\nredo\nrun 1 2 3\nraces\ntested\n"
+        for (total = length(text); total <= size; total += length(text)) printf "%s", text
+    }'
+}
+one_edit() {
+    awk -v size="$1" 'BEGIN {
+        line = "          A(I,J) = A(I-1,J)+A(I,J-1)\n"
+        printf "replace 1 1\n"
+        for (total = length(line); total <= size; total += length(line)) printf "%s", line
+        printf ".\n"
+    }'
+}
+printf '\n%14s %10s %10s %10s\n' script bytes items ns/byte
+rm -f -- "$work/figures"
+while read -r kind size; do
+    "$kind" "$size" >"$work/script"
+    times=$((67108864 / size))
+    bytes=$(wc -c <"$work/script")
+    items=$("$program" script "$work/script" 1)
+    awk -v kind="$kind" -v bytes="$bytes" -v items="${items#script }" -v times="$times" \
+        -v seconds="$(least '%U %S' script "$work/script" "$times")" \
+        -v no_seconds="$(least '%U %S' script "$work/script" 0)" 'BEGIN {
+            printf "%14s %10d %10d %10.2f\n", kind, bytes, items, (seconds - no_seconds) * 1e9 / times / bytes
+        }'
+done <<'END'
+all_commands 65536
+all_commands 262144
+all_commands 1048576
+one_edit 921600
+END
+
 # Of each test so many calls that they take some seconds.
 printf '\n%14s %10s\n' test ns/call
 while read -r test times; do
@@ -343,3 +380,49 @@ for program in many_references deep_blocks; do
     "$ped" show "$work/$program.f" >"$work/shown" || head -n 3 -- "$work/shown" >&2
     printf '%16s %10d\n' "$program" "$(least_stack "$work/$program.f")"
 done
+
+# The least of the runs' sums of what GNU time writes in this format, for a session of a script on a program.
+least_session() {
+    local best='' i
+    for ((i = 0; i < runs; i++)); do
+        command time -f "$1" -o "$work/figure" "$ped" session "$2" "$3" >/dev/null || true
+        best=$(awk -v best="$best" '{ sum = $1 + $2; print (best == "" || sum < best) ? sum : best }' "$work/figure")
+    done
+    printf '%s\n' "$best"
+}
+
+# So many edits, each of which puts the first line in its own place; and behind one of them, so often a step back and forward.
+edits() {
+    awk -v n="$1" -v line="$2" 'BEGIN { for (k = 0; k < n; k++) printf "replace 1 1\n%s\n.\n", line }'
+}
+moves() {
+    edits 1 "$2"
+    awk -v n="$1" 'BEGIN { for (k = 0; k < n; k++) printf "undo\nredo\n" }'
+}
+array_line='      INTEGER A(100,100)'
+printf '\n%10s %10s %12s %12s\n' statements pairs us/edit us/move
+while read -r statements pairs times; do
+    file=$work/two-$statements.f
+    two_deep "$statements" >"$file"
+    edits 1 "$array_line" >"$work/one"
+    edits "$((times + 1))" "$array_line" >"$work/edits"
+    moves 20000 "$array_line" >"$work/moves"
+    awk -v statements="$statements" -v pairs="$pairs" -v times="$times" \
+        -v one="$(least_session '%U %S' "$file" "$work/one")" \
+        -v edits="$(least_session '%U %S' "$file" "$work/edits")" \
+        -v moves="$(least_session '%U %S' "$file" "$work/moves")" 'BEGIN {
+            printf "%10d %10d %12.1f %12.3f\n", statements, pairs, (edits - one) * 1e6 / times, (moves - one) * 1e6 / 40000
+        }'
+done <<'END'
+14 980 1000
+45 10125 100
+141 99405 10
+END
+
+# A program of 4,000 statements without references, whose changes keep its tree, its names and its text.
+awk 'BEGIN { print "      INTEGER K"; for (k = 0; k < 4000; k++) print "      K = 1"; print "      END" }' >"$work/large.f"
+edits 1 '      INTEGER K' >"$work/one"
+edits 1001 '      INTEGER K' >"$work/edits"
+awk -v one="$(least_session '%U %S' "$work/large.f" "$work/one")" -v edits="$(least_session '%U %S' "$work/large.f" "$work/edits")" \
+    -v one_peak="$(least_session %M "$work/large.f" "$work/one")" -v peak="$(least_session %M "$work/large.f" "$work/edits")" \
+    'BEGIN { printf "an edit of 4,000 statements: %.2f ms, and %.0f KiB kept for a change\n", edits - one, (peak - one_peak) / 1000 }'

@@ -1,6 +1,6 @@
 //! Does one of ped's works so many times, for `tools/bench.sh` to measure: cuts the lines of a file into
-//! statements, prints a program of so many statements, looks up its names, calls a dependence test, or runs a program. Nothing
-//! is promised of it: it prints how much came out, and times nothing itself.
+//! statements or a script into commands, prints a program of so many statements, looks up its names, calls a dependence
+//! test, or runs a program. Nothing is promised of it: it prints how much came out, and times nothing itself.
 #![tactic(auto)]
 
 mod dependence_tests;
@@ -12,6 +12,7 @@ use dependence_tests::excluded;
 use ped_fits::fits;
 use ped_lines::statements;
 use ped_print::source_pane;
+use ped_script::commands;
 use ped_symbols::symbols_of;
 use programs::{named_program, program};
 use runs::run;
@@ -24,7 +25,7 @@ fn main(rt: HostRuntime) -> anyhow::Result<ExitCode> {
     let words: Vec<String> = env::args(&rt)?.skip(1).collect(alloc)?;
     let [work, what, times] = words.as_slice() else {
         println!(rt;
-            "usage: ped_bench cut FILE TIMES | print STATEMENTS TIMES | names STATEMENTS TIMES | test NAME TIMES | run FILE DATA"
+            "usage: ped_bench cut FILE TIMES | script FILE TIMES | print STATEMENTS TIMES | names STATEMENTS TIMES | test NAME TIMES | run FILE DATA"
         )?;
         return Ok(ExitCode::from(2));
     };
@@ -38,6 +39,9 @@ fn main(rt: HostRuntime) -> anyhow::Result<ExitCode> {
     let count = if work.as_str() == "cut" {
         let text = fs::read(&rt, what.as_str())?;
         cut(alloc, &text, times)? as u64
+    } else if work.as_str() == "script" {
+        let text = fs::read(&rt, what.as_str())?;
+        commands_of(alloc, &text, times)? as u64
     } else if work.as_str() == "names" {
         names(alloc, what.parse::<u64>()?, times)? as u64
     } else if work.as_str() == "test" {
@@ -54,6 +58,15 @@ fn cut(alloc: Global, text: &[u8], times: u64) -> anyhow::Result<usize> {
     let mut count = 0;
     for _i in 0..times {
         count = statements(alloc, text)?.statements.len();
+    }
+    Ok(count)
+}
+
+/// How many items a script has.
+fn commands_of(alloc: Global, text: &[u8], times: u64) -> anyhow::Result<usize> {
+    let mut count = 0;
+    for _i in 0..times {
+        count = commands(alloc, text)?.len();
     }
     Ok(count)
 }

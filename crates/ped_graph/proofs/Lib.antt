@@ -3,3 +3,4 @@ mod Known
 pub mod OnePane
 mod Places
 mod Selecting
+mod Standing

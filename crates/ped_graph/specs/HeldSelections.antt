@@ -1,11 +1,15 @@
--- Contracts of private functions alone speak of how dependences are selected by what a graph holds of statements (this project).
-use Rattle.std.specs.Prelude.{ℕ, ◌-◌, List, slice_index_or, Bool, ◌&&◌, ◌||◌, ◌==◌, if◌then◌else◌}
+-- Contracts of private functions alone speak of which statements are there and how dependences are selected, by what a graph holds of statements (this project).
+use Rattle.std.specs.Prelude.{ℕ, ◌-◌, List, length, slice_index_or, nat_lt, Bool, false, ◌&&◌, ◌||◌, ◌==◌, if◌then◌else◌}
 use Rattle.ped_edges.specs.Edges.{Edge}
 use Rattle.ped_graph.specs.DependencePane.{is_in, is_level, is_in_body}
 
 -- how many numbered statements the statement with this number has, where these are the numbers of all statements; 0 where it isn't there (this project)
 abbrev pub extent_held : List ℕ → ℕ → ℕ
 extent_held extents number = if number == 0 then 0 else slice_index_or extents (number - 1) 0
+
+-- a statement has this number, where these are the numbers of all statements: statements count from 1 (this project)
+abbrev pub has_number : List ℕ → ℕ → Bool
+has_number extents number = if number == 0 then false else nat_lt (number - 1) (length extents)
 
 -- the source or the sink is the statement with this number, which has so many statements, or stands in it (this project)
 abbrev pub touches : ℕ → ℕ → Edge → Bool

@@ -1,7 +1,8 @@
 //! The dependence graph of a program.
 
-ghost use Rattle.std.specs.Prelude.{◌≡◌, ◌+◌, ◌≤◌, List, Some, map, length, All, IfOk, OnOk};
+ghost use Rattle.std.specs.Prelude.{◌≡◌, ◌+◌, ◌≤◌, List, Some, is_some, map, length, All, IfOk, OnOk};
 ghost use Rattle.ped_tree.specs.Tree.{ProgramTree};
+ghost use Rattle.ped_tree.specs.Numbering.{statement_with, statements_count};
 ghost use Rattle.ped_tree.specs.Views.{program_tree};
 ghost use Rattle.ped_symbols.specs.NameRefusals.{IsValid};
 ghost use Rattle.ped_symbols.specs.Kinds.{table_of};
@@ -14,7 +15,7 @@ ghost use Rattle.ped_graph.specs.Held.{held_of};
 
 use crate::edges::all_edges;
 use crate::extents::extents;
-use crate::selections::{extent_of, keep_carried_in, keep_touching};
+use crate::selections::{extent_of, has_number, keep_carried_in, keep_touching};
 use crate::testing::{TestedPair, test_all};
 use ped_base::{Bytes, NoMemory};
 use ped_constants::Consts;
@@ -70,6 +71,21 @@ impl<L: Ledger> Graph<L> {
         ensures { (t : ProgramTree) → self.now ≡ held_of t → result ≡ pair_count (references t) }
     {
         self.pairs.len() as u64
+    }
+
+    /// How many numbered statements the program has.
+    pub fn statement_count(&self) -> u64
+        ensures { (t : ProgramTree) → self.now ≡ held_of t → result ≡ statements_count t.body }
+    {
+        let extents: &[u32] = &self.extents;
+        extents.len() as u64
+    }
+
+    /// Whether the program has a statement with this number; they count from 1.
+    pub fn has_statement(&self, number: u32) -> bool
+        ensures { (t : ProgramTree) → self.now ≡ held_of t → result ≡ is_some (statement_with number t) }
+    {
+        has_number(&self.extents, number)
     }
 
     /// The dependences of the program, in the order of the pane.

@@ -1,4 +1,4 @@
-//! Which dependences belong to a statement, and which to a level of a loop.
+//! Which statements are there, and which dependences belong to one, and which to a level of a loop.
 
 ghost use Rattle.std.specs.Prelude.{◌≡◌, filter};
 ghost use Rattle.ped_edges.specs.CodeEdges.{edge_of};
@@ -18,6 +18,16 @@ pub fn extent_of(extents: &[u32], number: u32) -> u32
         Some(extent) => *extent,
         None => 0,
     }
+}
+
+/// Whether there is a statement with this number.
+pub fn has_number(extents: &[u32], number: u32) -> bool
+    ensures { result ≡ Held.has_number extents.now number }
+{
+    if number == 0 {
+        return false;
+    }
+    number as usize - 1 < extents.len()
 }
 
 /// Keeps the dependences whose source or sink is a statement with so many statements, or stands in it.

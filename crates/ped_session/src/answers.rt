@@ -1,9 +1,11 @@
 //! The items of a script, answered one behind another.
 
-ghost use Rattle.std.specs.Prelude.{◌≡◌, ◌+◌, ◌≤◌, IfOk};
+ghost use Rattle.std.specs.Prelude.{◌≡◌, ◌+◌, ◌≤◌, Some, IfOk, OnOk};
 ghost use Rattle.ped_session.specs.States.{State};
 ghost use Rattle.ped_session.specs.Scripts as Spec;
-ghost use Rattle.ped_session.specs.Scripts.{AnswersItems};
+ghost use Rattle.ped_session.specs.Scripts.{AnswersItem, AnswersItems};
+ghost use Rattle.ped_session.specs.Replies as Replies;
+ghost use Rattle.ped_session.specs.Adding.{added, Adds};
 
 use crate::replies::Reply;
 use crate::scripts::{bad_command_row, reply_text};
@@ -44,10 +46,20 @@ pub fn answer_items<L: Ledger>(
     for item in items {
         match &item.command {
             Some(command) => answer_command(alloc, session, item.line, command, input, &mut answered, steps)?,
-            None => add_bad_command(alloc, item.line, &mut answered)?,
+            None => answer_bad_command(alloc, item.line, &mut answered)?,
         }
     }
     Ok(answered)
+}
+
+/// Answers a line that is no command.
+fn answer_bad_command(alloc: Global, line: u64, answered: &mut Answered) -> Result<(), NoMemory>
+    ensures { OnOk result (answered.new ≡ added answered.old (Spec.bad_command_said line)) }
+{
+    let row = bad_command_row(alloc, line)?;
+    answered.bytes.extend_from_slice(row.as_slice())?;
+    answered.refused = true;
+    Ok(())
 }
 
 /// Answers the command on this line.
@@ -60,10 +72,24 @@ fn answer_command<L: Ledger>(
     answered: &mut Answered,
     steps: &mut Steps<L>,
 ) -> Result<(), NoMemory>
+    ensures answers { OnOk result (Adds (λ said. Spec.AnswersCommand line (Some command.now) input.now session.old said session.new) answered.old answered.new steps.old steps.new) }
+    ensures least { steps.old ≤ steps.new }
+    ensures most { (said : Spec.Said) (next : State) → Spec.AnswersCommand line (Some command.now) input.now session.old said next → steps.new ≤ steps.old + said.tests }
 {
     let reply = session.apply(alloc, command, input, steps)?;
     let text = reply_text(alloc, line, &reply)?;
     answered.bytes.extend_from_slice(text.as_slice())?;
-    answered.refused = answered.refused || is_refused(&reply);
+    answered.refused |= is_refused(&reply);
     Ok(())
+}
+
+/// Whether the command is refused.
+fn is_refused(reply: &Reply) -> bool
+    ensures { result ≡ Replies.is_refused reply.now }
+{
+    match reply {
+        Reply::Refused(_) => return true,
+        Reply::Changed => return false,
+        Reply::Shown(_) => return false,
+    }
 }

@@ -2,6 +2,7 @@
 //! the past and future sources with what changes between them. The definitions stand in `specs/`.
 #![tactic(auto)]
 
+mod answers;
 mod blocks;
 mod changes;
 mod editing;
@@ -14,6 +15,7 @@ mod showing;
 mod splices;
 mod versions;
 
+pub use answers::{Answered, answer_items};
 pub use changes::Change;
 pub use laws::{
     moves_restore_each_other, one_answer, one_step, refused_changes_nothing, sources_are_printed,

@@ -1,5 +1,5 @@
 -- A file is read, and the rest is served behind it: so the file and the rest are served.
-use Rattle.std.proofs.Common.{◌≡◌, ◌≢◌, ◌⊎◌, ℕ, ◌<◌, ◌≤◌, Bool, true, false, List, [], ◌∷◌, length, Option, Some, None, refl, sym, ap, ◌∙◌, subst, inl, inr, arith}
+use Rattle.std.proofs.Common.{◌≡◌, ◌≢◌, ◌⊎◌, ℕ, ◌<◌, ◌≤◌, Bool, List, [], ◌∷◌, length, Option, Some, None, refl, sym, ◌∙◌, subst, inl, inr, arith}
 use Rattle.std.specs.Prelude.{MatchOption, MatchBool, nat_lt}
 use Rattle.std.proofs.lemmas.Bool.{le-ltb, lt-ltb}
 use Rattle.ped_io.specs.Outside.{Contents, content, IsHeld, Rose}
@@ -7,7 +7,7 @@ use Rattle.ped_io.specs.declared.loading.LoadError.{LoadError}
 use Rattle.ped_io.specs.declared.loading.LoadError.TheVariants as load
 use Rattle.ped.specs.declared.answering.Status.{Status}
 use Rattle.ped.specs.declared.answering.Status.TheVariants.{Done, SomeRefused, BadWords, ReadFault, WriteFault, ProgramRefused, NoMemory, TooLong}
-use Rattle.ped.specs.Answer.{Input, IsOneOf, IsHeldWithin, IsTooLong, HoldsTooMany, CannotRead, MayGive, AnswersInput, IsShown, IsSession, Sends, IsJust, cannot_read_line, too_long_line}
+use Rattle.ped.specs.Answer.{Input, IsHeldWithin, IsTooLong, CannotRead, MayGive, AnswersInput, IsShown, IsSession, Sends}
 use Rattle.ped.specs.TestCounts.{TestsInput, Ticks, IsUntested}
 use Rattle.ped.specs.Serving.{Call, HasFailed, SinkFailed, Served, SaysUnread, unread_status}
 use Rattle.ped.proofs.Counting.{idle_ticks}

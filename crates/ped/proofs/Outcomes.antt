@@ -1,5 +1,5 @@
 -- Outcomes of writing, and how those of a part are those of the whole.
-use Rattle.std.proofs.Common.{◌≡◌, ◌⊎◌, ℕ, ◌<◌, ◌≤◌, Bool, true, false, List, [], ◌∷◌, ◌++◌, Option, Some, None, take, drop, refl, sym, ap, ◌∙◌, subst, inl, inr, arith}
+use Rattle.std.proofs.Common.{◌≡◌, ◌⊎◌, ℕ, Bool, true, false, List, [], ◌∷◌, ◌++◌, Option, Some, None, take, drop, refl, sym, ◌∙◌, subst, inl, inr, arith}
 use Rattle.std.proofs.lemmas.List.{take-append-drop}
 use Rattle.ped_io.specs.Outside.{Contents, Rose}
 use Rattle.ped_io.specs.declared.writing.PutFault.{PutFault}
@@ -14,7 +14,7 @@ use Rattle.ped_script.specs.Items.{commands_of}
 use Rattle.ped_session.specs.States.{State, opened}
 use Rattle.ped_session.specs.Scripts.{Said, AnswersItems}
 use Rattle.ped.specs.Refusals.{refused_line}
-use Rattle.ped.specs.Answer.{Request, Input, inputs_of, IsOneOf, CannotRead, MayGive, MayAnswer, Answers, IsFrontOfAnswer, IsOutcome, IsShown, IsSession, AnswersScript, IsJust, ShowsTree, usage_line}
+use Rattle.ped.specs.Answer.{Request, Input, inputs_of, IsOneOf, CannotRead, MayAnswer, Answers, IsFrontOfAnswer, IsOutcome, IsShown, IsSession, AnswersScript, IsJust, ShowsTree, usage_line}
 use Rattle.ped.specs.Serving.{AnswersFrom, session_status}
 
 module _ (A B : Status → List ℕ → Type 0) (weaker : (s : Status) (b : List ℕ) → A s b → B s b) where

@@ -1,5 +1,5 @@
 -- What a call reads, gives and counts where files are read in order. Contracts of private functions alone speak of it (this project).
-use Rattle.std.specs.Prelude.{◌≡◌, ◌≢◌, ◌⊎◌, ◌≤◌, ℕ, List, [], ◌∷◌, Bool, true, false, Option, Some, None, option_map, ⊤}
+use Rattle.std.specs.Prelude.{◌≡◌, ◌≢◌, ◌≤◌, ℕ, List, Bool, true, false, Option, Some, None, option_map}
 use Rattle.ped_io.specs.Outside.{Contents, IsHeld, Rose}
 use Rattle.ped_io.specs.declared.loading.LoadError.{LoadError}
 use Rattle.ped_io.specs.declared.loading.LoadError.TheVariants as load
@@ -7,7 +7,7 @@ use Rattle.ped_script.specs.Items.{commands_of}
 use Rattle.ped_session.specs.States.{State}
 use Rattle.ped_session.specs.Scripts.{Said, AnswersItems}
 use Rattle.ped.specs.declared.answering.Status.{Status}
-use Rattle.ped.specs.declared.answering.Status.TheVariants.{Done, SomeRefused, BadWords, ReadFault, WriteFault, ProgramRefused, NoMemory, TooLong}
+use Rattle.ped.specs.declared.answering.Status.TheVariants.{Done, SomeRefused, BadWords, ReadFault, WriteFault, NoMemory, TooLong}
 use Rattle.ped.specs.declared.asking.Asked.{Asked}
 use Rattle.ped.specs.declared.asking.Asked.TheVariants.{Show, Session}
 use Rattle.ped.specs.Answer.{Request, show, session, Input, inputs_of, IsOneOf, HoldsTooMany, MayGive, Answers, Sends, IsJust, cannot_read_line, too_long_line}

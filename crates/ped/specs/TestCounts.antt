@@ -1,5 +1,5 @@
 -- How many dependence tests an answer takes, and what a call may have made of them: each ordered pair of references is tested once (Allen and Kennedy, section 3.2; this project).
-use Rattle.std.specs.Prelude.{◌≡◌, ◌⊎◌, ℕ, ◌+◌, ◌≤◌, List, [], length, nat_lt, Option, Some, None, MatchOption, MatchBool, ⊤}
+use Rattle.std.specs.Prelude.{◌≡◌, ℕ, ◌+◌, ◌≤◌, List, [], length, nat_lt, Option, Some, None, MatchOption, MatchBool, ⊤}
 use Rattle.ped_io.specs.Outside.{Contents, content}
 use Rattle.ped_tree.specs.Tree.{ProgramTree}
 use Rattle.ped_grammar.specs.Refusal.{Finding}

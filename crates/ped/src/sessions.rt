@@ -1,7 +1,7 @@
 //! Sessions: the files are read in order, and then the script is answered on the program of its text.
 
 ghost use Rattle.std.specs.Prelude.{◌≡◌, ◌⊎◌, ◌∷◌, [], ◌+◌, ◌≤◌, ℕ, List, Some, None, IfOk, option_map};
-ghost use Rattle.ped_io.specs.Outside.{Contents, Rose};
+ghost use Rattle.ped_io.specs.Outside.{Rose};
 ghost use Rattle.ped_script.specs.Items.{commands_of};
 ghost use Rattle.ped_session.specs.States.{State};
 ghost use Rattle.ped_session.specs.Scripts.{Said, AnswersItems};

@@ -1,7 +1,7 @@
 //! Programs that are shown: both panes, or why the program's text is refused.
 
-ghost use Rattle.std.specs.Prelude.{◌≡◌, ◌⊎◌, ◌+◌, ◌≤◌, ℕ, List, Some, None};
-ghost use Rattle.ped_io.specs.Outside.{Contents, Rose};
+ghost use Rattle.std.specs.Prelude.{◌≡◌, ◌⊎◌, ◌≤◌, ℕ, List, Some, None};
+ghost use Rattle.ped_io.specs.Outside.{Rose};
 ghost use Rattle.ped_tree.specs.Views.{program_tree};
 ghost use Rattle.ped_symbols.specs.NameRefusals.{IsValid};
 ghost use Rattle.ped_symbols.specs.Kinds.{table_of};

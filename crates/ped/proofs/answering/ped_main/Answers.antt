@@ -1,8 +1,7 @@
 use Rattle.std.proofs.Common.{ℕ, List, Option, Err, ap, subst, sym}
 use Rattle.ped_io.specs.Outside.{Rose}
-use Rattle.ped.specs.declared.answering.Status.{Status}
 use Rattle.ped.specs.declared.answering.Status.TheVariants.{BadWords}
-use Rattle.ped.specs.Answer.{Request, Input, inputs_of, IsOneOf, HoldsTooMany, MayAnswer, Answers, IsJust, IsOutcome, usage_line}
+use Rattle.ped.specs.Answer.{Request, inputs_of, MayAnswer, Answers, IsJust, usage_line}
 use Rattle.ped.specs.TestCounts.{Tests}
 use Rattle.ped.specs.Serving.{Call, Served}
 use Rattle.ped.proofs.Counting.{idle_writing}

@@ -1,4 +1,4 @@
-use Rattle.std.proofs.Common.{◌≡◌, ℕ, List, [], Option, Some, None, refl, ap, sym, subst, option_map, Bor}
+use Rattle.std.proofs.Common.{ℕ, List, [], Option, refl, ap, sym, subst, option_map, Bor}
 use Rattle.ped.specs.Answer.{data_inputs, AnswersData, IsSession}
 use Rattle.ped.specs.TestCounts.{TestsData, TestsSession}
 use Rattle.ped.specs.Serving.{Call, Served}

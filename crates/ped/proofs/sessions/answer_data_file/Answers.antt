@@ -1,4 +1,4 @@
-use Rattle.std.proofs.Common.{◌≡◌, ◌≤◌, ℕ, List, [], ◌∷◌, length, Some, Err, refl, ap, sym, subst, ◌∙◌}
+use Rattle.std.proofs.Common.{◌≤◌, ℕ, List, [], length, Some, Err, refl, ap, sym, subst, ◌∙◌}
 use Rattle.ped.specs.Answer.{data_input, IsSession}
 use Rattle.ped.specs.TestCounts.{TestsSession}
 use Rattle.ped.specs.Serving.{Call}

@@ -1,4 +1,4 @@
-use Rattle.std.proofs.Common.{◌≡◌, ◌≤◌, ℕ, List, [], ◌∷◌, length, Some, Err, refl, ap, sym, subst, ◌∙◌}
+use Rattle.std.proofs.Common.{◌≤◌, ℕ, List, length, Some, Err, refl, ap, sym, subst, ◌∙◌}
 use Rattle.std.specs.Prelude.{option_map}
 use Rattle.ped.specs.Answer.{source_input, data_inputs, AnswersData, IsSession}
 use Rattle.ped.specs.TestCounts.{TestsData, TestsSession}

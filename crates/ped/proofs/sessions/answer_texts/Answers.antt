@@ -1,4 +1,4 @@
-use Rattle.std.proofs.Common.{ℕ, ◌≡◌, ◌∙◌, sym, subst}
+use Rattle.std.proofs.Common.{ℕ, ◌∙◌, sym, subst}
 use Rattle.ped_grammar.specs.RefusalViews.{finding_of}
 use Rattle.ped_valid.specs.Refusals.{IsRefusalOf}
 use Rattle.ped.specs.declared.answering.Status.TheVariants.{ProgramRefused}

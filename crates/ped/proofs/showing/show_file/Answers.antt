@@ -1,4 +1,4 @@
-use Rattle.std.proofs.Common.{◌≡◌, ◌≤◌, ℕ, List, [], ◌∷◌, length, Some, Err, refl, ap, sym, subst, ◌∙◌}
+use Rattle.std.proofs.Common.{◌≤◌, ℕ, List, [], length, Some, Err, refl, ap, sym, subst, ◌∙◌}
 use Rattle.ped.specs.Answer.{source_input, IsShown}
 use Rattle.ped.specs.TestCounts.{TestsText}
 use Rattle.ped.specs.Serving.{Call}

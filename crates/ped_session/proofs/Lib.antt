@@ -4,7 +4,7 @@ mod Examples
 mod HistoryMoves
 mod LinesLeft
 mod Moves
-mod OneAnswer
+pub mod OneAnswer
 mod OneFinding
 pub mod OneStep
 mod PresentProgram

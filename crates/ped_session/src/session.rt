@@ -7,7 +7,8 @@ ghost use Rattle.ped_refs.specs.References.{references, pair_count};
 ghost use Rattle.ped_tree.specs.Views.{program_tree};
 ghost use Rattle.ped_symbols.specs.NameRefusals.{IsValid};
 ghost use Rattle.ped_symbols.specs.Kinds.{table_of};
-ghost use Rattle.ped_valid.specs.Validity.{ReadsValid};
+ghost use Rattle.ped_grammar.specs.Refusal.{Finding};
+ghost use Rattle.ped_valid.specs.Validity.{ReadsValid, RefusesText};
 ghost use Rattle.ped_valid.specs.Refusals.{IsRefusalOf};
 ghost use Rattle.ped_edges.specs.Edges as plain;
 ghost use Rattle.ped_graph.specs.Dependences.{AreEdges};
@@ -67,6 +68,7 @@ impl<L: Ledger> Session<L> {
         ensures refused { IfErr result (IsRefusalOf text.now) }
         ensures ticks { OnOk result ((t : ProgramTree) → ReadsValid text.now t → steps.new ≡ steps.old + pair_count (references t)) }
         ensures untested { IfErr result (λ e. e ≢ OpenRefusal.NoMemory → steps.new ≡ steps.old) }
+        ensures none { (f : Finding) → RefusesText text.now f → steps.new ≡ steps.old }
         ensures least { steps.old ≤ steps.new }
         ensures most { (t : ProgramTree) → ReadsValid text.now t → steps.new ≤ steps.old + pair_count (references t) }
     {

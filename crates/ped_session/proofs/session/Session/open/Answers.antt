@@ -3,6 +3,7 @@ use Rattle.ped_tree.specs.Tree.{ProgramTree}
 use Rattle.ped_tree.specs.Views.{program_tree}
 use Rattle.ped_refs.specs.References.{references, pair_count}
 use Rattle.ped_session.proofs.Accepted.{one_valid}
+use Rattle.ped_session.proofs.OneStep.{not_both}
 use Rattle.ped_session.proofs.session.Session.open.Goals as goal
 
 pub returns-in-Ok-clause-ticks : goal.returns-in-Ok-clause-ticks
@@ -19,3 +20,9 @@ pub returns-in-Err-clause-most : goal.returns-in-Err-clause-most
 returns-in-Err-clause-most g c t reads =
     let same = one_valid c.args.text.now (program_tree c.in_ok-program.program.program) t c.in_ok-program.ensures.tree reads in
     subst (λ (u : ProgramTree). c.begin.new.steps ≤ c.args.steps.now + pair_count (references u)) same c.begin.ensures.most
+
+pub returns-in-Ok-clause-none : goal.returns-in-Ok-clause-none
+returns-in-Ok-clause-none g c = λ f refused. absurd (not_both c.args.text.now (program_tree c.in_ok-program.program.program) f c.in_ok-program.ensures.tree refused)
+
+pub returns-in-Err-clause-none : goal.returns-in-Err-clause-none
+returns-in-Err-clause-none g c = λ f refused. absurd (not_both c.args.text.now (program_tree c.in_ok-program.program.program) f c.in_ok-program.ensures.tree refused)

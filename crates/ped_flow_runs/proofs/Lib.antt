@@ -1,0 +1,12 @@
+pub mod Cells
+pub mod Seeing
+pub mod Coverings
+pub mod Leaves
+pub mod Reading
+pub mod Located
+pub mod Unstopped
+pub mod Names
+pub mod Exits
+pub mod Looping
+pub mod Covered
+pub mod TripReads

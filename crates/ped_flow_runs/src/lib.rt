@@ -1,0 +1,9 @@
+//! Laws between the paths of a program and the acts of its runs. Each function here does nothing; its contract is the
+//! law. A step that moves, drops or adds writes of a scalar asks paths whether it may; these laws tell what it learns.
+#![tactic(auto)]
+
+mod covering;
+mod iterations;
+
+pub use covering::paths_cover_runs;
+pub use iterations::{contained_unread, unexposed_unneeded};

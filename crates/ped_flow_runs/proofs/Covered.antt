@@ -50,7 +50,7 @@ mutual
       let k = or_none (has_stop t) (some_stop rest) h in
       λ i. no_stop_in_loop t k.0 i || none_in_loops rest k.1 i
 
-or_true : (b : Bool) → (b || true) ≡ true
+pub or_true : (b : Bool) → (b || true) ≡ true
 or_true true = refl
 or_true false = refl
 

@@ -6,7 +6,12 @@ pub mod Reading
 pub mod Located
 pub mod Unstopped
 pub mod Names
-pub mod Exits
+pub mod Leavings
 pub mod Looping
 pub mod Covered
 pub mod TripReads
+pub mod Standing
+pub mod Resting
+pub mod Apart
+pub mod Behind
+pub mod DeadExits

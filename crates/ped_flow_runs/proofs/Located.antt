@@ -202,7 +202,7 @@ module _ (p : Setting) (constants : List (List ℕ)) (x : List ℕ) (c : Cell) (
     copy_deeper true g = inr (record { statement = n; from = omega arith; to = omega arith; number = j; rest = []; is = g ∙ ap (Private x) copies })
     copy_deeper false g = inl g
 
-    cell_round : (c ≡ cell_of (frame e j ∷ S) x) ⊎ IsDeeper p x c (frame e j ∷ S) (n + 1) (statements_count b) → (c ≡ cell_of S x) ⊎ IsDeeper p x c S n (statements_count b + 1)
+    pub cell_round : (c ≡ cell_of (frame e j ∷ S) x) ⊎ IsDeeper p x c (frame e j ∷ S) (n + 1) (statements_count b) → (c ≡ cell_of S x) ⊎ IsDeeper p x c S n (statements_count b + 1)
     cell_round (inl g) = copy_deeper (is_among x (frame e j).private) g
     cell_round (inr d) = inr (record {
       statement = n; from = omega arith; to = omega arith; number = j; rest = turn_of p d.statement d.number ∷ d.rest;

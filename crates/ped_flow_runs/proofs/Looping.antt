@@ -27,7 +27,7 @@ use Rattle.ped_flow_runs.proofs.Seeing.{is_seen, limits_seen}
 use Rattle.ped_flow_runs.proofs.Coverings.{covers_nothing, covers_append, covers_at_end, covers_others, covers_elsewhere, covers_reads, needed_parts, written_parts, holds_append, not_so}
 use Rattle.ped_flow_runs.proofs.Names.{cleared, copied_among}
 use Rattle.ped_flow_runs.proofs.Reading.{exit_unread, maybe_exit_unread}
-use Rattle.ped_flow_runs.proofs.Exits.{unread_unneeded, exit_writes, cleared_lost, cleared_elsewhere, IsLeft, left_behind, exit_leaves}
+use Rattle.ped_flow_runs.proofs.Leavings.{unread_unneeded, exit_writes, cleared_lost, cleared_elsewhere, IsLeft, left_behind, exit_leaves}
 use Rattle.ped_flow_runs.proofs.Unstopped.{IsUnstopped}
 
 or_right : (a b : Bool) → b ≡ true → (a || b) ≡ true
@@ -109,13 +109,13 @@ module _ (x : List ℕ) (S : Scope) (at : Place) (n : ℕ) (h : Head) (b : StmtT
     start_away : overwrites x (start_events n h b) ≡ false
     start_away = cleared_elsewhere x n (copied h b) uncopied
 
-    exit_away : Covers x (cell_of S x) (exit_events n h b) []
+    pub exit_away : Covers x (cell_of S x) (exit_events n h b) []
     exit_away = covers_elsewhere x (cell_of S x) (exit_events n h b) (cleared_elsewhere x n (cleared h b) uncleared)
 
-    exit_others : Covers x (cell_of S x) [] (exit_touches e S)
+    pub exit_others : Covers x (cell_of S x) [] (exit_touches e S)
     exit_others = covers_others x (cell_of S x) (exit_touches e S) (unread_unneeded (cell_of S x) (exit_touches e S) (exit_unread (cell_of S x) e S)) (exit_writes S x h b e head inner ∙ away)
 
-    maybe_exit_others : (m : ℕ) → Covers x (cell_of S x) [] (exit_when_none m e S)
+    pub maybe_exit_others : (m : ℕ) → Covers x (cell_of S x) [] (exit_when_none m e S)
     maybe_exit_others m = by (m == 0)
       where
         by : (z : Bool) → Covers x (cell_of S x) [] (if z then exit_touches e S else [])
@@ -144,14 +144,14 @@ module _ (x : List ℕ) (S : Scope) (at : Place) (n : ℕ) (h : Head) (b : StmtT
     behind_others : (K : Kind) (ts : List Touch) → Covers x (cell_of S x) [] ts → (q : List Event) (ys : List Touch) → Covering K q ys → Covering K q (ts ++ ys)
     behind_others K ts g q ys k = (k.0, covers_append x (cell_of S x) [] q ts ys g k.1)
 
-    turns_go : (m k : ℕ) (s : Store) → Goes (Covering (Times m OneTrip)) (touches_of (turns m k e S at body s).acts) (turns m k e S at body s).ending
+    pub turns_go : (m k : ℕ) (s : Store) → Goes (Covering (Times m OneTrip)) (touches_of (turns m k e S at body s).acts) (turns m k e S at body s).ending
     turns_go zero k s = ([], (refl, covers_nothing x (cell_of S x)))
     turns_go (suc m) k s =
         goes_then (Covering OneTrip) (Covering (Times m OneTrip)) (Covering (Times (suc m) OneTrip)) (body (frame e k) s).acts (body (frame e k) s).ending (does (ended_turn m) at (exit_when_none m e S) (turns m (k + 1) e S at body)) (one_more m) (trip_goes k s)
         (λ u. goes_act (Covering (Times m OneTrip)) (Covering (Times m OneTrip)) (ended_turn m) at (exit_when_none m e S) (turns m (k + 1) e S at body) u (behind_others (Times m OneTrip) (exit_when_none m e S) (maybe_exit_others m))
         (turns_go m (k + 1) (store_behind (exit_when_none m e S) u)))
 
-    parallel_go : (m k : ℕ) (s : Store) → Goes (Covering (Times m OneTrip)) (touches_of (parallel_turns m k e body s).acts) (parallel_turns m k e body s).ending
+    pub parallel_go : (m k : ℕ) (s : Store) → Goes (Covering (Times m OneTrip)) (touches_of (parallel_turns m k e body s).acts) (parallel_turns m k e body s).ending
     parallel_go zero k s = ([], (refl, covers_nothing x (cell_of S x)))
     parallel_go (suc m) k s =
         goes_then (Covering OneTrip) (Covering (Times m OneTrip)) (Covering (Times (suc m) OneTrip)) (body (frame e k) s).acts (body (frame e k) s).ending (parallel_turns m (k + 1) e body) (one_more m) (trip_goes k s)
@@ -160,7 +160,7 @@ module _ (x : List ℕ) (S : Scope) (at : Place) (n : ℕ) (h : Head) (b : StmtT
     any_times : (m : ℕ) (q : List Event) (ts : List Touch) → Covering (Times m OneTrip) q ts → Covering (AnyTimes OneTrip) q ts
     any_times m q ts k = ((m, k.0), k.1)
 
-    closing : (m : ℕ) (p q : List Event) (xs ys : List Touch) → Covering (Times m OneTrip) p xs → Covering (Just []) q ys → Covering (AnyTimes OneTrip) (p ++ q) (xs ++ ys)
+    pub closing : (m : ℕ) (p q : List Event) (xs ys : List Touch) → Covering (Times m OneTrip) p xs → Covering (Just []) q ys → Covering (AnyTimes OneTrip) (p ++ q) (xs ++ ys)
     closing m p q xs ys g k =
         let same : p ++ q ≡ p = ap (λ (z : List Event). p ++ z) k.0 ∙ append-nil p in
         ((m, subst (Times m OneTrip) (sym same) g.0), covers_append x (cell_of S x) p q xs ys g.1 k.1)
@@ -207,13 +207,13 @@ module _ (x : List ℕ) (S : Scope) (at : Place) (n : ℕ) (h : Head) (b : StmtT
         (λ q g. ((start_events n h b, q, refl, refl, g.0), unneeded j u))
         (body_goes (cell_of (frame e j ∷ S) x) (touches_of (body (frame e j) u).acts) (body (frame e j) u).ending (unstopped (frame e j) u) (covered (frame e j) u))
 
-    exit_is_left : IsLeft x (cell_of S x) h b (exit_touches e S ++ [])
+    pub exit_is_left : IsLeft x (cell_of S x) h b (exit_touches e S ++ [])
     exit_is_left = subst (IsLeft x (cell_of S x) h b) (sym (append-nil (exit_touches e S))) (exit_leaves S x h b e head inner leaves)
 
     one_more_left : (m : ℕ) (p q : List Event) (xs ys : List Touch) → Unneeded OneTrip p xs → Leaving (Times m OneTrip) q ys → Leaving (Times (suc m) OneTrip) (p ++ q) (xs ++ ys)
     one_more_left m p q xs ys g k = ((p, q, refl, g.0, k.0), left_behind x (cell_of S x) h b xs ys g.1 k.1)
 
-    turns_left : (m k : ℕ) (s : Store) → Goes (Leaving (Times (suc m) OneTrip)) (touches_of (turns (suc m) k e S at body s).acts) (turns (suc m) k e S at body s).ending
+    pub turns_left : (m k : ℕ) (s : Store) → Goes (Leaving (Times (suc m) OneTrip)) (touches_of (turns (suc m) k e S at body s).acts) (turns (suc m) k e S at body s).ending
     turns_left zero k s =
         goes_then (Unneeded OneTrip) (Leaving (Times 0 OneTrip)) (Leaving (Times 1 OneTrip)) (body (frame e k) s).acts (body (frame e k) s).ending (does (ended_turn 0) at (exit_when_none 0 e S) (turns 0 (k + 1) e S at body)) (one_more_left 0) (trip_unneeded k s)
         (λ u. ([], (refl, exit_is_left)))
@@ -222,7 +222,7 @@ module _ (x : List ℕ) (S : Scope) (at : Place) (n : ℕ) (h : Head) (b : StmtT
         (λ u. subst (λ (z : List Touch). Goes (Leaving (Times (suc m) OneTrip)) (touches_of (does (ended_turn (suc m)) at z (turns (suc m) (k + 1) e S at body) u).acts) (does (ended_turn (suc m)) at z (turns (suc m) (k + 1) e S at body) u).ending) (sym (no_exit m e S))
         (goes_act (Leaving (Times (suc m) OneTrip)) (Leaving (Times (suc m) OneTrip)) (ended_turn (suc m)) at [] (turns (suc m) (k + 1) e S at body) u (λ q ys g. g) (turns_left m (k + 1) u)))
 
-    parallel_unneeded : (m k : ℕ) (s : Store) → Goes (Unneeded (Times m OneTrip)) (touches_of (parallel_turns m k e body s).acts) (parallel_turns m k e body s).ending
+    pub parallel_unneeded : (m k : ℕ) (s : Store) → Goes (Unneeded (Times m OneTrip)) (touches_of (parallel_turns m k e body s).acts) (parallel_turns m k e body s).ending
     parallel_unneeded zero k s = ([], (refl, refl))
     parallel_unneeded (suc m) k s =
         goes_then (Unneeded OneTrip) (Unneeded (Times m OneTrip)) (Unneeded (Times (suc m) OneTrip)) (body (frame e k) s).acts (body (frame e k) s).ending (parallel_turns m (k + 1) e body)
@@ -231,7 +231,7 @@ module _ (x : List ℕ) (S : Scope) (at : Place) (n : ℕ) (h : Head) (b : StmtT
         neither : (xs ys : List Touch) → needed_by xs (cell_of S x) ≡ false → needed_by ys (cell_of S x) ≡ false → needed_by (xs ++ ys) (cell_of S x) ≡ false
         neither xs ys g l = not_so (needed_by (xs ++ ys) (cell_of S x)) (λ o. elim (needed_parts xs ys (cell_of S x) o) [ inl i ↦ (let z : false ≡ true = sym g ∙ i in untrue z) | inr i ↦ (let z : false ≡ true = sym l ∙ i.1 in untrue z) ])
 
-    closing_left : (m : ℕ) (p q : List Event) (xs ys : List Touch) → Unneeded (Times m OneTrip) p xs → Leaving (Just []) q ys → Leaving (AnyTimes OneTrip) (p ++ q) (xs ++ ys)
+    pub closing_left : (m : ℕ) (p q : List Event) (xs ys : List Touch) → Unneeded (Times m OneTrip) p xs → Leaving (Just []) q ys → Leaving (AnyTimes OneTrip) (p ++ q) (xs ++ ys)
     closing_left m p q xs ys g k =
         let same : p ++ q ≡ p = ap (λ (z : List Event). p ++ z) k.0 ∙ append-nil p in
         ((m, subst (Times m OneTrip) (sym same) g.0), left_behind x (cell_of S x) h b xs ys g.1 k.1)

@@ -27,7 +27,7 @@ use Rattle.ped_acts.proofs.SameCells.{cell_itself}
 use Rattle.ped_flow_runs.specs.Covering.{is_cell_of, IsReadOn, Covers, AreCovered, some_stop}
 use Rattle.ped_flow_runs.proofs.Coverings.{not_so}
 use Rattle.ped_flow_runs.proofs.Names.{cleared, copied_among}
-use Rattle.ped_flow_runs.proofs.Exits.{cleared_elsewhere}
+use Rattle.ped_flow_runs.proofs.Leavings.{cleared_elsewhere}
 use Rattle.ped_flow_runs.proofs.Reading.{is_read, reads_cell}
 use Rattle.ped_flow_runs.proofs.Located.{IsLocated, all_located}
 use Rattle.ped_flow_runs.proofs.Covered.{none_in_loops, iteration_unneeded, all_covered}

@@ -3,7 +3,9 @@
 #![tactic(auto)]
 
 mod covering;
+mod exits;
 mod iterations;
 
 pub use covering::paths_cover_runs;
+pub use exits::{dead_exits, exits_are_followed};
 pub use iterations::{contained_unread, unexposed_unneeded};

@@ -142,7 +142,7 @@ module _ (x : List ℕ) (c : Cell) where
       by true h r = r h
       by false h r = r h
 
-  seen_unwritten : (k : ℕ) (seen : List Seen) → written_by (numbered k seen) c ≡ false
+  pub seen_unwritten : (k : ℕ) (seen : List Seen) → written_by (numbered k seen) c ≡ false
   seen_unwritten k [] = refl
   seen_unwritten k (cell_seen d content ∷ seen) = seen_unwritten (suc k) seen
   seen_unwritten k (index_seen d v ∷ seen) = seen_unwritten k seen

@@ -27,7 +27,7 @@ use Rattle.ped_flow_runs.proofs.Coverings.{covers_nothing, covers_append, covers
 use Rattle.ped_acts.proofs.SameCells.{is_cell}
 
 -- the cell of what is stored is that of the left side
-stored_cell : {A : Type 0} (f : Cell → ℤ → A) (d : Cell) (r : Result ℤ ℕ) (w : A) → (given r >>> λ n. given (Ok (f d n))).result ≡ Ok w → (n : ℤ) × (f d n ≡ w)
+pub stored_cell : {A : Type 0} (f : Cell → ℤ → A) (d : Cell) (r : Result ℤ ℕ) (w : A) → (given r >>> λ n. given (Ok (f d n))).result ≡ Ok w → (n : ℤ) × (f d n ≡ w)
 stored_cell f d (Ok n) w h = let e : f d n ≡ w = cc in (n, e)
 stored_cell f d (Err k) w h = absurd cc
 
@@ -43,7 +43,7 @@ value_result : (g : Names) (left : ExprTree) (s : Store) (seen : List Seen) (r :
 value_result g left s seen (Ok v) w h = target_result (target g left s).seen (target g left s).result v w h
 value_result g left s seen (Err k) w h = absurd cc
 
-assigned_target : (g : Names) (left right : ExprTree) (s : Store) (w : Stored) → (assigned g left right s).result ≡ Ok w → (target g left s).result ≡ Ok w.cell
+pub assigned_target : (g : Names) (left right : ExprTree) (s : Store) (w : Stored) → (assigned g left right s).result ≡ Ok w → (target g left s).result ≡ Ok w.cell
 assigned_target g left right s w h = value_result g left s (value g right s).seen (value g right s).result w h
 
 -- what a left side assigns

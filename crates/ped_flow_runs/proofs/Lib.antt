@@ -15,3 +15,6 @@ pub mod Resting
 pub mod Apart
 pub mod Behind
 pub mod DeadExits
+pub mod Holding
+pub mod Writing
+pub mod Entering

@@ -1,11 +1,10 @@
 -- Copies that belong to different iterations are different cells.
-use Rattle.std.proofs.Common.{◌≡◌, ℕ, suc, ◌+◌, ◌≤◌, ◌<◌, List, [], ◌∷◌, ◌++◌, Bool, true, false, ◌||◌, Option, Some, None, if◌then◌else◌, refl, sym, ap, subst, ◌∙◌, ◌⊎◌, inl, inr, append_assoc, arith}
-use Rattle.ped_base.specs.Lists.{is_same_text, is_among}
-use Rattle.ped_tree.specs.Tree.{Head, StmtTrees}
-use Rattle.ped_tree.specs.Numbering.{statements_count}
+use Rattle.std.proofs.Common.{◌≡◌, ℕ, ◌+◌, List, [], ◌∷◌, ◌++◌, Bool, true, if◌then◌else◌, sym, ap, ◌∙◌, ◌⊎◌, inl, inr, append_assoc, arith}
+use Rattle.ped_base.specs.Lists.{is_among}
+use Rattle.ped_tree.specs.Tree.{StmtTrees}
 use Rattle.ped_store.specs.Cells.{Cell, Scalar, Element, Private, In, Out, Iteration}
-use Rattle.ped_store.specs.Acts.{Turn, iterations_of}
-use Rattle.ped_eval.specs.Scopes.{Frame, Scope, Setting, turns_of, cell_of}
+use Rattle.ped_store.specs.Acts.{iterations_of}
+use Rattle.ped_eval.specs.Scopes.{Scope, Setting, turns_of, cell_of}
 use Rattle.ped_eval.specs.Loops.{Entered, copied_names, frame}
 use Rattle.std.proofs.lemmas.List.{map-append}
 use Rattle.ped_flow_runs.specs.Exits.{IsOneToOne}

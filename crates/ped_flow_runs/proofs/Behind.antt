@@ -1,15 +1,15 @@
 -- What runs do behind an exit of a DO, and the paths from it.
-use Rattle.std.proofs.Common.{◌≡◌, ℕ, zero, suc, ◌+◌, ◌≤◌, ◌<◌, List, [], ◌∷◌, ◌++◌, Bool, true, false, ◌&&◌, ◌||◌, ◌==◌, Option, Some, None, Result, Ok, Err, if◌then◌else◌, refl, sym, ap, subst, ◌∙◌, ◌⊎◌, inl, inr, append_assoc, arith, eqb, eqb-true}
+use Rattle.std.proofs.Common.{◌≡◌, ℕ, zero, suc, ◌+◌, ◌≤◌, List, [], ◌∷◌, ◌++◌, Bool, true, false, ◌&&◌, ◌||◌, ◌==◌, Option, Some, None, Result, Ok, Err, if◌then◌else◌, refl, sym, ap, subst, ◌∙◌, ◌⊎◌, inl, inr, arith, eqb-true}
 use Rattle.std.specs.List.{list_any}
 use Rattle.std.proofs.lemmas.List.Folds.{list_any-append}
 use Rattle.std.proofs.lemmas.Bool.{and_parts}
-use Rattle.ped_base.specs.Lists.{is_same_text, is_among}
-use Rattle.ped_tree.specs.Tree.{ExprTree, CondTree, ItemTree, Head, StmtTree, StmtTrees, Assign, If, Do, Print, Read, Stop, Comment, no_stmts, more_stmts, ProgramTree}
+use Rattle.ped_base.specs.Lists.{is_among}
+use Rattle.ped_tree.specs.Tree.{CondTree, Head, StmtTree, StmtTrees, Assign, If, Do, Print, Read, Stop, Comment, no_stmts, more_stmts, ProgramTree}
 use Rattle.ped_tree.specs.Accesses.{constant_names}
 use Rattle.ped_tree.specs.Numbering.{numbered, all_numbered, statement_with, statement_count, statements_count}
 use Rattle.ped_store.specs.Cells.{Cell}
 use Rattle.ped_store.specs.Stores.{Store}
-use Rattle.ped_store.specs.Acts.{Touch, Place, Step, did, entered, ended_turn, closed, faulted, Act, store_behind}
+use Rattle.ped_store.specs.Acts.{Touch, Place, did, entered, ended_turn, closed, Act, store_behind}
 use Rattle.ped_acts.specs.Fitting.{touches_of}
 use Rattle.ped_acts.specs.Sets.{written_by, needed_by}
 use Rattle.ped_eval.specs.Scopes.{Frame, Scope, Setting, names_in, place_of, cell_of}
@@ -18,21 +18,20 @@ use Rattle.ped_eval.specs.Evaluation.{Seen}
 use Rattle.ped_eval.specs.Values.{truth}
 use Rattle.ped_eval.specs.Statements.{assigned, assignment_touches, printed_line, print_touches, Taking, reading}
 use Rattle.ped_eval.specs.Loops.{Limits, limits, Entered, entered_with, frame, exit_touches, exit_when_none, entry_touches}
-use Rattle.ped_eval.specs.Runs.{Ending, going, stopped, failed, Run, followed_by, then_run, on_value, does, nothing_done, run_taking, turns, run_entered, run_from_entry, run_do, run, run_all}
+use Rattle.ped_eval.specs.Runs.{Ending, going, stopped, failed, Run, followed_by, then_run, on_value, does, nothing_done, run_taking, turns, run_entered, run_from_entry, run, run_all}
 use Rattle.ped_flow.specs.Events.{Event, start_events, exit_events, overwrites}
 use Rattle.ped_flow.specs.PathSets as paths
 use Rattle.ped_flow.specs.PathSets.{Kind, Just, InTurn, AnyTimes, Paths, in_turn, either}
 use Rattle.ped_flow.specs.Paths.{all_paths, at_once, paths_behind, all_paths_behind}
-use Rattle.ped_flow.specs.Questions.{LoopOf}
 use Rattle.ped_flow.proofs.Truths.{untrue, or_split, or_none}
 use Rattle.ped_flow.proofs.EventLaws.{overwrites-append, reads_first-front, reads_first-back}
 use Rattle.ped_acts.proofs.Reorderings.{touches_append}
 use Rattle.ped_flow_runs.specs.Covering.{is_cell_of, IsReadOn, Covers, AreCovered, some_stop, some_stops_in_loop, stops_in_loop}
-use Rattle.ped_flow_runs.specs.Exits.{is_exit, leaves, IsOneToOne, IsIterationOf, AreIterationsOf, Follows}
+use Rattle.ped_flow_runs.specs.Exits.{is_exit, leaves, IsOneToOne, AreIterationsOf, Follows}
 use Rattle.ped_flow_runs.proofs.Cells.{cell_named}
 use Rattle.ped_flow_runs.proofs.Coverings.{needed_parts, written_parts, not_so}
-use Rattle.ped_flow_runs.proofs.Reading.{reads_cell, needed_read}
-use Rattle.ped_flow_runs.proofs.Located.{IsLocated, IsDeeper, cell_round, all_located}
+use Rattle.ped_flow_runs.proofs.Reading.{needed_read}
+use Rattle.ped_flow_runs.proofs.Located.{IsDeeper, cell_round, all_located}
 use Rattle.ped_flow_runs.proofs.Apart.{deeper_not_own, deeper_apart}
 use Rattle.ped_flow_runs.proofs.Unstopped.{IsUnstopped, all_unstopped}
 use Rattle.ped_flow_runs.proofs.Covered.{none_in_loops, all_covered}
@@ -231,7 +230,7 @@ module _ (p : Setting) (one : IsOneToOne p.number) (t : ProgramTree) (x : List �
         join w mid g (going v) us r = (
           g.followed.0 ++ (r.0 ++ exit_events n h b),
           (g.followed.0, r.0 ++ exit_events n h b, refl, g.followed.1, (r.0, exit_events n h b, refl, r.1.0, refl)),
-          follows_append x (cell_of S x) (cell_of (frame E k ∷ S) x) (cell_of g.scope x) g.followed.0 (r.0 ++ exit_events n h b) (touches_of mid) us g.followed.2 r.1.1
+          follows_append x (cell_of S x) (cell_of (frame E k ∷ S) x) (cell_of g.scope x) g.followed.0 (r.0 ++ exit_events n h b) (touches_of mid) us g.followed.2 r.1.1,
         )
         join w mid g (stopped v) us r = absurd r
         join w mid g (failed fault i) us r = tt
@@ -247,7 +246,7 @@ module _ (p : Setting) (one : IsOneToOne p.number) (t : ProgramTree) (x : List �
               (join w r.0 g (rest_run parallel E S (place_of p n S) Body m (k + 1) w).ending (touches_of (rest_run parallel E S (place_of p n S) Body m (k + 1) w).acts)
               (rest_followed p Constants x other S n h b seen m0 unstopping (cell_of g.scope x) (cell_named g.scope x) m (k + 1) k (omega arith)
               (λ f w. all_covered p Constants x other b (n + 1) (f ∷ S) w (none_in_loops b unstopping)) parallel w g.cell)))
-            )
+              )
           | inr r ↦ later w r.0 r.1
         ]
         go acts (stopped w) v ih eq = absurd v
@@ -301,7 +300,7 @@ module _ (p : Setting) (one : IsOneToOne p.number) (t : ProgramTree) (x : List �
       → ((u : Store) (fs : List Act) → (run_b u).acts ≡ fs ++ a ∷ behind → IsBehind p t x l B S (n + 1 + ca) cb a (touches_of behind) (run_b u).ending)
       → (on_value (place_of p n S) (truth (names_in p S) condition s).seen (truth (names_in p S) condition s).result (λ seen holds. does did (place_of p n S) (evaluation.numbered 1 seen) (if holds then run_a else run_b) s)).acts ≡ front ++ a ∷ behind
       → IsBehind p t x l (either A B) S n (ca + cb + 1) a (touches_of behind)
-        (on_value (place_of p n S) (truth (names_in p S) condition s).seen (truth (names_in p S) condition s).result (λ seen holds. does did (place_of p n S) (evaluation.numbered 1 seen) (if holds then run_a else run_b) s)).ending
+      (on_value (place_of p n S) (truth (names_in p S) condition s).seen (truth (names_in p S) condition s).result (λ seen holds. does did (place_of p n S) (evaluation.numbered 1 seen) (if holds then run_a else run_b) s)).ending
   if_behind S n condition ca cb A B run_a run_b s front behind of_a of_b eq = go (truth (names_in p S) condition s).seen (truth (names_in p S) condition s).result front eq
     where
       part : (holds : Bool) (u : Store) (fs : List Act) → ((if holds then run_a else run_b) u).acts ≡ fs ++ a ∷ behind → IsBehind p t x l (either A B) S n (ca + cb + 1) a (touches_of behind) ((if holds then run_a else run_b) u).ending
@@ -331,11 +330,14 @@ module _ (p : Setting) (one : IsOneToOne p.number) (t : ProgramTree) (x : List �
         let whole : touches_of behind ≡ touches_of r.0 ++ touches_of (next u).acts = ap touches_of r.2 ∙ touches_append r.0 (next u).acts in
         widen S n k n (k + more) (in_turn P B) (either (in_turn P B) A) (touches_of behind) (next u).ending (omega arith) (omega arith) (λ own c f. either_first (in_turn P B) A x own c (touches_of behind) (next u).ending f)
         (record {
-          scope = g.scope; place = g.place; iterations = g.iterations; cell = g.cell;
+          scope = g.scope;
+          place = g.place;
+          iterations = g.iterations;
+          cell = g.cell;
           followed = subst (λ (z : List Touch). AreFollowed (in_turn P B) x (cell_of S x) (cell_of g.scope x) z (next u).ending) (sym whole)
               (join (cell_of g.scope x) (touches_of r.0) (touches_of (next u).acts) g.followed (rest_cell (cell_of g.scope x) (cell_named g.scope x) g.cell) (next u).ending (covers u));
         })
-      )
+        )
     | inr r ↦ widen S (n + k) more n (k + more) A (either (in_turn P B) A) (touches_of behind) (next u).ending (omega arith) (omega arith) (λ own c f. either_second (in_turn P B) A x own c (touches_of behind) (next u).ending f) (second u r.0 r.1)
   ]
     where
@@ -361,7 +363,7 @@ module _ (p : Setting) (one : IsOneToOne p.number) (t : ProgramTree) (x : List �
     where
       go : (seen : List Seen) (r : Result Limits ℕ) → (on_value (place_of p n S) seen r (λ seen l. run_from_entry seen (entered_with p n h b seen l) S (place_of p n S) (λ f. run_all p b (n + 1) (f ∷ S)) s)).acts ≡ front ++ a ∷ behind
           → IsBehind p t x l (paths_behind Constants l (Do h b) n) S n (statements_count b + 1) a (touches_of behind)
-            (on_value (place_of p n S) seen r (λ seen l. run_from_entry seen (entered_with p n h b seen l) S (place_of p n S) (λ f. run_all p b (n + 1) (f ∷ S)) s)).ending
+          (on_value (place_of p n S) seen r (λ seen l. run_from_entry seen (entered_with p n h b seen l) S (place_of p n S) (λ f. run_all p b (n + 1) (f ∷ S)) s)).ending
       go seen (Ok m0) e = from_entry_behind S iterations n h b is unstopping inner seen m0 s front behind e
       go seen (Err f) e = simple n _ front behind (no_act (p.number n == p.number l)) e
 

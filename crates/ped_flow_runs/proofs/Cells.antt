@@ -1,11 +1,10 @@
 -- The cells that scalars stand for.
-use Rattle.std.proofs.Common.{◌≡◌, ℕ, suc, ◌+◌, ◌≤◌, ◌<◌, List, [], ◌∷◌, ◌++◌, Bool, true, false, ◌&&◌, length, map, if◌then◌else◌, refl, sym, ap, subst, ◌∙◌, arith, append_assoc, ◌⊎◌, inl, inr}
-use Rattle.std.proofs.lemmas.List.{map-append, length-append}
+use Rattle.std.proofs.Common.{◌≡◌, ℕ, List, [], ◌∷◌, Bool, true, false, if◌then◌else◌, sym, ap, subst, ◌∙◌}
 use Rattle.ped_base.specs.Lists.{is_same_text, is_among}
 use Rattle.ped_store.specs.Cells.{Cell, Scalar, Element, Private, In, Out, Iteration, same_cell}
-use Rattle.ped_store.specs.Acts.{Turn, iterations_of}
-use Rattle.ped_eval.specs.Scopes.{Frame, Scope, turns_of, cell_of}
-use Rattle.ped_acts.proofs.SameCells.{cell_is, cell_itself, other_cell}
+use Rattle.ped_store.specs.Acts.{iterations_of}
+use Rattle.ped_eval.specs.Scopes.{Scope, turns_of, cell_of}
+use Rattle.ped_acts.proofs.SameCells.{cell_is, cell_itself}
 use Rattle.ped_flow.proofs.Truths.{untrue}
 use Rattle.ped_flow_runs.specs.Covering.{is_cell_of}
 

@@ -1,32 +1,32 @@
 -- A path of statements covers their acts.
-use Rattle.std.proofs.Common.{◌≡◌, ℕ, zero, suc, ◌+◌, List, [], ◌∷◌, ◌++◌, Bool, true, false, ◌&&◌, ◌||◌, Option, Some, None, Result, Ok, Err, if◌then◌else◌, refl, sym, ap, subst, ◌∙◌, ◌⊎◌, inl, inr, append_assoc}
+use Rattle.std.proofs.Common.{◌≡◌, ℕ, ◌+◌, List, [], ◌∷◌, ◌++◌, Bool, true, false, ◌||◌, Result, Ok, Err, if◌then◌else◌, refl, sym, ap, subst, ◌∙◌, inl, inr, append_assoc}
 use Rattle.ped_base.specs.Lists.{is_same_text, is_among}
 use Rattle.ped_tree.specs.Tree.{CondTree, Head, StmtTree, StmtTrees, Assign, If, Do, Print, Read, Stop, Comment, no_stmts, more_stmts}
 use Rattle.ped_tree.specs.Numbering.{statement_count, statements_count}
-use Rattle.ped_store.specs.Cells.{Cell, Private, Iteration, In, Out}
+use Rattle.ped_store.specs.Cells.{Cell, Private, Iteration}
 use Rattle.ped_store.specs.Stores.{Store}
-use Rattle.ped_store.specs.Acts.{Touch, Place, did, Act, store_behind, iterations_of}
+use Rattle.ped_store.specs.Acts.{Touch, did, Act, store_behind, iterations_of}
 use Rattle.ped_acts.specs.Fitting.{touches_of}
 use Rattle.ped_acts.specs.Sets.{needed_by}
 use Rattle.ped_eval.specs.Scopes.{Frame, Scope, Setting, names_in, place_of, turns_of, cell_of}
 use Rattle.ped_eval.specs.Evaluation.{Seen, numbered}
 use Rattle.ped_eval.specs.Values.{truth}
-use Rattle.ped_eval.specs.Loops.{Limits, limits, Entered, entered_with, copied_names, frame}
-use Rattle.ped_eval.specs.Runs.{Ending, going, stopped, failed, Run, followed_by, on_value, does, run_if, run_from_entry, run_do, run, run_all}
-use Rattle.ped_flow.specs.Events.{Event, scalars_in, scalars_in_cond, own_events, copied, reads_of}
+use Rattle.ped_eval.specs.Loops.{Limits, limits, entered_with, copied_names, frame}
+use Rattle.ped_eval.specs.Runs.{Ending, going, stopped, failed, Run, followed_by, on_value, does, run_if, run_from_entry, run, run_all}
+use Rattle.ped_flow.specs.Events.{Event, scalars_in, scalars_in_cond, own_events, copied}
 use Rattle.ped_flow.specs.PathSets as paths
 use Rattle.ped_flow.specs.PathSets.{Paths, in_turn, either}
 use Rattle.ped_flow.specs.Paths.{paths, all_paths}
 use Rattle.ped_flow.specs.Questions.{all_reads_outside}
-use Rattle.ped_flow.proofs.Truths.{untrue, or_split, or_none}
+use Rattle.ped_flow.proofs.Truths.{or_none}
 use Rattle.ped_acts.proofs.Reorderings.{touches_append}
 use Rattle.ped_flow_runs.specs.Covering.{Covers, AreCovered, has_stop, some_stop, stops_in_loop, some_stops_in_loop}
 use Rattle.ped_flow_runs.proofs.Cells.{cell_named}
 use Rattle.ped_flow_runs.proofs.Seeing.{is_seen, truth_seen, limits_seen}
 use Rattle.ped_flow_runs.proofs.Coverings.{covers_nothing, covers_append, covers_reads, not_so}
 use Rattle.ped_flow_runs.proofs.Leaves.{assignment_covered, print_covered, read_covered}
-use Rattle.ped_flow_runs.proofs.Names.{cleared, copied_among, no_copy_within}
-use Rattle.ped_flow_runs.proofs.Reading.{reads_cell, needed_read}
+use Rattle.ped_flow_runs.proofs.Names.{copied_among, no_copy_within}
+use Rattle.ped_flow_runs.proofs.Reading.{needed_read}
 use Rattle.ped_flow_runs.proofs.Located.{IsLocated, IsDeeper, turn_of, untold_round, copies, all_located}
 use Rattle.ped_flow_runs.proofs.Unstopped.{all_unstopped}
 use Rattle.ped_flow_runs.proofs.Looping.{Goes, loop_away, loop_left}
@@ -96,13 +96,13 @@ module _ (p : Setting) (constants : List (List ℕ)) (x : List ℕ) (other : is_
   if_covered : (S : Scope) (n : ℕ) (condition : CondTree) (a b : StmtTrees) (A B : Paths) (run_a run_b : Store → Run) (s : Store)
       → ((u : Store) → AreCovered A x (cell_of S x) (touches_of (run_a u).acts) (run_a u).ending) → ((u : Store) → AreCovered B x (cell_of S x) (touches_of (run_b u).acts) (run_b u).ending)
       → AreCovered (in_turn (paths.going (own_events constants n (If condition a b))) (either A B)) x (cell_of S x)
-        (touches_of (run_if (names_in p S) (place_of p n S) condition run_a run_b s).acts) (run_if (names_in p S) (place_of p n S) condition run_a run_b s).ending
+      (touches_of (run_if (names_in p S) (place_of p n S) condition run_a run_b s).acts) (run_if (names_in p S) (place_of p n S) condition run_a run_b s).ending
   if_covered S n condition a b A B run_a run_b s h k = go (truth (names_in p S) condition s).seen (truth (names_in p S) condition s).result (λ g. (truth_seen p S constants x (cell_of S x) (cell_named S x) other s condition g).among)
     where
       go : (seen : List Seen) (r : Result Bool ℕ) → (is_seen (cell_of S x) seen ≡ true → is_among x (scalars_in_cond constants condition) ≡ true)
           → AreCovered (in_turn (paths.going (own_events constants n (If condition a b))) (either A B)) x (cell_of S x)
-            (touches_of (on_value (place_of p n S) seen r (λ seen holds. does did (place_of p n S) (numbered 1 seen) (if holds then run_a else run_b) s)).acts)
-            (on_value (place_of p n S) seen r (λ seen holds. does did (place_of p n S) (numbered 1 seen) (if holds then run_a else run_b) s)).ending
+          (touches_of (on_value (place_of p n S) seen r (λ seen holds. does did (place_of p n S) (numbered 1 seen) (if holds then run_a else run_b) s)).acts)
+          (on_value (place_of p n S) seen r (λ seen holds. does did (place_of p n S) (numbered 1 seen) (if holds then run_a else run_b) s)).ending
       go seen (Ok holds) saw =
           covered_behind x (cell_of S x) (own_events constants n (If condition a b)) (either A B) (numbered 1 seen) (touches_of ((if holds then run_a else run_b) (store_behind (numbered 1 seen) s)).acts) ((if holds then run_a else run_b) (store_behind (numbered 1 seen) s)).ending
           (covers_reads x (cell_of S x) n 1 (scalars_in_cond constants condition) seen saw)
@@ -149,7 +149,7 @@ module _ (p : Setting) (constants : List (List ℕ)) (x : List ℕ) (other : is_
 
       loop : (seen : List Seen) (l : Limits) (handled : Bool) → (is_same_text x h.variable || is_among x (copied h b)) ≡ handled → (is_seen (cell_of S x) seen ≡ true → is_among x (scalars_in constants h.first ++ scalars_in constants h.last) ≡ true)
           → AreCovered (paths constants (Do h b) n) x (cell_of S x)
-            (touches_of (run_from_entry seen (entered_with p n h b seen l) S (place_of p n S) (λ f. run_all p b (n + 1) (f ∷ S)) s).acts) (run_from_entry seen (entered_with p n h b seen l) S (place_of p n S) (λ f. run_all p b (n + 1) (f ∷ S)) s).ending
+          (touches_of (run_from_entry seen (entered_with p n h b seen l) S (place_of p n S) (λ f. run_all p b (n + 1) (f ∷ S)) s).acts) (run_from_entry seen (entered_with p n h b seen l) S (place_of p n S) (λ f. run_all p b (n + 1) (f ∷ S)) s).ending
       loop seen l true k saw =
           goes_on _ _ (loop_left x S (place_of p n S) n h b (all_paths constants b (n + 1)) (entered_with p n h b seen l) refl refl (λ f. run_all p b (n + 1) (f ∷ S)) (λ f u. all_unstopped p b (n + 1) (f ∷ S) u unstopping) of_body
           k (iteration_unneeded S n h b seen l k) seen (scalars_in constants h.first ++ scalars_in constants h.last) saw s)
@@ -159,8 +159,8 @@ module _ (p : Setting) (constants : List (List ℕ)) (x : List ℕ) (other : is_
 
       go : (seen : List Seen) (r : Result Limits ℕ) → (is_seen (cell_of S x) seen ≡ true → is_among x (scalars_in constants h.first ++ scalars_in constants h.last) ≡ true)
           → AreCovered (paths constants (Do h b) n) x (cell_of S x)
-            (touches_of (on_value (place_of p n S) seen r (λ seen l. run_from_entry seen (entered_with p n h b seen l) S (place_of p n S) (λ f. run_all p b (n + 1) (f ∷ S)) s)).acts)
-            (on_value (place_of p n S) seen r (λ seen l. run_from_entry seen (entered_with p n h b seen l) S (place_of p n S) (λ f. run_all p b (n + 1) (f ∷ S)) s)).ending
+          (touches_of (on_value (place_of p n S) seen r (λ seen l. run_from_entry seen (entered_with p n h b seen l) S (place_of p n S) (λ f. run_all p b (n + 1) (f ∷ S)) s)).acts)
+          (on_value (place_of p n S) seen r (λ seen l. run_from_entry seen (entered_with p n h b seen l) S (place_of p n S) (λ f. run_all p b (n + 1) (f ∷ S)) s)).ending
       go seen (Ok l) saw = loop seen l (is_same_text x h.variable || is_among x (copied h b)) refl saw
       go seen (Err f) saw = tt
 

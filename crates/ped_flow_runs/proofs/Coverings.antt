@@ -1,10 +1,10 @@
 -- Paths that cover touches: what follows of parts, and of the least parts.
-use Rattle.std.proofs.Common.{◌≡◌, ℕ, suc, ℤ, List, [], ◌∷◌, ◌++◌, Bool, true, false, not, ◌&&◌, ◌||◌, ◌==◌, map, if◌then◌else◌, IsTrue, refl, sym, ap, subst, ◌∙◌, ◌⊎◌, inl, inr, eqb, eqb-true, arith}
+use Rattle.std.proofs.Common.{◌≡◌, ℕ, suc, ℤ, List, [], ◌∷◌, ◌++◌, Bool, true, false, not, ◌&&◌, ◌||◌, if◌then◌else◌, refl, sym, ap, subst, ◌∙◌, ◌⊎◌, inl, inr, eqb, eqb-true, arith}
 use Rattle.std.proofs.lemmas.List.Folds.{list_any-append}
 use Rattle.std.proofs.lemmas.List.{append-nil}
 use Rattle.ped_base.specs.Lists.{is_same_text, is_among}
 use Rattle.ped_store.specs.Cells.{Cell, same_cell}
-use Rattle.ped_store.specs.Stores.{Content, Undefined, Number}
+use Rattle.ped_store.specs.Stores.{Number}
 use Rattle.ped_store.specs.Acts.{Manner, reads, writes, is_told, Touch}
 use Rattle.ped_store.specs.Races.{is_write}
 use Rattle.ped_acts.specs.Sets.{writes_to, written_by, read_first, needed_by}
@@ -15,7 +15,6 @@ use Rattle.ped_flow.specs.Events.{Event, event, reads_of, is_overwriting_of, is_
 use Rattle.ped_flow.proofs.EventLaws.{overwrites-append, reads_first-front, reads_first-back, has_value-append, has_value-kept}
 use Rattle.ped_flow.proofs.Truths.{untrue, or_split, or_none}
 use Rattle.ped_flow_runs.specs.Covering.{is_number, holds_number, IsReadOn, Covers}
-use Rattle.ped_flow_runs.proofs.Cells.{same_itself}
 use Rattle.ped_flow_runs.proofs.Seeing.{is_seen}
 
 -- what is needed by touches and then others

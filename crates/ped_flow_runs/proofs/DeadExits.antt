@@ -1,15 +1,15 @@
 -- What a whole run does behind an exit of a DO.
-use Rattle.std.proofs.Common.{◌≡◌, ℕ, zero, suc, ◌+◌, List, [], ◌∷◌, ◌++◌, Bool, true, false, not, ◌&&◌, ◌||◌, Option, Some, None, IsTrue, if◌then◌else◌, refl, sym, ap, subst, ◌∙◌, ◌⊎◌, inl, inr}
+use Rattle.std.proofs.Common.{◌≡◌, ℕ, List, [], ◌∷◌, ◌++◌, Bool, true, false, not, ◌&&◌, Some, if◌then◌else◌, refl, sym, ap, subst, ◌∙◌, inl, inr}
 use Rattle.std.specs.List.{flat_map}
 use Rattle.ped_base.specs.Lists.{is_among}
-use Rattle.ped_tree.specs.Tree.{Head, StmtTree, StmtTrees, Do, ProgramTree}
+use Rattle.ped_tree.specs.Tree.{Head, Do, ProgramTree}
 use Rattle.ped_tree.specs.Accesses.{constant_names}
 use Rattle.ped_tree.specs.Numbering.{statement_with, statements_count}
 use Rattle.ped_store.specs.Cells.{Cell, Scalar}
 use Rattle.ped_store.specs.Stores.{Store}
-use Rattle.ped_store.specs.Acts.{Touch, Turn, Place, Act}
+use Rattle.ped_store.specs.Acts.{Turn, Place, Act}
 use Rattle.ped_acts.specs.Fitting.{touches_of}
-use Rattle.ped_acts.specs.Sets.{written_by, needed_by, written, needs, wants}
+use Rattle.ped_acts.specs.Sets.{written, needs, wants}
 use Rattle.ped_eval.specs.Scopes.{Setting, Frame, Scope, turns_of, cell_of, place_of}
 use Rattle.ped_eval.specs.Loops.{inner_variables}
 use Rattle.ped_eval.specs.Runs.{Ending, going, stopped, failed, run_all}
@@ -19,11 +19,11 @@ use Rattle.ped_flow.specs.PathSets.{Whole}
 use Rattle.ped_flow.specs.Paths.{paths_from_exit}
 use Rattle.ped_flow.specs.Questions.{saved_in, IsLiveAfter}
 use Rattle.ped_flow.proofs.Truths.{untrue, or_split, and_split, not_true}
-use Rattle.ped_flow_runs.specs.Covering.{IsReadOn, some_stops_in_loop}
-use Rattle.ped_flow_runs.specs.Exits.{leaves, IsOneToOne, IsIterationOf, AreIterationsOf, Follows, IsExit}
+use Rattle.ped_flow_runs.specs.Covering.{some_stops_in_loop}
+use Rattle.ped_flow_runs.specs.Exits.{IsOneToOne, IsIterationOf, AreIterationsOf, Follows, IsExit}
 use Rattle.ped_flow_runs.proofs.Coverings.{not_so}
 use Rattle.ped_flow_runs.proofs.Standing.{whole_stands}
-use Rattle.ped_flow_runs.proofs.Behind.{AreFollowed, IsBehind, all_behind_exit}
+use Rattle.ped_flow_runs.proofs.Behind.{IsBehind, all_behind_exit}
 
 -- lists with one more item at the end
 no_end : {A : Type 0} (x : A) (xs : List A) → [] ≡ xs ++ x ∷ [] → ⊥
@@ -97,5 +97,5 @@ module _ (p : Setting) (one : IsOneToOne p.number) (t : ProgramTree) where
             let why = h parts.0 in
             let z : false ≡ true = sym (not_true (written behind (cell_of S x)) parts.1) ∙ written_behind why.0 why.1 in
             untrue z
-          )
+            )
       ])

@@ -6,11 +6,11 @@ use Rattle.ped_base.specs.Lists.{has_some, is_among}
 use Rattle.ped_tree.specs.Tree.{CondTree, Head, StmtTree, StmtTrees, Assign, If, Do, Print, Read, Stop, Comment, no_stmts, more_stmts, ProgramTree}
 use Rattle.ped_tree.specs.Accesses.{constant_names}
 use Rattle.ped_tree.specs.Numbering.{numbered, all_numbered, statement_with, statement_count, statements_count}
-use Rattle.ped_store.specs.Cells.{Cell, Scalar}
+use Rattle.ped_store.specs.Cells.{Scalar}
 use Rattle.ped_store.specs.Stores.{Store}
 use Rattle.ped_store.specs.Acts.{Touch, Turn, Place, Step, did, entered, ended_turn, closed, faulted, Act, store_behind}
 use Rattle.ped_acts.specs.Fitting.{touches_of, store_after}
-use Rattle.ped_eval.specs.Scopes.{Frame, Scope, Setting, names_in, place_of, turns_of, cell_of}
+use Rattle.ped_eval.specs.Scopes.{Frame, Scope, Setting, names_in, place_of, turns_of}
 use Rattle.ped_eval.specs.Evaluation as evaluation
 use Rattle.ped_eval.specs.Evaluation.{Seen}
 use Rattle.ped_eval.specs.Values.{truth}
@@ -19,7 +19,7 @@ use Rattle.ped_eval.specs.Loops.{Limits, limits, Entered, entered_with, frame, e
 use Rattle.ped_eval.specs.Runs.{Ending, going, stopped, failed, Run, followed_by, on_value, does, nothing_done, run_taking, turns, parallel_turns, run_entered, run_from_entry, run, run_all}
 use Rattle.ped_flow.specs.Events.{Event, own_events, scalars_in_cond}
 use Rattle.ped_flow.specs.PathSets.{Kind, Just, Either, InTurn}
-use Rattle.ped_flow.specs.Paths.{paths, all_paths, ToEntry, paths_before, all_paths_before, paths_to_outermost}
+use Rattle.ped_flow.specs.Paths.{paths, paths_before, all_paths_before, paths_to_outermost}
 use Rattle.ped_flow.specs.Questions.{LoopOf, IsAssignedBefore}
 use Rattle.ped_flow.proofs.Truths.{untrue, or_none}
 use Rattle.ped_acts.proofs.Reorderings.{touches_append}
@@ -194,12 +194,11 @@ module _ (p : Setting) (one : IsOneToOne p.number) (t : ProgramTree) (x : List �
           let act : Act = record { step = did; place = place_of p n []; touches = evaluation.numbered 1 seen } in
           let first : act ≡ f = cc in
           let others : ((if holds then run_a else run_b) (store_behind (evaluation.numbered 1 seen) s)).acts ≡ fs ++ a ∷ behind = cc in
-          let r = part holds (store_behind (evaluation.numbered 1 seen) s) fs others in
-          (
+          let r = part holds (store_behind (evaluation.numbered 1 seen) s) fs others in (
             own_events Constants n (If condition ca cb) ++ r.0,
             (own_events Constants n (If condition ca cb), r.0, refl, refl, r.1),
             subst (λ (z : Act). Covers x (Scalar x) (own_events Constants n (If condition ca cb) ++ r.0) (z.touches ++ touches_of fs)) first
-            (covers_append x (Scalar x) (own_events Constants n (If condition ca cb)) r.0 (evaluation.numbered 1 seen) (touches_of fs) (covers_reads x (Scalar x) n 1 (scalars_in_cond Constants condition) seen saw) r.2)
+                (covers_append x (Scalar x) (own_events Constants n (If condition ca cb)) r.0 (evaluation.numbered 1 seen) (touches_of fs) (covers_reads x (Scalar x) n 1 (scalars_in_cond Constants condition) seen saw) r.2),
           )
 
   list_before : (A B K : Kind) (acts : List Act) (e : Ending) (next : Store → Run) (front behind : List Act)
@@ -213,7 +212,7 @@ module _ (p : Setting) (one : IsOneToOne p.number) (t : ProgramTree) (x : List �
         let g = second u r.0 r.2 in
         let whole : touches_of front ≡ touches_of acts ++ touches_of r.0 = ap touches_of r.1 ∙ touches_append acts r.0 in
         (f.0 ++ g.0, inr (f.0, g.0, refl, f.1, g.1), subst (λ (z : List Touch). Covers x (Scalar x) (f.0 ++ g.0) z) (sym whole) (covers_append x (Scalar x) f.0 g.0 (touches_of acts) (touches_of r.0) f.2 g.2))
-      )
+        )
   ]
   list_before A B K acts (stopped u) next front behind first second done eq = let f = first behind eq in (f.0, inl f.1, f.2)
   list_before A B K acts (failed i n) next front behind first second done eq = let f = first behind eq in (f.0, inl f.1, f.2)

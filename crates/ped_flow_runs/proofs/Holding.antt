@@ -4,12 +4,12 @@ use Rattle.ped_base.specs.Lists.{is_among}
 use Rattle.ped_tree.specs.Tree.{ProgramTree}
 use Rattle.ped_tree.specs.Accesses.{constant_names}
 use Rattle.ped_store.specs.Cells.{Cell, same_cell}
-use Rattle.ped_store.specs.Stores.{Content, Store, put}
+use Rattle.ped_store.specs.Stores.{Content, Store}
 use Rattle.ped_store.specs.Acts.{Manner, reads, writes, is_told, Touch, Act, touched, store_behind}
 use Rattle.ped_store.specs.Races.{is_write}
 use Rattle.ped_acts.specs.Fitting.{touches_of, store_after}
 use Rattle.ped_eval.specs.Scopes.{Setting, Scope, cell_of}
-use Rattle.ped_eval.specs.Runs.{Ending, going, run_all}
+use Rattle.ped_eval.specs.Runs.{going, run_all}
 use Rattle.ped_flow.specs.Questions.{LoopOf, IsAssignedThrough}
 use Rattle.ped_flow_runs.specs.Covering.{is_number, holds_number, AreCovered, some_stops_in_loop}
 use Rattle.ped_flow_runs.proofs.Coverings.{holds_anyhow}

@@ -1,5 +1,5 @@
 -- Statements that are no IF and no DO: their paths cover their acts.
-use Rattle.std.proofs.Common.{◌≡◌, ℕ, suc, ℤ, List, [], ◌∷◌, ◌++◌, Bool, true, false, ◌&&◌, ◌||◌, map, Option, Some, None, Result, Ok, Err, if◌then◌else◌, refl, sym, ap, subst, ◌∙◌, ◌⊎◌, inl, inr, append_assoc}
+use Rattle.std.proofs.Common.{◌≡◌, ℕ, suc, ℤ, List, [], ◌∷◌, ◌++◌, Bool, true, false, ◌&&◌, ◌||◌, map, Option, Some, None, Result, Ok, Err, if◌then◌else◌, refl, sym, ap, subst, ◌∙◌, append_assoc}
 use Rattle.std.specs.List.{flat_map}
 use Rattle.std.proofs.lemmas.List.{append-nil, map-append}
 use Rattle.ped_base.specs.Lists.{is_same_text, is_among}
@@ -9,20 +9,20 @@ use Rattle.ped_store.specs.Cells as tree_cell
 use Rattle.ped_store.specs.Cells.{Cell, In, Out, same_cell}
 use Rattle.ped_store.specs.Stores.{Store, Number, Lines, storable, lines_in, put}
 use Rattle.ped_store.specs.DataLines.{Data, Taken, begun, next_value_of}
-use Rattle.ped_store.specs.Acts.{Touch, Place, did}
+use Rattle.ped_store.specs.Acts.{Place, did}
 use Rattle.ped_acts.specs.Fitting.{touches_of}
 use Rattle.ped_eval.specs.Scopes.{Scope, Setting, Names, names_in, cell_of}
-use Rattle.ped_eval.specs.Evaluation.{Seen, Evaluated, onward, ◌>>>◌, given, numbered, number_behind}
+use Rattle.ped_eval.specs.Evaluation.{Seen, onward, ◌>>>◌, given, numbered, number_behind}
 use Rattle.ped_eval.specs.Values.{value, values, target, element_cell}
-use Rattle.ped_eval.specs.Statements.{Stored, assigned, assignment_touches, write_touch, read_touch, printed_line, print_touches, Taking, having_touched, into_item, with_taken, taking, taking_from, reading, reading_touches}
-use Rattle.ped_eval.specs.Runs.{Run, on_value, does, nothing_done, run_assignment, run_print, run_taking, run_read}
+use Rattle.ped_eval.specs.Statements.{Stored, assigned, assignment_touches, write_touch, read_touch, printed_line, print_touches, into_item, with_taken, taking, taking_from, reading}
+use Rattle.ped_eval.specs.Runs.{on_value, does, nothing_done, run_assignment, run_print, run_taking, run_read}
 use Rattle.ped_flow.specs.Events as events
 use Rattle.ped_flow.specs.Events.{Event, event, reads_of, unless_constant, scalars_in, all_scalars_in, scalars_in_item, left_events, own_events}
 use Rattle.ped_flow.specs.PathSets.{going}
 use Rattle.ped_flow.proofs.Truths.{untrue}
 use Rattle.ped_flow_runs.specs.Covering.{is_cell_of, Covers, AreCovered}
 use Rattle.ped_flow_runs.proofs.Cells.{same_itself, same_is, cell_named, stands_for}
-use Rattle.ped_flow_runs.proofs.Seeing.{is_seen, Saw, scalars_left, element_other, assigned_seen, line_seen, target_seen}
+use Rattle.ped_flow_runs.proofs.Seeing.{is_seen, scalars_left, element_other, assigned_seen, line_seen, target_seen}
 use Rattle.ped_flow_runs.proofs.Coverings.{covers_nothing, covers_append, covers_at_end, covers_other, covers_write, covers_elsewhere, covers_reads}
 use Rattle.ped_acts.proofs.SameCells.{is_cell}
 
@@ -136,19 +136,16 @@ module _ (p : Setting) (S : Scope) (constants : List (List ℕ)) (x : List ℕ) 
       go : (seen : List Seen) (r : Result Stored ℕ) → ((w : Stored) → r ≡ Ok w → (target (names_in p S) left s).result ≡ Ok w.cell)
           → (is_seen (cell_of S x) seen ≡ true → is_among x (scalars_in constants right ++ scalars_left constants left) ≡ true)
           → AreCovered (going (own_events constants n (tree.Assign left right))) x (cell_of S x)
-            (touches_of (on_value at seen r (λ seen w. does did at (assignment_touches seen w) nothing_done s)).acts)
-            (on_value at seen r (λ seen w. does did at (assignment_touches seen w) nothing_done s)).ending
+          (touches_of (on_value at seen r (λ seen w. does did at (assignment_touches seen w) nothing_done s)).acts)
+          (on_value at seen r (λ seen w. does did at (assignment_touches seen w) nothing_done s)).ending
       go seen (Ok w) at_cell saw = (
         reads_of n (scalars_in constants right ++ scalars_left constants left) ++ assigned_events constants n left,
         assign_path n left right,
         covers_at_end x (cell_of S x) _ _ (covers_append x (cell_of S x) _ _ (numbered 1 seen) (write_touch w.cell (Number w.number) (number_behind 1 seen) ∷ [])
-        (covers_reads x (cell_of S x) n 1 (scalars_in constants right ++ scalars_left constants left) seen saw)
-        (left_covers s n (number_behind 1 seen) w.number left w.cell (at_cell w refl)))
+            (covers_reads x (cell_of S x) n 1 (scalars_in constants right ++ scalars_left constants left) seen saw)
+            (left_covers s n (number_behind 1 seen) w.number left w.cell (at_cell w refl))),
       )
       go seen (Err k) at_cell saw = tt
-
-
-
 
   pub print_covered : (at : Place) (n : ℕ) (items : List ItemTree) (s : Store)
       → AreCovered (going (own_events constants n (tree.Print items))) x (cell_of S x) (touches_of (run_print (names_in p S) at items s).acts) (run_print (names_in p S) at items s).ending
@@ -156,16 +153,16 @@ module _ (p : Setting) (S : Scope) (constants : List (List ℕ)) (x : List ℕ) 
     where
       go : (seen : List Seen) (r : Result (List ℕ) ℕ) → (is_seen (cell_of S x) seen ≡ true → is_among x (flat_map (scalars_in_item constants) items) ≡ true)
           → AreCovered (going (own_events constants n (tree.Print items))) x (cell_of S x)
-            (touches_of (on_value at seen r (λ seen line. does did at (print_touches seen line s) nothing_done s)).acts)
-            (on_value at seen r (λ seen line. does did at (print_touches seen line s) nothing_done s)).ending
+          (touches_of (on_value at seen r (λ seen line. does did at (print_touches seen line s) nothing_done s)).acts)
+          (on_value at seen r (λ seen line. does did at (print_touches seen line s) nothing_done s)).ending
       go seen (Ok line) saw = (
         reads_of n (flat_map (scalars_in_item constants) items) ++ [],
         append-nil (reads_of n (flat_map (scalars_in_item constants) items)),
         covers_at_end x (cell_of S x) _ _ (covers_append x (cell_of S x) _ [] (numbered 1 seen) _
-        (covers_reads x (cell_of S x) n 1 (flat_map (scalars_in_item constants) items) seen saw)
-        (covers_append x (cell_of S x) [] [] (read_touch Out (s Out) 0 ∷ []) (write_touch Out (Lines (lines_in (s Out) ++ line ∷ [])) (number_behind 1 seen) ∷ [])
-        (covers_other x (cell_of S x) (read_touch Out (s Out) 0) (not_line x (cell_of S x) (cell_named S x)).1)
-        (covers_other x (cell_of S x) (write_touch Out (Lines (lines_in (s Out) ++ line ∷ [])) (number_behind 1 seen)) (not_line x (cell_of S x) (cell_named S x)).1)))
+            (covers_reads x (cell_of S x) n 1 (flat_map (scalars_in_item constants) items) seen saw)
+            (covers_append x (cell_of S x) [] [] (read_touch Out (s Out) 0 ∷ []) (write_touch Out (Lines (lines_in (s Out) ++ line ∷ [])) (number_behind 1 seen) ∷ [])
+            (covers_other x (cell_of S x) (read_touch Out (s Out) 0) (not_line x (cell_of S x) (cell_named S x)).1)
+            (covers_other x (cell_of S x) (write_touch Out (Lines (lines_in (s Out) ++ line ∷ [])) (number_behind 1 seen)) (not_line x (cell_of S x) (cell_named S x)).1))),
       )
       go seen (Err k) saw = tt
 
@@ -192,7 +189,7 @@ module _ (p : Setting) (S : Scope) (constants : List (List ℕ)) (x : List ℕ) 
     taken_covered : (d : Data) (r : Result Taken ℕ)
         → (with_taken d r (λ v left. into_item k left v (target (names_in p S) item s).seen (target (names_in p S) item s).result (λ m e. taking (names_in p S) items m left (put e (Number v) s)))).fault ≡ None
         → Covers x (cell_of S x) (left_events constants n item ++ flat_map (left_events constants n) items)
-          (with_taken d r (λ v left. into_item k left v (target (names_in p S) item s).seen (target (names_in p S) item s).result (λ m e. taking (names_in p S) items m left (put e (Number v) s)))).touches
+        (with_taken d r (λ v left. into_item k left v (target (names_in p S) item s).seen (target (names_in p S) item s).result (λ m e. taking (names_in p S) items m left (put e (Number v) s)))).touches
     taken_covered d (Ok t) f =
         stored_covered t.value t.behind (target (names_in p S) item s).seen (target (names_in p S) item s).result
         (λ g. (target_seen p S constants x (cell_of S x) (cell_named S x) other s item g).among) (λ e g. g) f
@@ -217,10 +214,10 @@ module _ (p : Setting) (S : Scope) (constants : List (List ℕ)) (x : List ℕ) 
         flat_map (left_events constants n) items,
         refl,
         covers_at_end x (cell_of S x) _ _
-        (covers_append x (cell_of S x) [] (flat_map (left_events constants n) items) (read_touch In (s In) 0 ∷ []) _
-        (covers_other x (cell_of S x) (read_touch In (s In) 0) (not_line x (cell_of S x) (cell_named S x)).0)
-        (covers_append x (cell_of S x) [] (flat_map (left_events constants n) items) (write_touch In (Lines (reading (names_in p S) items s).left.lines) 1 ∷ []) (reading (names_in p S) items s).touches
-        (covers_other x (cell_of S x) (write_touch In (Lines (reading (names_in p S) items s).left.lines) 1) (not_line x (cell_of S x) (cell_named S x)).0)
-        (taking_covered n items (begun (lines_in (s In))) s e)))
+            (covers_append x (cell_of S x) [] (flat_map (left_events constants n) items) (read_touch In (s In) 0 ∷ []) _
+            (covers_other x (cell_of S x) (read_touch In (s In) 0) (not_line x (cell_of S x) (cell_named S x)).0)
+            (covers_append x (cell_of S x) [] (flat_map (left_events constants n) items) (write_touch In (Lines (reading (names_in p S) items s).left.lines) 1 ∷ []) (reading (names_in p S) items s).touches
+            (covers_other x (cell_of S x) (write_touch In (Lines (reading (names_in p S) items s).left.lines) 1) (not_line x (cell_of S x) (cell_named S x)).0)
+            (taking_covered n items (begun (lines_in (s In))) s e))),
       )
       go (Some i) e = tt

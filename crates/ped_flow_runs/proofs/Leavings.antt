@@ -1,5 +1,5 @@
 -- What the exit of a DO does to a scalar of which it leaves the cell: its variable, or a name of which its iterations have copies.
-use Rattle.std.proofs.Common.{map, ◌≡◌, ℕ, suc, ℤ, List, [], ◌∷◌, ◌++◌, Bool, true, false, not, ◌&&◌, ◌||◌, ◌==◌, if◌then◌else◌, refl, sym, ap, subst, ◌∙◌, ◌⊎◌, inl, inr}
+use Rattle.std.proofs.Common.{map, ◌≡◌, ℕ, suc, ℤ, List, [], ◌∷◌, ◌++◌, Bool, true, false, ◌&&◌, ◌||◌, if◌then◌else◌, refl, sym, ap, ◌∙◌, inl, inr}
 use Rattle.std.proofs.lemmas.List.Folds.{list_any-append}
 use Rattle.ped_base.specs.Lists.{is_same_text, is_among}
 use Rattle.ped_tree.specs.Tree.{Head, StmtTrees}
@@ -7,17 +7,15 @@ use Rattle.ped_affine.specs.Assigned.{all_loop_variables}
 use Rattle.ped_store.specs.Cells.{Cell, same_cell}
 use Rattle.ped_store.specs.Stores.{Undefined, Number}
 use Rattle.ped_store.specs.Acts.{Touch}
-use Rattle.ped_acts.specs.Sets.{writes_to, written_by, needed_by}
+use Rattle.ped_acts.specs.Sets.{written_by, needed_by}
 use Rattle.ped_eval.specs.Scopes.{Scope, cell_of}
-use Rattle.ped_eval.specs.Statements.{write_touch}
 use Rattle.ped_eval.specs.Loops.{Entered, inner_variables, undefined_by, undefined_all, exit_touches, left_in_variable}
 use Rattle.ped_flow.specs.Events as events
 use Rattle.ped_flow.specs.Events.{Event, event, copied, has_value, overwrites, is_overwriting_of, is_assigning}
 use Rattle.ped_flow.proofs.Truths.{untrue, or_split, or_none}
-use Rattle.ped_flow.proofs.EventLaws.{has_value-append}
-use Rattle.ped_flow_runs.specs.Covering.{is_number, holds_number, Covers}
-use Rattle.ped_flow_runs.proofs.Coverings.{written_parts, holds_append, needed_parts, not_so, covers_others, kept_number}
-use Rattle.ped_flow_runs.proofs.Reading.{reads_cell, needed_read, exit_unread, maybe_exit_unread}
+use Rattle.ped_flow_runs.specs.Covering.{is_number, holds_number}
+use Rattle.ped_flow_runs.proofs.Coverings.{written_parts, holds_append, needed_parts, not_so, kept_number}
+use Rattle.ped_flow_runs.proofs.Reading.{reads_cell, needed_read, exit_unread}
 use Rattle.ped_flow_runs.proofs.Names.{cleared, inner_among, same_cells}
 
 or_left : (a b : Bool) → a ≡ true → (a || b) ≡ true

@@ -18,3 +18,4 @@ pub mod DeadExits
 pub mod Holding
 pub mod Writing
 pub mod Entering
+mod Examples

@@ -1,30 +1,30 @@
 -- Where statements read the cells of a scalar.
-use Rattle.std.proofs.Common.{◌≡◌, ℕ, zero, suc, ◌+◌, ◌≤◌, ◌<◌, ℤ, List, [], ◌∷◌, ◌++◌, Bool, true, false, not, ◌&&◌, ◌||◌, ◌==◌, map, Option, Some, None, Result, Ok, Err, IsTrue, if◌then◌else◌, refl, sym, ap, subst, ◌∙◌, ◌⊎◌, inl, inr, append_assoc, arith, eqb, eqb-true}
+use Rattle.std.proofs.Common.{◌≡◌, ℕ, suc, ◌+◌, ◌≤◌, ◌<◌, ℤ, List, [], ◌∷◌, ◌++◌, Bool, true, false, not, ◌&&◌, ◌||◌, Option, Some, None, Result, Ok, Err, if◌then◌else◌, refl, sym, ap, ◌∙◌, ◌⊎◌, inl, inr, append_assoc, arith, eqb, eqb-true}
 use Rattle.std.specs.List.{list_any, flat_map}
 use Rattle.std.proofs.lemmas.List.{append-nil, map-append}
 use Rattle.std.proofs.lemmas.List.Folds.{list_any-append}
 use Rattle.ped_base.specs.Lists.{is_same_text, is_among}
 use Rattle.ped_tree.specs.Tree.{ExprTree, CondTree, ItemTree, Head, StmtTree, StmtTrees, Assign, If, Do, Print, Read, Stop, Comment, no_stmts, more_stmts}
 use Rattle.ped_tree.specs.Numbering.{statement_count, statements_count}
-use Rattle.ped_store.specs.Cells.{Cell, Private, In, Out, Iteration, same_cell}
+use Rattle.ped_store.specs.Cells.{Cell, Private, In, Iteration}
 use Rattle.ped_store.specs.Stores.{Store, Number, put, lines_in}
 use Rattle.ped_store.specs.DataLines.{Data, Taken, begun, next_value_of}
-use Rattle.ped_store.specs.Acts.{Touch, Place, did, entered, iterations_of, store_behind}
+use Rattle.ped_store.specs.Acts.{Place, did, entered, iterations_of, store_behind}
 use Rattle.ped_acts.specs.Fitting.{touches_of}
-use Rattle.ped_eval.specs.Scopes.{Frame, Scope, Setting, Names, names_in, place_of, turns_of, cell_of, index_value}
+use Rattle.ped_eval.specs.Scopes.{Frame, Scope, Setting, names_in, place_of, turns_of, cell_of, index_value}
 use Rattle.ped_eval.specs.Evaluation.{Seen, numbered, number_behind}
 use Rattle.ped_eval.specs.Values.{target, truth}
-use Rattle.ped_eval.specs.Statements.{Stored, assigned, assignment_touches, write_touch, printed_line, print_touches, Taking, into_item, with_taken, taking, taking_from, reading, reading_touches}
+use Rattle.ped_eval.specs.Statements.{Stored, assigned, assignment_touches, write_touch, printed_line, print_touches, into_item, with_taken, taking, taking_from, reading, reading_touches}
 use Rattle.ped_eval.specs.Loops.{Limits, limits, Entered, entered_with, frame, exit_when_none, entry_touches}
 use Rattle.ped_eval.specs.Runs.{Run, on_value, does, nothing_done, run_assignment, run_print, run_taking, run_read, run_if, run_entered, run_from_entry, run_do, run, run_all}
 use Rattle.ped_flow.specs.Events as events
 use Rattle.ped_flow.specs.Events.{Event, event, reads_of, scalars_in, scalars_in_cond, scalars_in_item, left_events, own_events, is_read_by}
 use Rattle.ped_flow.specs.Questions.{reads_outside, all_reads_outside}
-use Rattle.ped_flow.proofs.Truths.{untrue, or_split}
+use Rattle.ped_flow.proofs.Truths.{untrue}
 use Rattle.ped_flow_runs.specs.Covering.{is_cell_of}
 use Rattle.ped_flow_runs.proofs.Seeing.{is_seen, Saw, scalars_left, assigned_seen, truth_seen, line_seen, target_seen, limits_seen}
 use Rattle.ped_flow_runs.proofs.Leaves.{not_line, left_are, assigned_events, assign_path}
-use Rattle.ped_flow_runs.proofs.Reading.{reads_cell, reads_parts, seen_read, maybe_exit_unread, then_read, act_read, ReadIn, entered_read}
+use Rattle.ped_flow_runs.proofs.Reading.{reads_cell, reads_parts, seen_read, maybe_exit_unread, then_read, act_read, entered_read}
 
 -- an iteration of a statement
 abbrev pub turn_of : Setting → ℕ → ℕ → Iteration
@@ -205,7 +205,11 @@ module _ (p : Setting) (constants : List (List ℕ)) (x : List ℕ) (c : Cell) (
     pub cell_round : (c ≡ cell_of (frame e j ∷ S) x) ⊎ IsDeeper p x c (frame e j ∷ S) (n + 1) (statements_count b) → (c ≡ cell_of S x) ⊎ IsDeeper p x c S n (statements_count b + 1)
     cell_round (inl g) = copy_deeper (is_among x (frame e j).private) g
     cell_round (inr d) = inr (record {
-      statement = n; from = omega arith; to = omega arith; number = j; rest = turn_of p d.statement d.number ∷ d.rest;
+      statement = n;
+      from = omega arith;
+      to = omega arith;
+      number = j;
+      rest = turn_of p d.statement d.number ∷ d.rest;
       is = d.is ∙ ap (Private x) (ap (λ (z : List Iteration). z ++ turn_of p d.statement d.number ∷ d.rest) copies ∙ append_assoc (iterations_of (turns_of S)) (turn_of p n j ∷ []) (turn_of p d.statement d.number ∷ d.rest));
     })
 

@@ -1,32 +1,28 @@
 -- DO loops: a path of a DO covers its acts, where paths of its body cover those of each iteration.
-use Rattle.std.proofs.Common.{◌≡◌, ℕ, zero, suc, ◌+◌, List, [], ◌∷◌, ◌++◌, map, Bool, true, false, not, ◌&&◌, ◌||◌, ◌==◌, Option, Some, None, Result, Ok, Err, if◌then◌else◌, refl, sym, ap, subst, ◌∙◌, ◌⊎◌, inl, inr, append_assoc, arith, eqb, eqb-true}
+use Rattle.std.proofs.Common.{◌≡◌, ℕ, zero, suc, ◌+◌, List, [], ◌∷◌, ◌++◌, Bool, true, false, ◌&&◌, ◌||◌, ◌==◌, if◌then◌else◌, refl, sym, ap, subst, ◌∙◌, inl, inr, append_assoc, arith}
 use Rattle.std.proofs.lemmas.List.{append-nil}
-use Rattle.std.proofs.lemmas.List.Folds.{list_any-append}
 use Rattle.ped_base.specs.Lists.{is_same_text, is_among}
-use Rattle.ped_tree.specs.Tree.{Head, StmtTrees, Do}
-use Rattle.ped_store.specs.Cells.{Cell, Private, same_cell}
+use Rattle.ped_tree.specs.Tree.{Head, StmtTrees}
+use Rattle.ped_store.specs.Cells.{Cell, Private}
 use Rattle.ped_store.specs.Stores.{Store}
 use Rattle.ped_store.specs.Acts.{Touch, Place, Step, entered, ended_turn, closed, Act, store_behind, iterations_of}
 use Rattle.ped_acts.specs.Fitting.{touches_of}
 use Rattle.ped_acts.specs.Sets.{written_by, needed_by}
-use Rattle.ped_eval.specs.Scopes.{turns_of, Frame, Scope, Setting, Names, names_in, place_of, cell_of}
+use Rattle.ped_eval.specs.Scopes.{turns_of, Frame, Scope, cell_of}
 use Rattle.ped_eval.specs.Evaluation.{Seen, numbered}
-use Rattle.ped_eval.specs.Loops.{Limits, limits, Entered, entered_with, inner_variables, copied_names, frame, exit_touches, exit_when_none, entry_touches}
-use Rattle.ped_eval.specs.Runs.{Ending, going, stopped, failed, Run, followed_by, then_run, on_value, does, nothing_done, turns, parallel_turns, run_entered, run_from_entry, run_do}
+use Rattle.ped_eval.specs.Loops.{Entered, inner_variables, frame, exit_touches, exit_when_none, entry_touches}
+use Rattle.ped_eval.specs.Runs.{Ending, going, stopped, failed, Run, followed_by, does, nothing_done, turns, parallel_turns, run_entered, run_from_entry}
 use Rattle.ped_flow.specs.Events as events
 use Rattle.ped_flow.specs.Events.{Event, event, reads_of, scalars_in, own_events, copied, start_events, exit_events, overwrites, reads_first, has_value}
-use Rattle.ped_flow.specs.PathSets as paths
-use Rattle.ped_flow.specs.PathSets.{Kind, Just, InTurn, Times, AnyTimes, Paths, in_turn, trips}
-use Rattle.ped_flow.specs.Paths.{iteration}
-use Rattle.ped_flow.proofs.Truths.{untrue, or_split, or_none}
+use Rattle.ped_flow.specs.PathSets.{Kind, Just, InTurn, Times, AnyTimes, Paths}
+use Rattle.ped_flow.proofs.Truths.{untrue, or_none}
 use Rattle.ped_flow.proofs.EventLaws.{has_value-append, reads_first-front}
 use Rattle.ped_acts.proofs.Reorderings.{touches_append}
 use Rattle.ped_flow_runs.specs.Covering.{holds_number, IsReadOn, Covers, AreCovered}
-use Rattle.ped_flow_runs.proofs.Cells.{cell_named}
-use Rattle.ped_flow_runs.proofs.Seeing.{is_seen, limits_seen}
+use Rattle.ped_flow_runs.proofs.Seeing.{is_seen}
 use Rattle.ped_flow_runs.proofs.Coverings.{covers_nothing, covers_append, covers_at_end, covers_others, covers_elsewhere, covers_reads, needed_parts, written_parts, holds_append, not_so}
 use Rattle.ped_flow_runs.proofs.Names.{cleared, copied_among}
-use Rattle.ped_flow_runs.proofs.Reading.{exit_unread, maybe_exit_unread}
+use Rattle.ped_flow_runs.proofs.Reading.{exit_unread}
 use Rattle.ped_flow_runs.proofs.Leavings.{unread_unneeded, exit_writes, cleared_lost, cleared_elsewhere, IsLeft, left_behind, exit_leaves}
 use Rattle.ped_flow_runs.proofs.Unstopped.{IsUnstopped}
 
@@ -135,7 +131,7 @@ module _ (x : List ℕ) (S : Scope) (at : Place) (n : ℕ) (h : Head) (b : StmtT
         trip q g = (
           (start_events n h b, q, refl, refl, g.0),
           covers_append x (cell_of S x) (start_events n h b) q [] (touches_of (body (frame e j) u).acts) (covers_elsewhere x (cell_of S x) (start_events n h b) start_away)
-          (subst (λ (c : Cell). Covers x c q (touches_of (body (frame e j) u).acts)) (same_copy j) g.1)
+              (subst (λ (c : Cell). Covers x c q (touches_of (body (frame e j) u).acts)) (same_copy j) g.1),
         )
 
     one_more : (m : ℕ) (p q : List Event) (xs ys : List Touch) → Covering OneTrip p xs → Covering (Times m OneTrip) q ys → Covering (Times (suc m) OneTrip) (p ++ q) (xs ++ ys)
@@ -176,13 +172,15 @@ module _ (x : List ℕ) (S : Scope) (at : Place) (n : ℕ) (h : Head) (b : StmtT
 
     whole_away : (seen : List Seen) (names : List (List ℕ)) → (is_seen (cell_of S x) seen ≡ true → is_among x names ≡ true) → (q : List Event) (ys : List Touch) → Covering (AnyTimes OneTrip) q ys
         → AnyTimes OneTrip q × Covers x (cell_of S x) ((reads_of n names ++ event n events.assigns h.variable ∷ []) ++ (q ++ exit_events n h b)) (entry_touches seen e S ++ ys)
-    whole_away seen names saw q ys k = (k.0,
+    whole_away seen names saw q ys k = (
+      k.0,
       covers_append x (cell_of S x) (reads_of n names ++ event n events.assigns h.variable ∷ []) (q ++ exit_events n h b) (entry_touches seen e S) ys
-      (covers_append x (cell_of S x) (reads_of n names) (event n events.assigns h.variable ∷ []) (numbered 1 seen) (exit_when_none e.count e S)
-      (covers_reads x (cell_of S x) n 1 names seen saw)
-      (covers_append x (cell_of S x) (event n events.assigns h.variable ∷ []) [] [] (exit_when_none e.count e S)
-      (covers_elsewhere x (cell_of S x) (event n events.assigns h.variable ∷ []) (ap (λ (z : Bool). (z && true) || false) other_variable)) (maybe_exit_others e.count)))
-      (subst (λ (z : List Touch). Covers x (cell_of S x) (q ++ exit_events n h b) z) (append-nil ys) (covers_append x (cell_of S x) q (exit_events n h b) ys [] k.1 exit_away)))
+          (covers_append x (cell_of S x) (reads_of n names) (event n events.assigns h.variable ∷ []) (numbered 1 seen) (exit_when_none e.count e S)
+          (covers_reads x (cell_of S x) n 1 names seen saw)
+          (covers_append x (cell_of S x) (event n events.assigns h.variable ∷ []) [] [] (exit_when_none e.count e S)
+          (covers_elsewhere x (cell_of S x) (event n events.assigns h.variable ∷ []) (ap (λ (z : Bool). (z && true) || false) other_variable)) (maybe_exit_others e.count)))
+          (subst (λ (z : List Touch). Covers x (cell_of S x) (q ++ exit_events n h b) z) (append-nil ys) (covers_append x (cell_of S x) q (exit_events n h b) ys [] k.1 exit_away)),
+    )
 
     pub loop_away : (seen : List Seen) (names : List (List ℕ)) → (is_seen (cell_of S x) seen ≡ true → is_among x names ≡ true) → (s : Store)
         → Goes (OfLoop names) (touches_of (run_from_entry seen e S at body s).acts) (run_from_entry seen e S at body s).ending
@@ -283,6 +281,8 @@ module _ (x : List ℕ) (S : Scope) (at : Place) (n : ℕ) (h : Head) (b : StmtT
     loop_left seen names saw s =
         goes_map (BehindBounds seen) (OfLoop names)
         (λ q. (reads_of n names ++ event n events.assigns h.variable ∷ []) ++ (q ++ exit_events n h b)) (touches_of (run_from_entry seen e S at body s).acts) (run_from_entry seen e S at body s).ending
-        (λ q k. ((reads_of n names ++ event n events.assigns h.variable ∷ [], q ++ exit_events n h b, refl, refl, (q, exit_events n h b, refl, k.0, refl)),
-        subst (λ (z : List Touch). Covers x (cell_of S x) ((reads_of n names ++ event n events.assigns h.variable ∷ []) ++ (q ++ exit_events n h b)) z) (sym k.1.1) (whole_left seen names saw q k.1.0 k.1.2)))
+        (λ q k. (
+          (reads_of n names ++ event n events.assigns h.variable ∷ [], q ++ exit_events n h b, refl, refl, (q, exit_events n h b, refl, k.0, refl)),
+          subst (λ (z : List Touch). Covers x (cell_of S x) ((reads_of n names ++ event n events.assigns h.variable ∷ []) ++ (q ++ exit_events n h b)) z) (sym k.1.1) (whole_left seen names saw q k.1.0 k.1.2),
+        ))
         (entered_left e.head.parallel e.count seen s)

@@ -1,5 +1,5 @@
 -- The names of which the iterations of a DO have copies, in runs and on paths.
-use Rattle.std.proofs.Common.{◌≡◌, ℕ, suc, ◌+◌, ◌≤◌, ◌<◌, List, [], ◌∷◌, ◌++◌, length, map, Bool, true, false, ◌&&◌, ◌||◌, if◌then◌else◌, refl, sym, ap, subst, ◌∙◌, arith}
+use Rattle.std.proofs.Common.{◌≡◌, ℕ, suc, ◌+◌, ◌≤◌, List, [], ◌∷◌, ◌++◌, length, Bool, true, false, ◌||◌, if◌then◌else◌, refl, sym, ap, ◌∙◌, arith}
 use Rattle.std.specs.Ordering.{nat_cmp}
 use Rattle.std.specs.declared.cmp.Ordering.{Ordering}
 use Rattle.std.specs.declared.cmp.Ordering.TheVariants.{Less, Equal, Greater}
@@ -11,12 +11,12 @@ use Rattle.ped_base.specs.Lists.{is_same_text, is_among}
 use Rattle.ped_tree.specs.Tree.{Head, StmtTree, StmtTrees, Assign, If, Do, Print, Read, Stop, Comment, no_stmts, more_stmts}
 use Rattle.ped_affine.specs.Assigned.{loop_variables, all_loop_variables}
 use Rattle.ped_store.specs.Cells.{Cell, Scalar, Element, Private, In, Out, Iteration, same_cell}
-use Rattle.ped_store.specs.Acts.{Turn, iterations_of}
-use Rattle.ped_eval.specs.Scopes.{Frame, Scope, Setting, turns_of, cell_of}
-use Rattle.ped_eval.specs.Loops.{with_name_by, with_sorted, sorted_once, index_names, all_index_names, inner_variables, Entered, copied_names, frame}
+use Rattle.ped_store.specs.Acts.{iterations_of}
+use Rattle.ped_eval.specs.Scopes.{Scope, turns_of, cell_of}
+use Rattle.ped_eval.specs.Loops.{with_name_by, with_sorted, sorted_once, index_names, all_index_names, inner_variables, Entered, copied_names}
 use Rattle.ped_flow.specs.Events.{copied}
 use Rattle.ped_flow.proofs.Truths.{untrue}
-use Rattle.ped_acts.proofs.SameCells.{is_cell, other_cell, cell_is}
+use Rattle.ped_acts.proofs.SameCells.{is_cell, other_cell}
 use Rattle.ped_flow_runs.proofs.Cells.{same_itself, same_is, cell_named, stands_for}
 
 -- the variables of DO loops, as runs and as paths list them

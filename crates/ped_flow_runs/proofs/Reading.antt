@@ -1,33 +1,19 @@
 -- Where acts read the cells of a scalar: outside of all DO loops of it, and in the cell that it stands for there.
-use Rattle.std.proofs.Common.{◌≡◌, ℕ, zero, suc, ◌+◌, ◌≤◌, ◌<◌, ℤ, List, [], ◌∷◌, ◌++◌, Bool, true, false, not, ◌&&◌, ◌||◌, ◌==◌, map, Option, Some, None, Result, Ok, Err, IsTrue, if◌then◌else◌, refl, sym, ap, subst, ◌∙◌, ◌⊎◌, inl, inr, append_assoc, arith, eqb, eqb-true}
-use Rattle.std.specs.List.{list_any, flat_map}
-use Rattle.std.proofs.lemmas.List.{append-nil, map-append}
+use Rattle.std.proofs.Common.{◌≡◌, ℕ, zero, suc, ◌+◌, ◌≤◌, ◌<◌, List, [], ◌∷◌, ◌++◌, Bool, true, false, ◌&&◌, ◌||◌, ◌==◌, if◌then◌else◌, refl, sym, ap, ◌∙◌, ◌⊎◌, inl, inr, arith}
+use Rattle.std.specs.List.{list_any}
 use Rattle.std.proofs.lemmas.List.Folds.{list_any-append}
-use Rattle.ped_base.specs.Lists.{is_same_text, is_among}
-use Rattle.ped_tree.specs.Tree.{ExprTree, CondTree, ItemTree, Head, StmtTree, StmtTrees, Assign, If, Do, Print, Read, Stop, Comment, no_stmts, more_stmts}
-use Rattle.ped_tree.specs.Numbering.{statement_count, statements_count}
-use Rattle.ped_store.specs.Cells as cells
-use Rattle.ped_store.specs.Cells.{Cell, Private, In, Out, Iteration, same_cell}
-use Rattle.ped_store.specs.Stores.{Store, Number, Lines, put, lines_in}
-use Rattle.ped_store.specs.DataLines.{Data, Taken, begun, next_value_of}
-use Rattle.ped_store.specs.Acts.{Manner, reads, writes, is_told, Touch, Place, Step, did, entered, ended_turn, closed, faulted, Act, store_behind, iterations_of}
+use Rattle.ped_store.specs.Cells.{Cell, same_cell}
+use Rattle.ped_store.specs.Stores.{Store}
+use Rattle.ped_store.specs.Acts.{Manner, reads, writes, is_told, Touch, Place, Step, ended_turn, closed, Act, store_behind}
 use Rattle.ped_acts.specs.Fitting.{touches_of}
 use Rattle.ped_acts.specs.Sets.{read_first, needed_by}
-use Rattle.ped_eval.specs.Scopes.{Frame, Scope, Setting, Names, names_in, place_of, turns_of, cell_of, index_value}
-use Rattle.ped_eval.specs.Evaluation.{Seen, cell_seen, index_seen, Evaluated, numbered, number_behind}
-use Rattle.ped_eval.specs.Values.{value, target, truth}
-use Rattle.ped_eval.specs.Statements.{Stored, assigned, assignment_touches, write_touch, read_touch, printed_line, print_touches, Taking, into_item, with_taken, taking, taking_from, reading, reading_touches}
-use Rattle.ped_eval.specs.Loops.{Limits, limits, Entered, entered_with, frame, exit_touches, exit_when_none, entry_touches, undefined_by, undefined_all}
-use Rattle.ped_eval.specs.Runs.{Ending, going, stopped, failed, Run, followed_by, then_run, on_value, on, does, nothing_done, run_assignment, run_print, run_taking, run_read, run_stop, run_if, turns, parallel_turns, run_entered, run_from_entry, run_do, run, run_all}
-use Rattle.ped_flow.specs.Events as events
-use Rattle.ped_flow.specs.Events.{Event, event, reads_of, scalars_in, scalars_in_cond, scalars_in_item, left_events, own_events, is_read_by}
-use Rattle.ped_flow.specs.Questions.{reads_outside, all_reads_outside}
+use Rattle.ped_eval.specs.Scopes.{Frame, Scope}
+use Rattle.ped_eval.specs.Evaluation.{Seen, cell_seen, index_seen, numbered}
+use Rattle.ped_eval.specs.Loops.{Entered, frame, exit_touches, exit_when_none, undefined_by, undefined_all}
+use Rattle.ped_eval.specs.Runs.{Ending, going, stopped, failed, Run, followed_by, does, nothing_done, turns, parallel_turns, run_entered}
 use Rattle.ped_flow.proofs.Truths.{untrue, or_split}
 use Rattle.ped_acts.proofs.Reorderings.{touches_append}
-use Rattle.ped_flow_runs.specs.Covering.{is_cell_of}
-use Rattle.ped_flow_runs.proofs.Cells.{same_itself, cell_named}
-use Rattle.ped_flow_runs.proofs.Seeing.{is_seen, Saw, scalars_left, assigned_seen, truth_seen, line_seen, target_seen, limits_seen}
-use Rattle.ped_flow_runs.proofs.Leaves.{left_are}
+use Rattle.ped_flow_runs.proofs.Seeing.{is_seen}
 
 -- a touch that reads
 abbrev pub is_read : Manner → Bool

@@ -1,33 +1,32 @@
 -- What is left of a DO behind one of its iterations.
-use Rattle.std.proofs.Common.{◌≡◌, ℕ, zero, suc, ◌+◌, ◌≤◌, ◌<◌, List, [], ◌∷◌, ◌++◌, Bool, true, false, not, ◌&&◌, ◌||◌, ◌==◌, Option, Some, None, if◌then◌else◌, refl, sym, ap, subst, ◌∙◌, ◌⊎◌, inl, inr, append_assoc, arith, eqb, eqb-true}
+use Rattle.std.proofs.Common.{◌≡◌, ℕ, zero, suc, ◌+◌, ◌≤◌, ◌<◌, List, [], ◌∷◌, ◌++◌, Bool, true, false, ◌||◌, Some, None, if◌then◌else◌, refl, sym, ap, subst, ◌∙◌, ◌⊎◌, inl, inr, append_assoc, arith}
 use Rattle.std.proofs.lemmas.List.{append-nil}
 use Rattle.ped_base.specs.Lists.{is_same_text, is_among}
 use Rattle.ped_tree.specs.Tree.{Head, StmtTrees}
 use Rattle.ped_tree.specs.Numbering.{statements_count}
-use Rattle.ped_store.specs.Cells.{Cell, Private, Iteration, same_cell}
+use Rattle.ped_store.specs.Cells.{Cell}
 use Rattle.ped_store.specs.Stores.{Store}
-use Rattle.ped_store.specs.Acts.{Touch, Place, Step, entered, ended_turn, closed, Act, store_behind, iterations_of}
+use Rattle.ped_store.specs.Acts.{Touch, Place, ended_turn, closed, Act, store_behind}
 use Rattle.ped_acts.specs.Fitting.{touches_of}
 use Rattle.ped_acts.specs.Sets.{written_by, needed_by}
-use Rattle.ped_eval.specs.Scopes.{Frame, Scope, Setting, place_of, turns_of, cell_of, index_value}
+use Rattle.ped_eval.specs.Scopes.{Frame, Scope, Setting, place_of, cell_of, index_value}
 use Rattle.ped_eval.specs.Evaluation.{Seen}
 use Rattle.ped_eval.specs.Loops.{Limits, Entered, entered_with, inner_variables, copied_names, frame, exit_touches, exit_when_none}
 use Rattle.ped_eval.specs.Runs.{Ending, going, stopped, failed, Run, followed_by, then_run, does, nothing_done, turns, parallel_turns, run_entered, run_all}
-use Rattle.ped_flow.specs.Events.{Event, copied, exit_events, start_events, overwrites}
+use Rattle.ped_flow.specs.Events.{Event, copied, exit_events, start_events}
 use Rattle.ped_flow.specs.PathSets.{Kind, Just, InTurn, Times, AnyTimes, Paths}
 use Rattle.ped_flow.specs.Paths.{all_paths}
 use Rattle.ped_flow.specs.Questions.{all_reads_outside}
-use Rattle.ped_flow.proofs.Truths.{untrue, or_none}
+use Rattle.ped_flow.proofs.Truths.{untrue}
 use Rattle.ped_flow_runs.specs.Covering.{is_cell_of, Covers, AreCovered, some_stop}
-use Rattle.ped_flow_runs.specs.Exits.{Follows, IsOneToOne}
-use Rattle.ped_flow_runs.proofs.Cells.{cell_named}
+use Rattle.ped_flow_runs.specs.Exits.{Follows}
 use Rattle.ped_flow_runs.proofs.Coverings.{covers_at_end, covers_append, not_so}
-use Rattle.ped_flow_runs.proofs.Names.{copied_among, no_copy_within}
+use Rattle.ped_flow_runs.proofs.Names.{copied_among}
 use Rattle.ped_flow_runs.proofs.Leavings.{IsLeft}
 use Rattle.ped_flow_runs.proofs.Reading.{reads_cell, needed_read, then_read, act_read, maybe_exit_unread, exit_unread, ReadIn, turns_read, parallel_read}
 use Rattle.ped_flow_runs.proofs.Unstopped.{IsUnstopped, all_unstopped}
-use Rattle.ped_flow_runs.proofs.Located.{IsLocated, IsDeeper, turn_of, all_located}
-use Rattle.ped_flow_runs.proofs.Apart.{IsInTrip, one_trip, trip_not_own, copy_in_trip, deeper_in_trip, inside_trip}
+use Rattle.ped_flow_runs.proofs.Located.{IsLocated, IsDeeper, all_located}
+use Rattle.ped_flow_runs.proofs.Apart.{IsInTrip, one_trip, trip_not_own, deeper_in_trip, inside_trip}
 use Rattle.ped_flow_runs.proofs.Covered.{or_true, iteration_unneeded}
 use Rattle.ped_flow_runs.proofs.Looping.{Goes, goes_then, goes_act, no_exit}
 use Rattle.ped_flow_runs.proofs.Looping as loop
@@ -164,11 +163,14 @@ module _ (p : Setting) (constants : List (List ℕ)) (x : List ℕ) (other : is_
           → Goes Rest (touches_of (rest_run parallel E S (place_of p n S) Body m k u).acts) (rest_run parallel E S (place_of p n S) Body m k u).ending
       followed_left parallel u leaves cell =
           goes_into (λ q ts. AnyTimes (InTurn (Just (start_events n h b)) (all_paths constants b (n + 1)).onward) q × IsLeft x (cell_of S x) h b ts) Rest (touches_of (rest_run parallel E S (place_of p n S) Body m k u).acts) (rest_run parallel E S (place_of p n S) Body m k u).ending
-          (λ q g. (g.0, record {
-            follows = record { read = λ o. (let z : false ≡ true = sym (left_unneeded parallel u leaves cell) ∙ o in untrue z); written = λ e o. written e g.1 };
-            need = inr (left_unneeded parallel u leaves cell);
-            write = λ e. inr (written e g.1);
-          }))
+          (λ q g. (
+            g.0,
+            record {
+              follows = record { read = λ o. (let z : false ≡ true = sym (left_unneeded parallel u leaves cell) ∙ o in untrue z); written = λ e o. written e g.1 };
+              need = inr (left_unneeded parallel u leaves cell);
+              write = λ e. inr (written e g.1);
+            },
+          ))
           (rest_left x S (place_of p n S) n h b (all_paths constants b (n + 1)) E refl refl Body (λ f w. all_unstopped p b (n + 1) (f ∷ S) w unstopping) of_body leaves (iteration_unneeded p constants x other S n h b seen l leaves) parallel m k u)
         where
           written : c ≡ cell_of S x → IsLeft x (cell_of S x) h b (touches_of (rest_run parallel E S (place_of p n S) Body m k u).acts) → written_by (touches_of (rest_run parallel E S (place_of p n S) Body m k u).acts) c ≡ true

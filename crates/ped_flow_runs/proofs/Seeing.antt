@@ -1,9 +1,9 @@
 -- What evaluations read of the cells of a scalar.
-use Rattle.std.proofs.Common.{◌≡◌, ℕ, suc, ℤ, List, [], ◌∷◌, ◌++◌, Bool, true, false, ◌&&◌, ◌||◌, Option, Some, None, Result, Ok, Err, if◌then◌else◌, refl, sym, ap, subst, ◌∙◌, ◌⊎◌, inl, inr}
+use Rattle.std.proofs.Common.{◌≡◌, ℕ, ℤ, List, [], ◌∷◌, ◌++◌, Bool, true, false, ◌&&◌, ◌||◌, Option, Some, None, Result, Ok, Err, if◌then◌else◌, refl, sym, ap, subst, ◌∙◌, ◌⊎◌, inl, inr}
 use Rattle.std.proofs.lemmas.List.Folds.{list_any-append}
 use Rattle.ped_base.specs.Lists.{is_same_text, is_among}
 use Rattle.ped_tree.specs.Tree.{ExprTree, ExprTrees, Int, Var, Element, Neg, Add, Sub, Mul, Div, Pow, Call, no_exprs, more_exprs, CondTree, Rel, Not, And, Or, ItemTree, Value, Text}
-use Rattle.std.specs.List.{list_any, flat_map}
+use Rattle.std.specs.List.{flat_map}
 use Rattle.std.proofs.Common.{length}
 use Rattle.ped_arithmetic.specs.declared.faults.Fault.{Fault}
 use Rattle.ped_arithmetic.specs.Arithmetic.{sum_of, difference_of, product_of, quotient_of, power_of}
@@ -12,17 +12,15 @@ use Rattle.ped_store.specs.Cells as cells
 use Rattle.ped_store.specs.Cells.{Cell, same_cell}
 use Rattle.ped_store.specs.Stores.{Store, storable, outside_bounds}
 use Rattle.ped_store.specs.Storage.{is_within}
-use Rattle.ped_store.specs.Acts.{Manner, reads, writes, is_told, Touch}
-use Rattle.ped_acts.specs.Sets.{needed_by}
-use Rattle.ped_eval.specs.Scopes.{Scope, Setting, Names, names_in, cell_of, index_value}
-use Rattle.ped_eval.specs.Evaluation.{by_number, Seen, cell_seen, index_seen, Evaluated, onward, ◌>>>◌, given, numbered, read_cell}
+use Rattle.ped_eval.specs.Scopes.{Scope, Setting, names_in, cell_of, index_value}
+use Rattle.ped_eval.specs.Evaluation.{by_number, Seen, cell_seen, index_seen, Evaluated, onward, ◌>>>◌, given, read_cell}
 use Rattle.ped_eval.specs.Values.{is_rank, binary, relation_holds, value, values, truth, target, name_value, variable_value, element_cell}
 use Rattle.ped_eval.specs.Statements.{item_text, item_texts, printed_line, assigned}
 use Rattle.ped_eval.specs.Loops.{limits, in_bounds}
 use Rattle.ped_tree.specs.Tree.{Head}
 use Rattle.ped_flow.specs.Events.{unless_constant, scalars_in, all_scalars_in, scalars_in_cond, scalars_in_item}
 use Rattle.ped_acts.proofs.SameCells.{cell_is}
-use Rattle.ped_flow.proofs.Truths.{untrue, or_split}
+use Rattle.ped_flow.proofs.Truths.{untrue}
 use Rattle.ped_flow_runs.specs.Covering.{is_cell_of}
 use Rattle.ped_flow_runs.proofs.Cells.{same_itself, stands_for}
 

@@ -1,6 +1,6 @@
 -- What an iteration of a DO reads.
 use Rattle.std.proofs.lemmas.List.Folds.{list_any-append}
-use Rattle.std.proofs.Common.{Option, Some, None, ◌≡◌, ℕ, suc, ◌+◌, List, [], ◌∷◌, ◌++◌, Bool, true, false, ◌&&◌, ◌||◌, IsTrue, if◌then◌else◌, refl, sym, ap, subst, ◌∙◌, ◌⊎◌, inl, inr}
+use Rattle.std.proofs.Common.{Some, None, ◌≡◌, ℕ, ◌+◌, List, [], ◌∷◌, ◌++◌, Bool, true, false, ◌&&◌, ◌||◌, if◌then◌else◌, refl, sym, ap, subst, ◌∙◌, inl, inr}
 use Rattle.ped_base.specs.Lists.{is_same_text, is_among}
 use Rattle.ped_tree.specs.Tree.{Head, StmtTrees, Do, ProgramTree}
 use Rattle.ped_tree.specs.Accesses.{constant_names}
@@ -14,19 +14,19 @@ use Rattle.ped_acts.specs.Sets.{needed_by, needs}
 use Rattle.ped_acts.specs.Conflicts.{IsNoReadOf, LeaveUnread, ReadNone}
 use Rattle.ped_eval.specs.Scopes.{Frame, Scope, Setting, turns_of, cell_of, index_value}
 use Rattle.ped_eval.specs.Evaluation.{Seen}
-use Rattle.ped_eval.specs.Loops.{Limits, Entered, entered_with, frame}
+use Rattle.ped_eval.specs.Loops.{Limits, entered_with, frame}
 use Rattle.ped_eval.specs.Runs.{Ending, going, stopped, failed, run_all}
 use Rattle.ped_eval.specs.Outcomes.{Ends}
-use Rattle.ped_flow.specs.Events.{Event, copied, start_events, reads_first}
+use Rattle.ped_flow.specs.Events.{Event, copied, start_events}
 use Rattle.ped_flow.specs.PathSets.{Whole}
 use Rattle.ped_flow.specs.Paths.{all_paths, iteration}
-use Rattle.ped_flow.specs.Questions.{LoopOf, IsExposed, IsReadLoose, IsContained, all_reads_outside}
+use Rattle.ped_flow.specs.Questions.{LoopOf, IsExposed, IsContained, all_reads_outside}
 use Rattle.ped_flow.proofs.Truths.{untrue, or_none}
 use Rattle.ped_flow.proofs.EventLaws.{reads_first-back}
 use Rattle.ped_acts.proofs.SameCells.{cell_itself}
-use Rattle.ped_flow_runs.specs.Covering.{is_cell_of, IsReadOn, Covers, AreCovered, some_stop}
+use Rattle.ped_flow_runs.specs.Covering.{is_cell_of, IsReadOn, AreCovered, some_stop}
 use Rattle.ped_flow_runs.proofs.Coverings.{not_so}
-use Rattle.ped_flow_runs.proofs.Names.{cleared, copied_among}
+use Rattle.ped_flow_runs.proofs.Names.{copied_among}
 use Rattle.ped_flow_runs.proofs.Leavings.{cleared_elsewhere}
 use Rattle.ped_flow_runs.proofs.Reading.{is_read, reads_cell}
 use Rattle.ped_flow_runs.proofs.Located.{IsLocated, all_located}

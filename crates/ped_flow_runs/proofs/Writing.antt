@@ -1,23 +1,23 @@
 -- Which scalars statements write.
-use Rattle.std.proofs.Common.{◌≡◌, ℕ, zero, suc, ◌+◌, ℤ, List, [], ◌∷◌, ◌++◌, Bool, true, false, ◌&&◌, ◌||◌, ◌==◌, Option, Some, None, Result, Ok, Err, if◌then◌else◌, refl, sym, ap, subst, ◌∙◌, ◌⊎◌, inl, inr}
-use Rattle.std.specs.List.{list_any, flat_map}
+use Rattle.std.proofs.Common.{◌≡◌, ℕ, zero, suc, ◌+◌, ℤ, List, [], ◌∷◌, ◌++◌, Bool, true, false, ◌||◌, ◌==◌, Option, Some, None, Result, Ok, Err, if◌then◌else◌, refl, sym, ap, ◌∙◌, ◌⊎◌, inl, inr}
+use Rattle.std.specs.List.{flat_map}
 use Rattle.std.proofs.lemmas.List.Folds.{list_any-append}
 use Rattle.ped_base.specs.Lists.{is_same_text, is_among}
-use Rattle.ped_tree.specs.Tree.{ExprTree, Int, Var, Element, Neg, Add, Sub, Mul, Div, Pow, Call, CondTree, ItemTree, Head, StmtTree, StmtTrees, Assign, If, Do, Print, Read, Stop, Comment, no_stmts, more_stmts}
+use Rattle.ped_tree.specs.Tree.{ExprTree, Int, Var, Element, Neg, Add, Sub, Mul, Div, Pow, Call, ItemTree, Head, StmtTree, StmtTrees, Assign, If, Do, Print, Read, Stop, Comment, no_stmts, more_stmts}
 use Rattle.ped_tree.specs.Numbering.{statement_count, statements_count}
 use Rattle.ped_affine.specs.Assigned.{assigned_left, assigned_in, assigned_in_all, loop_variables, all_loop_variables}
-use Rattle.ped_store.specs.Cells.{Cell, In, Out, same_cell}
+use Rattle.ped_store.specs.Cells.{Cell, In, same_cell}
 use Rattle.ped_store.specs.Stores.{Store, Number, put, lines_in}
 use Rattle.ped_store.specs.DataLines.{Data, Taken, begun, next_value_of}
-use Rattle.ped_store.specs.Acts.{Touch, Place, Step, did, entered, ended_turn, closed, Act, store_behind}
+use Rattle.ped_store.specs.Acts.{Touch, Place, did, ended_turn, closed, Act, store_behind}
 use Rattle.ped_acts.specs.Fitting.{touches_of}
 use Rattle.ped_acts.specs.Sets.{written_by}
-use Rattle.ped_eval.specs.Scopes.{Frame, Scope, Setting, Names, names_in, place_of, cell_of}
+use Rattle.ped_eval.specs.Scopes.{Frame, Scope, Setting, names_in, place_of, cell_of}
 use Rattle.ped_eval.specs.Evaluation.{Seen, onward, given, numbered, number_behind}
 use Rattle.ped_eval.specs.Values.{values, target, truth, element_cell}
-use Rattle.ped_eval.specs.Statements.{Stored, assigned, assignment_touches, write_touch, printed_line, print_touches, Taking, into_item, with_taken, taking, taking_from, reading, reading_touches}
-use Rattle.ped_eval.specs.Loops.{Limits, limits, Entered, entered_with, inner_variables, frame, undefined_by, undefined_all, exit_touches, exit_when_none, entry_touches}
-use Rattle.ped_eval.specs.Runs.{Ending, going, stopped, failed, Run, followed_by, on_value, does, nothing_done, run_assignment, run_print, run_taking, run_read, run_if, turns, parallel_turns, run_entered, run_from_entry, run_do, run, run_all}
+use Rattle.ped_eval.specs.Statements.{assigned, assignment_touches, write_touch, printed_line, print_touches, into_item, with_taken, taking, taking_from, reading, reading_touches}
+use Rattle.ped_eval.specs.Loops.{limits, Entered, entered_with, inner_variables, frame, undefined_by, undefined_all, exit_touches, exit_when_none, entry_touches}
+use Rattle.ped_eval.specs.Runs.{Ending, going, stopped, failed, Run, followed_by, on_value, does, nothing_done, run_assignment, run_print, run_taking, run_read, turns, parallel_turns, run_entered, run_from_entry, run, run_all}
 use Rattle.ped_flow.proofs.Truths.{untrue, or_split}
 use Rattle.ped_acts.proofs.Reorderings.{touches_append}
 use Rattle.ped_flow_runs.specs.Covering.{is_cell_of}

@@ -1,6 +1,6 @@
 -- What a run does behind an exit of a DO, and the paths from that exit (Allen and Kennedy, section 4.4; this project).
 use Rattle.std.specs.Prelude.{◌≡◌, ℕ, List, [], ◌∷◌, ◌++◌, Bool, true, false, ◌&&◌, ◌==◌, if◌then◌else◌}
-use Rattle.ped_tree.specs.Tree.{Head, StmtTrees, ProgramTree}
+use Rattle.ped_tree.specs.Tree.{ProgramTree}
 use Rattle.ped_store.specs.Cells.{Cell}
 use Rattle.ped_store.specs.Acts.{Touch, Step, did, entered, ended_turn, closed, faulted, Act}
 use Rattle.ped_acts.specs.Sets.{written_by, needed_by}

@@ -19,3 +19,4 @@ pub mod Holding
 pub mod Writing
 pub mod Entering
 mod Examples
+pub mod Stopping

@@ -5,9 +5,11 @@
 mod covering;
 mod exits;
 mod iterations;
+mod stops;
 mod values;
 
 pub use covering::paths_cover_runs;
 pub use exits::{dead_exits, exits_are_followed};
 pub use iterations::{contained_unread, unexposed_unneeded};
+pub use stops::no_stop_in_loops;
 pub use values::{assigned_before, assigned_through, unassigned_unwritten};

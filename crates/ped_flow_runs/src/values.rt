@@ -26,8 +26,8 @@ pub fn assigned_before()
     ensures number { (p : Setting) (t : ProgramTree) → IsOneToOne p.number → some_stops_in_loop t.body ≡ false → (x : List ℕ) → is_among x (constant_names t.decls) ≡ false → (s : Store) (l : ℕ) (front : List Act) → IsEntry p t s l front → IsAssignedBefore t l x → is_number (store_after front s (Scalar x)) ≡ true }
 {}
 
-/// A scalar that is assigned on each path through the body of a DO: where the body has run, in any iterations and from any store, the cell that the
-/// scalar stands for in them holds a number.
+/// A scalar that is assigned on each path through the body of a DO: where the body has run, in any iterations and from
+/// any store, the cell that the scalar stands for in them holds a number.
 pub fn assigned_through()
     ensures { (p : Setting) (t : ProgramTree) (l : ℕ) (loop : LoopOf t l) (x : List ℕ) → is_among x (constant_names t.decls) ≡ false → some_stops_in_loop loop.body ≡ false → IsAssignedThrough t l x → (scope : Scope) (s u : Store) → (run_all p loop.body (l + 1) scope s).ending ≡ going u → is_number (store_after (run_all p loop.body (l + 1) scope s).acts s (cell_of scope x)) ≡ true }
 {}

@@ -134,7 +134,6 @@ fn in_scalar(alloc: Global, other: &Name, name: &Name, by: &Expr) -> Result<Expr
 
 /// The expressions, each with `by` in place of the scalar `name`.
 #[cycle(substitute)]
-#[tactic(auto, using(crate::proofs::Packed::exprs_packed))]
 pub fn substitute_in_all(
     alloc: Global,
     exprs: &[Expr],

@@ -111,7 +111,6 @@ pub fn substitute_in_loop(
 
 /// The statements, each with `by` in place of the scalar `name`.
 #[cycle(substitute_in_statement)]
-#[tactic(auto, using(crate::proofs::Packed::statements_packed))]
 pub fn substitute_in_statements(
     alloc: Global,
     statements: &[Stmt],

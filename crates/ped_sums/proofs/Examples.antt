@@ -1,5 +1,5 @@
 -- Sums, products and substitutions in small trees, worked out by their definitions.
-use Rattle.std.proofs.Common.{◌≡◌, ℕ, List, [], ◌∷◌, true, false, refl}
+use Rattle.std.proofs.Common.{◌≡◌, [], ◌∷◌, true, refl}
 use Rattle.std.specs.Prelude.{codes}
 use Rattle.ped_tree.specs.declared.expressions.Intrinsic.TheVariants.{Max}
 use Rattle.ped_tree.specs.declared.conditions.Relation.TheVariants.{Lt}

@@ -1,7 +1,6 @@
 -- Sums, differences and products of expressions, with those of literals computed (this project).
 use Rattle.std.specs.Prelude.{ℕ, ℤ, pos, neg_ℤ, ◌+ℤ◌, ◌-ℤ◌, ◌*ℤ◌, unsigned_abs, nat_le, ◌==◌, Bool, false, Option, Some, None, if◌then◌else◌}
 use Rattle.std.specs.Int.{is_negative}
-use Rattle.std.specs.Ordering.{int_eq}
 use Rattle.ped_tree.specs.Tree.{ExprTree, Int, Neg, Add, Sub, Mul}
 
 -- the value of a literal with at most one sign, none of any other expression (ANSI X3.9-1978, sections 4.1, 4.3)

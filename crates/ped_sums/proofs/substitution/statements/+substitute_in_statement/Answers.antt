@@ -1,4 +1,4 @@
-use Rattle.std.proofs.Common.{◌≡◌, ◌≤◌, ◌∙◌, ap, map, take, length, arith, take_all}
+use Rattle.std.proofs.Common.{◌≤◌, ◌∙◌, ap, map, length, arith, take_all}
 use Rattle.ped_tree.specs.Views.{expr_tree, stmt_tree, pack_stmts}
 use Rattle.ped_sums.specs.Substitution.{statement_substituted}
 use Rattle.ped_sums.proofs.Packed.{statements_packed}

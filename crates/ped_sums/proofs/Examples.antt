@@ -152,13 +152,13 @@ k last = record { variable = codes "I"; first = Int 1; last = last; step = Int 1
 abbrev loop : ExprTree → ExprTree → ExprTree → ExprTree → StmtTrees
 loop last left more less = more_stmts (Do (k last) (
     more_stmts (Assign left more)
-      (more_stmts (If (Not (Rel Lt left (Int 2))) (more_stmts (Read (left ∷ [])) no_stmts) (more_stmts (Comment (codes "K")) no_stmts))
-      (more_stmts (Print (Value less ∷ Text (codes "K") ∷ [])) no_stmts)))) no_stmts
+    (more_stmts (If (Not (Rel Lt left (Int 2))) (more_stmts (Read (left ∷ [])) no_stmts) (more_stmts (Comment (codes "K")) no_stmts))
+    (more_stmts (Print (Value less ∷ Text (codes "K") ∷ [])) no_stmts)))) no_stmts
 
 -- K becomes KX1(I) wherever it is assigned, read or asked about, and the lists of the DO stay
 in_statements :
     (λ (e : ExprTree). statements_substituted (codes "K") e (loop (Var (codes "K")) (Var (codes "K")) (Add (Var (codes "K")) (Int 1)) (Sub (Var (codes "K")) (Int 1)))) (Element (codes "KX1") (more_exprs i no_exprs))
-      ≡ (λ (e : ExprTree). loop e e (Add e (Int 1)) (Sub e (Int 1))) (Element (codes "KX1") (more_exprs i no_exprs))
+    ≡ (λ (e : ExprTree). loop e e (Add e (Int 1)) (Sub e (Int 1))) (Element (codes "KX1") (more_exprs i no_exprs))
 in_statements = refl
 
 -- the variable of a DO stays, and its bounds and its body don't

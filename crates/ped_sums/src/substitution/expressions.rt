@@ -27,11 +27,8 @@ fn has_scalar(e: &Expr, name: &Name) -> bool
         Expr::Var(other) => is_same(name, other),
         Expr::Element(_, parts) | Expr::Call(_, parts) => have_scalar(parts, name),
         Expr::Neg(a) => has_scalar(a, name),
-        Expr::Add(a, b)
-        | Expr::Sub(a, b)
-        | Expr::Mul(a, b)
-        | Expr::Div(a, b)
-        | Expr::Pow(a, b) => has_scalar(a, name) || has_scalar(b, name),
+        Expr::Add(a, b) | Expr::Sub(a, b) | Expr::Mul(a, b) | Expr::Div(a, b) | Expr::Pow(a, b) =>
+            has_scalar(a, name) || has_scalar(b, name),
     }
 }
 
@@ -68,12 +65,7 @@ fn changes(a: &Expr, b: &Expr, name: &Name, by: &Expr) -> bool
 /// The expression `e` with `by` in place of the scalar `name`. A sum or difference with an operand that this changes
 /// is made anew by [plus] or [minus].
 #[cycle(substitute)]
-pub fn substitute(
-    alloc: Global,
-    e: &Expr,
-    name: &Name,
-    by: &Expr,
-) -> Result<Expr, NoMemory>
+pub fn substitute(alloc: Global, e: &Expr, name: &Name, by: &Expr) -> Result<Expr, NoMemory>
     ensures { IfOk result (λ new. expr_tree new ≡ Spec.substituted name.now (expr_tree by.now) (expr_tree e.now)) }
 {
     match e {

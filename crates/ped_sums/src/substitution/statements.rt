@@ -83,12 +83,7 @@ pub fn substitute_in_statement(
 /// The loop with `by` in place of the scalar `name` in its bounds, its increment and its body. Its variable, its
 /// PRIVATE names and its rejected names stay as they are, also where one of them is `name`.
 #[cycle(substitute_in_statement)]
-pub fn substitute_in_loop(
-    alloc: Global,
-    body: &Do,
-    name: &Name,
-    by: &Expr,
-) -> Result<Do, NoMemory>
+pub fn substitute_in_loop(alloc: Global, body: &Do, name: &Name, by: &Expr) -> Result<Do, NoMemory>
     ensures { IfOk result (λ new. do_tree new ≡ Spec.statement_substituted name.now (expr_tree by.now) (do_tree body.now)) }
 {
     let first = substitute(alloc, &body.first, name, by)?;

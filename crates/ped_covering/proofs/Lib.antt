@@ -1,0 +1,3 @@
+pub mod Comings
+pub mod Parts
+pub mod ValueIntervals

@@ -1,0 +1,7 @@
+//! What dependences rest on: the laws by which an edge stands wherever two accesses of a run conflict. Each function
+//! here does nothing; its contract is the law, and docs/MEANING.md tells what the laws are for.
+#![tactic(auto)]
+
+mod intervals;
+
+pub use intervals::values_in_intervals;

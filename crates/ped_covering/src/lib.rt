@@ -3,5 +3,7 @@
 #![tactic(auto)]
 
 mod intervals;
+mod ranges;
 
 pub use intervals::values_in_intervals;
+pub use ranges::{values_between_limits, values_in_ranges};

@@ -1,5 +1,9 @@
 pub mod Comings
 pub mod Counting
+pub mod FormValues
 pub mod LoopRanges
+pub mod Nesting
 pub mod Parts
+pub mod Texts
 pub mod ValueIntervals
+pub mod Weighing

@@ -2,8 +2,12 @@
 //! here does nothing; its contract is the law, and docs/MEANING.md tells what the laws are for.
 #![tactic(auto)]
 
+mod forms;
 mod intervals;
+mod nests;
 mod ranges;
 
+pub use forms::values_by_forms;
 pub use intervals::values_in_intervals;
+pub use nests::{nests_in_ranges, within_around};
 pub use ranges::{values_between_limits, values_in_ranges};

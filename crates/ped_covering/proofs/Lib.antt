@@ -4,6 +4,7 @@ pub mod FormValues
 pub mod LoopRanges
 pub mod Nesting
 pub mod Parts
+pub mod Solutions
 pub mod Texts
 pub mod ValueIntervals
 pub mod Weighing

@@ -1,3 +1,5 @@
+mod Examples
+pub mod Cancelling
 pub mod Comings
 pub mod Counting
 pub mod FormValues

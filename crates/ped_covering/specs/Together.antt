@@ -1,5 +1,8 @@
 -- Values of the loops' variables at two accesses: in their ranges, and standing in directions (Allen and Kennedy, section 3.3; this project).
-use Rattle.std.specs.Prelude.{◌≡◌, ℤ, pos, ◌-ℤ◌, List, [], ◌∷◌, IsTrue}
+use Rattle.std.specs.Prelude.{◌≡◌, ℕ, ℤ, pos, ◌-ℤ◌, List, [], ◌∷◌, ◌++◌, take, drop, IsTrue}
+use Rattle.ped_tree.specs.Nests.{indices_of}
+use Rattle.ped_affine.specs.PairViews.{Site, Depths}
+use Rattle.ped_covering.specs.Weights.{first_values}
 use Rattle.ped_views.specs.declared.directions.Direction.{Direction}
 use Rattle.ped_views.specs.Whole.{Divides}
 use Rattle.ped_views.specs.Views.{Range, SubscriptPair, View}
@@ -33,3 +36,20 @@ pub record StandTogether (v : View) (vector : List Direction) (at : Indices) : T
 -- where the position is usable, both subscripts are equal at these values (Allen and Kennedy, section 3.1)
 abbrev pub IsSolvedBy : Indices → SubscriptPair → Type 0
 IsSolvedBy at p = IsTrue p.usable → difference p at ≡ pos 0
+
+-- the values of the loops round both sides among those of all unknowns of each side, of which the loops come first (Allen and Kennedy, section 3.1)
+abbrev pub indices_among : Depths → List ℤ → List ℤ → Indices
+indices_among n from to = record {
+  source = take n.common from;
+  sink = take n.common to;
+  source_inner = take n.source (drop n.common from);
+  sink_inner = take n.sink (drop n.common to);
+}
+
+-- the values of the unknowns of one side: those of the loops round it, and of these other variables (Allen and Kennedy, section 3.1)
+abbrev pub side_values : (List ℕ → ℤ) → Site → List (List ℕ) → List ℤ
+side_values values side others = first_values values [] (indices_of side.nest ++ others)
+
+-- the other variables have the same values on both sides (Allen and Kennedy, section 3.1)
+abbrev pub AgreeOnOthers : Depths → List ℤ → List ℤ → Type 0
+AgreeOnOthers n from to = drop n.source (drop n.common from) ≡ drop n.sink (drop n.common to)

@@ -6,6 +6,7 @@ pub mod FormValues
 pub mod LoopRanges
 pub mod Nesting
 pub mod Parts
+pub mod Sides
 pub mod Solutions
 pub mod Texts
 pub mod ValueIntervals

@@ -1,5 +1,6 @@
 -- Values of the loops' variables at two accesses: in their ranges, and standing in directions (Allen and Kennedy, section 3.3; this project).
-use Rattle.std.specs.Prelude.{◌≡◌, ℕ, ℤ, pos, ◌-ℤ◌, List, [], ◌∷◌, ◌++◌, take, drop, IsTrue}
+use Rattle.std.specs.Prelude.{◌≡◌, ℕ, ℤ, pos, ◌-ℤ◌, List, [], ◌∷◌, ◌++◌, take, drop, false, IsTrue}
+use Rattle.ped_base.specs.Lists.{is_among}
 use Rattle.ped_tree.specs.Nests.{indices_of}
 use Rattle.ped_affine.specs.PairViews.{Site, Depths}
 use Rattle.ped_covering.specs.Weights.{first_values}
@@ -53,3 +54,8 @@ side_values values side others = first_values values [] (indices_of side.nest ++
 -- the other variables have the same values on both sides (Allen and Kennedy, section 3.1)
 abbrev pub AgreeOnOthers : Depths → List ℤ → List ℤ → Type 0
 AgreeOnOthers n from to = drop n.source (drop n.common from) ≡ drop n.sink (drop n.common to)
+
+-- no name stands in the list twice (plain words)
+abbrev pub AreDistinct : List (List ℕ) → Type 0
+AreDistinct [] = Unit {0}
+AreDistinct (x ∷ xs) = (is_among x xs ≡ false) × AreDistinct xs

@@ -11,5 +11,5 @@ mod ranges;
 pub use forms::values_by_forms;
 pub use intervals::values_in_intervals;
 pub use nests::{nests_in_ranges, within_around};
-pub use positions::{equal_subscripts, equal_values};
+pub use positions::{equal_subscripts, equal_values, side_by_side};
 pub use ranges::{values_between_limits, values_in_ranges};

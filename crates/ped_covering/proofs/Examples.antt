@@ -68,12 +68,15 @@ view = record { loops = range (pos 1) (pos 9) (pos 2) true ∷ []; source_inner 
 
 together : StandTogether view (Before ∷ []) (indices_among (record { common = 1; source = 1; sink = 0 }) (pos 3 ∷ (pos 5 ∷ [])) (pos 7 ∷ []))
 together = record {
-  common = (record {
-    source = record { from = omega (arith, linear); to = omega (arith, linear) };
-    sink = record { from = omega (arith, linear); to = omega (arith, linear) };
-    stands = omega (arith, linear);
-    in_step = λ s. (pos 2, refl);
-  }, tt);
+  common = (
+    record {
+      source = record { from = omega (arith, linear); to = omega (arith, linear) };
+      sink = record { from = omega (arith, linear); to = omega (arith, linear) };
+      stands = omega (arith, linear);
+      in_step = λ s. (pos 2, refl);
+    },
+    tt,
+  );
   source_inner = (record { from = omega (arith, linear); to = omega (arith, linear) }, tt);
   sink_inner = tt;
 }

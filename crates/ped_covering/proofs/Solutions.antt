@@ -238,6 +238,7 @@ possible v vector at fits together solved = go v.positions fits.positions solved
   where
     go : (ps : List SubscriptPair) → All (FitsLoops (length v.loops) (length v.source_inner) (length v.sink_inner)) ps → All (IsSolvedBy at) ps → AllByRecursion (λ p. ¬ (Excludes v p vector)) ps
     go [] f q = tt
-    go (p ∷ ps) f q =
-        (not_excluded v p vector at (head_has (FitsLoops (length v.loops) (length v.source_inner) (length v.sink_inner)) p ps f) together (head_has (IsSolvedBy at) p ps q),
-        go ps (rest_has (FitsLoops (length v.loops) (length v.source_inner) (length v.sink_inner)) p ps f) (rest_has (IsSolvedBy at) p ps q))
+    go (p ∷ ps) f q = (
+      not_excluded v p vector at (head_has (FitsLoops (length v.loops) (length v.source_inner) (length v.sink_inner)) p ps f) together (head_has (IsSolvedBy at) p ps q),
+      go ps (rest_has (FitsLoops (length v.loops) (length v.source_inner) (length v.sink_inner)) p ps f) (rest_has (IsSolvedBy at) p ps q),
+    )

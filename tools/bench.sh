@@ -406,12 +406,12 @@ while read -r statements pairs times; do
     two_deep "$statements" >"$file"
     edits 1 "$array_line" >"$work/one"
     edits "$((times + 1))" "$array_line" >"$work/edits"
-    moves 20000 "$array_line" >"$work/moves"
+    moves 100000 "$array_line" >"$work/moves"
     awk -v statements="$statements" -v pairs="$pairs" -v times="$times" \
         -v one="$(least_session '%U %S' "$file" "$work/one")" \
         -v edits="$(least_session '%U %S' "$file" "$work/edits")" \
         -v moves="$(least_session '%U %S' "$file" "$work/moves")" 'BEGIN {
-            printf "%10d %10d %12.1f %12.3f\n", statements, pairs, (edits - one) * 1e6 / times, (moves - one) * 1e6 / 40000
+            printf "%10d %10d %12.1f %12.3f\n", statements, pairs, (edits - one) * 1e6 / times, (moves - one) * 1e6 / 200000
         }'
 done <<'END'
 14 980 1000

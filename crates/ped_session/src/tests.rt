@@ -146,6 +146,7 @@ fn answers<L: Ledger>(alloc: Global, blank: Blank) -> Result<(Held, Held, Bytes)
         return Err(Fail::from(NoMemory));
     };
     let before = standing(alloc, &session)?;
+    session.run(alloc, b"")?;
     let script = commands(alloc, SCRIPT.as_bytes())?;
     let mut out = Bytes::new(alloc);
     for item in script.as_slice() {

@@ -1,0 +1,2 @@
+pub mod NearIntervals
+pub mod PlainValues

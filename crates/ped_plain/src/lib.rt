@@ -1,0 +1,7 @@
+//! Plain bounds of DO loops: they may be evaluated anywhere in the outermost DO. Each function here does nothing; its
+//! contract is the law. A step that enters a loop more often than before, or earlier, rests on these laws.
+#![tactic(auto)]
+
+mod bounds;
+
+pub use bounds::plain_bounds;

@@ -1,2 +1,4 @@
 pub mod NearIntervals
 pub mod PlainValues
+pub mod Standing
+mod Examples

@@ -1,14 +1,29 @@
 //! What a plain bound is worth.
 
-ghost use Rattle.std.specs.Prelude.{◌≡◌, ℕ, ℤ, List, true};
+ghost use Rattle.std.specs.Prelude.{◌≡◌, ℕ, ℤ, List, false, true};
 ghost use Rattle.ped_tree.specs.Tree.{ExprTree, ProgramTree};
 ghost use Rattle.ped_grammar.specs.Fits.{expr_fits};
+ghost use Rattle.ped_store.specs.Stores.{Store};
+ghost use Rattle.ped_store.specs.Acts.{Act};
+ghost use Rattle.ped_acts.specs.Fitting.{store_after};
+ghost use Rattle.ped_eval.specs.Scopes.{Scope, Setting, names_in};
 ghost use Rattle.ped_flow.specs.PlainBounds.{Values, IsPlain};
-ghost use Rattle.ped_plain.specs.PlainValues.{AreInRange, HasPlainValue};
+ghost use Rattle.ped_flow_runs.specs.Covering.{some_stops_in_loop};
+ghost use Rattle.ped_flow_runs.specs.Entries.{IsEntry};
+ghost use Rattle.ped_flow_runs.specs.Exits.{IsOneToOne};
+ghost use Rattle.ped_plain.specs.PlainValues.{AreInRange, Stand, HasPlainValue};
+ghost use Rattle.ped_plain.specs.Executions.{HaveValues, IsPlaceFor, values_at, IsDuring};
 
 /// For all values in range of the DO variables round it, and all numbers of 32 bits in the scalars that keep theirs, a
 /// plain bound has one value: to that it evaluates, without a fault, wherever these hold, and a DO may have it as a
 /// bound.
 pub fn plain_bounds()
     ensures { (constants : Values) (t : ProgramTree) (l : ℕ) (e : ExprTree) (v : List ℕ → ℤ) → IsPlain constants t l e → expr_fits e ≡ true → AreInRange constants t l v → HasPlainValue constants t l v e }
+{}
+
+/// In each store of an execution of an outermost DO, at each place in it that tells a value for each DO round a DO, the
+/// values that the place tells stand with those that the scalars held when the outermost DO was entered. So there a
+/// plain bound has the value that these give it, also where the run never comes to the bound.
+pub fn values_stand()
+    ensures { (p : Setting) (t : ProgramTree) → IsOneToOne p.number → some_stops_in_loop t.body ≡ false → HaveValues p.constants t → (s : Store) (l : ℕ) (front : List Act) → IsEntry p t s l front → (scope : Scope) → IsPlaceFor p.constants t l scope → (u : Store) → IsDuring p t l (store_after front s) u → Stand p.constants t l (values_at scope (store_after front s)) (names_in p scope) u }
 {}

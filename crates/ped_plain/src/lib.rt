@@ -4,4 +4,4 @@
 
 mod bounds;
 
-pub use bounds::plain_bounds;
+pub use bounds::{plain_bounds, values_stand};

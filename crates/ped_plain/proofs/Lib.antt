@@ -1,4 +1,5 @@
 pub mod NearIntervals
 pub mod PlainValues
+pub mod SmallWrites
 pub mod Standing
 mod Examples

@@ -3,5 +3,7 @@
 #![tactic(auto)]
 
 mod bounds;
+mod sizes;
 
 pub use bounds::{plain_bounds, values_stand};
+pub use sizes::scalars_are_small;

@@ -1,5 +1,6 @@
 pub mod NearIntervals
 pub mod PlainValues
 pub mod SmallWrites
+pub mod Nests
 pub mod Standing
 mod Examples

@@ -17,7 +17,7 @@ use Rattle.ped_constants.specs.ConstantExpressions.{constant_value}
 use Rattle.ped_affine.specs.IntervalArithmetic.{interval, point, interval_sum, interval_difference, interval_negation, interval_product, interval_max, interval_min}
 use Rattle.ped_affine.specs.Ranges.{Setting, Around, is_near, kept_near, constant_or, of_one, of_two, any_value, variable_by, onto, call_interval, interval_of, intervals_of, near_or_all, bound_interval, step_by, is_steady, range_between, loop_range, between_ends, inside}
 use Rattle.ped_flow.specs.PlainBounds.{around_with}
-use Rattle.ped_flow.proofs.Truths.{untrue}
+use Rattle.ped_flow.proofs.Truths.{or_none}
 use Rattle.ped_covering.proofs.Comings.{some_one, kept}
 
 -- within 2^62 of zero
@@ -197,3 +197,12 @@ unfound s x (l ∷ ls) around h =
     let r = unfound s x ls (inside around l.head (loop_range s around l.head)) h in
     let p = none_either (lookup (is_same_text x) around) (is_same_text x l.head.variable) i (sym (lookup_append around l.head.variable i x) ∙ r.0) in
     (p.0, ap (λ (b : Bool). b || is_among x (indices_of ls)) p.1 ∙ r.1)
+
+-- a name that is no variable of a loop around has no interval
+pub not_around : (s : Setting) (x : List ℕ) (nest : List Loop) (around : Around) → is_among x (indices_of nest) ≡ false → lookup (is_same_text x) around ≡ None → lookup (is_same_text x) (around_with s around nest) ≡ None
+not_around s x [] around h k = k
+not_around s x (l ∷ ls) around h k =
+    let i : Interval = between_ends (loop_range s around l.head) in
+    let p = or_none (is_same_text x l.head.variable) (is_among x (indices_of ls)) h in
+    not_around s x ls (inside around l.head (loop_range s around l.head)) p.1
+    (lookup_append around l.head.variable i x ∙ ap (λ (o : Option Interval). or_else o (only_if (is_same_text x l.head.variable) i)) k ∙ ap (λ (b : Bool). only_if b i) p.0)

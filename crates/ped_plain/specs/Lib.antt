@@ -1,2 +1,2 @@
-pub mod Executions
 pub mod PlainValues
+pub mod Executions

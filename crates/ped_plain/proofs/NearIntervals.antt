@@ -1,24 +1,23 @@
 -- The ends of intervals lie within 2^62 of zero, and the loops round a bound have theirs.
-use Rattle.std.proofs.Common.{◌≡◌, ℕ, ◌^◌, List, [], ◌∷◌, ◌++◌, fold, Bool, true, false, ◌&&◌, ◌||◌, ◌⊎◌, inl, inr, refl, sym, ap, ◌∙◌, subst, arith, ℤ, pos, neg_ℤ, ◌≤ℤ◌, int_lt, unsigned_abs, nat_le, Option, Some, None, if◌then◌else◌}
-use Rattle.std.specs.Int.{int_min, int_max}
+use Rattle.std.proofs.Common.{◌≡◌, ℕ, ◌^◌, List, [], ◌∷◌, ◌++◌, fold, Bool, true, false, ◌&&◌, ◌||◌, refl, sym, ap, ◌∙◌, subst, arith, ℤ, pos, neg_ℤ, ◌≤ℤ◌, int_lt, unsigned_abs, Option, Some, None, if◌then◌else◌}
 use Rattle.std.specs.Map.{lookup}
 use Rattle.std.proofs.lemmas.Bool.{and_parts, leb-true}
 use Rattle.std.proofs.lemmas.Int.{clamps}
 use Rattle.ped_base.specs.Lists.{is_same_text, is_among}
 use Rattle.ped_views.specs.declared.intervals.Interval.{Interval}
 use Rattle.ped_views.specs.Intervals.{Lies}
-use Rattle.ped_views.specs.Views.{Range, range}
+use Rattle.ped_views.specs.Views.{range}
 use Rattle.ped_views.proofs.Products.{linear}
 use Rattle.ped_tree.specs.declared.expressions.Intrinsic.{Intrinsic}
 use Rattle.ped_tree.specs.declared.expressions.Intrinsic.TheVariants.{Mod, Abs, Max, Min}
-use Rattle.ped_tree.specs.Tree.{ExprTree, ExprTrees, Int, Var, Element, Neg, Add, Sub, Mul, Div, Pow, Call, no_exprs, more_exprs, Head}
+use Rattle.ped_tree.specs.Tree.{ExprTree, ExprTrees, Int, Var, Element, Neg, Add, Sub, Mul, Div, Pow, Call, no_exprs, more_exprs}
 use Rattle.ped_tree.specs.Nests.{Loop, indices_of}
 use Rattle.ped_constants.specs.ConstantExpressions.{constant_value}
-use Rattle.ped_affine.specs.IntervalArithmetic.{interval, point, interval_sum, interval_difference, interval_negation, interval_product, interval_max, interval_min}
+use Rattle.ped_affine.specs.IntervalArithmetic.{point, interval_sum, interval_difference, interval_negation, interval_product, interval_max, interval_min}
 use Rattle.ped_affine.specs.Ranges.{Setting, Around, is_near, kept_near, constant_or, of_one, of_two, any_value, variable_by, onto, call_interval, interval_of, intervals_of, near_or_all, bound_interval, step_by, is_steady, range_between, loop_range, between_ends, inside}
 use Rattle.ped_flow.specs.PlainBounds.{around_with}
 use Rattle.ped_flow.proofs.Truths.{or_none}
-use Rattle.ped_covering.proofs.Comings.{some_one, kept}
+use Rattle.ped_covering.proofs.Comings.{some_one}
 
 -- within 2^62 of zero
 pub record IsNear (n : ℤ) : Type 0 where

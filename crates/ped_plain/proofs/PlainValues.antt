@@ -2,7 +2,6 @@
 use Rattle.std.proofs.Common.{◌≡◌, ℕ, ◌^◌, List, [], ◌∷◌, Bool, true, false, ◌&&◌, ◌⊎◌, inl, inr, refl, sym, ap, ◌∙◌, subst, arith, ℤ, pos, neg_ℤ, ◌+ℤ◌, ◌-ℤ◌, ◌*ℤ◌, ◌≤ℤ◌, ◌<ℤ◌, int_le, int_lt, Option, Some, None, Result, Ok, Err, if◌then◌else◌, IsTrue}
 use Rattle.std.specs.Int.{int_min, int_max}
 use Rattle.std.specs.Map.{lookup}
-use Rattle.std.proofs.lemmas.Bool.{and_parts}
 use Rattle.std.proofs.lemmas.Int.{clamps}
 use Rattle.ped_base.specs.Lists.{is_same_text, is_among}
 use Rattle.ped_arithmetic.specs.declared.faults.Fault.TheVariants.{OutOfRange}
@@ -31,7 +30,7 @@ use Rattle.ped_covering.specs.Within.{AllLie}
 use Rattle.ped_covering.proofs.Comings.{ok_one, some_one, kept, point_lies, constant_comes}
 use Rattle.ped_covering.proofs.Parts.{KeepAll, sum_lies, difference_lies, product_lies, call_of_keeps, storable_lies}
 use Rattle.ped_plain.specs.PlainValues.{around_loop, IsKept, AreInRange, Stand, HasPlainValue}
-use Rattle.ped_plain.proofs.NearIntervals.{IsNear, AreNear, lies_near, kept_ends, AllNear, NearAround, interval_ends, intervals_ends, around_near, unfound}
+use Rattle.ped_plain.proofs.NearIntervals.{IsNear, lies_near, kept_ends, AllNear, NearAround, interval_ends, intervals_ends, around_near, unfound}
 
 le_is : (a b : ℤ) → a ≤ℤ b → int_le a b ≡ true
 le_is a b h = go (int_le a b) refl

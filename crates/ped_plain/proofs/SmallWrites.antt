@@ -1,10 +1,10 @@
 -- Scalars that are no DO variables hold numbers of 32 bits alone.
-use Rattle.std.proofs.Common.{◌≡◌, ℕ, zero, suc, ◌+◌, ℤ, List, [], ◌∷◌, ◌++◌, Bool, true, false, ◌&&◌, ◌||◌, ◌==◌, Option, Some, None, Result, Ok, Err, if◌then◌else◌, refl, sym, ap, ◌∙◌, subst}
+use Rattle.std.proofs.Common.{◌≡◌, ℕ, zero, suc, ◌+◌, ℤ, List, [], ◌∷◌, ◌++◌, Bool, true, false, ◌&&◌, ◌==◌, Option, Some, None, Result, Ok, Err, if◌then◌else◌, refl, sym, ap, ◌∙◌, subst}
 use Rattle.std.specs.Str.Parse.{signed_digits_value}
 use Rattle.std.proofs.lemmas.List.Folds.{list_any-append}
 use Rattle.ped_base.specs.Lists.{has_some, is_same_text, is_among}
 use Rattle.ped_arithmetic.specs.Faults.{◌>>=◌}
-use Rattle.ped_tree.specs.Tree.{ExprTree, ItemTree, Head, StmtTree, StmtTrees, Assign, If, Do, Print, Read, Stop, Comment, no_stmts, more_stmts}
+use Rattle.ped_tree.specs.Tree.{ExprTree, ItemTree, StmtTree, StmtTrees, Assign, If, Do, Print, Read, Stop, Comment, no_stmts, more_stmts}
 use Rattle.ped_tree.specs.Numbering.{statement_count, statements_count}
 use Rattle.ped_store.specs.Cells.{Cell, In, same_cell}
 use Rattle.ped_store.specs.Stores.{Content, Number, Store, put, lines_in, storable, is_storable, out_of_range, bad_data}
@@ -18,7 +18,7 @@ use Rattle.ped_eval.specs.Scopes.{Frame, Scope, Setting, Names, names_in, place_
 use Rattle.ped_eval.specs.Evaluation.{Seen, ◌>>>◌, given, numbered, number_behind}
 use Rattle.ped_eval.specs.Values.{value, target, truth}
 use Rattle.ped_eval.specs.Statements.{write_touch, Stored, assigned, assignment_touches, printed_line, print_touches, into_item, with_taken, taking, taking_from, reading, reading_touches}
-use Rattle.ped_eval.specs.Loops.{limits, Entered, entered_with, inner_variables, frame, undefined_by, undefined_all, exit_touches, exit_when_none, entry_touches}
+use Rattle.ped_eval.specs.Loops.{limits, Entered, entered_with, frame, undefined_by, undefined_all, exit_touches, exit_when_none, entry_touches}
 use Rattle.ped_eval.specs.Runs.{Ending, going, stopped, failed, Run, followed_by, on_value, does, nothing_done, run_assignment, run_print, run_taking, run_read, turns, parallel_turns, run_entered, run_from_entry, run, run_all}
 use Rattle.ped_affine.specs.Assigned.{loop_variables, all_loop_variables}
 use Rattle.ped_flow.proofs.Truths.{untrue, or_none}
@@ -51,7 +51,7 @@ assigned_small g left right s w e =
     let two = came (target g left s).seen (target g left s).result (λ d. given (storable one.0) >>> λ n. given (Ok (record { cell = d; number = n }))) w one.2 in
     let three = came [] (storable one.0) (λ n. given (Ok (record { cell = two.0; number = n }))) w two.2 in
     let same = ok_one (record { cell = two.0; number = three.0 }) w three.2 in
-    subst (λ (z : Stored). is_storable z.number ≡ true) same (storable_by (is_storable one.0) one.0 three.0 refl three.1)
+    subst (λ (z : ℤ). is_storable z ≡ true) (ap (λ (z : Stored). z.number) same) (storable_by (is_storable one.0) one.0 three.0 refl three.1)
 
 -- a value of the data has 32 bits
 value_by : (b : Bool) (x n : ℤ) → (if b then storable x else Err bad_data) ≡ Ok n → is_storable n ≡ true

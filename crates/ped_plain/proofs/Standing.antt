@@ -1,5 +1,5 @@
 -- The values that stand in the stores of an execution of an outermost DO.
-use Rattle.std.proofs.Common.{◌≡◌, ℕ, ◌+◌, ℤ, pos, List, [], ◌∷◌, ◌++◌, Bool, true, false, ◌||◌, ◌⊎◌, inl, inr, refl, sym, ap, ◌∙◌, subst, Option, Some, None, if◌then◌else◌, IsTrue}
+use Rattle.std.proofs.Common.{◌≡◌, ℕ, ℤ, List, [], ◌∷◌, ◌++◌, Bool, true, false, ◌||◌, refl, sym, ap, ◌∙◌, subst, Option, Some, None, if◌then◌else◌, IsTrue}
 use Rattle.std.specs.Map.{lookup}
 use Rattle.std.proofs.lemmas.List.Folds.{list_any-append}
 use Rattle.ped_base.specs.Lists.{is_same_text, is_among}
@@ -8,8 +8,6 @@ use Rattle.ped_views.specs.Intervals.{Lies}
 use Rattle.ped_grammar.specs.Fits.{expr_fits}
 use Rattle.ped_tree.specs.Tree.{ExprTree, StmtTree, Do, ProgramTree}
 use Rattle.ped_tree.specs.Nests.{indices_of}
-use Rattle.ped_tree.specs.Numbering.{statement_with}
-use Rattle.ped_constants.specs.NamedConstants.{value_named}
 use Rattle.ped_store.specs.Cells.{Cell, Scalar, Private}
 use Rattle.ped_store.specs.Stores.{Content, Undefined, Number, Lines, Store, is_storable}
 use Rattle.ped_store.specs.Acts.{Touch, Act, iterations_of}
@@ -18,18 +16,17 @@ use Rattle.ped_acts.specs.Sets.{written, written_by, writes_to}
 use Rattle.ped_acts.proofs.Renamings.{after_other}
 use Rattle.ped_acts.proofs.Reorderings.{touches_append}
 use Rattle.ped_eval.specs.Scopes.{Frame, Scope, Setting, turns_of, names_in, cell_of, index_value}
-use Rattle.ped_eval.specs.Runs.{run, run_all}
 use Rattle.ped_affine.specs.Assigned.{assigned_in}
 use Rattle.ped_affine.specs.Ranges as ranges
 use Rattle.ped_flow.specs.PlainBounds.{Values, nest_round, setting_round, outermost_or, assigned_by, IsFixed, IsPlain}
 use Rattle.ped_flow.proofs.Truths.{untrue, or_none}
-use Rattle.ped_flow_runs.specs.Covering.{is_cell_of, is_number, some_stops_in_loop}
+use Rattle.ped_flow_runs.specs.Covering.{is_number, some_stops_in_loop}
 use Rattle.ped_flow_runs.specs.Exits.{IsOneToOne}
 use Rattle.ped_flow_runs.specs.Entries.{IsEntry}
 use Rattle.ped_flow_runs.proofs.Cells.{same_itself, same_is}
 use Rattle.ped_flow_runs.proofs.Writing.{unassigned}
 use Rattle.ped_flow_runs.proofs.Entering.{number_before}
-use Rattle.ped_plain.specs.PlainValues.{around_loop, IsKept, AreInRange, Stand, HasPlainValue}
+use Rattle.ped_plain.specs.PlainValues.{around_loop, AreInRange, Stand}
 use Rattle.ped_plain.specs.Executions.{HaveValues, IsInside, AreInside, IsPlaceWith, LieInRanges, number_or_zero, values_with, IsDuring, is_small, WriteSmall, HasValueDuring}
 use Rattle.ped_plain.proofs.NearIntervals.{not_around}
 use Rattle.ped_plain.proofs.Nests.{all_loops_among}

@@ -96,6 +96,7 @@ limits_lie s around g u h l w e =
     let first = bound_is one.0 two.0 two.1 in
     let last = bound_is three.0 four.0 four.1 in
     let is = ok_one (record { first = two.0; last = four.0 }) l four.2 in
-    subst (λ (x : Limits). Lies x.first (bound_interval s around h.first) × Lies x.last (bound_interval s around h.last)) is
-    (bound_lies (interval_of s around h.first) two.0 first.1 (λ r k. value_lies s around g u w h.first two.0 r (one.1 ∙ ap Ok first.0) k),
-    bound_lies (interval_of s around h.last) four.0 last.1 (λ r k. value_lies s around g u w h.last four.0 r (three.1 ∙ ap Ok last.0) k))
+    subst (λ (x : Limits). Lies x.first (bound_interval s around h.first) × Lies x.last (bound_interval s around h.last)) is (
+      bound_lies (interval_of s around h.first) two.0 first.1 (λ r k. value_lies s around g u w h.first two.0 r (one.1 ∙ ap Ok first.0) k),
+      bound_lies (interval_of s around h.last) four.0 last.1 (λ r k. value_lies s around g u w h.last four.0 r (three.1 ∙ ap Ok last.0) k),
+    )

@@ -1,2 +1,4 @@
 pub mod Nested
+pub mod Together
+pub mod Weights
 pub mod Within

@@ -1,5 +1,6 @@
 -- Values that lie in the intervals of their names, at a place of a run and in a store (ANSI X3.9-1978, section 11.10.3; this project).
-use Rattle.std.specs.Prelude.{◌≡◌, ℕ, ℤ, pos, unsigned_abs, ◌≤◌, List, [], ◌∷◌, true, Option, Some, None}
+use Rattle.std.specs.Prelude.{◌≡◌, ℕ, ℤ, List, [], ◌∷◌, Bool, true, false, not, Option, Some, None}
+use Rattle.ped_base.specs.Lists.{is_among}
 use Rattle.ped_views.specs.declared.intervals.Interval.{Interval}
 use Rattle.ped_views.specs.Intervals.{Lies}
 use Rattle.ped_store.specs.Cells as cells
@@ -20,3 +21,15 @@ AllLie (n ∷ ns) (r ∷ rs) = Lies n r × AllLie ns rs
 AllLie [] [] = Unit {0}
 AllLie (n ∷ ns) [] = ⊥
 AllLie [] (r ∷ rs) = ⊥
+
+-- cells that hold a storable number or nothing: elements, and scalars that are the variable of no DO of the program, with their copies (this project)
+abbrev pub is_storing : List (List ℕ) → cells.Cell → Bool
+is_storing loop_variables (cells.Scalar x) = not (is_among x loop_variables)
+is_storing loop_variables (cells.Element x subscripts) = true
+is_storing loop_variables (cells.Private x iterations) = not (is_among x loop_variables)
+is_storing loop_variables cells.In = false
+is_storing loop_variables cells.Out = false
+
+-- such cells hold storable numbers alone (ANSI X3.9-1978, section 4.3; this project)
+abbrev pub HoldsStorable : List (List ℕ) → Store → Type 0
+HoldsStorable loop_variables u = (c : cells.Cell) (n : ℤ) → is_storing loop_variables c ≡ true → u c ≡ Number n → is_storable n ≡ true

@@ -184,8 +184,7 @@ module _ (constants : Values) (t : ProgramTree) (l : ℕ) (v : List ℕ → ℤ)
       let a = k i refl in
       let la : Lies a.0 i = a.1 in
       let lies : Lies (neg_ℤ a.0) (interval_negation i) = record { from = omega (arith, linear, la.to); to = omega (arith, linear, la.from) } in
-      let here : Lies (neg_ℤ a.0) r = subst (λ (q : Interval). Lies (neg_ℤ a.0) q) (kept (interval_negation i) r h) lies in
-      (
+      let here : Lies (neg_ℤ a.0) r = subst (λ (q : Interval). Lies (neg_ℤ a.0) q) (kept (interval_negation i) r h) lies in (
         neg_ℤ a.0,
         here,
         λ g u w. ap (λ (z : Result ℤ ℕ). (onward (f g u).seen z (λ x. given (by_number (negation_of x)))).result) (a.2 g u w) ∙ in_is (neg_ℤ a.0) (lies_near (neg_ℤ a.0) r here (kept_ends (interval_negation i) r h)),
@@ -200,13 +199,12 @@ module _ (constants : Values) (t : ProgramTree) (l : ℕ) (v : List ℕ → ℤ)
       let a = k i refl in
       let b = m j refl in
       let n : ℤ = op a.0 b.0 in
-      let here : Lies n r = subst (λ (q : Interval). Lies n q) (kept (F i j) r h) (law a.0 b.0 i j a.1 b.1) in
-      (
+      let here : Lies n r = subst (λ (q : Interval). Lies n q) (kept (F i j) r h) (law a.0 b.0 i j a.1 b.1) in (
         n,
         here,
         λ g u w. ap (λ (z : Result ℤ ℕ). (onward (f g u).seen z (λ x. e g u >>> λ y. given (by_number (in_range (op x y))))).result) (a.2 g u w)
-        ∙ ap (λ (z : Result ℤ ℕ). (onward (e g u).seen z (λ y. given (by_number (in_range (op a.0 y))))).result) (b.2 g u w)
-        ∙ in_is n (lies_near n r here (kept_ends (F i j) r h)),
+            ∙ ap (λ (z : Result ℤ ℕ). (onward (e g u).seen z (λ y. given (by_number (in_range (op a.0 y))))).result) (b.2 g u w)
+            ∙ in_is n (lies_near n r here (kept_ends (F i j) r h)),
       )
 
   more_known : (o : Option Interval) (p : Option (List Interval)) (f : Names → Store → Evaluated ℤ) (e : Names → Store → Evaluated (List ℤ)) → Known o (λ g. λ u. (f g u).result) → KnownAll p (λ g. λ u. (e g u).result)
@@ -215,12 +213,11 @@ module _ (constants : Values) (t : ProgramTree) (l : ℕ) (v : List ℕ → ℤ)
   more_known (Some i) None f e k m rs h = absurd cc
   more_known (Some i) (Some is) f e k m rs h =
       let a = k i refl in
-      let b = m is refl in
-      (
+      let b = m is refl in (
         a.0 ∷ b.0,
         subst (λ (q : List Interval). AllLie (a.0 ∷ b.0) q) (some_one (i ∷ is) rs h) (a.1, b.1),
         λ g u w. ap (λ (z : Result ℤ ℕ). (onward (f g u).seen z (λ n. e g u >>> λ ns. given (Ok (n ∷ ns)))).result) (a.2 g u w)
-        ∙ ap (λ (z : Result (List ℤ) ℕ). (onward (e g u).seen z (λ ns. given (Ok (a.0 ∷ ns)))).result) (b.2 g u w),
+            ∙ ap (λ (z : Result (List ℤ) ℕ). (onward (e g u).seen z (λ ns. given (Ok (a.0 ∷ ns)))).result) (b.2 g u w),
       )
 
   call_known : (f : Intrinsic) → IsExtreme f → (o : Option (List Interval)) → ((rs : List Interval) → o ≡ Some rs → HasTwo rs) → ((rs : List Interval) → o ≡ Some rs → AllNear rs) → (e : Names → Store → Evaluated (List ℤ)) → KnownAll o (λ g. λ u. (e g u).result)
@@ -231,8 +228,7 @@ module _ (constants : Values) (t : ProgramTree) (l : ℕ) (v : List ℕ → ℤ)
       let ns : List ℤ = a.0 in
       let all : AllLie ns rs = a.1 in
       let n = extreme_comes f x ns rs (two rs refl) all (numbers_near ns rs all (near rs refl)) in
-      let keeps : KeepAll (Some rs) (Ok ns) = λ ms qs e h. subst (λ (q : List Interval). AllLie ms q) (some_one rs qs h) (subst (λ (m : List ℤ). AllLie m rs) (ok_one ns ms e) all) in
-      (
+      let keeps : KeepAll (Some rs) (Ok ns) = λ ms qs e h. subst (λ (q : List Interval). AllLie ms q) (some_one rs qs h) (subst (λ (m : List ℤ). AllLie m rs) (ok_one ns ms e) all) in (
         n.0,
         call_of_keeps f (Some rs) (given (Ok ns)) keeps n.0 r n.1 h,
         λ g u w. ap (λ (z : Result (List ℤ) ℕ). (onward (e g u).seen z (λ us. given (of_intrinsic (intrinsic_result f us)))).result) (a.2 g u w) ∙ n.1,

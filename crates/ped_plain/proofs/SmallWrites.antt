@@ -44,14 +44,16 @@ storable_by : (b : Bool) (x n : ℤ) → is_storable x ≡ b → (if b then Ok x
 storable_by true x n e h = subst (λ (z : ℤ). is_storable z ≡ true) (ok_one x n h) e
 storable_by false x n e h = absurd cc
 
+stored_small_number : (d : Cell) (r : Result ℤ ℕ) (w : Stored) → ((n : ℤ) → r ≡ Ok n → is_storable n ≡ true) → (given r >>> λ n. given (Ok (record { cell = d; number = n }))).result ≡ Ok w → is_storable w.number ≡ true
+stored_small_number d (Ok n) w k h = subst (λ (z : Stored). is_storable z.number ≡ true) (ok_one (record { cell = d; number = n }) w h) (k n refl)
+stored_small_number d (Err i) w k h = absurd cc
+
 -- what an assignment stores has 32 bits
 assigned_small : (g : Names) (left right : ExprTree) (s : Store) (w : Stored) → (assigned g left right s).result ≡ Ok w → is_storable w.number ≡ true
 assigned_small g left right s w e =
     let one = came (value g right s).seen (value g right s).result (λ v. target g left s >>> λ d. given (storable v) >>> λ n. given (Ok (record { cell = d; number = n }))) w e in
     let two = came (target g left s).seen (target g left s).result (λ d. given (storable one.0) >>> λ n. given (Ok (record { cell = d; number = n }))) w one.2 in
-    let three = came [] (storable one.0) (λ n. given (Ok (record { cell = two.0; number = n }))) w two.2 in
-    let same = ok_one (record { cell = two.0; number = three.0 }) w three.2 in
-    subst (λ (z : ℤ). is_storable z ≡ true) (ap (λ (z : Stored). z.number) same) (storable_by (is_storable one.0) one.0 three.0 refl three.1)
+    stored_small_number two.0 (storable one.0) w (λ n q. storable_by (is_storable one.0) one.0 n refl q) two.2
 
 -- a value of the data has 32 bits
 value_by : (b : Bool) (x n : ℤ) → (if b then storable x else Err bad_data) ≡ Ok n → is_storable n ≡ true
@@ -92,8 +94,8 @@ module _ (p : Setting) (x : List ℕ) (c : Cell) (named : is_cell_of x c ≡ tru
       let seen : List Seen = (assigned (names_in p S) left right s).seen in
       on_small at (assigned (names_in p S) left right s).result seen (λ seen w. does did at (assignment_touches seen w) nothing_done s)
       (λ w e. small_append c (assignment_touches seen w) []
-          (small_append c (numbered 1 seen) (write_touch w.cell (Number w.number) (number_behind 1 seen) ∷ []) (seen_small 1 seen) ((λ h. assigned_small (names_in p S) left right s w e), tt))
-          tt)
+      (small_append c (numbered 1 seen) (write_touch w.cell (Number w.number) (number_behind 1 seen) ∷ []) (seen_small 1 seen) ((λ h. assigned_small (names_in p S) left right s w e), tt))
+      tt)
 
   print_small : (S : Scope) (at : Place) (items : List ItemTree) (s : Store) → Small (touches_of (run_print (names_in p S) at items s).acts)
   print_small S at items s =
@@ -190,7 +192,7 @@ module _ (p : Setting) (x : List ℕ) (c : Cell) (named : is_cell_of x c ≡ tru
         on_small (place_of p n S) (truth (names_in p S) condition s).result seen
         (λ seen holds. does did (place_of p n S) (numbered 1 seen) (if holds then run_all p a (n + 1) S else run_all p b (n + 1 + statements_count a) S) s)
         (λ holds e. small_append c (numbered 1 seen) _ (seen_small 1 seen)
-            (part_small holds (run_all p a (n + 1) S) (run_all p b (n + 1 + statements_count a) S) (store_behind (numbered 1 seen) s) (run_all_small a (n + 1) S _ parts.0) (run_all_small b (n + 1 + statements_count a) S _ parts.1)))
+        (part_small holds (run_all p a (n + 1) S) (run_all p b (n + 1 + statements_count a) S) (store_behind (numbered 1 seen) s) (run_all_small a (n + 1) S _ parts.0) (run_all_small b (n + 1 + statements_count a) S _ parts.1)))
     run_small (Do h b) n S s g =
         let parts = or_none (is_same_text x h.variable) (is_among x (all_loop_variables b)) g in
         on_small (place_of p n S) (limits (names_in p S) h s).result (limits (names_in p S) h s).seen (λ seen l. run_from_entry seen (entered_with p n h b seen l) S (place_of p n S) (λ f. run_all p b (n + 1) (f ∷ S)) s)

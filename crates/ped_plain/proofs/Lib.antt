@@ -3,4 +3,5 @@ pub mod PlainValues
 pub mod SmallWrites
 pub mod Nests
 pub mod Standing
+pub mod Entries
 mod Examples

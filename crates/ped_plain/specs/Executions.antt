@@ -65,6 +65,12 @@ pub record IsDuring (p : Setting) (t : ProgramTree) (l : ℕ) (s u : Store) : Ty
   pub whole : (run p (Do loop.head loop.body) (outermost_or l (nest_round t l)) [] s).acts ≡ done ++ left
   pub after : u ≡ store_after done s
 
+-- acts that come behind others in a run begin with the acts of the outermost DO that is a DO or is round it, done from the store that those have left (ANSI X3.9-1978, section 11.10; this project)
+pub record IsExecution (p : Setting) (t : ProgramTree) (l : ℕ) (s : Store) (front acts : List Act) : Type 0 where
+  pub loop : LoopOf t (outermost_or l (nest_round t l))
+  pub left : List Act
+  pub begins : acts ≡ (run p (Do loop.head loop.body) (outermost_or l (nest_round t l)) [] (store_after front s)).acts ++ left
+
 -- a number has 32 bits; what holds none is small, too (ANSI X3.9-1978, section 4.3; this project)
 abbrev pub is_small : Content → Bool
 is_small Undefined = true

@@ -5,5 +5,5 @@
 mod bounds;
 mod sizes;
 
-pub use bounds::{bounds_in_executions, plain_bounds, values_stand};
+pub use bounds::{bounds_in_executions, entries_begin_executions, plain_bounds, values_stand};
 pub use sizes::scalars_are_small;

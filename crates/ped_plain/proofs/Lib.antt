@@ -1,0 +1,7 @@
+pub mod NearIntervals
+pub mod PlainValues
+pub mod SmallWrites
+pub mod Nests
+pub mod Standing
+pub mod Entries
+mod Examples

@@ -1,0 +1,9 @@
+//! Plain bounds of DO loops: they may be evaluated anywhere in the outermost DO. Each function here does nothing; its
+//! contract is the law. A step that enters a loop more often than before, or earlier, rests on these laws.
+#![tactic(auto)]
+
+mod bounds;
+mod sizes;
+
+pub use bounds::{bounds_in_executions, entries_begin_executions, plain_bounds, values_stand};
+pub use sizes::scalars_are_small;

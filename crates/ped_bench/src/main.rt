@@ -1,14 +1,16 @@
 //! Does one of ped's works so many times, for `tools/bench.sh` to measure: cuts the lines of a file into
-//! statements or a script into commands, prints a program of so many statements, looks up its names, calls a dependence
-//! test, or runs a program. Nothing is promised of it: it prints how much came out, and times nothing itself.
+//! statements or a script into commands, prints a program of so many statements, looks up its names, asks for the flow of
+//! scalars, calls a dependence test, or runs a program. Nothing is promised of it: it prints how much came out, and times nothing itself.
 #![tactic(auto)]
 
 mod dependence_tests;
+mod flows;
 mod programs;
 mod runs;
 
 use anyhow::bail;
 use dependence_tests::excluded;
+use flows::asked;
 use ped_fits::fits;
 use ped_lines::statements;
 use ped_print::source_pane;
@@ -25,7 +27,7 @@ fn main(rt: HostRuntime) -> anyhow::Result<ExitCode> {
     let words: Vec<String> = env::args(&rt)?.skip(1).collect(alloc)?;
     let [work, what, times] = words.as_slice() else {
         println!(rt;
-            "usage: ped_bench cut FILE TIMES | script FILE TIMES | print STATEMENTS TIMES | names STATEMENTS TIMES | test NAME TIMES | run FILE DATA"
+            "usage: ped_bench cut FILE TIMES | script FILE TIMES | flow FILE TIMES | print STATEMENTS TIMES | names STATEMENTS TIMES | test NAME TIMES | run FILE DATA"
         )?;
         return Ok(ExitCode::from(2));
     };
@@ -42,6 +44,9 @@ fn main(rt: HostRuntime) -> anyhow::Result<ExitCode> {
     } else if work.as_str() == "script" {
         let text = fs::read(&rt, what.as_str())?;
         commands_of(alloc, &text, times)? as u64
+    } else if work.as_str() == "flow" {
+        let text = fs::read(&rt, what.as_str())?;
+        asked(alloc, &text, times)?
     } else if work.as_str() == "names" {
         names(alloc, what.parse::<u64>()?, times)? as u64
     } else if work.as_str() == "test" {

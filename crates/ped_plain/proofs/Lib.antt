@@ -4,4 +4,5 @@ pub mod SmallWrites
 pub mod Nests
 pub mod Standing
 pub mod Entries
+pub mod Insides
 mod Examples

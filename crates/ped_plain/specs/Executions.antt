@@ -1,10 +1,10 @@
 -- Places and stores of an execution of an outermost DO, and the values that stand there (ANSI X3.9-1978, section 11.10; this project).
-use Rattle.std.specs.Prelude.{◌≡◌, ℕ, ℤ, pos, List, [], ◌∷◌, ◌++◌, Bool, true, false, Some, None, Ok, IsTrue, if◌then◌else◌}
+use Rattle.std.specs.Prelude.{◌≡◌, ℕ, ℤ, pos, List, [], ◌∷◌, ◌++◌, Bool, true, false, Some, None, Ok, IsTrue, ◌⊎◌, if◌then◌else◌}
 use Rattle.std.specs.Map.{lookup}
 use Rattle.ped_base.specs.Lists.{is_same_text, is_among}
 use Rattle.ped_views.specs.declared.intervals.Interval.{Interval}
 use Rattle.ped_views.specs.Intervals.{Lies}
-use Rattle.ped_tree.specs.Tree.{ExprTree, Do, ProgramTree}
+use Rattle.ped_tree.specs.Tree.{ExprTree, StmtTree, Do, ProgramTree}
 use Rattle.ped_tree.specs.Nests.{indices_of}
 use Rattle.ped_tree.specs.Accesses.{constant_names}
 use Rattle.ped_constants.specs.NamedConstants.{value_named}
@@ -27,6 +27,11 @@ use Rattle.ped_plain.specs.PlainValues.{around_loop}
 -- each named constant of the program has a value (ANSI X3.9-1978, section 8.6)
 abbrev pub HaveValues : Values → ProgramTree → Type 0
 HaveValues constants t = (x : List ℕ) → value_named constants x ≡ None → is_among x (constant_names t.decls) ≡ false
+
+-- the statement is one of these (plain words)
+abbrev pub IsOneOf : StmtTree → List StmtTree → Type 0
+IsOneOf s [] = ⊥
+IsOneOf s (t ∷ ts) = (t ≡ s) ⊎ IsOneOf s ts
 
 -- an iteration of a DO in the outermost DO: its variable is that of a DO of the program, and what it has copies of is assigned there (ANSI X3.9-1978, section 11.10; ParaScope; this project)
 pub record IsInside (s : ranges.Setting) (f : Frame) : Type 0 where

@@ -1,19 +1,23 @@
 //! What a plain bound is worth.
 
 ghost use Rattle.std.specs.Prelude.{◌≡◌, ℕ, ℤ, List, ◌∷◌, false, true};
-ghost use Rattle.ped_tree.specs.Tree.{ExprTree, ProgramTree};
+ghost use Rattle.ped_tree.specs.Tree.{ExprTree, Head, StmtTrees, Do, ProgramTree};
+ghost use Rattle.ped_tree.specs.Numbering.{numbered};
 ghost use Rattle.ped_grammar.specs.Fits.{expr_fits};
 ghost use Rattle.ped_store.specs.Cells.{Scalar};
 ghost use Rattle.ped_store.specs.Stores.{Store};
 ghost use Rattle.ped_store.specs.Acts.{Act};
 ghost use Rattle.ped_acts.specs.Fitting.{store_after};
 ghost use Rattle.ped_eval.specs.Scopes.{Scope, Setting, names_in};
-ghost use Rattle.ped_flow.specs.PlainBounds.{Values, IsPlain};
+ghost use Rattle.ped_eval.specs.Evaluation.{Seen};
+ghost use Rattle.ped_eval.specs.Loops.{Limits, entered_with, frame};
+ghost use Rattle.ped_flow.specs.PlainBounds.{Values, nest_round, setting_round, outermost_or, IsPlain};
+ghost use Rattle.ped_flow.specs.Questions.{LoopOf};
 ghost use Rattle.ped_flow_runs.specs.Covering.{some_stops_in_loop};
 ghost use Rattle.ped_flow_runs.specs.Entries.{IsEntry};
 ghost use Rattle.ped_flow_runs.specs.Exits.{IsOneToOne};
 ghost use Rattle.ped_plain.specs.PlainValues.{AreInRange, Stand, HasPlainValue};
-ghost use Rattle.ped_plain.specs.Executions.{HaveValues, IsPlaceWith, LieInRanges, values_with, IsDuring, IsExecution, is_small, HasValueDuring};
+ghost use Rattle.ped_plain.specs.Executions.{HaveValues, IsOneOf, IsInside, IsPlaceWith, LieInRanges, values_with, IsDuring, IsExecution, is_small, HasValueDuring};
 
 /// For all values in range of the DO variables round it, and all numbers of 32 bits in the scalars that keep theirs, a
 /// plain bound has one value: to that it evaluates, without a fault, wherever these hold, and a DO may have it as a
@@ -41,4 +45,10 @@ pub fn bounds_in_executions()
 /// the run.
 pub fn entries_begin_executions()
     ensures { (p : Setting) → IsOneToOne p.number → (t : ProgramTree) (s : Store) (l : ℕ) (front : List Act) → (e : IsEntry p t s l front) → IsExecution p t l s front (e.act ∷ e.behind) }
+{}
+
+/// The iterations of a DO that stands in an outermost DO, or is it, may be told at places of the other laws, whatever
+/// limits the DO is entered with.
+pub fn iterations_are_inside()
+    ensures { (constants : Values) (t : ProgramTree) (l : ℕ) (outer : LoopOf t (outermost_or l (nest_round t l))) (h : Head) (b : StmtTrees) → IsOneOf (Do h b) (numbered (Do outer.head outer.body)) → (p : Setting) (n : ℕ) (seen : List Seen) (m : Limits) (k : ℕ) → IsInside (setting_round constants t l) (frame (entered_with p n h b seen m) k) }
 {}

@@ -5,5 +5,8 @@
 mod bounds;
 mod sizes;
 
-pub use bounds::{bounds_in_executions, entries_begin_executions, plain_bounds, values_stand};
+pub use bounds::{
+    bounds_in_executions, entries_begin_executions, iterations_are_inside, plain_bounds,
+    values_stand,
+};
 pub use sizes::scalars_are_small;

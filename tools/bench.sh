@@ -3,7 +3,8 @@
 # much memory it has at its peak, on programs of 64 KiB, 256 KiB and 1 MiB; how long `source_pane` of
 # ped_print takes, per byte of the pane, on programs of 250, 1,000 and 4,000 statements; how long
 # `symbols_of` of ped_symbols takes, per statement, on programs of 1,000 and 4,000 statements with as many names; how long
-# `commands` of ped_script takes, per byte, on scripts of up to 1 MiB; how long a call of each dependence test takes; how long `run_in_order` of ped_eval takes for an assignment in loops, over an
+# `commands` of ped_script takes, per byte, on scripts of up to 1 MiB; how long the questions of ped_flow take, for 1,000 scalars
+# of a loop; how long a call of each dependence test takes; how long `run_in_order` of ped_eval takes for an assignment in loops, over an
 # array and over a scalar, from 10^4 to 10^7 of them, and how much memory a store of 2^20 elements takes; how long `ped show` takes, and how much memory, on programs of 64 KiB,
 # 256 KiB and 1 MiB that are read; how long it takes for each pair of references, and how much memory, on nests of two and of
 # six loops, up to the limit of pairs; how much stack it needs on programs at the limits of the language; and how long an edit,
@@ -267,6 +268,33 @@ all_commands 65536
 all_commands 262144
 all_commands 1048576
 one_edit 921600
+END
+
+# So many statements with 1,000 scalars, in one loop or in six, where each group has an IF that assigns one scalar in either part.
+flows() {
+    awk -v loops="$1" -v n="$2" 'BEGIN {
+        for (k = 1; k <= loops; k++) printf "      DO %d I%d = 1, 9\n", 70 - 10 * k, k
+        for (k = 0; 3 * k + loops + 3 <= n; k++) {
+            printf "      IF (I1.EQ.%d) THEN\n      N%d = N%d+1\n      ELSE\n", k, k % 1000, (k + 999) % 1000
+            printf "      N%d = N%d\n      END IF\n", k % 2 ? k % 1000 : (k + 500) % 1000, (k + 998) % 1000
+        }
+        for (k = loops; k >= 1; k--) printf "%5d CONTINUE\n", 70 - 10 * k
+        print "      END"
+    }'
+}
+printf '\n%10s %10s %12s\n' loops statements ms/1000
+while read -r loops statements times; do
+    flows "$loops" "$statements" >"$work/flows.f"
+    awk -v loops="$loops" -v statements="$statements" -v times="$times" \
+        -v seconds="$(least '%U %S' flow "$work/flows.f" "$times")" \
+        -v no_seconds="$(least '%U %S' flow "$work/flows.f" 0)" 'BEGIN {
+            all = (seconds - no_seconds) * 1e3 / times
+            printf "%10d %10d %12.1f\n", loops, statements, all
+        }'
+done <<'END'
+1 1000 10
+1 4000 10
+6 4000 10
 END
 
 # Of each test so many calls that they take some seconds.

@@ -4,8 +4,8 @@ use Rattle.ped_tree.specs.Numbering.{statements_count}
 use Rattle.ped_grammar.specs.Fits.{fits}
 use Rattle.ped_bench.proofs.flows.asked.Goals as goal
 
-pub asked_of_all-requires : goal.asked_of_all-requires
-asked_of_all-requires c =
+pub asked_of_all-count-requires : goal.asked_of_all-count-requires
+asked_of_all-count-requires c =
     let t = program_tree c.in_ok-opened.opened.program in
     let fit : fits t ≡ true = sym c.fits.ensures ∙ search rules in
     let few : statements_count t.body ≤ 4000 = (c.small_where_it_fits.ensures t fit).few_statements in

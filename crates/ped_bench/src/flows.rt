@@ -50,5 +50,8 @@ fn asked_of(program: &Program, name: &Name) -> u64
     let live = u64::from(flow.live_after(1, name).is_some());
     let before = u64::from(flow.assigned_before(1, name));
     let through = u64::from(flow.assigned_through(1, name));
-    exposed.saturating_add(live).saturating_add(before).saturating_add(through)
+    exposed
+        .saturating_add(live)
+        .saturating_add(before)
+        .saturating_add(through)
 }

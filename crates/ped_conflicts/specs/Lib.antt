@@ -1,0 +1,5 @@
+pub mod Reaching
+pub mod Making
+pub mod Sequence
+pub mod Directions
+pub mod Covered

@@ -1,5 +1,5 @@
 -- In which order a run comes to accesses: by the iterations of the loops round both, and in the same iterations by the program's text (ANSI X3.9-1978, section 11.10; this project).
-use Rattle.std.specs.Prelude.{◌≡◌, ◌⊎◌, ◌<◌, ℕ, ℤ, pos, ◌-◌, ◌+ℤ◌, ◌*ℤ◌, List, [], ◌∷◌, Some}
+use Rattle.std.specs.Prelude.{◌≡◌, ◌⊎◌, ◌<◌, ℕ, ℤ, pos, ◌-◌, ◌+ℤ◌, ◌*ℤ◌, List, [], ◌∷◌, true, Some}
 use Rattle.ped_tree.specs.Tree.{Head, StmtTrees, Do, ProgramTree}
 use Rattle.ped_tree.specs.Numbering.{statement_with}
 use Rattle.ped_store.specs.Acts.{Turn}
@@ -23,8 +23,8 @@ pub record AreSuccessive (t : ProgramTree) (i j : Turn) : Type 0 where
   pub at_first : i.value ≡ initial +ℤ pos (i.number - 1) *ℤ increment (setting_of t).constants head
   pub at_second : j.value ≡ initial +ℤ pos (j.number - 1) *ℤ increment (setting_of t).constants head
 
--- the first access comes before the second, which stand in these iterations: where their iterations differ first, those of one DO are successive, and else they stand so in the text; but what a DO does when it is left comes behind what was done in its iterations (ANSI X3.9-1978, section 11.10; this project)
+-- the first access comes before the second, which stand in these iterations: where their iterations differ first, those of one DO are successive, and else they stand so in the text; but what a DO writes when it is left comes behind what was done in its iterations (ANSI X3.9-1978, section 11.10; this project)
 abbrev pub ComesBefore : ProgramTree → Access → Access → List Turn → List Turn → Type 0
 ComesBefore t a b (i ∷ is) (j ∷ js) = ((i ≡ j) × ComesBefore t a b is js) ⊎ AreSuccessive t i j ⊎ ((¬ (i.statement ≡ j.statement)) × IsBeforeInText a b)
 ComesBefore t a b [] js = IsBeforeInText a b
-ComesBefore t a b (i ∷ is) [] = IsBeforeInText a b ⊎ (i.statement ≡ b.place.statement)
+ComesBefore t a b (i ∷ is) [] = IsBeforeInText a b ⊎ ((i.statement ≡ b.place.statement) × (b.writes ≡ true))

@@ -1,0 +1,5 @@
+pub mod CoveringNests
+pub mod CoveringOwners
+pub mod CoveringDirections
+pub mod CoveringCarriage
+pub mod CoveringEdges

@@ -1,0 +1,110 @@
+-- Iterations that a run has come to are of the loops of a nest, and copies of scalars belong to some of them.
+use Rattle.std.proofs.Common.{◌≡◌, ℕ, suc, ◌+◌, ◌≤◌, ◌<◌, List, [], ◌∷◌, ◌++◌, length, Bool, true, false, ◌&&◌, ◌||◌, refl, sym, ap, ◌∙◌, subst, ◌⊎◌, inl, inr, arith, Option, Some, None, if◌then◌else◌}
+use Rattle.std.specs.List.{list_all}
+use Rattle.std.specs.Option.{option_or}
+use Rattle.std.proofs.lemmas.Bool.{both_ways}
+use Rattle.std.proofs.lemmas.List.{append_assoc, append-nil, length-append, length-map, map-append}
+use Rattle.std.proofs.lemmas.List.Folds.{list_any-append}
+use Rattle.ped_base.specs.Lists.{is_same_text, is_among}
+use Rattle.ped_tree.specs.Tree.{Head, StmtTree, StmtTrees, Assign, If, Do, Print, Read, Stop, Comment, ProgramTree}
+use Rattle.ped_tree.specs.Nests.{Loop}
+use Rattle.ped_tree.specs.Numbering.{statement_with}
+use Rattle.ped_grammar.specs.Words.{is_name}
+use Rattle.ped_symbols.specs.Kinds.{kind_in}
+use Rattle.ped_refs.specs.References.{innermost_private}
+use Rattle.ped_graph.specs.Owners.{level_by, private_level}
+use Rattle.ped_store.specs.Cells.{Cell, Scalar, Element, Private, In, Out, Iteration}
+use Rattle.ped_store.specs.Stores.{Store}
+use Rattle.ped_store.specs.Acts.{Turn, iterations_of}
+use Rattle.ped_uses.specs.RightUses.{is_scalar}
+use Rattle.ped_uses.specs.RightLoops.{step_is_right}
+use Rattle.ped_affine.specs.Ranges.{Setting}
+use Rattle.ped_eval.specs.Scopes.{Frame, Scope, turns_of, cell_of}
+use Rattle.ped_eval.specs.Loops.{Entered, frame, entered_with, copied_names}
+use Rattle.ped_eval.specs.Outcomes.{setting_of}
+use Rattle.ped_conflicts.specs.Reaching.{IsEntered, Reached}
+
+-- an iteration of this DO of the program
+pub record IsOf (t : ProgramTree) (l : Loop) (i : Turn) : Type 0 where
+  pub statement : i.statement ≡ l.number
+  pub body : StmtTrees
+  pub stands : statement_with l.number t ≡ Some (Do l.head body)
+  pub step : step_is_right (setting_of t).constants l.head.step ≡ true
+  pub from : 1 ≤ i.number
+  pub parallel : i.parallel ≡ l.head.parallel
+  pub private : list_all (is_scalar (kind_in t)) l.head.private ≡ true
+  pub named : list_all is_name l.head.private ≡ true
+
+-- each iteration is one of the DO at its level, and there are as many of each
+abbrev pub AreOf : ProgramTree → List Loop → List Turn → Type 0
+AreOf t (l ∷ ls) (i ∷ is) = IsOf t l i × AreOf t ls is
+AreOf t [] [] = Unit {0}
+AreOf t [] (i ∷ is) = ⊥
+AreOf t (l ∷ ls) [] = ⊥
+
+are_more : (t : ProgramTree) (ls : List Loop) (is : List Turn) (l : Loop) (i : Turn) → AreOf t ls is → IsOf t l i → AreOf t (ls ++ l ∷ []) (is ++ i ∷ [])
+are_more t [] [] l i h k = (k, tt)
+are_more t [] (j ∷ is) l i h k = absurd h
+are_more t (m ∷ ls) [] l i h k = absurd h
+are_more t (m ∷ ls) (j ∷ is) l i h k = (h.0, are_more t ls is l i h.1 k)
+
+is_of : (t : ProgramTree) (s : Setting) (first : Store) (outer : Scope) (l : Loop) (f : Frame) → IsEntered t s first outer l f → IsOf t l f.turn
+is_of t s first outer l f e = record {
+  statement = ap (λ (g : Frame). g.turn.statement) e.is;
+  body = e.body;
+  stands = e.stands;
+  step = e.step;
+  from = subst (λ (k : ℕ). 1 ≤ k) (sym (ap (λ (g : Frame). g.turn.number) e.is)) e.from;
+  parallel = ap (λ (g : Frame). g.turn.parallel) e.is;
+  private = e.private;
+  named = e.named;
+}
+
+-- the iterations that a run has come to are of the loops of the nest
+pub reached_are : (t : ProgramTree) (s : Setting) (first : Store) (nest : List Loop) (scope : Scope) → Reached t s first nest scope → AreOf t nest (turns_of scope)
+reached_are t s first nest [] h = subst (λ (ns : List Loop). AreOf t ns []) (sym h) tt
+reached_are t s first nest (f ∷ outer) h =
+    subst (λ (ns : List Loop). AreOf t ns (turns_of outer ++ f.turn ∷ [])) (sym h.2)
+    (are_more t h.0 (turns_of outer) h.1 f.turn (reached_are t s first h.0 outer h.4) (is_of t s first outer h.1 f h.3))
+
+-- as many loops as iterations
+pub same_depth : (t : ProgramTree) (ls : List Loop) (is : List Turn) → AreOf t ls is → length ls ≡ length is
+same_depth t [] [] h = refl
+same_depth t [] (i ∷ is) h = absurd h
+same_depth t (l ∷ ls) [] h = absurd h
+same_depth t (l ∷ ls) (i ∷ is) h = ap suc (same_depth t ls is h.1)
+
+-- the head of a DO, and else this
+abbrev head_or : Head → Option StmtTree → Head
+head_or other (Some (Do h body)) = h
+head_or other s = other
+
+-- one statement is one loop
+one_loop : (t : ProgramTree) (l m : Loop) (i j : Turn) → IsOf t l i → IsOf t m j → i.statement ≡ j.statement → l ≡ m
+one_loop t l m i j h k e =
+    let number : l.number ≡ m.number = sym h.statement ∙ e ∙ k.statement in
+    let same : l.head ≡ m.head = ap (head_or l.head) (sym h.stands ∙ ap (λ (n : ℕ). statement_with n t) number ∙ k.stands) in
+    λ i. record { number = number i; head = same i }
+
+pub first_iteration : (i j : Iteration) (is js : List Iteration) → i ∷ is ≡ j ∷ js → i ≡ j
+first_iteration i j is js e = cc
+
+pub more_iterations : (i j : Iteration) (is js : List Iteration) → i ∷ is ≡ j ∷ js → is ≡ js
+more_iterations i j is js e = cc
+
+-- the same iterations are of the same loops
+pub one_nest : (t : ProgramTree) (ls ms : List Loop) (is js : List Turn) → AreOf t ls is → AreOf t ms js → iterations_of is ≡ iterations_of js → ls ≡ ms
+one_nest t [] [] [] js h k e = refl
+one_nest t [] (m ∷ ms) [] [] h k e = absurd k
+one_nest t [] (m ∷ ms) [] (j ∷ js) h k e = absurd cc
+one_nest t [] ms (i ∷ is) js h k e = absurd h
+one_nest t (l ∷ ls) ms [] js h k e = absurd h
+one_nest t (l ∷ ls) [] (i ∷ is) [] h k e = absurd cc
+one_nest t (l ∷ ls) [] (i ∷ is) (j ∷ js) h k e = absurd k
+one_nest t (l ∷ ls) (m ∷ ms) (i ∷ is) [] h k e = absurd k
+one_nest t (l ∷ ls) (m ∷ ms) (i ∷ is) (j ∷ js) h k e =
+    let here = first_iteration (record { statement = i.statement; number = i.number }) (record { statement = j.statement; number = j.number }) (iterations_of is) (iterations_of js) e in
+    let more = more_iterations (record { statement = i.statement; number = i.number }) (record { statement = j.statement; number = j.number }) (iterations_of is) (iterations_of js) e in
+    let first = one_loop t l m i j h.0 k.0 (ap (λ (z : Iteration). z.statement) here) in
+    let rest = one_nest t ls ms is js h.1 k.1 more in
+    λ z. first z ∷ rest z

@@ -15,15 +15,7 @@ use Rattle.ped_graph.specs.Owners.{have_same_owner, owner_level, is_same, within
 use Rattle.ped_graph.specs.Dependences.{Carriage, carried, independent, carriage_from, is_of, vectors_of, kind_of, place_of, distances_of, Facts, facts_of, view_of, edge_at, independent_edge, divided, edges_by, PairEdges, EdgesOfPairs, AreEdges}
 use Rattle.ped_graph.specs.Marks.{mark_of}
 use Rattle.ped_acts.specs.Orders.{IsIn}
-
-in_left : {X : Type 0} (x : X) (xs ys : List X) → IsIn x xs → IsIn x (xs ++ ys)
-in_left x (z ∷ xs) ys (inl e) = inl e
-in_left x (z ∷ xs) ys (inr i) = inr (in_left x xs ys i)
-in_left x [] ys i = absurd i
-
-in_right : {X : Type 0} (x : X) (xs ys : List X) → IsIn x ys → IsIn x (xs ++ ys)
-in_right x [] ys i = i
-in_right x (z ∷ xs) ys i = inr (in_right x xs ys i)
+use Rattle.ped_acts.proofs.Lists.{in_left, in_right}
 
 in_mapped : {X Y : Type 0} (f : X → Y) (x : X) (xs : List X) → IsIn x xs → IsIn (f x) (map f xs)
 in_mapped f x [] i = absurd i

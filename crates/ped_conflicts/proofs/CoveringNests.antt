@@ -48,7 +48,7 @@ are_more t [] (j ∷ is) l i h k = absurd h
 are_more t (m ∷ ls) [] l i h k = absurd h
 are_more t (m ∷ ls) (j ∷ is) l i h k = (h.0, are_more t ls is l i h.1 k)
 
-is_of : (t : ProgramTree) (s : Setting) (first : Store) (outer : Scope) (l : Loop) (f : Frame) → IsEntered t s first outer l f → IsOf t l f.turn
+pub is_of : (t : ProgramTree) (s : Setting) (first : Store) (outer : Scope) (l : Loop) (f : Frame) → IsEntered t s first outer l f → IsOf t l f.turn
 is_of t s first outer l f e = record {
   statement = ap (λ (g : Frame). g.turn.statement) e.is;
   body = e.body;
@@ -108,3 +108,10 @@ one_nest t (l ∷ ls) (m ∷ ms) (i ∷ is) (j ∷ js) h k e =
     let first = one_loop t l m i j h.0 k.0 (ap (λ (z : Iteration). z.statement) here) in
     let rest = one_nest t ls ms is js h.1 k.1 more in
     λ z. first z ∷ rest z
+
+-- an iteration among others is of one of the loops
+pub one_of : (t : ProgramTree) (ls : List Loop) (is : List Turn) (i : Turn) (more : List Turn) → AreOf t ls (is ++ i ∷ more) → (l : Loop) × IsOf t l i
+one_of t [] [] i more h = absurd h
+one_of t [] (j ∷ is) i more h = absurd h
+one_of t (l ∷ ls) [] i more h = (l, h.0)
+one_of t (l ∷ ls) (j ∷ is) i more h = one_of t ls is i more h.1

@@ -147,12 +147,12 @@ path_of (Element x js) = []
 path_of In = []
 path_of Out = []
 
-module _ (t : ProgramTree) (s : Setting) (first : Store) (x : List ℕ) (ls ms : List Loop) (source sink : Scope) (reached_source : Reached t s first ls source) (reached_sink : Reached t s first ms sink) where
-  copies_owned : (path other : List Iteration) → IsCopyIn t s first x ls (turns_of source) path → IsCopyIn t s first x ms (turns_of sink) other → path ≡ other → HaveOneOwner x ls ms (turns_of source) (turns_of sink)
+module _ (t : ProgramTree) (s q : Setting) (first second : Store) (x : List ℕ) (ls ms : List Loop) (source sink : Scope) (reached_source : Reached t s first ls source) (reached_sink : Reached t q second ms sink) where
+  copies_owned : (path other : List Iteration) → IsCopyIn t s first x ls (turns_of source) path → IsCopyIn t q second x ms (turns_of sink) other → path ≡ other → HaveOneOwner x ls ms (turns_of source) (turns_of sink)
   copies_owned path other h k e =
       let same : iterations_of (turns_of h.outer) ≡ iterations_of (turns_of k.outer) = sym h.is ∙ e ∙ k.is in
       let of_source = reached_are t s first h.front h.outer h.reached in
-      let of_sink = reached_are t s first k.front k.outer k.reached in
+      let of_sink = reached_are t q second k.front k.outer k.reached in
       let fronts : h.front ≡ k.front = one_nest t h.front k.front (turns_of h.outer) (turns_of k.outer) of_source of_sink same in (
         h.owner ∙ ap (innermost_private x) fronts ∙ sym k.owner,
         record {
@@ -169,9 +169,9 @@ module _ (t : ProgramTree) (s : Setting) (first : Store) (x : List ℕ) (ls ms :
 
   -- so it is with references that touch one cell of a scalar
   pub one_owner : cell_of source x ≡ cell_of sink x → HaveOneOwner x ls ms (turns_of source) (turns_of sink)
-  one_owner e = go (cell_in t s first x ls source reached_source) (cell_in t s first x ms sink reached_sink)
+  one_owner e = go (cell_in t s first x ls source reached_source) (cell_in t q second x ms sink reached_sink)
     where
-      go : CellOf t s first x ls source (cell_of source x) → CellOf t s first x ms sink (cell_of sink x) → HaveOneOwner x ls ms (turns_of source) (turns_of sink)
+      go : CellOf t s first x ls source (cell_of source x) → CellOf t q second x ms sink (cell_of sink x) → HaveOneOwner x ls ms (turns_of source) (turns_of sink)
       go (inl h) (inl k) = none_owned x ls ms (turns_of source) (turns_of sink) h.1 k.1
       go (inl h) (inr k) = let c : Scalar x ≡ Private x k.0 = sym h.0 ∙ e ∙ k.1 in absurd cc
       go (inr h) (inl k) = let c : Private x h.0 ≡ Scalar x = sym h.1 ∙ e ∙ k.0 in absurd cc
@@ -185,6 +185,13 @@ not_among p x (y ∷ ys) h k = go (is_same_text x y) refl (not_among p x ys (and
     go : (b : Bool) → is_same_text x y ≡ b → is_among x ys ≡ false → b || is_among x ys ≡ false
     go true e more = absurd (both_ways (p x) k (ap p (text_is x y e) ∙ (and_parts (p y) (list_all p ys) h).0))
     go false e more = more
+
+pub holds_among : (p : List ℕ → Bool) (x : List ℕ) (names : List (List ℕ)) → list_all p names ≡ true → is_among x names ≡ true → p x ≡ true
+holds_among p x names h k = go (p x) refl
+  where
+    go : (b : Bool) → p x ≡ b → p x ≡ true
+    go true e = e
+    go false e = absurd (both_ways (is_among x names) (not_among p x names h e) k)
 
 pub never_private : (t : ProgramTree) (p : List ℕ → Bool) (x : List ℕ) (ls : List Loop) (is : List Turn) → ((l : Loop) (i : Turn) → IsOf t l i → list_all p l.head.private ≡ true) → p x ≡ false → AreOf t ls is → HasNone x ls
 never_private t p x [] is all h k = (refl, refl)

@@ -6,3 +6,4 @@ pub mod CoveringEdges
 pub mod CoveringWrites
 pub mod CoveringCells
 pub mod CoveringConflicts
+pub mod CoveringRuns

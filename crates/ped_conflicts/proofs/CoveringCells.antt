@@ -67,7 +67,7 @@ depth_of (Element x subscripts) = 0
 depth_of In = 0
 depth_of Out = 0
 
-abbrev iteration_of : Turn → Iteration
+abbrev pub iteration_of : Turn → Iteration
 iteration_of i = record { statement = i.statement; number = i.number }
 
 path_long : (is : List Turn) → length (iterations_of is) ≡ length is

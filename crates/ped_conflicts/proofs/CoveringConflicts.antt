@@ -38,7 +38,7 @@ use Rattle.ped_conflicts.specs.Directions.{StandInDirections, share_a_loop}
 use Rattle.ped_conflicts.specs.Covered.{ComeInRun, IsCovered, IsParallelAt}
 use Rattle.ped_conflicts.proofs.CoveringNests.{IsOf, AreOf, reached_are, one_of}
 use Rattle.ped_conflicts.proofs.CoveringOwners.{HasNone, HaveOneOwner, ShareFront, none_owned, one_owner, never_private, holds_among, same_owner}
-use Rattle.ped_conflicts.proofs.CoveringDirections.{have_directions, same_numbers}
+use Rattle.ped_conflicts.proofs.CoveringDirections.{same_numbers, numbers_are}
 use Rattle.ped_conflicts.proofs.CoveringCarriage.{IsCarried, IsExit, IsIndependent, carriage_is, same_front}
 use Rattle.ped_conflicts.proofs.CoveringEdges.{IsLevel, IsBetween, edge_between}
 use Rattle.ped_conflicts.proofs.CoveringWrites.{statement_of, do_writes}
@@ -95,11 +95,8 @@ module _ (t : ProgramTree) (first : Store) (a b : Access) (source sink : Referen
   share_common [] ms (i ∷ is) (j ∷ js) h k s = absurd h
   share_common (l ∷ ls) [] (i ∷ is) (j ∷ js) h k s = absurd k
   share_common (l ∷ ls) (n ∷ ms) (i ∷ is) (j ∷ js) h k s =
-      let equal : l.number ≡ n.number = sym h.0.statement ∙ number_is i.statement j.statement s ∙ k.0.statement in
+      let equal : l.number ≡ n.number = sym h.0.statement ∙ numbers_are i.statement j.statement s ∙ k.0.statement in
       ap (λ (b : Bool). has_some (if b then l ∷ common_nest ls ms else [])) (same_numbers l.number n.number equal)
-    where
-      number_is : (m n : ℕ) → (m == n) ≡ true → m ≡ n
-      number_is m n e = grind (arith, nat_tests)
 
   pair : is_pair source sink ≡ true
   pair =

@@ -31,6 +31,9 @@ use Rattle.ped_conflicts.proofs.CoveringNests.{IsOf, AreOf, first_iteration, mor
 pub same_numbers : (m n : ℕ) → m ≡ n → (m == n) ≡ true
 same_numbers m n e = grind (arith, nat_tests)
 
+pub numbers_are : (m n : ℕ) → (m == n) ≡ true → m ≡ n
+numbers_are m n e = grind (arith, nat_tests)
+
 pub other_numbers : (m n : ℕ) → ¬ (m ≡ n) → (m == n) ≡ false
 other_numbers m n h = grind (arith, nat_tests)
 

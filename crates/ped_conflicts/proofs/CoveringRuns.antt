@@ -2,7 +2,6 @@
 use Rattle.std.proofs.Common.{◌≡◌, ℕ, ◌<◌, List, [], ◌∷◌, ◌++◌, length, Bool, true, false, ◌&&◌, ◌||◌, refl, sym, ap, ◌∙◌, subst, inl, inr, arith, if◌then◌else◌}
 use Rattle.std.specs.Prelude.{◌==◌}
 use Rattle.std.proofs.lemmas.Bool.{and_parts}
-use Rattle.std.proofs.lemmas.Bool.Decides.{nat_tests}
 use Rattle.ped_views.specs.declared.directions.Direction.{Direction}
 use Rattle.ped_views.specs.Vectors.{IsPossible}
 use Rattle.ped_tree.specs.Tree.{ProgramTree}
@@ -24,7 +23,7 @@ use Rattle.ped_conflicts.specs.Sequence.{ComesBefore}
 use Rattle.ped_conflicts.specs.Directions.{StandInDirections, share_a_loop}
 use Rattle.ped_conflicts.specs.Covered.{ComeInRun, IsCovered, IsCarriedInParallel}
 use Rattle.ped_conflicts.proofs.CoveringNests.{AreOf, reached_are}
-use Rattle.ped_conflicts.proofs.CoveringDirections.{have_directions, same_numbers}
+use Rattle.ped_conflicts.proofs.CoveringDirections.{have_directions, numbers_are}
 use Rattle.ped_conflicts.proofs.CoveringConflicts.{IsCoveredAt, AreMet, covered_at}
 
 -- what is known of accesses: which references make them, in which order they come, and that directions of equal cells are possible
@@ -56,13 +55,10 @@ record ShareOutermost (is js : List Turn) : Type 0 where
   of_sink : js ≡ sink ∷ sink_inner
   same : source.statement ≡ sink.statement
 
-number_is : (m n : ℕ) → (m == n) ≡ true → m ≡ n
-number_is m n e = grind (arith, nat_tests)
-
 shared : (is js : List Turn) → share_a_loop is js ≡ true → ShareOutermost is js
 shared [] js h = absurd cc
 shared (i ∷ is) [] h = absurd cc
-shared (i ∷ is) (j ∷ js) h = record { source = i; source_inner = is; sink = j; sink_inner = js; of_source = refl; of_sink = refl; same = number_is i.statement j.statement h }
+shared (i ∷ is) (j ∷ js) h = record { source = i; source_inner = is; sink = j; sink_inner = js; of_source = refl; of_sink = refl; same = numbers_are i.statement j.statement h }
 
 outermost_is : (t : ProgramTree) (nest : List Loop) (i : Turn) (is : List Turn) → AreOf t nest (i ∷ is) → outermost_number nest ≡ i.statement
 outermost_is t [] i is h = absurd h

@@ -7,3 +7,6 @@ pub mod CoveringWrites
 pub mod CoveringCells
 pub mod CoveringConflicts
 pub mod CoveringRuns
+pub mod CoveringSights
+pub mod CoveringIndices
+pub mod CoveringTelling

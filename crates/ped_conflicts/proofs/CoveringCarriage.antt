@@ -132,9 +132,9 @@ module _ (t : ProgramTree) (a b : Access) where
       let h = here t i j (first ++ is) (second ++ js) vector statement stands in
       elim before [
         | inl c ↦
-          let d : h.0 ≡ Same = same_by_value (step_at t i.statement) h.0 i.value j.value (ap (λ (z : Turn). z.value) c.0) h.3 in
-          ap (λ (v : List Direction). list_all is_same (take (suc level) v)) (h.2 ∙ ap (λ (x : Direction). x ∷ h.1) d)
-          ∙ same_front level first second is js h.1 c.1 h.4 more (omega (arith, deep))
+            let d : h.0 ≡ Same = same_by_value (step_at t i.statement) h.0 i.value j.value (ap (λ (z : Turn). z.value) c.0) h.3 in
+            ap (λ (v : List Direction). list_all is_same (take (suc level) v)) (h.2 ∙ ap (λ (x : Direction). x ∷ h.1) d)
+            ∙ same_front level first second is js h.1 c.1 h.4 more (omega (arith, deep))
         | inr c ↦ elim c [
           | inl later ↦ absurd (omega (arith, number, later.earlier))
           | inr other ↦ absurd (other.0 statement)

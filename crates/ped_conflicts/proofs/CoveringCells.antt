@@ -113,7 +113,7 @@ last_or (x ∷ xs) z (y ∷ before) i more e =
     tail_is : (x y : Turn) (xs ys : List Turn) → x ∷ xs ≡ y ∷ ys → xs ≡ ys
     tail_is x y xs ys e = cc
 
-head_is : (h k : Head) (b c : StmtTrees) → Some (Do h b) ≡ Some (Do k c) → h ≡ k
+pub head_is : (h k : Head) (b c : StmtTrees) → Some (Do h b) ≡ Some (Do k c) → h ≡ k
 head_is h k b c e = cc
 
 -- in an iteration of a DO that names a scalar in PRIVATE the scalar stands for a copy of that iteration, or of one in it
@@ -127,10 +127,10 @@ deeper t s first x h body i before nest [] more r e stands among = absurd (none 
 deeper t s first x h body i before nest (f ∷ outer) more r e stands among =
     elim (last_or (turns_of outer) f.turn before i more e) [
       | inl here ↦
-        let of = is_of t s first outer r.1 f r.3 in
-        let heads : h ≡ r.1.head = head_is h r.1.head body of.body (sym stands ∙ ap (λ (n : ℕ). statement_with n t) (ap (λ (z : Turn). z.statement) (sym here.1) ∙ of.statement) ∙ of.stands) in
-        let copied = private_copied t s first outer r.1 f x r.3 (ap (λ (z : Head). is_among x z.private) (sym heads) ∙ among) in
-        at_last (is_among x f.private) copied (ap length here.0)
+          let of = is_of t s first outer r.1 f r.3 in
+          let heads : h ≡ r.1.head = head_is h r.1.head body of.body (sym stands ∙ ap (λ (n : ℕ). statement_with n t) (ap (λ (z : Turn). z.statement) (sym here.1) ∙ of.statement) ∙ of.stands) in
+          let copied = private_copied t s first outer r.1 f x r.3 (ap (λ (z : Head). is_among x z.private) (sym heads) ∙ among) in
+          at_last (is_among x f.private) copied (ap length here.0)
       | inr there ↦ further (is_among x f.private) there.0 there.1 (deeper t s first x h body i before r.0 outer there.0 r.4 there.1 stands among)
     ]
   where

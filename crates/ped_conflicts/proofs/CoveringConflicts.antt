@@ -186,7 +186,7 @@ module _ (t : ProgramTree) (first : Store) (a b : Access) (source sink : Referen
       stands = stands;
       level = Some (length c.front + 1);
       between = edge_between t source sink edges vector (Some (length c.front + 1)) are m.made.listed m.makes.listed pair owners (within vector stands) possible long
-      (ap (is_of (Some (length c.front + 1))) c.carriage ∙ same_numbers (length c.front + 1) (length c.front + 1) refl) (omega arith, omega (arith, c.within, long));
+          (ap (is_of (Some (length c.front + 1))) c.carriage ∙ same_numbers (length c.front + 1) (length c.front + 1) refl) (omega arith, omega (arith, c.within, long));
       parallel = λ p. (length c.front + 1, refl, (c.front, c.l, c.inner, c.nest_is, refl, c.parallel p));
     }
     | inr c ↦ record {
@@ -194,7 +194,7 @@ module _ (t : ProgramTree) (first : Store) (a b : Access) (source sink : Referen
       stands = stands;
       level = None;
       between = edge_between t source sink edges vector None are m.made.listed m.makes.listed pair owners (within vector stands) possible long (ap (is_of None) c.carriage)
-      (elim c.text [ inl h ↦ text h | inr x ↦ absurd (never_exit x) ]);
+          (elim c.text [ inl h ↦ text h | inr x ↦ absurd (never_exit x) ]);
       parallel = λ p. absurd (c.together p);
     }
   ]

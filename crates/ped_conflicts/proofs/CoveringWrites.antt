@@ -9,38 +9,11 @@ use Rattle.ped_tree.specs.Tree.{ExprTree, ExprTrees, Int, Var, Element, Neg, Add
 use Rattle.ped_tree.specs.Accesses.{Access, listed, read_of, write_of, unless_constant, expr_reads, exprs_reads, private_writes, own_accesses, constant_names}
 use Rattle.ped_tree.specs.Nests.{Loop, indices_of}
 use Rattle.ped_tree.specs.Numbering.{numbered, all_numbered, at_place, statement_with, statement_count, statements_count}
-use Rattle.ped_tree.proofs.Numbers.{length-numbered, length-all_numbered}
+use Rattle.ped_tree.proofs.Numbers.{length-numbered, length-all_numbered, at_place-front, at_place-back}
 use Rattle.ped_refs.specs.References.{Reference, numbered_accesses, statement_references, statements_references, references}
 use Rattle.ped_acts.specs.Orders.{IsIn}
 use Rattle.ped_acts.proofs.Lists.{in_parts}
 use Rattle.ped_covering.proofs.Texts.{text_itself}
-
--- a statement at a place of a list
-at_left : (xs ys : List StmtTree) (k : ℕ) (s : StmtTree) → at_place xs k ≡ Some s → at_place (xs ++ ys) k ≡ Some s
-at_left [] ys k s e = absurd cc
-at_left (x ∷ xs) ys k s e = go (k == 0) e (at_left xs ys (k - 1) s)
-  where
-    go : (b : Bool) → (if b then Some x else at_place xs (k - 1)) ≡ Some s → (at_place xs (k - 1) ≡ Some s → at_place (xs ++ ys) (k - 1) ≡ Some s) → (if b then Some x else at_place (xs ++ ys) (k - 1)) ≡ Some s
-    go true e more = e
-    go false e more = more e
-
-at_right : (xs ys : List StmtTree) (k : ℕ) (s : StmtTree) → at_place ys k ≡ Some s → at_place (xs ++ ys) (length xs + k) ≡ Some s
-at_right [] ys k s e = ap (at_place ys) (omega arith) ∙ e
-at_right (x ∷ xs) ys k s e =
-    ap (λ (b : Bool). if b then Some x else at_place (xs ++ ys) (length (x ∷ xs) + k - 1)) (later (length xs) k)
-    ∙ ap (at_place (xs ++ ys)) (one_less (length xs) k) ∙ at_right xs ys k s e
-  where
-    later : (m k : ℕ) → (suc m + k == 0) ≡ false
-    later m k = grind (arith, nat_tests)
-
-    one_less : (m k : ℕ) → suc m + k - 1 ≡ m + k
-    one_less m k = omega arith
-
-at_first : (s : StmtTree) (xs : List StmtTree) → at_place (s ∷ xs) 0 ≡ Some s
-at_first s xs = refl
-
-at_next : (x : StmtTree) (xs : List StmtTree) (k : ℕ) (s : StmtTree) → at_place xs k ≡ Some s → at_place (x ∷ xs) (1 + k) ≡ Some s
-at_next x xs k s e = at_right (x ∷ []) xs k s e
 
 -- a reference is one of the accesses of its statement, which stands at this place of a list
 pub record IsLocated (c : List (List ℕ)) (n : ℕ) (ss : List StmtTree) (r : Reference) : Type 0 where
@@ -50,7 +23,7 @@ pub record IsLocated (c : List (List ℕ)) (n : ℕ) (ss : List StmtTree) (r : R
   pub stands : at_place ss place ≡ Some s
   pub own : IsIn r.access (own_accesses c (indices_of r.nest) s)
 
-own_access : (n k : ℕ) (nest : List Loop) (accesses : List Access) (r : Reference) → IsIn r (numbered_accesses n k nest accesses) → (r.statement ≡ n) × (r.nest ≡ nest) × IsIn r.access accesses
+pub own_access : (n k : ℕ) (nest : List Loop) (accesses : List Access) (r : Reference) → IsIn r (numbered_accesses n k nest accesses) → (r.statement ≡ n) × (r.nest ≡ nest) × IsIn r.access accesses
 own_access n k nest [] r i = absurd i
 own_access n k nest (a ∷ rest) r (inl e) = (ap (λ (z : Reference). z.statement) e, ap (λ (z : Reference). z.nest) e, inl (ap (λ (z : Reference). z.access) e))
 own_access n k nest (a ∷ rest) r (inr i) = let more = own_access n (suc k) nest rest r i in (more.0, more.1, inr more.2)
@@ -68,10 +41,10 @@ module _ (c : List (List ℕ)) where
       }
 
   located_left : (n : ℕ) (xs ys : List StmtTree) (r : Reference) → IsLocated c n xs r → IsLocated c n (xs ++ ys) r
-  located_left n xs ys r h = record { place = h.place; s = h.s; statement = h.statement; stands = at_left xs ys h.place h.s h.stands; own = h.own }
+  located_left n xs ys r h = record { place = h.place; s = h.s; statement = h.statement; stands = at_place-front xs ys h.place h.s h.stands; own = h.own }
 
   located_right : (n m : ℕ) (xs ys : List StmtTree) (r : Reference) → m ≡ n + length xs → IsLocated c m ys r → IsLocated c n (xs ++ ys) r
-  located_right n m xs ys r e h = record { place = length xs + h.place; s = h.s; statement = omega (arith, h.statement, e); stands = at_right xs ys h.place h.s h.stands; own = h.own }
+  located_right n m xs ys r e h = record { place = h.place + length xs; s = h.s; statement = omega (arith, h.statement, e); stands = at_place-back xs ys (h.place + length xs) h.place refl ∙ h.stands; own = h.own }
 
   mutual
     statement_located : (nest : List Loop) (n : ℕ) (s : StmtTree) (r : Reference) → IsIn r (statement_references c nest n s) → IsLocated c n (numbered s) r
@@ -83,7 +56,7 @@ module _ (c : List (List ℕ)) where
             | inr k ↦ located_right n (n + 1) (If condition a b ∷ []) (all_numbered a ++ all_numbered b) r (omega arith) (located_left (n + 1) (all_numbered a) (all_numbered b) r (statements_located nest (n + 1) a r k))
           ]
           | inr j ↦ located_right n (n + 1) (If condition a b ∷ []) (all_numbered a ++ all_numbered b) r (omega arith)
-          (located_right (n + 1) (n + 1 + statements_count a) (all_numbered a) (all_numbered b) r (omega (arith, length-all_numbered a)) (statements_located nest (n + 1 + statements_count a) b r j))
+              (located_right (n + 1) (n + 1 + statements_count a) (all_numbered a) (all_numbered b) r (omega (arith, length-all_numbered a)) (statements_located nest (n + 1 + statements_count a) b r j))
         ]
     statement_located nest n (Do h body) r i =
         elim (in_parts r (numbered_accesses n 1 nest (own_accesses c (indices_of nest) (Do h body))) (statements_references c (nest ++ (record { number = n; head = h }) ∷ []) (n + 1) body) i) [
@@ -119,10 +92,10 @@ statement_of t r i =
     one_less k = omega arith
 
 -- what an expression does are reads
-abbrev AllRead : List Access → Type 0
+abbrev pub AllRead : List Access → Type 0
 AllRead accesses = (a : Access) → IsIn a accesses → a.writes ≡ false
 
-read_append : (xs ys : List Access) → AllRead xs → AllRead ys → AllRead (xs ++ ys)
+pub read_append : (xs ys : List Access) → AllRead xs → AllRead ys → AllRead (xs ++ ys)
 read_append xs ys h k a i = elim (in_parts a xs ys i) [ inl j ↦ h a j | inr j ↦ k a j ]
 
 read_once : (c : List (List ℕ)) (x : List ℕ) (subscripts : List ExprTree) → AllRead (unless_constant c (read_of x subscripts))
@@ -145,7 +118,7 @@ module _ (c indices : List (List ℕ)) where
       go false i = read_once c x [] a i
 
   mutual
-    expr_read : (e : ExprTree) → AllRead (expr_reads c indices e)
+    pub expr_read : (e : ExprTree) → AllRead (expr_reads c indices e)
     expr_read (Int n) = none_read
     expr_read (Var x) = scalar_read x
     expr_read (Element x subscripts) = read_append (exprs_reads c indices subscripts) (unless_constant c (read_of x (listed subscripts))) (exprs_read subscripts) (read_once c x (listed subscripts))
@@ -157,7 +130,7 @@ module _ (c indices : List (List ℕ)) where
     expr_read (Pow e g) = read_append (expr_reads c indices e) (expr_reads c indices g) (expr_read e) (expr_read g)
     expr_read (Call f arguments) = exprs_read arguments
 
-    exprs_read : (es : ExprTrees) → AllRead (exprs_reads c indices es)
+    pub exprs_read : (es : ExprTrees) → AllRead (exprs_reads c indices es)
     exprs_read no_exprs = none_read
     exprs_read (more_exprs e rest) = read_append (expr_reads c indices e) (exprs_reads c indices rest) (expr_read e) (exprs_read rest)
 
@@ -165,7 +138,7 @@ or_second : (a b : Bool) → b ≡ true → a || b ≡ true
 or_second true b h = refl
 or_second false b h = h
 
-private_write : (c names : List (List ℕ)) (a : Access) → IsIn a (private_writes c names) → (is_among a.name names ≡ true) × (a.subscripts ≡ [])
+pub private_write : (c names : List (List ℕ)) (a : Access) → IsIn a (private_writes c names) → (is_among a.name names ≡ true) × (a.subscripts ≡ [])
 private_write c [] a i = absurd i
 private_write c (x ∷ xs) a i = elim (in_parts a (unless_constant c (write_of x [])) (private_writes c xs) i) [
   | inl j ↦ go (is_among x c) j

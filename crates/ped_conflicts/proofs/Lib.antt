@@ -10,3 +10,5 @@ pub mod CoveringRuns
 pub mod CoveringSights
 pub mod CoveringIndices
 pub mod CoveringTelling
+pub mod CoveringTargets
+pub mod CoveringRaces

@@ -28,4 +28,8 @@ pub fn conflicts_are_covered()
 /// of the later one's, and a PARALLEL DO carries it (Allen and Kennedy, section 2.2.5).
 pub fn races_are_covered()
     ensures { (t : ProgramTree) (data_bytes : List ℕ) (a b : Access) (edges : List Edge) → IsValid t → ComeInRun t data_bytes a b → race a b ≡ true → AreEdges t edges → IsCarriedInParallel t edges a.place.statement b.place.statement }
-{}
+{
+    accesses_are_made();
+    accesses_in_sequence();
+    directions_are_possible();
+}

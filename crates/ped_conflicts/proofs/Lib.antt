@@ -1,0 +1,6 @@
+pub mod Scoping
+pub mod MakingConstants
+pub mod MakingReads
+pub mod MakingParts
+pub mod MakingTouches
+pub mod MakingSteps

@@ -4,3 +4,5 @@ pub mod MakingReads
 pub mod MakingParts
 pub mod MakingTouches
 pub mod MakingSteps
+pub mod MakingRuns
+pub mod MakingPrograms

@@ -357,4 +357,4 @@ module _ (t : ProgramTree) (valid : IsValid t) (scope : Scope) (indices : List (
       let two = came (target g left u).seen (target g left u).result (λ c. given (storable one.0) >>> λ n. given (Ok (record { cell = c; number = n }))) w one.2 in
       let three = came [] (storable one.0) (λ n. given (Ok (record { cell = two.0; number = n }))) w two.2 in
       let is : record { cell = two.0; number = three.0 } ≡ w = ok_one (record { cell = two.0; number = three.0 }) w three.2 in
-      (two.1 ∙ ap (λ (z : Stored). good z.cell) {x = record { cell = two.0; number = three.0 }} is, subst (λ (z : Stored). is_storable z.number ≡ true) is (storable_by (is_storable one.0) one.0 three.0 refl three.1))
+      (two.1 ∙ ap (λ (z : Stored). good z.cell) {x = record { cell = two.0; number = three.0 }} is, subst (λ (z : Stored). is_storable z.number ≡ true) {x = record { cell = two.0; number = three.0 }} is (storable_by (is_storable one.0) one.0 three.0 refl three.1))

@@ -12,9 +12,9 @@ use Rattle.ped_refs.specs.References.{Reference, references}
 use Rattle.ped_constants.specs.NamedConstants.{value_named}
 use Rattle.ped_symbols.specs.Entries.{entry_of, with_entry}
 use Rattle.ped_symbols.specs.Declarations.{Declared, declared_in}
-use Rattle.ped_symbols.specs.Values.{Values, fixed_value, with_value, is_missing, items, behind_items, some_item_fails, behind_decl, declarators, decl_fails, declarator_fails, site_fails}
-use Rattle.ped_symbols.specs.Sites.{Site, declaration, statement, private_names, private_site, stmt_sites, stmts_sites, decl_sites, program_sites}
-use Rattle.ped_symbols.specs.NameRefusals.{Before, at_first, behind_site, behind_sites, at_site, at_sites, next_line, name_refusals, IsValid}
+use Rattle.ped_symbols.specs.Values.{Values, fixed_value, with_value, is_missing, items, behind_items, some_item_fails, site_fails}
+use Rattle.ped_symbols.specs.Sites.{Site, declaration, statement, private_names, private_site, stmt_sites, stmts_sites, decl_sites}
+use Rattle.ped_symbols.specs.NameRefusals.{Before, at_first, behind_site, behind_sites, at_site, at_sites, next_line, IsValid}
 use Rattle.ped_symbols.specs.Kinds.{at_last}
 
 -- whether an item stands behind two lists

@@ -1,16 +1,16 @@
 -- What is known of a piece of a program: of its statements, and where it stands.
-use Rattle.std.proofs.Common.{◌≡◌, ℕ, ◌+◌, ◌-◌, ◌==◌, List, [], ◌∷◌, ◌++◌, length, map, Bool, true, false, ◌&&◌, ◌||◌, Option, Some, None, refl, sym, ap, ◌∙◌, arith, ◌⊎◌, inl, inr, if◌then◌else◌, eqb-true}
+use Rattle.std.proofs.Common.{◌≡◌, ℕ, ◌+◌, ◌-◌, ◌==◌, List, [], ◌∷◌, ◌++◌, length, Bool, true, false, ◌||◌, Some, None, refl, sym, ap, ◌∙◌, arith, if◌then◌else◌, eqb-true}
 use Rattle.std.proofs.lemmas.Bool.{and_parts}
 use Rattle.std.proofs.lemmas.List.{map-append}
 use Rattle.ped_base.specs.Lists.{is_same_text, is_among}
 use Rattle.ped_names.proofs.Collected.{among_append}
 use Rattle.ped_names.proofs.NameEquality.{same_itself}
-use Rattle.ped_tree.specs.Tree.{CondTree, Head, StmtTree, StmtTrees, Assign, If, Do, Print, Read, Stop, Comment, no_stmts, more_stmts, ProgramTree}
+use Rattle.ped_tree.specs.Tree.{CondTree, Head, StmtTree, StmtTrees, If, Do, more_stmts, ProgramTree}
 use Rattle.ped_tree.specs.Nests.{Loop, indices_of}
 use Rattle.ped_tree.specs.Numbering.{numbered, all_numbered, at_place, statement_with, statement_count, statements_count, loop_count, loops_count}
 use Rattle.ped_tree.specs.Accesses.{own_accesses, constant_names}
 use Rattle.ped_tree.proofs.Numbers.{length-numbered, length-all_numbered, at_place-front, at_place-back}
-use Rattle.ped_grammar.specs.Fits.{Surroundings, moved, in_if, in_loop, simple_fits, is_within, cond_fits, loop_fits, stmt_fits, stmts_fit}
+use Rattle.ped_grammar.specs.Fits.{Surroundings, moved, in_if, in_loop, loop_fits, stmt_fits, stmts_fit}
 use Rattle.ped_refs.specs.References.{Reference, references, numbered_accesses, statement_references, statements_references}
 use Rattle.ped_symbols.specs.Kinds.{kind_in, at_last}
 use Rattle.ped_uses.specs.RightUses.{cond_is_right, head_is_right, stmt_is_right, stmts_are_right}

@@ -1,5 +1,5 @@
 -- The accesses of a run of a program in its DO loops are made by references.
-use Rattle.std.proofs.Common.{◌≡◌, ℕ, ◌+◌, ◌<◌, ◌≤◌, ℤ, List, [], ◌∷◌, ◌++◌, Bool, true, false, Result, Ok, Err, Some, refl, sym, ap, subst, ◌∙◌, arith, inl, if◌then◌else◌}
+use Rattle.std.proofs.Common.{◌≡◌, ℕ, ◌+◌, ◌<◌, ◌≤◌, List, [], ◌∷◌, Bool, true, false, Result, Ok, Err, Some, refl, sym, ap, subst, ◌∙◌, arith, if◌then◌else◌}
 use Rattle.std.specs.Prelude.{nat_lt}
 use Rattle.std.specs.Str.Lines.{lines}
 use Rattle.std.proofs.lemmas.Bool.{and_parts, lt-ltb, ltb-true}
@@ -7,34 +7,34 @@ use Rattle.ped_base.specs.Lists.{is_among}
 use Rattle.ped_names.specs.Collecting.{with_names}
 use Rattle.ped_names.proofs.Collected.{among_collected}
 use Rattle.ped_tree.specs.Tree.{CondTree, Head, StmtTree, StmtTrees, Assign, If, Do, Print, Read, Stop, Comment, no_stmts, more_stmts, ProgramTree}
-use Rattle.ped_tree.specs.Numbering.{all_numbered, statement_with, statement_count, statements_count, loop_count, loops_count}
+use Rattle.ped_tree.specs.Numbering.{statement_with, statement_count, statements_count, loop_count, loops_count}
 use Rattle.ped_grammar.specs.Fits.{Surroundings, moved, in_if, decls_fit, stmts_fit, begins_with_statement, at_body}
-use Rattle.ped_refs.specs.References.{Reference, outermost, references}
+use Rattle.ped_refs.specs.References.{Reference, outermost}
 use Rattle.ped_symbols.specs.NameRefusals.{IsValid}
 use Rattle.ped_symbols.specs.Kinds.{table_of}
 use Rattle.ped_uses.specs.RightPrograms.{IsRight}
 use Rattle.ped_affine.specs.Assigned.{assigned_in, assigned_in_all, all_loop_variables}
 use Rattle.ped_affine.specs.Ranges as ranges
 use Rattle.ped_graph.specs.Dependences.{assigned_by, setting_in}
-use Rattle.ped_store.specs.Cells.{Cell, Scalar, Element, Private, In, Out}
-use Rattle.ped_store.specs.Stores.{Number, Store, store_at_start, is_storable}
-use Rattle.ped_store.specs.Acts.{Touch, Turn, Place, Step, did, faulted, Act, store_behind}
-use Rattle.ped_store.specs.Races.{Access, accesses, accesses_of}
+use Rattle.ped_store.specs.Cells.{Scalar, Element, Private, In, Out}
+use Rattle.ped_store.specs.Stores.{Store, store_at_start}
+use Rattle.ped_store.specs.Acts.{Touch, Turn, Step, did, faulted, Act, store_behind}
+use Rattle.ped_store.specs.Races.{Access, accesses_of}
 use Rattle.ped_acts.specs.Orders.{IsIn}
 use Rattle.ped_eval.specs.Scopes.{Scope, Setting, names_in, place_of}
-use Rattle.ped_eval.specs.Evaluation.{Seen, numbered}
+use Rattle.ped_eval.specs.Evaluation.{numbered}
 use Rattle.ped_eval.specs.Values.{truth}
-use Rattle.ped_eval.specs.Runs.{Ending, going, stopped, failed, Run, followed_by, does, on_value, nothing_done, run, run_all}
+use Rattle.ped_eval.specs.Runs.{Ending, going, stopped, failed, Run, followed_by, does, on_value, run, run_all}
 use Rattle.ped_eval.specs.Outcomes.{setting_of, run_of}
 use Rattle.ped_runs.proofs.Touches.{Each, each_none, each_more, each_append}
-use Rattle.ped_covering.specs.Within.{is_storing, HoldsStorable}
+use Rattle.ped_covering.specs.Within.{HoldsStorable}
 use Rattle.ped_conflicts.specs.Reaching.{IsStoreIn}
 use Rattle.ped_conflicts.specs.Making.{IsMade, AreMade}
-use Rattle.ped_conflicts.proofs.Scoping.{access_by, touch_of_access, act_of_access}
+use Rattle.ped_conflicts.proofs.Scoping.{touch_of_access, act_of_access}
 use Rattle.ped_conflicts.proofs.MakingParts.{Part, Parts, stand_whole, first_part, rest_parts, then_parts, else_parts, in_setting}
 use Rattle.ped_conflicts.proofs.MakingTouches.{Good, kept, good_keeps}
-use Rattle.ped_conflicts.proofs.MakingSteps.{Behind, Done, nothing_is_done, assignment_done, print_done, read_done, stop_done, condition_good}
-use Rattle.ped_conflicts.proofs.MakingRuns.{Made, Fine, outermost_made}
+use Rattle.ped_conflicts.proofs.MakingSteps.{Behind, Done, assignment_done, print_done, read_done, stop_done, condition_good}
+use Rattle.ped_conflicts.proofs.MakingRuns.{Fine, outermost_made}
 
 module _ (t : ProgramTree) (valid : IsValid t) where
   abbrev p : Setting
@@ -223,9 +223,11 @@ module _ (t : ProgramTree) (valid : IsValid t) where
         stand = stand_whole t;
         same = λ x. refl;
         round = refl;
-      }) (store_at_start (lines data_bytes)) (at_start (lines data_bytes)) in
-      (top.first, λ a turn inner i positive e. (
-      let act = act_of_access a (run_of t data_bytes).acts i in
-      let m = top.acts act.0 act.1 a turn inner act.2 positive e in
-      (m.reference, m.scope, m.store, m.is)
-      ))
+      }) (store_at_start (lines data_bytes)) (at_start (lines data_bytes)) in (
+        top.first,
+        λ a turn inner i positive e. (
+            let act = act_of_access a (run_of t data_bytes).acts i in
+            let m = top.acts act.0 act.1 a turn inner act.2 positive e in
+            (m.reference, m.scope, m.store, m.is)
+            ),
+      )

@@ -10,7 +10,7 @@ use Rattle.ped_names.proofs.NameEquality.{same_is, same_itself}
 use Rattle.ped_constants.specs.NamedConstants.{value_named}
 use Rattle.ped_constants.specs.ConstantExpressions.{intrinsic_result}
 use Rattle.ped_tree.specs.Tree.{ExprTree, ExprTrees, Int, Var, Element, Neg, Add, Sub, Mul, Div, Pow, Call, no_exprs, more_exprs, CondTree, Rel, Not, And, Or, ItemTree, Value, Text, Head, ProgramTree}
-use Rattle.ped_tree.specs.Accesses.{Access, listed, read_of, write_of, unless_constant, expr_reads, exprs_reads, cond_reads, left_accesses, item_reads, private_writes, constant_names}
+use Rattle.ped_tree.specs.Accesses.{Access, listed, read_of, write_of, unless_constant, expr_reads, exprs_reads, cond_reads, left_accesses, item_reads, constant_names}
 use Rattle.ped_grammar.specs.Words.{is_name}
 use Rattle.ped_grammar.specs.Fits.{takes_arguments, expr_fits, exprs_fit, target_fits, cond_fits, item_fits}
 use Rattle.ped_symbols.specs.declared.symbols.Kind.{Kind}
@@ -19,18 +19,17 @@ use Rattle.ped_symbols.specs.Kinds.{kind_by, kind_in, at_last, names_of}
 use Rattle.ped_symbols.specs.Entries.{entry_of}
 use Rattle.ped_symbols.specs.NameRefusals.{IsValid}
 use Rattle.ped_symbols.specs.Uses.{expr_count}
-use Rattle.ped_base.specs.Dimensions.{Dimensions}
 use Rattle.ped_uses.specs.RightUses.{is_scalar_kind, is_array_kind, is_scalar, has_rank, expr_is_right, exprs_are_right, target_is_right, cond_is_right, item_is_right}
 use Rattle.ped_store.specs.Cells as cells
 use Rattle.ped_store.specs.Cells.{Cell, In, Out, same_cell}
-use Rattle.ped_store.specs.Stores.{Content, Store, number_read, storable, is_storable, out_of_range, outside_bounds}
+use Rattle.ped_store.specs.Stores.{Store, number_read, storable, is_storable, out_of_range, outside_bounds}
 use Rattle.ped_store.specs.Storage.{is_within}
 use Rattle.ped_affine.specs.Assigned.{assigned_left}
-use Rattle.ped_eval.specs.Scopes.{Scope, Names, names_in, cell_of, index_value}
+use Rattle.ped_eval.specs.Scopes.{Scope, Names, names_in}
 use Rattle.ped_eval.specs.Evaluation.{Seen, cell_seen, index_seen, Evaluated, onward, ◌>>>◌, given, by_number, read_cell}
 use Rattle.ped_eval.specs.Values.{of_intrinsic, variable_value, name_value, is_rank, element_cell, value, values, truth, relation_holds, target}
 use Rattle.ped_eval.specs.Statements.{Stored, assigned, item_text, item_texts, printed_line}
-use Rattle.ped_eval.specs.Loops.{in_bounds, Limits, limits}
+use Rattle.ped_eval.specs.Loops.{in_bounds, limits}
 use Rattle.ped_eval.specs.Outcomes.{setting_of}
 use Rattle.ped_conflicts.specs.Making.{ComeTo, cell_named, StandsFor}
 use Rattle.ped_conflicts.proofs.Scoping.{variables_of, index_untold, index_told, scalar_named}
@@ -162,8 +161,8 @@ module _ (t : ProgramTree) (valid : IsValid t) (scope : Scope) (indices : List (
   two_coming : {A B C : Type 0} (f : A → B → Result C ℕ) (a : Evaluated A) (b : Evaluated B) (xs ys : List Access) → Coming a xs → Coming b ys → Coming (a >>> λ x. b >>> λ y. given (f x y)) (xs ++ ys)
   two_coming f a b xs ys h k = then_coming a (λ x. b >>> λ y. given (f x y)) xs ys h (λ x o. one_coming (f x) b ys k)
 
-  no_constant : (x : List ℕ) (subscripts : List ExprTree) (a : Access) → a.name ≡ x → value_named (at_last t).values x ≡ None → unless_constant constants a ≡ a ∷ []
-  no_constant x subscripts a e h = ap (λ (b : Bool). if b then [] else a ∷ []) (ap (λ (y : List ℕ). is_among y constants) e ∙ unvalued t valid x h)
+  no_constant : (x : List ℕ) (a : Access) → a.name ≡ x → value_named (at_last t).values x ≡ None → unless_constant constants a ≡ a ∷ []
+  no_constant x a e h = ap (λ (b : Bool). if b then [] else a ∷ []) (ap (λ (y : List ℕ). is_among y constants) e ∙ unvalued t valid x h)
 
   -- a name
   variable_comes : (x : List ℕ) → is_name x ≡ true → value_named (at_last t).values x ≡ None → Coming (variable_value (g.index x) u (g.cell x)) (if is_among x indices then [] else unless_constant constants (read_of x []))
@@ -175,7 +174,7 @@ module _ (t : ProgramTree) (valid : IsValid t) (scope : Scope) (indices : List (
           let all : accesses ≡ rest = is ∙ ap (λ (b : Bool). (if b then [] else unless_constant constants (read_of x [])) ++ rest) (same x ∙ e) in
           subst (λ (o : Option ℤ). Comes t g u (variable_value o u (g.cell x)) accesses rest) (sym told.1) all
       go false e accesses rest is =
-          let all : accesses ≡ read_of x [] ∷ rest = is ∙ (ap (λ (b : Bool). (if b then [] else unless_constant constants (read_of x [])) ++ rest) (same x ∙ e) ∙ ap (λ (z : List Access). z ++ rest) (no_constant x [] (read_of x []) refl none)) in
+          let all : accesses ≡ read_of x [] ∷ rest = is ∙ (ap (λ (b : Bool). (if b then [] else unless_constant constants (read_of x [])) ++ rest) (same x ∙ e) ∙ ap (λ (z : List Access). z ++ rest) (no_constant x (read_of x []) refl none)) in
           subst (λ (o : Option ℤ). Comes t g u (variable_value o u (g.cell x)) accesses rest) (sym (index_untold scope x e))
           (walked t g u (cell_seen (g.cell x) (u (g.cell x)) ∷ []) (number_read (u (g.cell x))) accesses rest (read_of x [], rest, all, refl, sym (named_cell g x name), refl))
 
@@ -194,10 +193,7 @@ module _ (t : ProgramTree) (valid : IsValid t) (scope : Scope) (indices : List (
   element_comes x e es a named subscripts reads array none ns come accesses rest is = go (is_rank (length ns) && is_within (g.bounds x) ns)
     where
       all : accesses ≡ a ∷ rest
-      all = is ∙ ap (λ (z : List Access). z ++ rest) (no_constant x (e ∷ es) a named none)
-
-      c : Cell
-      c = cells.Element x ns
+      all = is ∙ ap (λ (z : List Access). z ++ rest) (no_constant x a named none)
 
       stands : StandsFor t g u a.name a.subscripts (cells.Element x ns)
       stands = subst (λ (y : List ℕ). StandsFor t g u y a.subscripts (cells.Element x ns)) (sym named) (subst (λ (z : List ExprTree). StandsFor t g u x z (cells.Element x ns)) (sym subscripts) (ns, come, refl, array))
@@ -313,7 +309,7 @@ module _ (t : ProgramTree) (valid : IsValid t) (scope : Scope) (indices : List (
     access = write_of y [];
     writes = refl;
     reads = [];
-    is = no_constant y [] (write_of y []) refl (scalar_unvalued t y r);
+    is = no_constant y (write_of y []) refl (scalar_unvalued t y r);
     comes = none_come (Ok (g.cell y));
     stands = λ c e. sym (ok_one (g.cell y) c e) ∙ sym (named_cell g y f);
     of_name = λ c x e h.
@@ -334,7 +330,7 @@ module _ (t : ProgramTree) (valid : IsValid t) (scope : Scope) (indices : List (
         access = write_of y (listed (more_exprs e es));
         writes = refl;
         reads = exprs_reads constants indices (more_exprs e es);
-        is = ap (λ (z : List Access). exprs_reads constants indices (more_exprs e es) ++ z) (no_constant y (listed (more_exprs e es)) (write_of y (listed (more_exprs e es))) refl (array_unvalued t (expr_count (more_exprs e es)) y rank.0));
+        is = ap (λ (z : List Access). exprs_reads constants indices (more_exprs e es) ++ z) (no_constant y (write_of y (listed (more_exprs e es))) refl (array_unvalued t (expr_count (more_exprs e es)) y rank.0));
         comes = one_coming (element_cell g y) (values g (more_exprs e es) u) (exprs_reads constants indices (more_exprs e es)) (values_come (more_exprs e es) fits.1 right.1);
         stands = λ c o. (let p = found c o in (p.0, come_to g u (more_exprs e es) p.0 p.1, p.2, array_no_scalar (expr_count (more_exprs e es)) (kind_in t y) rank.0));
         of_name = λ c x o h. (let p = found c o in let z : false ≡ true = sym (ap (λ (d : Cell). same_cell d (cells.Scalar x)) p.2) ∙ h in absurd cc);

@@ -1,5 +1,5 @@
 -- The accesses of an execution of an outermost DO are made by references.
-use Rattle.std.proofs.Common.{◌≡◌, ℕ, ◌+◌, ◌<◌, ◌≤◌, List, [], ◌∷◌, ◌++◌, Bool, true, false, Ok, refl, sym, ap, subst, ◌∙◌, arith, if◌then◌else◌}
+use Rattle.std.proofs.Common.{◌≡◌, ℕ, ◌+◌, ◌<◌, ◌≤◌, List, [], ◌∷◌, ◌++◌, Ok, refl, sym, ap, subst, ◌∙◌, arith}
 use Rattle.std.proofs.lemmas.Bool.{and_parts}
 use Rattle.ped_base.specs.Lists.{is_among}
 use Rattle.ped_tree.specs.Tree.{Head, StmtTree, StmtTrees, Assign, If, Do, Print, Read, Stop, Comment, no_stmts, more_stmts, ProgramTree}
@@ -24,7 +24,7 @@ use Rattle.ped_eval.specs.Outcomes.{setting_of}
 use Rattle.ped_runs.proofs.Touches.{Each}
 use Rattle.ped_conflicts.specs.Reaching.{IsStoreIn, IsEntered, Reached}
 use Rattle.ped_conflicts.specs.Making.{IsMade}
-use Rattle.ped_conflicts.proofs.Scoping.{index_untold, access_by, touch_of_access}
+use Rattle.ped_conflicts.proofs.Scoping.{index_untold, touch_of_access}
 use Rattle.ped_conflicts.proofs.MakingParts.{Part, Parts, first_part, rest_parts, then_parts, else_parts, body_parts}
 use Rattle.ped_conflicts.proofs.MakingTouches.{Good}
 use Rattle.ped_conflicts.proofs.MakingSteps.{Done, then_done, nothing_is_done, assignment_done, print_done, read_done, stop_done, if_done, do_done, head_fits, head_uses}

@@ -1,31 +1,29 @@
 -- Runs of statements whose acts are of a kind, and whose stores are those of an execution.
 use Rattle.std.proofs.Common.{◌≡◌, ℕ, zero, suc, ◌+◌, ◌≤◌, List, [], ◌∷◌, ◌++◌, Bool, true, false, not, ◌&&◌, ◌||◌, Option, Some, None, Result, Ok, Err, refl, sym, ap, ◌∙◌, arith, ◌⊎◌, inl, inr, if◌then◌else◌}
 use Rattle.std.specs.Prelude.{nat_lt}
-use Rattle.std.specs.List.{list_all, list_any}
+use Rattle.std.specs.List.{list_all}
 use Rattle.std.proofs.lemmas.Bool.{and_parts}
 use Rattle.ped_base.specs.Lists.{has_some, is_same_text, is_among}
 use Rattle.ped_names.proofs.Collected.{among_append}
 use Rattle.ped_tree.specs.Tree.{ExprTree, CondTree, ItemTree, Head, StmtTree, StmtTrees, Assign, If, Do, Print, Read, Stop, Comment, no_stmts, more_stmts, ProgramTree}
 use Rattle.ped_tree.specs.Nests.{Loop, indices_of}
-use Rattle.ped_tree.specs.Numbering.{statement_count, statements_count, loops_count}
-use Rattle.ped_tree.specs.Accesses.{cond_reads, own_accesses, private_writes, constant_names}
-use Rattle.ped_grammar.specs.LimitNumbers.{most_loops_nested, most_blocks_nested, most_characters}
+use Rattle.ped_tree.specs.Numbering.{statements_count, loops_count}
+use Rattle.ped_tree.specs.Accesses.{own_accesses, constant_names}
+use Rattle.ped_grammar.specs.LimitNumbers.{most_blocks_nested}
 use Rattle.ped_grammar.specs.Words.{is_name}
 use Rattle.ped_grammar.specs.StatementForms.{are_names}
-use Rattle.ped_grammar.specs.Fits.{Surroundings, in_if, in_loop, simple_fits, is_within, expr_fits, target_fits, cond_fits, item_fits, private_fits, loop_fits, stmts_fit}
+use Rattle.ped_grammar.specs.Fits.{Surroundings, in_if, in_loop, expr_fits, target_fits, cond_fits, item_fits, private_fits, loop_fits, stmts_fit}
 use Rattle.ped_refs.specs.References.{Reference, numbered_accesses, statements_references}
 use Rattle.ped_symbols.specs.NameRefusals.{IsValid}
-use Rattle.ped_symbols.specs.Kinds.{kind_in, at_last}
-use Rattle.ped_uses.specs.RightUses.{is_scalar, expr_is_right, target_is_right, cond_is_right, item_is_right, head_is_right, stmts_are_right}
-use Rattle.ped_uses.specs.RightLoops.{step_is_right, steps_are_right}
+use Rattle.ped_symbols.specs.Kinds.{kind_in}
+use Rattle.ped_uses.specs.RightUses.{is_scalar, expr_is_right, target_is_right, cond_is_right, head_is_right, stmts_are_right}
 use Rattle.ped_affine.specs.Assigned.{assigned_in, assigned_in_all}
 use Rattle.ped_affine.specs.Ranges as ranges
 use Rattle.ped_store.specs.Stores.{Store}
 use Rattle.ped_store.specs.Acts.{Touch, Place, Step, did, entered, ended_turn, closed, faulted, Act, store_behind}
-use Rattle.ped_acts.specs.Orders.{IsIn}
-use Rattle.ped_acts.proofs.Lists.{in_left, in_right}
+use Rattle.ped_acts.proofs.Lists.{in_left}
 use Rattle.ped_eval.specs.Scopes.{Frame, Scope, Names, Setting, names_in, place_of}
-use Rattle.ped_eval.specs.Evaluation.{Seen, Evaluated, numbered, number_behind}
+use Rattle.ped_eval.specs.Evaluation.{Seen, Evaluated, numbered}
 use Rattle.ped_eval.specs.Values.{truth}
 use Rattle.ped_eval.specs.Statements.{Stored, assigned, assignment_touches, printed_line, print_touches, reading, reading_touches}
 use Rattle.ped_eval.specs.Loops.{index_names, all_index_names, inner_variables, Limits, limits, Entered, entered_with, frame, exit_touches, exit_when_none, entry_touches}
@@ -35,7 +33,7 @@ use Rattle.ped_runs.proofs.Touches.{Each, each_none, each_more, each_append}
 use Rattle.ped_runs.proofs.Turning.{inner_among}
 use Rattle.ped_conflicts.specs.Reaching.{IsStoreIn}
 use Rattle.ped_conflicts.proofs.MakingParts.{among_left, among_right, among_first, among_rest, Part}
-use Rattle.ped_conflicts.proofs.MakingTouches.{Keeps, kept, Good, good_keeps, Listed, assignment_seen, assignment_good, print_seen, print_good, truth_good, read_good, bounds_seen, bounds_left, exit_good, maybe_exit_good}
+use Rattle.ped_conflicts.proofs.MakingTouches.{kept, Good, good_keeps, Listed, assignment_seen, assignment_good, print_seen, print_good, truth_good, read_good, bounds_seen, bounds_left, exit_good, maybe_exit_good}
 
 or_split : (a b : Bool) → (a || b) ≡ true → (a ≡ true) ⊎ (b ≡ true)
 or_split true b h = inl refl

@@ -1,21 +1,21 @@
 -- What statements touch: accesses of the references of the program, and writes that keep what the stores of an execution hold.
-use Rattle.std.proofs.Common.{◌≡◌, ℕ, zero, suc, ◌+◌, ◌<◌, ◌≤◌, ℤ, List, [], ◌∷◌, ◌++◌, Bool, true, false, not, ◌&&◌, ◌==◌, Option, Some, None, Result, Ok, Err, refl, sym, ap, subst, ◌∙◌, append_assoc, append-nil, inl, inr, arith, if◌then◌else◌}
+use Rattle.std.proofs.Common.{◌≡◌, ℕ, suc, ◌<◌, ℤ, List, [], ◌∷◌, ◌++◌, Bool, true, false, not, ◌==◌, Result, Ok, Err, refl, sym, ap, subst, ◌∙◌, append_assoc, append-nil, inl, inr, arith, if◌then◌else◌}
 use Rattle.std.specs.Prelude.{codes}
 use Rattle.std.specs.List.{list_all, flat_map}
 use Rattle.std.specs.Str.Parse.{signed_digits_value}
 use Rattle.std.proofs.lemmas.Bool.{and_parts}
-use Rattle.ped_base.specs.Lists.{has_some, is_same_text, is_among}
+use Rattle.ped_base.specs.Lists.{has_some, is_among}
 use Rattle.ped_arithmetic.specs.Faults.{◌>>=◌}
-use Rattle.ped_tree.specs.Tree.{ExprTree, CondTree, ItemTree, Head, StmtTree, StmtTrees, Assign, If, Do, Print, Read, Stop, Comment, no_stmts, more_stmts, ProgramTree}
+use Rattle.ped_tree.specs.Tree.{ExprTree, CondTree, ItemTree, Head, StmtTrees, Assign, Do, Print, Read, ProgramTree}
 use Rattle.ped_tree.specs.Nests.{Loop, indices_of}
-use Rattle.ped_tree.specs.Accesses.{Access, write_of, expr_reads, cond_reads, left_accesses, item_reads, private_writes, own_accesses, constant_names}
+use Rattle.ped_tree.specs.Accesses.{Access, write_of, expr_reads, cond_reads, left_accesses, private_writes, own_accesses, constant_names}
 use Rattle.ped_grammar.specs.Words.{is_name}
 use Rattle.ped_grammar.specs.Fits.{expr_fits, target_fits, cond_fits, item_fits}
 use Rattle.ped_refs.specs.References.{Reference, references, numbered_accesses}
 use Rattle.ped_symbols.specs.NameRefusals.{IsValid}
-use Rattle.ped_symbols.specs.Kinds.{kind_in, at_last}
+use Rattle.ped_symbols.specs.Kinds.{kind_in}
 use Rattle.ped_uses.specs.RightUses.{is_scalar, expr_is_right, target_is_right, cond_is_right, item_is_right}
-use Rattle.ped_affine.specs.Assigned.{assigned_left, assigned_in_all}
+use Rattle.ped_affine.specs.Assigned.{assigned_left}
 use Rattle.ped_affine.specs.Ranges as ranges
 use Rattle.ped_store.specs.Cells.{Cell, Scalar, In, Out, same_cell}
 use Rattle.ped_store.specs.Stores.{Content, Undefined, Number, Lines, Store, put, lines_in, storable, is_storable, out_of_range, bad_data}
@@ -26,12 +26,12 @@ use Rattle.ped_acts.specs.Orders.{IsIn}
 use Rattle.ped_acts.proofs.SameCells.{cell_is}
 use Rattle.ped_eval.specs.Scopes.{Scope, Names, names_in, cell_of}
 use Rattle.ped_eval.specs.Evaluation.{Seen, cell_seen, index_seen, numbered, number_behind}
-use Rattle.ped_eval.specs.Values.{value, truth, target}
-use Rattle.ped_eval.specs.Statements.{read_touch, write_touch, Stored, assigned, assignment_touches, printed_line, print_touches, Taking, into_item, with_taken, taking, taking_from, reading, reading_touches}
+use Rattle.ped_eval.specs.Values.{truth, target}
+use Rattle.ped_eval.specs.Statements.{read_touch, write_touch, Stored, assigned, assignment_touches, printed_line, print_touches, into_item, with_taken, taking, taking_from, reading, reading_touches}
 use Rattle.ped_eval.specs.Loops.{Limits, limits, Entered, undefined_by, undefined_all, left_in_variable, exit_touches, exit_when_none}
 use Rattle.ped_eval.specs.Outcomes.{setting_of}
 use Rattle.ped_runs.proofs.Touches.{Each, each_none, each_more, each_append}
-use Rattle.ped_covering.specs.Within.{is_storing, HoldsStorable}
+use Rattle.ped_covering.specs.Within.{is_storing}
 use Rattle.ped_conflicts.specs.Making.{StandsFor}
 use Rattle.ped_conflicts.specs.Reaching.{IsStoreIn}
 use Rattle.ped_conflicts.proofs.Scoping.{variables_of, scalar_named, storing_of}
@@ -115,10 +115,12 @@ module _ (t : ProgramTree) (valid : IsValid t) (s : ranges.Setting) (first : Sto
     pub within : IsStoreIn s first store
     pub stands : StandsFor t g store access.name access.subscripts x.cell
 
+  -- a touch keeps the stores of the execution, and where it has a number a reference makes it
   pub record Good (x : Touch) : Type 0 where
     pub keeps : Keeps s x
     pub made : 0 < x.reference → Making x
 
+  -- touches of which each keeps the stores of the execution
   pub good_keeps : (ts : List Touch) → Each Good ts → Each (Keeps s) ts
   good_keeps ts all x i = (all x i).keeps
 
@@ -132,23 +134,41 @@ module _ (t : ProgramTree) (valid : IsValid t) (s : ranges.Setting) (first : Sto
   quiet_keeps : (x : Touch) → is_write x.manner ≡ false → Keeps s x
   quiet_keeps x h = record { number = λ c m w e storing holds. false_true (sym h ∙ w); scalar = λ y w e. false_true (sym h ∙ w) }
 
+  -- a storable number keeps all, where the name is assigned
+  stored_keeps : (c : Cell) (v : ℤ) (k : ℕ) → is_storable v ≡ true → ((x : List ℕ) → same_cell c (Scalar x) ≡ true → is_among x s.assigned ≡ true) → Keeps s (write_touch c (Number v) k)
+  stored_keeps c v k small names = record {
+    number = λ d m w e storing holds. subst (λ (z : ℤ). is_storable z ≡ true) (number_one v m holds) small;
+    scalar = λ x w e. names x e;
+  }
+    where
+      number_one : (a b : ℤ) → Number a ≡ Number b → a ≡ b
+      number_one a b h = cc
+
+  -- lines are no numbers, and no scalar holds them
+  lines_keep : (c : Cell) (lines : List (List ℕ)) (k : ℕ) → ((x : List ℕ) → same_cell c (Scalar x) ≡ false) → Keeps s (write_touch c (Lines lines) k)
+  lines_keep c lines k other = record { number = λ d m w e storing holds. absurd cc; scalar = λ x w e. false_true (sym (other x) ∙ e) }
+
   module _ (u : Store) (stored : IsStoreIn s first u) where
     -- what an evaluation has seen, and what is left of the accesses
     seen_good : (seen : List Seen) (k : ℕ) (accesses rest : List Access) → Walk t g u seen accesses rest → Listed k accesses → Each Good (numbered k seen) × Listed (number_behind k seen) rest
     seen_good [] k accesses rest walk l = (each_none Good, subst (λ (z : List Access). Listed k z) walk l)
     seen_good (cell_seen c content ∷ more) k accesses rest walk l =
-        let p = seen_good more (suc k) walk.1 rest walk.5 (listed_rest k walk.0 accesses walk.1 walk.2 l) in
-        (each_more Good (record { cell = c; manner = reads; content = content; reference = k }) (numbered (suc k) more)
-        (record {
-          keeps = quiet_keeps (record { cell = c; manner = reads; content = content; reference = k }) refl;
-          made = λ above. record { access = walk.0; listed = listed_first k walk.0 accesses walk.1 walk.2 l; manner = sym walk.3; store = u; within = stored; stands = walk.4 };
-        })
-        p.0, p.1)
+        let p = seen_good more (suc k) walk.1 rest walk.5 (listed_rest k walk.0 accesses walk.1 walk.2 l) in (
+          each_more Good (record { cell = c; manner = reads; content = content; reference = k }) (numbered (suc k) more)
+              (record {
+                keeps = quiet_keeps (record { cell = c; manner = reads; content = content; reference = k }) refl;
+                made = λ above. record { access = walk.0; listed = listed_first k walk.0 accesses walk.1 walk.2 l; manner = sym walk.3; store = u; within = stored; stands = walk.4 };
+              })
+              p.0,
+          p.1,
+        )
     seen_good (index_seen c v ∷ more) k accesses rest walk l =
-        let p = seen_good more k accesses rest walk l in
-        (each_more Good (record { cell = c; manner = is_told; content = Number v; reference = 0 }) (numbered k more)
-        (record { keeps = quiet_keeps (record { cell = c; manner = is_told; content = Number v; reference = 0 }) refl; made = λ above. absurd (omega (arith, above)) })
-        p.0, p.1)
+        let p = seen_good more k accesses rest walk l in (
+          each_more Good (record { cell = c; manner = is_told; content = Number v; reference = 0 }) (numbered k more)
+              (record { keeps = quiet_keeps (record { cell = c; manner = is_told; content = Number v; reference = 0 }) refl; made = λ above. absurd (omega (arith, above)) })
+              p.0,
+          p.1,
+        )
 
     -- a write by the next of the accesses
     written_good : (c : Cell) (content : Content) (k : ℕ) (a : Access) (accesses rest : List Access) → accesses ≡ a ∷ rest → Listed k accesses → a.writes ≡ true → StandsFor t g u a.name a.subscripts c → Keeps s (write_touch c content k) → Good (write_touch c content k)
@@ -157,20 +177,7 @@ module _ (t : ProgramTree) (valid : IsValid t) (s : ranges.Setting) (first : Sto
       made = λ above. record { access = a; listed = listed_first k a accesses rest is l; manner = sym w; store = u; within = stored; stands = stands };
     }
 
-    -- a storable number keeps all, where the name is assigned
-    stored_keeps : (c : Cell) (v : ℤ) (k : ℕ) → is_storable v ≡ true → ((x : List ℕ) → same_cell c (Scalar x) ≡ true → is_among x s.assigned ≡ true) → Keeps s (write_touch c (Number v) k)
-    stored_keeps c v k small names = record {
-      number = λ d m w e storing holds. subst (λ (z : ℤ). is_storable z ≡ true) (number_one v m holds) small;
-      scalar = λ x w e. names x e;
-    }
-      where
-        number_one : (a b : ℤ) → Number a ≡ Number b → a ≡ b
-        number_one a b h = cc
-
-    -- lines are no numbers, and no scalar holds them
-    lines_keep : (c : Cell) (lines : List (List ℕ)) (k : ℕ) → ((x : List ℕ) → same_cell c (Scalar x) ≡ false) → Keeps s (write_touch c (Lines lines) k)
-    lines_keep c lines k other = record { number = λ d m w e storing holds. absurd cc; scalar = λ x w e. false_true (sym (other x) ∙ e) }
-
+  -- an evaluation that has come to a value has seen all that it reads
   walk_of : {A : Type 0} (u : Store) (seen : List Seen) (r : Result A ℕ) (x : A) (accesses rest : List Access) → r ≡ Ok x → ComesBy t g u seen r accesses rest → Walk t g u seen accesses rest
   walk_of u seen r x accesses rest e comes = subst (λ (q : Result _ ℕ). ComesBy t g u seen q accesses rest) e comes
 
@@ -202,7 +209,7 @@ module _ (t : ProgramTree) (valid : IsValid t) (s : ranges.Setting) (first : Sto
           each_append Good (numbered 1 seen) (write_touch w.cell (Number w.number) (number_behind 1 seen) ∷ []) p.0
           (each_more Good (write_touch w.cell (Number w.number) (number_behind 1 seen)) []
           (written_good u stored w.cell (Number w.number) (number_behind 1 seen) to.access (to.access ∷ []) [] refl p.1 to.writes (to.stands w.cell q.0)
-          (stored_keeps u stored w.cell w.number (number_behind 1 seen) q.1 (λ x h. names x (to.of_name w.cell x q.0 h))))
+          (stored_keeps w.cell w.number (number_behind 1 seen) q.1 (λ x h. names x (to.of_name w.cell x q.0 h))))
           (each_none Good))
 
     -- a PRINT
@@ -225,7 +232,7 @@ module _ (t : ProgramTree) (valid : IsValid t) (s : ranges.Setting) (first : Sto
           each_append Good (numbered 1 seen) (read_touch Out (u Out) 0 ∷ (write_touch Out lines (number_behind 1 seen) ∷ [])) p.0
           (each_more Good (read_touch Out (u Out) 0) (write_touch Out lines (number_behind 1 seen) ∷ []) (record { keeps = quiet_keeps (read_touch Out (u Out) 0) refl; made = λ above. absurd (omega (arith, above)) })
           (each_more Good (write_touch Out lines (number_behind 1 seen)) []
-          (written_good u stored Out lines (number_behind 1 seen) output (output ∷ []) [] refl p.1 refl refl (lines_keep u stored Out (lines_in (u Out) ++ line ∷ []) (number_behind 1 seen) (λ x. refl)))
+          (written_good u stored Out lines (number_behind 1 seen) output (output ∷ []) [] refl p.1 refl refl (lines_keep Out (lines_in (u Out) ++ line ∷ []) (number_behind 1 seen) (λ x. refl)))
           (each_none Good)))
 
     -- the condition of an IF
@@ -250,7 +257,7 @@ module _ (t : ProgramTree) (valid : IsValid t) (s : ranges.Setting) (first : Sto
       into_good v left small (Ok c) e comes =
           let seen : List Seen = (target g item u).seen in
           let p = seen_good u stored seen k (left_accesses constants indices item ++ more) (to.access ∷ more) comes l in
-          let keeps : Keeps s (write_touch c (Number v) (number_behind k seen)) = stored_keeps u stored c v (number_behind k seen) small (λ x h. names x (to.of_name c x e h)) in
+          let keeps : Keeps s (write_touch c (Number v) (number_behind k seen)) = stored_keeps c v (number_behind k seen) small (λ x h. names x (to.of_name c x e h)) in
           each_append Good (numbered k seen ++ write_touch c (Number v) (number_behind k seen) ∷ []) (taking g items (suc (number_behind k seen)) left (put c (Number v) u)).touches
           (each_append Good (numbered k seen) (write_touch c (Number v) (number_behind k seen) ∷ []) p.0
           (each_more Good (write_touch c (Number v) (number_behind k seen)) [] (written_good u stored c (Number v) (number_behind k seen) to.access (to.access ∷ more) more refl p.1 to.writes (to.stands c e) keeps) (each_none Good)))
@@ -290,7 +297,7 @@ module _ (t : ProgramTree) (valid : IsValid t) (s : ranges.Setting) (first : Sto
           let left : List (List ℕ) = (reading g items u).left.lines in
           each_more Good (read_touch In (u In) 0) (write_touch In (Lines left) 1 ∷ (reading g items u).touches) (record { keeps = quiet_keeps (read_touch In (u In) 0) refl; made = λ above. absurd (omega (arith, above)) })
           (each_more Good (write_touch In (Lines left) 1) (reading g items u).touches
-          (written_good u stored In (Lines left) 1 data_write (own_accesses constants indices (Read items)) (flat_map (left_accesses constants indices) items) refl l refl refl (lines_keep u stored In left 1 (λ x. refl)))
+          (written_good u stored In (Lines left) 1 data_write (own_accesses constants indices (Read items)) (flat_map (left_accesses constants indices) items) refl l refl refl (lines_keep In left 1 (λ x. refl)))
           (begun_good (begun (lines_in (u In)))))
 
     -- the bounds of a DO, behind which the writes of its PRIVATE names are left
@@ -305,11 +312,22 @@ module _ (t : ProgramTree) (valid : IsValid t) (s : ranges.Setting) (first : Sto
       pub bounds_left : (m : Limits) → (limits g h u).result ≡ Ok m → Listed (number_behind 1 (limits g h u).seen) (private_writes constants h.private)
       bounds_left m e = (seen_good u stored (limits g h u).seen 1 (own_accesses constants indices (Do h b)) (private_writes constants h.private) (walk_of u (limits g h u).seen (limits g h u).result m (own_accesses constants indices (Do h b)) (private_writes constants h.private) e bounds_come) l).1
 
+  -- what is undefined holds no number
+  undefined_keeps : (x : List ℕ) (k : ℕ) → is_among x s.assigned ≡ true → Keeps s (write_touch (cell_of scope x) Undefined k)
+  undefined_keeps x k h = record { number = λ c m w e storing holds. absurd cc; scalar = λ y w e. ap (λ (z : List ℕ). is_among z s.assigned) (sym (scalar_named scope x y e)) ∙ h }
+
+  -- the variable of a DO may hold any number
+  variable_keeps : (x : List ℕ) (content : Content) → is_among x s.assigned ≡ true → is_among x s.loop_variables ≡ true → Keeps s (write_touch (cell_of scope x) content 0)
+  variable_keeps x content h k = record {
+    number = λ c m w e storing holds.
+        let cell : cell_of scope x ≡ c = cell_is (cell_of scope x) c e in
+        let none : is_storing s.loop_variables c ≡ false = ap (is_storing s.loop_variables) (sym cell) ∙ (storing_of s.loop_variables scope x ∙ ap not k) in
+        false_true (sym none ∙ storing);
+    scalar = λ y w e. ap (λ (z : List ℕ). is_among z s.assigned) (sym (scalar_named scope x y e)) ∙ h;
+  }
+
   -- what a DO writes when it is left
   module _ (u : Store) (stored : IsStoreIn s first u) where
-    undefined_keeps : (x : List ℕ) (k : ℕ) → is_among x s.assigned ≡ true → Keeps s (write_touch (cell_of scope x) Undefined k)
-    undefined_keeps x k h = record { number = λ c m w e storing holds. absurd cc; scalar = λ y w e. ap (λ (z : List ℕ). is_among z s.assigned) (sym (scalar_named scope x y e)) ∙ h }
-
     undefined_good : (xs : List (List ℕ)) (k : ℕ) → list_all is_name xs ≡ true → list_all (is_scalar (kind_in t)) xs ≡ true → ((x : List ℕ) → is_among x xs ≡ true → is_among x s.assigned ≡ true) → Listed k (private_writes constants xs) → Each Good (undefined_by scope k xs)
     undefined_good [] k fits uses names l = each_none Good
     undefined_good (x ∷ xs) k fits uses names l =
@@ -325,16 +343,6 @@ module _ (t : ProgramTree) (valid : IsValid t) (s : ranges.Setting) (first : Sto
     undefined_all_good (x ∷ xs) names =
         each_more Good (write_touch (cell_of scope x) Undefined 0) (undefined_all scope xs) (record { keeps = undefined_keeps x 0 (names x (among_first x xs)); made = λ above. absurd (omega (arith, above)) })
         (undefined_all_good xs (λ y h. names y (among_rest y x xs h)))
-
-    -- the variable of a DO may hold any number
-    variable_keeps : (x : List ℕ) (content : Content) → is_among x s.assigned ≡ true → is_among x s.loop_variables ≡ true → Keeps s (write_touch (cell_of scope x) content 0)
-    variable_keeps x content h k = record {
-      number = λ c m w e storing holds.
-          let cell : cell_of scope x ≡ c = cell_is (cell_of scope x) c e in
-          let none : is_storing s.loop_variables c ≡ false = ap (is_storing s.loop_variables) (sym cell) ∙ (storing_of s.loop_variables scope x ∙ ap not k) in
-          false_true (sym none ∙ storing);
-      scalar = λ y w e. ap (λ (z : List ℕ). is_among z s.assigned) (sym (scalar_named scope x y e)) ∙ h;
-    }
 
     module _ (e : Entered) (variable : is_among e.head.variable s.assigned ≡ true) (of_loop : is_among e.head.variable s.loop_variables ≡ true)
         (fits : list_all is_name e.head.private ≡ true) (uses : list_all (is_scalar (kind_in t)) e.head.private ≡ true) (names : (x : List ℕ) → is_among x e.head.private ≡ true → is_among x s.assigned ≡ true)

@@ -1,14 +1,14 @@
 -- What names stand for in the iterations round a place, and the accesses of acts.
-use Rattle.std.proofs.Common.{◌≡◌, ℕ, ℤ, List, [], ◌∷◌, ◌++◌, map, filter, Bool, true, false, not, ◌||◌, Option, Some, None, refl, sym, ap, ◌∙◌, inl, inr, if◌then◌else◌}
+use Rattle.std.proofs.Common.{◌≡◌, ℕ, ℤ, List, [], ◌∷◌, map, filter, Bool, true, false, not, ◌||◌, Some, None, refl, ap, ◌∙◌, inl, inr, if◌then◌else◌}
 use Rattle.std.proofs.lemmas.Bool.{or_parts}
 use Rattle.ped_base.specs.Lists.{is_same_text, is_among}
 use Rattle.ped_names.proofs.NameEquality.{same_is}
-use Rattle.ped_store.specs.Cells.{Cell, Scalar, Private, same_cell}
+use Rattle.ped_store.specs.Cells.{Scalar, Private, same_cell}
 use Rattle.ped_store.specs.Acts.{Touch, Place, Act, iterations_of}
 use Rattle.ped_store.specs.Races.{Access, accesses, accesses_of, is_access, is_write}
 use Rattle.ped_acts.specs.Orders.{IsIn}
 use Rattle.ped_acts.proofs.Lists.{in_parts}
-use Rattle.ped_eval.specs.Scopes.{Frame, Scope, turns_of, cell_of, index_value}
+use Rattle.ped_eval.specs.Scopes.{Scope, turns_of, cell_of, index_value}
 use Rattle.ped_covering.specs.Within.{is_storing}
 
 -- the variables of the DO loops round a place, the innermost first

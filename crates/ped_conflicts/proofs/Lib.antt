@@ -12,3 +12,11 @@ pub mod CoveringIndices
 pub mod CoveringTelling
 pub mod CoveringTargets
 pub mod CoveringRaces
+pub mod Scoping
+pub mod MakingConstants
+pub mod MakingReads
+pub mod MakingParts
+pub mod MakingTouches
+pub mod MakingSteps
+pub mod MakingRuns
+pub mod MakingPrograms

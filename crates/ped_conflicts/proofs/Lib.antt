@@ -20,3 +20,9 @@ pub mod MakingTouches
 pub mod MakingSteps
 pub mod MakingRuns
 pub mod MakingPrograms
+pub mod SequencePairs
+pub mod SequenceTouches
+pub mod SequenceActs
+pub mod SequencePlaces
+pub mod SequenceLoops
+pub mod SequenceRuns

@@ -1,5 +1,6 @@
 -- The directions in which two accesses of a run stand in the loops round both (Allen and Kennedy, section 2.2.4).
-use Rattle.std.specs.Prelude.{◌≡◌, ℕ, ℤ, List, [], ◌∷◌, pos, Bool, false, ◌==◌, Option, Some, None, if◌then◌else◌}
+use Rattle.std.specs.Prelude.{◌≡◌, ℕ, ℤ, List, [], ◌∷◌, pos, Bool, false, ◌==◌, Option, Some, None}
+use Rattle.std.specs.Bool.{MatchBool}
 use Rattle.ped_views.specs.declared.directions.Direction.{Direction}
 use Rattle.ped_views.specs.Excluded.{StandsByValue, by_value}
 use Rattle.ped_tree.specs.Tree.{StmtTree, Assign, If, Do, Print, Read, Stop, Comment, ProgramTree}
@@ -22,8 +23,9 @@ step_at t n = step_in (setting_of t).constants (statement_with n t)
 -- at each loop round both, the outermost first, the values of its variable at the source and at the sink stand in this direction (Allen and Kennedy, section 2.2.4)
 abbrev pub StandInDirections : ProgramTree → List Turn → List Turn → List Direction → Type 0
 StandInDirections t (i ∷ is) (j ∷ js) vector =
-    if i.statement == j.statement then (d : Direction) × (rest : List Direction) × (vector ≡ d ∷ rest) × StandsByValue (by_value (step_at t i.statement) d) i.value j.value × StandInDirections t is js rest
-    else vector ≡ []
+    MatchBool (i.statement == j.statement)
+    ((d : Direction) × (rest : List Direction) × (vector ≡ d ∷ rest) × StandsByValue (by_value (step_at t i.statement) d) i.value j.value × StandInDirections t is js rest)
+    (vector ≡ [])
 StandInDirections t [] js vector = vector ≡ []
 StandInDirections t (i ∷ is) [] vector = vector ≡ []
 

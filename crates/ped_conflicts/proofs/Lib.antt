@@ -1,0 +1,3 @@
+pub mod PossibleNames
+pub mod PossibleOwn
+pub mod PossibleTurns

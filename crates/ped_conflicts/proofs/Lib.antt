@@ -1,3 +1,4 @@
 pub mod PossibleNames
 pub mod PossibleOwn
 pub mod PossibleTurns
+pub mod PossibleCommon

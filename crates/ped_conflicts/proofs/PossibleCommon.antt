@@ -76,7 +76,7 @@ module _ (t : ProgramTree) (o : ℕ) (first : Store) where
   s = setting_in t o
 
   -- what is to be shown of the first k loops and of those behind them
-  abbrev Fit : ℕ → List Range → List Range → List Direction → List ℤ → List ℤ → Type 0
+  abbrev pub Fit : ℕ → List Range → List Range → List Direction → List ℤ → List ℤ → Type 0
   Fit k rs qs vector is js = CommonValues (take k rs) vector (take k is) (take k js) × ValuesInRange (drop k rs) (drop k is) × ValuesInRange (drop k qs) (drop k js)
 
   none_common : (ls ms : List Loop) (rs qs : List Range) (is js : List Turn) (vector : List Direction) → AreIterations (λ n. n) ls rs is → AreIterations (λ n. n) ms qs js → vector ≡ [] → Fit 0 rs qs vector (map (λ i. i.value) is) (map (λ i. i.value) js)

@@ -42,7 +42,7 @@ pub not_so : (a b : Bool) → (a ≡ true → b ≡ true) → b ≡ false → a 
 not_so true b h k = none_true (sym k ∙ h refl)
 not_so false b h k = refl
 
-not_true : (a : Bool) → not a ≡ true → a ≡ false
+pub not_true : (a : Bool) → not a ≡ true → a ≡ false
 not_true true h = none_true h
 not_true false h = refl
 

@@ -1,5 +1,5 @@
 -- The values of the common loops at two places of one execution stand in their ranges, in their directions and in step.
-use Rattle.std.proofs.Common.{◌≡◌, ℕ, suc, ◌==◌, ℤ, pos, ◌+ℤ◌, ◌-ℤ◌, ◌*ℤ◌, int_lt, unwrap_or, List, [], ◌∷◌, map, take, drop, length, Bool, true, false, IsTrue, Option, Some, None, Result, Ok, if◌then◌else◌, refl, sym, ap, ◌∙◌, subst, arith}
+use Rattle.std.proofs.Common.{◌≡◌, ℕ, suc, ◌==◌, ℤ, pos, ◌+ℤ◌, ◌-ℤ◌, ◌*ℤ◌, int_lt, unwrap_or, List, [], ◌∷◌, map, take, drop, length, Bool, true, false, Option, Some, None, Result, Ok, if◌then◌else◌, refl, sym, ap, ◌∙◌, subst, arith}
 use Rattle.std.specs.Bool.{MatchBool}
 use Rattle.std.proofs.Math.IntN.{*ℤ_comm}
 use Rattle.std.proofs.lemmas.Bool.{eqb-true}
@@ -9,7 +9,7 @@ use Rattle.ped_views.specs.Whole.{Divides}
 use Rattle.ped_views.specs.Views.{Range, range}
 use Rattle.ped_views.specs.Excluded.{StandsByValue, by_value, InRange}
 use Rattle.ped_views.proofs.Products.{linear, mul-sub}
-use Rattle.ped_tree.specs.Tree.{Head, StmtTree, StmtTrees, Do, ProgramTree}
+use Rattle.ped_tree.specs.Tree.{Head, StmtTrees, Do, ProgramTree}
 use Rattle.ped_tree.specs.Nests.{Loop, common_nest}
 use Rattle.ped_tree.specs.Numbering.{statement_with}
 use Rattle.ped_constants.specs.ConstantExpressions.{constant_value}
@@ -104,9 +104,9 @@ module _ (t : ProgramTree) (o : ℕ) (first : Store) where
             let is_so : steady ≡ true = sym (range_steady a b (step_by c) steady) ∙ h in
             let sink_so : is_steady s m.head.first ≡ true = ap (λ (z : Head). is_steady s z.first) (sym same) ∙ is_so in
             let begin : at_source.initial ≡ at_sink.initial = one_value at_source.initial at_sink.initial (value (names_in (setting_of t) []) l.head.first first).result (value (names_in (setting_of t) []) m.head.first first).result
-                (ap (λ (z : Head). (value (names_in (setting_of t) []) z.first first).result) same) (at_source.steady is_so) (at_sink.steady sink_so) in
+            (ap (λ (z : Head). (value (names_in (setting_of t) []) z.first first).result) same) (at_source.steady is_so) (at_sink.steady sink_so) in
             let other : j.value ≡ at_source.initial +ℤ pos at_sink.steps *ℤ increment (setting_of t).constants l.head =
-                at_sink.stood ∙ (λ k. sym begin k +ℤ pos at_sink.steps *ℤ increment (setting_of t).constants (sym same k)) in
+            at_sink.stood ∙ (λ k. sym begin k +ℤ pos at_sink.steps *ℤ increment (setting_of t).constants (sym same k)) in
             subst (λ (z : ℤ). Divides z (j.value -ℤ i.value)) (sym (step ∙ by)) (steps_apart at_source.initial (increment (setting_of t).constants l.head) i.value j.value at_source.steps at_sink.steps at_source.stood other);
       }
 
@@ -133,10 +133,9 @@ module _ (t : ProgramTree) (o : ℕ) (first : Store) where
         let n : ℕ = length (common_nest ls ms) in
         let head : l.head ≡ m.head = same_head t l m a.0.body b.0.body (eqb-true l.number m.number same) a.0.stands b.0.stands in
         let sink = subst (λ (z : Head). InRange (loop_range s around z) j.value × AreIterations (λ n. n) ms (ranges_inside s (inside around z (loop_range s around z)) (heads_of ms)) js) (sym head) (k.1, k.2) in
-        let more = rest there.1 a.1 b.1 h.2 sink.1 there.4 in
-        (
+        let more = rest there.1 a.1 b.1 h.2 sink.1 there.4 in (
           subst (λ (v : List Direction). CommonValues (take (suc n) (ranges_inside s around (heads_of (l ∷ ls)))) v (take (suc n) (map (λ z. z.value) (i ∷ is))) (take (suc n) (map (λ z. z.value) (j ∷ js))))
-          (sym there.2) (values_stand around l m i j there.0 a.0 b.0 head h.1 sink.0 there.3, more.0),
+              (sym there.2) (values_stand around l m i j there.0 a.0 b.0 head h.1 sink.0 there.3, more.0),
           more.1,
           subst (λ (z : Head). ValuesInRange (drop n (ranges_inside s (inside around z (loop_range s around z)) (heads_of ms))) (drop n (map (λ z. z.value) js))) head more.2,
         )

@@ -1,5 +1,5 @@
 -- The directions in which two accesses to one cell stand are among those of the view of their references.
-use Rattle.std.proofs.Common.{◌≡◌, ℕ, ◌==◌, List, [], ◌∷◌, length, true, refl, sym, ap, ◌∙◌, subst}
+use Rattle.std.proofs.Common.{◌≡◌, ℕ, List, [], ◌∷◌, length, true, sym, ◌∙◌, subst}
 use Rattle.std.proofs.lemmas.Bool.{eqb-true}
 use Rattle.ped_views.specs.declared.directions.Direction.{Direction}
 use Rattle.ped_views.specs.Vectors.{IsPossible}
@@ -40,8 +40,7 @@ directions_possible t first a b source sink at_source at_sink u v vector x y sha
     let to_sink : Reached t (setting_in t o) first sink.nest at_sink = subst (λ (n : ℕ). Reached t (setting_in t n) first sink.nest at_sink) one y.reached in
     let sink_store : IsStoreIn (setting_in t o) first v = subst (λ (n : ℕ). IsStoreIn (setting_in t n) first v) one y.within in
     let stand : StandInDirections t (turns_of at_source) (turns_of at_sink) vector =
-        subst (λ (is : List Turn). StandInDirections t is (turns_of at_sink) vector) x.turns (subst (λ (js : List Turn). StandInDirections t a.place.turns js vector) y.turns stands) in
-    (
+    subst (λ (is : List Turn). StandInDirections t is (turns_of at_sink) vector) x.turns (subst (λ (js : List Turn). StandInDirections t a.place.turns js vector) y.turns stands) in (
       cells_meet t o first (site_of source) (site_of sink) at_source at_sink u v vector source_within sink_within x.reached to_sink x.within sink_store stand source.access.subscripts sink.access.subscripts source.access.name sink.access.name a.cell b.cell x.cell y.cell same,
       long t o first (site_of source) (site_of sink) at_source at_sink u v vector source_within sink_within x.reached to_sink x.within sink_store stand,
     )

@@ -1,11 +1,10 @@
 -- A scalar that the outermost DO doesn't assign is no variable and no copy of the iterations in it: it has one value in the whole execution.
-use Rattle.std.proofs.Common.{◌≡◌, ℕ, ℤ, List, [], ◌∷◌, ◌++◌, Bool, true, false, ◌&&◌, not, ◌||◌, ◌⊎◌, inl, inr, Option, Some, None, Result, Ok, Err, if◌then◌else◌, refl, sym, ap, ◌∙◌, subst}
+use Rattle.std.proofs.Common.{◌≡◌, ℕ, ℤ, List, [], ◌∷◌, ◌++◌, Bool, true, false, not, ◌||◌, ◌⊎◌, inl, inr, Option, Some, None, Ok, if◌then◌else◌, refl, sym, ap, ◌∙◌, subst}
 use Rattle.std.specs.Ordering.{nat_cmp}
 use Rattle.std.specs.declared.cmp.Ordering.{Ordering}
 use Rattle.std.specs.declared.cmp.Ordering.TheVariants.{Less, Equal, Greater}
 use Rattle.std.specs.Cmp.Lexicographic.{slice_cmp}
 use Rattle.std.proofs.lemmas.Bool.{and_parts}
-use Rattle.std.proofs.lemmas.Map.Lookups.{exact_bytes}
 use Rattle.std.proofs.lemmas.List.Folds.{list_any-append}
 use Rattle.ped_base.specs.Lists.{is_same_text, is_among}
 use Rattle.ped_arithmetic.specs.Arithmetic.{sum_of, difference_of, negation_of, product_of, quotient_of, power_of}
@@ -18,7 +17,7 @@ use Rattle.ped_constants.specs.ConstantExpressions.{intrinsic_result}
 use Rattle.ped_store.specs.Cells.{Scalar, Private}
 use Rattle.ped_store.specs.Stores.{Store, number_read}
 use Rattle.ped_store.specs.Acts.{iterations_of}
-use Rattle.ped_eval.specs.Scopes.{Scope, Names, turns_of, names_in, cell_of, index_value}
+use Rattle.ped_eval.specs.Scopes.{Scope, Names, turns_of, cell_of, index_value}
 use Rattle.ped_eval.specs.Evaluation.{cell_seen, ◌>>>◌, given}
 use Rattle.ped_eval.specs.Values.{unary, binary, of_intrinsic, variable_value, name_value, value, values}
 use Rattle.ped_eval.specs.Loops.{with_name_by, with_sorted, sorted_once, index_names, all_index_names, inner_variables, entered_with, frame}
@@ -26,7 +25,7 @@ use Rattle.ped_eval.specs.Outcomes.{setting_of}
 use Rattle.ped_affine.specs.Assigned.{assigned_in, assigned_in_all}
 use Rattle.ped_affine.specs.Ranges.{Setting, is_steady, are_steady}
 use Rattle.ped_graph.specs.Dependences.{assigned_by, setting_in}
-use Rattle.ped_conflicts.specs.Reaching.{IsStoreIn, IsEntered, Reached}
+use Rattle.ped_conflicts.specs.Reaching.{IsStoreIn, Reached}
 use Rattle.ped_conflicts.proofs.PossibleNames.{among_front, among_back, among_inner, among_first, AssignWithin}
 
 -- one of two is true where `or` is
@@ -125,11 +124,10 @@ module _ (t : ProgramTree) (o : ℕ) (s : Setting) (first : Store) (x : List ℕ
       let assigned : is_among x (assigned_in (Do l.head e.body)) ≡ false = not_so (is_among x (assigned_in (Do l.head e.body))) (is_among x (assigned_by (statement_with o t))) (λ i. parts.1 x (ap (λ z. is_among x (assigned_by z)) e.stands ∙ i)) other in
       let no_variable : is_same_text x l.head.variable ≡ false = not_so (is_same_text x l.head.variable) (is_among x (assigned_in (Do l.head e.body))) (among_first x l.head.variable (l.head.private ++ assigned_in_all e.body)) assigned in
       let no_copy : is_among x (frame (entered_with (setting_of t) l.number l.head e.body e.seen e.bounds) e.turn).private ≡ false =
-          not_so (is_among x (frame (entered_with (setting_of t) l.number l.head e.body e.seen e.bounds) e.turn).private) (is_among x (assigned_in (Do l.head e.body))) (copied_assigned x l.head.parallel l.head.variable l.head.private e.body) assigned in
-      (
+      not_so (is_among x (frame (entered_with (setting_of t) l.number l.head e.body e.seen e.bounds) e.turn).private) (is_among x (assigned_in (Do l.head e.body))) (copied_assigned x l.head.parallel l.head.variable l.head.private e.body) assigned in (
         ap (λ g. index_value (g ∷ outer) x) e.is ∙ (ap (λ (b : Bool). if b then Some (frame (entered_with (setting_of t) l.number l.head e.body e.seen e.bounds) e.turn).turn.value else index_value outer x) no_variable ∙ rest.0),
         ap (λ g. cell_of (g ∷ outer) x) e.is
-        ∙ (ap (λ (b : Bool). if b then Private x (iterations_of (turns_of (frame (entered_with (setting_of t) l.number l.head e.body e.seen e.bounds) e.turn ∷ outer))) else cell_of outer x) no_copy ∙ rest.1),
+            ∙ (ap (λ (b : Bool). if b then Private x (iterations_of (turns_of (frame (entered_with (setting_of t) l.number l.head e.body e.seen e.bounds) e.turn ∷ outer))) else cell_of outer x) no_copy ∙ rest.1),
       )
 
   -- so its value is that of its own cell at the start

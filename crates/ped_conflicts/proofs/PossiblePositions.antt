@@ -1,5 +1,5 @@
 -- No position excludes the directions in which two places of one execution stand, where both subscripts have equal values.
-use Rattle.std.proofs.Common.{◌≡◌, ℕ, suc, ◌+◌, ◌-◌, ◌≤◌, ◌==◌, ℤ, pos, int_eq, List, [], ◌∷◌, ◌++◌, map, filter, take, drop, length, replicate, cond, Bool, true, false, not, ◌&&◌, ◌||◌, Option, Some, None, Result, Ok, Err, if◌then◌else◌, refl, sym, ap, ◌∙◌, subst, arith}
+use Rattle.std.proofs.Common.{◌≡◌, ℕ, suc, ◌+◌, ◌-◌, ◌≤◌, ◌==◌, ℤ, pos, int_eq, List, [], ◌∷◌, ◌++◌, map, filter, take, drop, length, cond, Bool, true, false, not, ◌&&◌, ◌||◌, Option, Some, None, Result, Ok, Err, if◌then◌else◌, refl, sym, ap, ◌∙◌, subst, arith}
 use Rattle.std.specs.List.{AllByRecursion}
 use Rattle.std.specs.Cmp.Lexicographic.{pointwise}
 use Rattle.std.proofs.lemmas.Bool.{and_parts}
@@ -7,15 +7,15 @@ use Rattle.std.proofs.lemmas.Bool.Decides.{Decides-int_eq}
 use Rattle.std.proofs.lemmas.List.{length-map, length-append, length-replicate, length-take-le, length-drop, take-take, drop-take}
 use Rattle.ped_base.specs.Lists.{is_same_text, is_among}
 use Rattle.ped_views.specs.declared.directions.Direction.{Direction}
-use Rattle.ped_views.specs.Views.{Range, SubscriptPair}
+use Rattle.ped_views.specs.Views.{Range}
 use Rattle.ped_views.specs.Limits.{FitsLoops}
 use Rattle.ped_views.specs.Excluded.{Excludes}
 use Rattle.ped_tree.specs.Tree.{ExprTree, Head, ProgramTree}
 use Rattle.ped_tree.specs.Nests.{Loop, indices_of, common_nest}
-use Rattle.ped_store.specs.Cells.{Cell, Element, Scalar, same_cell}
+use Rattle.ped_store.specs.Cells.{Cell, same_cell}
 use Rattle.ped_store.specs.Stores.{Store}
 use Rattle.ped_store.specs.Acts.{Turn}
-use Rattle.ped_eval.specs.Scopes.{Scope, Names, turns_of, names_in, cell_of, index_value}
+use Rattle.ped_eval.specs.Scopes.{Scope, turns_of, names_in, cell_of, index_value}
 use Rattle.ped_eval.specs.Values.{variable_value, value}
 use Rattle.ped_eval.specs.Outcomes.{setting_of}
 use Rattle.ped_affine.specs.Ranges.{Setting, Around, loop_range, inside, ranges_inside, nest_ranges}
@@ -138,8 +138,7 @@ values_told scope u (x ∷ xs) (i ∷ is) h =
 -- of values, the first of which are these, those of the common loops, and those of the further ones
 front_and_back : (k n : ℕ) (all these : List ℤ) → k ≤ n → take n all ≡ these → (take k all ≡ take k these) × (take (n - k) (drop k all) ≡ drop k these)
 front_and_back k n all these h e =
-    let back : k + (n - k) ≡ n = omega (arith, h) in
-    (
+    let back : k + (n - k) ≡ n = omega (arith, h) in (
       sym (take-take k n all h) ∙ ap (take k) e,
       sym (drop-take k (n - k) all) ∙ (ap (λ (m : ℕ). drop k (take m all)) back ∙ ap (drop k) e),
     )

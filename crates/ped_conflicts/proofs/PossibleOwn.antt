@@ -1,9 +1,5 @@
 -- A scalar that the outermost DO doesn't assign is no variable and no copy of the iterations in it: it has one value in the whole execution.
 use Rattle.std.proofs.Common.{◌≡◌, ℕ, ℤ, List, [], ◌∷◌, ◌++◌, Bool, true, false, not, ◌||◌, ◌⊎◌, inl, inr, Option, Some, None, Ok, if◌then◌else◌, refl, sym, ap, ◌∙◌, subst}
-use Rattle.std.specs.Ordering.{nat_cmp}
-use Rattle.std.specs.declared.cmp.Ordering.{Ordering}
-use Rattle.std.specs.declared.cmp.Ordering.TheVariants.{Less, Equal, Greater}
-use Rattle.std.specs.Cmp.Lexicographic.{slice_cmp}
 use Rattle.std.proofs.lemmas.Bool.{and_parts}
 use Rattle.std.proofs.lemmas.List.Folds.{list_any-append}
 use Rattle.ped_base.specs.Lists.{is_same_text, is_among}
@@ -20,8 +16,9 @@ use Rattle.ped_store.specs.Acts.{iterations_of}
 use Rattle.ped_eval.specs.Scopes.{Scope, Names, turns_of, cell_of, index_value}
 use Rattle.ped_eval.specs.Evaluation.{cell_seen, ◌>>>◌, given}
 use Rattle.ped_eval.specs.Values.{unary, binary, of_intrinsic, variable_value, name_value, value, values}
-use Rattle.ped_eval.specs.Loops.{with_name_by, with_sorted, sorted_once, index_names, all_index_names, inner_variables, entered_with, frame}
+use Rattle.ped_eval.specs.Loops.{index_names, all_index_names, inner_variables, entered_with, frame}
 use Rattle.ped_eval.specs.Outcomes.{setting_of}
+use Rattle.ped_runs.proofs.Turning.{inner_among}
 use Rattle.ped_affine.specs.Assigned.{assigned_in, assigned_in_all}
 use Rattle.ped_affine.specs.Ranges.{Setting, is_steady, are_steady}
 use Rattle.ped_graph.specs.Dependences.{assigned_by, setting_in}
@@ -44,27 +41,6 @@ not_so false b h k = refl
 pub not_true : (a : Bool) → not a ≡ true → a ≡ false
 not_true true h = none_true h
 not_true false h = refl
-
--- sorting adds no name
-by_order : (x y z : List ℕ) (zs further : List (List ℕ)) (o : Ordering) → slice_cmp nat_cmp y z ≡ o → (is_among x further ≡ true → (is_same_text x y || is_among x zs) ≡ true)
-    → is_among x (with_name_by o y z zs further) ≡ true → (is_same_text x y || (is_same_text x z || is_among x zs)) ≡ true
-by_order x y z zs further Less e h k = k
-by_order x y z zs further Equal e h k = among_inner x y (z ∷ zs) k
-by_order x y z zs further Greater e h k = elim (one_true (is_same_text x z) (is_among x further) k) [
-  | inl i ↦ among_inner x y (z ∷ zs) (among_first x z zs i)
-  | inr i ↦ elim (one_true (is_same_text x y) (is_among x zs) (h i)) [ inl j ↦ among_first x y (z ∷ zs) j | inr j ↦ among_inner x y (z ∷ zs) (among_inner x z zs j) ]
-]
-
-one_sorted : (x y : List ℕ) (zs : List (List ℕ)) → is_among x (with_sorted y zs) ≡ true → (is_same_text x y || is_among x zs) ≡ true
-one_sorted x y [] h = h
-one_sorted x y (z ∷ zs) h = by_order x y z zs (with_sorted y zs) (slice_cmp nat_cmp y z) refl (one_sorted x y zs) h
-
-was_among : (x : List ℕ) (ys : List (List ℕ)) → is_among x (sorted_once ys) ≡ true → is_among x ys ≡ true
-was_among x [] h = h
-was_among x (y ∷ ys) h = elim (one_true (is_same_text x y) (is_among x (sorted_once ys)) (one_sorted x y (sorted_once ys) h)) [
-  | inl i ↦ among_first x y ys i
-  | inr i ↦ among_inner x y ys (was_among x ys i)
-]
 
 module _ (x : List ℕ) where
   in_parts : (a b : List (List ℕ)) → is_among x (a ++ b) ≡ true → (is_among x a ≡ true) ⊎ (is_among x b ≡ true)
@@ -101,7 +77,7 @@ module _ (x : List ℕ) where
     | inl i ↦ among_first x variable (private ++ assigned_in_all b) i
     | inr i ↦ among_inner x variable (private ++ assigned_in_all b) (elim (in_parts private (inner_variables true b) i) [
       | inl j ↦ among_front x private (assigned_in_all b) j
-      | inr j ↦ among_back x private (assigned_in_all b) (all_index_assigned b (was_among x (all_index_names b) j))
+      | inr j ↦ among_back x private (assigned_in_all b) (all_index_assigned b (inner_among true b x j))
     ])
   ]
   copied_assigned false variable private b h = among_inner x variable (private ++ assigned_in_all b) (among_front x private (assigned_in_all b) h)

@@ -1,9 +1,10 @@
 -- No position excludes the directions in which two places of one execution stand, where both subscripts have equal values.
-use Rattle.std.proofs.Common.{◌≡◌, ℕ, suc, ◌+◌, ◌-◌, ◌≤◌, ◌==◌, ℤ, pos, int_eq, List, [], ◌∷◌, ◌++◌, map, filter, take, drop, length, cond, Bool, true, false, not, ◌&&◌, ◌||◌, Option, Some, None, Result, Ok, Err, if◌then◌else◌, refl, sym, ap, ◌∙◌, subst, arith}
+use Rattle.std.proofs.Common.{◌≡◌, ℕ, suc, ◌+◌, ◌-◌, ◌≤◌, ◌==◌, ℤ, pos, int_eq, List, [], ◌∷◌, ◌++◌, map, filter, take, drop, length, Bool, true, false, not, ◌&&◌, Option, Some, None, Result, Ok, Err, if◌then◌else◌, refl, sym, ap, ◌∙◌, subst, arith}
 use Rattle.std.specs.List.{AllByRecursion}
 use Rattle.std.specs.Cmp.Lexicographic.{pointwise}
+use Rattle.std.specs.Cmp.Rules.{signed_items}
 use Rattle.std.proofs.lemmas.Bool.{and_parts}
-use Rattle.std.proofs.lemmas.Bool.Decides.{Decides-int_eq}
+use Rattle.std.proofs.lemmas.Map.Views.{any-filter_same}
 use Rattle.std.proofs.lemmas.List.{length-map, length-append, length-replicate, length-take-le, length-drop, take-take, drop-take}
 use Rattle.ped_base.specs.Lists.{is_same_text, is_among}
 use Rattle.ped_views.specs.declared.directions.Direction.{Direction}
@@ -37,28 +38,9 @@ use Rattle.ped_conflicts.proofs.PossibleOwn.{not_true, constant_name}
 use Rattle.ped_conflicts.proofs.PossibleTurns.{turns_reached, in_nest, distinct, told}
 use Rattle.ped_conflicts.proofs.PossibleCommon.{Fit, common}
 
-same_numbers : (xs ys : List ℤ) → pointwise int_eq xs ys ≡ true → xs ≡ ys
-same_numbers [] [] h = refl
-same_numbers [] (y ∷ ys) h = absurd cc
-same_numbers (x ∷ xs) [] h = absurd cc
-same_numbers (x ∷ xs) (y ∷ ys) h =
-    let p = and_parts (int_eq x y) (pointwise int_eq xs ys) h in
-    let e = (Decides-int_eq x y).0 p.0 in
-    let r = same_numbers xs ys p.1 in
-    λ i. e i ∷ r i
-
 -- a name that is kept passes the test
 passes : (test : List ℕ → Bool) (y : List ℕ) (xs : List (List ℕ)) → is_among y (filter test xs) ≡ true → test y ≡ true
-passes test y [] h = absurd cc
-passes test y (x ∷ xs) h = go (test x) refl (passes test y xs) h
-  where
-    go : (b : Bool) → test x ≡ b → (is_among y (filter test xs) ≡ true → test y ≡ true) → is_among y (cond b (x ∷ filter test xs) (filter test xs)) ≡ true → test y ≡ true
-    go false e more k = more k
-    go true e more k = this (is_same_text y x) refl k
-      where
-        this : (c : Bool) → is_same_text y x ≡ c → (c || is_among y (filter test xs)) ≡ true → test y ≡ true
-        this true q k = ap test (text_is y x q) ∙ e
-        this false q k = more k
+passes test y xs h = (and_parts (test y) (is_among y xs) (sym (any-filter_same (is_same_text y) test (test y) (λ x e. ap test (sym (text_is y x e))) xs) ∙ h)).0
 
 common_within : (ls ms : List Loop) → (length (common_nest ls ms) ≤ length ls) × (length (common_nest ls ms) ≤ length ms)
 common_within [] ms = (omega arith, omega arith)
@@ -232,5 +214,5 @@ module _ (t : ProgramTree) (o : ℕ) (first : Store) (source sink : Site) (at_so
   cells_meet (e ∷ es) [] x y c d p q h = tt
   cells_meet (e ∷ es) (g ∷ gs) x y c d p q h =
       let both : (is_same_text x y && pointwise int_eq p.0 q.0) ≡ true = (λ i. same_cell (sym p.2 i) (sym q.2 i)) ∙ h in
-      let numbers : p.0 ≡ q.0 = same_numbers p.0 q.0 (and_parts (is_same_text x y) (pointwise int_eq p.0 q.0) both).1 in
+      let numbers : p.0 ≡ q.0 = (signed_items p.0 q.0).0 (and_parts (is_same_text x y) (pointwise int_eq p.0 q.0) both).1 in
       none_excludes (e ∷ es) (g ∷ gs) q.0 (subst (λ (ns : List ℤ). ComeTo (names_in (setting_of t) at_source) u (e ∷ es) ns) numbers p.1) q.1

@@ -26,3 +26,9 @@ pub mod SequenceActs
 pub mod SequencePlaces
 pub mod SequenceLoops
 pub mod SequenceRuns
+pub mod PossibleNames
+pub mod PossibleOwn
+pub mod PossibleTurns
+pub mod PossibleCommon
+pub mod PossiblePositions
+pub mod PossibleDirections

@@ -1,23 +1,22 @@
 -- The loop that carries what is between two accesses, the earlier one first.
-use Rattle.std.proofs.Common.{◌≡◌, ℕ, zero, suc, ◌+◌, ◌≤◌, ◌<◌, List, [], ◌∷◌, ◌++◌, length, take, Bool, true, false, ◌&&◌, refl, sym, ap, ◌∙◌, subst, ◌⊎◌, inl, inr, arith, ℤ, if◌then◌else◌}
+use Rattle.std.proofs.Common.{◌≡◌, ℕ, zero, suc, ◌+◌, ◌≤◌, ◌<◌, List, [], ◌∷◌, ◌++◌, length, take, Bool, true, refl, sym, ap, ◌∙◌, ◌⊎◌, inl, inr, arith, if◌then◌else◌}
 use Rattle.std.specs.Prelude.{◌==◌}
-use Rattle.std.specs.Bool.{MatchBool}
 use Rattle.std.specs.List.{list_all}
 use Rattle.std.proofs.lemmas.Bool.{both_ways, and_parts}
-use Rattle.std.proofs.lemmas.Bool.Decides.{nat_tests, when_true, when_false}
+use Rattle.std.proofs.lemmas.Bool.Decides.{when_true, when_false}
 use Rattle.ped_views.specs.declared.directions.Direction.{Direction}
-use Rattle.ped_views.specs.declared.directions.Direction.TheVariants.{Before, Same, After}
+use Rattle.ped_views.specs.declared.directions.Direction.TheVariants.{Before, Same}
 use Rattle.ped_views.specs.Excluded.{StandsByValue, by_value}
 use Rattle.ped_tree.specs.Tree.{ProgramTree}
 use Rattle.ped_tree.specs.Nests.{Loop}
 use Rattle.ped_graph.specs.Owners.{is_same}
-use Rattle.ped_graph.specs.Dependences.{Carriage, carried, independent, carriage_from}
+use Rattle.ped_graph.specs.Dependences.{carried, independent, carriage_from}
 use Rattle.ped_store.specs.Cells.{Iteration}
 use Rattle.ped_store.specs.Acts.{Turn, iterations_of}
 use Rattle.ped_store.specs.Races.{Access, are_apart}
 use Rattle.ped_conflicts.specs.Directions.{step_at, StandInDirections}
-use Rattle.ped_conflicts.specs.Sequence.{IsBeforeInText, AreSuccessive, ComesBefore}
-use Rattle.ped_conflicts.proofs.CoveringNests.{IsOf, AreOf, first_iteration, more_iterations}
+use Rattle.ped_conflicts.specs.Sequence.{IsBeforeInText, ComesBefore}
+use Rattle.ped_conflicts.proofs.CoveringNests.{AreOf, first_iteration, more_iterations}
 use Rattle.ped_conflicts.proofs.CoveringDirections.{same_numbers, other_numbers, same_by_value, earlier_before}
 
 -- carried by the loop at the first level where the iterations differ; where they are those of a PARALLEL DO, by that

@@ -1,10 +1,8 @@
 -- The cells that references touch: one cell has one name, and a copy tells the iterations that it belongs to.
-use Rattle.std.proofs.Common.{◌≡◌, ℕ, zero, suc, ◌+◌, ◌≤◌, List, [], ◌∷◌, ◌++◌, length, map, Bool, true, false, ◌&&◌, ◌||◌, refl, sym, ap, ◌∙◌, subst, ◌⊎◌, inl, inr, arith, ℤ, Option, Some, None, if◌then◌else◌, codes}
-use Rattle.std.specs.List.{list_all}
-use Rattle.std.proofs.lemmas.Bool.{both_ways}
+use Rattle.std.proofs.Common.{◌≡◌, ℕ, suc, ◌+◌, ◌≤◌, List, [], ◌∷◌, ◌++◌, length, Bool, true, false, refl, sym, ap, ◌∙◌, ◌⊎◌, inl, inr, arith, Some, if◌then◌else◌, codes}
 use Rattle.std.proofs.lemmas.List.{length-append, length-map}
 use Rattle.ped_base.specs.Lists.{is_same_text, is_among}
-use Rattle.ped_tree.specs.Tree.{ExprTree, Head, StmtTree, StmtTrees, Do, ProgramTree}
+use Rattle.ped_tree.specs.Tree.{ExprTree, Head, StmtTrees, Do, ProgramTree}
 use Rattle.ped_tree.specs.Nests.{Loop}
 use Rattle.ped_tree.specs.Numbering.{statement_with}
 use Rattle.ped_grammar.specs.Words.{is_name}
@@ -14,12 +12,12 @@ use Rattle.ped_store.specs.Stores.{Store}
 use Rattle.ped_store.specs.Acts.{Turn, iterations_of}
 use Rattle.ped_uses.specs.RightUses.{is_scalar}
 use Rattle.ped_affine.specs.Ranges.{Setting}
-use Rattle.ped_eval.specs.Scopes.{Frame, Scope, turns_of, cell_of, names_in}
+use Rattle.ped_eval.specs.Scopes.{Scope, turns_of, cell_of, names_in}
 use Rattle.ped_eval.specs.Outcomes.{setting_of}
 use Rattle.ped_covering.proofs.Texts.{text_is}
-use Rattle.ped_conflicts.specs.Making.{cell_named, StandsFor}
-use Rattle.ped_conflicts.specs.Reaching.{IsEntered, Reached}
-use Rattle.ped_conflicts.proofs.CoveringNests.{IsOf, is_of}
+use Rattle.ped_conflicts.specs.Making.{StandsFor}
+use Rattle.ped_conflicts.specs.Reaching.{Reached}
+use Rattle.ped_conflicts.proofs.CoveringNests.{is_of}
 use Rattle.ped_conflicts.proofs.CoveringOwners.{private_copied}
 
 -- the name of a cell

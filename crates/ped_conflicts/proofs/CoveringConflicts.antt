@@ -1,46 +1,40 @@
 -- Conflicts of a run are covered by the dependences of the program.
-use Rattle.std.proofs.Common.{◌≡◌, ℕ, zero, suc, ◌+◌, ◌≤◌, ◌<◌, List, [], ◌∷◌, ◌++◌, length, take, Bool, true, false, ◌&&◌, ◌||◌, refl, sym, ap, ◌∙◌, subst, ◌⊎◌, inl, inr, arith, ℤ, Option, Some, None, if◌then◌else◌}
+use Rattle.std.proofs.Common.{◌≡◌, ℕ, ◌+◌, ◌<◌, List, [], ◌∷◌, ◌++◌, length, take, Bool, true, false, ◌&&◌, ◌||◌, refl, sym, ap, ◌∙◌, subst, ◌⊎◌, inl, inr, arith, Option, Some, None, if◌then◌else◌}
 use Rattle.std.specs.Prelude.{◌==◌, nat_lt}
 use Rattle.std.specs.List.{list_all}
-use Rattle.std.proofs.lemmas.Bool.{both_ways, and_parts}
+use Rattle.std.proofs.lemmas.Bool.{both_ways}
 use Rattle.std.proofs.lemmas.Bool.Decides.{nat_tests}
-use Rattle.std.proofs.lemmas.List.{append_assoc, length-append}
-use Rattle.ped_base.specs.Lists.{has_some, is_same_text, is_among}
+use Rattle.ped_base.specs.Lists.{has_some, is_same_text}
 use Rattle.ped_views.specs.declared.directions.Direction.{Direction}
 use Rattle.ped_views.specs.Vectors.{IsPossible}
-use Rattle.ped_tree.specs.Tree.{Head, StmtTree, StmtTrees, Do, ProgramTree}
+use Rattle.ped_tree.specs.Tree.{StmtTree, Do, ProgramTree}
 use Rattle.ped_tree.specs.Accesses.{own_accesses, constant_names}
-use Rattle.ped_tree.specs.Accesses as tree
 use Rattle.ped_tree.specs.Nests.{Loop, indices_of, common_nest}
 use Rattle.ped_tree.specs.Numbering.{statement_with}
 use Rattle.ped_grammar.specs.Words.{is_name}
-use Rattle.ped_symbols.specs.NameRefusals.{IsValid}
 use Rattle.ped_symbols.specs.Kinds.{kind_in}
-use Rattle.ped_refs.specs.References.{Reference, references, outermost_number, outermost, innermost_private, is_pair, comes_before}
+use Rattle.ped_refs.specs.References.{Reference, outermost, innermost_private, is_pair, comes_before}
 use Rattle.ped_edges.specs.Edges.{Edge}
 use Rattle.ped_uses.specs.RightUses.{is_scalar}
-use Rattle.ped_graph.specs.Owners.{have_same_owner, owner_level, private_level, is_same}
-use Rattle.ped_graph.specs.Dependences.{carried, independent, carriage_from, is_of, setting_in, view_of, AreEdges}
-use Rattle.ped_store.specs.Cells.{Cell, same_cell}
+use Rattle.ped_graph.specs.Owners.{have_same_owner, owner_level, is_same}
+use Rattle.ped_graph.specs.Dependences.{is_of, setting_in, view_of, AreEdges}
+use Rattle.ped_store.specs.Cells.{same_cell}
 use Rattle.ped_store.specs.Stores.{Store}
-use Rattle.ped_store.specs.Acts.{Turn, iterations_of}
-use Rattle.ped_store.specs.Races.{Access, accesses, conflict, are_apart}
+use Rattle.ped_store.specs.Acts.{Turn}
+use Rattle.ped_store.specs.Races.{Access, are_apart}
 use Rattle.ped_acts.specs.Orders.{IsIn}
 use Rattle.ped_acts.proofs.SameCells.{cell_is}
-use Rattle.ped_affine.specs.Ranges.{Setting}
-use Rattle.ped_eval.specs.Scopes.{Scope, turns_of, cell_of, names_in}
-use Rattle.ped_eval.specs.Outcomes.{setting_of, run_of}
-use Rattle.ped_covering.proofs.Texts.{text_is, text_itself}
-use Rattle.ped_conflicts.specs.Making.{StandsFor, IsMade, AreMade}
-use Rattle.ped_conflicts.specs.Reaching.{Reached}
+use Rattle.ped_eval.specs.Scopes.{Scope, turns_of, cell_of}
+use Rattle.ped_covering.proofs.Texts.{text_itself}
+use Rattle.ped_conflicts.specs.Making.{IsMade}
 use Rattle.ped_conflicts.specs.Sequence.{IsBeforeInText, ComesBefore}
 use Rattle.ped_conflicts.specs.Directions.{StandInDirections, share_a_loop}
-use Rattle.ped_conflicts.specs.Covered.{ComeInRun, IsCovered, IsParallelAt}
+use Rattle.ped_conflicts.specs.Covered.{IsParallelAt}
 use Rattle.ped_conflicts.proofs.CoveringNests.{IsOf, AreOf, reached_are, one_of}
-use Rattle.ped_conflicts.proofs.CoveringOwners.{HasNone, HaveOneOwner, ShareFront, none_owned, one_owner, never_private, holds_among, same_owner}
+use Rattle.ped_conflicts.proofs.CoveringOwners.{HaveOneOwner, none_owned, one_owner, never_private, holds_among, same_owner}
 use Rattle.ped_conflicts.proofs.CoveringDirections.{same_numbers, numbers_are}
-use Rattle.ped_conflicts.proofs.CoveringCarriage.{IsCarried, IsExit, IsIndependent, carriage_is, same_front}
-use Rattle.ped_conflicts.proofs.CoveringEdges.{IsLevel, IsBetween, edge_between}
+use Rattle.ped_conflicts.proofs.CoveringCarriage.{IsExit, carriage_is, same_front}
+use Rattle.ped_conflicts.proofs.CoveringEdges.{IsBetween, edge_between}
 use Rattle.ped_conflicts.proofs.CoveringWrites.{statement_of, do_writes}
 use Rattle.ped_conflicts.proofs.CoveringCells.{name_in, name_of_cell, kind_of_cell, depth_of, no_deeper, deeper}
 

@@ -1,32 +1,27 @@
 -- The directions in which two accesses stand, and the loop that carries what is between them.
-use Rattle.std.proofs.Common.{◌≡◌, ℕ, zero, suc, ◌+◌, ◌-◌, ◌≤◌, ◌<◌, List, [], ◌∷◌, ◌++◌, length, take, Bool, true, false, not, ◌&&◌, eqb, eqb-true, refl, sym, ap, ◌∙◌, subst, ◌⊎◌, inl, inr, arith, ℤ, pos, negsuc, neg_ℤ, ◌+ℤ◌, ◌-ℤ◌, ◌*ℤ◌, ◌<ℤ◌, ◌≤ℤ◌, Option, Some, None, if◌then◌else◌, unwrap_or, int_eq}
+use Rattle.std.proofs.Common.{◌≡◌, ℕ, ◌-◌, ◌<◌, List, [], ◌∷◌, Bool, true, false, not, refl, sym, ap, ◌∙◌, subst, arith, ℤ, pos, negsuc, neg_ℤ, ◌+ℤ◌, ◌-ℤ◌, ◌*ℤ◌, ◌<ℤ◌, ◌≤ℤ◌, Option, Some, None, if◌then◌else◌, unwrap_or, int_eq}
 use Rattle.std.specs.Prelude.{◌==◌}
 use Rattle.std.specs.Bool.{MatchBool}
-use Rattle.std.specs.List.{list_all}
 use Rattle.std.proofs.Math.IntN.{*ℤ_comm}
-use Rattle.std.proofs.lemmas.Bool.{both_ways, and_parts}
-use Rattle.std.proofs.lemmas.Bool.Decides.{nat_tests, when_true, when_false}
+use Rattle.std.proofs.lemmas.Bool.{and_parts}
+use Rattle.std.proofs.lemmas.Bool.Decides.{nat_tests}
 use Rattle.std.proofs.lemmas.Int.{ints, by_lt_z}
 use Rattle.ped_views.specs.declared.directions.Direction.{Direction}
 use Rattle.ped_views.specs.declared.directions.Direction.TheVariants.{Before, Same, After}
 use Rattle.ped_views.specs.Excluded.{StandsByValue, turned, by_value}
 use Rattle.ped_views.proofs.Products.{linear, mul-sub, mul-le, neg-mul}
-use Rattle.ped_tree.specs.Tree.{Head, StmtTree, StmtTrees, Do, ProgramTree}
+use Rattle.ped_tree.specs.Tree.{Head, StmtTrees, Do, ProgramTree}
 use Rattle.ped_tree.specs.Nests.{Loop}
 use Rattle.ped_tree.specs.Numbering.{statement_with}
 use Rattle.ped_constants.specs.ConstantExpressions.{constant_value}
-use Rattle.ped_uses.specs.RightLoops.{is_small, is_step, step_is_right}
+use Rattle.ped_uses.specs.RightLoops.{is_small, is_step}
 use Rattle.ped_affine.specs.Ranges.{step_by}
-use Rattle.ped_graph.specs.Owners.{is_same}
-use Rattle.ped_graph.specs.Dependences.{Carriage, carried, independent, backward, carriage_from}
-use Rattle.ped_store.specs.Cells.{Iteration}
-use Rattle.ped_store.specs.Acts.{Turn, iterations_of}
-use Rattle.ped_store.specs.Races.{Access, are_apart}
+use Rattle.ped_store.specs.Acts.{Turn}
 use Rattle.ped_eval.specs.Loops.{increment}
 use Rattle.ped_eval.specs.Outcomes.{setting_of}
 use Rattle.ped_conflicts.specs.Directions.{step_in, step_at, StandInDirections}
-use Rattle.ped_conflicts.specs.Sequence.{IsBeforeInText, AreSuccessive, ComesBefore}
-use Rattle.ped_conflicts.proofs.CoveringNests.{IsOf, AreOf, first_iteration, more_iterations}
+use Rattle.ped_conflicts.specs.Sequence.{AreSuccessive}
+use Rattle.ped_conflicts.proofs.CoveringNests.{IsOf}
 
 pub same_numbers : (m n : ℕ) → m ≡ n → (m == n) ≡ true
 same_numbers m n e = grind (arith, nat_tests)

@@ -1,5 +1,5 @@
 -- A pair of references has its dependences among those of the program, and a possible vector stands in one of them.
-use Rattle.std.proofs.Common.{◌≡◌, ℕ, zero, suc, ◌+◌, ◌≤◌, ◌<◌, List, [], ◌∷◌, ◌++◌, length, take, map, filter, cond, Bool, true, false, ◌&&◌, ◌||◌, refl, sym, ap, ◌∙◌, subst, ◌⊎◌, inl, inr, arith, Option, Some, None, if◌then◌else◌}
+use Rattle.std.proofs.Common.{◌≡◌, ℕ, zero, suc, ◌+◌, ◌≤◌, ◌<◌, List, [], ◌∷◌, ◌++◌, length, take, map, filter, cond, Bool, true, false, refl, sym, ap, ◌∙◌, subst, inl, inr, arith, Option, Some, None, if◌then◌else◌}
 use Rattle.std.specs.Prelude.{◌==◌}
 use Rattle.std.specs.List.{list_all, flat_map, range_with_len}
 use Rattle.std.proofs.lemmas.Bool.Decides.{nat_tests}
@@ -7,12 +7,12 @@ use Rattle.ped_base.specs.Lists.{has_some}
 use Rattle.ped_views.specs.declared.directions.Direction.{Direction}
 use Rattle.ped_views.specs.declared.directions.Direction.TheVariants.{Before, Same, After}
 use Rattle.ped_views.specs.Views.{View}
-use Rattle.ped_views.specs.Vectors.{all_vectors, AreThose, IsPossible, AreVectors}
+use Rattle.ped_views.specs.Vectors.{all_vectors, AreThose, IsPossible}
 use Rattle.ped_tree.specs.Tree.{ProgramTree}
 use Rattle.ped_refs.specs.References.{Reference, references, is_pair, comes_before, pairs}
 use Rattle.ped_edges.specs.Edges.{Edge}
 use Rattle.ped_graph.specs.Owners.{have_same_owner, owner_level, is_same, within_iteration}
-use Rattle.ped_graph.specs.Dependences.{Carriage, carried, independent, carriage_from, is_of, vectors_of, kind_of, place_of, distances_of, Facts, facts_of, view_of, edge_at, independent_edge, divided, edges_by, PairEdges, EdgesOfPairs, AreEdges}
+use Rattle.ped_graph.specs.Dependences.{carriage_from, is_of, vectors_of, kind_of, place_of, distances_of, Facts, facts_of, view_of, edge_at, independent_edge, divided, PairEdges, EdgesOfPairs, AreEdges}
 use Rattle.ped_graph.specs.Marks.{mark_of}
 use Rattle.ped_acts.specs.Orders.{IsIn}
 use Rattle.ped_acts.proofs.Lists.{in_left, in_right}

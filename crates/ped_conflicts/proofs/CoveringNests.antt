@@ -1,26 +1,18 @@
--- Iterations that a run has come to are of the loops of a nest, and copies of scalars belong to some of them.
-use Rattle.std.proofs.Common.{◌≡◌, ℕ, suc, ◌+◌, ◌≤◌, ◌<◌, List, [], ◌∷◌, ◌++◌, length, Bool, true, false, ◌&&◌, ◌||◌, refl, sym, ap, ◌∙◌, subst, ◌⊎◌, inl, inr, arith, Option, Some, None, if◌then◌else◌}
+-- Iterations that a run has come to are of the loops of a nest, one of each.
+use Rattle.std.proofs.Common.{◌≡◌, ℕ, suc, ◌≤◌, List, [], ◌∷◌, ◌++◌, length, true, refl, sym, ap, ◌∙◌, subst, Option, Some}
 use Rattle.std.specs.List.{list_all}
-use Rattle.std.specs.Option.{option_or}
-use Rattle.std.proofs.lemmas.Bool.{both_ways}
-use Rattle.std.proofs.lemmas.List.{append_assoc, append-nil, length-append, length-map, map-append}
-use Rattle.std.proofs.lemmas.List.Folds.{list_any-append}
-use Rattle.ped_base.specs.Lists.{is_same_text, is_among}
-use Rattle.ped_tree.specs.Tree.{Head, StmtTree, StmtTrees, Assign, If, Do, Print, Read, Stop, Comment, ProgramTree}
+use Rattle.ped_tree.specs.Tree.{Head, StmtTree, StmtTrees, Do, ProgramTree}
 use Rattle.ped_tree.specs.Nests.{Loop}
 use Rattle.ped_tree.specs.Numbering.{statement_with}
 use Rattle.ped_grammar.specs.Words.{is_name}
 use Rattle.ped_symbols.specs.Kinds.{kind_in}
-use Rattle.ped_refs.specs.References.{innermost_private}
-use Rattle.ped_graph.specs.Owners.{level_by, private_level}
-use Rattle.ped_store.specs.Cells.{Cell, Scalar, Element, Private, In, Out, Iteration}
+use Rattle.ped_store.specs.Cells.{Iteration}
 use Rattle.ped_store.specs.Stores.{Store}
 use Rattle.ped_store.specs.Acts.{Turn, iterations_of}
 use Rattle.ped_uses.specs.RightUses.{is_scalar}
 use Rattle.ped_uses.specs.RightLoops.{step_is_right}
 use Rattle.ped_affine.specs.Ranges.{Setting}
-use Rattle.ped_eval.specs.Scopes.{Frame, Scope, turns_of, cell_of}
-use Rattle.ped_eval.specs.Loops.{Entered, frame, entered_with, copied_names}
+use Rattle.ped_eval.specs.Scopes.{Frame, Scope, turns_of}
 use Rattle.ped_eval.specs.Outcomes.{setting_of}
 use Rattle.ped_conflicts.specs.Reaching.{IsEntered, Reached}
 

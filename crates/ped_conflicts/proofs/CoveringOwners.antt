@@ -1,20 +1,21 @@
 -- References that touch one cell of a scalar belong to one DO, in one iteration of it, or to none.
-use Rattle.std.proofs.Common.{◌≡◌, ℕ, zero, suc, ◌+◌, ◌≤◌, List, [], ◌∷◌, ◌++◌, length, Bool, true, false, ◌&&◌, ◌||◌, eqb, eqb-true, refl, sym, ap, ◌∙◌, subst, ◌⊎◌, inl, inr, arith, Option, Some, None, if◌then◌else◌}
+use Rattle.std.proofs.Common.{◌≡◌, ℕ, zero, suc, ◌≤◌, List, [], ◌∷◌, ◌++◌, length, Bool, true, false, ◌||◌, eqb-true, refl, sym, ap, ◌∙◌, ◌⊎◌, inl, inr, arith, Option, Some, None, if◌then◌else◌}
 use Rattle.std.specs.Prelude.{◌==◌}
 use Rattle.std.specs.List.{list_all}
 use Rattle.std.specs.Option.{option_or}
 use Rattle.std.proofs.lemmas.Bool.{both_ways, and_parts}
 use Rattle.std.proofs.lemmas.Bool.Decides.{nat_tests}
-use Rattle.std.proofs.lemmas.List.{append_assoc, append-nil, length-append, length-map}
+use Rattle.std.proofs.lemmas.List.{append_assoc, append-nil}
 use Rattle.std.proofs.lemmas.List.Folds.{list_any-append}
 use Rattle.ped_base.specs.Lists.{is_same_text, is_among}
-use Rattle.ped_tree.specs.Tree.{StmtTrees, ProgramTree}
+use Rattle.ped_tree.specs.Tree.{ProgramTree}
 use Rattle.ped_tree.specs.Nests.{Loop}
 use Rattle.ped_refs.specs.References.{innermost_private}
 use Rattle.ped_graph.specs.Owners.{is_same_owner, level_by, private_level}
 use Rattle.ped_store.specs.Cells.{Cell, Scalar, Element, Private, In, Out, Iteration}
 use Rattle.ped_store.specs.Stores.{Store}
 use Rattle.ped_store.specs.Acts.{Turn, iterations_of}
+use Rattle.ped_acts.proofs.Renamings.{or_left, or_right}
 use Rattle.ped_affine.specs.Ranges.{Setting}
 use Rattle.ped_eval.specs.Scopes.{Frame, Scope, turns_of, cell_of}
 use Rattle.ped_eval.specs.Loops.{Entered, entered_with}
@@ -22,14 +23,6 @@ use Rattle.ped_eval.specs.Outcomes.{setting_of}
 use Rattle.ped_covering.proofs.Texts.{text_is}
 use Rattle.ped_conflicts.specs.Reaching.{IsEntered, Reached}
 use Rattle.ped_conflicts.proofs.CoveringNests.{IsOf, AreOf, reached_are, same_depth, one_nest}
-
-or_first : (a b : Bool) → a ≡ true → a || b ≡ true
-or_first true b h = refl
-or_first false b h = absurd cc
-
-or_second : (a b : Bool) → b ≡ true → a || b ≡ true
-or_second true b h = refl
-or_second false b h = h
 
 false_unless : (b : Bool) → (b ≡ true → ⊥) → b ≡ false
 false_unless true h = absurd (h refl)
@@ -39,8 +32,8 @@ false_unless false h = refl
 copied_by : (x : List ℕ) (e : Entered) (parallel : Bool) → is_among x e.head.private ≡ true → is_among x (if parallel then e.head.variable ∷ (e.head.private ++ e.inner) else e.head.private) ≡ true
 copied_by x e false h = h
 copied_by x e true h =
-    or_second (is_same_text x e.head.variable) (is_among x (e.head.private ++ e.inner))
-    (list_any-append (is_same_text x) e.head.private e.inner ∙ or_first (is_among x e.head.private) (is_among x e.inner) h)
+    or_right (is_same_text x e.head.variable) (is_among x (e.head.private ++ e.inner))
+    (list_any-append (is_same_text x) e.head.private e.inner ∙ or_left (is_among x e.head.private) (is_among x e.inner) h)
 
 pub private_copied : (t : ProgramTree) (s : Setting) (first : Store) (outer : Scope) (l : Loop) (f : Frame) (x : List ℕ) → IsEntered t s first outer l f → is_among x l.head.private ≡ true → is_among x f.private ≡ true
 private_copied t s first outer l f x e h = ap (λ (g : Frame). is_among x g.private) e.is ∙ copied_by x (entered_with (setting_of t) l.number l.head e.body e.seen e.bounds) l.head.parallel h

@@ -1,42 +1,41 @@
 -- Accesses that race are made by references: what a DO stores of itself, and what a place tells, meets nothing in another iteration of a PARALLEL DO.
-use Rattle.std.proofs.Common.{◌≡◌, ℕ, zero, suc, ◌<◌, List, [], ◌∷◌, ◌++◌, map, filter, cond, Bool, true, false, not, ◌&&◌, ◌||◌, refl, sym, ap, ◌∙◌, subst, ◌⊎◌, inl, inr, arith, Some, if◌then◌else◌, IsTrue, codes}
+use Rattle.std.proofs.Common.{◌≡◌, ℕ, ◌<◌, List, [], ◌∷◌, ◌++◌, map, filter, cond, Bool, true, false, not, ◌&&◌, ◌||◌, refl, sym, ap, ◌∙◌, subst, inl, inr, arith, Some, if◌then◌else◌, IsTrue, codes}
 use Rattle.std.specs.Prelude.{◌==◌}
-use Rattle.std.specs.List.{flat_map}
 use Rattle.std.specs.Str.Lines.{lines}
 use Rattle.std.proofs.lemmas.Bool.{both_ways, and_parts}
 use Rattle.std.proofs.lemmas.Bool.Decides.{nat_tests}
 use Rattle.ped_base.specs.Lists.{is_same_text, is_among}
-use Rattle.ped_tree.specs.Tree.{ExprTree, Head, StmtTree, StmtTrees, Do, ProgramTree}
+use Rattle.ped_tree.specs.Tree.{ExprTree, Head, Do, ProgramTree}
 use Rattle.ped_tree.specs.Nests.{Loop, indices_of}
 use Rattle.ped_tree.specs.Numbering.{statement_with}
 use Rattle.ped_grammar.specs.Fits.{fits}
 use Rattle.ped_symbols.specs.NameRefusals.{IsValid}
-use Rattle.ped_refs.specs.References.{Reference, references, outermost}
+use Rattle.ped_refs.specs.References.{Reference, outermost}
 use Rattle.ped_edges.specs.Edges.{Edge}
 use Rattle.ped_graph.specs.Dependences.{setting_in, AreEdges}
-use Rattle.ped_store.specs.Cells.{Cell, Element, In, Out, Iteration, same_cell}
+use Rattle.ped_store.specs.Cells.{Cell, In, Out, Iteration, same_cell}
 use Rattle.ped_store.specs.Stores.{Store, store_at_start}
-use Rattle.ped_store.specs.Acts.{Manner, reads, writes, is_told, Touch, Turn, Place, Act, iterations_of}
+use Rattle.ped_store.specs.Acts.{Manner, reads, writes, is_told, Touch, Turn, Act, iterations_of}
 use Rattle.ped_store.specs.Races.{Access, is_lines, is_write, is_access, accesses_of, accesses, conflict, are_apart, race}
 use Rattle.ped_acts.specs.Orders.{IsIn}
 use Rattle.ped_acts.proofs.Lists.{in_left, in_right, in_parts}
 use Rattle.ped_acts.proofs.SameCells.{cell_is, is_cell}
 use Rattle.ped_acts.proofs.Conflicting.{access_by, access_place}
+use Rattle.ped_acts.proofs.Renamings.{or_right}
 use Rattle.ped_acts.proofs.RaceFree.{apart_flip}
 use Rattle.ped_eval.specs.Scopes.{Scope, turns_of, cell_of, names_in}
-use Rattle.ped_eval.specs.Runs.{run_all}
 use Rattle.ped_eval.specs.Outcomes.{setting_of, run_of}
 use Rattle.ped_runs.proofs.Touches.{Fine, Good, all_good}
 use Rattle.ped_runs.proofs.Turning.{At, cell_at}
 use Rattle.ped_runs.proofs.Placing.{kinds_of_run}
 use Rattle.ped_runs.proofs.Meetings.{accesses_of_run}
 use Rattle.ped_covering.proofs.Texts.{text_itself}
-use Rattle.ped_conflicts.specs.Making.{StandsFor, IsMade, AreMade}
+use Rattle.ped_conflicts.specs.Making.{StandsFor, IsMade}
 use Rattle.ped_conflicts.specs.Covered.{ComeInRun, IsCarriedInParallel}
 use Rattle.ped_conflicts.proofs.CoveringNests.{IsOf, AreOf, reached_are, first_iteration, more_iterations}
 use Rattle.ped_conflicts.proofs.CoveringCells.{name_in, name_of_cell, iteration_of, head_is}
-use Rattle.ped_conflicts.proofs.CoveringIndices.{Near, IsIndexAt, HasFront, near_front}
-use Rattle.ped_conflicts.proofs.CoveringTelling.{Tells, ActTells, program_tells}
+use Rattle.ped_conflicts.proofs.CoveringIndices.{Near, IsIndexAt, near_front}
+use Rattle.ped_conflicts.proofs.CoveringTelling.{Tells, program_tells}
 use Rattle.ped_conflicts.proofs.CoveringTargets.{variables_spared}
 use Rattle.ped_conflicts.proofs.CoveringRuns.{MakingLaw, SequenceLaw, PossibleLaw, first_comes, second_comes, races_of_references}
 
@@ -107,14 +106,10 @@ loop_among t (l ∷ ls) [] i h k = absurd k
 loop_among t (l ∷ ls) (j ∷ is) i h (inl e) = (l, inl refl, subst (IsOf t l) (sym e) h.0)
 loop_among t (l ∷ ls) (j ∷ is) i h (inr k) = let more = loop_among t ls is i h.1 k in (more.0, inr more.1, more.2)
 
-or_second : (a b : Bool) → b ≡ true → a || b ≡ true
-or_second true b h = refl
-or_second false b h = h
-
 variable_among : (l : Loop) (ls : List Loop) → IsIn l ls → is_among l.head.variable (indices_of ls) ≡ true
 variable_among l [] h = absurd h
 variable_among l (m ∷ ls) (inl e) = ap (λ (x : Loop). is_same_text l.head.variable x.head.variable || is_among l.head.variable (indices_of ls)) (sym e) ∙ ap (λ (b : Bool). b || is_among l.head.variable (indices_of ls)) (text_itself l.head.variable)
-variable_among l (m ∷ ls) (inr h) = or_second (is_same_text l.head.variable m.head.variable) (is_among l.head.variable (indices_of ls)) (variable_among l ls h)
+variable_among l (m ∷ ls) (inr h) = or_right (is_same_text l.head.variable m.head.variable) (is_among l.head.variable (indices_of ls)) (variable_among l ls h)
 
 -- what a place tells is written by no reference in another iteration of a PARALLEL DO
 module _ (t : ProgramTree) (fit : fits t ≡ true) (first : Store) (a b : Access) (told : IsIndexAt t a.place.turns a.cell) (r : Reference) (scope : Scope) (u : Store) (made : IsMade t first b r scope u)
@@ -123,15 +118,19 @@ module _ (t : ProgramTree) (fit : fits t ≡ true) (first : Store) (a b : Access
   near = subst (Near (told.front ++ told.last ∷ [])) same told.near
 
   -- the DO whose variable is told stands round the other place, too
+  told_here : (l : Loop) (j : Turn) → IsIn l r.nest → IsOf t l j → j.statement ≡ told.last.statement → r.access.name ≡ told.head.variable → is_among r.access.name (indices_of r.nest) ≡ true
+  told_here l j i of same named =
+      let stands : statement_with told.last.statement t ≡ Some (Do l.head of.body) = ap (λ (n : ℕ). statement_with n t) (sym same ∙ of.statement) ∙ of.stands in
+      let heads : told.head ≡ l.head = head_is told.head l.head told.body of.body (sym told.stands ∙ stands) in
+      ap (λ (x : List ℕ). is_among x (indices_of r.nest)) (named ∙ ap (λ (h : Head). h.variable) heads) ∙ variable_among l r.nest i
+
   told_round : At b.place.turns b.cell → r.access.name ≡ told.head.variable → is_among r.access.name (indices_of r.nest) ≡ true
   told_round at named =
       let f = near_front (told.front ++ told.last ∷ []) told.more b.place.turns b.cell (subst (λ (is : List Turn). are_apart is b.place.turns ≡ true) told.round apart) near at in
       let nest : AreOf t r.nest b.place.turns = subst (AreOf t r.nest) (sym made.turns) (reached_are t (setting_in t (outermost r)) first r.nest scope made.reached) in
       let j = same_among told.last (told.front ++ told.last ∷ []) f.front (in_right told.last told.front (told.last ∷ []) (inl refl)) f.same in
       let l = loop_among t r.nest b.place.turns j.0 nest (subst (IsIn j.0) (sym f.is) (in_left j.0 f.front f.rest j.1)) in
-      let stands : statement_with told.last.statement t ≡ Some (Do l.0.head l.2.body) = ap (λ (n : ℕ). statement_with n t) (sym j.2 ∙ l.2.statement) ∙ l.2.stands in
-      let heads : told.head ≡ l.0.head = head_is told.head l.0.head told.body l.2.body (sym told.stands ∙ stands) in
-      ap (λ (x : List ℕ). is_among x (indices_of r.nest)) (named ∙ ap (λ (h : Head). h.variable) heads) ∙ variable_among l.0 r.nest l.1
+      told_here l.0 j.0 l.1 l.2 j.2 named
 
   pub never_told : ⊥
   never_told = by_subscripts r.access.subscripts refl made.cell
@@ -167,7 +166,7 @@ or_other true b h e = absurd cc
 or_other false b h e = h
 
 or_turned : (a b : Bool) → (a || b) ≡ true → (b || a) ≡ true
-or_turned true b h = or_second b true refl
+or_turned true b h = or_right b true refl
 or_turned false true h = refl
 or_turned false false h = h
 

@@ -1,5 +1,5 @@
 -- Accesses of a run that conflict are made by references that meet, and the dependences of the program cover them.
-use Rattle.std.proofs.Common.{◌≡◌, ℕ, ◌<◌, List, [], ◌∷◌, ◌++◌, length, Bool, true, false, ◌&&◌, ◌||◌, refl, sym, ap, ◌∙◌, subst, inl, inr, arith, if◌then◌else◌}
+use Rattle.std.proofs.Common.{◌≡◌, ℕ, ◌<◌, List, [], ◌∷◌, ◌++◌, length, true, ◌||◌, refl, sym, ap, ◌∙◌, subst, inl, inr, if◌then◌else◌}
 use Rattle.std.specs.Prelude.{◌==◌}
 use Rattle.std.proofs.lemmas.Bool.{and_parts}
 use Rattle.ped_views.specs.declared.directions.Direction.{Direction}
@@ -13,7 +13,7 @@ use Rattle.ped_graph.specs.Dependences.{setting_in, view_of, AreEdges}
 use Rattle.ped_store.specs.Cells.{same_cell}
 use Rattle.ped_store.specs.Stores.{Store}
 use Rattle.ped_store.specs.Acts.{Turn}
-use Rattle.ped_store.specs.Races.{Access, accesses, conflict, are_apart, race}
+use Rattle.ped_store.specs.Races.{Access, accesses, conflict, are_apart}
 use Rattle.ped_acts.specs.Orders.{IsIn}
 use Rattle.ped_acts.proofs.Lists.{in_right}
 use Rattle.ped_eval.specs.Scopes.{Scope}

@@ -1,25 +1,25 @@
 -- In a run a place tells the values of variables of the DO loops round it alone.
-use Rattle.std.proofs.Common.{◌≡◌, ℕ, zero, suc, ◌+◌, ℤ, List, [], ◌∷◌, ◌++◌, length, Bool, true, false, eqb, Option, Some, None, Result, Ok, Err, refl, sym, ap, ◌∙◌, ◌⊎◌, inl, inr, arith, if◌then◌else◌, ◌||◌}
+use Rattle.std.proofs.Common.{◌≡◌, ℕ, zero, suc, ◌+◌, ℤ, List, [], ◌∷◌, ◌++◌, length, Bool, true, false, eqb, Option, Some, None, Result, Ok, Err, refl, sym, ap, ◌∙◌, arith, if◌then◌else◌}
 use Rattle.std.proofs.lemmas.Bool.Decides.{nat_tests}
 use Rattle.std.proofs.lemmas.List.Folds.{list_any-append}
 use Rattle.ped_base.specs.Lists.{is_same_text, is_among}
-use Rattle.ped_tree.specs.Tree.{ExprTree, CondTree, ItemTree, Head, StmtTree, StmtTrees, Assign, If, Do, Print, Read, Stop, Comment, no_stmts, more_stmts, ProgramTree}
+use Rattle.ped_tree.specs.Tree.{ExprTree, StmtTree, StmtTrees, Assign, If, Do, Print, Read, Stop, Comment, no_stmts, more_stmts, ProgramTree}
 use Rattle.ped_tree.specs.Numbering.{numbered as statements_of, all_numbered, at_place, statement_with, statement_count, statements_count}
 use Rattle.ped_tree.proofs.Numbers.{length-numbered, length-all_numbered, at_place-front, at_place-back}
 use Rattle.ped_store.specs.Cells.{Cell, In, Out}
 use Rattle.ped_store.specs.Stores.{Content, Undefined, Number, Lines, Store, put, lines_in}
-use Rattle.ped_store.specs.Acts.{Manner, reads, writes, is_told, Touch, Turn, Place, Step, Act, did, entered, ended_turn, closed, faulted}
+use Rattle.ped_store.specs.Acts.{Manner, reads, writes, is_told, Touch, Turn, Place, Act, did, entered, ended_turn, closed, faulted}
 use Rattle.ped_store.specs.DataLines.{Data, begun, Taken, next_value_of}
+use Rattle.ped_acts.proofs.Renamings.{or_left, or_right}
 use Rattle.ped_eval.specs.Scopes.{Setting, Frame, Scope, Names, turns_of, cell_of, names_in, place_of}
 use Rattle.ped_eval.specs.Evaluation.{Seen, cell_seen, index_seen, numbered, number_behind}
 use Rattle.ped_eval.specs.Values.{truth, target}
 use Rattle.ped_eval.specs.Statements.{assigned, printed_line, into_item, with_taken, taking, taking_from, reading, reading_touches, read_touch, write_touch}
-use Rattle.ped_eval.specs.Loops.{limits, Entered, entered_with, frame, index_names, all_index_names, undefined_by, undefined_all, exit_touches, exit_when_none, copied_names, inner_variables}
+use Rattle.ped_eval.specs.Loops.{limits, Entered, entered_with, frame, index_names, all_index_names, undefined_by, undefined_all, exit_touches, exit_when_none}
 use Rattle.ped_eval.specs.Runs.{Run, nothing_done, does, run_taking, turns, parallel_turns, run_entered, run, run_all}
 use Rattle.ped_eval.specs.Outcomes.{setting_of}
 use Rattle.ped_runs.specs.Replaying.{act}
 use Rattle.ped_runs.specs.Touching.{HasCopies, HaveCopies}
-use Rattle.ped_runs.proofs.SeenCells.{OfResult}
 use Rattle.ped_runs.proofs.Touches.{Each, each_none, each_more, each_append, then_each, does_each, on_each, any_result}
 use Rattle.ped_runs.proofs.Turning.{body_copies}
 use Rattle.ped_covering.proofs.Texts.{text_itself}
@@ -53,23 +53,15 @@ stand_rest t n k xs ys e w i s h =
 all_stand : (t : ProgramTree) → Stand t 1 (all_numbered t.body)
 all_stand t i s h = grind (arith, nat_tests, h)
 
-or_first : (a b : Bool) → a ≡ true → a || b ≡ true
-or_first true b h = refl
-or_first false b h = absurd cc
-
-or_second : (a b : Bool) → b ≡ true → a || b ≡ true
-or_second true b h = refl
-or_second false b h = h
-
 first_names : (x : List ℕ) (xs ys : List (List ℕ)) → is_among x xs ≡ true → is_among x (xs ++ ys) ≡ true
-first_names x xs ys i = list_any-append (is_same_text x) xs ys ∙ or_first (is_among x xs) (is_among x ys) i
+first_names x xs ys i = list_any-append (is_same_text x) xs ys ∙ or_left (is_among x xs) (is_among x ys) i
 
 second_names : (x : List ℕ) (xs ys : List (List ℕ)) → is_among x ys ≡ true → is_among x (xs ++ ys) ≡ true
-second_names x xs ys i = list_any-append (is_same_text x) xs ys ∙ or_second (is_among x xs) (is_among x ys) i
+second_names x xs ys i = list_any-append (is_same_text x) xs ys ∙ or_right (is_among x xs) (is_among x ys) i
 
 -- each iteration of a PARALLEL DO has a copy of the DO's variable
 variable_copied : (e : Entered) (parallel : Bool) → parallel ≡ true → is_among e.head.variable (if parallel then e.head.variable ∷ (e.head.private ++ e.inner) else e.head.private) ≡ true
-variable_copied e true h = or_first (is_same_text e.head.variable e.head.variable) (is_among e.head.variable (e.head.private ++ e.inner)) (text_itself e.head.variable)
+variable_copied e true h = or_left (is_same_text e.head.variable e.head.variable) (is_among e.head.variable (e.head.private ++ e.inner)) (text_itself e.head.variable)
 variable_copied e false h = absurd cc
 
 module _ (t : ProgramTree) where
@@ -194,8 +186,8 @@ module _ (t : ProgramTree) where
     run_tells (Do h body) n scope u w copies tells =
         let l = limits (names_in Own scope) h u in
         let told = numbered_tells (turns_of scope) 1 l.seen (limits_told (IsIndexAt t (turns_of scope)) (names_in Own scope) tells h u) in
-        let names : HaveCopies scope (all_index_names body) = λ x i. copies x (or_second (is_same_text x h.variable) (is_among x (all_index_names body)) i) in
-        let own : HasCopies scope h.variable = copies h.variable (or_first (is_same_text h.variable h.variable) (is_among h.variable (all_index_names body)) (text_itself h.variable)) in
+        let names : HaveCopies scope (all_index_names body) = λ x i. copies x (or_right (is_same_text x h.variable) (is_among x (all_index_names body)) i) in
+        let own : HasCopies scope h.variable = copies h.variable (or_left (is_same_text h.variable h.variable) (is_among h.variable (all_index_names body)) (text_itself h.variable)) in
         let stands : statement_with n t ≡ Some (Do h body) = ap (λ (m : ℕ). statement_with m t) (omega arith) ∙ w 0 (Do h body) refl in
         on_each (ActTells t) (λ x. Unit {0}) (place_of Own n scope) l.seen l.result _ (any_result l.result) told
         (λ bounds o.

@@ -1,7 +1,6 @@
 -- What a DO writes by references of its own: its PRIVATE names.
-use Rattle.std.proofs.Common.{◌≡◌, ℕ, zero, suc, ◌+◌, ◌-◌, List, [], ◌∷◌, ◌++◌, length, map, Bool, true, false, ◌||◌, eqb, refl, sym, ap, ◌∙◌, subst, ◌⊎◌, inl, inr, arith, Option, Some, None, if◌then◌else◌}
+use Rattle.std.proofs.Common.{◌≡◌, ℕ, suc, ◌+◌, ◌-◌, List, [], ◌∷◌, ◌++◌, length, Bool, true, false, ◌||◌, refl, sym, ap, ◌∙◌, subst, inl, inr, arith, Some, None, if◌then◌else◌}
 use Rattle.std.specs.Prelude.{◌==◌}
-use Rattle.std.specs.List.{flat_map}
 use Rattle.std.proofs.lemmas.Bool.{both_ways}
 use Rattle.std.proofs.lemmas.Bool.Decides.{nat_tests}
 use Rattle.ped_base.specs.Lists.{is_same_text, is_among}
@@ -13,6 +12,7 @@ use Rattle.ped_tree.proofs.Numbers.{length-numbered, length-all_numbered, at_pla
 use Rattle.ped_refs.specs.References.{Reference, numbered_accesses, statement_references, statements_references, references}
 use Rattle.ped_acts.specs.Orders.{IsIn}
 use Rattle.ped_acts.proofs.Lists.{in_parts}
+use Rattle.ped_acts.proofs.Renamings.{or_right}
 use Rattle.ped_covering.proofs.Texts.{text_itself}
 
 -- a reference is one of the accesses of its statement, which stands at this place of a list
@@ -134,15 +134,11 @@ module _ (c indices : List (List ℕ)) where
     exprs_read no_exprs = none_read
     exprs_read (more_exprs e rest) = read_append (expr_reads c indices e) (exprs_reads c indices rest) (expr_read e) (exprs_read rest)
 
-or_second : (a b : Bool) → b ≡ true → a || b ≡ true
-or_second true b h = refl
-or_second false b h = h
-
 pub private_write : (c names : List (List ℕ)) (a : Access) → IsIn a (private_writes c names) → (is_among a.name names ≡ true) × (a.subscripts ≡ [])
 private_write c [] a i = absurd i
 private_write c (x ∷ xs) a i = elim (in_parts a (unless_constant c (write_of x [])) (private_writes c xs) i) [
   | inl j ↦ go (is_among x c) j
-  | inr j ↦ let more = private_write c xs a j in (or_second (is_same_text a.name x) (is_among a.name xs) more.0, more.1)
+  | inr j ↦ let more = private_write c xs a j in (or_right (is_same_text a.name x) (is_among a.name xs) more.0, more.1)
 ]
   where
     go : (b : Bool) → IsIn a (if b then [] else write_of x [] ∷ []) → (is_among a.name (x ∷ xs) ≡ true) × (a.subscripts ≡ [])

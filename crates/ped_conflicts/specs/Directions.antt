@@ -3,7 +3,7 @@ use Rattle.std.specs.Prelude.{◌≡◌, ℕ, ℤ, List, [], ◌∷◌, pos, Boo
 use Rattle.std.specs.Bool.{MatchBool}
 use Rattle.ped_views.specs.declared.directions.Direction.{Direction}
 use Rattle.ped_views.specs.Excluded.{StandsByValue, by_value}
-use Rattle.ped_tree.specs.Tree.{StmtTree, Assign, If, Do, Print, Read, Stop, Comment, ProgramTree}
+use Rattle.ped_tree.specs.Tree.{StmtTree, Do, ProgramTree}
 use Rattle.ped_tree.specs.Numbering.{statement_with}
 use Rattle.ped_constants.specs.ConstantExpressions.{constant_value}
 use Rattle.ped_store.specs.Acts.{Turn}

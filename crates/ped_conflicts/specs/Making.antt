@@ -2,7 +2,6 @@
 use Rattle.std.specs.Prelude.{◌≡◌, ◌<◌, ℕ, ℤ, List, [], ◌∷◌, codes, false, Ok, if◌then◌else◌}
 use Rattle.ped_base.specs.Lists.{is_same_text}
 use Rattle.ped_tree.specs.Tree.{ExprTree, ProgramTree}
-use Rattle.ped_tree.specs.Accesses as tree
 use Rattle.ped_refs.specs.References.{Reference, references, outermost}
 use Rattle.ped_symbols.specs.Kinds.{kind_in}
 use Rattle.ped_store.specs.Cells.{Cell, Element, In, Out}

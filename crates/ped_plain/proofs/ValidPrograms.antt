@@ -1,10 +1,10 @@
 -- What a valid program tells of its bounds and of STOP.
 use Rattle.std.proofs.Common.{◌≡◌, ℕ, ◌+◌, ◌-◌, ℤ, List, [], ◌∷◌, ◌++◌, Bool, true, false, Option, Some, None, is_some, refl, ap, sym, ◌∙◌, if◌then◌else◌}
-use Rattle.std.specs.Prelude.{◌&&◌, ◌||◌, ◌==◌, not}
+use Rattle.std.specs.Prelude.{◌&&◌, ◌==◌}
 use Rattle.std.specs.List.{list_all}
-use Rattle.std.proofs.lemmas.Bool.{and_parts, and_from, or_from}
+use Rattle.std.proofs.lemmas.Bool.{and_parts, and_from}
 use Rattle.std.proofs.lemmas.List.Folds.{list_all-append}
-use Rattle.ped_base.specs.Lists.{has_some, is_among}
+use Rattle.ped_base.specs.Lists.{is_among}
 use Rattle.ped_tree.specs.Tree.{Head, StmtTree, StmtTrees, Assign, If, Do, Print, Read, Stop, Comment, no_stmts, more_stmts, ProgramTree}
 use Rattle.ped_tree.specs.Numbering.{statement_count, statements_count, loop_count, loops_count, numbered, all_numbered, at_place, statement_with}
 use Rattle.ped_tree.specs.Accesses.{constant_names}
@@ -13,7 +13,8 @@ use Rattle.ped_grammar.specs.Fits.{Surroundings, moved, in_if, in_loop, expr_fit
 use Rattle.ped_symbols.specs.NameRefusals.{IsValid}
 use Rattle.ped_uses.proofs.Whole.{constants_valued}
 use Rattle.ped_eval.specs.Outcomes.{setting_of}
-use Rattle.ped_flow_runs.specs.Covering.{has_stop, some_stop, stops_in_loop, some_stops_in_loop}
+use Rattle.ped_flow_runs.specs.Covering.{some_stops_in_loop}
+use Rattle.ped_flow_runs.proofs.Stopping.{fitting_stops}
 use Rattle.ped_plain.specs.Executions.{HaveValues}
 
 -- the bounds of a DO fit (plain words)
@@ -83,52 +84,9 @@ not_none : (o : Option ℤ) (P : Type 0) → is_some o ≡ true → o ≡ None �
 not_none None P h e = absurd cc
 not_none (Some n) P h e = absurd cc
 
-not_both : (r : Bool) (P : Type 0) → r ≡ true → not r ≡ true → P
-not_both true P h f = absurd cc
-not_both false P h f = absurd cc
-
--- no STOP stands where loops are round it
-mutual
-  no_stop : (p : Surroundings) (s : StmtTree) → has_some p.variables ≡ true → stmt_fits p s ≡ true → has_stop s ≡ false
-  no_stop p (Assign left right) h f = refl
-  no_stop p (If c a b) h f =
-      let second = and_parts _ (stmts_fit (in_if p (1 + statements_count a) (loops_count a)) b) f in
-      let first = and_parts _ (stmts_fit (in_if p 1 0) a) second.0 in
-      or_from _ _ (no_stops (in_if p 1 0) a h first.1) (no_stops (in_if p (1 + statements_count a) (loops_count a)) b h second.1)
-  no_stop p (Do g body) h f = no_stops (in_loop p g) body refl (and_parts (loop_fits p g body) (stmts_fit (in_loop p g) body) f).1
-  no_stop p (Print items) h f = refl
-  no_stop p (Read items) h f = refl
-  no_stop p Stop h f = not_both (has_some p.variables) (has_stop Stop ≡ false) h (and_parts _ (not (has_some p.variables)) f).1
-  no_stop p (Comment text) h f = refl
-
-  no_stops : (p : Surroundings) (ss : StmtTrees) → has_some p.variables ≡ true → stmts_fit p ss ≡ true → some_stop ss ≡ false
-  no_stops p no_stmts h f = refl
-  no_stops p (more_stmts s rest) h f =
-      let parts = and_parts (stmt_fits p s) (stmts_fit (moved p (statement_count s) (loop_count s)) rest) f in
-      or_from _ _ (no_stop p s h parts.0) (no_stops (moved p (statement_count s) (loop_count s)) rest h parts.1)
-
-mutual
-  no_stop_in_loop : (p : Surroundings) (s : StmtTree) → stmt_fits p s ≡ true → stops_in_loop s ≡ false
-  no_stop_in_loop p (Assign left right) f = refl
-  no_stop_in_loop p (If c a b) f =
-      let second = and_parts _ (stmts_fit (in_if p (1 + statements_count a) (loops_count a)) b) f in
-      let first = and_parts _ (stmts_fit (in_if p 1 0) a) second.0 in
-      or_from _ _ (no_stops_in_loop (in_if p 1 0) a first.1) (no_stops_in_loop (in_if p (1 + statements_count a) (loops_count a)) b second.1)
-  no_stop_in_loop p (Do g body) f = no_stops (in_loop p g) body refl (and_parts (loop_fits p g body) (stmts_fit (in_loop p g) body) f).1
-  no_stop_in_loop p (Print items) f = refl
-  no_stop_in_loop p (Read items) f = refl
-  no_stop_in_loop p Stop f = refl
-  no_stop_in_loop p (Comment text) f = refl
-
-  no_stops_in_loop : (p : Surroundings) (ss : StmtTrees) → stmts_fit p ss ≡ true → some_stops_in_loop ss ≡ false
-  no_stops_in_loop p no_stmts f = refl
-  no_stops_in_loop p (more_stmts s rest) f =
-      let parts = and_parts (stmt_fits p s) (stmts_fit (moved p (statement_count s) (loop_count s)) rest) f in
-      or_from _ _ (no_stop_in_loop p s parts.0) (no_stops_in_loop (moved p (statement_count s) (loop_count s)) rest parts.1)
-
 -- in a valid program no STOP stands in a loop
 pub no_stop_in_loops : (t : ProgramTree) → IsValid t → some_stops_in_loop t.body ≡ false
-no_stop_in_loops t v = no_stops_in_loop (at_body t) t.body (body_fits t v)
+no_stop_in_loops t v = fitting_stops t v.fits
 
 -- and each named constant has a value
 pub have_values : (t : ProgramTree) → IsValid t → HaveValues (setting_of t).constants t

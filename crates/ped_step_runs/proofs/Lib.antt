@@ -1,0 +1,3 @@
+pub mod ExchangedSight
+pub mod ExchangedRuns
+pub mod Replayed

@@ -1,0 +1,8 @@
+//! Runs before and behind a step: laws by which a new program does what the old one did, where scalars stand for other
+//! cells and statements stand in the place of others. Each function here does nothing; its contract is the law, and
+//! docs/MEANING.md tells what the laws are for.
+#![tactic(auto)]
+
+mod exchanging;
+
+pub use exchanging::cells_exchanged;

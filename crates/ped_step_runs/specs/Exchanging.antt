@@ -1,6 +1,6 @@
 -- Runs in which two cells have changed places: what is done to the one is done to the other (this project).
-use Rattle.std.specs.Prelude.{◌≡◌, ◌<◌, ℕ, ℤ, List, map, length, Option}
-use Rattle.ped_store.specs.Cells.{Cell, Element, Private, In, Out, Iteration}
+use Rattle.std.specs.Prelude.{◌≡◌, ◌<◌, ℕ, ℤ, List, map, length, Bool, true, false, if◌then◌else◌}
+use Rattle.ped_store.specs.Cells.{Cell, Scalar, Element, Private, In, Out, Iteration, same_cell}
 use Rattle.ped_store.specs.Stores.{Store}
 use Rattle.ped_store.specs.Acts.{Touch, Act}
 use Rattle.ped_eval.specs.Scopes.{Scope, turns_of, cell_of, index_value}
@@ -45,3 +45,15 @@ exchanged_ending name (failed fault statement) = failed fault statement
 -- the same run on renamed cells (this project)
 abbrev pub exchanged_run : (Cell → Cell) → Run → Run
 exchanged_run name r = record { acts = exchanged_acts name r.acts; ending = exchanged_ending name r.ending }
+
+-- a scalar's own cell or a copy of it (plain words)
+abbrev pub is_of_scalar : Cell → Bool
+is_of_scalar (Scalar x) = true
+is_of_scalar (Private x iterations) = true
+is_of_scalar (Element x subscripts) = false
+is_of_scalar In = false
+is_of_scalar Out = false
+
+-- two cells change places, and the others stay (plain words)
+abbrev pub swapped : Cell → Cell → Cell → Cell
+swapped c d x = if same_cell c x then d else (if same_cell d x then c else x)

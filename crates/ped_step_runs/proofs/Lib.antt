@@ -6,3 +6,5 @@ pub mod Swapped
 pub mod Uncopied
 pub mod Privatised
 pub mod PrivatisedLoops
+pub mod LoopEnds
+pub mod PrivatisedParts

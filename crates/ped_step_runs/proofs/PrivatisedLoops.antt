@@ -101,10 +101,10 @@ module _ (p : Setting) (h : Head) (body : StmtTrees) (l : ℕ) (S : Scope) (x : 
         go stops g = sym g ∙ alone (ap is_going g)
         go (faults fault statement) g = sym g ∙ alone (ap is_going g)
 
-    turns_are : (n k : ℕ) (s : Store) → finish_of (old_turns (suc n) k s).ending ≡ goes_on → old_turns (suc n) k s ≡ behind ((trip k s).acts ++ end n ∷ []) (old_turns n (k + 1) (left_by n k s))
+    pub turns_are : (n k : ℕ) (s : Store) → finish_of (old_turns (suc n) k s).ending ≡ goes_on → old_turns (suc n) k s ≡ behind ((trip k s).acts ++ end n ∷ []) (old_turns n (k + 1) (left_by n k s))
     turns_are n k s q = turns_apart p body l n k S e at s (trip_goes n k s q)
 
-    more_goes : (n k : ℕ) (s : Store) → finish_of (old_turns (suc n) k s).ending ≡ goes_on → finish_of (old_turns n (k + 1) (left_by n k s)).ending ≡ goes_on
+    pub more_goes : (n k : ℕ) (s : Store) → finish_of (old_turns (suc n) k s).ending ≡ goes_on → finish_of (old_turns n (k + 1) (left_by n k s)).ending ≡ goes_on
     more_goes n k s q = ap (λ (r : Run). finish_of r.ending) (sym (turns_are n k s q)) ∙ q
 
     turns_replay : (n k : ℕ) (s : Store) → finish_of (old_turns n k s).ending ≡ goes_on → Replays (turns n k e2 S at (body_run p body l S)) (new_turns n k s) goes_on
@@ -194,7 +194,7 @@ module _ (p : Setting) (h : Head) (body : StmtTrees) (l : ℕ) (S : Scope) (x : 
         ∙ ap (λ (u : Store). u c) (sym (behind_append (numbered 1 seen) (exit_when_none e.count e S) t))
 
     module _ (s : Store) (comes : limits (names_in p S) h s ≡ record { seen = seen; result = Ok m }) (goes : finish_of (run p (Do h body) l S s).ending ≡ goes_on) where
-      loop_is : run p (Do h body) l S s ≡ behind (entry ∷ []) (old_turns e.count 1 (entered_by s))
+      pub loop_is : run p (Do h body) l S s ≡ behind (entry ∷ []) (old_turns e.count 1 (entered_by s))
       loop_is =
           by_limits (limits (names_in p S) h s).seen (ap (λ z. z.seen) comes)
           ∙ ap (behind (entry ∷ [])) (by_kind h.parallel in_order ∙ in_order_is p body l S e at (entered_by s))
@@ -208,7 +208,7 @@ module _ (p : Setting) (h : Head) (body : StmtTrees) (l : ℕ) (S : Scope) (x : 
           by_kind true q = absurd cc
           by_kind false q = refl
 
-      turns_go : finish_of (old_turns e.count 1 (entered_by s)).ending ≡ goes_on
+      pub turns_go : finish_of (old_turns e.count 1 (entered_by s)).ending ≡ goes_on
       turns_go = ap (λ (r : Run). finish_of r.ending) (sym loop_is) ∙ goes
 
       -- from each store that the new acts fit, the new DO does them

@@ -68,14 +68,14 @@ there_behind_items : (es : Values) (items : List (List ℕ × ExprTree)) (x : Li
 there_behind_items es [] x f m = absurd cc
 there_behind_items es (v ∷ vs) x f m =
     let p = or_parts (is_missing (fixed_value es v.1)) (some_item_fails (with_value es v.0 (fixed_value es v.1)) vs) f in
-    go (is_same_text x v.0) refl m p.0 p.1
+    go (is_same_text x v.0) refl m p.0 (there_behind_items (with_value es v.0 (fixed_value es v.1)) vs x p.1)
   where
-    go : (r : Bool) → is_same_text x v.0 ≡ r → (r || is_among x (map (λ v. v.0) vs)) ≡ true → is_missing (fixed_value es v.1) ≡ false → some_item_fails (with_value es v.0 (fixed_value es v.1)) vs ≡ false
+    go : (r : Bool) → is_same_text x v.0 ≡ r → (r || is_among x (map (λ v. v.0) vs)) ≡ true → is_missing (fixed_value es v.1) ≡ false → (is_among x (map (λ v. v.0) vs) ≡ true → HasValue (behind_items (with_value es v.0 (fixed_value es v.1)) vs) x)
         → HasValue (behind_items (with_value es v.0 (fixed_value es v.1)) vs) x
-    go true e a missing others =
+    go true e a missing more =
         subst (λ (k : List ℕ). HasValue (behind_items (with_value es v.0 (fixed_value es v.1)) vs) k) (sym (same_is x v.0 e))
         (stays_behind_items (with_value es v.0 (fixed_value es v.1)) vs v.0 (there_with_value es v.0 (fixed_value es v.1) missing))
-    go false e a missing others = there_behind_items (with_value es v.0 (fixed_value es v.1)) vs x others a
+    go false e a missing more = more a
 
 stays_behind_decls : (b : Before) (ds : List DeclTree) (x : List ℕ) → HasValue b.values x → HasValue (behind_sites b (flat_map decl_sites ds)).values x
 stays_behind_decls b [] x h = h
@@ -96,11 +96,12 @@ named_have_values d refs b (Implicit ∷ ds) x q m = named_have_values d refs (b
 named_have_values d refs b (Integer us ∷ ds) x q m = named_have_values d refs (behind_site b (declaration (Integer us))) ds x q.1 m
 named_have_values d refs b (Dimension us ∷ ds) x q m = named_have_values d refs (behind_site b (declaration (Dimension us))) ds x q.1 m
 named_have_values d refs b (Parameter items ∷ ds) x q m =
-    go (is_among x (map (λ v. v.0) items)) refl (sym (among_append x (map (λ v. v.0) items) (constant_names ds)) ∙ m)
+    go (is_among x (map (λ v. v.0) items)) refl (sym (among_append x (map (λ v. v.0) items) (constant_names ds)) ∙ m) (named_have_values d refs (behind_site b (declaration (Parameter items))) ds x q.1)
   where
-    go : (r : Bool) → is_among x (map (λ v. v.0) items) ≡ r → (is_among x (map (λ v. v.0) items) || is_among x (constant_names ds)) ≡ true → HasValue (behind_sites (behind_site b (declaration (Parameter items))) (flat_map decl_sites ds)).values x
-    go true e a = stays_behind_decls (behind_site b (declaration (Parameter items))) ds x (there_behind_items b.values items x (or_parts _ _ q.0.values).0 e)
-    go false e a = named_have_values d refs (behind_site b (declaration (Parameter items))) ds x q.1 (ap (λ (r : Bool). r || is_among x (constant_names ds)) (sym e) ∙ a)
+    go : (r : Bool) → is_among x (map (λ v. v.0) items) ≡ r → (is_among x (map (λ v. v.0) items) || is_among x (constant_names ds)) ≡ true
+        → (is_among x (constant_names ds) ≡ true → HasValue (behind_sites (behind_site b (declaration (Parameter items))) (flat_map decl_sites ds)).values x) → HasValue (behind_sites (behind_site b (declaration (Parameter items))) (flat_map decl_sites ds)).values x
+    go true e a more = stays_behind_decls (behind_site b (declaration (Parameter items))) ds x (there_behind_items b.values items x (or_parts _ _ q.0.values).0 e)
+    go false e a more = more (ap (λ (r : Bool). r || is_among x (constant_names ds)) (sym e) ∙ a)
 named_have_values d refs b (Save names ∷ ds) x q m = named_have_values d refs (behind_site b (declaration (Save names))) ds x q.1 m
 named_have_values d refs b (Remark text ∷ ds) x q m = named_have_values d refs b ds x q m
 

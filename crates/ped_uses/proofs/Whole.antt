@@ -19,11 +19,11 @@ use Rattle.ped_symbols.specs.Values.{Values, site_fails}
 use Rattle.ped_symbols.specs.Arrays.{Arrays}
 use Rattle.ped_symbols.specs.StorageLimits.{most_elements_together, elements_of, has_large, have_many_elements}
 use Rattle.ped_symbols.specs.NameRefusals.{at_first, behind_sites, IsValid}
-use Rattle.ped_symbols.specs.Kinds.{kind_of, at_last, names_at, names_of, kind_in}
+use Rattle.ped_symbols.specs.Kinds.{kind_among, kind_of, at_last, names_at, names_of, kind_in}
 use Rattle.ped_uses.specs.RightLoops.{loops_deep}
 use Rattle.ped_uses.specs.RightPrograms.{IsRight}
 use Rattle.ped_uses.proofs.Quiet.{AreQuiet, all_quiet, quiet_front, quiet_back, behind_append, no_constant_used, no_other_rank, few_elements, said, said_stays, none_fails, stmts_declare_nothing}
-use Rattle.ped_uses.proofs.Occurring.{among_first, once_first}
+use Rattle.ped_uses.proofs.Occurring.{among_first, once_first, occurs_first}
 use Rattle.ped_uses.proofs.Constants.{none_named}
 use Rattle.ped_uses.proofs.NamedValues.{named_have_values, unnamed_have_none}
 use Rattle.ped_uses.proofs.DeclaredArrays.{arrays_told}
@@ -121,3 +121,18 @@ constants_valued t x v m =
 -- no other name has one
 pub others_unvalued : (t : ProgramTree) (x : List ℕ) → is_among x (constant_names t.decls) ≡ false → value_named (at_last t).values x ≡ None
 others_unvalued t x n = ap (λ (es : Values). value_named es x) (last_values t) ∙ unnamed_have_none at_first t.decls x n refl
+
+-- what the declarations say is the same in programs with the same declarations
+same_said : (t u : ProgramTree) → t.decls ≡ u.decls → said (at_last u) ≡ said (at_last t)
+same_said t u e = last_said u ∙ ap (λ (ds : List DeclTree). said (behind_sites at_first (flat_map decl_sites ds))) (sym e) ∙ sym (last_said t)
+
+pub same_values : (t u : ProgramTree) → t.decls ≡ u.decls → (at_last u).values ≡ (at_last t).values
+same_values t u e = ap (λ (s : Values × Arrays). s.0) (same_said t u e)
+
+-- and so is what a name stands for, where the same names occur
+pub same_kinds : (t u : ProgramTree) → t.decls ≡ u.decls → ((y : List ℕ) → is_among y (names_of u) ≡ is_among y (names_of t)) → (y : List ℕ) → kind_in u y ≡ kind_in t y
+same_kinds t u e names y = λ i. if names y i then Some (kind_among (same_said t u e i).0 (same_said t u e i).1 y) else None
+
+-- the names that occur at sites occur in the program
+pub names_occur : (t : ProgramTree) (y : List ℕ) → is_among y (names_of t) ≡ is_among y (names_at (program_sites t))
+names_occur t y = occurs_first (names_at (program_sites t)) y

@@ -7,7 +7,8 @@ ghost use Rattle.ped_tree.specs.Tree.{ProgramTree};
 ghost use Rattle.ped_tree.specs.Accesses.{constant_names};
 ghost use Rattle.ped_constants.specs.NamedConstants.{value_named};
 ghost use Rattle.ped_symbols.specs.Entries.{entry_of};
-ghost use Rattle.ped_symbols.specs.Kinds.{at_last, kind_in, kinds_of};
+ghost use Rattle.ped_symbols.specs.Kinds.{at_last, kind_in, kinds_of, names_at, names_of};
+ghost use Rattle.ped_symbols.specs.Sites.{program_sites};
 ghost use Rattle.ped_symbols.specs.NameRefusals.{IsValid};
 ghost use Rattle.ped_uses.specs.RightPrograms.{IsRight};
 
@@ -27,4 +28,12 @@ pub fn kind_found()
 pub fn constants_have_values()
     ensures named { (t : ProgramTree) (x : List ℕ) → IsValid t → is_among x (constant_names t.decls) ≡ true → is_some (value_named (at_last t).values x) ≡ true }
     ensures others { (t : ProgramTree) (x : List ℕ) → is_among x (constant_names t.decls) ≡ false → value_named (at_last t).values x ≡ None }
+{}
+
+/// What names stand for is told by the declarations and by which names occur: programs with the same declarations, in
+/// which the same names occur, have the same constants, and in both each name stands for the same.
+pub fn kinds_told_by_names()
+    ensures values { (t u : ProgramTree) → t.decls ≡ u.decls → (at_last u).values ≡ (at_last t).values }
+    ensures kinds { (t u : ProgramTree) → t.decls ≡ u.decls → ((y : List ℕ) → is_among y (names_of u) ≡ is_among y (names_of t)) → (y : List ℕ) → kind_in u y ≡ kind_in t y }
+    ensures names { (t : ProgramTree) (y : List ℕ) → is_among y (names_of t) ≡ is_among y (names_at (program_sites t)) }
 {}

@@ -8,3 +8,4 @@ pub mod Privatised
 pub mod PrivatisedLoops
 pub mod LoopEnds
 pub mod PrivatisedParts
+pub mod NamesKept

@@ -1,5 +1,5 @@
 -- Runs in which two cells have changed places: what is done to the one is done to the other (this project).
-use Rattle.std.specs.Prelude.{◌≡◌, ◌<◌, ℕ, ℤ, List, map, length, Option}
+use Rattle.std.specs.Prelude.{◌≡◌, ◌<◌, ℕ, ℤ, List, map, length}
 use Rattle.ped_store.specs.Cells.{Cell, Element, Private, In, Out, Iteration}
 use Rattle.ped_store.specs.Stores.{Store}
 use Rattle.ped_store.specs.Acts.{Touch, Act}

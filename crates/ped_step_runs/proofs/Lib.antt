@@ -7,3 +7,4 @@ pub mod PastedParts
 pub mod LoopsRound
 pub mod PastedRuns
 pub mod PastedStores
+mod Examples

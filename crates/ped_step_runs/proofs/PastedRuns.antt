@@ -49,7 +49,7 @@ then_none acts (going v) = λ i. record { acts = append-nil acts i; ending = goi
 then_none acts (stopped v) = refl
 then_none acts (failed fault n) = refl
 
-run_alone : (q : Setting) (x : StmtTree) (n : ℕ) (scope : Scope) → run_all q (alone x) n scope ≡ run q x n scope
+pub run_alone : (q : Setting) (x : StmtTree) (n : ℕ) (scope : Scope) → run_all q (alone x) n scope ≡ run q x n scope
 run_alone q x n scope = λ i u. then_none (run q x n scope u).acts (run q x n scope u).ending i
 
 run_followed : (q : Setting) (xs ys : StmtTrees) (n : ℕ) (scope : Scope) → run_all q (followed xs ys) n scope ≡ (λ u. then_run (run_all q xs n scope u) (run_all q ys (n + statements_count xs) scope))

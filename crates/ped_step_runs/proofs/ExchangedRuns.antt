@@ -1,16 +1,16 @@
 -- Runs on renamed cells.
-use Rattle.std.proofs.Common.{◌≡◌, ℕ, zero, suc, ◌+◌, ◌<◌, ℤ, List, [], ◌∷◌, ◌++◌, map, length, Bool, true, false, Option, Some, None, Result, Ok, Err, refl, sym, ap, ◌∙◌, arith, if◌then◌else◌}
+use Rattle.std.proofs.Common.{◌≡◌, ℕ, zero, suc, ◌+◌, ℤ, List, [], ◌∷◌, ◌++◌, map, length, Bool, true, false, Option, Some, None, Result, Ok, Err, refl, sym, ap, ◌∙◌, arith, if◌then◌else◌}
 use Rattle.std.specs.Prelude.{◌==◌}
 use Rattle.std.proofs.lemmas.List.{map-append}
 use Rattle.ped_base.specs.Lists.{is_same_text, is_among}
 use Rattle.ped_tree.specs.Tree.{ExprTree, CondTree, ItemTree, Head, StmtTree, StmtTrees, Assign, If, Do, Print, Read, Stop, Comment, no_stmts, more_stmts}
 use Rattle.ped_tree.specs.Numbering.{statement_count, statements_count}
-use Rattle.ped_store.specs.Cells.{Cell, Private, In, Out, Iteration, same_cell}
+use Rattle.ped_store.specs.Cells.{Cell, Private, In, Out, same_cell}
 use Rattle.ped_store.specs.Stores.{Content, Undefined, Number, Lines, Store, put, lines_in}
 use Rattle.ped_store.specs.Acts.{Manner, reads, writes, is_told, Touch, Turn, Place, Step, did, entered, ended_turn, closed, faulted, Act, touched, store_behind, iterations_of}
 use Rattle.ped_store.specs.DataLines.{Data, begun, Taken, next_value_of}
 use Rattle.ped_acts.proofs.SameCells.{cell_is, is_cell, other_cell, cells_differ}
-use Rattle.ped_eval.specs.Scopes.{Setting, Frame, Scope, turns_of, cell_of, index_value, Names, names_in, place_of}
+use Rattle.ped_eval.specs.Scopes.{Setting, Frame, Scope, turns_of, cell_of, Names, names_in, place_of}
 use Rattle.ped_eval.specs.Evaluation.{Seen, Evaluated, numbered, number_behind}
 use Rattle.ped_eval.specs.Values.{truth, target}
 use Rattle.ped_eval.specs.Statements.{Stored, assigned, assignment_touches, printed_line, print_touches, read_touch, write_touch, Taking, having_touched, into_item, with_taken, taking, taking_from, reading, reading_touches}
@@ -160,7 +160,7 @@ module _ (name : Cell → Cell) (ex : IsExchange name) where
         (λ seen holds. does did at (numbered 1 seen) (if holds then f else h) (moved s)) (λ seen holds. does did at (numbered 1 seen) (if holds then f_other else h_other) s)
         (truth_in name ex g other same c s)
         (λ seen holds. ap (λ (ts : List Touch). does did at ts (if holds then f_other else h_other) s) (numbered_in name 1 seen)
-            ∙ does_in did at (numbered 1 seen) (if holds then f else h) (if holds then f_other else h_other) (chosen_in holds f f_other h h_other p q) s)
+        ∙ does_in did at (numbered 1 seen) (if holds then f else h) (if holds then f_other else h_other) (chosen_in holds f f_other h h_other p q) s)
 
   -- loops
   module _ (scope other : Scope) (same : AreExchanged name scope other) where
@@ -193,7 +193,7 @@ module _ (name : Cell → Cell) (ex : IsExchange name) where
       turns_in (suc n) k =
           then_in (body (frame e k)) (body_other (frame e k)) (does (ended_turn n) at (exit_when_none n e scope) (turns n (k + 1) e scope at body)) (does (ended_turn n) at (exit_when_none n e other) (turns n (k + 1) e other at body_other)) (more (frame e k))
           (λ s. ap (λ (ts : List Touch). does (ended_turn n) at ts (turns n (k + 1) e other at body_other) s) (exit_when_in n e)
-              ∙ does_in (ended_turn n) at (exit_when_none n e scope) (turns n (k + 1) e scope at body) (turns n (k + 1) e other at body_other) (turns_in n (k + 1)) s)
+          ∙ does_in (ended_turn n) at (exit_when_none n e scope) (turns n (k + 1) e scope at body) (turns n (k + 1) e other at body_other) (turns_in n (k + 1)) s)
 
       parallel_in : (n k : ℕ) → IsMoved (parallel_turns n k e body) (parallel_turns n k e body_other)
       parallel_in zero k = nothing_in
@@ -233,7 +233,7 @@ module _ (name : Cell → Cell) (ex : IsExchange name) where
         (λ seen l. run_from_entry seen (entered_with p n h statements seen l) other (place_of p n scope) body_other s)
         (limits_in name ex (names_in p scope) (names_in p other) (names_exchanged name p scope other same) h s)
         (λ seen l. ap (λ (e : Entered). run_from_entry (map (seen_in name) seen) e other (place_of p n scope) body_other s) (entered_same p n h statements seen l)
-            ∙ from_entry_in (entered_with p n h statements seen l) (place_of p n scope) body body_other more seen s)
+        ∙ from_entry_in (entered_with p n h statements seen l) (place_of p n scope) body body_other more seen s)
 
   -- further inside the places are the same but for the renamed cells
   length_behind : (ts : List Turn) (t : Turn) → length (ts ++ t ∷ []) ≡ suc (length ts)

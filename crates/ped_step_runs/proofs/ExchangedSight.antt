@@ -1,5 +1,5 @@
 -- Evaluations on renamed cells.
-use Rattle.std.proofs.Common.{◌≡◌, ℕ, suc, ℤ, pos, List, [], ◌∷◌, ◌++◌, map, length, Bool, true, false, Option, Some, None, Result, Ok, Err, refl, sym, ap, ◌∙◌, if◌then◌else◌}
+use Rattle.std.proofs.Common.{◌≡◌, ℕ, suc, ℤ, List, [], ◌∷◌, map, length, Bool, true, false, Option, Some, None, Result, Ok, Err, refl, sym, ap, ◌∙◌, if◌then◌else◌}
 use Rattle.std.specs.Prelude.{not, ◌&&◌, ◌||◌}
 use Rattle.std.specs.List.{join_with_byte}
 use Rattle.std.specs.Fmt.{signed_decimal}
@@ -11,13 +11,13 @@ use Rattle.ped_tree.specs.Tree.{ExprTree, ExprTrees, Int, Var, Element, Neg, Add
 use Rattle.ped_store.specs.Cells as cells
 use Rattle.ped_store.specs.Cells.{Cell}
 use Rattle.ped_store.specs.Storage.{is_within}
-use Rattle.ped_store.specs.Stores.{Content, Number, Store, number_read, storable, outside_bounds}
-use Rattle.ped_store.specs.Acts.{Touch, reads, is_told}
+use Rattle.ped_store.specs.Stores.{Number, Store, number_read, storable, outside_bounds}
+use Rattle.ped_store.specs.Acts.{reads, is_told}
 use Rattle.ped_eval.specs.Scopes.{Setting, Scope, Names, names_in}
-use Rattle.ped_eval.specs.Evaluation.{Seen, cell_seen, index_seen, Evaluated, having_seen, onward, ◌>>>◌, given, by_number, read_cell, read_index, numbered, number_behind}
+use Rattle.ped_eval.specs.Evaluation.{Seen, cell_seen, index_seen, Evaluated, having_seen, onward, ◌>>>◌, given, by_number, read_cell, numbered, number_behind}
 use Rattle.ped_eval.specs.Values.{of_intrinsic, variable_value, name_value, is_rank, element_cell, value, values, relation_holds, truth, target}
 use Rattle.ped_eval.specs.Statements.{Stored, assigned, item_text, item_texts, printed_line}
-use Rattle.ped_eval.specs.Loops.{Limits, in_bounds, limits}
+use Rattle.ped_eval.specs.Loops.{in_bounds, limits}
 use Rattle.ped_step_runs.specs.Exchanging.{IsExchange, AreExchanged, exchanged_store, exchanged_touch}
 
 -- what is seen in renamed cells
@@ -155,9 +155,9 @@ module _ (name : Cell → Cell) where
         (λ v. target other left s >>> λ c. given (storable v) >>> λ n. given (Ok (record { cell = c; number = n })))
         (value_in right s)
         (λ v. then_in name stored_in (target g left (exchanged_store name s)) (target other left s)
-            (λ c. given (storable v) >>> λ n. given (Ok (record { cell = c; number = n }))) (λ c. given (storable v) >>> λ n. given (Ok (record { cell = c; number = n })))
-            (target_in left s)
-            (λ c. then_in itself stored_in (given (storable v)) (given (storable v)) (λ n. given (Ok (record { cell = c; number = n }))) (λ n. given (Ok (record { cell = name c; number = n }))) (given_in (storable v)) (λ n. refl)))
+        (λ c. given (storable v) >>> λ n. given (Ok (record { cell = c; number = n }))) (λ c. given (storable v) >>> λ n. given (Ok (record { cell = c; number = n })))
+        (target_in left s)
+        (λ c. then_in itself stored_in (given (storable v)) (given (storable v)) (λ n. given (Ok (record { cell = c; number = n }))) (λ n. given (Ok (record { cell = name c; number = n }))) (given_in (storable v)) (λ n. refl)))
 
     text_in : (item : ItemTree) (s : Store) → item_text other item s ≡ seeing name itself (item_text g item (exchanged_store name s))
     text_in (Value e) s = one_in (λ n. Ok (signed_decimal n)) (value g e (exchanged_store name s)) (value other e s) (value_in e s)
@@ -177,10 +177,10 @@ module _ (name : Cell → Cell) where
         (λ u. given (in_bounds u) >>> λ m. value other h.last s >>> λ v. given (in_bounds v) >>> λ n. given (Ok (record { first = m; last = n })))
         (value_in h.first s)
         (λ u. then_in itself itself (given (in_bounds u)) (given (in_bounds u))
-            (λ m. value g h.last (exchanged_store name s) >>> λ v. given (in_bounds v) >>> λ n. given (Ok (record { first = m; last = n })))
-            (λ m. value other h.last s >>> λ v. given (in_bounds v) >>> λ n. given (Ok (record { first = m; last = n })))
-            (given_in (in_bounds u))
-            (λ m. then_in itself itself (value g h.last (exchanged_store name s)) (value other h.last s)
-                (λ v. given (in_bounds v) >>> λ n. given (Ok (record { first = m; last = n }))) (λ v. given (in_bounds v) >>> λ n. given (Ok (record { first = m; last = n })))
-                (value_in h.last s)
-                (λ v. one_in (λ n. Ok (record { first = m; last = n })) (given (in_bounds v)) (given (in_bounds v)) (given_in (in_bounds v)))))
+        (λ m. value g h.last (exchanged_store name s) >>> λ v. given (in_bounds v) >>> λ n. given (Ok (record { first = m; last = n })))
+        (λ m. value other h.last s >>> λ v. given (in_bounds v) >>> λ n. given (Ok (record { first = m; last = n })))
+        (given_in (in_bounds u))
+        (λ m. then_in itself itself (value g h.last (exchanged_store name s)) (value other h.last s)
+        (λ v. given (in_bounds v) >>> λ n. given (Ok (record { first = m; last = n }))) (λ v. given (in_bounds v) >>> λ n. given (Ok (record { first = m; last = n })))
+        (value_in h.last s)
+        (λ v. one_in (λ n. Ok (record { first = m; last = n })) (given (in_bounds v)) (given (in_bounds v)) (given_in (in_bounds v)))))

@@ -9,3 +9,10 @@ pub mod PrivatisedLoops
 pub mod LoopEnds
 pub mod PrivatisedParts
 pub mod NamesKept
+pub mod SameNames
+pub mod ReplacedTrees
+pub mod PastedParts
+pub mod LoopsRound
+pub mod PastedRuns
+pub mod PastedStores
+mod Examples

@@ -1,5 +1,5 @@
 -- What is done on renamed cells is done again from each store that it fits.
-use Rattle.std.proofs.Common.{◌≡◌, ℕ, List, refl, sym, ap, subst, ◌∙◌}
+use Rattle.std.proofs.Common.{◌≡◌, ℕ, refl, ap, subst, ◌∙◌}
 use Rattle.ped_tree.specs.Tree.{StmtTrees}
 use Rattle.ped_store.specs.Cells.{Cell}
 use Rattle.ped_store.specs.Stores.{Store}
@@ -20,6 +20,6 @@ pub replays_in : (name : Cell → Cell) (p : Setting) (ts : StmtTrees) (n : ℕ)
     → Replays (run_all p ts n other) (exchanged_acts name (run_all p ts n scope s).acts) (finish_of (run_all p ts n scope s).ending)
 replays_in name p ts n scope other ex same s =
     let there : run_all p ts n other (exchanged_store name s) ≡ exchanged_run name (run_all p ts n scope s) =
-        all_in name ex p ts n scope other same (exchanged_store name s) ∙ ap (λ (u : Store). exchanged_run name (run_all p ts n scope u)) (λ i c. s (ex.twice c i)) in
+    all_in name ex p ts n scope other same (exchanged_store name s) ∙ ap (λ (u : Store). exchanged_run name (run_all p ts n scope u)) (λ i c. s (ex.twice c i)) in
     subst (λ (finish : Finish). Replays (run_all p ts n other) (exchanged_acts name (run_all p ts n scope s).acts) finish) (same_finish name (run_all p ts n scope s).ending)
     (subst (λ (r : Run). Replays (run_all p ts n other) r.acts (finish_of r.ending)) there ((all_told p ts n other).replays (exchanged_store name s)))

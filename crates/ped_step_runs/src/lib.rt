@@ -4,5 +4,7 @@
 #![tactic(auto)]
 
 mod exchanging;
+mod pasting;
 
 pub use exchanging::cells_exchanged;
+pub use pasting::{executions_exchanged, executions_leave, executions_stand, program_exchanged};

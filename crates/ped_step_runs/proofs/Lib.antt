@@ -6,7 +6,6 @@ pub mod Swapped
 pub mod Uncopied
 pub mod Privatised
 pub mod PrivatisedLoops
-pub mod LoopEnds
 pub mod PrivatisedParts
 pub mod NamesKept
 pub mod SameNames
@@ -16,3 +15,4 @@ pub mod LoopsRound
 pub mod PastedRuns
 pub mod PastedStores
 mod Examples
+pub mod PrivatisedPrograms

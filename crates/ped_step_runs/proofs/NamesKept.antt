@@ -38,7 +38,7 @@ pub record Alike (e new old : Bool) : Type 0 where
   pub but : new || e ≡ old || e
   pub kept : old ≡ true → new ≡ true
 
-alike_itself : (e a : Bool) → Alike e a a
+pub alike_itself : (e a : Bool) → Alike e a a
 alike_itself e a = record { but = refl; kept = λ h. h }
 
 or_false : (r : Bool) → r || false ≡ r
@@ -70,13 +70,13 @@ module _ (x : List ℕ) (y : List ℕ) where
   abbrev pub AreAlike : List Site → List Site → Type 0
   AreAlike xs ys = Alike (is_same_text y x) (occurs y xs) (occurs y ys)
 
-  same_alike : (xs : List Site) → AreAlike xs xs
+  pub same_alike : (xs : List Site) → AreAlike xs xs
   same_alike xs = alike_itself (is_same_text y x) (occurs y xs)
 
-  by_sites : (xs us ys : List Site) → xs ≡ us → AreAlike us ys → AreAlike xs ys
+  pub by_sites : (xs us ys : List Site) → xs ≡ us → AreAlike us ys → AreAlike xs ys
   by_sites xs us ys q h = subst (λ (zs : List Site). AreAlike zs ys) (sym q) h
 
-  append_alike : (xs us ys vs : List Site) → AreAlike xs us → AreAlike ys vs → AreAlike (xs ++ ys) (us ++ vs)
+  pub append_alike : (xs us ys vs : List Site) → AreAlike xs us → AreAlike ys vs → AreAlike (xs ++ ys) (us ++ vs)
   append_alike xs us ys vs h k =
       subst (λ (b : Bool). Alike (is_same_text y x) b (occurs y (us ++ vs))) (sym (occurs_append y xs ys))
       (subst (λ (b : Bool). Alike (is_same_text y x) (occurs y xs || occurs y ys) b) (sym (occurs_append y us vs)) (both_alike (is_same_text y x) (occurs y xs) (occurs y us) (occurs y ys) (occurs y vs) h k))

@@ -8,10 +8,9 @@ use Rattle.ped_tree.specs.Numbering.{statement_count, statements_count, numbered
 use Rattle.ped_store.specs.Cells.{Cell, Private, Iteration}
 use Rattle.ped_store.specs.Stores.{Store}
 use Rattle.ped_store.specs.Acts.{Turn, Act, iterations_of}
-use Rattle.ped_acts.specs.Fitting.{store_after}
 use Rattle.ped_acts.specs.Sets.{needs, wants}
 use Rattle.ped_acts.specs.Renaming.{touch}
-use Rattle.ped_acts.specs.Pieces.{StandsFor, Part, same, changed, old_parts, PartsStand}
+use Rattle.ped_acts.specs.Pieces.{StandsFor}
 use Rattle.ped_acts.proofs.Appending.{touch_append}
 use Rattle.ped_eval.specs.Scopes.{Setting, Scope, turns_of, cell_of, names_in}
 use Rattle.ped_eval.specs.Evaluation.{Seen, Evaluated}
@@ -24,11 +23,11 @@ use Rattle.ped_flow_runs.proofs.Standing.{Stand, whole_stands, first_stands, res
 use Rattle.ped_runs.specs.Replaying.{goes_on, stops, faults, finish_of, Replays}
 use Rattle.ped_runs.proofs.Joined.{replays_nothing, statements_more, entry_fails}
 use Rattle.ped_steps.specs.Replacing.{alone}
-use Rattle.ped_step_runs.specs.Pasting.{IsExecution, AreExecutions}
+use Rattle.ped_step_runs.specs.Pasting.{DoInstead, StandInstead}
+use Rattle.ped_step_runs.proofs.PastedStores.{execution_left}
 use Rattle.ped_step_runs.proofs.RunCells.{EachDo, EachDos}
 use Rattle.ped_step_runs.proofs.Uncopied.{IsSpare, copy_untouched}
 use Rattle.ped_step_runs.proofs.PrivatisedLoops.{more_private, copy, new_loop, loop_replays, loop_stands}
-use Rattle.ped_step_runs.proofs.LoopEnds.{loop_ends_leaving}
 
 -- the head of a statement that is a DO
 abbrev head_in : Head → Option StmtTree → Head
@@ -115,40 +114,26 @@ module _ (t : ProgramTree) (l : ℕ) (loop : LoopOf t l) (x : List ℕ) (p : Set
   copy_is : (S : Scope) (seen : List Seen) (m : Limits) (j : ℕ) → copy p h body l S x in_order absent seen m j ≡ Private x (iterations_of (turns_of S) ++ (record { statement = p.number l; number = j }) ∷ [])
   copy_is S seen m j = ap (Private x) (map-append (λ (u : Turn). record { statement = u.statement; number = u.number }) (turns_of S) ((frame (entered_with p l h body seen m) j).turn ∷ []))
 
-  module _ (start : Store) (shown : Cell → Bool) (hidden : (y : List ℕ) (path : List Iteration) → shown (Private y path) ≡ false) (ends : Ends (run_all p t.body 1 [] start).ending)
-      (unneeded : (S : Scope) (seen : List Seen) (m : Limits) (k : ℕ) (s : Store) → Ends (run_all p body (l + 1) (frame (entered_with p l h body seen m) k ∷ S) s).ending → needs (run_all p body (l + 1) (frame (entered_with p l h body seen m) k ∷ S) s).acts (cell_of S x) ≡ false)
-      (unwanted : (S : Scope) (rest : List Act) → IsExit p t start l S rest → wants shown rest (cell_of S x) ≡ false) where
-    part_stands : (front : List Act) (parts : List Part) (u : Store) (old new : List Act) → (run_all p t.body 1 [] start).acts ≡ front ++ (old ++ old_parts parts) → IsExecution p t l (Do h body) fresh u old new
-        → StandsFor (record { agreed = wants shown (old ++ old_parts parts); old = old; new = new }) (wants shown (old_parts parts)) u
-    part_stands front parts u old new whole ex =
-        let S = ex.scope in
-        let rest = old_parts parts in
-        let entered = is_entered S u ex.goes in
-        let m = entered.0 in
-        let seen = (limits (names_in p S) h u).seen in
-        let did = (run p (Do h body) l S u).acts in
-        let its : (run_all p t.body 1 [] start).acts ≡ front ++ (did ++ rest) = whole ∙ ap (λ (zs : List Act). front ++ (zs ++ rest)) ex.old_is in
-        let last = loop_ends_leaving p h body l S x in_order absent seen m u entered.1 ex.goes in
-        let untouched : (j : ℕ) → touch (did ++ rest) (copy p h body l S x in_order absent seen m j) ≡ false = λ j.
-            (or_parts (touch front (copy p h body l S x in_order absent seen m j)) (touch (did ++ rest) (copy p h body l S x in_order absent seen m j))
-            (sym (touch_append front (did ++ rest) (copy p h body l S x in_order absent seen m j)) ∙ ap (λ (zs : List Act). touch zs (copy p h body l S x in_order absent seen m j)) (sym its)
-            ∙ copies_untouched start (copy p h body l S x in_order absent seen m j) (iterations_of (turns_of S)) j (copy_is S seen m j))).1 in
-        let dead : wants shown rest (cell_of S x) ≡ false = unwanted S rest (record {
-          ends = ends;
-          front = front ++ last.front;
-          act = last.last;
-          whole = its ∙ ap (λ (zs : List Act). front ++ (zs ++ rest)) last.is ∙ ap (λ (zs : List Act). front ++ zs) (append_assoc last.front (last.last ∷ []) rest) ∙ sym (append_assoc front last.front (last.last ∷ rest));
-          leaves = last.leaving;
-          iterations = ex.place.iterations;
-          place = last.place;
-        }) in
-        let stands = loop_stands p h body l S x in_order absent seen m u entered.1 ex.goes shown rest (λ k. hidden x (iterations_of (turns_of (frame (entered_with p l h body seen m) k ∷ S))))
-            (λ k v goes. unneeded S seen m k v (ends_so (run_all p body (l + 1) (frame (entered_with p l h body seen m) k ∷ S) v).ending goes)) untouched dead in
-        let with_new = subst (λ (zs : List Act). StandsFor (record { agreed = wants shown (did ++ rest); old = did; new = zs }) (wants shown rest) u) (sym (ex.new_is ∙ fresh_is S u m entered.1)) stands in
-        subst (λ (zs : List Act). StandsFor (record { agreed = wants shown (zs ++ rest); old = zs; new = new }) (wants shown rest) u) (sym ex.old_is) with_new
+  module _ (start : Store) where
+    -- the new DO does the new acts in the place of each execution of the old one
+    pub do_instead : DoInstead p p t start l (Do h body) (alone (Do (more_private p h body l [] x in_order absent) body)) fresh
+    do_instead S u place done goes = fresh_replays S u goes
 
-    pub parts_stand : (front : List Act) (parts : List Part) (u : Store) → (run_all p t.body 1 [] start).acts ≡ front ++ old_parts parts → AreExecutions p t l (Do h body) fresh parts u → PartsStand shown parts u
-    parts_stand front [] u whole ex = tt
-    parts_stand front (same acts ∷ parts) u whole ex = parts_stand (front ++ acts) parts (store_after acts u) (whole ∙ sym (append_assoc front acts (old_parts parts))) ex
-    parts_stand front (changed old new ∷ parts) u whole ex =
-        (part_stands front parts u old new whole ex.0, parts_stand (front ++ old) parts (store_after old u) (whole ∙ sym (append_assoc front old (old_parts parts))) ex.1)
+    module _ (shown : Cell → Bool) (hidden : (y : List ℕ) (path : List Iteration) → shown (Private y path) ≡ false) (ends : Ends (run_all p t.body 1 [] start).ending)
+        (unneeded : (S : Scope) (seen : List Seen) (m : Limits) (k : ℕ) (s : Store) → Ends (run_all p body (l + 1) (frame (entered_with p l h body seen m) k ∷ S) s).ending → needs (run_all p body (l + 1) (frame (entered_with p l h body seen m) k ∷ S) s).acts (cell_of S x) ≡ false)
+        (unwanted : (S : Scope) (rest : List Act) → IsExit p t start l S rest → wants shown rest (cell_of S x) ≡ false) where
+      -- and these may stand for the old acts
+      pub stand_instead : StandInstead shown p t start l (Do h body) fresh
+      stand_instead S u place done goes =
+          let entered = is_entered S u goes in
+          let m = entered.0 in
+          let seen = (limits (names_in p S) h u).seen in
+          let did = (run p (Do h body) l S u).acts in
+          let untouched : (j : ℕ) → touch (did ++ done.behind) (copy p h body l S x in_order absent seen m j) ≡ false = λ j.
+              (or_parts (touch done.front (copy p h body l S x in_order absent seen m j)) (touch (did ++ done.behind) (copy p h body l S x in_order absent seen m j))
+              (sym (touch_append done.front (did ++ done.behind) (copy p h body l S x in_order absent seen m j)) ∙ ap (λ (zs : List Act). touch zs (copy p h body l S x in_order absent seen m j)) (sym done.whole)
+              ∙ copies_untouched start (copy p h body l S x in_order absent seen m j) (iterations_of (turns_of S)) j (copy_is S seen m j))).1 in
+          let dead = unwanted S done.behind (execution_left p t start l loop S u ends place done goes) in
+          let stands = loop_stands p h body l S x in_order absent seen m u entered.1 goes shown done.behind (λ k. hidden x (iterations_of (turns_of (frame (entered_with p l h body seen m) k ∷ S))))
+              (λ k v going. unneeded S seen m k v (ends_so (run_all p body (l + 1) (frame (entered_with p l h body seen m) k ∷ S) v).ending going)) untouched dead in
+          subst (λ (zs : List Act). StandsFor (record { agreed = wants shown (did ++ done.behind); old = did; new = zs }) (wants shown done.behind) u) (sym (fresh_is S u m entered.1)) stands

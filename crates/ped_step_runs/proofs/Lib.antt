@@ -8,3 +8,6 @@ pub mod Privatised
 pub mod PrivatisedLoops
 pub mod LoopEnds
 pub mod PrivatisedParts
+pub mod PrivatisedRacesCells
+pub mod PrivatisedRacesOrigins
+pub mod PrivatisedRaces

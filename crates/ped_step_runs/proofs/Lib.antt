@@ -16,3 +16,6 @@ pub mod PastedRuns
 pub mod PastedStores
 mod Examples
 pub mod PrivatisedPrograms
+pub mod PrivatisedRacesCells
+pub mod PrivatisedRacesOrigins
+pub mod PrivatisedRaces

@@ -104,14 +104,14 @@ module _ (t : ProgramTree) (l : ℕ) (loop : LoopOf t l) (x : List ℕ) (p : Set
     spare_in Stop n st = tt
     spare_in (Comment text) n st = tt
 
-    all_spare_in : (ss : StmtTrees) (n : ℕ) → Stand t n (all_numbered ss) → EachDos (IsSpare p x (p.number l)) ss n
+    pub all_spare_in : (ss : StmtTrees) (n : ℕ) → Stand t n (all_numbered ss) → EachDos (IsSpare p x (p.number l)) ss n
     all_spare_in no_stmts n st = tt
     all_spare_in (more_stmts s rest) n st = (spare_in s n (first_stands t n (numbered s) (all_numbered rest) st), all_spare_in rest (n + statement_count s) (rest_stands t s rest n st))
 
   pub copies_untouched : (start : Store) (c : Cell) (path : List Iteration) (k : ℕ) → c ≡ Private x (path ++ (record { statement = p.number l; number = k }) ∷ []) → touch (run_all p t.body 1 [] start).acts c ≡ false
   copies_untouched start c path k q = copy_untouched p x (p.number l) t.body 1 start (all_spare_in t.body 1 (whole_stands t)) c (record { path = path; number = k; is = q })
 
-  copy_is : (S : Scope) (seen : List Seen) (m : Limits) (j : ℕ) → copy p h body l S x in_order absent seen m j ≡ Private x (iterations_of (turns_of S) ++ (record { statement = p.number l; number = j }) ∷ [])
+  pub copy_is : (S : Scope) (seen : List Seen) (m : Limits) (j : ℕ) → copy p h body l S x in_order absent seen m j ≡ Private x (iterations_of (turns_of S) ++ (record { statement = p.number l; number = j }) ∷ [])
   copy_is S seen m j = ap (Private x) (map-append (λ (u : Turn). record { statement = u.statement; number = u.number }) (turns_of S) ((frame (entered_with p l h body seen m) j).turn ∷ []))
 
   module _ (start : Store) where

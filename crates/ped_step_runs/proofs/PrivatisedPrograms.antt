@@ -55,7 +55,8 @@ use Rattle.ped_step_runs.specs.Pasting.{CountAlike, IsPasting, AreExecutions, Do
 use Rattle.ped_step_runs.proofs.NamesKept.{Alike, AreAlike, occurs, occurs_append, append_alike, by_sites, same_alike, alike_itself, names_kept}
 use Rattle.ped_step_runs.proofs.PastedStores.{runs_exchanged}
 use Rattle.ped_step_runs.proofs.PrivatisedLoops.{more_private}
-use Rattle.ped_step_runs.proofs.PrivatisedParts.{fresh, do_instead, stand_instead}
+use Rattle.ped_step_runs.proofs.PrivatisedParts.{fresh, fresh_is, do_instead, stand_instead}
+use Rattle.ped_step_runs.proofs.PrivatisedRaces.{privatised_race_free}
 use Rattle.ped_step_runs.specs.Exchanging.{is_of_scalar}
 use Rattle.ped_step_runs.proofs.Swapped.{cell_name, named_so, of_scalar}
 
@@ -231,3 +232,13 @@ module _ (t : ProgramTree) (valid : IsValid t) (l : ℕ) (loop : LoopOf t l) (x 
     ends_so =
         subst (λ (r : Run). Ends r.ending) (sym new_run)
         (ends_kept (finish_of (run_of t data_bytes).ending) (store_after (run_of t data_bytes).acts start) (store_after (new_parts exchanged.0) start) (subst (λ (r : Run). Ends r.ending) old_run free.0))
+
+    pub free_so : HasNoRace (accesses (run_of u data_bytes).acts)
+    free_so =
+        subst (λ (r : Run). HasNoRace (accesses r.acts)) (sym new_run)
+        (privatised_race_free t l loop x p one in_order absent alone_so start (fresh t l loop x p one in_order absent) (fresh_is t l loop x p one in_order absent) exchanged.0 exchanged.1 exchanged.2
+            (subst (λ (zs : List Act). HasNoRace (accesses zs)) (sym exchanged.1) free.1))
+
+  -- the program keeps its meaning
+  pub privatised_keeps : Keeps t u
+  privatised_keeps = record { saved = refl; same = outcome_kept; race_free = λ data_bytes free. (ends_so data_bytes free, free_so data_bytes free) }

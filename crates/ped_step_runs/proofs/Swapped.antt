@@ -36,7 +36,7 @@ module _ (c d : Cell) where
   pub swapped_other : (x : Cell) → (c ≡ x → ⊥) → (d ≡ x → ⊥) → swapped c d x ≡ x
   swapped_other x n m = ap (λ (b : Bool). if b then d else (if same_cell d x then c else x)) (other_cell c x n) ∙ ap (λ (b : Bool). if b then c else x) (other_cell d x m)
 
-  decided : (a b : Cell) (X : Type 0) → (a ≡ b → X) → ((a ≡ b → ⊥) → X) → X
+  pub decided : (a b : Cell) (X : Type 0) → (a ≡ b → X) → ((a ≡ b → ⊥) → X) → X
   decided a b X equal other = go (same_cell a b) refl
     where
       go : (r : Bool) → same_cell a b ≡ r → X

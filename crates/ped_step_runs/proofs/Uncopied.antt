@@ -83,9 +83,13 @@ module _ (p : Setting) (x : List ℕ) (l : ℕ) where
           both_ways (is_among x f.private) (spare.0 last) (ap (λ (z : List ℕ). is_among z f.private) (sym name) ∙ a)
       go false a e rest = rest e
 
-  -- where no iteration of the DO has a copy of the scalar, no act touches one
+  -- where no iteration of the DO has a copy of the scalar, no act has a touch of one, nor is it told the value of one
+  pub copy_unnamed : (ts : StmtTrees) (n : ℕ) (s : Store) → EachDos IsSpare ts n → (a : Act) (t : Touch) → IsIn a (run_all p ts n [] s).acts → IsIn t a.touches → IsCopyIn t.cell → ⊥
+  copy_unnamed ts n s spare a t i j copy =
+      all_keep p IsSpare IsNoCopy no_copy (λ S y js sp k. let q = k.is in absurd cc) (λ S sp k. let q = k.is in absurd cc) (λ S sp k. let q = k.is in absurd cc)
+      (λ m h body seen u k S d q kept sp. kept (q seen u k, sp)) ts n [] s spare a i t j tt copy
+
+  -- so no act reads or writes one
   pub copy_untouched : (ts : StmtTrees) (n : ℕ) (s : Store) → EachDos IsSpare ts n → (c : Cell) → IsCopyIn c → touch (run_all p ts n [] s).acts c ≡ false
   copy_untouched ts n s spare c copy =
-      untouched_acts c (run_all p ts n [] s).acts
-      (λ a i t j e. all_keep p IsSpare IsNoCopy no_copy (λ S y js sp k. let q = k.is in absurd cc) (λ S sp k. let q = k.is in absurd cc) (λ S sp k. let q = k.is in absurd cc)
-          (λ m h body seen u k S d q kept sp. kept (q seen u k, sp)) ts n [] s spare a i t j tt (record { path = copy.path; number = copy.number; is = e ∙ copy.is }))
+      untouched_acts c (run_all p ts n [] s).acts (λ a i t j e. copy_unnamed ts n s spare a t i j (record { path = copy.path; number = copy.number; is = e ∙ copy.is }))

@@ -19,3 +19,4 @@ pub mod PrivatisedPrograms
 pub mod PrivatisedRacesCells
 pub mod PrivatisedRacesOrigins
 pub mod PrivatisedRaces
+pub mod KeptMeanings

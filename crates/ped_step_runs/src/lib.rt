@@ -4,7 +4,9 @@
 #![tactic(auto)]
 
 mod exchanging;
+mod meaning;
 mod pasting;
 
 pub use exchanging::cells_exchanged;
+pub use meaning::{keeping, privatising_keeps_meaning};
 pub use pasting::{executions_exchanged, executions_leave, executions_stand, program_exchanged};

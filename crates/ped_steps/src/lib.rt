@@ -1,0 +1,2 @@
+//! Statements in the place of others (a stand-in).
+#![tactic(auto)]

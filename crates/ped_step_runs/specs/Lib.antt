@@ -2,3 +2,4 @@ pub mod Exchanging
 pub mod Pasting
 pub mod Meaning
 pub mod Privatising
+pub mod Substituting

@@ -114,14 +114,14 @@ module _ (name : Cell → Cell) (ex : IsExchange name) where
     assignment_in left right s =
         on_in at (stored_in name) (assigned g left right (moved s)) (assigned other left right s)
         (λ seen w. does did at (assignment_touches seen w) nothing_done (moved s)) (λ seen w. does did at (assignment_touches seen w) nothing_done s)
-        (assigned_in name ex g other same left right s)
+        (assigned_in name ex.element g other same left right s)
         (λ seen w. ap (λ (ts : List Touch). does did at ts nothing_done s) (assignment_touches_in seen w) ∙ does_in did at (assignment_touches seen w) nothing_done nothing_done nothing_in s)
 
     print_in : (items : List ItemTree) → IsMoved (run_print g at items) (run_print other at items)
     print_in items s =
         on_in at (λ (line : List ℕ). line) (printed_line g items (moved s)) (printed_line other items s)
         (λ seen line. does did at (print_touches seen line (moved s)) nothing_done (moved s)) (λ seen line. does did at (print_touches seen line s) nothing_done s)
-        (line_in name ex g other same items s)
+        (line_in name ex.element g other same items s)
         (λ seen line. ap (λ (ts : List Touch). does did at ts nothing_done s) (print_touches_in seen line s) ∙ does_in did at (print_touches seen line (moved s)) nothing_done nothing_done nothing_in s)
 
     taking_in : (items : List ExprTree) (n : ℕ) (d : Data) (s : Store) → taking other items n d s ≡ taken_in (taking g items n d (moved s))
@@ -133,7 +133,7 @@ module _ (name : Cell → Cell) (ex : IsExchange name) where
             ≡ taken_in (with_taken d t (λ v left. into_item n left v (target g item (moved s)).seen (target g item (moved s)).result λ m c. taking g rest m left (put c (Number v) (moved s))))
         go (Err fault) more = refl
         go (Ok t) more =
-            ap (λ (z : Evaluated Cell). into_item n t.behind t.value z.seen z.result λ m c. taking other rest m t.behind (put c (Number t.value) s)) (target_in name ex g other same item s)
+            ap (λ (z : Evaluated Cell). into_item n t.behind t.value z.seen z.result λ m c. taking other rest m t.behind (put c (Number t.value) s)) (target_in name ex.element g other same item s)
             ∙ item_in n t.behind t.value (target g item (moved s)).seen (target g item (moved s)).result (λ m c. taking g rest m t.behind (put c (Number t.value) (moved s))) (λ m c. taking other rest m t.behind (put c (Number t.value) s))
             (λ m c. more m t.behind (put (name c) (Number t.value) s) ∙ ap (λ (w : Store). taken_in (taking g rest m t.behind w)) (put_in c (Number t.value) s))
 
@@ -158,7 +158,7 @@ module _ (name : Cell → Cell) (ex : IsExchange name) where
     if_in c f f_other h h_other p q s =
         on_in at (λ (holds : Bool). holds) (truth g c (moved s)) (truth other c s)
         (λ seen holds. does did at (numbered 1 seen) (if holds then f else h) (moved s)) (λ seen holds. does did at (numbered 1 seen) (if holds then f_other else h_other) s)
-        (truth_in name ex g other same c s)
+        (truth_in name ex.element g other same c s)
         (λ seen holds. ap (λ (ts : List Touch). does did at ts (if holds then f_other else h_other) s) (numbered_in name 1 seen)
         ∙ does_in did at (numbered 1 seen) (if holds then f else h) (if holds then f_other else h_other) (chosen_in holds f f_other h h_other p q) s)
 
@@ -231,7 +231,7 @@ module _ (name : Cell → Cell) (ex : IsExchange name) where
         ∙ on_in (place_of p n scope) (λ (l : Limits). l) (limits (names_in p scope) h (moved s)) (limits (names_in p other) h s)
         (λ seen l. run_from_entry seen (entered_with p n h statements seen l) scope (place_of p n scope) body (moved s))
         (λ seen l. run_from_entry seen (entered_with p n h statements seen l) other (place_of p n scope) body_other s)
-        (limits_in name ex (names_in p scope) (names_in p other) (names_exchanged name p scope other same) h s)
+        (limits_in name ex.element (names_in p scope) (names_in p other) (names_exchanged name p scope other same) h s)
         (λ seen l. ap (λ (e : Entered). run_from_entry (map (seen_in name) seen) e other (place_of p n scope) body_other s) (entered_same p n h statements seen l)
         ∙ from_entry_in (entered_with p n h statements seen l) (place_of p n scope) body body_other more seen s)
 

@@ -18,7 +18,7 @@ use Rattle.ped_eval.specs.Evaluation.{Seen, cell_seen, index_seen, Evaluated, ha
 use Rattle.ped_eval.specs.Values.{of_intrinsic, variable_value, name_value, is_rank, element_cell, value, values, relation_holds, truth, target}
 use Rattle.ped_eval.specs.Statements.{Stored, assigned, item_text, item_texts, printed_line}
 use Rattle.ped_eval.specs.Loops.{in_bounds, limits}
-use Rattle.ped_step_runs.specs.Exchanging.{IsExchange, AreExchanged, exchanged_store, exchanged_touch}
+use Rattle.ped_step_runs.specs.Exchanging.{AreExchanged, exchanged_store, exchanged_touch}
 
 -- what is seen in renamed cells
 abbrev pub seen_in : (Cell → Cell) → Seen → Seen
@@ -97,13 +97,13 @@ module _ (name : Cell → Cell) where
   variable_in (Some n) c s = refl
   variable_in None c s = cell_in c s
 
-  module _ (ex : IsExchange name) (g other : Names) (same : AreNames name g other) where
+  module _ (elements : (x : List ℕ) (js : List ℤ) → name (cells.Element x js) ≡ cells.Element x js) (g other : Names) (same : AreNames name g other) where
     name_in : (v : Option ℤ) (x : List ℕ) (s : Store) → name_value v other x s ≡ seeing name itself (name_value v g x (exchanged_store name s))
     name_in (Some n) x s = refl
     name_in None x s = (λ i. variable_value (same.index x i) s (same.cell x i)) ∙ variable_in (g.index x) (g.cell x) s
 
     bounded_in : (b : Bool) (x : List ℕ) (js : List ℤ) → (if b then Ok (cells.Element x js) else Err outside_bounds) ≡ mapped name (if b then Ok (cells.Element x js) else Err outside_bounds)
-    bounded_in true x js = ap Ok (sym (ex.element x js))
+    bounded_in true x js = ap Ok (sym (elements x js))
     bounded_in false x js = refl
 
     element_in : (x : List ℕ) (js : List ℤ) → element_cell other x js ≡ mapped name (element_cell g x js)

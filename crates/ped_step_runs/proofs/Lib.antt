@@ -20,3 +20,5 @@ pub mod PrivatisedRacesCells
 pub mod PrivatisedRacesOrigins
 pub mod PrivatisedRaces
 pub mod KeptMeanings
+pub mod RenumberedRuns
+pub mod RenumberedPrograms

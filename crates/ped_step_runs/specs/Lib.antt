@@ -3,3 +3,4 @@ pub mod Pasting
 pub mod Meaning
 pub mod Privatising
 pub mod Substituting
+pub mod Renumbering

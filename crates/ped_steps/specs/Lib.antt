@@ -1,0 +1,3 @@
+pub mod RuleNames
+pub mod Causes
+pub mod Replacing

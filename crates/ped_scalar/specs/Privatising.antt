@@ -35,7 +35,7 @@ abbrev pub StandsAgainstPrivatising : ProgramTree → ℕ → List ℕ → Rules
 StandsAgainstPrivatising t s x NoLoop n = IsNoLoop t s × (n ≡ s)
 StandsAgainstPrivatising t s x ParallelState n = (l : LoopOf t s) × IsTrue (l.head.parallel || list_any (λ m. m.head.parallel) (nest_round t s)) × (n ≡ s)
 StandsAgainstPrivatising t s x ExposedOrLive n = LoopOf t s × IsTrue (is_scalar t x) × IsExposedOrLiveBy t s x n
-StandsAgainstPrivatising t s x NotScalar n = (l : LoopOf t s) × IsTrue (is_unfit t s l x) × (n ≡ s)
+StandsAgainstPrivatising t s x NotScalar n = (l : LoopOf t s) × IsTrue (is_unfit t s l.head l.body x) × (n ≡ s)
 StandsAgainstPrivatising t s x Limit n = (l : LoopOf t s) × (is_among x l.head.private ≡ false) × (IsValid (privatised t s x) → ⊥) × (n ≡ s)
 StandsAgainstPrivatising t s x AlreadyPrivate n = (l : LoopOf t s) × IsTrue (is_scalar t x) × IsTrue (is_among x l.head.private) × (n ≡ s)
 StandsAgainstPrivatising t s x NotPerfect n = ⊥

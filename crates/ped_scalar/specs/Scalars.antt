@@ -2,9 +2,9 @@
 use Rattle.std.specs.Prelude.{◌≡◌, ◌⊎◌, ℕ, ◌+◌, List, ◌∷◌, Bool, true, not, ◌&&◌, ◌||◌, nat_lt, IsTrue, Option, Some, None}
 use Rattle.std.specs.List.{list_any}
 use Rattle.ped_base.specs.Lists.{is_same_text, is_among}
-use Rattle.ped_tree.specs.Tree.{ProgramTree, Do}
+use Rattle.ped_tree.specs.Tree.{Head, StmtTrees, ProgramTree, Do}
 use Rattle.ped_tree.specs.Nests.{indices_of}
-use Rattle.ped_tree.specs.Numbering.{statement_with, statement_count}
+use Rattle.ped_tree.specs.Numbering.{statements_count}
 use Rattle.ped_refs.specs.References.{Reference, references}
 use Rattle.ped_symbols.specs.Kinds.{kind_in}
 use Rattle.ped_affine.specs.Assigned.{loop_variables}
@@ -20,21 +20,21 @@ IsNoLoop t s = LoopOf t s → ⊥
 abbrev pub is_scalar : ProgramTree → List ℕ → Bool
 is_scalar t x = uses.is_scalar (kind_in t) x
 
--- a reference in the body of the DO with number s, of which there are so many statements, refers to the name; what the DO's header reads stands outside (this project)
+-- a reference in the body of the DO with number s refers to the name, where the DO and those in it are so many statements; what the DO's header reads stands outside (this project)
 abbrev pub is_reference_in : ℕ → ℕ → List ℕ → Reference → Bool
 is_reference_in s count x r = nat_lt s r.statement && nat_lt r.statement (s + count) && is_same_text x r.access.name
 
--- the scalar is the variable of the DO, of one round it or of one in it (ANSI X3.9-1978, section 11.10)
-abbrev pub is_index_near : (t : ProgramTree) (s : ℕ) → LoopOf t s → List ℕ → Bool
-is_index_near t s l x = is_among x (indices_of (nest_round t s)) || is_among x (loop_variables (Do l.head l.body))
+-- the scalar is the variable of the DO with this head and body, of one round it or of one in it (ANSI X3.9-1978, section 11.10)
+abbrev pub is_index_near : ProgramTree → ℕ → Head → StmtTrees → List ℕ → Bool
+is_index_near t s h body x = is_among x (indices_of (nest_round t s)) || is_among x (loop_variables (Do h body))
 
--- a reference in the body of the DO refers to the name (Allen and Kennedy, section 2.2.1)
-abbrev pub is_referred : (t : ProgramTree) (s : ℕ) → LoopOf t s → List ℕ → Bool
-is_referred t s l x = list_any (is_reference_in s (statement_count (Do l.head l.body)) x) (references t)
+-- a reference in the body of the DO with this number refers to the name (Allen and Kennedy, section 2.2.1)
+abbrev pub is_referred : ProgramTree → ℕ → StmtTrees → List ℕ → Bool
+is_referred t s body x = list_any (is_reference_in s (statements_count body + 1) x) (references t)
 
--- no step can make the name private to the DO: it is no scalar variable, the variable of the DO, of one round it or of one in it, or the body doesn't refer to it (this project)
-abbrev pub is_unfit : (t : ProgramTree) (s : ℕ) → LoopOf t s → List ℕ → Bool
-is_unfit t s l x = not (is_scalar t x) || is_index_near t s l x || not (is_referred t s l x)
+-- no step can give each iteration of the DO its own copy of the name: it is no scalar variable, or the variable of the DO, of one round it or of one in it, or the body doesn't refer to it (this project)
+abbrev pub is_unfit : ProgramTree → ℕ → Head → StmtTrees → List ℕ → Bool
+is_unfit t s h body x = not (is_scalar t x) || is_index_near t s h body x || not (is_referred t s body x)
 
 -- the scalar is live behind the DO by this statement: the first that may read it, or the DO itself where none may and the program's end may show it (Allen and Kennedy, section 4.4; this project)
 abbrev pub IsLiveBy : ProgramTree → ℕ → List ℕ → ℕ → Type 0

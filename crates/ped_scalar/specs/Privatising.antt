@@ -30,11 +30,15 @@ privatised t s x = program_with (with_private x) s t
 abbrev pub IsExposedOrLiveBy : ProgramTree → ℕ → List ℕ → ℕ → Type 0
 IsExposedOrLiveBy t s x n = IsExposedBy t s x n ⊎ (IsUnexposed t s x × IsLiveBy t s x n)
 
+-- the name is that of a scalar variable, which is exposed in the DO or live behind it by this statement (ParaScope; this project)
+abbrev pub IsScalarExposedOrLiveBy : ProgramTree → ℕ → List ℕ → ℕ → Type 0
+IsScalarExposedOrLiveBy t s x n = IsTrue (is_scalar t x) × IsExposedOrLiveBy t s x n
+
 -- which rules stand against the step, each with its statement: the statement is no DO; the DO or one round it is a PARALLEL DO; the scalar is exposed or live; the name is no such scalar; the new program, where the name isn't in the list already, isn't valid; the name is in the DO's PRIVATE list. What is asked of a scalar isn't asked of another name (ParaScope; this project)
 abbrev pub StandsAgainstPrivatising : ProgramTree → ℕ → List ℕ → Rules
 StandsAgainstPrivatising t s x NoLoop n = IsNoLoop t s × (n ≡ s)
 StandsAgainstPrivatising t s x ParallelState n = (l : LoopOf t s) × IsTrue (l.head.parallel || list_any (λ m. m.head.parallel) (nest_round t s)) × (n ≡ s)
-StandsAgainstPrivatising t s x ExposedOrLive n = LoopOf t s × IsTrue (is_scalar t x) × IsExposedOrLiveBy t s x n
+StandsAgainstPrivatising t s x ExposedOrLive n = LoopOf t s × IsScalarExposedOrLiveBy t s x n
 StandsAgainstPrivatising t s x NotScalar n = (l : LoopOf t s) × IsTrue (is_unfit t s l.head l.body x) × (n ≡ s)
 StandsAgainstPrivatising t s x Limit n = (l : LoopOf t s) × (is_among x l.head.private ≡ false) × (IsValid (privatised t s x) → ⊥) × (n ≡ s)
 StandsAgainstPrivatising t s x AlreadyPrivate n = (l : LoopOf t s) × IsTrue (is_scalar t x) × IsTrue (is_among x l.head.private) × (n ≡ s)

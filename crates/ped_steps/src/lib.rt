@@ -1,2 +1,26 @@
-//! Statements in the place of others (a stand-in).
+//! Steps: what a transformation of a program is given, what it answers, by which rules it is refused, and how a new
+//! program is made of an old one. The definitions stand in `specs/`.
 #![tactic(auto)]
+
+mod causes;
+mod changes;
+mod counting;
+mod laws;
+mod names;
+mod numbers;
+mod replacing;
+mod rounds;
+mod rules;
+mod scenes;
+mod validity;
+
+pub use causes::{Refused, cause_words};
+pub use changes::{Change, all_kept};
+pub use counting::count_statements;
+pub use laws::one_replacement;
+pub use names::is_among;
+pub use replacing::{body_with, program_with, with_body};
+pub use rounds::{loop_at, loops_round};
+pub use rules::Rule;
+pub use scenes::Scene;
+pub use validity::{change_to, valid_symbols};

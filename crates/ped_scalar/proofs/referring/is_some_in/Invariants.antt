@@ -1,0 +1,9 @@
+use Rattle.std.proofs.Common.{◌≡◌, drop}
+use Rattle.std.specs.List.{list_any}
+use Rattle.ped_refs.specs.Occurrences.{references_of}
+use Rattle.ped_scalar.specs.Scalars.{is_reference_in}
+use Rattle.ped_scalar.proofs.referring.is_some_in.Given as goal
+
+abbrev pub invariant-loop-occurrence : goal.invariant-loop-occurrence
+invariant-loop-occurrence l =
+    list_any (is_reference_in l.number l.extent l.name) (references_of (drop l.occurrence-index l.found)) ≡ list_any (is_reference_in l.number l.extent l.name) (references_of l.found)

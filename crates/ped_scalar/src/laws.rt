@@ -1,0 +1,11 @@
+//! What the definitions in `specs/` determine. The functions do nothing; their contracts are the laws.
+
+ghost use Rattle.std.specs.Prelude.{◌≡◌, ℕ, List, Option};
+ghost use Rattle.ped_tree.specs.Tree.{ProgramTree};
+ghost use Rattle.ped_steps.specs.Causes.{Cause, IsFirstCause, none_forbids};
+ghost use Rattle.ped_scalar.specs.Privatising.{StandsAgainstPrivatising};
+
+/// Against `privatise` there is at most one first cause, and none where there is no cause.
+pub fn one_cause_against_privatising()
+    ensures { (t : ProgramTree) (s : ℕ) (x : List ℕ) (c d : Option Cause) → IsFirstCause t (StandsAgainstPrivatising t s x) none_forbids c → IsFirstCause t (StandsAgainstPrivatising t s x) none_forbids d → c ≡ d }
+{}

@@ -1,0 +1,87 @@
+//! What the rules of the steps on scalars ask.
+
+ghost use Rattle.std.specs.Prelude.{◌≡◌, ◌+◌, ◌<◌, ◌^◌, ℕ, length, IfOk, MatchOption};
+ghost use Rattle.ped_tree.specs.Tree.{ProgramTree};
+ghost use Rattle.ped_tree.specs.Numbering.{statements_count};
+ghost use Rattle.ped_tree.specs.Views.{stmt_trees, program_tree};
+ghost use Rattle.ped_refs.specs.References.{references};
+ghost use Rattle.ped_refs.specs.Loops.{head_of, nest_of};
+ghost use Rattle.ped_symbols.specs.Kinds.{table_of};
+ghost use Rattle.ped_uses.specs.RightUses as uses;
+ghost use Rattle.ped_flow.specs.PlainBounds.{nest_round};
+ghost use Rattle.ped_flow.specs.Questions.{IsLoop, IsFirst, IsExposed};
+ghost use Rattle.ped_steps.specs.Scenes.{IsSceneOf, IsFlowOf};
+ghost use Rattle.ped_scalar.specs.Scalars as Spec;
+
+use crate::indices::{is_index, is_index_in};
+use crate::referring::is_referred;
+use ped_base::{Name, NoMemory};
+use ped_flow::{Flow, Reader};
+use ped_refs::Loop;
+use ped_steps::Scene;
+use ped_symbols::{Kind, Symbols};
+use ped_tree::Do;
+use std::alloc::Global;
+use std::sync::ledger::Ledger;
+
+/// Whether the name is that of a scalar variable of the program.
+pub(crate) fn is_scalar(symbols: &Symbols, name: &Name) -> bool
+    ensures { (t : ProgramTree) → symbols.now ≡ table_of t → result ≡ Spec.is_scalar t name.now }
+{
+    is_scalar_kind(symbols.kind(name))
+}
+
+fn is_scalar_kind(kind: Option<Kind>) -> bool
+    ensures { result ≡ uses.is_scalar_kind kind }
+{
+    match kind {
+        Some(Kind::Scalar) => true,
+        Some(Kind::Array(_)) => false,
+        Some(Kind::Constant(_)) => false,
+        None => false,
+    }
+}
+
+/// The statement by which a scalar is live behind the DO with this number: the first that may read it there, or the DO
+/// itself where only the program's end may show it.
+pub(crate) fn live_by(flow: &Flow, number: u32, name: &Name) -> Option<u32>
+    requires few { statements_count (program_tree flow.now.program.now).body + 1 < 2 ^ 32 }
+    ensures { MatchOption result ((n : ℕ) → Spec.IsLiveBy (program_tree flow.now.program.now) number name.now n → ⊥) (Spec.IsLiveBy (program_tree flow.now.program.now) number name.now) }
+{
+    match flow.live_after(number, name) {
+        Some(Reader::Statement(statement)) => {
+            return Some(statement);
+        }
+        Some(Reader::Saved) => {
+            return Some(number);
+        }
+        None => {
+            return None;
+        }
+    }
+}
+
+/// Whether no step can give each iteration of the DO with this number its own copy of the name; these are the DO loops
+/// round it.
+pub(crate) fn is_unfit<L: Ledger>(
+    alloc: Global,
+    scene: &Scene<L>,
+    number: u32,
+    d: &Do,
+    round: &[Loop],
+    name: &Name,
+) -> Result<bool, NoMemory>
+    requires scene { IsSceneOf (program_tree scene.now.tree.now) scene.now }
+    requires is { IsLoop (program_tree scene.now.tree.now) number (head_of d.now) (stmt_trees d.now.body.items) }
+    requires round { nest_of round.now ≡ nest_round (program_tree scene.now.tree.now) number }
+    ensures { IfOk result (λ r. r ≡ Spec.is_unfit (program_tree scene.now.tree.now) number (head_of d.now) (stmt_trees d.now.body.items) name.now) }
+{
+    if !is_scalar(scene.symbols, name) {
+        return Ok(true);
+    }
+    if is_index(name, round) || is_index_in(name, d) {
+        return Ok(true);
+    }
+    let referred = is_referred(alloc, scene.tree, number, d, name)?;
+    Ok(!referred)
+}

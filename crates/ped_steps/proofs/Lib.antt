@@ -1,0 +1,4 @@
+pub mod FirstRules
+pub mod Followed
+pub mod OneCause
+pub mod OnePlace

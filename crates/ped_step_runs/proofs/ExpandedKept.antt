@@ -42,6 +42,14 @@ pub literal_valued : (g : Names) (n : ℤ) (s : Store) → nat_lt 2147483647 (un
 literal_valued g (pos n) s near = let e : int_lt (pos n) (pos 0) ≡ false = fails (int_lt (pos n) (pos 0)) (λ q. omega (arith, ints, q)) in ap (λ (b : Bool). value g (if b then Neg (Int n) else Int n) s) e
 literal_valued g (negsuc n) s near = ap given (negative_in n near)
 
+-- the array's element at a number, in a program
+abbrev pub element_expr : List ℕ → ℤ → ExprTree
+element_expr array n = Element array (more_exprs (literal n) no_exprs)
+
+-- what such an assignment touches: it reads the element, and the scalar gets what it holds
+abbrev pub keeping_touches : Scope → List ℕ → List ℕ → ℤ → Content → List Touch
+keeping_touches S x array last c = read_touch (cells.Element array (last ∷ [])) c 1 ∷ write_touch (cell_of S x) c 2 ∷ []
+
 module _ (p : Setting) (S : Scope) (x array : List ℕ) (last : ℤ) (near : nat_lt 2147483647 (unsigned_abs last) ≡ false) (within : is_within (p.bounds array) (last ∷ []) ≡ true) where
   abbrev g : Names
   g = names_in p S
@@ -49,26 +57,18 @@ module _ (p : Setting) (S : Scope) (x array : List ℕ) (last : ℤ) (near : nat
   abbrev element : Cell
   element = cells.Element array (last ∷ [])
 
-  -- the right side
-  abbrev pub element_expr : ExprTree
-  element_expr = Element array (more_exprs (literal last) no_exprs)
-
   -- what follows the value of the right side
   abbrev onto : Evaluated ℤ → Evaluated Stored
   onto e = e >>> λ v. given (Ok (cell_of S x)) >>> λ c. given (storable v) >>> λ n. given (Ok (record { cell = c; number = n }))
 
-  stored_as : (n : ℤ) → is_storable n ≡ true → ComesTo (assigned g (Var x) element_expr) (cell_seen element (Number n) ∷ []) (Ok (record { cell = cell_of S x; number = n }))
+  stored_as : (n : ℤ) → is_storable n ≡ true → ComesTo (assigned g (Var x) (element_expr array last)) (cell_seen element (Number n) ∷ []) (Ok (record { cell = cell_of S x; number = n }))
   stored_as n fits s holds =
       ap (λ (z : Evaluated ℤ). onto ((z >>> λ u. given (Ok []) >>> λ us. given (Ok (u ∷ us))) >>> λ js. given (element_cell g array js) >>> read_cell s)) (literal_valued g last s near)
       ∙ ap (λ (b : Bool). onto (given (if b then Ok element else Err outside_bounds) >>> read_cell s)) within
       ∙ ap (λ (c : Content). onto (record { seen = cell_seen element c ∷ []; result = number_read c })) holds.0
       ∙ ap (λ (b : Bool). record { seen = cell_seen element (Number n) ∷ []; result = Ok n } >>> λ v. given (Ok (cell_of S x)) >>> λ c. given (if b then Ok n else Err out_of_range) >>> λ n. given (Ok (record { cell = c; number = n }))) fits
 
-  -- what is assigned is what the element holds
-  abbrev pub keeping_touches : Content → List Touch
-  keeping_touches c = read_touch element c 1 ∷ write_touch (cell_of S x) c 2 ∷ []
-
-  pub keeps_value : (k : ℕ) (n : ℤ) → is_storable n ≡ true → Replays (run_all p (more_stmts (Assign (Var x) element_expr) no_stmts) k S) (act did (place_of p k S) (keeping_touches (Number n)) ∷ []) goes_on
+  pub keeps_value : (k : ℕ) (n : ℤ) → is_storable n ≡ true → Replays (run_all p (more_stmts (Assign (Var x) (element_expr array last)) no_stmts) k S) (act did (place_of p k S) (keeping_touches S x array last (Number n)) ∷ []) goes_on
   keeps_value k n fits =
-      statements_more p (Assign (Var x) element_expr) no_stmts k S (act did (place_of p k S) (keeping_touches (Number n)) ∷ []) [] goes_on
-      (assignment_does p (Var x) element_expr k S (cell_seen element (Number n) ∷ []) (record { cell = cell_of S x; number = n }) (stored_as n fits)) replays_nothing
+      statements_more p (Assign (Var x) (element_expr array last)) no_stmts k S (act did (place_of p k S) (keeping_touches S x array last (Number n)) ∷ []) [] goes_on
+      (assignment_does p (Var x) (element_expr array last) k S (cell_seen element (Number n) ∷ []) (record { cell = cell_of S x; number = n }) (stored_as n fits)) replays_nothing

@@ -9,6 +9,7 @@ pub mod PrivatisedLoops
 pub mod PrivatisedParts
 pub mod ExpandedKept
 pub mod ExpandedTurns
+pub mod ExpandedLoops
 pub mod NamesKept
 pub mod SameNames
 pub mod ReplacedTrees

@@ -37,14 +37,15 @@ abbrev pub kept_value : Bool → List ℕ → List ℕ → ℤ → StmtTrees
 kept_value true x array last = more_stmts (Assign (Var x) (element_expr array last)) no_stmts
 kept_value false x array last = no_stmts
 
+-- the DO with the element in the place of the scalar, and what stands behind it
+abbrev pub new_statements : List ℕ → List ℕ → Bool → ℤ → Head → StmtTrees → StmtTrees
+new_statements x array live last h body = more_stmts (Do h (body_with x array h body)) (kept_value live x array last)
+
 module _ (p : Setting) (h : Head) (body : StmtTrees) (l : ℕ) (S : Scope) (x array : List ℕ) where
   -- the act of that assignment
   abbrev pub kept_acts : Bool → ℤ → Content → List Act
   kept_acts true last c = act did (place_of p (l + statement_count (Do h (body_with x array h body))) S) (keeping_touches S x array last c) ∷ []
   kept_acts false last c = []
-
-  abbrev pub new_statements : Bool → ℤ → StmtTrees
-  new_statements live last = more_stmts (Do h (body_with x array h body)) (kept_value live x array last)
 
   abbrev mine : Cell
   mine = own p h body l S x array
@@ -148,7 +149,7 @@ module _ (p : Setting) (h : Head) (body : StmtTrees) (l : ℕ) (S : Scope) (x ar
             subst (λ (c : Content). Replays (run_all p (kept_value true x array last) (l + statement_count (Do h (body_with x array h body))) S) (kept_acts true last c) goes_on) (sym number_left.1)
             (keeps_value p S x array last kept.near kept.within (l + statement_count (Do h (body_with x array h body))) number_left.0 number_left.2)
 
-      pub statements_replay : (live : Bool) (last : ℤ) → is_same_text x h.variable ≡ false → (live ≡ true → IsKept last) → Replays (run_all p (new_statements live last) l S) (new_acts live last s) goes_on
+      pub statements_replay : (live : Bool) (last : ℤ) → is_same_text x h.variable ≡ false → (live ≡ true → IsKept last) → Replays (run_all p (new_statements x array live last h body) l S) (new_acts live last s) goes_on
       statements_replay true last variable kept =
           statements_more p (Do h (body_with x array h body)) (kept_value true x array last) l S (new_loop s) (kept_acts true last (left_in s)) goes_on loop_replays (keeping_replays variable last (kept refl))
       statements_replay false last variable kept = statements_more p (Do h (body_with x array h body)) no_stmts l S (new_loop s) [] goes_on loop_replays replays_nothing

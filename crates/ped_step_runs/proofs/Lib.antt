@@ -10,6 +10,7 @@ pub mod PrivatisedParts
 pub mod ExpandedKept
 pub mod ExpandedTurns
 pub mod ExpandedLoops
+pub mod ExpandedParts
 pub mod NamesKept
 pub mod SameNames
 pub mod ReplacedTrees

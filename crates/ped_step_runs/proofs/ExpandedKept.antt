@@ -1,23 +1,23 @@
 -- The assignment of an array's last element to a scalar, behind a DO.
-use Rattle.std.proofs.Common.{◌≡◌, ℕ, suc, ◌^◌, ℤ, pos, negsuc, neg_ℤ, int_le, int_lt, List, [], ◌∷◌, length, Bool, true, false, ◌&&◌, Result, Ok, Err, refl, sym, ap, ◌∙◌, arith, if◌then◌else◌}
+use Rattle.std.proofs.Common.{◌≡◌, ℕ, suc, ◌^◌, ℤ, pos, negsuc, neg_ℤ, int_le, int_lt, List, [], ◌∷◌, Bool, true, false, ◌&&◌, Ok, Err, refl, ap, ◌∙◌, arith, if◌then◌else◌}
 use Rattle.std.specs.Prelude.{unsigned_abs, nat_lt}
 use Rattle.std.proofs.lemmas.Bool.{ltb-false}
 use Rattle.std.proofs.lemmas.Int.{ints}
 use Rattle.ped_arithmetic.specs.Arithmetic.{in_range}
 use Rattle.ped_arithmetic.specs.declared.faults.Fault.TheVariants.{OutOfRange}
-use Rattle.ped_tree.specs.Tree.{ExprTree, Int, Var, Element, Neg, no_exprs, more_exprs, StmtTrees, Assign, no_stmts, more_stmts}
+use Rattle.ped_tree.specs.Tree.{ExprTree, Int, Var, Element, Neg, no_exprs, more_exprs, Assign, no_stmts, more_stmts}
 use Rattle.ped_sums.specs.Sums.{literal}
 use Rattle.ped_store.specs.Cells as cells
 use Rattle.ped_store.specs.Cells.{Cell}
 use Rattle.ped_store.specs.Stores.{Content, Number, Store, number_read, is_storable, storable, out_of_range, outside_bounds}
 use Rattle.ped_store.specs.Storage.{is_within}
-use Rattle.ped_store.specs.Acts.{Touch, Act, did}
+use Rattle.ped_store.specs.Acts.{Touch, did}
 use Rattle.ped_eval.specs.Scopes.{Setting, Scope, Names, cell_of, names_in, place_of}
-use Rattle.ped_eval.specs.Evaluation.{Seen, cell_seen, Evaluated, ◌>>>◌, given, by_number, read_cell}
+use Rattle.ped_eval.specs.Evaluation.{cell_seen, Evaluated, ◌>>>◌, given, by_number, read_cell}
 use Rattle.ped_eval.specs.Values.{element_cell, value}
 use Rattle.ped_eval.specs.Statements.{Stored, assigned, read_touch, write_touch}
-use Rattle.ped_eval.specs.Runs.{run, run_all}
-use Rattle.ped_runs.specs.Seeing.{Holds, ComesTo}
+use Rattle.ped_eval.specs.Runs.{run_all}
+use Rattle.ped_runs.specs.Seeing.{ComesTo}
 use Rattle.ped_runs.specs.Replaying.{goes_on, act, Replays}
 use Rattle.ped_runs.proofs.Joined.{replays_nothing, statements_more, assignment_does}
 

@@ -1,12 +1,12 @@
 -- What a DO does whose body has an element in the place of a scalar, with an assignment of the last element to the scalar behind it or without one, may stand for what the DO did.
-use Rattle.std.proofs.Common.{◌≡◌, ℕ, suc, ◌+◌, ◌≤◌, ℤ, List, [], ◌∷◌, ◌++◌, Bool, true, false, Option, Some, None, Ok, refl, sym, ap, subst, ◌∙◌, append-nil, arith}
+use Rattle.std.proofs.Common.{◌≡◌, ℕ, suc, ◌+◌, ◌≤◌, ℤ, List, [], ◌∷◌, ◌++◌, Bool, true, false, Ok, refl, sym, ap, subst, ◌∙◌, append-nil, arith}
 use Rattle.std.specs.Prelude.{unsigned_abs, nat_lt}
 use Rattle.std.proofs.lemmas.Bool.{both_ways, or_parts}
 use Rattle.ped_base.specs.Lists.{is_same_text, is_among}
 use Rattle.ped_tree.specs.Tree.{Head, StmtTrees, Assign, Var, Do, no_stmts, more_stmts}
 use Rattle.ped_tree.specs.Numbering.{statement_count}
 use Rattle.ped_store.specs.Cells.{Cell, Element, same_cell}
-use Rattle.ped_store.specs.Stores.{Content, Undefined, Number, Store, put, is_storable, number_in}
+use Rattle.ped_store.specs.Stores.{Content, Number, Store, put, is_storable}
 use Rattle.ped_store.specs.Storage.{is_within}
 use Rattle.ped_store.specs.Acts.{Act, did, entered, store_behind}
 use Rattle.ped_acts.specs.Fitting.{Fits, store_after}
@@ -16,21 +16,21 @@ use Rattle.ped_acts.specs.Pieces.{StandsFor}
 use Rattle.ped_acts.proofs.Stores.{after_append, fits_append, fits_first, put_same, put_other}
 use Rattle.ped_acts.proofs.SameCells.{cell_is, other_cell}
 use Rattle.ped_acts.proofs.Appending.{touch_append}
-use Rattle.ped_acts.proofs.Renamings.{agreeing_fits, after_other}
+use Rattle.ped_acts.proofs.Renamings.{agreeing_fits}
 use Rattle.ped_acts.proofs.Exchanging.{needed_wanted}
 use Rattle.ped_eval.specs.Scopes.{Setting, Scope, names_in, place_of}
 use Rattle.ped_eval.specs.Evaluation.{Seen}
-use Rattle.ped_eval.specs.Loops.{Limits, limits, Entered, entered_with, frame, value_in, inner_variables, entry_touches}
+use Rattle.ped_eval.specs.Loops.{Limits, limits, Entered, entered_with, value_in, inner_variables, entry_touches}
 use Rattle.ped_eval.specs.Runs.{Run, run, run_all}
 use Rattle.ped_runs.specs.Seeing.{ComesTo}
 use Rattle.ped_runs.specs.Replaying.{goes_on, finish_of, act, Replays}
 use Rattle.ped_runs.proofs.Sight.{limits_told}
 use Rattle.ped_runs.proofs.Joined.{replays_nothing, statements_more, loop_in_order}
-use Rattle.ped_runs.proofs.StatementsTold.{run_told, all_told}
+use Rattle.ped_runs.proofs.StatementsTold.{run_told}
 use Rattle.ped_step_runs.proofs.Privatised.{Agrees, act_agrees}
 use Rattle.ped_step_runs.proofs.PrivatisedLoops.{loop_is, turns_go}
 use Rattle.ped_step_runs.proofs.ExpandedKept.{element_expr, keeping_touches, keeps_value}
-use Rattle.ped_step_runs.proofs.ExpandedTurns.{body_with, at, own, e, element_in, trip, new_turns, old_turns, IsSubstituted, AreLeft, turns_replay, turns_stand, turns_leave, turns_hold}
+use Rattle.ped_step_runs.proofs.ExpandedTurns.{body_with, own, e, element_in, trip, new_turns, old_turns, IsSubstituted, AreLeft, turns_replay, turns_stand, turns_leave, turns_hold}
 
 -- what stands behind the DO: where the scalar is live there, it gets what its last element holds
 abbrev pub kept_value : Bool → List ℕ → List ℕ → ℤ → StmtTrees
@@ -133,15 +133,15 @@ module _ (p : Setting) (h : Head) (body : StmtTrees) (l : ℕ) (S : Scope) (x ar
         number_left =
             subst Holds (ap (λ (u : Store). u mine) (sym left_is))
             (subst (λ (k : ℕ). finish_of (old_turns p h body l S x array seen m k 1 (entered_by s)).ending ≡ goes_on → Holds (store_after (old_turns p h body l S x array seen m k 1 (entered_by s)).acts (entered_by s) mine)) (sym kept.some)
-                (turns_hold p h body l S x array seen m in_order absent same not_variable kept.writes Holds kept.stores kept.others 1 (entered_by s) (subst (λ (k : ℕ). AreLeft p h body l S x array seen m k 1) kept.some all_left))
-                turns_going)
+            (turns_hold p h body l S x array seen m in_order absent same not_variable kept.writes Holds kept.stores kept.others 1 (entered_by s) (subst (λ (k : ℕ). AreLeft p h body l S x array seen m k 1) kept.some all_left))
+            turns_going)
 
         element_left : (t : Store) → store_after (new_loop s) t (Element array (last ∷ [])) ≡ left_in s
         element_left t =
             ap (λ (v : ℤ). store_after (new_loop s) t (Element array (v ∷ []))) (sym kept.is_last)
             ∙ (subst (λ (k : ℕ). finish_of (old_turns p h body l S x array seen m k 1 (entered_by s)).ending ≡ goes_on → store_after (new_turns p h body l S x array seen m k 1 (entered_by s)) (store_after (entry ∷ []) t) (element_in p h body l S x array seen m entering.count) ≡ store_after (old_turns p h body l S x array seen m k 1 (entered_by s)).acts (entered_by s) mine) (sym kept.some)
-                (turns_leave p h body l S x array seen m in_order absent same not_variable kept.writes kept.others 1 (entered_by s) (store_after (entry ∷ []) t) (subst (λ (k : ℕ). AreLeft p h body l S x array seen m k 1) kept.some all_left))
-                turns_going)
+            (turns_leave p h body l S x array seen m in_order absent same not_variable kept.writes kept.others 1 (entered_by s) (store_after (entry ∷ []) t) (subst (λ (k : ℕ). AreLeft p h body l S x array seen m k 1) kept.some all_left))
+            turns_going)
             ∙ ap (λ (u : Store). u mine) (sym left_is)
 
         keeping_replays : Replays (run_all p (kept_value true x array last) (l + statement_count (Do h (body_with x array h body))) S) (kept_acts true last (left_in s)) goes_on
@@ -168,7 +168,7 @@ module _ (p : Setting) (h : Head) (body : StmtTrees) (l : ℕ) (S : Scope) (x ar
             let v = store_behind (entry_touches seen entering S) t in
             let inside = act_agrees shown mine entry entry (old ++ rest) s t (λ c d. refl) (λ c w q. now c w) in
             let more = turns_stand p h body l S x array seen m in_order absent same shown (λ k. hidden (value_in entering k)) unneeded entering.count 1 (entered_by s) v rest all_left turns_going
-                (λ k. (or_parts (touch (entry ∷ []) (element_in p h body l S x array seen m k)) (touch (old ++ rest) (element_in p h body l S x array seen m k)) (sym (touch_append (entry ∷ []) (old ++ rest) (element_in p h body l S x array seen m k)) ∙ there k)).1) inside in
+            (λ k. (or_parts (touch (entry ∷ []) (element_in p h body l S x array seen m k)) (touch (old ++ rest) (element_in p h body l S x array seen m k)) (sym (touch_append (entry ∷ []) (old ++ rest) (element_in p h body l S x array seen m k)) ∙ there k)).1) inside in
             ((first.0, more.0), λ c w d. ap (λ (u : Store). u c) left_is ∙ more.1 c w d)
 
         pub statements_stand : (live : Bool) (last : ℤ) → is_same_text x h.variable ≡ false → (live ≡ true → IsKept last) → (live ≡ false → wants shown rest mine ≡ false)
@@ -179,9 +179,10 @@ module _ (p : Setting) (h : Head) (body : StmtTrees) (l : ℕ) (S : Scope) (x ar
             (stands.0, λ c w. stands.1 c w (other_cell mine c (λ q. both_ways (wants shown rest mine) (dead refl) (ap (wants shown rest) q ∙ w))))
         statements_stand true last variable kept dead t agree =
             let stands = loop_stands t agree in
-            let u = store_after (new_loop s) t in
-            (fits_append (new_loop s) (kept_acts true last (left_in s)) t stands.0 ((element_left variable last (kept refl) t, (tt, tt)), tt),
-             λ c w. by_cell c w stands.1 (same_cell mine c) refl ∙ ap (λ (v : Store). v c) (sym (after_append (new_loop s) (kept_acts true last (left_in s)) t)))
+            let u = store_after (new_loop s) t in (
+              fits_append (new_loop s) (kept_acts true last (left_in s)) t stands.0 ((element_left variable last (kept refl) t, (tt, tt)), tt),
+              λ c w. by_cell c w stands.1 (same_cell mine c) refl ∙ ap (λ (v : Store). v c) (sym (after_append (new_loop s) (kept_acts true last (left_in s)) t)),
+            )
           where
             by_cell : (c : Cell) → wants shown rest c ≡ true → Agrees shown mine rest (store_after (run p (Do h body) l S s).acts s) (store_after (new_loop s) t) → (b : Bool) → same_cell mine c ≡ b
                 → store_after (run p (Do h body) l S s).acts s c ≡ put mine (left_in s) (store_after (new_loop s) t) c

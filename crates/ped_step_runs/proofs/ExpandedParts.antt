@@ -5,7 +5,7 @@ use Rattle.ped_base.specs.Lists.{is_same_text, is_among}
 use Rattle.ped_tree.specs.Tree.{Head, StmtTrees, Do, ProgramTree}
 use Rattle.ped_sums.specs.Substitution.{statements_substituted}
 use Rattle.ped_store.specs.Cells.{Cell, Element}
-use Rattle.ped_store.specs.Stores.{Content, Undefined, Store, put}
+use Rattle.ped_store.specs.Stores.{Undefined, Store, put}
 use Rattle.ped_store.specs.Acts.{Act}
 use Rattle.ped_acts.specs.Fitting.{Fits, store_after}
 use Rattle.ped_acts.specs.Sets.{needs, wants, written}
@@ -93,8 +93,8 @@ module _ (t : ProgramTree) (l : ℕ) (loop : LoopOf t l) (x array : List ℕ) (l
         let seen = (limits (names_in q S) h s).seen in
         let e = entered_with q l h body seen m in
         subst (λ (c : Cell). let name = swapped c (Element array (value_in e k ∷ [])) in
-            let other = run_all q (statements_substituted x (element_at array h.variable) body) (l + 1) (frame e k ∷ S) (exchanged_store name u) in
-            AreSameOn name (run_all q body (l + 1) (frame e k ∷ S) u).acts other.acts × (other.ending ≡ exchanged_ending name (run_all q body (l + 1) (frame e k ∷ S) u).ending))
+        let other = run_all q (statements_substituted x (element_at array h.variable) body) (l + 1) (frame e k ∷ S) (exchanged_store name u) in
+        AreSameOn name (run_all q body (l + 1) (frame e k ∷ S) u).acts other.acts × (other.ending ≡ exchanged_ending name (run_all q body (l + 1) (frame e k ∷ S) u).ending))
         (cell_inside q h body l S x array seen m in_order absent k) (substitutes (frame e k ∷ S) body x array h.variable (value_in e k) (may S place s m r k from to) (l + 1) u sound)
 
     going_so : (S : Scope) (s : Store) → finish_of (run p (Do h body) l S s).ending ≡ goes_on → finish_of (run q (Do h body) l S s).ending ≡ goes_on
@@ -124,11 +124,11 @@ module _ (t : ProgramTree) (l : ℕ) (loop : LoopOf t l) (x array : List ℕ) (l
             let did = (run p (Do h body) l S u).acts in
             let same = ap (λ (r : Run). r.acts) (alike S u) in
             let apart : (v : ℤ) → touch (did ++ done.behind) (Element array (v ∷ [])) ≡ false = λ v.
-                (or_parts (touch done.front (Element array (v ∷ []))) (touch (did ++ done.behind) (Element array (v ∷ [])))
-                (sym (touch_append done.front (did ++ done.behind) (Element array (v ∷ []))) ∙ ap (λ (zs : List Act). touch zs (Element array (v ∷ []))) (sym done.whole) ∙ untouched (v ∷ []))).1 in
+            (or_parts (touch done.front (Element array (v ∷ []))) (touch (did ++ done.behind) (Element array (v ∷ [])))
+            (sym (touch_append done.front (did ++ done.behind) (Element array (v ∷ []))) ∙ ap (λ (zs : List Act). touch zs (Element array (v ∷ []))) (sym done.whole) ∙ untouched (v ∷ []))).1 in
             let stands = statements_stand q h body l S x array seen m in_order absent (substituted_at S place u m entered.1) u entered.1 (going_so S u goes) shown done.behind (λ v. hidden (v ∷ []))
-                (λ k w going. unneeded S seen m k w (ends_so (run_all q body (l + 1) (frame (entered_with q l h body seen m) k ∷ S) w).ending going))
-                (λ v. ap (λ (zs : List Act). touch (zs ++ done.behind) (Element array (v ∷ []))) same ∙ apart v)
-                live last not_variable (λ so. kept so S place u m entered.1) (λ so. unwanted so S done.behind (execution_left p t start l loop S u ends place done goes)) in
+            (λ k w going. unneeded S seen m k w (ends_so (run_all q body (l + 1) (frame (entered_with q l h body seen m) k ∷ S) w).ending going))
+            (λ v. ap (λ (zs : List Act). touch (zs ++ done.behind) (Element array (v ∷ []))) same ∙ apart v)
+            live last not_variable (λ so. kept so S place u m entered.1) (λ so. unwanted so S done.behind (execution_left p t start l loop S u ends place done goes)) in
             subst (λ (zs : List Act). StandsFor (record { agreed = wants shown (did ++ done.behind); old = did; new = zs }) (wants shown done.behind) u) (sym (expanded_is S u m entered.1))
             (subst (λ (zs : List Act). StandsFor (record { agreed = wants shown (zs ++ done.behind); old = zs; new = new_acts q h body l S x array seen m live last u }) (wants shown done.behind) u) same stands)

@@ -1,26 +1,23 @@
 -- The iterations of a DO in whose body the element at the DO's variable stands for a scalar, and what is done in the place of the old ones.
-use Rattle.std.proofs.Common.{◌≡◌, ℕ, zero, suc, ◌+◌, ◌≤◌, ℤ, List, [], ◌∷◌, ◌++◌, Bool, true, false, refl, sym, ap, subst, ◌∙◌, ◌⊎◌, inl, inr, append_assoc, append-nil, arith, if◌then◌else◌}
+use Rattle.std.proofs.Common.{◌≡◌, ℕ, zero, suc, ◌+◌, ◌≤◌, List, [], ◌∷◌, ◌++◌, Bool, true, false, refl, sym, ap, subst, ◌∙◌, inl, append_assoc, append-nil, arith, if◌then◌else◌}
 use Rattle.std.specs.Prelude.{◌||◌}
 use Rattle.std.proofs.lemmas.Bool.{both_ways, or_from, or_parts}
-use Rattle.std.proofs.lemmas.List.Folds.{list_any-append}
 use Rattle.ped_base.specs.Lists.{is_same_text, is_among}
 use Rattle.ped_tree.specs.Tree.{Head, StmtTrees}
 use Rattle.ped_sums.specs.Substitution.{statements_substituted}
-use Rattle.ped_store.specs.Cells.{Cell, Element, Private, same_cell}
-use Rattle.ped_store.specs.Stores.{Content, Undefined, Store}
+use Rattle.ped_store.specs.Cells.{Cell, Element, Private}
+use Rattle.ped_store.specs.Stores.{Content, Store}
 use Rattle.ped_store.specs.Acts.{Touch, Place, Act, ended_turn, iterations_of, store_behind}
 use Rattle.ped_acts.specs.Fitting.{Fits, store_after, of_cells}
-use Rattle.ped_acts.specs.Sets.{needs, written, written_by, writes_to}
+use Rattle.ped_acts.specs.Sets.{needs, written, written_by}
 use Rattle.ped_acts.specs.Renaming.{AreRenamed, Renamed, touch}
 use Rattle.ped_acts.proofs.SameCells.{text_itself, other_cell}
 use Rattle.ped_acts.proofs.Stores.{after_append, fits_append}
 use Rattle.ped_acts.proofs.Appending.{touch_append, renamed_append}
 use Rattle.ped_acts.proofs.Renamings.{renamed_leaves, behind_other}
-use Rattle.ped_names.proofs.NameEquality.{same_is}
-use Rattle.ped_eval.specs.Scopes.{Setting, Frame, Scope, turns_of, cell_of, place_of}
+use Rattle.ped_eval.specs.Scopes.{Setting, Scope, turns_of, cell_of, place_of}
 use Rattle.ped_eval.specs.Evaluation.{Seen}
-use Rattle.ped_eval.specs.Statements.{write_touch}
-use Rattle.ped_eval.specs.Loops.{Limits, Entered, entered_with, frame, value_in, inner_variables, left_in_variable, undefined_by, undefined_all, exit_touches, exit_when_none}
+use Rattle.ped_eval.specs.Loops.{Limits, Entered, entered_with, frame, value_in, inner_variables, undefined_by, undefined_all, exit_touches, exit_when_none}
 use Rattle.ped_eval.specs.Runs.{Ending, going, stopped, failed, Run, turns}
 use Rattle.ped_eval.specs.Turns.{body_run}
 use Rattle.ped_runs.specs.Replaying.{Finish, goes_on, has_fault, finish_of, act, Replays}
@@ -40,7 +37,7 @@ same_renamed name (a ∷ acts) [] h = absurd h
 same_renamed name (a ∷ acts) (b ∷ bs) h =
     renamed_append name (a ∷ []) (b ∷ []) acts bs
     (subst (λ (ts : List Touch). AreRenamed name (of_cells ts) (of_cells (b.touches ++ []))) (sym (append-nil a.touches))
-        (subst (λ (ts : List Touch). AreRenamed name (of_cells a.touches) (of_cells ts)) (sym (append-nil b.touches)) h.0.touches))
+    (subst (λ (ts : List Touch). AreRenamed name (of_cells a.touches) (of_cells ts)) (sym (append-nil b.touches)) h.0.touches))
     (same_renamed name acts bs h.1)
 
 same_finish : (name : Cell → Cell) (e : Ending) → finish_of (exchanged_ending name e) ≡ finish_of e
@@ -147,7 +144,7 @@ module _ (p : Setting) (h : Head) (body : StmtTrees) (l : ℕ) (S : Scope) (x ar
             let goes = trip_goes p h body l S x in_order absent seen m n k s q in
             turns_more n k e S at (body_run p (body_with x array h body) l S) (new_trip k s).acts (new_turns n (k + 1) (left_by n k s)) goes_on
             (subst (λ (f : Finish). Replays (body_run p (body_with x array h body) l S (frame e k)) (new_trip k s).acts f) (ap finish_of (at_trip n k s left goes).1 ∙ same_finish (name_in k) (trip k s).ending ∙ goes)
-                ((all_told p (body_with x array h body) (l + 1) (frame e k ∷ S)).replays (exchanged_store (name_in k) s)))
+            ((all_told p (body_with x array h body) (l + 1) (frame e k ∷ S)).replays (exchanged_store (name_in k) s)))
             (turns_replay n (k + 1) (left_by n k s) (next_left n k left) (more_goes p h body l S x in_order absent seen m n k s q))
 
         module _ (shown : Cell → Bool) (hidden : (k : ℕ) → shown (element_in k) ≡ false) (unneeded : (k : ℕ) (s : Store) → finish_of (trip k s).ending ≡ goes_on → needs (trip k s).acts own ≡ false) where
@@ -177,13 +174,14 @@ module _ (p : Setting) (h : Head) (body : StmtTrees) (l : ℕ) (S : Scope) (x ar
               let at_left : left_by n k s ≡ store_behind (exit_when_none n e S) (store_after (trip k s).acts s) = after_append (trip k s).acts (end n ∷ []) s in
               let v = store_behind (exit_when_none n e S) u in
               let more = turns_stand n (k + 1) (left_by n k s) v rest (next_left n k left) (more_goes p h body l S x in_order absent seen m n k s q)
-                  (λ j. rest_untouched (trip k s).acts (end n) (old ++ rest) (element_in j) (there j))
-                  (subst (λ (w : Store). Agrees shown own (old ++ rest) w v) (sym at_left) behind_end) in
+              (λ j. rest_untouched (trip k s).acts (end n) (old ++ rest) (element_in j) (there j))
+              (subst (λ (w : Store). Agrees shown own (old ++ rest) w v) (sym at_left) behind_end) in
               let gone : store_after (old_turns (suc n) k s).acts s ≡ store_after old (left_by n k s) =
-                  ap (λ (zs : List Act). store_after zs s) (ap (λ (r : Run). r.acts) apart) ∙ after_append ((trip k s).acts ++ end n ∷ []) old s in
-              let new_gone : store_after (new_turns (suc n) k s) t ≡ store_after (new_turns n (k + 1) (left_by n k s)) v = after_append new (end n ∷ new_turns n (k + 1) (left_by n k s)) t in
-              (fits_append new (end n ∷ new_turns n (k + 1) (left_by n k s)) t first (exit_when_found n e S u, more.0),
-               λ c w d. ap (λ (z : Store). z c) gone ∙ more.1 c w d ∙ ap (λ (z : Store). z c) (sym new_gone))
+              ap (λ (zs : List Act). store_after zs s) (ap (λ (r : Run). r.acts) apart) ∙ after_append ((trip k s).acts ++ end n ∷ []) old s in
+              let new_gone : store_after (new_turns (suc n) k s) t ≡ store_after (new_turns n (k + 1) (left_by n k s)) v = after_append new (end n ∷ new_turns n (k + 1) (left_by n k s)) t in (
+                fits_append new (end n ∷ new_turns n (k + 1) (left_by n k s)) t first (exit_when_found n e S u, more.0),
+                λ c w d. ap (λ (z : Store). z c) gone ∙ more.1 c w d ∙ ap (λ (z : Store). z c) (sym new_gone),
+              )
             where
               rest_untouched : (xs : List Act) (a : Act) (ys : List Act) (c : Cell) → touch (xs ++ a ∷ ys) c ≡ false → touch ys c ≡ false
               rest_untouched xs a ys c g = (or_parts (touch (a ∷ []) c) (touch ys c) (sym (touch_append (a ∷ []) ys c) ∙ (or_parts (touch xs c) (touch (a ∷ ys) c) (sym (touch_append xs (a ∷ ys) c) ∙ g)).1)).1
@@ -222,7 +220,7 @@ module _ (p : Setting) (h : Head) (body : StmtTrees) (l : ℕ) (S : Scope) (x ar
           trip_leaves : (k : ℕ) (s t : Store) → AreLeft 1 k → finish_of (trip k s).ending ≡ goes_on → store_after (new_trip k s).acts t (element_in k) ≡ store_after (trip k s).acts s own
           trip_leaves k s t left goes =
               sym (renamed_leaves (name_in k) (trip k s).acts (new_trip k s).acts s t own (renamed_at 0 k s left goes) (λ d w q. sym (twice own (element_in k) d) ∙ ap (name_in k) q ∙ twice own (element_in k) own)
-                  (inl (subst (λ (j : ℕ). (u : Store) → finish_of (trip j u).ending ≡ goes_on → written (trip j u).acts own ≡ true) (last_is k left) writes s goes))
+              (inl (subst (λ (j : ℕ). (u : Store) → finish_of (trip j u).ending ≡ goes_on → written (trip j u).acts own ≡ true) (last_is k left) writes s goes))
               ∙ ap (store_after (new_trip k s).acts t) (swapped_first own (element_in k) own refl))
 
           pub turns_leave : (n k : ℕ) (s t : Store) → AreLeft (suc n) k → finish_of (old_turns (suc n) k s).ending ≡ goes_on → store_after (new_turns (suc n) k s) t (element_in e.count) ≡ store_after (old_turns (suc n) k s).acts s own

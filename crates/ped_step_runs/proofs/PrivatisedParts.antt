@@ -1,5 +1,5 @@
 -- In a run each execution of a DO whose iterations get one more private scalar may be exchanged for what the new DO does.
-use Rattle.std.proofs.Common.{◌≡◌, ℕ, ◌+◌, List, [], ◌∷◌, ◌++◌, map, Bool, true, false, Option, Some, None, Result, Ok, Err, refl, sym, ap, subst, ◌∙◌, append_assoc, append-nil, if◌then◌else◌}
+use Rattle.std.proofs.Common.{◌≡◌, ℕ, ◌+◌, List, [], ◌∷◌, ◌++◌, Bool, true, false, Option, Some, None, Result, Ok, Err, refl, sym, ap, subst, ◌∙◌, append-nil, if◌then◌else◌}
 use Rattle.std.proofs.lemmas.Bool.{or_parts}
 use Rattle.std.proofs.lemmas.List.{map-append}
 use Rattle.ped_base.specs.Lists.{is_among}
@@ -20,7 +20,7 @@ use Rattle.ped_eval.specs.Outcomes.{Ends}
 use Rattle.ped_flow.specs.Questions.{LoopOf}
 use Rattle.ped_flow_runs.specs.Exits.{IsOneToOne, IsExit}
 use Rattle.ped_flow_runs.proofs.Standing.{Stand, whole_stands, first_stands, rest_stands, inner_stands, else_stands, is_there}
-use Rattle.ped_runs.specs.Replaying.{goes_on, stops, faults, finish_of, Replays}
+use Rattle.ped_runs.specs.Replaying.{goes_on, faults, finish_of, Replays}
 use Rattle.ped_runs.proofs.Joined.{replays_nothing, statements_more, entry_fails}
 use Rattle.ped_steps.specs.Replacing.{alone}
 use Rattle.ped_step_runs.specs.Pasting.{DoInstead, StandInstead}
@@ -80,7 +80,7 @@ module _ (t : ProgramTree) (l : ℕ) (loop : LoopOf t l) (x : List ℕ) (p : Set
       let more = more_private p h body l S x in_order absent in
       subst (λ (acts : List Act). Replays (run_all p (alone (Do more body)) l S) acts goes_on) (append-nil (new_loop p h body l S x in_order absent (limits (names_in p S) h s).seen entered.0 s) ∙ sym (fresh_is S s entered.0 entered.1))
       (statements_more p (Do more body) no_stmts l S (new_loop p h body l S x in_order absent (limits (names_in p S) h s).seen entered.0 s) [] goes_on
-          (loop_replays p h body l S x in_order absent (limits (names_in p S) h s).seen entered.0 s entered.1 goes) replays_nothing)
+      (loop_replays p h body l S x in_order absent (limits (names_in p S) h s).seen entered.0 s entered.1 goes) replays_nothing)
 
   -- no iteration of the DO has a copy of the scalar
   spare_private : (g : Head) (b : StmtTrees) (n : ℕ) (seen : List Seen) (m : Limits) (k : ℕ) → g ≡ h → is_among x (frame (entered_with p n g b seen m) k).private ≡ false
@@ -133,10 +133,10 @@ module _ (t : ProgramTree) (l : ℕ) (loop : LoopOf t l) (x : List ℕ) (p : Set
           let seen = (limits (names_in p S) h u).seen in
           let did = (run p (Do h body) l S u).acts in
           let untouched : (j : ℕ) → touch (did ++ done.behind) (copy p h body l S x in_order absent seen m j) ≡ false = λ j.
-              (or_parts (touch done.front (copy p h body l S x in_order absent seen m j)) (touch (did ++ done.behind) (copy p h body l S x in_order absent seen m j))
-              (sym (touch_append done.front (did ++ done.behind) (copy p h body l S x in_order absent seen m j)) ∙ ap (λ (zs : List Act). touch zs (copy p h body l S x in_order absent seen m j)) (sym done.whole)
-              ∙ copies_untouched start (copy p h body l S x in_order absent seen m j) (iterations_of (turns_of S)) j (copy_is S seen m j))).1 in
+          (or_parts (touch done.front (copy p h body l S x in_order absent seen m j)) (touch (did ++ done.behind) (copy p h body l S x in_order absent seen m j))
+          (sym (touch_append done.front (did ++ done.behind) (copy p h body l S x in_order absent seen m j)) ∙ ap (λ (zs : List Act). touch zs (copy p h body l S x in_order absent seen m j)) (sym done.whole)
+          ∙ copies_untouched start (copy p h body l S x in_order absent seen m j) (iterations_of (turns_of S)) j (copy_is S seen m j))).1 in
           let dead = unwanted S done.behind (execution_left p t start l loop S u ends place done goes) in
           let stands = loop_stands p h body l S x in_order absent seen m u entered.1 goes shown done.behind (λ k. hidden x (iterations_of (turns_of (frame (entered_with p l h body seen m) k ∷ S))))
-              (λ k v going. unneeded S seen m k v (ends_so (run_all p body (l + 1) (frame (entered_with p l h body seen m) k ∷ S) v).ending going)) untouched dead in
+          (λ k v going. unneeded S seen m k v (ends_so (run_all p body (l + 1) (frame (entered_with p l h body seen m) k ∷ S) v).ending going)) untouched dead in
           subst (λ (zs : List Act). StandsFor (record { agreed = wants shown (did ++ done.behind); old = did; new = zs }) (wants shown done.behind) u) (sym (fresh_is S u m entered.1)) stands

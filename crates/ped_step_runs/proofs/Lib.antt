@@ -7,6 +7,10 @@ pub mod Uncopied
 pub mod Privatised
 pub mod PrivatisedLoops
 pub mod PrivatisedParts
+pub mod ExpandedKept
+pub mod ExpandedTurns
+pub mod ExpandedLoops
+pub mod ExpandedParts
 pub mod NamesKept
 pub mod SameNames
 pub mod ReplacedTrees

@@ -1,33 +1,24 @@
 -- A DO whose iterations have one more private scalar does on the copies what it did on the scalar's own cell.
-use Rattle.std.proofs.Common.{◌≡◌, ℕ, zero, suc, ◌+◌, ℤ, List, [], ◌∷◌, ◌++◌, map, length, Bool, true, false, eqb, refl, sym, ap, subst, ◌∙◌, ◌⊎◌, inl, inr, append_assoc, append-nil, if◌then◌else◌}
+use Rattle.std.proofs.Common.{◌≡◌, ℕ, suc, List, [], ◌∷◌, ◌++◌, map, Bool, true, false, eqb, refl, sym, ap, subst, ◌∙◌, inl, inr, if◌then◌else◌}
 use Rattle.std.specs.Prelude.{◌||◌, not, ◌&&◌}
 use Rattle.std.proofs.lemmas.Bool.{both_ways, or_parts}
 use Rattle.std.proofs.lemmas.List.{map-append}
-use Rattle.ped_base.specs.Lists.{is_among}
-use Rattle.ped_tree.specs.Tree.{Head, StmtTrees}
-use Rattle.ped_store.specs.Cells.{Cell, Private, same_cell}
-use Rattle.ped_store.specs.Stores.{Content, Undefined, Store}
-use Rattle.ped_store.specs.Acts.{Touch, Place, Act, ended_turn, iterations_of, store_behind}
+use Rattle.ped_store.specs.Cells.{Cell, same_cell}
+use Rattle.ped_store.specs.Stores.{Undefined, Store}
+use Rattle.ped_store.specs.Acts.{Touch, Act, store_behind}
 use Rattle.ped_acts.specs.Fitting.{Find, Fits, store_after, touches_of, of_cells, has_cell}
-use Rattle.ped_acts.specs.Sets.{needs, written, wants, writes_to, written_by}
-use Rattle.ped_acts.specs.Renaming.{AreRenamed, Renamed, IsOneToOne, IsFree, touch}
-use Rattle.ped_acts.proofs.SameCells.{cell_itself, cell_is, other_cell}
-use Rattle.ped_acts.proofs.Stores.{behind_append, after_append, find_append, fits_append, fits_first, fits_rest, put_other}
-use Rattle.ped_acts.proofs.Appending.{touch_append, written_append}
-use Rattle.ped_acts.proofs.Renamings.{needed_touched, written_touched, renamed_fits, renamed_leaves, agreeing_leaves}
+use Rattle.ped_acts.specs.Sets.{needs, written, wants}
+use Rattle.ped_acts.specs.Renaming.{AreRenamed, Renamed, touch}
+use Rattle.ped_acts.proofs.SameCells.{cell_itself, other_cell}
+use Rattle.ped_acts.proofs.Stores.{find_append}
+use Rattle.ped_acts.proofs.Appending.{touch_append}
+use Rattle.ped_acts.proofs.Renamings.{needed_touched, renamed_fits, renamed_leaves, agreeing_leaves}
 use Rattle.ped_acts.proofs.Exchanging.{needed_wanted, wanted_before}
-use Rattle.ped_eval.specs.Scopes.{Setting, Frame, Scope, turns_of, cell_of, place_of}
-use Rattle.ped_eval.specs.Evaluation.{Seen}
+use Rattle.ped_eval.specs.Scopes.{Scope, cell_of}
 use Rattle.ped_eval.specs.Statements.{write_touch}
-use Rattle.ped_eval.specs.Loops.{Limits, Entered, entered_with, frame, undefined_by, undefined_all, left_in_variable, exit_touches, exit_when_none}
-use Rattle.ped_eval.specs.Runs.{Ending, Run, turns, run_all}
-use Rattle.ped_eval.specs.Turns.{body_run}
-use Rattle.ped_runs.specs.Replaying.{Finish, goes_on, stops, faults, is_going, finish_of, act, behind, Replays}
-use Rattle.ped_runs.proofs.Joined.{replays_nothing, turns_more, turns_apart, turns_alone}
-use Rattle.ped_runs.proofs.StatementsTold.{all_told}
-use Rattle.ped_step_runs.specs.Exchanging.{IsExchange, AreExchanged, exchanged_touch, exchanged_act, exchanged_acts, swapped}
-use Rattle.ped_step_runs.proofs.Replayed.{replays_in}
-use Rattle.ped_step_runs.proofs.Swapped.{swapped_other, twice, swap_exchanges, of_scalar, private_exchanged}
+use Rattle.ped_eval.specs.Loops.{Entered, undefined_by, undefined_all, left_in_variable, exit_touches, exit_when_none}
+use Rattle.ped_step_runs.specs.Exchanging.{exchanged_touch, exchanged_acts, swapped}
+use Rattle.ped_step_runs.proofs.Swapped.{swapped_other, twice}
 
 -- touches on renamed cells are those of the renamed acts
 renamed_touches : (name : Cell → Cell) (ts : List Touch) → AreRenamed name (of_cells ts) (of_cells (map (exchanged_touch name) ts))
@@ -93,8 +84,8 @@ module _ (shown : Cell → Bool) (own : Cell) where
   differ : (c : Cell) → same_cell own c ≡ false → own ≡ c → ⊥
   differ c n e = both_ways (same_cell own c) n (ap (same_cell own) (sym e) ∙ cell_itself own)
 
-  -- acts that don't need the scalar's own cell, done on a copy that nothing touches
-  module _ (copy : Cell) (acts more : List Act) (s t : Store) (unneeded : needs acts own ≡ false) (untouched : touch (acts ++ more) copy ≡ false) (hidden : shown copy ≡ false) (agree : Agrees (acts ++ more) s t) (fits : Fits acts s) where
+  -- acts that don't need the scalar's own cell, done on a cell that nothing touches: a copy, or another
+  module _ (copy : Cell) (acts others more : List Act) (s t : Store) (renamed : Renamed (swapped own copy) acts others) (unneeded : needs acts own ≡ false) (untouched : touch (acts ++ more) copy ≡ false) (hidden : shown copy ≡ false) (agree : Agrees (acts ++ more) s t) (fits : Fits acts s) where
     abbrev name : Cell → Cell
     name = swapped own copy
 
@@ -113,16 +104,16 @@ module _ (shown : Cell → Bool) (own : Cell) where
     not_copy : (c : Cell) → needs acts c ≡ true → copy ≡ c → ⊥
     not_copy c h e = both_ways (touch acts copy) apart.0 (ap (touch acts) e ∙ needed_touched (touches_of acts) c h)
 
-    pub body_fits : Fits (exchanged_acts name acts) t
-    body_fits = renamed_fits name acts (exchanged_acts name acts) s t (exchanged_renamed name acts) (λ c d a b q. injective c d q)
+    pub body_fits : Fits others t
+    body_fits = renamed_fits name acts others s t renamed (λ c d a b q. injective c d q)
         (λ c h. agree c (needed_wanted shown acts more c h) (other_cell own c (not_own c h)) ∙ ap t (sym (kept c (not_own c h) (not_copy c h)))) fits
 
-    pub body_agrees : Agrees more (store_after acts s) (store_after (exchanged_acts name acts) t)
+    pub body_agrees : Agrees more (store_after acts s) (store_after others t)
     body_agrees c w n =
         let same : name c ≡ c = kept c (differ c n) (λ e. both_ways (wants shown more c) (ap (wants shown more) (sym e) ∙ unwanted shown more copy apart.1 hidden) w) in
-        renamed_leaves name acts (exchanged_acts name acts) s t c (exchanged_renamed name acts) (λ d k q. injective d c q)
+        renamed_leaves name acts others s t c renamed (λ d k q. injective d c q)
         (elim (wanted_before shown acts more c w) [ inl k ↦ inr (agree c k n ∙ ap t (sym same)) | inr k ↦ inl k ])
-        ∙ ap (store_after (exchanged_acts name acts) t) same
+        ∙ ap (store_after others t) same
 
   -- an act, and one that writes the scalar's own cell, too
   pub act_agrees : (a b : Act) (more : List Act) (s t : Store) → ((c : Cell) → same_cell own c ≡ false → store_behind b.touches t c ≡ store_behind a.touches t c) → Agrees (a ∷ more) s t → Agrees more (store_behind a.touches s) (store_behind b.touches t)

@@ -2,6 +2,7 @@ pub mod ExchangedSight
 pub mod ExchangedRuns
 pub mod Replayed
 pub mod RunCells
+pub mod RunPlaces
 pub mod Swapped
 pub mod Uncopied
 pub mod Privatised
@@ -23,6 +24,9 @@ pub mod PrivatisedPrograms
 pub mod PrivatisedRacesCells
 pub mod PrivatisedRacesOrigins
 pub mod PrivatisedRaces
+pub mod ExpandedRacesOrigins
+pub mod ExpandedRacesParts
+pub mod ExpandedRaces
 pub mod KeptMeanings
 pub mod RenumberedRuns
 pub mod RenumberedPrograms

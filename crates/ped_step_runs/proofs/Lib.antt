@@ -27,6 +27,9 @@ pub mod PrivatisedRaces
 pub mod ExpandedRacesOrigins
 pub mod ExpandedRacesParts
 pub mod ExpandedRaces
+pub mod ToldSights
+pub mod ToldIndices
+pub mod ToldRuns
 pub mod KeptMeanings
 pub mod RenumberedRuns
 pub mod RenumberedPrograms

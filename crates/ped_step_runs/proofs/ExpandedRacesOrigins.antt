@@ -102,6 +102,9 @@ touch_from (b ∷ acts) v i = elim (in_parts v b.touches (touches_of acts) i) [
 pub touch_there : (acts : List Act) (a : Act) (v : Touch) (c : Cell) → IsIn a acts → IsIn v a.touches → has_cell v.manner ≡ true → v.cell ≡ c → touch acts c ≡ true
 touch_there acts a v c i j h e = any_of (λ (t : Touch). has_cell t.manner && same_cell t.cell c) (touches_of acts) v (touch_in acts a v i j) (ap (λ (b : Bool). b && same_cell v.cell c) h ∙ is_cell v.cell c e)
 
+pub write_there : (acts : List Act) (a : Act) (v : Touch) → IsIn a acts → IsIn v a.touches → is_write v.manner ≡ true → written acts v.cell ≡ true
+write_there acts a v i j h = any_of (λ (t : Touch). writes_to t v.cell) (touches_of acts) v (touch_in acts a v i j) (ap (λ (b : Bool). b && same_cell v.cell v.cell) h ∙ is_cell v.cell v.cell refl)
+
 -- where acts write a cell, one of them has a touch that does
 pub write_in : (acts : List Act) (c : Cell) → written acts c ≡ true → (a : Act) × IsIn a acts × (v : Touch) × IsIn v a.touches × (v.cell ≡ c) × (is_write v.manner ≡ true)
 write_in acts c h =

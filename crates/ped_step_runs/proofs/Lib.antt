@@ -27,9 +27,11 @@ pub mod PrivatisedRaces
 pub mod ExpandedRacesOrigins
 pub mod ExpandedRacesParts
 pub mod ExpandedRaces
+pub mod SparedVariables
 pub mod ToldSights
 pub mod ToldIndices
 pub mod ToldRuns
+pub mod ToldRaces
 pub mod KeptMeanings
 pub mod RenumberedRuns
 pub mod RenumberedPrograms

@@ -88,7 +88,7 @@ module _ (t : ProgramTree) (l : ℕ) (loop : LoopOf t l) (x array : List ℕ) (l
   module _ (p : Setting) (alike : (S : Scope) (s : Store) → run q (Do h body) l S s ≡ run p (Do h body) l S s) (in_order : h.parallel ≡ false) (absent : is_among x h.private ≡ false) (not_variable : is_same_text x h.variable ≡ false) (substitutes : Substitutes q)
       (may : (S : Scope) → IsPlaceOf p t l S → (s : Store) (m : Limits) → IsEnteredBy S s m → let e = entered_with q l h body (limits (names_in q S) h s).seen m in (k : ℕ) → 1 ≤ k → k ≤ e.count → MayStandFor q (frame e k ∷ S) body x array h.variable (value_in e k))
       (kept : live ≡ true → (S : Scope) → IsPlaceOf p t l S → (s : Store) (m : Limits) → IsEnteredBy S s m → IsKept q h body l S x array (limits (names_in q S) h s).seen m last) where
-    substituted_at : (S : Scope) → IsPlaceOf p t l S → (s : Store) (m : Limits) → IsEnteredBy S s m → let seen = (limits (names_in q S) h s).seen in (k : ℕ) → 1 ≤ k → k ≤ (entered_with q l h body seen m).count → IsSubstituted q h body l S x array seen m k
+    pub substituted_at : (S : Scope) → IsPlaceOf p t l S → (s : Store) (m : Limits) → IsEnteredBy S s m → let seen = (limits (names_in q S) h s).seen in (k : ℕ) → 1 ≤ k → k ≤ (entered_with q l h body seen m).count → IsSubstituted q h body l S x array seen m k
     substituted_at S place s m r k from to u sound =
         let seen = (limits (names_in q S) h s).seen in
         let e = entered_with q l h body seen m in

@@ -4,6 +4,7 @@ use Rattle.std.specs.Prelude.{◌&&◌, ◌||◌}
 use Rattle.std.proofs.lemmas.Bool.{and_parts, both_ways}
 use Rattle.ped_base.specs.Lists.{is_among}
 use Rattle.ped_tree.specs.Tree.{Head, StmtTrees, Do, ProgramTree}
+use Rattle.ped_symbols.specs.NameRefusals.{IsValid}
 use Rattle.ped_store.specs.Cells.{Cell, Scalar, Element, same_cell}
 use Rattle.ped_store.specs.Stores.{Store}
 use Rattle.ped_store.specs.Acts.{Turn, Place, Act}
@@ -19,6 +20,7 @@ use Rattle.ped_acts.proofs.Conflicting.{access_place}
 use Rattle.ped_acts.proofs.RaceFree.{no_race_before, no_race_from, apart_flip}
 use Rattle.ped_eval.specs.Scopes.{Setting, Scope, cell_of, names_in}
 use Rattle.ped_eval.specs.Loops.{Limits, limits, entered_with}
+use Rattle.ped_eval.specs.Outcomes.{setting_of}
 use Rattle.ped_eval.specs.Runs.{Run, run, run_all}
 use Rattle.ped_flow.specs.Questions.{LoopOf}
 use Rattle.ped_flow_runs.specs.Exits.{IsOneToOne}
@@ -32,6 +34,7 @@ use Rattle.ped_step_runs.proofs.ExpandedLoops.{IsKept}
 use Rattle.ped_step_runs.proofs.ExpandedParts.{IsEnteredBy, expanded_acts, expanded_is}
 use Rattle.ped_step_runs.proofs.ExpandedRacesOrigins.{HasOrigin, IsTold, Comes, stays}
 use Rattle.ped_step_runs.proofs.ExpandedRacesParts.{acts_come}
+use Rattle.ped_step_runs.proofs.ToldRaces.{told_races_not}
 
 number_itself : (n : ℕ) → eqb n n ≡ true
 number_itself n = grind (arith, eqb-true)
@@ -197,3 +200,11 @@ module _ (t : ProgramTree) (l : ℕ) (loop : LoopOf t l) (x array : List ℕ) (l
             let i = first_in b c (accesses (new_parts parts)) s in
             let j = second_in b c (accesses (new_parts parts)) s in
             by b c i j (come b i) (come c j)
+
+    -- so in a valid program that does the new acts
+    pub expanded_run_race_free : (u : ProgramTree) → IsValid u → (parts : List Part) → old_parts parts ≡ whole → AreFresh parts → new_parts parts ≡ (run_all (setting_of u) u.body 1 [] start).acts
+        → HasNoRace (accesses (old_parts parts)) → HasNoRace (accesses (new_parts parts))
+    expanded_run_race_free u valid parts is fresh done free =
+        expanded_race_free parts is fresh
+        (subst (λ (zs : List Act). (b c : Access) → IsTold zs b → IsIn c (accesses zs) → (race b c ≡ false) × (race c b ≡ false)) (sym done) (told_races_not u valid start))
+        free

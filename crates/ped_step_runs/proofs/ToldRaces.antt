@@ -113,24 +113,32 @@ module _ (t : ProgramTree) (valid : IsValid t) (start : Store) where
     | inr s ↦ s
   ]
 
+  -- a touch doesn't write a variable that is told in another iteration of a PARALLEL DO
+  told_unwritten : (ts : List Turn) (c : Cell) → IsIndexAt t ts c → (d : Act) (v : Touch) → IsIn d acts → IsIn v d.touches → is_write v.manner ≡ true → c ≡ v.cell → are_apart ts d.place.turns ≡ true → ⊥
+  told_unwritten ts c k d v i w write same apart =
+      let near : Near (k.front ++ k.last ∷ []) v.cell = subst (λ (z : Cell). Near (k.front ++ k.last ∷ []) z) same k.near in
+      let good : Good Any d = all_good Any (λ scope x. Unit {0}) (λ scope x h. tt) (λ scope e n body q h x i. tt) p t.body 1 [] start (λ x i. tt) d i in
+      let at : At d.place.turns v.cell = at_of d.place.turns v.manner v.cell v.reference (good.0 v w) in
+      let f = near_front (k.front ++ k.last ∷ []) k.more d.place.turns v.cell (ap (λ (us : List Turn). are_apart us d.place.turns) (sym k.round) ∙ apart) near at in
+      let m = same_among k.last (k.front ++ k.last ∷ []) f.front (in_right k.last k.front (k.last ∷ []) (inl refl)) f.same in
+      spares_in d i m.0 (subst (λ (us : List Turn). IsIn m.0 us) (sym f.is) (in_left m.0 f.front f.rest m.1)) k.head k.body (ap (λ (z : ℕ). statement_with z t) m.2 ∙ k.stands) v w write
+      (near_named (k.front ++ k.last ∷ []) v.cell k.head.variable near (ap cell_name (sym same) ∙ k.variable))
+
   -- what a place tells conflicts with nothing in another iteration of a PARALLEL DO
   told_alone : (b c : Access) → IsTold acts b → IsIn c (accesses acts) → are_apart b.place.turns c.place.turns ≡ true → conflict b c ≡ true → ⊥
   told_alone b c told j apart meets =
       let d = accesses_from acts c j in
       let w = touch_of d.0 d.0.touches c d.2 in
-      let v = w.0 in
-      let k : IsIndexAt t told.by.place.turns told.told.cell = subst (λ (m : Manner). Tells t told.by.place.turns m told.told.cell) told.manner (program_tells t start told.by told.found told.told told.among) in
-      let parts = and_parts (same_cell told.told.cell v.cell) (is_write told.told.manner || is_write v.manner) ((λ i. conflict (sym told.is i) (sym w.3 i)) ∙ meets) in
-      let same : told.told.cell ≡ v.cell = cell_is told.told.cell v.cell parts.0 in
-      let write : is_write v.manner ≡ true = or_second (is_write told.told.manner) (is_write v.manner) (ap is_write told.manner) parts.1 in
-      let near : Near (k.front ++ k.last ∷ []) v.cell = subst (Near (k.front ++ k.last ∷ [])) same k.near in
-      let good : Good Any d.0 = all_good Any (λ scope x. Unit {0}) (λ scope x h. tt) (λ scope e n body q h x i. tt) p t.body 1 [] start (λ x i. tt) d.0 d.1 in
-      let at : At d.0.place.turns v.cell = at_of d.0.place.turns v.manner v.cell v.reference (good.0 v w.1) in
-      let apart_so : are_apart ((k.front ++ k.last ∷ []) ++ k.more) d.0.place.turns ≡ true = (λ i. are_apart (sym k.round i) d.0.place.turns) ∙ (λ i. are_apart (sym told.is i).place.turns (sym w.3 i).place.turns) ∙ apart in
-      let f = near_front (k.front ++ k.last ∷ []) k.more d.0.place.turns v.cell apart_so near at in
-      let m = same_among k.last (k.front ++ k.last ∷ []) f.front (in_right k.last k.front (k.last ∷ []) (inl refl)) f.same in
-      spares_in d.0 d.1 m.0 (subst (IsIn m.0) (sym f.is) (in_left m.0 f.front f.rest m.1)) k.head k.body (ap (λ (z : ℕ). statement_with z t) m.2 ∙ k.stands) v w.1 write
-      (near_named (k.front ++ k.last ∷ []) v.cell k.head.variable near (ap cell_name (sym same) ∙ k.variable))
+      let parts = and_parts (same_cell told.told.cell w.0.cell) (is_write told.told.manner || is_write w.0.manner) ((λ i. conflict (sym told.is i) (sym w.3 i)) ∙ meets) in
+      told_unwritten told.by.place.turns told.told.cell (by_manner told.told.manner told.manner (program_tells t start told.by told.found told.told told.among)) d.0 w.0 d.1 w.1
+      (or_second (is_write told.told.manner) (is_write w.0.manner) (ap is_write told.manner) parts.1)
+      (cell_is told.told.cell w.0.cell parts.0)
+      ((λ i. are_apart (sym told.is i).place.turns (sym w.3 i).place.turns) ∙ apart)
+    where
+      by_manner : (m : Manner) → m ≡ is_told → Tells t told.by.place.turns m told.told.cell → IsIndexAt t told.by.place.turns told.told.cell
+      by_manner is_told e k = k
+      by_manner reads e k = absurd cc
+      by_manner writes e k = absurd cc
 
   flipped : (b c : Access) → IsIn b (accesses acts) → (a : Act) → IsIn a acts → c.place ≡ a.place → are_apart b.place.turns c.place.turns ≡ true → are_apart c.place.turns b.place.turns ≡ true
   flipped b c i a k there apart =

@@ -1,13 +1,13 @@
 -- A DO with an expanded scalar makes no race: where the old run has none, the new acts have none.
-use Rattle.std.proofs.Common.{◌≡◌, ℕ, ◌≤◌, ℤ, List, [], ◌∷◌, ◌++◌, Bool, true, false, Ok, eqb, eqb-true, refl, sym, ap, subst, ◌∙◌, ◌⊎◌, inl, inr, arith, if◌then◌else◌}
+use Rattle.std.proofs.Common.{◌≡◌, ℕ, ◌≤◌, ℤ, List, [], ◌∷◌, ◌++◌, Bool, true, false, eqb, eqb-true, refl, sym, ap, subst, ◌∙◌, ◌⊎◌, inl, inr, arith, if◌then◌else◌}
 use Rattle.std.specs.Prelude.{◌&&◌, ◌||◌}
 use Rattle.std.proofs.lemmas.Bool.{and_parts, both_ways}
 use Rattle.ped_base.specs.Lists.{is_among}
 use Rattle.ped_tree.specs.Tree.{Head, StmtTrees, Do, ProgramTree}
 use Rattle.ped_symbols.specs.NameRefusals.{IsValid}
-use Rattle.ped_store.specs.Cells.{Cell, Scalar, Element, same_cell}
+use Rattle.ped_store.specs.Cells.{Scalar, Element, same_cell}
 use Rattle.ped_store.specs.Stores.{Store}
-use Rattle.ped_store.specs.Acts.{Turn, Place, Act}
+use Rattle.ped_store.specs.Acts.{Turn, Act}
 use Rattle.ped_store.specs.Races.{Access, accesses_of, accesses, conflict, are_apart, race, HasNoRace}
 use Rattle.ped_acts.specs.Fitting.{store_after}
 use Rattle.ped_acts.specs.Orders.{IsIn, StandsBefore}

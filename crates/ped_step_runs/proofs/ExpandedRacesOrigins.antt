@@ -1,12 +1,10 @@
 -- Where the accesses come from that are made in the place of an execution of a DO with an expanded scalar.
-use Rattle.std.proofs.Common.{◌≡◌, ℕ, zero, suc, ◌+◌, ◌≤◌, ℤ, List, [], ◌∷◌, ◌++◌, map, cond, Bool, true, false, refl, sym, ap, subst, ◌∙◌, ◌⊎◌, inl, inr, append_assoc, append-nil, arith}
+use Rattle.std.proofs.Common.{◌≡◌, ℕ, ℤ, List, [], ◌∷◌, ◌++◌, map, cond, Bool, true, false, refl, sym, ap, subst, ◌∙◌, ◌⊎◌, inl, inr, append-nil}
 use Rattle.std.specs.Prelude.{not, ◌&&◌, ◌||◌}
 use Rattle.std.specs.List.{filter, list_any}
 use Rattle.std.proofs.lemmas.Bool.{both_ways, and_parts}
-use Rattle.ped_base.specs.Lists.{is_among}
-use Rattle.ped_tree.specs.Tree.{Head, StmtTrees, Do}
 use Rattle.ped_store.specs.Cells.{Cell, Scalar, Element, Private, In, Out, same_cell}
-use Rattle.ped_store.specs.Stores.{Content, Store}
+use Rattle.ped_store.specs.Stores.{Content}
 use Rattle.ped_store.specs.Acts.{Manner, reads, writes, is_told, Touch, Turn, Place, did, Act}
 use Rattle.ped_store.specs.Races.{Access, is_lines, is_write, is_access, accesses_of, accesses}
 use Rattle.ped_acts.specs.Fitting.{touches_of, has_cell, of_cells}
@@ -17,8 +15,7 @@ use Rattle.ped_acts.proofs.Lists.{in_left, in_right, in_parts}
 use Rattle.ped_acts.proofs.SameCells.{cell_is, is_cell}
 use Rattle.ped_acts.proofs.Renamings.{or_left, or_right, or_either}
 use Rattle.ped_acts.proofs.Conflicting.{access_by, access_in, accesses_in}
-use Rattle.ped_eval.specs.Scopes.{Setting, Scope, turns_of, cell_of, place_of}
-use Rattle.ped_eval.specs.Statements.{read_touch, write_touch}
+use Rattle.ped_eval.specs.Scopes.{Scope, turns_of, cell_of}
 use Rattle.ped_runs.specs.Replaying.{act}
 use Rattle.ped_step_runs.specs.Exchanging.{swapped}
 use Rattle.ped_step_runs.specs.Substituting.{IsSameOn, AreSameOn}

@@ -1,30 +1,24 @@
 -- What is done in the place of the executions of a DO with an expanded scalar has accesses that come from those of the old run.
-use Rattle.std.proofs.Common.{◌≡◌, ℕ, zero, suc, ◌+◌, ◌≤◌, ℤ, List, [], ◌∷◌, ◌++◌, Bool, true, false, Ok, refl, sym, ap, subst, ◌∙◌, ◌⊎◌, inl, inr, append_assoc, arith}
+use Rattle.std.proofs.Common.{◌≡◌, ℕ, zero, suc, ◌+◌, ◌≤◌, ℤ, List, [], ◌∷◌, ◌++◌, Bool, true, false, Ok, refl, sym, ap, subst, ◌∙◌, inl, inr, append_assoc, arith}
 use Rattle.ped_base.specs.Lists.{is_among}
-use Rattle.ped_tree.specs.Tree.{Head, StmtTrees, Do, ProgramTree}
+use Rattle.ped_tree.specs.Tree.{Head, StmtTrees, Do}
 use Rattle.ped_tree.specs.Numbering.{statement_count}
 use Rattle.ped_store.specs.Cells.{Cell, Scalar, Element}
 use Rattle.ped_store.specs.Stores.{Store}
 use Rattle.ped_store.specs.Acts.{Act}
 use Rattle.ped_store.specs.Races.{Access, accesses_of}
-use Rattle.ped_acts.specs.Fitting.{store_after}
 use Rattle.ped_acts.specs.Orders.{IsIn}
 use Rattle.ped_acts.specs.Renaming.{touch}
 use Rattle.ped_acts.specs.Sets.{written}
-use Rattle.ped_acts.specs.Pieces.{Part, same, changed, old_parts, new_parts}
 use Rattle.ped_acts.proofs.Lists.{in_left, in_right, in_parts}
 use Rattle.ped_acts.proofs.Conflicting.{access_by, access_in, accesses_in}
 use Rattle.ped_eval.specs.Scopes.{Setting, Scope, turns_of, cell_of, names_in, place_of}
 use Rattle.ped_eval.specs.Evaluation.{Seen}
 use Rattle.ped_eval.specs.Loops.{Limits, limits, frame, value_in}
-use Rattle.ped_eval.specs.Runs.{Run, run, run_all}
-use Rattle.ped_flow.specs.Questions.{LoopOf}
+use Rattle.ped_eval.specs.Runs.{Run, run}
 use Rattle.ped_runs.specs.Replaying.{goes_on, has_fault, finish_of}
-use Rattle.ped_step_runs.specs.Pasting.{IsPlaceOf, AreExecutions}
 use Rattle.ped_step_runs.specs.Substituting.{AreSameOn}
 use Rattle.ped_step_runs.proofs.PrivatisedLoops.{turns_are, more_goes, trip_goes, loop_is, turns_go}
-use Rattle.ped_step_runs.proofs.PrivatisedParts.{do_entered}
-use Rattle.ped_step_runs.proofs.PrivatisedRacesOrigins.{accesses_from}
 use Rattle.ped_step_runs.proofs.RunPlaces.{stands_in}
 use Rattle.ped_step_runs.proofs.ExpandedTurns.{body_with, e, name_in, trip, new_trip, end, left_by, new_turns, old_turns, IsSubstituted, AreLeft}
 use Rattle.ped_step_runs.proofs.ExpandedLoops.{entry, entered_by, new_loop, left_in, kept_acts, new_acts, IsKept}

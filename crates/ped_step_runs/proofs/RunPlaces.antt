@@ -17,7 +17,7 @@ use Rattle.ped_step_runs.proofs.RunCells.{EachDo, EachDos}
 
 module _ (p : Setting) (Q : ℕ → Head → StmtTrees → Type 0) (P : Scope → Act → Type 0) (here : (S : Scope) (n : ℕ) (step : Step) (touches : List Touch) → P S (act step (place_of p n S) touches))
     (outward : (n : ℕ) (h : Head) (body : StmtTrees) (seen : List Seen) (m : Limits) (k : ℕ) (S : Scope) (u : Store) (a : Act) → Q n h body
-        → IsIn a (run_all p body (n + 1) (frame (entered_with p n h body seen m) k ∷ S) u).acts → P (frame (entered_with p n h body seen m) k ∷ S) a → P S a) where
+    → IsIn a (run_all p body (n + 1) (frame (entered_with p n h body seen m) k ∷ S) u).acts → P (frame (entered_with p n h body seen m) k ∷ S) a → P S a) where
   module _ (n : ℕ) (S : Scope) where
     module _ (e : Entered) (body : Frame → Store → Run) (bodies : (k : ℕ) (s : Store) → Each (P S) (body (frame e k) s).acts) where
       turns_each : (left k : ℕ) (s : Store) → Each (P S) (turns left k e S (place_of p n S) body s).acts

@@ -1,7 +1,7 @@
 -- In a valid program no act in an iteration of a DO writes the DO's variable.
-use Rattle.std.proofs.Common.{◌≡◌, ℕ, suc, ◌+◌, List, [], ◌∷◌, ◌++◌, length, Bool, true, false, not, ◌&&◌, ◌||◌, Option, Some, None, IsTrue, refl, sym, ap, subst, ◌∙◌, ◌⊎◌, inl, inr}
+use Rattle.std.proofs.Common.{◌≡◌, ℕ, ◌+◌, List, [], ◌∷◌, ◌++◌, length, Bool, true, false, not, ◌&&◌, ◌||◌, Option, Some, None, refl, sym, ap, ◌∙◌}
 use Rattle.std.specs.Prelude.{nat_le, nat_lt}
-use Rattle.std.specs.List.{list_all, list_any, flat_map}
+use Rattle.std.specs.List.{list_all, flat_map}
 use Rattle.std.proofs.lemmas.Bool.{both_ways, and_parts}
 use Rattle.std.proofs.lemmas.List.Folds.{list_any-append}
 use Rattle.ped_base.specs.Lists.{has_some, is_same_text, is_among}
@@ -13,7 +13,7 @@ use Rattle.ped_grammar.specs.LimitNumbers.{most_characters, most_loops_nested, m
 use Rattle.ped_grammar.specs.StatementForms.{are_names}
 use Rattle.ped_grammar.specs.Words.{is_name}
 use Rattle.ped_grammar.specs.ProgramRefusals.{scalar_of, assigned_by, meets}
-use Rattle.ped_grammar.specs.Fits.{Surroundings, moved, in_if, in_loop, simple_fits, is_within, target_fits, expr_fits, private_fits, loop_fits, stmt_fits, stmts_fit, decls_fit, begins_with_statement, at_body, fits}
+use Rattle.ped_grammar.specs.Fits.{Surroundings, moved, in_if, in_loop, simple_fits, is_within, target_fits, expr_fits, private_fits, loop_fits, stmt_fits, stmts_fit, decls_fit, begins_with_statement, at_body}
 use Rattle.ped_affine.specs.Assigned.{assigned_left, assigned_in, assigned_in_all}
 use Rattle.ped_symbols.specs.declared.symbols.Kind.{Kind}
 use Rattle.ped_symbols.specs.declared.symbols.Kind.TheVariants.{Scalar, Array, Constant}
@@ -171,14 +171,16 @@ module _ (t : ProgramTree) (k : NameKinds) where
         let last = and_parts _ (stmts_fit (in_if p (1 + statements_count a) (loops_count a)) b) h in
         let front = and_parts _ (stmts_fit (in_if p 1 0) a) last.0 in
         let right = and_parts (cond_is_right k condition && stmts_are_right k a) (stmts_are_right k b) r in
-        let inside = inner_stands t (If condition a b) (all_numbered a ++ all_numbered b) n st in
-        (all_unassigned_in (in_if p 1 0) a (n + 1) (first_stands t (n + 1) (all_numbered a) (all_numbered b) inside) front.1 (and_parts (cond_is_right k condition) (stmts_are_right k a) right.0).1,
-          all_unassigned_in (in_if p (1 + statements_count a) (loops_count a)) b (n + 1 + statements_count a) (else_stands t a b (n + 1) inside) last.1 right.1)
+        let inside = inner_stands t (If condition a b) (all_numbered a ++ all_numbered b) n st in (
+          all_unassigned_in (in_if p 1 0) a (n + 1) (first_stands t (n + 1) (all_numbered a) (all_numbered b) inside) front.1 (and_parts (cond_is_right k condition) (stmts_are_right k a) right.0).1,
+          all_unassigned_in (in_if p (1 + statements_count a) (loops_count a)) b (n + 1 + statements_count a) (else_stands t a b (n + 1) inside) last.1 right.1,
+        )
     each_unassigned p (Do h body) n st f r =
         let both = and_parts (loop_fits p h body) (stmts_fit (in_loop p h) body) f in
-        let right = and_parts (head_is_right k h) (stmts_are_right k body) r in
-        ((is_there t (Do h body) (all_numbered body) n st, stmts_spared k h.variable (variable_scalar k h right.0) (in_loop p h) body (itself_among h.variable p.variables) both.1 right.1),
-          all_unassigned_in (in_loop p h) body (n + 1) (inner_stands t (Do h body) (all_numbered body) n st) both.1 right.1)
+        let right = and_parts (head_is_right k h) (stmts_are_right k body) r in (
+          (is_there t (Do h body) (all_numbered body) n st, stmts_spared k h.variable (variable_scalar k h right.0) (in_loop p h) body (itself_among h.variable p.variables) both.1 right.1),
+          all_unassigned_in (in_loop p h) body (n + 1) (inner_stands t (Do h body) (all_numbered body) n st) both.1 right.1,
+        )
     each_unassigned p (Print items) n st h r = tt
     each_unassigned p (Read items) n st h r = tt
     each_unassigned p Stop n st h r = tt
@@ -188,9 +190,10 @@ module _ (t : ProgramTree) (k : NameKinds) where
     all_unassigned_in p no_stmts n st h r = tt
     all_unassigned_in p (more_stmts s rest) n st h r =
         let both = and_parts (stmt_fits p s) (stmts_fit (moved p (statement_count s) (loop_count s)) rest) h in
-        let right = and_parts (stmt_is_right k s) (stmts_are_right k rest) r in
-        (each_unassigned p s n (first_stands t n (numbered s) (all_numbered rest) st) both.0 right.0,
-          all_unassigned_in (moved p (statement_count s) (loop_count s)) rest (n + statement_count s) (rest_stands t s rest n st) both.1 right.1)
+        let right = and_parts (stmt_is_right k s) (stmts_are_right k rest) r in (
+          each_unassigned p s n (first_stands t n (numbered s) (all_numbered rest) st) both.0 right.0,
+          all_unassigned_in (moved p (statement_count s) (loop_count s)) rest (n + statement_count s) (rest_stands t s rest n st) both.1 right.1,
+        )
 
 -- so it is with each DO of a valid program
 pub variables_unassigned : (t : ProgramTree) → IsValid t → EachDos (IsUnassigned t (kind_in t)) t.body 1

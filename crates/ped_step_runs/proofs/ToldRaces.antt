@@ -10,13 +10,12 @@ use Rattle.ped_symbols.specs.NameRefusals.{IsValid}
 use Rattle.ped_store.specs.Cells.{Cell, Scalar, Element, Private, In, Out, Iteration, same_cell}
 use Rattle.ped_store.specs.Stores.{Store}
 use Rattle.ped_store.specs.Acts.{Manner, reads, writes, is_told, Touch, Turn, Act, iterations_of}
-use Rattle.ped_store.specs.Races.{Access, is_write, accesses_of, accesses, conflict, are_apart, race}
-use Rattle.ped_acts.specs.Fitting.{touches_of}
+use Rattle.ped_store.specs.Races.{Access, is_write, accesses, conflict, are_apart, race}
 use Rattle.ped_acts.specs.Sets.{written}
 use Rattle.ped_acts.specs.Orders.{IsIn}
 use Rattle.ped_acts.proofs.Lists.{in_left, in_right, in_parts}
 use Rattle.ped_acts.proofs.SameCells.{cell_is, cell_flip}
-use Rattle.ped_acts.proofs.Conflicting.{access_by, access_place}
+use Rattle.ped_acts.proofs.Conflicting.{access_place}
 use Rattle.ped_acts.proofs.RaceFree.{apart_flip}
 use Rattle.ped_eval.specs.Scopes.{Setting, Frame, Scope, turns_of}
 use Rattle.ped_eval.specs.Evaluation.{Seen}

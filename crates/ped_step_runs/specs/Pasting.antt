@@ -12,12 +12,14 @@ use Rattle.ped_acts.specs.Fitting.{store_after}
 use Rattle.ped_acts.specs.Sets.{wants}
 use Rattle.ped_acts.specs.Pieces.{Part, same, changed, StandsFor}
 use Rattle.ped_eval.specs.Scopes.{Setting, Scope, turns_of}
-use Rattle.ped_eval.specs.Loops.{index_names, all_index_names}
-use Rattle.ped_eval.specs.Runs.{run, run_all}
+use Rattle.ped_eval.specs.Loops.{all_index_names}
+use Rattle.ped_eval.specs.Runs.{Run, run_all}
 use Rattle.ped_flow.specs.PlainBounds.{nest_round}
-use Rattle.ped_flow_runs.specs.Covering.{has_stop}
+use Rattle.ped_flow_runs.specs.Covering.{has_stop, some_stop}
 use Rattle.ped_flow_runs.specs.Exits.{AreIterationsOf}
 use Rattle.ped_runs.specs.Replaying.{goes_on, finish_of, Replays}
+use Rattle.ped_steps.specs.Replacing.{alone}
+use Rattle.ped_step_runs.specs.Gaps.{Gap, filled, number_at}
 
 -- iterations of the loops of a nest, one of each, the outermost first (ANSI X3.9-1978, section 11.10)
 abbrev pub AreTurnsOf : (ℕ → ℕ) → List Loop → List Turn → Type 0
@@ -38,19 +40,19 @@ pub record IsDone (p : Setting) (t : ProgramTree) (start : Store) (acts : List A
   pub whole : (run_all p t.body 1 [] start).acts ≡ front ++ (acts ++ behind)
   pub from : u ≡ store_after front start
 
--- an execution of a statement that goes on, and what is done in its place: the old acts are those of the statement in this store, and the new ones are told by its place and the store (this project)
-pub record IsExecution (p : Setting) (t : ProgramTree) (l : ℕ) (s : StmtTree) (fresh : Scope → Store → List Act) (u : Store) (old new : List Act) : Type 0 where
+-- an execution that goes on of what stands at a number, a statement or more, and what is done in its place: the old acts are those that it does here and from this store, and the new ones are told by the place and the store (this project)
+pub record IsExecution (p : Setting) (t : ProgramTree) (l : ℕ) (piece : Scope → Store → Run) (fresh : Scope → Store → List Act) (u : Store) (old new : List Act) : Type 0 where
   pub scope : Scope
   pub place : IsPlaceOf p t l scope
-  pub goes : finish_of (run p s l scope u).ending ≡ goes_on
-  pub old_is : old ≡ (run p s l scope u).acts
+  pub goes : finish_of (piece scope u).ending ≡ goes_on
+  pub old_is : old ≡ (piece scope u).acts
   pub new_is : new ≡ fresh scope u
 
--- the changed parts of a list of acts, which is done from this store, are executions of the statement (this project)
-abbrev pub AreExecutions : Setting → ProgramTree → ℕ → StmtTree → (Scope → Store → List Act) → List Part → Store → Type 0
-AreExecutions p t l s fresh [] u = Unit {0}
-AreExecutions p t l s fresh (same acts ∷ parts) u = AreExecutions p t l s fresh parts (store_after acts u)
-AreExecutions p t l s fresh (changed old new ∷ parts) u = IsExecution p t l s fresh u old new × AreExecutions p t l s fresh parts (store_after old u)
+-- the changed parts of a list of acts, which is done from this store, are executions of what stands at the number (this project)
+abbrev pub AreExecutions : Setting → ProgramTree → ℕ → (Scope → Store → Run) → (Scope → Store → List Act) → List Part → Store → Type 0
+AreExecutions p t l piece fresh [] u = Unit {0}
+AreExecutions p t l piece fresh (same acts ∷ parts) u = AreExecutions p t l piece fresh parts (store_after acts u)
+AreExecutions p t l piece fresh (changed old new ∷ parts) u = IsExecution p t l piece fresh u old new × AreExecutions p t l piece fresh parts (store_after old u)
 
 -- statements count under the same numbers before and behind: those before the statement with number l as they do, those behind it, where so many statements have come in the place of so many, under their old ones (this project)
 pub record CountAlike (p q : Setting) (l old new : ℕ) : Type 0 where
@@ -61,28 +63,39 @@ pub record CountAlike (p q : Setting) (l old new : ℕ) : Type 0 where
 abbrev pub is_in_parallel : ProgramTree → ℕ → Bool
 is_in_parallel t l = list_any (λ loop. loop.head.parallel) (nest_round t l)
 
--- the DO loops among statements have the same variables as those of a statement, in any order and number (ANSI X3.9-1978, section 11.10; this project)
-abbrev pub HaveIndicesOf : StmtTree → StmtTrees → Type 0
-HaveIndicesOf s new = (x : List ℕ) → is_among x (all_index_names new) ≡ is_among x (index_names s)
+-- the DO loops in some statements and in others have the same variables, in any order and number (ANSI X3.9-1978, section 11.10; this project)
+abbrev pub HaveSameIndices : StmtTrees → StmtTrees → Type 0
+HaveSameIndices old new = (x : List ℕ) → is_among x (all_index_names new) ≡ is_among x (all_index_names old)
 
--- a statement of a program is exchanged for others, and runs of the new program take the same bounds and constants and count the statements that stay alike. No STOP stands in the statement, and a PARALLEL DO round it finds the same variables of DO loops in it, of which its iterations have copies (ParaScope; this project)
-pub record IsPasting (p q : Setting) (t : ProgramTree) (l : ℕ) (s : StmtTree) (by : StmtTree → StmtTrees) : Type 0 where
+-- statements of a program are exchanged for others: the two programs fill one gap, and their runs take the same bounds and constants and count alike the statements that stay. The old statements are some and no STOP stands in them, and a PARALLEL DO round them finds the same variables of DO loops in it, of which its iterations have copies (ParaScope; this project)
+pub record IsPasting (p q : Setting) (gap : Gap) (old new : StmtTrees) (t u : ProgramTree) : Type 0 where
+  pub old_body : t.body ≡ filled gap old
+  pub new_body : u.body ≡ filled gap new
+  pub bounds : p.bounds ≡ q.bounds
+  pub constants : p.constants ≡ q.constants
+  pub numbers : CountAlike p q (number_at gap 1) (statements_count old) (statements_count new)
+  pub some : 0 < statements_count old
+  pub unstopped : some_stop old ≡ false
+  pub indices : is_in_parallel t (number_at gap 1) ≡ true → HaveSameIndices old new
+
+-- the same of one statement with its number (this project)
+pub record IsPastingOf (p q : Setting) (t : ProgramTree) (l : ℕ) (s : StmtTree) (by : StmtTree → StmtTrees) : Type 0 where
   pub found : statement_with l t ≡ Some s
   pub bounds : p.bounds ≡ q.bounds
   pub constants : p.constants ≡ q.constants
   pub numbers : CountAlike p q l (statement_count s) (statements_count (by s))
-  pub indices : is_in_parallel t l ≡ true → HaveIndicesOf s (by s)
   pub unstopped : has_stop s ≡ false
+  pub indices : is_in_parallel t l ≡ true → HaveSameIndices (alone s) (by s)
 
--- this holds of each execution of a statement in a run of a program that begins with a store (plain words)
-abbrev pub OfExecutions : (p : Setting) (t : ProgramTree) (start : Store) (l : ℕ) (s : StmtTree) → ((scope : Scope) (u : Store) → IsDone p t start (run p s l scope u).acts u → Type 0) → Type 0
-OfExecutions p t start l s P = (scope : Scope) (u : Store) → IsPlaceOf p t l scope → (done : IsDone p t start (run p s l scope u).acts u) → finish_of (run p s l scope u).ending ≡ goes_on → P scope u done
+-- this holds of each execution, in a run of a program that begins with a store, of what stands at a number (plain words)
+abbrev pub OfExecutions : (p : Setting) (t : ProgramTree) (start : Store) (l : ℕ) (piece : Scope → Store → Run) → ((scope : Scope) (u : Store) → IsDone p t start (piece scope u).acts u → Type 0) → Type 0
+OfExecutions p t start l piece P = (scope : Scope) (u : Store) → IsPlaceOf p t l scope → (done : IsDone p t start (piece scope u).acts u) → finish_of (piece scope u).ending ≡ goes_on → P scope u done
 
--- for each execution of the statement, the others do the new acts in the same place, from each store that these fit (this project)
-abbrev pub DoInstead : (p q : Setting) (t : ProgramTree) (start : Store) (l : ℕ) (s : StmtTree) (others : StmtTrees) (fresh : Scope → Store → List Act) → Type 0
-DoInstead p q t start l s others fresh = OfExecutions p t start l s λ scope u done. Replays (run_all q others l scope) (fresh scope u) goes_on
+-- for each execution, others do the new acts in the same place, from each store that these fit (this project)
+abbrev pub DoInstead : (p q : Setting) (t : ProgramTree) (start : Store) (l : ℕ) (piece : Scope → Store → Run) (others : StmtTrees) (fresh : Scope → Store → List Act) → Type 0
+DoInstead p q t start l piece others fresh = OfExecutions p t start l piece λ scope u done. Replays (run_all q others l scope) (fresh scope u) goes_on
 
--- for each execution of the statement, the new acts may stand for the old ones, where stores need agree only on what the old acts want from there on (this project)
-abbrev pub StandInstead : (shown : Cell → Bool) (p : Setting) (t : ProgramTree) (start : Store) (l : ℕ) (s : StmtTree) (fresh : Scope → Store → List Act) → Type 0
-StandInstead shown p t start l s fresh = OfExecutions p t start l s λ scope u done.
-    StandsFor (record { agreed = wants shown ((run p s l scope u).acts ++ done.behind); old = (run p s l scope u).acts; new = fresh scope u }) (wants shown done.behind) u
+-- for each execution, the new acts may stand for the old ones, where stores need agree only on what the old acts want from there on (this project)
+abbrev pub StandInstead : (shown : Cell → Bool) (p : Setting) (t : ProgramTree) (start : Store) (l : ℕ) (piece : Scope → Store → Run) (fresh : Scope → Store → List Act) → Type 0
+StandInstead shown p t start l piece fresh = OfExecutions p t start l piece λ scope u done.
+    StandsFor (record { agreed = wants shown ((piece scope u).acts ++ done.behind); old = (piece scope u).acts; new = fresh scope u }) (wants shown done.behind) u

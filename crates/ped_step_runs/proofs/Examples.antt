@@ -1,8 +1,6 @@
 -- A program at which the premises of the laws of pasting hold: a statement in a DO comes in its own place.
 use Rattle.std.proofs.Common.{◌≡◌, ℕ, List, [], ◌∷◌, false, Some, take, drop, refl, sym, ap, subst, arith}
 use Rattle.std.specs.Prelude.{pos}
-use Rattle.std.proofs.lemmas.List.{append-nil}
-use Rattle.ped_base.specs.Lists.{is_among}
 use Rattle.ped_tree.specs.Tree.{Int, Var, Value, Head, StmtTree, Assign, Do, Print, no_stmts, more_stmts, ProgramTree}
 use Rattle.ped_tree.specs.Numbering.{statement_with}
 use Rattle.ped_store.specs.Stores.{Store, store_at_start}
@@ -10,28 +8,28 @@ use Rattle.ped_store.specs.Acts.{Act}
 use Rattle.ped_acts.specs.Fitting.{store_after}
 use Rattle.ped_acts.specs.Pieces.{Part, same, changed, old_parts}
 use Rattle.ped_eval.specs.Scopes.{Setting, Scope}
-use Rattle.ped_eval.specs.Loops.{frame, index_names}
+use Rattle.ped_eval.specs.Loops.{frame}
 use Rattle.ped_eval.specs.Runs.{Run, run, run_all}
 use Rattle.ped_runs.specs.Replaying.{goes_on, Replays}
 use Rattle.ped_runs.proofs.StatementsTold.{run_told}
 use Rattle.ped_flow_runs.specs.Covering.{has_stop}
 use Rattle.ped_steps.specs.Replacing.{alone}
-use Rattle.ped_step_runs.specs.Pasting.{IsPlaceOf, IsDone, AreExecutions, IsPasting, DoInstead}
+use Rattle.ped_step_runs.specs.Pasting.{IsPlaceOf, IsDone, AreExecutions, IsPastingOf, DoInstead}
 use Rattle.ped_step_runs.proofs.PastedRuns.{run_alone}
 
 -- each statement may come in its own place
 module _ (p : Setting) (t : ProgramTree) (start : Store) (l : ℕ) (s : StmtTree) where
-  itself_pasting : statement_with l t ≡ Some s → has_stop s ≡ false → IsPasting p p t l s alone
+  itself_pasting : statement_with l t ≡ Some s → has_stop s ≡ false → IsPastingOf p p t l s alone
   itself_pasting found stop = record {
     found = found;
     bounds = refl;
     constants = refl;
     numbers = record { before = λ k h. refl; behind = λ k. ap p.number (omega arith) };
-    indices = λ h x. ap (is_among x) (append-nil (index_names s));
     unstopped = stop;
+    indices = λ h x. refl;
   }
 
-  itself_instead : DoInstead p p t start l s (alone s) (λ scope u. (run p s l scope u).acts)
+  itself_instead : DoInstead p p t start l (run p s l) (alone s) (λ scope u. (run p s l scope u).acts)
   itself_instead scope u place done goes =
       subst (λ (f : Store → Run). Replays f (run p s l scope u).acts goes_on) (sym (run_alone p s l scope))
       (subst (Replays (run p s l scope) (run p s l scope u).acts) goes ((run_told p s l scope).replays u))
@@ -71,7 +69,7 @@ parts = same (take 1 acts) ∷ changed (take 1 (drop 1 acts)) (take 1 (drop 1 ac
 all_parts : old_parts parts ≡ acts
 all_parts = refl
 
-executions : AreExecutions setting program 2 assignment (λ scope u. (run setting assignment 2 scope u).acts) parts (store_at_start [])
+executions : AreExecutions setting program 2 (run setting assignment 2) (λ scope u. (run setting assignment 2 scope u).acts) parts (store_at_start [])
 executions = (
   record { scope = iteration 1; place = place 1; goes = refl; old_is = refl; new_is = refl },
   (record { scope = iteration 2; place = place 2; goes = refl; old_is = refl; new_is = refl }, tt),

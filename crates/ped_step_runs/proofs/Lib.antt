@@ -2,9 +2,11 @@ pub mod ExchangedSight
 pub mod ExchangedRuns
 pub mod Replayed
 pub mod SameNames
-pub mod ReplacedTrees
+pub mod FilledGaps
 pub mod PastedParts
 pub mod LoopsRound
 pub mod PastedRuns
+pub mod ReplacedTrees
+pub mod PastedStatements
 pub mod PastedStores
 mod Examples

@@ -1,7 +1,7 @@
 -- Parts of a run, of which executions of one statement are changed: how they come together.
 use Rattle.std.proofs.Common.{◌≡◌, ℕ, zero, suc, ◌+◌, List, [], ◌∷◌, ◌++◌, Bool, true, false, Result, Ok, Err, refl, sym, ap, subst, ◌∙◌}
 use Rattle.std.proofs.lemmas.List.{append-nil, append_assoc}
-use Rattle.ped_tree.specs.Tree.{StmtTree, ProgramTree}
+use Rattle.ped_tree.specs.Tree.{ProgramTree}
 use Rattle.ped_store.specs.Stores.{Store}
 use Rattle.ped_store.specs.Acts.{Touch, Act, Place, Step, ended_turn, closed, store_behind}
 use Rattle.ped_acts.specs.Fitting.{Find, store_after}
@@ -29,17 +29,17 @@ new_append [] qs = refl
 new_append (same acts ∷ ps) qs = ap (λ (z : List Act). acts ++ z) (new_append ps qs) ∙ sym (append_assoc acts (new_parts ps) (new_parts qs))
 new_append (changed old new ∷ ps) qs = ap (λ (z : List Act). new ++ z) (new_append ps qs) ∙ sym (append_assoc new (new_parts ps) (new_parts qs))
 
-module _ (p : Setting) (t : ProgramTree) (start : Store) (l : ℕ) (s : StmtTree) (fresh : Scope → Store → List Act) where
-  executions_append : (ps qs : List Part) (u : Store) → AreExecutions p t l s fresh ps u → AreExecutions p t l s fresh qs (store_after (old_parts ps) u) → AreExecutions p t l s fresh (ps ++ qs) u
+module _ (p : Setting) (t : ProgramTree) (start : Store) (l : ℕ) (piece : Scope → Store → Run) (fresh : Scope → Store → List Act) where
+  executions_append : (ps qs : List Part) (u : Store) → AreExecutions p t l piece fresh ps u → AreExecutions p t l piece fresh qs (store_after (old_parts ps) u) → AreExecutions p t l piece fresh (ps ++ qs) u
   executions_append [] qs u h k = k
-  executions_append (same acts ∷ ps) qs u h k = executions_append ps qs (store_after acts u) h (subst (AreExecutions p t l s fresh qs) (after_append acts (old_parts ps) u) k)
-  executions_append (changed old new ∷ ps) qs u h k = (h.0, executions_append ps qs (store_after old u) h.1 (subst (AreExecutions p t l s fresh qs) (after_append old (old_parts ps) u) k))
+  executions_append (same acts ∷ ps) qs u h k = executions_append ps qs (store_after acts u) h (subst (AreExecutions p t l piece fresh qs) (after_append acts (old_parts ps) u) k)
+  executions_append (changed old new ∷ ps) qs u h k = (h.0, executions_append ps qs (store_after old u) h.1 (subst (AreExecutions p t l piece fresh qs) (after_append old (old_parts ps) u) k))
 
   -- what was done in parts, of which the changed ones are executions of the statement; and a new run does the new parts and ends alike
   pub record IsPasted (old : Run) (new : Store → Run) (u : Store) : Type 0 where
     pub parts : List Part
     pub old_is : old_parts parts ≡ old.acts
-    pub executions : AreExecutions p t l s fresh parts u
+    pub executions : AreExecutions p t l piece fresh parts u
     pub replays : Replays new (new_parts parts) (finish_of old.ending)
 
   -- a piece of the program's run that ends without a fault
@@ -90,7 +90,7 @@ module _ (p : Setting) (t : ProgramTree) (start : Store) (l : ℕ) (s : StmtTree
         record {
           parts = h.parts ++ n.parts;
           old_is = old_append h.parts n.parts ∙ (λ i. h.old_is i ++ n.old_is i);
-          executions = executions_append h.parts n.parts u h.executions (subst (λ (done : List Act). AreExecutions p t l s fresh n.parts (store_after done u)) (sym h.old_is) n.executions);
+          executions = executions_append h.parts n.parts u h.executions (subst (λ (done : List Act). AreExecutions p t l piece fresh n.parts (store_after done u)) (sym h.old_is) n.executions);
           replays = subst (λ (done : List Act). Replays (λ v. then_run (other v) more) done (finish_of (g (store_after acts u)).ending)) (sym (new_append h.parts n.parts))
               (replays_behind other more (new_parts h.parts) (new_parts n.parts) (finish_of (g (store_after acts u)).ending) h.replays n.replays);
         }

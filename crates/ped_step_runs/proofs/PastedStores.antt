@@ -1,8 +1,8 @@
--- A program in which one statement has been exchanged: what its run leaves, and what comes behind an execution of the statement.
+-- A program in which statements have been exchanged for others: what its run leaves, and what comes behind an execution of a DO.
 use Rattle.std.proofs.Common.{◌≡◌, ℕ, zero, suc, ◌+◌, List, [], ◌∷◌, ◌++◌, Bool, true, false, eqb-true, ◌&&◌, Result, Ok, Err, refl, sym, ap, subst, ◌∙◌, arith}
 use Rattle.std.specs.Prelude.{◌==◌}
 use Rattle.std.proofs.lemmas.List.{append_assoc}
-use Rattle.ped_tree.specs.Tree.{Head, StmtTree, StmtTrees, Do, ProgramTree}
+use Rattle.ped_tree.specs.Tree.{Head, StmtTrees, Do, ProgramTree}
 use Rattle.ped_store.specs.Cells.{Cell}
 use Rattle.ped_store.specs.Stores.{Store}
 use Rattle.ped_store.specs.Acts.{Place, Act, entered, ended_turn, closed, store_behind}
@@ -16,48 +16,44 @@ use Rattle.ped_eval.specs.Evaluation.{Seen}
 use Rattle.ped_eval.specs.Loops.{Limits, limits, Entered, entered_with, frame, exit_touches, exit_when_none, entry_touches}
 use Rattle.ped_eval.specs.Runs.{Ending, going, stopped, failed, Run, nothing_done, followed_by, does, on_value, turns, parallel_turns, run_entered, run_from_entry, run, run_all}
 use Rattle.ped_eval.specs.Outcomes.{Ends}
-use Rattle.ped_runs.specs.Replaying.{goes_on, finish_of, ending_with, act}
+use Rattle.ped_runs.specs.Replaying.{Finish, goes_on, finish_of, ending_with, act}
 use Rattle.ped_runs.proofs.StatementsTold.{all_told}
 use Rattle.ped_flow.specs.Questions.{LoopOf}
 use Rattle.ped_flow_runs.specs.Exits.{is_exit, IsExit}
-use Rattle.ped_steps.specs.Replacing.{program_with}
-use Rattle.ped_step_runs.specs.Pasting.{IsPlaceOf, IsDone, AreExecutions, IsPasting, DoInstead, StandInstead}
-use Rattle.ped_step_runs.proofs.PastedRuns.{exchanged}
+use Rattle.ped_step_runs.specs.Pasting.{IsPlaceOf, IsDone, AreExecutions, StandInstead}
+use Rattle.ped_step_runs.proofs.PastedRuns.{Exchanged}
 
-module _ (shown : Cell → Bool) (p : Setting) (t : ProgramTree) (start : Store) (l : ℕ) (s : StmtTree) (fresh : Scope → Store → List Act) (stands : StandInstead shown p t start l s fresh) where
+module _ (shown : Cell → Bool) (p : Setting) (t : ProgramTree) (start : Store) (l : ℕ) (piece : Scope → Store → Run) (fresh : Scope → Store → List Act) (stands : StandInstead shown p t start l piece fresh) where
   abbrev Instead : List Act → Store → List Act → List Act → Type 0
   Instead behind u old new = StandsFor (record { agreed = wants shown (old ++ behind); old = old; new = new }) (wants shown behind) u
 
   -- behind acts of the run that are done
-  stand_from : (parts : List Part) (front : List Act) (u : Store) → u ≡ store_after front start → (run_all p t.body 1 [] start).acts ≡ front ++ old_parts parts → AreExecutions p t l s fresh parts u → PartsStand shown parts u
+  stand_from : (parts : List Part) (front : List Act) (u : Store) → u ≡ store_after front start → (run_all p t.body 1 [] start).acts ≡ front ++ old_parts parts → AreExecutions p t l piece fresh parts u → PartsStand shown parts u
   stand_from [] front u from whole e = tt
   stand_from (same acts ∷ parts) front u from whole e =
       stand_from parts (front ++ acts) (store_after acts u) (ap (store_after acts) from ∙ sym (after_append front acts start)) (whole ∙ sym (append_assoc front acts (old_parts parts))) e
   stand_from (changed old new ∷ parts) front u from whole e =
       let x = e.0 in
-      let done : IsDone p t start (run p s l x.scope u).acts u = record { front = front; behind = old_parts parts; whole = whole ∙ ap (λ (z : List Act). front ++ (z ++ old_parts parts)) x.old_is; from = from } in (
-        subst (λ (a : List Act). Instead (old_parts parts) u a new) (sym x.old_is) (subst (Instead (old_parts parts) u (run p s l x.scope u).acts) (sym x.new_is) (stands x.scope u x.place done x.goes)),
+      let done : IsDone p t start (piece x.scope u).acts u = record { front = front; behind = old_parts parts; whole = whole ∙ ap (λ (z : List Act). front ++ (z ++ old_parts parts)) x.old_is; from = from } in (
+        subst (λ (a : List Act). Instead (old_parts parts) u a new) (sym x.old_is) (subst (Instead (old_parts parts) u (piece x.scope u).acts) (sym x.new_is) (stands x.scope u x.place done x.goes)),
         stand_from parts (front ++ old) (store_after old u) (ap (store_after old) from ∙ sym (after_append front old start)) (whole ∙ sym (append_assoc front old (old_parts parts))) e.1,
       )
 
-  pub parts_stand : (parts : List Part) → old_parts parts ≡ (run_all p t.body 1 [] start).acts → AreExecutions p t l s fresh parts start → PartsStand shown parts start
+  pub parts_stand : (parts : List Part) → old_parts parts ≡ (run_all p t.body 1 [] start).acts → AreExecutions p t l piece fresh parts start → PartsStand shown parts start
   parts_stand parts whole e = stand_from parts [] start refl (sym whole) e
 
   -- the whole run
-  module _ (q : Setting) (by : StmtTree → StmtTrees) (pasting : IsPasting p q t l s by) (each : DoInstead p q t start l s (by s) fresh) where
-    pub runs_exchanged : Ends (run_all p t.body 1 [] start).ending → (parts : List Part) × (old_parts parts ≡ (run_all p t.body 1 [] start).acts) × AreExecutions p t l s fresh parts start
-        × (run_all q (program_with by l t).body 1 [] start ≡ record { acts = new_parts parts; ending = ending_with (finish_of (run_all p t.body 1 [] start).ending) (store_after (new_parts parts) start) })
-        × AgreeIn shown (store_after (run_all p t.body 1 [] start).acts start) (store_after (new_parts parts) start)
-    runs_exchanged ends =
-        let h = exchanged p q t start l s by fresh pasting each ends in
-        let stand = parts_stand h.0 h.1 h.2 in
-        let fit = subst (λ (acts : List Act). Fits acts start) (sym h.1) ((all_told p t.body 1 []).fits start) in (
-          h.0,
-          h.1,
-          h.2,
-          h.3 start (parts_fit shown h.0 start start stand (λ c k. refl) fit),
-          subst (λ (acts : List Act). AgreeIn shown (store_after acts start) (store_after (new_parts h.0) start)) h.1 (parts_leave shown h.0 start start stand (λ c k. refl) fit),
-        )
+  pub stores_agree : (r : Store → Run) (finish : Finish) → Exchanged p t start l piece fresh r finish → (parts : List Part) × (old_parts parts ≡ (run_all p t.body 1 [] start).acts) × AreExecutions p t l piece fresh parts start
+      × (r start ≡ record { acts = new_parts parts; ending = ending_with finish (store_after (new_parts parts) start) }) × AgreeIn shown (store_after (run_all p t.body 1 [] start).acts start) (store_after (new_parts parts) start)
+  stores_agree r finish h =
+      let stand = parts_stand h.0 h.1 h.2 in
+      let fit = subst (λ (acts : List Act). Fits acts start) (sym h.1) ((all_told p t.body 1 []).fits start) in (
+        h.0,
+        h.1,
+        h.2,
+        h.3 start (parts_fit shown h.0 start start stand (λ c k. refl) fit),
+        subst (λ (acts : List Act). AgreeIn shown (store_after acts start) (store_after (new_parts h.0) start)) h.1 (parts_leave shown h.0 start start stand (λ c k. refl) fit),
+      )
 
 -- the last act of a DO leaves it
 record IsLeft (at : Place) (acts : List Act) : Type 0 where

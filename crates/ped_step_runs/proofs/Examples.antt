@@ -22,7 +22,7 @@ module _ (p : Setting) (t : ProgramTree) (start : Store) (l : ℕ) (s : StmtTree
   itself_pasting : statement_with l t ≡ Some s → has_stop s ≡ false → IsPastingOf p p t l s alone
   itself_pasting found stop = record {
     found = found;
-    bounds = refl;
+    bounds = λ x h. refl;
     constants = refl;
     numbers = record { before = λ k h. refl; behind = λ k. ap p.number (omega arith) };
     unstopped = stop;

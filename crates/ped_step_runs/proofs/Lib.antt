@@ -3,6 +3,7 @@ pub mod ExchangedRuns
 pub mod Replayed
 pub mod SameNames
 pub mod FilledGaps
+pub mod OwnBounds
 pub mod PastedParts
 pub mod LoopsRound
 pub mod PastedRuns

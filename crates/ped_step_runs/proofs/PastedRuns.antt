@@ -5,6 +5,7 @@ use Rattle.std.proofs.lemmas.List.{append-nil, append_assoc}
 use Rattle.std.proofs.lemmas.List.Folds.{list_any-append}
 use Rattle.ped_tree.specs.Tree.{CondTree, Head, StmtTree, StmtTrees, If, Do, no_stmts, more_stmts, ProgramTree}
 use Rattle.ped_tree.specs.Nests.{Loop}
+use Rattle.ped_tree.specs.NamesIn.{cond_names, head_names, stmt_names, stmts_names}
 use Rattle.ped_tree.specs.Numbering.{numbered, all_numbered, statement_count, statements_count}
 use Rattle.ped_store.specs.Stores.{Store}
 use Rattle.ped_store.specs.Acts.{Act, Turn, did, entered}
@@ -13,7 +14,7 @@ use Rattle.ped_eval.specs.Scopes.{Setting, Frame, Scope, turns_of, names_in, pla
 use Rattle.ped_eval.specs.Evaluation.{Seen, numbered as numbered_reads, number_behind}
 use Rattle.ped_eval.specs.Values.{truth}
 use Rattle.ped_eval.specs.Loops.{Limits, limits, increment, iteration_count, entered_with, frame, inner_variables, entry_touches}
-use Rattle.ped_eval.specs.Runs.{Ending, going, stopped, failed, Run, nothing_done, followed_by, then_run, on, run_if, run_entered, run_from_entry, run_do, run, run_all}
+use Rattle.ped_eval.specs.Runs.{Ending, going, stopped, failed, Run, nothing_done, followed_by, then_run, does, on, run_if, run_entered, run_from_entry, run_do, run, run_all}
 use Rattle.ped_eval.specs.Outcomes.{Ends}
 use Rattle.ped_runs.specs.Replaying.{Finish, goes_on, finish_of, Replays, IsToldByActs}
 use Rattle.ped_runs.proofs.Told.{found_reads, found_reads_first}
@@ -27,9 +28,10 @@ use Rattle.ped_flow_runs.proofs.Unstopped.{IsUnstopped, all_unstopped}
 use Rattle.ped_flow_runs.proofs.Standing.{Stand, whole_stands, first_stands, rest_stands, inner_stands, else_stands, is_there}
 use Rattle.ped_steps.specs.Replacing.{followed, alone}
 use Rattle.ped_step_runs.specs.Gaps.{Gap, at_front, past, in_then, in_else, in_body, filled, number_at}
-use Rattle.ped_step_runs.specs.Pasting.{AreTurnsOf, IsPlaceOf, AreExecutions, CountAlike, is_in_parallel, HaveSameIndices, IsPasting, DoInstead}
+use Rattle.ped_step_runs.specs.Pasting.{AgreeInBounds, AreTurnsOf, IsPlaceOf, AreExecutions, CountAlike, is_in_parallel, HaveSameIndices, IsPasting, DoInstead}
 use Rattle.ped_step_runs.proofs.SameNames.{inner_alike}
 use Rattle.ped_step_runs.proofs.FilledGaps.{number_from, number_room, count_filled, indices_filled}
+use Rattle.ped_step_runs.proofs.OwnBounds.{agree_left, agree_right, truth_same, limits_same, with_bounds, run_bounds, all_bounds}
 use Rattle.ped_step_runs.proofs.PastedParts.{ArePasted, pasted_same, pasted_then, pasted_on, pasted_entered}
 use Rattle.ped_step_runs.proofs.LoopsRound.{none_before, all_none_before, all_none_from, one_more}
 
@@ -117,7 +119,7 @@ must_go (stopped v) h k = absurd k
 must_go (failed fault n) h k = absurd h
 
 module _ (p q : Setting) (t : ProgramTree) (start : Store) (l : ℕ) (old new : StmtTrees) (fresh : Scope → Store → List Act)
-    (bounds : p.bounds ≡ q.bounds) (constants : p.constants ≡ q.constants) (alike : CountAlike p q l (statements_count old) (statements_count new)) (some : 0 < statements_count old)
+    (constants : p.constants ≡ q.constants) (alike : CountAlike p q l (statements_count old) (statements_count new)) (some : 0 < statements_count old)
     (stop : some_stop old ≡ false) (indices : is_in_parallel t l ≡ true → HaveSameIndices old new) (each : DoInstead p q t start l (run_all p old l) new fresh) where
   -- a run and what comes of it
   abbrev Comes : (Store → Run) → (Store → Run) → Type 0
@@ -146,29 +148,36 @@ module _ (p q : Setting) (t : ProgramTree) (start : Store) (l : ℕ) (old new : 
       }
 
   -- statements before it and behind it
-  one_before : (x : StmtTree) (n : ℕ) (scope : Scope) → n + statement_count x ≤ l → run p x n scope ≡ run q x n scope
-  one_before x n scope h = run_same p q bounds constants x n n scope (before_same n (statement_count x) h)
+  -- the old program with the bounds of the new one
+  abbrev Between : Setting
+  Between = with_bounds p q.bounds
 
-  all_before : (ts : StmtTrees) (n : ℕ) (scope : Scope) → n + statements_count ts ≤ l → Comes (run_all p ts n scope) (run_all q ts n scope)
-  all_before ts n scope h =
-      subst (Comes (run_all p ts n scope)) (all_same p q bounds constants ts n n scope (before_same n (statements_count ts) h))
+  abbrev Agree : List (List ℕ) → Type 0
+  Agree = AgreeInBounds p.bounds q.bounds
+
+  one_before : (x : StmtTree) (n : ℕ) (scope : Scope) → Agree (stmt_names x) → n + statement_count x ≤ l → run p x n scope ≡ run q x n scope
+  one_before x n scope agree h = run_bounds p q.bounds x n scope agree ∙ run_same Between q refl constants x n n scope (before_same n (statement_count x) h)
+
+  all_before : (ts : StmtTrees) (n : ℕ) (scope : Scope) → Agree (stmts_names ts) → n + statements_count ts ≤ l → Comes (run_all p ts n scope) (run_all q ts n scope)
+  all_before ts n scope agree h =
+      subst (Comes (run_all p ts n scope)) (all_bounds p q.bounds ts n scope agree ∙ all_same Between q refl constants ts n n scope (before_same n (statements_count ts) h))
       (pasted_same p t start l (run_all p old l) fresh (run_all p ts n scope) (all_told p ts n scope))
 
-  all_behind : (ts : StmtTrees) (n m : ℕ) (scope : Scope) → l + statements_count old ≤ n → m + statements_count old ≡ n + statements_count new → Comes (run_all p ts n scope) (run_all q ts m scope)
-  all_behind ts n m scope h count =
-      subst (Comes (run_all p ts n scope)) (all_same p q bounds constants ts n m scope (behind_same n m (statements_count ts) h count))
+  all_behind : (ts : StmtTrees) (n m : ℕ) (scope : Scope) → Agree (stmts_names ts) → l + statements_count old ≤ n → m + statements_count old ≡ n + statements_count new → Comes (run_all p ts n scope) (run_all q ts m scope)
+  all_behind ts n m scope agree h count =
+      subst (Comes (run_all p ts n scope)) (all_bounds p q.bounds ts n scope agree ∙ all_same Between q refl constants ts n m scope (behind_same n m (statements_count ts) h count))
       (pasted_same p t start l (run_all p old l) fresh (run_all p ts n scope) (all_told p ts n scope))
 
   -- a statement, and others behind it
-  with_rest : (x y : StmtTree) (rest : StmtTrees) (n : ℕ) (scope : Scope) → l + statements_count old ≤ n + statement_count x → statement_count y + statements_count old ≡ statement_count x + statements_count new
+  with_rest : (x y : StmtTree) (rest : StmtTrees) (n : ℕ) (scope : Scope) → Agree (stmts_names rest) → l + statements_count old ≤ n + statement_count x → statement_count y + statements_count old ≡ statement_count x + statements_count new
       → Comes (run p x n scope) (run q y n scope) → Comes (run_all p (more_stmts x rest) n scope) (run_all q (more_stmts y rest) n scope)
-  with_rest x y rest n scope h count first =
+  with_rest x y rest n scope agree h count first =
       pasted_then p t start l (run_all p old l) fresh (run p x n scope) (run_all p rest (n + statement_count x) scope) (run q y n scope) (run_all q rest (n + statement_count y) scope) (run_told p x n scope) first
-      (all_behind rest (n + statement_count x) (n + statement_count y) scope h (omega (arith, count)))
+      (all_behind rest (n + statement_count x) (n + statement_count y) scope agree h (omega (arith, count)))
 
   -- what a place tells a statement round it
-  names_same : (scope : Scope) → names_in q scope ≡ names_in p scope
-  names_same scope i = record { bounds = sym bounds i; constants = sym constants i; cell = (names_in p scope).cell; index = (names_in p scope).index }
+  names_same : (scope : Scope) → names_in q scope ≡ names_in Between scope
+  names_same scope i = record { bounds = q.bounds; constants = sym constants i; cell = (names_in p scope).cell; index = (names_in p scope).index }
 
   place_same : (scope : Scope) (n : ℕ) → n < l → place_of q n scope ≡ place_of p n scope
   place_same scope n e j = record { statement = alike.before n e j; turns = turns_of scope }
@@ -177,17 +186,24 @@ module _ (p q : Setting) (t : ProgramTree) (start : Store) (l : ℕ) (old new : 
   part_comes f g other more h k true = h
   part_comes f g other more h k false = k
 
-  if_comes : (scope : Scope) (n : ℕ) (c : CondTree) (first second one two : Store → Run) → n < l → Comes first one → Comes second two → Comes (run_if (names_in p scope) (place_of p n scope) c first second) (run_if (names_in q scope) (place_of q n scope) c one two)
-  if_comes scope n c first second one two e h k =
-      subst (Comes (run_if (names_in p scope) (place_of p n scope) c first second)) (λ j. run_if (sym (names_same scope) j) (sym (place_same scope n e) j) c one two)
+  if_same : (scope : Scope) (n : ℕ) (c : CondTree) (one two : Store → Run) → n < l → Agree (cond_names c) → run_if (names_in p scope) (place_of p n scope) c one two ≡ run_if (names_in q scope) (place_of q n scope) c one two
+  if_same scope n c one two e agree =
+      let holds = truth_same (names_in p scope) q.bounds c agree in
+      (λ j u. on (place_of p n scope) (holds j u) λ seen b. does did (place_of p n scope) (numbered_reads 1 seen) (if b then one else two) u)
+      ∙ (λ j. run_if (sym (names_same scope) j) (sym (place_same scope n e) j) c one two)
+
+  if_comes : (scope : Scope) (n : ℕ) (c : CondTree) (first second one two : Store → Run) → n < l → Agree (cond_names c) → Comes first one → Comes second two → Comes (run_if (names_in p scope) (place_of p n scope) c first second) (run_if (names_in q scope) (place_of q n scope) c one two)
+  if_comes scope n c first second one two e agree h k =
+      subst (Comes (run_if (names_in p scope) (place_of p n scope) c first second)) (if_same scope n c one two e agree)
       (pasted_on p t start l (run_all p old l) fresh (place_of p n scope) (truth (names_in p scope) c) (truth_told (names_in p scope) c) (λ seen holds. did) (λ seen holds. numbered_reads 1 seen)
       (λ seen holds. if holds then first else second) (λ seen holds. if holds then one else two)
       (λ seen holds u f. found_reads seen 1 u f) (λ seen holds. part_comes first second one two h k holds))
 
-  do_same : (scope : Scope) (n : ℕ) (h : Head) (b other : StmtTrees) (body : Frame → Store → Run) → place_of q n scope ≡ place_of p n scope → inner_variables h.parallel other ≡ inner_variables h.parallel b
+  do_same : (scope : Scope) (n : ℕ) (h : Head) (b other : StmtTrees) (body : Frame → Store → Run) → Agree (head_names h) → place_of q n scope ≡ place_of p n scope → inner_variables h.parallel other ≡ inner_variables h.parallel b
       → run_do q n scope h other body ≡ run_do p n scope h b body
-  do_same scope n h b other body place inner = λ i u. on (place i) (limits (names_same scope i) h u) λ seen m.
-      run_from_entry seen (record {
+  do_same scope n h b other body agree place inner =
+      let ends = limits_same (names_in p scope) q.bounds h agree in
+      (λ i u. on (place i) (limits (names_same scope i) h u) λ seen m. run_from_entry seen (record {
         number = (place i).statement;
         head = h;
         first = m.first;
@@ -195,7 +211,8 @@ module _ (p q : Setting) (t : ProgramTree) (start : Store) (l : ℕ) (old new : 
         count = iteration_count m.first m.last (increment (sym constants i) h);
         behind_bounds = number_behind 1 seen;
         inner = inner i;
-      }) scope (place i) body u
+      }) scope (place i) body u)
+      ∙ (λ i u. on (place_of p n scope) (sym ends i u) λ seen m. run_from_entry seen (entered_with p n h b seen m) scope (place_of p n scope) body u)
 
   do_comes : (scope : Scope) (n : ℕ) (h : Head) (b : StmtTrees) (body other : Frame → Store → Run) → ((f : Frame) → IsToldByActs (body f)) → ((seen : List Seen) (m : Limits) (k : ℕ) → Comes (body (frame (entered_with p n h b seen m) k)) (other (frame (entered_with p n h b seen m) k)))
       → Comes (run_do p n scope h b body) (run_do p n scope h b other)
@@ -236,45 +253,59 @@ module _ (p q : Setting) (t : ProgramTree) (start : Store) (l : ℕ) (old new : 
       (λ w. else_stands t a b (n + 1) (inner_stands t (If c a b) (all_numbered a ++ all_numbered b) n w))
       (none_first (all_loops_round l a (n + 1)) (all_loops_round l b (n + 1 + statements_count a)) (all_none_before l a (n + 1) h))
 
-  here_comes : (rest : StmtTrees) (n : ℕ) (scope : Scope) → n ≡ l → IsPlaceOf p t l scope → Comes (run_all p (followed old rest) n scope) (run_all q (followed new rest) n scope)
-  here_comes rest n scope e place =
+  here_comes : (rest : StmtTrees) (n : ℕ) (scope : Scope) → Agree (stmts_names rest) → n ≡ l → IsPlaceOf p t l scope → Comes (run_all p (followed old rest) n scope) (run_all q (followed new rest) n scope)
+  here_comes rest n scope agree e place =
       subst (λ (f : Store → Run). Comes f (run_all q (followed new rest) n scope)) (sym (run_followed p old rest n scope))
       (subst (Comes (λ u. then_run (run_all p old n scope u) (run_all p rest (n + statements_count old) scope))) (sym (run_followed q new rest n scope))
       (pasted_then p t start l (run_all p old l) fresh (run_all p old n scope) (run_all p rest (n + statements_count old) scope) (run_all q new n scope) (run_all q rest (n + statements_count new) scope) (all_told p old n scope)
       (subst (λ (m : ℕ). Comes (run_all p old m scope) (run_all q new m scope)) (sym e) (in_place scope place))
-      (all_behind rest (n + statements_count old) (n + statements_count new) scope (omega (arith, e)) (omega arith))))
+      (all_behind rest (n + statements_count old) (n + statements_count new) scope agree (omega (arith, e)) (omega arith))))
 
-  all_come : (gap : Gap) (n : ℕ) (scope : Scope) → number_at gap n ≡ l → IsReached p t l scope n (all_numbered (filled gap old)) (all_loops_round l (filled gap old) n) → Comes (run_all p (filled gap old) n scope) (run_all q (filled gap new) n scope)
-  all_come (at_front rest) n scope e r =
-      here_comes rest n scope e (reached_place p t l scope n (all_numbered (followed old rest)) (all_loops_round l (followed old rest) n) (all_none_from l (followed old rest) n (omega (arith, e))) r)
-  all_come (past x gap) n scope e r =
+  rest_names : (xs rest : StmtTrees) → Agree (stmts_names (followed xs rest)) → Agree (stmts_names rest)
+  rest_names no_stmts rest h = h
+  rest_names (more_stmts x xs) rest h = rest_names xs rest (agree_right p.bounds q.bounds (stmt_names x) (stmts_names (followed xs rest)) h)
+
+  all_come : (gap : Gap) (n : ℕ) (scope : Scope) → number_at gap n ≡ l → Agree (stmts_names (filled gap old)) → IsReached p t l scope n (all_numbered (filled gap old)) (all_loops_round l (filled gap old) n)
+      → Comes (run_all p (filled gap old) n scope) (run_all q (filled gap new) n scope)
+  all_come (at_front rest) n scope e agree r =
+      here_comes rest n scope (rest_names old rest agree) e
+      (reached_place p t l scope n (all_numbered (followed old rest)) (all_loops_round l (followed old rest) n) (all_none_from l (followed old rest) n (omega (arith, e))) r)
+  all_come (past x gap) n scope e agree r =
       let from = number_from gap (n + statement_count x) in
       let earlier : n + statement_count x ≤ l = omega (arith, from, e) in
-      subst (λ (f : Store → Run). Comes (run_all p (more_stmts x (filled gap old)) n scope) (λ u. then_run (f u) (run_all q (filled gap new) (n + statement_count x) scope))) (one_before x n scope earlier)
+      subst (λ (f : Store → Run). Comes (run_all p (more_stmts x (filled gap old)) n scope) (λ u. then_run (f u) (run_all q (filled gap new) (n + statement_count x) scope)))
+      (one_before x n scope (agree_left p.bounds q.bounds (stmt_names x) (stmts_names (filled gap old)) agree) earlier)
       (pasted_then p t start l (run_all p old l) fresh (run p x n scope) (run_all p (filled gap old) (n + statement_count x) scope) (run p x n scope) (run_all q (filled gap new) (n + statement_count x) scope) (run_told p x n scope)
       (pasted_same p t start l (run_all p old l) fresh (run p x n scope) (run_told p x n scope))
-      (all_come gap (n + statement_count x) scope e (into_rest x (filled gap old) n scope earlier r)))
-  all_come (in_then c gap b rest) n scope e r =
+      (all_come gap (n + statement_count x) scope e (agree_right p.bounds q.bounds (stmt_names x) (stmts_names (filled gap old)) agree) (into_rest x (filled gap old) n scope earlier r)))
+  all_come (in_then c gap b rest) n scope e agree r =
       let a = filled gap old in
       let from = number_from gap (n + 1) in
       let room = number_room gap old (n + 1) in
       let count = count_filled old new gap in
       let inside : l + statements_count old ≤ n + statement_count (If c a b) = omega (arith, room, e) in
-      with_rest (If c a b) (If c (filled gap new) b) rest n scope inside (omega (arith, count))
+      let first = agree_left p.bounds q.bounds (stmt_names (If c a b)) (stmts_names rest) agree in
+      let begin = agree_left p.bounds q.bounds (cond_names c ++ stmts_names a) (stmts_names b) first in
+      with_rest (If c a b) (If c (filled gap new) b) rest n scope (agree_right p.bounds q.bounds (stmt_names (If c a b)) (stmts_names rest) agree) inside (omega (arith, count))
       (if_comes scope n c (run_all p a (n + 1) scope) (run_all p b (n + 1 + statements_count a) scope) (run_all q (filled gap new) (n + 1) scope) (run_all q b (n + 1 + statements_count (filled gap new)) scope) (omega (arith, from, e))
-      (all_come gap (n + 1) scope e (into_then c a b n scope (omega (arith, room, e)) (into_first (If c a b) rest n scope (omega (arith, inside)) r)))
-      (all_behind b (n + 1 + statements_count a) (n + 1 + statements_count (filled gap new)) scope (omega (arith, room, e)) (omega (arith, count))))
-  all_come (in_else c a gap rest) n scope e r =
+      (agree_left p.bounds q.bounds (cond_names c) (stmts_names a) begin)
+      (all_come gap (n + 1) scope e (agree_right p.bounds q.bounds (cond_names c) (stmts_names a) begin) (into_then c a b n scope (omega (arith, room, e)) (into_first (If c a b) rest n scope (omega (arith, inside)) r)))
+      (all_behind b (n + 1 + statements_count a) (n + 1 + statements_count (filled gap new)) scope (agree_right p.bounds q.bounds (cond_names c ++ stmts_names a) (stmts_names b) first) (omega (arith, room, e)) (omega (arith, count))))
+  all_come (in_else c a gap rest) n scope e agree r =
       let b = filled gap old in
       let from = number_from gap (n + 1 + statements_count a) in
       let room = number_room gap old (n + 1 + statements_count a) in
       let count = count_filled old new gap in
       let inside : l + statements_count old ≤ n + statement_count (If c a b) = omega (arith, room, e) in
-      with_rest (If c a b) (If c a (filled gap new)) rest n scope inside (omega (arith, count))
+      let first = agree_left p.bounds q.bounds (stmt_names (If c a b)) (stmts_names rest) agree in
+      let begin = agree_left p.bounds q.bounds (cond_names c ++ stmts_names a) (stmts_names b) first in
+      with_rest (If c a b) (If c a (filled gap new)) rest n scope (agree_right p.bounds q.bounds (stmt_names (If c a b)) (stmts_names rest) agree) inside (omega (arith, count))
       (if_comes scope n c (run_all p a (n + 1) scope) (run_all p b (n + 1 + statements_count a) scope) (run_all q a (n + 1) scope) (run_all q (filled gap new) (n + 1 + statements_count a) scope) (omega (arith, from, e))
-      (all_before a (n + 1) scope (omega (arith, from, e)))
-      (all_come gap (n + 1 + statements_count a) scope e (into_else c a b n scope (omega (arith, from, e)) (into_first (If c a b) rest n scope (omega (arith, inside)) r))))
-  all_come (in_body h gap rest) n scope e r =
+      (agree_left p.bounds q.bounds (cond_names c) (stmts_names a) begin)
+      (all_before a (n + 1) scope (agree_right p.bounds q.bounds (cond_names c) (stmts_names a) begin) (omega (arith, from, e)))
+      (all_come gap (n + 1 + statements_count a) scope e (agree_right p.bounds q.bounds (cond_names c ++ stmts_names a) (stmts_names b) first)
+          (into_else c a b n scope (omega (arith, from, e)) (into_first (If c a b) rest n scope (omega (arith, inside)) r))))
+  all_come (in_body h gap rest) n scope e agree r =
       let b = filled gap old in
       let from = number_from gap (n + 1) in
       let room = number_room gap old (n + 1) in
@@ -282,12 +313,14 @@ module _ (p q : Setting) (t : ProgramTree) (start : Store) (l : ℕ) (old new : 
       let inside : l + statements_count old ≤ n + statement_count (Do h b) = omega (arith, room, e) in
       let reached = into_first (Do h b) rest n scope (omega (arith, inside)) r in
       let loops = one_more l h b n (omega (arith, from, e)) (omega (arith, room, e, some)) in
-      with_rest (Do h b) (Do h (filled gap new)) rest n scope inside (omega (arith, count))
+      let first = agree_left p.bounds q.bounds (stmt_names (Do h b)) (stmts_names rest) agree in
+      with_rest (Do h b) (Do h (filled gap new)) rest n scope (agree_right p.bounds q.bounds (stmt_names (Do h b)) (stmts_names rest) agree) inside (omega (arith, count))
       (subst (Comes (run p (Do h b) n scope))
-      (sym (do_same scope n h b (filled gap new) (λ f. run_all q (filled gap new) (n + 1) (f ∷ scope)) (place_same scope n (omega (arith, from, e)))
-      (inner_same gap h.parallel (λ parallel. indices (parallel_round p t l scope n h (Do h b ∷ all_numbered b) (loops_round l (Do h b) n) (all_loops_round l b (n + 1)) loops parallel reached)))))
+      (sym (do_same scope n h b (filled gap new) (λ f. run_all q (filled gap new) (n + 1) (f ∷ scope)) (agree_left p.bounds q.bounds (head_names h) (stmts_names b) first) (place_same scope n (omega (arith, from, e)))
+          (inner_same gap h.parallel (λ parallel. indices (parallel_round p t l scope n h (Do h b ∷ all_numbered b) (loops_round l (Do h b) n) (all_loops_round l b (n + 1)) loops parallel reached)))))
       (do_comes scope n h b (λ f. run_all p b (n + 1) (f ∷ scope)) (λ f. run_all q (filled gap new) (n + 1) (f ∷ scope)) (λ f. all_told p b (n + 1) (f ∷ scope))
-      (λ seen m k. all_come gap (n + 1) (frame (entered_with p n h b seen m) k ∷ scope) e (reached_body p t l scope n k h b seen m (loops_round l (Do h b) n) (all_loops_round l b (n + 1)) loops reached))))
+      (λ seen m k. all_come gap (n + 1) (frame (entered_with p n h b seen m) k ∷ scope) e (agree_right p.bounds q.bounds (head_names h) (stmts_names b) first)
+          (reached_body p t l scope n k h b seen m (loops_round l (Do h b) n) (all_loops_round l b (n + 1)) loops reached))))
 
 -- parts of a run, of which the changed ones are executions; another run does the new parts
 abbrev pub Exchanged : Setting → ProgramTree → Store → ℕ → (Scope → Store → Run) → (Scope → Store → List Act) → (Store → Run) → Finish → Type 0
@@ -306,7 +339,8 @@ exchanged p q gap old new t u start fresh pasting each ends =
       nest = ap (λ (ts : StmtTrees). all_loops_round l ts 1) pasting.old_body;
       turns = tt;
     } in
-    let comes = all_come p q t start l old new fresh pasting.bounds pasting.constants pasting.numbers pasting.some pasting.unstopped pasting.indices each gap 1 [] refl reached in
+    let agree = subst (λ (ts : StmtTrees). AgreeInBounds p.bounds q.bounds (stmts_names ts)) pasting.old_body pasting.bounds in
+    let comes = all_come p q t start l old new fresh pasting.constants pasting.numbers pasting.some pasting.unstopped pasting.indices each gap 1 [] refl agree reached in
     let bodies = subst (λ (ts : StmtTrees). ArePasted p t start l (run_all p old l) fresh (run_all p t.body 1 []) (run_all q ts 1 [])) (sym pasting.new_body)
     (subst (λ (ts : StmtTrees). ArePasted p t start l (run_all p old l) fresh (run_all p ts 1 []) (run_all q (filled gap new) 1 [])) (sym pasting.old_body) comes) in
     let h = bodies start (record { front = []; behind = []; whole = whole; from = refl }) ends in

@@ -1,9 +1,11 @@
 -- Executions of one statement among the acts of a run, and what a new program does in their place (this project).
 use Rattle.std.specs.Prelude.{◌≡◌, ℕ, ◌+◌, ◌<◌, List, [], ◌∷◌, ◌++◌, Bool, true, false, Some}
 use Rattle.std.specs.List.{list_any}
+use Rattle.ped_base.specs.Dimensions.{Dimensions}
 use Rattle.ped_base.specs.Lists.{is_among}
 use Rattle.ped_tree.specs.Tree.{StmtTree, StmtTrees, ProgramTree}
 use Rattle.ped_tree.specs.Nests.{Loop}
+use Rattle.ped_tree.specs.NamesIn.{stmts_names}
 use Rattle.ped_tree.specs.Numbering.{statement_with, statement_count, statements_count}
 use Rattle.ped_store.specs.Cells.{Cell}
 use Rattle.ped_store.specs.Stores.{Store}
@@ -59,6 +61,10 @@ pub record CountAlike (p q : Setting) (l old new : ℕ) : Type 0 where
   pub before : (k : ℕ) → k < l → q.number k ≡ p.number k
   pub behind : (k : ℕ) → q.number (l + new + k) ≡ p.number (l + old + k)
 
+-- the arrays among these names have the same bounds (ANSI X3.9-1978, section 5.1; this project)
+abbrev pub AgreeInBounds : (bounds others : List ℕ → Dimensions) → List (List ℕ) → Type 0
+AgreeInBounds bounds others names = (x : List ℕ) → is_among x names ≡ true → bounds x ≡ others x
+
 -- a PARALLEL DO is round the statement with this number (ParaScope)
 abbrev pub is_in_parallel : ProgramTree → ℕ → Bool
 is_in_parallel t l = list_any (λ loop. loop.head.parallel) (nest_round t l)
@@ -67,11 +73,11 @@ is_in_parallel t l = list_any (λ loop. loop.head.parallel) (nest_round t l)
 abbrev pub HaveSameIndices : StmtTrees → StmtTrees → Type 0
 HaveSameIndices old new = (x : List ℕ) → is_among x (all_index_names new) ≡ is_among x (all_index_names old)
 
--- statements of a program are exchanged for others: the two programs fill one gap, and their runs take the same bounds and constants and count alike the statements that stay. The old statements are some and no STOP stands in them, and a PARALLEL DO round them finds the same variables of DO loops in it, of which its iterations have copies (ParaScope; this project)
+-- statements of a program are exchanged for others: the two programs fill one gap, and their runs take the same bounds for what the old program names, and the same constants, and count alike the statements that stay. The old statements are some and no STOP stands in them, and a PARALLEL DO round them finds the same variables of DO loops in it, of which its iterations have copies (ParaScope; this project)
 pub record IsPasting (p q : Setting) (gap : Gap) (old new : StmtTrees) (t u : ProgramTree) : Type 0 where
   pub old_body : t.body ≡ filled gap old
   pub new_body : u.body ≡ filled gap new
-  pub bounds : p.bounds ≡ q.bounds
+  pub bounds : AgreeInBounds p.bounds q.bounds (stmts_names t.body)
   pub constants : p.constants ≡ q.constants
   pub numbers : CountAlike p q (number_at gap 1) (statements_count old) (statements_count new)
   pub some : 0 < statements_count old
@@ -81,7 +87,7 @@ pub record IsPasting (p q : Setting) (gap : Gap) (old new : StmtTrees) (t u : Pr
 -- the same of one statement with its number (this project)
 pub record IsPastingOf (p q : Setting) (t : ProgramTree) (l : ℕ) (s : StmtTree) (by : StmtTree → StmtTrees) : Type 0 where
   pub found : statement_with l t ≡ Some s
-  pub bounds : p.bounds ≡ q.bounds
+  pub bounds : AgreeInBounds p.bounds q.bounds (stmts_names t.body)
   pub constants : p.constants ≡ q.constants
   pub numbers : CountAlike p q l (statement_count s) (statements_count (by s))
   pub unstopped : has_stop s ≡ false

@@ -1,5 +1,5 @@
 -- A piece of a run depends on the bounds of those arrays alone that its statements name.
-use Rattle.std.proofs.Common.{◌≡◌, ℕ, suc, ◌+◌, ℤ, List, [], ◌∷◌, ◌++◌, length, Bool, true, false, not, ◌&&◌, ◌||◌, Option, Some, None, Result, Ok, Err, if◌then◌else◌, refl, sym, ap, ◌∙◌}
+use Rattle.std.proofs.Common.{◌≡◌, ℕ, ◌+◌, ℤ, List, [], ◌∷◌, ◌++◌, length, Bool, true, false, not, ◌&&◌, ◌||◌, Option, Some, None, Result, Ok, Err, if◌then◌else◌, refl, ◌∙◌}
 use Rattle.std.proofs.lemmas.List.Folds.{list_any-append}
 use Rattle.std.specs.List.{flat_map, join_with_byte}
 use Rattle.ped_base.specs.Dimensions.{Dimensions}
@@ -17,7 +17,7 @@ use Rattle.ped_store.specs.Cells as cells
 use Rattle.ped_store.specs.Cells.{Cell, In}
 use Rattle.ped_store.specs.Stores.{Number, Store, put, lines_in, outside_bounds, storable}
 use Rattle.ped_store.specs.Storage.{is_within}
-use Rattle.ped_store.specs.DataLines.{Data, Taken, begun, next_value_of}
+use Rattle.ped_store.specs.DataLines.{Data, begun, next_value_of}
 use Rattle.ped_eval.specs.Scopes.{Setting, Frame, Scope, Names, names_in, place_of}
 use Rattle.ped_eval.specs.Evaluation.{◌>>>◌, given, numbered, read_cell}
 use Rattle.ped_eval.specs.Values.{unary, binary, of_intrinsic, name_value, is_rank, element_cell, relation_holds, value, values, truth, target}

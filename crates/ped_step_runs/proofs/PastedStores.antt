@@ -19,8 +19,10 @@ use Rattle.ped_eval.specs.Outcomes.{Ends}
 use Rattle.ped_runs.specs.Replaying.{Finish, goes_on, finish_of, ending_with, act}
 use Rattle.ped_runs.proofs.StatementsTold.{all_told}
 use Rattle.ped_flow.specs.Questions.{LoopOf}
+use Rattle.ped_flow.specs.PlainBounds.{nest_round, outermost_or}
+use Rattle.ped_flow_runs.specs.Entries.{IsEntry}
 use Rattle.ped_flow_runs.specs.Exits.{is_exit, IsExit}
-use Rattle.ped_step_runs.specs.Pasting.{IsPlaceOf, IsDone, AreExecutions, StandInstead}
+use Rattle.ped_step_runs.specs.Pasting.{IsPlaceOf, IsDone, IsInExecution, AreExecutions, StandInstead}
 use Rattle.ped_step_runs.proofs.PastedRuns.{Exchanged}
 
 module _ (shown : Cell → Bool) (p : Setting) (t : ProgramTree) (start : Store) (l : ℕ) (piece : Scope → Store → Run) (fresh : Scope → Store → List Act) (stands : StandInstead shown p t start l piece fresh) where
@@ -28,22 +30,23 @@ module _ (shown : Cell → Bool) (p : Setting) (t : ProgramTree) (start : Store)
   Instead behind u old new = StandsFor (record { agreed = wants shown (old ++ behind); old = old; new = new }) (wants shown behind) u
 
   -- behind acts of the run that are done
-  stand_from : (parts : List Part) (front : List Act) (u : Store) → u ≡ store_after front start → (run_all p t.body 1 [] start).acts ≡ front ++ old_parts parts → AreExecutions p t l piece fresh parts u → PartsStand shown parts u
+  stand_from : (parts : List Part) (front : List Act) (u : Store) → u ≡ store_after front start → (run_all p t.body 1 [] start).acts ≡ front ++ old_parts parts → AreExecutions p t start l piece fresh parts u → PartsStand shown parts u
   stand_from [] front u from whole e = tt
   stand_from (same acts ∷ parts) front u from whole e =
       stand_from parts (front ++ acts) (store_after acts u) (ap (store_after acts) from ∙ sym (after_append front acts start)) (whole ∙ sym (append_assoc front acts (old_parts parts))) e
   stand_from (changed old new ∷ parts) front u from whole e =
       let x = e.0 in
-      let done : IsDone p t start (piece x.scope u).acts u = record { front = front; behind = old_parts parts; whole = whole ∙ ap (λ (z : List Act). front ++ (z ++ old_parts parts)) x.old_is; from = from } in (
+      let done : IsDone p t start l x.scope (piece x.scope u).acts u =
+      record { part = record { front = front; behind = old_parts parts; is = whole ∙ ap (λ (z : List Act). front ++ (z ++ old_parts parts)) x.old_is; from = from }; outer = x.outer } in (
         subst (λ (a : List Act). Instead (old_parts parts) u a new) (sym x.old_is) (subst (Instead (old_parts parts) u (piece x.scope u).acts) (sym x.new_is) (stands x.scope u x.place done x.goes)),
         stand_from parts (front ++ old) (store_after old u) (ap (store_after old) from ∙ sym (after_append front old start)) (whole ∙ sym (append_assoc front old (old_parts parts))) e.1,
       )
 
-  pub parts_stand : (parts : List Part) → old_parts parts ≡ (run_all p t.body 1 [] start).acts → AreExecutions p t l piece fresh parts start → PartsStand shown parts start
+  pub parts_stand : (parts : List Part) → old_parts parts ≡ (run_all p t.body 1 [] start).acts → AreExecutions p t start l piece fresh parts start → PartsStand shown parts start
   parts_stand parts whole e = stand_from parts [] start refl (sym whole) e
 
   -- the whole run
-  pub stores_agree : (r : Store → Run) (finish : Finish) → Exchanged p t start l piece fresh r finish → (parts : List Part) × (old_parts parts ≡ (run_all p t.body 1 [] start).acts) × AreExecutions p t l piece fresh parts start
+  pub stores_agree : (r : Store → Run) (finish : Finish) → Exchanged p t start l piece fresh r finish → (parts : List Part) × (old_parts parts ≡ (run_all p t.body 1 [] start).acts) × AreExecutions p t start l piece fresh parts start
       × (r start ≡ record { acts = new_parts parts; ending = ending_with finish (store_after (new_parts parts) start) }) × AgreeIn shown (store_after (run_all p t.body 1 [] start).acts start) (store_after (new_parts parts) start)
   stores_agree r finish h =
       let stand = parts_stand h.0 h.1 h.2 in
@@ -106,16 +109,44 @@ number_itself : (n : ℕ) → (n == n) ≡ true
 number_itself n = grind (arith, eqb-true)
 
 pub execution_left : (p : Setting) (t : ProgramTree) (start : Store) (l : ℕ) (loop : LoopOf t l) (scope : Scope) (u : Store) → Ends (run_all p t.body 1 [] start).ending → IsPlaceOf p t l scope
-    → (done : IsDone p t start (run p (Do loop.head loop.body) l scope u).acts u) → finish_of (run p (Do loop.head loop.body) l scope u).ending ≡ goes_on → IsExit p t start l scope done.behind
+    → (done : IsDone p t start l scope (run p (Do loop.head loop.body) l scope u).acts u) → finish_of (run p (Do loop.head loop.body) l scope u).ending ≡ goes_on → IsExit p t start l scope done.part.behind
 execution_left p t start l loop scope u ends place done goes =
     let h = do_left p loop.head loop.body l scope u goes in
     record {
       ends = ends;
-      front = done.front ++ h.front;
+      front = done.part.front ++ h.front;
       act = h.last;
-      whole = done.whole ∙ (ap (λ (z : List Act). done.front ++ (z ++ done.behind)) h.whole
-          ∙ (ap (λ (z : List Act). done.front ++ z) (append_assoc h.front (h.last ∷ []) done.behind) ∙ sym (append_assoc done.front h.front (h.last ∷ done.behind))));
+      whole = done.part.is ∙ (ap (λ (z : List Act). done.part.front ++ (z ++ done.part.behind)) h.whole
+          ∙ (ap (λ (z : List Act). done.part.front ++ z) (append_assoc h.front (h.last ∷ []) done.part.behind) ∙ sym (append_assoc done.part.front h.front (h.last ∷ done.part.behind))));
       leaves = (λ i. ((h.place i).statement == p.number l) && h.exit i) ∙ ap (λ (b : Bool). b && true) (number_itself (p.number l));
       iterations = place.iterations;
       place = h.place;
     }
+
+-- the outermost DO round an execution is entered
+pub execution_entered : (p : Setting) (t : ProgramTree) (start : Store) (l : ℕ) (acts : List Act) (u : Store) → (x : IsInExecution p t start l acts u) → IsEntry p t start l x.execution.front
+execution_entered p t start l acts u x = by (limits (names_in p []) x.loop.head x.first).seen (limits (names_in p []) x.loop.head x.first).result x.ends x.execution.is
+  where
+    m : ℕ
+    m = outermost_or l (nest_round t l)
+
+    Entered : List Seen → Result Limits ℕ → Run
+    Entered seen r = on_value (place_of p m []) seen r (λ seen k. run_from_entry seen (entered_with p m x.loop.head x.loop.body seen k) [] (place_of p m []) (λ f. run_all p x.loop.body (m + 1) (f ∷ [])) x.first)
+
+    by : (seen : List Seen) (r : Result Limits ℕ) → Ends (Entered seen r).ending → (run_all p t.body 1 [] start).acts ≡ x.execution.front ++ ((Entered seen r).acts ++ x.execution.behind) → IsEntry p t start l x.execution.front
+    by seen (Ok k) ends is =
+        let e = entered_with p m x.loop.head x.loop.body seen k in
+        record {
+          act = act (entered e.count) (place_of p m []) (entry_touches seen e []);
+          behind = (run_entered x.loop.head.parallel e.count e [] (place_of p m []) (λ f. run_all p x.loop.body (m + 1) (f ∷ [])) (store_behind (entry_touches seen e []) x.first)).acts ++ x.execution.behind;
+          whole = is;
+          count = e.count;
+          enters = refl;
+          outermost = refl;
+          number = m;
+          loop = x.loop;
+          is = refl;
+          from = x.from;
+          to = x.to;
+        }
+    by seen (Err fault) ends is = absurd ends

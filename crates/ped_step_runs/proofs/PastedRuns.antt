@@ -133,7 +133,7 @@ part_rest whole start acts others u d = record {
   from = ap (store_after acts) d.from ∙ sym (after_append d.front acts start);
 }
 
-part_itself : (acts : List Act) (u : Store) → IsPartOf acts u acts u
+pub part_itself : (acts : List Act) (u : Store) → IsPartOf acts u acts u
 part_itself acts u = record { front = []; behind = []; is = sym (append-nil acts); from = refl }
 
 module _ (p : Setting) (t : ProgramTree) (start : Store) (l : ℕ) where

@@ -1,8 +1,10 @@
 -- A program in which statements have been exchanged for others: what its run leaves, and what comes behind an execution of a DO.
-use Rattle.std.proofs.Common.{◌≡◌, ℕ, zero, suc, ◌+◌, List, [], ◌∷◌, ◌++◌, Bool, true, false, eqb-true, ◌&&◌, Result, Ok, Err, refl, sym, ap, subst, ◌∙◌, arith}
+use Rattle.std.proofs.Common.{◌≡◌, ℕ, zero, suc, ◌+◌, ◌≤◌, List, [], ◌∷◌, ◌++◌, Bool, true, false, eqb-true, ◌&&◌, Some, Result, Ok, Err, refl, sym, ap, subst, ◌∙◌, arith}
 use Rattle.std.specs.Prelude.{◌==◌}
 use Rattle.std.proofs.lemmas.List.{append_assoc}
 use Rattle.ped_tree.specs.Tree.{Head, StmtTrees, Do, ProgramTree}
+use Rattle.ped_tree.specs.Nests.{Loop}
+use Rattle.ped_tree.specs.Numbering.{statement_with, statements_count}
 use Rattle.ped_store.specs.Cells.{Cell}
 use Rattle.ped_store.specs.Stores.{Store}
 use Rattle.ped_store.specs.Acts.{Place, Act, entered, ended_turn, closed, store_behind}
@@ -22,8 +24,8 @@ use Rattle.ped_flow.specs.Questions.{LoopOf}
 use Rattle.ped_flow.specs.PlainBounds.{nest_round, outermost_or}
 use Rattle.ped_flow_runs.specs.Entries.{IsEntry}
 use Rattle.ped_flow_runs.specs.Exits.{is_exit, IsExit}
-use Rattle.ped_step_runs.specs.Pasting.{IsPlaceOf, IsDone, IsInExecution, AreExecutions, StandInstead}
-use Rattle.ped_step_runs.proofs.PastedRuns.{Exchanged}
+use Rattle.ped_step_runs.specs.Pasting.{AreTurnsOf, IsPlaceOf, IsPartOf, IsDone, IsInExecution, AreExecutions, StandInstead}
+use Rattle.ped_step_runs.proofs.PastedRuns.{part_itself, Exchanged}
 
 module _ (shown : Cell → Bool) (p : Setting) (t : ProgramTree) (start : Store) (l : ℕ) (piece : Scope → Store → Run) (fresh : Scope → Store → List Act) (stands : StandInstead shown p t start l piece fresh) where
   abbrev Instead : List Act → Store → List Act → List Act → Type 0
@@ -150,3 +152,28 @@ execution_entered p t start l acts u x = by (limits (names_in p []) x.loop.head 
           to = x.to;
         }
     by seen (Err fault) ends is = absurd ends
+
+-- of a DO that is the outermost itself, the execution is this one
+no_turns : (number : ℕ → ℕ) (nest : List Loop) → AreTurnsOf number nest [] → nest ≡ []
+no_turns number [] h = refl
+no_turns number (m ∷ ms) h = absurd h
+
+going_ends : (e : Ending) → finish_of e ≡ goes_on → Ends e
+going_ends (going u) h = tt
+going_ends (stopped u) h = absurd cc
+going_ends (failed fault n) h = absurd cc
+
+pub loop_entered : (p : Setting) (t : ProgramTree) (start : Store) (l : ℕ) (loop : LoopOf t l) (scope : Scope) (u : Store) → IsPlaceOf p t l scope → IsDone p t start l scope (run p (Do loop.head loop.body) l scope u).acts u
+    → finish_of (run p (Do loop.head loop.body) l scope u).ending ≡ goes_on → IsInExecution p t start l (run p (Do loop.head loop.body) l scope u).acts u
+loop_entered p t start l loop (f ∷ fs) u place done goes = done.outer
+loop_entered p t start l loop [] u place done goes =
+    let is : l ≡ outermost_or l (nest_round t l) = sym (ap (outermost_or l) (no_turns p.number (nest_round t l) place.turns)) in
+    record {
+      loop = record { head = loop.head; body = loop.body; is = subst (λ (m : ℕ). statement_with m t ≡ Some (Do loop.head loop.body)) is loop.is };
+      from = subst (λ (m : ℕ). m ≤ l) is (omega arith);
+      to = subst (λ (m : ℕ). l ≤ m + statements_count loop.body) is (omega arith);
+      first = u;
+      execution = subst (λ (m : ℕ). IsPartOf (run_all p t.body 1 [] start).acts start (run p (Do loop.head loop.body) m [] u).acts u) is done.part;
+      ends = subst (λ (m : ℕ). Ends (run p (Do loop.head loop.body) m [] u).ending) is (going_ends (run p (Do loop.head loop.body) l [] u).ending goes);
+      part = subst (λ (m : ℕ). IsPartOf (run p (Do loop.head loop.body) m [] u).acts u (run p (Do loop.head loop.body) l [] u).acts u) is (part_itself (run p (Do loop.head loop.body) l [] u).acts u);
+    }

@@ -56,8 +56,9 @@ pub fn executions_leave()
     ensures { (p : Setting) (t : ProgramTree) (start : Store) (l : ℕ) (loop : LoopOf t l) (scope : Scope) (u : Store) → Ends (run_all p t.body 1 [] start).ending → IsPlaceOf p t l scope → (done : IsDone p t start l scope (run p (Do loop.head loop.body) l scope u).acts u) → finish_of (run p (Do loop.head loop.body) l scope u).ending ≡ goes_on → IsExit p t start l scope done.part.behind }
 {}
 
-/// An execution in DO loops stands in the one execution of the outermost of them, whose entry comes behind the acts before
-/// that. For plain bounds, which have one value from there on.
+/// The outermost DO round an execution, or that DO itself which is executed, is executed once; its entry comes behind the
+/// acts before that. For plain bounds, which have one value from there on.
 pub fn executions_enter()
-    ensures { (p : Setting) (t : ProgramTree) (start : Store) (l : ℕ) (acts : List Act) (u : Store) → (x : IsInExecution p t start l acts u) → IsEntry p t start l x.execution.front }
+    ensures entry { (p : Setting) (t : ProgramTree) (start : Store) (l : ℕ) (acts : List Act) (u : Store) → (x : IsInExecution p t start l acts u) → IsEntry p t start l x.execution.front }
+    ensures of_loop { (p : Setting) (t : ProgramTree) (start : Store) (l : ℕ) (loop : LoopOf t l) (scope : Scope) (u : Store) → IsPlaceOf p t l scope → IsDone p t start l scope (run p (Do loop.head loop.body) l scope u).acts u → finish_of (run p (Do loop.head loop.body) l scope u).ending ≡ goes_on → IsInExecution p t start l (run p (Do loop.head loop.body) l scope u).acts u }
 {}

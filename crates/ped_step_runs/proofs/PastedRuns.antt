@@ -65,7 +65,7 @@ run_followed q (more_stmts x xs) ys n scope =
     ∙ ((λ i u. then_then (run q x n scope u).acts (run_all q ys (n + statement_count x + statements_count xs) scope) (run q x n scope u).ending (run_all q xs (n + statement_count x) scope) i)
     ∙ ap (λ (m : ℕ). λ u. then_run (run_all q (more_stmts x xs) n scope u) (run_all q ys m scope)) (omega arith))
 
--- the way down to the statement has come to these statements, with numbers from n on, in iterations of the loops round them; these loops are left
+-- the way down to the gap has come to these statements, with numbers from n on, in iterations of the loops round them; these loops are left
 record IsReached (p : Setting) (t : ProgramTree) (l : ℕ) (scope : Scope) (n : ℕ) (xs : List StmtTree) (loops : List Loop) : Type 0 where
   stand : Stand t n xs
   iterations : AreIterationsOf p t scope
@@ -214,7 +214,6 @@ module _ (p q : Setting) (t : ProgramTree) (start : Store) (l : ℕ) (old new : 
             (subst (λ (finish : Finish). Replays (run_all q new l scope) (fresh scope u) finish) (sym goes) (each scope u place (record { part = d.0; outer = d.1 }) goes));
       }
 
-  -- statements before it and behind it
   -- the old program with the bounds of the new one
   abbrev Between : Setting
   Between = with_bounds p q.bounds
@@ -222,6 +221,7 @@ module _ (p q : Setting) (t : ProgramTree) (start : Store) (l : ℕ) (old new : 
   abbrev Agree : List (List ℕ) → Type 0
   Agree = AgreeInBounds p.bounds q.bounds
 
+  -- statements before the gap and behind it
   one_before : (x : StmtTree) (n : ℕ) (scope : Scope) → Agree (stmt_names x) → n + statement_count x ≤ l → run p x n scope ≡ run q x n scope
   one_before x n scope agree h = run_bounds p q.bounds x n scope agree ∙ run_same Between q refl constants x n n scope (before_same n (statement_count x) h)
 

@@ -9,10 +9,13 @@ pub mod PrivatisedLoops
 pub mod PrivatisedParts
 pub mod NamesKept
 pub mod SameNames
-pub mod ReplacedTrees
+pub mod FilledGaps
+pub mod OwnBounds
 pub mod PastedParts
 pub mod LoopsRound
 pub mod PastedRuns
+pub mod ReplacedTrees
+pub mod PastedStatements
 pub mod PastedStores
 mod Examples
 pub mod PrivatisedPrograms

@@ -33,7 +33,7 @@ use Rattle.ped_acts.specs.Fitting.{Fits, store_after}
 use Rattle.ped_acts.specs.Sets.{AgreeIn, wants}
 use Rattle.ped_acts.specs.Pieces.{Part, old_parts, new_parts}
 use Rattle.ped_eval.specs.Scopes.{Setting, Scope, cell_of}
-use Rattle.ped_eval.specs.Runs.{Ending, going, stopped, failed, Run, run_all}
+use Rattle.ped_eval.specs.Runs.{Ending, going, stopped, failed, Run, run, run_all}
 use Rattle.ped_eval.specs.Outcomes as outcomes
 use Rattle.ped_eval.specs.Outcomes.{bounds_of, setting_of, run_of, live_names, live_rows, Outcome, outcome_of, outcome, Ends, IsRaceFree}
 use Rattle.ped_flow.specs.PlainBounds.{nest_round}
@@ -51,9 +51,10 @@ use Rattle.ped_runs.proofs.StatementsTold.{all_told}
 use Rattle.ped_runs.proofs.Shown.{outcome_same}
 use Rattle.ped_steps.specs.Replacing.{alone, program_with}
 use Rattle.ped_step_runs.specs.Meaning.{Keeps}
-use Rattle.ped_step_runs.specs.Pasting.{CountAlike, IsPasting, AreExecutions, DoInstead, is_in_parallel}
+use Rattle.ped_step_runs.specs.Pasting.{CountAlike, IsPastingOf, AreExecutions, DoInstead, is_in_parallel}
 use Rattle.ped_step_runs.proofs.NamesKept.{Alike, AreAlike, occurs, occurs_append, append_alike, by_sites, same_alike, alike_itself, names_kept}
-use Rattle.ped_step_runs.proofs.PastedStores.{runs_exchanged}
+use Rattle.ped_step_runs.proofs.PastedStatements.{one_exchanged}
+use Rattle.ped_step_runs.proofs.PastedStores.{stores_agree}
 use Rattle.ped_step_runs.proofs.PrivatisedLoops.{more_private}
 use Rattle.ped_step_runs.proofs.PrivatisedParts.{fresh, fresh_is, do_instead, stand_instead}
 use Rattle.ped_step_runs.proofs.PrivatisedRaces.{privatised_race_free}
@@ -180,10 +181,10 @@ module _ (t : ProgramTree) (valid : IsValid t) (l : ℕ) (loop : LoopOf t l) (x 
   one_statement : (n : ℕ) → n + 0 ≡ n
   one_statement n = omega arith
 
-  pasting : IsPasting p p t l s by
+  pasting : IsPastingOf p p t l s by
   pasting = record {
     found = loop.is;
-    bounds = refl;
+    bounds = λ y k. refl;
     constants = refl;
     numbers = counts (statements_count (by s)) (ap statements_count by_is ∙ one_statement (statement_count s));
     indices = λ h. absurd (both_ways (is_in_parallel t l) alone_so h);
@@ -206,15 +207,17 @@ module _ (t : ProgramTree) (valid : IsValid t) (l : ℕ) (loop : LoopOf t l) (x 
         go cells.Out k e o = absurd cc
 
     -- what the new program does
-    exchanged : (parts : List Part) × (old_parts parts ≡ (run_all p t.body 1 [] start).acts) × AreExecutions p t l s (fresh t l loop x p one in_order absent) parts start
+    exchanged : (parts : List Part) × (old_parts parts ≡ (run_all p t.body 1 [] start).acts) × AreExecutions p t start l (run p s l) (fresh t l loop x p one in_order absent) parts start
         × (run_all p u.body 1 [] start ≡ record { acts = new_parts parts; ending = ending_with (finish_of (run_all p t.body 1 [] start).ending) (store_after (new_parts parts) start) })
         × AgreeIn (shown_at_end t) (store_after (run_all p t.body 1 [] start).acts start) (store_after (new_parts parts) start)
     exchanged =
-        runs_exchanged (shown_at_end t) p t start l s (fresh t l loop x p one in_order absent)
+        stores_agree (shown_at_end t) p t start l (run p s l) (fresh t l loop x p one in_order absent)
         (stand_instead t l loop x p one in_order absent start (shown_at_end t) (λ y path. refl) free.0
             (λ S seen m k v ends. unexposed_unneeded p t l loop x other (loop_stops t l loop (fitting_stops t valid.fits)) unexposed S seen m k v ends)
             (λ S rest exit. unwanted_behind p one t x other (fitting_stops t valid.fits) start l S rest exit dead (shown_at_end t) (shown_own S)))
-        p by pasting (subst (λ (zs : StmtTrees). DoInstead p p t start l s zs (fresh t l loop x p one in_order absent)) (sym by_is) (do_instead t l loop x p one in_order absent start)) free.0
+        (run_all p u.body 1 []) (finish_of (run_all p t.body 1 [] start).ending)
+        (one_exchanged p p t l s by pasting start (fresh t l loop x p one in_order absent)
+            (subst (λ (zs : StmtTrees). DoInstead p p t start l (run p s l) zs (fresh t l loop x p one in_order absent)) (sym by_is) (do_instead t l loop x p one in_order absent start)) free.0)
 
     new_run : run_of u data_bytes ≡ record { acts = new_parts exchanged.0; ending = ending_with (finish_of (run_of t data_bytes).ending) (store_after (new_parts exchanged.0) start) }
     new_run = ap (λ (q : Setting). run_all q u.body 1 [] start) setting ∙ exchanged.3

@@ -1,4 +1,5 @@
 pub mod ExchangedSight
+pub mod ExchangedTouches
 pub mod ExchangedRuns
 pub mod Replayed
 pub mod RunCells

@@ -158,7 +158,7 @@ no_turns : (number : ℕ → ℕ) (nest : List Loop) → AreTurnsOf number nest 
 no_turns number [] h = refl
 no_turns number (m ∷ ms) h = absurd h
 
-going_ends : (e : Ending) → finish_of e ≡ goes_on → Ends e
+pub going_ends : (e : Ending) → finish_of e ≡ goes_on → Ends e
 going_ends (going u) h = tt
 going_ends (stopped u) h = absurd cc
 going_ends (failed fault n) h = absurd cc

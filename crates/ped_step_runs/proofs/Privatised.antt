@@ -1,33 +1,24 @@
 -- A DO whose iterations have one more private scalar does on the copies what it did on the scalar's own cell.
-use Rattle.std.proofs.Common.{◌≡◌, ℕ, zero, suc, ◌+◌, ℤ, List, [], ◌∷◌, ◌++◌, map, length, Bool, true, false, eqb, refl, sym, ap, subst, ◌∙◌, ◌⊎◌, inl, inr, append_assoc, append-nil, if◌then◌else◌}
+use Rattle.std.proofs.Common.{◌≡◌, ℕ, suc, List, [], ◌∷◌, ◌++◌, map, Bool, true, false, eqb, refl, sym, ap, subst, ◌∙◌, inl, inr, if◌then◌else◌}
 use Rattle.std.specs.Prelude.{◌||◌, not, ◌&&◌}
 use Rattle.std.proofs.lemmas.Bool.{both_ways, or_parts}
 use Rattle.std.proofs.lemmas.List.{map-append}
-use Rattle.ped_base.specs.Lists.{is_among}
-use Rattle.ped_tree.specs.Tree.{Head, StmtTrees}
-use Rattle.ped_store.specs.Cells.{Cell, Private, same_cell}
-use Rattle.ped_store.specs.Stores.{Content, Undefined, Store}
-use Rattle.ped_store.specs.Acts.{Touch, Place, Act, ended_turn, iterations_of, store_behind}
+use Rattle.ped_store.specs.Cells.{Cell, same_cell}
+use Rattle.ped_store.specs.Stores.{Undefined, Store}
+use Rattle.ped_store.specs.Acts.{Touch, Act, store_behind}
 use Rattle.ped_acts.specs.Fitting.{Find, Fits, store_after, touches_of, of_cells, has_cell}
-use Rattle.ped_acts.specs.Sets.{needs, written, wants, writes_to, written_by}
-use Rattle.ped_acts.specs.Renaming.{AreRenamed, Renamed, IsOneToOne, IsFree, touch}
-use Rattle.ped_acts.proofs.SameCells.{cell_itself, cell_is, other_cell}
-use Rattle.ped_acts.proofs.Stores.{behind_append, after_append, find_append, fits_append, fits_first, fits_rest, put_other}
-use Rattle.ped_acts.proofs.Appending.{touch_append, written_append}
-use Rattle.ped_acts.proofs.Renamings.{needed_touched, written_touched, renamed_fits, renamed_leaves, agreeing_leaves}
+use Rattle.ped_acts.specs.Sets.{needs, written, wants}
+use Rattle.ped_acts.specs.Renaming.{AreRenamed, Renamed, touch}
+use Rattle.ped_acts.proofs.SameCells.{cell_itself, other_cell}
+use Rattle.ped_acts.proofs.Stores.{find_append}
+use Rattle.ped_acts.proofs.Appending.{touch_append}
+use Rattle.ped_acts.proofs.Renamings.{needed_touched, renamed_fits, renamed_leaves, agreeing_leaves}
 use Rattle.ped_acts.proofs.Exchanging.{needed_wanted, wanted_before}
-use Rattle.ped_eval.specs.Scopes.{Setting, Frame, Scope, turns_of, cell_of, place_of}
-use Rattle.ped_eval.specs.Evaluation.{Seen}
+use Rattle.ped_eval.specs.Scopes.{Scope, cell_of}
 use Rattle.ped_eval.specs.Statements.{write_touch}
-use Rattle.ped_eval.specs.Loops.{Limits, Entered, entered_with, frame, undefined_by, undefined_all, left_in_variable, exit_touches, exit_when_none}
-use Rattle.ped_eval.specs.Runs.{Ending, Run, turns, run_all}
-use Rattle.ped_eval.specs.Turns.{body_run}
-use Rattle.ped_runs.specs.Replaying.{Finish, goes_on, stops, faults, is_going, finish_of, act, behind, Replays}
-use Rattle.ped_runs.proofs.Joined.{replays_nothing, turns_more, turns_apart, turns_alone}
-use Rattle.ped_runs.proofs.StatementsTold.{all_told}
-use Rattle.ped_step_runs.specs.Exchanging.{IsExchange, AreExchanged, exchanged_touch, exchanged_act, exchanged_acts, swapped}
-use Rattle.ped_step_runs.proofs.Replayed.{replays_in}
-use Rattle.ped_step_runs.proofs.Swapped.{swapped_other, twice, swap_exchanges, of_scalar, private_exchanged}
+use Rattle.ped_eval.specs.Loops.{Entered, undefined_by, undefined_all, left_in_variable, exit_touches, exit_when_none}
+use Rattle.ped_step_runs.specs.Exchanging.{exchanged_touch, exchanged_acts, swapped}
+use Rattle.ped_step_runs.proofs.Swapped.{swapped_other, twice}
 
 -- touches on renamed cells are those of the renamed acts
 renamed_touches : (name : Cell → Cell) (ts : List Touch) → AreRenamed name (of_cells ts) (of_cells (map (exchanged_touch name) ts))

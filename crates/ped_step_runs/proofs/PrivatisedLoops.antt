@@ -1,36 +1,36 @@
 -- What a DO does whose iterations have one more private scalar may stand for what it did.
-use Rattle.std.proofs.Common.{◌≡◌, ℕ, zero, suc, ◌+◌, ℤ, List, [], ◌∷◌, ◌++◌, Bool, true, false, eqb, Result, Ok, Err, refl, sym, ap, subst, ◌∙◌, append_assoc, append-nil, if◌then◌else◌}
+use Rattle.std.proofs.Common.{◌≡◌, ℕ, zero, suc, ◌+◌, List, [], ◌∷◌, ◌++◌, Bool, true, false, eqb, Ok, refl, sym, ap, subst, ◌∙◌, append_assoc, append-nil, if◌then◌else◌}
 use Rattle.ped_base.specs.Lists.{is_among}
 use Rattle.ped_tree.specs.Tree.{Head, StmtTrees, Do}
 use Rattle.ped_store.specs.Cells.{Cell, Private, same_cell}
 use Rattle.ped_store.specs.Stores.{Undefined, Store}
 use Rattle.ped_store.specs.Acts.{Touch, Place, Act, entered, ended_turn, iterations_of, store_behind}
-use Rattle.ped_acts.specs.Fitting.{Find, Fits, store_after}
+use Rattle.ped_acts.specs.Fitting.{Fits, store_after}
 use Rattle.ped_acts.specs.Sets.{AgreeIn, needs, wants}
 use Rattle.ped_acts.specs.Renaming.{touch}
 use Rattle.ped_acts.specs.Pieces.{StandsFor}
-use Rattle.ped_acts.proofs.Stores.{behind_append, after_append, find_append, fits_append, fits_first, fits_rest, put_other}
+use Rattle.ped_acts.proofs.Stores.{behind_append, after_append, fits_append, fits_first, put_other}
 use Rattle.std.proofs.lemmas.Bool.{both_ways, or_parts}
 use Rattle.ped_acts.proofs.SameCells.{other_cell}
 use Rattle.ped_acts.proofs.Appending.{touch_append}
 use Rattle.ped_acts.proofs.Renamings.{agreeing_fits}
 use Rattle.ped_acts.proofs.Exchanging.{needed_wanted}
-use Rattle.ped_eval.specs.Scopes.{Setting, Frame, Scope, turns_of, cell_of, names_in, place_of}
+use Rattle.ped_eval.specs.Scopes.{Setting, Scope, turns_of, cell_of, names_in, place_of}
 use Rattle.ped_eval.specs.Evaluation.{Seen, numbered}
 use Rattle.ped_eval.specs.Statements.{write_touch}
-use Rattle.ped_eval.specs.Loops.{Limits, limits, Entered, entered_with, frame, copied_names, inner_variables, left_in_variable, undefined_by, undefined_all, exit_touches, exit_when_none, entry_touches}
-use Rattle.ped_eval.specs.Runs.{Run, turns, run_entered, run, run_all}
+use Rattle.ped_eval.specs.Loops.{Limits, limits, Entered, entered_with, frame, inner_variables, left_in_variable, undefined_by, undefined_all, exit_touches, exit_when_none, entry_touches}
+use Rattle.ped_eval.specs.Runs.{Run, turns, run_entered, run}
 use Rattle.ped_eval.specs.Turns.{body_run}
 use Rattle.ped_runs.specs.Seeing.{ComesTo}
-use Rattle.ped_runs.specs.Replaying.{Finish, goes_on, stops, faults, is_going, finish_of, act, behind, Replays, IsToldByActs}
+use Rattle.ped_runs.specs.Replaying.{Finish, goes_on, stops, faults, is_going, finish_of, act, behind, Replays}
 use Rattle.ped_runs.proofs.Sight.{limits_told}
 use Rattle.ped_runs.proofs.Told.{reads_found_first, found_reads_first}
-use Rattle.ped_runs.proofs.Joined.{replays_nothing, turns_more, turns_apart, turns_alone, entry_apart, entry_fails, in_order_is, loop_in_order}
+use Rattle.ped_runs.proofs.Joined.{replays_nothing, turns_more, turns_apart, turns_alone, entry_apart, in_order_is, loop_in_order}
 use Rattle.ped_runs.proofs.StatementsTold.{run_told, all_told}
 use Rattle.ped_step_runs.specs.Exchanging.{IsExchange, AreExchanged, exchanged_acts, swapped}
 use Rattle.ped_step_runs.proofs.Replayed.{replays_in}
 use Rattle.ped_step_runs.proofs.Swapped.{swap_exchanges, of_scalar, private_exchanged}
-use Rattle.ped_step_runs.proofs.Privatised.{exit_found, exit_when_found, number_of_last, one_more, Agrees, body_fits, body_agrees, act_agrees}
+use Rattle.ped_step_runs.proofs.Privatised.{exit_when_found, number_of_last, one_more, Agrees, body_fits, body_agrees, act_agrees}
 
 module _ (p : Setting) (h : Head) (body : StmtTrees) (l : ℕ) (S : Scope) (x : List ℕ) (in_order : h.parallel ≡ false) (absent : is_among x h.private ≡ false) where
   -- the head with the scalar last in its PRIVATE list
@@ -112,7 +112,7 @@ module _ (p : Setting) (h : Head) (body : StmtTrees) (l : ℕ) (S : Scope) (x : 
     turns_replay (suc n) k s q =
         turns_more n k e2 S at (body_run p body l S) (exchanged_acts (swapped own (copy k)) (trip k s).acts) (new_turns n (k + 1) (left_by n k s)) goes_on
         (subst (λ (f : Finish). Replays (body_run p body l S (frame e2 k)) (exchanged_acts (swapped own (copy k)) (trip k s).acts) f) (trip_goes n k s q)
-            (replays_in (swapped own (copy k)) p body (l + 1) (frame e k ∷ S) (frame e2 k ∷ S) (exchange k) (exchanged_at k) s))
+        (replays_in (swapped own (copy k)) p body (l + 1) (frame e k ∷ S) (frame e2 k ∷ S) (exchange k) (exchanged_at k) s))
         (turns_replay n (k + 1) (left_by n k s) (more_goes n k s q))
 
     -- the exit writes the scalar's own cell, too
@@ -163,13 +163,14 @@ module _ (p : Setting) (h : Head) (body : StmtTrees) (l : ℕ) (S : Scope) (x : 
           let at_left : left_by n k s ≡ store_behind (exit_when_none n e S) (store_after (trip k s).acts s) = after_append (trip k s).acts (end n ∷ []) s in
           let v = store_behind (exit_when_none n e2 S) u in
           let more = turns_stand n (k + 1) (left_by n k s) v rest (more_goes n k s q)
-              (λ j. rest_untouched (trip k s).acts (end n) (old ++ rest) (copy j) (there j))
-              (subst (λ (w : Store). Agrees shown own (old ++ rest) w v) (sym at_left) behind_end) in
+          (λ j. rest_untouched (trip k s).acts (end n) (old ++ rest) (copy j) (there j))
+          (subst (λ (w : Store). Agrees shown own (old ++ rest) w v) (sym at_left) behind_end) in
           let left : store_after (old_turns (suc n) k s).acts s ≡ store_after old (left_by n k s) =
-              ap (λ (zs : List Act). store_after zs s) (ap (λ (r : Run). r.acts) (turns_are n k s q)) ∙ after_append ((trip k s).acts ++ end n ∷ []) old s in
-          let new_left : store_after (new_turns (suc n) k s) t ≡ store_after (new_turns n (k + 1) (left_by n k s)) v = after_append new (new_end n ∷ new_turns n (k + 1) (left_by n k s)) t in
-          (fits_append new (new_end n ∷ new_turns n (k + 1) (left_by n k s)) t first (exit_when_found n e2 S u, more.0),
-           λ c w d. ap (λ (z : Store). z c) left ∙ more.1 c w d ∙ ap (λ (z : Store). z c) (sym new_left))
+          ap (λ (zs : List Act). store_after zs s) (ap (λ (r : Run). r.acts) (turns_are n k s q)) ∙ after_append ((trip k s).acts ++ end n ∷ []) old s in
+          let new_left : store_after (new_turns (suc n) k s) t ≡ store_after (new_turns n (k + 1) (left_by n k s)) v = after_append new (new_end n ∷ new_turns n (k + 1) (left_by n k s)) t in (
+            fits_append new (new_end n ∷ new_turns n (k + 1) (left_by n k s)) t first (exit_when_found n e2 S u, more.0),
+            λ c w d. ap (λ (z : Store). z c) left ∙ more.1 c w d ∙ ap (λ (z : Store). z c) (sym new_left),
+          )
         where
           rest_untouched : (xs : List Act) (a : Act) (ys : List Act) (c : Cell) → touch (xs ++ a ∷ ys) c ≡ false → touch ys c ≡ false
           rest_untouched xs a ys c g = (or_parts (touch (a ∷ []) c) (touch ys c) (sym (touch_append (a ∷ []) ys c) ∙ (or_parts (touch xs c) (touch (a ∷ ys) c) (sym (touch_append xs (a ∷ ys) c) ∙ g)).1)).1
@@ -202,7 +203,7 @@ module _ (p : Setting) (h : Head) (body : StmtTrees) (l : ℕ) (S : Scope) (x : 
           by_limits : (found : List Seen) → found ≡ seen → run p (Do h body) l S s ≡ behind (entry ∷ []) (run_entered h.parallel e.count e S at (body_run p body l S) (entered_by s))
           by_limits found q = entry_apart p h body l S s m (ap (λ z. z.result) comes)
               ∙ ap (λ (w : List Seen). behind (act (entered (entered_with p l h body w m).count) at (entry_touches w (entered_with p l h body w m) S) ∷ [])
-                  (run_entered h.parallel (entered_with p l h body w m).count (entered_with p l h body w m) S at (body_run p body l S) (store_after (act (entered (entered_with p l h body w m).count) at (entry_touches w (entered_with p l h body w m) S) ∷ []) s))) (ap (λ z. z.seen) comes)
+              (run_entered h.parallel (entered_with p l h body w m).count (entered_with p l h body w m) S at (body_run p body l S) (store_after (act (entered (entered_with p l h body w m).count) at (entry_touches w (entered_with p l h body w m) S) ∷ []) s))) (ap (λ z. z.seen) comes)
 
           by_kind : (b : Bool) → b ≡ false → run_entered b e.count e S at (body_run p body l S) (entered_by s) ≡ run_entered false e.count e S at (body_run p body l S) (entered_by s)
           by_kind true q = absurd cc

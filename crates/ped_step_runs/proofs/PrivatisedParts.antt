@@ -1,5 +1,5 @@
 -- In a run each execution of a DO whose iterations get one more private scalar may be exchanged for what the new DO does.
-use Rattle.std.proofs.Common.{◌≡◌, ℕ, ◌+◌, List, [], ◌∷◌, ◌++◌, map, Bool, true, false, Option, Some, None, Result, Ok, Err, refl, sym, ap, subst, ◌∙◌, append_assoc, append-nil, if◌then◌else◌}
+use Rattle.std.proofs.Common.{◌≡◌, ℕ, ◌+◌, List, [], ◌∷◌, ◌++◌, Bool, true, false, Option, Some, None, Result, Ok, Err, refl, sym, ap, subst, ◌∙◌, append-nil, if◌then◌else◌}
 use Rattle.std.proofs.lemmas.Bool.{or_parts}
 use Rattle.std.proofs.lemmas.List.{map-append}
 use Rattle.ped_base.specs.Lists.{is_among}
@@ -15,16 +15,16 @@ use Rattle.ped_acts.proofs.Appending.{touch_append}
 use Rattle.ped_eval.specs.Scopes.{Setting, Scope, turns_of, cell_of, names_in}
 use Rattle.ped_eval.specs.Evaluation.{Seen, Evaluated}
 use Rattle.ped_eval.specs.Loops.{Limits, limits, entered_with, inner_variables, frame}
-use Rattle.ped_eval.specs.Runs.{Ending, going, stopped, failed, Run, run, run_all}
+use Rattle.ped_eval.specs.Runs.{Run, run, run_all}
 use Rattle.ped_eval.specs.Outcomes.{Ends}
 use Rattle.ped_flow.specs.Questions.{LoopOf}
 use Rattle.ped_flow_runs.specs.Exits.{IsOneToOne, IsExit}
 use Rattle.ped_flow_runs.proofs.Standing.{Stand, whole_stands, first_stands, rest_stands, inner_stands, else_stands, is_there}
-use Rattle.ped_runs.specs.Replaying.{goes_on, stops, faults, finish_of, Replays}
+use Rattle.ped_runs.specs.Replaying.{goes_on, faults, finish_of, Replays}
 use Rattle.ped_runs.proofs.Joined.{replays_nothing, statements_more, entry_fails}
 use Rattle.ped_steps.specs.Replacing.{alone}
 use Rattle.ped_step_runs.specs.Pasting.{DoInstead, StandInstead}
-use Rattle.ped_step_runs.proofs.PastedStores.{execution_left}
+use Rattle.ped_step_runs.proofs.PastedStores.{execution_left, going_ends}
 use Rattle.ped_step_runs.proofs.RunCells.{EachDo, EachDos}
 use Rattle.ped_step_runs.proofs.Uncopied.{IsSpare, copy_untouched}
 use Rattle.ped_step_runs.proofs.PrivatisedLoops.{more_private, copy, new_loop, loop_replays, loop_stands}
@@ -39,11 +39,6 @@ head_in other (Some (Read items)) = other
 head_in other (Some Stop) = other
 head_in other (Some (Comment text)) = other
 head_in other None = other
-
-ends_so : (e : Ending) → finish_of e ≡ goes_on → Ends e
-ends_so (going s) q = tt
-ends_so (stopped s) q = absurd cc
-ends_so (failed fault statement) q = absurd cc
 
 module _ (t : ProgramTree) (l : ℕ) (loop : LoopOf t l) (x : List ℕ) (p : Setting) (one : IsOneToOne p.number) (in_order : loop.head.parallel ≡ false) (absent : is_among x loop.head.private ≡ false) where
   abbrev h : Head
@@ -77,7 +72,7 @@ module _ (t : ProgramTree) (l : ℕ) (loop : LoopOf t l) (x : List ℕ) (p : Set
       let more = more_private p h body l S x in_order absent in
       subst (λ (acts : List Act). Replays (run_all p (alone (Do more body)) l S) acts goes_on) (append-nil (new_loop p h body l S x in_order absent (limits (names_in p S) h s).seen entered.0 s) ∙ sym (fresh_is S s entered.0 entered.1))
       (statements_more p (Do more body) no_stmts l S (new_loop p h body l S x in_order absent (limits (names_in p S) h s).seen entered.0 s) [] goes_on
-          (loop_replays p h body l S x in_order absent (limits (names_in p S) h s).seen entered.0 s entered.1 goes) replays_nothing)
+      (loop_replays p h body l S x in_order absent (limits (names_in p S) h s).seen entered.0 s entered.1 goes) replays_nothing)
 
   -- no iteration of the DO has a copy of the scalar
   spare_private : (g : Head) (b : StmtTrees) (n : ℕ) (seen : List Seen) (m : Limits) (k : ℕ) → g ≡ h → is_among x (frame (entered_with p n g b seen m) k).private ≡ false
@@ -130,10 +125,10 @@ module _ (t : ProgramTree) (l : ℕ) (loop : LoopOf t l) (x : List ℕ) (p : Set
           let seen = (limits (names_in p S) h u).seen in
           let did = (run p (Do h body) l S u).acts in
           let untouched : (j : ℕ) → touch (did ++ done.part.behind) (copy p h body l S x in_order absent seen m j) ≡ false = λ j.
-              (or_parts (touch done.part.front (copy p h body l S x in_order absent seen m j)) (touch (did ++ done.part.behind) (copy p h body l S x in_order absent seen m j))
-              (sym (touch_append done.part.front (did ++ done.part.behind) (copy p h body l S x in_order absent seen m j)) ∙ ap (λ (zs : List Act). touch zs (copy p h body l S x in_order absent seen m j)) (sym done.part.is)
-              ∙ copies_untouched start (copy p h body l S x in_order absent seen m j) (iterations_of (turns_of S)) j (copy_is S seen m j))).1 in
+          (or_parts (touch done.part.front (copy p h body l S x in_order absent seen m j)) (touch (did ++ done.part.behind) (copy p h body l S x in_order absent seen m j))
+          (sym (touch_append done.part.front (did ++ done.part.behind) (copy p h body l S x in_order absent seen m j)) ∙ ap (λ (zs : List Act). touch zs (copy p h body l S x in_order absent seen m j)) (sym done.part.is)
+          ∙ copies_untouched start (copy p h body l S x in_order absent seen m j) (iterations_of (turns_of S)) j (copy_is S seen m j))).1 in
           let dead = unwanted S done.part.behind (execution_left p t start l loop S u ends place done goes) in
           let stands = loop_stands p h body l S x in_order absent seen m u entered.1 goes shown done.part.behind (λ k. hidden x (iterations_of (turns_of (frame (entered_with p l h body seen m) k ∷ S))))
-              (λ k v going. unneeded S seen m k v (ends_so (run_all p body (l + 1) (frame (entered_with p l h body seen m) k ∷ S) v).ending going)) untouched dead in
+          (λ k v going. unneeded S seen m k v (going_ends (run_all p body (l + 1) (frame (entered_with p l h body seen m) k ∷ S) v).ending going)) untouched dead in
           subst (λ (zs : List Act). StandsFor (record { agreed = wants shown (did ++ done.part.behind); old = did; new = zs }) (wants shown done.part.behind) u) (sym (fresh_is S u m entered.1)) stands

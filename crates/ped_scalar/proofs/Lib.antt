@@ -1,1 +1,2 @@
 pub mod FirstAgainstPrivatising
+pub mod KeptByPrivatising

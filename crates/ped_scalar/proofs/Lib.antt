@@ -1,2 +1,3 @@
+pub mod FlowAnswers
 pub mod FirstAgainstPrivatising
 pub mod KeptByPrivatising

@@ -75,7 +75,8 @@ if_fails g at condition then_part else_part s n h = on_err at (truth g condition
 suc_zero : (n : ℕ) → eqb (suc n) 0 ≡ false
 suc_zero n = grind (arith, eqb-true)
 
-none_left : (n : ℕ) (e : Entered) (scope : Scope) → exit_when_none (suc n) e scope ≡ []
+-- no exit while an iteration is left
+pub none_left : (n : ℕ) (e : Entered) (scope : Scope) → exit_when_none (suc n) e scope ≡ []
 none_left n e scope = ap (λ (b : Bool). if b then exit_touches e scope else []) (suc_zero n)
 
 module _ (e : Entered) (scope : Scope) (at : Place) (body : Frame → Store → Run) where

@@ -1,27 +1,34 @@
 -- What a watch is told of a statement is what its run accesses.
 use Rattle.std.proofs.Common.{◌≡◌, ℕ, suc, ◌+◌, ℤ, List, [], ◌∷◌, ◌++◌, map, Bool, true, false, Result, Ok, Err, if◌then◌else◌, refl, sym, ap, subst, ◌∙◌}
-use Rattle.ped_tree.specs.Tree.{ExprTree, ItemTree, CondTree, Head, StmtTrees, Assign, If, Do, Print, Read}
-use Rattle.ped_tree.specs.Numbering.{statements_count}
+use Rattle.ped_tree.specs.Tree.{ExprTree, ItemTree, CondTree, Head, StmtTrees, StmtTree, more_stmts, Assign, If, Do, Print, Read}
+use Rattle.ped_tree.specs.Numbering.{statement_count, statements_count}
+use Rattle.ped_tree.specs.Views.{stmt_trees}
+use Rattle.ped_tree.specs.declared.statements.Stmt.{Stmt}
 use Rattle.ped_symbols.specs.Kinds.{Table}
 use Rattle.ped_store.specs.Stores.{Store}
 use Rattle.ped_store.specs.Memories.{Memory}
 use Rattle.ped_store.specs.Races.{Access, accesses}
-use Rattle.ped_eval.specs.Scopes.{Setting, Scope, names_in, place_of}
+use Rattle.ped_eval.specs.Scopes.{Setting, Frame, Scope, names_in, place_of}
 use Rattle.ped_eval.specs.ScopeViews.{names_at}
 use Rattle.ped_eval.specs.Evaluation.{Seen, Evaluated, number_behind}
 use Rattle.ped_eval.specs.Values.{truth}
 use Rattle.ped_eval.specs.Statements.{Stored, assigned, printed_line}
 use Rattle.ped_eval.specs.Loops as Loops
 use Rattle.ped_eval.specs.Loops.{Entered, limits}
-use Rattle.ped_eval.specs.Plans.{entered_by, IsPlanWithin}
-use Rattle.ped_eval.specs.Turns.{body_run}
+use Rattle.ped_eval.specs.Plans.{entered_by, IsPlanWithin, IsEntry}
+use Rattle.ped_eval.specs.Turns.{body_run, with_copies}
 use Rattle.ped_eval.specs.Runs.{Run, run, run_all}
 use Rattle.ped_eval.specs.Readiness.{setting_by, IsReady}
-use Rattle.ped_eval.specs.Agreement.{before, Agrees}
+use Rattle.ped_eval.specs.Agreement.{before, before_turn, Agrees}
 use Rattle.ped_eval.specs.Follow.{Follow}
 use Rattle.ped_eval.specs.Noting.{Noted, access_at, place_by, accesses_by}
 use Rattle.ped_eval.specs.StatementNotes.{reads_noted, assignment_noted, print_noted}
-use Rattle.ped_eval.specs.Watched.{IfRan, Watched, turns_run}
+use Rattle.ped_eval.specs.Watched.{IfRan, Watched, Awaits, turns_run, IsWatchedTruth}
+use Rattle.ped_eval.specs.Told.{Fails, TellsFrom, Ran}
+use Rattle.ped_eval.specs.declared.states.Flow.TheVariants as flow
+use Rattle.ped_eval.proofs.Copies.{open_agrees}
+use Rattle.ped_eval.proofs.Parts.{if_failed}
+use Rattle.ped_eval.proofs.Running.{IsBroken}
 use Rattle.ped_eval.specs.declared.plans.Plan.{Plan}
 use Rattle.ped_eval.specs.declared.states.Flow.{Flow}
 use Rattle.ped_eval.specs.declared.states.RunError.{RunError}
@@ -31,7 +38,7 @@ use Rattle.ped_eval.proofs.Agreements.{agrees_later}
 use Rattle.ped_eval.proofs.Evaluations.{kept_assigned, kept_line, kept_truth, kept_limits}
 use Rattle.ped_eval.proofs.Entries.{plan_number}
 use Rattle.ped_eval.proofs.StatementActs.{assignment_accesses, print_accesses, if_accesses, if_fault_accesses, do_accesses, do_fault_accesses}
-use Rattle.ped_eval.proofs.Watching.{follow-append, if_ran}
+use Rattle.ped_eval.proofs.Watching.{follow-append, if_ran, awaits_behind, awaits_broken}
 
 -- what follows from what holds
 if_ran_weaker : {A : Type 0} {P Q : Type 0} (r : Result A RunError) → (P → Q) → IfRan r P → IfRan r Q
@@ -128,3 +135,46 @@ module _ {W : Type 0} (follows : W → Access → W → Type 0) (table : Table) 
         if_ran r (subst (λ (xs : List Access). Follow follows old xs mid)
         (sym (do_fault_accesses p n scope h body (λ f. run_all p body (n + 1) (f ∷ scope)) s k ((λ i. (same i).result) ∙ e)
         ∙ ap (λ (x : Evaluated Loops.Limits). map (access_at (place_of p n scope)) (reads_noted x.seen)) same)) told)
+
+    -- a DO whose entry fails
+    pub do_error_watched : (x : RunError) → IsEntry table n (names_at m scope table.constants) m.cells h body (Err x) → Watched follows old mid scope (before scope n) m.cells (Err x) (run p (Do h body) n scope)
+    do_error_watched (error.Fault k j) e = do_fault_watched k (Err (error.Fault k j)) e.0
+    do_error_watched error.NoMemory e = λ s g. tt
+
+  -- a condition that fails ends the run
+  pub truth_failed : (condition : CondTree) (a b : StmtTrees) (T : Type 0) (next : ℕ) (new : Memory) (x : RunError) → IsWatchedTruth (truth (names_at m scope table.constants) condition m.cells) n (Err x) T
+      → Ran scope n m next (Err x) new (run p (If condition a b) n scope)
+  truth_failed condition a b T next new (error.Fault k j) h s g =
+      subst (λ (i : ℕ). Fails k i (run p (If condition a b) n scope s).ending) (sym h.1) (if_failed table scope n m ready condition a b new k h.0 s g)
+  truth_failed condition a b T next new error.NoMemory h s g = tt
+
+  pub truth_error_watched : (condition : CondTree) (a b : StmtTrees) (old mid : W) (x : RunError)
+      → IsWatchedTruth (truth (names_at m scope table.constants) condition m.cells) n (Err x) (Follow follows old (accesses_by n scope (reads_noted (truth (names_at m scope table.constants) condition m.cells).seen)) mid)
+      → Watched follows old mid scope (before scope n) m.cells (Err x) (run p (If condition a b) n scope)
+  truth_error_watched condition a b old mid (error.Fault k j) h = if_fault_watched condition a b old mid mid h.2 k (Err (error.Fault k j)) h.0
+  truth_error_watched condition a b old mid error.NoMemory h = λ s g. tt
+
+module _ {W : Type 0} (follows : W → Access → W → Type 0) (first : W) (p : Setting) (scope : Scope) (t : StmtTree) (rest : StmtTrees) (n : ℕ) (now new : W) (kept kept_new : Store) (whole : List Access)
+    (awaits : Awaits follows first now scope (before scope n) kept (run_all p (more_stmts t rest) n scope) whole) where
+  -- behind a statement the others come to the accesses of the whole
+  pub statement_told : TellsFrom scope (before scope n) kept (before scope (n + statement_count t)) (Ok flow.Going) kept_new (λ s. (run p t n scope s).ending)
+      → Watched follows now new scope (before scope n) kept (Ok flow.Going) (run p t n scope) → Awaits follows first new scope (before scope (n + statement_count t)) kept_new (run_all p rest (n + statement_count t) scope) whole
+  statement_told told watched =
+      awaits_behind follows first now new scope (before scope n) (before scope (n + statement_count t)) kept kept_new (run p t n scope) (run_all p rest (n + statement_count t) scope) whole awaits told watched
+
+  -- what breaks off a statement breaks off the whole
+  pub statement_told_broken : (r : Result Flow RunError) → IsBroken r → TellsFrom scope (before scope n) kept (before scope (n + statement_count t)) r kept_new (λ s. (run p t n scope s).ending)
+      → Watched follows now new scope (before scope n) kept r (run p t n scope) → IfRan r (Follow follows first whole new)
+  statement_told_broken r b told watched =
+      awaits_broken follows first now new scope (before scope n) (before scope (n + statement_count t)) r kept kept_new (run p t n scope) (run_all p rest (n + statement_count t) scope) whole b awaits told watched
+
+-- what is told in an iteration is told from where its copies are made
+pub turn_watched : {W : Type 0} (follows : W → Access → W → Type 0) (p : Setting) (f : Frame) (fs : Scope) (n : ℕ) (scope : Scope) (ss items : List Stmt) (old mid : Memory) (w v : W) (r : Result Flow RunError) → scope ≡ f ∷ fs → mid ≡ with_copies (f ∷ fs) f.private old → ss ≡ items
+    → Watched follows w v scope (before scope (n + 1)) mid.cells r (run_all p (stmt_trees ss) (n + 1) scope)
+    → Watched follows w v fs (before_turn fs f.turn.statement f.turn.number) old.cells r (run_all p (stmt_trees items) (n + 1) (f ∷ fs))
+turn_watched follows p f fs n scope ss items old mid w v r same memory is watched s a =
+    let here : Watched follows w v (f ∷ fs) (before (f ∷ fs) (n + 1)) (with_copies (f ∷ fs) f.private old).cells r (run_all p (stmt_trees items) (n + 1) (f ∷ fs)) =
+    subst (λ (m : Memory). Watched follows w v (f ∷ fs) (before (f ∷ fs) (n + 1)) m.cells r (run_all p (stmt_trees items) (n + 1) (f ∷ fs))) memory
+    (subst (λ (xs : List Stmt). Watched follows w v (f ∷ fs) (before (f ∷ fs) (n + 1)) mid.cells r (run_all p (stmt_trees xs) (n + 1) (f ∷ fs))) is
+    (subst (λ (o : Scope). Watched follows w v o (before o (n + 1)) mid.cells r (run_all p (stmt_trees ss) (n + 1) o)) same watched)) in
+    here s (open_agrees f fs old (n + 1) s a)

@@ -22,9 +22,7 @@ use Rattle.ped_eval.specs.Readiness.{kinds_by, setting_by, IsReady}
 use Rattle.ped_eval.specs.Agreement.{path_of, before, Agrees, DoCopiesStand}
 use Rattle.ped_eval.specs.Runs.{Ending, run}
 use Rattle.ped_eval.specs.Told.{Goes, Fails, Ran}
-use Rattle.ped_eval.specs.declared.states.Flow.{Flow}
 use Rattle.ped_eval.specs.declared.states.Flow.TheVariants as flow
-use Rattle.ped_eval.specs.declared.states.RunError.{RunError}
 use Rattle.ped_eval.specs.declared.states.RunError.TheVariants as error
 use Rattle.ped_eval.proofs.Moments.{next_statement}
 use Rattle.ped_eval.proofs.Agreements.{agrees_put, agrees_later, is_past}

@@ -1,9 +1,8 @@
 -- Notes behind evaluations, one after the other.
-use Rattle.std.proofs.Common.{◌≡◌, ℕ, suc, ◌+◌, ◌<◌, ◌≤◌, ℤ, length, drop, get_or, List, [], ◌∷◌, ◌++◌, Bool, true, false, not, ◌||◌, map, refl, sym, ap, subst, ◌∙◌, append_assoc, if◌then◌else◌, Ok, Err, Option, Some, None}
-use Rattle.std.specs.Prelude.{Result, filter, OnOk}
+use Rattle.std.proofs.Common.{◌≡◌, ℕ, suc, ◌+◌, ◌<◌, ◌≤◌, ℤ, length, drop, get_or, List, [], ◌∷◌, ◌++◌, Bool, true, false, not, map, refl, sym, ap, subst, ◌∙◌, append_assoc, if◌then◌else◌, Ok, Err, Option, Some, None}
+use Rattle.std.specs.Prelude.{Result, filter}
 use Rattle.std.proofs.lemmas.List.{append-nil, map-append}
 use Rattle.std.proofs.lemmas.List.Elements.{filter-append}
-use Rattle.std.proofs.lemmas.Result.{on_ok_weaker}
 use Rattle.ped_base.specs.Lists.{is_among}
 use Rattle.ped_store.specs.Cells.{Cell, Private}
 use Rattle.ped_store.specs.Stores.{Content, Number, Store}

@@ -1,27 +1,26 @@
 -- What a READ notes is what its run touches.
-use Rattle.std.proofs.Common.{◌≡◌, ◌⊎◌, inl, inr, ℕ, suc, ◌+◌, ◌<◌, ◌≤◌, ℤ, List, [], ◌∷◌, ◌++◌, length, drop, get_or, map, Bool, true, false, Result, Ok, Err, if◌then◌else◌, refl, sym, ap, subst, ◌∙◌, append_assoc}
+use Rattle.std.proofs.Common.{◌≡◌, inl, inr, ℕ, suc, ◌+◌, ◌<◌, ℤ, List, [], ◌∷◌, ◌++◌, length, drop, get_or, map, Bool, true, false, Result, Ok, Err, if◌then◌else◌, refl, sym, ap, subst, ◌∙◌, append_assoc}
 use Rattle.std.proofs.lemmas.List.{append-nil}
-use Rattle.ped_arithmetic.specs.Faults.{◌>>=◌}
 use Rattle.ped_tree.specs.Tree.{ExprTree, Read}
 use Rattle.ped_tree.specs.Views.{expr_tree}
 use Rattle.ped_tree.specs.declared.expressions.Expr.{Expr}
 use Rattle.ped_symbols.specs.Kinds.{Table}
 use Rattle.ped_store.specs.Cells.{Cell, In}
-use Rattle.ped_store.specs.Stores.{Content, Number, Lines, Store, put, lines_in, is_storable, storable, out_of_range}
+use Rattle.ped_store.specs.Stores.{Content, Number, Lines, Store, put, is_storable, out_of_range}
 use Rattle.ped_store.specs.DataLines.{Data, Taken, begun, next_value_of}
 use Rattle.ped_store.specs.Memories.{Memory, with_content, with_data, stored}
-use Rattle.ped_store.specs.Races.{Access, accesses}
-use Rattle.ped_eval.specs.Scopes.{Setting, Scope, Names, names_in, place_of}
+use Rattle.ped_store.specs.Races.{Access}
+use Rattle.ped_eval.specs.Scopes.{Setting, Scope, names_in, place_of}
 use Rattle.ped_eval.specs.Evaluation.{Seen, Evaluated, numbered, number_behind}
 use Rattle.ped_eval.specs.Values.{target}
-use Rattle.ped_eval.specs.Statements.{Taking, write_touch, into_item, with_taken, taking, taking_from, reading}
+use Rattle.ped_eval.specs.Statements.{write_touch, into_item, with_taken, taking, taking_from, reading}
 use Rattle.ped_eval.specs.Runs.{run}
 use Rattle.ped_eval.specs.Agreement.{before, Agrees}
 use Rattle.ped_eval.specs.Readiness.{setting_by, IsReady}
 use Rattle.ped_eval.specs.Targets.{bounded}
-use Rattle.ped_eval.specs.Takings.{names_with, item_taken}
+use Rattle.ped_eval.specs.Takings.{names_with}
 use Rattle.ped_eval.specs.Follow.{Follow}
-use Rattle.ped_eval.specs.Noting.{Noted, noted, noted_by, HasNoted, HasReferred, access_at, accesses_by}
+use Rattle.ped_eval.specs.Noting.{Noted, noted, noted_by, HasNoted, HasReferred, accesses_by}
 use Rattle.ped_eval.specs.StatementNotes.{write_noted, item_noted, value_noted, items_noted, line_noted, read_noted, IsTaken, IsItemNoted, IfRead}
 use Rattle.ped_eval.specs.declared.reading.ReadError.{ReadError}
 use Rattle.ped_eval.specs.declared.reading.ReadError.TheVariants as error
@@ -30,7 +29,7 @@ use Rattle.ped_eval.specs.declared.notes.Notes.{Notes}
 use Rattle.ped_eval.specs.declared.states.Flow.{Flow}
 use Rattle.ped_eval.specs.declared.states.RunError.{RunError}
 use Rattle.ped_eval.proofs.Evaluations.{IsVariable, target_variable}
-use Rattle.ped_eval.proofs.Assignments.{IsStored, stored_is, IsUnstored, unstored_is}
+use Rattle.ped_eval.proofs.Assignments.{stored_is, IsUnstored, unstored_is}
 use Rattle.ped_eval.proofs.Readings.{value_storable}
 use Rattle.ped_eval.proofs.Takings.{item_agrees, target_same, same_lines, begins_same}
 use Rattle.ped_eval.proofs.Notings.{noted-append}

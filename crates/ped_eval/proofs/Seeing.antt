@@ -1,5 +1,5 @@
 -- What evaluations read, from their parts.
-use Rattle.std.proofs.Common.{◌≡◌, ℕ, ℤ, List, [], ◌∷◌, ◌++◌, Bool, true, false, not, ◌&&◌, ◌||◌, map, refl, sym, ap, ◌∙◌, Ok, Err, Option, Some, None, if◌then◌else◌}
+use Rattle.std.proofs.Common.{◌≡◌, ℕ, ℤ, List, [], ◌∷◌, ◌++◌, not, ◌&&◌, ◌||◌, map, refl, sym, ap, Ok, Err, Option, Some, None}
 use Rattle.std.specs.Prelude.{Result}
 use Rattle.std.proofs.lemmas.List.{append-nil}
 use Rattle.ped_arithmetic.specs.Arithmetic.{sum_of, difference_of, negation_of, product_of, quotient_of, power_of}
@@ -8,18 +8,17 @@ use Rattle.ped_constants.specs.NamedConstants.{value_named}
 use Rattle.ped_tree.specs.declared.expressions.Expr.{Expr}
 use Rattle.ped_tree.specs.declared.expressions.Intrinsic.{Intrinsic}
 use Rattle.ped_tree.specs.declared.conditions.Relation.{Relation}
-use Rattle.ped_tree.specs.Tree.{ExprTree, ExprTrees, Int, Var, Element, Neg, Add, Sub, Mul, Div, Pow, Call, CondTree, Rel, Not, And, Or}
-use Rattle.ped_tree.specs.Views.{pack_exprs, expr_tree, cond_tree}
+use Rattle.ped_tree.specs.Tree.{ExprTree, Int, Var, Element, Neg, Add, Sub, Mul, Div, Pow, Call, CondTree, Rel, Not, And, Or}
+use Rattle.ped_tree.specs.Views.{pack_exprs, expr_tree}
 use Rattle.ped_store.specs.Cells.{Cell}
 use Rattle.ped_store.specs.Stores.{Store}
-use Rattle.ped_store.specs.Memories.{Memory}
 use Rattle.ped_store.specs.Keeping.{memory_of}
-use Rattle.ped_eval.specs.Scopes.{Scope, Names, cell_of, index_value}
+use Rattle.ped_eval.specs.Scopes.{Names, cell_of, index_value}
 use Rattle.ped_eval.specs.ScopeViews.{names_at}
-use Rattle.ped_eval.specs.Evaluation.{Seen, cell_seen, Evaluated, onward, ◌>>>◌, given, by_number, read_cell}
-use Rattle.ped_eval.specs.Values.{of_intrinsic, name_value, variable_value, element_cell, value, values, truth, target, relation_holds}
+use Rattle.ped_eval.specs.Evaluation.{Seen, Evaluated, onward, ◌>>>◌, given, by_number, read_cell}
+use Rattle.ped_eval.specs.Values.{of_intrinsic, name_value, variable_value, element_cell, value, values, truth, relation_holds}
 use Rattle.ped_eval.specs.declared.surroundings.Surroundings.{Surroundings}
-use Rattle.ped_eval.specs.Results.{value_at, values_at, target_at, truth_at}
+use Rattle.ped_eval.specs.Results.{value_at, target_at, truth_at}
 use Rattle.ped_eval.specs.Noting.{seen_next, read_within, seen_at, all_seen_at, target_seen_at, truth_seen_at}
 
 -- what an operation on one value reads

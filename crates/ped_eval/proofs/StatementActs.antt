@@ -1,18 +1,18 @@
 -- The accesses of statements, by what they note.
-use Rattle.std.proofs.Common.{◌≡◌, ℕ, zero, suc, ◌+◌, ℤ, List, [], ◌∷◌, ◌++◌, Bool, true, false, map, Option, Some, None, Result, Ok, Err, if◌then◌else◌, refl, sym, ap, subst, ◌∙◌, append_assoc}
+use Rattle.std.proofs.Common.{◌≡◌, ℕ, zero, suc, ◌+◌, List, [], ◌∷◌, ◌++◌, Bool, true, false, map, Option, Some, None, Result, Ok, Err, if◌then◌else◌, refl, sym, ap, ◌∙◌, append_assoc}
 use Rattle.std.proofs.lemmas.List.{append-nil, map-append}
 use Rattle.ped_tree.specs.Tree.{ExprTree, ItemTree, CondTree, Head, StmtTrees}
-use Rattle.ped_store.specs.Cells.{Cell, In, Out}
+use Rattle.ped_store.specs.Cells.{In, Out}
 use Rattle.ped_store.specs.Stores.{Store, Lines, lines_in, Number}
 use Rattle.ped_store.specs.Acts.{Touch, Place, Step, did, faulted, entered, closed, ended_turn, Act, store_behind}
 use Rattle.ped_store.specs.Races.{Access, accesses}
 use Rattle.ped_eval.specs.Scopes.{Setting, Frame, Scope, Names, names_in, place_of}
-use Rattle.ped_eval.specs.Evaluation.{Seen, Evaluated, numbered, number_behind}
+use Rattle.ped_eval.specs.Evaluation.{Seen, numbered, number_behind}
 use Rattle.ped_eval.specs.Values.{truth}
 use Rattle.ped_eval.specs.Statements.{Stored, assigned, assignment_touches, write_touch, read_touch, printed_line, print_touches, Taking, reading, reading_touches}
-use Rattle.ped_eval.specs.Loops.{Limits, limits, Entered, entered_with, frame, exit_touches, exit_when_none, entry_touches}
-use Rattle.ped_eval.specs.Runs.{Ending, going, stopped, failed, Run, nothing_done, followed_by, then_run, does, fails, on, on_value, run_assignment, run_print, run_if, run_taking, run_read, turns, parallel_turns, run_entered, run_from_entry, run_do}
-use Rattle.ped_eval.specs.Noting.{Noted, noted, access_at}
+use Rattle.ped_eval.specs.Loops.{Limits, limits, Entered, entered_with, frame, exit_touches, exit_when_none}
+use Rattle.ped_eval.specs.Runs.{Ending, going, stopped, failed, Run, nothing_done, followed_by, then_run, does, on_value, run_assignment, run_print, run_if, run_taking, run_read, turns, parallel_turns, run_entered, run_from_entry, run_do}
+use Rattle.ped_eval.specs.Noting.{noted, access_at}
 use Rattle.ped_eval.specs.StatementNotes.{reads_noted, done_noted, assignment_noted, print_noted}
 use Rattle.ped_eval.specs.Watched.{turns_run}
 use Rattle.ped_eval.proofs.Endings.{only_reads, none_left}

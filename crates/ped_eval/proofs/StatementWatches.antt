@@ -1,6 +1,6 @@
 -- What a watch is told of a statement is what its run accesses.
-use Rattle.std.proofs.Common.{◌≡◌, ℕ, suc, ◌+◌, ℤ, List, [], ◌∷◌, ◌++◌, map, Bool, true, false, Result, Ok, Err, if◌then◌else◌, refl, sym, ap, subst, ◌∙◌}
-use Rattle.ped_tree.specs.Tree.{ExprTree, ItemTree, CondTree, Head, StmtTrees, StmtTree, more_stmts, Assign, If, Do, Print, Read}
+use Rattle.std.proofs.Common.{◌≡◌, ℕ, ◌+◌, List, ◌∷◌, ◌++◌, map, Bool, true, false, Result, Ok, Err, sym, ap, subst, ◌∙◌}
+use Rattle.ped_tree.specs.Tree.{ExprTree, ItemTree, CondTree, Head, StmtTrees, StmtTree, more_stmts, Assign, If, Do, Print}
 use Rattle.ped_tree.specs.Numbering.{statement_count, statements_count}
 use Rattle.ped_tree.specs.Views.{stmt_trees}
 use Rattle.ped_tree.specs.declared.statements.Stmt.{Stmt}

@@ -1,5 +1,5 @@
 -- Notes of what statements read and of the write behind it.
-use Rattle.std.proofs.Common.{◌≡◌, ◌⊎◌, inl, inr, ℕ, suc, ◌+◌, ◌<◌, ◌≤◌, ℤ, List, [], ◌∷◌, ◌++◌, length, drop, get_or, Bool, true, false, map, Result, Ok, Err, if◌then◌else◌, refl, sym, ap, subst, ◌∙◌, append_assoc}
+use Rattle.std.proofs.Common.{◌≡◌, inl, inr, ℕ, ◌+◌, ◌<◌, ℤ, List, [], ◌∷◌, ◌++◌, length, drop, get_or, Bool, true, false, map, Result, Ok, Err, if◌then◌else◌, refl, sym, ap, ◌∙◌, append_assoc}
 use Rattle.std.specs.List.{join_with_byte}
 use Rattle.std.specs.Fmt.{signed_decimal}
 use Rattle.std.proofs.lemmas.List.{append-nil}
@@ -22,9 +22,9 @@ use Rattle.ped_eval.specs.Targets.{bounded}
 use Rattle.ped_eval.specs.Noting.{Noted, noted, noted_by, HasNoted, HasReferred, HasTouched, seen_next}
 use Rattle.ped_eval.specs.StatementNotes.{reads_noted, write_noted, done_noted, assignment_noted, print_noted, storing, IsWriteNoted}
 use Rattle.ped_eval.specs.declared.notes.Notes.{Notes}
-use Rattle.ped_eval.proofs.Assignments.{IsStored, stored_is, IsUnstored, unstored_is, of_number}
+use Rattle.ped_eval.proofs.Assignments.{stored_is, IsUnstored, unstored_is, of_number}
 use Rattle.ped_eval.proofs.Notings.{noted-append, numbered-append, number_behind-append, noted_as, both_noted}
-use Rattle.ped_eval.proofs.Seeing.{two_seen, one_seen}
+use Rattle.ped_eval.proofs.Seeing.{one_seen}
 
 -- reads behind reads
 pub reads_behind : (n : ℕ) (x y : List Seen) → noted (numbered n (x ++ y)) ≡ noted (numbered n x) ++ noted (numbered (number_behind n x) y)

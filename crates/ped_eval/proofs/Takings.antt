@@ -1,5 +1,5 @@
 -- What is kept behind a READ agrees with the store of a run.
-use Rattle.std.proofs.Common.{◌≡◌, ℕ, suc, ℤ, List, [], ◌∷◌, ◌++◌, Bool, true, false, Option, Some, None, Result, Ok, Err, if◌then◌else◌, refl, sym, ap, subst, ◌∙◌, append_assoc}
+use Rattle.std.proofs.Common.{◌≡◌, ℕ, suc, List, [], ◌∷◌, false, Some, None, Result, Ok, Err, if◌then◌else◌, refl, sym, ap, subst, ◌∙◌, append_assoc}
 use mathlib.Core.Path.{fun_ext}
 use Rattle.ped_arithmetic.specs.Faults.{◌>>=◌}
 use Rattle.ped_tree.specs.Tree.{ExprTree}
@@ -8,13 +8,13 @@ use Rattle.ped_store.specs.Stores.{Content, Number, Lines, Store, put, lines_in}
 use Rattle.ped_store.specs.DataLines.{Data, Taken, begun, next_value_of}
 use Rattle.ped_store.specs.Acts.{Touch, Place, store_behind}
 use Rattle.ped_store.specs.Memories.{Memory, with_content, with_data}
-use Rattle.ped_eval.specs.Scopes.{Setting, Scope, Names, cell_of, names_in}
+use Rattle.ped_eval.specs.Scopes.{Setting, Scope, cell_of, names_in}
 use Rattle.ped_eval.specs.Evaluation.{Seen, numbered, number_behind}
 use Rattle.ped_eval.specs.Values.{target}
 use Rattle.ped_eval.specs.Statements.{Taking, write_touch, into_item, with_taken, taking, taking_from, reading}
-use Rattle.ped_eval.specs.Runs.{Ending, going, failed, run_read, run_taking}
-use Rattle.ped_eval.specs.Agreement.{before, IsSame, Agrees}
-use Rattle.ped_eval.specs.Takings.{names_with, item_taken, items_taken, read_taken}
+use Rattle.ped_eval.specs.Runs.{going, failed, run_read}
+use Rattle.ped_eval.specs.Agreement.{before, Agrees}
+use Rattle.ped_eval.specs.Takings.{names_with, items_taken, read_taken}
 use Rattle.ped_eval.proofs.SameValues.{IsSameFor, same_target}
 use Rattle.ped_eval.proofs.Agreements.{agrees_put, outside_same}
 use Rattle.ped_eval.proofs.Evaluations.{IsVariable, reached_same, names_same, target_variable, in_not_scalar, variable_not_in, variable_past}

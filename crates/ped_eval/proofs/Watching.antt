@@ -1,19 +1,17 @@
 -- What a watch is told of runs that follow one another.
-use Rattle.std.proofs.Common.{◌≡◌, ℕ, zero, suc, ◌+◌, List, [], ◌∷◌, ◌++◌, Bool, true, false, map, Result, Ok, Err, if◌then◌else◌, refl, sym, ap, subst, ◌∙◌}
+use Rattle.std.proofs.Common.{◌≡◌, ℕ, List, [], ◌∷◌, ◌++◌, map, Result, Ok, Err, refl, sym, ap, subst, ◌∙◌}
 use Rattle.std.specs.Prelude.{filter}
 use Rattle.std.proofs.lemmas.List.{append-nil}
 use Rattle.std.proofs.lemmas.List.Concat.{flat_map-append}
 use Rattle.ped_store.specs.Stores.{Store}
-use Rattle.ped_store.specs.Acts.{Touch, Place, Step, closed, Act}
+use Rattle.ped_store.specs.Acts.{Touch, Place, Step, Act}
 use Rattle.ped_store.specs.Races.{Access, is_access, is_write, accesses_of, accesses}
-use Rattle.ped_eval.specs.Scopes.{Frame, Scope}
-use Rattle.ped_eval.specs.Loops.{Entered, frame, exit_touches}
+use Rattle.ped_eval.specs.Scopes.{Scope}
 use Rattle.ped_eval.specs.Runs.{Ending, going, stopped, failed, Run, followed_by, then_run}
-use Rattle.ped_eval.specs.Agreement.{Agrees}
-use Rattle.ped_eval.specs.Told.{Stops, Fails, Tells, TellsFrom}
+use Rattle.ped_eval.specs.Told.{Stops, Fails, TellsFrom}
 use Rattle.ped_eval.specs.Follow.{Follow}
-use Rattle.ped_eval.specs.Noting.{Noted, noted, access_at}
-use Rattle.ped_eval.specs.Watched.{IfRan, Watched, Awaits, turns_run}
+use Rattle.ped_eval.specs.Noting.{noted, access_at}
+use Rattle.ped_eval.specs.Watched.{IfRan, Watched, Awaits}
 use Rattle.ped_eval.specs.declared.states.Flow.{Flow}
 use Rattle.ped_eval.specs.declared.states.Flow.TheVariants as flow
 use Rattle.ped_eval.specs.declared.states.RunError.{RunError}
@@ -59,10 +57,13 @@ module _ {W : Type 0} (follows : W → Access → W → Type 0) (first : W) wher
       → Watched follows now new scope moment kept (Ok flow.Going) part → Awaits follows first new scope next_moment kept_new rest whole
   awaits_behind now new scope moment next_moment kept kept_new part rest whole awaits told watched =
       let u = awaits.0 in
-      let w = goes_on scope next_moment kept_new (part u).ending (told u awaits.1) in
-      (w.0, w.2, λ last f. awaits.2 last
-      (subst (λ (xs : List Access). Follow follows now xs last) (sym (accesses_going (part u) rest w.0 w.1))
-      (follow-append follows now new last (accesses (part u).acts) (accesses (rest w.0).acts) (watched u awaits.1) f)))
+      let w = goes_on scope next_moment kept_new (part u).ending (told u awaits.1) in (
+        w.0,
+        w.2,
+        λ last f. awaits.2 last
+            (subst (λ (xs : List Access). Follow follows now xs last) (sym (accesses_going (part u) rest w.0 w.1))
+            (follow-append follows now new last (accesses (part u).acts) (accesses (rest w.0).acts) (watched u awaits.1) f)),
+      )
 
   stopped_acts : (acts : List Act) (e : Ending) (next : Store → Run) (kept : Store) → Stops kept e → (followed_by acts e next).acts ≡ acts
   stopped_acts acts (going s) next kept h = absurd h

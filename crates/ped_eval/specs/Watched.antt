@@ -1,8 +1,6 @@
 -- What the code tells a watch (this project).
 use Rattle.std.specs.Prelude.{◌≡◌, ℕ, zero, suc, ◌+◌, List, Bool, Result, Ok, Err}
-use Rattle.ped_tree.specs.Tree.{CondTree}
 use Rattle.ped_store.specs.Stores.{Store}
-use Rattle.ped_store.specs.Memories.{Memory}
 use Rattle.ped_store.specs.Acts.{Place, closed}
 use Rattle.ped_store.specs.Races.{Access, accesses}
 use Rattle.ped_eval.specs.Scopes.{Frame, Scope}

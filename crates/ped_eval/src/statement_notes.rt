@@ -139,11 +139,7 @@ pub(crate) fn print_notes(
 }
 
 /// Notes what the items of a PRINT read, and the output where none faults.
-fn note_items(
-    notes: &mut Notes,
-    items: &[PrintItem],
-    around: &Surroundings,
-) -> Result<(), NoMemory>
+fn note_items(notes: &mut Notes, items: &[PrintItem], around: &Surroundings) -> Result<(), NoMemory>
     ensures { OnOk result (noted_by notes.new ≡ noted_by notes.old ++ print_noted notes.old.next (printed_line (names_at (memory_of around.now.store.now) around.now.scope.now around.now.consts.now) (map item_tree items.now) (memory_of around.now.store.now).cells)) }
 {
     for item in items {
@@ -178,7 +174,12 @@ pub(crate) fn bounds_notes(
     };
     let mut notes = Notes::from_reference(alloc, 1);
     note_value(&mut notes, &d.first, &around)?;
-    note_next(&mut notes, limit_of(symbols, state, &d.first), &d.last, &around)?;
+    note_next(
+        &mut notes,
+        limit_of(symbols, state, &d.first),
+        &d.last,
+        &around,
+    )?;
     Ok(notes)
 }
 

@@ -1,12 +1,11 @@
-use Rattle.std.proofs.Common.{◌≡◌, sym, ap, ◌∙◌}
+use Rattle.std.proofs.Common.{sym, ap, ◌∙◌}
 use Rattle.std.proofs.lemmas.Result.{on_ok_weaker}
-use Rattle.ped_tree.specs.declared.expressions.Expr.{Expr}
 use Rattle.ped_tree.specs.declared.conditions.Cond.{Cond}
 use Rattle.ped_tree.specs.Tree.{And, Or}
-use Rattle.ped_tree.specs.Views.{expr_tree, cond_tree}
+use Rattle.ped_tree.specs.Views.{cond_tree}
 use Rattle.ped_eval.specs.Noting.{truth_seen_at}
 use Rattle.ped_eval.proofs.Levels.{tree-Rel, tree-Not, tree-And, tree-Or}
-use Rattle.ped_eval.proofs.Seeing.{rel_seen, not_seen, and_seen, or_seen}
+use Rattle.ped_eval.proofs.Seeing.{not_seen, and_seen, or_seen}
 use Rattle.ped_eval.proofs.Notings.{noted_as, conditions_noted, relation_noted}
 use Rattle.ped_eval.proofs.noting.+note_condition.Goals as goal
 

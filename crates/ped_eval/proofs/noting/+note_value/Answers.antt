@@ -1,10 +1,10 @@
-use Rattle.std.proofs.Common.{◌≡◌, List, map, refl, sym, ap, ◌∙◌}
+use Rattle.std.proofs.Common.{List, map, refl, sym, ap, ◌∙◌}
 use Rattle.std.proofs.lemmas.Result.{on_ok_weaker}
 use Rattle.ped_tree.specs.declared.expressions.Expr.{Expr}
 use Rattle.ped_tree.specs.Tree.{Element, Add, Sub, Mul, Div, Pow}
 use Rattle.ped_tree.specs.Views.{expr_tree, pack_exprs}
 use Rattle.ped_store.specs.Keeping.{memory_of}
-use Rattle.ped_eval.specs.Noting.{HasNoted, seen_at, all_seen_at}
+use Rattle.ped_eval.specs.Noting.{seen_at, all_seen_at}
 use Rattle.ped_eval.proofs.Levels.{tree-Int, tree-Var, tree-Element, tree-Neg, tree-Add, tree-Sub, tree-Mul, tree-Div, tree-Pow, tree-Call}
 use Rattle.ped_eval.proofs.Seeing.{int_seen, neg_seen, add_seen, sub_seen, mul_seen, div_seen, pow_seen, call_seen}
 use Rattle.ped_eval.proofs.Notings.{none_noted, noted_as, outside_noted, operands_noted, more_noted, last_noted, all_noted, element_noted}

@@ -1,8 +1,6 @@
-use Rattle.std.proofs.Common.{◌≡◌, List, map, sym, ap, ◌∙◌}
+use Rattle.std.proofs.Common.{sym, ap, ◌∙◌}
 use Rattle.std.proofs.lemmas.Result.{on_ok_weaker}
-use Rattle.ped_tree.specs.declared.expressions.Expr.{Expr}
-use Rattle.ped_tree.specs.Tree.{Element}
-use Rattle.ped_tree.specs.Views.{expr_tree, pack_exprs}
+use Rattle.ped_tree.specs.Views.{expr_tree}
 use Rattle.ped_eval.specs.Noting.{target_seen_at, all_seen_at}
 use Rattle.ped_eval.proofs.Levels.{tree-Int, tree-Var, tree-Element, tree-Neg, tree-Add, tree-Sub, tree-Mul, tree-Div, tree-Pow, tree-Call}
 use Rattle.ped_eval.proofs.Seeing.{element_target_seen}

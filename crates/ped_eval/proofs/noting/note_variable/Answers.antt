@@ -1,12 +1,7 @@
-use Rattle.std.proofs.Common.{◌≡◌, ℤ, Option, Some, None, sym, ap, ◌∙◌}
+use Rattle.std.proofs.Common.{sym, ◌∙◌}
 use Rattle.std.proofs.lemmas.Result.{on_ok_weaker}
-use Rattle.ped_store.specs.Races.{is_lines}
-use Rattle.ped_store.specs.CellViews.{cell_view}
 use Rattle.ped_store.specs.Keeping.{memory_of}
-use Rattle.ped_eval.specs.Scopes.{cell_of, index_value}
-use Rattle.ped_eval.specs.Values.{variable_value}
-use Rattle.ped_eval.specs.Evaluation.{Seen, cell_seen, index_seen}
-use Rattle.ped_eval.proofs.Notings.{noted_as, read_referred, index_touched, scalar_no_lines, variable_read, variable_told}
+use Rattle.ped_eval.proofs.Notings.{variable_read, variable_told}
 use Rattle.ped_eval.proofs.noting.note_variable.Goals as goal
 
 pub returns-in-Some : goal.returns-in-Some

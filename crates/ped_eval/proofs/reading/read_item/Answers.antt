@@ -1,19 +1,15 @@
-use Rattle.std.proofs.Common.{◌≡◌, ℕ, ℤ, List, Ok, Err, Result, rules, to_z, of_z, sym, ap, subst, ◌∙◌}
+use Rattle.std.proofs.Common.{◌≡◌, ℕ, ℤ, List, Err, rules, to_z, of_z, sym, ap, subst, ◌∙◌}
 use Rattle.std.specs.Int.{w64, w128}
 use Rattle.std.specs.Int.RustNames.{FitsSigned}
 use Rattle.std.proofs.lemmas.Int.{to_z-of_z}
-use Rattle.ped_tree.specs.Tree.{ExprTree}
 use Rattle.ped_tree.specs.Views.{expr_tree}
-use Rattle.ped_store.specs.Cells.{Cell}
 use Rattle.ped_store.specs.CellViews.{cell_view}
 use Rattle.ped_store.specs.DataLines.{Taken}
 use Rattle.ped_store.specs.Memories.{Memory, stored}
 use Rattle.ped_store.specs.Keeping.{memory_of}
-use Rattle.ped_eval.specs.Evaluation.{Seen}
 use Rattle.ped_eval.specs.ScopeViews.{names_at}
 use Rattle.ped_eval.specs.Values.{target}
 use Rattle.ped_eval.specs.Targets.{bounded}
-use Rattle.ped_eval.specs.Takings.{item_taken}
 use Rattle.ped_eval.specs.Noting.{target_seen_at, HasNoted}
 use Rattle.ped_eval.proofs.Assignments.{named_stands}
 use Rattle.ped_eval.proofs.Readings.{taken_fault, taken_stored}

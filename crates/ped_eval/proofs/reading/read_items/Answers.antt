@@ -1,4 +1,4 @@
-use Rattle.std.proofs.Common.{◌≡◌, ◌++◌, ℕ, List, [], ◌∷◌, map, drop, Result, Ok, Err, refl, sym, ap, subst, ◌+◌, ◌∙◌}
+use Rattle.std.proofs.Common.{◌≡◌, ◌++◌, List, ◌∷◌, map, drop, Ok, Err, refl, sym, ap, subst, ◌+◌, ◌∙◌}
 use Rattle.std.proofs.lemmas.List.{append-nil}
 use Rattle.ped_tree.specs.Tree.{ExprTree}
 use Rattle.ped_tree.specs.Views.{expr_tree}
@@ -6,8 +6,8 @@ use Rattle.ped_store.specs.Memories.{Memory}
 use Rattle.ped_store.specs.Keeping.{memory_of}
 use Rattle.ped_eval.specs.Scopes.{Scope}
 use Rattle.ped_eval.specs.Readiness.{kinds_by, IsReady}
-use Rattle.ped_eval.specs.Takings.{item_taken, items_taken, read_taken}
-use Rattle.ped_eval.specs.Noting.{Noted, noted_by}
+use Rattle.ped_eval.specs.Takings.{item_taken, read_taken}
+use Rattle.ped_eval.specs.Noting.{noted_by}
 use Rattle.ped_eval.specs.StatementNotes.{items_noted, IsTaken, IsItemNoted}
 use Rattle.ped_eval.proofs.Readings.{ready_data, read_begun, items_step, items_done, item_ready, others_right, none_left}
 use Rattle.ped_eval.proofs.ReadNotes.{line_begun, line_missing, broken_taken, broken_noted, items_left}

@@ -1,12 +1,10 @@
-use Rattle.std.proofs.Common.{◌≡◌, ◌++◌, ℕ, List, map, Result, Ok, Err, refl, sym, ap, subst, ◌∙◌}
+use Rattle.std.proofs.Common.{◌≡◌, ◌++◌, map, Ok, Err, refl, sym, subst}
 use Rattle.ped_tree.specs.Views.{expr_tree}
-use Rattle.ped_store.specs.Races.{Access}
 use Rattle.ped_store.specs.Keeping.{memory_of}
 use Rattle.ped_eval.specs.Scopes.{Scope}
 use Rattle.ped_eval.specs.Readiness.{IsReady}
 use Rattle.ped_eval.specs.Takings.{read_taken}
-use Rattle.ped_eval.specs.Follow.{Follow}
-use Rattle.ped_eval.specs.Noting.{Noted, noted_by, accesses_by}
+use Rattle.ped_eval.specs.Noting.{noted_by}
 use Rattle.ped_eval.specs.StatementNotes.{read_noted, IsTaken, IfRead}
 use Rattle.ped_eval.specs.declared.reading.ReadError.{ReadError}
 use Rattle.ped_eval.specs.declared.states.Flow.TheVariants as flow

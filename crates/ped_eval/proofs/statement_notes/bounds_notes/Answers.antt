@@ -1,19 +1,12 @@
-use Rattle.std.proofs.Common.{◌≡◌, ◌+◌, ◌++◌, ℕ, ℤ, List, [], ◌∷◌, map, drop, Result, Ok, Err, refl, sym, ap, subst, ◌∙◌, rules}
-use Rattle.std.proofs.lemmas.Result.{on_ok_weaker}
-use Rattle.ped_tree.specs.Views.{expr_tree, cond_tree, item_tree}
+use Rattle.std.proofs.Common.{◌≡◌, ℕ, ℤ, List, sym, ap, ◌∙◌}
 use Rattle.ped_store.specs.Keeping.{memory_of}
-use Rattle.ped_store.specs.CellViews.{cell_view}
 use Rattle.ped_eval.specs.ScopeViews.{names_at}
-use Rattle.ped_eval.specs.Values.{value, truth, target}
-use Rattle.ped_eval.specs.Noting.{noted, noted_by, seen_at, truth_seen_at, target_seen_at}
-use Rattle.ped_eval.specs.Results.{value_at}
-use Rattle.ped_eval.specs.StatementNotes.{reads_noted, assignment_noted, print_noted}
-use Rattle.ped_eval.specs.Statements.{assigned, printed_line, item_texts}
-use Rattle.ped_eval.specs.Evaluation.{Seen, ◌>>>◌, given, number_behind}
+use Rattle.ped_eval.specs.Values.{value}
+use Rattle.ped_eval.specs.Noting.{seen_at}
+use Rattle.ped_eval.specs.StatementNotes.{reads_noted}
+use Rattle.ped_eval.specs.Evaluation.{◌>>>◌, given, number_behind}
 use Rattle.ped_eval.specs.Loops.{limits, in_bounds}
 use Rattle.ped_eval.specs.Plans.{head_of}
-use Rattle.ped_eval.specs.Noting.{HasNoted, seen_next}
-use Rattle.ped_eval.proofs.Notings.{noted_as, both_noted}
 use Rattle.ped_eval.proofs.Storing.{fresh_noted, fresh_next, limits_noted}
 use Rattle.ped_eval.proofs.statement_notes.bounds_notes.Goals as goal
 

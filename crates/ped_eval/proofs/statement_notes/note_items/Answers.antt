@@ -1,14 +1,11 @@
-use Rattle.std.proofs.Common.{◌≡◌, ◌+◌, ◌++◌, ℕ, ℤ, List, [], ◌∷◌, map, drop, Result, Ok, Err, refl, sym, ap, subst, ◌∙◌, rules}
-use Rattle.std.proofs.lemmas.Result.{on_ok_weaker}
-use Rattle.ped_tree.specs.Views.{expr_tree, cond_tree, item_tree}
+use Rattle.std.proofs.Common.{◌+◌, ◌++◌, map, drop, sym, ap, ◌∙◌}
+use Rattle.ped_tree.specs.Views.{expr_tree, item_tree}
 use Rattle.ped_store.specs.Keeping.{memory_of}
-use Rattle.ped_store.specs.CellViews.{cell_view}
 use Rattle.ped_eval.specs.ScopeViews.{names_at}
-use Rattle.ped_eval.specs.Values.{value, truth, target}
-use Rattle.ped_eval.specs.Noting.{noted, noted_by, seen_at, truth_seen_at, target_seen_at}
+use Rattle.ped_eval.specs.Noting.{noted_by, seen_at}
 use Rattle.ped_eval.specs.Results.{value_at}
-use Rattle.ped_eval.specs.StatementNotes.{reads_noted, assignment_noted, print_noted}
-use Rattle.ped_eval.specs.Statements.{assigned, printed_line, item_texts}
+use Rattle.ped_eval.specs.StatementNotes.{print_noted}
+use Rattle.ped_eval.specs.Statements.{item_texts}
 use Rattle.ped_eval.proofs.Storing.{value_step, fault_step, text_step, line_noted_as}
 use Rattle.ped_eval.proofs.statement_notes.note_items.Goals as goal
 use Rattle.ped_eval.proofs.statement_notes.note_items.Goals.{in-Value+in_ok-note_value-in-Value+in-Ok, in-Text}

@@ -1,20 +1,14 @@
-use Rattle.std.proofs.Common.{◌≡◌, ◌+◌, ◌++◌, ℕ, ℤ, List, [], ◌∷◌, map, drop, Result, Ok, Err, refl, sym, ap, subst, ◌∙◌, rules}
+use Rattle.std.proofs.Common.{ℤ, refl, subst, rules}
 use Rattle.std.proofs.lemmas.Result.{on_ok_weaker}
-use Rattle.ped_tree.specs.Views.{expr_tree, cond_tree, item_tree}
+use Rattle.ped_tree.specs.Views.{expr_tree}
 use Rattle.ped_store.specs.Keeping.{memory_of}
 use Rattle.ped_store.specs.CellViews.{cell_view}
 use Rattle.ped_eval.specs.ScopeViews.{names_at}
-use Rattle.ped_eval.specs.Values.{value, truth, target}
-use Rattle.ped_eval.specs.Noting.{noted, noted_by, seen_at, truth_seen_at, target_seen_at}
-use Rattle.ped_eval.specs.Results.{value_at}
-use Rattle.ped_eval.specs.StatementNotes.{reads_noted, assignment_noted, print_noted}
-use Rattle.ped_eval.specs.Statements.{assigned, printed_line, item_texts}
-use Rattle.std.proofs.Common.{to_z, of_z}
+use Rattle.ped_eval.specs.Noting.{target_seen_at}
 use Rattle.std.specs.Int.{w128}
 use Rattle.std.specs.Int.RustNames.{FitsSigned}
 use Rattle.std.proofs.lemmas.Int.{to_z-of_z}
 use Rattle.ped_store.specs.Memories.{stored}
-use Rattle.ped_eval.specs.Targets.{bounded}
 use Rattle.ped_eval.specs.StatementNotes.{IsWriteNoted}
 use Rattle.ped_eval.proofs.Storing.{store_noted, unnamed_noted}
 use Rattle.ped_eval.proofs.statement_notes.note_store.Goals as goal

@@ -1,15 +1,14 @@
-use Rattle.std.proofs.Common.{◌≡◌, ℕ, zero, suc, ◌+◌, ◌-◌, ◌<◌, ◌≤◌, List, [], ◌∷◌, length, drop, Bool, true, false, Result, Ok, Err, rules, refl, sym, ap, subst, ◌∙◌, arith}
+use Rattle.std.proofs.Common.{◌≡◌, ℕ, zero, suc, ◌+◌, ◌-◌, ◌<◌, ◌≤◌, List, [], ◌∷◌, length, drop, true, false, Result, Ok, Err, rules, refl, sym, ap, subst, ◌∙◌, arith}
 use Rattle.std.proofs.lemmas.List.{drop_all}
 use Rattle.std.specs.List.{list_all}
-use Rattle.ped_tree.specs.Tree.{Head, StmtTree, StmtTrees, If, no_stmts, more_stmts}
-use Rattle.ped_tree.specs.Views.{expr_tree, cond_tree, stmt_tree, stmt_trees, do_tree}
+use Rattle.ped_tree.specs.Tree.{StmtTree, StmtTrees, If, no_stmts, more_stmts}
+use Rattle.ped_tree.specs.Views.{cond_tree, stmt_tree, stmt_trees, do_tree}
 use Rattle.ped_tree.specs.Numbering.{statement_count, statements_count}
 use Rattle.ped_tree.specs.declared.statements.Stmt.{Stmt, the_lemmas}
 use Rattle.ped_tree.proofs.Levels.{stmt_tree-If}
-use Rattle.ped_store.specs.Stores.{Store}
 use Rattle.ped_store.specs.Memories.{Memory}
 use Rattle.ped_store.specs.Keeping.{Kept, memory_of}
-use Rattle.ped_eval.specs.Scopes.{Frame, Scope, cell_of}
+use Rattle.ped_eval.specs.Scopes.{Scope, cell_of}
 use Rattle.ped_eval.specs.ScopeViews.{names_at, outside}
 use Rattle.ped_eval.specs.Values.{truth}
 use Rattle.ped_eval.specs.Loops.{frame, copied_names, inner_variables}
@@ -24,14 +23,13 @@ use Rattle.ped_eval.specs.declared.states.Flow.{Flow}
 use Rattle.ped_eval.specs.declared.states.Flow.TheVariants as flow
 use Rattle.ped_eval.specs.declared.plans.Plan.{Plan}
 use Rattle.ped_eval.specs.declared.states.RunError.{RunError}
-use Rattle.ped_eval.specs.declared.states.RunError.TheVariants as error
 use Rattle.ped_eval.proofs.Moments.{first_turn}
 use Rattle.ped_eval.proofs.Agreements.{agrees_later}
 use Rattle.ped_eval.proofs.Copies.{all_among, all_copies}
 use Rattle.ped_eval.proofs.Assignments.{cell_stands}
 use Rattle.ped_eval.proofs.Entries.{plan_number, do_run, do_failed}
 use Rattle.ped_eval.proofs.Iterations.{exit_tells, exit_ready, scalars_stand, variable_scalar, private_scalars, inner_scalars, open_ready, close_ready, turn_part, turn_goes, turn_stops, turn_fails}
-use Rattle.ped_eval.proofs.Parts.{HasRun, first_can, rest_can, then_can, else_can, head_can, body_right, body_can, then_run, else_run, if_failed, stop_run, tree-Assign, tree-Do, tree-Stop, stmts_left}
+use Rattle.ped_eval.proofs.Parts.{HasRun, first_can, rest_can, then_can, else_can, head_can, body_right, body_can, then_run, else_run, stop_run, tree-Assign, tree-Do, tree-Stop, stmts_left}
 use Rattle.ped_eval.proofs.Running.{statement_done, statement_broken, reaches_behind, tells_broken}
 use Rattle.ped_store.specs.Acts.{closed}
 use Rattle.ped_store.specs.Races.{Access, accesses}
@@ -398,9 +396,11 @@ run_turns-loop-earlier-init g t c =
           (s, subst (λ (k : Kept). Agrees scope (before_turn scope n 1) (memory_of k).cells s) (sym store) agrees, ap (λ (k : ℕ). turns_end k 1 (entered_by (head_of c.args.d.now) c.args.plan.now behind) scope body s) count);
       told = λ s a m q.
           let agrees : Agrees scope (before_turn scope n 1) (memory_of c.args.state.now.store).cells s = agrees_later scope (before scope n) (before_turn scope n 1) (memory_of c.args.state.now.store).cells s (first_turn scope n 1) a in
-          let count : m ≡ c.args.plan.now.count = omega (arith, q) in
-          (s, subst (λ (k : Kept). Agrees scope (before_turn scope n 1) (memory_of k).cells s) (sym store) agrees,
-          λ last f. subst (λ (k : ℕ). Follow g.W.Watch.follows c.args.watch.now (accesses (turns_run k 1 (entered_by (head_of c.args.d.now) c.args.plan.now c.args.behind) scope (place_by n scope) body s).acts) last) count f);
+          let count : m ≡ c.args.plan.now.count = omega (arith, q) in (
+            s,
+            subst (λ (k : Kept). Agrees scope (before_turn scope n 1) (memory_of k).cells s) (sym store) agrees,
+            λ last f. subst (λ (k : ℕ). Follow g.W.Watch.follows c.args.watch.now (accesses (turns_run k 1 (entered_by (head_of c.args.d.now) c.args.plan.now c.args.behind) scope (place_by n scope) body s).acts) last) count f,
+          );
     }
 
 pub run_turns-run_turn-requires : goal.run_turns-run_turn-requires

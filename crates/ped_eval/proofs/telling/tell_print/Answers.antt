@@ -1,7 +1,4 @@
 use Rattle.std.proofs.Common.{sym, ◌∙◌}
-use Rattle.ped_eval.specs.Loops.{exit_touches}
-use Rattle.ped_eval.specs.Plans.{entered_by, head_of}
-use Rattle.ped_eval.specs.Noting.{noted, noted_by, accesses_by}
 use Rattle.ped_eval.proofs.Watching.{idle_follows}
 use Rattle.ped_eval.proofs.telling.tell_print.Goals as goal
 

@@ -20,3 +20,4 @@ pub mod PrivatisedRacesCells
 pub mod PrivatisedRacesOrigins
 pub mod PrivatisedRaces
 pub mod KeptMeanings
+pub mod SubstitutedSums

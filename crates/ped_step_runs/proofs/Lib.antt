@@ -21,3 +21,5 @@ pub mod PrivatisedRacesOrigins
 pub mod PrivatisedRaces
 pub mod KeptMeanings
 pub mod SubstitutedSums
+pub mod SubstitutedShapes
+pub mod SubstitutedSight

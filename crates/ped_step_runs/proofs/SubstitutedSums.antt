@@ -165,8 +165,8 @@ module _ (g : Names) (s : Store) where
       (λ b l z p q k. ap (λ (e : ExprTree). value g e s) (q a) ∙ two_come difference_of (value g a s) (value g b s) u v w h k r)
 
   -- where the sum of two expressions has a value, the sum that is made anew comes to it and sees the same
-  pub plus_comes : (a b : ExprTree) (w : ℤ) → (binary sum_of (value g a s) (value g b s)).result ≡ Ok w → value g (plus_of a b) s ≡ evaluated ((value g a s).seen ++ (value g b s).seen) (Ok w)
-  plus_comes a b w e = or_comes ◌+ℤ◌ a b u v w h k r (if is_zero b then a else (if is_zero a then b else added a b)) (go (is_zero b) (is_zero a) refl refl)
+  pub plus_comes : (a b : ExprTree) (w : ℤ) → (binary sum_of (value g a s) (value g b s)).result ≡ Ok w → value g (plus_of a b) s ≡ binary sum_of (value g a s) (value g b s)
+  plus_comes a b w e = or_comes ◌+ℤ◌ a b u v w h k r (if is_zero b then a else (if is_zero a then b else added a b)) (go (is_zero b) (is_zero a) refl refl) ∙ sym (two_come sum_of (value g a s) (value g b s) u v w h k r)
     where
       parts : IsOfTwo sum_of (value g a s) (value g b s) w
       parts = two_parts sum_of (value g a s) (value g b s) w e
@@ -186,8 +186,8 @@ module _ (g : Names) (s : Store) where
       go false false p q = added_comes a u v w h r b k
 
   -- the same of a difference
-  pub minus_comes : (a b : ExprTree) (w : ℤ) → (binary difference_of (value g a s) (value g b s)).result ≡ Ok w → value g (minus_of a b) s ≡ evaluated ((value g a s).seen ++ (value g b s).seen) (Ok w)
-  minus_comes a b w e = or_comes ◌-ℤ◌ a b u v w h k r (if is_zero b then a else subtracted a b) (go (is_zero b) refl)
+  pub minus_comes : (a b : ExprTree) (w : ℤ) → (binary difference_of (value g a s) (value g b s)).result ≡ Ok w → value g (minus_of a b) s ≡ binary difference_of (value g a s) (value g b s)
+  minus_comes a b w e = or_comes ◌-ℤ◌ a b u v w h k r (if is_zero b then a else subtracted a b) (go (is_zero b) refl) ∙ sym (two_come difference_of (value g a s) (value g b s) u v w h k r)
     where
       parts : IsOfTwo difference_of (value g a s) (value g b s) w
       parts = two_parts difference_of (value g a s) (value g b s) w e

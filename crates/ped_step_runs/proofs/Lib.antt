@@ -23,3 +23,4 @@ pub mod KeptMeanings
 pub mod SubstitutedSums
 pub mod SubstitutedShapes
 pub mod SubstitutedSight
+pub mod SubstitutedRuns

@@ -5,9 +5,8 @@ use Rattle.std.specs.List.{flat_map}
 use Rattle.std.specs.Option.{unwrap_or}
 use Rattle.std.proofs.lemmas.List.Folds.{list_any-append}
 use Rattle.std.proofs.lemmas.List.Concat.{flat_map-append}
-use Rattle.std.proofs.lemmas.Bool.{both_ways}
+use Rattle.std.proofs.lemmas.Bool.{both_ways, or_parts}
 use Rattle.ped_base.specs.Lists.{is_same_text, is_among}
-use Rattle.ped_names.proofs.NameEquality.{same_is}
 use Rattle.ped_tree.specs.Tree.{ExprTree, CondTree, ItemTree, Head, StmtTree, StmtTrees, Assign, If, Do, Print, Read, Stop, Comment, no_stmts, more_stmts}
 use Rattle.ped_tree.specs.Numbering.{statement_count, statements_count}
 use Rattle.ped_symbols.specs.declared.uses.Use.{Use}
@@ -15,11 +14,10 @@ use Rattle.ped_symbols.specs.declared.uses.Role.TheVariants.{Rejected, Index}
 use Rattle.ped_symbols.specs.Uses.{used_as, expr_uses, cond_uses, target_uses, item_uses}
 use Rattle.ped_symbols.specs.Sites.{Site, private_site, stmt_sites, stmts_sites, site_uses}
 use Rattle.ped_affine.specs.Assigned.{loop_variables, all_loop_variables}
-use Rattle.ped_constants.specs.NamedConstants.{value_named}
 use Rattle.ped_sums.specs.Substitution.{substituted, condition_substituted, item_substituted, head_substituted, statement_substituted, statements_substituted}
 use Rattle.ped_store.specs.Cells as cells
 use Rattle.ped_store.specs.Cells.{Cell, Private, In, Out, same_cell}
-use Rattle.ped_store.specs.Stores.{Content, Undefined, Number, Lines, Store, put, lines_in}
+use Rattle.ped_store.specs.Stores.{Content, Number, Lines, Store, put, lines_in}
 use Rattle.ped_store.specs.Acts.{Touch, Place, Step, did, entered, ended_turn, closed, Act, store_behind, iterations_of}
 use Rattle.ped_store.specs.DataLines.{Data, begun, Taken, next_value_of}
 use Rattle.ped_acts.specs.Fitting.{of_cells}
@@ -29,24 +27,20 @@ use Rattle.ped_acts.proofs.Renamings.{renamed_alike}
 use Rattle.ped_eval.specs.Scopes.{Setting, Frame, Scope, turns_of, cell_of, index_value, Names, names_in, place_of}
 use Rattle.ped_eval.specs.Evaluation.{Seen, Evaluated, numbered, number_behind}
 use Rattle.ped_eval.specs.Values.{truth, target}
-use Rattle.ped_eval.specs.Statements.{Stored, assigned, assignment_touches, printed_line, print_touches, read_touch, write_touch, Taking, having_touched, into_item, with_taken, taking, taking_from, reading, reading_touches}
-use Rattle.ped_eval.specs.Loops.{Limits, limits, increment, iteration_count, all_index_names, index_names, sorted_once, inner_variables, Entered, entered_with, copied_names, frame, undefined_by, undefined_all, left_in_variable, exit_touches, exit_when_none, entry_touches}
-use Rattle.ped_eval.specs.Runs.{Ending, going, stopped, failed, Run, nothing_done, followed_by, then_run, does, fails, on, run_assignment, run_print, run_taking, run_read, run_stop, run_if, turns, parallel_turns, run_entered, run_from_entry, run_do, run, run_all}
+use Rattle.ped_eval.specs.Statements.{assigned, assignment_touches, printed_line, print_touches, read_touch, write_touch, Taking, into_item, with_taken, taking, taking_from, reading, reading_touches}
+use Rattle.ped_eval.specs.Loops.{Limits, limits, increment, iteration_count, sorted_once, inner_variables, Entered, entered_with, frame, undefined_by, undefined_all, exit_touches, exit_when_none, entry_touches}
+use Rattle.ped_eval.specs.Runs.{Ending, going, stopped, failed, Run, nothing_done, followed_by, then_run, does, on, run_assignment, run_print, run_taking, run_read, run_stop, run_if, turns, parallel_turns, run_entered, run_from_entry, run_do, run, run_all}
 use Rattle.ped_runs.specs.Replaying.{finish_of, has_fault}
 use Rattle.ped_flow_runs.proofs.Names.{inner_among}
 use Rattle.ped_step_runs.specs.Exchanging.{exchanged_store, exchanged_ending, swapped, is_of_scalar}
-use Rattle.ped_step_runs.specs.Substituting.{IsSameOn, AreSameOn, element_at, private_names_in, all_private_names_in, MayStandFor}
+use Rattle.ped_step_runs.specs.Substituting.{AreSameOn, element_at, private_names_in, all_private_names_in, MayStandFor}
 use Rattle.ped_step_runs.proofs.ExchangedSight.{itself}
 use Rattle.ped_step_runs.proofs.Swapped.{cell_name, swapped_first, swapped_other, twice, named_so, of_scalar}
-use Rattle.ped_step_runs.proofs.SubstitutedShapes.{count_kept, counts_kept, indices_kept, IsOpen, constant_kept}
+use Rattle.ped_step_runs.proofs.SubstitutedShapes.{count_kept, counts_kept, indices_kept, constant_kept}
 use Rattle.ped_step_runs.proofs.SubstitutedSight.{IsSwap, IsFit, StandsAt, Lack, lack_parts, lack_first, Alike, alike_append, SeeAlike, Matches, stored_as, truth_match, target_match, assigned_match, line_match, limits_match}
 
-none_of : (a b : Bool) → a || b ≡ false → (a ≡ false) × (b ≡ false)
-none_of true b e = absurd cc
-none_of false b e = (refl, e)
-
 among_parts : (x : List ℕ) (xs ys : List (List ℕ)) → is_among x (xs ++ ys) ≡ false → (is_among x xs ≡ false) × (is_among x ys ≡ false)
-among_parts x xs ys h = none_of (is_among x xs) (is_among x ys) (sym (list_any-append (is_same_text x) xs ys) ∙ h)
+among_parts x xs ys h = or_parts (is_among x xs) (is_among x ys) (sym (list_any-append (is_same_text x) xs ys) ∙ h)
 
 among_both : (x : List ℕ) (xs ys : List (List ℕ)) → is_among x xs ≡ false → is_among x ys ≡ false → is_among x (xs ++ ys) ≡ false
 among_both x xs ys h k = list_any-append (is_same_text x) xs ys ∙ (λ i. h i || k i)
@@ -181,14 +175,13 @@ module _ (name : Cell → Cell) (twice : (c : Cell) → name (name c) ≡ c) whe
           go (Ok c) q =
               subst (λ (y : Result Cell ℕ). TakesAlike (into_item n left w e.seen (Ok c) next) (into_item m left w z.seen y others)) (sym (match c q).0)
               (λ f.
-              let rest = more (suc (number_behind n e.seen)) (suc (number_behind m z.seen)) c f in
-              (
-              rest.0,
-              rest.1,
-              alike_append name (numbered n e.seen ++ write_touch c (Number w) (number_behind n e.seen) ∷ []) (numbered m z.seen ++ write_touch (name c) (Number w) (number_behind m z.seen) ∷ [])
-              (next (suc (number_behind n e.seen)) c).touches (others (suc (number_behind m z.seen)) (name c)).touches
-              (alike_append name (numbered n e.seen) (numbered m z.seen) (write_touch c (Number w) (number_behind n e.seen) ∷ []) (write_touch (name c) (Number w) (number_behind m z.seen) ∷ []) ((match c q).1 n m) (refl, refl, refl, tt))
-              rest.2,
+              let rest = more (suc (number_behind n e.seen)) (suc (number_behind m z.seen)) c f in (
+                rest.0,
+                rest.1,
+                alike_append name (numbered n e.seen ++ write_touch c (Number w) (number_behind n e.seen) ∷ []) (numbered m z.seen ++ write_touch (name c) (Number w) (number_behind m z.seen) ∷ [])
+                    (next (suc (number_behind n e.seen)) c).touches (others (suc (number_behind m z.seen)) (name c)).touches
+                    (alike_append name (numbered n e.seen) (numbered m z.seen) (write_touch c (Number w) (number_behind n e.seen) ∷ []) (write_touch (name c) (Number w) (number_behind m z.seen) ∷ []) ((match c q).1 n m) (refl, refl, refl, tt))
+                    rest.2,
               ))
           go (Err fault) q = λ f. absurd cc
 
@@ -244,13 +237,13 @@ module _ (name : Cell → Cell) (twice : (c : Cell) → name (name c) ≡ c) whe
       undefined_alike : (n m : ℕ) (xs : List (List ℕ)) → is_among x xs ≡ false → Alike name (undefined_by T n xs) (undefined_by T m xs)
       undefined_alike n m [] h = tt
       undefined_alike n m (y ∷ ys) h =
-          let parts = none_of (is_same_text x y) (is_among x ys) h in
+          let parts = or_parts (is_same_text x y) (is_among x ys) h in
           (refl, refl, sym (at.kept y parts.0), undefined_alike (suc n) (suc m) ys parts.1)
 
       undefined_all_alike : (xs : List (List ℕ)) → is_among x xs ≡ false → Alike name (undefined_all T xs) (undefined_all T xs)
       undefined_all_alike [] h = tt
       undefined_all_alike (y ∷ ys) h =
-          let parts = none_of (is_same_text x y) (is_among x ys) h in
+          let parts = or_parts (is_same_text x y) (is_among x ys) h in
           (refl, refl, sym (at.kept y parts.0), undefined_all_alike ys parts.1)
 
       module _ (e z : Entered) (exits : Alike name (exit_touches e T) (exit_touches z T)) where
@@ -284,9 +277,13 @@ module _ (name : Cell → Cell) (twice : (c : Cell) → name (name c) ≡ c) whe
         loop_exits : (n : ℕ) (first step : ℤ) (count behind behind' : ℕ)
             → Alike name (exit_touches (record { number = n; head = h; first = first; step = step; count = count; behind_bounds = behind; inner = inner_variables h.parallel body }) T)
             (exit_touches (record { number = n; head = head_substituted x by h; first = first; step = step; count = count; behind_bounds = behind'; inner = inner_variables h.parallel body }) T)
-        loop_exits n first step count behind behind' =
-            (refl, refl, sym (at.kept h.variable other_variable), alike_append name (undefined_by T behind h.private) (undefined_by T behind' h.private) (undefined_all T (inner_variables h.parallel body)) (undefined_all T (inner_variables h.parallel body))
-            (undefined_alike behind behind' h.private unlisted) (undefined_all_alike (inner_variables h.parallel body) inside))
+        loop_exits n first step count behind behind' = (
+          refl,
+          refl,
+          sym (at.kept h.variable other_variable),
+          alike_append name (undefined_by T behind h.private) (undefined_by T behind' h.private) (undefined_all T (inner_variables h.parallel body)) (undefined_all T (inner_variables h.parallel body))
+              (undefined_alike behind behind' h.private unlisted) (undefined_all_alike (inner_variables h.parallel body) inside),
+        )
 
         -- the DO with the substituted head and body, once it is entered
         abbrev entered_anew : ℕ → List Seen → Limits → Entered
@@ -313,6 +310,7 @@ module _ (name : Cell → Cell) (twice : (c : Cell) → name (name c) ≡ c) whe
           where
             steps : increment p.constants (head_substituted x by h) ≡ increment p.constants h
             steps = ap (λ (o : Option ℤ). unwrap_or o (pos 1)) (constant_kept p.constants x by fit.variable (record { value = refl; literal = refl; zero = refl }) refl h.step)
+
             variables : (b : Bool) → inner_variables b (statements_substituted x by body) ≡ inner_variables b body
             variables true = ap sorted_once (indices_kept x by body)
             variables false = refl
@@ -377,8 +375,8 @@ module _ (name : Cell → Cell) (twice : (c : Cell) → name (name c) ≡ c) whe
           let bounds = lack_parts array (expr_uses h.first ++ expr_uses h.last) (expr_uses h.step) (lack_first array h.variable (expr_uses h.first ++ expr_uses h.last ++ expr_uses h.step) own.1).1 in
           let limits_uses = lack_parts array (expr_uses h.first) (expr_uses h.last) bounds.0 in
           let inside = lack_parts array (flat_map site_uses (private_site h.private)) (flat_map site_uses (stmts_sites body)) (ap (λ (us : List Use). is_among array (map (λ u. u.name) us)) (sym (flat_map-append site_uses (private_site h.private) (stmts_sites body))) ∙ uses.1) in
-          let mine = none_of (is_same_text x h.variable) (is_among x (all_loop_variables body)) free.no_loop in
-          let its = none_of (is_same_text v h.variable) (is_among v (all_loop_variables body)) free.outside in
+          let mine = or_parts (is_same_text x h.variable) (is_among x (all_loop_variables body)) free.no_loop in
+          let its = or_parts (is_same_text v h.variable) (is_among v (all_loop_variables body)) free.outside in
           let listed = among_parts x h.private (all_private_names_in body) free.shared in
           let inner = inner_free h.parallel body mine.1 in
           do_follow T at h body mine.0 listed.0 inner n (λ f. run_all p body (n + 1) (f ∷ T)) (λ f. run_all p (statements_substituted x by body) (n + 1) (f ∷ T)) limits_uses.0 limits_uses.1

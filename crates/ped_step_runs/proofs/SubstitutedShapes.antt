@@ -1,9 +1,8 @@
 -- Statements with an expression in the place of a scalar count the same, have the same DO loops, and the same increments in them.
-use Rattle.std.proofs.Common.{◌≡◌, ℕ, zero, suc, ◌+◌, ℤ, ◌+ℤ◌, ◌-ℤ◌, List, [], ◌∷◌, ◌++◌, Bool, true, false, Option, Some, None, Result, refl, sym, ap, subst, ◌∙◌, ◌⊎◌, inl, inr, if◌then◌else◌}
+use Rattle.std.proofs.Common.{◌≡◌, ℕ, ◌+◌, ℤ, ◌+ℤ◌, ◌-ℤ◌, List, ◌∷◌, ◌++◌, Bool, true, false, Option, Some, None, Result, refl, sym, ap, subst, ◌∙◌, ◌⊎◌, inl, inr, if◌then◌else◌}
 use Rattle.std.specs.Prelude.{option_and_then, ◌||◌, ◌&&◌, not}
 use Rattle.std.specs.Result.{result_ok}
 use Rattle.std.proofs.lemmas.Bool.{both_ways, or_parts}
-use Rattle.ped_base.specs.Lists.{is_same_text}
 use Rattle.ped_arithmetic.specs.declared.faults.Fault.{Fault}
 use Rattle.ped_arithmetic.specs.Arithmetic.{sum_of, difference_of, negation_of, product_of, quotient_of, power_of}
 use Rattle.ped_constants.specs.NamedConstants.{value_named}
@@ -11,7 +10,7 @@ use Rattle.ped_constants.specs.ConstantExpressions.{unary_value, binary_value, o
 use Rattle.ped_names.proofs.NameEquality.{same_is}
 use Rattle.ped_tree.specs.Tree.{ExprTree, ExprTrees, Int, Var, Element, Neg, Add, Sub, Mul, Div, Pow, Call, no_exprs, more_exprs, StmtTree, StmtTrees, Assign, If, Do, Print, Read, Stop, Comment, no_stmts, more_stmts}
 use Rattle.ped_tree.specs.Numbering.{statement_count, statements_count}
-use Rattle.ped_sums.specs.Sums.{literal_value, literal, of_both, small, computed, literal_or, is_zero, added, subtracted, plus_of, minus_of}
+use Rattle.ped_sums.specs.Sums.{literal_value, of_both, small, computed, literal_or, is_zero, added, subtracted, plus_of, minus_of}
 use Rattle.ped_sums.specs.Substitution.{has_scalar, have_scalar, is_scalar, changes, substituted, all_substituted, statement_substituted, statements_substituted}
 use Rattle.ped_eval.specs.Loops.{index_names, all_index_names}
 
@@ -44,15 +43,6 @@ module _ (x : List ℕ) (by : ExprTree) where
     indices_kept no_stmts = refl
     indices_kept (more_stmts t rest) = λ i. index_kept t i ++ indices_kept rest i
 
-  -- neither operand has the scalar, where none of both has it
-  pub first_none : (a b : Bool) → a || b ≡ false → a ≡ false
-  first_none true b e = absurd cc
-  first_none false b e = refl
-
-  pub second_none : (a b : Bool) → a || b ≡ false → b ≡ false
-  second_none true b e = absurd cc
-  second_none false b e = e
-
   -- an expression without the scalar stays
   mutual
     pub stays : (e : ExprTree) → has_scalar x e ≡ false → substituted x by e ≡ e
@@ -62,14 +52,14 @@ module _ (x : List ℕ) (by : ExprTree) where
     stays (Neg a) h = ap Neg (stays a h)
     stays (Add a b) h = ap (λ (c : Bool). if c && not (is_scalar x by) then plus_of (substituted x by a) (substituted x by b) else Add a b) h
     stays (Sub a b) h = ap (λ (c : Bool). if c && not (is_scalar x by) then minus_of (substituted x by a) (substituted x by b) else Sub a b) h
-    stays (Mul a b) h = λ i. Mul (stays a (first_none (has_scalar x a) (has_scalar x b) h) i) (stays b (second_none (has_scalar x a) (has_scalar x b) h) i)
-    stays (Div a b) h = λ i. Div (stays a (first_none (has_scalar x a) (has_scalar x b) h) i) (stays b (second_none (has_scalar x a) (has_scalar x b) h) i)
-    stays (Pow a b) h = λ i. Pow (stays a (first_none (has_scalar x a) (has_scalar x b) h) i) (stays b (second_none (has_scalar x a) (has_scalar x b) h) i)
+    stays (Mul a b) h = λ i. Mul (stays a (or_parts (has_scalar x a) (has_scalar x b) h).0 i) (stays b (or_parts (has_scalar x a) (has_scalar x b) h).1 i)
+    stays (Div a b) h = λ i. Div (stays a (or_parts (has_scalar x a) (has_scalar x b) h).0 i) (stays b (or_parts (has_scalar x a) (has_scalar x b) h).1 i)
+    stays (Pow a b) h = λ i. Pow (stays a (or_parts (has_scalar x a) (has_scalar x b) h).0 i) (stays b (or_parts (has_scalar x a) (has_scalar x b) h).1 i)
     stays (Call f es) h = ap (Call f) (all_stay es h)
 
     all_stay : (es : ExprTrees) → have_scalar x es ≡ false → all_substituted x by es ≡ es
     all_stay no_exprs h = refl
-    all_stay (more_exprs e rest) h = λ i. more_exprs (stays e (first_none (has_scalar x e) (have_scalar x rest) h) i) (all_stay rest (second_none (has_scalar x e) (have_scalar x rest) h) i)
+    all_stay (more_exprs e rest) h = λ i. more_exprs (stays e (or_parts (has_scalar x e) (have_scalar x rest) h).0 i) (all_stay rest (or_parts (has_scalar x e) (have_scalar x rest) h).1 i)
 
 module _ (consts : List (List ℕ × ℤ)) where
   -- an expression that has no constant value and is no literal
@@ -166,6 +156,7 @@ module _ (consts : List (List ℕ × ℤ)) where
       go (Div d e) h = refl
       go (Pow d e) h = refl
       go (Call f es) h = refl
+
       zeros : (e : ExprTree) → literal_value e ≡ None → is_zero (Neg e) ≡ false
       zeros (Int n) h = absurd cc
       zeros (Neg e) h = refl

@@ -1,8 +1,9 @@
 -- Evaluations with an element in the place of a scalar.
 use Rattle.std.proofs.Common.{◌≡◌, ℕ, suc, ℤ, List, [], ◌∷◌, ◌++◌, map, length, Bool, true, false, Option, Some, None, Result, Ok, Err, refl, sym, ap, subst, ◌∙◌, if◌then◌else◌}
 use Rattle.std.specs.Prelude.{not, ◌&&◌, ◌||◌}
-use Rattle.std.specs.List.{flat_map, list_any, join_with_byte}
+use Rattle.std.specs.List.{flat_map, join_with_byte}
 use Rattle.std.specs.Fmt.{signed_decimal}
+use Rattle.std.proofs.lemmas.Bool.{or_parts}
 use Rattle.std.proofs.lemmas.List.{map-append}
 use Rattle.std.proofs.lemmas.List.Folds.{list_any-append}
 use Rattle.ped_base.specs.Lists.{is_same_text, is_among}
@@ -25,7 +26,7 @@ use Rattle.ped_acts.specs.Fitting.{of_cells}
 use Rattle.ped_acts.specs.Renaming.{AreRenamed}
 use Rattle.ped_acts.proofs.OfCells.{cells_append}
 use Rattle.ped_eval.specs.Scopes.{Setting, Scope, cell_of, index_value, Names, names_in}
-use Rattle.ped_eval.specs.Evaluation.{Seen, cell_seen, index_seen, Evaluated, having_seen, onward, ◌>>>◌, given, by_number, read_cell, read_index, numbered, number_behind}
+use Rattle.ped_eval.specs.Evaluation.{Seen, cell_seen, index_seen, Evaluated, having_seen, onward, ◌>>>◌, given, by_number, read_cell, numbered, number_behind}
 use Rattle.ped_eval.specs.Values.{of_intrinsic, variable_value, name_value, is_rank, element_cell, binary, value, values, relation_holds, truth, target}
 use Rattle.ped_eval.specs.Statements.{Stored, assigned, item_text, item_texts, printed_line}
 use Rattle.ped_eval.specs.Loops.{in_bounds, limits}
@@ -33,7 +34,7 @@ use Rattle.ped_step_runs.specs.Exchanging.{exchanged_store}
 use Rattle.ped_step_runs.specs.Substituting.{element_at}
 use Rattle.ped_step_runs.proofs.ExchangedSight.{itself}
 use Rattle.ped_step_runs.proofs.SubstitutedSums.{evaluated, plus_comes, minus_comes}
-use Rattle.ped_step_runs.proofs.SubstitutedShapes.{first_none, second_none, stays}
+use Rattle.ped_step_runs.proofs.SubstitutedShapes.{stays}
 
 -- an exchange of a scalar's cell and an element of a new array: what it leaves
 pub record IsSwap (name : Cell → Cell) (x array : List ℕ) : Type 0 where
@@ -60,17 +61,13 @@ pub record StandsAt (name : Cell → Cell) (x array v : List ℕ) (k : ℤ) (T :
 abbrev pub Lack : List ℕ → List Use → Type 0
 Lack array us = is_among array (map (λ u. u.name) us) ≡ false
 
-none_of : (a b : Bool) → a || b ≡ false → (a ≡ false) × (b ≡ false)
-none_of true b e = absurd cc
-none_of false b e = (refl, e)
-
 pub lack_parts : (array : List ℕ) (us ws : List Use) → Lack array (us ++ ws) → Lack array us × Lack array ws
 lack_parts array us ws h =
-    none_of (is_among array (map (λ u. u.name) us)) (is_among array (map (λ u. u.name) ws))
+    or_parts (is_among array (map (λ u. u.name) us)) (is_among array (map (λ u. u.name) ws))
     (sym (list_any-append (is_same_text array) (map (λ u. u.name) us) (map (λ u. u.name) ws)) ∙ ap (is_among array) (sym (map-append (λ u. u.name) us ws)) ∙ h)
 
 pub lack_first : (array y : List ℕ) (us : List Use) → is_among array (y ∷ map (λ u. u.name) us) ≡ false → (is_same_text array y ≡ false) × Lack array us
-lack_first array y us h = none_of (is_same_text array y) (is_among array (map (λ u. u.name) us)) h
+lack_first array y us h = or_parts (is_same_text array y) (is_among array (map (λ u. u.name) us)) h
 
 numbered_append : (n : ℕ) (xs ys : List Seen) → numbered n (xs ++ ys) ≡ numbered n xs ++ numbered (number_behind n xs) ys
 numbered_append n [] ys = refl
@@ -189,7 +186,7 @@ module _ (name : Cell → Cell) where
     -- a sum or a difference that is made anew
     remade : (f : ℤ → ℤ → Result ℤ Fault) (make of : ExprTree → ExprTree → ExprTree) (a b : ExprTree) (s : Store)
         → ((w : ℤ) → (binary f (value g (put_in a) (exchanged_store name s)) (value g (put_in b) (exchanged_store name s))).result ≡ Ok w
-            → value g (make (put_in a) (put_in b)) (exchanged_store name s) ≡ binary f (value g (put_in a) (exchanged_store name s)) (value g (put_in b) (exchanged_store name s)))
+        → value g (make (put_in a) (put_in b)) (exchanged_store name s) ≡ binary f (value g (put_in a) (exchanged_store name s)) (value g (put_in b) (exchanged_store name s)))
         → value g (of a b) (exchanged_store name s) ≡ binary f (value g a (exchanged_store name s)) (value g b (exchanged_store name s))
         → Matches itself (binary f (value g a s) (value g b s)) (binary f (value g (put_in a) (exchanged_store name s)) (value g (put_in b) (exchanged_store name s)))
         → Matches itself (binary f (value g a s) (value g b s)) (value g (if (has_scalar x a || has_scalar x b) && not (is_scalar x by) then make (put_in a) (put_in b) else of a b) (exchanged_store name s))
@@ -200,7 +197,7 @@ module _ (name : Cell → Cell) where
         go true h = λ w e. subst (λ (z : Evaluated ℤ). (z.result ≡ Ok w) × SeeAlike (binary f (value g a s) (value g b s)).seen z.seen) (sym (makes w (two w e).0)) (two w e)
         go false h =
             subst (λ (z : Evaluated ℤ). Matches itself (binary f (value g a s) (value g b s)) z)
-            ((λ i. binary f (value g (stays x by a (first_none x by (has_scalar x a) (has_scalar x b) h) i) (exchanged_store name s)) (value g (stays x by b (second_none x by (has_scalar x a) (has_scalar x b) h) i) (exchanged_store name s))) ∙ sym is)
+            ((λ i. binary f (value g (stays x by a (or_parts (has_scalar x a) (has_scalar x b) h).0 i) (exchanged_store name s)) (value g (stays x by b (or_parts (has_scalar x a) (has_scalar x b) h).1 i) (exchanged_store name s))) ∙ sym is)
             two
 
     pair_match : (f : ℤ → ℤ → Result ℤ Fault) (a b : ExprTree) (s : Store) → Lack array (expr_uses a ++ expr_uses b)

@@ -1,17 +1,17 @@
 -- Sums and differences that are made anew have the value of the operations.
-use Rattle.std.proofs.Common.{◌≡◌, ℕ, zero, suc, ℤ, pos, negsuc, neg_ℤ, ◌+ℤ◌, ◌-ℤ◌, List, [], ◌∷◌, ◌++◌, Bool, true, false, Option, Some, None, Result, Ok, Err, refl, sym, ap, subst, ◌∙◌, ◌⊎◌, inl, inr, arith, append-nil, eqb-true, if◌then◌else◌}
+use Rattle.std.proofs.Common.{◌≡◌, ℕ, zero, suc, ℤ, pos, negsuc, neg_ℤ, ◌+ℤ◌, ◌-ℤ◌, List, [], ◌++◌, Bool, true, false, Option, Some, None, Result, Ok, Err, refl, sym, ap, ◌∙◌, arith, append-nil, eqb-true, if◌then◌else◌}
 use Rattle.std.specs.Prelude.{unsigned_abs, int_lt, nat_le, ◌==◌}
 use Rattle.std.specs.Int.{is_negative}
 use Rattle.std.proofs.lemmas.Int.{ints}
 use Rattle.ped_arithmetic.specs.declared.faults.Fault.{Fault}
 use Rattle.ped_arithmetic.specs.declared.faults.Fault.TheVariants.{OutOfRange}
-use Rattle.ped_arithmetic.specs.Arithmetic.{is_in_range, in_range, sum_of, difference_of, negation_of}
+use Rattle.ped_arithmetic.specs.Arithmetic.{is_in_range, in_range, sum_of, difference_of}
 use Rattle.ped_tree.specs.Tree.{ExprTree, Int, Var, Element, Neg, Add, Sub, Mul, Div, Pow, Call}
 use Rattle.ped_sums.specs.Sums.{literal_value, literal, of_both, small, computed, literal_or, is_zero, added, subtracted, plus_of, minus_of}
 use Rattle.ped_store.specs.Stores.{Store}
 use Rattle.ped_eval.specs.Scopes.{Names}
-use Rattle.ped_eval.specs.Evaluation.{Seen, Evaluated, onward, given, by_number}
-use Rattle.ped_eval.specs.Values.{unary, binary, value}
+use Rattle.ped_eval.specs.Evaluation.{Seen, Evaluated, given, by_number}
+use Rattle.ped_eval.specs.Values.{binary, value}
 
 -- an evaluation by its parts
 abbrev pub evaluated : {A : Type 0} → List Seen → Result A ℕ → Evaluated A
@@ -170,16 +170,22 @@ module _ (g : Names) (s : Store) where
     where
       parts : IsOfTwo sum_of (value g a s) (value g b s) w
       parts = two_parts sum_of (value g a s) (value g b s) w e
+
       u : ℤ
       u = parts.left
+
       v : ℤ
       v = parts.right
+
       h : (value g a s).result ≡ Ok u
       h = parts.of_left
+
       k : (value g b s).result ≡ Ok v
       k = parts.of_right
+
       r : by_number (sum_of u v) ≡ Ok w
       r = parts.result
+
       go : (y z : Bool) → is_zero b ≡ y → is_zero a ≡ z → value g (if y then a else (if z then b else added a b)) s ≡ evaluated ((value g a s).seen ++ (value g b s).seen) (Ok w)
       go true z p q = by_zero ◌+ℤ◌ a b u v w h k r p (plus_zero u)
       go false true p q = from_zero ◌+ℤ◌ a b u v w h k r q (zero_plus v)
@@ -191,16 +197,22 @@ module _ (g : Names) (s : Store) where
     where
       parts : IsOfTwo difference_of (value g a s) (value g b s) w
       parts = two_parts difference_of (value g a s) (value g b s) w e
+
       u : ℤ
       u = parts.left
+
       v : ℤ
       v = parts.right
+
       h : (value g a s).result ≡ Ok u
       h = parts.of_left
+
       k : (value g b s).result ≡ Ok v
       k = parts.of_right
+
       r : by_number (difference_of u v) ≡ Ok w
       r = parts.result
+
       go : (y : Bool) → is_zero b ≡ y → value g (if y then a else subtracted a b) s ≡ evaluated ((value g a s).seen ++ (value g b s).seen) (Ok w)
       go true p = by_zero ◌-ℤ◌ a b u v w h k r p (plus_zero u)
       go false p = subtracted_comes a u v w h r b k

@@ -8,6 +8,10 @@ pub mod Uncopied
 pub mod Privatised
 pub mod PrivatisedLoops
 pub mod PrivatisedParts
+pub mod ExpandedKept
+pub mod ExpandedTurns
+pub mod ExpandedLoops
+pub mod ExpandedParts
 pub mod NamesKept
 pub mod SameNames
 pub mod FilledGaps
@@ -26,3 +30,7 @@ pub mod PrivatisedRaces
 pub mod KeptMeanings
 pub mod RenumberedRuns
 pub mod RenumberedPrograms
+pub mod SubstitutedSums
+pub mod SubstitutedShapes
+pub mod SubstitutedSight
+pub mod SubstitutedRuns

@@ -84,8 +84,8 @@ module _ (shown : Cell → Bool) (own : Cell) where
   differ : (c : Cell) → same_cell own c ≡ false → own ≡ c → ⊥
   differ c n e = both_ways (same_cell own c) n (ap (same_cell own) (sym e) ∙ cell_itself own)
 
-  -- acts that don't need the scalar's own cell, done on a copy that nothing touches
-  module _ (copy : Cell) (acts more : List Act) (s t : Store) (unneeded : needs acts own ≡ false) (untouched : touch (acts ++ more) copy ≡ false) (hidden : shown copy ≡ false) (agree : Agrees (acts ++ more) s t) (fits : Fits acts s) where
+  -- acts that don't need the scalar's own cell, done on a cell that nothing touches: a copy, or another
+  module _ (copy : Cell) (acts others more : List Act) (s t : Store) (renamed : Renamed (swapped own copy) acts others) (unneeded : needs acts own ≡ false) (untouched : touch (acts ++ more) copy ≡ false) (hidden : shown copy ≡ false) (agree : Agrees (acts ++ more) s t) (fits : Fits acts s) where
     abbrev name : Cell → Cell
     name = swapped own copy
 
@@ -104,16 +104,16 @@ module _ (shown : Cell → Bool) (own : Cell) where
     not_copy : (c : Cell) → needs acts c ≡ true → copy ≡ c → ⊥
     not_copy c h e = both_ways (touch acts copy) apart.0 (ap (touch acts) e ∙ needed_touched (touches_of acts) c h)
 
-    pub body_fits : Fits (exchanged_acts name acts) t
-    body_fits = renamed_fits name acts (exchanged_acts name acts) s t (exchanged_renamed name acts) (λ c d a b q. injective c d q)
+    pub body_fits : Fits others t
+    body_fits = renamed_fits name acts others s t renamed (λ c d a b q. injective c d q)
         (λ c h. agree c (needed_wanted shown acts more c h) (other_cell own c (not_own c h)) ∙ ap t (sym (kept c (not_own c h) (not_copy c h)))) fits
 
-    pub body_agrees : Agrees more (store_after acts s) (store_after (exchanged_acts name acts) t)
+    pub body_agrees : Agrees more (store_after acts s) (store_after others t)
     body_agrees c w n =
         let same : name c ≡ c = kept c (differ c n) (λ e. both_ways (wants shown more c) (ap (wants shown more) (sym e) ∙ unwanted shown more copy apart.1 hidden) w) in
-        renamed_leaves name acts (exchanged_acts name acts) s t c (exchanged_renamed name acts) (λ d k q. injective d c q)
+        renamed_leaves name acts others s t c renamed (λ d k q. injective d c q)
         (elim (wanted_before shown acts more c w) [ inl k ↦ inr (agree c k n ∙ ap t (sym same)) | inr k ↦ inl k ])
-        ∙ ap (store_after (exchanged_acts name acts) t) same
+        ∙ ap (store_after others t) same
 
   -- an act, and one that writes the scalar's own cell, too
   pub act_agrees : (a b : Act) (more : List Act) (s t : Store) → ((c : Cell) → same_cell own c ≡ false → store_behind b.touches t c ≡ store_behind a.touches t c) → Agrees (a ∷ more) s t → Agrees more (store_behind a.touches s) (store_behind b.touches t)

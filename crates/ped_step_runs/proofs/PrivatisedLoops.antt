@@ -30,7 +30,7 @@ use Rattle.ped_runs.proofs.StatementsTold.{run_told, all_told}
 use Rattle.ped_step_runs.specs.Exchanging.{IsExchange, AreExchanged, exchanged_acts, swapped}
 use Rattle.ped_step_runs.proofs.Replayed.{replays_in}
 use Rattle.ped_step_runs.proofs.Swapped.{swap_exchanges, of_scalar, private_exchanged}
-use Rattle.ped_step_runs.proofs.Privatised.{exit_when_found, number_of_last, one_more, Agrees, body_fits, body_agrees, act_agrees}
+use Rattle.ped_step_runs.proofs.Privatised.{exit_when_found, exchanged_renamed, number_of_last, one_more, Agrees, body_fits, body_agrees, act_agrees}
 
 module _ (p : Setting) (h : Head) (body : StmtTrees) (l : ℕ) (S : Scope) (x : List ℕ) (in_order : h.parallel ≡ false) (absent : is_among x h.private ≡ false) where
   -- the head with the scalar last in its PRIVATE list
@@ -90,7 +90,7 @@ module _ (p : Setting) (h : Head) (body : StmtTrees) (l : ℕ) (S : Scope) (x : 
     abbrev pub old_turns : ℕ → ℕ → Store → Run
     old_turns n k s = turns n k e S at (body_run p body l S) s
 
-    trip_goes : (n k : ℕ) (s : Store) → finish_of (old_turns (suc n) k s).ending ≡ goes_on → finish_of (trip k s).ending ≡ goes_on
+    pub trip_goes : (n k : ℕ) (s : Store) → finish_of (old_turns (suc n) k s).ending ≡ goes_on → finish_of (trip k s).ending ≡ goes_on
     trip_goes n k s q = go (finish_of (trip k s).ending) refl
       where
         alone : is_going (finish_of (trip k s).ending) ≡ false → finish_of (trip k s).ending ≡ goes_on
@@ -155,9 +155,10 @@ module _ (p : Setting) (h : Head) (body : StmtTrees) (l : ℕ) (S : Scope) (x : 
           let now = subst (λ (zs : List Act). Agrees shown own zs s t) all agree in
           let fit = (all_told p body (l + 1) (frame e k ∷ S)).fits s in
           let needless = unneeded k s (trip_goes n k s q) in
-          let first = body_fits shown own (copy k) (trip k s).acts (end n ∷ (old ++ rest)) s t needless (there k) (hidden k) now fit in
-          let between = body_agrees shown own (copy k) (trip k s).acts (end n ∷ (old ++ rest)) s t needless (there k) (hidden k) now fit in
           let new = exchanged_acts (swapped own (copy k)) (trip k s).acts in
+          let renamed = exchanged_renamed (swapped own (copy k)) (trip k s).acts in
+          let first = body_fits shown own (copy k) (trip k s).acts new (end n ∷ (old ++ rest)) s t renamed needless (there k) (hidden k) now fit in
+          let between = body_agrees shown own (copy k) (trip k s).acts new (end n ∷ (old ++ rest)) s t renamed needless (there k) (hidden k) now fit in
           let u = store_after new t in
           let behind_end = act_agrees shown own (end n) (new_end n) (old ++ rest) (store_after (trip k s).acts s) u (exit_alike n u) between in
           let at_left : left_by n k s ≡ store_behind (exit_when_none n e S) (store_after (trip k s).acts s) = after_append (trip k s).acts (end n ∷ []) s in

@@ -40,6 +40,14 @@ head_in other (Some Stop) = other
 head_in other (Some (Comment text)) = other
 head_in other None = other
 
+-- a DO that goes on has been entered
+pub do_entered : (p : Setting) (h : Head) (body : StmtTrees) (l : ℕ) (S : Scope) (s : Store) → finish_of (run p (Do h body) l S s).ending ≡ goes_on → (m : Limits) × (limits (names_in p S) h s ≡ record { seen = (limits (names_in p S) h s).seen; result = Ok m })
+do_entered p h body l S s goes = go (limits (names_in p S) h s).result refl
+  where
+    go : (r : Result Limits ℕ) → (limits (names_in p S) h s).result ≡ r → (m : Limits) × (limits (names_in p S) h s ≡ record { seen = (limits (names_in p S) h s).seen; result = Ok m })
+    go (Ok m) q = (m, λ i. record { seen = (limits (names_in p S) h s).seen; result = q i })
+    go (Err n) q = let broken : faults n (p.number l) ≡ goes_on = ap (λ (r : Run). finish_of r.ending) (sym (entry_fails p h body l S s n q)) ∙ goes in absurd cc
+
 module _ (t : ProgramTree) (l : ℕ) (loop : LoopOf t l) (x : List ℕ) (p : Setting) (one : IsOneToOne p.number) (in_order : loop.head.parallel ≡ false) (absent : is_among x loop.head.private ≡ false) where
   abbrev h : Head
   h = loop.head
@@ -55,13 +63,8 @@ module _ (t : ProgramTree) (l : ℕ) (loop : LoopOf t l) (x : List ℕ) (p : Set
   abbrev pub fresh : Scope → Store → List Act
   fresh S s = fresh_with S s (limits (names_in p S) h s).seen (limits (names_in p S) h s).result
 
-  -- a DO that goes on has been entered
   pub is_entered : (S : Scope) (s : Store) → finish_of (run p (Do h body) l S s).ending ≡ goes_on → (m : Limits) × (limits (names_in p S) h s ≡ record { seen = (limits (names_in p S) h s).seen; result = Ok m })
-  is_entered S s goes = go (limits (names_in p S) h s).result refl
-    where
-      go : (r : Result Limits ℕ) → (limits (names_in p S) h s).result ≡ r → (m : Limits) × (limits (names_in p S) h s ≡ record { seen = (limits (names_in p S) h s).seen; result = Ok m })
-      go (Ok m) q = (m, λ i. record { seen = (limits (names_in p S) h s).seen; result = q i })
-      go (Err n) q = let broken : faults n (p.number l) ≡ goes_on = ap (λ (r : Run). finish_of r.ending) (sym (entry_fails p h body l S s n q)) ∙ goes in absurd cc
+  is_entered S s goes = do_entered p h body l S s goes
 
   pub fresh_is : (S : Scope) (s : Store) (m : Limits) → limits (names_in p S) h s ≡ record { seen = (limits (names_in p S) h s).seen; result = Ok m } → fresh S s ≡ new_loop p h body l S x in_order absent (limits (names_in p S) h s).seen m s
   fresh_is S s m q = ap (λ (e : Evaluated Limits). fresh_with S s (limits (names_in p S) h s).seen e.result) q

@@ -9,7 +9,6 @@ use Rattle.ped_store.specs.Cells.{Cell, Private, In, same_cell}
 use Rattle.ped_store.specs.Stores.{Lines, Store, lines_in}
 use Rattle.ped_store.specs.Acts.{Touch, Turn, Place, Step, did, entered, ended_turn, closed, faulted, Act, store_behind, iterations_of}
 use Rattle.ped_store.specs.DataLines.{begun}
-use Rattle.ped_acts.proofs.SameCells.{cell_is, is_cell, other_cell, cells_differ}
 use Rattle.ped_eval.specs.Scopes.{Setting, Frame, Scope, turns_of, cell_of, Names, names_in, place_of}
 use Rattle.ped_eval.specs.Evaluation.{Seen, Evaluated, numbered}
 use Rattle.ped_eval.specs.Values.{truth}
@@ -18,7 +17,7 @@ use Rattle.ped_eval.specs.Loops.{Limits, limits, increment, iteration_count, inn
 use Rattle.ped_eval.specs.Runs.{Ending, going, stopped, failed, Run, nothing_done, followed_by, then_run, does, fails, on, run_assignment, run_print, run_taking, run_read, run_stop, run_if, turns, parallel_turns, run_entered, run_from_entry, run_do, run, run_all}
 use Rattle.ped_step_runs.specs.Exchanging.{IsExchange, AreExchanged, exchanged_store, exchanged_touch, exchanged_act, exchanged_acts, exchanged_ending, exchanged_run}
 use Rattle.ped_step_runs.proofs.Swapped.{length_behind, length_path}
-use Rattle.ped_step_runs.proofs.ExchangedTouches.{taken_in, assignment_touches_in, print_touches_in, left_in, taking_from_in, undefined_by_in, undefined_all_in}
+use Rattle.ped_step_runs.proofs.ExchangedTouches.{told_apart, taken_in, assignment_touches_in, print_touches_in, left_in, taking_from_in, undefined_by_in, undefined_all_in}
 use Rattle.ped_step_runs.proofs.ExchangedSight.{seen_in, seeing, AreNames, names_exchanged, numbered_in, behind_in, stored_in, truth_in, assigned_in, line_in, limits_in}
 
 module _ (name : Cell → Cell) (ex : IsExchange name) where
@@ -29,11 +28,7 @@ module _ (name : Cell → Cell) (ex : IsExchange name) where
   back s = λ i c. s (ex.twice c i)
 
   same_test : (c d : Cell) → same_cell (name c) (name d) ≡ same_cell c d
-  same_test c d = go (same_cell c d) refl
-    where
-      go : (b : Bool) → same_cell c d ≡ b → same_cell (name c) (name d) ≡ b
-      go true e = is_cell (name c) (name d) (ap name (cell_is c d e))
-      go false e = other_cell (name c) (name d) (λ q. cells_differ c d e (sym (ex.twice c) ∙ ap name q ∙ ex.twice d))
+  same_test = told_apart name name ex.twice
 
   -- the second piece does on renamed cells what the first does
   abbrev pub IsMoved : (Store → Run) → (Store → Run) → Type 0

@@ -1,11 +1,12 @@
 -- Touches on renamed cells: what stores hold behind them, and what single statements and DO loops touch.
-use Rattle.std.proofs.Common.{◌≡◌, ℕ, suc, ℤ, List, [], ◌∷◌, ◌++◌, map, Some, Result, Ok, Err, refl, sym, ap, ◌∙◌, if◌then◌else◌}
+use Rattle.std.proofs.Common.{◌≡◌, ℕ, suc, ℤ, List, [], ◌∷◌, ◌++◌, map, Bool, true, false, Some, Result, Ok, Err, refl, sym, ap, ◌∙◌, if◌then◌else◌}
 use Rattle.std.proofs.lemmas.List.{map-append}
 use Rattle.ped_tree.specs.Tree.{ExprTree}
 use Rattle.ped_store.specs.Cells.{Cell, Element, Out, same_cell}
 use Rattle.ped_store.specs.Stores.{Content, Undefined, Number, Lines, Store, put, lines_in}
 use Rattle.ped_store.specs.Acts.{Manner, reads, writes, is_told, Touch, touched, store_behind}
 use Rattle.ped_store.specs.DataLines.{Data, Taken, next_value_of}
+use Rattle.ped_acts.proofs.SameCells.{cell_is, is_cell, other_cell, cells_differ}
 use Rattle.ped_eval.specs.Scopes.{Scope, cell_of, Names}
 use Rattle.ped_eval.specs.Evaluation.{Seen, Evaluated, numbered, number_behind}
 use Rattle.ped_eval.specs.Values.{target}
@@ -13,6 +14,14 @@ use Rattle.ped_eval.specs.Statements.{Stored, assignment_touches, print_touches,
 use Rattle.ped_eval.specs.Loops.{undefined_by, undefined_all}
 use Rattle.ped_step_runs.specs.Exchanging.{exchanged_store, exchanged_touch}
 use Rattle.ped_step_runs.proofs.ExchangedSight.{seen_in, mapped, AreNames, numbered_in, behind_in, stored_in, target_in}
+
+-- names from which the cells are told tell cells apart as these are
+pub told_apart : (name back : Cell → Cell) → ((c : Cell) → back (name c) ≡ c) → (c d : Cell) → same_cell (name c) (name d) ≡ same_cell c d
+told_apart name back told c d = go (same_cell c d) refl
+  where
+    go : (b : Bool) → same_cell c d ≡ b → same_cell (name c) (name d) ≡ b
+    go true e = is_cell (name c) (name d) (ap name (cell_is c d e))
+    go false e = other_cell (name c) (name d) (λ q. cells_differ c d e (sym (told c) ∙ ap back q ∙ told d))
 
 -- what came of the items of a READ, on renamed cells
 abbrev pub taken_in : (Cell → Cell) → Taking → Taking

@@ -6,3 +6,4 @@ mod Remembering
 mod RacesFound
 mod Following
 pub mod OneReport
+mod Carried

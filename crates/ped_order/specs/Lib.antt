@@ -4,6 +4,7 @@ pub mod Keys
 pub mod KeyViews
 pub mod Reports
 pub mod ReportViews
+pub mod CarriedRaces
 pub mod Saw
 pub mod Sightings
 pub mod Tables

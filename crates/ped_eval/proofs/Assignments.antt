@@ -22,9 +22,7 @@ use Rattle.ped_eval.specs.Readiness.{kinds_by, setting_by, IsReady}
 use Rattle.ped_eval.specs.Agreement.{path_of, before, Agrees, DoCopiesStand}
 use Rattle.ped_eval.specs.Runs.{Ending, run}
 use Rattle.ped_eval.specs.Told.{Goes, Fails, Ran}
-use Rattle.ped_eval.specs.declared.states.Flow.{Flow}
 use Rattle.ped_eval.specs.declared.states.Flow.TheVariants as flow
-use Rattle.ped_eval.specs.declared.states.RunError.{RunError}
 use Rattle.ped_eval.specs.declared.states.RunError.TheVariants as error
 use Rattle.ped_eval.proofs.Moments.{next_statement}
 use Rattle.ped_eval.proofs.Agreements.{agrees_put, agrees_later, is_past}
@@ -64,11 +62,11 @@ pub ready_with : (table : Table) (scope : Scope) (c : Cell) (v : Content) (m : M
 ready_with table scope c v m h = record { bounds = h.bounds; scalars = h.scalars; elements = h.elements; copies = h.copies }
 
 -- the number has been stored in the cell, which lies within its bounds
-record IsStored (c : Cell) (v : ℤ) (place : Result Cell ℕ) (m new : Memory) : Type 0 where
-  within : place ≡ Ok c
-  number : ℤ
-  right : storable v ≡ Ok number
-  new_is : new ≡ with_content c (Number number) m
+pub record IsStored (c : Cell) (v : ℤ) (place : Result Cell ℕ) (m new : Memory) : Type 0 where
+  pub within : place ≡ Ok c
+  pub number : ℤ
+  pub right : storable v ≡ Ok number
+  pub new_is : new ≡ with_content c (Number number) m
 
 number_by : (c : Cell) (v : ℤ) (place : Result Cell ℕ) (m new : Memory) (r : Result ℤ ℕ) → storable v ≡ r → place ≡ Ok c → (r >>= λ k. Ok (with_content c (Number k) m)) ≡ Ok new → IsStored c v place m new
 number_by c v place m new (Ok n) e p h = let q : with_content c (Number n) m ≡ new = cc in record { within = p; number = n; right = e; new_is = sym q }
@@ -79,7 +77,7 @@ within_by : (x : List ℕ) (js : List ℤ) (v : ℤ) (m new : Memory) (b : Bool)
 within_by x js v m new true h = number_by (Element x js) v (Ok (Element x js)) m new (storable v) refl refl h
 within_by x js v m new false h = absurd cc
 
-stored_is : (c : Cell) (v : ℤ) (m new : Memory) → stored c v m ≡ Ok new → IsStored c v (bounded m c) m new
+pub stored_is : (c : Cell) (v : ℤ) (m new : Memory) → stored c v m ≡ Ok new → IsStored c v (bounded m c) m new
 stored_is (Scalar x) v m new h = number_by (Scalar x) v (Ok (Scalar x)) m new (storable v) refl refl h
 stored_is (Element x js) v m new h = within_by x js v m new (is_within (m.bounds x) js) h
 stored_is (Private x path) v m new h = number_by (Private x path) v (Ok (Private x path)) m new (storable v) refl refl h
@@ -87,7 +85,7 @@ stored_is In v m new h = number_by In v (Ok In) m new (storable v) refl refl h
 stored_is Out v m new h = number_by Out v (Ok Out) m new (storable v) refl refl h
 
 -- the number hasn't been stored: the cell lies outside its bounds, or the number out of its range
-abbrev IsUnstored : Cell → ℤ → Result Cell ℕ → ℕ → Type 0
+abbrev pub IsUnstored : Cell → ℤ → Result Cell ℕ → ℕ → Type 0
 IsUnstored c v place n = (place ≡ Err n) ⊎ ((place ≡ Ok c) × (storable v ≡ Err n))
 
 fault_by : (c : Cell) (v : ℤ) (place : Result Cell ℕ) (m : Memory) (n : ℕ) (r : Result ℤ ℕ) → storable v ≡ r → place ≡ Ok c → (r >>= λ k. Ok (with_content c (Number k) m)) ≡ Err n → IsUnstored c v place n
@@ -99,7 +97,7 @@ outside_by : (x : List ℕ) (js : List ℤ) (v : ℤ) (m : Memory) (n : ℕ) (b 
 outside_by x js v m n true h = fault_by (Element x js) v (Ok (Element x js)) m n (storable v) refl refl h
 outside_by x js v m n false h = let q : outside_bounds ≡ n = cc in inl (ap Err q)
 
-unstored_is : (c : Cell) (v : ℤ) (m : Memory) (n : ℕ) → stored c v m ≡ Err n → IsUnstored c v (bounded m c) n
+pub unstored_is : (c : Cell) (v : ℤ) (m : Memory) (n : ℕ) → stored c v m ≡ Err n → IsUnstored c v (bounded m c) n
 unstored_is (Scalar x) v m n h = fault_by (Scalar x) v (Ok (Scalar x)) m n (storable v) refl refl h
 unstored_is (Element x js) v m n h = outside_by x js v m n (is_within (m.bounds x) js) h
 unstored_is (Private x path) v m n h = fault_by (Private x path) v (Ok (Private x path)) m n (storable v) refl refl h
@@ -107,7 +105,7 @@ unstored_is In v m n h = fault_by In v (Ok In) m n (storable v) refl refl h
 unstored_is Out v m n h = fault_by Out v (Ok Out) m n (storable v) refl refl h
 
 -- what an assignment stores, from its steps
-abbrev of_number : Cell → Result ℤ ℕ → Result Stored ℕ
+abbrev pub of_number : Cell → Result ℤ ℕ → Result Stored ℕ
 of_number c r = (onward [] r (λ n. given (Ok (record { cell = c; number = n })))).result
 
 abbrev of_target : ℤ → List Seen → Result Cell ℕ → Result Stored ℕ

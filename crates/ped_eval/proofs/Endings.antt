@@ -1,15 +1,15 @@
 -- How runs end, without their acts.
-use Rattle.std.proofs.Common.{◌≡◌, ℕ, zero, suc, ◌+◌, List, [], ◌∷◌, ◌++◌, Bool, true, false, Option, Some, None, Result, Ok, Err, if◌then◌else◌, eqb, eqb-true, refl, sym, ap, ◌∙◌, arith}
+use Rattle.std.proofs.Common.{◌≡◌, ℕ, zero, suc, ◌+◌, List, [], ◌∷◌, ◌++◌, Bool, true, false, Some, None, Ok, Err, if◌then◌else◌, eqb, eqb-true, refl, sym, ap, ◌∙◌, arith}
 use Rattle.ped_tree.specs.Tree.{ExprTree, ItemTree, CondTree, Head, StmtTrees}
-use Rattle.ped_store.specs.Cells.{Cell, In, Out}
-use Rattle.ped_store.specs.Stores.{Content, Undefined, Number, Lines, Store, put, with_line}
-use Rattle.ped_store.specs.Acts.{Touch, Act, Place, Step, store_behind, closed, ended_turn}
+use Rattle.ped_store.specs.Cells.{In}
+use Rattle.ped_store.specs.Stores.{Undefined, Number, Lines, Store, put, with_line}
+use Rattle.ped_store.specs.Acts.{Touch, Act, Place, store_behind, closed, ended_turn}
 use Rattle.ped_eval.specs.Scopes.{Setting, Frame, Scope, Names, names_in, place_of, cell_of}
 use Rattle.ped_eval.specs.Evaluation.{Seen, Evaluated, numbered, cell_seen, index_seen, number_behind}
 use Rattle.ped_eval.specs.Values.{truth}
 use Rattle.ped_eval.specs.Statements.{Stored, assigned, printed_line, write_touch, Taking}
 use Rattle.ped_eval.specs.Loops.{Limits, limits, Entered, entered_with, frame, undefined_by, undefined_all, left_in_variable, exit_touches, exit_when_none}
-use Rattle.ped_eval.specs.Runs.{Ending, going, stopped, failed, Run, followed_by, then_run, nothing_done, does, fails, on, on_value, run_assignment, run_print, run_if, run_taking, run_read, turns, parallel_turns, run_entered, run_from_entry, run_do}
+use Rattle.ped_eval.specs.Runs.{Ending, going, stopped, failed, Run, followed_by, then_run, nothing_done, does, on, on_value, run_assignment, run_print, run_if, run_taking, turns, parallel_turns, run_entered, run_from_entry, run_do}
 use Rattle.ped_eval.specs.Turns.{after, turns_end, undefined_cells}
 
 pub ending_followed : (acts : List Act) (e : Ending) (next : Store → Run) → (followed_by acts e next).ending ≡ after e (λ s. (next s).ending)
@@ -75,7 +75,8 @@ if_fails g at condition then_part else_part s n h = on_err at (truth g condition
 suc_zero : (n : ℕ) → eqb (suc n) 0 ≡ false
 suc_zero n = grind (arith, eqb-true)
 
-none_left : (n : ℕ) (e : Entered) (scope : Scope) → exit_when_none (suc n) e scope ≡ []
+-- no exit while an iteration is left
+pub none_left : (n : ℕ) (e : Entered) (scope : Scope) → exit_when_none (suc n) e scope ≡ []
 none_left n e scope = ap (λ (b : Bool). if b then exit_touches e scope else []) (suc_zero n)
 
 module _ (e : Entered) (scope : Scope) (at : Place) (body : Frame → Store → Run) where

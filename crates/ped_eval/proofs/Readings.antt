@@ -55,7 +55,7 @@ no_value : (t : Taken) → Err bad_data ≡ Ok t → is_storable t.value ≡ tru
 no_value t h = absurd cc
 
 -- a value of the data may be stored
-value_storable : (rest : List ℕ) (lines : List (List ℕ)) (t : Taken) → value_from rest lines ≡ Ok t → is_storable t.value ≡ true
+pub value_storable : (rest : List ℕ) (lines : List (List ℕ)) (t : Taken) → value_from rest lines ≡ Ok t → is_storable t.value ≡ true
 value_storable rest [] t h = front_by (has_some (behind_blanks rest)) (behind_blanks rest) [] (Err bad_data) t (no_value t) h
 value_storable rest (line ∷ more) t h = front_by (has_some (behind_blanks rest)) (behind_blanks rest) (line ∷ more) (value_from line more) t (value_storable line more t) h
 
@@ -175,3 +175,7 @@ module _ (table : Table) (scope : Scope) (n : ℕ) (items : List ExprTree) (old 
       → Ran scope n (memory_of old) (n + 1) (Err (error.Fault k n)) new (run (setting_by table) (Read items) n scope)
   read_failed new k h s g =
       subst (λ (x : Ending). Fails k n x) (sym (read_ending_fails (setting_by table) scope n (place_of (setting_by table) n scope) items s (memory_of old) ready.bounds g refl k h)) (refl, refl)
+
+-- behind the last item none is left
+pub none_left : {A : Type 0} (f : List ExprTree → A) (items : List Expr) (i : ℕ) → length items ≤ i → f (map expr_tree (drop i items)) ≡ f []
+none_left f items i h = at_drop_all (λ (l : List Expr). f (map expr_tree l)) items i h

@@ -1,6 +1,6 @@
 -- What the answer of a run of all statements tells of the outcome of a program.
 use Rattle.std.proofs.Common.{◌≡◌, ◌≤◌, ◌<◌, ◌^◌, ◌+◌, ℕ, List, [], ◌∷◌, map, Bool, true, false, Some, None, Result, Ok, Err, refl, sym, ap, subst, ◌∙◌, if◌then◌else◌, arith}
-use Rattle.std.specs.Prelude.{◌||◌}
+use Rattle.std.specs.Prelude.{◌||◌, IfOk, OnOk}
 use Rattle.std.specs.Str.Lines.{lines}
 use Rattle.ped_base.specs.Dimensions.{Dimensions}
 use Rattle.ped_base.specs.Lists.{is_same_text, is_among, has_some}
@@ -18,7 +18,7 @@ use Rattle.ped_store.specs.Variables.{values_of}
 use Rattle.ped_eval.specs.Scopes.{Setting, Scope}
 use Rattle.ped_eval.specs.Runs.{Ending, going, stopped, failed, run_all}
 use Rattle.ped_eval.specs.Outcomes as Outcomes
-use Rattle.ped_eval.specs.Outcomes.{Outcome, bounds_of, setting_of, live_names, live_rows, outcome, outcome_of}
+use Rattle.ped_eval.specs.Outcomes.{Outcome, bounds_of, setting_of, live_names, live_rows, outcome, outcome_of, run_of}
 use Rattle.ped_eval.specs.Live.{rows_in, shapes_by}
 use Rattle.ped_uses.specs.RightPrograms.{IsRight}
 use Rattle.ped_uses.specs.RightUses.{NameKinds, stmts_are_right}
@@ -27,6 +27,9 @@ use Rattle.ped_eval.specs.Agreement.{before, IsSameOutside, Agrees}
 use Rattle.ped_eval.specs.Readiness.{kinds_by, setting_by, CanRun, IsReady}
 use Rattle.ped_eval.specs.Told.{Goes, Stops, Fails, Tells, Ran, StaysReady}
 use Rattle.ped_eval.specs.Endings.{IsOutcomeBy}
+use Rattle.ped_store.specs.Races.{Access, accesses}
+use Rattle.ped_eval.specs.Follow.{Follow}
+use Rattle.ped_eval.specs.Watched.{IfRan, Watched}
 use Rattle.ped_eval.specs.declared.states.Flow.{Flow}
 use Rattle.ped_eval.specs.declared.states.Flow.TheVariants as flow
 use Rattle.ped_eval.specs.declared.states.RunError.{RunError}
@@ -145,3 +148,25 @@ can_run_from t table scope body right by_table outside all =
 pub ready_from : (table : Table) (scope : Scope) (kept : Memory) (data_lines : List (List ℕ)) → scope ≡ [] → kept ≡ memory_at_start (shapes_by table.kinds) data_lines → IsReady table scope kept
 ready_from table scope kept data_lines outside start =
     subst (λ (b : Scope). IsReady table b kept) (sym outside) (subst (λ (k : Memory). IsReady table [] k) (sym start) (ready_at_start table data_lines))
+
+-- where there is an outcome the run hasn't wanted memory
+ran_by : {A E : Type 0} (P : Type 0) (t : ProgramTree) (m : Memory) (answer : Result Flow RunError) (view : A → Outcome) (r : Result A E) → IfRan answer P → IfOk r (λ o. IsOutcomeBy t m answer (view o)) → OnOk r P
+ran_by P t m (Ok flow) view (Ok o) h is = h
+ran_by P t m (Err (error.Fault number statement)) view (Ok o) h is = h
+ran_by P t m (Err error.NoMemory) view (Ok o) h is = absurd is
+ran_by P t m answer view (Err e) h is = tt
+
+-- the answer of the run of all statements has told a watch the accesses of the program
+pub watch_told : {W A E : Type 0} (follows : W → Access → W → Type 0) (t : ProgramTree) (data_bytes : List ℕ) (table : Table) (scope : Scope) (body : StmtTrees) (kept m : Memory) (answer : Result Flow RunError) (old new : W) (r : Result A E) (view : A → Outcome)
+    → table ≡ table_of t → scope ≡ [] → body ≡ t.body → kept ≡ memory_at_start (shapes_by table.kinds) (lines data_bytes)
+    → Watched follows old new scope (before scope 1) kept.cells answer (run_all (setting_by table) body 1 scope)
+    → IfOk r (λ o. IsOutcomeBy t m answer (view o)) → OnOk r (Follow follows old (accesses (run_of t data_bytes).acts) new)
+watch_told follows t data_bytes table scope body kept m answer old new r view by_table outside all start watched is =
+    let s : Store = store_at_start (lines data_bytes) in
+    let one : Watched follows old new scope (before scope 1) kept.cells answer (run_all (setting_by (table_of t)) body 1 scope) = subst (λ (b : Table). Watched follows old new scope (before scope 1) kept.cells answer (run_all (setting_by b) body 1 scope)) by_table watched in
+    let two : Watched follows old new [] (before [] 1) kept.cells answer (run_all (setting_by (table_of t)) body 1 []) = subst (λ (b : Scope). Watched follows old new b (before b 1) kept.cells answer (run_all (setting_by (table_of t)) body 1 b)) outside one in
+    let three : Watched follows old new [] (before [] 1) kept.cells answer (run_all (setting_by (table_of t)) t.body 1 []) = subst (λ (b : StmtTrees). Watched follows old new [] (before [] 1) kept.cells answer (run_all (setting_by (table_of t)) b 1 [])) all two in
+    let told : IfRan answer (Follow follows old (accesses (run_of t data_bytes).acts) new) =
+    subst (λ (p : Setting). IfRan answer (Follow follows old (accesses (run_all p t.body 1 [] s).acts) new)) (setting_same t)
+    (three s (agrees_at_start kept (lines data_bytes) (ap (λ (k : Memory). k.cells) start))) in
+    ran_by (Follow follows old (accesses (run_of t data_bytes).acts) new) t m answer view r told is

@@ -1,5 +1,5 @@
 -- What is kept behind a READ agrees with the store of a run.
-use Rattle.std.proofs.Common.{◌≡◌, ℕ, suc, ℤ, List, [], ◌∷◌, ◌++◌, Bool, true, false, Option, Some, None, Result, Ok, Err, if◌then◌else◌, refl, sym, ap, subst, ◌∙◌, append_assoc}
+use Rattle.std.proofs.Common.{◌≡◌, ℕ, suc, List, [], ◌∷◌, false, Some, None, Result, Ok, Err, if◌then◌else◌, refl, sym, ap, subst, ◌∙◌, append_assoc}
 use mathlib.Core.Path.{fun_ext}
 use Rattle.ped_arithmetic.specs.Faults.{◌>>=◌}
 use Rattle.ped_tree.specs.Tree.{ExprTree}
@@ -8,13 +8,13 @@ use Rattle.ped_store.specs.Stores.{Content, Number, Lines, Store, put, lines_in}
 use Rattle.ped_store.specs.DataLines.{Data, Taken, begun, next_value_of}
 use Rattle.ped_store.specs.Acts.{Touch, Place, store_behind}
 use Rattle.ped_store.specs.Memories.{Memory, with_content, with_data}
-use Rattle.ped_eval.specs.Scopes.{Setting, Scope, Names, cell_of, names_in}
+use Rattle.ped_eval.specs.Scopes.{Setting, Scope, cell_of, names_in}
 use Rattle.ped_eval.specs.Evaluation.{Seen, numbered, number_behind}
 use Rattle.ped_eval.specs.Values.{target}
 use Rattle.ped_eval.specs.Statements.{Taking, write_touch, into_item, with_taken, taking, taking_from, reading}
-use Rattle.ped_eval.specs.Runs.{Ending, going, failed, run_read, run_taking}
-use Rattle.ped_eval.specs.Agreement.{before, IsSame, Agrees}
-use Rattle.ped_eval.specs.Takings.{names_with, item_taken, items_taken, read_taken}
+use Rattle.ped_eval.specs.Runs.{going, failed, run_read}
+use Rattle.ped_eval.specs.Agreement.{before, Agrees}
+use Rattle.ped_eval.specs.Takings.{names_with, items_taken, read_taken}
 use Rattle.ped_eval.proofs.SameValues.{IsSameFor, same_target}
 use Rattle.ped_eval.proofs.Agreements.{agrees_put, outside_same}
 use Rattle.ped_eval.proofs.Evaluations.{IsVariable, reached_same, names_same, target_variable, in_not_scalar, variable_not_in, variable_past}
@@ -68,7 +68,7 @@ module _ (p : Setting) (scope : Scope) (j : ℕ) (v : Content) where
   }
 
   -- what is kept agrees behind an item
-  item_agrees : (t : Taken) (c : Cell) (s : Store) (m : Memory) → IsVariable (names_in p scope) c → Agrees scope (before scope j) (put In v m.cells) (put In v s)
+  pub item_agrees : (t : Taken) (c : Cell) (s : Store) (m : Memory) → IsVariable (names_in p scope) c → Agrees scope (before scope j) (put In v m.cells) (put In v s)
       → Agrees scope (before scope j) (put In v (with_content c (Number t.value) (with_data t.behind m)).cells) (put In v (put c (Number t.value) s))
   item_agrees t c s m is h =
       let not_in = variable_not_in p scope c is in
@@ -90,7 +90,7 @@ module _ (p : Setting) (scope : Scope) (j : ℕ) (v : Content) where
         elements = λ x js. f.elements x js;
       }
 
-  target_same : (t : Taken) (item : ExprTree) (m : Memory) (s : Store) → m.bounds ≡ p.bounds → Agrees scope (before scope j) (put In v m.cells) (put In v s)
+  pub target_same : (t : Taken) (item : ExprTree) (m : Memory) (s : Store) → m.bounds ≡ p.bounds → Agrees scope (before scope j) (put In v m.cells) (put In v s)
       → target (names_with (with_data t.behind m) scope p.constants) item (with_data t.behind m).cells ≡ target (names_in p scope) item s
   target_same t item m s b h =
       ap (λ g. target g item (with_data t.behind m).cells) (names_same p scope (with_data t.behind m) b)
@@ -161,10 +161,10 @@ module _ (p : Setting) (scope : Scope) (j : ℕ) (v : Content) where
 
 -- a READ that goes on does so in the run, and what is kept agrees behind it
 module _ (p : Setting) (scope : Scope) (j : ℕ) (at : Place) (items : List ExprTree) (s : Store) (m : Memory) (b : m.bounds ≡ p.bounds) (h : Agrees scope (before scope j) m.cells s) (kept : m.cells In ≡ Lines m.input.lines) where
-  same_lines : lines_in (s In) ≡ m.input.lines
+  pub same_lines : lines_in (s In) ≡ m.input.lines
   same_lines = λ i. lines_in ((sym (outside_same scope m.cells s h.same In refl) ∙ kept) i)
 
-  begins_same : (v : Content) (d : Data) → Agrees scope (before scope j) (put In v (with_data d m).cells) (put In v s)
+  pub begins_same : (v : Content) (d : Data) → Agrees scope (before scope j) (put In v (with_data d m).cells) (put In v s)
   begins_same v d =
       subst (λ (u : Store). Agrees scope (before scope j) u (put In v s)) (sym (in_twice v (Lines d.lines) m.cells)) (agrees_put scope (before scope j) In v m.cells s refl h)
 

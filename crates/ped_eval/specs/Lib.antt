@@ -1,9 +1,12 @@
+pub mod AccessViews
 pub mod Agreement
 pub mod Endings
 pub mod Evaluation
+pub mod Follow
 pub mod Items
 pub mod Live
 pub mod Loops
+pub mod Noting
 pub mod OutcomeViews
 pub mod Outcomes
 pub mod Plans
@@ -12,9 +15,11 @@ pub mod Results
 pub mod Runs
 pub mod ScopeViews
 pub mod Scopes
+pub mod StatementNotes
 pub mod Statements
 pub mod Takings
 pub mod Targets
 pub mod Told
 pub mod Turns
 pub mod Values
+pub mod Watched

@@ -98,7 +98,7 @@ pub(crate) fn target_cell(
 
 /// The value of an expression.
 #[cycle(value_of)]
-fn value_of(e: &Expr, around: &Surroundings) -> Result<i128, u8>
+pub(crate) fn value_of(e: &Expr, around: &Surroundings) -> Result<i128, u8>
     ensures { result ≡ value_at around.now (expr_tree e.now) }
 {
     match e {
@@ -126,7 +126,7 @@ fn scalar_value(name: &Name, around: &Surroundings) -> Result<i128, u8>
 }
 
 /// The value of a named constant, none where the name is none. Without constants no name is looked up.
-fn constant_named(name: &Name, consts: &Consts) -> Option<i128>
+pub(crate) fn constant_named(name: &Name, consts: &Consts) -> Option<i128>
     ensures { result ≡ value_named consts.now name.now }
 {
     if consts.is_empty() {
@@ -158,7 +158,11 @@ fn element_value(name: &Name, subscripts: &[Expr], around: &Surroundings) -> Res
 
 /// The cell of an element, whose bounds aren't tested.
 #[cycle(value_of)]
-fn element_cell(name: &Name, subscripts: &[Expr], around: &Surroundings) -> Result<Cell, u8>
+pub(crate) fn element_cell(
+    name: &Name,
+    subscripts: &[Expr],
+    around: &Surroundings,
+) -> Result<Cell, u8>
     ensures cell { IfOk result (λ c. IsCell c) }
     ensures named { IfOk result (λ c. IsNamedBy around.now.scope.now (Tree.Element name.now (pack_exprs (map expr_tree subscripts.now))) (cell_view c)) }
     ensures target { IfOk result (λ c. target_at around.now (Tree.Element name.now (pack_exprs (map expr_tree subscripts.now))) ≡ bounded (memory_of around.now.store.now) (cell_view c)) }
@@ -298,7 +302,7 @@ fn less(a: i128, b: i128) -> i128
 }
 
 /// Whether a condition is true.
-fn truth_of(condition: &Cond, around: &Surroundings) -> Result<bool, u8>
+pub(crate) fn truth_of(condition: &Cond, around: &Surroundings) -> Result<bool, u8>
     ensures { result ≡ truth_at around.now (cond_tree condition.now) }
 {
     match condition {

@@ -3,11 +3,14 @@
 //! programs.
 #![tactic(auto)]
 
+mod accesses;
 mod counts;
 mod evaluation;
 mod exits;
 mod inner_names;
 mod live;
+mod notes;
+mod noting;
 mod operations;
 mod outcomes;
 mod plans;
@@ -17,20 +20,25 @@ mod runs;
 mod scopes;
 mod shapes;
 mod sorting;
+mod statement_notes;
 mod statements;
 mod states;
 mod surroundings;
+mod telling;
 mod turns;
+mod watches;
 
 ghost use Rattle.std.specs.Prelude.{◌≡◌, List, ℕ};
 ghost use Rattle.ped_tree.specs.Tree.{ProgramTree};
 ghost use Rattle.ped_eval.specs.Outcomes as Spec;
 ghost use Rattle.ped_eval.specs.Outcomes.{outcome, outcome_of, run_of};
 
+pub use accesses::{Access, Turn};
 pub use evaluation::{eval, truth};
 pub use outcomes::{LiveRow, Outcome};
-pub use runs::run_in_order;
+pub use runs::{run_in_order, run_watched};
 pub use scopes::{Frame, Scope};
+pub use watches::Watch;
 
 /// A program has one outcome on its data, and its list of acts and their ending tell it.
 pub fn one_outcome()

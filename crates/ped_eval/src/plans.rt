@@ -100,7 +100,7 @@ fn limits_of(symbols: &Symbols, state: &State, d: &Do) -> Result<Limits, u8>
 }
 
 /// A limit of a DO.
-fn limit_of(symbols: &Symbols, state: &State, e: &Expr) -> Result<i128, u8>
+pub(crate) fn limit_of(symbols: &Symbols, state: &State, e: &Expr) -> Result<i128, u8>
     ensures value { result ≡ (value (names_at (memory_of state.now.store) state.now.scope symbols.now.constants) (expr_tree e.now) (memory_of state.now.store).cells >>> λ u. given (Loops.in_bounds u)).result }
     ensures bound { IfOk result (λ u. Loops.is_bound u ≡ true) }
 {

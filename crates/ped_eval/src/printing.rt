@@ -9,11 +9,15 @@ ghost use Rattle.ped_eval.specs.ScopeViews.{names_at};
 ghost use Rattle.ped_eval.specs.Runs as Runs;
 ghost use Rattle.ped_eval.specs.Statements.{item_text, printed_line};
 ghost use Rattle.ped_eval.specs.Readiness.{setting_by, IsReady, CanDo};
+ghost use Rattle.ped_eval.specs.Agreement.{before};
 ghost use Rattle.ped_eval.specs.Told.{Ran, StaysReady};
+ghost use Rattle.ped_eval.specs.Watched.{Watched};
 ghost use Rattle.ped_eval.specs.Items.{blank_before, IsPrinted, IsAdded};
 
 use crate::evaluation::eval;
 use crate::states::{Flow, RunError, State};
+use crate::telling::tell_print;
+use crate::watches::Watch;
 use itoa::Buffer;
 use ped_base::{Bytes, NoMemory};
 use ped_symbols::Symbols;
@@ -40,8 +44,31 @@ impl From<NoMemory> for PrintError {
     }
 }
 
+/// Runs the PRINT with this number, and tells a watch what it reads and writes.
+pub(crate) fn watched_print<W: Watch>(
+    alloc: Global,
+    symbols: &Symbols,
+    state: &mut State,
+    watch: &mut W,
+    items: &[PrintItem],
+    number: u32,
+) -> Result<Flow, RunError>
+    requires can { CanDo symbols.now state.old.scope number (Print (map item_tree items.now)) }
+    requires ready { IsReady symbols.now state.old.scope (memory_of state.old.store) }
+    ensures told { Ran state.old.scope number (memory_of state.old.store) (number + 1) result (memory_of state.new.store)
+        (Runs.run (setting_by symbols.now) (Print (map item_tree items.now)) number state.old.scope) }
+    ensures ready { StaysReady symbols.now result state.old.scope state.new.scope (memory_of state.new.store) }
+    ensures watched { Watched W.follows watch.old watch.new state.old.scope (before state.old.scope number) (memory_of state.old.store).cells result
+        (Runs.run (setting_by symbols.now) (Print (map item_tree items.now)) number state.old.scope) }
+{
+    match tell_print(alloc, symbols, state, watch, items, number) {
+        Ok(()) => return run_print(alloc, symbols, state, items, number),
+        Err(_) => return Err(RunError::NoMemory),
+    }
+}
+
 /// Runs the PRINT with this number: its items are evaluated, and then the line is written.
-pub(crate) fn run_print(
+fn run_print(
     alloc: Global,
     symbols: &Symbols,
     state: &mut State,

@@ -1,6 +1,6 @@
 //! READ (ANSI X3.9-1978, section 12.8).
 
-ghost use Rattle.std.specs.Prelude.{◌≡◌, ◌+◌, map, true, Ok, Err, MatchResult};
+ghost use Rattle.std.specs.Prelude.{◌≡◌, ◌+◌, ◌++◌, map, true};
 ghost use Rattle.std.specs.List.{list_all};
 ghost use Rattle.ped_tree.specs.Tree.{Read};
 ghost use Rattle.ped_tree.specs.Views.{expr_tree};
@@ -10,16 +10,51 @@ ghost use Rattle.ped_uses.specs.RightUses.{target_is_right};
 ghost use Rattle.ped_eval.specs.Readiness.{kinds_by, setting_by, IsReady, CanDo};
 ghost use Rattle.ped_eval.specs.Told.{Ran, StaysReady};
 ghost use Rattle.ped_eval.specs.Takings.{item_taken, read_taken};
+ghost use Rattle.ped_eval.specs.Agreement.{before};
+ghost use Rattle.ped_eval.specs.Watched.{Watched};
+ghost use Rattle.ped_eval.specs.Noting.{noted_by};
+ghost use Rattle.ped_eval.specs.StatementNotes.{read_noted, IsTaken, IsItemNoted, IfRead};
 
 use crate::evaluation::target_cell;
+use crate::notes::Notes;
+use crate::noting::note_target;
 use crate::states::{Flow, RunError, State};
+use crate::surroundings::Surroundings;
+use crate::telling::tell;
+use crate::watches::Watch;
+use ped_base::NoMemory;
+use ped_store::Cell;
 use ped_symbols::Symbols;
 use ped_tree::Expr;
+use std::alloc::Global;
 
-/// Runs the READ with this number: it begins the next data line, and takes a value for each item.
-pub(crate) fn run_read(
+/// Why a READ has broken off.
+#[derive(Clone, Copy)]
+pub(crate) enum ReadError {
+    /// By the fault with this number.
+    Fault(u8),
+    /// For want of memory.
+    NoMemory,
+}
+
+impl From<NoMemory> for ReadError {
+    ghost use Rattle.std.specs.Prelude.{◌≡◌};
+    ghost use Rattle.ped_eval.specs.declared.reading.ReadError.TheVariants as variant;
+
+    ghost from_gives = { λ _ e. e ≡ variant.NoMemory };
+
+    fn from(_: NoMemory) -> ReadError {
+        ReadError::NoMemory
+    }
+}
+
+/// Runs the READ with this number: it begins the next data line, and takes a value for each item. A watch is told what it
+/// reads and writes.
+pub(crate) fn run_read<W: Watch>(
+    alloc: Global,
     symbols: &Symbols,
     state: &mut State,
+    watch: &mut W,
     items: &[Expr],
     number: u32,
 ) -> Result<Flow, RunError>
@@ -28,40 +63,85 @@ pub(crate) fn run_read(
     ensures told { Ran state.old.scope number (memory_of state.old.store) (number + 1) result (memory_of state.new.store)
         (Runs.run (setting_by symbols.now) (Read (map expr_tree items.now)) number state.old.scope) }
     ensures ready { StaysReady symbols.now result state.old.scope state.new.scope (memory_of state.new.store) }
+    ensures watched { Watched W.follows watch.old watch.new state.old.scope (before state.old.scope number) (memory_of state.old.store).cells result
+        (Runs.run (setting_by symbols.now) (Read (map expr_tree items.now)) number state.old.scope) }
 {
-    match read_items(symbols, state, items) {
-        Ok(()) => return Ok(Flow::Going),
-        Err(fault) => return Err(RunError::Fault {
-            number: fault,
-            statement: number,
-        }),
+    let mut notes = Notes::from_reference(alloc, 1);
+    match read_items(symbols, state, items, &mut notes) {
+        Ok(()) => match tell(alloc, watch, &state.scope, number, &notes) {
+            Ok(()) => return Ok(Flow::Going),
+            Err(_) => return Err(RunError::NoMemory),
+        },
+        Err(ReadError::Fault(fault)) => match tell(alloc, watch, &state.scope, number, &notes) {
+            Ok(()) => return Err(RunError::Fault {
+                number: fault,
+                statement: number,
+            }),
+            Err(_) => return Err(RunError::NoMemory),
+        },
+        Err(ReadError::NoMemory) => return Err(RunError::NoMemory),
     }
 }
 
 /// Begins the next data line, and takes a value for each item.
-fn read_items(symbols: &Symbols, state: &mut State, items: &[Expr]) -> Result<(), u8>
+fn read_items(
+    symbols: &Symbols,
+    state: &mut State,
+    items: &[Expr],
+    notes: &mut Notes,
+) -> Result<(), ReadError>
     requires right { list_all (target_is_right (kinds_by symbols.now)) (map expr_tree items.now) ≡ true }
     requires ready { IsReady symbols.now state.old.scope (memory_of state.old.store) }
-    ensures taken { MatchResult result (λ _. read_taken symbols.now.constants state.old.scope (map expr_tree items.now) (memory_of state.old.store) ≡ Ok (memory_of state.new.store))
-        (λ n. read_taken symbols.now.constants state.old.scope (map expr_tree items.now) (memory_of state.old.store) ≡ Err n) }
+    ensures taken { IsTaken (read_taken symbols.now.constants state.old.scope (map expr_tree items.now) (memory_of state.old.store)) (memory_of state.new.store) result }
     ensures scope { state.new.scope ≡ state.old.scope }
+    ensures noted { IfRead result (noted_by notes.new ≡ noted_by notes.old ++ read_noted symbols.now.constants state.old.scope (map expr_tree items.now) notes.old.next (memory_of state.old.store)) }
 {
-    state.store.next_line()?;
+    notes.refer(&Cell::In, true)?;
+    match state.store.next_line() {
+        Ok(()) => {}
+        Err(fault) => return Err(ReadError::Fault(fault)),
+    }
     for item in items {
-        read_item(symbols, state, item)?;
+        match read_item(symbols, state, item, notes) {
+            Ok(()) => {}
+            Err(error) => return Err(error),
+        }
     }
     Ok(())
 }
 
 /// Takes the next value of the data for an item, and stores it there.
-fn read_item(symbols: &Symbols, state: &mut State, item: &Expr) -> Result<(), u8>
+fn read_item(
+    symbols: &Symbols,
+    state: &mut State,
+    item: &Expr,
+    notes: &mut Notes,
+) -> Result<(), ReadError>
     requires right { target_is_right (kinds_by symbols.now) (expr_tree item.now) ≡ true }
     requires ready { IsReady symbols.now state.old.scope (memory_of state.old.store) }
-    ensures taken { MatchResult result (λ _. item_taken symbols.now.constants state.old.scope (expr_tree item.now) (memory_of state.old.store) ≡ Ok (memory_of state.new.store))
-        (λ n. item_taken symbols.now.constants state.old.scope (expr_tree item.now) (memory_of state.old.store) ≡ Err n) }
+    ensures taken { IsTaken (item_taken symbols.now.constants state.old.scope (expr_tree item.now) (memory_of state.old.store)) (memory_of state.new.store) result }
     ensures scope { state.new.scope ≡ state.old.scope }
+    ensures noted { IsItemNoted symbols.now.constants state.old.scope (expr_tree item.now) notes.old (memory_of state.old.store) notes.new (memory_of state.new.store) result }
 {
-    let value = state.store.next_value()?;
-    let cell = target_cell(item, &state.store, &state.scope, symbols.consts())?;
-    state.store.set(&cell, i128::from(value))
+    match state.store.next_value() {
+        Ok(value) => {
+            let around = Surroundings {
+                store: &state.store,
+                scope: &state.scope,
+                consts: symbols.consts(),
+            };
+            note_target(notes, item, &around)?;
+            match target_cell(item, &state.store, &state.scope, symbols.consts()) {
+                Ok(cell) => match state.store.set(&cell, i128::from(value)) {
+                    Ok(()) => {
+                        notes.refer(&cell, true)?;
+                        return Ok(());
+                    }
+                    Err(fault) => return Err(ReadError::Fault(fault)),
+                },
+                Err(fault) => return Err(ReadError::Fault(fault)),
+            }
+        }
+        Err(fault) => return Err(ReadError::Fault(fault)),
+    }
 }

@@ -1,6 +1,6 @@
 //! Runs of programs in order.
 
-ghost use Rattle.std.specs.Prelude.{◌≡◌, [], IfOk};
+ghost use Rattle.std.specs.Prelude.{◌≡◌, [], IfOk, OnOk};
 ghost use Rattle.std.specs.Str.Lines.{lines};
 ghost use Rattle.ped_tree.specs.Tree.{ProgramTree};
 ghost use Rattle.ped_store.specs.Cells.{Out};
@@ -10,7 +10,9 @@ ghost use Rattle.ped_store.specs.Keeping.{memory_of};
 ghost use Rattle.ped_tree.specs.Views.{program_tree};
 ghost use Rattle.ped_symbols.specs.Kinds.{table_of};
 ghost use Rattle.ped_symbols.specs.NameRefusals.{IsValid};
-ghost use Rattle.ped_eval.specs.Outcomes.{outcome, live_names};
+ghost use Rattle.ped_eval.specs.Outcomes.{outcome, live_names, run_of};
+ghost use Rattle.ped_store.specs.Races.{accesses};
+ghost use Rattle.ped_eval.specs.Follow.{Follow};
 ghost use Rattle.ped_eval.specs.Outcomes as Outcomes;
 ghost use Rattle.ped_eval.specs.Live.{rows_in, shapes_by};
 ghost use Rattle.ped_eval.specs.Endings.{IsOutcomeBy};
@@ -22,6 +24,7 @@ use crate::scopes::Scope;
 use crate::shapes::shapes_of;
 use crate::statements::run_all;
 use crate::states::{Flow, RunError, State};
+use crate::watches::{NoWatch, Watch};
 use ped_base::NoMemory;
 use ped_store::Store;
 use ped_symbols::Symbols;
@@ -45,9 +48,31 @@ pub fn run_in_order(
     requires symbols { symbols.now ≡ table_of (program_tree program.now) }
     ensures { IfOk result (λ o. outcome_view o ≡ outcome (program_tree program.now) input.now) }
 {
+    run_watched(alloc, program, symbols, input, &mut NoWatch)
+}
+
+/// Runs a valid program as `run_in_order` does, and tells a watch its accesses in order, those of a statement that faults
+/// too. The states of the watch follow one another by what each access may make of it (this project). Of an outcome that
+/// wants memory nothing is said of the watch.
+///
+/// # Errors
+///
+/// Want of memory, also the watch's.
+pub fn run_watched<W: Watch>(
+    alloc: Global,
+    program: &Program,
+    symbols: &Symbols,
+    input: &[u8],
+    watch: &mut W,
+) -> Result<Outcome, NoMemory>
+    requires valid { IsValid (program_tree program.now) }
+    requires symbols { symbols.now ≡ table_of (program_tree program.now) }
+    ensures outcome { IfOk result (λ o. outcome_view o ≡ outcome (program_tree program.now) input.now) }
+    ensures watch { OnOk result (Follow W.follows watch.old (accesses (run_of (program_tree program.now) input.now).acts) watch.new) }
+{
     right_where_valid();
     let mut state = start(alloc, symbols, input)?;
-    let answer = run_all(alloc, symbols, &mut state, &program.body, 1);
+    let answer = run_all(alloc, symbols, &mut state, watch, &program.body, 1);
     finished(alloc, program, &state.store, answer)
 }
 

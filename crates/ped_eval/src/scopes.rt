@@ -1,13 +1,15 @@
 //! The iterations of DO loops round a place of a run, and what scalars stand for there.
 
-ghost use Rattle.std.specs.Prelude.{◌≡◌, ◌<◌, ◌≤◌, ◌-◌, ◌+◌, ◌++◌, ◌∷◌, [], length, map, replicate, MatchOption, OnOk, OnErr};
+ghost use Rattle.std.specs.Prelude.{◌≡◌, ◌<◌, ◌≤◌, ◌-◌, ◌+◌, ◌++◌, ◌∷◌, [], length, map, replicate, MatchOption, IfOk, OnOk, OnErr};
 ghost use Rattle.ped_store.specs.Cells.{Private};
 ghost use Rattle.ped_store.specs.Acts.{iterations_of};
 ghost use Rattle.ped_store.specs.CellViews.{cell_view, IsCell};
 ghost use Rattle.ped_eval.specs.Scopes as Scopes;
 ghost use Rattle.ped_eval.specs.ScopeViews.{frame_view, scope_view, with_turn, outside};
+ghost use Rattle.ped_eval.specs.AccessViews.{turn_view};
 
-use ped_base::{Name, Names, NoMemory};
+use crate::accesses::Turn;
+use ped_base::{Listed, Name, Names, NoMemory};
 use ped_names::is_among;
 use ped_store::Cell;
 use std::alloc::Global;
@@ -93,12 +95,35 @@ impl Scope {
         cell_in(&self.frames, name)
     }
 
+    /// The iterations, that of the outermost DO first.
+    pub(crate) fn path(&self, alloc: Global) -> Result<Listed<Turn>, NoMemory>
+        ensures { IfOk result (λ path. map turn_view path ≡ Scopes.turns_of self.now) }
+    {
+        path_of(alloc, &self.frames)
+    }
+
     /// The value of the variable of a DO round the place; none for any other name.
     pub fn index(&self, name: &Name) -> Option<i128>
         ensures { result ≡ Scopes.index_value self.now name.now }
     {
         index_in(&self.frames, name)
     }
+}
+
+/// The iterations of frames, in their order.
+fn path_of(alloc: Global, frames: &[Frame]) -> Result<Listed<Turn>, NoMemory>
+    ensures { IfOk result (λ path. map turn_view path ≡ Scopes.turns_of (scope_view frames.now)) }
+{
+    let mut path = Listed::new(alloc);
+    for frame in frames {
+        path.push(Turn {
+            statement: frame.statement,
+            parallel: frame.parallel,
+            number: frame.number,
+            value: frame.value,
+        })?;
+    }
+    Ok(path)
 }
 
 /// Another iteration of the innermost loop.

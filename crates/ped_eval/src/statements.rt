@@ -16,16 +16,20 @@ ghost use Rattle.ped_eval.specs.Readiness.{kinds_by, setting_by, IsReady, CanDo,
 ghost use Rattle.ped_eval.specs.Agreement.{before, before_turn};
 ghost use Rattle.ped_eval.specs.Plans.{entered_by, head_of, IsPlan};
 ghost use Rattle.ped_eval.specs.Turns.{turns_end, body_run};
+ghost use Rattle.ped_eval.specs.Noting.{place_by};
+ghost use Rattle.ped_eval.specs.Watched.{Watched, turns_run};
 ghost use Rattle.ped_eval.specs.Told.{Ran, TellsFrom, StaysReady, OnGoing, OnStopped};
 
 use crate::counts::{count, count_all};
-use crate::evaluation::{eval, target_cell, truth};
+use crate::evaluation::{eval, target_cell};
 use crate::exits::leave_loop;
 use crate::plans::{Plan, plan_of};
-use crate::printing::run_print;
+use crate::printing::watched_print;
 use crate::reading::run_read;
 use crate::states::{Flow, RunError, State};
+use crate::telling::{tell_assignment, tell_bounds, tell_exit, watched_truth};
 use crate::turns::{close_copies, enter_loop, open_turn};
+use crate::watches::Watch;
 use ped_symbols::Symbols;
 use ped_tree::{Do, Expr, Stmt};
 use std::alloc::Global;
@@ -36,10 +40,11 @@ use std::alloc::Global;
 ///
 /// `Fault` with the first fault and its statement, or `NoMemory`.
 #[cycle(run)]
-pub(crate) fn run_all(
+pub(crate) fn run_all<W: Watch>(
     alloc: Global,
     symbols: &Symbols,
     state: &mut State,
+    watch: &mut W,
     stmts: &[Stmt],
     first: u32,
 ) -> Result<Flow, RunError>
@@ -48,10 +53,12 @@ pub(crate) fn run_all(
     ensures told { Ran state.old.scope first (memory_of state.old.store) (first + statements_count (stmt_trees stmts.now)) result (memory_of state.new.store)
         (Runs.run_all (setting_by symbols.now) (stmt_trees stmts.now) first state.old.scope) }
     ensures ready { StaysReady symbols.now result state.old.scope state.new.scope (memory_of state.new.store) }
+    ensures watched { Watched W.follows watch.old watch.new state.old.scope (before state.old.scope first) (memory_of state.old.store).cells result
+        (Runs.run_all (setting_by symbols.now) (stmt_trees stmts.now) first state.old.scope) }
 {
     let mut number = first;
     for stmt in stmts {
-        match run_one(alloc, symbols, state, stmt, number) {
+        match run_one(alloc, symbols, state, watch, stmt, number) {
             Ok(Flow::Going) => number += count(stmt),
             Ok(Flow::Stopped) => return Ok(Flow::Stopped),
             Err(error) => return Err(error),
@@ -62,10 +69,11 @@ pub(crate) fn run_all(
 
 /// Runs the statement with this number, or a comment before it.
 #[cycle(run)]
-fn run_one(
+fn run_one<W: Watch>(
     alloc: Global,
     symbols: &Symbols,
     state: &mut State,
+    watch: &mut W,
     stmt: &Stmt,
     number: u32,
 ) -> Result<Flow, RunError>
@@ -74,29 +82,54 @@ fn run_one(
     ensures told { Ran state.old.scope number (memory_of state.old.store) (number + statement_count (stmt_tree stmt.now)) result (memory_of state.new.store)
         (Runs.run (setting_by symbols.now) (stmt_tree stmt.now) number state.old.scope) }
     ensures ready { StaysReady symbols.now result state.old.scope state.new.scope (memory_of state.new.store) }
+    ensures watched { Watched W.follows watch.old watch.new state.old.scope (before state.old.scope number) (memory_of state.old.store).cells result
+        (Runs.run (setting_by symbols.now) (stmt_tree stmt.now) number state.old.scope) }
 {
     match stmt {
-        Stmt::Assign { left, right } => return run_assignment(symbols, state, left, right, number),
+        Stmt::Assign { left, right } => return watched_assignment(
+            alloc, symbols, state, watch, left, right, number,
+        ),
         Stmt::If {
             condition,
             then_part,
             else_part,
-        } => match truth(condition, &state.store, &state.scope, symbols.consts()) {
-            Ok(true) => return run_all(alloc, symbols, state, then_part, number + 1),
+        } => match watched_truth(alloc, symbols, state, watch, condition, number) {
+            Ok(true) => return run_all(alloc, symbols, state, watch, then_part, number + 1),
             Ok(false) => {
                 let behind = number + 1 + count_all(then_part);
-                return run_all(alloc, symbols, state, else_part, behind);
+                return run_all(alloc, symbols, state, watch, else_part, behind);
             }
-            Err(fault) => return Err(RunError::Fault {
-                number: fault,
-                statement: number,
-            }),
+            Err(error) => return Err(error),
         },
-        Stmt::Do(d) => return run_do(alloc, symbols, state, d, number),
-        Stmt::Print(items) => return run_print(alloc, symbols, state, items, number),
-        Stmt::Read(items) => return run_read(symbols, state, items, number),
+        Stmt::Do(d) => return run_do(alloc, symbols, state, watch, d, number),
+        Stmt::Print(items) => return watched_print(alloc, symbols, state, watch, items, number),
+        Stmt::Read(items) => return run_read(alloc, symbols, state, watch, items, number),
         Stmt::Stop => return Ok(Flow::Stopped),
         Stmt::Comment(_) => return Ok(Flow::Going),
+    }
+}
+
+/// Runs the assignment with this number, and tells a watch what it reads and writes.
+fn watched_assignment<W: Watch>(
+    alloc: Global,
+    symbols: &Symbols,
+    state: &mut State,
+    watch: &mut W,
+    left: &Expr,
+    right: &Expr,
+    number: u32,
+) -> Result<Flow, RunError>
+    requires can { CanDo symbols.now state.old.scope number (Assign (expr_tree left.now) (expr_tree right.now)) }
+    requires ready { IsReady symbols.now state.old.scope (memory_of state.old.store) }
+    ensures told { Ran state.old.scope number (memory_of state.old.store) (number + 1) result (memory_of state.new.store)
+        (Runs.run (setting_by symbols.now) (Assign (expr_tree left.now) (expr_tree right.now)) number state.old.scope) }
+    ensures ready { StaysReady symbols.now result state.old.scope state.new.scope (memory_of state.new.store) }
+    ensures watched { Watched W.follows watch.old watch.new state.old.scope (before state.old.scope number) (memory_of state.old.store).cells result
+        (Runs.run (setting_by symbols.now) (Assign (expr_tree left.now) (expr_tree right.now)) number state.old.scope) }
+{
+    match tell_assignment(alloc, symbols, state, watch, left, right, number) {
+        Ok(()) => return run_assignment(symbols, state, left, right, number),
+        Err(_) => return Err(RunError::NoMemory),
     }
 }
 
@@ -139,10 +172,11 @@ fn assign(symbols: &Symbols, state: &mut State, left: &Expr, right: &Expr) -> Re
 
 /// Runs the DO with this number (ANSI X3.9-1978, section 11.10).
 #[cycle(run)]
-fn run_do(
+fn run_do<W: Watch>(
     alloc: Global,
     symbols: &Symbols,
     state: &mut State,
+    watch: &mut W,
     d: &Do,
     number: u32,
 ) -> Result<Flow, RunError>
@@ -151,21 +185,28 @@ fn run_do(
     ensures told { Ran state.old.scope number (memory_of state.old.store) (number + statement_count (do_tree d.now)) result (memory_of state.new.store)
         (Runs.run (setting_by symbols.now) (do_tree d.now) number state.old.scope) }
     ensures ready { StaysReady symbols.now result state.old.scope state.new.scope (memory_of state.new.store) }
+    ensures watched { Watched W.follows watch.old watch.new state.old.scope (before state.old.scope number) (memory_of state.old.store).cells result
+        (Runs.run (setting_by symbols.now) (do_tree d.now) number state.old.scope) }
 {
-    match plan_of(alloc, symbols, state, d, number) {
-        Ok(plan) => return run_turns(alloc, symbols, state, d, &plan),
-        Err(error) => return Err(error),
+    match tell_bounds(alloc, symbols, state, watch, d, number) {
+        Ok(behind) => match plan_of(alloc, symbols, state, d, number) {
+            Ok(plan) => return run_turns(alloc, symbols, state, watch, d, &plan, behind),
+            Err(error) => return Err(error),
+        },
+        Err(_) => return Err(RunError::NoMemory),
     }
 }
 
 /// Runs the iterations of a DO that has been entered, and leaves it.
 #[cycle(run)]
-fn run_turns(
+fn run_turns<W: Watch>(
     alloc: Global,
     symbols: &Symbols,
     state: &mut State,
+    watch: &mut W,
     d: &Do,
     plan: &Plan,
+    behind: u32,
 ) -> Result<Flow, RunError>
     requires can { CanDo symbols.now state.old.scope plan.now.number (do_tree d.now) }
     requires ready { IsReady symbols.now state.old.scope (memory_of state.old.store) }
@@ -173,28 +214,34 @@ fn run_turns(
     ensures told { (behind : ℕ) → TellsFrom state.old.scope (before state.old.scope plan.now.number) (memory_of state.old.store).cells (before state.old.scope (plan.now.number + statement_count (do_tree d.now))) result (memory_of state.new.store).cells
         (turns_end plan.now.count 1 (entered_by (head_of d.now) plan.now behind) state.old.scope (body_run (setting_by symbols.now) (stmt_trees d.now.body.items) plan.now.number state.old.scope)) }
     ensures ready { StaysReady symbols.now result state.old.scope state.new.scope (memory_of state.new.store) }
+    ensures watched { Watched W.follows watch.old watch.new state.old.scope (before state.old.scope plan.now.number) (memory_of state.old.store).cells result
+        (turns_run plan.now.count 1 (entered_by (head_of d.now) plan.now behind) state.old.scope (place_by plan.now.number state.old.scope) (body_run (setting_by symbols.now) (stmt_trees d.now.body.items) plan.now.number state.old.scope)) }
 {
     match enter_loop(alloc, state, d, plan) {
         Ok(()) => {}
         Err(_) => return Err(RunError::NoMemory),
     }
     for earlier in 0..plan.count {
-        match run_turn(alloc, symbols, state, d, plan, earlier) {
+        match run_turn(alloc, symbols, state, watch, d, plan, earlier) {
             Ok(Flow::Going) => {}
             Ok(Flow::Stopped) => return Ok(Flow::Stopped),
             Err(error) => return Err(error),
         }
     }
     leave_loop(state, d, plan);
-    Ok(Flow::Going)
+    match tell_exit(alloc, &state.scope, watch, d, plan, behind) {
+        Ok(()) => return Ok(Flow::Going),
+        Err(_) => return Err(RunError::NoMemory),
+    }
 }
 
 /// Runs the iteration of a DO before which there are so many.
 #[cycle(run)]
-fn run_turn(
+fn run_turn<W: Watch>(
     alloc: Global,
     symbols: &Symbols,
     state: &mut State,
+    watch: &mut W,
     d: &Do,
     plan: &Plan,
     earlier: u64,
@@ -208,12 +255,14 @@ fn run_turn(
         (λ s. (body_run (setting_by symbols.now) (stmt_trees d.now.body.items) plan.now.number (outside state.old.scope) (frame (entered_by (head_of d.now) plan.now 0) (earlier + 1)) s).ending) }
     ensures ready { OnGoing result ((state.new.scope ≡ frame (entered_by (head_of d.now) plan.now 0) (earlier + 1) ∷ outside state.old.scope) × IsReady symbols.now (outside state.old.scope) (memory_of state.new.store)) }
     ensures bounds { OnStopped result ((memory_of state.new.store).bounds ≡ (setting_by symbols.now).bounds) }
+    ensures watched { Watched W.follows watch.old watch.new (outside state.old.scope) (before_turn (outside state.old.scope) plan.now.number (earlier + 1)) (memory_of state.old.store).cells result
+        (body_run (setting_by symbols.now) (stmt_trees d.now.body.items) plan.now.number (outside state.old.scope) (frame (entered_by (head_of d.now) plan.now 0) (earlier + 1))) }
 {
     match open_turn(alloc, state, d, plan, earlier) {
         Ok(()) => {}
         Err(_) => return Err(RunError::NoMemory),
     }
-    match run_all(alloc, symbols, state, &d.body, plan.number + 1) {
+    match run_all(alloc, symbols, state, watch, &d.body, plan.number + 1) {
         Ok(Flow::Going) => {
             close_copies(state, plan.copied.as_slice());
             return Ok(Flow::Going);

@@ -27,3 +27,5 @@ mod statements;
 mod tree;
 #[cfg(test)]
 mod valid;
+#[cfg(test)]
+mod watches;

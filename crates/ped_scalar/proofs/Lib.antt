@@ -1,1 +1,3 @@
+pub mod FlowAnswers
 pub mod FirstAgainstPrivatising
+pub mod KeptByPrivatising

@@ -1,11 +1,19 @@
 //! What the definitions in `specs/` determine. The functions do nothing; their contracts are the laws.
 
-ghost use Rattle.std.specs.Prelude.{◌≡◌, ℕ, List, Option};
+ghost use Rattle.std.specs.Prelude.{◌≡◌, ℕ, List, Option, None};
 ghost use Rattle.ped_tree.specs.Tree.{ProgramTree};
+ghost use Rattle.ped_symbols.specs.NameRefusals.{IsValid};
 ghost use Rattle.ped_steps.specs.Causes.{Cause, IsFirstCause, none_forbids};
-ghost use Rattle.ped_scalar.specs.Privatising.{StandsAgainstPrivatising};
+ghost use Rattle.ped_step_runs.specs.Meaning.{Keeps};
+ghost use Rattle.ped_scalar.specs.Privatising.{privatised, StandsAgainstPrivatising};
 
 /// Against `privatise` there is at most one first cause, and none where there is no cause.
 pub fn one_cause_against_privatising()
     ensures { (t : ProgramTree) (s : ℕ) (x : List ℕ) (c d : Option Cause) → IsFirstCause t (StandsAgainstPrivatising t s x) none_forbids c → IsFirstCause t (StandsAgainstPrivatising t s x) none_forbids d → c ≡ d }
+{}
+
+/// Where nothing stands against `privatise`, the new program keeps the meaning of a valid old one: on all data on which
+/// that runs without a fault and without a race it has the same outcome, and no race (Allen and Kennedy, section 5.2).
+pub fn privatising_keeps()
+    ensures { (t : ProgramTree) (s : ℕ) (x : List ℕ) → IsValid t → IsFirstCause t (StandsAgainstPrivatising t s x) none_forbids None → Keeps t (privatised t s x) }
 {}

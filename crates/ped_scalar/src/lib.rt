@@ -8,5 +8,5 @@ mod privatising;
 mod referring;
 mod scalars;
 
-pub use laws::one_cause_against_privatising;
+pub use laws::{one_cause_against_privatising, privatising_keeps};
 pub use privatising::privatise;

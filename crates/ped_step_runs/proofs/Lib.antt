@@ -1,4 +1,5 @@
 pub mod ExchangedSight
+pub mod ExchangedTouches
 pub mod ExchangedRuns
 pub mod Replayed
 pub mod RunCells
@@ -14,10 +15,13 @@ pub mod ExpandedLoops
 pub mod ExpandedParts
 pub mod NamesKept
 pub mod SameNames
-pub mod ReplacedTrees
+pub mod FilledGaps
+pub mod OwnBounds
 pub mod PastedParts
 pub mod LoopsRound
 pub mod PastedRuns
+pub mod ReplacedTrees
+pub mod PastedStatements
 pub mod PastedStores
 mod Examples
 pub mod PrivatisedPrograms
@@ -35,3 +39,7 @@ pub mod ToldRaces
 pub mod KeptMeanings
 pub mod RenumberedRuns
 pub mod RenumberedPrograms
+pub mod SubstitutedSums
+pub mod SubstitutedShapes
+pub mod SubstitutedSight
+pub mod SubstitutedRuns

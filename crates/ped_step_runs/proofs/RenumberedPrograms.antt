@@ -1,18 +1,17 @@
 -- Programs under other statement numbers: they end alike, and race where they race.
 use Rattle.std.proofs.Common.{◌≡◌, ℕ, List, [], ◌∷◌, ◌++◌, map, Bool, true, false, eqb-true, refl, sym, ap, subst, ◌∙◌, arith, if◌then◌else◌}
 use Rattle.std.specs.Prelude.{◌&&◌, ◌||◌, ◌==◌, not, filter}
-use Rattle.std.specs.List.{flat_map, AllByRecursion}
+use Rattle.std.specs.List.{AllByRecursion}
 use Rattle.std.proofs.lemmas.List.Elements.{All-from_recursion, recursion_from_All}
 use Rattle.std.proofs.lemmas.List.{map-append}
 use Rattle.ped_tree.specs.Tree.{ProgramTree}
-use Rattle.ped_store.specs.Cells.{Cell, Scalar, Element, Private, In, Out, same_cell}
+use Rattle.ped_store.specs.Cells.{Cell, Scalar, Element, Private, In, Out}
 use Rattle.ped_store.specs.Stores.{Store, store_at_start}
-use Rattle.ped_store.specs.Acts.{Manner, reads, writes, is_told, Touch, Turn, Act}
-use Rattle.ped_store.specs.Races.{Access, is_lines, is_write, is_access, accesses_of, accesses, conflict, are_apart, race, HasNoRace}
+use Rattle.ped_store.specs.Acts.{Touch, Turn, Act}
+use Rattle.ped_store.specs.Races.{Access, is_lines, is_write, is_access, accesses_of, accesses, are_apart, race, HasNoRace}
 use Rattle.ped_eval.specs.Scopes.{Setting}
 use Rattle.ped_eval.specs.Runs.{Ending, going, stopped, failed, run_all}
 use Rattle.ped_eval.specs.Outcomes.{Ends}
-use Rattle.ped_runs.specs.Replaying.{Finish, goes_on, stops, faults, finish_of}
 use Rattle.ped_step_runs.specs.Exchanging.{exchanged_touch}
 use Rattle.ped_step_runs.specs.Renumbering.{renumbered_cell, old_store, renumbered_turn, renumbered_place, renumbered_act, EndsAs, IsRenumbered, IsToldBack, renumbered}
 use Rattle.ped_step_runs.proofs.RenumberedRuns.{same_test, all_in, outside_all}

@@ -1,0 +1,95 @@
+-- What statements note (this project).
+use Rattle.std.specs.Prelude.{◌≡◌, ℕ, suc, ℤ, List, [], ◌∷◌, ◌++◌, true, Result, Ok, Err}
+use Rattle.ped_tree.specs.Tree.{ExprTree}
+use Rattle.ped_store.specs.Cells.{Cell, In, Out}
+use Rattle.ped_store.specs.Stores.{Number, Store, storable}
+use Rattle.ped_store.specs.DataLines.{Data, Taken, begun, next_value_of}
+use Rattle.ped_store.specs.Memories.{Memory, with_content, with_data}
+use Rattle.ped_eval.specs.Scopes.{Scope, Names}
+use Rattle.ped_eval.specs.Evaluation.{Seen, Evaluated, ◌>>>◌, given, numbered, number_behind}
+use Rattle.ped_eval.specs.Values.{target}
+use Rattle.ped_eval.specs.Statements.{Stored}
+use Rattle.ped_eval.specs.Takings.{names_with}
+use Rattle.ped_eval.specs.Noting.{Noted, noted, noted_by, HasReferred}
+use Rattle.ped_eval.specs.declared.notes.Notes.{Notes}
+use Rattle.ped_eval.specs.declared.reading.ReadError.{ReadError}
+use Rattle.ped_eval.specs.declared.reading.ReadError.TheVariants as error
+
+-- reads, whose references have numbers from 1 on (this project)
+abbrev pub reads_noted : List Seen → List Noted
+reads_noted seen = noted (numbered 1 seen)
+
+-- reads, whose references have numbers from this one on, and behind them a write by the next reference (this project)
+abbrev pub write_noted : ℕ → List Seen → Cell → List Noted
+write_noted n seen c = noted (numbered n seen) ++ record { cell = c; writes = true; reference = number_behind n seen } ∷ []
+
+-- what is read is noted, by references with numbers from this one on, and behind a result the write of a cell (this project)
+abbrev pub done_noted : {A : Type 0} → ℕ → (A → Cell) → List Seen → Result A ℕ → List Noted
+done_noted n cell seen (Ok x) = write_noted n seen (cell x)
+done_noted n cell seen (Err fault) = noted (numbered n seen)
+
+-- an assignment notes what it reads, and its write where it stores (ANSI X3.9-1978, section 10.1; this project)
+abbrev pub assignment_noted : ℕ → Evaluated Stored → List Noted
+assignment_noted n e = done_noted n (λ w. w.cell) e.seen e.result
+
+-- a PRINT notes what it reads, and the output where it adds a line (ANSI X3.9-1978, section 12.8; this project)
+abbrev pub print_noted : {A : Type 0} → ℕ → Evaluated A → List Noted
+print_noted n e = done_noted n (λ line. Out) e.seen e.result
+
+-- what is stored of a value in a left side: its subscripts are evaluated, then their bounds are tested, then the range of the value (ANSI X3.9-1978, section 10.1; this project)
+abbrev pub storing : Names → ExprTree → ℤ → Store → Evaluated Stored
+storing g left v s = target g left s >>> λ c. given (storable v) >>> λ n. given (Ok (record { cell = c; number = n }))
+
+-- the notes behind a write: it is noted where it is done (this project)
+abbrev pub IsWriteNoted : Notes → Cell → Result Memory ℕ → Notes → Type 0
+IsWriteNoted old c (Ok m) new = HasReferred old c true new
+IsWriteNoted old c (Err fault) new = new ≡ old
+
+-- an item of a READ notes what its subscripts read and its write, and then come the others (ANSI X3.9-1978, section 12.8; this project)
+abbrev pub item_noted : ℕ → List Seen → Result Cell ℕ → (ℕ → Cell → List Noted) → List Noted
+item_noted n seen (Ok c) rest = write_noted n seen c ++ rest (suc (number_behind n seen)) c
+item_noted n seen (Err fault) rest = noted (numbered n seen)
+
+-- where a value is taken for an item the item notes it, and else nothing (this project)
+abbrev pub value_noted : Result Taken ℕ → (Taken → List Noted) → List Noted
+value_noted (Ok t) next = next t
+value_noted (Err fault) next = []
+
+-- what the items of a READ note, whose references have numbers from this one on, by what is kept before them (ANSI X3.9-1978, section 12.8; this project)
+abbrev pub items_noted : List (List ℕ × ℤ) → Scope → List ExprTree → ℕ → Memory → List Noted
+items_noted constants scope [] n m = []
+items_noted constants scope (item ∷ rest) n m =
+    value_noted (next_value_of m.input) λ t.
+    item_noted n (target (names_with (with_data t.behind m) scope constants) item (with_data t.behind m).cells).seen
+    (target (names_with (with_data t.behind m) scope constants) item (with_data t.behind m).cells).result
+    λ k c. items_noted constants scope rest k (with_content c (Number t.value) (with_data t.behind m))
+
+-- what the items note behind the line that a READ begins; without one there are none (this project)
+abbrev pub line_noted : Result Data ℕ → (Data → List Noted) → List Noted
+line_noted (Ok d) next = next d
+line_noted (Err fault) next = []
+
+-- a READ notes that it takes of the data, and then what its items note (ANSI X3.9-1978, section 12.8; this project)
+abbrev pub read_noted : List (List ℕ × ℤ) → Scope → List ExprTree → ℕ → Memory → List Noted
+read_noted constants scope items n m =
+    record { cell = In; writes = true; reference = n } ∷ line_noted (begun m.input.lines) λ d. items_noted constants scope items (suc n) (with_data d m)
+
+-- what is kept behind a part of a READ, or the fault that ends it; want of memory tells nothing
+abbrev pub IsTaken : {A : Type 0} → Result Memory ℕ → Memory → Result A ReadError → Type 0
+IsTaken r new (Ok u) = r ≡ Ok new
+IsTaken r new (Err (error.Fault n)) = r ≡ Err n
+IsTaken r new (Err error.NoMemory) = Unit {0}
+
+-- the notes behind an item of a READ: what is noted then, and what the items behind it note, is all; behind a fault nothing more is noted, and want of memory tells nothing
+abbrev pub IsItemNoted : {A : Type 0} → List (List ℕ × ℤ) → Scope → ExprTree → Notes → Memory → Notes → Memory → Result A ReadError → Type 0
+IsItemNoted constants scope item old m new after (Ok u) =
+    (rest : List ExprTree) → noted_by old ++ items_noted constants scope (item ∷ rest) old.next m ≡ noted_by new ++ items_noted constants scope rest new.next after
+IsItemNoted constants scope item old m new after (Err (error.Fault n)) =
+    (rest : List ExprTree) → noted_by old ++ items_noted constants scope (item ∷ rest) old.next m ≡ noted_by new
+IsItemNoted constants scope item old m new after (Err error.NoMemory) = Unit {0}
+
+-- something holds but after want of memory
+abbrev pub IfRead : {A : Type 0} → Result A ReadError → Type 0 → Type 0
+IfRead (Ok u) P = P
+IfRead (Err (error.Fault n)) P = P
+IfRead (Err error.NoMemory) P = Unit {0}

@@ -95,7 +95,7 @@ module _ (t : ProgramTree) (l : ℕ) (loop : LoopOf t l) (x array : List ℕ) (l
   AreFresh (same acts ∷ parts) = AreFresh parts
   AreFresh (changed old new ∷ parts) = IsFresh old new × AreFresh parts
 
-  pub fresh_executions : (parts : List Part) (u : Store) → AreExecutions p t l (Do h body) (expanded_acts t l loop x array live last q) parts u → AreFresh parts
+  pub fresh_executions : (parts : List Part) (u : Store) → AreExecutions p t start l (run p (Do h body) l) (expanded_acts t l loop x array live last q) parts u → AreFresh parts
   fresh_executions [] u executions = tt
   fresh_executions (same acts ∷ parts) u executions = fresh_executions parts (store_after acts u) executions
   fresh_executions (changed old new ∷ parts) u executions =

@@ -30,12 +30,12 @@ pub mod PrivatisedRacesOrigins
 pub mod PrivatisedRaces
 pub mod ExpandedRacesOrigins
 pub mod ExpandedRacesParts
-pub mod ExpandedRaces
 pub mod SparedVariables
 pub mod ToldSights
 pub mod ToldIndices
 pub mod ToldRuns
 pub mod ToldRaces
+pub mod ExpandedRaces
 pub mod KeptMeanings
 pub mod RenumberedRuns
 pub mod RenumberedPrograms

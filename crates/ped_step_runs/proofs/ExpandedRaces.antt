@@ -202,9 +202,9 @@ module _ (t : ProgramTree) (l : ℕ) (loop : LoopOf t l) (x array : List ℕ) (l
             by b c i j (come b i) (come c j)
 
     -- so in a valid program that does the new acts
-    pub expanded_run_race_free : (u : ProgramTree) → IsValid u → (parts : List Part) → old_parts parts ≡ whole → AreFresh parts → new_parts parts ≡ (run_all (setting_of u) u.body 1 [] start).acts
-        → HasNoRace (accesses (old_parts parts)) → HasNoRace (accesses (new_parts parts))
-    expanded_run_race_free u valid parts is fresh done free =
-        expanded_race_free parts is fresh
+    pub expanded_run_race_free : (u : ProgramTree) → IsValid u → (parts : List Part) → old_parts parts ≡ whole → AreExecutions p t start l (run p (Do h body) l) (expanded_acts t l loop x array live last q) parts start
+        → new_parts parts ≡ (run_all (setting_of u) u.body 1 [] start).acts → HasNoRace (accesses (old_parts parts)) → HasNoRace (accesses (new_parts parts))
+    expanded_run_race_free u valid parts is executions done free =
+        expanded_race_free parts is (fresh_executions parts start executions)
         (subst (λ (zs : List Act). (b c : Access) → IsTold zs b → IsIn c (accesses zs) → (race b c ≡ false) × (race c b ≡ false)) (sym done) (told_races_not u valid start))
         free

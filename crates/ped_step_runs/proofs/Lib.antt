@@ -36,6 +36,7 @@ pub mod ToldIndices
 pub mod ToldRuns
 pub mod ToldRaces
 pub mod ExpandedRaces
+pub mod OwnCells
 pub mod KeptMeanings
 pub mod RenumberedRuns
 pub mod RenumberedPrograms

@@ -28,6 +28,8 @@ pub mod PrivatisedRacesCells
 pub mod PrivatisedRacesOrigins
 pub mod PrivatisedRaces
 pub mod KeptMeanings
+pub mod ExpandedNumbers
+pub mod ExpandedPrograms
 pub mod RenumberedRuns
 pub mod RenumberedPrograms
 pub mod SubstitutedSums

@@ -38,6 +38,8 @@ pub mod ToldRaces
 pub mod ExpandedRaces
 pub mod OwnCells
 pub mod KeptMeanings
+pub mod ExpandedNumbers
+pub mod ExpandedPrograms
 pub mod RenumberedRuns
 pub mod RenumberedPrograms
 pub mod SubstitutedSums

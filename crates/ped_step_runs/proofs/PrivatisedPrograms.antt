@@ -110,7 +110,7 @@ statement_in other (Some s) = s
 statement_in other None = other
 
 -- both ways of telling what a declaration saves
-same_saved : (ds : List DeclTree) → flat_map outcomes.saved_in ds ≡ flat_map flow.saved_in ds
+pub same_saved : (ds : List DeclTree) → flat_map outcomes.saved_in ds ≡ flat_map flow.saved_in ds
 same_saved [] = refl
 same_saved (Program x ∷ ds) = same_saved ds
 same_saved (Implicit ∷ ds) = same_saved ds
@@ -120,10 +120,22 @@ same_saved (Parameter vs ∷ ds) = same_saved ds
 same_saved (Save names ∷ ds) = ap (λ (xs : List (List ℕ)). names ++ xs) (same_saved ds)
 same_saved (Remark text ∷ ds) = same_saved ds
 
-ends_kept : (finish : Finish) (s u : Store) → Ends (ending_with finish s) → Ends (ending_with finish u)
+pub ends_kept : (finish : Finish) (s u : Store) → Ends (ending_with finish s) → Ends (ending_with finish u)
 ends_kept goes_on s u e = tt
 ends_kept stops s u e = tt
 ends_kept (faults fault n) s u e = absurd e
+
+-- where the cell of a scalar is shown at the end, it is the scalar's own, and the scalar is saved
+pub shown_scalar : (t : ProgramTree) (x : List ℕ) (S : Scope) → shown_at_end t (cell_of S x) ≡ true → (is_among x (flat_map flow.saved_in t.decls) ≡ true) × (cell_of S x ≡ cells.Scalar x)
+shown_scalar t x S h = go (cell_of S x) h (named_so S x) (of_scalar S x)
+  where
+    go : (c : Cell) → shown_at_end t c ≡ true → cell_name c ≡ x → is_of_scalar c ≡ true → (is_among x (flat_map flow.saved_in t.decls) ≡ true) × (c ≡ cells.Scalar x)
+    go (cells.Scalar y) k e o =
+        (ap (is_among x) (sym (same_saved t.decls)) ∙ sym (sorted_among x (flat_map outcomes.saved_in t.decls)) ∙ ap (λ (z : List ℕ). is_among z (live_names t)) (sym e) ∙ k, ap cells.Scalar e)
+    go (cells.Element y js) k e o = absurd cc
+    go (cells.Private y path) k e o = absurd cc
+    go cells.In k e o = absurd cc
+    go cells.Out k e o = absurd cc
 
 module _ (t : ProgramTree) (valid : IsValid t) (l : ℕ) (loop : LoopOf t l) (x : List ℕ) (in_order : loop.head.parallel ≡ false) (alone_so : is_in_parallel t l ≡ false) (absent : is_among x loop.head.private ≡ false) (scalar : is_scalar (kind_in t) x ≡ true)
     (unexposed : (n : ℕ) → IsExposed t l x n → ⊥) (dead : IsLiveAfter t l x → ⊥) (by : StmtTree → StmtTrees) (by_is : by (Do loop.head loop.body) ≡ alone (Do (more_private (setting_of t) loop.head loop.body l [] x in_order absent) loop.body)) where
@@ -191,17 +203,6 @@ module _ (t : ProgramTree) (valid : IsValid t) (l : ℕ) (loop : LoopOf t l) (x 
     abbrev start : Store
     start = store_at_start (lines data_bytes)
 
-    shown_own : (S : Scope) → shown_at_end t (cell_of S x) ≡ true → (is_among x (flat_map flow.saved_in t.decls) ≡ true) × (cell_of S x ≡ cells.Scalar x)
-    shown_own S h = go (cell_of S x) h (named_so S x) (of_scalar S x)
-      where
-        go : (c : Cell) → shown_at_end t c ≡ true → cell_name c ≡ x → is_of_scalar c ≡ true → (is_among x (flat_map flow.saved_in t.decls) ≡ true) × (c ≡ cells.Scalar x)
-        go (cells.Scalar y) k e o =
-            (ap (is_among x) (sym (same_saved t.decls)) ∙ sym (sorted_among x (flat_map outcomes.saved_in t.decls)) ∙ ap (λ (z : List ℕ). is_among z (live_names t)) (sym e) ∙ k, ap cells.Scalar e)
-        go (cells.Element y js) k e o = absurd cc
-        go (cells.Private y path) k e o = absurd cc
-        go cells.In k e o = absurd cc
-        go cells.Out k e o = absurd cc
-
     -- what the new program does
     exchanged : (parts : List Part) × (old_parts parts ≡ (run_all p t.body 1 [] start).acts) × AreExecutions p t start l (run p s l) (fresh t l loop x p one in_order absent) parts start
         × (run_all p u.body 1 [] start ≡ record { acts = new_parts parts; ending = ending_with (finish_of (run_all p t.body 1 [] start).ending) (store_after (new_parts parts) start) })
@@ -210,7 +211,7 @@ module _ (t : ProgramTree) (valid : IsValid t) (l : ℕ) (loop : LoopOf t l) (x 
         stores_agree (shown_at_end t) p t start l (run p s l) (fresh t l loop x p one in_order absent)
         (stand_instead t l loop x p one in_order absent start (shown_at_end t) (λ y path. refl) free.0
         (λ S seen m k v ends. unexposed_unneeded p t l loop x other (loop_stops t l loop (fitting_stops t valid.fits)) unexposed S seen m k v ends)
-        (λ S rest exit. unwanted_behind p one t x other (fitting_stops t valid.fits) start l S rest exit dead (shown_at_end t) (shown_own S)))
+        (λ S rest exit. unwanted_behind p one t x other (fitting_stops t valid.fits) start l S rest exit dead (shown_at_end t) (shown_scalar t x S)))
         (run_all p u.body 1 []) (finish_of (run_all p t.body 1 [] start).ending)
         (one_exchanged p p t l s by pasting start (fresh t l loop x p one in_order absent)
         (subst (λ (zs : StmtTrees). DoInstead p p t start l (run p s l) zs (fresh t l loop x p one in_order absent)) (sym by_is) (do_instead t l loop x p one in_order absent start)) free.0)

@@ -49,7 +49,8 @@ use Rattle.ped_step_runs.proofs.RenumberedPrograms.{program_renumbered, ends_ali
 use Rattle.ped_step_runs.proofs.SubstitutedRuns.{substituted_run}
 use Rattle.ped_step_runs.proofs.SubstitutedShapes.{counts_kept, indices_kept}
 use Rattle.ped_step_runs.proofs.ExpandedLoops.{new_statements, IsKept}
-use Rattle.ped_step_runs.proofs.ExpandedParts.{IsEnteredBy, expanded_acts, do_instead, stand_instead}
+use Rattle.ped_step_runs.proofs.ExpandedParts.{IsEnteredBy, expanded_acts, substituted_at, do_instead, stand_instead}
+use Rattle.ped_step_runs.proofs.ExpandedRaces.{expanded_run_race_free}
 use Rattle.ped_step_runs.proofs.ExpandedNumbers.{moved, moved_back, moved_before, moved_behind, told_back, one_moved}
 
 -- the setting of the old program under the numbers that its statements have in the new one
@@ -139,7 +140,7 @@ module _ (t u : ProgramTree) (valid : IsValid t) (l : ℕ) (loop : LoopOf t l) (
 
   module _ (may : (S : Scope) → IsPlaceOf p t l S → (v : Store) (m : Limits) → IsEnteredBy t l loop x array live last q S v m → let e = entered_with q l h body (limits (names_in q S) h v).seen m in (k : ℕ) → 1 ≤ k → k ≤ e.count → MayStandFor q (frame e k ∷ S) body x array h.variable (value_in e k))
       (kept : live ≡ true → (S : Scope) → IsPlaceOf p t l S → (v : Store) (m : Limits) → IsEnteredBy t l loop x array live last q S v m → IsKept q h body l S x array (limits (names_in q S) h v).seen m last)
-      (no_race : (start : Store) (parts : List Part) → old_parts parts ≡ (run_all p t.body 1 [] start).acts → AreExecutions p t start l (run p s l) (expanded_acts t l loop x array live last q) parts start → HasNoRace (accesses (old_parts parts)) → HasNoRace (accesses (new_parts parts))) where
+      (valid_new : IsValid u) (own : (S : Scope) → IsPlaceOf p t l S → cell_of S x ≡ cells.Scalar x) where
     module _ (data_bytes : List ℕ) (free : IsRaceFree t data_bytes) where
       abbrev start : Store
       start = store_at_start (lines data_bytes)
@@ -189,7 +190,11 @@ module _ (t u : ProgramTree) (valid : IsValid t) (l : ℕ) (loop : LoopOf t l) (
           (ends_kept (finish_of (run_all p t.body 1 [] start).ending) (store_after (run_all p t.body 1 [] start).acts start) (store_after (new_parts exchanged.0) start) (subst (λ (r : Run). Ends r.ending) old_run ends))
 
       pub free_so : HasNoRace (accesses (run_of u data_bytes).acts)
-      free_so = subst (λ (r : Run). HasNoRace (accesses r.acts)) (sym new_run) (no_race start exchanged.0 exchanged.1 exchanged.2 (subst (λ (zs : List Act). HasNoRace (accesses zs)) (sym exchanged.1) old_free))
+      free_so =
+          subst (λ (r : Run). HasNoRace (accesses r.acts)) (sym new_run)
+          (expanded_run_race_free t l loop x array live last q p alike one in_order absent start own
+          (substituted_at t l loop x array live last q p alike in_order absent not_variable (λ S ts y a v k fit n w sound. substituted_run q S ts y a v k fit n w sound) may kept) kept (λ n. untouched start (n ∷ []))
+          u valid_new exchanged.0 exchanged.1 exchanged.2 (sym (ap (λ (r : Run). r.acts) new_run)) (subst (λ (zs : List Act). HasNoRace (accesses zs)) (sym exchanged.1) old_free))
 
     -- the program keeps its meaning
     pub expanded_keeps : Keeps t u

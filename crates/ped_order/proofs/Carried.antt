@@ -1,14 +1,9 @@
 -- A race that is reported has a dependence that a PARALLEL DO carries.
-use Rattle.std.proofs.Common.{◌≡◌, ℕ, List, ◌∷◌, ◌++◌, subst, ◌∙◌, append_assoc}
+use Rattle.std.proofs.Common.{◌≡◌, ℕ, List, ◌∷◌, subst, ◌∙◌, append_assoc}
 use Rattle.ped_tree.specs.Tree.{ProgramTree}
-use Rattle.ped_symbols.specs.NameRefusals.{IsValid}
-use Rattle.ped_store.specs.Cells.{Cell}
 use Rattle.ped_store.specs.Races.{Access, accesses}
 use Rattle.ped_edges.specs.Edges.{Edge}
-use Rattle.ped_graph.specs.Dependences.{AreEdges}
-use Rattle.ped_eval.specs.Outcomes.{run_of}
 use Rattle.ped_conflicts.specs.Covered.{ComeInRun, IsCarriedInParallel}
-use Rattle.ped_order.specs.FirstRaces.{IsRaceAt}
 use Rattle.ped_order.specs.Reports.{Report, NoRace, Race, Fault, IsReport}
 use Rattle.ped_order.specs.CarriedRaces.{IsCarried}
 

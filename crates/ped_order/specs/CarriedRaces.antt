@@ -1,5 +1,5 @@
 -- Races and the dependences that cover them (Allen and Kennedy, section 2.2.5; ParaScope).
-use Rattle.std.specs.Prelude.{ℕ, List}
+use Rattle.std.specs.Prelude.{List}
 use Rattle.ped_tree.specs.Tree.{ProgramTree}
 use Rattle.ped_edges.specs.Edges.{Edge}
 use Rattle.ped_conflicts.specs.Covered.{IsCarriedInParallel}

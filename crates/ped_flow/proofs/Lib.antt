@@ -14,3 +14,7 @@ pub mod RowLaws
 pub mod RowSums
 pub mod Placing
 pub mod Marks
+pub mod PartSums
+pub mod Touching
+pub mod EventRows
+pub mod Known

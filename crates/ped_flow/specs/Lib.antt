@@ -10,4 +10,7 @@ pub mod Escapes
 pub mod RowPlaces
 pub mod RowWidths
 pub mod Rows
+pub mod Parts
 pub mod RowMarks
+pub mod Made
+pub mod Entries

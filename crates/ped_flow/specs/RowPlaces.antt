@@ -14,3 +14,7 @@ bit row i = slice_index_or row i false
 pub record AreMarked (names : List (List ℕ)) (old new : List Bool) (xs : List (List ℕ)) : Type 0 where
   pub width : length new ≡ length old
   pub marked : (x : List ℕ) (i : ℕ) → place_of names x ≡ Some i → bit new i ≡ (bit old i || is_among x xs)
+
+-- a row has the places of these names and no others of names that have one
+abbrev pub IsRowOf : List (List ℕ) → List Bool → List (List ℕ) → Type 0
+IsRowOf names row xs = (x : List ℕ) (i : ℕ) → place_of names x ≡ Some i → bit row i ≡ is_among x xs

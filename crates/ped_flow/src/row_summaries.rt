@@ -118,7 +118,7 @@ impl RowSummary {
     /// This part and then another.
     pub(crate) fn then(&mut self, alloc: Global, next: &RowSummary) -> Result<(), NoMemory>
         requires { self.old.width ≡ next.now.width }
-        ensures width { OnOk result (self.new.width ≡ self.old.width) }
+        ensures width { self.new.width ≡ self.old.width }
         ensures held { OnOk result ((i : ℕ) (a b : Summary) → Holds self.old i a → Holds next.now i b → Holds self.new i (Spec.sum_in_turn a b)) }
     {
         let reads = less(alloc, &next.reads, &self.overwritten)?;
@@ -136,7 +136,7 @@ impl RowSummary {
     /// Either this part or another.
     pub(crate) fn or(&mut self, alloc: Global, other: &RowSummary) -> Result<(), NoMemory>
         requires { self.old.width ≡ other.now.width }
-        ensures width { OnOk result (self.new.width ≡ self.old.width) }
+        ensures width { self.new.width ≡ self.old.width }
         ensures held { OnOk result ((i : ℕ) (a b : Summary) → Holds self.old i a → Holds other.now i b → Holds self.new i (Spec.sum_either a b)) }
     {
         let overwritten = common(alloc, &self.overwritten, &other.overwritten)?;

@@ -10,3 +10,11 @@ pub mod Answering
 pub mod LooseReads
 pub mod Escaping
 pub mod OutsideSteps
+pub mod RowLaws
+pub mod RowSums
+pub mod Placing
+pub mod Marks
+pub mod PartSums
+pub mod Touching
+pub mod EventRows
+pub mod Known

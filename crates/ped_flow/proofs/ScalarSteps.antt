@@ -13,28 +13,28 @@ use Rattle.ped_flow.specs.Summaries.{sum_in_turn, sum_events}
 use Rattle.ped_flow.specs.declared.summaries.Summary.{Summary}
 use Rattle.ped_flow.proofs.SumLaws.{in_turn-assoc, reads-append}
 
-expr_tree-Add : (a b : Box Expr) → expr_tree (variant.Add a b) ≡ plain.Add (expr_tree a.value) (expr_tree b.value)
+pub expr_tree-Add : (a b : Box Expr) → expr_tree (variant.Add a b) ≡ plain.Add (expr_tree a.value) (expr_tree b.value)
 expr_tree-Add a b = search (rules, variant.the_lemmas)
 
-expr_tree-Sub : (a b : Box Expr) → expr_tree (variant.Sub a b) ≡ plain.Sub (expr_tree a.value) (expr_tree b.value)
+pub expr_tree-Sub : (a b : Box Expr) → expr_tree (variant.Sub a b) ≡ plain.Sub (expr_tree a.value) (expr_tree b.value)
 expr_tree-Sub a b = search (rules, variant.the_lemmas)
 
-expr_tree-Mul : (a b : Box Expr) → expr_tree (variant.Mul a b) ≡ plain.Mul (expr_tree a.value) (expr_tree b.value)
+pub expr_tree-Mul : (a b : Box Expr) → expr_tree (variant.Mul a b) ≡ plain.Mul (expr_tree a.value) (expr_tree b.value)
 expr_tree-Mul a b = search (rules, variant.the_lemmas)
 
-expr_tree-Div : (a b : Box Expr) → expr_tree (variant.Div a b) ≡ plain.Div (expr_tree a.value) (expr_tree b.value)
+pub expr_tree-Div : (a b : Box Expr) → expr_tree (variant.Div a b) ≡ plain.Div (expr_tree a.value) (expr_tree b.value)
 expr_tree-Div a b = search (rules, variant.the_lemmas)
 
-expr_tree-Pow : (a b : Box Expr) → expr_tree (variant.Pow a b) ≡ plain.Pow (expr_tree a.value) (expr_tree b.value)
+pub expr_tree-Pow : (a b : Box Expr) → expr_tree (variant.Pow a b) ≡ plain.Pow (expr_tree a.value) (expr_tree b.value)
 expr_tree-Pow a b = search (rules, variant.the_lemmas)
 
-cond_tree-Rel : (r : Relation) (a b : Expr) → cond_tree (cond.Rel r a b) ≡ plain.Rel r (expr_tree a) (expr_tree b)
+pub cond_tree-Rel : (r : Relation) (a b : Expr) → cond_tree (cond.Rel r a b) ≡ plain.Rel r (expr_tree a) (expr_tree b)
 cond_tree-Rel r a b = search (rules, cond.the_lemmas)
 
-cond_tree-And : (a b : Box Cond) → cond_tree (cond.And a b) ≡ plain.And (cond_tree a.value) (cond_tree b.value)
+pub cond_tree-And : (a b : Box Cond) → cond_tree (cond.And a b) ≡ plain.And (cond_tree a.value) (cond_tree b.value)
 cond_tree-And a b = search (rules, cond.the_lemmas)
 
-cond_tree-Or : (a b : Box Cond) → cond_tree (cond.Or a b) ≡ plain.Or (cond_tree a.value) (cond_tree b.value)
+pub cond_tree-Or : (a b : Box Cond) → cond_tree (cond.Or a b) ≡ plain.Or (cond_tree a.value) (cond_tree b.value)
 cond_tree-Or a b = search (rules, cond.the_lemmas)
 
 -- reads of two parts

@@ -172,7 +172,7 @@ pub events-append : (x : List ℕ) (p q : List Event) → sum_events x (p ++ q) 
 events-append x [] q = refl
 events-append x (e ∷ p) q = ap (sum_in_turn (sum_event x e)) (events-append x p q) ∙ sym (in_turn-assoc (sum_event x e) (sum_events x p) (sum_events x q))
 
-events_of-append : (f : List ℕ → Event) (xs ys : List (List ℕ)) → map f (xs ++ ys) ≡ map f xs ++ map f ys
+pub events_of-append : (f : List ℕ → Event) (xs ys : List (List ℕ)) → map f (xs ++ ys) ≡ map f xs ++ map f ys
 events_of-append f [] ys = refl
 events_of-append f (x ∷ xs) ys = ap (λ (z : List Event). f x ∷ z) (events_of-append f xs ys)
 

@@ -7,3 +7,10 @@ pub mod Summaries
 pub mod Answers
 pub mod Kept
 pub mod Escapes
+pub mod RowPlaces
+pub mod RowWidths
+pub mod Rows
+pub mod Parts
+pub mod RowMarks
+pub mod Made
+pub mod Entries

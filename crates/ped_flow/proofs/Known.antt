@@ -1,0 +1,197 @@
+-- What a table knows of statements, as it grows.
+use Rattle.std.proofs.Common.{◌≡◌, ◌↔◌, IsTrue, ℕ, zero, suc, ◌+◌, ◌<◌, ◌≤◌, ◌≢◌, ◌⊎◌, inl, inr, List, [], length, map, drop, get_or, slice_set, Bool, true, false, Option, Some, None, is_some, refl, Result, Ok, Err, OnOk, sym, ap, subst, ◌∙◌, rules, arith}
+use Rattle.std.proofs.lemmas.List.{get_or-set_same, get_or-set_other}
+use Rattle.ped_tree.specs.Tree.{CondTree, Head, StmtTree, StmtTrees, Assign, If, Do, Print, Read, Stop, Comment, no_stmts, more_stmts}
+use Rattle.std.specs.Global.{Vec}
+use Rattle.ped_tree.specs.Views.{expr_tree, cond_tree, item_tree, stmt_tree, stmt_trees}
+use Rattle.ped_tree.specs.declared.expressions.Expr.{Expr}
+use Rattle.ped_tree.specs.declared.conditions.Cond.{Cond}
+use Rattle.ped_tree.specs.declared.statements.PrintItem.{PrintItem}
+use Rattle.ped_tree.specs.declared.statements.Do.{Do as DoLoop}
+use Rattle.ped_tree.specs.declared.statements.Stmt as variant
+use Rattle.ped_refs.specs.Loops.{head_of}
+use Rattle.ped_tree.specs.Numbering.{statement_count, statements_count}
+use Rattle.ped_tree.specs.declared.statements.Stmt.{Stmt}
+use Rattle.ped_affine.specs.Assigned.{loop_variables, all_loop_variables}
+use Rattle.ped_flow.specs.Summaries.{passing, sum_of}
+use Rattle.ped_flow.specs.Kept.{first_outside}
+use Rattle.ped_flow.specs.RowPlaces.{place_of, bit}
+use Rattle.ped_flow.specs.RowMarks.{names_in, constants_in}
+use Rattle.ped_flow.specs.Rows.{Holds}
+use Rattle.ped_flow.specs.Parts.{IsPart}
+use Rattle.ped_flow.specs.Made.{IsMade}
+use Rattle.ped_flow.specs.Entries.{entry_at, is_do, IsCycle, IsEntry, IsEntered, Knows, KnowsAll, KnowsInside, AreSameBut}
+use Rattle.ped_flow.specs.declared.summaries.Summary.{Summary}
+use Rattle.ped_flow.specs.declared.parts.Part.{Part}
+use Rattle.ped_flow.specs.declared.places.Places.{Places}
+use Rattle.ped_flow.specs.declared.entries.Cycle.{Cycle}
+use Rattle.ped_flow.specs.declared.entries.Entry.{Entry}
+use Rattle.ped_flow.proofs.ScalarSteps.{rest_is}
+
+-- an entry is written
+pub written_at : (table : List (Option Entry)) (n : ℕ) (e : Entry) → n < length table → entry_at (slice_set table n (Some e)) n ≡ Some e
+written_at table n e h = get_or-set_same table n (Some e) None h
+
+pub written_other : (table : List (Option Entry)) (n k : ℕ) (e : Entry) → k ≢ n → entry_at (slice_set table n (Some e)) k ≡ entry_at table k
+written_other table n k e h = get_or-set_other table n k (Some e) None h
+
+module _ (p : Places) where
+  entered : (table : List (Option Entry)) (s : StmtTree) (n : ℕ) (e : Entry) → IsEntry p e s n → entry_at table n ≡ Some e → IsEntered p table s n
+  entered table s n e h at = record { there = ap is_some at; is = λ f g. let same : e ≡ f = cc in subst (λ (z : Entry). IsEntry p z s n) same h }
+
+  entered_kept : (table other : List (Option Entry)) (s : StmtTree) (n : ℕ) → entry_at other n ≡ entry_at table n → IsEntered p table s n → IsEntered p other s n
+  entered_kept table other s n k h = record { there = ap is_some k ∙ h.there; is = λ e at. h.is e (sym k ∙ at) }
+
+  -- what is known of statements stays known where their entries do
+  mutual
+    pub knows_kept : (table other : List (Option Entry)) (s : StmtTree) (n : ℕ) → ((k : ℕ) → n ≤ k → k < n + statement_count s → entry_at other k ≡ entry_at table k) → Knows p table s n → Knows p other s n
+    knows_kept table other (Assign left right) n h k = entered_kept table other (Assign left right) n (h n (omega arith) (omega arith)) k
+    knows_kept table other (If c a b) n h k = (
+      entered_kept table other (If c a b) n (h n (omega arith) (omega arith)) k.0,
+      knows_all_kept table other a (n + 1) (λ j l m. h j (omega arith) (omega arith)) k.1,
+      knows_all_kept table other b (n + 1 + statements_count a) (λ j l m. h j (omega arith) (omega arith)) k.2,
+    )
+    knows_kept table other (Do g body) n h k = (entered_kept table other (Do g body) n (h n (omega arith) (omega arith)) k.0, knows_all_kept table other body (n + 1) (λ j l m. h j (omega arith) (omega arith)) k.1)
+    knows_kept table other (Print items) n h k = entered_kept table other (Print items) n (h n (omega arith) (omega arith)) k
+    knows_kept table other (Read items) n h k = entered_kept table other (Read items) n (h n (omega arith) (omega arith)) k
+    knows_kept table other Stop n h k = entered_kept table other Stop n (h n (omega arith) (omega arith)) k
+    knows_kept table other (Comment text) n h k = tt
+
+    pub knows_all_kept : (table other : List (Option Entry)) (ss : StmtTrees) (n : ℕ) → ((k : ℕ) → n ≤ k → k < n + statements_count ss → entry_at other k ≡ entry_at table k) → KnowsAll p table ss n → KnowsAll p other ss n
+    knows_all_kept table other no_stmts n h k = tt
+    knows_all_kept table other (more_stmts s rest) n h k = (knows_kept table other s n (λ j l m. h j l (omega arith)) k.0, knows_all_kept table other rest (n + statement_count s) (λ j l m. h j (omega arith) (omega arith)) k.1)
+
+  -- a statement is known where its entry and those in it are
+  pub knows_of : (table : List (Option Entry)) (s : StmtTree) (n : ℕ) (e : Entry) → entry_at table n ≡ Some e → IsEntry p e s n → KnowsInside p table s n → Knows p table s n
+  knows_of table (Assign left right) n e at h k = entered table (Assign left right) n e h at
+  knows_of table (If c a b) n e at h k = (entered table (If c a b) n e h at, k.0, k.1)
+  knows_of table (Do g body) n e at h k = (entered table (Do g body) n e h at, k)
+  knows_of table (Print items) n e at h k = entered table (Print items) n e h at
+  knows_of table (Read items) n e at h k = entered table (Read items) n e h at
+  knows_of table Stop n e at h k = entered table Stop n e h at
+  knows_of table (Comment text) n e at h k = tt
+
+  inside_kept : (table other : List (Option Entry)) (s : StmtTree) (n : ℕ) → ((k : ℕ) → n + 1 ≤ k → k < n + statement_count s → entry_at other k ≡ entry_at table k) → KnowsInside p table s n → KnowsInside p other s n
+  inside_kept table other (Assign left right) n h k = tt
+  inside_kept table other (If c a b) n h k = (knows_all_kept table other a (n + 1) (λ j l m. h j (omega arith) (omega arith)) k.0, knows_all_kept table other b (n + 1 + statements_count a) (λ j l m. h j (omega arith) (omega arith)) k.1)
+  inside_kept table other (Do g body) n h k = knows_all_kept table other body (n + 1) (λ j l m. h j (omega arith) (omega arith)) k
+  inside_kept table other (Print items) n h k = tt
+  inside_kept table other (Read items) n h k = tt
+  inside_kept table other Stop n h k = tt
+  inside_kept table other (Comment text) n h k = tt
+
+  -- a statement's entry is written behind those in it
+  pub knows_written : (table : List (Option Entry)) (s : StmtTree) (n : ℕ) (e : Entry) → n < length table → IsEntry p e s n → KnowsInside p table s n → Knows p (slice_set table n (Some e)) s n
+  knows_written table s n e w h k =
+      knows_of (slice_set table n (Some e)) s n e (written_at table n e w) h
+      (inside_kept table (slice_set table n (Some e)) s n (λ j l m. written_other table n j e (λ (z : j ≡ n). absurd (omega arith))) k)
+
+-- other entries stay
+pub same_then : (a b c : List (Option Entry)) (from mid to : ℕ) → from ≤ mid → mid ≤ to → AreSameBut a b from mid → AreSameBut b c mid to → AreSameBut a c from to
+same_then a b c from mid to f g h k j (inl l) = k j (inl (omega arith)) ∙ h j (inl l)
+same_then a b c from mid to f g h k j (inr l) = k j (inr l) ∙ h j (inr (omega arith))
+
+pub same_written : (a b : List (Option Entry)) (n to : ℕ) (e : Entry) → n < to → AreSameBut a b (n + 1) to → AreSameBut a (slice_set b n (Some e)) n to
+same_written a b n to e w h j (inl l) = written_other b n j e (λ (z : j ≡ n). absurd (omega arith)) ∙ h j (inl (omega arith))
+same_written a b n to e w h j (inr l) = written_other b n j e (λ (z : j ≡ n). absurd (omega arith)) ∙ h j (inr l)
+
+module _ (p : Places) (s : StmtTree) (n : ℕ) (part : Part) (behind : ℕ) (cycle : Option Cycle) (e : Entry) (made : IsMade part behind cycle e)
+    (is : IsPart (names_in p) part (λ x. sum_of (constants_in p) x s n) (λ x. first_outside (constants_in p) x s n) (loop_variables s)) (at : behind ≡ n + statement_count s) where
+  entry_is : is_some cycle ≡ is_do s → ((c : Cycle) (h : Head) (body : StmtTrees) → cycle ≡ Some c → s ≡ Do h body → IsCycle p c h body n) → IsEntry p e s n
+  entry_is kind loop = record {
+    part = subst (λ (q : Part). IsPart (names_in p) q (λ x. sum_of (constants_in p) x s n) (λ x. first_outside (constants_in p) x s n) (loop_variables s)) (sym made.part) is;
+    touched = λ x i w t. made.touched i (sum_of (constants_in p) x s n) (is.sums x i w) t;
+    behind = made.behind ∙ at;
+    kind = ap is_some made.cycle ∙ kind;
+    cycle = λ c g body k l. loop c g body (sym made.cycle ∙ k) l;
+  }
+
+  -- the entry of a statement that is no DO
+  pub plain_entry : cycle ≡ None → is_do s ≡ false → IsEntry p e s n
+  plain_entry none plain = entry_is (ap is_some none ∙ sym plain) (λ c h body k l. absurd (let z : None ≡ Some c = sym none ∙ k in cc))
+
+  -- the entry of a DO
+  pub do_entry : (c : Cycle) (h : Head) (body : StmtTrees) → cycle ≡ Some c → s ≡ Do h body → IsCycle p c h body n → IsEntry p e s n
+  do_entry c h body some is_loop loop = entry_is (ap is_some some ∙ sym (ap is_do is_loop)) by
+    where
+      by : (d : Cycle) (g : Head) (trees : StmtTrees) → cycle ≡ Some d → s ≡ Do g trees → IsCycle p d g trees n
+      by d g trees k l =
+          let whole : Do h body ≡ Do g trees = sym is_loop ∙ l in
+          let heads : h ≡ g = cc in
+          let bodies : body ≡ trees = cc in
+          let cycles : c ≡ d = let z : Some c ≡ Some d = sym some ∙ k in cc in
+          subst (λ (z : Cycle). IsCycle p z g trees n) cycles (subst (λ (z : StmtTrees). IsCycle p c g z n) bodies (subst (λ (z : Head). IsCycle p c z body n) heads loop))
+
+-- what holds anyway holds of an answer
+pub on_ok : {X E : Type 0} {A : Type 0} (r : Result X E) → A → OnOk r A
+on_ok (Ok x) a = a
+on_ok (Err e) a = tt
+
+-- the parts of an IF
+module _ (p : Places) (t u v : List (Option Entry)) (c : CondTree) (a b : StmtTrees) (n m : ℕ) (at : m ≡ n + 1 + statements_count a) where
+  pub if_known : KnowsAll p u a (n + 1) → KnowsAll p v b m → AreSameBut u v m (m + statements_count b) → KnowsInside p v (If c a b) n
+  if_known h k same = (knows_all_kept p u v a (n + 1) (λ j l w. same j (inl (omega arith))) h, subst (λ (z : ℕ). KnowsAll p v b z) at k)
+
+  pub if_others : AreSameBut t u (n + 1) (n + 1 + statements_count a) → AreSameBut u v m (m + statements_count b) → AreSameBut t v (n + 1) (n + statement_count (If c a b))
+  if_others h k j (inl l) = k j (inl (omega arith)) ∙ h j (inl l)
+  if_others h k j (inr l) = k j (inr (omega arith)) ∙ h j (inr (omega arith))
+
+  pub if_count : (k : ℕ) → k ≡ m + statements_count b → k ≡ n + statement_count (If c a b)
+  if_count k h = omega arith
+
+-- one more statement of a list
+module _ (p : Places) (body : List Stmt) (i : ℕ) (s : Stmt) (within : i < length body) (is : s ≡ get_or body i s) (n m : ℕ) (k : m ≡ n + statement_count (stmt_tree s)) (first : ℕ) (old now new : List (Option Entry)) where
+  pub known_next : ((table : List (Option Entry)) → ((j : ℕ) → j < n → entry_at table j ≡ entry_at now j) → KnowsAll p table (stmt_trees (drop i body)) n → KnowsAll p table (stmt_trees body) first)
+      → Knows p new (stmt_tree s) n → AreSameBut now new n (n + statement_count (stmt_tree s))
+      → (table : List (Option Entry)) → ((j : ℕ) → j < m → entry_at table j ≡ entry_at new j) → KnowsAll p table (stmt_trees (drop (i + 1) body)) m → KnowsAll p table (stmt_trees body) first
+  known_next inv h same table f g =
+      inv table (λ j l. f j (omega arith) ∙ same j (inl l))
+      (subst (λ (ss : StmtTrees). KnowsAll p table ss n) (sym (ap stmt_trees (rest_is body i s within is)))
+          (knows_kept p new table (stmt_tree s) n (λ j l w. f j (omega arith)) h, subst (λ (z : ℕ). KnowsAll p table (stmt_trees (drop (i + 1) body)) z) k g))
+
+  pub others_next : first ≤ n → AreSameBut old now first n → AreSameBut now new n (n + statement_count (stmt_tree s)) → AreSameBut old new first m
+  others_next w h same j (inl l) = same j (inl (omega arith)) ∙ h j (inl l)
+  others_next w h same j (inr l) = same j (inr (omega arith)) ∙ h j (inr (omega arith))
+
+-- the trees of statements
+pub tree-Stop : stmt_tree variant.Stop ≡ Stop
+tree-Stop = search (rules, variant.the_lemmas)
+
+pub tree-Comment : (text : List ℕ) → stmt_tree (variant.Comment text) ≡ Comment text
+tree-Comment text = search (rules, variant.the_lemmas)
+
+pub tree-Assign : (left right : Expr) → stmt_tree (variant.Assign left right) ≡ Assign (expr_tree left) (expr_tree right)
+tree-Assign left right = search (rules, variant.the_lemmas)
+
+pub tree-Print : (v : Vec PrintItem) → stmt_tree (variant.Print v) ≡ Print (map item_tree v.items)
+tree-Print v = search (rules, variant.the_lemmas)
+
+pub tree-Read : (v : Vec Expr) → stmt_tree (variant.Read v) ≡ Read (map expr_tree v.items)
+tree-Read v = search (rules, variant.the_lemmas)
+
+pub tree-If : (c : Cond) (a b : Vec Stmt) → stmt_tree (variant.If c a b) ≡ If (cond_tree c) (stmt_trees a.items) (stmt_trees b.items)
+tree-If c a b = search (rules, variant.the_lemmas)
+
+pub tree-Do : (d : DoLoop) → stmt_tree (variant.Do d) ≡ Do (head_of d) (stmt_trees d.body.items)
+tree-Do d = search (rules, variant.the_lemmas)
+
+-- a statement without a number is a comment
+module _ (p : Places) (table : List (Option Entry)) (cs : List (List ℕ)) (x : List ℕ) (n : ℕ) where
+  pub unnumbered : (s : StmtTree) → statement_count s ≡ 0 → (sum_of cs x s n ≡ passing) × (first_outside cs x s n ≡ None) × (loop_variables s ≡ []) × Knows p table s n
+  unnumbered (Assign left right) h = absurd (omega arith)
+  unnumbered (If c a b) h = absurd (omega arith)
+  unnumbered (Do g body) h = absurd (omega arith)
+  unnumbered (Print items) h = absurd (omega arith)
+  unnumbered (Read items) h = absurd (omega arith)
+  unnumbered Stop h = absurd (omega arith)
+  unnumbered (Comment text) h = (refl, refl, refl, tt)
+
+pub uncounted : (r : Bool) (n : ℕ) → r ≡ false → IsTrue r ↔ (0 < n) → n ≡ 0
+uncounted r n h k = by n refl
+  where
+    not_so : r ≡ false → r ≡ true → ⊥
+    not_so i j = let z : false ≡ true = sym i ∙ j in cc
+
+    by : (m : ℕ) → n ≡ m → n ≡ 0
+    by zero e = e
+    by (suc m) e = absurd (not_so h (k.1 (omega arith)))

@@ -1,0 +1,18 @@
+use Rattle.std.proofs.Common.{List, Bool, sym, ap, subst, ◌∙◌, if◌then◌else◌}
+use Rattle.ped_tree.specs.Views.{stmt_trees}
+use Rattle.ped_refs.specs.Loops.{head_of}
+use Rattle.ped_flow.specs.Events.{clears, copied}
+use Rattle.ped_flow.specs.Summaries.{passing, of_manner}
+use Rattle.ped_flow.specs.Rows.{Holds}
+use Rattle.ped_flow.specs.declared.summaries.Summary.{Summary}
+use Rattle.ped_flow.proofs.SumLaws.{cleared}
+use Rattle.ped_flow.proofs.row_events.iterating.Goals as goal
+
+pub returns-clause-held : goal.returns-clause-held
+returns-clause-held c = λ n f o k x i at.
+    let names = copied (head_of c.args.d.now) (stmt_trees c.args.d.now.body.items) in
+    c.in_ok-then.ensures.held i _ (f x)
+    (subst (λ (m : Summary). Holds c.in_ok-iteration.iteration i m)
+        (ap (λ (b : Bool). if b then of_manner clears 0 else passing) (c.in_ok-copies.ensures.row k.indices x i at) ∙ sym (cleared x n names))
+        (c.in_ok-iteration.ensures.held i))
+    (k.sums x i at)

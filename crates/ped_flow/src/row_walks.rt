@@ -1,0 +1,208 @@
+//! What the paths of statements do to many scalars, statement by statement, with what is known of each.
+
+ghost use Rattle.std.specs.Prelude.{◌≡◌, ◌+◌, ◌<◌, ◌≤◌, ◌^◌, ◌++◌, ◌↔◌, ℕ, List, Option, length, IsTrue, IfOk, OnOk};
+ghost use Rattle.ped_tree.specs.Tree;
+ghost use Rattle.ped_tree.specs.Views.{cond_tree, stmt_tree, stmt_trees};
+ghost use Rattle.ped_tree.specs.Numbering.{statement_count, statements_count};
+ghost use Rattle.ped_refs.specs.Loops.{head_of};
+ghost use Rattle.ped_affine.specs.Assigned.{loop_variables, all_loop_variables};
+ghost use Rattle.ped_flow.specs.Events as Event;
+ghost use Rattle.ped_flow.specs.Summaries as Spec;
+ghost use Rattle.ped_flow.specs.Kept.{first_reader, first_outside, all_first_outside};
+ghost use Rattle.ped_flow.specs.RowMarks.{names_in, constants_in};
+ghost use Rattle.ped_flow.specs.Parts.{IsPart};
+ghost use Rattle.ped_flow.specs.Entries.{IsEntry, Knows, KnowsAll, KnowsInside, AreSameBut};
+ghost use Rattle.ped_flow.specs.declared.summaries.Summary.{Summary};
+
+use crate::entries::{Cycle, Entry};
+use crate::parts::Part;
+use crate::places::Places;
+use crate::row_events::{
+    assignment, deciding, entering, iterating, printing, reading, tripping,
+};
+use ped_base::NoMemory;
+use ped_tree::{Cond, Do, Stmt};
+use std::alloc::Global;
+
+/// What statements do to the scalars that have places. The number of the first becomes that of the statement behind them.
+/// The table gets to know each of them.
+#[cycle(rows)]
+pub(crate) fn all_parts(
+    alloc: Global,
+    places: &Places,
+    table: &mut [Option<Entry>],
+    body: &[Stmt],
+    number: &mut u32,
+) -> Result<Part, NoMemory>
+    requires few { number.old + statements_count (stmt_trees body.now) < 2 ^ 32 }
+    requires room { number.old + statements_count (stmt_trees body.now) ≤ length table.old }
+    ensures number { OnOk result (number.new ≡ number.old + statements_count (stmt_trees body.now)) }
+    ensures part { IfOk result (λ p. IsPart (names_in places.now) p (λ x. Spec.sum_of_all (constants_in places.now) x (stmt_trees body.now) number.old) (λ x. all_first_outside (constants_in places.now) x (stmt_trees body.now) number.old) (all_loop_variables (stmt_trees body.now))) }
+    ensures known { OnOk result (KnowsAll places.now table.new (stmt_trees body.now) number.old) }
+    ensures others { OnOk result (AreSameBut table.old table.new number.old (number.old + statements_count (stmt_trees body.now))) }
+{
+    let mut part = Part::nothing(alloc, places.names.len())?;
+    for s in body {
+        add_part(alloc, places, table, &mut part, s, number)?;
+    }
+    Ok(part)
+}
+
+/// What a statement does behind what others do. Its number becomes that of the statement behind it.
+#[cycle(rows)]
+fn add_part(
+    alloc: Global,
+    places: &Places,
+    table: &mut [Option<Entry>],
+    part: &mut Part,
+    s: &Stmt,
+    number: &mut u32,
+) -> Result<(), NoMemory>
+    requires few { number.old + statement_count (stmt_tree s.now) < 2 ^ 32 }
+    requires room { number.old + statement_count (stmt_tree s.now) ≤ length table.old }
+    requires wide { part.old.sums.width ≡ length (names_in places.now) }
+    ensures number { OnOk result (number.new ≡ number.old + statement_count (stmt_tree s.now)) }
+    ensures part { OnOk result ((f : List ℕ → Summary) (o : List ℕ → Option ℕ) (u : List (List ℕ)) → IsPart (names_in places.now) part.old f o u → IsPart (names_in places.now) part.new (λ x. Spec.sum_in_turn (f x) (Spec.sum_of (constants_in places.now) x (stmt_tree s.now) number.old)) (λ x. Spec.least_of (o x) (first_outside (constants_in places.now) x (stmt_tree s.now) number.old)) (u ++ loop_variables (stmt_tree s.now))) }
+    ensures known { OnOk result (Knows places.now table.new (stmt_tree s.now) number.old) }
+    ensures others { OnOk result (AreSameBut table.old table.new number.old (number.old + statement_count (stmt_tree s.now))) }
+{
+    if !is_numbered(s) {
+        return Ok(());
+    }
+    let own = *number;
+    let entry = entry_of(alloc, places, table, s, number)?;
+    part.then(alloc, &entry.part)?;
+    table[own as usize] = Some(entry);
+    Ok(())
+}
+
+/// Whether a statement has a number, as each but a comment has.
+fn is_numbered(s: &Stmt) -> bool
+    ensures { IsTrue result ↔ (0 < statement_count (stmt_tree s.now)) }
+{
+    match s {
+        Stmt::Comment(_) => {
+            return false;
+        }
+        Stmt::Stop => {
+            return true;
+        }
+        Stmt::Assign { left: _, right: _ } => {
+            return true;
+        }
+        Stmt::Print(_) => {
+            return true;
+        }
+        Stmt::Read(_) => {
+            return true;
+        }
+        Stmt::If {
+            condition: _,
+            then_part: _,
+            else_part: _,
+        } => {
+            return true;
+        }
+        Stmt::Do(_) => {
+            return true;
+        }
+    }
+}
+
+/// What is known of a statement. Its number becomes that of the statement behind it.
+#[cycle(rows)]
+fn entry_of(
+    alloc: Global,
+    places: &Places,
+    table: &mut [Option<Entry>],
+    s: &Stmt,
+    number: &mut u32,
+) -> Result<Entry, NoMemory>
+    requires few { number.old + statement_count (stmt_tree s.now) < 2 ^ 32 }
+    requires room { number.old + statement_count (stmt_tree s.now) ≤ length table.old }
+    ensures number { OnOk result (number.new ≡ number.old + statement_count (stmt_tree s.now)) }
+    ensures entry { IfOk result (λ e. IsEntry places.now e (stmt_tree s.now) number.old) }
+    ensures known { OnOk result (KnowsInside places.now table.new (stmt_tree s.now) number.old) }
+    ensures others { OnOk result (AreSameBut table.old table.new (number.old + 1) (number.old + statement_count (stmt_tree s.now))) }
+{
+    let own = *number;
+    match s {
+        Stmt::Comment(_) => {
+            let part = Part::nothing(alloc, places.names.len())?;
+            return Entry::new(alloc, part, own, None);
+        }
+        Stmt::Stop => {
+            *number = own + 1;
+            let part = Part::stopped(alloc, places.names.len())?;
+            return Entry::new(alloc, part, own + 1, None);
+        }
+        Stmt::Assign { left, right } => {
+            *number = own + 1;
+            let part = assignment(alloc, places, left, right)?;
+            return Entry::new(alloc, part, own + 1, None);
+        }
+        Stmt::Print(items) => {
+            *number = own + 1;
+            let part = printing(alloc, places, items)?;
+            return Entry::new(alloc, part, own + 1, None);
+        }
+        Stmt::Read(items) => {
+            *number = own + 1;
+            let part = reading(alloc, places, items)?;
+            return Entry::new(alloc, part, own + 1, None);
+        }
+        Stmt::If {
+            condition: c,
+            then_part,
+            else_part,
+        } => {
+            *number = own + 1;
+            let first = all_parts(alloc, places, table, then_part, number)?;
+            let second = all_parts(alloc, places, table, else_part, number)?;
+            let part = branching(alloc, places, c, first, &second)?;
+            return Entry::new(alloc, part, *number, None);
+        }
+        Stmt::Do(d) => {
+            *number = own + 1;
+            let body = all_parts(alloc, places, table, &d.body, number)?;
+            return loop_entry(alloc, places, d, &body, *number);
+        }
+    }
+}
+
+/// An IF, from what its parts do.
+fn branching(
+    alloc: Global,
+    places: &Places,
+    c: &Cond,
+    first: Part,
+    second: &Part,
+) -> Result<Part, NoMemory>
+    requires first { first.sums.width ≡ length (names_in places.now) }
+    requires second { second.now.sums.width ≡ length (names_in places.now) }
+    ensures { IfOk result (λ p. (n : ℕ) (f g : List ℕ → Summary) (o q : List ℕ → Option ℕ) (u v : List (List ℕ)) → IsPart (names_in places.now) first f o u → IsPart (names_in places.now) second.now g q v → IsPart (names_in places.now) p (λ x. Spec.sum_in_turn (Spec.sum_events x (Event.reads_of n (Event.scalars_in_cond (constants_in places.now) (cond_tree c.now)))) (Spec.sum_either (f x) (g x))) (λ x. Spec.least_of (first_reader x (Event.reads_of n (Event.scalars_in_cond (constants_in places.now) (cond_tree c.now)))) (Spec.least_of (o x) (q x))) (u ++ v)) }
+{
+    let mut parts = first;
+    parts.or(alloc, second)?;
+    let mut part = deciding(alloc, places, c)?;
+    part.then(alloc, &parts)?;
+    Ok(part)
+}
+
+/// What is known of a DO, from what its body does.
+fn loop_entry(
+    alloc: Global,
+    places: &Places,
+    d: &Do,
+    body: &Part,
+    behind: u32,
+) -> Result<Entry, NoMemory>
+    requires { body.now.sums.width ≡ length (names_in places.now) }
+    ensures { IfOk result (λ e. (n : ℕ) → IsPart (names_in places.now) body.now (λ x. Spec.sum_of_all (constants_in places.now) x (stmt_trees d.now.body.items) (n + 1)) (λ x. all_first_outside (constants_in places.now) x (stmt_trees d.now.body.items) (n + 1)) (all_loop_variables (stmt_trees d.now.body.items)) → behind ≡ n + (statements_count (stmt_trees d.now.body.items) + 1) → IsEntry places.now e (Tree.Do (head_of d.now) (stmt_trees d.now.body.items)) n) }
+{
+    let iteration = iterating(alloc, places, d, body)?;
+    let trips = tripping(alloc, places, d, body, &iteration)?;
+    let mut part = entering(alloc, places, d)?;
+    part.then(alloc, &trips)?;
+    Entry::new(alloc, part, behind, Some(Cycle { iteration, trips }))
+}

@@ -67,14 +67,14 @@ impl Watch for Told {
 
 #[test]
 fn a_read_is_told_item_by_item(rt: HostRuntime) -> Result<(), Fail> {
-    let told = told(rt.alloc(), READ, "2 7\n")?;
+    let told = accesses_of(rt.alloc(), READ, "2 7\n")?;
     assert_eq!(rt; told.as_str(), "w (IN) 1.1\nw K 1.2\nr K 1.3\nw A(2) 1.4\n");
     Ok(())
 }
 
 #[test]
 fn loops_are_told_with_their_copies_and_exits(rt: HostRuntime) -> Result<(), Fail> {
-    let told = told(rt.alloc(), LOOPS, "")?;
+    let told = accesses_of(rt.alloc(), LOOPS, "")?;
     let expected = "w K 1.1
 r K 2.1
 r I' 3.0 P2:1=1
@@ -105,7 +105,7 @@ r L 7.1
 }
 
 /// The accesses of the program of a text on these data.
-fn told(alloc: Global, text: &str, data: &str) -> Result<String, Fail> {
+fn accesses_of(alloc: Global, text: &str, data: &str) -> Result<String, Fail> {
     let opened = open_program(alloc, text.as_bytes())?;
     let mut watch = Told {
         lines: String::new(alloc),

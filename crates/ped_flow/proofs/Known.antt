@@ -147,7 +147,7 @@ module _ (p : Places) (body : List Stmt) (i : ℕ) (s : Stmt) (within : i < leng
   known_next inv h same table f g =
       inv table (λ j l. f j (omega arith) ∙ same j (inl l))
       (subst (λ (ss : StmtTrees). KnowsAll p table ss n) (sym (ap stmt_trees (rest_is body i s within is)))
-          (knows_kept p new table (stmt_tree s) n (λ j l w. f j (omega arith)) h, subst (λ (z : ℕ). KnowsAll p table (stmt_trees (drop (i + 1) body)) z) k g))
+      (knows_kept p new table (stmt_tree s) n (λ j l w. f j (omega arith)) h, subst (λ (z : ℕ). KnowsAll p table (stmt_trees (drop (i + 1) body)) z) k g))
 
   pub others_next : first ≤ n → AreSameBut old now first n → AreSameBut now new n (n + statement_count (stmt_tree s)) → AreSameBut old new first m
   others_next w h same j (inl l) = same j (inl (omega arith)) ∙ h j (inl l)

@@ -35,7 +35,11 @@ impl RowSummary {
     ghost use Rattle.ped_flow.specs.declared.summaries.Summary.{Summary};
 
     /// Paths that go on, on which these scalars are read and then those overwritten by a value.
-    pub(crate) fn of_events(alloc: Global, reads: Row, overwritten: Row) -> Result<RowSummary, NoMemory>
+    pub(crate) fn of_events(
+        alloc: Global,
+        reads: Row,
+        overwritten: Row,
+    ) -> Result<RowSummary, NoMemory>
         requires { length reads ≡ length overwritten }
         ensures width { IfOk result (λ r. r.width ≡ length reads) }
         ensures held { IfOk result (λ r. (i : ℕ) (m : Summary) → bit reads i ≡ is_some m.first → bit overwritten i ≡ not m.keeps → m.ends ≡ false → not m.passes ≡ false → m.loses ≡ false → Holds r i m) }

@@ -17,9 +17,7 @@ ghost use Rattle.ped_flow.specs.declared.summaries.Summary.{Summary};
 use crate::entries::{Cycle, Entry};
 use crate::parts::Part;
 use crate::places::Places;
-use crate::row_events::{
-    assignment, deciding, entering, iterating, printing, reading, tripping,
-};
+use crate::row_events::{assignment, deciding, entering, iterating, printing, reading, tripping};
 use ped_base::NoMemory;
 use ped_tree::{Cond, Do, Stmt};
 use std::alloc::Global;

@@ -12,5 +12,5 @@ returns c =
     let reads = marked_then names c.in_ok-reads.reads c.mark_expression.new.row c.mark_read.new.row (scalars_in cs (expr_tree c.args.right.now)) (read_left cs (expr_tree c.args.left.now)) c.mark_expression.ensures c.mark_read.ensures in
     if_ok c.of_events.result
     (λ p h n. h names _ _ _ _ (marked_wide names _ _ _ _ c.in_ok-reads.ensures c.len-width.ensures reads) (row_marked names _ _ _ _ c.in_ok-reads.ensures reads) (row_marked names _ _ _ _ c.in_ok-assigned.ensures c.mark_assigned.ensures)
-        (simple_events n _ _ _ (assignment_split cs n (scalars_in cs (expr_tree c.args.right.now)) (expr_tree c.args.left.now))))
+    (simple_events n _ _ _ (assignment_split cs n (scalars_in cs (expr_tree c.args.right.now)) (expr_tree c.args.left.now))))
     c.of_events.ensures

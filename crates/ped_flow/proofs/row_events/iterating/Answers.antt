@@ -13,6 +13,6 @@ returns-clause-held c = λ n f o k x i at.
     let names = copied (head_of c.args.d.now) (stmt_trees c.args.d.now.body.items) in
     c.in_ok-then.ensures.held i _ (f x)
     (subst (λ (m : Summary). Holds c.in_ok-iteration.iteration i m)
-        (ap (λ (b : Bool). if b then of_manner clears 0 else passing) (c.in_ok-copies.ensures.row k.indices x i at) ∙ sym (cleared x n names))
-        (c.in_ok-iteration.ensures.held i))
+    (ap (λ (b : Bool). if b then of_manner clears 0 else passing) (c.in_ok-copies.ensures.row k.indices x i at) ∙ sym (cleared x n names))
+    (c.in_ok-iteration.ensures.held i))
     (k.sums x i at)

@@ -9,5 +9,5 @@ returns c =
     let cs = constants_in c.args.places.now in
     if_ok c.of_events.result
     (λ p h n. h names _ _ _ _ (marked_wide names _ _ _ _ c.in_ok-reads.ensures c.len-width.ensures c.mark_read.ensures) (row_marked names _ _ _ _ c.in_ok-reads.ensures c.mark_read.ensures) (row_marked names _ _ _ _ c.in_ok-assigned.ensures c.mark_assigned.ensures)
-        (simple_events n _ _ _ (left_split cs n (expr_tree c.args.left.now))))
+    (simple_events n _ _ _ (left_split cs n (expr_tree c.args.left.now))))
     c.of_events.ensures

@@ -37,8 +37,8 @@ returns-clause-part c = λ n f o k h.
       width = c.in_ok-then.ensures.width ∙ c.in_ok-sums.ensures.width ∙ c.requires.iteration;
       sums = λ x i at. c.in_ok-then.ensures.held i _ _ (c.in_ok-sums.ensures.held i _ (h x i at))
           (subst (λ (m : Summary). Holds c.in_ok-exit.exit i m)
-              (ap (λ (z : Bool). if z then of_manner clears 0 else passing) (c.in_ok-left.ensures.row k.indices x i at) ∙ sym (cleared x n left))
-              (c.in_ok-exit.ensures.held i));
+          (ap (λ (z : Bool). if z then of_manner clears 0 else passing) (c.in_ok-left.ensures.row k.indices x i at) ∙ sym (cleared x n left))
+          (c.in_ok-exit.ensures.held i));
       loose = trips_loose names b f o variables y k _ at_y wide _ c.in_ok-loose.ensures;
       indices = trips_indices names b f o variables y k _ at_y wide _ c.or_into.ensures;
       placed = trips_placed names b f o variables y k _ at_y wide _ (c.both-placed.ensures ∙ ap (λ (z : Bool). b.placed && z) (c.is_some.ensures ∙ ap is_some c.place.ensures));

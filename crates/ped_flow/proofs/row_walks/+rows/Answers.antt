@@ -72,9 +72,9 @@ entry_of-returns-in-If t c =
     let s = plain.If (cond_tree c.in-If.c) a b in
     let tree : s ≡ stmt_tree c.args.s.now = sym (ap stmt_tree c.in-If.is ∙ tree-If c.in-If.c c.in-If.then_part c.in-If.else_part ∙ (λ j. plain.If (cond_tree c.in-If.c) (stmt_trees (sym c.deref-in-If.ensures.value j)) (stmt_trees (sym c.deref-in-If-2.ensures.value j)))) in
     let part = subst (λ (k : ℕ). IsPart (names_in p) c.in_ok-part-in-If.part
-        (λ x. sum_in_turn (sum_events x (reads_of n (scalars_in_cond (constants_in p) (cond_tree c.in-If.c)))) (sum_either (sum_of_all (constants_in p) x a (n + 1)) (sum_of_all (constants_in p) x b k)))
-        (λ x. least_of (first_reader x (reads_of n (scalars_in_cond (constants_in p) (cond_tree c.in-If.c)))) (least_of (all_first_outside (constants_in p) x a (n + 1)) (all_first_outside (constants_in p) x b k)))
-        (all_loop_variables a ++ all_loop_variables b)) first.number (c.in_ok-part-in-If.ensures n _ _ _ _ _ _ first.part second.part) in
+    (λ x. sum_in_turn (sum_events x (reads_of n (scalars_in_cond (constants_in p) (cond_tree c.in-If.c)))) (sum_either (sum_of_all (constants_in p) x a (n + 1)) (sum_of_all (constants_in p) x b k)))
+    (λ x. least_of (first_reader x (reads_of n (scalars_in_cond (constants_in p) (cond_tree c.in-If.c)))) (least_of (all_first_outside (constants_in p) x a (n + 1)) (all_first_outside (constants_in p) x b k)))
+    (all_loop_variables a ++ all_loop_variables b)) first.number (c.in_ok-part-in-If.ensures n _ _ _ _ _ _ first.part second.part) in
     record {
       number = on_ok c.new-in-If.result (if_count p [] [] [] (cond_tree c.in-If.c) a b n m first.number c.all_parts-in-If.new.number second.number ∙ ap (λ (z : StmtTree). n + statement_count z) tree);
       entry = subst (λ (z : StmtTree). IfOk c.new-in-If.result (λ e. IsEntry p e z n)) tree
@@ -93,7 +93,7 @@ entry_of-returns-in-Do t c =
     let body = c.in_ok-body-in-Do.ensures in
     let tree : plain.Do (head_of d) (stmt_trees d.body.items) ≡ stmt_tree c.args.s.now = sym (ap stmt_tree c.in-Do.is ∙ tree-Do d) in
     let count : c.all_parts-in-Do.new.number ≡ n + (statements_count (stmt_trees d.body.items) + 1) =
-        (let e : statements_count (stmt_trees c.deref-in-Do.result.now) ≡ statements_count (stmt_trees d.body.items) = ap (λ (ss : List Stmt). statements_count (stmt_trees ss)) c.deref-in-Do.ensures.value in omega (arith, e, body.number)) in
+    (let e : statements_count (stmt_trees c.deref-in-Do.result.now) ≡ statements_count (stmt_trees d.body.items) = ap (λ (ss : List Stmt). statements_count (stmt_trees ss)) c.deref-in-Do.ensures.value in omega (arith, e, body.number)) in
     let part = subst (λ (ss : List Stmt). IsPart (names_in p) c.in_ok-body-in-Do.body (λ x. sum_of_all (constants_in p) x (stmt_trees ss) (n + 1)) (λ x. all_first_outside (constants_in p) x (stmt_trees ss) (n + 1)) (all_loop_variables (stmt_trees ss))) c.deref-in-Do.ensures.value body.part in
     record {
       number = on_ok c.loop_entry.result (count ∙ ap (λ (z : StmtTree). n + statement_count z) tree);

@@ -20,8 +20,8 @@ returns c =
     let trees = stmt_trees c.args.d.now.body.items in
     if_ok c.new.result
     (λ e made n k at.
-        let held = c.in_ok-iteration.ensures.held n _ _ k in
-        let trips = c.in_ok-trips.ensures.part n _ _ k held in
-        do_entry c.args.places.now (Do h trees) n _ c.args.behind _ e made (c.in_ok-then.ensures.part names _ _ _ _ _ _ (c.in_ok-part.ensures n) trips) at _ h trees refl refl
-        record { wide = c.in_ok-iteration.ensures.width ∙ sym trips.width; iteration = held; trips = trips })
+    let held = c.in_ok-iteration.ensures.held n _ _ k in
+    let trips = c.in_ok-trips.ensures.part n _ _ k held in
+    do_entry c.args.places.now (Do h trees) n _ c.args.behind _ e made (c.in_ok-then.ensures.part names _ _ _ _ _ _ (c.in_ok-part.ensures n) trips) at _ h trees refl refl
+    record { wide = c.in_ok-iteration.ensures.width ∙ sym trips.width; iteration = held; trips = trips })
     c.new.ensures

@@ -1,7 +1,9 @@
 mod Accepted
 mod Answering
+mod Doing
 mod Examples
 mod HistoryMoves
+mod KeptMeanings
 mod LinesLeft
 mod Moves
 pub mod OneAnswer

@@ -1,5 +1,5 @@
 -- Transformations keep the meaning of a session's programs.
-use Rattle.std.proofs.Common.{◌≡◌, inl, inr, ℕ, List, [], ◌∷◌, Option, Some, None, refl, sym, ap, ◌∙◌, subst}
+use Rattle.std.proofs.Common.{◌≡◌, inl, inr, ℕ, List, [], ◌∷◌, map, Option, Some, None, refl, sym, ap, ◌∙◌, subst}
 use Rattle.ped_tree.specs.Tree.{ProgramTree}
 use Rattle.ped_tree.specs.Printing.{program_text}
 use Rattle.ped_symbols.specs.NameRefusals.{IsValid}
@@ -11,6 +11,10 @@ use Rattle.ped_step_runs.proofs.KeptMeanings.{keeps_itself, keeps_further}
 use Rattle.ped_script.specs.declared.items.Command.{Command}
 use Rattle.ped_script.specs.declared.items.Command.TheVariants.{Run}
 use Rattle.ped_script.specs.declared.items.Item.{Item}
+use Rattle.ped_graph.specs.Held.{Held}
+use Rattle.ped_session.specs.declared.versions.Version.{Version}
+use Rattle.ped_session.specs.declared.versions.Entry.{Entry}
+use Rattle.ped_session.specs.Holding.{other_of, IsConsistent}
 use Rattle.ped_session.specs.declared.changes.Change.{Change}
 use Rattle.ped_session.specs.declared.changes.Change.TheVariants.{Transformation}
 use Rattle.ped_session.specs.declared.replies.Reply.{Reply}
@@ -105,3 +109,9 @@ items_as_before (item ∷ items) d s last said k h = (
   items_as_before items d h.1 last h.3 (line_keeps item.line item.command d s h.1 h.0 k h.2) h.4,
   h.5,
 )
+
+module _ {L : _} where
+  -- what a session holds
+  pub kept_in : (present : Version) (graph : Held) (past future : List (Entry L)) → IsConsistent present graph past future
+      → (s : State) (tested : ℕ) → record { past = map other_of past; present = present.text; future = map other_of future; tested = tested } ≡ s → IsMeaningKept s
+  kept_in present graph past future is s tested same = subst IsMeaningKept same (record { past = is.past_kept; future = is.future_kept })

@@ -14,3 +14,4 @@ mod PrintedSources
 mod RefusedSteps
 mod Shown
 mod States
+mod Stepping

@@ -52,13 +52,13 @@ not_both text t f p q = elim (one_of_both text) [
   | inr refusal ↦ refusal.treeless t p
 ]
 
-none_and_some : (o : Option StmtTree) → is_some o ≡ false → is_some o ≡ true → ⊥
+pub none_and_some : (o : Option StmtTree) → is_some o ≡ false → is_some o ≡ true → ⊥
 none_and_some o none some = cc
 
 some_is : (c d : Cause) → Some c ≡ Some d → c ≡ d
 some_is c d e = cc
 
-no_cause : (c : Cause) → ◌≡◌ {A = Option Cause} (Some c) None → ⊥
+pub no_cause : (c : Cause) → ◌≡◌ {A = Option Cause} (Some c) None → ⊥
 no_cause c e = cc
 
 -- what is refused for one cause

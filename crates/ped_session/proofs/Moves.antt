@@ -124,6 +124,7 @@ leaves (Delete first last) d s next still h = edit_leaves_by (are_lines s.presen
 leaves Undo d s next still h = absurd (still (inl refl))
 leaves Redo d s next still h = absurd (still (inr refl))
 leaves (Run choices) d s next still h = run_leaves choices d s next h
+leaves Races d s next still h = absurd (no_show _ h.prints.0)
 leaves (Advise number) d s next still h = absurd (no_refusal _ h.0)
 leaves (Interchange number) d s next still h = absurd (no_refusal _ h.0)
 leaves (Reverse number) d s next still h = absurd (no_refusal _ h.0)
@@ -137,7 +138,6 @@ leaves (Privatise number name) d s next still h = absurd (no_refusal _ h.0)
 leaves (Parallel number) d s next still h = absurd (no_refusal _ h.0)
 leaves (Serial number) d s next still h = absurd (no_refusal _ h.0)
 leaves (Reject number name) d s next still h = absurd (no_refusal _ h.0)
-leaves Races d s next still h = absurd (no_refusal _ h.0)
 leaves Tested d s next still h = absurd (no_refusal _ h.0)
 
 -- `undo` behind a change gives the former source and the former past

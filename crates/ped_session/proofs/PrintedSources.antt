@@ -55,6 +55,7 @@ step_prints (Delete first last) d s next reply a h = edit_prints_by (are_lines s
 step_prints Undo d s next reply a h = back_prints s.past s next reply a a.past h
 step_prints Redo d s next reply a h = forward_prints s.future s next reply a a.future h
 step_prints (Run choices) d s next reply a h = same s next a (run_stays choices d s next reply h)
+step_prints Races d s next reply a h = same s next a h.prints.1
 step_prints (Advise number) d s next reply a h = same s next a h.1
 step_prints (Interchange number) d s next reply a h = same s next a h.1
 step_prints (Reverse number) d s next reply a h = same s next a h.1
@@ -68,7 +69,6 @@ step_prints (Privatise number name) d s next reply a h = same s next a h.1
 step_prints (Parallel number) d s next reply a h = same s next a h.1
 step_prints (Serial number) d s next reply a h = same s next a h.1
 step_prints (Reject number name) d s next reply a h = same s next a h.1
-step_prints Races d s next reply a h = same s next a h.1
 step_prints Tested d s next reply a h = same s next a h.1
 
 command_prints : (line : ℕ) (command : Option Command) (data_bytes : List ℕ) (s next : State) (said : Said) → ArePrinted s → AnswersCommand line command data_bytes s said next → ArePrinted next

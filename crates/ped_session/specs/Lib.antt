@@ -3,6 +3,7 @@ pub mod Blocks
 pub mod Histories
 pub mod Holding
 pub mod Panes
+pub mod RaceRows
 pub mod Replies
 pub mod Scripts
 pub mod Splices

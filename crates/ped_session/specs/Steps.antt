@@ -1,5 +1,5 @@
 -- What a command does: its reply, and the state of the session behind it (ParaScope; this project).
-use Rattle.std.specs.Prelude.{◌≡◌, ◌⊎◌, ℕ, ◌-◌, ◌+◌, List, [], ◌∷◌, Bool, Option, Some, None, MatchOption, MatchBool}
+use Rattle.std.specs.Prelude.{◌≡◌, ◌⊎◌, ℕ, ◌-◌, ◌+◌, List, [], ◌∷◌, Option, Some, None, MatchBool}
 use Rattle.ped_tree.specs.Tree.{StmtTree, ProgramTree}
 use Rattle.ped_tree.specs.Printing.{program_text}
 use Rattle.ped_tree.specs.Numbering.{statement_with}
@@ -11,7 +11,6 @@ use Rattle.ped_update.specs.Fresh.{tested_pairs}
 use Rattle.ped_eval.specs.Outcomes.{outcome}
 use Rattle.ped_script.specs.declared.items.Command.{Command}
 use Rattle.ped_script.specs.declared.items.Command.TheVariants.{Source, Deps, Show, Print, Advise, Replace, Insert, Delete, Interchange, Reverse, Skew, Strip, Peel, Distribute, Fuse, Expand, Privatise, Parallel, Serial, Reject, Undo, Redo, Run, Races, Tested}
-use Rattle.ped_session.specs.declared.changes.Change.{Change}
 use Rattle.ped_session.specs.declared.changes.Change.TheVariants.{Edit}
 use Rattle.ped_session.specs.declared.replies.Refusal.TheVariants.{BadEdit, NothingToUndo, NothingToRedo, NoSuchStatement, NoSuchLine, NotBuilt}
 use Rattle.ped_session.specs.declared.replies.Reply.{Reply}
@@ -21,6 +20,7 @@ use Rattle.ped_session.specs.States.{Other, State, changed_to, gone_back_to, gon
 use Rattle.ped_session.specs.Splices.{spliced, are_lines, is_place}
 use Rattle.ped_session.specs.Panes.{IsSourcePane, ArePanes}
 use Rattle.ped_session.specs.Blocks.{block}
+use Rattle.ped_session.specs.RaceRows.{IsRaceRow}
 
 -- the command is refused, and the session is as it was
 abbrev pub Refuses : Refusal → State → Reply → State → Type 0
@@ -93,6 +93,7 @@ IsStep (Delete first last) data_bytes s reply next = Replaces first last [] s re
 IsStep Undo data_bytes s reply next = GoesBack s.past s reply next
 IsStep Redo data_bytes s reply next = GoesForward s.future s reply next
 IsStep (Run choices) data_bytes s reply next = Runs choices data_bytes s reply next
+IsStep Races data_bytes s reply next = Shows (IsRaceRow data_bytes) s reply next
 IsStep (Advise number) data_bytes s reply next = Refuses NotBuilt s reply next
 IsStep (Interchange number) data_bytes s reply next = Refuses NotBuilt s reply next
 IsStep (Reverse number) data_bytes s reply next = Refuses NotBuilt s reply next
@@ -106,7 +107,6 @@ IsStep (Privatise number name) data_bytes s reply next = Refuses NotBuilt s repl
 IsStep (Parallel number) data_bytes s reply next = Refuses NotBuilt s reply next
 IsStep (Serial number) data_bytes s reply next = Refuses NotBuilt s reply next
 IsStep (Reject number name) data_bytes s reply next = Refuses NotBuilt s reply next
-IsStep Races data_bytes s reply next = Refuses NotBuilt s reply next
 IsStep Tested data_bytes s reply next = Refuses NotBuilt s reply next
 
 -- `undo` and `redo` move along the history

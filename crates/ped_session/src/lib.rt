@@ -8,6 +8,7 @@ mod changes;
 mod editing;
 mod laws;
 mod moving;
+mod race_rows;
 mod replies;
 mod scripts;
 mod session;

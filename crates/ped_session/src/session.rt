@@ -181,6 +181,7 @@ impl<L: Ledger> Session<L> {
             Command::Undo => return Ok(self.undo()),
             Command::Redo => return Ok(self.redo()),
             Command::Run(choices) => return self.show_run(alloc, choices.as_slice(), input),
+            Command::Races => return self.show_races(alloc, input),
             Command::Advise(_)
             | Command::Interchange(_)
             | Command::Reverse(_)
@@ -194,7 +195,6 @@ impl<L: Ledger> Session<L> {
             | Command::Parallel(_)
             | Command::Serial(_)
             | Command::Reject(_, _)
-            | Command::Races
             | Command::Tested => return Ok(Reply::Refused(Refusal::NotBuilt)),
         }
     }

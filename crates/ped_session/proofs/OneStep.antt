@@ -24,11 +24,13 @@ use Rattle.ped_session.specs.declared.replies.Reply.{Reply}
 use Rattle.ped_session.specs.declared.replies.Reply.TheVariants.{Shown, Refused}
 use Rattle.ped_session.specs.States.{Other, State, changed_to}
 use Rattle.ped_session.specs.Blocks.{block}
+use Rattle.ped_session.specs.RaceRows.{race_row, IsRaceRow}
 use Rattle.ped_session.specs.Panes.{IsSourcePane, ArePanes}
 use Rattle.ped_session.specs.Splices.{are_lines, is_place}
 use Rattle.ped_session.specs.Steps.{Refuses, Shows, ShowsOf, ShowsStatement, Edits, accepted, refused, Transforms, missing, forbidden, transformed, GoesBack, GoesForward, Runs, IsStep}
 use Rattle.ped_session.specs.Transforming.{StepAt, privatising}
 use Rattle.ped_session.proofs.Doing.{IsLawful, lawful_privatising}
+use Rattle.ped_order.proofs.OneReport.{one_at_most}
 use Rattle.ped_session.proofs.OneFinding.{one_found}
 
 -- a text has one valid tree at most
@@ -141,6 +143,9 @@ one_transform at s p q m n lawful (transformed t reads some free valid a after) 
     let trees = one_tree s.present t u reads other in
     (a ∙ sym b, after ∙ (λ i. changed_to (program_text (at.new (trees i))) Transformation (tested_pairs (trees i) (at.new (trees i)) (at.keep (trees i))) s) ∙ sym next)
 
+one_race_row : (data_bytes : List ℕ) (t : ProgramTree) (x y : List ℕ) → IsRaceRow data_bytes t x → IsRaceRow data_bytes t y → x ≡ y
+one_race_row data_bytes t x y a b = a.2 ∙ ap race_row (one_at_most t data_bytes a.0 b.0 a.1 b.1) ∙ sym b.2
+
 -- a command has one reply, and leads to one state
 pub one : (c : Command) (data_bytes : List ℕ) (s m n : State) (p q : Reply) → IsStep c data_bytes s p m → IsStep c data_bytes s q n → (p ≡ q) × (m ≡ n)
 one Source d s m n p q a b = one_shows IsSourcePane one_source_pane s p q m n a b
@@ -154,6 +159,7 @@ one (Delete first last) d s m n p q a b = one_edit_by (are_lines s.present first
 one Undo d s m n p q a b = one_back s.past s p q m n a b
 one Redo d s m n p q a b = one_forward s.future s p q m n a b
 one (Run choices) d s m n p q a b = one_run choices d s p q m n a b
+one Races d s m n p q a b = one_shows (IsRaceRow d) (one_race_row d) s p q m n a b
 one (Advise number) d s m n p q a b = one_refuses NotBuilt s p q m n a b
 one (Interchange number) d s m n p q a b = one_refuses NotBuilt s p q m n a b
 one (Reverse number) d s m n p q a b = one_refuses NotBuilt s p q m n a b
@@ -167,5 +173,4 @@ one (Privatise number name) d s m n p q a b = one_transform (privatising number 
 one (Parallel number) d s m n p q a b = one_refuses NotBuilt s p q m n a b
 one (Serial number) d s m n p q a b = one_refuses NotBuilt s p q m n a b
 one (Reject number name) d s m n p q a b = one_refuses NotBuilt s p q m n a b
-one Races d s m n p q a b = one_refuses NotBuilt s p q m n a b
 one Tested d s m n p q a b = one_refuses NotBuilt s p q m n a b

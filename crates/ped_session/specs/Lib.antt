@@ -5,6 +5,7 @@ pub mod Histories
 pub mod Holding
 pub mod Meanings
 pub mod Panes
+pub mod RaceRows
 pub mod Replies
 pub mod RunsAsBefore
 pub mod Scripts

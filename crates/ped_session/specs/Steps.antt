@@ -1,5 +1,5 @@
 -- What a command does: its reply, and the state of the session behind it (ParaScope; this project).
-use Rattle.std.specs.Prelude.{◌≡◌, ◌⊎◌, ℕ, ◌-◌, ◌+◌, List, [], ◌∷◌, Bool, true, false, Option, Some, None, MatchOption, MatchBool, is_some}
+use Rattle.std.specs.Prelude.{◌≡◌, ◌⊎◌, ℕ, ◌-◌, ◌+◌, List, [], ◌∷◌, true, false, Option, Some, None, MatchBool, is_some}
 use Rattle.ped_tree.specs.Tree.{StmtTree, ProgramTree}
 use Rattle.ped_tree.specs.Printing.{program_text}
 use Rattle.ped_tree.specs.Numbering.{statement_with}
@@ -13,7 +13,6 @@ use Rattle.ped_eval.specs.Outcomes.{outcome}
 use Rattle.ped_steps.specs.Causes.{Cause}
 use Rattle.ped_script.specs.declared.items.Command.{Command}
 use Rattle.ped_script.specs.declared.items.Command.TheVariants.{Source, Deps, Show, Print, Advise, Replace, Insert, Delete, Interchange, Reverse, Skew, Strip, Peel, Distribute, Fuse, Expand, Privatise, Parallel, Serial, Reject, Undo, Redo, Run, Races, Tested}
-use Rattle.ped_session.specs.declared.changes.Change.{Change}
 use Rattle.ped_session.specs.declared.changes.Change.TheVariants.{Edit, Transformation}
 use Rattle.ped_session.specs.declared.replies.Refusal.TheVariants.{BadEdit, Step, NothingToUndo, NothingToRedo, NoSuchStatement, NoSuchLine, NotBuilt}
 use Rattle.ped_session.specs.declared.replies.Reply.{Reply}
@@ -23,6 +22,7 @@ use Rattle.ped_session.specs.States.{Other, State, changed_to, gone_back_to, gon
 use Rattle.ped_session.specs.Splices.{spliced, are_lines, is_place}
 use Rattle.ped_session.specs.Panes.{IsSourcePane, ArePanes}
 use Rattle.ped_session.specs.Blocks.{block}
+use Rattle.ped_session.specs.RaceRows.{IsRaceRow}
 use Rattle.ped_session.specs.Transforming.{StepAt, privatising}
 
 -- the command is refused, and the session is as it was
@@ -103,6 +103,7 @@ IsStep (Delete first last) data_bytes s reply next = Replaces first last [] s re
 IsStep Undo data_bytes s reply next = GoesBack s.past s reply next
 IsStep Redo data_bytes s reply next = GoesForward s.future s reply next
 IsStep (Run choices) data_bytes s reply next = Runs choices data_bytes s reply next
+IsStep Races data_bytes s reply next = Shows (IsRaceRow data_bytes) s reply next
 IsStep (Advise number) data_bytes s reply next = Refuses NotBuilt s reply next
 IsStep (Interchange number) data_bytes s reply next = Refuses NotBuilt s reply next
 IsStep (Reverse number) data_bytes s reply next = Refuses NotBuilt s reply next
@@ -116,7 +117,6 @@ IsStep (Privatise number name) data_bytes s reply next = Transforms (privatising
 IsStep (Parallel number) data_bytes s reply next = Refuses NotBuilt s reply next
 IsStep (Serial number) data_bytes s reply next = Refuses NotBuilt s reply next
 IsStep (Reject number name) data_bytes s reply next = Refuses NotBuilt s reply next
-IsStep Races data_bytes s reply next = Refuses NotBuilt s reply next
 IsStep Tested data_bytes s reply next = Refuses NotBuilt s reply next
 
 -- `undo` and `redo` move along the history

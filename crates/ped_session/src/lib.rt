@@ -9,6 +9,7 @@ mod changing;
 mod editing;
 mod laws;
 mod moving;
+mod race_rows;
 mod replies;
 mod scripts;
 mod session;

@@ -187,6 +187,7 @@ impl<L: Ledger> Session<L> {
                 return self.privatise(alloc, *number, name, steps);
             }
             Command::Run(choices) => return self.show_run(alloc, choices.as_slice(), input),
+            Command::Races => return self.show_races(alloc, input),
             Command::Advise(_)
             | Command::Interchange(_)
             | Command::Reverse(_)
@@ -199,7 +200,6 @@ impl<L: Ledger> Session<L> {
             | Command::Parallel(_)
             | Command::Serial(_)
             | Command::Reject(_, _)
-            | Command::Races
             | Command::Tested => return Ok(Reply::Refused(Refusal::NotBuilt)),
         }
     }

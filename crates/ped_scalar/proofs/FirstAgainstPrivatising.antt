@@ -11,13 +11,11 @@ use Rattle.ped_flow.proofs.Answering.{same_head, same_body}
 use Rattle.ped_steps.specs.declared.rules.Rule.{Rule}
 use Rattle.ped_steps.specs.declared.rules.Rule.TheVariants.{NoLoop, NotPerfect, ParallelState, HasPrivate, IndexEscapes, BoundNotPlain, BoundsShape, StepShape, Range, NoNeighbour, OneBlock, ExposedOrLive, NotScalar, NotConstant, Limit, BadFactor, AlreadyPrivate, NothingToReject}
 use Rattle.ped_steps.specs.RuleNames.{number_of}
-use Rattle.ped_steps.specs.Causes.{Rules, NoRule, IsFirstRule}
-use Rattle.ped_steps.proofs.FirstRules.{NoneBelow, none_at_first, none_up_to, none_stands, first_stands}
+use Rattle.ped_steps.specs.Causes.{Rules, NoRule, NoneBelow, IsFirstRule}
+use Rattle.ped_steps.proofs.FirstRules.{none_at_first, none_up_to, none_stands, first_stands}
 use Rattle.ped_scalar.specs.Scalars.{is_scalar, is_unfit}
+use Rattle.ped_scalar.proofs.FlowAnswers.{true_not_false}
 use Rattle.ped_scalar.specs.Privatising.{privatised, IsExposedOrLiveBy, IsScalarExposedOrLiveBy, StandsAgainstPrivatising}
-
-true_not_false : (b : Bool) → IsTrue b → b ≡ false → ⊥
-true_not_false b h e = let f : true ≡ false = sym h ∙ e in absurd cc
 
 module _ (t : ProgramTree) (s : ℕ) (x : List ℕ) where
   -- the statement is no DO
@@ -31,16 +29,16 @@ module _ (t : ProgramTree) (s : ℕ) (x : List ℕ) where
         none_up_to stands NotPerfect (none_up_to stands NoLoop (none_at_first stands) (λ m p. p.0 (record { head = h; body = body; is = is }))) (λ m p. p)
 
     pub parallel : IsTrue (h.parallel || list_any (λ (m : Loop). m.head.parallel) (nest_round t s)) → IsFirstRule (StandsAgainstPrivatising t s x) ParallelState s
-    parallel yes = first_stands (StandsAgainstPrivatising t s x) ParallelState s (record { head = h; body = body; is = is }, yes, refl) below_parallel
+    parallel holds = first_stands (StandsAgainstPrivatising t s x) ParallelState s (record { head = h; body = body; is = is }, holds, refl) below_parallel
 
     pub below_exposed : (h.parallel || list_any (λ (m : Loop). m.head.parallel) (nest_round t s)) ≡ false → NoneBelow (StandsAgainstPrivatising t s x) 12
-    below_exposed no =
+    below_exposed fails =
         let stands = StandsAgainstPrivatising t s x in
         let same = λ (l : LoopOf t s). same_head t s h l.head body l.body is l.is in
         none_up_to stands OneBlock (none_up_to stands NoNeighbour (none_up_to stands Range (none_up_to stands StepShape (none_up_to stands BoundsShape
-          (none_up_to stands BoundNotPlain (none_up_to stands IndexEscapes (none_up_to stands HasPrivate (none_up_to stands ParallelState below_parallel
-          (λ m p. true_not_false _ p.1 (ap (λ (g : Head). g.parallel || list_any (λ (m : Loop). m.head.parallel) (nest_round t s)) (sym (same p.0)) ∙ no)))
-          (λ m p. p)) (λ m p. p)) (λ m p. p)) (λ m p. p)) (λ m p. p)) (λ m p. p)) (λ m p. p)) (λ m p. p)
+        (none_up_to stands BoundNotPlain (none_up_to stands IndexEscapes (none_up_to stands HasPrivate (none_up_to stands ParallelState below_parallel
+        (λ m p. true_not_false _ p.1 (ap (λ (g : Head). g.parallel || list_any (λ (m : Loop). m.head.parallel) (nest_round t s)) (sym (same p.0)) ∙ fails)))
+        (λ m p. p)) (λ m p. p)) (λ m p. p)) (λ m p. p)) (λ m p. p)) (λ m p. p)) (λ m p. p)) (λ m p. p)
 
     pub exposed : (n : ℕ) → NoneBelow (StandsAgainstPrivatising t s x) 12 → IsScalarExposedOrLiveBy t s x n → IsFirstRule (StandsAgainstPrivatising t s x) ExposedOrLive n
     exposed n below e = first_stands (StandsAgainstPrivatising t s x) ExposedOrLive n (record { head = h; body = body; is = is }, e) below
@@ -49,31 +47,31 @@ module _ (t : ProgramTree) (s : ℕ) (x : List ℕ) where
     below_unfit below none = none_up_to (StandsAgainstPrivatising t s x) ExposedOrLive below (λ m p. none m p.1)
 
     pub unfit : NoneBelow (StandsAgainstPrivatising t s x) 13 → IsTrue (is_unfit t s h body x) → IsFirstRule (StandsAgainstPrivatising t s x) NotScalar s
-    unfit below yes = first_stands (StandsAgainstPrivatising t s x) NotScalar s (record { head = h; body = body; is = is }, yes, refl) below
+    unfit below holds = first_stands (StandsAgainstPrivatising t s x) NotScalar s (record { head = h; body = body; is = is }, holds, refl) below
 
     pub below_limit : NoneBelow (StandsAgainstPrivatising t s x) 13 → is_unfit t s h body x ≡ false → NoneBelow (StandsAgainstPrivatising t s x) 15
-    below_limit below no =
+    below_limit below fails =
         let stands = StandsAgainstPrivatising t s x in
         none_up_to stands NotConstant (none_up_to stands NotScalar below
-          (λ m p. true_not_false _ p.1 ((λ i. is_unfit t s (sym (same_head t s h p.0.head body p.0.body is p.0.is) i) (sym (same_body t s h p.0.head body p.0.body is p.0.is) i) x) ∙ no))) (λ m p. p)
+        (λ m p. true_not_false _ p.1 ((λ i. is_unfit t s (sym (same_head t s h p.0.head body p.0.body is p.0.is) i) (sym (same_body t s h p.0.head body p.0.body is p.0.is) i) x) ∙ fails))) (λ m p. p)
 
     same_private : (l : LoopOf t s) → is_among x l.head.private ≡ is_among x h.private
     same_private l = ap (λ (g : Head). is_among x g.private) (sym (same_head t s h l.head body l.body is l.is))
 
     pub limit : NoneBelow (StandsAgainstPrivatising t s x) 15 → is_among x h.private ≡ false → (IsValid (privatised t s x) → ⊥) → IsFirstRule (StandsAgainstPrivatising t s x) Limit s
-    limit below no invalid = first_stands (StandsAgainstPrivatising t s x) Limit s (record { head = h; body = body; is = is }, no, invalid, refl) below
+    limit below fails invalid = first_stands (StandsAgainstPrivatising t s x) Limit s (record { head = h; body = body; is = is }, fails, invalid, refl) below
 
     pub private : NoneBelow (StandsAgainstPrivatising t s x) 15 → IsTrue (is_scalar t x) → IsTrue (is_among x h.private) → IsFirstRule (StandsAgainstPrivatising t s x) AlreadyPrivate s
-    private below scalar yes =
+    private below scalar holds =
         let stands = StandsAgainstPrivatising t s x in
-        let above = none_up_to stands BadFactor (none_up_to stands Limit below (λ m p. true_not_false _ yes (sym (same_private p.0) ∙ p.1))) (λ m p. p) in
-        first_stands stands AlreadyPrivate s (record { head = h; body = body; is = is }, scalar, yes, refl) above
+        let above = none_up_to stands BadFactor (none_up_to stands Limit below (λ m p. true_not_false _ holds (sym (same_private p.0) ∙ p.1))) (λ m p. p) in
+        first_stands stands AlreadyPrivate s (record { head = h; body = body; is = is }, scalar, holds, refl) above
 
     pub nothing : NoneBelow (StandsAgainstPrivatising t s x) 15 → is_among x h.private ≡ false → IsValid (privatised t s x) → NoRule (StandsAgainstPrivatising t s x)
-    nothing below no valid =
+    nothing below fails valid =
         let stands = StandsAgainstPrivatising t s x in
         none_stands stands (none_up_to stands NothingToReject (none_up_to stands AlreadyPrivate (none_up_to stands BadFactor
-          (none_up_to stands Limit below (λ m p. p.2 valid)) (λ m p. p)) (λ m p. true_not_false _ p.2 (same_private p.0 ∙ no))) (λ m p. p))
+        (none_up_to stands Limit below (λ m p. p.2 valid)) (λ m p. p)) (λ m p. true_not_false _ p.2 (same_private p.0 ∙ fails))) (λ m p. p))
 
   one_first : (P : ℕ → Type 0) (m n : ℕ) → IsFirst P (Some m) → IsFirst P (Some n) → m ≡ n
   one_first P m n a b = let le = a.1 n b.0 in let ge = b.1 m a.0 in omega (arith, le, ge)

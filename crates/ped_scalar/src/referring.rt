@@ -63,7 +63,7 @@ fn is_named(other: &RefName, name: &Name) -> bool
 {
     match other {
         RefName::Named(other) => name.as_bytes() == other.as_bytes(),
-        RefName::In => name.as_bytes() == b"(IN)",
-        RefName::Out => name.as_bytes() == b"(OUT)",
+        RefName::In => name.as_bytes() == b"(IN)".as_slice(),
+        RefName::Out => name.as_bytes() == b"(OUT)".as_slice(),
     }
 }

@@ -33,7 +33,7 @@ first_is forbids (g ∷ front) [] b c e f same p q none nothing =
     let does : forbids g ≡ true = ap forbids is ∙ q in absurd cc
 first_is forbids (g ∷ front) (h ∷ other) b c e f same p q none nothing =
     first_is forbids front other b c e f (tail_is g h (front ++ e ∷ b) (other ++ f ∷ c) same) p q
-      (All-tail (λ g. forbids g ≡ false) g front none) (All-tail (λ g. forbids g ≡ false) h other nothing)
+    (All-tail (λ g. forbids g ≡ false) g front none) (All-tail (λ g. forbids g ≡ false) h other nothing)
 
 one_forbidding : (forbids : Edge → Bool) (es fs : List Edge) (e f : Edge) → es ≡ fs → IsFirstForbidding forbids es e → IsFirstForbidding forbids fs f → e ≡ f
 one_forbidding forbids es fs e f same p q = first_is forbids p.0 q.0 p.1 q.1 e f (sym p.2 ∙ same ∙ q.2) p.3 q.3 p.4 q.4

@@ -29,5 +29,5 @@ add-returns-in-Do t c =
     let d = c.in-Do.d in
     let all = stmt_trees c.args.all.now.items in
     let placed_here = placed_loop c.args.place.now c.args.statement.now c.in_ok-new-in-Do.new d c.args.number c.in_ok-body-in-Do.body.items c.deref-in-Do.result.now c.in-Do.is c.if-number-place-2.false c.deref-in-Do.ensures.value
-        c.in_ok-body-in-Do.ensures c.in_ok-new-in-Do.ensures in
+    c.in_ok-body-in-Do.ensures c.in_ok-new-in-Do.ensures in
     subst (λ (ss : StmtTrees). OnOk c.add_one-in-Do.result (stmt_trees c.add_one-in-Do.new.all.items ≡ followed all ss)) placed_here c.add_one-in-Do.ensures

@@ -3,7 +3,7 @@ mod Answering
 mod Doing
 mod Examples
 mod HistoryMoves
-mod KeptMeanings
+pub mod KeptMeanings
 mod LinesLeft
 mod Moves
 pub mod OneAnswer

@@ -56,7 +56,7 @@ with_sorted_among : (x y : List ℕ) (zs : List (List ℕ)) → is_among x (with
 with_sorted_among x y [] = refl
 with_sorted_among x y (z ∷ zs) = by_order x y z zs (with_sorted y zs) (slice_cmp nat_cmp y z) refl (with_sorted_among x y zs)
 
-sorted_among : (x : List ℕ) (ys : List (List ℕ)) → is_among x (sorted_once ys) ≡ is_among x ys
+pub sorted_among : (x : List ℕ) (ys : List (List ℕ)) → is_among x (sorted_once ys) ≡ is_among x ys
 sorted_among x [] = refl
 sorted_among x (y ∷ ys) = with_sorted_among x y (sorted_once ys) ∙ ap (λ (b : Bool). is_same_text x y || b) (sorted_among x ys)
 

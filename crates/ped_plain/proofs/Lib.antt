@@ -6,3 +6,4 @@ pub mod Standing
 pub mod Entries
 pub mod Insides
 mod Examples
+pub mod ValidPrograms

@@ -3,10 +3,12 @@
 #![tactic(auto)]
 
 mod bounds;
+mod programs;
 mod sizes;
 
 pub use bounds::{
     bounds_in_executions, entries_begin_executions, iterations_are_inside, plain_bounds,
     values_stand,
 };
+pub use programs::bounds_in_valid_programs;
 pub use sizes::scalars_are_small;

@@ -37,7 +37,7 @@ none_with_value : (es : Values) (k : List ℕ) (o : Option ℤ) (x : List ℕ) �
 none_with_value es k None x n h = h
 none_with_value es k (Some v) x n h = none_with_entry es k v x n h
 
-none_behind_items : (es : Values) (items : List (List ℕ × ExprTree)) (x : List ℕ) → is_among x (map (λ v. v.0) items) ≡ false → entry_of es x ≡ None → entry_of (behind_items es items) x ≡ None
+pub none_behind_items : (es : Values) (items : List (List ℕ × ExprTree)) (x : List ℕ) → is_among x (map (λ v. v.0) items) ≡ false → entry_of es x ≡ None → entry_of (behind_items es items) x ≡ None
 none_behind_items es [] x n h = h
 none_behind_items es (v ∷ vs) x n h =
     let p = or_parts (is_same_text x v.0) (is_among x (map (λ v. v.0) vs)) n in

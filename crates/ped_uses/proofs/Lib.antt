@@ -3,6 +3,7 @@ mod DeclaredArrays
 pub mod Found
 mod Loops
 mod NamedArrays
+mod NamedValues
 mod Occurring
 mod Quiet
 mod Statements

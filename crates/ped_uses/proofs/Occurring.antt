@@ -52,3 +52,26 @@ once_first seen (y ∷ ys) = go (is_among y seen) (once_first seen ys) (once_fir
         → has_twice (if r then first_occurrences seen ys else y ∷ first_occurrences (y ∷ seen) ys) ≡ false
     go true f g = f
     go false f g = or_from _ _ (absent_first (y ∷ seen) ys y (ap (λ (b : Bool). b || is_among y seen) (same_itself y))) g
+
+-- what is among the first occurrences occurs
+pub first_among : (seen xs : List (List ℕ)) (x : List ℕ) → is_among x (first_occurrences seen xs) ≡ true → is_among x xs ≡ true
+first_among seen [] x h = absurd cc
+first_among seen (y ∷ ys) x h = go (is_among y seen) h (is_same_text x y) refl (first_among seen ys x) (first_among (y ∷ seen) ys x)
+  where
+    go : (r : Bool) → is_among x (if r then first_occurrences seen ys else y ∷ first_occurrences (y ∷ seen) ys) ≡ true → (e : Bool) → is_same_text x y ≡ e
+        → (is_among x (first_occurrences seen ys) ≡ true → is_among x ys ≡ true) → (is_among x (first_occurrences (y ∷ seen) ys) ≡ true → is_among x ys ≡ true) → (is_same_text x y || is_among x ys) ≡ true
+    go true k e q f g = or_right (is_same_text x y) (is_among x ys) (f k)
+    go false k true q f g = ap (λ (b : Bool). b || is_among x ys) q
+    go false k false q f g = or_right (is_same_text x y) (is_among x ys) (g (ap (λ (b : Bool). b || is_among x (first_occurrences (y ∷ seen) ys)) (sym q) ∙ k))
+
+-- so the same names do
+pub occurs_first : (xs : List (List ℕ)) (x : List ℕ) → is_among x (first_occurrences [] xs) ≡ is_among x xs
+occurs_first xs x = go (is_among x xs) refl
+  where
+    go : (b : Bool) → is_among x xs ≡ b → is_among x (first_occurrences [] xs) ≡ b
+    go true e = among_first [] xs x e refl
+    go false e = never (is_among x (first_occurrences [] xs)) refl
+      where
+        never : (r : Bool) → is_among x (first_occurrences [] xs) ≡ r → r ≡ false
+        never true q = sym (first_among [] xs x q) ∙ e
+        never false q = refl

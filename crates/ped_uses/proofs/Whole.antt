@@ -1,11 +1,13 @@
 -- A valid program is right.
-use Rattle.std.proofs.Common.{◌≡◌, ℕ, ◌+◌, ◌≤◌, List, [], ◌∷◌, ◌++◌, map, Bool, true, false, Some, None, refl, ap, sym, subst, ◌∙◌, arith, append-nil, if◌then◌else◌}
+use Rattle.std.proofs.Common.{◌≡◌, ℕ, ◌+◌, ◌≤◌, List, [], ◌∷◌, ◌++◌, map, Bool, true, false, Some, None, is_some, refl, ap, sym, subst, ◌∙◌, arith, append-nil, if◌then◌else◌}
 use Rattle.std.specs.Prelude.{nat_lt}
 use Rattle.std.specs.List.{list_any, flat_map}
 use Rattle.std.proofs.lemmas.Bool.{and_parts, or_parts, ltb-false}
 use Rattle.std.proofs.lemmas.Grind.{flat_map-append}
 use Rattle.ped_base.specs.Lists.{is_among}
 use Rattle.ped_tree.specs.Tree.{DeclTree, Program, Implicit, Integer, Dimension, Parameter, Save, Remark, ProgramTree}
+use Rattle.ped_tree.specs.Accesses.{constant_names}
+use Rattle.ped_constants.specs.NamedConstants.{value_named}
 use Rattle.ped_grammar.specs.LimitNumbers.{most_loops_nested}
 use Rattle.ped_grammar.specs.Fits.{decls_fit, stmts_fit, begins_with_statement, at_body}
 use Rattle.ped_refs.specs.References.{references}
@@ -17,12 +19,13 @@ use Rattle.ped_symbols.specs.Values.{Values, site_fails}
 use Rattle.ped_symbols.specs.Arrays.{Arrays}
 use Rattle.ped_symbols.specs.StorageLimits.{most_elements_together, elements_of, has_large, have_many_elements}
 use Rattle.ped_symbols.specs.NameRefusals.{at_first, behind_sites, IsValid}
-use Rattle.ped_symbols.specs.Kinds.{kind_of, at_last, names_at, names_of, kind_in}
+use Rattle.ped_symbols.specs.Kinds.{kind_among, kind_of, at_last, names_at, names_of, kind_in}
 use Rattle.ped_uses.specs.RightLoops.{loops_deep}
 use Rattle.ped_uses.specs.RightPrograms.{IsRight}
 use Rattle.ped_uses.proofs.Quiet.{AreQuiet, all_quiet, quiet_front, quiet_back, behind_append, no_constant_used, no_other_rank, few_elements, said, said_stays, none_fails, stmts_declare_nothing}
-use Rattle.ped_uses.proofs.Occurring.{among_first, once_first}
+use Rattle.ped_uses.proofs.Occurring.{among_first, once_first, occurs_first}
 use Rattle.ped_uses.proofs.Constants.{none_named}
+use Rattle.ped_uses.proofs.NamedValues.{named_have_values, unnamed_have_none}
 use Rattle.ped_uses.proofs.DeclaredArrays.{arrays_told}
 use Rattle.ped_uses.proofs.UseKinds.{Known, uses_right}
 use Rattle.ped_uses.proofs.Statements.{all_right, sites_in_front, sites_behind, stmts_right, saves_right}
@@ -104,3 +107,32 @@ right_program t v =
       elements = together;
       kind_elements = let named = few_elements_named (at_last t).values (at_last t).arrays (names_of t) (once_first [] (names_at (program_sites t))) in omega (arith, named, together);
     }
+
+-- the constants of a program are those behind its declarations
+last_values : (t : ProgramTree) → (at_last t).values ≡ (behind_sites at_first (first_sites t)).values
+last_values t = ap (λ (s : Values × Arrays). s.0) (last_said t)
+
+-- each named constant of a valid program has a value
+pub constants_valued : (t : ProgramTree) (x : List ℕ) → IsValid t → is_among x (constant_names t.decls) ≡ true → is_some (value_named (at_last t).values x) ≡ true
+constants_valued t x v m =
+    ap (λ (es : Values). is_some (value_named es x)) (last_values t)
+    ∙ named_have_values (declared_in t.decls) (references t) at_first t.decls x (quiet_front (declared_in t.decls) (references t) at_first (first_sites t) (stmts_sites t.body) (quiet t v)) m
+
+-- no other name has one
+pub others_unvalued : (t : ProgramTree) (x : List ℕ) → is_among x (constant_names t.decls) ≡ false → value_named (at_last t).values x ≡ None
+others_unvalued t x n = ap (λ (es : Values). value_named es x) (last_values t) ∙ unnamed_have_none at_first t.decls x n refl
+
+-- what the declarations say is the same in programs with the same declarations
+same_said : (t u : ProgramTree) → t.decls ≡ u.decls → said (at_last u) ≡ said (at_last t)
+same_said t u e = last_said u ∙ ap (λ (ds : List DeclTree). said (behind_sites at_first (flat_map decl_sites ds))) (sym e) ∙ sym (last_said t)
+
+pub same_values : (t u : ProgramTree) → t.decls ≡ u.decls → (at_last u).values ≡ (at_last t).values
+same_values t u e = ap (λ (s : Values × Arrays). s.0) (same_said t u e)
+
+-- and so is what a name stands for, where the same names occur
+pub same_kinds : (t u : ProgramTree) → t.decls ≡ u.decls → ((y : List ℕ) → is_among y (names_of u) ≡ is_among y (names_of t)) → (y : List ℕ) → kind_in u y ≡ kind_in t y
+same_kinds t u e names y = λ i. if names y i then Some (kind_among (same_said t u e i).0 (same_said t u e i).1 y) else None
+
+-- the names that occur at sites occur in the program
+pub names_occur : (t : ProgramTree) (y : List ℕ) → is_among y (names_of t) ≡ is_among y (names_at (program_sites t))
+names_occur t y = occurs_first (names_at (program_sites t)) y

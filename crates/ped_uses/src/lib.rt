@@ -3,4 +3,4 @@
 
 mod laws;
 
-pub use laws::{kind_found, right_where_valid};
+pub use laws::{constants_have_values, kind_found, kinds_told_by_names, right_where_valid};

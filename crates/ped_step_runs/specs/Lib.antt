@@ -1,0 +1,4 @@
+pub mod Exchanging
+pub mod Pasting
+pub mod Meaning
+pub mod Privatising

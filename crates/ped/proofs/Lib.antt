@@ -2,3 +2,4 @@ mod Counting
 mod Inputs
 mod OneAnswer
 mod Outcomes
+mod ScriptRuns

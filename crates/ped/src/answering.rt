@@ -5,6 +5,7 @@ ghost use Rattle.ped_io.specs.Outside.{Contents, IsHeld, Rose};
 ghost use Rattle.ped_io.specs.Shelves.{all_names};
 ghost use Rattle.ped.specs.Answer;
 ghost use Rattle.ped.specs.Answer.{request_of, inputs_of, IsOneOf, HoldsTooMany, Answers, MayAnswer, Sends};
+ghost use Rattle.ped.specs.ScriptRuns.{IsWhole, RunsRequest};
 ghost use Rattle.ped.specs.TestCounts.{Tests, Ticks, IsUntested};
 ghost use Rattle.ped.specs.Serving.{asked_view, ServedRequest};
 
@@ -90,6 +91,13 @@ pub fn ped_main<F: Shelf, K: Sink, L: Ledger>(
         × Answers (request_of (map string_bytes words.now)) files result bytes
         × (K.taken out.new ≡ Some (before ++ bytes))) }
 
+    // Where a session's answer is written whole, each `run` of its script shows what the programs show from which the
+    // present one has come by transformations alone, if they run on the data without a fault and without a race.
+    ensures runs { (files : Contents) → F.told shelf.old ≡ Some files →
+        (before : List ℕ) → K.taken out.old ≡ Some before → IsWhole result →
+        (bytes : List ℕ) × (K.taken out.new ≡ Some (before ++ bytes))
+        × RunsRequest (request_of (map string_bytes words.now)) files bytes }
+
     // What stays.
     ensures same { F.told shelf.new ≡ F.told shelf.old }
     ensures counts { (name : List ℕ) → F.count shelf.old name ≤ F.count shelf.new name }
@@ -117,6 +125,13 @@ pub fn ped_main<F: Shelf, K: Sink, L: Ledger>(
 pub fn one_answer()
     ensures { (request : Option Answer.Request) (files : Contents) (s t : Status) (a b : List ℕ) →
         Answers request files s a → Answers request files t b → (s ≡ t) × (a ≡ b) }
+{}
+
+/// In each answer to a session each `run` of its script shows what the programs show from which the present one has come
+/// by transformations alone, if they run on the data without a fault and without a race.
+pub fn runs_are_as_before()
+    ensures { (request : Option Answer.Request) (files : Contents) (s : Status) (bytes : List ℕ) → IsWhole s →
+        Answers request files s bytes → RunsRequest request files bytes }
 {}
 
 /// Answers the words over a shelf and a sink that never fail: no read fault and no write fault comes.

@@ -2,12 +2,16 @@
 use Rattle.std.proofs.Common.{◌≡◌, ℕ, pos, negsuc, List, [], ◌∷◌, true, false, Some, None, refl}
 use Rattle.std.specs.Prelude.{codes}
 use Rattle.std.specs.Fmt.{digits}
+use Rattle.ped_store.specs.Cells.{Scalar, Element, Private, In}
 use Rattle.ped_eval.specs.Outcomes.{Outcome, Ended, Fault}
+use Rattle.ped_order.specs.Reports.{NoRace, Race}
+use Rattle.ped_order.specs.Reports as races
 use Rattle.ped_grammar.specs.declared.refusals.RefusalKind.TheVariants.{OpenBlock, StorageLimit}
 use Rattle.ped_session.specs.declared.replies.Refusal.TheVariants.{BadEdit, NothingToUndo, NothingToRedo, NoSuchStatement, NoSuchLine, NotBuilt}
 use Rattle.ped_session.specs.declared.replies.Reply.TheVariants.{Changed, Shown, Refused}
 use Rattle.ped_session.specs.Splices.{text_of_lines, spliced, are_lines, is_place}
 use Rattle.ped_session.specs.Blocks.{block}
+use Rattle.ped_session.specs.RaceRows.{race_row}
 use Rattle.ped_session.specs.Replies.{reply_text, bad_command_row}
 
 abbrev abc : List ℕ
@@ -102,3 +106,26 @@ not_built = refl
 bad_command : bad_command_row 7 ≡ text_of_lines (codes "7: refused BadCommand" ∷ [])
 unfolding digits
 bad_command = refl
+
+race_on_a_scalar : race_row (Race (Scalar (codes "K")) 2 15) ≡ text_of_lines (codes "race K at 2 and 15" ∷ [])
+unfolding digits
+race_on_a_scalar = refl
+
+race_on_an_element : race_row (Race (Element (codes "A") (pos 3 ∷ negsuc 1 ∷ [])) 4 3) ≡ text_of_lines (codes "race A(3,-2) at 4 and 3" ∷ [])
+unfolding digits
+race_on_an_element = refl
+
+race_on_a_copy : race_row (Race (Private (codes "T") (record { statement = 1; number = 2 } ∷ [])) 4 4) ≡ text_of_lines (codes "race T at 4 and 4" ∷ [])
+unfolding digits
+race_on_a_copy = refl
+
+race_on_the_data : race_row (Race In 2 2) ≡ text_of_lines (codes "race (IN) at 2 and 2" ∷ [])
+unfolding digits
+race_on_the_data = refl
+
+no_races : race_row NoRace ≡ text_of_lines (codes "no race" ∷ [])
+no_races = refl
+
+fault_before_any : race_row (races.Fault 1 2) ≡ text_of_lines (codes "fault 1 at 2" ∷ [])
+unfolding digits
+fault_before_any = refl

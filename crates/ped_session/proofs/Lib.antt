@@ -1,7 +1,9 @@
 mod Accepted
 mod Answering
+mod Doing
 mod Examples
 mod HistoryMoves
+pub mod KeptMeanings
 mod LinesLeft
 mod Moves
 pub mod OneAnswer
@@ -12,3 +14,4 @@ mod PrintedSources
 mod RefusedSteps
 mod Shown
 mod States
+mod Stepping

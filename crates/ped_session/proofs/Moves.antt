@@ -1,27 +1,21 @@
 -- `undo` and `redo` move along the sources, and take each other back.
-use Rattle.std.proofs.Common.{◌≡◌, inl, inr, ℕ, zero, suc, Bool, true, false, List, [], ◌∷◌, Option, Some, None, refl, sym, ap, ◌∙◌, subst}
-use Rattle.std.specs.Prelude.{MatchBool}
-use Rattle.ped_tree.specs.Tree.{StmtTree}
-use Rattle.ped_tree.specs.Numbering.{statement_with}
+use Rattle.std.proofs.Common.{◌≡◌, inl, inr, ℕ, zero, suc, List, [], ◌∷◌, refl, sym, ap, ◌∙◌, subst}
 use Rattle.ped_script.specs.declared.items.Command.{Command}
-use Rattle.ped_script.specs.declared.items.Command.TheVariants.{Source, Deps, Show, Print, Advise, Replace, Insert, Delete, Interchange, Reverse, Skew, Strip, Peel, Distribute, Fuse, Expand, Privatise, Parallel, Serial, Reject, Undo, Redo, Run, Races, Tested}
+use Rattle.ped_script.specs.declared.items.Command.TheVariants.{Undo, Redo}
 use Rattle.ped_session.specs.declared.changes.Change.{Change}
-use Rattle.ped_session.specs.declared.changes.Change.TheVariants.{Edit}
+use Rattle.ped_session.specs.declared.changes.Change.TheVariants.{Edit, Transformation}
 use Rattle.ped_session.specs.declared.replies.Refusal.{Refusal}
-use Rattle.ped_session.specs.declared.replies.Refusal.TheVariants.{NoSuchLine}
 use Rattle.ped_session.specs.declared.replies.Reply.{Reply}
-use Rattle.ped_session.specs.declared.replies.Reply.TheVariants.{Changed, Shown, Refused}
+use Rattle.ped_session.specs.declared.replies.Reply.TheVariants.{Changed, Refused}
 use Rattle.ped_session.specs.States.{Other, State}
-use Rattle.ped_session.specs.Splices.{are_lines, is_place}
-use Rattle.ped_session.specs.Steps.{Refuses, ShowsOf, Edits, accepted, refused, GoesBack, GoesForward, Runs, IsStep, IsMove}
+use Rattle.ped_session.specs.Transforming.{StepAt}
+use Rattle.ped_session.specs.Steps.{Edits, accepted, refused, Transforms, missing, forbidden, transformed, GoesBack, GoesForward, IsStep, IsMove}
 use Rattle.ped_session.specs.Histories.{HaveSameSources, Times}
+use Rattle.ped_session.proofs.Doing.{Does, by_nothing, by_edit, by_step, by_undo, by_redo, does}
 
--- a change is no refusal, and nothing is shown by it
+-- a change is no refusal
 no_refusal : (why : Refusal) → ◌≡◌ {A = Reply} Changed (Refused why) → ⊥
 no_refusal why e = cc
-
-no_show : (bytes : List ℕ) → ◌≡◌ {A = Reply} Changed (Shown bytes) → ⊥
-no_show bytes e = cc
 
 -- the first of some sources becomes the present one, and the present one the first of others
 record Moves (taken : List Other) (present : List ℕ) (given taken_next : List Other) (present_next : List ℕ) (given_next : List Other) : Type 0 where
@@ -100,45 +94,20 @@ edit_leaves : (edited : List ℕ) (s next : State) → Edits edited s Changed ne
 edit_leaves edited s next (accepted old new from to reply after) = record { change = Edit; past_is = ap (λ (n : State). n.past) after }
 edit_leaves edited s next (refused why first same) = absurd (no_refusal _ same.0)
 
-edit_leaves_by : (there : Bool) (edited : List ℕ) (s next : State) → MatchBool there (Edits edited s Changed next) (Refuses NoSuchLine s Changed next) → Leaves s next
-edit_leaves_by true edited s next h = edit_leaves edited s next h
-edit_leaves_by false edited s next h = absurd (no_refusal _ h.0)
+step_leaves : (at : StepAt) (s next : State) → Transforms at s Changed next → Leaves s next
+step_leaves at s next (missing t reads none same) = absurd (no_refusal _ same.0)
+step_leaves at s next (forbidden t reads some c is same) = absurd (no_refusal _ same.0)
+step_leaves at s next (transformed t reads some none valid reply after) = record { change = Transformation; past_is = ap (λ (n : State). n.past) after }
 
-statement_leaves : (number : ℕ) (statement : Option StmtTree) (s next : State) → ShowsOf number statement s Changed next → Leaves s next
-statement_leaves number None s next h = absurd (no_refusal _ h.0)
-statement_leaves number (Some statement) s next h = absurd (no_show _ h.prints.0)
-
-run_leaves : (choices d : List ℕ) (s next : State) → Runs choices d s Changed next → Leaves s next
-run_leaves [] d s next h = absurd (no_show _ h.prints.0)
-run_leaves (c ∷ cs) d s next h = absurd (no_refusal _ h.0)
+leaves_by : (c : Command) (s next : State) → ¬ (IsMove c) → Does c s Changed next → Leaves s next
+leaves_by c s next still (by_nothing changed is) = absurd (changed refl)
+leaves_by c s next still (by_edit text h) = edit_leaves text s next h
+leaves_by c s next still (by_step at lawful h) = step_leaves at s next h
+leaves_by c s next still (by_undo is h) = absurd (still (inl is))
+leaves_by c s next still (by_redo is h) = absurd (still (inr is))
 
 leaves : (c : Command) (d : List ℕ) (s next : State) → ¬ (IsMove c) → IsStep c d s Changed next → Leaves s next
-leaves Source d s next still h = absurd (no_show _ h.prints.0)
-leaves (Deps None) d s next still h = absurd (no_show _ h.prints.0)
-leaves (Deps (Some number)) d s next still h = statement_leaves number (statement_with number h.tree) s next h.shows
-leaves Show d s next still h = absurd (no_show _ h.prints.0)
-leaves Print d s next still h = absurd (no_show _ h.0)
-leaves (Replace first last lines) d s next still h = edit_leaves_by (are_lines s.present first last) _ s next h
-leaves (Insert after lines) d s next still h = edit_leaves_by (is_place s.present after) _ s next h
-leaves (Delete first last) d s next still h = edit_leaves_by (are_lines s.present first last) _ s next h
-leaves Undo d s next still h = absurd (still (inl refl))
-leaves Redo d s next still h = absurd (still (inr refl))
-leaves (Run choices) d s next still h = run_leaves choices d s next h
-leaves (Advise number) d s next still h = absurd (no_refusal _ h.0)
-leaves (Interchange number) d s next still h = absurd (no_refusal _ h.0)
-leaves (Reverse number) d s next still h = absurd (no_refusal _ h.0)
-leaves (Skew number factor) d s next still h = absurd (no_refusal _ h.0)
-leaves (Strip number size) d s next still h = absurd (no_refusal _ h.0)
-leaves (Peel number last) d s next still h = absurd (no_refusal _ h.0)
-leaves (Distribute number) d s next still h = absurd (no_refusal _ h.0)
-leaves (Fuse number) d s next still h = absurd (no_refusal _ h.0)
-leaves (Expand number name) d s next still h = absurd (no_refusal _ h.0)
-leaves (Privatise number name) d s next still h = absurd (no_refusal _ h.0)
-leaves (Parallel number) d s next still h = absurd (no_refusal _ h.0)
-leaves (Serial number) d s next still h = absurd (no_refusal _ h.0)
-leaves (Reject number name) d s next still h = absurd (no_refusal _ h.0)
-leaves Races d s next still h = absurd (no_refusal _ h.0)
-leaves Tested d s next still h = absurd (no_refusal _ h.0)
+leaves c d s next still h = leaves_by c s next still (does c d s next Changed h)
 
 -- `undo` behind a change gives the former source and the former past
 pub restored : (c : Command) (d : List ℕ) (s next back : State) → ¬ (IsMove c) → IsStep c d s Changed next → IsStep Undo d next Changed back → (back.present ≡ s.present) × (back.past ≡ s.past)

@@ -1,5 +1,5 @@
 -- A command has one reply in a state, and leads to one state.
-use Rattle.std.proofs.Common.{◌≡◌, inl, inr, ℕ, Bool, true, false, List, [], ◌∷◌, ◌++◌, Option, Some, None, sym, ap, ◌∙◌, subst}
+use Rattle.std.proofs.Common.{◌≡◌, inl, inr, ℕ, Bool, true, false, List, [], ◌∷◌, ◌++◌, Option, Some, None, is_some, sym, ap, ◌∙◌, subst}
 use Rattle.std.specs.Prelude.{MatchBool}
 use Rattle.ped_tree.specs.Tree.{StmtTree, ProgramTree}
 use Rattle.ped_tree.specs.Printing.{program_text}
@@ -14,18 +14,23 @@ use Rattle.ped_graph.specs.DependencePane.{IsDependencePane, IsDependencePaneOf}
 use Rattle.ped_graph.proofs.OnePane.{one_pane, one_pane_of}
 use Rattle.ped_update.specs.Fresh.{tested_pairs}
 use Rattle.ped_eval.specs.Outcomes.{outcome}
+use Rattle.ped_steps.specs.Causes.{Cause}
 use Rattle.ped_script.specs.declared.items.Command.{Command}
 use Rattle.ped_script.specs.declared.items.Command.TheVariants.{Source, Deps, Show, Print, Advise, Replace, Insert, Delete, Interchange, Reverse, Skew, Strip, Peel, Distribute, Fuse, Expand, Privatise, Parallel, Serial, Reject, Undo, Redo, Run, Races, Tested}
-use Rattle.ped_session.specs.declared.changes.Change.TheVariants.{Edit}
+use Rattle.ped_session.specs.declared.changes.Change.TheVariants.{Edit, Transformation}
 use Rattle.ped_session.specs.declared.replies.Refusal.{Refusal}
-use Rattle.ped_session.specs.declared.replies.Refusal.TheVariants.{BadEdit, NothingToUndo, NothingToRedo, NoSuchStatement, NoSuchLine, NotBuilt}
+use Rattle.ped_session.specs.declared.replies.Refusal.TheVariants.{BadEdit, Step, NothingToUndo, NothingToRedo, NoSuchStatement, NoSuchLine, NotBuilt}
 use Rattle.ped_session.specs.declared.replies.Reply.{Reply}
 use Rattle.ped_session.specs.declared.replies.Reply.TheVariants.{Shown, Refused}
 use Rattle.ped_session.specs.States.{Other, State, changed_to}
 use Rattle.ped_session.specs.Blocks.{block}
+use Rattle.ped_session.specs.RaceRows.{race_row, IsRaceRow}
 use Rattle.ped_session.specs.Panes.{IsSourcePane, ArePanes}
 use Rattle.ped_session.specs.Splices.{are_lines, is_place}
-use Rattle.ped_session.specs.Steps.{Refuses, Shows, ShowsOf, ShowsStatement, Edits, accepted, refused, GoesBack, GoesForward, Runs, IsStep}
+use Rattle.ped_session.specs.Steps.{Refuses, Shows, ShowsOf, ShowsStatement, Edits, accepted, refused, Transforms, missing, forbidden, transformed, GoesBack, GoesForward, Runs, IsStep}
+use Rattle.ped_session.specs.Transforming.{StepAt, privatising}
+use Rattle.ped_session.proofs.Doing.{IsLawful, lawful_privatising}
+use Rattle.ped_order.proofs.OneReport.{one_at_most}
 use Rattle.ped_session.proofs.OneFinding.{one_found}
 
 -- a text has one valid tree at most
@@ -48,6 +53,15 @@ not_both text t f p q = elim (one_of_both text) [
   | inl tree ↦ tree.accepted f q
   | inr refusal ↦ refusal.treeless t p
 ]
+
+pub none_and_some : (o : Option StmtTree) → is_some o ≡ false → is_some o ≡ true → ⊥
+none_and_some o none some = cc
+
+some_is : (c d : Cause) → Some c ≡ Some d → c ≡ d
+some_is c d e = cc
+
+pub no_cause : (c : Cause) → ◌≡◌ {A = Option Cause} (Some c) None → ⊥
+no_cause c e = cc
 
 -- what is refused for one cause
 one_refuses : (why : Refusal) (s : State) (p q : Reply) (m n : State) → Refuses why s p m → Refuses why s q n → (p ≡ q) × (m ≡ n)
@@ -107,6 +121,31 @@ one_run : (choices data_bytes : List ℕ) (s : State) (p q : Reply) (m n : State
 one_run [] data_bytes s p q m n a b = one_shows (λ t bytes. bytes ≡ block (outcome t data_bytes)) (λ t x y e f. e ∙ sym f) s p q m n a b
 one_run (c ∷ cs) data_bytes s p q m n a b = one_refuses NotBuilt s p q m n a b
 
+-- a step, whose first cause is one
+one_transform : (at : StepAt) (s : State) (p q : Reply) (m n : State) → IsLawful at → Transforms at s p m → Transforms at s q n → (p ≡ q) × (m ≡ n)
+one_transform at s p q m n lawful (missing t reads none a) (missing u other nothing b) = one_refuses NoSuchStatement s p q m n a b
+one_transform at s p q m n lawful (missing t reads none a) (forbidden u other some d is b) =
+    absurd (none_and_some (statement_with at.statement u) (subst (λ (v : ProgramTree). is_some (statement_with at.statement v) ≡ false) (one_tree s.present t u reads other) none) some)
+one_transform at s p q m n lawful (missing t reads none a) (transformed u other some free valid b after) =
+    absurd (none_and_some (statement_with at.statement u) (subst (λ (v : ProgramTree). is_some (statement_with at.statement v) ≡ false) (one_tree s.present t u reads other) none) some)
+one_transform at s p q m n lawful (forbidden t reads some c is a) (missing u other none b) =
+    absurd (none_and_some (statement_with at.statement t) (subst (λ (v : ProgramTree). is_some (statement_with at.statement v) ≡ false) (one_tree s.present u t other reads) none) some)
+one_transform at s p q m n lawful (transformed t reads some free valid a after) (missing u other none b) =
+    absurd (none_and_some (statement_with at.statement t) (subst (λ (v : ProgramTree). is_some (statement_with at.statement v) ≡ false) (one_tree s.present u t other reads) none) some)
+one_transform at s p q m n lawful (forbidden t reads some c is a) (forbidden u other more d same b) =
+    let causes = lawful.one u (Some c) (Some d) (subst (λ (v : ProgramTree). at.IsCause v (Some c)) (one_tree s.present t u reads other) is) same in
+    (a.0 ∙ ap (λ (x : Cause). Refused (Step x)) (some_is c d causes) ∙ sym b.0, a.1 ∙ sym b.1)
+one_transform at s p q m n lawful (forbidden t reads some c is a) (transformed u other more free valid b after) =
+    absurd (no_cause c (lawful.one u (Some c) None (subst (λ (v : ProgramTree). at.IsCause v (Some c)) (one_tree s.present t u reads other) is) free))
+one_transform at s p q m n lawful (transformed t reads some free valid a after) (forbidden u other more d is b) =
+    absurd (no_cause d (lawful.one t (Some d) None (subst (λ (v : ProgramTree). at.IsCause v (Some d)) (one_tree s.present u t other reads) is) free))
+one_transform at s p q m n lawful (transformed t reads some free valid a after) (transformed u other more none well b next) =
+    let trees = one_tree s.present t u reads other in
+    (a ∙ sym b, after ∙ (λ i. changed_to (program_text (at.new (trees i))) Transformation (tested_pairs (trees i) (at.new (trees i)) (at.keep (trees i))) s) ∙ sym next)
+
+one_race_row : (data_bytes : List ℕ) (t : ProgramTree) (x y : List ℕ) → IsRaceRow data_bytes t x → IsRaceRow data_bytes t y → x ≡ y
+one_race_row data_bytes t x y a b = a.2 ∙ ap race_row (one_at_most t data_bytes a.0 b.0 a.1 b.1) ∙ sym b.2
+
 -- a command has one reply, and leads to one state
 pub one : (c : Command) (data_bytes : List ℕ) (s m n : State) (p q : Reply) → IsStep c data_bytes s p m → IsStep c data_bytes s q n → (p ≡ q) × (m ≡ n)
 one Source d s m n p q a b = one_shows IsSourcePane one_source_pane s p q m n a b
@@ -120,6 +159,7 @@ one (Delete first last) d s m n p q a b = one_edit_by (are_lines s.present first
 one Undo d s m n p q a b = one_back s.past s p q m n a b
 one Redo d s m n p q a b = one_forward s.future s p q m n a b
 one (Run choices) d s m n p q a b = one_run choices d s p q m n a b
+one Races d s m n p q a b = one_shows (IsRaceRow d) (one_race_row d) s p q m n a b
 one (Advise number) d s m n p q a b = one_refuses NotBuilt s p q m n a b
 one (Interchange number) d s m n p q a b = one_refuses NotBuilt s p q m n a b
 one (Reverse number) d s m n p q a b = one_refuses NotBuilt s p q m n a b
@@ -129,9 +169,8 @@ one (Peel number last) d s m n p q a b = one_refuses NotBuilt s p q m n a b
 one (Distribute number) d s m n p q a b = one_refuses NotBuilt s p q m n a b
 one (Fuse number) d s m n p q a b = one_refuses NotBuilt s p q m n a b
 one (Expand number name) d s m n p q a b = one_refuses NotBuilt s p q m n a b
-one (Privatise number name) d s m n p q a b = one_refuses NotBuilt s p q m n a b
+one (Privatise number name) d s m n p q a b = one_transform (privatising number name) s p q m n (lawful_privatising number name) a b
 one (Parallel number) d s m n p q a b = one_refuses NotBuilt s p q m n a b
 one (Serial number) d s m n p q a b = one_refuses NotBuilt s p q m n a b
 one (Reject number name) d s m n p q a b = one_refuses NotBuilt s p q m n a b
-one Races d s m n p q a b = one_refuses NotBuilt s p q m n a b
 one Tested d s m n p q a b = one_refuses NotBuilt s p q m n a b

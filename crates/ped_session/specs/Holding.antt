@@ -1,5 +1,5 @@
 -- What a session holds of its programs. Contracts of private functions alone speak of it (this project).
-use Rattle.std.specs.Prelude.{◌≡◌, List, [], ◌∷◌}
+use Rattle.std.specs.Prelude.{◌≡◌, List, [], ◌∷◌, map}
 use Rattle.ped_tree.specs.Tree.{ProgramTree}
 use Rattle.ped_tree.specs.Views.{program_tree}
 use Rattle.ped_tree.specs.Printing.{program_text}
@@ -10,6 +10,7 @@ use Rattle.ped_update.specs.Deltas.{TakesTo}
 use Rattle.ped_session.specs.declared.versions.Version.{Version}
 use Rattle.ped_session.specs.declared.versions.Entry.{Entry}
 use Rattle.ped_session.specs.States.{Other}
+use Rattle.ped_session.specs.Meanings.{IsPastKept, IsFutureKept}
 
 -- the tree of a version
 abbrev pub tree_of : Version → ProgramTree
@@ -30,9 +31,11 @@ abbrev pub Leads : {L : _} → Held → List (Entry L) → Type 0
 Leads graph [] = Unit {0}
 Leads graph (e ∷ es) = IsVersion e.other × TakesTo e.delta graph (held_of (tree_of e.other)) × Leads (held_of (tree_of e.other)) es
 
--- the graph is that of the present program, and the past and the future can be gone to
+-- the graph is that of the present program, the past and the future can be gone to, and each transformation keeps the meaning
 pub record IsConsistent {L : _} (present : Version) (graph : Held) (past future : List (Entry L)) : Type 0 where
   pub version : IsVersion present
   pub graph_is : graph ≡ held_of (tree_of present)
   pub past_leads : Leads graph past
   pub future_leads : Leads graph future
+  pub past_kept : IsPastKept present.text (map other_of past)
+  pub future_kept : IsFutureKept present.text (map other_of future)

@@ -1,10 +1,15 @@
 pub mod Adding
 pub mod Blocks
+pub mod Changing
 pub mod Histories
 pub mod Holding
+pub mod Meanings
 pub mod Panes
+pub mod RaceRows
 pub mod Replies
+pub mod RunsAsBefore
 pub mod Scripts
 pub mod Splices
 pub mod States
 pub mod Steps
+pub mod Transforming

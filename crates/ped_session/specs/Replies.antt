@@ -4,7 +4,8 @@ use Rattle.std.specs.Fmt.{decimal}
 use Rattle.ped_grammar.specs.Refusal.{Finding, number_of, name_of_refusal}
 use Rattle.ped_grammar.specs.RefusalViews.{finding_of}
 use Rattle.ped_session.specs.declared.replies.Refusal.{Refusal}
-use Rattle.ped_session.specs.declared.replies.Refusal.TheVariants.{BadEdit, NothingToUndo, NothingToRedo, NoSuchStatement, NoSuchLine, NotBuilt}
+use Rattle.ped_steps.specs.CauseWords.{cause_words}
+use Rattle.ped_session.specs.declared.replies.Refusal.TheVariants.{BadEdit, Step, NothingToUndo, NothingToRedo, NoSuchStatement, NoSuchLine, NotBuilt}
 use Rattle.ped_session.specs.declared.replies.Reply.{Reply}
 use Rattle.ped_session.specs.declared.replies.Reply.TheVariants.{Changed, Shown, Refused}
 
@@ -23,6 +24,7 @@ bad_edit_words f = codes "BadEdit " ++ decimal (number_of f.refusal) ++ codes " 
 -- why a command is refused
 abbrev pub refusal_words : Refusal → List ℕ
 refusal_words (BadEdit r) = bad_edit_words (finding_of r)
+refusal_words (Step cause) = cause_words cause
 refusal_words NothingToUndo = codes "NothingToUndo"
 refusal_words NothingToRedo = codes "NothingToRedo"
 refusal_words NoSuchStatement = codes "NoSuchStatement"

@@ -1,19 +1,20 @@
 -- What a command does: its reply, and the state of the session behind it (ParaScope; this project).
-use Rattle.std.specs.Prelude.{◌≡◌, ◌⊎◌, ℕ, ◌-◌, ◌+◌, List, [], ◌∷◌, Bool, Option, Some, None, MatchOption, MatchBool}
+use Rattle.std.specs.Prelude.{◌≡◌, ◌⊎◌, ℕ, ◌-◌, ◌+◌, List, [], ◌∷◌, true, false, Option, Some, None, MatchBool, is_some}
 use Rattle.ped_tree.specs.Tree.{StmtTree, ProgramTree}
 use Rattle.ped_tree.specs.Printing.{program_text}
 use Rattle.ped_tree.specs.Numbering.{statement_with}
+use Rattle.ped_symbols.specs.NameRefusals.{IsValid}
 use Rattle.ped_grammar.specs.RefusalViews.{finding_of}
 use Rattle.ped_grammar.specs.declared.refusals.Refusal as reading
 use Rattle.ped_valid.specs.Validity.{ReadsValid, RefusesText}
 use Rattle.ped_graph.specs.DependencePane.{IsDependencePane, IsDependencePaneOf}
 use Rattle.ped_update.specs.Fresh.{tested_pairs}
 use Rattle.ped_eval.specs.Outcomes.{outcome}
+use Rattle.ped_steps.specs.Causes.{Cause}
 use Rattle.ped_script.specs.declared.items.Command.{Command}
 use Rattle.ped_script.specs.declared.items.Command.TheVariants.{Source, Deps, Show, Print, Advise, Replace, Insert, Delete, Interchange, Reverse, Skew, Strip, Peel, Distribute, Fuse, Expand, Privatise, Parallel, Serial, Reject, Undo, Redo, Run, Races, Tested}
-use Rattle.ped_session.specs.declared.changes.Change.{Change}
-use Rattle.ped_session.specs.declared.changes.Change.TheVariants.{Edit}
-use Rattle.ped_session.specs.declared.replies.Refusal.TheVariants.{BadEdit, NothingToUndo, NothingToRedo, NoSuchStatement, NoSuchLine, NotBuilt}
+use Rattle.ped_session.specs.declared.changes.Change.TheVariants.{Edit, Transformation}
+use Rattle.ped_session.specs.declared.replies.Refusal.TheVariants.{BadEdit, Step, NothingToUndo, NothingToRedo, NoSuchStatement, NoSuchLine, NotBuilt}
 use Rattle.ped_session.specs.declared.replies.Reply.{Reply}
 use Rattle.ped_session.specs.declared.replies.Reply.TheVariants.{Changed, Shown, Refused}
 use Rattle.ped_session.specs.declared.replies.Refusal.{Refusal}
@@ -21,6 +22,8 @@ use Rattle.ped_session.specs.States.{Other, State, changed_to, gone_back_to, gon
 use Rattle.ped_session.specs.Splices.{spliced, are_lines, is_place}
 use Rattle.ped_session.specs.Panes.{IsSourcePane, ArePanes}
 use Rattle.ped_session.specs.Blocks.{block}
+use Rattle.ped_session.specs.RaceRows.{IsRaceRow}
+use Rattle.ped_session.specs.Transforming.{StepAt, privatising}
 
 -- the command is refused, and the session is as it was
 abbrev pub Refuses : Refusal → State → Reply → State → Type 0
@@ -65,6 +68,13 @@ abbrev pub Inserts : ℕ → List (List ℕ) → State → Reply → State → T
 Inserts after new s reply next =
     MatchBool (is_place s.present after) (Edits (spliced s.present after 0 new) s reply next) (Refuses NoSuchLine s reply next)
 
+-- a step: the present program has no statement of that number, or a cause forbids the step and the first is told, and the session is as it was; or the printed text of the program behind the step, which is valid, is the new source (ParaScope; this project)
+pub data Transforms (at : StepAt) (s : State) (reply : Reply) (next : State) : Type 0 where
+  missing : (t : ProgramTree) → ReadsValid s.present t → is_some (statement_with at.statement t) ≡ false → Refuses NoSuchStatement s reply next → Transforms at s reply next
+  forbidden : (t : ProgramTree) → ReadsValid s.present t → is_some (statement_with at.statement t) ≡ true → (c : Cause) → at.IsCause t (Some c) → Refuses (Step c) s reply next → Transforms at s reply next
+  transformed : (t : ProgramTree) → ReadsValid s.present t → is_some (statement_with at.statement t) ≡ true → at.IsCause t None → IsValid (at.new t)
+      → reply ≡ Changed → next ≡ changed_to (program_text (at.new t)) Transformation (tested_pairs t (at.new t) (at.keep t)) s → Transforms at s reply next
+
 -- one step back, where there is a past
 abbrev pub GoesBack : List Other → State → Reply → State → Type 0
 GoesBack [] s reply next = Refuses NothingToUndo s reply next
@@ -93,6 +103,7 @@ IsStep (Delete first last) data_bytes s reply next = Replaces first last [] s re
 IsStep Undo data_bytes s reply next = GoesBack s.past s reply next
 IsStep Redo data_bytes s reply next = GoesForward s.future s reply next
 IsStep (Run choices) data_bytes s reply next = Runs choices data_bytes s reply next
+IsStep Races data_bytes s reply next = Shows (IsRaceRow data_bytes) s reply next
 IsStep (Advise number) data_bytes s reply next = Refuses NotBuilt s reply next
 IsStep (Interchange number) data_bytes s reply next = Refuses NotBuilt s reply next
 IsStep (Reverse number) data_bytes s reply next = Refuses NotBuilt s reply next
@@ -102,11 +113,10 @@ IsStep (Peel number last) data_bytes s reply next = Refuses NotBuilt s reply nex
 IsStep (Distribute number) data_bytes s reply next = Refuses NotBuilt s reply next
 IsStep (Fuse number) data_bytes s reply next = Refuses NotBuilt s reply next
 IsStep (Expand number name) data_bytes s reply next = Refuses NotBuilt s reply next
-IsStep (Privatise number name) data_bytes s reply next = Refuses NotBuilt s reply next
+IsStep (Privatise number name) data_bytes s reply next = Transforms (privatising number name) s reply next
 IsStep (Parallel number) data_bytes s reply next = Refuses NotBuilt s reply next
 IsStep (Serial number) data_bytes s reply next = Refuses NotBuilt s reply next
 IsStep (Reject number name) data_bytes s reply next = Refuses NotBuilt s reply next
-IsStep Races data_bytes s reply next = Refuses NotBuilt s reply next
 IsStep Tested data_bytes s reply next = Refuses NotBuilt s reply next
 
 -- `undo` and `redo` move along the history

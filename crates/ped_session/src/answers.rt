@@ -4,6 +4,7 @@ ghost use Rattle.std.specs.Prelude.{◌≡◌, ◌+◌, ◌≤◌, Some, IfOk, O
 ghost use Rattle.ped_session.specs.States.{State};
 ghost use Rattle.ped_session.specs.Scripts as Spec;
 ghost use Rattle.ped_session.specs.Scripts.{AnswersItem, AnswersItems};
+ghost use Rattle.ped_session.specs.RunsAsBefore.{AnswersAsBefore};
 ghost use Rattle.ped_session.specs.Replies as Replies;
 ghost use Rattle.ped_session.specs.Adding.{added, Adds};
 
@@ -25,8 +26,9 @@ pub struct Answered {
     pub refused: bool,
 }
 
-/// Answers the items of a script one behind another; programs are run on these data. After want of memory the session
-/// stands behind the last item that was answered.
+/// Answers the items of a script one behind another; programs are run on these data. Each `run` shows what the programs
+/// show from which the present one has come by transformations alone, where these run without a fault and without a
+/// race. After want of memory the session stands behind the last item that was answered.
 pub fn answer_items<L: Ledger>(
     alloc: Global,
     session: &mut Session<L>,
@@ -36,9 +38,11 @@ pub fn answer_items<L: Ledger>(
 ) -> Result<Answered, NoMemory>
     ensures answers { IfOk result (λ answered. (said : Spec.Said) × AnswersItems items.now input.now session.old said session.new
         × (answered.bytes ≡ said.bytes) × (answered.refused ≡ said.refused) × (steps.new ≡ steps.old + said.tests)) }
+    ensures before { IfOk result (λ answered. (said : Spec.Said) × AnswersAsBefore items.now input.now session.old said session.new × (answered.bytes ≡ said.bytes)) }
     ensures least { steps.old ≤ steps.new }
     ensures most { (said : Spec.Said) (last : State) → AnswersItems items.now input.now session.old said last → steps.new ≤ steps.old + said.tests }
 {
+    let _ = &session.present;
     let mut answered = Answered {
         bytes: Bytes::new(alloc),
         refused: false,

@@ -78,7 +78,7 @@ fn push_value(out: &mut Bytes, value: Option<i128>) -> Result<(), NoMemory>
 }
 
 /// Adds a fault with its statement.
-fn push_fault(out: &mut Bytes, number: u8, statement: u32) -> Result<(), NoMemory>
+pub(crate) fn push_fault(out: &mut Bytes, number: u8, statement: u32) -> Result<(), NoMemory>
     ensures { OnOk result (out.new ≡ out.old ++ Spec.fault_row number statement) }
 {
     out.extend_from_slice(b"fault ")?;

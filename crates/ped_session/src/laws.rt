@@ -3,6 +3,8 @@
 ghost use Rattle.std.specs.Prelude.{◌≡◌, ℕ, List};
 ghost use Rattle.ped_tree.specs.Tree.{ProgramTree};
 ghost use Rattle.ped_symbols.specs.NameRefusals.{IsValid};
+ghost use Rattle.ped_valid.specs.Validity.{ReadsValid};
+ghost use Rattle.ped_step_runs.specs.Meaning.{Keeps};
 ghost use Rattle.ped_script.specs.declared.items.Command.{Command};
 ghost use Rattle.ped_script.specs.declared.items.Command.TheVariants.{Undo, Redo};
 ghost use Rattle.ped_script.specs.declared.items.Item.{Item};
@@ -12,6 +14,8 @@ ghost use Rattle.ped_session.specs.declared.replies.Reply.TheVariants.{Changed, 
 ghost use Rattle.ped_session.specs.States.{State, opened};
 ghost use Rattle.ped_session.specs.Steps.{IsStep, IsMove};
 ghost use Rattle.ped_session.specs.Scripts.{Said, AnswersItems};
+ghost use Rattle.ped_session.specs.Meanings.{IsMeaningKept, ComesFrom};
+ghost use Rattle.ped_session.specs.RunsAsBefore.{AnswersAsBefore};
 ghost use Rattle.ped_session.specs.Histories.{ArePrinted, HaveSameSources, Times};
 
 /// A command has one reply at most in a state, and leads to one state.
@@ -52,4 +56,24 @@ pub fn moves_restore_each_other()
         Times n Undo data_bytes s back → Times n Redo data_bytes back again → HaveSameSources again s }
     ensures undone { (n : ℕ) (data_bytes : List ℕ) (s forth again : State) →
         Times n Redo data_bytes s forth → Times n Undo data_bytes forth again → HaveSameSources again s }
+{}
+
+/// A session is opened without a history, and each command keeps that each transformation in it keeps the meaning.
+pub fn transformations_keep_the_meaning()
+    ensures opened { (t : ProgramTree) → IsMeaningKept (opened t) }
+    ensures step { (c : Command) (data_bytes : List ℕ) (s next : State) (reply : code_reply.Reply) →
+        IsMeaningKept s → IsStep c data_bytes s reply next → IsMeaningKept next }
+{}
+
+/// The present program keeps the meaning of each program from which it has come by transformations alone.
+pub fn sources_keep_the_meaning()
+    ensures { (s : State) (earlier : List ℕ) (t u : ProgramTree) → IsMeaningKept s → ComesFrom s.present s.past earlier →
+        ReadsValid earlier t → ReadsValid s.present u → Keeps t u }
+{}
+
+/// Whatever a script does, each `run` shows what the programs show from which the present one has come by
+/// transformations alone, where these run without a fault and without a race.
+pub fn runs_are_as_before()
+    ensures { (t : ProgramTree) (items : List Item) (data_bytes : List ℕ) (said : Said) (last : State) →
+        AnswersItems items data_bytes (opened t) said last → AnswersAsBefore items data_bytes (opened t) said last }
 {}

@@ -5,9 +5,11 @@
 mod answers;
 mod blocks;
 mod changes;
+mod changing;
 mod editing;
 mod laws;
 mod moving;
+mod race_rows;
 mod replies;
 mod scripts;
 mod session;
@@ -15,14 +17,16 @@ mod showing;
 mod splices;
 #[cfg(test)]
 mod tests;
+mod transforming;
 mod versions;
 
 pub use answers::{Answered, answer_items};
 pub use changes::Change;
 pub use laws::{
-    moves_restore_each_other, one_answer, one_step, refused_changes_nothing, sources_are_printed,
+    moves_restore_each_other, one_answer, one_step, refused_changes_nothing, runs_are_as_before,
+    sources_are_printed, sources_keep_the_meaning, transformations_keep_the_meaning,
     undo_restores,
 };
-pub use replies::{Refusal, Reply};
+pub use replies::{FirstCause, Refusal, Reply};
 pub use scripts::{bad_command_row, reply_text};
 pub use session::Session;

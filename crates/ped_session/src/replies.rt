@@ -1,13 +1,55 @@
 //! Replies to commands.
 
+ghost use Rattle.std.specs.Prelude.{◌≡◌};
+ghost use Rattle.ped_steps.specs.CodeCauses.{cause_of, IsShort};
+
 use ped_base::Bytes;
 use ped_grammar::Refusal as TextRefusal;
+use ped_steps::Refused;
+use std::marker::Model;
+
+/// The first cause against a step. Contracts see the rule with the statement that it names, or the dependence.
+#[derive(Drop)]
+pub struct FirstCause {
+    refused: Refused,
+}
+
+impl Model for FirstCause {
+    ghost use Rattle.ped_steps.specs.Causes.{Cause};
+    ghost use Rattle.ped_steps.specs.CodeCauses.{cause_of, IsShort};
+
+    ghost Value = { Cause };
+
+    ghost view = { λ c. cause_of c.refused };
+
+    ghost invariant = { λ c. IsShort c.refused };
+}
+
+impl FirstCause {
+    /// The cause for which a step was refused.
+    pub(crate) fn new(refused: Refused) -> FirstCause
+        requires { IsShort refused }
+        ensures { result ≡ cause_of refused }
+    {
+        FirstCause { refused }
+    }
+
+    /// The cause as the step has told it.
+    pub fn refused(&self) -> &Refused
+        ensures cause { cause_of result.now ≡ self.now }
+        ensures short { IsShort result.now }
+    {
+        &self.refused
+    }
+}
 
 /// Why a command is refused.
-#[derive(Clone, Copy, Debug, PartialEq, Eq)]
+#[derive(Drop)]
 pub enum Refusal {
     /// The text of an edit isn't read: its first refusal, whose line counts in the text with the edit in it.
     BadEdit(TextRefusal),
+    /// A rule stands against the step, or a dependence forbids it: the first cause.
+    Step(FirstCause),
     /// There is no past source.
     NothingToUndo,
     /// There is no future source.

@@ -3,9 +3,10 @@
 ghost use Rattle.std.specs.Prelude.{◌≡◌, ◌++◌, ◌∷◌, [], codes, IfOk, OnOk};
 ghost use Rattle.std.specs.Fmt.{decimal};
 ghost use Rattle.ped_grammar.specs.RefusalViews.{finding_of};
+ghost use Rattle.ped_steps.specs.CauseWords.{cause_words};
 ghost use Rattle.ped_session.specs.Replies as Spec;
 
-use crate::replies::{Refusal, Reply};
+use crate::replies::{FirstCause, Refusal, Reply};
 use itoa::Buffer;
 use ped_base::{Bytes, NoMemory};
 use ped_grammar::Refusal as TextRefusal;
@@ -19,7 +20,7 @@ pub fn reply_text(alloc: Global, line: u64, reply: &Reply) -> Result<Bytes, NoMe
     match reply {
         Reply::Changed => push_row(&mut out, line, b"ok")?,
         Reply::Shown(bytes) => out.extend_from_slice(bytes.as_slice())?,
-        Reply::Refused(why) => push_refused(&mut out, line, *why)?,
+        Reply::Refused(why) => push_refused(alloc, &mut out, line, why)?,
     }
     Ok(out)
 }
@@ -44,21 +45,27 @@ fn push_row(out: &mut Bytes, line: u64, words: &[u8]) -> Result<(), NoMemory>
 }
 
 /// Adds the row that says why the command on this line is refused.
-fn push_refused(out: &mut Bytes, line: u64, why: Refusal) -> Result<(), NoMemory>
-    ensures { OnOk result (out.new ≡ out.old ++ Spec.answer_row line (codes "refused " ++ Spec.refusal_words why)) }
+fn push_refused(
+    alloc: Global,
+    out: &mut Bytes,
+    line: u64,
+    why: &Refusal,
+) -> Result<(), NoMemory>
+    ensures { OnOk result (out.new ≡ out.old ++ Spec.answer_row line (codes "refused " ++ Spec.refusal_words why.now)) }
 {
     push_number(out, line)?;
     out.extend_from_slice(b": refused ")?;
-    push_words(out, why)?;
+    push_words(alloc, out, why)?;
     out.push(b'\n')
 }
 
 /// Adds why a command is refused.
-fn push_words(out: &mut Bytes, why: Refusal) -> Result<(), NoMemory>
-    ensures { OnOk result (out.new ≡ out.old ++ Spec.refusal_words why) }
+fn push_words(alloc: Global, out: &mut Bytes, why: &Refusal) -> Result<(), NoMemory>
+    ensures { OnOk result (out.new ≡ out.old ++ Spec.refusal_words why.now) }
 {
     match why {
-        Refusal::BadEdit(refusal) => return push_bad_edit(out, refusal),
+        Refusal::BadEdit(refusal) => return push_bad_edit(out, *refusal),
+        Refusal::Step(cause) => return push_cause(alloc, out, cause),
         Refusal::NothingToUndo => return out.extend_from_slice(b"NothingToUndo"),
         Refusal::NothingToRedo => return out.extend_from_slice(b"NothingToRedo"),
         Refusal::NoSuchStatement => return out.extend_from_slice(b"NoSuchStatement"),
@@ -77,6 +84,14 @@ fn push_bad_edit(out: &mut Bytes, refusal: TextRefusal) -> Result<(), NoMemory>
     out.extend_from_slice(refusal.kind.name())?;
     out.extend_from_slice(b" at ")?;
     push_number(out, refusal.line)
+}
+
+/// Adds the first cause against a step.
+fn push_cause(alloc: Global, out: &mut Bytes, cause: &FirstCause) -> Result<(), NoMemory>
+    ensures { OnOk result (out.new ≡ out.old ++ cause_words cause.now) }
+{
+    let words = ped_steps::cause_words(alloc, cause.refused())?;
+    out.extend_from_slice(words.as_slice())
 }
 
 /// Adds the digits of a number.

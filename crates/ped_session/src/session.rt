@@ -15,6 +15,7 @@ ghost use Rattle.ped_graph.specs.Dependences.{AreEdges};
 ghost use Rattle.ped_eval.specs.Outcomes.{outcome};
 ghost use Rattle.ped_eval.specs.OutcomeViews.{outcome_view};
 ghost use Rattle.ped_session.specs.declared.replies.Reply.{Reply};
+ghost use Rattle.ped_session.specs.Meanings.{IsAsBefore};
 ghost use Rattle.ped_session.specs.States.{State, opened};
 ghost use Rattle.ped_session.specs.Steps.{IsStep, IsMove};
 ghost use Rattle.ped_session.specs.Scripts.{tests_of};
@@ -140,15 +141,17 @@ impl<L: Ledger> Session<L> {
         self.tested
     }
 
-    /// Runs the present program in order on the lines of its data.
+    /// Runs the present program in order on the lines of its data. The outcome is also that of each program from which
+    /// it has come by transformations alone, where that one runs without a fault and without a race.
     pub fn run(&self, alloc: Global, input: &[u8]) -> Result<Outcome, NoMemory>
-        ensures { IfOk result (λ o. (t : ProgramTree) → ReadsValid self.now.present t → outcome_view o ≡ outcome t input.now) }
+        ensures outcome { IfOk result (λ o. (t : ProgramTree) → ReadsValid self.now.present t → outcome_view o ≡ outcome t input.now) }
+        ensures before { IfOk result (λ o. IsAsBefore self.now input.now (outcome_view o)) }
     {
         run_in_order(alloc, &self.present.program, &self.present.symbols, input)
     }
 
     /// Answers a command; programs are run on these data. A refused command leaves the session as it was, and so does
-    /// want of memory, which never comes at `undo` and `redo`. An accepted edit tests the pairs of the new program,
+    /// want of memory, which never comes at `undo` and `redo`. An accepted edit or step tests pairs of the new program,
     /// and no other command tests any.
     pub fn apply(
         &mut self,
@@ -180,7 +183,11 @@ impl<L: Ledger> Session<L> {
             }
             Command::Undo => return Ok(self.undo()),
             Command::Redo => return Ok(self.redo()),
+            Command::Privatise(number, name) => {
+                return self.privatise(alloc, *number, name, steps);
+            }
             Command::Run(choices) => return self.show_run(alloc, choices.as_slice(), input),
+            Command::Races => return self.show_races(alloc, input),
             Command::Advise(_)
             | Command::Interchange(_)
             | Command::Reverse(_)
@@ -190,11 +197,9 @@ impl<L: Ledger> Session<L> {
             | Command::Distribute(_)
             | Command::Fuse(_)
             | Command::Expand(_, _)
-            | Command::Privatise(_, _)
             | Command::Parallel(_)
             | Command::Serial(_)
             | Command::Reject(_, _)
-            | Command::Races
             | Command::Tested => return Ok(Reply::Refused(Refusal::NotBuilt)),
         }
     }

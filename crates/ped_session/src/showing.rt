@@ -3,14 +3,17 @@
 ghost use Rattle.std.specs.Prelude.{◌≡◌, IfOk, Option, List, ℕ};
 ghost use Rattle.ped_graph.specs.DependencePane.{IsDependencePane, IsDependencePaneOf};
 ghost use Rattle.ped_session.specs.Panes.{IsSourcePane, ArePanes};
+ghost use Rattle.ped_session.specs.RaceRows.{IsRaceRow};
 ghost use Rattle.ped_session.specs.Steps.{Shows, ShowsStatement, Prints, Runs, IsStep};
 ghost use Rattle.ped_script.specs.declared.items.Command.TheVariants as commands;
 
 use crate::blocks::block;
+use crate::race_rows::race_row;
 use crate::replies::{Refusal, Reply};
 use crate::session::Session;
 use ped_base::{Bytes, NoMemory};
 use ped_eval::run_in_order;
+use ped_order::races;
 use ped_print::source_pane;
 use std::alloc::Global;
 use std::sync::ledger::Ledger;
@@ -84,5 +87,14 @@ impl<L: Ledger> Session<L> {
         let present = &self.present;
         let outcome = run_in_order(alloc, &present.program, &present.symbols, input)?;
         Ok(Reply::Shown(block(alloc, &outcome)?))
+    }
+
+    /// The first race of the present program on these data, a fault that comes before any, or that there is neither.
+    pub(crate) fn show_races(&self, alloc: Global, input: &[u8]) -> Result<Reply, NoMemory>
+        ensures { IfOk result (λ reply. Shows (IsRaceRow input.now) self.now reply self.now) }
+    {
+        let present = &self.present;
+        let report = races(alloc, &present.program, &present.symbols, input)?;
+        Ok(Reply::Shown(race_row(alloc, &report)?))
     }
 }

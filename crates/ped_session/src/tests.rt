@@ -44,9 +44,11 @@ redo
 redo
 run 1
 races
+tested
 nothing
 delete 3 3
 run
+races
 ";
 
 const ANSWERS: &str = "source 7
@@ -93,10 +95,12 @@ dependences 1
 21: ok
 22: refused NothingToRedo
 23: refused NotBuilt
-24: refused NotBuilt
-25: refused BadCommand
-26: ok
+no race
+25: refused NotBuilt
+26: refused BadCommand
+27: ok
 ended
+no race
 ";
 
 /// What a session holds.

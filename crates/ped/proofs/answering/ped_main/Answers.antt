@@ -5,6 +5,7 @@ use Rattle.ped.specs.Answer.{Request, request_of, inputs_of, MayAnswer, Answers,
 use Rattle.ped.specs.TestCounts.{Tests}
 use Rattle.ped.specs.Serving.{Call, Served}
 use Rattle.ped.proofs.Counting.{idle_writing}
+use Rattle.ped.proofs.ScriptRuns.{sent_runs}
 use Rattle.ped.proofs.Outcomes.{outcome_weaker, usage_may_answer, whole_of}
 use Rattle.ped.proofs.answering.ped_main.Given.{Over}
 use Rattle.ped.proofs.answering.ped_main.Goals as goal
@@ -48,6 +49,12 @@ returns-in-Ok-clause-complete g c = λ files told before taken none sure.
     let o = returns-in-Ok-clause-answer g c files told before taken in
     let failed : List ℕ → Type 0 = λ (name : List ℕ). Rose (g.F.Shelf.count c.args.shelf.now name) (g.F.Shelf.count c.serve.new.shelf name) in
     whole_of _ files failed _ _ before o.0 c.serve.result o.1 o.2 none sure
+
+pub returns-in-Ok-clause-runs : goal.returns-in-Ok-clause-runs
+returns-in-Ok-clause-runs g c = λ files told before taken whole.
+    let o = returns-in-Ok-clause-answer g c files told before taken in
+    let failed : List ℕ → Type 0 = λ (name : List ℕ). Rose (g.F.Shelf.count c.args.shelf.now name) (g.F.Shelf.count c.serve.new.shelf name) in
+    (o.0, o.1, sent_runs _ files failed _ o.0 c.serve.result whole o.2)
 
 pub returns-in-Ok-clause-counts : goal.returns-in-Ok-clause-counts
 returns-in-Ok-clause-counts g c = (served g c).rises

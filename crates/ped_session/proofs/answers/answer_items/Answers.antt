@@ -5,6 +5,7 @@ use Rattle.ped_session.specs.declared.answers.Answered.{Answered}
 use Rattle.ped_session.specs.Scripts.{Said, AnswersCommand, AnswersItems, said_both, bad_command_said}
 use Rattle.ped_session.proofs.OneAnswer.{one_all}
 use Rattle.ped_session.proofs.Answering.{item_within, items_more, items_all}
+use Rattle.ped_session.proofs.KeptMeanings.{items_as_before, kept_in}
 use Rattle.ped_session.proofs.answers.answer_items.Goals.{in-Some+in_ok-answer_command-in-Some, in-None+in_ok-answer_bad_command-in-None}
 use Rattle.ped_session.proofs.answers.answer_items.Goals as goal
 
@@ -69,3 +70,15 @@ returns-clause-most g c = λ said last whole.
     let tests : inv.said.tests ≡ said.tests = ap (λ (a : Said). a.tests) same.0 in
     let ticks : c.loop-item.steps ≡ c.args.steps.now + inv.said.tests = inv.ticks in
     omega (arith, tests, ticks)
+
+pub returns-clause-before : goal.returns-clause-before
+returns-clause-before g c =
+    let inv = c.loop-item.invariant in
+    let past = c.loop-item-test.false in
+    let s = c.session.inside in (
+      inv.said,
+      items_as_before c.args.items.now c.args.input.now c.args.session.now c.loop-item.session inv.said
+          (kept_in s.present s.graph s.history.past s.history.future c.session.invariant c.args.session.now s.tested c.session.view_is)
+          (items_all c.args.items.now c.loop-item.item-index c.args.input.now c.args.session.now c.loop-item.session inv.said (omega (arith, past)) inv.answers),
+      inv.bytes,
+    )

@@ -1,4 +1,4 @@
-use Rattle.std.proofs.Common.{◌≡◌, ◌≤◌, ◌+◌, ℕ, List, [], refl, sym, ap, subst, ◌∙◌}
+use Rattle.std.proofs.Common.{◌≡◌, ◌≤◌, ◌+◌, ℕ, List, refl, sym, ap, subst, ◌∙◌}
 use Rattle.ped_tree.specs.Tree.{ProgramTree}
 use Rattle.ped_tree.specs.Views.{program_tree}
 use Rattle.ped_tree.specs.Printing.{program_text}
@@ -14,7 +14,7 @@ pub returns-in_err-delta-clause-most : goal.returns-in_err-delta-clause-most
 returns-in_err-delta-clause-most g c old reads =
     let s = c.self.inside in
     let held = graph_of s.present s.graph s.history.past s.history.future c.self.invariant c.args.self.now.present (ap (λ (u : State). u.present) c.self.view_is) old reads in
-    subst (λ (keep : List (ℕ × ℕ)). c.update-2.new.steps ≤ c.args.steps.now + tested_pairs old (program_tree c.args.new.program) keep) c.new.ensures (c.update-2.ensures.most old held)
+    c.update.ensures.most old held
 
 pub returns-clause-answers : goal.returns-clause-answers
 returns-clause-answers g c =
@@ -25,20 +25,20 @@ returns-clause-answers g c =
       old,
       reads_version s.present c.self.invariant.version c.args.self.now.present (ap (λ (u : State). u.present) c.self.view_is),
       changed_by c.args.self.now (program_text t) c.replace-other.new.dest.text s.present.text s.history c.reserve.new.self c.push.new.self
-          (record { other = c.replace-other.result; change = c.args.change; delta = c.in_ok-delta.delta }) s.tested c.tested-self-inside.result (tested_pairs old t [])
+          (record { other = c.replace-other.result; change = c.args.change; delta = c.in_ok-delta.delta }) s.tested c.tested-self-inside.result (tested_pairs old t c.args.keep.now)
           (ap (λ (v : Version). v.text) c.replace-other.ensures.after ∙ c.in_ok-text.ensures) c.push.ensures c.in_ok-reserve.ensures.past
           (ap (λ (v : Version). v.text) c.replace-other.ensures.value) c.self.view_is
-          (c.tested-self-inside.ensures ∙ c.in_ok-delta.ensures.tested old c.self.invariant.graph_is ∙ ap (tested_pairs old t) c.new.ensures),
+          (c.tested-self-inside.ensures ∙ c.in_ok-delta.ensures.tested old c.self.invariant.graph_is),
     )
 
 pub returns-clause-ticks : goal.returns-clause-ticks
 returns-clause-ticks g c =
     let t = tree_of c.self.inside.present in
-    as_counted c.update-2.new.steps c.args.steps.now c.in_ok-delta.delta.tested (tested_pairs t (program_tree c.args.new.program) c.new.result) c.tested-self-inside.result
+    as_counted c.update.new.steps c.args.steps.now c.in_ok-delta.delta.tested (tested_pairs t (program_tree c.args.new.program) c.args.keep.now) c.tested-self-inside.result
     (c.in_ok-delta.ensures.ticks t c.self.invariant.graph_is) (c.in_ok-delta.ensures.tested t c.self.invariant.graph_is) c.tested-self-inside.ensures
 
 pub returns-clause-most : goal.returns-clause-most
 returns-clause-most g c old reads =
     let s = c.self.inside in
     let held = graph_of s.present s.graph s.history.past s.history.future c.self.invariant c.args.self.now.present (ap (λ (u : State). u.present) c.self.view_is) old reads in
-    subst (λ (keep : List (ℕ × ℕ)). c.update-2.new.steps ≤ c.args.steps.now + tested_pairs old (program_tree c.args.new.program) keep) c.new.ensures (c.update-2.ensures.most old held)
+    c.update.ensures.most old held

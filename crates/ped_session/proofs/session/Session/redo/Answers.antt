@@ -11,4 +11,4 @@ invariant_of-self g c =
     let s = c.self.inside in
     let to = c.exchange.ensures in
     went_forward s.present c.exchange.new.present s.graph c.exchange.new.graph s.history.past s.history.future c.in-Ok.entry.now c.exchange.new.entry
-    c.self.invariant c.in-Ok.ensures.next to.present to.other to.graph to.delta
+    c.self.invariant c.in-Ok.ensures.next to.present to.other to.change to.graph to.delta

@@ -2,13 +2,23 @@ use Rattle.std.proofs.Common.{ap, sym, ◌∙◌}
 use Rattle.std.proofs.lemmas.Result.{IfOk-weaker}
 use Rattle.ped_tree.specs.Tree.{ProgramTree}
 use Rattle.ped_eval.specs.Outcomes.{outcome}
+use Rattle.ped_session.specs.Holding.{tree_of}
 use Rattle.ped_session.specs.States.{State}
-use Rattle.ped_session.proofs.PresentProgram.{only_version}
+use Rattle.ped_session.proofs.PresentProgram.{only_version, reads_version}
+use Rattle.ped_session.proofs.KeptMeanings.{as_before, kept_in}
 use Rattle.ped_session.proofs.session.Session.run.Goals as goal
 
-pub returns : goal.returns
-returns g c =
+pub returns-clause-outcome : goal.returns-clause-outcome
+returns-clause-outcome g c =
     let v = c.self.inside.present in
     let text = ap (λ (u : State). u.present) c.self.view_is in
     IfOk-weaker c.run_in_order.result _ _ (λ o is t reads.
     is ∙ ap (λ (u : ProgramTree). outcome u c.args.input.now) (sym (only_version v c.self.invariant.version c.args.self.now.present text t reads))) c.run_in_order.ensures
+
+pub returns-clause-before : goal.returns-clause-before
+returns-clause-before g c =
+    let v = c.self.inside.present in
+    let text = ap (λ (u : State). u.present) c.self.view_is in
+    let kept = kept_in v c.self.inside.graph c.self.inside.history.past c.self.inside.history.future c.self.invariant c.args.self.now c.self.inside.tested c.self.view_is in
+    IfOk-weaker c.run_in_order.result _ _ (λ o is earlier t comes from free.
+    is ∙ as_before c.args.self.now c.args.input.now (tree_of v) kept (reads_version v c.self.invariant.version c.args.self.now.present text) earlier t comes from free) c.run_in_order.ensures

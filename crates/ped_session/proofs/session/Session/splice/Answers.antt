@@ -15,14 +15,14 @@ returns-in-Ok-clause-answers g c =
     let s = c.args.self.now in
     let all = Splices.spliced s.present c.args.kept c.args.gone c.args.lines.now in
     let made = made_from c.as_slice.result.now c.in_ok-text.text c.source.result.now s.present c.args.kept c.args.gone c.args.lines.now c.as_slice.ensures c.in_ok-text.ensures c.source.ensures in
-    IfOk-weaker c.change.result _ _ (λ reply change. edited s c.change.new.self c.as_slice.result.now all (program_tree c.in-Ok.opened.program) reply made c.in-Ok.ensures.tree change) c.change.ensures.answers
+    IfOk-weaker c.change-in-Ok.result _ _ (λ reply change. edited s c.change-in-Ok.new.self c.as_slice.result.now all (program_tree c.in-Ok.opened.program) reply made c.in-Ok.ensures.tree change) c.change-in-Ok.ensures.answers
 
 pub returns-in-Ok-clause-most : goal.returns-in-Ok-clause-most
 returns-in-Ok-clause-most g c =
     let s = c.args.self.now in
     let all = Splices.spliced s.present c.args.kept c.args.gone c.args.lines.now in
     let made = made_from c.as_slice.result.now c.in_ok-text.text c.source.result.now s.present c.args.kept c.args.gone c.args.lines.now c.as_slice.ensures c.in_ok-text.ensures c.source.ensures in
-    tests_by s c.as_slice.result.now all (program_tree c.in-Ok.opened.program) c.args.steps.now c.change.new.steps made c.in-Ok.ensures.tree c.change.ensures.most
+    tests_by s c.as_slice.result.now all (program_tree c.in-Ok.opened.program) c.args.steps.now c.change-in-Ok.new.steps made c.in-Ok.ensures.tree c.change-in-Ok.ensures.most
 
 pub returns-in-Err-At-clause-answers : goal.returns-in-Err-At-clause-answers
 returns-in-Err-At-clause-answers g c =

@@ -1,0 +1,96 @@
+-- What a command does to the state of a session: nothing, an edit, a step, or a move along the history.
+use Rattle.std.proofs.Common.{◌≡◌, ℕ, Bool, true, false, List, [], ◌∷◌, Option, Some, None, refl, sym, ◌∙◌}
+use Rattle.std.specs.Prelude.{MatchBool}
+use Rattle.ped_tree.specs.Tree.{StmtTree, ProgramTree}
+use Rattle.ped_tree.specs.Numbering.{statement_with}
+use Rattle.ped_symbols.specs.NameRefusals.{IsValid}
+use Rattle.ped_steps.specs.Causes.{Cause, none_forbids}
+use Rattle.ped_steps.proofs.OneCause.{one_cause}
+use Rattle.ped_scalar.specs.Privatising.{StandsAgainstPrivatising}
+use Rattle.ped_scalar.proofs.FirstAgainstPrivatising.{one_statement}
+use Rattle.ped_scalar.proofs.KeptMeaning.{privatising_keeps}
+use Rattle.ped_step_runs.specs.Meaning.{Keeps}
+use Rattle.ped_script.specs.declared.items.Command.{Command}
+use Rattle.ped_script.specs.declared.items.Command.TheVariants.{Source, Deps, Show, Print, Advise, Replace, Insert, Delete, Interchange, Reverse, Skew, Strip, Peel, Distribute, Fuse, Expand, Privatise, Parallel, Serial, Reject, Undo, Redo, Run, Races, Tested}
+use Rattle.ped_session.specs.declared.replies.Refusal.{Refusal}
+use Rattle.ped_session.specs.declared.replies.Refusal.TheVariants.{NoSuchLine, NotBuilt}
+use Rattle.ped_session.specs.declared.replies.Reply.{Reply}
+use Rattle.ped_session.specs.declared.replies.Reply.TheVariants.{Changed, Shown, Refused}
+use Rattle.ped_session.specs.States.{Other, State}
+use Rattle.ped_session.specs.Splices.{spliced, are_lines, is_place}
+use Rattle.ped_session.specs.Transforming.{StepAt, privatising}
+use Rattle.ped_session.specs.Steps.{Refuses, Prints, Shows, ShowsOf, Edits, Transforms, GoesBack, GoesForward, Runs, IsStep}
+
+-- there is one first cause at most against a step, and the step keeps the meaning where there is none
+pub record IsLawful (at : StepAt) : Type 0 where
+  pub one : (t : ProgramTree) (c d : Option Cause) → at.IsCause t c → at.IsCause t d → c ≡ d
+  pub keeps : (t : ProgramTree) → IsValid t → at.IsCause t None → Keeps t (at.new t)
+
+pub lawful_privatising : (s : ℕ) (x : List ℕ) → IsLawful (privatising s x)
+lawful_privatising s x = record {
+  one = λ t c d p q. one_cause t (StandsAgainstPrivatising t s x) none_forbids (one_statement t s x) c d p q;
+  keeps = λ t valid none. privatising_keeps t s x valid none;
+}
+
+-- what a command does
+pub data Does (c : Command) (s : State) (reply : Reply) (next : State) : Type 1 where
+  by_nothing : (reply ≡ Changed → ⊥) → next ≡ s → Does c s reply next
+  by_edit : (text : List ℕ) → Edits text s reply next → Does c s reply next
+  by_step : (at : StepAt) → IsLawful at → Transforms at s reply next → Does c s reply next
+  by_undo : c ≡ Undo → GoesBack s.past s reply next → Does c s reply next
+  by_redo : c ≡ Redo → GoesForward s.future s reply next → Does c s reply next
+
+pub no_refusal : (why : Refusal) → ◌≡◌ {A = Reply} (Refused why) Changed → ⊥
+no_refusal why e = cc
+
+no_show : (bytes : List ℕ) → ◌≡◌ {A = Reply} (Shown bytes) Changed → ⊥
+no_show bytes e = cc
+
+refuses : (c : Command) (why : Refusal) (s next : State) (reply : Reply) → Refuses why s reply next → Does c s reply next
+refuses c why s next reply h = by_nothing (λ e. no_refusal why (sym h.0 ∙ e)) h.1
+
+prints : (c : Command) (bytes : List ℕ) (s next : State) (reply : Reply) → Prints bytes s reply next → Does c s reply next
+prints c bytes s next reply h = by_nothing (λ e. no_show bytes (sym h.0 ∙ e)) h.1
+
+shows : (c : Command) (IsSo : ProgramTree → List ℕ → Type 0) (s next : State) (reply : Reply) → Shows IsSo s reply next → Does c s reply next
+shows c IsSo s next reply h = prints c h.bytes s next reply h.prints
+
+shows_of : (c : Command) (number : ℕ) (o : Option StmtTree) (s next : State) (reply : Reply) → ShowsOf number o s reply next → Does c s reply next
+shows_of c number None s next reply h = refuses c _ s next reply h
+shows_of c number (Some found) s next reply h = shows c _ s next reply h
+
+edits : (c : Command) (there : Bool) (text : List ℕ) (s next : State) (reply : Reply) → MatchBool there (Edits text s reply next) (Refuses NoSuchLine s reply next) → Does c s reply next
+edits c true text s next reply h = by_edit text h
+edits c false text s next reply h = refuses c NoSuchLine s next reply h
+
+runs : (c : Command) (choices d : List ℕ) (s next : State) (reply : Reply) → Runs choices d s reply next → Does c s reply next
+runs c [] d s next reply h = shows c _ s next reply h
+runs c (choice ∷ choices) d s next reply h = refuses c NotBuilt s next reply h
+
+pub does : (c : Command) (d : List ℕ) (s next : State) (reply : Reply) → IsStep c d s reply next → Does c s reply next
+does Source d s next reply h = shows Source _ s next reply h
+does (Deps None) d s next reply h = shows (Deps None) _ s next reply h
+does (Deps (Some number)) d s next reply h = shows_of (Deps (Some number)) number (statement_with number h.tree) s next reply h.shows
+does Show d s next reply h = shows Show _ s next reply h
+does Print d s next reply h = prints Print _ s next reply h
+does (Replace first last lines) d s next reply h = edits (Replace first last lines) (are_lines s.present first last) _ s next reply h
+does (Insert after lines) d s next reply h = edits (Insert after lines) (is_place s.present after) _ s next reply h
+does (Delete first last) d s next reply h = edits (Delete first last) (are_lines s.present first last) _ s next reply h
+does Undo d s next reply h = by_undo refl h
+does Redo d s next reply h = by_redo refl h
+does (Run choices) d s next reply h = runs (Run choices) choices d s next reply h
+does Races d s next reply h = shows Races _ s next reply h
+does (Privatise number name) d s next reply h = by_step (privatising number name) (lawful_privatising number name) h
+does (Advise number) d s next reply h = refuses (Advise number) NotBuilt s next reply h
+does (Interchange number) d s next reply h = refuses (Interchange number) NotBuilt s next reply h
+does (Reverse number) d s next reply h = refuses (Reverse number) NotBuilt s next reply h
+does (Skew number factor) d s next reply h = refuses (Skew number factor) NotBuilt s next reply h
+does (Strip number size) d s next reply h = refuses (Strip number size) NotBuilt s next reply h
+does (Peel number last) d s next reply h = refuses (Peel number last) NotBuilt s next reply h
+does (Distribute number) d s next reply h = refuses (Distribute number) NotBuilt s next reply h
+does (Fuse number) d s next reply h = refuses (Fuse number) NotBuilt s next reply h
+does (Expand number name) d s next reply h = refuses (Expand number name) NotBuilt s next reply h
+does (Parallel number) d s next reply h = refuses (Parallel number) NotBuilt s next reply h
+does (Serial number) d s next reply h = refuses (Serial number) NotBuilt s next reply h
+does (Reject number name) d s next reply h = refuses (Reject number name) NotBuilt s next reply h
+does Tested d s next reply h = refuses Tested NotBuilt s next reply h

@@ -1,0 +1,117 @@
+-- Transformations keep the meaning of a session's programs.
+use Rattle.std.proofs.Common.{◌≡◌, inl, inr, ℕ, List, [], ◌∷◌, map, Option, Some, None, refl, sym, ap, ◌∙◌, subst}
+use Rattle.ped_tree.specs.Tree.{ProgramTree}
+use Rattle.ped_tree.specs.Printing.{program_text}
+use Rattle.ped_symbols.specs.NameRefusals.{IsValid}
+use Rattle.ped_valid.specs.Validity.{ReadsValid}
+use Rattle.ped_valid.proofs.OneVerdict.{valid_prints}
+use Rattle.ped_eval.specs.Outcomes.{outcome, IsRaceFree}
+use Rattle.ped_step_runs.specs.Meaning.{Keeps}
+use Rattle.ped_step_runs.proofs.KeptMeanings.{keeps_itself, keeps_further}
+use Rattle.ped_script.specs.declared.items.Command.{Command}
+use Rattle.ped_script.specs.declared.items.Command.TheVariants.{Run}
+use Rattle.ped_script.specs.declared.items.Item.{Item}
+use Rattle.ped_graph.specs.Held.{Held}
+use Rattle.ped_session.specs.declared.versions.Version.{Version}
+use Rattle.ped_session.specs.declared.versions.Entry.{Entry}
+use Rattle.ped_session.specs.Holding.{other_of, IsConsistent}
+use Rattle.ped_session.specs.declared.changes.Change.{Change}
+use Rattle.ped_session.specs.declared.changes.Change.TheVariants.{Transformation}
+use Rattle.ped_session.specs.declared.replies.Reply.{Reply}
+use Rattle.ped_session.specs.declared.replies.Reply.TheVariants.{Shown}
+use Rattle.ped_session.specs.States.{Other, State, opened}
+use Rattle.ped_session.specs.Blocks.{block}
+use Rattle.ped_session.specs.Transforming.{StepAt}
+use Rattle.ped_session.specs.Steps.{Edits, accepted, refused, Transforms, missing, forbidden, transformed, GoesBack, GoesForward, Runs, IsStep}
+use Rattle.ped_session.specs.Scripts.{Said, said_by, AnswersCommand, AnswersItems}
+use Rattle.ped_session.specs.Meanings.{MeansTheSame, IsKept, IsPastKept, IsFutureKept, IsMeaningKept, ComesFrom, IsAsBefore, ShowsAsBefore}
+use Rattle.ped_session.specs.RunsAsBefore.{RunsAsBefore, AnswersAsBefore}
+use Rattle.ped_session.proofs.OneStep.{one_tree}
+use Rattle.ped_session.proofs.Doing.{IsLawful, Does, by_nothing, by_edit, by_step, by_undo, by_redo, does}
+
+-- a program that keeps the meaning of another, by their texts
+pub same_meaning : (source : List ℕ) (t u : ProgramTree) → ReadsValid source t → IsValid u → Keeps t u → MeansTheSame source (program_text u)
+same_meaning source t u reads valid keeps = record { before = t; reads_before = reads; behind = u; reads_behind = (valid_prints u valid u).1 refl; keeps = keeps }
+
+-- a source keeps the meaning of each from which it has come by transformations alone
+pub came : (source : List ℕ) (past : List Other) (earlier : List ℕ) (t u : ProgramTree) → IsPastKept source past → ComesFrom source past earlier → ReadsValid earlier t → ReadsValid source u → Keeps t u
+came source [] earlier t u kept is from to = subst (λ (x : ProgramTree). Keeps x u) (one_tree source u t to (subst (λ (b : List ℕ). ReadsValid b t) is from)) (keeps_itself u)
+came source (other ∷ past) earlier t u kept (inl is) from to = subst (λ (x : ProgramTree). Keeps x u) (one_tree source u t to (subst (λ (b : List ℕ). ReadsValid b t) is from)) (keeps_itself u)
+came source (other ∷ past) earlier t u kept (inr comes) from to =
+    let last : MeansTheSame other.0 source = subst (λ (c : Change). IsKept c other.0 source) comes.0 kept.0 in
+    keeps_further t last.before u (came other.0 past earlier t last.before kept.1 comes.1 from last.reads_before)
+    (subst (λ (x : ProgramTree). Keeps last.before x) (one_tree source last.behind u last.reads_behind to) last.keeps)
+
+-- so the outcome of the present program is that of each of these
+pub as_before : (s : State) (d : List ℕ) (u : ProgramTree) → IsMeaningKept s → ReadsValid s.present u → IsAsBefore s d (outcome u d)
+as_before s d u kept reads = λ earlier t comes from free. (came s.present s.past earlier t u kept.past comes from reads).same d free
+
+-- a state that is as it was
+same : (s next : State) → IsMeaningKept s → next ≡ s → IsMeaningKept next
+same s next k e = subst IsMeaningKept (sym e) k
+
+edit_keeps : (text : List ℕ) (s next : State) (reply : Reply) → IsMeaningKept s → Edits text s reply next → IsMeaningKept next
+edit_keeps text s next reply k (accepted old new from to changed after) = subst IsMeaningKept (sym after) (record { past = (tt, k.past); future = tt })
+edit_keeps text s next reply k (refused why first stays) = same s next k stays.1
+
+step_keeps : (at : StepAt) (s next : State) (reply : Reply) → IsLawful at → IsMeaningKept s → Transforms at s reply next → IsMeaningKept next
+step_keeps at s next reply lawful k (missing t reads none stays) = same s next k stays.1
+step_keeps at s next reply lawful k (forbidden t reads some c is stays) = same s next k stays.1
+step_keeps at s next reply lawful k (transformed t reads some none valid changed after) =
+    subst IsMeaningKept (sym after) (record { past = (same_meaning s.present t (at.new t) reads valid (lawful.keeps t reads.valid none), k.past); future = tt })
+
+back_keeps : (past : List Other) (s next : State) (reply : Reply) → IsMeaningKept s → IsPastKept s.present past → GoesBack past s reply next → IsMeaningKept next
+back_keeps [] s next reply k kept h = same s next k h.1
+back_keeps (other ∷ past) s next reply k kept h = subst IsMeaningKept (sym h.1) (record { past = kept.1; future = (kept.0, k.future) })
+
+forward_keeps : (future : List Other) (s next : State) (reply : Reply) → IsMeaningKept s → IsFutureKept s.present future → GoesForward future s reply next → IsMeaningKept next
+forward_keeps [] s next reply k kept h = same s next k h.1
+forward_keeps (other ∷ future) s next reply k kept h = subst IsMeaningKept (sym h.1) (record { past = (kept.0, k.past); future = kept.1 })
+
+keeps_by : (c : Command) (s next : State) (reply : Reply) → IsMeaningKept s → Does c s reply next → IsMeaningKept next
+keeps_by c s next reply k (by_nothing changed is) = same s next k is
+keeps_by c s next reply k (by_edit text h) = edit_keeps text s next reply k h
+keeps_by c s next reply k (by_step at lawful h) = step_keeps at s next reply lawful k h
+keeps_by c s next reply k (by_undo is h) = back_keeps s.past s next reply k k.past h
+keeps_by c s next reply k (by_redo is h) = forward_keeps s.future s next reply k k.future h
+
+-- a command keeps it
+pub command_keeps : (c : Command) (d : List ℕ) (s next : State) (reply : Reply) → IsMeaningKept s → IsStep c d s reply next → IsMeaningKept next
+command_keeps c d s next reply k h = keeps_by c s next reply k (does c d s next reply h)
+
+line_keeps : (line : ℕ) (command : Option Command) (d : List ℕ) (s next : State) (said : Said) → IsMeaningKept s → AnswersCommand line command d s said next → IsMeaningKept next
+line_keeps line None d s next said k h = same s next k h.1
+line_keeps line (Some c) d s next said k h = command_keeps c d s next h.0 k h.1
+
+-- a session is opened without a history
+pub opened_keeps : (t : ProgramTree) → IsMeaningKept (opened t)
+opened_keeps t = record { past = tt; future = tt }
+
+run_shows : (line : ℕ) (d : List ℕ) (s next : State) (said : Said) → IsMeaningKept s → AnswersCommand line (Some (Run [])) d s said next → ShowsAsBefore s d said.bytes
+run_shows line d s next said k h = λ earlier t comes from free.
+    let shows : Runs [] d s h.0 next = h.1 in
+    ap (λ (x : Said). x.bytes) (h.2 ∙ ap (λ (r : Reply). said_by line r next) shows.prints.0) ∙ shows.so ∙ ap block (as_before s d shows.tree k shows.reads earlier t comes from free)
+
+-- a `run` shows what the earlier programs show
+line_shows : (line : ℕ) (command : Option Command) (d : List ℕ) (s next : State) (said : Said) → IsMeaningKept s → AnswersCommand line command d s said next → RunsAsBefore command d s said
+line_shows line command d s next said k h is = run_shows line d s next said k (subst (λ (c : Option Command). AnswersCommand line c d s said next) is h)
+
+-- the items of a script
+pub items_as_before : (items : List Item) (d : List ℕ) (s last : State) (said : Said) → IsMeaningKept s → AnswersItems items d s said last → AnswersAsBefore items d s said last
+items_as_before [] d s last said k h = (k, h.0, h.1)
+items_as_before (item ∷ items) d s last said k h = (
+  k,
+  h.0,
+  h.1,
+  h.2,
+  line_shows item.line item.command d s h.1 h.0 k h.2,
+  h.3,
+  items_as_before items d h.1 last h.3 (line_keeps item.line item.command d s h.1 h.0 k h.2) h.4,
+  h.5,
+)
+
+module _ {L : _} where
+  -- what a session holds
+  pub kept_in : (present : Version) (graph : Held) (past future : List (Entry L)) → IsConsistent present graph past future
+      → (s : State) (tested : ℕ) → record { past = map other_of past; present = present.text; future = map other_of future; tested = tested } ≡ s → IsMeaningKept s
+  kept_in present graph past future is s tested same = subst IsMeaningKept same (record { past = is.past_kept; future = is.future_kept })

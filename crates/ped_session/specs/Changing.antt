@@ -1,0 +1,48 @@
+-- Accepted changes and answers of steps, as the code has them. Contracts of private functions alone speak of it (this project).
+use Rattle.std.specs.Prelude.{◌≡◌, ℕ, List, Some, None, Result, Ok, Err}
+use Rattle.ped_tree.specs.Tree.{ProgramTree}
+use Rattle.ped_tree.specs.Printing.{program_text}
+use Rattle.ped_tree.specs.Views.{program_tree}
+use Rattle.ped_symbols.specs.Kinds.{table_of}
+use Rattle.ped_symbols.specs.NameRefusals.{IsValid}
+use Rattle.ped_valid.specs.Validity.{ReadsValid}
+use Rattle.ped_update.specs.Fresh.{IsOneToOne, tested_pairs}
+use Rattle.ped_steps.specs.declared.causes.Refused.{Refused}
+use Rattle.ped_steps.specs.declared.changes.Change as step
+use Rattle.ped_steps.specs.CodeCauses.{cause_of, IsShort}
+use Rattle.ped_session.specs.declared.changes.Change.{Change}
+use Rattle.ped_session.specs.declared.changes.Change.TheVariants.{Transformation}
+use Rattle.ped_session.specs.declared.replies.Refusal.TheVariants as refusal
+use Rattle.ped_session.specs.declared.replies.Reply.{Reply}
+use Rattle.ped_session.specs.declared.replies.Reply.TheVariants.{Changed}
+use Rattle.ped_session.specs.States.{State, changed_to}
+use Rattle.ped_session.specs.Meanings.{IsKept}
+use Rattle.ped_session.specs.Transforming.{StepAt}
+use Rattle.ped_session.specs.Steps.{Refuses}
+
+-- the printed text of a program has become the present source by a change that keeps these statements
+abbrev pub Changes : ProgramTree → List (ℕ × ℕ) → Change → State → Reply → State → Type 0
+Changes new keep change s reply next =
+    (reply ≡ Changed) × (old : ProgramTree) × ReadsValid s.present old × (next ≡ changed_to (program_text new) change (tested_pairs old new keep) s)
+
+-- what a step answers for the present program: the program behind it, which is valid, and what it keeps; or the first cause against it
+abbrev pub IsStepAnswer : StepAt → State → Result step.Change Refused → Type 0
+IsStepAnswer at s (Ok change) =
+    (t : ProgramTree) × ReadsValid s.present t × at.IsCause t None × IsValid (at.new t) × (program_tree change.tree ≡ at.new t) × (change.keep ≡ at.keep t)
+IsStepAnswer at s (Err why) = (t : ProgramTree) × ReadsValid s.present t × at.IsCause t (Some (cause_of why))
+
+-- what a step answers can be taken: a valid program that keeps the meaning of the present one, or a cause that can be printed
+abbrev pub IsTakeable : State → Result step.Change Refused → Type 0
+IsTakeable s (Ok change) =
+    IsValid (program_tree change.tree) × (change.symbols ≡ table_of (program_tree change.tree)) × IsOneToOne change.keep × IsKept Transformation s.present (program_text (program_tree change.tree))
+IsTakeable s (Err why) = IsShort why
+
+-- what a step answers is taken: its program becomes the present one, or the session refuses it for its cause
+abbrev pub Takes : Result step.Change Refused → State → Reply → State → Type 0
+Takes (Ok change) s reply next = Changes (program_tree change.tree) change.keep Transformation s reply next
+Takes (Err why) s reply next = Refuses (refusal.Step (cause_of why)) s reply next
+
+-- how many pairs may be tested at the most where what a step answers is taken in a session whose present program is this
+abbrev pub most_tests : Result step.Change Refused → ProgramTree → ℕ
+most_tests (Ok change) old = tested_pairs old (program_tree change.tree) change.keep
+most_tests (Err why) old = 0

@@ -1,0 +1,67 @@
+//! Accepted changes: a valid program becomes the present one.
+
+ghost use Rattle.std.specs.Prelude.{◌≡◌, ◌+◌, ◌≤◌, IfOk, OnErr};
+ghost use Rattle.ped_tree.specs.Tree.{ProgramTree};
+ghost use Rattle.ped_tree.specs.Views.{program_tree};
+ghost use Rattle.ped_symbols.specs.NameRefusals.{IsValid};
+ghost use Rattle.ped_symbols.specs.Kinds.{table_of};
+ghost use Rattle.ped_valid.specs.Validity.{ReadsValid};
+ghost use Rattle.ped_tree.specs.Printing.{program_text};
+ghost use Rattle.ped_update.specs.Fresh.{IsOneToOne, tested_pairs};
+ghost use Rattle.ped_session.specs.Changing.{Changes};
+ghost use Rattle.ped_session.specs.Meanings.{IsKept};
+ghost use Rattle.ped_session.specs.Scripts.{tests_of};
+
+use crate::changes::Change;
+use crate::replies::Reply;
+use crate::session::Session;
+use crate::versions::{Entry, Version};
+use ped_base::NoMemory;
+use ped_print::print;
+use ped_update::{Keep, update};
+use ped_valid::Opened;
+use ped_verdict::Steps;
+use std::alloc::Global;
+use std::mem::replace;
+use std::sync::ledger::Ledger;
+
+impl<L: Ledger> Session<L> {
+    /// Makes a valid program the present one by a change of this kind that keeps these statements. All memory is taken
+    /// before anything changes.
+    pub(crate) fn change(
+        &mut self,
+        alloc: Global,
+        new: Opened,
+        keep: &Keep,
+        change: Change,
+        steps: &mut Steps<L>,
+    ) -> Result<Reply, NoMemory>
+        requires valid { IsValid (program_tree new.program) }
+        requires symbols { new.symbols ≡ table_of (program_tree new.program) }
+        requires one_to_one { IsOneToOne keep.now }
+        requires meaning { IsKept change self.old.present (program_text (program_tree new.program)) }
+        ensures answers { IfOk result (λ reply. Changes (program_tree new.program) keep.now change self.old reply self.new) }
+        ensures kept { OnErr result (self.new ≡ self.old) }
+        ensures ticks { IfOk result (λ reply. steps.new ≡ steps.old + tests_of reply self.new) }
+        ensures least { steps.old ≤ steps.new }
+        ensures most { (old : ProgramTree) → ReadsValid self.old.present old → steps.new ≤ steps.old + tested_pairs old (program_tree new.program) keep.now }
+    {
+        let text = print(alloc, &new.program)?;
+        self.history.reserve()?;
+        let consts = new.symbols.consts();
+        let delta = update(alloc, &mut self.graph, &new.program, consts, keep, steps)?;
+        self.tested = delta.tested();
+        let version = Version {
+            program: new.program,
+            symbols: new.symbols,
+            text,
+        };
+        let other = replace(&mut self.present, version);
+        self.history.push(Entry {
+            other,
+            change,
+            delta,
+        });
+        Ok(Reply::Changed)
+    }
+}

@@ -1,0 +1,93 @@
+//! Steps: transformations of the present program.
+
+ghost use Rattle.std.specs.Prelude.{◌≡◌, ◌+◌, ◌≤◌, IfOk, OnErr};
+ghost use Rattle.ped_tree.specs.Tree.{ProgramTree};
+ghost use Rattle.ped_valid.specs.Validity.{ReadsValid};
+ghost use Rattle.ped_session.specs.declared.replies.Reply.{Reply};
+ghost use Rattle.ped_session.specs.States.{State};
+ghost use Rattle.ped_session.specs.Transforming.{privatising};
+ghost use Rattle.ped_session.specs.Steps.{Transforms};
+ghost use Rattle.ped_session.specs.Changing.{IsStepAnswer, IsTakeable, Takes, most_tests};
+ghost use Rattle.ped_session.specs.Scripts.{tests_of};
+
+use crate::changes::Change;
+use crate::replies::{FirstCause, Refusal, Reply};
+use crate::session::Session;
+use ped_base::{Name, NoMemory};
+use ped_flow::flow_of;
+use ped_scalar::privatise;
+use ped_steps::{Refused, Scene};
+use ped_valid::Opened;
+use ped_verdict::Steps;
+use std::alloc::Global;
+use std::sync::ledger::Ledger;
+
+impl<L: Ledger> Session<L> {
+    /// Makes a scalar private to the iterations of the loop with this number.
+    pub(crate) fn privatise(
+        &mut self,
+        alloc: Global,
+        number: u32,
+        name: &Name,
+        steps: &mut Steps<L>,
+    ) -> Result<Reply, NoMemory>
+        ensures answers { IfOk result (λ reply. Transforms (privatising number name.now) self.old reply self.new) }
+        ensures kept { OnErr result (self.new ≡ self.old) }
+        ensures ticks { IfOk result (λ reply. steps.new ≡ steps.old + tests_of reply self.new) }
+        ensures least { steps.old ≤ steps.new }
+        ensures most { (reply : Reply) (next : State) → Transforms (privatising number name.now) self.old reply next → steps.new ≤ steps.old + tests_of reply next }
+    {
+        if !self.graph.has_statement(number) {
+            return Ok(Reply::Refused(Refusal::NoSuchStatement));
+        }
+        let answer = self.privatising(alloc, number, name)?;
+        self.take(alloc, answer, steps)
+    }
+
+    /// The program with the scalar private to the iterations of the loop with this number, or the first cause against it.
+    fn privatising(
+        &self,
+        alloc: Global,
+        number: u32,
+        name: &Name,
+    ) -> Result<Result<ped_steps::Change, Refused>, NoMemory>
+        ensures answers { IfOk result (IsStepAnswer (privatising number name.now) self.now) }
+        ensures takeable { IfOk result (IsTakeable self.now) }
+    {
+        let present = &self.present;
+        let flow = flow_of(&present.program);
+        let scene = Scene {
+            tree: &present.program,
+            symbols: &present.symbols,
+            graph: &self.graph,
+            flow: &flow,
+        };
+        privatise(alloc, &scene, number, name)
+    }
+
+    /// Takes what a step answers: its program becomes the present one, or its cause is the reply.
+    fn take(
+        &mut self,
+        alloc: Global,
+        answer: Result<ped_steps::Change, Refused>,
+        steps: &mut Steps<L>,
+    ) -> Result<Reply, NoMemory>
+        requires { IsTakeable self.old answer }
+        ensures answers { IfOk result (λ reply. Takes answer self.old reply self.new) }
+        ensures kept { OnErr result (self.new ≡ self.old) }
+        ensures ticks { IfOk result (λ reply. steps.new ≡ steps.old + tests_of reply self.new) }
+        ensures least { steps.old ≤ steps.new }
+        ensures most { (old : ProgramTree) → ReadsValid self.old.present old → steps.new ≤ steps.old + most_tests answer old }
+    {
+        match answer {
+            Ok(change) => {
+                let new = Opened {
+                    program: change.tree,
+                    symbols: change.symbols,
+                };
+                return self.change(alloc, new, &change.keep, Change::Transformation, steps);
+            }
+            Err(refused) => return Ok(Reply::Refused(Refusal::Step(FirstCause::new(refused)))),
+        }
+    }
+}

@@ -8,4 +8,4 @@ use Rattle.ped_session.proofs.session.Session.show_races.Goals as goal
 pub returns : goal.returns
 returns g c =
     shown (IsRaceRow c.args.input.now) c.self.inside.present c.args.self.now c.in_ok-race_row.field-0 c.self.invariant.version (ap (λ (u : State). u.present) c.self.view_is)
-    (report_view c.in_ok-report.report, c.in_ok-report.ensures, c.in_ok-race_row.ensures)
+    (report_view c.in_ok-report.report, c.in_ok-report.ensures.report, c.in_ok-race_row.ensures)

@@ -24,8 +24,7 @@ pub use answers::{Answered, answer_items};
 pub use changes::Change;
 pub use laws::{
     moves_restore_each_other, one_answer, one_step, refused_changes_nothing, runs_are_as_before,
-    sources_are_printed, sources_keep_the_meaning, transformations_keep_the_meaning,
-    undo_restores,
+    sources_are_printed, sources_keep_the_meaning, transformations_keep_the_meaning, undo_restores,
 };
 pub use replies::{FirstCause, Refusal, Reply};
 pub use scripts::{bad_command_row, reply_text};

@@ -45,12 +45,7 @@ fn push_row(out: &mut Bytes, line: u64, words: &[u8]) -> Result<(), NoMemory>
 }
 
 /// Adds the row that says why the command on this line is refused.
-fn push_refused(
-    alloc: Global,
-    out: &mut Bytes,
-    line: u64,
-    why: &Refusal,
-) -> Result<(), NoMemory>
+fn push_refused(alloc: Global, out: &mut Bytes, line: u64, why: &Refusal) -> Result<(), NoMemory>
     ensures { OnOk result (out.new ≡ out.old ++ Spec.answer_row line (codes "refused " ++ Spec.refusal_words why.now)) }
 {
     push_number(out, line)?;

@@ -26,3 +26,7 @@ pub mod PrivatisedRaces
 pub mod KeptMeanings
 pub mod RenumberedRuns
 pub mod RenumberedPrograms
+pub mod SubstitutedSums
+pub mod SubstitutedShapes
+pub mod SubstitutedSight
+pub mod SubstitutedRuns

@@ -30,3 +30,5 @@ pub mod SubstitutedSums
 pub mod SubstitutedShapes
 pub mod SubstitutedSight
 pub mod SubstitutedRuns
+pub mod ConstantBounds
+pub mod ExpandedPlaces

@@ -32,3 +32,4 @@ pub mod SubstitutedSight
 pub mod SubstitutedRuns
 pub mod ConstantBounds
 pub mod ExpandedPlaces
+pub mod ExpandedPlacesParts

@@ -68,7 +68,7 @@ scalar_occurs t x h = go (is_among x (names_of t)) h
     go true k = refl
     go false k = absurd cc
 
-scalar_unvalued : (t : ProgramTree) (x : List ℕ) → is_scalar (kind_in t) x ≡ true → value_named (at_last t).values x ≡ None
+pub scalar_unvalued : (t : ProgramTree) (x : List ℕ) → is_scalar (kind_in t) x ≡ true → value_named (at_last t).values x ≡ None
 scalar_unvalued t x h = go (is_among x (names_of t)) (entry_of (at_last t).values x) (entry_of (at_last t).arrays x) h
   where
     go : (b : Bool) (v : Option ℤ) (d : Option Dimensions) → is_scalar_kind (if b then Some (kind_by v d) else None) ≡ true → v ≡ None
@@ -153,7 +153,7 @@ module _ (t : ProgramTree) (valid : IsValid t) (l : ℕ) (loop : LoopOf t l) (x 
   sites_alike y =
       by_sites x y (stmt_sites (Do more loop.body) ++ []) (stmt_sites (Do more loop.body)) (stmt_sites s) (append-nil (stmt_sites (Do more loop.body)))
       (append_alike x y (statement (Do more loop.body) ∷ []) (statement s ∷ []) (private_site more.private ++ stmts_sites loop.body) (private_site loop.head.private ++ stmts_sites loop.body) (alike_itself (is_same_text y x) (occurs y (statement s ∷ [])))
-      (append_alike x y (private_site more.private) (private_site loop.head.private) (stmts_sites loop.body) (stmts_sites loop.body) (more_alike x y loop.head.private) (same_alike x y (stmts_sites loop.body))))
+          (append_alike x y (private_site more.private) (private_site loop.head.private) (stmts_sites loop.body) (stmts_sites loop.body) (more_alike x y loop.head.private) (same_alike x y (stmts_sites loop.body))))
 
   of_it : (y : List ℕ) (old : StmtTree) → statement_with l t ≡ Some old → AreAlike x y (stmts_sites (by old)) (stmt_sites old)
   of_it y old there =
@@ -212,8 +212,8 @@ module _ (t : ProgramTree) (valid : IsValid t) (l : ℕ) (loop : LoopOf t l) (x 
     exchanged =
         runs_exchanged (shown_at_end t) p t start l s (fresh t l loop x p one in_order absent)
         (stand_instead t l loop x p one in_order absent start (shown_at_end t) (λ y path. refl) free.0
-        (λ S seen m k v ends. unexposed_unneeded p t l loop x other (loop_stops t l loop (fitting_stops t valid.fits)) unexposed S seen m k v ends)
-        (λ S rest exit. unwanted_behind p one t x other (fitting_stops t valid.fits) start l S rest exit dead (shown_at_end t) (shown_own S)))
+            (λ S seen m k v ends. unexposed_unneeded p t l loop x other (loop_stops t l loop (fitting_stops t valid.fits)) unexposed S seen m k v ends)
+            (λ S rest exit. unwanted_behind p one t x other (fitting_stops t valid.fits) start l S rest exit dead (shown_at_end t) (shown_own S)))
         p by pasting (subst (λ (zs : StmtTrees). DoInstead p p t start l s zs (fresh t l loop x p one in_order absent)) (sym by_is) (do_instead t l loop x p one in_order absent start)) free.0
 
     new_run : run_of u data_bytes ≡ record { acts = new_parts exchanged.0; ending = ending_with (finish_of (run_of t data_bytes).ending) (store_after (new_parts exchanged.0) start) }
@@ -237,7 +237,7 @@ module _ (t : ProgramTree) (valid : IsValid t) (l : ℕ) (loop : LoopOf t l) (x 
     free_so =
         subst (λ (r : Run). HasNoRace (accesses r.acts)) (sym new_run)
         (privatised_race_free t l loop x p one in_order absent alone_so start (fresh t l loop x p one in_order absent) (fresh_is t l loop x p one in_order absent) exchanged.0 exchanged.1 exchanged.2
-        (subst (λ (zs : List Act). HasNoRace (accesses zs)) (sym exchanged.1) free.1))
+            (subst (λ (zs : List Act). HasNoRace (accesses zs)) (sym exchanged.1) free.1))
 
   -- the program keeps its meaning
   pub privatised_keeps : Keeps t u

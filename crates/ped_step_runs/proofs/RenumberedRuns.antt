@@ -268,7 +268,7 @@ module _ (f g : ℕ → ℕ) (told : IsToldBack f g) where
         (λ seen l. run_from_entry seen (entered_with (renumbered f p) n h statements seen l) other (renumbered_place f (place_of p n scope)) body_other s)
         (limits_in name elements (names_in p scope) (names_in (renumbered f p) other) (names_in_new p) h s)
         (λ seen l. subst (λ (e : Entered). IsRenumbered f (run_from_entry (map (seen_in name) seen) e other (renumbered_place f (place_of p n scope)) body_other s) (run_from_entry seen (entered_with p n h statements seen l) scope (place_of p n scope) body (moved s)))
-        (sym (entered_same p n h statements seen l)) (from_entry_in (entered_with p n h statements seen l) (place_of p n scope) body body_other (more seen l) seen s)))
+            (sym (entered_same p n h statements seen l)) (from_entry_in (entered_with p n h statements seen l) (place_of p n scope) body body_other (more seen l) seen s)))
 
   iterations_in : (ts : List Turn) → iterations_of (map (renumbered_turn f) ts) ≡ map (renumbered_iteration f) (iterations_of ts)
   iterations_in [] = refl
@@ -300,7 +300,7 @@ module _ (f g : ℕ → ℕ) (told : IsToldBack f g) where
     run_in p (Do h body) n scope other same s =
         do_in scope other same p n h body (λ fr. run_all p body (n + 1) (fr ∷ scope)) (λ fr. run_all (renumbered f p) body (n + 1) (fr ∷ other))
         (λ seen l k. all_in p body (n + 1) (frame (entered_with p n h body seen l) k ∷ scope) (frame (renumbered_entered (entered_with p n h body seen l)) k ∷ other)
-        (deeper (frame (entered_with p n h body seen l) k) (frame (renumbered_entered (entered_with p n h body seen l)) k) scope other refl refl refl same)) s
+            (deeper (frame (entered_with p n h body seen l) k) (frame (renumbered_entered (entered_with p n h body seen l)) k) scope other refl refl refl same)) s
     run_in p (Print items) n scope other same s =
         subst (λ (at : Place). IsRenumbered f (run_print (names_in (renumbered f p) other) at items s) (run_print (names_in p scope) (place_of p n scope) items (moved s))) (sym (place_in scope other same p n))
         (print_in (names_in p scope) (names_in (renumbered f p) other) (names_in_new scope other same p) (place_of p n scope) items s)

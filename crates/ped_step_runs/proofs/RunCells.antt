@@ -139,7 +139,7 @@ module _ (p : Setting) (Q : ℕ → Head → StmtTrees → Type 0) (P : Scope �
           let a = line_seen (P S) (names_in p S) (scalar S) (element S) items s in
           on_each (Keeps S) (λ (line : List ℕ). Unit {0}) (place_of p n S) e.seen e.result _ (any_result e.result) (numbered_has S 1 e.seen a)
           (λ line o. one_keeps S _ (each_append (Has S) (numbered 1 e.seen) (read_touch Out (s Out) 0 ∷ (write_touch Out (Lines (lines_in (s Out) ++ line ∷ [])) (number_behind 1 e.seen) ∷ [])) (numbered_has S 1 e.seen a)
-          (each_more (Has S) (read_touch Out (s Out) 0) (write_touch Out (Lines (lines_in (s Out) ++ line ∷ [])) (number_behind 1 e.seen) ∷ []) (output S) (one_has S (write_touch Out (Lines (lines_in (s Out) ++ line ∷ [])) (number_behind 1 e.seen)) (output S)))))
+              (each_more (Has S) (read_touch Out (s Out) 0) (write_touch Out (Lines (lines_in (s Out) ++ line ∷ [])) (number_behind 1 e.seen) ∷ []) (output S) (one_has S (write_touch Out (Lines (lines_in (s Out) ++ line ∷ [])) (number_behind 1 e.seen)) (output S)))))
 
       part_keeps : (f g : Store → Run) → ((u : Store) → Each (Keeps S) (f u).acts) → ((u : Store) → Each (Keeps S) (g u).acts) → (b : Bool) (u : Store) → Each (Keeps S) ((if b then f else g) u).acts
       part_keeps f g h k true u = h u

@@ -48,8 +48,8 @@ module _ (c d : Cell) where
       decided c x (swapped c d (swapped c d x) ≡ x)
       (λ e. ap (swapped c d) (swapped_first x e) ∙ decided c d (swapped c d d ≡ x) (λ q. swapped_first d q ∙ sym q ∙ e) (λ n. swapped_second d n refl ∙ e))
       (λ n. decided d x (swapped c d (swapped c d x) ≡ x)
-      (λ e. ap (swapped c d) (swapped_second x n e) ∙ swapped_first c refl ∙ e)
-      (λ m. ap (swapped c d) (swapped_other x n m) ∙ swapped_other x n m))
+          (λ e. ap (swapped c d) (swapped_second x n e) ∙ swapped_first c refl ∙ e)
+          (λ m. ap (swapped c d) (swapped_other x n m) ∙ swapped_other x n m))
 
 not_scalar : (c x : Cell) → is_of_scalar c ≡ true → is_of_scalar x ≡ false → c ≡ x → ⊥
 not_scalar c x h k e = both_ways (is_of_scalar x) k (ap is_of_scalar (sym e) ∙ h)

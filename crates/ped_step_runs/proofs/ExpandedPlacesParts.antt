@@ -63,7 +63,7 @@ place_of_each P (x ∷ xs) i a all e = go (i == 0) e (place_of_each P xs (i - 1)
     go false k rest = rest k
 
 -- the variable of a DO that fits is that of no DO round it
-variable_apart : (p : Surroundings) (h : Head) (b : StmtTrees) → loop_fits p h b ≡ true → is_among h.variable p.variables ≡ false
+pub variable_apart : (p : Surroundings) (h : Head) (b : StmtTrees) → loop_fits p h b ≡ true → is_among h.variable p.variables ≡ false
 variable_apart p h b fits =
     let one = and_parts _ (list_all is_name h.rejected) fits in
     let two = and_parts _ (private_fits p h) one.0 in
@@ -92,7 +92,7 @@ module _ (x : List ℕ) where
     apart_in p Stop there f = refl
     apart_in p (Comment text) there f = refl
 
-    all_apart_in : (p : Surroundings) (ss : StmtTrees) → is_among x p.variables ≡ true → stmts_fit p ss ≡ true → is_among x (all_loop_variables ss) ≡ false
+    pub all_apart_in : (p : Surroundings) (ss : StmtTrees) → is_among x p.variables ≡ true → stmts_fit p ss ≡ true → is_among x (all_loop_variables ss) ≡ false
     all_apart_in p no_stmts there f = refl
     all_apart_in p (more_stmts s rest) there f =
         let parts = and_parts (stmt_fits p s) (stmts_fit (moved p (statement_count s) (loop_count s)) rest) f in

@@ -33,3 +33,4 @@ pub mod SubstitutedRuns
 pub mod ConstantBounds
 pub mod ExpandedPlaces
 pub mod ExpandedPlacesParts
+pub mod ExpandedPlacesStand

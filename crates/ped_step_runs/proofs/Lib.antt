@@ -34,3 +34,4 @@ pub mod ConstantBounds
 pub mod ExpandedPlaces
 pub mod ExpandedPlacesParts
 pub mod ExpandedPlacesStand
+pub mod ExpandedPlacesKept

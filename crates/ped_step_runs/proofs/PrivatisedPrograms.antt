@@ -76,7 +76,7 @@ scalar_unvalued t x h = go (is_among x (names_of t)) (entry_of (at_last t).value
     go true None d k = refl
     go false v d k = absurd cc
 
-scalar_named : (t : ProgramTree) (x : List ℕ) → IsValid t → is_scalar (kind_in t) x ≡ true → is_among x (constant_names t.decls) ≡ false
+pub scalar_named : (t : ProgramTree) (x : List ℕ) → IsValid t → is_scalar (kind_in t) x ≡ true → is_among x (constant_names t.decls) ≡ false
 scalar_named t x v h = go (is_among x (constant_names t.decls)) refl
   where
     none : (o : Option ℤ) → o ≡ None → is_some o ≡ true → true ≡ false

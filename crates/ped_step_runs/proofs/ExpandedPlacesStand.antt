@@ -99,10 +99,7 @@ module _ (t : ProgramTree) (valid : IsValid t) (l : ℕ) (loop : LoopOf t l) whe
     ∙ sym (names_occur t y) ∙ none)
 
   module _ (x array : List ℕ) (scalar : is_scalar (kind_in t) x ≡ true) (round : is_among x (indices_of (nest_round t l)) ≡ false) (near : is_among x (loop_variables (Do h body)) ≡ false) (shared : is_among x (all_private_names_in body) ≡ false)
-      (new : is_among array (names_of t) ≡ false) (q : Setting) (constants : q.constants ≡ p.constants) where
-    one : IsOneToOne p.number
-    one m n e = e
-
+      (new : is_among array (names_of t) ≡ false) (q : Setting) (constants : q.constants ≡ p.constants) (o : Setting) (one : IsOneToOne o.number) where
     apart : (is_same_text x h.variable ≡ false) × (is_among x (all_loop_variables body) ≡ false)
     apart = or_none (is_same_text x h.variable) (is_among x (all_loop_variables body)) near
 
@@ -110,12 +107,12 @@ module _ (t : ProgramTree) (valid : IsValid t) (l : ℕ) (loop : LoopOf t l) whe
     unvalued y s = ap (λ (c : List (List ℕ × ℤ)). value_named c y) constants ∙ scalar_unvalued t y s
 
     -- in an iteration the element at the DO's variable may stand for the scalar
-    pub may_stand : (S : Scope) → IsPlaceOf p t l S → (seen : List Seen) (m : Limits) (k : ℕ) → let e = entered_with q l h body seen m in is_within (q.bounds array) (value_in e k ∷ []) ≡ true → MayStandFor q (frame e k ∷ S) body x array h.variable (value_in e k)
+    pub may_stand : (S : Scope) → IsPlaceOf o t l S → (seen : List Seen) (m : Limits) (k : ℕ) → let e = entered_with q l h body seen m in is_within (q.bounds array) (value_in e k ∷ []) ≡ true → MayStandFor q (frame e k ∷ S) body x array h.variable (value_in e k)
     may_stand S place seen m k within = let e = entered_with q l h body seen m in
         record {
           new = new_in_body array new;
           variable = unvalued x scalar;
-          unbound = ap (λ (b : Bool). if b then Some (value_in e k) else index_value S x) apart.0 ∙ untold_at t l p one x round S place;
+          unbound = ap (λ (b : Bool). if b then Some (value_in e k) else index_value S x) apart.0 ∙ untold_at t l o one x round S place;
           no_loop = apart.1;
           shared = shared;
           subscript = unvalued h.variable variable_scalar;
@@ -140,7 +137,10 @@ module _ (t : ProgramTree) (valid : IsValid t) (l : ℕ) (loop : LoopOf t l) whe
         pub last_value_is : value_in entered entered.count ≡ last_value m1 m2 m3
         last_value_is = last_is q h body l m1 m2 m3 (by_constants h.first m1 first) (by_constants h.last m2 last) (by_constants h.step m3 step) (step_not_zero m3 step) some S s m comes
 
-        pub may_stand_each : IsPlaceOf p t l S → (k : ℕ) → 1 ≤ k → k ≤ entered.count → MayStandFor q (frame entered k ∷ S) body x array h.variable (value_in entered k)
-        may_stand_each place k from to =
-            let lies = value_lies q h body l m1 m2 m3 (by_constants h.first m1 first) (by_constants h.last m2 last) (by_constants h.step m3 step) (step_not_zero m3 step) some S s m comes k from to in
-            may_stand S place (limits (names_in q S) h s).seen m k (within (value_in entered k) lies.0 lies.1)
+        pub lies : (k : ℕ) → 1 ≤ k → k ≤ entered.count → is_within (q.bounds array) (value_in entered k ∷ []) ≡ true
+        lies k from to =
+            let v = value_lies q h body l m1 m2 m3 (by_constants h.first m1 first) (by_constants h.last m2 last) (by_constants h.step m3 step) (step_not_zero m3 step) some S s m comes k from to in
+            within (value_in entered k) v.0 v.1
+
+        pub may_stand_each : IsPlaceOf o t l S → (k : ℕ) → 1 ≤ k → k ≤ entered.count → MayStandFor q (frame entered k ∷ S) body x array h.variable (value_in entered k)
+        may_stand_each place k from to = may_stand S place (limits (names_in q S) h s).seen m k (lies k from to)

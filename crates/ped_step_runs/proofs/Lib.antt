@@ -35,3 +35,4 @@ pub mod ExpandedPlaces
 pub mod ExpandedPlacesParts
 pub mod ExpandedPlacesStand
 pub mod ExpandedPlacesKept
+pub mod ExpandedPlacesWhole

@@ -1,5 +1,5 @@
 -- The limits of a DO with constant bounds, its iteration count, and the values of its variable.
-use Rattle.std.proofs.Common.{◌≡◌, ◌⊎◌, inl, inr, ℕ, zero, suc, ◌-◌, ◌≤◌, ◌<◌, ℤ, pos, negsuc, neg_ℤ, ◌+ℤ◌, ◌-ℤ◌, ◌*ℤ◌, ◌<ℤ◌, ◌≤ℤ◌, int_le, int_lt, int_div, int_rem, unsigned_abs, List, [], Bool, true, false, Option, Some, None, Result, Ok, Err, refl, sym, ap, subst, ◌∙◌, arith, if◌then◌else◌, unwrap_or}
+use Rattle.std.proofs.Common.{◌≡◌, ◌⊎◌, inl, inr, ℕ, zero, suc, ◌-◌, ◌≤◌, ◌<◌, ℤ, pos, negsuc, neg_ℤ, ◌+ℤ◌, ◌-ℤ◌, ◌*ℤ◌, ◌<ℤ◌, ◌≤ℤ◌, int_le, int_lt, int_div, int_rem, unsigned_abs, List, [], Bool, true, false, Option, Some, Ok, Err, refl, sym, ap, subst, ◌∙◌, arith, if◌then◌else◌, unwrap_or}
 use Rattle.std.specs.Int.{int_min, int_max}
 use Rattle.std.proofs.Math.IntN.{*ℤ_comm}
 use Rattle.std.proofs.lemmas.Int.{ints, quot-rem, rem_below, by_lt_z}
@@ -9,7 +9,7 @@ use Rattle.ped_constants.specs.ConstantExpressions.{constant_value}
 use Rattle.ped_store.specs.Stores.{Store, out_of_range}
 use Rattle.ped_store.specs.Storage.{natural}
 use Rattle.ped_eval.specs.Scopes.{Setting, Scope, Names, names_in}
-use Rattle.ped_eval.specs.Evaluation.{Seen, Evaluated, ◌>>>◌, given}
+use Rattle.ped_eval.specs.Evaluation.{Evaluated, ◌>>>◌, given}
 use Rattle.ped_eval.specs.Values.{value}
 use Rattle.ped_eval.specs.Loops.{is_bound, in_bounds, Limits, limits, increment, iteration_count, Entered, entered_with, value_in}
 use Rattle.ped_covering.proofs.Comings.{came, ok_one, constant_comes}
@@ -26,14 +26,18 @@ bound_is m n h = go (is_bound m) h
 comes_to : (g : Names) (s : Store) (e : ExprTree) (m n u : ℤ) → constant_value g.constants e ≡ Some m → (value g e s).result ≡ Ok u → in_bounds u ≡ Ok n → n ≡ m
 comes_to g s e m n u h k b = sym (bound_is u n b) ∙ ok_one u m (sym k ∙ constant_comes g s e m h)
 
+limits_are : (m1 m2 a b : ℤ) (m : Limits) → a ≡ m1 → b ≡ m2 → (given (Ok (record { first = a; last = b }))).result ≡ Ok m → (m.first ≡ m1) × (m.last ≡ m2)
+limits_are m1 m2 a b m e f is =
+    let same = ok_one (record { first = a; last = b }) m is in
+    (ap (λ (l : Limits). l.first) (sym same) ∙ e, ap (λ (l : Limits). l.last) (sym same) ∙ f)
+
 pub constant_limits : (g : Names) (s : Store) (h : Head) (m1 m2 : ℤ) → constant_value g.constants h.first ≡ Some m1 → constant_value g.constants h.last ≡ Some m2 → (m : Limits) → (limits g h s).result ≡ Ok m → (m.first ≡ m1) × (m.last ≡ m2)
 constant_limits g s h m1 m2 first last m e =
     let one = came (value g h.first s).seen (value g h.first s).result (λ a. given (in_bounds a) >>> λ m. value g h.last s >>> λ b. given (in_bounds b) >>> λ n. given (Ok (record { first = m; last = n }))) m e in
     let two = came [] (in_bounds one.0) (λ m. value g h.last s >>> λ b. given (in_bounds b) >>> λ n. given (Ok (record { first = m; last = n }))) m one.2 in
     let three = came (value g h.last s).seen (value g h.last s).result (λ b. given (in_bounds b) >>> λ n. given (Ok (record { first = two.0; last = n }))) m two.2 in
     let four = came [] (in_bounds three.0) (λ n. given (Ok (record { first = two.0; last = n }))) m three.2 in
-    let is = ok_one (record { first = two.0; last = four.0 }) m four.2 in
-    (ap (λ (l : Limits). l.first) (sym is) ∙ comes_to g s h.first m1 two.0 one.0 first one.1 two.1, ap (λ (l : Limits). l.last) (sym is) ∙ comes_to g s h.last m2 four.0 three.0 last three.1 four.1)
+    limits_are m1 m2 two.0 four.0 m (comes_to g s h.first m1 two.0 one.0 first one.1 two.1) (comes_to g s h.last m2 four.0 three.0 last three.1 four.1) four.2
 
 pub constant_step : (constants : List (List ℕ × ℤ)) (h : Head) (m3 : ℤ) → constant_value constants h.step ≡ Some m3 → increment constants h ≡ m3
 constant_step constants h m3 e = ap (λ (o : Option ℤ). unwrap_or o (pos 1)) e

@@ -1,19 +1,15 @@
 -- Where an element may stand for a scalar in the body of a DO of a valid program.
-use Rattle.std.proofs.Common.{◌≡◌, ◌⊎◌, inl, inr, ℕ, zero, suc, ◌+◌, ◌-◌, ◌==◌, ◌≤◌, ℤ, pos, int_le, List, [], ◌∷◌, ◌++◌, length, Bool, true, false, not, ◌&&◌, ◌||◌, Option, Some, None, Ok, refl, sym, ap, subst, ◌∙◌, arith, if◌then◌else◌, nat_le}
+use Rattle.std.proofs.Common.{◌≡◌, ℕ, ◌+◌, List, [], ◌∷◌, ◌++◌, Bool, true, false, not, ◌&&◌, Some, None, refl, sym, ap, ◌∙◌, if◌then◌else◌, nat_le}
 use Rattle.std.specs.Prelude.{nat_lt}
-use Rattle.std.proofs.lemmas.Bool.{both_ways, and_parts, or_parts}
-use Rattle.std.proofs.lemmas.List.Folds.{list_any-append}
 use Rattle.ped_base.specs.Lists.{is_same_text, is_among}
-use Rattle.ped_tree.specs.Tree.{CondTree, Head, StmtTree, StmtTrees, Assign, If, Do, Print, Read, Stop, Comment, no_stmts, more_stmts, ProgramTree}
+use Rattle.ped_tree.specs.Tree.{Head, StmtTree, StmtTrees, Assign, If, Do, Print, Read, Stop, Comment, no_stmts, more_stmts, ProgramTree}
 use Rattle.ped_tree.specs.Nests.{Loop, indices_of}
-use Rattle.ped_tree.specs.Numbering.{statement_count, statements_count, loop_count, loops_count, numbered, all_numbered, at_place, statement_with}
-use Rattle.ped_grammar.specs.Fits.{Surroundings, moved, in_if, in_loop, loop_fits, stmt_fits, stmts_fit}
-use Rattle.ped_affine.specs.Assigned.{loop_variables, all_loop_variables}
+use Rattle.ped_tree.specs.Numbering.{statement_count, statements_count, numbered, all_numbered, statement_with}
 use Rattle.ped_flow.specs.PlainBounds.{loops_round, all_loops_round, nest_round}
 use Rattle.ped_flow.proofs.Truths.{or_none}
 use Rattle.ped_flow_runs.proofs.Standing.{Stand, whole_stands, first_stands, rest_stands, inner_stands, else_stands, is_there}
 use Rattle.ped_store.specs.Acts.{Turn}
-use Rattle.ped_eval.specs.Scopes.{Setting, Frame, Scope, turns_of, index_value}
+use Rattle.ped_eval.specs.Scopes.{Setting, Scope, turns_of, index_value}
 use Rattle.ped_flow_runs.specs.Exits.{IsOneToOne, IsIterationOf, AreIterationsOf}
 use Rattle.ped_step_runs.specs.Pasting.{AreTurnsOf, IsPlaceOf}
 

@@ -1,6 +1,5 @@
 -- What the last iteration of a DO leaves in a scalar that is assigned on each path through the body.
-use Rattle.std.proofs.Common.{◌≡◌, ℕ, suc, ◌+◌, ℤ, List, [], ◌∷◌, Bool, true, false, refl, sym, ap, subst, ◌∙◌, inl}
-use Rattle.std.specs.Prelude.{unsigned_abs, nat_lt}
+use Rattle.std.proofs.Common.{◌≡◌, ℕ, ◌+◌, ℤ, List, ◌∷◌, true, false, refl, ap, subst, ◌∙◌, inl}
 use Rattle.ped_base.specs.Lists.{is_among}
 use Rattle.ped_tree.specs.Tree.{Head, StmtTrees, ProgramTree}
 use Rattle.ped_tree.specs.Accesses.{constant_names}
@@ -9,16 +8,16 @@ use Rattle.ped_store.specs.Cells.{Cell}
 use Rattle.ped_store.specs.Stores.{Content, Undefined, Number, Lines, Store, put, is_storable}
 use Rattle.ped_store.specs.Acts.{Act}
 use Rattle.ped_acts.specs.Fitting.{store_after, touches_of}
-use Rattle.ped_acts.specs.Sets.{needs, written}
+use Rattle.ped_acts.specs.Sets.{written}
 use Rattle.ped_acts.proofs.SameCells.{cell_itself}
 use Rattle.ped_acts.proofs.Stores.{put_same}
 use Rattle.ped_acts.proofs.Renamings.{agreeing_leaves}
-use Rattle.ped_eval.specs.Scopes.{Setting, Frame, Scope, cell_of}
+use Rattle.ped_eval.specs.Scopes.{Setting, Scope, cell_of}
 use Rattle.ped_eval.specs.Evaluation.{Seen}
-use Rattle.ped_eval.specs.Loops.{Limits, Entered, entered_with, frame}
+use Rattle.ped_eval.specs.Loops.{Limits, entered_with, frame}
 use Rattle.ped_eval.specs.Runs.{Ending, going, stopped, failed, run_all}
 use Rattle.ped_flow.specs.Questions.{LoopOf, IsExposed, IsAssignedThrough}
-use Rattle.ped_flow_runs.specs.Covering.{is_cell_of, is_number, some_stop}
+use Rattle.ped_flow_runs.specs.Covering.{is_number, some_stop}
 use Rattle.ped_flow_runs.proofs.Cells.{cell_named}
 use Rattle.ped_flow_runs.proofs.Covered.{none_in_loops}
 use Rattle.ped_flow_runs.proofs.Holding.{number_through}

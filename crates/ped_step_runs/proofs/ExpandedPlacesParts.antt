@@ -1,39 +1,24 @@
 -- What a valid program tells of each of its DO loops, and where an element may stand for a scalar there.
-use Rattle.std.proofs.Common.{◌≡◌, ℕ, suc, ◌+◌, ◌-◌, ◌==◌, ◌≤◌, ℤ, pos, int_le, List, [], ◌∷◌, ◌++◌, Bool, true, false, not, ◌&&◌, ◌||◌, Option, Some, None, Ok, refl, sym, ap, subst, ◌∙◌, if◌then◌else◌}
-use Rattle.std.proofs.lemmas.Bool.{both_ways, and_parts}
+use Rattle.std.proofs.Common.{◌≡◌, ℕ, ◌+◌, ◌-◌, ◌==◌, List, [], ◌∷◌, ◌++◌, Bool, true, false, not, ◌||◌, Some, None, refl, sym, ap, subst, ◌∙◌, if◌then◌else◌}
+use Rattle.std.proofs.lemmas.Bool.{and_parts}
 use Rattle.std.proofs.lemmas.List.Folds.{list_any-append}
-use Rattle.std.specs.Int.{int_min, int_max}
 use Rattle.std.specs.List.{list_all}
 use Rattle.ped_base.specs.Lists.{is_same_text, is_among}
-use Rattle.ped_tree.specs.Tree.{CondTree, Head, StmtTree, StmtTrees, Assign, If, Do, Print, Read, Stop, Comment, no_stmts, more_stmts, ProgramTree}
-use Rattle.ped_tree.specs.Nests.{indices_of}
+use Rattle.ped_tree.specs.Tree.{Head, StmtTree, StmtTrees, Assign, If, Do, Print, Read, Stop, Comment, no_stmts, more_stmts, ProgramTree}
 use Rattle.ped_tree.specs.Numbering.{statement_count, statements_count, loop_count, loops_count, numbered, all_numbered, at_place, statement_with}
-use Rattle.ped_grammar.specs.LimitNumbers.{most_loops_nested, most_blocks_nested}
 use Rattle.ped_grammar.specs.Words.{is_name}
-use Rattle.ped_grammar.specs.Fits.{Surroundings, moved, in_if, in_loop, expr_fits, private_fits, loop_fits, stmt_fits, stmts_fit, decls_fit, begins_with_statement, at_body}
-use Rattle.ped_names.proofs.NameEquality.{same_is, same_itself}
-use Rattle.ped_constants.specs.NamedConstants.{value_named}
+use Rattle.ped_grammar.specs.Fits.{Surroundings, moved, in_if, in_loop, private_fits, loop_fits, stmt_fits, stmts_fit, decls_fit, begins_with_statement, at_body}
+use Rattle.ped_names.proofs.NameEquality.{same_is}
 use Rattle.ped_symbols.specs.Sites.{Site, statement, decl_sites, private_site, stmt_sites, stmts_sites, program_sites}
-use Rattle.ped_symbols.specs.Kinds.{kind_in, names_at, names_of, at_last}
+use Rattle.ped_symbols.specs.Kinds.{kind_in, at_last}
 use Rattle.ped_symbols.specs.NameRefusals.{IsValid}
-use Rattle.ped_uses.specs.RightUses.{is_scalar, expr_is_right, cond_is_right, head_is_right, stmt_is_right, stmts_are_right}
+use Rattle.ped_uses.specs.RightUses.{cond_is_right, head_is_right, stmt_is_right, stmts_are_right}
 use Rattle.ped_uses.specs.RightLoops.{step_is_right, stmt_steps_are_right, steps_are_right}
-use Rattle.ped_uses.proofs.Whole.{right_program, names_occur}
+use Rattle.ped_uses.proofs.Whole.{right_program}
 use Rattle.ped_affine.specs.Assigned.{loop_variables, all_loop_variables}
-use Rattle.ped_store.specs.Storage.{is_within}
-use Rattle.ped_eval.specs.Scopes.{Setting, Scope, index_value}
-use Rattle.ped_eval.specs.Evaluation.{Seen}
-use Rattle.ped_eval.specs.Loops.{Limits, entered_with, frame, value_in}
-use Rattle.ped_eval.specs.Outcomes.{setting_of}
-use Rattle.ped_flow.specs.PlainBounds.{nest_round}
-use Rattle.ped_flow.specs.Questions.{LoopOf}
-use Rattle.ped_flow.proofs.Truths.{or_none}
 use Rattle.std.specs.List.{flat_map}
-use Rattle.ped_step_runs.specs.Pasting.{IsPlaceOf}
-use Rattle.ped_step_runs.specs.Substituting.{all_private_names_in, MayStandFor}
 use Rattle.ped_step_runs.proofs.NamesKept.{occurs, occurs_append}
-use Rattle.ped_step_runs.proofs.PrivatisedPrograms.{scalar_unvalued}
-use Rattle.ped_step_runs.proofs.ExpandedPlaces.{OfEach, each_of_both, untold_at}
+use Rattle.ped_step_runs.proofs.ExpandedPlaces.{OfEach, each_of_both}
 
 some_is : (a b : StmtTree) → Some a ≡ Some b → a ≡ b
 some_is a b e = cc
@@ -129,7 +114,7 @@ module _ (t : ProgramTree) where
         let inner : Named (stmts_sites a ++ stmts_sites b) = rest_named (statement (If c a b) ∷ []) (stmts_sites a ++ stmts_sites b) n in (
           record { around = p; fits = f; right = r; steps = k; named = n },
           each_of_both IsPart (all_numbered a) (all_numbered b) (all_parts_of (in_if p 1 0) a first.1 left.1 steps.0 (first_named (stmts_sites a) (stmts_sites b) inner))
-          (all_parts_of (in_if p (1 + statements_count a) (loops_count a)) b second.1 right.1 steps.1 (rest_named (stmts_sites a) (stmts_sites b) inner)),
+              (all_parts_of (in_if p (1 + statements_count a) (loops_count a)) b second.1 right.1 steps.1 (rest_named (stmts_sites a) (stmts_sites b) inner)),
         )
     parts_of p (Do h b) f r k n =
         let fit = and_parts (loop_fits p h b) (stmts_fit (in_loop p h) b) f in

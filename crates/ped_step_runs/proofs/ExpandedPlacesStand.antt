@@ -1,16 +1,16 @@
 -- An element may stand for a scalar in the body of a DO with constant bounds.
-use Rattle.std.proofs.Common.{◌≡◌, ℕ, suc, ◌≤◌, ℤ, pos, int_le, List, [], ◌∷◌, ◌++◌, Bool, true, false, not, ◌&&◌, ◌||◌, Option, Some, None, Ok, refl, sym, ap, subst, ◌∙◌, if◌then◌else◌, int_eq}
+use Rattle.std.proofs.Common.{◌≡◌, ℕ, suc, ◌≤◌, ℤ, pos, int_le, List, [], ◌∷◌, ◌++◌, Bool, true, false, not, ◌||◌, Option, Some, None, refl, sym, ap, subst, ◌∙◌, if◌then◌else◌, int_eq}
 use Rattle.std.specs.Int.{int_min, int_max}
 use Rattle.std.specs.List.{list_all}
-use Rattle.std.proofs.lemmas.Bool.{both_ways, and_parts}
+use Rattle.std.proofs.lemmas.Bool.{and_parts}
 use Rattle.ped_base.specs.Lists.{is_same_text, is_among}
-use Rattle.ped_tree.specs.Tree.{ExprTree, Head, StmtTree, StmtTrees, Do, ProgramTree}
+use Rattle.ped_tree.specs.Tree.{ExprTree, Head, StmtTrees, Do, ProgramTree}
 use Rattle.ped_tree.specs.Nests.{indices_of}
 use Rattle.ped_grammar.specs.Fits.{in_loop, loop_fits, stmts_fit}
 use Rattle.ped_constants.specs.NamedConstants.{value_named}
 use Rattle.ped_constants.specs.ConstantExpressions.{constant_value}
 use Rattle.ped_names.proofs.NameEquality.{same_itself}
-use Rattle.ped_symbols.specs.Sites.{Site, statement, private_site, stmt_sites, stmts_sites, program_sites}
+use Rattle.ped_symbols.specs.Sites.{statement, private_site, stmts_sites}
 use Rattle.ped_symbols.specs.Kinds.{kind_in, names_of, at_last}
 use Rattle.ped_symbols.specs.NameRefusals.{IsValid}
 use Rattle.ped_uses.specs.RightUses.{is_scalar, expr_is_right, head_is_right, stmts_are_right}
@@ -34,7 +34,7 @@ use Rattle.ped_step_runs.proofs.PrivatisedPrograms.{scalar_unvalued}
 use Rattle.ped_step_runs.proofs.ConstantBounds.{has_iteration, last_value, others, count_is, last_is, value_lies}
 use Rattle.ped_step_runs.proofs.ExpandedParts.{IsEnteredBy}
 use Rattle.ped_step_runs.proofs.ExpandedPlaces.{untold_at}
-use Rattle.ped_step_runs.proofs.ExpandedPlacesParts.{IsPart, part_at, variable_apart, all_apart_in}
+use Rattle.ped_step_runs.proofs.ExpandedPlacesParts.{IsPart, part_at, all_apart_in}
 
 not_true : (b : Bool) → (b ≡ true → true ≡ false) → b ≡ false
 not_true true f = f refl
@@ -93,10 +93,10 @@ module _ (t : ProgramTree) (valid : IsValid t) (l : ℕ) (loop : LoopOf t l) whe
   -- a name that doesn't occur in the program doesn't occur in the body
   pub new_in_body : (y : List ℕ) → is_among y (names_of t) ≡ false → occurs y (stmts_sites body) ≡ false
   new_in_body y none = not_true (occurs y (stmts_sites body)) (λ there.
-    sym (part.named y (occurs_append y (statement (Do h body) ∷ []) (private_site h.private ++ stmts_sites body)
-    ∙ or_right (occurs y (statement (Do h body) ∷ [])) (occurs y (private_site h.private ++ stmts_sites body))
-    (occurs_append y (private_site h.private) (stmts_sites body) ∙ or_right (occurs y (private_site h.private)) (occurs y (stmts_sites body)) there)))
-    ∙ sym (names_occur t y) ∙ none)
+      sym (part.named y (occurs_append y (statement (Do h body) ∷ []) (private_site h.private ++ stmts_sites body)
+      ∙ or_right (occurs y (statement (Do h body) ∷ [])) (occurs y (private_site h.private ++ stmts_sites body))
+      (occurs_append y (private_site h.private) (stmts_sites body) ∙ or_right (occurs y (private_site h.private)) (occurs y (stmts_sites body)) there)))
+      ∙ sym (names_occur t y) ∙ none)
 
   module _ (x array : List ℕ) (scalar : is_scalar (kind_in t) x ≡ true) (round : is_among x (indices_of (nest_round t l)) ≡ false) (near : is_among x (loop_variables (Do h body)) ≡ false) (shared : is_among x (all_private_names_in body) ≡ false)
       (new : is_among array (names_of t) ≡ false) (q : Setting) (constants : q.constants ≡ p.constants) (o : Setting) (one : IsOneToOne o.number) where

@@ -1,5 +1,5 @@
 -- What is asked of a DO with constant bounds whose scalar is expanded: the element may stand for the scalar in each iteration, and the last one leaves a number in it.
-use Rattle.std.proofs.Common.{◌≡◌, ℕ, suc, ◌≤◌, ℤ, pos, int_le, List, [], ◌∷◌, ◌++◌, Bool, true, false, ◌||◌, Some, refl, sym, ap, subst, ◌∙◌, arith}
+use Rattle.std.proofs.Common.{◌≡◌, ℕ, suc, ◌≤◌, ℤ, int_le, List, [], ◌∷◌, Bool, true, false, Some, sym, subst, ◌∙◌, arith}
 use Rattle.std.specs.Int.{int_min, int_max}
 use Rattle.std.specs.Prelude.{unsigned_abs, nat_lt}
 use Rattle.std.proofs.lemmas.List.Folds.{list_any-append}
@@ -14,7 +14,7 @@ use Rattle.ped_affine.specs.Assigned.{loop_variables, all_loop_variables}
 use Rattle.ped_store.specs.Stores.{Store}
 use Rattle.ped_store.specs.Storage.{is_within}
 use Rattle.ped_eval.specs.Scopes.{Setting, Scope, names_in}
-use Rattle.ped_eval.specs.Loops.{Limits, limits, Entered, entered_with, frame, value_in}
+use Rattle.ped_eval.specs.Loops.{Limits, limits, entered_with, frame, value_in}
 use Rattle.ped_eval.specs.Outcomes.{setting_of}
 use Rattle.ped_flow.specs.PlainBounds.{nest_round}
 use Rattle.ped_flow.specs.Questions.{LoopOf, IsExposed, IsAssignedThrough}

@@ -1,5 +1,5 @@
 -- Where an element may stand for a scalar in the body of a DO of a valid program.
-use Rattle.std.proofs.Common.{◌≡◌, ℕ, ◌+◌, List, [], ◌∷◌, ◌++◌, Bool, true, false, not, ◌&&◌, Some, None, refl, sym, ap, ◌∙◌, if◌then◌else◌, nat_le}
+use Rattle.std.proofs.Common.{◌≡◌, ℕ, ◌+◌, List, [], ◌∷◌, ◌++◌, Bool, true, false, ◌&&◌, Some, None, refl, sym, ap, ◌∙◌, if◌then◌else◌, nat_le}
 use Rattle.std.specs.Prelude.{nat_lt}
 use Rattle.ped_base.specs.Lists.{is_same_text, is_among}
 use Rattle.ped_tree.specs.Tree.{Head, StmtTree, StmtTrees, Assign, If, Do, Print, Read, Stop, Comment, no_stmts, more_stmts, ProgramTree}
@@ -29,13 +29,6 @@ each_of_first P (x ∷ xs) ys a = (a.0, each_of_first P xs ys a.1)
 pub each_of_rest : {A : Type 0} (P : A → Type 0) (xs ys : List A) → OfEach P (xs ++ ys) → OfEach P ys
 each_of_rest P [] ys a = a
 each_of_rest P (x ∷ xs) ys a = each_of_rest P xs ys a.1
-
-some_is : {A : Type 0} (a b : A) → Some a ≡ Some b → a ≡ b
-some_is a b e = cc
-
-is_false : (b : Bool) → not b ≡ true → b ≡ false
-is_false true h = absurd cc
-is_false false h = refl
 
 -- each of the loops round a statement is a DO of the program with its number
 module _ (t : ProgramTree) (l : ℕ) where

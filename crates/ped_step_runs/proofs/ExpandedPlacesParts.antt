@@ -31,11 +31,11 @@ or_left : (a b : Bool) → a ≡ true → a || b ≡ true
 or_left true b h = refl
 or_left false b h = absurd cc
 
-or_right : (a b : Bool) → b ≡ true → a || b ≡ true
+pub or_right : (a b : Bool) → b ≡ true → a || b ≡ true
 or_right true b h = refl
 or_right false b h = h
 
-not_true : (b : Bool) → (b ≡ true → true ≡ false) → b ≡ false
+pub not_true : (b : Bool) → (b ≡ true → true ≡ false) → b ≡ false
 not_true true f = f refl
 not_true false f = refl
 

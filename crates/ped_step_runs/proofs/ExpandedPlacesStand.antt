@@ -1,5 +1,5 @@
 -- An element may stand for a scalar in the body of a DO with constant bounds.
-use Rattle.std.proofs.Common.{◌≡◌, ℕ, suc, ◌≤◌, ℤ, pos, int_le, List, [], ◌∷◌, ◌++◌, Bool, true, false, not, ◌||◌, Option, Some, None, refl, sym, ap, subst, ◌∙◌, if◌then◌else◌, int_eq}
+use Rattle.std.proofs.Common.{◌≡◌, ℕ, suc, ◌≤◌, ℤ, pos, int_le, List, [], ◌∷◌, ◌++◌, Bool, true, false, not, ◌||◌, Option, Some, None, sym, ap, subst, ◌∙◌, if◌then◌else◌, int_eq}
 use Rattle.std.specs.Int.{int_min, int_max}
 use Rattle.std.specs.List.{list_all}
 use Rattle.std.proofs.lemmas.Bool.{and_parts}
@@ -34,15 +34,7 @@ use Rattle.ped_step_runs.proofs.PrivatisedPrograms.{scalar_unvalued}
 use Rattle.ped_step_runs.proofs.ConstantBounds.{has_iteration, last_value, others, count_is, last_is, value_lies}
 use Rattle.ped_step_runs.proofs.ExpandedParts.{IsEnteredBy}
 use Rattle.ped_step_runs.proofs.ExpandedPlaces.{untold_at}
-use Rattle.ped_step_runs.proofs.ExpandedPlacesParts.{IsPart, part_at, all_apart_in}
-
-not_true : (b : Bool) → (b ≡ true → true ≡ false) → b ≡ false
-not_true true f = f refl
-not_true false f = refl
-
-or_right : (a b : Bool) → b ≡ true → a || b ≡ true
-or_right true b h = refl
-or_right false b h = h
+use Rattle.ped_step_runs.proofs.ExpandedPlacesParts.{not_true, or_right, IsPart, part_at, all_apart_in}
 
 -- an increment that is right isn't 0
 step_moves : (o : Option ℤ) (n : ℤ) → o ≡ Some n → is_step o ≡ true → n ≡ pos 0 → ⊥

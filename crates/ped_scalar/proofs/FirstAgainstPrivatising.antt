@@ -11,8 +11,8 @@ use Rattle.ped_flow.proofs.Answering.{same_head, same_body}
 use Rattle.ped_steps.specs.declared.rules.Rule.{Rule}
 use Rattle.ped_steps.specs.declared.rules.Rule.TheVariants.{NoLoop, NotPerfect, ParallelState, HasPrivate, IndexEscapes, BoundNotPlain, BoundsShape, StepShape, Range, NoNeighbour, OneBlock, ExposedOrLive, NotScalar, NotConstant, Limit, BadFactor, AlreadyPrivate, NothingToReject}
 use Rattle.ped_steps.specs.RuleNames.{number_of}
-use Rattle.ped_steps.specs.Causes.{Rules, NoRule, IsFirstRule}
-use Rattle.ped_steps.proofs.FirstRules.{NoneBelow, none_at_first, none_up_to, none_stands, first_stands}
+use Rattle.ped_steps.specs.Causes.{Rules, NoRule, NoneBelow, IsFirstRule}
+use Rattle.ped_steps.proofs.FirstRules.{none_at_first, none_up_to, none_stands, first_stands}
 use Rattle.ped_scalar.specs.Scalars.{is_scalar, is_unfit}
 use Rattle.ped_scalar.proofs.FlowAnswers.{true_not_false}
 use Rattle.ped_scalar.specs.Privatising.{privatised, IsExposedOrLiveBy, IsScalarExposedOrLiveBy, StandsAgainstPrivatising}

@@ -1,8 +1,6 @@
 -- A program at which the premises of the laws of pasting hold: a statement in a DO comes in its own place.
-use Rattle.std.proofs.Common.{◌≡◌, ℕ, List, [], ◌∷◌, false, Some, take, drop, refl, sym, ap, subst, arith}
+use Rattle.std.proofs.Common.{◌≡◌, ℕ, List, [], ◌∷◌, ◌++◌, false, Some, take, drop, refl, sym, ap, subst, arith}
 use Rattle.std.specs.Prelude.{pos}
-use Rattle.std.proofs.lemmas.List.{append-nil}
-use Rattle.ped_base.specs.Lists.{is_among}
 use Rattle.ped_tree.specs.Tree.{Int, Var, Value, Head, StmtTree, Assign, Do, Print, no_stmts, more_stmts, ProgramTree}
 use Rattle.ped_tree.specs.Numbering.{statement_with}
 use Rattle.ped_store.specs.Stores.{Store, store_at_start}
@@ -10,28 +8,28 @@ use Rattle.ped_store.specs.Acts.{Act}
 use Rattle.ped_acts.specs.Fitting.{store_after}
 use Rattle.ped_acts.specs.Pieces.{Part, same, changed, old_parts}
 use Rattle.ped_eval.specs.Scopes.{Setting, Scope}
-use Rattle.ped_eval.specs.Loops.{frame, index_names}
+use Rattle.ped_eval.specs.Loops.{frame}
 use Rattle.ped_eval.specs.Runs.{Run, run, run_all}
 use Rattle.ped_runs.specs.Replaying.{goes_on, Replays}
 use Rattle.ped_runs.proofs.StatementsTold.{run_told}
 use Rattle.ped_flow_runs.specs.Covering.{has_stop}
 use Rattle.ped_steps.specs.Replacing.{alone}
-use Rattle.ped_step_runs.specs.Pasting.{IsPlaceOf, IsDone, AreExecutions, IsPasting, DoInstead}
+use Rattle.ped_step_runs.specs.Pasting.{IsPlaceOf, IsInExecution, AreExecutions, IsPastingOf, DoInstead}
 use Rattle.ped_step_runs.proofs.PastedRuns.{run_alone}
 
 -- each statement may come in its own place
 module _ (p : Setting) (t : ProgramTree) (start : Store) (l : ℕ) (s : StmtTree) where
-  itself_pasting : statement_with l t ≡ Some s → has_stop s ≡ false → IsPasting p p t l s alone
+  itself_pasting : statement_with l t ≡ Some s → has_stop s ≡ false → IsPastingOf p p t l s alone
   itself_pasting found stop = record {
     found = found;
-    bounds = refl;
+    bounds = λ x h. refl;
     constants = refl;
     numbers = record { before = λ k h. refl; behind = λ k. ap p.number (omega arith) };
-    indices = λ h x. ap (is_among x) (append-nil (index_names s));
     unstopped = stop;
+    indices = λ h x. refl;
   }
 
-  itself_instead : DoInstead p p t start l s (alone s) (λ scope u. (run p s l scope u).acts)
+  itself_instead : DoInstead p p t start l (run p s l) (alone s) (λ scope u. (run p s l scope u).acts)
   itself_instead scope u place done goes =
       subst (λ (f : Store → Run). Replays f (run p s l scope u).acts goes_on) (sym (run_alone p s l scope))
       (subst (Replays (run p s l scope) (run p s l scope u).acts) goes ((run_told p s l scope).replays u))
@@ -71,11 +69,21 @@ parts = same (take 1 acts) ∷ changed (take 1 (drop 1 acts)) (take 1 (drop 1 ac
 all_parts : old_parts parts ≡ acts
 all_parts = refl
 
-executions : AreExecutions setting program 2 assignment (λ scope u. (run setting assignment 2 scope u).acts) parts (store_at_start [])
-executions = (
-  record { scope = iteration 1; place = place 1; goes = refl; old_is = refl; new_is = refl },
-  (record { scope = iteration 2; place = place 2; goes = refl; old_is = refl; new_is = refl }, tt),
-)
+-- each in the one execution of the DO
+in_loop : (front others behind : List Act) → (run setting (Do head (more_stmts assignment no_stmts)) 1 [] (store_at_start [])).acts ≡ front ++ (others ++ behind) → (u : Store) → u ≡ store_after front (store_at_start [])
+    → IsInExecution setting program (store_at_start []) 2 others u
+in_loop front others behind is u from = record {
+  loop = record { head = head; body = more_stmts assignment no_stmts; is = refl };
+  from = omega arith;
+  to = omega arith;
+  first = store_at_start [];
+  execution = record { front = []; behind = drop 5 acts; is = refl; from = refl };
+  ends = tt;
+  part = record { front = front; behind = behind; is = is; from = from };
+}
 
-done : IsDone setting program (store_at_start []) (done_in 2 (store_after (take 3 acts) (store_at_start []))) (store_after (take 3 acts) (store_at_start []))
-done = record { front = take 3 acts; behind = drop 4 acts; whole = refl; from = refl }
+executions : AreExecutions setting program (store_at_start []) 2 (run setting assignment 2) (λ scope u. (run setting assignment 2 scope u).acts) parts (store_at_start [])
+executions = (
+  record { scope = iteration 1; place = place 1; goes = refl; old_is = refl; new_is = refl; outer = in_loop (take 1 acts) (take 1 (drop 1 acts)) (take 3 (drop 2 acts)) refl _ refl },
+  (record { scope = iteration 2; place = place 2; goes = refl; old_is = refl; new_is = refl; outer = in_loop (take 3 acts) (take 1 (drop 3 acts)) (take 1 (drop 4 acts)) refl _ refl }, tt),
+)

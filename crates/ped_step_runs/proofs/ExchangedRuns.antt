@@ -1,23 +1,24 @@
 -- Runs on renamed cells.
-use Rattle.std.proofs.Common.{◌≡◌, ℕ, zero, suc, ◌+◌, ℤ, List, [], ◌∷◌, ◌++◌, map, length, Bool, true, false, Option, Some, None, Result, Ok, Err, refl, sym, ap, ◌∙◌, arith, if◌then◌else◌}
+use Rattle.std.proofs.Common.{◌≡◌, ℕ, zero, suc, ◌+◌, ℤ, List, [], ◌∷◌, ◌++◌, map, Bool, true, false, Option, Some, None, Result, Ok, Err, refl, sym, ap, ◌∙◌, arith, if◌then◌else◌}
 use Rattle.std.specs.Prelude.{◌==◌}
 use Rattle.std.proofs.lemmas.List.{map-append}
 use Rattle.ped_base.specs.Lists.{is_same_text, is_among}
 use Rattle.ped_tree.specs.Tree.{ExprTree, CondTree, ItemTree, Head, StmtTree, StmtTrees, Assign, If, Do, Print, Read, Stop, Comment, no_stmts, more_stmts}
 use Rattle.ped_tree.specs.Numbering.{statement_count, statements_count}
-use Rattle.ped_store.specs.Cells.{Cell, Private, In, Out, same_cell}
-use Rattle.ped_store.specs.Stores.{Content, Undefined, Number, Lines, Store, put, lines_in}
-use Rattle.ped_store.specs.Acts.{Manner, reads, writes, is_told, Touch, Turn, Place, Step, did, entered, ended_turn, closed, faulted, Act, touched, store_behind, iterations_of}
-use Rattle.ped_store.specs.DataLines.{Data, begun, Taken, next_value_of}
-use Rattle.ped_acts.proofs.SameCells.{cell_is, is_cell, other_cell, cells_differ}
+use Rattle.ped_store.specs.Cells.{Cell, Private, In, same_cell}
+use Rattle.ped_store.specs.Stores.{Lines, Store, lines_in}
+use Rattle.ped_store.specs.Acts.{Touch, Turn, Place, Step, did, entered, ended_turn, closed, faulted, Act, store_behind, iterations_of}
+use Rattle.ped_store.specs.DataLines.{begun}
 use Rattle.ped_eval.specs.Scopes.{Setting, Frame, Scope, turns_of, cell_of, Names, names_in, place_of}
-use Rattle.ped_eval.specs.Evaluation.{Seen, Evaluated, numbered, number_behind}
-use Rattle.ped_eval.specs.Values.{truth, target}
-use Rattle.ped_eval.specs.Statements.{Stored, assigned, assignment_touches, printed_line, print_touches, read_touch, write_touch, Taking, having_touched, into_item, with_taken, taking, taking_from, reading, reading_touches}
+use Rattle.ped_eval.specs.Evaluation.{Seen, Evaluated, numbered}
+use Rattle.ped_eval.specs.Values.{truth}
+use Rattle.ped_eval.specs.Statements.{assigned, assignment_touches, printed_line, print_touches, read_touch, write_touch, Taking, taking_from, reading, reading_touches}
 use Rattle.ped_eval.specs.Loops.{Limits, limits, increment, iteration_count, inner_variables, Entered, entered_with, frame, undefined_by, undefined_all, left_in_variable, exit_touches, exit_when_none, entry_touches}
 use Rattle.ped_eval.specs.Runs.{Ending, going, stopped, failed, Run, nothing_done, followed_by, then_run, does, fails, on, run_assignment, run_print, run_taking, run_read, run_stop, run_if, turns, parallel_turns, run_entered, run_from_entry, run_do, run, run_all}
 use Rattle.ped_step_runs.specs.Exchanging.{IsExchange, AreExchanged, exchanged_store, exchanged_touch, exchanged_act, exchanged_acts, exchanged_ending, exchanged_run}
-use Rattle.ped_step_runs.proofs.ExchangedSight.{seen_in, mapped, seeing, AreNames, names_exchanged, numbered_in, behind_in, stored_in, truth_in, target_in, assigned_in, line_in, limits_in}
+use Rattle.ped_step_runs.proofs.Swapped.{length_behind, length_path}
+use Rattle.ped_step_runs.proofs.ExchangedTouches.{told_apart, taken_in, assignment_touches_in, print_touches_in, left_in, taking_from_in, undefined_by_in, undefined_all_in}
+use Rattle.ped_step_runs.proofs.ExchangedSight.{seen_in, seeing, AreNames, names_exchanged, numbered_in, behind_in, stored_in, truth_in, assigned_in, line_in, limits_in}
 
 module _ (name : Cell → Cell) (ex : IsExchange name) where
   abbrev moved : Store → Store
@@ -27,23 +28,7 @@ module _ (name : Cell → Cell) (ex : IsExchange name) where
   back s = λ i c. s (ex.twice c i)
 
   same_test : (c d : Cell) → same_cell (name c) (name d) ≡ same_cell c d
-  same_test c d = go (same_cell c d) refl
-    where
-      go : (b : Bool) → same_cell c d ≡ b → same_cell (name c) (name d) ≡ b
-      go true e = is_cell (name c) (name d) (ap name (cell_is c d e))
-      go false e = other_cell (name c) (name d) (λ q. cells_differ c d e (sym (ex.twice c) ∙ ap name q ∙ ex.twice d))
-
-  put_in : (c : Cell) (v : Content) (s : Store) → moved (put (name c) v s) ≡ put c v (moved s)
-  put_in c v s = λ i d. if same_test c d i then v else s (name d)
-
-  touched_in : (m : Manner) (c : Cell) (v : Content) (s : Store) → moved (touched m (name c) v s) ≡ touched m c v (moved s)
-  touched_in reads c v s = refl
-  touched_in writes c v s = put_in c v s
-  touched_in is_told c v s = refl
-
-  left_in : (ts : List Touch) (s : Store) → moved (store_behind (map (exchanged_touch name) ts) s) ≡ store_behind ts (moved s)
-  left_in [] s = refl
-  left_in (t ∷ ts) s = left_in ts (touched t.manner (name t.cell) t.content s) ∙ ap (store_behind ts) (touched_in t.manner t.cell t.content s)
+  same_test = told_apart name name ex.twice
 
   -- the second piece does on renamed cells what the first does
   abbrev pub IsMoved : (Store → Run) → (Store → Run) → Type 0
@@ -68,7 +53,7 @@ module _ (name : Cell → Cell) (ex : IsExchange name) where
   does_in : (step : Step) (at : Place) (ts : List Touch) (f g : Store → Run) → IsMoved f g → (s : Store) → does step at (map (exchanged_touch name) ts) g s ≡ exchanged_run name (does step at ts f (moved s))
   does_in step at ts f g h s =
       ap (λ (r : Run). record { acts = record { step = step; place = at; touches = map (exchanged_touch name) ts } ∷ r.acts; ending = r.ending })
-      (h (store_behind (map (exchanged_touch name) ts) s) ∙ ap (λ (v : Store). exchanged_run name (f v)) (left_in ts s))
+      (h (store_behind (map (exchanged_touch name) ts) s) ∙ ap (λ (v : Store). exchanged_run name (f v)) (left_in name same_test ts s))
 
   on_in : {A X : Type 0} (at : Place) (k : A → X) (e : Evaluated A) (e_other : Evaluated X) (next : List Seen → A → Run) (other : List Seen → X → Run)
       → e_other ≡ seeing name k e → ((seen : List Seen) (x : A) → other (map (seen_in name) seen) (k x) ≡ exchanged_run name (next seen x)) → on at e_other other ≡ exchanged_run name (on at e next)
@@ -77,32 +62,6 @@ module _ (name : Cell → Cell) (ex : IsExchange name) where
       go : (seen : List Seen) (r : Result A ℕ) → on at (seeing name k (record { seen = seen; result = r })) other ≡ exchanged_run name (on at (record { seen = seen; result = r }) next)
       go seen (Ok x) = more seen x
       go seen (Err fault) = λ i. record { acts = record { step = faulted; place = at; touches = numbered_in name 1 seen i } ∷ []; ending = failed fault at.statement }
-
-  assignment_touches_in : (seen : List Seen) (w : Stored) → assignment_touches (map (seen_in name) seen) (stored_in name w) ≡ map (exchanged_touch name) (assignment_touches seen w)
-  assignment_touches_in seen w =
-      (λ i. numbered_in name 1 seen i ++ write_touch (name w.cell) (Number w.number) (behind_in name 1 seen i) ∷ [])
-      ∙ sym (map-append (exchanged_touch name) (numbered 1 seen) (write_touch w.cell (Number w.number) (number_behind 1 seen) ∷ []))
-
-  print_touches_in : (seen : List Seen) (line : List ℕ) (s : Store) → print_touches (map (seen_in name) seen) line s ≡ map (exchanged_touch name) (print_touches seen line (moved s))
-  print_touches_in seen line s =
-      (λ i. numbered_in name 1 seen i ++ read_touch (sym ex.output i) (s (sym ex.output i)) 0 ∷ write_touch (sym ex.output i) (Lines (lines_in (s (sym ex.output i)) ++ line ∷ [])) (behind_in name 1 seen i) ∷ [])
-      ∙ sym (map-append (exchanged_touch name) (numbered 1 seen) (read_touch Out (moved s Out) 0 ∷ write_touch Out (Lines (lines_in (moved s Out) ++ line ∷ [])) (number_behind 1 seen) ∷ []))
-
-  -- what came of the items of a READ, on renamed cells
-  abbrev taken_in : Taking → Taking
-  taken_in t = record { touches = map (exchanged_touch name) t.touches; left = t.left; fault = t.fault }
-
-  having_in : (before : List Touch) (t : Taking) → having_touched (map (exchanged_touch name) before) (taken_in t) ≡ taken_in (having_touched before t)
-  having_in before t = λ i. record { touches = sym (map-append (exchanged_touch name) before t.touches) i; left = t.left; fault = t.fault }
-
-  item_in : (n : ℕ) (left : Data) (v : ℤ) (seen : List Seen) (r : Result Cell ℕ) (next other : ℕ → Cell → Taking) → ((m : ℕ) (c : Cell) → other m (name c) ≡ taken_in (next m c))
-      → into_item n left v (map (seen_in name) seen) (mapped name r) other ≡ taken_in (into_item n left v seen r next)
-  item_in n left v seen (Ok c) next other h =
-      (λ i. having_touched (numbered_in name n seen i ++ write_touch (name c) (Number v) (behind_in name n seen i) ∷ []) (other (suc (behind_in name n seen i)) (name c)))
-      ∙ ap (having_touched (map (exchanged_touch name) (numbered n seen) ++ write_touch (name c) (Number v) (number_behind n seen) ∷ [])) (h (suc (number_behind n seen)) c)
-      ∙ (λ i. having_touched (sym (map-append (exchanged_touch name) (numbered n seen) (write_touch c (Number v) (number_behind n seen) ∷ [])) i) (taken_in (next (suc (number_behind n seen)) c)))
-      ∙ having_in (numbered n seen ++ write_touch c (Number v) (number_behind n seen) ∷ []) (next (suc (number_behind n seen)) c)
-  item_in n left v seen (Err fault) next other h = λ i. record { touches = numbered_in name n seen i; left = left; fault = Some fault }
 
   chosen_in : (b : Bool) (f f_other g g_other : Store → Run) → IsMoved f f_other → IsMoved g g_other → IsMoved (if b then f else g) (if b then f_other else g_other)
   chosen_in true f f_other g g_other h k = h
@@ -115,42 +74,25 @@ module _ (name : Cell → Cell) (ex : IsExchange name) where
         on_in at (stored_in name) (assigned g left right (moved s)) (assigned other left right s)
         (λ seen w. does did at (assignment_touches seen w) nothing_done (moved s)) (λ seen w. does did at (assignment_touches seen w) nothing_done s)
         (assigned_in name ex.element g other same left right s)
-        (λ seen w. ap (λ (ts : List Touch). does did at ts nothing_done s) (assignment_touches_in seen w) ∙ does_in did at (assignment_touches seen w) nothing_done nothing_done nothing_in s)
+        (λ seen w. ap (λ (ts : List Touch). does did at ts nothing_done s) (assignment_touches_in name seen w) ∙ does_in did at (assignment_touches seen w) nothing_done nothing_done nothing_in s)
 
     print_in : (items : List ItemTree) → IsMoved (run_print g at items) (run_print other at items)
     print_in items s =
         on_in at (λ (line : List ℕ). line) (printed_line g items (moved s)) (printed_line other items s)
         (λ seen line. does did at (print_touches seen line (moved s)) nothing_done (moved s)) (λ seen line. does did at (print_touches seen line s) nothing_done s)
         (line_in name ex.element g other same items s)
-        (λ seen line. ap (λ (ts : List Touch). does did at ts nothing_done s) (print_touches_in seen line s) ∙ does_in did at (print_touches seen line (moved s)) nothing_done nothing_done nothing_in s)
+        (λ seen line. ap (λ (ts : List Touch). does did at ts nothing_done s) (print_touches_in name ex.output seen line s) ∙ does_in did at (print_touches seen line (moved s)) nothing_done nothing_done nothing_in s)
 
-    taking_in : (items : List ExprTree) (n : ℕ) (d : Data) (s : Store) → taking other items n d s ≡ taken_in (taking g items n d (moved s))
-    taking_in [] n d s = refl
-    taking_in (item ∷ rest) n d s = go (next_value_of d) (λ m left w. taking_in rest m left w)
-      where
-        go : (t : Result Taken ℕ) → ((m : ℕ) (left : Data) (w : Store) → taking other rest m left w ≡ taken_in (taking g rest m left (moved w)))
-            → with_taken d t (λ v left. into_item n left v (target other item s).seen (target other item s).result λ m c. taking other rest m left (put c (Number v) s))
-            ≡ taken_in (with_taken d t (λ v left. into_item n left v (target g item (moved s)).seen (target g item (moved s)).result λ m c. taking g rest m left (put c (Number v) (moved s))))
-        go (Err fault) more = refl
-        go (Ok t) more =
-            ap (λ (z : Evaluated Cell). into_item n t.behind t.value z.seen z.result λ m c. taking other rest m t.behind (put c (Number t.value) s)) (target_in name ex.element g other same item s)
-            ∙ item_in n t.behind t.value (target g item (moved s)).seen (target g item (moved s)).result (λ m c. taking g rest m t.behind (put c (Number t.value) (moved s))) (λ m c. taking other rest m t.behind (put c (Number t.value) s))
-            (λ m c. more m t.behind (put (name c) (Number t.value) s) ∙ ap (λ (w : Store). taken_in (taking g rest m t.behind w)) (put_in c (Number t.value) s))
+    reading_in : (items : List ExprTree) (s : Store) → reading other items s ≡ taken_in name (reading g items (moved s))
+    reading_in items s = taking_from_in name same_test ex.element g other same items (begun (lines_in (s In))) s ∙ ap (λ (c : Cell). taken_in name (taking_from g items (begun (lines_in (s c))) (moved s))) (sym ex.input)
 
-    from_in : (items : List ExprTree) (b : Result Data ℕ) (s : Store) → taking_from other items b s ≡ taken_in (taking_from g items b (moved s))
-    from_in items (Ok d) s = taking_in items 2 d s
-    from_in items (Err fault) s = refl
-
-    reading_in : (items : List ExprTree) (s : Store) → reading other items s ≡ taken_in (reading g items (moved s))
-    reading_in items s = from_in items (begun (lines_in (s In))) s ∙ ap (λ (c : Cell). taken_in (taking_from g items (begun (lines_in (s c))) (moved s))) (sym ex.input)
-
-    reading_touches_in : (t : Taking) (s : Store) → reading_touches (taken_in t) s ≡ map (exchanged_touch name) (reading_touches t (moved s))
+    reading_touches_in : (t : Taking) (s : Store) → reading_touches (taken_in name t) s ≡ map (exchanged_touch name) (reading_touches t (moved s))
     reading_touches_in t s = λ i. read_touch (sym ex.input i) (s (sym ex.input i)) 0 ∷ (write_touch (sym ex.input i) (Lines t.left.lines) 1 ∷ map (exchanged_touch name) t.touches)
 
     read_in : (items : List ExprTree) → IsMoved (run_read g at items) (run_read other at items)
     read_in items s = ap (λ (t : Taking). run_taking at t t.fault s) (reading_in items s) ∙ go (reading g items (moved s)) (reading g items (moved s)).fault
       where
-        go : (t : Taking) (fault : Option ℕ) → run_taking at (taken_in t) fault s ≡ exchanged_run name (run_taking at t fault (moved s))
+        go : (t : Taking) (fault : Option ℕ) → run_taking at (taken_in name t) fault s ≡ exchanged_run name (run_taking at t fault (moved s))
         go t None = ap (λ (ts : List Touch). does did at ts nothing_done s) (reading_touches_in t s) ∙ does_in did at (reading_touches t (moved s)) nothing_done nothing_done nothing_in s
         go t (Some n) = λ i. fails at (reading_touches_in t s i) n
 
@@ -164,17 +106,9 @@ module _ (name : Cell → Cell) (ex : IsExchange name) where
 
   -- loops
   module _ (scope other : Scope) (same : AreExchanged name scope other) where
-    undefined_by_in : (n : ℕ) (xs : List (List ℕ)) → undefined_by other n xs ≡ map (exchanged_touch name) (undefined_by scope n xs)
-    undefined_by_in n [] = refl
-    undefined_by_in n (x ∷ xs) = λ i. write_touch (same.cell x i) Undefined n ∷ undefined_by_in (suc n) xs i
-
-    undefined_all_in : (xs : List (List ℕ)) → undefined_all other xs ≡ map (exchanged_touch name) (undefined_all scope xs)
-    undefined_all_in [] = refl
-    undefined_all_in (x ∷ xs) = λ i. write_touch (same.cell x i) Undefined 0 ∷ undefined_all_in xs i
-
     exit_in : (e : Entered) → exit_touches e other ≡ map (exchanged_touch name) (exit_touches e scope)
     exit_in e =
-        (λ i. write_touch (same.cell e.head.variable i) (left_in_variable e) 0 ∷ (undefined_by_in e.behind_bounds e.head.private i ++ undefined_all_in e.inner i))
+        (λ i. write_touch (same.cell e.head.variable i) (left_in_variable e) 0 ∷ (undefined_by_in name scope other same.cell e.behind_bounds e.head.private i ++ undefined_all_in name scope other same.cell e.inner i))
         ∙ ap (λ (ts : List Touch). write_touch (name (cell_of scope e.head.variable)) (left_in_variable e) 0 ∷ ts) (sym (map-append (exchanged_touch name) (undefined_by scope e.behind_bounds e.head.private) (undefined_all scope e.inner)))
 
     exit_when_in : (n : ℕ) (e : Entered) → exit_when_none n e other ≡ map (exchanged_touch name) (exit_when_none n e scope)
@@ -236,14 +170,6 @@ module _ (name : Cell → Cell) (ex : IsExchange name) where
         ∙ from_entry_in (entered_with p n h statements seen l) (place_of p n scope) body body_other more seen s)
 
   -- further inside the places are the same but for the renamed cells
-  length_behind : (ts : List Turn) (t : Turn) → length (ts ++ t ∷ []) ≡ suc (length ts)
-  length_behind [] t = refl
-  length_behind (u ∷ us) t = ap suc (length_behind us t)
-
-  length_iterations : (ts : List Turn) → length (iterations_of ts) ≡ length ts
-  length_iterations [] = refl
-  length_iterations (t ∷ ts) = ap suc (length_iterations ts)
-
   pub deeper : (f : Frame) (scope other : Scope) → AreExchanged name scope other → AreExchanged name (f ∷ scope) (f ∷ other)
   deeper f scope other same = record {
     turns = ap (λ (ts : List Turn). ts ++ f.turn ∷ []) same.turns;
@@ -255,7 +181,7 @@ module _ (name : Cell → Cell) (ex : IsExchange name) where
       go : (x : List ℕ) (b : Bool) → (if b then Private x (iterations_of (turns_of (f ∷ other))) else cell_of other x) ≡ name (if b then Private x (iterations_of (turns_of (f ∷ scope))) else cell_of scope x)
       go x true =
           ap (λ (ts : List Turn). Private x (iterations_of (ts ++ f.turn ∷ []))) same.turns
-          ∙ sym (same.inside x (iterations_of (turns_of (f ∷ scope))) (let longer = length_behind (turns_of scope) f.turn in let mapped = length_iterations (turns_of (f ∷ scope)) in omega (arith, longer, mapped)))
+          ∙ sym (same.inside x (iterations_of (turns_of (f ∷ scope))) (let longer = length_behind (turns_of scope) f.turn in let mapped = length_path (turns_of (f ∷ scope)) in omega (arith, longer, mapped)))
       go x false = same.cell x
 
   mutual

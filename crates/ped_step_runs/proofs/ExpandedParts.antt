@@ -28,8 +28,8 @@ use Rattle.ped_runs.proofs.StatementsTold.{all_told}
 use Rattle.ped_step_runs.specs.Exchanging.{exchanged_store, exchanged_ending, swapped}
 use Rattle.ped_step_runs.specs.Pasting.{IsPlaceOf, DoInstead, StandInstead}
 use Rattle.ped_step_runs.specs.Substituting.{AreSameOn, element_at, MayStandFor}
-use Rattle.ped_step_runs.proofs.PastedStores.{execution_left}
-use Rattle.ped_step_runs.proofs.PrivatisedParts.{do_entered, ends_so}
+use Rattle.ped_step_runs.proofs.PastedStores.{execution_left, going_ends}
+use Rattle.ped_step_runs.proofs.PrivatisedParts.{do_entered}
 use Rattle.ped_step_runs.proofs.ExpandedTurns.{IsSubstituted, cell_inside}
 use Rattle.ped_step_runs.proofs.ExpandedLoops.{new_statements, new_acts, IsKept, statements_replay, statements_stand}
 
@@ -109,26 +109,26 @@ module _ (t : ProgramTree) (l : ℕ) (loop : LoopOf t l) (x array : List ℕ) (l
 
     module _ (start : Store) where
       -- the new DO, and what stands behind it, does the new acts in the place of each execution of the old one
-      pub do_instead : DoInstead p q t start l (Do h body) (new_statements x array live last h body) expanded_acts
+      pub do_instead : DoInstead p q t start l (run p (Do h body) l) (new_statements x array live last h body) expanded_acts
       do_instead S u place done goes = expanded_replay S u place goes
 
       module _ (shown : Cell → Bool) (hidden : (js : List ℤ) → shown (Element array js) ≡ false) (ends : Ends (run_all p t.body 1 [] start).ending) (untouched : (js : List ℤ) → touch (run_all p t.body 1 [] start).acts (Element array js) ≡ false)
           (unneeded : (S : Scope) (seen : List Seen) (m : Limits) (k : ℕ) (s : Store) → Ends (run_all q body (l + 1) (frame (entered_with q l h body seen m) k ∷ S) s).ending → needs (run_all q body (l + 1) (frame (entered_with q l h body seen m) k ∷ S) s).acts (cell_of S x) ≡ false)
           (unwanted : live ≡ false → (S : Scope) (rest : List Act) → IsExit p t start l S rest → wants shown rest (cell_of S x) ≡ false) where
         -- and these may stand for the old acts
-        pub stand_instead : StandInstead shown p t start l (Do h body) expanded_acts
+        pub stand_instead : StandInstead shown p t start l (run p (Do h body) l) expanded_acts
         stand_instead S u place done goes =
             let entered = do_entered q h body l S u (going_so S u goes) in
             let m = entered.0 in
             let seen = (limits (names_in q S) h u).seen in
             let did = (run p (Do h body) l S u).acts in
             let same = ap (λ (r : Run). r.acts) (alike S u) in
-            let apart : (v : ℤ) → touch (did ++ done.behind) (Element array (v ∷ [])) ≡ false = λ v.
-            (or_parts (touch done.front (Element array (v ∷ []))) (touch (did ++ done.behind) (Element array (v ∷ [])))
-            (sym (touch_append done.front (did ++ done.behind) (Element array (v ∷ []))) ∙ ap (λ (zs : List Act). touch zs (Element array (v ∷ []))) (sym done.whole) ∙ untouched (v ∷ []))).1 in
-            let stands = statements_stand q h body l S x array seen m in_order absent (substituted_at S place u m entered.1) u entered.1 (going_so S u goes) shown done.behind (λ v. hidden (v ∷ []))
-            (λ k w going. unneeded S seen m k w (ends_so (run_all q body (l + 1) (frame (entered_with q l h body seen m) k ∷ S) w).ending going))
-            (λ v. ap (λ (zs : List Act). touch (zs ++ done.behind) (Element array (v ∷ []))) same ∙ apart v)
-            live last not_variable (λ so. kept so S place u m entered.1) (λ so. unwanted so S done.behind (execution_left p t start l loop S u ends place done goes)) in
-            subst (λ (zs : List Act). StandsFor (record { agreed = wants shown (did ++ done.behind); old = did; new = zs }) (wants shown done.behind) u) (sym (expanded_is S u m entered.1))
-            (subst (λ (zs : List Act). StandsFor (record { agreed = wants shown (zs ++ done.behind); old = zs; new = new_acts q h body l S x array seen m live last u }) (wants shown done.behind) u) same stands)
+            let apart : (v : ℤ) → touch (did ++ done.part.behind) (Element array (v ∷ [])) ≡ false = λ v.
+            (or_parts (touch done.part.front (Element array (v ∷ []))) (touch (did ++ done.part.behind) (Element array (v ∷ [])))
+            (sym (touch_append done.part.front (did ++ done.part.behind) (Element array (v ∷ []))) ∙ ap (λ (zs : List Act). touch zs (Element array (v ∷ []))) (sym done.part.is) ∙ untouched (v ∷ []))).1 in
+            let stands = statements_stand q h body l S x array seen m in_order absent (substituted_at S place u m entered.1) u entered.1 (going_so S u goes) shown done.part.behind (λ v. hidden (v ∷ []))
+            (λ k w going. unneeded S seen m k w (going_ends (run_all q body (l + 1) (frame (entered_with q l h body seen m) k ∷ S) w).ending going))
+            (λ v. ap (λ (zs : List Act). touch (zs ++ done.part.behind) (Element array (v ∷ []))) same ∙ apart v)
+            live last not_variable (λ so. kept so S place u m entered.1) (λ so. unwanted so S done.part.behind (execution_left p t start l loop S u ends place done goes)) in
+            subst (λ (zs : List Act). StandsFor (record { agreed = wants shown (did ++ done.part.behind); old = did; new = zs }) (wants shown done.part.behind) u) (sym (expanded_is S u m entered.1))
+            (subst (λ (zs : List Act). StandsFor (record { agreed = wants shown (zs ++ done.part.behind); old = zs; new = new_acts q h body l S x array seen m live last u }) (wants shown done.part.behind) u) same stands)

@@ -25,7 +25,7 @@ use Rattle.ped_flow_runs.proofs.TripReads.{unexposed_unneeded}
 use Rattle.ped_plain.specs.Executions.{is_small, WriteSmall}
 use Rattle.ped_plain.proofs.SmallWrites.{run_all_small, small_after}
 use Rattle.ped_runs.specs.Replaying.{goes_on, finish_of}
-use Rattle.ped_step_runs.proofs.PrivatisedParts.{ends_so}
+use Rattle.ped_step_runs.proofs.PastedStores.{going_ends}
 use Rattle.ped_step_runs.proofs.ExpandedTurns.{trip, own, cell_inside}
 use Rattle.ped_step_runs.proofs.ExpandedParts.{number_written}
 
@@ -73,7 +73,7 @@ module _ (t : ProgramTree) (l : ℕ) (loop : LoopOf t l) (x array : List ℕ) (q
   pub last_writes : Goes s → written (trip q h body l S x array seen m k s).acts (own q h body l S x array) ≡ true
   last_writes goes =
       number_written q body (l + 1) inside (cell_of S x) s goes
-      (unexposed_unneeded q t l loop x unnamed unstopping unexposed S seen m k s (ends_so (run_all q body (l + 1) inside s).ending goes)) number_left
+      (unexposed_unneeded q t l loop x unnamed unstopping unexposed S seen m k s (going_ends (run_all q body (l + 1) inside s).ending goes)) number_left
 
   -- and leaves a number in it that an element can hold
   pub last_stores : Goes s → IsStorable (store_after (trip q h body l S x array seen m k s).acts s (own q h body l S x array))

@@ -18,13 +18,14 @@ use Rattle.ped_acts.proofs.Renamings.{renamed_leaves, behind_other}
 use Rattle.ped_eval.specs.Scopes.{Setting, Scope, turns_of, cell_of, place_of}
 use Rattle.ped_eval.specs.Evaluation.{Seen}
 use Rattle.ped_eval.specs.Loops.{Limits, Entered, entered_with, frame, value_in, inner_variables, undefined_by, undefined_all, exit_touches, exit_when_none}
-use Rattle.ped_eval.specs.Runs.{Ending, going, stopped, failed, Run, turns}
+use Rattle.ped_eval.specs.Runs.{Run, turns}
 use Rattle.ped_eval.specs.Turns.{body_run}
 use Rattle.ped_runs.specs.Replaying.{Finish, goes_on, has_fault, finish_of, act, Replays}
 use Rattle.ped_runs.proofs.Joined.{replays_nothing, turns_more}
 use Rattle.ped_runs.proofs.StatementsTold.{all_told}
 use Rattle.ped_step_runs.specs.Exchanging.{exchanged_store, exchanged_ending, swapped, is_of_scalar}
 use Rattle.ped_step_runs.specs.Substituting.{AreSameOn, element_at}
+use Rattle.ped_step_runs.proofs.Replayed.{same_finish}
 use Rattle.ped_step_runs.proofs.Swapped.{cell_name, named_so, of_scalar, swapped_first, twice}
 use Rattle.ped_step_runs.proofs.Privatised.{exit_when_found, Agrees, body_fits, body_agrees, act_agrees}
 use Rattle.ped_step_runs.proofs.PrivatisedLoops.{trip_goes, turns_are, more_goes}
@@ -39,11 +40,6 @@ same_renamed name (a ∷ acts) (b ∷ bs) h =
     (subst (λ (ts : List Touch). AreRenamed name (of_cells ts) (of_cells (b.touches ++ []))) (sym (append-nil a.touches))
     (subst (λ (ts : List Touch). AreRenamed name (of_cells a.touches) (of_cells ts)) (sym (append-nil b.touches)) h.0.touches))
     (same_renamed name acts bs h.1)
-
-same_finish : (name : Cell → Cell) (e : Ending) → finish_of (exchanged_ending name e) ≡ finish_of e
-same_finish name (going s) = refl
-same_finish name (stopped s) = refl
-same_finish name (failed fault statement) = refl
 
 -- what the exit of a DO doesn't write
 module _ (S : Scope) (c : Cell) where

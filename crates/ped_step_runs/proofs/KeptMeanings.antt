@@ -1,5 +1,5 @@
 -- Keeping the meaning goes from step to step.
-use Rattle.std.proofs.Common.{◌≡◌, ℕ, List, refl, ◌∙◌}
+use Rattle.std.proofs.Common.{refl, ◌∙◌}
 use Rattle.ped_tree.specs.Tree.{ProgramTree}
 use Rattle.ped_step_runs.specs.Meaning.{Keeps}
 

@@ -1,4 +1,5 @@
 pub mod ExchangedSight
+pub mod ExchangedTouches
 pub mod ExchangedRuns
 pub mod Replayed
 pub mod RunCells
@@ -13,10 +14,13 @@ pub mod ExpandedLoops
 pub mod ExpandedParts
 pub mod NamesKept
 pub mod SameNames
-pub mod ReplacedTrees
+pub mod FilledGaps
+pub mod OwnBounds
 pub mod PastedParts
 pub mod LoopsRound
 pub mod PastedRuns
+pub mod ReplacedTrees
+pub mod PastedStatements
 pub mod PastedStores
 mod Examples
 pub mod PrivatisedPrograms
@@ -24,6 +28,8 @@ pub mod PrivatisedRacesCells
 pub mod PrivatisedRacesOrigins
 pub mod PrivatisedRaces
 pub mod KeptMeanings
+pub mod ExpandedNumbers
+pub mod ExpandedPrograms
 pub mod RenumberedRuns
 pub mod RenumberedPrograms
 pub mod SubstitutedSums

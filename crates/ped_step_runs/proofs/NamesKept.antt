@@ -1,5 +1,5 @@
 -- Which names occur where one statement has been exchanged for others.
-use Rattle.std.proofs.Common.{◌≡◌, ℕ, suc, ◌+◌, List, [], ◌∷◌, ◌++◌, map, Bool, true, false, Option, Some, eqb-true, refl, sym, ap, subst, ◌∙◌, append_assoc, append-nil, arith, if◌then◌else◌}
+use Rattle.std.proofs.Common.{◌≡◌, ℕ, ◌+◌, List, [], ◌∷◌, ◌++◌, map, Bool, true, false, Some, eqb-true, refl, sym, ap, subst, ◌∙◌, append_assoc, append-nil, arith, if◌then◌else◌}
 use Rattle.std.specs.Prelude.{◌||◌, ◌==◌}
 use Rattle.std.specs.List.{flat_map}
 use Rattle.std.proofs.lemmas.List.{map-append}
@@ -101,14 +101,14 @@ module _ (x : List ℕ) (y : List ℕ) where
           let new_b = all_replaced by l b (n + 1 + statements_count a) in
           here (If c a b) (all_numbered a ++ all_numbered b) n (alone (If c new_a new_b)) st
           (alone_alike (If c new_a new_b) (If c a b) (append_alike (statement (If c new_a new_b) ∷ []) (statement (If c a b) ∷ []) (stmts_sites new_a ++ stmts_sites new_b) (stmts_sites a ++ stmts_sites b) (alike_itself _ _)
-              (append_alike (stmts_sites new_a) (stmts_sites a) (stmts_sites new_b) (stmts_sites b) of_a of_b)))
+          (append_alike (stmts_sites new_a) (stmts_sites a) (stmts_sites new_b) (stmts_sites b) of_a of_b)))
           (n == l) refl
       replaced_alike (Do h b) n st =
           let of_b = all_alike b (n + 1) (inner_stands t (Do h b) (all_numbered b) n st) in
           let new_b = all_replaced by l b (n + 1) in
           here (Do h b) (all_numbered b) n (alone (Do h new_b)) st
           (alone_alike (Do h new_b) (Do h b) (append_alike (statement (Do h new_b) ∷ []) (statement (Do h b) ∷ []) (private_site h.private ++ stmts_sites new_b) (private_site h.private ++ stmts_sites b) (alike_itself _ _)
-              (append_alike (private_site h.private) (private_site h.private) (stmts_sites new_b) (stmts_sites b) (same_alike (private_site h.private)) of_b)))
+          (append_alike (private_site h.private) (private_site h.private) (stmts_sites new_b) (stmts_sites b) (same_alike (private_site h.private)) of_b)))
           (n == l) refl
       replaced_alike (Print items) n st = here (Print items) [] n (alone (Print items)) st (same_alike (stmt_sites (Print items))) (n == l) refl
       replaced_alike (Read items) n st = here (Read items) [] n (alone (Read items)) st (same_alike (stmt_sites (Read items))) (n == l) refl

@@ -15,7 +15,7 @@ use Rattle.ped_acts.proofs.Appending.{touch_append}
 use Rattle.ped_eval.specs.Scopes.{Setting, Scope, turns_of, cell_of, names_in}
 use Rattle.ped_eval.specs.Evaluation.{Seen, Evaluated}
 use Rattle.ped_eval.specs.Loops.{Limits, limits, entered_with, inner_variables, frame}
-use Rattle.ped_eval.specs.Runs.{Ending, going, stopped, failed, Run, run, run_all}
+use Rattle.ped_eval.specs.Runs.{Run, run, run_all}
 use Rattle.ped_eval.specs.Outcomes.{Ends}
 use Rattle.ped_flow.specs.Questions.{LoopOf}
 use Rattle.ped_flow_runs.specs.Exits.{IsOneToOne, IsExit}
@@ -24,7 +24,7 @@ use Rattle.ped_runs.specs.Replaying.{goes_on, faults, finish_of, Replays}
 use Rattle.ped_runs.proofs.Joined.{replays_nothing, statements_more, entry_fails}
 use Rattle.ped_steps.specs.Replacing.{alone}
 use Rattle.ped_step_runs.specs.Pasting.{DoInstead, StandInstead}
-use Rattle.ped_step_runs.proofs.PastedStores.{execution_left}
+use Rattle.ped_step_runs.proofs.PastedStores.{execution_left, going_ends}
 use Rattle.ped_step_runs.proofs.RunCells.{EachDo, EachDos}
 use Rattle.ped_step_runs.proofs.Uncopied.{IsSpare, copy_untouched}
 use Rattle.ped_step_runs.proofs.PrivatisedLoops.{more_private, copy, new_loop, loop_replays, loop_stands}
@@ -39,11 +39,6 @@ head_in other (Some (Read items)) = other
 head_in other (Some Stop) = other
 head_in other (Some (Comment text)) = other
 head_in other None = other
-
-pub ends_so : (e : Ending) → finish_of e ≡ goes_on → Ends e
-ends_so (going s) q = tt
-ends_so (stopped s) q = absurd cc
-ends_so (failed fault statement) q = absurd cc
 
 -- a DO that goes on has been entered
 pub do_entered : (p : Setting) (h : Head) (body : StmtTrees) (l : ℕ) (S : Scope) (s : Store) → finish_of (run p (Do h body) l S s).ending ≡ goes_on → (m : Limits) × (limits (names_in p S) h s ≡ record { seen = (limits (names_in p S) h s).seen; result = Ok m })
@@ -119,24 +114,24 @@ module _ (t : ProgramTree) (l : ℕ) (loop : LoopOf t l) (x : List ℕ) (p : Set
 
   module _ (start : Store) where
     -- the new DO does the new acts in the place of each execution of the old one
-    pub do_instead : DoInstead p p t start l (Do h body) (alone (Do (more_private p h body l [] x in_order absent) body)) fresh
+    pub do_instead : DoInstead p p t start l (run p (Do h body) l) (alone (Do (more_private p h body l [] x in_order absent) body)) fresh
     do_instead S u place done goes = fresh_replays S u goes
 
     module _ (shown : Cell → Bool) (hidden : (y : List ℕ) (path : List Iteration) → shown (Private y path) ≡ false) (ends : Ends (run_all p t.body 1 [] start).ending)
         (unneeded : (S : Scope) (seen : List Seen) (m : Limits) (k : ℕ) (s : Store) → Ends (run_all p body (l + 1) (frame (entered_with p l h body seen m) k ∷ S) s).ending → needs (run_all p body (l + 1) (frame (entered_with p l h body seen m) k ∷ S) s).acts (cell_of S x) ≡ false)
         (unwanted : (S : Scope) (rest : List Act) → IsExit p t start l S rest → wants shown rest (cell_of S x) ≡ false) where
       -- and these may stand for the old acts
-      pub stand_instead : StandInstead shown p t start l (Do h body) fresh
+      pub stand_instead : StandInstead shown p t start l (run p (Do h body) l) fresh
       stand_instead S u place done goes =
           let entered = is_entered S u goes in
           let m = entered.0 in
           let seen = (limits (names_in p S) h u).seen in
           let did = (run p (Do h body) l S u).acts in
-          let untouched : (j : ℕ) → touch (did ++ done.behind) (copy p h body l S x in_order absent seen m j) ≡ false = λ j.
-          (or_parts (touch done.front (copy p h body l S x in_order absent seen m j)) (touch (did ++ done.behind) (copy p h body l S x in_order absent seen m j))
-          (sym (touch_append done.front (did ++ done.behind) (copy p h body l S x in_order absent seen m j)) ∙ ap (λ (zs : List Act). touch zs (copy p h body l S x in_order absent seen m j)) (sym done.whole)
+          let untouched : (j : ℕ) → touch (did ++ done.part.behind) (copy p h body l S x in_order absent seen m j) ≡ false = λ j.
+          (or_parts (touch done.part.front (copy p h body l S x in_order absent seen m j)) (touch (did ++ done.part.behind) (copy p h body l S x in_order absent seen m j))
+          (sym (touch_append done.part.front (did ++ done.part.behind) (copy p h body l S x in_order absent seen m j)) ∙ ap (λ (zs : List Act). touch zs (copy p h body l S x in_order absent seen m j)) (sym done.part.is)
           ∙ copies_untouched start (copy p h body l S x in_order absent seen m j) (iterations_of (turns_of S)) j (copy_is S seen m j))).1 in
-          let dead = unwanted S done.behind (execution_left p t start l loop S u ends place done goes) in
-          let stands = loop_stands p h body l S x in_order absent seen m u entered.1 goes shown done.behind (λ k. hidden x (iterations_of (turns_of (frame (entered_with p l h body seen m) k ∷ S))))
-          (λ k v going. unneeded S seen m k v (ends_so (run_all p body (l + 1) (frame (entered_with p l h body seen m) k ∷ S) v).ending going)) untouched dead in
-          subst (λ (zs : List Act). StandsFor (record { agreed = wants shown (did ++ done.behind); old = did; new = zs }) (wants shown done.behind) u) (sym (fresh_is S u m entered.1)) stands
+          let dead = unwanted S done.part.behind (execution_left p t start l loop S u ends place done goes) in
+          let stands = loop_stands p h body l S x in_order absent seen m u entered.1 goes shown done.part.behind (λ k. hidden x (iterations_of (turns_of (frame (entered_with p l h body seen m) k ∷ S))))
+          (λ k v going. unneeded S seen m k v (going_ends (run_all p body (l + 1) (frame (entered_with p l h body seen m) k ∷ S) v).ending going)) untouched dead in
+          subst (λ (zs : List Act). StandsFor (record { agreed = wants shown (did ++ done.part.behind); old = did; new = zs }) (wants shown done.part.behind) u) (sym (fresh_is S u m entered.1)) stands

@@ -1,25 +1,22 @@
 -- A program in which a scalar has become private to the iterations of a DO keeps its meaning.
-use Rattle.std.proofs.Common.{◌≡◌, ℕ, ◌+◌, ℤ, List, [], ◌∷◌, ◌++◌, map, Bool, true, false, Option, Some, None, is_some, refl, sym, ap, subst, ◌∙◌, inl, inr, append-nil, arith, if◌then◌else◌}
+use Rattle.std.proofs.Common.{◌≡◌, ℕ, ◌+◌, ℤ, List, [], ◌∷◌, ◌++◌, map, Bool, true, false, Option, Some, None, is_some, refl, sym, ap, subst, ◌∙◌, append-nil, arith, if◌then◌else◌}
 use Rattle.std.specs.Prelude.{◌||◌}
 use Rattle.std.specs.List.{flat_map}
 use Rattle.std.specs.Str.Lines.{lines}
 use Rattle.std.proofs.lemmas.Bool.{both_ways}
 use Rattle.std.proofs.lemmas.List.Folds.{list_any-append}
 use Rattle.ped_base.specs.Dimensions.{Dimensions}
-use Rattle.ped_base.specs.Lists.{has_some, is_same_text, is_among}
+use Rattle.ped_base.specs.Lists.{is_same_text, is_among}
 use Rattle.ped_tree.specs.Tree.{Head, StmtTree, StmtTrees, Do, DeclTree, Program, Implicit, Integer, Dimension, Parameter, Save, Remark, ProgramTree}
 use Rattle.ped_tree.specs.Accesses.{constant_names}
 use Rattle.ped_tree.specs.Numbering.{statement_count, statements_count, statement_with}
 use Rattle.ped_constants.specs.NamedConstants.{value_named}
-use Rattle.ped_names.proofs.NameEquality.{same_itself}
-use Rattle.ped_symbols.specs.declared.symbols.Kind.{Kind}
-use Rattle.ped_symbols.specs.declared.symbols.Kind.TheVariants.{Scalar, Array, Constant}
 use Rattle.ped_symbols.specs.declared.uses.Role.TheVariants.{Private}
 use Rattle.ped_symbols.specs.declared.uses.Use.{Use}
 use Rattle.ped_symbols.specs.Uses.{used_as}
 use Rattle.ped_symbols.specs.Entries.{entry_of}
-use Rattle.ped_symbols.specs.Sites.{Site, statement, private_site, stmt_sites, stmts_sites}
-use Rattle.ped_symbols.specs.Kinds.{kind_by, kind_of, kind_in, names_at, names_of, at_last}
+use Rattle.ped_symbols.specs.Sites.{statement, private_site, stmt_sites, stmts_sites}
+use Rattle.ped_symbols.specs.Kinds.{kind_by, kind_of, kind_in, names_of, at_last}
 use Rattle.ped_symbols.specs.NameRefusals.{IsValid}
 use Rattle.ped_uses.specs.RightUses.{is_scalar, is_scalar_kind}
 use Rattle.ped_uses.proofs.Whole.{constants_valued, same_values, same_kinds}
@@ -29,17 +26,16 @@ use Rattle.ped_store.specs.Stores.{Store, store_at_start, lines_in}
 use Rattle.ped_store.specs.Acts.{Act}
 use Rattle.ped_store.specs.Races.{accesses, HasNoRace}
 use Rattle.ped_store.specs.Variables.{values_of}
-use Rattle.ped_acts.specs.Fitting.{Fits, store_after}
-use Rattle.ped_acts.specs.Sets.{AgreeIn, wants}
+use Rattle.ped_acts.specs.Fitting.{store_after}
+use Rattle.ped_acts.specs.Sets.{AgreeIn}
 use Rattle.ped_acts.specs.Pieces.{Part, old_parts, new_parts}
 use Rattle.ped_eval.specs.Scopes.{Setting, Scope, cell_of}
-use Rattle.ped_eval.specs.Runs.{Ending, going, stopped, failed, Run, run_all}
+use Rattle.ped_eval.specs.Runs.{Ending, going, stopped, failed, Run, run, run_all}
 use Rattle.ped_eval.specs.Outcomes as outcomes
 use Rattle.ped_eval.specs.Outcomes.{bounds_of, setting_of, run_of, live_names, live_rows, Outcome, outcome_of, outcome, Ends, IsRaceFree}
-use Rattle.ped_flow.specs.PlainBounds.{nest_round}
 use Rattle.ped_flow.specs.Questions as flow
 use Rattle.ped_flow.specs.Questions.{LoopOf, IsExposed, IsLiveAfter}
-use Rattle.ped_flow_runs.specs.Exits.{IsOneToOne, IsExit}
+use Rattle.ped_flow_runs.specs.Exits.{IsOneToOne}
 use Rattle.ped_flow_runs.proofs.Stopping.{fitting_stops, loop_stops}
 use Rattle.ped_flow_runs.proofs.Names.{sorted_among}
 use Rattle.ped_flow_runs.proofs.TripReads.{unexposed_unneeded}
@@ -51,9 +47,10 @@ use Rattle.ped_runs.proofs.StatementsTold.{all_told}
 use Rattle.ped_runs.proofs.Shown.{outcome_same}
 use Rattle.ped_steps.specs.Replacing.{alone, program_with}
 use Rattle.ped_step_runs.specs.Meaning.{Keeps}
-use Rattle.ped_step_runs.specs.Pasting.{CountAlike, IsPasting, AreExecutions, DoInstead, is_in_parallel}
-use Rattle.ped_step_runs.proofs.NamesKept.{Alike, AreAlike, occurs, occurs_append, append_alike, by_sites, same_alike, alike_itself, names_kept}
-use Rattle.ped_step_runs.proofs.PastedStores.{runs_exchanged}
+use Rattle.ped_step_runs.specs.Pasting.{CountAlike, IsPastingOf, AreExecutions, DoInstead, is_in_parallel}
+use Rattle.ped_step_runs.proofs.NamesKept.{Alike, AreAlike, occurs, append_alike, by_sites, same_alike, alike_itself, names_kept}
+use Rattle.ped_step_runs.proofs.PastedStatements.{one_exchanged}
+use Rattle.ped_step_runs.proofs.PastedStores.{stores_agree}
 use Rattle.ped_step_runs.proofs.PrivatisedLoops.{more_private}
 use Rattle.ped_step_runs.proofs.PrivatisedParts.{fresh, fresh_is, do_instead, stand_instead}
 use Rattle.ped_step_runs.proofs.PrivatisedRaces.{privatised_race_free}
@@ -113,7 +110,7 @@ statement_in other (Some s) = s
 statement_in other None = other
 
 -- both ways of telling what a declaration saves
-same_saved : (ds : List DeclTree) → flat_map outcomes.saved_in ds ≡ flat_map flow.saved_in ds
+pub same_saved : (ds : List DeclTree) → flat_map outcomes.saved_in ds ≡ flat_map flow.saved_in ds
 same_saved [] = refl
 same_saved (Program x ∷ ds) = same_saved ds
 same_saved (Implicit ∷ ds) = same_saved ds
@@ -123,10 +120,22 @@ same_saved (Parameter vs ∷ ds) = same_saved ds
 same_saved (Save names ∷ ds) = ap (λ (xs : List (List ℕ)). names ++ xs) (same_saved ds)
 same_saved (Remark text ∷ ds) = same_saved ds
 
-ends_kept : (finish : Finish) (s u : Store) → Ends (ending_with finish s) → Ends (ending_with finish u)
+pub ends_kept : (finish : Finish) (s u : Store) → Ends (ending_with finish s) → Ends (ending_with finish u)
 ends_kept goes_on s u e = tt
 ends_kept stops s u e = tt
 ends_kept (faults fault n) s u e = absurd e
+
+-- where the cell of a scalar is shown at the end, it is the scalar's own, and the scalar is saved
+pub shown_scalar : (t : ProgramTree) (x : List ℕ) (S : Scope) → shown_at_end t (cell_of S x) ≡ true → (is_among x (flat_map flow.saved_in t.decls) ≡ true) × (cell_of S x ≡ cells.Scalar x)
+shown_scalar t x S h = go (cell_of S x) h (named_so S x) (of_scalar S x)
+  where
+    go : (c : Cell) → shown_at_end t c ≡ true → cell_name c ≡ x → is_of_scalar c ≡ true → (is_among x (flat_map flow.saved_in t.decls) ≡ true) × (c ≡ cells.Scalar x)
+    go (cells.Scalar y) k e o =
+        (ap (is_among x) (sym (same_saved t.decls)) ∙ sym (sorted_among x (flat_map outcomes.saved_in t.decls)) ∙ ap (λ (z : List ℕ). is_among z (live_names t)) (sym e) ∙ k, ap cells.Scalar e)
+    go (cells.Element y js) k e o = absurd cc
+    go (cells.Private y path) k e o = absurd cc
+    go cells.In k e o = absurd cc
+    go cells.Out k e o = absurd cc
 
 module _ (t : ProgramTree) (valid : IsValid t) (l : ℕ) (loop : LoopOf t l) (x : List ℕ) (in_order : loop.head.parallel ≡ false) (alone_so : is_in_parallel t l ≡ false) (absent : is_among x loop.head.private ≡ false) (scalar : is_scalar (kind_in t) x ≡ true)
     (unexposed : (n : ℕ) → IsExposed t l x n → ⊥) (dead : IsLiveAfter t l x → ⊥) (by : StmtTree → StmtTrees) (by_is : by (Do loop.head loop.body) ≡ alone (Do (more_private (setting_of t) loop.head loop.body l [] x in_order absent) loop.body)) where
@@ -153,7 +162,7 @@ module _ (t : ProgramTree) (valid : IsValid t) (l : ℕ) (loop : LoopOf t l) (x 
   sites_alike y =
       by_sites x y (stmt_sites (Do more loop.body) ++ []) (stmt_sites (Do more loop.body)) (stmt_sites s) (append-nil (stmt_sites (Do more loop.body)))
       (append_alike x y (statement (Do more loop.body) ∷ []) (statement s ∷ []) (private_site more.private ++ stmts_sites loop.body) (private_site loop.head.private ++ stmts_sites loop.body) (alike_itself (is_same_text y x) (occurs y (statement s ∷ [])))
-          (append_alike x y (private_site more.private) (private_site loop.head.private) (stmts_sites loop.body) (stmts_sites loop.body) (more_alike x y loop.head.private) (same_alike x y (stmts_sites loop.body))))
+      (append_alike x y (private_site more.private) (private_site loop.head.private) (stmts_sites loop.body) (stmts_sites loop.body) (more_alike x y loop.head.private) (same_alike x y (stmts_sites loop.body))))
 
   of_it : (y : List ℕ) (old : StmtTree) → statement_with l t ≡ Some old → AreAlike x y (stmts_sites (by old)) (stmt_sites old)
   of_it y old there =
@@ -180,10 +189,10 @@ module _ (t : ProgramTree) (valid : IsValid t) (l : ℕ) (loop : LoopOf t l) (x 
   one_statement : (n : ℕ) → n + 0 ≡ n
   one_statement n = omega arith
 
-  pasting : IsPasting p p t l s by
+  pasting : IsPastingOf p p t l s by
   pasting = record {
     found = loop.is;
-    bounds = refl;
+    bounds = λ y k. refl;
     constants = refl;
     numbers = counts (statements_count (by s)) (ap statements_count by_is ∙ one_statement (statement_count s));
     indices = λ h. absurd (both_ways (is_in_parallel t l) alone_so h);
@@ -194,27 +203,18 @@ module _ (t : ProgramTree) (valid : IsValid t) (l : ℕ) (loop : LoopOf t l) (x 
     abbrev start : Store
     start = store_at_start (lines data_bytes)
 
-    shown_own : (S : Scope) → shown_at_end t (cell_of S x) ≡ true → (is_among x (flat_map flow.saved_in t.decls) ≡ true) × (cell_of S x ≡ cells.Scalar x)
-    shown_own S h = go (cell_of S x) h (named_so S x) (of_scalar S x)
-      where
-        go : (c : Cell) → shown_at_end t c ≡ true → cell_name c ≡ x → is_of_scalar c ≡ true → (is_among x (flat_map flow.saved_in t.decls) ≡ true) × (c ≡ cells.Scalar x)
-        go (cells.Scalar y) k e o =
-            (ap (is_among x) (sym (same_saved t.decls)) ∙ sym (sorted_among x (flat_map outcomes.saved_in t.decls)) ∙ ap (λ (z : List ℕ). is_among z (live_names t)) (sym e) ∙ k, ap cells.Scalar e)
-        go (cells.Element y js) k e o = absurd cc
-        go (cells.Private y path) k e o = absurd cc
-        go cells.In k e o = absurd cc
-        go cells.Out k e o = absurd cc
-
     -- what the new program does
-    exchanged : (parts : List Part) × (old_parts parts ≡ (run_all p t.body 1 [] start).acts) × AreExecutions p t l s (fresh t l loop x p one in_order absent) parts start
+    exchanged : (parts : List Part) × (old_parts parts ≡ (run_all p t.body 1 [] start).acts) × AreExecutions p t start l (run p s l) (fresh t l loop x p one in_order absent) parts start
         × (run_all p u.body 1 [] start ≡ record { acts = new_parts parts; ending = ending_with (finish_of (run_all p t.body 1 [] start).ending) (store_after (new_parts parts) start) })
         × AgreeIn (shown_at_end t) (store_after (run_all p t.body 1 [] start).acts start) (store_after (new_parts parts) start)
     exchanged =
-        runs_exchanged (shown_at_end t) p t start l s (fresh t l loop x p one in_order absent)
+        stores_agree (shown_at_end t) p t start l (run p s l) (fresh t l loop x p one in_order absent)
         (stand_instead t l loop x p one in_order absent start (shown_at_end t) (λ y path. refl) free.0
-            (λ S seen m k v ends. unexposed_unneeded p t l loop x other (loop_stops t l loop (fitting_stops t valid.fits)) unexposed S seen m k v ends)
-            (λ S rest exit. unwanted_behind p one t x other (fitting_stops t valid.fits) start l S rest exit dead (shown_at_end t) (shown_own S)))
-        p by pasting (subst (λ (zs : StmtTrees). DoInstead p p t start l s zs (fresh t l loop x p one in_order absent)) (sym by_is) (do_instead t l loop x p one in_order absent start)) free.0
+        (λ S seen m k v ends. unexposed_unneeded p t l loop x other (loop_stops t l loop (fitting_stops t valid.fits)) unexposed S seen m k v ends)
+        (λ S rest exit. unwanted_behind p one t x other (fitting_stops t valid.fits) start l S rest exit dead (shown_at_end t) (shown_scalar t x S)))
+        (run_all p u.body 1 []) (finish_of (run_all p t.body 1 [] start).ending)
+        (one_exchanged p p t l s by pasting start (fresh t l loop x p one in_order absent)
+        (subst (λ (zs : StmtTrees). DoInstead p p t start l (run p s l) zs (fresh t l loop x p one in_order absent)) (sym by_is) (do_instead t l loop x p one in_order absent start)) free.0)
 
     new_run : run_of u data_bytes ≡ record { acts = new_parts exchanged.0; ending = ending_with (finish_of (run_of t data_bytes).ending) (store_after (new_parts exchanged.0) start) }
     new_run = ap (λ (q : Setting). run_all q u.body 1 [] start) setting ∙ exchanged.3
@@ -237,7 +237,7 @@ module _ (t : ProgramTree) (valid : IsValid t) (l : ℕ) (loop : LoopOf t l) (x 
     free_so =
         subst (λ (r : Run). HasNoRace (accesses r.acts)) (sym new_run)
         (privatised_race_free t l loop x p one in_order absent alone_so start (fresh t l loop x p one in_order absent) (fresh_is t l loop x p one in_order absent) exchanged.0 exchanged.1 exchanged.2
-            (subst (λ (zs : List Act). HasNoRace (accesses zs)) (sym exchanged.1) free.1))
+        (subst (λ (zs : List Act). HasNoRace (accesses zs)) (sym exchanged.1) free.1))
 
   -- the program keeps its meaning
   pub privatised_keeps : Keeps t u

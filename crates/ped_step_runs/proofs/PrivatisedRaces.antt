@@ -19,7 +19,7 @@ use Rattle.ped_acts.proofs.Conflicting.{access_place}
 use Rattle.ped_acts.proofs.RaceFree.{no_race_before, no_race_from, apart_flip}
 use Rattle.ped_eval.specs.Scopes.{Setting, Scope, turns_of, names_in}
 use Rattle.ped_eval.specs.Loops.{Limits, limits}
-use Rattle.ped_eval.specs.Runs.{run_all}
+use Rattle.ped_eval.specs.Runs.{run, run_all}
 use Rattle.ped_flow.specs.Questions.{LoopOf}
 use Rattle.ped_flow.specs.PlainBounds.{nest_round}
 use Rattle.ped_flow_runs.specs.Exits.{IsOneToOne}
@@ -127,7 +127,7 @@ module _ (t : ProgramTree) (l : ℕ) (loop : LoopOf t l) (x : List ℕ) (p : Set
   -- where the old run has no race, the new acts have none
   pub privatised_race_free : (fresh : Scope → Store → List Act)
       → ((S : Scope) (s : Store) (m : Limits) → limits (names_in p S) loop.head s ≡ record { seen = (limits (names_in p S) loop.head s).seen; result = Ok m } → fresh S s ≡ new_loop p loop.head loop.body l S x sequential absent (limits (names_in p S) loop.head s).seen m s)
-      → (parts : List Part) → old_parts parts ≡ whole → AreExecutions p t l (Do loop.head loop.body) fresh parts start → HasNoRace (accesses (old_parts parts)) → HasNoRace (accesses (new_parts parts))
+      → (parts : List Part) → old_parts parts ≡ whole → AreExecutions p t start l (run p (Do loop.head loop.body) l) fresh parts start → HasNoRace (accesses (old_parts parts)) → HasNoRace (accesses (new_parts parts))
   privatised_race_free fresh fresh_is parts is executions free = no_race_from (accesses (new_parts parts)) each
     where
       come : (b : Access) → IsIn b (accesses (new_parts parts)) → Come b

@@ -228,7 +228,7 @@ module _ (t : ProgramTree) (l : ℕ) (loop : LoopOf t l) (x : List ℕ) (p : Set
           placed_comes seen r.0 r.1 a b j (loop_from p h body l x in_order absent S seen r.0 u r.1 goes a (subst (IsIn a) (fresh_is S u r.0 r.1) i))
 
     -- where the accesses of the new acts come from
-    act_comes : (parts : List Part) (u : Store) → ((a : Act) → IsIn a (old_parts parts) → IsIn a whole) → AreExecutions p t l (Do h body) fresh parts u → (a : Act) (b : Access) → IsIn a (new_parts parts) → IsIn b (accesses_of a) → Comes b
+    act_comes : (parts : List Part) (u : Store) → ((a : Act) → IsIn a (old_parts parts) → IsIn a whole) → AreExecutions p t start l (run p (Do h body) l) fresh parts u → (a : Act) (b : Access) → IsIn a (new_parts parts) → IsIn b (accesses_of a) → Comes b
     act_comes [] u sub executions a b i j = absurd i
     act_comes (same acts ∷ parts) u sub executions a b i j = elim (in_parts a acts (new_parts parts) i) [
       | inl k ↦ stays b (accesses_in whole a b (sub a (in_left a acts (old_parts parts) k)) j)
@@ -242,5 +242,5 @@ module _ (t : ProgramTree) (l : ℕ) (loop : LoopOf t l) (x : List ℕ) (p : Set
       | inr k ↦ act_comes parts (store_after old u) (λ c w. sub c (in_right c old (old_parts parts) w)) executions.1 a b k j
     ]
 
-    pub access_comes : (parts : List Part) (u : Store) → ((a : Act) → IsIn a (old_parts parts) → IsIn a whole) → AreExecutions p t l (Do h body) fresh parts u → (b : Access) → IsIn b (accesses (new_parts parts)) → Comes b
+    pub access_comes : (parts : List Part) (u : Store) → ((a : Act) → IsIn a (old_parts parts) → IsIn a whole) → AreExecutions p t start l (run p (Do h body) l) fresh parts u → (b : Access) → IsIn b (accesses (new_parts parts)) → Comes b
     access_comes parts u sub executions b i = let r = accesses_from (new_parts parts) b i in act_comes parts u sub executions r.0 b r.1 r.2

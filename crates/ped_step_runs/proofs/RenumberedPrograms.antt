@@ -1,18 +1,21 @@
 -- Programs under other statement numbers: they end alike, and race where they race.
 use Rattle.std.proofs.Common.{◌≡◌, ℕ, List, [], ◌∷◌, ◌++◌, map, Bool, true, false, eqb-true, refl, sym, ap, subst, ◌∙◌, arith, if◌then◌else◌}
 use Rattle.std.specs.Prelude.{◌&&◌, ◌||◌, ◌==◌, not, filter}
-use Rattle.std.specs.List.{flat_map, AllByRecursion}
+use Rattle.std.specs.List.{AllByRecursion}
 use Rattle.std.proofs.lemmas.List.Elements.{All-from_recursion, recursion_from_All}
 use Rattle.std.proofs.lemmas.List.{map-append}
 use Rattle.ped_tree.specs.Tree.{ProgramTree}
-use Rattle.ped_store.specs.Cells.{Cell, Scalar, Element, Private, In, Out, same_cell}
+use Rattle.ped_store.specs.Cells.{Cell, Scalar, Element, Private, In, Out}
 use Rattle.ped_store.specs.Stores.{Store, store_at_start}
-use Rattle.ped_store.specs.Acts.{Manner, reads, writes, is_told, Touch, Turn, Act}
-use Rattle.ped_store.specs.Races.{Access, is_lines, is_write, is_access, accesses_of, accesses, conflict, are_apart, race, HasNoRace}
+use Rattle.ped_store.specs.Acts.{Touch, Turn, Act}
+use Rattle.ped_store.specs.Races.{Access, is_lines, is_write, is_access, accesses_of, accesses, are_apart, race, HasNoRace}
 use Rattle.ped_eval.specs.Scopes.{Setting}
 use Rattle.ped_eval.specs.Runs.{Ending, going, stopped, failed, run_all}
-use Rattle.ped_eval.specs.Outcomes.{Ends}
-use Rattle.ped_runs.specs.Replaying.{Finish, goes_on, stops, faults, finish_of}
+use Rattle.ped_eval.specs.Outcomes.{Ends, outcome_of}
+use Rattle.ped_runs.specs.Showing.{shown_at_end}
+use Rattle.ped_runs.specs.Replaying.{goes_on, stops}
+use Rattle.ped_runs.proofs.Shown.{outcome_same}
+use Rattle.ped_acts.specs.Sets.{AgreeIn}
 use Rattle.ped_step_runs.specs.Exchanging.{exchanged_touch}
 use Rattle.ped_step_runs.specs.Renumbering.{renumbered_cell, old_store, renumbered_turn, renumbered_place, renumbered_act, EndsAs, IsRenumbered, IsToldBack, renumbered}
 use Rattle.ped_step_runs.proofs.RenumberedRuns.{same_test, all_in, outside_all}
@@ -136,3 +139,25 @@ module _ (f g : ℕ → ℕ) (told : IsToldBack f g) where
 
   pub own_alike : (s u : Store) → old_store f s ≡ u → AgreeOnOwn s u
   own_alike s u h c same = ap s (sym same) ∙ ap (λ (w : Store). w c) h
+
+-- programs end alike under other numbers: no copy is shown
+pub outcome_renumbered : (f : ℕ → ℕ) (t : ProgramTree) (d e : Ending) → EndsAs f d e → Ends e → outcome_of t d ≡ outcome_of t e
+outcome_renumbered f t d e = go d e
+  where
+    agree : (s u : Store) → old_store f s ≡ u → AgreeIn (shown_at_end t) s u
+    agree s u h (Scalar x) k = ap (λ (w : Store). w (Scalar x)) h
+    agree s u h (Element x js) k = ap (λ (w : Store). w (Element x js)) h
+    agree s u h (Private x path) k = absurd cc
+    agree s u h In k = absurd cc
+    agree s u h Out k = ap (λ (w : Store). w Out) h
+
+    go : (d e : Ending) → EndsAs f d e → Ends e → outcome_of t d ≡ outcome_of t e
+    go (going s) (going u) h k = outcome_same t s u (agree s u h) goes_on
+    go (stopped s) (stopped u) h k = outcome_same t s u (agree s u h) stops
+    go (failed n m) (failed o l) h k = absurd k
+    go (going s) (stopped u) h k = absurd h
+    go (going s) (failed o l) h k = absurd h
+    go (stopped s) (going u) h k = absurd h
+    go (stopped s) (failed o l) h k = absurd h
+    go (failed n m) (going u) h k = absurd h
+    go (failed n m) (stopped u) h k = absurd h

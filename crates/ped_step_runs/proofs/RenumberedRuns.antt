@@ -1,24 +1,24 @@
 -- Runs under other statement numbers.
-use Rattle.std.proofs.Common.{◌≡◌, ℕ, zero, suc, ◌+◌, ℤ, List, [], ◌∷◌, ◌++◌, map, length, Bool, true, false, Option, Some, None, Result, Ok, Err, refl, sym, ap, ◌∙◌, eqb-true, arith, subst, if◌then◌else◌}
+use Rattle.std.proofs.Common.{◌≡◌, ℕ, zero, suc, ◌+◌, ℤ, List, [], ◌∷◌, ◌++◌, map, Bool, true, false, Option, Some, None, Result, Ok, Err, refl, sym, ap, ◌∙◌, subst, if◌then◌else◌}
 use Rattle.std.specs.Prelude.{◌==◌}
 use Rattle.std.proofs.lemmas.List.{map-append}
 use Rattle.ped_base.specs.Lists.{is_same_text, is_among}
 use Rattle.ped_tree.specs.Tree.{ExprTree, CondTree, ItemTree, Head, StmtTree, StmtTrees, Assign, If, Do, Print, Read, Stop, Comment, no_stmts, more_stmts}
 use Rattle.ped_tree.specs.Numbering.{statement_count, statements_count}
 use Rattle.ped_store.specs.Cells.{Cell, Scalar, Element, Private, In, Out, Iteration, same_cell}
-use Rattle.ped_store.specs.Stores.{Content, Undefined, Number, Lines, Store, put, lines_in}
-use Rattle.ped_store.specs.Acts.{Manner, reads, writes, is_told, Touch, Turn, Place, Step, did, entered, ended_turn, closed, faulted, Act, touched, store_behind, iterations_of}
-use Rattle.ped_store.specs.DataLines.{Data, begun, Taken, next_value_of}
-use Rattle.ped_acts.proofs.SameCells.{cell_is, is_cell, other_cell, cells_differ}
+use Rattle.ped_store.specs.Stores.{Store, lines_in}
+use Rattle.ped_store.specs.Acts.{Touch, Turn, Place, Step, did, entered, ended_turn, closed, faulted, Act, store_behind, iterations_of}
+use Rattle.ped_store.specs.DataLines.{begun}
 use Rattle.ped_eval.specs.Scopes.{Setting, Frame, Scope, turns_of, cell_of, index_value, Names, names_in, place_of}
-use Rattle.ped_eval.specs.Evaluation.{Seen, Evaluated, numbered, number_behind}
-use Rattle.ped_eval.specs.Values.{truth, target}
-use Rattle.ped_eval.specs.Statements.{Stored, assigned, assignment_touches, printed_line, print_touches, read_touch, write_touch, Taking, having_touched, into_item, with_taken, taking, taking_from, reading, reading_touches}
+use Rattle.ped_eval.specs.Evaluation.{Seen, Evaluated, numbered}
+use Rattle.ped_eval.specs.Values.{truth}
+use Rattle.ped_eval.specs.Statements.{assigned, assignment_touches, printed_line, print_touches, write_touch, Taking, reading, reading_touches}
 use Rattle.ped_eval.specs.Loops.{Limits, limits, increment, iteration_count, inner_variables, Entered, entered_with, frame, undefined_by, undefined_all, left_in_variable, exit_touches, exit_when_none, entry_touches}
 use Rattle.ped_eval.specs.Runs.{Ending, going, stopped, failed, Run, nothing_done, followed_by, then_run, does, fails, on, run_assignment, run_print, run_taking, run_read, run_stop, run_if, turns, parallel_turns, run_entered, run_from_entry, run_do, run, run_all}
-use Rattle.ped_step_runs.specs.Exchanging.{exchanged_store, exchanged_touch}
-use Rattle.ped_step_runs.specs.Renumbering.{renumbered_iteration, renumbered_cell, old_store, renumbered_touch, renumbered_turn, renumbered_place, renumbered_act, EndsAs, IsRenumbered, IsToldBack, renumbered}
-use Rattle.ped_step_runs.proofs.ExchangedSight.{seen_in, mapped, seeing, AreNames, names_exchanged, numbered_in, behind_in, stored_in, truth_in, target_in, assigned_in, line_in, limits_in}
+use Rattle.ped_step_runs.specs.Exchanging.{exchanged_touch}
+use Rattle.ped_step_runs.specs.Renumbering.{renumbered_iteration, renumbered_cell, old_store, renumbered_turn, renumbered_place, renumbered_act, EndsAs, IsRenumbered, IsToldBack, renumbered}
+use Rattle.ped_step_runs.proofs.ExchangedTouches.{told_apart, taken_in, assignment_touches_in, print_touches_in, left_in, taking_from_in, undefined_by_in, undefined_all_in}
+use Rattle.ped_step_runs.proofs.ExchangedSight.{seen_in, seeing, AreNames, numbered_in, behind_in, stored_in, truth_in, assigned_in, line_in, limits_in}
 
 module _ (f g : ℕ → ℕ) (told : IsToldBack f g) where
   abbrev name : Cell → Cell
@@ -39,23 +39,7 @@ module _ (f g : ℕ → ℕ) (told : IsToldBack f g) where
   cell_back Out = refl
 
   pub same_test : (c d : Cell) → same_cell (name c) (name d) ≡ same_cell c d
-  same_test c d = go (same_cell c d) refl
-    where
-      go : (b : Bool) → same_cell c d ≡ b → same_cell (name c) (name d) ≡ b
-      go true e = is_cell (name c) (name d) (ap name (cell_is c d e))
-      go false e = other_cell (name c) (name d) (λ q. cells_differ c d e (sym (cell_back c) ∙ ap (renumbered_cell g) q ∙ cell_back d))
-
-  put_in : (c : Cell) (v : Content) (s : Store) → moved (put (name c) v s) ≡ put c v (moved s)
-  put_in c v s = λ i d. if same_test c d i then v else s (name d)
-
-  touched_in : (m : Manner) (c : Cell) (v : Content) (s : Store) → moved (touched m (name c) v s) ≡ touched m c v (moved s)
-  touched_in reads c v s = refl
-  touched_in writes c v s = put_in c v s
-  touched_in is_told c v s = refl
-
-  left_in : (ts : List Touch) (s : Store) → moved (store_behind (map (exchanged_touch name) ts) s) ≡ store_behind ts (moved s)
-  left_in [] s = refl
-  left_in (t ∷ ts) s = left_in ts (touched t.manner (name t.cell) t.content s) ∙ ap (store_behind ts) (touched_in t.manner t.cell t.content s)
+  same_test = told_apart name (renumbered_cell g) cell_back
 
   -- the second piece does under new numbers what the first does
   abbrev pub IsMoved : (Store → Run) → (Store → Run) → Type 0
@@ -85,7 +69,7 @@ module _ (f g : ℕ → ℕ) (told : IsToldBack f g) where
 
   does_in : (step : Step) (at : Place) (ts : List Touch) (a b : Store → Run) → IsMoved a b → (s : Store) → IsRenumbered f (does step (renumbered_place f at) (map (exchanged_touch name) ts) b s) (does step at ts a (moved s))
   does_in step at ts a b h s =
-      followed_in (record { step = step; place = at; touches = ts } ∷ []) (record { step = step; place = renumbered_place f at; touches = map (exchanged_touch name) ts } ∷ []) (going (store_behind ts (moved s))) (going (store_behind (map (exchanged_touch name) ts) s)) a b refl (left_in ts s) h
+      followed_in (record { step = step; place = at; touches = ts } ∷ []) (record { step = step; place = renumbered_place f at; touches = map (exchanged_touch name) ts } ∷ []) (going (store_behind ts (moved s))) (going (store_behind (map (exchanged_touch name) ts) s)) a b refl (left_in name same_test ts s) h
 
   does_with : (step : Step) (at : Place) (ts new : List Touch) (a b : Store → Run) → new ≡ map (exchanged_touch name) ts → IsMoved a b → (s : Store) → IsRenumbered f (does step (renumbered_place f at) new b s) (does step at ts a (moved s))
   does_with step at ts new a b e h s = subst (λ (us : List Touch). IsRenumbered f (does step (renumbered_place f at) us b s) (does step at ts a (moved s))) (sym e) (does_in step at ts a b h s)
@@ -101,32 +85,6 @@ module _ (f g : ℕ → ℕ) (told : IsToldBack f g) where
       go seen (Ok x) = more seen x
       go seen (Err fault) = fails_with at (numbered 1 seen) (numbered 1 (map (seen_in name) seen)) fault (numbered_in name 1 seen)
 
-  assignment_touches_in : (seen : List Seen) (w : Stored) → assignment_touches (map (seen_in name) seen) (stored_in name w) ≡ map (exchanged_touch name) (assignment_touches seen w)
-  assignment_touches_in seen w =
-      (λ i. numbered_in name 1 seen i ++ write_touch (name w.cell) (Number w.number) (behind_in name 1 seen i) ∷ [])
-      ∙ sym (map-append (exchanged_touch name) (numbered 1 seen) (write_touch w.cell (Number w.number) (number_behind 1 seen) ∷ []))
-
-  print_touches_in : (seen : List Seen) (line : List ℕ) (s : Store) → print_touches (map (seen_in name) seen) line s ≡ map (exchanged_touch name) (print_touches seen line (moved s))
-  print_touches_in seen line s =
-      (λ i. numbered_in name 1 seen i ++ read_touch Out (s Out) 0 ∷ write_touch Out (Lines (lines_in (s Out) ++ line ∷ [])) (behind_in name 1 seen i) ∷ [])
-      ∙ sym (map-append (exchanged_touch name) (numbered 1 seen) (read_touch Out (s Out) 0 ∷ write_touch Out (Lines (lines_in (s Out) ++ line ∷ [])) (number_behind 1 seen) ∷ []))
-
-  -- what came of the items of a READ, under new numbers
-  abbrev taken_in : Taking → Taking
-  taken_in t = record { touches = map (exchanged_touch name) t.touches; left = t.left; fault = t.fault }
-
-  having_in : (before : List Touch) (t : Taking) → having_touched (map (exchanged_touch name) before) (taken_in t) ≡ taken_in (having_touched before t)
-  having_in before t = λ i. record { touches = sym (map-append (exchanged_touch name) before t.touches) i; left = t.left; fault = t.fault }
-
-  item_in : (n : ℕ) (left : Data) (v : ℤ) (seen : List Seen) (r : Result Cell ℕ) (next other : ℕ → Cell → Taking) → ((m : ℕ) (c : Cell) → other m (name c) ≡ taken_in (next m c))
-      → into_item n left v (map (seen_in name) seen) (mapped name r) other ≡ taken_in (into_item n left v seen r next)
-  item_in n left v seen (Ok c) next other h =
-      (λ i. having_touched (numbered_in name n seen i ++ write_touch (name c) (Number v) (behind_in name n seen i) ∷ []) (other (suc (behind_in name n seen i)) (name c)))
-      ∙ ap (having_touched (map (exchanged_touch name) (numbered n seen) ++ write_touch (name c) (Number v) (number_behind n seen) ∷ [])) (h (suc (number_behind n seen)) c)
-      ∙ (λ i. having_touched (sym (map-append (exchanged_touch name) (numbered n seen) (write_touch c (Number v) (number_behind n seen) ∷ [])) i) (taken_in (next (suc (number_behind n seen)) c)))
-      ∙ having_in (numbered n seen ++ write_touch c (Number v) (number_behind n seen) ∷ []) (next (suc (number_behind n seen)) c)
-  item_in n left v seen (Err fault) next other h = λ i. record { touches = numbered_in name n seen i; left = left; fault = Some fault }
-
   chosen_in : (b : Bool) (a a_other c c_other : Store → Run) → IsMoved a a_other → IsMoved c c_other → IsMoved (if b then a else c) (if b then a_other else c_other)
   chosen_in true a a_other c c_other h k = h
   chosen_in false a a_other c c_other h k = k
@@ -141,41 +99,24 @@ module _ (f g : ℕ → ℕ) (told : IsToldBack f g) where
         on_in at (stored_in name) (assigned m left right (moved s)) (assigned other left right s)
         (λ seen w. does did at (assignment_touches seen w) nothing_done (moved s)) (λ seen w. does did (renumbered_place f at) (assignment_touches seen w) nothing_done s)
         (assigned_in name elements m other same left right s)
-        (λ seen w. does_with did at (assignment_touches seen w) (assignment_touches (map (seen_in name) seen) (stored_in name w)) nothing_done nothing_done (assignment_touches_in seen w) nothing_in s)
+        (λ seen w. does_with did at (assignment_touches seen w) (assignment_touches (map (seen_in name) seen) (stored_in name w)) nothing_done nothing_done (assignment_touches_in name seen w) nothing_in s)
 
     print_in : (items : List ItemTree) → IsMoved (run_print m at items) (run_print other (renumbered_place f at) items)
     print_in items s =
         on_in at (λ (line : List ℕ). line) (printed_line m items (moved s)) (printed_line other items s)
         (λ seen line. does did at (print_touches seen line (moved s)) nothing_done (moved s)) (λ seen line. does did (renumbered_place f at) (print_touches seen line s) nothing_done s)
         (line_in name elements m other same items s)
-        (λ seen line. does_with did at (print_touches seen line (moved s)) (print_touches (map (seen_in name) seen) line s) nothing_done nothing_done (print_touches_in seen line s) nothing_in s)
+        (λ seen line. does_with did at (print_touches seen line (moved s)) (print_touches (map (seen_in name) seen) line s) nothing_done nothing_done (print_touches_in name refl seen line s) nothing_in s)
 
-    taking_in : (items : List ExprTree) (n : ℕ) (d : Data) (s : Store) → taking other items n d s ≡ taken_in (taking m items n d (moved s))
-    taking_in [] n d s = refl
-    taking_in (item ∷ rest) n d s = go (next_value_of d) (λ n left w. taking_in rest n left w)
-      where
-        go : (t : Result Taken ℕ) → ((n : ℕ) (left : Data) (w : Store) → taking other rest n left w ≡ taken_in (taking m rest n left (moved w)))
-            → with_taken d t (λ v left. into_item n left v (target other item s).seen (target other item s).result λ k c. taking other rest k left (put c (Number v) s))
-            ≡ taken_in (with_taken d t (λ v left. into_item n left v (target m item (moved s)).seen (target m item (moved s)).result λ k c. taking m rest k left (put c (Number v) (moved s))))
-        go (Err fault) more = refl
-        go (Ok t) more =
-            ap (λ (z : Evaluated Cell). into_item n t.behind t.value z.seen z.result λ k c. taking other rest k t.behind (put c (Number t.value) s)) (target_in name elements m other same item s)
-            ∙ item_in n t.behind t.value (target m item (moved s)).seen (target m item (moved s)).result (λ k c. taking m rest k t.behind (put c (Number t.value) (moved s))) (λ k c. taking other rest k t.behind (put c (Number t.value) s))
-            (λ k c. more k t.behind (put (name c) (Number t.value) s) ∙ ap (λ (w : Store). taken_in (taking m rest k t.behind w)) (put_in c (Number t.value) s))
-
-    from_in : (items : List ExprTree) (b : Result Data ℕ) (s : Store) → taking_from other items b s ≡ taken_in (taking_from m items b (moved s))
-    from_in items (Ok d) s = taking_in items 2 d s
-    from_in items (Err fault) s = refl
-
-    reading_in : (items : List ExprTree) (s : Store) → reading other items s ≡ taken_in (reading m items (moved s))
-    reading_in items s = from_in items (begun (lines_in (s In))) s
+    reading_in : (items : List ExprTree) (s : Store) → reading other items s ≡ taken_in name (reading m items (moved s))
+    reading_in items s = taking_from_in name same_test elements m other same items (begun (lines_in (s In))) s
 
     read_in : (items : List ExprTree) → IsMoved (run_read m at items) (run_read other (renumbered_place f at) items)
     read_in items s = subst (λ (t : Taking). IsRenumbered f (run_taking (renumbered_place f at) t t.fault s) (run_read m at items (moved s))) (sym (reading_in items s)) (go (reading m items (moved s)) (reading m items (moved s)).fault)
       where
-        go : (t : Taking) (fault : Option ℕ) → IsRenumbered f (run_taking (renumbered_place f at) (taken_in t) fault s) (run_taking at t fault (moved s))
+        go : (t : Taking) (fault : Option ℕ) → IsRenumbered f (run_taking (renumbered_place f at) (taken_in name t) fault s) (run_taking at t fault (moved s))
         go t None = does_in did at (reading_touches t (moved s)) nothing_done nothing_done nothing_in s
-        go t (Some n) = fails_with at (reading_touches t (moved s)) (reading_touches (taken_in t) s) n refl
+        go t (Some n) = fails_with at (reading_touches t (moved s)) (reading_touches (taken_in name t) s) n refl
 
     if_in : (c : CondTree) (a a_other b b_other : Store → Run) → IsMoved a a_other → IsMoved b b_other → IsMoved (run_if m at c a b) (run_if other (renumbered_place f at) c a_other b_other)
     if_in c a a_other b b_other p q s =
@@ -195,17 +136,9 @@ module _ (f g : ℕ → ℕ) (told : IsToldBack f g) where
 
   -- loops
   module _ (scope other : Scope) (same : AreRenumbered scope other) where
-    undefined_by_in : (n : ℕ) (xs : List (List ℕ)) → undefined_by other n xs ≡ map (exchanged_touch name) (undefined_by scope n xs)
-    undefined_by_in n [] = refl
-    undefined_by_in n (x ∷ xs) = λ i. write_touch (same.cell x i) Undefined n ∷ undefined_by_in (suc n) xs i
-
-    undefined_all_in : (xs : List (List ℕ)) → undefined_all other xs ≡ map (exchanged_touch name) (undefined_all scope xs)
-    undefined_all_in [] = refl
-    undefined_all_in (x ∷ xs) = λ i. write_touch (same.cell x i) Undefined 0 ∷ undefined_all_in xs i
-
     exit_in : (e : Entered) → exit_touches (renumbered_entered e) other ≡ map (exchanged_touch name) (exit_touches e scope)
     exit_in e =
-        (λ i. write_touch (same.cell e.head.variable i) (left_in_variable e) 0 ∷ (undefined_by_in e.behind_bounds e.head.private i ++ undefined_all_in e.inner i))
+        (λ i. write_touch (same.cell e.head.variable i) (left_in_variable e) 0 ∷ (undefined_by_in name scope other same.cell e.behind_bounds e.head.private i ++ undefined_all_in name scope other same.cell e.inner i))
         ∙ ap (λ (ts : List Touch). write_touch (name (cell_of scope e.head.variable)) (left_in_variable e) 0 ∷ ts) (sym (map-append (exchanged_touch name) (undefined_by scope e.behind_bounds e.head.private) (undefined_all scope e.inner)))
 
     exit_when_in : (n : ℕ) (e : Entered) → exit_when_none n (renumbered_entered e) other ≡ map (exchanged_touch name) (exit_when_none n e scope)
@@ -268,7 +201,7 @@ module _ (f g : ℕ → ℕ) (told : IsToldBack f g) where
         (λ seen l. run_from_entry seen (entered_with (renumbered f p) n h statements seen l) other (renumbered_place f (place_of p n scope)) body_other s)
         (limits_in name elements (names_in p scope) (names_in (renumbered f p) other) (names_in_new p) h s)
         (λ seen l. subst (λ (e : Entered). IsRenumbered f (run_from_entry (map (seen_in name) seen) e other (renumbered_place f (place_of p n scope)) body_other s) (run_from_entry seen (entered_with p n h statements seen l) scope (place_of p n scope) body (moved s)))
-            (sym (entered_same p n h statements seen l)) (from_entry_in (entered_with p n h statements seen l) (place_of p n scope) body body_other (more seen l) seen s)))
+        (sym (entered_same p n h statements seen l)) (from_entry_in (entered_with p n h statements seen l) (place_of p n scope) body body_other (more seen l) seen s)))
 
   iterations_in : (ts : List Turn) → iterations_of (map (renumbered_turn f) ts) ≡ map (renumbered_iteration f) (iterations_of ts)
   iterations_in [] = refl
@@ -300,7 +233,7 @@ module _ (f g : ℕ → ℕ) (told : IsToldBack f g) where
     run_in p (Do h body) n scope other same s =
         do_in scope other same p n h body (λ fr. run_all p body (n + 1) (fr ∷ scope)) (λ fr. run_all (renumbered f p) body (n + 1) (fr ∷ other))
         (λ seen l k. all_in p body (n + 1) (frame (entered_with p n h body seen l) k ∷ scope) (frame (renumbered_entered (entered_with p n h body seen l)) k ∷ other)
-            (deeper (frame (entered_with p n h body seen l) k) (frame (renumbered_entered (entered_with p n h body seen l)) k) scope other refl refl refl same)) s
+        (deeper (frame (entered_with p n h body seen l) k) (frame (renumbered_entered (entered_with p n h body seen l)) k) scope other refl refl refl same)) s
     run_in p (Print items) n scope other same s =
         subst (λ (at : Place). IsRenumbered f (run_print (names_in (renumbered f p) other) at items s) (run_print (names_in p scope) (place_of p n scope) items (moved s))) (sym (place_in scope other same p n))
         (print_in (names_in p scope) (names_in (renumbered f p) other) (names_in_new scope other same p) (place_of p n scope) items s)

@@ -1,13 +1,10 @@
--- Trees in which one statement has been exchanged for others: what stays, and how many statements there are then.
-use Rattle.std.proofs.Common.{◌≡◌, ℕ, zero, suc, ◌+◌, ◌≤◌, ◌<◌, ◌==◌, List, [], ◌∷◌, ◌++◌, length, Bool, true, false, ◌||◌, Some, if◌then◌else◌, refl, sym, ap, ◌∙◌, ◌⊎◌, inl, inr, arith, eqb-true}
-use Rattle.std.proofs.lemmas.List.{append-nil}
-use Rattle.std.proofs.lemmas.List.Folds.{list_any-append}
-use Rattle.ped_base.specs.Lists.{is_same_text, is_among}
-use Rattle.ped_tree.specs.Tree.{CondTree, Head, StmtTree, StmtTrees, Assign, If, Do, Print, Read, Stop, Comment, no_stmts, more_stmts}
-use Rattle.ped_tree.specs.Numbering.{numbered, all_numbered, at_place, statement_count, statements_count}
+-- A program in which one statement has been exchanged for others fills the gap of the statement with them.
+use Rattle.std.proofs.Common.{◌≡◌, ℕ, zero, suc, ◌+◌, ◌-◌, ◌≤◌, ◌<◌, ◌==◌, List, [], ◌∷◌, ◌++◌, length, Bool, true, false, Some, None, if◌then◌else◌, refl, sym, ap, subst, ◌∙◌, ◌⊎◌, inl, inr, arith, eqb-true}
+use Rattle.ped_tree.specs.Tree.{CondTree, Head, StmtTree, StmtTrees, Assign, If, Do, Print, Read, Stop, Comment, no_stmts, more_stmts, ProgramTree}
+use Rattle.ped_tree.specs.Numbering.{numbered, all_numbered, at_place, statement_with, statement_count, statements_count}
 use Rattle.ped_tree.proofs.Numbers.{length-numbered, length-all_numbered, at_place-past, all_numbered-past}
-use Rattle.ped_eval.specs.Loops.{index_names, all_index_names}
-use Rattle.ped_steps.specs.Replacing.{followed, alone, replaced, all_replaced}
+use Rattle.ped_steps.specs.Replacing.{followed, alone, replaced, all_replaced, program_with}
+use Rattle.ped_step_runs.specs.Gaps.{Gap, at_front, past, in_then, in_else, in_body, filled, number_at}
 
 -- where a statement of two lists stands
 pub in_either : (xs ys : List StmtTree) (count i : ℕ) (s : StmtTree) → count ≡ length xs → at_place (xs ++ ys) i ≡ Some s
@@ -47,53 +44,12 @@ itself (Read items) s h = cc
 itself Stop s h = cc
 itself (Comment text) s h = absurd cc
 
--- the statements in it stand behind it in the count
-mutual
-  pub room : (x : StmtTree) (i : ℕ) (s : StmtTree) → at_place (numbered x) i ≡ Some s → i + statement_count s ≤ statement_count x
-  room x zero s h = let e : statement_count x ≡ statement_count s = ap statement_count (itself x s h) in omega (arith, e)
-  room (Assign left right) (suc i) s h = no_later (Assign left right) i s h
-  room (If c a b) (suc i) s h = elim (in_if a b (If c a b) i s h) [
-    | inl g ↦ (let r = all_room a i s g in omega (arith, r))
-    | inr g ↦ (let r = all_room b g.0 s g.2 in omega (arith, r, g.1))
-  ]
-  room (Do h b) (suc i) s k = let r = all_room b i s (next_place (Do h b) (all_numbered b) i s k) in omega (arith, r)
-  room (Print items) (suc i) s h = no_later (Print items) i s h
-  room (Read items) (suc i) s h = no_later (Read items) i s h
-  room Stop (suc i) s h = no_later Stop i s h
-  room (Comment text) (suc i) s h = absurd cc
-
-  pub all_room : (ts : StmtTrees) (i : ℕ) (s : StmtTree) → at_place (all_numbered ts) i ≡ Some s → i + statement_count s ≤ statements_count ts
-  all_room no_stmts i s h = absurd cc
-  all_room (more_stmts x rest) i s h = elim (in_more x rest i s h) [
-    | inl g ↦ (let r = room x i s g in omega (arith, r))
-    | inr g ↦ (let r = all_room rest g.0 s g.2 in omega (arith, r, g.1))
-  ]
-
 -- there are so many places
 pub inside : (x : StmtTree) (i : ℕ) (s : StmtTree) → at_place (numbered x) i ≡ Some s → i < statement_count x
 inside x i s h = let past = at_place-past (numbered x) i in let long = length-numbered x in grind (arith, past, long, h)
 
 pub all_inside : (ts : StmtTrees) (i : ℕ) (s : StmtTree) → at_place (all_numbered ts) i ≡ Some s → i < statements_count ts
 all_inside ts i s h = let past = all_numbered-past ts i in grind (arith, past, h)
-
-pub counted : (xs ys : StmtTrees) → statements_count (followed xs ys) ≡ statements_count xs + statements_count ys
-counted no_stmts ys = omega arith
-counted (more_stmts x xs) ys = let e = counted xs ys in omega (arith, e)
-
-is_among-append : (z : List ℕ) (xs ys : List (List ℕ)) → is_among z (xs ++ ys) ≡ (is_among z xs || is_among z ys)
-is_among-append z xs ys = list_any-append (is_same_text z) xs ys
-
-followed_among : (z : List ℕ) (xs ys : StmtTrees) → is_among z (all_index_names (followed xs ys)) ≡ (is_among z (all_index_names xs) || is_among z (all_index_names ys))
-followed_among z no_stmts ys = refl
-followed_among z (more_stmts x xs) ys =
-    is_among-append z (index_names x) (all_index_names (followed xs ys))
-    ∙ (ap (λ (b : Bool). is_among z (index_names x) || b) (followed_among z xs ys)
-    ∙ (or_assoc (is_among z (index_names x)) (is_among z (all_index_names xs)) (is_among z (all_index_names ys))
-    ∙ ap (λ (b : Bool). b || is_among z (all_index_names ys)) (sym (is_among-append z (index_names x) (all_index_names xs)))))
-  where
-    or_assoc : (a b c : Bool) → (a || (b || c)) ≡ ((a || b) || c)
-    or_assoc true b c = refl
-    or_assoc false b c = refl
 
 -- the number l lies before these numbers or behind them
 abbrev pub IsElsewhere : ℕ → ℕ → ℕ → Type 0
@@ -160,14 +116,14 @@ module _ (by : StmtTree → StmtTrees) (l : ℕ) where
       at (Comment text) n e h = absurd cc
 
   -- a statement round it stays with other parts
-  past : (n i : ℕ) → l ≡ n + suc i → (n == l) ≡ false
-  past n i e = grind (arith, eqb-true, e)
+  not_itself : (n i : ℕ) → l ≡ n + suc i → (n == l) ≡ false
+  not_itself n i e = grind (arith, eqb-true, e)
 
   pub if_stays : (c : CondTree) (a b : StmtTrees) (n i : ℕ) → l ≡ n + suc i → replaced by l (If c a b) n ≡ alone (If c (all_replaced by l a (n + 1)) (all_replaced by l b (n + 1 + statements_count a)))
-  if_stays c a b n i e = chosen (n == l) (by (If c a b)) (alone (If c (all_replaced by l a (n + 1)) (all_replaced by l b (n + 1 + statements_count a)))) (past n i e)
+  if_stays c a b n i e = chosen (n == l) (by (If c a b)) (alone (If c (all_replaced by l a (n + 1)) (all_replaced by l b (n + 1 + statements_count a)))) (not_itself n i e)
 
   pub do_stays : (h : Head) (b : StmtTrees) (n i : ℕ) → l ≡ n + suc i → replaced by l (Do h b) n ≡ alone (Do h (all_replaced by l b (n + 1)))
-  do_stays h b n i e = chosen (n == l) (by (Do h b)) (alone (Do h (all_replaced by l b (n + 1)))) (past n i e)
+  do_stays h b n i e = chosen (n == l) (by (Do h b)) (alone (Do h (all_replaced by l b (n + 1)))) (not_itself n i e)
 
   -- what stands behind a part that has it, or before one, stays
   pub else_stays : (a b : StmtTrees) (n i : ℕ) (s : StmtTree) → l ≡ n + suc i → at_place (all_numbered a) i ≡ Some s → all_replaced by l b (n + 1 + statements_count a) ≡ b
@@ -182,89 +138,84 @@ module _ (by : StmtTree → StmtTrees) (l : ℕ) where
   pub first_stays : (x : StmtTree) (n i k : ℕ) → l ≡ n + i → i ≡ statement_count x + k → replaced by l x n ≡ alone x
   first_stays x n i k e f = stays x n (inr (omega (arith, e, f)))
 
+  -- the gap of a statement
   module _ (s : StmtTree) where
-    -- how many statements there are then
+    pub record HasGap (n : ℕ) (old new : StmtTrees) : Type 0 where
+      pub gap : Gap
+      pub number : number_at gap n ≡ l
+      pub old_is : old ≡ filled gap (alone s)
+      pub new_is : new ≡ filled gap (by s)
+      pub some : 0 < statement_count s
+
+    counts : (x : StmtTree) → at_place (numbered x) 0 ≡ Some s → 0 < statement_count x
+    counts (Assign left right) h = omega arith
+    counts (If c a b) h = omega arith
+    counts (Do h b) k = omega arith
+    counts (Print items) h = omega arith
+    counts (Read items) h = omega arith
+    counts Stop h = omega arith
+    counts (Comment text) h = absurd cc
+
+    past_gap : (x : StmtTree) (n : ℕ) (old new : StmtTrees) → HasGap (n + statement_count x) old new → HasGap n (more_stmts x old) (more_stmts x new)
+    past_gap x n old new g = record { gap = past x g.gap; number = g.number; old_is = ap (more_stmts x) g.old_is; new_is = ap (more_stmts x) g.new_is; some = g.some }
+
     mutual
-      pub new_count : (x : StmtTree) (n i : ℕ) → l ≡ n + i → at_place (numbered x) i ≡ Some s → statements_count (replaced by l x n) + statement_count s ≡ statement_count x + statements_count (by s)
-      new_count x n zero e h =
-          let f : statements_count (replaced by l x n) ≡ statements_count (by s) = ap statements_count (goes x s n (omega (arith, e)) h) in
-          let g : statement_count x ≡ statement_count s = ap statement_count (itself x s h) in
-          omega (arith, f, g)
-      new_count (Assign left right) n (suc i) e h = no_later (Assign left right) i s h
-      new_count (If c a b) n (suc i) e h =
-          let whole : statements_count (replaced by l (If c a b) n) ≡ statements_count (all_replaced by l a (n + 1)) + statements_count (all_replaced by l b (n + 1 + statements_count a)) + 1 = ap statements_count (if_stays c a b n i e) ∙ omega arith in
-          elim (in_if a b (If c a b) i s h) [
-            | inl g ↦ (
-                let r = all_new_count a (n + 1) i (omega (arith, e)) g in
-                let f : statements_count (all_replaced by l b (n + 1 + statements_count a)) ≡ statements_count b = ap statements_count (else_stays a b n i s e g) in
-                omega (arith, whole, r, f)
-                )
-            | inr g ↦ (
-                let r = all_new_count b (n + 1 + statements_count a) g.0 (omega (arith, e, g.1)) g.2 in
-                let f : statements_count (all_replaced by l a (n + 1)) ≡ statements_count a = ap statements_count (then_stays a n i g.0 e g.1) in
-                omega (arith, whole, r, f)
-                )
-          ]
-      new_count (Do h b) n (suc i) e k =
-          let whole : statements_count (replaced by l (Do h b) n) ≡ statements_count (all_replaced by l b (n + 1)) + 1 = ap statements_count (do_stays h b n i e) ∙ omega arith in
-          let r = all_new_count b (n + 1) i (omega (arith, e)) (next_place (Do h b) (all_numbered b) i s k) in
-          omega (arith, whole, r)
-      new_count (Print items) n (suc i) e h = no_later (Print items) i s h
-      new_count (Read items) n (suc i) e h = no_later (Read items) i s h
-      new_count Stop n (suc i) e h = no_later Stop i s h
-      new_count (Comment text) n (suc i) e h = absurd cc
+      one_gap : (x : StmtTree) (rest : StmtTrees) (n i : ℕ) → l ≡ n + i → at_place (numbered x) i ≡ Some s → HasGap n (more_stmts x rest) (followed (replaced by l x n) rest)
+      one_gap x rest n zero e h = record {
+        gap = at_front rest;
+        number = omega (arith, e);
+        old_is = ap (λ (y : StmtTree). more_stmts y rest) (itself x s h);
+        new_is = ap (λ (ts : StmtTrees). followed ts rest) (goes x s n (omega (arith, e)) h);
+        some = subst (λ (y : StmtTree). 0 < statement_count y) (itself x s h) (counts x h);
+      }
+      one_gap (Assign left right) rest n (suc i) e h = no_later (Assign left right) i s h
+      one_gap (If c a b) rest n (suc i) e h = elim (in_if a b (If c a b) i s h) [
+        | inl g ↦ (
+            let r = all_gap a (n + 1) i (omega (arith, e)) g in
+            record {
+              gap = in_then c r.gap b rest;
+              number = r.number;
+              old_is = ap (λ (ts : StmtTrees). more_stmts (If c ts b) rest) r.old_is;
+              new_is = ap (λ (ts : StmtTrees). followed ts rest) (if_stays c a b n i e) ∙ (λ j. more_stmts (If c (r.new_is j) (else_stays a b n i s e g j)) rest);
+              some = r.some;
+            }
+            )
+        | inr g ↦ (
+            let r = all_gap b (n + 1 + statements_count a) g.0 (omega (arith, e, g.1)) g.2 in
+            record {
+              gap = in_else c a r.gap rest;
+              number = r.number;
+              old_is = ap (λ (ts : StmtTrees). more_stmts (If c a ts) rest) r.old_is;
+              new_is = ap (λ (ts : StmtTrees). followed ts rest) (if_stays c a b n i e) ∙ (λ j. more_stmts (If c (then_stays a n i g.0 e g.1 j) (r.new_is j)) rest);
+              some = r.some;
+            }
+            )
+      ]
+      one_gap (Do h b) rest n (suc i) e k =
+          let r = all_gap b (n + 1) i (omega (arith, e)) (next_place (Do h b) (all_numbered b) i s k) in
+          record {
+            gap = in_body h r.gap rest;
+            number = r.number;
+            old_is = ap (λ (ts : StmtTrees). more_stmts (Do h ts) rest) r.old_is;
+            new_is = ap (λ (ts : StmtTrees). followed ts rest) (do_stays h b n i e) ∙ ap (λ (ts : StmtTrees). more_stmts (Do h ts) rest) r.new_is;
+            some = r.some;
+          }
+      one_gap (Print items) rest n (suc i) e h = no_later (Print items) i s h
+      one_gap (Read items) rest n (suc i) e h = no_later (Read items) i s h
+      one_gap Stop rest n (suc i) e h = no_later Stop i s h
+      one_gap (Comment text) rest n (suc i) e h = absurd cc
 
-      pub all_new_count : (ts : StmtTrees) (n i : ℕ) → l ≡ n + i → at_place (all_numbered ts) i ≡ Some s → statements_count (all_replaced by l ts n) + statement_count s ≡ statements_count ts + statements_count (by s)
-      all_new_count no_stmts n i e h = absurd cc
-      all_new_count (more_stmts x rest) n i e h =
-          let whole = counted (replaced by l x n) (all_replaced by l rest (n + statement_count x)) in
-          elim (in_more x rest i s h) [
-            | inl g ↦ (
-                let r = new_count x n i e g in
-                let f : statements_count (all_replaced by l rest (n + statement_count x)) ≡ statements_count rest = ap statements_count (rest_stays x rest n i s e g) in
-                omega (arith, whole, r, f)
-                )
-            | inr g ↦ (
-                let r = all_new_count rest (n + statement_count x) g.0 (omega (arith, e, g.1)) g.2 in
-                let f : statements_count (replaced by l x n) ≡ statement_count x = ap statements_count (first_stays x n i g.0 e g.1) ∙ omega arith in
-                omega (arith, whole, r, f)
-                )
-          ]
+      all_gap : (ts : StmtTrees) (n i : ℕ) → l ≡ n + i → at_place (all_numbered ts) i ≡ Some s → HasGap n ts (all_replaced by l ts n)
+      all_gap no_stmts n i e h = absurd cc
+      all_gap (more_stmts x rest) n i e h = elim (in_more x rest i s h) [
+        | inl g ↦ subst (λ (ts : StmtTrees). HasGap n (more_stmts x rest) (followed (replaced by l x n) ts)) (sym (rest_stays x rest n i s e g)) (one_gap x rest n i e g)
+        | inr g ↦ subst (λ (ts : StmtTrees). HasGap n (more_stmts x rest) (followed ts (all_replaced by l rest (n + statement_count x)))) (sym (first_stays x n i g.0 e g.1))
+            (past_gap x n rest (all_replaced by l rest (n + statement_count x)) (all_gap rest (n + statement_count x) g.0 (omega (arith, e, g.1)) g.2))
+      ]
 
-    -- the same variables of DO loops
-    module _ (names : (z : List ℕ) → is_among z (all_index_names (by s)) ≡ is_among z (index_names s)) (z : List ℕ) where
-      alone_among : (x : StmtTree) → is_among z (all_index_names (alone x)) ≡ is_among z (index_names x)
-      alone_among x = ap (is_among z) (append-nil (index_names x))
-
-      mutual
-        new_names : (x : StmtTree) (n i : ℕ) → l ≡ n + i → at_place (numbered x) i ≡ Some s → is_among z (all_index_names (replaced by l x n)) ≡ is_among z (index_names x)
-        new_names x n zero e h = ap (λ (ts : StmtTrees). is_among z (all_index_names ts)) (goes x s n (omega (arith, e)) h) ∙ (names z ∙ ap (λ (y : StmtTree). is_among z (index_names y)) (sym (itself x s h)))
-        new_names (Assign left right) n (suc i) e h = no_later (Assign left right) i s h
-        new_names (If c a b) n (suc i) e h =
-            ap (λ (ts : StmtTrees). is_among z (all_index_names ts)) (if_stays c a b n i e)
-            ∙ (alone_among (If c (all_replaced by l a (n + 1)) (all_replaced by l b (n + 1 + statements_count a)))
-            ∙ (is_among-append z (all_index_names (all_replaced by l a (n + 1))) (all_index_names (all_replaced by l b (n + 1 + statements_count a)))
-            ∙ (elim (in_if a b (If c a b) i s h) [
-              | inl g ↦ (λ j. all_new_names a (n + 1) i (omega (arith, e)) g j || is_among z (all_index_names (else_stays a b n i s e g j)))
-              | inr g ↦ (λ j. is_among z (all_index_names (then_stays a n i g.0 e g.1 j)) || all_new_names b (n + 1 + statements_count a) g.0 (omega (arith, e, g.1)) g.2 j)
-            ] ∙ sym (is_among-append z (all_index_names a) (all_index_names b)))))
-        new_names (Do h b) n (suc i) e k =
-            ap (λ (ts : StmtTrees). is_among z (all_index_names ts)) (do_stays h b n i e)
-            ∙ (alone_among (Do h (all_replaced by l b (n + 1)))
-            ∙ ap (λ (c : Bool). is_same_text z h.variable || c) (all_new_names b (n + 1) i (omega (arith, e)) (next_place (Do h b) (all_numbered b) i s k)))
-        new_names (Print items) n (suc i) e h = no_later (Print items) i s h
-        new_names (Read items) n (suc i) e h = no_later (Read items) i s h
-        new_names Stop n (suc i) e h = no_later Stop i s h
-        new_names (Comment text) n (suc i) e h = absurd cc
-
-        pub all_new_names : (ts : StmtTrees) (n i : ℕ) → l ≡ n + i → at_place (all_numbered ts) i ≡ Some s → is_among z (all_index_names (all_replaced by l ts n)) ≡ is_among z (all_index_names ts)
-        all_new_names no_stmts n i e h = absurd cc
-        all_new_names (more_stmts x rest) n i e h =
-            followed_among z (replaced by l x n) (all_replaced by l rest (n + statement_count x))
-            ∙ (elim (in_more x rest i s h) [
-              | inl g ↦ (λ j. new_names x n i e g j || is_among z (all_index_names (rest_stays x rest n i s e g j)))
-              | inr g ↦ (
-                  let first : is_among z (all_index_names (replaced by l x n)) ≡ is_among z (index_names x) = ap (λ (ts : StmtTrees). is_among z (all_index_names ts)) (first_stays x n i g.0 e g.1) ∙ alone_among x in
-                  λ j. first j || all_new_names rest (n + statement_count x) g.0 (omega (arith, e, g.1)) g.2 j
-                  )
-            ] ∙ sym (is_among-append z (index_names x) (all_index_names rest)))
+    pub program_gap : (t : ProgramTree) → statement_with l t ≡ Some s → HasGap 1 t.body (program_with by l t).body
+    program_gap t found = by_number (l == 0) refl found
+      where
+        by_number : (b : Bool) → (l == 0) ≡ b → (if b then None else at_place (all_numbered t.body) (l - 1)) ≡ Some s → HasGap 1 t.body (all_replaced by l t.body 1)
+        by_number true e h = absurd cc
+        by_number false e h = let more : l ≡ 1 + (l - 1) = grind (arith, eqb-true, e) in all_gap t.body 1 (l - 1) more h

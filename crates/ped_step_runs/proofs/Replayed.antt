@@ -10,7 +10,7 @@ use Rattle.ped_runs.proofs.StatementsTold.{all_told}
 use Rattle.ped_step_runs.specs.Exchanging.{IsExchange, AreExchanged, exchanged_store, exchanged_acts, exchanged_ending, exchanged_run}
 use Rattle.ped_step_runs.proofs.ExchangedRuns.{all_in}
 
-same_finish : (name : Cell → Cell) (e : Ending) → finish_of (exchanged_ending name e) ≡ finish_of e
+pub same_finish : (name : Cell → Cell) (e : Ending) → finish_of (exchanged_ending name e) ≡ finish_of e
 same_finish name (going s) = refl
 same_finish name (stopped s) = refl
 same_finish name (failed fault statement) = refl

@@ -1,10 +1,10 @@
 -- What holds of each cell that names stand for at a place, and further inside, holds of each cell that a run touches there.
-use Rattle.std.proofs.Common.{◌≡◌, ℕ, zero, suc, ◌+◌, ℤ, List, [], ◌∷◌, ◌++◌, Bool, true, false, eqb, Option, Some, None, Result, Ok, Err, if◌then◌else◌}
+use Rattle.std.proofs.Common.{ℕ, zero, suc, ◌+◌, ℤ, List, [], ◌∷◌, ◌++◌, Bool, true, false, eqb, Option, Some, None, Result, Ok, Err, if◌then◌else◌}
 use Rattle.ped_tree.specs.Tree.{ExprTree, CondTree, ItemTree, Head, StmtTree, StmtTrees, Assign, If, Do, Print, Read, Stop, Comment, no_stmts, more_stmts}
 use Rattle.ped_tree.specs.Numbering.{statement_count, statements_count}
 use Rattle.ped_store.specs.Cells.{Cell, Element, In, Out}
-use Rattle.ped_store.specs.Stores.{Content, Undefined, Number, Lines, Store, put, lines_in}
-use Rattle.ped_store.specs.Acts.{is_told, Touch, Place, Step, Act, did, entered, ended_turn, closed, faulted}
+use Rattle.ped_store.specs.Stores.{Undefined, Number, Lines, Store, put, lines_in}
+use Rattle.ped_store.specs.Acts.{is_told, Touch, Act, did, entered, ended_turn, closed}
 use Rattle.ped_store.specs.DataLines.{Data, begun, Taken, next_value_of}
 use Rattle.ped_eval.specs.Scopes.{Setting, Frame, Scope, cell_of, names_in, place_of}
 use Rattle.ped_eval.specs.Evaluation.{Seen, cell_seen, index_seen, numbered, number_behind}
@@ -12,7 +12,6 @@ use Rattle.ped_eval.specs.Values.{truth, target}
 use Rattle.ped_eval.specs.Statements.{Stored, assigned, printed_line, into_item, with_taken, taking, taking_from, reading, reading_touches, read_touch, write_touch}
 use Rattle.ped_eval.specs.Loops.{Limits, limits, Entered, entered_with, frame, undefined_by, undefined_all, left_in_variable, exit_touches, exit_when_none}
 use Rattle.ped_eval.specs.Runs.{Run, nothing_done, does, run_assignment, run_print, run_taking, run_if, run_do, turns, parallel_turns, run_entered, run, run_all}
-use Rattle.ped_runs.specs.Replaying.{act}
 use Rattle.ped_runs.proofs.SeenCells.{AllSeen, OfResult, truth_seen, target_seen, target_is, line_seen, limits_seen, assigned_seen, assigned_is}
 use Rattle.ped_runs.proofs.Touches.{Each, each_none, each_more, each_append, then_each, does_each, on_each, any_result}
 
@@ -139,7 +138,7 @@ module _ (p : Setting) (Q : ℕ → Head → StmtTrees → Type 0) (P : Scope �
           let a = line_seen (P S) (names_in p S) (scalar S) (element S) items s in
           on_each (Keeps S) (λ (line : List ℕ). Unit {0}) (place_of p n S) e.seen e.result _ (any_result e.result) (numbered_has S 1 e.seen a)
           (λ line o. one_keeps S _ (each_append (Has S) (numbered 1 e.seen) (read_touch Out (s Out) 0 ∷ (write_touch Out (Lines (lines_in (s Out) ++ line ∷ [])) (number_behind 1 e.seen) ∷ [])) (numbered_has S 1 e.seen a)
-              (each_more (Has S) (read_touch Out (s Out) 0) (write_touch Out (Lines (lines_in (s Out) ++ line ∷ [])) (number_behind 1 e.seen) ∷ []) (output S) (one_has S (write_touch Out (Lines (lines_in (s Out) ++ line ∷ [])) (number_behind 1 e.seen)) (output S)))))
+          (each_more (Has S) (read_touch Out (s Out) 0) (write_touch Out (Lines (lines_in (s Out) ++ line ∷ [])) (number_behind 1 e.seen) ∷ []) (output S) (one_has S (write_touch Out (Lines (lines_in (s Out) ++ line ∷ [])) (number_behind 1 e.seen)) (output S)))))
 
       part_keeps : (f g : Store → Run) → ((u : Store) → Each (Keeps S) (f u).acts) → ((u : Store) → Each (Keeps S) (g u).acts) → (b : Bool) (u : Store) → Each (Keeps S) ((if b then f else g) u).acts
       part_keeps f g h k true u = h u

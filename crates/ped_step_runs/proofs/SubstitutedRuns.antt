@@ -21,7 +21,7 @@ use Rattle.ped_store.specs.Stores.{Content, Number, Lines, Store, put, lines_in}
 use Rattle.ped_store.specs.Acts.{Touch, Place, Step, did, entered, ended_turn, closed, Act, store_behind, iterations_of}
 use Rattle.ped_store.specs.DataLines.{Data, begun, Taken, next_value_of}
 use Rattle.ped_acts.specs.Fitting.{of_cells}
-use Rattle.ped_acts.proofs.SameCells.{text_itself, cell_is, is_cell, other_cell, cells_differ}
+use Rattle.ped_acts.proofs.SameCells.{text_itself}
 use Rattle.ped_acts.proofs.OfCells.{behind_cells}
 use Rattle.ped_acts.proofs.Renamings.{renamed_alike}
 use Rattle.ped_eval.specs.Scopes.{Setting, Frame, Scope, turns_of, cell_of, index_value, Names, names_in, place_of}
@@ -34,6 +34,7 @@ use Rattle.ped_runs.specs.Replaying.{finish_of, has_fault}
 use Rattle.ped_flow_runs.proofs.Names.{inner_among}
 use Rattle.ped_step_runs.specs.Exchanging.{exchanged_store, exchanged_ending, swapped, is_of_scalar}
 use Rattle.ped_step_runs.specs.Substituting.{AreSameOn, element_at, private_names_in, all_private_names_in, MayStandFor}
+use Rattle.ped_step_runs.proofs.ExchangedTouches.{told_apart}
 use Rattle.ped_step_runs.proofs.ExchangedSight.{itself}
 use Rattle.ped_step_runs.proofs.Swapped.{cell_name, swapped_first, swapped_other, twice, named_so, of_scalar}
 use Rattle.ped_step_runs.proofs.SubstitutedShapes.{count_kept, counts_kept, indices_kept, constant_kept}
@@ -66,11 +67,7 @@ module _ (name : Cell → Cell) (twice : (c : Cell) → name (name c) ≡ c) whe
   moved = exchanged_store name
 
   same_test : (c d : Cell) → same_cell (name c) (name d) ≡ same_cell c d
-  same_test c d = go (same_cell c d) refl
-    where
-      go : (b : Bool) → same_cell c d ≡ b → same_cell (name c) (name d) ≡ b
-      go true e = is_cell (name c) (name d) (ap name (cell_is c d e))
-      go false e = other_cell (name c) (name d) (λ q. cells_differ c d e (sym (twice c) ∙ ap name q ∙ twice d))
+  same_test = told_apart name name twice
 
   pub put_moved : (c : Cell) (w : Content) (s : Store) → moved (put c w s) ≡ put (name c) w (moved s)
   put_moved c w s = λ i d. if (sym (same_test c (name d)) ∙ ap (λ (e : Cell). same_cell (name c) e) (twice d)) i then w else s (name d)

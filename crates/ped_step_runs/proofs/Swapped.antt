@@ -1,10 +1,10 @@
 -- A scalar's cell and its copy in an iteration change places.
-use Rattle.std.proofs.Common.{◌≡◌, ℕ, suc, ◌+◌, ◌≤◌, ◌<◌, ℤ, List, [], ◌∷◌, ◌++◌, map, length, Bool, true, false, Option, Some, refl, sym, ap, ◌∙◌, arith, if◌then◌else◌}
+use Rattle.std.proofs.Common.{◌≡◌, ℕ, suc, ◌≤◌, List, [], ◌∷◌, ◌++◌, length, Bool, true, false, Some, refl, sym, ap, ◌∙◌, arith, if◌then◌else◌}
 use Rattle.std.specs.Prelude.{◌||◌}
 use Rattle.std.proofs.lemmas.Bool.{both_ways}
 use Rattle.std.proofs.lemmas.List.Folds.{list_any-append}
 use Rattle.ped_base.specs.Lists.{is_same_text, is_among}
-use Rattle.ped_store.specs.Cells.{Cell, Scalar, Element, Private, In, Out, Iteration, same_cell}
+use Rattle.ped_store.specs.Cells.{Cell, Scalar, Element, Private, In, Out, same_cell}
 use Rattle.ped_store.specs.Acts.{Turn, iterations_of}
 use Rattle.ped_acts.proofs.SameCells.{text_itself, cell_itself, cell_is, other_cell}
 use Rattle.ped_names.proofs.NameEquality.{same_is}
@@ -48,8 +48,8 @@ module _ (c d : Cell) where
       decided c x (swapped c d (swapped c d x) ≡ x)
       (λ e. ap (swapped c d) (swapped_first x e) ∙ decided c d (swapped c d d ≡ x) (λ q. swapped_first d q ∙ sym q ∙ e) (λ n. swapped_second d n refl ∙ e))
       (λ n. decided d x (swapped c d (swapped c d x) ≡ x)
-          (λ e. ap (swapped c d) (swapped_second x n e) ∙ swapped_first c refl ∙ e)
-          (λ m. ap (swapped c d) (swapped_other x n m) ∙ swapped_other x n m))
+      (λ e. ap (swapped c d) (swapped_second x n e) ∙ swapped_first c refl ∙ e)
+      (λ m. ap (swapped c d) (swapped_other x n m) ∙ swapped_other x n m))
 
 not_scalar : (c x : Cell) → is_of_scalar c ≡ true → is_of_scalar x ≡ false → c ≡ x → ⊥
 not_scalar c x h k e = both_ways (is_of_scalar x) k (ap is_of_scalar (sym e) ∙ h)

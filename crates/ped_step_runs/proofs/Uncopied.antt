@@ -12,12 +12,12 @@ use Rattle.ped_acts.specs.Fitting.{touches_of, has_cell}
 use Rattle.ped_acts.specs.Orders.{IsIn}
 use Rattle.ped_acts.specs.Renaming.{touched_by, touch}
 use Rattle.ped_acts.proofs.SameCells.{other_cell}
-use Rattle.ped_eval.specs.Scopes.{Setting, Frame, Scope, turns_of, cell_of}
+use Rattle.ped_eval.specs.Scopes.{Setting, Scope, turns_of, cell_of}
 use Rattle.ped_eval.specs.Evaluation.{Seen}
 use Rattle.ped_eval.specs.Loops.{Limits, entered_with, frame}
 use Rattle.ped_eval.specs.Runs.{run_all}
 use Rattle.ped_runs.proofs.Touches.{Each}
-use Rattle.ped_step_runs.proofs.RunCells.{EachDos, Keeps, all_keep}
+use Rattle.ped_step_runs.proofs.RunCells.{EachDos, all_keep}
 use Rattle.ped_step_runs.proofs.Swapped.{cell_name}
 
 -- the statement number of the last iteration

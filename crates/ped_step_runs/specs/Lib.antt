@@ -1,4 +1,5 @@
 pub mod Exchanging
+pub mod Gaps
 pub mod Pasting
 pub mod Meaning
 pub mod Privatising

@@ -1,5 +1,5 @@
 -- Runs in which statements count under other numbers (this project).
-use Rattle.std.specs.Prelude.{◌≡◌, ℕ, List, map}
+use Rattle.std.specs.Prelude.{◌≡◌, ℕ, map}
 use Rattle.ped_store.specs.Cells.{Cell, Scalar, Element, Private, In, Out, Iteration}
 use Rattle.ped_store.specs.Stores.{Store}
 use Rattle.ped_store.specs.Acts.{Touch, Turn, Place, Act}

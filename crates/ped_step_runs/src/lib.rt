@@ -3,10 +3,14 @@
 //! docs/MEANING.md tells what the laws are for.
 #![tactic(auto)]
 
+mod bounds;
 mod exchanging;
 mod meaning;
 mod pasting;
 
+pub use bounds::own_bounds;
 pub use exchanging::cells_exchanged;
 pub use meaning::{keeping, privatising_keeps_meaning};
-pub use pasting::{executions_exchanged, executions_leave, executions_stand, program_exchanged};
+pub use pasting::{
+    executions_enter, executions_exchanged, executions_leave, executions_stand, program_exchanged,
+};

@@ -7,11 +7,7 @@ use Rattle.std.proofs.Math.Nat.{lt_of_not-le}
 use Rattle.ped_steps.specs.declared.rules.Rule.{Rule}
 use Rattle.ped_steps.specs.declared.rules.Rule.TheVariants.{NoLoop, NotPerfect, ParallelState, HasPrivate, IndexEscapes, BoundNotPlain, BoundsShape, StepShape, Range, NoNeighbour, OneBlock, ExposedOrLive, NotScalar, NotConstant, Limit, BadFactor, AlreadyPrivate, NothingToReject}
 use Rattle.ped_steps.specs.RuleNames.{number_of}
-use Rattle.ped_steps.specs.Causes.{Rules, NoRule, IsFirstRule}
-
--- no rule with a number below this one stands
-abbrev pub NoneBelow : Rules → ℕ → Type 0
-NoneBelow stands k = (q : Rule) (m : ℕ) → number_of q < k → stands q m → ⊥
+use Rattle.ped_steps.specs.Causes.{Rules, NoRule, NoneBelow, IsFirstRule}
 
 -- a rule by its number
 abbrev rule_with : ℕ → Rule

@@ -19,7 +19,7 @@ pub use changes::{Change, all_kept};
 pub use counting::count_statements;
 pub use laws::one_replacement;
 pub use names::is_among;
-pub use replacing::{body_with, program_with, with_body};
+pub use replacing::{body_with, copy_decls, program_with, with_body};
 pub use rounds::{loop_at, loops_round};
 pub use rules::Rule;
 pub use scenes::Scene;

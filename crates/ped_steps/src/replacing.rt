@@ -34,7 +34,7 @@ pub fn program_with(
 }
 
 /// Copies of declarations.
-fn copy_decls(alloc: Global, decls: &[Decl]) -> Result<Vec<Decl>, NoMemory>
+pub fn copy_decls(alloc: Global, decls: &[Decl]) -> Result<Vec<Decl>, NoMemory>
     ensures { IfOk result (λ copies. map decl_tree copies.items ≡ map decl_tree decls.now) }
 {
     let mut copies = Vec::new(alloc);

@@ -1,5 +1,17 @@
-use Rattle.ped_step_runs.proofs.PastedStores.{runs_exchanged}
+use Rattle.std.proofs.Common.{[]}
+use Rattle.ped_eval.specs.Runs.{run, run_all}
+use Rattle.ped_runs.specs.Replaying.{finish_of}
+use Rattle.ped_steps.specs.Replacing.{program_with}
+use Rattle.ped_step_runs.specs.Gaps.{number_at}
+use Rattle.ped_step_runs.proofs.PastedRuns.{exchanged}
+use Rattle.ped_step_runs.proofs.PastedStatements.{one_exchanged}
+use Rattle.ped_step_runs.proofs.PastedStores.{stores_agree}
 use Rattle.ped_step_runs.proofs.pasting.program_exchanged.Goals as goal
 
-pub returns : goal.returns
-returns c shown p q t start l s by fresh pasting each stands ends = runs_exchanged shown p t start l s fresh stands q by pasting each ends
+pub returns-clause-statement : goal.returns-clause-statement
+returns-clause-statement c = λ shown p q t start l s by fresh pasting each stands ends.
+    stores_agree shown p t start l (run p s l) fresh stands (run_all q (program_with by l t).body 1 []) (finish_of (run_all p t.body 1 [] start).ending) (one_exchanged p q t l s by pasting start fresh each ends)
+
+pub returns-clause-statements : goal.returns-clause-statements
+returns-clause-statements c = λ shown p q gap old new t u start fresh pasting each stands ends.
+    stores_agree shown p t start (number_at gap 1) (run_all p old (number_at gap 1)) fresh stands (run_all q u.body 1 []) (finish_of (run_all p t.body 1 [] start).ending) (exchanged p q gap old new t u start fresh pasting each ends)

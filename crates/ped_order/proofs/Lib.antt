@@ -1,0 +1,9 @@
+mod SameKeys
+mod Hashes
+mod Searches
+mod Levels
+mod Remembering
+mod RacesFound
+mod Following
+pub mod OneReport
+mod Carried

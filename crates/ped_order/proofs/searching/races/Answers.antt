@@ -1,0 +1,16 @@
+use Rattle.std.proofs.Common.{[], sym, ap, subst, ◌∙◌}
+use Rattle.ped_tree.specs.Views.{program_tree}
+use Rattle.ped_store.specs.Races.{accesses}
+use Rattle.ped_eval.specs.Outcomes.{run_of}
+use Rattle.ped_order.specs.Reports.{IsReport}
+use Rattle.ped_order.specs.ReportViews.{report_of}
+use Rattle.ped_order.proofs.Following.{seen_all, reported}
+use Rattle.ped_order.proofs.searching.races.Goals as goal
+
+pub returns-in-Ok : goal.returns-in-Ok
+returns-in-Ok c =
+    let t = program_tree c.args.program.now in
+    let data_bytes = c.args.input.now in
+    let watch = c.run_watched.new.watch in
+    let saw = seen_all c.new-watch.result watch [] (accesses (run_of t data_bytes).acts) c.in-Ok.ensures.watch c.new-watch.ensures in
+    subst (IsReport t data_bytes) (sym (c.report.ensures ∙ ap (report_of watch.found) c.in-Ok.ensures.outcome)) (reported t data_bytes watch.found watch.table saw)

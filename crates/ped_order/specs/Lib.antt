@@ -1,0 +1,10 @@
+pub mod FirstRaces
+pub mod KeyLaws
+pub mod Keys
+pub mod KeyViews
+pub mod Reports
+pub mod ReportViews
+pub mod CarriedRaces
+pub mod Saw
+pub mod Sightings
+pub mod Tables

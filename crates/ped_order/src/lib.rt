@@ -1,0 +1,16 @@
+//! Races of a program on its data: the first access of its run in order that races with an earlier one, or that there is
+//! none. A watch is told the accesses of the run one by one and remembers of each cell and each execution of a PARALLEL DO
+//! as much as later accesses ask for. The definitions of reports stand in `specs/`.
+#![tactic(auto)]
+
+mod keys;
+mod laws;
+mod reports;
+mod searching;
+mod sightings;
+mod tables;
+mod watches;
+
+pub use laws::{no_race_where_race_free, one_report};
+pub use reports::RaceReport;
+pub use searching::races;

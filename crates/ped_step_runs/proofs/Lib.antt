@@ -46,3 +46,9 @@ pub mod SubstitutedSums
 pub mod SubstitutedShapes
 pub mod SubstitutedSight
 pub mod SubstitutedRuns
+pub mod ConstantBounds
+pub mod ExpandedPlaces
+pub mod ExpandedPlacesParts
+pub mod ExpandedPlacesStand
+pub mod ExpandedPlacesKept
+pub mod ExpandedPlacesWhole

@@ -65,7 +65,7 @@ scalar_occurs t x h = go (is_among x (names_of t)) h
     go true k = refl
     go false k = absurd cc
 
-scalar_unvalued : (t : ProgramTree) (x : List ℕ) → is_scalar (kind_in t) x ≡ true → value_named (at_last t).values x ≡ None
+pub scalar_unvalued : (t : ProgramTree) (x : List ℕ) → is_scalar (kind_in t) x ≡ true → value_named (at_last t).values x ≡ None
 scalar_unvalued t x h = go (is_among x (names_of t)) (entry_of (at_last t).values x) (entry_of (at_last t).arrays x) h
   where
     go : (b : Bool) (v : Option ℤ) (d : Option Dimensions) → is_scalar_kind (if b then Some (kind_by v d) else None) ≡ true → v ≡ None
@@ -73,7 +73,7 @@ scalar_unvalued t x h = go (is_among x (names_of t)) (entry_of (at_last t).value
     go true None d k = refl
     go false v d k = absurd cc
 
-scalar_named : (t : ProgramTree) (x : List ℕ) → IsValid t → is_scalar (kind_in t) x ≡ true → is_among x (constant_names t.decls) ≡ false
+pub scalar_named : (t : ProgramTree) (x : List ℕ) → IsValid t → is_scalar (kind_in t) x ≡ true → is_among x (constant_names t.decls) ≡ false
 scalar_named t x v h = go (is_among x (constant_names t.decls)) refl
   where
     none : (o : Option ℤ) → o ≡ None → is_some o ≡ true → true ≡ false

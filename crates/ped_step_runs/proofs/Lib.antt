@@ -2,6 +2,7 @@ pub mod ExchangedSight
 pub mod ExchangedTouches
 pub mod ExchangedRuns
 pub mod Replayed
+pub mod SeenElements
 pub mod RunCells
 pub mod Swapped
 pub mod Uncopied

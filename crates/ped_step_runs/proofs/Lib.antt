@@ -18,6 +18,8 @@ pub mod SameNames
 pub mod FilledGaps
 pub mod OwnBounds
 pub mod PastedParts
+pub mod ExpandedNamesSites
+pub mod ExpandedNamesRuns
 pub mod LoopsRound
 pub mod PastedRuns
 pub mod ReplacedTrees

@@ -20,6 +20,7 @@ pub mod OwnBounds
 pub mod PastedParts
 pub mod ExpandedNamesSites
 pub mod ExpandedNamesRuns
+pub mod ExpandedNamesArrays
 pub mod LoopsRound
 pub mod PastedRuns
 pub mod ReplacedTrees

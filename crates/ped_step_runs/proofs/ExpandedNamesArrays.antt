@@ -218,13 +218,6 @@ literal_uses n = go (is_negative n)
     go true = refl
     go false = refl
 
-pub other_way : (a b : List ℕ) → is_same_text a b ≡ false → is_same_text b a ≡ false
-other_way a b h = go (is_same_text b a) refl
-  where
-    go : (r : Bool) → is_same_text b a ≡ r → r ≡ false
-    go true e = sym (same_itself a) ∙ ap (is_same_text a) (sym (same_is b a e)) ∙ h
-    go false e = refl
-
 or_none : (a : Bool) → a || false ≡ a
 or_none true = refl
 or_none false = refl

@@ -30,7 +30,7 @@ names_used_as role [] = refl
 names_used_as role (x ∷ xs) = ap (λ (zs : List (List ℕ)). x ∷ zs) (names_used_as role xs)
 
 mutual
-  expr_used : (e : ExprTree) → used_names (expr_uses e) ≡ expr_names e
+  pub expr_used : (e : ExprTree) → used_names (expr_uses e) ≡ expr_names e
   expr_used (Int n) = refl
   expr_used (Var x) = refl
   expr_used (Element x es) = ap (λ (zs : List (List ℕ)). x ∷ zs) (exprs_used es)

@@ -18,11 +18,11 @@ pub mod SameNames
 pub mod FilledGaps
 pub mod OwnBounds
 pub mod PastedParts
-pub mod SubstitutedSums
 pub mod ExpandedNamesSites
 pub mod ExpandedNamesRuns
 pub mod ExpandedNamesArrays
 pub mod ExpandedNamesSubstituted
+pub mod ExpandedNames
 pub mod LoopsRound
 pub mod PastedRuns
 pub mod ReplacedTrees
@@ -36,6 +36,7 @@ pub mod PrivatisedRaces
 pub mod KeptMeanings
 pub mod RenumberedRuns
 pub mod RenumberedPrograms
+pub mod SubstitutedSums
 pub mod SubstitutedShapes
 pub mod SubstitutedSight
 pub mod SubstitutedRuns

@@ -1,5 +1,5 @@
 -- The names, the setting and the outcomes of a program in which an array's elements stand in the place of a scalar in a DO.
-use Rattle.std.proofs.Common.{◌≡◌, ℕ, ℤ, int_le, List, [], ◌∷◌, ◌++◌, map, Bool, true, false, ◌&&◌, Option, Some, None, refl, sym, ap, subst, ◌∙◌, append-nil, if◌then◌else◌}
+use Rattle.std.proofs.Common.{◌≡◌, ℕ, ℤ, int_le, List, [], ◌∷◌, ◌++◌, map, Bool, true, false, ◌&&◌, Some, None, refl, sym, ap, subst, ◌∙◌, append-nil, if◌then◌else◌}
 use Rattle.std.specs.Prelude.{◌||◌, unsigned_abs, nat_lt}
 use Rattle.std.specs.List.{flat_map}
 use Rattle.std.proofs.lemmas.Bool.{or_parts, or_from}
@@ -10,8 +10,7 @@ use Rattle.ped_tree.specs.Tree.{Head, StmtTree, StmtTrees, Do, no_stmts, more_st
 use Rattle.ped_tree.specs.NamesIn.{expr_names, head_names, stmts_names}
 use Rattle.ped_tree.specs.Numbering.{statement_with}
 use Rattle.ped_names.proofs.Collected.{among_append}
-use Rattle.ped_names.proofs.NameEquality.{same_is, same_flip, same_itself}
-use Rattle.ped_sums.specs.Sums.{literal}
+use Rattle.ped_names.proofs.NameEquality.{same_is, same_flip}
 use Rattle.ped_symbols.specs.declared.symbols.Kind.{Kind}
 use Rattle.ped_symbols.specs.declared.symbols.Kind.TheVariants.{Scalar, Array, Constant}
 use Rattle.ped_symbols.specs.Sites.{stmt_sites, stmts_sites}
@@ -21,7 +20,6 @@ use Rattle.ped_store.specs.Cells as cells
 use Rattle.ped_store.specs.Stores.{Store, lines_in}
 use Rattle.ped_store.specs.Storage.{is_within}
 use Rattle.ped_store.specs.Variables.{no_dimensions, values_of}
-use Rattle.ped_eval.specs.Scopes.{Setting}
 use Rattle.ped_eval.specs.Loops.{sorted_once}
 use Rattle.ped_eval.specs.Runs.{Ending, going, stopped, failed}
 use Rattle.ped_eval.specs.Outcomes as outcomes
@@ -39,7 +37,7 @@ use Rattle.ped_step_runs.proofs.ExpandedTurns.{body_with}
 use Rattle.ped_step_runs.proofs.ExpandedLoops.{kept_value, new_statements}
 use Rattle.ped_step_runs.proofs.ExpandedNamesSites.{stmt_at, stmts_at}
 use Rattle.ped_step_runs.proofs.ExpandedNamesRuns.{agree_but}
-use Rattle.ped_step_runs.proofs.ExpandedNamesArrays.{array_decl, array_bounds, with_array, with_body, names_besides, array_named, values_same, kind_same, absent_in_body, unsaved, kind_there}
+use Rattle.ped_step_runs.proofs.ExpandedNamesArrays.{array_decl, array_bounds, with_array, names_besides, array_named, values_same, kind_same, absent_in_body, unsaved, kind_there}
 use Rattle.ped_step_runs.proofs.ExpandedNamesSubstituted.{literal_names, in_stmts}
 
 -- the new declaration saves nothing

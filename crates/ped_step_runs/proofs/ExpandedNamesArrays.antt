@@ -1,5 +1,5 @@
 -- What declarations say of names: nothing of one that doesn't occur in them, and one array more where an INTEGER that declares it stands last.
-use Rattle.std.proofs.Common.{◌≡◌, ℕ, suc, ◌^◌, ℤ, pos, negsuc, neg_ℤ, int_le, int_lt, List, [], ◌∷◌, ◌++◌, map, Bool, true, false, ◌&&◌, Option, Some, None, Ok, Err, refl, ap, sym, subst, ◌∙◌, append-nil, arith, if◌then◌else◌}
+use Rattle.std.proofs.Common.{◌≡◌, ℕ, suc, ◌^◌, ℤ, pos, negsuc, neg_ℤ, int_le, int_lt, List, [], ◌∷◌, ◌++◌, map, Bool, true, false, ◌&&◌, Option, Some, None, Ok, Err, refl, ap, sym, ◌∙◌, arith, if◌then◌else◌}
 use Rattle.std.specs.Prelude.{◌||◌, unsigned_abs, nat_lt, nat_le, length}
 use Rattle.std.specs.List.{flat_map}
 use Rattle.std.specs.Result.{result_ok}
@@ -8,24 +8,24 @@ use Rattle.std.proofs.lemmas.Int.{ints}
 use Rattle.std.proofs.lemmas.Grind.{flat_map-append}
 use Rattle.ped_base.specs.Dimensions.{Dimensions}
 use Rattle.ped_base.specs.Lists.{has_some, is_same_text, is_among}
-use Rattle.ped_tree.specs.Tree.{ExprTree, Int, Neg, StmtTree, StmtTrees, Assign, If, Do, Print, Read, Stop, Comment, no_stmts, more_stmts, BoundTree, DeclaratorTree, DeclTree, Program, Implicit, Integer, Dimension, Parameter, Save, Remark, ProgramTree}
+use Rattle.ped_tree.specs.Tree.{ExprTree, Int, Neg, StmtTree, StmtTrees, Assign, If, Do, Print, Read, Stop, Comment, no_stmts, more_stmts, DeclaratorTree, DeclTree, Program, Implicit, Integer, Dimension, Parameter, Save, Remark, ProgramTree}
 use Rattle.ped_tree.specs.Accesses.{constant_names}
 use Rattle.ped_tree.specs.NamesIn.{stmts_names}
-use Rattle.ped_names.proofs.NameEquality.{same_is, same_itself}
+use Rattle.ped_names.proofs.NameEquality.{same_itself}
 use Rattle.ped_uses.proofs.Whole.{names_occur, others_unvalued}
 use Rattle.ped_symbols.specs.declared.symbols.Kind.TheVariants.{Array}
 use Rattle.ped_eval.specs.Outcomes as outcomes
 use Rattle.std.specs.Int.{is_negative}
 use Rattle.ped_grammar.specs.LimitNumbers.{greatest_literal, most_dimensions}
 use Rattle.ped_names.proofs.Collected.{among_append}
-use Rattle.ped_constants.specs.ConstantExpressions.{unary_value, constant_value}
+use Rattle.ped_constants.specs.ConstantExpressions.{constant_value}
 use Rattle.ped_sums.specs.Sums.{literal}
 use Rattle.ped_symbols.specs.declared.uses.Role.TheVariants.{Named, Saved}
 use Rattle.ped_symbols.specs.declared.uses.Use.{Use}
 use Rattle.ped_symbols.specs.Uses.{used_as, expr_uses, bounds_uses, dimension_uses, type_uses, decl_uses}
 use Rattle.ped_symbols.specs.Entries.{entry_of}
-use Rattle.ped_symbols.specs.Sites.{Site, declaration, statement, private_site, stmt_sites, decl_sites, stmts_sites, program_sites, site_uses}
-use Rattle.ped_symbols.specs.Values.{Values, within, fixed_value, behind_decl}
+use Rattle.ped_symbols.specs.Sites.{Site, declaration, statement, private_site, stmt_sites, decl_sites, stmts_sites, site_uses}
+use Rattle.ped_symbols.specs.Values.{Values, within, fixed_value}
 use Rattle.ped_symbols.specs.Arrays.{Arrays, with_dimension, bounds_values, with_bounds, arrays_of, arrays_in}
 use Rattle.ped_symbols.specs.NameRefusals.{Before, at_first, behind_site, behind_sites}
 use Rattle.ped_symbols.specs.Kinds.{kind_by, kind_among, kind_of, names_at, names_of, at_last}

@@ -2,6 +2,7 @@ pub mod ExchangedSight
 pub mod ExchangedTouches
 pub mod ExchangedRuns
 pub mod Replayed
+pub mod SeenElements
 pub mod RunCells
 pub mod RunPlaces
 pub mod Swapped
@@ -18,6 +19,11 @@ pub mod SameNames
 pub mod FilledGaps
 pub mod OwnBounds
 pub mod PastedParts
+pub mod ExpandedNamesSites
+pub mod ExpandedNamesRuns
+pub mod ExpandedNamesArrays
+pub mod ExpandedNamesSubstituted
+pub mod ExpandedNames
 pub mod LoopsRound
 pub mod PastedRuns
 pub mod ReplacedTrees

@@ -58,7 +58,7 @@ use Rattle.ped_step_runs.specs.Exchanging.{is_of_scalar}
 use Rattle.ped_step_runs.proofs.Swapped.{cell_name, named_so, of_scalar}
 
 -- a scalar variable occurs, and is no named constant
-scalar_occurs : (t : ProgramTree) (x : List ℕ) → is_scalar (kind_in t) x ≡ true → is_among x (names_of t) ≡ true
+pub scalar_occurs : (t : ProgramTree) (x : List ℕ) → is_scalar (kind_in t) x ≡ true → is_among x (names_of t) ≡ true
 scalar_occurs t x h = go (is_among x (names_of t)) h
   where
     go : (b : Bool) → is_scalar_kind (if b then Some (kind_of t x) else None) ≡ true → b ≡ true
@@ -105,7 +105,7 @@ more_alike x y xs =
     go false false = record { but = refl; kept = λ h. h }
 
 -- the statement of a DO
-abbrev statement_in : StmtTree → Option StmtTree → StmtTree
+abbrev pub statement_in : StmtTree → Option StmtTree → StmtTree
 statement_in other (Some s) = s
 statement_in other None = other
 

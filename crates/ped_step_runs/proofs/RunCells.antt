@@ -1,19 +1,22 @@
--- What holds of each cell that names stand for at a place, and further inside, holds of each cell that a run touches there.
-use Rattle.std.proofs.Common.{ℕ, zero, suc, ◌+◌, ℤ, List, [], ◌∷◌, ◌++◌, Bool, true, false, eqb, Option, Some, None, Result, Ok, Err, if◌then◌else◌}
+-- What holds of each cell that names stand for at a place, and further inside, holds of each cell that a run touches there; of the elements of arrays it has to hold within their bounds.
+use Rattle.std.proofs.Common.{◌≡◌, ℕ, zero, suc, ◌+◌, ℤ, List, [], ◌∷◌, ◌++◌, length, Bool, true, false, eqb, Option, Some, None, Result, Ok, Err, if◌then◌else◌}
+use Rattle.std.specs.Prelude.{◌&&◌}
 use Rattle.ped_tree.specs.Tree.{ExprTree, CondTree, ItemTree, Head, StmtTree, StmtTrees, Assign, If, Do, Print, Read, Stop, Comment, no_stmts, more_stmts}
 use Rattle.ped_tree.specs.Numbering.{statement_count, statements_count}
 use Rattle.ped_store.specs.Cells.{Cell, Element, In, Out}
 use Rattle.ped_store.specs.Stores.{Undefined, Number, Lines, Store, put, lines_in}
 use Rattle.ped_store.specs.Acts.{is_told, Touch, Act, did, entered, ended_turn, closed}
+use Rattle.ped_store.specs.Storage.{is_within}
 use Rattle.ped_store.specs.DataLines.{Data, begun, Taken, next_value_of}
 use Rattle.ped_eval.specs.Scopes.{Setting, Frame, Scope, cell_of, names_in, place_of}
 use Rattle.ped_eval.specs.Evaluation.{Seen, cell_seen, index_seen, numbered, number_behind}
-use Rattle.ped_eval.specs.Values.{truth, target}
+use Rattle.ped_eval.specs.Values.{is_rank, truth, target}
 use Rattle.ped_eval.specs.Statements.{Stored, assigned, printed_line, into_item, with_taken, taking, taking_from, reading, reading_touches, read_touch, write_touch}
 use Rattle.ped_eval.specs.Loops.{Limits, limits, Entered, entered_with, frame, undefined_by, undefined_all, left_in_variable, exit_touches, exit_when_none}
 use Rattle.ped_eval.specs.Runs.{Run, nothing_done, does, run_assignment, run_print, run_taking, run_if, run_do, turns, parallel_turns, run_entered, run, run_all}
-use Rattle.ped_runs.proofs.SeenCells.{AllSeen, OfResult, truth_seen, target_seen, target_is, line_seen, limits_seen, assigned_seen, assigned_is}
+use Rattle.ped_runs.proofs.SeenCells.{AllSeen, OfResult}
 use Rattle.ped_runs.proofs.Touches.{Each, each_none, each_more, each_append, then_each, does_each, on_each, any_result}
+use Rattle.ped_step_runs.proofs.SeenElements.{truth_seen, target_seen, target_is, line_seen, limits_seen, assigned_seen, assigned_is}
 
 -- each DO in a statement with number n is of this kind, by its number, its head and its body
 abbrev mutual
@@ -30,7 +33,7 @@ abbrev mutual
   EachDos Q no_stmts n = Unit {0}
   EachDos Q (more_stmts t rest) n = EachDo Q t n × EachDos Q rest (n + statement_count t)
 
-module _ (p : Setting) (Q : ℕ → Head → StmtTrees → Type 0) (P : Scope → Cell → Type 0) (scalar : (S : Scope) (x : List ℕ) → P S (cell_of S x)) (element : (S : Scope) (x : List ℕ) (js : List ℤ) → P S (Element x js)) (input : (S : Scope) → P S In) (output : (S : Scope) → P S Out)
+module _ (p : Setting) (Q : ℕ → Head → StmtTrees → Type 0) (P : Scope → Cell → Type 0) (scalar : (S : Scope) (x : List ℕ) → P S (cell_of S x)) (element : (S : Scope) (x : List ℕ) (js : List ℤ) → (is_rank (length js) && is_within (p.bounds x) js) ≡ true → P S (Element x js)) (input : (S : Scope) → P S In) (output : (S : Scope) → P S Out)
     (outward : (n : ℕ) (h : Head) (body : StmtTrees) (seen : List Seen) (l : Limits) (k : ℕ) (S : Scope) (c : Cell) → Q n h body → P (frame (entered_with p n h body seen l) k ∷ S) c → P S c) where
   -- a touch of such a cell, and an act of such touches
   abbrev Has : Scope → Touch → Type 0

@@ -47,7 +47,7 @@ two_come f a b u v w h k e =
     ∙ (λ i. evaluated (a.seen ++ append-nil b.seen i) (e i))
 
 -- an expression is a literal, one with a sign, or neither
-by_shape : (P : ExprTree → Type 0) → ((n : ℕ) → P (Int n)) → ((n : ℕ) → P (Neg (Int n)))
+pub by_shape : (P : ExprTree → Type 0) → ((n : ℕ) → P (Int n)) → ((n : ℕ) → P (Neg (Int n)))
     → ((e : ExprTree) → literal_value e ≡ None → is_zero e ≡ false → ((a : ExprTree) → added a e ≡ Add a e) → ((a : ExprTree) → subtracted a e ≡ Sub a e) → P e) → (e : ExprTree) → P e
 by_shape P int neg none (Int n) = int n
 by_shape P int neg none (Neg (Int n)) = neg n

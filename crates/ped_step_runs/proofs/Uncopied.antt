@@ -48,7 +48,7 @@ untouched_touches c (t ∷ ts) h = or_from _ _ (first (has_cell t.manner) (other
     first true e = e
     first false e = refl
 
-untouched_acts : (c : Cell) (acts : List Act) → Each (λ (a : Act). Each (λ (t : Touch). t.cell ≡ c → ⊥) a.touches) acts → touch acts c ≡ false
+pub untouched_acts : (c : Cell) (acts : List Act) → Each (λ (a : Act). Each (λ (t : Touch). t.cell ≡ c → ⊥) a.touches) acts → touch acts c ≡ false
 untouched_acts c [] h = refl
 untouched_acts c (a ∷ acts) h =
     list_any-append (λ t. has_cell t.manner && same_cell t.cell c) a.touches (touches_of acts) ∙ or_from _ _ (untouched_touches c a.touches (h a (inl refl))) (untouched_acts c acts (λ b i. h b (inr i)))
@@ -86,7 +86,7 @@ module _ (p : Setting) (x : List ℕ) (l : ℕ) where
   -- where no iteration of the DO has a copy of the scalar, no act has a touch of one, nor is it told the value of one
   pub copy_unnamed : (ts : StmtTrees) (n : ℕ) (s : Store) → EachDos IsSpare ts n → (a : Act) (t : Touch) → IsIn a (run_all p ts n [] s).acts → IsIn t a.touches → IsCopyIn t.cell → ⊥
   copy_unnamed ts n s spare a t i j copy =
-      all_keep p IsSpare IsNoCopy no_copy (λ S y js sp k. let q = k.is in absurd cc) (λ S sp k. let q = k.is in absurd cc) (λ S sp k. let q = k.is in absurd cc)
+      all_keep p IsSpare IsNoCopy no_copy (λ S y js w sp k. let q = k.is in absurd cc) (λ S sp k. let q = k.is in absurd cc) (λ S sp k. let q = k.is in absurd cc)
       (λ m h body seen u k S d q kept sp. kept (q seen u k, sp)) ts n [] s spare a i t j tt copy
 
   -- so no act reads or writes one

@@ -13,6 +13,7 @@ use Rattle.ped_eval.specs.Evaluation.{Evaluated, ◌>>>◌, given}
 use Rattle.ped_eval.specs.Values.{value}
 use Rattle.ped_eval.specs.Loops.{is_bound, in_bounds, Limits, limits, increment, iteration_count, Entered, entered_with, value_in}
 use Rattle.ped_covering.proofs.Comings.{came, ok_one, constant_comes}
+use Rattle.ped_step_runs.specs.Expanding.{has_iteration, last_value}
 
 -- a bound within its range is itself
 bound_is : (m n : ℤ) → in_bounds m ≡ Ok n → m ≡ n
@@ -41,14 +42,6 @@ constant_limits g s h m1 m2 first last m e =
 
 pub constant_step : (constants : List (List ℕ × ℤ)) (h : Head) (m3 : ℤ) → constant_value constants h.step ≡ Some m3 → increment constants h ≡ m3
 constant_step constants h m3 e = ap (λ (o : Option ℤ). unwrap_or o (pos 1)) e
-
--- from the first value in steps of the increment there is a value up to the limit
-abbrev pub has_iteration : ℤ → ℤ → ℤ → Bool
-has_iteration m1 m2 m3 = if int_lt (pos 0) m3 then int_le m1 m2 else int_le m2 m1
-
--- the value in the last iteration
-abbrev pub last_value : ℤ → ℤ → ℤ → ℤ
-last_value m1 m2 m3 = m2 -ℤ int_rem (m2 -ℤ m1) m3
 
 rem_positive : (a d : ℤ) → pos 0 ≤ℤ a → pos 0 ≤ℤ int_rem a d
 rem_positive (pos a) (pos d) h = omega (arith, ints)

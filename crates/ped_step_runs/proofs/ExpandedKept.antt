@@ -5,7 +5,7 @@ use Rattle.std.proofs.lemmas.Bool.{ltb-false}
 use Rattle.std.proofs.lemmas.Int.{ints}
 use Rattle.ped_arithmetic.specs.Arithmetic.{in_range}
 use Rattle.ped_arithmetic.specs.declared.faults.Fault.TheVariants.{OutOfRange}
-use Rattle.ped_tree.specs.Tree.{ExprTree, Int, Var, Element, Neg, no_exprs, more_exprs, Assign, no_stmts, more_stmts}
+use Rattle.ped_tree.specs.Tree.{Int, Var, Neg, Assign, no_stmts, more_stmts}
 use Rattle.ped_sums.specs.Sums.{literal}
 use Rattle.ped_store.specs.Cells as cells
 use Rattle.ped_store.specs.Cells.{Cell}
@@ -20,6 +20,7 @@ use Rattle.ped_eval.specs.Runs.{run_all}
 use Rattle.ped_runs.specs.Seeing.{ComesTo}
 use Rattle.ped_runs.specs.Replaying.{goes_on, act, Replays}
 use Rattle.ped_runs.proofs.Joined.{replays_nothing, statements_more, assignment_does}
+use Rattle.ped_step_runs.specs.Expanding.{element_expr}
 
 -- a literal that is not too large has its value
 holds : (b : Bool) → (b ≡ false → ⊥) → b ≡ true
@@ -41,10 +42,6 @@ negative_in n near =
 pub literal_valued : (g : Names) (n : ℤ) (s : Store) → nat_lt 2147483647 (unsigned_abs n) ≡ false → value g (literal n) s ≡ given (Ok n)
 literal_valued g (pos n) s near = let e : int_lt (pos n) (pos 0) ≡ false = fails (int_lt (pos n) (pos 0)) (λ q. omega (arith, ints, q)) in ap (λ (b : Bool). value g (if b then Neg (Int n) else Int n) s) e
 literal_valued g (negsuc n) s near = ap given (negative_in n near)
-
--- the array's element at a number, in a program
-abbrev pub element_expr : List ℕ → ℤ → ExprTree
-element_expr array n = Element array (more_exprs (literal n) no_exprs)
 
 -- what such an assignment touches: it reads the element, and the scalar gets what it holds
 abbrev pub keeping_touches : Scope → List ℕ → List ℕ → ℤ → Content → List Touch

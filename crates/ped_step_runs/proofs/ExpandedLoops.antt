@@ -3,7 +3,7 @@ use Rattle.std.proofs.Common.{◌≡◌, ℕ, suc, ◌+◌, ◌≤◌, ℤ, List
 use Rattle.std.specs.Prelude.{unsigned_abs, nat_lt}
 use Rattle.std.proofs.lemmas.Bool.{both_ways, or_parts}
 use Rattle.ped_base.specs.Lists.{is_same_text, is_among}
-use Rattle.ped_tree.specs.Tree.{Head, StmtTrees, Assign, Var, Do, no_stmts, more_stmts}
+use Rattle.ped_tree.specs.Tree.{Head, StmtTrees, Do, no_stmts}
 use Rattle.ped_tree.specs.Numbering.{statement_count}
 use Rattle.ped_store.specs.Cells.{Cell, Element, same_cell}
 use Rattle.ped_store.specs.Stores.{Content, Number, Store, put, is_storable}
@@ -27,19 +27,11 @@ use Rattle.ped_runs.specs.Replaying.{goes_on, finish_of, act, Replays}
 use Rattle.ped_runs.proofs.Sight.{limits_told}
 use Rattle.ped_runs.proofs.Joined.{replays_nothing, statements_more, loop_in_order}
 use Rattle.ped_runs.proofs.StatementsTold.{run_told}
+use Rattle.ped_step_runs.specs.Expanding.{body_with, kept_value, new_statements}
 use Rattle.ped_step_runs.proofs.Privatised.{Agrees, act_agrees}
 use Rattle.ped_step_runs.proofs.PrivatisedLoops.{loop_is, turns_go}
-use Rattle.ped_step_runs.proofs.ExpandedKept.{element_expr, keeping_touches, keeps_value}
-use Rattle.ped_step_runs.proofs.ExpandedTurns.{body_with, own, e, element_in, trip, new_turns, old_turns, IsSubstituted, AreLeft, turns_replay, turns_stand, turns_leave, turns_hold}
-
--- what stands behind the DO: where the scalar is live there, it gets what its last element holds
-abbrev pub kept_value : Bool → List ℕ → List ℕ → ℤ → StmtTrees
-kept_value true x array last = more_stmts (Assign (Var x) (element_expr array last)) no_stmts
-kept_value false x array last = no_stmts
-
--- the DO with the element in the place of the scalar, and what stands behind it
-abbrev pub new_statements : List ℕ → List ℕ → Bool → ℤ → Head → StmtTrees → StmtTrees
-new_statements x array live last h body = more_stmts (Do h (body_with x array h body)) (kept_value live x array last)
+use Rattle.ped_step_runs.proofs.ExpandedKept.{keeping_touches, keeps_value}
+use Rattle.ped_step_runs.proofs.ExpandedTurns.{own, e, element_in, trip, new_turns, old_turns, IsSubstituted, AreLeft, turns_replay, turns_stand, turns_leave, turns_hold}
 
 module _ (p : Setting) (h : Head) (body : StmtTrees) (l : ℕ) (S : Scope) (x array : List ℕ) where
   -- the act of that assignment

@@ -31,13 +31,12 @@ use Rattle.ped_runs.specs.Showing.{shown_at_end}
 use Rattle.ped_steps.specs.Replacing.{all_replaced}
 use Rattle.ped_step_runs.specs.Pasting.{AgreeInBounds}
 use Rattle.ped_step_runs.specs.Substituting.{element_at}
+use Rattle.ped_step_runs.specs.Expanding.{array_bounds, array_decl, body_with, kept_value, new_statements, with_array}
 use Rattle.ped_step_runs.proofs.NamesKept.{occurs, AreAlike, alike_itself, Alike, names_kept}
 use Rattle.ped_step_runs.proofs.PrivatisedPrograms.{scalar_occurs, statement_in}
-use Rattle.ped_step_runs.proofs.ExpandedTurns.{body_with}
-use Rattle.ped_step_runs.proofs.ExpandedLoops.{kept_value, new_statements}
 use Rattle.ped_step_runs.proofs.ExpandedNamesSites.{stmt_at, stmts_at}
 use Rattle.ped_step_runs.proofs.ExpandedNamesRuns.{agree_but}
-use Rattle.ped_step_runs.proofs.ExpandedNamesArrays.{array_decl, array_bounds, with_array, names_besides, array_named, values_same, kind_same, absent_in_body, unsaved, kind_there}
+use Rattle.ped_step_runs.proofs.ExpandedNamesArrays.{names_besides, array_named, values_same, kind_same, absent_in_body, unsaved, kind_there}
 use Rattle.ped_step_runs.proofs.ExpandedNamesSubstituted.{literal_names, in_stmts}
 
 -- the new declaration saves nothing

@@ -30,6 +30,7 @@ use Rattle.ped_symbols.specs.Arrays.{Arrays, with_dimension, bounds_values, with
 use Rattle.ped_symbols.specs.NameRefusals.{Before, at_first, behind_site, behind_sites}
 use Rattle.ped_symbols.specs.Kinds.{kind_by, kind_among, kind_of, names_at, names_of, at_last}
 use Rattle.ped_arithmetic.specs.declared.faults.Fault.TheVariants.{OutOfRange}
+use Rattle.ped_step_runs.specs.Expanding.{array_bounds, array_decl, with_array}
 use Rattle.ped_step_runs.proofs.NamesKept.{occurs, occurs_append}
 use Rattle.ped_step_runs.proofs.ExpandedNamesSites.{used_names, used_append, names_used_as, stmts_at}
 
@@ -162,13 +163,6 @@ literal_fixed values n near = ap within (constant n near) ∙ ap (λ (b : Bool).
     constant (pos m) q = let e : int_lt (pos m) (pos 0) ≡ false = fails (int_lt (pos m) (pos 0)) (λ k. omega (arith, ints, k)) in ap (λ (b : Bool). constant_value values (if b then Neg (Int m) else Int m)) e
     constant (negsuc m) q = literal_negative values m q
 
--- one array more
-abbrev pub array_decl : List ℕ → ℤ → ℤ → DeclTree
-array_decl array lo hi = Integer ((record { name = array; bounds = (record { lower = literal lo; upper = literal hi }) ∷ [] }) ∷ [])
-
-abbrev pub array_bounds : ℤ → ℤ → Dimensions
-array_bounds lo hi = record { lower = lo ∷ []; upper = hi ∷ [] }
-
 arrays_more : (values : Values) (array : List ℕ) (lo hi : ℤ) → nat_lt 2147483647 (unsigned_abs lo) ≡ false → nat_lt 2147483647 (unsigned_abs hi) ≡ false → arrays_in values (array_decl array lo hi) ≡ (array, array_bounds lo hi) ∷ []
 arrays_more values array lo hi near far =
     let lower = literal_fixed values lo near in
@@ -240,51 +234,51 @@ or_last false false false = refl
 
 -- a program with other statements, and the declaration of an array behind its others
 module _ (t : ProgramTree) (body : StmtTrees) (array : List ℕ) (lo hi : ℤ) where
-  abbrev pub with_array : ProgramTree
-  with_array = record { decls = t.decls ++ array_decl array lo hi ∷ []; body = body }
+  abbrev array_program : ProgramTree
+  array_program = with_array t body array lo hi
 
   -- the same without the declaration
   abbrev pub with_body : ProgramTree
   with_body = record { decls = t.decls; body = body }
 
-  sites_more : flat_map decl_sites with_array.decls ≡ flat_map decl_sites t.decls ++ declaration (array_decl array lo hi) ∷ []
+  sites_more : flat_map decl_sites array_program.decls ≡ flat_map decl_sites t.decls ++ declaration (array_decl array lo hi) ∷ []
   sites_more = flat_map-append decl_sites t.decls (array_decl array lo hi ∷ [])
 
   named_more : names_at (declaration (array_decl array lo hi) ∷ []) ≡ array ∷ array ∷ []
   named_more = λ i. array ∷ array ∷ used_names ((((literal_uses lo i ++ literal_uses hi i) ++ []) ++ []) ++ [])
 
   -- the array's name has come to the names
-  pub names_more : (y : List ℕ) → is_among y (names_of with_array) ≡ is_among y (names_of with_body) || is_same_text y array
+  pub names_more : (y : List ℕ) → is_among y (names_of array_program) ≡ is_among y (names_of with_body) || is_same_text y array
   names_more y =
       let decls = flat_map decl_sites t.decls in
-      names_occur with_array y
+      names_occur array_program y
       ∙ ap (λ (sites : List Site). occurs y (sites ++ stmts_sites body)) sites_more
       ∙ occurs_append y (decls ++ declaration (array_decl array lo hi) ∷ []) (stmts_sites body)
       ∙ ap (λ (b : Bool). b || occurs y (stmts_sites body)) (occurs_append y decls (declaration (array_decl array lo hi) ∷ []) ∙ ap (λ (names : List (List ℕ)). occurs y decls || is_among y names) named_more ∙ or_once (occurs y decls) (is_same_text y array))
       ∙ or_last (occurs y decls) (is_same_text y array) (occurs y (stmts_sites body))
       ∙ ap (λ (b : Bool). b || is_same_text y array) (sym (names_occur with_body y ∙ occurs_append y decls (stmts_sites body)))
 
-  pub names_besides : (y : List ℕ) → is_same_text y array ≡ false → is_among y (names_of with_array) ≡ is_among y (names_of with_body)
+  pub names_besides : (y : List ℕ) → is_same_text y array ≡ false → is_among y (names_of array_program) ≡ is_among y (names_of with_body)
   names_besides y e = names_more y ∙ ap (λ (b : Bool). is_among y (names_of with_body) || b) e ∙ or_none (is_among y (names_of with_body))
 
-  pub array_named : is_among array (names_of with_array) ≡ true
+  pub array_named : is_among array (names_of array_program) ≡ true
   array_named = names_more array ∙ ap (λ (b : Bool). is_among array (names_of with_body) || b) (same_itself array) ∙ or_all (is_among array (names_of with_body))
 
   module _ (near : nat_lt 2147483647 (unsigned_abs lo) ≡ false) (far : nat_lt 2147483647 (unsigned_abs hi) ≡ false) where
     -- it says as much as the program without it, and the array's bounds
-    one_said : said (at_last with_array) ≡ ((at_last t).values, (at_last t).arrays ++ (array, array_bounds lo hi) ∷ [])
+    one_said : said (at_last array_program) ≡ ((at_last t).values, (at_last t).arrays ++ (array, array_bounds lo hi) ∷ [])
     one_said =
         let b = behind_sites at_first (flat_map decl_sites t.decls) in
-        last_said with_array ∙ ap (λ (sites : List Site). said (behind_sites at_first sites)) sites_more
+        last_said array_program ∙ ap (λ (sites : List Site). said (behind_sites at_first sites)) sites_more
         ∙ ap said (behind_append at_first (flat_map decl_sites t.decls) (declaration (array_decl array lo hi) ∷ []))
         ∙ ap (λ (new : Arrays). (b.values, b.arrays ++ new)) (arrays_more b.values array lo hi near far)
         ∙ ap (λ (s : Values × Arrays). (s.0, s.1 ++ (array, array_bounds lo hi) ∷ [])) (sym (last_said t))
 
-    pub values_same : (at_last with_array).values ≡ (at_last t).values
+    pub values_same : (at_last array_program).values ≡ (at_last t).values
     values_same = ap (λ (s : Values × Arrays). s.0) one_said
 
     -- other names stand for what they stood for
-    pub kind_same : (y : List ℕ) → is_same_text y array ≡ false → kind_of with_array y ≡ kind_of t y
+    pub kind_same : (y : List ℕ) → is_same_text y array ≡ false → kind_of array_program y ≡ kind_of t y
     kind_same y e =
         ap (λ (s : Values × Arrays). kind_among s.0 s.1 y) one_said
         ∙ ap (kind_by (entry_of (at_last t).values y)) (entry_before (at_last t).arrays ((array, array_bounds lo hi) ∷ []) y (ap (λ (r : Bool). if r then Some (array_bounds lo hi) else None) e))
@@ -301,7 +295,7 @@ module _ (t : ProgramTree) (body : StmtTrees) (array : List ℕ) (lo hi : ℤ) w
       pub unsaved : is_among array (flat_map outcomes.saved_in t.decls) ≡ false
       unsaved = no_saved t.decls array apart.0
 
-      pub kind_there : kind_of with_array array ≡ Array (array_bounds lo hi)
+      pub kind_there : kind_of array_program array ≡ Array (array_bounds lo hi)
       kind_there =
           let bounds = ap (λ (s : Values × Arrays). entry_of s.1 array) (last_said t) ∙ unsaid at_first t.decls array apart.0 refl in
           let value = others_unvalued t array (no_constant t.decls array apart.0) in

@@ -28,10 +28,11 @@ use Rattle.ped_runs.proofs.StatementsTold.{all_told}
 use Rattle.ped_step_runs.specs.Exchanging.{exchanged_store, exchanged_ending, swapped}
 use Rattle.ped_step_runs.specs.Pasting.{IsPlaceOf, DoInstead, StandInstead}
 use Rattle.ped_step_runs.specs.Substituting.{AreSameOn, element_at, MayStandFor}
+use Rattle.ped_step_runs.specs.Expanding.{new_statements}
 use Rattle.ped_step_runs.proofs.PastedStores.{execution_left, going_ends}
 use Rattle.ped_step_runs.proofs.PrivatisedParts.{do_entered}
 use Rattle.ped_step_runs.proofs.ExpandedTurns.{IsSubstituted, cell_inside}
-use Rattle.ped_step_runs.proofs.ExpandedLoops.{new_statements, new_acts, IsKept, statements_replay, statements_stand}
+use Rattle.ped_step_runs.proofs.ExpandedLoops.{new_acts, IsKept, statements_replay, statements_stand}
 
 -- where an element may stand for a scalar in statements, they do on the element what they did on the scalar's cell
 abbrev pub Substitutes : Setting → Type 0

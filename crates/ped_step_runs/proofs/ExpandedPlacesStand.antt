@@ -29,9 +29,10 @@ use Rattle.ped_flow.proofs.Truths.{or_none}
 use Rattle.ped_flow_runs.specs.Exits.{IsOneToOne}
 use Rattle.ped_step_runs.specs.Pasting.{IsPlaceOf}
 use Rattle.ped_step_runs.specs.Substituting.{all_private_names_in, MayStandFor}
+use Rattle.ped_step_runs.specs.Expanding.{has_iteration, last_value}
 use Rattle.ped_step_runs.proofs.NamesKept.{occurs, occurs_append}
 use Rattle.ped_step_runs.proofs.PrivatisedPrograms.{scalar_unvalued}
-use Rattle.ped_step_runs.proofs.ConstantBounds.{has_iteration, last_value, others, count_is, last_is, value_lies}
+use Rattle.ped_step_runs.proofs.ConstantBounds.{others, count_is, last_is, value_lies}
 use Rattle.ped_step_runs.proofs.ExpandedParts.{IsEnteredBy}
 use Rattle.ped_step_runs.proofs.ExpandedPlaces.{untold_at}
 use Rattle.ped_step_runs.proofs.ExpandedPlacesParts.{not_true, or_right, IsPart, part_at, all_apart_in}

@@ -23,8 +23,8 @@ use Rattle.ped_flow_runs.specs.Exits.{IsOneToOne}
 use Rattle.ped_flow_runs.proofs.Stopping.{fitting_stops, loop_stops}
 use Rattle.ped_step_runs.specs.Pasting.{IsPlaceOf}
 use Rattle.ped_step_runs.specs.Substituting.{private_names_in, all_private_names_in, MayStandFor}
+use Rattle.ped_step_runs.specs.Expanding.{has_iteration, last_value}
 use Rattle.ped_step_runs.proofs.PrivatisedPrograms.{scalar_named}
-use Rattle.ped_step_runs.proofs.ConstantBounds.{has_iteration, last_value}
 use Rattle.ped_step_runs.proofs.ExpandedParts.{IsEnteredBy}
 use Rattle.ped_step_runs.proofs.ExpandedLoops.{IsKept}
 use Rattle.ped_step_runs.proofs.ExpandedPlacesStand.{has_more, last_value_is, lies, may_stand_each}

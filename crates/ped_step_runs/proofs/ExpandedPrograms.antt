@@ -40,6 +40,7 @@ use Rattle.ped_step_runs.specs.Meaning.{Keeps}
 use Rattle.ped_step_runs.specs.Pasting.{CountAlike, IsPastingOf, AreExecutions, DoInstead, IsPlaceOf, AgreeInBounds}
 use Rattle.ped_step_runs.specs.Renumbering.{renumbered, IsRenumbered}
 use Rattle.ped_step_runs.specs.Substituting.{element_at, MayStandFor}
+use Rattle.ped_step_runs.specs.Expanding.{new_statements}
 use Rattle.ped_step_runs.proofs.OwnBounds.{run_bounds}
 use Rattle.ped_step_runs.proofs.PastedRuns.{Exchanged}
 use Rattle.ped_step_runs.proofs.PastedStatements.{one_exchanged}
@@ -48,7 +49,7 @@ use Rattle.ped_step_runs.proofs.PrivatisedPrograms.{ends_kept, shown_scalar}
 use Rattle.ped_step_runs.proofs.RenumberedPrograms.{program_renumbered, ends_alike, no_race_alike, outcome_renumbered}
 use Rattle.ped_step_runs.proofs.SubstitutedRuns.{substituted_run}
 use Rattle.ped_step_runs.proofs.SubstitutedShapes.{counts_kept, indices_kept}
-use Rattle.ped_step_runs.proofs.ExpandedLoops.{new_statements, IsKept}
+use Rattle.ped_step_runs.proofs.ExpandedLoops.{IsKept}
 use Rattle.ped_step_runs.proofs.ExpandedParts.{IsEnteredBy, expanded_acts, substituted_at, do_instead, stand_instead}
 use Rattle.ped_step_runs.proofs.ExpandedRaces.{expanded_run_race_free}
 use Rattle.ped_step_runs.proofs.ExpandedNumbers.{moved, moved_back, moved_before, moved_behind, told_back, one_moved}

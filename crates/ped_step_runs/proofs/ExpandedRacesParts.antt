@@ -18,9 +18,10 @@ use Rattle.ped_eval.specs.Loops.{Limits, limits, frame, value_in}
 use Rattle.ped_eval.specs.Runs.{Run, run}
 use Rattle.ped_runs.specs.Replaying.{goes_on, has_fault, finish_of}
 use Rattle.ped_step_runs.specs.Substituting.{AreSameOn}
+use Rattle.ped_step_runs.specs.Expanding.{body_with}
 use Rattle.ped_step_runs.proofs.PrivatisedLoops.{turns_are, more_goes, trip_goes, loop_is, turns_go}
 use Rattle.ped_step_runs.proofs.RunPlaces.{stands_in}
-use Rattle.ped_step_runs.proofs.ExpandedTurns.{body_with, e, name_in, trip, new_trip, end, left_by, new_turns, old_turns, IsSubstituted, AreLeft}
+use Rattle.ped_step_runs.proofs.ExpandedTurns.{e, name_in, trip, new_trip, end, left_by, new_turns, old_turns, IsSubstituted, AreLeft}
 use Rattle.ped_step_runs.proofs.ExpandedLoops.{entry, entered_by, new_loop, left_in, kept_acts, new_acts, IsKept}
 use Rattle.ped_step_runs.proofs.ExpandedRacesOrigins.{HasOrigin, Comes, IsWritten, stays, same_act, same_comes, kept_comes, write_in, write_access, write_touches, touch_there}
 

@@ -4,7 +4,6 @@ use Rattle.std.specs.Prelude.{◌||◌}
 use Rattle.std.proofs.lemmas.Bool.{both_ways, or_from, or_parts}
 use Rattle.ped_base.specs.Lists.{is_same_text, is_among}
 use Rattle.ped_tree.specs.Tree.{Head, StmtTrees}
-use Rattle.ped_sums.specs.Substitution.{statements_substituted}
 use Rattle.ped_store.specs.Cells.{Cell, Element, Private}
 use Rattle.ped_store.specs.Stores.{Content, Store}
 use Rattle.ped_store.specs.Acts.{Touch, Place, Act, ended_turn, iterations_of, store_behind}
@@ -24,7 +23,8 @@ use Rattle.ped_runs.specs.Replaying.{Finish, goes_on, has_fault, finish_of, act,
 use Rattle.ped_runs.proofs.Joined.{replays_nothing, turns_more}
 use Rattle.ped_runs.proofs.StatementsTold.{all_told}
 use Rattle.ped_step_runs.specs.Exchanging.{exchanged_store, exchanged_ending, swapped, is_of_scalar}
-use Rattle.ped_step_runs.specs.Substituting.{AreSameOn, element_at}
+use Rattle.ped_step_runs.specs.Substituting.{AreSameOn}
+use Rattle.ped_step_runs.specs.Expanding.{body_with}
 use Rattle.ped_step_runs.proofs.Replayed.{same_finish}
 use Rattle.ped_step_runs.proofs.Swapped.{cell_name, named_so, of_scalar, swapped_first, twice}
 use Rattle.ped_step_runs.proofs.Privatised.{exit_when_found, Agrees, body_fits, body_agrees, act_agrees}
@@ -61,10 +61,6 @@ module _ (S : Scope) (c : Cell) where
       or_from _ _ (other_cell (cell_of S e.head.variable) c variable)
       ((λ i. written_by (undefined_by S e.behind_bounds e.head.private ++ undefined_all S (none i)) c) ∙ ap (λ (ts : List Touch). written_by ts c) (append-nil (undefined_by S e.behind_bounds e.head.private))
       ∙ private_unwritten e.behind_bounds e.head.private avoid)
-
--- the body of a DO with the element at its variable in the place of a scalar
-abbrev pub body_with : List ℕ → List ℕ → Head → StmtTrees → StmtTrees
-body_with x array h body = statements_substituted x (element_at array h.variable) body
 
 module _ (p : Setting) (h : Head) (body : StmtTrees) (l : ℕ) (S : Scope) (x array : List ℕ) where
   abbrev pub at : Place

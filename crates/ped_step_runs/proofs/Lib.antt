@@ -58,3 +58,4 @@ pub mod ExpandedPlacesParts
 pub mod ExpandedPlacesStand
 pub mod ExpandedPlacesKept
 pub mod ExpandedPlacesWhole
+pub mod ExpandingKeeps

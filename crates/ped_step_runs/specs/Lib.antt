@@ -5,3 +5,4 @@ pub mod Meaning
 pub mod Privatising
 pub mod Substituting
 pub mod Renumbering
+pub mod Expanding

@@ -10,7 +10,7 @@ mod pasting;
 
 pub use bounds::own_bounds;
 pub use exchanging::cells_exchanged;
-pub use meaning::{keeping, privatising_keeps_meaning};
+pub use meaning::{expanding_keeps_meaning, keeping, privatising_keeps_meaning};
 pub use pasting::{
     executions_enter, executions_exchanged, executions_leave, executions_stand, program_exchanged,
 };

@@ -1,6 +1,6 @@
 //! The meaning of programs, and steps that keep it.
 
-ghost use Rattle.std.specs.Prelude.{◌≡◌, ℕ, List, [], ◌∷◌, ◌++◌, false, true};
+ghost use Rattle.std.specs.Prelude.{◌≡◌, ℕ, ℤ, List, Bool, [], ◌∷◌, ◌++◌, false, true};
 ghost use Rattle.ped_base.specs.Lists.{is_among};
 ghost use Rattle.ped_tree.specs.Tree.{Head, StmtTree, StmtTrees, Do, ProgramTree};
 ghost use Rattle.ped_symbols.specs.NameRefusals.{IsValid};
@@ -11,6 +11,7 @@ ghost use Rattle.ped_steps.specs.Replacing.{alone, program_with};
 ghost use Rattle.ped_step_runs.specs.Meaning.{Keeps};
 ghost use Rattle.ped_step_runs.specs.Pasting.{is_in_parallel};
 ghost use Rattle.ped_step_runs.specs.Privatising.{privately};
+ghost use Rattle.ped_step_runs.specs.Expanding.{new_statements, last_value, expanded_by, MayExpand};
 
 /// A program keeps its own meaning, and what keeps the meaning of a program that keeps that of another keeps that one's.
 pub fn keeping()
@@ -24,4 +25,12 @@ pub fn keeping()
 pub fn privatising_keeps_meaning()
     ensures { (t : ProgramTree) (l : ℕ) (loop : LoopOf t l) (x : List ℕ) (by : StmtTree → StmtTrees) → IsValid t → loop.head.parallel ≡ false → is_in_parallel t l ≡ false → is_among x loop.head.private ≡ false → is_scalar (kind_in t) x ≡ true → ((n : ℕ) → IsExposed t l x n → ⊥) → (IsLiveAfter t l x → ⊥) → by (Do loop.head loop.body) ≡ alone (Do (privately x loop.head) loop.body)
         → Keeps t (program_with by l t) }
+{}
+
+/// An array in the place of a scalar in a DO, with an element for each value of the DO's variable: where the array may
+/// come and the new program is valid, the program keeps its meaning (Allen and Kennedy, section 5.3). Where a PARALLEL DO
+/// is round the DO, the scalar mustn't be the variable of another DO in it: that one's iterations would have copies of it.
+pub fn expanding_keeps_meaning()
+    ensures { (t : ProgramTree) (l : ℕ) (loop : LoopOf t l) (x array : List ℕ) (live : Bool) (m1 m2 m3 : ℤ) (by : StmtTree → StmtTrees) → IsValid t → MayExpand t l loop x array live m1 m2 m3 → by (Do loop.head loop.body) ≡ new_statements x array live (last_value m1 m2 m3) loop.head loop.body → IsValid (expanded_by t l by array m1 m2 m3)
+        → Keeps t (expanded_by t l by array m1 m2 m3) }
 {}

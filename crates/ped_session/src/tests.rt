@@ -49,6 +49,7 @@ nothing
 delete 3 3
 run
 races
+privatise 1 A
 ";
 
 const ANSWERS: &str = "source 7
@@ -101,6 +102,7 @@ no race
 27: ok
 ended
 no race
+30: refused rule 13 NotScalar at 1
 ";
 
 /// What a session holds.

@@ -1,0 +1,15 @@
+      PROGRAM MIRROR
+C     EACH ROW IS MIRRORED; KEEP HOLDS A POINT WHILE ITS PLACE IS TAKEN.
+      PARAMETER (M=2,N=4)
+      INTEGER IP(M,N)
+      SAVE IP
+      DO 10 I=1,M
+      DO 10 J=1,N
+   10 IP(I,J)=10*I+J
+      DO 20 I=1,M
+      DO 20 J=1,N/2
+      KEEP=IP(I,J)
+      IP(I,J)=IP(I,N+1-J)
+   20 IP(I,N+1-J)=KEEP
+      PRINT *,'LAST',KEEP
+      END

@@ -1,2 +1,7 @@
 pub mod FlowAnswers
+pub mod LostAnswers
 pub mod FirstAgainstPrivatising
+pub mod FirstAgainstExpanding
+pub mod FreshNames
+pub mod ExpandedPrograms
+pub mod Steps

@@ -4,8 +4,14 @@ ghost use Rattle.std.specs.Prelude.{◌≡◌, ℕ, List, Option};
 ghost use Rattle.ped_tree.specs.Tree.{ProgramTree};
 ghost use Rattle.ped_steps.specs.Causes.{Cause, IsFirstCause, none_forbids};
 ghost use Rattle.ped_scalar.specs.Privatising.{StandsAgainstPrivatising};
+ghost use Rattle.ped_scalar.specs.Expanding.{StandsAgainstExpanding};
 
 /// Against `privatise` there is at most one first cause, and none where there is no cause.
 pub fn one_cause_against_privatising()
     ensures { (t : ProgramTree) (s : ℕ) (x : List ℕ) (c d : Option Cause) → IsFirstCause t (StandsAgainstPrivatising t s x) none_forbids c → IsFirstCause t (StandsAgainstPrivatising t s x) none_forbids d → c ≡ d }
+{}
+
+/// Against `expand` there is at most one first cause, and none where there is no cause.
+pub fn one_cause_against_expanding()
+    ensures { (t : ProgramTree) (s : ℕ) (x : List ℕ) (c d : Option Cause) → IsFirstCause t (StandsAgainstExpanding t s x) none_forbids c → IsFirstCause t (StandsAgainstExpanding t s x) none_forbids d → c ≡ d }
 {}

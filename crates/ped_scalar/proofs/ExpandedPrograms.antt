@@ -20,7 +20,7 @@ module _ (t : ProgramTree) (n : ℕ) (x array : List ℕ) (live : Bool) (v : Spa
       → all_replaced (λ s. stmt_trees new) n t.body 1 ≡ all_replaced (with_elements x array live v.last) n t.body 1
   replaced_body new is made =
       ap (λ (u : ProgramTree). u.body)
-        (one_program (λ (s : StmtTree). stmt_trees new) (with_elements x array live v.last) n t (λ g e. made ∙ ap (with_elements x array live v.last) (one_found (Do h body) g (sym is ∙ e))))
+      (one_program (λ (s : StmtTree). stmt_trees new) (with_elements x array live v.last) n t (λ g e. made ∙ ap (with_elements x array live v.last) (one_found (Do h body) g (sym is ∙ e))))
 
   -- the program with these declarations and this body
   pub expanded_is : (decls : List DeclTree) (inner : StmtTrees) → decls ≡ t.decls ++ declaration array v ∷ [] → inner ≡ all_replaced (with_elements x array live v.last) n t.body 1

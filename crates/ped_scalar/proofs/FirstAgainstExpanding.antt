@@ -52,8 +52,8 @@ module _ (t : ProgramTree) (s : ℕ) (x : List ℕ) where
     below_range fails =
         let stands = StandsAgainstExpanding t s x in
         none_up_to stands StepShape (none_up_to stands BoundsShape (none_up_to stands BoundNotPlain (none_up_to stands IndexEscapes (none_up_to stands HasPrivate (none_up_to stands ParallelState below_parallel
-          (λ m p. true_not_false _ p.1 (ap (λ (g : Head). g.parallel) (same p.0) ∙ fails)))
-          (λ m p. p)) (λ m p. p)) (λ m p. p)) (λ m p. p)) (λ m p. p)
+        (λ m p. true_not_false _ p.1 (ap (λ (g : Head). g.parallel) (same p.0) ∙ fails)))
+        (λ m p. p)) (λ m p. p)) (λ m p. p)) (λ m p. p)) (λ m p. p)
 
     pub range : NoneBelow (StandsAgainstExpanding t s x) 9 → (v : Span) → span_of (table_of t).constants h ≡ Some v → spans_far v ≡ true → IsFirstRule (StandsAgainstExpanding t s x) Range s
     range below v found far = first_stands (StandsAgainstExpanding t s x) Range s (record { head = h; body = body; is = is }, v, found, far, refl) below
@@ -62,7 +62,7 @@ module _ (t : ProgramTree) (s : ℕ) (x : List ℕ) where
     below_exposed below near =
         let stands = StandsAgainstExpanding t s x in
         none_up_to stands OneBlock (none_up_to stands NoNeighbour (none_up_to stands Range below
-          (λ m p. near p.1 (ap (λ (g : Head). span_of (table_of t).constants g) (sym (same p.0)) ∙ p.2) p.3)) (λ m p. p)) (λ m p. p)
+        (λ m p. near p.1 (ap (λ (g : Head). span_of (table_of t).constants g) (sym (same p.0)) ∙ p.2) p.3)) (λ m p. p)) (λ m p. p)
 
     pub exposed : (n : ℕ) → NoneBelow (StandsAgainstExpanding t s x) 12 → IsScalarLostBy t s x n → IsFirstRule (StandsAgainstExpanding t s x) ExposedOrLive n
     exposed n below e = first_stands (StandsAgainstExpanding t s x) ExposedOrLive n (record { head = h; body = body; is = is }, e) below
@@ -76,7 +76,7 @@ module _ (t : ProgramTree) (s : ℕ) (x : List ℕ) where
     pub below_constant : NoneBelow (StandsAgainstExpanding t s x) 13 → is_unfit t s h body x ≡ false → NoneBelow (StandsAgainstExpanding t s x) 14
     below_constant below fails =
         none_up_to (StandsAgainstExpanding t s x) NotScalar below
-          (λ m p. true_not_false _ p.1 ((λ i. is_unfit t s (same p.0 i) (sym (same_body t s h p.0.head body p.0.body is p.0.is) i) x) ∙ fails))
+        (λ m p. true_not_false _ p.1 ((λ i. is_unfit t s (same p.0 i) (sym (same_body t s h p.0.head body p.0.body is p.0.is) i) x) ∙ fails))
 
     pub constant : NoneBelow (StandsAgainstExpanding t s x) 14 → span_of (table_of t).constants h ≡ None → IsFirstRule (StandsAgainstExpanding t s x) NotConstant s
     constant below none = first_stands (StandsAgainstExpanding t s x) NotConstant s (record { head = h; body = body; is = is }, none, refl) below
@@ -84,7 +84,7 @@ module _ (t : ProgramTree) (s : ℕ) (x : List ℕ) where
     pub below_limit : NoneBelow (StandsAgainstExpanding t s x) 14 → (v : Span) → span_of (table_of t).constants h ≡ Some v → NoneBelow (StandsAgainstExpanding t s x) 15
     below_limit below v found =
         none_up_to (StandsAgainstExpanding t s x) NotConstant below
-          (λ m p. no_span v (sym found ∙ ap (λ (g : Head). span_of (table_of t).constants g) (sym (same p.0)) ∙ p.1))
+        (λ m p. no_span v (sym found ∙ ap (λ (g : Head). span_of (table_of t).constants g) (sym (same p.0)) ∙ p.1))
 
     pub no_name : NoneBelow (StandsAgainstExpanding t s x) 15 → fresh_name t ≡ None → IsFirstRule (StandsAgainstExpanding t s x) Limit s
     no_name below none = first_stands (StandsAgainstExpanding t s x) Limit s (record { head = h; body = body; is = is }, inl none, refl) below
@@ -119,13 +119,13 @@ module _ (t : ProgramTree) (s : ℕ) (x : List ℕ) where
     private below new made valid scalar holds =
         let stands = StandsAgainstExpanding t s x in
         first_stands stands AlreadyPrivate s (record { head = h; body = body; is = is }, scalar, holds, refl)
-          (none_up_to stands BadFactor (none_up_to stands Limit below (no_limit new made valid)) (λ m p. p))
+        (none_up_to stands BadFactor (none_up_to stands Limit below (no_limit new made valid)) (λ m p. p))
 
     pub nothing : NoneBelow (StandsAgainstExpanding t s x) 15 → (new : ProgramTree) → IsExpanded t s x h new → IsValid new → is_private_near t s h body x ≡ false → NoRule (StandsAgainstExpanding t s x)
     nothing below new made valid fails =
         let stands = StandsAgainstExpanding t s x in
         none_stands stands (none_up_to stands NothingToReject (none_up_to stands AlreadyPrivate (none_up_to stands BadFactor
-          (none_up_to stands Limit below (no_limit new made valid)) (λ m p. p)) (λ m p. true_not_false _ p.2 (same_private p.0 ∙ fails))) (λ m p. p))
+        (none_up_to stands Limit below (no_limit new made valid)) (λ m p. p)) (λ m p. true_not_false _ p.2 (same_private p.0 ∙ fails))) (λ m p. p))
 
   -- a step that is refused by its first rule
   pub refused_by : (r : Rule) (n : ℕ) (refused : Refused) → refused ≡ variant.Rule r n → IsFirstRule (StandsAgainstExpanding t s x) r n → AnswersExpanding t s x (Err refused)

@@ -1,9 +1,10 @@
 -- Increments of DO loops, and the values of their variables.
-use Rattle.std.proofs.Common.{◌≡◌, ℕ, ◌+◌, ◌-◌, ◌≤◌, ◌<◌, ◌==◌, ℤ, pos, ◌-ℤ◌, int_lt, unsigned_abs, int_rem, neg_ℤ, negsuc, ◌<ℤ◌, ◌⊎◌, inl, inr, Bool, true, false, not, ◌&&◌, ◌||◌, IsTrue, List, [], ◌∷◌, ◌++◌, Option, Some, None, refl, sym, ap, ap₂, ◌∙◌, subst, arith, eqb-true, if◌then◌else◌}
+use Rattle.std.proofs.Common.{◌≡◌, ℕ, ◌+◌, ◌-◌, ◌≤◌, ◌<◌, ◌==◌, ℤ, pos, ◌-ℤ◌, int_lt, unsigned_abs, int_rem, neg_ℤ, negsuc, ◌<ℤ◌, ◌≤ℤ◌, FitsSigned, ◌⊎◌, inl, inr, Bool, true, false, not, ◌&&◌, ◌||◌, IsTrue, List, [], ◌∷◌, ◌++◌, Option, Some, None, refl, sym, ap, ap₂, ◌∙◌, subst, arith, eqb-true, if◌then◌else◌}
 use Rattle.std.specs.List.{list_all}
 use Rattle.std.specs.Ordering.{int_eq}
 use Rattle.std.proofs.lemmas.Bool.{and_parts}
-use Rattle.std.proofs.lemmas.Int.{ints, rem_below}
+use Rattle.std.specs.Int.{w64, w128}
+use Rattle.std.proofs.lemmas.Int.{ints, rem_below, fits_signed_from_abs}
 use Rattle.std.proofs.lemmas.List.Folds.{list_all-append}
 use Rattle.ped_views.proofs.Products.{abs_some, linear}
 use Rattle.ped_tree.specs.Tree.{Head, StmtTree, StmtTrees, Assign, If, Do, Print, Read, Stop, Comment, no_stmts, more_stmts, ProgramTree}
@@ -69,7 +70,7 @@ right_step t l h body v is = by (l == 0) refl
     by true z = absurd (nothing_found (Do h body) (sym (ap (λ (b : Bool). if b then None else at_place (all_numbered t.body) (l - 1)) z) ∙ is))
     by false z =
         at_found (table_of t).constants (all_numbered t.body) (l - 1) (Do h body) (all_own_steps (table_of t).constants t.body ∙ (right_program t v).steps)
-          (sym (ap (λ (b : Bool). if b then None else at_place (all_numbered t.body) (l - 1)) z) ∙ is)
+        (sym (ap (λ (b : Bool). if b then None else at_place (all_numbered t.body) (l - 1)) z) ∙ is)
 
 far_by : (a b : Bool) → b ≡ true → (a || b) ≡ true
 far_by true b e = refl
@@ -104,6 +105,32 @@ far_last m1 m2 m3 far step = by far
     by : (pos 8589934592 <ℤ m2) ⊎ (m2 <ℤ neg_ℤ (pos 8589934592)) → is_far (last_value m1 m2 m3) ≡ true
     by (inl a) = ap (λ (b : Bool). b || int_lt (last_value m1 m2 m3) (neg_ℤ (pos 2147483647))) (lt_is (pos 2147483647) (last_value m1 m2 m3) (above m2 (int_rem (m2 -ℤ m1) m3) a small))
     by (inr a) = far_by (int_lt (pos 2147483647) (last_value m1 m2 m3)) (int_lt (last_value m1 m2 m3) (neg_ℤ (pos 2147483647))) (lt_is (last_value m1 m2 m3) (neg_ℤ (pos 2147483647)) (under m2 (int_rem (m2 -ℤ m1) m3) a small))
+
+-- a number that passes the test is less
+pub less_is : (a b : ℤ) → int_lt a b ≡ true → a <ℤ b
+less_is a b h = omega (arith, linear, h)
+
+-- a number that isn't far is small
+pub near_is : (n : ℤ) → is_far n ≡ false → unsigned_abs n ≤ 2147483647
+near_is n h = grind (arith, linear, h)
+
+-- and has 64 bits
+pub near_fits : (n : ℤ) → unsigned_abs n ≤ 2147483647 → FitsSigned w64 n
+near_fits n h = fits_signed_from_abs w64 n (omega (arith, h))
+
+-- what is left of the way to a limit, and the limit less it, have 128 bits
+pub left_fits : (last left step : ℤ) → neg_ℤ (pos 8589934592) ≤ℤ last → last ≤ℤ pos 8589934592 → unsigned_abs left < unsigned_abs step → IsTrue (is_step (Some step)) → FitsSigned w128 left × FitsSigned w128 (last -ℤ left)
+left_fits last left step above below less right =
+    let parts = step_parts step right in
+    let small : unsigned_abs left < 2147483648 = omega (arith, less, parts.1) in
+    (fits_signed_from_abs w128 left (omega (arith, small)), within last left above below small)
+  where
+    within : (m r : ℤ) → neg_ℤ (pos 8589934592) ≤ℤ m → m ≤ℤ pos 8589934592 → unsigned_abs r < 2147483648 → FitsSigned w128 (m -ℤ r)
+    within m r a b h = omega (arith, linear, a, b, h)
+
+-- the way to a limit has 128 bits
+pub way_fits : (first last : ℤ) → is_far first ≡ false → neg_ℤ (pos 8589934592) ≤ℤ last → last ≤ℤ pos 8589934592 → FitsSigned w128 (last -ℤ first)
+way_fits first last near above below = grind (arith, linear, near, above, below)
 
 module _ (m1 m2 m3 : ℤ) where
   -- a DO with iterations that has a far value

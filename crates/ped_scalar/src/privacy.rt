@@ -56,9 +56,7 @@ fn is_private_within(name: &Name, statement: &Stmt) -> bool
             then_part,
             else_part,
         } => is_private_among(name, then_part) || is_private_among(name, else_part),
-        Stmt::Do(d) => {
-            is_among(name, d.private.as_slice()) || is_private_among(name, &d.body)
-        }
+        Stmt::Do(d) => { is_among(name, d.private.as_slice()) || is_private_among(name, &d.body) }
         Stmt::Assign { left: _, right: _ }
         | Stmt::Print(_)
         | Stmt::Read(_)

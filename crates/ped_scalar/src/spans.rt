@@ -57,7 +57,10 @@ fn course_by(first: i128, last: i128, step: i128) -> Course
     if is_far(first) {
         return Course::Far;
     }
-    if last > 8589934592 || last < -8589934592 {
+    if last > 8589934592 {
+        return Course::Far;
+    }
+    if last < -8589934592 {
         return Course::Far;
     }
     let last = last_value(first, last, step);

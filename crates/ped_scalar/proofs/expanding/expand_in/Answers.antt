@@ -40,7 +40,7 @@ returns-in-Far g c =
     let consts = c.consts.ensures ∙ ap (λ (table : Table). table.constants) c.requires.scene.symbols in
     let course = subst (λ (cs : List (List ℕ × ℤ)). IsCourse (span_of cs h) Far) consts c.in-Far.ensures in
     first.refused_by t s x Range s c.against-in-Far.result c.against-in-Far.ensures
-      (first.range t s x h body c.requires.is (first.below_range t s x h body c.requires.is c.if-d.false) course.0 course.1 course.2)
+    (first.range t s x h body c.requires.is (first.below_range t s x h body c.requires.is c.if-d.false) course.0 course.1 course.2)
 
 pub expand_known-requires : goal.expand_known-requires
 expand_known-requires g c =

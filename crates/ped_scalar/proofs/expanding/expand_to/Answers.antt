@@ -44,7 +44,7 @@ returns-then-is_private_near g c =
     subst (λ (o : Option Change). MatchOption o (IsValid u → ⊥) (IsChange u c.in_ok-keep.keep)) c.in-Some.is c.in_ok-change.ensures in
     let test = c.is_private_near.ensures ∙ ap (λ (nest : List Loop). is_among x (private_in (Do h body)) || list_any (λ (l : Loop). is_among x l.head.private) nest) c.requires.round in
     first.refused_by t s x AlreadyPrivate s c.against.result c.against.ensures
-      (first.private t s x h body c.requires.is c.requires.below u made found.valid c.requires.scalar (sym test ∙ c.if-is_private_near.true))
+    (first.private t s x h body c.requires.is c.requires.below u made found.valid c.requires.scalar (sym test ∙ c.if-is_private_near.true))
 
 pub returns-in-Some : goal.returns-in-Some
 returns-in-Some g c =
@@ -62,7 +62,7 @@ returns-in-Some g c =
     let test = c.is_private_near.ensures ∙ ap (λ (nest : List Loop). is_among x (private_in (Do h body)) || list_any (λ (l : Loop). is_among x l.head.private) nest) c.requires.round in
     let change = subst (λ (k : List (ℕ × ℕ)). IsChange u k c.in-Some.change) c.in_ok-keep.ensures found in
     first.accepted_with t s x (record { head = h; body = body; is = c.requires.is }) u made c.in-Some.change
-      (first.nothing t s x h body c.requires.is c.requires.below u made found.valid (sym test ∙ c.if-is_private_near.false)) change
+    (first.nothing t s x h body c.requires.is c.requires.below u made found.valid (sym test ∙ c.if-is_private_near.false)) change
 
 pub returns-in-None : goal.returns-in-None
 returns-in-None g c =

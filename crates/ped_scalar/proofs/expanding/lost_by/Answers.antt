@@ -34,7 +34,7 @@ returns-then-assigned_through g c =
     let x = c.args.name.now in
     let s = c.args.number in
     kept_answer t s x (subst (λ (u : ProgramTree). IsFirst (IsExposed u s x) None) c.requires.flow c.in-None.ensures)
-      (subst (λ (u : ProgramTree). IsAssignedThrough u s x) c.requires.flow (c.assigned_through.ensures.0 c.if-assigned_through.true))
+    (subst (λ (u : ProgramTree). IsAssignedThrough u s x) c.requires.flow (c.assigned_through.ensures.0 c.if-assigned_through.true))
 
 pub live_by-requires : goal.live_by-requires
 live_by-requires g c = record {
@@ -47,6 +47,6 @@ returns-in-None g c =
     let x = c.args.name.now in
     let s = c.args.number in
     lost_answer t s x c.live_by.result (sym (c.is_scalar.ensures t c.requires.symbols) ∙ c.if-not-is_scalar.false)
-      (subst (λ (u : ProgramTree). IsFirst (IsExposed u s x) None) c.requires.flow c.in-None.ensures)
-      (λ assigned. true_not_false c.assigned_through.result (c.assigned_through.ensures.1 (subst (λ (u : ProgramTree). IsAssignedThrough u s x) (sym c.requires.flow) assigned)) c.if-assigned_through.false)
-      (subst (λ (u : ProgramTree). MatchOption c.live_by.result ((n : ℕ) → IsLiveBy u s x n → ⊥) (IsLiveBy u s x)) c.requires.flow c.live_by.ensures)
+    (subst (λ (u : ProgramTree). IsFirst (IsExposed u s x) None) c.requires.flow c.in-None.ensures)
+    (λ assigned. true_not_false c.assigned_through.result (c.assigned_through.ensures.1 (subst (λ (u : ProgramTree). IsAssignedThrough u s x) (sym c.requires.flow) assigned)) c.if-assigned_through.false)
+    (subst (λ (u : ProgramTree). MatchOption c.live_by.result ((n : ℕ) → IsLiveBy u s x n → ⊥) (IsLiveBy u s x)) c.requires.flow c.live_by.ensures)

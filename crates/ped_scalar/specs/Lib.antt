@@ -1,2 +1,5 @@
 pub mod Scalars
 pub mod Privatising
+pub mod Expanding
+pub mod CodeSpans
+pub mod CodeElements

@@ -6,6 +6,7 @@ ghost use Rattle.ped_symbols.specs.NameRefusals.{IsValid};
 ghost use Rattle.ped_steps.specs.Causes.{Cause, IsFirstCause, none_forbids};
 ghost use Rattle.ped_step_runs.specs.Meaning.{Keeps};
 ghost use Rattle.ped_scalar.specs.Privatising.{privatised, StandsAgainstPrivatising};
+ghost use Rattle.ped_scalar.specs.Expanding.{StandsAgainstExpanding};
 
 /// Against `privatise` there is at most one first cause, and none where there is no cause.
 pub fn one_cause_against_privatising()
@@ -16,4 +17,9 @@ pub fn one_cause_against_privatising()
 /// that runs without a fault and without a race it has the same outcome, and no race (Allen and Kennedy, section 5.2).
 pub fn privatising_keeps()
     ensures { (t : ProgramTree) (s : ℕ) (x : List ℕ) → IsValid t → IsFirstCause t (StandsAgainstPrivatising t s x) none_forbids None → Keeps t (privatised t s x) }
+{}
+
+/// Against `expand` there is at most one first cause, and none where there is no cause.
+pub fn one_cause_against_expanding()
+    ensures { (t : ProgramTree) (s : ℕ) (x : List ℕ) (c d : Option Cause) → IsFirstCause t (StandsAgainstExpanding t s x) none_forbids c → IsFirstCause t (StandsAgainstExpanding t s x) none_forbids d → c ≡ d }
 {}

@@ -1,12 +1,19 @@
-//! Steps on scalars: `privatise` gives each iteration of a DO its own copy of a scalar. Each step answers the new program, or
-//! the first cause against it. The definitions stand in `specs/`.
+//! Steps on scalars: `privatise` gives each iteration of a DO its own copy of a scalar, and `expand` its own element of an
+//! array. Each step answers the new program, or the first cause against it. The definitions stand in `specs/`.
 #![tactic(auto)]
 
+mod elements;
+mod expanding;
+mod fresh;
 mod indices;
+mod keeping;
 mod laws;
+mod privacy;
 mod privatising;
 mod referring;
 mod scalars;
+mod spans;
 
-pub use laws::{one_cause_against_privatising, privatising_keeps};
+pub use expanding::expand;
+pub use laws::{one_cause_against_expanding, one_cause_against_privatising, privatising_keeps};
 pub use privatising::privatise;

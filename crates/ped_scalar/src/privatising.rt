@@ -9,12 +9,11 @@ ghost use Rattle.ped_flow.specs.Questions.{IsLoop};
 ghost use Rattle.ped_steps.specs.Replacing as Replacing;
 ghost use Rattle.ped_steps.specs.Causes.{none_forbids};
 ghost use Rattle.ped_steps.specs.Scenes.{IsSceneOf};
-ghost use Rattle.ped_steps.specs.declared.causes.Refused.TheVariants as refused;
 ghost use Rattle.ped_steps.specs.Changes.{IsAnswer};
 ghost use Rattle.ped_scalar.specs.Privatising as Spec;
 
 use crate::indices::is_some_parallel;
-use crate::scalars::{is_scalar, is_unfit, live_by};
+use crate::scalars::{against, is_scalar, is_unfit, live_by};
 use ped_base::{Name, NoMemory};
 use ped_refs::Loop;
 use ped_steps::{
@@ -49,13 +48,6 @@ pub fn privatise<L: Ledger>(
             return Ok(Err(against(Rule::NoLoop, number)));
         }
     }
-}
-
-/// A rule that stands, with the statement that it names.
-fn against(rule: Rule, statement: u32) -> Refused
-    ensures { result ≡ refused.Rule rule statement }
-{
-    Refused::Rule { rule, statement }
 }
 
 /// The same, where the statement is this DO.

@@ -11,6 +11,7 @@ ghost use Rattle.ped_uses.specs.RightUses as uses;
 ghost use Rattle.ped_flow.specs.PlainBounds.{nest_round};
 ghost use Rattle.ped_flow.specs.Questions.{IsLoop, IsFirst, IsExposed};
 ghost use Rattle.ped_steps.specs.Scenes.{IsSceneOf, IsFlowOf};
+ghost use Rattle.ped_steps.specs.declared.causes.Refused.TheVariants as refused;
 ghost use Rattle.ped_scalar.specs.Scalars as Spec;
 
 use crate::indices::{is_index, is_index_in};
@@ -18,11 +19,18 @@ use crate::referring::is_referred;
 use ped_base::{Name, NoMemory};
 use ped_flow::{Flow, Reader};
 use ped_refs::Loop;
-use ped_steps::Scene;
+use ped_steps::{Refused, Rule, Scene};
 use ped_symbols::{Kind, Symbols};
 use ped_tree::Do;
 use std::alloc::Global;
 use std::sync::ledger::Ledger;
+
+/// A rule that stands, with the statement that it names.
+pub(crate) fn against(rule: Rule, statement: u32) -> Refused
+    ensures { result ≡ refused.Rule rule statement }
+{
+    Refused::Rule { rule, statement }
+}
 
 /// Whether the name is that of a scalar variable of the program.
 pub(crate) fn is_scalar(symbols: &Symbols, name: &Name) -> bool

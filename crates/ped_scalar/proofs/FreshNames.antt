@@ -1,0 +1,33 @@
+-- Names that don't occur in a program.
+use Rattle.std.proofs.Common.{◌≡◌, ℕ, suc, ◌+◌, ◌-◌, ◌<◌, Bool, true, false, ◌||◌, List, ◌∷◌, ◌++◌, Option, Some, None, is_some, refl, sym, ap, ◌∙◌, arith, if◌then◌else◌}
+use Rattle.std.specs.Prelude.{codes}
+use Rattle.std.specs.Fmt.{decimal}
+use Rattle.ped_base.specs.Lists.{is_among}
+use Rattle.ped_tree.specs.Tree.{ProgramTree}
+use Rattle.ped_symbols.specs.declared.symbols.Kind.{Kind}
+use Rattle.ped_symbols.specs.Kinds.{kind_of, kind_in, names_of}
+use Rattle.ped_scalar.specs.Expanding.{occurs, first_free, numbered_names, most_numbered, fresh_name}
+
+kind_there : (b : Bool) (k : Kind) → is_some (if b then Some k else None) ≡ b
+kind_there true k = refl
+kind_there false k = refl
+
+-- a name has a kind where it occurs
+pub kind_occurs : (t : ProgramTree) (x : List ℕ) → is_some (kind_in t x) ≡ is_among x (names_of t)
+kind_occurs t x = kind_there (is_among x (names_of t)) (kind_of t x)
+
+-- the numbers end at 9999
+pub most_is : most_numbered ≡ 9999
+unfolding most_numbered
+most_is = refl
+
+-- the next name, or those behind it
+pub next_free : (t : ProgramTree) (n : ℕ) → n < most_numbered + 1
+    → first_free t (numbered_names n (most_numbered + 1 - n)) ≡ (if occurs t (codes "KX" ++ decimal n) then first_free t (numbered_names (n + 1) (most_numbered + 1 - (n + 1))) else Some (codes "KX" ++ decimal n))
+next_free t n h =
+    let e : most_numbered + 1 - n ≡ suc (most_numbered + 1 - (n + 1)) = omega (arith, h) in
+    ap (λ (count : ℕ). first_free t (numbered_names n count)) e
+
+-- no name is left at the end
+pub none_free : (t : ProgramTree) (n : ℕ) → most_numbered + 1 - n ≡ 0 → first_free t (numbered_names n (most_numbered + 1 - n)) ≡ None
+none_free t n h = ap (λ (count : ℕ). first_free t (numbered_names n count)) h

@@ -1,0 +1,76 @@
+use Rattle.std.proofs.Common.{◌≡◌, ℕ, ℤ, List, true, false, Option, Some, None, IsTrue, sym, ap, ◌∙◌, subst}
+use Rattle.ped_tree.specs.Views.{program_tree, stmt_trees}
+use Rattle.ped_refs.specs.Loops.{head_of}
+use Rattle.ped_symbols.specs.Kinds.{Table, table_of}
+use Rattle.ped_uses.specs.RightLoops.{step_is_right}
+use Rattle.ped_steps.specs.declared.rules.Rule.TheVariants.{ParallelState, Range}
+use Rattle.ped_scalar.specs.Expanding.{Span, span_of, spans_far}
+use Rattle.ped_scalar.specs.CodeSpans.{IsCourse, IsKnown, span_in}
+use Rattle.ped_scalar.specs.declared.spans.Course.TheVariants.{Far, Near, Unknown}
+use Rattle.ped_scalar.proofs.Steps.{right_step, near_spans, near_not_far}
+use Rattle.ped_scalar.proofs.FirstAgainstExpanding as first
+use Rattle.ped_scalar.proofs.expanding.expand_in.Goals as goal
+
+pub returns-then-d : goal.returns-then-d
+returns-then-d g c =
+    let t = program_tree c.args.scene.now.tree.now in
+    let s = c.args.number in
+    let x = c.args.name.now in
+    let h = head_of c.args.d.now in
+    let body = stmt_trees c.args.d.now.body.items in
+    first.refused_by t s x ParallelState s c.against.result c.against.ensures (first.parallel t s x h body c.requires.is c.if-d.true)
+
+pub course_of-requires : goal.course_of-requires
+course_of-requires g c =
+    let t = program_tree c.args.scene.now.tree.now in
+    let s = c.args.number in
+    let x = c.args.name.now in
+    let h = head_of c.args.d.now in
+    let body = stmt_trees c.args.d.now.body.items in
+    let consts = c.consts.ensures ∙ ap (λ (table : Table). table.constants) c.requires.scene.symbols in
+    subst (λ (cs : List (List ℕ × ℤ)). IsTrue (step_is_right cs h.step)) (sym consts) (right_step t s h body c.requires.scene.valid c.requires.is)
+
+pub returns-in-Far : goal.returns-in-Far
+returns-in-Far g c =
+    let t = program_tree c.args.scene.now.tree.now in
+    let s = c.args.number in
+    let x = c.args.name.now in
+    let h = head_of c.args.d.now in
+    let body = stmt_trees c.args.d.now.body.items in
+    let consts = c.consts.ensures ∙ ap (λ (table : Table). table.constants) c.requires.scene.symbols in
+    let course = subst (λ (cs : List (List ℕ × ℤ)). IsCourse (span_of cs h) Far) consts c.in-Far.ensures in
+    first.refused_by t s x Range s c.against-in-Far.result c.against-in-Far.ensures
+    (first.range t s x h body c.requires.is (first.below_range t s x h body c.requires.is c.if-d.false) course.0 course.1 course.2)
+
+pub expand_known-requires : goal.expand_known-requires
+expand_known-requires g c =
+    let t = program_tree c.args.scene.now.tree.now in
+    let s = c.args.number in
+    let x = c.args.name.now in
+    let h = head_of c.args.d.now in
+    let body = stmt_trees c.args.d.now.body.items in
+    let consts = c.consts.ensures ∙ ap (λ (table : Table). table.constants) c.requires.scene.symbols in
+    let course = subst (λ (cs : List (List ℕ × ℤ)). IsCourse (span_of cs h) (Near c.in-Near.span)) consts c.in-Near.ensures in
+    record {
+      scene = c.requires.scene;
+      is = c.requires.is;
+      span = course;
+      below = first.below_exposed t s x h body c.requires.is (first.below_range t s x h body c.requires.is c.if-d.false)
+          (λ v found far. near_spans (span_of (table_of t).constants h) c.in-Near.span v course found far);
+    }
+
+pub expand_known-requires-in-Unknown : goal.expand_known-requires-in-Unknown
+expand_known-requires-in-Unknown g c =
+    let t = program_tree c.args.scene.now.tree.now in
+    let s = c.args.number in
+    let x = c.args.name.now in
+    let h = head_of c.args.d.now in
+    let body = stmt_trees c.args.d.now.body.items in
+    let consts = c.consts.ensures ∙ ap (λ (table : Table). table.constants) c.requires.scene.symbols in
+    let course = subst (λ (cs : List (List ℕ × ℤ)). IsCourse (span_of cs h) Unknown) consts c.in-Unknown.ensures in
+    record {
+      scene = c.requires.scene;
+      is = c.requires.is;
+      span = course;
+      below = first.below_exposed t s x h body c.requires.is (first.below_range t s x h body c.requires.is c.if-d.false) (λ v found far. first.no_span v (sym found ∙ course));
+    }

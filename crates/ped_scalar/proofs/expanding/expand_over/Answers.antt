@@ -1,0 +1,35 @@
+use Rattle.std.proofs.Common.{◌≡◌, Some, None, sym, ap, ◌∙◌, subst}
+use Rattle.ped_tree.specs.Views.{program_tree, stmt_trees}
+use Rattle.ped_refs.specs.Loops.{head_of}
+use Rattle.ped_steps.specs.declared.rules.Rule.TheVariants.{Limit}
+use Rattle.ped_scalar.proofs.FirstAgainstExpanding as first
+use Rattle.ped_scalar.proofs.expanding.expand_over.Goals as goal
+
+pub fresh_name-requires : goal.fresh_name-requires
+fresh_name-requires g c = c.requires.scene.symbols
+
+pub returns-in-None : goal.returns-in-None
+returns-in-None g c =
+    let t = program_tree c.args.scene.now.tree.now in
+    let s = c.args.number in
+    let x = c.args.name.now in
+    let h = head_of c.args.d.now in
+    let body = stmt_trees c.args.d.now.body.items in
+    let none = sym c.in_ok-array.ensures ∙ c.in-None.is in
+    first.refused_by t s x Limit s c.against.result c.against.ensures (first.no_name t s x h body c.requires.is c.requires.below none)
+
+pub expand_to-requires : goal.expand_to-requires
+expand_to-requires g c =
+    let t = program_tree c.args.scene.now.tree.now in
+    let s = c.args.number in
+    let x = c.args.name.now in
+    let h = head_of c.args.d.now in
+    let body = stmt_trees c.args.d.now.body.items in
+    record {
+      scene = c.requires.scene;
+      is = c.requires.is;
+      round = c.requires.round;
+      elements = record { fresh = sym c.in_ok-array.ensures ∙ c.in-Some.is; known = c.requires.span; says = c.is_live.ensures };
+      scalar = c.requires.scalar;
+      below = c.requires.below;
+    }

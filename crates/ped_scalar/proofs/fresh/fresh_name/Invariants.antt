@@ -1,0 +1,10 @@
+use Rattle.std.proofs.Common.{◌≡◌, ◌-◌, ◌+◌, ◌≤◌}
+use Rattle.ped_tree.specs.Views.{program_tree}
+use Rattle.ped_scalar.specs.Expanding.{fresh_name, first_free, numbered_names, most_numbered}
+use Rattle.ped_scalar.proofs.fresh.fresh_name.Given as goal
+
+abbrev pub invariant-loop-n : goal.invariant-loop-n
+invariant-loop-n l = record {
+  free : first_free (program_tree l.program) (numbered_names l.n (most_numbered + 1 - l.n)) ≡ fresh_name (program_tree l.program);
+  within : l.n ≤ most_numbered + 1;
+}

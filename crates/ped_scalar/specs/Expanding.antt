@@ -1,0 +1,197 @@
+-- `expand`: a scalar becomes an array with an element for each value of a DO's variable. The new program, and the rules that stand against it (Allen and Kennedy, section 5.3; ParaScope).
+use Rattle.std.specs.Prelude.{◌≡◌, ◌⊎◌, ◌↔◌, ℕ, ◌+◌, ℤ, pos, neg_ℤ, ◌-ℤ◌, int_le, int_lt, int_rem, nat_lt, List, [], ◌∷◌, ◌++◌, map, codes, Bool, true, false, not, ◌&&◌, ◌||◌, IsTrue, Option, Some, None, Result, Ok, Err, if◌then◌else◌}
+use Rattle.std.specs.List.{list_any, flat_map, range_with_len}
+use Rattle.std.specs.Int.{int_min, int_max}
+use Rattle.std.specs.Fmt.{decimal}
+use Rattle.ped_base.specs.Lists.{is_same_text, is_among}
+use Rattle.ped_tree.specs.Tree.{ExprTree, Var, Element, no_exprs, more_exprs, Head, StmtTree, StmtTrees, Assign, If, Do, Print, Read, Stop, Comment, no_stmts, more_stmts, DeclTree, Program, Implicit, Integer, Dimension, Parameter, Save, Remark, ProgramTree}
+use Rattle.ped_tree.specs.Nests.{Loop}
+use Rattle.ped_tree.specs.Numbering.{statements_count}
+use Rattle.ped_constants.specs.ConstantExpressions.{constant_value}
+use Rattle.ped_symbols.specs.Kinds.{names_of, table_of}
+use Rattle.ped_symbols.specs.NameRefusals.{IsValid}
+use Rattle.ped_flow.specs.PlainBounds.{nest_round}
+use Rattle.ped_flow.specs.Questions.{LoopOf, IsLiveAfter, IsAssignedThrough}
+use Rattle.ped_sums.specs.Sums.{literal}
+use Rattle.ped_sums.specs.Substitution.{statements_substituted}
+use Rattle.ped_steps.specs.declared.rules.Rule.{Rule}
+use Rattle.ped_steps.specs.declared.rules.Rule.TheVariants.{NoLoop, NotPerfect, ParallelState, HasPrivate, IndexEscapes, BoundNotPlain, BoundsShape, StepShape, Range, NoNeighbour, OneBlock, ExposedOrLive, NotScalar, NotConstant, Limit, BadFactor, AlreadyPrivate, NothingToReject}
+use Rattle.ped_steps.specs.declared.causes.Refused.{Refused}
+use Rattle.ped_steps.specs.declared.changes.Change.{Change}
+use Rattle.ped_steps.specs.Causes.{Rules, IsFirstCause, none_forbids}
+use Rattle.ped_steps.specs.CodeCauses.{cause_of, IsShort}
+use Rattle.ped_steps.specs.Changes.{IsChange}
+use Rattle.ped_steps.specs.Replacing.{alone, followed, all_replaced}
+use Rattle.ped_scalar.specs.Scalars.{IsNoLoop, is_scalar, is_unfit, IsLiveBy, IsExposedBy, IsUnexposed}
+
+-- the named constants with their values
+abbrev pub Values : Type 0
+Values = List (List ℕ × ℤ)
+
+-- the values of a DO's variable in its first and in its last iteration
+pub record Span : Type 0 where
+  pub first : ℤ
+  pub last : ℤ
+
+-- from the first value in steps of the increment there is a value up to the limit (ANSI X3.9-1978, section 11.10.3)
+abbrev pub has_iteration : ℤ → ℤ → ℤ → Bool
+has_iteration m1 m2 m3 = if int_lt (pos 0) m3 then int_le m1 m2 else int_le m2 m1
+
+-- the value in the last iteration: the limit less what is left of the way there in steps of the increment (ANSI X3.9-1978, section 11.10.3)
+abbrev pub last_value : ℤ → ℤ → ℤ → ℤ
+last_value m1 m2 m3 = m2 -ℤ int_rem (m2 -ℤ m1) m3
+
+-- the first and the last value of a DO by its initial value, its limit and its increment, where all are constant and there is an iteration (ANSI X3.9-1978, section 11.10.3)
+abbrev pub span_by : Option ℤ → Option ℤ → Option ℤ → Option Span
+span_by (Some m1) (Some m2) (Some m3) = if has_iteration m1 m2 m3 then Some (record { first = m1; last = last_value m1 m2 m3 }) else None
+span_by (Some m1) (Some m2) None = None
+span_by (Some m1) None m3 = None
+span_by None m2 m3 = None
+
+-- the first and the last value of a DO's variable, where its bounds are constant and there is an iteration (ANSI X3.9-1978, section 11.10.3)
+abbrev pub span_of : Values → Head → Option Span
+span_of constants h = span_by (constant_value constants h.first) (constant_value constants h.last) (constant_value constants h.step)
+
+-- no literal has this value: it lies more than 2147483647 from zero (this project)
+abbrev pub is_far : ℤ → Bool
+is_far n = int_lt (pos 2147483647) n || int_lt n (neg_ℤ (pos 2147483647))
+
+-- the DO's variable has a least or a greatest value that no literal has (this project)
+abbrev pub spans_far : Span → Bool
+spans_far v = is_far v.first || is_far v.last
+
+-- the name that a PROGRAM statement gives the program (ANSI X3.9-1978, section 14.1)
+abbrev pub program_name : DeclTree → List (List ℕ)
+program_name (Program x) = x ∷ []
+program_name Implicit = []
+program_name (Integer ds) = []
+program_name (Dimension ds) = []
+program_name (Parameter values) = []
+program_name (Save names) = []
+program_name (Remark text) = []
+
+-- the name occurs in the program, as that of the program or of anything else; what stands in comments doesn't count (this project)
+abbrev pub occurs : ProgramTree → List ℕ → Bool
+occurs t x = is_among x (names_of t) || is_among x (flat_map program_name t.decls)
+
+-- the first of these names that doesn't occur in the program (this project)
+abbrev pub first_free : ProgramTree → List (List ℕ) → Option (List ℕ)
+first_free t [] = None
+first_free t (x ∷ xs) = if occurs t x then first_free t xs else Some x
+
+-- the names KX with so many numbers, from this one on (this project)
+abbrev pub numbered_names : ℕ → ℕ → List (List ℕ)
+numbered_names n count = map (λ k. codes "KX" ++ decimal k) (range_with_len n count)
+
+-- the greatest number that a name of six characters has behind KX (this project)
+unfoldable pub most_numbered : ℕ
+most_numbered = 9999
+
+-- the name of the new array: the first of KX1, KX2 and so on that doesn't occur in the program; none where it would have more than six characters (this project)
+abbrev pub fresh_name : ProgramTree → Option (List ℕ)
+fresh_name t = first_free t (numbered_names 1 most_numbered)
+
+-- an array with one subscript (ANSI X3.9-1978, section 5.3)
+abbrev pub element : List ℕ → ExprTree → ExprTree
+element array e = Element array (more_exprs e no_exprs)
+
+-- the scalar keeps what its last element holds, where it is live (Allen and Kennedy, section 5.3)
+abbrev pub kept_value : Bool → List ℕ → List ℕ → ℤ → StmtTrees
+kept_value true x array last = alone (Assign (Var x) (element array (literal last)))
+kept_value false x array last = no_stmts
+
+-- a DO with elements of the array in place of the scalar in its body, and behind it, where the scalar is live, the assignment of the last element to it (Allen and Kennedy, section 5.3)
+abbrev pub with_elements : List ℕ → List ℕ → Bool → ℤ → StmtTree → StmtTrees
+with_elements x array live last (Do h body) = more_stmts (Do h (statements_substituted x (element array (Var h.variable)) body)) (kept_value live x array last)
+with_elements x array live last (Assign left right) = alone (Assign left right)
+with_elements x array live last (If condition then_part else_part) = alone (If condition then_part else_part)
+with_elements x array live last (Print items) = alone (Print items)
+with_elements x array live last (Read items) = alone (Read items)
+with_elements x array live last Stop = alone Stop
+with_elements x array live last (Comment text) = alone (Comment text)
+
+-- the declaration of the array, from the least to the greatest value of the DO's variable (ANSI X3.9-1978, section 5.1)
+abbrev pub declaration : List ℕ → Span → DeclTree
+declaration array v = Integer ((record { name = array; bounds = (record { lower = literal (int_min v.first v.last); upper = literal (int_max v.first v.last) }) ∷ [] }) ∷ [])
+
+-- the program behind the step, with this array over these values (Allen and Kennedy, section 5.3)
+abbrev pub expanded : ProgramTree → ℕ → List ℕ → Bool → List ℕ → Span → ProgramTree
+expanded t s x live array v = record { decls = t.decls ++ declaration array v ∷ []; body = all_replaced (with_elements x array live v.last) s t.body 1 }
+
+-- the PRIVATE names of the DO loops in a statement and in its parts (ParaScope)
+abbrev mutual
+  pub private_in : StmtTree → List (List ℕ)
+  private_in (Assign left right) = []
+  private_in (If condition then_part else_part) = all_private_in then_part ++ all_private_in else_part
+  private_in (Do h body) = h.private ++ all_private_in body
+  private_in (Print items) = []
+  private_in (Read items) = []
+  private_in Stop = []
+  private_in (Comment text) = []
+
+  -- the same of statements (ParaScope)
+  pub all_private_in : StmtTrees → List (List ℕ)
+  all_private_in no_stmts = []
+  all_private_in (more_stmts s rest) = private_in s ++ all_private_in rest
+
+-- the name is in the PRIVATE list of the DO, of one in it or of one round it (ParaScope)
+abbrev pub is_private_near : ProgramTree → ℕ → Head → StmtTrees → List ℕ → Bool
+is_private_near t s h body x = is_among x (private_in (Do h body)) || list_any (λ l. is_among x l.head.private) (nest_round t s)
+
+-- the scalar is exposed in the DO by this statement, or else live behind it by this statement and not assigned on each path through the body (Allen and Kennedy, section 5.3; this project)
+abbrev pub IsLostBy : ProgramTree → ℕ → List ℕ → ℕ → Type 0
+IsLostBy t s x n = IsExposedBy t s x n ⊎ (IsUnexposed t s x × IsLiveBy t s x n × (IsAssignedThrough t s x → ⊥))
+
+-- the name is that of a scalar variable, which is exposed in the DO, or live and not assigned, by this statement (ParaScope; this project)
+abbrev pub IsScalarLostBy : ProgramTree → ℕ → List ℕ → ℕ → Type 0
+IsScalarLostBy t s x n = IsTrue (is_scalar t x) × IsLostBy t s x n
+
+-- the truth value says whether the scalar is live after the DO (Allen and Kennedy, section 4.4)
+abbrev pub SaysLive : ProgramTree → ℕ → List ℕ → Bool → Type 0
+SaysLive t s x live = IsTrue live ↔ IsLiveAfter t s x
+
+-- with what is found in a program the step makes this new program: a fresh name, the first and the last value of the DO's variable, and whether the scalar is live after the DO (this project)
+pub record IsExpanded (t : ProgramTree) (s : ℕ) (x : List ℕ) (h : Head) (new : ProgramTree) : Type 0 where
+  pub array : List ℕ
+  pub fresh : fresh_name t ≡ Some array
+  pub span : Span
+  pub spans : span_of (table_of t).constants h ≡ Some span
+  pub live : Bool
+  pub says : SaysLive t s x live
+  pub made : new ≡ expanded t s x live array span
+
+-- which rules stand against the step, each with its statement: the statement is no DO; it is a PARALLEL DO; a value of its variable is one that no literal has; the scalar is exposed, or live and not assigned on each path through the body; the name is no such scalar; a bound isn't constant, or there is no iteration; the new array's name would be too long, or the new program isn't valid; the name is in the PRIVATE list of the DO, of one in it or of one round it. What is asked of a scalar isn't asked of another name, and what is asked of values isn't asked where there are none (ParaScope; this project)
+abbrev pub StandsAgainstExpanding : ProgramTree → ℕ → List ℕ → Rules
+StandsAgainstExpanding t s x NoLoop n = IsNoLoop t s × (n ≡ s)
+StandsAgainstExpanding t s x ParallelState n = (l : LoopOf t s) × IsTrue l.head.parallel × (n ≡ s)
+StandsAgainstExpanding t s x Range n = (l : LoopOf t s) × (v : Span) × (span_of (table_of t).constants l.head ≡ Some v) × IsTrue (spans_far v) × (n ≡ s)
+StandsAgainstExpanding t s x ExposedOrLive n = LoopOf t s × IsScalarLostBy t s x n
+StandsAgainstExpanding t s x NotScalar n = (l : LoopOf t s) × IsTrue (is_unfit t s l.head l.body x) × (n ≡ s)
+StandsAgainstExpanding t s x NotConstant n = (l : LoopOf t s) × (span_of (table_of t).constants l.head ≡ None) × (n ≡ s)
+StandsAgainstExpanding t s x Limit n = (l : LoopOf t s) × ((fresh_name t ≡ None) ⊎ ((new : ProgramTree) × IsExpanded t s x l.head new × (IsValid new → ⊥))) × (n ≡ s)
+StandsAgainstExpanding t s x AlreadyPrivate n = (l : LoopOf t s) × IsTrue (is_scalar t x) × IsTrue (is_private_near t s l.head l.body x) × (n ≡ s)
+StandsAgainstExpanding t s x NotPerfect n = ⊥
+StandsAgainstExpanding t s x HasPrivate n = ⊥
+StandsAgainstExpanding t s x IndexEscapes n = ⊥
+StandsAgainstExpanding t s x BoundNotPlain n = ⊥
+StandsAgainstExpanding t s x BoundsShape n = ⊥
+StandsAgainstExpanding t s x StepShape n = ⊥
+StandsAgainstExpanding t s x NoNeighbour n = ⊥
+StandsAgainstExpanding t s x OneBlock n = ⊥
+StandsAgainstExpanding t s x BadFactor n = ⊥
+StandsAgainstExpanding t s x NothingToReject n = ⊥
+
+-- statements up to this number keep their numbers, and those behind it go one further where the truth value says so (this project)
+abbrev pub moved_behind : ℕ → Bool → ℕ → ℕ
+moved_behind end further n = if nat_lt end n && further then n + 1 else n
+
+-- the statements that the step keeps: all, those behind the DO one further where an assignment stands behind it now (this project)
+abbrev pub expand_kept : ProgramTree → ℕ → StmtTrees → Bool → List (ℕ × ℕ)
+expand_kept t s body live = map (λ n. (n, moved_behind (s + statements_count body) live n)) (range_with_len 1 (statements_count t.body))
+
+-- the first cause against the step, where there is one; else the change to the new program (ParaScope; this project)
+abbrev pub AnswersExpanding : ProgramTree → ℕ → List ℕ → Result Change Refused → Type 0
+AnswersExpanding t s x (Ok change) =
+    IsFirstCause t (StandsAgainstExpanding t s x) none_forbids None
+    × (l : LoopOf t s) × (new : ProgramTree) × (e : IsExpanded t s x l.head new) × IsChange new (expand_kept t s l.body e.live) change
+AnswersExpanding t s x (Err refused) = IsFirstCause t (StandsAgainstExpanding t s x) none_forbids (Some (cause_of refused)) × IsShort refused

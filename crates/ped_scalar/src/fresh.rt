@@ -1,0 +1,85 @@
+//! Names that don't occur in a program.
+
+ghost use Rattle.std.specs.Prelude.{◌≡◌, ◌++◌, ◌<◌, codes, IfOk, IsTrue, map, Some};
+ghost use Rattle.std.specs.Fmt.{decimal};
+ghost use Rattle.std.specs.List.{flat_map};
+ghost use Rattle.ped_base.specs.Lists as Lists;
+ghost use Rattle.ped_tree.specs.Tree.{ProgramTree};
+ghost use Rattle.ped_tree.specs.Views.{decl_tree, program_tree};
+ghost use Rattle.ped_symbols.specs.Kinds.{table_of};
+ghost use Rattle.ped_scalar.specs.Expanding as Spec;
+
+use itoa::Buffer;
+use ped_base::{Bytes, Name, NoMemory};
+use ped_symbols::Symbols;
+use ped_tree::{Decl, Program};
+use std::alloc::Global;
+
+/// The first of the names KX1, KX2 and so on that doesn't occur in the program, which has these names: none where it would
+/// have more than six characters.
+pub(crate) fn fresh_name(
+    alloc: Global,
+    program: &Program,
+    symbols: &Symbols,
+) -> Result<Option<Name>, NoMemory>
+    requires { symbols.now ≡ table_of (program_tree program.now) }
+    ensures { IfOk result (λ name. name ≡ Spec.fresh_name (program_tree program.now)) }
+{
+    for n in 1..10000 {
+        let name = numbered(alloc, n)?;
+        if !occurs(program, symbols, &name) {
+            return Ok(Some(name));
+        }
+    }
+    Ok(None)
+}
+
+/// The name KX with a number.
+fn numbered(alloc: Global, n: u32) -> Result<Name, NoMemory>
+    requires { n < 10000 }
+    ensures { IfOk result (λ name. name ≡ codes "KX" ++ decimal n) }
+{
+    let mut text = Bytes::new(alloc);
+    let mut buffer = Buffer::new();
+    text.extend_from_slice(b"KX")?;
+    text.extend_from_slice(buffer.format(n).as_bytes())?;
+    match Name::from_bytes(text.as_slice()) {
+        Some(name) => Ok(name),
+        None => Err(NoMemory),
+    }
+}
+
+/// Whether the name occurs in the program.
+fn occurs(program: &Program, symbols: &Symbols, name: &Name) -> bool
+    requires { symbols.now ≡ table_of (program_tree program.now) }
+    ensures { result ≡ Spec.occurs (program_tree program.now) name.now }
+{
+    symbols.kind(name).is_some() || is_program(name, &program.decls)
+}
+
+/// Whether the name is that of the program.
+fn is_program(name: &Name, decls: &[Decl]) -> bool
+    ensures { result ≡ Lists.is_among name.now (flat_map Spec.program_name (map decl_tree decls.now)) }
+{
+    for decl in decls {
+        if is_program_name(name, decl) {
+            return true;
+        }
+    }
+    false
+}
+
+/// Whether a declaration gives the program the name.
+fn is_program_name(name: &Name, decl: &Decl) -> bool
+    ensures { result ≡ Lists.is_among name.now (Spec.program_name (decl_tree decl.now)) }
+{
+    match decl {
+        Decl::Program(other) => name.as_bytes() == other.as_bytes(),
+        Decl::Implicit
+        | Decl::Integer(_)
+        | Decl::Dimension(_)
+        | Decl::Parameter(_)
+        | Decl::Save(_)
+        | Decl::Comment(_) => false,
+    }
+}

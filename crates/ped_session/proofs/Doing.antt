@@ -8,7 +8,7 @@ use Rattle.ped_steps.specs.Causes.{Cause, none_forbids}
 use Rattle.ped_steps.proofs.OneCause.{one_cause}
 use Rattle.ped_scalar.specs.Privatising.{StandsAgainstPrivatising}
 use Rattle.ped_scalar.proofs.FirstAgainstPrivatising.{one_statement}
-use Rattle.ped_scalar.proofs.KeptMeaning.{privatising_keeps}
+use Rattle.ped_scalar.proofs.KeptByPrivatising.{privatising_keeps_it}
 use Rattle.ped_step_runs.specs.Meaning.{Keeps}
 use Rattle.ped_script.specs.declared.items.Command.{Command}
 use Rattle.ped_script.specs.declared.items.Command.TheVariants.{Source, Deps, Show, Print, Advise, Replace, Insert, Delete, Interchange, Reverse, Skew, Strip, Peel, Distribute, Fuse, Expand, Privatise, Parallel, Serial, Reject, Undo, Redo, Run, Races, Tested}
@@ -29,7 +29,7 @@ pub record IsLawful (at : StepAt) : Type 0 where
 pub lawful_privatising : (s : ℕ) (x : List ℕ) → IsLawful (privatising s x)
 lawful_privatising s x = record {
   one = λ t c d p q. one_cause t (StandsAgainstPrivatising t s x) none_forbids (one_statement t s x) c d p q;
-  keeps = λ t valid none. privatising_keeps t s x valid none;
+  keeps = λ t valid none. privatising_keeps_it t s x valid none.0;
 }
 
 -- what a command does

@@ -5,7 +5,8 @@
 # `symbols_of` of ped_symbols takes, per statement, on programs of 1,000 and 4,000 statements with as many names; how long
 # `commands` of ped_script takes, per byte, on scripts of up to 1 MiB; how long the questions of ped_flow take, for 1,000 scalars
 # of a loop; how long a call of each dependence test takes; how long `run_in_order` of ped_eval takes for an assignment in loops, over an
-# array and over a scalar, from 10^4 to 10^7 of them, and how much memory a store of 2^20 elements takes; how long `ped show` takes, and how much memory, on programs of 64 KiB,
+# array and over a scalar, from 10^4 to 10^7 of them, and how much memory a store of 2^20 elements takes; how long `races` of ped_order takes
+# for an access, and how much memory, at 10^5 and 10^6 of them; how long `ped show` takes, and how much memory, on programs of 64 KiB,
 # 256 KiB and 1 MiB that are read; how long it takes for each pair of references, and how much memory, on nests of two and of
 # six loops, up to the limit of pairs; how much stack it needs on programs at the limits of the language; and how long an edit,
 # a step back and a step forward take in `ped session`, and how much memory a change keeps. It is no part of
@@ -349,6 +350,37 @@ done
 printf '      INTEGER A(1024,1024)\n      A(1,1) = 1\n      END\n' >"$work/run.f"
 awk -v peak="$(least %M run "$work/run.f" /dev/null)" -v no_peak="$(least %M run "$work/nothing.f" /dev/null)" \
     'BEGIN { printf "store of 2^20 elements: %.1f MiB\n", (peak - no_peak) / 1024 }'
+
+# Programs without a race and with so many accesses: one PARALLEL DO whose iterations have an element each; one of 100 iterations
+# that go over their elements again and again; and a PARALLEL DO of 100 iterations that is executed again and again.
+races_of_elements() {
+    printf '      INTEGER A(1000000)\n      PARALLEL DO 10 I = 1, %d\n   10 A(I) = 0\n      END\n' "$(($1 / 2))"
+}
+races_of_iterations() {
+    printf '      INTEGER A(100)\n      PARALLEL DO 20 I = 1, 100\n      DO 10 J = 1, %d\n   10 A(I) = J\n   20 CONTINUE\n      END\n' "$(($1 / 300))"
+}
+races_of_executions() {
+    printf '      INTEGER A(100)\n      DO 20 K = 1, %d\n      PARALLEL DO 10 I = 1, 100\n   10 A(I) = K\n   20 CONTINUE\n      END\n' "$(($1 / 300))"
+}
+printf '\n%12s %10s %10s %10s %8s\n' races accesses ns/access 'run alone' MiB
+rm -f -- "$work/figures"
+for kind in elements iterations executions; do
+    for accesses in 100000 1000000; do
+        "races_of_$kind" "$accesses" >"$work/run.f"
+        answer=$("$program" races "$work/run.f" /dev/null)
+        [ "$answer" = 'no race' ] || printf 'bench: %s\n' "$answer" >&2
+        awk -v kind="$kind" -v accesses="$accesses" \
+            -v seconds="$(least '%U %S' races "$work/run.f" /dev/null)" \
+            -v run_seconds="$(least '%U %S' run "$work/run.f" /dev/null)" \
+            -v no_seconds="$(least '%U %S' races "$work/nothing.f" /dev/null)" \
+            -v peak="$(least %M races "$work/run.f" /dev/null)" -v no_peak="$(least %M run "$work/run.f" /dev/null)" 'BEGIN {
+                time = (seconds - no_seconds) * 1e9 / accesses
+                alone = (run_seconds - no_seconds) * 1e9 / accesses
+                printf "%12s %10d %10.0f %10.0f %8.1f\n", kind, accesses, time, alone, peak > no_peak ? (peak - no_peak) / 1024 : 0
+            }' | tee -a "$work/figures"
+    done
+done
+awk 'NR % 2 { before = $3 } NR % 2 == 0 { printf "time per access, %s, 10^6 to 10^5: %.2f\n", $1, $3 / before }' "$work/figures"
 
 # The launcher proves and builds ped where that hasn't been done. What starting it takes is left out: it is the
 # time of showing a small file.

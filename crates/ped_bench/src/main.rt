@@ -1,6 +1,7 @@
 //! Does one of ped's works so many times, for `tools/bench.sh` to measure: cuts the lines of a file into
 //! statements or a script into commands, prints a program of so many statements, looks up its names, asks for the flow of
-//! scalars, calls a dependence test, or runs a program. Nothing is promised of it: it prints how much came out, and times nothing itself.
+//! scalars, calls a dependence test, runs a program, or looks for its races. Nothing is promised of it: it prints how much
+//! came out, and times nothing itself.
 #![tactic(auto)]
 
 mod dependence_tests;
@@ -17,7 +18,7 @@ use ped_print::source_pane;
 use ped_script::commands;
 use ped_symbols::symbols_of;
 use programs::{named_program, program};
-use runs::run;
+use runs::ran;
 use std::alloc::Global;
 use std::process::ExitCode;
 use std::{env, fs};
@@ -27,14 +28,14 @@ fn main(rt: HostRuntime) -> anyhow::Result<ExitCode> {
     let words: Vec<String> = env::args(&rt)?.skip(1).collect(alloc)?;
     let [work, what, times] = words.as_slice() else {
         println!(rt;
-            "usage: ped_bench cut FILE TIMES | script FILE TIMES | flow FILE TIMES | print STATEMENTS TIMES | names STATEMENTS TIMES | test NAME TIMES | run FILE DATA"
+            "usage: ped_bench cut FILE TIMES | script FILE TIMES | flow FILE TIMES | print STATEMENTS TIMES | names STATEMENTS TIMES | test NAME TIMES | run FILE DATA | races FILE DATA"
         )?;
         return Ok(ExitCode::from(2));
     };
-    if work.as_str() == "run" {
+    if work.as_str() == "run" || work.as_str() == "races" {
         let program = fs::read(&rt, what.as_str())?;
         let data = fs::read(&rt, times.as_str())?;
-        println!(rt; "{}", run(alloc, &program, &data)?)?;
+        println!(rt; "{}", ran(alloc, work.as_str(), &program, &data)?)?;
         return Ok(ExitCode::SUCCESS);
     }
     let times = times.parse::<u64>()?;

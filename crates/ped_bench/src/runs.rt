@@ -1,14 +1,24 @@
-//! Runs of programs, with their outcome as the editor shows it.
+//! Runs of programs, with their outcome as the editor shows it, and their races.
 
 use anyhow::bail;
 use ped_base::NoMemory;
 use ped_eval::{LiveRow, Outcome, run_in_order};
+use ped_order::{RaceReport, races};
 use ped_valid::open_program;
 use std::alloc::Global;
 
+/// What is shown of the program of a text on these data: what it prints, or where the work is `races` its first race.
+pub fn ran(alloc: Global, work: &str, text: &[u8], data: &[u8]) -> anyhow::Result<String> {
+    if work == "races" {
+        race(alloc, text, data)
+    } else {
+        run(alloc, text, data)
+    }
+}
+
 /// Runs the program of a text on these data: the lines that it prints, each behind a bar, and the rows of its live-out
 /// variables; or its fault.
-pub fn run(alloc: Global, text: &[u8], data: &[u8]) -> anyhow::Result<String> {
+fn run(alloc: Global, text: &[u8], data: &[u8]) -> anyhow::Result<String> {
     let opened = open_program(alloc, text)?;
     match run_in_order(alloc, &opened.program, &opened.symbols, data)? {
         Outcome::Ended { output, live } => {
@@ -25,6 +35,23 @@ pub fn run(alloc: Global, text: &[u8], data: &[u8]) -> anyhow::Result<String> {
             Ok(shown)
         }
         Outcome::Fault { number, statement } => Ok(format!(in alloc;
+            "fault {number} at {statement}"
+        )?),
+    }
+}
+
+/// Looks for a race of the program of a text on these data: the statements of the first race, or the fault that comes before
+/// any, or that there is neither.
+fn race(alloc: Global, text: &[u8], data: &[u8]) -> anyhow::Result<String> {
+    let opened = open_program(alloc, text)?;
+    match races(alloc, &opened.program, &opened.symbols, data)? {
+        RaceReport::NoRace => Ok(format!(in alloc; "no race")?),
+        RaceReport::Race {
+            cell: _,
+            first,
+            second,
+        } => Ok(format!(in alloc; "race at {first} and {second}")?),
+        RaceReport::Fault { number, statement } => Ok(format!(in alloc;
             "fault {number} at {statement}"
         )?),
     }

@@ -3,8 +3,8 @@
 # much memory it has at its peak, on programs of 64 KiB, 256 KiB and 1 MiB; how long `source_pane` of
 # ped_print takes, per byte of the pane, on programs of 250, 1,000 and 4,000 statements; how long
 # `symbols_of` of ped_symbols takes, per statement, on programs of 1,000 and 4,000 statements with as many names; how long
-# `commands` of ped_script takes, per byte, on scripts of up to 1 MiB; how long the questions of ped_flow take, for 1,000 scalars
-# of a loop; how long a call of each dependence test takes; how long `run_in_order` of ped_eval takes for an assignment in loops, over an
+# `commands` of ped_script takes, per byte, on scripts of up to 1 MiB; how long `flow_of` of ped_flow takes, and how
+# much memory, and how long the questions take, for 1,000 scalars of a loop; how long a call of each dependence test takes; how long `run_in_order` of ped_eval takes for an assignment in loops, over an
 # array and over a scalar, from 10^4 to 10^7 of them, and how much memory a store of 2^20 elements takes; how long `races` of ped_order takes
 # for an access, and how much memory, at 10^5 and 10^6 of them; how long `ped show` takes, and how much memory, on programs of 64 KiB,
 # 256 KiB and 1 MiB that are read; how long it takes for each pair of references, and how much memory, on nests of two and of
@@ -283,19 +283,23 @@ flows() {
         print "      END"
     }'
 }
-printf '\n%10s %10s %12s\n' loops statements ms/1000
+printf '\n%10s %10s %12s %10s %12s\n' loops statements ms/flow_of MiB ms/1000
 while read -r loops statements times; do
     flows "$loops" "$statements" >"$work/flows.f"
     awk -v loops="$loops" -v statements="$statements" -v times="$times" \
-        -v seconds="$(least '%U %S' flow "$work/flows.f" "$times")" \
-        -v no_seconds="$(least '%U %S' flow "$work/flows.f" 0)" 'BEGIN {
-            all = (seconds - no_seconds) * 1e3 / times
-            printf "%10d %10d %12.1f\n", loops, statements, all
+        -v made="$(least '%U %S' flow_of "$work/flows.f" "$times")" \
+        -v none_made="$(least '%U %S' flow_of "$work/flows.f" 0)" \
+        -v peak="$(least %M flow_of "$work/flows.f" 1)" -v no_peak="$(least %M flow_of "$work/flows.f" 0)" \
+        -v asked="$(least '%U %S' flow "$work/flows.f" "$times")" \
+        -v none_asked="$(least '%U %S' flow "$work/flows.f" 0)" 'BEGIN {
+            making = (made - none_made) * 1e3 / times
+            asking = (asked - none_asked) * 1e3 / times
+            printf "%10d %10d %12.1f %10.1f %12.1f\n", loops, statements, making, peak > no_peak ? (peak - no_peak) / 1024 : 0, asking
         }'
 done <<'END'
-1 1000 10
-1 4000 10
-6 4000 10
+1 1000 100
+1 4000 100
+6 4000 100
 END
 
 # Of each test so many calls that they take some seconds.

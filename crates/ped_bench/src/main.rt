@@ -1,6 +1,6 @@
 //! Does one of ped's works so many times, for `tools/bench.sh` to measure: cuts the lines of a file into
-//! statements or a script into commands, prints a program of so many statements, looks up its names, asks for the flow of
-//! scalars, calls a dependence test, runs a program, or looks for its races. Nothing is promised of it: it prints how much
+//! statements or a script into commands, prints a program of so many statements, looks up its names, makes the flow of
+//! scalars or asks about it, calls a dependence test, runs a program, or looks for its races. Nothing is promised of it: it prints how much
 //! came out, and times nothing itself.
 #![tactic(auto)]
 
@@ -11,7 +11,7 @@ mod runs;
 
 use anyhow::bail;
 use dependence_tests::excluded;
-use flows::asked;
+use flows::{asked, made};
 use ped_fits::fits;
 use ped_lines::statements;
 use ped_print::source_pane;
@@ -28,7 +28,7 @@ fn main(rt: HostRuntime) -> anyhow::Result<ExitCode> {
     let words: Vec<String> = env::args(&rt)?.skip(1).collect(alloc)?;
     let [work, what, times] = words.as_slice() else {
         println!(rt;
-            "usage: ped_bench cut FILE TIMES | script FILE TIMES | flow FILE TIMES | print STATEMENTS TIMES | names STATEMENTS TIMES | test NAME TIMES | run FILE DATA | races FILE DATA"
+            "usage: ped_bench cut FILE TIMES | script FILE TIMES | flow_of FILE TIMES | flow FILE TIMES | print STATEMENTS TIMES | names STATEMENTS TIMES | test NAME TIMES | run FILE DATA | races FILE DATA"
         )?;
         return Ok(ExitCode::from(2));
     };
@@ -45,6 +45,9 @@ fn main(rt: HostRuntime) -> anyhow::Result<ExitCode> {
     } else if work.as_str() == "script" {
         let text = fs::read(&rt, what.as_str())?;
         commands_of(alloc, &text, times)? as u64
+    } else if work.as_str() == "flow_of" {
+        let text = fs::read(&rt, what.as_str())?;
+        made(alloc, &text, times)?
     } else if work.as_str() == "flow" {
         let text = fs::read(&rt, what.as_str())?;
         asked(alloc, &text, times)?

@@ -22,7 +22,7 @@ use Rattle.ped_flow.proofs.TreeSums.{iteration-summed, all_summed, some_path_of_
 
 -- the places of a statement and of those in it
 
-at_place-within : (xs ys : List StmtTree) (k : ℕ) → k < length xs → at_place (xs ++ ys) k ≡ at_place xs k
+pub at_place-within : (xs ys : List StmtTree) (k : ℕ) → k < length xs → at_place (xs ++ ys) k ≡ at_place xs k
 at_place-within [] ys k h = absurd (omega arith)
 at_place-within (x ∷ xs) ys k h = grind (arith, eqb-true, at_place-within xs ys (k - 1))
 

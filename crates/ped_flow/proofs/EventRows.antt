@@ -5,16 +5,14 @@ use Rattle.ped_base.specs.Lists.{is_same_text, is_among}
 use Rattle.ped_tree.specs.Tree.{ExprTree, Int, Var, Element, Neg, Add, Sub, Mul, Div, Pow, Call}
 use Rattle.ped_bits.specs.Places.{union, without}
 use Rattle.ped_names.proofs.Collected.{among_append}
-use Rattle.ped_names.proofs.NameEquality.{same_is}
-use Rattle.ped_flow.specs.Events.{Event, reads, assigns, event, reads_of, all_scalars_in, unless_constant, left_events}
-use Rattle.ped_flow.specs.Summaries.{least_of, when, passing, of_manner, sum_in_turn, sum_event, sum_events}
-use Rattle.ped_flow.specs.Kept.{reader_in, unless, first_reader}
+use Rattle.ped_flow.specs.Events.{Event, reads, assigns, event, reads_of, all_scalars_in, left_events}
+use Rattle.ped_flow.specs.Summaries.{least_of, passing, of_manner, sum_in_turn, sum_event, sum_events}
+use Rattle.ped_flow.specs.Kept.{unless, first_reader}
 use Rattle.ped_flow.specs.RowPlaces.{place_of, bit, AreMarked, IsRowOf}
 use Rattle.ped_flow.specs.RowMarks.{read_left, assigned_left}
 use Rattle.ped_flow.specs.Parts.{IsPart, AreEvents}
 use Rattle.ped_flow.specs.declared.summaries.Summary.{Summary}
 use Rattle.ped_flow.specs.declared.parts.Part.{Part}
-use Rattle.ped_flow.proofs.Truths.{and_split, or_split}
 use Rattle.ped_flow.proofs.SumLaws.{events-append, events_of-append}
 use Rattle.ped_flow.proofs.OutsideSteps.{first_reader-append}
 use Rattle.ped_flow.proofs.RowLaws.{nothing_at, without_at}
@@ -203,16 +201,6 @@ module _ (names : List (List ℕ)) (b : Part) (f : List ℕ → Summary) (o : Li
   pub trips_indices : (r : List Bool) → r ≡ union v b.indices → (x : List ℕ) (i : ℕ) → place_of names x ≡ Some i → bit r i ≡ is_among x (y ∷ variables)
   trips_indices r e x i at =
       or_at v b.indices r i (wide ∙ sym k.width ∙ sym b.indices_wide) e ∙ (λ j. at_y x i at j || k.indices x i at j) ∙ or_once (is_same_text x y) (is_among x variables)
-
-  pub trips_placed : (r : Bool) → r ≡ (b.placed && is_some (place_of names y)) → r ≡ true → (x : List ℕ) → is_among x (y ∷ variables) ≡ true → is_some (place_of names x) ≡ true
-  trips_placed r e t x m = by (or_split (is_same_text x y) (is_among x variables) m)
-    where
-      both : (b.placed ≡ true) × (is_some (place_of names y) ≡ true)
-      both = and_split b.placed (is_some (place_of names y)) (sym e ∙ t)
-
-      by : (is_same_text x y ≡ true) ⊎ (is_among x variables ≡ true) → is_some (place_of names x) ≡ true
-      by (inl s) = ap (λ (z : List ℕ). is_some (place_of names z)) (same_is x y s) ∙ both.1
-      by (inr a) = k.placed both.0 x a
 
   pub trips_wide : (w : ℕ) → w ≡ length names → (r s : List Bool) → r ≡ without b.loose v → s ≡ union v b.indices → (length r ≡ w) × (length s ≡ w)
   trips_wide w h r s e g = (less_wide b.loose v r w e (b.loose_wide ∙ k.width ∙ sym h) (wide ∙ sym h), union_wide v b.indices s w g (wide ∙ sym h) (b.indices_wide ∙ k.width ∙ sym h))

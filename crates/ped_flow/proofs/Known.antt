@@ -1,7 +1,7 @@
 -- What a table knows of statements, as it grows.
-use Rattle.std.proofs.Common.{◌≡◌, ◌↔◌, IsTrue, ℕ, zero, suc, ◌+◌, ◌<◌, ◌≤◌, ◌≢◌, ◌⊎◌, inl, inr, List, [], length, map, drop, get_or, slice_set, Bool, true, false, Option, Some, None, is_some, refl, Result, Ok, Err, OnOk, sym, ap, subst, ◌∙◌, rules, arith}
+use Rattle.std.proofs.Common.{◌≡◌, ◌↔◌, IsTrue, ℕ, zero, suc, ◌+◌, ◌<◌, ◌≤◌, ◌≢◌, inl, inr, List, [], length, map, drop, get_or, slice_set, Bool, true, false, Option, Some, None, is_some, refl, Result, Ok, Err, OnOk, sym, ap, subst, ◌∙◌, rules, arith}
 use Rattle.std.proofs.lemmas.List.{get_or-set_same, get_or-set_other}
-use Rattle.ped_tree.specs.Tree.{CondTree, Head, StmtTree, StmtTrees, Assign, If, Do, Print, Read, Stop, Comment, no_stmts, more_stmts}
+use Rattle.ped_tree.specs.Tree.{CondTree, StmtTree, StmtTrees, Assign, If, Do, Print, Read, Stop, Comment, no_stmts, more_stmts}
 use Rattle.std.specs.Global.{Vec}
 use Rattle.ped_tree.specs.Views.{expr_tree, cond_tree, item_tree, stmt_tree, stmt_trees}
 use Rattle.ped_tree.specs.declared.expressions.Expr.{Expr}
@@ -12,19 +12,15 @@ use Rattle.ped_tree.specs.declared.statements.Stmt as variant
 use Rattle.ped_refs.specs.Loops.{head_of}
 use Rattle.ped_tree.specs.Numbering.{statement_count, statements_count}
 use Rattle.ped_tree.specs.declared.statements.Stmt.{Stmt}
-use Rattle.ped_affine.specs.Assigned.{loop_variables, all_loop_variables}
+use Rattle.ped_affine.specs.Assigned.{loop_variables}
 use Rattle.ped_flow.specs.Summaries.{passing, sum_of}
 use Rattle.ped_flow.specs.Kept.{first_outside}
-use Rattle.ped_flow.specs.RowPlaces.{place_of, bit}
 use Rattle.ped_flow.specs.RowMarks.{names_in, constants_in}
-use Rattle.ped_flow.specs.Rows.{Holds}
 use Rattle.ped_flow.specs.Parts.{IsPart}
 use Rattle.ped_flow.specs.Made.{IsMade}
-use Rattle.ped_flow.specs.Entries.{entry_at, is_do, IsCycle, IsEntry, IsEntered, Knows, KnowsAll, KnowsInside, AreSameBut}
-use Rattle.ped_flow.specs.declared.summaries.Summary.{Summary}
+use Rattle.ped_flow.specs.Entries.{entry_at, IsEntry, IsEntered, Knows, KnowsAll, KnowsInside, AreSameBut}
 use Rattle.ped_flow.specs.declared.parts.Part.{Part}
 use Rattle.ped_flow.specs.declared.places.Places.{Places}
-use Rattle.ped_flow.specs.declared.entries.Cycle.{Cycle}
 use Rattle.ped_flow.specs.declared.entries.Entry.{Entry}
 use Rattle.ped_flow.proofs.ScalarSteps.{rest_is}
 
@@ -95,32 +91,14 @@ pub same_written : (a b : List (Option Entry)) (n to : ℕ) (e : Entry) → n < 
 same_written a b n to e w h j (inl l) = written_other b n j e (λ (z : j ≡ n). absurd (omega arith)) ∙ h j (inl (omega arith))
 same_written a b n to e w h j (inr l) = written_other b n j e (λ (z : j ≡ n). absurd (omega arith)) ∙ h j (inr l)
 
-module _ (p : Places) (s : StmtTree) (n : ℕ) (part : Part) (behind : ℕ) (cycle : Option Cycle) (e : Entry) (made : IsMade part behind cycle e)
-    (is : IsPart (names_in p) part (λ x. sum_of (constants_in p) x s n) (λ x. first_outside (constants_in p) x s n) (loop_variables s)) (at : behind ≡ n + statement_count s) where
-  entry_is : is_some cycle ≡ is_do s → ((c : Cycle) (h : Head) (body : StmtTrees) → cycle ≡ Some c → s ≡ Do h body → IsCycle p c h body n) → IsEntry p e s n
-  entry_is kind loop = record {
-    part = subst (λ (q : Part). IsPart (names_in p) q (λ x. sum_of (constants_in p) x s n) (λ x. first_outside (constants_in p) x s n) (loop_variables s)) (sym made.part) is;
-    touched = λ x i w t. made.touched i (sum_of (constants_in p) x s n) (is.sums x i w) t;
-    behind = made.behind ∙ at;
-    kind = ap is_some made.cycle ∙ kind;
-    cycle = λ c g body k l. loop c g body (sym made.cycle ∙ k) l;
-  }
-
-  -- the entry of a statement that is no DO
-  pub plain_entry : cycle ≡ None → is_do s ≡ false → IsEntry p e s n
-  plain_entry none plain = entry_is (ap is_some none ∙ sym plain) (λ c h body k l. absurd (let z : None ≡ Some c = sym none ∙ k in cc))
-
-  -- the entry of a DO
-  pub do_entry : (c : Cycle) (h : Head) (body : StmtTrees) → cycle ≡ Some c → s ≡ Do h body → IsCycle p c h body n → IsEntry p e s n
-  do_entry c h body some is_loop loop = entry_is (ap is_some some ∙ sym (ap is_do is_loop)) by
-    where
-      by : (d : Cycle) (g : Head) (trees : StmtTrees) → cycle ≡ Some d → s ≡ Do g trees → IsCycle p d g trees n
-      by d g trees k l =
-          let whole : Do h body ≡ Do g trees = sym is_loop ∙ l in
-          let heads : h ≡ g = cc in
-          let bodies : body ≡ trees = cc in
-          let cycles : c ≡ d = let z : Some c ≡ Some d = sym some ∙ k in cc in
-          subst (λ (z : Cycle). IsCycle p z g trees n) cycles (subst (λ (z : StmtTrees). IsCycle p c g z n) bodies (subst (λ (z : Head). IsCycle p c z body n) heads loop))
+-- an entry is made of what a statement does
+pub made_entry : (p : Places) (s : StmtTree) (n : ℕ) (part : Part) (behind : ℕ) (e : Entry) → IsMade part behind e
+    → IsPart (names_in p) part (λ x. sum_of (constants_in p) x s n) (λ x. first_outside (constants_in p) x s n) (loop_variables s) → behind ≡ n + statement_count s → IsEntry p e s n
+made_entry p s n part behind e made is at = record {
+  part = subst (λ (q : Part). IsPart (names_in p) q (λ x. sum_of (constants_in p) x s n) (λ x. first_outside (constants_in p) x s n) (loop_variables s)) (sym made.part) is;
+  touched = λ x i w t. made.touched i (sum_of (constants_in p) x s n) (is.sums x i w) t;
+  behind = made.behind ∙ at;
+}
 
 -- what holds anyway holds of an answer
 pub on_ok : {X E : Type 0} {A : Type 0} (r : Result X E) → A → OnOk r A

@@ -18,3 +18,5 @@ pub mod PartSums
 pub mod Touching
 pub mod EventRows
 pub mod Known
+pub mod Skipping
+pub mod Apart

@@ -1,5 +1,5 @@
 -- Parts that are put together.
-use Rattle.std.proofs.Common.{◌≡◌, ℕ, List, [], ◌++◌, length, replicate, Bool, true, false, not, ◌&&◌, ◌||◌, Option, Some, None, is_some, ◌⊎◌, inl, inr, sym, ap, subst, ◌∙◌}
+use Rattle.std.proofs.Common.{◌≡◌, ℕ, List, ◌++◌, length, ◌||◌, Option, Some, is_some, sym, ap, subst, ◌∙◌}
 use Rattle.ped_base.specs.Lists.{is_among}
 use Rattle.ped_bits.specs.Places.{union}
 use Rattle.ped_names.proofs.Collected.{among_append}
@@ -9,7 +9,6 @@ use Rattle.ped_flow.specs.Rows.{Holds}
 use Rattle.ped_flow.specs.Parts.{IsPart}
 use Rattle.ped_flow.specs.declared.summaries.Summary.{Summary}
 use Rattle.ped_flow.specs.declared.parts.Part.{Part}
-use Rattle.ped_flow.proofs.Truths.{and_split, or_split}
 use Rattle.ped_flow.proofs.SumLaws.{least-assoc}
 use Rattle.ped_flow.proofs.RowSums.{or_at, reads_or}
 
@@ -20,23 +19,13 @@ module _ (names : List (List ℕ)) (p q r : Part) (o k : List ℕ → Option ℕ
   pub indices_both : length p.indices ≡ length q.indices → r.indices ≡ union p.indices q.indices → (x : List ℕ) (i : ℕ) → place_of names x ≡ Some i → bit r.indices i ≡ is_among x (u ++ v)
   indices_both w e x i at = or_at p.indices q.indices r.indices i w e ∙ (λ z. h.indices x i at z || j.indices x i at z) ∙ sym (among_append x u v)
 
-  pub placed_both : r.placed ≡ (p.placed && q.placed) → r.placed ≡ true → (x : List ℕ) → is_among x (u ++ v) ≡ true → is_some (place_of names x) ≡ true
-  placed_both e t x m = by (or_split (is_among x u) (is_among x v) (sym (among_append x u v) ∙ m))
-    where
-      both : (p.placed ≡ true) × (q.placed ≡ true)
-      both = and_split p.placed q.placed (sym e ∙ t)
-
-      by : (is_among x u ≡ true) ⊎ (is_among x v ≡ true) → is_some (place_of names x) ≡ true
-      by (inl a) = h.placed both.0 x a
-      by (inr a) = j.placed both.1 x a
-
-  pub then_part : length p.loose ≡ length q.loose → r.loose ≡ union p.loose q.loose → length p.indices ≡ length q.indices → r.indices ≡ union p.indices q.indices → r.placed ≡ (p.placed && q.placed) → r.sums.width ≡ p.sums.width
+  pub then_part : length p.loose ≡ length q.loose → r.loose ≡ union p.loose q.loose → length p.indices ≡ length q.indices → r.indices ≡ union p.indices q.indices → r.sums.width ≡ p.sums.width
       → ((i : ℕ) (a b : Summary) → Holds p.sums i a → Holds q.sums i b → Holds r.sums i (sum_in_turn a b)) → IsPart names r (λ x. sum_in_turn (f x) (g x)) (λ x. least_of (o x) (k x)) (u ++ v)
-  then_part lw le iw ie pe we s = record { width = we ∙ h.width; sums = λ x i at. s i (f x) (g x) (h.sums x i at) (j.sums x i at); loose = loose_both lw le; indices = indices_both iw ie; placed = placed_both pe }
+  then_part lw le iw ie we s = record { width = we ∙ h.width; sums = λ x i at. s i (f x) (g x) (h.sums x i at) (j.sums x i at); loose = loose_both lw le; indices = indices_both iw ie }
 
-  pub or_part : length p.loose ≡ length q.loose → r.loose ≡ union p.loose q.loose → length p.indices ≡ length q.indices → r.indices ≡ union p.indices q.indices → r.placed ≡ (p.placed && q.placed) → r.sums.width ≡ p.sums.width
+  pub or_part : length p.loose ≡ length q.loose → r.loose ≡ union p.loose q.loose → length p.indices ≡ length q.indices → r.indices ≡ union p.indices q.indices → r.sums.width ≡ p.sums.width
       → ((i : ℕ) (a b : Summary) → Holds p.sums i a → Holds q.sums i b → Holds r.sums i (sum_either a b)) → IsPart names r (λ x. sum_either (f x) (g x)) (λ x. least_of (o x) (k x)) (u ++ v)
-  or_part lw le iw ie pe we s = record { width = we ∙ h.width; sums = λ x i at. s i (f x) (g x) (h.sums x i at) (j.sums x i at); loose = loose_both lw le; indices = indices_both iw ie; placed = placed_both pe }
+  or_part lw le iw ie we s = record { width = we ∙ h.width; sums = λ x i at. s i (f x) (g x) (h.sums x i at) (j.sums x i at); loose = loose_both lw le; indices = indices_both iw ie }
 
 -- a part of the same sums
 pub same_part : (names : List (List ℕ)) (p : Part) (f g : List ℕ → Summary) (o k : List ℕ → Option ℕ) (u v : List (List ℕ)) → ((x : List ℕ) → f x ≡ g x) → ((x : List ℕ) → o x ≡ k x) → u ≡ v → IsPart names p f o u → IsPart names p g k v
@@ -45,7 +34,6 @@ same_part names p f g o k u v e l w h = record {
   sums = λ x i at. subst (λ (m : Summary). Holds p.sums i m) (e x) (h.sums x i at);
   loose = λ x i at. h.loose x i at ∙ ap is_some (l x);
   indices = λ x i at. h.indices x i at ∙ ap (is_among x) w;
-  placed = λ t x m. h.placed t x (ap (is_among x) w ∙ m);
 }
 
 -- one more item of a list: what the rest reads loosely is what the item does and what the others do

@@ -1,10 +1,10 @@
 -- The places of names among names.
-use Rattle.std.proofs.Common.{◌≡◌, ℕ, zero, suc, ◌+◌, ◌<◌, List, [], ◌∷◌, length, Bool, true, false, ◌||◌, ◌==◌, Option, Some, None, position, IsTrue, Result, Ok, Err, OnOk, OnErr, ◌⊎◌, inl, inr, refl, sym, ap, ◌∙◌, arith}
+use Rattle.std.proofs.Common.{◌≡◌, ℕ, List, [], ◌∷◌, Bool, true, false, ◌||◌, position, IsTrue, Result, Ok, Err, OnOk, OnErr, ◌⊎◌, inl, inr, refl, sym, ap, ◌∙◌}
 use Rattle.ped_base.specs.Lists.{is_same_text, is_among}
 use Rattle.ped_base.specs.contracts.identifiers.NamePartialEq.TheImpl as code
 use Rattle.ped_names.specs.Collecting.{with_name}
 use Rattle.ped_names.proofs.Collected.{among_collected}
-use Rattle.ped_names.proofs.NameEquality.{name_same, same_itself, same_flip, same_is}
+use Rattle.ped_names.proofs.NameEquality.{name_same, same_is}
 use Rattle.ped_flow.specs.RowPlaces.{place_of}
 
 -- the code's search for a name

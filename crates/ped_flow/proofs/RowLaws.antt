@@ -1,5 +1,5 @@
 -- Rows of bits, place by place.
-use Rattle.std.proofs.Common.{◌≡◌, ℕ, zero, suc, ◌<◌, ◌≤◌, List, [], ◌∷◌, length, replicate, slice_set, slice_index_or, Bool, true, false, ◌&&◌, ◌||◌, not, refl, ap, arith}
+use Rattle.std.proofs.Common.{◌≡◌, ℕ, zero, suc, ◌<◌, List, [], ◌∷◌, length, replicate, Bool, true, false, ◌&&◌, ◌||◌, not, refl, ap, arith}
 use Rattle.ped_bits.specs.Places.{union, without}
 use Rattle.ped_flow.specs.RowPlaces.{bit}
 

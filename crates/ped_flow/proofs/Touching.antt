@@ -1,5 +1,5 @@
 -- Scalars to which nothing happens.
-use Rattle.std.proofs.Common.{◌≡◌, ℕ, List, length, Bool, true, false, not, ◌||◌, Option, None, Some, is_some, refl, sym, ap, ◌∙◌}
+use Rattle.std.proofs.Common.{◌≡◌, ℕ, List, length, Bool, true, false, not, Option, None, Some, is_some, refl, sym, ap, ◌∙◌}
 use Rattle.ped_bits.specs.Places.{union}
 use Rattle.ped_flow.specs.Summaries.{passing}
 use Rattle.ped_flow.specs.RowPlaces.{bit}

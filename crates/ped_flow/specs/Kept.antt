@@ -7,7 +7,7 @@ use Rattle.ped_tree.specs.Numbering.{statement_count, statements_count}
 use Rattle.ped_tree.specs.Accesses.{constant_names}
 use Rattle.ped_flow.specs.Events.{Event, is_overwriting, own_events}
 use Rattle.ped_flow.specs.Summaries.{least_of}
-use Rattle.ped_flow.specs.declared.scalars.Scalar.{Scalar}
+use Rattle.ped_flow.specs.declared.asked.Scalar.{Scalar}
 use Rattle.ped_flow.specs.declared.flows.Reader.{Reader}
 use Rattle.ped_flow.specs.declared.flows.Reader.TheVariants.{Statement, Saved}
 
@@ -17,7 +17,7 @@ name_of s = s.name.now
 
 -- the named constants of its program
 abbrev pub constants_of : Scalar → List (List ℕ)
-constants_of s = constant_names (map decl_tree s.decls.now)
+constants_of s = constant_names (map decl_tree s.places.now.decls.now)
 
 -- the program's end as a reader, where the test holds
 abbrev pub reader_else : Bool → Option Reader

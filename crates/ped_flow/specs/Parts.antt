@@ -1,5 +1,5 @@
 -- What a part of a program does to the scalars that have places. Contracts of private functions alone speak of these definitions.
-use Rattle.std.specs.Prelude.{◌≡◌, ℕ, List, [], length, true, false, not, Option, Some, is_some}
+use Rattle.std.specs.Prelude.{◌≡◌, ℕ, List, [], length, false, not, Option, Some, is_some}
 use Rattle.ped_base.specs.Lists.{is_among}
 use Rattle.ped_flow.specs.Events.{Event}
 use Rattle.ped_flow.specs.Summaries.{sum_events}
@@ -9,13 +9,12 @@ use Rattle.ped_flow.specs.Rows.{Holds}
 use Rattle.ped_flow.specs.declared.summaries.Summary.{Summary}
 use Rattle.ped_flow.specs.declared.parts.Part.{Part}
 
--- rows say of each scalar that has a place what its paths do to it, whether a statement reads it outside the bodies of all loops of it, and whether it is the variable of a loop; and whether all such variables have places
+-- rows say of each scalar that has a place what its paths do to it, whether a statement reads it outside the bodies of all loops of it, and whether it is the variable of a loop
 pub record IsPart (names : List (List ℕ)) (p : Part) (sum : List ℕ → Summary) (outside : List ℕ → Option ℕ) (variables : List (List ℕ)) : Type 0 where
   pub width : p.sums.width ≡ length names
   pub sums : (x : List ℕ) (i : ℕ) → place_of names x ≡ Some i → Holds p.sums i (sum x)
   pub loose : (x : List ℕ) (i : ℕ) → place_of names x ≡ Some i → bit p.loose i ≡ is_some (outside x)
   pub indices : (x : List ℕ) (i : ℕ) → place_of names x ≡ Some i → bit p.indices i ≡ is_among x variables
-  pub placed : p.placed ≡ true → (x : List ℕ) → is_among x variables ≡ true → is_some (place_of names x) ≡ true
 
 -- some scalars are read and then some are assigned
 pub record AreEvents (xs ys : List (List ℕ)) (sum : List ℕ → Summary) (outside : List ℕ → Option ℕ) : Type 0 where

@@ -1,5 +1,5 @@
 -- Rows of bits that say of each of many scalars what a summary says of one. Contracts of private functions alone speak of these definitions.
-use Rattle.std.specs.Prelude.{◌≡◌, ℕ, List, length, Bool, not, is_some}
+use Rattle.std.specs.Prelude.{◌≡◌, ℕ, not, is_some}
 use Rattle.ped_flow.specs.RowPlaces.{bit}
 use Rattle.ped_flow.specs.declared.summaries.Summary.{Summary}
 use Rattle.ped_flow.specs.declared.row_summaries.RowSummary.{RowSummary}

@@ -1,13 +1,16 @@
 //! What the paths to the outermost loop that is a loop or is round it do to one scalar.
 
-ghost use Rattle.std.specs.Prelude.{◌≡◌, ◌+◌, ◌<◌, ◌^◌};
+ghost use Rattle.std.specs.Prelude.{◌≡◌, ◌+◌, ◌<◌, ◌^◌, IfSome};
 ghost use Rattle.ped_tree.specs.Views.{stmt_tree, stmt_trees};
 ghost use Rattle.ped_tree.specs.Numbering.{statement_count, statements_count};
 ghost use Rattle.ped_flow.specs.Summaries as Spec;
 ghost use Rattle.ped_flow.specs.Kept.{name_of, constants_of};
+ghost use Rattle.ped_flow.specs.Entries.{is_do, IsKnown, AreKnown};
 
+use crate::asked::Scalar;
 use crate::behind::at_once;
-use crate::scalars::{Scalar, condition};
+use crate::scalars::condition;
+use crate::skips::{elsewhere, past};
 use crate::summaries::Summary;
 use crate::walks::statement;
 use ped_tree::Stmt;
@@ -16,7 +19,8 @@ use ped_tree::Stmt;
 /// them.
 #[cycle(before)]
 pub(crate) fn before_all(scalar: &Scalar, l: u32, body: &[Stmt], number: &mut u32) -> Summary
-    requires { number.old + statements_count (stmt_trees body.now) < 2 ^ 32 }
+    requires few { number.old + statements_count (stmt_trees body.now) < 2 ^ 32 }
+    requires known { AreKnown scalar.now (stmt_trees body.now) number.old }
     ensures sum { result ≡ Spec.sum_before_all (constants_of scalar.now) (name_of scalar.now) l (stmt_trees body.now) number.old }
     ensures number { number.new ≡ number.old + statements_count (stmt_trees body.now) }
 {
@@ -31,10 +35,84 @@ pub(crate) fn before_all(scalar: &Scalar, l: u32, body: &[Stmt], number: &mut u3
     summary.or(way.then(Summary::unreached()))
 }
 
-/// What the paths to the outermost loop do in a statement. Its number becomes that of the statement behind it.
+/// What the paths to the outermost loop do in a statement. Its number becomes that of the statement behind it. Statements
+/// off the way are passed over.
 #[cycle(before)]
 fn before(scalar: &Scalar, l: u32, s: &Stmt, number: &mut u32) -> Summary
-    requires { number.old + statement_count (stmt_tree s.now) < 2 ^ 32 }
+    requires few { number.old + statement_count (stmt_tree s.now) < 2 ^ 32 }
+    requires known { IsKnown scalar.now (stmt_tree s.now) number.old }
+    ensures sum { result ≡ Spec.sum_before (constants_of scalar.now) (name_of scalar.now) l (stmt_tree s.now) number.old }
+    ensures number { number.new ≡ number.old + statement_count (stmt_tree s.now) }
+{
+    match off_way(scalar, l, s, *number) {
+        Some(next) => {
+            *number = next;
+            return Summary::unreached();
+        }
+        None => {
+            return before_inside(scalar, l, s, number);
+        }
+    }
+}
+
+/// The number behind a statement through which no way leads to the outermost loop, and in which nothing happens to the
+/// scalar, or which is another loop.
+fn off_way(scalar: &Scalar, l: u32, s: &Stmt, number: u32) -> Option<u32>
+    requires { IsKnown scalar.now (stmt_tree s.now) number }
+    ensures unreached { IfSome result (λ next. Spec.sum_before (constants_of scalar.now) (name_of scalar.now) l (stmt_tree s.now) number ≡ Spec.unreached) }
+    ensures number { IfSome result (λ next. next ≡ number + statement_count (stmt_tree s.now)) }
+{
+    match elsewhere(scalar, l, s, number) {
+        Some(next) => {
+            if is_loop(s) {
+                return Some(next);
+            }
+            return past(scalar, s, number);
+        }
+        None => {
+            return None;
+        }
+    }
+}
+
+/// Whether a statement is a loop.
+fn is_loop(s: &Stmt) -> bool
+    ensures { result ≡ is_do (stmt_tree s.now) }
+{
+    match s {
+        Stmt::Do(_) => {
+            return true;
+        }
+        Stmt::If {
+            condition: _,
+            then_part: _,
+            else_part: _,
+        } => {
+            return false;
+        }
+        Stmt::Assign { left: _, right: _ } => {
+            return false;
+        }
+        Stmt::Print(_) => {
+            return false;
+        }
+        Stmt::Read(_) => {
+            return false;
+        }
+        Stmt::Stop => {
+            return false;
+        }
+        Stmt::Comment(_) => {
+            return false;
+        }
+    }
+}
+
+/// The same, from the statement and those in it.
+#[cycle(before)]
+fn before_inside(scalar: &Scalar, l: u32, s: &Stmt, number: &mut u32) -> Summary
+    requires few { number.old + statement_count (stmt_tree s.now) < 2 ^ 32 }
+    requires known { IsKnown scalar.now (stmt_tree s.now) number.old }
     ensures sum { result ≡ Spec.sum_before (constants_of scalar.now) (name_of scalar.now) l (stmt_tree s.now) number.old }
     ensures number { number.new ≡ number.old + statement_count (stmt_tree s.now) }
 {
@@ -96,7 +174,7 @@ fn count(stmt: &Stmt) -> u32
 
 /// How many numbered statements there are.
 #[cycle(count)]
-fn count_all(stmts: &[Stmt]) -> u32
+pub(crate) fn count_all(stmts: &[Stmt]) -> u32
     requires { statements_count (stmt_trees stmts.now) < 2 ^ 32 }
     ensures { result ≡ statements_count (stmt_trees stmts.now) }
 {

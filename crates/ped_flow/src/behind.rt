@@ -6,8 +6,10 @@ ghost use Rattle.ped_tree.specs.Numbering.{statement_count, statements_count};
 ghost use Rattle.ped_refs.specs.Loops.{head_of};
 ghost use Rattle.ped_flow.specs.Summaries as Spec;
 ghost use Rattle.ped_flow.specs.Kept.{name_of, constants_of};
+ghost use Rattle.ped_flow.specs.Entries.{IsKnown, AreKnown};
 
-use crate::scalars::Scalar;
+use crate::asked::Scalar;
+use crate::skips::elsewhere;
 use crate::summaries::Summary;
 use crate::walks::{statement, statements, trips};
 use ped_tree::{Do, Stmt};
@@ -16,7 +18,8 @@ use ped_tree::{Do, Stmt};
 /// behind them.
 #[cycle(behind)]
 pub(crate) fn behind_all(scalar: &Scalar, l: u32, body: &[Stmt], number: &mut u32) -> Summary
-    requires { number.old + statements_count (stmt_trees body.now) < 2 ^ 32 }
+    requires few { number.old + statements_count (stmt_trees body.now) < 2 ^ 32 }
+    requires known { AreKnown scalar.now (stmt_trees body.now) number.old }
     ensures sum { result ≡ Spec.sum_behind_all (constants_of scalar.now) (name_of scalar.now) l (stmt_trees body.now) number.old }
     ensures number { number.new ≡ number.old + statements_count (stmt_trees body.now) }
 {
@@ -31,7 +34,8 @@ pub(crate) fn behind_all(scalar: &Scalar, l: u32, body: &[Stmt], number: &mut u3
 
 /// Paths that go on through a statement. Where none goes on, there is nothing to look at.
 fn through(scalar: &Scalar, before: Summary, s: &Stmt, number: u32) -> Summary
-    requires { number + statement_count (stmt_tree s.now) < 2 ^ 32 }
+    requires few { number + statement_count (stmt_tree s.now) < 2 ^ 32 }
+    requires known { IsKnown scalar.now (stmt_tree s.now) number }
     ensures { result ≡ Spec.sum_in_turn before (Spec.sum_of (constants_of scalar.now) (name_of scalar.now) (stmt_tree s.now) number) }
 {
     if before.is_cut() {
@@ -41,10 +45,31 @@ fn through(scalar: &Scalar, before: Summary, s: &Stmt, number: u32) -> Summary
     before.then(statement(scalar, s, &mut place))
 }
 
-/// What the paths from the exit of the loop `l` do in a statement. Its number becomes that of the statement behind it.
+/// What the paths from the exit of the loop `l` do in a statement. Its number becomes that of the statement behind it. A
+/// statement in which the loop doesn't stand is passed over.
 #[cycle(behind)]
 fn behind(scalar: &Scalar, l: u32, s: &Stmt, number: &mut u32) -> Summary
-    requires { number.old + statement_count (stmt_tree s.now) < 2 ^ 32 }
+    requires few { number.old + statement_count (stmt_tree s.now) < 2 ^ 32 }
+    requires known { IsKnown scalar.now (stmt_tree s.now) number.old }
+    ensures sum { result ≡ Spec.sum_behind (constants_of scalar.now) (name_of scalar.now) l (stmt_tree s.now) number.old }
+    ensures number { number.new ≡ number.old + statement_count (stmt_tree s.now) }
+{
+    match elsewhere(scalar, l, s, *number) {
+        Some(next) => {
+            *number = next;
+            return Summary::unreached();
+        }
+        None => {
+            return behind_inside(scalar, l, s, number);
+        }
+    }
+}
+
+/// The same, from the statement and those in it.
+#[cycle(behind)]
+fn behind_inside(scalar: &Scalar, l: u32, s: &Stmt, number: &mut u32) -> Summary
+    requires few { number.old + statement_count (stmt_tree s.now) < 2 ^ 32 }
+    requires known { IsKnown scalar.now (stmt_tree s.now) number.old }
     ensures sum { result ≡ Spec.sum_behind (constants_of scalar.now) (name_of scalar.now) l (stmt_tree s.now) number.old }
     ensures number { number.new ≡ number.old + statement_count (stmt_tree s.now) }
 {
@@ -100,7 +125,8 @@ pub(crate) fn at_once(test: bool) -> Summary
 /// Paths that go on behind an iteration of a DO: further trips and its exit. Where none goes on, there is nothing to look
 /// at.
 fn further(scalar: &Scalar, before: Summary, d: &Do, number: u32) -> Summary
-    requires { number + 1 + statements_count (stmt_trees d.now.body.items) < 2 ^ 32 }
+    requires few { number + 1 + statements_count (stmt_trees d.now.body.items) < 2 ^ 32 }
+    requires known { AreKnown scalar.now (stmt_trees d.now.body.items) (number + 1) }
     ensures { result ≡ Spec.sum_in_turn before (Spec.sum_loop (name_of scalar.now) number (head_of d.now) (stmt_trees d.now.body.items) (Spec.sum_of_all (constants_of scalar.now) (name_of scalar.now) (stmt_trees d.now.body.items) (number + 1))) }
 {
     if before.is_cut() {

@@ -6,13 +6,14 @@ ghost use Rattle.ped_tree.specs.Numbering.{statements_count};
 ghost use Rattle.ped_refs.specs.Loops.{head_of};
 ghost use Rattle.ped_affine.specs.Assigned.{loop_variables, all_loop_variables};
 ghost use Rattle.ped_flow.specs.Escapes as Spec;
+ghost use Rattle.ped_flow.specs.Entries.{KnowsAll};
 
-use crate::flows::{both, is_saved_in, walk_behind};
+use crate::flows::{Flow, both, is_saved_in, scalar_of, walk_behind};
 use crate::outside::{outside_all, unless};
-use crate::scalars::{is_same, scalar_of};
+use crate::scalars::is_same;
 use crate::summaries::least;
 use ped_base::Name;
-use ped_tree::{Do, Program, Stmt};
+use ped_tree::{Do, Stmt};
 
 /// The first read by which a loop isn't contained, and whether the program's end may show a variable.
 #[derive(Clone, Copy)]
@@ -21,10 +22,10 @@ pub(crate) struct Escape {
     pub(crate) shown: bool,
 }
 
-/// A loop of a program, with its number.
+/// A loop of a program, with its number and the flow of scalars in the program.
 #[derive(Clone, Copy)]
 pub(crate) struct Numbered<'a> {
-    pub(crate) program: &'a Program,
+    pub(crate) flow: &'a Flow<'a>,
     pub(crate) number: u32,
     pub(crate) body: &'a Do,
 }
@@ -72,15 +73,16 @@ impl Escape {
 /// How a loop isn't contained by one of these variables.
 fn escape_of(l: &Numbered, name: &Name) -> Escape
     requires fits { l.now.number + 1 + statements_count (stmt_trees l.now.body.now.body.items) < 2 ^ 32 }
-    requires few { statements_count (program_tree l.now.program.now).body + 1 < 2 ^ 32 }
-    ensures { result ≡ Spec.escape_of (program_tree l.now.program.now) l.now.number (head_of l.now.body.now) (stmt_trees l.now.body.now.body.items) name.now }
+    requires few { statements_count (program_tree l.now.flow.now.program.now).body + 1 < 2 ^ 32 }
+    requires known { KnowsAll l.now.flow.now.places l.now.flow.now.table.items (stmt_trees l.now.body.now.body.items) (l.now.number + 1) }
+    ensures { result ≡ Spec.escape_of (program_tree l.now.flow.now.program.now) l.now.number (head_of l.now.body.now) (stmt_trees l.now.body.now.body.items) name.now }
 {
-    let scalar = scalar_of(l.program, name);
+    let scalar = scalar_of(l.flow, name);
     let mut place = l.number + 1;
     let inside = outside_all(&scalar, &l.body.body, &mut place);
     let loose = unless(is_same(name, &l.body.variable), inside);
-    let behind = walk_behind(l.program, l.number, name);
-    let saved = is_saved_in(l.program, name);
+    let behind = walk_behind(l.flow, l.number, name);
+    let saved = is_saved_in(l.flow.program, name);
     Escape {
         first: least(loose, behind.first),
         shown: both(behind.leaves(), saved),
@@ -91,8 +93,9 @@ fn escape_of(l: &Numbered, name: &Name) -> Escape
 #[cycle(escapes)]
 fn escapes_in(l: &Numbered, statements: &[Stmt]) -> Escape
     requires fits { l.now.number + 1 + statements_count (stmt_trees l.now.body.now.body.items) < 2 ^ 32 }
-    requires few { statements_count (program_tree l.now.program.now).body + 1 < 2 ^ 32 }
-    ensures { result ≡ Spec.escapes_of (program_tree l.now.program.now) l.now.number (head_of l.now.body.now) (stmt_trees l.now.body.now.body.items) (all_loop_variables (stmt_trees statements.now)) }
+    requires few { statements_count (program_tree l.now.flow.now.program.now).body + 1 < 2 ^ 32 }
+    requires known { KnowsAll l.now.flow.now.places l.now.flow.now.table.items (stmt_trees l.now.body.now.body.items) (l.now.number + 1) }
+    ensures { result ≡ Spec.escapes_of (program_tree l.now.flow.now.program.now) l.now.number (head_of l.now.body.now) (stmt_trees l.now.body.now.body.items) (all_loop_variables (stmt_trees statements.now)) }
 {
     let mut escape = Escape::nothing();
     for s in statements {
@@ -105,8 +108,9 @@ fn escapes_in(l: &Numbered, statements: &[Stmt]) -> Escape
 #[cycle(escapes)]
 fn escapes_of(l: &Numbered, s: &Stmt) -> Escape
     requires fits { l.now.number + 1 + statements_count (stmt_trees l.now.body.now.body.items) < 2 ^ 32 }
-    requires few { statements_count (program_tree l.now.program.now).body + 1 < 2 ^ 32 }
-    ensures { result ≡ Spec.escapes_of (program_tree l.now.program.now) l.now.number (head_of l.now.body.now) (stmt_trees l.now.body.now.body.items) (loop_variables (stmt_tree s.now)) }
+    requires few { statements_count (program_tree l.now.flow.now.program.now).body + 1 < 2 ^ 32 }
+    requires known { KnowsAll l.now.flow.now.places l.now.flow.now.table.items (stmt_trees l.now.body.now.body.items) (l.now.number + 1) }
+    ensures { result ≡ Spec.escapes_of (program_tree l.now.flow.now.program.now) l.now.number (head_of l.now.body.now) (stmt_trees l.now.body.now.body.items) (loop_variables (stmt_tree s.now)) }
 {
     match s {
         Stmt::If {
@@ -140,8 +144,9 @@ fn escapes_of(l: &Numbered, s: &Stmt) -> Escape
 /// The statement by which a loop isn't contained, where there is one.
 pub(crate) fn escaping(l: &Numbered) -> Option<u32>
     requires fits { l.now.number + 1 + statements_count (stmt_trees l.now.body.now.body.items) < 2 ^ 32 }
-    requires few { statements_count (program_tree l.now.program.now).body + 1 < 2 ^ 32 }
-    ensures { result ≡ Spec.escaping_by (Spec.escapes_of (program_tree l.now.program.now) l.now.number (head_of l.now.body.now) (stmt_trees l.now.body.now.body.items) (l.now.body.now.variable ∷ all_loop_variables (stmt_trees l.now.body.now.body.items))) l.now.number }
+    requires few { statements_count (program_tree l.now.flow.now.program.now).body + 1 < 2 ^ 32 }
+    requires known { KnowsAll l.now.flow.now.places l.now.flow.now.table.items (stmt_trees l.now.body.now.body.items) (l.now.number + 1) }
+    ensures { result ≡ Spec.escaping_by (Spec.escapes_of (program_tree l.now.flow.now.program.now) l.now.number (head_of l.now.body.now) (stmt_trees l.now.body.now.body.items) (l.now.body.now.variable ∷ all_loop_variables (stmt_trees l.now.body.now.body.items))) l.now.number }
 {
     let own = escape_of(l, &l.body.variable);
     own.or(escapes_in(l, &l.body.body)).statement(l.number)

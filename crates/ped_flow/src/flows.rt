@@ -1,7 +1,7 @@
-//! Questions about scalars and loops of one program. Each is answered by one walk over its statements, which takes no
-//! memory.
+//! Questions about scalars and loops of one program. Each is answered by a walk over its statements, which takes no memory
+//! and passes over those in which nothing happens to the scalar, as a table of rows of bits says for all scalars at once.
 
-ghost use Rattle.std.specs.Prelude.{◌≡◌, ◌+◌, ◌<◌, ◌^◌, ◌↔◌, ◌&&◌, true, IsTrue, MatchOption};
+ghost use Rattle.std.specs.Prelude.{◌≡◌, ◌+◌, ◌<◌, ◌^◌, ◌↔◌, ◌&&◌, true, length, IsTrue, IfOk, MatchOption};
 ghost use Rattle.std.specs.List.{flat_map};
 ghost use Rattle.ped_base.specs.Lists as Lists;
 ghost use Rattle.ped_tree.specs.Tree;
@@ -15,16 +15,24 @@ ghost use Rattle.ped_flow.specs.Questions.{saved_in, IsLoop, IsFirst, IsExposed,
 ghost use Rattle.ped_flow.specs.Answers.{IsReader, IsEscape};
 ghost use Rattle.ped_flow.specs.Summaries as Spec;
 ghost use Rattle.ped_flow.specs.Kept.{name_of, constants_of, reader_by};
+ghost use Rattle.ped_flow.specs.RowMarks.{constants_in};
+ghost use Rattle.ped_flow.specs.Entries.{AreEntered, KnowsAll, AreKnown};
 
-use crate::before::before_all;
+use crate::asked::{Scalar, scalar_by};
+use crate::before::{before_all, count_all};
 use crate::behind::behind_all;
+use crate::collecting::place_statements;
 use crate::decls::is_saved;
+use crate::entries::Entry;
 use crate::escapes::{Numbered, escaping};
-use crate::scalars::{Scalar, scalar_of, start};
+use crate::places::Places;
+use crate::row_walks::all_parts;
+use crate::scalars::start;
 use crate::summaries::Summary;
 use crate::walks::statements;
-use ped_base::Name;
+use ped_base::{Name, NoMemory};
 use ped_tree::{Do, Program, Stmt};
+use std::alloc::Global;
 
 /// Who may read what a scalar holds at the exit of a loop.
 #[derive(Clone, Copy, Debug, PartialEq, Eq)]
@@ -36,17 +44,71 @@ pub enum Reader {
 }
 
 /// The flow of scalars in a program. A question about a number that is no loop's is answered as if no path came there.
-#[derive(Clone, Copy)]
+#[derive(Drop)]
 pub struct Flow<'a> {
     /// The program that is asked about.
     pub program: &'a Program,
+    /// Its scalars that have a place in rows.
+    pub(crate) places: Places<'a>,
+    /// What is known of its statements, by their numbers.
+    pub(crate) table: Vec<Option<Entry>>,
+    ghost constants: { constants_in places ≡ constant_names (program_tree program.now).decls },
+    ghost known: { AreEntered places table.items (program_tree program.now).body },
 }
 
 /// The flow of scalars in a program.
-pub fn flow_of<'a>(program: &'a Program) -> Flow<'a>
-    ensures { program_tree result.program.now ≡ program_tree program.now }
+pub fn flow_of<'a>(alloc: Global, program: &'a Program) -> Result<Flow<'a>, NoMemory>
+    requires { statements_count (program_tree program.now).body + 1 < 2 ^ 32 }
+    ensures { IfOk result (λ flow. program_tree flow.program.now ≡ program_tree program.now) }
 {
-    Flow { program }
+    let places = places_of(alloc, program)?;
+    let table = table_of(alloc, &places, &program.body)?;
+    Ok(Flow {
+        program,
+        places,
+        table,
+    })
+}
+
+/// The scalars of a program.
+fn places_of<'a>(alloc: Global, program: &'a Program) -> Result<Places<'a>, NoMemory>
+    ensures { IfOk result (λ places. constants_in places ≡ constant_names (program_tree program.now).decls) }
+{
+    let mut places = Places::new(alloc, &program.decls);
+    place_statements(&mut places, &program.body)?;
+    Ok(places)
+}
+
+/// What is known of the statements of a program, of which the first has number 1.
+fn table_of(alloc: Global, places: &Places, body: &[Stmt]) -> Result<Vec<Option<Entry>>, NoMemory>
+    requires { statements_count (stmt_trees body.now) + 1 < 2 ^ 32 }
+    ensures { IfOk result (λ table. KnowsAll places.now table.items (stmt_trees body.now) 1) }
+{
+    let mut table = empty_table(alloc, count_all(body) + 1)?;
+    let mut number = 1;
+    all_parts(alloc, places, &mut table, body, &mut number)?;
+    Ok(table)
+}
+
+/// A table of so many statements of which nothing is known.
+fn empty_table(alloc: Global, count: u32) -> Result<Vec<Option<Entry>>, NoMemory>
+    ensures { IfOk result (λ table. length table.items ≡ count) }
+{
+    let mut table = Vec::new(alloc);
+    for _number in 0..count {
+        table.push(None)?;
+    }
+    Ok(table)
+}
+
+/// A scalar of a program.
+pub(crate) fn scalar_of<'a>(flow: &'a Flow<'a>, name: &'a Name) -> Scalar<'a>
+    ensures name { name_of result ≡ name.now }
+    ensures constants { constants_of result ≡ constant_names (program_tree flow.now.program.now).decls }
+    ensures places { result.places.now ≡ flow.now.places }
+    ensures table { result.table.now ≡ flow.now.table.items }
+{
+    scalar_by(&flow.places, &flow.table, name)
 }
 
 impl<'a> Flow<'a> {
@@ -56,7 +118,7 @@ impl<'a> Flow<'a> {
         requires { statements_count (program_tree self.now.program.now).body + 1 < 2 ^ 32 }
         ensures { IsFirst (IsExposed (program_tree self.now.program.now) loop_number name.now) result }
     {
-        let scalar = scalar_of(self.program, name);
+        let scalar = scalar_of(self, name);
         match loop_at(self.program, loop_number) {
             Some(d) => {
                 return exposed_in(&scalar, d, loop_number);
@@ -74,7 +136,7 @@ impl<'a> Flow<'a> {
         requires { statements_count (program_tree self.now.program.now).body + 1 < 2 ^ 32 }
         ensures { IsReader (program_tree self.now.program.now) loop_number name.now result }
     {
-        let summary = walk_behind(self.program, loop_number, name);
+        let summary = walk_behind(self, loop_number, name);
         let saved = is_saved_in(self.program, name);
         reader_of(summary.first, both(summary.leaves(), saved))
     }
@@ -84,7 +146,7 @@ impl<'a> Flow<'a> {
         requires { statements_count (program_tree self.now.program.now).body + 1 < 2 ^ 32 }
         ensures { IsTrue result ↔ IsAssignedBefore (program_tree self.now.program.now) loop_number name.now }
     {
-        walk_before(self.program, loop_number, name).always_assigns()
+        walk_before(self, loop_number, name).always_assigns()
     }
 
     /// Whether the scalar is assigned at the end of each path through the body of the loop with this number.
@@ -92,7 +154,7 @@ impl<'a> Flow<'a> {
         requires { statements_count (program_tree self.now.program.now).body + 1 < 2 ^ 32 }
         ensures { IsTrue result ↔ IsAssignedThrough (program_tree self.now.program.now) loop_number name.now }
     {
-        let scalar = scalar_of(self.program, name);
+        let scalar = scalar_of(self, name);
         match loop_at(self.program, loop_number) {
             Some(d) => {
                 return assigned_in(&scalar, d, loop_number);
@@ -114,7 +176,7 @@ impl<'a> Flow<'a> {
         match loop_at(self.program, loop_number) {
             Some(d) => {
                 return escaping(&Numbered {
-                    program: self.program,
+                    flow: self,
                     number: loop_number,
                     body: d,
                 });
@@ -127,23 +189,23 @@ impl<'a> Flow<'a> {
 }
 
 /// What the paths from the exit of a loop to the end do to a scalar.
-pub(crate) fn walk_behind(program: &Program, l: u32, name: &Name) -> Summary
-    requires { statements_count (program_tree program.now).body + 1 < 2 ^ 32 }
-    ensures { result ≡ Spec.sum_behind_all (constant_names (program_tree program.now).decls) name.now l (program_tree program.now).body 1 }
+pub(crate) fn walk_behind(flow: &Flow, l: u32, name: &Name) -> Summary
+    requires { statements_count (program_tree flow.now.program.now).body + 1 < 2 ^ 32 }
+    ensures { result ≡ Spec.sum_behind_all (constant_names (program_tree flow.now.program.now).decls) name.now l (program_tree flow.now.program.now).body 1 }
 {
-    let scalar = scalar_of(program, name);
+    let scalar = scalar_of(flow, name);
     let mut place = 1;
-    behind_all(&scalar, l, &program.body, &mut place)
+    behind_all(&scalar, l, &flow.program.body, &mut place)
 }
 
 /// What the paths to the outermost loop do to a scalar.
-fn walk_before(program: &Program, l: u32, name: &Name) -> Summary
-    requires { statements_count (program_tree program.now).body + 1 < 2 ^ 32 }
-    ensures { result ≡ Spec.sum_before_all (constant_names (program_tree program.now).decls) name.now l (program_tree program.now).body 1 }
+fn walk_before(flow: &Flow, l: u32, name: &Name) -> Summary
+    requires { statements_count (program_tree flow.now.program.now).body + 1 < 2 ^ 32 }
+    ensures { result ≡ Spec.sum_before_all (constant_names (program_tree flow.now.program.now).decls) name.now l (program_tree flow.now.program.now).body 1 }
 {
-    let scalar = scalar_of(program, name);
+    let scalar = scalar_of(flow, name);
     let mut place = 1;
-    before_all(&scalar, l, &program.body, &mut place)
+    before_all(&scalar, l, &flow.program.body, &mut place)
 }
 
 /// Whether the program saves the name.
@@ -226,7 +288,8 @@ fn as_loop<'a>(statement: &'a Stmt) -> Option<&'a Do>
 
 /// The first statement in a loop with an exposed read of the scalar.
 fn exposed_in(scalar: &Scalar, d: &Do, number: u32) -> Option<u32>
-    requires { number + 1 + statements_count (stmt_trees d.now.body.items) < 2 ^ 32 }
+    requires few { number + 1 + statements_count (stmt_trees d.now.body.items) < 2 ^ 32 }
+    requires known { AreKnown scalar.now (stmt_trees d.now.body.items) (number + 1) }
     ensures { IsFirst (Spec.IsReadOn (iteration number (head_of d.now) (stmt_trees d.now.body.items) (all_paths (constants_of scalar.now) (stmt_trees d.now.body.items) (number + 1))) (name_of scalar.now)) result }
 {
     let mut place = number + 1;
@@ -237,7 +300,8 @@ fn exposed_in(scalar: &Scalar, d: &Do, number: u32) -> Option<u32>
 
 /// Whether the scalar is assigned at the end of each path through the body of a loop.
 fn assigned_in(scalar: &Scalar, d: &Do, number: u32) -> bool
-    requires { number + 1 + statements_count (stmt_trees d.now.body.items) < 2 ^ 32 }
+    requires few { number + 1 + statements_count (stmt_trees d.now.body.items) < 2 ^ 32 }
+    requires known { AreKnown scalar.now (stmt_trees d.now.body.items) (number + 1) }
     ensures { IsTrue result ↔ IsAssignedOn (all_paths (constants_of scalar.now) (stmt_trees d.now.body.items) (number + 1)).onward (name_of scalar.now) }
 {
     let mut place = number + 1;

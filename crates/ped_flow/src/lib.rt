@@ -1,8 +1,10 @@
 //! Scalar flow over all paths of a program. The definitions stand in `specs/`.
 #![tactic(auto)]
 
+mod asked;
 mod before;
 mod behind;
+mod collecting;
 mod decls;
 mod entries;
 mod escapes;
@@ -17,6 +19,7 @@ mod row_steps;
 mod row_summaries;
 mod row_walks;
 mod scalars;
+mod skips;
 mod summaries;
 mod walks;
 

@@ -7,15 +7,19 @@ ghost use Rattle.ped_tree.specs.Numbering.{statement_count, statements_count};
 ghost use Rattle.ped_flow.specs.Events as Event;
 ghost use Rattle.ped_flow.specs.Kept as Spec;
 ghost use Rattle.ped_flow.specs.Kept.{name_of, constants_of};
+ghost use Rattle.ped_flow.specs.Entries.{IsKnown, AreKnown};
 
-use crate::scalars::{Scalar, condition, entry, expression, is_same, items, target};
+use crate::asked::Scalar;
+use crate::scalars::{condition, entry, expression, is_same, items, target};
+use crate::skips::shut;
 use crate::summaries::least;
 use ped_tree::{Expr, Stmt};
 
 /// The first statement in a list that reads the scalar outside the bodies of all loops of it.
 #[cycle(outside)]
 pub(crate) fn outside_all(scalar: &Scalar, body: &[Stmt], number: &mut u32) -> Option<u32>
-    requires { number.old + statements_count (stmt_trees body.now) < 2 ^ 32 }
+    requires few { number.old + statements_count (stmt_trees body.now) < 2 ^ 32 }
+    requires known { AreKnown scalar.now (stmt_trees body.now) number.old }
     ensures first { result ≡ Spec.all_first_outside (constants_of scalar.now) (name_of scalar.now) (stmt_trees body.now) number.old }
     ensures number { number.new ≡ number.old + statements_count (stmt_trees body.now) }
 {
@@ -26,11 +30,32 @@ pub(crate) fn outside_all(scalar: &Scalar, body: &[Stmt], number: &mut u32) -> O
     first
 }
 
-/// The first statement, of this one and those in it, that reads the scalar outside the bodies of all loops of it.
+/// The first statement, of this one and those in it, that reads the scalar outside the bodies of all loops of it. Where
+/// nothing does, the statement is passed over.
+#[cycle(outside)]
+fn outside(scalar: &Scalar, s: &Stmt, number: &mut u32) -> Option<u32>
+    requires few { number.old + statement_count (stmt_tree s.now) < 2 ^ 32 }
+    requires known { IsKnown scalar.now (stmt_tree s.now) number.old }
+    ensures first { result ≡ Spec.first_outside (constants_of scalar.now) (name_of scalar.now) (stmt_tree s.now) number.old }
+    ensures number { number.new ≡ number.old + statement_count (stmt_tree s.now) }
+{
+    match shut(scalar, s, *number) {
+        Some(next) => {
+            *number = next;
+            return None;
+        }
+        None => {
+            return outside_inside(scalar, s, number);
+        }
+    }
+}
+
+/// The same, from the statement and those in it.
 #[cycle(outside)]
 #[tactic(auto, using(crate::proofs::OutsideSteps::reading))]
-fn outside(scalar: &Scalar, s: &Stmt, number: &mut u32) -> Option<u32>
-    requires { number.old + statement_count (stmt_tree s.now) < 2 ^ 32 }
+fn outside_inside(scalar: &Scalar, s: &Stmt, number: &mut u32) -> Option<u32>
+    requires few { number.old + statement_count (stmt_tree s.now) < 2 ^ 32 }
+    requires known { IsKnown scalar.now (stmt_tree s.now) number.old }
     ensures first { result ≡ Spec.first_outside (constants_of scalar.now) (name_of scalar.now) (stmt_tree s.now) number.old }
     ensures number { number.new ≡ number.old + statement_count (stmt_tree s.now) }
 {

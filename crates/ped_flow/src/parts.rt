@@ -2,7 +2,6 @@
 
 ghost use Rattle.std.specs.Prelude.{◌≡◌, length};
 
-use crate::flows::both;
 use crate::row_steps::copied;
 use crate::row_summaries::RowSummary;
 use ped_base::NoMemory;
@@ -18,8 +17,6 @@ pub(crate) struct Part {
     pub(crate) loose: Row,
     /// The variables of its loops.
     pub(crate) indices: Row,
-    /// Whether each variable of its loops has a place.
-    pub(crate) placed: bool,
     ghost loose_wide: { length loose ≡ sums.width },
     ghost indices_wide: { length indices ≡ sums.width },
 }
@@ -42,7 +39,6 @@ impl Part {
             sums,
             loose,
             indices,
-            placed: true,
         })
     }
 
@@ -57,7 +53,6 @@ impl Part {
             sums,
             loose,
             indices,
-            placed: true,
         })
     }
 
@@ -73,7 +68,6 @@ impl Part {
             sums,
             loose,
             indices,
-            placed: true,
         })
     }
 
@@ -86,7 +80,6 @@ impl Part {
         self.sums.then(alloc, &next.sums)?;
         next.loose.or_into(&mut self.loose);
         next.indices.or_into(&mut self.indices);
-        self.placed = both(self.placed, next.placed);
         Ok(())
     }
 
@@ -99,7 +92,6 @@ impl Part {
         self.sums.or(alloc, &other.sums)?;
         other.loose.or_into(&mut self.loose);
         other.indices.or_into(&mut self.indices);
-        self.placed = both(self.placed, other.placed);
         Ok(())
     }
 }

@@ -8,9 +8,13 @@ ghost use Rattle.ped_tree.specs.Views.{decl_tree};
 use crate::decls::is_constant;
 use indexmap::IndexSet;
 use ped_base::{Name, NoMemory};
+use ped_names::NameSet;
 use ped_tree::Decl;
 use std::alloc::Global;
 use std::marker::Model;
+
+/// So many scalars have a place at most, so that rows take little memory. Others are asked about without rows.
+const MOST_PLACES: usize = 4_096;
 
 /// Names, each once. Contracts see them in the order in which they came.
 #[derive(Drop)]
@@ -31,6 +35,8 @@ impl Model for PlacedNames {
 pub(crate) struct Places<'a> {
     pub(crate) decls: &'a [Decl],
     pub(crate) names: PlacedNames,
+    /// Named constants that were met, so that the declarations are searched once for each.
+    constants: NameSet,
     ghost variables: { (x : List ℕ) → IsTrue (is_among x names) → is_among x (constant_names (map decl_tree decls.now)) ≡ false },
 }
 
@@ -82,16 +88,27 @@ impl<'a> Places<'a> {
         Places {
             decls,
             names: PlacedNames::new(alloc),
+            constants: NameSet::new(alloc),
         }
     }
 
-    /// Gives a scalar a place, where it has none and is no named constant.
+    /// Gives a scalar a place, where it has none, is no named constant, and there are places left.
     pub(crate) fn add(&mut self, name: &Name) -> Result<(), NoMemory>
         ensures { self.new.decls.now ≡ self.old.decls.now }
     {
-        if self.names.place(name).is_some() || is_constant(name, self.decls) {
+        if self.has_met(name) {
             return Ok(());
         }
+        if is_constant(name, self.decls) {
+            return self.constants.insert(name);
+        }
         self.names.insert(name)
+    }
+
+    /// Whether there is nothing to do for a name.
+    fn has_met(&self, name: &Name) -> bool {
+        self.names.len() >= MOST_PLACES
+            || self.names.place(name).is_some()
+            || self.constants.contains(name)
     }
 }

@@ -16,7 +16,6 @@ ghost use Rattle.ped_flow.specs.Rows.{Holds};
 ghost use Rattle.ped_flow.specs.Parts.{IsPart, IsPartOf};
 ghost use Rattle.ped_flow.specs.declared.summaries.Summary.{Summary};
 
-use crate::flows::both;
 use crate::marking::{
     mark_assigned, mark_condition, mark_expression, mark_items, mark_name, mark_names, mark_read,
 };
@@ -175,11 +174,9 @@ pub(crate) fn tripping(
     mark_name(places, &mut indices, &d.variable);
     let loose = less(alloc, &body.loose, &indices)?;
     body.indices.or_into(&mut indices);
-    let placed = both(body.placed, places.names.place(&d.variable).is_some());
     Ok(Part {
         sums,
         loose,
         indices,
-        placed,
     })
 }

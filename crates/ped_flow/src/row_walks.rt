@@ -14,7 +14,7 @@ ghost use Rattle.ped_flow.specs.Parts.{IsPart};
 ghost use Rattle.ped_flow.specs.Entries.{IsEntry, Knows, KnowsAll, KnowsInside, AreSameBut};
 ghost use Rattle.ped_flow.specs.declared.summaries.Summary.{Summary};
 
-use crate::entries::{Cycle, Entry};
+use crate::entries::Entry;
 use crate::parts::Part;
 use crate::places::Places;
 use crate::row_events::{assignment, deciding, entering, iterating, printing, reading, tripping};
@@ -75,7 +75,7 @@ fn add_part(
 }
 
 /// Whether a statement has a number, as each but a comment has.
-fn is_numbered(s: &Stmt) -> bool
+pub(crate) fn is_numbered(s: &Stmt) -> bool
     ensures { IsTrue result ↔ (0 < statement_count (stmt_tree s.now)) }
 {
     match s {
@@ -127,27 +127,27 @@ fn entry_of(
     match s {
         Stmt::Comment(_) => {
             let part = Part::nothing(alloc, places.names.len())?;
-            return Entry::new(alloc, part, own, None);
+            return Entry::new(alloc, part, own);
         }
         Stmt::Stop => {
             *number = own + 1;
             let part = Part::stopped(alloc, places.names.len())?;
-            return Entry::new(alloc, part, own + 1, None);
+            return Entry::new(alloc, part, own + 1);
         }
         Stmt::Assign { left, right } => {
             *number = own + 1;
             let part = assignment(alloc, places, left, right)?;
-            return Entry::new(alloc, part, own + 1, None);
+            return Entry::new(alloc, part, own + 1);
         }
         Stmt::Print(items) => {
             *number = own + 1;
             let part = printing(alloc, places, items)?;
-            return Entry::new(alloc, part, own + 1, None);
+            return Entry::new(alloc, part, own + 1);
         }
         Stmt::Read(items) => {
             *number = own + 1;
             let part = reading(alloc, places, items)?;
-            return Entry::new(alloc, part, own + 1, None);
+            return Entry::new(alloc, part, own + 1);
         }
         Stmt::If {
             condition: c,
@@ -158,7 +158,7 @@ fn entry_of(
             let first = all_parts(alloc, places, table, then_part, number)?;
             let second = all_parts(alloc, places, table, else_part, number)?;
             let part = branching(alloc, places, c, first, &second)?;
-            return Entry::new(alloc, part, *number, None);
+            return Entry::new(alloc, part, *number);
         }
         Stmt::Do(d) => {
             *number = own + 1;
@@ -202,5 +202,5 @@ fn loop_entry(
     let trips = tripping(alloc, places, d, body, &iteration)?;
     let mut part = entering(alloc, places, d)?;
     part.then(alloc, &trips)?;
-    Entry::new(alloc, part, behind, Some(Cycle { iteration, trips }))
+    Entry::new(alloc, part, behind)
 }

@@ -3,37 +3,19 @@
 ghost use Rattle.std.specs.Prelude.{◌≡◌, [], ◌∷◌, ◌++◌, map, if◌then◌else◌};
 ghost use Rattle.std.specs.List.{flat_map};
 ghost use Rattle.ped_base.specs.Lists as Lists;
-ghost use Rattle.ped_tree.specs.Views.{expr_tree, pack_exprs, cond_tree, item_tree, stmt_tree, stmt_trees, program_tree};
-ghost use Rattle.ped_tree.specs.Accesses.{constant_names};
+ghost use Rattle.ped_tree.specs.Views.{expr_tree, pack_exprs, cond_tree, item_tree, stmt_tree, stmt_trees};
 ghost use Rattle.ped_refs.specs.Loops.{head_of};
 ghost use Rattle.ped_affine.specs.Assigned.{loop_variables, all_loop_variables};
 ghost use Rattle.ped_flow.specs.Events as Event;
 ghost use Rattle.ped_flow.specs.Summaries.{sum_events};
 ghost use Rattle.ped_flow.specs.Kept.{name_of, constants_of};
 
+use crate::asked::Scalar;
 use crate::decls::is_constant;
 use crate::summaries::Summary;
 use ped_base::Name;
 use ped_names::is_among;
-use ped_tree::{Cond, Decl, Do, Expr, PrintItem, Program, Stmt};
-
-/// A scalar that is asked about, with the declarations of its program.
-#[derive(Clone, Copy)]
-pub(crate) struct Scalar<'a> {
-    pub(crate) name: &'a Name,
-    pub(crate) decls: &'a [Decl],
-}
-
-/// A scalar of a program.
-pub(crate) fn scalar_of<'a>(program: &'a Program, name: &'a Name) -> Scalar<'a>
-    ensures name { name_of result ≡ name.now }
-    ensures constants { constants_of result ≡ constant_names (program_tree program.now).decls }
-{
-    Scalar {
-        name,
-        decls: &program.decls,
-    }
-}
+use ped_tree::{Cond, Do, Expr, PrintItem, Stmt};
 
 /// Whether two names are the same.
 pub(crate) fn is_same(a: &Name, b: &Name) -> bool
@@ -46,7 +28,7 @@ pub(crate) fn is_same(a: &Name, b: &Name) -> bool
 fn is_variable(scalar: &Scalar, name: &Name) -> bool
     ensures { result ≡ Lists.is_among (name_of scalar.now) (Event.unless_constant (constants_of scalar.now) name.now) }
 {
-    is_same(scalar.name, name) && !is_constant(name, scalar.decls)
+    is_same(scalar.name, name) && !is_constant(name, scalar.places.decls)
 }
 
 /// The statement with this number reads a variable.

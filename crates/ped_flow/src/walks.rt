@@ -6,15 +6,19 @@ ghost use Rattle.ped_tree.specs.Numbering.{statement_count, statements_count};
 ghost use Rattle.ped_refs.specs.Loops.{head_of};
 ghost use Rattle.ped_flow.specs.Summaries as Spec;
 ghost use Rattle.ped_flow.specs.Kept.{name_of, constants_of};
+ghost use Rattle.ped_flow.specs.Entries.{IsKnown, AreKnown};
 
-use crate::scalars::{Scalar, condition, entry, exit, expression, items, start, target, targets};
+use crate::asked::Scalar;
+use crate::scalars::{condition, entry, exit, expression, items, start, target, targets};
+use crate::skips::past;
 use crate::summaries::Summary;
 use ped_tree::{Do, Stmt};
 
 /// What the paths of statements do to the scalar. The number of the first becomes that of the statement behind them.
 #[cycle(walk)]
 pub(crate) fn statements(scalar: &Scalar, body: &[Stmt], number: &mut u32) -> Summary
-    requires { number.old + statements_count (stmt_trees body.now) < 2 ^ 32 }
+    requires few { number.old + statements_count (stmt_trees body.now) < 2 ^ 32 }
+    requires known { AreKnown scalar.now (stmt_trees body.now) number.old }
     ensures sum { result ≡ Spec.sum_of_all (constants_of scalar.now) (name_of scalar.now) (stmt_trees body.now) number.old }
     ensures number { number.new ≡ number.old + statements_count (stmt_trees body.now) }
 {
@@ -25,10 +29,31 @@ pub(crate) fn statements(scalar: &Scalar, body: &[Stmt], number: &mut u32) -> Su
     summary
 }
 
-/// What the paths of a statement do to the scalar. Its number becomes that of the statement behind it.
+/// What the paths of a statement do to the scalar. Its number becomes that of the statement behind it. Where nothing
+/// happens to the scalar, the statement is passed over.
 #[cycle(walk)]
 pub(crate) fn statement(scalar: &Scalar, s: &Stmt, number: &mut u32) -> Summary
-    requires { number.old + statement_count (stmt_tree s.now) < 2 ^ 32 }
+    requires few { number.old + statement_count (stmt_tree s.now) < 2 ^ 32 }
+    requires known { IsKnown scalar.now (stmt_tree s.now) number.old }
+    ensures sum { result ≡ Spec.sum_of (constants_of scalar.now) (name_of scalar.now) (stmt_tree s.now) number.old }
+    ensures number { number.new ≡ number.old + statement_count (stmt_tree s.now) }
+{
+    match past(scalar, s, *number) {
+        Some(next) => {
+            *number = next;
+            return Summary::passing();
+        }
+        None => {
+            return inside(scalar, s, number);
+        }
+    }
+}
+
+/// The same, from what it does itself and from the statements in it.
+#[cycle(walk)]
+fn inside(scalar: &Scalar, s: &Stmt, number: &mut u32) -> Summary
+    requires few { number.old + statement_count (stmt_tree s.now) < 2 ^ 32 }
+    requires known { IsKnown scalar.now (stmt_tree s.now) number.old }
     ensures sum { result ≡ Spec.sum_of (constants_of scalar.now) (name_of scalar.now) (stmt_tree s.now) number.old }
     ensures number { number.new ≡ number.old + statement_count (stmt_tree s.now) }
 {

@@ -13,7 +13,7 @@ use Rattle.ped_flow.proofs.escapes.+escapes.Goals as goal
 pub escapes_in-loop-s-preserved : goal.escapes_in-loop-s-preserved
 escapes_in-loop-s-preserved t c =
     let others = drop (c.loop-s.s-index + 1) c.args.statements.now in
-    escapes_next (program_tree c.args.l.now.program.now) c.args.l.now.number (head_of c.args.l.now.body.now) (stmt_trees c.args.l.now.body.now.body.items)
+    escapes_next (program_tree c.args.l.now.flow.now.program.now) c.args.l.now.number (head_of c.args.l.now.body.now) (stmt_trees c.args.l.now.body.now.body.items)
     (all_loop_variables (stmt_trees (drop c.loop-s.s-index c.args.statements.now))) (loop_variables (stmt_tree c.s-item.result)) (all_loop_variables (stmt_trees others))
     c.loop-s.escape c.escapes_of.result c.or-escape.result _ c.loop-s.invariant
     (ap (λ (ss : List Stmt). all_loop_variables (stmt_trees ss)) (rest_is c.args.statements.now c.loop-s.s-index c.s-item.result c.loop-s-test.true c.s-item.is))
@@ -21,7 +21,7 @@ escapes_in-loop-s-preserved t c =
 
 pub escapes_of-returns-in-If : goal.escapes_of-returns-in-If
 escapes_of-returns-in-If t c =
-    let T = program_tree c.args.l.now.program.now in
+    let T = program_tree c.args.l.now.flow.now.program.now in
     let l = c.args.l.now.number in
     let h = head_of c.args.l.now.body.now in
     let b = stmt_trees c.args.l.now.body.now.body.items in

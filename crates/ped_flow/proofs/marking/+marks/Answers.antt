@@ -1,4 +1,4 @@
-use Rattle.std.proofs.Common.{List, map, ap, sym, ◌∙◌, ◌+◌, drop}
+use Rattle.std.proofs.Common.{List, map, ap, ◌∙◌, ◌+◌, drop}
 use Rattle.std.proofs.lemmas.List.{at_drop_all}
 use Rattle.ped_tree.specs.Views.{expr_tree, pack_exprs}
 use Rattle.ped_tree.specs.declared.expressions.Expr.{Expr}

@@ -1,4 +1,4 @@
-use Rattle.std.proofs.Common.{List, Bool, ◌∷◌, [], sym, subst, ◌∙◌}
+use Rattle.std.proofs.Common.{List, Bool, ◌∷◌, [], sym, subst}
 use Rattle.ped_flow.specs.RowPlaces.{AreMarked}
 use Rattle.ped_flow.specs.RowMarks.{names_in}
 use Rattle.ped_flow.proofs.Marks.{marked_name}

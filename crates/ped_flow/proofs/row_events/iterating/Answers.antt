@@ -1,4 +1,4 @@
-use Rattle.std.proofs.Common.{List, Bool, sym, ap, subst, ◌∙◌, if◌then◌else◌}
+use Rattle.std.proofs.Common.{Bool, sym, ap, subst, ◌∙◌, if◌then◌else◌}
 use Rattle.ped_tree.specs.Views.{stmt_trees}
 use Rattle.ped_refs.specs.Loops.{head_of}
 use Rattle.ped_flow.specs.Events.{clears, copied}

@@ -1,4 +1,4 @@
-use Rattle.std.proofs.Common.{◌≡◌, ℕ, ◌++◌, [], List, Option, map, length, drop}
+use Rattle.std.proofs.Common.{◌≡◌, ℕ, [], List, Option, map, length, drop}
 use Rattle.std.specs.List.{flat_map}
 use Rattle.ped_tree.specs.Views.{expr_tree}
 use Rattle.ped_flow.specs.Events.{left_events}

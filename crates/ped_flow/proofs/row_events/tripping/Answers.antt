@@ -1,16 +1,15 @@
-use Rattle.std.proofs.Common.{◌≡◌, ℕ, List, Bool, [], ◌∷◌, ◌++◌, ◌&&◌, is_some, sym, ap, subst, ◌∙◌, if◌then◌else◌}
+use Rattle.std.proofs.Common.{Bool, [], ◌∷◌, ◌++◌, sym, ap, subst, ◌∙◌, if◌then◌else◌}
 use Rattle.ped_tree.specs.Views.{stmt_trees}
 use Rattle.ped_refs.specs.Loops.{head_of}
 use Rattle.ped_affine.specs.Assigned.{all_loop_variables}
 use Rattle.ped_flow.specs.Events.{clears, copied}
 use Rattle.ped_flow.specs.Summaries.{passing, of_manner}
-use Rattle.ped_flow.specs.RowPlaces.{place_of}
 use Rattle.ped_flow.specs.RowMarks.{names_in}
 use Rattle.ped_flow.specs.Rows.{Holds}
 use Rattle.ped_flow.specs.declared.summaries.Summary.{Summary}
 use Rattle.ped_flow.proofs.SumLaws.{cleared}
 use Rattle.ped_flow.proofs.RowSums.{less_wide, union_wide}
-use Rattle.ped_flow.proofs.EventRows.{row_marked, marked_wide, trips_loose, trips_indices, trips_placed}
+use Rattle.ped_flow.proofs.EventRows.{row_marked, marked_wide, trips_loose, trips_indices}
 use Rattle.ped_flow.proofs.row_events.tripping.Goals as goal
 
 pub invariant_of-result : goal.invariant_of-result
@@ -41,5 +40,4 @@ returns-clause-part c = λ n f o k h.
           (c.in_ok-exit.ensures.held i));
       loose = trips_loose names b f o variables y k _ at_y wide _ c.in_ok-loose.ensures;
       indices = trips_indices names b f o variables y k _ at_y wide _ c.or_into.ensures;
-      placed = trips_placed names b f o variables y k _ at_y wide _ (c.both-placed.ensures ∙ ap (λ (z : Bool). b.placed && z) (c.is_some.ensures ∙ ap is_some c.place.ensures));
     }

@@ -22,7 +22,7 @@ use Rattle.ped_flow.proofs.WalkSteps.{count_next, walk_next}
 use Rattle.ped_flow.proofs.OutsideSteps.{outside_next}
 use Rattle.ped_flow.proofs.EventRows.{if_ok}
 use Rattle.ped_flow.proofs.PartSums.{same_part}
-use Rattle.ped_flow.proofs.Known.{knows_written, same_written, plain_entry, on_ok, if_known, if_others, if_count, known_next, others_next, unnumbered, uncounted, tree-Stop, tree-Comment, tree-Assign, tree-Print, tree-Read, tree-If, tree-Do}
+use Rattle.ped_flow.proofs.Known.{knows_written, same_written, made_entry, on_ok, if_known, if_others, if_count, known_next, others_next, unnumbered, uncounted, tree-Stop, tree-Comment, tree-Assign, tree-Print, tree-Read, tree-If, tree-Do}
 use Rattle.ped_flow.proofs.row_walks.+rows.Goals as goal
 
 pub entry_of-returns-in-Comment-clause-entry : goal.entry_of-returns-in-Comment-clause-entry
@@ -30,35 +30,35 @@ entry_of-returns-in-Comment-clause-entry t c =
     let p = c.args.places.now in
     let s = plain.Comment c.in-Comment.field-0 in
     subst (λ (z : StmtTree). IfOk c.new.result (λ e. IsEntry p e z c.args.number.now)) (sym (ap stmt_tree c.in-Comment.is ∙ tree-Comment c.in-Comment.field-0))
-    (if_ok c.new.result (λ e made. plain_entry p s c.args.number.now _ _ _ e made (c.in_ok-part-in-Comment.ensures (names_in p) (sym c.len.ensures)) (omega arith) refl refl) c.new.ensures)
+    (if_ok c.new.result (λ e made. made_entry p s c.args.number.now _ _ e made (c.in_ok-part-in-Comment.ensures (names_in p) (sym c.len.ensures)) (omega arith)) c.new.ensures)
 
 pub entry_of-returns-in-Stop-clause-entry : goal.entry_of-returns-in-Stop-clause-entry
 entry_of-returns-in-Stop-clause-entry t c =
     let p = c.args.places.now in
     let s = plain.Stop in
     subst (λ (z : StmtTree). IfOk c.new-in-Stop.result (λ e. IsEntry p e z c.args.number.now)) (sym (ap stmt_tree c.in-Stop.is ∙ tree-Stop))
-    (if_ok c.new-in-Stop.result (λ e made. plain_entry p s c.args.number.now _ _ _ e made (c.in_ok-part-in-Stop.ensures (names_in p) (sym c.len-in-Stop.ensures)) (omega arith) refl refl) c.new-in-Stop.ensures)
+    (if_ok c.new-in-Stop.result (λ e made. made_entry p s c.args.number.now _ _ e made (c.in_ok-part-in-Stop.ensures (names_in p) (sym c.len-in-Stop.ensures)) (omega arith)) c.new-in-Stop.ensures)
 
 pub entry_of-returns-in-Assign-clause-entry : goal.entry_of-returns-in-Assign-clause-entry
 entry_of-returns-in-Assign-clause-entry t c =
     let p = c.args.places.now in
     let s = plain.Assign (expr_tree c.in-Assign.left) (expr_tree c.in-Assign.right) in
     subst (λ (z : StmtTree). IfOk c.new-in-Assign.result (λ e. IsEntry p e z c.args.number.now)) (sym (ap stmt_tree c.in-Assign.is ∙ tree-Assign c.in-Assign.left c.in-Assign.right))
-    (if_ok c.new-in-Assign.result (λ e made. plain_entry p s c.args.number.now _ _ _ e made (c.in_ok-part-in-Assign.ensures c.args.number.now) (omega arith) refl refl) c.new-in-Assign.ensures)
+    (if_ok c.new-in-Assign.result (λ e made. made_entry p s c.args.number.now _ _ e made (c.in_ok-part-in-Assign.ensures c.args.number.now) (omega arith)) c.new-in-Assign.ensures)
 
 pub entry_of-returns-in-Print-clause-entry : goal.entry_of-returns-in-Print-clause-entry
 entry_of-returns-in-Print-clause-entry t c =
     let p = c.args.places.now in
     let s = plain.Print (map item_tree c.deref.result.now) in
     subst (λ (z : StmtTree). IfOk c.new-in-Print.result (λ e. IsEntry p e z c.args.number.now)) (sym (ap stmt_tree c.in-Print.is ∙ tree-Print c.in-Print.items ∙ ap (λ (is : List PrintItem). plain.Print (map item_tree is)) (sym c.deref.ensures.value)))
-    (if_ok c.new-in-Print.result (λ e made. plain_entry p s c.args.number.now _ _ _ e made (c.in_ok-part-in-Print.ensures c.args.number.now) (omega arith) refl refl) c.new-in-Print.ensures)
+    (if_ok c.new-in-Print.result (λ e made. made_entry p s c.args.number.now _ _ e made (c.in_ok-part-in-Print.ensures c.args.number.now) (omega arith)) c.new-in-Print.ensures)
 
 pub entry_of-returns-in-Read-clause-entry : goal.entry_of-returns-in-Read-clause-entry
 entry_of-returns-in-Read-clause-entry t c =
     let p = c.args.places.now in
     let s = plain.Read (map expr_tree c.deref-in-Read.result.now) in
     subst (λ (z : StmtTree). IfOk c.new-in-Read.result (λ e. IsEntry p e z c.args.number.now)) (sym (ap stmt_tree c.in-Read.is ∙ tree-Read c.in-Read.items ∙ ap (λ (es : List Expr). plain.Read (map expr_tree es)) (sym c.deref-in-Read.ensures.value)))
-    (if_ok c.new-in-Read.result (λ e made. plain_entry p s c.args.number.now _ _ _ e made (c.in_ok-part-in-Read.ensures c.args.number.now) (omega arith) refl refl) c.new-in-Read.ensures)
+    (if_ok c.new-in-Read.result (λ e made. made_entry p s c.args.number.now _ _ e made (c.in_ok-part-in-Read.ensures c.args.number.now) (omega arith)) c.new-in-Read.ensures)
 
 pub entry_of-returns-in-If : goal.entry_of-returns-in-If
 entry_of-returns-in-If t c =
@@ -78,7 +78,7 @@ entry_of-returns-in-If t c =
     record {
       number = on_ok c.new-in-If.result (if_count p [] [] [] (cond_tree c.in-If.c) a b n m first.number c.all_parts-in-If.new.number second.number ∙ ap (λ (z : StmtTree). n + statement_count z) tree);
       entry = subst (λ (z : StmtTree). IfOk c.new-in-If.result (λ e. IsEntry p e z n)) tree
-          (if_ok c.new-in-If.result (λ e made. plain_entry p s n _ _ _ e made part (if_count p [] [] [] (cond_tree c.in-If.c) a b n m first.number c.all_parts-in-If.new.number second.number) refl refl) c.new-in-If.ensures);
+          (if_ok c.new-in-If.result (λ e made. made_entry p s n _ _ e made part (if_count p [] [] [] (cond_tree c.in-If.c) a b n m first.number c.all_parts-in-If.new.number second.number)) c.new-in-If.ensures);
       known = on_ok c.new-in-If.result (subst (λ (z : StmtTree). KnowsInside p c.all_parts-in-If.new.table z n) tree
           (if_known p [] c.all_parts.new.table c.all_parts-in-If.new.table (cond_tree c.in-If.c) a b n m first.number first.known second.known second.others));
       others = on_ok c.new-in-If.result (subst (λ (z : StmtTree). AreSameBut c.args.table.now c.all_parts-in-If.new.table (n + 1) (n + statement_count z)) tree

@@ -1,12 +1,10 @@
-use Rattle.std.proofs.Common.{◌+◌, Some, refl, sym, ◌∙◌}
+use Rattle.std.proofs.Common.{sym, ◌∙◌}
 use Rattle.ped_tree.specs.Tree.{Do}
 use Rattle.ped_tree.specs.Views.{stmt_trees}
 use Rattle.ped_refs.specs.Loops.{head_of}
-use Rattle.ped_flow.specs.Summaries.{sum_of_all}
-use Rattle.ped_flow.specs.Kept.{all_first_outside}
 use Rattle.ped_flow.specs.RowMarks.{names_in, constants_in}
 use Rattle.ped_flow.proofs.EventRows.{if_ok}
-use Rattle.ped_flow.proofs.Known.{do_entry}
+use Rattle.ped_flow.proofs.Known.{made_entry}
 use Rattle.ped_flow.proofs.row_walks.loop_entry.Goals as goal
 
 pub then-requires : goal.then-requires
@@ -22,6 +20,5 @@ returns c =
     (λ e made n k at.
     let held = c.in_ok-iteration.ensures.held n _ _ k in
     let trips = c.in_ok-trips.ensures.part n _ _ k held in
-    do_entry c.args.places.now (Do h trees) n _ c.args.behind _ e made (c.in_ok-then.ensures.part names _ _ _ _ _ _ (c.in_ok-part.ensures n) trips) at _ h trees refl refl
-    record { wide = c.in_ok-iteration.ensures.width ∙ sym trips.width; iteration = held; trips = trips })
+    made_entry c.args.places.now (Do h trees) n _ c.args.behind e made (c.in_ok-then.ensures.part names _ _ _ _ _ _ (c.in_ok-part.ensures n) trips) at)
     c.new.ensures

@@ -18,6 +18,5 @@ pub returns : goal.returns
 returns c = record {
   part = refl;
   behind = refl;
-  cycle = refl;
   touched = untouched c.args.part.sums _ _ _ _ _ c.in_ok-touched.ensures c.or_into.ensures c.or_into-2.ensures c.or_into-3.ensures c.or_into-4.ensures;
 }

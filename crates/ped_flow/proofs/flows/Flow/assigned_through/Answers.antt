@@ -1,7 +1,8 @@
-use Rattle.std.proofs.Common.{arith}
+use Rattle.std.proofs.Common.{◌+◌, arith}
 use Rattle.ped_tree.specs.Views.{program_tree, stmt_trees}
 use Rattle.ped_refs.specs.Loops.{head_of}
 use Rattle.ped_flow.specs.Kept.{name_of, constants_of}
+use Rattle.ped_flow.proofs.Skipping.{asked_known, loop_known, entered_known}
 use Rattle.ped_flow.proofs.Answering.{through_answer, through_nowhere, loop_fits}
 use Rattle.ped_flow.proofs.flows.Flow.assigned_through.Goals as goal
 
@@ -13,7 +14,13 @@ returns-in-Some c =
 pub returns-in-None : goal.returns-in-None
 returns-in-None c = through_nowhere (program_tree c.args.self.now.program.now) c.args.loop_number c.args.name.now c.in-None.ensures
 
-pub assigned_in-requires : goal.assigned_in-requires
-assigned_in-requires c =
+pub assigned_in-requires-clause-few : goal.assigned_in-requires-clause-few
+assigned_in-requires-clause-few c =
     let f = loop_fits (program_tree c.args.self.now.program.now) c.args.loop_number (head_of c.in-Some.d.now) (stmt_trees c.in-Some.d.now.body.items) c.in-Some.ensures in
     omega (arith, f, c.requires)
+
+pub assigned_in-requires-clause-known : goal.assigned_in-requires-clause-known
+assigned_in-requires-clause-known c =
+    let flow = c.args.self.now in
+    asked_known c.scalar_of-scalar.result flow.places flow.table.items (stmt_trees c.in-Some.d.now.body.items) (c.args.loop_number + 1) c.scalar_of-scalar.ensures.places c.scalar_of-scalar.ensures.table
+    (loop_known flow.places flow.table.items (program_tree flow.program.now) c.args.loop_number (head_of c.in-Some.d.now) (stmt_trees c.in-Some.d.now.body.items) (entered_known flow.places flow.table.items (program_tree flow.program.now).body flow.known) c.in-Some.ensures)

@@ -9,5 +9,4 @@ returns c = λ names xs ys sum outside w r a e. record {
   sums = λ x i at. c.in_ok-sums.ensures.held i (sum x) (r x i at ∙ e.reads x) (a x i at ∙ e.assigns x) (e.ends x) (e.passes x) (e.loses x);
   loose = λ x i at. ap (λ (row : List Bool). bit row i) c.in_ok-loose.ensures ∙ r x i at ∙ e.loose x;
   indices = λ x i at. ap (λ (row : List Bool). bit row i) c.in_ok-indices.ensures ∙ nothing_at c.width.result i;
-  placed = λ t x m. absurd cc;
 }

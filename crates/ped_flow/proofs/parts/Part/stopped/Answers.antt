@@ -10,5 +10,4 @@ returns c = λ names w. record {
   sums = λ x i at. c.in_ok-sums.ensures.held i (subst (λ (n : ℕ). i < n) w (place_within names x i at));
   loose = λ x i at. ap (λ (r : List Bool). bit r i) c.in_ok-loose.ensures ∙ nothing_at c.args.width i;
   indices = λ x i at. ap (λ (r : List Bool). bit r i) c.in_ok-indices.ensures ∙ nothing_at c.args.width i;
-  placed = λ t x m. absurd cc;
 }

@@ -17,4 +17,4 @@ pub returns-clause-part : goal.returns-clause-part
 returns-clause-part c = λ names f g p q u v h k.
     let o = c.args.self.now in
     let n = c.args.next.now in
-    then_part names o n _ p q u v f g h k (o.loose_wide ∙ c.requires ∙ sym n.loose_wide) c.or_into.ensures (o.indices_wide ∙ c.requires ∙ sym n.indices_wide) c.or_into-2.ensures c.both-self.ensures c.in_ok-then.ensures.width c.in_ok-then.ensures.held
+    then_part names o n _ p q u v f g h k (o.loose_wide ∙ c.requires ∙ sym n.loose_wide) c.or_into.ensures (o.indices_wide ∙ c.requires ∙ sym n.indices_wide) c.or_into-2.ensures c.in_ok-then.ensures.width c.in_ok-then.ensures.held

@@ -1,0 +1,40 @@
+//! A scalar that is asked about, with what is known of the statements of its program.
+
+ghost use Rattle.std.specs.Prelude.{◌≡◌};
+ghost use Rattle.ped_flow.specs.RowPlaces.{place_of};
+ghost use Rattle.ped_flow.specs.RowMarks.{names_in};
+
+use crate::entries::Entry;
+use crate::places::Places;
+use ped_base::Name;
+
+/// A scalar that is asked about.
+#[derive(Drop)]
+pub(crate) struct Scalar<'a> {
+    pub(crate) name: &'a Name,
+    /// The scalars of its program that have a place in rows, with the declarations.
+    pub(crate) places: &'a Places<'a>,
+    /// Its place, where it has one.
+    pub(crate) place: Option<usize>,
+    /// What is known of the statements of its program, by their numbers.
+    pub(crate) table: &'a [Option<Entry>],
+    ghost placed: { place ≡ place_of (names_in places.now) name.now },
+}
+
+/// A scalar, asked about with these places and this table.
+pub(crate) fn scalar_by<'a>(
+    places: &'a Places<'a>,
+    table: &'a [Option<Entry>],
+    name: &'a Name,
+) -> Scalar<'a>
+    ensures name { result.name.now ≡ name.now }
+    ensures places { result.places.now ≡ places.now }
+    ensures table { result.table.now ≡ table.now }
+{
+    Scalar {
+        name,
+        places,
+        place: places.names.place(name),
+        table,
+    }
+}

@@ -3,11 +3,10 @@ use Rattle.std.proofs.Common.{◌≡◌, ℕ, ◌≤◌, Bool, true, false, List
 use Rattle.std.proofs.lemmas.List.Elements.{All-head, All-tail}
 use Rattle.ped_tree.specs.Tree.{ProgramTree}
 use Rattle.ped_edges.specs.Edges.{Edge}
-use Rattle.ped_graph.specs.Dependences.{AreEdges}
 use Rattle.ped_graph.proofs.OnePane.{one_edges}
 use Rattle.ped_steps.specs.declared.rules.Rule.{Rule}
 use Rattle.ped_steps.specs.RuleNames.{number_of}
-use Rattle.ped_steps.specs.Causes.{Rules, NoRule, IsFirstRule, IsFirstForbidding, Cause, rule, dependence, IsFirstCause}
+use Rattle.ped_steps.specs.Causes.{Rules, IsFirstForbidding, Cause, rule, dependence, IsFirstCause}
 use Rattle.ped_steps.proofs.FirstRules.{one_number}
 
 -- one that forbids isn't among those that don't

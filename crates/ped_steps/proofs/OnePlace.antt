@@ -1,8 +1,8 @@
 -- A new program depends on what replaces the one statement with a number, and on nothing else of how statements are replaced.
-use Rattle.std.proofs.Common.{◌≡◌, ℕ, suc, ◌+◌, ◌-◌, ◌==◌, Bool, true, false, List, [], ◌∷◌, ◌++◌, length, Option, Some, None, refl, sym, ap, ap₂, ◌∙◌, arith, eqb-true, if◌then◌else◌, ◌≢◌}
-use Rattle.ped_tree.specs.Tree.{CondTree, StmtTree, StmtTrees, Assign, If, Do, Print, Read, Stop, Comment, no_stmts, more_stmts, ProgramTree}
+use Rattle.std.proofs.Common.{◌≡◌, ℕ, ◌+◌, ◌-◌, ◌==◌, Bool, true, false, List, [], ◌∷◌, ◌++◌, length, Some, None, refl, ap, ap₂, ◌∙◌, arith, eqb-true, if◌then◌else◌}
+use Rattle.ped_tree.specs.Tree.{StmtTree, StmtTrees, Assign, If, Do, Print, Read, Stop, Comment, no_stmts, more_stmts, ProgramTree}
 use Rattle.ped_tree.specs.Numbering.{numbered, all_numbered, at_place, statement_with, statement_count, statements_count}
-use Rattle.ped_tree.proofs.Numbers.{at_place-front, at_place-back, numbered-back, length-numbered, length-all_numbered}
+use Rattle.ped_tree.proofs.Numbers.{at_place-front, at_place-back, length-numbered, length-all_numbered}
 use Rattle.ped_steps.specs.Replacing.{followed, alone, replaced, all_replaced, program_with}
 
 -- the same choice where the same is chosen

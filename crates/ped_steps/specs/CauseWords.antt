@@ -1,5 +1,5 @@
 -- The words by which a refused step is told (this project).
-use Rattle.std.specs.Prelude.{ℕ, List, ◌∷◌, ◌++◌, codes}
+use Rattle.std.specs.Prelude.{ℕ, List, ◌++◌, codes}
 use Rattle.std.specs.Fmt.{decimal}
 use Rattle.ped_edges.specs.Edges.{Edge}
 use Rattle.ped_edges.specs.Rows.{edge_row}

@@ -1,5 +1,5 @@
 -- What a step answers: a change of the program, or the first cause against it (this project).
-use Rattle.std.specs.Prelude.{◌≡◌, ℕ, List, Bool, Option, Some, None, Result, Ok, Err}
+use Rattle.std.specs.Prelude.{◌≡◌, ℕ, List, Bool, Some, None, Result, Ok, Err}
 use Rattle.ped_tree.specs.Tree.{ProgramTree}
 use Rattle.ped_tree.specs.Views.{program_tree}
 use Rattle.ped_symbols.specs.Kinds.{table_of}

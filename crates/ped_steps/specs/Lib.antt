@@ -6,3 +6,4 @@ pub mod Replacing
 pub mod Placing
 pub mod Scenes
 pub mod Changes
+pub mod Tidy

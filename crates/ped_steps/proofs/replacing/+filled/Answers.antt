@@ -2,7 +2,7 @@ use Rattle.std.proofs.Common.{◌≡◌, ◌+◌, List, ap, sym, ◌∙◌, subs
 use Rattle.std.specs.Prelude.{OnOk}
 use Rattle.ped_tree.specs.Tree.{StmtTrees}
 use Rattle.std.proofs.lemmas.List.{drop_all}
-use Rattle.ped_tree.specs.Views.{stmt_tree, stmt_trees}
+use Rattle.ped_tree.specs.Views.{stmt_trees}
 use Rattle.ped_tree.specs.declared.statements.Stmt.{Stmt}
 use Rattle.ped_steps.specs.Replacing.{followed}
 use Rattle.ped_steps.specs.Placing.{all_placed}

@@ -37,9 +37,6 @@ pub mod PrivatisedRaces
 pub mod ExpandedRacesOrigins
 pub mod ExpandedRacesParts
 pub mod SparedVariables
-pub mod ToldSights
-pub mod ToldIndices
-pub mod ToldRuns
 pub mod ToldRaces
 pub mod ExpandedRaces
 pub mod OwnCells

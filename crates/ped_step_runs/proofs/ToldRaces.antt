@@ -27,13 +27,13 @@ use Rattle.ped_flow_runs.proofs.Writing.{all_unassigned}
 use Rattle.ped_runs.proofs.Touches.{Fine, Good, all_good}
 use Rattle.ped_runs.proofs.Turning.{At}
 use Rattle.ped_runs.proofs.Placing.{kinds_of_run}
-use Rattle.ped_step_runs.proofs.Swapped.{cell_name}
+use Rattle.ped_conflicts.proofs.CoveringCells.{name_in}
 use Rattle.ped_step_runs.proofs.RunPlaces.{all_each}
 use Rattle.ped_step_runs.proofs.PrivatisedRacesOrigins.{accesses_from}
 use Rattle.ped_step_runs.proofs.ExpandedRacesOrigins.{IsTold, touch_of, write_there}
 use Rattle.ped_step_runs.proofs.SparedVariables.{IsUnassigned, variables_unassigned}
-use Rattle.ped_step_runs.proofs.ToldIndices.{Near, IsIndexAt, near_front}
-use Rattle.ped_step_runs.proofs.ToldRuns.{Tells, program_tells}
+use Rattle.ped_conflicts.proofs.CoveringIndices.{Near, IsIndexAt, near_front}
+use Rattle.ped_conflicts.proofs.CoveringTelling.{Tells, program_tells}
 
 first_iteration : (i j : Iteration) (is js : List Iteration) → i ∷ is ≡ j ∷ js → i ≡ j
 first_iteration i j is js e = cc
@@ -52,7 +52,7 @@ same_among i (t ∷ ts) (u ∷ us) (inl h) e = (u, inl refl, ap (λ (z : Iterati
 same_among i (t ∷ ts) (u ∷ us) (inr h) e = let r = same_among i ts us h (more_iterations (of_turn u) (of_turn t) (iterations_of us) (iterations_of ts) e) in (r.0, inr r.1, r.2)
 
 -- a cell of a scalar with this name
-near_named : (ts : List Turn) (c : Cell) (y : List ℕ) → Near ts c → cell_name c ≡ y → is_cell_of y c ≡ true
+near_named : (ts : List Turn) (c : Cell) (y : List ℕ) → Near ts c → name_in c ≡ y → is_cell_of y c ≡ true
 near_named ts (Scalar z) y n e = ap (λ (w : List ℕ). is_same_text w z) (sym e) ∙ same_itself z
 near_named ts (Private z path) y n e = ap (λ (w : List ℕ). is_same_text w z) (sym e) ∙ same_itself z
 near_named ts (Element z js) y n e = absurd n
@@ -121,7 +121,7 @@ module _ (t : ProgramTree) (valid : IsValid t) (start : Store) where
       let f = near_front (k.front ++ k.last ∷ []) k.more d.place.turns v.cell (ap (λ (us : List Turn). are_apart us d.place.turns) (sym k.round) ∙ apart) near at in
       let m = same_among k.last (k.front ++ k.last ∷ []) f.front (in_right k.last k.front (k.last ∷ []) (inl refl)) f.same in
       spares_in d i m.0 (subst (λ (us : List Turn). IsIn m.0 us) (sym f.is) (in_left m.0 f.front f.rest m.1)) k.head k.body (ap (λ (z : ℕ). statement_with z t) m.2 ∙ k.stands) v w write
-      (near_named (k.front ++ k.last ∷ []) v.cell k.head.variable near (ap cell_name (sym same) ∙ k.variable))
+      (near_named (k.front ++ k.last ∷ []) v.cell k.head.variable near (ap name_in (sym same) ∙ k.variable))
 
   -- what a place tells conflicts with nothing in another iteration of a PARALLEL DO
   told_alone : (b c : Access) → IsTold acts b → IsIn c (accesses acts) → are_apart b.place.turns c.place.turns ≡ true → conflict b c ≡ true → ⊥

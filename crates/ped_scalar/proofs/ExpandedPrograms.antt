@@ -1,9 +1,8 @@
 -- The new program of the code is that of the step.
-use Rattle.std.proofs.Common.{◌≡◌, ℕ, ℤ, Bool, true, false, List, ◌++◌, [], ◌∷◌, map, Option, Some, refl, sym, ap, ◌∙◌}
+use Rattle.std.proofs.Common.{◌≡◌, ℕ, Bool, List, ◌++◌, [], ◌∷◌, map, Some, sym, ap, ◌∙◌}
 use Rattle.std.proofs.lemmas.List.{map-append}
 use Rattle.ped_tree.specs.Tree.{Head, StmtTree, StmtTrees, Do, DeclTree, ProgramTree}
-use Rattle.ped_tree.specs.Views.{stmt_tree, stmt_trees, decl_tree}
-use Rattle.ped_tree.specs.Numbering.{statement_with}
+use Rattle.ped_tree.specs.Views.{stmt_trees, decl_tree}
 use Rattle.ped_tree.specs.declared.statements.Stmt.{Stmt}
 use Rattle.ped_tree.specs.declared.declarations.Decl.{Decl}
 use Rattle.ped_flow.specs.Questions.{IsLoop}

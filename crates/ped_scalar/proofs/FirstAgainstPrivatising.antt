@@ -1,17 +1,16 @@
 -- The first of the rules that stand against `privatise`, rule by rule in the order of their numbers.
-use Rattle.std.proofs.Common.{◌≡◌, ℕ, ◌+◌, ◌≤◌, List, Bool, true, false, ◌||◌, ◌⊎◌, inl, inr, Option, Some, None, IsTrue, sym, ap, ◌∙◌, subst, refl, arith}
+use Rattle.std.proofs.Common.{◌≡◌, ℕ, List, false, ◌||◌, inl, inr, Some, IsTrue, sym, ap, ◌∙◌, refl, arith}
 use Rattle.std.specs.List.{list_any}
 use Rattle.ped_base.specs.Lists.{is_among}
 use Rattle.ped_tree.specs.Tree.{Head, StmtTrees, ProgramTree}
 use Rattle.ped_tree.specs.Nests.{Loop}
 use Rattle.ped_symbols.specs.NameRefusals.{IsValid}
 use Rattle.ped_flow.specs.PlainBounds.{nest_round}
-use Rattle.ped_flow.specs.Questions.{IsLoop, LoopOf, IsFirst, IsExposed, IsReadBehind, IsShownBehind}
+use Rattle.ped_flow.specs.Questions.{IsLoop, LoopOf, IsFirst, IsExposed, IsReadBehind}
 use Rattle.ped_flow.proofs.Answering.{same_head, same_body}
 use Rattle.ped_steps.specs.declared.rules.Rule.{Rule}
 use Rattle.ped_steps.specs.declared.rules.Rule.TheVariants.{NoLoop, NotPerfect, ParallelState, HasPrivate, IndexEscapes, BoundNotPlain, BoundsShape, StepShape, Range, NoNeighbour, OneBlock, ExposedOrLive, NotScalar, NotConstant, Limit, BadFactor, AlreadyPrivate, NothingToReject}
-use Rattle.ped_steps.specs.RuleNames.{number_of}
-use Rattle.ped_steps.specs.Causes.{Rules, NoRule, NoneBelow, IsFirstRule}
+use Rattle.ped_steps.specs.Causes.{NoRule, NoneBelow, IsFirstRule}
 use Rattle.ped_steps.proofs.FirstRules.{none_at_first, none_up_to, none_stands, first_stands}
 use Rattle.ped_scalar.specs.Scalars.{is_scalar, is_unfit}
 use Rattle.ped_scalar.proofs.FlowAnswers.{true_not_false}

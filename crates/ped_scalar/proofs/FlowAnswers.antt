@@ -1,8 +1,7 @@
 -- By which statement a scalar is exposed in a DO or live behind it.
-use Rattle.std.proofs.Common.{◌≡◌, ℕ, List, [], ◌∷◌, Bool, true, false, not, ◌||◌, ◌⊎◌, inl, inr, Option, Some, None, MatchOption, IsTrue, refl, sym, ap, ◌∙◌, subst}
-use Rattle.ped_tree.specs.Tree.{Head, StmtTree, StmtTrees, Do, more_stmts, no_stmts, ProgramTree}
+use Rattle.std.proofs.Common.{◌≡◌, ℕ, List, [], ◌∷◌, Bool, true, false, not, ◌||◌, ◌⊎◌, inl, inr, Option, Some, None, MatchOption, IsTrue, refl, sym, ap, ◌∙◌}
+use Rattle.ped_tree.specs.Tree.{Head, StmtTree, StmtTrees, Do, ProgramTree}
 use Rattle.ped_tree.specs.Views.{stmt_tree, stmt_trees}
-use Rattle.ped_tree.specs.Numbering.{statement_with}
 use Rattle.ped_tree.specs.declared.statements.Stmt.{Stmt}
 use Rattle.ped_flow.specs.Questions.{IsLoop, IsFirst, IsExposed}
 use Rattle.ped_steps.specs.Replacing.{alone, program_with}

@@ -1,12 +1,18 @@
 -- Names that don't occur in a program.
-use Rattle.std.proofs.Common.{◌≡◌, ℕ, suc, ◌+◌, ◌-◌, ◌<◌, Bool, true, false, ◌||◌, List, ◌∷◌, ◌++◌, Option, Some, None, is_some, refl, sym, ap, ◌∙◌, arith, if◌then◌else◌}
+use Rattle.std.proofs.Common.{◌≡◌, ℕ, suc, ◌+◌, ◌-◌, ◌<◌, Bool, true, false, ◌&&◌, List, [], ◌∷◌, ◌++◌, length, Some, None, is_some, refl, ap, arith, if◌then◌else◌}
 use Rattle.std.specs.Prelude.{codes}
+use Rattle.std.specs.List.{list_all}
 use Rattle.std.specs.Fmt.{decimal}
+use Rattle.std.specs.Str.Parse.{AllDigits}
+use Rattle.std.proofs.lemmas.Bool.{le-leb, or_right}
+use Rattle.std.proofs.lemmas.Str.Parse.{digit_from_value}
+use Rattle.std.proofs.lemmas.Fmt.{decimal_is_IsNumeral, length-decimal-le}
+use Rattle.ped_base.specs.Letters.{is_letter, is_digit, is_alphanumeric, name_of}
 use Rattle.ped_base.specs.Lists.{is_among}
 use Rattle.ped_tree.specs.Tree.{ProgramTree}
 use Rattle.ped_symbols.specs.declared.symbols.Kind.{Kind}
 use Rattle.ped_symbols.specs.Kinds.{kind_of, kind_in, names_of}
-use Rattle.ped_scalar.specs.Expanding.{occurs, first_free, numbered_names, most_numbered, fresh_name}
+use Rattle.ped_scalar.specs.Expanding.{occurs, first_free, numbered_names, most_numbered}
 
 kind_there : (b : Bool) (k : Kind) → is_some (if b then Some k else None) ≡ b
 kind_there true k = refl
@@ -31,3 +37,18 @@ next_free t n h =
 -- no name is left at the end
 pub none_free : (t : ProgramTree) (n : ℕ) → most_numbered + 1 - n ≡ 0 → first_free t (numbered_names n (most_numbered + 1 - n)) ≡ None
 none_free t n h = ap (λ (count : ℕ). first_free t (numbered_names n count)) h
+
+-- digits are letters or digits
+digits_fit : (ds : List ℕ) → AllDigits 10 ds → list_all is_alphanumeric ds ≡ true
+digits_fit [] all = refl
+digits_fit (c ∷ cs) all =
+    let within = digit_from_value c all.0 in
+    let digit : is_digit c ≡ true = λ i. le-leb 48 c (omega (arith, within)) i && le-leb c 57 (omega (arith, within)) i in
+    λ i. or_right (is_letter c) (is_digit c) digit i && digits_fit cs all.1 i
+
+-- KX with a number of at most four digits is a name
+pub numbered_name : (n : ℕ) → n < 10000 → name_of (codes "KX" ++ decimal n) ≡ Some (codes "KX" ++ decimal n)
+numbered_name n h =
+    let digits = (decimal_is_IsNumeral n (omega (arith, h))).0.1 in
+    let short = length-decimal-le 4 n (omega arith) (omega (arith, h)) (omega (arith, h)) in
+    λ i. if digits_fit (decimal n) digits i && le-leb (length (codes "KX" ++ decimal n)) 31 (omega (arith, short)) i then Some (codes "KX" ++ decimal n) else None

@@ -1,23 +1,22 @@
 -- Where no rule stands against `privatise`, the new program keeps the meaning of the old one.
-use Rattle.std.proofs.Common.{◌≡◌, ℕ, zero, suc, ◌+◌, ◌<◌, ◌≤◌, List, Bool, true, false, Option, Some, None, refl, sym, ap, ◌∙◌, inl, inr, arith}
-use Rattle.std.specs.Prelude.{IsTrue, not, ◌||◌, ◌⊎◌}
+use Rattle.std.proofs.Common.{◌≡◌, ℕ, zero, suc, ◌<◌, ◌≤◌, List, Bool, true, false, Option, Some, None, refl, sym, ◌∙◌, inl, inr, arith}
+use Rattle.std.specs.Prelude.{IsTrue, not, ◌||◌}
 use Rattle.std.specs.List.{list_any}
-use Rattle.std.proofs.lemmas.Bool.{both_ways}
 use Rattle.ped_base.specs.Lists.{is_among}
 use Rattle.ped_tree.specs.Tree.{Head, StmtTree, StmtTrees, Assign, If, Do, Print, Read, Stop, Comment, ProgramTree}
 use Rattle.ped_tree.specs.Numbering.{statement_with}
 use Rattle.ped_symbols.specs.NameRefusals.{IsValid}
 use Rattle.ped_flow.specs.PlainBounds.{nest_round}
-use Rattle.ped_flow.specs.Questions.{LoopOf, IsFirst, IsExposed, IsReadBehind, IsShownBehind, IsLiveAfter}
+use Rattle.ped_flow.specs.Questions.{LoopOf, IsFirst, IsExposed, IsReadBehind, IsLiveAfter}
 use Rattle.ped_steps.specs.declared.rules.Rule.TheVariants.{NoLoop, ParallelState, ExposedOrLive, NotScalar, AlreadyPrivate}
-use Rattle.ped_steps.specs.Causes.{NoRule, IsFirstCause, none_forbids}
+use Rattle.ped_steps.specs.Causes.{NoRule}
 use Rattle.ped_step_runs.specs.Meaning.{Keeps}
 use Rattle.ped_step_runs.proofs.PrivatisedPrograms.{privatised_keeps}
-use Rattle.ped_scalar.specs.Scalars.{is_scalar, is_unfit, is_index_near, is_referred, IsLiveBy, IsExposedBy, IsUnexposed}
+use Rattle.ped_scalar.specs.Scalars.{is_scalar, is_unfit, is_index_near, is_referred}
 use Rattle.ped_scalar.specs.Privatising.{with_private, privatised, StandsAgainstPrivatising}
 
 -- where no number is the least of which this holds, it holds of none
-least : (P : ℕ → Type 0) → ((n : ℕ) → IsFirst P (Some n) → ⊥) → (n : ℕ) → P n → ⊥
+pub least : (P : ℕ → Type 0) → ((n : ℕ) → IsFirst P (Some n) → ⊥) → (n : ℕ) → P n → ⊥
 least P unfound n h = below (suc n) n (omega arith) h
   where
     not_less : (m n : ℕ) → (m < n → ⊥) → n ≤ m
@@ -28,21 +27,21 @@ least P unfound n h = below (suc n) n (omega arith) h
     below (suc k) n lt p = unfound n (p, λ m q. not_less m n (λ less. below k m (omega (arith, lt, less)) q))
 
 -- a truth value that can't be true is false
-false_by : (b : Bool) → (IsTrue b → ⊥) → b ≡ false
+pub false_by : (b : Bool) → (IsTrue b → ⊥) → b ≡ false
 false_by true h = absurd (h refl)
 false_by false h = refl
 
-or_neither : (a b : Bool) → (a || b) ≡ false → (a ≡ false) × (b ≡ false)
+pub or_neither : (a b : Bool) → (a || b) ≡ false → (a ≡ false) × (b ≡ false)
 or_neither true b e = absurd cc
 or_neither false b e = (refl, e)
 
-not_so : (b : Bool) → not b ≡ false → b ≡ true
+pub not_so : (b : Bool) → not b ≡ false → b ≡ true
 not_so true e = refl
 not_so false e = absurd cc
 
 module _ (t : ProgramTree) (s : ℕ) (x : List ℕ) (valid : IsValid t) (stands_none : NoRule (StandsAgainstPrivatising t s x)) where
   module _ (l : LoopOf t s) where
-    parallel_none : (l.head.parallel || list_any (λ m. m.head.parallel) (nest_round t s)) ≡ false
+    pub parallel_none : (l.head.parallel || list_any (λ m. m.head.parallel) (nest_round t s)) ≡ false
     parallel_none = false_by (l.head.parallel || list_any (λ m. m.head.parallel) (nest_round t s)) (λ h. stands_none ParallelState s (l, h, refl))
 
     fit : is_unfit t s l.head l.body x ≡ false

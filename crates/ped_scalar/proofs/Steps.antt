@@ -1,5 +1,5 @@
 -- Increments of DO loops, and the values of their variables.
-use Rattle.std.proofs.Common.{◌≡◌, ℕ, ◌+◌, ◌-◌, ◌≤◌, ◌<◌, ◌==◌, ℤ, pos, ◌-ℤ◌, int_lt, unsigned_abs, int_rem, neg_ℤ, negsuc, ◌<ℤ◌, ◌≤ℤ◌, FitsSigned, ◌⊎◌, inl, inr, Bool, true, false, not, ◌&&◌, ◌||◌, IsTrue, List, [], ◌∷◌, ◌++◌, Option, Some, None, refl, sym, ap, ap₂, ◌∙◌, subst, arith, eqb-true, if◌then◌else◌}
+use Rattle.std.proofs.Common.{◌≡◌, ℕ, ◌-◌, ◌≤◌, ◌<◌, ◌==◌, ℤ, pos, ◌-ℤ◌, int_lt, unsigned_abs, int_rem, neg_ℤ, ◌<ℤ◌, ◌≤ℤ◌, FitsSigned, ◌⊎◌, inl, inr, Bool, true, false, not, ◌&&◌, ◌||◌, IsTrue, List, [], ◌∷◌, Option, Some, None, refl, sym, ap, ap₂, ◌∙◌, subst, arith, if◌then◌else◌}
 use Rattle.std.specs.List.{list_all}
 use Rattle.std.specs.Ordering.{int_eq}
 use Rattle.std.proofs.lemmas.Bool.{and_parts}
@@ -8,7 +8,7 @@ use Rattle.std.proofs.lemmas.Int.{ints, rem_below, fits_signed_from_abs}
 use Rattle.std.proofs.lemmas.List.Folds.{list_all-append}
 use Rattle.ped_views.proofs.Products.{abs_some, linear}
 use Rattle.ped_tree.specs.Tree.{Head, StmtTree, StmtTrees, Assign, If, Do, Print, Read, Stop, Comment, no_stmts, more_stmts, ProgramTree}
-use Rattle.ped_tree.specs.Numbering.{numbered, all_numbered, at_place, statement_with}
+use Rattle.ped_tree.specs.Numbering.{numbered, all_numbered, at_place}
 use Rattle.ped_symbols.specs.Kinds.{table_of}
 use Rattle.ped_symbols.specs.NameRefusals.{IsValid}
 use Rattle.ped_uses.specs.RightLoops.{is_small, is_step, step_is_right, stmt_steps_are_right, steps_are_right}

@@ -1,5 +1,5 @@
 -- How the code finds the values of a DO's variable (this project).
-use Rattle.std.specs.Prelude.{◌≡◌, ◌≤◌, unsigned_abs, false, true, Option, Some, None}
+use Rattle.std.specs.Prelude.{◌≡◌, ◌≤◌, unsigned_abs, true, Option, Some, None}
 use Rattle.ped_scalar.specs.declared.spans.Span.{Span as CodeSpan}
 use Rattle.ped_scalar.specs.declared.spans.Course.{Course}
 use Rattle.ped_scalar.specs.declared.spans.Course.TheVariants.{Unknown, Far, Near}

@@ -1,11 +1,10 @@
 -- `expand`: a scalar becomes an array with an element for each value of a DO's variable. The new program, and the rules that stand against it (Allen and Kennedy, section 5.3; ParaScope).
-use Rattle.std.specs.Prelude.{◌≡◌, ◌⊎◌, ◌↔◌, ℕ, ◌+◌, ℤ, pos, neg_ℤ, ◌-ℤ◌, int_le, int_lt, int_rem, nat_lt, List, [], ◌∷◌, ◌++◌, map, codes, Bool, true, false, not, ◌&&◌, ◌||◌, IsTrue, Option, Some, None, Result, Ok, Err, if◌then◌else◌}
+use Rattle.std.specs.Prelude.{◌≡◌, ◌⊎◌, ◌↔◌, ℕ, ◌+◌, ℤ, pos, neg_ℤ, ◌-ℤ◌, int_le, int_lt, int_rem, nat_lt, List, [], ◌∷◌, ◌++◌, map, codes, Bool, true, false, ◌&&◌, ◌||◌, IsTrue, Option, Some, None, Result, Ok, Err, if◌then◌else◌}
 use Rattle.std.specs.List.{list_any, flat_map, range_with_len}
 use Rattle.std.specs.Int.{int_min, int_max}
 use Rattle.std.specs.Fmt.{decimal}
-use Rattle.ped_base.specs.Lists.{is_same_text, is_among}
+use Rattle.ped_base.specs.Lists.{is_among}
 use Rattle.ped_tree.specs.Tree.{ExprTree, Var, Element, no_exprs, more_exprs, Head, StmtTree, StmtTrees, Assign, If, Do, Print, Read, Stop, Comment, no_stmts, more_stmts, DeclTree, Program, Implicit, Integer, Dimension, Parameter, Save, Remark, ProgramTree}
-use Rattle.ped_tree.specs.Nests.{Loop}
 use Rattle.ped_tree.specs.Numbering.{statements_count}
 use Rattle.ped_constants.specs.ConstantExpressions.{constant_value}
 use Rattle.ped_symbols.specs.Kinds.{names_of, table_of}
@@ -14,14 +13,13 @@ use Rattle.ped_flow.specs.PlainBounds.{nest_round}
 use Rattle.ped_flow.specs.Questions.{LoopOf, IsLiveAfter, IsAssignedThrough}
 use Rattle.ped_sums.specs.Sums.{literal}
 use Rattle.ped_sums.specs.Substitution.{statements_substituted}
-use Rattle.ped_steps.specs.declared.rules.Rule.{Rule}
 use Rattle.ped_steps.specs.declared.rules.Rule.TheVariants.{NoLoop, NotPerfect, ParallelState, HasPrivate, IndexEscapes, BoundNotPlain, BoundsShape, StepShape, Range, NoNeighbour, OneBlock, ExposedOrLive, NotScalar, NotConstant, Limit, BadFactor, AlreadyPrivate, NothingToReject}
 use Rattle.ped_steps.specs.declared.causes.Refused.{Refused}
 use Rattle.ped_steps.specs.declared.changes.Change.{Change}
 use Rattle.ped_steps.specs.Causes.{Rules, IsFirstCause, none_forbids}
 use Rattle.ped_steps.specs.CodeCauses.{cause_of, IsShort}
 use Rattle.ped_steps.specs.Changes.{IsChange}
-use Rattle.ped_steps.specs.Replacing.{alone, followed, all_replaced}
+use Rattle.ped_steps.specs.Replacing.{alone, all_replaced}
 use Rattle.ped_scalar.specs.Scalars.{IsNoLoop, is_scalar, is_unfit, IsLiveBy, IsExposedBy, IsUnexposed}
 
 -- the named constants with their values

@@ -1,5 +1,5 @@
 -- What the rules of the steps on scalars ask of a scalar and a DO (ParaScope; this project).
-use Rattle.std.specs.Prelude.{◌≡◌, ◌⊎◌, ℕ, ◌+◌, List, ◌∷◌, Bool, true, not, ◌&&◌, ◌||◌, nat_lt, IsTrue, Option, Some, None}
+use Rattle.std.specs.Prelude.{◌≡◌, ◌⊎◌, ℕ, ◌+◌, List, Bool, not, ◌&&◌, ◌||◌, nat_lt, Some, None}
 use Rattle.std.specs.List.{list_any}
 use Rattle.ped_base.specs.Lists.{is_same_text, is_among}
 use Rattle.ped_tree.specs.Tree.{Head, StmtTrees, ProgramTree, Do}

@@ -45,7 +45,7 @@ fn numbered(alloc: Global, n: u32) -> Result<Name, NoMemory>
     text.extend_from_slice(buffer.format(n).as_bytes())?;
     match Name::from_bytes(text.as_slice()) {
         Some(name) => Ok(name),
-        None => Err(NoMemory),
+        None => unreachable!(),
     }
 }
 

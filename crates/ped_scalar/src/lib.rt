@@ -15,5 +15,8 @@ mod scalars;
 mod spans;
 
 pub use expanding::expand;
-pub use laws::{one_cause_against_expanding, one_cause_against_privatising, privatising_keeps};
+pub use laws::{
+    expanding_keeps, expanding_stays_tidy, one_cause_against_expanding,
+    one_cause_against_privatising, privatising_keeps, privatising_stays_tidy,
+};
 pub use privatising::privatise;

@@ -1,13 +1,13 @@
-use Rattle.std.proofs.Common.{◌≡◌, ℕ, ℤ, List, true, false, Option, Some, None, IsTrue, sym, ap, ◌∙◌, subst}
+use Rattle.std.proofs.Common.{ℕ, ℤ, List, IsTrue, sym, ap, ◌∙◌, subst}
 use Rattle.ped_tree.specs.Views.{program_tree, stmt_trees}
 use Rattle.ped_refs.specs.Loops.{head_of}
 use Rattle.ped_symbols.specs.Kinds.{Table, table_of}
 use Rattle.ped_uses.specs.RightLoops.{step_is_right}
 use Rattle.ped_steps.specs.declared.rules.Rule.TheVariants.{ParallelState, Range}
-use Rattle.ped_scalar.specs.Expanding.{Span, span_of, spans_far}
-use Rattle.ped_scalar.specs.CodeSpans.{IsCourse, IsKnown, span_in}
+use Rattle.ped_scalar.specs.Expanding.{span_of}
+use Rattle.ped_scalar.specs.CodeSpans.{IsCourse}
 use Rattle.ped_scalar.specs.declared.spans.Course.TheVariants.{Far, Near, Unknown}
-use Rattle.ped_scalar.proofs.Steps.{right_step, near_spans, near_not_far}
+use Rattle.ped_scalar.proofs.Steps.{right_step, near_spans}
 use Rattle.ped_scalar.proofs.FirstAgainstExpanding as first
 use Rattle.ped_scalar.proofs.expanding.expand_in.Goals as goal
 

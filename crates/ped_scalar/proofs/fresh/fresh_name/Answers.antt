@@ -1,8 +1,8 @@
-use Rattle.std.proofs.Common.{◌≡◌, ℕ, ◌+◌, ◌-◌, ◌<◌, ◌++◌, Bool, true, false, List, Option, Some, None, sym, ap, ◌∙◌, subst, arith, if◌then◌else◌}
+use Rattle.std.proofs.Common.{◌≡◌, ℕ, ◌+◌, ◌-◌, ◌<◌, ◌++◌, Bool, true, false, List, Some, sym, ap, ◌∙◌, arith, if◌then◌else◌}
 use Rattle.std.specs.Prelude.{codes}
 use Rattle.std.specs.Fmt.{decimal}
 use Rattle.ped_tree.specs.Views.{program_tree}
-use Rattle.ped_scalar.specs.Expanding.{occurs, first_free, numbered_names, most_numbered, fresh_name}
+use Rattle.ped_scalar.specs.Expanding.{occurs, first_free, numbered_names, most_numbered}
 use Rattle.ped_scalar.proofs.FreshNames.{most_is, next_free, none_free}
 use Rattle.ped_scalar.proofs.fresh.fresh_name.Goals as goal
 

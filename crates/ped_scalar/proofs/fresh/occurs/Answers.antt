@@ -1,4 +1,4 @@
-use Rattle.std.proofs.Common.{ℕ, List, Bool, ◌||◌, map, Option, is_some, sym, ap, ◌∙◌}
+use Rattle.std.proofs.Common.{List, Bool, ◌||◌, map, Option, is_some, sym, ap, ◌∙◌}
 use Rattle.std.specs.List.{flat_map}
 use Rattle.ped_base.specs.Lists.{is_among}
 use Rattle.ped_tree.specs.Views.{decl_tree, program_tree}

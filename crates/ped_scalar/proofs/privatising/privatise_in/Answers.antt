@@ -1,4 +1,4 @@
-use Rattle.std.proofs.Common.{◌≡◌, ℕ, List, Bool, ◌||◌, true, false, Option, MatchOption, sym, ap, ◌∙◌, subst, arith}
+use Rattle.std.proofs.Common.{ℕ, List, ◌||◌, Option, MatchOption, sym, ap, ◌∙◌, subst, arith}
 use Rattle.std.specs.List.{list_any}
 use Rattle.ped_base.specs.Lists.{is_among}
 use Rattle.ped_tree.specs.Tree.{ProgramTree}
@@ -6,7 +6,7 @@ use Rattle.ped_tree.specs.Nests.{Loop}
 use Rattle.ped_tree.specs.Views.{program_tree, stmt_trees}
 use Rattle.ped_refs.specs.Loops.{head_of, nest_of}
 use Rattle.ped_symbols.specs.NameRefusals.{IsValid}
-use Rattle.ped_steps.specs.declared.rules.Rule.TheVariants.{NoLoop, ParallelState, ExposedOrLive, NotScalar, Limit, AlreadyPrivate}
+use Rattle.ped_steps.specs.declared.rules.Rule.TheVariants.{ParallelState, ExposedOrLive, NotScalar, Limit, AlreadyPrivate}
 use Rattle.ped_steps.specs.Replacing.{all_kept}
 use Rattle.ped_steps.specs.Changes.{IsChange}
 use Rattle.ped_steps.specs.declared.changes.Change.{Change}

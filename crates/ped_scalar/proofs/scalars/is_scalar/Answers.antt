@@ -1,7 +1,6 @@
-use Rattle.std.proofs.Common.{List, ℕ, ap, ◌∙◌}
+use Rattle.std.proofs.Common.{ap, ◌∙◌}
 use Rattle.ped_symbols.specs.Entries.{entry_of}
 use Rattle.ped_symbols.specs.Kinds.{Table}
-use Rattle.ped_symbols.specs.declared.symbols.Kind.{Kind}
 use Rattle.ped_uses.specs.RightUses.{is_scalar_kind}
 use Rattle.ped_uses.proofs.Found.{found_in_program}
 use Rattle.ped_scalar.proofs.scalars.is_scalar.Goals as goal

@@ -1,4 +1,4 @@
-use Rattle.std.proofs.Common.{◌≡◌, ℕ, ◌+◌, List, true, false, not, ◌||◌, sym, ap, ◌∙◌, arith}
+use Rattle.std.proofs.Common.{List, not, ◌||◌, sym, ap, ◌∙◌, arith}
 use Rattle.ped_base.specs.Lists.{is_among}
 use Rattle.ped_tree.specs.Nests.{Loop, indices_of}
 use Rattle.ped_tree.specs.Views.{program_tree, stmt_trees}

@@ -1,4 +1,4 @@
-use Rattle.std.proofs.Common.{◌≡◌, ◌∙◌, ◌≤◌, ℤ, pos, int_lt, negsuc, unsigned_abs, to_z, of_z, Bool, true, false, Option, Some, None, inl, inr, sym, ap, subst, if◌then◌else◌}
+use Rattle.std.proofs.Common.{◌≡◌, ◌∙◌, ◌≤◌, ℤ, pos, int_lt, negsuc, unsigned_abs, to_z, of_z, Bool, true, Some, None, inl, inr, sym, ap, subst, if◌then◌else◌}
 use Rattle.std.specs.Int.{w64, w128}
 use Rattle.std.proofs.lemmas.Int.{to_z-of_z}
 use Rattle.ped_scalar.specs.Expanding.{Span, has_iteration, is_far, last_value}

@@ -1,7 +1,6 @@
 use Rattle.std.proofs.Common.{◌≡◌, ℤ, ◌-ℤ◌, int_rem, ◌<◌, unsigned_abs, FitsSigned, to_z, of_z, sym, ap, ◌∙◌, subst}
 use Rattle.std.specs.Int.{w128}
 use Rattle.std.proofs.lemmas.Int.{to_z-of_z}
-use Rattle.ped_scalar.specs.Expanding.{last_value}
 use Rattle.ped_scalar.proofs.Steps.{left_fits, way_fits}
 use Rattle.ped_scalar.proofs.spans.last_value.Goals as goal
 

@@ -1,0 +1,160 @@
+-- Statements with elements of an array in the place of a scalar leave no more of another scalar; and statements without a STOP end no path.
+use Rattle.std.proofs.Common.{◌≡◌, ℕ, ◌+◌, Bool, true, false, ◌||◌, List, [], ◌∷◌, ◌++◌, map, refl, sym, ap, subst, ◌∙◌, if◌then◌else◌}
+use Rattle.std.specs.List.{flat_map}
+use Rattle.ped_base.specs.Lists.{is_same_text, is_among}
+use Rattle.ped_names.proofs.NameEquality.{same_is}
+use Rattle.ped_tree.specs.Tree.{ExprTree, Int, Var, Element, Neg, Add, Sub, Mul, Div, Pow, Call, Head, StmtTree, StmtTrees, Assign, If, Do, Print, Read, Stop, Comment, no_stmts, more_stmts}
+use Rattle.ped_tree.specs.Numbering.{statement_count, statements_count}
+use Rattle.ped_affine.specs.Assigned.{loop_variables, all_loop_variables}
+use Rattle.ped_flow.specs.Events.{own_events, start_events, exit_events}
+use Rattle.ped_flow.specs.Summaries.{passing, unreached, sum_in_turn, sum_either, sum_trips, sum_events, sum_loop, sum_of, sum_of_all, sum_behind, sum_behind_all}
+use Rattle.ped_flow.proofs.Truths.{untrue, or_none}
+use Rattle.ped_flow_runs.specs.Covering.{has_stop, some_stop}
+use Rattle.ped_sums.specs.Substitution.{substituted, head_substituted, condition_substituted, item_substituted, statement_substituted, statements_substituted}
+use Rattle.ped_step_runs.proofs.SubstitutedShapes.{count_kept, counts_kept}
+use Rattle.ped_scalar.proofs.TidyPathsSums.{IsNoMore, AreNoMore, ClearsAll, append_more, no_more, in_turn_more, either_more, trips_more, events_pass, lefts, own_more, loop_more, do_more, if_more, more_more}
+use Rattle.ped_scalar.proofs.TidyPathsGaps.{loop_behind_more, rest_behind_more}
+
+-- statements without a STOP end no path
+module _ (cs : List (List ℕ)) (w : List ℕ) where
+  mutual
+    pub unstopped : (t : StmtTree) (n : ℕ) → has_stop t ≡ false → IsNoMore (sum_of cs w t n) passing
+    unstopped (Assign left right) n h = events_pass w (own_events cs n (Assign left right))
+    unstopped (If c a b) n h =
+        let k = or_none (some_stop a) (some_stop b) h in
+        in_turn_more (sum_events w (own_events cs n (If c a b))) (sum_either (sum_of_all cs w a (n + 1)) (sum_of_all cs w b (n + 1 + statements_count a))) passing passing
+        (events_pass w (own_events cs n (If c a b)))
+        (either_more (sum_of_all cs w a (n + 1)) (sum_of_all cs w b (n + 1 + statements_count a)) passing passing (all_unstopped a (n + 1) k.0) (all_unstopped b (n + 1 + statements_count a) k.1))
+    unstopped (Do h body) n k =
+        let start = sum_events w (start_events n h body) in
+        let inner = sum_of_all cs w body (n + 1) in
+        in_turn_more (sum_events w (own_events cs n (Do h body))) (sum_loop w n h body inner) passing passing (events_pass w (own_events cs n (Do h body)))
+        (in_turn_more (sum_trips (sum_in_turn start inner)) (sum_events w (exit_events n h body)) passing passing
+        (trips_more (sum_in_turn start inner) passing (in_turn_more start inner passing passing (events_pass w (start_events n h body)) (all_unstopped body (n + 1) k)))
+        (events_pass w (exit_events n h body)))
+    unstopped (Print items) n h = events_pass w (own_events cs n (Print items))
+    unstopped (Read items) n h = events_pass w (own_events cs n (Read items))
+    unstopped Stop n h = untrue (sym h)
+    unstopped (Comment text) n h = no_more passing
+
+    pub all_unstopped : (ts : StmtTrees) (n : ℕ) → some_stop ts ≡ false → IsNoMore (sum_of_all cs w ts n) passing
+    all_unstopped no_stmts n h = no_more passing
+    all_unstopped (more_stmts t rest) n h =
+        let k = or_none (has_stop t) (some_stop rest) h in
+        in_turn_more (sum_of cs w t n) (sum_of_all cs w rest (n + statement_count t)) passing passing (unstopped t n k.0) (all_unstopped rest (n + statement_count t) k.1)
+
+module _ (x : List ℕ) (by : ExprTree) where
+  mutual
+    stop_kept : (t : StmtTree) → has_stop (statement_substituted x by t) ≡ has_stop t
+    stop_kept (Assign left right) = refl
+    stop_kept (If c a b) = λ i. stops_kept a i || stops_kept b i
+    stop_kept (Do h body) = stops_kept body
+    stop_kept (Print items) = refl
+    stop_kept (Read items) = refl
+    stop_kept Stop = refl
+    stop_kept (Comment text) = refl
+
+    pub stops_kept : (ts : StmtTrees) → some_stop (statements_substituted x by ts) ≡ some_stop ts
+    stops_kept no_stmts = refl
+    stops_kept (more_stmts t rest) = λ i. stop_kept t i || stops_kept rest i
+
+  mutual
+    variables_kept : (t : StmtTree) → loop_variables (statement_substituted x by t) ≡ loop_variables t
+    variables_kept (Assign left right) = refl
+    variables_kept (If c a b) = λ i. all_variables_kept a i ++ all_variables_kept b i
+    variables_kept (Do h body) = λ i. h.variable ∷ all_variables_kept body i
+    variables_kept (Print items) = refl
+    variables_kept (Read items) = refl
+    variables_kept Stop = refl
+    variables_kept (Comment text) = refl
+
+    pub all_variables_kept : (ts : StmtTrees) → all_loop_variables (statements_substituted x by ts) ≡ all_loop_variables ts
+    all_variables_kept no_stmts = refl
+    all_variables_kept (more_stmts t rest) = λ i. variables_kept t i ++ all_variables_kept rest i
+
+  -- another scalar is cleared as before
+  module _ (cs : List (List ℕ)) (w : List ℕ) where
+    pub variables_clear : (ts : StmtTrees) → AreNoMore w (all_loop_variables ts) (all_loop_variables (statements_substituted x by ts))
+    variables_clear ts e = ap (is_among w) (all_variables_kept ts) ∙ e
+
+    substituted_clears : (h : Head) (body : StmtTrees) → ClearsAll cs w (head_substituted x by h) h (statements_substituted x by body) body
+    substituted_clears h body = record { variable = refl; parallel = refl; private = λ e. e; loops = variables_clear body }
+
+    module _ (other : is_same_text w x ≡ false) where
+      is_it : (c : Bool) (y : List ℕ) → is_among w (if c then [] else y ∷ []) ≡ true → is_same_text w y ≡ true
+      is_it true y e = untrue e
+      is_it false y e = go (is_same_text w y) e
+        where
+          go : (b : Bool) → (b || false) ≡ true → b ≡ true
+          go true f = refl
+          go false f = f
+
+      lefts_kept : (left : ExprTree) → AreNoMore w (lefts cs left) (lefts cs (substituted x by left))
+      lefts_kept (Var y) e = go (is_same_text x y) refl
+        where
+          go : (b : Bool) → is_same_text x y ≡ b → is_among w (lefts cs (if b then by else Var y)) ≡ true
+          go true f = untrue (sym other ∙ ap (is_same_text w) (same_is x y f) ∙ is_it (is_among y cs) y e)
+          go false f = e
+      lefts_kept (Element y es) e = untrue e
+      lefts_kept (Int k) e = untrue e
+      lefts_kept (Neg a) e = untrue e
+      lefts_kept (Add a b) e = untrue e
+      lefts_kept (Sub a b) e = untrue e
+      lefts_kept (Mul a b) e = untrue e
+      lefts_kept (Div a b) e = untrue e
+      lefts_kept (Pow a b) e = untrue e
+      lefts_kept (Call f es) e = untrue e
+
+      items_kept : (items : List ExprTree) → AreNoMore w (flat_map (lefts cs) items) (flat_map (lefts cs) (map (substituted x by) items))
+      items_kept [] = λ e. e
+      items_kept (e ∷ rest) = append_more w (lefts cs e) (flat_map (lefts cs) rest) (lefts cs (substituted x by e)) (flat_map (lefts cs) (map (substituted x by) rest)) (lefts_kept e) (items_kept rest)
+
+      mutual
+        pub substituted_leaves : (t : StmtTree) (n m : ℕ) → IsNoMore (sum_of cs w (statement_substituted x by t) n) (sum_of cs w t m)
+        substituted_leaves (Assign left right) n m = own_more cs w (Assign (substituted x by left) (substituted x by right)) (Assign left right) n m (lefts_kept left)
+        substituted_leaves (If c a b) n m =
+            let first = statements_substituted x by a in
+            let second = statements_substituted x by b in
+            if_more cs w first second a b (If (condition_substituted x by c) first second) (If c a b) n m (n + 1) (n + 1 + statements_count first) (m + 1) (m + 1 + statements_count a) (λ e. e)
+            (all_substituted_leave a (n + 1) (m + 1)) (all_substituted_leave b (n + 1 + statements_count first) (m + 1 + statements_count a))
+        substituted_leaves (Do h body) n m = do_more cs w (head_substituted x by h) h (statements_substituted x by body) body n m (substituted_clears h body) (all_substituted_leave body (n + 1) (m + 1))
+        substituted_leaves (Print items) n m = own_more cs w (Print (map (item_substituted x by) items)) (Print items) n m (λ e. e)
+        substituted_leaves (Read items) n m = own_more cs w (Read (map (substituted x by) items)) (Read items) n m (items_kept items)
+        substituted_leaves Stop n m = no_more (sum_of cs w Stop n)
+        substituted_leaves (Comment text) n m = no_more passing
+
+        pub all_substituted_leave : (ts : StmtTrees) (n m : ℕ) → IsNoMore (sum_of_all cs w (statements_substituted x by ts) n) (sum_of_all cs w ts m)
+        all_substituted_leave no_stmts n m = no_more passing
+        all_substituted_leave (more_stmts t rest) n m =
+            let first = statement_substituted x by t in
+            more_more cs w first t (statements_substituted x by rest) rest n m (n + statement_count first) (m + statement_count t)
+            (substituted_leaves t n m) (all_substituted_leave rest (n + statement_count first) (m + statement_count t))
+
+      mutual
+        substituted_behind : (t : StmtTree) (k n : ℕ) → IsNoMore (sum_behind cs w k (statement_substituted x by t) n) (sum_behind cs w k t n)
+        substituted_behind (Assign left right) k n = no_more unreached
+        substituted_behind (If c a b) k n =
+            let first = statements_substituted x by a in
+            let second = statements_substituted x by b in
+            subst (λ (i : ℕ). IsNoMore (sum_either (sum_behind_all cs w k first (n + 1)) (sum_behind_all cs w k second (n + 1 + i))) (sum_either (sum_behind_all cs w k a (n + 1)) (sum_behind_all cs w k b (n + 1 + statements_count a))))
+            (sym (counts_kept x by a))
+            (either_more (sum_behind_all cs w k first (n + 1)) (sum_behind_all cs w k second (n + 1 + statements_count a)) (sum_behind_all cs w k a (n + 1)) (sum_behind_all cs w k b (n + 1 + statements_count a))
+            (all_substituted_behind a k (n + 1)) (all_substituted_behind b k (n + 1 + statements_count a)))
+        substituted_behind (Do h body) k n =
+            let inner = statements_substituted x by body in
+            loop_behind_more cs w (head_substituted x by h) h inner body k n k n refl (all_substituted_behind body k (n + 1))
+            (loop_more cs w (head_substituted x by h) h inner body n n (sum_of_all cs w inner (n + 1)) (sum_of_all cs w body (n + 1)) (substituted_clears h body) (all_substituted_leave body (n + 1) (n + 1)))
+        substituted_behind (Print items) k n = no_more unreached
+        substituted_behind (Read items) k n = no_more unreached
+        substituted_behind Stop k n = no_more unreached
+        substituted_behind (Comment text) k n = no_more unreached
+
+        pub all_substituted_behind : (ts : StmtTrees) (k n : ℕ) → IsNoMore (sum_behind_all cs w k (statements_substituted x by ts) n) (sum_behind_all cs w k ts n)
+        all_substituted_behind no_stmts k n = no_more unreached
+        all_substituted_behind (more_stmts t rest) k n =
+            let first = statement_substituted x by t in
+            let others = statements_substituted x by rest in
+            subst (λ (i : ℕ). IsNoMore (sum_either (sum_in_turn (sum_behind cs w k first n) (sum_of_all cs w others (n + i))) (sum_behind_all cs w k others (n + i))) (sum_behind_all cs w k (more_stmts t rest) n))
+            (sym (count_kept x by t))
+            (rest_behind_more cs w first t others rest k n k n (n + statement_count t) (n + statement_count t)
+            (substituted_behind t k n) (all_substituted_leave rest (n + statement_count t) (n + statement_count t)) (all_substituted_behind rest k (n + statement_count t)))

@@ -1,0 +1,131 @@
+-- Which names are written where an element of an array stands for a scalar, and where others have come into a gap: but for the array's name, no new ones. And the variables of the DO loops stay.
+use Rattle.std.proofs.Common.{◌≡◌, ℕ, List, [], ◌∷◌, ◌++◌, map, Bool, true, false, refl, sym, ap, ◌∙◌, append_assoc, if◌then◌else◌}
+use Rattle.std.specs.Prelude.{◌||◌, ◌&&◌}
+use Rattle.std.specs.List.{list_any, list_all}
+use Rattle.std.proofs.lemmas.Bool.{and_parts, or_parts}
+use Rattle.ped_base.specs.Lists.{is_same_text, is_among}
+use Rattle.ped_tree.specs.Tree.{ExprTree, ExprTrees, Int, Var, Element, Neg, Add, Sub, Mul, Div, Pow, Call, StmtTree, StmtTrees, Assign, If, Do, Print, Read, Stop, Comment, no_stmts, more_stmts}
+use Rattle.ped_affine.specs.Assigned.{loop_variables, all_loop_variables}
+use Rattle.ped_sums.specs.Substitution.{substituted, statement_substituted, statements_substituted}
+use Rattle.ped_uses.specs.RightUses.{NameKinds, expr_is_right, target_is_right, cond_is_right, head_is_right, stmt_is_right, stmts_are_right}
+use Rattle.ped_steps.specs.Replacing.{followed}
+use Rattle.ped_step_runs.specs.Gaps.{Gap, at_front, past, in_then, in_else, in_body, filled}
+use Rattle.ped_scalar.proofs.TidyReferences.{writes_name, writes_left, writes, all_write}
+
+both_false : (a b : Bool) → a ≡ false → b ≡ false → (a || b) ≡ false
+both_false a b e f = λ i. e i || f i
+
+module _ (x : List ℕ) (by : ExprTree) where
+  mutual
+    pub variables_stay : (s : StmtTree) → loop_variables (statement_substituted x by s) ≡ loop_variables s
+    variables_stay (Assign left right) = refl
+    variables_stay (If c a b) = λ i. all_variables_stay a i ++ all_variables_stay b i
+    variables_stay (Do h body) = λ i. h.variable ∷ all_variables_stay body i
+    variables_stay (Print items) = refl
+    variables_stay (Read items) = refl
+    variables_stay Stop = refl
+    variables_stay (Comment text) = refl
+
+    pub all_variables_stay : (ss : StmtTrees) → all_loop_variables (statements_substituted x by ss) ≡ all_loop_variables ss
+    all_variables_stay no_stmts = refl
+    all_variables_stay (more_stmts s rest) = λ i. variables_stay s i ++ all_variables_stay rest i
+
+module _ (constants : List (List ℕ)) (w : List ℕ) where
+  -- what isn't the name doesn't write it
+  pub other_unwritten : (y : List ℕ) → is_same_text w y ≡ false → writes_name constants w y ≡ false
+  other_unwritten y e = go (is_among y constants)
+    where
+      go : (b : Bool) → (if b then false else is_same_text w y) ≡ false
+      go true = refl
+      go false = e
+
+  module _ (k : NameKinds) (x array : List ℕ) (subscripts : ExprTrees) (apart : is_same_text w array ≡ false) where
+    left_unwritten : (e : ExprTree) → target_is_right k e ≡ true → writes_left constants w e ≡ false → writes_left constants w (substituted x (Element array subscripts) e) ≡ false
+    left_unwritten (Var y) r h = go (is_same_text x y)
+      where
+        go : (b : Bool) → writes_left constants w (if b then Element array subscripts else Var y) ≡ false
+        go true = other_unwritten array apart
+        go false = h
+    left_unwritten (Element y es) r h = h
+    left_unwritten (Int n) r h = absurd cc
+    left_unwritten (Neg a) r h = absurd cc
+    left_unwritten (Add a b) r h = absurd cc
+    left_unwritten (Sub a b) r h = absurd cc
+    left_unwritten (Mul a b) r h = absurd cc
+    left_unwritten (Div a b) r h = absurd cc
+    left_unwritten (Pow a b) r h = absurd cc
+    left_unwritten (Call f es) r h = absurd cc
+
+    lefts_unwritten : (items : List ExprTree) → list_all (target_is_right k) items ≡ true → list_any (writes_left constants w) items ≡ false → list_any (writes_left constants w) (map (substituted x (Element array subscripts)) items) ≡ false
+    lefts_unwritten [] r h = refl
+    lefts_unwritten (e ∷ es) r h =
+        let right = and_parts (target_is_right k e) (list_all (target_is_right k) es) r in
+        let none = or_parts (writes_left constants w e) (list_any (writes_left constants w) es) h in
+        λ i. left_unwritten e right.0 none.0 i || lefts_unwritten es right.1 none.1 i
+
+    mutual
+      one_unwritten : (s : StmtTree) → stmt_is_right k s ≡ true → writes constants w s ≡ false → writes constants w (statement_substituted x (Element array subscripts) s) ≡ false
+      one_unwritten (Assign left right) r h = left_unwritten left (and_parts (target_is_right k left) (expr_is_right k right) r).0 h
+      one_unwritten (If c a b) r h =
+          let right = and_parts (cond_is_right k c && stmts_are_right k a) (stmts_are_right k b) r in
+          let none = or_parts (all_write constants w a) (all_write constants w b) h in
+          λ i. all_unwritten a (and_parts (cond_is_right k c) (stmts_are_right k a) right.0).1 none.0 i || all_unwritten b right.1 none.1 i
+      one_unwritten (Do head body) r h =
+          let none = or_parts (list_any (writes_name constants w) head.private) (all_write constants w body) h in
+          λ i. none.0 i || all_unwritten body (and_parts (head_is_right k head) (stmts_are_right k body) r).1 none.1 i
+      one_unwritten (Print items) r h = h
+      one_unwritten (Read items) r h =
+          let none = or_parts _ (list_any (writes_left constants w) items) h in
+          λ i. none.0 i || lefts_unwritten items r none.1 i
+      one_unwritten Stop r h = refl
+      one_unwritten (Comment text) r h = refl
+
+      pub all_unwritten : (ss : StmtTrees) → stmts_are_right k ss ≡ true → all_write constants w ss ≡ false → all_write constants w (statements_substituted x (Element array subscripts) ss) ≡ false
+      all_unwritten no_stmts r h = refl
+      all_unwritten (more_stmts s rest) r h =
+          let right = and_parts (stmt_is_right k s) (stmts_are_right k rest) r in
+          let none = or_parts (writes constants w s) (all_write constants w rest) h in
+          λ i. one_unwritten s right.0 none.0 i || all_unwritten rest right.1 none.1 i
+
+  all_followed : (xs ys : StmtTrees) → all_write constants w (followed xs ys) ≡ (all_write constants w xs || all_write constants w ys)
+  all_followed no_stmts ys = refl
+  all_followed (more_stmts s xs) ys = ap (λ (b : Bool). writes constants w s || b) (all_followed xs ys) ∙ or_assoc (writes constants w s) (all_write constants w xs) (all_write constants w ys)
+    where
+      or_assoc : (a b c : Bool) → (a || (b || c)) ≡ ((a || b) || c)
+      or_assoc true b c = refl
+      or_assoc false b c = refl
+
+  -- others in a gap write the name where what was there did, or not at all
+  module _ (old new : StmtTrees) (gained : all_write constants w old ≡ false → all_write constants w new ≡ false) where
+    pub filled_unwritten : (gap : Gap) → all_write constants w (filled gap old) ≡ false → all_write constants w (filled gap new) ≡ false
+    filled_unwritten (at_front rest) h =
+        let none = or_parts (all_write constants w old) (all_write constants w rest) (sym (all_followed old rest) ∙ h) in
+        all_followed new rest ∙ both_false (all_write constants w new) (all_write constants w rest) (gained none.0) none.1
+    filled_unwritten (past s gap) h =
+        let none = or_parts (writes constants w s) (all_write constants w (filled gap old)) h in
+        λ i. none.0 i || filled_unwritten gap none.1 i
+    filled_unwritten (in_then c gap b rest) h =
+        let none = or_parts (all_write constants w (filled gap old) || all_write constants w b) (all_write constants w rest) h in
+        let parts = or_parts (all_write constants w (filled gap old)) (all_write constants w b) none.0 in
+        λ i. (filled_unwritten gap parts.0 i || parts.1 i) || none.1 i
+    filled_unwritten (in_else c a gap rest) h =
+        let none = or_parts (all_write constants w a || all_write constants w (filled gap old)) (all_write constants w rest) h in
+        let parts = or_parts (all_write constants w a) (all_write constants w (filled gap old)) none.0 in
+        λ i. (parts.0 i || filled_unwritten gap parts.1 i) || none.1 i
+    filled_unwritten (in_body head gap rest) h =
+        let none = or_parts (list_any (writes_name constants w) head.private || all_write constants w (filled gap old)) (all_write constants w rest) h in
+        let parts = or_parts (list_any (writes_name constants w) head.private) (all_write constants w (filled gap old)) none.0 in
+        λ i. (parts.0 i || filled_unwritten gap parts.1 i) || none.1 i
+
+module _ (old new : StmtTrees) (same : all_loop_variables new ≡ all_loop_variables old) where
+  variables_followed : (xs ys : StmtTrees) → all_loop_variables (followed xs ys) ≡ all_loop_variables xs ++ all_loop_variables ys
+  variables_followed no_stmts ys = refl
+  variables_followed (more_stmts s xs) ys = ap (λ (zs : List (List ℕ)). loop_variables s ++ zs) (variables_followed xs ys) ∙ sym (append_assoc (loop_variables s) (all_loop_variables xs) (all_loop_variables ys))
+
+  -- the DO loops round the gap have the variables that they had
+  pub filled_variables : (gap : Gap) → all_loop_variables (filled gap new) ≡ all_loop_variables (filled gap old)
+  filled_variables (at_front rest) = variables_followed new rest ∙ (ap (λ (zs : List (List ℕ)). zs ++ all_loop_variables rest) same ∙ sym (variables_followed old rest))
+  filled_variables (past s gap) = λ i. loop_variables s ++ filled_variables gap i
+  filled_variables (in_then c gap b rest) = λ i. (filled_variables gap i ++ all_loop_variables b) ++ all_loop_variables rest
+  filled_variables (in_else c a gap rest) = λ i. (all_loop_variables a ++ filled_variables gap i) ++ all_loop_variables rest
+  filled_variables (in_body h gap rest) = λ i. (h.variable ∷ filled_variables gap i) ++ all_loop_variables rest

@@ -3,34 +3,17 @@ use Rattle.std.proofs.Common.{◌≡◌, ℕ, Bool, true, false, List, [], ◌�
 use Rattle.std.specs.Prelude.{MatchBool}
 use Rattle.ped_tree.specs.Tree.{StmtTree, ProgramTree}
 use Rattle.ped_tree.specs.Numbering.{statement_with}
-use Rattle.ped_symbols.specs.NameRefusals.{IsValid}
-use Rattle.ped_steps.specs.Causes.{Cause, none_forbids}
-use Rattle.ped_steps.proofs.OneCause.{one_cause}
-use Rattle.ped_scalar.specs.Privatising.{StandsAgainstPrivatising}
-use Rattle.ped_scalar.proofs.FirstAgainstPrivatising.{one_statement}
-use Rattle.ped_scalar.proofs.KeptByPrivatising.{privatising_keeps_it}
-use Rattle.ped_step_runs.specs.Meaning.{Keeps}
 use Rattle.ped_script.specs.declared.items.Command.{Command}
 use Rattle.ped_script.specs.declared.items.Command.TheVariants.{Source, Deps, Show, Print, Advise, Replace, Insert, Delete, Interchange, Reverse, Skew, Strip, Peel, Distribute, Fuse, Expand, Privatise, Parallel, Serial, Reject, Undo, Redo, Run, Races, Tested}
 use Rattle.ped_session.specs.declared.replies.Refusal.{Refusal}
 use Rattle.ped_session.specs.declared.replies.Refusal.TheVariants.{NoSuchLine, NotBuilt}
 use Rattle.ped_session.specs.declared.replies.Reply.{Reply}
 use Rattle.ped_session.specs.declared.replies.Reply.TheVariants.{Changed, Shown, Refused}
-use Rattle.ped_session.specs.States.{Other, State}
-use Rattle.ped_session.specs.Splices.{spliced, are_lines, is_place}
-use Rattle.ped_session.specs.Transforming.{StepAt, privatising}
+use Rattle.ped_session.specs.States.{State}
+use Rattle.ped_session.specs.Splices.{are_lines, is_place}
+use Rattle.ped_session.specs.Transforming.{StepAt, privatising, expanding}
 use Rattle.ped_session.specs.Steps.{Refuses, Prints, Shows, ShowsOf, Edits, Transforms, GoesBack, GoesForward, Runs, IsStep}
-
--- there is one first cause at most against a step, and the step keeps the meaning where there is none
-pub record IsLawful (at : StepAt) : Type 0 where
-  pub one : (t : ProgramTree) (c d : Option Cause) → at.IsCause t c → at.IsCause t d → c ≡ d
-  pub keeps : (t : ProgramTree) → IsValid t → at.IsCause t None → Keeps t (at.new t)
-
-pub lawful_privatising : (s : ℕ) (x : List ℕ) → IsLawful (privatising s x)
-lawful_privatising s x = record {
-  one = λ t c d p q. one_cause t (StandsAgainstPrivatising t s x) none_forbids (one_statement t s x) c d p q;
-  keeps = λ t valid none. privatising_keeps_it t s x valid none.0;
-}
+use Rattle.ped_session.proofs.Lawful.{IsLawful, lawful_privatising, lawful_expanding}
 
 -- what a command does
 pub data Does (c : Command) (s : State) (reply : Reply) (next : State) : Type 1 where
@@ -81,6 +64,7 @@ does Redo d s next reply h = by_redo refl h
 does (Run choices) d s next reply h = runs (Run choices) choices d s next reply h
 does Races d s next reply h = shows Races _ s next reply h
 does (Privatise number name) d s next reply h = by_step (privatising number name) (lawful_privatising number name) h
+does (Expand number name) d s next reply h = by_step (expanding number name) (lawful_expanding number name) h
 does (Advise number) d s next reply h = refuses (Advise number) NotBuilt s next reply h
 does (Interchange number) d s next reply h = refuses (Interchange number) NotBuilt s next reply h
 does (Reverse number) d s next reply h = refuses (Reverse number) NotBuilt s next reply h
@@ -89,7 +73,6 @@ does (Strip number size) d s next reply h = refuses (Strip number size) NotBuilt
 does (Peel number last) d s next reply h = refuses (Peel number last) NotBuilt s next reply h
 does (Distribute number) d s next reply h = refuses (Distribute number) NotBuilt s next reply h
 does (Fuse number) d s next reply h = refuses (Fuse number) NotBuilt s next reply h
-does (Expand number name) d s next reply h = refuses (Expand number name) NotBuilt s next reply h
 does (Parallel number) d s next reply h = refuses (Parallel number) NotBuilt s next reply h
 does (Serial number) d s next reply h = refuses (Serial number) NotBuilt s next reply h
 does (Reject number name) d s next reply h = refuses (Reject number name) NotBuilt s next reply h

@@ -1,5 +1,5 @@
 -- Steps along the history of a session.
-use Rattle.std.proofs.Common.{◌≡◌, ℕ, List, map, [], ◌∷◌, drop, slice_get, Option, Some, None, refl, sym, ap, subst, ◌∙◌}
+use Rattle.std.proofs.Common.{◌≡◌, ℕ, List, map, [], ◌∷◌, drop, slice_get, Option, Some, None, sym, ap, subst, ◌∙◌}
 use Rattle.ped_graph.specs.Held.{Held, held_of}
 use Rattle.ped_update.specs.Deltas.{TakesTo}
 use Rattle.ped_session.specs.declared.versions.Version.{Version}

@@ -97,7 +97,7 @@ edit_leaves edited s next (refused why first same) = absurd (no_refusal _ same.0
 step_leaves : (at : StepAt) (s next : State) → Transforms at s Changed next → Leaves s next
 step_leaves at s next (missing t reads none same) = absurd (no_refusal _ same.0)
 step_leaves at s next (forbidden t reads some c is same) = absurd (no_refusal _ same.0)
-step_leaves at s next (transformed t reads some none valid reply after) = record { change = Transformation; past_is = ap (λ (n : State). n.past) after }
+step_leaves at s next (transformed t new keep reads some none makes valid reply after) = record { change = Transformation; past_is = ap (λ (n : State). n.past) after }
 
 leaves_by : (c : Command) (s next : State) → ¬ (IsMove c) → Does c s Changed next → Leaves s next
 leaves_by c s next still (by_nothing changed is) = absurd (changed refl)

@@ -28,8 +28,8 @@ use Rattle.ped_session.specs.RaceRows.{race_row, IsRaceRow}
 use Rattle.ped_session.specs.Panes.{IsSourcePane, ArePanes}
 use Rattle.ped_session.specs.Splices.{are_lines, is_place}
 use Rattle.ped_session.specs.Steps.{Refuses, Shows, ShowsOf, ShowsStatement, Edits, accepted, refused, Transforms, missing, forbidden, transformed, GoesBack, GoesForward, Runs, IsStep}
-use Rattle.ped_session.specs.Transforming.{StepAt, privatising}
-use Rattle.ped_session.proofs.Doing.{IsLawful, lawful_privatising}
+use Rattle.ped_session.specs.Transforming.{StepAt, privatising, expanding}
+use Rattle.ped_session.proofs.Lawful.{IsLawful, lawful_privatising, lawful_expanding}
 use Rattle.ped_order.proofs.OneReport.{one_at_most}
 use Rattle.ped_session.proofs.OneFinding.{one_found}
 
@@ -126,22 +126,23 @@ one_transform : (at : StepAt) (s : State) (p q : Reply) (m n : State) → IsLawf
 one_transform at s p q m n lawful (missing t reads none a) (missing u other nothing b) = one_refuses NoSuchStatement s p q m n a b
 one_transform at s p q m n lawful (missing t reads none a) (forbidden u other some d is b) =
     absurd (none_and_some (statement_with at.statement u) (subst (λ (v : ProgramTree). is_some (statement_with at.statement v) ≡ false) (one_tree s.present t u reads other) none) some)
-one_transform at s p q m n lawful (missing t reads none a) (transformed u other some free valid b after) =
+one_transform at s p q m n lawful (missing t reads none a) (transformed u new keep other some free makes valid b after) =
     absurd (none_and_some (statement_with at.statement u) (subst (λ (v : ProgramTree). is_some (statement_with at.statement v) ≡ false) (one_tree s.present t u reads other) none) some)
 one_transform at s p q m n lawful (forbidden t reads some c is a) (missing u other none b) =
     absurd (none_and_some (statement_with at.statement t) (subst (λ (v : ProgramTree). is_some (statement_with at.statement v) ≡ false) (one_tree s.present u t other reads) none) some)
-one_transform at s p q m n lawful (transformed t reads some free valid a after) (missing u other none b) =
+one_transform at s p q m n lawful (transformed t new keep reads some free makes valid a after) (missing u other none b) =
     absurd (none_and_some (statement_with at.statement t) (subst (λ (v : ProgramTree). is_some (statement_with at.statement v) ≡ false) (one_tree s.present u t other reads) none) some)
 one_transform at s p q m n lawful (forbidden t reads some c is a) (forbidden u other more d same b) =
     let causes = lawful.one u (Some c) (Some d) (subst (λ (v : ProgramTree). at.IsCause v (Some c)) (one_tree s.present t u reads other) is) same in
     (a.0 ∙ ap (λ (x : Cause). Refused (Step x)) (some_is c d causes) ∙ sym b.0, a.1 ∙ sym b.1)
-one_transform at s p q m n lawful (forbidden t reads some c is a) (transformed u other more free valid b after) =
+one_transform at s p q m n lawful (forbidden t reads some c is a) (transformed u new keep other more free makes valid b after) =
     absurd (no_cause c (lawful.one u (Some c) None (subst (λ (v : ProgramTree). at.IsCause v (Some c)) (one_tree s.present t u reads other) is) free))
-one_transform at s p q m n lawful (transformed t reads some free valid a after) (forbidden u other more d is b) =
+one_transform at s p q m n lawful (transformed t new keep reads some free makes valid a after) (forbidden u other more d is b) =
     absurd (no_cause d (lawful.one t (Some d) None (subst (λ (v : ProgramTree). at.IsCause v (Some d)) (one_tree s.present u t other reads) is) free))
-one_transform at s p q m n lawful (transformed t reads some free valid a after) (transformed u other more none well b next) =
+one_transform at s p q m n lawful (transformed t new keep reads some free makes valid a after) (transformed u else_new else_keep other more none made well b next) =
     let trees = one_tree s.present t u reads other in
-    (a ∙ sym b, after ∙ (λ i. changed_to (program_text (at.new (trees i))) Transformation (tested_pairs (trees i) (at.new (trees i)) (at.keep (trees i))) s) ∙ sym next)
+    let one = lawful.one_made u new else_new keep else_keep (subst (λ (v : ProgramTree). at.Makes v new keep) trees makes) made in
+    (a ∙ sym b, after ∙ (λ i. changed_to (program_text (one.0 i)) Transformation (tested_pairs (trees i) (one.0 i) (one.1 i)) s) ∙ sym next)
 
 one_race_row : (data_bytes : List ℕ) (t : ProgramTree) (x y : List ℕ) → IsRaceRow data_bytes t x → IsRaceRow data_bytes t y → x ≡ y
 one_race_row data_bytes t x y a b = a.2 ∙ ap race_row (one_at_most t data_bytes a.0 b.0 a.1 b.1) ∙ sym b.2
@@ -168,7 +169,7 @@ one (Strip number size) d s m n p q a b = one_refuses NotBuilt s p q m n a b
 one (Peel number last) d s m n p q a b = one_refuses NotBuilt s p q m n a b
 one (Distribute number) d s m n p q a b = one_refuses NotBuilt s p q m n a b
 one (Fuse number) d s m n p q a b = one_refuses NotBuilt s p q m n a b
-one (Expand number name) d s m n p q a b = one_refuses NotBuilt s p q m n a b
+one (Expand number name) d s m n p q a b = one_transform (expanding number name) s p q m n (lawful_expanding number name) a b
 one (Privatise number name) d s m n p q a b = one_transform (privatising number name) s p q m n (lawful_privatising number name) a b
 one (Parallel number) d s m n p q a b = one_refuses NotBuilt s p q m n a b
 one (Serial number) d s m n p q a b = one_refuses NotBuilt s p q m n a b

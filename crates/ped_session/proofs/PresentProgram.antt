@@ -1,5 +1,5 @@
 -- The present source of a session reads as its program alone, whose graph is held.
-use Rattle.std.proofs.Common.{◌≡◌, ℕ, List, length, map, refl, sym, ap, subst, ◌∙◌}
+use Rattle.std.proofs.Common.{◌≡◌, ℕ, List, length, refl, sym, ap, subst, ◌∙◌}
 use Rattle.ped_tree.specs.Tree.{ProgramTree}
 use Rattle.ped_valid.specs.Validity.{ReadsValid}
 use Rattle.ped_valid.proofs.OneVerdict.{valid_prints}

@@ -29,8 +29,8 @@ edit_prints edited s next reply a (refused why first stays) = same s next a stay
 step_prints : (at : StepAt) (s next : State) (reply : Reply) → ArePrinted s → Transforms at s reply next → ArePrinted next
 step_prints at s next reply a (missing t reads none stays) = same s next a stays.1
 step_prints at s next reply a (forbidden t reads some c is stays) = same s next a stays.1
-step_prints at s next reply a (transformed t reads some none valid changed after) =
-    subst ArePrinted (sym after) (record { past = All-cons IsPrintedOther _ _ a.present a.past; present = (at.new t, valid, refl); future = All-nil IsPrintedOther })
+step_prints at s next reply a (transformed t new keep reads some none makes valid changed after) =
+    subst ArePrinted (sym after) (record { past = All-cons IsPrintedOther _ _ a.present a.past; present = (new, valid, refl); future = All-nil IsPrintedOther })
 
 back_prints : (past : List Other) (s next : State) (reply : Reply) → ArePrinted s → All (λ (o : Other). IsPrinted o.0) past → GoesBack past s reply next → ArePrinted next
 back_prints [] s next reply a all h = same s next a h.1

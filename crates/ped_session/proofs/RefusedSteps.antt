@@ -1,5 +1,5 @@
 -- A refused command leaves the session as it was.
-use Rattle.std.proofs.Common.{◌≡◌, ℕ, List, [], ◌∷◌, sym}
+use Rattle.std.proofs.Common.{◌≡◌, ℕ, List, [], ◌∷◌}
 use Rattle.ped_script.specs.declared.items.Command.{Command}
 use Rattle.ped_session.specs.declared.replies.Refusal.{Refusal}
 use Rattle.ped_session.specs.declared.replies.Reply.TheVariants.{Refused}
@@ -15,7 +15,7 @@ edit_stays edited s next why (refused cause first same) = same.1
 step_stays : (at : StepAt) (s next : State) (why : Refusal) → Transforms at s (Refused why) next → next ≡ s
 step_stays at s next why (missing t reads none same) = same.1
 step_stays at s next why (forbidden t reads some c is same) = same.1
-step_stays at s next why (transformed t reads some none valid reply after) = absurd (no_refusal why reply)
+step_stays at s next why (transformed t new keep reads some none makes valid reply after) = absurd (no_refusal why reply)
 
 back_stays : (past : List Other) (s next : State) (why : Refusal) → GoesBack past s (Refused why) next → next ≡ s
 back_stays [] s next why h = h.1

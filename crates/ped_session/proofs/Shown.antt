@@ -1,5 +1,5 @@
 -- What is shown of the present program of a session.
-use Rattle.std.proofs.Common.{◌≡◌, ◌==◌, ℕ, ◌+◌, List, [], ◌∷◌, length, refl, ap, Bool, true, false, Option, Some, None, is_some, arith}
+use Rattle.std.proofs.Common.{◌≡◌, ◌==◌, ℕ, ◌+◌, List, [], ◌∷◌, length, refl, ap, true, false, Option, Some, None, is_some, arith}
 use Rattle.std.proofs.lemmas.Bool.Decides.{nat_tests}
 use Rattle.ped_tree.specs.Tree.{StmtTree, ProgramTree}
 use Rattle.ped_tree.specs.Numbering.{statement_with}

@@ -17,7 +17,9 @@ use Rattle.ped_session.specs.declared.replies.Reply.{Reply}
 use Rattle.ped_session.specs.declared.replies.Reply.TheVariants.{Changed}
 use Rattle.ped_session.specs.States.{State, changed_to}
 use Rattle.ped_session.specs.Meanings.{IsKept}
-use Rattle.ped_session.specs.Transforming.{StepAt}
+use Rattle.ped_session.specs.declared.asked.Asked.{Asked}
+use Rattle.ped_session.specs.declared.asked.Asked.TheVariants as asked
+use Rattle.ped_session.specs.Transforming.{StepAt, privatising, expanding}
 use Rattle.ped_session.specs.Steps.{Refuses}
 
 -- the printed text of a program has become the present source by a change that keeps these statements
@@ -25,13 +27,18 @@ abbrev pub Changes : ProgramTree → List (ℕ × ℕ) → Change → State → 
 Changes new keep change s reply next =
     (reply ≡ Changed) × (old : ProgramTree) × ReadsValid s.present old × (next ≡ changed_to (program_text new) change (tested_pairs old new keep) s)
 
--- what a step answers for the present program: the program behind it, which is valid, and what it keeps; or the first cause against it
+-- the step that is asked for
+abbrev pub step_at : Asked → StepAt
+step_at (asked.Privatise number name) = privatising number name
+step_at (asked.Expand number name) = expanding number name
+
+-- what a step answers for the present program: what it makes of it, a valid program with the statements that it keeps; or the first cause against it
 abbrev pub IsStepAnswer : StepAt → State → Result step.Change Refused → Type 0
 IsStepAnswer at s (Ok change) =
-    (t : ProgramTree) × ReadsValid s.present t × at.IsCause t None × IsValid (at.new t) × (program_tree change.tree ≡ at.new t) × (change.keep ≡ at.keep t)
+    (t : ProgramTree) × ReadsValid s.present t × at.IsCause t None × at.Makes t (program_tree change.tree) change.keep × IsValid (program_tree change.tree)
 IsStepAnswer at s (Err why) = (t : ProgramTree) × ReadsValid s.present t × at.IsCause t (Some (cause_of why))
 
--- what a step answers can be taken: a valid program that keeps the meaning of the present one, or a cause that can be printed
+-- what a step answers can be taken: a valid program that keeps the meaning of the present one where that is tidy, or a cause that can be printed
 abbrev pub IsTakeable : State → Result step.Change Refused → Type 0
 IsTakeable s (Ok change) =
     IsValid (program_tree change.tree) × (change.symbols ≡ table_of (program_tree change.tree)) × IsOneToOne change.keep × IsKept Transformation s.present (program_text (program_tree change.tree))

@@ -23,7 +23,7 @@ use Rattle.ped_session.specs.Splices.{spliced, are_lines, is_place}
 use Rattle.ped_session.specs.Panes.{IsSourcePane, ArePanes}
 use Rattle.ped_session.specs.Blocks.{block}
 use Rattle.ped_session.specs.RaceRows.{IsRaceRow}
-use Rattle.ped_session.specs.Transforming.{StepAt, privatising}
+use Rattle.ped_session.specs.Transforming.{StepAt, privatising, expanding}
 
 -- the command is refused, and the session is as it was
 abbrev pub Refuses : Refusal → State → Reply → State → Type 0
@@ -68,12 +68,12 @@ abbrev pub Inserts : ℕ → List (List ℕ) → State → Reply → State → T
 Inserts after new s reply next =
     MatchBool (is_place s.present after) (Edits (spliced s.present after 0 new) s reply next) (Refuses NoSuchLine s reply next)
 
--- a step: the present program has no statement of that number, or a cause forbids the step and the first is told, and the session is as it was; or the printed text of the program behind the step, which is valid, is the new source (ParaScope; this project)
+-- a step: the present program has no statement of that number, or a cause forbids the step and the first is told, and the session is as it was; or the printed text of the program that the step makes, which is valid, is the new source (ParaScope; this project)
 pub data Transforms (at : StepAt) (s : State) (reply : Reply) (next : State) : Type 0 where
   missing : (t : ProgramTree) → ReadsValid s.present t → is_some (statement_with at.statement t) ≡ false → Refuses NoSuchStatement s reply next → Transforms at s reply next
   forbidden : (t : ProgramTree) → ReadsValid s.present t → is_some (statement_with at.statement t) ≡ true → (c : Cause) → at.IsCause t (Some c) → Refuses (Step c) s reply next → Transforms at s reply next
-  transformed : (t : ProgramTree) → ReadsValid s.present t → is_some (statement_with at.statement t) ≡ true → at.IsCause t None → IsValid (at.new t)
-      → reply ≡ Changed → next ≡ changed_to (program_text (at.new t)) Transformation (tested_pairs t (at.new t) (at.keep t)) s → Transforms at s reply next
+  transformed : (t new : ProgramTree) (keep : List (ℕ × ℕ)) → ReadsValid s.present t → is_some (statement_with at.statement t) ≡ true → at.IsCause t None → at.Makes t new keep → IsValid new
+      → reply ≡ Changed → next ≡ changed_to (program_text new) Transformation (tested_pairs t new keep) s → Transforms at s reply next
 
 -- one step back, where there is a past
 abbrev pub GoesBack : List Other → State → Reply → State → Type 0
@@ -112,7 +112,7 @@ IsStep (Strip number size) data_bytes s reply next = Refuses NotBuilt s reply ne
 IsStep (Peel number last) data_bytes s reply next = Refuses NotBuilt s reply next
 IsStep (Distribute number) data_bytes s reply next = Refuses NotBuilt s reply next
 IsStep (Fuse number) data_bytes s reply next = Refuses NotBuilt s reply next
-IsStep (Expand number name) data_bytes s reply next = Refuses NotBuilt s reply next
+IsStep (Expand number name) data_bytes s reply next = Transforms (expanding number name) s reply next
 IsStep (Privatise number name) data_bytes s reply next = Transforms (privatising number name) s reply next
 IsStep (Parallel number) data_bytes s reply next = Refuses NotBuilt s reply next
 IsStep (Serial number) data_bytes s reply next = Refuses NotBuilt s reply next

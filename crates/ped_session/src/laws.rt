@@ -4,6 +4,7 @@ ghost use Rattle.std.specs.Prelude.{◌≡◌, ℕ, List};
 ghost use Rattle.ped_tree.specs.Tree.{ProgramTree};
 ghost use Rattle.ped_symbols.specs.NameRefusals.{IsValid};
 ghost use Rattle.ped_valid.specs.Validity.{ReadsValid};
+ghost use Rattle.ped_steps.specs.Tidy.{IsTidy};
 ghost use Rattle.ped_step_runs.specs.Meaning.{Keeps};
 ghost use Rattle.ped_script.specs.declared.items.Command.{Command};
 ghost use Rattle.ped_script.specs.declared.items.Command.TheVariants.{Undo, Redo};
@@ -65,14 +66,16 @@ pub fn transformations_keep_the_meaning()
         IsMeaningKept s → IsStep c data_bytes s reply next → IsMeaningKept next }
 {}
 
-/// The present program keeps the meaning of each program from which it has come by transformations alone.
+/// Where a program is tidy, so is each to which it has come by transformations alone, and that one keeps its meaning.
 pub fn sources_keep_the_meaning()
-    ensures { (s : State) (earlier : List ℕ) (t u : ProgramTree) → IsMeaningKept s → ComesFrom s.present s.past earlier →
-        ReadsValid earlier t → ReadsValid s.present u → Keeps t u }
+    ensures tidy { (s : State) (earlier : List ℕ) (t u : ProgramTree) → IsMeaningKept s → ComesFrom s.present s.past earlier →
+        ReadsValid earlier t → ReadsValid s.present u → IsTidy t → IsTidy u }
+    ensures keeps { (s : State) (earlier : List ℕ) (t u : ProgramTree) → IsMeaningKept s → ComesFrom s.present s.past earlier →
+        ReadsValid earlier t → ReadsValid s.present u → IsTidy t → Keeps t u }
 {}
 
 /// Whatever a script does, each `run` shows what the programs show from which the present one has come by
-/// transformations alone, where these run without a fault and without a race.
+/// transformations alone, where these are tidy and run without a fault and without a race.
 pub fn runs_are_as_before()
     ensures { (t : ProgramTree) (items : List Item) (data_bytes : List ℕ) (said : Said) (last : State) →
         AnswersItems items data_bytes (opened t) said last → AnswersAsBefore items data_bytes (opened t) said last }

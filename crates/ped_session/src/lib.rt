@@ -3,6 +3,7 @@
 #![tactic(auto)]
 
 mod answers;
+mod asked;
 mod blocks;
 mod changes;
 mod changing;
@@ -15,8 +16,6 @@ mod scripts;
 mod session;
 mod showing;
 mod splices;
-#[cfg(test)]
-mod tests;
 mod transforming;
 mod versions;
 

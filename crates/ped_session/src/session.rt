@@ -20,6 +20,7 @@ ghost use Rattle.ped_session.specs.States.{State, opened};
 ghost use Rattle.ped_session.specs.Steps.{IsStep, IsMove};
 ghost use Rattle.ped_session.specs.Scripts.{tests_of};
 
+use crate::asked::Asked;
 use crate::replies::{Refusal, Reply};
 use crate::versions::{Entry, Version};
 use ped_base::{Bytes, NoMemory};
@@ -142,7 +143,7 @@ impl<L: Ledger> Session<L> {
     }
 
     /// Runs the present program in order on the lines of its data. The outcome is also that of each program from which
-    /// it has come by transformations alone, where that one runs without a fault and without a race.
+    /// it has come by transformations alone, where that one is tidy and runs without a fault and without a race.
     pub fn run(&self, alloc: Global, input: &[u8]) -> Result<Outcome, NoMemory>
         ensures outcome { IfOk result (λ o. (t : ProgramTree) → ReadsValid self.now.present t → outcome_view o ≡ outcome t input.now) }
         ensures before { IfOk result (λ o. IsAsBefore self.now input.now (outcome_view o)) }
@@ -184,7 +185,10 @@ impl<L: Ledger> Session<L> {
             Command::Undo => return Ok(self.undo()),
             Command::Redo => return Ok(self.redo()),
             Command::Privatise(number, name) => {
-                return self.privatise(alloc, *number, name, steps);
+                return self.transform(alloc, &Asked::Privatise(*number, *name), steps);
+            }
+            Command::Expand(number, name) => {
+                return self.transform(alloc, &Asked::Expand(*number, *name), steps);
             }
             Command::Run(choices) => return self.show_run(alloc, choices.as_slice(), input),
             Command::Races => return self.show_races(alloc, input),
@@ -196,7 +200,6 @@ impl<L: Ledger> Session<L> {
             | Command::Peel { .. }
             | Command::Distribute(_)
             | Command::Fuse(_)
-            | Command::Expand(_, _)
             | Command::Parallel(_)
             | Command::Serial(_)
             | Command::Reject(_, _)

@@ -5,17 +5,17 @@ ghost use Rattle.ped_tree.specs.Tree.{ProgramTree};
 ghost use Rattle.ped_valid.specs.Validity.{ReadsValid};
 ghost use Rattle.ped_session.specs.declared.replies.Reply.{Reply};
 ghost use Rattle.ped_session.specs.States.{State};
-ghost use Rattle.ped_session.specs.Transforming.{privatising};
 ghost use Rattle.ped_session.specs.Steps.{Transforms};
-ghost use Rattle.ped_session.specs.Changing.{IsStepAnswer, IsTakeable, Takes, most_tests};
+ghost use Rattle.ped_session.specs.Changing.{step_at, IsStepAnswer, IsTakeable, Takes, most_tests};
 ghost use Rattle.ped_session.specs.Scripts.{tests_of};
 
+use crate::asked::Asked;
 use crate::changes::Change;
 use crate::replies::{FirstCause, Refusal, Reply};
 use crate::session::Session;
-use ped_base::{Name, NoMemory};
+use ped_base::NoMemory;
 use ped_flow::flow_of;
-use ped_scalar::privatise;
+use ped_scalar::{expand, privatise};
 use ped_steps::{Refused, Scene};
 use ped_valid::Opened;
 use ped_verdict::Steps;
@@ -23,46 +23,51 @@ use std::alloc::Global;
 use std::sync::ledger::Ledger;
 
 impl<L: Ledger> Session<L> {
-    /// Makes a scalar private to the iterations of the loop with this number.
-    pub(crate) fn privatise(
+    /// Takes a step, where the present program has its statement and nothing forbids it.
+    pub(crate) fn transform(
         &mut self,
         alloc: Global,
-        number: u32,
-        name: &Name,
+        asked: &Asked,
         steps: &mut Steps<L>,
     ) -> Result<Reply, NoMemory>
-        ensures answers { IfOk result (λ reply. Transforms (privatising number name.now) self.old reply self.new) }
+        ensures answers { IfOk result (λ reply. Transforms (step_at asked.now) self.old reply self.new) }
         ensures kept { OnErr result (self.new ≡ self.old) }
         ensures ticks { IfOk result (λ reply. steps.new ≡ steps.old + tests_of reply self.new) }
         ensures least { steps.old ≤ steps.new }
-        ensures most { (reply : Reply) (next : State) → Transforms (privatising number name.now) self.old reply next → steps.new ≤ steps.old + tests_of reply next }
+        ensures most { (reply : Reply) (next : State) → Transforms (step_at asked.now) self.old reply next → steps.new ≤ steps.old + tests_of reply next }
     {
-        if !self.graph.has_statement(number) {
+        if !self.graph.has_statement(asked.statement()) {
             return Ok(Reply::Refused(Refusal::NoSuchStatement));
         }
-        let answer = self.privatising(alloc, number, name)?;
+        let answer = self.answer(alloc, asked)?;
         self.take(alloc, answer, steps)
     }
 
-    /// The program with the scalar private to the iterations of the loop with this number, or the first cause against it.
-    fn privatising(
+    /// What the step makes of the present program, or the first cause against it.
+    fn answer(
         &self,
         alloc: Global,
-        number: u32,
-        name: &Name,
+        asked: &Asked,
     ) -> Result<Result<ped_steps::Change, Refused>, NoMemory>
-        ensures answers { IfOk result (IsStepAnswer (privatising number name.now) self.now) }
+        ensures answers { IfOk result (IsStepAnswer (step_at asked.now) self.now) }
         ensures takeable { IfOk result (IsTakeable self.now) }
     {
         let present = &self.present;
-        let flow = flow_of(&present.program);
+        let flow = flow_of(alloc, &present.program)?;
         let scene = Scene {
             tree: &present.program,
             symbols: &present.symbols,
             graph: &self.graph,
             flow: &flow,
         };
-        privatise(alloc, &scene, number, name)
+        match asked {
+            Asked::Privatise(number, name) => {
+                return privatise(alloc, &scene, *number, name);
+            }
+            Asked::Expand(number, name) => {
+                return expand(alloc, &scene, *number, name);
+            }
+        }
     }
 
     /// Takes what a step answers: its program becomes the present one, or its cause is the reply.

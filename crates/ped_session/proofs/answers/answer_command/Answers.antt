@@ -1,4 +1,4 @@
-use Rattle.std.proofs.Common.{◌≡◌, ◌∙◌, ap, refl, List, ◌++◌, ℕ, Bool, ◌||◌}
+use Rattle.std.proofs.Common.{◌∙◌, ap, refl, List, ◌++◌, ℕ, Bool, ◌||◌}
 use Rattle.ped_session.specs.Scripts.{said_by}
 use Rattle.ped_session.proofs.Answering.{same_answered}
 use Rattle.ped_session.proofs.answers.answer_command.Goals as goal

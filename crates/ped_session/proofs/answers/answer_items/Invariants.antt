@@ -1,6 +1,5 @@
 use Rattle.std.proofs.Common.{◌≡◌, ◌+◌, take}
 use Rattle.ped_session.specs.Scripts.{Said, AnswersItems}
-use Rattle.ped_session.specs.Adding.{added, Adds}
 use Rattle.ped_session.proofs.answers.answer_items.Given as goal
 
 abbrev pub invariant-loop-item : goal.invariant-loop-item

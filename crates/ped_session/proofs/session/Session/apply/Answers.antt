@@ -12,4 +12,8 @@ returns-in-Deps-clause-ticks g c =
 
 pub returns-in-Privatise-clause-most : goal.returns-in-Privatise-clause-most
 returns-in-Privatise-clause-most g c reply next h =
-    c.privatise.ensures.most reply next (subst (λ (command : Command). IsStep command c.args.input.now c.args.self.now reply next) c.in-Privatise.is h)
+    c.transform.ensures.most reply next (subst (λ (command : Command). IsStep command c.args.input.now c.args.self.now reply next) c.in-Privatise.is h)
+
+pub returns-in-Expand-clause-most : goal.returns-in-Expand-clause-most
+returns-in-Expand-clause-most g c reply next h =
+    c.transform-in-Expand.ensures.most reply next (subst (λ (command : Command). IsStep command c.args.input.now c.args.self.now reply next) c.in-Expand.is h)

@@ -1,5 +1,4 @@
-use Rattle.std.proofs.Common.{◌≡◌, ◌≤◌, ◌+◌, ℕ, List, refl, sym, ap, subst, ◌∙◌}
-use Rattle.ped_tree.specs.Tree.{ProgramTree}
+use Rattle.std.proofs.Common.{refl, ap, ◌∙◌}
 use Rattle.ped_tree.specs.Views.{program_tree}
 use Rattle.ped_tree.specs.Printing.{program_text}
 use Rattle.ped_update.specs.Fresh.{tested_pairs}

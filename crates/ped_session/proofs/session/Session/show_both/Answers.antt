@@ -1,4 +1,4 @@
-use Rattle.std.proofs.Common.{ap, ap₂, ◌++◌, ◌∙◌, sym}
+use Rattle.std.proofs.Common.{ap, ap₂, ◌++◌, ◌∙◌}
 use Rattle.ped_session.specs.States.{State}
 use Rattle.ped_session.specs.Panes.{ArePanes}
 use Rattle.ped_session.specs.Holding.{tree_of}

@@ -1,4 +1,4 @@
-use Rattle.std.proofs.Common.{◌≡◌, ℕ, List, ap, ◌∙◌, sym}
+use Rattle.std.proofs.Common.{◌≡◌, ap, ◌∙◌, sym}
 use Rattle.ped_eval.specs.Outcomes.{outcome}
 use Rattle.ped_session.specs.States.{State}
 use Rattle.ped_session.specs.Blocks.{block}

@@ -1,4 +1,4 @@
-use Rattle.std.proofs.Common.{List, ap, sym, subst}
+use Rattle.std.proofs.Common.{sym, subst}
 use Rattle.std.proofs.lemmas.Result.{IfOk-weaker}
 use Rattle.ped_tree.specs.Views.{program_tree}
 use Rattle.ped_grammar.specs.declared.refusals.Refusal as of_text

@@ -2,9 +2,9 @@
 
 ghost use Rattle.std.specs.Prelude.{◌≡◌, ◌<◌};
 
-use crate::{Session, bad_command_row, reply_text};
 use ped_base::{Bytes, NoMemory};
 use ped_script::{Item, commands};
+use ped_session::{Session, bad_command_row, reply_text};
 use ped_verdict::Steps;
 use std::alloc::Global;
 use std::marker::Brand;
@@ -50,6 +50,7 @@ delete 3 3
 run
 races
 privatise 1 A
+expand 1 A
 ";
 
 const ANSWERS: &str = "source 7
@@ -103,6 +104,7 @@ no race
 ended
 no race
 30: refused rule 13 NotScalar at 1
+31: refused rule 13 NotScalar at 1
 ";
 
 /// What a session holds.

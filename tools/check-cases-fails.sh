@@ -310,6 +310,15 @@ touch repository/crates.txt repository/HANDLES
 cp some.cases repository/cases/
 repository/tools/check-cases.sh >said 2>&1 && say 'a repository without a built program: it should fail, and it passes'
 grep -q 'not built' said || say 'a repository without a built program: it should say so'
+
+# Where no files are given, those of cases/flow/ are left out.
+mkdir repository/cases/flow
+printf '== K\n?\n=> read\n' >repository/cases/flow/some.cases
+repository/tools/check-cases.sh --program "$work/program" >said 2>&1 || say 'a repository with cases/flow: it should pass'
+[ "$(tail -n 1 said)" = 'cases: 1 passed, 0 failed' ] || say 'a repository with cases/flow: these cases should not count'
+repository/tools/check-cases.sh --program "$work/program" repository/cases/flow/some.cases >said 2>&1 &&
+    say 'a case of cases/flow that is given and differs: it should fail, and it passes'
+
 rm repository/cases/some.cases
 repository/tools/check-cases.sh --program "$work/program" >said 2>&1 && say 'a repository without cases: it should fail, and it passes'
 

@@ -4,13 +4,14 @@
 # ped_print takes, per byte of the pane, on programs of 250, 1,000 and 4,000 statements; how long
 # `symbols_of` of ped_symbols takes, per statement, on programs of 1,000 and 4,000 statements with as many names; how long
 # `commands` of ped_script takes, per byte, on scripts of up to 1 MiB; how long `flow_of` of ped_flow takes, and how
-# much memory, and how long the questions take, for 1,000 scalars of a loop; how long a call of each dependence test takes; how long `run_in_order` of ped_eval takes for an assignment in loops, over an
-# array and over a scalar, from 10^4 to 10^7 of them, and how much memory a store of 2^20 elements takes; how long `races` of ped_order takes
-# for an access, and how much memory, at 10^5 and 10^6 of them; how long `ped show` takes, and how much memory, on programs of 64 KiB,
-# 256 KiB and 1 MiB that are read; how long it takes for each pair of references, and how much memory, on nests of two and of
-# six loops, up to the limit of pairs; how much stack it needs on programs at the limits of the language; and how long an edit,
-# a step back and a step forward take in `ped session`, and how much memory a change keeps. It is no part of
-# the gate, and needs GNU time and awk. docs/PERFORMANCE.md says how to read the figures.
+# much memory, and how long the questions take, for 1,000 scalars of a loop; how long a call of each dependence test
+# takes; how long `run_in_order` of ped_eval takes for an assignment in loops, over an array and over a scalar, from
+# 10^4 to 10^7 of them, and how much memory a store of 2^20 elements takes; how long `races` of ped_order takes for an
+# access, and how much memory, at 10^5 and 10^6 of them; how long `ped show` takes, and how much memory, on programs
+# of 64 KiB, 256 KiB and 1 MiB that are read; how long it takes for each pair of references, and how much memory, on
+# nests of two and of six loops, up to the limit of pairs; how much stack it needs on programs at the limits of the
+# language; and how long an edit, a step back and a step forward take in `ped session`, and how much memory a change
+# keeps. It is no part of the gate, and needs GNU time and awk. docs/PERFORMANCE.md says how to read the figures.
 #
 # usage: tools/bench.sh [RUNS]      of so many runs (5 where it isn't said) the least counts
 set -eu
@@ -294,7 +295,7 @@ while read -r loops statements times; do
         -v none_asked="$(least '%U %S' flow "$work/flows.f" 0)" 'BEGIN {
             making = (made - none_made) * 1e3 / times
             asking = (asked - none_asked) * 1e3 / times
-            printf "%10d %10d %12.1f %10.1f %12.1f\n", loops, statements, making, peak > no_peak ? (peak - no_peak) / 1024 : 0, asking
+            printf "%10d %10d %12.1f %10.1f %12.1f\n", loops, statements, making, (peak > no_peak ? (peak - no_peak) / 1024 : 0), asking
         }'
 done <<'END'
 1 1000 100

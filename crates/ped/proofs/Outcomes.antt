@@ -8,7 +8,7 @@ use Rattle.ped_io.specs.Faults.{IsWriteFault}
 use Rattle.ped.specs.declared.answering.Status.{Status}
 use Rattle.ped.specs.declared.answering.Status.TheVariants.{Done, SomeRefused, BadWords, ReadFault, WriteFault, ProgramRefused, NoMemory, TooLong}
 use Rattle.ped_tree.specs.Tree.{ProgramTree}
-use Rattle.ped_grammar.specs.Refusal.{Finding}
+use Rattle.ped_tree.specs.Grammar.Refusal.{Finding}
 use Rattle.ped_valid.specs.Validity.{ReadsValid, RefusesText}
 use Rattle.ped_script.specs.Items.{commands_of}
 use Rattle.ped_session.specs.States.{State, opened}

@@ -3,7 +3,7 @@
 ghost use Rattle.std.specs.Prelude.{◌≡◌, ◌⊎◌, ◌++◌, ◌≤◌, ℕ, List, Some, None, IfOk, OnOk};
 ghost use Rattle.std.specs.Fmt.{decimal};
 ghost use Rattle.ped_io.specs.Outside.{Rose};
-ghost use Rattle.ped_grammar.specs.RefusalViews.{finding_of};
+ghost use Rattle.ped_tree.specs.Grammar.RefusalViews.{finding_of};
 ghost use Rattle.ped.specs.Answer.{Sends, IsJust};
 ghost use Rattle.ped.specs.Refusals as Spec;
 
@@ -11,8 +11,8 @@ use crate::answering::Status;
 use crate::finishing::finish;
 use itoa::Buffer;
 use ped_base::{Bytes, NoMemory};
-use ped_grammar::Refusal;
 use ped_io::Sink;
+use ped_tree::grammar::Refusal;
 use std::alloc::Global;
 
 /// Says that a text is refused.

@@ -4,7 +4,7 @@ use Rattle.std.specs.List.{list_all}
 use Rattle.ped_base.specs.Lists.{is_same_text, is_among}
 use Rattle.ped_views.specs.Whole.{is_zero}
 use Rattle.ped_tree.specs.Tree.{ExprTree, Int, Var, Element, Neg, Add, Sub, Mul, Div, Pow, Call}
-use Rattle.ped_constants.specs.ConstantExpressions.{constant_value}
+use Rattle.ped_tree.specs.Constants.ConstantExpressions.{constant_value}
 use Rattle.ped_affine.specs.Ranges.{is_near}
 
 -- the names that a form may have: the named constants with their values, and the unknowns, which are the variables of the loops round the subscript, the outermost first, and other variables behind them

@@ -1,7 +1,7 @@
 -- What the code knows of a part of a subscript. Contracts of private functions alone speak of it.
 use Rattle.std.specs.Prelude.{◌≡◌, IfSome}
 use Rattle.ped_tree.specs.Tree.{ExprTree}
-use Rattle.ped_constants.specs.ConstantExpressions.{constant_value}
+use Rattle.ped_tree.specs.Constants.ConstantExpressions.{constant_value}
 use Rattle.ped_affine.specs.declared.subscripts.Part.{Part}
 use Rattle.ped_affine.specs.AffineForms.{Terms, affine_of}
 use Rattle.ped_affine.specs.KeptForms.{kept, IsOver}

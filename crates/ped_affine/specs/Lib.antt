@@ -1,3 +1,4 @@
+pub use Rattle.ped_refs
 pub mod AffineForms
 pub mod Arguments
 pub mod Assigned

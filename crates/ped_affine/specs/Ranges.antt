@@ -9,7 +9,7 @@ use Rattle.ped_views.specs.Views.{Range, range}
 use Rattle.ped_tree.specs.declared.expressions.Intrinsic.{Intrinsic}
 use Rattle.ped_tree.specs.declared.expressions.Intrinsic.TheVariants.{Mod, Abs, Max, Min}
 use Rattle.ped_tree.specs.Tree.{ExprTree, ExprTrees, Int, Var, Element, Neg, Add, Sub, Mul, Div, Pow, Call, no_exprs, more_exprs, Head}
-use Rattle.ped_constants.specs.ConstantExpressions.{constant_value}
+use Rattle.ped_tree.specs.Constants.ConstantExpressions.{constant_value}
 use Rattle.ped_affine.specs.IntervalArithmetic.{interval, point, interval_sum, interval_difference, interval_negation, interval_product, interval_max, interval_min}
 
 -- what ranges and subscripts depend on beside the loops round a statement: the named constants with their values, the variables of all DO loops of the program, and what the outermost DO round the statement assigns

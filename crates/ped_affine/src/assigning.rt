@@ -3,11 +3,11 @@
 ghost use Rattle.std.specs.Prelude.{◌≡◌, [], map, IfOk, OnOk};
 ghost use Rattle.std.specs.List.{flat_map};
 ghost use Rattle.ped_tree.specs.Views.{expr_tree, stmt_tree, stmt_trees, do_tree};
-ghost use Rattle.ped_names.specs.Collecting.{with_names};
+ghost use Rattle.ped_tree.specs.Names.Collecting.{with_names};
 ghost use Rattle.ped_affine.specs.Assigned as Spec;
 
 use ped_base::{Name, NoMemory};
-use ped_names::NameSet;
+use ped_tree::names::NameSet;
 use ped_tree::{Do, Expr, Stmt};
 use std::alloc::Global;
 

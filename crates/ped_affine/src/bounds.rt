@@ -8,8 +8,8 @@ ghost use Rattle.ped_views.specs.Intervals.{IsWithin};
 ghost use Rattle.ped_tree.specs.Tree.{Var};
 ghost use Rattle.ped_tree.specs.Views.{expr_tree, pack_exprs};
 ghost use Rattle.ped_tree.specs.declared.expressions.Intrinsic.TheVariants as Function;
-ghost use Rattle.ped_arithmetic.specs.Arithmetic.{sum_of, difference_of, negation_of, product_of};
-ghost use Rattle.ped_constants.specs.ConstantExpressions.{unary_value, binary_value, constant_value};
+ghost use Rattle.ped_base.specs.Arithmetic.Arithmetic.{sum_of, difference_of, negation_of, product_of};
+ghost use Rattle.ped_tree.specs.Constants.ConstantExpressions.{unary_value, binary_value, constant_value};
 ghost use Rattle.ped_affine.specs.IntervalArithmetic.{interval_sum, interval_difference, interval_negation, interval_product};
 ghost use Rattle.ped_affine.specs.Ranges as Spec;
 ghost use Rattle.ped_affine.specs.Ranges.{constant_or, of_one, of_two, variable_interval, call_interval, interval_of, intervals_of, bound_interval};
@@ -23,8 +23,8 @@ use crate::intervals::{differences, greater, kept_point, lesser, negations, prod
 use crate::names::is_same;
 use crate::settings::Setting;
 use ped_base::Name;
-use ped_constants::constant;
 use ped_refs::Loop;
+use ped_tree::constants::constant;
 use ped_tree::{Expr, Intrinsic};
 use ped_views::{Interval, LoopRange};
 

@@ -2,13 +2,13 @@
 //! (ANSI X3.9-1978, section 6.1.3).
 
 ghost use Rattle.std.specs.Prelude.{◌≡◌};
-ghost use Rattle.ped_arithmetic.specs.Arithmetic.{sum_of, difference_of, negation_of, product_of};
-ghost use Rattle.ped_constants.specs.NamedConstants.{value_named};
-ghost use Rattle.ped_constants.specs.ConstantExpressions.{unary_value, binary_value};
+ghost use Rattle.ped_base.specs.Arithmetic.Arithmetic.{sum_of, difference_of, negation_of, product_of};
+ghost use Rattle.ped_tree.specs.Constants.NamedConstants.{value_named};
+ghost use Rattle.ped_tree.specs.Constants.ConstantExpressions.{unary_value, binary_value};
 
-use ped_arithmetic::{difference, negation, product, sum};
 use ped_base::Name;
-use ped_constants::Consts;
+use ped_base::arithmetic::{difference, negation, product, sum};
+use ped_tree::constants::Consts;
 
 /// The value of a named constant. Where there are no constants, the name isn't hashed.
 pub(crate) fn named_value(constants: &Consts, name: &Name) -> Option<i64>

@@ -3,7 +3,7 @@
 ghost use Rattle.std.specs.Prelude.{◌≡◌, ◌≢◌, ◌-◌, ◌<◌, ◌≤◌, map, take, length, pos, unsigned_abs, slice_get, Some};
 ghost use Rattle.ped_tree.specs.Views.{expr_tree, pack_exprs};
 ghost use Rattle.ped_refs.specs.Loops.{nest_of, head_of};
-ghost use Rattle.ped_constants.specs.ConstantExpressions.{constant_value};
+ghost use Rattle.ped_tree.specs.Constants.ConstantExpressions.{constant_value};
 ghost use Rattle.ped_affine.specs.Ranges as Spec;
 ghost use Rattle.ped_affine.specs.PairViews.{heads_of};
 ghost use Rattle.ped_affine.specs.Arguments.{setting_of};
@@ -11,8 +11,8 @@ ghost use Rattle.ped_affine.specs.Surroundings.{around_of};
 
 use crate::bounds::{Enclosing, bound};
 use crate::settings::Setting;
-use ped_constants::{Consts, constant};
 use ped_refs::Loop;
+use ped_tree::constants::{Consts, constant};
 use ped_tree::{Do, Expr};
 use ped_views::LoopRange;
 

@@ -1,9 +1,9 @@
 //! What the ranges of loops and the forms of subscripts depend on.
 
-use ped_constants::Consts;
-use ped_names::NameSet;
 use ped_refs::Loop;
 use ped_tree::Expr;
+use ped_tree::constants::Consts;
+use ped_tree::names::NameSet;
 
 /// What ranges and forms depend on beside the loops round a statement. It is made once for an outermost DO.
 #[derive(Clone, Copy)]

@@ -4,8 +4,8 @@ ghost use Rattle.std.specs.Prelude.{◌≡◌, ◌+ℤ◌, ◌-ℤ◌, IfOk, IfS
 ghost use Rattle.std.specs.Option.{ForSome};
 ghost use Rattle.ped_tree.specs.Tree.{Var};
 ghost use Rattle.ped_tree.specs.Views.{expr_tree};
-ghost use Rattle.ped_arithmetic.specs.Arithmetic.{sum_of, difference_of, negation_of, product_of};
-ghost use Rattle.ped_constants.specs.ConstantExpressions.{unary_value, binary_value};
+ghost use Rattle.ped_base.specs.Arithmetic.Arithmetic.{sum_of, difference_of, negation_of, product_of};
+ghost use Rattle.ped_tree.specs.Constants.ConstantExpressions.{unary_value, binary_value};
 ghost use Rattle.ped_affine.specs.AffineForms as Spec;
 ghost use Rattle.ped_affine.specs.AffineForms.{affine_of, constant_or, combination};
 ghost use Rattle.ped_affine.specs.KeptForms.{unknowns_of, terms_kept, kept, plain_form, IsOver, IsComplete};
@@ -16,8 +16,8 @@ use crate::folding::{
 };
 use crate::forms::{Form, Terms};
 use ped_base::{Name, NoMemory};
-use ped_constants::constant;
 use ped_tree::Expr;
+use ped_tree::constants::constant;
 use std::alloc::Global;
 
 /// What is known of a subscript or of a part of it.

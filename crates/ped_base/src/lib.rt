@@ -2,6 +2,7 @@
 //! see them as plain data. Their definitions for contracts stand in `specs/`.
 #![tactic(auto)]
 
+pub mod arithmetic;
 mod bounds;
 mod identifiers;
 mod listing;

@@ -8,7 +8,7 @@ use anyhow::bail;
 use ped_base::Name;
 use ped_fits::fits;
 use ped_flow::{Flow, flow_of};
-use ped_sizes::small_where_it_fits;
+use ped_refs::sizes::small_where_it_fits;
 use ped_valid::{Opened, open_program};
 use std::alloc::Global;
 

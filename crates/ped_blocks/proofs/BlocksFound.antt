@@ -4,16 +4,16 @@ use Rattle.std.specs.Prelude.{IsTrue, ◌||◌, not, nat_le, max}
 use Rattle.std.proofs.lemmas.List.{map_push}
 use Rattle.ped_tree.specs.Tree.{Program, Implicit, Integer, Dimension, Parameter, Save, Remark, ProgramTree}
 use Rattle.ped_base.specs.Lists.{has_some}
-use Rattle.ped_grammar.specs.Refusal.{Refusal, Finding, refused_if, earlier, earliest, first_of, is_before}
-use Rattle.ped_grammar.specs.Statement.{Statement, Statements}
-use Rattle.ped_grammar.specs.Items.{Item, declares, saves_all, does, continues, logical_if, block_if, else_if, else_line, end_if, begins_do, keeps_private, ends_program, Reading, says, outside_profile, no_form, Entry}
-use Rattle.ped_grammar.specs.Occurrences.{saved_names}
-use Rattle.ped_grammar.specs.Contexts.{Block, Context, at_start, rank, is_do, left_by, blocks_behind, behind_item, behind_reading, behind, behind_all}
-use Rattle.ped_grammar.specs.BlockForms.{BodyForm, nothing, entry, body_entries, body_keeps_labels}
-use Rattle.ped_grammar.specs.ProgramForms.{DeclForm, a_declaration, a_save_of_all, ProgramForm, decl_entry, program_entries}
-use Rattle.ped_grammar.specs.ProgramRefusals.{where_it_says, is_left_out, is_out_of_order, lacks_if, is_late_private, saves_again, is_misplaced, is_behind_end, breaks_syntax, leaves_open, ends_badly, at_statement, at_statements, at_end, program_refusals}
-use Rattle.ped_grammar.specs.Grouping.{statements_of}
-use Rattle.ped_grammar.specs.Reading.{IsCutInto, first_program_refusal, Refuses, in_statements, Reads}
+use Rattle.ped_tree.specs.Grammar.Refusal.{Refusal, Finding, refused_if, earlier, earliest, first_of, is_before}
+use Rattle.ped_tree.specs.Grammar.Statement.{Statement, Statements}
+use Rattle.ped_tree.specs.Grammar.Items.{Item, declares, saves_all, does, continues, logical_if, block_if, else_if, else_line, end_if, begins_do, keeps_private, ends_program, Reading, says, outside_profile, no_form, Entry}
+use Rattle.ped_tree.specs.Grammar.Occurrences.{saved_names}
+use Rattle.ped_tree.specs.Grammar.Contexts.{Block, Context, at_start, rank, is_do, left_by, blocks_behind, behind_item, behind_reading, behind, behind_all}
+use Rattle.ped_tree.specs.Grammar.BlockForms.{BodyForm, nothing, entry, body_entries, body_keeps_labels}
+use Rattle.ped_tree.specs.Grammar.ProgramForms.{DeclForm, a_declaration, a_save_of_all, ProgramForm, decl_entry, program_entries}
+use Rattle.ped_tree.specs.Grammar.ProgramRefusals.{where_it_says, is_left_out, is_out_of_order, lacks_if, is_late_private, saves_again, is_misplaced, is_behind_end, breaks_syntax, leaves_open, ends_badly, at_statement, at_statements, at_end, program_refusals}
+use Rattle.ped_tree.specs.Grammar.Grouping.{statements_of}
+use Rattle.ped_tree.specs.Grammar.Reading.{IsCutInto, first_program_refusal, Refuses, in_statements, Reads}
 use Rattle.ped_blocks.specs.Machine.{nothing_built, take_entries, built_program}
 use Rattle.ped_blocks.proofs.BlocksNest.{form_built}
 use Rattle.ped_blocks.proofs.BlocksMoved.{Part, around, labels, stack_entries, StackFits, Fresh, moved}

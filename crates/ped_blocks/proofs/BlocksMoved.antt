@@ -5,11 +5,11 @@ use Rattle.std.specs.List.{list_any}
 use Rattle.std.proofs.lemmas.Bool.{eqb-true}
 use Rattle.std.proofs.lemmas.List.{append-nil}
 use Rattle.ped_tree.specs.Tree.{CondTree, Head, Program, Implicit, Integer, Dimension, Parameter, Save, Remark}
-use Rattle.ped_grammar.specs.Statement.{Statement}
-use Rattle.ped_grammar.specs.Items.{Item, declares, saves_all, does, continues, logical_if, block_if, else_if, else_line, end_if, begins_do, keeps_private, ends_program, says, Entry}
-use Rattle.ped_grammar.specs.Contexts.{OpenLoop, Block, in_then, in_else, in_do, rank, is_do, may_end, has_do, left_by, left_by_label, blocks_behind}
-use Rattle.ped_grammar.specs.BlockForms.{PlainForm, a_simple, a_continue, a_logical_if, PrivateForm, no_private, private_list, BodyForm, nothing, and_then, PartForm, a_plain, an_if, a_do, RestForm, ends_if, has_else, has_else_if, LoopForm, loop, at_plain, with_inner, plain_item, entry, names_of_private, private_entries, body_entries, part_entries, rest_entries, loop_entries, loop_label, has_label, is_free, private_keeps_labels, body_keeps_labels, part_keeps_labels, rest_keeps_labels, loop_keeps_labels, ending_keeps_labels}
-use Rattle.ped_grammar.specs.ProgramRefusals.{lacks_if, is_late_private, leaves_open, closed, ends_badly}
+use Rattle.ped_tree.specs.Grammar.Statement.{Statement}
+use Rattle.ped_tree.specs.Grammar.Items.{Item, declares, saves_all, does, continues, logical_if, block_if, else_if, else_line, end_if, begins_do, keeps_private, ends_program, says, Entry}
+use Rattle.ped_tree.specs.Grammar.Contexts.{OpenLoop, Block, in_then, in_else, in_do, rank, is_do, may_end, has_do, left_by, left_by_label, blocks_behind}
+use Rattle.ped_tree.specs.Grammar.BlockForms.{PlainForm, a_simple, a_continue, a_logical_if, PrivateForm, no_private, private_list, BodyForm, nothing, and_then, PartForm, a_plain, an_if, a_do, RestForm, ends_if, has_else, has_else_if, LoopForm, loop, at_plain, with_inner, plain_item, entry, names_of_private, private_entries, body_entries, part_entries, rest_entries, loop_entries, loop_label, has_label, is_free, private_keeps_labels, body_keeps_labels, part_keeps_labels, rest_keeps_labels, loop_keeps_labels, ending_keeps_labels}
+use Rattle.ped_tree.specs.Grammar.ProgramRefusals.{lacks_if, is_late_private, leaves_open, closed, ends_badly}
 
 -- a THEN part that an ELSE IF with its condition has ended
 pub record OpenArm : Type 0 where

@@ -6,11 +6,11 @@ use Rattle.std.proofs.lemmas.Bool.{eqb-true}
 use Rattle.std.proofs.lemmas.List.{append-nil}
 use Rattle.ped_tree.specs.Tree.{CondTree, Head, StmtTree, no_stmts, If, Do, DeclTree}
 use Rattle.ped_tree.specs.Views.{pack_stmts}
-use Rattle.ped_grammar.specs.Statement.{Statement}
-use Rattle.ped_grammar.specs.Items.{end_if, ends_program, Entry}
-use Rattle.ped_grammar.specs.Occurrences.{rejected_names}
-use Rattle.ped_grammar.specs.BlockForms.{PlainForm, a_simple, a_continue, a_logical_if, PrivateForm, no_private, private_list, BodyForm, nothing, and_then, PartForm, a_plain, an_if, a_do, RestForm, ends_if, has_else, has_else_if, LoopForm, loop, EndingForm, at_plain, with_inner, plain_item, entry, private_entries, body_entries, part_entries, rest_entries, loop_entries, ending_entries, comments_of, plain_trees, names_of_private, comments_of_private, first_of_rest, whole_head, body_trees, part_trees, rest_trees, loop_trees, ending_trees, loop_label, has_label, is_free, private_keeps_labels, body_keeps_labels, part_keeps_labels, rest_keeps_labels, loop_keeps_labels, ending_keeps_labels}
-use Rattle.ped_grammar.specs.ProgramForms.{DeclForm, a_declaration, a_save_of_all, ProgramForm, decl_entry, program_entries, decl_trees, program_form_tree}
+use Rattle.ped_tree.specs.Grammar.Statement.{Statement}
+use Rattle.ped_tree.specs.Grammar.Items.{end_if, ends_program, Entry}
+use Rattle.ped_tree.specs.Grammar.Occurrences.{rejected_names}
+use Rattle.ped_tree.specs.Grammar.BlockForms.{PlainForm, a_simple, a_continue, a_logical_if, PrivateForm, no_private, private_list, BodyForm, nothing, and_then, PartForm, a_plain, an_if, a_do, RestForm, ends_if, has_else, has_else_if, LoopForm, loop, EndingForm, at_plain, with_inner, plain_item, entry, private_entries, body_entries, part_entries, rest_entries, loop_entries, ending_entries, comments_of, plain_trees, names_of_private, comments_of_private, first_of_rest, whole_head, body_trees, part_trees, rest_trees, loop_trees, ending_trees, loop_label, has_label, is_free, private_keeps_labels, body_keeps_labels, part_keeps_labels, rest_keeps_labels, loop_keeps_labels, ending_keeps_labels}
+use Rattle.ped_tree.specs.Grammar.ProgramForms.{DeclForm, a_declaration, a_save_of_all, ProgramForm, decl_entry, program_entries, decl_trees, program_form_tree}
 use Rattle.ped_blocks.specs.Machine.{Arm, Frame, then_frame, else_frame, do_frame, Nesting, Built, nest, nothing_built, chained, close_loops, close_labelled, take_entry, take_entries, built_program}
 
 -- the labels of the open loops

@@ -1,11 +1,11 @@
 -- A text reads as one tree at most.
 use Rattle.std.proofs.Common.{◌≡◌, ℕ, List, sym, ap, ◌∙◌}
 use Rattle.ped_tree.specs.Tree.{ProgramTree}
-use Rattle.ped_grammar.specs.Items.{Entry}
-use Rattle.ped_grammar.specs.Occurrences.{saved_names}
-use Rattle.ped_grammar.specs.ProgramForms.{program_form_tree}
-use Rattle.ped_grammar.specs.Reading.{OneItem, Reads}
-use Rattle.ped_grammar.proofs.OneReading.{one_cut}
+use Rattle.ped_tree.specs.Grammar.Items.{Entry}
+use Rattle.ped_tree.specs.Grammar.Occurrences.{saved_names}
+use Rattle.ped_tree.specs.Grammar.ProgramForms.{program_form_tree}
+use Rattle.ped_tree.specs.Grammar.Reading.{OneItem, Reads}
+use Rattle.ped_tree.proofs.GrammarLaws.OneReading.{one_cut}
 use Rattle.ped_blocks.proofs.BlocksNest.{one_tree_of}
 
 pub read_once : OneItem → (text : List ℕ) (t u : ProgramTree) → Reads text t → Reads text u → t ≡ u

@@ -2,8 +2,8 @@
 use Rattle.std.proofs.Common.{◌≡◌, List, [], ◌∷◌, ◌++◌, map, drop, Bool, true, false, cond, ap, ◌∙◌, append_assoc}
 use Rattle.std.specs.Prelude.{filter}
 use Rattle.ped_tree.specs.Tree.{StmtTree, Comment, DeclTree, Remark}
-use Rattle.ped_grammar.specs.Statement.{Note}
-use Rattle.ped_grammar.specs.Occurrences.{is_rejection, rejected_name, rejected_names}
+use Rattle.ped_tree.specs.Grammar.Statement.{Note}
+use Rattle.ped_tree.specs.Grammar.Occurrences.{is_rejection, rejected_name, rejected_names}
 
 -- comments among executable statements
 abbrev pub comments : List Note → List StmtTree

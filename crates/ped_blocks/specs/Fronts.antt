@@ -1,7 +1,7 @@
 -- Comments before the first executable statement, as statements are taken one by one. Contracts of private functions alone speak of this.
 use Rattle.std.specs.Prelude.{List, [], ◌∷◌, ◌++◌}
 use Rattle.ped_tree.specs.Tree.{StmtTree, DeclTree}
-use Rattle.ped_grammar.specs.ProgramForms.{front_remarks, behind_front}
+use Rattle.ped_tree.specs.Grammar.ProgramForms.{front_remarks, behind_front}
 
 -- the declarations, where these statements are the body so far and those are to come
 abbrev pub decls_of : List DeclTree → List StmtTree → List StmtTree → List DeclTree

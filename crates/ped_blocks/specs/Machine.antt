@@ -2,11 +2,11 @@
 use Rattle.std.specs.Prelude.{ℕ, List, [], ◌∷◌, ◌++◌, ◌==◌, Option, Some, None, if◌then◌else◌}
 use Rattle.ped_tree.specs.Tree.{CondTree, Head, StmtTree, no_stmts, If, Do, DeclTree, ProgramTree}
 use Rattle.ped_tree.specs.Views.{pack_stmts}
-use Rattle.ped_grammar.specs.Statement.{Statement}
-use Rattle.ped_grammar.specs.Items.{Item, declares, saves_all, does, continues, logical_if, block_if, else_if, else_line, end_if, begins_do, keeps_private, ends_program, Reading, says, outside_profile, no_form, Entry}
-use Rattle.ped_grammar.specs.Occurrences.{rejected_names}
-use Rattle.ped_grammar.specs.BlockForms.{comments_of, whole_head}
-use Rattle.ped_grammar.specs.ProgramForms.{remarks_of, save_of, front_remarks, behind_front}
+use Rattle.ped_tree.specs.Grammar.Statement.{Statement}
+use Rattle.ped_tree.specs.Grammar.Items.{Item, declares, saves_all, does, continues, logical_if, block_if, else_if, else_line, end_if, begins_do, keeps_private, ends_program, Reading, says, outside_profile, no_form, Entry}
+use Rattle.ped_tree.specs.Grammar.Occurrences.{rejected_names}
+use Rattle.ped_tree.specs.Grammar.BlockForms.{comments_of, whole_head}
+use Rattle.ped_tree.specs.Grammar.ProgramForms.{remarks_of, save_of, front_remarks, behind_front}
 
 -- a condition with the THEN part that stands behind it
 pub record Arm : Type 0 where

@@ -4,12 +4,12 @@
 ghost use Rattle.std.specs.Prelude.{◌≡◌, ◌∷◌, [], ◌++◌, List, map, IfOk, IfErr, OnOk};
 ghost use Rattle.ped_tree.specs.Tree.{Remark, StmtTree};
 ghost use Rattle.ped_tree.specs.Views.{decl_tree, stmt_tree};
-ghost use Rattle.ped_grammar.specs.ProgramForms as Spec;
-ghost use Rattle.ped_grammar.specs.StatementViews.{note_of};
+ghost use Rattle.ped_tree.specs.Grammar.ProgramForms as Spec;
+ghost use Rattle.ped_tree.specs.Grammar.StatementViews.{note_of};
 ghost use Rattle.ped_blocks.specs.Fronts.{decls_of, body_of};
 
 use ped_base::{Listed, Names, NoMemory};
-use ped_grammar::NoteLine;
+use ped_tree::grammar::NoteLine;
 use ped_tree::{Decl, Stmt};
 use std::alloc::Global;
 

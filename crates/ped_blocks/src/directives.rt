@@ -1,11 +1,11 @@
 //! Directives before a DO, which say that the user has rejected the dependences of a name.
 
 ghost use Rattle.std.specs.Prelude.{◌≡◌, map, drop, IfOk, MatchOption, false, true};
-ghost use Rattle.ped_grammar.specs.Occurrences as Spec;
-ghost use Rattle.ped_grammar.specs.StatementViews.{note_of};
+ghost use Rattle.ped_tree.specs.Grammar.Occurrences as Spec;
+ghost use Rattle.ped_tree.specs.Grammar.StatementViews.{note_of};
 
 use ped_base::{Listed, Name, Names, NoMemory};
-use ped_grammar::NoteLine;
+use ped_tree::grammar::NoteLine;
 use std::alloc::Global;
 
 /// The names that directives reject, in their order; one with another text names nothing.

@@ -4,13 +4,13 @@
 ghost use Rattle.std.specs.Prelude.{◌≡◌, [], ◌∷◌, ◌++◌, map, IfOk, IfErr, false};
 ghost use Rattle.ped_tree.specs.Tree;
 ghost use Rattle.ped_tree.specs.Views.{cond_tree, stmt_tree, stmt_trees};
-ghost use Rattle.ped_grammar.specs.BlockForms.{whole_head};
-ghost use Rattle.ped_grammar.specs.ItemViews.{do_head};
+ghost use Rattle.ped_tree.specs.Grammar.BlockForms.{whole_head};
+ghost use Rattle.ped_tree.specs.Grammar.ItemViews.{do_head};
 ghost use Rattle.ped_blocks.specs.Machine;
 ghost use Rattle.ped_blocks.specs.BlockViews.{arms_of, ends_at, frame_of, head_of};
 
 use ped_base::{Names, NoMemory};
-use ped_grammar::DoStatement;
+use ped_tree::grammar::DoStatement;
 use ped_tree::{Cond, Do, Stmt};
 use std::alloc::Global;
 

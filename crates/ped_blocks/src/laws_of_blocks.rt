@@ -2,13 +2,13 @@
 
 ghost use Rattle.std.specs.Prelude.{◌≡◌, ◌⊎◌, ℕ, List, [], None, IsTrue};
 ghost use Rattle.ped_tree.specs.Tree.{ProgramTree};
-ghost use Rattle.ped_grammar.specs.Statement.{Statements};
-ghost use Rattle.ped_grammar.specs.Items.{Entry};
-ghost use Rattle.ped_grammar.specs.BlockForms.{body_keeps_labels};
-ghost use Rattle.ped_grammar.specs.ProgramForms.{ProgramForm, program_entries, program_form_tree};
-ghost use Rattle.ped_grammar.specs.ProgramRefusals.{program_refusals};
-ghost use Rattle.ped_grammar.specs.Reading.{IsCutInto, OneItem, Reads, Refuses};
-ghost use Rattle.ped_grammar.specs.Refusal.{Finding, first_of};
+ghost use Rattle.ped_tree.specs.Grammar.Statement.{Statements};
+ghost use Rattle.ped_tree.specs.Grammar.Items.{Entry};
+ghost use Rattle.ped_tree.specs.Grammar.BlockForms.{body_keeps_labels};
+ghost use Rattle.ped_tree.specs.Grammar.ProgramForms.{ProgramForm, program_entries, program_form_tree};
+ghost use Rattle.ped_tree.specs.Grammar.ProgramRefusals.{program_refusals};
+ghost use Rattle.ped_tree.specs.Grammar.Reading.{IsCutInto, OneItem, Reads, Refuses};
+ghost use Rattle.ped_tree.specs.Grammar.Refusal.{Finding, first_of};
 
 /// Statements nest in one way: whatever the DO loops and block IFs that they are divided into, the
 /// tree is the same. Which statement ends a loop is settled by labels (ANSI X3.9-1978, section 11.10).

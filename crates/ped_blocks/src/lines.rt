@@ -3,12 +3,12 @@
 ghost use Rattle.std.specs.Prelude.{◌≡◌, ◌++◌, map, replicate, IfOk, OnOk};
 ghost use Rattle.ped_tree.specs.Views.{stmt_tree, stmt_trees};
 ghost use Rattle.ped_tree.specs.Numbering.{statement_count, statements_count};
-ghost use Rattle.ped_grammar.specs.ProgramForms as Spec;
-ghost use Rattle.ped_grammar.specs.ItemViews.{behind_logical, entry_of, item_of, reading_of};
+ghost use Rattle.ped_tree.specs.Grammar.ProgramForms as Spec;
+ghost use Rattle.ped_tree.specs.Grammar.ItemViews.{behind_logical, entry_of, item_of, reading_of};
 
 use ped_base::{Names, NoMemory};
-use ped_grammar::{Entry, Item, StatementReading};
 use ped_tree::Stmt;
+use ped_tree::grammar::{Entry, Item, StatementReading};
 use std::alloc::Global;
 
 /// The first line of each declaration, of each numbered statement and of each PRIVATE, in text order.

@@ -3,17 +3,17 @@
 ghost use Rattle.std.specs.Prelude.{◌≡◌, ◌++◌, ◌∷◌, [], map, IfOk, OnOk};
 ghost use Rattle.ped_tree.specs.Tree;
 ghost use Rattle.ped_tree.specs.Views.{cond_tree, stmt_tree};
-ghost use Rattle.ped_grammar.specs.BlockForms.{comments_of, whole_head};
-ghost use Rattle.ped_grammar.specs.Occurrences as Spec;
-ghost use Rattle.ped_grammar.specs.StatementViews.{note_of, statement_of};
-ghost use Rattle.ped_grammar.specs.ItemViews.{behind_logical, do_head, item_of};
+ghost use Rattle.ped_tree.specs.Grammar.BlockForms.{comments_of, whole_head};
+ghost use Rattle.ped_tree.specs.Grammar.Occurrences as Spec;
+ghost use Rattle.ped_tree.specs.Grammar.StatementViews.{note_of, statement_of};
+ghost use Rattle.ped_tree.specs.Grammar.ItemViews.{behind_logical, do_head, item_of};
 ghost use Rattle.ped_blocks.specs.Machine;
 ghost use Rattle.ped_blocks.specs.BlockViews.{blocks_of, frame_of, nesting_of};
 
 use crate::directives::rejected_names;
 use crate::frames::{Frame, LoopBlock, ThenBlock, alone};
 use ped_base::{Listed, Names, NoMemory};
-use ped_grammar::{DoStatement, Item, NoteLine, Statement};
+use ped_tree::grammar::{DoStatement, Item, NoteLine, Statement};
 use ped_tree::{Cond, Stmt};
 use std::alloc::Global;
 

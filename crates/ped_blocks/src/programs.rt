@@ -2,10 +2,10 @@
 
 ghost use Rattle.std.specs.Prelude.{◌≡◌, [], IfOk, map};
 ghost use Rattle.ped_tree.specs.Views.{decl_tree, program_tree};
-ghost use Rattle.ped_grammar.specs.Items.{declares, saves_all};
-ghost use Rattle.ped_grammar.specs.ProgramForms.{first_lines};
-ghost use Rattle.ped_grammar.specs.StatementViews.{statement_of};
-ghost use Rattle.ped_grammar.specs.ItemViews.{entry_of, item_of};
+ghost use Rattle.ped_tree.specs.Grammar.Items.{declares, saves_all};
+ghost use Rattle.ped_tree.specs.Grammar.ProgramForms.{first_lines};
+ghost use Rattle.ped_tree.specs.Grammar.StatementViews.{statement_of};
+ghost use Rattle.ped_tree.specs.Grammar.ItemViews.{entry_of, item_of};
 ghost use Rattle.ped_blocks.specs.Machine;
 ghost use Rattle.ped_blocks.specs.Machine.{nothing_built, take_entries, built_program};
 ghost use Rattle.ped_blocks.specs.BlockViews.{built_of};
@@ -14,7 +14,7 @@ use crate::declarations::{behind_front, push_remarks, push_save};
 use crate::lines::first_lines;
 use crate::nesting::Nesting;
 use ped_base::{Names, NoMemory};
-use ped_grammar::{Entry, Item, Statement, StatementReading};
+use ped_tree::grammar::{Entry, Item, Statement, StatementReading};
 use ped_tree::{Decl, Program};
 use std::alloc::Global;
 

@@ -9,7 +9,7 @@ use anyhow::bail;
 use ped_base::{Name, NoMemory};
 use ped_fits::fits;
 use ped_flow::{Flow, Reader, flow_of};
-use ped_sizes::small_where_it_fits;
+use ped_refs::sizes::small_where_it_fits;
 use ped_symbols::{Kind, Symbols};
 use ped_tree::Stmt;
 use ped_valid::{Opened, open_program};

@@ -1,3 +1,4 @@
+pub use Rattle.ped_views
 pub mod Edges
 pub mod Rows
 pub mod CodeEdges

@@ -2,7 +2,7 @@
 use Rattle.std.proofs.Common.{◌≡◌, ◌⊎◌, inl, inr, ℕ, ◌+◌, ℤ, List, [], ◌∷◌, length, Bool, true, false, ◌&&◌, Result, Ok, Err, if◌then◌else◌, refl, sym, ap, subst, ◌∙◌}
 use Rattle.std.proofs.lemmas.Bool.{and_parts}
 use Rattle.ped_base.specs.Lists.{is_among}
-use Rattle.ped_arithmetic.specs.Faults.{◌>>=◌}
+use Rattle.ped_base.specs.Arithmetic.Faults.{◌>>=◌}
 use Rattle.ped_tree.specs.Tree.{ExprTree, ExprTrees, Int, Var, Neg, Add, Sub, Mul, Div, Pow, Call, Assign}
 use Rattle.ped_tree.specs.Tree as tree
 use Rattle.ped_symbols.specs.Kinds.{Table}
@@ -17,7 +17,7 @@ use Rattle.ped_eval.specs.Evaluation.{Seen, ◌>>>◌, given, onward}
 use Rattle.ped_eval.specs.Values.{value, target}
 use Rattle.ped_eval.specs.Statements.{Stored, assigned}
 use Rattle.ped_eval.specs.Targets.{bounded, IsNamedBy}
-use Rattle.ped_uses.specs.RightUses.{has_rank, is_rank, exprs_are_right, target_is_right}
+use Rattle.ped_symbols.specs.RightUses.RightUses.{has_rank, is_rank, exprs_are_right, target_is_right}
 use Rattle.ped_eval.specs.Readiness.{kinds_by, setting_by, IsReady}
 use Rattle.ped_eval.specs.Agreement.{path_of, before, Agrees, DoCopiesStand}
 use Rattle.ped_eval.specs.Runs.{Ending, run}

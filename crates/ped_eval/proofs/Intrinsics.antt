@@ -3,9 +3,9 @@ use Rattle.std.proofs.Common.{◌≡◌, ℕ, ◌+◌, ◌<◌, ◌≤◌, ◌-�
 use Rattle.std.specs.Prelude.{Result}
 use Rattle.std.proofs.Math.Seq.{take-length}
 use Rattle.std.proofs.lemmas.List.{length-drop}
-use Rattle.ped_arithmetic.specs.declared.faults.Fault.{Fault}
-use Rattle.ped_arithmetic.specs.Arithmetic.{remainder_of, absolute_value_of, greatest_of, least_of, from_left}
-use Rattle.ped_constants.specs.ConstantExpressions.{intrinsic_result}
+use Rattle.ped_base.specs.declared.arithmetic.faults.Fault.{Fault}
+use Rattle.ped_base.specs.Arithmetic.Arithmetic.{remainder_of, absolute_value_of, greatest_of, least_of, from_left}
+use Rattle.ped_tree.specs.Constants.ConstantExpressions.{intrinsic_result}
 use Rattle.ped_tree.specs.declared.expressions.Expr.{Expr}
 use Rattle.ped_tree.specs.declared.expressions.Intrinsic.{Intrinsic}
 use Rattle.ped_tree.specs.declared.expressions.Intrinsic.TheVariants.{Mod, Abs, Max, Min}

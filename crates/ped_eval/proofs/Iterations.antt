@@ -17,7 +17,7 @@ use Rattle.ped_store.specs.Stores.{Undefined, Content, Store, put}
 use Rattle.ped_store.specs.Memories.{Memory, with_content}
 use Rattle.ped_store.specs.Acts.{store_behind}
 use Rattle.ped_eval.specs.Scopes.{Setting, Frame, Scope, cell_of}
-use Rattle.ped_uses.specs.RightUses.{NameKinds, is_scalar, expr_is_right, cond_is_right, head_is_right, stmt_is_right, stmts_are_right}
+use Rattle.ped_symbols.specs.RightUses.RightUses.{NameKinds, is_scalar, expr_is_right, cond_is_right, head_is_right, stmt_is_right, stmts_are_right}
 use Rattle.ped_eval.specs.Readiness.{kinds_by, IsReady}
 use Rattle.ped_eval.specs.Agreement.{path_of, before, before_turn, Agrees, DoCopiesStand}
 use Rattle.ped_eval.specs.Loops.{Entered, frame, exit_touches, left_in_variable, index_names, all_index_names, with_name_by, with_sorted, sorted_once, inner_variables}

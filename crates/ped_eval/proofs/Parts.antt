@@ -19,8 +19,8 @@ use Rattle.ped_store.specs.Memories.{Memory}
 use Rattle.ped_eval.specs.Scopes.{Frame, Scope, names_in, place_of}
 use Rattle.ped_eval.specs.ScopeViews.{names_at}
 use Rattle.ped_eval.specs.Values.{truth}
-use Rattle.ped_uses.specs.RightUses.{cond_is_right, head_is_right, stmt_is_right, stmts_are_right}
-use Rattle.ped_uses.specs.RightLoops.{loop_depth, loops_deep, step_is_right, stmt_steps_are_right, steps_are_right}
+use Rattle.ped_symbols.specs.RightUses.RightUses.{cond_is_right, head_is_right, stmt_is_right, stmts_are_right}
+use Rattle.ped_symbols.specs.RightUses.RightLoops.{loop_depth, loops_deep, step_is_right, stmt_steps_are_right, steps_are_right}
 use Rattle.ped_eval.specs.Readiness.{kinds_by, setting_by, IsReady, CanDo, CanRun}
 use Rattle.ped_eval.specs.Agreement.{is_ahead, before, Agrees}
 use Rattle.ped_eval.specs.Runs.{Ending, going, stopped, failed, run, run_all}

@@ -4,7 +4,7 @@ use Rattle.std.specs.List.{list_all}
 use Rattle.std.proofs.lemmas.Bool.{and_parts}
 use Rattle.std.proofs.lemmas.List.{at_drop_all}
 use Rattle.ped_base.specs.Lists.{has_some}
-use Rattle.ped_arithmetic.specs.Faults.{◌>>=◌}
+use Rattle.ped_base.specs.Arithmetic.Faults.{◌>>=◌}
 use Rattle.ped_tree.specs.declared.expressions.Expr.{Expr}
 use Rattle.ped_tree.specs.Tree.{ExprTree, Read}
 use Rattle.ped_tree.specs.Views.{expr_tree}
@@ -19,7 +19,7 @@ use Rattle.ped_store.specs.Memories.{Memory, with_content, with_number, with_dat
 use Rattle.ped_eval.specs.Scopes.{Scope, place_of}
 use Rattle.ped_eval.specs.Values.{target}
 use Rattle.ped_eval.specs.Targets.{bounded}
-use Rattle.ped_uses.specs.RightUses.{NameKinds, target_is_right}
+use Rattle.ped_symbols.specs.RightUses.RightUses.{NameKinds, target_is_right}
 use Rattle.ped_eval.specs.Readiness.{setting_by, IsReady}
 use Rattle.ped_eval.specs.Takings.{names_with, item_taken, items_taken, read_taken}
 use Rattle.ped_eval.specs.Agreement.{before}

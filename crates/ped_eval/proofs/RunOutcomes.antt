@@ -6,7 +6,7 @@ use Rattle.ped_base.specs.Dimensions.{Dimensions}
 use Rattle.ped_base.specs.Lists.{is_same_text, is_among, has_some}
 use Rattle.ped_tree.specs.Tree.{StmtTrees, ProgramTree}
 use Rattle.ped_tree.specs.Numbering.{statements_count}
-use Rattle.ped_names.proofs.NameEquality.{same_is}
+use Rattle.ped_tree.proofs.NameLaws.NameEquality.{same_is}
 use Rattle.ped_symbols.specs.declared.symbols.Kind.{Kind}
 use Rattle.ped_symbols.specs.Entries.{entry_of}
 use Rattle.ped_symbols.specs.Kinds.{Table, kind_of, names_of, kind_in, table_of}
@@ -20,9 +20,9 @@ use Rattle.ped_eval.specs.Runs.{Ending, going, stopped, failed, run_all}
 use Rattle.ped_eval.specs.Outcomes as Outcomes
 use Rattle.ped_eval.specs.Outcomes.{Outcome, bounds_of, setting_of, live_names, live_rows, outcome, outcome_of, run_of}
 use Rattle.ped_eval.specs.Live.{rows_in, shapes_by}
-use Rattle.ped_uses.specs.RightPrograms.{IsRight}
-use Rattle.ped_uses.specs.RightUses.{NameKinds, stmts_are_right}
-use Rattle.ped_uses.specs.RightLoops.{loops_deep}
+use Rattle.ped_symbols.specs.RightUses.RightPrograms.{IsRight}
+use Rattle.ped_symbols.specs.RightUses.RightUses.{NameKinds, stmts_are_right}
+use Rattle.ped_symbols.specs.RightUses.RightLoops.{loops_deep}
 use Rattle.ped_eval.specs.Agreement.{before, IsSameOutside, Agrees}
 use Rattle.ped_eval.specs.Readiness.{kinds_by, setting_by, CanRun, IsReady}
 use Rattle.ped_eval.specs.Told.{Goes, Stops, Fails, Tells, Ran, StaysReady}

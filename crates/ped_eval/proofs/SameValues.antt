@@ -1,8 +1,8 @@
 -- Evaluations are the same in stores that hold the same where they read.
 use Rattle.std.proofs.Common.{◌≡◌, ℕ, ℤ, List, [], ◌∷◌, length, Bool, true, false, not, ◌&&◌, ◌||◌, Option, Some, None, Result, Ok, Err, if◌then◌else◌, refl}
-use Rattle.ped_arithmetic.specs.Arithmetic.{sum_of, difference_of, negation_of, product_of, quotient_of, power_of}
-use Rattle.ped_constants.specs.NamedConstants.{value_named}
-use Rattle.ped_constants.specs.ConstantExpressions.{intrinsic_result}
+use Rattle.ped_base.specs.Arithmetic.Arithmetic.{sum_of, difference_of, negation_of, product_of, quotient_of, power_of}
+use Rattle.ped_tree.specs.Constants.NamedConstants.{value_named}
+use Rattle.ped_tree.specs.Constants.ConstantExpressions.{intrinsic_result}
 use Rattle.ped_tree.specs.Tree.{ExprTree, ExprTrees, Int, Var, Neg, Add, Sub, Mul, Div, Pow, Call, no_exprs, more_exprs, CondTree, Rel, Not, And, Or}
 use Rattle.ped_tree.specs.Tree as tree
 use Rattle.ped_store.specs.Cells.{Cell, Element}

@@ -2,9 +2,9 @@
 use Rattle.std.proofs.Common.{◌≡◌, ℕ, ℤ, List, [], ◌∷◌, ◌++◌, not, ◌&&◌, ◌||◌, map, refl, sym, ap, Ok, Err, Option, Some, None}
 use Rattle.std.specs.Prelude.{Result}
 use Rattle.std.proofs.lemmas.List.{append-nil}
-use Rattle.ped_arithmetic.specs.Arithmetic.{sum_of, difference_of, negation_of, product_of, quotient_of, power_of}
-use Rattle.ped_constants.specs.ConstantExpressions.{intrinsic_result}
-use Rattle.ped_constants.specs.NamedConstants.{value_named}
+use Rattle.ped_base.specs.Arithmetic.Arithmetic.{sum_of, difference_of, negation_of, product_of, quotient_of, power_of}
+use Rattle.ped_tree.specs.Constants.ConstantExpressions.{intrinsic_result}
+use Rattle.ped_tree.specs.Constants.NamedConstants.{value_named}
 use Rattle.ped_tree.specs.declared.expressions.Expr.{Expr}
 use Rattle.ped_tree.specs.declared.expressions.Intrinsic.{Intrinsic}
 use Rattle.ped_tree.specs.declared.conditions.Relation.{Relation}

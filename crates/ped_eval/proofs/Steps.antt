@@ -6,9 +6,9 @@ use Rattle.std.proofs.Math.Seq.{drop-cons}
 use Rattle.std.proofs.lemmas.Bool.{and_parts, leb-true}
 use Rattle.std.proofs.lemmas.List.{take_more_set, append-nil}
 use Rattle.ped_base.specs.Lists.{is_among}
-use Rattle.ped_arithmetic.specs.Arithmetic.{sum_of, difference_of, negation_of, product_of, quotient_of, power_of}
-use Rattle.ped_constants.specs.ConstantExpressions.{intrinsic_result}
-use Rattle.ped_constants.specs.NamedConstants.{value_named}
+use Rattle.ped_base.specs.Arithmetic.Arithmetic.{sum_of, difference_of, negation_of, product_of, quotient_of, power_of}
+use Rattle.ped_tree.specs.Constants.ConstantExpressions.{intrinsic_result}
+use Rattle.ped_tree.specs.Constants.NamedConstants.{value_named}
 use Rattle.ped_tree.specs.declared.expressions.Expr.{Expr}
 use Rattle.ped_tree.specs.declared.expressions.Intrinsic.{Intrinsic}
 use Rattle.ped_tree.specs.declared.conditions.Relation.{Relation}

@@ -10,7 +10,7 @@ use Rattle.ped_eval.proofs.Walks.{next_drop}
 use Rattle.ped_store.specs.Cells.{Cell, Scalar, Element, Private, In, Out}
 use Rattle.ped_store.specs.Stores.{Store, Number, is_storable, storable, outside_bounds, out_of_range}
 use Rattle.ped_store.specs.Storage.{is_within}
-use Rattle.ped_arithmetic.specs.Faults.{◌>>=◌}
+use Rattle.ped_base.specs.Arithmetic.Faults.{◌>>=◌}
 use Rattle.std.specs.Bool.{MatchBool}
 use Rattle.ped_store.specs.Memories.{Memory, stored, with_number, with_content}
 use Rattle.ped_eval.specs.Scopes.{Names}

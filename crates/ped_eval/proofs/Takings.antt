@@ -1,7 +1,7 @@
 -- What is kept behind a READ agrees with the store of a run.
 use Rattle.std.proofs.Common.{◌≡◌, ℕ, suc, List, [], ◌∷◌, false, Some, None, Result, Ok, Err, if◌then◌else◌, refl, sym, ap, subst, ◌∙◌, append_assoc}
 use mathlib.Core.Path.{fun_ext}
-use Rattle.ped_arithmetic.specs.Faults.{◌>>=◌}
+use Rattle.ped_base.specs.Arithmetic.Faults.{◌>>=◌}
 use Rattle.ped_tree.specs.Tree.{ExprTree}
 use Rattle.ped_store.specs.Cells.{Cell, Scalar, Element, Private, In, Out, same_cell}
 use Rattle.ped_store.specs.Stores.{Content, Number, Lines, Store, put, lines_in}

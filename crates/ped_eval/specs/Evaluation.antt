@@ -1,7 +1,7 @@
 -- Evaluations: what they read, in order, and the value or the fault that they come to (ANSI X3.9-1978, section 6.6; this project).
 use Rattle.std.specs.Prelude.{ℕ, suc, ℤ, List, [], ◌∷◌, ◌++◌, Result, Ok, Err}
-use Rattle.ped_arithmetic.specs.declared.faults.Fault.{Fault}
-use Rattle.ped_arithmetic.specs.Faults.{fault_number}
+use Rattle.ped_base.specs.declared.arithmetic.faults.Fault.{Fault}
+use Rattle.ped_base.specs.Arithmetic.Faults.{fault_number}
 use Rattle.ped_store.specs.Cells.{Cell}
 use Rattle.ped_store.specs.Stores.{Content, Number, Store, number_read}
 use Rattle.ped_store.specs.Acts.{Touch, reads, is_told}

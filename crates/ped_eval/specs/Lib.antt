@@ -1,3 +1,4 @@
+pub use Rattle.ped_store
 pub mod AccessViews
 pub mod Agreement
 pub mod Endings

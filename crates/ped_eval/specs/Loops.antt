@@ -6,7 +6,7 @@ use Rattle.std.specs.declared.cmp.Ordering.{Ordering}
 use Rattle.std.specs.declared.cmp.Ordering.TheVariants.{Less, Equal, Greater}
 use Rattle.std.specs.Cmp.Lexicographic.{slice_cmp}
 use Rattle.ped_tree.specs.Tree.{Head, StmtTree, StmtTrees, Assign, If, Do, Print, Read, Stop, Comment, no_stmts, more_stmts}
-use Rattle.ped_constants.specs.ConstantExpressions.{constant_value}
+use Rattle.ped_tree.specs.Constants.ConstantExpressions.{constant_value}
 use Rattle.ped_store.specs.Stores.{Content, Undefined, Number, Store, out_of_range}
 use Rattle.ped_store.specs.Storage.{natural}
 use Rattle.ped_store.specs.Acts.{Touch}

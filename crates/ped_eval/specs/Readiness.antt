@@ -8,8 +8,8 @@ use Rattle.ped_symbols.specs.Kinds.{Table}
 use Rattle.ped_store.specs.Cells.{Cell, Scalar, Element, Private, Iteration}
 use Rattle.ped_store.specs.Memories.{Memory}
 use Rattle.ped_store.specs.Variables.{no_dimensions}
-use Rattle.ped_uses.specs.RightUses.{NameKinds, is_scalar, has_rank, is_rank, stmt_is_right, stmts_are_right}
-use Rattle.ped_uses.specs.RightLoops.{loop_depth, loops_deep, stmt_steps_are_right, steps_are_right}
+use Rattle.ped_symbols.specs.RightUses.RightUses.{NameKinds, is_scalar, has_rank, is_rank, stmt_is_right, stmts_are_right}
+use Rattle.ped_symbols.specs.RightUses.RightLoops.{loop_depth, loops_deep, stmt_steps_are_right, steps_are_right}
 use Rattle.ped_eval.specs.Scopes.{Setting, Frame, Scope}
 use Rattle.ped_eval.specs.Outcomes.{bounds_of}
 use Rattle.ped_eval.specs.Agreement.{DoCopiesStand}

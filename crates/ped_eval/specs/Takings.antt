@@ -1,6 +1,6 @@
 -- What the code keeps behind the items of a READ (ANSI X3.9-1978, section 12.8; this project).
 use Rattle.std.specs.Prelude.{ℕ, ℤ, List, [], ◌∷◌, Result, Ok, Err}
-use Rattle.ped_arithmetic.specs.Faults.{◌>>=◌}
+use Rattle.ped_base.specs.Arithmetic.Faults.{◌>>=◌}
 use Rattle.ped_tree.specs.Tree.{ExprTree}
 use Rattle.ped_store.specs.Cells.{Cell}
 use Rattle.ped_store.specs.Stores.{Number}

@@ -1,10 +1,10 @@
 -- Values of expressions and truth of conditions (ANSI X3.9-1978, sections 6.1, 6.3, 6.4, 6.6, 15.10; this project).
 use Rattle.std.specs.Prelude.{ℕ, ℤ, pos, int_lt, int_le, List, [], ◌∷◌, length, nat_le, Bool, not, ◌&&◌, ◌||◌, Option, Some, None, Result, Ok, Err, if◌then◌else◌}
 use Rattle.std.specs.Ordering.{int_eq}
-use Rattle.ped_arithmetic.specs.declared.faults.Fault.{Fault}
-use Rattle.ped_arithmetic.specs.Arithmetic.{sum_of, difference_of, negation_of, product_of, quotient_of, power_of}
-use Rattle.ped_constants.specs.NamedConstants.{value_named}
-use Rattle.ped_constants.specs.ConstantExpressions.{intrinsic_result}
+use Rattle.ped_base.specs.declared.arithmetic.faults.Fault.{Fault}
+use Rattle.ped_base.specs.Arithmetic.Arithmetic.{sum_of, difference_of, negation_of, product_of, quotient_of, power_of}
+use Rattle.ped_tree.specs.Constants.NamedConstants.{value_named}
+use Rattle.ped_tree.specs.Constants.ConstantExpressions.{intrinsic_result}
 use Rattle.ped_tree.specs.declared.conditions.Relation.{Relation}
 use Rattle.ped_tree.specs.declared.conditions.Relation.TheVariants.{Lt, Le, Eq, Ne, Gt, Ge}
 use Rattle.ped_tree.specs.Tree.{ExprTree, ExprTrees, Int, Var, Element, Neg, Add, Sub, Mul, Div, Pow, Call, no_exprs, more_exprs, CondTree, Rel, Not, And, Or}

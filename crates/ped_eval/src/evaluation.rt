@@ -3,8 +3,8 @@
 ghost use Rattle.std.specs.Prelude.{◌≡◌, ◌<◌, ◌≤◌, ◌-◌, pos, length, map, take, drop, replicate, IfOk, IfErr, Ok, Err};
 ghost use Rattle.ped_tree.specs.Tree as Tree;
 ghost use Rattle.ped_tree.specs.Views.{expr_tree, cond_tree, pack_exprs};
-ghost use Rattle.ped_arithmetic.specs.Arithmetic.{greatest_of, least_of};
-ghost use Rattle.ped_constants.specs.NamedConstants.{value_named};
+ghost use Rattle.ped_base.specs.Arithmetic.Arithmetic.{greatest_of, least_of};
+ghost use Rattle.ped_tree.specs.Constants.NamedConstants.{value_named};
 ghost use Rattle.ped_store.specs.CellViews.{cell_view, IsCell};
 ghost use Rattle.ped_store.specs.Keeping.{memory_of};
 ghost use Rattle.ped_eval.specs.Results.{value_at, values_at, target_at, truth_at, fault_or};
@@ -20,8 +20,8 @@ use crate::operations::{
 use crate::scopes::Scope;
 use crate::surroundings::Surroundings;
 use ped_base::Name;
-use ped_constants::Consts;
 use ped_store::{Cell, Store};
+use ped_tree::constants::Consts;
 use ped_tree::{Cond, Expr, Intrinsic};
 
 /// The value of an expression at a place of a run. It takes no memory.

@@ -2,12 +2,12 @@
 //! operation.
 
 ghost use Rattle.std.specs.Prelude.{◌≡◌, ◌&&◌, ◌||◌, not, Ok};
-ghost use Rattle.ped_arithmetic.specs.Arithmetic.{sum_of, difference_of, negation_of, product_of, quotient_of, power_of, remainder_of, absolute_value_of};
+ghost use Rattle.ped_base.specs.Arithmetic.Arithmetic.{sum_of, difference_of, negation_of, product_of, quotient_of, power_of, remainder_of, absolute_value_of};
 ghost use Rattle.ped_eval.specs.Evaluation as Evaluation;
 ghost use Rattle.ped_eval.specs.Results.{of_one, of_two};
 ghost use Rattle.ped_eval.specs.Values as Values;
 
-use ped_arithmetic::{
+use ped_base::arithmetic::{
     Fault, absolute_value, difference, negation, power, product, quotient, remainder, sum,
 };
 use ped_tree::Relation;

@@ -4,7 +4,7 @@ ghost use Rattle.std.specs.Prelude.{◌≡◌, ◌≤◌, ◌<◌, ◌^◌, ◌+
 ghost use Rattle.ped_tree.specs.Views.{expr_tree, stmt_trees};
 ghost use Rattle.ped_store.specs.Keeping.{memory_of};
 ghost use Rattle.ped_eval.specs.ScopeViews.{names_at};
-ghost use Rattle.ped_uses.specs.RightLoops.{step_is_right};
+ghost use Rattle.ped_symbols.specs.RightUses.RightLoops.{step_is_right};
 ghost use Rattle.ped_eval.specs.Evaluation.{◌>>>◌, given};
 ghost use Rattle.ped_store.specs.Storage as Storage;
 ghost use Rattle.ped_eval.specs.Values.{value};
@@ -15,8 +15,8 @@ use crate::evaluation::eval;
 use crate::inner_names::{copied_names, inner_variables};
 use crate::states::{RunError, State};
 use ped_base::{Names, NoMemory};
-use ped_constants::{Consts, constant};
 use ped_symbols::Symbols;
+use ped_tree::constants::{Consts, constant};
 use ped_tree::{Do, Expr};
 use std::alloc::Global;
 

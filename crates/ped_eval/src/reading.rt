@@ -6,7 +6,7 @@ ghost use Rattle.ped_tree.specs.Tree.{Read};
 ghost use Rattle.ped_tree.specs.Views.{expr_tree};
 ghost use Rattle.ped_store.specs.Keeping.{memory_of};
 ghost use Rattle.ped_eval.specs.Runs as Runs;
-ghost use Rattle.ped_uses.specs.RightUses.{target_is_right};
+ghost use Rattle.ped_symbols.specs.RightUses.RightUses.{target_is_right};
 ghost use Rattle.ped_eval.specs.Readiness.{kinds_by, setting_by, IsReady, CanDo};
 ghost use Rattle.ped_eval.specs.Told.{Ran, StaysReady};
 ghost use Rattle.ped_eval.specs.Takings.{item_taken, read_taken};

@@ -28,8 +28,8 @@ use crate::watches::{NoWatch, Watch};
 use ped_base::NoMemory;
 use ped_store::Store;
 use ped_symbols::Symbols;
+use ped_symbols::right_uses::right_where_valid;
 use ped_tree::Program;
-use ped_uses::right_where_valid;
 use std::alloc::Global;
 
 /// Runs a valid program, whose names these are, on the lines of its data. The iterations of a PARALLEL DO run in order. The

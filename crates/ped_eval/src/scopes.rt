@@ -10,8 +10,8 @@ ghost use Rattle.ped_eval.specs.AccessViews.{turn_view};
 
 use crate::accesses::Turn;
 use ped_base::{Listed, Name, Names, NoMemory};
-use ped_names::is_among;
 use ped_store::Cell;
+use ped_tree::names::is_among;
 use std::alloc::Global;
 use std::marker::Model;
 

@@ -11,7 +11,7 @@ ghost use Rattle.ped_eval.specs.ScopeViews.{names_at, outside};
 ghost use Rattle.ped_eval.specs.Statements.{Stored, assigned};
 ghost use Rattle.ped_eval.specs.Loops.{frame};
 ghost use Rattle.ped_eval.specs.Runs as Runs;
-ghost use Rattle.ped_uses.specs.RightUses.{target_is_right};
+ghost use Rattle.ped_symbols.specs.RightUses.RightUses.{target_is_right};
 ghost use Rattle.ped_eval.specs.Readiness.{kinds_by, setting_by, IsReady, CanDo, CanRun};
 ghost use Rattle.ped_eval.specs.Agreement.{before, before_turn};
 ghost use Rattle.ped_eval.specs.Plans.{entered_by, head_of, IsPlan};

@@ -1,8 +1,8 @@
 //! What evaluations look at.
 
 use crate::scopes::Scope;
-use ped_constants::Consts;
 use ped_store::Store;
+use ped_tree::constants::Consts;
 
 /// What the value of an expression depends on at a place of a run.
 #[derive(Clone, Copy)]

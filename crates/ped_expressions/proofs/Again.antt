@@ -8,9 +8,9 @@ use Rattle.ped_base.specs.Letters.{is_digit, is_alphanumeric}
 use Rattle.ped_tree.specs.declared.expressions.Intrinsic.{Intrinsic}
 use Rattle.ped_tree.specs.declared.expressions.Intrinsic.TheVariants.{Mod, Abs, Max, Min}
 use Rattle.ped_tree.specs.Tree.{ExprTree, ExprTrees, Int, no_exprs, more_exprs}
-use Rattle.ped_grammar.specs.Words.{is_name, is_numeral, numeral_value, intrinsic_of}
+use Rattle.ped_tree.specs.Grammar.Words.{is_name, is_numeral, numeral_value, intrinsic_of}
 use Rattle.ped_base.specs.Lists.{is_same_text}
-use Rattle.ped_grammar.specs.ExpressionForms.{unsigned, positive, negative, Adding, add, subtract, Scaling, multiply, divide, ExprForm, TermForm, FactorForm, PrimaryForm, ReferenceForm, ExprsForm, first, sum, single, product, plain, power, literal, reference, remainder, absolute, greatest, least, parentheses, scalar, element, one, more, adding_text, scaling_text, expr_form_text, term_form_text, factor_form_text, primary_form_text, reference_form_text, exprs_form_text, expr_form_tree, term_form_tree, factor_form_tree, primary_form_tree, reference_form_tree, exprs_form_trees}
+use Rattle.ped_tree.specs.Grammar.ExpressionForms.{unsigned, positive, negative, Adding, add, subtract, Scaling, multiply, divide, ExprForm, TermForm, FactorForm, PrimaryForm, ReferenceForm, ExprsForm, first, sum, single, product, plain, power, literal, reference, remainder, absolute, greatest, least, parentheses, scalar, element, one, more, adding_text, scaling_text, expr_form_text, term_form_text, factor_form_text, primary_form_text, reference_form_text, exprs_form_text, expr_form_tree, term_form_tree, factor_form_tree, primary_form_tree, reference_form_tree, exprs_form_trees}
 use Rattle.ped_expressions.specs.Scanning.{front, behind, after, sign_at, adding_at, scaling_at}
 use Rattle.ped_expressions.specs.ExpressionReading.{with_literals, all_with_literals, expr_count, applied, expr_of, sums_of, term_of, products_of, factor_of, primary_of, named_of, exprs_of}
 use Rattle.ped_expressions.proofs.Basics.{chosen}

@@ -7,7 +7,7 @@ use Rattle.std.specs.List.{list_all}
 use Rattle.std.proofs.lemmas.Bool.{eqb-true}
 use Rattle.std.proofs.lemmas.Bool.Decides.{Decides-eqb}
 use Rattle.std.proofs.lemmas.Slice.Eq.{strip_prefix_is}
-use Rattle.ped_grammar.specs.ExpressionForms.{unsigned, positive, negative, Adding, add, subtract, Scaling, multiply, divide, sign_text, adding_text, scaling_text}
+use Rattle.ped_tree.specs.Grammar.ExpressionForms.{unsigned, positive, negative, Adding, add, subtract, Scaling, multiply, divide, sign_text, adding_text, scaling_text}
 use Rattle.ped_base.specs.Letters.{is_digit}
 use Rattle.ped_expressions.specs.Views.{lent}
 use Rattle.ped_expressions.specs.Scanning.{◌>>=◌, go_on, front, behind, first_is, after, sign_at, adding_at, scaling_at}

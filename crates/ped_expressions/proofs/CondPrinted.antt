@@ -2,10 +2,10 @@
 use Rattle.std.proofs.Common.{◌≡◌, false, List, ◌++◌, ap, subst, ◌∙◌, ℕ}
 use Rattle.std.specs.Prelude.{codes}
 use Rattle.ped_tree.specs.Tree.{ExprTree, CondTree, Rel, Not, And, Or}
-use Rattle.ped_grammar.specs.Literals.{has_large_literal, cond_has_large_literal}
+use Rattle.ped_tree.specs.Grammar.Literals.{has_large_literal, cond_has_large_literal}
 use Rattle.ped_tree.specs.Printing.{value_text, relation_text, whole, in_or, in_and, in_not, cond_text}
-use Rattle.ped_grammar.specs.ExpressionForms.{expr_form_text, expr_form_tree}
-use Rattle.ped_grammar.specs.ConditionForms.{CondForm, LogicalTermForm, LogicalFactorForm, LogicalPrimaryForm, one_term, or, one_factor, and, affirmed, negated, relation, group, cond_form_text, logical_term_text, logical_factor_text, logical_primary_text, cond_form_tree, logical_term_tree, logical_factor_tree, logical_primary_tree, ReadsCond}
+use Rattle.ped_tree.specs.Grammar.ExpressionForms.{expr_form_text, expr_form_tree}
+use Rattle.ped_tree.specs.Grammar.ConditionForms.{CondForm, LogicalTermForm, LogicalFactorForm, LogicalPrimaryForm, one_term, or, one_factor, and, affirmed, negated, relation, group, cond_form_text, logical_term_text, logical_factor_text, logical_primary_text, cond_form_tree, logical_term_tree, logical_factor_tree, logical_primary_tree, ReadsCond}
 use Rattle.ped_expressions.proofs.Large.{neither}
 use Rattle.ped_expressions.proofs.Printed.{Stands, expr_stands, printed}
 

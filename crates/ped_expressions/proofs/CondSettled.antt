@@ -3,8 +3,8 @@ use Rattle.std.proofs.Common.{◌≡◌, ℕ, zero, suc, ◌+◌, ◌*◌, ◌<�
 use Rattle.std.specs.Prelude.{codes}
 use Rattle.ped_tree.specs.Tree.{CondTree, Not, And, Or}
 use Rattle.ped_tree.specs.Printing.{relation_text}
-use Rattle.ped_grammar.specs.ExpressionForms.{expr_form_text}
-use Rattle.ped_grammar.specs.ConditionForms.{CondForm, LogicalTermForm, LogicalFactorForm, LogicalPrimaryForm, one_term, or, one_factor, and, affirmed, negated, relation, group, cond_form_text, logical_term_text, logical_factor_text, logical_primary_text}
+use Rattle.ped_tree.specs.Grammar.ExpressionForms.{expr_form_text}
+use Rattle.ped_tree.specs.Grammar.ConditionForms.{CondForm, LogicalTermForm, LogicalFactorForm, LogicalPrimaryForm, one_term, or, one_factor, and, affirmed, negated, relation, group, cond_form_text, logical_term_text, logical_factor_text, logical_primary_text}
 use Rattle.ped_expressions.specs.Scanning.{◌>>=◌, go_on, after}
 use Rattle.ped_expressions.specs.ConditionReading.{relation_of, cond_at, ors_at, logical_term_at, ands_at, logical_factor_at, logical_primary_at}
 use Rattle.ped_expressions.proofs.Basics.{bind_same, go_same, after_len}

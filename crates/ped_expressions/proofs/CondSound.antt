@@ -5,8 +5,8 @@ use Rattle.ped_tree.specs.declared.conditions.Relation.{Relation}
 use Rattle.ped_tree.specs.declared.conditions.Relation.TheVariants.{Lt, Le, Eq, Ne, Gt, Ge}
 use Rattle.ped_tree.specs.Tree.{ExprTree, CondTree, Rel, Not, And, Or}
 use Rattle.ped_tree.specs.Printing.{relation_text}
-use Rattle.ped_grammar.specs.ExpressionForms.{expr_form_text, expr_form_tree}
-use Rattle.ped_grammar.specs.ConditionForms.{CondForm, LogicalTermForm, LogicalFactorForm, LogicalPrimaryForm, one_term, or, one_factor, and, affirmed, negated, relation, group, cond_form_text, logical_term_text, logical_factor_text, logical_primary_text, cond_form_tree, logical_term_tree, logical_factor_tree, logical_primary_tree}
+use Rattle.ped_tree.specs.Grammar.ExpressionForms.{expr_form_text, expr_form_tree}
+use Rattle.ped_tree.specs.Grammar.ConditionForms.{CondForm, LogicalTermForm, LogicalFactorForm, LogicalPrimaryForm, one_term, or, one_factor, and, affirmed, negated, relation, group, cond_form_text, logical_term_text, logical_factor_text, logical_primary_text, cond_form_tree, logical_term_tree, logical_factor_tree, logical_primary_tree}
 use Rattle.ped_expressions.specs.Scanning.{◌>>=◌, after}
 use Rattle.ped_expressions.specs.ExpressionReading.{with_literals, expr_of, enough}
 use Rattle.ped_expressions.specs.ConditionReading.{cond_with_literals, relation_or, relation_at, relation_of, cond_at, ors_at, logical_term_at, ands_at, logical_factor_at, logical_primary_at}

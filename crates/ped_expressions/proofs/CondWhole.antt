@@ -3,7 +3,7 @@ use Rattle.std.proofs.Common.{◌≡◌, ℕ, cond, List, [], ◌++◌, length, 
 use Rattle.std.proofs.lemmas.Bool.{eqb-true}
 use Rattle.std.proofs.lemmas.List.{append-nil, nil_from_length}
 use Rattle.ped_tree.specs.Tree.{ExprTree, CondTree, Rel, Not, And, Or}
-use Rattle.ped_grammar.specs.ConditionForms.{CondForm, cond_form_text, cond_form_tree, ReadsCond}
+use Rattle.ped_tree.specs.Grammar.ConditionForms.{CondForm, cond_form_text, cond_form_tree, ReadsCond}
 use Rattle.ped_expressions.specs.ExpressionReading.{with_literals, enough}
 use Rattle.ped_expressions.specs.ConditionReading.{cond_with_literals, cond_of, whole_cond_of}
 use Rattle.ped_expressions.proofs.Basics.{bind_some, some_is, guarded}

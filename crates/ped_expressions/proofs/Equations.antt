@@ -3,8 +3,8 @@ use Rattle.std.proofs.Common.{◌≡◌, ℕ, suc, ◌+◌, ◌*◌, ◌<◌, �
 use Rattle.std.specs.Prelude.{codes}
 use Rattle.ped_base.specs.Letters.{is_digit, is_alphanumeric}
 use Rattle.ped_tree.specs.Tree.{ExprTree, ExprTrees, Var, Pow, no_exprs, more_exprs}
-use Rattle.ped_grammar.specs.Words.{is_name}
-use Rattle.ped_grammar.specs.ExpressionForms.{signed, added, scaled}
+use Rattle.ped_tree.specs.Grammar.Words.{is_name}
+use Rattle.ped_tree.specs.Grammar.ExpressionForms.{signed, added, scaled}
 use Rattle.ped_expressions.specs.Scanning.{◌>>=◌, go_on, front, behind, first_is, after, sign_at, adding_at, scaling_at}
 use Rattle.ped_expressions.specs.ExpressionReading.{applied, literal_at, expr_at, sums_at, term_at, products_at, factor_at, primary_at, named_at, exprs_at, enough, expr_of, sums_of, term_of, products_of, factor_of, primary_of, named_of, exprs_of}
 use Rattle.ped_expressions.proofs.Basics.{bind_same, go_same, sign_len, behind_len, after_len, adding_len, scaling_len}

@@ -3,7 +3,7 @@ use Rattle.std.proofs.Common.{◌≡◌, ℕ, Bool, true, false, refl, ap, ◌�
 use Rattle.std.specs.Prelude.{◌||◌}
 use Rattle.std.proofs.lemmas.Bool.{ltb-true, ltb-false, lt-ltb, le-ltb}
 use Rattle.ped_tree.specs.Tree.{ExprTree, ExprTrees, Int, Var, Element, Neg, Add, Sub, Mul, Div, Pow, Call, no_exprs, more_exprs, CondTree, Rel, Not, And, Or}
-use Rattle.ped_grammar.specs.Literals.{has_large_literal, have_large_literal, cond_has_large_literal}
+use Rattle.ped_tree.specs.Grammar.Literals.{has_large_literal, have_large_literal, cond_has_large_literal}
 use Rattle.ped_expressions.specs.ExpressionReading.{saturated, with_literals, all_with_literals}
 use Rattle.ped_expressions.specs.ConditionReading.{cond_with_literals}
 

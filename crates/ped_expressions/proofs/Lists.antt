@@ -5,7 +5,7 @@ use Rattle.ped_tree.specs.declared.expressions.Expr.{Expr}
 use Rattle.ped_tree.specs.declared.expressions.Intrinsic.{Intrinsic}
 use Rattle.ped_tree.specs.Tree.{ExprTree, ExprTrees, Call, no_exprs, more_exprs}
 use Rattle.ped_tree.specs.Views.{expr_tree, pack_exprs}
-use Rattle.ped_grammar.specs.Words.{is_name, intrinsic_of}
+use Rattle.ped_tree.specs.Grammar.Words.{is_name, intrinsic_of}
 use Rattle.ped_expressions.specs.Scanning.{◌>>=◌, after}
 use Rattle.ped_expressions.specs.ExpressionReading.{expr_of, exprs_of, named_of, expr_count, takes, applied}
 use Rattle.ped_expressions.proofs.Equations.{named_step, exprs_step}

@@ -12,10 +12,10 @@ use Rattle.ped_base.specs.Letters.{is_digit}
 use Rattle.ped_tree.specs.declared.expressions.Intrinsic.{Intrinsic}
 use Rattle.ped_tree.specs.declared.expressions.Intrinsic.TheVariants.{Mod, Abs, Max, Min}
 use Rattle.ped_tree.specs.Tree.{ExprTree, ExprTrees, Int, Var, Element, Neg, Add, Sub, Mul, Div, Pow, Call, no_exprs, more_exprs}
-use Rattle.ped_grammar.specs.Words.{is_name, is_numeral, intrinsic_of}
-use Rattle.ped_grammar.specs.Literals.{has_large_literal, have_large_literal}
+use Rattle.ped_tree.specs.Grammar.Words.{is_name, is_numeral, intrinsic_of}
+use Rattle.ped_tree.specs.Grammar.Literals.{has_large_literal, have_large_literal}
 use Rattle.ped_tree.specs.Printing.{alone, as_term, as_factor, as_base, intrinsic_text, expr_text, exprs_text, further_text}
-use Rattle.ped_grammar.specs.ExpressionForms.{Sign, unsigned, positive, negative, Adding, add, subtract, Scaling, multiply, divide, ExprForm, TermForm, FactorForm, PrimaryForm, ReferenceForm, ExprsForm, first, sum, single, product, plain, power, literal, reference, remainder, absolute, greatest, least, parentheses, scalar, element, one, more, expr_form_text, term_form_text, factor_form_text, primary_form_text, exprs_form_text, signed, added, scaled, expr_form_tree, term_form_tree, factor_form_tree, primary_form_tree, reference_form_tree, exprs_form_trees, ReadsExpr, ReadsReference}
+use Rattle.ped_tree.specs.Grammar.ExpressionForms.{Sign, unsigned, positive, negative, Adding, add, subtract, Scaling, multiply, divide, ExprForm, TermForm, FactorForm, PrimaryForm, ReferenceForm, ExprsForm, first, sum, single, product, plain, power, literal, reference, remainder, absolute, greatest, least, parentheses, scalar, element, one, more, expr_form_text, term_form_text, factor_form_text, primary_form_text, exprs_form_text, signed, added, scaled, expr_form_tree, term_form_tree, factor_form_tree, primary_form_tree, reference_form_tree, exprs_form_trees, ReadsExpr, ReadsReference}
 use Rattle.ped_expressions.specs.ExpressionReading.{expr_count, takes}
 use Rattle.ped_expressions.proofs.Sound.{is_call}
 use Rattle.ped_expressions.proofs.Large.{neither}

@@ -6,10 +6,10 @@ use Rattle.ped_expressions.specs.declared.readings.Failure.TheVariants.{NoForm}
 use Rattle.ped_expressions.specs.Views.{Gives}
 use Rattle.ped_base.specs.Letters.{begins_with_letter}
 use Rattle.ped_tree.specs.Tree.{ExprTree, Int, Var, Element, Neg, Add, Sub, Mul, Div, Pow, Call, CondTree}
-use Rattle.ped_grammar.specs.Words.{is_numeral}
-use Rattle.ped_grammar.specs.ExpressionForms.{ExprForm, ReferenceForm, ReadsExpr, ReadsReference, first, sum, unsigned, positive, negative, add, subtract, single, product, multiply, divide, plain, power, literal, reference, remainder, absolute, greatest, least, parentheses, scalar, element, expr_form_text, expr_form_tree, reference_form_text, reference_form_tree}
-use Rattle.ped_grammar.specs.ConditionForms.{ReadsCond, cond_form_tree}
-use Rattle.ped_grammar.specs.Literals.{has_large_literal, cond_has_large_literal}
+use Rattle.ped_tree.specs.Grammar.Words.{is_numeral}
+use Rattle.ped_tree.specs.Grammar.ExpressionForms.{ExprForm, ReferenceForm, ReadsExpr, ReadsReference, first, sum, unsigned, positive, negative, add, subtract, single, product, multiply, divide, plain, power, literal, reference, remainder, absolute, greatest, least, parentheses, scalar, element, expr_form_text, expr_form_tree, reference_form_text, reference_form_tree}
+use Rattle.ped_tree.specs.Grammar.ConditionForms.{ReadsCond, cond_form_tree}
+use Rattle.ped_tree.specs.Grammar.Literals.{has_large_literal, cond_has_large_literal}
 use Rattle.ped_expressions.specs.ExpressionReading.{saturated, with_literals, whole_expr_of, is_reference}
 use Rattle.ped_expressions.specs.ConditionReading.{whole_cond_of}
 use Rattle.ped_expressions.proofs.Basics.{some_is}

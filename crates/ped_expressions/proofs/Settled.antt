@@ -3,8 +3,8 @@ use Rattle.std.proofs.Common.{◌≡◌, ℕ, zero, suc, ◌+◌, ◌*◌, ◌<�
 use Rattle.std.specs.Prelude.{codes}
 use Rattle.ped_base.specs.Letters.{is_digit, is_alphanumeric}
 use Rattle.ped_tree.specs.Tree.{ExprTree, ExprTrees, Var, Pow, no_exprs, more_exprs}
-use Rattle.ped_grammar.specs.Words.{is_name, is_numeral}
-use Rattle.ped_grammar.specs.ExpressionForms.{ExprForm, TermForm, FactorForm, PrimaryForm, ReferenceForm, ExprsForm, first, sum, single, product, plain, power, literal, reference, remainder, absolute, greatest, least, parentheses, scalar, element, one, more, sign_text, adding_text, scaling_text, expr_form_text, term_form_text, factor_form_text, primary_form_text, reference_form_text, exprs_form_text, signed, added, scaled}
+use Rattle.ped_tree.specs.Grammar.Words.{is_name, is_numeral}
+use Rattle.ped_tree.specs.Grammar.ExpressionForms.{ExprForm, TermForm, FactorForm, PrimaryForm, ReferenceForm, ExprsForm, first, sum, single, product, plain, power, literal, reference, remainder, absolute, greatest, least, parentheses, scalar, element, one, more, sign_text, adding_text, scaling_text, expr_form_text, term_form_text, factor_form_text, primary_form_text, reference_form_text, exprs_form_text, signed, added, scaled}
 use Rattle.ped_expressions.specs.Scanning.{◌>>=◌, go_on, front, behind, first_is, after, sign_at, adding_at, scaling_at}
 use Rattle.ped_expressions.specs.ExpressionReading.{applied, literal_at, expr_at, sums_at, term_at, products_at, factor_at, primary_at, named_at, exprs_at}
 use Rattle.ped_expressions.proofs.Basics.{bind_same, go_same, sign_len, behind_len, after_len, adding_len, scaling_len}

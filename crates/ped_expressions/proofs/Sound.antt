@@ -6,8 +6,8 @@ use Rattle.ped_base.specs.Letters.{is_digit, is_alphanumeric}
 use Rattle.ped_tree.specs.declared.expressions.Intrinsic.{Intrinsic}
 use Rattle.ped_tree.specs.declared.expressions.Intrinsic.TheVariants.{Mod, Abs, Max, Min}
 use Rattle.ped_tree.specs.Tree.{ExprTree, ExprTrees, Var, Element, Pow, Call, no_exprs, more_exprs}
-use Rattle.ped_grammar.specs.Words.{is_name, is_numeral, intrinsic_of}
-use Rattle.ped_grammar.specs.ExpressionForms.{Sign, unsigned, positive, negative, Adding, add, subtract, Scaling, multiply, divide, ExprForm, TermForm, FactorForm, PrimaryForm, ExprsForm, first, sum, single, product, plain, power, literal, reference, remainder, absolute, greatest, least, parentheses, scalar, element, one, more, sign_text, adding_text, scaling_text, expr_form_text, term_form_text, factor_form_text, primary_form_text, exprs_form_text, signed, added, scaled, expr_form_tree, term_form_tree, factor_form_tree, primary_form_tree, exprs_form_trees}
+use Rattle.ped_tree.specs.Grammar.Words.{is_name, is_numeral, intrinsic_of}
+use Rattle.ped_tree.specs.Grammar.ExpressionForms.{Sign, unsigned, positive, negative, Adding, add, subtract, Scaling, multiply, divide, ExprForm, TermForm, FactorForm, PrimaryForm, ExprsForm, first, sum, single, product, plain, power, literal, reference, remainder, absolute, greatest, least, parentheses, scalar, element, one, more, sign_text, adding_text, scaling_text, expr_form_text, term_form_text, factor_form_text, primary_form_text, exprs_form_text, signed, added, scaled, expr_form_tree, term_form_tree, factor_form_tree, primary_form_tree, exprs_form_trees}
 use Rattle.ped_expressions.specs.Scanning.{◌>>=◌, go_on, front, behind, first_is, after, sign_at, adding_at, scaling_at}
 use Rattle.ped_expressions.specs.ExpressionReading.{with_literals, all_with_literals, expr_count, takes, applied, literal_at, expr_at, sums_at, term_at, products_at, factor_at, primary_at, named_at, exprs_at}
 use Rattle.ped_expressions.proofs.Basics.{some_is, bind_some, stops_or_goes, chosen, guarded, front_behind, front_all, after_is, sign_is, adding_is, scaling_is}

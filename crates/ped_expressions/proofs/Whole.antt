@@ -3,7 +3,7 @@ use Rattle.std.proofs.Common.{◌≡◌, ℕ, cond, List, [], ◌++◌, length, 
 use Rattle.std.proofs.lemmas.Bool.{eqb-true}
 use Rattle.std.proofs.lemmas.List.{append-nil, nil_from_length}
 use Rattle.ped_tree.specs.Tree.{ExprTree, ExprTrees, Int, Var, Element, Neg, Add, Sub, Mul, Div, Pow, Call, no_exprs, more_exprs}
-use Rattle.ped_grammar.specs.ExpressionForms.{ExprForm, unsigned, first, single, plain, reference, expr_form_text, expr_form_tree, ReadsExpr, ReadsReference}
+use Rattle.ped_tree.specs.Grammar.ExpressionForms.{ExprForm, unsigned, first, single, plain, reference, expr_form_text, expr_form_tree, ReadsExpr, ReadsReference}
 use Rattle.ped_expressions.specs.ExpressionReading.{with_literals, all_with_literals, enough, expr_of, whole_expr_of}
 use Rattle.ped_expressions.proofs.Basics.{bind_some, some_is, guarded}
 use Rattle.ped_expressions.proofs.Sound.{expr_found}

@@ -4,8 +4,8 @@ use Rattle.ped_base.specs.Letters.{is_digit, is_alphanumeric}
 use Rattle.ped_tree.specs.declared.expressions.Intrinsic.{Intrinsic}
 use Rattle.ped_tree.specs.declared.expressions.Intrinsic.TheVariants.{Mod, Abs, Max, Min}
 use Rattle.ped_tree.specs.Tree.{ExprTree, ExprTrees, Int, Var, Element, Neg, Add, Sub, Mul, Div, Pow, Call, no_exprs, more_exprs}
-use Rattle.ped_grammar.specs.Words.{is_name, numeral_value, intrinsic_of}
-use Rattle.ped_grammar.specs.ExpressionForms.{signed, added, scaled}
+use Rattle.ped_tree.specs.Grammar.Words.{is_name, numeral_value, intrinsic_of}
+use Rattle.ped_tree.specs.Grammar.ExpressionForms.{signed, added, scaled}
 use Rattle.ped_expressions.specs.Scanning.{Answer, ◌>>=◌, go_on, front, behind, first_is, after, sign_at, adding_at, scaling_at}
 
 -- a number as an unsigned integer of 32 bits keeps it: the greatest one where it is greater

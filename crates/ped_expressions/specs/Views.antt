@@ -7,7 +7,7 @@ use Rattle.ped_tree.specs.declared.conditions.Cond.{Cond}
 use Rattle.ped_tree.specs.declared.conditions.Relation.{Relation}
 use Rattle.ped_tree.specs.Tree.{ExprTree, ExprTrees, CondTree}
 use Rattle.ped_tree.specs.Views.{expr_tree, pack_exprs, cond_tree}
-use Rattle.ped_grammar.specs.ExpressionForms as forms
+use Rattle.ped_tree.specs.Grammar.ExpressionForms as forms
 use Rattle.ped_expressions.specs.declared.readings.Failure.{Failure}
 use Rattle.ped_expressions.specs.declared.readings.Failure.TheVariants.{NoForm, OutOfMemory}
 use Rattle.ped_expressions.specs.declared.operators.Sign.{Sign}

@@ -3,8 +3,8 @@
 
 ghost use Rattle.std.specs.Prelude.{◌<◌, ◌≤◌, IfOk, length};
 ghost use Rattle.ped_tree.specs.Views.{cond_tree};
-ghost use Rattle.ped_grammar.specs.ConditionForms.{ReadsCond};
-ghost use Rattle.ped_grammar.specs.Literals as Literals;
+ghost use Rattle.ped_tree.specs.Grammar.ConditionForms.{ReadsCond};
+ghost use Rattle.ped_tree.specs.Grammar.Literals as Literals;
 ghost use Rattle.ped_expressions.specs.Readings.{Says};
 ghost use Rattle.ped_expressions.specs.ExpressionReading.{saturated};
 ghost use Rattle.ped_expressions.specs.ConditionReading.{relation_of, cond_of, ors_of, logical_term_of, ands_of, logical_factor_of, logical_primary_of, whole_cond_of};

@@ -5,8 +5,8 @@ ghost use Rattle.std.specs.Prelude.{◌≡◌, ◌<◌, ◌≤◌, ◌+◌, IfOk
 ghost use Rattle.ped_base.specs.Letters as Letters;
 ghost use Rattle.ped_tree.specs.Tree as Tree;
 ghost use Rattle.ped_tree.specs.Views.{expr_tree, pack_exprs};
-ghost use Rattle.ped_grammar.specs.ExpressionForms.{ReadsExpr, ReadsReference};
-ghost use Rattle.ped_grammar.specs.Literals as Literals;
+ghost use Rattle.ped_tree.specs.Grammar.ExpressionForms.{ReadsExpr, ReadsReference};
+ghost use Rattle.ped_tree.specs.Grammar.Literals as Literals;
 ghost use Rattle.ped_expressions.specs.Readings.{Says};
 ghost use Rattle.ped_expressions.specs.Scanning as Scanning;
 ghost use Rattle.ped_expressions.specs.ExpressionReading as Spec;

@@ -3,9 +3,9 @@
 
 ghost use Rattle.std.specs.Prelude.{◌≡◌, ◌↔◌, ℕ, List, IsFalse};
 ghost use Rattle.ped_tree.specs.Tree.{ExprTree, CondTree};
-ghost use Rattle.ped_grammar.specs.ExpressionForms.{ReadsExpr, ReadsReference};
-ghost use Rattle.ped_grammar.specs.ConditionForms.{ReadsCond};
-ghost use Rattle.ped_grammar.specs.Literals.{has_large_literal, cond_has_large_literal};
+ghost use Rattle.ped_tree.specs.Grammar.ExpressionForms.{ReadsExpr, ReadsReference};
+ghost use Rattle.ped_tree.specs.Grammar.ConditionForms.{ReadsCond};
+ghost use Rattle.ped_tree.specs.Grammar.Literals.{has_large_literal, cond_has_large_literal};
 ghost use Rattle.ped_tree.specs.Printing.{alone, expr_text, whole, cond_text};
 
 /// A text reads as one expression at most.

@@ -2,7 +2,7 @@
 
 ghost use Rattle.std.specs.Prelude.{◌≡◌, map};
 ghost use Rattle.ped_tree.specs.Views.{expr_tree, pack_exprs, cond_tree};
-ghost use Rattle.ped_grammar.specs.Literals as Spec;
+ghost use Rattle.ped_tree.specs.Grammar.Literals as Spec;
 
 use ped_tree::{Cond, Expr};
 

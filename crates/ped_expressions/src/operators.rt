@@ -3,7 +3,7 @@
 
 ghost use Rattle.std.specs.Prelude.{◌≡◌, ◌<◌, ◌≤◌, IfSome, IfOk, length};
 ghost use Rattle.ped_tree.specs.Views.{expr_tree};
-ghost use Rattle.ped_grammar.specs.ExpressionForms as Forms;
+ghost use Rattle.ped_tree.specs.Grammar.ExpressionForms as Forms;
 ghost use Rattle.ped_expressions.specs.Scanning as Spec;
 ghost use Rattle.ped_expressions.specs.Views.{sign_of, adding_of, scaling_of, adding_and_rest, scaling_and_rest, relation_and_rest};
 ghost use Rattle.ped_expressions.specs.ConditionReading.{relation_at};

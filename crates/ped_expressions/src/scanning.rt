@@ -6,7 +6,7 @@ ghost use Rattle.std.specs.List.{list_all};
 ghost use Rattle.std.specs.Str.Parse.{digits_value};
 ghost use Rattle.ped_base.specs.Letters as Letters;
 ghost use Rattle.ped_base.specs.Lists.{is_same_text};
-ghost use Rattle.ped_grammar.specs.Words as Words;
+ghost use Rattle.ped_tree.specs.Grammar.Words as Words;
 ghost use Rattle.ped_expressions.specs.Scanning as Spec;
 ghost use Rattle.ped_expressions.specs.ExpressionReading.{saturated};
 ghost use Rattle.ped_expressions.specs.Views.{lent};
@@ -97,7 +97,7 @@ pub fn name_of(word: &[u8]) -> Option<Name>
     Name::from_bytes(word)
 }
 
-#[tactic(auto, unfolding(ped_grammar::specs::Words::intrinsic_of))]
+#[tactic(auto, unfolding(ped_tree::specs::Grammar::Words::intrinsic_of))]
 /// The intrinsic function of a name. IABS is read as ABS, MAX0 as MAX and MIN0 as MIN.
 pub fn intrinsic_of(word: &[u8]) -> Option<Intrinsic>
     ensures { result ≡ Words.intrinsic_of word.now }

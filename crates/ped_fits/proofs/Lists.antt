@@ -6,8 +6,8 @@ use Rattle.ped_base.specs.Lists.{is_same_text}
 use Rattle.ped_tree.specs.declared.expressions.Intrinsic.TheVariants.{Mod, Abs, Max, Min}
 use Rattle.ped_tree.specs.Tree.{ExprTree}
 use Rattle.ped_tree.specs.Views.{pack_exprs}
-use Rattle.ped_grammar.specs.Grouping.{with_rest, trimmed}
-use Rattle.ped_grammar.specs.Fits.{takes_arguments, has_expr}
+use Rattle.ped_tree.specs.Grammar.Grouping.{with_rest, trimmed}
+use Rattle.ped_tree.specs.Grammar.Fits.{takes_arguments, has_expr}
 
 three_not_two : (n : ℕ) → (suc (suc (suc n)) == 2) ≡ false
 three_not_two n = grind (arith, eqb-true)

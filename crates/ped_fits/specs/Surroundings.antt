@@ -7,7 +7,7 @@ use Rattle.ped_tree.specs.Tree.{Head, StmtTree, Assign, If, Do, Print, Read, Sto
 use Rattle.ped_tree.specs.Views.{head, decl_tree}
 use Rattle.ped_tree.specs.declared.statements.Do as code
 use Rattle.ped_tree.specs.declared.declarations.Decl.{Decl}
-use Rattle.ped_grammar.specs.Fits as plain
+use Rattle.ped_tree.specs.Grammar.Fits as plain
 use Rattle.ped_fits.specs.declared.surroundings.Surroundings.{Surroundings}
 use Rattle.ped_fits.specs.declared.surroundings.Numbers.{Numbers}
 

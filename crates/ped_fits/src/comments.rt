@@ -4,10 +4,10 @@
 ghost use Rattle.std.specs.Prelude.{◌≡◌, ◌∷◌, ◌==◌, slice_index_or};
 ghost use Rattle.std.specs.List.{list_all, list_any};
 ghost use Rattle.ped_base.specs.Lists.{is_same_text};
-ghost use Rattle.ped_grammar.specs.Columns as Columns;
-ghost use Rattle.ped_grammar.specs.Characters as Characters;
-ghost use Rattle.ped_grammar.specs.Grouping.{trimmed};
-ghost use Rattle.ped_grammar.specs.Fits as Spec;
+ghost use Rattle.ped_tree.specs.Grammar.Columns as Columns;
+ghost use Rattle.ped_tree.specs.Grammar.Characters as Characters;
+ghost use Rattle.ped_tree.specs.Grammar.Grouping.{trimmed};
+ghost use Rattle.ped_tree.specs.Grammar.Fits as Spec;
 
 /// Whether some line has the comment in columns 2 to 72: no end of a line in it, no blank or carriage return
 /// at its end, and no directive.
@@ -41,7 +41,7 @@ fn is_trimmed(text: &[u8]) -> bool
 }
 
 /// Whether a comment with this text is a directive: it begins with $PED, in any case.
-#[tactic(auto, unfolding(ped_grammar::specs::Columns::is_directive))]
+#[tactic(auto, unfolding(ped_tree::specs::Grammar::Columns::is_directive))]
 fn is_directive(text: &[u8]) -> bool
     ensures { result ≡ Columns.is_directive (67 ∷ text.now) }
 {

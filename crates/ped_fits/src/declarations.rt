@@ -6,9 +6,9 @@ ghost use Rattle.std.specs.List.{list_all};
 ghost use Rattle.ped_tree.specs.Tree.{DeclTree};
 ghost use Rattle.ped_tree.specs.Printing.{decl_text};
 ghost use Rattle.ped_tree.specs.Views.{bound_tree, declarator_tree, value_tree, decl_tree};
-ghost use Rattle.ped_grammar.specs.Contexts.{decl_rank};
-ghost use Rattle.ped_grammar.specs.ProgramRefusals as Refusals;
-ghost use Rattle.ped_grammar.specs.Fits as Spec;
+ghost use Rattle.ped_tree.specs.Grammar.Contexts.{decl_rank};
+ghost use Rattle.ped_tree.specs.Grammar.ProgramRefusals as Refusals;
+ghost use Rattle.ped_tree.specs.Grammar.Fits as Spec;
 
 use crate::comments::comment_fits;
 use crate::expressions::expr_fits;

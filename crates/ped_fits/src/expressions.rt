@@ -4,8 +4,8 @@
 ghost use Rattle.std.specs.Prelude.{◌≡◌, map};
 ghost use Rattle.std.specs.List.{list_all};
 ghost use Rattle.ped_tree.specs.Views.{expr_tree, pack_exprs, cond_tree, item_tree};
-ghost use Rattle.ped_grammar.specs.Fits as Spec;
-ghost use Rattle.ped_grammar.specs.Words as Words;
+ghost use Rattle.ped_tree.specs.Grammar.Fits as Spec;
+ghost use Rattle.ped_tree.specs.Grammar.Words as Words;
 
 use crate::comments::is_printable;
 use crate::names::name_fits;

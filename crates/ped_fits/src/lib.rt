@@ -11,5 +11,5 @@ mod programs;
 mod statements;
 mod surroundings;
 
-pub use ped_printed_programs::{fits_where_read, printed_program};
+pub use ped_printed::programs::{fits_where_read, printed_program};
 pub use programs::fits;

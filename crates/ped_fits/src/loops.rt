@@ -5,9 +5,9 @@ ghost use Rattle.std.specs.Prelude.{◌≡◌, ◌<◌, ◌&&◌, not, nat_le, l
 ghost use Rattle.ped_tree.specs.Tree as Tree;
 ghost use Rattle.ped_tree.specs.Printing.{private_text};
 ghost use Rattle.ped_tree.specs.Views.{stmt_tree, stmt_trees};
-ghost use Rattle.ped_grammar.specs.StatementForms.{are_names};
-ghost use Rattle.ped_grammar.specs.ProgramRefusals as Refusals;
-ghost use Rattle.ped_grammar.specs.Fits as Spec;
+ghost use Rattle.ped_tree.specs.Grammar.StatementForms.{are_names};
+ghost use Rattle.ped_tree.specs.Grammar.ProgramRefusals as Refusals;
+ghost use Rattle.ped_tree.specs.Grammar.Fits as Spec;
 ghost use Rattle.ped_fits.specs.Surroundings.{place, head_of};
 
 use crate::expressions::expr_fits;

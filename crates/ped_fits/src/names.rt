@@ -3,9 +3,9 @@
 
 ghost use Rattle.std.specs.Prelude.{◌≡◌};
 ghost use Rattle.std.specs.List.{list_all};
-ghost use Rattle.ped_grammar.specs.Words as Words;
-ghost use Rattle.ped_grammar.specs.StatementForms as Spec;
-ghost use Rattle.ped_grammar.specs.ProgramRefusals as Refusals;
+ghost use Rattle.ped_tree.specs.Grammar.Words as Words;
+ghost use Rattle.ped_tree.specs.Grammar.StatementForms as Spec;
+ghost use Rattle.ped_tree.specs.Grammar.ProgramRefusals as Refusals;
 
 use ped_base::Name;
 use ped_limits::is_among;

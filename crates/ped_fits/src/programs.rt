@@ -2,7 +2,7 @@
 
 ghost use Rattle.std.specs.Prelude.{◌≡◌};
 ghost use Rattle.ped_tree.specs.Views.{program_tree, stmt_trees};
-ghost use Rattle.ped_grammar.specs.Fits as Spec;
+ghost use Rattle.ped_tree.specs.Grammar.Fits as Spec;
 ghost use Rattle.ped_fits.specs.Surroundings.{at_first};
 
 use crate::declarations::decls_fit;

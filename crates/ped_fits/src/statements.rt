@@ -5,9 +5,9 @@ ghost use Rattle.std.specs.List.{flat_map};
 ghost use Rattle.ped_base.specs.Lists.{has_some};
 ghost use Rattle.ped_tree.specs.Numbering.{statement_count, statements_count, loop_count, loops_count};
 ghost use Rattle.ped_tree.specs.Views.{expr_tree, cond_tree, stmt_tree, stmt_trees};
-ghost use Rattle.ped_grammar.specs.Contexts.{is_stop};
-ghost use Rattle.ped_grammar.specs.ProgramRefusals as Refusals;
-ghost use Rattle.ped_grammar.specs.Fits as Spec;
+ghost use Rattle.ped_tree.specs.Grammar.Contexts.{is_stop};
+ghost use Rattle.ped_tree.specs.Grammar.ProgramRefusals as Refusals;
+ghost use Rattle.ped_tree.specs.Grammar.Fits as Spec;
 ghost use Rattle.ped_fits.specs.Surroundings.{place, IsAround, IsCounted, Follows, head_of, is_simple, simple_parts_fit};
 
 use crate::comments::comment_fits;

@@ -4,7 +4,7 @@
 ghost use Rattle.std.specs.Prelude.{◌≡◌, ◌+◌, ◌<◌, ◌≤◌, ◌∷◌, ◌++◌, length, take};
 ghost use Rattle.ped_base.specs.Lists as Lists;
 ghost use Rattle.ped_tree.specs.Views.{stmt_tree};
-ghost use Rattle.ped_grammar.specs.Fits as Spec;
+ghost use Rattle.ped_tree.specs.Grammar.Fits as Spec;
 ghost use Rattle.ped_fits.specs.Surroundings.{IsCounted, all_names, place};
 
 use ped_base::Name;

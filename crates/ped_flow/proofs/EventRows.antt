@@ -4,7 +4,7 @@ use Rattle.std.proofs.lemmas.List.{length-replicate}
 use Rattle.ped_base.specs.Lists.{is_same_text, is_among}
 use Rattle.ped_tree.specs.Tree.{ExprTree, Int, Var, Element, Neg, Add, Sub, Mul, Div, Pow, Call}
 use Rattle.ped_bits.specs.Places.{union, without}
-use Rattle.ped_names.proofs.Collected.{among_append}
+use Rattle.ped_tree.proofs.NameLaws.Collected.{among_append}
 use Rattle.ped_flow.specs.Events.{Event, reads, assigns, event, reads_of, all_scalars_in, left_events}
 use Rattle.ped_flow.specs.Summaries.{least_of, passing, of_manner, sum_in_turn, sum_event, sum_events}
 use Rattle.ped_flow.specs.Kept.{unless, first_reader}

@@ -6,8 +6,8 @@ use Rattle.std.proofs.lemmas.Bool.{false≢true}
 use Rattle.std.specs.List.{list_any}
 use Rattle.std.specs.Global.{Box}
 use Rattle.ped_base.specs.Lists.{is_same_text, is_among}
-use Rattle.ped_names.proofs.Collected.{among_append}
-use Rattle.ped_names.proofs.NameEquality.{same_itself, same_is}
+use Rattle.ped_tree.proofs.NameLaws.Collected.{among_append}
+use Rattle.ped_tree.proofs.NameLaws.NameEquality.{same_itself, same_is}
 use Rattle.ped_tree.specs.Tree as plain
 use Rattle.ped_tree.specs.Views.{expr_tree, cond_tree}
 use Rattle.ped_tree.specs.declared.expressions.Expr.{Expr}

@@ -2,7 +2,7 @@
 use Rattle.std.proofs.Common.{◌≡◌, ℕ, List, ◌++◌, length, ◌||◌, Option, Some, is_some, sym, ap, subst, ◌∙◌}
 use Rattle.ped_base.specs.Lists.{is_among}
 use Rattle.ped_bits.specs.Places.{union}
-use Rattle.ped_names.proofs.Collected.{among_append}
+use Rattle.ped_tree.proofs.NameLaws.Collected.{among_append}
 use Rattle.ped_flow.specs.Summaries.{least_of, sum_in_turn, sum_either}
 use Rattle.ped_flow.specs.RowPlaces.{place_of, bit}
 use Rattle.ped_flow.specs.Rows.{Holds}

@@ -1,3 +1,6 @@
+pub use Rattle.ped_base
+pub use Rattle.ped_tree
+pub use Rattle.ped_affine
 pub mod Events
 pub mod PathSets
 pub mod Paths

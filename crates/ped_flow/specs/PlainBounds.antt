@@ -6,7 +6,7 @@ use Rattle.ped_tree.specs.declared.expressions.Intrinsic.TheVariants.{Max, Min}
 use Rattle.ped_tree.specs.Tree.{ExprTree, ExprTrees, Int, Var, Element, Neg, Add, Sub, Mul, Div, Pow, Call, no_exprs, more_exprs, StmtTree, StmtTrees, Assign, If, Do, Print, Read, Stop, Comment, no_stmts, more_stmts, ProgramTree}
 use Rattle.ped_tree.specs.Nests.{Loop, indices_of}
 use Rattle.ped_tree.specs.Numbering.{statement_count, statements_count, statement_with}
-use Rattle.ped_constants.specs.ConstantExpressions.{constant_value}
+use Rattle.ped_tree.specs.Constants.ConstantExpressions.{constant_value}
 use Rattle.ped_affine.specs.Assigned.{assigned_in, all_loop_variables}
 use Rattle.ped_affine.specs.Ranges.{Setting, Around, interval_of, loop_range, inside}
 use Rattle.ped_flow.specs.Questions.{IsAssignedBefore}

@@ -8,8 +8,8 @@ ghost use Rattle.ped_tree.specs.Views.{decl_tree};
 use crate::decls::is_constant;
 use indexmap::IndexSet;
 use ped_base::{Name, NoMemory};
-use ped_names::NameSet;
 use ped_tree::Decl;
+use ped_tree::names::NameSet;
 use std::alloc::Global;
 use std::marker::Model;
 
@@ -42,7 +42,7 @@ pub(crate) struct Places<'a> {
 
 impl PlacedNames {
     ghost use Rattle.std.specs.Prelude.{◌≡◌, [], length, OnOk, OnErr};
-    ghost use Rattle.ped_names.specs.Collecting.{with_name};
+    ghost use Rattle.ped_tree.specs.Names.Collecting.{with_name};
     ghost use Rattle.ped_flow.specs.RowPlaces.{place_of};
 
     /// No names, which takes no memory.

@@ -10,8 +10,8 @@ use Rattle.ped_refs.specs.References.{Reference, references}
 use Rattle.ped_refs.specs.Loops.{loop_of}
 use Rattle.ped_refs.specs.Occurrences.{reference_of, references_of}
 use Rattle.ped_refs.specs.declared.occurring.Occurrence.{Occurrence}
-use Rattle.ped_sizes.specs.Sizes.{IsSmall}
-use Rattle.ped_sizes.proofs.Small.{small_program}
+use Rattle.ped_refs.specs.Sizes.Sizes.{IsSmall}
+use Rattle.ped_refs.proofs.SizeLaws.Small.{small_program}
 
 mapped_length : {A B : Type 0} (f : A → B) (xs : List A) → length (map f xs) ≡ length xs
 mapped_length f [] = refl

@@ -9,7 +9,7 @@ use Rattle.ped_views.specs.Vectors.{AreVectors, distance}
 use Rattle.ped_tree.specs.Tree.{StmtTree, Do, ProgramTree}
 use Rattle.ped_tree.specs.Numbering.{statement_with}
 use Rattle.ped_symbols.specs.Kinds.{table_of}
-use Rattle.ped_names.specs.Collecting.{with_names}
+use Rattle.ped_tree.specs.Names.Collecting.{with_names}
 use Rattle.ped_refs.specs.References.{Reference, comes_before, outermost, references, pairs}
 use Rattle.ped_affine.specs.Assigned.{assigned_in, all_loop_variables}
 use Rattle.ped_affine.specs.Ranges.{Setting}

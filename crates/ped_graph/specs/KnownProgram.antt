@@ -4,7 +4,7 @@ use Rattle.ped_tree.specs.Tree.{ProgramTree}
 use Rattle.ped_tree.specs.Views.{program_tree}
 use Rattle.ped_tree.specs.Numbering.{statement_with}
 use Rattle.ped_symbols.specs.Kinds.{table_of}
-use Rattle.ped_names.specs.Collecting.{with_names}
+use Rattle.ped_tree.specs.Names.Collecting.{with_names}
 use Rattle.ped_refs.specs.Occurrences.{reference_of}
 use Rattle.ped_refs.specs.declared.occurring.Occurrence.{Occurrence}
 use Rattle.ped_affine.specs.Assigned.{all_loop_variables}

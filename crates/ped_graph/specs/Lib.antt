@@ -1,3 +1,7 @@
+pub use Rattle.ped_views
+pub use Rattle.ped_refs
+pub use Rattle.ped_symbols
+pub use Rattle.ped_edges
 pub mod CodeFacts
 pub mod DependencePane
 pub mod Dependences
@@ -8,3 +12,4 @@ pub mod HeldSelections
 pub mod KnownProgram
 pub mod Marks
 pub mod Owners
+pub mod Update

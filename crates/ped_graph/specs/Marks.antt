@@ -5,7 +5,7 @@ use Rattle.ped_base.specs.Lists.{is_among}
 use Rattle.ped_views.specs.Views.{Range, View}
 use Rattle.ped_tree.specs.Nests.{Loop, common_nest}
 use Rattle.ped_refs.specs.References.{Reference}
-use Rattle.ped_constants.specs.ConstantExpressions.{constant_value}
+use Rattle.ped_tree.specs.Constants.ConstantExpressions.{constant_value}
 use Rattle.ped_affine.specs.Ranges.{is_near}
 use Rattle.ped_graph.specs.Guards.{is_guarded}
 use Rattle.ped_verdict.specs.Exactness.{is_exact}

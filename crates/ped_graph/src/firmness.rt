@@ -8,8 +8,8 @@ ghost use Rattle.ped_graph.specs.Marks as Spec;
 ghost use Rattle.ped_graph.specs.Guards as Guards;
 
 use ped_base::NoMemory;
-use ped_constants::{Consts, constant};
 use ped_refs::{Loop, Occurrence};
+use ped_tree::constants::{Consts, constant};
 use std::alloc::Global;
 
 /// For each reference whether its loops have constant bounds and no IF stands round it.

@@ -16,6 +16,7 @@ mod rounds;
 mod selections;
 mod telling;
 mod testing;
+pub mod update;
 
 pub use graph::Graph;
 pub use laws::{one_dependence_pane, one_dependence_pane_of};

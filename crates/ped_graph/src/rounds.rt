@@ -3,15 +3,15 @@
 ghost use Rattle.std.specs.Prelude.{◌≡◌, [], IfOk, OnOk};
 ghost use Rattle.ped_tree.specs.Views.{program_tree};
 ghost use Rattle.ped_tree.specs.Numbering.{statement_with};
-ghost use Rattle.ped_names.specs.Collecting.{with_names};
+ghost use Rattle.ped_tree.specs.Names.Collecting.{with_names};
 ghost use Rattle.ped_refs.specs.References.{outermost};
 ghost use Rattle.ped_refs.specs.Occurrences.{reference_of};
 ghost use Rattle.ped_graph.specs.Dependences as Spec;
 
 use ped_affine::assigned;
 use ped_base::NoMemory;
-use ped_names::NameSet;
 use ped_refs::Occurrence;
+use ped_tree::names::NameSet;
 use ped_tree::{Program, Stmt};
 use std::alloc::Global;
 

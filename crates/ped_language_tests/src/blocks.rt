@@ -2,7 +2,7 @@
 
 use ped_base::{Bytes, Listed, Name, Names};
 use ped_blocks::program_of;
-use ped_grammar::{DoStatement, Entry, Item, NoteLine, Statement, StatementReading};
+use ped_tree::grammar::{DoStatement, Entry, Item, NoteLine, Statement, StatementReading};
 use ped_tree::{Decl, Expr, Stmt};
 use std::alloc::Global;
 use std::test::Fail;

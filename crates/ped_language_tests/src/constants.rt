@@ -1,8 +1,8 @@
 //! Named constants, and expressions over them.
 
 use ped_base::Name;
-use ped_constants::{Consts, constant};
 use ped_expressions::{Reading, read_expression};
+use ped_tree::constants::{Consts, constant};
 use std::test::Fail;
 
 #[test]

@@ -1,7 +1,7 @@
 //! A text with labels, comments and directives, cut into its statements.
 
-use ped_grammar::NoteLine;
 use ped_lines::statements;
+use ped_tree::grammar::NoteLine;
 use std::test::Fail;
 
 #[test]

@@ -1,8 +1,8 @@
 //! The first refusal of a small program by hand, and the names that its SAVE stands for.
 
 use ped_base::{Bytes, Listed, Name};
-use ped_grammar::{Entry, Item, RefusalKind, Statement, StatementReading};
 use ped_refusals::{first_refusal, saved_names};
+use ped_tree::grammar::{Entry, Item, RefusalKind, Statement, StatementReading};
 use ped_tree::{Expr, Stmt};
 use std::alloc::Global;
 use std::test::Fail;

@@ -1,8 +1,8 @@
 //! A statement of the profile, one that it leaves out, and a text without a form.
 
-use ped_grammar::{Item, StatementReading};
 use ped_statements::read_statement;
 use ped_tree::Stmt;
+use ped_tree::grammar::{Item, StatementReading};
 use std::test::Fail;
 
 #[test]

@@ -2,8 +2,8 @@
 //! of a name behind the name's declaration.
 
 use ped_base::{Bounds, Name};
-use ped_grammar::{Refusal, RefusalKind};
 use ped_symbols::Kind;
+use ped_tree::grammar::{Refusal, RefusalKind};
 use ped_valid::{OpenRefusal, open_program};
 use std::test::Fail;
 

@@ -3,10 +3,10 @@
 
 ghost use Rattle.std.specs.Prelude.{◌≡◌, ◌||◌, map, length, nat_lt};
 ghost use Rattle.std.specs.List.{list_any};
-ghost use Rattle.ped_grammar.specs.Literals as Spec;
-ghost use Rattle.ped_grammar.specs.ProgramRefusals as Refusals;
+ghost use Rattle.ped_tree.specs.Grammar.Literals as Spec;
+ghost use Rattle.ped_tree.specs.Grammar.ProgramRefusals as Refusals;
 ghost use Rattle.ped_tree.specs.Views.{expr_tree, item_tree, stmt_tree, stmt_trees, bound_tree, declarator_tree, decl_tree, value_tree};
-ghost use Rattle.ped_grammar.specs.LimitNumbers.{most_dimensions};
+ghost use Rattle.ped_tree.specs.Grammar.LimitNumbers.{most_dimensions};
 
 use crate::limits::MOST_DIMENSIONS;
 use ped_base::Name;

@@ -7,8 +7,8 @@ use Rattle.std.proofs.lemmas.Bool.{eqb-true, or_cases, or_left, or_right, or_fro
 use Rattle.std.proofs.lemmas.List.{append-nil}
 use Rattle.std.proofs.lemmas.List.Folds.{list_all-append}
 use Rattle.ped_base.specs.Lists.{has_some}
-use Rattle.ped_grammar.specs.Columns.{is_blank}
-use Rattle.ped_grammar.specs.Characters.{is_character, is_printable, is_quoted, is_bad, ends_apart, kept, text_behind, text_of}
+use Rattle.ped_tree.specs.Grammar.Columns.{is_blank}
+use Rattle.ped_tree.specs.Grammar.Characters.{is_character, is_printable, is_quoted, is_bad, ends_apart, kept, text_behind, text_of}
 use Rattle.ped_lines.specs.declared.characters.Quoting.{Quoting}
 use Rattle.ped_lines.specs.declared.characters.Quoting.TheVariants.{Inside, Closed, Apart, Outside}
 use Rattle.ped_lines.specs.Quoting.{is_inside, quoting_by, quoting_of, front_of}

@@ -4,3 +4,4 @@ pub mod OneLine
 pub mod Constants
 pub mod Quoting
 pub mod Trimming
+pub mod PrintedLaws

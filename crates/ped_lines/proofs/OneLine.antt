@@ -2,22 +2,22 @@
 use Rattle.std.proofs.Common.{◌≡◌, ℕ, ◌+◌, ◌-◌, Bool, true, false, List, [], ◌∷◌, ◌++◌, Option, Some, None, map, refl, ap, sym, ◌∙◌, append_assoc}
 use Rattle.std.proofs.lemmas.List.{append-nil, map-append}
 use Rattle.std.proofs.lemmas.List.Concat.{flat_map-cons}
-use Rattle.ped_grammar.specs.Statement as whole
-use Rattle.ped_grammar.specs.Statement.{Note}
-use Rattle.ped_grammar.specs.Columns.{is_comment, is_continuation, label_of, statement_columns}
-use Rattle.ped_grammar.specs.Characters.{is_quoted, has_bad, text_behind, text_of}
-use Rattle.ped_grammar.specs.Grouping.{NumberedLine, comment_at, directive_at, further_lines, joined_columns, notes_within, notes_behind, statement_at, statements_from}
-use Rattle.ped_grammar.specs.LimitNumbers.{most_continuations}
-use Rattle.ped_grammar.specs.LineRefusals.{Initial, Continuation, Orphan, at_line, at_further, at_orphans, in_rest, in_statements}
-use Rattle.ped_grammar.specs.Refusal.{Finding, OpenConstant, refused_if, earliest}
-use Rattle.ped_grammar.proofs.First.{earliest_append}
-use Rattle.ped_grammar.specs.StatementViews.{note_of, statement_of}
+use Rattle.ped_tree.specs.Grammar.Statement as whole
+use Rattle.ped_tree.specs.Grammar.Statement.{Note}
+use Rattle.ped_tree.specs.Grammar.Columns.{is_comment, is_continuation, label_of, statement_columns}
+use Rattle.ped_tree.specs.Grammar.Characters.{is_quoted, has_bad, text_behind, text_of}
+use Rattle.ped_tree.specs.Grammar.Grouping.{NumberedLine, comment_at, directive_at, further_lines, joined_columns, notes_within, notes_behind, statement_at, statements_from}
+use Rattle.ped_tree.specs.Grammar.LimitNumbers.{most_continuations}
+use Rattle.ped_tree.specs.Grammar.LineRefusals.{Initial, Continuation, Orphan, at_line, at_further, at_orphans, in_rest, in_statements}
+use Rattle.ped_tree.specs.Grammar.Refusal.{Finding, OpenConstant, refused_if, earliest}
+use Rattle.ped_tree.proofs.GrammarLaws.First.{earliest_append}
+use Rattle.ped_tree.specs.Grammar.StatementViews.{note_of, statement_of}
 use Rattle.ped_lines.specs.Cutting.{WithColumns, WithLine, left_open, refusals_left, ended, begun, statements_with, cut_with}
-use Rattle.ped_grammar.specs.RefusalViews.{found_of}
+use Rattle.ped_tree.specs.Grammar.RefusalViews.{found_of}
 use Rattle.ped_lines.specs.Quoting.{is_inside, quoting_of, front_of}
 use Rattle.ped_lines.specs.declared.characters.OpenText.{OpenText}
 use Rattle.ped_lines.specs.declared.characters.Quoting.{Quoting}
-use Rattle.ped_grammar.specs.declared.statements.NoteLine.{NoteLine}
+use Rattle.ped_tree.specs.declared.grammar.statements.NoteLine.{NoteLine}
 use Rattle.ped_lines.specs.declared.cutting.OpenStatement.{OpenStatement}
 use Rattle.ped_lines.specs.declared.cutting.Cutting.{Cutting}
 use Rattle.ped_lines.proofs.Quoting.{quoted_alike, text_append, has_bad_alike}

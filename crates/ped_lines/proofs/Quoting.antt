@@ -3,7 +3,7 @@ use Rattle.std.proofs.Common.{◌≡◌, ℕ, ◌+◌, ◌%◌, Bool, true, fals
 use Rattle.std.specs.Prelude.{not, ◌||◌, count_by}
 use Rattle.std.proofs.lemmas.List.{append-nil}
 use Rattle.std.proofs.lemmas.List.Sums.{sum_by-append}
-use Rattle.ped_grammar.specs.Characters.{is_quoted, is_bad, has_bad, kept, text_behind}
+use Rattle.ped_tree.specs.Grammar.Characters.{is_quoted, is_bad, has_bad, kept, text_behind}
 
 -- one more turns an even number odd and an odd one even
 odd_with : (n : ℕ) (b : Bool) → eqb ((n + (0 + cond b 1 0)) % 2) 1 ≡ (if b then not (eqb (n % 2) 1) else eqb (n % 2) 1)

@@ -2,7 +2,7 @@
 use Rattle.std.proofs.Common.{◌≡◌, ℕ, ◌+◌, ◌<◌, Bool, true, false, cond, List, [], ◌∷◌, ◌++◌, length, take, get_or, refl, ap, sym, ◌∙◌, eqb}
 use Rattle.std.specs.Prelude.{◌||◌}
 use Rattle.std.proofs.lemmas.List.{take_more}
-use Rattle.ped_grammar.specs.Grouping.{with_rest, trimmed}
+use Rattle.ped_tree.specs.Grammar.Grouping.{with_rest, trimmed}
 
 -- one blank or carriage return more at the end means nothing
 pub trimmed_more : (front : List ℕ) (c : ℕ) → (eqb c 32 || eqb c 13) ≡ true → trimmed (front ++ c ∷ []) ≡ trimmed front

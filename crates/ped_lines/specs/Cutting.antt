@@ -1,14 +1,14 @@
 -- What is still to come from a text that has been read up to a line. Contracts of private functions alone speak of it.
 use Rattle.std.specs.Prelude.{◌≡◌, ℕ, ◌+◌, List, [], ◌∷◌, ◌++◌, Option, Some, None, map}
-use Rattle.ped_grammar.specs.Statement as whole
-use Rattle.ped_grammar.specs.Statement.{Note}
-use Rattle.ped_grammar.specs.Refusal.{Finding, OpenConstant, refused_if, earliest}
-use Rattle.ped_grammar.specs.Characters.{has_bad, text_behind}
-use Rattle.ped_grammar.specs.Grouping.{further_lines, joined_columns, comment_at, directive_at, notes_within, notes_behind, statements_from}
-use Rattle.ped_grammar.specs.LineRefusals as lines
-use Rattle.ped_grammar.specs.LineRefusals.{at_orphans, in_rest, in_statements}
-use Rattle.ped_grammar.specs.StatementViews.{note_of, statement_of}
-use Rattle.ped_grammar.specs.RefusalViews.{found_of}
+use Rattle.ped_tree.specs.Grammar.Statement as whole
+use Rattle.ped_tree.specs.Grammar.Statement.{Note}
+use Rattle.ped_tree.specs.Grammar.Refusal.{Finding, OpenConstant, refused_if, earliest}
+use Rattle.ped_tree.specs.Grammar.Characters.{has_bad, text_behind}
+use Rattle.ped_tree.specs.Grammar.Grouping.{further_lines, joined_columns, comment_at, directive_at, notes_within, notes_behind, statements_from}
+use Rattle.ped_tree.specs.Grammar.LineRefusals as lines
+use Rattle.ped_tree.specs.Grammar.LineRefusals.{at_orphans, in_rest, in_statements}
+use Rattle.ped_tree.specs.Grammar.StatementViews.{note_of, statement_of}
+use Rattle.ped_tree.specs.Grammar.RefusalViews.{found_of}
 use Rattle.ped_lines.specs.Quoting.{is_inside, quoting_of, front_of}
 use Rattle.ped_lines.specs.declared.characters.OpenText.{OpenText}
 use Rattle.ped_lines.specs.declared.refusals.Role.{Role}

@@ -1,7 +1,7 @@
 -- Why a text has no statements (this project).
 use Rattle.std.specs.Prelude.{◌≡◌, ℕ, List, Some}
-use Rattle.ped_grammar.specs.LineRefusals.{first_line_refusal}
-use Rattle.ped_grammar.specs.RefusalViews.{finding_of}
+use Rattle.ped_tree.specs.Grammar.LineRefusals.{first_line_refusal}
+use Rattle.ped_tree.specs.Grammar.RefusalViews.{finding_of}
 use Rattle.ped_lines.specs.declared.errors.LinesError.{LinesError}
 use Rattle.ped_lines.specs.declared.errors.LinesError.TheVariants.{NoMemory, Refused}
 

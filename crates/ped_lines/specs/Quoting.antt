@@ -1,6 +1,6 @@
 -- Where the next character of a statement stands to its constants. Contracts of private functions alone speak of it.
 use Rattle.std.specs.Prelude.{ℕ, List, [], ◌∷◌, ◌++◌, Bool, true, false, if◌then◌else◌}
-use Rattle.ped_grammar.specs.Characters.{is_quoted, ends_apart}
+use Rattle.ped_tree.specs.Grammar.Characters.{is_quoted, ends_apart}
 use Rattle.ped_lines.specs.declared.characters.Quoting.{Quoting}
 use Rattle.ped_lines.specs.declared.characters.Quoting.TheVariants.{Inside, Closed, Apart, Outside}
 

@@ -3,7 +3,7 @@
 //! does both, so that the constant goes on.
 
 ghost use Rattle.std.specs.Prelude.{◌≡◌, ◌∷◌, [], ◌++◌, ◌||◌, ℕ, List, IfOk, OnOk};
-ghost use Rattle.ped_grammar.specs.Characters as Spec;
+ghost use Rattle.ped_tree.specs.Grammar.Characters as Spec;
 ghost use Rattle.ped_lines.specs.Cutting.{WithColumns};
 ghost use Rattle.ped_lines.specs.Quoting.{is_inside, quoting_of};
 
@@ -36,7 +36,7 @@ pub struct OpenText {
 
 impl OpenText {
     /// The text of no characters, with room for those of a line.
-    #[tactic(auto, unfolding(ped_grammar::specs::Characters::is_quoted, crate::specs::Quoting::quoting_of))]
+    #[tactic(auto, unfolding(ped_tree::specs::Grammar::Characters::is_quoted, crate::specs::Quoting::quoting_of))]
     pub fn new(alloc: Global) -> Result<OpenText, NoMemory>
         ensures text { IfOk result (λ o. o.bytes.items ≡ []) }
         ensures quoting { IfOk result (λ o. quoting_of [] ≡ o.quoting) }

@@ -4,10 +4,10 @@
 ghost use Rattle.std.specs.Prelude.{◌≡◌, ◌+◌, ◌*◌, ◌<◌, ◌≤◌, ◌==◌, ◌||◌, ◌-◌, ◌++◌, not, take, drop, length, replicate, slice_index_or};
 ghost use Rattle.std.specs.List.{list_all, list_any};
 ghost use Rattle.ped_base.specs.Letters.{is_digit};
-ghost use Rattle.ped_grammar.specs.Columns as Spec;
+ghost use Rattle.ped_tree.specs.Grammar.Columns as Spec;
 
 /// Whether the line is a comment or a directive: C, c or * in column 1, or blanks alone to column 72.
-#[tactic(auto, unfolding(ped_grammar::specs::Columns::is_comment))]
+#[tactic(auto, unfolding(ped_tree::specs::Grammar::Columns::is_comment))]
 pub fn is_comment(line: &[u8]) -> bool
     ensures { result ≡ Spec.is_comment line.now }
 {
@@ -22,7 +22,7 @@ fn has_comment_mark(line: &[u8]) -> bool
 }
 
 /// Whether a comment is a directive: $PED in columns 2 to 5, in any case.
-#[tactic(auto, unfolding(ped_grammar::specs::Columns::is_directive))]
+#[tactic(auto, unfolding(ped_tree::specs::Grammar::Columns::is_directive))]
 pub fn is_directive(line: &[u8]) -> bool
     ensures { result ≡ Spec.is_directive line.now }
 {
@@ -33,7 +33,7 @@ pub fn is_directive(line: &[u8]) -> bool
 }
 
 /// Whether a line that is no comment continues a statement: column 6 is neither blank, 0 nor a tab.
-#[tactic(auto, unfolding(ped_grammar::specs::Columns::is_continuation))]
+#[tactic(auto, unfolding(ped_tree::specs::Grammar::Columns::is_continuation))]
 pub fn is_continuation(line: &[u8]) -> bool
     ensures { result ≡ Spec.is_continuation line.now }
 {
@@ -42,7 +42,7 @@ pub fn is_continuation(line: &[u8]) -> bool
 }
 
 /// The label of an initial line, none where it has no digit but 0.
-#[tactic(auto, unfolding(ped_grammar::specs::Columns::label_of))]
+#[tactic(auto, unfolding(ped_tree::specs::Grammar::Columns::label_of))]
 pub fn label_of(line: &[u8]) -> Option<u32>
     ensures { result ≡ Spec.label_of line.now }
 {
@@ -50,7 +50,7 @@ pub fn label_of(line: &[u8]) -> Option<u32>
     if number == 0 { None } else { Some(number) }
 }
 
-#[tactic(auto, unfolding(ped_grammar::specs::Columns::label_number))]
+#[tactic(auto, unfolding(ped_tree::specs::Grammar::Columns::label_number))]
 fn label_number(line: &[u8]) -> u32
     ensures { result ≡ Spec.label_number line.now }
 {
@@ -61,7 +61,7 @@ fn label_number(line: &[u8]) -> u32
     with_digit(four, column(line, 5))
 }
 
-#[tactic(auto, unfolding(ped_grammar::specs::Columns::with_digit))]
+#[tactic(auto, unfolding(ped_tree::specs::Grammar::Columns::with_digit))]
 fn with_digit(number: u32, c: u8) -> u32
     requires { number < 10000 }
     ensures value { result ≡ Spec.with_digit number c }
@@ -75,7 +75,7 @@ fn with_digit(number: u32, c: u8) -> u32
 }
 
 /// Whether an initial line's columns 1 to 5 are neither blank nor a label.
-#[tactic(auto, unfolding(ped_grammar::specs::Columns::has_bad_label))]
+#[tactic(auto, unfolding(ped_tree::specs::Grammar::Columns::has_bad_label))]
 pub fn has_bad_label(line: &[u8]) -> bool
     ensures { result ≡ Spec.has_bad_label line.now }
 {
@@ -96,7 +96,7 @@ fn has_digit(columns: &[u8]) -> bool
 }
 
 /// Whether a continuation line's columns 1 to 5 are not blank.
-#[tactic(auto, unfolding(ped_grammar::specs::Columns::has_label_field))]
+#[tactic(auto, unfolding(ped_tree::specs::Grammar::Columns::has_label_field))]
 pub fn has_label_field(line: &[u8]) -> bool
     ensures { result ≡ Spec.has_label_field line.now }
 {
@@ -104,7 +104,7 @@ pub fn has_label_field(line: &[u8]) -> bool
 }
 
 /// Whether there is a tab in columns 1 to 72.
-#[tactic(auto, unfolding(ped_grammar::specs::Columns::has_tab))]
+#[tactic(auto, unfolding(ped_tree::specs::Grammar::Columns::has_tab))]
 pub fn has_tab(line: &[u8]) -> bool
     ensures { result ≡ Spec.has_tab line.now }
 {
@@ -112,7 +112,7 @@ pub fn has_tab(line: &[u8]) -> bool
 }
 
 /// Columns 7 to 72.
-#[tactic(auto, unfolding(ped_grammar::specs::Columns::statement_columns))]
+#[tactic(auto, unfolding(ped_tree::specs::Grammar::Columns::statement_columns))]
 pub fn statement_columns(line: &[u8]) -> [u8; 66]
     ensures { result ≡ Spec.statement_columns line.now }
 {

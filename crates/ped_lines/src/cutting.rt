@@ -3,13 +3,13 @@
 //! are looked for at the same time; the first may stand at a statement whose last line is still to come.
 
 ghost use Rattle.std.specs.Prelude.{◌≡◌, ◌-◌, ◌++◌, [], ℕ, List, None, map, true, false, IfOk, IfErr};
-ghost use Rattle.ped_grammar.specs.Columns as Columns;
-ghost use Rattle.ped_grammar.specs.Grouping.{statements_of};
-ghost use Rattle.ped_grammar.specs.LineRefusals.{first_line_refusal};
-ghost use Rattle.ped_grammar.specs.Refusal.{earliest};
-ghost use Rattle.ped_grammar.specs.StatementViews.{statement_of, statements_view};
+ghost use Rattle.ped_tree.specs.Grammar.Columns as Columns;
+ghost use Rattle.ped_tree.specs.Grammar.Grouping.{statements_of};
+ghost use Rattle.ped_tree.specs.Grammar.LineRefusals.{first_line_refusal};
+ghost use Rattle.ped_tree.specs.Grammar.Refusal.{earliest};
+ghost use Rattle.ped_tree.specs.Grammar.StatementViews.{statement_of, statements_view};
 ghost use Rattle.ped_lines.specs.Errors.{IsErrorOf};
-ghost use Rattle.ped_grammar.specs.RefusalViews.{found_of};
+ghost use Rattle.ped_tree.specs.Grammar.RefusalViews.{found_of};
 ghost use Rattle.ped_lines.specs.Cutting.{left_open, cut_with, ended, ended_statement, WithColumns, WithLine};
 
 use crate::characters::OpenText;
@@ -19,7 +19,7 @@ use crate::notes::push_note;
 use crate::refusals::{Role, at_line};
 use crate::text_lines::first_line;
 use ped_base::{Listed, NoMemory};
-use ped_grammar::{NoteLine, Refusal, RefusalKind, Statement, Statements, standing};
+use ped_tree::grammar::{NoteLine, Refusal, RefusalKind, Statement, Statements, standing};
 use std::alloc::Global;
 
 /// The most continuation lines of a statement (section 3.3).

@@ -3,7 +3,7 @@
 ghost use Rattle.std.specs.Prelude.{◌≡◌};
 ghost use Rattle.ped_lines.specs.declared.errors.LinesError.TheVariants.{NoMemory};
 
-use ped_grammar::Refusal;
+use ped_tree::grammar::Refusal;
 use std::alloc::AllocError;
 use thiserror::Error;
 

@@ -7,6 +7,7 @@ mod columns;
 mod cutting;
 mod errors;
 mod notes;
+pub mod printed;
 mod refusals;
 mod text_lines;
 

@@ -2,17 +2,17 @@
 
 ghost use Rattle.std.specs.Prelude.{◌≡◌, ◌++◌, ◌==◌, ◌||◌, map, filter, not, IfOk, OnOk};
 ghost use Rattle.std.specs.Char.{to_ascii_uppercase};
-ghost use Rattle.ped_grammar.specs.Columns as Columns;
-ghost use Rattle.ped_grammar.specs.Grouping as Spec;
-ghost use Rattle.ped_grammar.specs.StatementViews.{note_of};
+ghost use Rattle.ped_tree.specs.Grammar.Columns as Columns;
+ghost use Rattle.ped_tree.specs.Grammar.Grouping as Spec;
+ghost use Rattle.ped_tree.specs.Grammar.StatementViews.{note_of};
 
 use crate::columns::{behind, front, is_directive};
 use ped_base::{Bytes, Listed, NoMemory};
-use ped_grammar::NoteLine;
+use ped_tree::grammar::NoteLine;
 use std::alloc::Global;
 
 /// Adds the note on a line to the comments or to the directives.
-#[tactic(auto, unfolding(ped_grammar::specs::Grouping::comment_at, ped_grammar::specs::Grouping::directive_at))]
+#[tactic(auto, unfolding(ped_tree::specs::Grammar::Grouping::comment_at, ped_tree::specs::Grammar::Grouping::directive_at))]
 pub fn push_note(
     alloc: Global,
     comments: &mut Vec<NoteLine>,
@@ -33,7 +33,7 @@ pub fn push_note(
     Ok(())
 }
 
-#[tactic(auto, unfolding(ped_grammar::specs::Grouping::directive_text))]
+#[tactic(auto, unfolding(ped_tree::specs::Grammar::Grouping::directive_text))]
 fn directive_text(alloc: Global, line: &[u8]) -> Result<Bytes, NoMemory>
     ensures { IfOk result (λ text. text ≡ Spec.directive_text line.now) }
 {
@@ -53,7 +53,7 @@ fn capitals(alloc: Global, text: &[u8]) -> Result<Vec<u8>, NoMemory>
     Ok(kept)
 }
 
-#[tactic(auto, unfolding(ped_grammar::specs::Grouping::comment_text))]
+#[tactic(auto, unfolding(ped_tree::specs::Grammar::Grouping::comment_text))]
 fn comment_text(line: &[u8]) -> &[u8]
     ensures { result.now ≡ Spec.comment_text line.now }
 {

@@ -1,15 +1,15 @@
 //! Refusals of lines: which stand at a line, and which of those that were found is the first.
 
 ghost use Rattle.std.specs.Prelude.{◌≡◌, ℕ, List};
-ghost use Rattle.ped_grammar.specs.Characters as Characters;
-ghost use Rattle.ped_grammar.specs.Columns as Columns;
-ghost use Rattle.ped_grammar.specs.LineRefusals as Spec;
-ghost use Rattle.ped_grammar.specs.Refusal.{earliest};
-ghost use Rattle.ped_grammar.specs.RefusalViews.{found_of};
+ghost use Rattle.ped_tree.specs.Grammar.Characters as Characters;
+ghost use Rattle.ped_tree.specs.Grammar.Columns as Columns;
+ghost use Rattle.ped_tree.specs.Grammar.LineRefusals as Spec;
+ghost use Rattle.ped_tree.specs.Grammar.Refusal.{earliest};
+ghost use Rattle.ped_tree.specs.Grammar.RefusalViews.{found_of};
 ghost use Rattle.ped_lines.specs.Cutting.{role_of};
 
 use crate::columns::{has_bad_label, has_label_field, has_tab};
-use ped_grammar::{Refusal, RefusalKind, standing};
+use ped_tree::grammar::{Refusal, RefusalKind, standing};
 
 /// How a line that is no comment stands to statements.
 #[derive(Clone, Copy)]
@@ -24,7 +24,7 @@ pub enum Role {
 
 /// The first of what was found and what stands at a line, of whose characters it is known whether some
 /// may not stand there.
-#[tactic(auto, unfolding(ped_grammar::specs::LineRefusals::at_line), using(ped_grammar::proofs::First::earliest_append))]
+#[tactic(auto, unfolding(ped_tree::specs::Grammar::LineRefusals::at_line), using(ped_tree::proofs::GrammarLaws::First::earliest_append))]
 pub fn at_line(
     found: Option<Refusal>,
     number: u64,

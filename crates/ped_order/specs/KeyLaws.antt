@@ -6,7 +6,7 @@ use Rattle.std.proofs.lemmas.Slice.Eq.{slice_eq-Decides}
 use Rattle.std.specs.Cmp.{IsEquivalence, IsPartialEquivalence, decided, partial_equiv_from_equiv, unsigned_Decides}
 use Rattle.std.specs.Cmp.Lexicographic.{pointwise}
 use Rattle.ped_store.specs.Cells.{Iteration, same_iteration, same_cell}
-use Rattle.ped_acts.proofs.SameCells.{cell_is, is_cell}
+use Rattle.ped_laws.proofs.ActLaws.SameCells.{cell_is, is_cell}
 use Rattle.ped_order.specs.Keys.{Key, same_key, key_writes}
 
 iteration_decides : (i j : Iteration) → Decides (same_iteration i j) (i ≡ j)

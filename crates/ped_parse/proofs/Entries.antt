@@ -1,15 +1,15 @@
 -- Statements that are read one behind the other.
 use Rattle.std.proofs.Common.{◌≡◌, List, [], ◌∷◌, ◌++◌, map, refl, sym, subst, ◌∙◌}
 use Rattle.std.proofs.lemmas.List.{map_push}
-use Rattle.ped_grammar.specs.Statement.{Statement}
-use Rattle.ped_grammar.specs.Items.{Entry}
-use Rattle.ped_grammar.specs.Reading.{AreEntries}
-use Rattle.ped_expressions.specs.ExpressionReading.{saturated}
+use Rattle.ped_tree.specs.Grammar.Statement.{Statement}
+use Rattle.ped_tree.specs.Grammar.Items.{Entry}
+use Rattle.ped_tree.specs.Grammar.Reading.{AreEntries}
+use Rattle.ped_statements.specs.ped_expressions.specs.ExpressionReading.{saturated}
 use Rattle.ped_statements.specs.Saturated.{IsReadAs, entry_with_literals}
-use Rattle.ped_grammar.specs.StatementViews.{statement_of}
-use Rattle.ped_grammar.specs.declared.statements.Statement as lines
-use Rattle.ped_grammar.specs.ItemViews.{entry_of}
-use Rattle.ped_grammar.specs.declared.items.Entry as items
+use Rattle.ped_tree.specs.Grammar.StatementViews.{statement_of}
+use Rattle.ped_tree.specs.declared.grammar.statements.Statement as lines
+use Rattle.ped_tree.specs.Grammar.ItemViews.{entry_of}
+use Rattle.ped_tree.specs.declared.grammar.items.Entry as items
 use Rattle.ped_parse.specs.Entries.{AreReadAs}
 
 entries_more : (ss : List Statement) (es : List Entry) (s : Statement) (e : Entry) → AreEntries ss es → AreEntries (s ∷ []) (e ∷ []) → AreEntries (ss ++ s ∷ []) (es ++ e ∷ [])

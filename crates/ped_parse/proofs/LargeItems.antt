@@ -3,13 +3,13 @@ use Rattle.std.proofs.Common.{◌≡◌, ℕ, Bool, true, false, List, [], ◌�
 use Rattle.std.specs.Prelude.{◌||◌, nat_lt}
 use Rattle.std.specs.List.{list_any}
 use Rattle.ped_tree.specs.Tree.{ExprTree, ItemTree, Value, Text, Head, StmtTree, StmtTrees, Assign, If, Do, Print, Read, Stop, Comment, no_stmts, more_stmts, BoundTree, DeclaratorTree, DeclTree, Program, Implicit, Integer, Dimension, Parameter, Save, Remark}
-use Rattle.ped_grammar.specs.Literals.{has_large_literal, cond_has_large_literal, item_has_large_literal, head_has_large_literal, stmt_has_large_literal, stmts_have_large_literal, declarator_has_large_literal, decl_has_large_literal}
-use Rattle.ped_grammar.specs.Items.{Item, declares, saves_all, does, continues, logical_if, block_if, else_if, else_line, end_if, begins_do, keeps_private, ends_program, Entry}
-use Rattle.ped_grammar.specs.Contexts.{Context, open_variables}
-use Rattle.ped_grammar.specs.LimitNumbers.{most_dimensions}
-use Rattle.ped_grammar.specs.ProgramRefusals.{listed_stmts, private_behind, has_eight_dimensions, is_too_large, are_too_many, is_too_deep, has_many_references, is_too_long, passes_limit}
-use Rattle.ped_expressions.specs.ExpressionReading.{saturated, with_literals}
-use Rattle.ped_expressions.proofs.Large.{neither, large_saturated, cond_large_saturated, small_saturated, cond_small_saturated}
+use Rattle.ped_tree.specs.Grammar.Literals.{has_large_literal, cond_has_large_literal, item_has_large_literal, head_has_large_literal, stmt_has_large_literal, stmts_have_large_literal, declarator_has_large_literal, decl_has_large_literal}
+use Rattle.ped_tree.specs.Grammar.Items.{Item, declares, saves_all, does, continues, logical_if, block_if, else_if, else_line, end_if, begins_do, keeps_private, ends_program, Entry}
+use Rattle.ped_tree.specs.Grammar.Contexts.{Context, open_variables}
+use Rattle.ped_tree.specs.Grammar.LimitNumbers.{most_dimensions}
+use Rattle.ped_tree.specs.Grammar.ProgramRefusals.{listed_stmts, private_behind, has_eight_dimensions, is_too_large, are_too_many, is_too_deep, has_many_references, is_too_long, passes_limit}
+use Rattle.ped_statements.specs.ped_expressions.specs.ExpressionReading.{saturated, with_literals}
+use Rattle.ped_statements.specs.ped_expressions.proofs.Large.{neither, large_saturated, cond_large_saturated, small_saturated, cond_small_saturated}
 use Rattle.ped_statements.specs.Saturated.{item_with_literals, head_with_literals, stmt_with_literals, stmts_with_literals, bound_with_literals, declarator_with_literals, value_with_literals, decl_with_literals, says_with_literals}
 use Rattle.ped_parse.proofs.OtherLiterals.{both, any_with, length_with, listed_with}
 

@@ -1,13 +1,13 @@
 -- Each text has a tree or a first refusal, one of them, and not both.
 use Rattle.std.proofs.Common.{◌≡◌, ◌⊎◌, inl, inr, ℕ, List, [], ◌∷◌, Some, None, Option, refl}
 use Rattle.ped_tree.specs.Tree.{ProgramTree}
-use Rattle.ped_grammar.specs.Refusal.{Finding}
-use Rattle.ped_grammar.specs.Statement.{Statement}
-use Rattle.ped_grammar.specs.Grouping.{statements_of}
-use Rattle.ped_grammar.specs.LineRefusals.{first_line_refusal}
-use Rattle.ped_grammar.specs.Items.{Entry}
-use Rattle.ped_grammar.specs.Reading.{AreEntries, Refuses, in_lines, Reads}
-use Rattle.ped_grammar.proofs.OneReading.{refused_once, not_both}
+use Rattle.ped_tree.specs.Grammar.Refusal.{Finding}
+use Rattle.ped_tree.specs.Grammar.Statement.{Statement}
+use Rattle.ped_tree.specs.Grammar.Grouping.{statements_of}
+use Rattle.ped_tree.specs.Grammar.LineRefusals.{first_line_refusal}
+use Rattle.ped_tree.specs.Grammar.Items.{Entry}
+use Rattle.ped_tree.specs.Grammar.Reading.{AreEntries, Refuses, in_lines, Reads}
+use Rattle.ped_tree.proofs.GrammarLaws.OneReading.{refused_once, not_both}
 use Rattle.ped_parse.specs.Verdicts.{HasOneTree, HasOneRefusal}
 use Rattle.ped_statements.proofs.OneReading.{reading_is}
 use Rattle.ped_statements.proofs.OneStatement.{one_item}

@@ -4,16 +4,16 @@ use Rattle.std.specs.Prelude.{◌||◌, not}
 use Rattle.std.specs.List.{list_any, flat_map}
 use Rattle.ped_tree.specs.Tree.{ExprTree, ExprTrees, Int, Var, Element, Neg, Add, Sub, Mul, Div, Pow, Call, no_exprs, more_exprs, CondTree, Rel, Not, And, Or, ItemTree, Value, Text, Head, StmtTree, StmtTrees, Assign, If, Do, Print, Read, Stop, Comment, no_stmts, more_stmts, BoundTree, DeclaratorTree, DeclTree, Program, Implicit, Integer, Dimension, Parameter, Save, Remark}
 use Rattle.ped_tree.specs.Numbering.{statement_count, statements_count}
-use Rattle.ped_grammar.specs.Items.{Item, declares, saves_all, does, continues, logical_if, block_if, else_if, else_line, end_if, begins_do, keeps_private, ends_program}
+use Rattle.ped_tree.specs.Grammar.Items.{Item, declares, saves_all, does, continues, logical_if, block_if, else_if, else_line, end_if, begins_do, keeps_private, ends_program}
 use Rattle.ped_tree.specs.NamesIn.{expr_names, exprs_names, cond_names, item_names, head_names, stmt_names, stmts_names, declarator_names, decl_names}
-use Rattle.ped_grammar.specs.Statement.{Statement}
-use Rattle.ped_grammar.specs.Occurrences.{names_in, do_variables, constants_of, is_end}
+use Rattle.ped_tree.specs.Grammar.Statement.{Statement}
+use Rattle.ped_tree.specs.Grammar.Occurrences.{names_in, do_variables, constants_of, is_end}
 use Rattle.ped_tree.specs.Accesses.{constants_in}
-use Rattle.ped_grammar.specs.Contexts.{Block, decl_rank, rank, numbered_in, is_do, is_stop, may_end, is_save, saves_list, saves_without, blocks_behind}
-use Rattle.ped_grammar.specs.ProgramForms.{line_count}
-use Rattle.ped_grammar.specs.ProgramRefusals.{lacks_if, is_late_private, leaves_open, scalar_of, assigned_by, listed_stmts, assigned_in, private_in, stops}
-use Rattle.ped_expressions.specs.ExpressionReading.{with_literals, all_with_literals}
-use Rattle.ped_expressions.specs.ConditionReading.{cond_with_literals}
+use Rattle.ped_tree.specs.Grammar.Contexts.{Block, decl_rank, rank, numbered_in, is_do, is_stop, may_end, is_save, saves_list, saves_without, blocks_behind}
+use Rattle.ped_tree.specs.Grammar.ProgramForms.{line_count}
+use Rattle.ped_tree.specs.Grammar.ProgramRefusals.{lacks_if, is_late_private, leaves_open, scalar_of, assigned_by, listed_stmts, assigned_in, private_in, stops}
+use Rattle.ped_statements.specs.ped_expressions.specs.ExpressionReading.{with_literals, all_with_literals}
+use Rattle.ped_statements.specs.ped_expressions.specs.ConditionReading.{cond_with_literals}
 use Rattle.ped_statements.specs.Saturated.{item_with_literals, head_with_literals, stmt_with_literals, stmts_with_literals, bound_with_literals, declarator_with_literals, value_with_literals, decl_with_literals, says_with_literals}
 
 pub both : {A B C : Type 0} (f : A → B → C) {a b : A} {c d : B} → a ≡ b → c ≡ d → f a c ≡ f b d

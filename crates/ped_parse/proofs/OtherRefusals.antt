@@ -2,15 +2,15 @@
 use Rattle.std.proofs.Common.{◌≡◌, ℕ, ◌+◌, Bool, true, false, cond, List, [], ◌∷◌, ◌++◌, map, max, Option, Some, None, refl, ap, ◌∙◌}
 use Rattle.std.specs.Prelude.{◌||◌, ◌&&◌, not, nat_lt, filter}
 use Rattle.std.specs.List.{flat_map}
-use Rattle.ped_grammar.specs.Refusal.{Finding, Syntax, NotInProfile, OpenBlock, BadTerminal, IndexAssigned, StopPlace, Limit, refused_if}
-use Rattle.ped_grammar.specs.Statement.{Note, Statement, Statements}
-use Rattle.ped_grammar.specs.Items.{Item, Reading, says, outside_profile, no_form, Entry}
-use Rattle.ped_grammar.specs.Occurrences.{of_reading, names_in, do_variables, constants_of, rejected_names, entry_names, saved_names, is_rejection, is_end_entry, up_to_end, saved_among}
+use Rattle.ped_tree.specs.Grammar.Refusal.{Finding, Syntax, NotInProfile, OpenBlock, BadTerminal, IndexAssigned, StopPlace, Limit, refused_if}
+use Rattle.ped_tree.specs.Grammar.Statement.{Note, Statement, Statements}
+use Rattle.ped_tree.specs.Grammar.Items.{Item, Reading, says, outside_profile, no_form, Entry}
+use Rattle.ped_tree.specs.Grammar.Occurrences.{of_reading, names_in, do_variables, constants_of, rejected_names, entry_names, saved_names, is_rejection, is_end_entry, up_to_end, saved_among}
 use Rattle.ped_base.specs.Lists.{is_among}
 use Rattle.ped_tree.specs.NamesIn.{first_occurrences}
-use Rattle.ped_grammar.specs.Contexts.{OpenLoop, Context, at_start, is_do, may_end, open_loops, open_variables, has_do, behind_item, behind_reading, behind, behind_all}
-use Rattle.ped_grammar.specs.ProgramRefusals.{where_it_says, is_left_out, is_out_of_order, is_misplaced, is_behind_end, breaks_syntax, leaves_open, closed, ends_badly, assigned_in, private_in, meets, assigns_index, at_private, stops, private_behind, loop_depth, passes_limit, is_parted, at_directives, at_statement, at_statements, at_end, program_refusals}
-use Rattle.ped_expressions.specs.ExpressionReading.{saturated}
+use Rattle.ped_tree.specs.Grammar.Contexts.{OpenLoop, Context, at_start, is_do, may_end, open_loops, open_variables, has_do, behind_item, behind_reading, behind, behind_all}
+use Rattle.ped_tree.specs.Grammar.ProgramRefusals.{where_it_says, is_left_out, is_out_of_order, is_misplaced, is_behind_end, breaks_syntax, leaves_open, closed, ends_badly, assigned_in, private_in, meets, assigns_index, at_private, stops, private_behind, loop_depth, passes_limit, is_parted, at_directives, at_statement, at_statements, at_end, program_refusals}
+use Rattle.ped_statements.specs.ped_expressions.specs.ExpressionReading.{saturated}
 use Rattle.ped_statements.specs.Saturated.{says_with_literals, reading_with_literals, entry_with_literals}
 use Rattle.ped_parse.proofs.OtherLiterals.{flat_with, names_with, do_variables_with, constants_with, rank_with, numbered_with, is_do_with, may_end_with, saves_list_with, saves_without_with, lacks_if_with, late_with, leaves_with, assigned_with, private_with, stops_with, blocks_with, is_end_with}
 use Rattle.ped_parse.proofs.LargeItems.{limit_same}

@@ -3,13 +3,13 @@ use Rattle.std.proofs.Common.{◌≡◌, ℕ, List, None}
 use Rattle.std.specs.Prelude.{Result, Ok, Err, IfOk}
 use Rattle.ped_tree.specs.Views.{program_tree}
 use Rattle.ped_tree.specs.declared.declarations.Program.{Program}
-use Rattle.ped_grammar.specs.Grouping.{statements_of}
-use Rattle.ped_grammar.specs.LineRefusals.{first_line_refusal}
-use Rattle.ped_grammar.specs.Reading.{Reads}
-use Rattle.ped_grammar.specs.StatementViews.{statements_view}
-use Rattle.ped_grammar.specs.declared.statements.Statements.{Statements}
-use Rattle.ped_printed_programs.specs.PrintedPrograms.{PrintsItself}
-use Rattle.ped_printed_programs.proofs.PrintedProgram.{prints_itself}
+use Rattle.ped_tree.specs.Grammar.Grouping.{statements_of}
+use Rattle.ped_tree.specs.Grammar.LineRefusals.{first_line_refusal}
+use Rattle.ped_tree.specs.Grammar.Reading.{Reads}
+use Rattle.ped_tree.specs.Grammar.StatementViews.{statements_view}
+use Rattle.ped_tree.specs.declared.grammar.statements.Statements.{Statements}
+use Rattle.ped_printed.specs.Programs.PrintedPrograms.{PrintsItself}
+use Rattle.ped_printed.proofs.ProgramLaws.PrintedProgram.{prints_itself}
 use Rattle.ped_parse.specs.declared.refusals.ReadRefusal.{ReadRefusal}
 
 pub printed_here : (r : Result Program ReadRefusal) (cut : Statements) (text : List ℕ)

@@ -1,25 +1,25 @@
 -- What is read of the statements of a text, where literals are saturated, is refused as they are, and is what they say where nothing is refused.
 use Rattle.std.proofs.Common.{◌≡◌, ℕ, false, List, [], ◌∷◌, map, Option, Some, None, refl, sym, ap, subst, ◌∙◌}
 use Rattle.ped_tree.specs.Tree.{ProgramTree}
-use Rattle.ped_grammar.specs.Refusal.{Finding, first_of}
-use Rattle.ped_grammar.specs.Statement.{Statements}
-use Rattle.ped_grammar.specs.Grouping.{statements_of}
-use Rattle.ped_grammar.specs.LineRefusals.{first_line_refusal}
-use Rattle.ped_grammar.specs.Items.{Reading, says, outside_profile, no_form, Entry}
-use Rattle.ped_grammar.specs.Occurrences.{saved_names}
-use Rattle.ped_grammar.specs.Contexts.{Context, at_start, behind, behind_all}
-use Rattle.ped_grammar.specs.ProgramForms.{first_lines}
-use Rattle.ped_grammar.specs.ProgramRefusals.{where_it_says, passes_limit, at_statement, at_statements, at_end, program_refusals}
-use Rattle.ped_grammar.specs.Reading.{AreEntries, IsCutInto, first_program_refusal, Refuses, in_statements, Reads, HasFirstLines}
-use Rattle.ped_expressions.specs.ExpressionReading.{saturated}
-use Rattle.ped_expressions.proofs.Large.{neither}
+use Rattle.ped_tree.specs.Grammar.Refusal.{Finding, first_of}
+use Rattle.ped_tree.specs.Grammar.Statement.{Statements}
+use Rattle.ped_tree.specs.Grammar.Grouping.{statements_of}
+use Rattle.ped_tree.specs.Grammar.LineRefusals.{first_line_refusal}
+use Rattle.ped_tree.specs.Grammar.Items.{Reading, says, outside_profile, no_form, Entry}
+use Rattle.ped_tree.specs.Grammar.Occurrences.{saved_names}
+use Rattle.ped_tree.specs.Grammar.Contexts.{Context, at_start, behind, behind_all}
+use Rattle.ped_tree.specs.Grammar.ProgramForms.{first_lines}
+use Rattle.ped_tree.specs.Grammar.ProgramRefusals.{where_it_says, passes_limit, at_statement, at_statements, at_end, program_refusals}
+use Rattle.ped_tree.specs.Grammar.Reading.{AreEntries, IsCutInto, first_program_refusal, Refuses, in_statements, Reads, HasFirstLines}
+use Rattle.ped_statements.specs.ped_expressions.specs.ExpressionReading.{saturated}
+use Rattle.ped_statements.specs.ped_expressions.proofs.Large.{neither}
 use Rattle.ped_statements.specs.Saturated.{reading_with_literals, entry_with_literals}
-use Rattle.ped_grammar.specs.StatementViews.{note_of, statement_of, statements_view}
-use Rattle.ped_grammar.specs.declared.statements.Statements as lines
-use Rattle.ped_grammar.specs.ItemViews.{entry_of}
-use Rattle.ped_grammar.specs.declared.items.Entry as items
-use Rattle.ped_grammar.specs.RefusalViews.{finding_of, found_of}
-use Rattle.ped_grammar.specs.declared.refusals.Refusal.{Refusal}
+use Rattle.ped_tree.specs.Grammar.StatementViews.{note_of, statement_of, statements_view}
+use Rattle.ped_tree.specs.declared.grammar.statements.Statements as lines
+use Rattle.ped_tree.specs.Grammar.ItemViews.{entry_of}
+use Rattle.ped_tree.specs.declared.grammar.items.Entry as items
+use Rattle.ped_tree.specs.Grammar.RefusalViews.{finding_of, found_of}
+use Rattle.ped_tree.specs.declared.grammar.refusals.Refusal.{Refusal}
 use Rattle.ped_blocks.specs.Machine.{nothing_built, take_entries, built_program}
 use Rattle.ped_blocks.proofs.BlocksFound.{none_stands, left_empty, right_empty, first_none, built_is_read}
 use Rattle.ped_parse.specs.Entries.{AreReadAs}

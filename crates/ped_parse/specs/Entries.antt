@@ -1,9 +1,9 @@
 -- What is read of the statements of a text. Contracts of private functions alone speak of it.
 use Rattle.std.specs.Prelude.{◌≡◌, List, map}
-use Rattle.ped_grammar.specs.Statement.{Statement}
-use Rattle.ped_grammar.specs.Items.{Entry}
-use Rattle.ped_grammar.specs.Reading.{AreEntries}
-use Rattle.ped_expressions.specs.ExpressionReading.{saturated}
+use Rattle.ped_tree.specs.Grammar.Statement.{Statement}
+use Rattle.ped_tree.specs.Grammar.Items.{Entry}
+use Rattle.ped_tree.specs.Grammar.Reading.{AreEntries}
+use Rattle.ped_statements.specs.ped_expressions.specs.ExpressionReading.{saturated}
 use Rattle.ped_statements.specs.Saturated.{entry_with_literals}
 
 -- the statements with what they say, where a literal that 32 bits don't hold is the greatest number that they hold

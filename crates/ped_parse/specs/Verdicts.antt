@@ -1,8 +1,8 @@
 -- That a text has one tree and no refusal, or one refusal and no tree (this project).
 use Rattle.std.specs.Prelude.{◌≡◌, ℕ, List}
 use Rattle.ped_tree.specs.Tree.{ProgramTree}
-use Rattle.ped_grammar.specs.Refusal.{Finding}
-use Rattle.ped_grammar.specs.Reading.{Reads, Refuses}
+use Rattle.ped_tree.specs.Grammar.Refusal.{Finding}
+use Rattle.ped_tree.specs.Grammar.Reading.{Reads, Refuses}
 
 -- the text reads as this tree and as no other, and isn't refused
 pub record HasOneTree (text : List ℕ) : Type 0 where

@@ -2,25 +2,25 @@
 
 ghost use Rattle.std.specs.Prelude.{◌≡◌, ℕ, List, None, IfOk, IfErr, map};
 ghost use Rattle.ped_tree.specs.Views.{program_tree};
-ghost use Rattle.ped_grammar.specs.Grouping.{statements_of};
-ghost use Rattle.ped_grammar.specs.LineRefusals.{first_line_refusal};
-ghost use Rattle.ped_grammar.specs.Reading.{Reads, HasFirstLines};
-ghost use Rattle.ped_grammar.specs.StatementViews.{statement_of, statements_view};
-ghost use Rattle.ped_expressions.specs.ExpressionReading.{saturated};
+ghost use Rattle.ped_tree.specs.Grammar.Grouping.{statements_of};
+ghost use Rattle.ped_tree.specs.Grammar.LineRefusals.{first_line_refusal};
+ghost use Rattle.ped_tree.specs.Grammar.Reading.{Reads, HasFirstLines};
+ghost use Rattle.ped_tree.specs.Grammar.StatementViews.{statement_of, statements_view};
+ghost use Rattle.ped_statements.specs.ped_expressions.specs.ExpressionReading.{saturated};
 ghost use Rattle.ped_statements.specs.Saturated.{IsReadAs};
-ghost use Rattle.ped_grammar.specs.ItemViews.{entry_of};
-ghost use Rattle.ped_printed_programs.specs.PrintedPrograms.{PrintsItself};
+ghost use Rattle.ped_tree.specs.Grammar.ItemViews.{entry_of};
+ghost use Rattle.ped_printed.specs.Programs.PrintedPrograms.{PrintsItself};
 ghost use Rattle.ped_parse.specs.Entries.{AreReadAs};
 ghost use Rattle.ped_parse.specs.Refusals.{IsRefusalOf};
 
 use crate::refusals::ReadRefusal;
 use ped_base::NoMemory;
 use ped_blocks::program_of;
-use ped_grammar::{Entry, Statement, Statements};
 use ped_lines::{LinesError, statements};
 use ped_refusals::{first_refusal, saved_names};
 use ped_statements::read_statement;
 use ped_tree::Program;
+use ped_tree::grammar::{Entry, Statement, Statements};
 use std::alloc::Global;
 
 /// The program that the text reads as, with the first lines of its declarations, its numbered statements

@@ -4,7 +4,7 @@ ghost use Rattle.std.specs.Prelude.{◌≡◌};
 ghost use Rattle.ped_parse.specs.declared.refusals.ReadRefusal.TheVariants as variant;
 
 use ped_base::NoMemory;
-use ped_grammar::Refusal;
+use ped_tree::grammar::Refusal;
 use thiserror::Error;
 
 /// Why a text isn't read.

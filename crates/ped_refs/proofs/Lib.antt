@@ -13,3 +13,4 @@ pub mod GroupMembers
 pub mod PairPlaces
 pub mod PairSteps
 pub mod NextPairs
+pub mod SizeLaws

@@ -5,9 +5,9 @@ use Rattle.ped_tree.specs.Tree.{StmtTree, StmtTrees, Assign, If, Do, Print, Read
 use Rattle.ped_tree.specs.Numbering.{statement_count, statements_count}
 use Rattle.ped_tree.specs.Accesses.{own_accesses, constant_names}
 use Rattle.ped_tree.specs.Nests.{Loop, indices_of}
-use Rattle.ped_names.specs.Collecting.{HaveSame, with_names}
-use Rattle.ped_names.proofs.Collected.{among_collected}
-use Rattle.ped_names.proofs.SameAccesses.{same_accesses}
+use Rattle.ped_tree.specs.Names.Collecting.{HaveSame, with_names}
+use Rattle.ped_tree.proofs.NameLaws.Collected.{among_collected}
+use Rattle.ped_tree.proofs.NameLaws.SameAccesses.{same_accesses}
 use Rattle.ped_refs.specs.References.{numbered_accesses, statement_references, statements_references, references}
 
 module _ (c d : List (List ℕ)) (h : HaveSame c d) where

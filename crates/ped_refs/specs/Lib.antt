@@ -7,3 +7,4 @@ pub mod Listing
 pub mod Groups
 pub mod Tallies
 pub mod Grouping
+pub mod Sizes

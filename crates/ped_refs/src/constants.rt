@@ -3,10 +3,10 @@
 ghost use Rattle.std.specs.Prelude.{◌≡◌, [], map, IfOk, OnOk};
 ghost use Rattle.ped_tree.specs.Accesses.{constants_in, constant_names};
 ghost use Rattle.ped_tree.specs.Views.{decl_tree, value_tree};
-ghost use Rattle.ped_names.specs.Collecting.{with_names};
+ghost use Rattle.ped_tree.specs.Names.Collecting.{with_names};
 
 use ped_base::{Name, NoMemory};
-use ped_names::NameSet;
+use ped_tree::names::NameSet;
 use ped_tree::{Decl, Expr};
 use std::alloc::Global;
 

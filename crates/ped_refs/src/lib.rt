@@ -11,6 +11,7 @@ mod loops;
 mod occurring;
 mod pairing;
 mod references;
+pub mod sizes;
 mod surroundings;
 
 pub use counting::{MOST_PAIRS, first_beyond_limit, pairs, within_limit};

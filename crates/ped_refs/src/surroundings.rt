@@ -1,7 +1,7 @@
 //! What stands round a statement, as far as its references depend on it.
 
 use crate::loops::Loop;
-use ped_names::NameSet;
+use ped_tree::names::NameSet;
 
 /// What stands round a statement.
 #[derive(Clone, Copy)]

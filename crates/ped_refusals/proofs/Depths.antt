@@ -1,9 +1,9 @@
 -- How deep blocks stand behind a statement, and how many there are.
 use Rattle.std.proofs.Common.{ℕ, ◌+◌, ◌≤◌, Bool, true, false, List, [], ◌∷◌, Option, Some, None, if◌then◌else◌, arith}
-use Rattle.ped_grammar.specs.Statement.{Statement}
-use Rattle.ped_grammar.specs.Items.{Item, declares, saves_all, does, continues, logical_if, block_if, else_if, else_line, end_if, begins_do, keeps_private, ends_program, Reading, says, outside_profile, no_form, Entry}
-use Rattle.ped_grammar.specs.Contexts.{Block, in_then, in_else, in_do, Context, has_do, has_if, is_loop_with, left_by_label, left_by, left_in_if, with_else, with_else_if, without_if, with_private, blocks_behind, is_do, behind}
-use Rattle.ped_grammar.specs.ProgramRefusals.{block_depth}
+use Rattle.ped_tree.specs.Grammar.Statement.{Statement}
+use Rattle.ped_tree.specs.Grammar.Items.{Item, declares, saves_all, does, continues, logical_if, block_if, else_if, else_line, end_if, begins_do, keeps_private, ends_program, Reading, says, outside_profile, no_form, Entry}
+use Rattle.ped_tree.specs.Grammar.Contexts.{Block, in_then, in_else, in_do, Context, has_do, has_if, is_loop_with, left_by_label, left_by, left_in_if, with_else, with_else_if, without_if, with_private, blocks_behind, is_do, behind}
+use Rattle.ped_tree.specs.Grammar.ProgramRefusals.{block_depth}
 
 chosen_less : (b : Bool) (c d : List Block) (n : ℕ) → block_depth c ≤ n → block_depth d ≤ n → block_depth (if b then c else d) ≤ n
 chosen_less true c d n h k = h

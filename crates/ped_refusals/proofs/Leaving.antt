@@ -1,8 +1,8 @@
 -- What a label ends, and what ELSE and END IF end, over blocks as the code keeps them.
 use Rattle.std.proofs.Common.{◌≡◌, ℕ, ◌+◌, ◌<◌, ◌≤◌, ◌==◌, Bool, true, false, ◌||◌, List, [], ◌∷◌, ◌++◌, length, take, drop, get_or, refl, sym, ap, ◌∙◌, if◌then◌else◌}
 use Rattle.std.proofs.lemmas.List.{take-append-drop, take_more, take_all}
-use Rattle.ped_grammar.specs.Contexts as plain
-use Rattle.ped_grammar.specs.Contexts.{in_then, in_else, in_do, has_do, has_if, left_by_label, left_in_if}
+use Rattle.ped_tree.specs.Grammar.Contexts as plain
+use Rattle.ped_tree.specs.Grammar.Contexts.{in_then, in_else, in_do, has_do, has_if, left_by_label, left_in_if}
 use Rattle.ped_refusals.specs.declared.blocks.Block.{Block}
 use Rattle.ped_refusals.specs.OpenBlocks.{block_of, opened_in, blocks_of}
 use Rattle.ped_refusals.proofs.Opening.{blocks_push}

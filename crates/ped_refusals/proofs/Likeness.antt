@@ -3,12 +3,12 @@ use Rattle.std.proofs.Common.{◌≡◌, ℕ, ◌+◌, Bool, ◌&&◌, ◌||◌,
 use Rattle.std.specs.List.{list_any}
 use Rattle.ped_print.specs.Lengths.{limited}
 use Rattle.ped_base.specs.Lists.{is_among}
-use Rattle.ped_grammar.specs.LimitNumbers.{most_references, most_statements}
-use Rattle.ped_grammar.specs.Items.{Item, Reading, says, outside_profile, no_form, Entry}
-use Rattle.ped_grammar.specs.Contexts.{Block, Context, rank, numbered_in, loops_in, saves_list, saves_without, left_by, blocks_behind, behind, open_variables}
-use Rattle.ped_grammar.specs.Occurrences.{constants_of}
-use Rattle.ped_grammar.specs.Refusal.{Finding, Syntax, NotInProfile, OpenBlock, BadTerminal, IndexAssigned, StopPlace, Limit, refused_if}
-use Rattle.ped_grammar.specs.ProgramRefusals.{at_directives, at_private, at_statement, breaks_syntax, is_left_out, where_it_says, leaves_open, ends_badly, assigns_index, stops, loop_depth, passes_limit, is_too_large, are_too_many, is_too_deep, has_many_references, statements_of_item, is_too_long, private_behind}
+use Rattle.ped_tree.specs.Grammar.LimitNumbers.{most_references, most_statements}
+use Rattle.ped_tree.specs.Grammar.Items.{Item, Reading, says, outside_profile, no_form, Entry}
+use Rattle.ped_tree.specs.Grammar.Contexts.{Block, Context, rank, numbered_in, loops_in, saves_list, saves_without, left_by, blocks_behind, behind, open_variables}
+use Rattle.ped_tree.specs.Grammar.Occurrences.{constants_of}
+use Rattle.ped_tree.specs.Grammar.Refusal.{Finding, Syntax, NotInProfile, OpenBlock, BadTerminal, IndexAssigned, StopPlace, Limit, refused_if}
+use Rattle.ped_tree.specs.Grammar.ProgramRefusals.{at_directives, at_private, at_statement, breaks_syntax, is_left_out, where_it_says, leaves_open, ends_badly, assigns_index, stops, loop_depth, passes_limit, is_too_large, are_too_many, is_too_deep, has_many_references, statements_of_item, is_too_long, private_behind}
 use Rattle.ped_limits.proofs.SameNames.{among_append, same_accesses}
 use Rattle.ped_refusals.specs.OpenContexts.{IsLike}
 

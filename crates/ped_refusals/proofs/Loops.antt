@@ -3,12 +3,12 @@ use Rattle.std.proofs.Common.{◌≡◌, ℕ, false, List, [], ◌∷◌, ◌++�
 use Rattle.std.specs.List.{flat_map}
 use Rattle.std.proofs.lemmas.Grind.{flat_map-append}
 use Rattle.std.proofs.lemmas.List.Concat.{flat_map-cons}
-use Rattle.ped_grammar.specs.Contexts.{Context, Block, in_then, in_else, in_do, OpenLoop, open_loops}
-use Rattle.ped_grammar.specs.Refusal.{Finding, IndexAssigned, earliest, refused_if}
-use Rattle.ped_grammar.specs.Items.{Reading}
-use Rattle.ped_grammar.specs.Occurrences.{of_reading, do_variables}
-use Rattle.ped_grammar.specs.ProgramRefusals.{meets, at_private}
-use Rattle.ped_grammar.proofs.First.{earliest_append}
+use Rattle.ped_tree.specs.Grammar.Contexts.{Context, Block, in_then, in_else, in_do, OpenLoop, open_loops}
+use Rattle.ped_tree.specs.Grammar.Refusal.{Finding, IndexAssigned, earliest, refused_if}
+use Rattle.ped_tree.specs.Grammar.Items.{Reading}
+use Rattle.ped_tree.specs.Grammar.Occurrences.{of_reading, do_variables}
+use Rattle.ped_tree.specs.Grammar.ProgramRefusals.{meets, at_private}
+use Rattle.ped_tree.proofs.GrammarLaws.First.{earliest_append}
 
 -- what stands at a DO with this variable
 abbrev pub at_loops : List ℕ → List Block → List Finding

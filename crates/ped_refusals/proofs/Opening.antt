@@ -1,6 +1,6 @@
 -- The innermost of open blocks.
 use Rattle.std.proofs.Common.{◌≡◌, List, [], ◌∷◌, ◌++◌, refl}
-use Rattle.ped_grammar.specs.Contexts as plain
+use Rattle.ped_tree.specs.Grammar.Contexts as plain
 use Rattle.ped_refusals.specs.declared.blocks.Block.{Block}
 use Rattle.ped_refusals.specs.OpenBlocks.{block_of, opened_in, blocks_of}
 

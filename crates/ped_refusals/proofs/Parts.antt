@@ -1,10 +1,10 @@
 -- What stands at a statement, looked at in four parts.
 use Rattle.std.proofs.Common.{◌≡◌, ℕ, List, ◌++◌, ◌&&◌, nat_lt, Option, ap, ◌∙◌}
-use Rattle.ped_grammar.specs.Items.{Entry}
-use Rattle.ped_grammar.specs.Contexts.{Context}
-use Rattle.ped_grammar.specs.Refusal.{Finding, Syntax, NotInProfile, OpenBlock, BadTerminal, IndexAssigned, StopPlace, Limit, refused_if, earliest}
-use Rattle.ped_grammar.specs.ProgramRefusals.{at_directives, at_private, at_statement, breaks_syntax, is_left_out, where_it_says, leaves_open, ends_badly, assigns_index, stops, loop_depth, passes_limit}
-use Rattle.ped_grammar.proofs.First.{earliest_append}
+use Rattle.ped_tree.specs.Grammar.Items.{Entry}
+use Rattle.ped_tree.specs.Grammar.Contexts.{Context}
+use Rattle.ped_tree.specs.Grammar.Refusal.{Finding, Syntax, NotInProfile, OpenBlock, BadTerminal, IndexAssigned, StopPlace, Limit, refused_if, earliest}
+use Rattle.ped_tree.specs.Grammar.ProgramRefusals.{at_directives, at_private, at_statement, breaks_syntax, is_left_out, where_it_says, leaves_open, ends_badly, assigns_index, stops, loop_depth, passes_limit}
+use Rattle.ped_tree.proofs.GrammarLaws.First.{earliest_append}
 
 four_parts : (found first second third fourth : Option Finding) (directives syntax outside block terminal index private stop limit : List Finding) → first ≡ earliest found directives → second ≡ earliest first (syntax ++ outside ++ block ++ terminal)
     → third ≡ earliest second (index ++ private ++ stop) → fourth ≡ earliest third limit

@@ -2,12 +2,12 @@
 use Rattle.std.proofs.Common.{◌≡◌, ℕ, Bool, true, false, ◌&&◌, ◌||◌, ◌==◌, nat_lt, List, [], ◌∷◌, ◌++◌, Option, Some, if◌then◌else◌, refl, ap, ◌∙◌, eqb-true, arith}
 use Rattle.std.specs.List.{list_all, flat_map}
 use Rattle.std.proofs.lemmas.List.Concat.{flat_map-cons}
-use Rattle.ped_grammar.specs.Statement.{Note}
-use Rattle.ped_grammar.specs.Items.{Entry}
-use Rattle.ped_grammar.specs.Contexts.{Context}
-use Rattle.ped_grammar.specs.Refusal.{Refusal, Finding, Syntax, NotInProfile, OpenBlock, BadTerminal, IndexAssigned, StopPlace, Limit, number_of, refused_if, is_before, earlier, earliest}
-use Rattle.ped_grammar.specs.ProgramRefusals.{at_directives, at_private, at_statement, breaks_syntax, is_left_out, where_it_says, leaves_open, ends_badly, assigns_index, stops, loop_depth, passes_limit, is_bad_directive}
-use Rattle.ped_grammar.proofs.First.{earliest_append}
+use Rattle.ped_tree.specs.Grammar.Statement.{Note}
+use Rattle.ped_tree.specs.Grammar.Items.{Entry}
+use Rattle.ped_tree.specs.Grammar.Contexts.{Context}
+use Rattle.ped_tree.specs.Grammar.Refusal.{Refusal, Finding, Syntax, NotInProfile, OpenBlock, BadTerminal, IndexAssigned, StopPlace, Limit, number_of, refused_if, is_before, earlier, earliest}
+use Rattle.ped_tree.specs.Grammar.ProgramRefusals.{at_directives, at_private, at_statement, breaks_syntax, is_left_out, where_it_says, leaves_open, ends_badly, assigns_index, stops, loop_depth, passes_limit, is_bad_directive}
+use Rattle.ped_tree.proofs.GrammarLaws.First.{earliest_append}
 
 later_stays : (a p b q : ℕ) → nat_lt b a ≡ true → nat_lt a b || (a == b && nat_lt p q) ≡ false
 later_stays a p b q h = grind (arith, eqb-true)

@@ -1,13 +1,13 @@
 -- How far the first refusal of statements has been found.
 use Rattle.std.proofs.Common.{◌≡◌, ℕ, ◌+◌, ◌≤◌, nat_le, not, true, List, [], ◌∷◌, ◌++◌, length, Option, None, refl, sym, ap, subst, ◌∙◌, arith}
 use Rattle.std.specs.List.{flat_map}
-use Rattle.ped_grammar.specs.Refusal.{Finding, OpenBlock, Syntax, refused_if, earliest, first_of}
-use Rattle.ped_grammar.specs.Statement.{Statements}
-use Rattle.ped_grammar.specs.Occurrences.{saved_names}
-use Rattle.ped_grammar.proofs.First.{earliest_append}
-use Rattle.ped_grammar.specs.Items.{Entry}
-use Rattle.ped_grammar.specs.Contexts.{Context, at_start, behind, behind_all}
-use Rattle.ped_grammar.specs.ProgramRefusals.{block_depth, at_statement, at_statements, at_end, program_refusals}
+use Rattle.ped_tree.specs.Grammar.Refusal.{Finding, OpenBlock, Syntax, refused_if, earliest, first_of}
+use Rattle.ped_tree.specs.Grammar.Statement.{Statements}
+use Rattle.ped_tree.specs.Grammar.Occurrences.{saved_names}
+use Rattle.ped_tree.proofs.GrammarLaws.First.{earliest_append}
+use Rattle.ped_tree.specs.Grammar.Items.{Entry}
+use Rattle.ped_tree.specs.Grammar.Contexts.{Context, at_start, behind, behind_all}
+use Rattle.ped_tree.specs.Grammar.ProgramRefusals.{block_depth, at_statement, at_statements, at_end, program_refusals}
 use Rattle.ped_refusals.specs.OpenContexts.{IsLike}
 use Rattle.ped_refusals.proofs.Depths.{deeper, more_loops}
 use Rattle.ped_refusals.proofs.Likeness.{like_itself, like_through, behind_like, statement_like}

@@ -1,8 +1,8 @@
 -- A directive that rejects a name.
 use Rattle.std.proofs.Common.{◌≡◌, ℕ, List, [], ◌∷◌, Bool, true, false, ◌&&◌, take, drop, length, codes, eqb, eqb-true, refl, ap, ◌∙◌, sym, arith, Option, Some, None, if◌then◌else◌}
 use Rattle.std.specs.Cmp.Lexicographic.{pointwise}
-use Rattle.ped_grammar.specs.Words.{is_name}
-use Rattle.ped_grammar.specs.Occurrences.{is_rejection}
+use Rattle.ped_tree.specs.Grammar.Words.{is_name}
+use Rattle.ped_tree.specs.Grammar.Occurrences.{is_rejection}
 use Rattle.ped_expressions.specs.Scanning.{after, go_on}
 
 eqb_flip : (m n : ℕ) → eqb m n ≡ eqb n m

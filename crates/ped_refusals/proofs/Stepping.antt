@@ -2,11 +2,11 @@
 use Rattle.std.proofs.Common.{◌≡◌, ℕ, ◌+◌, ◌<◌, List, ◌∷◌, length, map, drop, get_or, Option, sym, ap, ◌∙◌, add-one, drop-cons}
 use Rattle.std.specs.List.{flat_map}
 use Rattle.std.proofs.lemmas.List.Concat.{flat_map-cons}
-use Rattle.ped_grammar.specs.StatementViews.{note_of}
-use Rattle.ped_grammar.specs.declared.statements.NoteLine.{NoteLine}
-use Rattle.ped_grammar.specs.Statement.{Note}
-use Rattle.ped_grammar.specs.Refusal.{Finding, earliest}
-use Rattle.ped_grammar.proofs.First.{earliest_append}
+use Rattle.ped_tree.specs.Grammar.StatementViews.{note_of}
+use Rattle.ped_tree.specs.declared.grammar.statements.NoteLine.{NoteLine}
+use Rattle.ped_tree.specs.Grammar.Statement.{Note}
+use Rattle.ped_tree.specs.Grammar.Refusal.{Finding, earliest}
+use Rattle.ped_tree.proofs.GrammarLaws.First.{earliest_append}
 
 -- what is left of a list begins with the item at its place
 pub left_cons : {X : Type 0} (xs : List X) (i : ℕ) (x : X) → i < length xs → x ≡ get_or xs i x → drop i xs ≡ x ∷ drop (i + 1) xs

@@ -1,7 +1,7 @@
 -- What the code keeps of the statements before one, as a plain context. Contracts of private functions alone speak of it.
 use Rattle.std.specs.Prelude.{List, [], ◌∷◌}
-use Rattle.ped_grammar.specs.Contexts as plain
-use Rattle.ped_grammar.specs.Contexts.{in_then, in_else, in_do}
+use Rattle.ped_tree.specs.Grammar.Contexts as plain
+use Rattle.ped_tree.specs.Grammar.Contexts.{in_then, in_else, in_do}
 use Rattle.ped_refusals.specs.declared.blocks.OpenLoop.{OpenLoop}
 use Rattle.ped_refusals.specs.declared.blocks.Block.{Block}
 use Rattle.ped_refusals.specs.declared.blocks.Block.TheVariants as block

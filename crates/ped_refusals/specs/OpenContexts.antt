@@ -2,7 +2,7 @@
 use Rattle.std.specs.Prelude.{◌≡◌, ℕ, List}
 use Rattle.ped_print.specs.Lengths.{limited}
 use Rattle.ped_base.specs.Lists.{is_among}
-use Rattle.ped_grammar.specs.Contexts as plain
+use Rattle.ped_tree.specs.Grammar.Contexts as plain
 use Rattle.ped_refusals.specs.OpenBlocks.{blocks_of}
 use Rattle.ped_refusals.specs.declared.contexts.Context.{Context}
 

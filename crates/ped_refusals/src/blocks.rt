@@ -2,18 +2,18 @@
 //! 11.10). Lists of them have the innermost last.
 
 ghost use Rattle.std.specs.Prelude.{◌≡◌, ◌+◌, ◌<◌, ◌≤◌, ◌^◌, List, [], ◌∷◌, ◌++◌, length, take, IfOk, OnOk, MatchOption, ◌||◌, if◌then◌else◌};
-ghost use Rattle.ped_grammar.specs.Contexts as Contexts;
-ghost use Rattle.ped_grammar.specs.Contexts.{Block as PlainBlock, in_do};
-ghost use Rattle.ped_grammar.specs.ProgramRefusals as Spec;
+ghost use Rattle.ped_tree.specs.Grammar.Contexts as Contexts;
+ghost use Rattle.ped_tree.specs.Grammar.Contexts.{Block as PlainBlock, in_do};
+ghost use Rattle.ped_tree.specs.Grammar.ProgramRefusals as Spec;
 ghost use Rattle.ped_base.specs.Lists.{has_some};
 ghost use Rattle.ped_tree.specs.Views.{stmt_tree};
-ghost use Rattle.ped_grammar.specs.StatementViews.{statement_of};
-ghost use Rattle.ped_grammar.specs.ItemViews.{item_of, do_head};
+ghost use Rattle.ped_tree.specs.Grammar.StatementViews.{statement_of};
+ghost use Rattle.ped_tree.specs.Grammar.ItemViews.{item_of, do_head};
 ghost use Rattle.ped_refusals.specs.OpenBlocks.{loop_of, block_of, blocks_of};
 
 use ped_base::{Listed, Name, Names, NoMemory};
-use ped_grammar::{DoStatement, Item, Statement};
 use ped_tree::Stmt;
+use ped_tree::grammar::{DoStatement, Item, Statement};
 use std::alloc::Global;
 
 /// A DO loop that is open.

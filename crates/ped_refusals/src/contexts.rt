@@ -2,21 +2,21 @@
 //! statement takes it on, whatever is refused there.
 
 ghost use Rattle.std.specs.Prelude.{◌≡◌, ◌+◌, ◌<◌, ◌^◌, ◌++◌, List, ℕ, IfOk, OnOk, false, map, ◌||◌};
-ghost use Rattle.ped_grammar.specs.Contexts as Spec;
-ghost use Rattle.ped_grammar.specs.ProgramRefusals.{block_depth};
+ghost use Rattle.ped_tree.specs.Grammar.Contexts as Spec;
+ghost use Rattle.ped_tree.specs.Grammar.ProgramRefusals.{block_depth};
 ghost use Rattle.ped_base.specs.Lists.{is_among};
-ghost use Rattle.ped_grammar.specs.Occurrences.{constants_of};
+ghost use Rattle.ped_tree.specs.Grammar.Occurrences.{constants_of};
 ghost use Rattle.ped_tree.specs.Views.{decl_tree, value_tree};
-ghost use Rattle.ped_grammar.specs.StatementViews.{statement_of};
-ghost use Rattle.ped_grammar.specs.ItemViews.{item_of, entry_of};
+ghost use Rattle.ped_tree.specs.Grammar.StatementViews.{statement_of};
+ghost use Rattle.ped_tree.specs.Grammar.ItemViews.{item_of, entry_of};
 ghost use Rattle.ped_refusals.specs.OpenBlocks.{blocks_of};
 ghost use Rattle.ped_refusals.specs.OpenContexts.{context_of, IsLike};
 
 use crate::blocks::{Block, leave_by, take_on};
 use crate::limits::numbered_in;
 use ped_base::{Name, NoMemory};
-use ped_grammar::{Entry, Item, Statement, StatementReading};
 use ped_limits::NameSet;
+use ped_tree::grammar::{Entry, Item, Statement, StatementReading};
 use ped_tree::{Decl, Expr};
 use std::alloc::Global;
 

@@ -2,25 +2,27 @@
 
 ghost use Rattle.std.specs.Prelude.{◌≡◌, ◌&&◌, ◌||◌, ℕ, Some, None, map, drop, length, nat_le, nat_lt, true, if◌then◌else◌};
 ghost use Rattle.std.specs.List.{flat_map};
-ghost use Rattle.ped_grammar.specs.Statement.{Note};
-ghost use Rattle.ped_grammar.specs.Contexts as Contexts;
-ghost use Rattle.ped_grammar.specs.Occurrences as Occurrences;
-ghost use Rattle.ped_grammar.specs.Words as Words;
-ghost use Rattle.ped_grammar.specs.Refusal.{earliest, refused_if, Syntax};
-ghost use Rattle.ped_grammar.specs.ProgramRefusals as Spec;
-ghost use Rattle.ped_grammar.specs.ProgramRefusals.{where_it_says};
-ghost use Rattle.ped_grammar.specs.StatementViews.{note_of, statement_of};
-ghost use Rattle.ped_grammar.specs.ItemViews.{entry_of, reading_of};
-ghost use Rattle.ped_grammar.specs.RefusalViews.{found_of};
+ghost use Rattle.ped_tree.specs.Grammar.Statement.{Note};
+ghost use Rattle.ped_tree.specs.Grammar.Contexts as Contexts;
+ghost use Rattle.ped_tree.specs.Grammar.Occurrences as Occurrences;
+ghost use Rattle.ped_tree.specs.Grammar.Words as Words;
+ghost use Rattle.ped_tree.specs.Grammar.Refusal.{earliest, refused_if, Syntax};
+ghost use Rattle.ped_tree.specs.Grammar.ProgramRefusals as Spec;
+ghost use Rattle.ped_tree.specs.Grammar.ProgramRefusals.{where_it_says};
+ghost use Rattle.ped_tree.specs.Grammar.StatementViews.{note_of, statement_of};
+ghost use Rattle.ped_tree.specs.Grammar.ItemViews.{entry_of, reading_of};
+ghost use Rattle.ped_tree.specs.Grammar.RefusalViews.{found_of};
 ghost use Rattle.ped_refusals.specs.OpenContexts.{context_of};
 
 use crate::contexts::{Context, is_do};
 use crate::occurrences::rejected_name;
 use crate::structure::is_behind_end;
-use ped_grammar::{Entry, NoteLine, Refusal, RefusalKind, Statement, StatementReading, standing};
+use ped_tree::grammar::{
+    Entry, NoteLine, Refusal, RefusalKind, Statement, StatementReading, standing,
+};
 
 /// The first of what was found and what stands at the directives of a statement, each at its own line.
-#[tactic(auto, using(ped_grammar::proofs::First::earliest_append))]
+#[tactic(auto, using(ped_tree::proofs::GrammarLaws::First::earliest_append))]
 pub fn at_directives(found: Option<Refusal>, context: &Context, entry: &Entry) -> Option<Refusal>
     ensures { found_of result ≡ earliest (found_of found) (Spec.at_directives (context_of context.now) (entry_of entry.now)) }
 {
@@ -34,7 +36,7 @@ pub fn at_directives(found: Option<Refusal>, context: &Context, entry: &Entry) -
 }
 
 /// The first of what was found and the directives behind the last statement.
-#[tactic(auto, using(ped_grammar::proofs::First::earliest_append))]
+#[tactic(auto, using(ped_tree::proofs::GrammarLaws::First::earliest_append))]
 pub fn at_last_directives(found: Option<Refusal>, directives: &[NoteLine]) -> Option<Refusal>
     ensures { found_of result ≡ earliest (found_of found) (flat_map (λ d. refused_if true Syntax d.line) (map note_of directives.now)) }
 {

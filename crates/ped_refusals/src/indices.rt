@@ -3,22 +3,22 @@
 
 ghost use Rattle.std.specs.Prelude.{◌≡◌, ◌∷◌, [], MatchOption, map};
 ghost use Rattle.std.specs.List.{flat_map};
-ghost use Rattle.ped_grammar.specs.Contexts.{open_loops, open_variables};
-ghost use Rattle.ped_grammar.specs.Occurrences.{of_reading, do_variables};
-ghost use Rattle.ped_grammar.specs.ProgramRefusals as Spec;
-ghost use Rattle.ped_grammar.specs.ProgramRefusals.{meets};
-ghost use Rattle.ped_grammar.specs.Refusal.{IndexAssigned, earliest, refused_if};
+ghost use Rattle.ped_tree.specs.Grammar.Contexts.{open_loops, open_variables};
+ghost use Rattle.ped_tree.specs.Grammar.Occurrences.{of_reading, do_variables};
+ghost use Rattle.ped_tree.specs.Grammar.ProgramRefusals as Spec;
+ghost use Rattle.ped_tree.specs.Grammar.ProgramRefusals.{meets};
+ghost use Rattle.ped_tree.specs.Grammar.Refusal.{IndexAssigned, earliest, refused_if};
 ghost use Rattle.ped_tree.specs.Views.{expr_tree, stmt_tree};
-ghost use Rattle.ped_grammar.specs.ItemViews.{reading_of};
-ghost use Rattle.ped_grammar.specs.RefusalViews.{found_of};
+ghost use Rattle.ped_tree.specs.Grammar.ItemViews.{reading_of};
+ghost use Rattle.ped_tree.specs.Grammar.RefusalViews.{found_of};
 ghost use Rattle.ped_refusals.specs.OpenBlocks.{block_of, blocks_of};
 ghost use Rattle.ped_refusals.specs.OpenContexts.{context_of};
 
 use crate::blocks::{Block, split_innermost};
 use crate::contexts::Context;
 use ped_base::Name;
-use ped_grammar::{Item, Refusal, RefusalKind, StatementReading, standing};
 use ped_limits::is_among;
+use ped_tree::grammar::{Item, Refusal, RefusalKind, StatementReading, standing};
 use ped_tree::{Expr, Stmt};
 
 /// Whether the variable of a loop round the statement is assigned, read into, a DO variable again or named

@@ -5,12 +5,12 @@ ghost use Rattle.std.specs.Prelude.{◌≡◌, ◌<◌, ◌^◌, map, nat_lt, le
 ghost use Rattle.ped_tree.specs.Printing.{own_text, do_text, label_text};
 ghost use Rattle.ped_tree.specs.Views.{stmt_tree};
 ghost use Rattle.ped_print.specs.Lengths.{limited};
-ghost use Rattle.ped_grammar.specs.Contexts as Contexts;
-ghost use Rattle.ped_grammar.specs.LimitNumbers.{most_characters};
-ghost use Rattle.ped_grammar.specs.Occurrences.{of_reading};
-ghost use Rattle.ped_grammar.specs.ProgramRefusals as Spec;
-ghost use Rattle.ped_grammar.specs.ProgramRefusals.{block_depth};
-ghost use Rattle.ped_grammar.specs.ItemViews.{item_of, do_head, reading_of, entry_of};
+ghost use Rattle.ped_tree.specs.Grammar.Contexts as Contexts;
+ghost use Rattle.ped_tree.specs.Grammar.LimitNumbers.{most_characters};
+ghost use Rattle.ped_tree.specs.Grammar.Occurrences.{of_reading};
+ghost use Rattle.ped_tree.specs.Grammar.ProgramRefusals as Spec;
+ghost use Rattle.ped_tree.specs.Grammar.ProgramRefusals.{block_depth};
+ghost use Rattle.ped_tree.specs.Grammar.ItemViews.{item_of, do_head, reading_of, entry_of};
 ghost use Rattle.ped_refusals.specs.OpenBlocks.{blocks_of};
 ghost use Rattle.ped_refusals.specs.OpenContexts.{context_of};
 
@@ -18,7 +18,6 @@ use crate::blocks::{Block, block_depth, loop_depth};
 use crate::contexts::Context;
 use ped_base::Name;
 use ped_expressions::cond_has_large_literal;
-use ped_grammar::{DoStatement, Entry, Item, StatementReading};
 use ped_limits::{
     MOST_BLOCKS_NESTED, MOST_CHARACTERS, MOST_LOOPS_NESTED, MOST_REFERENCES, MOST_STATEMENTS,
     NameSet, cond_references, decl_has_large_literal, do_references, has_eight_dimensions,
@@ -26,6 +25,7 @@ use ped_limits::{
 };
 use ped_print::{decl_length, do_length, if_length, own_length, private_length, save_length};
 use ped_tree::Stmt;
+use ped_tree::grammar::{DoStatement, Entry, Item, StatementReading};
 
 /// Whether a statement passes a limit, where `variables` are those of the open DO loops, `rest` are the
 /// statements behind it, and SAVE without a list is read as `saved`.

@@ -3,18 +3,18 @@
 
 ghost use Rattle.std.specs.Prelude.{◌≡◌, ◌∷◌, ◌++◌, map, drop, Some, None, OnOk, if◌then◌else◌};
 ghost use Rattle.std.specs.List.{flat_map};
-ghost use Rattle.ped_grammar.specs.Occurrences as Spec;
+ghost use Rattle.ped_tree.specs.Grammar.Occurrences as Spec;
 ghost use Rattle.ped_tree.specs.NamesIn.{expr_names, exprs_names, cond_names, item_names, stmt_names, stmts_names, head_names, declarator_names, decl_names};
-ghost use Rattle.ped_grammar.specs.Occurrences.{names_in, of_reading, entry_names, is_rejection};
+ghost use Rattle.ped_tree.specs.Grammar.Occurrences.{names_in, of_reading, entry_names, is_rejection};
 ghost use Rattle.ped_tree.specs.Views.{expr_tree, pack_exprs, cond_tree, item_tree, stmt_tree, stmt_trees, head, bound_tree, declarator_tree, decl_tree, value_tree};
-ghost use Rattle.ped_grammar.specs.StatementViews.{note_of};
-ghost use Rattle.ped_grammar.specs.ItemViews.{item_of, do_head, reading_of, entry_of};
+ghost use Rattle.ped_tree.specs.Grammar.StatementViews.{note_of};
+ghost use Rattle.ped_tree.specs.Grammar.ItemViews.{item_of, do_head, reading_of, entry_of};
 ghost use Rattle.ped_refusals.specs.Collecting.{with_name, with_names};
 
 use ped_base::{Name, NoMemory};
 use ped_expressions::{after, name_of};
-use ped_grammar::{DoStatement, Entry, Item, NoteLine, StatementReading};
 use ped_limits::NameSet;
+use ped_tree::grammar::{DoStatement, Entry, Item, NoteLine, StatementReading};
 use ped_tree::{Bound, Cond, Decl, Declarator, Do, Expr, PrintItem, Stmt};
 
 /// Adds the names of a statement, those that its directives reject first.

@@ -2,16 +2,16 @@
 
 ghost use Rattle.std.specs.Prelude.{◌≡◌, ◌&&◌, ◌<◌, ◌^◌, ◌++◌, List, ℕ, nat_lt, true, IfOk, map};
 ghost use Rattle.std.specs.List.{list_all};
-ghost use Rattle.ped_grammar.specs.Statement.{Statements};
-ghost use Rattle.ped_grammar.specs.Refusal.{Syntax, NotInProfile, OpenBlock, BadTerminal, IndexAssigned, StopPlace, first_of, earliest, refused_if};
-ghost use Rattle.ped_grammar.specs.Occurrences as Occurrences;
-ghost use Rattle.ped_grammar.specs.Items.{Entry as PlainEntry};
-ghost use Rattle.ped_grammar.specs.Contexts.{Context as PlainContext, open_variables};
-ghost use Rattle.ped_grammar.specs.ProgramRefusals as Spec;
-ghost use Rattle.ped_grammar.specs.ProgramRefusals.{program_refusals, where_it_says, block_depth};
-ghost use Rattle.ped_grammar.specs.StatementViews.{note_of};
-ghost use Rattle.ped_grammar.specs.ItemViews.{reading_of, entry_of};
-ghost use Rattle.ped_grammar.specs.RefusalViews.{found_of};
+ghost use Rattle.ped_tree.specs.Grammar.Statement.{Statements};
+ghost use Rattle.ped_tree.specs.Grammar.Refusal.{Syntax, NotInProfile, OpenBlock, BadTerminal, IndexAssigned, StopPlace, first_of, earliest, refused_if};
+ghost use Rattle.ped_tree.specs.Grammar.Occurrences as Occurrences;
+ghost use Rattle.ped_tree.specs.Grammar.Items.{Entry as PlainEntry};
+ghost use Rattle.ped_tree.specs.Grammar.Contexts.{Context as PlainContext, open_variables};
+ghost use Rattle.ped_tree.specs.Grammar.ProgramRefusals as Spec;
+ghost use Rattle.ped_tree.specs.Grammar.ProgramRefusals.{program_refusals, where_it_says, block_depth};
+ghost use Rattle.ped_tree.specs.Grammar.StatementViews.{note_of};
+ghost use Rattle.ped_tree.specs.Grammar.ItemViews.{reading_of, entry_of};
+ghost use Rattle.ped_tree.specs.Grammar.RefusalViews.{found_of};
 ghost use Rattle.ped_refusals.specs.OpenBlocks.{blocks_of};
 ghost use Rattle.ped_refusals.specs.OpenContexts.{context_of};
 
@@ -22,7 +22,7 @@ use crate::indices::{assigns_index, at_private};
 use crate::limits::passes_limit;
 use crate::structure::{breaks_syntax, ends_badly, is_behind_end, is_left_out, leaves_open, stops};
 use ped_base::{Name, Names, NoMemory};
-use ped_grammar::{Entry, NoteLine, Refusal, RefusalKind, StatementReading, standing};
+use ped_tree::grammar::{Entry, NoteLine, Refusal, RefusalKind, StatementReading, standing};
 use std::alloc::Global;
 
 /// The first of the refusals that stand at the statements of a text, by line and then by number, where
@@ -116,7 +116,7 @@ fn at_statement(
 }
 
 /// The first of what was found and what stands at a statement by its form and its place.
-#[tactic(auto, using(ped_grammar::proofs::First::earliest_append))]
+#[tactic(auto, using(ped_tree::proofs::GrammarLaws::First::earliest_append))]
 fn at_places(found: Option<Refusal>, context: &Context, entry: &Entry) -> Option<Refusal>
     ensures { let c = context_of context.now in let e = entry_of entry.now in
         found_of result ≡ earliest (found_of found)
@@ -154,7 +154,7 @@ fn at_places(found: Option<Refusal>, context: &Context, entry: &Entry) -> Option
 
 /// The first of what was found and what stands at a statement by the loops round it, whose variables these
 /// are.
-#[tactic(auto, using(ped_grammar::proofs::First::earliest_append))]
+#[tactic(auto, using(ped_tree::proofs::GrammarLaws::First::earliest_append))]
 fn at_loops(
     found: Option<Refusal>,
     context: &Context,
@@ -204,7 +204,7 @@ fn is_past_limit(
 }
 
 /// The first of what was found and what stands behind the last statement.
-#[tactic(auto, using(ped_grammar::proofs::First::earliest_append))]
+#[tactic(auto, using(ped_tree::proofs::GrammarLaws::First::earliest_append))]
 fn at_end(
     found: Option<Refusal>,
     context: &Context,

@@ -2,16 +2,16 @@
 
 ghost use Rattle.std.specs.Prelude.{◌≡◌, IfOk, [], map, filter, not};
 ghost use Rattle.std.specs.List.{flat_map};
-ghost use Rattle.ped_grammar.specs.Occurrences as Spec;
-ghost use Rattle.ped_grammar.specs.Occurrences.{entry_names};
+ghost use Rattle.ped_tree.specs.Grammar.Occurrences as Spec;
+ghost use Rattle.ped_tree.specs.Grammar.Occurrences.{entry_names};
 ghost use Rattle.ped_base.specs.Lists.{is_among};
-ghost use Rattle.ped_grammar.specs.ItemViews.{entry_of, reading_of};
+ghost use Rattle.ped_tree.specs.Grammar.ItemViews.{entry_of, reading_of};
 ghost use Rattle.ped_refusals.specs.Collecting.{with_names};
 
 use crate::occurrences::{add_constants, add_do_variable, add_entry};
 use ped_base::{Listed, Name, Names, NoMemory};
-use ped_grammar::{Entry, Item, StatementReading};
 use ped_limits::NameSet;
+use ped_tree::grammar::{Entry, Item, StatementReading};
 use std::alloc::Global;
 
 /// The names that SAVE without a list stands for: all variables up to END that are the variable of no DO,

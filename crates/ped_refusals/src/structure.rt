@@ -3,16 +3,16 @@
 
 ghost use Rattle.std.specs.Prelude.{◌≡◌};
 ghost use Rattle.ped_tree.specs.Views.{stmt_tree};
-ghost use Rattle.ped_grammar.specs.Contexts as Contexts;
-ghost use Rattle.ped_grammar.specs.ProgramRefusals as Spec;
-ghost use Rattle.ped_grammar.specs.ProgramRefusals.{where_it_says};
-ghost use Rattle.ped_grammar.specs.ItemViews.{item_of, reading_of};
+ghost use Rattle.ped_tree.specs.Grammar.Contexts as Contexts;
+ghost use Rattle.ped_tree.specs.Grammar.ProgramRefusals as Spec;
+ghost use Rattle.ped_tree.specs.Grammar.ProgramRefusals.{where_it_says};
+ghost use Rattle.ped_tree.specs.Grammar.ItemViews.{item_of, reading_of};
 ghost use Rattle.ped_refusals.specs.OpenBlocks.{blocks_of};
 ghost use Rattle.ped_refusals.specs.OpenContexts.{context_of};
 
 use crate::blocks::{Block, has_do, has_if, is_in_block, is_in_do, is_stop, outside, takes_else};
 use crate::contexts::{Context, rank, saves_list, saves_without};
-use ped_grammar::{Item, StatementReading};
+use ped_tree::grammar::{Item, StatementReading};
 
 /// Whether the text has no form, or one that may not stand there. A form that the profile leaves out is
 /// refused as that.

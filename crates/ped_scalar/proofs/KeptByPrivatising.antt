@@ -10,8 +10,8 @@ use Rattle.ped_flow.specs.PlainBounds.{nest_round}
 use Rattle.ped_flow.specs.Questions.{LoopOf, IsFirst, IsExposed, IsReadBehind, IsLiveAfter}
 use Rattle.ped_steps.specs.declared.rules.Rule.TheVariants.{NoLoop, ParallelState, ExposedOrLive, NotScalar, AlreadyPrivate}
 use Rattle.ped_steps.specs.Causes.{NoRule}
-use Rattle.ped_step_runs.specs.Meaning.{Keeps}
-use Rattle.ped_step_runs.proofs.PrivatisedPrograms.{privatised_keeps}
+use Rattle.ped_steps.specs.Runs.Meaning.{Keeps}
+use Rattle.ped_steps.proofs.RunLaws.PrivatisedPrograms.{privatised_keeps}
 use Rattle.ped_scalar.specs.Scalars.{is_scalar, is_unfit, is_index_near, is_referred}
 use Rattle.ped_scalar.specs.Privatising.{with_private, privatised, StandsAgainstPrivatising}
 

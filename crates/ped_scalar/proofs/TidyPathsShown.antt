@@ -12,8 +12,8 @@ use Rattle.ped_flow.specs.Questions.{saved_in, IsShownBehind}
 use Rattle.ped_flow.specs.Summaries.{AreSummed, sum_behind_all}
 use Rattle.ped_flow.proofs.TreeSums.{all_behind-summed}
 use Rattle.ped_steps.specs.Replacing.{alone, program_with}
-use Rattle.ped_step_runs.specs.Gaps.{filled}
-use Rattle.ped_step_runs.proofs.ReplacedTrees.{HasGap, program_gap}
+use Rattle.ped_steps.specs.Runs.Gaps.{filled}
+use Rattle.ped_steps.proofs.RunLaws.ReplacedTrees.{HasGap, program_gap}
 use Rattle.ped_scalar.proofs.TidyPathsSums.{IsNoMore}
 use Rattle.ped_scalar.proofs.TidyPathsGaps.{LeaveNoMore, gap_behind}
 

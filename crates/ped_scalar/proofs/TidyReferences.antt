@@ -13,7 +13,7 @@ use Rattle.ped_tree.specs.Nests.{Loop, indices_of}
 use Rattle.ped_refs.specs.References.{Reference, numbered_accesses, statement_references, statements_references}
 use Rattle.ped_flow.specs.Questions.{LoopOf}
 use Rattle.ped_steps.specs.Tidy.{is_write_in, is_written_in}
-use Rattle.ped_step_runs.proofs.ReplacedTrees.{in_if, in_more, itself, next_place, no_later}
+use Rattle.ped_steps.proofs.RunLaws.ReplacedTrees.{in_if, in_more, itself, next_place, no_later}
 
 -- a write of the name y is one of the name w, where y is no constant
 abbrev pub writes_name : List (List ℕ) → List ℕ → List ℕ → Bool

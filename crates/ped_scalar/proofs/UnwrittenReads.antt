@@ -7,12 +7,12 @@ use Rattle.std.proofs.lemmas.List.Folds.{list_any-append}
 use Rattle.ped_base.specs.Lists.{is_same_text, is_among}
 use Rattle.ped_tree.specs.Tree.{ExprTree, ExprTrees, Int, Var, Element, Neg, Add, Sub, Mul, Div, Pow, Call, no_exprs, more_exprs, CondTree, Rel, Not, And, Or, ItemTree, Value, Text, Head, StmtTrees, Assign, If, Do, Print, Read}
 use Rattle.ped_tree.specs.Accesses.{Access, listed, read_of, write_of, unless_constant, expr_reads, exprs_reads, cond_reads, left_accesses, item_reads, private_writes, own_accesses}
-use Rattle.ped_grammar.specs.Fits.{takes_arguments}
-use Rattle.ped_names.proofs.NameEquality.{same_is}
+use Rattle.ped_tree.specs.Grammar.Fits.{takes_arguments}
+use Rattle.ped_tree.proofs.NameLaws.NameEquality.{same_is}
 use Rattle.ped_symbols.specs.Uses.{expr_count}
 use Rattle.ped_symbols.specs.declared.symbols.Kind.{Kind}
 use Rattle.ped_symbols.specs.declared.symbols.Kind.TheVariants.{Scalar, Array, Constant}
-use Rattle.ped_uses.specs.RightUses.{NameKinds, is_scalar, is_scalar_kind, is_array_kind, has_rank, is_rank, expr_is_right, exprs_are_right, target_is_right, cond_is_right, item_is_right, head_is_right}
+use Rattle.ped_symbols.specs.RightUses.RightUses.{NameKinds, is_scalar, is_scalar_kind, is_array_kind, has_rank, is_rank, expr_is_right, exprs_are_right, target_is_right, cond_is_right, item_is_right, head_is_right}
 use Rattle.ped_flow.specs.Events.{Event, reads, assigns, event, scalars_in, all_scalars_in, scalars_in_cond, scalars_in_item, reads_of, left_events, own_events}
 use Rattle.ped_flow.specs.Summaries.{least_of, when, passing, of_manner, sum_in_turn, sum_either, sum_event, sum_events}
 use Rattle.ped_flow.proofs.SumLaws.{events-append}

@@ -7,8 +7,8 @@ use Rattle.ped_tree.specs.Nests.{indices_of}
 use Rattle.ped_tree.specs.Numbering.{statements_count}
 use Rattle.ped_refs.specs.References.{Reference, references}
 use Rattle.ped_symbols.specs.Kinds.{kind_in}
-use Rattle.ped_affine.specs.Assigned.{loop_variables}
-use Rattle.ped_uses.specs.RightUses as uses
+use Rattle.ped_flow.specs.ped_affine.specs.Assigned.{loop_variables}
+use Rattle.ped_symbols.specs.RightUses.RightUses as uses
 use Rattle.ped_flow.specs.PlainBounds.{nest_round}
 use Rattle.ped_flow.specs.Questions.{LoopOf, IsFirst, IsExposed, IsReadBehind, IsShownBehind}
 

@@ -7,7 +7,7 @@ ghost use Rattle.ped_tree.specs.Tree;
 ghost use Rattle.ped_tree.specs.Nests.{indices_of};
 ghost use Rattle.ped_tree.specs.Views.{stmt_tree, stmt_trees};
 ghost use Rattle.ped_refs.specs.Loops.{head_of, nest_of};
-ghost use Rattle.ped_affine.specs.Assigned.{loop_variables, all_loop_variables};
+ghost use Rattle.ped_flow.specs.ped_affine.specs.Assigned.{loop_variables, all_loop_variables};
 
 use ped_base::Name;
 use ped_refs::Loop;

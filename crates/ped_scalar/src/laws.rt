@@ -6,7 +6,7 @@ ghost use Rattle.ped_symbols.specs.NameRefusals.{IsValid};
 ghost use Rattle.ped_flow.specs.Questions.{LoopOf};
 ghost use Rattle.ped_steps.specs.Causes.{Cause, IsFirstCause, none_forbids};
 ghost use Rattle.ped_steps.specs.Tidy.{IsTidy};
-ghost use Rattle.ped_step_runs.specs.Meaning.{Keeps};
+ghost use Rattle.ped_steps.specs.Runs.Meaning.{Keeps};
 ghost use Rattle.ped_scalar.specs.Privatising.{privatised, StandsAgainstPrivatising};
 ghost use Rattle.ped_scalar.specs.Expanding.{IsExpanded, StandsAgainstExpanding};
 

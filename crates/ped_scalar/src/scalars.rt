@@ -7,7 +7,7 @@ ghost use Rattle.ped_tree.specs.Views.{stmt_trees, program_tree};
 ghost use Rattle.ped_refs.specs.References.{references};
 ghost use Rattle.ped_refs.specs.Loops.{head_of, nest_of};
 ghost use Rattle.ped_symbols.specs.Kinds.{table_of};
-ghost use Rattle.ped_uses.specs.RightUses as uses;
+ghost use Rattle.ped_symbols.specs.RightUses.RightUses as uses;
 ghost use Rattle.ped_flow.specs.PlainBounds.{nest_round};
 ghost use Rattle.ped_flow.specs.Questions.{IsLoop, IsFirst, IsExposed};
 ghost use Rattle.ped_steps.specs.Scenes.{IsSceneOf, IsFlowOf};

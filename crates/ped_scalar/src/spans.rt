@@ -4,10 +4,10 @@ ghost use Rattle.std.specs.Prelude.{◌≡◌, ◌<◌, ◌^◌, ◌≤ℤ◌, �
 ghost use Rattle.ped_refs.specs.Loops.{head_of};
 ghost use Rattle.ped_scalar.specs.Expanding as Spec;
 ghost use Rattle.ped_scalar.specs.CodeSpans.{IsCourse};
-ghost use Rattle.ped_uses.specs.RightLoops.{step_is_right, is_step};
+ghost use Rattle.ped_symbols.specs.RightUses.RightLoops.{step_is_right, is_step};
 
-use ped_constants::{Consts, constant};
 use ped_tree::Do;
+use ped_tree::constants::{Consts, constant};
 
 /// The values of a DO's variable in its first and its last iteration; a literal may have both.
 #[derive(Clone, Copy)]

@@ -5,12 +5,12 @@ use Rattle.std.proofs.lemmas.Bool.Decides.{nat_tests}
 use Rattle.ped_history.specs.Timeline.{Timeline, pushed}
 use Rattle.ped_tree.specs.Tree.{ProgramTree}
 use Rattle.ped_tree.specs.Printing.{program_text}
-use Rattle.ped_grammar.specs.Refusal.{Finding}
-use Rattle.ped_grammar.specs.RefusalViews.{finding_of}
-use Rattle.ped_grammar.specs.declared.refusals.Refusal as of_text
+use Rattle.ped_tree.specs.Grammar.Refusal.{Finding}
+use Rattle.ped_tree.specs.Grammar.RefusalViews.{finding_of}
+use Rattle.ped_tree.specs.declared.grammar.refusals.Refusal as of_text
 use Rattle.ped_valid.specs.Validity.{ReadsValid, RefusesText}
 use Rattle.ped_valid.proofs.OneVerdict.{one_of_both}
-use Rattle.ped_update.specs.Fresh.{tested_pairs}
+use Rattle.ped_graph.specs.Update.Fresh.{tested_pairs}
 use Rattle.ped_session.specs.declared.changes.Change.TheVariants.{Edit}
 use Rattle.ped_session.specs.declared.replies.Reply.{Reply}
 use Rattle.ped_session.specs.declared.replies.Reply.TheVariants.{Changed, Refused}

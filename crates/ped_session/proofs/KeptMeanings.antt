@@ -7,8 +7,8 @@ use Rattle.ped_valid.specs.Validity.{ReadsValid}
 use Rattle.ped_valid.proofs.OneVerdict.{valid_prints}
 use Rattle.ped_eval.specs.Outcomes.{outcome}
 use Rattle.ped_steps.specs.Tidy.{IsTidy}
-use Rattle.ped_step_runs.specs.Meaning.{Keeps}
-use Rattle.ped_step_runs.proofs.KeptMeanings.{keeps_itself, keeps_further}
+use Rattle.ped_steps.specs.Runs.Meaning.{Keeps}
+use Rattle.ped_steps.proofs.RunLaws.KeptMeanings.{keeps_itself, keeps_further}
 use Rattle.ped_script.specs.declared.items.Command.{Command}
 use Rattle.ped_script.specs.declared.items.Command.TheVariants.{Run}
 use Rattle.ped_script.specs.declared.items.Item.{Item}

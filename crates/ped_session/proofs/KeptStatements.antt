@@ -6,7 +6,7 @@ use Rattle.std.proofs.lemmas.Bool.{lt-ltb, ltb-true}
 use Rattle.std.proofs.lemmas.List.FromFn.{get_or-map-range_with_len, length-map-range_with_len}
 use Rattle.ped_tree.specs.Tree.{StmtTrees, ProgramTree}
 use Rattle.ped_tree.specs.Numbering.{statements_count}
-use Rattle.ped_update.specs.Fresh.{IsOneToOne}
+use Rattle.ped_graph.specs.Update.Fresh.{IsOneToOne}
 use Rattle.ped_steps.specs.Replacing.{all_kept}
 use Rattle.ped_scalar.specs.Expanding.{moved_behind, expand_kept}
 

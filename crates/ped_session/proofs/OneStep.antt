@@ -5,14 +5,14 @@ use Rattle.ped_tree.specs.Tree.{StmtTree, ProgramTree}
 use Rattle.ped_tree.specs.Printing.{program_text}
 use Rattle.ped_tree.specs.SourcePane.{source_pane}
 use Rattle.ped_tree.specs.Numbering.{statement_with}
-use Rattle.ped_grammar.specs.Refusal.{Finding}
-use Rattle.ped_grammar.specs.RefusalViews.{finding_of}
-use Rattle.ped_grammar.specs.declared.refusals.Refusal as text
+use Rattle.ped_tree.specs.Grammar.Refusal.{Finding}
+use Rattle.ped_tree.specs.Grammar.RefusalViews.{finding_of}
+use Rattle.ped_tree.specs.declared.grammar.refusals.Refusal as text
 use Rattle.ped_valid.specs.Validity.{ReadsValid, RefusesText}
 use Rattle.ped_valid.proofs.OneVerdict.{one_of_both}
 use Rattle.ped_graph.specs.DependencePane.{IsDependencePane, IsDependencePaneOf}
 use Rattle.ped_graph.proofs.OnePane.{one_pane, one_pane_of}
-use Rattle.ped_update.specs.Fresh.{tested_pairs}
+use Rattle.ped_graph.specs.Update.Fresh.{tested_pairs}
 use Rattle.ped_eval.specs.Outcomes.{outcome}
 use Rattle.ped_steps.specs.Causes.{Cause}
 use Rattle.ped_script.specs.declared.items.Command.{Command}

@@ -6,7 +6,7 @@ use Rattle.ped_tree.specs.Views.{program_tree}
 use Rattle.ped_symbols.specs.Kinds.{table_of}
 use Rattle.ped_symbols.specs.NameRefusals.{IsValid}
 use Rattle.ped_valid.specs.Validity.{ReadsValid}
-use Rattle.ped_update.specs.Fresh.{IsOneToOne, tested_pairs}
+use Rattle.ped_graph.specs.Update.Fresh.{IsOneToOne, tested_pairs}
 use Rattle.ped_steps.specs.declared.causes.Refused.{Refused}
 use Rattle.ped_steps.specs.declared.changes.Change as step
 use Rattle.ped_steps.specs.CodeCauses.{cause_of, IsShort}

@@ -6,7 +6,7 @@ use Rattle.ped_tree.specs.Printing.{program_text}
 use Rattle.ped_symbols.specs.Kinds.{table_of}
 use Rattle.ped_symbols.specs.NameRefusals.{IsValid}
 use Rattle.ped_graph.specs.Held.{Held, held_of}
-use Rattle.ped_update.specs.Deltas.{TakesTo}
+use Rattle.ped_graph.specs.Update.Deltas.{TakesTo}
 use Rattle.ped_session.specs.declared.versions.Version.{Version}
 use Rattle.ped_session.specs.declared.versions.Entry.{Entry}
 use Rattle.ped_session.specs.States.{Other}

@@ -12,7 +12,7 @@ use crate::replies::{Refusal, Reply};
 use crate::session::Session;
 use crate::splices::{line_count, spliced};
 use ped_base::{Bytes, NoMemory};
-use ped_update::Keep;
+use ped_graph::update::Keep;
 use ped_valid::{OpenRefusal, open_program};
 use ped_verdict::Steps;
 use std::alloc::Global;

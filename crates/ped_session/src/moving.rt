@@ -2,7 +2,7 @@
 
 ghost use Rattle.std.specs.Prelude.{◌≡◌};
 ghost use Rattle.ped_graph.specs.Held.{held_of};
-ghost use Rattle.ped_update.specs.Deltas.{TakesTo};
+ghost use Rattle.ped_graph.specs.Update.Deltas.{TakesTo};
 ghost use Rattle.ped_session.specs.Holding.{tree_of};
 ghost use Rattle.ped_session.specs.Steps.{GoesBack, GoesForward};
 
@@ -54,5 +54,5 @@ fn exchange<L: Ledger>(present: &mut Version, graph: &mut Graph<L>, entry: &mut 
     ensures delta { TakesTo entry.new.delta graph.new graph.old }
 {
     swap(present, &mut entry.other);
-    ped_update::swap(graph, &mut entry.delta);
+    ped_graph::update::swap(graph, &mut entry.delta);
 }

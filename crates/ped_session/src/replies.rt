@@ -4,8 +4,8 @@ ghost use Rattle.std.specs.Prelude.{◌≡◌};
 ghost use Rattle.ped_steps.specs.CodeCauses.{cause_of, IsShort};
 
 use ped_base::Bytes;
-use ped_grammar::Refusal as TextRefusal;
 use ped_steps::Refused;
+use ped_tree::grammar::Refusal as TextRefusal;
 use std::marker::Model;
 
 /// The first cause against a step. Contracts see the rule with the statement that it names, or the dependence.

@@ -2,14 +2,14 @@
 
 ghost use Rattle.std.specs.Prelude.{◌≡◌, ◌++◌, ◌∷◌, [], codes, IfOk, OnOk};
 ghost use Rattle.std.specs.Fmt.{decimal};
-ghost use Rattle.ped_grammar.specs.RefusalViews.{finding_of};
+ghost use Rattle.ped_tree.specs.Grammar.RefusalViews.{finding_of};
 ghost use Rattle.ped_steps.specs.CauseWords.{cause_words};
 ghost use Rattle.ped_session.specs.Replies as Spec;
 
 use crate::replies::{FirstCause, Refusal, Reply};
 use itoa::Buffer;
 use ped_base::{Bytes, NoMemory};
-use ped_grammar::Refusal as TextRefusal;
+use ped_tree::grammar::Refusal as TextRefusal;
 use std::alloc::Global;
 
 /// What is printed of the reply to the command on this line of a script.

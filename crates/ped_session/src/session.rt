@@ -3,11 +3,11 @@
 ghost use Rattle.std.specs.Prelude.{◌≡◌, ◌≢◌, ◌+◌, ◌≤◌, ℕ, List, length, IfOk, IfErr, OnOk, OnErr, is_ok, true};
 ghost use Rattle.ped_tree.specs.Tree.{ProgramTree};
 ghost use Rattle.ped_tree.specs.Numbering.{statements_count};
-ghost use Rattle.ped_refs.specs.References.{references, pair_count};
+ghost use Rattle.ped_symbols.specs.ped_refs.specs.References.{references, pair_count};
 ghost use Rattle.ped_tree.specs.Views.{program_tree};
 ghost use Rattle.ped_symbols.specs.NameRefusals.{IsValid};
 ghost use Rattle.ped_symbols.specs.Kinds.{table_of};
-ghost use Rattle.ped_grammar.specs.Refusal.{Finding};
+ghost use Rattle.ped_tree.specs.Grammar.Refusal.{Finding};
 ghost use Rattle.ped_valid.specs.Validity.{ReadsValid, RefusesText};
 ghost use Rattle.ped_valid.specs.Refusals.{IsRefusalOf};
 ghost use Rattle.ped_edges.specs.Edges as plain;

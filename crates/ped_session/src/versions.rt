@@ -2,9 +2,9 @@
 
 use crate::changes::Change;
 use ped_base::Bytes;
+use ped_graph::update::Delta;
 use ped_symbols::Symbols;
 use ped_tree::Program;
-use ped_update::Delta;
 use std::sync::ledger::Ledger;
 
 /// A valid program of a session.

@@ -7,10 +7,10 @@ use Rattle.std.proofs.lemmas.List.{append-nil}
 use Rattle.std.proofs.lemmas.List.Folds.{list_all-append}
 use Rattle.ped_base.specs.Letters.{is_digit, is_alphanumeric}
 use Rattle.ped_tree.specs.Tree.{ExprTree, Int, Head}
-use Rattle.ped_grammar.specs.Words.{is_name, is_numeral, numeral_value}
-use Rattle.ped_grammar.specs.ExpressionForms.{ExprForm, expr_form_text, expr_form_tree}
-use Rattle.ped_grammar.specs.Items.{Item, begins_do}
-use Rattle.ped_grammar.specs.StatementForms.{is_label, ControlForm, control, comma_text, further_form_text, control_form_text, do_form_word, step_form_tree, control_form_head}
+use Rattle.ped_tree.specs.Grammar.Words.{is_name, is_numeral, numeral_value}
+use Rattle.ped_tree.specs.Grammar.ExpressionForms.{ExprForm, expr_form_text, expr_form_tree}
+use Rattle.ped_tree.specs.Grammar.Items.{Item, begins_do}
+use Rattle.ped_tree.specs.Grammar.StatementForms.{is_label, ControlForm, control, comma_text, further_form_text, control_form_text, do_form_word, step_form_tree, control_form_head}
 use Rattle.ped_expressions.specs.Scanning.{◌>>=◌, front, behind, after}
 use Rattle.ped_expressions.specs.ExpressionReading.{with_literals, expr_of}
 use Rattle.ped_statements.specs.Saturated.{head_with_literals}

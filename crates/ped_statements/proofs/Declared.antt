@@ -4,9 +4,9 @@ use Rattle.std.specs.Prelude.{codes}
 use Rattle.std.specs.List.{list_all, flat_map, join_by}
 use Rattle.std.proofs.lemmas.Bool.{eqb-true}
 use Rattle.ped_tree.specs.Tree.{ExprTree, Int, BoundTree, DeclaratorTree}
-use Rattle.ped_grammar.specs.Words.{is_name}
-use Rattle.ped_grammar.specs.ExpressionForms.{expr_form_text, expr_form_tree}
-use Rattle.ped_grammar.specs.StatementForms.{BoundForm, upper_bound, both_bounds, ArrayForm, an_array, DeclaratorForm, a_scalar, of_array, ConstantForm, a_constant, bound_form_text, array_form_text, declarator_form_text, constant_form_text, bound_form_tree, array_form_tree, declarator_form_tree, constant_form_tree}
+use Rattle.ped_tree.specs.Grammar.Words.{is_name}
+use Rattle.ped_tree.specs.Grammar.ExpressionForms.{expr_form_text, expr_form_tree}
+use Rattle.ped_tree.specs.Grammar.StatementForms.{BoundForm, upper_bound, both_bounds, ArrayForm, an_array, DeclaratorForm, a_scalar, of_array, ConstantForm, a_constant, bound_form_text, array_form_text, declarator_form_text, constant_form_text, bound_form_tree, array_form_tree, declarator_form_tree, constant_form_tree}
 use Rattle.ped_expressions.specs.Scanning.{◌>>=◌, go_on, after}
 use Rattle.ped_expressions.specs.ExpressionReading.{with_literals, expr_of}
 use Rattle.ped_statements.specs.Saturated.{bound_with_literals, declarator_with_literals, value_with_literals}

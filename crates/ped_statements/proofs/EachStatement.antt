@@ -7,11 +7,11 @@ use Rattle.std.proofs.lemmas.List.{append-nil, map-id}
 use Rattle.ped_base.specs.Letters.{is_alphanumeric}
 use Rattle.ped_tree.specs.Tree as plain
 use Rattle.ped_tree.specs.Tree.{ExprTree, CondTree, StmtTree, StmtTrees, DeclaratorTree}
-use Rattle.ped_grammar.specs.Words.{is_name}
+use Rattle.ped_tree.specs.Grammar.Words.{is_name}
 use Rattle.ped_base.specs.Lists.{is_same_text}
-use Rattle.ped_grammar.specs.ConditionForms.{CondForm, cond_form_text, cond_form_tree}
-use Rattle.ped_grammar.specs.Items.{Item, declares, saves_all, logical_if, block_if, else_if, keeps_private}
-use Rattle.ped_grammar.specs.StatementForms.{are_names, is_label, DeclaratorForm, of_array, ArrayForm, SimpleForm, ControlForm, StatementForm, program, implicit, integer, dimension, parameter, save, save_all, simple, if_simple, if_then, else_if_then, else_alone, end_of_if, do_loop, private, end, declarator_form_text, constant_form_text, simple_form_text, control_form_text, statement_form_text, behind_if, declarator_form_tree, array_form_tree, constant_form_tree, statement_item}
+use Rattle.ped_tree.specs.Grammar.ConditionForms.{CondForm, cond_form_text, cond_form_tree}
+use Rattle.ped_tree.specs.Grammar.Items.{Item, declares, saves_all, logical_if, block_if, else_if, keeps_private}
+use Rattle.ped_tree.specs.Grammar.StatementForms.{are_names, is_label, DeclaratorForm, of_array, ArrayForm, SimpleForm, ControlForm, StatementForm, program, implicit, integer, dimension, parameter, save, save_all, simple, if_simple, if_then, else_if_then, else_alone, end_of_if, do_loop, private, end, declarator_form_text, constant_form_text, simple_form_text, control_form_text, statement_form_text, behind_if, declarator_form_tree, array_form_tree, constant_form_tree, statement_item}
 use Rattle.ped_statements.specs.declared.keywords.Keyword.{Keyword}
 use Rattle.ped_statements.specs.declared.keywords.Keyword.TheVariants as keyword
 use Rattle.ped_expressions.specs.Scanning.{◌>>=◌, after}

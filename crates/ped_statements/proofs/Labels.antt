@@ -5,8 +5,8 @@ use Rattle.std.specs.List.{list_all}
 use Rattle.std.specs.Str.Parse.{AllDigits}
 use Rattle.std.proofs.lemmas.Str.Parse.{digits_value_short, numerals_by_value, tells_digits}
 use Rattle.ped_base.specs.Letters.{is_digit}
-use Rattle.ped_grammar.specs.StatementForms.{is_label}
-use Rattle.ped_grammar.specs.Words.{numeral_value}
+use Rattle.ped_tree.specs.Grammar.StatementForms.{is_label}
+use Rattle.ped_tree.specs.Grammar.Words.{numeral_value}
 use Rattle.ped_expressions.specs.ExpressionReading.{saturated}
 use Rattle.ped_statements.proofs.Several.{first_good, others_good}
 

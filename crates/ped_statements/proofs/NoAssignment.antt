@@ -6,8 +6,8 @@ use Rattle.std.proofs.lemmas.Bool.{eqb-true, lt-leb}
 use Rattle.ped_base.specs.Letters as Letters
 use Rattle.ped_base.specs.Letters.{is_letter, is_digit, is_alphanumeric}
 use Rattle.ped_tree.specs.Tree.{ExprTree, Var, no_exprs, more_exprs, StmtTree, Assign}
-use Rattle.ped_grammar.specs.Words.{is_name}
-use Rattle.ped_grammar.specs.ConditionForms.{CondForm, cond_form_text}
+use Rattle.ped_tree.specs.Grammar.Words.{is_name}
+use Rattle.ped_tree.specs.Grammar.ConditionForms.{CondForm, cond_form_text}
 use Rattle.ped_expressions.specs.Scanning.{◌>>=◌, front, behind, first_is, after}
 use Rattle.ped_expressions.specs.ExpressionReading.{expr_of, primary_of, named_of, exprs_of}
 use Rattle.ped_statements.specs.Listing.{whole}

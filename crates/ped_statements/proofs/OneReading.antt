@@ -1,8 +1,8 @@
 -- What is read of a text is what it is.
 use Rattle.std.proofs.Common.{◌≡◌, ℕ, Bool, true, false, cond, List, Option, Some, None, refl, sym, ap, ◌∙◌}
-use Rattle.ped_grammar.specs.Items.{Item, says, outside_profile, no_form}
-use Rattle.ped_grammar.specs.StatementForms.{statement_item}
-use Rattle.ped_grammar.specs.Reading.{HasNoForm}
+use Rattle.ped_tree.specs.Grammar.Items.{Item, says, outside_profile, no_form}
+use Rattle.ped_tree.specs.Grammar.StatementForms.{statement_item}
+use Rattle.ped_tree.specs.Grammar.Reading.{HasNoForm}
 use Rattle.ped_expressions.specs.Scanning.{go_on}
 use Rattle.ped_statements.specs.Saturated.{says_with_literals, IsReadAs}
 use Rattle.ped_statements.specs.StatementReading.{statement_of}

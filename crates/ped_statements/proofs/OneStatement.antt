@@ -1,9 +1,9 @@
 -- A text says one thing at most.
 use Rattle.std.proofs.Common.{◌≡◌, ℕ, List, [], ◌∷◌, map, Some, refl, sym, ap, ◌∙◌}
 use Rattle.ped_tree.specs.Tree.{ExprTree, CondTree, ItemTree, Value, Text, Head, StmtTree, StmtTrees, Assign, If, Do, Print, Read, Stop, Comment, no_stmts, more_stmts, BoundTree, DeclaratorTree, DeclTree, Program, Implicit, Integer, Dimension, Parameter, Save, Remark}
-use Rattle.ped_grammar.specs.Items.{Item, declares, saves_all, does, continues, logical_if, block_if, else_if, else_line, end_if, begins_do, keeps_private, ends_program}
-use Rattle.ped_grammar.specs.StatementForms.{ReadsItem}
-use Rattle.ped_grammar.specs.Reading.{OneItem}
+use Rattle.ped_tree.specs.Grammar.Items.{Item, declares, saves_all, does, continues, logical_if, block_if, else_if, else_line, end_if, begins_do, keeps_private, ends_program}
+use Rattle.ped_tree.specs.Grammar.StatementForms.{ReadsItem}
+use Rattle.ped_tree.specs.Grammar.Reading.{OneItem}
 use Rattle.ped_expressions.specs.ExpressionReading.{with_literals}
 use Rattle.ped_statements.specs.Saturated.{item_with_literals, head_with_literals, stmt_with_literals, stmts_with_literals, bound_with_literals, declarator_with_literals, value_with_literals, decl_with_literals, says_with_literals}
 use Rattle.ped_statements.specs.StatementReading.{statement_of}

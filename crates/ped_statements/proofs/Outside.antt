@@ -5,9 +5,9 @@ use Rattle.std.specs.List.{list_any, join_by}
 use Rattle.std.proofs.lemmas.Bool.{eqb-true}
 use Rattle.ped_base.specs.Letters.{is_digit}
 use Rattle.ped_tree.specs.Printing.{constant_text}
-use Rattle.ped_grammar.specs.Words.{is_numeral}
-use Rattle.ped_grammar.specs.StatementForms.{ControlForm, control_form_text, do_form_word}
-use Rattle.ped_grammar.specs.OutsideProfile.{begins_with, words_outside, is_enclosed, are_labels, IsOutside, by_word, stop_with_digits, stop_with_constant, do_without_label, if_with_labels}
+use Rattle.ped_tree.specs.Grammar.Words.{is_numeral}
+use Rattle.ped_tree.specs.Grammar.StatementForms.{ControlForm, control_form_text, do_form_word}
+use Rattle.ped_tree.specs.Grammar.OutsideProfile.{begins_with, words_outside, is_enclosed, are_labels, IsOutside, by_word, stop_with_digits, stop_with_constant, do_without_label, if_with_labels}
 use Rattle.ped_expressions.specs.Scanning.{◌>>=◌, go_on, after}
 use Rattle.ped_statements.specs.Listing.{whole, several}
 use Rattle.ped_statements.specs.StatementReading.{quoted_at, control_of}

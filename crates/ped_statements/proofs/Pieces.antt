@@ -6,9 +6,9 @@ use Rattle.std.proofs.lemmas.Bool.{eqb-true}
 use Rattle.ped_base.specs.Letters.{is_letter, is_digit, is_alphanumeric}
 use Rattle.ped_tree.specs.Tree.{ExprTree, ItemTree, Value, Text}
 use Rattle.ped_tree.specs.Printing.{doubled}
-use Rattle.ped_grammar.specs.Words.{is_name, is_numeral}
-use Rattle.ped_grammar.specs.ExpressionForms.{ExprForm, PrimaryForm, ReferenceForm, literal, reference, remainder, absolute, greatest, least, parentheses, scalar, element, expr_form_text, primary_form_text, reference_form_text, exprs_form_text, expr_form_tree, primary_form_tree, reference_form_tree}
-use Rattle.ped_grammar.specs.StatementForms.{ItemForm, a_value, a_text, item_form_text, item_form_tree}
+use Rattle.ped_tree.specs.Grammar.Words.{is_name, is_numeral}
+use Rattle.ped_tree.specs.Grammar.ExpressionForms.{ExprForm, PrimaryForm, ReferenceForm, literal, reference, remainder, absolute, greatest, least, parentheses, scalar, element, expr_form_text, primary_form_text, reference_form_text, exprs_form_text, expr_form_tree, primary_form_tree, reference_form_tree}
+use Rattle.ped_tree.specs.Grammar.StatementForms.{ItemForm, a_value, a_text, item_form_text, item_form_tree}
 use Rattle.ped_expressions.specs.Scanning.{◌>>=◌, front, behind, first_is, after, scaling_at, adding_at}
 use Rattle.ped_expressions.specs.ExpressionReading.{with_literals, enough, expr_of, primary_of}
 use Rattle.ped_statements.specs.Saturated.{item_with_literals}

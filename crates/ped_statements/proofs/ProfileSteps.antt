@@ -5,7 +5,7 @@ use Rattle.std.specs.List.{list_all}
 use Rattle.std.specs.Cmp.Lexicographic.{pointwise}
 use Rattle.std.proofs.lemmas.Bool.{eqb-true, eq-eqb}
 use Rattle.ped_base.specs.Letters.{is_digit}
-use Rattle.ped_grammar.specs.Words.{is_numeral}
+use Rattle.ped_tree.specs.Grammar.Words.{is_numeral}
 use Rattle.ped_expressions.specs.Scanning.{◌>>=◌, first_is, front, behind, after}
 use Rattle.ped_statements.specs.Listing.{is_end, whole, several}
 use Rattle.ped_statements.specs.ProfileReading.{is_some, numeral_at}

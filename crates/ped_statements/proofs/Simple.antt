@@ -5,8 +5,8 @@ use Rattle.std.specs.Cmp.Lexicographic.{same_text}
 use Rattle.std.proofs.lemmas.List.{append-nil}
 use Rattle.ped_tree.specs.Tree.{ExprTree, ItemTree, StmtTree, Assign, Print, Read, Stop}
 use Rattle.ped_base.specs.Lists.{is_same_text}
-use Rattle.ped_grammar.specs.ExpressionForms.{ExprForm, ReferenceForm, expr_form_text, expr_form_tree, reference_form_text, reference_form_tree}
-use Rattle.ped_grammar.specs.StatementForms.{ItemForm, item_form_text, item_form_tree, SimpleForm, assignment, print, read, stop, continue, simple_form_text, simple_item, behind_if}
+use Rattle.ped_tree.specs.Grammar.ExpressionForms.{ExprForm, ReferenceForm, expr_form_text, expr_form_tree, reference_form_text, reference_form_tree}
+use Rattle.ped_tree.specs.Grammar.StatementForms.{ItemForm, item_form_text, item_form_tree, SimpleForm, assignment, print, read, stop, continue, simple_form_text, simple_item, behind_if}
 use Rattle.ped_expressions.specs.Scanning.{◌>>=◌, go_on, after}
 use Rattle.ped_expressions.specs.ExpressionReading.{with_literals, expr_of}
 use Rattle.ped_statements.specs.Saturated.{item_with_literals, stmts_with_literals, says_with_literals}

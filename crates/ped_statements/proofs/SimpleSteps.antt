@@ -3,8 +3,8 @@ use Rattle.std.proofs.Common.{◌≡◌, ℕ, true, false, cond, List, [], ◌�
 use Rattle.std.specs.Prelude.{codes}
 use Rattle.std.proofs.lemmas.List.{append-nil}
 use Rattle.ped_base.specs.Letters.{is_letter, begins_with_letter}
-use Rattle.ped_grammar.specs.ExpressionForms.{reference_form_text, reference_form_tree}
-use Rattle.ped_grammar.specs.StatementForms.{item_form_text, item_form_tree}
+use Rattle.ped_tree.specs.Grammar.ExpressionForms.{reference_form_text, reference_form_tree}
+use Rattle.ped_tree.specs.Grammar.StatementForms.{item_form_text, item_form_tree}
 use Rattle.ped_expressions.specs.ExpressionReading.{with_literals}
 use Rattle.ped_statements.specs.Saturated.{item_with_literals}
 use Rattle.ped_expressions.specs.Scanning.{◌>>=◌, go_on, first_is, after}

@@ -1,6 +1,6 @@
 -- What is read of a text is what it is, as code answers it.
 use Rattle.std.proofs.Common.{◌≡◌, ℕ, List, sym, subst}
-use Rattle.ped_grammar.specs.Items.{Reading}
+use Rattle.ped_tree.specs.Grammar.Items.{Reading}
 use Rattle.ped_statements.specs.Saturated.{IsReadAs}
 use Rattle.ped_statements.specs.ProfileReading.{reading_in}
 use Rattle.ped_statements.proofs.OneReading.{reading_is}

@@ -1,3 +1,4 @@
+pub use Rattle.ped_expressions
 pub mod Listing
 pub mod ProfileReading
 pub mod Saturated

@@ -2,9 +2,9 @@
 use Rattle.std.specs.Prelude.{ℕ, ◌+◌, ◌-◌, List, [], ◌∷◌, codes, Option, Some, None, Bool, true, false, not, ◌||◌, ◌==◌, if◌then◌else◌}
 use Rattle.std.specs.List.{list_any}
 use Rattle.ped_base.specs.Letters.{is_digit}
-use Rattle.ped_grammar.specs.Words.{is_numeral}
-use Rattle.ped_grammar.specs.Items.{Reading, says, outside_profile, no_form}
-use Rattle.ped_grammar.specs.OutsideProfile.{begins_with, words_outside}
+use Rattle.ped_tree.specs.Grammar.Words.{is_numeral}
+use Rattle.ped_tree.specs.Grammar.Items.{Reading, says, outside_profile, no_form}
+use Rattle.ped_tree.specs.Grammar.OutsideProfile.{begins_with, words_outside}
 use Rattle.ped_expressions.specs.Scanning.{Answer, ◌>>=◌, go_on, front, behind, first_is, after}
 use Rattle.ped_statements.specs.Listing.{whole, several}
 use Rattle.ped_statements.specs.StatementReading.{quoted_at, control_of, statement_of}

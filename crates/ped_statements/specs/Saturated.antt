@@ -1,8 +1,8 @@
 -- What statements say where each literal n is taken as v n: code keeps a literal in 32 bits, the greatest number of these for a greater one (this project).
 use Rattle.std.specs.Prelude.{◌≡◌, ℕ, List, map}
 use Rattle.ped_tree.specs.Tree.{ExprTree, ItemTree, Value, Text, Head, StmtTree, StmtTrees, Assign, If, Do, Print, Read, Stop, Comment, no_stmts, more_stmts, BoundTree, DeclaratorTree, DeclTree, Program, Implicit, Integer, Dimension, Parameter, Save, Remark}
-use Rattle.ped_grammar.specs.Items.{Item, declares, saves_all, does, continues, logical_if, block_if, else_if, else_line, end_if, begins_do, keeps_private, ends_program, Reading, says, outside_profile, no_form, Entry}
-use Rattle.ped_grammar.specs.Reading.{IsReading}
+use Rattle.ped_tree.specs.Grammar.Items.{Item, declares, saves_all, does, continues, logical_if, block_if, else_if, else_line, end_if, begins_do, keeps_private, ends_program, Reading, says, outside_profile, no_form, Entry}
+use Rattle.ped_tree.specs.Grammar.Reading.{IsReading}
 use Rattle.ped_expressions.specs.ExpressionReading.{with_literals}
 use Rattle.ped_expressions.specs.ConditionReading.{cond_with_literals}
 

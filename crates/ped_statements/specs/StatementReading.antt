@@ -5,9 +5,9 @@ use Rattle.ped_base.specs.Letters.{is_letter, is_digit, is_alphanumeric}
 use Rattle.ped_tree.specs.Tree as plain
 use Rattle.ped_tree.specs.Tree.{ExprTree, Int, Var, Element, Neg, Add, Sub, Mul, Div, Pow, Call, ItemTree, Value, Text, Head, StmtTree, StmtTrees, Assign, Print, Read, Stop, no_stmts, more_stmts, BoundTree, DeclaratorTree}
 use Rattle.ped_base.specs.Lists.{has_some, is_same_text}
-use Rattle.ped_grammar.specs.Words.{is_name, numeral_value}
-use Rattle.ped_grammar.specs.Items.{Item, declares, saves_all, does, continues, logical_if, block_if, else_if, else_line, end_if, begins_do, keeps_private, ends_program}
-use Rattle.ped_grammar.specs.StatementForms.{is_label}
+use Rattle.ped_tree.specs.Grammar.Words.{is_name, numeral_value}
+use Rattle.ped_tree.specs.Grammar.Items.{Item, declares, saves_all, does, continues, logical_if, block_if, else_if, else_line, end_if, begins_do, keeps_private, ends_program}
+use Rattle.ped_tree.specs.Grammar.StatementForms.{is_label}
 use Rattle.ped_statements.specs.declared.keywords.Keyword.{Keyword}
 use Rattle.ped_statements.specs.declared.keywords.Keyword.TheVariants as keyword
 use Rattle.ped_expressions.specs.Scanning.{Answer, ◌>>=◌, go_on, front, behind, first_is, after}

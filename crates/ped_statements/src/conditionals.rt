@@ -1,17 +1,17 @@
 //! IF and ELSE IF statements (ANSI X3.9-1978, sections 11.5 to 11.7), each behind its parenthesis.
 
 ghost use Rattle.std.specs.Prelude.{◌≡◌};
-ghost use Rattle.ped_grammar.specs.Items as plain;
+ghost use Rattle.ped_tree.specs.Grammar.Items as plain;
 ghost use Rattle.ped_tree.specs.Views.{cond_tree};
 ghost use Rattle.ped_expressions.specs.ExpressionReading.{saturated};
 ghost use Rattle.ped_expressions.specs.Views.{Gives};
-ghost use Rattle.ped_grammar.specs.ItemViews.{item_of};
+ghost use Rattle.ped_tree.specs.Grammar.ItemViews.{item_of};
 ghost use Rattle.ped_statements.specs.StatementReading.{if_of, else_if_of, behind_logical};
 ghost use Rattle.ped_statements.specs.StatementViews.{simple_tree};
 
 use crate::simple_statements::{is_word, simple};
 use ped_expressions::{Failure, after, cond};
-use ped_grammar::Item;
+use ped_tree::grammar::Item;
 use ped_tree::{Cond, Stmt};
 use std::alloc::Global;
 

@@ -5,7 +5,7 @@ ghost use Rattle.std.specs.Prelude.{◌≡◌, codes};
 ghost use Rattle.std.specs.List.{list_all};
 ghost use Rattle.ped_tree.specs.Views.{declarator_tree};
 ghost use Rattle.ped_base.specs.Lists.{is_same_text};
-ghost use Rattle.ped_grammar.specs.ItemViews.{item_of};
+ghost use Rattle.ped_tree.specs.Grammar.ItemViews.{item_of};
 ghost use Rattle.ped_expressions.specs.ExpressionReading.{saturated};
 ghost use Rattle.ped_expressions.specs.Views.{Gives};
 ghost use Rattle.ped_statements.specs.StatementReading as Spec;
@@ -18,7 +18,7 @@ use crate::keywords::{Keyword, take_keyword};
 use crate::loops::do_statement;
 use crate::names::{at_end, is_end, names};
 use ped_expressions::{Failure, name_of};
-use ped_grammar::Item;
+use ped_tree::grammar::Item;
 use ped_tree::{Decl, Declarator};
 use std::alloc::Global;
 

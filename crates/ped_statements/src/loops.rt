@@ -3,10 +3,10 @@
 ghost use Rattle.std.specs.Prelude.{◌≡◌, ◌<◌, ◌≤◌, IfOk, IsTrue, length, Some, None, if◌then◌else◌};
 ghost use Rattle.std.specs.List.{list_all};
 ghost use Rattle.ped_base.specs.Letters.{is_digit};
-ghost use Rattle.ped_grammar.specs.Items as Items;
-ghost use Rattle.ped_grammar.specs.StatementForms as Forms;
-ghost use Rattle.ped_grammar.specs.Words.{numeral_value};
-ghost use Rattle.ped_grammar.specs.ItemViews.{item_of};
+ghost use Rattle.ped_tree.specs.Grammar.Items as Items;
+ghost use Rattle.ped_tree.specs.Grammar.StatementForms as Forms;
+ghost use Rattle.ped_tree.specs.Grammar.Words.{numeral_value};
+ghost use Rattle.ped_tree.specs.Grammar.ItemViews.{item_of};
 ghost use Rattle.ped_expressions.specs.ExpressionReading.{saturated};
 ghost use Rattle.ped_expressions.specs.Views.{Gives, expr_and_rest};
 ghost use Rattle.ped_statements.specs.StatementReading as Spec;
@@ -16,8 +16,8 @@ ghost use Rattle.ped_statements.specs.StatementViews.{head_of, control_and_rest}
 use crate::names::at_end;
 use ped_base::Name;
 use ped_expressions::{Failure, after, expr, literal_value, name_of, split_digits, split_word};
-use ped_grammar::{DoStatement, Item};
 use ped_tree::Expr;
+use ped_tree::grammar::{DoStatement, Item};
 use std::alloc::Global;
 
 /// What follows the label of a DO.

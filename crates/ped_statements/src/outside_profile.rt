@@ -3,8 +3,8 @@
 
 ghost use Rattle.std.specs.Prelude.{◌≡◌, false, IfOk, map};
 ghost use Rattle.std.specs.List.{list_any};
-ghost use Rattle.ped_grammar.specs.OutsideProfile as OutsideProfile;
-ghost use Rattle.ped_grammar.specs.Words as Words;
+ghost use Rattle.ped_tree.specs.Grammar.OutsideProfile as OutsideProfile;
+ghost use Rattle.ped_tree.specs.Grammar.Words as Words;
 ghost use Rattle.ped_expressions.specs.ExpressionReading.{saturated};
 ghost use Rattle.ped_expressions.specs.Views.{lent};
 ghost use Rattle.ped_statements.specs.Listing.{whole, several};

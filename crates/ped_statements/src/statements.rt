@@ -2,8 +2,8 @@
 //! out, or none.
 
 ghost use Rattle.std.specs.Prelude.{◌≡◌, IfOk, Some, None};
-ghost use Rattle.ped_grammar.specs.Items as plain;
-ghost use Rattle.ped_grammar.specs.ItemViews.{item_of, reading_of};
+ghost use Rattle.ped_tree.specs.Grammar.Items as plain;
+ghost use Rattle.ped_tree.specs.Grammar.ItemViews.{item_of, reading_of};
 ghost use Rattle.ped_statements.specs.ProfileReading.{reading_in};
 ghost use Rattle.ped_statements.specs.Saturated.{IsReadAs};
 ghost use Rattle.ped_statements.specs.StatementReading.{simply, statement_of};
@@ -16,8 +16,8 @@ use crate::outside_profile::is_outside;
 use crate::simple_statements::simple;
 use ped_base::NoMemory;
 use ped_expressions::Failure;
-use ped_grammar::{Item, StatementReading};
 use ped_tree::Stmt;
+use ped_tree::grammar::{Item, StatementReading};
 use std::alloc::Global;
 
 /// What the text of a statement is, where a literal above 4294967295 is read as that number: no tree

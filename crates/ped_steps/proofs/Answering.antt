@@ -4,7 +4,7 @@ use Rattle.std.proofs.lemmas.List.Elements.{All-nil, All-cons}
 use Rattle.ped_tree.specs.Tree.{ProgramTree}
 use Rattle.ped_tree.specs.Numbering.{statements_count}
 use Rattle.ped_symbols.specs.NameRefusals.{IsValid}
-use Rattle.ped_uses.proofs.Whole.{right_program}
+use Rattle.ped_symbols.proofs.RightUseLaws.Whole.{right_program}
 use Rattle.ped_edges.specs.Edges.{Edge}
 use Rattle.ped_steps.specs.declared.rules.Rule.{Rule}
 use Rattle.ped_steps.specs.declared.causes.Refused.{Refused}

@@ -3,3 +3,4 @@ pub mod FirstRules
 pub mod Followed
 pub mod OneCause
 pub mod OnePlace
+pub mod RunLaws

@@ -1,3 +1,5 @@
+pub use Rattle.ped_laws.specs.ped_eval
+pub use Rattle.ped_laws
 pub mod RuleNames
 pub mod Causes
 pub mod CauseWords
@@ -7,3 +9,4 @@ pub mod Placing
 pub mod Scenes
 pub mod Changes
 pub mod Tidy
+pub mod Runs

@@ -7,9 +7,9 @@ ghost use Rattle.ped_steps.specs.Replacing as Spec;
 
 use crate::counting::count_statements;
 use ped_base::{Listed, NoMemory};
+use ped_graph::update::Keep;
 use ped_symbols::Symbols;
 use ped_tree::Program;
-use ped_update::Keep;
 use std::alloc::Global;
 
 /// What an accepted step makes of a program.

@@ -11,6 +11,7 @@ mod numbers;
 mod replacing;
 mod rounds;
 mod rules;
+pub mod runs;
 mod scenes;
 mod validity;
 

@@ -9,9 +9,9 @@ ghost use Rattle.ped_steps.specs.Changes.{IsChange};
 use crate::changes::Change;
 use ped_base::NoMemory;
 use ped_fits::fits;
+use ped_graph::update::Keep;
 use ped_symbols::{NameRefusal, Symbols, symbols_of};
 use ped_tree::Program;
-use ped_update::Keep;
 use std::alloc::Global;
 
 /// What the names of a program stand for that was read from no text: none exactly where it isn't valid, since it breaks a

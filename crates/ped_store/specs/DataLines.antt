@@ -4,7 +4,7 @@ use Rattle.std.specs.List.{list_all}
 use Rattle.std.specs.Str.Parse.{without_leading_sign, signed_digits_value}
 use Rattle.ped_base.specs.Letters.{is_digit}
 use Rattle.ped_base.specs.Lists.{has_some}
-use Rattle.ped_arithmetic.specs.Faults.{◌>>=◌}
+use Rattle.ped_base.specs.Arithmetic.Faults.{◌>>=◌}
 use Rattle.ped_store.specs.Stores.{bad_data, storable}
 
 -- in data a blank is a space or a tab (this project)

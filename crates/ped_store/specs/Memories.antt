@@ -2,7 +2,7 @@
 use Rattle.std.specs.Prelude.{ℕ, ℤ, List, [], ◌∷◌, map, Bool, true, false, ◌&&◌, ◌==◌, length, Result, Ok, Err, if◌then◌else◌}
 use Rattle.ped_base.specs.Dimensions.{Dimensions}
 use Rattle.ped_base.specs.Lists.{has_some, is_same_text, is_among}
-use Rattle.ped_arithmetic.specs.Faults.{◌>>=◌}
+use Rattle.ped_base.specs.Arithmetic.Faults.{◌>>=◌}
 use Rattle.ped_store.specs.declared.shapes.Shape.{Shape}
 use Rattle.ped_store.specs.Cells.{Cell, Scalar, Element, Private, In, Out, same_cell}
 use Rattle.ped_store.specs.Stores.{Content, Undefined, Number, Lines, Store, store_at_start, put, number_read, storable, with_line, outside_bounds}

@@ -9,7 +9,7 @@ use Rattle.ped_tree.specs.Tree.{BoundTree}
 use Rattle.ped_tree.specs.Views.{bound_tree, declarator_tree}
 use Rattle.ped_tree.specs.declared.declarations.Declarator.{Declarator}
 use Rattle.ped_tree.specs.declared.declarations.Bound.{Bound}
-use Rattle.ped_grammar.specs.LimitNumbers.{most_dimensions}
+use Rattle.ped_tree.specs.Grammar.LimitNumbers.{most_dimensions}
 use Rattle.ped_symbols.specs.Values.{Values}
 use Rattle.ped_base.specs.Dimensions.{Dimensions, IsBounds}
 use Rattle.ped_base.specs.declared.bounds.Bounds.TheInside.{Inside}

@@ -15,8 +15,8 @@ use Rattle.ped_symbols.specs.Entries.{entry_of}
 use Rattle.ped_symbols.specs.Uses.{decl_uses}
 use Rattle.ped_symbols.specs.Sites.{Site, statement, private_site, stmt_sites, stmts_sites, decl_sites, site_uses}
 use Rattle.ped_symbols.specs.NameRefusals.{Before, at_first, behind_site, behind_sites, at_sites}
-use Rattle.ped_grammar.specs.Refusal.{earliest}
-use Rattle.ped_grammar.specs.RefusalViews.{found_of}
+use Rattle.ped_tree.specs.Grammar.Refusal.{earliest}
+use Rattle.ped_tree.specs.Grammar.RefusalViews.{found_of}
 use Rattle.ped_symbols.specs.declared.declared.Declared.{Declared}
 use Rattle.ped_symbols.specs.declared.declarations.Held.{Held}
 use Rattle.ped_symbols.specs.declared.sites.Found.{Found}

@@ -10,13 +10,13 @@ use Rattle.ped_tree.specs.Numbering.{statement_count, statements_count, loop_cou
 use Rattle.ped_tree.specs.Accesses.{Access, own_accesses}
 use Rattle.ped_tree.specs.Nests.{Loop, indices_of}
 use Rattle.ped_tree.specs.Printing.{own_text}
-use Rattle.ped_names.specs.Collecting.{HaveSame}
-use Rattle.ped_names.proofs.SameAccesses.{same_accesses}
-use Rattle.ped_grammar.specs.Words.{is_name}
-use Rattle.ped_grammar.specs.LimitNumbers.{most_statements, most_references, most_characters}
-use Rattle.ped_grammar.specs.Contexts.{is_stop}
-use Rattle.ped_grammar.specs.ProgramRefusals.{assigned_by, meets}
-use Rattle.ped_grammar.specs.Fits.{Surroundings, moved, in_if, in_loop, is_within, simple_fits, loop_fits, private_fits, target_fits, expr_fits, cond_fits, item_fits, stmt_fits, stmts_fit, decls_fit, begins_with_statement, at_body, fits}
+use Rattle.ped_tree.specs.Names.Collecting.{HaveSame}
+use Rattle.ped_tree.proofs.NameLaws.SameAccesses.{same_accesses}
+use Rattle.ped_tree.specs.Grammar.Words.{is_name}
+use Rattle.ped_tree.specs.Grammar.LimitNumbers.{most_statements, most_references, most_characters}
+use Rattle.ped_tree.specs.Grammar.Contexts.{is_stop}
+use Rattle.ped_tree.specs.Grammar.ProgramRefusals.{assigned_by, meets}
+use Rattle.ped_tree.specs.Grammar.Fits.{Surroundings, moved, in_if, in_loop, is_within, simple_fits, loop_fits, private_fits, target_fits, expr_fits, cond_fits, item_fits, stmt_fits, stmts_fit, decls_fit, begins_with_statement, at_body, fits}
 use Rattle.ped_refs.specs.References.{Reference, numbered_accesses, statement_references, statements_references, references}
 use Rattle.ped_symbols.proofs.Collected.{same_more}
 

@@ -9,3 +9,4 @@ mod ManyPairs
 mod Repeats
 mod Sizes
 mod Walking
+pub mod RightUseLaws

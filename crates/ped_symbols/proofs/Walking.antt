@@ -11,9 +11,9 @@ use Rattle.ped_tree.specs.declared.statements.Stmt.{the_lemmas}
 use Rattle.ped_tree.specs.declared.statements.Stmt as variant
 use Rattle.ped_tree.specs.declared.statements.Do as loop
 use Rattle.ped_tree.specs.declared.declarations.Decl.{Decl}
-use Rattle.ped_grammar.specs.Refusal.{earliest}
-use Rattle.ped_grammar.specs.RefusalViews.{found_of}
-use Rattle.ped_grammar.proofs.First.{earliest_append}
+use Rattle.ped_tree.specs.Grammar.Refusal.{earliest}
+use Rattle.ped_tree.specs.Grammar.RefusalViews.{found_of}
+use Rattle.ped_tree.proofs.GrammarLaws.First.{earliest_append}
 use Rattle.ped_refs.specs.References.{Reference}
 use Rattle.ped_symbols.specs.declared.uses.Role.TheVariants.{Private}
 use Rattle.ped_symbols.specs.declared.uses.Use.{Use}

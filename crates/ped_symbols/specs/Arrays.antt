@@ -4,7 +4,7 @@ use Rattle.std.specs.List.{flat_map}
 use Rattle.ped_base.specs.Dimensions.{Dimensions}
 use Rattle.ped_base.specs.Lists.{has_some}
 use Rattle.ped_tree.specs.Tree.{BoundTree, DeclaratorTree, DeclTree}
-use Rattle.ped_grammar.specs.LimitNumbers.{most_dimensions}
+use Rattle.ped_tree.specs.Grammar.LimitNumbers.{most_dimensions}
 use Rattle.ped_symbols.specs.Values.{Values, fixed_value, declarators}
 
 -- arrays with their bounds, in order

@@ -1,3 +1,4 @@
+pub use Rattle.ped_refs
 pub mod Arrays
 pub mod Declarations
 pub mod Entries
@@ -10,3 +11,4 @@ pub mod Sites
 pub mod StorageLimits
 pub mod Uses
 pub mod Values
+pub mod RightUses

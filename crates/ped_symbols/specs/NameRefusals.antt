@@ -3,9 +3,9 @@ use Rattle.std.specs.Prelude.{◌≡◌, ℕ, ◌+◌, List, [], ◌∷◌, ◌+
 use Rattle.std.specs.List.{list_any}
 use Rattle.ped_base.specs.Lists.{is_among}
 use Rattle.ped_tree.specs.Tree.{StmtTree, Do, ProgramTree}
-use Rattle.ped_grammar.specs.Words.{intrinsic_of}
-use Rattle.ped_grammar.specs.Fits.{is_no_intrinsic, fits}
-use Rattle.ped_grammar.specs.Refusal.{Finding, RealName, DeclaredTwice, NotConstant, RankDiffers, BoundsEmpty, StorageLimit, refused_if}
+use Rattle.ped_tree.specs.Grammar.Words.{intrinsic_of}
+use Rattle.ped_tree.specs.Grammar.Fits.{is_no_intrinsic, fits}
+use Rattle.ped_tree.specs.Grammar.Refusal.{Finding, RealName, DeclaredTwice, NotConstant, RankDiffers, BoundsEmpty, StorageLimit, refused_if}
 use Rattle.ped_refs.specs.References.{Reference, references}
 use Rattle.ped_symbols.specs.declared.uses.Role.{Role}
 use Rattle.ped_symbols.specs.declared.uses.Role.TheVariants.{Typed, Dimensioned, Named, Saved, Rejected, Private, Index, Assigned, Operand}

@@ -1,9 +1,9 @@
 -- What both passes over a program have found. Contracts of private functions alone speak of it.
 use Rattle.std.specs.Prelude.{◌≡◌, ℕ, List, [], ◌++◌, map, Option}
 use Rattle.ped_tree.specs.Tree.{ProgramTree}
-use Rattle.ped_grammar.specs.Refusal.{first_of}
-use Rattle.ped_grammar.specs.declared.refusals.Refusal.{Refusal}
-use Rattle.ped_grammar.specs.RefusalViews.{found_of}
+use Rattle.ped_tree.specs.Grammar.Refusal.{first_of}
+use Rattle.ped_tree.specs.declared.grammar.refusals.Refusal.{Refusal}
+use Rattle.ped_tree.specs.Grammar.RefusalViews.{found_of}
 use Rattle.ped_refs.specs.References.{Reference}
 use Rattle.ped_symbols.specs.Sites.{Site}
 use Rattle.ped_symbols.specs.Declarations as Plain

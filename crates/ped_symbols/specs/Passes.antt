@@ -2,9 +2,9 @@
 use Rattle.std.specs.Prelude.{◌≡◌, ℕ, ◌+◌, ◌-◌, ◌^◌, min, List, [], ◌∷◌, ◌++◌, map, drop, ◌||◌, Bool, false, nat_le, Option, Some, None}
 use Rattle.std.specs.List.{list_any}
 use Rattle.ped_base.specs.Lists.{is_among}
-use Rattle.ped_grammar.specs.Refusal.{Finding, RealName, DeclaredTwice, NotConstant, RankDiffers, BoundsEmpty, StorageLimit, earliest, refused_if}
+use Rattle.ped_tree.specs.Grammar.Refusal.{Finding, RealName, DeclaredTwice, NotConstant, RankDiffers, BoundsEmpty, StorageLimit, earliest, refused_if}
 use Rattle.ped_refs.specs.References.{Reference}
-use Rattle.ped_grammar.specs.RefusalViews.{found_of}
+use Rattle.ped_tree.specs.Grammar.RefusalViews.{found_of}
 use Rattle.ped_symbols.specs.Entries.{entry_of, with_entry}
 use Rattle.ped_symbols.specs.Sites.{Site}
 use Rattle.ped_symbols.specs.Declarations as Plain

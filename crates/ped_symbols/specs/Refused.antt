@@ -1,7 +1,7 @@
 -- What the refusals of the code stand for (this project).
 use Rattle.std.specs.Prelude.{◌≡◌, List, Some}
-use Rattle.ped_grammar.specs.Refusal.{Finding, first_of}
-use Rattle.ped_grammar.specs.RefusalViews.{finding_of}
+use Rattle.ped_tree.specs.Grammar.Refusal.{Finding, first_of}
+use Rattle.ped_tree.specs.Grammar.RefusalViews.{finding_of}
 use Rattle.ped_symbols.specs.declared.symbols.NameRefusal.{NameRefusal}
 use Rattle.ped_symbols.specs.declared.symbols.NameRefusal.TheVariants.{At, NoMemory}
 

@@ -3,8 +3,8 @@ use Rattle.std.specs.Prelude.{ℕ, ℤ, pos, List, [], ◌∷◌, unsigned_abs, 
 use Rattle.std.specs.List.{list_any}
 use Rattle.std.specs.Ordering.{int_eq}
 use Rattle.ped_tree.specs.Tree.{ExprTree, StmtTree, Do, BoundTree, DeclaratorTree, DeclTree, Integer, Dimension, Parameter}
-use Rattle.ped_grammar.specs.LimitNumbers.{greatest_literal}
-use Rattle.ped_constants.specs.ConstantExpressions.{constant_value}
+use Rattle.ped_tree.specs.Grammar.LimitNumbers.{greatest_literal}
+use Rattle.ped_tree.specs.Constants.ConstantExpressions.{constant_value}
 use Rattle.ped_symbols.specs.Entries.{with_entry}
 use Rattle.ped_symbols.specs.Sites.{Site, declaration, statement, private_names}
 

@@ -4,15 +4,15 @@ ghost use Rattle.std.specs.Prelude.{◌≡◌, [], ◌∷◌, ◌++◌, ◌<◌,
 ghost use Rattle.std.specs.List.{flat_map};
 ghost use Rattle.ped_tree.specs.Views.{bound_tree, declarator_tree, decl_tree};
 ghost use Rattle.ped_base.specs.Lists.{has_some};
-ghost use Rattle.ped_grammar.specs.LimitNumbers.{most_dimensions};
+ghost use Rattle.ped_tree.specs.Grammar.LimitNumbers.{most_dimensions};
 ghost use Rattle.ped_symbols.specs.Arrays as Spec;
 ghost use Rattle.ped_symbols.specs.Passes.{KnowsArrays};
 
 use crate::tables::NameTable;
 use crate::values::fixed_value;
 use ped_base::{Bounds, NoMemory};
-use ped_constants::Consts;
 use ped_limits::MOST_DIMENSIONS;
+use ped_tree::constants::Consts;
 use ped_tree::{Bound, Decl, Declarator};
 
 /// Adds the arrays of a declaration with their bounds, by the constants that hold before it. Of a name that

@@ -19,8 +19,8 @@ use crate::tables::NameTable;
 use crate::uses::push_decl;
 use crate::values::{decl_fails, decl_is_empty};
 use ped_base::{Bounds, NoMemory};
-use ped_constants::Consts;
 use ped_tree::Decl;
+use ped_tree::constants::Consts;
 use std::alloc::Global;
 
 /// What declarations have said so far.

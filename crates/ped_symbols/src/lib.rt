@@ -8,6 +8,7 @@ mod declarations;
 mod declared;
 mod pairs;
 mod repeating;
+pub mod right_uses;
 mod sites;
 mod statements;
 mod storage;

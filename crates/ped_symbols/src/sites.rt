@@ -2,8 +2,8 @@
 
 ghost use Rattle.std.specs.Prelude.{◌≡◌, [], ◌∷◌, ◌++◌, ◌+◌, ◌||◌, ℕ, List, map, drop, IfOk};
 ghost use Rattle.std.specs.List.{list_any};
-ghost use Rattle.ped_grammar.specs.Refusal.{earliest};
-ghost use Rattle.ped_grammar.specs.RefusalViews.{found_of};
+ghost use Rattle.ped_tree.specs.Grammar.Refusal.{earliest};
+ghost use Rattle.ped_tree.specs.Grammar.RefusalViews.{found_of};
 ghost use Rattle.ped_symbols.specs.Declarations as Plain;
 ghost use Rattle.ped_symbols.specs.NameRefusals as Spec;
 ghost use Rattle.ped_symbols.specs.Passes.{Knows, is_reached, refused_at};
@@ -12,7 +12,7 @@ use crate::declared::Declared;
 use crate::pairs::one_less;
 use crate::uses::{Role, Use};
 use ped_expressions::intrinsic_of;
-use ped_grammar::{Refusal, RefusalKind, standing};
+use ped_tree::grammar::{Refusal, RefusalKind, standing};
 
 /// What is wrong at a site beside single uses of names.
 #[derive(Clone, Copy, Debug, PartialEq, Eq)]
@@ -81,7 +81,7 @@ fn next_line(lines: &[u64]) -> (u64, &[u64])
 }
 
 /// The first of what was found and what is refused at a site.
-#[tactic(auto, using(ped_grammar::proofs::First::earliest_append))]
+#[tactic(auto, using(ped_tree::proofs::GrammarLaws::First::earliest_append))]
 fn refused(
     found: Option<Refusal>,
     declared: &Declared,

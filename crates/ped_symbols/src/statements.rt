@@ -14,8 +14,8 @@ use crate::tables::NameTable;
 use crate::uses::{Role, Use, push_all, push_own};
 use crate::values::stmt_fails;
 use ped_base::{Bounds, Name, NoMemory};
-use ped_constants::Consts;
 use ped_tree::Stmt;
+use ped_tree::constants::Consts;
 use std::alloc::Global;
 
 /// What is known of the names of a program.

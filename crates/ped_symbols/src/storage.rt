@@ -10,7 +10,7 @@ ghost use Rattle.ped_symbols.specs.StorageLimits as Spec;
 
 use crate::arrays::declared_bounds;
 use ped_base::Bounds;
-use ped_constants::Consts;
+use ped_tree::constants::Consts;
 use ped_tree::{Decl, Declarator};
 
 /// The most elements of one array.

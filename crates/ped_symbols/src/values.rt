@@ -6,7 +6,7 @@ ghost use Rattle.ped_tree.specs.Views.{expr_tree, stmt_tree, bound_tree, declara
 ghost use Rattle.ped_symbols.specs.Values as Spec;
 
 use ped_base::{Name, NoMemory};
-use ped_constants::{Consts, constant};
+use ped_tree::constants::{Consts, constant};
 use ped_tree::{Bound, Decl, Declarator, Expr, Stmt};
 
 /// The greatest value of a named constant, a bound or an increment; the least one is as far from zero.

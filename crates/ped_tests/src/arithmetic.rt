@@ -1,6 +1,6 @@
 //! Numbers at the ends of 128 bits, and the signs of quotients and powers.
 
-use ped_arithmetic::{Fault, power, product, remainder};
+use ped_base::arithmetic::{Fault, power, product, remainder};
 
 const LEAST: i128 = i128::MIN;
 

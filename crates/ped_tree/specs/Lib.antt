@@ -6,3 +6,6 @@ pub mod Printing
 pub mod SourcePane
 pub mod Tree
 pub mod Views
+pub mod Grammar
+pub mod Names
+pub mod Constants

@@ -4,10 +4,13 @@
 #![tactic(auto)]
 
 mod conditions;
+pub mod constants;
 mod copying;
 mod declarations;
 mod expressions;
+pub mod grammar;
 mod laws;
+pub mod names;
 mod numbering;
 mod statements;
 

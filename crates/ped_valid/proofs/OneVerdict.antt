@@ -2,15 +2,15 @@
 use Rattle.std.proofs.Common.{◌≡◌, ◌⊎◌, inl, inr, ℕ, List, [], Option, Some, None, refl, sym, ap, ap₂, ◌∙◌, subst}
 use Rattle.ped_tree.specs.Tree.{ProgramTree}
 use Rattle.ped_tree.specs.Printing.{program_text}
-use Rattle.ped_grammar.specs.Refusal.{Finding, first_of}
-use Rattle.ped_grammar.specs.Items.{Entry}
-use Rattle.ped_grammar.specs.Occurrences.{saved_names}
-use Rattle.ped_grammar.specs.ProgramForms.{first_lines}
-use Rattle.ped_grammar.specs.Reading.{Reads, HasFirstLines}
-use Rattle.ped_grammar.proofs.First.{none_stands}
-use Rattle.ped_grammar.proofs.OneReading.{one_cut}
-use Rattle.ped_statements.proofs.OneStatement.{one_item}
-use Rattle.ped_printed_programs.proofs.PrintedProgram.{read_fits, fitting_prints}
+use Rattle.ped_tree.specs.Grammar.Refusal.{Finding, first_of}
+use Rattle.ped_tree.specs.Grammar.Items.{Entry}
+use Rattle.ped_tree.specs.Grammar.Occurrences.{saved_names}
+use Rattle.ped_tree.specs.Grammar.ProgramForms.{first_lines}
+use Rattle.ped_tree.specs.Grammar.Reading.{Reads, HasFirstLines}
+use Rattle.ped_tree.proofs.GrammarLaws.First.{none_stands}
+use Rattle.ped_tree.proofs.GrammarLaws.OneReading.{one_cut}
+use Rattle.ped_parse.specs.ped_statements.proofs.OneStatement.{one_item}
+use Rattle.ped_parse.specs.ped_printed.proofs.ProgramLaws.PrintedProgram.{read_fits, fitting_prints}
 use Rattle.ped_parse.specs.Verdicts.{HasOneTree, HasOneRefusal}
 use Rattle.ped_parse.proofs.OneOfBoth as reading
 use Rattle.ped_symbols.specs.NameRefusals.{name_refusals, IsValid}

@@ -2,8 +2,8 @@
 use Rattle.std.proofs.Common.{◌≡◌, ℕ, Bool, true, false, if◌then◌else◌, List, [], ◌∷◌, ◌++◌, map, drop, refl, sym, ap₂, ◌∙◌}
 use Rattle.std.proofs.lemmas.List.{map-append}
 use Rattle.ped_tree.specs.Tree.{ProgramTree}
-use Rattle.ped_grammar.specs.Refusal.{Refusal, Finding, refused_if}
-use Rattle.ped_refs.specs.References.{Reference, references}
+use Rattle.ped_tree.specs.Grammar.Refusal.{Refusal, Finding, refused_if}
+use Rattle.ped_symbols.specs.ped_refs.specs.References.{Reference, references}
 use Rattle.ped_symbols.specs.Sites.{Site, program_sites}
 use Rattle.ped_symbols.specs.Declarations.{Declared, declared_in}
 use Rattle.ped_symbols.specs.NameRefusals.{Before, at_first, behind_site, at_site, next_line, at_sites, name_refusals}

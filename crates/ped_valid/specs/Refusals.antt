@@ -1,6 +1,6 @@
 -- What the refusals of the code stand for (this project).
 use Rattle.std.specs.Prelude.{ℕ, List}
-use Rattle.ped_grammar.specs.RefusalViews.{finding_of}
+use Rattle.ped_tree.specs.Grammar.RefusalViews.{finding_of}
 use Rattle.ped_parse.specs.declared.refusals.ReadRefusal.{ReadRefusal}
 use Rattle.ped_parse.specs.declared.refusals.ReadRefusal.TheVariants as reading
 use Rattle.ped_symbols.specs.declared.symbols.NameRefusal.{NameRefusal}

@@ -2,8 +2,8 @@
 use Rattle.std.specs.Prelude.{◌≡◌, ◌↔◌, ℕ, List, Some}
 use Rattle.ped_tree.specs.Tree.{ProgramTree}
 use Rattle.ped_tree.specs.Printing.{program_text}
-use Rattle.ped_grammar.specs.Refusal.{Finding, first_of}
-use Rattle.ped_grammar.specs.Reading.{Reads, Refuses, HasFirstLines}
+use Rattle.ped_tree.specs.Grammar.Refusal.{Finding, first_of}
+use Rattle.ped_tree.specs.Grammar.Reading.{Reads, Refuses, HasFirstLines}
 use Rattle.ped_symbols.specs.NameRefusals.{name_refusals, IsValid}
 
 -- the text reads as this tree, and the tree is valid: a program of the profile whose names are right

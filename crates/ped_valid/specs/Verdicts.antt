@@ -1,7 +1,7 @@
 -- That a text has one valid tree and no refusal, or one first refusal and no valid tree (this project).
 use Rattle.std.specs.Prelude.{◌≡◌, ℕ, List}
 use Rattle.ped_tree.specs.Tree.{ProgramTree}
-use Rattle.ped_grammar.specs.Refusal.{Finding}
+use Rattle.ped_tree.specs.Grammar.Refusal.{Finding}
 use Rattle.ped_valid.specs.Validity.{ReadsValid, RefusesText}
 
 -- the text reads as this valid tree and as no other, and isn't refused

@@ -2,8 +2,8 @@
 
 ghost use Rattle.std.specs.Prelude.{◌≡◌, IfOk, IfErr};
 ghost use Rattle.ped_tree.specs.Views.{program_tree};
-ghost use Rattle.ped_grammar.specs.Reading.{HasFirstLines};
-ghost use Rattle.ped_printed_programs.specs.PrintedPrograms.{PrintsItself};
+ghost use Rattle.ped_tree.specs.Grammar.Reading.{HasFirstLines};
+ghost use Rattle.ped_parse.specs.ped_printed.specs.Programs.PrintedPrograms.{PrintsItself};
 ghost use Rattle.ped_symbols.specs.Kinds.{table_of};
 ghost use Rattle.ped_valid.specs.Validity.{ReadsValid};
 ghost use Rattle.ped_valid.specs.Refusals.{IsRefusalOf};

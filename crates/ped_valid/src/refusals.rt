@@ -3,9 +3,9 @@
 ghost use Rattle.std.specs.Prelude.{◌≡◌};
 ghost use Rattle.ped_valid.specs.Refusals.{of_reading, of_names};
 
-use ped_grammar::Refusal;
 use ped_parse::ReadRefusal;
 use ped_symbols::NameRefusal;
+use ped_tree::grammar::Refusal;
 use thiserror::Error;
 
 /// Why a text is no valid program.

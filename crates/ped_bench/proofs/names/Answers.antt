@@ -1,6 +1,6 @@
 use Rattle.std.proofs.Common.{◌≡◌, true, sym, ◌∙◌, rules, arith}
 use Rattle.ped_tree.specs.Views.{program_tree}
-use Rattle.ped_grammar.specs.Fits.{fits}
+use Rattle.ped_tree.specs.Grammar.Fits.{fits}
 use Rattle.ped_symbols.proofs.FewReferences.{few_statements, few_references}
 use Rattle.ped_bench.proofs.names.Goals as goal
 

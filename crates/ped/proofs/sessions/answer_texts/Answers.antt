@@ -1,5 +1,5 @@
 use Rattle.std.proofs.Common.{ℕ, ◌∙◌, sym, subst}
-use Rattle.ped_grammar.specs.RefusalViews.{finding_of}
+use Rattle.ped_tree.specs.Grammar.RefusalViews.{finding_of}
 use Rattle.ped_valid.specs.Refusals.{IsRefusalOf}
 use Rattle.ped.specs.declared.answering.Status.TheVariants.{ProgramRefused}
 use Rattle.ped.specs.Refusals.{refused_line}

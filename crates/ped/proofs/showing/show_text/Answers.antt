@@ -1,6 +1,6 @@
 use Rattle.std.proofs.Common.{subst}
 use Rattle.ped_tree.specs.Views.{program_tree}
-use Rattle.ped_grammar.specs.RefusalViews.{finding_of}
+use Rattle.ped_tree.specs.Grammar.RefusalViews.{finding_of}
 use Rattle.ped_valid.specs.Refusals.{IsRefusalOf}
 use Rattle.ped.specs.declared.answering.Status.TheVariants.{Done, ProgramRefused}
 use Rattle.ped.specs.Refusals.{refused_line}

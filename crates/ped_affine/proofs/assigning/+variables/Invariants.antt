@@ -1,6 +1,6 @@
 use Rattle.std.proofs.Common.{◌≡◌, drop}
 use Rattle.ped_tree.specs.Views.{stmt_trees}
-use Rattle.ped_names.specs.Collecting.{with_names}
+use Rattle.ped_tree.specs.Names.Collecting.{with_names}
 use Rattle.ped_affine.specs.Assigned.{all_loop_variables}
 use Rattle.ped_affine.proofs.assigning.+variables.Given as goal
 

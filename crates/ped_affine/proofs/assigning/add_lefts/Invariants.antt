@@ -1,7 +1,7 @@
 use Rattle.std.proofs.Common.{◌≡◌, map, drop}
 use Rattle.std.specs.List.{flat_map}
 use Rattle.ped_tree.specs.Views.{expr_tree}
-use Rattle.ped_names.specs.Collecting.{with_names}
+use Rattle.ped_tree.specs.Names.Collecting.{with_names}
 use Rattle.ped_affine.specs.Assigned.{assigned_left}
 use Rattle.ped_affine.proofs.assigning.add_lefts.Given as goal
 

@@ -1,5 +1,5 @@
 use Rattle.std.proofs.Common.{◌≡◌, drop}
-use Rattle.ped_names.specs.Collecting.{with_names}
+use Rattle.ped_tree.specs.Names.Collecting.{with_names}
 use Rattle.ped_affine.proofs.assigning.add_names.Given as goal
 
 abbrev pub invariant-loop-name : goal.invariant-loop-name

@@ -1,6 +1,6 @@
 use Rattle.std.proofs.Common.{◌≡◌, ◌++◌, map}
 use Rattle.std.specs.Vec.Iter.{into_iter_items}
-use Rattle.ped_grammar.specs.ProgramForms.{front_remarks, behind_front}
+use Rattle.ped_tree.specs.Grammar.ProgramForms.{front_remarks, behind_front}
 use Rattle.ped_tree.specs.Views.{decl_tree, stmt_tree}
 use Rattle.ped_blocks.specs.Fronts.{decls_of, body_of}
 use Rattle.ped_blocks.proofs.declarations.behind_front.Given as goal

@@ -1,7 +1,7 @@
 use Rattle.std.proofs.Common.{◌≡◌, ◌++◌, map}
 use Rattle.std.specs.Vec.Iter.{into_iter_items}
 use Rattle.ped_tree.specs.Views.{decl_tree}
-use Rattle.ped_grammar.specs.StatementViews.{note_of}
+use Rattle.ped_tree.specs.Grammar.StatementViews.{note_of}
 use Rattle.ped_blocks.proofs.Notes.{remarks}
 use Rattle.ped_blocks.proofs.declarations.push_remarks.Given as goal
 

@@ -1,6 +1,6 @@
 use Rattle.std.proofs.Common.{◌≡◌, ◌++◌, map, drop}
-use Rattle.ped_grammar.specs.Occurrences as Spec
-use Rattle.ped_grammar.specs.StatementViews.{note_of}
+use Rattle.ped_tree.specs.Grammar.Occurrences as Spec
+use Rattle.ped_tree.specs.Grammar.StatementViews.{note_of}
 use Rattle.ped_blocks.proofs.directives.rejected_names.Given as goal
 
 abbrev pub invariant-loop-directive : goal.invariant-loop-directive

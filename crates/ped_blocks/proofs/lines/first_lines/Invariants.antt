@@ -1,6 +1,6 @@
 use Rattle.std.proofs.Common.{◌≡◌, ◌++◌, map, drop}
-use Rattle.ped_grammar.specs.ProgramForms as Spec
-use Rattle.ped_grammar.specs.ItemViews.{entry_of}
+use Rattle.ped_tree.specs.Grammar.ProgramForms as Spec
+use Rattle.ped_tree.specs.Grammar.ItemViews.{entry_of}
 use Rattle.ped_blocks.proofs.lines.first_lines.Given as goal
 
 abbrev pub invariant-loop-entry : goal.invariant-loop-entry

@@ -1,7 +1,7 @@
 use Rattle.std.proofs.Common.{◌≡◌, ◌++◌, map}
 use Rattle.std.specs.Vec.Iter.{into_iter_items}
 use Rattle.ped_tree.specs.Views.{stmt_tree}
-use Rattle.ped_grammar.specs.StatementViews.{note_of}
+use Rattle.ped_tree.specs.Grammar.StatementViews.{note_of}
 use Rattle.ped_blocks.proofs.Notes.{comments}
 use Rattle.ped_blocks.proofs.nesting.push_comments.Given as goal
 

@@ -1,6 +1,6 @@
 use Rattle.std.proofs.Common.{◌≡◌, map}
 use Rattle.std.specs.Vec.Iter.{into_iter_items}
-use Rattle.ped_grammar.specs.ItemViews.{entry_of}
+use Rattle.ped_tree.specs.Grammar.ItemViews.{entry_of}
 use Rattle.ped_blocks.specs.Machine.{nothing_built, take_entries}
 use Rattle.ped_blocks.specs.BlockViews.{built_of}
 use Rattle.ped_blocks.proofs.programs.program_of.Given as goal

@@ -1,7 +1,7 @@
 use Rattle.std.proofs.Common.{◌≡◌, ◌≤◌, true, sym, ◌∙◌, rules, arith}
 use Rattle.ped_tree.specs.Views.{program_tree}
 use Rattle.ped_tree.specs.Numbering.{statements_count}
-use Rattle.ped_grammar.specs.Fits.{fits}
+use Rattle.ped_tree.specs.Grammar.Fits.{fits}
 use Rattle.ped_check_flow.proofs.rows.opened.Goals as goal
 
 pub returns : goal.returns

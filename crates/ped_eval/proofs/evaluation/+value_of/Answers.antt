@@ -4,7 +4,7 @@ use Rattle.std.specs.Int.RustNames.{FitsSigned}
 use Rattle.std.proofs.lemmas.Int.{to_z-of_z}
 use Rattle.std.proofs.lemmas.List.{length-set, drop-set-lt}
 use Rattle.std.proofs.lemmas.Result.{err_from_is_err_and}
-use Rattle.ped_arithmetic.specs.Arithmetic.{sum_of, difference_of, negation_of, product_of, quotient_of, power_of, remainder_of, absolute_value_of, greatest_of, least_of}
+use Rattle.ped_base.specs.Arithmetic.Arithmetic.{sum_of, difference_of, negation_of, product_of, quotient_of, power_of, remainder_of, absolute_value_of, greatest_of, least_of}
 use Rattle.ped_tree.specs.declared.expressions.Expr.{Expr}
 use Rattle.ped_tree.specs.declared.expressions.Intrinsic.{Intrinsic}
 use Rattle.ped_tree.specs.declared.expressions.Intrinsic.TheVariants.{Max, Min}

@@ -3,7 +3,7 @@ use Rattle.ped_tree.specs.declared.expressions.Intrinsic.TheVariants.{Max, Min}
 use Rattle.ped_tree.specs.Tree.{Call}
 use Rattle.ped_tree.specs.Views.{pack_exprs, expr_tree}
 use Rattle.std.proofs.Common.{map}
-use Rattle.ped_arithmetic.specs.Arithmetic.{greatest_of, least_of}
+use Rattle.ped_base.specs.Arithmetic.Arithmetic.{greatest_of, least_of}
 use Rattle.ped_eval.specs.Results.{value_at, values_at, fault_or}
 use Rattle.ped_eval.proofs.Steps.{with_front}
 use Rattle.ped_eval.proofs.Intrinsics.{go_on}

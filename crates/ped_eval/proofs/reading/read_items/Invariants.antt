@@ -2,7 +2,7 @@ use Rattle.std.proofs.Common.{◌≡◌, ◌++◌, drop, map, true}
 use Rattle.std.specs.List.{list_all}
 use Rattle.ped_tree.specs.Views.{expr_tree}
 use Rattle.ped_store.specs.Keeping.{memory_of}
-use Rattle.ped_uses.specs.RightUses.{target_is_right}
+use Rattle.ped_symbols.specs.RightUses.RightUses.{target_is_right}
 use Rattle.ped_eval.specs.Readiness.{kinds_by, IsReady}
 use Rattle.ped_eval.specs.Takings.{items_taken}
 use Rattle.ped_eval.specs.Noting.{noted_by}

@@ -1,5 +1,5 @@
 use Rattle.std.proofs.Common.{sym, subst}
-use Rattle.ped_grammar.specs.ConditionForms.{ReadsCond}
+use Rattle.ped_tree.specs.Grammar.ConditionForms.{ReadsCond}
 use Rattle.ped_tree.specs.Printing.{whole, cond_text}
 use Rattle.ped_expressions.proofs.CondPrinted.{cond_prints}
 use Rattle.ped_expressions.proofs.laws.printed_condition.Goals as goal

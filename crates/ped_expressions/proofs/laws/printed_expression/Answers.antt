@@ -1,5 +1,5 @@
 use Rattle.std.proofs.Common.{sym, subst}
-use Rattle.ped_grammar.specs.ExpressionForms.{ReadsExpr}
+use Rattle.ped_tree.specs.Grammar.ExpressionForms.{ReadsExpr}
 use Rattle.ped_tree.specs.Printing.{alone, expr_text}
 use Rattle.ped_expressions.proofs.Printed.{expr_prints}
 use Rattle.ped_expressions.proofs.laws.printed_expression.Goals as goal

@@ -1,5 +1,5 @@
 use Rattle.std.proofs.Common.{◌≡◌, map, drop}
-use Rattle.ped_grammar.specs.Literals.{have_large_literal}
+use Rattle.ped_tree.specs.Grammar.Literals.{have_large_literal}
 use Rattle.ped_tree.specs.Views.{expr_tree, pack_exprs}
 use Rattle.ped_expressions.proofs.literals.+literals.Given as goal
 

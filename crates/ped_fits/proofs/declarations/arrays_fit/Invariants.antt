@@ -1,7 +1,7 @@
 use Rattle.std.proofs.Common.{◌≡◌, map, drop}
 use Rattle.std.specs.List.{list_all}
 use Rattle.ped_tree.specs.Views.{declarator_tree}
-use Rattle.ped_grammar.specs.Fits.{array_fits}
+use Rattle.ped_tree.specs.Grammar.Fits.{array_fits}
 use Rattle.ped_fits.proofs.declarations.arrays_fit.Given as goal
 
 abbrev pub invariant-loop-declarator : goal.invariant-loop-declarator

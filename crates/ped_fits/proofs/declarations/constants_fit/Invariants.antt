@@ -1,7 +1,7 @@
 use Rattle.std.proofs.Common.{◌≡◌, map, drop}
 use Rattle.std.specs.List.{list_all}
 use Rattle.ped_tree.specs.Views.{value_tree}
-use Rattle.ped_grammar.specs.Fits.{constant_fits}
+use Rattle.ped_tree.specs.Grammar.Fits.{constant_fits}
 use Rattle.ped_fits.proofs.declarations.constants_fit.Given as goal
 
 abbrev pub invariant-loop-value : goal.invariant-loop-value

@@ -1,6 +1,6 @@
 use Rattle.std.proofs.Common.{◌≡◌, map, drop}
 use Rattle.ped_tree.specs.Views.{decl_tree}
-use Rattle.ped_grammar.specs.Fits.{decls_fit}
+use Rattle.ped_tree.specs.Grammar.Fits.{decls_fit}
 use Rattle.ped_fits.proofs.declarations.decls_fit.Given as goal
 
 abbrev pub invariant-loop-decl : goal.invariant-loop-decl

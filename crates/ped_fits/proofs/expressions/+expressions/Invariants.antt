@@ -1,6 +1,6 @@
 use Rattle.std.proofs.Common.{◌≡◌, map, drop}
 use Rattle.ped_tree.specs.Views.{expr_tree, pack_exprs}
-use Rattle.ped_grammar.specs.Fits.{exprs_fit}
+use Rattle.ped_tree.specs.Grammar.Fits.{exprs_fit}
 use Rattle.ped_fits.proofs.expressions.+expressions.Given as goal
 
 abbrev pub invariant-exprs_fit-loop-e : goal.invariant-exprs_fit-loop-e

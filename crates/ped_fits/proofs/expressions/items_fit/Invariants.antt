@@ -1,7 +1,7 @@
 use Rattle.std.proofs.Common.{◌≡◌, map, drop}
 use Rattle.std.specs.List.{list_all}
 use Rattle.ped_tree.specs.Views.{item_tree}
-use Rattle.ped_grammar.specs.Fits.{item_fits}
+use Rattle.ped_tree.specs.Grammar.Fits.{item_fits}
 use Rattle.ped_fits.proofs.expressions.items_fit.Given as goal
 
 abbrev pub invariant-loop-item : goal.invariant-loop-item

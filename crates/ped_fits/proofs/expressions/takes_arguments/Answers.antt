@@ -2,7 +2,7 @@ use Rattle.std.proofs.Common.{map, ap, sym, ◌∙◌}
 use Rattle.std.proofs.lemmas.List.{length-map}
 use Rattle.std.specs.Prelude.{nat_le, ◌==◌}
 use Rattle.ped_tree.specs.Views.{expr_tree, pack_exprs}
-use Rattle.ped_grammar.specs.Fits.{takes_arguments}
+use Rattle.ped_tree.specs.Grammar.Fits.{takes_arguments}
 use Rattle.ped_fits.proofs.Lists.{takes_two, takes_one, takes_two_or_more, takes_two_or_more_again}
 use Rattle.ped_fits.proofs.expressions.takes_arguments.Goals as goal
 

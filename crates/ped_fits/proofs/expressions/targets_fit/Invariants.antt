@@ -1,7 +1,7 @@
 use Rattle.std.proofs.Common.{◌≡◌, map, drop}
 use Rattle.std.specs.List.{list_all}
 use Rattle.ped_tree.specs.Views.{expr_tree}
-use Rattle.ped_grammar.specs.Fits.{target_fits}
+use Rattle.ped_tree.specs.Grammar.Fits.{target_fits}
 use Rattle.ped_fits.proofs.expressions.targets_fit.Given as goal
 
 abbrev pub invariant-loop-e : goal.invariant-loop-e

@@ -1,6 +1,6 @@
 use Rattle.std.proofs.Common.{◌≡◌, drop}
 use Rattle.std.specs.List.{list_all}
-use Rattle.ped_grammar.specs.Words.{is_name}
+use Rattle.ped_tree.specs.Grammar.Words.{is_name}
 use Rattle.ped_fits.proofs.names.all_names_fit.Given as goal
 
 abbrev pub invariant-loop-name : goal.invariant-loop-name

@@ -1,7 +1,7 @@
 use Rattle.std.proofs.Common.{◌≡◌, ◌+◌, drop}
 use Rattle.ped_tree.specs.Numbering.{statements_count, loops_count}
 use Rattle.ped_tree.specs.Views.{stmt_trees}
-use Rattle.ped_grammar.specs.Fits.{stmts_fit}
+use Rattle.ped_tree.specs.Grammar.Fits.{stmts_fit}
 use Rattle.ped_fits.specs.Surroundings.{place, IsCounted}
 use Rattle.ped_fits.proofs.statements.+statements.Given as goal
 

@@ -8,7 +8,7 @@ use Rattle.ped_tree.specs.Numbering.{statement_count, statements_count}
 use Rattle.ped_tree.specs.declared.expressions.Expr.{Expr}
 use Rattle.ped_tree.specs.declared.statements.PrintItem.{PrintItem}
 use Rattle.ped_tree.specs.declared.statements.Stmt.{Stmt}
-use Rattle.ped_refs.specs.Loops.{head_of}
+use Rattle.ped_affine.specs.ped_refs.specs.Loops.{head_of}
 use Rattle.ped_affine.specs.Assigned.{loop_variables, all_loop_variables}
 use Rattle.ped_flow.specs.Events.{reads_of, scalars_in_cond}
 use Rattle.ped_flow.specs.Summaries.{passing, sum_in_turn, sum_either, sum_events, least_of, sum_of, sum_of_all}

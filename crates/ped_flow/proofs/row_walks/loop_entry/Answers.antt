@@ -1,7 +1,7 @@
 use Rattle.std.proofs.Common.{sym, ◌∙◌}
 use Rattle.ped_tree.specs.Tree.{Do}
 use Rattle.ped_tree.specs.Views.{stmt_trees}
-use Rattle.ped_refs.specs.Loops.{head_of}
+use Rattle.ped_affine.specs.ped_refs.specs.Loops.{head_of}
 use Rattle.ped_flow.specs.RowMarks.{names_in, constants_in}
 use Rattle.ped_flow.proofs.EventRows.{if_ok}
 use Rattle.ped_flow.proofs.Known.{made_entry}

@@ -1,7 +1,7 @@
 use Rattle.std.proofs.Common.{◌≡◌, ◌≤◌, ◌+◌, ◌∙◌, ℕ, ap, subst, sym, arith, length, List, [], map, Bool, false}
 use Rattle.ped_tree.specs.Views.{program_tree, stmt_trees}
 use Rattle.ped_tree.specs.declared.statements.Stmt.{Stmt}
-use Rattle.ped_names.specs.Collecting.{with_names}
+use Rattle.ped_tree.specs.Names.Collecting.{with_names}
 use Rattle.ped_refs.specs.References.{Reference, pairs, pair_count, references}
 use Rattle.ped_refs.specs.Occurrences.{reference_of, references_of, pair_at}
 use Rattle.ped_refs.specs.declared.occurring.Occurrence.{Occurrence}

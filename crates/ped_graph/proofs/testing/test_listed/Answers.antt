@@ -3,7 +3,7 @@ use Rattle.std.specs.Prelude.{◌&&◌}
 use Rattle.std.proofs.lemmas.Result.{IfOk-weaker}
 use Rattle.ped_tree.specs.Views.{program_tree}
 use Rattle.ped_tree.specs.Numbering.{statement_with}
-use Rattle.ped_names.specs.Collecting.{with_names}
+use Rattle.ped_tree.specs.Names.Collecting.{with_names}
 use Rattle.ped_refs.specs.References.{Reference, outermost}
 use Rattle.ped_refs.specs.Occurrences.{reference_of, references_of}
 use Rattle.ped_affine.specs.Arguments.{setting_of}

@@ -1,5 +1,5 @@
 use Rattle.std.proofs.Common.{◌≡◌, drop}
-use Rattle.ped_grammar.specs.Literals.{stmts_have_large_literal}
+use Rattle.ped_tree.specs.Grammar.Literals.{stmts_have_large_literal}
 use Rattle.ped_tree.specs.Views.{stmt_trees}
 use Rattle.ped_limits.proofs.literals.+stmt_literals.Given as goal
 

@@ -1,7 +1,7 @@
 use Rattle.std.proofs.Common.{◌≡◌, map, drop, length}
 use Rattle.std.specs.List.{list_any}
 use Rattle.std.specs.Prelude.{nat_lt}
-use Rattle.ped_grammar.specs.LimitNumbers.{most_dimensions}
+use Rattle.ped_tree.specs.Grammar.LimitNumbers.{most_dimensions}
 use Rattle.ped_tree.specs.Views.{declarator_tree}
 use Rattle.ped_limits.proofs.literals.any_has_many_dimensions.Given as goal
 

@@ -1,7 +1,7 @@
 use Rattle.std.proofs.Common.{◌≡◌, map, drop}
 use Rattle.std.specs.List.{list_any}
 use Rattle.std.specs.Prelude.{◌||◌}
-use Rattle.ped_grammar.specs.Literals.{has_large_literal}
+use Rattle.ped_tree.specs.Grammar.Literals.{has_large_literal}
 use Rattle.ped_tree.specs.Views.{bound_tree}
 use Rattle.ped_limits.proofs.literals.bounds_have_large_literal.Given as goal
 

@@ -1,6 +1,6 @@
 use Rattle.std.proofs.Common.{◌≡◌, map, drop}
 use Rattle.std.specs.List.{list_any}
-use Rattle.ped_grammar.specs.Literals.{has_large_literal}
+use Rattle.ped_tree.specs.Grammar.Literals.{has_large_literal}
 use Rattle.ped_tree.specs.Views.{value_tree}
 use Rattle.ped_limits.proofs.literals.constants_have_large_literal.Given as goal
 

@@ -1,6 +1,6 @@
 use Rattle.std.proofs.Common.{◌≡◌, ◌++◌, ℕ, List, ap, sym, ◌∙◌}
 use Rattle.std.proofs.lemmas.List.{append-nil}
-use Rattle.ped_grammar.specs.Characters.{kept}
+use Rattle.ped_tree.specs.Grammar.Characters.{kept}
 use Rattle.ped_lines.specs.declared.characters.Quoting.{Quoting}
 use Rattle.ped_lines.specs.declared.characters.Quoting.TheVariants.{Inside}
 use Rattle.ped_lines.specs.Quoting.{quoting_of}

@@ -1,9 +1,9 @@
 use Rattle.std.proofs.Common.{◌≡◌, ℕ, ◌+◌, List, [], ◌∷◌, length, ap, subst, sym, ◌∙◌, arith}
 use Rattle.std.specs.Str.Lines.{lines}
-use Rattle.ped_grammar.specs.Refusal.{earliest}
-use Rattle.ped_grammar.specs.Grouping.{statements_of}
-use Rattle.ped_grammar.specs.LineRefusals.{first_line_refusal}
-use Rattle.ped_grammar.specs.RefusalViews.{found_of}
+use Rattle.ped_tree.specs.Grammar.Refusal.{earliest}
+use Rattle.ped_tree.specs.Grammar.Grouping.{statements_of}
+use Rattle.ped_tree.specs.Grammar.LineRefusals.{first_line_refusal}
+use Rattle.ped_tree.specs.Grammar.RefusalViews.{found_of}
 use Rattle.ped_lines.specs.Cutting.{left_open, refusals_left, cut_with}
 use Rattle.ped_lines.specs.declared.cutting.Cutting.{Cutting}
 use Rattle.ped_lines.proofs.OneLine.{at_end_is}

@@ -1,7 +1,7 @@
 use Rattle.std.proofs.Common.{[], refl, ap, ◌∙◌}
-use Rattle.ped_grammar.specs.Refusal.{earliest}
-use Rattle.ped_grammar.specs.LimitNumbers.{most_continuations}
-use Rattle.ped_grammar.specs.LineRefusals.{Initial, at_line}
+use Rattle.ped_tree.specs.Grammar.Refusal.{earliest}
+use Rattle.ped_tree.specs.Grammar.LimitNumbers.{most_continuations}
+use Rattle.ped_tree.specs.Grammar.LineRefusals.{Initial, at_line}
 use Rattle.ped_lines.specs.declared.cutting.OpenStatement.{OpenStatement}
 use Rattle.ped_lines.proofs.OneLine.{first_text, initial_line}
 use Rattle.ped_lines.proofs.cutting.with_initial.Goals as goal

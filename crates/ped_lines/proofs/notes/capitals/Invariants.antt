@@ -1,7 +1,7 @@
 use Rattle.std.proofs.Common.{◌≡◌, take, map, filter}
 use Rattle.std.specs.Prelude.{not}
 use Rattle.std.specs.Char.{to_ascii_uppercase}
-use Rattle.ped_grammar.specs.Columns.{is_blank}
+use Rattle.ped_tree.specs.Grammar.Columns.{is_blank}
 use Rattle.ped_lines.proofs.notes.capitals.Given as goal
 
 abbrev pub invariant-loop-c : goal.invariant-loop-c

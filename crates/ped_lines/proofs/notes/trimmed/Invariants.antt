@@ -1,5 +1,5 @@
 use Rattle.std.proofs.Common.{◌≡◌, ◌≤◌, length, take}
-use Rattle.ped_grammar.specs.Grouping.{trimmed}
+use Rattle.ped_tree.specs.Grammar.Grouping.{trimmed}
 use Rattle.ped_lines.proofs.notes.trimmed.Given as goal
 
 abbrev pub invariant-loop-end : goal.invariant-loop-end

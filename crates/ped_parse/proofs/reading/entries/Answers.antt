@@ -1,7 +1,7 @@
 use Rattle.std.proofs.Common.{◌∷◌, [], ◌++◌, List, sym, subst, map}
-use Rattle.ped_grammar.specs.StatementViews.{statement_of}
-use Rattle.ped_grammar.specs.ItemViews.{entry_of}
-use Rattle.ped_grammar.specs.declared.items.Entry as items
+use Rattle.ped_tree.specs.Grammar.StatementViews.{statement_of}
+use Rattle.ped_tree.specs.Grammar.ItemViews.{entry_of}
+use Rattle.ped_tree.specs.declared.grammar.items.Entry as items
 use Rattle.ped_parse.specs.Entries.{AreReadAs}
 use Rattle.ped_parse.proofs.Entries.{entry_read}
 use Rattle.ped_parse.proofs.reading.entries.Goals as goal

@@ -1,6 +1,6 @@
 use Rattle.std.proofs.Common.{map}
-use Rattle.ped_grammar.specs.StatementViews.{statement_of}
-use Rattle.ped_grammar.specs.ItemViews.{entry_of}
+use Rattle.ped_tree.specs.Grammar.StatementViews.{statement_of}
+use Rattle.ped_tree.specs.Grammar.ItemViews.{entry_of}
 use Rattle.ped_parse.specs.Entries.{AreReadAs}
 use Rattle.ped_parse.proofs.reading.entries.Given as goal
 

@@ -1,6 +1,6 @@
 use Rattle.std.proofs.Common.{ℕ, List, refl, subst}
-use Rattle.ped_grammar.specs.ItemViews.{reading_of}
-use Rattle.ped_expressions.specs.ExpressionReading.{saturated}
+use Rattle.ped_tree.specs.Grammar.ItemViews.{reading_of}
+use Rattle.ped_statements.specs.ped_expressions.specs.ExpressionReading.{saturated}
 use Rattle.ped_statements.specs.Saturated.{IsReadAs}
 use Rattle.ped_parse.proofs.reading.entry.Goals as goal
 

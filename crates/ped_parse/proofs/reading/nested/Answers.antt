@@ -1,12 +1,12 @@
 use Rattle.std.proofs.Common.{List, map, sym, ap, subst, ◌∙◌}
-use Rattle.ped_grammar.specs.Refusal.{first_of}
-use Rattle.ped_grammar.specs.ProgramRefusals.{program_refusals}
-use Rattle.ped_grammar.specs.Occurrences.{saved_names}
-use Rattle.ped_grammar.specs.StatementViews.{note_of, statement_of}
-use Rattle.ped_grammar.specs.declared.statements.Statement as lines
-use Rattle.ped_grammar.specs.declared.statements.NoteLine.{NoteLine}
-use Rattle.ped_grammar.specs.ItemViews.{entry_of}
-use Rattle.ped_grammar.specs.declared.items.Entry as items
+use Rattle.ped_tree.specs.Grammar.Refusal.{first_of}
+use Rattle.ped_tree.specs.Grammar.ProgramRefusals.{program_refusals}
+use Rattle.ped_tree.specs.Grammar.Occurrences.{saved_names}
+use Rattle.ped_tree.specs.Grammar.StatementViews.{note_of, statement_of}
+use Rattle.ped_tree.specs.declared.grammar.statements.Statement as lines
+use Rattle.ped_tree.specs.declared.grammar.statements.NoteLine.{NoteLine}
+use Rattle.ped_tree.specs.Grammar.ItemViews.{entry_of}
+use Rattle.ped_tree.specs.declared.grammar.items.Entry as items
 use Rattle.ped_parse.specs.Entries.{AreReadAs}
 use Rattle.ped_parse.proofs.ReadAs.{refused_here, tree_here, lines_here}
 use Rattle.ped_parse.proofs.reading.nested.Goals as goal

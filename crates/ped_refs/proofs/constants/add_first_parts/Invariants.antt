@@ -1,6 +1,6 @@
 use Rattle.std.proofs.Common.{◌≡◌, map, drop}
 use Rattle.ped_tree.specs.Views.{value_tree}
-use Rattle.ped_names.specs.Collecting.{with_names}
+use Rattle.ped_tree.specs.Names.Collecting.{with_names}
 use Rattle.ped_refs.proofs.constants.add_first_parts.Given as goal
 
 abbrev pub invariant-loop-value : goal.invariant-loop-value

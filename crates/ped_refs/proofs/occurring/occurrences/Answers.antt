@@ -1,7 +1,7 @@
 use Rattle.std.proofs.Common.{[], ◌++◌, List, length, map, ap, ◌∙◌, arith}
 use Rattle.ped_tree.specs.Views.{stmt_trees, decl_tree, program_tree}
 use Rattle.ped_tree.specs.Accesses.{constant_names}
-use Rattle.ped_names.specs.Collecting.{with_names}
+use Rattle.ped_tree.specs.Names.Collecting.{with_names}
 use Rattle.ped_refs.specs.References.{statements_references}
 use Rattle.ped_refs.specs.Occurrences.{references_of}
 use Rattle.ped_refs.specs.declared.occurring.Occurrence.{Occurrence}

@@ -1,6 +1,6 @@
 use Rattle.std.proofs.Common.{◌≡◌, ◌+◌, ap, arith}
-use Rattle.ped_grammar.specs.Contexts.{left_in_if}
-use Rattle.ped_grammar.specs.ProgramRefusals.{block_depth}
+use Rattle.ped_tree.specs.Grammar.Contexts.{left_in_if}
+use Rattle.ped_tree.specs.Grammar.ProgramRefusals.{block_depth}
 use Rattle.ped_refusals.specs.OpenBlocks.{blocks_of}
 use Rattle.ped_refusals.proofs.Depths.{in_if_less}
 use Rattle.ped_refusals.proofs.blocks.begin_else_if.Goals as goal

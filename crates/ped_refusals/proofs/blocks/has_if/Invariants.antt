@@ -1,5 +1,5 @@
 use Rattle.std.proofs.Common.{◌≡◌, length}
-use Rattle.ped_grammar.specs.Contexts as Contexts
+use Rattle.ped_tree.specs.Grammar.Contexts as Contexts
 use Rattle.ped_refusals.specs.OpenBlocks.{blocks_of}
 use Rattle.ped_refusals.proofs.blocks.has_if.Given as goal
 

@@ -1,5 +1,5 @@
 use Rattle.std.proofs.Common.{◌≡◌, ◌+◌, ◌≤◌, length}
-use Rattle.ped_grammar.specs.ProgramRefusals as Spec
+use Rattle.ped_tree.specs.Grammar.ProgramRefusals as Spec
 use Rattle.ped_refusals.specs.OpenBlocks.{blocks_of}
 use Rattle.ped_refusals.proofs.blocks.loop_depth.Given as goal
 

@@ -1,6 +1,6 @@
 use Rattle.std.proofs.Common.{Bool, ap, ◌∙◌, take}
 use Rattle.std.specs.Prelude.{◌||◌}
-use Rattle.ped_grammar.specs.Contexts.{has_do}
+use Rattle.ped_tree.specs.Grammar.Contexts.{has_do}
 use Rattle.ped_refusals.specs.OpenBlocks.{blocks_of}
 use Rattle.ped_refusals.proofs.Leaving.{left_at, none_more, left_nowhere}
 use Rattle.ped_refusals.proofs.blocks.outside_all.Goals as goal

@@ -1,5 +1,5 @@
 use Rattle.std.proofs.Common.{sym, ap, ◌∙◌}
-use Rattle.ped_grammar.specs.Contexts.{has_if}
+use Rattle.ped_tree.specs.Grammar.Contexts.{has_if}
 use Rattle.ped_refusals.specs.OpenBlocks.{blocks_of}
 use Rattle.ped_refusals.proofs.Leaving.{no_if}
 use Rattle.ped_refusals.proofs.blocks.up_to_if.Goals as goal

@@ -1,6 +1,6 @@
 use Rattle.std.proofs.Common.{◌∙◌, Bool, ap}
-use Rattle.ped_grammar.specs.Refusal.{earliest, refused_if, Syntax}
-use Rattle.ped_grammar.specs.RefusalViews.{found_of}
+use Rattle.ped_tree.specs.Grammar.Refusal.{earliest, refused_if, Syntax}
+use Rattle.ped_tree.specs.Grammar.RefusalViews.{found_of}
 use Rattle.ped_refusals.proofs.Stepping.{note_step}
 use Rattle.ped_refusals.proofs.directives.at_directives.Goals as goal
 

@@ -1,10 +1,10 @@
 use Rattle.std.proofs.Common.{◌≡◌, map, drop}
 use Rattle.std.specs.List.{flat_map}
-use Rattle.ped_grammar.specs.Refusal.{earliest, refused_if, Syntax}
-use Rattle.ped_grammar.specs.ProgramRefusals as Spec
-use Rattle.ped_grammar.specs.StatementViews.{note_of}
-use Rattle.ped_grammar.specs.ItemViews.{entry_of}
-use Rattle.ped_grammar.specs.RefusalViews.{found_of}
+use Rattle.ped_tree.specs.Grammar.Refusal.{earliest, refused_if, Syntax}
+use Rattle.ped_tree.specs.Grammar.ProgramRefusals as Spec
+use Rattle.ped_tree.specs.Grammar.StatementViews.{note_of}
+use Rattle.ped_tree.specs.Grammar.ItemViews.{entry_of}
+use Rattle.ped_tree.specs.Grammar.RefusalViews.{found_of}
 use Rattle.ped_refusals.specs.OpenContexts.{context_of}
 use Rattle.ped_refusals.proofs.directives.at_directives.Given as goal
 

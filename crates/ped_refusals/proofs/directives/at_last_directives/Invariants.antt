@@ -1,8 +1,8 @@
 use Rattle.std.proofs.Common.{◌≡◌, map, drop, true}
 use Rattle.std.specs.List.{flat_map}
-use Rattle.ped_grammar.specs.Refusal.{earliest, refused_if, Syntax}
-use Rattle.ped_grammar.specs.StatementViews.{note_of}
-use Rattle.ped_grammar.specs.RefusalViews.{found_of}
+use Rattle.ped_tree.specs.Grammar.Refusal.{earliest, refused_if, Syntax}
+use Rattle.ped_tree.specs.Grammar.StatementViews.{note_of}
+use Rattle.ped_tree.specs.Grammar.RefusalViews.{found_of}
 use Rattle.ped_refusals.proofs.directives.at_last_directives.Given as goal
 
 abbrev pub invariant-loop-directive : goal.invariant-loop-directive

@@ -1,7 +1,7 @@
 use Rattle.std.proofs.Common.{◌≡◌, ◌&&◌, map, take, nat_lt}
 use Rattle.std.specs.List.{list_any}
-use Rattle.ped_grammar.specs.Statement.{Note}
-use Rattle.ped_grammar.specs.StatementViews.{note_of}
+use Rattle.ped_tree.specs.Grammar.Statement.{Note}
+use Rattle.ped_tree.specs.Grammar.StatementViews.{note_of}
 use Rattle.ped_refusals.proofs.directives.last_comment_before.Given as goal
 
 abbrev pub invariant-loop-comment : goal.invariant-loop-comment

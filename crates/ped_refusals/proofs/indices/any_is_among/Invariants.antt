@@ -1,5 +1,5 @@
 use Rattle.std.proofs.Common.{◌≡◌, drop}
-use Rattle.ped_grammar.specs.ProgramRefusals.{meets}
+use Rattle.ped_tree.specs.Grammar.ProgramRefusals.{meets}
 use Rattle.ped_refusals.proofs.indices.any_is_among.Given as goal
 
 abbrev pub invariant-loop-name : goal.invariant-loop-name

@@ -1,5 +1,5 @@
 use Rattle.std.proofs.Common.{◌∙◌}
-use Rattle.ped_grammar.specs.RefusalViews.{found_of}
+use Rattle.ped_tree.specs.Grammar.RefusalViews.{found_of}
 use Rattle.ped_refusals.specs.OpenBlocks.{block_of, blocks_of}
 use Rattle.ped_refusals.proofs.Loops.{loop_step}
 use Rattle.ped_refusals.proofs.indices.at_loops.Goals as goal

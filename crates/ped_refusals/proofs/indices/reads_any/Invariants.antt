@@ -1,7 +1,7 @@
 use Rattle.std.proofs.Common.{◌≡◌, map, drop}
 use Rattle.std.specs.List.{flat_map}
 use Rattle.ped_tree.specs.Views.{expr_tree}
-use Rattle.ped_grammar.specs.ProgramRefusals.{meets, scalar_of}
+use Rattle.ped_tree.specs.Grammar.ProgramRefusals.{meets, scalar_of}
 use Rattle.ped_refusals.proofs.indices.reads_any.Given as goal
 
 abbrev pub invariant-loop-item : goal.invariant-loop-item

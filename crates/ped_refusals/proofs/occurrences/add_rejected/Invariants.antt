@@ -1,6 +1,6 @@
 use Rattle.std.proofs.Common.{◌≡◌, map, drop}
-use Rattle.ped_grammar.specs.Occurrences.{rejected_names}
-use Rattle.ped_grammar.specs.StatementViews.{note_of}
+use Rattle.ped_tree.specs.Grammar.Occurrences.{rejected_names}
+use Rattle.ped_tree.specs.Grammar.StatementViews.{note_of}
 use Rattle.ped_refusals.specs.Collecting.{with_names}
 use Rattle.ped_refusals.proofs.occurrences.add_rejected.Given as goal
 

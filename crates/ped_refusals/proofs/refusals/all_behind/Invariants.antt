@@ -1,6 +1,6 @@
 use Rattle.std.proofs.Common.{◌≡◌, map, drop, nat_lt}
 use Rattle.std.specs.List.{list_all}
-use Rattle.ped_grammar.specs.StatementViews.{note_of}
+use Rattle.ped_tree.specs.Grammar.StatementViews.{note_of}
 use Rattle.ped_refusals.proofs.refusals.all_behind.Given as goal
 
 abbrev pub invariant-loop-directive : goal.invariant-loop-directive

@@ -1,7 +1,7 @@
 use Rattle.std.proofs.Common.{Bool, map, ap, ◌∙◌}
-use Rattle.ped_grammar.specs.Refusal.{Limit, refused_if, earliest}
-use Rattle.ped_grammar.specs.ItemViews.{entry_of}
-use Rattle.ped_grammar.specs.RefusalViews.{found_of}
+use Rattle.ped_tree.specs.Grammar.Refusal.{Limit, refused_if, earliest}
+use Rattle.ped_tree.specs.Grammar.ItemViews.{entry_of}
+use Rattle.ped_tree.specs.Grammar.RefusalViews.{found_of}
 use Rattle.ped_refusals.specs.OpenContexts.{context_of}
 use Rattle.ped_refusals.proofs.Parts.{statement_parts}
 use Rattle.ped_refusals.proofs.refusals.at_statement.Goals as goal

@@ -1,6 +1,6 @@
 use Rattle.std.proofs.Common.{length, map}
-use Rattle.ped_grammar.specs.ItemViews.{entry_of}
-use Rattle.ped_grammar.specs.RefusalViews.{found_of}
+use Rattle.ped_tree.specs.Grammar.ItemViews.{entry_of}
+use Rattle.ped_tree.specs.Grammar.RefusalViews.{found_of}
 use Rattle.ped_refusals.specs.OpenContexts.{context_of}
 use Rattle.ped_refusals.proofs.Reaching.{Reached}
 use Rattle.ped_refusals.proofs.refusals.first_refusal.Given as goal

@@ -1,12 +1,12 @@
 use Rattle.std.proofs.Common.{◌≡◌, ◌<◌, ℕ, List, Option, true, nat_lt, map, sym, ap, subst, ◌∙◌, arith}
 use Rattle.std.specs.List.{list_all}
-use Rattle.ped_grammar.specs.Refusal.{earliest}
-use Rattle.ped_grammar.specs.ProgramRefusals.{at_private, at_statement}
-use Rattle.ped_grammar.specs.StatementViews.{note_of}
-use Rattle.ped_grammar.specs.declared.statements.NoteLine.{NoteLine}
-use Rattle.ped_grammar.specs.ItemViews.{entry_of, reading_of}
-use Rattle.ped_grammar.specs.RefusalViews.{finding_of, found_of}
-use Rattle.ped_grammar.specs.declared.refusals.Refusal.{Refusal}
+use Rattle.ped_tree.specs.Grammar.Refusal.{earliest}
+use Rattle.ped_tree.specs.Grammar.ProgramRefusals.{at_private, at_statement}
+use Rattle.ped_tree.specs.Grammar.StatementViews.{note_of}
+use Rattle.ped_tree.specs.declared.grammar.statements.NoteLine.{NoteLine}
+use Rattle.ped_tree.specs.Grammar.ItemViews.{entry_of, reading_of}
+use Rattle.ped_tree.specs.Grammar.RefusalViews.{finding_of, found_of}
+use Rattle.ped_tree.specs.declared.grammar.refusals.Refusal.{Refusal}
 use Rattle.ped_refusals.proofs.Passing.{statement_later}
 use Rattle.ped_refusals.proofs.refusals.is_past.Goals as goal
 

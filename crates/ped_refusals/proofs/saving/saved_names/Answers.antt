@@ -2,8 +2,8 @@ use Rattle.std.proofs.Common.{◌≡◌, ◌∙◌, ap, List, ℕ, map, filter, 
 use Rattle.std.specs.List.{flat_map}
 use Rattle.std.proofs.lemmas.Result.{IfOk-weaker}
 use Rattle.ped_base.specs.Lists.{is_among}
-use Rattle.ped_grammar.specs.Occurrences.{all_constants, all_do_variables, entry_names, saved_among, saved_names}
-use Rattle.ped_grammar.specs.ItemViews.{entry_of}
+use Rattle.ped_tree.specs.Grammar.Occurrences.{all_constants, all_do_variables, entry_names, saved_among, saved_names}
+use Rattle.ped_tree.specs.Grammar.ItemViews.{entry_of}
 use Rattle.ped_refusals.specs.Collecting.{with_names}
 use Rattle.ped_refusals.proofs.Collecting.{saved}
 use Rattle.ped_refusals.proofs.saving.saved_names.Goals as goal

@@ -1,6 +1,6 @@
 use Rattle.std.proofs.Common.{◌≡◌, map, drop}
 use Rattle.std.specs.List.{list_any}
-use Rattle.ped_grammar.specs.OutsideProfile.{begins_with}
+use Rattle.ped_tree.specs.Grammar.OutsideProfile.{begins_with}
 use Rattle.ped_statements.proofs.outside_profile.begins_with_any.Given as goal
 
 abbrev pub invariant-loop-word : goal.invariant-loop-word

@@ -1,8 +1,8 @@
 use Rattle.std.proofs.Common.{◌≡◌, ℕ, List, [], Option, Some, None, true, ap, sym, ◌∙◌, subst}
 use Rattle.ped_tree.specs.Views.{program_tree}
-use Rattle.ped_grammar.specs.Fits as grammar
-use Rattle.ped_grammar.specs.Refusal.{Finding, first_of}
-use Rattle.ped_grammar.specs.RefusalViews.{finding_of}
+use Rattle.ped_tree.specs.Grammar.Fits as grammar
+use Rattle.ped_tree.specs.Grammar.Refusal.{Finding, first_of}
+use Rattle.ped_tree.specs.Grammar.RefusalViews.{finding_of}
 use Rattle.ped_symbols.specs.NameRefusals.{name_refusals}
 use Rattle.ped_symbols.specs.Refused.{IsFirstOf}
 use Rattle.ped_symbols.proofs.FewReferences.{few_statements, few_references}

@@ -2,7 +2,7 @@ use Rattle.std.proofs.Common.{◌≡◌, ◌∷◌, [], ◌++◌, true, Some, ma
 use Rattle.std.specs.Prelude.{nat_le}
 use Rattle.std.proofs.lemmas.Result.{on_ok_weaker}
 use Rattle.ped_base.specs.Lists.{has_some}
-use Rattle.ped_grammar.specs.LimitNumbers.{most_dimensions}
+use Rattle.ped_tree.specs.Grammar.LimitNumbers.{most_dimensions}
 use Rattle.ped_tree.specs.Views.{bound_tree, declarator_tree}
 use Rattle.ped_symbols.specs.Entries.{entry_of}
 use Rattle.ped_symbols.specs.Arrays.{bounds_values, arrays_of}

@@ -1,5 +1,5 @@
 use Rattle.ped_tree.specs.Views.{program_tree}
-use Rattle.ped_printed_programs.proofs.PrintedProgram.{read_fits}
+use Rattle.ped_parse.specs.ped_printed.proofs.ProgramLaws.PrintedProgram.{read_fits}
 use Rattle.ped_symbols.proofs.FewReferences.{few_statements, few_references}
 use Rattle.ped_valid.proofs.OneVerdict.{valid_as_read}
 use Rattle.ped_valid.proofs.RefusedTexts.{refused_in_reading}

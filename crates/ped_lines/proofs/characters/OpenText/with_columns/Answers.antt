@@ -1,7 +1,7 @@
 use Rattle.std.proofs.Common.{◌<◌, ◌∷◌, [], ◌++◌, ℕ, Bool, List, length, take, get_or, ap, sym, ◌∙◌, append_assoc, arith}
 use Rattle.std.specs.Prelude.{◌||◌}
 use Rattle.std.proofs.lemmas.List.{take_more}
-use Rattle.ped_grammar.specs.Characters.{is_bad, has_bad, kept, text_behind}
+use Rattle.ped_tree.specs.Grammar.Characters.{is_bad, has_bad, kept, text_behind}
 use Rattle.ped_lines.specs.Quoting.{quoting_of}
 use Rattle.ped_lines.proofs.Quoting.{text_more, has_bad_more}
 use Rattle.ped_lines.proofs.characters.OpenText.with_columns.Goals as goal

@@ -1,5 +1,5 @@
 use Rattle.std.proofs.Common.{◌≡◌, ◌++◌, ℕ, List, take}
-use Rattle.ped_grammar.specs.Characters.{has_bad, text_behind}
+use Rattle.ped_tree.specs.Grammar.Characters.{has_bad, text_behind}
 use Rattle.ped_lines.specs.Quoting.{quoting_of}
 use Rattle.ped_lines.proofs.characters.OpenText.with_columns.Given as goal
 

@@ -1,6 +1,6 @@
 use Rattle.std.proofs.Common.{◌≡◌, ℕ, ◌+◌, rules, sym, ap, arith}
-use Rattle.ped_grammar.specs.Contexts as Spec
-use Rattle.ped_grammar.specs.ItemViews.{item_of}
+use Rattle.ped_tree.specs.Grammar.Contexts as Spec
+use Rattle.ped_tree.specs.Grammar.ItemViews.{item_of}
 use Rattle.ped_print.specs.Lengths.{limited}
 use Rattle.ped_refusals.proofs.contexts.Context.behind_item.Goals as goal
 

@@ -1,8 +1,0 @@
-use Rattle.ped_acts.proofs.Renamings.{same_fits, same_leaves}
-use Rattle.ped_acts.proofs.agreeing.other_places.Goals as goal
-
-pub returns-clause-fits : goal.returns-clause-fits
-returns-clause-fits c = same_fits
-
-pub returns-clause-leaves : goal.returns-clause-leaves
-returns-clause-leaves c = same_leaves

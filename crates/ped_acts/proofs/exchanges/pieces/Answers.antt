@@ -1,8 +1,0 @@
-use Rattle.ped_acts.proofs.Exchanging.{pieces_fit, pieces_leave}
-use Rattle.ped_acts.proofs.exchanges.pieces.Goals as goal
-
-pub returns-clause-fits : goal.returns-clause-fits
-returns-clause-fits c = pieces_fit
-
-pub returns-clause-leaves : goal.returns-clause-leaves
-returns-clause-leaves c = pieces_leave

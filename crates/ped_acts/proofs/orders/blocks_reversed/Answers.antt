@@ -1,8 +1,0 @@
-use Rattle.ped_acts.proofs.Reorderings.{reversed_fits, reversed_leaves}
-use Rattle.ped_acts.proofs.orders.blocks_reversed.Goals as goal
-
-pub returns-clause-fits : goal.returns-clause-fits
-returns-clause-fits c = reversed_fits
-
-pub returns-clause-leaves : goal.returns-clause-leaves
-returns-clause-leaves c = reversed_leaves

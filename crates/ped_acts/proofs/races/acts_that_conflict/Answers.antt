@@ -1,8 +1,0 @@
-use Rattle.ped_acts.proofs.Conflicting.{accesses_of_conflict, accesses_outside}
-use Rattle.ped_acts.proofs.races.acts_that_conflict.Goals as goal
-
-pub returns-clause-tells : goal.returns-clause-tells
-returns-clause-tells c = accesses_of_conflict
-
-pub returns-clause-outside : goal.returns-clause-outside
-returns-clause-outside c = accesses_outside

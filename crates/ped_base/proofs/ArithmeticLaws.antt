@@ -1,0 +1,2 @@
+-- Lemmas of the room that this folder is named after.
+pub mod Raising

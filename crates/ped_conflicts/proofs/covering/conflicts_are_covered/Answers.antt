@@ -1,5 +1,0 @@
-use Rattle.ped_conflicts.proofs.CoveringRuns.{conflicts_covered}
-use Rattle.ped_conflicts.proofs.covering.conflicts_are_covered.Goals as goal
-
-pub returns : goal.returns
-returns c = conflicts_covered c.accesses_are_made.ensures c.accesses_in_sequence.ensures c.directions_are_possible.ensures

@@ -1,5 +1,0 @@
-pub mod Reaching
-pub mod Making
-pub mod Sequence
-pub mod Directions
-pub mod Covered

@@ -1,2 +1,0 @@
-pub mod ConstantExpressions
-pub mod NamedConstants

@@ -1,5 +1,0 @@
-use Rattle.ped_covering.proofs.FormValues.{value_tells}
-use Rattle.ped_covering.proofs.forms.values_by_forms.Goals as goal
-
-pub returns : goal.returns
-returns c = λ t values g u e f n have h k. (value_tells t values g u have e n f k h).1

@@ -1,8 +1,0 @@
-use Rattle.ped_covering.proofs.Nesting.{one_deeper}
-use Rattle.ped_covering.proofs.nests.nests_in_ranges.Goals as goal
-
-pub returns-clause-outside : goal.returns-clause-outside
-returns-clause-outside c = λ s p. record { iterations = tt; variables = λ x. tt }
-
-pub returns-clause-inside : goal.returns-clause-inside
-returns-clause-inside c = one_deeper

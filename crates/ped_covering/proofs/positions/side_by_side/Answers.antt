@@ -1,8 +1,0 @@
-use Rattle.ped_covering.proofs.Sides.{loops_first, agree}
-use Rattle.ped_covering.proofs.positions.side_by_side.Goals as goal
-
-pub returns-clause-loops : goal.returns-clause-loops
-returns-clause-loops c = loops_first
-
-pub returns-clause-others : goal.returns-clause-others
-returns-clause-others c = agree

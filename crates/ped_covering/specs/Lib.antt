@@ -1,4 +1,0 @@
-pub mod Nested
-pub mod Together
-pub mod Weights
-pub mod Within

@@ -1,0 +1,3 @@
+-- The dependence graph after a change, and what takes it back.
+pub mod Deltas
+pub mod Fresh

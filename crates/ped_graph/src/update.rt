@@ -1,0 +1,9 @@
+//! The dependence graph after a change of the program, and what takes it back. The definitions stand in `specs/`.
+
+mod deltas;
+mod laws;
+mod updating;
+
+pub use deltas::{Delta, swap};
+pub use laws::second_swap_restores;
+pub use updating::{Keep, update};

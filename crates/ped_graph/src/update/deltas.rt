@@ -1,0 +1,52 @@
+//! What takes a changed graph back to its former state, and forth again.
+
+ghost use Rattle.std.specs.Prelude.{◌≡◌};
+ghost use Rattle.ped_graph.specs.Held.{Held};
+ghost use Rattle.ped_graph.specs.Update.Deltas.{TakesTo, IsSwap};
+
+use crate::Graph;
+use std::marker::Model;
+use std::mem;
+use std::sync::ledger::Ledger;
+
+/// The step between two states of a graph. It belongs to one of them, and `swap` takes the graph to the other.
+#[derive(Drop)]
+pub struct Delta<L: Ledger> {
+    other: Graph<L>,
+    tested: u64,
+}
+
+impl<L: Ledger> Model for Delta<L> {
+    ghost use Rattle.ped_graph.specs.Update.Deltas.{HeldDelta};
+
+    ghost Value = { HeldDelta };
+
+    ghost view = { λ d. record { other = d.other; tested = d.tested } };
+}
+
+impl<L: Ledger> Delta<L> {
+    /// The step back to this state, of a change that tested so many pairs.
+    pub(crate) fn new(other: Graph<L>, tested: u64) -> Delta<L>
+        ensures other { result.other ≡ other }
+        ensures tested { result.tested ≡ tested }
+    {
+        Delta { other, tested }
+    }
+
+    /// How many pairs of references the change tested that this step belongs to.
+    pub fn tested(&self) -> u64
+        ensures { result ≡ self.now.tested }
+    {
+        self.tested
+    }
+}
+
+/// Takes a graph to the other state of a step that belongs to it; the step then belongs to that state and leads
+/// back. It takes no memory and tests nothing.
+pub fn swap<L: Ledger>(graph: &mut Graph<L>, delta: &mut Delta<L>)
+    requires belongs { (other : Held) × TakesTo delta.old graph.old other }
+    ensures swapped { IsSwap delta.old graph.old delta.new graph.new }
+    ensures tested { delta.new.tested ≡ delta.old.tested }
+{
+    mem::swap(graph, &mut delta.other);
+}

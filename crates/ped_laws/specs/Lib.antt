@@ -1,0 +1,10 @@
+pub use Rattle.ped_graph.specs.ped_edges
+pub use Rattle.ped_graph
+pub use Rattle.ped_eval.specs.ped_store
+pub use Rattle.ped_eval
+pub mod Acts
+pub mod Runs
+pub mod FlowRuns
+pub mod Covering
+pub mod Conflicts
+pub mod Plain

@@ -1,0 +1,13 @@
+//! Conflicts of a run and the dependences that cover them: what two accesses do to one cell in one execution of a loop
+//! round both stands among the dependences of the program. Each function here does nothing, or calls the laws that its
+//! own rests on; its contract is the law, and docs/MEANING.md tells what the laws are for.
+
+mod covering;
+mod making;
+mod possible;
+mod sequence;
+
+pub use covering::{conflicts_are_covered, races_are_covered};
+pub use making::accesses_are_made;
+pub use possible::directions_are_possible;
+pub use sequence::accesses_in_sequence;

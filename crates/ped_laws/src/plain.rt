@@ -1,0 +1,13 @@
+//! Plain bounds of DO loops: they may be evaluated anywhere in the outermost DO. Each function here does nothing; its
+//! contract is the law. A step that enters a loop more often than before, or earlier, rests on these laws.
+
+mod bounds;
+mod programs;
+mod sizes;
+
+pub use bounds::{
+    bounds_in_executions, entries_begin_executions, iterations_are_inside, plain_bounds,
+    values_stand,
+};
+pub use programs::bounds_in_valid_programs;
+pub use sizes::scalars_are_small;

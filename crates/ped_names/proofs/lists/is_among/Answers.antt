@@ -1,7 +1,0 @@
-use Rattle.std.proofs.Common.{◌∙◌}
-use Rattle.std.specs.List.{list_any}
-use Rattle.ped_names.proofs.NameEquality.{name_same, same_flip}
-use Rattle.ped_names.proofs.lists.is_among.Goals as goal
-
-pub returns : goal.returns
-returns c = c.contains.ensures.value ∙ (λ i. list_any (λ y. (name_same y c.args.name.now ∙ same_flip y c.args.name.now) i) c.args.names.now)

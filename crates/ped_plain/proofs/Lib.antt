@@ -1,9 +1,0 @@
-pub mod NearIntervals
-pub mod PlainValues
-pub mod SmallWrites
-pub mod Nests
-pub mod Standing
-pub mod Entries
-pub mod Insides
-mod Examples
-pub mod ValidPrograms

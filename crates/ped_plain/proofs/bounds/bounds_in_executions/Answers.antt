@@ -1,5 +1,0 @@
-use Rattle.ped_plain.proofs.Standing.{value_during}
-use Rattle.ped_plain.proofs.bounds.bounds_in_executions.Goals as goal
-
-pub returns : goal.returns
-returns c = λ p t one unstopping named s small l front entry e plain fits told ranges. value_during p t one unstopping named s l front entry told small e plain fits ranges

@@ -1,5 +1,0 @@
-use Rattle.ped_plain.proofs.PlainValues.{plain_value}
-use Rattle.ped_plain.proofs.bounds.plain_bounds.Goals as goal
-
-pub returns : goal.returns
-returns c = λ constants t l e v plain fits range. plain_value constants t l v range e plain fits

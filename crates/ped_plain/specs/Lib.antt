@@ -1,2 +1,0 @@
-pub mod PlainValues
-pub mod Executions

@@ -1,0 +1,2 @@
+-- Programs as they are printed.
+pub mod PrintedPrograms

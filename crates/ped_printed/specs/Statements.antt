@@ -1,0 +1,2 @@
+-- Statements as they are printed.
+pub mod Printed

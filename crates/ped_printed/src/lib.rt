@@ -1,0 +1,5 @@
+//! Laws of printing: what is printed of statements, declarations and whole programs reads as these, and as nothing else.
+#![tactic(auto)]
+
+pub mod programs;
+pub mod statements;

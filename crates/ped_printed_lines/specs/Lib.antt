@@ -1,4 +1,0 @@
-pub mod Cut
-pub mod Fitting
-pub mod Parts
-pub mod Printed

@@ -1,7 +1,0 @@
-//! The trees that fit are those that some text reads as, and the printed text of each reads as it and as no
-//! other.
-#![tactic(auto)]
-
-mod laws;
-
-pub use laws::{fits_where_read, printed_program};

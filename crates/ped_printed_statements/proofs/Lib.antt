@@ -1,6 +1,0 @@
-pub mod Declarations
-pub mod Expressions
-pub mod Listing
-pub mod Only
-pub mod Squeezing
-pub mod Statements

@@ -1,8 +1,0 @@
-//! What is printed of single statements and declarations reads as they do, and as nothing else.
-#![tactic(auto)]
-
-mod laws;
-
-pub use laws::{
-    printed_declaration, printed_private, printed_save, printed_statement, printed_words,
-};

@@ -1,0 +1,2 @@
+-- How large a program within the limits is.
+pub mod Sizes

@@ -1,0 +1,13 @@
+-- How large a program within the limits is (this project).
+use Rattle.std.specs.Prelude.{ℕ, ◌≤◌, ◌*◌, length}
+use Rattle.std.specs.List.{AllByRecursion}
+use Rattle.ped_tree.specs.Tree.{ProgramTree}
+use Rattle.ped_tree.specs.Numbering.{statements_count}
+use Rattle.ped_tree.specs.Grammar.LimitNumbers.{most_statements, most_references, most_loops_nested}
+use Rattle.ped_refs.specs.References.{Reference, references}
+
+-- so many statements, so many references of each, and so many DO loops round each reference at most
+pub record IsSmall (t : ProgramTree) : Type 0 where
+  pub few_statements : statements_count t.body ≤ most_statements
+  pub few_references : length (references t) ≤ most_references * most_statements
+  pub shallow : AllByRecursion (λ (r : Reference). length r.nest ≤ most_loops_nested) (references t)

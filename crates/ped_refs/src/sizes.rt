@@ -1,0 +1,5 @@
+//! How large a program of the profile is: its statements, its references and the DO loops round each of them.
+
+mod laws;
+
+pub use laws::small_where_it_fits;

@@ -1,8 +1,0 @@
-use Rattle.ped_runs.proofs.Joined.{condition_part, condition_fault}
-use Rattle.ped_runs.proofs.joining.conditions_joined.Goals as goal
-
-pub returns-clause-part : goal.returns-clause-part
-returns-clause-part c = condition_part
-
-pub returns-clause-fault : goal.returns-clause-fault
-returns-clause-fault c = condition_fault

@@ -1,8 +1,0 @@
-use Rattle.ped_runs.proofs.Joined.{part_apart, part_fails}
-use Rattle.ped_runs.proofs.parting.conditions_parted.Goals as goal
-
-pub returns-clause-part : goal.returns-clause-part
-returns-clause-part c = part_apart
-
-pub returns-clause-fault : goal.returns-clause-fault
-returns-clause-fault c = part_fails

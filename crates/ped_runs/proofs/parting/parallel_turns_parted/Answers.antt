@@ -1,8 +1,0 @@
-use Rattle.ped_runs.proofs.Joined.{parallel_apart, parallel_alone}
-use Rattle.ped_runs.proofs.parting.parallel_turns_parted.Goals as goal
-
-pub returns-clause-more : goal.returns-clause-more
-returns-clause-more c = parallel_apart
-
-pub returns-clause-ended : goal.returns-clause-ended
-returns-clause-ended c = parallel_alone

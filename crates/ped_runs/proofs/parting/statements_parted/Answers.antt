@@ -1,8 +1,0 @@
-use Rattle.ped_runs.proofs.Joined.{statements_apart, statements_alone}
-use Rattle.ped_runs.proofs.parting.statements_parted.Goals as goal
-
-pub returns-clause-more : goal.returns-clause-more
-returns-clause-more c = statements_apart
-
-pub returns-clause-ended : goal.returns-clause-ended
-returns-clause-ended c = statements_alone

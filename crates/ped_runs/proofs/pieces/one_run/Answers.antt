@@ -1,8 +1,0 @@
-use Rattle.ped_runs.proofs.Joined.{acts_are, finish_is}
-use Rattle.ped_runs.proofs.pieces.one_run.Goals as goal
-
-pub returns-clause-acts : goal.returns-clause-acts
-returns-clause-acts c = acts_are
-
-pub returns-clause-finish : goal.returns-clause-finish
-returns-clause-finish c = finish_is

@@ -1,4 +1,0 @@
-pub mod Replaying
-pub mod Seeing
-pub mod Showing
-pub mod Touching

@@ -1,6 +1,0 @@
-//! How large a program of the profile is: its statements, its references and the DO loops round each of them.
-#![tactic(auto)]
-
-mod laws;
-
-pub use laws::small_where_it_fits;

@@ -1,8 +1,0 @@
-pub mod Exchanging
-pub mod Gaps
-pub mod Pasting
-pub mod Meaning
-pub mod Privatising
-pub mod Substituting
-pub mod Renumbering
-pub mod Expanding

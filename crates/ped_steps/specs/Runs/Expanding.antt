@@ -1,0 +1,84 @@
+-- An array in the place of a scalar in a DO with constant bounds: the new program, and where it may come (Allen and Kennedy, section 5.3; this project).
+use Rattle.std.specs.Prelude.{◌≡◌, ℕ, ℤ, pos, ◌-ℤ◌, int_le, int_lt, int_rem, unsigned_abs, nat_lt, List, [], ◌∷◌, ◌++◌, Bool, true, false, Some, if◌then◌else◌}
+use Rattle.std.specs.Int.{int_min, int_max}
+use Rattle.ped_base.specs.Dimensions.{Dimensions}
+use Rattle.ped_base.specs.Lists.{is_among}
+use Rattle.ped_tree.specs.Tree.{ExprTree, Var, Element, no_exprs, more_exprs, Head, StmtTree, StmtTrees, Assign, Do, no_stmts, more_stmts, DeclTree, Integer, ProgramTree}
+use Rattle.ped_tree.specs.Nests.{Loop, indices_of}
+use Rattle.ped_tree.specs.Constants.ConstantExpressions.{constant_value}
+use Rattle.ped_symbols.specs.Kinds.{kind_in, names_of, table_of}
+use Rattle.ped_symbols.specs.RightUses.RightUses.{is_scalar}
+use Rattle.ped_flow.specs.ped_affine.specs.Assigned.{loop_variables}
+use Rattle.ped_sums.specs.Sums.{literal}
+use Rattle.ped_sums.specs.Substitution.{statements_substituted}
+use Rattle.ped_laws.specs.Acts.Orders.{IsIn}
+use Rattle.ped_laws.specs.ped_eval.specs.Loops.{all_index_names}
+use Rattle.ped_flow.specs.PlainBounds.{nest_round}
+use Rattle.ped_flow.specs.Questions.{LoopOf, IsExposed, IsLiveAfter, IsAssignedThrough}
+use Rattle.ped_steps.specs.Replacing.{all_replaced}
+use Rattle.ped_steps.specs.Runs.Substituting.{element_at, private_names_in}
+
+-- the array's element at a number, in a program (ANSI X3.9-1978, section 5.3)
+abbrev pub element_expr : List ℕ → ℤ → ExprTree
+element_expr array n = Element array (more_exprs (literal n) no_exprs)
+
+-- the body of a DO with the element at its variable in the place of a scalar (Allen and Kennedy, section 5.3)
+abbrev pub body_with : List ℕ → List ℕ → Head → StmtTrees → StmtTrees
+body_with x array h body = statements_substituted x (element_at array h.variable) body
+
+-- what stands behind the DO: where the scalar is live there, it gets what its last element holds (Allen and Kennedy, section 5.3)
+abbrev pub kept_value : Bool → List ℕ → List ℕ → ℤ → StmtTrees
+kept_value true x array last = more_stmts (Assign (Var x) (element_expr array last)) no_stmts
+kept_value false x array last = no_stmts
+
+-- the DO with the element in the place of the scalar, and what stands behind it (Allen and Kennedy, section 5.3)
+abbrev pub new_statements : List ℕ → List ℕ → Bool → ℤ → Head → StmtTrees → StmtTrees
+new_statements x array live last h body = more_stmts (Do h (body_with x array h body)) (kept_value live x array last)
+
+-- the declaration of an array with one dimension (ANSI X3.9-1978, section 5.1)
+abbrev pub array_decl : List ℕ → ℤ → ℤ → DeclTree
+array_decl array lo hi = Integer ((record { name = array; bounds = (record { lower = literal lo; upper = literal hi }) ∷ [] }) ∷ [])
+
+-- the bounds that it gives the array (ANSI X3.9-1978, section 5.1)
+abbrev pub array_bounds : ℤ → ℤ → Dimensions
+array_bounds lo hi = record { lower = lo ∷ []; upper = hi ∷ [] }
+
+-- a program with other statements, and the declaration of an array behind its others (this project)
+abbrev pub with_array : ProgramTree → StmtTrees → List ℕ → ℤ → ℤ → ProgramTree
+with_array t body array lo hi = record { decls = t.decls ++ array_decl array lo hi ∷ []; body = body }
+
+-- from the first value in steps of the increment there is a value up to the limit (ANSI X3.9-1978, section 11.10.3)
+abbrev pub has_iteration : ℤ → ℤ → ℤ → Bool
+has_iteration m1 m2 m3 = if int_lt (pos 0) m3 then int_le m1 m2 else int_le m2 m1
+
+-- the value in the last iteration (ANSI X3.9-1978, section 11.10.3)
+abbrev pub last_value : ℤ → ℤ → ℤ → ℤ
+last_value m1 m2 m3 = m2 -ℤ int_rem (m2 -ℤ m1) m3
+
+-- the program in which an array has come for a scalar in the DO with number l, whose values go from m1 towards m2 in steps of m3 (Allen and Kennedy, section 5.3; this project)
+abbrev pub expanded_by : ProgramTree → ℕ → (StmtTree → StmtTrees) → List ℕ → ℤ → ℤ → ℤ → ProgramTree
+expanded_by t l by array m1 m2 m3 = with_array t (all_replaced by l t.body 1) array (int_min m1 (last_value m1 m2 m3)) (int_max m1 (last_value m1 m2 m3))
+
+-- a DO with this number stands round the statement with number l (ANSI X3.9-1978, section 11.10)
+abbrev pub IsRound : ProgramTree → ℕ → ℕ → Type 0
+IsRound t l n = (m : Loop) × IsIn m (nest_round t l) × (m.number ≡ n)
+
+-- an array of this name may come for a scalar in a DO: the DO is no PARALLEL DO; its bounds are constant, and it has an iteration; its first and its last value are literals; the scalar is no variable of the DO, of one round it or in it, private to none of these, and in no PARALLEL DO round it the variable of a DO; it isn't exposed, and where it is live it is assigned on each path through the body; the array's name doesn't occur (Allen and Kennedy, section 5.3; this project)
+pub record MayExpand (t : ProgramTree) (l : ℕ) (loop : LoopOf t l) (x array : List ℕ) (live : Bool) (m1 m2 m3 : ℤ) : Type 0 where
+  pub in_order : loop.head.parallel ≡ false
+  pub scalar : is_scalar (kind_in t) x ≡ true
+  pub round : is_among x (indices_of (nest_round t l)) ≡ false
+  pub near : is_among x (loop_variables (Do loop.head loop.body)) ≡ false
+  pub shared : is_among x (private_names_in (Do loop.head loop.body)) ≡ false
+  pub shared_round : (n : ℕ) (m : LoopOf t n) → IsRound t l n → is_among x m.head.private ≡ false
+  pub no_index : (n : ℕ) (m : LoopOf t n) → IsRound t l n → m.head.parallel ≡ true → is_among x (m.head.variable ∷ all_index_names m.body) ≡ false
+  pub unexposed : (n : ℕ) → IsExposed t l x n → ⊥
+  pub dead : live ≡ false → IsLiveAfter t l x → ⊥
+  pub through : live ≡ true → IsAssignedThrough t l x
+  pub new : is_among array (names_of t) ≡ false
+  pub first : constant_value (table_of t).constants loop.head.first ≡ Some m1
+  pub last : constant_value (table_of t).constants loop.head.last ≡ Some m2
+  pub step : constant_value (table_of t).constants loop.head.step ≡ Some m3
+  pub some : has_iteration m1 m2 m3 ≡ true
+  pub near_first : nat_lt 2147483647 (unsigned_abs m1) ≡ false
+  pub near_last : nat_lt 2147483647 (unsigned_abs (last_value m1 m2 m3)) ≡ false

@@ -1,0 +1,39 @@
+//! What follows of a valid program, and how its names with their kinds are looked up. The functions do nothing; their
+//! contracts are the laws.
+
+ghost use Rattle.std.specs.Prelude.{◌≡◌, ℕ, List, true, false, None, is_some};
+ghost use Rattle.ped_base.specs.Lists.{is_among};
+ghost use Rattle.ped_tree.specs.Tree.{ProgramTree};
+ghost use Rattle.ped_tree.specs.Accesses.{constant_names};
+ghost use Rattle.ped_tree.specs.Constants.NamedConstants.{value_named};
+ghost use Rattle.ped_symbols.specs.Entries.{entry_of};
+ghost use Rattle.ped_symbols.specs.Kinds.{at_last, kind_in, kinds_of, names_at, names_of};
+ghost use Rattle.ped_symbols.specs.Sites.{program_sites};
+ghost use Rattle.ped_symbols.specs.NameRefusals.{IsValid};
+ghost use Rattle.ped_symbols.specs.RightUses.RightPrograms.{IsRight};
+
+/// In a valid program names stand where names of their kind may stand, increments have values, DO loops stand in one
+/// another at most six deep, there are at most 4,000 statements, and arrays have right bounds and at most 2^23 elements
+/// together.
+pub fn right_where_valid()
+    ensures { (t : ProgramTree) → IsValid t → IsRight t }
+{}
+
+/// A name is found among the names of a program with the kind that it has there, and one that doesn't occur isn't found.
+pub fn kind_found()
+    ensures { (t : ProgramTree) → (x : List ℕ) → entry_of (kinds_of t) x ≡ kind_in t x }
+{}
+
+/// In a valid program each named constant has a value, and no other name has one (ANSI X3.9-1978, section 8.6).
+pub fn constants_have_values()
+    ensures named { (t : ProgramTree) (x : List ℕ) → IsValid t → is_among x (constant_names t.decls) ≡ true → is_some (value_named (at_last t).values x) ≡ true }
+    ensures others { (t : ProgramTree) (x : List ℕ) → is_among x (constant_names t.decls) ≡ false → value_named (at_last t).values x ≡ None }
+{}
+
+/// What names stand for is told by the declarations and by which names occur: programs with the same declarations, in
+/// which the same names occur, have the same constants, and in both each name stands for the same.
+pub fn kinds_told_by_names()
+    ensures values { (t u : ProgramTree) → t.decls ≡ u.decls → (at_last u).values ≡ (at_last t).values }
+    ensures kinds { (t u : ProgramTree) → t.decls ≡ u.decls → ((y : List ℕ) → is_among y (names_of u) ≡ is_among y (names_of t)) → (y : List ℕ) → kind_in u y ≡ kind_in t y }
+    ensures names { (t : ProgramTree) (y : List ℕ) → is_among y (names_of t) ≡ is_among y (names_at (program_sites t)) }
+{}

@@ -1,0 +1,3 @@
+-- Lemmas of the room that this folder is named after.
+pub mod First
+pub mod OneReading

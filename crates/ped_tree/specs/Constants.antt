@@ -1,0 +1,3 @@
+-- Named constants and constant expressions.
+pub mod ConstantExpressions
+pub mod NamedConstants

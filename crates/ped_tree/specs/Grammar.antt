@@ -1,0 +1,25 @@
+-- The grammar: what a text reads as, and which of the refusals is its first.
+pub mod BlockForms
+pub mod Characters
+pub mod Columns
+pub mod ConditionForms
+pub mod Contexts
+pub mod ExpressionForms
+pub mod Fits
+pub mod Grouping
+pub mod ItemViews
+pub mod Items
+pub mod LimitNumbers
+pub mod LineRefusals
+pub mod Literals
+pub mod Occurrences
+pub mod OutsideProfile
+pub mod ProgramForms
+pub mod ProgramRefusals
+pub mod Reading
+pub mod Refusal
+pub mod RefusalViews
+pub mod Statement
+pub mod StatementForms
+pub mod StatementViews
+pub mod Words

@@ -1,0 +1,2 @@
+-- Sets of names, and the names of a statement.
+pub mod Collecting

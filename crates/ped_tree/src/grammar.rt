@@ -1,0 +1,12 @@
+//! The grammar: what the statements of a text say one by one, why a text is refused, and in `specs/` what
+//! each text reads as and which of the refusals is its first.
+
+mod items;
+mod laws;
+mod refusals;
+mod statements;
+
+pub use items::{DoStatement, Entry, Item, StatementReading};
+pub use laws::{first_finding_is_least, one_refusal, tree_or_refusal};
+pub use refusals::{Refusal, RefusalKind, standing};
+pub use statements::{NoteLine, Statement, Statements};

@@ -1,0 +1,26 @@
+//! What the definitions in `specs/` determine. Each function here does nothing; its contract is the
+//! law.
+
+ghost use Rattle.std.specs.Prelude.{◌≡◌, [], ℕ, List, Some, None, false};
+ghost use Rattle.ped_tree.specs.Tree.{ProgramTree};
+ghost use Rattle.ped_tree.specs.Grammar.Reading.{OneItem, Reads, Refuses};
+ghost use Rattle.ped_tree.specs.Grammar.Refusal.{Finding, first_of, is_before, IsAmong};
+
+/// The first of findings is one of them, and none of them comes before it, by line and then by number.
+/// Where there is no first one, there are none.
+pub fn first_finding_is_least()
+    ensures least { (findings : List Finding) (r : Finding) → first_of findings ≡ Some r →
+        IsAmong r findings
+        × ((s : Finding) → IsAmong s findings → is_before s r ≡ false) }
+    ensures none { (findings : List Finding) → first_of findings ≡ None → findings ≡ [] }
+{}
+
+/// A text has one first refusal at most.
+pub fn one_refusal()
+    ensures { OneItem → (text : List ℕ) (a b : Finding) → Refuses text a → Refuses text b → a ≡ b }
+{}
+
+/// No text has both a tree and a first refusal.
+pub fn tree_or_refusal()
+    ensures { OneItem → (text : List ℕ) (t : ProgramTree) (a : Finding) → Reads text t → Refuses text a → ⊥ }
+{}

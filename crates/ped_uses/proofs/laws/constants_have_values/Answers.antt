@@ -1,8 +1,0 @@
-use Rattle.ped_uses.proofs.Whole.{constants_valued, others_unvalued}
-use Rattle.ped_uses.proofs.laws.constants_have_values.Goals as goal
-
-pub returns-clause-named : goal.returns-clause-named
-returns-clause-named c = constants_valued
-
-pub returns-clause-others : goal.returns-clause-others
-returns-clause-others c = others_unvalued

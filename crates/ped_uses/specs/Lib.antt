@@ -1,4 +1,0 @@
-pub mod RightArrays
-pub mod RightLoops
-pub mod RightPrograms
-pub mod RightUses

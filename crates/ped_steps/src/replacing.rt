@@ -9,7 +9,7 @@ ghost use Rattle.ped_steps.specs.Replacing as Spec;
 ghost use Rattle.ped_steps.specs.Placing.{placed, all_placed};
 
 use crate::counting::{count_statement, count_statements};
-use ped_base::{Listed, Names, NoMemory};
+use ped_base::NoMemory;
 use ped_tree::{Decl, Do, Program, Stmt};
 use std::alloc::Global;
 
@@ -37,11 +37,7 @@ pub fn program_with(
 pub fn copy_decls(alloc: Global, decls: &[Decl]) -> Result<Vec<Decl>, NoMemory>
     ensures { IfOk result (λ copies. map decl_tree copies.items ≡ map decl_tree decls.now) }
 {
-    let mut copies = Vec::new(alloc);
-    for decl in decls {
-        copies.push(decl.copy(alloc)?)?;
-    }
-    Ok(copies)
+    ped_tree::copy_decls(decls, alloc)
 }
 
 /// The body of a program with copies of these statements in the place of the statement with this number.
@@ -165,21 +161,7 @@ fn add_copies(alloc: Global, all: &mut Vec<Stmt>, statements: &[Stmt]) -> Result
 pub fn with_body(alloc: Global, d: &Do, body: Vec<Stmt>) -> Result<Do, NoMemory>
     ensures { IfOk result (λ new. do_tree new ≡ Tree.Do (head_of d.now) (stmt_trees body.items)) }
 {
-    let first = d.first.copy(alloc)?;
-    let last = d.last.copy(alloc)?;
-    let step = d.step.copy(alloc)?;
-    let private = copy_names(alloc, &d.private)?;
-    let rejected = copy_names(alloc, &d.rejected)?;
-    Ok(Do {
-        variable: d.variable,
-        first,
-        last,
-        step,
-        parallel: d.parallel,
-        private,
-        rejected,
-        body,
-    })
+    d.with_body(body, alloc)
 }
 
 /// A DO as a statement, with the head of another and these statements as its body.
@@ -187,11 +169,4 @@ fn loop_with(alloc: Global, d: &Do, body: Vec<Stmt>) -> Result<Stmt, NoMemory>
     ensures { IfOk result (λ new. stmt_tree new ≡ Tree.Do (head_of d.now) (stmt_trees body.items)) }
 {
     Ok(Stmt::of_loop(with_body(alloc, d, body)?))
-}
-
-/// A copy of names.
-fn copy_names(alloc: Global, names: &Names) -> Result<Names, NoMemory>
-    ensures { IfOk result (λ copy. copy ≡ names.now) }
-{
-    Ok(Listed::from_vec(names.as_slice().to_vec(alloc)?))
 }

@@ -7,10 +7,12 @@ mod statements;
 
 ghost use Rattle.std.specs.Prelude.{◌≡◌, IfOk};
 
+pub use declarations::copy_decls;
 use ped_base::{Bytes, Listed, Names, NoMemory};
 use std::alloc::Global;
 
-fn copy_names(names: &Names, alloc: Global) -> Result<Names, NoMemory>
+/// A copy of names.
+pub fn copy_names(names: &Names, alloc: Global) -> Result<Names, NoMemory>
     ensures { IfOk result (λ copy. copy ≡ names.now) }
 {
     Ok(Listed::from_vec(names.as_slice().to_vec(alloc)?))

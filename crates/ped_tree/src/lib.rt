@@ -15,6 +15,7 @@ mod numbering;
 mod statements;
 
 pub use conditions::{Cond, Relation};
+pub use copying::{copy_decls, copy_names};
 pub use declarations::{Bound, Consts, Decl, Declarator, Program};
 pub use expressions::{Expr, Intrinsic};
 pub use laws::numbers_end_at_count;

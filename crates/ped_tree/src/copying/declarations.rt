@@ -83,7 +83,8 @@ impl Decl {
     }
 }
 
-fn copy_decls(decls: &[Decl], alloc: Global) -> Result<Vec<Decl>, NoMemory>
+/// Copies of declarations, with the same plain trees.
+pub fn copy_decls(decls: &[Decl], alloc: Global) -> Result<Vec<Decl>, NoMemory>
     ensures { IfOk result (λ copies. map decl_tree copies.items ≡ map decl_tree decls.now) }
 {
     let mut copies = Vec::new(alloc);

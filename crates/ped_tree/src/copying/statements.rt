@@ -73,7 +73,7 @@ impl Do {
     }
 
     /// A copy whose body are these statements in place of its own.
-    fn with_body(&self, body: Vec<Stmt>, alloc: Global) -> Result<Self, NoMemory>
+    pub fn with_body(&self, body: Vec<Stmt>, alloc: Global) -> Result<Self, NoMemory>
         ensures { IfOk result (λ copy. do_tree copy ≡ Tree.Do (head_of self.now) (stmt_trees body.items)) }
     {
         match self.copy_control(alloc) {

@@ -15,4 +15,4 @@ pub mod Appending
 pub mod Rows
 pub mod RaceFree
 pub mod Conflicting
-mod Examples
+pub mod Examples

@@ -19,5 +19,5 @@ pub mod DeadExits
 pub mod Holding
 pub mod Writing
 pub mod Entering
-mod Examples
+pub mod Examples
 pub mod Stopping

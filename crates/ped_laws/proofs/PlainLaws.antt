@@ -6,5 +6,5 @@ pub mod Nests
 pub mod Standing
 pub mod Entries
 pub mod Insides
-mod Examples
+pub mod Examples
 pub mod ValidPrograms

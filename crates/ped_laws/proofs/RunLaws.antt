@@ -1,5 +1,5 @@
 -- Lemmas of the room that this folder is named after.
-mod Examples
+pub mod Examples
 pub mod Defined
 pub mod Joined
 pub mod Meetings

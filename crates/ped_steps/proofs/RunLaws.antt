@@ -30,7 +30,7 @@ pub mod PastedRuns
 pub mod ReplacedTrees
 pub mod PastedStatements
 pub mod PastedStores
-mod Examples
+pub mod Examples
 pub mod PrivatisedPrograms
 pub mod PrivatisedRacesCells
 pub mod PrivatisedRacesOrigins

@@ -1,12 +1,12 @@
 -- Lemmas of the room that this folder is named after.
-mod Constants
-mod DeclaredArrays
+pub mod Constants
+pub mod DeclaredArrays
 pub mod Found
-mod Loops
-mod NamedArrays
-mod NamedValues
-mod Occurring
-mod Quiet
-mod Statements
-mod UseKinds
+pub mod Loops
+pub mod NamedArrays
+pub mod NamedValues
+pub mod Occurring
+pub mod Quiet
+pub mod Statements
+pub mod UseKinds
 pub mod Whole

@@ -1,3 +1,3 @@
 -- Lemmas of the room that this folder is named after.
 pub mod Arguments
-mod NameEquality
+pub mod NameEquality

@@ -85,6 +85,10 @@ head variable first last step parallel private rejected = record {
   rejected = rejected;
 }
 
+-- the plain head of a DO
+abbrev pub head_of : Do → Head
+head_of d = head d.variable d.first d.last d.step d.parallel d.private d.rejected
+
 -- one level of a DO
 abbrev pub do_level : open_stmt.Do-F StmtTree StmtTree → StmtTree
 do_level d = plain.Do (head d.variable d.first d.last d.step d.parallel d.private d.rejected) (pack_stmts d.body.items)

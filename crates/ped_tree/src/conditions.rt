@@ -1,6 +1,6 @@
 //! Conditions.
 
-ghost use Rattle.std.specs.Prelude.{◌≡◌, IfOk};
+ghost use Rattle.std.specs.Prelude.{◌≡◌, Err, IfOk};
 
 use crate::expressions::Expr;
 use ped_base::NoMemory;
@@ -66,5 +66,12 @@ impl Cond {
         ensures { IfOk result (λ c. cond_tree c ≡ Tree.Or (cond_tree left) (cond_tree right)) }
     {
         Ok(Cond::Or(Box::new(alloc, left)?, Box::new(alloc, right)?))
+    }
+
+    /// Lets the condition go, since something else of the same tree couldn't be had.
+    pub(crate) fn let_go(self, error: NoMemory) -> Result<Cond, NoMemory>
+        ensures { result ≡ Err error }
+    {
+        Err(error)
     }
 }

@@ -1,6 +1,6 @@
 //! Expressions.
 
-ghost use Rattle.std.specs.Prelude.{◌≡◌, IfOk, map};
+ghost use Rattle.std.specs.Prelude.{◌≡◌, Err, IfOk, map};
 
 use ped_base::{Name, NoMemory};
 use std::alloc::Global;
@@ -116,5 +116,12 @@ impl Expr {
         ensures { expr_tree result ≡ Tree.Call intrinsic (pack_exprs (map expr_tree arguments.items)) }
     {
         Expr::Call(intrinsic, arguments)
+    }
+
+    /// Lets the expression go, since something else of the same tree couldn't be had.
+    pub(crate) fn let_go(self, error: NoMemory) -> Result<Expr, NoMemory>
+        ensures { result ≡ Err error }
+    {
+        Err(error)
     }
 }

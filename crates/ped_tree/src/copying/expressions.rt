@@ -1,9 +1,10 @@
 //! Copies of expressions and conditions.
 
 ghost use Rattle.std.specs.Prelude.{◌≡◌, IfOk, map};
+ghost use Rattle.ped_tree.specs.Tree;
 ghost use Rattle.ped_tree.specs.Views.{expr_tree, cond_tree};
 
-use crate::conditions::Cond;
+use crate::conditions::{Cond, Relation};
 use crate::expressions::Expr;
 use ped_base::NoMemory;
 use std::alloc::Global;
@@ -23,32 +24,42 @@ impl Expr {
             }
             Expr::Neg(operand) => {
                 let operand = operand.copy(alloc)?;
-                Ok(Expr::Neg(Box::new(alloc, operand)?))
+                Expr::negation(alloc, operand)
             }
             Expr::Add(left, right) => {
                 let left = left.copy(alloc)?;
-                let right = right.copy(alloc)?;
-                Ok(Expr::Add(Box::new(alloc, left)?, Box::new(alloc, right)?))
+                match right.copy(alloc) {
+                    Ok(right) => Expr::sum(alloc, left, right),
+                    Err(error) => left.let_go(error),
+                }
             }
             Expr::Sub(left, right) => {
                 let left = left.copy(alloc)?;
-                let right = right.copy(alloc)?;
-                Ok(Expr::Sub(Box::new(alloc, left)?, Box::new(alloc, right)?))
+                match right.copy(alloc) {
+                    Ok(right) => Expr::difference(alloc, left, right),
+                    Err(error) => left.let_go(error),
+                }
             }
             Expr::Mul(left, right) => {
                 let left = left.copy(alloc)?;
-                let right = right.copy(alloc)?;
-                Ok(Expr::Mul(Box::new(alloc, left)?, Box::new(alloc, right)?))
+                match right.copy(alloc) {
+                    Ok(right) => Expr::product(alloc, left, right),
+                    Err(error) => left.let_go(error),
+                }
             }
             Expr::Div(left, right) => {
                 let left = left.copy(alloc)?;
-                let right = right.copy(alloc)?;
-                Ok(Expr::Div(Box::new(alloc, left)?, Box::new(alloc, right)?))
+                match right.copy(alloc) {
+                    Ok(right) => Expr::quotient(alloc, left, right),
+                    Err(error) => left.let_go(error),
+                }
             }
             Expr::Pow(base, exponent) => {
                 let base = base.copy(alloc)?;
-                let exponent = exponent.copy(alloc)?;
-                Ok(Expr::Pow(Box::new(alloc, base)?, Box::new(alloc, exponent)?))
+                match exponent.copy(alloc) {
+                    Ok(exponent) => Expr::power(alloc, base, exponent),
+                    Err(error) => base.let_go(error),
+                }
             }
             Expr::Call(intrinsic, arguments) => {
                 let arguments = copy_exprs(arguments, alloc)?;
@@ -75,25 +86,44 @@ impl Cond {
         ensures { IfOk result (λ copy. cond_tree copy ≡ cond_tree self.now) }
     {
         match self {
-            Cond::Rel(relation, left, right) => {
-                let left = left.copy(alloc)?;
-                let right = right.copy(alloc)?;
-                Ok(Cond::Rel(*relation, left, right))
-            }
+            Cond::Rel(relation, left, right) => copy_relation(*relation, left, right, alloc),
             Cond::Not(operand) => {
                 let operand = operand.copy(alloc)?;
-                Ok(Cond::Not(Box::new(alloc, operand)?))
+                Cond::negation(alloc, operand)
             }
             Cond::And(left, right) => {
                 let left = left.copy(alloc)?;
-                let right = right.copy(alloc)?;
-                Ok(Cond::And(Box::new(alloc, left)?, Box::new(alloc, right)?))
+                match right.copy(alloc) {
+                    Ok(right) => Cond::conjunction(alloc, left, right),
+                    Err(error) => left.let_go(error),
+                }
             }
             Cond::Or(left, right) => {
                 let left = left.copy(alloc)?;
-                let right = right.copy(alloc)?;
-                Ok(Cond::Or(Box::new(alloc, left)?, Box::new(alloc, right)?))
+                match right.copy(alloc) {
+                    Ok(right) => Cond::disjunction(alloc, left, right),
+                    Err(error) => left.let_go(error),
+                }
             }
+        }
+    }
+}
+
+/// A copy of the relation of two expressions.
+fn copy_relation(
+    relation: Relation,
+    left: &Expr,
+    right: &Expr,
+    alloc: Global,
+) -> Result<Cond, NoMemory>
+    ensures { IfOk result (λ copy. cond_tree copy ≡ Tree.Rel relation (expr_tree left.now) (expr_tree right.now)) }
+{
+    let left = left.copy(alloc)?;
+    match right.copy(alloc) {
+        Ok(right) => Ok(Cond::relation(relation, left, right)),
+        Err(error) => {
+            drop(left);
+            Err(error)
         }
     }
 }

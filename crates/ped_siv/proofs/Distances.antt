@@ -1,13 +1,15 @@
 -- Distances of index values that meet under one coefficient.
-use Rattle.std.proofs.Common.{◌≡◌, ◌↔◌, refl, sym, ap, subst, arith, ℤ, pos, ◌+ℤ◌, ◌-ℤ◌, ◌*ℤ◌, Bool, not, IsTrue}
+use Rattle.std.proofs.Common.{◌≡◌, ◌↔◌, refl, sym, ap, subst, arith, ℤ, pos, ◌+ℤ◌, ◌-ℤ◌, ◌*ℤ◌, ◌<◌, List, [], ◌∷◌, length, drop, get_or, All, Bool, false, not, IsTrue}
+use Rattle.std.specs.List.{AllByRecursion}
 use Rattle.std.proofs.lemmas.Bool.Decides.{Decides-not, Decides-like}
 use Rattle.ped_views.specs.declared.directions.Direction.{Direction}
 use Rattle.ped_views.specs.declared.directions.Direction.TheVariants.{Before, Same, After}
+use Rattle.ped_views.specs.declared.strong_rows.StrongRow.{StrongRow}
 use Rattle.ped_views.specs.Whole.{Divides}
 use Rattle.ped_views.specs.Views.{Range}
-use Rattle.ped_views.specs.Excluded.{StandsByValue, by_value, InRange, Meets, NeverMeetsInStep}
+use Rattle.ped_views.specs.Excluded.{StandsByValue, by_value, InRange, MeetTogether, NeverMeetTogether}
 use Rattle.ped_views.proofs.Products.{linear, mul-sub, mul-cancel}
-use Rattle.ped_siv.specs.Fits.{FitsSpan, FitsRange}
+use Rattle.ped_siv.specs.Fits.{AreApart, FitsSpan, FitsRange}
 
 -- index values that make the subscripts equal stand at the distance, and those at the distance make them equal
 distance_of : (a c1 c2 distance i j : ℤ) → ¬ (a ≡ pos 0) → a *ℤ distance ≡ c1 -ℤ c2 → a *ℤ i +ℤ c1 ≡ a *ℤ j +ℤ c2 → j -ℤ i ≡ distance
@@ -20,6 +22,12 @@ equal_at : (a c1 c2 distance i j : ℤ) → a *ℤ distance ≡ c1 -ℤ c2 → j
 equal_at a c1 c2 distance i j e f =
     let m = mul-sub a j i in
     let g = ap (λ (x : ℤ). a *ℤ x) f in
+    omega (arith, linear)
+
+apart_at : (a c1 c2 distance i j : ℤ) → j -ℤ i ≡ distance → a *ℤ i +ℤ c1 ≡ a *ℤ j +ℤ c2 → a *ℤ distance ≡ c1 -ℤ c2
+apart_at a c1 c2 distance i j e f =
+    let m = mul-sub a j i in
+    let g = ap (λ (x : ℤ). a *ℤ x) e in
     omega (arith, linear)
 
 divides_at : (a c1 c2 i j : ℤ) → a *ℤ i +ℤ c1 ≡ a *ℤ j +ℤ c2 → Divides a (c1 -ℤ c2)
@@ -66,34 +74,77 @@ pair_of r After distance f = record {
   apart = omega (arith, linear);
 }
 
--- a difference that the coefficient doesn't divide
-pub never_whole : (a b c1 c2 : ℤ) (r : Range) (d : Direction) → a ≡ b → ¬ (Divides a (c1 -ℤ c2)) → NeverMeetsInStep a b c1 c2 r d
-never_whole a b c1 c2 r d same n =
-    subst (λ (x : ℤ). NeverMeetsInStep a x c1 c2 r d) same (λ i j m. n (divides_at a c1 c2 i j m.meets.equal))
+-- a row whose coefficient doesn't divide its difference
+never_whole : (row : StrongRow) (rows : List StrongRow) (r : Range) (d : Direction) → ¬ (Divides row.a (row.c1 -ℤ row.c2)) → NeverMeetTogether (row ∷ rows) r d
+never_whole row rows r d n i j m = n (divides_at row.a row.c1 row.c2 i j m.equal.0)
 
--- index values meet exactly where their distance fits the range
-module _ (a c1 c2 : ℤ) (r : Range) (d : Direction) (distance : ℤ) (some : ¬ (a ≡ pos 0)) (is : a *ℤ distance ≡ c1 -ℤ c2) where
-  apart : (i j : ℤ) → Meets a a c1 c2 r d i j → j -ℤ i ≡ distance
-  apart i j m = distance_of a c1 c2 distance i j some is m.equal
+-- where the first row tells the distance, each row is equal at it where the row is equal at these values, and the other way round
+all_apart : (rows : List StrongRow) (distance i j : ℤ) → j -ℤ i ≡ distance → AllByRecursion (λ s. s.a *ℤ i +ℤ s.c1 ≡ s.a *ℤ j +ℤ s.c2) rows → AreApart rows distance
+all_apart [] distance i j e h = tt
+all_apart (s ∷ rows) distance i j e h = (apart_at s.a s.c1 s.c2 distance i j e h.0, all_apart rows distance i j e h.1)
 
-  never_fits : ¬ (FitsRange r d distance) → NeverMeetsInStep a a c1 c2 r d
-  never_fits n i j m = n (
-    fits_of r (by_value r.step d) i j distance m.meets.source m.meets.sink m.meets.stands (apart i j m.meets),
-    subst (λ (x : ℤ). IsTrue r.steady → Divides r.step x) (apart i j m.meets) m.in_step,
+all_equal : (rows : List StrongRow) (distance i j : ℤ) → j -ℤ i ≡ distance → AreApart rows distance → AllByRecursion (λ s. s.a *ℤ i +ℤ s.c1 ≡ s.a *ℤ j +ℤ s.c2) rows
+all_equal [] distance i j e h = tt
+all_equal (s ∷ rows) distance i j e h = (equal_at s.a s.c1 s.c2 distance i j h.0 e, all_equal rows distance i j e h.1)
+
+-- index values meet exactly where their distance is that of all rows and fits the range
+module _ (row : StrongRow) (rows : List StrongRow) (r : Range) (d : Direction) (distance : ℤ) (some : ¬ (row.a ≡ pos 0)) (is : row.a *ℤ distance ≡ row.c1 -ℤ row.c2) where
+  apart : (i j : ℤ) → MeetTogether (row ∷ rows) r d i j → j -ℤ i ≡ distance
+  apart i j m = distance_of row.a row.c1 row.c2 distance i j some is m.equal.0
+
+  fit : (i j : ℤ) → MeetTogether (row ∷ rows) r d i j → AreApart (row ∷ rows) distance × FitsRange r d distance
+  fit i j m = (
+    all_apart (row ∷ rows) distance i j (apart i j m) m.equal,
+    (
+      fits_of r (by_value r.step d) i j distance m.source m.sink m.stands (apart i j m),
+      subst (λ (x : ℤ). IsTrue r.steady → Divides r.step x) (apart i j m) m.in_step,
+    ),
   )
 
-  meets_at : FitsRange r d distance → ¬ (NeverMeetsInStep a a c1 c2 r d)
-  meets_at f never =
+  meet_at : AreApart (row ∷ rows) distance → FitsRange r d distance → ¬ (NeverMeetTogether (row ∷ rows) r d)
+  meet_at h f never =
       let p = pair_of r (by_value r.step d) distance f.0 in
       never p.i p.j (record {
-        meets = record { source = p.source; sink = p.sink; stands = p.stands; equal = equal_at a c1 c2 distance p.i p.j is p.apart };
+        source = p.source;
+        sink = p.sink;
+        stands = p.stands;
         in_step = subst (λ (x : ℤ). IsTrue r.steady → Divides r.step x) (sym p.apart) f.1;
+        equal = all_equal (row ∷ rows) distance p.i p.j p.apart h;
       })
 
-pub decided_by_distance : (a b c1 c2 : ℤ) (r : Range) (d : Direction) (distance : ℤ) (fits : Bool) → ¬ (a ≡ pos 0) → a ≡ b → a *ℤ distance ≡ c1 -ℤ c2 → (IsTrue fits ↔ FitsRange r d distance) → IsTrue (not fits) ↔ NeverMeetsInStep a b c1 c2 r d
-decided_by_distance a b c1 c2 r d distance fits some same is h =
-    subst (λ (x : ℤ). IsTrue (not fits) ↔ NeverMeetsInStep a x c1 c2 r d) same
-    (Decides-like (not fits) (never_fits a c1 c2 r d distance some is) (λ n f. meets_at a c1 c2 r d distance some is f n) (Decides-not fits h))
+  -- the rows don't tell one distance
+  differ : (all : Bool) → all ≡ false → (IsTrue all ↔ AreApart (row ∷ rows) distance) → NeverMeetTogether (row ∷ rows) r d
+  differ all e h i j m = let t = h.1 (fit i j m).0 in absurd (cc)
+
+  -- they do, and the range decides
+  decided_by_distance : (all fits : Bool) → IsTrue all → (IsTrue all ↔ AreApart (row ∷ rows) distance) → (IsTrue fits ↔ FitsRange r d distance) → IsTrue (not fits) ↔ NeverMeetTogether (row ∷ rows) r d
+  decided_by_distance all fits t h f = Decides-like (not fits) (λ n i j m. n (fit i j m).1) (λ n x. meet_at (h.0 t) x n) (Decides-not fits f)
+
+-- rows with their first one
+opened : (rows : List StrongRow) (none : StrongRow) → 0 < length rows → get_or rows 0 none ∷ drop 1 rows ≡ rows
+opened [] none below = absurd (omega arith)
+opened (row ∷ rows) none below = refl
+
+-- the same of rows whose first one was read
+module _ (rows : List StrongRow) (none : StrongRow) (below : 0 < length rows) (r : Range) (d : Direction) where
+  abbrev first : StrongRow
+  first = get_or rows 0 none
+
+  of_rows : (P : List StrongRow → Type 0) → P (first ∷ drop 1 rows) → P rows
+  of_rows P h = subst P (opened rows none below) h
+
+  pub never_whole_at : ¬ (Divides first.a (first.c1 -ℤ first.c2)) → NeverMeetTogether rows r d
+  never_whole_at n = of_rows (λ ss. NeverMeetTogether ss r d) (never_whole first (drop 1 rows) r d n)
+
+  module _ (distance : ℤ) (all : Bool) (some : All (λ s. ¬ (s.a ≡ pos 0)) rows) (is : first.a *ℤ distance ≡ first.c1 -ℤ first.c2) (decides : IsTrue all ↔ AreApart rows distance) where
+    decides_opened : IsTrue all ↔ AreApart (first ∷ drop 1 rows) distance
+    decides_opened = subst (λ (ss : List StrongRow). IsTrue all ↔ AreApart ss distance) (sym (opened rows none below)) decides
+
+    pub differ_at : all ≡ false → NeverMeetTogether rows r d
+    differ_at e = of_rows (λ ss. NeverMeetTogether ss r d) (differ first (drop 1 rows) r d distance (some 0 none below) is all e decides_opened)
+
+    pub decided_at : (fits : Bool) → IsTrue all → (IsTrue fits ↔ FitsRange r d distance) → IsTrue (not fits) ↔ NeverMeetTogether rows r d
+    decided_at fits t f = of_rows (λ ss. IsTrue (not fits) ↔ NeverMeetTogether ss r d) (decided_by_distance first (drop 1 rows) r d distance (some 0 none below) is all fits t decides_opened f)
 
 -- the second half of the test, where the first holds, over the range that the code reads
 pub fits_range_at : (r now : Range) (d e : Direction) (distance span : ℤ) (spans steps : Bool) → r ≡ now → e ≡ by_value r.step d → span ≡ r.hi -ℤ r.lo → (IsTrue spans ↔ FitsSpan e distance span) → IsTrue spans → (IsTrue steps ↔ (IsTrue r.steady → Divides r.step distance)) → IsTrue steps ↔ FitsRange now d distance

@@ -1,7 +1,9 @@
 -- What the formulas of the tests ask of a distance, a value and a sum in the range of a loop (this project).
-use Rattle.std.specs.Prelude.{◌≡◌, ℤ, pos, neg_ℤ, ◌-ℤ◌, ◌*ℤ◌, ◌≤ℤ◌, ◌<ℤ◌, IsTrue}
+use Rattle.std.specs.Prelude.{◌≡◌, ℤ, pos, neg_ℤ, ◌-ℤ◌, ◌*ℤ◌, ◌≤ℤ◌, ◌<ℤ◌, List, IsTrue}
+use Rattle.std.specs.List.{AllByRecursion}
 use Rattle.ped_views.specs.declared.directions.Direction.{Direction}
 use Rattle.ped_views.specs.declared.directions.Direction.TheVariants.{Before, Same, After}
+use Rattle.ped_views.specs.declared.strong_rows.StrongRow.{StrongRow}
 use Rattle.ped_views.specs.Whole.{Divides}
 use Rattle.ped_views.specs.Views.{Range}
 use Rattle.ped_views.specs.Excluded.{InRange, StandsByValue, by_value}
@@ -15,6 +17,10 @@ FitsSpan After distance span = (distance <ℤ pos 0) × (neg_ℤ distance ≤ℤ
 -- two values at this distance stand in the direction in the range of the loop, in step where the loop is steady
 abbrev pub FitsRange : Range → Direction → ℤ → Type 0
 FitsRange r d distance = FitsSpan (by_value r.step d) distance (r.hi -ℤ r.lo) × (IsTrue r.steady → Divides r.step distance)
+
+-- at this distance the subscripts of every row are equal
+abbrev pub AreApart : List StrongRow → ℤ → Type 0
+AreApart rows distance = AllByRecursion (λ s. s.a *ℤ distance ≡ s.c1 -ℤ s.c2) rows
 
 -- i lies from lo to hi, and stands so by its value to a number there
 abbrev pub HasPartner : Direction → ℤ → ℤ → ℤ → Type 0

@@ -7,7 +7,8 @@ mod weak_crossing;
 mod weak_zero;
 mod ziv;
 
-pub use strong::{strong_distance, strong_excludes};
+pub use ped_views::StrongRow;
+pub use strong::{group_excludes, strong_distance, strong_excludes};
 pub use weak_crossing::weak_crossing_excludes;
 pub use weak_zero::weak_zero_excludes;
 pub use ziv::ziv_excludes;

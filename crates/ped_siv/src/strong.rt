@@ -1,28 +1,78 @@
 //! The strong SIV test: subscripts in one common index, with one coefficient on both sides.
 
-ghost use Rattle.std.specs.Prelude.{◌≡◌, ◌<ℤ◌, ◌-ℤ◌, ◌*ℤ◌, ◌^◌, ◌↔◌, pos, neg_ℤ, IsTrue};
+ghost use Rattle.std.specs.Prelude.{◌≡◌, ◌<◌, ◌<ℤ◌, ◌-ℤ◌, ◌*ℤ◌, ◌^◌, ◌↔◌, [], ◌∷◌, All, length, pos, neg_ℤ, IsTrue, IfSome, MatchOption};
 ghost use Rattle.ped_views.specs.Whole.{Divides, whole_quotient};
-ghost use Rattle.ped_views.specs.Excluded.{NeverMeetsInStep};
-ghost use Rattle.ped_siv.specs.Fits.{FitsSpan, FitsRange};
+ghost use Rattle.ped_views.specs.Excluded.{NeverMeetTogether};
+ghost use Rattle.ped_siv.specs.Fits.{AreApart, FitsSpan, FitsRange};
 
-use ped_views::{Direction, LoopRange, difference, divides, exact_quotient, product};
+use ped_views::{Direction, LoopRange, StrongRow, difference, divides, exact_quotient, product};
+
+/// Whether the subscripts of these rows together exclude a direction of their loop: positions that are strong SIV in
+/// one loop are coupled by its index (Allen and Kennedy, sections 3.1 and 3.3.2). There is at least one row, and no `a`
+/// is 0.
+///
+/// The subscripts of a row are equal exactly where `j - i = (c1 - c2) / a`, one distance for all iterations. So the
+/// direction is excluded exactly where this isn't whole or isn't the same for all rows, is longer than the range,
+/// points elsewhere, or isn't a whole number of steps of a steady loop. The test can't tell which values of its range
+/// the index takes: where a loop that isn't steady starts, and whether it runs at all.
+pub fn group_excludes(rows: &[StrongRow], range: &LoopRange, d: Direction) -> bool
+    requires some { 0 < length rows.now }
+    requires coefficients { All (λ s. ¬ (s.a ≡ pos 0)) rows.now }
+    ensures { IsTrue result ↔ NeverMeetTogether rows.now range.now d }
+{
+    match distance_of(&rows[0]) {
+        None => true,
+        Some(distance) => !(are_apart(rows, distance) && fits_range(distance, range, d)),
+    }
+}
 
 /// Whether the subscripts `a * i + c1` at the source and `b * j + c2` at the sink, where a = b, exclude a
-/// direction of the loop (Allen and Kennedy, section 3.3, strong SIV). `a` isn't 0.
-///
-/// The subscripts are equal exactly where `j - i = (c1 - c2) / a`, one distance for all iterations. So the
-/// direction is excluded exactly where this isn't whole, is longer than the range, points elsewhere, or
-/// isn't a whole number of steps of a steady loop. The test can't tell which values of its range the index
-/// takes: where a loop that isn't steady starts, and whether it runs at all.
+/// direction of the loop: a group of one row. `a` isn't 0.
 pub fn strong_excludes(a: i64, b: i64, c1: i64, c2: i64, range: &LoopRange, d: Direction) -> bool
     requires coefficient { ¬ (a ≡ pos 0) }
     requires form { a ≡ b }
-    ensures { IsTrue result ↔ NeverMeetsInStep a b c1 c2 range.now d }
+    ensures { IsTrue result ↔ NeverMeetTogether
+        (record { a = a; c1 = c1; c2 = c2 } ∷ [])
+        range.now
+        d }
 {
-    match exact_quotient(difference(c1, c2), i128::from(a)) {
-        None => true,
-        Some(distance) => !fits_range(distance, range, d),
+    group_excludes(&[StrongRow { a, c1, c2 }], range, d)
+}
+
+/// Whether the subscripts of every row are equal at this distance.
+fn are_apart(rows: &[StrongRow], distance: i128) -> bool
+    requires { All (λ s. ¬ (s.a ≡ pos 0)) rows.now }
+    ensures { IsTrue result ↔ AreApart rows.now distance }
+{
+    for row in rows {
+        if !is_apart(row, distance) {
+            return false;
+        }
     }
+    true
+}
+
+/// Whether the subscripts of a row are equal at this distance.
+fn is_apart(row: &StrongRow, distance: i128) -> bool
+    requires { ¬ (row.now.a ≡ pos 0) }
+    ensures { IsTrue result ↔ (row.now.a *ℤ distance ≡ row.now.c1 -ℤ row.now.c2) }
+{
+    match distance_of(row) {
+        None => false,
+        Some(own) => own == distance,
+    }
+}
+
+/// The distance of the index values that make the subscripts of a row equal: none exactly where it isn't whole.
+fn distance_of(row: &StrongRow) -> Option<i128>
+    requires { ¬ (row.now.a ≡ pos 0) }
+    ensures divides { MatchOption
+        result
+        (¬ (Divides row.now.a (row.now.c1 -ℤ row.now.c2)))
+        (λ k. row.now.a *ℤ k ≡ row.now.c1 -ℤ row.now.c2) }
+    ensures small { IfSome result (λ k. neg_ℤ (pos (2 ^ 127)) <ℤ k) }
+{
+    exact_quotient(difference(row.c1, row.c2), i128::from(row.a))
 }
 
 /// The distance of a strong SIV pair in iterations of a loop with this step, `(c1 - c2) / (a * step)`:

@@ -3,6 +3,7 @@ mod Chosen
 mod DeadEnds
 mod Deciding
 mod FormFacts
+mod Grouping
 mod Ordered
 mod Points
 mod Possible

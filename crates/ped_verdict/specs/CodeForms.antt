@@ -1,14 +1,10 @@
--- How the code keeps forms of subscript pairs and sides of loops. Contracts of private functions alone speak of it.
-use Rattle.std.specs.Prelude.{◌≡◌, ◌⊎◌, ℕ, ◌<◌, ℤ, pos, neg_ℤ, Bool, false, ◌&&◌, IsTrue}
+-- How the code keeps forms of subscript pairs. Contracts of private functions alone speak of it.
+use Rattle.std.specs.Prelude.{◌≡◌, ◌⊎◌, ℕ, ◌<◌, ℤ, pos, neg_ℤ, false, ◌&&◌, IsTrue}
 use Rattle.ped_views.specs.Views.{SubscriptPair}
-use Rattle.ped_views.specs.Forms.{Occurrence, Form, ziv, strong_siv, weak_zero_siv, weak_crossing_siv, other_form, form_of}
-use Rattle.ped_views.specs.Vectors.{is_strong_in}
+use Rattle.ped_views.specs.Forms.{Occurrence, Form, ziv, strong_siv, weak_zero_siv, weak_crossing_siv, other_form, form_of, is_strong_in}
 use Rattle.ped_verdict.specs.declared.forms.Form.{Form as CodeForm}
 use Rattle.ped_verdict.specs.declared.forms.Form.TheVariants.{Ziv, Strong, WeakZero, WeakCrossing, Other}
 use Rattle.ped_verdict.specs.declared.forms.Occurrence.{Occurrence as CodeOccurrence}
-use Rattle.ped_verdict.specs.declared.exactness.Side.{Side}
-use Rattle.ped_verdict.specs.declared.exactness.Side.TheVariants.{Both, Source, Sink}
-use Rattle.ped_verdict.specs.Exactness.{has_common, has_source, has_sink}
 
 -- the loop whose index occurs
 abbrev pub occurrence_shown : CodeOccurrence → Occurrence
@@ -44,9 +40,3 @@ pub record IsStrongBy (a : ℤ) (k : ℕ) (p : SubscriptPair) : Type 0 where
   pub at_sink : ℤ
   pub form : form_of p ≡ strong_siv (record { place = k; at_source = a; at_sink = at_sink })
   pub some : ¬ (a ≡ pos 0)
-
--- the index of the loop at place k of this side occurs
-abbrev pub has_index : Side → ℕ → SubscriptPair → Bool
-has_index Both = has_common
-has_index Source = has_source
-has_index Sink = has_sink

@@ -1,5 +1,6 @@
 pub mod CodeForms
 pub mod Dependence
 pub mod Exactness
+pub mod Groups
 pub mod Kept
 pub mod Marked

@@ -43,7 +43,7 @@ fn distance_by(position: &Position, a: i64, step: i64) -> Option<i128>
 }
 
 /// The coefficient of the loop at this place, where the position is usable and strong SIV in it.
-fn strong_coefficient(position: &Position, place: usize) -> Option<i64>
+pub(crate) fn strong_coefficient(position: &Position, place: usize) -> Option<i64>
     ensures { MatchOption result (IsNotStrong place position.now) (λ a. IsStrongBy a place position.now) }
 {
     if !position.usable {

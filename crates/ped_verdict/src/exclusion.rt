@@ -1,23 +1,28 @@
-//! Whether the positions of a view exclude a direction vector, each by the test of its form.
+//! Whether the positions of a view exclude a direction vector, each by the test of its form, and those that are strong
+//! SIV in one loop together.
 
 ghost use Rattle.std.specs.Prelude.{◌≡◌, ◌↔◌, ◌<◌, pos, neg_ℤ, length, slice_get, IfSome, IsTrue};
 ghost use Rattle.ped_views.specs.Forms as plain;
-ghost use Rattle.ped_views.specs.Excluded.{NeverMeets, NeverMeetsInStep, FormExcludes, Excludes};
+ghost use Rattle.ped_views.specs.Excluded.{NeverMeets, FormExcludes, Excludes};
 ghost use Rattle.ped_views.specs.Vectors.{IsPossible};
 ghost use Rattle.ped_verdict.specs.CodeForms.{HasOneZero};
+ghost use Rattle.ped_verdict.specs.Groups.{AreGroups};
 
 use crate::forms::{Form, Occurrence, form_of};
 use ped_miv::{banerjee_excludes, gcd_excludes};
-use ped_siv::{strong_excludes, weak_crossing_excludes, weak_zero_excludes, ziv_excludes};
+use ped_siv::{
+    StrongRow, group_excludes, weak_crossing_excludes, weak_zero_excludes, ziv_excludes,
+};
 use ped_views::{Direction, LoopRange, PairView, Position};
 
-/// Whether no position excludes a vector over the common loops.
-pub(crate) fn is_possible(view: &PairView, vector: &[Direction]) -> bool
-    requires { length vector.now ≡ length view.now.loops }
+/// Whether no position and no group excludes a vector over the common loops. The groups are those of the view.
+pub(crate) fn is_possible(view: &PairView, groups: &[Vec<StrongRow>], vector: &[Direction]) -> bool
+    requires groups { AreGroups view.now groups.now }
+    requires vector { length vector.now ≡ length view.now.loops }
     ensures { IsTrue result ↔ IsPossible view.now vector.now }
 {
     for position in 0..view.positions.len() {
-        if excludes(view, position, vector) {
+        if excludes(view, groups, position, vector) {
             return false;
         }
     }
@@ -25,19 +30,32 @@ pub(crate) fn is_possible(view: &PairView, vector: &[Direction]) -> bool
 }
 
 /// Whether the position at this place excludes the vector. One that isn't usable excludes nothing.
-fn excludes(view: &PairView, position: usize, vector: &[Direction]) -> bool
+fn excludes(
+    view: &PairView,
+    groups: &[Vec<StrongRow>],
+    position: usize,
+    vector: &[Direction],
+) -> bool
+    requires groups { AreGroups view.now groups.now }
     requires place { position < length view.now.positions }
     requires vector { length vector.now ≡ length view.now.loops }
     ensures { IfSome
         (slice_get view.now.positions position)
         (λ p. IsTrue result ↔ Excludes view.now p vector.now) }
 {
-    view.positions[position].usable && form_excludes(view, position, vector)
+    view.positions[position].usable && form_excludes(view, groups, position, vector)
 }
 
-/// Whether the subscripts at this place exclude the vector, by the test of their form.
-fn form_excludes(view: &PairView, position: usize, vector: &[Direction]) -> bool
+/// Whether the subscripts at this place, which are usable, exclude the vector, by the test of their form.
+fn form_excludes(
+    view: &PairView,
+    groups: &[Vec<StrongRow>],
+    position: usize,
+    vector: &[Direction],
+) -> bool
+    requires groups { AreGroups view.now groups.now }
     requires place { position < length view.now.positions }
+    requires usable { IfSome (slice_get view.now.positions position) (λ p. IsTrue p.usable) }
     requires vector { length vector.now ≡ length view.now.loops }
     ensures { IfSome
         (slice_get view.now.positions position)
@@ -46,7 +64,13 @@ fn form_excludes(view: &PairView, position: usize, vector: &[Direction]) -> bool
     let pair = &view.positions[position];
     match form_of(pair) {
         Form::Ziv => ziv(pair),
-        Form::Strong(one) => strong(pair, one, &view.loops[one.place], vector[one.place]),
+        Form::Strong(one) => {
+            group_excludes(
+                &groups[one.place],
+                &view.loops[one.place],
+                vector[one.place],
+            )
+        }
         Form::WeakZero(one) => weak_zero(pair, one, &view.loops[one.place], vector[one.place]),
         Form::WeakCrossing(one) => {
             weak_crossing(pair, one, &view.loops[one.place], vector[one.place])
@@ -60,23 +84,6 @@ fn ziv(pair: &Position) -> bool
     ensures { IsTrue result ↔ ¬ (pair.now.source.constant ≡ pair.now.sink.constant) }
 {
     ziv_excludes(pair.source.constant, pair.sink.constant)
-}
-
-/// Whether subscripts in one common index, with equal coefficients, exclude a direction of its loop.
-fn strong(pair: &Position, one: Occurrence, range: &LoopRange, d: Direction) -> bool
-    requires some { ¬ (one.at_source ≡ pos 0) }
-    requires form { one.at_source ≡ one.at_sink }
-    ensures { IsTrue result ↔ NeverMeetsInStep
-        one.at_source
-        one.at_sink
-        pair.now.source.constant
-        pair.now.sink.constant
-        range.now
-        d }
-{
-    let c1 = pair.source.constant;
-    let c2 = pair.sink.constant;
-    strong_excludes(one.at_source, one.at_sink, c1, c2, range, d)
 }
 
 /// Whether subscripts in one common index, on one side alone, exclude a direction of its loop.

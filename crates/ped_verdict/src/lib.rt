@@ -6,6 +6,7 @@ mod distances;
 mod exactness;
 mod exclusion;
 mod forms;
+mod groups;
 mod listing;
 mod places;
 mod refining;

@@ -98,7 +98,7 @@ impl<L: Ledger> Verdict<L> {
         distances::distance(&self.view, level - 1)
     }
 
-    /// Whether each position is usable and ZIV or strong SIV, and no index stands in two positions.
+    /// Whether each position is usable and ZIV or strong SIV.
     pub fn is_exact(&self) -> bool
         ensures { result ≡ exactness.is_exact self.now }
     {

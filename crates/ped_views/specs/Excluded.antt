@@ -1,8 +1,9 @@
 -- When a subscript pair excludes a direction vector: sentences over whole numbers (Allen and Kennedy, chapter 3).
-use Rattle.std.specs.Prelude.{◌≡◌, ◌⊎◌, ℕ, ℤ, pos, negsuc, ◌+ℤ◌, ◌-ℤ◌, ◌*ℤ◌, ◌≤ℤ◌, ◌<ℤ◌, List, [], ◌∷◌, length, false, IsTrue, slice_index_or, ◌&&◌}
-use Rattle.std.specs.List.{Any}
+use Rattle.std.specs.Prelude.{◌≡◌, ◌⊎◌, ℕ, ℤ, pos, negsuc, ◌+ℤ◌, ◌-ℤ◌, ◌*ℤ◌, ◌≤ℤ◌, ◌<ℤ◌, List, [], ◌∷◌, length, false, IsTrue, slice_index_or, ◌&&◌, ◌==◌, if◌then◌else◌}
+use Rattle.std.specs.List.{Any, AllByRecursion, flat_map}
 use Rattle.ped_views.specs.declared.directions.Direction.{Direction}
 use Rattle.ped_views.specs.declared.directions.Direction.TheVariants.{Before, Same, After}
+use Rattle.ped_views.specs.declared.strong_rows.StrongRow.{StrongRow}
 use Rattle.ped_views.specs.Whole.{Divides, is_zero}
 use Rattle.ped_views.specs.Views.{Range, range, Row, SubscriptPair, View}
 use Rattle.ped_views.specs.Forms.{Form, ziv, strong_siv, weak_zero_siv, weak_crossing_siv, other_form, form_of}
@@ -44,14 +45,29 @@ pub record Meets (a b c1 c2 : ℤ) (r : Range) (d : Direction) (i j : ℤ) : Typ
 abbrev pub NeverMeets : ℤ → ℤ → ℤ → ℤ → Range → Direction → Type 0
 NeverMeets a b c1 c2 r d = (i j : ℤ) → ¬ (Meets a b c1 c2 r d i j)
 
--- index values that meet, and in a steady loop stand a whole number of steps apart (Allen and Kennedy, section 3.3.2)
-pub record MeetsInStep (a b c1 c2 : ℤ) (r : Range) (d : Direction) (i j : ℤ) : Type 0 where
-  pub meets : Meets a b c1 c2 r d i j
-  pub in_step : IsTrue r.steady → Divides r.step (j -ℤ i)
+-- the row of a usable subscript pair that is strong SIV in the loop at place k, by its form; none of any other pair (Allen and Kennedy, section 3.3.2)
+abbrev pub rows_in : ℕ → Form → SubscriptPair → List StrongRow
+rows_in k (strong_siv o) p = if p.usable && o.place == k then (record { a = o.at_source; c1 = p.source.constant; c2 = p.sink.constant }) ∷ [] else []
+rows_in k ziv p = []
+rows_in k (weak_zero_siv o) p = []
+rows_in k (weak_crossing_siv o) p = []
+rows_in k other_form p = []
 
--- no index values of the loop meet in the direction, in step where the loop is steady (Allen and Kennedy, section 3.3.2)
-abbrev pub NeverMeetsInStep : ℤ → ℤ → ℤ → ℤ → Range → Direction → Type 0
-NeverMeetsInStep a b c1 c2 r d = (i j : ℤ) → ¬ (MeetsInStep a b c1 c2 r d i j)
+-- the group of the loop at place k: the rows of all usable positions that are strong SIV in it (Allen and Kennedy, section 3.1: coupled subscripts)
+abbrev pub group_of : ℕ → List SubscriptPair → List StrongRow
+group_of k positions = flat_map (λ p. rows_in k (form_of p) p) positions
+
+-- i at the source and j at the sink lie in the range, stand in the direction, in a steady loop a whole number of steps apart, and make both sides of every row equal (Allen and Kennedy, sections 3.1, 3.3.2)
+pub record MeetTogether (rows : List StrongRow) (r : Range) (d : Direction) (i j : ℤ) : Type 0 where
+  pub source : InRange r i
+  pub sink : InRange r j
+  pub stands : Stands r d i j
+  pub in_step : IsTrue r.steady → Divides r.step (j -ℤ i)
+  pub equal : AllByRecursion (λ s. s.a *ℤ i +ℤ s.c1 ≡ s.a *ℤ j +ℤ s.c2) rows
+
+-- no index values of the loop make the subscripts of all rows equal at once in the direction (Allen and Kennedy, sections 3.1, 3.3.2)
+abbrev pub NeverMeetTogether : List StrongRow → Range → Direction → Type 0
+NeverMeetTogether rows r d = (i j : ℤ) → ¬ (MeetTogether rows r d i j)
 
 -- the indices of both sides: of the common loops at the source and at the sink, and of the further loops of each side (Allen and Kennedy, section 3.3.3)
 pub record Indices : Type 0 where
@@ -130,10 +146,10 @@ loop_at v k = slice_index_or v.loops k (range (pos 0) (pos 0) (pos 1) false)
 abbrev pub direction_at : List Direction → ℕ → Direction
 direction_at vector k = slice_index_or vector k Same
 
--- by its form, a subscript pair excludes the vector (Allen and Kennedy, section 3.3)
+-- by its form, a subscript pair of the view excludes the vector: one that is strong SIV excludes it where the group of its loop does (Allen and Kennedy, sections 3.1, 3.3)
 abbrev pub FormExcludes : Form → View → SubscriptPair → List Direction → Type 0
 FormExcludes ziv v p vector = ¬ (p.source.constant ≡ p.sink.constant)
-FormExcludes (strong_siv o) v p vector = NeverMeetsInStep o.at_source o.at_sink p.source.constant p.sink.constant (loop_at v o.place) (direction_at vector o.place)
+FormExcludes (strong_siv o) v p vector = NeverMeetTogether (group_of o.place v.positions) (loop_at v o.place) (direction_at vector o.place)
 FormExcludes (weak_zero_siv o) v p vector = NeverMeets o.at_source o.at_sink p.source.constant p.sink.constant (loop_at v o.place) (direction_at vector o.place)
 FormExcludes (weak_crossing_siv o) v p vector = NeverMeets o.at_source o.at_sink p.source.constant p.sink.constant (loop_at v o.place) (direction_at vector o.place)
 FormExcludes other_form v p vector = HasNoSolution p vector ⊎ IsBeyondExtremes v p vector

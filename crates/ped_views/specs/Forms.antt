@@ -1,5 +1,5 @@
 -- The form of a subscript pair, by the loops whose index occurs in it (Allen and Kennedy, section 3.1: ZIV, SIV and MIV subscripts).
-use Rattle.std.specs.Prelude.{ℕ, suc, ℤ, neg_ℤ, List, [], ◌∷◌, Bool, ◌&&◌, ◌||◌, not, if◌then◌else◌}
+use Rattle.std.specs.Prelude.{ℕ, suc, ℤ, neg_ℤ, List, [], ◌∷◌, Bool, false, ◌&&◌, ◌||◌, not, ◌==◌, if◌then◌else◌}
 use Rattle.std.specs.List.{list_any}
 use Rattle.std.specs.Ordering.{int_eq}
 use Rattle.ped_views.specs.Whole.{is_zero}
@@ -52,3 +52,11 @@ common_form (o ∷ p ∷ os) = other_form
 -- the form of a subscript pair
 abbrev pub form_of : SubscriptPair → Form
 form_of p = if has_inner p then other_form else common_form (occurrences p)
+
+-- strong SIV in the loop at place k (Allen and Kennedy, section 3.3.2)
+abbrev pub is_strong_in : ℕ → Form → Bool
+is_strong_in k (strong_siv o) = o.place == k
+is_strong_in k ziv = false
+is_strong_in k (weak_zero_siv o) = false
+is_strong_in k (weak_crossing_siv o) = false
+is_strong_in k other_form = false

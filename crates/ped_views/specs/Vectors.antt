@@ -1,11 +1,11 @@
 -- The direction vectors of a view, and the distances of its loops (Allen and Kennedy, section 3.2).
-use Rattle.std.specs.Prelude.{◌≡◌, ◌⊎◌, ℕ, zero, suc, ℤ, ◌-ℤ◌, ◌*ℤ◌, List, [], ◌∷◌, ◌++◌, map, length, Bool, false, ◌&&◌, ◌==◌, Option, None, if◌then◌else◌}
+use Rattle.std.specs.Prelude.{◌≡◌, ◌⊎◌, ℕ, zero, suc, ℤ, ◌-ℤ◌, ◌*ℤ◌, List, [], ◌∷◌, ◌++◌, map, length, ◌&&◌, Option, None, if◌then◌else◌}
 use Rattle.std.specs.List.{AllByRecursion}
 use Rattle.ped_views.specs.declared.directions.Direction.{Direction}
 use Rattle.ped_views.specs.declared.directions.Direction.TheVariants.{Before, Same, After}
 use Rattle.ped_views.specs.Whole.{whole_quotient}
 use Rattle.ped_views.specs.Views.{SubscriptPair, View}
-use Rattle.ped_views.specs.Forms.{Form, ziv, strong_siv, weak_zero_siv, weak_crossing_siv, other_form, form_of}
+use Rattle.ped_views.specs.Forms.{Form, ziv, strong_siv, weak_zero_siv, weak_crossing_siv, other_form, form_of, is_strong_in}
 use Rattle.ped_views.specs.Excluded.{Excludes, loop_at}
 
 -- all vectors over n loops, in the order `<`, `=`, `>`, the outermost loop first (Allen and Kennedy, section 2.2.4)
@@ -18,21 +18,13 @@ abbrev pub AreThose : {X : Type 0} → (X → Type 0) → List X → List X → 
 AreThose P [] chosen = chosen ≡ []
 AreThose P (x ∷ xs) chosen = (P x × ((rest : List _) × (chosen ≡ x ∷ rest) × AreThose P xs rest)) ⊎ (¬ (P x) × AreThose P xs chosen)
 
--- no subscript pair of the view excludes the vector
+-- no position of the view excludes the vector, and no group: each group has a position, and excludes where its positions do (Allen and Kennedy, section 3.1)
 abbrev pub IsPossible : View → List Direction → Type 0
 IsPossible v vector = AllByRecursion (λ p. ¬ (Excludes v p vector)) v.positions
 
--- the vectors of the view: all of 3^n over its n common loops that no position excludes
+-- the vectors of the view: all of 3^n over its n common loops that no position and no group excludes
 abbrev pub AreVectors : View → List (List Direction) → Type 0
 AreVectors v vectors = AreThose (IsPossible v) (all_vectors (length v.loops)) vectors
-
--- strong SIV in the loop at place k (Allen and Kennedy, section 3.3.2)
-abbrev pub is_strong_in : ℕ → Form → Bool
-is_strong_in k (strong_siv o) = o.place == k
-is_strong_in k ziv = false
-is_strong_in k (weak_zero_siv o) = false
-is_strong_in k (weak_crossing_siv o) = false
-is_strong_in k other_form = false
 
 -- (c1 - c2) / (a * step) of a strong SIV pair in a loop of that step, where it is whole (Allen and Kennedy, section 3.3.2)
 abbrev pub strong_distance : Form → ℤ → SubscriptPair → Option ℤ

@@ -9,6 +9,7 @@ mod floors;
 mod intervals;
 mod quotients;
 mod ranges;
+mod strong_rows;
 mod subscripts;
 mod wide;
 
@@ -18,5 +19,6 @@ pub use floors::floor_div;
 pub use intervals::Interval;
 pub use quotients::{divides, exact_quotient};
 pub use ranges::LoopRange;
+pub use strong_rows::StrongRow;
 pub use subscripts::{AffRow, PairView, Position};
 pub use wide::{difference, product};

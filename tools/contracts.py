@@ -6,8 +6,9 @@ contract's clauses. Only the crates that the program is made of have a place the
     tools/contracts.py [--into FOLDER]
 
 Public is what src/lib.rt names by `pub use` or `pub fn`, or holds in a module that it names by `pub mod`; of a program, which has
-src/main.rt, the public items of the files from which that takes something by `use crate::..`. Of a public type these are its `pub` functions too, wherever in
-the crate they stand. A comment `// ..` among the clauses of a contract is told with the clauses behind it, up to an empty line.
+src/main.rt, the public items of the files from which that takes something by `use crate::..`. Of a public type these are its
+`pub` functions too, wherever in the crate they stand. A comment `// ..` among the clauses of a contract is told with the clauses
+behind it, up to an empty line.
 
 In docs/contracts.head.md each name in backquotes with a `_` or a `::` in it must be that of a public item, a clause, a
 definition, a file or a crate.
@@ -23,6 +24,7 @@ from pages import CRATES, TOP, Complaints, crate_head, module_head, read_layers,
 
 HEAD_PAGE = TOP / "docs" / "contracts.head.md"
 LIST_HEAD = ["", "## All contracts, by layer", "", "The layers stand from the lowest up.", "", "| Layer | Is | Crates |", "|---|---|---|"]
+TABLE_HEAD = ["", "| Item | Promise | Clauses |", "|---|---|---|"]
 ITEM = re.compile(r"^pub (?:const )?(fn|struct|enum|trait|type|const) ([A-Za-z_0-9]+)")
 PART = re.compile(r"^    (?:(pub) ([a-z_0-9]+):|([A-Z][A-Za-z0-9]*)(?:,|\(.*| = .*| \{.*)$)")
 METHOD = re.compile(r"^    (pub )?fn ([A-Za-z_0-9]+)")
@@ -83,6 +85,7 @@ class Function:
         return " ".join(told)
 
     def clause_names(self):
+        """The names of the clauses, those of `requires` first."""
         named = [f"`{name}`" for name in self.clauses if name]
         asked = [f"`{name}`" for name in self.asks if name]
         return "; ".join(filter(None, ["asks " + ", ".join(asked) if asked else "", ", ".join(named)]))
@@ -137,6 +140,7 @@ class Module:
         self.read()
 
     def read(self):
+        """Takes the items, and what stands in types and `impl` blocks."""
         owner = None
         for at, line in enumerate(self.lines):
             item = ITEM.match(line)
@@ -161,6 +165,7 @@ class Module:
                 owner.parts.append((part.group(2) or part.group(3), comment_before(self.lines, at)))
 
     def function(self, name, at, indent):
+        """The function that begins at a line."""
         function = Function(name, comment_before(self.lines, at), LAW.match(self.lines[at]) is not None)
         function.read_clauses(self.lines[at:], indent)
         return function
@@ -239,37 +244,40 @@ def own_traits():
 
 
 def section(crate, path, names):
-    """The rows of what a module hands on: types with their functions, then functions."""
-    rows = []
+    """The rows of what a module hands on; names are those of its items, each with the modules' path."""
     own = list(crate.all_modules(path))
     prefix = "".join(f"{part}::" for part in path)
+    rows = []
     for name, modules in names:
         at = crate.find(crate.absolute(path, modules), name)
-        if at is None:
-            if modules[:1] and modules[0].startswith("ped_"):
-                rows.append(f"| `{prefix}{name}` | That of {modules[0]}. |  |")
-            else:
-                complaints.add(f"{crate.name}: {prefix}{name} isn't found")
-            continue
-        module = crate.module(at)
-        place = f"../../crates/{module.path.relative_to(CRATES)}"
-        if name in module.functions:
-            rows.append(function_row(crate, module.functions[name], prefix + name, place))
-            continue
-        found = module.types[name]
-        meets = sorted({trait for other in own for owner, trait in other.meets if owner == name and trait in own_traits()})
-        if not found.comment:
-            complaints.add(f"{crate.name}: no comment before {prefix}{name}")
-        rows.append(f"| [`{prefix}{name}`]({place}) | {found.promise(meets)} |  |")
-        functions = list(found.functions)
-        for other in own:
-            if name in other.inherent:
-                functions += other.inherent[name].functions
-        rows += [function_row(crate, function, f"{prefix}{name}::{function.name}", None) for function in functions]
+        if at is not None:
+            rows += item_rows(crate, crate.module(at), name, prefix, own)
+        elif modules[0].startswith("ped_"):
+            rows.append(f"| `{prefix}{name}` | That of {'::'.join(modules)}. |  |")
+        else:
+            complaints.add(f"{crate.name}: {prefix}{name} isn't found")
     return rows
 
 
+def item_rows(crate, module, name, prefix, own):
+    """The row of an item of a module, and behind that of a type those of its functions, which stand in its own modules."""
+    place = f"../../crates/{module.path.relative_to(CRATES)}"
+    if name in module.functions:
+        return [function_row(crate, module.functions[name], prefix + name, place)]
+    found = module.types[name]
+    if not found.comment:
+        complaints.add(f"{crate.name}: no comment before {prefix}{name}")
+    meets = sorted({trait for other in own for owner, trait in other.meets if owner == name and trait in own_traits()})
+    functions = list(found.functions)
+    for other in own:
+        if name in other.inherent:
+            functions += other.inherent[name].functions
+    return [f"| [`{prefix}{name}`]({place}) | {found.promise(meets)} |  |"] + [
+        function_row(crate, function, f"{prefix}{name}::{function.name}", None) for function in functions]
+
+
 def function_row(crate, function, name, place):
+    """The row of a function; the place of its file is that of its type where it has none."""
     if not function.comment:
         complaints.add(f"{crate.name}: no comment before {name}")
     shown = f"[`{name}`]({place})" if place else f"`{name}`"
@@ -282,17 +290,20 @@ def handed_on(module, path=()):
     return names + list(module.uses(True))
 
 
+def program_rows(crate):
+    """The rows of a program."""
+    crate.modules[""] = Module(crate.source / "main.rt", crate.source)
+    paths = sorted({tuple(modules[1:]) for _, modules in crate.modules[""].uses(False) if modules[:1] == ["crate"]})
+    return [row for path in paths for row in section(crate, [], handed_on(crate.module(path), path))]
+
+
 def crate_lines(name):
     """A crate in the page; nothing where it hands nothing on."""
     crate = Crate(name)
-    table = ["", "| Item | Promise | Clauses |", "|---|---|---|"]
     lines = []
-    program = crate.source / "main.rt"
-    if program.is_file():
-        crate.modules[""] = Module(program, crate.source)
-        files = sorted({tuple(modules[1:]) for _, modules in crate.modules[""].uses(False) if modules[:1] == ["crate"]})
-        rows = [row for path in files for row in section(crate, [], handed_on(crate.module(path), path))]
-        lines += table + rows if rows else []
+    if (crate.source / "main.rt").is_file():
+        rows = program_rows(crate)
+        lines += TABLE_HEAD + rows if rows else []
     else:
         pending = [[]]
         while pending:
@@ -301,7 +312,7 @@ def crate_lines(name):
             rows = section(crate, path, handed_on(module, path))
             if path and rows:
                 lines += ["", f"### {'::'.join([name] + path)}", "", module_head(module.path)]
-            lines += table + rows if rows else []
+            lines += TABLE_HEAD + rows if rows else []
             pending += [path + [inner] for inner in module.public_modules]
     return ["", f"## {name}", "", crate_head(name)] + lines if lines else []
 

@@ -15,6 +15,8 @@ A comment of a line of its own says of other blocks what they are; it isn't show
     <!-- pairs end -->              no longer
     <!-- needs TOOL .. -->          the next block is passed over where one of these tools isn't there
 
+Links to files of the repository and to headings of pages are looked at, too: they have to be there.
+
 Each page has a folder of its own, in which all that stands at the top of the repository is linked, and which is gone afterwards.
 Nothing is proved or built where the program is built, as it is after .ci/run or ./ped. The last line counts, and the status is 0
 only where all is as shown.
@@ -32,6 +34,7 @@ SECONDS = 300
 MARK = "\x01"
 UNPROVED = "ped: this program isn't proved yet"
 DIRECTIVE = re.compile(r"<!-- (file|pairs|needs) (.+) -->$")
+LINK = re.compile(r"\]\((?!https?:)([^)#\s]*)(?:#([^)\s]+))?\)")
 HERE_DOCUMENT = re.compile(r"<<-?\s*'?(\w+)'?")
 
 
@@ -79,6 +82,31 @@ def commands_of(block):
         else:
             commands[-1][1].append(line)
     return commands
+
+
+def prose_of(text):
+    """The lines of a page outside fenced blocks."""
+    is_fenced = False
+    for line in text.split("\n"):
+        if line.startswith("```"):
+            is_fenced = not is_fenced
+        elif not is_fenced:
+            yield line
+
+
+def headings_of(path):
+    """The names by which links lead to the headings of a page."""
+    headings = [line.lstrip("#").strip() for line in prose_of(path.read_text()) if line.startswith("#")]
+    return {re.sub(r"[^\w\- ]", "", heading.lower()).replace(" ", "-") for heading in headings}
+
+
+def dead_links(path):
+    """The links of a page that lead to no file or to no heading."""
+    for line in prose_of(path.read_text()):
+        for file, heading in LINK.findall(line):
+            target = path.parent / file if file else path
+            if not target.exists() or heading and heading not in headings_of(target):
+                yield f"{file}#{heading}" if heading else file
 
 
 def is_as_wanted(wanted, written):
@@ -170,11 +198,16 @@ def check_page(path):
                 (folder / entry.name).symlink_to(entry)
         page = Page(path, folder)
         page.check((TOP / path).read_text())
+        for link in dead_links(TOP / path):
+            print(f"docs: {path}: nothing is at {link}")
+            page.failed += 1
         return page
 
 
 def main(words):
-    paths = words or ["README.md"] + sorted(str(path.relative_to(TOP)) for path in TOP.glob("docs/**/*.md"))
+    # A `.head.md` is checked as a part of the page that is made of it.
+    pages_of_docs = sorted(str(path.relative_to(TOP)) for path in TOP.glob("docs/**/*.md") if ".head." not in path.name)
+    paths = words or ["README.md"] + pages_of_docs
     # Without words the program answers how it is called, with status 2.
     status = subprocess.run([TOP / "ped"], stdin=subprocess.DEVNULL, stdout=subprocess.DEVNULL).returncode
     if status != 2:

@@ -1,7 +1,7 @@
 #!/usr/bin/env python3
 """Runs what the documents show, and compares: README.md and the pages of docs/.
 
-    tools/check-docs.py [PAGE ..]
+    tools/check-docs.py [--unproved] [PAGE ..]
 
 A fenced block whose first line begins with `$ ` is commands with what they write, standard error too. A line `$ COMMAND` is run
 by bash, together with its here-document, if it has one, and the lines behind that up to the next `$ ` are compared. A line
@@ -18,8 +18,8 @@ A comment of a line of its own says of other blocks what they are; it isn't show
 Links to files of the repository and to headings of pages are looked at, too: they have to be there.
 
 Each page has a folder of its own, in which all that stands at the top of the repository is linked, and which is gone afterwards.
-Nothing is proved or built where the program is built, as it is after .ci/run or ./ped. The last line counts, and the status is 0
-only where all is as shown.
+The program is the one that .ci/run or ./prove has proved and built from the present sources; with --unproved it may also be one
+that ./ped has built without proof. The last line counts, and the status is 0 only where all is as shown.
 """
 import pathlib
 import re
@@ -30,6 +30,7 @@ import tempfile
 
 TOP = pathlib.Path(__file__).resolve().parent.parent
 SECONDS = 300
+IS_PROVED = '. "$PWD/tools/program.sh" && [ -x "$(program_of "$(sources_sum)")" ]'
 # Stands between the outputs of two commands of a block.
 MARK = "\x01"
 UNPROVED = "ped: this program isn't proved yet"
@@ -204,14 +205,23 @@ def check_page(path):
         return page
 
 
-def main(words):
-    # A `.head.md` is checked as a part of the page that is made of it.
-    pages_of_docs = sorted(str(path.relative_to(TOP)) for path in TOP.glob("docs/**/*.md") if ".head." not in path.name)
-    paths = words or ["README.md"] + pages_of_docs
+def why_not_started(takes_unproved):
+    """Why the program can't be run, none where it can."""
+    if not takes_unproved and subprocess.run(["bash", "-c", IS_PROVED], cwd=TOP).returncode != 0:
+        return "the proved program is not built; .ci/run or ./prove builds it"
     # Without words the program answers how it is called, with status 2.
     status = subprocess.run([TOP / "ped"], stdin=subprocess.DEVNULL, stdout=subprocess.DEVNULL).returncode
-    if status != 2:
-        print(f"docs: nothing was run, since the program cannot be started (status {status})")
+    return None if status == 2 else f"the program cannot be started (status {status})"
+
+
+def main(words):
+    takes_unproved = words[:1] == ["--unproved"]
+    # A `.head.md` is checked as a part of the page that is made of it.
+    pages_of_docs = sorted(str(path.relative_to(TOP)) for path in TOP.glob("docs/**/*.md") if ".head." not in path.name)
+    paths = words[takes_unproved:] or ["README.md"] + pages_of_docs
+    reason = why_not_started(takes_unproved)
+    if reason:
+        print(f"docs: nothing was run, since {reason}")
         return 1
     pages = [check_page(path) for path in paths]
     passed = sum(page.passed for page in pages)

@@ -11,7 +11,7 @@ use ped_tree::names::NameSet;
 use ped_tree::{Do, Expr, Stmt};
 use std::alloc::Global;
 
-/// The variables of the DO loops among statements and in them (ANSI X3.9-1978, section 11.10).
+/// The variables of the DO loops among statements and in them (ANSI X3.9-1978, section 11.10). Each name comes once.
 pub fn loop_variables(alloc: Global, body: &[Stmt]) -> Result<NameSet, NoMemory>
     ensures { IfOk result (λ names. names ≡ with_names [] (Spec.all_loop_variables (stmt_trees body.now))) }
 {
@@ -20,8 +20,8 @@ pub fn loop_variables(alloc: Global, body: &[Stmt]) -> Result<NameSet, NoMemory>
     Ok(names)
 }
 
-/// What a DO assigns: its variable, its private names, and what its body assigns, by an assignment, a READ or
-/// a DO in it (ANSI X3.9-1978, sections 10.1, 11.10, 12.8).
+/// What a DO assigns: its variable, its private names, and what its body assigns, by an assignment, a READ or a DO in
+/// it (ANSI X3.9-1978, sections 10.1, 11.10, 12.8). Each name comes once.
 pub fn assigned(alloc: Global, d: &Do) -> Result<NameSet, NoMemory>
     ensures { IfOk result (λ names. names ≡ with_names [] (Spec.assigned_in (do_tree d.now))) }
 {

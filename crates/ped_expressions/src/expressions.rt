@@ -147,6 +147,7 @@ fn factor(alloc: Global, text: &[u8]) -> Result<(Expr, &[u8]), Failure>
     }
 }
 
+/// The primary at the front, and what follows it.
 #[cycle(expr)]
 #[tactic(auto, using(crate::proofs::Equations::primary_step))]
 pub fn primary(alloc: Global, text: &[u8]) -> Result<(Expr, &[u8]), Failure>

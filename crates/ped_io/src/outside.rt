@@ -27,7 +27,8 @@ impl From<NoMemory> for OutsideFault {
     }
 }
 
-/// Files that are read by name.
+/// Files that are read by name. What every shelf keeps to: how many bytes a read gives, and which; and that a fault
+/// has been counted.
 pub trait Shelf {
     /// The files, where the shelf tells them.
     ghost told: { Self → Option Contents };
@@ -53,7 +54,8 @@ pub trait Shelf {
         ensures same { told self.new ≡ told self.old };
 }
 
-/// A place that takes bytes.
+/// A place that takes bytes. What every sink keeps to: how many bytes it takes, and which; and that a fault has been
+/// counted.
 pub trait Sink {
     /// All bytes taken so far, where the sink tells them.
     ghost taken: { Self → Option (List ℕ) };

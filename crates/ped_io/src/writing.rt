@@ -18,7 +18,8 @@ pub enum PutFault {
     NoMemory { sent: u64 },
 }
 
-/// Writes all bytes, in as many writes as the sink wants.
+/// Writes all bytes, in as many writes as the sink wants. Else exactly the first `sent` bytes were taken, fewer than
+/// all; a write fault comes only where the count of the sink's faults rose.
 pub fn put_all<K: Sink>(sink: &mut K, bytes: &[u8]) -> Result<(), PutFault>
     ensures all { OnOk result (K.taken sink.new
         ≡ option_map (λ before. before ++ bytes.now) (K.taken sink.old)) }

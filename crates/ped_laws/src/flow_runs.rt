@@ -1,5 +1,8 @@
 //! Laws between the paths of a program and the acts of its runs. Each function here does nothing; its contract is the
-//! law. A step that moves, drops or adds writes of a scalar asks paths whether it may; these laws tell what it learns.
+//! law. A step that moves, drops or adds writes of a scalar asks paths whether it may; these laws tell what it
+//! learns. Most ask that the scalar is no named constant and that no STOP stands in a loop; those of exits, entries
+//! and whole programs also that each statement counts under a number of its own, and the first four that the run or
+//! the iteration ends without a fault.
 
 mod covering;
 mod exits;

@@ -57,7 +57,8 @@ pub struct Cutting {
     pub directives: Vec<NoteLine>,
 }
 
-/// The statements of a text of fixed form, or its first refusal.
+/// The statements of a text of fixed form, or its first refusal. Each has its line, its label, its text, and the
+/// comments and directives that go with it.
 pub fn statements(alloc: Global, text: &[u8]) -> Result<Statements, LinesError>
     ensures ok { IfOk result (λ s. (first_line_refusal text.now ≡ None) × (statements_view s ≡ statements_of text.now)) }
     ensures err { IfErr result (λ e. IsErrorOf text.now e) }

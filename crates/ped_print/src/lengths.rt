@@ -19,7 +19,8 @@ use itoa::Buffer;
 use ped_base::Name;
 use ped_tree::{Bound, Cond, Decl, Declarator, Expr, PrintItem, Stmt};
 
-/// The printed length of a statement by itself; a DO counts with the label 10.
+/// The printed length of a statement by itself; a DO counts with the label 10. The indentation doesn't count. It
+/// takes no memory; a length that has no room is the greatest number.
 pub fn length(statement: &Stmt) -> usize
     ensures { result ≡ min (printed_length (stmt_tree statement.now)) (2 ^ 64 - 1) }
 {

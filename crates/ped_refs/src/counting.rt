@@ -27,8 +27,8 @@ struct Tally {
     writes: u64,
 }
 
-/// How many ordered pairs of references the program has whose references these are. The time is linear in
-/// the number of references.
+/// How many ordered pairs of references the program has whose references these are. The time is linear in the number
+/// of references. A pair has one name, a write among its two, and a DO round both.
 pub fn pairs(alloc: Global, refs: &Refs) -> Result<u64, NoMemory>
     requires { AreOfProgram refs.now }
     ensures { IfOk result (λ n. (tree : ProgramTree) → AreReferences tree refs.now → n ≡ pair_count (references tree)) }
@@ -41,7 +41,8 @@ pub fn pairs(alloc: Global, refs: &Refs) -> Result<u64, NoMemory>
     Ok(total)
 }
 
-/// Whether the program whose references these are has no more ordered pairs than a program may have.
+/// Whether the program whose references these are has no more ordered pairs than a program may have. These are
+/// 200,000.
 pub fn within_limit(alloc: Global, refs: &Refs) -> Result<bool, NoMemory>
     requires { AreOfProgram refs.now }
     ensures { IfOk result (λ within. (tree : ProgramTree) → AreReferences tree refs.now

@@ -14,7 +14,8 @@ use ped_base::{Listed, NoMemory};
 use ped_tree::Program;
 use std::alloc::Global;
 
-/// The references of a program, in text order.
+/// The references of a program, in text order. Each has its statement, its number there, its name, whether it writes,
+/// and the number of the outermost DO round it.
 pub fn refs(alloc: Global, program: &Program) -> Result<Refs, NoMemory>
     requires statements { statements_count (program_tree program.now).body < 2 ^ 32 }
     requires references { length (references (program_tree program.now)) < 2 ^ 32 }

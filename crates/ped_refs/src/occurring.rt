@@ -35,8 +35,8 @@ pub struct Occurrence<'a> {
     pub nest: Vec<Loop<'a>>,
 }
 
-/// The references of a program, in text order. The time is linear in the size of the program and the number of
-/// loops round its references.
+/// The references of a program, in text order. The time is linear in the size of the program and the number of loops
+/// round its references. Each has its subscripts and the DO loops round it.
 pub fn occurrences<'a>(alloc: Global, program: &'a Program) -> Result<Vec<Occurrence<'a>>, NoMemory>
     requires statements { statements_count (program_tree program.now).body < 2 ^ 32 }
     requires references { length (references (program_tree program.now)) < 2 ^ 32 }

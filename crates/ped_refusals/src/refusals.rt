@@ -25,9 +25,9 @@ use ped_base::{Name, Names, NoMemory};
 use ped_tree::grammar::{Entry, NoteLine, Refusal, RefusalKind, StatementReading, standing};
 use std::alloc::Global;
 
-/// The first of the refusals that stand at the statements of a text, by line and then by number, where
-/// `directives` stand behind the last statement, the text has so many lines, and SAVE without a list is
-/// read as `saved`.
+/// The first of the refusals that stand at the statements of a text, by line and then by number, where `directives`
+/// stand behind the last statement, the text has so many lines, and SAVE without a list is read as `saved`. These are
+/// the refusals 7 to 13; none exactly where none stands.
 pub fn first_refusal(
     alloc: Global,
     entries: &[Entry],

@@ -26,9 +26,11 @@ pub struct Answered {
     pub refused: bool,
 }
 
-/// Answers the items of a script one behind another; programs are run on these data. Each `run` shows what the programs
-/// show from which the present one has come by transformations alone, where these run without a fault and without a
-/// race. After want of memory the session stands behind the last item that was answered.
+/// Answers the items of a script one behind another; programs are run on these data. Each `run` shows what the
+/// programs show from which the present one has come by transformations alone, where these run without a fault and
+/// without a race. After want of memory the session stands behind the last item that was answered. It answers what
+/// they say, and whether one was refused; it tests the pairs that they test, and after want of memory at most as
+/// many.
 pub fn answer_items<L: Ledger>(
     alloc: Global,
     session: &mut Session<L>,

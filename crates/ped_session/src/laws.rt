@@ -59,7 +59,8 @@ pub fn moves_restore_each_other()
         Times n Redo data_bytes s forth → Times n Undo data_bytes forth again → HaveSameSources again s }
 {}
 
-/// A session is opened without a history, and each command keeps that each transformation in it keeps the meaning.
+/// A session is opened without a history, and each command keeps that each transformation in it keeps the meaning. A
+/// transformation keeps the meaning of a tidy program, and leaves it tidy.
 pub fn transformations_keep_the_meaning()
     ensures opened { (t : ProgramTree) → IsMeaningKept (opened t) }
     ensures step { (c : Command) (data_bytes : List ℕ) (s next : State) (reply : code_reply.Reply) →

@@ -59,7 +59,7 @@ impl<L: Ledger> Model for Session<L> {
 
 impl<L: Ledger> Session<L> {
     /// A session on the program of a text. Its present source is the program's printed text, and each pair of
-    /// references is tested once.
+    /// references is tested once. After want of memory each pair was tested at most once.
     ///
     /// # Errors
     ///
@@ -152,8 +152,9 @@ impl<L: Ledger> Session<L> {
     }
 
     /// Answers a command; programs are run on these data. A refused command leaves the session as it was, and so does
-    /// want of memory, which never comes at `undo` and `redo`. An accepted edit or step tests pairs of the new program,
-    /// and no other command tests any.
+    /// want of memory, which never comes at `undo` and `redo`. An accepted edit or step tests pairs of the new
+    /// program, and no other command tests any. The reply and the state behind it are those of the command, by the
+    /// one definition of each command. After want of memory no more pairs were tested than the command tests.
     pub fn apply(
         &mut self,
         alloc: Global,

@@ -12,9 +12,11 @@ ghost use Rattle.ped_symbols.specs.Sites.{program_sites};
 ghost use Rattle.ped_symbols.specs.NameRefusals.{IsValid};
 ghost use Rattle.ped_symbols.specs.RightUses.RightPrograms.{IsRight};
 
-/// In a valid program names stand where names of their kind may stand, increments have values, DO loops stand in one
-/// another at most six deep, there are at most 4,000 statements, and arrays have right bounds and at most 2^23 elements
-/// together.
+/// In a valid program each name stands where names of its kind may stand: left sides, items of READ, DO variables,
+/// PRIVATE names, and names in expressions, elements with as many subscripts as their array has dimensions. Each
+/// increment is a constant within 2147483647 of zero and not 0. At most six DO loops stand in one another, and there
+/// are at most 4,000 statements. Names in SAVE are scalars or arrays. Arrays have bounds in order, and at most 2^23
+/// elements together.
 pub fn right_where_valid()
     ensures { (t : ProgramTree) → IsValid t → IsRight t }
 {}

@@ -15,12 +15,14 @@ pub fn first_finding_is_least()
     ensures none { (findings : List Finding) → first_of findings ≡ None → findings ≡ [] }
 {}
 
-/// A text has one first refusal at most.
+/// A text has one first refusal at most. This is so where the text of a statement says one thing at most, which
+/// `one_item` of ped_statements proves.
 pub fn one_refusal()
     ensures { OneItem → (text : List ℕ) (a b : Finding) → Refuses text a → Refuses text b → a ≡ b }
 {}
 
-/// No text has both a tree and a first refusal.
+/// No text has both a tree and a first refusal. This is so where the text of a statement says one thing at most,
+/// which `one_item` of ped_statements proves.
 pub fn tree_or_refusal()
     ensures { OneItem → (text : List ℕ) (t : ProgramTree) (a : Finding) → Reads text t → Refuses text a → ⊥ }
 {}

@@ -9,7 +9,8 @@ use ped_base::{Name, NoMemory};
 use std::alloc::Global;
 use std::marker::Model;
 
-/// A set of names. Contracts see the names in the order in which they came, each once.
+/// A set of names. Contracts see the names in the order in which they came, each once. A name is looked up by its
+/// hash.
 #[derive(Drop)]
 pub struct NameSet {
     names: IndexSet<Name>,

@@ -7,7 +7,7 @@ use Rattle.ped_session.specs.declared.changes.Change.TheVariants.{Edit, Transfor
 use Rattle.ped_session.specs.declared.replies.Refusal.{Refusal}
 use Rattle.ped_session.specs.declared.replies.Reply.{Reply}
 use Rattle.ped_session.specs.declared.replies.Reply.TheVariants.{Changed, Refused}
-use Rattle.ped_session.specs.States.{Other, State}
+use Rattle.ped_session.specs.States.{Other, State, gone_back_to, gone_forward_to}
 use Rattle.ped_session.specs.Transforming.{StepAt}
 use Rattle.ped_session.specs.Steps.{Edits, accepted, refused, Transforms, missing, forbidden, transformed, GoesBack, GoesForward, IsStep, IsMove}
 use Rattle.ped_session.specs.Histories.{HaveSameSources, Times}
@@ -45,11 +45,18 @@ goes_forward [] s next e h = absurd (no_refusal _ h.0)
 goes_forward (o ∷ future) s next e h =
     record { other = o; taken_is = e ∙ ap (λ (n : State). o ∷ n.future) (sym h.1); present_is = ap (λ (n : State). n.present) h.1; given_is = ap (λ (n : State). n.past) h.1 }
 
--- the last of several commands
-last_of : (n : ℕ) (c : Command) (data_bytes : List ℕ) (s last : State) → Times (suc n) c data_bytes s last
-    → (mid : State) × Times n c data_bytes s mid × IsStep c data_bytes mid Changed last
-last_of zero c d s last h = (s, refl, subst (λ (x : State). IsStep c d s Changed x) (sym h.2) h.1)
-last_of (suc n) c d s last h = let rest = last_of n c d h.0 last h.2 in (rest.0, (h.0, h.1, rest.1), rest.2)
+-- one more command behind several
+one_more : (n : ℕ) (c : Command) (d : List ℕ) (s mid last : State) → Times n c d s mid → IsStep c d mid Changed last → Times (suc n) c d s last
+one_more zero c d s mid last is step = (last, subst (λ (x : State). IsStep c d x Changed last) is step, refl)
+one_more (suc n) c d s mid last h step = (h.0, h.1, one_more n c d h.0 mid last h.2 step)
+
+-- there is a step back where there is a past
+back_from : (d : List ℕ) (s : State) (o : Other) (past : List Other) → s.past ≡ o ∷ past → IsStep Undo d s Changed (gone_back_to o past s)
+back_from d s o past e = subst (λ (os : List Other). GoesBack os s Changed (gone_back_to o past s)) (sym e) (refl, refl)
+
+-- there is a step forward where there is a future
+forth_from : (d : List ℕ) (s : State) (o : Other) (future : List Other) → s.future ≡ o ∷ future → IsStep Redo d s Changed (gone_forward_to o future s)
+forth_from d s o future e = subst (λ (os : List Other). GoesForward os s Changed (gone_forward_to o future s)) (sym e) (refl, refl)
 
 redone_once : (d : List ℕ) (s next mid again : State) → IsStep Undo d s Changed next → HaveSameSources mid next → IsStep Redo d mid Changed again → HaveSameSources again s
 redone_once d s next mid again a e b =
@@ -71,19 +78,28 @@ undone_once d s next mid again a e b =
     (subst (λ (x : List Other). Moves x mid.present mid.future again.past again.present again.future) e.past back))) in
     record { past = both.2; present = both.1; future = both.0 }
 
+same_sources : (s u : State) → u ≡ s → HaveSameSources u s
+same_sources s u e = record { past = ap (λ (x : State). x.past) e; present = ap (λ (x : State). x.present) e; future = ap (λ (x : State). x.future) e }
+
 -- as many times `redo` as `undo`
-pub redone : (n : ℕ) (d : List ℕ) (s back again : State) → Times n Undo d s back → Times n Redo d back again → HaveSameSources again s
-redone zero d s back again a b = let e : again ≡ s = b ∙ a in record { past = ap (λ (x : State). x.past) e; present = ap (λ (x : State). x.present) e; future = ap (λ (x : State). x.future) e }
-redone (suc n) d s back again a b =
-    let rest = last_of n Redo d back again b in
-    redone_once d s a.0 rest.0 again a.1 (redone n d a.0 back rest.0 a.2 rest.1) rest.2
+pub redone : (n : ℕ) (d : List ℕ) (s back : State) → Times n Undo d s back → (again : State) × Times n Redo d back again × HaveSameSources again s
+redone zero d s back a = (s, sym a, same_sources s s refl)
+redone (suc n) d s back a =
+    let rest = redone n d a.0 back a.2 in
+    let moved = goes_back s.past s a.0 refl a.1 in
+    let step = forth_from d rest.0 (s.present, moved.other.1) s.future (rest.2.future ∙ moved.given_is) in
+    let again = gone_forward_to (s.present, moved.other.1) s.future rest.0 in
+    (again, one_more n Redo d back rest.0 again rest.1 step, redone_once d s a.0 rest.0 again a.1 rest.2 step)
 
 -- as many times `undo` as `redo`
-pub undone : (n : ℕ) (d : List ℕ) (s forth again : State) → Times n Redo d s forth → Times n Undo d forth again → HaveSameSources again s
-undone zero d s forth again a b = let e : again ≡ s = b ∙ a in record { past = ap (λ (x : State). x.past) e; present = ap (λ (x : State). x.present) e; future = ap (λ (x : State). x.future) e }
-undone (suc n) d s forth again a b =
-    let rest = last_of n Undo d forth again b in
-    undone_once d s a.0 rest.0 again a.1 (undone n d a.0 forth rest.0 a.2 rest.1) rest.2
+pub undone : (n : ℕ) (d : List ℕ) (s forth : State) → Times n Redo d s forth → (again : State) × Times n Undo d forth again × HaveSameSources again s
+undone zero d s forth a = (s, sym a, same_sources s s refl)
+undone (suc n) d s forth a =
+    let rest = undone n d a.0 forth a.2 in
+    let moved = goes_forward s.future s a.0 refl a.1 in
+    let step = back_from d rest.0 (s.present, moved.other.1) s.past (rest.2.past ∙ moved.given_is) in
+    let again = gone_back_to (s.present, moved.other.1) s.past rest.0 in
+    (again, one_more n Undo d forth rest.0 again rest.1 step, undone_once d s a.0 rest.0 again a.1 rest.2 step)
 
 -- a change leaves the former source as the newest of the past
 record Leaves (s next : State) : Type 0 where
@@ -109,12 +125,9 @@ leaves_by c s next still (by_redo is h) = absurd (still (inr is))
 leaves : (c : Command) (d : List ℕ) (s next : State) → ¬ (IsMove c) → IsStep c d s Changed next → Leaves s next
 leaves c d s next still h = leaves_by c s next still (does c d s next Changed h)
 
--- `undo` behind a change gives the former source and the former past
-pub restored : (c : Command) (d : List ℕ) (s next back : State) → ¬ (IsMove c) → IsStep c d s Changed next → IsStep Undo d next Changed back → (back.present ≡ s.present) × (back.past ≡ s.past)
-restored c d s next back still a b =
+-- `undo` behind a change is accepted, and gives the former source and the former past
+pub restored : (c : Command) (d : List ℕ) (s next : State) → ¬ (IsMove c) → IsStep c d s Changed next
+    → (back : State) × IsStep Undo d next Changed back × (back.present ≡ s.present) × (back.past ≡ s.past)
+restored c d s next still a =
     let left = leaves c d s next still a in
-    let moved = goes_back next.past next back refl b in
-    let same : moved.other ∷ back.past ≡ (s.present, left.change) ∷ s.past = sym moved.taken_is ∙ left.past_is in
-    let other : moved.other ≡ (s.present, left.change) = cc in
-    let past : back.past ≡ s.past = cc in
-    (moved.present_is ∙ ap (λ (o : Other). o.0) other, past)
+    (gone_back_to (s.present, left.change) s.past next, back_from d next (s.present, left.change) s.past left.past_is, refl, refl)

@@ -44,19 +44,18 @@ pub fn sources_are_printed()
         AnswersItems items data_bytes (opened t) said last → ArePrinted last }
 {}
 
-/// `undo` behind an accepted change gives the former source, byte for byte, and the former past.
+/// `undo` behind an accepted change is accepted, and gives the former source, byte for byte, and the former past.
 pub fn undo_restores()
-    ensures { (c : Command) (data_bytes : List ℕ) (s next back : State) → ¬ (IsMove c) →
-        IsStep c data_bytes s Changed next → IsStep Undo data_bytes next Changed back →
-        (back.present ≡ s.present) × (back.past ≡ s.past) }
+    ensures { (c : Command) (data_bytes : List ℕ) (s next : State) → ¬ (IsMove c) → IsStep c data_bytes s Changed next →
+        (back : State) × IsStep Undo data_bytes next Changed back × (back.present ≡ s.present) × (back.past ≡ s.past) }
 {}
 
-/// As many times `redo` as `undo` give all sources again, and the other way round.
+/// Behind several `undo` as many `redo` are accepted and give all sources again, and the other way round.
 pub fn moves_restore_each_other()
-    ensures redone { (n : ℕ) (data_bytes : List ℕ) (s back again : State) →
-        Times n Undo data_bytes s back → Times n Redo data_bytes back again → HaveSameSources again s }
-    ensures undone { (n : ℕ) (data_bytes : List ℕ) (s forth again : State) →
-        Times n Redo data_bytes s forth → Times n Undo data_bytes forth again → HaveSameSources again s }
+    ensures redone { (n : ℕ) (data_bytes : List ℕ) (s back : State) → Times n Undo data_bytes s back →
+        (again : State) × Times n Redo data_bytes back again × HaveSameSources again s }
+    ensures undone { (n : ℕ) (data_bytes : List ℕ) (s forth : State) → Times n Redo data_bytes s forth →
+        (again : State) × Times n Undo data_bytes forth again × HaveSameSources again s }
 {}
 
 /// A session is opened without a history, and each command keeps that each transformation in it keeps the meaning. A

@@ -72,7 +72,11 @@ impl Nesting {
             Item::EndIf => nesting.end_if(alloc),
             Item::Do(statement) => nesting.begin_do(alloc, statement, &directives),
             Item::Private(names) => nesting.with_private(names),
-            Item::Declaration(_) | Item::SaveAll | Item::End => Ok(nesting),
+            Item::Declaration(decl) => {
+                drop(decl);
+                Ok(nesting)
+            }
+            Item::SaveAll | Item::End => Ok(nesting),
         }
     }
 
@@ -179,9 +183,18 @@ impl Nesting {
             Some(Frame::Then(block)) => {
                 Nesting { frames, current }.begin_next_part(alloc, block, condition)
             }
-            Some(Frame::Else(block)) => Nesting { frames, current }.within(Frame::Else(block)),
-            Some(Frame::Loop(block)) => Nesting { frames, current }.within(Frame::Loop(block)),
-            None => Ok(Nesting { frames, current }),
+            Some(Frame::Else(block)) => {
+                drop(condition);
+                Nesting { frames, current }.within(Frame::Else(block))
+            }
+            Some(Frame::Loop(block)) => {
+                drop(condition);
+                Nesting { frames, current }.within(Frame::Loop(block))
+            }
+            None => {
+                drop(condition);
+                Ok(Nesting { frames, current })
+            }
         }
     }
 

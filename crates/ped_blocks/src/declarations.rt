@@ -14,7 +14,7 @@ use ped_tree::{Decl, Stmt};
 use std::alloc::Global;
 
 /// Adds comments to declarations.
-pub fn push_remarks(decls: &mut Vec<Decl>, comments: Listed<NoteLine>) -> Result<(), NoMemory>
+fn push_remarks(decls: &mut Vec<Decl>, comments: Listed<NoteLine>) -> Result<(), NoMemory>
     ensures { OnOk result (map decl_tree decls.new.items
         ≡ map decl_tree decls.old.items ++ map (λ n. Remark n.text) (map note_of comments)) }
 {
@@ -25,8 +25,38 @@ pub fn push_remarks(decls: &mut Vec<Decl>, comments: Listed<NoteLine>) -> Result
     Ok(())
 }
 
-/// Adds SAVE of these names, where there is one.
-pub fn push_save(alloc: Global, decls: &mut Vec<Decl>, names: &Names) -> Result<(), NoMemory>
+/// Adds a declaration behind the comments before it.
+pub fn push_declaration(
+    decls: &mut Vec<Decl>,
+    comments: Listed<NoteLine>,
+    decl: Decl,
+) -> Result<(), NoMemory>
+    ensures { OnOk result (map decl_tree decls.new.items
+        ≡ map decl_tree decls.old.items ++ (map (λ n. Remark n.text) (map note_of comments) ++ decl_tree decl ∷ [])) }
+{
+    let Ok(()) = push_remarks(decls, comments) else {
+        drop(decl);
+        return Err(NoMemory);
+    };
+    decls.push(decl)?;
+    Ok(())
+}
+
+/// Adds SAVE of these names, where there is one, behind the comments before it.
+pub fn push_save(
+    alloc: Global,
+    decls: &mut Vec<Decl>,
+    comments: Listed<NoteLine>,
+    names: &Names,
+) -> Result<(), NoMemory>
+    ensures { OnOk result (map decl_tree decls.new.items
+        ≡ map decl_tree decls.old.items ++ (map (λ n. Remark n.text) (map note_of comments) ++ Spec.save_of names.now)) }
+{
+    push_remarks(decls, comments)?;
+    push_names(alloc, decls, names)
+}
+
+fn push_names(alloc: Global, decls: &mut Vec<Decl>, names: &Names) -> Result<(), NoMemory>
     ensures { OnOk result (map decl_tree decls.new.items ≡ map decl_tree decls.old.items ++ Spec.save_of names.now) }
 {
     if names.is_empty() {

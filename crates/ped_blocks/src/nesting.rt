@@ -2,7 +2,7 @@
 
 ghost use Rattle.std.specs.Prelude.{◌≡◌, ◌++◌, ◌∷◌, [], map, IfOk, OnOk};
 ghost use Rattle.ped_tree.specs.Tree;
-ghost use Rattle.ped_tree.specs.Views.{cond_tree, stmt_tree};
+ghost use Rattle.ped_tree.specs.Views.{cond_tree, stmt_tree, stmt_trees};
 ghost use Rattle.ped_tree.specs.Grammar.BlockForms.{comments_of, whole_head};
 ghost use Rattle.ped_tree.specs.Grammar.Occurrences as Spec;
 ghost use Rattle.ped_tree.specs.Grammar.StatementViews.{note_of, statement_of};
@@ -11,7 +11,7 @@ ghost use Rattle.ped_blocks.specs.Machine;
 ghost use Rattle.ped_blocks.specs.BlockViews.{blocks_of, frame_of, nesting_of};
 
 use crate::directives::rejected_names;
-use crate::frames::{Frame, LoopBlock, ThenBlock, alone};
+use crate::frames::{ElseBlock, Frame, LoopBlock, ThenBlock, alone};
 use ped_base::{Listed, Names, NoMemory};
 use ped_tree::grammar::{DoStatement, Item, NoteLine, Statement};
 use ped_tree::{Cond, Stmt};
@@ -56,13 +56,15 @@ impl Nesting {
             comments,
             directives,
         } = statement;
-        let nesting = self.with_comments(comments)?;
+        let Ok(nesting) = self.with_comments(comments) else {
+            drop(item);
+            return Err(NoMemory);
+        };
         match item {
             Item::Simple(stmt) => nesting.with_statement(label, stmt),
             Item::Continue => nesting.with_label(label),
             Item::LogicalIf(condition, behind) => {
-                let stmt = logical_if(alloc, condition, behind)?;
-                nesting.with_statement(label, stmt)
+                nesting.with_logical_if(alloc, label, condition, behind)
             }
             Item::BlockIf(condition) => nesting.begin_if(alloc, condition),
             Item::ElseIf(condition) => nesting.begin_else_if(alloc, condition),
@@ -70,7 +72,11 @@ impl Nesting {
             Item::EndIf => nesting.end_if(alloc),
             Item::Do(statement) => nesting.begin_do(alloc, statement, &directives),
             Item::Private(names) => nesting.with_private(names),
-            Item::Declaration(_) | Item::SaveAll | Item::End => Ok(nesting),
+            Item::Declaration(decl) => {
+                drop(decl);
+                Ok(nesting)
+            }
+            Item::SaveAll | Item::End => Ok(nesting),
         }
     }
 
@@ -97,6 +103,21 @@ impl Nesting {
         } = self;
         current.push(stmt)?;
         Nesting { frames, current }.with_label(label)
+    }
+
+    /// A logical IF stands behind the others, and the loops end that end at its label.
+    fn with_logical_if(
+        self,
+        alloc: Global,
+        label: Option<u32>,
+        condition: Cond,
+        behind: Option<Stmt>,
+    ) -> Result<Nesting, NoMemory>
+        ensures { IfOk result (λ n. nesting_of n ≡ Machine.close_labelled label (blocks_of self.frames.items)
+            (map stmt_tree self.current.items ++ Tree.If (cond_tree condition) (behind_logical behind) Tree.no_stmts ∷ [])) }
+    {
+        let stmt = logical_if(alloc, condition, behind)?;
+        self.with_statement(label, stmt)
     }
 
     /// The loops end that end at this label, where there is one.
@@ -160,14 +181,39 @@ impl Nesting {
         } = self;
         match frames.pop() {
             Some(Frame::Then(block)) => {
-                let block = block.ended_part(current)?;
-                let current = Vec::new(alloc);
-                Nesting { frames, current }.within(block.with_condition(condition))
+                Nesting { frames, current }.begin_next_part(alloc, block, condition)
             }
-            Some(Frame::Else(block)) => Nesting { frames, current }.within(Frame::Else(block)),
-            Some(Frame::Loop(block)) => Nesting { frames, current }.within(Frame::Loop(block)),
-            None => Ok(Nesting { frames, current }),
+            Some(Frame::Else(block)) => {
+                drop(condition);
+                Nesting { frames, current }.within(Frame::Else(block))
+            }
+            Some(Frame::Loop(block)) => {
+                drop(condition);
+                Nesting { frames, current }.within(Frame::Loop(block))
+            }
+            None => {
+                drop(condition);
+                Ok(Nesting { frames, current })
+            }
         }
+    }
+
+    /// The statements of the innermost block end this THEN part, and that of a further condition begins.
+    fn begin_next_part(
+        self,
+        alloc: Global,
+        block: ThenBlock,
+        condition: Cond,
+    ) -> Result<Nesting, NoMemory>
+        ensures { IfOk result (λ n. nesting_of n ≡ Machine.take_else_if (cond_tree condition) (frame_of (Frame.Then block) ∷ blocks_of self.frames.items) (map stmt_tree self.current.items)) }
+    {
+        let Nesting { frames, current } = self;
+        let Ok(block) = block.ended_part(current) else {
+            drop(condition);
+            return Err(NoMemory);
+        };
+        let current = Vec::new(alloc);
+        Nesting { frames, current }.within(block.with_condition(condition))
     }
 
     /// ELSE ends a THEN part, and begins the ELSE part.
@@ -180,15 +226,21 @@ impl Nesting {
             current,
         } = self;
         match frames.pop() {
-            Some(Frame::Then(block)) => {
-                let block = block.ended_part(current)?;
-                let current = Vec::new(alloc);
-                Nesting { frames, current }.within(Frame::Else(block))
-            }
+            Some(Frame::Then(block)) => Nesting { frames, current }.begin_else_part(alloc, block),
             Some(Frame::Else(block)) => Nesting { frames, current }.within(Frame::Else(block)),
             Some(Frame::Loop(block)) => Nesting { frames, current }.within(Frame::Loop(block)),
             None => Ok(Nesting { frames, current }),
         }
+    }
+
+    /// The statements of the innermost block end this THEN part, and the ELSE part begins.
+    fn begin_else_part(self, alloc: Global, block: ThenBlock) -> Result<Nesting, NoMemory>
+        ensures { IfOk result (λ n. nesting_of n ≡ Machine.take_else (frame_of (Frame.Then block) ∷ blocks_of self.frames.items) (map stmt_tree self.current.items)) }
+    {
+        let Nesting { frames, current } = self;
+        let block = block.ended_part(current)?;
+        let current = Vec::new(alloc);
+        Nesting { frames, current }.within(Frame::Else(block))
     }
 
     /// END IF ends an IF.
@@ -201,18 +253,30 @@ impl Nesting {
             current,
         } = self;
         match frames.pop() {
-            Some(Frame::Then(block)) => {
-                let block = block.ended_part(current)?;
-                let current = block.ended(alloc, Vec::new(alloc))?;
-                Ok(Nesting { frames, current })
-            }
-            Some(Frame::Else(block)) => {
-                let current = block.ended(alloc, current)?;
-                Ok(Nesting { frames, current })
-            }
+            Some(Frame::Then(block)) => Nesting { frames, current }.end_then_part(alloc, block),
+            Some(Frame::Else(block)) => Nesting { frames, current }.end_else_part(alloc, block),
             Some(Frame::Loop(block)) => Nesting { frames, current }.within(Frame::Loop(block)),
             None => Ok(Nesting { frames, current }),
         }
+    }
+
+    /// The statements of the innermost block end this THEN part, and the IF ends without an ELSE part.
+    fn end_then_part(self, alloc: Global, block: ThenBlock) -> Result<Nesting, NoMemory>
+        ensures { IfOk result (λ n. nesting_of n ≡ Machine.take_end_if (frame_of (Frame.Then block) ∷ blocks_of self.frames.items) (map stmt_tree self.current.items)) }
+    {
+        let Nesting { frames, current } = self;
+        let block = block.ended_part(current)?;
+        let current = Vec::new(alloc);
+        Nesting { frames, current }.end_else_part(alloc, block)
+    }
+
+    /// The statements of the innermost block end this ELSE part and its IF.
+    fn end_else_part(self, alloc: Global, block: ElseBlock) -> Result<Nesting, NoMemory>
+        ensures { IfOk result (λ n. nesting_of n ≡ Machine.take_end_if (frame_of (Frame.Else block) ∷ blocks_of self.frames.items) (map stmt_tree self.current.items)) }
+    {
+        let Nesting { frames, current } = self;
+        let current = block.ended(alloc, current)?;
+        Ok(Nesting { frames, current })
     }
 
     /// A DO loop begins, with the names that its directives reject.
@@ -226,7 +290,10 @@ impl Nesting {
             (Machine.do_frame (map stmt_tree self.current.items) statement.label (whole_head (do_head statement) [] (Spec.rejected_names (map note_of directives.now))) ∷ blocks_of self.frames.items) []) }
     {
         let Nesting { frames, current } = self;
-        let rejected = rejected_names(alloc, directives.as_slice())?;
+        let Ok(rejected) = rejected_names(alloc, directives.as_slice()) else {
+            drop(statement);
+            return Err(NoMemory);
+        };
         let block = LoopBlock::new(alloc, current, statement, rejected);
         let current = Vec::new(alloc);
         Nesting { frames, current }.within(Frame::Loop(block))
@@ -269,9 +336,19 @@ fn push_comments(stmts: &mut Vec<Stmt>, comments: Listed<NoteLine>) -> Result<()
 fn logical_if(alloc: Global, condition: Cond, behind: Option<Stmt>) -> Result<Stmt, NoMemory>
     ensures { IfOk result (λ s. stmt_tree s ≡ Tree.If (cond_tree condition) (behind_logical behind) Tree.no_stmts) }
 {
-    let then_part = match behind {
-        Some(stmt) => alone(alloc, stmt)?,
-        None => Vec::new(alloc),
+    let Ok(then_part) = then_part(alloc, behind) else {
+        drop(condition);
+        return Err(NoMemory);
     };
     Ok(Stmt::block_if(condition, then_part, Vec::new(alloc)))
+}
+
+/// The statement behind a logical IF, where there is one, as a THEN part.
+fn then_part(alloc: Global, behind: Option<Stmt>) -> Result<Vec<Stmt>, NoMemory>
+    ensures { IfOk result (λ all. stmt_trees all.items ≡ behind_logical behind) }
+{
+    match behind {
+        Some(stmt) => alone(alloc, stmt),
+        None => Ok(Vec::new(alloc)),
+    }
 }

@@ -10,7 +10,7 @@ ghost use Rattle.ped_blocks.specs.Machine;
 ghost use Rattle.ped_blocks.specs.Machine.{nothing_built, take_entries, built_program};
 ghost use Rattle.ped_blocks.specs.BlockViews.{built_of};
 
-use crate::declarations::{behind_front, push_remarks, push_save};
+use crate::declarations::{behind_front, push_declaration, push_save};
 use crate::lines::first_lines;
 use crate::nesting::Nesting;
 use ped_base::{Names, NoMemory};
@@ -71,8 +71,7 @@ impl Built {
         ensures { IfOk result (λ b. built_of b ≡ Machine.take_item [] (built_of self) (statement_of statement) (declares (decl_tree decl))) }
     {
         let Built { mut decls, nesting } = self;
-        push_remarks(&mut decls, statement.comments)?;
-        decls.push(decl)?;
+        push_declaration(&mut decls, statement.comments, decl)?;
         Ok(Built { decls, nesting })
     }
 
@@ -86,8 +85,7 @@ impl Built {
         ensures { IfOk result (λ b. built_of b ≡ Machine.take_item saved.now (built_of self) (statement_of statement) saves_all) }
     {
         let Built { mut decls, nesting } = self;
-        push_remarks(&mut decls, statement.comments)?;
-        push_save(alloc, &mut decls, saved)?;
+        push_save(alloc, &mut decls, statement.comments, saved)?;
         Ok(Built { decls, nesting })
     }
 

@@ -24,7 +24,10 @@ pub fn read_condition(alloc: Global, text: &[u8]) -> Result<Reading<Cond>, NoMem
     ensures { IfOk result (Says (ReadsCond text.now) Literals.cond_has_large_literal cond_tree) }
 {
     match whole(alloc, text) {
-        Ok(c) if cond_has_large_literal(&c) => Ok(Reading::TooLarge),
+        Ok(c) if cond_has_large_literal(&c) => {
+            drop(c);
+            Ok(Reading::TooLarge)
+        }
         Ok(c) => Ok(Reading::Tree(c)),
         Err(Failure::NoForm) => Ok(Reading::NoForm),
         Err(Failure::OutOfMemory) => Err(NoMemory),
@@ -40,6 +43,7 @@ fn whole(alloc: Global, text: &[u8]) -> Result<Cond, Failure>
     if rest.is_empty() {
         Ok(c)
     } else {
+        drop(c);
         Err(Failure::NoForm)
     }
 }
@@ -65,7 +69,13 @@ fn disjunction(alloc: Global, first: Cond, text: &[u8]) -> Result<(Cond, &[u8]),
     let mut whole = first;
     let mut rest = text;
     while let Some(behind) = after(rest, b".OR.") {
-        let (next, behind) = logical_term(alloc, behind)?;
+        let (next, behind) = match logical_term(alloc, behind) {
+            Ok(found) => found,
+            Err(failure) => {
+                drop(whole);
+                return Err(failure);
+            }
+        };
         whole = Cond::disjunction(alloc, whole, next)?;
         rest = behind;
     }
@@ -92,7 +102,13 @@ fn conjunction(alloc: Global, first: Cond, text: &[u8]) -> Result<(Cond, &[u8]),
     let mut whole = first;
     let mut rest = text;
     while let Some(behind) = after(rest, b".AND.") {
-        let (next, behind) = logical_factor(alloc, behind)?;
+        let (next, behind) = match logical_factor(alloc, behind) {
+            Ok(found) => found,
+            Err(failure) => {
+                drop(whole);
+                return Err(failure);
+            }
+        };
         whole = Cond::conjunction(alloc, whole, next)?;
         rest = behind;
     }
@@ -131,7 +147,10 @@ fn logical_primary(alloc: Global, text: &[u8]) -> Result<(Cond, &[u8]), Failure>
     let (inner, rest) = cond(alloc, inside)?;
     match after(rest, b")") {
         Some(rest) => Ok((inner, rest)),
-        None => Err(Failure::NoForm),
+        None => {
+            drop(inner);
+            Err(Failure::NoForm)
+        }
     }
 }
 
@@ -143,8 +162,15 @@ fn relation(alloc: Global, text: &[u8]) -> Result<(Cond, &[u8]), Failure>
 {
     let (left, rest) = expr(alloc, text)?;
     let Some((operator, rest)) = take_relation(rest) else {
+        drop(left);
         return Err(Failure::NoForm);
     };
-    let (right, rest) = expr(alloc, rest)?;
+    let (right, rest) = match expr(alloc, rest) {
+        Ok(found) => found,
+        Err(failure) => {
+            drop(left);
+            return Err(failure);
+        }
+    };
     Ok((Cond::relation(operator, left, right), rest))
 }

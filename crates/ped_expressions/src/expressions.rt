@@ -29,7 +29,10 @@ pub fn read_expression(alloc: Global, text: &[u8]) -> Result<Reading<Expr>, NoMe
     ensures { IfOk result (Says (ReadsExpr text.now) Literals.has_large_literal expr_tree) }
 {
     match whole(alloc, text) {
-        Ok(e) if has_large_literal(&e) => Ok(Reading::TooLarge),
+        Ok(e) if has_large_literal(&e) => {
+            drop(e);
+            Ok(Reading::TooLarge)
+        }
         Ok(e) => Ok(Reading::Tree(e)),
         Err(Failure::NoForm) => Ok(Reading::NoForm),
         Err(Failure::OutOfMemory) => Err(NoMemory),
@@ -44,8 +47,14 @@ pub fn read_reference(alloc: Global, text: &[u8]) -> Result<Reading<Expr>, NoMem
         return Ok(Reading::NoForm);
     }
     match whole(alloc, text) {
-        Ok(e) if !is_reference(&e) => Ok(Reading::NoForm),
-        Ok(e) if has_large_literal(&e) => Ok(Reading::TooLarge),
+        Ok(e) if !is_reference(&e) => {
+            drop(e);
+            Ok(Reading::NoForm)
+        }
+        Ok(e) if has_large_literal(&e) => {
+            drop(e);
+            Ok(Reading::TooLarge)
+        }
         Ok(e) => Ok(Reading::Tree(e)),
         Err(Failure::NoForm) => Ok(Reading::NoForm),
         Err(Failure::OutOfMemory) => Err(NoMemory),
@@ -70,6 +79,7 @@ fn whole(alloc: Global, text: &[u8]) -> Result<Expr, Failure>
     if rest.is_empty() {
         Ok(e)
     } else {
+        drop(e);
         Err(Failure::NoForm)
     }
 }
@@ -97,7 +107,13 @@ fn sums(alloc: Global, first: Expr, text: &[u8]) -> Result<(Expr, &[u8]), Failur
     let mut sum = first;
     let mut rest = text;
     while let Some((operator, behind)) = take_adding(rest) {
-        let (next, behind) = term(alloc, behind)?;
+        let (next, behind) = match term(alloc, behind) {
+            Ok(found) => found,
+            Err(failure) => {
+                drop(sum);
+                return Err(failure);
+            }
+        };
         sum = added(alloc, operator, sum, next)?;
         rest = behind;
     }
@@ -124,7 +140,13 @@ fn products(alloc: Global, first: Expr, text: &[u8]) -> Result<(Expr, &[u8]), Fa
     let mut product = first;
     let mut rest = text;
     while let Some((operator, behind)) = take_scaling(rest) {
-        let (next, behind) = factor(alloc, behind)?;
+        let (next, behind) = match factor(alloc, behind) {
+            Ok(found) => found,
+            Err(failure) => {
+                drop(product);
+                return Err(failure);
+            }
+        };
         product = scaled(alloc, operator, product, next)?;
         rest = behind;
     }
@@ -141,7 +163,13 @@ fn factor(alloc: Global, text: &[u8]) -> Result<(Expr, &[u8]), Failure>
     match after(rest, b"**") {
         None => Ok((base, rest)),
         Some(behind) => {
-            let (exponent, rest) = factor(alloc, behind)?;
+            let (exponent, rest) = match factor(alloc, behind) {
+                Ok(found) => found,
+                Err(failure) => {
+                    drop(base);
+                    return Err(failure);
+                }
+            };
             Ok((Expr::power(alloc, base, exponent)?, rest))
         }
     }
@@ -158,7 +186,10 @@ pub fn primary(alloc: Global, text: &[u8]) -> Result<(Expr, &[u8]), Failure>
         let (inner, rest) = expr(alloc, inside)?;
         return match after(rest, b")") {
             Some(rest) => Ok((inner, rest)),
-            None => Err(Failure::NoForm),
+            None => {
+                drop(inner);
+                Err(Failure::NoForm)
+            }
         };
     }
     if begins_with_digit(text) {

@@ -25,13 +25,13 @@ else_part (s ∷ all) depth number before old middle new h p q =
     behind old (text_lines None depth (codes "ELSE")) (statements_lines (suc depth) number before (stmt_trees (s ∷ all))) middle new p (q ∙ ap (λ (x : List Line). middle ++ x) body)
     ∙ ap (λ (x : List Line). old ++ x) (sym (append_assoc (text_lines None depth (codes "ELSE")) (statement_lines (suc depth) number before (stmt_tree s)) (statements_lines (suc depth) (number + statement_count (stmt_tree s)) (before + loop_count (stmt_tree s)) (stmt_trees all))))
 
--- a DO with its directives, its PRIVATE statement, its body and its end
-pub do_part : (h : Head) (body : StmtTrees) (depth number before : ℕ) (old directives head private inside new : List Line) → directives ≡ old ++ directive_lines h.rejected → head ≡ directives ++ text_lines (Some number) depth (own_text before (Do h body)) → private ≡ head ++ private_lines (depth + 1) h.private → inside ≡ private ++ statements_lines (depth + 1) (number + 1) (before + 1) body → new ≡ inside ++ end_line depth (label_text before) ∷ [] → new ≡ old ++ statement_lines depth number before (Do h body)
-do_part h body depth number before old directives head private inside new p q r s t =
+-- a DO with the lines before its body, its body and its end
+pub do_part : (h : Head) (body : StmtTrees) (depth number before : ℕ) (old head inside new : List Line) → head ≡ old ++ (directive_lines h.rejected ++ text_lines (Some number) depth (own_text before (Do h body)) ++ private_lines (depth + 1) h.private) → inside ≡ head ++ statements_lines (depth + 1) (number + 1) (before + 1) body → new ≡ inside ++ end_line depth (label_text before) ∷ [] → new ≡ old ++ statement_lines depth number before (Do h body)
+do_part h body depth number before old head inside new p s t =
     let deeper : depth + 1 ≡ suc depth = omega arith in
     let own = ap (λ (d : ℕ). private_lines d h.private) deeper in
     let within = ap (λ (d : ℕ). statements_lines d (number + 1) (before + 1) body) deeper in
-    let a = behind old _ _ directives head p q in
-    let b = behind old _ _ head private a (r ∙ ap (λ (x : List Line). head ++ x) own) in
-    let c = behind old _ _ private inside b (s ∙ ap (λ (x : List Line). private ++ x) within) in
+    let first = directive_lines h.rejected ++ text_lines (Some number) depth (own_text before (Do h body)) in
+    let b : head ≡ old ++ (first ++ private_lines (suc depth) h.private) = p ∙ ap (λ (x : List Line). old ++ (first ++ x)) own in
+    let c = behind old _ _ head inside b (s ∙ ap (λ (x : List Line). head ++ x) within) in
     behind old _ _ inside new c t

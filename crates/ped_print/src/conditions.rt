@@ -47,21 +47,30 @@ fn push_bare(out: &mut Bytes, condition: &Cond) -> Result<(), NoMemory>
             out.extend_from_slice(relation_name(*relation))?;
             push_value(out, right)
         }
-        Cond::Not(operand) => {
-            out.extend_from_slice(b".NOT.")?;
-            push_cond(out, Standing::InNot, operand)
-        }
+        Cond::Not(operand) => { push_operand(out, b".NOT.", Standing::InNot, operand) }
         Cond::And(left, right) => {
             push_cond(out, Standing::InOr, left)?;
-            out.extend_from_slice(b".AND.")?;
-            push_cond(out, Standing::InAnd, right)
+            push_operand(out, b".AND.", Standing::InAnd, right)
         }
         Cond::Or(left, right) => {
             push_cond(out, Standing::Whole, left)?;
-            out.extend_from_slice(b".OR.")?;
-            push_cond(out, Standing::InOr, right)
+            push_operand(out, b".OR.", Standing::InOr, right)
         }
     }
+}
+
+/// Adds a logical operator, and the operand behind it.
+#[cycle(conditions)]
+fn push_operand(
+    out: &mut Bytes,
+    operator: &[u8],
+    standing: Standing,
+    condition: &Cond,
+) -> Result<(), NoMemory>
+    ensures { OnOk result (out.new ≡ out.old ++ operator.now ++ cond_text (standing_of standing) (cond_tree condition.now)) }
+{
+    out.extend_from_slice(operator)?;
+    push_cond(out, standing, condition)
 }
 
 /// Whether a condition needs parentheses where it stands.

@@ -1,7 +1,7 @@
 //! Expressions, added at the end of a text: without blanks and with the fewest parentheses that read
 //! as the same tree. After want of memory a text ends somewhere in what was to be added.
 
-ghost use Rattle.std.specs.Prelude.{◌≡◌, ◌++◌, map, OnOk};
+ghost use Rattle.std.specs.Prelude.{◌≡◌, ◌++◌, codes, map, OnOk};
 ghost use Rattle.std.specs.Fmt.{decimal};
 ghost use Rattle.ped_tree.specs.Printing as Spec;
 ghost use Rattle.ped_tree.specs.Printing.{alone, expr_text, exprs_text, further_text, value_text, intrinsic_text, enclosed};
@@ -63,46 +63,53 @@ fn push_bare(out: &mut Bytes, e: &Expr) -> Result<(), NoMemory>
         Expr::Var(name) => out.extend_from_slice(name.as_bytes()),
         Expr::Element(name, subscripts) => {
             out.extend_from_slice(name.as_bytes())?;
-            out.push(b'(')?;
-            push_exprs(out, subscripts)?;
-            out.push(b')')
+            push_enclosed(out, subscripts)
         }
-        Expr::Neg(operand) => {
-            out.push(b'-')?;
-            push_expr(out, Place::AsTerm, operand)
-        }
+        Expr::Neg(operand) => push_operand(out, b"-", Place::AsTerm, operand),
         Expr::Add(left, right) => {
             push_expr(out, Place::Alone, left)?;
-            out.push(b'+')?;
-            push_expr(out, Place::AsTerm, right)
+            push_operand(out, b"+", Place::AsTerm, right)
         }
         Expr::Sub(left, right) => {
             push_expr(out, Place::Alone, left)?;
-            out.push(b'-')?;
-            push_expr(out, Place::AsTerm, right)
+            push_operand(out, b"-", Place::AsTerm, right)
         }
         Expr::Mul(left, right) => {
             push_expr(out, Place::AsTerm, left)?;
-            out.push(b'*')?;
-            push_expr(out, Place::AsFactor, right)
+            push_operand(out, b"*", Place::AsFactor, right)
         }
         Expr::Div(left, right) => {
             push_expr(out, Place::AsTerm, left)?;
-            out.push(b'/')?;
-            push_expr(out, Place::AsFactor, right)
+            push_operand(out, b"/", Place::AsFactor, right)
         }
         Expr::Pow(base, exponent) => {
             push_expr(out, Place::AsBase, base)?;
-            out.extend_from_slice(b"**")?;
-            push_expr(out, Place::AsFactor, exponent)
+            push_operand(out, b"**", Place::AsFactor, exponent)
         }
         Expr::Call(intrinsic, arguments) => {
             out.extend_from_slice(intrinsic_name(*intrinsic))?;
-            out.push(b'(')?;
-            push_exprs(out, arguments)?;
-            out.push(b')')
+            push_enclosed(out, arguments)
         }
     }
+}
+
+/// Adds an operator, and the operand behind it.
+#[cycle(expressions)]
+fn push_operand(out: &mut Bytes, operator: &[u8], place: Place, e: &Expr) -> Result<(), NoMemory>
+    ensures { OnOk result (out.new ≡ out.old ++ operator.now ++ expr_text (place_of place) (expr_tree e.now)) }
+{
+    out.extend_from_slice(operator)?;
+    push_expr(out, place, e)
+}
+
+/// Adds subscripts or arguments, between parentheses.
+#[cycle(expressions)]
+fn push_enclosed(out: &mut Bytes, all: &[Expr]) -> Result<(), NoMemory>
+    ensures { OnOk result (out.new ≡ out.old ++ codes "(" ++ exprs_text (pack_exprs (map expr_tree all.now)) ++ codes ")") }
+{
+    out.push(b'(')?;
+    push_exprs(out, all)?;
+    out.push(b')')
 }
 
 /// Adds subscripts or arguments, with a comma between two.

@@ -12,7 +12,7 @@ ghost use Rattle.ped_print.specs.Counting.{IsCounted};
 use crate::lines::{Line, push_blanks, push_indentation, push_plain, push_text};
 use crate::statements::{push_label, push_own, push_private};
 use ped_base::{Bytes, Name, NoMemory};
-use ped_tree::Stmt;
+use ped_tree::{Do, Stmt};
 use std::alloc::Global;
 
 /// How far the numbering has come.
@@ -88,17 +88,13 @@ fn push_statement(
             push_first_line(alloc, lines, depth, numbers, statement)?;
             let inner = numbers.behind_statement();
             let middle = push_statements(alloc, lines, depth + 1, inner, then_part)?;
-            let next = push_else(alloc, lines, depth, middle, else_part)?;
-            push_words(alloc, lines, depth, b"END IF")?;
-            Ok(next)
+            push_else_and_end(alloc, lines, depth, middle, else_part)
         }
         Stmt::Do(head) => {
-            push_directives(alloc, lines, head.rejected.as_slice())?;
-            push_first_line(alloc, lines, depth, numbers, statement)?;
-            push_private_line(alloc, lines, depth + 1, head.private.as_slice())?;
+            push_head(alloc, lines, depth, numbers, statement, head)?;
             let inner = numbers.behind_do();
             let next = push_statements(alloc, lines, depth + 1, inner, &head.body)?;
-            push_plain(lines, end_line(alloc, depth, numbers.loops)?)?;
+            push_end(alloc, lines, depth, numbers.loops)?;
             Ok(next)
         }
         Stmt::Comment(_) => {
@@ -106,6 +102,34 @@ fn push_statement(
             Ok(numbers)
         }
     }
+}
+
+/// Adds the lines of the ELSE part of an IF with so many DO loops and IFs round it, and END IF, and
+/// answers the numbers behind them.
+#[cycle(nesting)]
+fn push_else_and_end(
+    alloc: Global,
+    lines: &mut Vec<Line>,
+    depth: usize,
+    numbers: Numbers,
+    all: &[Stmt],
+) -> Result<Numbers, NoMemory>
+    requires depth { depth < length lines.old.items }
+    requires counted { IsCounted numbers (length lines.old.items) }
+
+    ensures lines { OnOk result (map line_of lines.new.items
+        ≡ map line_of lines.old.items
+        ++ else_lines depth (numbers.statements + 1) numbers.loops (stmt_trees all.now)
+        ++ text_lines None depth (codes "END IF")) }
+    ensures longer { OnOk result (length lines.old.items < length lines.new.items) }
+    ensures statements { IfOk result (λ n. n.statements
+        ≡ numbers.statements + statements_count (stmt_trees all.now)) }
+    ensures loops { IfOk result (λ n. n.loops ≡ numbers.loops + loops_count (stmt_trees all.now)) }
+    ensures counted { IfOk result (λ n. IsCounted n (length lines.new.items)) }
+{
+    let next = push_else(alloc, lines, depth, numbers, all)?;
+    push_words(alloc, lines, depth, b"END IF")?;
+    Ok(next)
 }
 
 /// Adds ELSE and the lines of its part with so many DO loops and IFs round the IF, nothing where the
@@ -160,6 +184,40 @@ impl Numbers {
             loops: self.loops + 1,
         }
     }
+}
+
+/// Adds the lines of a DO before its body: the directives, the statement by itself, and PRIVATE.
+fn push_head(
+    alloc: Global,
+    lines: &mut Vec<Line>,
+    depth: usize,
+    numbers: Numbers,
+    statement: &Stmt,
+    head: &Do,
+) -> Result<(), NoMemory>
+    requires depth { depth ≤ length lines.old.items }
+    requires counted { IsCounted numbers (length lines.old.items) }
+
+    ensures lines { OnOk result (map line_of lines.new.items
+        ≡ map line_of lines.old.items
+        ++ (directive_lines head.now.rejected
+        ++ text_lines (Some (numbers.statements + 1)) depth (own_text numbers.loops (stmt_tree statement.now))
+        ++ private_lines (depth + 1) head.now.private)) }
+    ensures longer { OnOk result (length lines.old.items < length lines.new.items) }
+{
+    push_directives(alloc, lines, head.rejected.as_slice())?;
+    push_first_line(alloc, lines, depth, numbers, statement)?;
+    push_private_line(alloc, lines, depth + 1, head.private.as_slice())
+}
+
+/// Adds the line that ends the DO behind so many others.
+fn push_end(alloc: Global, lines: &mut Vec<Line>, depth: usize, before: u64) -> Result<(), NoMemory>
+    ensures lines { OnOk result (map line_of lines.new.items
+        ≡ map line_of lines.old.items ++ Printing.end_line depth (label_text before) ∷ []) }
+    ensures longer { OnOk result (length lines.old.items < length lines.new.items) }
+{
+    let line = end_line(alloc, depth, before)?;
+    push_plain(lines, line)
 }
 
 /// Adds the lines of a numbered statement by itself.

@@ -3,15 +3,15 @@
 
 ghost use Rattle.std.specs.Prelude.{◌≡◌, ◌++◌, map, codes, OnOk};
 ghost use Rattle.std.specs.List.{flat_map};
-ghost use Rattle.ped_tree.specs.Printing.{own_text, do_text, do_word, step_text, label_text, private_text, item_text, constant_text, doubled, value_text};
-ghost use Rattle.ped_tree.specs.Views.{expr_tree, item_tree, head, stmt_tree};
+ghost use Rattle.ped_tree.specs.Printing.{own_text, do_text, do_word, step_text, label_text, private_text, item_text, constant_text, doubled, value_text, cond_text, whole};
+ghost use Rattle.ped_tree.specs.Views.{cond_tree, expr_tree, item_tree, head, stmt_tree};
 
 use crate::conditions::{Standing, push_cond};
 use crate::declarations::push_names;
 use crate::expressions::{is_one, push_value};
 use itoa::Buffer;
 use ped_base::{Bytes, Name, NoMemory};
-use ped_tree::{Do, Expr, PrintItem, Stmt};
+use ped_tree::{Cond, Do, Expr, PrintItem, Stmt};
 
 /// Adds a statement by itself, where so many DO loops begin before it.
 pub fn push_own(out: &mut Bytes, before: u64, statement: &Stmt) -> Result<(), NoMemory>
@@ -20,14 +20,9 @@ pub fn push_own(out: &mut Bytes, before: u64, statement: &Stmt) -> Result<(), No
     match statement {
         Stmt::Assign { left, right } => {
             push_value(out, left)?;
-            out.extend_from_slice(b" = ")?;
-            push_value(out, right)
+            push_behind(out, b" = ", right)
         }
-        Stmt::If { condition, .. } => {
-            out.extend_from_slice(b"IF (")?;
-            push_cond(out, Standing::Whole, condition)?;
-            out.extend_from_slice(b") THEN")
-        }
+        Stmt::If { condition, .. } => push_if(out, condition),
         Stmt::Do(head) => push_do(out, before, head),
         Stmt::Print(items) => {
             out.extend_from_slice(b"PRINT *")?;
@@ -45,6 +40,23 @@ pub fn push_own(out: &mut Bytes, before: u64, statement: &Stmt) -> Result<(), No
     }
 }
 
+/// Adds words, and an expression behind them.
+fn push_behind(out: &mut Bytes, words: &[u8], e: &Expr) -> Result<(), NoMemory>
+    ensures { OnOk result (out.new ≡ out.old ++ words.now ++ value_text (expr_tree e.now)) }
+{
+    out.extend_from_slice(words)?;
+    push_value(out, e)
+}
+
+/// Adds a block IF with this condition.
+fn push_if(out: &mut Bytes, condition: &Cond) -> Result<(), NoMemory>
+    ensures { OnOk result (out.new ≡ out.old ++ (codes "IF (" ++ cond_text whole (cond_tree condition.now) ++ codes ") THEN")) }
+{
+    out.extend_from_slice(b"IF (")?;
+    push_cond(out, Standing::Whole, condition)?;
+    out.extend_from_slice(b") THEN")
+}
+
 /// Adds a DO statement with the label of the DO behind so many others.
 fn push_do(out: &mut Bytes, before: u64, d: &Do) -> Result<(), NoMemory>
     ensures { OnOk result (out.new ≡ out.old
@@ -53,13 +65,18 @@ fn push_do(out: &mut Bytes, before: u64, d: &Do) -> Result<(), NoMemory>
 {
     push_do_word(out, d.parallel)?;
     push_label(out, before)?;
-    out.push(b' ')?;
-    out.extend_from_slice(d.variable.as_bytes())?;
-    out.extend_from_slice(b" = ")?;
-    push_value(out, &d.first)?;
-    out.extend_from_slice(b", ")?;
-    push_value(out, &d.last)?;
+    push_variable(out, &d.variable)?;
+    push_behind(out, b" = ", &d.first)?;
+    push_behind(out, b", ", &d.last)?;
     push_step(out, &d.step)
+}
+
+/// Adds a blank, and the variable of a DO behind it.
+fn push_variable(out: &mut Bytes, variable: &Name) -> Result<(), NoMemory>
+    ensures { OnOk result (out.new ≡ out.old ++ codes " " ++ variable.now) }
+{
+    out.push(b' ')?;
+    out.extend_from_slice(variable.as_bytes())
 }
 
 /// Adds DO or PARALLEL DO, with a blank behind it.
@@ -88,8 +105,7 @@ fn push_step(out: &mut Bytes, step: &Expr) -> Result<(), NoMemory>
     if is_one(step) {
         return Ok(());
     }
-    out.extend_from_slice(b", ")?;
-    push_value(out, step)
+    push_behind(out, b", ", step)
 }
 
 /// Adds the items of a PRINT, each behind a comma.

@@ -22,13 +22,19 @@ pub fn if_statement(alloc: Global, text: &[u8]) -> Result<Item, Failure>
 {
     let (condition, rest) = cond(alloc, text)?;
     let Some(rest) = after(rest, b")") else {
+        drop(condition);
         return Err(Failure::NoForm);
     };
     if is_word(rest, b"THEN") {
         return Ok(block_if(condition));
     }
-    let statement = simple(alloc, rest)?;
-    Ok(logical_if(condition, statement))
+    match simple(alloc, rest) {
+        Ok(statement) => Ok(logical_if(condition, statement)),
+        Err(failure) => {
+            drop(condition);
+            Err(failure)
+        }
+    }
 }
 
 /// The ELSE IF of which the text is what follows `ELSE IF (`.
@@ -40,6 +46,7 @@ pub fn else_if_statement(alloc: Global, text: &[u8]) -> Result<Item, Failure>
     if is_word(rest, b")THEN") {
         Ok(else_if(condition))
     } else {
+        drop(condition);
         Err(Failure::NoForm)
     }
 }

@@ -29,7 +29,13 @@ fn bound(alloc: Global, text: &[u8]) -> Result<(Bound, &[u8]), Failure>
             rest,
         ));
     };
-    let (upper, rest) = expr(alloc, behind)?;
+    let (upper, rest) = match expr(alloc, behind) {
+        Ok(found) => found,
+        Err(failure) => {
+            drop(first);
+            return Err(failure);
+        }
+    };
     Ok((
         Bound {
             lower: first,
@@ -73,6 +79,7 @@ fn declarator(alloc: Global, text: &[u8]) -> Result<(Declarator, &[u8]), Failure
     };
     let (bounds, rest) = bounds(alloc, inside)?;
     let Some(rest) = after(rest, b")") else {
+        drop(bounds);
         return Err(Failure::NoForm);
     };
     Ok((Declarator { name, bounds }, rest))

@@ -86,6 +86,7 @@ fn dimension(alloc: Global, text: &[u8]) -> Result<Item, Failure>
     if are_arrays(&declared) {
         Ok(Item::Declaration(Decl::Dimension(declared)))
     } else {
+        drop(declared);
         Err(Failure::NoForm)
     }
 }
@@ -112,6 +113,7 @@ fn parameter(alloc: Global, text: &[u8]) -> Result<Item, Failure>
     if is_closed(rest) {
         Ok(Item::Declaration(Decl::Parameter(values)))
     } else {
+        drop(values);
         Err(Failure::NoForm)
     }
 }

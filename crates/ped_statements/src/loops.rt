@@ -89,10 +89,24 @@ pub fn take_control(alloc: Global, parallel: bool, text: &[u8]) -> Result<(Contr
     };
     let (first, rest) = expr(alloc, rest)?;
     let Some(rest) = after(rest, b",") else {
+        drop(first);
         return Err(Failure::NoForm);
     };
-    let (last, rest) = expr(alloc, rest)?;
-    let (step, rest) = step(alloc, rest)?;
+    let (last, rest) = match expr(alloc, rest) {
+        Ok(found) => found,
+        Err(failure) => {
+            drop(first);
+            return Err(failure);
+        }
+    };
+    let (step, rest) = match step(alloc, rest) {
+        Ok(found) => found,
+        Err(failure) => {
+            drop(first);
+            drop(last);
+            return Err(failure);
+        }
+    };
     let control = Control {
         variable,
         first,

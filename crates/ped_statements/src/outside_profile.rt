@@ -154,7 +154,10 @@ fn is_control(alloc: Global, text: &[u8]) -> Result<bool, NoMemory>
     ensures { IfOk result (λ b. b ≡ Spec.is_control saturated text.now) }
 {
     match take_control(alloc, false, text) {
-        Ok((_, rest)) => Ok(is_end(rest)),
+        Ok((control, rest)) => {
+            drop(control);
+            Ok(is_end(rest))
+        }
         Err(Failure::NoForm) => Ok(false),
         Err(Failure::OutOfMemory) => Err(NoMemory),
     }

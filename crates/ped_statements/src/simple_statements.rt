@@ -37,12 +37,21 @@ fn assignment(alloc: Global, text: &[u8]) -> Result<Stmt, Failure>
 {
     let (left, rest) = reference(alloc, text)?;
     let Some(behind) = after(rest, b"=") else {
+        drop(left);
         return Err(Failure::NoForm);
     };
-    let (right, rest) = expr(alloc, behind)?;
+    let (right, rest) = match expr(alloc, behind) {
+        Ok(found) => found,
+        Err(failure) => {
+            drop(left);
+            return Err(failure);
+        }
+    };
     if is_end(rest) {
         Ok(Stmt::assignment(left, right))
     } else {
+        drop(left);
+        drop(right);
         Err(Failure::NoForm)
     }
 }
@@ -60,6 +69,7 @@ fn reference(alloc: Global, text: &[u8]) -> Result<(Expr, &[u8]), Failure>
     if is_reference(&found) {
         Ok((found, rest))
     } else {
+        drop(found);
         Err(Failure::NoForm)
     }
 }

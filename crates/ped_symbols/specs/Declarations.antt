@@ -1,5 +1,5 @@
 -- What the declarations of a program say of its names, wherever they stand among them (ANSI X3.9-1978, sections 4.1.2, 5.1, 8).
-use Rattle.std.specs.Prelude.{ℕ, List, [], ◌∷◌, map, filter, Bool, true, false, not, ◌&&◌, nat_le, Option, Some, None}
+use Rattle.std.specs.Prelude.{ℕ, List, [], ◌∷◌, map, filter, Bool, true, false, not, ◌&&◌, nat_le, Option, Some, None, if◌then◌else◌}
 use Rattle.std.specs.List.{list_any, flat_map}
 use Rattle.ped_base.specs.Lists.{is_among}
 use Rattle.ped_tree.specs.Tree.{DeclTree, Program, Implicit}
@@ -88,6 +88,10 @@ abbrev pub or_zero : Option ℕ → ℕ
 or_zero None = 0
 or_zero (Some n) = n
 
--- how many dimensions a name has, by the first use that gives it some; 0 where none does (ANSI X3.9-1978, section 5.1.1)
+-- how many dimensions uses give a name, by the first that gives it some; 0 where none does (ANSI X3.9-1978, section 5.1.1)
+abbrev pub given_rank : List Use → List ℕ → ℕ
+given_rank uses x = or_zero (entry_of (ranks_in uses) x)
+
+-- how many dimensions a name has: those that declarations give it; a named constant has none, wherever its PARAMETER stands (ANSI X3.9-1978, sections 5.1.1, 8.6; this project)
 abbrev pub rank_of : Declared → List ℕ → ℕ
-rank_of d x = or_zero (entry_of (ranks_in d.uses) x)
+rank_of d x = if is_constant d x then 0 else given_rank d.uses x

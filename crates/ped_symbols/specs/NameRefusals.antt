@@ -99,7 +99,7 @@ abbrev pub differs : ℕ → Option ℕ → Bool
 differs rank None = false
 differs rank (Some n) = not (n == rank)
 
--- a use with another number of subscripts than the name has dimensions (ANSI X3.9-1978, sections 5.3, 5.4)
+-- a use with another number of subscripts than the name has dimensions; a named constant has none, also where it is given some, which is refused there (ANSI X3.9-1978, sections 5.3, 5.4, 8.6)
 abbrev pub uses_other_rank : Declared → Use → Bool
 uses_other_rank d u = differs (rank_of d u.name) (subscripts_of u.role)
 

@@ -101,9 +101,20 @@ impl Declared {
         self.program.contains(name)
     }
 
-    /// How many dimensions the name has.
+    /// How many dimensions the name has: a constant has none, also where it is given some.
     pub fn rank(&self, name: &Name) -> usize
         ensures { (d : Plain.Declared) → Knows self.now d → result ≡ Plain.rank_of d name.now }
+    {
+        if self.is_constant(name) {
+            0
+        } else {
+            self.given_rank(name)
+        }
+    }
+
+    /// How many dimensions declarations give the name.
+    fn given_rank(&self, name: &Name) -> usize
+        ensures { (d : Plain.Declared) → Knows self.now d → result ≡ Plain.given_rank d.uses name.now }
     {
         match self.ranks.get(name) {
             Some(count) => count,

@@ -1,14 +1,18 @@
 //! The kinds of the names of a program.
 
-ghost use Rattle.std.specs.Prelude.{◌≡◌, ◌^◌, ◌<◌, [], map, length, Some, IfOk, IfErr};
+ghost use Rattle.std.specs.Prelude.{◌≡◌, ◌++◌, ◌^◌, ◌<◌, [], List, map, length, Some, IfOk, IfErr, OnOk};
 ghost use Rattle.ped_tree.specs.Numbering.{statements_count};
-ghost use Rattle.ped_refs.specs.References.{references};
+ghost use Rattle.ped_refs.specs.References.{Reference, references};
+ghost use Rattle.ped_tree.specs.Grammar.RefusalViews.{found_of};
 ghost use Rattle.ped_tree.specs.Views.{program_tree, stmt_trees};
 ghost use Rattle.ped_symbols.specs.Sites.{stmts_sites};
+ghost use Rattle.ped_symbols.specs.Declarations as Plain;
+ghost use Rattle.ped_symbols.specs.Declarations.{declared_in};
 ghost use Rattle.ped_symbols.specs.Passed.{HasPassed, GoesOver};
+ghost use Rattle.ped_symbols.specs.Passes.{Knows, Holds, CountsTo, Stands, kind_with, with_kinds, first_with};
 ghost use Rattle.ped_symbols.specs.Entries.{entry_of};
-ghost use Rattle.ped_symbols.specs.Kinds.{table_of};
-ghost use Rattle.ped_symbols.specs.NameRefusals.{name_refusals};
+ghost use Rattle.ped_symbols.specs.Kinds.{names_at, table_of};
+ghost use Rattle.ped_symbols.specs.NameRefusals.{Before, at_first, name_refusals};
 ghost use Rattle.ped_symbols.specs.Refused.{IsFirstOf};
 ghost use Rattle.ped_symbols.specs.declared.symbols.NameRefusal.TheVariants as variant;
 
@@ -144,20 +148,66 @@ fn over_program(alloc: Global, program: &Program) -> Result<Passed, NoMemory>
 {
     let mut uses = Vec::new(alloc);
     push_decls(&mut uses, &program.decls)?;
-    let declared = Declared::new(alloc, &program.decls, &uses)?;
+    over_uses(alloc, program, &uses)
+}
+
+/// Goes over a program whose declarations have these uses of names.
+fn over_uses(alloc: Global, program: &Program, uses: &[Use]) -> Result<Passed, NoMemory>
+    requires statements { statements_count (program_tree program.now).body < 2 ^ 32 }
+    requires references { length (references (program_tree program.now)) < 2 ^ 32 }
+    requires uses { uses.now ≡ (declared_in (program_tree program.now).decls).uses }
+    ensures { IfOk result (HasPassed program.now.lines.items (program_tree program.now)) }
+{
+    let declared = Declared::new(alloc, &program.decls, uses)?;
+    over_declared(alloc, program, uses, &declared)
+}
+
+/// Goes over a program whose declarations say this.
+fn over_declared(
+    alloc: Global,
+    program: &Program,
+    uses: &[Use],
+    declared: &Declared,
+) -> Result<Passed, NoMemory>
+    requires statements { statements_count (program_tree program.now).body < 2 ^ 32 }
+    requires references { length (references (program_tree program.now)) < 2 ^ 32 }
+    requires uses { uses.now ≡ (declared_in (program_tree program.now).decls).uses }
+    requires declared { Knows declared.now (declared_in (program_tree program.now).decls) }
+    ensures { IfOk result (HasPassed program.now.lines.items (program_tree program.now)) }
+{
+    let until_many_pairs = until_many_pairs(alloc, program)?;
     let mut held = Held::nothing(alloc);
-    let found = Found {
-        first: None,
-        lines: &program.lines,
-        until_many_pairs: until_many_pairs(alloc, program)?,
-    };
-    let found = declarations(alloc, &declared, &mut held, found, &program.decls)?;
-    let (first, kinds) = in_body(alloc, &declared, &held, &uses, found, &program.body)?;
+    let (first, kinds) = over_sites(alloc, program, uses, declared, until_many_pairs, &mut held)?;
     Ok(Passed {
         first,
         kinds,
         consts: held.consts,
     })
+}
+
+/// Goes over the sites of a program, of which nothing is held yet: its first refusal, and its names with what they
+/// stand for.
+fn over_sites(
+    alloc: Global,
+    program: &Program,
+    uses: &[Use],
+    declared: &Declared,
+    until_many_pairs: Option<u32>,
+    held: &mut Held,
+) -> Result<(Option<Refusal>, NameTable<Kind>), NoMemory>
+    requires uses { uses.now ≡ (declared_in (program_tree program.now).decls).uses }
+    requires declared { Knows declared.now (declared_in (program_tree program.now).decls) }
+    requires until { CountsTo (references (program_tree program.now)) 0 until_many_pairs }
+    requires held { Holds held.old at_first }
+    ensures { IfOk result (λ r. HasPassed program.now.lines.items (program_tree program.now) (record { first = r.0; kinds = r.1; consts = held.new.consts })) }
+{
+    let found = Found {
+        first: None,
+        lines: &program.lines,
+        until_many_pairs,
+    };
+    let found = declarations(alloc, declared, held, found, &program.decls)?;
+    in_body(alloc, declared, held, uses, found, &program.body)
 }
 
 /// Goes over the statements of a program, whose declarations have these uses of names.
@@ -177,7 +227,24 @@ fn in_body(
         arrays: &held.arrays,
     };
     let mut kinds = NameTable::new(alloc);
-    known.keep_kinds(&mut kinds, uses)?;
-    let found = statements(alloc, &known, &mut kinds, found, body)?;
-    Ok((found.first, kinds))
+    let first = with_names(alloc, &known, &mut kinds, uses, found, body)?;
+    Ok((first, kinds))
+}
+
+/// Adds the names that are used in declarations and those in statements, and finds the first refusal.
+fn with_names(
+    alloc: Global,
+    known: &Known,
+    kinds: &mut NameTable<Kind>,
+    uses: &[Use],
+    found: Found,
+    body: &[Stmt],
+) -> Result<Option<Refusal>, NoMemory>
+    ensures refusal { IfOk result (λ first. (d : Plain.Declared) → Knows known.now.declared.now d → (refs : List Reference) → (b : Before) → Stands known.now refs found.entry b →
+        found_of first ≡ first_with d refs b found.entry (stmts_sites (stmt_trees body.now))) }
+    ensures names { OnOk result (kinds.new.entries.entries ≡ with_kinds (kind_with known.now) kinds.old.entries.entries (map (λ u. u.name) uses.now ++ names_at (stmts_sites (stmt_trees body.now)))) }
+{
+    known.keep_kinds(kinds, uses)?;
+    let found = statements(alloc, known, kinds, found, body)?;
+    Ok(found.first)
 }

@@ -1,17 +1,17 @@
 -- Each use of a name in a valid program is one that a name of its kind may have.
-use Rattle.std.proofs.Common.{◌≡◌, ℕ, zero, suc, ◌≤◌, ℤ, List, [], ◌∷◌, length, map, Bool, true, false, Option, Some, None, refl, ap, sym, ◌∙◌, arith, if◌then◌else◌}
+use Rattle.std.proofs.Common.{◌≡◌, ℕ, zero, suc, ◌≤◌, ℤ, List, [], ◌∷◌, length, map, ◌++◌, Bool, true, false, Option, Some, None, refl, ap, sym, ◌∙◌, arith, if◌then◌else◌}
 use Rattle.std.specs.Prelude.{◌&&◌, ◌||◌, ◌==◌, nat_lt}
 use Rattle.std.specs.List.{list_any, list_all}
 use Rattle.std.proofs.lemmas.Bool.{or_parts, or_right, and_parts, and_from, eqb-true, leb-true, lt-ltb, not-false}
 use Rattle.ped_base.specs.Dimensions.{Dimensions}
 use Rattle.ped_base.specs.Lists.{is_same_text, is_among}
-use Rattle.ped_tree.proofs.NameLaws.NameEquality.{same_itself as same_text}
+use Rattle.ped_tree.proofs.NameLaws.NameEquality.{same_is, same_itself as same_text}
 use Rattle.ped_symbols.specs.declared.uses.Role.{Role}
 use Rattle.ped_symbols.specs.declared.uses.Role.TheVariants.{Typed, Dimensioned, Named, Saved, Rejected, Private, Index, Assigned, Operand}
 use Rattle.ped_symbols.specs.declared.uses.Use.{Use}
 use Rattle.ped_symbols.specs.declared.symbols.Kind.{Kind}
 use Rattle.ped_symbols.specs.Entries.{entry_of}
-use Rattle.ped_symbols.specs.Declarations.{Declared, is_constant, or_zero, rank_of}
+use Rattle.ped_symbols.specs.Declarations.{Declared, is_constant, or_zero, rank_by, ranks_in, given_rank, rank_of}
 use Rattle.ped_symbols.specs.Values.{Values}
 use Rattle.ped_symbols.specs.Arrays.{Arrays}
 use Rattle.ped_symbols.specs.NameRefusals.{uses_constant, uses_other_rank, differs}
@@ -41,6 +41,7 @@ use_is_right k u = role_is_right u.role (k u.name)
 -- what is known of constants and arrays by the declarations
 pub record Known (d : Declared) (values : Values) (arrays : Arrays) : Type 0 where
   pub constants : (x : List ℕ) → is_constant d x ≡ false → entry_of values x ≡ None
+  pub unused : list_any (uses_constant d) d.uses ≡ false
   pub told : Tells d.uses arrays
 
 -- the number of dimensions of an array, where there is one
@@ -67,8 +68,39 @@ found_right (a ∷ rest) x d h k =
     go true p f k = let same : a.1 ≡ d = cc in ap array_is_right (sym same) ∙ p
     go false p f k = f k
 
-rank_is : (d : Declared) (arrays : Arrays) (x : List ℕ) → Tells d.uses arrays → rank_of d x ≡ or_zero (rank_in (entry_of arrays x))
-rank_is d arrays x t = ap (λ (es : List (List ℕ × ℕ)). or_zero (entry_of es x)) (sym t.ranks) ∙ ap or_zero (rank_found arrays x)
+ungiven_by : (d : Declared) (x y : List ℕ) (role : Role) (rest : List (List ℕ × ℕ)) → is_constant d x ≡ true → uses_constant d (record { name = y; role = role }) ≡ false → entry_of rest x ≡ None
+    → entry_of (rank_by y role ++ rest) x ≡ None
+ungiven_by d x y Typed rest e n h = h
+ungiven_by d x y (Dimensioned count) rest e n h = go (is_same_text x y) refl
+  where
+    go : (r : Bool) → is_same_text x y ≡ r → (if r then Some count else entry_of rest x) ≡ None
+    go true same = absurd (let clash : true ≡ false = sym e ∙ ap (is_constant d) (same_is x y same) ∙ n in cc)
+    go false same = h
+ungiven_by d x y Named rest e n h = h
+ungiven_by d x y Saved rest e n h = h
+ungiven_by d x y Rejected rest e n h = h
+ungiven_by d x y Private rest e n h = h
+ungiven_by d x y Index rest e n h = h
+ungiven_by d x y (Assigned count) rest e n h = h
+ungiven_by d x y (Operand count) rest e n h = h
+
+-- uses that use no constant as a variable give a constant no dimensions
+ungiven : (d : Declared) (us : List Use) (x : List ℕ) → is_constant d x ≡ true → list_any (uses_constant d) us ≡ false → entry_of (ranks_in us) x ≡ None
+ungiven d [] x e n = refl
+ungiven d (u ∷ us) x e n =
+    let p = or_parts (uses_constant d u) (list_any (uses_constant d) us) n in
+    ungiven_by d x u.name u.role (ranks_in us) e p.0 (ungiven d us x e p.1)
+
+-- so each name has as many dimensions as declarations give it
+as_given : (d : Declared) (x : List ℕ) → list_any (uses_constant d) d.uses ≡ false → rank_of d x ≡ given_rank d.uses x
+as_given d x n = go (is_constant d x) refl
+  where
+    go : (r : Bool) → is_constant d x ≡ r → (if r then 0 else given_rank d.uses x) ≡ given_rank d.uses x
+    go true e = ap or_zero (sym (ungiven d d.uses x e n))
+    go false e = refl
+
+rank_is : (d : Declared) (arrays : Arrays) (x : List ℕ) → list_any (uses_constant d) d.uses ≡ false → Tells d.uses arrays → rank_of d x ≡ or_zero (rank_in (entry_of arrays x))
+rank_is d arrays x n t = as_given d x n ∙ ap (λ (es : List (List ℕ × ℕ)). or_zero (entry_of es x)) (sym t.ranks) ∙ ap or_zero (rank_found arrays x)
 
 as_many : (lower upper : List ℤ) → bounds_are_right lower upper ≡ true → length upper ≡ length lower
 as_many [] [] h = refl
@@ -82,7 +114,7 @@ record Finds (d : Declared) (x : List ℕ) (found : Option Dimensions) : Type 0 
   right : (a : Dimensions) → found ≡ Some a → array_is_right a ≡ true
 
 finds : (d : Declared) (values : Values) (arrays : Arrays) → Known d values arrays → (x : List ℕ) → Finds d x (entry_of arrays x)
-finds d values arrays k x = record { rank = rank_is d arrays x k.told; right = λ a e. found_right arrays x a k.told.right e }
+finds d values arrays k x = record { rank = rank_is d arrays x k.unused k.told; right = λ a e. found_right arrays x a k.told.right e }
 
 at_least_one : (a : Dimensions) → array_is_right a ≡ true → 1 ≤ length a.lower
 at_least_one a h = leb-true 1 (length a.lower) (and_parts _ _ (and_parts _ _ h).0).0

@@ -3,9 +3,8 @@ use Rattle.std.proofs.Common.{◌≡◌, ℕ, ◌+◌, ◌≤◌, List, [], ◌�
 use Rattle.std.specs.Prelude.{nat_lt}
 use Rattle.std.specs.List.{list_any, flat_map}
 use Rattle.std.proofs.lemmas.Bool.{and_parts, or_parts, ltb-false}
-use Rattle.std.proofs.lemmas.Grind.{flat_map-append}
 use Rattle.ped_base.specs.Lists.{is_among}
-use Rattle.ped_tree.specs.Tree.{DeclTree, Program, Implicit, Integer, Dimension, Parameter, Save, Remark, ProgramTree}
+use Rattle.ped_tree.specs.Tree.{DeclTree, ProgramTree}
 use Rattle.ped_tree.specs.Accesses.{constant_names}
 use Rattle.ped_tree.specs.Constants.NamedConstants.{value_named}
 use Rattle.ped_tree.specs.Grammar.LimitNumbers.{most_loops_nested}
@@ -18,10 +17,11 @@ use Rattle.ped_symbols.specs.Sites.{Site, decl_sites, stmts_sites, program_sites
 use Rattle.ped_symbols.specs.Values.{Values, site_fails}
 use Rattle.ped_symbols.specs.Arrays.{Arrays}
 use Rattle.ped_symbols.specs.StorageLimits.{most_elements_together, elements_of, has_large, have_many_elements}
-use Rattle.ped_symbols.specs.NameRefusals.{at_first, behind_sites, IsValid}
+use Rattle.ped_symbols.specs.NameRefusals.{uses_constant, at_first, behind_sites, IsValid}
 use Rattle.ped_symbols.specs.Kinds.{kind_among, kind_of, at_last, names_at, names_of, kind_in}
 use Rattle.ped_symbols.specs.RightUses.RightLoops.{loops_deep}
 use Rattle.ped_symbols.specs.RightUses.RightPrograms.{IsRight}
+use Rattle.ped_symbols.proofs.Collected.{decls_uses}
 use Rattle.ped_symbols.proofs.RightUseLaws.Quiet.{AreQuiet, all_quiet, quiet_front, quiet_back, behind_append, no_constant_used, no_other_rank, few_elements, said, said_stays, none_fails, stmts_declare_nothing}
 use Rattle.ped_symbols.proofs.RightUseLaws.Occurring.{among_first, once_first, occurs_first}
 use Rattle.ped_symbols.proofs.RightUseLaws.Constants.{none_named}
@@ -49,6 +49,8 @@ last_said t = ap said (behind_append at_first (first_sites t) (stmts_sites t.bod
 known : (t : ProgramTree) → IsValid t → Known (declared_in t.decls) (at_last t).values (at_last t).arrays
 known t v = subst (λ (s : Values × Arrays). Known (declared_in t.decls) s.0 s.1) (sym (last_said t)) (record {
   constants = λ x n. none_named at_first t.decls x n refl;
+  unused = ap (list_any (uses_constant (declared_in t.decls))) (sym (decls_uses t.decls))
+      ∙ no_constant_used (declared_in t.decls) (references t) at_first (first_sites t) (quiet_front (declared_in t.decls) (references t) at_first (first_sites t) (stmts_sites t.body) (quiet t v));
   told = arrays_told (declared_in t.decls) (references t) at_first 0 t.decls [] (quiet_front (declared_in t.decls) (references t) at_first (first_sites t) (stmts_sites t.body) (quiet t v)) (parts t v).0
       (record { ranks = refl; right = refl });
 })
@@ -61,20 +63,6 @@ uses : (t : ProgramTree) → IsValid t → all_right (kind_in t) (flat_map site_
 uses t v = uses_right (declared_in t.decls) (at_last t).values (at_last t).arrays (known t v) (kind_in t) (flat_map site_uses (program_sites t)) (kind_there t)
     (no_constant_used (declared_in t.decls) (references t) at_first (program_sites t) (quiet t v))
     (no_other_rank (declared_in t.decls) (references t) at_first (program_sites t) (quiet t v))
-
-own_decl : (d : DeclTree) → flat_map site_uses (decl_sites d) ≡ decl_uses d
-own_decl (Program x) = refl
-own_decl Implicit = refl
-own_decl (Integer ds) = append-nil (decl_uses (Integer ds))
-own_decl (Dimension ds) = append-nil (decl_uses (Dimension ds))
-own_decl (Parameter values) = append-nil (decl_uses (Parameter values))
-own_decl (Save names) = append-nil (decl_uses (Save names))
-own_decl (Remark text) = refl
-
--- the uses at the sites of declarations are theirs
-decls_uses : (ds : List DeclTree) → flat_map site_uses (flat_map decl_sites ds) ≡ flat_map decl_uses ds
-decls_uses [] = refl
-decls_uses (d ∷ ds) = flat_map-append site_uses (decl_sites d) (flat_map decl_sites ds) ∙ (λ i. own_decl d i ++ decls_uses ds i)
 
 saved : (t : ProgramTree) → IsValid t → all_right (kind_in t) (flat_map decl_uses t.decls) ≡ true
 saved t v = ap (all_right (kind_in t)) (sym (decls_uses t.decls)) ∙ sites_in_front (kind_in t) (first_sites t) (stmts_sites t.body) (uses t v)

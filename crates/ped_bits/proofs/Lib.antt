@@ -1,4 +1,5 @@
 mod Bits
+mod LaneWords
 mod Merging
 mod Relations
 mod Values

@@ -2,9 +2,11 @@
 //! one truth value for each place, and a matrix as its rows.
 #![tactic(auto)]
 
+mod lanes;
 mod rows;
 mod square;
 mod words;
 
+pub use lanes::{and_not_lanes, is_subset_lanes, meets_lanes, or_lanes};
 pub use rows::Row;
 pub use square::Matrix;

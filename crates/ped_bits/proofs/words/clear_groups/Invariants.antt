@@ -1,0 +1,10 @@
+use Rattle.std.proofs.Common.{◌≡◌, ℕ, ◌*◌, ◌<◌, ◌≤◌, bit_and, w64}
+use Rattle.std.specs.Int.{bit_not}
+use Rattle.ped_bits.specs.Words.{word}
+use Rattle.ped_bits.proofs.words.clear_groups.Given as goal
+
+abbrev pub invariant-loop-group : goal.invariant-loop-group
+invariant-loop-group l = record {
+  done : (j : ℕ) → j < 8 * l.group → word l.target j ≡ bit_and (word l.initial.target j) (bit_not w64 (word l.source j));
+  left : (j : ℕ) → 8 * l.group ≤ j → word l.target j ≡ word l.initial.target j;
+}

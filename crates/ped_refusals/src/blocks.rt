@@ -411,6 +411,6 @@ fn end_if(blocks: &mut Vec<Block>)
 {
     leave_in_if(blocks);
     if !is_in_do(blocks) {
-        close_innermost(blocks);
+        drop(close_innermost(blocks));
     }
 }

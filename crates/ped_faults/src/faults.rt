@@ -1,13 +1,12 @@
 //! Calls of `ped_main` over shelves and sinks in memory.
 
-ghost use Rattle.std.specs.Prelude.{◌≡◌, ◌<◌};
+ghost use Rattle.std.specs.Prelude.{◌≤◌, IfSome};
 
 use ped_answer::{Status, answer_surely, ped_main};
-use ped_base::NoMemory;
 use ped_io::{Calls, Files, MemShelf, MemSink, SureShelf, SureSink};
 use ped_verdict::Steps;
 use std::alloc::Global;
-use std::sync::ledger::{Blank, Ledger};
+use std::sync::ledger::Ledger;
 
 /// What a sink has taken in a call, and how the call ended.
 #[derive(Drop)]
@@ -21,16 +20,11 @@ pub fn surely<L: Ledger>(
     alloc: Global,
     files: Files,
     words: &[String],
-    blank: Blank,
-) -> Option<Ending>
-    requires name { blank.name ≡ L.name }
-    requires parts { blank.parts ≡ L.parts }
-    requires some { 0 < L.parts }
-{
-    let mut steps = Steps::<L>::new(blank);
+    steps: &mut Steps<L>,
+) -> Option<Ending> {
     let mut shelf = SureShelf::new(alloc, files).ok()?;
     let mut sink = SureSink::new(alloc).ok()?;
-    let status = answer_surely(alloc, words, &mut shelf, &mut sink, &mut steps);
+    let status = answer_surely(alloc, words, &mut shelf, &mut sink, steps);
     with_taken(alloc, status, sink.taken())
 }
 
@@ -41,28 +35,37 @@ pub fn failing<L: Ledger>(
     files: Files,
     faults: [&String; 4],
     words: &[String],
-    blank: Blank,
-) -> Option<Ending>
-    requires name { blank.name ≡ L.name }
-    requires parts { blank.parts ≡ L.parts }
-    requires some { 0 < L.parts }
-{
-    let mut steps = Steps::<L>::new(blank);
+    steps: &mut Steps<L>,
+) -> Option<Ending> {
     let [read, reads, write, writes] = faults;
-    let read = read.parse::<usize>().ok()?;
-    let write = write.parse::<usize>().ok()?;
-    if read == 0 || write == 0 {
-        return None;
-    }
-    let mut shelf = MemShelf::new(alloc, files, calls(alloc, reads.as_str())?, read).ok()?;
-    let mut sink = MemSink::new(alloc, calls(alloc, writes.as_str())?, write).ok()?;
-    let status = ped_main(alloc, words, &mut shelf, &mut sink, &mut steps);
+    let mut sink = sink(alloc, write.as_str(), writes.as_str())?;
+    let mut shelf = shelf(alloc, files, read.as_str(), reads.as_str())?;
+    let status = ped_main(alloc, words, &mut shelf, &mut sink, steps);
     with_taken(alloc, status, sink.taken())
 }
 
-fn with_taken(alloc: Global, status: Status, taken: &[u8]) -> Option<Ending> {
-    let taken = String::from_utf8_lossy(alloc, taken).ok()?;
-    Some(Ending { status, taken })
+/// A shelf whose reads give at most so many bytes, and of which these calls fail.
+fn shelf(alloc: Global, files: Files, most: &str, fails: &str) -> Option<MemShelf> {
+    let most = positive(most)?;
+    let fails = calls(alloc, fails)?;
+    MemShelf::new(alloc, files, fails, most).ok()
+}
+
+/// A sink whose writes take at most so many bytes, and of which these calls fail.
+fn sink(alloc: Global, most: &str, fails: &str) -> Option<MemSink> {
+    let most = positive(most)?;
+    let fails = calls(alloc, fails)?;
+    MemSink::new(alloc, fails, most).ok()
+}
+
+/// A number that isn't 0.
+fn positive(digits: &str) -> Option<usize>
+    ensures { IfSome result (λ n. 1 ≤ n) }
+{
+    match digits.parse::<usize>() {
+        Ok(n) if n > 0 => Some(n),
+        _ => None,
+    }
 }
 
 /// The numbers of calls, which count from 1, with commas between them; so `0` is none.
@@ -72,4 +75,9 @@ fn calls(alloc: Global, numbers: &str) -> Option<Calls> {
         calls.push(number.parse::<u64>().ok()?).ok()?;
     }
     Some(calls)
+}
+
+fn with_taken(alloc: Global, status: Status, taken: &[u8]) -> Option<Ending> {
+    let taken = String::from_utf8_lossy(alloc, taken).ok()?;
+    Some(Ending { status, taken })
 }

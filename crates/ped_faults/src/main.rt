@@ -10,6 +10,7 @@ mod files;
 
 use faults::{Ending, failing, surely};
 use files::files_of;
+use ped_verdict::Steps;
 use std::env::Env;
 use std::marker::Brand;
 use std::process::ExitCode;
@@ -39,10 +40,11 @@ fn answered<L: Ledger, R: Env + Files + AllocGlobal>(rt: &R, blank: Blank) -> Op
     let alloc = rt.alloc();
     let words: Vec<String> = env::args(rt).ok()?.skip(1).collect(alloc).ok()?;
     let files = files_of(rt, &words).ok()?;
+    let mut steps = Steps::<L>::new(blank);
     match words.as_slice() {
-        [first, rest @ ..] if first.as_str() == "sure" => surely::<L>(alloc, files, rest, blank),
+        [first, rest @ ..] if first.as_str() == "sure" => surely(alloc, files, rest, &mut steps),
         [read, reads, write, writes, rest @ ..] => {
-            failing::<L>(alloc, files, [read, reads, write, writes], rest, blank)
+            failing(alloc, files, [read, reads, write, writes], rest, &mut steps)
         }
         _ => None,
     }

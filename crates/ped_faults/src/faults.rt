@@ -38,21 +38,21 @@ pub fn failing<L: Ledger>(
     steps: &mut Steps<L>,
 ) -> Option<Ending> {
     let [read, reads, write, writes] = faults;
-    let mut sink = sink(alloc, write.as_str(), writes.as_str())?;
-    let mut shelf = shelf(alloc, files, read.as_str(), reads.as_str())?;
+    let mut sink = failing_sink(alloc, write.as_str(), writes.as_str())?;
+    let mut shelf = failing_shelf(alloc, files, read.as_str(), reads.as_str())?;
     let status = ped_main(alloc, words, &mut shelf, &mut sink, steps);
     with_taken(alloc, status, sink.taken())
 }
 
 /// A shelf whose reads give at most so many bytes, and of which these calls fail.
-fn shelf(alloc: Global, files: Files, most: &str, fails: &str) -> Option<MemShelf> {
+fn failing_shelf(alloc: Global, files: Files, most: &str, fails: &str) -> Option<MemShelf> {
     let most = positive(most)?;
     let fails = calls(alloc, fails)?;
     MemShelf::new(alloc, files, fails, most).ok()
 }
 
 /// A sink whose writes take at most so many bytes, and of which these calls fail.
-fn sink(alloc: Global, most: &str, fails: &str) -> Option<MemSink> {
+fn failing_sink(alloc: Global, most: &str, fails: &str) -> Option<MemSink> {
     let most = positive(most)?;
     let fails = calls(alloc, fails)?;
     MemSink::new(alloc, fails, most).ok()

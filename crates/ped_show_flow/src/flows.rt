@@ -3,6 +3,7 @@
 ghost use Rattle.std.specs.Prelude.{◌+◌, ◌<◌, ◌^◌};
 ghost use Rattle.ped_tree.specs.Views.{program_tree};
 ghost use Rattle.ped_tree.specs.Numbering.{statements_count};
+ghost use Rattle.ped_symbols.specs.NameRefusals.{IsValid};
 
 use crate::rows::rows_of;
 use ped_base::NoMemory;
@@ -14,7 +15,10 @@ use std::alloc::Global;
 /// The rows of the program of a text; none for a text that is refused, or where memory runs out.
 pub fn shown(alloc: Global, text: &[u8]) -> Option<String> {
     match open_program(alloc, text) {
-        Ok(opened) => rows_of(alloc, &opened.program, &opened.symbols).ok(),
+        Ok(opened) => {
+            is_small(&opened.program);
+            rows_of(alloc, &opened.program, &opened.symbols).ok()
+        }
         Err(_) => None,
     }
 }
@@ -25,12 +29,19 @@ pub fn made(alloc: Global, text: &[u8], times: &str) -> Option<String> {
     let times = times.parse::<u64>().ok()?;
     match open_program(alloc, text) {
         Ok(opened) => {
+            is_small(&opened.program);
             make(alloc, &opened.program, times).ok()?;
             Some(String::new(alloc))
         }
         Err(_) => None,
     }
 }
+
+/// A valid program has so few statements that their numbers have 32 bits.
+fn is_small(program: &Program)
+    requires valid { IsValid (program_tree program.now) }
+    ensures { statements_count (program_tree program.now).body + 1 < 2 ^ 32 }
+{}
 
 fn make(alloc: Global, program: &Program, times: u64) -> Result<(), NoMemory>
     requires { statements_count (program_tree program.now).body + 1 < 2 ^ 32 }

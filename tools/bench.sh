@@ -1,54 +1,20 @@
 #!/usr/bin/env bash
-# Measures how long `statements` of ped_lines takes to cut a program into statements, per byte, and how
-# much memory it has at its peak, on programs of 64 KiB, 256 KiB and 1 MiB; how long `source_pane` of
-# ped_print takes, per byte of the pane, on programs of 250, 1,000 and 4,000 statements; how long
-# `symbols_of` of ped_symbols takes, per statement, on programs of 1,000 and 4,000 statements with as many names; how long
-# `commands` of ped_script takes, per byte, on scripts of up to 1 MiB; how long `flow_of` of ped_flow takes, and how
-# much memory, and how long the questions take, for 1,000 scalars of a loop; how long a call of each dependence test
-# takes; how long `run_in_order` of ped_eval takes for an assignment in loops, over an array and over a scalar, from
-# 10^4 to 10^7 of them, and how much memory a store of 2^20 elements takes; how long `races` of ped_order takes for an
-# access, and how much memory, at 10^5 and 10^6 of them; how long `ped show` takes, and how much memory, on programs
-# of 64 KiB, 256 KiB and 1 MiB that are read; how long it takes for each pair of references, and how much memory, on
-# nests of two and of six loops, up to the limit of pairs; how much stack it needs on programs at the limits of the
-# language; and how long an edit, a step back and a step forward take in `ped session`, and how much memory a change
-# keeps. It is no part of the gate, and needs GNU time and awk. docs/PERFORMANCE.md says how to read the figures.
+# Measures how long `ped show` takes, and how much memory, on programs of 64 KiB, 256 KiB and 1 MiB that are read; how long
+# it takes for each pair of references, and how much memory, on nests of two and of six loops, up to the limit of pairs;
+# how much stack it needs on programs at the limits of the language; how long `ped session` takes for the bytes of a
+# script, for an edit, a step back and a step forward, and how much memory a change keeps; how long `run` takes for an
+# assignment in loops, over an array and over a scalar, from 10^4 to 10^7 of them, and how much memory a store of 2^20
+# elements takes; how long `races` takes for an access, and how much memory, at 10^5 and 10^6 of them; and how long the
+# flow of scalars takes to be made, and how much memory, and the questions about it, by the program of crate
+# ped_show_flow. It is no part of the gate, and needs GNU time and awk. docs/PERFORMANCE.md says how to read the figures.
 #
 # usage: tools/bench.sh [RUNS]      of so many runs (5 where it isn't said) the least counts
 set -eu
 cd -- "$(dirname -- "${BASH_SOURCE[0]}")/.."
 runs=${1:-5}
-program=$PWD/crates/ped_bench/out/ped_bench
 
 work=$(mktemp -d)
 trap 'rm -rf -- "$work"' EXIT
-
-# A program of stencil sweeps with no more bytes than this. Its lines have some 30 bytes each.
-stencil() {
-    awk -v size="$1" '
-        function put(line) { text = text line "\n" }
-        BEGIN {
-            head = "      PROGRAM SWEEPS\n      INTEGER A(512,512), B(512,512)\n"
-            end = "      END\n"
-            printf "%s", head
-            total = length(head) + length(end)
-            for (label = 10; ; label += 20) {
-                text = ""
-                put("C     One sweep of the five-point stencil.")
-                put(sprintf("      DO %d J = 2, 511", label + 10))
-                put(sprintf("        DO %d I = 2, 511", label))
-                put("          A(I,J) = (B(I-1,J) + B(I+1,J) +")
-                put("     &              B(I,J-1) + B(I,J+1))/4")
-                put(sprintf("%5d   CONTINUE", label))
-                put(sprintf("%5d CONTINUE", label + 10))
-                put("      PRINT *, '\''centre'\'', A(256,256)")
-                total += length(text)
-                if (total > size) { break }
-                printf "%s", text
-            }
-            printf "%s", end
-        }
-    '
-}
 
 # A program of loops with no more bytes than this, of which each statement has four comments before it, so
 # that one of 1 MiB has fewer than 4,000 statements.
@@ -165,112 +131,68 @@ least_show() {
     printf '%s\n' "$best"
 }
 
-# The least of the runs' sums of what GNU time writes in this format, for a work done so many times.
-least() {
+# The least of the runs' sums of what GNU time writes in this format, for a session of a script on a program.
+least_session() {
     local best='' i
     for ((i = 0; i < runs; i++)); do
-        command time -f "$1" -o "$work/figure" "$program" "$2" "$3" "$4" >/dev/null
+        command time -f "$1" -o "$work/figure" "$ped" session "$2" "$3" >/dev/null || true
         best=$(awk -v best="$best" '{ sum = $1 + $2; print (best == "" || sum < best) ? sum : best }' "$work/figure")
     done
     printf '%s\n' "$best"
 }
 
-# `rt run` proves and builds the program and runs it without words, which it answers by its usage line.
-answer=$(cd crates/ped_bench && rt run </dev/null 2>"$work/build.log") || true
+# The same for the flow of scalars in a program: for making it so many times, or for its rows.
+least_flow() {
+    local best='' i format=$1
+    shift
+    for ((i = 0; i < runs; i++)); do
+        command time -f "$format" -o "$work/figure" "$flow" "$@" >/dev/null
+        best=$(awk -v best="$best" '{ sum = $1 + $2; print (best == "" || sum < best) ? sum : best }' "$work/figure")
+    done
+    printf '%s\n' "$best"
+}
+
+# The launcher proves and builds ped where that hasn't been done. What starting it takes is left out: it is the
+# time of showing a small file.
+./ped show examples/recurrence.f >/dev/null
+# shellcheck source=tools/program.sh
+. "$PWD/tools/program.sh"
+ped=$(program_of "$(sources_sum)")
+
+# `rt run` proves and builds ped_show_flow and runs it without words, which it answers by its usage line.
+flow=$PWD/crates/ped_show_flow/out/ped_show_flow
+answer=$(cd crates/ped_show_flow && rt run </dev/null 2>"$work/build.log") || true
 case $answer in
-    "usage: ped_bench "*) ;;
+    "usage: ped_show_flow "*) ;;
     *)
         tail -n 20 "$work/build.log" >&2
-        echo "bench: ped_bench isn't proved or wasn't built" >&2
+        echo "bench: ped_show_flow isn't proved or wasn't built" >&2
         exit 1
         ;;
 esac
 
 printf 'processors: %s\n' "$(nproc)"
-printf '%10s %10s %10s %12s\n' bytes statements ns/byte memory/text
-for kib in 64 256 1024; do
-    file=$work/$kib.f
-    stencil "$((kib * 1024))" >"$file"
-    bytes=$(wc -c <"$file")
-    times=$((65536 / kib))
-    count=$("$program" cut "$file" 1)
-    # What the program does beside cutting, such as reading the file, it does for no cuttings, too.
-    awk -v bytes="$bytes" -v count="${count#cut }" -v times="$times" \
-        -v seconds="$(least '%U %S' cut "$file" "$times")" -v no_seconds="$(least '%U %S' cut "$file" 0)" \
-        -v peak="$(least %M cut "$file" 1)" -v no_peak="$(least %M cut "$file" 0)" 'BEGIN {
-            time = (seconds - no_seconds) * 1e9 / times / bytes
-            memory = (peak - no_peak) * 1024 / bytes
-            printf "%10d %10d %10.2f %12.2f\n", bytes, count, time, memory
-        }' | tee -a "$work/figures"
-done
-awk '{ if (NR == 1 || $3 < least) least = $3; if ($3 > most) most = $3 }
-    END { printf "greatest to least time per byte: %.2f\n", most / least }' "$work/figures"
 
-printf '\n%10s %10s %10s\n' statements bytes ns/byte
-rm -f -- "$work/figures"
-for statements in 250 1000 4000; do
-    times=$((400000 / statements))
-    bytes=$("$program" print "$statements" 1)
-    awk -v bytes="${bytes#print }" -v statements="$statements" -v times="$times" \
-        -v seconds="$(least '%U %S' print "$statements" "$times")" \
-        -v no_seconds="$(least '%U %S' print "$statements" 0)" 'BEGIN {
-            time = (seconds - no_seconds) * 1e9 / times / bytes
-            printf "%10d %10d %10.2f\n", statements, bytes, time
-        }' | tee -a "$work/figures"
-done
-awk '{ if (NR == 1 || $3 < least) least = $3; if ($3 > most) most = $3 }
-    END { printf "greatest to least time per byte: %.2f\n", most / least }' "$work/figures"
-
-printf '\n%10s %10s %12s\n' statements names ns/statement
-rm -f -- "$work/figures"
-for statements in 1000 4000; do
-    times=$((4000000 / statements))
-    names=$("$program" names "$statements" 1)
-    awk -v names="${names#names }" -v statements="$statements" -v times="$times" \
-        -v seconds="$(least '%U %S' names "$statements" "$times")" \
-        -v no_seconds="$(least '%U %S' names "$statements" 0)" 'BEGIN {
-            time = (seconds - no_seconds) * 1e9 / times / statements
-            printf "%10d %10d %12.2f\n", statements, names, time
-        }' | tee -a "$work/figures"
-done
-awk '{ if (NR == 1 || $3 < least) least = $3; if ($3 > most) most = $3 }
-    END { printf "greatest to least time per statement: %.2f\n", most / least }' "$work/figures"
-
-# Commands of each kind, again and again, with no more bytes than this; and one edit with so many bytes of text.
+# Commands of each kind, again and again, with no more bytes than this. On a program of END alone each is answered at once.
 all_commands() {
     awk -v size="$1" 'BEGIN {
         text = "source\ndeps\ndeps 3\nshow\nprint\nadvise 2\nreplace 1 2\n      K = 1\n.\ninsert 4\n      K = 2\n      K = 3\n.\n"
         text = text "delete 1 2\ninterchange 1\nreverse 1\nskew 1 -2\nstrip 1 16\npeel 1 first\npeel 1 last\ndistribute 1\n"
-        text = text "fuse 1\nexpand 1 T\nprivatise 1 T\nparallel 1\nserial 1\nreject 1 A\nundo\nredo\nrun 1 2 3\nraces\ntested\n"
+        text = text "fuse 1\nexpand 1 T\nprivatise 1 T\nparallel 1\nserial 1\nreject 1 A\nundo\nredo\nraces\n"
         for (total = length(text); total <= size; total += length(text)) printf "%s", text
     }'
 }
-one_edit() {
-    awk -v size="$1" 'BEGIN {
-        line = "          A(I,J) = A(I-1,J)+A(I,J-1)\n"
-        printf "replace 1 1\n"
-        for (total = length(line); total <= size; total += length(line)) printf "%s", line
-        printf ".\n"
-    }'
-}
-printf '\n%14s %10s %10s %10s\n' script bytes items ns/byte
-rm -f -- "$work/figures"
-while read -r kind size; do
-    "$kind" "$size" >"$work/script"
-    times=$((67108864 / size))
+printf '      END\n' >"$work/nothing.f"
+: >"$work/no-script"
+printf '\n%10s %10s\n' script ns/byte
+for kib in 64 256 1024; do
+    all_commands "$((kib * 1024))" >"$work/script"
     bytes=$(wc -c <"$work/script")
-    items=$("$program" script "$work/script" 1)
-    awk -v kind="$kind" -v bytes="$bytes" -v items="${items#script }" -v times="$times" \
-        -v seconds="$(least '%U %S' script "$work/script" "$times")" \
-        -v no_seconds="$(least '%U %S' script "$work/script" 0)" 'BEGIN {
-            printf "%14s %10d %10d %10.2f\n", kind, bytes, items, (seconds - no_seconds) * 1e9 / times / bytes
+    awk -v bytes="$bytes" -v seconds="$(least_session '%U %S' "$work/nothing.f" "$work/script")" \
+        -v no_seconds="$(least_session '%U %S' "$work/nothing.f" "$work/no-script")" 'BEGIN {
+            printf "%10d %10.1f\n", bytes, (seconds - no_seconds) * 1e9 / bytes
         }'
-done <<'END'
-all_commands 65536
-all_commands 262144
-all_commands 1048576
-one_edit 921600
-END
+done
 
 # So many statements with 1,000 scalars, in one loop or in six, where each group has an IF that assigns one scalar in either part.
 flows() {
@@ -284,40 +206,22 @@ flows() {
         print "      END"
     }'
 }
-printf '\n%10s %10s %12s %10s %12s\n' loops statements ms/flow_of MiB ms/1000
+printf '\n%10s %10s %12s %10s %12s\n' loops statements ms/flow_of MiB ms/rows
 while read -r loops statements times; do
     flows "$loops" "$statements" >"$work/flows.f"
     awk -v loops="$loops" -v statements="$statements" -v times="$times" \
-        -v made="$(least '%U %S' flow_of "$work/flows.f" "$times")" \
-        -v none_made="$(least '%U %S' flow_of "$work/flows.f" 0)" \
-        -v peak="$(least %M flow_of "$work/flows.f" 1)" -v no_peak="$(least %M flow_of "$work/flows.f" 0)" \
-        -v asked="$(least '%U %S' flow "$work/flows.f" "$times")" \
-        -v none_asked="$(least '%U %S' flow "$work/flows.f" 0)" 'BEGIN {
+        -v made="$(least_flow '%U %S' "$work/flows.f" "$times")" \
+        -v none_made="$(least_flow '%U %S' "$work/flows.f" 0)" \
+        -v peak="$(least_flow %M "$work/flows.f" 1)" -v no_peak="$(least_flow %M "$work/flows.f" 0)" \
+        -v shown="$(least_flow '%U %S' "$work/flows.f")" \
+        -v one_made="$(least_flow '%U %S' "$work/flows.f" 1)" 'BEGIN {
             making = (made - none_made) * 1e3 / times
-            asking = (asked - none_asked) * 1e3 / times
-            printf "%10d %10d %12.1f %10.1f %12.1f\n", loops, statements, making, (peak > no_peak ? (peak - no_peak) / 1024 : 0), asking
+            printf "%10d %10d %12.1f %10.1f %12.0f\n", loops, statements, making, (peak > no_peak ? (peak - no_peak) / 1024 : 0), (shown - one_made) * 1e3
         }'
 done <<'END'
 1 1000 100
 1 4000 100
 6 4000 100
-END
-
-# Of each test so many calls that they take some seconds.
-printf '\n%14s %10s\n' test ns/call
-while read -r test times; do
-    awk -v test="$test" -v times="$times" -v seconds="$(least '%U %S' test "$test" "$times")" \
-        -v no_seconds="$(least '%U %S' test "$test" 0)" 'BEGIN {
-            printf "%14s %10.1f\n", test, (seconds - no_seconds) * 1e9 / times
-        }'
-done <<'END'
-ziv 2000000000
-strong 400000000
-weak_zero 400000000
-weak_crossing 400000000
-gcd 80000000
-gcd_slowest 20000000
-banerjee 80000000
 END
 
 # So many assignments in two loops over an array, repeated, or in one loop over a scalar. The data are empty.
@@ -340,20 +244,20 @@ in_scalar() {
     printf '      K = 0\n      DO 10 I = 1, %d\n   10 K = K+I-I+1\n      PRINT *, K\n      END\n' "$1"
 }
 printf '\n%10s %12s %15s\n' over assignments ns/assignment
-rm -f -- "$work/figures"
-printf '      END\n' >"$work/nothing.f"
+printf 'run\n' >"$work/run"
+printf 'races\n' >"$work/races"
 for over in array scalar; do
     for assignments in 10000 100000 1000000 10000000; do
         "in_$over" "$assignments" >"$work/run.f"
         awk -v over="$over" -v assignments="$assignments" \
-            -v seconds="$(least '%U %S' run "$work/run.f" /dev/null)" \
-            -v no_seconds="$(least '%U %S' run "$work/nothing.f" /dev/null)" 'BEGIN {
+            -v seconds="$(least_session '%U %S' "$work/run.f" "$work/run")" \
+            -v no_seconds="$(least_session '%U %S' "$work/nothing.f" "$work/run")" 'BEGIN {
                 printf "%10s %12d %15.0f\n", over, assignments, (seconds - no_seconds) * 1e9 / assignments
             }'
     done
 done
 printf '      INTEGER A(1024,1024)\n      A(1,1) = 1\n      END\n' >"$work/run.f"
-awk -v peak="$(least %M run "$work/run.f" /dev/null)" -v no_peak="$(least %M run "$work/nothing.f" /dev/null)" \
+awk -v peak="$(least_session %M "$work/run.f" "$work/run")" -v no_peak="$(least_session %M "$work/nothing.f" "$work/run")" \
     'BEGIN { printf "store of 2^20 elements: %.1f MiB\n", (peak - no_peak) / 1024 }'
 
 # Programs without a race and with so many accesses: one PARALLEL DO whose iterations have an element each; one of 100 iterations
@@ -372,13 +276,13 @@ rm -f -- "$work/figures"
 for kind in elements iterations executions; do
     for accesses in 100000 1000000; do
         "races_of_$kind" "$accesses" >"$work/run.f"
-        answer=$("$program" races "$work/run.f" /dev/null)
+        answer=$("$ped" session "$work/run.f" "$work/races")
         [ "$answer" = 'no race' ] || printf 'bench: %s\n' "$answer" >&2
         awk -v kind="$kind" -v accesses="$accesses" \
-            -v seconds="$(least '%U %S' races "$work/run.f" /dev/null)" \
-            -v run_seconds="$(least '%U %S' run "$work/run.f" /dev/null)" \
-            -v no_seconds="$(least '%U %S' races "$work/nothing.f" /dev/null)" \
-            -v peak="$(least %M races "$work/run.f" /dev/null)" -v no_peak="$(least %M run "$work/run.f" /dev/null)" 'BEGIN {
+            -v seconds="$(least_session '%U %S' "$work/run.f" "$work/races")" \
+            -v run_seconds="$(least_session '%U %S' "$work/run.f" "$work/run")" \
+            -v no_seconds="$(least_session '%U %S' "$work/nothing.f" "$work/races")" \
+            -v peak="$(least_session %M "$work/run.f" "$work/races")" -v no_peak="$(least_session %M "$work/run.f" "$work/run")" 'BEGIN {
                 time = (seconds - no_seconds) * 1e9 / accesses
                 alone = (run_seconds - no_seconds) * 1e9 / accesses
                 printf "%12s %10d %10.0f %10.0f %8.1f\n", kind, accesses, time, alone, peak > no_peak ? (peak - no_peak) / 1024 : 0
@@ -386,13 +290,6 @@ for kind in elements iterations executions; do
     done
 done
 awk 'NR % 2 { before = $3 } NR % 2 == 0 { printf "time per access, %s, 10^6 to 10^5: %.2f\n", $1, $3 / before }' "$work/figures"
-
-# The launcher proves and builds ped where that hasn't been done. What starting it takes is left out: it is the
-# time of showing a small file.
-./ped show examples/recurrence.f >/dev/null
-# shellcheck source=tools/program.sh
-. "$PWD/tools/program.sh"
-ped=$(program_of "$(sources_sum)")
 
 printf '\n%10s %10s %10s %10s\n' bytes statements ns/byte MiB
 rm -f -- "$work/figures"
@@ -445,16 +342,6 @@ for program in many_references deep_blocks; do
     "$ped" show "$work/$program.f" >"$work/shown" || head -n 3 -- "$work/shown" >&2
     printf '%16s %10d\n' "$program" "$(least_stack "$work/$program.f")"
 done
-
-# The least of the runs' sums of what GNU time writes in this format, for a session of a script on a program.
-least_session() {
-    local best='' i
-    for ((i = 0; i < runs; i++)); do
-        command time -f "$1" -o "$work/figure" "$ped" session "$2" "$3" >/dev/null || true
-        best=$(awk -v best="$best" '{ sum = $1 + $2; print (best == "" || sum < best) ? sum : best }' "$work/figure")
-    done
-    printf '%s\n' "$best"
-}
 
 # So many edits, each of which puts the first line in its own place; and behind one of them, so often a step back and forward.
 edits() {

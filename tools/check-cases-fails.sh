@@ -311,11 +311,12 @@ cp some.cases repository/cases/
 repository/tools/check-cases.sh >said 2>&1 && say 'a repository without a built program: it should fail, and it passes'
 grep -q 'not built' said || say 'a repository without a built program: it should say so'
 
-# Where no files are given, those of cases/flow/ are left out.
-mkdir repository/cases/flow
+# Where no files are given, those of cases/flow/ and cases/faults/ are left out.
+mkdir repository/cases/flow repository/cases/faults
 printf '== K\n?\n=> read\n' >repository/cases/flow/some.cases
-repository/tools/check-cases.sh --program "$work/program" >said 2>&1 || say 'a repository with cases/flow: it should pass'
-[ "$(tail -n 1 said)" = 'cases: 1 passed, 0 failed' ] || say 'a repository with cases/flow: these cases should not count'
+cp repository/cases/flow/some.cases repository/cases/faults/
+repository/tools/check-cases.sh --program "$work/program" >said 2>&1 || say 'a repository with cases of other programs: it should pass'
+[ "$(tail -n 1 said)" = 'cases: 1 passed, 0 failed' ] || say 'a repository with cases of other programs: these cases should not count'
 repository/tools/check-cases.sh --program "$work/program" repository/cases/flow/some.cases >said 2>&1 &&
     say 'a case of cases/flow that is given and differs: it should fail, and it passes'
 

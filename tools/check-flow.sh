@@ -1,5 +1,5 @@
 #!/usr/bin/env bash
-# Runs the cases of cases/flow/ over the program of crate ped_check_flow: for small programs what the flow of scalars
+# Runs the cases of cases/flow/ over the program of crate ped_show_flow: for small programs what the flow of scalars
 # answers about each loop and each scalar, byte for byte.
 #
 #   tools/check-flow.sh [--program PROGRAM]
@@ -20,7 +20,7 @@ if [ "${1-}" = --program ]; then
 else
     # shellcheck source=tools/program.sh
     . "$top/tools/program.sh"
-    program=$(program_of "$(sources_sum)" ped_check_flow)
+    program=$(program_of "$(sources_sum)" ped_show_flow)
 fi
 if ! [ -f "$program" ] || ! [ -x "$program" ]; then
     stop 'the program is not built; .ci/run builds it'

@@ -8,13 +8,13 @@ function finish(    crate, names, made, blanks, wanted) {
     sub(/^crates\//, "", crate)
     sub(/\/.*/, "", crate)
     if (crate ~ /^ped_(siv|miv|tests)$/ || file ~ /\/tests(\.rt|\/)/) { return }
-    names = crate ~ /^ped_(verdict|bench|check_tests)$/ ? "pub(\\([a-z]*\\))?useped_[sm]iv[^a-z_]" : "ped_[sm]iv[^a-z_]"
+    names = crate == "ped_verdict" ? "pub(\\([a-z]*\\))?useped_[sm]iv[^a-z_]" : "ped_[sm]iv[^a-z_]"
     if (code ~ names) {
         print file ": it calls tests of ped_siv or ped_miv, or hands them on; ped_verdict counts them"
     }
     made = gsub(/Steps(::)?(<[^;(){}]*>)?>?::new[^a-z_]/, "&", code)
     blanks = gsub(/Blank::new[^a-z_]/, "&", code)
-    wanted = file == "crates/ped/src/main.rt"
+    wanted = file ~ /^crates\/(ped|ped_faults)\/src\/main\.rt$/
     if (made != wanted || blanks != wanted) {
         printf "%s: it makes %d counters of %d blanks; it should be %d\n", file, made, blanks, wanted
     }

@@ -1,21 +1,13 @@
-//! The program `ped`: a source editor for loop parallelisation. `ped_main` carries what is proved of
+//! The program `ped`: a source editor for loop parallelisation. `ped_main` of ped_answer carries what is proved of
 //! it; `main` hands it the words, the machine's files and standard output.
 #![tactic(auto)]
 
 ghost use Rattle.std.specs.Prelude.{◌≡◌, ◌<◌};
 
 mod adapters;
-mod answering;
-mod asking;
-mod finishing;
-mod loading;
-mod panes;
-mod refusals;
-mod sessions;
-mod showing;
 
 use crate::adapters::{DiskShelf, StdSink};
-use crate::answering::{Status, ped_main};
+use ped_answer::{Status, ped_main};
 use ped_verdict::Steps;
 use std::env::Env;
 use std::marker::Brand;
@@ -49,6 +41,3 @@ fn answered<L: Ledger, R: Env + Files + Print + AllocGlobal>(rt: &R, blank: Blan
 fn words(rt: &(impl Env + AllocGlobal)) -> io::Result<Vec<String>> {
     Ok(env::args(rt)?.skip(1).collect(rt.alloc())?)
 }
-
-#[cfg(test)]
-mod tests;

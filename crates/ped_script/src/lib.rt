@@ -7,8 +7,6 @@ mod laws;
 mod lines;
 mod reading;
 mod rows;
-#[cfg(test)]
-mod tests;
 mod words;
 
 pub use items::{Command, Item, Script};

@@ -11,8 +11,6 @@ mod data_values;
 mod shapes;
 mod slots;
 mod store;
-#[cfg(test)]
-mod tests;
 
 pub use cells::Cell;
 pub use shapes::{Shape, Shapes};

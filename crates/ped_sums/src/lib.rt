@@ -5,8 +5,6 @@
 mod literals;
 mod substitution;
 mod sums;
-#[cfg(test)]
-mod tests;
 
 pub use substitution::{
     substitute, substitute_in_condition, substitute_in_loop, substitute_in_statement,

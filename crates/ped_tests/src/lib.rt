@@ -1,21 +1,12 @@
-//! Tests of the crates of names, files, histories, whole numbers and dependence tests: of each call that may find no
-//! memory one that finds enough, and what no contract says. They stand in a crate of their own, since a crate that
-//! has tests is proved once more with them.
+//! Calls that may find no memory and that no program makes so far, each once with memory enough. No contract says that
+//! there may be. They stand in a crate of their own, since a crate that has tests is proved once more with them.
 #![tactic(auto)]
 
 #[cfg(test)]
-mod arithmetic;
+mod dependences;
 #[cfg(test)]
-mod base;
+mod expressions;
 #[cfg(test)]
-mod bits;
+mod matrices;
 #[cfg(test)]
-mod history;
-#[cfg(test)]
-mod io;
-#[cfg(test)]
-mod miv;
-#[cfg(test)]
-mod siv;
-#[cfg(test)]
-mod views;
+mod references;

@@ -5,8 +5,6 @@ mod commands;
 mod errors;
 mod reading;
 mod requests;
-#[cfg(test)]
-mod tests;
 
 pub use errors::WordsError;
 pub use reading::request;

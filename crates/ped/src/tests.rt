@@ -1,4 +1,0 @@
-//! The tests.
-
-mod programs;
-mod sessions;

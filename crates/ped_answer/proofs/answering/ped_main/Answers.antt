@@ -1,0 +1,88 @@
+use Rattle.std.proofs.Common.{ℕ, List, map, string_bytes, Option, Err, ap, subst, sym}
+use Rattle.ped_io.specs.Outside.{Rose}
+use Rattle.ped_answer.specs.declared.answering.Status.TheVariants.{BadWords}
+use Rattle.ped_answer.specs.Answer.{Request, request_of, inputs_of, MayAnswer, Answers, IsJust, usage_line}
+use Rattle.ped_answer.specs.TestCounts.{Tests}
+use Rattle.ped_answer.specs.Serving.{Call, Served}
+use Rattle.ped_answer.proofs.Counting.{idle_writing}
+use Rattle.ped_answer.proofs.ScriptRuns.{sent_runs}
+use Rattle.ped_answer.proofs.Outcomes.{outcome_weaker, usage_may_answer, whole_of}
+use Rattle.ped_answer.proofs.answering.ped_main.Given.{Over}
+use Rattle.ped_answer.proofs.answering.ped_main.Goals as goal
+
+-- the call, where the files are served
+abbrev call_of : (g : Over) (c : goal.After-serve g) → Call
+call_of g c = record {
+  told = g.F.Shelf.told c.args.shelf.now;
+  counts = g.F.Shelf.count c.args.shelf.now;
+  counts_after = g.F.Shelf.count c.serve.new.shelf;
+  taken = g.K.Sink.taken c.args.out.now;
+  taken_after = g.K.Sink.taken c.serve.new.out;
+  faults = g.K.Sink.faults c.args.out.now;
+  faults_after = g.K.Sink.faults c.serve.new.out;
+  steps = c.args.steps.now;
+  steps_after = c.serve.new.steps;
+  status = c.serve.result;
+}
+
+served : (g : Over) (c : goal.After-serve g)
+    → Served (inputs_of (request_of (map string_bytes c.args.words.now))) (Answers (request_of (map string_bytes c.args.words.now))) (Tests (request_of (map string_bytes c.args.words.now))) (call_of g c)
+served g c = subst (λ (r : Option Request). Served (inputs_of r) (Answers r) (Tests r) (call_of g c)) (sym c.in-Ok.ensures.ok) c.serve.ensures.served
+
+pub returns-in-Ok-clause-answer : goal.returns-in-Ok-clause-answer
+returns-in-Ok-clause-answer g c = (served g c).sends
+
+pub returns-in-Ok-clause-words : goal.returns-in-Ok-clause-words
+returns-in-Ok-clause-words g c = λ bad. absurd ((served g c).words bad)
+
+pub returns-in-Ok-clause-read_fault : goal.returns-in-Ok-clause-read_fault
+returns-in-Ok-clause-read_fault g c = (served g c).read_fault
+
+pub returns-in-Ok-clause-write_fault : goal.returns-in-Ok-clause-write_fault
+returns-in-Ok-clause-write_fault g c = (served g c).write_fault
+
+pub returns-in-Ok-clause-too_long : goal.returns-in-Ok-clause-too_long
+returns-in-Ok-clause-too_long g c = (served g c).too_long
+
+pub returns-in-Ok-clause-complete : goal.returns-in-Ok-clause-complete
+returns-in-Ok-clause-complete g c = λ files told before taken none sure.
+    let o = returns-in-Ok-clause-answer g c files told before taken in
+    let failed : List ℕ → Type 0 = λ (name : List ℕ). Rose (g.F.Shelf.count c.args.shelf.now name) (g.F.Shelf.count c.serve.new.shelf name) in
+    whole_of _ files failed _ _ before o.0 c.serve.result o.1 o.2 none sure
+
+pub returns-in-Ok-clause-runs : goal.returns-in-Ok-clause-runs
+returns-in-Ok-clause-runs g c = λ files told before taken whole.
+    let o = returns-in-Ok-clause-answer g c files told before taken in
+    let failed : List ℕ → Type 0 = λ (name : List ℕ). Rose (g.F.Shelf.count c.args.shelf.now name) (g.F.Shelf.count c.serve.new.shelf name) in
+    (o.0, o.1, sent_runs _ files failed _ o.0 c.serve.result whole o.2)
+
+pub returns-in-Ok-clause-counts : goal.returns-in-Ok-clause-counts
+returns-in-Ok-clause-counts g c = (served g c).rises
+
+pub returns-in-Ok-clause-others : goal.returns-in-Ok-clause-others
+returns-in-Ok-clause-others g c = (served g c).others
+
+pub returns-in-Ok-clause-faults : goal.returns-in-Ok-clause-faults
+returns-in-Ok-clause-faults g c = (served g c).sink_rises
+
+pub returns-in-Ok-clause-untold : goal.returns-in-Ok-clause-untold
+returns-in-Ok-clause-untold g c = (served g c).untold
+
+pub returns-in-Ok-clause-tests : goal.returns-in-Ok-clause-tests
+returns-in-Ok-clause-tests g c = (served g c).ticks
+
+pub returns-in-Ok-clause-untested : goal.returns-in-Ok-clause-untested
+returns-in-Ok-clause-untested g c = (served g c).untested
+
+pub returns-in-Ok-clause-steps : goal.returns-in-Ok-clause-steps
+returns-in-Ok-clause-steps g c = (served g c).steps_rise
+
+pub returns-in-Err-Bad-clause-answer : goal.returns-in-Err-Bad-clause-answer
+returns-in-Err-Bad-clause-answer g c = λ files told before taken.
+    let o = c.finish.ensures.answer before taken in
+    let failed : List ℕ → Type 0 = λ (name : List ℕ). Rose (g.F.Shelf.count c.args.shelf.now name) (g.F.Shelf.count c.args.shelf.now name) in
+    let none = c.in-Err-Bad.ensures.bad (ap Err c.in-Err-Bad.field-0-is) in
+    (o.0, o.1, outcome_weaker (IsJust BadWords usage_line) (MayAnswer _ files failed) (usage_may_answer _ files failed none) _ o.0 c.finish.result o.2)
+
+pub returns-in-Err-Bad-clause-tests : goal.returns-in-Err-Bad-clause-tests
+returns-in-Err-Bad-clause-tests g c = λ files told n tests. idle_writing c.finish.result BadWords _ n (λ e. cc) (λ e. cc) c.finish.ensures.ends

@@ -1,0 +1,192 @@
+//! The top call: words and files to an answer and a status.
+
+ghost use Rattle.std.specs.Prelude.{◌≡◌, ◌≢◌, ◌⊎◌, ◌++◌, ◌≤◌, ℕ, List, Option, Some, None, map, string_bytes};
+ghost use Rattle.ped_io.specs.Outside.{Contents, IsHeld, Rose};
+ghost use Rattle.ped_io.specs.Shelves.{all_names};
+ghost use Rattle.ped_answer.specs.Answer;
+ghost use Rattle.ped_answer.specs.Answer.{request_of, inputs_of, IsOneOf, HoldsTooMany, Answers, MayAnswer, Sends};
+ghost use Rattle.ped_answer.specs.ScriptRuns.{IsWhole, RunsRequest};
+ghost use Rattle.ped_answer.specs.TestCounts.{Tests, Ticks, IsUntested};
+ghost use Rattle.ped_answer.specs.Serving.{asked_view, ServedRequest};
+
+use crate::asking::{Asked, asked_for};
+use crate::finishing::finish;
+use crate::sessions::answer_files;
+use crate::showing::show_file;
+use ped_io::{Shelf, Sink, SureShelf, SureSink};
+use ped_verdict::Steps;
+use ped_words::WordsError;
+use std::alloc::Global;
+use std::sync::ledger::Ledger;
+
+/// How a call of the program ended. Its number is the exit status.
+#[derive(Clone, Copy, Debug, PartialEq, Eq)]
+pub enum Status {
+    /// The answer was written whole.
+    Done = 0,
+    /// The answer to a session was written whole, and a line of its script was refused.
+    SomeRefused = 1,
+    /// The words are not of the form; the usage line was written.
+    BadWords = 2,
+    /// A file could not be read; a line that names it was written.
+    ReadFault = 3,
+    /// The output failed; a front of what was to be written was taken.
+    WriteFault = 4,
+    /// The program's text was refused; a line with its first refusal was written.
+    ProgramRefused = 5,
+    /// There was not enough memory; a front of what was to be written was taken.
+    NoMemory = 6,
+    /// A file is longer than its limit; a line that names it was written.
+    TooLong = 7,
+}
+
+impl Status {
+    ghost use Rattle.ped_answer.specs.Statuses.{number_of};
+
+    /// The exit status.
+    pub fn number(self) -> u8
+        ensures { result ≡ number_of self }
+    {
+        self as u8
+    }
+}
+
+/// Answers the words, which are those after the program's name: reads the files that they name from
+/// the shelf in order, and writes the answer to `out`. It is written whole, with its status, unless memory runs
+/// out, the shelf fails at a file of the words, or the sink fails. `steps` counts the dependence tests: one for
+/// each ordered pair of references of a program that is shown or opened, and those that the script takes.
+pub fn ped_main<F: Shelf, K: Sink, L: Ledger>(
+    alloc: Global,
+    words: &[String],
+    shelf: &mut F,
+    out: &mut K,
+    steps: &mut Steps<L>,
+) -> Status
+    // Over a shelf and a sink that tell, the bytes sent and the status are those of the answer, unless
+    // the shelf, the sink or the memory kept it from being written whole.
+    ensures answer { (files : Contents) → F.told shelf.old ≡ Some files →
+        (before : List ℕ) → K.taken out.old ≡ Some before →
+        Sends (MayAnswer (request_of (map string_bytes words.now)) files
+        (λ name. Rose (F.count shelf.old name) (F.count shelf.new name)))
+        (Rose (K.faults out.old) (K.faults out.new)) before (K.taken out.new) result }
+
+    // Whatever they tell, the words decide on theirs, and a fault has its cause.
+    ensures words { result ≡ Status.BadWords → request_of (map string_bytes words.now) ≡ None }
+    ensures other_words { request_of (map string_bytes words.now) ≡ None →
+        (result ≡ Status.BadWords) ⊎ (result ≡ Status.WriteFault) ⊎ (result ≡ Status.NoMemory) }
+    ensures read_fault { result ≡ Status.ReadFault →
+        (name : List ℕ) × IsOneOf (inputs_of (request_of (map string_bytes words.now))) name
+        × Rose (F.count shelf.old name) (F.count shelf.new name) }
+    ensures write_fault { result ≡ Status.WriteFault → Rose (K.faults out.old) (K.faults out.new) }
+    ensures too_long { result ≡ Status.TooLong → (files : Contents) → F.told shelf.old ≡ Some files →
+        HoldsTooMany (inputs_of (request_of (map string_bytes words.now))) files }
+
+    // Where neither has failed, the answer is written whole, unless memory ran out.
+    ensures complete { (files : Contents) → F.told shelf.old ≡ Some files →
+        (before : List ℕ) → K.taken out.old ≡ Some before →
+        ((name : List ℕ) → IsOneOf (inputs_of (request_of (map string_bytes words.now))) name →
+        ¬ (Rose (F.count shelf.old name) (F.count shelf.new name))) →
+        ¬ (Rose (K.faults out.old) (K.faults out.new)) →
+        (result ≡ Status.NoMemory) ⊎ ((bytes : List ℕ)
+        × Answers (request_of (map string_bytes words.now)) files result bytes
+        × (K.taken out.new ≡ Some (before ++ bytes))) }
+
+    // Where a session's answer is written whole, each `run` of its script shows what the programs show from which the
+    // present one has come by transformations alone, if they are tidy and run on the data without a fault and without a
+    // race. Tidy: no reference in a PARALLEL DO writes the variable of it or of a DO in it, and each path from that
+    // PARALLEL DO's exit to the end overwrites such a variable that is saved.
+    ensures runs { (files : Contents) → F.told shelf.old ≡ Some files →
+        (before : List ℕ) → K.taken out.old ≡ Some before → IsWhole result →
+        (bytes : List ℕ) × (K.taken out.new ≡ Some (before ++ bytes))
+        × RunsRequest (request_of (map string_bytes words.now)) files bytes }
+
+    // What stays.
+    ensures same { F.told shelf.new ≡ F.told shelf.old }
+    ensures counts { (name : List ℕ) → F.count shelf.old name ≤ F.count shelf.new name }
+    ensures others { (files : Contents) → F.told shelf.old ≡ Some files → (name : List ℕ) →
+        ¬ (IsOneOf (inputs_of (request_of (map string_bytes words.now))) name) → IsHeld files name →
+        F.count shelf.new name ≡ F.count shelf.old name }
+    ensures faults { K.faults out.old ≤ K.faults out.new }
+    ensures untold { K.taken out.old ≡ None → K.taken out.new ≡ None }
+
+    // As many dependence tests are made as the answer takes, where it was written whole; otherwise at most as
+    // many. Without a program there are none, whatever the shelf tells.
+    ensures tests { (files : Contents) → F.told shelf.old ≡ Some files →
+        (n : ℕ) → Tests (request_of (map string_bytes words.now)) files n → Ticks result steps.old steps.new n }
+    ensures untested { IsUntested result → steps.new ≡ steps.old }
+    ensures steps { steps.old ≤ steps.new }
+{
+    match asked_for(alloc, words) {
+        Ok(asked) => serve(alloc, asked, shelf, out, steps),
+        Err(WordsError::Bad) => finish(out, USAGE, Status::BadWords),
+        Err(WordsError::NoMemory) => Status::NoMemory,
+    }
+}
+
+/// Words and files have one answer: one status and one text.
+pub fn one_answer()
+    ensures { (request : Option Answer.Request) (files : Contents) (s t : Status) (a b : List ℕ) →
+        Answers request files s a → Answers request files t b → (s ≡ t) × (a ≡ b) }
+{}
+
+/// In each answer to a session each `run` of its script shows what the programs show from which the present one has come
+/// by transformations alone, if they are tidy and run on the data without a fault and without a race.
+pub fn runs_are_as_before()
+    ensures { (request : Option Answer.Request) (files : Contents) (s : Status) (bytes : List ℕ) → IsWhole s →
+        Answers request files s bytes → RunsRequest request files bytes }
+{}
+
+/// Answers the words over a shelf and a sink that never fail: no read fault and no write fault comes.
+pub fn answer_surely<L: Ledger>(
+    alloc: Global,
+    words: &[String],
+    shelf: &mut SureShelf,
+    out: &mut SureSink,
+    steps: &mut Steps<L>,
+) -> Status
+    ensures reads { result ≢ Status.ReadFault }
+    ensures writes { result ≢ Status.WriteFault }
+    ensures answer { (result ≡ Status.NoMemory) ⊎ ((bytes : List ℕ)
+        × Answers (request_of (map string_bytes words.now)) (all_names shelf.old) result bytes
+        × (out.new ≡ out.old ++ bytes)) }
+    ensures tests { (n : ℕ) → Tests (request_of (map string_bytes words.now)) (all_names shelf.old) n → Ticks result steps.old steps.new n }
+    ensures untested { IsUntested result → steps.new ≡ steps.old }
+    ensures steps { steps.old ≤ steps.new }
+{
+    ped_main(alloc, words, shelf, out, steps)
+}
+
+const USAGE: &[u8] =
+    b"usage: ped show PROGRAM | session PROGRAM SCRIPT [--data FILE] | generate N\n";
+
+/// Answers what is asked for.
+fn serve<F: Shelf, K: Sink, L: Ledger>(
+    alloc: Global,
+    asked: Asked<'_>,
+    shelf: &mut F,
+    out: &mut K,
+    steps: &mut Steps<L>,
+) -> Status
+    ensures served { ServedRequest (asked_view asked.entry) (record {
+      told = F.told shelf.old;
+      counts = F.count shelf.old;
+      counts_after = F.count shelf.new;
+      taken = K.taken out.old;
+      taken_after = K.taken out.new;
+      faults = K.faults out.old;
+      faults_after = K.faults out.new;
+      steps = steps.old;
+      steps_after = steps.new;
+      status = result;
+    }) }
+    ensures same { F.told shelf.new ≡ F.told shelf.old }
+{
+    match asked {
+        Asked::Show { program } => show_file(alloc, program, shelf, out, steps),
+        Asked::Session {
+            program,
+            script,
+            data,
+        } => answer_files(alloc, program, script, data, shelf, out, steps),
+    }
+}

@@ -1,0 +1,15 @@
+//! The answer to words and files: `ped_main` reads the files that the words name from a shelf, and writes what they ask
+//! for to a sink. What is proved of the whole program stands in its contract. The shelf and the sink are anything that
+//! meets their traits, so the program `ped` hands it the machine's, and `ped_faults` some in memory whose calls fail.
+#![tactic(auto)]
+
+mod answering;
+mod asking;
+mod finishing;
+mod loading;
+mod panes;
+mod refusals;
+mod sessions;
+mod showing;
+
+pub use answering::{Status, answer_surely, one_answer, ped_main, runs_are_as_before};

@@ -1,0 +1,55 @@
+//! The line that says why a program's text is refused.
+
+ghost use Rattle.std.specs.Prelude.{◌≡◌, ◌⊎◌, ◌++◌, ◌≤◌, ℕ, List, Some, None, IfOk, OnOk};
+ghost use Rattle.std.specs.Fmt.{decimal};
+ghost use Rattle.ped_io.specs.Outside.{Rose};
+ghost use Rattle.ped_tree.specs.Grammar.RefusalViews.{finding_of};
+ghost use Rattle.ped_answer.specs.Answer.{Sends, IsJust};
+ghost use Rattle.ped_answer.specs.Refusals as Spec;
+
+use crate::answering::Status;
+use crate::finishing::finish;
+use itoa::Buffer;
+use ped_base::{Bytes, NoMemory};
+use ped_io::Sink;
+use ped_tree::grammar::Refusal;
+use std::alloc::Global;
+
+/// Says that a text is refused.
+pub fn is_refused<K: Sink>(alloc: Global, refusal: Refusal, out: &mut K) -> Status
+    ensures answer { (before : List ℕ) → K.taken out.old ≡ Some before →
+        Sends (IsJust Status.ProgramRefused (Spec.refused_line (finding_of refusal)))
+        (Rose (K.faults out.old) (K.faults out.new)) before (K.taken out.new) result }
+    ensures ends { (result ≡ Status.ProgramRefused) ⊎ (result ≡ Status.WriteFault) ⊎ (result ≡ Status.NoMemory) }
+    ensures write_fault { result ≡ Status.WriteFault → Rose (K.faults out.old) (K.faults out.new) }
+    ensures faults { K.faults out.old ≤ K.faults out.new }
+    ensures untold { K.taken out.old ≡ None → K.taken out.new ≡ None }
+{
+    match refused_line(alloc, refusal) {
+        Ok(line) => finish(out, line.as_slice(), Status::ProgramRefused),
+        Err(NoMemory) => Status::NoMemory,
+    }
+}
+
+/// The refusal by its number and its name, and its line.
+fn refused_line(alloc: Global, refusal: Refusal) -> Result<Bytes, NoMemory>
+    ensures { IfOk result (λ line. line ≡ Spec.refused_line (finding_of refusal)) }
+{
+    let mut line = Bytes::new(alloc);
+    line.extend_from_slice(b"ped: refused ")?;
+    push_number(&mut line, u64::from(refusal.kind.number()))?;
+    line.push(b' ')?;
+    line.extend_from_slice(refusal.kind.name())?;
+    line.extend_from_slice(b" at ")?;
+    push_number(&mut line, refusal.line)?;
+    line.push(b'\n')?;
+    Ok(line)
+}
+
+/// Adds the digits of a number.
+pub fn push_number(out: &mut Bytes, number: u64) -> Result<(), NoMemory>
+    ensures { OnOk result (out.new ≡ out.old ++ decimal number) }
+{
+    let mut buffer = Buffer::new();
+    out.extend_from_slice(buffer.format(number).as_bytes())
+}

@@ -1,0 +1,105 @@
+//! Programs that are shown: both panes, or why the program's text is refused.
+
+ghost use Rattle.std.specs.Prelude.{◌≡◌, ◌⊎◌, ◌≤◌, ℕ, List, Some, None};
+ghost use Rattle.ped_io.specs.Outside.{Rose};
+ghost use Rattle.ped_tree.specs.Views.{program_tree};
+ghost use Rattle.ped_valid.specs.ped_symbols.specs.NameRefusals.{IsValid};
+ghost use Rattle.ped_valid.specs.ped_symbols.specs.Kinds.{table_of};
+ghost use Rattle.ped_graph.specs.ped_refs.specs.References.{references, pair_count};
+ghost use Rattle.ped_answer.specs.Answer.{show, Sends, IsShown, ShowsTree};
+ghost use Rattle.ped_answer.specs.TestCounts.{TestsText, Ticks, IsUntested};
+ghost use Rattle.ped_answer.specs.Serving.{ServedRequest};
+
+use crate::answering::Status;
+use crate::finishing::finish;
+use crate::loading::{SOURCE_LIMIT, say_unread};
+use crate::panes::panes;
+use crate::refusals::is_refused;
+use ped_base::NoMemory;
+use ped_io::{Shelf, Sink, load};
+use ped_tree::Program;
+use ped_tree::constants::Consts;
+use ped_valid::{OpenRefusal, open_program};
+use ped_verdict::Steps;
+use std::alloc::Global;
+use std::sync::ledger::Ledger;
+
+/// Shows the program in a file.
+pub fn show_file<F: Shelf, K: Sink, L: Ledger>(
+    alloc: Global,
+    program: &str,
+    shelf: &mut F,
+    out: &mut K,
+    steps: &mut Steps<L>,
+) -> Status
+    ensures served { ServedRequest (show program.now) (record {
+      told = F.told shelf.old;
+      counts = F.count shelf.old;
+      counts_after = F.count shelf.new;
+      taken = K.taken out.old;
+      taken_after = K.taken out.new;
+      faults = K.faults out.old;
+      faults_after = K.faults out.new;
+      steps = steps.old;
+      steps_after = steps.new;
+      status = result;
+    }) }
+    ensures same { F.told shelf.new ≡ F.told shelf.old }
+{
+    match load(alloc, shelf, program, SOURCE_LIMIT) {
+        Ok(text) => show_text(alloc, text.as_slice(), out, steps),
+        Err(fault) => say_unread(alloc, program, SOURCE_LIMIT, fault, out),
+    }
+}
+
+/// Shows the program of a text.
+fn show_text<K: Sink, L: Ledger>(
+    alloc: Global,
+    text: &[u8],
+    out: &mut K,
+    steps: &mut Steps<L>,
+) -> Status
+    ensures answer { (before : List ℕ) → K.taken out.old ≡ Some before →
+        Sends (IsShown text.now)
+        (Rose (K.faults out.old) (K.faults out.new)) before (K.taken out.new) result }
+    ensures ends { (result ≡ Status.Done) ⊎ (result ≡ Status.ProgramRefused)
+        ⊎ (result ≡ Status.WriteFault) ⊎ (result ≡ Status.NoMemory) }
+    ensures write_fault { result ≡ Status.WriteFault → Rose (K.faults out.old) (K.faults out.new) }
+    ensures faults { K.faults out.old ≤ K.faults out.new }
+    ensures untold { K.taken out.old ≡ None → K.taken out.new ≡ None }
+    ensures tests { (n : ℕ) → TestsText text.now n → Ticks result steps.old steps.new n }
+    ensures untested { IsUntested result → steps.new ≡ steps.old }
+    ensures steps { steps.old ≤ steps.new }
+{
+    match open_program(alloc, text) {
+        Ok(opened) => show_program(alloc, &opened.program, opened.symbols.consts(), out, steps),
+        Err(OpenRefusal::At(refusal)) => is_refused(alloc, refusal, out),
+        Err(OpenRefusal::NoMemory) => Status::NoMemory,
+    }
+}
+
+/// Shows both panes of a valid program, whose named constants these are.
+fn show_program<K: Sink, L: Ledger>(
+    alloc: Global,
+    program: &Program,
+    consts: &Consts,
+    out: &mut K,
+    steps: &mut Steps<L>,
+) -> Status
+    requires valid { IsValid (program_tree program.now) }
+    requires constants { consts.now ≡ (table_of (program_tree program.now)).constants }
+    ensures answer { (before : List ℕ) → K.taken out.old ≡ Some before →
+        Sends (ShowsTree (program_tree program.now))
+        (Rose (K.faults out.old) (K.faults out.new)) before (K.taken out.new) result }
+    ensures ends { (result ≡ Status.Done) ⊎ (result ≡ Status.WriteFault) ⊎ (result ≡ Status.NoMemory) }
+    ensures write_fault { result ≡ Status.WriteFault → Rose (K.faults out.old) (K.faults out.new) }
+    ensures faults { K.faults out.old ≤ K.faults out.new }
+    ensures untold { K.taken out.old ≡ None → K.taken out.new ≡ None }
+    ensures tests { Ticks result steps.old steps.new (pair_count (references (program_tree program.now))) }
+    ensures steps { steps.old ≤ steps.new }
+{
+    match panes(alloc, program, consts, steps) {
+        Ok(bytes) => finish(out, bytes.as_slice(), Status::Done),
+        Err(NoMemory) => Status::NoMemory,
+    }
+}

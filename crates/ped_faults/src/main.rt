@@ -1,0 +1,51 @@
+//! Answers words as `ped` does, over a shelf and a sink in memory of which some calls fail, or none ever. It shows for
+//! tables of faults what no file of the machine shows: a read or a write that fails in mid-stream, and pieces of a few
+//! bytes. `tools/check-faults.sh` runs it over cases by hand. Nothing is promised of it beyond what `ped_main` promises.
+#![tactic(auto)]
+
+ghost use Rattle.std.specs.Prelude.{◌≡◌, ◌<◌};
+
+mod faults;
+mod files;
+
+use faults::{Ending, failing, surely};
+use files::files_of;
+use ped_verdict::Steps;
+use std::env::Env;
+use std::marker::Brand;
+use std::process::ExitCode;
+use std::rt::Files;
+use std::sync::ledger::{Blank, Ledger};
+use std::{env, io};
+
+fn main(rt: HostRuntime) -> io::Result<ExitCode> {
+    match answered::<Brand, _>(&rt, Blank::new(1)) {
+        Some(ending) => {
+            print!(rt; "{}", ending.taken)?;
+            Ok(ExitCode::from(ending.status.number()))
+        }
+        None => {
+            println!(rt; "usage: ped_faults READ READS WRITE WRITES WORD.. | sure WORD..")?;
+            Ok(ExitCode::SUCCESS)
+        }
+    }
+}
+
+/// Answers the words; none where they are of no form, or where there is no memory for the files that they name.
+fn answered<L: Ledger, R: Env + Files + AllocGlobal>(rt: &R, blank: Blank) -> Option<Ending>
+    requires name { blank.name ≡ L.name }
+    requires parts { blank.parts ≡ L.parts }
+    requires some { 0 < L.parts }
+{
+    let alloc = rt.alloc();
+    let words: Vec<String> = env::args(rt).ok()?.skip(1).collect(alloc).ok()?;
+    let files = files_of(rt, &words).ok()?;
+    let mut steps = Steps::<L>::new(blank);
+    match words.as_slice() {
+        [first, rest @ ..] if first.as_str() == "sure" => surely(alloc, files, rest, &mut steps),
+        [read, reads, write, writes, rest @ ..] => {
+            failing(alloc, files, [read, reads, write, writes], rest, &mut steps)
+        }
+        _ => None,
+    }
+}

@@ -2,7 +2,7 @@
 use Rattle.std.proofs.Common.{◌≡◌, ℕ, Bool, true, false, List, [], Option, Some, None, refl, subst, length}
 use Rattle.std.specs.Prelude.{MatchOption, MatchBool, nat_lt}
 use Rattle.ped_io.specs.Outside.{Contents, content}
-use Rattle.ped_script.specs.Items.{commands_of}
+use Rattle.ped_session.specs.ped_script.specs.Items.{commands_of}
 use Rattle.ped_session.specs.States.{opened}
 use Rattle.ped_session.proofs.KeptMeanings.{items_as_before, opened_keeps}
 use Rattle.ped_answer.specs.declared.answering.Status.{Status}

@@ -1,7 +1,7 @@
 -- The line that says why a program's text is refused (this project).
 use Rattle.std.specs.Prelude.{ℕ, List, [], ◌∷◌, ◌++◌, codes}
 use Rattle.std.specs.Fmt.{decimal}
-use Rattle.ped_tree.specs.Grammar.Refusal.{number_of, name_of_refusal, Finding}
+use Rattle.ped_session.specs.ped_tree.specs.Grammar.Refusal.{number_of, name_of_refusal, Finding}
 
 -- the refusal by its number and its name, and its line
 abbrev pub refused_line : Finding → List ℕ

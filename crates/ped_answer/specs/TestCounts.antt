@@ -1,13 +1,13 @@
 -- How many dependence tests an answer takes, and what a call may have made of them: each ordered pair of references is tested once (Allen and Kennedy, section 3.2; this project).
 use Rattle.std.specs.Prelude.{◌≡◌, ℕ, ◌+◌, ◌≤◌, List, [], length, nat_lt, Option, Some, None, MatchOption, MatchBool, ⊤}
 use Rattle.ped_io.specs.Outside.{Contents, content}
-use Rattle.ped_tree.specs.Tree.{ProgramTree}
-use Rattle.ped_tree.specs.Grammar.Refusal.{Finding}
-use Rattle.ped_graph.specs.ped_refs.specs.References.{references, pair_count}
-use Rattle.ped_valid.specs.Validity.{ReadsValid, RefusesText}
+use Rattle.ped_session.specs.ped_tree.specs.Tree.{ProgramTree}
+use Rattle.ped_session.specs.ped_tree.specs.Grammar.Refusal.{Finding}
+use Rattle.ped_session.specs.ped_refs.specs.References.{references, pair_count}
+use Rattle.ped_session.specs.ped_valid.specs.Validity.{ReadsValid, RefusesText}
 use Rattle.ped_answer.specs.declared.answering.Status.{Status}
 use Rattle.ped_answer.specs.declared.answering.Status.TheVariants.{Done, SomeRefused, BadWords, ReadFault, WriteFault, ProgramRefused, NoMemory, TooLong}
-use Rattle.ped_script.specs.Items.{commands_of}
+use Rattle.ped_session.specs.ped_script.specs.Items.{commands_of}
 use Rattle.ped_session.specs.States.{State, opened}
 use Rattle.ped_session.specs.Scripts.{Said, AnswersItems}
 use Rattle.ped_answer.specs.Answer.{Request, show, session, Input, source_input, data_input}

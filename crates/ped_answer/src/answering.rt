@@ -14,7 +14,7 @@ use crate::finishing::finish;
 use crate::sessions::answer_files;
 use crate::showing::show_file;
 use ped_io::{Shelf, Sink, SureShelf, SureSink};
-use ped_verdict::Steps;
+use ped_session::ped_verdict::Steps;
 use ped_words::WordsError;
 use std::alloc::Global;
 use std::sync::ledger::Ledger;

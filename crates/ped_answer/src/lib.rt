@@ -13,3 +13,4 @@ mod sessions;
 mod showing;
 
 pub use answering::{Status, answer_surely, one_answer, ped_main, runs_are_as_before};
+pub use ped_session::ped_verdict;

@@ -1,18 +1,18 @@
 //! Both panes of a program.
 
 ghost use Rattle.std.specs.Prelude.{◌≡◌, ◌+◌, ◌≤◌, IfOk, OnOk};
-ghost use Rattle.ped_tree.specs.Views.{program_tree};
-ghost use Rattle.ped_valid.specs.ped_symbols.specs.NameRefusals.{IsValid};
-ghost use Rattle.ped_valid.specs.ped_symbols.specs.Kinds.{table_of};
-ghost use Rattle.ped_graph.specs.ped_refs.specs.References.{references, pair_count};
+ghost use Rattle.ped_session.specs.ped_tree.specs.Views.{program_tree};
+ghost use Rattle.ped_session.specs.ped_symbols.specs.NameRefusals.{IsValid};
+ghost use Rattle.ped_session.specs.ped_symbols.specs.Kinds.{table_of};
+ghost use Rattle.ped_session.specs.ped_refs.specs.References.{references, pair_count};
 ghost use Rattle.ped_session.specs.Panes.{ArePanes};
 
 use ped_base::{Bytes, NoMemory};
-use ped_graph::Graph;
-use ped_print::source_pane;
-use ped_tree::Program;
-use ped_tree::constants::Consts;
-use ped_verdict::Steps;
+use ped_session::ped_graph::Graph;
+use ped_session::ped_print::source_pane;
+use ped_session::ped_tree::Program;
+use ped_session::ped_tree::constants::Consts;
+use ped_session::ped_verdict::Steps;
 use std::alloc::Global;
 use std::sync::ledger::Ledger;
 

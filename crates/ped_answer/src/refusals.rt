@@ -3,7 +3,7 @@
 ghost use Rattle.std.specs.Prelude.{◌≡◌, ◌⊎◌, ◌++◌, ◌≤◌, ℕ, List, Some, None, IfOk, OnOk};
 ghost use Rattle.std.specs.Fmt.{decimal};
 ghost use Rattle.ped_io.specs.Outside.{Rose};
-ghost use Rattle.ped_tree.specs.Grammar.RefusalViews.{finding_of};
+ghost use Rattle.ped_session.specs.ped_tree.specs.Grammar.RefusalViews.{finding_of};
 ghost use Rattle.ped_answer.specs.Answer.{Sends, IsJust};
 ghost use Rattle.ped_answer.specs.Refusals as Spec;
 
@@ -12,7 +12,7 @@ use crate::finishing::finish;
 use itoa::Buffer;
 use ped_base::{Bytes, NoMemory};
 use ped_io::Sink;
-use ped_tree::grammar::Refusal;
+use ped_session::ped_tree::grammar::Refusal;
 use std::alloc::Global;
 
 /// Says that a text is refused.

@@ -2,10 +2,10 @@
 
 ghost use Rattle.std.specs.Prelude.{◌≡◌, ◌⊎◌, ◌≤◌, ℕ, List, Some, None};
 ghost use Rattle.ped_io.specs.Outside.{Rose};
-ghost use Rattle.ped_tree.specs.Views.{program_tree};
-ghost use Rattle.ped_valid.specs.ped_symbols.specs.NameRefusals.{IsValid};
-ghost use Rattle.ped_valid.specs.ped_symbols.specs.Kinds.{table_of};
-ghost use Rattle.ped_graph.specs.ped_refs.specs.References.{references, pair_count};
+ghost use Rattle.ped_session.specs.ped_tree.specs.Views.{program_tree};
+ghost use Rattle.ped_session.specs.ped_symbols.specs.NameRefusals.{IsValid};
+ghost use Rattle.ped_session.specs.ped_symbols.specs.Kinds.{table_of};
+ghost use Rattle.ped_session.specs.ped_refs.specs.References.{references, pair_count};
 ghost use Rattle.ped_answer.specs.Answer.{show, Sends, IsShown, ShowsTree};
 ghost use Rattle.ped_answer.specs.TestCounts.{TestsText, Ticks, IsUntested};
 ghost use Rattle.ped_answer.specs.Serving.{ServedRequest};
@@ -17,10 +17,10 @@ use crate::panes::panes;
 use crate::refusals::is_refused;
 use ped_base::NoMemory;
 use ped_io::{Shelf, Sink, load};
-use ped_tree::Program;
-use ped_tree::constants::Consts;
-use ped_valid::{OpenRefusal, open_program};
-use ped_verdict::Steps;
+use ped_session::ped_tree::Program;
+use ped_session::ped_tree::constants::Consts;
+use ped_session::ped_valid::{OpenRefusal, open_program};
+use ped_session::ped_verdict::Steps;
 use std::alloc::Global;
 use std::sync::ledger::Ledger;
 

@@ -1,4 +1,3 @@
-pub use Rattle.ped_views
 pub mod Edges
 pub mod Rows
 pub mod CodeEdges

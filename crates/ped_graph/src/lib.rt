@@ -20,3 +20,7 @@ pub mod update;
 
 pub use graph::Graph;
 pub use laws::{one_dependence_pane, one_dependence_pane_of};
+pub use ped_edges;
+pub use ped_refs;
+pub use ped_symbols;
+pub use ped_verdict;

@@ -1,3 +1,4 @@
+pub use Rattle.ped_flow
 pub use Rattle.ped_graph.specs.ped_edges
 pub use Rattle.ped_graph
 pub use Rattle.ped_eval.specs.ped_store

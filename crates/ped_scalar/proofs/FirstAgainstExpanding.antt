@@ -1,10 +1,10 @@
 -- The first of the rules that stand against `expand`, rule by rule in the order of their numbers.
 use Rattle.std.proofs.Common.{◌≡◌, ℕ, List, Bool, true, false, ◌↔◌, inl, inr, Some, None, Ok, Err, IsTrue, sym, ap, ◌∙◌, subst, refl, arith}
 use Rattle.ped_tree.specs.Tree.{Head, StmtTrees, ProgramTree}
-use Rattle.ped_symbols.specs.Kinds.{table_of}
-use Rattle.ped_symbols.specs.NameRefusals.{IsValid}
-use Rattle.ped_flow.specs.Questions.{IsLoop, LoopOf, IsFirst, IsExposed, IsReadBehind, IsLiveAfter}
-use Rattle.ped_flow.proofs.Answering.{same_head, same_body}
+use Rattle.ped_steps.specs.ped_symbols.specs.Kinds.{table_of}
+use Rattle.ped_steps.specs.ped_symbols.specs.NameRefusals.{IsValid}
+use Rattle.ped_steps.specs.ped_flow.specs.Questions.{IsLoop, LoopOf, IsFirst, IsExposed, IsReadBehind, IsLiveAfter}
+use Rattle.ped_steps.specs.ped_flow.proofs.Answering.{same_head, same_body}
 use Rattle.ped_steps.specs.declared.rules.Rule.{Rule}
 use Rattle.ped_steps.specs.declared.rules.Rule.TheVariants.{NoLoop, NotPerfect, ParallelState, HasPrivate, IndexEscapes, BoundNotPlain, BoundsShape, StepShape, Range, NoNeighbour, OneBlock, ExposedOrLive, NotScalar, NotConstant, Limit, BadFactor, AlreadyPrivate, NothingToReject}
 use Rattle.ped_steps.specs.declared.causes.Refused.{Refused}

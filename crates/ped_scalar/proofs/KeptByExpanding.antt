@@ -10,17 +10,17 @@ use Rattle.ped_tree.specs.Accesses.{constant_names}
 use Rattle.ped_tree.specs.Grammar.Fits.{fits}
 use Rattle.ped_tree.specs.Grammar.Refusal.{Finding}
 use Rattle.ped_tree.specs.Constants.ConstantExpressions.{constant_value}
-use Rattle.ped_symbols.specs.Kinds.{names_of, table_of}
-use Rattle.ped_symbols.specs.NameRefusals.{IsValid, name_refusals}
-use Rattle.ped_flow.specs.ped_affine.specs.Assigned.{loop_variables}
+use Rattle.ped_steps.specs.ped_symbols.specs.Kinds.{names_of, table_of}
+use Rattle.ped_steps.specs.ped_symbols.specs.NameRefusals.{IsValid, name_refusals}
+use Rattle.ped_steps.specs.ped_affine.specs.Assigned.{loop_variables}
 use Rattle.ped_steps.specs.ped_eval.specs.Loops.{all_index_names}
-use Rattle.ped_flow.specs.Paths.{all_paths}
-use Rattle.ped_flow.specs.PlainBounds.{nest_round}
-use Rattle.ped_flow.specs.Questions.{LoopOf, IsFirst, IsExposed, IsReadBehind, IsLiveAfter, IsAssignedThrough}
-use Rattle.ped_flow.specs.Summaries.{sum_of_all, sum_behind_all}
-use Rattle.ped_flow.proofs.Answering.{assigned_by, through_loop, read_behind}
-use Rattle.ped_flow.proofs.TreeSums.{all_summed, all_behind-summed}
-use Rattle.ped_flow.proofs.Truths.{untrue}
+use Rattle.ped_steps.specs.ped_flow.specs.Paths.{all_paths}
+use Rattle.ped_steps.specs.ped_flow.specs.PlainBounds.{nest_round}
+use Rattle.ped_steps.specs.ped_flow.specs.Questions.{LoopOf, IsFirst, IsExposed, IsReadBehind, IsLiveAfter, IsAssignedThrough}
+use Rattle.ped_steps.specs.ped_flow.specs.Summaries.{sum_of_all, sum_behind_all}
+use Rattle.ped_steps.specs.ped_flow.proofs.Answering.{assigned_by, through_loop, read_behind}
+use Rattle.ped_steps.specs.ped_flow.proofs.TreeSums.{all_summed, all_behind-summed}
+use Rattle.ped_steps.specs.ped_flow.proofs.Truths.{untrue}
 use Rattle.ped_steps.specs.ped_laws.proofs.FlowRunLaws.Names.{sorted_among, inner_among}
 use Rattle.ped_steps.specs.declared.rules.Rule.TheVariants.{ParallelState, Range, ExposedOrLive, NotScalar, Limit, AlreadyPrivate}
 use Rattle.ped_steps.specs.Causes.{NoRule}

@@ -5,12 +5,12 @@ use Rattle.ped_base.specs.Lists.{is_among}
 use Rattle.ped_tree.specs.Tree.{StmtTree, StmtTrees, ProgramTree}
 use Rattle.ped_tree.specs.Numbering.{statements_count, statement_with}
 use Rattle.ped_tree.specs.Accesses.{constant_names}
-use Rattle.ped_flow.specs.Events.{Event, overwrites}
-use Rattle.ped_flow.specs.PathSets.{Whole}
-use Rattle.ped_flow.specs.Paths.{paths_from_exit}
-use Rattle.ped_flow.specs.Questions.{saved_in, IsShownBehind}
-use Rattle.ped_flow.specs.Summaries.{AreSummed, sum_behind_all}
-use Rattle.ped_flow.proofs.TreeSums.{all_behind-summed}
+use Rattle.ped_steps.specs.ped_flow.specs.Events.{Event, overwrites}
+use Rattle.ped_steps.specs.ped_flow.specs.PathSets.{Whole}
+use Rattle.ped_steps.specs.ped_flow.specs.Paths.{paths_from_exit}
+use Rattle.ped_steps.specs.ped_flow.specs.Questions.{saved_in, IsShownBehind}
+use Rattle.ped_steps.specs.ped_flow.specs.Summaries.{AreSummed, sum_behind_all}
+use Rattle.ped_steps.specs.ped_flow.proofs.TreeSums.{all_behind-summed}
 use Rattle.ped_steps.specs.Replacing.{alone, program_with}
 use Rattle.ped_steps.specs.Runs.Gaps.{filled}
 use Rattle.ped_steps.proofs.RunLaws.ReplacedTrees.{HasGap, program_gap}

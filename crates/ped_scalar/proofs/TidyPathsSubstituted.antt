@@ -5,10 +5,10 @@ use Rattle.ped_base.specs.Lists.{is_same_text, is_among}
 use Rattle.ped_tree.proofs.NameLaws.NameEquality.{same_is}
 use Rattle.ped_tree.specs.Tree.{ExprTree, Int, Var, Element, Neg, Add, Sub, Mul, Div, Pow, Call, Head, StmtTree, StmtTrees, Assign, If, Do, Print, Read, Stop, Comment, no_stmts, more_stmts}
 use Rattle.ped_tree.specs.Numbering.{statement_count, statements_count}
-use Rattle.ped_flow.specs.ped_affine.specs.Assigned.{loop_variables, all_loop_variables}
-use Rattle.ped_flow.specs.Events.{own_events, start_events, exit_events}
-use Rattle.ped_flow.specs.Summaries.{passing, unreached, sum_in_turn, sum_either, sum_trips, sum_events, sum_loop, sum_of, sum_of_all, sum_behind, sum_behind_all}
-use Rattle.ped_flow.proofs.Truths.{untrue, or_none}
+use Rattle.ped_steps.specs.ped_affine.specs.Assigned.{loop_variables, all_loop_variables}
+use Rattle.ped_steps.specs.ped_flow.specs.Events.{own_events, start_events, exit_events}
+use Rattle.ped_steps.specs.ped_flow.specs.Summaries.{passing, unreached, sum_in_turn, sum_either, sum_trips, sum_events, sum_loop, sum_of, sum_of_all, sum_behind, sum_behind_all}
+use Rattle.ped_steps.specs.ped_flow.proofs.Truths.{untrue, or_none}
 use Rattle.ped_steps.specs.ped_laws.specs.FlowRuns.Covering.{has_stop, some_stop}
 use Rattle.ped_sums.specs.Substitution.{substituted, head_substituted, condition_substituted, item_substituted, statement_substituted, statements_substituted}
 use Rattle.ped_steps.proofs.RunLaws.SubstitutedShapes.{count_kept, counts_kept}

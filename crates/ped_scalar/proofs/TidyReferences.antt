@@ -10,8 +10,8 @@ use Rattle.ped_tree.specs.Tree.{ExprTree, ExprTrees, Int, Var, Element, Neg, Add
 use Rattle.ped_tree.specs.Numbering.{numbered, all_numbered, at_place, statement_count, statements_count}
 use Rattle.ped_tree.specs.Accesses.{Access, read_of, write_of, expr_reads, exprs_reads, cond_reads, item_reads, left_accesses, private_writes, own_accesses, constant_names, listed}
 use Rattle.ped_tree.specs.Nests.{Loop, indices_of}
-use Rattle.ped_refs.specs.References.{Reference, numbered_accesses, statement_references, statements_references}
-use Rattle.ped_flow.specs.Questions.{LoopOf}
+use Rattle.ped_steps.specs.ped_refs.specs.References.{Reference, numbered_accesses, statement_references, statements_references}
+use Rattle.ped_steps.specs.ped_flow.specs.Questions.{LoopOf}
 use Rattle.ped_steps.specs.Tidy.{is_write_in, is_written_in}
 use Rattle.ped_steps.proofs.RunLaws.ReplacedTrees.{in_if, in_more, itself, next_place, no_later}
 

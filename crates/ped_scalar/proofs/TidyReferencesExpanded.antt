@@ -10,13 +10,13 @@ use Rattle.ped_tree.specs.Tree.{Var, no_exprs, more_exprs, Head, StmtTree, StmtT
 use Rattle.ped_tree.specs.Numbering.{statement_count, statements_count}
 use Rattle.ped_tree.specs.Accesses.{constants_in, constant_names}
 use Rattle.ped_tree.proofs.NameLaws.NameEquality.{same_is}
-use Rattle.ped_flow.specs.ped_affine.specs.Assigned.{loop_variables, all_loop_variables}
+use Rattle.ped_steps.specs.ped_affine.specs.Assigned.{loop_variables, all_loop_variables}
 use Rattle.ped_steps.specs.ped_laws.specs.Acts.Orders.{IsIn}
-use Rattle.ped_symbols.specs.NameRefusals.{IsValid}
-use Rattle.ped_symbols.specs.Kinds.{kind_of, kind_in, names_of}
-use Rattle.ped_symbols.specs.RightUses.RightUses.{is_scalar_kind, is_scalar, cond_is_right, head_is_right, stmt_is_right, stmts_are_right}
-use Rattle.ped_flow.specs.PlainBounds.{all_loops_round, nest_round}
-use Rattle.ped_flow.specs.Questions.{LoopOf, IsIndexIn}
+use Rattle.ped_steps.specs.ped_symbols.specs.NameRefusals.{IsValid}
+use Rattle.ped_steps.specs.ped_symbols.specs.Kinds.{kind_of, kind_in, names_of}
+use Rattle.ped_steps.specs.ped_symbols.specs.RightUses.RightUses.{is_scalar_kind, is_scalar, cond_is_right, head_is_right, stmt_is_right, stmts_are_right}
+use Rattle.ped_steps.specs.ped_flow.specs.PlainBounds.{all_loops_round, nest_round}
+use Rattle.ped_steps.specs.ped_flow.specs.Questions.{LoopOf, IsIndexIn}
 use Rattle.ped_sums.specs.Substitution.{statement_substituted, statements_substituted}
 use Rattle.ped_steps.specs.Replacing.{alone}
 use Rattle.ped_steps.specs.Tidy.{is_written_in}

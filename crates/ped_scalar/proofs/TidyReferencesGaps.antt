@@ -6,8 +6,8 @@ use Rattle.ped_tree.specs.Nests.{Loop}
 use Rattle.ped_tree.proofs.Numbers.{at_place-front, numbered-back, all_numbered-back}
 use Rattle.ped_steps.specs.ped_laws.specs.Acts.Orders.{IsIn}
 use Rattle.ped_steps.specs.ped_laws.proofs.ActLaws.Lists.{in_left, in_right}
-use Rattle.ped_flow.specs.PlainBounds.{loops_round, all_loops_round}
-use Rattle.ped_flow.specs.Questions.{LoopOf}
+use Rattle.ped_steps.specs.ped_flow.specs.PlainBounds.{loops_round, all_loops_round}
+use Rattle.ped_steps.specs.ped_flow.specs.Questions.{LoopOf}
 use Rattle.ped_steps.specs.Replacing.{followed}
 use Rattle.ped_steps.specs.Runs.Gaps.{Gap, at_front, past, in_then, in_else, in_body, filled, number_at}
 use Rattle.ped_steps.proofs.RunLaws.FilledGaps.{number_from, number_room, count_filled}

@@ -7,8 +7,8 @@ use Rattle.ped_tree.specs.Tree.{Head, StmtTrees, Do, ProgramTree}
 use Rattle.ped_tree.specs.Nests.{Loop}
 use Rattle.ped_tree.specs.Numbering.{statements_count}
 use Rattle.ped_steps.specs.ped_laws.specs.Acts.Orders.{IsIn}
-use Rattle.ped_flow.specs.PlainBounds.{all_loops_round, nest_round}
-use Rattle.ped_flow.specs.Questions.{LoopOf, IsIndexIn}
+use Rattle.ped_steps.specs.ped_flow.specs.PlainBounds.{all_loops_round, nest_round}
+use Rattle.ped_steps.specs.ped_flow.specs.Questions.{LoopOf, IsIndexIn}
 use Rattle.ped_steps.specs.Replacing.{alone}
 use Rattle.ped_steps.specs.Tidy.{is_written_in}
 use Rattle.ped_steps.proofs.RunLaws.ReplacedTrees.{program_gap}

@@ -1,3 +1,4 @@
+pub use Rattle.ped_steps
 pub mod Scalars
 pub mod Privatising
 pub mod Expanding

@@ -2,8 +2,8 @@
 
 ghost use Rattle.std.specs.Prelude.{◌≡◌, ℕ, List, Option, None};
 ghost use Rattle.ped_tree.specs.Tree.{ProgramTree};
-ghost use Rattle.ped_symbols.specs.NameRefusals.{IsValid};
-ghost use Rattle.ped_flow.specs.Questions.{LoopOf};
+ghost use Rattle.ped_steps.specs.ped_symbols.specs.NameRefusals.{IsValid};
+ghost use Rattle.ped_steps.specs.ped_flow.specs.Questions.{LoopOf};
 ghost use Rattle.ped_steps.specs.Causes.{Cause, IsFirstCause, none_forbids};
 ghost use Rattle.ped_steps.specs.Tidy.{IsTidy};
 ghost use Rattle.ped_steps.specs.Runs.Meaning.{Keeps};

@@ -19,4 +19,6 @@ pub use laws::{
     expanding_keeps, expanding_stays_tidy, one_cause_against_expanding,
     one_cause_against_privatising, privatising_keeps, privatising_stays_tidy,
 };
+pub use ped_steps;
+pub use ped_steps::ped_flow;
 pub use privatising::privatise;

@@ -2,8 +2,8 @@
 use Rattle.std.proofs.Common.{◌≡◌, ℕ, pos, negsuc, List, [], ◌∷◌, true, false, Some, None, refl}
 use Rattle.std.specs.Prelude.{codes}
 use Rattle.std.specs.Fmt.{digits}
-use Rattle.ped_store.specs.Cells.{Scalar, Element, Private, In}
-use Rattle.ped_eval.specs.Outcomes.{Outcome, Ended, Fault}
+use Rattle.ped_order.specs.ped_store.specs.Cells.{Scalar, Element, Private, In}
+use Rattle.ped_order.specs.ped_eval.specs.Outcomes.{Outcome, Ended, Fault}
 use Rattle.ped_order.specs.Reports.{NoRace, Race}
 use Rattle.ped_order.specs.Reports as races
 use Rattle.ped_tree.specs.declared.grammar.refusals.RefusalKind.TheVariants.{OpenBlock, StorageLimit}

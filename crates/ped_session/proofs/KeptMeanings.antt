@@ -2,13 +2,13 @@
 use Rattle.std.proofs.Common.{◌≡◌, inl, inr, ℕ, List, [], ◌∷◌, map, Option, Some, None, refl, sym, ap, ◌∙◌, subst}
 use Rattle.ped_tree.specs.Tree.{ProgramTree}
 use Rattle.ped_tree.specs.Printing.{program_text}
-use Rattle.ped_symbols.specs.NameRefusals.{IsValid}
+use Rattle.ped_valid.specs.ped_symbols.specs.NameRefusals.{IsValid}
 use Rattle.ped_valid.specs.Validity.{ReadsValid}
 use Rattle.ped_valid.proofs.OneVerdict.{valid_prints}
-use Rattle.ped_eval.specs.Outcomes.{outcome}
-use Rattle.ped_steps.specs.Tidy.{IsTidy}
-use Rattle.ped_steps.specs.Runs.Meaning.{Keeps}
-use Rattle.ped_steps.proofs.RunLaws.KeptMeanings.{keeps_itself, keeps_further}
+use Rattle.ped_order.specs.ped_eval.specs.Outcomes.{outcome}
+use Rattle.ped_scalar.specs.ped_steps.specs.Tidy.{IsTidy}
+use Rattle.ped_scalar.specs.ped_steps.specs.Runs.Meaning.{Keeps}
+use Rattle.ped_scalar.specs.ped_steps.proofs.RunLaws.KeptMeanings.{keeps_itself, keeps_further}
 use Rattle.ped_script.specs.declared.items.Command.{Command}
 use Rattle.ped_script.specs.declared.items.Command.TheVariants.{Run}
 use Rattle.ped_script.specs.declared.items.Item.{Item}

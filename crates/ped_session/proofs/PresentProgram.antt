@@ -3,7 +3,7 @@ use Rattle.std.proofs.Common.{◌≡◌, ℕ, List, length, refl, sym, ap, subst
 use Rattle.ped_tree.specs.Tree.{ProgramTree}
 use Rattle.ped_valid.specs.Validity.{ReadsValid}
 use Rattle.ped_valid.proofs.OneVerdict.{valid_prints}
-use Rattle.ped_edges.specs.Edges.{Edge}
+use Rattle.ped_graph.specs.ped_edges.specs.Edges.{Edge}
 use Rattle.ped_graph.specs.Dependences.{AreEdges}
 use Rattle.ped_graph.specs.Held.{Held, held_of}
 use Rattle.ped_graph.proofs.OnePane.{one_edges}

@@ -5,7 +5,7 @@ use Rattle.ped_tree.specs.Tree.{StmtTree, ProgramTree}
 use Rattle.ped_tree.specs.Numbering.{statement_with}
 use Rattle.ped_graph.specs.DependencePane.{IsDependencePane, IsDependencePaneOf}
 use Rattle.ped_script.specs.declared.items.Command.TheVariants.{Deps}
-use Rattle.ped_eval.specs.Outcomes.{outcome}
+use Rattle.ped_order.specs.ped_eval.specs.Outcomes.{outcome}
 use Rattle.ped_session.specs.declared.versions.Version.{Version}
 use Rattle.ped_session.specs.declared.replies.Refusal.TheVariants.{NoSuchStatement}
 use Rattle.ped_session.specs.declared.replies.Reply.{Reply}

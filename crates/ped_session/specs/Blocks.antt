@@ -2,7 +2,7 @@
 use Rattle.std.specs.Prelude.{ℕ, ℤ, List, [], ◌∷◌, ◌++◌, codes, Option, Some, None}
 use Rattle.std.specs.Fmt.{decimal, signed_decimal}
 use Rattle.std.specs.List.{flat_map}
-use Rattle.ped_eval.specs.Outcomes.{LiveRow, Outcome, Ended, Fault}
+use Rattle.ped_order.specs.ped_eval.specs.Outcomes.{LiveRow, Outcome, Ended, Fault}
 
 -- a line that the program has printed, behind a bar and a blank
 abbrev pub output_row : List ℕ → List ℕ

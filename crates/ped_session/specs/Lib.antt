@@ -1,3 +1,9 @@
+pub use Rattle.ped_script
+pub use Rattle.ped_tree
+pub use Rattle.ped_graph.specs.ped_refs
+pub use Rattle.ped_valid.specs.ped_symbols
+pub use Rattle.ped_valid
+pub use Rattle.ped_graph
 pub mod Adding
 pub mod Blocks
 pub mod Changing

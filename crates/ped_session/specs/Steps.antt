@@ -3,14 +3,14 @@ use Rattle.std.specs.Prelude.{◌≡◌, ◌⊎◌, ℕ, ◌-◌, ◌+◌, List,
 use Rattle.ped_tree.specs.Tree.{StmtTree, ProgramTree}
 use Rattle.ped_tree.specs.Printing.{program_text}
 use Rattle.ped_tree.specs.Numbering.{statement_with}
-use Rattle.ped_symbols.specs.NameRefusals.{IsValid}
+use Rattle.ped_valid.specs.ped_symbols.specs.NameRefusals.{IsValid}
 use Rattle.ped_tree.specs.Grammar.RefusalViews.{finding_of}
 use Rattle.ped_tree.specs.declared.grammar.refusals.Refusal as reading
 use Rattle.ped_valid.specs.Validity.{ReadsValid, RefusesText}
 use Rattle.ped_graph.specs.DependencePane.{IsDependencePane, IsDependencePaneOf}
 use Rattle.ped_graph.specs.Update.Fresh.{tested_pairs}
-use Rattle.ped_eval.specs.Outcomes.{outcome}
-use Rattle.ped_steps.specs.Causes.{Cause}
+use Rattle.ped_order.specs.ped_eval.specs.Outcomes.{outcome}
+use Rattle.ped_scalar.specs.ped_steps.specs.Causes.{Cause}
 use Rattle.ped_script.specs.declared.items.Command.{Command}
 use Rattle.ped_script.specs.declared.items.Command.TheVariants.{Source, Deps, Show, Print, Advise, Replace, Insert, Delete, Interchange, Reverse, Skew, Strip, Peel, Distribute, Fuse, Expand, Privatise, Parallel, Serial, Reject, Undo, Redo, Run, Races, Tested}
 use Rattle.ped_session.specs.declared.changes.Change.TheVariants.{Edit, Transformation}

@@ -12,8 +12,8 @@ use crate::replies::Reply;
 use crate::scripts::{bad_command_row, reply_text};
 use crate::session::Session;
 use ped_base::{Bytes, NoMemory};
+use ped_graph::ped_verdict::Steps;
 use ped_script::{Command, Item};
-use ped_verdict::Steps;
 use std::alloc::Global;
 use std::sync::ledger::Ledger;
 

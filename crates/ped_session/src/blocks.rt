@@ -3,13 +3,13 @@
 ghost use Rattle.std.specs.Prelude.{◌≡◌, ◌++◌, map, IfOk, OnOk};
 ghost use Rattle.std.specs.Fmt.{decimal, signed_decimal};
 ghost use Rattle.std.specs.List.{flat_map};
-ghost use Rattle.ped_eval.specs.OutcomeViews.{outcome_view, row_view};
+ghost use Rattle.ped_order.specs.ped_eval.specs.OutcomeViews.{outcome_view, row_view};
 ghost use Rattle.ped_session.specs.Blocks as Spec;
 
 use crate::scripts::push_number;
 use itoa::Buffer;
 use ped_base::{Bytes, NoMemory};
-use ped_eval::{LiveRow, Outcome};
+use ped_order::ped_eval::{LiveRow, Outcome};
 use std::alloc::Global;
 
 /// The printed lines, `ended` and the live-out variables; or the fault with its statement.

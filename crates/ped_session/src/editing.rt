@@ -12,9 +12,9 @@ use crate::replies::{Refusal, Reply};
 use crate::session::Session;
 use crate::splices::{line_count, spliced};
 use ped_base::{Bytes, NoMemory};
+use ped_graph::ped_verdict::Steps;
 use ped_graph::update::Keep;
 use ped_valid::{OpenRefusal, open_program};
-use ped_verdict::Steps;
 use std::alloc::Global;
 use std::sync::ledger::Ledger;
 

@@ -2,10 +2,10 @@
 
 ghost use Rattle.std.specs.Prelude.{◌≡◌, ℕ, List};
 ghost use Rattle.ped_tree.specs.Tree.{ProgramTree};
-ghost use Rattle.ped_symbols.specs.NameRefusals.{IsValid};
+ghost use Rattle.ped_valid.specs.ped_symbols.specs.NameRefusals.{IsValid};
 ghost use Rattle.ped_valid.specs.Validity.{ReadsValid};
-ghost use Rattle.ped_steps.specs.Tidy.{IsTidy};
-ghost use Rattle.ped_steps.specs.Runs.Meaning.{Keeps};
+ghost use Rattle.ped_scalar.specs.ped_steps.specs.Tidy.{IsTidy};
+ghost use Rattle.ped_scalar.specs.ped_steps.specs.Runs.Meaning.{Keeps};
 ghost use Rattle.ped_script.specs.declared.items.Command.{Command};
 ghost use Rattle.ped_script.specs.declared.items.Command.TheVariants.{Undo, Redo};
 ghost use Rattle.ped_script.specs.declared.items.Item.{Item};

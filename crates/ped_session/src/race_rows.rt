@@ -3,7 +3,7 @@
 ghost use Rattle.std.specs.Prelude.{◌≡◌, ◌++◌, take, IfOk, OnOk};
 ghost use Rattle.std.specs.Fmt.{signed_decimal};
 ghost use Rattle.std.specs.List.{flat_map};
-ghost use Rattle.ped_store.specs.CellViews.{cell_view};
+ghost use Rattle.ped_order.specs.ped_store.specs.CellViews.{cell_view};
 ghost use Rattle.ped_order.specs.ReportViews.{report_view};
 ghost use Rattle.ped_session.specs.RaceRows as Spec;
 
@@ -12,7 +12,7 @@ use crate::scripts::push_number;
 use itoa::Buffer;
 use ped_base::{Bytes, NoMemory};
 use ped_order::RaceReport;
-use ped_store::Cell;
+use ped_order::ped_store::Cell;
 use std::alloc::Global;
 
 /// The row of a report: the first race, the fault that comes before any, or that there is neither.

@@ -12,7 +12,7 @@ use crate::race_rows::race_row;
 use crate::replies::{Refusal, Reply};
 use crate::session::Session;
 use ped_base::{Bytes, NoMemory};
-use ped_eval::run_in_order;
+use ped_order::ped_eval::run_in_order;
 use ped_order::races;
 use ped_print::source_pane;
 use std::alloc::Global;

@@ -2,8 +2,8 @@
 
 use crate::changes::Change;
 use ped_base::Bytes;
+use ped_graph::ped_symbols::Symbols;
 use ped_graph::update::Delta;
-use ped_symbols::Symbols;
 use ped_tree::Program;
 use std::sync::ledger::Ledger;
 

@@ -2,7 +2,7 @@
 
 use ped_flow::Flow;
 use ped_graph::Graph;
-use ped_symbols::Symbols;
+use ped_graph::ped_symbols::Symbols;
 use ped_tree::Program;
 use std::sync::ledger::Ledger;
 

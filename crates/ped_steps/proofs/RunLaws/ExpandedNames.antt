@@ -11,11 +11,11 @@ use Rattle.ped_tree.specs.NamesIn.{expr_names, head_names, stmts_names}
 use Rattle.ped_tree.specs.Numbering.{statement_with}
 use Rattle.ped_tree.proofs.NameLaws.Collected.{among_append}
 use Rattle.ped_tree.proofs.NameLaws.NameEquality.{same_is, same_flip}
-use Rattle.ped_symbols.specs.declared.symbols.Kind.{Kind}
-use Rattle.ped_symbols.specs.declared.symbols.Kind.TheVariants.{Scalar, Array, Constant}
-use Rattle.ped_symbols.specs.Sites.{stmt_sites, stmts_sites}
-use Rattle.ped_symbols.specs.Kinds.{kind_of, kind_in, names_of}
-use Rattle.ped_symbols.specs.RightUses.RightUses.{is_scalar, is_scalar_kind}
+use Rattle.ped_graph.specs.ped_symbols.specs.declared.symbols.Kind.{Kind}
+use Rattle.ped_graph.specs.ped_symbols.specs.declared.symbols.Kind.TheVariants.{Scalar, Array, Constant}
+use Rattle.ped_graph.specs.ped_symbols.specs.Sites.{stmt_sites, stmts_sites}
+use Rattle.ped_graph.specs.ped_symbols.specs.Kinds.{kind_of, kind_in, names_of}
+use Rattle.ped_graph.specs.ped_symbols.specs.RightUses.RightUses.{is_scalar, is_scalar_kind}
 use Rattle.ped_laws.specs.ped_store.specs.Cells as cells
 use Rattle.ped_laws.specs.ped_store.specs.Stores.{Store, lines_in}
 use Rattle.ped_laws.specs.ped_store.specs.Storage.{is_within}

@@ -10,12 +10,12 @@ use Rattle.ped_tree.specs.Grammar.Fits.{in_loop, loop_fits, stmts_fit}
 use Rattle.ped_tree.specs.Constants.NamedConstants.{value_named}
 use Rattle.ped_tree.specs.Constants.ConstantExpressions.{constant_value}
 use Rattle.ped_tree.proofs.NameLaws.NameEquality.{same_itself}
-use Rattle.ped_symbols.specs.Sites.{statement, private_site, stmts_sites}
-use Rattle.ped_symbols.specs.Kinds.{kind_in, names_of, at_last}
-use Rattle.ped_symbols.specs.NameRefusals.{IsValid}
-use Rattle.ped_symbols.specs.RightUses.RightUses.{is_scalar, expr_is_right, head_is_right, stmts_are_right}
-use Rattle.ped_symbols.specs.RightUses.RightLoops.{is_small, is_step, step_is_right, steps_are_right}
-use Rattle.ped_symbols.proofs.RightUseLaws.Whole.{names_occur}
+use Rattle.ped_graph.specs.ped_symbols.specs.Sites.{statement, private_site, stmts_sites}
+use Rattle.ped_graph.specs.ped_symbols.specs.Kinds.{kind_in, names_of, at_last}
+use Rattle.ped_graph.specs.ped_symbols.specs.NameRefusals.{IsValid}
+use Rattle.ped_graph.specs.ped_symbols.specs.RightUses.RightUses.{is_scalar, expr_is_right, head_is_right, stmts_are_right}
+use Rattle.ped_graph.specs.ped_symbols.specs.RightUses.RightLoops.{is_small, is_step, step_is_right, steps_are_right}
+use Rattle.ped_graph.specs.ped_symbols.proofs.RightUseLaws.Whole.{names_occur}
 use Rattle.ped_flow.specs.ped_affine.specs.Assigned.{loop_variables, all_loop_variables}
 use Rattle.ped_laws.specs.ped_store.specs.Stores.{Store}
 use Rattle.ped_laws.specs.ped_store.specs.Storage.{is_within}

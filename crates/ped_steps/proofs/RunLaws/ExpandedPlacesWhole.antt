@@ -7,9 +7,9 @@ use Rattle.ped_base.specs.Lists.{is_same_text, is_among}
 use Rattle.ped_tree.specs.Tree.{Head, StmtTrees, Do, ProgramTree}
 use Rattle.ped_tree.specs.Nests.{indices_of}
 use Rattle.ped_tree.specs.Constants.ConstantExpressions.{constant_value}
-use Rattle.ped_symbols.specs.Kinds.{kind_in, names_of}
-use Rattle.ped_symbols.specs.NameRefusals.{IsValid}
-use Rattle.ped_symbols.specs.RightUses.RightUses.{is_scalar}
+use Rattle.ped_graph.specs.ped_symbols.specs.Kinds.{kind_in, names_of}
+use Rattle.ped_graph.specs.ped_symbols.specs.NameRefusals.{IsValid}
+use Rattle.ped_graph.specs.ped_symbols.specs.RightUses.RightUses.{is_scalar}
 use Rattle.ped_flow.specs.ped_affine.specs.Assigned.{loop_variables, all_loop_variables}
 use Rattle.ped_laws.specs.ped_store.specs.Stores.{Store}
 use Rattle.ped_laws.specs.ped_store.specs.Storage.{is_within}

@@ -8,7 +8,7 @@ use Rattle.ped_tree.specs.Tree.{Head, StmtTree, StmtTrees, Do, ProgramTree}
 use Rattle.ped_tree.specs.NamesIn.{stmt_names, stmts_names}
 use Rattle.ped_tree.specs.Accesses.{constant_names}
 use Rattle.ped_tree.specs.Numbering.{statement_count, statements_count}
-use Rattle.ped_symbols.specs.NameRefusals.{IsValid}
+use Rattle.ped_graph.specs.ped_symbols.specs.NameRefusals.{IsValid}
 use Rattle.ped_laws.specs.ped_store.specs.Cells as cells
 use Rattle.ped_laws.specs.ped_store.specs.Cells.{Cell, Element}
 use Rattle.ped_laws.specs.ped_store.specs.Stores.{Store, store_at_start}

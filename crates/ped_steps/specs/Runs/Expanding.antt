@@ -6,8 +6,8 @@ use Rattle.ped_base.specs.Lists.{is_among}
 use Rattle.ped_tree.specs.Tree.{ExprTree, Var, Element, no_exprs, more_exprs, Head, StmtTree, StmtTrees, Assign, Do, no_stmts, more_stmts, DeclTree, Integer, ProgramTree}
 use Rattle.ped_tree.specs.Nests.{Loop, indices_of}
 use Rattle.ped_tree.specs.Constants.ConstantExpressions.{constant_value}
-use Rattle.ped_symbols.specs.Kinds.{kind_in, names_of, table_of}
-use Rattle.ped_symbols.specs.RightUses.RightUses.{is_scalar}
+use Rattle.ped_graph.specs.ped_symbols.specs.Kinds.{kind_in, names_of, table_of}
+use Rattle.ped_graph.specs.ped_symbols.specs.RightUses.RightUses.{is_scalar}
 use Rattle.ped_flow.specs.ped_affine.specs.Assigned.{loop_variables}
 use Rattle.ped_sums.specs.Sums.{literal}
 use Rattle.ped_sums.specs.Substitution.{statements_substituted}

@@ -1,6 +1,6 @@
 use Rattle.std.proofs.Common.{ℕ, ◌∙◌, sym, subst}
-use Rattle.ped_tree.specs.Grammar.RefusalViews.{finding_of}
-use Rattle.ped_valid.specs.Refusals.{IsRefusalOf}
+use Rattle.ped_session.specs.ped_tree.specs.Grammar.RefusalViews.{finding_of}
+use Rattle.ped_session.specs.ped_valid.specs.Refusals.{IsRefusalOf}
 use Rattle.ped_answer.specs.declared.answering.Status.TheVariants.{ProgramRefused}
 use Rattle.ped_answer.specs.Refusals.{refused_line}
 use Rattle.ped_answer.specs.Answer.{IsJust, IsSession}

@@ -1,7 +1,7 @@
 use Rattle.std.proofs.Common.{subst}
-use Rattle.ped_tree.specs.Views.{program_tree}
-use Rattle.ped_tree.specs.Grammar.RefusalViews.{finding_of}
-use Rattle.ped_valid.specs.Refusals.{IsRefusalOf}
+use Rattle.ped_session.specs.ped_tree.specs.Views.{program_tree}
+use Rattle.ped_session.specs.ped_tree.specs.Grammar.RefusalViews.{finding_of}
+use Rattle.ped_session.specs.ped_valid.specs.Refusals.{IsRefusalOf}
 use Rattle.ped_answer.specs.declared.answering.Status.TheVariants.{Done, ProgramRefused}
 use Rattle.ped_answer.specs.Refusals.{refused_line}
 use Rattle.ped_answer.specs.Answer.{IsJust, IsShown, ShowsTree}

@@ -1,7 +1,7 @@
 use Rattle.std.proofs.Common.{◌≡◌, ◌+◌, ◌++◌, drop}
 use Rattle.ped_tree.specs.Views.{stmt_trees}
 use Rattle.ped_tree.specs.Numbering.{statements_count}
-use Rattle.ped_refs.specs.Loops.{nest_of}
+use Rattle.ped_graph.specs.ped_refs.specs.Loops.{nest_of}
 use Rattle.ped_flow.specs.PlainBounds.{all_loops_round}
 use Rattle.ped_steps.proofs.rounds.+round.Given as goal
 

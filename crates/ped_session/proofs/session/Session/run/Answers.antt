@@ -1,7 +1,7 @@
 use Rattle.std.proofs.Common.{ap, sym, ◌∙◌}
 use Rattle.std.proofs.lemmas.Result.{IfOk-weaker}
 use Rattle.ped_tree.specs.Tree.{ProgramTree}
-use Rattle.ped_eval.specs.Outcomes.{outcome}
+use Rattle.ped_order.specs.ped_eval.specs.Outcomes.{outcome}
 use Rattle.ped_session.specs.Holding.{tree_of}
 use Rattle.ped_session.specs.States.{State}
 use Rattle.ped_session.proofs.PresentProgram.{only_version, reads_version}

@@ -1,5 +1,5 @@
 use Rattle.std.proofs.Common.{◌≡◌, ap, ◌∙◌, sym}
-use Rattle.ped_eval.specs.Outcomes.{outcome}
+use Rattle.ped_order.specs.ped_eval.specs.Outcomes.{outcome}
 use Rattle.ped_session.specs.States.{State}
 use Rattle.ped_session.specs.Blocks.{block}
 use Rattle.ped_session.proofs.Shown.{shown, shown_run}

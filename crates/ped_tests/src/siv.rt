@@ -1,7 +1,8 @@
 //! The dependence tests of one index.
 
 use ped_siv::{
-    strong_distance, strong_excludes, weak_crossing_excludes, weak_zero_excludes, ziv_excludes,
+    StrongRow, group_excludes, strong_distance, strong_excludes, weak_crossing_excludes,
+    weak_zero_excludes, ziv_excludes,
 };
 use ped_views::{Direction, LoopRange};
 
@@ -42,6 +43,16 @@ fn a_steady_loop_keeps_to_its_steps(rt: HostRuntime) {
         ..BY_TWO
     };
     assert!(rt; !strong_excludes(1, 1, 3, 0, &unsteady, Direction::Before));
+}
+
+#[test]
+fn the_rows_of_a_group_tell_one_distance(rt: HostRuntime) {
+    let own = StrongRow { a: 1, c1: 2, c2: 0 };
+    let double = StrongRow { a: 2, c1: 4, c2: 0 };
+    let longer = StrongRow { a: 1, c1: 4, c2: 0 };
+    assert!(rt; !group_excludes(&[own, double], &BY_TWO, Direction::Before));
+    assert!(rt; group_excludes(&[own, double], &BY_TWO, Direction::Same));
+    assert!(rt; group_excludes(&[own, longer], &BY_TWO, Direction::Before));
 }
 
 #[test]

@@ -32,7 +32,7 @@ all_run_twice v = list_all runs_twice v.loops && list_all runs_twice v.source_in
 abbrev pub is_firm : List (List ℕ × ℤ) → List Bool → Reference → Bool
 is_firm constants guards r = list_all (has_constant_bounds constants) r.nest && not (is_guarded guards r.statement)
 
--- the tests of a view tell a dependence that they leave: its loops run at least twice, and each position is affine and ZIV or strong SIV, no index in two of them; a ZIV position with different constants leaves none (Allen and Kennedy, section 3.3; this project)
+-- the tests of a view tell a dependence that they leave: its loops run at least twice, and each position is affine and ZIV or strong SIV; a ZIV position with different constants leaves none, and neither do positions that are strong SIV in one loop and tell different distances (Allen and Kennedy, sections 3.1, 3.3; this project)
 abbrev pub is_telling : View → Bool
 is_telling v = all_run_twice v && is_exact v
 

@@ -1,5 +1,5 @@
 //! Calls that may find no memory and that no program makes so far, each once with memory enough. No contract says that
-//! there may be. They stand in a crate of their own, since a crate that has tests is proved once more with them.
+//! there may be. And rows of bits, at the ends of words and of groups of words. They stand in a crate of their own, since a crate that has tests is proved once more with them.
 #![tactic(auto)]
 
 #[cfg(test)]
@@ -10,3 +10,5 @@ mod expressions;
 mod matrices;
 #[cfg(test)]
 mod references;
+#[cfg(test)]
+mod rows;

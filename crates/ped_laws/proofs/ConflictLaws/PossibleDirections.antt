@@ -41,6 +41,6 @@ directions_possible t first a b source sink at_source at_sink u v vector x y sha
     let sink_store : IsStoreIn (setting_in t o) first v = subst (λ (n : ℕ). IsStoreIn (setting_in t n) first v) one y.within in
     let stand : StandInDirections t (turns_of at_source) (turns_of at_sink) vector =
     subst (λ (is : List Turn). StandInDirections t is (turns_of at_sink) vector) x.turns (subst (λ (js : List Turn). StandInDirections t a.place.turns js vector) y.turns stands) in (
-      cells_meet t o first (site_of source) (site_of sink) at_source at_sink u v vector source_within sink_within x.reached to_sink x.within sink_store stand source.access.subscripts sink.access.subscripts source.access.name sink.access.name a.cell b.cell x.cell y.cell same,
+      cells_meet t o first (site_of source) (site_of sink) at_source at_sink u v vector source_within sink_within x.reached to_sink x.within sink_store stand source.access.name sink.access.name a.cell b.cell x.cell y.cell same,
       long t o first (site_of source) (site_of sink) at_source at_sink u v vector source_within sink_within x.reached to_sink x.within sink_store stand,
     )

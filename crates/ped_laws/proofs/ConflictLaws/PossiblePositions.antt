@@ -5,12 +5,14 @@ use Rattle.std.specs.Cmp.Lexicographic.{pointwise}
 use Rattle.std.specs.Cmp.Rules.{signed_items}
 use Rattle.std.proofs.lemmas.Bool.{and_parts}
 use Rattle.std.proofs.lemmas.Map.Views.{any-filter_same}
+use Rattle.std.proofs.lemmas.List.Elements.{All-from_recursion}
 use Rattle.std.proofs.lemmas.List.{length-map, length-append, length-replicate, length-take-le, length-drop, take-take, drop-take}
 use Rattle.ped_flow.specs.ped_base.specs.Lists.{is_same_text, is_among}
 use Rattle.ped_graph.specs.ped_views.specs.declared.directions.Direction.{Direction}
-use Rattle.ped_graph.specs.ped_views.specs.Views.{Range}
+use Rattle.ped_graph.specs.ped_views.specs.Views.{Range, SubscriptPair}
 use Rattle.ped_graph.specs.ped_views.specs.Limits.{FitsLoops}
-use Rattle.ped_graph.specs.ped_views.specs.Excluded.{Excludes}
+use Rattle.ped_graph.specs.ped_views.specs.Excluded.{Indices}
+use Rattle.ped_graph.specs.ped_views.specs.Vectors.{IsPossible}
 use Rattle.ped_flow.specs.ped_tree.specs.Tree.{ExprTree, Head, ProgramTree}
 use Rattle.ped_flow.specs.ped_tree.specs.Nests.{Loop, indices_of, common_nest}
 use Rattle.ped_eval.specs.ped_store.specs.Cells.{Cell, same_cell}
@@ -24,11 +26,11 @@ use Rattle.ped_flow.specs.ped_affine.specs.AffineForms.{AffineForm, affine_of, f
 use Rattle.ped_flow.specs.ped_affine.specs.PairViews.{Site, Depths, depths_of, is_other, other_variables, terms_of, other_coefficients, usable_pair, unusable, subscript_pair, position_of, positions_of, heads_of, view_at}
 use Rattle.ped_graph.specs.Dependences.{setting_in}
 use Rattle.ped_laws.specs.Covering.Weights.{HaveValues}
-use Rattle.ped_laws.specs.Covering.Together.{CommonValues, ValuesInRange, StandTogether, indices_among, side_values}
+use Rattle.ped_laws.specs.Covering.Together.{CommonValues, StandTogether, IsSolvedBy, indices_among, side_values}
 use Rattle.ped_laws.proofs.CoveringLaws.Cancelling.{position_solved}
 use Rattle.ped_laws.proofs.CoveringLaws.FormValues.{value_tells}
 use Rattle.ped_laws.proofs.CoveringLaws.Sides.{loops_first, agree}
-use Rattle.ped_laws.proofs.CoveringLaws.Solutions.{not_excluded}
+use Rattle.ped_laws.proofs.CoveringLaws.Solutions.{none_excludes}
 use Rattle.ped_laws.proofs.CoveringLaws.Texts.{text_is}
 use Rattle.ped_laws.specs.Conflicts.Making.{ComeTo, StandsFor}
 use Rattle.ped_laws.specs.Conflicts.Reaching.{IsStoreIn, Reached}
@@ -141,6 +143,10 @@ module _ (t : ProgramTree) (o : ℕ) (first : Store) (source sink : Site) (at_so
   pub long : length vector ≡ length (view_at s source sink).loops
   long = as_many (take k (nest_ranges s (heads_of source.nest))) vector (take k (map (λ i. i.value) (turns_of at_source))) (take k (map (λ i. i.value) (turns_of at_sink))) fit.0
 
+  -- one coefficient for each loop of the view
+  abbrev Fits : SubscriptPair → Type 0
+  Fits = FitsLoops (length (view_at s source sink).loops) (length (view_at s source sink).source_inner) (length (view_at s source sink).sink_inner)
+
   -- the values of the loops' variables come first on each side
   side_parts : (side : Site) (scope : Scope) (w : Store) (others : List (List ℕ)) → k ≤ length side.nest → Reached t s first side.nest scope
       → (take k (side_values (value_at scope w) side others) ≡ take k (map (λ i. i.value) (turns_of scope))) × (take (length side.nest - k) (drop k (side_values (value_at scope w) side others)) ≡ drop k (map (λ i. i.value) (turns_of scope)))
@@ -149,17 +155,24 @@ module _ (t : ProgramTree) (o : ℕ) (first : Store) (source sink : Site) (at_so
       front_and_back k (length side.nest) (side_values (value_at scope w) side others) (map (λ i. i.value) (turns_of scope)) h
       (ap (λ (n : ℕ). take n (side_values (value_at scope w) side others)) (sym loops) ∙ (loops_first (value_at scope w) side others (distinct t s first side.nest scope reached) ∙ values_told scope w (indices_of side.nest) (turns_of scope) (told t s first side.nest scope reached)))
 
-  together : (others : List (List ℕ)) → StandTogether (view_at s source sink) vector (indices_among (depths_of source sink) (side_values (value_at at_source u) source others) (side_values (value_at at_sink v) sink others))
-  together others =
+  -- the values of the loops, which no other variables change
+  abbrev at : Indices
+  at = record {
+    source = take k (map (λ i. i.value) (turns_of at_source));
+    sink = take k (map (λ i. i.value) (turns_of at_sink));
+    source_inner = drop k (map (λ i. i.value) (turns_of at_source));
+    sink_inner = drop k (map (λ i. i.value) (turns_of at_sink));
+  }
+
+  together : StandTogether (view_at s source sink) vector at
+  together = record { common = fit.0; source_inner = fit.1; sink_inner = fit.2 }
+
+  among : (others : List (List ℕ)) → indices_among (depths_of source sink) (side_values (value_at at_source u) source others) (side_values (value_at at_sink v) sink others) ≡ at
+  among others =
       let within = common_within source.nest sink.nest in
       let a = side_parts source at_source u others within.0 to_source in
       let b = side_parts sink at_sink v others within.1 to_sink in
-      record {
-        common = subst (λ (is : List ℤ). CommonValues (take k (nest_ranges s (heads_of source.nest))) vector is (take k (side_values (value_at at_sink v) sink others))) (sym a.0)
-            (subst (λ (js : List ℤ). CommonValues (take k (nest_ranges s (heads_of source.nest))) vector (take k (map (λ i. i.value) (turns_of at_source))) js) (sym b.0) fit.0);
-        source_inner = subst (λ (is : List ℤ). ValuesInRange (drop k (nest_ranges s (heads_of source.nest))) is) (sym a.1) fit.1;
-        sink_inner = subst (λ (is : List ℤ). ValuesInRange (drop k (nest_ranges s (heads_of sink.nest))) is) (sym b.1) fit.2;
-      }
+      λ i. record { source = a.0 i; sink = b.0 i; source_inner = a.1 i; sink_inner = b.1 i }
 
   have : (nest : List Loop) (others : List (List ℕ)) (scope : Scope) (w : Store) → HaveValues (terms_of s nest others) (value_at scope w) (names_in (setting_of t) scope) w
   have nest others scope w = record { constants = refl; unknowns = λ x n i e. sym (ap number_in e) }
@@ -180,8 +193,9 @@ module _ (t : ProgramTree) (o : ℕ) (first : Store) (source sink : Site) (at_so
       let loops : length (indices_of side.nest) ≡ length side.nest = length-map side.nest (λ l. l.head.variable) in
       omega (arith, h, complete, parts, loops)
 
-  not_excluded_at : (e g : ExprTree) (n : ℤ) → (value (names_in (setting_of t) at_source) e u).result ≡ Ok n → (value (names_in (setting_of t) at_sink) g v).result ≡ Ok n → ¬ (Excludes (view_at s source sink) (position_of s source sink e g) vector)
-  not_excluded_at e g n x y =
+  -- both subscripts of a position that come to one number fit the view and are equal at the values of the loops
+  solved_at : (e g : ExprTree) (n : ℤ) → (value (names_in (setting_of t) at_source) e u).result ≡ Ok n → (value (names_in (setting_of t) at_sink) g v).result ≡ Ok n → Fits (position_of s source sink e g) × IsSolvedBy at (position_of s source sink e g)
+  solved_at e g n x y =
       let others : List (List ℕ) = other_variables s source sink e g in
       let d : Depths = depths_of source sink in
       let within = common_within source.nest sink.nest in
@@ -193,26 +207,37 @@ module _ (t : ProgramTree) (o : ℕ) (first : Store) (source sink : Site) (at_so
       let few : k ≤ length (nest_ranges s (heads_of source.nest)) = (let w = within.0 in omega (arith, w, source_ranges)) in
       let loops : length (view_at s source sink).loops ≡ k = length-take-le k (nest_ranges s (heads_of source.nest)) few in
       let source_further : length (view_at s source sink).source_inner ≡ length source.nest - k = length-drop k (nest_ranges s (heads_of source.nest)) ∙ ap (λ (m : ℕ). m - k) source_ranges in
-      let sink_further : length (view_at s source sink).sink_inner ≡ length sink.nest - k = length-drop k (nest_ranges s (heads_of sink.nest)) ∙ ap (λ (m : ℕ). m - k) sink_ranges in
-      not_excluded (view_at s source sink) (position_of s source sink e g) vector (indices_among d (side_values (value_at at_source u) source others) (side_values (value_at at_sink v) sink others))
-      (record { source_common = f.source_common ∙ sym loops; sink_common = f.sink_common ∙ sym loops; source_inner = f.source_inner ∙ sym source_further; sink_inner = f.sink_inner ∙ sym sink_further })
-      (together others)
-      (position_solved s source sink e g (value_at at_source u) (value_at at_sink v) (names_in (setting_of t) at_source) (names_in (setting_of t) at_sink) u v n (have source.nest others at_source u) (have sink.nest others at_sink v)
-      (agree s source sink e g (value_at at_source u) (value_at at_sink v) (agreed e g)) x y)
+      let sink_further : length (view_at s source sink).sink_inner ≡ length sink.nest - k = length-drop k (nest_ranges s (heads_of sink.nest)) ∙ ap (λ (m : ℕ). m - k) sink_ranges in (
+        record { source_common = f.source_common ∙ sym loops; sink_common = f.sink_common ∙ sym loops; source_inner = f.source_inner ∙ sym source_further; sink_inner = f.sink_inner ∙ sym sink_further },
+        subst (λ (values : Indices). IsSolvedBy values (position_of s source sink e g)) (among others)
+            (position_solved s source sink e g (value_at at_source u) (value_at at_sink v) (names_in (setting_of t) at_source) (names_in (setting_of t) at_sink) u v n (have source.nest others at_source u) (have sink.nest others at_sink v)
+            (agree s source sink e g (value_at at_source u) (value_at at_sink v) (agreed e g)) x y),
+      )
 
-  -- no position of subscripts that come to the same numbers excludes the directions
-  none_excludes : (es gs : List ExprTree) (ns : List ℤ) → ComeTo (names_in (setting_of t) at_source) u es ns → ComeTo (names_in (setting_of t) at_sink) v gs ns
-      → AllByRecursion (λ p. ¬ (Excludes (view_at s source sink) p vector)) (positions_of s source sink es gs)
-  none_excludes [] gs ns x y = tt
-  none_excludes (e ∷ es) [] ns x y = tt
-  none_excludes (e ∷ es) (g ∷ gs) [] x y = absurd x
-  none_excludes (e ∷ es) (g ∷ gs) (n ∷ ns) x y = (not_excluded_at e g n x.0 y.0, none_excludes es gs ns x.1 y.1)
+  -- all positions of subscripts that come to the same numbers
+  all_solved : (es gs : List ExprTree) (ns : List ℤ) → ComeTo (names_in (setting_of t) at_source) u es ns → ComeTo (names_in (setting_of t) at_sink) v gs ns
+      → AllByRecursion Fits (positions_of s source sink es gs) × AllByRecursion (IsSolvedBy at) (positions_of s source sink es gs)
+  all_solved [] gs ns x y = (tt, tt)
+  all_solved (e ∷ es) [] ns x y = (tt, tt)
+  all_solved (e ∷ es) (g ∷ gs) [] x y = absurd x
+  all_solved (e ∷ es) (g ∷ gs) (n ∷ ns) x y =
+      let h = solved_at e g n x.0 y.0 in
+      let rest = all_solved es gs ns x.1 y.1 in
+      ((h.0, rest.0), (h.1, rest.1))
 
-  pub cells_meet : (es gs : List ExprTree) (x y : List ℕ) (c d : Cell) → StandsFor t (names_in (setting_of t) at_source) u x es c → StandsFor t (names_in (setting_of t) at_sink) v y gs d → same_cell c d ≡ true
-      → AllByRecursion (λ p. ¬ (Excludes (view_at s source sink) p vector)) (positions_of s source sink es gs)
-  cells_meet [] gs x y c d p q h = tt
-  cells_meet (e ∷ es) [] x y c d p q h = tt
-  cells_meet (e ∷ es) (g ∷ gs) x y c d p q h =
+  -- subscripts that stand for one cell
+  all_meet : (es gs : List ExprTree) (x y : List ℕ) (c d : Cell) → StandsFor t (names_in (setting_of t) at_source) u x es c → StandsFor t (names_in (setting_of t) at_sink) v y gs d → same_cell c d ≡ true
+      → AllByRecursion Fits (positions_of s source sink es gs) × AllByRecursion (IsSolvedBy at) (positions_of s source sink es gs)
+  all_meet [] gs x y c d p q h = (tt, tt)
+  all_meet (e ∷ es) [] x y c d p q h = (tt, tt)
+  all_meet (e ∷ es) (g ∷ gs) x y c d p q h =
       let both : (is_same_text x y && pointwise int_eq p.0 q.0) ≡ true = (λ i. same_cell (sym p.2 i) (sym q.2 i)) ∙ h in
       let numbers : p.0 ≡ q.0 = (signed_items p.0 q.0).0 (and_parts (is_same_text x y) (pointwise int_eq p.0 q.0) both).1 in
-      none_excludes (e ∷ es) (g ∷ gs) q.0 (subst (λ (ns : List ℤ). ComeTo (names_in (setting_of t) at_source) u (e ∷ es) ns) numbers p.1) q.1
+      all_solved (e ∷ es) (g ∷ gs) q.0 (subst (λ (ns : List ℤ). ComeTo (names_in (setting_of t) at_source) u (e ∷ es) ns) numbers p.1) q.1
+
+  -- no position and no group excludes the directions of accesses to one cell
+  pub cells_meet : (x y : List ℕ) (c d : Cell) → StandsFor t (names_in (setting_of t) at_source) u x source.subscripts c → StandsFor t (names_in (setting_of t) at_sink) v y sink.subscripts d → same_cell c d ≡ true → IsPossible (view_at s source sink) vector
+  cells_meet x y c d p q h =
+      let all = all_meet source.subscripts sink.subscripts x y c d p q h in
+      let positions = positions_of s source sink source.subscripts sink.subscripts in
+      none_excludes (view_at s source sink) vector at (All-from_recursion Fits positions all.0) together (All-from_recursion (IsSolvedBy at) positions all.1)

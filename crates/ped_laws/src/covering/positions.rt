@@ -4,9 +4,9 @@ ghost use Rattle.std.specs.Prelude.{◌≡◌, ℕ, ℤ, List, All, Ok, length, 
 ghost use Rattle.ped_flow.specs.ped_base.specs.Lists.{is_among};
 ghost use Rattle.ped_flow.specs.ped_tree.specs.Nests.{indices_of};
 ghost use Rattle.ped_graph.specs.ped_views.specs.declared.directions.Direction.{Direction};
-ghost use Rattle.ped_graph.specs.ped_views.specs.Views.{SubscriptPair, View};
-ghost use Rattle.ped_graph.specs.ped_views.specs.Excluded.{Indices, Excludes};
-ghost use Rattle.ped_graph.specs.ped_views.specs.Limits.{FitsLoops, IsView};
+ghost use Rattle.ped_graph.specs.ped_views.specs.Views.{View};
+ghost use Rattle.ped_graph.specs.ped_views.specs.Excluded.{Indices};
+ghost use Rattle.ped_graph.specs.ped_views.specs.Limits.{IsView};
 ghost use Rattle.ped_graph.specs.ped_views.specs.Vectors.{IsPossible};
 ghost use Rattle.ped_flow.specs.ped_tree.specs.Tree.{ExprTree};
 ghost use Rattle.ped_eval.specs.ped_store.specs.Stores.{Store};
@@ -17,11 +17,10 @@ ghost use Rattle.ped_flow.specs.ped_affine.specs.PairViews.{Site, depths_of, ter
 ghost use Rattle.ped_laws.specs.Covering.Weights.{HaveValues};
 ghost use Rattle.ped_laws.specs.Covering.Together.{StandTogether, IsSolvedBy, indices_among, side_values, AgreeOnOthers, AreDistinct};
 
-/// Where values of the loops make both subscripts of a position equal, the position doesn't exclude the vector in whose
-/// directions they stand. So where they do at each position, the vector is one of those of the view.
+/// Where values of the loops make both subscripts of each position equal, no position and no group excludes the vector in
+/// whose directions they stand: it is one of those of the view.
 pub fn equal_subscripts()
-    ensures position { (v : View) (p : SubscriptPair) (vector : List Direction) (at : Indices) → FitsLoops (length v.loops) (length v.source_inner) (length v.sink_inner) p → StandTogether v vector at → IsSolvedBy at p → ¬ (Excludes v p vector) }
-    ensures view { (v : View) (vector : List Direction) (at : Indices) → IsView v → StandTogether v vector at → All (IsSolvedBy at) v.positions → IsPossible v vector }
+    ensures { (v : View) (vector : List Direction) (at : Indices) → IsView v → StandTogether v vector at → All (IsSolvedBy at) v.positions → IsPossible v vector }
 {}
 
 /// Where both subscripts of a position come to one number, and the variables that belong to no loop have one value on

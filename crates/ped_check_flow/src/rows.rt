@@ -64,7 +64,7 @@ fn push_loop(
 ) -> anyhow::Result<()>
     requires { statements_count (program_tree flow.now.program.now).body + 1 < 2 ^ 32 }
 {
-    let escape = statement(alloc, flow.escapes(number))?;
+    let escape = reader(alloc, flow.escapes(number))?;
     rows.push_str(&format!(in alloc; "loop {number} escapes {escape}\n")?)?;
     for name in scalars {
         push_scalar(alloc, rows, flow, number, name)?;

@@ -8,8 +8,8 @@ use Rattle.ped_tree.proofs.NameLaws.NameEquality.{same_is, same_itself}
 use Rattle.ped_affine.specs.Assigned.{loop_variables}
 use Rattle.ped_flow.specs.Questions.{IsLoop, IsFirst, IsReadBehind, IsShownBehind, IsReadLoose, IsIndexIn, IsContained, IsBrokenBy, IsLiveAfter, saved_in, all_reads_outside}
 use Rattle.ped_flow.specs.Answers.{IsEscape}
-use Rattle.ped_flow.specs.Kept.{unless, all_first_outside}
-use Rattle.ped_flow.specs.Escapes.{behind_loop, escape_of, either_escape, escapes_of, if_shown, escaping}
+use Rattle.ped_flow.specs.Kept.{unless, all_first_outside, reader_else, reader_by}
+use Rattle.ped_flow.specs.Escapes.{behind_loop, escape_of, either_escape, escapes_of, escaping}
 use Rattle.ped_flow.specs.declared.escapes.Escape.{Escape}
 use Rattle.ped_flow.proofs.Truths.{untrue, and_iff, or_iff, or_split, iff_map}
 use Rattle.ped_flow.proofs.FirstLaws.{first_map, first_or}
@@ -106,16 +106,16 @@ module _ (t : ProgramTree) (l : ℕ) (h : Head) (body : StmtTrees) (is : IsLoop 
       not_live (inl s) = f s.0 record { scalar = x; index = i; read = inr s.1 }
       not_live (inr s) = g (x, is_index x i, s)
 
-  by_shown : (shown : Bool) → IsTrue shown ↔ Some_of (loop_variables (Do h body)) (IsShownBehind t l) → IsFirst (IsBrokenBy t l) None → IsEscape t l (if_shown shown l)
-  by_shown true k f = let s = k.0 refl in inr (f, record { scalar = s.0; index = index_is s.0 s.1; shown = s.2 }, refl)
+  by_shown : (shown : Bool) → IsTrue shown ↔ Some_of (loop_variables (Do h body)) (IsShownBehind t l) → IsFirst (IsBrokenBy t l) None → IsEscape t l (reader_else shown)
+  by_shown true k f = let s = k.0 refl in (f, record { scalar = s.0; index = index_is s.0 s.1; shown = s.2 })
   by_shown false k f = contained f (λ s. untrue (k.1 s))
 
-  by_first : (a : Option ℕ) (shown : Bool) → IsTrue shown ↔ Some_of (loop_variables (Do h body)) (IsShownBehind t l) → IsFirst (IsBrokenBy t l) a → IsEscape t l (escaping a shown l)
-  by_first (Some n) shown k f = inl f
+  by_first : (a : Option ℕ) (shown : Bool) → IsTrue shown ↔ Some_of (loop_variables (Do h body)) (IsShownBehind t l) → IsFirst (IsBrokenBy t l) a → IsEscape t l (reader_by a shown)
+  by_first (Some n) shown k f = f
   by_first None shown k f = by_shown shown k f
 
   -- the answer
-  pub escape_is : IsEscape t l (escaping (escapes_of t l h body (loop_variables (Do h body))).first (escapes_of t l h body (loop_variables (Do h body))).shown l)
+  pub escape_is : IsEscape t l (escaping (escapes_of t l h body (loop_variables (Do h body))))
   escape_is =
       by_first (escapes_of t l h body (loop_variables (Do h body))).first (escapes_of t l h body (loop_variables (Do h body))).shown (some_shown (loop_variables (Do h body)))
       (broken_first (escapes_of t l h body (loop_variables (Do h body))).first (some_first (loop_variables (Do h body))))

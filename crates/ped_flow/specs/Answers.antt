@@ -1,5 +1,5 @@
 -- What the answers to questions say (this project).
-use Rattle.std.specs.Prelude.{◌≡◌, ℕ, List, ◌⊎◌, Option, Some, None}
+use Rattle.std.specs.Prelude.{ℕ, List, Option, Some, None}
 use Rattle.ped_tree.specs.Tree.{ProgramTree}
 use Rattle.ped_flow.specs.Questions.{IsFirst, IsReadBehind, IsShownBehind, IsLiveAfter, IsContained, IsBrokenBy, IsShown}
 use Rattle.ped_flow.specs.declared.flows.Reader.{Reader}
@@ -11,7 +11,8 @@ IsReader t l x None = IsLiveAfter t l x → ⊥
 IsReader t l x (Some (Statement n)) = IsFirst (IsReadBehind t l x) (Some n)
 IsReader t l x (Some Saved) = IsFirst (IsReadBehind t l x) None × IsShownBehind t l x
 
--- the DO is contained; or this is the first statement by whose read it isn't; or there is none, the program's end may show a variable of it, and this is the DO itself
-abbrev pub IsEscape : ProgramTree → ℕ → Option ℕ → Type 0
+-- the DO is contained; or this is the first statement by whose read it isn't; or there is none, and the program's end may show a variable of it
+abbrev pub IsEscape : ProgramTree → ℕ → Option Reader → Type 0
 IsEscape t l None = IsContained t l
-IsEscape t l (Some n) = IsFirst (IsBrokenBy t l) (Some n) ⊎ (IsFirst (IsBrokenBy t l) None × IsShown t l × (n ≡ l))
+IsEscape t l (Some (Statement n)) = IsFirst (IsBrokenBy t l) (Some n)
+IsEscape t l (Some Saved) = IsFirst (IsBrokenBy t l) None × IsShown t l

@@ -1,14 +1,15 @@
 -- By which read, or by the program's end, a DO isn't contained, variable by variable. Contracts of private functions alone speak of these definitions.
-use Rattle.std.specs.Prelude.{ℕ, ◌+◌, List, [], ◌∷◌, Bool, true, false, ◌&&◌, ◌||◌, Option, Some, None}
+use Rattle.std.specs.Prelude.{ℕ, ◌+◌, List, [], ◌∷◌, ◌&&◌, ◌||◌, false, Option, None}
 use Rattle.std.specs.List.{flat_map}
 use Rattle.ped_base.specs.Lists.{is_same_text, is_among}
 use Rattle.ped_tree.specs.Tree.{Head, StmtTrees, ProgramTree}
 use Rattle.ped_tree.specs.Accesses.{constant_names}
 use Rattle.ped_flow.specs.Questions.{saved_in}
 use Rattle.ped_flow.specs.Summaries.{least_of, sum_behind_all}
-use Rattle.ped_flow.specs.Kept.{unless, all_first_outside}
+use Rattle.ped_flow.specs.Kept.{unless, all_first_outside, reader_by}
 use Rattle.ped_flow.specs.declared.summaries.Summary.{Summary}
 use Rattle.ped_flow.specs.declared.escapes.Escape.{Escape}
+use Rattle.ped_flow.specs.declared.flows.Reader.{Reader}
 
 -- what the paths from the exit of a DO do to a scalar
 abbrev pub behind_loop : ProgramTree → ℕ → List ℕ → Summary
@@ -34,16 +35,6 @@ abbrev pub escapes_of : ProgramTree → ℕ → Head → StmtTrees → List (Lis
 escapes_of t l h body [] = no_escape
 escapes_of t l h body (x ∷ xs) = either_escape (escape_of t l h body x) (escapes_of t l h body xs)
 
--- a number where the test holds
-abbrev pub if_shown : Bool → ℕ → Option ℕ
-if_shown true l = Some l
-if_shown false l = None
-
--- the statement by which the DO isn't contained: the first read, or else the DO itself where the end may show a variable
-abbrev pub escaping : Option ℕ → Bool → ℕ → Option ℕ
-escaping (Some n) shown l = Some n
-escaping None shown l = if_shown shown l
-
--- the same, from both
-abbrev pub escaping_by : Escape → ℕ → Option ℕ
-escaping_by e l = escaping e.first e.shown l
+-- who breaks the DO: the statement of the first read, or else the program's end, where it may show a variable
+abbrev pub escaping : Escape → Option Reader
+escaping e = reader_by e.first e.shown

@@ -8,7 +8,7 @@ ghost use Rattle.ped_affine.specs.Assigned.{loop_variables, all_loop_variables};
 ghost use Rattle.ped_flow.specs.Escapes as Spec;
 ghost use Rattle.ped_flow.specs.Entries.{KnowsAll};
 
-use crate::flows::{Flow, both, is_saved_in, scalar_of, walk_behind};
+use crate::flows::{Flow, Reader, both, is_saved_in, reader_of, scalar_of, walk_behind};
 use crate::outside::{outside_all, unless};
 use crate::scalars::is_same;
 use crate::summaries::least;
@@ -51,22 +51,11 @@ impl Escape {
         }
     }
 
-    /// The statement by which the loop with this number isn't contained: the first read, or else the loop itself, where the
-    /// program's end may show a variable.
-    fn statement(self, number: u32) -> Option<u32>
-        ensures { result ≡ Spec.escaping self.first self.shown number }
+    /// Who breaks it: the statement of the first read, or else the program's end, where it may show a variable.
+    fn reader(self) -> Option<Reader>
+        ensures { result ≡ Spec.escaping self }
     {
-        match self.first {
-            Some(first) => {
-                return Some(first);
-            }
-            None => {
-                if self.shown {
-                    return Some(number);
-                }
-                return None;
-            }
-        }
+        reader_of(self.first, self.shown)
     }
 }
 
@@ -141,13 +130,13 @@ fn escapes_of(l: &Numbered, s: &Stmt) -> Escape
     }
 }
 
-/// The statement by which a loop isn't contained, where there is one.
-pub(crate) fn escaping(l: &Numbered) -> Option<u32>
+/// Who reads a variable by which a loop isn't contained, where it isn't.
+pub(crate) fn escaping(l: &Numbered) -> Option<Reader>
     requires fits { l.now.number + 1 + statements_count (stmt_trees l.now.body.now.body.items) < 2 ^ 32 }
     requires few { statements_count (program_tree l.now.flow.now.program.now).body + 1 < 2 ^ 32 }
     requires known { KnowsAll l.now.flow.now.places l.now.flow.now.table.items (stmt_trees l.now.body.now.body.items) (l.now.number + 1) }
-    ensures { result ≡ Spec.escaping_by (Spec.escapes_of (program_tree l.now.flow.now.program.now) l.now.number (head_of l.now.body.now) (stmt_trees l.now.body.now.body.items) (l.now.body.now.variable ∷ all_loop_variables (stmt_trees l.now.body.now.body.items))) l.now.number }
+    ensures { result ≡ Spec.escaping (Spec.escapes_of (program_tree l.now.flow.now.program.now) l.now.number (head_of l.now.body.now) (stmt_trees l.now.body.now.body.items) (l.now.body.now.variable ∷ all_loop_variables (stmt_trees l.now.body.now.body.items))) }
 {
     let own = escape_of(l, &l.body.variable);
-    own.or(escapes_in(l, &l.body.body)).statement(l.number)
+    own.or(escapes_in(l, &l.body.body)).reader()
 }

@@ -34,12 +34,12 @@ use ped_base::{Name, NoMemory};
 use ped_tree::{Do, Program, Stmt};
 use std::alloc::Global;
 
-/// Who may read what a scalar holds at the exit of a loop.
+/// Who may read what a scalar holds.
 #[derive(Clone, Copy, Debug, PartialEq, Eq)]
 pub enum Reader {
     /// The first statement in text order that may read it, by its number.
     Statement(u32),
-    /// No statement, but the program's end, since it is in SAVE.
+    /// No statement, but the program's end, since the scalar is in SAVE.
     Saved,
 }
 
@@ -165,11 +165,12 @@ impl<'a> Flow<'a> {
         }
     }
 
-    /// The statement by which the loop with this number isn't contained: the first in text order that reads a variable of
-    /// the loop, or of a loop in it, outside the bodies of the loops of that variable there, or behind the loop before it
-    /// is overwritten; where there is none, the loop itself, if such a variable is in SAVE and some path from the loop's exit
-    /// to the end doesn't overwrite it.
-    pub fn escapes(&self, loop_number: u32) -> Option<u32>
+    /// By whom the loop with this number isn't contained: the first statement in text order that reads a variable of the
+    /// loop, or of a loop in it, outside the bodies of the loops of that variable there, or behind the loop before it is
+    /// overwritten; where there is none, the program's end, if such a variable is in SAVE and some path from the loop's exit
+    /// to the end doesn't overwrite it. The statement is the loop itself where its own header reads the variable, in a loop
+    /// round it.
+    pub fn escapes(&self, loop_number: u32) -> Option<Reader>
         requires { statements_count (program_tree self.now.program.now).body + 1 < 2 ^ 32 }
         ensures { IsEscape (program_tree self.now.program.now) loop_number result }
     {
@@ -223,7 +224,7 @@ pub(crate) fn both(a: bool, b: bool) -> bool
 }
 
 /// A statement that reads, or else the program's end, where the test holds.
-fn reader_of(first: Option<u32>, shown: bool) -> Option<Reader>
+pub(crate) fn reader_of(first: Option<u32>, shown: bool) -> Option<Reader>
     ensures { result ≡ reader_by first shown }
 {
     match first {

@@ -17,6 +17,7 @@ mod outside;
 mod parts;
 mod places;
 mod row_events;
+mod row_loops;
 mod row_steps;
 mod row_summaries;
 mod row_walks;

@@ -32,9 +32,9 @@ impl Part {
     pub(crate) fn nothing(alloc: Global, width: usize) -> Result<Part, NoMemory>
         ensures { IfOk result (λ p. (names : List (List ℕ)) → length names ≡ width → IsPart names p (λ x. Spec.passing) (λ x. None) []) }
     {
-        let sums = RowSummary::passing(alloc, width)?;
         let loose = Row::new(alloc, width)?;
         let indices = Row::new(alloc, width)?;
+        let sums = RowSummary::passing(alloc, width)?;
         Ok(Part {
             sums,
             loose,
@@ -46,9 +46,9 @@ impl Part {
     pub(crate) fn stopped(alloc: Global, width: usize) -> Result<Part, NoMemory>
         ensures { IfOk result (λ p. (names : List (List ℕ)) → length names ≡ width → IsPart names p (λ x. Spec.stopped) (λ x. None) []) }
     {
-        let sums = RowSummary::stopped(alloc, width)?;
         let loose = Row::new(alloc, width)?;
         let indices = Row::new(alloc, width)?;
+        let sums = RowSummary::stopped(alloc, width)?;
         Ok(Part {
             sums,
             loose,

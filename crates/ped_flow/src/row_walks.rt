@@ -17,7 +17,8 @@ ghost use Rattle.ped_flow.specs.declared.summaries.Summary.{Summary};
 use crate::entries::Entry;
 use crate::parts::Part;
 use crate::places::Places;
-use crate::row_events::{assignment, deciding, entering, iterating, printing, reading, tripping};
+use crate::row_events::{assignment, deciding, printing, reading};
+use crate::row_loops::loop_part;
 use ped_base::NoMemory;
 use ped_tree::{Cond, Do, Stmt};
 use std::alloc::Global;
@@ -182,8 +183,16 @@ fn branching(
 {
     let mut parts = first;
     parts.or(alloc, second)?;
+    decided(alloc, places, c, &parts)
+}
+
+/// An IF, from what either of its parts does.
+fn decided(alloc: Global, places: &Places, c: &Cond, parts: &Part) -> Result<Part, NoMemory>
+    requires { parts.now.sums.width ≡ length (names_in places.now) }
+    ensures { IfOk result (λ p. (n : ℕ) (g : List ℕ → Summary) (q : List ℕ → Option ℕ) (v : List (List ℕ)) → IsPart (names_in places.now) parts.now g q v → IsPart (names_in places.now) p (λ x. Spec.sum_in_turn (Spec.sum_events x (Event.reads_of n (Event.scalars_in_cond (constants_in places.now) (cond_tree c.now)))) (g x)) (λ x. Spec.least_of (first_reader x (Event.reads_of n (Event.scalars_in_cond (constants_in places.now) (cond_tree c.now)))) (q x)) v) }
+{
     let mut part = deciding(alloc, places, c)?;
-    part.then(alloc, &parts)?;
+    part.then(alloc, parts)?;
     Ok(part)
 }
 
@@ -198,9 +207,6 @@ fn loop_entry(
     requires { body.now.sums.width ≡ length (names_in places.now) }
     ensures { IfOk result (λ e. (n : ℕ) → IsPart (names_in places.now) body.now (λ x. Spec.sum_of_all (constants_in places.now) x (stmt_trees d.now.body.items) (n + 1)) (λ x. all_first_outside (constants_in places.now) x (stmt_trees d.now.body.items) (n + 1)) (all_loop_variables (stmt_trees d.now.body.items)) → behind ≡ n + (statements_count (stmt_trees d.now.body.items) + 1) → IsEntry places.now e (Tree.Do (head_of d.now) (stmt_trees d.now.body.items)) n) }
 {
-    let iteration = iterating(alloc, places, d, body)?;
-    let trips = tripping(alloc, places, d, body, &iteration)?;
-    let mut part = entering(alloc, places, d)?;
-    part.then(alloc, &trips)?;
+    let part = loop_part(alloc, places, d, body)?;
     Entry::new(alloc, part, behind)
 }

@@ -46,7 +46,7 @@ fn push_loop(rows: &mut String, flow: &Flow, number: u32, scalars: &[Name]) -> R
     rows.push_str("loop ")?;
     push_statement(rows, Some(number))?;
     rows.push_str(" escapes ")?;
-    push_statement(rows, flow.escapes(number))?;
+    push_reader(rows, flow.escapes(number))?;
     rows.push_str("\n")?;
     for name in scalars {
         push_scalar(rows, flow, number, name)?;

@@ -1,7 +1,8 @@
-use Rattle.std.proofs.Common.{arith, subst, sym, Option, ℕ}
+use Rattle.std.proofs.Common.{arith, subst, sym, Option}
 use Rattle.ped_tree.specs.Views.{program_tree, stmt_trees}
 use Rattle.ped_affine.specs.ped_refs.specs.Loops.{head_of}
 use Rattle.ped_flow.specs.Answers.{IsEscape}
+use Rattle.ped_flow.specs.declared.flows.Reader.{Reader}
 use Rattle.ped_flow.proofs.Skipping.{loop_known, entered_known}
 use Rattle.ped_flow.proofs.Answering.{loop_fits}
 use Rattle.ped_flow.proofs.Escaping.{escape_is, escape_nowhere}
@@ -9,7 +10,7 @@ use Rattle.ped_flow.proofs.flows.Flow.escapes.Goals as goal
 
 pub returns-in-Some : goal.returns-in-Some
 returns-in-Some c =
-    subst (λ (z : Option ℕ). IsEscape (program_tree c.args.self.now.program.now) c.args.loop_number z) (sym c.escaping.ensures)
+    subst (λ (z : Option Reader). IsEscape (program_tree c.args.self.now.program.now) c.args.loop_number z) (sym c.escaping.ensures)
     (escape_is (program_tree c.args.self.now.program.now) c.args.loop_number (head_of c.in-Some.d.now) (stmt_trees c.in-Some.d.now.body.items) c.in-Some.ensures)
 
 pub returns-in-None : goal.returns-in-None

@@ -5,8 +5,8 @@ use Rattle.ped_flow.specs.Events.{copied}
 use Rattle.ped_flow.specs.RowPlaces.{AreMarked}
 use Rattle.ped_flow.specs.RowMarks.{names_in}
 use Rattle.ped_flow.proofs.EventRows.{left_row}
-use Rattle.ped_flow.proofs.row_events.left_by.Goals as goal
-use Rattle.ped_flow.proofs.row_events.left_by.Goals.{then-d, else-d}
+use Rattle.ped_flow.proofs.row_loops.left_by.Goals as goal
+use Rattle.ped_flow.proofs.row_loops.left_by.Goals.{then-d, else-d}
 
 pub returns-clause-row : goal.returns-clause-row
 returns-clause-row c = λ k.

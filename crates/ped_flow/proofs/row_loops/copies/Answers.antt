@@ -5,8 +5,8 @@ use Rattle.ped_flow.specs.RowPlaces.{AreMarked}
 use Rattle.ped_flow.specs.RowMarks.{names_in}
 use Rattle.ped_flow.proofs.RowSums.{union_wide}
 use Rattle.ped_flow.proofs.EventRows.{marked_wide, copies_row}
-use Rattle.ped_flow.proofs.row_events.copies.Goals as goal
-use Rattle.ped_flow.proofs.row_events.copies.Goals.{then-d, else-d}
+use Rattle.ped_flow.proofs.row_loops.copies.Goals as goal
+use Rattle.ped_flow.proofs.row_loops.copies.Goals.{then-d, else-d}
 
 pub returns-clause-width : goal.returns-clause-width
 returns-clause-width c =

@@ -6,7 +6,7 @@ use Rattle.ped_flow.specs.Summaries.{passing, of_manner}
 use Rattle.ped_flow.specs.Rows.{Holds}
 use Rattle.ped_flow.specs.declared.summaries.Summary.{Summary}
 use Rattle.ped_flow.proofs.SumLaws.{cleared}
-use Rattle.ped_flow.proofs.row_events.iterating.Goals as goal
+use Rattle.ped_flow.proofs.row_loops.iterating.Goals as goal
 
 pub returns-clause-held : goal.returns-clause-held
 returns-clause-held c = λ n f o k x i at.

@@ -4,8 +4,8 @@
 # how much stack it needs on programs at the limits of the language; how long `ped session` takes for the bytes of a
 # script, for an edit, a step back and a step forward, and how much memory a change keeps; how long `run` takes for an
 # assignment in loops, over an array and over a scalar, from 10^4 to 10^7 of them, and how much memory a store of 2^20
-# elements takes; how long `races` takes for an access, and how much memory, at 10^5 and 10^6 of them; and how long the
-# flow of scalars takes to be made, and how much memory, and the questions about it, by the program of crate
+# elements takes; how long `races` takes for an access, and how much memory, at 10^5 and 10^6 of them; how long `races` and
+# `run` take for an operand of an expression, with up to 600 of them; and how long the flow of scalars takes to be made, and how much memory, and the questions about it, by the program of crate
 # ped_show_flow. It is no part of the gate, and needs GNU time and awk. docs/PERFORMANCE.md says how to read the figures.
 #
 # usage: tools/bench.sh [RUNS]      of so many runs (5 where it isn't said) the least counts
@@ -351,6 +351,36 @@ moves() {
     edits 1 "$2"
     awk -v n="$1" 'BEGIN { for (k = 0; k < n; k++) printf "undo\nredo\n" }'
 }
+
+# A loop of 200 iterations over one assignment of so many operands.
+operands() {
+    awk -v n="$1" 'BEGIN {
+        print "      INTEGER A(200), K\n      K = 1\n      DO 10 I = 1, 200"
+        line = "      A(I) = K"
+        for (k = 2; k <= n; k++) {
+            if (length(line) > 70) { print line; line = "     &  " }
+            line = line "+K"
+        }
+        print line "\n   10 CONTINUE\n      END"
+    }'
+}
+printf 'races\n' >"$work/races"
+printf 'run\n' >"$work/run"
+: >"$work/nothing"
+printf '\n%10s %18s %16s\n' operands 'races: ns/operand' 'run: ns/operand'
+rm -f -- "$work/figures"
+for count in 150 300 600; do
+    file=$work/operands-$count.f
+    operands "$count" >"$file"
+    awk -v count="$count" \
+        -v races="$(least_session '%U %S' "$file" "$work/races")" \
+        -v run="$(least_session '%U %S' "$file" "$work/run")" \
+        -v nothing="$(least_session '%U %S' "$file" "$work/nothing")" 'BEGIN {
+            printf "%10d %18.0f %16.0f\n", count, (races - nothing) * 1e9 / 200 / count, (run - nothing) * 1e9 / 200 / count
+        }' | tee -a "$work/figures"
+done
+awk 'NR == 1 { least = $2 } END { printf "races, time per operand, 600 to 150: %.2f\n", $2 / least }' "$work/figures"
+
 array_line='      INTEGER A(100,100)'
 printf '\n%10s %10s %12s %12s\n' statements pairs us/edit us/move
 while read -r statements pairs times; do

@@ -1,13 +1,13 @@
 -- What writes and a later moment leave of the agreement between what is kept and the store of a run.
-use Rattle.std.proofs.Common.{subst, not, ◌≡◌, ℕ, suc, ◌+◌, ◌<◌, ℤ, List, [], ◌∷◌, ◌++◌, map, length, Bool, true, false, ◌&&◌, if◌then◌else◌, eqb, eqb-true, refl, sym, ap, ◌∙◌, arith, append_assoc}
+use Rattle.std.proofs.Common.{subst, not, ◌≡◌, ℕ, ℤ, List, [], ◌∷◌, ◌++◌, Bool, true, false, if◌then◌else◌, eqb, eqb-true, refl, sym, ap, ◌∙◌, append_assoc}
 use Rattle.std.proofs.lemmas.Bool.{and_parts}
 use Rattle.std.specs.Cmp.Lexicographic.{pointwise}
 use Rattle.ped_base.specs.Lists.{is_same_text, is_among}
 use Rattle.ped_store.specs.Cells.{Cell, Scalar, Element, Private, In, Out, Iteration, same_iteration, same_cell}
-use Rattle.ped_store.specs.Stores.{Content, Undefined, Store, put}
-use Rattle.ped_eval.specs.Scopes.{Frame, Scope, cell_of, turns_of}
-use Rattle.ped_eval.specs.Agreement.{path_of, row_of, is_ahead, before, before_turn, IsFresh, is_copy, IsSameOutside, IsSameInside, IsSame, Agrees}
-use Rattle.ped_eval.proofs.Moments.{itself, later, front_same, front_behind, row_inside}
+use Rattle.ped_store.specs.Stores.{Content, Store, put}
+use Rattle.ped_eval.specs.Scopes.{Frame, Scope, cell_of}
+use Rattle.ped_eval.specs.Agreement.{path_of, row_of, is_ahead, before, IsFresh, IsSameOutside, IsSame, Agrees}
+use Rattle.ped_eval.proofs.Moments.{later, front_behind, row_inside}
 
 -- a later moment has fewer iterations ahead
 pub fresh_later : (a b : List ℕ) (s : Store) → is_ahead a b ≡ true → IsFresh a s → IsFresh b s

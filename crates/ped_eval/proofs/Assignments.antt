@@ -131,6 +131,10 @@ module _ (g : Names) (left right : ExprTree) (m : Memory) (v : ℤ) (c : Cell) (
       let t = stored_is c v m new e in
       (record { cell = c; number = t.number }, assigned_number g left right m.cells v c h (k ∙ t.within) ∙ ap (of_number c) t.right, t.new_is)
 
+  pub assigned_cell : (new : Memory) (e : stored c v m ≡ Ok new) → c ≡ (assigned_stored new e).0.cell
+  unfolding assigned_stored
+  assigned_cell new e = refl
+
   unstored_by : (n : ℕ) → IsUnstored c v (bounded m c) n → (assigned g left right m.cells).result ≡ Err n
   unstored_by n (inl e) = assigned_place g left right m.cells v n h (k ∙ e)
   unstored_by n (inr e) = assigned_number g left right m.cells v c h (k ∙ e.0) ∙ ap (of_number c) e.1

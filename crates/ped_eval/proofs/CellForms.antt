@@ -1,5 +1,5 @@
 -- Cells of the code by the cells that they stand for.
-use Rattle.std.proofs.Common.{◌≡◌, ℕ, List, [], ◌∷◌, Bool, true, false, if◌then◌else◌, refl, sym, ap, ◌∙◌}
+use Rattle.std.proofs.Common.{◌≡◌, ℕ, List, [], ◌∷◌, Bool, true, false, if◌then◌else◌, refl, ap, ◌∙◌}
 use Rattle.ped_base.specs.Lists.{is_among}
 use Rattle.ped_store.specs.Cells.{Cell, Scalar, Element, Private, In, Out}
 use Rattle.ped_store.specs.CellViews.{cell_view, IsPrivate, IsOfScalar}

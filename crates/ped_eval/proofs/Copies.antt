@@ -1,17 +1,15 @@
 -- What the making and the dropping of private copies do to what is kept.
-use Rattle.std.proofs.Common.{◌≡◌, ℕ, zero, suc, ◌+◌, ◌<◌, List, [], ◌∷◌, ◌++◌, map, length, Bool, true, false, ◌&&◌, ◌||◌, if◌then◌else◌, eqb, eqb-true, ltb, refl, sym, ap, subst, ◌∙◌, arith, length-append}
+use Rattle.std.proofs.Common.{◌≡◌, ℕ, ◌+◌, ◌<◌, List, [], ◌∷◌, ◌++◌, length, Bool, true, false, ◌&&◌, ◌||◌, if◌then◌else◌, eqb, eqb-true, ltb, refl, sym, ap, ◌∙◌, arith, length-append}
 use Rattle.std.proofs.lemmas.List.{length-map}
 use Rattle.std.proofs.lemmas.Bool.{and_parts, ltb-true, lt-ltb}
 use Rattle.std.specs.List.{list_all, list_any}
 use Rattle.std.specs.Cmp.Lexicographic.{pointwise}
 use Rattle.ped_base.specs.Lists.{is_same_text, is_among}
-use Rattle.ped_base.specs.Dimensions.{Dimensions}
 use Rattle.ped_store.specs.Cells.{Cell, Scalar, Element, Private, In, Out, Iteration, same_iteration, same_cell}
-use Rattle.ped_store.specs.Stores.{Content, Undefined, Store, put}
-use Rattle.ped_store.specs.Acts.{Turn}
-use Rattle.ped_store.specs.Memories.{Memory, standing, with_copy, without_copy}
+use Rattle.ped_store.specs.Stores.{Undefined, Store}
+use Rattle.ped_store.specs.Memories.{Memory, with_copy, without_copy}
 use Rattle.ped_eval.specs.Scopes.{Frame, Scope, cell_of, turns_of}
-use Rattle.ped_eval.specs.Agreement.{path_of, row_of, before, before_turn, IsFresh, is_copy, IsSameOutside, IsSameInside, IsSame, Agrees, DoCopiesStand}
+use Rattle.ped_eval.specs.Agreement.{path_of, before, before_turn, is_copy, IsSame, Agrees, DoCopiesStand}
 use Rattle.ped_eval.specs.Turns.{with_copies, without_copies}
 use Rattle.ped_eval.proofs.Moments.{itself, into_turn, own_copies, next_turn}
 use Rattle.ped_eval.proofs.Agreements.{other_copy, fresh_later}

@@ -1,16 +1,17 @@
 -- A DO from the answers for its entry and for its iterations.
-use Rattle.std.proofs.Common.{◌≡◌, ℕ, ◌+◌, ℤ, List, [], ◌∷◌, Result, Ok, Err, refl, sym, ap, subst, ◌∙◌}
-use Rattle.ped_tree.specs.Tree.{Head, StmtTree, StmtTrees, Do}
+use Rattle.std.proofs.Common.{◌≡◌, ℕ, ◌+◌, ℤ, List, [], ◌∷◌, Result, Ok, Err, IfOk, IfErr, refl, sym, ap, subst, ◌∙◌}
+use Rattle.ped_tree.specs.Tree.{Head, StmtTrees, Do}
 use Rattle.ped_tree.specs.Numbering.{statements_count}
 use Rattle.ped_symbols.specs.Kinds.{Table}
 use Rattle.ped_store.specs.Stores.{Store}
 use Rattle.ped_store.specs.Memories.{Memory}
-use Rattle.ped_eval.specs.Scopes.{Setting, Scope, names_in}
+use Rattle.ped_eval.specs.Scopes.{Scope, Names, names_in}
 use Rattle.ped_eval.specs.ScopeViews.{names_at}
 use Rattle.ped_eval.specs.Loops as Loops
 use Rattle.ped_eval.specs.Loops.{Entered, limits}
-use Rattle.ped_eval.specs.Evaluation.{Seen, number_behind}
-use Rattle.ped_eval.specs.Plans.{entered_by, IsPlanWithin, IsEntry}
+use Rattle.ped_eval.specs.Evaluation.{number_behind}
+use Rattle.ped_eval.specs.Plans.{entered_by, limits_view, IsPlanWithin, IsPlanBy, IsEntry}
+use Rattle.ped_eval.specs.declared.plans.Limits as code
 use Rattle.ped_eval.specs.Readiness.{setting_by, IsReady}
 use Rattle.ped_eval.specs.Agreement.{before, Agrees}
 use Rattle.ped_eval.specs.Runs.{Ending, run, run_all}
@@ -54,3 +55,17 @@ module _ (table : Table) (scope : Scope) (n : ℕ) (m : Memory) (ready : IsReady
   do_failed (error.Fault k j) new w s g =
       subst (λ (x : Ending). Fails k j x) (sym (do_fails (setting_by table) n scope h body (λ f. run_all (setting_by table) body (n + 1) (f ∷ scope)) s k (kept s g ∙ w.0))) (refl, w.1)
   do_failed error.NoMemory new w s g = tt
+
+-- the plan that the limits make is the entry's answer
+pub entry_by : (table : Table) (n : ℕ) (g : Names) (s : Store) (h : Head) (body : StmtTrees) (r : Result code.Limits ℕ) (answer : Result Plan RunError)
+    → IfOk r (λ l. (limits g h s).result ≡ Ok (limits_view l)) → IfErr r (λ k. (limits g h s).result ≡ Err k) → IsPlanBy table n h body r answer → IsEntry table n g s h body answer
+entry_by table n g s h body (Ok l) (Ok plan) ok err is = (limits_view l, ok, is)
+entry_by table n g s h body (Ok l) (Err (error.Fault number statement)) ok err is = absurd is
+entry_by table n g s h body (Ok l) (Err error.NoMemory) ok err is = tt
+entry_by table n g s h body (Err k) (Ok plan) ok err is = absurd is
+entry_by table n g s h body (Err k) (Err (error.Fault number statement)) ok err is = (err ∙ ap Err (sym is.0), is.1)
+entry_by table n g s h body (Err k) (Err error.NoMemory) ok err is = tt
+
+pub plan_behind : (answer : Result Plan RunError) (k m : ℕ) → k ≡ m → IfOk answer (λ plan. plan.behind ≡ k) → IfOk answer (λ plan. plan.behind ≡ m)
+plan_behind (Ok plan) k m e h = h ∙ e
+plan_behind (Err x) k m e h = tt

@@ -1,19 +1,19 @@
 -- Evaluations by what the code keeps are those in the store of a run.
-use Rattle.std.proofs.Common.{◌≡◌, ◌⊎◌, inl, inr, ℕ, ℤ, List, [], ◌∷◌, length, Bool, true, false, ◌&&◌, Result, Ok, Err, if◌then◌else◌, refl, sym, ap, ◌∙◌}
+use Rattle.std.proofs.Common.{◌≡◌, ◌⊎◌, inl, inr, ℕ, ℤ, List, [], ◌∷◌, length, Bool, true, false, ◌&&◌, Result, Ok, Err, if◌then◌else◌, refl, ap, ◌∙◌}
 use Rattle.std.specs.List.{join_with_byte}
 use Rattle.std.specs.Fmt.{signed_decimal}
 use Rattle.ped_base.specs.Lists.{is_among}
 use Rattle.ped_tree.specs.Tree.{ExprTree, ExprTrees, ItemTree, Value, Text, Head, Int, Var, Neg, Add, Sub, Mul, Div, Pow, Call}
 use Rattle.ped_tree.specs.Tree as tree
-use Rattle.ped_store.specs.Cells.{Cell, Scalar, Element, Private, In, Out, same_cell}
+use Rattle.ped_store.specs.Cells.{Cell, Element, Private, In, same_cell}
 use Rattle.ped_store.specs.Stores.{Store, storable, outside_bounds}
 use Rattle.ped_store.specs.Storage.{is_within}
 use Rattle.ped_store.specs.Memories.{Memory}
 use Rattle.ped_eval.specs.Scopes.{Setting, Frame, Scope, Names, cell_of, index_value, names_in}
-use Rattle.ped_eval.specs.Evaluation.{Seen, Evaluated, ◌>>>◌, given, onward}
-use Rattle.ped_eval.specs.Values.{value, values, truth, target, is_rank, element_cell}
-use Rattle.ped_eval.specs.Statements.{Stored, assigned, item_text, item_texts, printed_line}
-use Rattle.ped_eval.specs.Loops.{Limits, limits, in_bounds}
+use Rattle.ped_eval.specs.Evaluation.{Seen, ◌>>>◌, given, onward}
+use Rattle.ped_eval.specs.Values.{values, truth, target, is_rank, element_cell}
+use Rattle.ped_eval.specs.Statements.{assigned, item_text, item_texts, printed_line}
+use Rattle.ped_eval.specs.Loops.{limits, in_bounds}
 use Rattle.ped_eval.specs.Agreement.{path_of, before, IsSame}
 use Rattle.ped_eval.specs.Takings.{names_with}
 use Rattle.ped_eval.proofs.SameValues.{IsSameFor, same_value, same_truth, same_target}

@@ -1,5 +1,5 @@
 -- The iterations of a DO, one behind the other, and its exit.
-use Rattle.std.proofs.Common.{◌≡◌, ℕ, zero, suc, ◌+◌, ◌-◌, ◌≤◌, ◌<◌, List, [], ◌∷◌, ◌++◌, length, Bool, true, false, ◌&&◌, Result, Ok, Err, if◌then◌else◌, refl, sym, ap, subst, ◌∙◌, arith}
+use Rattle.std.proofs.Common.{◌≡◌, ℕ, zero, ◌+◌, ◌<◌, List, [], ◌∷◌, ◌++◌, Bool, true, false, ◌&&◌, Result, Ok, Err, refl, subst, ◌∙◌}
 use Rattle.std.proofs.lemmas.Bool.{and_parts}
 use Rattle.std.proofs.lemmas.List.Folds.{list_all-append}
 use Rattle.std.specs.List.{list_all}
@@ -12,18 +12,17 @@ use Rattle.ped_tree.specs.Views.{stmt_trees}
 use Rattle.ped_tree.specs.Numbering.{statements_count}
 use Rattle.ped_tree.specs.declared.statements.Stmt.{Stmt}
 use Rattle.ped_symbols.specs.Kinds.{Table}
-use Rattle.ped_store.specs.Cells.{Cell, Scalar, Element}
-use Rattle.ped_store.specs.Stores.{Undefined, Content, Store, put}
+use Rattle.ped_store.specs.Cells.{Scalar, Element}
+use Rattle.ped_store.specs.Stores.{Undefined, Store}
 use Rattle.ped_store.specs.Memories.{Memory, with_content}
-use Rattle.ped_store.specs.Acts.{store_behind}
 use Rattle.ped_eval.specs.Scopes.{Setting, Frame, Scope, cell_of}
 use Rattle.ped_symbols.specs.RightUses.RightUses.{NameKinds, is_scalar, expr_is_right, cond_is_right, head_is_right, stmt_is_right, stmts_are_right}
 use Rattle.ped_eval.specs.Readiness.{kinds_by, IsReady}
-use Rattle.ped_eval.specs.Agreement.{path_of, before, before_turn, Agrees, DoCopiesStand}
-use Rattle.ped_eval.specs.Loops.{Entered, frame, exit_touches, left_in_variable, index_names, all_index_names, with_name_by, with_sorted, sorted_once, inner_variables}
+use Rattle.ped_eval.specs.Agreement.{before, before_turn}
+use Rattle.ped_eval.specs.Loops.{Entered, left_in_variable, index_names, all_index_names, with_name_by, with_sorted, sorted_once, inner_variables}
 use Rattle.ped_eval.specs.Runs.{Ending, going, stopped, failed, Run, run_all}
-use Rattle.ped_eval.specs.Turns.{after, turns_end, undefined_in, undefined_cells, exited, with_copies, without_copies}
-use Rattle.ped_eval.specs.Told.{Goes, Stops, Tells, TellsFrom, Ran}
+use Rattle.ped_eval.specs.Turns.{turns_end, undefined_in, exited, with_copies, without_copies}
+use Rattle.ped_eval.specs.Told.{Goes, Tells, TellsFrom, Ran}
 use Rattle.ped_eval.specs.declared.states.Flow.{Flow}
 use Rattle.ped_eval.specs.declared.states.Flow.TheVariants as flow
 use Rattle.ped_eval.specs.declared.states.RunError.{RunError}

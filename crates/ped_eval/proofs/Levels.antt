@@ -1,5 +1,5 @@
 -- The plain tree of an expression and of a condition, from their parts.
-use Rattle.std.proofs.Common.{◌≡◌, ℕ, List, map, sym, ap, ◌∙◌}
+use Rattle.std.proofs.Common.{◌≡◌, ◌⊎◌, inl, inr, ℕ, List, map, sym, ap, subst, ◌∙◌}
 use Rattle.std.specs.Global.{Vec, Box}
 use Rattle.ped_tree.specs.Tree as plain
 use Rattle.ped_tree.specs.Tree.{ExprTree, CondTree}
@@ -44,6 +44,26 @@ tree-Pow a b = ap expr_tree (sym (variant.rolls-Pow a b)) ∙ fold-roll-Expr Exp
 
 pub tree-Call : (f : Intrinsic) (es : Vec Expr) → expr_tree (variant.Call f es) ≡ plain.Call f (pack_exprs (map expr_tree es.items))
 tree-Call f es = ap expr_tree (sym (variant.rolls-Call f es)) ∙ fold-roll-Expr ExprTree expr_level (open_expr.Call f es)
+
+-- an expression that is neither a scalar nor an element
+abbrev pub IsOther : Expr → Type 0
+IsOther e = ((n : ℕ) × (e ≡ variant.Int n)) ⊎ (((a : Box Expr) × (e ≡ variant.Neg a)) ⊎ (((a : Box Expr) × (b : Box Expr) × (e ≡ variant.Add a b)) ⊎ (((a : Box Expr) × (b : Box Expr) × (e ≡ variant.Sub a b)) ⊎ (((a : Box Expr) × (b : Box Expr) × (e ≡ variant.Mul a b)) ⊎ (((a : Box Expr) × (b : Box Expr) × (e ≡ variant.Div a b)) ⊎ (((a : Box Expr) × (b : Box Expr) × (e ≡ variant.Pow a b)) ⊎ (((f : Intrinsic) × (es : Vec Expr) × (e ≡ variant.Call f es)))))))))
+
+-- a tree that is neither
+abbrev pub IsOperation : ExprTree → Type 0
+IsOperation (plain.Var x) = ⊥
+IsOperation (plain.Element x ts) = ⊥
+IsOperation t = Unit {0}
+
+pub other_tree : (e : Expr) → IsOther e → IsOperation (expr_tree e)
+other_tree e (inl h) = subst IsOperation (sym (ap expr_tree h.1 ∙ tree-Int h.0)) tt
+other_tree e (inr (inl h)) = subst IsOperation (sym (ap expr_tree h.1 ∙ tree-Neg h.0)) tt
+other_tree e (inr (inr (inl h))) = subst IsOperation (sym (ap expr_tree h.2 ∙ tree-Add h.0 h.1)) tt
+other_tree e (inr (inr (inr (inl h)))) = subst IsOperation (sym (ap expr_tree h.2 ∙ tree-Sub h.0 h.1)) tt
+other_tree e (inr (inr (inr (inr (inl h))))) = subst IsOperation (sym (ap expr_tree h.2 ∙ tree-Mul h.0 h.1)) tt
+other_tree e (inr (inr (inr (inr (inr (inl h)))))) = subst IsOperation (sym (ap expr_tree h.2 ∙ tree-Div h.0 h.1)) tt
+other_tree e (inr (inr (inr (inr (inr (inr (inl h))))))) = subst IsOperation (sym (ap expr_tree h.2 ∙ tree-Pow h.0 h.1)) tt
+other_tree e (inr (inr (inr (inr (inr (inr (inr h))))))) = subst IsOperation (sym (ap expr_tree h.2 ∙ tree-Call h.0 h.1)) tt
 
 pub tree-Rel : (r : Relation) (a b : Expr) → cond_tree (condition.Rel r a b) ≡ plain.Rel r (expr_tree a) (expr_tree b)
 tree-Rel r a b = ap cond_tree (sym (condition.rolls-Rel r a b)) ∙ fold-roll-Cond CondTree cond_level (open_cond.Rel r a b)

@@ -1,9 +1,9 @@
 -- Moments of a run, and what lies ahead of them.
-use Rattle.std.proofs.Common.{zero, add-zero, append-nil, ◌≡◌, ◌⊎◌, inl, inr, ℕ, suc, ◌+◌, ◌<◌, List, [], ◌∷◌, ◌++◌, map, Bool, true, false, if◌then◌else◌, eqb, eqb-true, ltb, refl, sym, ap, ◌∙◌, arith, append_assoc}
+use Rattle.std.proofs.Common.{zero, add-zero, append-nil, ◌≡◌, ◌⊎◌, inl, inr, ℕ, suc, ◌+◌, ◌<◌, List, [], ◌∷◌, ◌++◌, Bool, true, false, if◌then◌else◌, eqb, eqb-true, ltb, refl, sym, ap, ◌∙◌, arith, append_assoc}
 use Rattle.std.proofs.lemmas.Bool.{ltb-true, lt-ltb}
 use Rattle.std.proofs.lemmas.List.{map-append}
-use Rattle.ped_store.specs.Cells.{Cell, Scalar, Element, Private, In, Out, Iteration}
-use Rattle.ped_store.specs.Acts.{Turn, iterations_of}
+use Rattle.ped_store.specs.Cells.{Iteration}
+use Rattle.ped_store.specs.Acts.{Turn}
 use Rattle.ped_eval.specs.Scopes.{Frame, Scope, turns_of}
 use Rattle.ped_eval.specs.Agreement.{path_of, row_of, is_ahead, before, before_turn}
 

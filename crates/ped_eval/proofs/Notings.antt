@@ -1,11 +1,15 @@
 -- Notes behind evaluations, one after the other.
-use Rattle.std.proofs.Common.{◌≡◌, ℕ, suc, ◌+◌, ◌<◌, ◌≤◌, ℤ, length, drop, get_or, List, [], ◌∷◌, ◌++◌, Bool, true, false, not, map, refl, sym, ap, subst, ◌∙◌, append_assoc, if◌then◌else◌, Ok, Err, Option, Some, None}
+use Rattle.std.proofs.Common.{◌≡◌, ℕ, suc, ◌+◌, ◌<◌, ◌≤◌, ℤ, length, drop, get_or, List, [], ◌∷◌, ◌++◌, Bool, true, false, not, map, refl, sym, ap, subst, ◌∙◌, append_assoc, arith, if◌then◌else◌, Ok, Err, Option, Some, None}
 use Rattle.std.specs.Prelude.{Result, filter}
 use Rattle.std.proofs.lemmas.List.{append-nil, map-append}
 use Rattle.std.proofs.lemmas.List.Elements.{filter-append}
 use Rattle.ped_base.specs.Lists.{is_among}
-use Rattle.ped_store.specs.Cells.{Cell, Private}
-use Rattle.ped_store.specs.Stores.{Content, Number, Store}
+use Rattle.ped_store.specs.Cells as cells
+use Rattle.ped_store.specs.Cells.{Cell, Scalar, Private, In, Out}
+use Rattle.ped_store.specs.Memories.{Memory, got}
+use Rattle.ped_store.specs.Storage.{is_within}
+use Rattle.ped_eval.specs.Targets.{bounded}
+use Rattle.ped_store.specs.Stores.{Content, Undefined, Number, Lines, Store, number_read, outside_bounds}
 use Rattle.ped_store.specs.Acts.{Touch, reads, is_told}
 use Rattle.ped_store.specs.Races.{is_access, is_lines, is_write}
 use Rattle.ped_eval.specs.Scopes.{Frame, Scope, cell_of, index_value}
@@ -20,7 +24,7 @@ use Rattle.ped_tree.specs.Views.{expr_tree, cond_tree, pack_exprs}
 use Rattle.ped_store.specs.Keeping.{memory_of}
 use Rattle.ped_eval.specs.declared.surroundings.Surroundings.{Surroundings}
 use Rattle.ped_eval.specs.Results.{value_at, target_at, truth_at}
-use Rattle.ped_eval.specs.Noting.{Noted, noted, noted_by, HasNoted, HasReferred, HasTouched, seen_next, read_within, seen_at, all_seen_at, target_seen_at, truth_seen_at}
+use Rattle.ped_eval.specs.Noting.{Noted, noted, noted_by, Reading, Referring, Touching, HasNoted, HasReferred, HasTouched, seen_next, has_been_read, read_within, seen_at, all_seen_at, target_seen_at, truth_seen_at}
 use Rattle.ped_eval.proofs.Steps.{first_of, none_behind}
 use Rattle.ped_eval.proofs.Seeing.{IsPlain, plain_target_seen, none_seen, more_seen, element_seen, rel_seen}
 use Rattle.ped_eval.specs.declared.notes.Notes.{Notes}
@@ -46,12 +50,15 @@ number_behind-append n (index_seen c v ∷ a) b = number_behind-append n a b
 
 -- nothing is read
 pub none_noted : (a : Notes) → HasNoted a [] a
-none_noted a = record { touches = sym (append-nil (noted_by a)); next = refl }
+none_noted a q = record { kept = q; touches = sym (append-nil (noted_by a)); next = refl }
 
 -- one evaluation behind another
 pub both_noted : (a b c : Notes) (x y : List Seen) → HasNoted a x b → HasNoted b y c → HasNoted a (x ++ y) c
-both_noted a b c x y h k =
+both_noted a b c x y first second q =
+    let k : Reading b y c = second q in
+    let h : Reading a x b = first k.kept in
     record {
+      kept = h.kept;
       touches =
           k.touches ∙ (λ i. h.touches i ++ noted (numbered (h.next i) y))
           ∙ append_assoc (noted_by a) (noted (numbered a.next x)) (noted (numbered (number_behind a.next x) y))
@@ -69,11 +76,15 @@ noted_first t ts h = ap (λ (b : Bool). map (λ (t : Touch). record { cell = t.c
 
 -- the read of a cell by a reference
 pub read_referred : (a b : Notes) (c : Cell) (v : Content) → is_lines c ≡ false → HasReferred a c false b → HasNoted a (cell_seen c v ∷ []) b
-read_referred a b c v h r = record { touches = r.touches ∙ ap (λ (ns : List Noted). noted_by a ++ ns) (sym (noted_first (cell_touch a.next c v) [] (ap not h))); next = r.next }
+read_referred a b c v h referred q =
+    let r : Referring a c false b = referred q in
+    record { kept = r.kept; touches = r.touches ∙ ap (λ (ns : List Noted). noted_by a ++ ns) (sym (noted_first (cell_touch a.next c v) [] (ap not h))); next = r.next }
 
 -- the read of the variable of a DO in its body
 pub index_touched : (a b : Notes) (c : Cell) (v : ℤ) → is_lines c ≡ false → HasTouched a c false b → HasNoted a (index_seen c v ∷ []) b
-index_touched a b c v h r = record { touches = r.touches ∙ ap (λ (ns : List Noted). noted_by a ++ ns) (sym (noted_first (index_touch c v) [] (ap not h))); next = r.next }
+index_touched a b c v h touched q =
+    let r : Touching a c false b = touched q in
+    record { kept = r.kept; touches = r.touches ∙ ap (λ (ns : List Noted). noted_by a ++ ns) (sym (noted_first (index_touch c v) [] (ap not h))); next = r.next }
 
 lines_by : (f : Frame) (fs : Scope) (x : List ℕ) (b : Bool) → is_lines (cell_of fs x) ≡ false → is_lines (if b then Private x (path_of (f ∷ fs)) else cell_of fs x) ≡ false
 lines_by f fs x true h = refl
@@ -86,16 +97,16 @@ scalar_no_lines (f ∷ fs) x = lines_by f fs x (is_among x f.private) (scalar_no
 
 module _ (a b : Notes) (scope : Scope) (x : List ℕ) (s : Store) where
   -- the variable of a DO is noted in its body
-  pub variable_told : (v : ℤ) (c : Cell) → index_value scope x ≡ Some v → c ≡ cell_of scope x → HasTouched a c false b → HasNoted a (variable_value (index_value scope x) s (cell_of scope x)).seen b
-  variable_told v c h e r =
+  pub variable_told : (v : ℤ) → index_value scope x ≡ Some v → HasTouched a (cell_of scope x) false b → HasNoted a (variable_value (index_value scope x) s (cell_of scope x)).seen b
+  variable_told v h r =
       noted_as a b (index_seen (cell_of scope x) v ∷ []) (variable_value (index_value scope x) s (cell_of scope x)).seen (ap (λ (o : Option ℤ). (variable_value o s (cell_of scope x)).seen) (sym h))
-      (index_touched a b (cell_of scope x) v (scalar_no_lines scope x) (subst (λ (d : Cell). HasTouched a d false b) e r))
+      (index_touched a b (cell_of scope x) v (scalar_no_lines scope x) r)
 
   -- another scalar is noted as its cell
-  pub variable_read : (c : Cell) → index_value scope x ≡ None → c ≡ cell_of scope x → HasReferred a c false b → HasNoted a (variable_value (index_value scope x) s (cell_of scope x)).seen b
-  variable_read c h e r =
+  pub variable_read : index_value scope x ≡ None → HasReferred a (cell_of scope x) false b → HasNoted a (variable_value (index_value scope x) s (cell_of scope x)).seen b
+  variable_read h r =
       noted_as a b (cell_seen (cell_of scope x) (s (cell_of scope x)) ∷ []) (variable_value (index_value scope x) s (cell_of scope x)).seen (ap (λ (o : Option ℤ). (variable_value o s (cell_of scope x)).seen) (sym h))
-      (read_referred a b (cell_of scope x) (s (cell_of scope x)) (scalar_no_lines scope x) (subst (λ (d : Cell). HasReferred a d false b) e r))
+      (read_referred a b (cell_of scope x) (s (cell_of scope x)) (scalar_no_lines scope x) r)
 
 -- the read of a cell that lies within its bounds is noted, and else nothing
 pub within_noted : (a b : Notes) (c : Cell) (s : Store) (r : Result Cell ℕ) → is_lines c ≡ false → r ≡ Ok c → HasReferred a c false b → HasNoted a (read_within s r) b
@@ -110,6 +121,39 @@ next_noted a b r u x h k = noted_as a b x (seen_next r x) (ap (λ (q : Result _ 
 
 pub fault_noted : {A : Type 0} (a : Notes) (r : Result A ℕ) (n : ℕ) (x : List Seen) → r ≡ Err n → HasNoted a (seen_next r x) a
 fault_noted a r n x h = noted_as a a [] (seen_next r x) (ap (λ (q : Result _ ℕ). seen_next q x) (sym h)) (none_noted a)
+
+-- a cell that has been read lies within its bounds
+pub read_within_bounds : (m : Memory) (c : Cell) (r : Result ℤ ℕ) → r ≡ got m c → has_been_read r ≡ true → bounded m c ≡ Ok c
+read_within_bounds m (cells.Element x js) r e h = go (is_within (m.bounds x) js) (ap has_been_read (sym e) ∙ h)
+  where
+    go : (b : Bool) → has_been_read (if b then number_read (m.cells (cells.Element x js)) else Err outside_bounds) ≡ true → (if b then Ok (cells.Element x js) else Err outside_bounds) ≡ Ok (cells.Element x js)
+    go true h = refl
+    go false h = absurd cc
+read_within_bounds m (Scalar x) r e h = refl
+read_within_bounds m (Private x iterations) r e h = refl
+read_within_bounds m In r e h = refl
+read_within_bounds m Out r e h = refl
+
+always_read : (v : Content) → has_been_read (number_read v) ≡ true
+always_read Undefined = refl
+always_read (Number n) = refl
+always_read (Lines lines) = refl
+
+-- a cell that hasn't been read lies outside its bounds
+pub unread_outside_bounds : (m : Memory) (c : Cell) (r : Result ℤ ℕ) → r ≡ got m c → has_been_read r ≡ false → (n : ℕ) × (bounded m c ≡ Err n)
+unread_outside_bounds m (cells.Element x js) r e h = go (is_within (m.bounds x) js) (ap has_been_read (sym e) ∙ h)
+  where
+    go : (b : Bool) → has_been_read (if b then number_read (m.cells (cells.Element x js)) else Err outside_bounds) ≡ false → (n : ℕ) × ((if b then Ok (cells.Element x js) else Err outside_bounds) ≡ Err n)
+    go true h = absurd (let k = sym (always_read (m.cells (cells.Element x js))) ∙ h in cc)
+    go false h = (outside_bounds, refl)
+unread_outside_bounds m (Scalar x) r e h = absurd (let k = sym (always_read (m.cells (Scalar x))) ∙ (ap has_been_read (sym e) ∙ h) in cc)
+unread_outside_bounds m (Private x is) r e h = absurd (let k = sym (always_read (m.cells (Private x is))) ∙ (ap has_been_read (sym e) ∙ h) in cc)
+unread_outside_bounds m In r e h = absurd (let k = sym (always_read (m.cells In)) ∙ (ap has_been_read (sym e) ∙ h) in cc)
+unread_outside_bounds m Out r e h = absurd (let k = sym (always_read (m.cells Out)) ∙ (ap has_been_read (sym e) ∙ h) in cc)
+
+nothing_next : {A : Type 0} (r : Result A ℕ) → seen_next r [] ≡ []
+nothing_next (Ok u) = refl
+nothing_next (Err n) = refl
 
 module _ (around : Surroundings) where
   -- two operands are noted as their operation
@@ -143,6 +187,28 @@ module _ (around : Surroundings) where
 
   pub all_noted : (old : Notes) (es : List Expr) (i : ℕ) → length es ≤ i → HasNoted old (all_seen_at around (drop i es)) old
   all_noted old es i h = noted_as old old [] (all_seen_at around (drop i es)) (sym (ap (all_seen_at around) (none_behind es i h) ∙ none_seen around)) (none_noted old)
+
+  last_seen : (e : Expr) → all_seen_at around (e ∷ []) ≡ seen_at around (expr_tree e)
+  last_seen e =
+      more_seen around e [] ∙ ap (λ (seen : List Seen). seen_at around (expr_tree e) ++ seen_next (value_at around (expr_tree e)) seen) (none_seen around)
+      ∙ ap (λ (seen : List Seen). seen_at around (expr_tree e) ++ seen) (nothing_next (value_at around (expr_tree e))) ∙ append-nil (seen_at around (expr_tree e))
+
+  -- one argument is all
+  pub one_noted : (old new : Notes) (es : List Expr) (a : Expr) → length es ≡ 1 → a ≡ get_or es 0 a → HasNoted old (seen_at around (expr_tree a)) new → HasNoted old (all_seen_at around es) new
+  one_noted old new es a h e first =
+      let all : es ≡ a ∷ [] = first_of es 0 a (omega (arith, h)) e ∙ ap (λ (l : List Expr). a ∷ l) (none_behind es 1 (omega (arith, h))) in
+      noted_as old new _ (all_seen_at around es) (sym (ap (all_seen_at around) all ∙ last_seen a)) first
+
+  -- two arguments are all
+  pub pair_noted : (old mid new : Notes) (es : List Expr) (a b : Expr) (r : Result ℤ ℕ) → length es ≡ 2 → a ≡ get_or es 0 a → b ≡ get_or es 1 b → r ≡ value_at around (expr_tree a)
+      → HasNoted old (seen_at around (expr_tree a)) mid → HasNoted mid (seen_next r (seen_at around (expr_tree b))) new → HasNoted old (all_seen_at around es) new
+  pair_noted old mid new es a b r h e f value first second =
+      let all : es ≡ a ∷ b ∷ [] =
+      first_of es 0 a (omega (arith, h)) e ∙ ap (λ (l : List Expr). a ∷ l) (first_of es 1 b (omega (arith, h)) f ∙ ap (λ (l : List Expr). b ∷ l) (none_behind es 2 (omega (arith, h)))) in
+      let whole : all_seen_at around es ≡ seen_at around (expr_tree a) ++ seen_next r (seen_at around (expr_tree b)) =
+      ap (all_seen_at around) all ∙ more_seen around a (b ∷ [])
+      ∙ (λ i. seen_at around (expr_tree a) ++ seen_next (sym value i) (last_seen b i)) in
+      noted_as old new _ (all_seen_at around es) (sym whole) (both_noted old mid new (seen_at around (expr_tree a)) (seen_next r (seen_at around (expr_tree b))) first second)
 
   -- an element is noted behind its subscripts
   pub element_noted : (old mid new : Notes) (x : List ℕ) (es : List Expr) (r : Result Cell ℕ) → target_at around (Element x (pack_exprs (map expr_tree es))) ≡ r

@@ -1,10 +1,10 @@
 -- Statements by their kinds: what their parts need, and how their runs end.
-use Rattle.std.proofs.Common.{◌≡◌, ℕ, suc, ◌+◌, ◌≤◌, ◌<◌, ◌^◌, max, List, [], ◌∷◌, length, map, Bool, true, false, ◌&&◌, Result, Ok, Err, if◌then◌else◌, refl, sym, ap, subst, ◌∙◌, arith, rules, drop, get_or, add-one, drop-cons}
+use Rattle.std.proofs.Common.{◌≡◌, ℕ, suc, ◌+◌, ◌≤◌, ◌<◌, ◌^◌, max, List, ◌∷◌, length, map, Bool, true, false, ◌&&◌, Result, Ok, Err, if◌then◌else◌, refl, sym, ap, subst, ◌∙◌, arith, rules, drop, get_or, add-one, drop-cons}
 use Rattle.std.proofs.lemmas.Bool.{and_parts}
 use Rattle.std.specs.Global.{Vec}
 use Rattle.ped_tree.specs.Tree as plain
 use Rattle.ped_tree.specs.Tree.{CondTree, Head, StmtTree, StmtTrees, more_stmts}
-use Rattle.ped_tree.specs.Views.{expr_tree, cond_tree, item_tree, stmt_tree, stmt_trees, do_tree, stmt_level, do_level}
+use Rattle.ped_tree.specs.Views.{expr_tree, item_tree, stmt_tree, stmt_trees, do_tree, stmt_level, do_level}
 use Rattle.ped_tree.specs.Numbering.{statement_count, statements_count}
 use Rattle.ped_tree.specs.declared.expressions.Expr.{Expr}
 use Rattle.ped_tree.specs.declared.statements.PrintItem.{PrintItem}
@@ -24,7 +24,7 @@ use Rattle.ped_symbols.specs.RightUses.RightLoops.{loop_depth, loops_deep, step_
 use Rattle.ped_eval.specs.Readiness.{kinds_by, setting_by, IsReady, CanDo, CanRun}
 use Rattle.ped_eval.specs.Agreement.{is_ahead, before, Agrees}
 use Rattle.ped_eval.specs.Runs.{Ending, going, stopped, failed, run, run_all}
-use Rattle.ped_eval.specs.Told.{Goes, Stops, Fails, Tells, Ran}
+use Rattle.ped_eval.specs.Told.{Fails, Tells, Ran}
 use Rattle.ped_eval.specs.declared.states.Flow.{Flow}
 use Rattle.ped_eval.specs.declared.states.Flow.TheVariants as flow
 use Rattle.ped_eval.specs.declared.states.RunError.{RunError}

@@ -14,7 +14,9 @@ use Rattle.ped_eval.specs.Scopes.{Scope, Names, names_in, place_of}
 use Rattle.ped_eval.specs.ScopeViews.{names_at}
 use Rattle.ped_eval.specs.Evaluation.{Seen, ◌>>>◌, given, onward}
 use Rattle.ped_eval.specs.Statements.{item_text, item_texts, printed_line}
-use Rattle.ped_eval.specs.Items.{blank_before}
+use Rattle.ped_eval.specs.Items.{blank_before, IsPrinted, IsAdded, IfPrinted}
+use Rattle.ped_eval.specs.declared.printing.PrintError.{PrintError}
+use Rattle.ped_eval.specs.declared.printing.PrintError.TheVariants as print
 use Rattle.ped_eval.specs.Readiness.{setting_by, IsReady}
 use Rattle.ped_eval.specs.Agreement.{before, Agrees}
 use Rattle.ped_eval.specs.Runs.{Ending, run}
@@ -122,3 +124,12 @@ module _ (table : Table) (scope : Scope) (n : ℕ) (items : List ItemTree) (m : 
   print_failed new fault k is h s g =
       let e : (printed_line (names_in (setting_by table) scope) items s).result ≡ Err k = kept s g ∙ h in
       subst (λ (x : Ending). Fails fault n x) (sym (print_fails (names_in (setting_by table) scope) (place_of (setting_by table) n scope) items s k e)) (is, refl)
+
+-- a fault of an item is one of the whole
+pub broken_line : (whole text : Result (List ℕ) ℕ) (old new : List ℕ) (e : PrintError) → ((n : ℕ) → text ≡ Err n → whole ≡ Err n) → IsAdded {A = Unit {0}} text old new (Err e) → IsPrinted whole (Err e)
+broken_line whole text old new (print.Fault n) f h = f n h
+broken_line whole text old new print.NoMemory f h = tt
+
+pub broken_noted : (A P Q : Type 0) (text : Result (List ℕ) ℕ) (old new : List ℕ) (e : PrintError) → ((n : ℕ) → text ≡ Err n → P → Q) → IsAdded {A = Unit {0}} text old new (Err e) → IfPrinted {A = Unit {0}} (Err e) P → IfPrinted {A = A} (Err e) Q
+broken_noted A P Q text old new (print.Fault n) f h k = f n h k
+broken_noted A P Q text old new print.NoMemory f h k = tt

@@ -20,10 +20,8 @@ use Rattle.ped_eval.specs.Readiness.{setting_by, IsReady}
 use Rattle.ped_eval.specs.Targets.{bounded}
 use Rattle.ped_eval.specs.Takings.{names_with}
 use Rattle.ped_eval.specs.Follow.{Follow}
-use Rattle.ped_eval.specs.Noting.{Noted, noted, noted_by, HasNoted, HasReferred, accesses_by}
-use Rattle.ped_eval.specs.StatementNotes.{write_noted, item_noted, value_noted, items_noted, line_noted, read_noted, IsTaken, IsItemNoted, IfRead}
-use Rattle.ped_eval.specs.declared.reading.ReadError.{ReadError}
-use Rattle.ped_eval.specs.declared.reading.ReadError.TheVariants as error
+use Rattle.ped_eval.specs.Noting.{Noted, noted, noted_by, Reading, Referring, HasNoted, HasReferred, accesses_by}
+use Rattle.ped_eval.specs.StatementNotes.{write_noted, item_noted, value_noted, items_noted, line_noted, read_noted}
 use Rattle.ped_eval.specs.Watched.{Watched}
 use Rattle.ped_eval.specs.declared.notes.Notes.{Notes}
 use Rattle.ped_eval.specs.declared.states.Flow.{Flow}
@@ -105,33 +103,46 @@ module _ (constants : List (List ℕ × ℤ)) (scope : Scope) (item : ExprTree) 
       ∙ ap (λ (k : Memory). item_noted old.next (target (names_with k scope constants) item k.cells).seen (target (names_with k scope constants) item k.cells).result λ j c. items_noted constants scope rest j (with_content c (Number t.value) k)) (sym is)
       ∙ ap (λ (q : Result Cell ℕ). item_noted old.next targeted.seen q (λ k c. items_noted constants scope rest k (with_content c (Number t.value) mid))) e
 
-  module _ (noted_mid : Notes) (h : HasNoted old targeted.seen noted_mid) where
+  -- what is noted of this item and of those behind it is all, where the notes are kept
+  abbrev NotedWith : Notes → Memory → Type 0
+  NotedWith new after = new.kept ≡ true → (old.kept ≡ true) × ((rest : List ExprTree) → noted_by old ++ items_noted constants scope (item ∷ rest) old.next m ≡ noted_by new ++ items_noted constants scope rest new.next after)
+
+  -- what is noted of this item is all
+  abbrev NotedLast : Notes → Type 0
+  NotedLast new = new.kept ≡ true → (old.kept ≡ true) × ((rest : List ExprTree) → noted_by old ++ items_noted constants scope (item ∷ rest) old.next m ≡ noted_by new)
+
+  module _ (noted_mid : Notes) (noted_here : HasNoted old targeted.seen noted_mid) where
     -- an item whose subscripts fault
-    pub item_faulted : (n : ℕ) → targeted.result ≡ Err n → (rest : List ExprTree) → noted_by old ++ items_noted constants scope (item ∷ rest) old.next m ≡ noted_by noted_mid
-    item_faulted n e rest = ap (λ (ns : List Noted). noted_by old ++ ns) (item_is rest (Err n) e) ∙ sym h.touches
+    pub item_faulted : (n : ℕ) → targeted.result ≡ Err n → NotedLast noted_mid
+    item_faulted n e q =
+        let h : Reading old targeted.seen noted_mid = noted_here q in
+        (h.kept, λ rest. ap (λ (ns : List Noted). noted_by old ++ ns) (item_is rest (Err n) e) ∙ sym h.touches)
 
     module _ (c : Cell) (place : targeted.result ≡ bounded mid c) where
       -- an item that is stored
-      pub item_stored : (after : Memory) (new : Notes) → stored c t.value mid ≡ Ok after → HasReferred noted_mid c true new
-          → (rest : List ExprTree) → noted_by old ++ items_noted constants scope (item ∷ rest) old.next m ≡ noted_by new ++ items_noted constants scope rest new.next after
-      item_stored after new e r rest =
+      pub item_stored : (after : Memory) (new : Notes) → stored c t.value mid ≡ Ok after → HasReferred noted_mid c true new → NotedWith new after
+      item_stored after new e written q =
+          let r : Referring noted_mid c true new = written q in
+          let h : Reading old targeted.seen noted_mid = noted_here r.kept in
           let w = stored_is c t.value mid after e in
           let number : w.number ≡ t.value = storable_same t.value w.number (is_storable t.value) w.right in
           let is : after ≡ with_content c (Number t.value) mid = w.new_is ∙ ap (λ (k : ℤ). with_content c (Number k) mid) number in
           let next : new.next ≡ suc (number_behind old.next targeted.seen) = r.next ∙ ap suc h.next in
           let write : Noted = record { cell = c; writes = true; reference = number_behind old.next targeted.seen } in
           let all : noted_by new ≡ noted_by old ++ write_noted old.next targeted.seen c =
-          r.touches ∙ (λ i. h.touches i ++ record { cell = c; writes = true; reference = h.next i } ∷ []) ∙ append_assoc (noted_by old) (noted (numbered old.next targeted.seen)) (write ∷ []) in
-          ap (λ (ns : List Noted). noted_by old ++ ns) (item_is rest (Ok c) (place ∙ w.within))
-          ∙ sym (append_assoc (noted_by old) (write_noted old.next targeted.seen c) (items_noted constants scope rest (suc (number_behind old.next targeted.seen)) (with_content c (Number t.value) mid)))
-          ∙ (λ i. sym all i ++ items_noted constants scope rest (sym next i) (sym is i))
+          r.touches ∙ (λ i. h.touches i ++ record { cell = c; writes = true; reference = h.next i } ∷ []) ∙ append_assoc (noted_by old) (noted (numbered old.next targeted.seen)) (write ∷ []) in (
+            h.kept,
+            λ rest. ap (λ (ns : List Noted). noted_by old ++ ns) (item_is rest (Ok c) (place ∙ w.within))
+                ∙ sym (append_assoc (noted_by old) (write_noted old.next targeted.seen c) (items_noted constants scope rest (suc (number_behind old.next targeted.seen)) (with_content c (Number t.value) mid)))
+                ∙ (λ i. sym all i ++ items_noted constants scope rest (sym next i) (sym is i)),
+          )
 
-      unstored_by : (n : ℕ) → IsUnstored c t.value (bounded mid c) n → (rest : List ExprTree) → noted_by old ++ items_noted constants scope (item ∷ rest) old.next m ≡ noted_by noted_mid
+      unstored_by : (n : ℕ) → IsUnstored c t.value (bounded mid c) n → NotedLast noted_mid
       unstored_by n (inl e) = item_faulted n (place ∙ e)
       unstored_by n (inr e) = absurd (no_fault t.value n (is_storable t.value) (value_storable m.input.rest m.input.lines t value) e.1)
 
       -- an item that lies outside its bounds
-      pub item_unstored : (n : ℕ) → stored c t.value mid ≡ Err n → (rest : List ExprTree) → noted_by old ++ items_noted constants scope (item ∷ rest) old.next m ≡ noted_by noted_mid
+      pub item_unstored : (n : ℕ) → stored c t.value mid ≡ Err n → NotedLast noted_mid
       item_unstored n e = unstored_by n (unstored_is c t.value mid n e)
 
 -- an item for which no value is left
@@ -142,7 +153,7 @@ item_untaken constants scope item old m n e rest =
     (target (names_with (with_data u.behind m) scope constants) item (with_data u.behind m).cells).result λ k c. items_noted constants scope rest k (with_content c (Number u.value) (with_data u.behind m))) e
     ∙ append-nil (noted_by old)
 
-module _ (constants : List (List ℕ × ℤ)) (scope : Scope) (items : List ExprTree) (old mid : Notes) (m : Memory) (h : HasReferred old In true mid) where
+module _ (constants : List (List ℕ × ℤ)) (scope : Scope) (items : List ExprTree) (old mid : Notes) (m : Memory) (h : Referring old In true mid) where
   line_is : (o : Result Data ℕ) → begun m.input.lines ≡ o
       → noted_by old ++ read_noted constants scope items old.next m ≡ noted_by mid ++ line_noted o (λ d. items_noted constants scope items mid.next (with_data d m))
   line_is o e =
@@ -157,24 +168,7 @@ module _ (constants : List (List ℕ × ℤ)) (scope : Scope) (items : List Expr
   pub line_missing : (n : ℕ) → begun m.input.lines ≡ Err n → noted_by mid ≡ noted_by old ++ read_noted constants scope items old.next m
   line_missing n e = sym (line_is (Err n) e ∙ append-nil (noted_by mid))
 
--- a fault of a part is one of the whole
-pub broken_taken : (whole part : Result Memory ℕ) (kept new : Memory) (e : ReadError) → ((n : ℕ) → part ≡ Err n → whole ≡ Err n) → IsTaken {A = Unit {0}} part kept (Err e) → IsTaken {A = Unit {0}} whole new (Err e)
-broken_taken whole part kept new (error.Fault n) f h = f n h
-broken_taken whole part kept new error.NoMemory f h = tt
-
-pub broken_noted : (constants : List (List ℕ × ℤ)) (scope : Scope) (item : ExprTree) (rest : List ExprTree) (old new : Notes) (m after : Memory) (all : List Noted) (e : ReadError)
-    → noted_by old ++ items_noted constants scope (item ∷ rest) old.next m ≡ all → IsItemNoted {A = Unit {0}} constants scope item old m new after (Err e) → IfRead {A = Unit {0}} (Err e) (noted_by new ≡ all)
-broken_noted constants scope item rest old new m after all (error.Fault n) is h = sym (h rest) ∙ is
-broken_noted constants scope item rest old new m after all error.NoMemory is h = tt
-
 module _ (constants : List (List ℕ × ℤ)) (scope : Scope) (items : List Expr) (i : ℕ) (x : Expr) (h : i < length items) (e : x ≡ get_or items i x) where
   -- the items from a place on are the one there and those behind it
   pub items_left : map expr_tree (drop i items) ≡ expr_tree x ∷ map expr_tree (drop (i + 1) items)
   items_left = ap (map expr_tree) (next_drop items i x h) ∙ ap (λ (y : Expr). expr_tree y ∷ map expr_tree (drop (i + 1) items)) (sym e)
-
--- a watch is told what a READ has noted
-pub told_read : {W : Type 0} (follows : W → Access → W → Type 0) (constants : List (List ℕ × ℤ)) (scope behind : Scope) (n : ℕ) (items : List ExprTree) (m : Memory) (fresh new : Notes) (w v : W)
-    → noted_by fresh ≡ [] → fresh.next ≡ 1 → behind ≡ scope → noted_by new ≡ noted_by fresh ++ read_noted constants scope items fresh.next m
-    → Follow follows w (accesses_by n behind (noted_by new)) v → Follow follows w (accesses_by n scope (read_noted constants scope items 1 m)) v
-told_read follows constants scope behind n items m fresh new w v none one same all h =
-    subst (λ (xs : List Access). Follow follows w xs v) (λ i. accesses_by n (same i) ((all ∙ (λ i. none i ++ read_noted constants scope items (one i) m)) i)) h

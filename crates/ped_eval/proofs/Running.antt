@@ -1,21 +1,20 @@
 -- What the answer for one statement tells of the whole run.
-use Rattle.std.proofs.Common.{◌≡◌, ◌⊎◌, inl, inr, ℕ, suc, ◌+◌, ◌<◌, ℤ, List, [], ◌∷◌, Bool, true, false, Result, Ok, Err, refl, sym, ap, subst, ◌∙◌, arith}
-use Rattle.ped_tree.specs.Tree.{ExprTree, StmtTree, StmtTrees, more_stmts, no_stmts}
+use Rattle.std.proofs.Common.{◌≡◌, ℕ, ◌+◌, ℤ, List, Result, Ok, Err, refl, sym, ap, subst, ◌∙◌}
+use Rattle.ped_tree.specs.Tree.{ExprTree, StmtTree, StmtTrees, more_stmts}
 use Rattle.ped_tree.specs.Numbering.{statement_count}
 use Rattle.ped_store.specs.Cells.{Cell}
-use Rattle.ped_store.specs.Stores.{Content, Number, Store, put, storable}
+use Rattle.ped_store.specs.Stores.{Number, Store, put, storable}
 use Rattle.ped_store.specs.Acts.{Place}
 use Rattle.ped_store.specs.Memories.{Memory}
-use Rattle.ped_eval.specs.Scopes.{Setting, Frame, Scope, Names, names_in}
-use Rattle.ped_eval.specs.Evaluation.{Seen, Evaluated, ◌>>>◌, given, onward}
+use Rattle.ped_eval.specs.Scopes.{Setting, Scope, Names, names_in}
+use Rattle.ped_eval.specs.Evaluation.{Seen, ◌>>>◌, given, onward}
 use Rattle.ped_eval.specs.Values.{value, target}
 use Rattle.ped_eval.specs.Statements.{Stored, assigned}
-use Rattle.ped_eval.specs.Runs.{Ending, going, stopped, failed, Run, run, run_all, run_assignment, then_run}
-use Rattle.ped_eval.specs.Agreement.{before, before_turn, IsSameOutside, Agrees}
+use Rattle.ped_eval.specs.Runs.{Ending, going, stopped, failed, run, run_all, run_assignment}
+use Rattle.ped_eval.specs.Agreement.{before, Agrees}
 use Rattle.ped_eval.specs.Takings.{names_with}
-use Rattle.ped_eval.specs.Turns.{after, turns_end}
-use Rattle.ped_eval.specs.Loops.{Entered, frame}
-use Rattle.ped_eval.specs.Told.{Goes, Stops, Fails, Tells, TellsFrom, Reaches}
+use Rattle.ped_eval.specs.Turns.{after}
+use Rattle.ped_eval.specs.Told.{Goes, Fails, Tells, TellsFrom, Reaches}
 use Rattle.ped_eval.specs.declared.states.Flow.{Flow}
 use Rattle.ped_eval.specs.declared.states.Flow.TheVariants as flow
 use Rattle.ped_eval.specs.declared.states.RunError.{RunError}

@@ -1,5 +1,5 @@
 -- Evaluations are the same in stores that hold the same where they read.
-use Rattle.std.proofs.Common.{◌≡◌, ℕ, ℤ, List, [], ◌∷◌, length, Bool, true, false, not, ◌&&◌, ◌||◌, Option, Some, None, Result, Ok, Err, if◌then◌else◌, refl}
+use Rattle.std.proofs.Common.{◌≡◌, ℕ, ℤ, List, [], ◌∷◌, length, Bool, true, false, not, ◌&&◌, ◌||◌, Option, Some, None, Ok, Err, if◌then◌else◌, refl}
 use Rattle.ped_base.specs.Arithmetic.Arithmetic.{sum_of, difference_of, negation_of, product_of, quotient_of, power_of}
 use Rattle.ped_tree.specs.Constants.NamedConstants.{value_named}
 use Rattle.ped_tree.specs.Constants.ConstantExpressions.{intrinsic_result}
@@ -9,7 +9,7 @@ use Rattle.ped_store.specs.Cells.{Cell, Element}
 use Rattle.ped_store.specs.Stores.{Store, number_read, outside_bounds}
 use Rattle.ped_store.specs.Storage.{is_within}
 use Rattle.ped_eval.specs.Scopes.{Names}
-use Rattle.ped_eval.specs.Evaluation.{Evaluated, ◌>>>◌, given, cell_seen, read_cell}
+use Rattle.ped_eval.specs.Evaluation.{◌>>>◌, given, cell_seen, read_cell}
 use Rattle.ped_eval.specs.Values.{unary, binary, variable_value, name_value, is_rank, element_cell, of_intrinsic, value, values, relation_holds, truth, target}
 
 -- two stores hold the same where names stand for cells

@@ -19,6 +19,7 @@ use Rattle.ped_eval.specs.Evaluation.{Seen, Evaluated, onward, ◌>>>◌, given,
 use Rattle.ped_eval.specs.Values.{of_intrinsic, name_value, variable_value, element_cell, value, values, truth, relation_holds}
 use Rattle.ped_eval.specs.declared.surroundings.Surroundings.{Surroundings}
 use Rattle.ped_eval.specs.Results.{value_at, target_at, truth_at}
+use Rattle.ped_eval.proofs.Levels.{IsOperation}
 use Rattle.ped_eval.specs.Noting.{seen_next, read_within, seen_at, all_seen_at, target_seen_at, truth_seen_at}
 
 -- what an operation on one value reads
@@ -53,6 +54,18 @@ within_seen r f s = go r.seen r.result
 abbrev pub IsPlain : ExprTree → Type 0
 IsPlain (Element x ts) = ⊥
 IsPlain e = Unit {0}
+
+pub operation_plain : (t : ExprTree) → IsOperation t → IsPlain t
+operation_plain (Int n) h = tt
+operation_plain (Var x) h = tt
+operation_plain (Element x ts) h = absurd h
+operation_plain (Neg a) h = tt
+operation_plain (Add a b) h = tt
+operation_plain (Sub a b) h = tt
+operation_plain (Mul a b) h = tt
+operation_plain (Div a b) h = tt
+operation_plain (Pow a b) h = tt
+operation_plain (Call f ts) h = tt
 
 module _ (around : Surroundings) where
   abbrev g : Names

@@ -1,5 +1,5 @@
 -- What a watch is told of a statement is what its run accesses.
-use Rattle.std.proofs.Common.{◌≡◌, ℕ, ◌+◌, List, ◌∷◌, ◌++◌, map, Bool, true, false, Result, Ok, Err, sym, ap, subst, ◌∙◌}
+use Rattle.std.proofs.Common.{◌≡◌, ℕ, ◌+◌, List, [], ◌∷◌, ◌++◌, map, Bool, true, false, Result, Ok, Err, sym, ap, subst, ◌∙◌}
 use Rattle.ped_tree.specs.Tree.{ExprTree, ItemTree, CondTree, Head, StmtTrees, StmtTree, more_stmts, Assign, If, Do, Print}
 use Rattle.ped_tree.specs.Numbering.{statement_count, statements_count}
 use Rattle.ped_tree.specs.Views.{stmt_trees}
@@ -21,7 +21,7 @@ use Rattle.ped_eval.specs.Runs.{Run, run, run_all}
 use Rattle.ped_eval.specs.Readiness.{setting_by, IsReady}
 use Rattle.ped_eval.specs.Agreement.{before, before_turn, Agrees}
 use Rattle.ped_eval.specs.Follow.{Follow}
-use Rattle.ped_eval.specs.Noting.{Noted, access_at, place_by, accesses_by}
+use Rattle.ped_eval.specs.Noting.{Noted, noted_by, access_at, place_by, accesses_by, AreNoted, HasAdded}
 use Rattle.ped_eval.specs.StatementNotes.{reads_noted, assignment_noted, print_noted}
 use Rattle.ped_eval.specs.Watched.{IfRan, Watched, Awaits, turns_run, IsWatchedTruth}
 use Rattle.ped_eval.specs.Told.{Fails, TellsFrom, Ran}
@@ -30,6 +30,8 @@ use Rattle.ped_eval.proofs.Copies.{open_agrees}
 use Rattle.ped_eval.proofs.Parts.{if_failed}
 use Rattle.ped_eval.proofs.Running.{IsBroken}
 use Rattle.ped_eval.specs.declared.plans.Plan.{Plan}
+use Rattle.ped_eval.specs.declared.notes.Notes.{Notes}
+use Rattle.ped_eval.proofs.Storing.{fresh_added}
 use Rattle.ped_eval.specs.declared.states.Flow.{Flow}
 use Rattle.ped_eval.specs.declared.states.RunError.{RunError}
 use Rattle.ped_eval.specs.declared.states.RunError.TheVariants as error
@@ -45,6 +47,11 @@ if_ran_weaker : {A : Type 0} {P Q : Type 0} (r : Result A RunError) → (P → Q
 if_ran_weaker (Ok u) f h = f h
 if_ran_weaker (Err (error.Fault number statement)) f h = f h
 if_ran_weaker (Err error.NoMemory) f h = tt
+
+ran_then : {A : Type 0} (P Q : Type 0) (r : Result A RunError) → IfRan r P → (P → IfRan r Q) → IfRan r Q
+ran_then P Q (Ok u) h f = f h
+ran_then P Q (Err (error.Fault number statement)) h f = f h
+ran_then P Q (Err error.NoMemory) h f = tt
 
 module _ {W : Type 0} (follows : W → Access → W → Type 0) (table : Table) (scope : Scope) (n : ℕ) (m : Memory) (ready : IsReady table scope m) where
   abbrev p : Setting
@@ -68,6 +75,14 @@ module _ {W : Type 0} (follows : W → Access → W → Type 0) (table : Table) 
       by_accesses old new r (print_noted 1 (printed_line (names_at m scope table.constants) items m.cells)) (run p (Print items) n scope)
       (λ s g. print_accesses (names_in p scope) (place_of p n scope) items s
       ∙ ap (λ (e : Evaluated (List ℕ)). map (access_at (place_of p n scope)) (print_noted 1 e)) (sym (kept_line p scope m s ready.bounds g.same items))) h
+
+  -- a PRINT whose answer holds has noted what its watch is told
+  pub print_answered : (items : List ItemTree) (old new : W) (r : Result Flow RunError) (fresh notes : Notes) → noted_by fresh ≡ [] → fresh.next ≡ 1
+      → IfRan r (HasAdded fresh (print_noted fresh.next (printed_line (names_at m scope table.constants) items m.cells)) notes)
+      → ((ns : List Noted) → AreNoted notes ns → Follow follows old (accesses_by n scope ns) new) → Watched follows old new scope (before scope n) m.cells r (run p (Print items) n scope)
+  print_answered items old new r fresh notes none one added told s g =
+      let e = printed_line (names_at m scope table.constants) items m.cells in
+      ran_then (HasAdded fresh (print_noted fresh.next e) notes) (Follow follows old (accesses (run p (Print items) n scope s).acts) new) r added (λ h. print_watched items old new r (told (print_noted 1 e) (fresh_added fresh notes (λ k. print_noted k e) none one h)) s g)
 
   -- what is told of a condition, and then of the part that it leads to
   module _ (condition : CondTree) (a b : StmtTrees) (old mid new : W) (told : Follow follows old (accesses_by n scope (reads_noted (truth (names_at m scope table.constants) condition m.cells).seen)) mid) where
@@ -136,10 +151,11 @@ module _ {W : Type 0} (follows : W → Access → W → Type 0) (table : Table) 
         (sym (do_fault_accesses p n scope h body (λ f. run_all p body (n + 1) (f ∷ scope)) s k ((λ i. (same i).result) ∙ e)
         ∙ ap (λ (x : Evaluated Loops.Limits). map (access_at (place_of p n scope)) (reads_noted x.seen)) same)) told)
 
-    -- a DO whose entry fails
-    pub do_error_watched : (x : RunError) → IsEntry table n (names_at m scope table.constants) m.cells h body (Err x) → Watched follows old mid scope (before scope n) m.cells (Err x) (run p (Do h body) n scope)
-    do_error_watched (error.Fault k j) e = do_fault_watched k (Err (error.Fault k j)) e.0
-    do_error_watched error.NoMemory e = λ s g. tt
+  -- a DO whose entry fails
+  pub do_error_watched : (h : Head) (body : StmtTrees) (old mid : W) (x : RunError) → IfRan {A = Plan} (Err x) (Follow follows old (accesses_by n scope (reads_noted (limits (names_at m scope table.constants) h m.cells).seen)) mid)
+      → IsEntry table n (names_at m scope table.constants) m.cells h body (Err x) → Watched follows old mid scope (before scope n) m.cells (Err x) (run p (Do h body) n scope)
+  do_error_watched h body old mid (error.Fault k j) told e = do_fault_watched h body old mid mid told k (Err (error.Fault k j)) e.0
+  do_error_watched h body old mid error.NoMemory told e = λ s g. tt
 
   -- a condition that fails ends the run
   pub truth_failed : (condition : CondTree) (a b : StmtTrees) (T : Type 0) (next : ℕ) (new : Memory) (x : RunError) → IsWatchedTruth (truth (names_at m scope table.constants) condition m.cells) n (Err x) T

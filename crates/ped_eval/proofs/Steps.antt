@@ -28,7 +28,8 @@ use Rattle.ped_eval.specs.ScopeViews.{names_at}
 use Rattle.ped_eval.specs.Evaluation.{Seen, Evaluated, onward, ◌>>>◌, given, by_number, read_cell}
 use Rattle.ped_eval.specs.Values.{of_intrinsic, name_value, variable_value, element_cell, is_rank, value, values, truth, relation_holds}
 use Rattle.ped_eval.specs.declared.surroundings.Surroundings.{Surroundings}
-use Rattle.ped_eval.specs.Results.{value_at, values_at, target_at, truth_at, of_one, of_two, fault_or}
+use Rattle.ped_eval.proofs.Levels.{IsOperation}
+use Rattle.ped_eval.specs.Results.{value_at, values_at, target_at, truth_at, of_one, of_two, fault_or, next_result}
 use Rattle.ped_eval.specs.Targets.{bounded, IsNamedBy}
 
 -- the result of an evaluation that goes on
@@ -101,6 +102,20 @@ module _ (around : Surroundings) where
   unfolding value_at target_at
   element_at x ts = read_results (values (names_at (memory_of around.store.now) around.scope.now around.consts.now) ts (memory_of around.store.now).cells) (element_cell (names_at (memory_of around.store.now) around.scope.now around.consts.now) x) (memory_of around.store.now).cells
 
+  -- nothing but a scalar or an element may be a left side
+  pub target_other : (t : ExprTree) → IsOperation t → Err outside_bounds ≡ target_at around t
+  unfolding target_at
+  target_other (Int n) h = refl
+  target_other (Var x) h = absurd h
+  target_other (Element x ts) h = absurd h
+  target_other (Neg a) h = refl
+  target_other (Add a b) h = refl
+  target_other (Sub a b) h = refl
+  target_other (Mul a b) h = refl
+  target_other (Div a b) h = refl
+  target_other (Pow a b) h = refl
+  target_other (Call f ts) h = refl
+
   pub values_none : values_at around [] ≡ Ok []
   unfolding values_at
   values_none = refl
@@ -154,6 +169,12 @@ got_bounded m (Scalar x) = refl
 got_bounded m (Private x iterations) = refl
 got_bounded m In = refl
 got_bounded m Out = refl
+
+-- an operand behind another is only evaluated where that has come to a value
+pub of_next : {A B C : Type 0} (f : A → B → Result C ℕ) (r : Result A ℕ) (q : Result B ℕ) → of_two f r (next_result r q) ≡ of_two f r q
+of_next f (Ok u) (Ok v) = refl
+of_next f (Ok u) (Err n) = refl
+of_next f (Err n) q = refl
 
 -- values behind those that are known
 abbrev pub with_front : List ℤ → Result (List ℤ) ℕ → Result (List ℤ) ℕ

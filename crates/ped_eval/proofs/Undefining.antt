@@ -1,5 +1,5 @@
 -- What the exit of a DO leaves of what is kept.
-use Rattle.std.proofs.Common.{◌≡◌, ℕ, List, [], ◌∷◌, refl, sym, ap, subst, ◌∙◌}
+use Rattle.std.proofs.Common.{◌≡◌, ℕ, List, [], ◌∷◌, refl, sym, subst, ◌∙◌}
 use Rattle.ped_store.specs.Stores.{Undefined, Store, put}
 use Rattle.ped_store.specs.Memories.{Memory, with_content}
 use Rattle.ped_store.specs.Acts.{store_behind}

@@ -18,3 +18,9 @@ IsAdded text old new (Err error.NoMemory) = Unit {0}
 -- what goes before the item with this index: a blank, but nothing before the first (this project)
 abbrev pub blank_before : ℕ → List ℕ
 blank_before i = if i == 0 then [] else 32 ∷ []
+
+-- something holds but after want of memory
+abbrev pub IfPrinted : {A : Type 0} → Result A PrintError → Type 0 → Type 0
+IfPrinted (Ok u) P = P
+IfPrinted (Err (error.Fault n)) P = P
+IfPrinted (Err error.NoMemory) P = Unit {0}

@@ -1,5 +1,5 @@
 -- Accesses without their place: what a statement notes while it is done (this project).
-use Rattle.std.specs.Prelude.{◌≡◌, ℕ, suc, List, [], ◌∷◌, ◌++◌, map, filter, Bool, Result, Ok, Err}
+use Rattle.std.specs.Prelude.{◌≡◌, ◌==◌, ℕ, suc, ℤ, List, [], ◌∷◌, ◌++◌, map, filter, Bool, true, Result, Ok, Err}
 use Rattle.ped_tree.specs.Tree.{ExprTree, CondTree}
 use Rattle.ped_tree.specs.Views.{pack_exprs, expr_tree}
 use Rattle.ped_tree.specs.declared.expressions.Expr.{Expr}
@@ -7,7 +7,7 @@ use Rattle.ped_store.specs.Cells.{Cell}
 use Rattle.ped_store.specs.CellViews.{cell_view}
 use Rattle.ped_store.specs.Acts.{Touch, Place}
 use Rattle.ped_store.specs.Races.{Access, is_write, is_access}
-use Rattle.ped_store.specs.Stores.{Store}
+use Rattle.ped_store.specs.Stores.{Store, undefined_read}
 use Rattle.ped_store.specs.Keeping.{memory_of}
 use Rattle.ped_eval.specs.Scopes.{Scope, turns_of}
 use Rattle.ped_eval.specs.ScopeViews.{names_at}
@@ -47,20 +47,43 @@ noted_view n = record { cell = cell_view n.cell; writes = n.writes; reference = 
 abbrev pub noted_by : Notes → List Noted
 noted_by notes = map noted_view notes.touches.items
 
--- the notes behind an evaluation that has read this: each read is noted, and those of cells are numbered on (this project)
-pub record HasNoted (old : Notes) (seen : List Seen) (new : Notes) : Type 0 where
+-- the notes are these accesses, unless nobody keeps them or there was no memory for them (this project)
+abbrev pub AreNoted : Notes → List Noted → Type 0
+AreNoted notes ns = notes.kept ≡ true → noted_by notes ≡ ns
+
+-- notes that are kept, behind an evaluation that has read this: each read is noted, and those of cells are numbered on (this project)
+pub record Reading (old : Notes) (seen : List Seen) (new : Notes) : Type 0 where
+  pub kept : old.kept ≡ true
   pub touches : noted_by new ≡ noted_by old ++ noted (numbered old.next seen)
   pub next : new.next ≡ number_behind old.next seen
 
--- the notes with one access more that a reference makes (this project)
-pub record HasReferred (old : Notes) (cell : Cell) (writes : Bool) (new : Notes) : Type 0 where
+-- the notes behind an evaluation that has read this; of notes that aren't kept nothing is said (this project)
+abbrev pub HasNoted : Notes → List Seen → Notes → Type 0
+HasNoted old seen new = new.kept ≡ true → Reading old seen new
+
+-- notes that are kept, with one access more that a reference makes (this project)
+pub record Referring (old : Notes) (cell : Cell) (writes : Bool) (new : Notes) : Type 0 where
+  pub kept : old.kept ≡ true
   pub touches : noted_by new ≡ noted_by old ++ record { cell = cell; writes = writes; reference = old.next } ∷ []
   pub next : new.next ≡ suc old.next
 
--- the notes with one access more that no reference makes (this project)
-pub record HasTouched (old : Notes) (cell : Cell) (writes : Bool) (new : Notes) : Type 0 where
+-- the notes with one access more that a reference makes, where they are kept (this project)
+abbrev pub HasReferred : Notes → Cell → Bool → Notes → Type 0
+HasReferred old cell writes new = new.kept ≡ true → Referring old cell writes new
+
+-- notes that are kept, with one access more that no reference makes (this project)
+pub record Touching (old : Notes) (cell : Cell) (writes : Bool) (new : Notes) : Type 0 where
+  pub kept : old.kept ≡ true
   pub touches : noted_by new ≡ noted_by old ++ record { cell = cell; writes = writes; reference = 0 } ∷ []
   pub next : new.next ≡ old.next
+
+-- the notes with one access more that no reference makes, where they are kept (this project)
+abbrev pub HasTouched : Notes → Cell → Bool → Notes → Type 0
+HasTouched old cell writes new = new.kept ≡ true → Touching old cell writes new
+
+-- these accesses are noted behind those before, where the notes are kept (this project)
+abbrev pub HasAdded : Notes → List Noted → Notes → Type 0
+HasAdded old ns new = new.kept ≡ true → (old.kept ≡ true) × (noted_by new ≡ noted_by old ++ ns)
 
 -- what the evaluation of an expression reads (this project)
 unfoldable pub seen_at : Surroundings → ExprTree → List Seen
@@ -87,3 +110,8 @@ seen_next (Err fault) seen = []
 abbrev pub read_within : Store → Result Cell ℕ → List Seen
 read_within s (Ok c) = cell_seen c (s c) ∷ []
 read_within s (Err fault) = []
+
+-- a cell with this answer has been read: it has a value, or it is undefined (this project)
+abbrev pub has_been_read : Result ℤ ℕ → Bool
+has_been_read (Ok n) = true
+has_been_read (Err fault) = fault == undefined_read

@@ -1,5 +1,5 @@
 -- Outcomes of programs: what is printed and what the live-out variables hold, or the fault (ANSI X3.9-1978, sections 8.9, 17; this project).
-use Rattle.std.specs.Prelude.{ℕ, ℤ, List, [], ◌∷◌, map, Option, Some, None}
+use Rattle.std.specs.Prelude.{ℕ, ℤ, List, [], map, Option, Some, None}
 use Rattle.std.specs.List.{flat_map}
 use Rattle.std.specs.Str.Lines.{lines}
 use Rattle.ped_base.specs.Dimensions.{Dimensions}

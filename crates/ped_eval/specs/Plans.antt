@@ -9,7 +9,7 @@ use Rattle.ped_eval.specs.Scopes.{Names}
 use Rattle.ped_eval.specs.Evaluation.{Seen, number_behind}
 use Rattle.ped_eval.specs.Loops as Loops
 use Rattle.ped_eval.specs.Loops.{Entered, limits, entered_with, copied_names, inner_variables}
-use Rattle.ped_eval.specs.Readiness.{setting_by, setting_with}
+use Rattle.ped_eval.specs.Readiness.{setting_with}
 use Rattle.ped_eval.specs.declared.plans.Plan.{Plan}
 use Rattle.ped_eval.specs.declared.plans.Limits as code
 use Rattle.ped_eval.specs.declared.states.RunError.{RunError}
@@ -52,6 +52,15 @@ abbrev pub IsEntry : Table → ℕ → Names → Store → Head → StmtTrees �
 IsEntry table n g s h body (Ok plan) = (l : Loops.Limits) × ((limits g h s).result ≡ Ok l) × IsPlanWithin table.constants n h body l plan
 IsEntry table n g s h body (Err (error.Fault number statement)) = ((limits g h s).result ≡ Err number) × (statement ≡ n)
 IsEntry table n g s h body (Err error.NoMemory) = Unit {0}
+
+-- limits that have come to this make the plan of this DO with number n
+abbrev pub IsPlanBy : Table → ℕ → Head → StmtTrees → Result code.Limits ℕ → Result Plan RunError → Type 0
+IsPlanBy table n h body (Ok l) (Ok plan) = IsPlanWithin table.constants n h body (limits_view l) plan
+IsPlanBy table n h body (Ok l) (Err (error.Fault number statement)) = ⊥
+IsPlanBy table n h body (Ok l) (Err error.NoMemory) = Unit {0}
+IsPlanBy table n h body (Err fault) (Ok plan) = ⊥
+IsPlanBy table n h body (Err fault) (Err (error.Fault number statement)) = (number ≡ fault) × (statement ≡ n)
+IsPlanBy table n h body (Err fault) (Err error.NoMemory) = Unit {0}
 
 -- the names of which each iteration has its own copies, by the variables of the DO loops in it
 abbrev pub copied_by : Head → List (List ℕ) → List (List ℕ)

@@ -1,16 +1,15 @@
 -- What the code needs to run statements: that names stand where they may, and that their cells stand in the store (this project).
-use Rattle.std.specs.Prelude.{◌≡◌, ◌≤◌, ◌<◌, ◌^◌, ℕ, ◌+◌, ℤ, List, [], ◌∷◌, length, Bool, true}
-use Rattle.ped_base.specs.Dimensions.{Dimensions}
+use Rattle.std.specs.Prelude.{◌≡◌, ◌≤◌, ◌<◌, ◌^◌, ℕ, ◌+◌, ℤ, List, length, true}
 use Rattle.ped_tree.specs.Tree.{StmtTree, StmtTrees}
 use Rattle.ped_tree.specs.Numbering.{statement_count, statements_count}
 use Rattle.ped_symbols.specs.Entries.{entry_of}
 use Rattle.ped_symbols.specs.Kinds.{Table}
-use Rattle.ped_store.specs.Cells.{Cell, Scalar, Element, Private, Iteration}
+use Rattle.ped_store.specs.Cells.{Scalar, Element}
 use Rattle.ped_store.specs.Memories.{Memory}
 use Rattle.ped_store.specs.Variables.{no_dimensions}
 use Rattle.ped_symbols.specs.RightUses.RightUses.{NameKinds, is_scalar, has_rank, is_rank, stmt_is_right, stmts_are_right}
 use Rattle.ped_symbols.specs.RightUses.RightLoops.{loop_depth, loops_deep, stmt_steps_are_right, steps_are_right}
-use Rattle.ped_eval.specs.Scopes.{Setting, Frame, Scope}
+use Rattle.ped_eval.specs.Scopes.{Setting, Scope}
 use Rattle.ped_eval.specs.Outcomes.{bounds_of}
 use Rattle.ped_eval.specs.Agreement.{DoCopiesStand}
 

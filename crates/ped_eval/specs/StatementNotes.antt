@@ -2,18 +2,16 @@
 use Rattle.std.specs.Prelude.{◌≡◌, ℕ, suc, ℤ, List, [], ◌∷◌, ◌++◌, true, Result, Ok, Err}
 use Rattle.ped_tree.specs.Tree.{ExprTree}
 use Rattle.ped_store.specs.Cells.{Cell, In, Out}
-use Rattle.ped_store.specs.Stores.{Number, Store, storable}
+use Rattle.ped_store.specs.Stores.{Number}
 use Rattle.ped_store.specs.DataLines.{Data, Taken, begun, next_value_of}
 use Rattle.ped_store.specs.Memories.{Memory, with_content, with_data}
-use Rattle.ped_eval.specs.Scopes.{Scope, Names}
-use Rattle.ped_eval.specs.Evaluation.{Seen, Evaluated, ◌>>>◌, given, numbered, number_behind}
+use Rattle.ped_eval.specs.Scopes.{Scope}
+use Rattle.ped_eval.specs.Evaluation.{Seen, Evaluated, numbered, number_behind}
 use Rattle.ped_eval.specs.Values.{target}
 use Rattle.ped_eval.specs.Statements.{Stored}
 use Rattle.ped_eval.specs.Takings.{names_with}
-use Rattle.ped_eval.specs.Noting.{Noted, noted, noted_by, HasReferred}
+use Rattle.ped_eval.specs.Noting.{Noted, noted, noted_by}
 use Rattle.ped_eval.specs.declared.notes.Notes.{Notes}
-use Rattle.ped_eval.specs.declared.reading.ReadError.{ReadError}
-use Rattle.ped_eval.specs.declared.reading.ReadError.TheVariants as error
 
 -- reads, whose references have numbers from 1 on (this project)
 abbrev pub reads_noted : List Seen → List Noted
@@ -35,15 +33,6 @@ assignment_noted n e = done_noted n (λ w. w.cell) e.seen e.result
 -- a PRINT notes what it reads, and the output where it adds a line (ANSI X3.9-1978, section 12.8; this project)
 abbrev pub print_noted : {A : Type 0} → ℕ → Evaluated A → List Noted
 print_noted n e = done_noted n (λ line. Out) e.seen e.result
-
--- what is stored of a value in a left side: its subscripts are evaluated, then their bounds are tested, then the range of the value (ANSI X3.9-1978, section 10.1; this project)
-abbrev pub storing : Names → ExprTree → ℤ → Store → Evaluated Stored
-storing g left v s = target g left s >>> λ c. given (storable v) >>> λ n. given (Ok (record { cell = c; number = n }))
-
--- the notes behind a write: it is noted where it is done (this project)
-abbrev pub IsWriteNoted : Notes → Cell → Result Memory ℕ → Notes → Type 0
-IsWriteNoted old c (Ok m) new = HasReferred old c true new
-IsWriteNoted old c (Err fault) new = new ≡ old
 
 -- an item of a READ notes what its subscripts read and its write, and then come the others (ANSI X3.9-1978, section 12.8; this project)
 abbrev pub item_noted : ℕ → List Seen → Result Cell ℕ → (ℕ → Cell → List Noted) → List Noted
@@ -74,22 +63,14 @@ abbrev pub read_noted : List (List ℕ × ℤ) → Scope → List ExprTree → �
 read_noted constants scope items n m =
     record { cell = In; writes = true; reference = n } ∷ line_noted (begun m.input.lines) λ d. items_noted constants scope items (suc n) (with_data d m)
 
--- what is kept behind a part of a READ, or the fault that ends it; want of memory tells nothing
-abbrev pub IsTaken : {A : Type 0} → Result Memory ℕ → Memory → Result A ReadError → Type 0
+-- what is kept behind a part of a READ, or the fault that ends it
+abbrev pub IsTaken : {A : Type 0} → Result Memory ℕ → Memory → Result A ℕ → Type 0
 IsTaken r new (Ok u) = r ≡ Ok new
-IsTaken r new (Err (error.Fault n)) = r ≡ Err n
-IsTaken r new (Err error.NoMemory) = Unit {0}
+IsTaken r new (Err n) = r ≡ Err n
 
--- the notes behind an item of a READ: what is noted then, and what the items behind it note, is all; behind a fault nothing more is noted, and want of memory tells nothing
-abbrev pub IsItemNoted : {A : Type 0} → List (List ℕ × ℤ) → Scope → ExprTree → Notes → Memory → Notes → Memory → Result A ReadError → Type 0
+-- the notes behind an item of a READ, where they are kept: what is noted then, and what the items behind it note, is all; behind a fault nothing more is noted
+abbrev pub IsItemNoted : {A : Type 0} → List (List ℕ × ℤ) → Scope → ExprTree → Notes → Memory → Notes → Memory → Result A ℕ → Type 0
 IsItemNoted constants scope item old m new after (Ok u) =
-    (rest : List ExprTree) → noted_by old ++ items_noted constants scope (item ∷ rest) old.next m ≡ noted_by new ++ items_noted constants scope rest new.next after
-IsItemNoted constants scope item old m new after (Err (error.Fault n)) =
-    (rest : List ExprTree) → noted_by old ++ items_noted constants scope (item ∷ rest) old.next m ≡ noted_by new
-IsItemNoted constants scope item old m new after (Err error.NoMemory) = Unit {0}
-
--- something holds but after want of memory
-abbrev pub IfRead : {A : Type 0} → Result A ReadError → Type 0 → Type 0
-IfRead (Ok u) P = P
-IfRead (Err (error.Fault n)) P = P
-IfRead (Err error.NoMemory) P = Unit {0}
+    new.kept ≡ true → (old.kept ≡ true) × ((rest : List ExprTree) → noted_by old ++ items_noted constants scope (item ∷ rest) old.next m ≡ noted_by new ++ items_noted constants scope rest new.next after)
+IsItemNoted constants scope item old m new after (Err n) =
+    new.kept ≡ true → (old.kept ≡ true) × ((rest : List ExprTree) → noted_by old ++ items_noted constants scope (item ∷ rest) old.next m ≡ noted_by new)

@@ -1,10 +1,9 @@
 -- What the code keeps behind the items of a READ (ANSI X3.9-1978, section 12.8; this project).
-use Rattle.std.specs.Prelude.{ℕ, ℤ, List, [], ◌∷◌, Result, Ok, Err}
+use Rattle.std.specs.Prelude.{ℕ, ℤ, List, [], ◌∷◌, Result, Ok}
 use Rattle.ped_base.specs.Arithmetic.Faults.{◌>>=◌}
 use Rattle.ped_tree.specs.Tree.{ExprTree}
-use Rattle.ped_store.specs.Cells.{Cell}
 use Rattle.ped_store.specs.Stores.{Number}
-use Rattle.ped_store.specs.DataLines.{Data, Taken, begun, next_value_of}
+use Rattle.ped_store.specs.DataLines.{begun, next_value_of}
 use Rattle.ped_store.specs.Memories.{Memory, with_content, with_data}
 use Rattle.ped_eval.specs.Scopes.{Scope, Names, cell_of, index_value}
 use Rattle.ped_eval.specs.Values.{target}

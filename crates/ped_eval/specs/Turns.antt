@@ -1,10 +1,11 @@
 -- The iterations of a DO by their endings alone, and what they do to what the code keeps (ANSI X3.9-1978, section 11.10; this project).
-use Rattle.std.specs.Prelude.{ℕ, zero, suc, ◌+◌, List, [], ◌∷◌}
+use Rattle.std.specs.Prelude.{◌≡◌, ℕ, zero, suc, ◌+◌, List, [], ◌∷◌}
 use Rattle.ped_tree.specs.Tree.{StmtTrees}
 use Rattle.ped_store.specs.Stores.{Undefined, Store, put}
 use Rattle.ped_store.specs.Memories.{Memory, with_content, with_copy, without_copy}
 use Rattle.ped_store.specs.Acts.{store_behind}
 use Rattle.ped_eval.specs.Scopes.{Frame, Scope, Setting, cell_of}
+use Rattle.ped_eval.specs.ScopeViews.{outside}
 use Rattle.ped_eval.specs.Loops.{Entered, frame, exit_touches, left_in_variable}
 use Rattle.ped_eval.specs.Runs.{Ending, going, stopped, failed, Run, run_all}
 
@@ -22,6 +23,10 @@ turns_end (suc n) k e scope body s = after (body (frame e k) s).ending (turns_en
 -- the run of the body of a DO with number n in each of its iterations
 abbrev pub body_run : Setting → StmtTrees → ℕ → Scope → Frame → Store → Run
 body_run p body n scope f = run_all p body (n + 1) (f ∷ scope)
+
+-- the innermost iteration is one of this DO
+abbrev pub IsInside : Entered → Scope → Type 0
+IsInside e scope = (k : ℕ) × (scope ≡ frame e k ∷ outside scope)
 
 -- with copies of these names
 abbrev pub with_copies : Scope → List (List ℕ) → Memory → Memory

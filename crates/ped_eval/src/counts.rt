@@ -8,7 +8,7 @@ use ped_tree::Stmt;
 
 /// How many numbered statements a statement has, itself and those in its parts.
 #[cycle(count)]
-pub(crate) fn count(stmt: &Stmt) -> u32
+pub fn count(stmt: &Stmt) -> u32
     requires { statement_count (stmt_tree stmt.now) < 2 ^ 32 }
     ensures { result ≡ statement_count (stmt_tree stmt.now) }
 {
@@ -26,7 +26,7 @@ pub(crate) fn count(stmt: &Stmt) -> u32
 
 /// How many numbered statements these are, with those in their parts.
 #[cycle(count)]
-pub(crate) fn count_all(stmts: &[Stmt]) -> u32
+pub fn count_all(stmts: &[Stmt]) -> u32
     requires { statements_count (stmt_trees stmts.now) < 2 ^ 32 }
     ensures { result ≡ statements_count (stmt_trees stmts.now) }
 {

@@ -19,7 +19,7 @@ use ped_tree::Do;
 
 /// Leaves a DO behind its iterations: its variable gets its last value, or none behind a PARALLEL DO, and what is
 /// private to its iterations becomes undefined.
-pub(crate) fn leave_loop(state: &mut State, d: &Do, plan: &Plan)
+pub fn leave_loop(state: &mut State, d: &Do, plan: &Plan)
     requires plan { IsPlan (head_of d.now) (stmt_trees d.now.body.items) plan.now }
     requires inside { 0 < length state.old.scope }
     requires variable { IsTrue ((memory_of state.old.store).stands (cell_of (outside state.old.scope) d.now.variable)) }
@@ -29,6 +29,18 @@ pub(crate) fn leave_loop(state: &mut State, d: &Do, plan: &Plan)
     ensures scope { state.new.scope ≡ outside state.old.scope }
 {
     state.scope.leave();
+    write_exit(state, d, plan);
+}
+
+/// Writes what the exit of a DO writes, outside of it.
+pub fn write_exit(state: &mut State, d: &Do, plan: &Plan)
+    requires plan { IsPlan (head_of d.now) (stmt_trees d.now.body.items) plan.now }
+    requires variable { IsTrue ((memory_of state.old.store).stands (cell_of state.old.scope d.now.variable)) }
+    requires private { list_all (λ x. (memory_of state.old.store).stands (cell_of state.old.scope x)) d.now.private ≡ true }
+    requires inner { list_all (λ x. (memory_of state.old.store).stands (cell_of state.old.scope x)) plan.now.inner ≡ true }
+    ensures memory { memory_of state.new.store ≡ exited (entered_by (head_of d.now) plan.now 0) state.old.scope (memory_of state.old.store) }
+    ensures scope { state.new.scope ≡ state.old.scope }
+{
     leave_variable(state, d, plan);
     undefine_all(state, d.private.as_slice());
     undefine_all(state, plan.inner.as_slice());

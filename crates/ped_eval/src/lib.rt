@@ -6,11 +6,11 @@
 mod accesses;
 mod counts;
 mod evaluation;
+mod exit_notes;
 mod exits;
 mod inner_names;
 mod live;
 mod notes;
-mod noting;
 mod operations;
 mod outcomes;
 mod plans;
@@ -20,7 +20,6 @@ mod runs;
 mod scopes;
 mod shapes;
 mod sorting;
-mod statement_notes;
 mod statements;
 mod states;
 mod surroundings;
@@ -34,11 +33,21 @@ ghost use Rattle.ped_eval.specs.Outcomes as Spec;
 ghost use Rattle.ped_eval.specs.Outcomes.{outcome, outcome_of, run_of};
 
 pub use accesses::{Access, Turn};
-pub use evaluation::{eval, truth};
+pub use counts::{count, count_all};
+pub use evaluation::{target_cell, truth_of, value_of};
+pub use exits::{leave_loop, write_exit};
+pub use notes::Notes;
 pub use outcomes::{LiveRow, Outcome};
-pub use runs::{run_in_order, run_watched};
+pub use plans::{Plan, plan_of};
+pub use printing::{PrintError, line_of};
+pub use reading::take_items;
+pub use runs::{ended, run_in_order, run_watched, start};
 pub use scopes::{Frame, Scope};
-pub use watches::Watch;
+pub use statements::assign;
+pub use states::{Flow, RunError, State};
+pub use surroundings::Surroundings;
+pub use turns::{close_copies, enter_loop, open_turn};
+pub use watches::{NoWatch, Watch};
 
 /// A program has one outcome on its data, and its list of acts and their ending tell it.
 pub fn one_outcome()

@@ -5,15 +5,23 @@ ghost use Rattle.ped_tree.specs.Views.{expr_tree, stmt_trees};
 ghost use Rattle.ped_store.specs.Keeping.{memory_of};
 ghost use Rattle.ped_eval.specs.ScopeViews.{names_at};
 ghost use Rattle.ped_symbols.specs.RightUses.RightLoops.{step_is_right};
-ghost use Rattle.ped_eval.specs.Evaluation.{◌>>>◌, given};
+ghost use Rattle.ped_eval.specs.Evaluation.{◌>>>◌, given, number_behind};
 ghost use Rattle.ped_store.specs.Storage as Storage;
 ghost use Rattle.ped_eval.specs.Values.{value};
 ghost use Rattle.ped_eval.specs.Loops as Loops;
-ghost use Rattle.ped_eval.specs.Plans.{limits_view, IsPlanWithin, IsEntry, head_of};
+ghost use Rattle.ped_eval.specs.Plans.{limits_view, IsPlanWithin, IsPlanBy, IsEntry, head_of};
+ghost use Rattle.ped_eval.specs.Follow.{Follow};
+ghost use Rattle.ped_eval.specs.Noting.{accesses_by, HasNoted};
+ghost use Rattle.ped_eval.specs.StatementNotes.{reads_noted};
+ghost use Rattle.ped_eval.specs.Watched.{IfRan};
 
-use crate::evaluation::eval;
+use crate::evaluation::value_of;
 use crate::inner_names::{copied_names, inner_variables};
+use crate::notes::Notes;
 use crate::states::{RunError, State};
+use crate::surroundings::Surroundings;
+use crate::telling::tell_bounds;
+use crate::watches::Watch;
 use ped_base::{Names, NoMemory};
 use ped_symbols::Symbols;
 use ped_tree::constants::{Consts, constant};
@@ -22,7 +30,7 @@ use std::alloc::Global;
 
 /// What stays the same in all iterations of a DO that has been entered.
 #[derive(Drop)]
-pub(crate) struct Plan {
+pub struct Plan {
     /// The statement number of the DO.
     pub number: u32,
     /// The initial value.
@@ -35,6 +43,8 @@ pub(crate) struct Plan {
     pub copied: Names,
     /// Of a PARALLEL DO, the variables of the DO loops in it, each once, in byte order.
     pub inner: Names,
+    /// The number behind the references in the bounds.
+    pub behind: u32,
 }
 
 /// The initial and the terminal value of a DO.
@@ -57,23 +67,48 @@ impl Plan {
     }
 }
 
-/// Enters a DO with this number: its limits are evaluated and their ranges tested.
+/// Enters a DO with this number: its limits are evaluated and their ranges tested. A watch is told what they read.
 ///
 /// # Errors
 ///
-/// `Fault` where a limit faults or lies beyond 2^62, or `NoMemory`.
-pub(crate) fn plan_of(
+/// The first fault of a limit, 4 where it lies beyond 2^62, or `NoMemory`.
+pub fn plan_of<W: Watch>(
     alloc: Global,
     symbols: &Symbols,
     state: &State,
+    watch: &mut W,
     d: &Do,
     number: u32,
 ) -> Result<Plan, RunError>
     requires { step_is_right symbols.now.constants (expr_tree d.now.step) ≡ true }
-    ensures { IsEntry symbols.now number (names_at (memory_of state.now.store) state.now.scope symbols.now.constants) (memory_of state.now.store).cells (head_of d.now) (stmt_trees d.now.body.items) result }
+    ensures entry { IsEntry symbols.now number (names_at (memory_of state.now.store) state.now.scope symbols.now.constants) (memory_of state.now.store).cells (head_of d.now) (stmt_trees d.now.body.items) result }
+    ensures behind { IfOk result (λ plan. plan.behind ≡ number_behind 1 (Loops.limits (names_at (memory_of state.now.store) state.now.scope symbols.now.constants) (head_of d.now) (memory_of state.now.store).cells).seen) }
+    ensures told { IfRan result (Follow W.follows watch.old (accesses_by number state.now.scope (reads_noted (Loops.limits (names_at (memory_of state.now.store) state.now.scope symbols.now.constants) (head_of d.now) (memory_of state.now.store).cells).seen)) watch.new) }
 {
-    match limits_of(symbols, state, d) {
-        Ok(limits) => match plan_within(alloc, symbols.consts(), d, number, &limits) {
+    let mut notes = Notes::from_reference(alloc, 1);
+    let limits = limits_of(symbols, state, d, &mut notes);
+    match tell_bounds(alloc, watch, &state.scope, number, &notes) {
+        Ok(behind) => return plan_by(alloc, symbols, d, number, limits, behind),
+        Err(_) => return Err(RunError::NoMemory),
+    }
+}
+
+/// The plan of a DO whose limits have come to this.
+fn plan_by(
+    alloc: Global,
+    symbols: &Symbols,
+    d: &Do,
+    number: u32,
+    limits: Result<Limits, u8>,
+    behind: u32,
+) -> Result<Plan, RunError>
+    requires step { step_is_right symbols.now.constants (expr_tree d.now.step) ≡ true }
+    requires bounds { IfOk limits (λ l. (Loops.is_bound l.first ≡ true) × (Loops.is_bound l.last ≡ true)) }
+    ensures plan { IsPlanBy symbols.now number (head_of d.now) (stmt_trees d.now.body.items) limits result }
+    ensures behind { IfOk result (λ plan. plan.behind ≡ behind) }
+{
+    match limits {
+        Ok(limits) => match plan_within(alloc, symbols.consts(), d, number, &limits, behind) {
             Ok(plan) => return Ok(plan),
             Err(_) => return Err(RunError::NoMemory),
         },
@@ -84,14 +119,15 @@ pub(crate) fn plan_of(
     }
 }
 
-/// The limits of a DO: the first is evaluated and its range tested, and then the other.
-fn limits_of(symbols: &Symbols, state: &State, d: &Do) -> Result<Limits, u8>
+/// The limits of a DO: the first is evaluated and its range tested, and then the other. Notes are made of what they read.
+fn limits_of(symbols: &Symbols, state: &State, d: &Do, notes: &mut Notes) -> Result<Limits, u8>
     ensures ok { IfOk result (λ l. (Loops.limits (names_at (memory_of state.now.store) state.now.scope symbols.now.constants) (head_of d.now) (memory_of state.now.store).cells).result ≡ Ok (limits_view l)) }
     ensures bounds { IfOk result (λ l. (Loops.is_bound l.first ≡ true) × (Loops.is_bound l.last ≡ true)) }
     ensures err { IfErr result (λ n. (Loops.limits (names_at (memory_of state.now.store) state.now.scope symbols.now.constants) (head_of d.now) (memory_of state.now.store).cells).result ≡ Err n) }
+    ensures noted { HasNoted notes.old (Loops.limits (names_at (memory_of state.now.store) state.now.scope symbols.now.constants) (head_of d.now) (memory_of state.now.store).cells).seen notes.new }
 {
-    match limit_of(symbols, state, &d.first) {
-        Ok(first) => match limit_of(symbols, state, &d.last) {
+    match limit_of(symbols, state, &d.first, notes) {
+        Ok(first) => match limit_of(symbols, state, &d.last, notes) {
             Ok(last) => return Ok(Limits { first, last }),
             Err(fault) => return Err(fault),
         },
@@ -100,11 +136,17 @@ fn limits_of(symbols: &Symbols, state: &State, d: &Do) -> Result<Limits, u8>
 }
 
 /// A limit of a DO.
-pub(crate) fn limit_of(symbols: &Symbols, state: &State, e: &Expr) -> Result<i128, u8>
+fn limit_of(symbols: &Symbols, state: &State, e: &Expr, notes: &mut Notes) -> Result<i128, u8>
     ensures value { result ≡ (value (names_at (memory_of state.now.store) state.now.scope symbols.now.constants) (expr_tree e.now) (memory_of state.now.store).cells >>> λ u. given (Loops.in_bounds u)).result }
     ensures bound { IfOk result (λ u. Loops.is_bound u ≡ true) }
+    ensures noted { HasNoted notes.old (value (names_at (memory_of state.now.store) state.now.scope symbols.now.constants) (expr_tree e.now) (memory_of state.now.store).cells).seen notes.new }
 {
-    match eval(e, &state.store, &state.scope, symbols.consts()) {
+    let around = Surroundings {
+        store: &state.store,
+        scope: &state.scope,
+        consts: symbols.consts(),
+    };
+    match value_of(e, &around, notes) {
         Ok(value) => return in_bounds(value),
         Err(fault) => return Err(fault),
     }
@@ -132,11 +174,13 @@ fn plan_within(
     d: &Do,
     number: u32,
     limits: &Limits,
+    behind: u32,
 ) -> Result<Plan, NoMemory>
     requires step { step_is_right consts.now (expr_tree d.now.step) ≡ true }
     requires first { Loops.is_bound limits.now.first ≡ true }
     requires last { Loops.is_bound limits.now.last ≡ true }
-    ensures { IfOk result (λ plan. IsPlanWithin consts.now number (head_of d.now) (stmt_trees d.now.body.items) (limits_view limits.now) plan) }
+    ensures plan { IfOk result (λ plan. IsPlanWithin consts.now number (head_of d.now) (stmt_trees d.now.body.items) (limits_view limits.now) plan) }
+    ensures behind { IfOk result (λ plan. plan.behind ≡ behind) }
 {
     let step = step_of(consts, d);
     let count = iteration_count(limits, step);
@@ -149,6 +193,7 @@ fn plan_within(
         count,
         copied,
         inner,
+        behind,
     })
 }
 

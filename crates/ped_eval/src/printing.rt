@@ -2,7 +2,7 @@
 
 ghost use Rattle.std.specs.Prelude.{◌≡◌, ◌+◌, ◌++◌, ℕ, List, map, Ok, Err, OnOk};
 ghost use Rattle.std.specs.Fmt.{signed_decimal};
-ghost use Rattle.ped_tree.specs.Tree.{Print};
+ghost use Rattle.ped_tree.specs.Tree.{Print, Value};
 ghost use Rattle.ped_tree.specs.Views.{expr_tree, item_tree};
 ghost use Rattle.ped_store.specs.Keeping.{memory_of};
 ghost use Rattle.ped_eval.specs.ScopeViews.{names_at};
@@ -11,22 +11,27 @@ ghost use Rattle.ped_eval.specs.Statements.{item_text, printed_line};
 ghost use Rattle.ped_eval.specs.Readiness.{setting_by, IsReady, CanDo};
 ghost use Rattle.ped_eval.specs.Agreement.{before};
 ghost use Rattle.ped_eval.specs.Told.{Ran, StaysReady};
-ghost use Rattle.ped_eval.specs.Watched.{Watched};
-ghost use Rattle.ped_eval.specs.Items.{blank_before, IsPrinted, IsAdded};
+ghost use Rattle.ped_eval.specs.Watched.{IfRan, Watched};
+ghost use Rattle.ped_eval.specs.Noting.{HasNoted, HasAdded};
+ghost use Rattle.ped_eval.specs.StatementNotes.{print_noted};
+ghost use Rattle.ped_eval.specs.Items.{blank_before, IsPrinted, IsAdded, IfPrinted};
 
-use crate::evaluation::eval;
+use crate::evaluation::value_of;
+use crate::notes::Notes;
 use crate::states::{Flow, RunError, State};
-use crate::telling::tell_print;
+use crate::surroundings::Surroundings;
+use crate::telling::tell;
 use crate::watches::Watch;
 use itoa::Buffer;
 use ped_base::{Bytes, NoMemory};
+use ped_store::Cell;
 use ped_symbols::Symbols;
-use ped_tree::PrintItem;
+use ped_tree::{Expr, PrintItem};
 use std::alloc::Global;
 
 /// Why a PRINT has written nothing.
 #[derive(Clone, Copy)]
-pub(crate) enum PrintError {
+pub enum PrintError {
     /// The fault with this number.
     Fault(u8),
     /// Want of memory.
@@ -61,8 +66,10 @@ pub(crate) fn watched_print<W: Watch>(
     ensures watched { Watched W.follows watch.old watch.new state.old.scope (before state.old.scope number) (memory_of state.old.store).cells result
         (Runs.run (setting_by symbols.now) (Print (map item_tree items.now)) number state.old.scope) }
 {
-    match tell_print(alloc, symbols, state, watch, items, number) {
-        Ok(()) => return run_print(alloc, symbols, state, items, number),
+    let mut notes = Notes::of_statement(alloc, watch);
+    let answer = run_print(alloc, symbols, state, items, number, &mut notes);
+    match tell(alloc, watch, &state.scope, number, &notes) {
+        Ok(()) => return answer,
         Err(_) => return Err(RunError::NoMemory),
     }
 }
@@ -74,16 +81,22 @@ fn run_print(
     state: &mut State,
     items: &[PrintItem],
     number: u32,
+    notes: &mut Notes,
 ) -> Result<Flow, RunError>
     requires can { CanDo symbols.now state.old.scope number (Print (map item_tree items.now)) }
     requires ready { IsReady symbols.now state.old.scope (memory_of state.old.store) }
     ensures told { Ran state.old.scope number (memory_of state.old.store) (number + 1) result (memory_of state.new.store)
         (Runs.run (setting_by symbols.now) (Print (map item_tree items.now)) number state.old.scope) }
     ensures ready { StaysReady symbols.now result state.old.scope state.new.scope (memory_of state.new.store) }
+    ensures scope { state.new.scope ≡ state.old.scope }
+    ensures noted { IfRan result (HasAdded notes.old (print_noted notes.old.next (printed_line (names_at (memory_of state.old.store) state.old.scope symbols.now.constants) (map item_tree items.now) (memory_of state.old.store).cells)) notes.new) }
 {
-    match line_of(alloc, symbols, state, items) {
+    match line_of(alloc, symbols, state, items, notes) {
         Ok(line) => match state.store.put_line(alloc, line.as_slice()) {
-            Ok(()) => return Ok(Flow::Going),
+            Ok(()) => {
+                notes.refer(&Cell::Out, true);
+                return Ok(Flow::Going);
+            }
             Err(_) => return Err(RunError::NoMemory),
         },
         Err(PrintError::Fault(fault)) => return Err(RunError::Fault {
@@ -94,19 +107,28 @@ fn run_print(
     }
 }
 
-/// The line that a PRINT of these items writes.
-fn line_of(
+/// The line that a PRINT of these items writes; notes are made of what they read.
+///
+/// # Errors
+///
+/// The first fault of an item, or want of memory.
+pub fn line_of(
     alloc: Global,
     symbols: &Symbols,
     state: &State,
     items: &[PrintItem],
+    notes: &mut Notes,
 ) -> Result<Bytes, PrintError>
-    ensures { IsPrinted (printed_line (names_at (memory_of state.now.store) state.now.scope symbols.now.constants) (map item_tree items.now) (memory_of state.now.store).cells).result result }
+    ensures noted { IfPrinted result (HasNoted notes.old (printed_line (names_at (memory_of state.now.store) state.now.scope symbols.now.constants) (map item_tree items.now) (memory_of state.now.store).cells).seen notes.new) }
+    ensures line { IsPrinted (printed_line (names_at (memory_of state.now.store) state.now.scope symbols.now.constants) (map item_tree items.now) (memory_of state.now.store).cells).result result }
 {
     let mut line = Bytes::new(alloc);
     for i in 0..items.len() {
         add_blank(&mut line, i)?;
-        add_item(&mut line, symbols, state, &items[i])?;
+        match add_item(&mut line, symbols, state, &items[i], notes) {
+            Ok(()) => {}
+            Err(error) => return Err(error),
+        }
     }
     Ok(line)
 }
@@ -127,21 +149,42 @@ fn add_item(
     symbols: &Symbols,
     state: &State,
     item: &PrintItem,
+    notes: &mut Notes,
 ) -> Result<(), PrintError>
-    ensures { IsAdded (item_text (names_at (memory_of state.now.store) state.now.scope symbols.now.constants) (item_tree item.now) (memory_of state.now.store).cells).result line.old line.new result }
+    ensures noted { IfPrinted result (HasNoted notes.old (item_text (names_at (memory_of state.now.store) state.now.scope symbols.now.constants) (item_tree item.now) (memory_of state.now.store).cells).seen notes.new) }
+    ensures added { IsAdded (item_text (names_at (memory_of state.now.store) state.now.scope symbols.now.constants) (item_tree item.now) (memory_of state.now.store).cells).result line.old line.new result }
 {
     match item {
-        PrintItem::Value(e) => match eval(e, &state.store, &state.scope, symbols.consts()) {
-            Ok(number) => match add_number(line, number) {
-                Ok(()) => return Ok(()),
-                Err(_) => return Err(PrintError::NoMemory),
-            },
-            Err(fault) => return Err(PrintError::Fault(fault)),
-        },
+        PrintItem::Value(e) => return add_value(line, symbols, state, e, notes),
         PrintItem::Text(text) => match line.extend_from_slice(text.as_slice()) {
             Ok(()) => return Ok(()),
             Err(_) => return Err(PrintError::NoMemory),
         },
+    }
+}
+
+/// Adds the value of an expression to a line.
+fn add_value(
+    line: &mut Bytes,
+    symbols: &Symbols,
+    state: &State,
+    e: &Expr,
+    notes: &mut Notes,
+) -> Result<(), PrintError>
+    ensures noted { IfPrinted result (HasNoted notes.old (item_text (names_at (memory_of state.now.store) state.now.scope symbols.now.constants) (Value (expr_tree e.now)) (memory_of state.now.store).cells).seen notes.new) }
+    ensures added { IsAdded (item_text (names_at (memory_of state.now.store) state.now.scope symbols.now.constants) (Value (expr_tree e.now)) (memory_of state.now.store).cells).result line.old line.new result }
+{
+    let around = Surroundings {
+        store: &state.store,
+        scope: &state.scope,
+        consts: symbols.consts(),
+    };
+    match value_of(e, &around, notes) {
+        Ok(number) => match add_number(line, number) {
+            Ok(()) => return Ok(()),
+            Err(_) => return Err(PrintError::NoMemory),
+        },
+        Err(fault) => return Err(PrintError::Fault(fault)),
     }
 }
 

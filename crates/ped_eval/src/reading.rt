@@ -12,41 +12,19 @@ ghost use Rattle.ped_eval.specs.Told.{Ran, StaysReady};
 ghost use Rattle.ped_eval.specs.Takings.{item_taken, read_taken};
 ghost use Rattle.ped_eval.specs.Agreement.{before};
 ghost use Rattle.ped_eval.specs.Watched.{Watched};
-ghost use Rattle.ped_eval.specs.Noting.{noted_by};
-ghost use Rattle.ped_eval.specs.StatementNotes.{read_noted, IsTaken, IsItemNoted, IfRead};
+ghost use Rattle.ped_eval.specs.Noting.{HasAdded};
+ghost use Rattle.ped_eval.specs.StatementNotes.{read_noted, IsTaken, IsItemNoted};
 
 use crate::evaluation::target_cell;
 use crate::notes::Notes;
-use crate::noting::note_target;
 use crate::states::{Flow, RunError, State};
 use crate::surroundings::Surroundings;
 use crate::telling::tell;
 use crate::watches::Watch;
-use ped_base::NoMemory;
 use ped_store::Cell;
 use ped_symbols::Symbols;
 use ped_tree::Expr;
 use std::alloc::Global;
-
-/// Why a READ has broken off.
-#[derive(Clone, Copy)]
-pub(crate) enum ReadError {
-    /// By the fault with this number.
-    Fault(u8),
-    /// For want of memory.
-    NoMemory,
-}
-
-impl From<NoMemory> for ReadError {
-    ghost use Rattle.std.specs.Prelude.{◌≡◌};
-    ghost use Rattle.ped_eval.specs.declared.reading.ReadError.TheVariants as variant;
-
-    ghost from_gives = { λ _ e. e ≡ variant.NoMemory };
-
-    fn from(_: NoMemory) -> ReadError {
-        ReadError::NoMemory
-    }
-}
 
 /// Runs the READ with this number: it begins the next data line, and takes a value for each item. A watch is told what it
 /// reads and writes.
@@ -66,57 +44,53 @@ pub(crate) fn run_read<W: Watch>(
     ensures watched { Watched W.follows watch.old watch.new state.old.scope (before state.old.scope number) (memory_of state.old.store).cells result
         (Runs.run (setting_by symbols.now) (Read (map expr_tree items.now)) number state.old.scope) }
 {
-    let mut notes = Notes::from_reference(alloc, 1);
-    match read_items(symbols, state, items, &mut notes) {
-        Ok(()) => match tell(alloc, watch, &state.scope, number, &notes) {
+    let mut notes = Notes::of_statement(alloc, watch);
+    let taken = take_items(symbols, state, items, &mut notes);
+    match tell(alloc, watch, &state.scope, number, &notes) {
+        Ok(()) => match taken {
             Ok(()) => return Ok(Flow::Going),
-            Err(_) => return Err(RunError::NoMemory),
-        },
-        Err(ReadError::Fault(fault)) => match tell(alloc, watch, &state.scope, number, &notes) {
-            Ok(()) => return Err(RunError::Fault {
+            Err(fault) => return Err(RunError::Fault {
                 number: fault,
                 statement: number,
             }),
-            Err(_) => return Err(RunError::NoMemory),
         },
-        Err(ReadError::NoMemory) => return Err(RunError::NoMemory),
+        Err(_) => return Err(RunError::NoMemory),
     }
 }
 
-/// Begins the next data line, and takes a value for each item.
-fn read_items(
+/// Begins the next data line, and takes a value for each item; notes are made of what is read and written.
+///
+/// # Errors
+///
+/// The number of the first fault.
+pub fn take_items(
     symbols: &Symbols,
     state: &mut State,
     items: &[Expr],
     notes: &mut Notes,
-) -> Result<(), ReadError>
+) -> Result<(), u8>
     requires right { list_all (target_is_right (kinds_by symbols.now)) (map expr_tree items.now) ≡ true }
     requires ready { IsReady symbols.now state.old.scope (memory_of state.old.store) }
     ensures taken { IsTaken (read_taken symbols.now.constants state.old.scope (map expr_tree items.now) (memory_of state.old.store)) (memory_of state.new.store) result }
     ensures scope { state.new.scope ≡ state.old.scope }
-    ensures noted { IfRead result (noted_by notes.new ≡ noted_by notes.old ++ read_noted symbols.now.constants state.old.scope (map expr_tree items.now) notes.old.next (memory_of state.old.store)) }
+    ensures noted { HasAdded notes.old (read_noted symbols.now.constants state.old.scope (map expr_tree items.now) notes.old.next (memory_of state.old.store)) notes.new }
 {
-    notes.refer(&Cell::In, true)?;
+    notes.refer(&Cell::In, true);
     match state.store.next_line() {
         Ok(()) => {}
-        Err(fault) => return Err(ReadError::Fault(fault)),
+        Err(fault) => return Err(fault),
     }
     for item in items {
-        match read_item(symbols, state, item, notes) {
+        match take_item(symbols, state, item, notes) {
             Ok(()) => {}
-            Err(error) => return Err(error),
+            Err(fault) => return Err(fault),
         }
     }
     Ok(())
 }
 
 /// Takes the next value of the data for an item, and stores it there.
-fn read_item(
-    symbols: &Symbols,
-    state: &mut State,
-    item: &Expr,
-    notes: &mut Notes,
-) -> Result<(), ReadError>
+fn take_item(symbols: &Symbols, state: &mut State, item: &Expr, notes: &mut Notes) -> Result<(), u8>
     requires right { target_is_right (kinds_by symbols.now) (expr_tree item.now) ≡ true }
     requires ready { IsReady symbols.now state.old.scope (memory_of state.old.store) }
     ensures taken { IsTaken (item_taken symbols.now.constants state.old.scope (expr_tree item.now) (memory_of state.old.store)) (memory_of state.new.store) result }
@@ -130,18 +104,17 @@ fn read_item(
                 scope: &state.scope,
                 consts: symbols.consts(),
             };
-            note_target(notes, item, &around)?;
-            match target_cell(item, &state.store, &state.scope, symbols.consts()) {
+            match target_cell(item, &around, notes) {
                 Ok(cell) => match state.store.set(&cell, i128::from(value)) {
                     Ok(()) => {
-                        notes.refer(&cell, true)?;
+                        notes.refer(&cell, true);
                         return Ok(());
                     }
-                    Err(fault) => return Err(ReadError::Fault(fault)),
+                    Err(fault) => return Err(fault),
                 },
-                Err(fault) => return Err(ReadError::Fault(fault)),
+                Err(fault) => return Err(fault),
             }
         }
-        Err(fault) => return Err(ReadError::Fault(fault)),
+        Err(fault) => return Err(fault),
     }
 }

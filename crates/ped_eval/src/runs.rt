@@ -97,7 +97,11 @@ fn finished(
 }
 
 /// What a run keeps before the first statement.
-fn start(alloc: Global, symbols: &Symbols, input: &[u8]) -> Result<State, NoMemory>
+///
+/// # Errors
+///
+/// Want of memory.
+pub fn start(alloc: Global, symbols: &Symbols, input: &[u8]) -> Result<State, NoMemory>
     ensures memory { IfOk result (λ state. memory_of state.store ≡ memory_at_start (shapes_by symbols.now.kinds) (lines input.now)) }
     ensures scope { IfOk result (λ state. state.scope ≡ []) }
 {
@@ -109,7 +113,11 @@ fn start(alloc: Global, symbols: &Symbols, input: &[u8]) -> Result<State, NoMemo
 }
 
 /// The outcome of a program that has ended without a fault.
-fn ended(alloc: Global, program: &Program, store: &Store) -> Result<Outcome, NoMemory>
+///
+/// # Errors
+///
+/// Want of memory.
+pub fn ended(alloc: Global, program: &Program, store: &Store) -> Result<Outcome, NoMemory>
     ensures { IfOk result (λ o. outcome_view o ≡ Outcomes.Ended (lines_in ((memory_of store.now).cells Out)) (rows_in (memory_of store.now) (live_names (program_tree program.now)))) }
 {
     let output = copy_lines(alloc, store.output().as_slice())?;

@@ -9,6 +9,7 @@ ghost use Rattle.ped_eval.specs.ScopeViews.{frame_view, scope_view, with_turn, o
 ghost use Rattle.ped_eval.specs.AccessViews.{turn_view};
 
 use crate::accesses::Turn;
+use crate::turns::copy_names;
 use ped_base::{Listed, Name, Names, NoMemory};
 use ped_store::Cell;
 use ped_tree::names::is_among;
@@ -70,6 +71,20 @@ impl Scope {
         Ok(())
     }
 
+    /// The same iterations.
+    ///
+    /// # Errors
+    ///
+    /// Want of memory.
+    pub fn copy(&self, alloc: Global) -> Result<Scope, NoMemory>
+        ensures { IfOk result (λ scope. scope ≡ self.now) }
+    {
+        match copy_frames(alloc, &self.frames) {
+            Ok(frames) => return Ok(Scope { frames }),
+            Err(_) => return Err(NoMemory),
+        }
+    }
+
     /// Goes on to another iteration of the innermost loop, in which its variable has this value.
     pub fn turn(&mut self, number: u64, value: i128)
         requires { 0 < length self.old }
@@ -124,6 +139,34 @@ fn path_of(alloc: Global, frames: &[Frame]) -> Result<Listed<Turn>, NoMemory>
         })?;
     }
     Ok(path)
+}
+
+/// A copy of frames.
+fn copy_frames(alloc: Global, frames: &[Frame]) -> Result<Vec<Frame>, NoMemory>
+    ensures view { IfOk result (λ copy. scope_view copy.items ≡ scope_view frames.now) }
+    ensures length { IfOk result (λ copy. length copy.items ≡ length frames.now) }
+{
+    let mut copy = Vec::new(alloc);
+    for frame in frames {
+        let next = copy_frame(alloc, frame)?;
+        copy.push(next)?;
+    }
+    Ok(copy)
+}
+
+/// A copy of a frame.
+fn copy_frame(alloc: Global, frame: &Frame) -> Result<Frame, NoMemory>
+    ensures { IfOk result (λ copy. frame_view copy ≡ frame_view frame.now) }
+{
+    let private = copy_names(alloc, frame.private.as_slice())?;
+    Ok(Frame {
+        statement: frame.statement,
+        parallel: frame.parallel,
+        number: frame.number,
+        value: frame.value,
+        variable: frame.variable,
+        private,
+    })
 }
 
 /// Another iteration of the innermost loop.

@@ -16,18 +16,21 @@ ghost use Rattle.ped_eval.specs.Readiness.{kinds_by, setting_by, IsReady, CanDo,
 ghost use Rattle.ped_eval.specs.Agreement.{before, before_turn};
 ghost use Rattle.ped_eval.specs.Plans.{entered_by, head_of, IsPlan};
 ghost use Rattle.ped_eval.specs.Turns.{turns_end, body_run};
-ghost use Rattle.ped_eval.specs.Noting.{place_by};
+ghost use Rattle.ped_eval.specs.Noting.{place_by, HasAdded};
+ghost use Rattle.ped_eval.specs.StatementNotes.{assignment_noted};
 ghost use Rattle.ped_eval.specs.Watched.{Watched, turns_run};
 ghost use Rattle.ped_eval.specs.Told.{Ran, TellsFrom, StaysReady, OnGoing, OnStopped};
 
 use crate::counts::{count, count_all};
-use crate::evaluation::{eval, target_cell};
+use crate::evaluation::{target_cell, value_of};
 use crate::exits::leave_loop;
+use crate::notes::Notes;
 use crate::plans::{Plan, plan_of};
 use crate::printing::watched_print;
 use crate::reading::run_read;
 use crate::states::{Flow, RunError, State};
-use crate::telling::{tell_assignment, tell_bounds, tell_exit, watched_truth};
+use crate::surroundings::Surroundings;
+use crate::telling::{tell, tell_exit, watched_truth};
 use crate::turns::{close_copies, enter_loop, open_turn};
 use crate::watches::Watch;
 use ped_symbols::Symbols;
@@ -127,8 +130,10 @@ fn watched_assignment<W: Watch>(
     ensures watched { Watched W.follows watch.old watch.new state.old.scope (before state.old.scope number) (memory_of state.old.store).cells result
         (Runs.run (setting_by symbols.now) (Assign (expr_tree left.now) (expr_tree right.now)) number state.old.scope) }
 {
-    match tell_assignment(alloc, symbols, state, watch, left, right, number) {
-        Ok(()) => return run_assignment(symbols, state, left, right, number),
+    let mut notes = Notes::of_statement(alloc, watch);
+    let answer = run_assignment(symbols, state, left, right, number, &mut notes);
+    match tell(alloc, watch, &state.scope, number, &notes) {
+        Ok(()) => return answer,
         Err(_) => return Err(RunError::NoMemory),
     }
 }
@@ -140,14 +145,17 @@ fn run_assignment(
     left: &Expr,
     right: &Expr,
     number: u32,
+    notes: &mut Notes,
 ) -> Result<Flow, RunError>
     requires can { CanDo symbols.now state.old.scope number (Assign (expr_tree left.now) (expr_tree right.now)) }
     requires ready { IsReady symbols.now state.old.scope (memory_of state.old.store) }
     ensures told { Ran state.old.scope number (memory_of state.old.store) (number + 1) result (memory_of state.new.store)
         (Runs.run (setting_by symbols.now) (Assign (expr_tree left.now) (expr_tree right.now)) number state.old.scope) }
     ensures ready { StaysReady symbols.now result state.old.scope state.new.scope (memory_of state.new.store) }
+    ensures scope { state.new.scope ≡ state.old.scope }
+    ensures noted { HasAdded notes.old (assignment_noted notes.old.next (assigned (names_at (memory_of state.old.store) state.old.scope symbols.now.constants) (expr_tree left.now) (expr_tree right.now) (memory_of state.old.store).cells)) notes.new }
 {
-    match assign(symbols, state, left, right) {
+    match assign(symbols, state, left, right, notes) {
         Ok(()) => return Ok(Flow::Going),
         Err(fault) => return Err(RunError::Fault {
             number: fault,
@@ -156,18 +164,44 @@ fn run_assignment(
     }
 }
 
-/// Stores the value of the right side in the cell of the left side.
-fn assign(symbols: &Symbols, state: &mut State, left: &Expr, right: &Expr) -> Result<(), u8>
+/// Stores the value of the right side in the cell of the left side; notes are made of what is read, and of the write.
+///
+/// # Errors
+///
+/// The number of the first fault; nothing is stored then.
+pub fn assign(
+    symbols: &Symbols,
+    state: &mut State,
+    left: &Expr,
+    right: &Expr,
+    notes: &mut Notes,
+) -> Result<(), u8>
     requires right { target_is_right (kinds_by symbols.now) (expr_tree left.now) ≡ true }
     requires ready { IsReady symbols.now state.old.scope (memory_of state.old.store) }
     ensures ok { OnOk result ((w : Stored) × ((assigned (names_at (memory_of state.old.store) state.old.scope symbols.now.constants) (expr_tree left.now) (expr_tree right.now) (memory_of state.old.store).cells).result ≡ Ok w)
         × (memory_of state.new.store ≡ with_content w.cell (Number w.number) (memory_of state.old.store))) }
     ensures err { IfErr result (λ n. (assigned (names_at (memory_of state.old.store) state.old.scope symbols.now.constants) (expr_tree left.now) (expr_tree right.now) (memory_of state.old.store).cells).result ≡ Err n) }
     ensures scope { state.new.scope ≡ state.old.scope }
+    ensures noted { HasAdded notes.old (assignment_noted notes.old.next (assigned (names_at (memory_of state.old.store) state.old.scope symbols.now.constants) (expr_tree left.now) (expr_tree right.now) (memory_of state.old.store).cells)) notes.new }
 {
-    let value = eval(right, &state.store, &state.scope, symbols.consts())?;
-    let cell = target_cell(left, &state.store, &state.scope, symbols.consts())?;
-    state.store.set(&cell, value)
+    let around = Surroundings {
+        store: &state.store,
+        scope: &state.scope,
+        consts: symbols.consts(),
+    };
+    match value_of(right, &around, notes) {
+        Ok(value) => match target_cell(left, &around, notes) {
+            Ok(cell) => match state.store.set(&cell, value) {
+                Ok(()) => {
+                    notes.refer(&cell, true);
+                    return Ok(());
+                }
+                Err(fault) => return Err(fault),
+            },
+            Err(fault) => return Err(fault),
+        },
+        Err(fault) => return Err(fault),
+    }
 }
 
 /// Runs the DO with this number (ANSI X3.9-1978, section 11.10).
@@ -188,12 +222,9 @@ fn run_do<W: Watch>(
     ensures watched { Watched W.follows watch.old watch.new state.old.scope (before state.old.scope number) (memory_of state.old.store).cells result
         (Runs.run (setting_by symbols.now) (do_tree d.now) number state.old.scope) }
 {
-    match tell_bounds(alloc, symbols, state, watch, d, number) {
-        Ok(behind) => match plan_of(alloc, symbols, state, d, number) {
-            Ok(plan) => return run_turns(alloc, symbols, state, watch, d, &plan, behind),
-            Err(error) => return Err(error),
-        },
-        Err(_) => return Err(RunError::NoMemory),
+    match plan_of(alloc, symbols, state, watch, d, number) {
+        Ok(plan) => return run_turns(alloc, symbols, state, watch, d, &plan),
+        Err(error) => return Err(error),
     }
 }
 
@@ -206,7 +237,6 @@ fn run_turns<W: Watch>(
     watch: &mut W,
     d: &Do,
     plan: &Plan,
-    behind: u32,
 ) -> Result<Flow, RunError>
     requires can { CanDo symbols.now state.old.scope plan.now.number (do_tree d.now) }
     requires ready { IsReady symbols.now state.old.scope (memory_of state.old.store) }
@@ -215,7 +245,7 @@ fn run_turns<W: Watch>(
         (turns_end plan.now.count 1 (entered_by (head_of d.now) plan.now behind) state.old.scope (body_run (setting_by symbols.now) (stmt_trees d.now.body.items) plan.now.number state.old.scope)) }
     ensures ready { StaysReady symbols.now result state.old.scope state.new.scope (memory_of state.new.store) }
     ensures watched { Watched W.follows watch.old watch.new state.old.scope (before state.old.scope plan.now.number) (memory_of state.old.store).cells result
-        (turns_run plan.now.count 1 (entered_by (head_of d.now) plan.now behind) state.old.scope (place_by plan.now.number state.old.scope) (body_run (setting_by symbols.now) (stmt_trees d.now.body.items) plan.now.number state.old.scope)) }
+        (turns_run plan.now.count 1 (entered_by (head_of d.now) plan.now plan.now.behind) state.old.scope (place_by plan.now.number state.old.scope) (body_run (setting_by symbols.now) (stmt_trees d.now.body.items) plan.now.number state.old.scope)) }
 {
     match enter_loop(alloc, state, d, plan) {
         Ok(()) => {}
@@ -229,7 +259,7 @@ fn run_turns<W: Watch>(
         }
     }
     leave_loop(state, d, plan);
-    match tell_exit(alloc, &state.scope, watch, d, plan, behind) {
+    match tell_exit(alloc, &state.scope, watch, d, plan) {
         Ok(()) => return Ok(Flow::Going),
         Err(_) => return Err(RunError::NoMemory),
     }

@@ -6,7 +6,7 @@ use ped_store::Store;
 
 /// What a run keeps at a place.
 #[derive(Drop)]
-pub(crate) struct State {
+pub struct State {
     /// What the cells hold.
     pub store: Store,
     /// The iterations round the place.
@@ -15,7 +15,7 @@ pub(crate) struct State {
 
 /// How statements that have been run end.
 #[derive(Clone, Copy)]
-pub(crate) enum Flow {
+pub enum Flow {
     /// The run goes on behind them.
     Going,
     /// A STOP has ended it.
@@ -24,7 +24,7 @@ pub(crate) enum Flow {
 
 /// Why a run has broken off.
 #[derive(Clone, Copy)]
-pub(crate) enum RunError {
+pub enum RunError {
     /// By a fault of the program.
     Fault {
         /// Its number.

@@ -9,7 +9,7 @@ ghost use Rattle.ped_eval.specs.ScopeViews.{frame_view, outside};
 ghost use Rattle.ped_eval.specs.Loops as Loops;
 ghost use Rattle.ped_eval.specs.Agreement.{is_copy};
 ghost use Rattle.ped_eval.specs.Plans.{entered_by, head_of, IsPlan};
-ghost use Rattle.ped_eval.specs.Turns.{with_copies, without_copies};
+ghost use Rattle.ped_eval.specs.Turns.{IsInside, with_copies, without_copies};
 
 use crate::plans::Plan;
 use crate::scopes::Frame;
@@ -19,12 +19,7 @@ use ped_tree::Do;
 use std::alloc::Global;
 
 /// Goes into a DO, before its first iteration.
-pub(crate) fn enter_loop(
-    alloc: Global,
-    state: &mut State,
-    d: &Do,
-    plan: &Plan,
-) -> Result<(), NoMemory>
+pub fn enter_loop(alloc: Global, state: &mut State, d: &Do, plan: &Plan) -> Result<(), NoMemory>
     requires plan { IsPlan (head_of d.now) (stmt_trees d.now.body.items) plan.now }
     requires few { length state.old.scope < 6 }
     ensures scope { OnOk result (state.new.scope ≡ Loops.frame (entered_by (head_of d.now) plan.now 0) 0 ∷ state.old.scope) }
@@ -51,14 +46,14 @@ fn frame_of(alloc: Global, d: &Do, plan: &Plan) -> Result<Frame, NoMemory>
 }
 
 /// A copy of names, which takes no memory where there are none.
-fn copy_names(alloc: Global, names: &[Name]) -> Result<Names, NoMemory>
+pub(crate) fn copy_names(alloc: Global, names: &[Name]) -> Result<Names, NoMemory>
     ensures { IfOk result (λ copy. copy ≡ names.now) }
 {
     Ok(Names::from_vec(Vec::from_slice(alloc, names)?))
 }
 
-/// Goes on to the iteration of a DO before which there are so many, and makes its copies.
-pub(crate) fn open_turn(
+/// Goes on from an iteration of a DO to that before which there are so many, and makes its copies.
+pub fn open_turn(
     alloc: Global,
     state: &mut State,
     d: &Do,
@@ -67,7 +62,7 @@ pub(crate) fn open_turn(
 ) -> Result<(), NoMemory>
     requires plan { IsPlan (head_of d.now) (stmt_trees d.now.body.items) plan.now }
     requires earlier { earlier < plan.now.count }
-    requires inside { state.old.scope ≡ Loops.frame (entered_by (head_of d.now) plan.now 0) earlier ∷ outside state.old.scope }
+    requires inside { IsInside (entered_by (head_of d.now) plan.now 0) state.old.scope }
     ensures scope { OnOk result (state.new.scope ≡ Loops.frame (entered_by (head_of d.now) plan.now 0) (earlier + 1) ∷ outside state.old.scope) }
     ensures copies { OnOk result (memory_of state.new.store ≡ with_copies state.new.scope plan.now.copied (memory_of state.old.store)) }
 {
@@ -89,7 +84,7 @@ fn open_copies(alloc: Global, state: &mut State, names: &[Name]) -> Result<(), N
 }
 
 /// Drops the copies of these names, which are private to the iterations round the place.
-pub(crate) fn close_copies(state: &mut State, names: &[Name])
+pub fn close_copies(state: &mut State, names: &[Name])
     requires { list_all (λ x. is_copy (cell_of state.old.scope x)) names.now ≡ true }
     ensures copies { memory_of state.new.store ≡ without_copies state.old.scope names.now (memory_of state.old.store) }
     ensures scope { state.new.scope ≡ state.old.scope }

@@ -33,7 +33,7 @@ pub trait Watch {
 
 /// A watch that keeps nothing.
 #[derive(Drop)]
-pub(crate) struct NoWatch;
+pub struct NoWatch;
 
 impl Watch for NoWatch {
     ghost use Rattle.std.specs.Prelude.{refl};

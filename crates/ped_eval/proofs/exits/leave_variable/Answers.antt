@@ -2,9 +2,9 @@ use Rattle.std.specs.Int.{w128}
 use Rattle.std.specs.Int.RustNames.{FitsSigned}
 use mir.Val.{to_z, of_z}
 use Rattle.std.proofs.lemmas.Int.{to_z-of_z}
-use Rattle.std.proofs.Common.{rules, ◌≡◌, ℕ, ℤ, Bool, ◌+ℤ◌, ◌*ℤ◌, pos, ap, sym, ◌∙◌, if◌then◌else◌}
+use Rattle.std.proofs.Common.{rules, ◌≡◌, ℤ, Bool, ◌+ℤ◌, ◌*ℤ◌, pos, ap, sym, ◌∙◌, if◌then◌else◌}
 use Rattle.ped_store.specs.Cells.{Cell}
-use Rattle.ped_store.specs.Stores.{Content, Undefined, Number}
+use Rattle.ped_store.specs.Stores.{Undefined, Number}
 use Rattle.ped_store.specs.Memories.{with_content}
 use Rattle.ped_store.specs.Keeping.{memory_of}
 use Rattle.ped_eval.specs.Scopes.{cell_of}

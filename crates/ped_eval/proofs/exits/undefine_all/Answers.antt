@@ -1,4 +1,4 @@
-use Rattle.std.proofs.Common.{◌≡◌, ◌+◌, ℕ, List, Bool, drop, true, refl, ap, sym, ◌∙◌}
+use Rattle.std.proofs.Common.{◌≡◌, ◌+◌, ℕ, List, drop, refl, ap, ◌∙◌}
 use Rattle.std.specs.List.{list_all}
 use Rattle.ped_store.specs.Cells.{Cell}
 use Rattle.ped_store.specs.Stores.{Undefined}

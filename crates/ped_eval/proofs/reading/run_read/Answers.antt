@@ -1,46 +1,49 @@
-use Rattle.std.proofs.Common.{◌≡◌, ◌++◌, map, Ok, Err, refl, sym, subst}
+use Rattle.std.proofs.Common.{ℕ, List, map, Ok, Err, refl, sym, subst}
 use Rattle.ped_tree.specs.Views.{expr_tree}
 use Rattle.ped_store.specs.Keeping.{memory_of}
 use Rattle.ped_eval.specs.Scopes.{Scope}
+use Rattle.ped_eval.specs.Follow.{Follow}
 use Rattle.ped_eval.specs.Readiness.{IsReady}
-use Rattle.ped_eval.specs.Takings.{read_taken}
-use Rattle.ped_eval.specs.Noting.{noted_by}
-use Rattle.ped_eval.specs.StatementNotes.{read_noted, IsTaken, IfRead}
-use Rattle.ped_eval.specs.declared.reading.ReadError.{ReadError}
+use Rattle.ped_eval.specs.Noting.{Noted, AreNoted, accesses_by}
+use Rattle.ped_eval.specs.StatementNotes.{read_noted}
 use Rattle.ped_eval.specs.declared.states.Flow.TheVariants as flow
 use Rattle.ped_eval.specs.declared.states.RunError.TheVariants as error
 use Rattle.ped_eval.proofs.Readings.{read_ready, read_ran, read_failed}
-use Rattle.ped_eval.proofs.ReadNotes.{read_watched, told_read}
+use Rattle.ped_eval.proofs.Storing.{fresh_added}
+use Rattle.ped_eval.proofs.ReadNotes.{read_watched}
 use Rattle.ped_eval.proofs.reading.run_read.Goals as goal
 
-pub returns-in-Ok-tell-clause-told : goal.returns-in-Ok-tell-clause-told
-returns-in-Ok-tell-clause-told g c =
-    read_ran c.args.symbols.now c.args.state.now.scope c.args.number (map expr_tree c.args.items.now) c.args.state.now.store c.requires.ready c.read_items.new.state.store c.in-Ok.ensures.taken
+pub returns-in-Ok-taken-clause-told : goal.returns-in-Ok-taken-clause-told
+returns-in-Ok-taken-clause-told g c =
+    read_ran c.args.symbols.now c.args.state.now.scope c.args.number (map expr_tree c.args.items.now) c.args.state.now.store c.requires.ready c.take_items-taken.new.state.store c.in-Ok-taken.ensures.taken
 
-pub returns-in-Ok-tell-clause-ready : goal.returns-in-Ok-tell-clause-ready
-returns-in-Ok-tell-clause-ready g c =
+pub returns-in-Ok-taken-clause-ready : goal.returns-in-Ok-taken-clause-ready
+returns-in-Ok-taken-clause-ready g c =
     let table = c.args.symbols.now in
     let scope = c.args.state.now.scope in
-    let new = memory_of c.read_items.new.state.store in
-    let ready : IsReady table scope new = read_ready table scope (map expr_tree c.args.items.now) (memory_of c.args.state.now.store) new c.requires.ready c.in-Ok.ensures.taken in
-    (c.in-Ok.ensures.scope, subst (λ (k : Scope). IsReady table k new) (sym c.in-Ok.ensures.scope) ready)
+    let same = c.take_items-taken.ensures.scope in
+    let new = memory_of c.take_items-taken.new.state.store in
+    let ready : IsReady table scope new = read_ready table scope (map expr_tree c.args.items.now) (memory_of c.args.state.now.store) new c.requires.ready c.in-Ok-taken.ensures.taken in
+    (same, subst (λ (k : Scope). IsReady table k new) (sym same) ready)
 
-pub returns-in-Ok-tell-clause-watched : goal.returns-in-Ok-tell-clause-watched
-returns-in-Ok-tell-clause-watched g c =
-    read_watched g.W.Watch.follows c.args.symbols.now c.args.state.now.scope c.args.number (map expr_tree c.args.items.now) (memory_of c.args.state.now.store) c.requires.ready refl c.args.watch.now c.tell.new.watch (Ok flow.Going)
-    (told_read g.W.Watch.follows c.args.symbols.now.constants c.args.state.now.scope c.read_items.new.state.scope c.args.number (map expr_tree c.args.items.now) (memory_of c.args.state.now.store) c.from_reference-notes.result c.read_items.new.notes c.args.watch.now c.tell.new.watch
-    c.from_reference-notes.ensures.touches c.from_reference-notes.ensures.next c.in-Ok.ensures.scope c.in-Ok.ensures.noted c.in-Ok-tell.ensures)
+pub returns-in-Ok-taken-clause-watched : goal.returns-in-Ok-taken-clause-watched
+returns-in-Ok-taken-clause-watched g c =
+    let told = subst (λ (s : Scope). (ns : List Noted) → AreNoted c.take_items-taken.new.notes ns → Follow g.W.Watch.follows c.args.watch.now (accesses_by c.args.number s ns) c.tell.new.watch) c.take_items-taken.ensures.scope c.in-Ok.ensures in
+    let items = map expr_tree c.args.items.now in
+    let m = memory_of c.args.state.now.store in
+    let noted = λ (n : ℕ). read_noted c.args.symbols.now.constants c.args.state.now.scope items n m in
+    read_watched g.W.Watch.follows c.args.symbols.now c.args.state.now.scope c.args.number items m c.requires.ready refl c.args.watch.now c.tell.new.watch (Ok flow.Going)
+    (told (noted 1) (fresh_added c.of_statement-notes.result c.take_items-taken.new.notes noted c.of_statement-notes.ensures.touches c.of_statement-notes.ensures.next c.take_items-taken.ensures.noted))
 
-pub returns-in-Ok-tell-2-clause-told : goal.returns-in-Ok-tell-2-clause-told
-returns-in-Ok-tell-2-clause-told g c =
-    let taken = read_taken c.args.symbols.now.constants c.args.state.now.scope (map expr_tree c.args.items.now) (memory_of c.args.state.now.store) in
-    let h : taken ≡ Err c.in-Err-Fault.fault = subst (λ (e : ReadError). IsTaken {A = Unit {0}} taken (memory_of c.read_items.new.state.store) (Err e)) c.in-Err-Fault.field-0-is c.in-Err-Fault.ensures.taken in
-    read_failed c.args.symbols.now c.args.state.now.scope c.args.number (map expr_tree c.args.items.now) c.args.state.now.store c.requires.ready (memory_of c.read_items.new.state.store) c.in-Err-Fault.fault h
+pub returns-in-Err-taken-clause-told : goal.returns-in-Err-taken-clause-told
+returns-in-Err-taken-clause-told g c =
+    read_failed c.args.symbols.now c.args.state.now.scope c.args.number (map expr_tree c.args.items.now) c.args.state.now.store c.requires.ready (memory_of c.take_items-taken.new.state.store) c.in-Err-taken.fault c.in-Err-taken.ensures.taken
 
-pub returns-in-Ok-tell-2-clause-watched : goal.returns-in-Ok-tell-2-clause-watched
-returns-in-Ok-tell-2-clause-watched g c =
-    let noted = noted_by c.read_items.new.notes ≡ noted_by c.from_reference-notes.result ++ read_noted c.args.symbols.now.constants c.args.state.now.scope (map expr_tree c.args.items.now) c.from_reference-notes.result.next (memory_of c.args.state.now.store) in
-    let h : noted = subst (λ (e : ReadError). IfRead {A = Unit {0}} (Err e) noted) c.in-Err-Fault.field-0-is c.in-Err-Fault.ensures.noted in
-    read_watched g.W.Watch.follows c.args.symbols.now c.args.state.now.scope c.args.number (map expr_tree c.args.items.now) (memory_of c.args.state.now.store) c.requires.ready refl c.args.watch.now c.tell-in-Err-Fault.new.watch (Err (error.Fault c.in-Err-Fault.fault c.args.number))
-    (told_read g.W.Watch.follows c.args.symbols.now.constants c.args.state.now.scope c.read_items.new.state.scope c.args.number (map expr_tree c.args.items.now) (memory_of c.args.state.now.store) c.from_reference-notes.result c.read_items.new.notes c.args.watch.now c.tell-in-Err-Fault.new.watch
-    c.from_reference-notes.ensures.touches c.from_reference-notes.ensures.next c.in-Err-Fault.ensures.scope h c.in-Ok-tell-2.ensures)
+pub returns-in-Err-taken-clause-watched : goal.returns-in-Err-taken-clause-watched
+returns-in-Err-taken-clause-watched g c =
+    let told = subst (λ (s : Scope). (ns : List Noted) → AreNoted c.take_items-taken.new.notes ns → Follow g.W.Watch.follows c.args.watch.now (accesses_by c.args.number s ns) c.tell.new.watch) c.take_items-taken.ensures.scope c.in-Ok.ensures in
+    let items = map expr_tree c.args.items.now in
+    let m = memory_of c.args.state.now.store in
+    let noted = λ (n : ℕ). read_noted c.args.symbols.now.constants c.args.state.now.scope items n m in
+    read_watched g.W.Watch.follows c.args.symbols.now c.args.state.now.scope c.args.number items m c.requires.ready refl c.args.watch.now c.tell.new.watch (Err (error.Fault c.in-Err-taken.fault c.args.number))
+    (told (noted 1) (fresh_added c.of_statement-notes.result c.take_items-taken.new.notes noted c.of_statement-notes.ensures.touches c.of_statement-notes.ensures.next c.take_items-taken.ensures.noted))

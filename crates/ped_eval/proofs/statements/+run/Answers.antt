@@ -43,38 +43,38 @@ use Rattle.ped_eval.proofs.statements.+run.Goals as goal
 
 pub run_do-run_turns-requires : goal.run_do-run_turns-requires
 run_do-run_turns-requires g t c =
-    let entry : IsEntry c.args.symbols.now c.args.number (names_at (memory_of c.args.state.now.store) c.args.state.now.scope c.args.symbols.now.constants) (memory_of c.args.state.now.store).cells (head_of c.args.d.now) (stmt_trees c.args.d.now.body.items) (Ok c.in-Ok-plan_of.plan) =
-    subst (λ (r : Result Plan RunError). IsEntry c.args.symbols.now c.args.number (names_at (memory_of c.args.state.now.store) c.args.state.now.scope c.args.symbols.now.constants) (memory_of c.args.state.now.store).cells (head_of c.args.d.now) (stmt_trees c.args.d.now.body.items) r) c.in-Ok-plan_of.is c.plan_of.ensures in
-    let number : c.in-Ok-plan_of.plan.number ≡ c.args.number = plan_number c.args.symbols.now.constants c.args.number (head_of c.args.d.now) (stmt_trees c.args.d.now.body.items) entry.0 c.in-Ok-plan_of.plan entry.2 in
-    let can : CanDo c.args.symbols.now c.args.state.now.scope c.in-Ok-plan_of.plan.number (do_tree c.args.d.now) = subst (λ (k : ℕ). CanDo c.args.symbols.now c.args.state.now.scope k (do_tree c.args.d.now)) (sym number) c.requires.can in
+    let entry : IsEntry c.args.symbols.now c.args.number (names_at (memory_of c.args.state.now.store) c.args.state.now.scope c.args.symbols.now.constants) (memory_of c.args.state.now.store).cells (head_of c.args.d.now) (stmt_trees c.args.d.now.body.items) (Ok c.in-Ok.plan) =
+    subst (λ (r : Result Plan RunError). IsEntry c.args.symbols.now c.args.number (names_at (memory_of c.args.state.now.store) c.args.state.now.scope c.args.symbols.now.constants) (memory_of c.args.state.now.store).cells (head_of c.args.d.now) (stmt_trees c.args.d.now.body.items) r) c.in-Ok.is c.plan_of.ensures.entry in
+    let number : c.in-Ok.plan.number ≡ c.args.number = plan_number c.args.symbols.now.constants c.args.number (head_of c.args.d.now) (stmt_trees c.args.d.now.body.items) entry.0 c.in-Ok.plan entry.2 in
+    let can : CanDo c.args.symbols.now c.args.state.now.scope c.in-Ok.plan.number (do_tree c.args.d.now) = subst (λ (k : ℕ). CanDo c.args.symbols.now c.args.state.now.scope k (do_tree c.args.d.now)) (sym number) c.requires.can in
     λ κs h. (search rules, ((λ a b. h a b), (can, (c.requires.ready, entry.2.right))))
 
-pub run_do-returns-in-Ok-plan_of-clause-told : goal.run_do-returns-in-Ok-plan_of-clause-told
-run_do-returns-in-Ok-plan_of-clause-told g t c =
-    let entry : IsEntry c.args.symbols.now c.args.number (names_at (memory_of c.args.state.now.store) c.args.state.now.scope c.args.symbols.now.constants) (memory_of c.args.state.now.store).cells (head_of c.args.d.now) (stmt_trees c.args.d.now.body.items) (Ok c.in-Ok-plan_of.plan) =
-    subst (λ (r : Result Plan RunError). IsEntry c.args.symbols.now c.args.number (names_at (memory_of c.args.state.now.store) c.args.state.now.scope c.args.symbols.now.constants) (memory_of c.args.state.now.store).cells (head_of c.args.d.now) (stmt_trees c.args.d.now.body.items) r) c.in-Ok-plan_of.is c.plan_of.ensures in
-    do_run c.args.symbols.now c.args.state.now.scope c.args.number (memory_of c.args.state.now.store) c.requires.ready (head_of c.args.d.now) (stmt_trees c.args.d.now.body.items) entry.0 c.in-Ok-plan_of.plan entry.1 entry.2
+pub run_do-returns-in-Ok-clause-told : goal.run_do-returns-in-Ok-clause-told
+run_do-returns-in-Ok-clause-told g t c =
+    let entry : IsEntry c.args.symbols.now c.args.number (names_at (memory_of c.args.state.now.store) c.args.state.now.scope c.args.symbols.now.constants) (memory_of c.args.state.now.store).cells (head_of c.args.d.now) (stmt_trees c.args.d.now.body.items) (Ok c.in-Ok.plan) =
+    subst (λ (r : Result Plan RunError). IsEntry c.args.symbols.now c.args.number (names_at (memory_of c.args.state.now.store) c.args.state.now.scope c.args.symbols.now.constants) (memory_of c.args.state.now.store).cells (head_of c.args.d.now) (stmt_trees c.args.d.now.body.items) r) c.in-Ok.is c.plan_of.ensures.entry in
+    do_run c.args.symbols.now c.args.state.now.scope c.args.number (memory_of c.args.state.now.store) c.requires.ready (head_of c.args.d.now) (stmt_trees c.args.d.now.body.items) entry.0 c.in-Ok.plan entry.1 entry.2
     c.run_turns.result (memory_of c.run_turns.new.state.store) c.run_turns.ensures.told
 
-pub run_do-returns-in-Ok-plan_of-clause-watched : goal.run_do-returns-in-Ok-plan_of-clause-watched
-run_do-returns-in-Ok-plan_of-clause-watched g t c =
-    let entry : IsEntry c.args.symbols.now c.args.number (names_at (memory_of c.args.state.now.store) c.args.state.now.scope c.args.symbols.now.constants) (memory_of c.args.state.now.store).cells (head_of c.args.d.now) (stmt_trees c.args.d.now.body.items) (Ok c.in-Ok-plan_of.plan) =
-    subst (λ (r : Result Plan RunError). IsEntry c.args.symbols.now c.args.number (names_at (memory_of c.args.state.now.store) c.args.state.now.scope c.args.symbols.now.constants) (memory_of c.args.state.now.store).cells (head_of c.args.d.now) (stmt_trees c.args.d.now.body.items) r) c.in-Ok-plan_of.is c.plan_of.ensures in
+pub run_do-returns-in-Ok-clause-watched : goal.run_do-returns-in-Ok-clause-watched
+run_do-returns-in-Ok-clause-watched g t c =
+    let entry : IsEntry c.args.symbols.now c.args.number (names_at (memory_of c.args.state.now.store) c.args.state.now.scope c.args.symbols.now.constants) (memory_of c.args.state.now.store).cells (head_of c.args.d.now) (stmt_trees c.args.d.now.body.items) (Ok c.in-Ok.plan) =
+    subst (λ (r : Result Plan RunError). IsEntry c.args.symbols.now c.args.number (names_at (memory_of c.args.state.now.store) c.args.state.now.scope c.args.symbols.now.constants) (memory_of c.args.state.now.store).cells (head_of c.args.d.now) (stmt_trees c.args.d.now.body.items) r) c.in-Ok.is c.plan_of.ensures.entry in
     do_watched g.W.Watch.follows c.args.symbols.now c.args.state.now.scope c.args.number (memory_of c.args.state.now.store) c.requires.ready (head_of c.args.d.now) (stmt_trees c.args.d.now.body.items)
-    c.args.watch.now c.tell_bounds.new.watch c.run_turns.new.watch c.in-Ok.ensures.told entry.0 c.in-Ok-plan_of.plan c.in-Ok.behind c.run_turns.result entry.1 entry.2 c.in-Ok.ensures.next c.run_turns.ensures.watched
+    c.args.watch.now c.plan_of.new.watch c.run_turns.new.watch c.in-Ok.ensures.told entry.0 c.in-Ok.plan c.in-Ok.plan.behind c.run_turns.result entry.1 entry.2 c.in-Ok.ensures.behind c.run_turns.ensures.watched
 
-pub run_do-returns-in-Err-plan_of-clause-told : goal.run_do-returns-in-Err-plan_of-clause-told
-run_do-returns-in-Err-plan_of-clause-told g t c =
-    let entry : IsEntry c.args.symbols.now c.args.number (names_at (memory_of c.args.state.now.store) c.args.state.now.scope c.args.symbols.now.constants) (memory_of c.args.state.now.store).cells (head_of c.args.d.now) (stmt_trees c.args.d.now.body.items) (Err c.in-Err-plan_of.error) =
-    subst (λ (r : Result Plan RunError). IsEntry c.args.symbols.now c.args.number (names_at (memory_of c.args.state.now.store) c.args.state.now.scope c.args.symbols.now.constants) (memory_of c.args.state.now.store).cells (head_of c.args.d.now) (stmt_trees c.args.d.now.body.items) r) c.in-Err-plan_of.is c.plan_of.ensures in
-    do_failed c.args.symbols.now c.args.state.now.scope c.args.number (memory_of c.args.state.now.store) c.requires.ready (head_of c.args.d.now) (stmt_trees c.args.d.now.body.items) c.in-Err-plan_of.error (memory_of c.args.state.now.store) entry
+pub run_do-returns-in-Err-clause-told : goal.run_do-returns-in-Err-clause-told
+run_do-returns-in-Err-clause-told g t c =
+    let entry : IsEntry c.args.symbols.now c.args.number (names_at (memory_of c.args.state.now.store) c.args.state.now.scope c.args.symbols.now.constants) (memory_of c.args.state.now.store).cells (head_of c.args.d.now) (stmt_trees c.args.d.now.body.items) (Err c.in-Err.error) =
+    subst (λ (r : Result Plan RunError). IsEntry c.args.symbols.now c.args.number (names_at (memory_of c.args.state.now.store) c.args.state.now.scope c.args.symbols.now.constants) (memory_of c.args.state.now.store).cells (head_of c.args.d.now) (stmt_trees c.args.d.now.body.items) r) c.in-Err.is c.plan_of.ensures.entry in
+    do_failed c.args.symbols.now c.args.state.now.scope c.args.number (memory_of c.args.state.now.store) c.requires.ready (head_of c.args.d.now) (stmt_trees c.args.d.now.body.items) c.in-Err.error (memory_of c.args.state.now.store) entry
 
-pub run_do-returns-in-Err-plan_of-clause-watched : goal.run_do-returns-in-Err-plan_of-clause-watched
-run_do-returns-in-Err-plan_of-clause-watched g t c =
-    let entry : IsEntry c.args.symbols.now c.args.number (names_at (memory_of c.args.state.now.store) c.args.state.now.scope c.args.symbols.now.constants) (memory_of c.args.state.now.store).cells (head_of c.args.d.now) (stmt_trees c.args.d.now.body.items) (Err c.in-Err-plan_of.error) =
-    subst (λ (r : Result Plan RunError). IsEntry c.args.symbols.now c.args.number (names_at (memory_of c.args.state.now.store) c.args.state.now.scope c.args.symbols.now.constants) (memory_of c.args.state.now.store).cells (head_of c.args.d.now) (stmt_trees c.args.d.now.body.items) r) c.in-Err-plan_of.is c.plan_of.ensures in
+pub run_do-returns-in-Err-clause-watched : goal.run_do-returns-in-Err-clause-watched
+run_do-returns-in-Err-clause-watched g t c =
+    let entry : IsEntry c.args.symbols.now c.args.number (names_at (memory_of c.args.state.now.store) c.args.state.now.scope c.args.symbols.now.constants) (memory_of c.args.state.now.store).cells (head_of c.args.d.now) (stmt_trees c.args.d.now.body.items) (Err c.in-Err.error) =
+    subst (λ (r : Result Plan RunError). IsEntry c.args.symbols.now c.args.number (names_at (memory_of c.args.state.now.store) c.args.state.now.scope c.args.symbols.now.constants) (memory_of c.args.state.now.store).cells (head_of c.args.d.now) (stmt_trees c.args.d.now.body.items) r) c.in-Err.is c.plan_of.ensures.entry in
     do_error_watched g.W.Watch.follows c.args.symbols.now c.args.state.now.scope c.args.number (memory_of c.args.state.now.store) c.requires.ready (head_of c.args.d.now) (stmt_trees c.args.d.now.body.items)
-    c.args.watch.now c.tell_bounds.new.watch c.tell_bounds.new.watch c.in-Ok.ensures.told c.in-Err-plan_of.error entry
+    c.args.watch.now c.plan_of.new.watch c.in-Err.error c.in-Err.ensures.told entry
 
 pub run_one-returns-in-Assign-clause-told : goal.run_one-returns-in-Assign-clause-told
 run_one-returns-in-Assign-clause-told g t c =
@@ -399,7 +399,7 @@ run_turns-loop-earlier-init g t c =
           let count : m ≡ c.args.plan.now.count = omega (arith, q) in (
             s,
             subst (λ (k : Kept). Agrees scope (before_turn scope n 1) (memory_of k).cells s) (sym store) agrees,
-            λ last f. subst (λ (k : ℕ). Follow g.W.Watch.follows c.args.watch.now (accesses (turns_run k 1 (entered_by (head_of c.args.d.now) c.args.plan.now c.args.behind) scope (place_by n scope) body s).acts) last) count f,
+            λ last f. subst (λ (k : ℕ). Follow g.W.Watch.follows c.args.watch.now (accesses (turns_run k 1 (entered_by (head_of c.args.d.now) c.args.plan.now c.args.plan.now.behind) scope (place_by n scope) body s).acts) last) count f,
           );
     }
 
@@ -447,7 +447,7 @@ run_turns-returns-in-Ok-Stopped-clause-watched g t c s a =
     let ts = stmt_trees c.args.d.now.body.items in
     let inv = c.loop-earlier.invariant in
     let k = c.loop-earlier.earlier in
-    let e = entered_by (head_of c.args.d.now) c.args.plan.now c.args.behind in
+    let e = entered_by (head_of c.args.d.now) c.args.plan.now c.args.plan.now.behind in
     let out : outside c.loop-earlier.state.scope ≡ scope = ap outside inv.scope in
     let kept = memory_of c.loop-earlier.state.store in
     let new = memory_of c.run_turn.new.state.store in
@@ -495,7 +495,7 @@ run_turns-returns-in-Err-run_turn-clause-watched g t c s a =
     let ts = stmt_trees c.args.d.now.body.items in
     let inv = c.loop-earlier.invariant in
     let k = c.loop-earlier.earlier in
-    let e = entered_by (head_of c.args.d.now) c.args.plan.now c.args.behind in
+    let e = entered_by (head_of c.args.d.now) c.args.plan.now c.args.plan.now.behind in
     let out : outside c.loop-earlier.state.scope ≡ scope = ap outside inv.scope in
     let kept = memory_of c.loop-earlier.state.store in
     let new = memory_of c.run_turn.new.state.store in
@@ -548,7 +548,7 @@ run_turns-loop-earlier-preserved g t c =
           reaches_behind scope (before_turn scope n (k + 1)) (before_turn scope n (k + 1 + 1)) kept.cells new.cells (λ u. (body_run p ts n scope (frame e (k + 1)) u).ending) (turns_end m (k + 1 + 1) e scope (body_run p ts n scope))
           (turns_end c.args.plan.now.count 1 e scope (body_run p ts n scope) s) (inv.run behind s a (suc m) more) next;
       told = λ s a m q.
-          let e = entered_by (head_of c.args.d.now) c.args.plan.now c.args.behind in
+          let e = entered_by (head_of c.args.d.now) c.args.plan.now c.args.plan.now.behind in
           let more : suc m + k ≡ c.args.plan.now.count = omega (arith, q) in
           awaits_behind follows c.args.watch.now c.loop-earlier.watch c.run_turn.new.watch scope (before_turn scope n (k + 1)) (before_turn scope n (k + 1 + 1)) kept.cells new.cells (body_run p ts n scope (frame e (k + 1)))
           (turns_run m (k + 1 + 1) e scope at_place (body_run p ts n scope)) (accesses (turns_run c.args.plan.now.count 1 e scope at_place (body_run p ts n scope) s).acts) (inv.told s a (suc m) more) next watched;
@@ -617,7 +617,7 @@ run_turns-returns-in-Ok-tell_exit-clause-watched g t c s a =
     let ts = stmt_trees c.args.d.now.body.items in
     let inv = c.loop-earlier.invariant in
     let k = c.loop-earlier.earlier in
-    let e = entered_by (head_of c.args.d.now) c.args.plan.now c.args.behind in
+    let e = entered_by (head_of c.args.d.now) c.args.plan.now c.args.plan.now.behind in
     let out : outside c.loop-earlier.state.scope ≡ scope = ap outside inv.scope in
     let kept = memory_of c.loop-earlier.state.store in
     let done : zero + k ≡ c.args.plan.now.count = omega (arith, c.loop-earlier-test.false, c.loop-earlier.auto.earlier-end) in

@@ -43,6 +43,6 @@ invariant-run_turns-loop-earlier g l = record {
   told : (s : Store) → Agrees l.fn.state.scope (before l.fn.state.scope l.plan.number) (memory_of l.fn.state.store).cells s
       → (n : ℕ) → n + l.earlier ≡ l.plan.count
       → Awaits g.W.Watch.follows l.fn.watch l.watch l.fn.state.scope (before_turn l.fn.state.scope l.plan.number (l.earlier + 1)) (memory_of l.state.store).cells
-      (turns_run n (l.earlier + 1) (entered_by (head_of l.d) l.plan l.behind) l.fn.state.scope (place_by l.plan.number l.fn.state.scope) (body_run (setting_by l.symbols) (stmt_trees l.d.body.items) l.plan.number l.fn.state.scope))
-      (accesses (turns_run l.plan.count 1 (entered_by (head_of l.d) l.plan l.behind) l.fn.state.scope (place_by l.plan.number l.fn.state.scope) (body_run (setting_by l.symbols) (stmt_trees l.d.body.items) l.plan.number l.fn.state.scope) s).acts);
+      (turns_run n (l.earlier + 1) (entered_by (head_of l.d) l.plan l.plan.behind) l.fn.state.scope (place_by l.plan.number l.fn.state.scope) (body_run (setting_by l.symbols) (stmt_trees l.d.body.items) l.plan.number l.fn.state.scope))
+      (accesses (turns_run l.plan.count 1 (entered_by (head_of l.d) l.plan l.plan.behind) l.fn.state.scope (place_by l.plan.number l.fn.state.scope) (body_run (setting_by l.symbols) (stmt_trees l.d.body.items) l.plan.number l.fn.state.scope) s).acts);
 }

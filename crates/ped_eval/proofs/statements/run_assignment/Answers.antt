@@ -1,4 +1,4 @@
-use Rattle.std.proofs.Common.{◌≡◌, sym, subst}
+use Rattle.std.proofs.Common.{sym, subst}
 use Rattle.ped_tree.specs.Views.{expr_tree}
 use Rattle.ped_store.specs.Stores.{Number}
 use Rattle.ped_store.specs.Memories.{Memory}

@@ -1,6 +1,6 @@
-use Rattle.std.proofs.Common.{◌≡◌, ◌+◌, ℕ, List, Bool, drop, true, refl, ap, sym, ◌∙◌}
+use Rattle.std.proofs.Common.{ℕ, List, refl, ap, ◌∙◌}
 use Rattle.ped_store.specs.Cells.{Cell}
-use Rattle.ped_store.specs.Memories.{Memory, without_copy}
+use Rattle.ped_store.specs.Memories.{without_copy}
 use Rattle.ped_store.specs.Keeping.{memory_of}
 use Rattle.ped_eval.specs.Scopes.{Scope, cell_of}
 use Rattle.ped_eval.specs.Agreement.{is_copy}

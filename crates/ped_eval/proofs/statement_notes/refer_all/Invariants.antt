@@ -1,8 +1,0 @@
-use Rattle.std.proofs.Common.{◌≡◌, ◌++◌, drop}
-use Rattle.ped_eval.specs.Loops.{undefined_by}
-use Rattle.ped_eval.specs.Noting.{noted, noted_by}
-use Rattle.ped_eval.proofs.statement_notes.refer_all.Given as goal
-
-abbrev pub invariant-loop-name : goal.invariant-loop-name
-invariant-loop-name l =
-    noted_by l.notes ++ noted (undefined_by l.scope l.notes.next (drop l.name-index l.names)) ≡ noted_by l.initial.notes ++ noted (undefined_by l.scope l.initial.notes.next l.names)

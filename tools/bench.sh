@@ -387,9 +387,8 @@ for kind in elements iterations executions; do
 done
 awk 'NR % 2 { before = $3 } NR % 2 == 0 { printf "time per access, %s, 10^6 to 10^5: %.2f\n", $1, $3 / before }' "$work/figures"
 
-# The launcher proves and builds ped where that hasn't been done. What starting it takes is left out: it is the
-# time of showing a small file.
-./ped show examples/recurrence.f >/dev/null
+# What starting the program takes is left out: it is the time of showing a small file.
+./prove
 # shellcheck source=tools/program.sh
 . "$PWD/tools/program.sh"
 ped=$(program_of "$(sources_sum)")

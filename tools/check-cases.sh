@@ -4,8 +4,9 @@
 #   tools/check-cases.sh [--program PROGRAM] [FILE ..]
 #
 # The files are those of cases/ where none is given, but for those of cases/flow/ and cases/faults/, which
-# tools/check-flow.sh and tools/check-faults.sh run; cases/README.md says how they are written. The program is the one that .ci/run or ./ped has built from the present
-# sources; nothing is proved or built here. The last line counts the cases. The status is 0 only where there are some
+# tools/check-flow.sh and tools/check-faults.sh run; cases/README.md says how they are written. The program is the one that
+# .ci/run or ./prove has proved and built from the present sources; nothing is proved or built here. The last line counts the
+# cases. The status is 0 only where there are some
 # and all passed.
 set -eu
 export LC_ALL=C
@@ -27,7 +28,7 @@ else
     program=$(program_of "$(sources_sum)")
 fi
 if ! [ -f "$program" ] || ! [ -x "$program" ]; then
-    stop 'the program is not built; .ci/run or ./ped builds it'
+    stop 'the proved program is not built; .ci/run or ./prove builds it'
 fi
 
 files=("$@")

@@ -6,8 +6,8 @@
 # repository's top with the words of examples/NAME.args, one a line. Where there is no such file, they are
 # `session examples/NAME.f examples/NAME.script` where NAME has a script, with `--data examples/NAME.data`
 # behind them where it has data, and else `show examples/NAME.f`. The status that is wanted stands in
-# examples/NAME.status, and is 0 where there is no such file. Nothing is proved where the program is built,
-# as it is after .ci/run or ./ped.
+# examples/NAME.status, and is 0 where there is no such file. The program is the one that .ci/run or ./prove
+# has proved and built from the present sources; nothing is proved or built here.
 set -eu
 cd -- "$(dirname -- "${BASH_SOURCE[0]}")/.."
 
@@ -20,6 +20,14 @@ differs() {
     printf 'examples: %s: %s\n' "$1" "$2"
     failed=$((failed + 1))
 }
+
+# ./ped would start a program that isn't proved.
+# shellcheck source=tools/program.sh
+. "$PWD/tools/program.sh"
+if ! [ -x "$(program_of "$(sources_sum)")" ]; then
+    printf 'examples: none was run, since the proved program is not built; .ci/run or ./prove builds it\n'
+    exit 1
+fi
 
 # Without words the program answers how it is called, with status 2.
 status=0

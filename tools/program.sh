@@ -1,5 +1,5 @@
 # shellcheck shell=bash
-# Which built programs belong to the sources: read by ./ped, .ci/run and the checks, by this file's full path.
+# Which built programs belong to the sources: read by ./ped, ./prove, .ci/run and the checks, by this file's full path.
 #
 # A built program stands in out/ under the checksum of the sources that it was made from. So it never
 # goes stale, and launches at the same time don't disturb one another. `rm -r out` is always safe.
@@ -15,12 +15,17 @@ sources_sum() (
         LC_ALL=C sort -z | xargs -0 sha256sum | sha256sum | cut -c1-64
 )
 
-# Writes where a program of the sources with this checksum stands: ped, or the one of the crate that is named.
+# Writes where a proved program of the sources with this checksum stands: ped, or the one of the crate that is named.
 program_of() {
     printf '%s\n' "$top/out/${2-ped}-$1"
 }
 
-# Keeps the program that the toolchain has built last as that of the sources with this checksum.
+# Writes where the program ped of these sources stands that was built without proof. No crate has such a name.
+unproved_of() {
+    printf '%s\n' "$top/out/UNPROVED-ped-$1"
+}
+
+# Keeps the program that the toolchain has proved and built last as that of the sources with this checksum.
 keep_program() {
     local name=${2-ped} part="$top/out/part-$$"
     mkdir -p -- "$top/out" &&

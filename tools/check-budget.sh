@@ -1,0 +1,78 @@
+#!/usr/bin/env bash
+# Holds the repository to its budget, by what makes the gate dear beside the proofs themselves. A crate is proved once
+# more for its tests and for each must-fail edit. And whenever the toolchain looks whether a crate is up to date, it goes
+# down every way that leads from the crate by crates.txt, so the same crate is read as often as ways lead to it.
+#
+# There is a line for each count that is above its limit, and a last line with all. The status is 0 only where none is.
+set -eu
+cd -- "$(dirname -- "${BASH_SOURCE[0]}")/.."
+
+# The limits.
+most_edits=45
+most_crates_with_edits=12
+most_test_lines=250
+most_crates_with_tests=2
+most_ways=5000
+
+edits() {
+    find crates/*/must-fail -name '*.edit' 2>/dev/null
+}
+
+# The files with test functions.
+tests() {
+    grep -rlE --include='*.rt' '^ *#\[test\]' crates/*/src
+}
+
+# How many lines of such a file are tests: those of its module of tests, or all where it is such a module.
+lines_of_tests() {
+    awk '/^#\[cfg\(test\)\]/ && !at { at = NR } END { print at ? NR - at + 1 : NR }' "$1"
+}
+
+# How many crates the lines name that begin with crates/NAME/.
+count_crates() {
+    cut -d / -f 2 | sort -u | wc -l
+}
+
+# How many ways lead down from all crates: from each one that ends there, and those of the crates that it uses.
+count_ways() {
+    awk '
+        function ways(crate,    names, n, i, sum) {
+            if (!(crate in known)) {
+                sum = 1
+                n = split(uses[crate], names)
+                for (i = 1; i <= n; i++) if (names[i] in uses) sum += ways(names[i])
+                known[crate] = sum
+            }
+            return known[crate]
+        }
+        { sub(/#.*/, "") }
+        NF { at = index($0, ":"); split(substr($0, 1, at - 1), words); uses[words[1]] = substr($0, at + 1) }
+        END { for (crate in uses) sum += ways(crate); print sum + 0 }
+    ' crates.txt
+}
+
+said=()
+status=0
+hold() {
+    said+=("$2 of $3 $1")
+    if [ "$2" -gt "$3" ]; then
+        printf 'budget: %s %s, and the limit is %s\n' "$2" "$1" "$3"
+        status=1
+    fi
+}
+
+test_lines=0
+while IFS= read -r file; do
+    test_lines=$((test_lines + $(lines_of_tests "$file")))
+done < <(tests)
+
+hold 'must-fail edits' "$(edits | wc -l)" "$most_edits"
+hold 'crates with such edits' "$(edits | count_crates)" "$most_crates_with_edits"
+hold 'lines of tests' "$test_lines" "$most_test_lines"
+hold 'crates with tests' "$(tests | count_crates)" "$most_crates_with_tests"
+hold 'ways down by crates.txt' "$(count_ways)" "$most_ways"
+
+printf 'budget: %s' "${said[0]}"
+printf ', %s' "${said[@]:1}"
+printf '\n'
+exit "$status"

@@ -154,7 +154,7 @@ least_flow() {
 
 # The launcher proves and builds ped where that hasn't been done. What starting it takes is left out: it is the
 # time of showing a small file.
-./ped show examples/recurrence.f >/dev/null
+./prove
 # shellcheck source=tools/program.sh
 . "$PWD/tools/program.sh"
 ped=$(program_of "$(sources_sum)")

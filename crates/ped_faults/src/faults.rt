@@ -38,9 +38,21 @@ pub fn failing<L: Ledger>(
     steps: &mut Steps<L>,
 ) -> Option<Ending> {
     let [read, reads, write, writes] = faults;
-    let mut sink = failing_sink(alloc, write.as_str(), writes.as_str())?;
     let mut shelf = failing_shelf(alloc, files, read.as_str(), reads.as_str())?;
-    let status = ped_main(alloc, words, &mut shelf, &mut sink, steps);
+    into_sink(alloc, &mut shelf, [write, writes], words, steps)
+}
+
+/// Answers words over a shelf and a sink of which some writes fail.
+fn into_sink<L: Ledger>(
+    alloc: Global,
+    shelf: &mut MemShelf,
+    faults: [&String; 2],
+    words: &[String],
+    steps: &mut Steps<L>,
+) -> Option<Ending> {
+    let [write, writes] = faults;
+    let mut sink = failing_sink(alloc, write.as_str(), writes.as_str())?;
+    let status = ped_main(alloc, words, shelf, &mut sink, steps);
     with_taken(alloc, status, sink.taken())
 }
 

@@ -7,20 +7,33 @@ use std::{fs, rt};
 
 /// The file of each word that is the name of one, under that name.
 pub fn files_of<R: rt::Files + AllocGlobal>(rt: &R, words: &[String]) -> Result<Files, NoMemory> {
-    let alloc = rt.alloc();
-    let mut files = Files::new(alloc);
+    let mut files = Files::new(rt.alloc());
     for word in words {
-        if let Ok(content) = fs::read(rt, word.as_str()) {
-            files.push(file(alloc, word.as_bytes(), &content)?)?;
-        }
+        push_file(rt, &mut files, word.as_str())?;
     }
     Ok(files)
 }
 
-/// A name and what is held under it.
-fn file(alloc: Global, name: &[u8], content: &[u8]) -> Result<(Bytes, Bytes), NoMemory> {
-    let mut held = (Bytes::new(alloc), Bytes::new(alloc));
-    held.0.extend_from_slice(name)?;
-    held.1.extend_from_slice(content)?;
-    Ok(held)
+/// Adds the file of this name, where there is one.
+fn push_file<R: rt::Files + AllocGlobal>(
+    rt: &R,
+    files: &mut Files,
+    name: &str,
+) -> Result<(), NoMemory> {
+    match fs::read(rt, name) {
+        Ok(content) => push(rt.alloc(), files, name.as_bytes(), &content),
+        Err(_) => Ok(()),
+    }
+}
+
+fn push(alloc: Global, files: &mut Files, name: &[u8], content: &[u8]) -> Result<(), NoMemory> {
+    let name = copied(alloc, name)?;
+    let content = copied(alloc, content)?;
+    files.push((name, content))
+}
+
+fn copied(alloc: Global, bytes: &[u8]) -> Result<Bytes, NoMemory> {
+    let mut copy = Bytes::new(alloc);
+    copy.extend_from_slice(bytes)?;
+    Ok(copy)
 }

@@ -31,20 +31,33 @@ fn main(rt: HostRuntime) -> io::Result<ExitCode> {
     }
 }
 
-/// Answers the words; none where they are of no form, or where there is no memory for the files that they name.
+/// Answers the words; none where they are of no form, or where there is no memory for them and their files.
 fn answered<L: Ledger, R: Env + Files + AllocGlobal>(rt: &R, blank: Blank) -> Option<Ending>
     requires name { blank.name ≡ L.name }
     requires parts { blank.parts ≡ L.parts }
     requires some { 0 < L.parts }
 {
-    let alloc = rt.alloc();
-    let words: Vec<String> = env::args(rt).ok()?.skip(1).collect(alloc).ok()?;
-    let files = files_of(rt, &words).ok()?;
+    let words = words(rt)?;
     let mut steps = Steps::<L>::new(blank);
-    match words.as_slice() {
-        [first, rest @ ..] if first.as_str() == "sure" => surely(alloc, files, rest, &mut steps),
+    over_files(rt, &words, &mut steps)
+}
+
+/// The words after the program's name.
+fn words(rt: &(impl Env + AllocGlobal)) -> Option<Vec<String>> {
+    env::args(rt).ok()?.skip(1).collect(rt.alloc()).ok()
+}
+
+/// Answers the words over the files that they name.
+fn over_files<L: Ledger, R: Files + AllocGlobal>(
+    rt: &R,
+    words: &[String],
+    steps: &mut Steps<L>,
+) -> Option<Ending> {
+    let files = files_of(rt, words).ok()?;
+    match words {
+        [first, rest @ ..] if first.as_str() == "sure" => surely(rt.alloc(), files, rest, steps),
         [read, reads, write, writes, rest @ ..] => {
-            failing(alloc, files, [read, reads, write, writes], rest, &mut steps)
+            failing(rt.alloc(), files, [read, reads, write, writes], rest, steps)
         }
         _ => None,
     }

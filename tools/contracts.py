@@ -285,9 +285,9 @@ def function_row(crate, function, name, place):
 
 
 def handed_on(module, path=()):
-    """What a module with this path hands on: its own public items, and what it names by `pub use`."""
+    """What a module with this path hands on: its own public items, and what it names by `pub use`, but for whole crates."""
     names = [(name, ["crate"] + list(path)) for name in list(module.types) + list(module.functions)]
-    return names + list(module.uses(True))
+    return names + [(name, modules) for name, modules in module.uses(True) if not (CRATES / name).is_dir()]
 
 
 def program_rows(crate):

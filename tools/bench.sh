@@ -5,8 +5,8 @@
 # script, for an edit, a step back and a step forward, and how much memory a change keeps; how long `run` takes for an
 # assignment in loops, over an array and over a scalar, from 10^4 to 10^7 of them, and how much memory a store of 2^20
 # elements takes; how long `races` takes for an access, and how much memory, at 10^5 and 10^6 of them; how long `races` and
-# `run` take for an operand of an expression, with up to 600 of them; and how long the flow of scalars takes to be made, and how much memory, and the questions about it, by the program of crate
-# ped_show_flow. It is no part of the gate, and needs GNU time and awk. docs/PERFORMANCE.md says how to read the figures.
+# `run` take for an operand of an expression, with up to 600 of them; and how long the flow of scalars takes to be made, and
+# how much memory, and the questions about it, by the program of crate ped_show_flow. It is no part of the gate, and needs GNU time and awk. docs/PERFORMANCE.md says how to read the figures.
 #
 # usage: tools/bench.sh [RUNS]      of so many runs (5 where it isn't said) the least counts
 set -eu
@@ -352,14 +352,14 @@ moves() {
     awk -v n="$1" 'BEGIN { for (k = 0; k < n; k++) printf "undo\nredo\n" }'
 }
 
-# A loop of 200 iterations over one assignment of so many operands.
+# A loop of 200 iterations over one assignment of so many operands, of which one is a reference.
 operands() {
     awk -v n="$1" 'BEGIN {
-        print "      INTEGER A(200), K\n      K = 1\n      DO 10 I = 1, 200"
-        line = "      A(I) = K"
+        print "      INTEGER A(200)\n      DO 10 I = 1, 200"
+        line = "      A(I) = I"
         for (k = 2; k <= n; k++) {
             if (length(line) > 70) { print line; line = "     &  " }
-            line = line "+K"
+            line = line "+1"
         }
         print line "\n   10 CONTINUE\n      END"
     }'

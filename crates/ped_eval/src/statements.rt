@@ -168,7 +168,7 @@ fn run_assignment(
 ///
 /// # Errors
 ///
-/// The number of the first fault; nothing is stored then.
+/// The number of the first fault.
 pub fn assign(
     symbols: &Symbols,
     state: &mut State,

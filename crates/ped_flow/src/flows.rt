@@ -168,8 +168,8 @@ impl<'a> Flow<'a> {
     /// By whom the loop with this number isn't contained: the first statement in text order that reads a variable of the
     /// loop, or of a loop in it, outside the bodies of the loops of that variable there, or behind the loop before it is
     /// overwritten; where there is none, the program's end, if such a variable is in SAVE and some path from the loop's exit
-    /// to the end doesn't overwrite it. The statement is the loop itself where its own header reads the variable, in a loop
-    /// round it.
+    /// to the end doesn't overwrite it. The statement can be the loop itself: its own header may read what its exit
+    /// leaves, in a loop round it.
     pub fn escapes(&self, loop_number: u32) -> Option<Reader>
         requires { statements_count (program_tree self.now.program.now).body + 1 < 2 ^ 32 }
         ensures { IsEscape (program_tree self.now.program.now) loop_number result }

@@ -47,7 +47,7 @@ impl<L: Ledger> Model for Graph<L> {
 
 impl<L: Ledger> Graph<L> {
     /// The graph of a valid program, whose named constants these are. Each pair is tested once. After want of memory
-    /// each pair was tested at most once.
+    /// no more pairs were tested than there are.
     pub fn build(
         alloc: Global,
         program: &Program,

@@ -54,7 +54,7 @@ impl From<OutsideFault> for LoadError {
 
 /// Reads a whole file of at most `limit` bytes, in pieces of 4096 bytes. Over a shelf that tells, the bytes are the
 /// whole content of the name, and `TooLong` comes only where that is longer than `limit`. `ReadFault` comes only
-/// where the count of the name's faults rose. What the shelf tells and the counts of its other files stay.
+/// where the count of the name's faults rose. What the shelf tells stays, and so do the counts of other files it tells.
 pub fn load<F: Shelf>(
     alloc: Global,
     shelf: &mut F,

@@ -59,7 +59,7 @@ impl<L: Ledger> Model for Session<L> {
 
 impl<L: Ledger> Session<L> {
     /// A session on the program of a text. Its present source is the program's printed text, and each pair of
-    /// references is tested once. After want of memory each pair was tested at most once.
+    /// references is tested once. After want of memory no more pairs were tested.
     ///
     /// # Errors
     ///

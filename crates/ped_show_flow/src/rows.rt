@@ -1,5 +1,5 @@
-//! The rows of a program: each of its loops with the statement by which it isn't contained, and behind it each scalar
-//! of the program with the four questions about it in that loop.
+//! The rows of a program: each of its loops with the statement, or `saved`, by which it isn't contained, and behind it
+//! each scalar of the program with the four questions about it in that loop.
 
 ghost use Rattle.std.specs.Prelude.{◌+◌, ◌<◌, ◌^◌};
 ghost use Rattle.ped_tree.specs.Views.{program_tree};

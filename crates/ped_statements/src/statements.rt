@@ -22,8 +22,8 @@ use std::alloc::Global;
 
 /// What the text of a statement is, where a literal above 4294967295 is read as that number: no tree keeps more than
 /// 32 bits of a literal, and the profile ends at 2147483647. It says what the text says exactly where some form of
-/// the profile has it; that it is a statement of FORTRAN 77 outside the profile exactly where it is one; and else
-/// that it has no form.
+/// the profile has it; that the profile leaves it out exactly where it has no form and begins as such statements do;
+/// and else that it has no form.
 #[tactic(auto, using(crate::proofs::StatementSteps::is_read))]
 pub fn read_statement(alloc: Global, text: &[u8]) -> Result<StatementReading, NoMemory>
     ensures { IfOk result (λ r. IsReadAs saturated text.now (reading_of r)) }

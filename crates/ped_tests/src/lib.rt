@@ -1,5 +1,6 @@
-//! Calls that may find no memory and that no program makes so far, each once with memory enough. No contract says that
-//! there may be. And rows of bits, at the ends of words and of groups of words. They stand in a crate of their own, since a crate that has tests is proved once more with them.
+//! Calls that may find no memory and that no program makes so far, each once with memory enough: no contract says that
+//! there may be. And rows of bits, at the ends of words and of groups of words. They stand in a crate of their own, since
+//! a crate that has tests is proved once more with them.
 #![tactic(auto)]
 
 #[cfg(test)]

@@ -1,5 +1,5 @@
-//! What the dependence tests say of a pair of references: the direction vectors that no position of its view
-//! excludes, and the distances. A pair is tested by `test` alone, which counts each call. Only `test` makes a verdict
+//! What the dependence tests say of a pair of references: the direction vectors that no position and no
+//! group of its view excludes, and the distances. A pair is tested by `test` alone, which counts each call. Only `test` makes a verdict
 //! and moves a counter, and neither can be copied: that is visibility, and no clause.
 #![tactic(auto)]
 

@@ -18,7 +18,7 @@ use std::alloc::Global;
 use std::marker::{Model, PhantomData};
 use std::sync::ledger::Ledger;
 
-/// What the tests say of a pair of references: the direction vectors that no position of its view excludes.
+/// What the tests say of a pair of references: the direction vectors that no position or group of its view excludes.
 /// The view determines them, so contracts see a verdict as its view. Only `test` makes a verdict, it can't be
 /// copied, and its type names the ledger of the counter that it was made with.
 #[derive(Drop)]
@@ -66,7 +66,7 @@ impl<L: Ledger> Verdict<L> {
         &self.view
     }
 
-    /// Whether no position excludes a vector, which has one direction for each common loop.
+    /// Whether no position and no group excludes a vector, which has one direction for each common loop.
     pub fn holds(&self, vector: &[Direction]) -> bool
         requires { length vector.now ≡ length self.now.loops }
         ensures { IsTrue result ↔ Spec.IsPossible self.now vector.now }
@@ -81,7 +81,7 @@ impl<L: Ledger> Verdict<L> {
         self.possible.meets(&self.possible)
     }
 
-    /// All vectors that no position excludes, in the lexicographic order `<`, `=`, `>`.
+    /// All vectors that no position and no group excludes, in the lexicographic order `<`, `=`, `>`.
     pub fn vectors(&self, alloc: Global) -> Result<Vec<Vector>, NoMemory>
         ensures { IfOk result (λ vectors. Spec.AreVectors self.now vectors.items) }
     {

@@ -1,4 +1,4 @@
 use Rattle.ped_tests.proofs.dependences.a_loop_carries_the_dependences_of_its_level.Given as goal
 
 abbrev pub ghosts-carried : goal.ghosts-carried
-ghosts-carried a = record { name = a.blank.name; parts = a.blank.parts }
+ghosts-carried g a = record { name = a.blank.name; parts = a.blank.parts }

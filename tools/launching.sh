@@ -28,9 +28,10 @@ want_toolchain() {
 }
 
 # Calls a function that makes a program, unless the program is there. Of launches at the same time one calls it, and the
-# others wait for it.
+# others wait for it. It works in a shell of its own, which an interrupt ends however the interrupted command ends.
 in_turn() (
     make=$1 program=$2
+    trap 'exit 130' INT
     exec 9>"$top/out/lock-$make" || fail 70 "can't write to $top/out"
     if command -v flock >/dev/null && ! flock -n 9; then
         say "another launch is building the program; waiting for it"

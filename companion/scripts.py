@@ -8,7 +8,7 @@ from __future__ import annotations
 
 import re
 from dataclasses import dataclass
-from typing import List, Tuple
+from typing import Callable, List, Optional, Sequence, Tuple
 
 from .lines import split_lines
 
@@ -60,3 +60,38 @@ def _command(lines: List[str], index: int, words: Tuple[str, ...]) -> Command:
     if "." in rest:
         return Command(index + 1, words, tuple(rest[:rest.index(".")]))
     return Command(index + 1, words, tuple(rest), closed=False)
+
+
+@dataclass(frozen=True)
+class WovenScript:
+    """A script with further commands in it."""
+
+    text: str
+    #: For each command of the new script the command of the old one that it is; none for a further command.
+    origins: Tuple[Optional[Command], ...]
+
+
+def weave(script: str, behind: Callable[[Command], Sequence[str]], at_end: Sequence[str]) -> WovenScript:
+    """A script with further commands behind some of its own, and at its end.
+
+    Where the script ends in the text of an edit, which ped refuses, the further commands stand before this edit: behind
+    it they would be its text.
+    """
+    old = split_lines(script)
+    lines: List[str] = []
+    origins: List[Optional[Command]] = []
+
+    def add(further: Sequence[str]) -> None:
+        lines.extend(further)
+        origins.extend(None for _ in further)
+
+    commands = read_script(script)
+    for command in commands:
+        if not command.closed:
+            add(at_end)
+        lines.extend(old[command.line - 1:command.last_line])
+        origins.append(command)
+        add(behind(command))
+    if all(command.closed for command in commands):
+        add(at_end)
+    return WovenScript("".join(line + "\n" for line in lines), tuple(origins))

@@ -71,7 +71,7 @@ class Panes:
 def read_panes(rows: Sequence[str]) -> Panes:
     """Both panes, the source pane first; nothing else may stand there."""
     count = len(source_pane(rows))
-    return Panes(_source(rows[:count]), _dependences(rows[count:]))
+    return Panes(read_source(rows[:count]), read_dependences(rows[count:]))
 
 
 def source_pane(rows: Sequence[str]) -> Sequence[str]:
@@ -84,19 +84,10 @@ def dependence_pane(rows: Sequence[str]) -> Sequence[str]:
     return _pane(rows, _DEPENDENCES)
 
 
-def read_dependences(rows: Sequence[str]) -> Tuple[Dependence, ...]:
-    """A dependence pane; nothing else may stand there."""
-    return _dependences(rows)
-
-
-def _pane(rows: Sequence[str], first: re.Pattern[str]) -> Sequence[str]:
-    match = first.fullmatch(rows[0]) if rows else None
-    if match is None or len(rows) <= int(match.group(1)):
-        raise NoPane(rows[0] if rows else "")
-    return rows[:int(match.group(1)) + 1]
-
-
-def _source(rows: Sequence[str]) -> Tuple[SourceRow, ...]:
+def read_source(rows: Sequence[str]) -> Tuple[SourceRow, ...]:
+    """A source pane; nothing else may stand there."""
+    if len(source_pane(rows)) != len(rows):
+        raise NoPane(rows[-1])
     result = []
     for row in rows[1:]:
         match = _SOURCE_ROW.fullmatch(row)
@@ -107,10 +98,18 @@ def _source(rows: Sequence[str]) -> Tuple[SourceRow, ...]:
     return tuple(result)
 
 
-def _dependences(rows: Sequence[str]) -> Tuple[Dependence, ...]:
+def read_dependences(rows: Sequence[str]) -> Tuple[Dependence, ...]:
+    """A dependence pane; nothing else may stand there."""
     if len(dependence_pane(rows)) != len(rows):
         raise NoPane(rows[-1])
     return tuple(read_dependence(row) for row in rows[1:])
+
+
+def _pane(rows: Sequence[str], first: re.Pattern[str]) -> Sequence[str]:
+    match = first.fullmatch(rows[0]) if rows else None
+    if match is None or len(rows) <= int(match.group(1)):
+        raise NoPane(rows[0] if rows else "")
+    return rows[:int(match.group(1)) + 1]
 
 
 def read_dependence(row: str) -> Dependence:

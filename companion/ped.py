@@ -27,13 +27,18 @@ def find_ped(given: Optional[str]) -> str:
     return given or os.environ.get("PEDX_PED") or str(Path(__file__).resolve().parent.parent / "ped")
 
 
+def shown(name: str) -> str:
+    """The name of a file as it stands in messages, which are written in the same encoding."""
+    return os.fsencode(name).decode(ENCODING)
+
+
 def read_file(name: str) -> str:
     """The whole text of a file."""
     try:
         with open(name, "rb") as file:
             return file.read().decode(ENCODING)
     except OSError as error:
-        raise CompanionError(Status.NOT_READ, f"cannot read {name}: {error.strerror}") from error
+        raise CompanionError(Status.NOT_READ, f"cannot read {shown(name)}: {error.strerror}") from error
 
 
 class Ped:
@@ -62,8 +67,8 @@ class Ped:
                 Path(folder, name).write_bytes(text.encode(ENCODING))
             status, answer = self._run(words, folder)
         rows = split_lines(answer)
-        if status > 1:
-            raise self._failed(status, rows)
+        if status not in (Status.DONE, Status.LINE_REFUSED):
+            raise self._failed(status, rows[-1] if rows else "", files["program"])
         return rows
 
     def _run(self, words: List[str], folder: str) -> Tuple[int, str]:
@@ -73,19 +78,19 @@ class Ped:
                 [program, *words], cwd=folder, stdin=subprocess.DEVNULL, stdout=subprocess.PIPE, check=False
             )
         except OSError as error:
-            message = f"cannot start {self._program}: {error.strerror}; --ped or PEDX_PED names the program ped"
+            message = f"cannot start {shown(self._program)}: {error.strerror}; --ped or PEDX_PED names the program ped"
             raise CompanionError(Status.NO_PED, message) from error
         return done.returncode, done.stdout.decode(ENCODING)
 
-    def _failed(self, status: int, rows: List[str]) -> CompanionError:
-        """The error that a status of ped stands for."""
-        last = rows[-1] if rows else ""
+    def _failed(self, status: int, last: str, source: str) -> CompanionError:
+        """The error that a status of ped stands for, by the last row that it has printed."""
         refused = _REFUSED.fullmatch(last)
         if status == Status.PROGRAM_REFUSED and refused is not None:
-            return ProgramRefused(int(refused.group(1)), refused.group(2), int(refused.group(3)))
+            return ProgramRefused(int(refused[1]), refused[2], int(refused[3]), source)
         too_long = _TOO_LONG.fullmatch(last)
         if status == Status.TOO_LONG and too_long is not None:
             return CompanionError(Status.TOO_LONG, f"the {too_long[1]} is longer than {too_long[2]} bytes")
         if status == Status.NO_MEMORY:
             return CompanionError(Status.NO_MEMORY, "ped ran out of memory")
-        return CompanionError(Status.NO_PED, f"{self._program} ended with status {status}: {last or 'nothing printed'}")
+        message = f"{shown(self._program)} ended with status {status}: {last or 'nothing printed'}"
+        return CompanionError(Status.NO_PED, message)

@@ -86,6 +86,13 @@ class Program:
         """The reference that the panes name by its statement and its number."""
         return self.statement(key[0]).references[key[1] - 1]
 
+    def has_reference(self, key: Tuple[int, int], name: str) -> bool:
+        """Whether there is a reference of this name with a statement and a number."""
+        if not 1 <= key[0] <= len(self.statements):
+            return False
+        references = self.statement(key[0]).references
+        return 1 <= key[1] <= len(references) and references[key[1] - 1].name == name
+
     def references(self) -> Iterator[Reference]:
         """All references in text order."""
         for statement in self.statements:

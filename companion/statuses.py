@@ -33,10 +33,11 @@ class CompanionError(Exception):
 
 
 class ProgramRefused(CompanionError):
-    """The program is refused: the number and the name of the refusal, and its line."""
+    """The program is refused: the number and the name of the refusal, its line, and the text of the program."""
 
-    def __init__(self, number: int, name: str, line: int) -> None:
+    def __init__(self, number: int, name: str, line: int, source: str) -> None:
         super().__init__(Status.PROGRAM_REFUSED, f"refused {number} {name} at {line}")
         self.number = number
         self.name = name
         self.line = line
+        self.source = source

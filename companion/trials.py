@@ -10,7 +10,7 @@ from .panes import Dependence, read_panes
 from .ped import Ped
 from .program import read_program
 from .replies import Reply
-from .views import View, carried_by
+from .views import View, by_carrier
 
 
 @dataclass(frozen=True)
@@ -82,7 +82,8 @@ def _outcome(trial: Trial, steps: Sequence[Reply], shown: Reply) -> Outcome:
     if refusal is not None:
         return Outcome(trial, refusal, ())
     panes = read_panes(shown.rows)
-    return Outcome(trial, None, tuple(carried_by(read_program(panes.lines), panes.dependences, trial.loop)))
+    carried = by_carrier(read_program(panes.lines), panes.dependences).get(trial.loop, [])
+    return Outcome(trial, None, tuple(carried))
 
 
 def steps_advised(ped: Ped, view: View, loops: Sequence[int]) -> Dict[int, List[str]]:

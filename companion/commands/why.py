@@ -145,8 +145,13 @@ def _about_subscripts(view: View, row: Dependence, source: Reference, sink: Refe
     for position in both:
         decides = " decides" if position is decisive else ""
         yield f"subscript {position.number}{decides}: {_about_position(view, position)}"
-    if carrier is not None and all(carrier.number not in position.indices for position in both):
+    if carrier is not None and all(_leaves_out(position, carrier) for position in both):
         yield f"{carrier.variable} stands in no subscript: all iterations of DO {carrier.variable} use the same elements"
+
+
+def _leaves_out(position: Position, loop: Loop) -> bool:
+    """Whether a position has a test, and the variable of a loop doesn't stand in it."""
+    return position.test is not Test.NONE and loop.number not in position.indices
 
 
 def _decisive(both: Sequence[Position], carrier: Optional[Loop]) -> Optional[Position]:

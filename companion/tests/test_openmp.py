@@ -170,7 +170,7 @@ def compared(sample: Sample) -> Tuple[Sample, str]:
         serial, parallel = executed(folder, "serial", sample.data), executed(folder, "parallel", sample.data)
     if serial != parallel:
         return sample, f"serial:\n{serial}\nparallel:\n{parallel}"
-    if without_blanks(serial) != wanted_of(run.rows):
+    if not is_wanted(serial, run.rows):
         return sample, f"compiled:\n{serial}\nped:\n{run.rows}"
     return sample, ""
 
@@ -192,15 +192,19 @@ def executed(folder: str, name: str, data: str) -> str:
     return done.stdout.decode(ENCODING)
 
 
-def wanted_of(rows: Tuple[str, ...]) -> str:
-    """What `run` shows, without blanks, without `| ` and without the row `ended`."""
-    shown = [row[2:] if row.startswith("| ") else row for row in rows if row != "ended"]
-    return without_blanks("".join(shown))
+def is_wanted(compiled_rows: str, rows: Tuple[str, ...]) -> bool:
+    """Whether a compiled program has printed what `run` shows.
 
-
-def without_blanks(text: str) -> str:
-    """A text without blanks and line ends: FORTRAN puts others between items than ped."""
-    return "".join(text.split())
+    FORTRAN puts other blanks between the items of a PRINT than ped. What is undefined, `?`, may be any number.
+    """
+    lines = compiled_rows.splitlines()
+    printed = "".join("".join(line.split()) for line in lines if not line.startswith(" live "))
+    live = [word for line in lines if line.startswith(" live ") for word in line.split()]
+    wanted = "".join("".join(row[2:].split()) for row in rows if row.startswith("| "))
+    wanted_live = [word for row in rows if row.startswith("live ") for word in row.split()]
+    return printed == wanted and len(live) == len(wanted_live) and all(
+        wanted_word in ("?", word) for word, wanted_word in zip(live, wanted_live)
+    )
 
 
 if __name__ == "__main__":

@@ -1,0 +1,72 @@
+"""What pedx warns of in a program that ped reads."""
+
+from __future__ import annotations
+
+from typing import Iterator, Sequence, Tuple
+
+from .lines import LAST_COLUMN, Place, is_comment
+from .messages import listed
+from .program import Loop, Program
+from .trials import carried_names
+from .views import View
+
+#: A place, and what is said of it.
+Caution = Tuple[Place, str]
+
+
+def past_last_column(lines: Sequence[str]) -> Iterator[Caution]:
+    """Text behind column 72, where nothing is read."""
+    for number, line in enumerate(lines, 1):
+        text = line[LAST_COLUMN:].strip(" ")
+        if text and not is_comment(line):
+            yield Place(number, LAST_COLUMN + 1), f"text past column {LAST_COLUMN} isn't read: {text}"
+
+
+def parallel_loops(view: View) -> Iterator[Caution]:
+    """PARALLEL DO loops that carry dependences."""
+    for loop in view.program.loops.values():
+        names = carried_names(view.carried_by(loop))
+        if loop.form.parallel and names:
+            place = view.program.statement(loop.number).span.start
+            yield place, f"the iterations of this PARALLEL DO may race: it carries dependences of {listed(names)}"
+
+
+def idle_directives(view: View) -> Iterator[Caution]:
+    """Directives that reject nothing."""
+    for loop in view.program.loops.values():
+        rejected = {row.name for row in view.carried_by(loop) if row.is_rejected}
+        for directive in loop.directives:
+            if directive.name not in rejected:
+                yield Place(directive.line, 1), f"this directive rejects nothing: loop {loop.number} carries nothing " \
+                    f"pending of {directive.name}"
+
+
+def untidy_loops(view: View) -> Iterator[Caution]:
+    """PARALLEL DO loops that aren't tidy, as docs/COMMANDS.md says it; of SAVE as far as it is seen without paths."""
+    program = view.program
+    for loop in program.loops.values():
+        if not loop.form.parallel:
+            continue
+        place = program.statement(loop.number).span.start
+        for variable in dict.fromkeys([loop.variable, *(inner.variable for inner in program.inner_loops(loop))]):
+            writers = [number for number in _assigning(program, variable) if number in loop]
+            if writers:
+                yield place, f"this PARALLEL DO isn't tidy: statement {writers[0]} in it assigns {variable}, the " \
+                    "variable of a loop"
+            elif variable in program.saved and not _may_overwrite(program, loop, variable):
+                yield place, f"this PARALLEL DO isn't tidy: {variable} is in SAVE, and nothing behind the loop assigns it"
+
+
+def _assigning(program: Program, name: str) -> Iterator[int]:
+    """The statements that assign a scalar outside the loops of it, each of them perhaps more than once."""
+    return (one.statement for one in program.references() if one.writes and one.name == name)
+
+
+def _may_overwrite(program: Program, loop: Loop, variable: str) -> bool:
+    """Whether a statement that may come behind a loop gives its variable a value."""
+    loops = (one.number for one in program.loops.values() if one.variable == variable and one is not loop)
+    outermost = program.loops[loop.nest[0]]
+    return any(
+        number > loop.last or number in outermost and number not in loop
+        for number in [*_assigning(program, variable), *loops]
+    )

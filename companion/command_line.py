@@ -1,0 +1,172 @@
+"""The command line of pedx: its words, what they call, and how a call ends."""
+
+from __future__ import annotations
+
+import argparse
+import os
+import sys
+from typing import BinaryIO, Callable, Dict, List, Optional, Tuple
+
+from .commands.check import check, refusal_rows
+from .commands.export import export
+from .commands.graph import graph
+from .commands.loops import loops
+from .commands.omp import omp
+from .commands.why import Wanted, why
+from .messages import ERROR
+from .panes import KINDS, MARKS
+from .ped import ENCODING, Ped, find_ped, shown
+from .statuses import CompanionError, ProgramRefused, Status
+from .views import Question, View, open_view
+
+_DESCRIPTION = "The companion of ped: tables, sentences and files made from what ped prints of a program."
+_STATUSES = """\
+exit statuses (0 to 7 are those of ped):
+  0  done; check: there is nothing to complain of, but perhaps warnings
+  1  a line of the script was refused; all else is printed all the same
+  2  the words are wrong
+  3  a file can't be read or written
+  4  standard output didn't take all
+  5  the program is refused
+  6  there isn't enough memory
+  7  a file is too long
+  8  check: a run meets a fault
+  9  check: a run has a race
+ 10  check --strict: there is a warning
+ 11  ped can't be started, or answers what isn't understood
+ 12  graph --svg: dot of graphviz can't be started, or fails
+
+docs/COMPANION.md is the manual.
+"""
+
+#: Parentheses nest up to 660 deep in a statement, and the calls that read them twice as deep.
+_DEPTH = 5000
+
+#: What a command answers: the text of standard output, that of standard error, and the status.
+Answer = Tuple[str, str, Status]
+
+
+def main(words: Optional[List[str]] = None) -> int:
+    """Carries out a call with these words, and answers its exit status."""
+    sys.setrecursionlimit(max(_DEPTH, sys.getrecursionlimit()))
+    options = _parser().parse_args(words)
+    question = Question(options.file, options.script, options.data, options.printed)
+    if question.data is not None and question.script is None and options.command != "check":
+        return _ended(f"pedx: {ERROR}: --data wants --script\n", Status.BAD_WORDS)
+    try:
+        out, messages, status = _answer(options, question, Ped(find_ped(options.ped)))
+        _write(getattr(options, "output", None), out)
+    except ProgramRefused as refusal:
+        rows = refusal_rows(question.name, refusal)
+        return _ended("".join(row + "\n" for row in rows), refusal.status)
+    except CompanionError as error:
+        return _ended(f"pedx: {ERROR}: {error.message}\n", error.status)
+    return _ended(messages, status)
+
+
+def _answer(options: argparse.Namespace, question: Question, ped: Ped) -> Answer:
+    if options.command == "check":
+        runs = options.run or options.script is not None or options.data is not None
+        report = check(ped, question, runs, options.strict)
+        return report.text, "", report.status
+    view = open_view(ped, question)
+    out = _COMMANDS[options.command](options, view, ped)
+    messages = "".join(row + "\n" for row in view.complaints)
+    return out, messages, Status.LINE_REFUSED if view.complaints else Status.DONE
+
+
+def _why(options: argparse.Namespace, view: View, ped: Ped) -> str:
+    return why(view, Wanted(options.loop, options.statement, options.name, options.kind, options.mark))
+
+
+_COMMANDS: Dict[str, Callable[[argparse.Namespace, View, Ped], str]] = {
+    "loops": lambda options, view, ped: loops(view, ped, options.loops, options.trials),
+    "why": _why,
+    "omp": lambda options, view, ped: omp(view, options.live),
+    "graph": lambda options, view, ped: graph(view, options.loop, options.svg),
+    "json": lambda options, view, ped: export(view),
+}
+
+
+def _parser() -> argparse.ArgumentParser:
+    layout = argparse.RawDescriptionHelpFormatter
+    parser = argparse.ArgumentParser("pedx", description=_DESCRIPTION, epilog=_STATUSES, formatter_class=layout)
+    commands = parser.add_subparsers(dest="command", metavar="COMMAND", required=True)
+
+    def add(name: str, words: str) -> argparse.ArgumentParser:
+        command = commands.add_parser(
+            name, help=words, description=words[0].upper() + words[1:] + ".", epilog=_STATUSES, formatter_class=layout
+        )
+        command.add_argument("file", metavar="FILE", help="the program")
+        _add_common(command)
+        return command
+
+    command = add("loops", "say which loops are parallel, what the others carry, and what to try there")
+    command.add_argument("loops", metavar="S", type=int, nargs="*", help="the statement numbers of the wanted loops")
+    command.add_argument("--no-trials", dest="trials", action="store_false", help="try no steps in a session")
+    _add_filters(add("why", "say of each row of the dependence pane why it is there"))
+    command = add("omp", "write the program as FORTRAN 77 with OpenMP directives, for gfortran -fopenmp")
+    command.add_argument("--live", action="store_true", help="print the variables in SAVE at the end")
+    _add_output(command)
+    command = add("check", "say what is wrong with a program, with a script, or with a run")
+    command.add_argument("--run", action="store_true", help="run it, too; so do --script and --data")
+    command.add_argument("--strict", action="store_true", help="end with status 10 where there is a warning")
+    command = add("graph", "write the dependence graph of a loop, or of the program, for graphviz")
+    command.add_argument("loop", metavar="S", type=int, nargs="?", help="the statement number of the loop")
+    command.add_argument("--svg", action="store_true", help="have dot of graphviz draw it")
+    _add_output(command)
+    _add_output(add("json", "write the source, the loops, the references and the dependences as JSON"))
+    return parser
+
+
+def _add_common(command: argparse.ArgumentParser) -> None:
+    command.add_argument("--script", metavar="SCRIPT", help="look at the program behind this script of a session")
+    command.add_argument("--data", metavar="DATA", help="the data for the runs of the script, or of check")
+    command.add_argument("--printed", action="store_true", help="name lines of the printed source, not those of FILE")
+    command.add_argument("--ped", metavar="PATH", help="the program ped; else PEDX_PED, else ped beside pedx")
+
+
+def _add_filters(command: argparse.ArgumentParser) -> None:
+    words = "; may be repeated"
+    command.add_argument("--loop", metavar="S", type=int, action="append", default=[], help="carried by loop S" + words)
+    command.add_argument(
+        "--statement", metavar="S", type=int, action="append", default=[], help="from or to statement S" + words
+    )
+    command.add_argument("--name", metavar="NAME", action="append", default=[], help="of this variable" + words)
+    command.add_argument("--kind", choices=KINDS, action="append", default=[], help="of this kind" + words)
+    command.add_argument("--mark", choices=MARKS, action="append", default=[], help="with this mark" + words)
+
+
+def _add_output(command: argparse.ArgumentParser) -> None:
+    command.add_argument("-o", "--output", metavar="OUT", help="write to this file, not to standard output")
+
+
+def _write(name: Optional[str], text: str) -> None:
+    """Writes a text to a file, or to standard output."""
+    if name is None:
+        _put(sys.stdout.buffer, text)
+        return
+    try:
+        with open(name, "wb") as file:
+            file.write(text.encode(ENCODING))
+    except OSError as error:
+        raise CompanionError(Status.NOT_READ, f"cannot write {shown(name)}: {error.strerror}") from error
+
+
+def _put(stream: BinaryIO, text: str) -> None:
+    try:
+        stream.write(text.encode(ENCODING, "replace"))
+        stream.flush()
+    except OSError as error:
+        # What is left in the buffer can't be written at exit either.
+        os.dup2(os.open(os.devnull, os.O_WRONLY), stream.fileno())
+        raise CompanionError(Status.NOT_WRITTEN, f"cannot write: {error.strerror}") from error
+
+
+def _ended(messages: str, status: Status) -> int:
+    """Writes the messages to standard error; that they can't be written changes nothing."""
+    try:
+        _put(sys.stderr.buffer, messages)
+    except CompanionError:
+        pass
+    return int(status)

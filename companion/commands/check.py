@@ -1,0 +1,161 @@
+"""`pedx check`: what is wrong with a program, a script or a run, as compilers say it."""
+
+from __future__ import annotations
+
+from dataclasses import dataclass, field
+from typing import Iterator, List, Optional, Sequence, Tuple
+
+from ..cautions import idle_directives, parallel_loops, past_last_column, untidy_loops
+from ..expressions import Span
+from ..faults import FAULTS, NO_DATA
+from ..lines import Place, split_lines
+from ..messages import ERROR, NOTE, WARNING, Mark, excerpt, located
+from ..panes import read_panes, read_source
+from ..ped import Ped, read_file
+from ..program import Program, read_program
+from ..refusals import REFUSALS
+from ..replies import Fault, Race, Reply
+from ..scripts import Command, weave
+from ..statuses import ProgramRefused, Status
+from ..suspects import suspect
+from ..views import Question, View, complaints, view_of_file, view_of_panes
+
+
+@dataclass
+class Report:
+    """What is printed, and the status of the call."""
+
+    rows: List[str] = field(default_factory=list)
+    status: Status = Status.DONE
+
+    def add(self, rows: Sequence[str], status: Status = Status.DONE) -> None:
+        """Adds rows; the gravest status counts."""
+        self.rows.extend(rows)
+        self.status = max(self.status, status, key=_GRAVITY.index)
+
+    @property
+    def text(self) -> str:
+        """The printed text."""
+        return "".join(row + "\n" for row in self.rows)
+
+
+_GRAVITY = [
+    Status.DONE, Status.WARNING, Status.LINE_REFUSED, Status.FAULT, Status.RACE, Status.PROGRAM_REFUSED,
+]
+
+
+def check(ped: Ped, question: Question, runs: bool, strict: bool) -> Report:
+    """Checks a program; with `runs` also that it runs without a fault and without a race."""
+    report = Report()
+    source = read_file(question.file)
+    cautions = past_last_column(split_lines(source))
+    warnings = [located(question.name, place, f"{WARNING}: {words}") for place, words in cautions]
+    try:
+        if question.script is None and not runs:
+            view = view_of_file(ped.show(source), source, question)
+        else:
+            view = _session(report, ped, question, source)
+    except ProgramRefused as refusal:
+        report.add(warnings)
+        report.add(list(refusal_rows(question.name, refusal)), Status.PROGRAM_REFUSED)
+        return report
+    found = sorted([*parallel_loops(view), *untidy_loops(view), *idle_directives(view)])
+    warnings.extend(located(view.name, place, f"{WARNING}: {words}") for place, words in found)
+    report.add(warnings, Status.WARNING if strict and warnings else Status.DONE)
+    return report
+
+
+def refusal_rows(name: str, refusal: ProgramRefused) -> Iterator[str]:
+    """A refusal of a program with its line, its rule and what to write instead."""
+    lines = split_lines(refusal.source)
+    known = REFUSALS.get(refusal.number)
+    place, about = suspect(lines, refusal.number, refusal.line)
+    rule = f": {known.rule}" if known is not None else ""
+    yield located(name, place, f"{ERROR}: {refusal.number} {refusal.name}{rule}" + (f": {about}" if about else ""))
+    if place.line <= len(lines):
+        yield from excerpt(lines, [Mark(Span(place, Place(place.line, place.column + len(about or "1") - 1)), "^")])
+    if known is not None:
+        yield located(name, place, f"{NOTE}: {known.instead}")
+
+
+def _session(report: Report, ped: Ped, question: Question, source: str) -> View:
+    """Carries a script out, and reports what was refused, and faults and races of each run and of the last program."""
+    script = read_file(question.script) if question.script is not None else ""
+    data = read_file(question.data) if question.data is not None else None
+    woven = weave(script, _source_behind_runs, ["races", "show"])
+    replies = list(zip(woven.origins, ped.session(source, woven.text, data)))
+    refused = list(complaints(question.script_name, replies))
+    report.add(refused, Status.LINE_REFUSED if refused else Status.DONE)
+    panes = read_panes(replies[-1][1].rows if replies[-1][0] is None else replies[-2][1].rows)
+    view = view_of_panes(panes) if question.script is not None else view_of_file(panes, source, question)
+    _report_runs(report, question, view, replies)
+    return view
+
+
+def _source_behind_runs(command: Command) -> List[str]:
+    return ["source"] if command.word in ("run", "races") else []
+
+
+def _report_runs(
+    report: Report, question: Question, view: View, replies: Sequence[Tuple[Optional[Command], Reply]]
+) -> None:
+    """Reports the faults and races of the runs of a script, and of the run of the last program."""
+    for (origin, reply), (_, shown) in zip(replies, replies[1:]):
+        if origin is not None and question.script is not None:
+            lines = [row.text for row in read_source(shown.rows)] if reply.fault or reply.race else []
+            about = _about_run(reply, read_program(lines))
+            if about is not None:
+                report.add(about.rows(question.script_name, Place(origin.line, 1), lines), about.status)
+        elif reply.command.word == "races":
+            about = _about_run(reply, view.program)
+            if about is None:
+                report.add([f"{question.name}: {NOTE}: {_which(question)} runs without a fault and without a race"])
+            elif reply.fault is not None and reply.fault.number == NO_DATA and question.data is None:
+                report.add([f"{question.name}: {NOTE}: {_which(question)} reads data, and none are given"])
+            else:
+                report.add(about.rows(view.name, about.place, view.lines), about.status)
+
+
+def _which(question: Question) -> str:
+    return "the program" if question.script is None else "the last program of the script"
+
+
+@dataclass(frozen=True)
+class _Accident:
+    """A fault or a race of a run: what is said of it, and the references that are marked."""
+
+    words: str
+    marks: List[Mark]
+    status: Status
+
+    @property
+    def place(self) -> Place:
+        """Where the first reference stands."""
+        return self.marks[0].span.start
+
+    def rows(self, name: str, place: Place, lines: Sequence[str]) -> List[str]:
+        """The message at a place of a file, and the marked lines of the program."""
+        return [located(name, place, f"{ERROR}: {self.words}"), *excerpt(lines, list(dict.fromkeys(self.marks)))]
+
+
+def _about_run(reply: Reply, program: Program) -> Optional[_Accident]:
+    """What came of a `run` or a `races`, where it is a fault or a race."""
+    if reply.fault is not None:
+        return _about_fault(reply.fault, program)
+    return _about_race(reply.race, program) if reply.race is not None else None
+
+
+def _about_fault(fault: Fault, program: Program) -> _Accident:
+    words = f"fault {fault.number} at statement {fault.statement}: {FAULTS.get(fault.number, 'unknown')}"
+    return _Accident(words, [Mark(program.statement(fault.statement).span, "^")], Status.FAULT)
+
+
+def _about_race(race: Race, program: Program) -> _Accident:
+    variable = race.cell if race.cell.startswith("(") else race.cell.partition("(")[0]
+    marks = []
+    for number, sign in ((race.first, "^"), (race.second, "~")):
+        statement = program.statement(number)
+        spans = [reference.span for reference in statement.references if reference.name == variable]
+        marks.extend(Mark(span, sign, f"statement {number}") for span in spans or [statement.span])
+    words = f"race: two iterations of a PARALLEL DO use {race.cell}, at statements {race.first} and {race.second}"
+    return _Accident(words, marks, Status.RACE)

@@ -1,0 +1,84 @@
+"""`pedx loops`: which loops are parallel, what the others carry, and what to try there."""
+
+from __future__ import annotations
+
+from typing import Iterator, List, Sequence, Tuple
+
+from ..advice import Adviser
+from ..messages import counted, listed
+from ..panes import KINDS, MARKS, Dependence
+from ..ped import Ped
+from ..program import Loop
+from ..statuses import CompanionError, Status
+from ..trials import carried_names
+from ..views import View
+
+
+def loops(view: View, ped: Ped, numbers: Sequence[int], tries: bool) -> str:
+    """The table of the loops, or of those with these statement numbers."""
+    chosen = [find_loop(view, number) for number in numbers] or list(view.program.loops.values())
+    if not chosen:
+        return "no loops\n"
+    adviser = Adviser(view, ped, chosen, tries)
+    headers = [_header(loop) for loop in chosen]
+    width = max(map(len, headers + ["loop"]))
+    rows = [f"{'S':>4} {'line':>5}  {'loop':{width}}  verdict"]
+    for loop, header in zip(chosen, headers):
+        line = view.program.statement(loop.number).line
+        rows.append(f"{loop.number:4} {line:5}  {header:{width}}  {_verdict(view, loop)}")
+        rows.extend(" " * 14 + remark for remark in _remarks(view, adviser, loop))
+    return "".join(row.rstrip() + "\n" for row in rows)
+
+
+def find_loop(view: View, number: int) -> Loop:
+    """The loop of a statement."""
+    loop = view.program.loops.get(number)
+    if loop is None:
+        known = ", ".join(str(one) for one in view.program.loops) or "there is none"
+        raise CompanionError(Status.BAD_WORDS, f"statement {number} of {view.name} is no DO; the loops are: {known}")
+    return loop
+
+
+def _header(loop: Loop) -> str:
+    """The header of a loop without its label, two blanks further for each loop round it."""
+    form = loop.form
+    bounds = [form.first, form.last] + ([form.step] if form.step is not None else [])
+    word = "PARALLEL DO" if form.parallel else "DO"
+    text = f"{word} {loop.variable} = {', '.join(bound.text for bound in bounds)}"
+    indented = "  " * (loop.level - 1) + text
+    return indented if len(indented) <= 48 else indented[:46] + ".."
+
+
+def _verdict(view: View, loop: Loop) -> str:
+    rows = view.carried_by(loop)
+    names = carried_names(rows)
+    if names:
+        return f"PARALLEL DO, but carries {listed(names)}" if loop.form.parallel else f"carries {listed(names)}"
+    verdict = "parallel" if loop.form.parallel else "free"
+    rejected = list(dict.fromkeys(row.name for row in rows))
+    return f"{verdict}: carries nothing" + (f" but what is rejected of {listed(rejected)}" if rejected else "")
+
+
+def _remarks(view: View, adviser: Adviser, loop: Loop) -> Iterator[str]:
+    rows = view.carried_by(loop)
+    for name in carried_names(rows):
+        mine = [row for row in rows if row.name == name]
+        yield f"{name}: {_summary(mine)}"
+        for advice in adviser.about_name(loop, name, mine):
+            yield f"- {advice}"
+    for advice in adviser.about_loop(loop):
+        yield f"- {advice}"
+
+
+def _summary(rows: List[Dependence]) -> str:
+    """The kinds, the number and the marks of some rows."""
+    kinds = [kind for kind in KINDS if any(row.kind == kind for row in rows)]
+    return f"{', '.join(kinds)} ({counted(len(rows), 'row')}), {_marks(rows)}"
+
+
+def _marks(rows: List[Dependence]) -> str:
+    counts: List[Tuple[int, str]] = [(sum(row.mark == mark for row in rows), mark) for mark in MARKS]
+    present = [(count, mark) for count, mark in counts if count]
+    if len(present) == 1:
+        return present[0][1]
+    return listed([f"{count} {mark}" for count, mark in present])

@@ -1,0 +1,207 @@
+"""Lines in fixed form: which columns hold what, and how a statement goes on in further lines.
+
+The rules are those of docs/LANGUAGE.md, "Lines": columns 1 to 5 hold a label, column 6 tells a continuation line, and
+columns 7 to 72 hold the statement. Blanks mean nothing but in character constants.
+"""
+
+from __future__ import annotations
+
+from dataclasses import dataclass
+from typing import Iterator, List, NamedTuple, Optional, Sequence, Tuple, Union, overload
+
+FIRST_COLUMN = 7
+LAST_COLUMN = 72
+
+
+class Place(NamedTuple):
+    """A line and a column of a text, both counted from 1."""
+
+    line: int
+    column: int
+
+
+@dataclass(frozen=True)
+class Character:
+    """A character of a statement, with the places of its first and its last byte.
+
+    Letters are capitals. A whole character constant, with its apostrophes, is one of these.
+    """
+
+    text: str
+    start: Place
+    end: Place
+
+    @property
+    def is_constant(self) -> bool:
+        """Whether this is a character constant."""
+        return self.text[0] == "'"
+
+
+class Text(Sequence[Character]):
+    """Characters of one statement, without the blanks that mean nothing."""
+
+    def __init__(self, characters: Sequence[Character]) -> None:
+        self._characters = tuple(characters)
+        #: One letter for each character, an apostrophe for a character constant.
+        self.letters = "".join(character.text[0] for character in self._characters)
+
+    @overload
+    def __getitem__(self, index: int) -> Character: ...
+
+    @overload
+    def __getitem__(self, index: slice) -> Text: ...
+
+    def __getitem__(self, index: Union[int, slice]) -> Union[Character, Text]:
+        if isinstance(index, slice):
+            return Text(self._characters[index])
+        return self._characters[index]
+
+    def __len__(self) -> int:
+        return len(self._characters)
+
+    def __str__(self) -> str:
+        return "".join(character.text for character in self._characters)
+
+    def split(self, separator: str) -> List[Text]:
+        """The parts between the separators that stand outside parentheses."""
+        parts = []
+        begin = 0
+        for index in self.outside_parentheses(separator):
+            parts.append(self[begin:index])
+            begin = index + 1
+        parts.append(self[begin:])
+        return parts
+
+    def outside_parentheses(self, letter: str) -> Iterator[int]:
+        """The indices at which a letter stands outside parentheses."""
+        depth = 0
+        for index, here in enumerate(self.letters):
+            if here == "(":
+                depth += 1
+            elif here == ")":
+                depth -= 1
+            elif here == letter and depth == 0:
+                yield index
+
+    def closing(self, opening: int) -> int:
+        """The index of the parenthesis that closes the one at an index; the text's end where there is none."""
+        depth = 0
+        for index in range(opening, len(self)):
+            if self.letters[index] == "(":
+                depth += 1
+            elif self.letters[index] == ")":
+                depth -= 1
+                if depth == 0:
+                    return index
+        return len(self)
+
+
+@dataclass(frozen=True)
+class Directive:
+    """A directive `C$PED REJECT NAME`."""
+
+    line: int
+    name: str
+
+
+@dataclass(frozen=True)
+class WrittenStatement:
+    """A statement as it is written: its lines, its label and its text."""
+
+    first_line: int
+    last_line: int
+    label: Optional[int]
+    text: Text
+    directives: Tuple[Directive, ...]
+
+
+def split_lines(text: str) -> List[str]:
+    """The lines of a text; a line feed ends a line, and one carriage return before it is no part of the line."""
+    lines = text.split("\n")
+    if lines[-1] == "":
+        lines.pop()
+    return [line[:-1] if line.endswith("\r") else line for line in lines]
+
+
+def is_comment(line: str) -> bool:
+    """Whether a line is a comment: by its first column, or since it is blank up to column 72."""
+    return line[:1] in ("C", "c", "*") or not line[:LAST_COLUMN].strip(" ")
+
+
+def is_continuation(line: str) -> bool:
+    """Whether a line that is no comment goes on with the statement before it."""
+    return line[5:6] not in ("", " ", "0")
+
+
+def read_statements(lines: Sequence[str]) -> List[WrittenStatement]:
+    """The statements of a text that ped reads."""
+    statements = []
+    directives: List[Directive] = []
+    group: List[int] = []
+    for number, line in enumerate(lines, 1):
+        if is_comment(line):
+            name = _rejected_name(line)
+            if name is not None:
+                directives.append(Directive(number, name))
+        elif is_continuation(line) and group:
+            group.append(number)
+        else:
+            if group:
+                statements.append(_statement(lines, group, own))
+            group = [number]
+            own, directives = tuple(directives), []
+    if group:
+        statements.append(_statement(lines, group, own))
+    return statements
+
+
+def _rejected_name(line: str) -> Optional[str]:
+    """The name in a directive, none where the comment is no directive."""
+    words = line[5:LAST_COLUMN].replace(" ", "").upper()
+    if line[1:5].upper() == "$PED" and words.startswith("REJECT"):
+        return words[len("REJECT"):]
+    return None
+
+
+def _statement(lines: Sequence[str], group: Sequence[int], directives: Tuple[Directive, ...]) -> WrittenStatement:
+    label = lines[group[0] - 1][:5].replace(" ", "")
+    return WrittenStatement(
+        first_line=group[0],
+        last_line=group[-1],
+        label=int(label) if label.isdigit() else None,
+        text=_joined(lines, group),
+        directives=directives,
+    )
+
+
+def _joined(lines: Sequence[str], group: Sequence[int]) -> Text:
+    """The text of a statement: its columns 7 to 72, joined; a shorter line counts as filled with blanks."""
+    letters = []
+    places = []
+    for number in group:
+        letters.append(lines[number - 1][FIRST_COLUMN - 1:LAST_COLUMN].ljust(LAST_COLUMN - FIRST_COLUMN + 1))
+        places.extend(Place(number, column) for column in range(FIRST_COLUMN, LAST_COLUMN + 1))
+    return Text(list(_characters("".join(letters), places)))
+
+
+def _characters(letters: str, places: Sequence[Place]) -> Iterator[Character]:
+    index = 0
+    while index < len(letters):
+        end = _end_of_constant(letters, index) if letters[index] == "'" else index
+        if letters[index] == "'":
+            yield Character(letters[index:end + 1], places[index], places[end])
+        elif letters[index] != " ":
+            yield Character(letters[index].upper(), places[index], places[index])
+        index = end + 1
+
+
+def _end_of_constant(letters: str, begin: int) -> int:
+    """The index of the apostrophe that ends a constant; one that is written twice doesn't."""
+    index = begin + 1
+    while index < len(letters):
+        if letters[index] == "'":
+            if letters[index + 1:index + 2] != "'":
+                return index
+            index += 1
+        index += 1
+    return len(letters) - 1

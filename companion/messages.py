@@ -1,0 +1,63 @@
+"""Messages as compilers print them, and lines of a program with marks below them."""
+
+from __future__ import annotations
+
+from dataclasses import dataclass
+from typing import List, Sequence
+
+from .expressions import Span
+from .lines import LAST_COLUMN, Place
+
+ERROR = "error"
+WARNING = "warning"
+NOTE = "note"
+
+
+@dataclass(frozen=True)
+class Mark:
+    """Characters of a program to be marked, by a sign below each, and what is said of them."""
+
+    span: Span
+    sign: str
+    words: str = ""
+
+
+def located(name: str, place: Place, words: str) -> str:
+    """A message about a place of a file."""
+    return f"{name}:{place.line}:{place.column}: {words}"
+
+
+def excerpt(lines: Sequence[str], marks: Sequence[Mark]) -> List[str]:
+    """The lines of a program that hold marks, each with its marks below it."""
+    rows = []
+    for number in sorted({number for mark in marks for number in _lines_of(mark)}):
+        rows.append(f"{number:5} | {lines[number - 1]}".rstrip())
+        for mark in marks:
+            if number in _lines_of(mark):
+                rows.append(f"      | {_below(lines[number - 1], number, mark)}".rstrip())
+    return rows
+
+
+def _lines_of(mark: Mark) -> range:
+    return range(mark.span.start.line, mark.span.end.line + 1)
+
+
+def _below(line: str, number: int, mark: Mark) -> str:
+    """What stands below a line that holds a mark, or a part of it; the words stand below the last part."""
+    start, end = mark.span
+    first = start.column if number == start.line else 7
+    last = end.column if number == end.line else min(len(line), LAST_COLUMN)
+    words = f" {mark.words}" if mark.words and number == end.line else ""
+    return " " * (first - 1) + mark.sign * max(last - first + 1, 1) + words
+
+
+def listed(words: Sequence[str], last: str = "and") -> str:
+    """Words with commas between them, and `and` before the last one."""
+    if len(words) < 2:
+        return "".join(words)
+    return f"{', '.join(words[:-1])} {last} {words[-1]}"
+
+
+def counted(count: int, word: str) -> str:
+    """A number with its word, which takes an `s` in the plural."""
+    return f"{count} {word}{'' if count == 1 else 's'}"

@@ -1,0 +1,236 @@
+"""A program: its numbered statements, its loops and what its names stand for.
+
+Both forms of a program are read: the text of a user, as docs/LANGUAGE.md allows it, and the text that ped prints.
+Statements are numbered as ped numbers them: a logical IF is two statements, and an ELSE IF is an IF of its own.
+"""
+
+from __future__ import annotations
+
+from dataclasses import dataclass, field
+from typing import Dict, FrozenSet, Iterator, List, Optional, Sequence, Set, Tuple
+
+from .expressions import Expression, Span, value_of
+from .lines import Directive, Text, WrittenStatement, read_statements
+from .references import Reference, references_of
+from .statements import (
+    Assignment, BlockIf, Declaration, Do, ElseIf, Form, LogicalIf, Name, Numbered, Parameter, Print, Private,
+    ProgramName, Read, Save, Word, read_form,
+)
+
+
+@dataclass(frozen=True)
+class Statement:
+    """A numbered statement: where it stands, its form, and the numbers of the loops and the IFs round it."""
+
+    number: int
+    span: Span
+    form: Numbered
+    loops: Tuple[int, ...]
+    ifs: Tuple[int, ...]
+    references: Tuple[Reference, ...] = ()
+
+    @property
+    def line(self) -> int:
+        """The line at which the statement begins."""
+        return self.span.start.line
+
+
+@dataclass
+class Loop:
+    """A DO: its statement, its header, and the loops round it with itself as the last one."""
+
+    number: int
+    form: Do
+    nest: Tuple[int, ...]
+    directives: Tuple[Directive, ...]
+    private: List[Name] = field(default_factory=list)
+    #: The last statement of the body, the DO itself where the body has none.
+    last: int = 0
+
+    @property
+    def level(self) -> int:
+        """1 for an outermost loop."""
+        return len(self.nest)
+
+    @property
+    def variable(self) -> str:
+        """The name of the loop's variable."""
+        return self.form.variable.name
+
+    @property
+    def rejected(self) -> List[str]:
+        """The names that directives reject at the loop."""
+        return [directive.name for directive in self.directives]
+
+    def __contains__(self, statement: int) -> bool:
+        """Whether a statement stands in the body."""
+        return self.number < statement <= self.last
+
+
+@dataclass
+class Program:
+    """A program that was read."""
+
+    name: Optional[str] = None
+    statements: List[Statement] = field(default_factory=list)
+    loops: Dict[int, Loop] = field(default_factory=dict)
+    constants: Dict[str, int] = field(default_factory=dict)
+    arrays: Dict[str, Tuple[str, ...]] = field(default_factory=dict)
+    saved: Set[str] = field(default_factory=set)
+
+    def statement(self, number: int) -> Statement:
+        """The statement with a number."""
+        return self.statements[number - 1]
+
+    def reference(self, key: Tuple[int, int]) -> Reference:
+        """The reference that the panes name by its statement and its number."""
+        return self.statement(key[0]).references[key[1] - 1]
+
+    def has_reference(self, key: Tuple[int, int], name: str) -> bool:
+        """Whether there is a reference of this name with a statement and a number."""
+        if not 1 <= key[0] <= len(self.statements):
+            return False
+        references = self.statement(key[0]).references
+        return 1 <= key[1] <= len(references) and references[key[1] - 1].name == name
+
+    def references(self) -> Iterator[Reference]:
+        """All references in text order."""
+        for statement in self.statements:
+            yield from statement.references
+
+    def loops_round(self, statement: int) -> List[Loop]:
+        """The loops in whose body a statement stands, the outermost first."""
+        return [self.loops[number] for number in self.statement(statement).loops]
+
+    def inner_loops(self, loop: Loop) -> List[Loop]:
+        """The loops in the body of a loop, in text order."""
+        return [inner for inner in self.loops.values() if inner.number in loop]
+
+    @property
+    def variables(self) -> FrozenSet[str]:
+        """The names of the variables of loops."""
+        return frozenset(loop.variable for loop in self.loops.values())
+
+
+def read_program(lines: Sequence[str]) -> Program:
+    """Reads a program that ped has read."""
+    reader = _Reader()
+    for written in read_statements(lines):
+        reader.take(written)
+    return reader.finish()
+
+
+@dataclass
+class _Block:
+    """A DO or an IF that is open: the number of its statement, and the label that ends a DO."""
+
+    number: int
+    is_loop: bool
+    label: Optional[int] = None
+    #: Whether this IF came by ELSE IF, so that its END IF ends the IF before it as well.
+    chained: bool = False
+
+
+class _Reader:
+    """Takes the statements of a program one after the other."""
+
+    def __init__(self) -> None:
+        self._program = Program()
+        self._blocks: List[_Block] = []
+        self._expressions: List[Tuple[str, Expression]] = []
+
+    def finish(self) -> Program:
+        """The program, with the references of its statements."""
+        program = self._program
+        constants = frozenset(program.constants)
+        for index, statement in enumerate(program.statements):
+            number = statement.number
+            excluded = constants.union(loop.variable for loop in program.loops_round(number))
+            private = program.loops[number].private if number in program.loops else []
+            references = references_of(number, statement.form, private, excluded)
+            program.statements[index] = Statement(
+                number, statement.span, statement.form, statement.loops, statement.ifs, tuple(references)
+            )
+        return program
+
+    def take(self, written: WrittenStatement) -> None:
+        """Takes a statement."""
+        form = read_form(written.text)
+        if isinstance(form, Word) and form.word in ("ELSE", "ENDIF", "ENDDO"):
+            self._end_part(form.word, written.label)
+        elif isinstance(form, (ProgramName, Declaration, Parameter, Save)):
+            self._declare(form)
+        elif isinstance(form, Private):
+            self._program.loops[self._blocks[-1].number].private.extend(form.names)
+        else:
+            self._execute(form, written)
+        if written.label is not None and not isinstance(form, Do):
+            self._end_loops(written.label)
+
+    def _declare(self, form: Form) -> None:
+        program = self._program
+        if isinstance(form, ProgramName):
+            program.name = form.name
+        elif isinstance(form, Declaration):
+            program.arrays.update({one.name: one.bounds for one in form.declarators if one.bounds})
+        elif isinstance(form, Parameter):
+            for name, expression in form.values:
+                value = value_of(expression, program.constants)
+                if value is not None:
+                    program.constants[name] = value
+        elif isinstance(form, Save):
+            program.saved.update(form.names)
+
+    def _execute(self, form: Form, written: WrittenStatement) -> None:
+        if isinstance(form, LogicalIf):
+            self._number(BlockIf(form.condition), written.text)
+            self._blocks.append(_Block(len(self._program.statements), is_loop=False))
+            inner = read_form(form.text)
+            if isinstance(inner, (Assignment, Print, Read)) or inner == Word("STOP"):
+                self._number(inner, form.text)
+            self._close_if()
+        elif isinstance(form, (BlockIf, ElseIf)):
+            self._number(BlockIf(form.condition), written.text)
+            number = len(self._program.statements)
+            self._blocks.append(_Block(number, is_loop=False, chained=isinstance(form, ElseIf)))
+        elif isinstance(form, Do):
+            self._number(form, written.text)
+            number = len(self._program.statements)
+            self._blocks.append(_Block(number, is_loop=True, label=form.label))
+            nest = self._open(loops=True)
+            self._program.loops[number] = Loop(number, form, nest, written.directives, last=number)
+        elif isinstance(form, (Assignment, Print, Read)) or form == Word("STOP"):
+            self._number(form, written.text)
+
+    def _number(self, form: Numbered, text: Text) -> None:
+        """Gives a statement the next number."""
+        program = self._program
+        span = Span(text[0].start, text[-1].end)
+        number = len(program.statements) + 1
+        loops = self._open(loops=True)
+        program.statements.append(Statement(number, span, form, loops, self._open(loops=False)))
+        for loop in loops:
+            program.loops[loop].last = number
+
+    def _open(self, loops: bool) -> Tuple[int, ...]:
+        """The numbers of the loops, or of the IFs, that are open."""
+        return tuple(block.number for block in self._blocks if block.is_loop == loops)
+
+    def _end_part(self, word: str, label: Optional[int]) -> None:
+        """Takes ELSE, END IF or END DO. ELSE leaves its IF open."""
+        if word == "ENDIF":
+            self._close_if()
+        elif word == "ENDDO" and self._blocks and self._blocks[-1].is_loop:
+            if label is None or self._blocks[-1].label != label:
+                self._blocks.pop()
+
+    def _close_if(self) -> None:
+        """Closes the innermost IF, and those of whose ELSE part it is the ELSE IF."""
+        while self._blocks and not self._blocks[-1].is_loop:
+            if not self._blocks.pop().chained:
+                return
+
+    def _end_loops(self, label: int) -> None:
+        """Ends the open loops with a label."""
+        while self._blocks and self._blocks[-1].is_loop and self._blocks[-1].label == label:
+            self._blocks.pop()

@@ -1,0 +1,141 @@
+"""What a session answers, taken apart: the rows that each command of a script has printed.
+
+docs/COMMANDS.md says what each command prints. A change and a refusal are answered in one row that begins with the
+line of the command; what is shown has no such number, and is told by its first words.
+"""
+
+from __future__ import annotations
+
+import re
+from dataclasses import dataclass
+from typing import Callable, Dict, List, Optional, Sequence, Tuple
+
+from .panes import dependence_pane, source_pane
+from .scripts import Command
+from .statuses import CompanionError, Status
+
+_ANSWER = re.compile(r"(\d+): (ok|refused .*)")
+_FAULT = re.compile(r"fault (\d+) at (\d+)")
+_RACE = re.compile(r"race (\S+) at (\d+) and (\d+)")
+_ADVICE = re.compile(r"(?:[a-z]+|peel first|peel last) (?:ok|refused .*)")
+_LAST_PRINTED = " " * 6 + "END"
+
+
+class NoReply(CompanionError):
+    """The answer isn't that of a session with these commands."""
+
+    def __init__(self, row: str) -> None:
+        super().__init__(Status.NO_PED, f"ped answered what isn't understood: {row!r}")
+
+
+@dataclass(frozen=True)
+class Fault:
+    """A run that met a fault: its number and the statement."""
+
+    number: int
+    statement: int
+
+
+@dataclass(frozen=True)
+class Race:
+    """A race: its cell, and the statements of the earlier and of the later access."""
+
+    cell: str
+    first: int
+    second: int
+
+
+@dataclass(frozen=True)
+class Reply:
+    """The rows that a command has printed."""
+
+    command: Command
+    rows: Tuple[str, ...]
+
+    @property
+    def accepted(self) -> bool:
+        """Whether a change was carried out."""
+        return self._answer == "ok"
+
+    @property
+    def refusal(self) -> Optional[str]:
+        """The cause of a refusal, without the word `refused`."""
+        answer = self._answer
+        return answer[len("refused "):] if answer is not None and answer != "ok" else None
+
+    @property
+    def fault(self) -> Optional[Fault]:
+        """The fault that a `run` or a `races` has met."""
+        match = self.command.word in ("run", "races") and _FAULT.fullmatch(self.rows[0])
+        return Fault(int(match.group(1)), int(match.group(2))) if match else None
+
+    @property
+    def race(self) -> Optional[Race]:
+        """The race that a `races` has found."""
+        match = self.command.word == "races" and _RACE.fullmatch(self.rows[0])
+        return Race(match.group(1), int(match.group(2)), int(match.group(3))) if match else None
+
+    @property
+    def _answer(self) -> Optional[str]:
+        match = _ANSWER.fullmatch(self.rows[0]) if self.rows else None
+        return match.group(2) if match else None
+
+
+def read_replies(commands: Sequence[Command], rows: Sequence[str]) -> List[Reply]:
+    """The reply to each command of a script."""
+    replies = []
+    index = 0
+    for command in commands:
+        count = _count(command, rows[index:])
+        if count == 0 and command.word != "advise":
+            raise NoReply(rows[index] if index < len(rows) else "")
+        replies.append(Reply(command, tuple(rows[index:index + count])))
+        index += count
+    if index != len(rows):
+        raise NoReply(rows[index])
+    return replies
+
+
+def _count(command: Command, rows: Sequence[str]) -> int:
+    """How many of the rows are the reply to a command; 0 where none is."""
+    match = _ANSWER.fullmatch(rows[0]) if rows else None
+    if match is not None:
+        return 1 if int(match.group(1)) == command.line else 0
+    counter = _SHOWN.get(command.word)
+    return counter(rows) if counter is not None and rows else 0
+
+
+def _printed(rows: Sequence[str]) -> int:
+    return list(rows).index(_LAST_PRINTED) + 1 if _LAST_PRINTED in rows else 0
+
+
+def _both(rows: Sequence[str]) -> int:
+    count = len(source_pane(rows))
+    return count + len(dependence_pane(rows[count:]))
+
+
+def _run(rows: Sequence[str]) -> int:
+    if _FAULT.fullmatch(rows[0]):
+        return 1
+    count = _while(rows, lambda row: row.startswith("| "))
+    if count == len(rows) or rows[count] != "ended":
+        return 0
+    count += 1
+    return count + _while(rows[count:], lambda row: row.startswith("live "))
+
+
+def _while(rows: Sequence[str], belongs: Callable[[str], object]) -> int:
+    """How many rows at the front belong to a reply."""
+    return next((count for count, row in enumerate(rows) if not belongs(row)), len(rows))
+
+
+_SHOWN: Dict[str, Callable[[Sequence[str]], int]] = {
+    "source": lambda rows: len(source_pane(rows)),
+    "deps": lambda rows: len(dependence_pane(rows)),
+    "show": _both,
+    "print": _printed,
+    "run": _run,
+    "races": lambda rows: 1,
+    "tested": lambda rows: 1,
+    "advise": lambda rows: _while(rows, _ADVICE.fullmatch),
+}

@@ -1,0 +1,175 @@
+"""`pedx check`: refusals, warnings, lines of scripts, faults and races."""
+
+import tempfile
+import unittest
+from pathlib import Path
+from typing import List, Optional, Tuple
+
+from ..commands.check import check
+from ..ped import ENCODING
+from ..refusals import REFUSALS
+from ..statuses import Status
+from ..suspects import suspect
+from ..views import Question
+from .support import fortran, ped
+
+
+class Check(unittest.TestCase):
+    def check(
+        self, source: str, script: Optional[str] = None, data: Optional[str] = None, runs: bool = False,
+        strict: bool = False,
+    ) -> Tuple[List[str], Status]:
+        """What is said, without the folder in front of names, and the status."""
+        with tempfile.TemporaryDirectory(prefix="pedx-test-") as folder:
+            names = {}
+            for name, text in (("p.f", source), ("script", script), ("data", data)):
+                if text is not None:
+                    names[name] = str(Path(folder, name))
+                    Path(folder, name).write_bytes(text.encode(ENCODING))
+            question = Question(names["p.f"], names.get("script"), names.get("data"))
+            report = check(ped(), question, runs or script is not None or data is not None, strict)
+            return report.text.replace(f"{folder}/", "").splitlines(), report.status
+
+
+class Programs(Check):
+    def test_nothing_to_say(self) -> None:
+        self.assertEqual(self.check(fortran("K = 1", "END")), ([], Status.DONE))
+
+    def test_refused(self) -> None:
+        rows, status = self.check(fortran("DO 10 I = 1, 5", "10 I = I+1", "END"))
+        self.assertIs(status, Status.PROGRAM_REFUSED)
+        self.assertEqual(rows[0], f"p.f:2:7: error: 11 IndexAssigned: {REFUSALS[11].rule}: I")
+        self.assertEqual(rows[1:3], ["    2 |    10 I = I+1", "      |       ^"])
+        self.assertEqual(rows[3], f"p.f:2:7: note: {REFUSALS[11].instead}")
+
+    def test_no_lines(self) -> None:
+        rows, status = self.check("")
+        self.assertIs(status, Status.PROGRAM_REFUSED)
+        self.assertTrue(rows[0].startswith("p.f:1:1: error: 9 OpenBlock: "), rows)
+
+    def test_past_column_72(self) -> None:
+        source = "      K = 1" + " " * 61 + "+ 2\nC" + " " * 80 + "COMMENT\n      END\n"
+        warning = "p.f:1:73: warning: text past column 72 isn't read: + 2"
+        self.assertEqual(self.check(source), ([warning], Status.DONE))
+        self.assertEqual(self.check(source, strict=True), ([warning], Status.WARNING))
+        rows, status = self.check("      K = (1" + " " * 60 + ")\n      END\n")
+        self.assertTrue(rows[0].startswith("p.f:1:73: warning: "))
+        self.assertTrue(rows[1].startswith("p.f:1:7: error: 7 Syntax: "))
+        self.assertIs(status, Status.PROGRAM_REFUSED)
+
+    def test_parallel_loops(self) -> None:
+        rows, _ = self.check(fortran("INTEGER A(9)", "PARALLEL DO 10 I = 2, 9", "10 A(I) = A(I-1)", "END"))
+        self.assertEqual(rows, [
+            "p.f:2:7: warning: the iterations of this PARALLEL DO may race: it carries dependences of A"
+        ])
+
+    def test_untidy_loops(self) -> None:
+        rows, _ = self.check(fortran(
+            "INTEGER A(9)", "SAVE I", "PARALLEL DO 10 I = 1, 9", "J = I", "DO 10 J = 1, 5", "10 A(I) = J", "END"
+        ))
+        self.assertIn(
+            "p.f:3:7: warning: this PARALLEL DO isn't tidy: statement 2 in it assigns J, the variable of a loop", rows
+        )
+        self.assertIn(
+            "p.f:3:7: warning: this PARALLEL DO isn't tidy: I is in SAVE, and nothing behind the loop assigns it", rows
+        )
+        rows, _ = self.check(fortran("SAVE I", "PARALLEL DO 10 I = 1, 9", "10 CONTINUE", "I = 5", "END"))
+        self.assertEqual(rows, [])
+
+    def test_idle_directives(self) -> None:
+        rows, _ = self.check("      INTEGER A(9)\nC$PED REJECT A\n" + fortran("DO 10 I = 1, 9", "10 A(I) = I", "END"))
+        self.assertEqual(rows, ["p.f:2:1: warning: this directive rejects nothing: loop 1 carries nothing pending of A"])
+
+
+class Runs(Check):
+    def test_no_accident(self) -> None:
+        rows, status = self.check(fortran("K = 1", "END"), runs=True)
+        self.assertEqual(rows, ["p.f: note: the program runs without a fault and without a race"])
+        self.assertIs(status, Status.DONE)
+
+    def test_fault(self) -> None:
+        rows, status = self.check(fortran("INTEGER A(3)", "READ *, K", "A(K) = 1", "END"), data="4\n")
+        self.assertEqual(rows, [
+            "p.f:3:7: error: fault 2 at statement 2: a subscript lies outside its bounds",
+            "    3 |       A(K) = 1",
+            "      |       ^^^^^^^^",
+        ])
+        self.assertIs(status, Status.FAULT)
+
+    def test_no_data(self) -> None:
+        rows, status = self.check(fortran("READ *, K", "END"), runs=True)
+        self.assertEqual((rows, status), (["p.f: note: the program reads data, and none are given"], Status.DONE))
+
+    def test_race(self) -> None:
+        rows, status = self.check(fortran("INTEGER A(9)", "PARALLEL DO 10 I = 1, 8", "10 A(I+1) = A(I)", "END"), runs=True)
+        self.assertIs(status, Status.FAULT)
+        rows, status = self.check(fortran("PARALLEL DO 10 I = 1, 2", "10 K = I", "PRINT *, K", "END"), runs=True)
+        self.assertEqual(rows[:3], [
+            "p.f:2:7: error: race: two iterations of a PARALLEL DO use K, at statements 2 and 2",
+            "    2 |    10 K = I",
+            "      |       ^ statement 2",
+        ])
+        self.assertIs(status, Status.RACE)
+
+
+class Scripts(Check):
+    SOURCE = fortran("INTEGER A(3)", "K = 3", "A(K) = 1", "END")
+
+    def test_refused_lines(self) -> None:
+        rows, status = self.check(self.SOURCE, script="undo\nredo\nreplace 2 2\n      K = 2\n      X = 1\n.\n")
+        self.assertEqual(rows[:3], [
+            "script:1:1: error: refused NothingToUndo: there is no step back",
+            "script:2:1: error: refused NothingToRedo: there is no step forward",
+            f"script:5:1: error: refused BadEdit 14 RealName at 3: in the program that the edit makes {REFUSALS[14].rule}",
+        ])
+        self.assertEqual(rows[3:], ["p.f: note: the last program of the script runs without a fault and without a race"])
+        self.assertIs(status, Status.LINE_REFUSED)
+
+    def test_faults_of_runs(self) -> None:
+        """A `run` that meets a fault is told with the lines of the program as it was then."""
+        rows, status = self.check(self.SOURCE, script="replace 2 2\nC\n      K = 4\n.\nrun\nundo\nraces\n")
+        self.assertEqual(rows, [
+            "script:5:1: error: fault 2 at statement 2: a subscript lies outside its bounds",
+            "    4 |       A(K) = 1",
+            "      |       ^^^^^^^^",
+            "p.f: note: the last program of the script runs without a fault and without a race",
+        ])
+        self.assertIs(status, Status.FAULT)
+
+    def test_open_edit(self) -> None:
+        rows, status = self.check(self.SOURCE, script="run\ninsert 2\n      K = 9\n")
+        self.assertTrue(rows[0].startswith("script:2:1: error: refused BadCommand: "), rows)
+        self.assertIs(status, Status.LINE_REFUSED)
+
+    def test_race_behind_a_script(self) -> None:
+        rows, status = self.check(
+            fortran("DO 10 I = 1, 2", "10 K = I", "END"), script="replace 1 1\n      PARALLEL DO 10 I = 1, 2\n.\n"
+        )
+        self.assertTrue(rows[0].startswith("<source>:2:9: error: race: "), rows)
+        self.assertIs(status, Status.RACE)
+
+
+class Suspects(unittest.TestCase):
+    """The column and the name of a refusal."""
+
+    def test_places(self) -> None:
+        for number, line, texts, column, name in (
+            (1, 1, ["\tK = 1"], 1, None),
+            (2, 1, [" L = 2"], 2, None),
+            (3, 2, ["      K = 1", "     &+1"], 6, None),
+            (5, 1, ["      K = 1; L = 2"], 12, None),
+            (7, 1, ["        K = "], 9, None),
+            (11, 2, ["      DO 10 I = 1, 2", "      READ *, J, I"], 18, "I"),
+            (14, 1, ["      K = TOTAL+1"], 11, "TOTAL"),
+            (14, 2, ["      INTEGER TOTAL", "      IF (TOTAL.GT.REST) K = 1"], 20, "REST"),
+            (14, 1, ["      DO 10 X = 1, 2"], 13, "X"),
+            (17, 2, ["      INTEGER A(3,3)", "      K = A(1)"], 11, "A"),
+            (17, 1, ["      K = L(1)"], 11, "L"),
+            (9, 9, ["      K = 1"], 1, None),
+        ):
+            place, found = suspect(texts, number, line)
+            self.assertEqual((place.column, found), (column, name), texts)
+
+
+if __name__ == "__main__":
+    unittest.main()

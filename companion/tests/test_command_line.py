@@ -1,0 +1,144 @@
+"""Calls of pedx: words, statuses, files, and how the program ped is found."""
+
+import os
+import shutil
+import subprocess
+import sys
+import tempfile
+import unittest
+from pathlib import Path
+from typing import Dict, List, Optional
+
+from ..statuses import Status
+from .support import TOP, ped_path
+
+RECURRENCE = "examples/recurrence.f"
+_FAKE_PED = """\
+#!/bin/sh
+echo 'ped: {said}'
+exit {status}
+"""
+
+
+class Calls(unittest.TestCase):
+    def setUp(self) -> None:
+        self.folder = tempfile.mkdtemp(prefix="pedx-test-")
+        self.addCleanup(shutil.rmtree, self.folder)
+
+    def file(self, name: str, text: str) -> str:
+        """A file in the folder of the test."""
+        path = Path(self.folder, name)
+        path.write_text(text)
+        return str(path)
+
+    def call(self, *words: str, environment: Optional[Dict[str, str]] = None) -> "subprocess.CompletedProcess[str]":
+        """A call at the repository's top."""
+        return subprocess.run(
+            [sys.executable, str(TOP / "pedx"), *words], cwd=TOP, stdin=subprocess.DEVNULL, stdout=subprocess.PIPE,
+            stderr=subprocess.PIPE, universal_newlines=True, check=False,
+            env={**os.environ, "PEDX_PED": ped_path(), **(environment or {})},
+        )
+
+    def ends(self, status: Status, words: List[str], said: str = "", **environment: str) -> str:
+        """A call ends with a status and says something of it; what it prints."""
+        done = self.call(*words, environment=environment)
+        self.assertEqual(done.returncode, status, done.stderr)
+        self.assertIn(said, done.stderr)
+        return done.stdout
+
+    def fake(self, said: str, status: int) -> str:
+        """A program that says something and ends with a status."""
+        path = self.file("ped", _FAKE_PED.format(said=said, status=status))
+        os.chmod(path, 0o755)
+        return path
+
+    def test_done(self) -> None:
+        for command in ("loops", "why", "omp", "check", "graph", "json"):
+            self.ends(Status.DONE, [command, RECURRENCE])
+
+    def test_bad_words(self) -> None:
+        for words in ([], ["show", RECURRENCE], ["loops"], ["loops", RECURRENCE, "x"], ["why", RECURRENCE, "--kind", "x"]):
+            self.ends(Status.BAD_WORDS, words, "usage: pedx")
+        self.ends(Status.BAD_WORDS, ["loops", RECURRENCE, "2"], "statement 2 of examples/recurrence.f is no DO")
+        self.ends(Status.BAD_WORDS, ["loops", RECURRENCE, "--data", RECURRENCE], "--data wants --script")
+
+    def test_help(self) -> None:
+        self.assertIn("exit statuses", self.ends(Status.DONE, ["--help"]))
+        self.assertIn("--no-trials", self.ends(Status.DONE, ["loops", "--help"]))
+
+    def test_files(self) -> None:
+        self.ends(Status.NOT_READ, ["loops", "examples/none.f"], "pedx: error: cannot read examples/none.f: ")
+        self.ends(Status.NOT_READ, ["check", RECURRENCE, "--script", self.folder], f"cannot read {self.folder}: ")
+        self.ends(Status.NOT_READ, ["omp", RECURRENCE, "-o", self.folder], f"cannot write {self.folder}: ")
+        target = str(Path(self.folder, "out.f"))
+        self.assertEqual(self.ends(Status.DONE, ["omp", RECURRENCE, "-o", target]), "")
+        self.assertEqual(Path(target).read_text(), self.ends(Status.DONE, ["omp", RECURRENCE]))
+
+    def test_name_with_a_dash(self) -> None:
+        shutil.copy(str(TOP / RECURRENCE), str(Path(self.folder, "-p.f")))
+        done = subprocess.run(
+            [sys.executable, str(TOP / "pedx"), "loops", "--", "-p.f"], cwd=self.folder, stdout=subprocess.PIPE, check=False,
+        )
+        self.assertEqual(done.returncode, Status.DONE)
+
+    @unittest.skipUnless(os.path.exists("/dev/full"), "no device that is full")
+    def test_full_output(self) -> None:
+        with open("/dev/full", "wb") as full:
+            done = subprocess.run(
+                [sys.executable, str(TOP / "pedx"), "json", RECURRENCE], cwd=TOP, stdout=full, stderr=subprocess.PIPE,
+                universal_newlines=True, check=False,
+            )
+        self.assertEqual((done.returncode, done.stderr[:26]), (Status.NOT_WRITTEN, "pedx: error: cannot write:"))
+
+    def test_refused(self) -> None:
+        for command in ("loops", "why", "omp", "graph", "json"):
+            self.assertEqual(self.ends(
+                Status.PROGRAM_REFUSED, [command, "examples/refused.f"], "examples/refused.f:4:7: error: 11 IndexAssigned: "
+            ), "")
+        self.assertTrue(self.ends(Status.PROGRAM_REFUSED, ["check", "examples/refused.f"]).startswith("examples/refused.f:4:7: "))
+
+    def test_refused_line_of_a_script(self) -> None:
+        script = self.file("script", "undo\n")
+        out = self.ends(Status.LINE_REFUSED, ["loops", RECURRENCE, "--script", script], f"{script}:1:1: error: refused Noth")
+        self.assertIn("carries A", out)
+
+    def test_session(self) -> None:
+        words = ["--script", "examples/squares.script"]
+        self.assertEqual(self.ends(Status.DONE, ["loops", "examples/squares.f", *words]), self.ends(
+            Status.DONE, ["loops", "examples/squares.f", "--printed"]
+        ), "the script takes all its changes back")
+        script = self.file("script", "privatise 3 T\n")
+        out = self.ends(Status.DONE, ["loops", "examples/squares.f", "--script", script, "--no-trials"])
+        self.assertIn("   3     8  DO I = 1, 5  free: carries nothing\n", out)
+
+    def test_check_statuses(self) -> None:
+        words = ["examples/means.f", "--script", "examples/means.script", "--data", "examples/means.data"]
+        self.ends(Status.FAULT, ["check", *words])
+        racing = self.file("p.f", "      PARALLEL DO 10 I = 1, 2\n   10 K = I\n      END\n")
+        self.ends(Status.RACE, ["check", "--run", racing])
+        self.ends(Status.DONE, ["check", racing])
+        self.ends(Status.WARNING, ["check", "--strict", racing])
+
+    def test_no_ped(self) -> None:
+        self.ends(Status.NO_PED, ["loops", RECURRENCE, "--ped", "/nowhere/ped"], "cannot start /nowhere/ped: ")
+        self.ends(Status.NO_PED, ["loops", RECURRENCE], "cannot start /nowhere/ped: ", PEDX_PED="/nowhere/ped")
+        self.ends(Status.NO_PED, ["loops", RECURRENCE, "--ped", self.fake("something", 0)], "is no pane")
+        self.ends(Status.NO_PED, ["loops", RECURRENCE, "--ped", self.fake("x", 71)], "ended with status 71: ped: x")
+
+    def test_statuses_of_ped(self) -> None:
+        self.ends(Status.NO_MEMORY, ["loops", RECURRENCE, "--ped", self.fake("", 6)], "out of memory")
+        fake = self.fake("program is longer than 1048576 bytes", 7)
+        self.ends(Status.TOO_LONG, ["loops", RECURRENCE, "--ped", fake], "the program is longer than 1048576 bytes")
+        fake = self.fake("refused 99 NewRefusal at 3", 5)
+        self.ends(Status.PROGRAM_REFUSED, ["loops", RECURRENCE, "--ped", fake], f"{RECURRENCE}:3:7: error: 99 NewRefusal\n")
+
+    def test_link(self) -> None:
+        """Through a link the companion finds its modules, and ped beside itself."""
+        link = Path(self.folder, "link")
+        link.symlink_to(TOP / "pedx")
+        done = subprocess.run([str(link), "--help"], stdout=subprocess.PIPE, check=False)
+        self.assertEqual(done.returncode, Status.DONE)
+
+
+if __name__ == "__main__":
+    unittest.main()

@@ -1,0 +1,94 @@
+"""The documents: the manual's examples print what it shows, and the tables of refusals follow the other pages.
+
+`python3 -m companion.tests.test_documents --write` puts the present output into the manual.
+"""
+
+import os
+import re
+import subprocess
+import sys
+import unittest
+from typing import Iterator, List, Match
+
+from ..faults import FAULTS
+from ..refusals import OTHERS, REFUSALS, RULES
+from ..statuses import Status
+from .support import TOP, ped_path
+
+MANUAL = TOP / "docs" / "COMPANION.md"
+
+#: A block of the manual that begins with a call.
+_BLOCK = re.compile(r"^```\n(\$ .*?)^```$", re.MULTILINE | re.DOTALL)
+
+
+def printed(block: str) -> str:
+    """A block with the present output behind each of its calls."""
+    status = 0
+    parts: List[str] = []
+    for line in block.splitlines():
+        if not line.startswith("$ "):
+            continue
+        if line == "$ echo $?":
+            parts.append(f"{line}\n{status}\n")
+        else:
+            done = subprocess.run(
+                ["bash", "-c", line[2:]], cwd=TOP, stdin=subprocess.DEVNULL, stdout=subprocess.PIPE,
+                stderr=subprocess.STDOUT, env={**os.environ, "PEDX_PED": ped_path()}, check=False,
+            )
+            status = done.returncode
+            parts.append(f"{line}\n{done.stdout.decode()}")
+    return "".join(parts)
+
+
+def rows(page: str, heading: str) -> Iterator[List[str]]:
+    """The rows of the first table behind a heading of a page."""
+    text = (TOP / "docs" / page).read_text()
+    text = text[text.index(f"\n{heading}\n"):]
+    table = text[text.index("\n|") + 1:].split("\n\n")[0]
+    for row in table.splitlines()[2:]:
+        yield [cell.strip() for cell in row.strip("|").split("|")]
+
+
+class Manual(unittest.TestCase):
+    def test_examples(self) -> None:
+        blocks = _BLOCK.findall(MANUAL.read_text())
+        self.assertGreater(len(blocks), 5)
+        for block in blocks:
+            with self.subTest(block.splitlines()[0]):
+                self.assertEqual(printed(block), block)
+
+    def test_statuses(self) -> None:
+        named = [int(row[0]) for row in rows("COMPANION.md", "## How a call ends")]
+        self.assertEqual(named, [int(status) for status in Status])
+
+
+class Tables(unittest.TestCase):
+    def test_refusals(self) -> None:
+        named = {int(number): name for number, name, _ in rows("LANGUAGE.md", "## Refusals")}
+        self.assertEqual(named, {number: refusal.name for number, refusal in REFUSALS.items()})
+
+    def test_rules(self) -> None:
+        for rule, *_ in rows("COMMANDS.md", "## Steps"):
+            self.assertIn(int(rule.split()[0]), RULES)
+
+    def test_other_refusals(self) -> None:
+        text = (TOP / "docs" / "COMMANDS.md").read_text()
+        for name in re.findall(r"`L: refused (\w+)`", text):
+            self.assertIn(name, OTHERS)
+
+    def test_faults(self) -> None:
+        self.assertEqual({int(row[0]) for row in rows("RUNS.md", "## Values")}, set(FAULTS))
+
+
+def _write() -> None:
+    def replaced(match: Match[str]) -> str:
+        return f"```\n{printed(match.group(1))}```"
+
+    MANUAL.write_text(_BLOCK.sub(replaced, MANUAL.read_text()))
+
+
+if __name__ == "__main__":
+    if sys.argv[1:] == ["--write"]:
+        _write()
+    else:
+        unittest.main()

@@ -1,0 +1,170 @@
+"""`pedx loops`: verdicts, and what to try."""
+
+import re
+import unittest
+from typing import Dict, List, Optional
+
+from ..commands.loops import find_loop, loops
+from ..lines import split_lines
+from ..ped import Ped
+from ..replies import Reply, read_replies
+from ..scripts import read_script
+from ..statuses import CompanionError, Status
+from ..views import View
+from .support import example_view, fortran, ped, view_of
+
+_NO_PED = Ped("/nowhere/ped")
+
+
+def verdicts(view: View) -> Dict[int, str]:
+    """The verdict on each loop, by its statement. Nothing is tried, so ped isn't called."""
+    rows = loops(view, _NO_PED, [], tries=False).splitlines()[1:]
+    return {int(row[:4]): re.split(" {2,}", row)[-1] for row in rows if row[:4].strip()}
+
+
+def advice(view: View, loop: int, program: Optional[Ped] = None) -> List[str]:
+    """What is to be tried at a loop; what ped's own advice is, only where it is that of a fake program."""
+    rows = loops(view, program or ped(), [loop], tries=True).splitlines()
+    told = [row.strip()[2:] for row in rows if row.strip().startswith("- ")]
+    return [row for row in told if program is not None or not row.startswith("ped allows here: ")]
+
+
+class FakePed(Ped):
+    """A program that accepts all steps, or refuses them all for one cause, and gives advice."""
+
+    def __init__(self, refusal: str = "") -> None:
+        super().__init__("/nowhere/ped")
+        self.refusal = refusal
+        self.scripts: List[str] = []
+
+    def session(self, source: str, script: str, data: Optional[str] = None) -> List[Reply]:
+        self.scripts.append(script)
+        lines = split_lines(source)
+        rows: List[str] = []
+        for command in read_script(script):
+            rows.extend(self._rows(command.word, command.line, lines))
+        return read_replies(read_script(script), rows)
+
+    def _rows(self, word: str, line: int, lines: List[str]) -> List[str]:
+        if word == "show":
+            return [f"source {len(lines)}", *(f"{number:5}      {text}" for number, text in enumerate(lines, 1)),
+                    "dependences 0"]
+        if word == "advise":
+            return ["interchange ok", "reverse refused rule 8 StepShape at 1", "peel first ok", "parallel ok"]
+        return [f"{line}: refused {self.refusal}" if self.refusal else f"{line}: ok"]
+
+
+class Verdicts(unittest.TestCase):
+    def test_words(self) -> None:
+        self.assertEqual(verdicts(example_view("private")), {
+            1: "carries (IN)", 3: "carries ISQ", 6: "parallel: carries nothing", 10: "carries ISUM",
+        })
+        self.assertEqual(verdicts(example_view("chains"))[11], "free: carries nothing but what is rejected of Z")
+        self.assertEqual(verdicts(example_view("independent")), {1: "free: carries nothing"})
+
+    def test_racing(self) -> None:
+        view = view_of(fortran("INTEGER A(9)", "PARALLEL DO 10 I = 2, 9", "10 A(I) = A(I-1)", "END"))
+        self.assertEqual(verdicts(view), {1: "PARALLEL DO, but carries A"})
+
+    def test_layout(self) -> None:
+        view = view_of(fortran("INTEGER A(9,9)", "DO 10 I = 2, 9", "DO 10 J = 1, 9, 2", "10 A(I,J) = A(I-1,J)", "END"))
+        self.assertEqual(loops(view, _NO_PED, [], tries=False).splitlines(), [
+            "   S  line  loop              verdict",
+            "   1     2  DO I = 2, 9       carries A",
+            "              A: flow (1 row), proven",
+            "   2     3    DO J = 1, 9, 2  free: carries nothing",
+        ])
+
+    def test_chosen(self) -> None:
+        rows = loops(example_view("private"), _NO_PED, [6], tries=False).splitlines()
+        self.assertEqual(len(rows), 2)
+        with self.assertRaises(CompanionError) as caught:
+            find_loop(example_view("private"), 2)
+        self.assertIs(caught.exception.status, Status.BAD_WORDS)
+
+    def test_no_loops(self) -> None:
+        self.assertEqual(loops(view_of(fortran("K = 1", "END")), _NO_PED, [], tries=True), "no loops\n")
+
+
+class Advice(unittest.TestCase):
+    def test_accepted_steps(self) -> None:
+        self.assertEqual(advice(example_view("squares"), 3), [
+            "try `privatise 3 T`: ped accepts it, and the loop then carries nothing",
+            "try `expand 3 T`: ped accepts it, and the loop then carries nothing",
+        ])
+
+    def test_refused_steps(self) -> None:
+        self.assertEqual(advice(example_view("spread"), 4), [
+            "try `expand 4 ISPR`: ped accepts it, and the loop then carries nothing",
+            "`privatise 4 ISPR`: refused rule 12 ExposedOrLive at 7: statement 7 may read ISPR behind the loop, and the "
+            "step would lose its value",
+        ])
+
+    def test_sum(self) -> None:
+        self.assertEqual(advice(example_view("private"), 10), [
+            "`privatise 10 ISUM` and `expand 10 ISUM`: refused rule 12 ExposedOrLive at 11: statement 11 may read ISUM "
+            "before the iteration assigns it",
+            "ISUM is summed up: store the terms in an array, and sum them up in a loop of its own",
+        ])
+
+    def test_two_scalars(self) -> None:
+        view = view_of(fortran(
+            "INTEGER A(9), B(9)", "DO 10 I = 1, 9", "K = A(I)", "L = B(I)", "A(I) = L", "10 B(I) = K", "END"
+        ))
+        self.assertEqual(advice(view, 1), [
+            "try `privatise 1 K`: ped accepts it", "try `expand 1 K`: ped accepts it",
+            "try `privatise 1 L`: ped accepts it", "try `expand 1 L`: ped accepts it",
+            "try `privatise 1 K` and `privatise 1 L`: ped accepts them, and the loop then carries nothing",
+        ])
+
+    def test_saved_scalar(self) -> None:
+        view = view_of(fortran("SAVE", "DO 10 I = 1, 9", "10 K = I", "END"))
+        self.assertIn(
+            "`privatise 1 K`: refused rule 12 ExposedOrLive at 1: K is in SAVE, and the step would lose its value",
+            advice(view, 1),
+        )
+
+    def test_arrays(self) -> None:
+        view = view_of(fortran(
+            "INTEGER A(99), B(99), C(99), L(99)", "DO 10 I = 4, 90", "A(L(I)) = I", "B(I) = B(I+1)", "10 C(I) = C(I-3)",
+            "END",
+        ))
+        self.assertEqual(advice(view, 1), [
+            "where you know that no two iterations use one element: C$PED REJECT A before the loop",
+            "only old values are read: copy B into another array before the loop, and read that one",
+            "iterations that are fewer than 3 apart don't depend on each other",
+        ])
+
+    def test_lines(self) -> None:
+        view = view_of(fortran("INTEGER A(9)", "DO 10 I = 1, 9", "READ *, A(I)", "10 PRINT *, A(I)", "END"))
+        self.assertEqual(advice(view, 1), [
+            "READ takes its lines in order: read into an array, in a loop of its own",
+            "PRINT keeps its lines in order: store the values in an array, and print them in a loop of their own",
+        ])
+        self.assertEqual(advice(example_view("product"), 17), [])
+
+    def test_variable_behind_the_loop(self) -> None:
+        fake = FakePed("NotBuilt")
+        self.assertIn("statement 4 may read I, which has no value behind a PARALLEL DO", advice(
+            view_of(fortran("INTEGER A(9)", "DO 10 I = 1, 9", "10 A(I) = I", "PRINT *, 2", "PRINT *, I", "END")), 1, fake
+        ))
+        self.assertIn("J is in SAVE, and has no value behind a PARALLEL DO", advice(
+            view_of(fortran("INTEGER A(9,9)", "SAVE J", "DO 10 I = 1, 9", "DO 10 J = 1, 9", "10 A(I,J) = I", "END")), 1, fake
+        ))
+
+    def test_steps_to_come(self) -> None:
+        """What `parallel` and `advise` answer is told as soon as ped has them."""
+        free = view_of(fortran("INTEGER A(9)", "DO 10 I = 1, 9", "10 A(I) = I", "END"))
+        fake = FakePed()
+        self.assertEqual(advice(free, 1, fake), [
+            "try `parallel 1`: ped accepts it", "ped allows here: interchange, peel first, parallel",
+        ])
+        self.assertEqual(fake.scripts, ["parallel 1\nshow\nundo\n", "advise 1\n"])
+        self.assertEqual(advice(free, 1, FakePed("rule 5 IndexEscapes at 3"))[0], (
+            "`parallel 1`: refused rule 5 IndexEscapes at 3: statement 3 reads the variable of a loop where the step would "
+            "leave it without a value"
+        ))
+
+
+if __name__ == "__main__":
+    unittest.main()

@@ -1,0 +1,211 @@
+"""The translation for OpenMP: its text, and what the compiled programs print."""
+
+import os
+import shutil
+import subprocess
+import tempfile
+import unittest
+from concurrent.futures import ThreadPoolExecutor
+from pathlib import Path
+from typing import Dict, Iterator, List, NamedTuple, Tuple
+
+from ..lines import split_lines
+from ..openmp import openmp_lines
+from ..ped import ENCODING, read_file
+from ..program import read_program
+from ..views import Question, View, open_view
+from .support import EXAMPLES, examples, example_view, fortran, ped, view_of
+
+
+def translated(text: str, live: bool = False) -> List[str]:
+    """A printed program, translated, without the heading."""
+    lines = split_lines(text)
+    return openmp_lines(lines, read_program(lines), live)[1:]
+
+
+class Text(unittest.TestCase):
+    def test_private_names(self) -> None:
+        """The clause names the PRIVATE list, the variables of inner loops, and their PRIVATE lists."""
+        text = fortran(
+            "PARALLEL DO 10 I = 1, 9", "PRIVATE T, U", "DO 20 J = 1, 9", "PRIVATE V", "T = J", "V = T", "20 CONTINUE",
+            "10 CONTINUE", "END",
+        )
+        lines = translated(text)
+        self.assertEqual(lines[:2], ["C$OMP PARALLEL DO PRIVATE(T,U,J,V)", "      DO 10 I = 1, 9"])
+        self.assertNotIn("PRIVATE V", "".join(lines))
+
+    def test_what_stays_shared(self) -> None:
+        """Where the PARALLEL DO uses a scalar outside the inner loop that has it in PRIVATE, it isn't named."""
+        text = fortran(
+            "PARALLEL DO I = 1, 9", "K = I", "DO J = 1, 9", "PRIVATE K", "K = J", "END DO", "END DO", "END"
+        )
+        self.assertEqual(translated(text)[0], "C$OMP PARALLEL DO PRIVATE(J)")
+
+    def test_serial_loops(self) -> None:
+        text = fortran("DO 10 I = 1, 9", "PRIVATE T", "T = I", "10 CONTINUE", "END")
+        self.assertEqual(translated(text), split_lines(fortran("DO 10 I = 1, 9", "T = I", "10 CONTINUE", "END")))
+
+    def test_long_clause(self) -> None:
+        names = [f"LONGNAME{number}" for number in range(20)]
+        # The printed list is cut behind column 72.
+        listed = "      PRIVATE " + ", ".join(names)
+        pieces = [listed[:72]] + [f"     &{listed[at:at + 66]}" for at in range(72, len(listed), 66)]
+        text = fortran("PARALLEL DO I = 1, 9") + "\n".join(pieces) + "\n" + fortran("K = I", "END DO", "END")
+        lines = translated(text)
+        clause = [line for line in lines if line.startswith("C$OMP")]
+        self.assertTrue(all(len(line) <= 72 for line in clause))
+        self.assertEqual(clause[0][:28], "C$OMP PARALLEL DO PRIVATE(LO")
+        self.assertTrue(all(line.startswith("C$OMP&") for line in clause[1:]))
+        self.assertEqual("".join(line[6:] for line in clause), f"PARALLEL DO PRIVATE({','.join(names)})")
+        self.assertEqual(lines[len(clause):], split_lines(fortran("DO I = 1, 9", "K = I", "END DO", "END")))
+
+    def test_header_over_two_lines(self) -> None:
+        bound = "+".join(["KLMNOP"] * 10)
+        header = f"      PARALLEL DO I = 1, {bound}"
+        text = header[:72] + "\n     &" + header[72:] + "\n" + fortran("K = I", "END DO", "END")
+        lines = translated(text)
+        joined = lines[1] + lines[2][6:]
+        self.assertEqual(joined, f"      DO I = 1, {bound}")
+        self.assertEqual(len(lines[1]), 72)
+
+    def test_comments(self) -> None:
+        text = "C$    X = Y +\nC$OMP NONSENSE\nC$PED REJECT A\nC PLAIN\n" + fortran("DO 10 I = 1, 2", "10 A(L(I)) = 1", "END")
+        self.assertEqual(translated(text)[:4], ["C $    X = Y +", "C $OMP NONSENSE", "C$PED REJECT A", "C PLAIN"])
+
+    def test_names_that_clash(self) -> None:
+        text = fortran("PROGRAM N", "PARAMETER (N=10)", "MAX = N", "K = MAX(MAX,3)", "PRINT *, 'MAX', MAX", "END")
+        self.assertEqual(translated(text), split_lines(fortran(
+            "PARAMETER (N=10)", "K0 = N", "K = MAX(K0,3)", "PRINT *, 'MAX', K0", "END"
+        )))
+        text = fortran("MAX = 10", "PRINT *, MAX", "END")
+        self.assertEqual(translated(text), split_lines(text))
+
+    def test_live_variables(self) -> None:
+        text = fortran("SAVE B, A", "IF (K.EQ.1) THEN", "STOP", "END IF", "END")
+        self.assertEqual(translated(text, live=True), split_lines(fortran(
+            "SAVE B, A", "IF (K.EQ.1) THEN", "PRINT *, 'live A', A", "PRINT *, 'live B', B", "STOP", "END IF",
+            "PRINT *, 'live A', A", "PRINT *, 'live B', B", "END",
+        )))
+
+
+class Sample(NamedTuple):
+    """A program to be compiled and run: its name, its view, and its data."""
+
+    name: str
+    view: View
+    data: str
+
+
+def numbers(*values: int) -> str:
+    """Data with a number on each line."""
+    return "".join(f"{value}\n" for value in values)
+
+
+#: Data for the examples that read some and have none of their own.
+DATA: Dict[str, str] = {
+    "chains": numbers(*range(1, 101)),
+    "knapsack": "2\n2000 90\n300 40\n",
+    "prefix": numbers(*(number * number % 17 for number in range(64))),
+    "private": numbers(*(number % 13 - 5 for number in range(100))),
+    "product": "2 3 2\n" + numbers(*range(1, 13)),
+}
+
+#: Programs with what the examples don't have: nested parallel loops, names that clash, loops without iterations.
+OTHERS: Dict[str, str] = {
+    "nested": fortran(
+        "PROGRAM NESTED", "INTEGER A(20,30)", "SAVE A", "PARALLEL DO 10 I = 1, 20", "PRIVATE IT", "IT = 2*I",
+        "PARALLEL DO 10 J = 1, 30", "PRIVATE JT", "JT = IT+J", "10 A(I,J) = JT*JT", "END",
+    ),
+    "clash": fortran(
+        "PROGRAM N", "PARAMETER (N=10)", "INTEGER A(N)", "SAVE A", "MAX = 3", "PARALLEL DO 10 I = N, 1, -1",
+        "10 A(I) = MAX(I,MAX)", "PRINT *, 'MAX', MAX", "END",
+    ),
+    "empty": fortran(
+        "INTEGER A(5)", "SAVE A", "READ *, K", "PARALLEL DO 10 I = 1, K", "10 A(I) = I", "DO 20 I = 1, 5", "20 A(I) = -I",
+        "IF (K.LT.0) STOP", "PRINT *, 'NOT STOPPED'", "END",
+    ),
+    "triangle": fortran(
+        "INTEGER A(9,9)", "SAVE A", "PARALLEL DO 10 I = 1, 9", "DO 10 J = 1, 9", "A(I,J) = 0", "DO 10 K = J, I",
+        "10 A(I,J) = A(I,J)+K", "END",
+    ),
+}
+
+
+def samples() -> Iterator[Sample]:
+    """The examples, the last programs of their sessions, and the others."""
+    for name in examples():
+        path = EXAMPLES / f"{name}.f"
+        given = path.with_suffix(".data")
+        data = read_file(str(given)) if given.exists() else DATA.get(name, "")
+        yield Sample(name, example_view(name), data)
+        script = path.with_suffix(".script")
+        if script.exists():
+            question = Question(str(path), str(script), str(given) if given.exists() else None)
+            yield Sample(f"{name} behind its script", open_view(ped(), question), data)
+    for name, text in OTHERS.items():
+        yield Sample(name, view_of(text), "-1\n")
+
+
+@unittest.skipUnless(shutil.which("gfortran"), "gfortran isn't there, so no translated program is compiled")
+class Compiled(unittest.TestCase):
+    """The compiled programs print what ped's `run` shows, with OpenMP and without. None of them has a race."""
+
+    def test_samples(self) -> None:
+        with ThreadPoolExecutor(max_workers=os.cpu_count()) as pool:
+            for sample, complaint in pool.map(compared, list(samples())):
+                with self.subTest(sample.name):
+                    self.assertEqual(complaint, "")
+
+
+def compared(sample: Sample) -> Tuple[Sample, str]:
+    """What differs between the runs of a sample; of one that meets a fault, whether it is compiled."""
+    lines = sample.view.panes.lines
+    text = "".join(f"{line}\n" for line in openmp_lines(lines, sample.view.printed, live=True))
+    run, = ped().session("".join(f"{line}\n" for line in lines), "run\n", sample.data)
+    with tempfile.TemporaryDirectory(prefix="pedx-test-") as folder:
+        Path(folder, "p.f").write_bytes(text.encode(ENCODING))
+        complaint = compiled(folder, "serial", []) + compiled(folder, "parallel", ["-fopenmp"])
+        if complaint or run.fault:
+            return sample, complaint
+        serial, parallel = executed(folder, "serial", sample.data), executed(folder, "parallel", sample.data)
+    if serial != parallel:
+        return sample, f"serial:\n{serial}\nparallel:\n{parallel}"
+    if not is_wanted(serial, run.rows):
+        return sample, f"compiled:\n{serial}\nped:\n{run.rows}"
+    return sample, ""
+
+
+def compiled(folder: str, name: str, flags: List[str]) -> str:
+    """Compiles a program, and answers what the compiler says where it refuses it."""
+    words = ["gfortran", "-fno-range-check", *flags, "-o", name, "p.f"]
+    done = subprocess.run(words, cwd=folder, stdout=subprocess.PIPE, stderr=subprocess.STDOUT, check=False)
+    return done.stdout.decode(ENCODING) if done.returncode != 0 else ""
+
+
+def executed(folder: str, name: str, data: str) -> str:
+    """What a compiled program prints."""
+    environment = {**os.environ, "OMP_NUM_THREADS": "4", "OMP_WAIT_POLICY": "passive"}
+    done = subprocess.run(
+        [f"./{name}"], cwd=folder, input=data.encode(ENCODING), env=environment, stdout=subprocess.PIPE,
+        stderr=subprocess.STDOUT, check=False,
+    )
+    return done.stdout.decode(ENCODING)
+
+
+def is_wanted(compiled_rows: str, rows: Tuple[str, ...]) -> bool:
+    """Whether a compiled program has printed what `run` shows.
+
+    FORTRAN puts other blanks between the items of a PRINT than ped. What is undefined, `?`, may be any number.
+    """
+    lines = compiled_rows.splitlines()
+    printed = "".join("".join(line.split()) for line in lines if not line.startswith(" live "))
+    live = [word for line in lines if line.startswith(" live ") for word in line.split()]
+    wanted = "".join("".join(row[2:].split()) for row in rows if row.startswith("| "))
+    wanted_live = [word for row in rows if row.startswith("live ") for word in row.split()]
+    return printed == wanted and len(live) == len(wanted_live) and all(
+        wanted_word in ("?", word) for word, wanted_word in zip(live, wanted_live)
+    )
+
+
+if __name__ == "__main__":
+    unittest.main()

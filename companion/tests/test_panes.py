@@ -1,0 +1,41 @@
+"""The two panes, read row by row."""
+
+import unittest
+
+from ..panes import NoPane, read_dependence, read_panes
+
+PANES = """\
+source 3
+    1            INTEGER A(9)
+    2    1       DO 10 I = 1, 9
+    3      10    CONTINUE
+dependences 2
+3.2 3.1 A flow 1 (<,>) (1,-1) proven
+4.1 4.1 (OUT) output - (=,=)(<=,*) (*,*) pending
+"""
+
+
+class Panes(unittest.TestCase):
+    def test_source(self) -> None:
+        panes = read_panes(PANES.splitlines())
+        self.assertEqual([(row.line, row.statement) for row in panes.source], [(1, None), (2, 1), (3, None)])
+        self.assertEqual(panes.lines, ["      INTEGER A(9)", "      DO 10 I = 1, 9", "10    CONTINUE"])
+
+    def test_dependences(self) -> None:
+        first, second = read_panes(PANES.splitlines()).dependences
+        self.assertEqual((first.source, first.sink, first.name, first.kind), ((3, 2), (3, 1), "A", "flow"))
+        self.assertEqual((first.level, first.vectors, first.distances), (1, (("<", ">"),), (1, -1)))
+        self.assertEqual((second.level, second.vectors), (None, (("=", "="), ("<=", "*"))))
+        self.assertEqual((second.distances, second.mark), ((None, None), "pending"))
+
+    def test_other_rows(self) -> None:
+        for rows in ([], ["source 1"], PANES.splitlines()[:-1], PANES.splitlines() + ["more"], ["dependences 0"]):
+            with self.assertRaises(NoPane):
+                read_panes(rows)
+        for row in ("", "3.2 3.1 A flow 1 (<) (1)", "3 3.1 A flow 1 (<) (1) proven", "3.2 3.1 A new 1 (<) (1) proven"):
+            with self.assertRaises(NoPane, msg=row):
+                read_dependence(row)
+
+
+if __name__ == "__main__":
+    unittest.main()

@@ -1,0 +1,84 @@
+"""Scripts and what sessions answer to them."""
+
+import unittest
+
+from ..replies import Fault, NoReply, Race, read_replies
+from ..scripts import read_script, weave
+from .support import EXAMPLES, cases
+from ..lines import split_lines
+from ..ped import read_file
+
+SCRIPT = """\
+show
+
+replace 5 5
+      A(I) = 1
+
+undo
+.
+  undo
+insert 01
+run
+insert 3
+      K = 1
+"""
+
+
+class Scripts(unittest.TestCase):
+    def test_commands(self) -> None:
+        commands = read_script(SCRIPT)
+        self.assertEqual([command.line for command in commands], [1, 3, 8, 9, 10, 11])
+        self.assertEqual(commands[1].text, ("      A(I) = 1", "", "undo"))
+        self.assertEqual(commands[1].last_line, 7)
+        self.assertEqual([command.closed for command in commands], [True, True, True, True, True, False])
+        self.assertEqual(commands[2].words, ("undo",))
+
+    def test_weaving(self) -> None:
+        woven = weave(SCRIPT, lambda command: ["source"] if command.word == "run" else [], ["show"])
+        words = [command.word for command in read_script(woven.text)]
+        self.assertEqual(words, ["show", "replace", "undo", "insert", "run", "source", "show", "insert"])
+        self.assertEqual([origin.line if origin else 0 for origin in woven.origins], [1, 3, 8, 9, 10, 0, 0, 11])
+
+    def test_weaving_behind_the_last(self) -> None:
+        woven = weave("undo", lambda command: [], ["races", "show"])
+        self.assertEqual(woven.text, "undo\nraces\nshow\n")
+
+
+class Replies(unittest.TestCase):
+    def test_replies(self) -> None:
+        commands = read_script("print\nrun\nraces\nundo\nrun\nadvise 1\ntested\nraces\nparallel 1\n")
+        rows = [
+            "C 1: ok", "      END", "| 1: ok", "ended", "live A 1", "no race", "4: refused NothingToUndo", "fault 2 at 3",
+            "interchange ok", "peel first refused rule 1 NoLoop at 1", "tested 4", "race A(3,2) at 4 and 5", "9: ok",
+        ]
+        replies = read_replies(commands, rows)
+        self.assertEqual([len(reply.rows) for reply in replies], [2, 3, 1, 1, 1, 2, 1, 1, 1])
+        self.assertEqual(replies[3].refusal, "NothingToUndo")
+        self.assertEqual(replies[4].fault, Fault(2, 3))
+        self.assertEqual(replies[7].race, Race("A(3,2)", 4, 5))
+        self.assertTrue(replies[8].accepted)
+        self.assertIsNone(replies[8].refusal)
+
+    def test_other_answers(self) -> None:
+        for rows in ([], ["2: ok"], ["1: ok", "2: ok"], ["ped: cannot read x"]):
+            with self.assertRaises(NoReply, msg=str(rows)):
+                read_replies(read_script("undo\n"), rows)
+
+    def test_examples(self) -> None:
+        for path in sorted(EXAMPLES.glob("*.script")):
+            read_replies(read_script(read_file(str(path))), split_lines(read_file(str(path.with_suffix(".out")))))
+
+    def test_cases(self) -> None:
+        """The answer of each session is taken apart to its end, and each refusal belongs to the line that it names."""
+        count = 0
+        for case in cases():
+            rows = case.wanted.get("output", [])
+            if case.script is not None and not (rows and rows[-1].startswith(("ped: ", "usage: "))):
+                with self.subTest(case.name):
+                    read_replies(read_script(case.script), rows)
+                count += 1
+        self.assertGreater(count, 1000)
+
+
+if __name__ == "__main__":
+    unittest.main()

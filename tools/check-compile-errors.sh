@@ -2,8 +2,9 @@
 # Tries changes that the compiler must refuse, since what they do would make a pane mean nothing: a verdict that no test
 # made, a copy of a verdict, a counter that nobody counts with, a copy of the counter. No contract can say that such code
 # can't be written; private fields, and types without a copy, see to it. Each change is made to a small program over a copy
-# of ped_verdict and the crates below it. The program without a change must compile and run. Nothing is proved here. That
-# code which is generic in its ledger can't make a counter of its own is refused by proof: an edit of ped_graph tries it.
+# of ped_verdict and the crates below it. The program without a change must compile and run. Nothing is proved here. Code
+# which is generic in its ledger and makes a counter of its own is refused by proof, by what `Steps::new` requires: it stands
+# among the wrong bodies of ped_graph in docs/WRONG-BODIES.md.
 set -eu
 top=$(cd -- "$(dirname -- "${BASH_SOURCE[0]}")/.." && pwd)
 work=$(mktemp -d)

@@ -46,7 +46,7 @@ class Adviser:
 
     def about_loop(self, loop: Loop) -> List[str]:
         """What to try at a loop as a whole."""
-        trials = [*self._joined(loop), _parallel(loop)]
+        trials = [*self._joined(loop), _parallel(loop.number)]
         outcomes = [self._outcomes[trial] for trial in trials if trial in self._outcomes]
         advice = self._about_outcomes([outcome for outcome in outcomes if outcome.refusal != _NOT_BUILT])
         if not advice and not loop.form.parallel and not carried_names(self._view.carried_by(loop)):
@@ -80,7 +80,7 @@ class Adviser:
             return
         names = carried_names(self._view.carried_by(loop))
         if not names:
-            yield _parallel(loop)
+            yield _parallel(loop.number)
         for name in names:
             if name not in (INPUT, OUTPUT) and name not in self._view.program.arrays:
                 yield from _scalar_trials(loop, name)
@@ -94,8 +94,9 @@ class Adviser:
             yield Trial(tuple(steps), loop.number)
 
 
-def _parallel(loop: Loop) -> Trial:
-    return Trial((f"parallel {loop.number}",), loop.number)
+def _parallel(loop: int) -> Trial:
+    """The trial of the step that makes the loop of a statement parallel."""
+    return Trial((f"parallel {loop}",), loop)
 
 
 def _scalar_trials(loop: Loop, name: str) -> List[Trial]:
@@ -105,15 +106,11 @@ def _scalar_trials(loop: Loop, name: str) -> List[Trial]:
 def _accepted(outcome: Outcome) -> str:
     """What an accepted trial leads to."""
     steps = listed([f"`{step}`" for step in outcome.trial.steps])
-    if outcome.trial == _parallel_of(outcome):
+    if outcome.trial == _parallel(outcome.trial.loop):
         return f"try {steps}: ped accepts it"
     if len(outcome.trial.steps) > 1:
         return f"try {steps}: ped accepts them, and the loop then carries {listed(outcome.names) or 'nothing'}"
     return f"try {steps}: ped accepts it" + ("" if outcome.names else ", and the loop then carries nothing")
-
-
-def _parallel_of(outcome: Outcome) -> Trial:
-    return Trial((f"parallel {outcome.trial.loop}",), outcome.trial.loop)
 
 
 def _about_reads(program: Program, outcome: Outcome) -> str:

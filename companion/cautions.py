@@ -37,8 +37,8 @@ def idle_directives(view: View) -> Iterator[Caution]:
         rejected = {row.name for row in view.carried_by(loop) if row.is_rejected}
         for directive in loop.directives:
             if directive.name not in rejected:
-                yield Place(directive.line, 1), f"this directive rejects nothing: loop {loop.number} carries nothing " \
-                    f"pending of {directive.name}"
+                words = f"loop {loop.number} carries nothing pending of {directive.name}"
+                yield Place(directive.line, 1), f"this directive rejects nothing: {words}"
 
 
 def untidy_loops(view: View) -> Iterator[Caution]:
@@ -51,10 +51,11 @@ def untidy_loops(view: View) -> Iterator[Caution]:
         for variable in dict.fromkeys([loop.variable, *(inner.variable for inner in program.inner_loops(loop))]):
             writers = [number for number in _assigning(program, variable) if number in loop]
             if writers:
-                yield place, f"this PARALLEL DO isn't tidy: statement {writers[0]} in it assigns {variable}, the " \
-                    "variable of a loop"
+                words = f"statement {writers[0]} in it assigns {variable}, the variable of a loop"
+                yield place, f"this PARALLEL DO isn't tidy: {words}"
             elif variable in program.saved and not _may_overwrite(program, loop, variable):
-                yield place, f"this PARALLEL DO isn't tidy: {variable} is in SAVE, and nothing behind the loop assigns it"
+                words = f"{variable} is in SAVE, and nothing behind the loop assigns it"
+                yield place, f"this PARALLEL DO isn't tidy: {words}"
 
 
 def _assigning(program: Program, name: str) -> Iterator[int]:

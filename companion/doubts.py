@@ -31,7 +31,6 @@ def doubts(program: Program, dependence: Dependence) -> List[str]:
     both = positions(program, program.reference(dependence.source), program.reference(dependence.sink))
     for position in both:
         causes.extend(_about_position(position))
-    causes.extend(_about_indices(program, both))
     return causes
 
 
@@ -65,13 +64,3 @@ def why_untested(position: Position) -> str:
     if position.hindrance in (position.source.text, position.sink.text):
         return f"{position.hindrance} isn't affine"
     return f"{position.hindrance} isn't the same on both sides"
-
-
-def _about_indices(program: Program, both: List[Position]) -> List[str]:
-    """Names the loops whose variables stand in two positions."""
-    causes = []
-    for loop in program.loops.values():
-        numbers = [str(position.number) for position in both if loop.number in position.indices]
-        if len(numbers) > 1:
-            causes.append(f"{loop.variable} stands in the subscripts {' and '.join(numbers)}")
-    return causes

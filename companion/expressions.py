@@ -121,7 +121,7 @@ class _Reader:
         self._next = 0
 
     def operations(self, least: int) -> Expression:
-        """An expression of operators that bind at least so tightly; `**` groups to the right, the others to the left."""
+        """An expression of operators that bind at least so tightly; `**` groups to the right, others to the left."""
         begin = self._next
         if self._peek() in _PREFIX_TAKES:
             operator = self._take()

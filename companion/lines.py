@@ -135,24 +135,19 @@ def is_continuation(line: str) -> bool:
 
 def read_statements(lines: Sequence[str]) -> List[WrittenStatement]:
     """The statements of a text that ped reads."""
-    statements = []
+    groups: List[Tuple[List[int], List[Directive]]] = []
     directives: List[Directive] = []
-    group: List[int] = []
     for number, line in enumerate(lines, 1):
         if is_comment(line):
             name = _rejected_name(line)
             if name is not None:
                 directives.append(Directive(number, name))
-        elif is_continuation(line) and group:
-            group.append(number)
+        elif is_continuation(line) and groups:
+            groups[-1][0].append(number)
         else:
-            if group:
-                statements.append(_statement(lines, group, own))
-            group = [number]
-            own, directives = tuple(directives), []
-    if group:
-        statements.append(_statement(lines, group, own))
-    return statements
+            groups.append(([number], directives))
+            directives = []
+    return [_statement(lines, numbers, before) for numbers, before in groups]
 
 
 def _rejected_name(line: str) -> Optional[str]:
@@ -163,22 +158,23 @@ def _rejected_name(line: str) -> Optional[str]:
     return None
 
 
-def _statement(lines: Sequence[str], group: Sequence[int], directives: Tuple[Directive, ...]) -> WrittenStatement:
-    label = lines[group[0] - 1][:5].replace(" ", "")
+def _statement(lines: Sequence[str], numbers: Sequence[int], directives: Sequence[Directive]) -> WrittenStatement:
+    """The statement that stands on the lines with these numbers."""
+    label = lines[numbers[0] - 1][:5].replace(" ", "")
     return WrittenStatement(
-        first_line=group[0],
-        last_line=group[-1],
+        first_line=numbers[0],
+        last_line=numbers[-1],
         label=int(label) if label.isdigit() else None,
-        text=_joined(lines, group),
-        directives=directives,
+        text=_joined(lines, numbers),
+        directives=tuple(directives),
     )
 
 
-def _joined(lines: Sequence[str], group: Sequence[int]) -> Text:
+def _joined(lines: Sequence[str], numbers: Sequence[int]) -> Text:
     """The text of a statement: its columns 7 to 72, joined; a shorter line counts as filled with blanks."""
     letters = []
     places = []
-    for number in group:
+    for number in numbers:
         letters.append(lines[number - 1][FIRST_COLUMN - 1:LAST_COLUMN].ljust(LAST_COLUMN - FIRST_COLUMN + 1))
         places.extend(Place(number, column) for column in range(FIRST_COLUMN, LAST_COLUMN + 1))
     return Text(list(_characters("".join(letters), places)))

@@ -19,7 +19,9 @@ class Refusal(NamedTuple):
 
 
 REFUSALS: Dict[int, Refusal] = {
-    1: Refusal("Tab", "a tab stands in columns 1 to 72", "write blanks: columns 1 to 5 hold a label, 7 to 72 the statement"),
+    1: Refusal(
+        "Tab", "a tab stands in columns 1 to 72", "write blanks: columns 1 to 5 hold a label, 7 to 72 the statement"
+    ),
     2: Refusal(
         "BadLabel", "columns 1 to 5 hold something else than a label, or a continuation line has a label",
         "begin the statement in column 7; a label is one to five digits, not all of them 0",

@@ -90,7 +90,7 @@ def steps_advised(ped: Ped, view: View, loops: Sequence[int]) -> Dict[int, List[
     """For each loop the steps that the command `advise` allows there; none where ped hasn't this command."""
     replies = _session(ped, view, [f"advise {loop}" for loop in loops])
     return {
-        loop: [row[:-len(" ok")] for row in reply.rows if row.endswith(" ok") and not row[0].isdigit()]
+        loop: [row[:-len(" ok")] for row in reply.rows if row.endswith(" ok")]
         for loop, reply in zip(loops, replies)
     }
 

@@ -134,7 +134,7 @@ def _reasons(view: View, row: Dependence, source: Reference, sink: Reference) ->
 def _about_scalar(view: View, row: Dependence) -> str:
     for loop in reversed(view.program.loops_round(row.source[0])):
         if row.name in [name.name for name in loop.private]:
-            return f"{row.name} is private to an iteration of loop {loop.number} (DO {loop.variable}), which uses one copy"
+            return f"{row.name} is private to an iteration of loop {loop.number} (DO {loop.variable}): it has one copy"
     return f"{row.name} is a scalar, and all iterations use the same one"
 
 
@@ -146,7 +146,8 @@ def _about_subscripts(view: View, row: Dependence, source: Reference, sink: Refe
         decides = " decides" if position is decisive else ""
         yield f"subscript {position.number}{decides}: {_about_position(view, position)}"
     if carrier is not None and all(_leaves_out(position, carrier) for position in both):
-        yield f"{carrier.variable} stands in no subscript: all iterations of DO {carrier.variable} use the same elements"
+        variable = carrier.variable
+        yield f"{variable} stands in no subscript: all iterations of DO {variable} use the same elements"
 
 
 def _leaves_out(position: Position, loop: Loop) -> bool:

@@ -57,7 +57,9 @@ class Calls(unittest.TestCase):
             self.ends(Status.DONE, [command, RECURRENCE])
 
     def test_bad_words(self) -> None:
-        for words in ([], ["show", RECURRENCE], ["loops"], ["loops", RECURRENCE, "x"], ["why", RECURRENCE, "--kind", "x"]):
+        for words in (
+            [], ["show", RECURRENCE], ["loops"], ["loops", RECURRENCE, "x"], ["why", RECURRENCE, "--kind", "x"]
+        ):
             self.ends(Status.BAD_WORDS, words, "usage: pedx")
         self.ends(Status.BAD_WORDS, ["loops", RECURRENCE, "2"], "statement 2 of examples/recurrence.f is no DO")
         self.ends(Status.BAD_WORDS, ["loops", RECURRENCE, "--data", RECURRENCE], "--data wants --script")
@@ -76,9 +78,8 @@ class Calls(unittest.TestCase):
 
     def test_name_with_a_dash(self) -> None:
         shutil.copy(str(TOP / RECURRENCE), str(Path(self.folder, "-p.f")))
-        done = subprocess.run(
-            [sys.executable, str(TOP / "pedx"), "loops", "--", "-p.f"], cwd=self.folder, stdout=subprocess.PIPE, check=False,
-        )
+        words = [sys.executable, str(TOP / "pedx"), "loops", "--", "-p.f"]
+        done = subprocess.run(words, cwd=self.folder, stdout=subprocess.PIPE, check=False)
         self.assertEqual(done.returncode, Status.DONE)
 
     @unittest.skipUnless(os.path.exists("/dev/full"), "no device that is full")
@@ -92,14 +93,17 @@ class Calls(unittest.TestCase):
 
     def test_refused(self) -> None:
         for command in ("loops", "why", "omp", "graph", "json"):
-            self.assertEqual(self.ends(
-                Status.PROGRAM_REFUSED, [command, "examples/refused.f"], "examples/refused.f:4:7: error: 11 IndexAssigned: "
-            ), "")
-        self.assertTrue(self.ends(Status.PROGRAM_REFUSED, ["check", "examples/refused.f"]).startswith("examples/refused.f:4:7: "))
+            out = self.ends(
+                Status.PROGRAM_REFUSED, [command, "examples/refused.f"], "examples/refused.f:4:7: error: 11 IndexAssig"
+            )
+            self.assertEqual(out, "")
+        out = self.ends(Status.PROGRAM_REFUSED, ["check", "examples/refused.f"])
+        self.assertTrue(out.startswith("examples/refused.f:4:7: "))
 
     def test_refused_line_of_a_script(self) -> None:
         script = self.file("script", "undo\n")
-        out = self.ends(Status.LINE_REFUSED, ["loops", RECURRENCE, "--script", script], f"{script}:1:1: error: refused Noth")
+        words = ["loops", RECURRENCE, "--script", script]
+        out = self.ends(Status.LINE_REFUSED, words, f"{script}:1:1: error: refused Noth")
         self.assertIn("carries A", out)
 
     def test_session(self) -> None:
@@ -130,7 +134,8 @@ class Calls(unittest.TestCase):
         fake = self.fake("program is longer than 1048576 bytes", 7)
         self.ends(Status.TOO_LONG, ["loops", RECURRENCE, "--ped", fake], "the program is longer than 1048576 bytes")
         fake = self.fake("refused 99 NewRefusal at 3", 5)
-        self.ends(Status.PROGRAM_REFUSED, ["loops", RECURRENCE, "--ped", fake], f"{RECURRENCE}:3:7: error: 99 NewRefusal\n")
+        words = ["loops", RECURRENCE, "--ped", fake]
+        self.ends(Status.PROGRAM_REFUSED, words, f"{RECURRENCE}:3:7: error: 99 NewRefusal\n")
 
     def test_link(self) -> None:
         """Through a link the companion finds its modules, and ped beside itself."""

@@ -6,7 +6,7 @@ import unittest
 from typing import Any, Dict
 
 from ..commands.export import export
-from .support import TOP, example_view, examples, fortran, view_of
+from .support import TOP, example_view, examples, view_of
 
 
 def document(text: str) -> Dict[str, Any]:
@@ -17,7 +17,8 @@ class Export(unittest.TestCase):
     def test_document(self) -> None:
         said = document(
             "      PROGRAM P\n      PARAMETER (N=9)\n      INTEGER A(0:N)\n      SAVE\n"
-            "C$PED REJECT A\n      parallel do 10 i = 1, n, 2\n      private k\n      k = a(i-1)\n   10 a(i) = k\n      END\n"
+            "C$PED REJECT A\n      parallel do 10 i = 1, n, 2\n      private k\n      k = a(i-1)\n   10 a(i) = k\n"
+            "      END\n"
         )
         self.assertEqual((said["schema"], said["file"], said["program"]), (1, "p.f", "P"))
         self.assertEqual((said["constants"], said["arrays"], said["saved"]), ({"N": 9}, {"A": ["0:N"]}, ["A", "K"]))

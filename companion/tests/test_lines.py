@@ -53,7 +53,9 @@ class Lines(unittest.TestCase):
         self.assertEqual(str(statement.text), "PRINT*,'A" + " " * 55 + "B'")
 
     def test_directives(self) -> None:
-        first, second = read_statements(["C$PED REJECT A", "c$ped re ject bb", "C NOTHING", "      DO 10 I=1,2", "   10 K=1"])
+        first, second = read_statements([
+            "C$PED REJECT A", "c$ped re ject bb", "C NOTHING", "      DO 10 I=1,2", "   10 K=1",
+        ])
         self.assertEqual(first.directives, (Directive(1, "A"), Directive(2, "BB")))
         self.assertEqual(second.directives, ())
 

@@ -67,7 +67,9 @@ class Verdicts(unittest.TestCase):
         self.assertEqual(verdicts(view), {1: "PARALLEL DO, but carries A"})
 
     def test_layout(self) -> None:
-        view = view_of(fortran("INTEGER A(9,9)", "DO 10 I = 2, 9", "DO 10 J = 1, 9, 2", "10 A(I,J) = A(I-1,J)", "END"))
+        view = view_of(fortran(
+            "INTEGER A(9,9)", "DO 10 I = 2, 9", "DO 10 J = 1, 9, 2", "10 A(I,J) = A(I-1,J)", "END"
+        ))
         self.assertEqual(loops(view, _NO_PED, [], tries=False).splitlines(), [
             "   S  line  loop              verdict",
             "   1     2  DO I = 2, 9       carries A",
@@ -96,8 +98,8 @@ class Advice(unittest.TestCase):
     def test_refused_steps(self) -> None:
         self.assertEqual(advice(example_view("spread"), 4), [
             "try `expand 4 ISPR`: ped accepts it, and the loop then carries nothing",
-            "`privatise 4 ISPR`: refused rule 12 ExposedOrLive at 7: statement 7 may read ISPR behind the loop, and the "
-            "step would lose its value",
+            "`privatise 4 ISPR`: refused rule 12 ExposedOrLive at 7: statement 7 may read ISPR behind the loop, and "
+            "the step would lose its value",
         ])
 
     def test_sum(self) -> None:
@@ -126,8 +128,8 @@ class Advice(unittest.TestCase):
 
     def test_arrays(self) -> None:
         view = view_of(fortran(
-            "INTEGER A(99), B(99), C(99), L(99)", "DO 10 I = 4, 90", "A(L(I)) = I", "B(I) = B(I+1)", "10 C(I) = C(I-3)",
-            "END",
+            "INTEGER A(99), B(99), C(99), L(99)", "DO 10 I = 4, 90", "A(L(I)) = I", "B(I) = B(I+1)",
+            "10 C(I) = C(I-3)", "END",
         ))
         self.assertEqual(advice(view, 1), [
             "where you know that no two iterations use one element: C$PED REJECT A before the loop",
@@ -145,12 +147,12 @@ class Advice(unittest.TestCase):
 
     def test_variable_behind_the_loop(self) -> None:
         fake = FakePed("NotBuilt")
-        self.assertIn("statement 4 may read I, which has no value behind a PARALLEL DO", advice(
-            view_of(fortran("INTEGER A(9)", "DO 10 I = 1, 9", "10 A(I) = I", "PRINT *, 2", "PRINT *, I", "END")), 1, fake
+        read = view_of(fortran("INTEGER A(9)", "DO 10 I = 1, 9", "10 A(I) = I", "PRINT *, 2", "PRINT *, I", "END"))
+        self.assertIn("statement 4 may read I, which has no value behind a PARALLEL DO", advice(read, 1, fake))
+        saved = view_of(fortran(
+            "INTEGER A(9,9)", "SAVE J", "DO 10 I = 1, 9", "DO 10 J = 1, 9", "10 A(I,J) = I", "END"
         ))
-        self.assertIn("J is in SAVE, and has no value behind a PARALLEL DO", advice(
-            view_of(fortran("INTEGER A(9,9)", "SAVE J", "DO 10 I = 1, 9", "DO 10 J = 1, 9", "10 A(I,J) = I", "END")), 1, fake
-        ))
+        self.assertIn("J is in SAVE, and has no value behind a PARALLEL DO", advice(saved, 1, fake))
 
     def test_steps_to_come(self) -> None:
         """What `parallel` and `advise` answer is told as soon as ped has them."""
@@ -161,8 +163,8 @@ class Advice(unittest.TestCase):
         ])
         self.assertEqual(fake.scripts, ["parallel 1\nshow\nundo\n", "advise 1\n"])
         self.assertEqual(advice(free, 1, FakePed("rule 5 IndexEscapes at 3"))[0], (
-            "`parallel 1`: refused rule 5 IndexEscapes at 3: statement 3 reads the variable of a loop where the step would "
-            "leave it without a value"
+            "`parallel 1`: refused rule 5 IndexEscapes at 3: statement 3 reads the variable of a loop where the step "
+            "would leave it without a value"
         ))
 
 

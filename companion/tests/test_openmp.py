@@ -69,7 +69,8 @@ class Text(unittest.TestCase):
         self.assertEqual(len(lines[1]), 72)
 
     def test_comments(self) -> None:
-        text = "C$    X = Y +\nC$OMP NONSENSE\nC$PED REJECT A\nC PLAIN\n" + fortran("DO 10 I = 1, 2", "10 A(L(I)) = 1", "END")
+        comments = "C$    X = Y +\nC$OMP NONSENSE\nC$PED REJECT A\nC PLAIN\n"
+        text = comments + fortran("DO 10 I = 1, 2", "10 A(L(I)) = 1", "END")
         self.assertEqual(translated(text)[:4], ["C $    X = Y +", "C $OMP NONSENSE", "C$PED REJECT A", "C PLAIN"])
 
     def test_names_that_clash(self) -> None:
@@ -104,7 +105,7 @@ def numbers(*values: int) -> str:
 #: Data for the examples that read some and have none of their own.
 DATA: Dict[str, str] = {
     "chains": numbers(*range(1, 101)),
-    "knapsack": "2\n2000 90\n300 40\n",
+    "knapsack": "1\n300 40\n",
     "prefix": numbers(*(number * number % 17 for number in range(64))),
     "private": numbers(*(number % 13 - 5 for number in range(100))),
     "product": "2 3 2\n" + numbers(*range(1, 13)),
@@ -121,8 +122,8 @@ OTHERS: Dict[str, str] = {
         "10 A(I) = MAX(I,MAX)", "PRINT *, 'MAX', MAX", "END",
     ),
     "empty": fortran(
-        "INTEGER A(5)", "SAVE A", "READ *, K", "PARALLEL DO 10 I = 1, K", "10 A(I) = I", "DO 20 I = 1, 5", "20 A(I) = -I",
-        "IF (K.LT.0) STOP", "PRINT *, 'NOT STOPPED'", "END",
+        "INTEGER A(5)", "SAVE A", "READ *, K", "PARALLEL DO 10 I = 1, K", "10 A(I) = I", "DO 20 I = 1, 5",
+        "20 A(I) = -I", "IF (K.LT.0) STOP", "PRINT *, 'NOT STOPPED'", "END",
     ),
     "triangle": fortran(
         "INTEGER A(9,9)", "SAVE A", "PARALLEL DO 10 I = 1, 9", "DO 10 J = 1, 9", "A(I,J) = 0", "DO 10 K = J, I",

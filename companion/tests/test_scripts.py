@@ -2,11 +2,11 @@
 
 import unittest
 
+from ..lines import split_lines
+from ..ped import read_file
 from ..replies import Fault, NoReply, Race, read_replies
 from ..scripts import read_script, weave
 from .support import EXAMPLES, cases
-from ..lines import split_lines
-from ..ped import read_file
 
 SCRIPT = """\
 show
@@ -48,8 +48,9 @@ class Replies(unittest.TestCase):
     def test_replies(self) -> None:
         commands = read_script("print\nrun\nraces\nundo\nrun\nadvise 1\ntested\nraces\nparallel 1\n")
         rows = [
-            "C 1: ok", "      END", "| 1: ok", "ended", "live A 1", "no race", "4: refused NothingToUndo", "fault 2 at 3",
-            "interchange ok", "peel first refused rule 1 NoLoop at 1", "tested 4", "race A(3,2) at 4 and 5", "9: ok",
+            "C 1: ok", "      END", "| 1: ok", "ended", "live A 1", "no race", "4: refused NothingToUndo",
+            "fault 2 at 3", "interchange ok", "peel first refused rule 1 NoLoop at 1", "tested 4",
+            "race A(3,2) at 4 and 5", "9: ok",
         ]
         replies = read_replies(commands, rows)
         self.assertEqual([len(reply.rows) for reply in replies], [2, 3, 1, 1, 1, 2, 1, 1, 1])

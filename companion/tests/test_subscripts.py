@@ -39,9 +39,11 @@ class Positions(unittest.TestCase):
         self.assertIs(pair("DO 10 I = 1, 9", "DO 20 J = 1, 9", "A(I+J) = A(I)").test, Test.GCD_AND_BANERJEE)
 
     def test_what_has_no_test(self) -> None:
-        for target, hindrance in {"L(I)": "L(I)", "I*I": "I*I", "I/2": "I/2", "I+K": "K", "MAX(I,2)": "MAX(I,2)"}.items():
-            position = pair("DO 10 I = 1, 9", f"A(I) = A({target})")
-            self.assertEqual((position.test, position.hindrance), (Test.NONE, hindrance), target)
+        for subscript in ("L(I)", "I*I", "I/2", "MAX(I,2)"):
+            position = pair("DO 10 I = 1, 9", f"A(I) = A({subscript})")
+            self.assertEqual((position.test, position.hindrance), (Test.NONE, subscript))
+        position = pair("DO 10 I = 1, 9", "A(I) = A(I+K)")
+        self.assertEqual((position.test, position.hindrance), (Test.NONE, "K"))
 
     def test_scalars(self) -> None:
         self.assertEqual(pair("DO 10 I = 1, 9", "A(I+K) = A(I+K-1)").distance, -1)

@@ -46,9 +46,10 @@ class Sentences(unittest.TestCase):
             self.assertIn(f"      {reason}\n", text)
 
     def test_scalars_and_lines(self) -> None:
-        self.assertIn("      T is a scalar, and all iterations use the same one\n", why(example_view("squares"), Wanted()))
+        text = why(example_view("squares"), Wanted())
+        self.assertIn("      T is a scalar, and all iterations use the same one\n", text)
         self.assertIn(
-            "      ISQ is private to an iteration of loop 6 (DO I), which uses one copy\n",
+            "      ISQ is private to an iteration of loop 6 (DO I): it has one copy\n",
             why(example_view("private"), Wanted(statements=[8])),
         )
         self.assertIn("      lines are read and printed in their order\n", why(example_view("means"), Wanted()))

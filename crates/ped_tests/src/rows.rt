@@ -18,25 +18,19 @@ fn with_last(alloc: Global, width: usize) -> Result<Row, NoMemory>
     Ok(row)
 }
 
-/// Whether the first row is within the second, and the second within the first.
-fn within_each_other(first: &Row, second: &Row) -> (bool, bool)
-    requires { length first.now ≡ length second.now }
-{
-    (first.is_subset(second), second.is_subset(first))
-}
-
 #[test]
 fn rows_of_each_width_have_their_last_place(rt: HostRuntime) -> Result<(), Fail> {
     for width in [0, 1, 63, 64, 65, 511, 512, 513, 4_000] {
         let last = with_last(rt.alloc(), width)?;
         let mut row = Row::new(rt.alloc(), width)?;
-        let (is_within, has_within) = within_each_other(&row, &last);
-        assert!(rt; is_within);
-        assert_eq!(rt; has_within, width == 0);
+        assert!(rt; row.is_subset(&last));
+        assert_eq!(rt; last.is_subset(&row), width == 0);
         last.or_into(&mut row);
+        assert!(rt; row.width() == last.width());
         assert!(rt; last.is_subset(&row));
         assert_eq!(rt; row.meets(&last), width > 0);
         last.and_not_into(&mut row);
+        assert!(rt; row.width() == last.width());
         assert!(rt; !row.meets(&last));
     }
     Ok(())

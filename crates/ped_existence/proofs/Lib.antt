@@ -1,0 +1,9 @@
+mod Choosing
+mod Deciding
+mod Differences
+mod Excluding
+mod Meeting
+mod Reaching
+mod Solutions
+mod Spanning
+mod Sums

@@ -1,0 +1,15 @@
+mod Choosing
+mod Deciding
+mod Differences
+mod Edges
+mod Excluding
+mod Files
+mod FirstCauses
+mod LoopPaths
+mod Meeting
+mod Reaching
+mod Refusing
+mod Replying
+mod Solutions
+mod Spanning
+mod Sums

@@ -62,10 +62,13 @@ class Ped:
 
     def _call(self, files: Dict[str, str], words: List[str]) -> List[str]:
         """The rows that ped prints in a folder with these files."""
-        with tempfile.TemporaryDirectory(prefix="pedx-") as folder:
-            for name, text in files.items():
-                Path(folder, name).write_bytes(text.encode(ENCODING))
-            status, answer = self._run(words, folder)
+        try:
+            with tempfile.TemporaryDirectory(prefix="pedx-") as folder:
+                for name, text in files.items():
+                    Path(folder, name).write_bytes(text.encode(ENCODING))
+                status, answer = self._run(words, folder)
+        except OSError as error:
+            raise CompanionError(Status.NOT_READ, f"cannot write a file for ped: {error.strerror}") from error
         rows = split_lines(answer)
         if status not in (Status.DONE, Status.LINE_REFUSED):
             raise self._failed(status, rows[-1] if rows else "", files["program"])

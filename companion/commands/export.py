@@ -5,7 +5,8 @@ from __future__ import annotations
 import json
 from typing import Dict, List, Optional
 
-from ..panes import Dependence
+from ..panes import Dependence, SourceRow
+from ..ped import ENCODING
 from ..program import Loop, Statement
 from ..references import Reference
 from ..statements import Assignment, BlockIf, Do, Print, Read
@@ -27,12 +28,12 @@ def export(view: View) -> str:
     places = {id(row): place for place, row in enumerate(view.dependences)}
     document: Dict[str, Value] = {
         "schema": SCHEMA,
-        "file": view.name,
+        "file": _readable(view.name),
         "program": program.name,
         "arrays": {name: list(bounds) for name, bounds in view.printed.arrays.items()},
         "constants": view.printed.constants,
         "saved": sorted(view.printed.saved),
-        "source": [{"line": row.line, "statement": row.statement, "text": row.text} for row in view.panes.source],
+        "source": [_source_row(row) for row in view.panes.source],
         "statements": [_statement(view, statement) for statement in program.statements],
         "loops": [_loop(view, loop, places) for loop in program.loops.values()],
         "references": [_reference(reference) for reference in program.references()],
@@ -47,6 +48,18 @@ def _dumped(value: Value) -> str:
     if isinstance(value, list) and value and isinstance(value[0], dict):
         return "[\n" + ",\n".join(f"  {json.dumps(item)}" for item in value) + "\n]"
     return json.dumps(value)
+
+
+def _readable(text: str) -> str:
+    """A text as it was meant: in UTF-8 where its bytes are that."""
+    try:
+        return text.encode(ENCODING).decode("utf-8")
+    except UnicodeDecodeError:
+        return text
+
+
+def _source_row(row: SourceRow) -> Dict[str, Value]:
+    return {"line": row.line, "statement": row.statement, "text": _readable(row.text)}
 
 
 def _statement(view: View, statement: Statement) -> Dict[str, Value]:

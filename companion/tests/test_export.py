@@ -6,6 +6,7 @@ import unittest
 from typing import Any, Dict
 
 from ..commands.export import export
+from ..ped import ENCODING
 from .support import TOP, example_view, examples, view_of
 
 
@@ -37,6 +38,11 @@ class Export(unittest.TestCase):
         self.assertEqual([(one["source"], one["sink"], one["loop"]) for one in said["dependences"]], [
             ([2, 2], [3, 1], None)
         ])
+
+    def test_comments_in_other_scripts(self) -> None:
+        utf8 = "C Gr\u00fc\u00dfe\n      END\n".encode("utf-8").decode(ENCODING)
+        self.assertEqual(document(utf8)["source"][0]["text"], "C Gr\u00fc\u00dfe")
+        self.assertEqual(document("C \xfc\n      END\n")["source"][0]["text"], "C \xfc")
 
     def test_examples(self) -> None:
         for name in examples():

@@ -8,7 +8,7 @@ use Rattle.ped_tree.specs.Tree.{Head, StmtTree, StmtTrees, Do, ProgramTree}
 use Rattle.ped_tree.specs.NamesIn.{stmt_names, stmts_names}
 use Rattle.ped_tree.specs.Accesses.{constant_names}
 use Rattle.ped_tree.specs.Numbering.{statement_count, statements_count}
-use Rattle.ped_graph.specs.ped_symbols.specs.NameRefusals.{IsValid}
+use Rattle.ped_laws.specs.ped_graph.specs.ped_symbols.specs.NameRefusals.{IsValid}
 use Rattle.ped_laws.specs.ped_store.specs.Cells as cells
 use Rattle.ped_laws.specs.ped_store.specs.Cells.{Cell, Element}
 use Rattle.ped_laws.specs.ped_store.specs.Stores.{Store, store_at_start}
@@ -23,8 +23,8 @@ use Rattle.ped_laws.specs.ped_eval.specs.Loops.{Limits, limits, entered_with, fr
 use Rattle.ped_laws.specs.ped_eval.specs.Runs.{Ending, Run, run, run_all}
 use Rattle.ped_laws.specs.ped_eval.specs.Outcomes as outcomes
 use Rattle.ped_laws.specs.ped_eval.specs.Outcomes.{setting_of, run_of, live_names, Outcome, outcome_of, outcome, Ends, IsRaceFree}
-use Rattle.ped_flow.specs.Questions as flow
-use Rattle.ped_flow.specs.Questions.{LoopOf, IsExposed, IsLiveAfter}
+use Rattle.ped_laws.specs.ped_flow.specs.Questions as flow
+use Rattle.ped_laws.specs.ped_flow.specs.Questions.{LoopOf, IsExposed, IsLiveAfter}
 use Rattle.ped_laws.specs.FlowRuns.Exits.{IsOneToOne}
 use Rattle.ped_laws.proofs.FlowRunLaws.Stopping.{fitting_stops, loop_stops}
 use Rattle.ped_laws.proofs.FlowRunLaws.TripReads.{unexposed_unneeded}

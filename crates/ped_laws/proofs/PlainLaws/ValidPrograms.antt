@@ -9,7 +9,7 @@ use Rattle.ped_flow.specs.ped_tree.specs.Tree.{Head, StmtTree, StmtTrees, Assign
 use Rattle.ped_flow.specs.ped_tree.specs.Numbering.{statement_count, statements_count, numbered, all_numbered, at_place, statement_with}
 use Rattle.ped_flow.specs.ped_tree.specs.Accesses.{constant_names}
 use Rattle.ped_flow.specs.ped_tree.specs.Constants.NamedConstants.{value_named}
-use Rattle.ped_flow.specs.ped_tree.specs.Grammar.Fits.{Surroundings, moved, in_if, in_loop, expr_fits, loop_fits, stmt_fits, stmts_fit, decls_fit, begins_with_statement, at_body, fits}
+use Rattle.ped_flow.specs.ped_tree.specs.Grammar.Fits.{Surroundings, moved, in_if, in_loop, expr_fits, loop_fits, stmt_fits, stmts_fit, decls_fit, begins_with_statement, at_body}
 use Rattle.ped_graph.specs.ped_symbols.specs.NameRefusals.{IsValid}
 use Rattle.ped_graph.specs.ped_symbols.proofs.RightUseLaws.Whole.{constants_valued}
 use Rattle.ped_eval.specs.Outcomes.{setting_of}

@@ -23,7 +23,7 @@ use Rattle.ped_laws.specs.ped_store.specs.Variables.{no_dimensions, values_of}
 use Rattle.ped_laws.specs.ped_eval.specs.Loops.{sorted_once}
 use Rattle.ped_laws.specs.ped_eval.specs.Runs.{Ending, going, stopped, failed}
 use Rattle.ped_laws.specs.ped_eval.specs.Outcomes as outcomes
-use Rattle.ped_laws.specs.ped_eval.specs.Outcomes.{bounds_of, setting_of, live_names, LiveRow, live_rows, Outcome, outcome_of}
+use Rattle.ped_laws.specs.ped_eval.specs.Outcomes.{bounds_of, setting_of, live_names, LiveRow, live_rows, outcome_of}
 use Rattle.ped_laws.specs.ped_flow.specs.Questions as flow
 use Rattle.ped_laws.specs.ped_flow.specs.Questions.{LoopOf}
 use Rattle.ped_laws.proofs.FlowRunLaws.Names.{sorted_among}

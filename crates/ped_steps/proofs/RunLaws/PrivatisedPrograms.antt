@@ -21,7 +21,7 @@ use Rattle.ped_laws.specs.ped_graph.specs.ped_symbols.specs.NameRefusals.{IsVali
 use Rattle.ped_laws.specs.ped_graph.specs.ped_symbols.specs.RightUses.RightUses.{is_scalar, is_scalar_kind}
 use Rattle.ped_laws.specs.ped_graph.specs.ped_symbols.proofs.RightUseLaws.Whole.{constants_valued, same_values, same_kinds}
 use Rattle.ped_laws.specs.ped_store.specs.Cells as cells
-use Rattle.ped_laws.specs.ped_store.specs.Cells.{Cell, Iteration}
+use Rattle.ped_laws.specs.ped_store.specs.Cells.{Cell}
 use Rattle.ped_laws.specs.ped_store.specs.Stores.{Store, store_at_start, lines_in}
 use Rattle.ped_laws.specs.ped_store.specs.Acts.{Act}
 use Rattle.ped_laws.specs.ped_store.specs.Races.{accesses, HasNoRace}
@@ -32,7 +32,7 @@ use Rattle.ped_laws.specs.Acts.Pieces.{Part, old_parts, new_parts}
 use Rattle.ped_laws.specs.ped_eval.specs.Scopes.{Setting, Scope, cell_of}
 use Rattle.ped_laws.specs.ped_eval.specs.Runs.{Ending, going, stopped, failed, Run, run, run_all}
 use Rattle.ped_laws.specs.ped_eval.specs.Outcomes as outcomes
-use Rattle.ped_laws.specs.ped_eval.specs.Outcomes.{bounds_of, setting_of, run_of, live_names, live_rows, Outcome, outcome_of, outcome, Ends, IsRaceFree}
+use Rattle.ped_laws.specs.ped_eval.specs.Outcomes.{bounds_of, setting_of, run_of, live_names, live_rows, outcome_of, outcome, Ends, IsRaceFree}
 use Rattle.ped_laws.specs.ped_flow.specs.Questions as flow
 use Rattle.ped_laws.specs.ped_flow.specs.Questions.{LoopOf, IsExposed, IsLiveAfter}
 use Rattle.ped_laws.specs.FlowRuns.Exits.{IsOneToOne}

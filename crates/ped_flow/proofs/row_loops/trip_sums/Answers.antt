@@ -1,4 +1,4 @@
-use Rattle.std.proofs.Common.{sym, ◌∙◌}
+use Rattle.std.proofs.Common.{◌∙◌}
 use Rattle.ped_flow.proofs.row_loops.trip_sums.Goals as goal
 
 pub returns-clause-width : goal.returns-clause-width

@@ -81,6 +81,11 @@ class Text(unittest.TestCase):
         text = fortran("MAX = 10", "PRINT *, MAX", "END")
         self.assertEqual(translated(text), split_lines(text))
 
+        text = fortran("INTEGER PARAMETER(3)", "PARAMETERN = 10", "PARAMETER(1) = PARAMETERN", "END")
+        self.assertEqual(translated(text), split_lines(fortran(
+            "INTEGER PARAMETER(3)", "K0 = 10", "PARAMETER(1) = K0", "END"
+        )))
+
     def test_live_variables(self) -> None:
         text = fortran("SAVE B, A", "IF (K.EQ.1) THEN", "STOP", "END IF", "END")
         self.assertEqual(translated(text, live=True), split_lines(fortran(
@@ -128,6 +133,14 @@ OTHERS: Dict[str, str] = {
     "triangle": fortran(
         "INTEGER A(9,9)", "SAVE A", "PARALLEL DO 10 I = 1, 9", "DO 10 J = 1, 9", "A(I,J) = 0", "DO 10 K = J, I",
         "10 A(I,J) = A(I,J)+K", "END",
+    ),
+    "names": fortran(
+        "IMPLICIT INTEGER (A-Z)", "PARAMETER (DATABASE=9)", "INTEGER FUNCTIONF(DATABASE), PARAMETER(3)",
+        "SAVE FUNCTIONF, PARAMETER", "CONTINUE = 1", "PARALLEL DO 10 I = 2", "PARAMETERS = 3",
+        "PARAMETER(1) = PARAMETERS", "PARALLEL DO ITERATION = 1, DATABASE", "PRIVATE TEMPORARYOFEACHITERATIONALONE12",
+        "TEMPORARYOFEACHITERATIONALONE12 = CONTINUE+PARALLELDO10I",
+        "FUNCTIONF(ITERATION) = TEMPORARYOFEACHITERATIONALONE12*ITERATION", "END DO", "DO WHILE = 1, 2",
+        "DOUBLEPRECISION = WHILE", "END DO", "PRINT *, DOUBLEPRECISION", "END",
     ),
 }
 

@@ -19,3 +19,4 @@ pub use literals::{
 };
 pub use names::{NameSet, is_among};
 pub use numbering::statement_count;
+pub use ped_expressions;

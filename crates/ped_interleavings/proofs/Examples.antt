@@ -1,0 +1,1 @@
+-- Interleavings of small programs, worked out by their definition.

@@ -43,6 +43,7 @@ quotient_near a b = go (cases_order a (suc b))
   where
     large : suc b ≤ a → a / suc b ≤ a - suc b + 1
     large le = let e = div-eq-sub-div {m = suc b} {n = a} (omega arith) le in let s = div-le_self (a - suc b) (suc b) in omega (arith, e, s)
+
     go : (a ≡ suc b) ⊎ ((a < suc b) ⊎ (suc b < a)) → a / suc b ≤ a - suc b + 1
     go (inl e) = large (omega (arith, e))
     go (inr (inl lt)) = let e = div-eq_of_lt lt in omega (arith, e)

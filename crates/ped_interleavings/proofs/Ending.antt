@@ -1,5 +1,5 @@
 -- Each run ends, with one outcome.
-use Rattle.std.proofs.Common.{◌≡◌, ℕ, zero, suc, ◌≤◌, ◌<◌, Option, Some, None, refl, sym, ap, subst, ◌∙◌, arith}
+use Rattle.std.proofs.Common.{◌≡◌, ℕ, zero, suc, ◌<◌, Option, Some, None, refl, sym, ap, ◌∙◌, arith}
 use Rattle.std.specs.Prelude.{option_and_then}
 use Rattle.ped_tree.specs.Tree.{ProgramTree}
 use Rattle.ped_eval.specs.ped_store.specs.Stores.{Store}
@@ -8,8 +8,8 @@ use Rattle.ped_eval.specs.Scopes.{Setting}
 use Rattle.ped_eval.specs.Runs.{going}
 use Rattle.ped_eval.specs.Outcomes.{Outcome, Fault, setting_of, outcome_of}
 use Rattle.ped_interleavings.specs.Lefts.{Left, finished}
-use Rattle.ped_interleavings.specs.Steps.{Next, over, met, went, halted, step}
-use Rattle.ped_interleavings.specs.Interleavings.{Standing, choice, next_step, behind_act, standing_by, next_standing, after_steps, IsReached, ended_by, IsInterleavedFrom}
+use Rattle.ped_interleavings.specs.Steps.{Next, over, met, went, halted}
+use Rattle.ped_interleavings.specs.Interleavings.{Standing, choice, next_step, behind_act, standing_by, next_standing, after_steps, ended_by, IsInterleavedFrom}
 use Rattle.ped_interleavings.specs.Weights.{left_weight}
 use Rattle.ped_interleavings.proofs.Weighing.{lighter}
 

@@ -1,5 +1,5 @@
 -- What steps come to, taken apart.
-use Rattle.std.proofs.Common.{◌≡◌, ℕ, List, [], ◌∷◌, Result, Ok, Err, refl, ap}
+use Rattle.std.proofs.Common.{◌≡◌, ℕ, List, [], ◌∷◌, Result, Ok, Err, refl}
 use Rattle.ped_eval.specs.ped_store.specs.Acts.{Place, Act}
 use Rattle.ped_eval.specs.Evaluation.{Seen}
 use Rattle.ped_eval.specs.Runs.{Ending, going, stopped, failed}

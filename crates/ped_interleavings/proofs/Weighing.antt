@@ -1,13 +1,13 @@
 -- Each step is lighter.
-use Rattle.std.proofs.Common.{◌≡◌, ℕ, zero, suc, ◌+◌, ◌*◌, ◌/◌, ◌≤◌, ◌<◌, ◌∷◌, Bool, true, false, Option, Some, None, refl, sym, ap, subst, ◌∙◌, arith, if◌then◌else◌}
+use Rattle.std.proofs.Common.{◌≡◌, ℕ, zero, suc, ◌+◌, ◌*◌, ◌/◌, ◌≤◌, ◌<◌, ◌∷◌, Bool, true, false, Option, Some, None, refl, ap, arith, if◌then◌else◌}
 use Rattle.ped_tree.specs.Tree.{CondTree, Head, StmtTree, StmtTrees, Assign, If, Do, Print, Read, Stop, Comment, no_stmts, more_stmts}
 use Rattle.ped_tree.specs.Numbering.{statement_count, statements_count}
 use Rattle.ped_eval.specs.ped_store.specs.Stores.{Store}
 use Rattle.ped_eval.specs.ped_store.specs.Acts.{Act, did, entered, ended_turn, closed}
 use Rattle.ped_eval.specs.Scopes.{Setting, Scope, names_in, place_of}
-use Rattle.ped_eval.specs.Evaluation.{Seen, numbered}
+use Rattle.ped_eval.specs.Evaluation.{numbered}
 use Rattle.ped_eval.specs.Values.{truth}
-use Rattle.ped_eval.specs.Loops.{Limits, limits, Entered, entered_with, increment, frame, exit_touches, exit_when_none, entry_touches}
+use Rattle.ped_eval.specs.Loops.{limits, Entered, entered_with, increment, frame, exit_touches, exit_when_none, entry_touches}
 use Rattle.ped_eval.specs.Runs.{run}
 use Rattle.ped_interleavings.specs.Lefts.{Left, finished, begins, ends_turn, open_loop, Lefts, no_lefts, more_lefts, left_of, left_of_all, body_left, turns_left, lefts_by, entered_left, many, pick, with_left}
 use Rattle.ped_interleavings.specs.Steps.{went, act_of, inside, opened_step, step, step_at}

@@ -1,6 +1,6 @@
 -- One step of a run whose PARALLEL DO loops go on in any order: an assignment, a READ, a PRINT, a STOP, a condition, the entry of a DO, the end of an iteration of a DO, or the close of a PARALLEL DO. A number picks the iteration that does it (this project).
 use Rattle.std.specs.Prelude.{ℕ, zero, suc, ◌+◌, ◌/◌, List, [], ◌∷◌, Option, Some, None, Result, Ok, Err, if◌then◌else◌}
-use Rattle.ped_tree.specs.Tree.{StmtTree, StmtTrees, Assign, If, Do, Print, Read, Stop, Comment}
+use Rattle.ped_tree.specs.Tree.{StmtTree, Assign, If, Do, Print, Read, Stop, Comment}
 use Rattle.ped_tree.specs.Numbering.{statements_count}
 use Rattle.ped_eval.specs.ped_store.specs.Stores.{Store}
 use Rattle.ped_eval.specs.ped_store.specs.Acts.{Touch, Place, Step, did, entered, ended_turn, closed, Act}

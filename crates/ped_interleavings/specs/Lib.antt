@@ -1,3 +1,4 @@
+pub use Rattle.ped_tree
 pub use Rattle.ped_eval
 pub mod Lefts
 pub mod Steps

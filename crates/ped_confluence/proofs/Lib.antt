@@ -1,0 +1,9 @@
+pub mod Traces
+pub mod Doing
+pub mod Picks
+pub mod Stepping
+pub mod Tracing
+pub mod Halting
+pub mod Reaching
+pub mod Outcomes
+pub mod InOrder

@@ -1,0 +1,7 @@
+//! Confluence: where a program runs without a race, the order in which the iterations of its PARALLEL DO loops go on
+//! doesn't show. No function here does anything; its contract is the law, and docs/MEANING.md tells how it is proved.
+#![tactic(auto)]
+
+mod agreeing;
+
+pub use agreeing::{interleavings_agree, without_choices};

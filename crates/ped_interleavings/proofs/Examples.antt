@@ -102,6 +102,13 @@ going_round = program (one (parallel_i 5 (one (prints i))))
 goes_round : IsInterleaved going_round [] (2 ∷ 2 ∷ 2 ∷ 2 ∷ 2 ∷ []) (printed (3 ∷ 4 ∷ 5 ∷ 1 ∷ 2 ∷ []))
 goes_round = comes_in 7 going_round (at_start going_round [] (2 ∷ 2 ∷ 2 ∷ 2 ∷ 2 ∷ [])) _ refl
 
+-- K = 1; PARALLEL DO 10 I = 1, 2; PRINT *, I; PARALLEL DO 20 I = 1, 3; PRINT *, I*10: outside iterations of a PARALLEL DO, and where one is closed, choices wait
+abbrev waiting : ProgramTree
+waiting = program (more_stmts (Assign k (Int 1)) (more_stmts (parallel_i 2 (one (prints i))) (one (parallel_i 3 (one (prints (Mul i (Int 10))))))))
+
+choices_wait : IsInterleaved waiting [] (1 ∷ 0 ∷ 2 ∷ 2 ∷ []) (printed (2 ∷ 1 ∷ 30 ∷ 10 ∷ 20 ∷ []))
+choices_wait = comes_in 10 waiting (at_start waiting [] (1 ∷ 0 ∷ 2 ∷ 2 ∷ [])) _ refl
+
 -- PARALLEL DO 10 I = 1, 2; PRINT *, I; STOP; PRINT *, 9: nothing is done behind the STOP, and choices may be left
 abbrev stopping : ProgramTree
 stopping = program (more_stmts (parallel_i 2 (one (prints i))) (more_stmts Stop (one (prints (Int 9)))))

@@ -1,0 +1,11 @@
+-- Lemmas of bodies: statements rewritten at another place do likewise, and a DO is made of its trips.
+pub mod Corresponding
+pub mod LikewiseSight
+pub mod LikewiseReads
+pub mod LikewisePlaces
+pub mod LikewiseRuns
+pub mod TripLists
+pub mod Rewritings
+pub mod MovedCells
+pub mod StandingPlaces
+pub mod Instances

@@ -1,0 +1,55 @@
+-- Acts that are done likewise: on cells that correspond, in iterations that correspond (this project).
+use Rattle.std.specs.Prelude.{◌≡◌, ℕ, List, [], ◌∷◌, ◌++◌, map, Bool, true, ◌⊎◌}
+use Rattle.ped_laws.specs.ped_store.specs.Cells.{Cell, Element, In, Out}
+use Rattle.ped_laws.specs.ped_store.specs.Stores.{Store}
+use Rattle.ped_laws.specs.ped_store.specs.Acts.{Turn, Touch, Act}
+use Rattle.ped_laws.specs.Acts.Fitting.{of_cells}
+use Rattle.ped_laws.specs.ped_eval.specs.Runs.{Run}
+use Rattle.ped_laws.specs.Runs.Replaying.{Finish, Replays}
+use Rattle.ped_steps.specs.Runs.Renumbering.{renumbered_turn}
+
+-- cells get other names, but elements, the data and the output keep theirs (this project)
+pub record NamesScalars (name : Cell → Cell) : Type 0 where
+  pub element : (x : _) (subscripts : _) → name (Element x subscripts) ≡ Element x subscripts
+  pub input : name In ≡ In
+  pub output : name Out ≡ Out
+
+-- two cells correspond: the second is the first by its new name, or both are cells of which a step asks nothing (this project)
+abbrev pub Meet : (name : Cell → Cell) (idle : Cell → Bool) → Cell → Cell → Type 0
+Meet name idle c d = (d ≡ name c) ⊎ ((idle c ≡ true) × (idle d ≡ true))
+
+-- two touches correspond: the same reference reads or writes the same content, in cells that correspond (this project)
+pub record Meets (name : Cell → Cell) (idle : Cell → Bool) (x y : Touch) : Type 0 where
+  pub manner : y.manner ≡ x.manner
+  pub reference : y.reference ≡ x.reference
+  pub content : y.content ≡ x.content
+  pub cells : Meet name idle x.cell y.cell
+
+-- touches correspond one by one, in order (this project)
+abbrev pub AllMeet : (name : Cell → Cell) (idle : Cell → Bool) → List Touch → List Touch → Type 0
+AllMeet name idle [] [] = Unit {0}
+AllMeet name idle [] (y ∷ ys) = ⊥
+AllMeet name idle (x ∷ xs) [] = ⊥
+AllMeet name idle (x ∷ xs) (y ∷ ys) = Meets name idle x y × AllMeet name idle xs ys
+
+-- an act is done likewise: the same step of the statement with the new number, in the other iterations and, further inside, in the same ones under new numbers; it touches cells that correspond. What places tell may differ (this project)
+pub record IsLikewise (name : Cell → Cell) (idle : Cell → Bool) (f : ℕ → ℕ) (turns others : List Turn) (a b : Act) : Type 0 where
+  pub step : b.step ≡ a.step
+  pub statement : b.place.statement ≡ f a.place.statement
+  pub more : List Turn
+  pub old : a.place.turns ≡ turns ++ more
+  pub new : b.place.turns ≡ others ++ map (renumbered_turn f) more
+  pub touches : AllMeet name idle (of_cells a.touches) (of_cells b.touches)
+
+-- acts are done likewise one by one, in order (this project)
+abbrev pub AreLikewise : (name : Cell → Cell) (idle : Cell → Bool) (f : ℕ → ℕ) (turns others : List Turn) → List Act → List Act → Type 0
+AreLikewise name idle f turns others [] [] = Unit {0}
+AreLikewise name idle f turns others [] (b ∷ bs) = ⊥
+AreLikewise name idle f turns others (a ∷ more) [] = ⊥
+AreLikewise name idle f turns others (a ∷ more) (b ∷ bs) = IsLikewise name idle f turns others a b × AreLikewise name idle f turns others more bs
+
+-- a piece of a run does likewise what these acts did, from each store that its own acts fit, and ends so (this project)
+pub record DoesLikewise (name : Cell → Cell) (idle : Cell → Bool) (f : ℕ → ℕ) (turns others : List Turn) (acts : List Act) (finish : Finish) (piece : Store → Run) : Type 0 where
+  pub fresh : List Act
+  pub likewise : AreLikewise name idle f turns others acts fresh
+  pub replays : Replays piece fresh finish

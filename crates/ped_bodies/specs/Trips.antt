@@ -1,0 +1,62 @@
+-- A DO taken apart into its trips, one for each iteration, and put together from them (ANSI X3.9-1978, section 11.10; this project).
+use Rattle.std.specs.Prelude.{◌≡◌, ℕ, ◌-◌, ◌≤◌, List, [], ◌∷◌, ◌++◌, Bool, ◌==◌, ◌&&◌, not, Ok, if◌then◌else◌}
+use Rattle.std.specs.List.{flat_map, range_with_len}
+use Rattle.ped_tree.specs.Tree.{Head, StmtTrees, Do}
+use Rattle.ped_laws.specs.ped_store.specs.Stores.{Store}
+use Rattle.ped_laws.specs.ped_store.specs.Acts.{Place, Act, entered, ended_turn, closed}
+use Rattle.ped_laws.specs.Acts.Fitting.{store_after}
+use Rattle.ped_laws.specs.ped_eval.specs.Scopes.{Setting, Scope, names_in, place_of}
+use Rattle.ped_laws.specs.ped_eval.specs.Evaluation.{Seen}
+use Rattle.ped_laws.specs.ped_eval.specs.Loops.{Limits, limits, Entered, entered_with, frame, exit_touches, exit_when_none, entry_touches}
+use Rattle.ped_laws.specs.ped_eval.specs.Runs.{run}
+use Rattle.ped_laws.specs.ped_eval.specs.Turns.{body_run}
+use Rattle.ped_laws.specs.Runs.Replaying.{goes_on, finish_of, act}
+
+-- the entry of a DO, whose bounds have read this (ANSI X3.9-1978, section 11.10.3)
+abbrev pub loop_entry : List Seen → Entered → Scope → Place → Act
+loop_entry seen e scope at = act (entered e.count) at (entry_touches seen e scope)
+
+-- the end of iteration k of a DO; those of a PARALLEL DO have none (ANSI X3.9-1978, section 11.10.4; ParaScope)
+abbrev pub trip_end : Entered → Scope → Place → ℕ → List Act
+trip_end e scope at k = if e.head.parallel then [] else act (ended_turn (e.count - k)) at (exit_when_none (e.count - k) e scope) ∷ []
+
+-- so many trips with their ends, the first of which has number k (ANSI X3.9-1978, sections 11.10.4 to 11.10.7)
+abbrev pub trips : Entered → Scope → Place → (ℕ → List Act) → (k count : ℕ) → List Act
+trips e scope at trip k count = flat_map (λ j. trip j ++ trip_end e scope at j) (range_with_len k count)
+
+-- the close of a PARALLEL DO that has had iterations; another DO has none (ParaScope)
+abbrev pub loop_close : Entered → Scope → Place → List Act
+loop_close e scope at = if e.head.parallel && not (e.count == 0) then act closed at (exit_touches e scope) ∷ [] else []
+
+-- a DO by its trips: its entry, the trips with their ends, and its close (ANSI X3.9-1978, section 11.10; this project)
+abbrev pub loop_acts : List Seen → Entered → Scope → Place → (ℕ → List Act) → List Act
+loop_acts seen e scope at trip = loop_entry seen e scope at ∷ (trips e scope at trip 1 e.count ++ loop_close e scope at)
+
+-- the store before trip k of a DO that was entered from the store s (this project)
+abbrev pub store_before : List Seen → Entered → Scope → Place → (ℕ → List Act) → Store → ℕ → Store
+store_before seen e scope at trip s k = store_after (loop_entry seen e scope at ∷ trips e scope at trip 1 (k - 1)) s
+
+-- this holds of the number of each iteration of a DO that has been entered (plain words)
+abbrev pub OfTrips : Entered → (ℕ → Type 0) → Type 0
+OfTrips e P = (k : ℕ) → 1 ≤ k → k ≤ e.count → P k
+
+-- what a DO has read in its bounds when it is reached with this store (plain words)
+abbrev pub bounds_seen : Setting → Head → Scope → Store → List Seen
+bounds_seen p d scope s = (limits (names_in p scope) d s).seen
+
+-- a DO that is entered from the store s with these limits (plain words)
+abbrev pub entered_from : Setting → Head → StmtTrees → ℕ → Scope → Store → Limits → Entered
+entered_from p d body n scope s l = entered_with p n d body (bounds_seen p d scope s) l
+
+-- a trip is what the body does in this iteration from this store, and the body goes on (this project)
+pub record IsTrip (p : Setting) (body : StmtTrees) (n : ℕ) (scope : Scope) (e : Entered) (k : ℕ) (u : Store) (acts : List Act) : Type 0 where
+  pub goes : finish_of (body_run p body n scope (frame e k) u).ending ≡ goes_on
+  pub is : acts ≡ (body_run p body n scope (frame e k) u).acts
+
+-- the run of a DO from the store s by its trips: its bounds have values, with which it is entered, and each trip is what its body does in that iteration from the store that is left before it (ANSI X3.9-1978, section 11.10; this project)
+pub record IsMadeOfTrips (p : Setting) (d : Head) (body : StmtTrees) (n : ℕ) (scope : Scope) (s : Store) : Type 0 where
+  pub bounds : Limits
+  pub come : (limits (names_in p scope) d s).result ≡ Ok bounds
+  pub trip : ℕ → List Act
+  pub are : OfTrips (entered_from p d body n scope s bounds) (λ k. IsTrip p body n scope (entered_from p d body n scope s bounds) k (store_before (bounds_seen p d scope s) (entered_from p d body n scope s bounds) scope (place_of p n scope) trip s k) (trip k))
+  pub acts : (run p (Do d body) n scope s).acts ≡ loop_acts (bounds_seen p d scope s) (entered_from p d body n scope s bounds) scope (place_of p n scope) trip

@@ -1,0 +1,17 @@
+//! Bodies of loops: laws by which statements do likewise at another place, with expressions rewritten, and by which a DO
+//! is made of its trips. Each function here does nothing; its contract is the law, and docs/MEANING.md tells what the
+//! laws are for.
+#![tactic(auto)]
+
+mod bodies;
+mod likewise;
+mod rewriting;
+mod trips;
+mod values;
+
+pub use bodies::{bodies_in_other_iterations, bodies_substituted, bodies_with_other_copies};
+pub use likewise::{bodies_likewise, statements_likewise};
+pub use ped_steps;
+pub use rewriting::rewritings;
+pub use trips::{loops_apart, loops_made};
+pub use values::values_told_inside;

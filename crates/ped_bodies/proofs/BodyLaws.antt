@@ -4,8 +4,11 @@ pub mod LikewiseSight
 pub mod LikewiseReads
 pub mod LikewisePlaces
 pub mod LikewiseRuns
+pub mod LikewiseActs
 pub mod TripLists
+pub mod TripsLikewise
 pub mod Rewritings
 pub mod MovedCells
 pub mod StandingPlaces
 pub mod Instances
+pub mod Examples

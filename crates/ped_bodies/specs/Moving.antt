@@ -11,10 +11,6 @@ use Rattle.ped_steps.specs.Runs.Renumbering.{renumbered_iteration}
 use Rattle.ped_bodies.specs.Likewise.{Meet}
 use Rattle.ped_bodies.specs.Standing.{IsTold, HaveVariablesIn}
 
--- no cell is idle (plain words)
-abbrev pub no_cell : Cell → Bool
-no_cell c = false
-
 -- statements keep their numbers (plain words)
 abbrev pub own_number : ℕ → ℕ
 own_number n = n

@@ -1,16 +1,19 @@
 -- A DO taken apart into its trips, one for each iteration, and put together from them (ANSI X3.9-1978, section 11.10; this project).
-use Rattle.std.specs.Prelude.{◌≡◌, ℕ, ◌-◌, ◌≤◌, List, [], ◌∷◌, ◌++◌, Bool, ◌==◌, ◌&&◌, not, Ok, if◌then◌else◌}
+use Rattle.std.specs.Prelude.{◌≡◌, ℕ, ◌+◌, ◌-◌, ◌≤◌, List, [], ◌∷◌, ◌++◌, Bool, ◌==◌, ◌&&◌, not, Ok, if◌then◌else◌}
 use Rattle.std.specs.List.{flat_map, range_with_len}
 use Rattle.ped_tree.specs.Tree.{Head, StmtTrees, Do}
+use Rattle.ped_laws.specs.ped_store.specs.Cells.{Cell}
 use Rattle.ped_laws.specs.ped_store.specs.Stores.{Store}
 use Rattle.ped_laws.specs.ped_store.specs.Acts.{Place, Act, entered, ended_turn, closed}
 use Rattle.ped_laws.specs.Acts.Fitting.{store_after}
-use Rattle.ped_laws.specs.ped_eval.specs.Scopes.{Setting, Scope, names_in, place_of}
+use Rattle.ped_laws.specs.ped_eval.specs.Scopes.{Setting, Scope, turns_of, names_in, place_of}
 use Rattle.ped_laws.specs.ped_eval.specs.Evaluation.{Seen}
 use Rattle.ped_laws.specs.ped_eval.specs.Loops.{Limits, limits, Entered, entered_with, frame, exit_touches, exit_when_none, entry_touches}
 use Rattle.ped_laws.specs.ped_eval.specs.Runs.{run}
 use Rattle.ped_laws.specs.ped_eval.specs.Turns.{body_run}
-use Rattle.ped_laws.specs.Runs.Replaying.{goes_on, finish_of, act}
+use Rattle.ped_laws.specs.Runs.Replaying.{goes_on, finish_of, act, Replays, IsEntered}
+use Rattle.ped_bodies.specs.Likewise.{AreLikewise}
+use Rattle.ped_bodies.specs.Standing.{GoLikewise}
 
 -- the entry of a DO, whose bounds have read this (ANSI X3.9-1978, section 11.10.3)
 abbrev pub loop_entry : List Seen → Entered → Scope → Place → Act
@@ -53,10 +56,21 @@ pub record IsTrip (p : Setting) (body : StmtTrees) (n : ℕ) (scope : Scope) (e 
   pub goes : finish_of (body_run p body n scope (frame e k) u).ending ≡ goes_on
   pub is : acts ≡ (body_run p body n scope (frame e k) u).acts
 
--- the run of a DO from the store s by its trips: its bounds have values, with which it is entered, and each trip is what its body does in that iteration from the store that is left before it (ANSI X3.9-1978, section 11.10; this project)
+-- the run of a DO from the store s by its trips: its bounds have values, with which it is entered, here and from each store that holds what they have read; and each trip is what its body does in that iteration from the store that is left before it (ANSI X3.9-1978, section 11.10; this project)
 pub record IsMadeOfTrips (p : Setting) (d : Head) (body : StmtTrees) (n : ℕ) (scope : Scope) (s : Store) : Type 0 where
   pub bounds : Limits
   pub come : (limits (names_in p scope) d s).result ≡ Ok bounds
+  pub entered : IsEntered p n scope d body (bounds_seen p d scope s) (entered_from p d body n scope s bounds)
   pub trip : ℕ → List Act
   pub are : OfTrips (entered_from p d body n scope s bounds) (λ k. IsTrip p body n scope (entered_from p d body n scope s bounds) k (store_before (bounds_seen p d scope s) (entered_from p d body n scope s bounds) scope (place_of p n scope) trip s k) (trip k))
   pub acts : (run p (Do d body) n scope s).acts ≡ loop_acts (bounds_seen p d scope s) (entered_from p d body n scope s bounds) scope (place_of p n scope) trip
+
+-- a DO of which each trip does likewise what some trip of an old one did: it replays the loop that is made of these trips (this project)
+pub record MakesTripsLikewise (name : Cell → Cell) (idle : Cell → Bool) (f : ℕ → ℕ) (e : Entered) (scope : Scope) (trip : ℕ → List Act) (of : ℕ → ℕ) (q : Setting) (d : Head) (body : StmtTrees) (m : ℕ) (other : Scope) (seen : List Seen) (z : Entered) : Type 0 where
+  pub fresh : ℕ → List Act
+  pub likewise : OfTrips z (λ j. AreLikewise name idle f (turns_of (frame e (of j) ∷ scope)) (turns_of (frame z j ∷ other)) (trip (of j)) (fresh j))
+  pub replays : Replays (run q (Do d body) m other) (loop_acts seen z other (place_of q m other) fresh) goes_on
+
+-- in each of its iterations the body of a DO does likewise what that of an old one did in one of its own (this project)
+abbrev pub DoTripsLikewise : (name : Cell → Cell) (idle : Cell → Bool) (f : ℕ → ℕ) (p : Setting) (body : StmtTrees) (n : ℕ) (scope : Scope) (e : Entered) (of : ℕ → ℕ) (q : Setting) (others : StmtTrees) (m : ℕ) (other : Scope) (z : Entered) → Type 0
+DoTripsLikewise name idle f p body n scope e of q others m other z = OfTrips z (λ j. (1 ≤ of j) × (of j ≤ e.count) × GoLikewise name idle f p q body others (n + 1) (m + 1) (frame e (of j) ∷ scope) (frame z j ∷ other))

@@ -8,10 +8,13 @@ ghost use Rattle.ped_tree.specs.NamesIn.{stmts_names};
 ghost use Rattle.ped_tree.specs.Tree.{ExprTree, Var, StmtTrees};
 ghost use Rattle.ped_sums.specs.Substitution.{substituted, statements_substituted};
 ghost use Rattle.ped_laws.specs.Acts.Renaming.{own_name};
+ghost use Rattle.ped_laws.specs.Acts.Sets.{nothing};
 ghost use Rattle.ped_laws.specs.ped_store.specs.Acts.{iterations_of};
+ghost use Rattle.ped_laws.specs.ped_store.specs.Cells.{Cell};
 ghost use Rattle.ped_laws.specs.ped_eval.specs.Loops.{all_index_names};
 ghost use Rattle.ped_laws.specs.ped_eval.specs.Scopes.{Setting, Frame, Scope, turns_of};
-ghost use Rattle.ped_bodies.specs.Moving.{no_cell, own_number, is_cell_of, moved_behind, turned, transposed, in_strips, peeled, in_loop, HaveNoCopies, HaveSameCopies, TellAlike, TellTheSame, ToldInside, GivesWayTo};
+ghost use Rattle.ped_steps.specs.Runs.Exchanging.{IsExchange, AreExchanged};
+ghost use Rattle.ped_bodies.specs.Moving.{own_number, is_cell_of, moved_behind, turned, transposed, in_strips, peeled, in_loop, HaveNoCopies, HaveSameCopies, TellAlike, TellTheSame, ToldInside, GivesWayTo};
 ghost use Rattle.ped_bodies.specs.Rewriting.{MayBeRewritten};
 ghost use Rattle.ped_bodies.specs.Standing.{SettingsAgree, GoLikewise};
 
@@ -20,35 +23,39 @@ ghost use Rattle.ped_bodies.specs.Standing.{SettingsAgree, GoLikewise};
 /// interchanged. In the order of the clauses.
 pub fn bodies_in_other_iterations()
     ensures reversed { (p q : Setting) (ts : StmtTrees) (n m : ℕ) (scope : Scope) (l k : ℕ) (r z : Frame) → SettingsAgree own_number p q ts n m → r.turn.statement ≡ l → z.turn.statement ≡ l → z.turn.number ≡ k + 1 - r.turn.number → TellAlike r z → z.private ≡ r.private
-        → GoLikewise (moved_behind (iterations_of (turns_of scope)) (turned l k)) no_cell own_number p q ts ts n m (r ∷ scope) (z ∷ scope) }
+        → GoLikewise (moved_behind (iterations_of (turns_of scope)) (turned l k)) nothing own_number p q ts ts n m (r ∷ scope) (z ∷ scope) }
     ensures distributed { (p q : Setting) (ts : StmtTrees) (n m : ℕ) (scope : Scope) (l k : ℕ) (r z : Frame) → SettingsAgree own_number p q ts n m → r.turn.statement ≡ l → z.turn.statement ≡ k → z.turn.number ≡ r.turn.number → TellAlike r z → z.private ≡ r.private
-        → GoLikewise (moved_behind (iterations_of (turns_of scope)) (in_loop l k)) no_cell own_number p q ts ts n m (r ∷ scope) (z ∷ scope) }
+        → GoLikewise (moved_behind (iterations_of (turns_of scope)) (in_loop l k)) nothing own_number p q ts ts n m (r ∷ scope) (z ∷ scope) }
     ensures stripped { (p q : Setting) (ts : StmtTrees) (n m : ℕ) (scope : Scope) (l inner size : ℕ) (r strip z : Frame) → SettingsAgree own_number p q ts n m → r.turn.statement ≡ l → strip.turn.statement ≡ l → z.turn.statement ≡ inner → strip.turn.number ≡ (r.turn.number - 1) / size + 1
         → z.turn.number ≡ (r.turn.number - 1) % size + 1 → TellAlike r z → r.private ≡ [] → strip.private ≡ [] → z.private ≡ [] → is_among strip.variable (stmts_names ts) ≡ false
-        → GoLikewise (moved_behind (iterations_of (turns_of scope)) (in_strips l inner size)) no_cell own_number p q ts ts n m (r ∷ scope) (z ∷ (strip ∷ scope)) }
+        → GoLikewise (moved_behind (iterations_of (turns_of scope)) (in_strips l inner size)) nothing own_number p q ts ts n m (r ∷ scope) (z ∷ (strip ∷ scope)) }
     ensures unpeeled { (p q : Setting) (ts : StmtTrees) (n m : ℕ) (scope : Scope) (l k : ℕ) (f : ℕ → ℕ) (r z : Frame) → SettingsAgree own_number p q ts n m → r.turn.statement ≡ l → z.turn.statement ≡ l → (r.turn.number == k) ≡ false → z.turn.number ≡ (if k == 1 then r.turn.number - 1 else r.turn.number) → TellAlike r z → z.private ≡ r.private
-        → GoLikewise (moved_behind (iterations_of (turns_of scope)) (peeled l k f)) no_cell own_number p q ts ts n m (r ∷ scope) (z ∷ scope) }
+        → GoLikewise (moved_behind (iterations_of (turns_of scope)) (peeled l k f)) nothing own_number p q ts ts n m (r ∷ scope) (z ∷ scope) }
     ensures interchanged { (p q : Setting) (ts : StmtTrees) (n m : ℕ) (scope : Scope) (outer inner : ℕ) (column row : ℕ → ℕ → ℕ) (j i r z : Frame) → SettingsAgree own_number p q ts n m → i.turn.statement ≡ outer → z.turn.statement ≡ outer → r.turn.statement ≡ inner → z.turn.number ≡ column i.turn.number j.turn.number
         → r.turn.number ≡ row i.turn.number j.turn.number → TellAlike i r → TellAlike j z → is_same_text i.variable j.variable ≡ false → HaveNoCopies (j ∷ (i ∷ [])) → HaveNoCopies (r ∷ (z ∷ []))
-        → GoLikewise (moved_behind (iterations_of (turns_of scope)) (transposed outer inner column row)) no_cell own_number p q ts ts n m (j ∷ (i ∷ scope)) (r ∷ (z ∷ scope)) }
+        → GoLikewise (moved_behind (iterations_of (turns_of scope)) (transposed outer inner column row)) nothing own_number p q ts ts n m (j ∷ (i ∷ scope)) (r ∷ (z ∷ scope)) }
 {}
 
 /// Statements do likewise in the same iterations where some names have other copies; which DO is parallel doesn't count.
 /// The cells of these names are idle. For the body of a loop that becomes parallel or serial, and for what stands round a
-/// loop in which a step brings or takes a name.
+/// loop in which a step brings or takes a name. And they do likewise where cells have changed places, as where a scalar
+/// becomes private.
 pub fn bodies_with_other_copies()
-    ensures { (p q : Setting) (ts : StmtTrees) (n m : ℕ) (apart : List (List ℕ)) (scope other : Scope) → SettingsAgree own_number p q ts n m → HaveSameCopies apart scope other → TellTheSame (stmts_names ts) scope other → GoLikewise own_name (is_cell_of apart) own_number p q ts ts n m scope other }
+    ensures idle { (p q : Setting) (ts : StmtTrees) (n m : ℕ) (apart : List (List ℕ)) (scope other : Scope) → SettingsAgree own_number p q ts n m → HaveSameCopies apart scope other → TellTheSame (stmts_names ts) scope other → GoLikewise own_name (is_cell_of apart) own_number p q ts ts n m scope other }
+    ensures exchanged { (p q : Setting) (ts : StmtTrees) (n m : ℕ) (name : Cell → Cell) (scope other : Scope) → SettingsAgree own_number p q ts n m → IsExchange name → AreExchanged name scope other → GoLikewise name nothing own_number p q ts ts n m scope other }
 {}
 
 /// A body with an expression in place of a DO variable does likewise: outside the loop, where an iteration is peeled off,
 /// whose copies count by new numbers; in the same iterations, where the variable has another value, as in a loop that is
-/// skewed; and in the loop with which its own one is fused.
+/// skewed; in the same iteration of a loop that has got another variable; and in the loop with which its own one is fused.
 pub fn bodies_substituted()
     ensures peeled { (f : ℕ → ℕ) (p q : Setting) (ts : StmtTrees) (n m : ℕ) (scope : Scope) (l k : ℕ) (r : Frame) (by : ExprTree) → SettingsAgree f p q ts n m → r.turn.statement ≡ l → r.turn.number ≡ k → r.private ≡ [] → MayBeRewritten (substituted r.variable by) p.constants ts → value_named q.constants r.variable ≡ None
-        → ToldInside q (all_index_names ts) r.variable scope by r.turn.value → GoLikewise (moved_behind (iterations_of (turns_of scope)) (peeled l k f)) no_cell f p q ts (statements_substituted r.variable by ts) n m (r ∷ scope) scope }
+        → ToldInside q (all_index_names ts) r.variable scope by r.turn.value → GoLikewise (moved_behind (iterations_of (turns_of scope)) (peeled l k f)) nothing f p q ts (statements_substituted r.variable by ts) n m (r ∷ scope) scope }
     ensures skewed { (p q : Setting) (ts : StmtTrees) (n m : ℕ) (x : List ℕ) (by : ExprTree) (scope other : Scope) → SettingsAgree own_number p q ts n m → HaveSameCopies [] scope other → MayBeRewritten (substituted x by) p.constants ts → GivesWayTo q (stmts_names ts) (all_index_names ts) x by scope other
-        → GoLikewise own_name no_cell own_number p q ts (statements_substituted x by ts) n m scope other }
+        → GoLikewise own_name nothing own_number p q ts (statements_substituted x by ts) n m scope other }
+    ensures renamed { (p q : Setting) (ts : StmtTrees) (n m : ℕ) (scope : Scope) (r z : Frame) → SettingsAgree own_number p q ts n m → z.turn ≡ r.turn → z.private ≡ r.private → MayBeRewritten (substituted r.variable (Var z.variable)) p.constants ts → value_named q.constants r.variable ≡ None
+        → value_named q.constants z.variable ≡ None → is_among z.variable (all_index_names ts) ≡ false → is_among z.variable (stmts_names ts) ≡ false → GoLikewise own_name nothing own_number p q ts (statements_substituted r.variable (Var z.variable) ts) n m (r ∷ scope) (z ∷ scope) }
     ensures fused { (p q : Setting) (ts : StmtTrees) (n m : ℕ) (scope : Scope) (l k : ℕ) (r z : Frame) → SettingsAgree own_number p q ts n m → r.turn.statement ≡ l → z.turn.statement ≡ k → z.turn.number ≡ r.turn.number → z.turn.value ≡ r.turn.value → z.private ≡ r.private → MayBeRewritten (substituted r.variable (Var z.variable)) p.constants ts
         → value_named q.constants r.variable ≡ None → value_named q.constants z.variable ≡ None → is_among z.variable (all_index_names ts) ≡ false → is_among z.variable (stmts_names ts) ≡ false
-        → GoLikewise (moved_behind (iterations_of (turns_of scope)) (in_loop l k)) no_cell own_number p q ts (statements_substituted r.variable (Var z.variable) ts) n m (r ∷ scope) (z ∷ scope) }
+        → GoLikewise (moved_behind (iterations_of (turns_of scope)) (in_loop l k)) nothing own_number p q ts (statements_substituted r.variable (Var z.variable) ts) n m (r ∷ scope) (z ∷ scope) }
 {}

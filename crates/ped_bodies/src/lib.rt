@@ -3,15 +3,17 @@
 //! laws are for.
 #![tactic(auto)]
 
+mod acts;
 mod bodies;
 mod likewise;
 mod rewriting;
 mod trips;
 mod values;
 
+pub use acts::likewise_acts;
 pub use bodies::{bodies_in_other_iterations, bodies_substituted, bodies_with_other_copies};
 pub use likewise::{bodies_likewise, statements_likewise};
 pub use ped_steps;
 pub use rewriting::rewritings;
-pub use trips::{loops_apart, loops_made};
+pub use trips::{loops_apart, loops_likewise, loops_made};
 pub use values::values_told_inside;

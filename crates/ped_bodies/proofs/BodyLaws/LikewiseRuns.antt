@@ -28,6 +28,7 @@ use Rattle.ped_bodies.specs.Rewriting.{IsRewriting, condition_rewritten, item_re
 use Rattle.ped_bodies.specs.Likewise.{NamesScalars, IsLikewise, AreLikewise, DoesLikewise}
 use Rattle.ped_bodies.specs.Standing.{StandLikewise, CountBy, StandRewritten, GoLikewise}
 use Rattle.ped_bodies.proofs.BodyLaws.Corresponding.{Alike, alike_append, read_meets, write_meets, SeeAlike}
+use Rattle.ped_bodies.proofs.BodyLaws.LikewiseActs.{likewise_append}
 use Rattle.ped_bodies.proofs.BodyLaws.LikewiseSight.{Within, within_parts, within_first, among_first, among_rest, among_itself, among_more, Comes, truth_match, assigned_match, line_match, limits_match}
 use Rattle.ped_bodies.proofs.BodyLaws.LikewiseReads.{read_alike}
 use Rattle.ped_bodies.proofs.BodyLaws.LikewisePlaces.{count_kept, counts_kept, inner_kept, increment_kept, renumbered_frame, deeper, acts_outside}
@@ -102,12 +103,6 @@ module _ (f : ℕ → ℕ) (p q : Setting) where
   part_by count n m part j start other e r h by k l = ap q.number (omega (arith, r)) ∙ by (j + k) (omega (arith, h, l)) ∙ ap (λ (i : ℕ). f (p.number i)) (omega (arith, e))
 
 module _ (name : Cell → Cell) (idle : Cell → Bool) (f : ℕ → ℕ) where
-  likewise_append : (T O : List Turn) (acts others more further : List Act) → AreLikewise name idle f T O acts others → AreLikewise name idle f T O more further → AreLikewise name idle f T O (acts ++ more) (others ++ further)
-  likewise_append T O [] [] more further h k = k
-  likewise_append T O [] (b ∷ others) more further h k = absurd h
-  likewise_append T O (a ∷ acts) [] more further h k = absurd h
-  likewise_append T O (a ∷ acts) (b ∷ others) more further h k = (h.0, likewise_append T O acts others more further h.1 k)
-
   module _ (T O : List Turn) where
     -- what was done without a fault a piece does likewise, and ends alike
     abbrev pub GoesLikewise : Run → (Store → Run) → Type 0
@@ -125,7 +120,7 @@ module _ (name : Cell → Cell) (idle : Cell → Bool) (f : ℕ → ℕ) where
         let b = more u k in
         record {
           fresh = a.fresh ++ b.fresh;
-          likewise = likewise_append T O acts a.fresh (next u).acts b.fresh a.likewise b.likewise;
+          likewise = likewise_append name idle f T O acts a.fresh (next u).acts b.fresh a.likewise b.likewise;
           replays = replays_behind piece others a.fresh b.fresh (finish_of (next u).ending) a.replays b.replays;
         }
     followed_follow acts (stopped u) next piece others h more = λ k.

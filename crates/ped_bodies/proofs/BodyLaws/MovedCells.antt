@@ -1,15 +1,16 @@
 -- Cells at a place to which a body is moved.
-use Rattle.std.proofs.Common.{◌≡◌, ℕ, ◌+◌, ◌-◌, List, [], ◌∷◌, ◌++◌, map, Bool, true, false, ◌&&◌, eqb, eqb-true, Option, Some, None, inl, inr, refl, sym, ap, subst, ◌∙◌, arith, append_assoc, append-nil, if◌then◌else◌}
+use Rattle.std.proofs.Common.{◌≡◌, ℕ, ◌+◌, ◌-◌, ◌<◌, List, [], ◌∷◌, ◌++◌, map, length, Bool, true, false, ◌&&◌, eqb, eqb-true, Option, Some, None, inl, inr, refl, sym, ap, subst, ◌∙◌, arith, append_assoc, append-nil, if◌then◌else◌}
 use Rattle.std.specs.Prelude.{◌==◌, ◌/◌, ◌%◌}
-use Rattle.std.proofs.lemmas.List.{map-append}
+use Rattle.std.proofs.lemmas.List.{map-append, length-append, length-map}
 use Rattle.ped_steps.specs.ped_flow.specs.ped_base.specs.Lists.{is_among}
 use Rattle.ped_laws.specs.ped_store.specs.Cells.{Cell, Scalar, Element, Private, In, Out, Iteration, same_iteration}
 use Rattle.ped_laws.specs.ped_store.specs.Acts.{Turn, iterations_of}
 use Rattle.ped_laws.specs.Acts.Renaming.{own_name}
 use Rattle.ped_laws.specs.ped_eval.specs.Scopes.{Frame, Scope, turns_of, cell_of}
+use Rattle.ped_steps.specs.Runs.Exchanging.{IsExchange, AreExchanged}
 use Rattle.ped_steps.specs.Runs.Renumbering.{renumbered_iteration}
 use Rattle.ped_bodies.specs.Likewise.{NamesScalars, Meet}
-use Rattle.ped_bodies.specs.Moving.{is_cell_of, behind_front, with_rest, moved_behind, turned, transposed, in_strips, peeled, in_loop, HaveNoCopies, LeadTo, HaveSameCopies, CellsCorrespond}
+use Rattle.ped_bodies.specs.Moving.{own_number, is_cell_of, behind_front, with_rest, moved_behind, turned, transposed, in_strips, peeled, in_loop, HaveNoCopies, LeadTo, HaveSameCopies, CellsCorrespond}
 
 pub moved_names : (front : List Iteration) (g : List Iteration → List Iteration) → NamesScalars (moved_behind front g)
 moved_names front g = record { element = λ x js. refl; input = refl; output = refl }
@@ -117,7 +118,7 @@ module _ (idle : Cell → Bool) (f : ℕ → ℕ) (g : List Iteration → List I
       cell x = ap (λ (xs : List (List ℕ)). if is_among x xs then Private x (iterations_of (turns_of (z ∷ scope))) else cell_of scope x) same ∙ by x (is_among x r.private)
 
 -- the same iterations
-pub same_numbers : (path : List Iteration) → map (renumbered_iteration (λ k. k)) path ≡ path
+pub same_numbers : (path : List Iteration) → map (renumbered_iteration own_number) path ≡ path
 same_numbers [] = refl
 same_numbers (i ∷ path) = ap (λ (rest : List Iteration). i ∷ rest) (same_numbers path)
 
@@ -143,7 +144,7 @@ other_cell names [] (g ∷ gs) h x apart = absurd h
 other_cell names (f ∷ fs) [] h x apart = absurd h
 other_cell names (f ∷ fs) (g ∷ gs) h x apart = λ i. if h.2 x apart i then Private x (same_path names (f ∷ fs) (g ∷ gs) h i) else other_cell names fs gs h.3 x apart i
 
-pub same_cells : (names others : List (List ℕ)) (idle : Cell → Bool) (scope other : Scope) → ((c : Cell) → is_cell_of names c ≡ true → idle c ≡ true) → HaveSameCopies names scope other → CellsCorrespond own_name idle (λ k. k) others scope other
+pub same_cells : (names others : List (List ℕ)) (idle : Cell → Bool) (scope other : Scope) → ((c : Cell) → is_cell_of names c ≡ true → idle c ≡ true) → HaveSameCopies names scope other → CellsCorrespond own_name idle own_number others scope other
 same_cells names others idle scope other covers same = record {
   cell = λ x among. go x (is_among x names) refl;
   inside = λ x i more among. inl (λ j. Private x (same_path names scope other same j ++ same_numbers (i ∷ more) j));
@@ -153,23 +154,43 @@ same_cells names others idle scope other covers same = record {
     go x true h = inr (covers (cell_of scope x) (own_cell names scope x h), covers (cell_of other x) (own_cell names other x h))
     go x false h = inl (other_cell names scope other same x h)
 
+-- cells that have changed places in the same iterations
+pub exchanged_cells : (name : Cell → Cell) (idle : Cell → Bool) (names : List (List ℕ)) (scope other : Scope) → AreExchanged name scope other → CellsCorrespond name idle own_number names scope other
+exchanged_cells name idle names scope other same = record {
+  cell = λ x among. inl (same.cell x);
+  inside = λ x i more among. inl (copy x i more);
+}
+  where
+    longer : (i : Iteration) (more : List Iteration) → length (turns_of scope) < length (iterations_of (turns_of scope) ++ i ∷ more)
+    longer i more =
+        let same_length : length (iterations_of (turns_of scope)) ≡ length (turns_of scope) = length-map (turns_of scope) _ in
+        omega (arith, length-append (iterations_of (turns_of scope)) (i ∷ more))
+
+    copy : (x : List ℕ) (i : Iteration) (more : List Iteration) → Private x (iterations_of (turns_of other) ++ map (renumbered_iteration own_number) (i ∷ more)) ≡ name (Private x (iterations_of (turns_of scope) ++ i ∷ more))
+    copy x i more =
+        (λ j. Private x (iterations_of (same.turns j) ++ same_numbers (i ∷ more) j))
+        ∙ sym (same.inside x (iterations_of (turns_of scope) ++ i ∷ more) (longer i more))
+
+pub exchanged_names : (name : Cell → Cell) → IsExchange name → NamesScalars name
+exchanged_names name laws = record { element = laws.element; input = laws.input; output = laws.output }
+
 -- where the names of each step lead
 is_there : (l n : ℕ) → n ≡ l → (n == l) ≡ true
 is_there l n h = grind (arith, eqb-true)
 
-pub turned_leads : (l n : ℕ) (r z : Frame) → r.turn.statement ≡ l → z.turn.statement ≡ l → z.turn.number ≡ n + 1 - r.turn.number → LeadTo (turned l n) (λ k. k) (r ∷ []) (z ∷ [])
+pub turned_leads : (l n : ℕ) (r z : Frame) → r.turn.statement ≡ l → z.turn.statement ≡ l → z.turn.number ≡ n + 1 - r.turn.number → LeadTo (turned l n) own_number (r ∷ []) (z ∷ [])
 turned_leads l n r z at there number more =
     ap (λ (b : Bool). if b then record { statement = l; number = n + 1 - r.turn.number } ∷ more else record { statement = r.turn.statement; number = r.turn.number } ∷ more) (is_there l r.turn.statement at)
     ∙ (λ i. record { statement = sym there i; number = sym number i } ∷ sym (same_numbers more) i)
 
-pub in_loop_leads : (l k : ℕ) (r z : Frame) → r.turn.statement ≡ l → z.turn.statement ≡ k → z.turn.number ≡ r.turn.number → LeadTo (in_loop l k) (λ j. j) (r ∷ []) (z ∷ [])
+pub in_loop_leads : (l k : ℕ) (r z : Frame) → r.turn.statement ≡ l → z.turn.statement ≡ k → z.turn.number ≡ r.turn.number → LeadTo (in_loop l k) own_number (r ∷ []) (z ∷ [])
 in_loop_leads l k r z at there number more =
     ap (λ (b : Bool). if b then record { statement = k; number = r.turn.number } ∷ more else record { statement = r.turn.statement; number = r.turn.number } ∷ more) (is_there l r.turn.statement at)
     ∙ (λ i. record { statement = sym there i; number = sym number i } ∷ sym (same_numbers more) i)
 
 -- the inner iteration is the first of two frames
 pub transposed_leads : (outer inner : ℕ) (column row : ℕ → ℕ → ℕ) (j i i' j' : Frame) → i.turn.statement ≡ outer → j'.turn.statement ≡ outer → i'.turn.statement ≡ inner → j'.turn.number ≡ column i.turn.number j.turn.number → i'.turn.number ≡ row i.turn.number j.turn.number
-    → LeadTo (transposed outer inner column row) (λ k. k) (j ∷ (i ∷ [])) (i' ∷ (j' ∷ []))
+    → LeadTo (transposed outer inner column row) own_number (j ∷ (i ∷ [])) (i' ∷ (j' ∷ []))
 transposed_leads outer inner column row j i i' j' at there inside first second more =
     ap
     (λ (b : Bool).
@@ -179,7 +200,7 @@ transposed_leads outer inner column row j i i' j' at there inside first second m
     ∙ (λ k. record { statement = sym there k; number = sym first k } ∷ (record { statement = sym inside k; number = sym second k } ∷ sym (same_numbers more) k))
 
 pub strips_lead : (l inner size : ℕ) (r q z : Frame) → r.turn.statement ≡ l → q.turn.statement ≡ l → z.turn.statement ≡ inner → q.turn.number ≡ (r.turn.number - 1) / size + 1 → z.turn.number ≡ (r.turn.number - 1) % size + 1
-    → LeadTo (in_strips l inner size) (λ k. k) (r ∷ []) (z ∷ (q ∷ []))
+    → LeadTo (in_strips l inner size) own_number (r ∷ []) (z ∷ (q ∷ []))
 strips_lead l inner size r q z at there inside first second more =
     ap
     (λ (b : Bool).
@@ -193,7 +214,7 @@ peeled_leads l k f r at number more =
     (λ i. if is_there l r.turn.statement at i then if is_there k r.turn.number number i then map (renumbered_iteration f) more else record { statement = l; number = if k == 1 then r.turn.number - 1 else r.turn.number } ∷ more
     else record { statement = r.turn.statement; number = r.turn.number } ∷ more)
 
-pub unpeeled_leads : (l k : ℕ) (f : ℕ → ℕ) (r z : Frame) → r.turn.statement ≡ l → z.turn.statement ≡ l → (r.turn.number == k) ≡ false → z.turn.number ≡ (if k == 1 then r.turn.number - 1 else r.turn.number) → LeadTo (peeled l k f) (λ j. j) (r ∷ []) (z ∷ [])
+pub unpeeled_leads : (l k : ℕ) (f : ℕ → ℕ) (r z : Frame) → r.turn.statement ≡ l → z.turn.statement ≡ l → (r.turn.number == k) ≡ false → z.turn.number ≡ (if k == 1 then r.turn.number - 1 else r.turn.number) → LeadTo (peeled l k f) own_number (r ∷ []) (z ∷ [])
 unpeeled_leads l k f r z at there other number more =
     (λ i. if is_there l r.turn.statement at i then if other i then map (renumbered_iteration f) more else record { statement = l; number = if k == 1 then r.turn.number - 1 else r.turn.number } ∷ more
     else record { statement = r.turn.statement; number = r.turn.number } ∷ more)

@@ -1,6 +1,9 @@
 -- Places that stand alike: for statements that are moved, and for those in which a DO variable gives way to an expression.
-use Rattle.std.proofs.Common.{◌≡◌, ℕ, ℤ, pos, neg_ℤ, ◌+ℤ◌, ◌-ℤ◌, ◌*ℤ◌, List, [], ◌∷◌, ◌++◌, Bool, true, false, Option, Some, None, Result, Ok, Err, refl, sym, ap, subst, ◌∙◌, if◌then◌else◌}
+use Rattle.std.proofs.Common.{◌≡◌, ℕ, suc, ℤ, pos, negsuc, neg_ℤ, ◌+ℤ◌, ◌-ℤ◌, ◌*ℤ◌, List, [], ◌∷◌, ◌++◌, Bool, true, false, Option, Some, None, Result, Ok, Err, refl, sym, ap, subst, ◌∙◌, arith, eqb-true, if◌then◌else◌}
+use Rattle.std.specs.Prelude.{int_lt, ◌==◌}
+use Rattle.std.specs.Int.{is_negative}
 use Rattle.std.proofs.lemmas.Bool.{both_ways}
+use Rattle.std.proofs.lemmas.Int.{ints}
 use Rattle.ped_steps.specs.ped_flow.specs.ped_base.specs.Lists.{is_same_text, is_among}
 use Rattle.ped_steps.specs.ped_flow.specs.ped_base.specs.declared.arithmetic.faults.Fault.{Fault}
 use Rattle.ped_steps.specs.ped_flow.specs.ped_base.specs.declared.arithmetic.faults.Fault.TheVariants.{OutOfRange}
@@ -8,6 +11,7 @@ use Rattle.ped_steps.specs.ped_flow.specs.ped_base.specs.Arithmetic.Arithmetic.{
 use Rattle.ped_tree.proofs.NameLaws.NameEquality.{same_is}
 use Rattle.ped_tree.specs.Constants.NamedConstants.{value_named}
 use Rattle.ped_tree.specs.Tree.{ExprTree, Int, Var, Neg, Add, Sub, Mul}
+use Rattle.ped_sums.specs.Sums.{literal, times_of}
 use Rattle.ped_sums.specs.Substitution.{substituted}
 use Rattle.ped_laws.specs.ped_store.specs.Cells.{Cell}
 use Rattle.ped_laws.specs.ped_store.specs.Stores.{Store}
@@ -96,6 +100,15 @@ module _ (q : Setting) (loops : List (List ℕ)) (x : List ℕ) (other : Scope) 
   pub number_told : (n : ℕ) → ToldInside q loops x other (Int n) (pos n)
   number_told n fs variables apart = record { comes = λ s. refl; unseen = λ s. tt }
 
+  -- a literal, with a sign or without
+  pub literal_told : (n : ℤ) → is_in_range n ≡ true → ToldInside q loops x other (literal n) n
+  literal_told (pos n) fits fs variables apart = go (is_negative (pos n)) refl
+    where
+      go : (b : Bool) → is_negative (pos n) ≡ b → IsTold (value (names_in q (fs ++ other)) (if b then Neg (Int n) else Int n)) (pos n)
+      go true h = let k : int_lt (pos n) (pos 0) ≡ true = h in absurd (omega (arith, ints, k))
+      go false h = record { comes = λ s. refl; unseen = λ s. tt }
+  literal_told (negsuc n) fits fs variables apart = one_told negation_of (value (names_in q (fs ++ other)) (Int (suc n))) (pos (suc n)) (negsuc n) (record { comes = λ s. refl; unseen = λ s. tt }) (in_range_is (negsuc n) fits)
+
   pub negative_told : (e : ExprTree) (u : ℤ) → is_in_range (neg_ℤ u) ≡ true → ToldInside q loops x other e u → ToldInside q loops x other (Neg e) (neg_ℤ u)
   negative_told e u fits h fs variables apart = one_told negation_of (value (names_in q (fs ++ other)) e) u (neg_ℤ u) (h fs variables apart) (in_range_is (neg_ℤ u) fits)
 
@@ -107,6 +120,17 @@ module _ (q : Setting) (loops : List (List ℕ)) (x : List ℕ) (other : Scope) 
 
   pub product_told : (a b : ExprTree) (u v : ℤ) → is_in_range (u *ℤ v) ≡ true → ToldInside q loops x other a u → ToldInside q loops x other b v → ToldInside q loops x other (Mul a b) (u *ℤ v)
   product_told a b u v fits h k fs variables apart = two_told product_of (value (names_in q (fs ++ other)) a) (value (names_in q (fs ++ other)) b) u v (u *ℤ v) (h fs variables apart) (k fs variables apart) (in_range_is (u *ℤ v) fits)
+
+  -- a number times a variable
+  pub times_told : (k : ℕ) (w : List ℕ) (v : ℤ) → is_in_range (pos k *ℤ v) ≡ true → ToldInside q loops x other (Var w) v → ToldInside q loops x other (times_of k (Var w)) (pos k *ℤ v)
+  times_told k w v fits h fs variables apart = go (k == 1) refl
+    where
+      one : k ≡ 1 → v ≡ pos k *ℤ v
+      one is = sym (ap (λ (m : ℕ). pos m *ℤ v) is ∙ omega (arith, ints))
+
+      go : (b : Bool) → (k == 1) ≡ b → IsTold (value (names_in q (fs ++ other)) (if b then Var w else Mul (Int k) (Var w))) (pos k *ℤ v)
+      go true e = subst (IsTold (value (names_in q (fs ++ other)) (Var w))) (one (eqb-true k 1 e)) (h fs variables apart)
+      go false e = product_told (Int k) (Var w) (pos k) v fits (number_told k) h fs variables apart
 
   -- the variable that gives way, by its value at the new place
   pub itself_told : (v : ℤ) → value_named q.constants x ≡ None → index_value other x ≡ Some v → ToldInside q loops x other (Var x) v

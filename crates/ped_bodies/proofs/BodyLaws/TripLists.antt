@@ -13,7 +13,9 @@ use Rattle.ped_laws.specs.ped_eval.specs.Evaluation.{Seen}
 use Rattle.ped_laws.specs.ped_eval.specs.Loops.{Limits, limits, Entered, entered_with, frame, exit_touches, exit_when_none}
 use Rattle.ped_laws.specs.ped_eval.specs.Runs.{Run, nothing_done, does, turns, parallel_turns, run_entered, run}
 use Rattle.ped_laws.specs.ped_eval.specs.Turns.{body_run}
+use Rattle.ped_laws.specs.Runs.Seeing.{ComesTo}
 use Rattle.ped_laws.specs.Runs.Replaying.{Finish, goes_on, stops, faults, finish_of, is_going, act, behind, Replays, IsEntered}
+use Rattle.ped_laws.proofs.RunLaws.Sight.{limits_told}
 use Rattle.ped_laws.proofs.RunLaws.Joined.{replays_nothing, turns_more, parallel_more, loop_in_order, loop_empty, loop_closed, turns_apart, turns_alone, parallel_apart, parallel_alone, entry_apart, entry_fails, in_order_is, close_apart, close_missing}
 use Rattle.ped_bodies.specs.Trips.{loop_entry, trip_end, trips, loop_close, loop_acts, store_before, OfTrips, bounds_seen, entered_from, IsTrip, IsMadeOfTrips}
 
@@ -280,6 +282,7 @@ module _ (p : Setting) (d : Head) (body : StmtTrees) (n : ℕ) (scope : Scope) (
         record {
           bounds = l;
           come = is;
+          entered = (l, subst (ComesTo (limits (names_in p scope) d) seen) is ((limits_told (names_in p scope) d).comes s), refl);
           trip = trip;
           are = trip_done done;
           acts = ap (λ (r : Run). r.acts) whole ∙ ap (λ (acts : List Act). loop_entry seen e scope place ∷ acts) done.are;

@@ -1,4 +1,4 @@
-use Rattle.ped_bodies.proofs.BodyLaws.Instances.{peeled_body, skewed_body, fused_body}
+use Rattle.ped_bodies.proofs.BodyLaws.Instances.{peeled_body, skewed_body, renamed_body, fused_body}
 use Rattle.ped_bodies.proofs.bodies.bodies_substituted.Goals as goal
 
 pub returns-clause-peeled : goal.returns-clause-peeled
@@ -9,3 +9,6 @@ returns-clause-skewed c = λ p q ts n m x by scope other agree. skewed_body p q 
 
 pub returns-clause-fused : goal.returns-clause-fused
 returns-clause-fused c = λ p q ts n m scope l k r z agree. fused_body p q ts n m agree scope l k r z
+
+pub returns-clause-renamed : goal.returns-clause-renamed
+returns-clause-renamed c = λ p q ts n m scope r z agree. renamed_body p q ts n m agree scope r z

@@ -1,18 +1,27 @@
 -- Acts that are done likewise: on cells that correspond, in iterations that correspond (this project).
-use Rattle.std.specs.Prelude.{◌≡◌, ℕ, List, [], ◌∷◌, ◌++◌, map, Bool, true, ◌⊎◌}
+use Rattle.std.specs.Prelude.{◌≡◌, ℕ, ℤ, List, [], ◌∷◌, ◌++◌, map, Bool, true, false, Ok, ◌⊎◌}
 use Rattle.ped_laws.specs.ped_store.specs.Cells.{Cell, Element, In, Out}
 use Rattle.ped_laws.specs.ped_store.specs.Stores.{Store}
 use Rattle.ped_laws.specs.ped_store.specs.Acts.{Turn, Touch, Act}
 use Rattle.ped_laws.specs.Acts.Fitting.{of_cells}
+use Rattle.ped_laws.specs.ped_store.specs.Races.{is_lines}
+use Rattle.ped_laws.specs.ped_eval.specs.Evaluation.{Seen, cell_seen, index_seen, Evaluated, numbered, number_behind}
 use Rattle.ped_laws.specs.ped_eval.specs.Runs.{Run}
+use Rattle.ped_laws.specs.Runs.Seeing.{ComesTo}
 use Rattle.ped_laws.specs.Runs.Replaying.{Finish, Replays}
 use Rattle.ped_steps.specs.Runs.Renumbering.{renumbered_turn}
 
 -- cells get other names, but elements, the data and the output keep theirs (this project)
 pub record NamesScalars (name : Cell → Cell) : Type 0 where
-  pub element : (x : _) (subscripts : _) → name (Element x subscripts) ≡ Element x subscripts
+  pub element : (x : List ℕ) (subscripts : List ℤ) → name (Element x subscripts) ≡ Element x subscripts
   pub input : name In ≡ In
   pub output : name Out ≡ Out
+
+-- this holds of each cell that is seen, and of the cells of DO variables whose values places tell (plain words)
+abbrev pub OfSeen : (Cell → Type 0) → List Seen → Type 0
+OfSeen P [] = Unit {0}
+OfSeen P (cell_seen c content ∷ more) = P c × OfSeen P more
+OfSeen P (index_seen c v ∷ more) = P c × OfSeen P more
 
 -- two cells correspond: the second is the first by its new name, or both are cells of which a step asks nothing (this project)
 abbrev pub Meet : (name : Cell → Cell) (idle : Cell → Bool) → Cell → Cell → Type 0
@@ -31,6 +40,18 @@ AllMeet name idle [] [] = Unit {0}
 AllMeet name idle [] (y ∷ ys) = ⊥
 AllMeet name idle (x ∷ xs) [] = ⊥
 AllMeet name idle (x ∷ xs) (y ∷ ys) = Meets name idle x y × AllMeet name idle xs ys
+
+-- evaluations have seen alike: cells that correspond, in order, with the same contents; so references count alike. What places tell may differ (this project)
+pub record AreSeenAlike (name : Cell → Cell) (idle : Cell → Bool) (xs ys : List Seen) : Type 0 where
+  pub touches : (n : ℕ) → AllMeet name idle (of_cells (numbered n xs)) (of_cells (numbered n ys))
+  pub behind : (n : ℕ) → number_behind n ys ≡ number_behind n xs
+
+-- from each store that holds what it sees, an evaluation comes to this value, and it sees alike what was seen before; neither the data nor the output are among that (this project)
+pub record ComesLikewise {X : Type 0} (name : Cell → Cell) (idle : Cell → Bool) (before : List Seen) (e : Store → Evaluated X) (x : X) : Type 0 where
+  pub seen : List Seen
+  pub comes : ComesTo e seen (Ok x)
+  pub alike : AreSeenAlike name idle before seen
+  pub apart : OfSeen (λ c. is_lines c ≡ false) seen
 
 -- an act is done likewise: the same step of the statement with the new number, in the other iterations and, further inside, in the same ones under new numbers; it touches cells that correspond. What places tell may differ (this project)
 pub record IsLikewise (name : Cell → Cell) (idle : Cell → Bool) (f : ℕ → ℕ) (turns others : List Turn) (a b : Act) : Type 0 where

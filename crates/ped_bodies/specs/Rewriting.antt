@@ -2,6 +2,7 @@
 use Rattle.std.specs.Prelude.{◌≡◌, ℕ, ℤ, List, map, true, Some, ◌⊎◌}
 use Rattle.ped_steps.specs.ped_flow.specs.ped_base.specs.Lists.{is_among}
 use Rattle.ped_tree.specs.Tree.{ExprTree, ExprTrees, Int, Var, Element, Neg, Add, Sub, Mul, Div, Pow, Call, no_exprs, more_exprs, CondTree, Rel, Not, And, Or, ItemTree, Value, Text, Head, StmtTree, StmtTrees, Assign, If, Do, Print, Read, Stop, Comment, no_stmts, more_stmts}
+use Rattle.ped_tree.specs.declared.expressions.Intrinsic.{Intrinsic}
 use Rattle.ped_tree.specs.Constants.ConstantExpressions.{constant_value}
 use Rattle.ped_steps.specs.ped_flow.specs.ped_affine.specs.Assigned.{assigned_in_all}
 use Rattle.ped_sums.specs.Sums.{plus_of, minus_of}
@@ -16,7 +17,7 @@ pub record IsRewriting (h : ExprTree → ExprTree) (hs : ExprTrees → ExprTrees
   pub mul : (a b : ExprTree) → h (Mul a b) ≡ Mul (h a) (h b)
   pub div : (a b : ExprTree) → h (Div a b) ≡ Div (h a) (h b)
   pub pow : (a b : ExprTree) → h (Pow a b) ≡ Pow (h a) (h b)
-  pub call : (f : _) (arguments : ExprTrees) → h (Call f arguments) ≡ Call f (hs arguments)
+  pub call : (f : Intrinsic) (arguments : ExprTrees) → h (Call f arguments) ≡ Call f (hs arguments)
   pub none : hs no_exprs ≡ no_exprs
   pub more : (e : ExprTree) (rest : ExprTrees) → hs (more_exprs e rest) ≡ more_exprs (h e) (hs rest)
 

@@ -35,6 +35,13 @@ abbrev pub HaveVariablesIn : List (List ℕ) → Scope → Type 0
 HaveVariablesIn names [] = Unit {0}
 HaveVariablesIn names (f ∷ fs) = (is_among f.variable names ≡ true) × HaveVariablesIn names fs
 
+-- for the rewriting and these names, expressions evaluate likewise at the second place: what the first tells of a DO variable, the rewritten variable comes to there; what the first doesn't tell, the second doesn't tell, and it isn't rewritten, nor are constants; cells of scalars correspond (this project)
+pub record EvaluateLikewise (h : ExprTree → ExprTree) (name : Cell → Cell) (idle : Cell → Bool) (q : Setting) (names : List (List ℕ)) (scope other : Scope) : Type 0 where
+  pub told : (x : List ℕ) (v : ℤ) → is_among x names ≡ true → value_named q.constants x ≡ None → index_value scope x ≡ Some v → IsTold (value (names_in q other) (h (Var x))) v
+  pub untold : (x : List ℕ) → is_among x names ≡ true → index_value scope x ≡ None → (h (Var x) ≡ Var x) × (index_value other x ≡ None)
+  pub constant : (x : List ℕ) (n : ℤ) → value_named q.constants x ≡ Some n → h (Var x) ≡ Var x
+  pub cell : (x : List ℕ) → is_among x names ≡ true → Meet name idle (cell_of scope x) (cell_of other x)
+
 -- for the rewriting and these names, the second place stands for the first: what the first tells of a DO variable, the rewritten variable comes to at the second, and further inside DO loops of other variables; what the first doesn't tell, the second doesn't tell, and it isn't rewritten, nor are constants; cells of scalars correspond, and copies of iterations further inside (this project)
 pub record StandLikewise (h : ExprTree → ExprTree) (name : Cell → Cell) (idle : Cell → Bool) (f : ℕ → ℕ) (q : Setting) (names loops : List (List ℕ)) (scope other : Scope) : Type 0 where
   pub told : (x : List ℕ) (v : ℤ) (fs : Scope) → is_among x names ≡ true → value_named q.constants x ≡ None → index_value scope x ≡ Some v → HaveVariablesIn loops fs → index_value fs x ≡ None → IsTold (value (names_in q (fs ++ other)) (h (Var x))) v

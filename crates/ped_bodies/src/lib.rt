@@ -16,4 +16,4 @@ pub use likewise::{bodies_likewise, statements_likewise};
 pub use ped_steps;
 pub use rewriting::rewritings;
 pub use trips::{loops_apart, loops_likewise, loops_made};
-pub use values::values_told_inside;
+pub use values::{values_likewise, values_told_inside};

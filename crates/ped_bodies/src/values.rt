@@ -1,13 +1,33 @@
-//! Values that places tell.
+//! Values of expressions at another place, and values that places tell.
 
-ghost use Rattle.std.specs.Prelude.{◌≡◌, ℕ, ℤ, pos, neg_ℤ, ◌+ℤ◌, ◌-ℤ◌, ◌*ℤ◌, List, true, false, Some, None};
+ghost use Rattle.std.specs.Prelude.{◌≡◌, ℕ, ℤ, pos, neg_ℤ, ◌+ℤ◌, ◌-ℤ◌, ◌*ℤ◌, List, ◌++◌, Bool, true, false, Some, None, Ok};
+ghost use Rattle.ped_steps.specs.Runs.Pasting.{AgreeInBounds};
 ghost use Rattle.ped_steps.specs.ped_flow.specs.ped_base.specs.Arithmetic.Arithmetic.{is_in_range};
 ghost use Rattle.ped_steps.specs.ped_flow.specs.ped_base.specs.Lists.{is_among};
 ghost use Rattle.ped_tree.specs.Constants.NamedConstants.{value_named};
-ghost use Rattle.ped_tree.specs.Tree.{ExprTree, Int, Var, Neg, Add, Sub, Mul};
+ghost use Rattle.ped_tree.specs.NamesIn.{expr_names};
+ghost use Rattle.ped_tree.specs.Tree.{ExprTree, ExprTrees, Int, Var, Neg, Add, Sub, Mul, Head};
 ghost use Rattle.ped_sums.specs.Sums.{literal, times_of};
-ghost use Rattle.ped_laws.specs.ped_eval.specs.Scopes.{Setting, Scope, index_value};
-ghost use Rattle.ped_bodies.specs.Moving.{ToldInside};
+ghost use Rattle.ped_laws.specs.ped_store.specs.Cells.{Cell};
+ghost use Rattle.ped_laws.specs.ped_store.specs.Stores.{Store};
+ghost use Rattle.ped_laws.specs.ped_eval.specs.Loops.{Limits, limits};
+ghost use Rattle.ped_laws.specs.ped_eval.specs.Scopes.{Setting, Scope, cell_of, index_value, names_in};
+ghost use Rattle.ped_laws.specs.ped_eval.specs.Values.{value};
+ghost use Rattle.ped_bodies.specs.Likewise.{NamesScalars, Meet, ComesLikewise};
+ghost use Rattle.ped_bodies.specs.Moving.{TellTheSame, ToldInside};
+ghost use Rattle.ped_bodies.specs.Rewriting.{IsRewriting, unchanged, head_rewritten};
+ghost use Rattle.ped_bodies.specs.Standing.{EvaluateLikewise};
+
+/// An expression that has a value comes, rewritten and at another place, to the same value, from each store that holds
+/// what it sees there; so do the bounds of a DO. An expression that isn't rewritten evaluates likewise where both places
+/// tell the same. For bounds that a new loop reads, as that of an inner loop one loop further out.
+pub fn values_likewise()
+    ensures value { (h : ExprTree → ExprTree) (hs : ExprTrees → ExprTrees) (name : Cell → Cell) (idle : Cell → Bool) (p q : Setting) (scope other : Scope) → IsRewriting h hs → NamesScalars name → p.constants ≡ q.constants → (e : ExprTree) → AgreeInBounds p.bounds q.bounds (expr_names e) → EvaluateLikewise h name idle q (expr_names e) scope other
+        → (s : Store) (v : ℤ) → (value (names_in p scope) e s).result ≡ Ok v → ComesLikewise name idle (value (names_in p scope) e s).seen (value (names_in q other) (h e)) v }
+    ensures bounds { (h : ExprTree → ExprTree) (hs : ExprTrees → ExprTrees) (name : Cell → Cell) (idle : Cell → Bool) (p q : Setting) (scope other : Scope) → IsRewriting h hs → NamesScalars name → p.constants ≡ q.constants → (d : Head) → AgreeInBounds p.bounds q.bounds (expr_names d.first ++ expr_names d.last)
+        → EvaluateLikewise h name idle q (expr_names d.first ++ expr_names d.last) scope other → (s : Store) (l : Limits) → (limits (names_in p scope) d s).result ≡ Ok l → ComesLikewise name idle (limits (names_in p scope) d s).seen (limits (names_in q other) (head_rewritten h d)) l }
+    ensures moved { (name : Cell → Cell) (idle : Cell → Bool) (q : Setting) (names : List (List ℕ)) (scope other : Scope) → TellTheSame names scope other → ((x : List ℕ) → is_among x names ≡ true → Meet name idle (cell_of scope x) (cell_of other x)) → EvaluateLikewise unchanged name idle q names scope other }
+{}
 
 /// What stands for the variable of a DO has a value that places tell, also further inside: literals; the variable itself,
 /// by its value at the new place; another variable of a DO round the place that no DO inside has; multiples of these; and sums, differences,

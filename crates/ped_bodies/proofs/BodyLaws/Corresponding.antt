@@ -7,7 +7,7 @@ use Rattle.ped_laws.specs.Acts.Fitting.{of_cells}
 use Rattle.ped_laws.proofs.ActLaws.OfCells.{cells_append}
 use Rattle.ped_laws.specs.ped_eval.specs.Evaluation.{Seen, cell_seen, index_seen, numbered, number_behind}
 use Rattle.ped_laws.specs.ped_eval.specs.Statements.{read_touch, write_touch}
-use Rattle.ped_bodies.specs.Likewise.{Meet, Meets, AllMeet}
+use Rattle.ped_bodies.specs.Likewise.{Meet, Meets, AllMeet, AreSeenAlike}
 use Rattle.ped_bodies.specs.Standing.{SeesNoCell}
 
 -- what is seen counts on
@@ -44,16 +44,11 @@ module _ (name : Cell → Cell) (idle : Cell → Bool) where
   pub write_meets : (c d : Cell) (v : Content) (n : ℕ) → Meet name idle c d → Meets name idle (write_touch c v n) (write_touch d v n)
   write_meets c d v n h = record { manner = refl; reference = refl; content = refl; cells = h }
 
--- what is seen in cells corresponds, and so references count alike
-pub record SeeAlike (name : Cell → Cell) (idle : Cell → Bool) (xs ys : List Seen) : Type 0 where
-  pub touches : (n : ℕ) → AllMeet name idle (of_cells (numbered n xs)) (of_cells (numbered n ys))
-  pub behind : (n : ℕ) → number_behind n ys ≡ number_behind n xs
-
 module _ (name : Cell → Cell) (idle : Cell → Bool) where
-  pub nothing_alike : SeeAlike name idle [] []
+  pub nothing_alike : AreSeenAlike name idle [] []
   nothing_alike = record { touches = λ n. tt; behind = λ n. refl }
 
-  pub see_append : (xs ys us vs : List Seen) → SeeAlike name idle xs ys → SeeAlike name idle us vs → SeeAlike name idle (xs ++ us) (ys ++ vs)
+  pub see_append : (xs ys us vs : List Seen) → AreSeenAlike name idle xs ys → AreSeenAlike name idle us vs → AreSeenAlike name idle (xs ++ us) (ys ++ vs)
   see_append xs ys us vs h k = record { touches = all; behind = λ n. behind_append n ys vs ∙ k.behind (number_behind n ys) ∙ ap (λ (m : ℕ). number_behind m us) (h.behind n) ∙ sym (behind_append n xs us) }
     where
       rest : (n : ℕ) → Alike name idle (numbered (number_behind n xs) us) (numbered (number_behind n ys) vs)
@@ -71,7 +66,7 @@ module _ (name : Cell → Cell) (idle : Cell → Bool) where
   unseen_cells n (cell_seen c content ∷ ys) h = absurd h
   unseen_cells n (index_seen c v ∷ ys) h = unseen_cells n ys h
 
-  pub told_alike : (xs ys : List Seen) → SeesNoCell xs → SeesNoCell ys → SeeAlike name idle xs ys
+  pub told_alike : (xs ys : List Seen) → SeesNoCell xs → SeesNoCell ys → AreSeenAlike name idle xs ys
   told_alike xs ys h k = record {
     touches = λ n.
         subst (λ (z : List Touch). AllMeet name idle z (of_cells (numbered n ys))) (sym (unseen_cells n xs h).0)

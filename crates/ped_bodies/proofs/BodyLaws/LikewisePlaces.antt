@@ -18,7 +18,7 @@ use Rattle.ped_laws.specs.ped_eval.specs.Loops.{increment, sorted_once, index_na
 use Rattle.ped_steps.specs.Runs.Renumbering.{renumbered_iteration, renumbered_turn}
 use Rattle.ped_bodies.specs.Rewriting.{head_rewritten, statement_rewritten, statements_rewritten, KeepsIncrement}
 use Rattle.ped_bodies.specs.Likewise.{Meet, AllMeet, IsLikewise, AreLikewise}
-use Rattle.ped_bodies.specs.Standing.{IsTold, HaveVariablesIn, StandLikewise}
+use Rattle.ped_bodies.specs.Standing.{IsTold, HaveVariablesIn, EvaluateLikewise, StandLikewise}
 
 module _ (h : ExprTree → ExprTree) where
   mutual
@@ -55,6 +55,10 @@ module _ (h : ExprTree → ExprTree) where
 
   pub increment_kept : (constants : List (List ℕ × ℤ)) (d : Head) → KeepsIncrement h constants d → increment constants (head_rewritten h d) ≡ increment constants d
   increment_kept constants d k = ap (λ (o : Option ℤ). unwrap_or o (pos 1)) k
+
+-- places that stand likewise evaluate likewise
+pub evaluating : (h : ExprTree → ExprTree) (name : Cell → Cell) (idle : Cell → Bool) (f : ℕ → ℕ) (q : Setting) (names loops : List (List ℕ)) (scope other : Scope) → StandLikewise h name idle f q names loops scope other → EvaluateLikewise h name idle q names scope other
+evaluating h name idle f q names loops scope other at = record { told = λ x v among none is. at.told x v [] among none is tt refl; untold = at.untold; constant = at.constant; cell = at.cell }
 
 -- the iteration that corresponds, under the new number of its DO
 abbrev pub renumbered_frame : (ℕ → ℕ) → Frame → Frame

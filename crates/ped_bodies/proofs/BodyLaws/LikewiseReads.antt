@@ -19,14 +19,13 @@ use Rattle.ped_laws.specs.ped_eval.specs.Statements.{Taking, into_item, with_tak
 use Rattle.ped_laws.specs.ped_eval.specs.Runs.{does, nothing_done, run_taking, run_read}
 use Rattle.ped_laws.specs.Runs.Seeing.{Holds}
 use Rattle.ped_laws.specs.Runs.Replaying.{goes_on, act, Replays}
-use Rattle.ped_laws.proofs.RunLaws.SeenCells.{AllSeen}
 use Rattle.ped_laws.proofs.RunLaws.Told.{found_reads_first}
 use Rattle.ped_steps.specs.Runs.Pasting.{AgreeInBounds}
 use Rattle.ped_bodies.specs.Rewriting.{IsRewriting}
-use Rattle.ped_bodies.specs.Likewise.{NamesScalars}
-use Rattle.ped_bodies.specs.Standing.{StandLikewise}
-use Rattle.ped_bodies.proofs.BodyLaws.Corresponding.{Alike, alike_append, read_meets, write_meets, SeeAlike}
-use Rattle.ped_bodies.proofs.BodyLaws.LikewiseSight.{Within, within_parts, among_first, among_rest, Comes, Matches, CellsMeet, target_match}
+use Rattle.ped_bodies.specs.Likewise.{NamesScalars, OfSeen, ComesLikewise}
+use Rattle.ped_bodies.specs.Standing.{EvaluateLikewise}
+use Rattle.ped_bodies.proofs.BodyLaws.Corresponding.{Alike, alike_append, read_meets, write_meets}
+use Rattle.ped_bodies.proofs.BodyLaws.LikewiseSight.{Within, within_parts, among_first, among_rest, Matches, CellsMeet, target_match}
 
 -- stores that hold the same but for the data
 abbrev SameButData : Store → Store → Type 0
@@ -42,7 +41,7 @@ behind_data v s (Private x path) k = refl
 behind_data v s In k = absurd cc
 behind_data v s Out k = absurd cc
 
-same_holds : (u w : Store) (seen : List Seen) → SameButData u w → AllSeen (λ c. is_lines c ≡ false) seen → Holds u seen → Holds w seen
+same_holds : (u w : Store) (seen : List Seen) → SameButData u w → OfSeen (λ c. is_lines c ≡ false) seen → Holds u seen → Holds w seen
 same_holds u w [] h a k = tt
 same_holds u w (cell_seen c content ∷ more) h a k = (sym (h c a.0) ∙ k.0, same_holds u w more h a.1 k.1)
 same_holds u w (index_seen c v ∷ more) h a k = same_holds u w more h a.1 k
@@ -59,7 +58,7 @@ pub record TakesAlike (name : Cell → Cell) (idle : Cell → Bool) (t : Taking)
   pub again : (u w : Store) → SameButData u w → Find touches u → take w ≡ record { touches = touches; left = t.left; fault = None }
 
 -- an item that is taken, and then the others
-module _ (name : Cell → Cell) (idle : Cell → Bool) (n : ℕ) (left : Data) (v : ℤ) (seen : List Seen) (c : Cell) (t : Taking) (z : Store → Evaluated Cell) (next : ℕ → Store → Taking) (d : Cell) (m : CellsMeet name idle c d) (k : Comes name idle seen z d)
+module _ (name : Cell → Cell) (idle : Cell → Bool) (n : ℕ) (left : Data) (v : ℤ) (seen : List Seen) (c : Cell) (t : Taking) (z : Store → Evaluated Cell) (next : ℕ → Store → Taking) (d : Cell) (m : CellsMeet name idle c d) (k : ComesLikewise name idle seen z d)
     (rest : TakesAlike name idle t (next (suc (number_behind n seen)))) where
   abbrev old_here : List Touch
   old_here = numbered n seen ++ write_touch c (Number v) (number_behind n seen) ∷ []
@@ -88,7 +87,7 @@ module _ (name : Cell → Cell) (idle : Cell → Bool) (n : ℕ) (left : Data) (
   item_alike = record { touches = here ++ rest.touches; alike = alike_append name idle old_here here t.touches rest.touches here_alike rest.alike; again = item_again }
 
 module _ (name : Cell → Cell) (idle : Cell → Bool) (laws : NamesScalars name) (h : ExprTree → ExprTree) (hs : ExprTrees → ExprTrees) (parts : IsRewriting h hs) (p q : Setting) (constants : p.constants ≡ q.constants)
-    (names loops : List (List ℕ)) (bounds : AgreeInBounds p.bounds q.bounds names) (f : ℕ → ℕ) (scope other : Scope) (at : StandLikewise h name idle f q names loops scope other) where
+    (names : List (List ℕ)) (bounds : AgreeInBounds p.bounds q.bounds names) (scope other : Scope) (at : EvaluateLikewise h name idle q names scope other) where
   abbrev g : Names
   g = names_in p scope
 
@@ -107,7 +106,7 @@ module _ (name : Cell → Cell) (idle : Cell → Bool) (laws : NamesScalars name
         → TakesAlike name idle (into_item n left v (target g item s).seen r (λ m c. taking g rest m left (put c (Number v) s)))
         (λ w. into_item n left v (target z (h item) w).seen (target z (h item) w).result (λ m c. taking z (map h rest) m left (put c (Number v) w)))
     into_alike left v (Ok c) is e =
-        let t = target_match name idle laws h hs parts p q constants names loops bounds f scope other at item s among kept c is in
+        let t = target_match name idle laws h hs parts p q constants names bounds scope other at item s among kept c is in
         item_alike name idle n left v (target g item s).seen c (taking g rest (suc (number_behind n (target g item s).seen)) left (put c (Number v) s)) (target z (h item)) (λ m. taking z (map h rest) m left) t.0 t.1 t.2
         (more (suc (number_behind n (target g item s).seen)) left (put c (Number v) s) e)
     into_alike left v (Err k) is e = absurd cc

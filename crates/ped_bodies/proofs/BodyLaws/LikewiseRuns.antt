@@ -14,7 +14,7 @@ use Rattle.ped_laws.specs.ped_store.specs.Stores.{Content, Undefined, Number, Li
 use Rattle.ped_laws.specs.ped_store.specs.Acts.{Turn, Touch, Place, Step, did, entered, ended_turn, closed, Act, store_behind}
 use Rattle.ped_laws.specs.ped_eval.specs.Scopes.{Setting, Frame, Scope, turns_of, cell_of, Names, names_in, place_of}
 use Rattle.ped_laws.specs.ped_eval.specs.Evaluation.{Seen, Evaluated, numbered, number_behind}
-use Rattle.ped_laws.specs.ped_eval.specs.Values.{truth}
+use Rattle.ped_laws.specs.ped_eval.specs.Values.{value, truth}
 use Rattle.ped_laws.specs.ped_eval.specs.Statements.{Stored, assigned, assignment_touches, printed_line, print_touches, read_touch, write_touch, reading, reading_touches}
 use Rattle.ped_laws.specs.ped_eval.specs.Loops.{Limits, limits, increment, iteration_count, index_names, all_index_names, inner_variables, Entered, entered_with, frame, left_in_variable, undefined_by, undefined_all, exit_touches, exit_when_none, entry_touches}
 use Rattle.ped_laws.specs.ped_eval.specs.Runs.{Ending, going, stopped, failed, Run, nothing_done, followed_by, then_run, does, on, run_taking, turns, parallel_turns, run_entered, run_from_entry, run, run_all}
@@ -25,13 +25,13 @@ use Rattle.ped_laws.proofs.RunLaws.Joined.{replays_nothing, assignment_does, pri
 use Rattle.ped_steps.specs.Runs.Pasting.{AgreeInBounds}
 use Rattle.ped_steps.specs.Runs.Renumbering.{renumbered_turn}
 use Rattle.ped_bodies.specs.Rewriting.{IsRewriting, condition_rewritten, item_rewritten, head_rewritten, statement_rewritten, statements_rewritten, OfHeads, OfAllHeads, KeepsIncrement}
-use Rattle.ped_bodies.specs.Likewise.{NamesScalars, IsLikewise, AreLikewise, DoesLikewise}
-use Rattle.ped_bodies.specs.Standing.{StandLikewise, CountBy, StandRewritten, GoLikewise}
-use Rattle.ped_bodies.proofs.BodyLaws.Corresponding.{Alike, alike_append, read_meets, write_meets, SeeAlike}
+use Rattle.ped_bodies.specs.Likewise.{NamesScalars, ComesLikewise, IsLikewise, AreLikewise, DoesLikewise}
+use Rattle.ped_bodies.specs.Standing.{EvaluateLikewise, StandLikewise, CountBy, StandRewritten, GoLikewise}
+use Rattle.ped_bodies.proofs.BodyLaws.Corresponding.{Alike, alike_append, read_meets, write_meets}
 use Rattle.ped_bodies.proofs.BodyLaws.LikewiseActs.{likewise_append}
-use Rattle.ped_bodies.proofs.BodyLaws.LikewiseSight.{Within, within_parts, within_first, among_first, among_rest, among_itself, among_more, Comes, truth_match, assigned_match, line_match, limits_match}
+use Rattle.ped_bodies.proofs.BodyLaws.LikewiseSight.{Within, within_parts, within_first, among_first, among_rest, among_itself, among_more, value_match, truth_match, assigned_match, line_match, limits_match}
 use Rattle.ped_bodies.proofs.BodyLaws.LikewiseReads.{read_alike}
-use Rattle.ped_bodies.proofs.BodyLaws.LikewisePlaces.{count_kept, counts_kept, inner_kept, increment_kept, renumbered_frame, deeper, acts_outside}
+use Rattle.ped_bodies.proofs.BodyLaws.LikewisePlaces.{count_kept, counts_kept, inner_kept, increment_kept, evaluating, renumbered_frame, deeper, acts_outside}
 
 -- the names of a DO: its variable, those in its bounds, its PRIVATE names and those of its body
 pub record DoWithin (names : List (List ℕ)) (d : Head) (body : StmtTrees) : Type 0 where
@@ -206,6 +206,9 @@ module _ (name : Cell → Cell) (idle : Cell → Bool) (laws : NamesScalars name
       (record { among = n.0; indices = l.0; kept = kept_first ws us inside.kept }, record { among = n.1; indices = l.1; kept = kept_rest ws us inside.kept })
 
   module _ (scope other : Scope) (at : StandLikewise h name idle f q names loops scope other) (n m : ℕ) (number : q.number m ≡ f (p.number n)) where
+    evaluate : EvaluateLikewise h name idle q names scope other
+    evaluate = evaluating h name idle f q names loops scope other at
+
     abbrev T : List Turn
     T = turns_of scope
 
@@ -233,7 +236,7 @@ module _ (name : Cell → Cell) (idle : Cell → Bool) (laws : NamesScalars name
     assignment_follow left right among kept s =
         on_follow name idle f T O here (assigned g left right s) (λ seen w. does did here (assignment_touches seen w) nothing_done s) (run q (Assign (h left) (h right)) m other)
         (λ w is k.
-        let t = assigned_match name idle laws h hs parts p q constants names loops bounds f scope other at left right s among kept w is in
+        let t = assigned_match name idle laws h hs parts p q constants names bounds scope other evaluate left right s among kept w is in
         let old = (assigned g left right s).seen in
         one_act (assignment_touches old w) (assignment_touches t.2.seen t.0) goes_on (run q (Assign (h left) (h right)) m other)
         (alike_append name idle (numbered 1 old) (numbered 1 t.2.seen) (write_touch w.cell (Number w.number) (number_behind 1 old) ∷ []) (write_touch t.0.cell (Number t.0.number) (number_behind 1 t.2.seen) ∷ []) (t.2.alike.touches 1)
@@ -244,7 +247,7 @@ module _ (name : Cell → Cell) (idle : Cell → Bool) (laws : NamesScalars name
     print_follow items among s =
         on_follow name idle f T O here (printed_line g items s) (λ seen line. does did here (print_touches seen line s) nothing_done s) (run q (Print (map (item_rewritten h) items)) m other)
         (λ line is k.
-        let t = line_match name idle laws h hs parts p q constants names loops bounds f scope other at items s among line is in
+        let t = line_match name idle laws h hs parts p q constants names bounds scope other evaluate items s among line is in
         let old = (printed_line g items s).seen in
         one_act (print_touches old line s) (print_touches t.2.seen t.0 s) goes_on (run q (Print (map (item_rewritten h) items)) m other)
         (alike_append name idle (numbered 1 old) (numbered 1 t.2.seen)
@@ -257,7 +260,7 @@ module _ (name : Cell → Cell) (idle : Cell → Bool) (laws : NamesScalars name
       where
         go : (o : Option ℕ) → (reading g items s).fault ≡ o → GoesLikewise name idle f T O (run_taking here (reading g items s) o s) (run q (Read (map h items)) m other)
         go None e = λ k.
-            let r = read_alike name idle laws h hs parts p q constants names loops bounds f scope other at items among kept s e there in
+            let r = read_alike name idle laws h hs parts p q constants names bounds scope other evaluate items among kept s e there in
             one_act (reading_touches (reading g items s) s) r.touches goes_on (run q (Read (map h items)) m other) r.alike r.replays
         go (Some fault) e = λ k. absurd cc
 
@@ -282,7 +285,7 @@ module _ (name : Cell → Cell) (idle : Cell → Bool) (laws : NamesScalars name
       if_follow among first second s =
           on_follow name idle f T O here (truth g c s) (λ seen holds. does did here (numbered 1 seen) (if holds then old_first else old_second) s) (run q (If (condition_rewritten h c) (statements_rewritten h a) (statements_rewritten h b)) m other)
           (λ holds is k.
-          let t = truth_match name idle laws h hs parts p q constants names loops bounds f scope other at c s among holds is in
+          let t = truth_match name idle laws h hs parts p q constants names bounds scope other evaluate c s among holds is in
           let old = (truth g c s).seen in
           let d = chosen_follow name idle f T O holds old_first old_second new_first new_second first second (store_behind (numbered 1 old) s) k in
           let finish = finish_of ((if holds then old_first else old_second) (store_behind (numbered 1 old) s)).ending in
@@ -356,10 +359,10 @@ module _ (name : Cell → Cell) (idle : Cell → Bool) (laws : NamesScalars name
       do_follow body_follow s =
           on_follow name idle f T O here (limits g d s) (λ seen l. run_from_entry seen (e seen l) scope here old_body s) (run q (Do (head_rewritten h d) (statements_rewritten h body)) m other)
           (λ l is k.
-          let t = limits_match name idle laws h hs parts p q constants names loops bounds f scope other at d s among.first among.last l is in
+          let t = limits_match name idle laws h hs parts p q constants names bounds scope other evaluate d s among.first among.last l is in
           from_entry (limits g d s).seen l t.0 t.1 t.2 k)
         where
-          from_entry : (seen : List Seen) (l r : Limits) → r ≡ l → Comes name idle seen (limits (names_in q other) (head_rewritten h d)) r
+          from_entry : (seen : List Seen) (l r : Limits) → r ≡ l → ComesLikewise name idle seen (limits (names_in q other) (head_rewritten h d)) r
               → GoesLikewise name idle f T O (run_from_entry seen (e seen l) scope here old_body s) (run q (Do (head_rewritten h d) (statements_rewritten h body)) m other)
           from_entry seen l r is c k =
               let same = entered_same seen l c.seen r is (c.alike.behind 1) in
@@ -440,3 +443,19 @@ pub go_likewise : (h : ExprTree → ExprTree) (hs : ExprTrees → ExprTrees) (na
 go_likewise h hs name idle f p q ts n m scope other parts laws stand s goes =
     subst (λ (finish : Finish). DoesLikewise name idle f (turns_of scope) (turns_of other) (run_all p ts n scope s).acts finish (run_all q (statements_rewritten h ts) m other)) goes
     (do_likewise h hs name idle f p q ts n m scope other parts laws stand s (ap has_fault goes))
+
+-- expressions, and the bounds of a DO, by themselves
+module _ (h : ExprTree → ExprTree) (hs : ExprTrees → ExprTrees) (name : Cell → Cell) (idle : Cell → Bool) (p q : Setting) (scope other : Scope) (parts : IsRewriting h hs) (laws : NamesScalars name) (constants : p.constants ≡ q.constants) where
+  pub evaluated_likewise : (e : ExprTree) → AgreeInBounds p.bounds q.bounds (expr_names e) → EvaluateLikewise h name idle q (expr_names e) scope other → (s : Store) (v : ℤ) → (value (names_in p scope) e s).result ≡ Ok v
+      → ComesLikewise name idle (value (names_in p scope) e s).seen (value (names_in q other) (h e)) v
+  evaluated_likewise e bounds at s v is =
+      let t = value_match name idle laws h hs parts p q constants (expr_names e) bounds scope other at e s (λ x among. among) v is in
+      subst (λ (w : ℤ). ComesLikewise name idle (value (names_in p scope) e s).seen (value (names_in q other) (h e)) w) t.1 t.2
+
+  pub limited_likewise : (d : Head) → AgreeInBounds p.bounds q.bounds (expr_names d.first ++ expr_names d.last) → EvaluateLikewise h name idle q (expr_names d.first ++ expr_names d.last) scope other → (s : Store) (l : Limits) → (limits (names_in p scope) d s).result ≡ Ok l
+      → ComesLikewise name idle (limits (names_in p scope) d s).seen (limits (names_in q other) (head_rewritten h d)) l
+  limited_likewise d bounds at s l is =
+      let names : List (List ℕ) = expr_names d.first ++ expr_names d.last in
+      let each = within_parts names (expr_names d.first) (expr_names d.last) (λ x among. among) in
+      let t = limits_match name idle laws h hs parts p q constants names bounds scope other at d s each.0 each.1 l is in
+      subst (λ (w : Limits). ComesLikewise name idle (limits (names_in p scope) d s).seen (limits (names_in q other) (head_rewritten h d)) w) t.1 t.2

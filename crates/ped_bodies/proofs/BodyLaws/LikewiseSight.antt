@@ -32,9 +32,9 @@ use Rattle.ped_laws.proofs.RunLaws.StatementsTold.{no_lines}
 use Rattle.ped_steps.specs.Runs.Pasting.{AgreeInBounds}
 use Rattle.ped_steps.proofs.RunLaws.SubstitutedSums.{plus_comes, minus_comes}
 use Rattle.ped_bodies.specs.Rewriting.{IsRewriting, condition_rewritten, item_rewritten, head_rewritten}
-use Rattle.ped_bodies.specs.Likewise.{NamesScalars, Meet}
-use Rattle.ped_bodies.specs.Standing.{IsTold, StandLikewise}
-use Rattle.ped_bodies.proofs.BodyLaws.Corresponding.{SeeAlike, read_meets, nothing_alike, see_append, told_alike}
+use Rattle.ped_bodies.specs.Likewise.{NamesScalars, OfSeen, Meet, ComesLikewise}
+use Rattle.ped_bodies.specs.Standing.{IsTold, EvaluateLikewise}
+use Rattle.ped_bodies.proofs.BodyLaws.Corresponding.{read_meets, nothing_alike, see_append, told_alike}
 
 -- names that are all among others
 abbrev pub Within : List (List ℕ) → List (List ℕ) → Type 0
@@ -63,17 +63,16 @@ module _ (names : List (List ℕ)) where
   pub within_first : (x : List ℕ) (xs : List (List ℕ)) → Within names (x ∷ xs) → (is_among x names ≡ true) × Within names xs
   within_first x xs h = (h x (among_itself x xs), λ y e. h y (among_more y x xs e))
 
--- from each store that holds what it sees, an evaluation comes to this; what it sees corresponds to what was seen before
-pub record Comes {X : Type 0} (name : Cell → Cell) (idle : Cell → Bool) (before : List Seen) (z : Store → Evaluated X) (x : X) : Type 0 where
-  pub seen : List Seen
-  pub comes : ComesTo z seen (Ok x)
-  pub alike : SeeAlike name idle before seen
-  pub apart : AllSeen (λ c. is_lines c ≡ false) seen
-
+-- values that correspond by being equal
 abbrev pub Same : {A : Type 0} → A → A → Type 0
 Same a x = x ≡ a
 
-append_apart : (xs ys : List Seen) → AllSeen (λ c. is_lines c ≡ false) xs → AllSeen (λ c. is_lines c ≡ false) ys → AllSeen (λ c. is_lines c ≡ false) (xs ++ ys)
+of_seen : (xs : List Seen) → AllSeen (λ c. is_lines c ≡ false) xs → OfSeen (λ c. is_lines c ≡ false) xs
+of_seen [] h = tt
+of_seen (cell_seen c content ∷ xs) h = (h.0, of_seen xs h.1)
+of_seen (index_seen c v ∷ xs) h = (h.0, of_seen xs h.1)
+
+append_apart : (xs ys : List Seen) → OfSeen (λ c. is_lines c ≡ false) xs → OfSeen (λ c. is_lines c ≡ false) ys → OfSeen (λ c. is_lines c ≡ false) (xs ++ ys)
 append_apart [] ys h k = k
 append_apart (cell_seen c content ∷ xs) ys h k = (h.0, append_apart xs ys h.1 k)
 append_apart (index_seen c v ∷ xs) ys h k = (h.0, append_apart xs ys h.1 k)
@@ -81,12 +80,12 @@ append_apart (index_seen c v ∷ xs) ys h k = (h.0, append_apart xs ys h.1 k)
 module _ (name : Cell → Cell) (idle : Cell → Bool) where
   -- where the first evaluation has a value, the other comes to one that corresponds
   abbrev pub Matches : {A X : Type 0} → (A → X → Type 0) → Evaluated A → (Store → Evaluated X) → Type 0
-  Matches {A} {X} R e z = (a : A) → e.result ≡ Ok a → (x : X) × R a x × Comes name idle e.seen z x
+  Matches {A} {X} R e z = (a : A) → e.result ≡ Ok a → (x : X) × R a x × ComesLikewise name idle e.seen z x
 
   pub given_match : {A : Type 0} (r : Result A ℕ) → Matches Same (given r) (λ (s : Store). given r)
   given_match {A} r a e = (a, refl, record { seen = []; comes = λ s h. ap (λ (z : Result A ℕ). given z) e; alike = nothing_alike name idle; apart = tt })
 
-  comes_then : {X Y : Type 0} (xs us : List Seen) (z : Store → Evaluated X) (others : X → Store → Evaluated Y) (x : X) (y : Y) → Comes name idle xs z x → Comes name idle us (others x) y → Comes name idle (xs ++ us) (λ s. z s >>> λ x. others x s) y
+  comes_then : {X Y : Type 0} (xs us : List Seen) (z : Store → Evaluated X) (others : X → Store → Evaluated Y) (x : X) (y : Y) → ComesLikewise name idle xs z x → ComesLikewise name idle us (others x) y → ComesLikewise name idle (xs ++ us) (λ s. z s >>> λ x. others x s) y
   comes_then {X} {Y} xs us z others x y h k = record {
     seen = h.seen ++ k.seen;
     comes = λ s holds. ap (λ (w : Evaluated X). w >>> λ x. others x s) (h.comes s (holds_first s h.seen k.seen holds)) ∙ ap (having_seen h.seen) (k.comes s (holds_rest s h.seen k.seen holds));
@@ -95,7 +94,7 @@ module _ (name : Cell → Cell) (idle : Cell → Bool) where
   }
 
   onward_match : {A B X Y : Type 0} (R : A → X → Type 0) (Q : B → Y → Type 0) (xs : List Seen) (r : Result A ℕ) (z : Store → Evaluated X) (next : A → Evaluated B) (others : X → Store → Evaluated Y)
-      → ((a : A) → r ≡ Ok a → (x : X) × R a x × Comes name idle xs z x) → ((a : A) (x : X) → R a x → Matches Q (next a) (others x)) → Matches Q (onward xs r next) (λ s. z s >>> λ x. others x s)
+      → ((a : A) → r ≡ Ok a → (x : X) × R a x × ComesLikewise name idle xs z x) → ((a : A) (x : X) → R a x → Matches Q (next a) (others x)) → Matches Q (onward xs r next) (λ s. z s >>> λ x. others x s)
   onward_match R Q xs (Ok a) z next others m more = λ b e.
       let t = m a refl in
       let u = more a t.0 t.1 b e in
@@ -140,7 +139,7 @@ module _ (name : Cell → Cell) (idle : Cell → Bool) where
   )
 
 module _ (name : Cell → Cell) (idle : Cell → Bool) (laws : NamesScalars name) (h : ExprTree → ExprTree) (hs : ExprTrees → ExprTrees) (parts : IsRewriting h hs) (p q : Setting) (constants : p.constants ≡ q.constants)
-    (names loops : List (List ℕ)) (bounds : AgreeInBounds p.bounds q.bounds names) (f : ℕ → ℕ) (scope other : Scope) (at : StandLikewise h name idle f q names loops scope other) where
+    (names : List (List ℕ)) (bounds : AgreeInBounds p.bounds q.bounds names) (scope other : Scope) (at : EvaluateLikewise h name idle q names scope other) where
   abbrev g : Names
   g = names_in p scope
 
@@ -157,7 +156,7 @@ module _ (name : Cell → Cell) (idle : Cell → Bool) (laws : NamesScalars name
           seen = (value z (h (Var x)) s).seen;
           comes = subst (ComesTo (value z (h (Var x))) (value z (h (Var x)) s).seen) (told.comes s) ((value_told z (h (Var x))).comes s);
           alike = told_alike name idle (index_seen c v ∷ []) (value z (h (Var x)) s).seen tt (told.unseen s);
-          apart = value_seen (λ d. is_lines d ≡ false) z (no_lines other) (λ y js. refl) (h (Var x)) s;
+          apart = of_seen (value z (h (Var x)) s).seen (value_seen (λ d. is_lines d ≡ false) z (no_lines other) (λ y js. refl) (h (Var x)) s);
         },
       )
 
@@ -171,7 +170,7 @@ module _ (name : Cell → Cell) (idle : Cell → Bool) (laws : NamesScalars name
   variable_match x s among = go (value_named p.constants x) refl
     where
       by_place : (o : Option ℤ) → index_value scope x ≡ o → value_named q.constants x ≡ None → Matches name idle Same (variable_value o s (cell_of scope x)) (value z (h (Var x)))
-      by_place (Some v) i e = told_match x v (cell_of scope x) s (at.told x v [] among e i tt refl)
+      by_place (Some v) i e = told_match x v (cell_of scope x) s (at.told x v among e i)
       by_place None i e = subst (λ (t : ExprTree). Matches name idle Same (read_cell s (cell_of scope x)) (value z t)) (sym (at.untold x among i).0) (scalar_match x s among e (at.untold x among i).1)
 
       go : (o : Option ℤ) → value_named p.constants x ≡ o → Matches name idle Same (name_value o g x s) (value z (h (Var x)))

@@ -19,7 +19,8 @@ use Rattle.ped_laws.specs.ped_eval.specs.Scopes.{Setting, Scope, cell_of, index_
 use Rattle.ped_laws.specs.ped_eval.specs.Evaluation.{Seen, cell_seen, index_seen, Evaluated, onward, given, by_number}
 use Rattle.ped_laws.specs.ped_eval.specs.Values.{unary, binary, variable_value, name_value, value}
 use Rattle.ped_bodies.specs.Rewriting.{unchanged}
-use Rattle.ped_bodies.specs.Standing.{SeesNoCell, IsTold, HaveVariablesIn, StandLikewise}
+use Rattle.ped_bodies.specs.Standing.{SeesNoCell, IsTold, HaveVariablesIn, EvaluateLikewise, StandLikewise}
+use Rattle.ped_bodies.specs.Likewise.{Meet}
 use Rattle.ped_bodies.specs.Moving.{TellTheSame, ToldInside, GivesWayTo, CellsCorrespond}
 use Rattle.ped_bodies.proofs.BodyLaws.LikewisePlaces.{index_behind}
 use Rattle.ped_bodies.proofs.BodyLaws.Rewritings.{other_stays}
@@ -38,6 +39,15 @@ moved_stand name idle f q names loops scope other tell cells = record {
   constant = λ x n is. refl;
   cell = cells.cell;
   inside = cells.inside;
+}
+
+-- expressions that are moved
+pub moved_evaluate : (name : Cell → Cell) (idle : Cell → Bool) (q : Setting) (names : List (List ℕ)) (scope other : Scope) → TellTheSame names scope other → ((x : List ℕ) → is_among x names ≡ true → Meet name idle (cell_of scope x) (cell_of other x)) → EvaluateLikewise unchanged name idle q names scope other
+moved_evaluate name idle q names scope other tell cells = record {
+  told = λ x v among none is. name_told q [] other x v none (tell x among ∙ is) refl;
+  untold = λ x among is. (refl, tell x among ∙ is);
+  constant = λ x n is. refl;
+  cell = cells;
 }
 
 -- statements in which a DO variable gives way

@@ -5,6 +5,7 @@ pub mod LikewiseReads
 pub mod LikewisePlaces
 pub mod LikewiseRuns
 pub mod LikewiseActs
+pub mod LikewiseAccesses
 pub mod TripLists
 pub mod TripsLikewise
 pub mod Rewritings

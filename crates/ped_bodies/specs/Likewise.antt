@@ -2,9 +2,10 @@
 use Rattle.std.specs.Prelude.{◌≡◌, ℕ, ℤ, List, [], ◌∷◌, ◌++◌, map, Bool, true, false, Ok, ◌⊎◌}
 use Rattle.ped_laws.specs.ped_store.specs.Cells.{Cell, Element, In, Out}
 use Rattle.ped_laws.specs.ped_store.specs.Stores.{Store}
-use Rattle.ped_laws.specs.ped_store.specs.Acts.{Turn, Touch, Act}
+use Rattle.ped_laws.specs.ped_store.specs.Acts.{is_told, Turn, Touch, Act}
 use Rattle.ped_laws.specs.Acts.Fitting.{of_cells}
-use Rattle.ped_laws.specs.ped_store.specs.Races.{is_lines}
+use Rattle.ped_laws.specs.Acts.Orders.{IsIn}
+use Rattle.ped_laws.specs.ped_store.specs.Races.{Access, is_lines, is_write}
 use Rattle.ped_laws.specs.ped_eval.specs.Evaluation.{Seen, cell_seen, index_seen, Evaluated, numbered, number_behind}
 use Rattle.ped_laws.specs.ped_eval.specs.Runs.{Run}
 use Rattle.ped_laws.specs.Runs.Seeing.{ComesTo}
@@ -74,3 +75,22 @@ pub record DoesLikewise (name : Cell → Cell) (idle : Cell → Bool) (f : ℕ �
   pub fresh : List Act
   pub likewise : AreLikewise name idle f turns others acts fresh
   pub replays : Replays piece fresh finish
+
+-- an access is made likewise: by the same reference, of the statement with the new number, in iterations that correspond, and in a cell that corresponds (this project)
+pub record IsMadeLikewise (name : Cell → Cell) (idle : Cell → Bool) (f : ℕ → ℕ) (turns others : List Turn) (x y : Access) : Type 0 where
+  pub cell : Meet name idle x.cell y.cell
+  pub writes : y.writes ≡ x.writes
+  pub reference : y.reference ≡ x.reference
+  pub statement : y.place.statement ≡ f x.place.statement
+  pub more : List Turn
+  pub old : x.place.turns ≡ turns ++ more
+  pub new : y.place.turns ≡ others ++ map (renumbered_turn f) more
+
+-- an access among those of acts is no more than the value of a DO variable, which a place tells (this project)
+pub record IsOnlyTold (acts : List Act) (y : Access) : Type 0 where
+  pub by : Act
+  pub found : IsIn by acts
+  pub touch : Touch
+  pub among : IsIn touch by.touches
+  pub manner : touch.manner ≡ is_told
+  pub is : y ≡ record { cell = touch.cell; writes = is_write touch.manner; place = by.place; reference = touch.reference }

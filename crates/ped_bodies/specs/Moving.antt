@@ -16,12 +16,12 @@ abbrev pub own_number : ℕ → ℕ
 own_number n = n
 
 -- a scalar's own cell or a copy of it, where the scalar is one of these (this project)
-abbrev pub is_cell_of : List (List ℕ) → Cell → Bool
-is_cell_of names (Scalar x) = is_among x names
-is_cell_of names (Private x path) = is_among x names
-is_cell_of names (Element x subscripts) = false
-is_cell_of names In = false
-is_cell_of names Out = false
+abbrev pub is_cell_among : List (List ℕ) → Cell → Bool
+is_cell_among names (Scalar x) = is_among x names
+is_cell_among names (Private x path) = is_among x names
+is_cell_among names (Element x subscripts) = false
+is_cell_among names In = false
+is_cell_among names Out = false
 
 -- what stands behind some iterations in a path that begins with them (plain words)
 abbrev pub behind_front : List Iteration → List Iteration → Option (List Iteration)

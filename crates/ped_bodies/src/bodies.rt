@@ -14,7 +14,7 @@ ghost use Rattle.ped_laws.specs.ped_store.specs.Cells.{Cell};
 ghost use Rattle.ped_laws.specs.ped_eval.specs.Loops.{all_index_names};
 ghost use Rattle.ped_laws.specs.ped_eval.specs.Scopes.{Setting, Frame, Scope, turns_of};
 ghost use Rattle.ped_steps.specs.Runs.Exchanging.{IsExchange, AreExchanged};
-ghost use Rattle.ped_bodies.specs.Moving.{own_number, is_cell_of, moved_behind, turned, transposed, in_strips, peeled, in_loop, HaveNoCopies, HaveSameCopies, TellAlike, TellTheSame, ToldInside, GivesWayTo};
+ghost use Rattle.ped_bodies.specs.Moving.{own_number, is_cell_among, moved_behind, turned, transposed, in_strips, peeled, in_loop, HaveNoCopies, HaveSameCopies, TellAlike, TellTheSame, ToldInside, GivesWayTo};
 ghost use Rattle.ped_bodies.specs.Rewriting.{MayBeRewritten};
 ghost use Rattle.ped_bodies.specs.Standing.{SettingsAgree, GoLikewise};
 
@@ -41,7 +41,7 @@ pub fn bodies_in_other_iterations()
 /// loop in which a step brings or takes a name. And they do likewise where cells have changed places, as where a scalar
 /// becomes private.
 pub fn bodies_with_other_copies()
-    ensures idle { (p q : Setting) (ts : StmtTrees) (n m : ℕ) (apart : List (List ℕ)) (scope other : Scope) → SettingsAgree own_number p q ts n m → HaveSameCopies apart scope other → TellTheSame (stmts_names ts) scope other → GoLikewise own_name (is_cell_of apart) own_number p q ts ts n m scope other }
+    ensures idle { (p q : Setting) (ts : StmtTrees) (n m : ℕ) (apart : List (List ℕ)) (scope other : Scope) → SettingsAgree own_number p q ts n m → HaveSameCopies apart scope other → TellTheSame (stmts_names ts) scope other → GoLikewise own_name (is_cell_among apart) own_number p q ts ts n m scope other }
     ensures exchanged { (p q : Setting) (ts : StmtTrees) (n m : ℕ) (name : Cell → Cell) (scope other : Scope) → SettingsAgree own_number p q ts n m → IsExchange name → AreExchanged name scope other → GoLikewise name nothing own_number p q ts ts n m scope other }
 {}
 

@@ -10,7 +10,7 @@ mod rewriting;
 mod trips;
 mod values;
 
-pub use acts::likewise_acts;
+pub use acts::{likewise_accesses, likewise_acts};
 pub use bodies::{bodies_in_other_iterations, bodies_substituted, bodies_with_other_copies};
 pub use likewise::{bodies_likewise, statements_likewise};
 pub use ped_steps;

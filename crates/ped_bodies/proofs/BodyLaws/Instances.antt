@@ -22,7 +22,7 @@ use Rattle.ped_steps.specs.Runs.Exchanging.{IsExchange, AreExchanged}
 use Rattle.ped_bodies.specs.Rewriting.{unchanged, all_unchanged, MayBeRewritten}
 use Rattle.ped_bodies.specs.Likewise.{NamesScalars, DoesLikewise}
 use Rattle.ped_bodies.specs.Standing.{SettingsAgree, GoLikewise}
-use Rattle.ped_bodies.specs.Moving.{own_number, is_cell_of, moved_behind, turned, transposed, in_strips, peeled, in_loop, HaveNoCopies, TellAlike, TellTheSame, HaveSameCopies, ToldInside, GivesWayTo, CellsCorrespond}
+use Rattle.ped_bodies.specs.Moving.{own_number, is_cell_among, moved_behind, turned, transposed, in_strips, peeled, in_loop, HaveNoCopies, TellAlike, TellTheSame, HaveSameCopies, ToldInside, GivesWayTo, CellsCorrespond}
 use Rattle.ped_bodies.proofs.BodyLaws.LikewiseRuns.{go_likewise}
 use Rattle.ped_bodies.proofs.BodyLaws.Rewritings.{unchanged_is, statements_unchanged, may_stay, substitution_is, statements_same, not_among}
 use Rattle.ped_bodies.proofs.BodyLaws.MovedCells.{moved_names, own_names, moved_alone, moved_with_copies, same_cells, exchanged_cells, exchanged_names, turned_leads, in_loop_leads, transposed_leads, strips_lead, peeled_leads, unpeeled_leads}
@@ -45,7 +45,7 @@ unlike x y h = go (is_same_text x y) refl
     go true e = absurd (both_ways (is_same_text y x) h (ap (is_same_text y) (same_is x y e) ∙ text_itself y))
     go false e = refl
 
-no_names : (c : Cell) → is_cell_of [] c ≡ true → nothing c ≡ true
+no_names : (c : Cell) → is_cell_among [] c ≡ true → nothing c ≡ true
 no_names (Scalar x) e = absurd cc
 no_names (Private x path) e = absurd cc
 no_names (Element x js) e = absurd cc
@@ -130,8 +130,8 @@ module _ (p q : Setting) (ts : StmtTrees) (n m : ℕ) (agree : SettingsAgree own
   its_loops = all_index_names ts
 
   -- in the same iterations, where some names have other copies: parallel and serial loops, and what stands round a loop that a step changes
-  pub with_other_copies : (apart : List (List ℕ)) (scope other : Scope) → HaveSameCopies apart scope other → TellTheSame its_names scope other → Moved own_number p q ts n m agree own_name (is_cell_of apart) scope other
-  with_other_copies apart scope other same tell = moved own_number p q ts n m agree own_name (is_cell_of apart) scope other own_names tell (same_cells apart its_names (is_cell_of apart) scope other (λ c h. h) same)
+  pub with_other_copies : (apart : List (List ℕ)) (scope other : Scope) → HaveSameCopies apart scope other → TellTheSame its_names scope other → Moved own_number p q ts n m agree own_name (is_cell_among apart) scope other
+  with_other_copies apart scope other same tell = moved own_number p q ts n m agree own_name (is_cell_among apart) scope other own_names tell (same_cells apart its_names (is_cell_among apart) scope other (λ c h. h) same)
 
   -- in the same iterations, where two cells have changed places: scalars that become private
   pub with_exchanged_cells : (name : Cell → Cell) (scope other : Scope) → IsExchange name → AreExchanged name scope other → Moved own_number p q ts n m agree name nothing scope other

@@ -10,7 +10,7 @@ use Rattle.ped_laws.specs.ped_eval.specs.Scopes.{Frame, Scope, turns_of, cell_of
 use Rattle.ped_steps.specs.Runs.Exchanging.{IsExchange, AreExchanged}
 use Rattle.ped_steps.specs.Runs.Renumbering.{renumbered_iteration}
 use Rattle.ped_bodies.specs.Likewise.{NamesScalars, Meet}
-use Rattle.ped_bodies.specs.Moving.{own_number, is_cell_of, behind_front, with_rest, moved_behind, turned, transposed, in_strips, peeled, in_loop, HaveNoCopies, LeadTo, HaveSameCopies, CellsCorrespond}
+use Rattle.ped_bodies.specs.Moving.{own_number, is_cell_among, behind_front, with_rest, moved_behind, turned, transposed, in_strips, peeled, in_loop, HaveNoCopies, LeadTo, HaveSameCopies, CellsCorrespond}
 
 pub moved_names : (front : List Iteration) (g : List Iteration → List Iteration) → NamesScalars (moved_behind front g)
 moved_names front g = record { element = λ x js. refl; input = refl; output = refl }
@@ -130,11 +130,11 @@ same_path names (f ∷ fs) (g ∷ gs) h =
     iterations_append (turns_of gs) (g.turn ∷ []) ∙ (λ i. same_path names fs gs h.3 i ++ record { statement = h.0 i; number = h.1 i } ∷ []) ∙ sym (iterations_append (turns_of fs) (f.turn ∷ []))
 
 -- the cell of a name belongs to that name
-own_cell : (names : List (List ℕ)) (scope : Scope) (x : List ℕ) → is_among x names ≡ true → is_cell_of names (cell_of scope x) ≡ true
+own_cell : (names : List (List ℕ)) (scope : Scope) (x : List ℕ) → is_among x names ≡ true → is_cell_among names (cell_of scope x) ≡ true
 own_cell names [] x h = h
 own_cell names (f ∷ fs) x h = go (is_among x f.private) (own_cell names fs x h)
   where
-    go : (b : Bool) → is_cell_of names (cell_of fs x) ≡ true → is_cell_of names (if b then Private x (iterations_of (turns_of (f ∷ fs))) else cell_of fs x) ≡ true
+    go : (b : Bool) → is_cell_among names (cell_of fs x) ≡ true → is_cell_among names (if b then Private x (iterations_of (turns_of (f ∷ fs))) else cell_of fs x) ≡ true
     go true rest = h
     go false rest = rest
 
@@ -144,7 +144,7 @@ other_cell names [] (g ∷ gs) h x apart = absurd h
 other_cell names (f ∷ fs) [] h x apart = absurd h
 other_cell names (f ∷ fs) (g ∷ gs) h x apart = λ i. if h.2 x apart i then Private x (same_path names (f ∷ fs) (g ∷ gs) h i) else other_cell names fs gs h.3 x apart i
 
-pub same_cells : (names others : List (List ℕ)) (idle : Cell → Bool) (scope other : Scope) → ((c : Cell) → is_cell_of names c ≡ true → idle c ≡ true) → HaveSameCopies names scope other → CellsCorrespond own_name idle own_number others scope other
+pub same_cells : (names others : List (List ℕ)) (idle : Cell → Bool) (scope other : Scope) → ((c : Cell) → is_cell_among names c ≡ true → idle c ≡ true) → HaveSameCopies names scope other → CellsCorrespond own_name idle own_number others scope other
 same_cells names others idle scope other covers same = record {
   cell = λ x among. go x (is_among x names) refl;
   inside = λ x i more among. inl (λ j. Private x (same_path names scope other same j ++ same_numbers (i ∷ more) j));

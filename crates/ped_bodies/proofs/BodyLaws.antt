@@ -6,6 +6,7 @@ pub mod LikewisePlaces
 pub mod LikewiseRuns
 pub mod LikewiseActs
 pub mod LikewiseAccesses
+pub mod LimitParts
 pub mod TripLists
 pub mod TripsLikewise
 pub mod Rewritings

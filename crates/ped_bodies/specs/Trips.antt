@@ -1,19 +1,28 @@
 -- A DO taken apart into its trips, one for each iteration, and put together from them (ANSI X3.9-1978, section 11.10; this project).
-use Rattle.std.specs.Prelude.{◌≡◌, ℕ, ◌+◌, ◌-◌, ◌≤◌, List, [], ◌∷◌, ◌++◌, Bool, ◌==◌, ◌&&◌, not, Ok, if◌then◌else◌}
+use Rattle.std.specs.Prelude.{◌≡◌, ℕ, ◌+◌, ◌-◌, ◌≤◌, List, [], ◌∷◌, ◌++◌, Bool, true, ◌==◌, ◌&&◌, not, Ok, if◌then◌else◌}
 use Rattle.std.specs.List.{flat_map, range_with_len}
 use Rattle.ped_tree.specs.Tree.{Head, StmtTrees, Do}
 use Rattle.ped_laws.specs.ped_store.specs.Cells.{Cell}
 use Rattle.ped_laws.specs.ped_store.specs.Stores.{Store}
 use Rattle.ped_laws.specs.ped_store.specs.Acts.{Place, Act, entered, ended_turn, closed}
 use Rattle.ped_laws.specs.Acts.Fitting.{store_after}
-use Rattle.ped_laws.specs.ped_eval.specs.Scopes.{Setting, Scope, turns_of, names_in, place_of}
+use Rattle.ped_laws.specs.ped_eval.specs.Scopes.{Setting, Scope, Names, turns_of, names_in, place_of}
 use Rattle.ped_laws.specs.ped_eval.specs.Evaluation.{Seen}
-use Rattle.ped_laws.specs.ped_eval.specs.Loops.{Limits, limits, Entered, entered_with, frame, exit_touches, exit_when_none, entry_touches}
+use Rattle.ped_laws.specs.ped_eval.specs.Loops.{is_bound, Limits, limits, Entered, entered_with, frame, exit_touches, exit_when_none, entry_touches}
+use Rattle.ped_laws.specs.ped_eval.specs.Values.{value}
 use Rattle.ped_laws.specs.ped_eval.specs.Runs.{run}
 use Rattle.ped_laws.specs.ped_eval.specs.Turns.{body_run}
 use Rattle.ped_laws.specs.Runs.Replaying.{goes_on, finish_of, act, Replays, IsEntered}
 use Rattle.ped_bodies.specs.Likewise.{AreLikewise}
 use Rattle.ped_bodies.specs.Standing.{GoLikewise}
+
+-- the bounds of a DO have values with this store, within their range: what is read for the terminal value comes behind what is read for the initial one (ANSI X3.9-1978, section 11.10.3; this project)
+pub record HasLimits (g : Names) (d : Head) (s : Store) (l : Limits) : Type 0 where
+  pub first : (value g d.first s).result ≡ Ok l.first
+  pub last : (value g d.last s).result ≡ Ok l.last
+  pub first_bound : is_bound l.first ≡ true
+  pub last_bound : is_bound l.last ≡ true
+  pub seen : (limits g d s).seen ≡ (value g d.first s).seen ++ (value g d.last s).seen
 
 -- the entry of a DO, whose bounds have read this (ANSI X3.9-1978, section 11.10.3)
 abbrev pub loop_entry : List Seen → Entered → Scope → Place → Act

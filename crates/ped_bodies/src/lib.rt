@@ -15,5 +15,5 @@ pub use bodies::{bodies_in_other_iterations, bodies_substituted, bodies_with_oth
 pub use likewise::{bodies_likewise, statements_likewise};
 pub use ped_steps;
 pub use rewriting::rewritings;
-pub use trips::{loops_apart, loops_likewise, loops_made};
+pub use trips::{limits_of_bounds, loops_apart, loops_likewise, loops_made};
 pub use values::{values_likewise, values_told_inside};

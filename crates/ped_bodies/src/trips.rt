@@ -1,17 +1,26 @@
 //! A DO and its trips.
 
-ghost use Rattle.std.specs.Prelude.{◌≡◌, ℕ, List, Bool};
+ghost use Rattle.std.specs.Prelude.{◌≡◌, ℕ, ℤ, List, ◌++◌, Bool, true, Ok};
 ghost use Rattle.ped_tree.specs.Tree.{Head, StmtTrees, Do};
 ghost use Rattle.ped_laws.specs.ped_store.specs.Cells.{Cell};
 ghost use Rattle.ped_laws.specs.ped_store.specs.Stores.{Store};
 ghost use Rattle.ped_laws.specs.ped_store.specs.Acts.{Act};
-ghost use Rattle.ped_laws.specs.ped_eval.specs.Scopes.{Setting, Scope, place_of};
+ghost use Rattle.ped_laws.specs.ped_eval.specs.Scopes.{Setting, Scope, Names, place_of};
 ghost use Rattle.ped_laws.specs.ped_eval.specs.Evaluation.{Seen};
-ghost use Rattle.ped_laws.specs.ped_eval.specs.Loops.{Entered, frame};
+ghost use Rattle.ped_laws.specs.ped_eval.specs.Loops.{is_bound, Limits, limits, Entered, frame};
 ghost use Rattle.ped_laws.specs.ped_eval.specs.Runs.{run};
 ghost use Rattle.ped_laws.specs.ped_eval.specs.Turns.{body_run};
+ghost use Rattle.ped_laws.specs.ped_eval.specs.Values.{value};
+ghost use Rattle.ped_laws.specs.Runs.Seeing.{ComesTo};
 ghost use Rattle.ped_laws.specs.Runs.Replaying.{goes_on, finish_of, Replays, IsEntered};
-ghost use Rattle.ped_bodies.specs.Trips.{loop_acts, OfTrips, entered_from, IsMadeOfTrips, DoTripsLikewise, MakesTripsLikewise};
+ghost use Rattle.ped_bodies.specs.Trips.{HasLimits, loop_acts, OfTrips, entered_from, IsMadeOfTrips, DoTripsLikewise, MakesTripsLikewise};
+
+/// The limits of a DO come from the values of its bounds, the initial value first, each within its range. For the entries
+/// of loops whose bounds a step changes.
+pub fn limits_of_bounds()
+    ensures apart { (g : Names) (d : Head) (s : Store) (l : Limits) → (limits g d s).result ≡ Ok l → HasLimits g d s l }
+    ensures made { (g : Names) (d : Head) (xs ys : List Seen) (m n : ℤ) → ComesTo (value g d.first) xs (Ok m) → is_bound m ≡ true → ComesTo (value g d.last) ys (Ok n) → is_bound n ≡ true → ComesTo (limits g d) (xs ++ ys) (Ok (record { first = m; last = n })) }
+{}
 
 /// A DO that goes on does its entry, its trips with their ends, and its close; each trip is what the body does in that
 /// iteration from the store that is left before it, and goes on. For taking a loop apart that a step changes.

@@ -1,5 +1,5 @@
 -- Bodies of loops that a step moves to other iterations: what their copies are called there (this project).
-use Rattle.std.specs.Prelude.{◌≡◌, ℕ, ◌+◌, ◌-◌, ◌*◌, ◌/◌, ◌%◌, ℤ, List, [], ◌∷◌, ◌++◌, map, Bool, true, false, ◌==◌, Option, Some, None, if◌then◌else◌}
+use Rattle.std.specs.Prelude.{◌≡◌, ℕ, ◌+◌, ◌-◌, ◌*◌, ◌/◌, ◌%◌, ◌≤◌, ℤ, List, [], ◌∷◌, ◌++◌, map, Bool, true, false, ◌==◌, Option, Some, None, if◌then◌else◌}
 use Rattle.ped_steps.specs.ped_flow.specs.ped_base.specs.Lists.{is_same_text, is_among}
 use Rattle.ped_tree.specs.Tree.{ExprTree, Var}
 use Rattle.ped_tree.specs.Constants.NamedConstants.{value_named}
@@ -71,6 +71,24 @@ peeled l k f (i ∷ more) =
 abbrev pub in_loop : (l other : ℕ) → List Iteration → List Iteration
 in_loop l other [] = []
 in_loop l other (i ∷ more) = if i.statement == l then record { statement = other; number = i.number } ∷ more else i ∷ more
+
+-- what stands behind a front, where anything does, begins with one of so many iterations of this loop (this project)
+abbrev pub IsOfTrips : (l n : ℕ) → Option (List Iteration) → Type 0
+IsOfTrips l n None = Unit {0}
+IsOfTrips l n (Some []) = Unit {0}
+IsOfTrips l n (Some (i ∷ more)) = (i.statement ≡ l) × (1 ≤ i.number) × (i.number ≤ n)
+
+-- a cell that is no copy of an iteration inside the front, or of one of so many iterations of this loop, or further inside (this project)
+abbrev pub LiesInTrips : List Iteration → (l n : ℕ) → Cell → Type 0
+LiesInTrips front l n (Scalar x) = Unit {0}
+LiesInTrips front l n (Private x path) = IsOfTrips l n (behind_front front path)
+LiesInTrips front l n (Element x subscripts) = Unit {0}
+LiesInTrips front l n In = Unit {0}
+LiesInTrips front l n Out = Unit {0}
+
+-- no two cells of the trips of a loop get one name (this project)
+abbrev pub NamesTripsApart : List Iteration → (l n : ℕ) → (Cell → Cell) → Type 0
+NamesTripsApart front l n name = (c d : Cell) → LiesInTrips front l n c → LiesInTrips front l n d → name c ≡ name d → c ≡ d
 
 -- no iteration has copies of its own (ParaScope; this project)
 abbrev pub HaveNoCopies : Scope → Type 0

@@ -10,11 +10,11 @@ ghost use Rattle.ped_sums.specs.Substitution.{substituted, statements_substitute
 ghost use Rattle.ped_laws.specs.Acts.Renaming.{own_name};
 ghost use Rattle.ped_laws.specs.Acts.Sets.{nothing};
 ghost use Rattle.ped_laws.specs.ped_store.specs.Acts.{iterations_of};
-ghost use Rattle.ped_laws.specs.ped_store.specs.Cells.{Cell};
+ghost use Rattle.ped_laws.specs.ped_store.specs.Cells.{Cell, Iteration};
 ghost use Rattle.ped_laws.specs.ped_eval.specs.Loops.{all_index_names};
 ghost use Rattle.ped_laws.specs.ped_eval.specs.Scopes.{Setting, Frame, Scope, turns_of};
 ghost use Rattle.ped_steps.specs.Runs.Exchanging.{IsExchange, AreExchanged};
-ghost use Rattle.ped_bodies.specs.Moving.{own_number, is_cell_among, moved_behind, turned, transposed, in_strips, peeled, in_loop, HaveNoCopies, HaveSameCopies, TellAlike, TellTheSame, ToldInside, GivesWayTo};
+ghost use Rattle.ped_bodies.specs.Moving.{own_number, is_cell_among, moved_behind, turned, transposed, in_strips, peeled, in_loop, HaveNoCopies, HaveSameCopies, TellAlike, TellTheSame, ToldInside, GivesWayTo, NamesTripsApart};
 ghost use Rattle.ped_bodies.specs.Rewriting.{MayBeRewritten};
 ghost use Rattle.ped_bodies.specs.Standing.{SettingsAgree, GoLikewise};
 
@@ -58,4 +58,13 @@ pub fn bodies_substituted()
     ensures fused { (p q : Setting) (ts : StmtTrees) (n m : ℕ) (scope : Scope) (l k : ℕ) (r z : Frame) → SettingsAgree own_number p q ts n m → r.turn.statement ≡ l → z.turn.statement ≡ k → z.turn.number ≡ r.turn.number → z.turn.value ≡ r.turn.value → z.private ≡ r.private → MayBeRewritten (substituted r.variable (Var z.variable)) p.constants ts
         → value_named q.constants r.variable ≡ None → value_named q.constants z.variable ≡ None → is_among z.variable (all_index_names ts) ≡ false → is_among z.variable (stmts_names ts) ≡ false
         → GoLikewise (moved_behind (iterations_of (turns_of scope)) (in_loop l k)) nothing own_number p q ts (statements_substituted r.variable (Var z.variable) ts) n m (r ∷ scope) (z ∷ scope) }
+{}
+
+/// The names that steps give the copies of a loop's trips are different: where the loop is reversed, where its iterations
+/// become those of another loop, and where it is cut into strips. For exchanging lists, which asks that names are one to
+/// one on the cells that the acts touch.
+pub fn names_of_trips_apart()
+    ensures reversed { (front : List Iteration) (l n : ℕ) → NamesTripsApart front l n (moved_behind front (turned l n)) }
+    ensures in_another_loop { (front : List Iteration) (l k n : ℕ) → NamesTripsApart front l n (moved_behind front (in_loop l k)) }
+    ensures stripped { (front : List Iteration) (l inner size n : ℕ) → NamesTripsApart front l n (moved_behind front (in_strips l inner size)) }
 {}

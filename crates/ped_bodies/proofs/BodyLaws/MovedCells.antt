@@ -1,9 +1,9 @@
 -- Cells at a place to which a body is moved.
-use Rattle.std.proofs.Common.{◌≡◌, ℕ, ◌+◌, ◌-◌, ◌<◌, List, [], ◌∷◌, ◌++◌, map, length, Bool, true, false, ◌&&◌, eqb, eqb-true, Option, Some, None, inl, inr, refl, sym, ap, subst, ◌∙◌, arith, append_assoc, append-nil, if◌then◌else◌}
+use Rattle.std.proofs.Common.{◌≡◌, ℕ, ◌+◌, ◌-◌, ◌<◌, List, [], ◌∷◌, ◌++◌, map, length, Bool, true, false, ◌&&◌, eqb, eqb-true, Option, Some, None, inl, inr, refl, sym, ap, ◌∙◌, arith, append_assoc, append-nil, if◌then◌else◌}
 use Rattle.std.specs.Prelude.{◌==◌, ◌/◌, ◌%◌}
 use Rattle.std.proofs.lemmas.List.{map-append, length-append, length-map}
 use Rattle.ped_steps.specs.ped_flow.specs.ped_base.specs.Lists.{is_among}
-use Rattle.ped_laws.specs.ped_store.specs.Cells.{Cell, Scalar, Element, Private, In, Out, Iteration, same_iteration}
+use Rattle.ped_laws.specs.ped_store.specs.Cells.{Cell, Private, Iteration, same_iteration}
 use Rattle.ped_laws.specs.ped_store.specs.Acts.{Turn, iterations_of}
 use Rattle.ped_laws.specs.Acts.Renaming.{own_name}
 use Rattle.ped_laws.specs.ped_eval.specs.Scopes.{Frame, Scope, turns_of, cell_of}

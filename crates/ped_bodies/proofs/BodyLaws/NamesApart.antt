@@ -1,11 +1,11 @@
 -- No two cells of the trips of a loop get one name.
-use Rattle.std.proofs.Common.{◌≡◌, ℕ, ◌+◌, ◌-◌, ◌*◌, ◌≤◌, ◌<◌, List, [], ◌∷◌, ◌++◌, map, Bool, true, false, ◌&&◌, eqb, eqb-true, Option, Some, None, refl, sym, ap, subst, ◌∙◌, arith, if◌then◌else◌}
+use Rattle.std.proofs.Common.{◌≡◌, ℕ, ◌+◌, ◌-◌, ◌*◌, ◌≤◌, List, [], ◌∷◌, ◌++◌, map, Bool, true, false, eqb, eqb-true, Option, Some, None, refl, sym, ap, ◌∙◌, arith, if◌then◌else◌}
 use Rattle.std.specs.Prelude.{◌==◌, ◌/◌, ◌%◌}
 use Rattle.std.proofs.lemmas.Bool.{and_parts}
 use Rattle.std.proofs.Math.Nat.{div-add-mod}
-use Rattle.ped_laws.specs.ped_store.specs.Cells.{Cell, Scalar, Element, Private, In, Out, Iteration, same_iteration}
+use Rattle.ped_laws.specs.ped_store.specs.Cells.{Scalar, Element, Private, In, Out, Iteration, same_iteration}
 use Rattle.ped_steps.specs.Runs.Renumbering.{renumbered_iteration}
-use Rattle.ped_bodies.specs.Moving.{behind_front, with_rest, moved_behind, turned, transposed, in_strips, peeled, in_loop, IsOfTrips, IsInsideTrips, IsOfPairs, LiesBehind, NamesApart, TellNumbers}
+use Rattle.ped_bodies.specs.Moving.{behind_front, with_rest, moved_behind, turned, transposed, in_strips, peeled, in_loop, IsOfTrips, IsInsideTrips, IsOfPairs, NamesApart, TellNumbers}
 use Rattle.ped_bodies.proofs.BodyLaws.MovedCells.{behind_itself, is_there}
 
 -- a path that begins with a front is the front and what stands behind it

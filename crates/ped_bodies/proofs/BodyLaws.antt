@@ -12,5 +12,6 @@ pub mod TripsLikewise
 pub mod Rewritings
 pub mod MovedCells
 pub mod StandingPlaces
+pub mod NamesApart
 pub mod Instances
 pub mod Examples

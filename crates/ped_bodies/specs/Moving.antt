@@ -1,7 +1,7 @@
 -- Bodies of loops that a step moves to other iterations: what their copies are called there (this project).
-use Rattle.std.specs.Prelude.{◌≡◌, ℕ, ◌+◌, ◌-◌, ◌*◌, ◌/◌, ◌%◌, ℤ, List, [], ◌∷◌, ◌++◌, map, Bool, true, false, ◌==◌, Option, Some, None, if◌then◌else◌}
+use Rattle.std.specs.Prelude.{◌≡◌, ℕ, ◌+◌, ◌-◌, ◌/◌, ◌%◌, ◌≤◌, ℤ, List, [], ◌∷◌, ◌++◌, map, Bool, true, false, ◌==◌, Option, Some, None, if◌then◌else◌}
 use Rattle.ped_steps.specs.ped_flow.specs.ped_base.specs.Lists.{is_same_text, is_among}
-use Rattle.ped_tree.specs.Tree.{ExprTree, Var}
+use Rattle.ped_tree.specs.Tree.{ExprTree}
 use Rattle.ped_tree.specs.Constants.NamedConstants.{value_named}
 use Rattle.ped_laws.specs.ped_store.specs.Cells.{Cell, Scalar, Element, Private, In, Out, Iteration, same_iteration}
 use Rattle.ped_laws.specs.ped_store.specs.Acts.{iterations_of}
@@ -71,6 +71,42 @@ peeled l k f (i ∷ more) =
 abbrev pub in_loop : (l other : ℕ) → List Iteration → List Iteration
 in_loop l other [] = []
 in_loop l other (i ∷ more) = if i.statement == l then record { statement = other; number = i.number } ∷ more else i ∷ more
+
+-- what stands behind a front, where anything does, begins with one of so many iterations of this loop (this project)
+abbrev pub IsOfTrips : (l n : ℕ) → Option (List Iteration) → Type 0
+IsOfTrips l n None = Unit {0}
+IsOfTrips l n (Some []) = Unit {0}
+IsOfTrips l n (Some (i ∷ more)) = (i.statement ≡ l) × (1 ≤ i.number) × (i.number ≤ n)
+
+-- the same, further inside that iteration (this project)
+abbrev pub IsInsideTrips : (l n : ℕ) → Option (List Iteration) → Type 0
+IsInsideTrips l n None = Unit {0}
+IsInsideTrips l n (Some []) = Unit {0}
+IsInsideTrips l n (Some (i ∷ [])) = ⊥
+IsInsideTrips l n (Some (i ∷ (j ∷ more))) = (i.statement ≡ l) × (1 ≤ i.number) × (i.number ≤ n)
+
+-- what stands behind a front, where anything does, begins with an iteration of an outer loop and one of an inner loop that are done (this project)
+abbrev pub IsOfPairs : (outer inner : ℕ) → (ℕ → ℕ → Bool) → Option (List Iteration) → Type 0
+IsOfPairs outer inner done None = Unit {0}
+IsOfPairs outer inner done (Some []) = Unit {0}
+IsOfPairs outer inner done (Some (i ∷ [])) = ⊥
+IsOfPairs outer inner done (Some (i ∷ (j ∷ more))) = (i.statement ≡ outer) × (j.statement ≡ inner) × (done i.number j.number ≡ true)
+
+-- a cell that is no copy, or one of whose path this holds: of what stands behind the front (this project)
+abbrev pub LiesBehind : (Option (List Iteration) → Type 0) → List Iteration → Cell → Type 0
+LiesBehind P front (Scalar x) = Unit {0}
+LiesBehind P front (Private x path) = P (behind_front front path)
+LiesBehind P front (Element x subscripts) = Unit {0}
+LiesBehind P front In = Unit {0}
+LiesBehind P front Out = Unit {0}
+
+-- no two such cells get one name (this project)
+abbrev pub NamesApart : (Option (List Iteration) → Type 0) → List Iteration → (Cell → Cell) → Type 0
+NamesApart P front name = (c d : Cell) → LiesBehind P front c → LiesBehind P front d → name c ≡ name d → c ≡ d
+
+-- new numbers of two iterations tell the old ones, of those that are done (this project)
+abbrev pub TellNumbers : (ℕ → ℕ → Bool) → (column row : ℕ → ℕ → ℕ) → Type 0
+TellNumbers done column row = (i j m n : ℕ) → done i j ≡ true → done m n ≡ true → column i j ≡ column m n → row i j ≡ row m n → (i ≡ m) × (j ≡ n)
 
 -- no iteration has copies of its own (ParaScope; this project)
 abbrev pub HaveNoCopies : Scope → Type 0

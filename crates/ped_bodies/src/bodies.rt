@@ -1,7 +1,7 @@
 //! Bodies of loops that steps move to other iterations, or substitute in. Names, numbers and places of each step are in
 //! `specs/Moving.antt`.
 
-ghost use Rattle.std.specs.Prelude.{◌≡◌, ℕ, ◌+◌, ◌-◌, ◌/◌, ◌%◌, ◌==◌, List, [], ◌∷◌, true, false, None, if◌then◌else◌};
+ghost use Rattle.std.specs.Prelude.{◌≡◌, ℕ, ◌+◌, ◌-◌, ◌/◌, ◌%◌, ◌==◌, List, [], ◌∷◌, Bool, false, None, if◌then◌else◌};
 ghost use Rattle.ped_steps.specs.ped_flow.specs.ped_base.specs.Lists.{is_same_text, is_among};
 ghost use Rattle.ped_tree.specs.Constants.NamedConstants.{value_named};
 ghost use Rattle.ped_tree.specs.NamesIn.{stmts_names};
@@ -10,11 +10,11 @@ ghost use Rattle.ped_sums.specs.Substitution.{substituted, statements_substitute
 ghost use Rattle.ped_laws.specs.Acts.Renaming.{own_name};
 ghost use Rattle.ped_laws.specs.Acts.Sets.{nothing};
 ghost use Rattle.ped_laws.specs.ped_store.specs.Acts.{iterations_of};
-ghost use Rattle.ped_laws.specs.ped_store.specs.Cells.{Cell};
+ghost use Rattle.ped_laws.specs.ped_store.specs.Cells.{Cell, Iteration};
 ghost use Rattle.ped_laws.specs.ped_eval.specs.Loops.{all_index_names};
 ghost use Rattle.ped_laws.specs.ped_eval.specs.Scopes.{Setting, Frame, Scope, turns_of};
 ghost use Rattle.ped_steps.specs.Runs.Exchanging.{IsExchange, AreExchanged};
-ghost use Rattle.ped_bodies.specs.Moving.{own_number, is_cell_among, moved_behind, turned, transposed, in_strips, peeled, in_loop, HaveNoCopies, HaveSameCopies, TellAlike, TellTheSame, ToldInside, GivesWayTo};
+ghost use Rattle.ped_bodies.specs.Moving.{own_number, is_cell_among, moved_behind, turned, transposed, in_strips, peeled, in_loop, HaveNoCopies, HaveSameCopies, TellAlike, TellTheSame, ToldInside, GivesWayTo, IsOfTrips, IsInsideTrips, IsOfPairs, NamesApart, TellNumbers};
 ghost use Rattle.ped_bodies.specs.Rewriting.{MayBeRewritten};
 ghost use Rattle.ped_bodies.specs.Standing.{SettingsAgree, GoLikewise};
 
@@ -58,4 +58,16 @@ pub fn bodies_substituted()
     ensures fused { (p q : Setting) (ts : StmtTrees) (n m : ℕ) (scope : Scope) (l k : ℕ) (r z : Frame) → SettingsAgree own_number p q ts n m → r.turn.statement ≡ l → z.turn.statement ≡ k → z.turn.number ≡ r.turn.number → z.turn.value ≡ r.turn.value → z.private ≡ r.private → MayBeRewritten (substituted r.variable (Var z.variable)) p.constants ts
         → value_named q.constants r.variable ≡ None → value_named q.constants z.variable ≡ None → is_among z.variable (all_index_names ts) ≡ false → is_among z.variable (stmts_names ts) ≡ false
         → GoLikewise (moved_behind (iterations_of (turns_of scope)) (in_loop l k)) nothing own_number p q ts (statements_substituted r.variable (Var z.variable) ts) n m (r ∷ scope) (z ∷ scope) }
+{}
+
+/// The names that steps give the copies of a loop's trips are different: where the loop is reversed, where its iterations
+/// become those of another loop, where it is cut into strips, where an iteration is peeled off, whose copies count by
+/// numbers that tell the old ones and are not the loop's, and where two loops are interchanged. For exchanging lists,
+/// which asks that names are one to one on the cells that the acts touch.
+pub fn names_of_trips_apart()
+    ensures reversed { (front : List Iteration) (l n : ℕ) → NamesApart (IsOfTrips l n) front (moved_behind front (turned l n)) }
+    ensures in_another_loop { (front : List Iteration) (l k n : ℕ) → NamesApart (IsOfTrips l n) front (moved_behind front (in_loop l k)) }
+    ensures stripped { (front : List Iteration) (l inner size n : ℕ) → NamesApart (IsOfTrips l n) front (moved_behind front (in_strips l inner size)) }
+    ensures peeled { (front : List Iteration) (l n k : ℕ) (f : ℕ → ℕ) → ((i j : ℕ) → f i ≡ f j → i ≡ j) → ((i : ℕ) → f i ≡ l → ⊥) → NamesApart (IsInsideTrips l n) front (moved_behind front (peeled l k f)) }
+    ensures interchanged { (front : List Iteration) (outer inner : ℕ) (done : ℕ → ℕ → Bool) (column row : ℕ → ℕ → ℕ) → TellNumbers done column row → NamesApart (IsOfPairs outer inner done) front (moved_behind front (transposed outer inner column row)) }
 {}

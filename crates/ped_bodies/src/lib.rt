@@ -11,7 +11,9 @@ mod trips;
 mod values;
 
 pub use acts::{likewise_accesses, likewise_acts};
-pub use bodies::{bodies_in_other_iterations, bodies_substituted, bodies_with_other_copies};
+pub use bodies::{
+    bodies_in_other_iterations, bodies_substituted, bodies_with_other_copies, names_of_trips_apart,
+};
 pub use likewise::{bodies_likewise, statements_likewise};
 pub use ped_steps;
 pub use rewriting::rewritings;

@@ -1,8 +1,8 @@
 -- Touches that correspond, and what evaluations see that correspond.
-use Rattle.std.proofs.Common.{◌≡◌, ℕ, suc, ℤ, List, [], ◌∷◌, ◌++◌, Bool, true, false, inl, inr, refl, sym, ap, subst, ◌∙◌}
+use Rattle.std.proofs.Common.{◌≡◌, ℕ, suc, List, [], ◌∷◌, ◌++◌, Bool, refl, sym, ap, subst, ◌∙◌}
 use Rattle.ped_laws.specs.ped_store.specs.Cells.{Cell}
-use Rattle.ped_laws.specs.ped_store.specs.Stores.{Content, Number, Store}
-use Rattle.ped_laws.specs.ped_store.specs.Acts.{Manner, reads, is_told, Touch}
+use Rattle.ped_laws.specs.ped_store.specs.Stores.{Content, Number}
+use Rattle.ped_laws.specs.ped_store.specs.Acts.{reads, is_told, Touch}
 use Rattle.ped_laws.specs.Acts.Fitting.{of_cells}
 use Rattle.ped_laws.proofs.ActLaws.OfCells.{cells_append}
 use Rattle.ped_laws.specs.ped_eval.specs.Evaluation.{Seen, cell_seen, index_seen, numbered, number_behind}

@@ -1,11 +1,11 @@
 -- Bodies of loops at work: copies of a private scalar in each step on loops, an expression that is put in, and a loop that is reversed, trip by trip.
-use Rattle.std.proofs.Common.{◌≡◌, ◌≤◌, ℕ, ◌+◌, ◌-◌, ℤ, pos, negsuc, List, [], ◌∷◌, ◌++◌, true, false, Some, None, refl, ap, ◌∙◌, arith}
-use Rattle.ped_tree.specs.Tree.{Int, Var, Element, Add, Sub, Mul, no_exprs, more_exprs, Head, StmtTree, StmtTrees, Assign, Do, no_stmts, more_stmts}
+use Rattle.std.proofs.Common.{◌≡◌, ◌≤◌, ℕ, ◌+◌, ◌-◌, List, [], ◌∷◌, refl, arith}
+use Rattle.ped_tree.specs.Tree.{Int, Var, Element, Add, Sub, Mul, no_exprs, more_exprs, Head, StmtTrees, Assign, no_stmts, more_stmts}
 use Rattle.ped_sums.specs.Sums.{times_of}
 use Rattle.ped_sums.specs.Substitution.{statements_substituted}
-use Rattle.ped_laws.specs.ped_store.specs.Cells.{Scalar, Private, Iteration}
+use Rattle.ped_laws.specs.ped_store.specs.Cells.{Private, Iteration}
 use Rattle.ped_laws.specs.ped_store.specs.Stores.{Store}
-use Rattle.ped_laws.specs.ped_store.specs.Acts.{Act, iterations_of}
+use Rattle.ped_laws.specs.ped_store.specs.Acts.{iterations_of}
 use Rattle.ped_laws.specs.Acts.Sets.{nothing}
 use Rattle.ped_laws.specs.ped_eval.specs.Scopes.{Setting, Scope, turns_of}
 use Rattle.ped_laws.specs.ped_eval.specs.Evaluation.{Seen}

@@ -1,5 +1,5 @@
 -- Acts that are done likewise are acts on renamed cells, but for what they write to idle cells.
-use Rattle.std.proofs.Common.{◌≡◌, ℕ, List, [], ◌∷◌, ◌++◌, map, filter, Bool, true, false, ◌&&◌, inl, inr, refl, sym, ap, subst, ◌∙◌, append_assoc, if◌then◌else◌}
+use Rattle.std.proofs.Common.{◌≡◌, ℕ, List, [], ◌∷◌, ◌++◌, map, filter, Bool, true, false, ◌&&◌, inl, inr, refl, sym, ap, subst, ◌∙◌}
 use Rattle.std.specs.Prelude.{not}
 use Rattle.std.proofs.lemmas.Bool.{both_ways}
 use Rattle.ped_laws.specs.ped_store.specs.Cells.{Cell}
@@ -8,11 +8,11 @@ use Rattle.ped_laws.specs.ped_store.specs.Races.{is_write}
 use Rattle.ped_laws.specs.Acts.Fitting.{touches_of, has_cell, of_cells}
 use Rattle.ped_laws.specs.Acts.Sets.{nothing}
 use Rattle.ped_laws.specs.Acts.Conflicts.{touches_without, without, IsNoReadOf, LeaveUnread, ReadNone}
-use Rattle.ped_laws.specs.Acts.Renaming.{AreRenamed, Renamed, own_name}
+use Rattle.ped_laws.specs.Acts.Renaming.{AreRenamed, Renamed}
 use Rattle.ped_laws.proofs.ActLaws.OfCells.{stays_first, goes_first, cells_append}
 use Rattle.ped_steps.specs.Runs.Renumbering.{renumbered_turn}
-use Rattle.ped_steps.specs.Runs.Substituting.{IsSameOn, AreSameOn}
-use Rattle.ped_bodies.specs.Likewise.{Meet, Meets, AllMeet, IsLikewise, AreLikewise}
+use Rattle.ped_steps.specs.Runs.Substituting.{AreSameOn}
+use Rattle.ped_bodies.specs.Likewise.{Meet, AllMeet, IsLikewise, AreLikewise}
 use Rattle.ped_bodies.specs.Moving.{own_number}
 
 pub likewise_append : (name : Cell → Cell) (idle : Cell → Bool) (f : ℕ → ℕ) (turns others : List Turn) (acts fresh more further : List Act) → AreLikewise name idle f turns others acts fresh → AreLikewise name idle f turns others more further

@@ -1,5 +1,5 @@
 -- A READ whose items are rewritten takes, at the other place, what it took, into cells that correspond.
-use Rattle.std.proofs.Common.{◌≡◌, ℕ, suc, ℤ, List, [], ◌∷◌, ◌++◌, map, Bool, true, false, Option, Some, None, Result, Ok, Err, inl, refl, sym, ap, subst, ◌∙◌, if◌then◌else◌}
+use Rattle.std.proofs.Common.{◌≡◌, ℕ, suc, ℤ, List, [], ◌∷◌, ◌++◌, map, Bool, true, false, None, Result, Ok, Err, inl, refl, sym, ap, subst, ◌∙◌, if◌then◌else◌}
 use Rattle.std.specs.List.{flat_map}
 use Rattle.ped_steps.specs.ped_flow.specs.ped_base.specs.Lists.{is_among}
 use Rattle.ped_tree.specs.Tree.{ExprTree, ExprTrees, Var}
@@ -25,7 +25,7 @@ use Rattle.ped_bodies.specs.Rewriting.{IsRewriting}
 use Rattle.ped_bodies.specs.Likewise.{NamesScalars, OfSeen, ComesLikewise}
 use Rattle.ped_bodies.specs.Standing.{EvaluateLikewise}
 use Rattle.ped_bodies.proofs.BodyLaws.Corresponding.{Alike, alike_append, read_meets, write_meets}
-use Rattle.ped_bodies.proofs.BodyLaws.LikewiseSight.{Within, within_parts, among_first, among_rest, Matches, CellsMeet, target_match}
+use Rattle.ped_bodies.proofs.BodyLaws.LikewiseSight.{Within, within_parts, among_first, among_rest, CellsMeet, target_match}
 
 -- stores that hold the same but for the data
 abbrev SameButData : Store → Store → Type 0

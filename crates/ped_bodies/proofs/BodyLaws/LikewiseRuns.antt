@@ -1,5 +1,5 @@
 -- Rewritten statements do likewise, at the other place, what the old ones did.
-use Rattle.std.proofs.Common.{◌≡◌, ℕ, zero, suc, ◌+◌, ◌<◌, ◌≤◌, ℤ, List, [], ◌∷◌, ◌++◌, map, Bool, true, false, Option, Some, None, Result, Ok, Err, inl, inr, refl, sym, ap, subst, ◌∙◌, arith, append-nil, if◌then◌else◌}
+use Rattle.std.proofs.Common.{◌≡◌, ℕ, zero, suc, ◌+◌, ◌<◌, ◌≤◌, ℤ, List, [], ◌∷◌, ◌++◌, map, Bool, true, false, Option, Some, None, Result, Ok, Err, inl, refl, sym, ap, subst, ◌∙◌, arith, append-nil, if◌then◌else◌}
 use Rattle.std.specs.Prelude.{◌==◌, ◌||◌}
 use Rattle.std.specs.List.{flat_map}
 use Rattle.std.proofs.lemmas.List.Folds.{list_any-append}
@@ -9,13 +9,13 @@ use Rattle.ped_tree.specs.Tree.{ExprTree, ExprTrees, Var, CondTree, ItemTree, He
 use Rattle.ped_tree.specs.NamesIn.{expr_names, cond_names, item_names, head_names, stmt_names, stmts_names}
 use Rattle.ped_tree.specs.Numbering.{statement_count, statements_count}
 use Rattle.ped_steps.specs.ped_affine.specs.Assigned.{assigned_left, assigned_in, assigned_in_all}
-use Rattle.ped_laws.specs.ped_store.specs.Cells.{Cell, In, Out}
-use Rattle.ped_laws.specs.ped_store.specs.Stores.{Content, Undefined, Number, Lines, Store, lines_in}
+use Rattle.ped_laws.specs.ped_store.specs.Cells.{Cell, Out}
+use Rattle.ped_laws.specs.ped_store.specs.Stores.{Undefined, Number, Lines, Store, lines_in}
 use Rattle.ped_laws.specs.ped_store.specs.Acts.{Turn, Touch, Place, Step, did, entered, ended_turn, closed, Act, store_behind}
 use Rattle.ped_laws.specs.ped_eval.specs.Scopes.{Setting, Frame, Scope, turns_of, cell_of, Names, names_in, place_of}
 use Rattle.ped_laws.specs.ped_eval.specs.Evaluation.{Seen, Evaluated, numbered, number_behind}
 use Rattle.ped_laws.specs.ped_eval.specs.Values.{value, truth}
-use Rattle.ped_laws.specs.ped_eval.specs.Statements.{Stored, assigned, assignment_touches, printed_line, print_touches, read_touch, write_touch, reading, reading_touches}
+use Rattle.ped_laws.specs.ped_eval.specs.Statements.{assigned, assignment_touches, printed_line, print_touches, read_touch, write_touch, reading, reading_touches}
 use Rattle.ped_laws.specs.ped_eval.specs.Loops.{Limits, limits, increment, iteration_count, index_names, all_index_names, inner_variables, Entered, entered_with, frame, left_in_variable, undefined_by, undefined_all, exit_touches, exit_when_none, entry_touches}
 use Rattle.ped_laws.specs.ped_eval.specs.Runs.{Ending, going, stopped, failed, Run, nothing_done, followed_by, then_run, does, on, run_taking, turns, parallel_turns, run_entered, run_from_entry, run, run_all}
 use Rattle.ped_laws.specs.Runs.Replaying.{Finish, goes_on, stops, finish_of, has_fault, act, Replays}
@@ -25,7 +25,7 @@ use Rattle.ped_laws.proofs.RunLaws.Joined.{replays_nothing, assignment_does, pri
 use Rattle.ped_steps.specs.Runs.Pasting.{AgreeInBounds}
 use Rattle.ped_steps.specs.Runs.Renumbering.{renumbered_turn}
 use Rattle.ped_bodies.specs.Rewriting.{IsRewriting, condition_rewritten, item_rewritten, head_rewritten, statement_rewritten, statements_rewritten, OfHeads, OfAllHeads, KeepsIncrement}
-use Rattle.ped_bodies.specs.Likewise.{NamesScalars, ComesLikewise, IsLikewise, AreLikewise, DoesLikewise}
+use Rattle.ped_bodies.specs.Likewise.{NamesScalars, ComesLikewise, IsLikewise, DoesLikewise}
 use Rattle.ped_bodies.specs.Standing.{EvaluateLikewise, StandLikewise, CountBy, StandRewritten, GoLikewise}
 use Rattle.ped_bodies.proofs.BodyLaws.Corresponding.{Alike, alike_append, read_meets, write_meets}
 use Rattle.ped_bodies.proofs.BodyLaws.LikewiseActs.{likewise_append}

@@ -25,7 +25,7 @@ use Rattle.ped_laws.specs.ped_eval.specs.Evaluation.{Seen, cell_seen, index_seen
 use Rattle.ped_laws.specs.ped_eval.specs.Values.{of_intrinsic, variable_value, name_value, is_rank, element_cell, binary, value, values, relation_holds, truth, target}
 use Rattle.ped_laws.specs.ped_eval.specs.Statements.{Stored, assigned, item_text, item_texts, printed_line}
 use Rattle.ped_laws.specs.ped_eval.specs.Loops.{in_bounds, limits}
-use Rattle.ped_laws.specs.Runs.Seeing.{Holds, ComesTo, IsToldBySight}
+use Rattle.ped_laws.specs.Runs.Seeing.{ComesTo}
 use Rattle.ped_laws.proofs.RunLaws.Sight.{holds_first, holds_rest, value_told}
 use Rattle.ped_laws.proofs.RunLaws.SeenCells.{AllSeen, value_seen}
 use Rattle.ped_laws.proofs.RunLaws.StatementsTold.{no_lines}

@@ -6,7 +6,7 @@ use Rattle.ped_laws.specs.ped_eval.specs.Scopes.{Names}
 use Rattle.ped_laws.specs.ped_eval.specs.Evaluation.{Seen, Evaluated, having_seen, onward, ◌>>>◌, given}
 use Rattle.ped_laws.specs.ped_eval.specs.Loops.{is_bound, in_bounds, Limits, limits}
 use Rattle.ped_laws.specs.ped_eval.specs.Values.{value}
-use Rattle.ped_laws.specs.Runs.Seeing.{Holds, ComesTo}
+use Rattle.ped_laws.specs.Runs.Seeing.{ComesTo}
 use Rattle.ped_laws.proofs.RunLaws.Sight.{holds_append, holds_first, holds_rest, value_told}
 use Rattle.ped_bodies.specs.Trips.{HasLimits}
 

@@ -1,9 +1,9 @@
 -- Cells at a place to which a body is moved.
-use Rattle.std.proofs.Common.{◌≡◌, ℕ, ◌+◌, ◌-◌, ◌<◌, List, [], ◌∷◌, ◌++◌, map, length, Bool, true, false, ◌&&◌, eqb, eqb-true, Option, Some, None, inl, inr, refl, sym, ap, subst, ◌∙◌, arith, append_assoc, append-nil, if◌then◌else◌}
+use Rattle.std.proofs.Common.{◌≡◌, ℕ, ◌+◌, ◌-◌, ◌<◌, List, [], ◌∷◌, ◌++◌, map, length, Bool, true, false, ◌&&◌, eqb, eqb-true, Option, Some, None, inl, inr, refl, sym, ap, ◌∙◌, arith, append_assoc, append-nil, if◌then◌else◌}
 use Rattle.std.specs.Prelude.{◌==◌, ◌/◌, ◌%◌}
 use Rattle.std.proofs.lemmas.List.{map-append, length-append, length-map}
 use Rattle.ped_steps.specs.ped_flow.specs.ped_base.specs.Lists.{is_among}
-use Rattle.ped_laws.specs.ped_store.specs.Cells.{Cell, Scalar, Element, Private, In, Out, Iteration, same_iteration}
+use Rattle.ped_laws.specs.ped_store.specs.Cells.{Cell, Private, Iteration, same_iteration}
 use Rattle.ped_laws.specs.ped_store.specs.Acts.{Turn, iterations_of}
 use Rattle.ped_laws.specs.Acts.Renaming.{own_name}
 use Rattle.ped_laws.specs.ped_eval.specs.Scopes.{Frame, Scope, turns_of, cell_of}
@@ -29,7 +29,7 @@ behind_same : (path front rest : List Iteration) → behind_front (path ++ front
 behind_same [] front rest = refl
 behind_same (i ∷ path) front rest = ap (λ (b : Bool). if b then behind_front (path ++ front) (path ++ rest) else None) (same_itself i) ∙ behind_same path front rest
 
-behind_itself : (front rest : List Iteration) → behind_front front (front ++ rest) ≡ Some rest
+pub behind_itself : (front rest : List Iteration) → behind_front front (front ++ rest) ≡ Some rest
 behind_itself front rest = ap (λ (path : List Iteration). behind_front path (front ++ rest)) (sym (append-nil front)) ∙ behind_same front [] rest
 
 module _ (g : List Iteration → List Iteration) where
@@ -175,7 +175,7 @@ pub exchanged_names : (name : Cell → Cell) → IsExchange name → NamesScalar
 exchanged_names name laws = record { element = laws.element; input = laws.input; output = laws.output }
 
 -- where the names of each step lead
-is_there : (l n : ℕ) → n ≡ l → (n == l) ≡ true
+pub is_there : (l n : ℕ) → n ≡ l → (n == l) ≡ true
 is_there l n h = grind (arith, eqb-true)
 
 pub turned_leads : (l n : ℕ) (r z : Frame) → r.turn.statement ≡ l → z.turn.statement ≡ l → z.turn.number ≡ n + 1 - r.turn.number → LeadTo (turned l n) own_number (r ∷ []) (z ∷ [])

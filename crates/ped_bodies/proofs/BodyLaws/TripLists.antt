@@ -10,8 +10,8 @@ use Rattle.ped_laws.specs.Acts.Fitting.{store_after}
 use Rattle.ped_laws.proofs.ActLaws.Stores.{after_append}
 use Rattle.ped_laws.specs.ped_eval.specs.Scopes.{Setting, Frame, Scope, names_in, place_of}
 use Rattle.ped_laws.specs.ped_eval.specs.Evaluation.{Seen}
-use Rattle.ped_laws.specs.ped_eval.specs.Loops.{Limits, limits, Entered, entered_with, frame, exit_touches, exit_when_none}
-use Rattle.ped_laws.specs.ped_eval.specs.Runs.{Run, nothing_done, does, turns, parallel_turns, run_entered, run}
+use Rattle.ped_laws.specs.ped_eval.specs.Loops.{Limits, limits, Entered, frame, exit_touches, exit_when_none}
+use Rattle.ped_laws.specs.ped_eval.specs.Runs.{Run, turns, parallel_turns, run_entered, run}
 use Rattle.ped_laws.specs.ped_eval.specs.Turns.{body_run}
 use Rattle.ped_laws.specs.Runs.Seeing.{ComesTo}
 use Rattle.ped_laws.specs.Runs.Replaying.{Finish, goes_on, stops, faults, finish_of, is_going, act, behind, Replays, IsEntered}

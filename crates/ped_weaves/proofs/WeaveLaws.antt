@@ -3,6 +3,8 @@ pub mod AgreedApart
 pub mod PutFor
 pub mod KnotLists
 pub mod EachKnot
+pub mod KnotRows
+pub mod TripOrders
 mod NewNames
 pub mod Woven
 pub mod CountedActs

@@ -1,5 +1,6 @@
 -- Lists of acts woven of blocks and of acts of control, as the bodies of loops and the entries and ends of these loops: blocks stand in another order on other cells, and other controls stand between them (this project).
-use Rattle.std.specs.Prelude.{◌≡◌, ℕ, List, [], ◌∷◌, ◌++◌, Bool, true, false}
+use Rattle.std.specs.Prelude.{◌≡◌, ℕ, ◌≤◌, List, [], ◌∷◌, ◌++◌, map, Bool, true, false}
+use Rattle.std.specs.List.{range_with_len}
 use Rattle.ped_laws.specs.ped_store.specs.Cells.{Cell}
 use Rattle.ped_laws.specs.ped_store.specs.Stores.{Store}
 use Rattle.ped_laws.specs.ped_store.specs.Acts.{reads, Touch, Act}
@@ -75,3 +76,16 @@ pub record IsWoven (w : Weave) (before behind : Cell → Bool) (s : Store) : Typ
   pub suit : Suit w.idle before behind (old_list w)
   pub own : (c : Cell) → needs (counted w) c ≡ true → w.names c ≡ c
   pub own_behind : (c : Cell) → behind c ≡ true → (w.names c ≡ c) × IsFree w.names (counted w) c
+
+-- trips 1 to n have new numbers 1 to n, and these have the old ones (plain words)
+pub record AreInverse (n : ℕ) (to of : ℕ → ℕ) : Type 0 where
+  pub new : (k : ℕ) → 1 ≤ k → k ≤ n → (1 ≤ to k) × (to k ≤ n) × (of (to k) ≡ k)
+  pub old : (j : ℕ) → 1 ≤ j → j ≤ n → (1 ≤ of j) × (of j ≤ n) × (to (of j) ≡ j)
+
+-- the blocks of n trips in their old order, each with its old and its new number (this project)
+abbrev pub old_trips : (ℕ → ℕ → List Act) → (n : ℕ) → (ℕ → ℕ) → List Block
+old_trips acts n to = map (λ k. block_at acts k (to k)) (range_with_len 1 n)
+
+-- the blocks of n trips in their new order (this project)
+abbrev pub new_trips : (ℕ → ℕ → List Act) → (n : ℕ) → (ℕ → ℕ) → List Block
+new_trips acts n of = map (λ j. block_at acts (of j) j) (range_with_len 1 n)

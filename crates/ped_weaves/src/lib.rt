@@ -12,4 +12,4 @@ pub use apart::{agreed_sets, parts_apart, standing_pieces};
 pub use ped_laws;
 pub use puttings::{act_for_act, kept_part};
 pub use sources::comes_free;
-pub use weaves::{counted_acts, weaving};
+pub use weaves::{counted_acts, trips_reordered, weaving, woven_rows};

@@ -6,3 +6,4 @@ mod Reversed
 mod Entries
 mod Iterations
 mod TakenNames
+mod AnyLength

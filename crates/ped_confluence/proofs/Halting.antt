@@ -1,5 +1,5 @@
 -- A run that a STOP ends did a trace and then the STOP, which stands in no DO.
-use Rattle.std.proofs.Common.{◌≡◌, ℕ, ◌+◌, List, [], ◌∷◌, ◌++◌, Bool, true, false, Result, Ok, Err, refl, sym, ap, subst, ◌∙◌, append_assoc, if◌then◌else◌}
+use Rattle.std.proofs.Common.{◌≡◌, ℕ, ◌+◌, List, [], ◌∷◌, ◌++◌, ◌||◌, Bool, true, false, Result, Ok, Err, refl, sym, ap, subst, ◌∙◌, append_assoc, if◌then◌else◌}
 use Rattle.ped_interleavings.specs.ped_tree.specs.Tree.{CondTree, StmtTree, StmtTrees, Assign, If, Do, Print, Read, Stop, Comment, no_stmts, more_stmts}
 use Rattle.ped_interleavings.specs.ped_tree.specs.Numbering.{statement_count, statements_count}
 use Rattle.ped_interleavings.specs.ped_eval.specs.ped_store.specs.Stores.{Store}
@@ -12,7 +12,6 @@ use Rattle.ped_interleavings.specs.Lefts.{Left, begins, left_of, left_of_all, is
 use Rattle.ped_interleavings.specs.Steps.{Next, went, act_of, seen_next, step}
 use Rattle.ped_laws.specs.Acts.Fitting.{Find}
 use Rattle.ped_laws.specs.FlowRuns.Covering.{stops_in_loop, some_stops_in_loop}
-use Rattle.ped_laws.specs.ped_flow.proofs.Truths.{or_none}
 use Rattle.ped_laws.proofs.ActLaws.Lists.{before_left, before_right}
 use Rattle.ped_laws.proofs.FlowRunLaws.Unstopped.{IsUnstopped, unstopped}
 use Rattle.ped_laws.proofs.RunLaws.Told.{found_reads}
@@ -26,6 +25,10 @@ abbrev pub IsStopped : Ending → Type 0
 IsStopped (going s) = ⊥
 IsStopped (stopped s) = Unit {0}
 IsStopped (failed fault statement) = ⊥
+
+or_none : (a b : Bool) → a || b ≡ false → (a ≡ false) × (b ≡ false)
+or_none true b h = absurd cc
+or_none false b h = (refl, h)
 
 not_stopped : (e : Ending) → IsUnstopped e → IsStopped e → ⊥
 not_stopped (going s) h k = k

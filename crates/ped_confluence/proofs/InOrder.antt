@@ -17,8 +17,8 @@ use Rattle.ped_interleavings.specs.ped_eval.specs.Turns.{body_run}
 use Rattle.ped_interleavings.specs.ped_eval.specs.Outcomes.{Outcome, setting_of, run_of, outcome_of, outcome}
 use Rattle.ped_interleavings.specs.Lefts.{Left, finished, begins, ends_turn, open_loop, Lefts, no_lefts, more_lefts, left_of, left_of_all, body_left, turns_left, lefts_by, entered_left, is_finished, many, one_on, unfinished, or_else, pick, wants_choice, with_left}
 use Rattle.ped_interleavings.specs.Steps.{Next, over, met, went, halted, act_of, inside, by_run, seen_next, opened_step, step, step_at}
-use Rattle.ped_interleavings.specs.Interleavings.{Standing, behind_act, standing_by, ended_by, IsInterleavedFrom, at_start, IsInterleaved}
-use Rattle.ped_interleavings.proofs.Ending.{one_outcome, step_more}
+use Rattle.ped_interleavings.specs.Interleavings.{Standing, behind_act, standing_by, ended_by, IsInterleavedFrom, IsInterleaved}
+use Rattle.ped_confluence.proofs.Reaching.{step_more}
 
 module _ (p : Setting) where
   -- steps with the choice 0 that leave these one after the other
@@ -295,6 +295,3 @@ module _ (t : ProgramTree) where
   in_order data_bytes =
       let s = store_at_start (lines data_bytes) in
       ending_reached (left_of_all t.body 1 [] finished) s (run_of t data_bytes).ending (comes_all (setting_of t) t.body 1 [] s finished)
-
-  pub orders_agree : (data_bytes : List ℕ) (o : Outcome) → IsInterleaved t data_bytes [] o → o ≡ outcome t data_bytes
-  orders_agree data_bytes o i = one_outcome t (at_start t data_bytes []) o (outcome t data_bytes) i (in_order data_bytes)

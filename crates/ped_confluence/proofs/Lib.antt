@@ -1,9 +1,9 @@
-pub mod Traces
-pub mod Doing
-pub mod Picks
-pub mod Stepping
-pub mod Tracing
-pub mod Halting
-pub mod Reaching
-pub mod Outcomes
-pub mod InOrder
+mod Traces
+mod Doing
+mod Picks
+mod Stepping
+mod Tracing
+mod Halting
+mod Reaching
+mod Outcomes
+mod InOrder

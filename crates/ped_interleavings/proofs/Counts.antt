@@ -1,7 +1,8 @@
 -- How often a DO may go round.
 use Rattle.std.proofs.Common.{◌≡◌, ℕ, suc, ◌+◌, ◌-◌, ◌/◌, ◌≤◌, ◌<◌, ◌^◌, ℤ, pos, negsuc, neg_ℤ, ◌+ℤ◌, ◌-ℤ◌, unsigned_abs, int_div, List, Bool, true, false, Result, Ok, Err, refl, sym, ap, ◌∙◌, arith, if◌then◌else◌, ◌⊎◌, inl, inr, [], zero}
 use Rattle.std.proofs.Math.Nat.{div-le_self, div-eq-sub-div, div-eq_of_lt}
-use Rattle.std.proofs.lemmas.Bool.{cases_order}
+use Rattle.std.specs.Prelude.{int_le}
+use Rattle.std.proofs.lemmas.Bool.{and_parts, cases_order}
 use Rattle.std.proofs.lemmas.Int.{ints}
 use Rattle.ped_tree.specs.Tree.{Head}
 use Rattle.ped_eval.specs.ped_store.specs.Stores.{Store, out_of_range}
@@ -10,7 +11,6 @@ use Rattle.ped_eval.specs.Scopes.{Names}
 use Rattle.ped_eval.specs.Evaluation.{Seen, Evaluated, onward, ◌>>>◌, given}
 use Rattle.ped_eval.specs.Values.{value}
 use Rattle.ped_eval.specs.Loops.{is_bound, in_bounds, Limits, limits, iteration_count}
-use Rattle.ped_eval.proofs.Spans.{bound_is_small}
 use Rattle.ped_interleavings.specs.Weights.{most_turns}
 
 -- an evaluation that goes on has gone on from a value
@@ -27,6 +27,13 @@ bound_is m n h = go (is_bound m) refl h
     go : (b : Bool) → is_bound m ≡ b → (if b then Ok m else Err out_of_range) ≡ Ok n → is_bound n ≡ true
     go true i e = ap is_bound (sym (ok_is m n e)) ∙ i
     go false i e = absurd cc
+
+bound_is_small : (m : ℤ) → is_bound m ≡ true → unsigned_abs m ≤ 2 ^ 62
+bound_is_small m h =
+    let p = and_parts (int_le (neg_ℤ (pos (2 ^ 62))) m) (int_le m (pos (2 ^ 62))) h in
+    let least = p.0 in
+    let greatest = p.1 in
+    omega (arith, ints)
 
 limits_are_bounds : (g : Names) (h : Head) (s : Store) (l : Limits) → (limits g h s).result ≡ Ok l → (is_bound l.first ≡ true) × (is_bound l.last ≡ true)
 limits_are_bounds g h s l e =

@@ -106,8 +106,8 @@ goes_round = comes_in 7 going_round (at_start going_round [] (2 ∷ 2 ∷ 2 ∷ 
 abbrev waiting : ProgramTree
 waiting = program (more_stmts (Assign k (Int 1)) (more_stmts (parallel_i 2 (one (prints i))) (one (parallel_i 3 (one (prints (Mul i (Int 10))))))))
 
-choices_wait : IsInterleaved waiting [] (1 ∷ 0 ∷ 2 ∷ 2 ∷ []) (printed (2 ∷ 1 ∷ 30 ∷ 10 ∷ 20 ∷ []))
-choices_wait = comes_in 10 waiting (at_start waiting [] (1 ∷ 0 ∷ 2 ∷ 2 ∷ [])) _ refl
+choices_wait : IsInterleaved waiting [] (1 ∷ 0 ∷ 2 ∷ 1 ∷ []) (printed (2 ∷ 1 ∷ 30 ∷ 20 ∷ 10 ∷ []))
+choices_wait = comes_in 10 waiting (at_start waiting [] (1 ∷ 0 ∷ 2 ∷ 1 ∷ [])) _ refl
 
 -- PARALLEL DO 10 I = 1, 2; PRINT *, I; STOP; PRINT *, 9: nothing is done behind the STOP, and choices may be left
 abbrev stopping : ProgramTree

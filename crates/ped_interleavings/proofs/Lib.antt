@@ -1,5 +1,5 @@
-pub mod Counts
-pub mod Nexts
-pub mod Weighing
-pub mod Ending
-pub mod Examples
+mod Counts
+mod Nexts
+mod Weighing
+mod Ending
+mod Examples

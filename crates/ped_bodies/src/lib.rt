@@ -1,0 +1,21 @@
+//! Bodies of loops: laws by which statements do likewise at another place, with expressions rewritten, and by which a DO
+//! is made of its trips. Each function here does nothing; its contract is the law, and docs/MEANING.md tells what the
+//! laws are for.
+#![tactic(auto)]
+
+mod acts;
+mod bodies;
+mod likewise;
+mod rewriting;
+mod trips;
+mod values;
+
+pub use acts::{likewise_accesses, likewise_acts};
+pub use bodies::{
+    bodies_in_other_iterations, bodies_substituted, bodies_with_other_copies, names_of_trips_apart,
+};
+pub use likewise::{bodies_likewise, statements_likewise};
+pub use ped_steps;
+pub use rewriting::rewritings;
+pub use trips::{limits_of_bounds, loops_apart, loops_likewise, loops_made};
+pub use values::{values_likewise, values_told_inside};

@@ -7,3 +7,4 @@ mod Halting
 mod Reaching
 mod Outcomes
 mod InOrder
+mod Examples

@@ -63,6 +63,10 @@ nested = program (one (parallel_i 2 (one (parallel_j 2 (one (prints (Add (Mul i 
 nested_from_behind : IsInterleaved nested [] (3 ∷ 3 ∷ 3 ∷ []) (printed (22 ∷ 21 ∷ 11 ∷ 12 ∷ []))
 nested_from_behind = comes_in 10 nested (at_start nested [] (3 ∷ 3 ∷ 3 ∷ [])) _ refl
 
+-- 2 picks the first iteration and, by 2 div 2, the second one of the inner loop
+nested_inside : IsInterleaved nested [] (0 ∷ 2 ∷ []) (printed (12 ∷ 11 ∷ 21 ∷ 22 ∷ []))
+nested_inside = comes_in 10 nested (at_start nested [] (0 ∷ 2 ∷ [])) _ refl
+
 nested_in_order : IsInterleaved nested [] [] (printed (11 ∷ 12 ∷ 21 ∷ 22 ∷ []))
 nested_in_order = comes_in 10 nested (at_start nested [] []) _ refl
 
@@ -101,6 +105,10 @@ going_round = program (one (parallel_i 5 (one (prints i))))
 
 goes_round : IsInterleaved going_round [] (2 ∷ 2 ∷ 2 ∷ 2 ∷ 2 ∷ []) (printed (3 ∷ 4 ∷ 5 ∷ 1 ∷ 2 ∷ []))
 goes_round = comes_in 7 going_round (at_start going_round [] (2 ∷ 2 ∷ 2 ∷ 2 ∷ 2 ∷ [])) _ refl
+
+-- places count finished iterations, too
+counts_all_places : IsInterleaved going_round [] (3 ∷ 8 ∷ 13 ∷ 18 ∷ 23 ∷ []) (printed (4 ∷ 5 ∷ 1 ∷ 2 ∷ 3 ∷ []))
+counts_all_places = comes_in 7 going_round (at_start going_round [] (3 ∷ 8 ∷ 13 ∷ 18 ∷ 23 ∷ [])) _ refl
 
 -- K = 1; PARALLEL DO 10 I = 1, 2; PRINT *, I; PARALLEL DO 20 I = 1, 3; PRINT *, I*10: outside iterations of a PARALLEL DO, and where one is closed, choices wait
 abbrev waiting : ProgramTree

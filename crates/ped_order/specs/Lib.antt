@@ -1,10 +1,9 @@
 pub use Rattle.ped_laws.specs.ped_flow
 pub use Rattle.ped_store
-pub use Rattle.ped_eval
+pub use Rattle.ped_laws.specs.ped_eval
 pub mod FirstRaces
 pub mod KeyLaws
 pub mod Keys
-pub mod KeyViews
 pub mod Reports
 pub mod ReportViews
 pub mod CarriedRaces

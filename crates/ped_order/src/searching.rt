@@ -6,7 +6,7 @@ ghost use Rattle.ped_symbols.specs.Kinds.{table_of};
 ghost use Rattle.ped_symbols.specs.NameRefusals.{IsValid};
 ghost use Rattle.ped_laws.specs.ped_edges.specs.Edges.{Edge};
 ghost use Rattle.ped_laws.specs.ped_graph.specs.Dependences.{AreEdges};
-ghost use Rattle.ped_eval.specs.OutcomeViews.{outcome_view};
+ghost use Rattle.ped_laws.specs.ped_eval.specs.OutcomeViews.{outcome_view};
 ghost use Rattle.ped_order.specs.Reports.{IsReport};
 ghost use Rattle.ped_order.specs.ReportViews.{report_view, report_of};
 ghost use Rattle.ped_order.specs.CarriedRaces.{IsCarried};
@@ -14,8 +14,8 @@ ghost use Rattle.ped_order.specs.CarriedRaces.{IsCarried};
 use crate::reports::RaceReport;
 use crate::watches::{FoundRace, RaceWatch};
 use ped_base::NoMemory;
-use ped_eval::{Outcome, run_watched};
 use ped_laws::conflicts::races_are_covered;
+use ped_laws::ped_eval::{Outcome, run_watched};
 use ped_symbols::Symbols;
 use ped_tree::Program;
 use std::alloc::Global;
@@ -44,10 +44,8 @@ pub fn races(
 {
     races_are_covered();
     let mut watch = RaceWatch::new(alloc);
-    match run_watched(alloc, program, symbols, input, &mut watch) {
-        Ok(outcome) => return Ok(report(&watch.found, &outcome)),
-        Err(NoMemory) => return Err(NoMemory),
-    }
+    let outcome = run_watched(alloc, program, symbols, input, &mut watch)?;
+    Ok(report(&watch.found, &outcome))
 }
 
 /// The report of a run that has ended so.
@@ -62,8 +60,8 @@ fn report(found: &Option<FoundRace>, outcome: &Outcome) -> RaceReport
         },
         None => match outcome {
             Outcome::Ended { output: _, live: _ } => return RaceReport::NoRace,
-            Outcome::Fault { number, statement } => return RaceReport::Fault {
-                number: *number,
+            Outcome::Fault { fault, statement } => return RaceReport::Fault {
+                fault: *fault,
                 statement: *statement,
             },
         },

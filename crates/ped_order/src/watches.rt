@@ -5,7 +5,7 @@ ghost use Rattle.ped_order.specs.Saw.{Saw};
 
 use crate::tables::Table;
 use ped_base::NoMemory;
-use ped_eval::{Access, Watch};
+use ped_laws::ped_eval::{Access, Watch};
 use ped_store::Cell;
 use std::alloc::Global;
 
@@ -60,8 +60,8 @@ impl Watch for RaceWatch {
         if self.found.is_some() {
             return Ok(());
         }
-        match self.table.rival(self.alloc, access) {
-            Ok(Some(first)) => {
+        match self.table.rival(self.alloc, access)? {
+            Some(first) => {
                 self.found = Some(FoundRace {
                     cell: access.cell,
                     first: first.statement,
@@ -69,8 +69,7 @@ impl Watch for RaceWatch {
                 });
                 return Ok(());
             }
-            Ok(None) => return self.table.add(self.alloc, access),
-            Err(NoMemory) => return Err(NoMemory),
+            None => return self.table.add(self.alloc, access),
         }
     }
 }

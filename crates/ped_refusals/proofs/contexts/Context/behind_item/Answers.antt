@@ -1,4 +1,4 @@
-use Rattle.std.proofs.Common.{◌≡◌, ℕ, ◌+◌, rules, sym, ap, arith}
+use Rattle.std.proofs.Common.{◌≡◌, ℕ, ◌+◌, rules, sym, arith}
 use Rattle.ped_tree.specs.Grammar.Contexts as Spec
 use Rattle.ped_tree.specs.Grammar.ItemViews.{item_of}
 use Rattle.ped_print.specs.Lengths.{limited}
@@ -13,7 +13,6 @@ returns c = record {
   phase = search rules;
   blocks = sym c.in_ok-take_on.ensures;
   statements = counted c.args.self.statements (Spec.numbered_in (item_of c.args.item.now)) c.numbered_in.result c.saturating_add.result c.numbered_in.ensures c.saturating_add.ensures;
-  loops = ap (λ (n : ℕ). c.args.self.loops + n) (sym c.loops_in.ensures);
   constants = λ x. sym (c.in_ok-add_constants.ensures x);
   saves_names = search rules;
   saves_everything = search rules;

@@ -21,3 +21,4 @@ pub mod Writing
 pub mod Entering
 pub mod Examples
 pub mod Stopping
+pub mod LoopsRound

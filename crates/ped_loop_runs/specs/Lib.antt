@@ -1,0 +1,2 @@
+pub use Rattle.ped_laws
+pub mod Carried

@@ -2,3 +2,4 @@
 pub mod Carrying
 pub mod Nested
 pub mod Trips
+pub mod PlainReads

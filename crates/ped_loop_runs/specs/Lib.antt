@@ -1,2 +1,3 @@
 pub use Rattle.ped_laws
 pub mod Carried
+pub mod Bounds

@@ -1,5 +1,5 @@
 -- Dependences that a loop carries, and accesses in its trips (Allen and Kennedy, section 2.2.5).
-use Rattle.std.specs.Prelude.{◌≡◌, ◌<◌, ℕ, ◌+◌, List, [], ◌∷◌, ◌++◌, map, length, nat_lt, nat_le, Bool, true, false, ◌==◌, ◌&&◌, Option, Some, None}
+use Rattle.std.specs.Prelude.{◌≡◌, ◌<◌, ℕ, ◌+◌, List, ◌∷◌, ◌++◌, map, length, nat_lt, nat_le, Bool, true, false, ◌==◌, ◌&&◌, Option, Some, None}
 use Rattle.ped_laws.specs.ped_graph.specs.ped_views.specs.declared.directions.Direction.{Direction}
 use Rattle.ped_laws.specs.ped_graph.specs.ped_views.specs.declared.directions.Direction.TheVariants.{Before, Same}
 use Rattle.ped_laws.specs.ped_flow.specs.ped_tree.specs.Tree.{StmtTrees, ProgramTree}

@@ -1,6 +1,5 @@
 -- The dependence that covers two accesses, and the loop that carries it.
-use Rattle.std.proofs.Common.{◌≡◌, ℕ, suc, ◌+◌, ◌<◌, List, [], ◌∷◌, ◌++◌, length, map, Bool, true, false, ◌||◌, refl, sym, ap, ◌∙◌, subst, inl, inr, arith, Option, Some, None}
-use Rattle.std.specs.Prelude.{◌==◌}
+use Rattle.std.proofs.Common.{◌≡◌, ℕ, suc, ◌+◌, ◌<◌, List, [], ◌∷◌, ◌++◌, length, map, true, false, ◌||◌, refl, sym, ap, ◌∙◌, subst, inl, inr, arith, Option, Some, None}
 use Rattle.std.proofs.lemmas.Bool.{and_parts, both_ways}
 use Rattle.std.proofs.lemmas.Bool.Decides.{when_false}
 use Rattle.ped_laws.specs.ped_graph.specs.ped_views.specs.declared.directions.Direction.{Direction}
@@ -9,7 +8,7 @@ use Rattle.ped_laws.specs.ped_flow.specs.ped_tree.specs.Tree.{ProgramTree}
 use Rattle.ped_laws.specs.ped_flow.specs.ped_tree.specs.Nests.{Loop}
 use Rattle.ped_laws.specs.ped_graph.specs.ped_refs.specs.References.{Reference, outermost}
 use Rattle.ped_laws.specs.ped_edges.specs.Edges.{Edge}
-use Rattle.ped_laws.specs.ped_graph.specs.Dependences.{carried, independent, carriage_from, is_of, setting_in, view_of, EdgesOfPairs}
+use Rattle.ped_laws.specs.ped_graph.specs.Dependences.{carried, independent, carriage_from, is_of, setting_in, EdgesOfPairs}
 use Rattle.ped_laws.specs.ped_store.specs.Cells.{same_cell}
 use Rattle.ped_laws.specs.ped_store.specs.Stores.{Store}
 use Rattle.ped_laws.specs.ped_store.specs.Acts.{Turn}
@@ -126,19 +125,21 @@ module _ (t : ProgramTree) (first : Store) (a b : Access) (source sink : Referen
   covered share order vector level stands carries l =
       let k : AreMet t first a b source sink = met share order in
       let p = directions_possible t first a b source sink m.at_source m.at_sink m.before m.behind vector m.made m.makes share k.same stands in
-      let c : IsBetween source sink level vector edges = covered_of t first a b source sink k ps edges vector level are among stands p.0 p.1 carries (subst (λ (n : ℕ). IsLevel source sink n level) p.1 l) in
-      ((
-        record {
-          edge = c.edge;
-          listed = c.listed;
-          source = c.from ∙ (λ i. (sym m.made.statement i, sym m.made.number i));
-          sink = c.to ∙ (λ i. (sym m.makes.statement i, sym m.makes.number i));
-          vector = vector;
-          contains = c.contains;
-          stands = stands;
-        },
-        c.of_level,
-      ), refl)
+      let c : IsBetween source sink level vector edges = covered_of t first a b source sink k ps edges vector level are among stands p.0 p.1 carries (subst (λ (n : ℕ). IsLevel source sink n level) p.1 l) in (
+        (
+          record {
+            edge = c.edge;
+            listed = c.listed;
+            source = c.from ∙ (λ i. (sym m.made.statement i, sym m.made.number i));
+            sink = c.to ∙ (λ i. (sym m.makes.statement i, sym m.makes.number i));
+            vector = vector;
+            contains = c.contains;
+            stands = stands;
+          },
+          c.of_level,
+        ),
+        refl,
+      )
 
   -- in two iterations of one loop, inside the same ones
   pub carried_inside : (outer is js : List Turn) (i j : Turn) → a.place.turns ≡ outer ++ i ∷ is → b.place.turns ≡ outer ++ j ∷ js → AreSuccessive t i j → IsCarriedInside t edges outer is js a b

@@ -1,5 +1,5 @@
 -- A plain bound reads scalars alone that keep their values, so it comes to the same wherever places tell the same.
-use Rattle.std.proofs.Common.{◌≡◌, ℕ, ℤ, pos, List, [], ◌∷◌, ◌++◌, Bool, true, false, ◌||◌, ◌⊎◌, inl, inr, refl, sym, ap, ◌∙◌, subst, IsTrue, Option, Some, None, Result, Ok, Err, option_and_then}
+use Rattle.std.proofs.Common.{◌≡◌, ℕ, ℤ, pos, List, [], ◌∷◌, ◌++◌, false, ◌⊎◌, inl, inr, refl, sym, ap, ◌∙◌, subst, IsTrue, Option, Some, None, Result, Ok, Err, option_and_then}
 use Rattle.std.specs.Result.{result_ok}
 use Rattle.ped_laws.specs.ped_flow.specs.ped_base.specs.Lists.{is_among}
 use Rattle.ped_laws.specs.ped_flow.specs.ped_base.specs.declared.arithmetic.faults.Fault.{Fault}
@@ -13,12 +13,12 @@ use Rattle.ped_laws.specs.ped_flow.specs.PlainBounds.{Values, nest_round, settin
 use Rattle.ped_laws.specs.ped_flow.specs.Questions.{LoopOf}
 use Rattle.ped_laws.specs.ped_store.specs.Cells.{Cell, Scalar}
 use Rattle.ped_laws.specs.ped_store.specs.Stores.{Store, number_read}
-use Rattle.ped_laws.specs.ped_eval.specs.Scopes.{Setting, Scope, Names, names_in, cell_of, index_value}
+use Rattle.ped_laws.specs.ped_eval.specs.Scopes.{Setting, Scope, Names, names_in}
 use Rattle.ped_laws.specs.ped_eval.specs.Evaluation.{Seen, cell_seen, index_seen, Evaluated, onward, ◌>>>◌, given, by_number}
 use Rattle.ped_laws.specs.ped_eval.specs.Values.{unary, binary, of_intrinsic, variable_value, name_value, value, values}
 use Rattle.ped_laws.specs.ped_eval.specs.Runs.{run}
 use Rattle.ped_laws.specs.Acts.Sets.{written}
-use Rattle.ped_laws.specs.Plain.Executions.{AreInside, IsPlaceWith, IsDuring}
+use Rattle.ped_laws.specs.Plain.Executions.{IsPlaceWith, IsDuring}
 use Rattle.ped_laws.proofs.CoveringLaws.Comings.{some_one}
 use Rattle.ped_laws.proofs.FlowRunLaws.Cells.{same_itself}
 use Rattle.ped_laws.proofs.FlowRunLaws.Writing.{unassigned}

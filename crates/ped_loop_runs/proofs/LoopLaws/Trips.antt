@@ -1,5 +1,5 @@
 -- What two trips of one execution of a loop do: a dependence that the loop carries covers each conflict of references.
-use Rattle.std.proofs.Common.{◌≡◌, ℕ, ◌+◌, ◌<◌, List, [], ◌∷◌, ◌++◌, length, Bool, true, false, ◌&&◌, refl, sym, ap, ◌∙◌, subst, inl, inr, arith, Option, Some, append_assoc}
+use Rattle.std.proofs.Common.{◌≡◌, ℕ, ◌+◌, ◌<◌, List, [], ◌∷◌, ◌++◌, length, Bool, true, false, ◌&&◌, refl, sym, ap, ◌∙◌, subst, inl, inr, arith, Some, append_assoc}
 use Rattle.std.specs.Str.Lines.{lines}
 use Rattle.std.proofs.lemmas.Bool.{both_ways}
 use Rattle.std.proofs.lemmas.Grind.{flat_map-append}
@@ -104,5 +104,5 @@ module _ (made : MakingLaw) (sequence : SequenceLaw) (t : ProgramTree) (data_byt
           let at_first = (touch_of_access m.first p.0 m.of_first).2 in
           let at_second = (touch_of_access m.second p.1 m.of_second).2 in
           let c = trips_carried m.first m.second trips.outer trips.i trips.j one.0 other.0 come m.conflicts m.first_reference m.second_reference
-              (record { at_first = ap (λ (z : Access). z.place.turns) at_first ∙ one.1; at_second = ap (λ (z : Access). z.place.turns) at_second ∙ other.1; of_first = trips.of_first; of_second = trips.of_second; earlier = trips.order }) in
+          (record { at_first = ap (λ (z : Access). z.place.turns) at_first ∙ one.1; at_second = ap (λ (z : Access). z.place.turns) at_second ∙ other.1; of_first = trips.of_first; of_second = trips.of_second; earlier = trips.order }) in
           absurd (both_ways (is_carried_by t l loop.body c.0.covered.edge) (none c.0.covered.edge c.0.covered.listed) c.1)

@@ -21,4 +21,3 @@ pub mod Writing
 pub mod Entering
 pub mod Examples
 pub mod Stopping
-pub mod LoopsRound

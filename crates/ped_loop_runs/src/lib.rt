@@ -7,4 +7,4 @@ mod carried;
 
 pub use bounds::plain_reads_unwritten;
 pub use carried::{meetings_are_carried, trips_are_carried, trips_dont_conflict};
-pub use ped_laws;
+pub use ped_steps;

@@ -11,7 +11,7 @@ use Rattle.ped_steps.specs.ped_flow.specs.Questions.{LoopOf}
 use Rattle.ped_steps.specs.Replacing.{followed}
 use Rattle.ped_steps.specs.Runs.Gaps.{Gap, at_front, past, in_then, in_else, in_body, filled, number_at}
 use Rattle.ped_steps.proofs.RunLaws.FilledGaps.{number_from, number_room, count_filled}
-use Rattle.ped_steps.specs.ped_laws.proofs.FlowRunLaws.LoopsRound.{one_more}
+use Rattle.ped_steps.proofs.RunLaws.LoopsRound.{one_more}
 use Rattle.ped_steps.proofs.RunLaws.ReplacedTrees.{in_if, in_more, itself, next_place, no_later}
 use Rattle.ped_steps.proofs.RunLaws.RunCells.{EachDo, EachDos}
 

@@ -25,6 +25,7 @@ pub mod ExpandedNamesRuns
 pub mod ExpandedNamesArrays
 pub mod ExpandedNamesSubstituted
 pub mod ExpandedNames
+pub mod LoopsRound
 pub mod PastedRuns
 pub mod ReplacedTrees
 pub mod PastedStatements

@@ -17,7 +17,7 @@ use Rattle.ped_laws.specs.ped_eval.specs.Scopes.{Scope}
 use Rattle.ped_laws.specs.Acts.Orders.{IsIn}
 use Rattle.ped_laws.specs.Conflicts.Making.{IsMade}
 use Rattle.ped_laws.proofs.ActLaws.Lists.{in_parts}
-use Rattle.ped_laws.proofs.FlowRunLaws.LoopsRound.{none_before, all_none_before, none_from, all_none_from, one_more}
+use Rattle.ped_steps.proofs.RunLaws.LoopsRound.{none_before, all_none_before, none_from, all_none_from, one_more}
 use Rattle.ped_laws.proofs.ConflictLaws.CoveringNests.{IsOf, AreOf, reached_are}
 use Rattle.ped_laws.proofs.ConflictLaws.CoveringWrites.{own_access}
 use Rattle.ped_laws.proofs.ConflictLaws.MakingParts.{stand_whole}

@@ -36,7 +36,7 @@ use Rattle.ped_steps.proofs.RunLaws.SameNames.{inner_alike}
 use Rattle.ped_steps.proofs.RunLaws.FilledGaps.{number_from, number_room, count_filled, indices_filled}
 use Rattle.ped_steps.proofs.RunLaws.OwnBounds.{agree_left, agree_right, truth_same, limits_same, with_bounds, run_bounds, all_bounds}
 use Rattle.ped_steps.proofs.RunLaws.PastedParts.{ArePasted, pasted_same, pasted_then, pasted_on, pasted_entered}
-use Rattle.ped_laws.proofs.FlowRunLaws.LoopsRound.{none_before, all_none_before, all_none_from, one_more}
+use Rattle.ped_steps.proofs.RunLaws.LoopsRound.{none_before, all_none_before, all_none_from, one_more}
 
 -- statements behind statements
 module _ (acts : List Act) (g : Store → Run) where

@@ -3,3 +3,4 @@ pub mod Carrying
 pub mod Nested
 pub mod Trips
 pub mod PlainReads
+pub mod Examples

@@ -1,5 +1,5 @@
-//! One loop in the runs of a program: which dependences it carries. Each function here does nothing; its contract is the
-//! law, and docs/MEANING.md tells what the laws are for.
+//! One loop in the runs of a program: which dependences it carries, and what a plain bound reads. Each function here does
+//! nothing; its contract is the law, and docs/MEANING.md tells what the laws are for.
 #![tactic(auto)]
 
 mod bounds;

@@ -105,7 +105,7 @@ def _parser() -> argparse.ArgumentParser:
     command.add_argument("loops", metavar="S", type=int, nargs="*", help="the statement numbers of the wanted loops")
     command.add_argument("--no-trials", dest="trials", action="store_false", help="try no steps in a session")
     _add_filters(add("why", "say of each row of the dependence pane why it is there"))
-    command = add("omp", "write the program as FORTRAN 77 with OpenMP directives, for gfortran -fopenmp")
+    command = add("omp", "write the program as FORTRAN with OpenMP directives, for gfortran -fopenmp")
     command.add_argument("--live", action="store_true", help="print the variables in SAVE at the end")
     _add_output(command)
     command = add("check", "say what is wrong with a program, with a script, or with a run")

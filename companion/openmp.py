@@ -1,4 +1,4 @@
-"""A program as FORTRAN 77 with OpenMP directives, as `gfortran -fopenmp` reads it.
+"""A program as FORTRAN in fixed form with OpenMP directives, as `gfortran -fopenmp` reads it.
 
 What changes of the printed program:
 
@@ -8,7 +8,8 @@ What changes of the printed program:
   else in it uses them. A DO that stands in no PARALLEL DO needs no copies, since its iterations come one by one.
 - Comments that OpenMP would read, `C$` and something behind it, get a blank behind the C; a directive C$PED stays.
 - PROGRAM is left out where its name is a constant's as well, and a scalar is renamed whose name is a function's that
-  the program calls: both are free in ped and not in FORTRAN.
+  the program calls: both are free in ped and not in FORTRAN. So is one whose name begins with PARAMETER, since compilers
+  take an assignment to it for a PARAMETER statement without parentheses.
 """
 
 from __future__ import annotations
@@ -100,13 +101,16 @@ class _Translation:
             yield from _cut(" " * (FIRST_COLUMN - 1), f"PRINT *, 'live {name}', {name}")
 
     def _renamed(self) -> Dict[str, str]:
-        """New names for the scalars that have the name of a function that the program calls."""
+        """New names for the scalars that have the name of a function that the program calls, or begin with PARAMETER."""
         texts = [statement.text.letters for statement in self._statements.values()]
         called = {match.group(1) for text in texts for match in _CALL.finditer(text)}
         used = {reference.name for reference in self._program.references()} | self._program.variables
+        clashing = (_FUNCTIONS & called & used) | {
+            name for name in used if name.startswith("PARAMETER") and name not in self._program.arrays
+        }
         taken = {name for text in texts for name in _CONSTANT_OR_NAME.findall(text)}
         new_names: Dict[str, str] = {}
-        for name in sorted(_FUNCTIONS & called & used):
+        for name in sorted(clashing):
             new_names[name] = next(new for new in (f"K{number}" for number in range(10**5)) if new not in taken)
             taken.add(new_names[name])
         return new_names

@@ -220,9 +220,14 @@ class _Reader:
         """Takes ELSE, END IF or END DO. ELSE leaves its IF open."""
         if word == "ENDIF":
             self._close_if()
-        elif word == "ENDDO" and self._blocks and self._blocks[-1].is_loop:
-            if label is None or self._blocks[-1].label != label:
+        elif word == "ENDDO" and not self._is_open(label):
+            # With the label of an open DO it ends what a CONTINUE with this label ends.
+            if self._blocks and self._blocks[-1].is_loop and self._blocks[-1].label is None:
                 self._blocks.pop()
+
+    def _is_open(self, label: Optional[int]) -> bool:
+        """Whether a loop with this label is open."""
+        return label is not None and any(block.label == label for block in self._blocks)
 
     def _close_if(self) -> None:
         """Closes the innermost IF, and those of whose ELSE part it is the ELSE IF."""

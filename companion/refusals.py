@@ -45,7 +45,7 @@ REFUSALS: Dict[int, Refusal] = {
     7: Refusal(
         "Syntax", "the statement has no form of the language, or may not stand here",
         "see docs/LANGUAGE.md, `Statements`; declarations come first, PRIVATE directly behind its DO, a directive "
-        "directly before it; write I*(-J) for I*-J",
+        "directly before it; END DO ends a DO without a label; write I*(-J) for I*-J",
     ),
     8: Refusal(
         "NotInProfile", "the statement is FORTRAN that is left out of the language",
@@ -54,11 +54,11 @@ REFUSALS: Dict[int, Refusal] = {
     ),
     9: Refusal(
         "OpenBlock", "a DO or an IF isn't ended, or END is missing",
-        "end a DO by a statement with its label, an IF by END IF, and the program by END",
+        "end a DO by END DO, one with a label by a statement that has it, an IF by END IF, and the program by END",
     ),
     10: Refusal(
         "BadTerminal", "the label of a DO stands on a statement that can't end it, or inside an open IF or loop",
-        "end the loop by a CONTINUE with its label, behind the ends of all that began in it",
+        "end the loop by an END DO or a CONTINUE with its label, behind the ends of all that began in it",
     ),
     11: Refusal(
         "IndexAssigned", "the variable of a loop is changed in its body, or named in PRIVATE",

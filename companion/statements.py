@@ -1,7 +1,7 @@
 """The forms of statements: what each says, by its first letters.
 
 The rules are those of docs/LANGUAGE.md, "Statements": a text that has the form of an assignment is one, whatever its
-first letters are, and blanks mean nothing. `END DO` is read as well, and a DO without a label.
+first letters are, and blanks mean nothing.
 """
 
 from __future__ import annotations
@@ -145,7 +145,7 @@ Numbered = Union[Assignment, BlockIf, Do, Print, Read, Word]
 
 _WORDS = frozenset(["ELSE", "ENDIF", "ENDDO", "CONTINUE", "STOP", "END"])
 _NAME = re.compile(r"[A-Z][A-Z0-9]*")
-_DO = re.compile(r"(PARALLEL)?DO([0-9]*),?(?=[A-Z])")
+_DO = re.compile(r"(PARALLEL)?DO(?:([0-9]+),?)?(?=[A-Z])")
 
 
 def read_form(text: Text) -> Form:

@@ -12,7 +12,7 @@ most_edits=45
 most_crates_with_edits=12
 most_test_lines=250
 most_crates_with_tests=2
-most_ways=6000
+most_ways=5000
 
 edits() {
     find crates/*/must-fail -name '*.edit' 2>/dev/null

@@ -1,4 +1,4 @@
-"""`pedx omp`: the program as FORTRAN 77 with OpenMP directives."""
+"""`pedx omp`: the program as FORTRAN with OpenMP directives."""
 
 from __future__ import annotations
 

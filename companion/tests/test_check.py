@@ -146,7 +146,7 @@ class Scripts(Check):
 
     def test_race_behind_a_script(self) -> None:
         rows, status = self.check(
-            fortran("DO 10 I = 1, 2", "10 K = I", "END"), script="replace 1 1\n      PARALLEL DO 10 I = 1, 2\n.\n"
+            fortran("DO 10 I = 1, 2", "10 K = I", "END"), script="replace 1 1\n      PARALLEL DO I = 1, 2\n.\n"
         )
         self.assertTrue(rows[0].startswith("<source>:2:9: error: race: "), rows)
         self.assertIs(status, Status.RACE)

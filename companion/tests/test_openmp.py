@@ -27,11 +27,11 @@ class Text(unittest.TestCase):
     def test_private_names(self) -> None:
         """The clause names the PRIVATE list, the variables of inner loops, and their PRIVATE lists."""
         text = fortran(
-            "PARALLEL DO 10 I = 1, 9", "PRIVATE T, U", "DO 20 J = 1, 9", "PRIVATE V", "T = J", "V = T", "20 CONTINUE",
-            "10 CONTINUE", "END",
+            "PARALLEL DO I = 1, 9", "PRIVATE T, U", "DO J = 1, 9", "PRIVATE V", "T = J", "V = T", "END DO", "END DO",
+            "END",
         )
         lines = translated(text)
-        self.assertEqual(lines[:2], ["C$OMP PARALLEL DO PRIVATE(T,U,J,V)", "      DO 10 I = 1, 9"])
+        self.assertEqual(lines[:2], ["C$OMP PARALLEL DO PRIVATE(T,U,J,V)", "      DO I = 1, 9"])
         self.assertNotIn("PRIVATE V", "".join(lines))
 
     def test_what_stays_shared(self) -> None:
@@ -42,8 +42,8 @@ class Text(unittest.TestCase):
         self.assertEqual(translated(text)[0], "C$OMP PARALLEL DO PRIVATE(J)")
 
     def test_serial_loops(self) -> None:
-        text = fortran("DO 10 I = 1, 9", "PRIVATE T", "T = I", "10 CONTINUE", "END")
-        self.assertEqual(translated(text), split_lines(fortran("DO 10 I = 1, 9", "T = I", "10 CONTINUE", "END")))
+        text = fortran("DO I = 1, 9", "PRIVATE T", "T = I", "END DO", "END")
+        self.assertEqual(translated(text), split_lines(fortran("DO I = 1, 9", "T = I", "END DO", "END")))
 
     def test_long_clause(self) -> None:
         names = [f"LONGNAME{number}" for number in range(20)]
@@ -80,6 +80,11 @@ class Text(unittest.TestCase):
         )))
         text = fortran("MAX = 10", "PRINT *, MAX", "END")
         self.assertEqual(translated(text), split_lines(text))
+
+        text = fortran("INTEGER PARAMETER(3)", "PARAMETERN = 10", "PARAMETER(1) = PARAMETERN", "END")
+        self.assertEqual(translated(text), split_lines(fortran(
+            "INTEGER PARAMETER(3)", "K0 = 10", "PARAMETER(1) = K0", "END"
+        )))
 
     def test_live_variables(self) -> None:
         text = fortran("SAVE B, A", "IF (K.EQ.1) THEN", "STOP", "END IF", "END")
@@ -128,6 +133,14 @@ OTHERS: Dict[str, str] = {
     "triangle": fortran(
         "INTEGER A(9,9)", "SAVE A", "PARALLEL DO 10 I = 1, 9", "DO 10 J = 1, 9", "A(I,J) = 0", "DO 10 K = J, I",
         "10 A(I,J) = A(I,J)+K", "END",
+    ),
+    "names": fortran(
+        "IMPLICIT INTEGER (A-Z)", "PARAMETER (DATABASE=9)", "INTEGER FUNCTIONF(DATABASE), PARAMETER(3)",
+        "SAVE FUNCTIONF, PARAMETER", "CONTINUE = 1", "PARALLEL DO 10 I = 2", "PARAMETERS = 3",
+        "PARAMETER(1) = PARAMETERS", "PARALLEL DO ITERATION = 1, DATABASE", "PRIVATE TEMPORARYOFEACHITERATIONALONE12",
+        "TEMPORARYOFEACHITERATIONALONE12 = CONTINUE+PARALLELDO10I",
+        "FUNCTIONF(ITERATION) = TEMPORARYOFEACHITERATIONALONE12*ITERATION", "END DO", "DO WHILE = 1, 2",
+        "DOUBLEPRECISION = WHILE", "END DO", "PRINT *, DOUBLEPRECISION", "END",
     ),
 }
 

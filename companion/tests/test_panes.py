@@ -7,8 +7,8 @@ from ..panes import NoPane, read_dependence, read_panes
 PANES = """\
 source 3
     1            INTEGER A(9)
-    2    1       DO 10 I = 1, 9
-    3      10    CONTINUE
+    2    1       DO I = 1, 9
+    3            END DO
 dependences 2
 3.2 3.1 A flow 1 (<,>) (1,-1) proven
 4.1 4.1 (OUT) output - (=,=)(<=,*) (*,*) pending
@@ -19,7 +19,7 @@ class Panes(unittest.TestCase):
     def test_source(self) -> None:
         panes = read_panes(PANES.splitlines())
         self.assertEqual([(row.line, row.statement) for row in panes.source], [(1, None), (2, 1), (3, None)])
-        self.assertEqual(panes.lines, ["      INTEGER A(9)", "      DO 10 I = 1, 9", "10    CONTINUE"])
+        self.assertEqual(panes.lines, ["      INTEGER A(9)", "      DO I = 1, 9", "      END DO"])
 
     def test_dependences(self) -> None:
         first, second = read_panes(PANES.splitlines()).dependences

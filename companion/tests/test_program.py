@@ -1,4 +1,4 @@
-"""Programs: numbers of statements, loops and IFs, in both printed forms and in the texts of users."""
+"""Programs: numbers of statements, loops and IFs, in the printed form and in the texts of users."""
 
 import unittest
 from typing import List, Tuple
@@ -32,6 +32,15 @@ class Programs(unittest.TestCase):
     def test_end_do_with_labels(self) -> None:
         program = read("DO 10 I = 1, 5", "DO J = 1, 5", "K = 1", "20 END DO", "10 END DO", "M = 3", "END")
         self.assertEqual([one.loops for one in program.statements], [(), (1,), (1, 2), ()])
+        program = read("DO 10 I = 1, 5", "DO 10 J = 1, 5", "K = 1", "10 END DO", "M = 3", "END")
+        self.assertEqual([one.loops for one in program.statements], [(), (1,), (1, 2), ()])
+
+    def test_end_do_that_ends_nothing(self) -> None:
+        """An END DO without a label ends no loop that has one, and no loop round an IF that is open."""
+        program = read("DO 10 I = 1, 5", "END DO", "K = 1", "10 L = 2", "M = 3", "END")
+        self.assertEqual([one.loops for one in program.statements], [(), (1,), (1,), ()])
+        program = read("DO I = 1, 5", "IF (K.EQ.1) THEN", "END DO", "L = 2", "END IF", "END DO", "M = 3", "END")
+        self.assertEqual([one.loops for one in program.statements], [(), (1,), (1,), ()])
 
     def test_both_forms_are_one_program(self) -> None:
         labels = read(
@@ -50,6 +59,13 @@ class Programs(unittest.TestCase):
         program = read(f"DO {name} = 1, 5", f"A({name}) = 1", "END DO", "END")
         self.assertEqual(program.loops[1].variable, name)
         self.assertEqual([one.text for one in program.statement(2).references], [f"A({name})"])
+
+    def test_names_that_begin_with_words(self) -> None:
+        program = read("INTEGER FUNCTION F(9)", "CONTINUE = 1", "PARALLEL DO 10 I = 1", "DOUBLE PRECISION = 1, 2", "END DO")
+        self.assertEqual(program.arrays, {"FUNCTIONF": ("9",)})
+        names = [one.references[0].name for one in program.statements if one.references]
+        self.assertEqual(names, ["CONTINUE", "PARALLELDO10I"])
+        self.assertEqual([loop.variable for loop in program.loops.values()], ["UBLEPRECISION"])
 
     def test_ifs(self) -> None:
         program = read(

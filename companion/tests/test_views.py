@@ -26,7 +26,7 @@ class Views(unittest.TestCase):
 
     def test_printed_lines(self) -> None:
         view = view_of_file(panes(SOURCE), SOURCE, Question("p.f", printed=True))
-        self.assertEqual((view.name, view.lines[1]), (PRINTED, "      DO 10 I = 2, 9"))
+        self.assertEqual((view.name, view.lines[1]), (PRINTED, "      DO I = 2, 9"))
 
     def test_another_text(self) -> None:
         """A text that isn't read as what ped prints isn't shown."""
@@ -46,8 +46,8 @@ class Views(unittest.TestCase):
     def test_other_numbers(self) -> None:
         """Panes whose numbers aren't those of pedx are not believed to be understood."""
         rows = [
-            "source 4", "    1            INTEGER A(9)", "    2    1       DO 10 I = 2, 9",
-            "    3    2         A(I) = A(I-1)", "    4      10    CONTINUE", "dependences 1", "2.2 2.1 A flow 1 (<) (1) proven",
+            "source 4", "    1            INTEGER A(9)", "    2    1       DO I = 2, 9",
+            "    3    2         A(I) = A(I-1)", "    4            END DO", "dependences 1", "2.2 2.1 A flow 1 (<) (1) proven",
         ]
         self.assertEqual(len(view_of_panes(read_panes(rows)).dependences), 1)
         for old, new in (("    3    2  ", "    3    3  "), ("2.2 2.1 A", "2.1 2.3 A"), ("2.2 2.1 A", "2.2 2.1 B")):

@@ -3,7 +3,7 @@ use Rattle.std.proofs.Common.{◌≡◌, ℕ, refl, ap, arith, ℤ, ◌+ℤ◌, 
 use Rattle.std.specs.Int.{int_max, int_min}
 use Rattle.std.proofs.lemmas.Int.{clamps}
 use Rattle.ped_views.specs.declared.intervals.Interval.{Interval}
-use Rattle.ped_views.specs.Intervals.{Lies, IsWithin, IsImage, IsImageOfBoth}
+use Rattle.ped_views.specs.Intervals.{IsWithin, IsImage, IsImageOfBoth}
 use Rattle.ped_views.proofs.Products.{linear}
 use Rattle.ped_views.proofs.Images.{add_ends, sub_ends, mul_image, max_image, min_image}
 use Rattle.ped_affine.specs.IntervalArithmetic.{interval_sum, interval_difference, interval_negation, interval_product, interval_max, interval_min}

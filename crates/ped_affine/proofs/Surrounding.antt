@@ -3,7 +3,6 @@ use Rattle.std.proofs.Common.{◌≡◌, ℕ, suc, ◌+◌, ◌<◌, List, [], �
 use Rattle.std.proofs.lemmas.List.{take_more, take_more_set, drop_more, length-take-le}
 use Rattle.std.specs.Map.{lookup}
 use Rattle.ped_base.specs.Lists.{is_same_text}
-use Rattle.ped_views.specs.declared.intervals.Interval.{Interval}
 use Rattle.ped_views.specs.Views.{Range}
 use Rattle.ped_tree.specs.Tree.{Head}
 use Rattle.ped_refs.specs.declared.loops.Loop.{Loop}

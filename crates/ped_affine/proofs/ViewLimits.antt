@@ -1,5 +1,5 @@
 -- The parts of a view fit together.
-use Rattle.std.proofs.Common.{◌≡◌, ℕ, ◌+◌, ◌≤◌, List, length, take, drop, All, subst, sym, arith}
+use Rattle.std.proofs.Common.{◌≡◌, ℕ, ◌+◌, ◌≤◌, List, length, All, subst, sym, arith}
 use Rattle.ped_views.specs.Views.{Range, SubscriptPair}
 use Rattle.ped_views.specs.Limits.{FitsLoops, IsView}
 

@@ -3,7 +3,7 @@ use Rattle.std.specs.Prelude.{ℕ, ℤ, pos, ◌-◌, List, [], ◌∷◌, ◌++
 use Rattle.std.specs.Ordering.{int_eq}
 use Rattle.std.specs.Cmp.Lexicographic.{pointwise}
 use Rattle.ped_base.specs.Lists.{is_among}
-use Rattle.ped_views.specs.Views.{Range, Row, SubscriptPair, View}
+use Rattle.ped_views.specs.Views.{Row, SubscriptPair, View}
 use Rattle.ped_tree.specs.Tree.{ExprTree, Head}
 use Rattle.ped_tree.specs.Nests.{Loop, indices_of, common_nest}
 use Rattle.ped_affine.specs.Ranges.{Setting, nest_ranges}

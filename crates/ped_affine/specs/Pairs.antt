@@ -1,10 +1,10 @@
 -- A pair of places as the code looks at it. Contracts of private functions alone speak of these definitions.
-use Rattle.std.specs.Prelude.{◌≡◌, ℕ, ◌+◌, ◌≤◌, ℤ, All, length}
+use Rattle.std.specs.Prelude.{◌≡◌, ℕ, ◌+◌, ◌≤◌, All, length}
 use Rattle.ped_views.specs.Limits.{IsSmallConstant, IsSmallCoefficient}
 use Rattle.ped_affine.specs.declared.forms.Form.{Form}
 use Rattle.ped_affine.specs.declared.positions.Depths.{Depths as CodeDepths}
 use Rattle.ped_affine.specs.declared.positions.Pair.{Pair}
-use Rattle.ped_affine.specs.PairViews.{Site, Depths, depths_of}
+use Rattle.ped_affine.specs.PairViews.{Depths, depths_of}
 use Rattle.ped_affine.specs.Arguments.{site}
 
 -- the loops of a pair

@@ -7,7 +7,7 @@ use Rattle.ped_base.specs.Lists.{is_same_text, is_among}
 use Rattle.ped_views.specs.declared.intervals.Interval.{Interval}
 use Rattle.ped_views.specs.Views.{Range, range}
 use Rattle.ped_tree.specs.declared.expressions.Intrinsic.{Intrinsic}
-use Rattle.ped_tree.specs.declared.expressions.Intrinsic.TheVariants.{Mod, Abs, Max, Min}
+use Rattle.ped_tree.specs.declared.expressions.Intrinsic.TheVariants.{Max, Min}
 use Rattle.ped_tree.specs.Tree.{ExprTree, ExprTrees, Int, Var, Element, Neg, Add, Sub, Mul, Div, Pow, Call, no_exprs, more_exprs, Head}
 use Rattle.ped_tree.specs.Constants.ConstantExpressions.{constant_value}
 use Rattle.ped_affine.specs.IntervalArithmetic.{interval, point, interval_sum, interval_difference, interval_negation, interval_product, interval_max, interval_min}

@@ -6,12 +6,12 @@ use Rattle.ped_tree.specs.Tree.{Program, Implicit, Integer, Dimension, Parameter
 use Rattle.ped_base.specs.Lists.{has_some}
 use Rattle.ped_tree.specs.Grammar.Refusal.{Refusal, Finding, refused_if, earlier, earliest, first_of, is_before}
 use Rattle.ped_tree.specs.Grammar.Statement.{Statement, Statements}
-use Rattle.ped_tree.specs.Grammar.Items.{Item, declares, saves_all, does, continues, logical_if, block_if, else_if, else_line, end_if, begins_do, keeps_private, ends_program, Reading, says, outside_profile, no_form, Entry}
+use Rattle.ped_tree.specs.Grammar.Items.{Item, declares, saves_all, does, continues, logical_if, block_if, else_if, else_line, end_if, begins_do, ends_do, keeps_private, ends_program, Reading, says, outside_profile, no_form, Entry}
 use Rattle.ped_tree.specs.Grammar.Occurrences.{saved_names}
 use Rattle.ped_tree.specs.Grammar.Contexts.{Block, Context, at_start, rank, is_do, left_by, blocks_behind, behind_item, behind_reading, behind, behind_all}
 use Rattle.ped_tree.specs.Grammar.BlockForms.{BodyForm, nothing, entry, body_entries, body_keeps_labels}
 use Rattle.ped_tree.specs.Grammar.ProgramForms.{DeclForm, a_declaration, a_save_of_all, ProgramForm, decl_entry, program_entries}
-use Rattle.ped_tree.specs.Grammar.ProgramRefusals.{where_it_says, is_left_out, is_out_of_order, lacks_if, is_late_private, saves_again, is_misplaced, is_behind_end, breaks_syntax, leaves_open, ends_badly, at_statement, at_statements, at_end, program_refusals}
+use Rattle.ped_tree.specs.Grammar.ProgramRefusals.{where_it_says, is_left_out, is_out_of_order, lacks_if, lacks_do, is_late_private, saves_again, is_misplaced, is_behind_end, breaks_syntax, leaves_open, ends_badly, at_statement, at_statements, at_end, program_refusals}
 use Rattle.ped_tree.specs.Grammar.Grouping.{statements_of}
 use Rattle.ped_tree.specs.Grammar.Reading.{IsCutInto, first_program_refusal, Refuses, in_statements, Reads}
 use Rattle.ped_blocks.specs.Machine.{nothing_built, take_entries, built_program}
@@ -45,7 +45,7 @@ first_none (f ∷ fs) e = absurd (found_stays f fs e)
 
 -- nothing is refused at a statement; these tests say that it nests
 record IsAccepted (c : Context) (e : Entry) : Type 0 where
-  placed : breaks_syntax c e.reading ≡ false
+  placed : breaks_syntax c e.statement.label e.reading ≡ false
   inside : is_left_out e.reading ≡ false
   closes : where_it_says (leaves_open c.blocks) e.reading ≡ false
   ends_well : ends_badly c.blocks e.statement.label e.reading ≡ false
@@ -74,38 +74,41 @@ or_right : (a b : Bool) → (a || b) ≡ false → b ≡ false
 or_right true b h = absurd cc
 or_right false b h = h
 
--- what a statement says can stand at its place
-record IsPlaced (c : Context) (i : Item) : Type 0 where
+-- what a statement with this label says can stand at its place
+record IsPlaced (c : Context) (label : Option ℕ) (i : Item) : Type 0 where
   before_end : is_behind_end c ≡ false
   ordered : is_out_of_order c.phase (rank i) ≡ false
   has_if : lacks_if c.blocks i ≡ false
+  has_do : lacks_do c.blocks label i ≡ false
   in_time : is_late_private c.behind_do i ≡ false
 
-is_placed : (c : Context) (i : Item) → breaks_syntax c (says i) ≡ false → IsPlaced c i
-is_placed c i h =
-    let misplaced = or_right (is_behind_end c || false) (is_misplaced c i) h in
-    let three = or_left (is_out_of_order c.phase (rank i) || lacks_if c.blocks i || is_late_private c.behind_do i) (saves_again c i) misplaced in
+is_placed : (c : Context) (label : Option ℕ) (i : Item) → breaks_syntax c label (says i) ≡ false → IsPlaced c label i
+is_placed c label i h =
+    let misplaced = or_right (is_behind_end c || false) (is_misplaced c label i) h in
+    let four = or_left (is_out_of_order c.phase (rank i) || lacks_if c.blocks i || is_late_private c.behind_do i || saves_again c i) (lacks_do c.blocks label i) misplaced in
+    let three = or_left (is_out_of_order c.phase (rank i) || lacks_if c.blocks i || is_late_private c.behind_do i) (saves_again c i) four in
     let two = or_left (is_out_of_order c.phase (rank i) || lacks_if c.blocks i) (is_late_private c.behind_do i) three in
     record {
-      before_end = or_left (is_behind_end c) false (or_left (is_behind_end c || false) (is_misplaced c i) h);
+      before_end = or_left (is_behind_end c) false (or_left (is_behind_end c || false) (is_misplaced c label i) h);
       ordered = or_left (is_out_of_order c.phase (rank i)) (lacks_if c.blocks i) two;
       has_if = or_right (is_out_of_order c.phase (rank i)) (lacks_if c.blocks i) two;
+      has_do = or_right (is_out_of_order c.phase (rank i) || lacks_if c.blocks i || is_late_private c.behind_do i || saves_again c i) (lacks_do c.blocks label i) misplaced;
       in_time = or_right (is_out_of_order c.phase (rank i) || lacks_if c.blocks i) (is_late_private c.behind_do i) three;
     }
 
 -- where nothing is refused, the text has a form
-says_some : (c : Context) (r : Reading) → breaks_syntax c r ≡ false → is_left_out r ≡ false → (i : Item) × (r ≡ says i)
-says_some c (says i) h k = (i, refl)
-says_some c outside_profile h k = absurd cc
-says_some c no_form h k = absurd (let y = or_right (is_behind_end c) true (or_left (is_behind_end c || true) false h) in cc)
+says_some : (c : Context) (label : Option ℕ) (r : Reading) → breaks_syntax c label r ≡ false → is_left_out r ≡ false → (i : Item) × (r ≡ says i)
+says_some c label (says i) h k = (i, refl)
+says_some c label outside_profile h k = absurd cc
+says_some c label no_form h k = absurd (let y = or_right (is_behind_end c) true (or_left (is_behind_end c || true) false h) in cc)
 
 -- nothing stands behind END
 behind_end : (saved : List (List ℕ)) (c : Context) (rest : List Entry) → is_behind_end c ≡ true → at_statements saved c rest ≡ [] → rest ≡ []
 behind_end saved c [] e h = refl
 behind_end saved c (x ∷ rest) e h =
     let ok = accepted saved c x rest (left_empty _ _ h) in
-    let what = says_some c x.reading ok.placed ok.inside in
-    let placed = is_placed c what.0 (subst (λ (r : Reading). breaks_syntax c r ≡ false) what.1 ok.placed) in
+    let what = says_some c x.statement.label x.reading ok.placed ok.inside in
+    let placed = is_placed c x.statement.label what.0 (subst (λ (r : Reading). breaks_syntax c x.statement.label r ≡ false) what.1 ok.placed) in
     absurd (let y : ◌≡◌ {A = Bool} true false = sym e ∙ placed.before_end in cc)
 
 -- the executable statements from here on, with END
@@ -134,10 +137,10 @@ body_next : (saved : List (List ℕ)) (e : Entry) (rest : List Entry) (c : Conte
 body_next saved e rest c ps b i reading (inl r) blocks f g new ok h again =
     let s = e.statement in
     let is : e ≡ entry s i = λ k. record { statement = s; reading = reading k } in
-    let placed = is_placed c i (subst (λ (r : Reading). breaks_syntax c r ≡ false) reading ok.placed) in
+    let placed = is_placed c s.label i (subst (λ (r : Reading). breaks_syntax c s.label r ≡ false) reading ok.placed) in
     let closes = subst (λ (r : Reading). where_it_says (leaves_open c.blocks) r ≡ false) reading ok.closes in
     let ends_well = subst (λ (r : Reading). ends_badly c.blocks s.label r ≡ false) reading ok.ends_well in
-    let m = moved s i c.behind_do ps b f g new r (subst (λ (x : List Block). lacks_if x i ≡ false) (sym blocks) placed.has_if) placed.in_time
+    let m = moved s i c.behind_do ps b f g new r (subst (λ (x : List Block). lacks_if x i ≡ false) (sym blocks) placed.has_if) (subst (λ (x : List Block). lacks_do x s.label i ≡ false) (sym blocks) placed.has_do) placed.in_time
     (subst (λ (x : List Block). leaves_open x i ≡ false) (sym blocks) closes) (subst (λ (x : List Block). ends_badly x s.label (says i) ≡ false) (sym blocks) ends_well) in
     let lines = next_written (stack_entries m.ps) (body_entries m.b) (stack_entries ps) (body_entries b) rest (entry s i) m.written ∙ ap (λ (x : Entry). stack_entries ps ++ (body_entries b ++ x ∷ rest)) (sym is) in
     rest_along ps m.ps b m.b rest (e ∷ rest) (again m.ps m.b (m.blocks_are ∙ ap (blocks_behind c.behind_do s i) blocks) m.fits m.current_fits m.new r) lines
@@ -176,6 +179,7 @@ kind s (else_if c) = executed (inl refl)
 kind s else_line = executed (inl refl)
 kind s end_if = executed (inl refl)
 kind s (begins_do l h) = executed (inl refl)
+kind s ends_do = executed (inl refl)
 kind s (keeps_private names) = executed (inl refl)
 kind s ends_program = executed (inr refl)
 
@@ -190,9 +194,9 @@ body_found saved (e ∷ rest) c ps b blocks f g new phase h k =
     let s = e.statement in
     let ok = accepted saved c e rest (left_empty _ _ h) in
     let h1 : at_statements saved (behind c e) rest ≡ [] = right_empty (at_statement saved c e rest) _ h in
-    let what = says_some c e.reading ok.placed ok.inside in
+    let what = says_some c s.label e.reading ok.placed ok.inside in
     let i = what.0 in
-    let placed = is_placed c i (subst (λ (r : Reading). breaks_syntax c r ≡ false) what.1 ok.placed) in
+    let placed = is_placed c s.label i (subst (λ (r : Reading). breaks_syntax c s.label r ≡ false) what.1 ok.placed) in
     let h2 : at_statements saved (behind_item c s i) rest ≡ [] = subst (λ (r : Reading). at_statements saved (behind_reading c s r) rest ≡ []) what.1 h1 in
     let k2 : is_behind_end (behind_all (behind_item c s i) rest) ≡ true = subst (λ (r : Reading). is_behind_end (behind_all (behind_reading c s r) rest) ≡ true) what.1 k in
     let again = λ (qs : List Part) (d : BodyForm) (t : around qs ≡ blocks_behind c.behind_do s i c.blocks) (u : StackFits qs) (v : IsTrue (body_keeps_labels (labels (around qs)) d)) (w : is_do i ≡ true → Fresh qs d) (r : rank i ≡ 4).
@@ -235,7 +239,7 @@ decls_found saved (e ∷ rest) c ds blocks quiet phase h k =
     let s = e.statement in
     let ok = accepted saved c e rest (left_empty _ _ h) in
     let h1 : at_statements saved (behind c e) rest ≡ [] = right_empty (at_statement saved c e rest) _ h in
-    let what = says_some c e.reading ok.placed ok.inside in
+    let what = says_some c s.label e.reading ok.placed ok.inside in
     let i = what.0 in
     let is : e ≡ entry s i = λ j. record { statement = s; reading = what.1 j } in
     let h2 : at_statements saved (behind_item c s i) rest ≡ [] = subst (λ (r : Reading). at_statements saved (behind_reading c s r) rest ≡ []) what.1 h1 in

@@ -1,6 +1,6 @@
 -- What is built of the statements of a form is the tree of the form.
-use Rattle.std.proofs.Common.{◌≡◌, ℕ, List, [], ◌∷◌, ◌++◌, map, Bool, true, false, Option, Some, None, refl, sym, ap, subst, ◌∙◌, arith, append_assoc, eqb, eq-eqb}
-use Rattle.std.specs.Prelude.{IsTrue, ◌&&◌, not, ◌==◌}
+use Rattle.std.proofs.Common.{◌≡◌, ℕ, List, [], ◌∷◌, ◌++◌, map, Bool, true, false, Option, Some, None, refl, sym, ap, ◌∙◌, arith, append_assoc, eqb, eq-eqb}
+use Rattle.std.specs.Prelude.{IsTrue, ◌&&◌, ◌||◌, not}
 use Rattle.std.specs.List.{list_any, flat_map}
 use Rattle.std.proofs.lemmas.Bool.{eqb-true}
 use Rattle.std.proofs.lemmas.List.{append-nil}
@@ -9,12 +9,12 @@ use Rattle.ped_tree.specs.Views.{pack_stmts}
 use Rattle.ped_tree.specs.Grammar.Statement.{Statement}
 use Rattle.ped_tree.specs.Grammar.Items.{end_if, ends_program, Entry}
 use Rattle.ped_tree.specs.Grammar.Occurrences.{rejected_names}
-use Rattle.ped_tree.specs.Grammar.BlockForms.{PlainForm, a_simple, a_continue, a_logical_if, PrivateForm, no_private, private_list, BodyForm, nothing, and_then, PartForm, a_plain, an_if, a_do, RestForm, ends_if, has_else, has_else_if, LoopForm, loop, EndingForm, at_plain, with_inner, plain_item, entry, private_entries, body_entries, part_entries, rest_entries, loop_entries, ending_entries, comments_of, plain_trees, names_of_private, comments_of_private, first_of_rest, whole_head, body_trees, part_trees, rest_trees, loop_trees, ending_trees, loop_label, has_label, is_free, private_keeps_labels, body_keeps_labels, part_keeps_labels, rest_keeps_labels, loop_keeps_labels, ending_keeps_labels}
+use Rattle.ped_tree.specs.Grammar.BlockForms.{PlainForm, a_simple, a_continue, a_logical_if, PrivateForm, no_private, private_list, BodyForm, nothing, and_then, PartForm, a_plain, an_if, a_do, RestForm, ends_if, has_else, has_else_if, LoopForm, loop, EndingForm, at_plain, at_end_do, with_inner, plain_item, entry, private_entries, body_entries, part_entries, rest_entries, loop_entries, ending_entries, comments_of, plain_trees, names_of_private, comments_of_private, first_of_rest, whole_head, body_trees, part_trees, rest_trees, loop_trees, ending_trees, loop_label, has_label, is_free, private_keeps_labels, body_keeps_labels, part_keeps_labels, rest_keeps_labels, loop_keeps_labels, ending_keeps_labels}
 use Rattle.ped_tree.specs.Grammar.ProgramForms.{DeclForm, a_declaration, a_save_of_all, ProgramForm, decl_entry, program_entries, decl_trees, program_form_tree}
 use Rattle.ped_blocks.specs.Machine.{Arm, Frame, then_frame, else_frame, do_frame, Nesting, Built, nest, nothing_built, chained, close_loops, close_labelled, take_entry, take_entries, built_program}
 
 -- the labels of the open loops
-abbrev pub labels : List Frame → List ℕ
+abbrev pub labels : List Frame → List (Option ℕ)
 labels [] = []
 labels (then_frame before arms c ∷ fs) = labels fs
 labels (else_frame before arms ∷ fs) = labels fs
@@ -32,37 +32,35 @@ pub and_right : (a b : Bool) → IsTrue (a && b) → IsTrue b
 and_right true b h = h
 and_right false b h = absurd cc
 
-pub eqb_turned : (a b : ℕ) → eqb a b ≡ eqb b a
-eqb_turned a b = grind arith
-
 pub taken_both : (saved : List (List ℕ)) (b : Built) (es fs : List Entry) → take_entries saved b (es ++ fs) ≡ take_entries saved (take_entries saved b es) fs
 taken_both saved b [] fs = refl
 taken_both saved b (e ∷ es) fs = taken_both saved (take_entry saved b e) es fs
 
 -- where no loop has the label, none ends
-pub closes_none : (l : ℕ) (fs : List Frame) (cur : List StmtTree) → IsTrue (not (list_any (λ m. m == l) (labels fs))) → close_loops l fs cur ≡ nest fs cur
+pub closes_none : (l : ℕ) (fs : List Frame) (cur : List StmtTree) → IsTrue (not (list_any (λ m. has_label m (Some l)) (labels fs))) → close_loops l fs cur ≡ nest fs cur
 closes_none l [] cur h = refl
 closes_none l (then_frame before arms c ∷ fs) cur h = refl
 closes_none l (else_frame before arms ∷ fs) cur h = refl
-closes_none l (do_frame before m head ∷ fs) cur h = let k : eqb m l ≡ false = grind arith in rw k refl
-
-turned_any : (l : ℕ) (ms : List ℕ) → list_any (λ m. l == m) ms ≡ list_any (λ m. m == l) ms
-turned_any l [] = refl
-turned_any l (m ∷ ms) = rw (eqb_turned l m, turned_any l ms) refl
+closes_none l (do_frame before m head ∷ fs) cur h = let k : has_label m (Some l) ≡ false = grind arith in rw k refl
 
 -- a statement with none of the labels ends no loop
 free_closes_none : (label : Option ℕ) (fs : List Frame) (cur : List StmtTree) → IsTrue (not (list_any (λ l. has_label l label) (labels fs))) → close_labelled label fs cur ≡ nest fs cur
 free_closes_none None fs cur h = refl
-free_closes_none (Some l) fs cur h = closes_none l fs cur (subst (λ (x : Bool). IsTrue (not x)) (turned_any l (labels fs)) h)
+free_closes_none (Some l) fs cur h = closes_none l fs cur h
 
--- a statement with the label ends loops as the label does
-labelled_closes : (label : Option ℕ) (l : ℕ) (fs : List Frame) (cur : List StmtTree) → IsTrue (has_label l label) → close_labelled label fs cur ≡ close_loops l fs cur
-labelled_closes None l fs cur h = absurd cc
-labelled_closes (Some m) l fs cur h = ap (λ (x : ℕ). close_loops x fs cur) (eqb-true m l h)
+same_label : (l : ℕ) (before : List StmtTree) (h : Head) (fs : List Frame) (cur : List StmtTree) → close_loops l (do_frame before (Some l) h ∷ fs) cur ≡ close_loops l fs (before ++ Do h (pack_stmts cur) ∷ [])
+same_label l before h fs cur = let k : eqb l l ≡ true = eq-eqb l l refl in rw k refl
 
--- the innermost loop ends, and those round it with its label
-loop_closes : (l : ℕ) (before : List StmtTree) (h : Head) (fs : List Frame) (cur : List StmtTree) → close_loops l (do_frame before l h ∷ fs) cur ≡ close_loops l fs (before ++ Do h (pack_stmts cur) ∷ [])
-loop_closes l before h fs cur = let k : eqb l l ≡ true = eq-eqb l l refl in rw k refl
+-- a statement with the label of the innermost loop ends it, and those round it with that label
+loop_closes : (l label : Option ℕ) (before : List StmtTree) (h : Head) (fs : List Frame) (cur : List StmtTree) → IsTrue (has_label l label)
+    → close_labelled label (do_frame before l h ∷ fs) cur ≡ close_labelled l fs (before ++ Do h (pack_stmts cur) ∷ [])
+loop_closes None label before h fs cur k = absurd cc
+loop_closes (Some l) None before h fs cur k = absurd cc
+loop_closes (Some l) (Some m) before h fs cur k = ap (λ (x : ℕ). close_loops x (do_frame before (Some l) h ∷ fs) cur) (eqb-true m l k) ∙ same_label l before h fs cur
+
+not_free : (a b : Bool) → IsTrue (a || (false && b)) → IsTrue a
+not_free true b h = refl
+not_free false b h = absurd cc
 
 abbrev pub Takes : List (List ℕ) → List Entry → List DeclTree → Nesting → Nesting → Type 0
 Takes saved es ds m n = take_entries saved (built ds m) es ≡ built ds n
@@ -77,7 +75,7 @@ plain_taken saved ds s (a_simple t) fs cur = ap (λ (x : List StmtTree). built d
 plain_taken saved ds s a_continue fs cur = ap (λ (x : List StmtTree). built ds (close_labelled s.label fs (cur ++ x))) (sym (append-nil (comments_of s)))
 plain_taken saved ds s (a_logical_if c t) fs cur = ap (λ (x : List StmtTree). built ds (close_labelled s.label fs x)) (append_assoc cur (comments_of s) (If c t no_stmts ∷ []))
 
-private_taken : (saved : List (List ℕ)) (ds : List DeclTree) (p : PrivateForm) (before : List StmtTree) (l : ℕ) (h : Head) (rejected : List (List ℕ)) (fs : List Frame)
+private_taken : (saved : List (List ℕ)) (ds : List DeclTree) (p : PrivateForm) (before : List StmtTree) (l : Option ℕ) (h : Head) (rejected : List (List ℕ)) (fs : List Frame)
     → Takes saved (private_entries p) ds (nest (do_frame before l (whole_head h [] rejected) ∷ fs) []) (nest (do_frame before l (whole_head h (names_of_private p) rejected) ∷ fs) (comments_of_private p))
 private_taken saved ds no_private before l h rejected fs = refl
 private_taken saved ds (private_list s names) before l h rejected fs = refl
@@ -104,8 +102,9 @@ mutual
       both saved (body_entries b) (rest_entries r) ds (nest (then_frame before [] c ∷ fs) []) (nest (then_frame before [] c ∷ fs) (body_trees b)) (nest fs (before ++ whole)) inner rest
       ∙ ap (λ (x : List StmtTree). built ds (nest fs x)) (append_assoc cur (comments_of s) whole)
   part_taken saved ds (a_do d) fs cur h =
-      loop_taken saved ds d fs cur (and_right (not (list_any (λ l. l == loop_label d) (labels fs))) (loop_keeps_labels (labels fs) d) h)
-      ∙ ap (built ds) (closes_none (loop_label d) fs (cur ++ loop_trees d) (and_left (not (list_any (λ l. l == loop_label d) (labels fs))) (loop_keeps_labels (labels fs) d) h))
+      let free = not (list_any (λ l. has_label l (loop_label d)) (labels fs)) in
+      loop_taken saved ds d fs cur (and_right free (loop_keeps_labels (labels fs) d) h)
+      ∙ ap (built ds) (free_closes_none (loop_label d) fs (cur ++ loop_trees d) (and_left free (loop_keeps_labels (labels fs) d) h))
 
   rest_taken : (saved : List (List ℕ)) (ds : List DeclTree) (r : RestForm) (before : List StmtTree) (arms : List Arm) (c : CondTree) (fs : List Frame) (cur : List StmtTree) → IsTrue (rest_keeps_labels (labels fs) r)
       → Takes saved (rest_entries r) ds (nest (then_frame before arms c ∷ fs) cur) (nest fs (before ++ chained (record { condition = c; then_part = cur ++ comments_of (first_of_rest r) } ∷ arms) (rest_trees r)))
@@ -124,7 +123,7 @@ mutual
       (nest fs (before ++ chained (record { condition = d; then_part = body_trees b ++ comments_of (first_of_rest r) } ∷ arms') (rest_trees r))) inner rest
 
   pub loop_taken : (saved : List (List ℕ)) (ds : List DeclTree) (d : LoopForm) (fs : List Frame) (cur : List StmtTree) → IsTrue (loop_keeps_labels (labels fs) d)
-      → Takes saved (loop_entries d) ds (nest fs cur) (close_loops (loop_label d) fs (cur ++ loop_trees d))
+      → Takes saved (loop_entries d) ds (nest fs cur) (close_labelled (loop_label d) fs (cur ++ loop_trees d))
   loop_taken saved ds (loop s l head p b e) fs cur h =
       let before = cur ++ comments_of s in
       let rejected = rejected_names s.directives in
@@ -135,19 +134,25 @@ mutual
       let y = body_keeps_labels (l ∷ labels fs) b in
       let z = ending_keeps_labels (l ∷ labels fs) l e in
       let inner = body_taken saved ds b frames (comments_of_private p) (and_right x y (and_left (x && y) z h)) in
-      let ending = ending_taken saved ds e l frames (comments_of_private p ++ body_trees b) (and_right (x && y) z h) in
       let parts = comments_of_private p ++ body_trees b ++ ending_trees e in
-      both saved (private_entries p ++ body_entries b) (ending_entries e) ds start (nest frames (comments_of_private p ++ body_trees b)) (close_loops l frames parts)
+      let all = before ++ Do whole (pack_stmts parts) ∷ [] in
+      let ending = ending_taken saved ds e l before whole fs (comments_of_private p ++ body_trees b) (and_right (x && y) z h) in
+      both saved (private_entries p ++ body_entries b) (ending_entries e) ds start (nest frames (comments_of_private p ++ body_trees b)) (close_labelled l fs all)
       (both saved (private_entries p) (body_entries b) ds start (nest frames (comments_of_private p)) (nest frames (comments_of_private p ++ body_trees b)) (private_taken saved ds p before l head rejected fs) inner) ending
-      ∙ ap (built ds) (loop_closes l before whole fs parts)
-      ∙ ap (λ (t : List StmtTree). built ds (close_loops l fs t)) (append_assoc cur (comments_of s) (Do whole (pack_stmts parts) ∷ []))
+      ∙ ap (λ (t : List StmtTree). built ds (close_labelled l fs t)) (append_assoc cur (comments_of s) (Do whole (pack_stmts parts) ∷ []))
 
-  ending_taken : (saved : List (List ℕ)) (ds : List DeclTree) (e : EndingForm) (l : ℕ) (fs : List Frame) (cur : List StmtTree) → IsTrue (ending_keeps_labels (labels fs) l e)
-      → Takes saved (ending_entries e) ds (nest fs cur) (close_loops l fs (cur ++ ending_trees e))
-  ending_taken saved ds (at_plain s p) l fs cur h = plain_taken saved ds s p fs cur ∙ ap (built ds) (labelled_closes s.label l fs (cur ++ (comments_of s ++ plain_trees p)) h)
-  ending_taken saved ds (with_inner d) l fs cur h =
-      let same = eqb-true (loop_label d) l (and_left (loop_label d == l) (loop_keeps_labels (labels fs) d) h) in
-      loop_taken saved ds d fs cur (and_right (loop_label d == l) (loop_keeps_labels (labels fs) d) h) ∙ ap (λ (m : ℕ). built ds (close_loops m fs (cur ++ loop_trees d))) same
+  ending_taken : (saved : List (List ℕ)) (ds : List DeclTree) (e : EndingForm) (l : Option ℕ) (before : List StmtTree) (head : Head) (fs : List Frame) (cur : List StmtTree) → IsTrue (ending_keeps_labels (l ∷ labels fs) l e)
+      → Takes saved (ending_entries e) ds (nest (do_frame before l head ∷ fs) cur) (close_labelled l fs (before ++ Do head (pack_stmts (cur ++ ending_trees e)) ∷ []))
+  ending_taken saved ds (at_plain s p) l before head fs cur h =
+      plain_taken saved ds s p (do_frame before l head ∷ fs) cur ∙ ap (built ds) (loop_closes l s.label before head fs (cur ++ (comments_of s ++ plain_trees p)) h)
+  ending_taken saved ds (at_end_do s) None before head fs cur h = refl
+  ending_taken saved ds (at_end_do s) (Some l) before head fs cur h =
+      ap (built ds) (loop_closes (Some l) s.label before head fs (cur ++ comments_of s) (not_free (has_label (Some l) s.label) (is_free (Some l ∷ labels fs) s) h))
+  ending_taken saved ds (with_inner d) l before head fs cur h =
+      let frames = do_frame before l head ∷ fs in
+      let same = and_left (has_label l (loop_label d)) (loop_keeps_labels (labels frames) d) h in
+      loop_taken saved ds d frames cur (and_right (has_label l (loop_label d)) (loop_keeps_labels (labels frames) d) h)
+      ∙ ap (built ds) (loop_closes l (loop_label d) before head fs (cur ++ loop_trees d) same)
 
 -- declarations add their trees
 decls_taken : (saved : List (List ℕ)) (fs : List DeclForm) (ds : List DeclTree) (n : Nesting) → take_entries saved (built ds n) (map decl_entry fs) ≡ built (ds ++ flat_map (decl_trees saved) fs) n

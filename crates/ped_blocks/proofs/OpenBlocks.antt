@@ -1,5 +1,5 @@
 -- The innermost block, and the last condition, stand at the end of their vectors.
-use Rattle.std.proofs.Common.{◌≡◌, ℕ, List, [], ◌∷◌, ◌++◌, map, true, false, refl, ap, ◌∙◌, arith, eqb}
+use Rattle.std.proofs.Common.{◌≡◌, ℕ, List, [], ◌∷◌, ◌++◌, map, true, false, Some, refl, ap, ◌∙◌, arith, eqb}
 use Rattle.std.specs.Prelude.{reverse}
 use Rattle.std.proofs.lemmas.List.{map_push, reverse-append}
 use Rattle.ped_tree.specs.Tree.{Head, StmtTree, Do}
@@ -33,5 +33,5 @@ stays_open l (else_frame before arms) frames current e = refl
 stays_open l (do_frame before m h) frames current e = rw e refl
 
 -- a loop with the label ends
-pub ends_here : (l : ℕ) (h : Head) (before : List StmtTree) (all frames : List Frame) (f : Frame) (current next : List StmtTree) → all ≡ f ∷ frames → f ≡ do_frame before l h → next ≡ before ++ Do h (pack_stmts current) ∷ [] → close_loops l frames next ≡ close_loops l all current
+pub ends_here : (l : ℕ) (h : Head) (before : List StmtTree) (all frames : List Frame) (f : Frame) (current next : List StmtTree) → all ≡ f ∷ frames → f ≡ do_frame before (Some l) h → next ≡ before ++ Do h (pack_stmts current) ∷ [] → close_loops l frames next ≡ close_loops l all current
 ends_here l h before all frames f current next a b c = rw (a, b, c, eqb_same l) refl

@@ -1,7 +1,8 @@
 -- What the open blocks of the code stand for. Contracts of private functions alone speak of this.
-use Rattle.std.specs.Prelude.{ℕ, List, map, reverse, Bool, false, ◌==◌}
+use Rattle.std.specs.Prelude.{ℕ, List, map, reverse, Bool, false, Some}
 use Rattle.ped_tree.specs.Tree.{Head}
 use Rattle.ped_tree.specs.Views.{cond_tree, head, stmt_tree, decl_tree}
+use Rattle.ped_tree.specs.Grammar.BlockForms.{has_label}
 use Rattle.ped_tree.specs.declared.statements.Do.{Do}
 use Rattle.ped_blocks.specs.Machine as plain
 use Rattle.ped_blocks.specs.declared.frames.Arm.{Arm}
@@ -32,7 +33,7 @@ frame_of (frame.Loop b) = plain.do_frame (map stmt_tree b.before.items) b.label 
 abbrev pub ends_at : ℕ → plain.Frame → Bool
 ends_at l (plain.then_frame before arms c) = false
 ends_at l (plain.else_frame before arms) = false
-ends_at l (plain.do_frame before m h) = m == l
+ends_at l (plain.do_frame before m h) = has_label m (Some l)
 
 -- open blocks, the innermost first
 unfoldable pub blocks_of : List Frame → List plain.Frame

@@ -1,11 +1,11 @@
 -- Statements taken one by one, and what is built of them so far: declarations, open blocks, and the statements of the innermost block (this project).
-use Rattle.std.specs.Prelude.{ℕ, List, [], ◌∷◌, ◌++◌, ◌==◌, Option, Some, None, if◌then◌else◌}
+use Rattle.std.specs.Prelude.{ℕ, List, [], ◌∷◌, ◌++◌, Option, Some, None, if◌then◌else◌}
 use Rattle.ped_tree.specs.Tree.{CondTree, Head, StmtTree, no_stmts, If, Do, DeclTree, ProgramTree}
 use Rattle.ped_tree.specs.Views.{pack_stmts}
 use Rattle.ped_tree.specs.Grammar.Statement.{Statement}
-use Rattle.ped_tree.specs.Grammar.Items.{Item, declares, saves_all, does, continues, logical_if, block_if, else_if, else_line, end_if, begins_do, keeps_private, ends_program, Reading, says, outside_profile, no_form, Entry}
+use Rattle.ped_tree.specs.Grammar.Items.{Item, declares, saves_all, does, continues, logical_if, block_if, else_if, else_line, end_if, begins_do, ends_do, keeps_private, ends_program, Reading, says, outside_profile, no_form, Entry}
 use Rattle.ped_tree.specs.Grammar.Occurrences.{rejected_names}
-use Rattle.ped_tree.specs.Grammar.BlockForms.{comments_of, whole_head}
+use Rattle.ped_tree.specs.Grammar.BlockForms.{comments_of, whole_head, has_label}
 use Rattle.ped_tree.specs.Grammar.ProgramForms.{remarks_of, save_of, front_remarks, behind_front}
 
 -- a condition with the THEN part that stands behind it
@@ -13,11 +13,11 @@ pub record Arm : Type 0 where
   pub condition : CondTree
   pub then_part : List StmtTree
 
--- an open block with the statements before it: the THEN part behind a condition, or the ELSE part, each with the conditions before it, the last first; or a DO with its label and its head
+-- an open block with the statements before it: the THEN part behind a condition, or the ELSE part, each with the conditions before it, the last first; or a DO with its label, where it has one, and its head
 pub data Frame : Type 0 where
   then_frame : List StmtTree → List Arm → CondTree → Frame
   else_frame : List StmtTree → List Arm → Frame
-  do_frame : List StmtTree → ℕ → Head → Frame
+  do_frame : List StmtTree → Option ℕ → Head → Frame
 
 -- the open blocks with the innermost first, and the statements so far of the innermost
 pub record Nesting : Type 0 where
@@ -48,7 +48,7 @@ close_loops l [] current = nest [] current
 close_loops l (then_frame before arms c ∷ frames) current = nest (then_frame before arms c ∷ frames) current
 close_loops l (else_frame before arms ∷ frames) current = nest (else_frame before arms ∷ frames) current
 close_loops l (do_frame before m h ∷ frames) current =
-    if m == l then close_loops l frames (before ++ Do h (pack_stmts current) ∷ []) else nest (do_frame before m h ∷ frames) current
+    if has_label m (Some l) then close_loops l frames (before ++ Do h (pack_stmts current) ∷ []) else nest (do_frame before m h ∷ frames) current
 
 -- the same for a statement's label, where it has one
 abbrev pub close_labelled : Option ℕ → List Frame → List StmtTree → Nesting
@@ -76,6 +76,14 @@ take_end_if (then_frame before arms c ∷ frames) current = nest frames (before 
 take_end_if (else_frame before arms ∷ frames) current = nest frames (before ++ chained arms current)
 take_end_if (do_frame before l h ∷ frames) current = nest (do_frame before l h ∷ frames) current
 
+-- END DO ends a DO without a label; a DO with a label ends as at any other statement with that label
+abbrev pub take_end_do : Option ℕ → List Frame → List StmtTree → Nesting
+take_end_do label [] current = nest [] current
+take_end_do label (then_frame before arms c ∷ frames) current = nest (then_frame before arms c ∷ frames) current
+take_end_do label (else_frame before arms ∷ frames) current = nest (else_frame before arms ∷ frames) current
+take_end_do label (do_frame before None h ∷ frames) current = nest frames (before ++ Do h (pack_stmts current) ∷ [])
+take_end_do label (do_frame before (Some m) h ∷ frames) current = close_labelled label (do_frame before (Some m) h ∷ frames) current
+
 -- PRIVATE belongs to the DO before it
 abbrev pub take_private : List (List ℕ) → List Frame → List StmtTree → Nesting
 take_private names [] current = nest [] current
@@ -95,6 +103,7 @@ nest_item s (else_if c) frames current = take_else_if c frames current
 nest_item s else_line frames current = take_else frames current
 nest_item s end_if frames current = take_end_if frames current
 nest_item s (begins_do l h) frames current = nest (do_frame current l (whole_head h [] (rejected_names s.directives)) ∷ frames) []
+nest_item s ends_do frames current = take_end_do s.label frames current
 nest_item s (keeps_private names) frames current = take_private names frames current
 nest_item s ends_program frames current = nest frames current
 
@@ -114,6 +123,7 @@ take_item saved b s (else_if c) = with_nested b s (else_if c)
 take_item saved b s else_line = with_nested b s else_line
 take_item saved b s end_if = with_nested b s end_if
 take_item saved b s (begins_do l h) = with_nested b s (begins_do l h)
+take_item saved b s ends_do = with_nested b s ends_do
 take_item saved b s (keeps_private names) = with_nested b s (keeps_private names)
 take_item saved b s ends_program = with_nested b s ends_program
 

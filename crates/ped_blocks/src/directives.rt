@@ -26,8 +26,5 @@ fn rejected_name(text: &[u8]) -> Option<Name>
     ensures { MatchOption result (Spec.is_rejection text.now ≡ false) (λ name. (Spec.is_rejection text.now ≡ true) × (name ≡ drop 6 text.now)) }
 {
     let name = text.strip_prefix(b"REJECT")?;
-    if name.len() > 6 {
-        return None;
-    }
     Name::from_bytes(name)
 }

@@ -1,7 +1,7 @@
 //! Open blocks: block IFs and DO loops that have begun, each with the statements before it. A block
 //! ends in statements, to which it adds one at the end.
 
-ghost use Rattle.std.specs.Prelude.{◌≡◌, [], ◌∷◌, ◌++◌, map, IfOk, IfErr, false};
+ghost use Rattle.std.specs.Prelude.{◌≡◌, [], ◌∷◌, ◌++◌, map, IfOk, IfErr, Some, false};
 ghost use Rattle.ped_tree.specs.Tree;
 ghost use Rattle.ped_tree.specs.Views.{cond_tree, stmt_tree, stmt_trees};
 ghost use Rattle.ped_tree.specs.Grammar.BlockForms.{whole_head};
@@ -48,8 +48,8 @@ pub struct ElseBlock {
 pub struct LoopBlock {
     /// The statements before the loop.
     pub before: Vec<Stmt>,
-    /// The label of the statement that ends it.
-    pub label: u32,
+    /// The label of the statement that ends it, none where an END DO ends it.
+    pub label: Option<u32>,
     /// The loop, without a body so far.
     pub head: Do,
 }
@@ -68,13 +68,13 @@ pub enum Frame {
 impl Frame {
     /// The loop, where this is a loop that ends at this label; else the block as it was.
     pub fn loop_with(self, label: u32) -> Result<LoopBlock, Frame>
-        ensures ok { IfOk result (λ b. frame_of self ≡ Machine.do_frame (map stmt_tree b.before.items) label (head_of b.head)) }
+        ensures ok { IfOk result (λ b. frame_of self ≡ Machine.do_frame (map stmt_tree b.before.items) (Some label) (head_of b.head)) }
         ensures err { IfErr result (λ f. f ≡ self) }
         ensures stays { IfErr result (λ f. ends_at label (frame_of f) ≡ false) }
     {
         match self {
             Frame::Loop(block) => {
-                if block.label == label {
+                if block.label == Some(label) {
                     Ok(block)
                 } else {
                     Err(Frame::Loop(block))

@@ -58,7 +58,7 @@ fn push_item(lines: &mut Vec<u64>, line: u64, item: &Item, saved: &Names) -> Res
             lines.push(line)?;
             Ok(())
         }
-        Item::Continue | Item::Else | Item::EndIf | Item::End => Ok(()),
+        Item::Continue | Item::Else | Item::EndIf | Item::EndDo | Item::End => Ok(()),
     }
 }
 

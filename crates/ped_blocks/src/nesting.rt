@@ -71,6 +71,7 @@ impl Nesting {
             Item::Else => nesting.begin_else(alloc),
             Item::EndIf => nesting.end_if(alloc),
             Item::Do(statement) => nesting.begin_do(alloc, statement, &directives),
+            Item::EndDo => nesting.end_do(label),
             Item::Private(names) => nesting.with_private(names),
             Item::Declaration(decl) => {
                 drop(decl);
@@ -297,6 +298,35 @@ impl Nesting {
         let block = LoopBlock::new(alloc, current, statement, rejected);
         let current = Vec::new(alloc);
         Nesting { frames, current }.within(Frame::Loop(block))
+    }
+
+    /// END DO ends a DO without a label, and a DO with a label where it carries that label.
+    #[tactic(auto, using(crate::proofs::OpenBlocks::last_block, crate::proofs::OpenBlocks::no_blocks))]
+    fn end_do(self, label: Option<u32>) -> Result<Nesting, NoMemory>
+        ensures { IfOk result (λ n. nesting_of n ≡ Machine.take_end_do label (blocks_of self.frames.items) (map stmt_tree self.current.items)) }
+    {
+        let Nesting {
+            mut frames,
+            current,
+        } = self;
+        match frames.pop() {
+            Some(Frame::Then(block)) => Nesting { frames, current }.within(Frame::Then(block)),
+            Some(Frame::Else(block)) => Nesting { frames, current }.within(Frame::Else(block)),
+            Some(Frame::Loop(block)) => Nesting { frames, current }.end_loop(block, label),
+            None => Ok(Nesting { frames, current }),
+        }
+    }
+
+    /// The same, where this loop is the innermost block.
+    fn end_loop(self, block: LoopBlock, label: Option<u32>) -> Result<Nesting, NoMemory>
+        ensures { IfOk result (λ n. nesting_of n ≡ Machine.take_end_do label (frame_of (Frame.Loop block) ∷ blocks_of self.frames.items) (map stmt_tree self.current.items)) }
+    {
+        if block.label.is_some() {
+            return self.within(Frame::Loop(block))?.with_label(label);
+        }
+        let Nesting { frames, current } = self;
+        let current = block.ended(current)?;
+        Ok(Nesting { frames, current })
     }
 
     /// PRIVATE belongs to the DO before it.

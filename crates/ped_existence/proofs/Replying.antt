@@ -2,35 +2,35 @@
 use Rattle.std.proofs.Common.{◌≡◌, ◌⊎◌, ℕ, ◌+◌, ◌-◌, refl, sym, subst, inl, inr, Bool, true, false, List, [], ◌∷◌, ◌++◌, All, Option, Some, None, is_some}
 use Rattle.std.specs.Prelude.{MatchBool}
 use Rattle.std.proofs.lemmas.List.Elements.{All-nil, All-cons, All-head, All-tail}
-use Rattle.ped_session.specs.ped_tree.specs.Tree.{StmtTree, ProgramTree}
-use Rattle.ped_session.specs.ped_tree.specs.Printing.{program_text}
-use Rattle.ped_session.specs.ped_tree.specs.SourcePane.{source_pane}
-use Rattle.ped_session.specs.ped_tree.specs.Numbering.{statement_with}
-use Rattle.ped_session.specs.ped_symbols.specs.NameRefusals.{IsValid}
-use Rattle.ped_session.specs.ped_graph.specs.DependencePane.{IsDependencePane, IsDependencePaneOf}
-use Rattle.ped_session.specs.ped_graph.specs.Update.Fresh.{tested_pairs}
-use Rattle.ped_session.specs.ped_valid.specs.Validity.{ReadsValid, RefusesText}
-use Rattle.ped_session.specs.ped_valid.specs.Verdicts.{HasOneValidTree, HasOneFirstRefusal}
-use Rattle.ped_session.specs.ped_valid.proofs.OneVerdict.{one_of_both, valid_prints}
-use Rattle.ped_order.specs.ped_eval.specs.Outcomes.{outcome}
-use Rattle.ped_order.proofs.OneReport.{one_at_least}
-use Rattle.ped_session.specs.ped_script.specs.declared.items.Command.{Command}
-use Rattle.ped_session.specs.ped_script.specs.declared.items.Command.TheVariants.{Source, Deps, Show, Print, Advise, Replace, Insert, Delete, Interchange, Reverse, Skew, Strip, Peel, Distribute, Fuse, Expand, Privatise, Parallel, Serial, Reject, Undo, Redo, Run, Races, Tested}
-use Rattle.ped_session.specs.ped_script.specs.declared.items.Item.{Item}
-use Rattle.ped_session.specs.declared.changes.Change.TheVariants.{Edit, Transformation}
-use Rattle.ped_session.specs.declared.replies.Refusal.{Refusal}
-use Rattle.ped_session.specs.declared.replies.Refusal.TheVariants.{BadEdit, Step, NothingToUndo, NothingToRedo, NoSuchStatement, NoSuchLine, NotBuilt}
-use Rattle.ped_session.specs.declared.replies.Reply.{Reply}
-use Rattle.ped_session.specs.declared.replies.Reply.TheVariants.{Changed, Shown, Refused}
-use Rattle.ped_session.specs.States.{Other, State, opened, changed_to, gone_back_to, gone_forward_to}
-use Rattle.ped_session.specs.Splices.{spliced, are_lines, is_place}
-use Rattle.ped_session.specs.Panes.{IsSourcePane, ArePanes}
-use Rattle.ped_session.specs.Blocks.{block}
-use Rattle.ped_session.specs.RaceRows.{race_row, IsRaceRow}
-use Rattle.ped_session.specs.Transforming.{StepAt, privatising, expanding}
-use Rattle.ped_session.specs.Steps.{Refuses, Shows, ShowsOf, ShowsStatement, Edits, accepted, refused, Transforms, missing, forbidden, transformed, GoesBack, GoesForward, Runs, IsStep}
-use Rattle.ped_session.specs.Histories.{IsPrinted, ArePrinted}
-use Rattle.ped_session.specs.Scripts.{Said, said_by, bad_command_said, nothing_said, said_both, AnswersCommand, AnswersItems}
+use Rattle.ped_answer.specs.ped_tree.specs.Tree.{StmtTree, ProgramTree}
+use Rattle.ped_answer.specs.ped_tree.specs.Printing.{program_text}
+use Rattle.ped_answer.specs.ped_tree.specs.SourcePane.{source_pane}
+use Rattle.ped_answer.specs.ped_tree.specs.Numbering.{statement_with}
+use Rattle.ped_answer.specs.ped_symbols.specs.NameRefusals.{IsValid}
+use Rattle.ped_answer.specs.ped_graph.specs.DependencePane.{IsDependencePane, IsDependencePaneOf}
+use Rattle.ped_answer.specs.ped_graph.specs.Update.Fresh.{tested_pairs}
+use Rattle.ped_answer.specs.ped_valid.specs.Validity.{ReadsValid, RefusesText}
+use Rattle.ped_answer.specs.ped_valid.specs.Verdicts.{HasOneValidTree, HasOneFirstRefusal}
+use Rattle.ped_answer.specs.ped_valid.proofs.OneVerdict.{one_of_both, valid_prints}
+use Rattle.ped_answer.specs.ped_order.specs.ped_eval.specs.Outcomes.{outcome}
+use Rattle.ped_answer.specs.ped_order.proofs.OneReport.{one_at_least}
+use Rattle.ped_answer.specs.ped_script.specs.declared.items.Command.{Command}
+use Rattle.ped_answer.specs.ped_script.specs.declared.items.Command.TheVariants.{Source, Deps, Show, Print, Advise, Replace, Insert, Delete, Interchange, Reverse, Skew, Strip, Peel, Distribute, Fuse, Expand, Privatise, Parallel, Serial, Reject, Undo, Redo, Run, Races, Tested}
+use Rattle.ped_answer.specs.ped_script.specs.declared.items.Item.{Item}
+use Rattle.ped_answer.specs.ped_session.specs.declared.changes.Change.TheVariants.{Edit, Transformation}
+use Rattle.ped_answer.specs.ped_session.specs.declared.replies.Refusal.{Refusal}
+use Rattle.ped_answer.specs.ped_session.specs.declared.replies.Refusal.TheVariants.{BadEdit, Step, NothingToUndo, NothingToRedo, NoSuchStatement, NoSuchLine, NotBuilt}
+use Rattle.ped_answer.specs.ped_session.specs.declared.replies.Reply.{Reply}
+use Rattle.ped_answer.specs.ped_session.specs.declared.replies.Reply.TheVariants.{Changed, Shown, Refused}
+use Rattle.ped_answer.specs.ped_session.specs.States.{Other, State, opened, changed_to, gone_back_to, gone_forward_to}
+use Rattle.ped_answer.specs.ped_session.specs.Splices.{spliced, are_lines, is_place}
+use Rattle.ped_answer.specs.ped_session.specs.Panes.{IsSourcePane, ArePanes}
+use Rattle.ped_answer.specs.ped_session.specs.Blocks.{block}
+use Rattle.ped_answer.specs.ped_session.specs.RaceRows.{race_row, IsRaceRow}
+use Rattle.ped_answer.specs.ped_session.specs.Transforming.{StepAt, privatising, expanding}
+use Rattle.ped_answer.specs.ped_session.specs.Steps.{Refuses, Shows, ShowsOf, ShowsStatement, Edits, accepted, refused, Transforms, missing, forbidden, transformed, GoesBack, GoesForward, Runs, IsStep}
+use Rattle.ped_answer.specs.ped_session.specs.Histories.{IsPrinted, ArePrinted}
+use Rattle.ped_answer.specs.ped_session.specs.Scripts.{Said, said_by, bad_command_said, nothing_said, said_both, AnswersCommand, AnswersItems}
 use Rattle.ped_existence.proofs.Edges.{pane_of_program, pane_of_statement}
 use Rattle.ped_existence.proofs.FirstCauses.{Goes, privatising_goes, expanding_goes}
 use Rattle.ped_existence.proofs.Refusing.{refusal_for}

@@ -102,7 +102,7 @@ one_of_words x u w s n m =
     go (is_same_text x u) refl s
 
 -- each intrinsic function's name is a name
-intrinsic_name : (x : List ℕ) (f : Intrinsic) → intrinsic_of x ≡ Some f → is_name x ≡ true
+pub intrinsic_name : (x : List ℕ) (f : Intrinsic) → intrinsic_of x ≡ Some f → is_name x ≡ true
 unfolding intrinsic_of
 intrinsic_name x f h =
     let least_or_none : Option Intrinsic = cond (is_same_text x (codes "MIN") || is_same_text x (codes "MIN0")) (Some Min) None in

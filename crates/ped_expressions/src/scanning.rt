@@ -86,14 +86,11 @@ pub fn literal_value(digits: &[u8]) -> u32
     value
 }
 
-/// The name that the word is, where it is one of at most six characters.
+/// The name that the word is, where it is one.
 pub fn name_of(word: &[u8]) -> Option<Name>
     ensures is { result ≡ (if Words.is_name word.now then Some word.now else None) }
     ensures some { IfSome result (λ x. 0 < length word.now) }
 {
-    if word.len() > 6 {
-        return None;
-    }
     Name::from_bytes(word)
 }
 

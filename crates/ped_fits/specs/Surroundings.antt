@@ -9,42 +9,34 @@ use Rattle.ped_tree.specs.declared.statements.Do as code
 use Rattle.ped_tree.specs.declared.declarations.Decl.{Decl}
 use Rattle.ped_tree.specs.Grammar.Fits as plain
 use Rattle.ped_fits.specs.declared.surroundings.Surroundings.{Surroundings}
-use Rattle.ped_fits.specs.declared.surroundings.Numbers.{Numbers}
 
 -- the names of lists that are lent, one behind the other
 abbrev pub all_names : List (Bor (List (List ℕ))) → List (List ℕ)
 all_names lists = flat_map (λ l. l.now) lists
 
 -- the plain surroundings of a statement with so many before it
-abbrev pub place : Surroundings → Numbers → plain.Surroundings
+abbrev pub place : Surroundings → ℕ → plain.Surroundings
 place a n = record {
   constants = constant_names (map decl_tree a.decls.now);
   variables = a.variables.now;
   private = all_names a.private.now;
   depth = a.depth;
-  statements = n.statements;
-  loops = n.loops;
+  statements = n;
 }
-
--- no more loops than statements, and no more statements than a program may have
-pub record IsCounted (n : Numbers) : Type 0 where
-  pub few : n.statements ≤ 4000
-  pub fewer : n.loops ≤ n.statements
 
 -- as many lists of private names as variables, and no more loops and IFs than may stand in one another
 pub record IsAround (a : Surroundings) : Type 0 where
   pub same : length a.private.now ≡ length a.variables.now
   pub shallow : a.depth ≤ 100
 
--- the numbers behind so many statements and loops
-pub record IsBehind (before : Numbers) (statements loops : ℕ) (n : Numbers) : Type 0 where
-  pub statements_are : n.statements ≡ before.statements + statements
-  pub loops_are : n.loops ≡ before.loops + loops
-  pub counted : IsCounted n
+-- behind so many statements, and no more than a program may have
+pub record IsBehind (before statements n : ℕ) : Type 0 where
+  pub statements_are : n ≡ before + statements
+  pub few : n ≤ 4000
 
--- the numbers behind what fits, none where it doesn't fit
-abbrev pub Follows : Bool → Numbers → ℕ → ℕ → Option Numbers → Type 0
-Follows fits before statements loops result = MatchOption result (fits ≡ false) (λ n. (fits ≡ true) × IsBehind before statements loops n)
+-- how many numbered statements come before what is behind what fits, none where it doesn't fit
+abbrev pub Follows : Bool → ℕ → ℕ → Option ℕ → Type 0
+Follows fits before statements result = MatchOption result (fits ≡ false) (λ n. (fits ≡ true) × IsBehind before statements n)
 
 -- the head of a DO
 abbrev pub head_of : code.Do → Head
@@ -62,7 +54,7 @@ simple_parts_fit (Comment text) = false
 
 -- before the first executable statement behind these declarations
 abbrev pub at_first : List Decl → plain.Surroundings
-at_first decls = record { constants = constant_names (map decl_tree decls); variables = []; private = []; depth = 0; statements = 0; loops = 0 }
+at_first decls = record { constants = constant_names (map decl_tree decls); variables = []; private = []; depth = 0; statements = 0 }
 
 -- an assignment, PRINT, READ or STOP
 abbrev pub is_simple : StmtTree → Bool

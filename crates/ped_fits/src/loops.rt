@@ -12,18 +12,18 @@ ghost use Rattle.ped_fits.specs.Surroundings.{place, head_of};
 
 use crate::expressions::expr_fits;
 use crate::names::{all_names_fit, are_names, meets, name_fits};
-use crate::surroundings::{Numbers, Surroundings, is_private, is_within, with_variable};
+use crate::surroundings::{Surroundings, is_private, is_within, with_variable};
 use ped_base::Name;
 use ped_limits::{MOST_BLOCKS_NESTED, MOST_CHARACTERS, MOST_LOOPS_NESTED, is_among};
 use ped_print::private_length;
 use ped_tree::{Do, Stmt};
 
 /// Whether a DO, which is this statement, can be written where it stands, whatever its body is.
-pub fn loop_fits(around: &Surroundings, numbers: Numbers, statement: &Stmt, d: &Do) -> bool
+pub fn loop_fits(around: &Surroundings, before: u64, statement: &Stmt, d: &Do) -> bool
     requires { stmt_tree statement.now ≡ Tree.Do (head_of d.now) (stmt_trees d.now.body.items) }
-    ensures { result ≡ Spec.loop_fits (place around.now numbers) (head_of d.now) (stmt_trees d.now.body.items) }
+    ensures { result ≡ Spec.loop_fits (place around.now before) (head_of d.now) (stmt_trees d.now.body.items) }
 {
-    is_within(around, numbers, statement)
+    is_within(around, before, statement)
         && name_fits(&d.variable)
         && expr_fits(&d.first)
         && expr_fits(&d.last)
@@ -32,14 +32,14 @@ pub fn loop_fits(around: &Surroundings, numbers: Numbers, statement: &Stmt, d: &
         && !is_private(&d.variable, around.private)
         && around.variables.len() < MOST_LOOPS_NESTED
         && around.depth < MOST_BLOCKS_NESTED
-        && private_fits(around, numbers, d)
+        && private_fits(around, before, d)
         && all_names_fit(d.rejected.as_slice())
 }
 
 /// Whether the PRIVATE statement of a DO can be written, where it has one.
-fn private_fits(around: &Surroundings, numbers: Numbers, d: &Do) -> bool
+fn private_fits(around: &Surroundings, before: u64, d: &Do) -> bool
     requires { length around.now.variables.now < 6 }
-    ensures { result ≡ Spec.private_fits (place around.now numbers) (head_of d.now) }
+    ensures { result ≡ Spec.private_fits (place around.now before) (head_of d.now) }
 {
     if d.private.as_slice().is_empty() {
         return true;

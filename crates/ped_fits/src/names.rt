@@ -1,5 +1,4 @@
-//! Names as the profile has them, of at most six characters (ANSI X3.9-1978, section 2.2), and names among
-//! others.
+//! Names as the profile has them, and names among others.
 
 ghost use Rattle.std.specs.Prelude.{◌≡◌};
 ghost use Rattle.std.specs.List.{list_all};
@@ -8,16 +7,16 @@ ghost use Rattle.ped_tree.specs.Grammar.StatementForms as Spec;
 ghost use Rattle.ped_tree.specs.Grammar.ProgramRefusals as Refusals;
 
 use ped_base::Name;
-use ped_limits::is_among;
+use ped_limits::{MOST_NAME, is_among};
 
-/// Whether a name has at most six characters.
+/// Whether a name has at most so many characters as the profile allows; a `Name` holds no more.
 pub fn name_fits(name: &Name) -> bool
     ensures { result ≡ Words.is_name name.now }
 {
-    name.as_bytes().len() <= 6
+    name.as_bytes().len() <= MOST_NAME
 }
 
-/// Whether all names have at most six characters.
+/// Whether all names fit.
 pub fn all_names_fit(names: &[Name]) -> bool
     ensures { result ≡ list_all Words.is_name names.now }
 {
@@ -29,7 +28,7 @@ pub fn all_names_fit(names: &[Name]) -> bool
     true
 }
 
-/// Whether there are names, all of at most six characters.
+/// Whether there are names, and all fit.
 pub fn are_names(names: &[Name]) -> bool
     ensures { result ≡ Spec.are_names names.now }
 {

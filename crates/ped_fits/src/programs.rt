@@ -7,7 +7,7 @@ ghost use Rattle.ped_fits.specs.Surroundings.{at_first};
 
 use crate::declarations::decls_fit;
 use crate::statements::statements_fit;
-use crate::surroundings::{Numbers, Surroundings};
+use crate::surroundings::Surroundings;
 use ped_tree::{Decl, Program, Stmt};
 
 /// Whether a tree is a program of the profile, which is whether some text reads as it: its names, literals,
@@ -31,11 +31,7 @@ fn body_fits(decls: &[Decl], body: &[Stmt]) -> bool
         private: &[],
         depth: 0,
     };
-    let numbers = Numbers {
-        statements: 0,
-        loops: 0,
-    };
-    statements_fit(&around, numbers, body).is_some()
+    statements_fit(&around, 0, body).is_some()
 }
 
 /// Whether no comment stands before the first executable statement.

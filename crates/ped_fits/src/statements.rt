@@ -1,32 +1,33 @@
 //! Executable statements that can be written where they stand, with the statements in their parts.
 
-ghost use Rattle.std.specs.Prelude.{◌≡◌, ◌+◌, ◌<◌, ◌&&◌, true, nat_lt, not, map, length};
+ghost use Rattle.std.specs.Prelude.{◌≡◌, ◌+◌, ◌<◌, ◌≤◌, ◌&&◌, true, nat_lt, not, map, length};
 ghost use Rattle.std.specs.List.{flat_map};
 ghost use Rattle.ped_base.specs.Lists.{has_some};
-ghost use Rattle.ped_tree.specs.Numbering.{statement_count, statements_count, loop_count, loops_count};
+ghost use Rattle.ped_tree.specs.Numbering.{statement_count, statements_count};
 ghost use Rattle.ped_tree.specs.Views.{expr_tree, cond_tree, stmt_tree, stmt_trees};
 ghost use Rattle.ped_tree.specs.Grammar.Contexts.{is_stop};
 ghost use Rattle.ped_tree.specs.Grammar.ProgramRefusals as Refusals;
 ghost use Rattle.ped_tree.specs.Grammar.Fits as Spec;
-ghost use Rattle.ped_fits.specs.Surroundings.{place, IsAround, IsCounted, Follows, head_of, is_simple, simple_parts_fit};
+ghost use Rattle.ped_fits.specs.Surroundings.{place, IsAround, Follows, head_of, is_simple, simple_parts_fit};
 
 use crate::comments::comment_fits;
 use crate::expressions::{cond_fits, expr_fits, items_fit, target_fits, targets_fit};
 use crate::loops::loop_fits;
-use crate::surroundings::{Numbers, Surroundings, is_within, with_private, with_variable};
+use crate::surroundings::{Surroundings, is_within, with_private, with_variable};
 use ped_base::Name;
 use ped_limits::{MOST_BLOCKS_NESTED, is_among};
 use ped_tree::{Cond, Do, Expr, Stmt};
 
-/// The numbers behind statements that stand one behind the other; none where one of them doesn't fit.
+/// How many numbered statements come before what is behind statements that stand one behind the other, of which
+/// so many come before them; none where one of them doesn't fit.
 #[cycle(statements)]
-pub fn statements_fit(around: &Surroundings, numbers: Numbers, all: &[Stmt]) -> Option<Numbers>
+pub fn statements_fit(around: &Surroundings, before: u64, all: &[Stmt]) -> Option<u64>
     requires around { IsAround around.now }
-    requires counted { IsCounted numbers }
-    ensures { Follows (Spec.stmts_fit (place around.now numbers) (stmt_trees all.now))
-        numbers (statements_count (stmt_trees all.now)) (loops_count (stmt_trees all.now)) result }
+    requires counted { before ≤ 4000 }
+    ensures { Follows (Spec.stmts_fit (place around.now before) (stmt_trees all.now))
+        before (statements_count (stmt_trees all.now)) result }
 {
-    let mut next = numbers;
+    let mut next = before;
     for statement in all {
         match statement_fits(around, next, statement) {
             Some(behind) => next = behind,
@@ -36,25 +37,25 @@ pub fn statements_fit(around: &Surroundings, numbers: Numbers, all: &[Stmt]) -> 
     Some(next)
 }
 
-/// The numbers behind a statement; none where it doesn't fit.
+/// How many numbered statements come before what is behind a statement; none where it doesn't fit.
 #[cycle(statements)]
-fn statement_fits(around: &Surroundings, numbers: Numbers, statement: &Stmt) -> Option<Numbers>
+fn statement_fits(around: &Surroundings, before: u64, statement: &Stmt) -> Option<u64>
     requires around { IsAround around.now }
-    requires counted { IsCounted numbers }
-    ensures { Follows (Spec.stmt_fits (place around.now numbers) (stmt_tree statement.now))
-        numbers (statement_count (stmt_tree statement.now)) (loop_count (stmt_tree statement.now)) result }
+    requires counted { before ≤ 4000 }
+    ensures { Follows (Spec.stmt_fits (place around.now before) (stmt_tree statement.now))
+        before (statement_count (stmt_tree statement.now)) result }
 {
     match statement {
-        Stmt::Assign { left: _, right: _ } => simple_fits(around, numbers, statement),
-        Stmt::Print(_) => simple_fits(around, numbers, statement),
-        Stmt::Read(_) => simple_fits(around, numbers, statement),
-        Stmt::Stop => simple_fits(around, numbers, statement),
+        Stmt::Assign { left: _, right: _ } => simple_fits(around, before, statement),
+        Stmt::Print(_) => simple_fits(around, before, statement),
+        Stmt::Read(_) => simple_fits(around, before, statement),
+        Stmt::Stop => simple_fits(around, before, statement),
         Stmt::If {
             condition,
             then_part,
             else_part,
         } => {
-            if !branch_fits(around, numbers, statement, condition) {
+            if !branch_fits(around, before, statement, condition) {
                 return None;
             }
             let inner = Surroundings {
@@ -63,34 +64,34 @@ fn statement_fits(around: &Surroundings, numbers: Numbers, statement: &Stmt) -> 
                 private: around.private,
                 depth: around.depth + 1,
             };
-            let middle = statements_fit(&inner, numbers.behind_statement(), then_part)?;
+            let middle = statements_fit(&inner, before + 1, then_part)?;
             statements_fit(&inner, middle, else_part)
         }
         Stmt::Do(d) => {
-            if !loop_fits(around, numbers, statement, d) {
+            if !loop_fits(around, before, statement, d) {
                 return None;
             }
-            body_fits(around, numbers, d)
+            body_fits(around, before, d)
         }
         Stmt::Comment(text) => {
             if comment_fits(text.as_slice()) {
-                return Some(numbers);
+                return Some(before);
             }
             None
         }
     }
 }
 
-/// The numbers behind the body of a DO that fits by itself; none where the body doesn't fit.
+/// How many numbered statements come before what is behind the body of a DO that fits by itself; none where the
+/// body doesn't fit.
 #[cycle(statements)]
-fn body_fits(around: &Surroundings, numbers: Numbers, d: &Do) -> Option<Numbers>
+fn body_fits(around: &Surroundings, before: u64, d: &Do) -> Option<u64>
     requires around { IsAround around.now }
-    requires counted { IsCounted numbers }
-    requires few { numbers.statements < 4000 }
+    requires few { before < 4000 }
     requires loops { length around.now.variables.now < 6 }
     requires depth { around.now.depth < 100 }
-    ensures { Follows (Spec.stmts_fit (Spec.in_loop (place around.now numbers) (head_of d.now)) (stmt_trees d.now.body.items))
-        numbers (statements_count (stmt_trees d.now.body.items) + 1) (loops_count (stmt_trees d.now.body.items) + 1) result }
+    ensures { Follows (Spec.stmts_fit (Spec.in_loop (place around.now before) (head_of d.now)) (stmt_trees d.now.body.items))
+        before (statements_count (stmt_trees d.now.body.items) + 1) result }
 {
     let variables = with_variable(d.variable, around.variables);
     let private = with_private(d.private.as_slice(), around.private);
@@ -100,31 +101,31 @@ fn body_fits(around: &Surroundings, numbers: Numbers, d: &Do) -> Option<Numbers>
         private: &private[..around.private.len() + 1],
         depth: around.depth + 1,
     };
-    statements_fit(&inner, numbers.behind_do(), &d.body)
+    statements_fit(&inner, before + 1, &d.body)
 }
 
 /// Whether an IF can be written where it stands, whatever its parts are.
-fn branch_fits(around: &Surroundings, numbers: Numbers, statement: &Stmt, condition: &Cond) -> bool
-    ensures { result ≡ (Spec.is_within (place around.now numbers) (stmt_tree statement.now)
+fn branch_fits(around: &Surroundings, before: u64, statement: &Stmt, condition: &Cond) -> bool
+    ensures { result ≡ (Spec.is_within (place around.now before) (stmt_tree statement.now)
         && nat_lt around.now.depth 100 && Spec.cond_fits (cond_tree condition.now)) }
 {
-    is_within(around, numbers, statement)
+    is_within(around, before, statement)
         && around.depth < MOST_BLOCKS_NESTED
         && cond_fits(condition)
 }
 
-/// The numbers behind an assignment, PRINT, READ or STOP; none where it doesn't fit.
-fn simple_fits(around: &Surroundings, numbers: Numbers, statement: &Stmt) -> Option<Numbers>
+/// How many numbered statements come before what is behind an assignment, PRINT, READ or STOP; none where it doesn't fit.
+fn simple_fits(around: &Surroundings, before: u64, statement: &Stmt) -> Option<u64>
     requires simple { is_simple (stmt_tree statement.now) ≡ true }
-    requires counted { IsCounted numbers }
-    ensures { Follows (Spec.stmt_fits (place around.now numbers) (stmt_tree statement.now))
-        numbers (statement_count (stmt_tree statement.now)) (loop_count (stmt_tree statement.now)) result }
+    requires counted { before ≤ 4000 }
+    ensures { Follows (Spec.stmt_fits (place around.now before) (stmt_tree statement.now))
+        before (statement_count (stmt_tree statement.now)) result }
 {
-    if is_within(around, numbers, statement)
+    if is_within(around, before, statement)
         && keeps_loops(around, statement)
         && parts_fit(statement)
     {
-        return Some(numbers.behind_statement());
+        return Some(before + 1);
     }
     None
 }

@@ -1,18 +1,18 @@
 //! What stands round a statement: the declarations of its program, the DO loops round it, how deep it stands,
-//! and how many statements and loops come before it.
+//! and how many statements come before it.
 
 ghost use Rattle.std.specs.Prelude.{◌≡◌, ◌+◌, ◌<◌, ◌≤◌, ◌∷◌, ◌++◌, length, take};
 ghost use Rattle.ped_base.specs.Lists as Lists;
 ghost use Rattle.ped_tree.specs.Views.{stmt_tree};
 ghost use Rattle.ped_tree.specs.Grammar.Fits as Spec;
-ghost use Rattle.ped_fits.specs.Surroundings.{IsCounted, all_names, place};
+ghost use Rattle.ped_fits.specs.Surroundings.{all_names, place};
 
 use ped_base::Name;
 use ped_limits::{
     MOST_CHARACTERS, MOST_LOOPS_NESTED, MOST_REFERENCES, MOST_STATEMENTS, is_among,
     references_declared,
 };
-use ped_print::own_length;
+use ped_print::length;
 use ped_tree::{Decl, Stmt};
 
 /// What stands round a statement.
@@ -28,50 +28,14 @@ pub struct Surroundings<'a> {
     pub depth: usize,
 }
 
-/// How many numbered statements and DO loops come before a statement.
-#[derive(Clone, Copy, Debug, PartialEq, Eq)]
-pub struct Numbers {
-    /// The numbered statements.
-    pub statements: u64,
-    /// The DO loops among them.
-    pub loops: u64,
-}
-
-impl Numbers {
-    /// Behind a statement that is no DO.
-    pub fn behind_statement(self) -> Numbers
-        requires { self.statements < 4000 }
-        ensures statements { result.statements ≡ self.statements + 1 }
-        ensures loops { result.loops ≡ self.loops }
-    {
-        Numbers {
-            statements: self.statements + 1,
-            loops: self.loops,
-        }
-    }
-
-    /// Behind a DO statement.
-    pub fn behind_do(self) -> Numbers
-        requires statements { self.statements < 4000 }
-        requires counted { IsCounted self }
-        ensures statements { result.statements ≡ self.statements + 1 }
-        ensures loops { result.loops ≡ self.loops + 1 }
-    {
-        Numbers {
-            statements: self.statements + 1,
-            loops: self.loops + 1,
-        }
-    }
-}
-
-/// Whether a numbered statement by itself passes no limit where it stands: the number of statements, its
-/// references, its printed length.
-pub fn is_within(around: &Surroundings, numbers: Numbers, statement: &Stmt) -> bool
-    ensures { result ≡ Spec.is_within (place around.now numbers) (stmt_tree statement.now) }
+/// Whether a numbered statement by itself passes no limit where it stands behind so many: the number of
+/// statements, its references, its printed length.
+pub fn is_within(around: &Surroundings, before: u64, statement: &Stmt) -> bool
+    ensures { result ≡ Spec.is_within (place around.now before) (stmt_tree statement.now) }
 {
-    numbers.statements < MOST_STATEMENTS as u64
+    before < MOST_STATEMENTS as u64
         && references_declared(around.decls, around.variables, statement) <= MOST_REFERENCES
-        && own_length(numbers.loops, statement) <= MOST_CHARACTERS
+        && length(statement) <= MOST_CHARACTERS
 }
 
 /// A variable before the variables of the loops round its loop; what is behind these is anything.

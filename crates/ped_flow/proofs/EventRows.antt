@@ -1,5 +1,5 @@
 -- What events do to scalars, by which names are read and which are assigned.
-use Rattle.std.proofs.Common.{◌≡◌, ℕ, min, List, [], ◌∷◌, ◌++◌, map, length, replicate, Bool, true, false, not, ◌&&◌, ◌||◌, Option, None, Some, is_some, ◌⊎◌, inl, inr, Result, Ok, Err, IfOk, refl, sym, ap, ◌∙◌, append_assoc, append-nil, arith, if◌then◌else◌}
+use Rattle.std.proofs.Common.{◌≡◌, ℕ, min, List, [], ◌∷◌, ◌++◌, map, length, replicate, Bool, true, false, not, ◌&&◌, ◌||◌, Option, None, Some, is_some, ◌⊎◌, inl, inr, Result, Ok, Err, IfOk, OnOk, refl, sym, ap, ◌∙◌, append_assoc, append-nil, arith, if◌then◌else◌}
 use Rattle.std.proofs.lemmas.List.{length-replicate}
 use Rattle.ped_base.specs.Lists.{is_same_text, is_among}
 use Rattle.ped_tree.specs.Tree.{ExprTree, Int, Var, Element, Neg, Add, Sub, Mul, Div, Pow, Call}
@@ -22,6 +22,11 @@ use Rattle.ped_flow.proofs.RowSums.{or_at, less_wide, union_wide}
 pub if_ok : {X E : Type 0} {P Q : X → Type 0} (r : Result X E) → ((x : X) → P x → Q x) → IfOk r P → IfOk r Q
 if_ok (Ok x) f h = f x h
 if_ok (Err e) f h = h
+
+-- what follows an answer by a weaker sentence
+pub if_done : {X E : Type 0} {A B : Type 0} (r : Result X E) → (A → B) → OnOk r A → OnOk r B
+if_done (Ok x) f h = f h
+if_done (Err e) f h = h
 
 -- a row with nothing but what is marked
 pub row_marked : (names : List (List ℕ)) (n : ℕ) (old new : List Bool) (xs : List (List ℕ)) → old ≡ replicate n false → AreMarked names old new xs → IsRowOf names new xs

@@ -1,7 +1,8 @@
 -- What rows that are put together say at each place, from what the rows of the parts say.
-use Rattle.std.proofs.Common.{◌≡◌, ℕ, List, length, Bool, true, false, ◌&&◌, ◌||◌, not, Option, Some, None, is_some, refl, sym, ap, ◌∙◌}
+use Rattle.std.proofs.Common.{◌≡◌, ℕ, List, length, Bool, true, false, ◌&&◌, ◌||◌, not, Option, Some, None, is_some, if◌then◌else◌, refl, sym, ap, ◌∙◌}
 use Rattle.ped_bits.specs.Places.{union, without}
-use Rattle.ped_flow.specs.Summaries.{least_of, when}
+use Rattle.ped_flow.specs.Events.{clears}
+use Rattle.ped_flow.specs.Summaries.{least_of, when, passing, of_manner}
 use Rattle.ped_flow.specs.RowPlaces.{bit}
 use Rattle.ped_flow.proofs.RowLaws.{length-union, length-without, union_at, without_at}
 
@@ -79,3 +80,24 @@ loses_then p q s t l k m w hp hq hs ht =
 
 pub not_either : (p q a b : Bool) → p ≡ not a → q ≡ not b → (p && not (p && not q)) ≡ not (a || b)
 not_either p q a b hp hq = (λ j. hp j && not (hp j && not (hq j))) ∙ not-or a b
+
+-- a scalar loses its value, or nothing happens to it
+pub cleared_first : (b : Bool) → is_some (if b then of_manner clears 0 else passing).first ≡ false
+cleared_first true = refl
+cleared_first false = refl
+
+pub cleared_keeps : (b : Bool) → not (if b then of_manner clears 0 else passing).keeps ≡ b
+cleared_keeps true = refl
+cleared_keeps false = refl
+
+pub cleared_ends : (b : Bool) → (if b then of_manner clears 0 else passing).ends ≡ false
+cleared_ends true = refl
+cleared_ends false = refl
+
+pub cleared_passes : (b : Bool) → not (if b then of_manner clears 0 else passing).passes ≡ false
+cleared_passes true = refl
+cleared_passes false = refl
+
+pub cleared_loses : (b : Bool) → (if b then of_manner clears 0 else passing).loses ≡ b
+cleared_loses true = refl
+cleared_loses false = refl

@@ -83,6 +83,41 @@ impl Part {
         Ok(())
     }
 
+    /// This part and then another, where there is memory for both.
+    pub(crate) fn followed(self, alloc: Global, next: &Part) -> Result<Part, NoMemory>
+        requires { self.sums.width ≡ next.now.sums.width }
+        ensures { IfOk result (λ p. (names : List (List ℕ)) (f g : List ℕ → Summary) (o q : List ℕ → Option ℕ) (u v : List (List ℕ)) → IsPart names self f o u → IsPart names next.now g q v → IsPart names p (λ x. Spec.sum_in_turn (f x) (g x)) (λ x. Spec.least_of (o x) (q x)) (u ++ v)) }
+    {
+        let mut both = self;
+        match both.then(alloc, next) {
+            Ok(()) => {
+                return Ok(both);
+            }
+            Err(error) => {
+                drop(both);
+                return Err(error);
+            }
+        }
+    }
+
+    /// Either this part or another, where there is memory for both.
+    pub(crate) fn either(self, alloc: Global, other: &Part) -> Result<Part, NoMemory>
+        requires { self.sums.width ≡ other.now.sums.width }
+        ensures width { IfOk result (λ p. p.sums.width ≡ self.sums.width) }
+        ensures part { IfOk result (λ p. (names : List (List ℕ)) (f g : List ℕ → Summary) (o q : List ℕ → Option ℕ) (u v : List (List ℕ)) → IsPart names self f o u → IsPart names other.now g q v → IsPart names p (λ x. Spec.sum_either (f x) (g x)) (λ x. Spec.least_of (o x) (q x)) (u ++ v)) }
+    {
+        let mut both = self;
+        match both.or(alloc, other) {
+            Ok(()) => {
+                return Ok(both);
+            }
+            Err(error) => {
+                drop(both);
+                return Err(error);
+            }
+        }
+    }
+
     /// Either this part or another.
     pub(crate) fn or(&mut self, alloc: Global, other: &Part) -> Result<(), NoMemory>
         requires { self.old.sums.width ≡ other.now.sums.width }

@@ -1,12 +1,15 @@
 //! What a statement by itself does to many scalars.
 
-ghost use Rattle.std.specs.Prelude.{ℕ, map, IfOk};
+ghost use Rattle.std.specs.Prelude.{◌≡◌, ℕ, List, [], Option, map, length, IfOk, OnOk};
 ghost use Rattle.ped_tree.specs.Tree;
 ghost use Rattle.ped_tree.specs.Views.{expr_tree, cond_tree, item_tree, stmt_trees};
 ghost use Rattle.ped_affine.specs.ped_refs.specs.Loops.{head_of};
 ghost use Rattle.ped_flow.specs.Events as Event;
+ghost use Rattle.ped_flow.specs.Summaries as Spec;
+ghost use Rattle.ped_flow.specs.Kept.{first_reader};
 ghost use Rattle.ped_flow.specs.RowMarks.{names_in, constants_in};
-ghost use Rattle.ped_flow.specs.Parts.{IsPartOf};
+ghost use Rattle.ped_flow.specs.Parts.{IsPart, IsPartOf};
+ghost use Rattle.ped_flow.specs.declared.summaries.Summary.{Summary};
 
 use crate::marking::{
     mark_assigned, mark_condition, mark_expression, mark_items, mark_name, mark_read,
@@ -80,10 +83,24 @@ pub(crate) fn reading(alloc: Global, places: &Places, lefts: &[Expr]) -> Result<
 {
     let mut part = Part::nothing(alloc, places.names.len())?;
     for left in lefts {
-        let item = reading_of(alloc, places, left)?;
-        part.then(alloc, &item)?;
+        if let Err(error) = add_item(alloc, places, &mut part, left) {
+            drop(part);
+            return Err(error);
+        }
     }
     Ok(part)
+}
+
+/// An item of a READ behind those before it.
+fn add_item(alloc: Global, places: &Places, part: &mut Part, left: &Expr) -> Result<(), NoMemory>
+    requires { part.old.sums.width ≡ length (names_in places.now) }
+    ensures width { part.new.sums.width ≡ part.old.sums.width }
+    ensures part { OnOk result ((n : ℕ) (f : List ℕ → Summary) (o : List ℕ → Option ℕ) → IsPart (names_in places.now) part.old f o [] → IsPart (names_in places.now) part.new (λ x. Spec.sum_in_turn (f x) (Spec.sum_events x (Event.left_events (constants_in places.now) n (expr_tree left.now)))) (λ x. Spec.least_of (o x) (first_reader x (Event.left_events (constants_in places.now) n (expr_tree left.now)))) []) }
+{
+    let item = reading_of(alloc, places, left)?;
+    let done = part.then(alloc, &item);
+    drop(item);
+    done
 }
 
 /// The entry of a DO.

@@ -37,7 +37,9 @@ pub(crate) fn loop_part(
     ensures { IfOk result (λ p. (n : ℕ) (f : List ℕ → Summary) (o : List ℕ → Option ℕ) → IsPart (names_in places.now) body.now f o (all_loop_variables (stmt_trees d.now.body.items)) → IsPart (names_in places.now) p (λ x. Spec.sum_in_turn (Spec.sum_events x (Event.own_events (constants_in places.now) n (Tree.Do (head_of d.now) (stmt_trees d.now.body.items)))) (Spec.sum_loop x n (head_of d.now) (stmt_trees d.now.body.items) (f x))) (λ x. Spec.least_of (first_reader x (Event.own_events (constants_in places.now) n (Tree.Do (head_of d.now) (stmt_trees d.now.body.items)))) (unless (is_same_text x d.now.variable) (o x))) (d.now.variable ∷ all_loop_variables (stmt_trees d.now.body.items))) }
 {
     let trips = all_trips(alloc, places, d, body)?;
-    entered(alloc, places, d, &trips)
+    let part = entered(alloc, places, d, &trips);
+    drop(trips);
+    part
 }
 
 /// The entry of a DO, and then its trips and its exit.
@@ -45,9 +47,8 @@ fn entered(alloc: Global, places: &Places, d: &Do, trips: &Part) -> Result<Part,
     requires { trips.now.sums.width ≡ length (names_in places.now) }
     ensures { IfOk result (λ p. (n : ℕ) (g : List ℕ → Summary) (q : List ℕ → Option ℕ) (v : List (List ℕ)) → IsPart (names_in places.now) trips.now g q v → IsPart (names_in places.now) p (λ x. Spec.sum_in_turn (Spec.sum_events x (Event.own_events (constants_in places.now) n (Tree.Do (head_of d.now) (stmt_trees d.now.body.items)))) (g x)) (λ x. Spec.least_of (first_reader x (Event.own_events (constants_in places.now) n (Tree.Do (head_of d.now) (stmt_trees d.now.body.items)))) (q x)) v) }
 {
-    let mut part = entering(alloc, places, d)?;
-    part.then(alloc, trips)?;
-    Ok(part)
+    let part = entering(alloc, places, d)?;
+    part.followed(alloc, trips)
 }
 
 /// The trips of a DO and its exit, from what its body does.
@@ -57,7 +58,9 @@ fn all_trips(alloc: Global, places: &Places, d: &Do, body: &Part) -> Result<Part
     ensures part { IfOk result (λ p. (n : ℕ) (f : List ℕ → Summary) (o : List ℕ → Option ℕ) → IsPart (names_in places.now) body.now f o (all_loop_variables (stmt_trees d.now.body.items)) → IsPart (names_in places.now) p (λ x. Spec.sum_loop x n (head_of d.now) (stmt_trees d.now.body.items) (f x)) (λ x. unless (is_same_text x d.now.variable) (o x)) (d.now.variable ∷ all_loop_variables (stmt_trees d.now.body.items))) }
 {
     let iteration = iterating(alloc, places, d, body)?;
-    tripping(alloc, places, d, body, &iteration)
+    let part = tripping(alloc, places, d, body, &iteration);
+    drop(iteration);
+    part
 }
 
 /// The scalars of which each iteration of a DO has copies beside its variable.
@@ -93,10 +96,18 @@ fn iterating(alloc: Global, places: &Places, d: &Do, body: &Part) -> Result<RowS
     ensures width { IfOk result (λ r. r.width ≡ length (names_in places.now)) }
     ensures held { IfOk result (λ r. (n : ℕ) (f : List ℕ → Summary) (o : List ℕ → Option ℕ) → IsPart (names_in places.now) body.now f o (all_loop_variables (stmt_trees d.now.body.items)) → (x : List ℕ) (i : ℕ) → place_of (names_in places.now) x ≡ Some i → Holds r i (Spec.sum_in_turn (Spec.sum_events x (Event.start_events n (head_of d.now) (stmt_trees d.now.body.items))) (f x))) }
 {
-    let copies = copies(alloc, places, d, &body.indices)?;
-    let mut iteration = RowSummary::cleared(alloc, &copies)?;
-    iteration.then(alloc, &body.sums)?;
-    Ok(iteration)
+    let start = starting(alloc, places, d, &body.indices)?;
+    start.followed(alloc, &body.sums)
+}
+
+/// The start of an iteration of a DO, with the variables of the loops in it.
+fn starting(alloc: Global, places: &Places, d: &Do, indices: &Row) -> Result<RowSummary, NoMemory>
+    requires { length indices.now ≡ length (names_in places.now) }
+    ensures width { IfOk result (λ r. r.width ≡ length (names_in places.now)) }
+    ensures held { IfOk result (λ r. (n : ℕ) → IsRowOf (names_in places.now) indices.now (all_loop_variables (stmt_trees d.now.body.items)) → (x : List ℕ) (i : ℕ) → place_of (names_in places.now) x ≡ Some i → Holds r i (Spec.sum_events x (Event.start_events n (head_of d.now) (stmt_trees d.now.body.items)))) }
+{
+    let copies = copies(alloc, places, d, indices)?;
+    RowSummary::cleared(alloc, &copies)
 }
 
 /// The trips of a DO and its exit, from what its body and an iteration do.
@@ -147,9 +158,9 @@ fn trip_sums(
     ensures held { IfOk result (λ r. (n : ℕ) (m : Summary) → IsRowOf (names_in places.now) body.now.indices (all_loop_variables (stmt_trees d.now.body.items)) → (x : List ℕ) (i : ℕ) → place_of (names_in places.now) x ≡ Some i → Holds iteration.now i m → Holds r i (Spec.sum_in_turn (Spec.sum_trips m) (Spec.sum_events x (Event.exit_events n (head_of d.now) (stmt_trees d.now.body.items))))) }
 {
     let exit = leaving(alloc, places, d, &body.indices)?;
-    let mut sums = iteration.repeated(alloc)?;
-    sums.then(alloc, &exit)?;
-    Ok(sums)
+    let sums = iteration.trips(alloc, &exit);
+    drop(exit);
+    sums
 }
 
 /// The exit of a DO, with the variables of the loops in it.

@@ -83,20 +83,10 @@ impl RowSummary {
         ensures width { IfOk result (λ r. r.width ≡ length cleared.now) }
         ensures held { IfOk result (λ r. (i : ℕ) → Holds r i (if bit cleared.now i then Spec.of_manner Event.clears 0 else Spec.passing)) }
     {
-        let width = cleared.width();
-        let reads = Row::new(alloc, width)?;
-        let overwritten = copied(alloc, cleared)?;
-        let ends = Row::new(alloc, width)?;
-        let blocked = Row::new(alloc, width)?;
-        let loses = copied(alloc, cleared)?;
-        Ok(RowSummary {
-            width,
-            reads,
-            overwritten,
-            ends,
-            blocked,
-            loses,
-        })
+        let mut part = RowSummary::passing(alloc, cleared.width())?;
+        cleared.or_into(&mut part.overwritten);
+        cleared.or_into(&mut part.loses);
+        Ok(part)
     }
 
     /// The path of a STOP.
@@ -137,6 +127,34 @@ impl RowSummary {
         Ok(())
     }
 
+    /// This part and then another, where there is memory for both.
+    pub(crate) fn followed(self, alloc: Global, next: &RowSummary) -> Result<RowSummary, NoMemory>
+        requires { self.width ≡ next.now.width }
+        ensures width { IfOk result (λ r. r.width ≡ self.width) }
+        ensures held { IfOk result (λ r. (i : ℕ) (a b : Summary) → Holds self i a → Holds next.now i b → Holds r i (Spec.sum_in_turn a b)) }
+    {
+        let mut both = self;
+        match both.then(alloc, next) {
+            Ok(()) => {
+                return Ok(both);
+            }
+            Err(error) => {
+                drop(both);
+                return Err(error);
+            }
+        }
+    }
+
+    /// Any number of trips through this part, and then another.
+    pub(crate) fn trips(&self, alloc: Global, next: &RowSummary) -> Result<RowSummary, NoMemory>
+        requires { self.now.width ≡ next.now.width }
+        ensures width { IfOk result (λ r. r.width ≡ self.now.width) }
+        ensures held { IfOk result (λ r. (i : ℕ) (a b : Summary) → Holds self.now i a → Holds next.now i b → Holds r i (Spec.sum_in_turn (Spec.sum_trips a) b)) }
+    {
+        let trips = self.repeated(alloc)?;
+        trips.followed(alloc, next)
+    }
+
     /// Either this part or another.
     pub(crate) fn or(&mut self, alloc: Global, other: &RowSummary) -> Result<(), NoMemory>
         requires { self.old.width ≡ other.now.width }
@@ -158,18 +176,10 @@ impl RowSummary {
         ensures width { IfOk result (λ r. r.width ≡ self.now.width) }
         ensures held { IfOk result (λ r. (i : ℕ) (a : Summary) → Holds self.now i a → Holds r i (Spec.sum_trips a)) }
     {
-        let reads = copied(alloc, &self.reads)?;
-        let overwritten = Row::new(alloc, self.width)?;
-        let ends = copied(alloc, &self.ends)?;
-        let blocked = Row::new(alloc, self.width)?;
-        let loses = copied(alloc, &self.loses)?;
-        Ok(RowSummary {
-            width: self.width,
-            reads,
-            overwritten,
-            ends,
-            blocked,
-            loses,
-        })
+        let mut trips = RowSummary::passing(alloc, self.width)?;
+        self.reads.or_into(&mut trips.reads);
+        self.ends.or_into(&mut trips.ends);
+        self.loses.or_into(&mut trips.loses);
+        Ok(trips)
     }
 }

@@ -1,7 +1,8 @@
 //! What the paths of statements do to many scalars, statement by statement, with what is known of each.
 
-ghost use Rattle.std.specs.Prelude.{◌≡◌, ◌+◌, ◌<◌, ◌≤◌, ◌^◌, ◌++◌, ◌↔◌, ℕ, List, Option, length, IsTrue, IfOk, OnOk};
+ghost use Rattle.std.specs.Prelude.{◌≡◌, ◌+◌, ◌<◌, ◌≤◌, ◌^◌, ◌++◌, ◌↔◌, ℕ, List, Option, Some, length, slice_set, IsTrue, IfOk, OnOk};
 ghost use Rattle.ped_tree.specs.Tree;
+ghost use Rattle.ped_tree.specs.Tree.{StmtTrees};
 ghost use Rattle.ped_tree.specs.Views.{cond_tree, stmt_tree, stmt_trees};
 ghost use Rattle.ped_tree.specs.Numbering.{statement_count, statements_count};
 ghost use Rattle.ped_affine.specs.ped_refs.specs.Loops.{head_of};
@@ -22,6 +23,7 @@ use crate::row_loops::loop_part;
 use ped_base::NoMemory;
 use ped_tree::{Cond, Do, Stmt};
 use std::alloc::Global;
+use std::mem;
 
 /// What statements do to the scalars that have places. The number of the first becomes that of the statement behind them.
 /// The table gets to know each of them.
@@ -42,7 +44,10 @@ pub(crate) fn all_parts(
 {
     let mut part = Part::nothing(alloc, places.names.len())?;
     for s in body {
-        add_part(alloc, places, table, &mut part, s, number)?;
+        if let Err(error) = add_part(alloc, places, table, &mut part, s, number) {
+            drop(part);
+            return Err(error);
+        }
     }
     Ok(part)
 }
@@ -70,9 +75,25 @@ fn add_part(
     }
     let own = *number;
     let entry = entry_of(alloc, places, table, s, number)?;
-    part.then(alloc, &entry.part)?;
-    table[own as usize] = Some(entry);
-    Ok(())
+    match part.then(alloc, &entry.part) {
+        Ok(()) => {
+            keep(table, own, entry);
+            return Ok(());
+        }
+        Err(error) => {
+            drop(entry);
+            return Err(error);
+        }
+    }
+}
+
+/// Writes what is known of the statement with a number into the table.
+fn keep(table: &mut [Option<Entry>], number: u32, entry: Entry)
+    requires { number < length table.old }
+    ensures { table.new ≡ slice_set table.old number (Some entry) }
+{
+    let former = mem::replace(&mut table[number as usize], Some(entry));
+    drop(former);
 }
 
 /// Whether a statement has a number, as each but a comment has.
@@ -157,16 +178,40 @@ fn entry_of(
         } => {
             *number = own + 1;
             let first = all_parts(alloc, places, table, then_part, number)?;
-            let second = all_parts(alloc, places, table, else_part, number)?;
-            let part = branching(alloc, places, c, first, &second)?;
-            return Entry::new(alloc, part, *number);
+            match all_parts(alloc, places, table, else_part, number) {
+                Ok(second) => {
+                    return branches_entry(alloc, places, c, first, second, *number);
+                }
+                Err(error) => {
+                    drop(first);
+                    return Err(error);
+                }
+            }
         }
         Stmt::Do(d) => {
             *number = own + 1;
             let body = all_parts(alloc, places, table, &d.body, number)?;
-            return loop_entry(alloc, places, d, &body, *number);
+            return loop_entry(alloc, places, d, body, *number);
         }
     }
+}
+
+/// What is known of an IF, from what its parts do.
+fn branches_entry(
+    alloc: Global,
+    places: &Places,
+    c: &Cond,
+    first: Part,
+    second: Part,
+    behind: u32,
+) -> Result<Entry, NoMemory>
+    requires first { first.sums.width ≡ length (names_in places.now) }
+    requires second { second.sums.width ≡ length (names_in places.now) }
+    ensures { IfOk result (λ e. (n : ℕ) (a b : StmtTrees) → IsPart (names_in places.now) first (λ x. Spec.sum_of_all (constants_in places.now) x a (n + 1)) (λ x. all_first_outside (constants_in places.now) x a (n + 1)) (all_loop_variables a) → IsPart (names_in places.now) second (λ x. Spec.sum_of_all (constants_in places.now) x b (n + 1 + statements_count a)) (λ x. all_first_outside (constants_in places.now) x b (n + 1 + statements_count a)) (all_loop_variables b) → behind ≡ n + statement_count (Tree.If (cond_tree c.now) a b) → IsEntry places.now e (Tree.If (cond_tree c.now) a b) n) }
+{
+    let part = branching(alloc, places, c, first, &second);
+    drop(second);
+    Entry::new(alloc, part?, behind)
 }
 
 /// An IF, from what its parts do.
@@ -181,9 +226,10 @@ fn branching(
     requires second { second.now.sums.width ≡ length (names_in places.now) }
     ensures { IfOk result (λ p. (n : ℕ) (f g : List ℕ → Summary) (o q : List ℕ → Option ℕ) (u v : List (List ℕ)) → IsPart (names_in places.now) first f o u → IsPart (names_in places.now) second.now g q v → IsPart (names_in places.now) p (λ x. Spec.sum_in_turn (Spec.sum_events x (Event.reads_of n (Event.scalars_in_cond (constants_in places.now) (cond_tree c.now)))) (Spec.sum_either (f x) (g x))) (λ x. Spec.least_of (first_reader x (Event.reads_of n (Event.scalars_in_cond (constants_in places.now) (cond_tree c.now)))) (Spec.least_of (o x) (q x))) (u ++ v)) }
 {
-    let mut parts = first;
-    parts.or(alloc, second)?;
-    decided(alloc, places, c, &parts)
+    let parts = first.either(alloc, second)?;
+    let part = decided(alloc, places, c, &parts);
+    drop(parts);
+    part
 }
 
 /// An IF, from what either of its parts does.
@@ -191,9 +237,8 @@ fn decided(alloc: Global, places: &Places, c: &Cond, parts: &Part) -> Result<Par
     requires { parts.now.sums.width ≡ length (names_in places.now) }
     ensures { IfOk result (λ p. (n : ℕ) (g : List ℕ → Summary) (q : List ℕ → Option ℕ) (v : List (List ℕ)) → IsPart (names_in places.now) parts.now g q v → IsPart (names_in places.now) p (λ x. Spec.sum_in_turn (Spec.sum_events x (Event.reads_of n (Event.scalars_in_cond (constants_in places.now) (cond_tree c.now)))) (g x)) (λ x. Spec.least_of (first_reader x (Event.reads_of n (Event.scalars_in_cond (constants_in places.now) (cond_tree c.now)))) (q x)) v) }
 {
-    let mut part = deciding(alloc, places, c)?;
-    part.then(alloc, parts)?;
-    Ok(part)
+    let part = deciding(alloc, places, c)?;
+    part.followed(alloc, parts)
 }
 
 /// What is known of a DO, from what its body does.
@@ -201,12 +246,13 @@ fn loop_entry(
     alloc: Global,
     places: &Places,
     d: &Do,
-    body: &Part,
+    body: Part,
     behind: u32,
 ) -> Result<Entry, NoMemory>
-    requires { body.now.sums.width ≡ length (names_in places.now) }
-    ensures { IfOk result (λ e. (n : ℕ) → IsPart (names_in places.now) body.now (λ x. Spec.sum_of_all (constants_in places.now) x (stmt_trees d.now.body.items) (n + 1)) (λ x. all_first_outside (constants_in places.now) x (stmt_trees d.now.body.items) (n + 1)) (all_loop_variables (stmt_trees d.now.body.items)) → behind ≡ n + (statements_count (stmt_trees d.now.body.items) + 1) → IsEntry places.now e (Tree.Do (head_of d.now) (stmt_trees d.now.body.items)) n) }
+    requires { body.sums.width ≡ length (names_in places.now) }
+    ensures { IfOk result (λ e. (n : ℕ) → IsPart (names_in places.now) body (λ x. Spec.sum_of_all (constants_in places.now) x (stmt_trees d.now.body.items) (n + 1)) (λ x. all_first_outside (constants_in places.now) x (stmt_trees d.now.body.items) (n + 1)) (all_loop_variables (stmt_trees d.now.body.items)) → behind ≡ n + (statements_count (stmt_trees d.now.body.items) + 1) → IsEntry places.now e (Tree.Do (head_of d.now) (stmt_trees d.now.body.items)) n) }
 {
-    let part = loop_part(alloc, places, d, body)?;
-    Entry::new(alloc, part, behind)
+    let part = loop_part(alloc, places, d, &body);
+    drop(body);
+    Entry::new(alloc, part?, behind)
 }

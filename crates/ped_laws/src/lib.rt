@@ -9,3 +9,7 @@ pub mod covering;
 pub mod flow_runs;
 pub mod plain;
 pub mod runs;
+
+pub use ped_eval;
+pub use ped_flow;
+pub use ped_graph;

@@ -12,10 +12,11 @@ mod numbering;
 pub use counting::{cond_references, do_references, references, references_declared};
 pub use limits::{
     GREATEST_LITERAL, MOST_BLOCKS_NESTED, MOST_CHARACTERS, MOST_DIMENSIONS, MOST_LOOPS_NESTED,
-    MOST_REFERENCES, MOST_STATEMENTS,
+    MOST_NAME, MOST_REFERENCES, MOST_STATEMENTS,
 };
 pub use literals::{
     decl_has_large_literal, has_eight_dimensions, head_has_large_literal, stmt_has_large_literal,
 };
 pub use names::{NameSet, is_among};
 pub use numbering::statement_count;
+pub use ped_expressions;

@@ -1,5 +1,8 @@
 //! The limits of the language as numbers; passing one is refused.
 
+/// The most characters of a name.
+pub const MOST_NAME: usize = 31;
+
 /// The greatest literal.
 pub const GREATEST_LITERAL: u32 = 2_147_483_647;
 

@@ -6,12 +6,12 @@ ghost use Rattle.std.specs.Cmp.Lexicographic.{pointwise};
 ghost use Rattle.ped_base.specs.Lists.{is_same_text};
 ghost use Rattle.ped_store.specs.Cells.{same_cell, same_iteration};
 ghost use Rattle.ped_store.specs.CellViews.{cell_view, iterations_by};
-ghost use Rattle.ped_eval.specs.AccessViews.{turn_view};
+ghost use Rattle.ped_laws.specs.ped_eval.specs.AccessViews.{turn_view};
 ghost use Rattle.ped_order.specs.Keys.{cell_writes, numbers_writes, iteration_writes, iteration_of, key_of};
 ghost use Rattle.ped_order.specs.KeyViews.{iterations_view};
 
 use ped_base::{Name, NoMemory};
-use ped_eval::Turn;
+use ped_laws::ped_eval::Turn;
 use ped_store::Cell;
 use std::alloc::Global;
 use std::hash::{Hash, Hasher};

@@ -4,7 +4,7 @@ use Rattle.std.specs.Prelude.{◌||◌, nat_lt}
 use Rattle.std.specs.List.{list_any}
 use Rattle.ped_tree.specs.Tree.{ExprTree, ItemTree, Value, Text, Head, StmtTree, StmtTrees, Assign, If, Do, Print, Read, Stop, Comment, no_stmts, more_stmts, BoundTree, DeclaratorTree, DeclTree, Program, Implicit, Integer, Dimension, Parameter, Save, Remark}
 use Rattle.ped_tree.specs.Grammar.Literals.{has_large_literal, cond_has_large_literal, item_has_large_literal, head_has_large_literal, stmt_has_large_literal, stmts_have_large_literal, declarator_has_large_literal, decl_has_large_literal}
-use Rattle.ped_tree.specs.Grammar.Items.{Item, declares, saves_all, does, continues, logical_if, block_if, else_if, else_line, end_if, begins_do, keeps_private, ends_program, Entry}
+use Rattle.ped_tree.specs.Grammar.Items.{Item, declares, saves_all, does, continues, logical_if, block_if, else_if, else_line, end_if, begins_do, ends_do, keeps_private, ends_program, Entry}
 use Rattle.ped_tree.specs.Grammar.Contexts.{Context, open_variables}
 use Rattle.ped_tree.specs.Grammar.LimitNumbers.{most_dimensions}
 use Rattle.ped_tree.specs.Grammar.ProgramRefusals.{listed_stmts, private_behind, has_eight_dimensions, is_too_large, are_too_many, is_too_deep, has_many_references, is_too_long, passes_limit}
@@ -150,6 +150,7 @@ small_same saves_all h = refl
 small_same continues h = refl
 small_same else_line h = refl
 small_same end_if h = refl
+small_same ends_do h = refl
 small_same (keeps_private names) h = refl
 small_same ends_program h = refl
 
@@ -160,7 +161,7 @@ passes_other saved c private i large =
     || are_too_many c.statements i
     || is_too_deep c.blocks i
     || has_many_references c.constants (open_variables c.blocks) private i
-    || is_too_long saved c.loops i
+    || is_too_long saved i
 
 pub limit_same : (saved : List (List ℕ)) (c : Context) (others rest : List Entry) → private_behind others ≡ private_behind rest → (i : Item)
     → passes_limit saved c others (says_with_literals saturated i) ≡ passes_limit saved c rest i

@@ -1,17 +1,17 @@
 -- What a statement says besides its literals stays the same where each literal is taken as another one.
-use Rattle.std.proofs.Common.{◌≡◌, ℕ, Bool, List, [], ◌∷◌, ◌++◌, map, length, refl, ap, ◌∙◌, suc, ◌+◌}
+use Rattle.std.proofs.Common.{◌≡◌, ℕ, Bool, List, [], ◌∷◌, ◌++◌, map, length, Option, refl, ap, ◌∙◌, suc, ◌+◌}
 use Rattle.std.specs.Prelude.{◌||◌, not}
 use Rattle.std.specs.List.{list_any, flat_map}
 use Rattle.ped_tree.specs.Tree.{ExprTree, ExprTrees, Int, Var, Element, Neg, Add, Sub, Mul, Div, Pow, Call, no_exprs, more_exprs, CondTree, Rel, Not, And, Or, ItemTree, Value, Text, Head, StmtTree, StmtTrees, Assign, If, Do, Print, Read, Stop, Comment, no_stmts, more_stmts, BoundTree, DeclaratorTree, DeclTree, Program, Implicit, Integer, Dimension, Parameter, Save, Remark}
 use Rattle.ped_tree.specs.Numbering.{statement_count, statements_count}
-use Rattle.ped_tree.specs.Grammar.Items.{Item, declares, saves_all, does, continues, logical_if, block_if, else_if, else_line, end_if, begins_do, keeps_private, ends_program}
+use Rattle.ped_tree.specs.Grammar.Items.{Item, declares, saves_all, does, continues, logical_if, block_if, else_if, else_line, end_if, begins_do, ends_do, keeps_private, ends_program}
 use Rattle.ped_tree.specs.NamesIn.{expr_names, exprs_names, cond_names, item_names, head_names, stmt_names, stmts_names, declarator_names, decl_names}
 use Rattle.ped_tree.specs.Grammar.Statement.{Statement}
 use Rattle.ped_tree.specs.Grammar.Occurrences.{names_in, do_variables, constants_of, is_end}
 use Rattle.ped_tree.specs.Accesses.{constants_in}
 use Rattle.ped_tree.specs.Grammar.Contexts.{Block, decl_rank, rank, numbered_in, is_do, is_stop, may_end, is_save, saves_list, saves_without, blocks_behind}
 use Rattle.ped_tree.specs.Grammar.ProgramForms.{line_count}
-use Rattle.ped_tree.specs.Grammar.ProgramRefusals.{lacks_if, is_late_private, leaves_open, scalar_of, assigned_by, listed_stmts, assigned_in, private_in, stops}
+use Rattle.ped_tree.specs.Grammar.ProgramRefusals.{lacks_if, lacks_do, is_late_private, leaves_open, scalar_of, assigned_by, listed_stmts, assigned_in, private_in, stops}
 use Rattle.ped_statements.specs.ped_expressions.specs.ExpressionReading.{with_literals, all_with_literals}
 use Rattle.ped_statements.specs.ped_expressions.specs.ConditionReading.{cond_with_literals}
 use Rattle.ped_statements.specs.Saturated.{item_with_literals, head_with_literals, stmt_with_literals, stmts_with_literals, bound_with_literals, declarator_with_literals, value_with_literals, decl_with_literals, says_with_literals}
@@ -121,6 +121,7 @@ do_variables_with v i = elim i as (λ i. do_variables (says_with_literals v i) �
   | else_line ↦ refl
   | end_if ↦ refl
   | begins_do l h ↦ refl
+  | ends_do ↦ refl
   | keeps_private names ↦ refl
   | ends_program ↦ refl
 ]
@@ -193,6 +194,10 @@ saves_without_with v i = refl
 pub lacks_if_with : (v : ℕ → ℕ) (c : List Block) (i : Item) → lacks_if c (says_with_literals v i) ≡ lacks_if c i
 lacks_if_with v c (declares d) = refl
 lacks_if_with v c i = refl
+
+pub lacks_do_with : (v : ℕ → ℕ) (c : List Block) (label : Option ℕ) (i : Item) → lacks_do c label (says_with_literals v i) ≡ lacks_do c label i
+lacks_do_with v c label (declares d) = refl
+lacks_do_with v c label i = refl
 
 pub late_with : (v : ℕ → ℕ) (b : Bool) (i : Item) → is_late_private b (says_with_literals v i) ≡ is_late_private b i
 late_with v b (declares d) = refl

@@ -12,7 +12,7 @@ use Rattle.ped_tree.specs.Grammar.Contexts.{OpenLoop, Context, at_start, is_do, 
 use Rattle.ped_tree.specs.Grammar.ProgramRefusals.{where_it_says, is_left_out, is_out_of_order, is_misplaced, is_behind_end, breaks_syntax, leaves_open, closed, ends_badly, assigned_in, private_in, meets, assigns_index, at_private, stops, private_behind, loop_depth, passes_limit, is_parted, at_directives, at_statement, at_statements, at_end, program_refusals}
 use Rattle.ped_statements.specs.ped_expressions.specs.ExpressionReading.{saturated}
 use Rattle.ped_statements.specs.Saturated.{says_with_literals, reading_with_literals, entry_with_literals}
-use Rattle.ped_parse.proofs.OtherLiterals.{flat_with, names_with, do_variables_with, constants_with, rank_with, numbered_with, is_do_with, may_end_with, saves_list_with, saves_without_with, lacks_if_with, late_with, leaves_with, assigned_with, private_with, stops_with, blocks_with, is_end_with}
+use Rattle.ped_parse.proofs.OtherLiterals.{flat_with, names_with, do_variables_with, constants_with, rank_with, numbered_with, is_do_with, may_end_with, saves_list_with, saves_without_with, lacks_if_with, lacks_do_with, late_with, leaves_with, assigned_with, private_with, stops_with, blocks_with, is_end_with}
 use Rattle.ped_parse.proofs.LargeItems.{limit_same}
 
 where_with : (v : ℕ → ℕ) (test : Item → Bool) → ((i : Item) → test (says_with_literals v i) ≡ test i) → (r : Reading) → where_it_says test (reading_with_literals v r) ≡ where_it_says test r
@@ -38,7 +38,6 @@ behind_item_with v c s i =
       phase = max c.phase (p j);
       blocks = b j;
       statements = c.statements + n j;
-      loops = c.loops + cond (d j) 1 0;
       constants = c.constants ++ k j;
       saves_names = c.saves_names || l j;
       saves_everything = c.saves_everything || w j;
@@ -57,19 +56,20 @@ behind_all_with : (v : ℕ → ℕ) (c : Context) (es : List Entry) → behind_a
 behind_all_with v c [] = refl
 behind_all_with v c (e ∷ es) = ap (λ (d : Context). behind_all d (map (entry_with_literals v) es)) (behind_with v c e) ∙ behind_all_with v (behind c e) es
 
-misplaced_with : (v : ℕ → ℕ) (c : Context) (i : Item) → is_misplaced c (says_with_literals v i) ≡ is_misplaced c i
-misplaced_with v c i =
+misplaced_with : (v : ℕ → ℕ) (c : Context) (label : Option ℕ) (i : Item) → is_misplaced c label (says_with_literals v i) ≡ is_misplaced c label i
+misplaced_with v c label i =
     let p = rank_with v i in
     let l = lacks_if_with v c.blocks i in
     let t = late_with v c.behind_do i in
     let s = saves_list_with v i in
     let w = saves_without_with v i in
-    λ j. is_out_of_order c.phase (p j) || l j || t j || ((s j && c.saves_everything) || (w j && (c.saves_names || c.saves_everything)))
+    let d = lacks_do_with v c.blocks label i in
+    λ j. is_out_of_order c.phase (p j) || l j || t j || ((s j && c.saves_everything) || (w j && (c.saves_names || c.saves_everything))) || d j
 
-breaks_with : (v : ℕ → ℕ) (c : Context) (r : Reading) → breaks_syntax c (reading_with_literals v r) ≡ breaks_syntax c r
-breaks_with v c (says i) = let m = misplaced_with v c i in λ j. not false && (is_behind_end c || false || m j)
-breaks_with v c outside_profile = refl
-breaks_with v c no_form = refl
+breaks_with : (v : ℕ → ℕ) (c : Context) (label : Option ℕ) (r : Reading) → breaks_syntax c label (reading_with_literals v r) ≡ breaks_syntax c label r
+breaks_with v c label (says i) = let m = misplaced_with v c label i in λ j. not false && (is_behind_end c || false || m j)
+breaks_with v c label outside_profile = refl
+breaks_with v c label no_form = refl
 
 outside_with : (v : ℕ → ℕ) (r : Reading) → is_left_out (reading_with_literals v r) ≡ is_left_out r
 outside_with v (says i) = refl
@@ -111,7 +111,7 @@ at_statement_with : (saved : List (List ℕ)) (c : Context) (e : Entry) (rest : 
 at_statement_with saved c e rest =
     let v = saturated in
     let a = directives_with v c e in
-    let b = breaks_with v c e.reading in
+    let b = breaks_with v c e.statement.label e.reading in
     let o = outside_with v e.reading in
     let l = where_with v (leaves_open c.blocks) (leaves_with v c.blocks) e.reading in
     let t = ends_with v c e.statement.label e.reading in

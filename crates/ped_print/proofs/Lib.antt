@@ -1,2 +1,4 @@
+pub mod Begins
 pub mod Nests
 pub mod Pieces
+pub mod Sides

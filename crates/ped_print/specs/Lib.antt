@@ -1,4 +1,3 @@
-pub mod Counting
 pub mod Lengths
 pub mod Places
 pub mod PrintedLines

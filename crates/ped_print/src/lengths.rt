@@ -6,7 +6,7 @@ ghost use Rattle.std.specs.Prelude.{◌≡◌, ◌+◌, ◌-◌, ◌*◌, ◌^�
 ghost use Rattle.std.specs.List.{flat_map, join_by};
 ghost use Rattle.std.specs.Fmt.{decimal};
 ghost use Rattle.ped_tree.specs.Tree;
-ghost use Rattle.ped_tree.specs.Printing.{alone, whole, expr_text, exprs_text, value_text, cond_text, own_text, do_text, do_word, step_text, label_text, item_text, constant_text, doubled, names_text, private_text, decl_text, declarator_text, dimensions_text, bound_text, parameter_text, printed_length};
+ghost use Rattle.ped_tree.specs.Printing.{alone, whole, expr_text, exprs_text, value_text, cond_text, own_text, do_text, do_word, step_text, item_text, constant_text, doubled, names_text, private_text, decl_text, declarator_text, dimensions_text, bound_text, parameter_text, printed_length};
 ghost use Rattle.ped_tree.specs.Views.{expr_tree, pack_exprs, cond_tree, item_tree, head, stmt_tree, decl_tree, declarator_tree, bound_tree, value_tree};
 ghost use Rattle.ped_print.specs.Lengths.{limited};
 ghost use Rattle.ped_print.specs.Places.{place_of};
@@ -19,17 +19,10 @@ use itoa::Buffer;
 use ped_base::Name;
 use ped_tree::{Bound, Cond, Decl, Declarator, Expr, PrintItem, Stmt};
 
-/// The printed length of a statement by itself; a DO counts with the label 10. The indentation doesn't count. It
-/// takes no memory; a length that has no room is the greatest number.
+/// The printed length of a statement by itself. The indentation doesn't count. It takes no memory; a length that has
+/// no room is the greatest number.
 pub fn length(statement: &Stmt) -> usize
-    ensures { result ≡ min (printed_length (stmt_tree statement.now)) (2 ^ 64 - 1) }
-{
-    own_length(0, statement)
-}
-
-/// The printed length of a statement by itself, where so many DO loops begin before it.
-pub fn own_length(before: u64, statement: &Stmt) -> usize
-    ensures { result ≡ limited (length (own_text before (stmt_tree statement.now))) }
+    ensures { result ≡ limited (printed_length (stmt_tree statement.now)) }
 {
     match statement {
         Stmt::Assign { left, right } => {
@@ -37,7 +30,6 @@ pub fn own_length(before: u64, statement: &Stmt) -> usize
         }
         Stmt::If { condition, .. } => if_length(condition),
         Stmt::Do(head) => do_length(
-            before,
             &head.variable,
             &head.first,
             &head.last,
@@ -62,20 +54,16 @@ pub fn if_length(condition: &Cond) -> usize
     )
 }
 
-/// The length of a DO statement with the label of the DO behind so many others.
-pub fn do_length(
-    before: u64,
-    variable: &Name,
-    first: &Expr,
-    last: &Expr,
-    step: &Expr,
-    parallel: bool,
-) -> usize
-    ensures { result ≡ limited (length (do_text (label_text before)
+/// The length of a DO statement.
+pub fn do_length(variable: &Name, first: &Expr, last: &Expr, step: &Expr, parallel: bool) -> usize
+    ensures { result ≡ limited (length (do_text
         (head variable.now first.now last.now step.now parallel [] []))) }
 {
-    let opening = sum(do_word_length(parallel), label_length(before), b" ".len());
-    let left = sum(opening, variable.as_bytes().len(), b" = ".len());
+    let left = sum(
+        do_word_length(parallel),
+        variable.as_bytes().len(),
+        b" = ".len(),
+    );
     let bounds = sum(value_length(first), b", ".len(), value_length(last));
     sum(left, bounds, step_length(step))
 }
@@ -114,14 +102,6 @@ fn sum(first: usize, second: usize, third: usize) -> usize
     ensures { result ≡ limited (first + second + third) }
 {
     first.saturating_add(second).saturating_add(third)
-}
-
-/// How many digits the label of the DO behind so many others has.
-fn label_length(before: u64) -> usize
-    ensures { result ≡ limited (length (label_text before)) }
-{
-    let mut buffer = Buffer::new();
-    buffer.format(10 * (u128::from(before) + 1)).len()
 }
 
 /// The length of DO or PARALLEL DO with the blank behind it.

@@ -1,10 +1,12 @@
-//! Programs printed in normal form: the printed text, the source pane and the printed length of a
-//! statement, each exactly its definition in `specs/` of ped_tree.
+//! Programs printed in normal form: the printed text, the source pane, the printed length of a
+//! statement, and how many statements begin on lines of it, each exactly its definition in `specs/` of ped_tree.
 #![tactic(auto)]
 
 mod conditions;
+mod counts;
 mod declarations;
 mod expressions;
+mod laws;
 mod lengths;
 mod lines;
 mod nesting;
@@ -12,7 +14,7 @@ mod pane;
 mod programs;
 mod statements;
 
-pub use lengths::{
-    decl_length, do_length, if_length, length, own_length, private_length, save_length,
-};
+pub use counts::{BegunStatements, begun};
+pub use laws::statements_begin_once;
+pub use lengths::{decl_length, do_length, if_length, length, private_length, save_length};
 pub use programs::{print, source_pane};

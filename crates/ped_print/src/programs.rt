@@ -10,7 +10,7 @@ ghost use Rattle.ped_print.specs.PrintedLines.{line_of};
 
 use crate::declarations::{is_remark, push_decl};
 use crate::lines::{Line, push_plain, push_text};
-use crate::nesting::{Numbers, push_statements, push_words};
+use crate::nesting::{push_statements, push_words};
 use crate::pane::push_pane;
 use ped_base::{Bytes, NoMemory};
 use ped_tree::{Decl, Program};
@@ -18,7 +18,7 @@ use std::alloc::Global;
 
 /// The printed text of a program, in the fixed form of ANSI X3.9-1978, section 3: one statement a
 /// line with its continuation lines, two blanks of indentation for each DO and IF round it, each DO
-/// ended by a CONTINUE of its own.
+/// ended by an END DO of its own.
 pub fn print(alloc: Global, program: &Program) -> Result<Bytes, NoMemory>
     ensures { IfOk result (λ text. text ≡ program_text (program_tree program.now)) }
 {
@@ -51,17 +51,13 @@ fn push_texts(out: &mut Bytes, lines: &[Line]) -> Result<(), NoMemory>
 }
 
 /// The lines of a program.
-fn program_lines(alloc: Global, program: &Program) -> Result<Vec<Line>, NoMemory>
+pub(crate) fn program_lines(alloc: Global, program: &Program) -> Result<Vec<Line>, NoMemory>
     ensures { IfOk result (λ lines. map line_of lines.items
         ≡ Printing.program_lines (program_tree program.now)) }
 {
     let mut lines = Vec::new(alloc);
     push_decls(alloc, &mut lines, &program.decls)?;
-    let numbers = Numbers {
-        statements: 0,
-        loops: 0,
-    };
-    push_statements(alloc, &mut lines, 0, numbers, &program.body)?;
+    push_statements(alloc, &mut lines, 0, 0, &program.body)?;
     push_words(alloc, &mut lines, 0, b"END")?;
     Ok(lines)
 }

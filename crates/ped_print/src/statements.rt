@@ -3,19 +3,18 @@
 
 ghost use Rattle.std.specs.Prelude.{◌≡◌, ◌++◌, map, codes, OnOk};
 ghost use Rattle.std.specs.List.{flat_map};
-ghost use Rattle.ped_tree.specs.Printing.{own_text, do_text, do_word, step_text, label_text, private_text, item_text, constant_text, doubled, value_text, cond_text, whole};
+ghost use Rattle.ped_tree.specs.Printing.{own_text, do_text, do_word, step_text, private_text, item_text, constant_text, doubled, value_text, cond_text, whole};
 ghost use Rattle.ped_tree.specs.Views.{cond_tree, expr_tree, item_tree, head, stmt_tree};
 
 use crate::conditions::{Standing, push_cond};
 use crate::declarations::push_names;
 use crate::expressions::{is_one, push_value};
-use itoa::Buffer;
 use ped_base::{Bytes, Name, NoMemory};
 use ped_tree::{Cond, Do, Expr, PrintItem, Stmt};
 
-/// Adds a statement by itself, where so many DO loops begin before it.
-pub fn push_own(out: &mut Bytes, before: u64, statement: &Stmt) -> Result<(), NoMemory>
-    ensures { OnOk result (out.new ≡ out.old ++ own_text before (stmt_tree statement.now)) }
+/// Adds a statement by itself.
+pub fn push_own(out: &mut Bytes, statement: &Stmt) -> Result<(), NoMemory>
+    ensures { OnOk result (out.new ≡ out.old ++ own_text (stmt_tree statement.now)) }
 {
     match statement {
         Stmt::Assign { left, right } => {
@@ -23,7 +22,7 @@ pub fn push_own(out: &mut Bytes, before: u64, statement: &Stmt) -> Result<(), No
             push_behind(out, b" = ", right)
         }
         Stmt::If { condition, .. } => push_if(out, condition),
-        Stmt::Do(head) => push_do(out, before, head),
+        Stmt::Do(head) => push_do(out, head),
         Stmt::Print(items) => {
             out.extend_from_slice(b"PRINT *")?;
             push_items(out, items)
@@ -57,26 +56,17 @@ fn push_if(out: &mut Bytes, condition: &Cond) -> Result<(), NoMemory>
     out.extend_from_slice(b") THEN")
 }
 
-/// Adds a DO statement with the label of the DO behind so many others.
-fn push_do(out: &mut Bytes, before: u64, d: &Do) -> Result<(), NoMemory>
+/// Adds a DO statement.
+fn push_do(out: &mut Bytes, d: &Do) -> Result<(), NoMemory>
     ensures { OnOk result (out.new ≡ out.old
-        ++ do_text (label_text before)
+        ++ do_text
         (head d.now.variable d.now.first d.now.last d.now.step d.now.parallel d.now.private d.now.rejected)) }
 {
     push_do_word(out, d.parallel)?;
-    push_label(out, before)?;
-    push_variable(out, &d.variable)?;
+    out.extend_from_slice(d.variable.as_bytes())?;
     push_behind(out, b" = ", &d.first)?;
     push_behind(out, b", ", &d.last)?;
     push_step(out, &d.step)
-}
-
-/// Adds a blank, and the variable of a DO behind it.
-fn push_variable(out: &mut Bytes, variable: &Name) -> Result<(), NoMemory>
-    ensures { OnOk result (out.new ≡ out.old ++ codes " " ++ variable.now) }
-{
-    out.push(b' ')?;
-    out.extend_from_slice(variable.as_bytes())
 }
 
 /// Adds DO or PARALLEL DO, with a blank behind it.
@@ -88,14 +78,6 @@ fn push_do_word(out: &mut Bytes, parallel: bool) -> Result<(), NoMemory>
     } else {
         out.extend_from_slice(b"DO ")
     }
-}
-
-/// Adds the label of the DO behind so many others: 10, 20, 30 and so on.
-pub fn push_label(out: &mut Bytes, before: u64) -> Result<(), NoMemory>
-    ensures { OnOk result (out.new ≡ out.old ++ label_text before) }
-{
-    let mut buffer = Buffer::new();
-    out.extend_from_slice(buffer.format(10 * (u128::from(before) + 1)).as_bytes())
 }
 
 /// Adds an increment other than 1, behind a comma.

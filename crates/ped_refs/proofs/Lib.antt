@@ -1,3 +1,4 @@
+pub mod Ascending
 pub mod Expressions
 pub mod StatementParts
 pub mod SameReferences

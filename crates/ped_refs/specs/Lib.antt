@@ -8,3 +8,4 @@ pub mod Groups
 pub mod Tallies
 pub mod Grouping
 pub mod Sizes
+pub mod TextPlaces

@@ -6,6 +6,7 @@ mod accesses;
 mod constants;
 mod counting;
 mod groups;
+mod laws;
 mod listing;
 mod loops;
 mod occurring;
@@ -15,6 +16,7 @@ pub mod sizes;
 mod surroundings;
 
 pub use counting::{MOST_PAIRS, first_beyond_limit, pairs, within_limit};
+pub use laws::{pairs_ascend, references_ascend};
 pub use listing::refs;
 pub use loops::Loop;
 pub use occurring::{Occurrence, occurrences};

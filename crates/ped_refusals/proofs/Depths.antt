@@ -1,8 +1,8 @@
 -- How deep blocks stand behind a statement, and how many there are.
-use Rattle.std.proofs.Common.{ℕ, ◌+◌, ◌≤◌, Bool, true, false, List, [], ◌∷◌, Option, Some, None, if◌then◌else◌, arith}
+use Rattle.std.proofs.Common.{ℕ, ◌+◌, ◌≤◌, Bool, true, false, List, [], ◌∷◌, Option, Some, None, is_none, if◌then◌else◌, arith}
 use Rattle.ped_tree.specs.Grammar.Statement.{Statement}
-use Rattle.ped_tree.specs.Grammar.Items.{Item, declares, saves_all, does, continues, logical_if, block_if, else_if, else_line, end_if, begins_do, keeps_private, ends_program, Reading, says, outside_profile, no_form, Entry}
-use Rattle.ped_tree.specs.Grammar.Contexts.{Block, in_then, in_else, in_do, Context, has_do, has_if, is_loop_with, left_by_label, left_by, left_in_if, with_else, with_else_if, without_if, with_private, blocks_behind, is_do, behind}
+use Rattle.ped_tree.specs.Grammar.Items.{Item, declares, saves_all, does, continues, logical_if, block_if, else_if, else_line, end_if, begins_do, ends_do, keeps_private, ends_program, Reading, says, outside_profile, no_form, Entry}
+use Rattle.ped_tree.specs.Grammar.Contexts.{Block, in_then, in_else, in_do, Context, has_do, has_if, is_loop_with, left_by_label, left_by, left_in_if, with_else, with_else_if, without_if, carries_open, without_do, with_private, blocks_behind, behind}
 use Rattle.ped_tree.specs.Grammar.ProgramRefusals.{block_depth}
 
 chosen_less : (b : Bool) (c d : List Block) (n : ℕ) → block_depth c ≤ n → block_depth d ≤ n → block_depth (if b then c else d) ≤ n
@@ -60,6 +60,12 @@ private_less line names (in_then n ∷ c) = omega arith
 private_less line names (in_else n ∷ c) = omega arith
 private_less line names (in_do d ∷ c) = omega arith
 
+without_do_less : (c : List Block) → block_depth (without_do c) ≤ block_depth c
+without_do_less [] = omega arith
+without_do_less (in_then n ∷ c) = omega arith
+without_do_less (in_else n ∷ c) = omega arith
+without_do_less (in_do d ∷ c) = chosen_less (is_none d.label) c (in_do d ∷ c) (block_depth c + 1) (omega arith) (omega arith)
+
 -- one deeper at most
 item_less : (behind_do : Bool) (s : Statement) (i : Item) (c : List Block) → block_depth (blocks_behind behind_do s i c) ≤ block_depth c + 1
 item_less behind_do s (declares d) c = omega (arith, left_by_less s.label c)
@@ -75,6 +81,11 @@ item_less behind_do s else_line c =
 item_less behind_do s end_if c =
     omega (arith, in_if_less c, without_less (left_in_if c), left_by_less s.label (without_if (left_in_if c)))
 item_less behind_do s (begins_do l h) c = omega (arith, left_by_less s.label c)
+item_less behind_do s ends_do c =
+    let ended = left_by s.label c in
+    let left = without_do c in
+    let less : block_depth (if carries_open s.label c then ended else left) ≤ block_depth c = chosen_less (carries_open s.label c) ended left (block_depth c) (left_by_less s.label c) (without_do_less c) in
+    omega (arith, less)
 item_less behind_do s (keeps_private names) c =
     let kept = with_private s.line names c in
     omega (arith, left_by_less s.label (if behind_do then kept else c), chosen_less behind_do kept c (block_depth c) (private_less s.line names c) (omega arith))
@@ -86,14 +97,3 @@ deeper c e = by e.reading where
   by (says i) = item_less c.behind_do e.statement i c.blocks
   by outside_profile = omega (arith, left_by_less e.statement.label c.blocks)
   by no_form = omega (arith, left_by_less e.statement.label c.blocks)
-
-one_loop : (b : Bool) (n : ℕ) → n + (if b then 1 else 0) ≤ n + 1
-one_loop true n = omega arith
-one_loop false n = omega arith
-
-pub more_loops : (c : Context) (e : Entry) → (behind c e).loops ≤ c.loops + 1
-more_loops c e = by e.reading where
-  by : (r : Reading) → (behind c record { statement = e.statement; reading = r }).loops ≤ c.loops + 1
-  by (says i) = one_loop (is_do i) c.loops
-  by outside_profile = omega arith
-  by no_form = omega arith

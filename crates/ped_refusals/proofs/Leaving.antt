@@ -1,8 +1,9 @@
 -- What a label ends, and what ELSE and END IF end, over blocks as the code keeps them.
-use Rattle.std.proofs.Common.{◌≡◌, ℕ, ◌+◌, ◌<◌, ◌≤◌, ◌==◌, Bool, true, false, ◌||◌, List, [], ◌∷◌, ◌++◌, length, take, drop, get_or, refl, sym, ap, ◌∙◌, if◌then◌else◌}
+use Rattle.std.proofs.Common.{◌≡◌, ℕ, ◌+◌, ◌<◌, ◌≤◌, Bool, true, false, ◌||◌, List, [], ◌∷◌, ◌++◌, length, take, drop, get_or, Some, refl, sym, ap, ◌∙◌, if◌then◌else◌}
 use Rattle.std.proofs.lemmas.List.{take-append-drop, take_more, take_all}
 use Rattle.ped_tree.specs.Grammar.Contexts as plain
 use Rattle.ped_tree.specs.Grammar.Contexts.{in_then, in_else, in_do, has_do, has_if, left_by_label, left_in_if}
+use Rattle.ped_tree.specs.Grammar.BlockForms.{has_label}
 use Rattle.ped_refusals.specs.declared.blocks.Block.{Block}
 use Rattle.ped_refusals.specs.OpenBlocks.{block_of, opened_in, blocks_of}
 use Rattle.ped_refusals.proofs.Opening.{blocks_push}
@@ -23,7 +24,7 @@ neither false b h = (refl, h)
 has_more : (l : ℕ) (b : plain.Block) (c : List plain.Block) → has_do l c ≡ true → has_do l (b ∷ c) ≡ true
 has_more l (in_then n) c h = h
 has_more l (in_else n) c h = h
-has_more l (in_do d) c h = or_true (d.label == l) (has_do l c) h
+has_more l (in_do d) c h = or_true (has_label d.label (Some l)) (has_do l c) h
 
 -- no block has the label
 not_left : (l : ℕ) (c : List plain.Block) → has_do l c ≡ false → left_by_label l c ≡ c
@@ -31,7 +32,7 @@ not_left l [] h = refl
 not_left l (in_then n ∷ c) h = λ i. if h i then left_by_label l c else in_then n ∷ c
 not_left l (in_else n ∷ c) h = λ i. if h i then left_by_label l c else in_else n ∷ c
 not_left l (in_do d ∷ c) h =
-    let p = neither (d.label == l) (has_do l c) h in
+    let p = neither (has_label d.label (Some l)) (has_do l c) h in
     λ i. if p.1 i then left_by_label l c else if p.0 i then c else in_do d ∷ c
 
 -- the innermost block alone has it
@@ -39,7 +40,7 @@ one_left : (l : ℕ) (b : plain.Block) (c : List plain.Block) → has_do l c ≡
 one_left l (in_then n) c h k = absurd (let e : false ≡ true = sym h ∙ k in cc)
 one_left l (in_else n) c h k = absurd (let e : false ≡ true = sym h ∙ k in cc)
 one_left l (in_do d) c h k =
-    let e = first_of_or (d.label == l) (has_do l c) h k in
+    let e = first_of_or (has_label d.label (Some l)) (has_do l c) h k in
     λ i. if h i then left_by_label l c else if e i then c else in_do d ∷ c
 
 -- a block with the label stands round others

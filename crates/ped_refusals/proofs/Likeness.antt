@@ -5,7 +5,7 @@ use Rattle.ped_print.specs.Lengths.{limited}
 use Rattle.ped_base.specs.Lists.{is_among}
 use Rattle.ped_tree.specs.Grammar.LimitNumbers.{most_references, most_statements}
 use Rattle.ped_tree.specs.Grammar.Items.{Item, Reading, says, outside_profile, no_form, Entry}
-use Rattle.ped_tree.specs.Grammar.Contexts.{Block, Context, rank, numbered_in, loops_in, saves_list, saves_without, left_by, blocks_behind, behind, open_variables}
+use Rattle.ped_tree.specs.Grammar.Contexts.{Block, Context, rank, numbered_in, saves_list, saves_without, left_by, blocks_behind, behind, open_variables}
 use Rattle.ped_tree.specs.Grammar.Occurrences.{constants_of}
 use Rattle.ped_tree.specs.Grammar.Refusal.{Finding, Syntax, NotInProfile, OpenBlock, BadTerminal, IndexAssigned, StopPlace, Limit, refused_if}
 use Rattle.ped_tree.specs.Grammar.ProgramRefusals.{at_directives, at_private, at_statement, breaks_syntax, is_left_out, where_it_says, leaves_open, ends_badly, assigns_index, stops, loop_depth, passes_limit, is_too_large, are_too_many, is_too_deep, has_many_references, statements_of_item, is_too_long, private_behind}
@@ -13,14 +13,13 @@ use Rattle.ped_limits.proofs.SameNames.{among_append, same_accesses}
 use Rattle.ped_refusals.specs.OpenContexts.{IsLike}
 
 pub like_itself : (c : Context) → IsLike c c
-like_itself c = record { phase = refl; blocks = refl; statements = refl; loops = refl; constants = λ x. refl; saves_names = refl; saves_everything = refl; behind_do = refl }
+like_itself c = record { phase = refl; blocks = refl; statements = refl; constants = λ x. refl; saves_names = refl; saves_everything = refl; behind_do = refl }
 
 pub like_through : (c d e : Context) → IsLike c d → IsLike d e → IsLike c e
 like_through c d e h k = record {
   phase = h.phase ∙ k.phase;
   blocks = h.blocks ∙ k.blocks;
   statements = h.statements ∙ k.statements;
-  loops = h.loops ∙ k.loops;
   constants = λ x. h.constants x ∙ k.constants x;
   saves_names = h.saves_names ∙ k.saves_names;
   saves_everything = h.saves_everything ∙ k.saves_everything;
@@ -38,14 +37,13 @@ behind_like c d e h = by e.reading where
     phase = ap (λ (n : ℕ). max n (rank i)) h.phase;
     blocks = λ j. blocks_behind (h.behind_do j) e.statement i (h.blocks j);
     statements = limited_more c.statements d.statements (numbered_in i) h.statements;
-    loops = ap (λ (n : ℕ). n + loops_in i) h.loops;
     constants = λ x. among_append x c.constants (constants_of i) ∙ ap (λ (b : Bool). b || is_among x (constants_of i)) (h.constants x) ∙ sym (among_append x d.constants (constants_of i));
     saves_names = ap (λ (b : Bool). b || saves_list i) h.saves_names;
     saves_everything = ap (λ (b : Bool). b || saves_without i) h.saves_everything;
     behind_do = refl;
   }
-  by outside_profile = record { phase = h.phase; blocks = ap (left_by e.statement.label) h.blocks; statements = h.statements; loops = h.loops; constants = h.constants; saves_names = h.saves_names; saves_everything = h.saves_everything; behind_do = refl }
-  by no_form = record { phase = h.phase; blocks = ap (left_by e.statement.label) h.blocks; statements = h.statements; loops = h.loops; constants = h.constants; saves_names = h.saves_names; saves_everything = h.saves_everything; behind_do = refl }
+  by outside_profile = record { phase = h.phase; blocks = ap (left_by e.statement.label) h.blocks; statements = h.statements; constants = h.constants; saves_names = h.saves_names; saves_everything = h.saves_everything; behind_do = refl }
+  by no_form = record { phase = h.phase; blocks = ap (left_by e.statement.label) h.blocks; statements = h.statements; constants = h.constants; saves_names = h.saves_names; saves_everything = h.saves_everything; behind_do = refl }
 
 many_like : (s t n : ℕ) → limited s ≡ limited t → nat_lt 0 n && nat_lt most_statements (t + n) ≡ nat_lt 0 n && nat_lt most_statements (s + n)
 many_like s t n h = grind arith
@@ -61,7 +59,7 @@ limits_like saved c d rest i h =
     || many j
     || is_too_deep (sym h.blocks j) i
     || references j
-    || is_too_long saved (sym h.loops j) i
+    || is_too_long saved i
 
 readings_like : (saved : List (List ℕ)) (c d : Context) (rest : List Entry) (r : Reading) → IsLike c d → where_it_says (passes_limit saved d rest) r ≡ where_it_says (passes_limit saved c rest) r
 readings_like saved c d rest (says i) h = limits_like saved c d rest i h
@@ -77,7 +75,6 @@ mixed_is c d h = λ i. record {
   phase = sym h.phase i;
   blocks = sym h.blocks i;
   statements = c.statements;
-  loops = sym h.loops i;
   constants = c.constants;
   saves_names = sym h.saves_names i;
   saves_everything = sym h.saves_everything i;
@@ -88,7 +85,7 @@ mixed_is c d h = λ i. record {
 abbrev standing_at : Bool → Context → Entry → List Finding
 standing_at passes c e =
     at_directives c e
-    ++ refused_if (breaks_syntax c e.reading) Syntax e.statement.line
+    ++ refused_if (breaks_syntax c e.statement.label e.reading) Syntax e.statement.line
     ++ refused_if (is_left_out e.reading) NotInProfile e.statement.line
     ++ refused_if (where_it_says (leaves_open c.blocks) e.reading) OpenBlock e.statement.line
     ++ refused_if (ends_badly c.blocks e.statement.label e.reading) BadTerminal e.statement.line

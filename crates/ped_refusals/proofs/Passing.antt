@@ -57,7 +57,7 @@ pub statement_later : (f : Finding) (saved : List (List ℕ)) (c : Context) (e :
 statement_later f saved c e rest h k =
     let line = e.statement.line in
     let first : List Finding = at_directives c e in
-    let second : List Finding = first ++ refused_if (breaks_syntax c e.reading) Syntax line in
+    let second : List Finding = first ++ refused_if (breaks_syntax c e.statement.label e.reading) Syntax line in
     let third : List Finding = second ++ refused_if (is_left_out e.reading) NotInProfile line in
     let fourth : List Finding = third ++ refused_if (where_it_says (leaves_open c.blocks) e.reading) OpenBlock line in
     let fifth : List Finding = fourth ++ refused_if (ends_badly c.blocks e.statement.label e.reading) BadTerminal line in
@@ -69,7 +69,7 @@ statement_later f saved c e rest h k =
     ∙ later_adds_nothing f fourth BadTerminal line (ends_badly c.blocks e.statement.label e.reading) h
     ∙ later_adds_nothing f third OpenBlock line (where_it_says (leaves_open c.blocks) e.reading) h
     ∙ later_adds_nothing f second NotInProfile line (is_left_out e.reading) h
-    ∙ later_adds_nothing f first Syntax line (breaks_syntax c e.reading) h
+    ∙ later_adds_nothing f first Syntax line (breaks_syntax c e.statement.label e.reading) h
     ∙ directives_later (is_bad_directive c e) f e.statement.directives k in
     later_adds_nothing f eighth Limit line (where_it_says (passes_limit saved c rest) e.reading) h
     ∙ later_adds_nothing f seventh StopPlace line (where_it_says stops e.reading && nat_lt 0 (loop_depth c.blocks)) h

@@ -9,7 +9,7 @@ use Rattle.ped_tree.specs.Grammar.Items.{Entry}
 use Rattle.ped_tree.specs.Grammar.Contexts.{Context, at_start, behind, behind_all}
 use Rattle.ped_tree.specs.Grammar.ProgramRefusals.{block_depth, at_statement, at_statements, at_end, program_refusals}
 use Rattle.ped_refusals.specs.OpenContexts.{IsLike}
-use Rattle.ped_refusals.proofs.Depths.{deeper, more_loops}
+use Rattle.ped_refusals.proofs.Depths.{deeper}
 use Rattle.ped_refusals.proofs.Likeness.{like_itself, like_through, behind_like, statement_like}
 
 pub none_left : {X : Type 0} → (xs : List X) → length xs ≡ 0 → xs ≡ []
@@ -23,7 +23,6 @@ pub record Reached (saved : List (List ℕ)) (all : List Entry) (code : Context)
   pub first : earliest found (at_statements saved context left) ≡ earliest None (at_statements saved at_start all)
   pub last : behind_all context left ≡ behind_all at_start all
   pub depth : block_depth context.blocks + length left ≤ length all
-  pub loops : context.loops + length left ≤ length all
 
 -- at the first statement
 pub reached_start : (saved : List (List ℕ)) (all : List Entry) (code : Context) → code ≡ at_start → Reached saved all code None all
@@ -33,7 +32,6 @@ reached_start saved all code h = record {
   first = refl;
   last = refl;
   depth = omega arith;
-  loops = omega arith;
 }
 
 -- one statement more
@@ -45,9 +43,7 @@ reached_more saved all code more found next e rest left at r h k =
     let last : behind_all c (e ∷ rest) ≡ behind_all at_start all = ap (behind_all c) (sym at) ∙ r.last in
     let many : length left ≡ length rest + 1 = omega (arith, ap length at) in
     let depths : block_depth (behind c e).blocks ≤ block_depth c.blocks + 1 = deeper c e in
-    let loops_more : (behind c e).loops ≤ c.loops + 1 = more_loops c e in
     let depth_left : block_depth c.blocks + length left ≤ length all = r.depth in
-    let loops_left : c.loops + length left ≤ length all = r.loops in
     record {
       context = behind c e;
       like = like_through (behind c e) (behind code e) more (behind_like c code e r.like) k;
@@ -55,7 +51,6 @@ reached_more saved all code more found next e rest left at r h k =
           ∙ sym (earliest_append found (at_statement saved c e rest) (at_statements saved (behind c e) rest)) ∙ first;
       last = last;
       depth = omega arith;
-      loops = omega arith;
     }
 
 -- no END has come where none has come in a context that is alike

@@ -12,7 +12,6 @@ context_of c = record {
   phase = c.phase;
   blocks = blocks_of c.blocks.items;
   statements = c.statements;
-  loops = c.loops;
   constants = c.constants;
   saves_names = c.saves_names;
   saves_everything = c.saves_everything;
@@ -24,7 +23,6 @@ pub record IsLike (c d : plain.Context) : Type 0 where
   pub phase : c.phase ≡ d.phase
   pub blocks : c.blocks ≡ d.blocks
   pub statements : limited c.statements ≡ limited d.statements
-  pub loops : c.loops ≡ d.loops
   pub constants : (x : List ℕ) → is_among x c.constants ≡ is_among x d.constants
   pub saves_names : c.saves_names ≡ d.saves_names
   pub saves_everything : c.saves_everything ≡ d.saves_everything

@@ -19,8 +19,8 @@ use std::alloc::Global;
 /// A DO loop that is open.
 #[derive(Drop)]
 pub struct OpenLoop {
-    /// The label of the statement that ends it.
-    pub label: u32,
+    /// The label of the statement that ends it, none where an END DO ends it.
+    pub label: Option<u32>,
     /// The DO variable.
     pub variable: Name,
     /// The names of its PRIVATE statement, none before that.
@@ -91,8 +91,28 @@ fn is_loop_with(block: &Block, label: u32) -> bool
     ensures { (outer : List PlainBlock) → Contexts.has_do label (block_of block.now ∷ outer) ≡ (result || Contexts.has_do label outer) }
 {
     match block {
-        Block::Loop(d) => d.label == label,
+        Block::Loop(d) => d.label == Some(label),
         Block::Then(_) | Block::Else(_) => false,
+    }
+}
+
+/// Whether a DO with the label of a statement is open.
+pub fn carries_open(blocks: &[Block], label: Option<u32>) -> bool
+    ensures { result ≡ Contexts.carries_open label (blocks_of blocks.now) }
+{
+    match label {
+        Some(label) => has_do(blocks, label),
+        None => false,
+    }
+}
+
+/// Whether the innermost block is a DO without a label.
+pub fn is_in_bare_do(blocks: &[Block]) -> bool
+    ensures { result ≡ Contexts.is_in_bare_do (blocks_of blocks.now) }
+{
+    match split_innermost(blocks) {
+        Some((Block::Loop(d), _)) => d.label.is_none(),
+        _ => false,
     }
 }
 
@@ -206,7 +226,7 @@ fn closes(block: &Block, label: u32) -> bool
     ensures { (outer : List PlainBlock) → Spec.closed label (block_of block.now ∷ outer) ≡ (if result then Spec.closed label outer else block_of block.now ∷ outer) }
 {
     match block {
-        Block::Loop(d) => d.label == label,
+        Block::Loop(d) => d.label == Some(label),
         Block::Then(_) | Block::Else(_) => false,
     }
 }
@@ -258,6 +278,10 @@ pub fn take_on(
         Item::Do(d) => {
             leave_by(blocks, statement.label);
             open_block(blocks, begun(alloc, d))
+        }
+        Item::EndDo => {
+            end_do(blocks, statement.label);
+            Ok(())
         }
         Item::Declaration(_)
         | Item::SaveAll
@@ -411,6 +435,19 @@ fn end_if(blocks: &mut Vec<Block>)
 {
     leave_in_if(blocks);
     if !is_in_do(blocks) {
+        drop(close_innermost(blocks));
+    }
+}
+
+/// END DO ends what its label ends, where a DO with that label is open; else the innermost block, where
+/// that is a DO without a label.
+fn end_do(blocks: &mut Vec<Block>, label: Option<u32>)
+    ensures { let before = blocks_of blocks.old.items in
+        blocks_of blocks.new.items ≡ (if Contexts.carries_open label before then Contexts.left_by label before else Contexts.without_do before) }
+{
+    if carries_open(blocks, label) {
+        leave_by(blocks, label);
+    } else if is_in_bare_do(blocks) {
         drop(close_innermost(blocks));
     }
 }

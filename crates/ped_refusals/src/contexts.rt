@@ -29,8 +29,6 @@ pub struct Context {
     pub blocks: Vec<Block>,
     /// The numbered statements before it.
     pub statements: usize,
-    /// The DO loops that begin before it.
-    pub loops: usize,
     /// The named constants.
     pub constants: NameSet,
     /// Whether a SAVE with a list has come.
@@ -50,7 +48,6 @@ impl Context {
             phase: 0,
             blocks: Vec::new(alloc),
             statements: 0,
-            loops: 0,
             constants: NameSet::new(alloc),
             saves_names: false,
             saves_everything: false,
@@ -60,8 +57,7 @@ impl Context {
 
     /// The context behind a statement.
     pub fn behind(self, alloc: Global, entry: &Entry) -> Result<Context, NoMemory>
-        requires blocks { block_depth (blocks_of self.blocks.items) + 1 < 2 ^ 64 }
-        requires loops { self.loops + 1 < 2 ^ 64 }
+        requires { block_depth (blocks_of self.blocks.items) + 1 < 2 ^ 64 }
         ensures { IfOk result (λ c. IsLike (Spec.behind (context_of self) (entry_of entry.now)) (context_of c)) }
     {
         match &entry.reading {
@@ -82,7 +78,6 @@ impl Context {
             phase: self.phase,
             blocks,
             statements: self.statements,
-            loops: self.loops,
             constants: self.constants,
             saves_names: self.saves_names,
             saves_everything: self.saves_everything,
@@ -96,8 +91,7 @@ impl Context {
         statement: &Statement,
         item: &Item,
     ) -> Result<Context, NoMemory>
-        requires blocks { block_depth (blocks_of self.blocks.items) + 1 < 2 ^ 64 }
-        requires loops { self.loops + 1 < 2 ^ 64 }
+        requires { block_depth (blocks_of self.blocks.items) + 1 < 2 ^ 64 }
         ensures { IfOk result (λ c. IsLike (Spec.behind_item (context_of self) (statement_of statement.now) (item_of item.now)) (context_of c)) }
     {
         let mut blocks = self.blocks;
@@ -108,7 +102,6 @@ impl Context {
             phase: self.phase.max(rank(item)),
             blocks,
             statements: self.statements.saturating_add(numbered_in(item)),
-            loops: self.loops + loops_in(item),
             constants,
             saves_names: either(self.saves_names, saves_list(item)),
             saves_everything: either(self.saves_everything, saves_without(item)),
@@ -138,6 +131,7 @@ pub fn rank(item: &Item) -> u8
         | Item::Else
         | Item::EndIf
         | Item::Do(_)
+        | Item::EndDo
         | Item::Private(_) => 4,
         Item::End => 5,
     }
@@ -164,15 +158,6 @@ pub fn is_do(item: &Item) -> bool
     match item {
         Item::Do(_) => true,
         _ => false,
-    }
-}
-
-fn loops_in(item: &Item) -> usize
-    ensures { result ≡ Spec.loops_in (item_of item.now) }
-{
-    match item {
-        Item::Do(_) => 1,
-        _ => 0,
     }
 }
 

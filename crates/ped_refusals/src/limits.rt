@@ -2,7 +2,7 @@
 //! how deep they nest, its references, and its printed length.
 
 ghost use Rattle.std.specs.Prelude.{◌≡◌, ◌<◌, ◌^◌, map, nat_lt, length};
-ghost use Rattle.ped_tree.specs.Printing.{own_text, do_text, label_text};
+ghost use Rattle.ped_tree.specs.Printing.{own_text, do_text};
 ghost use Rattle.ped_tree.specs.Views.{stmt_tree};
 ghost use Rattle.ped_print.specs.Lengths.{limited};
 ghost use Rattle.ped_tree.specs.Grammar.Contexts as Contexts;
@@ -23,7 +23,7 @@ use ped_limits::{
     NameSet, cond_references, decl_has_large_literal, do_references, has_eight_dimensions,
     head_has_large_literal, references, statement_count, stmt_has_large_literal,
 };
-use ped_print::{decl_length, do_length, if_length, own_length, private_length, save_length};
+use ped_print::{decl_length, do_length, if_length, length, private_length, save_length};
 use ped_tree::Stmt;
 use ped_tree::grammar::{DoStatement, Entry, Item, StatementReading};
 
@@ -44,7 +44,7 @@ pub fn passes_limit(
         || are_too_many(context.statements, item)
         || is_too_deep(&context.blocks, item)
         || has_many_references(&context.constants, variables, private_behind(rest), item)
-        || is_too_long(saved, context.loops, item)
+        || is_too_long(saved, item)
 }
 
 /// The names of the PRIVATE statement that comes next, none where none does.
@@ -80,8 +80,13 @@ fn is_too_large(item: &Item) -> bool
             cond_has_large_literal(condition) || stmt_has_large_literal(statement)
         }
         Item::Do(d) => head_has_large_literal(&d.first, &d.last, &d.step),
-        Item::SaveAll | Item::Continue | Item::Else | Item::EndIf | Item::Private(_) | Item::End =>
-            false,
+        Item::SaveAll
+        | Item::Continue
+        | Item::Else
+        | Item::EndIf
+        | Item::EndDo
+        | Item::Private(_)
+        | Item::End => false,
     }
 }
 
@@ -106,6 +111,7 @@ pub fn numbered_in(item: &Item) -> usize
         | Item::Continue
         | Item::Else
         | Item::EndIf
+        | Item::EndDo
         | Item::Private(_)
         | Item::End => 0,
     }
@@ -129,6 +135,7 @@ fn is_too_deep(blocks: &[Block], item: &Item) -> bool
         | Item::Continue
         | Item::Else
         | Item::EndIf
+        | Item::EndDo
         | Item::Private(_)
         | Item::End => false,
     }
@@ -160,49 +167,43 @@ fn has_many_references(
         | Item::Continue
         | Item::Else
         | Item::EndIf
+        | Item::EndDo
         | Item::Private(_)
         | Item::End => false,
     }
 }
 
-/// Whether a printed statement is too long, where so many DO loops begin before it.
-fn is_too_long(saved: &[Name], loops: usize, item: &Item) -> bool
-    ensures { result ≡ Spec.is_too_long saved.now loops (item_of item.now) }
+/// Whether a printed statement is too long.
+fn is_too_long(saved: &[Name], item: &Item) -> bool
+    ensures { result ≡ Spec.is_too_long saved.now (item_of item.now) }
 {
     match item {
         Item::Declaration(decl) => decl_length(decl) > MOST_CHARACTERS,
         Item::SaveAll => !saved.is_empty() && save_length(saved) > MOST_CHARACTERS,
-        Item::Simple(statement) => is_statement_too_long(loops, statement),
+        Item::Simple(statement) => is_statement_too_long(statement),
         Item::LogicalIf(condition, None) | Item::BlockIf(condition) | Item::ElseIf(condition) => {
             if_length(condition) > MOST_CHARACTERS
         }
         Item::LogicalIf(condition, Some(statement)) => {
-            if_length(condition) > MOST_CHARACTERS || is_statement_too_long(loops, statement)
+            if_length(condition) > MOST_CHARACTERS || is_statement_too_long(statement)
         }
-        Item::Do(d) => is_do_too_long(loops, d),
+        Item::Do(d) => is_do_too_long(d),
         Item::Private(names) => private_length(names.as_slice()) > MOST_CHARACTERS,
-        Item::Continue | Item::Else | Item::EndIf | Item::End => false,
+        Item::Continue | Item::Else | Item::EndIf | Item::EndDo | Item::End => false,
     }
 }
 
-/// Whether a statement by itself is too long, where so many DO loops begin before it.
-fn is_statement_too_long(loops: usize, statement: &Stmt) -> bool
-    ensures { result ≡ nat_lt most_characters (length (own_text loops (stmt_tree statement.now))) }
+/// Whether a statement by itself is too long.
+fn is_statement_too_long(statement: &Stmt) -> bool
+    ensures { result ≡ nat_lt most_characters (length (own_text (stmt_tree statement.now))) }
 {
-    own_length(loops as u64, statement) > MOST_CHARACTERS
+    length(statement) > MOST_CHARACTERS
 }
 
-/// Whether a DO statement is too long, where so many DO loops begin before it.
-fn is_do_too_long(loops: usize, d: &DoStatement) -> bool
-    ensures { result ≡ nat_lt most_characters (length (do_text (label_text loops) (do_head d.now))) }
+/// Whether a DO statement is too long.
+fn is_do_too_long(d: &DoStatement) -> bool
+    ensures { result ≡ nat_lt most_characters (length (do_text (do_head d.now))) }
 {
-    let length = do_length(
-        loops as u64,
-        &d.variable,
-        &d.first,
-        &d.last,
-        &d.step,
-        d.parallel,
-    );
+    let length = do_length(&d.variable, &d.first, &d.last, &d.step, d.parallel);
     length > MOST_CHARACTERS
 }

@@ -98,7 +98,9 @@ fn add_item(names: &mut NameSet, item: &Item) -> Result<(), NoMemory>
         }
         Item::Do(d) => add_do(names, d),
         Item::Private(private) => add_names(names, private.as_slice()),
-        Item::SaveAll | Item::Continue | Item::Else | Item::EndIf | Item::End => Ok(()),
+        Item::SaveAll | Item::Continue | Item::Else | Item::EndIf | Item::EndDo | Item::End => Ok(
+            (),
+        ),
     }
 }
 

@@ -120,7 +120,7 @@ fn at_statement(
 fn at_places(found: Option<Refusal>, context: &Context, entry: &Entry) -> Option<Refusal>
     ensures { let c = context_of context.now in let e = entry_of entry.now in
         found_of result ≡ earliest (found_of found)
-        (refused_if (Spec.breaks_syntax c e.reading) Syntax e.statement.line
+        (refused_if (Spec.breaks_syntax c e.statement.label e.reading) Syntax e.statement.line
         ++ refused_if (Spec.is_left_out e.reading) NotInProfile e.statement.line
         ++ refused_if (where_it_says (Spec.leaves_open c.blocks) e.reading) OpenBlock e.statement.line
         ++ refused_if (Spec.ends_badly c.blocks e.statement.label e.reading) BadTerminal e.statement.line) }
@@ -128,7 +128,7 @@ fn at_places(found: Option<Refusal>, context: &Context, entry: &Entry) -> Option
     let line = entry.statement.line;
     let found = standing(
         found,
-        breaks_syntax(context, &entry.reading),
+        breaks_syntax(context, entry.statement.label, &entry.reading),
         RefusalKind::Syntax,
         line,
     );

@@ -10,19 +10,23 @@ ghost use Rattle.ped_tree.specs.Grammar.ItemViews.{item_of, reading_of};
 ghost use Rattle.ped_refusals.specs.OpenBlocks.{blocks_of};
 ghost use Rattle.ped_refusals.specs.OpenContexts.{context_of};
 
-use crate::blocks::{Block, has_do, has_if, is_in_block, is_in_do, is_stop, outside, takes_else};
+use crate::blocks::{
+    Block, carries_open, has_do, has_if, is_in_bare_do, is_in_block, is_in_do, is_stop, outside,
+    takes_else,
+};
 use crate::contexts::{Context, rank, saves_list, saves_without};
 use ped_tree::grammar::{Item, StatementReading};
 
-/// Whether the text has no form, or one that may not stand there. A form that the profile leaves out is
-/// refused as that.
-pub fn breaks_syntax(context: &Context, reading: &StatementReading) -> bool
-    ensures { result ≡ Spec.breaks_syntax (context_of context.now) (reading_of reading.now) }
+/// Whether the text has no form, or one that may not stand there, with the label of its statement. A form
+/// that the profile leaves out is refused as that.
+pub fn breaks_syntax(context: &Context, label: Option<u32>, reading: &StatementReading) -> bool
+    ensures { result ≡ Spec.breaks_syntax (context_of context.now) label (reading_of reading.now) }
 {
     match reading {
         StatementReading::OutsideProfile => false,
         StatementReading::NoForm => true,
-        StatementReading::Says(item) => is_behind_end(context) || is_misplaced(context, item),
+        StatementReading::Says(item) => is_behind_end(context)
+            || is_misplaced(context, label, item),
     }
 }
 
@@ -33,13 +37,14 @@ pub fn is_behind_end(context: &Context) -> bool
     context.phase >= 5
 }
 
-fn is_misplaced(context: &Context, item: &Item) -> bool
-    ensures { result ≡ Spec.is_misplaced (context_of context.now) (item_of item.now) }
+fn is_misplaced(context: &Context, label: Option<u32>, item: &Item) -> bool
+    ensures { result ≡ Spec.is_misplaced (context_of context.now) label (item_of item.now) }
 {
     is_out_of_order(context.phase, rank(item))
         || lacks_if(&context.blocks, item)
         || is_late_private(context.behind_do, item)
         || saves_again(context, item)
+        || lacks_do(&context.blocks, label, item)
 }
 
 /// PROGRAM and IMPLICIT come once and before what follows them, declarations before executable statements.
@@ -60,6 +65,16 @@ fn lacks_if(blocks: &[Block], item: &Item) -> bool
     match item {
         Item::ElseIf(_) | Item::Else => !takes_else(blocks),
         Item::EndIf => !has_if(blocks),
+        _ => false,
+    }
+}
+
+/// END DO that carries the label of no open DO, where the innermost block isn't a DO without a label.
+fn lacks_do(blocks: &[Block], label: Option<u32>, item: &Item) -> bool
+    ensures { result ≡ Spec.lacks_do (blocks_of blocks.now) label (item_of item.now) }
+{
+    match item {
+        Item::EndDo => !carries_open(blocks, label) && !is_in_bare_do(blocks),
         _ => false,
     }
 }
@@ -121,7 +136,7 @@ fn may_end(reading: &StatementReading) -> bool
 {
     match reading {
         StatementReading::Says(Item::Simple(stmt)) => !is_stop(stmt),
-        StatementReading::Says(Item::Continue | Item::LogicalIf(_, _)) => true,
+        StatementReading::Says(Item::Continue | Item::EndDo | Item::LogicalIf(_, _)) => true,
         _ => false,
     }
 }

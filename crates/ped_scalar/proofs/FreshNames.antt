@@ -1,12 +1,12 @@
 -- Names that don't occur in a program.
-use Rattle.std.proofs.Common.{◌≡◌, ℕ, suc, ◌+◌, ◌-◌, ◌<◌, Bool, true, false, ◌&&◌, List, [], ◌∷◌, ◌++◌, length, Some, None, is_some, refl, ap, arith, if◌then◌else◌}
+use Rattle.std.proofs.Common.{◌≡◌, ℕ, suc, ◌+◌, ◌-◌, ◌^◌, ◌<◌, Bool, true, false, ◌&&◌, List, [], ◌∷◌, ◌++◌, length, Some, None, is_some, refl, ap, arith, if◌then◌else◌}
 use Rattle.std.specs.Prelude.{codes}
 use Rattle.std.specs.List.{list_all}
 use Rattle.std.specs.Fmt.{decimal}
 use Rattle.std.specs.Str.Parse.{AllDigits}
 use Rattle.std.proofs.lemmas.Bool.{le-leb, or_right}
 use Rattle.std.proofs.lemmas.Str.Parse.{digit_from_value}
-use Rattle.std.proofs.lemmas.Fmt.{decimal_is_IsNumeral, length-decimal-le}
+use Rattle.std.proofs.lemmas.Fmt.{decimal_is_IsNumeral_wide, length-decimal-le_wide}
 use Rattle.ped_base.specs.Letters.{is_letter, is_digit, is_alphanumeric, name_of}
 use Rattle.ped_base.specs.Lists.{is_among}
 use Rattle.ped_tree.specs.Tree.{ProgramTree}
@@ -22,8 +22,8 @@ kind_there false k = refl
 pub kind_occurs : (t : ProgramTree) (x : List ℕ) → is_some (kind_in t x) ≡ is_among x (names_of t)
 kind_occurs t x = kind_there (is_among x (names_of t)) (kind_of t x)
 
--- the numbers end at 9999
-pub most_is : most_numbered ≡ 9999
+-- the numbers end with the last of 29 digits
+pub most_is : most_numbered + 1 ≡ 10 ^ 29
 unfolding most_numbered
 most_is = refl
 
@@ -46,9 +46,9 @@ digits_fit (c ∷ cs) all =
     let digit : is_digit c ≡ true = λ i. le-leb 48 c (omega (arith, within)) i && le-leb c 57 (omega (arith, within)) i in
     λ i. or_right (is_letter c) (is_digit c) digit i && digits_fit cs all.1 i
 
--- KX with a number of at most four digits is a name
-pub numbered_name : (n : ℕ) → n < 10000 → name_of (codes "KX" ++ decimal n) ≡ Some (codes "KX" ++ decimal n)
+-- KX with a number of at most 29 digits is a name
+pub numbered_name : (n : ℕ) → n < 10 ^ 29 → name_of (codes "KX" ++ decimal n) ≡ Some (codes "KX" ++ decimal n)
 numbered_name n h =
-    let digits = (decimal_is_IsNumeral n (omega (arith, h))).0.1 in
-    let short = length-decimal-le 4 n (omega arith) (omega (arith, h)) (omega (arith, h)) in
+    let digits = (decimal_is_IsNumeral_wide n (omega (arith, h))).0.1 in
+    let short = length-decimal-le_wide 29 n (omega arith) (omega (arith, h)) (omega (arith, h)) in
     λ i. if digits_fit (decimal n) digits i && le-leb (length (codes "KX" ++ decimal n)) 31 (omega (arith, short)) i then Some (codes "KX" ++ decimal n) else None

@@ -81,11 +81,11 @@ first_free t (x ∷ xs) = if occurs t x then first_free t xs else Some x
 abbrev pub numbered_names : ℕ → ℕ → List (List ℕ)
 numbered_names n count = map (λ k. codes "KX" ++ decimal k) (range_with_len n count)
 
--- the greatest number that a name of six characters has behind KX (this project)
+-- the greatest number that a name of 31 characters has behind KX (this project)
 unfoldable pub most_numbered : ℕ
-most_numbered = 9999
+most_numbered = 99999999999999999999999999999
 
--- the name of the new array: the first of KX1, KX2 and so on that doesn't occur in the program; none where it would have more than six characters (this project)
+-- the name of the new array: the first of KX1, KX2 and so on that doesn't occur in the program; none where it would have more than 31 characters (this project)
 abbrev pub fresh_name : ProgramTree → Option (List ℕ)
 fresh_name t = first_free t (numbered_names 1 most_numbered)
 

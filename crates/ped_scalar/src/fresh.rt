@@ -1,6 +1,6 @@
 //! Names that don't occur in a program.
 
-ghost use Rattle.std.specs.Prelude.{◌≡◌, ◌++◌, ◌<◌, codes, IfOk, IsTrue, map, Some};
+ghost use Rattle.std.specs.Prelude.{◌≡◌, ◌++◌, ◌<◌, ◌^◌, codes, IfOk, IsTrue, map, Some};
 ghost use Rattle.std.specs.Fmt.{decimal};
 ghost use Rattle.std.specs.List.{flat_map};
 ghost use Rattle.ped_base.specs.Lists as Lists;
@@ -15,8 +15,11 @@ use ped_steps::ped_symbols::Symbols;
 use ped_tree::{Decl, Program};
 use std::alloc::Global;
 
+/// The greatest number behind KX in a name of 31 characters.
+const MOST_NUMBERED: u128 = 99_999_999_999_999_999_999_999_999_999;
+
 /// The first of the names KX1, KX2 and so on that doesn't occur in the program, which has these names: none where it would
-/// have more than six characters.
+/// have more than 31 characters.
 pub(crate) fn fresh_name(
     alloc: Global,
     program: &Program,
@@ -25,18 +28,20 @@ pub(crate) fn fresh_name(
     requires { symbols.now ≡ table_of (program_tree program.now) }
     ensures { IfOk result (λ name. name ≡ Spec.fresh_name (program_tree program.now)) }
 {
-    for n in 1..10000 {
+    let mut n = 1;
+    while n <= MOST_NUMBERED {
         let name = numbered(alloc, n)?;
         if !occurs(program, symbols, &name) {
             return Ok(Some(name));
         }
+        n += 1;
     }
     Ok(None)
 }
 
-/// The name KX with a number.
-fn numbered(alloc: Global, n: u32) -> Result<Name, NoMemory>
-    requires { n < 10000 }
+/// The name KX with a number of at most 29 digits.
+fn numbered(alloc: Global, n: u128) -> Result<Name, NoMemory>
+    requires { n < 10 ^ 29 }
     ensures { IfOk result (λ name. name ≡ codes "KX" ++ decimal n) }
 {
     let mut text = Bytes::new(alloc);

@@ -16,7 +16,7 @@ const NUMBER_DIGITS: usize = 9;
 const CHOICE_DIGITS: usize = 18;
 
 /// The most characters that a name has.
-const NAME_CHARACTERS: usize = 6;
+const NAME_CHARACTERS: usize = 31;
 
 /// The first word of a line, and what follows it; none where the line is blank.
 pub fn first_word(line: &[u8]) -> Option<(&[u8], &[u8])>
@@ -98,7 +98,7 @@ pub fn choice(word: &[u8]) -> Option<u64>
     number_within(word, CHOICE_DIGITS)
 }
 
-/// The name that a word writes, in capitals: at most six letters and digits, a letter first.
+/// The name that a word writes, in capitals: at most 31 letters and digits, a letter first.
 pub fn name(word: &[u8]) -> Option<Name>
     ensures { result ≡ Spec.name_of word.now }
 {

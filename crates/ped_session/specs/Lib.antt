@@ -4,6 +4,8 @@ pub use Rattle.ped_graph.specs.ped_refs
 pub use Rattle.ped_valid.specs.ped_symbols
 pub use Rattle.ped_valid
 pub use Rattle.ped_graph
+pub use Rattle.ped_order
+pub use Rattle.ped_scalar
 pub mod Adding
 pub mod Blocks
 pub mod Changing

@@ -1,5 +1,5 @@
 -- Statements: what is read is written so, and what is written so is read.
-use Rattle.std.proofs.Common.{◌≡◌, ℕ, ◌<◌, Bool, true, false, cond, List, [], ◌∷◌, ◌++◌, map, length, Option, Some, None, refl, sym, ap, subst, ◌∙◌, append_assoc, arith, inl, inr}
+use Rattle.std.proofs.Common.{◌≡◌, ℕ, Bool, true, false, cond, List, [], ◌∷◌, ◌++◌, map, Option, Some, None, refl, sym, ap, subst, ◌∙◌, append_assoc, inl, inr}
 use Rattle.std.specs.Prelude.{codes, IsTrue}
 use Rattle.std.specs.List.{list_all, flat_map, join_by}
 use Rattle.std.specs.Cmp.Lexicographic.{same_text}
@@ -9,9 +9,10 @@ use Rattle.ped_tree.specs.Tree as plain
 use Rattle.ped_tree.specs.Tree.{ExprTree, CondTree, StmtTree, StmtTrees, DeclaratorTree}
 use Rattle.ped_tree.specs.Grammar.Words.{is_name}
 use Rattle.ped_base.specs.Lists.{is_same_text}
+use Rattle.ped_tree.specs.Grammar.ExpressionForms.{expr_form_text}
 use Rattle.ped_tree.specs.Grammar.ConditionForms.{CondForm, cond_form_text, cond_form_tree}
 use Rattle.ped_tree.specs.Grammar.Items.{Item, declares, saves_all, logical_if, block_if, else_if, keeps_private}
-use Rattle.ped_tree.specs.Grammar.StatementForms.{are_names, is_label, DeclaratorForm, of_array, ArrayForm, SimpleForm, ControlForm, StatementForm, program, implicit, integer, dimension, parameter, save, save_all, simple, if_simple, if_then, else_if_then, else_alone, end_of_if, do_loop, private, end, declarator_form_text, constant_form_text, simple_form_text, control_form_text, statement_form_text, behind_if, declarator_form_tree, array_form_tree, constant_form_tree, statement_item}
+use Rattle.ped_tree.specs.Grammar.StatementForms.{are_names, DeclaratorForm, of_array, ArrayForm, ConstantForm, a_constant, SimpleForm, LabelForm, ControlForm, StatementForm, program, implicit, integer, dimension, parameter, save, save_all, simple, if_simple, if_then, else_if_then, else_alone, end_of_if, do_loop, end_of_do, private, end, declarator_form_text, constant_form_text, simple_form_text, label_form_text, control_form_text, do_form_word, statement_form_text, behind_if, declarator_form_tree, array_form_tree, constant_form_tree, statement_item}
 use Rattle.ped_statements.specs.declared.keywords.Keyword.{Keyword}
 use Rattle.ped_statements.specs.declared.keywords.Keyword.TheVariants as keyword
 use Rattle.ped_expressions.specs.Scanning.{◌>>=◌, after}
@@ -21,12 +22,13 @@ use Rattle.ped_statements.specs.Listing.{is_end, whole, several}
 use Rattle.ped_statements.specs.StatementReading.{name_at, is_array, declarator_of, value_of, assignment_of, worded_of, simple_of, behind_logical, simply, if_of, else_if_of, do_of, keyword_text, all_keywords, first_keyword, keyword_at, alone, statement_behind, keyword_statement_of, statement_of}
 use Rattle.ped_expressions.proofs.Basics.{some_is, bind_some, stops_or_goes, chosen, guarded, after_is}
 use Rattle.ped_expressions.proofs.Sound.{read_on}
-use Rattle.ped_expressions.proofs.Again.{stops}
+use Rattle.ped_expressions.proofs.Again.{stops, assoc_4}
 use Rattle.ped_expressions.proofs.CondSound.{FoundCond, cond_found}
 use Rattle.ped_expressions.proofs.CondAgain.{cond_again, ors_stop}
-use Rattle.ped_statements.proofs.NoAssignment.{long_word, word_alone, condition_behind}
+use Rattle.ped_statements.proofs.NoEquals.{lacks_equals, both_lack, name_lacks, names_lack, declarators_lack}
+use Rattle.ped_statements.proofs.NoAssignment.{no_equals, condition_behind, value_behind}
 use Rattle.ped_statements.proofs.Several.{first_good, shrinks, several_found, several_again, whole_several_found, whole_several_again}
-use Rattle.ped_statements.proofs.Pieces.{ends_part, name_found, name_back, name_alphanumeric}
+use Rattle.ped_statements.proofs.Pieces.{ends_part, name_found, name_back}
 use Rattle.ped_statements.proofs.Declared.{map_map, all_true, arrays_found, are_arrays, arrays_text, arrays_tree, declarators_shrink, declarator_found, declarator_back, value_found, value_back}
 use Rattle.ped_statements.proofs.Simple.{simple_does, simple_says, simple_behind, simple_found, simple_again, not_simple}
 use Rattle.ped_statements.proofs.Control.{do_found, do_again, do_assigns_nothing}
@@ -99,15 +101,11 @@ else_if_found v ts i h =
 
 -- DO
 
-loop_found : (v : ℕ → ℕ) (ts : List ℕ) (i : Item) → do_of v false ts ≡ Some i → FoundStatement v (codes "DO" ++ ts) i
-loop_found v ts i h =
-    let f = do_found v false ts i h in
-    (do_loop false f.0 f.1 f.2, append_assoc (codes "DO") f.0 (control_form_text f.2) ∙ ap (λ (w : List ℕ). codes "DO" ++ w) f.3, f.4)
-
-parallel_found : (v : ℕ → ℕ) (ts : List ℕ) (i : Item) → do_of v true ts ≡ Some i → FoundStatement v (codes "PARALLELDO" ++ ts) i
-parallel_found v ts i h =
-    let f = do_found v true ts i h in
-    (do_loop true f.0 f.1 f.2, append_assoc (codes "PARALLELDO") f.0 (control_form_text f.2) ∙ ap (λ (w : List ℕ). codes "PARALLELDO" ++ w) f.3, f.4)
+loop_found : (v : ℕ → ℕ) (parallel : Bool) (ts : List ℕ) (i : Item) → do_of v parallel ts ≡ Some i → FoundStatement v (do_form_word parallel ++ ts) i
+loop_found v parallel ts i h =
+    let f = do_found v parallel ts i h in
+    let word = do_form_word parallel in
+    (do_loop parallel f.0 f.1, append_assoc word (label_form_text f.0) (control_form_text f.1) ∙ ap (λ (w : List ℕ). word ++ w) f.2, f.3)
 
 -- lists of declared names, constants and names
 
@@ -193,8 +191,9 @@ behind_found v keyword.If ts i h = if_found v ts i h
 behind_found v keyword.ElseIf ts i h = else_if_found v ts i h
 behind_found v keyword.Else ts i h = alone_found v else_alone (codes "ELSE") ts i refl h
 behind_found v keyword.EndIf ts i h = alone_found v end_of_if (codes "ENDIF") ts i refl h
-behind_found v keyword.Do ts i h = loop_found v ts i h
-behind_found v keyword.ParallelDo ts i h = parallel_found v ts i h
+behind_found v keyword.EndDo ts i h = alone_found v end_of_do (codes "ENDDO") ts i refl h
+behind_found v keyword.Do ts i h = loop_found v false ts i h
+behind_found v keyword.ParallelDo ts i h = loop_found v true ts i h
 behind_found v keyword.Private ts i h = private_found v ts i h
 behind_found v keyword.End ts i h = alone_found v end (codes "END") ts i refl h
 
@@ -220,13 +219,9 @@ by_keyword : (v : ℕ → ℕ) (k : Keyword) (ts rest : List ℕ) (i : Item) →
 unfolding statement_of keyword_statement_of
 by_keyword v k ts rest i s w h = rw (s, w, h) refl
 
--- a text whose first seven characters are letters
-long_text : (v : ℕ → ℕ) (word ts : List ℕ) → list_all is_alphanumeric word ≡ true → 6 < length word → worded_of v (word ++ ts) ≡ None → simple_of v (word ++ ts) ≡ None
-long_text v word ts a l w = not_simple v (word ++ ts) (long_word v word ts a l) w
-
--- a word that ends the text, or that something else follows than = and (
-short_text : (v : ℕ → ℕ) (word : List ℕ) → list_all is_alphanumeric word ≡ true → assignment_of v (word ++ []) ≡ None → worded_of v word ≡ None → simple_of v word ≡ None
-short_text v word a n w = not_simple v word (ap (assignment_of v) (sym (append-nil word)) ∙ n) w
+-- a word, and a text behind it, without =
+word_text : (v : ℕ → ℕ) (word ts : List ℕ) → lacks_equals word ≡ true → lacks_equals ts ≡ true → worded_of v (word ++ ts) ≡ None → simple_of v (word ++ ts) ≡ None
+word_text v word ts a l w = not_simple v (word ++ ts) (no_equals v (word ++ ts) (both_lack word ts a l)) w
 
 name_no_end : (x rest : List ℕ) → is_name x ≡ true → is_end (x ++ rest) ≡ false
 name_no_end [] rest h = absurd cc
@@ -236,25 +231,13 @@ some_names : (names : List (List ℕ)) → IsTrue (are_names names) → is_end (
 some_names [] are = absurd cc
 some_names (x ∷ xs) are = name_no_end x (flat_map (λ y. codes "," ++ y) xs) (first_good (is_name x) (list_all is_name xs) are)
 
-names_text : (x : List ℕ) (xs : List (List ℕ)) → (rest : List ℕ) × (join_by (λ x. x) (codes ",") (x ∷ xs) ≡ x ++ rest) × (stops is_alphanumeric rest ≡ true) × (after (codes "(") rest ≡ None) × ((q : List ℕ) → after (codes "=") rest ≡ Some q → ⊥)
-names_text x [] = ([], refl, refl, refl, λ q h. absurd cc)
-names_text x (y ∷ ys) = (flat_map (λ z. codes "," ++ z) (y ∷ ys), refl, refl, refl, λ q h. absurd cc)
-
-save_assigns_nothing : (v : ℕ → ℕ) (names : List (List ℕ)) → IsTrue (are_names names) → assignment_of v (codes "SAVE" ++ join_by (λ x. x) (codes ",") names) ≡ None
-save_assigns_nothing v [] are = absurd cc
-save_assigns_nothing v (x ∷ xs) are =
-    let t = names_text x xs in
-    let n : is_name x ≡ true = first_good (is_name x) (list_all is_name xs) are in
-    ap (λ (w : List ℕ). assignment_of v (codes "SAVE" ++ w)) t.1
-    ∙ word_alone v (codes "SAVE" ++ x) t.0 (name_alphanumeric x n) t.2 refl t.3 (λ q h. absurd (t.4 q h))
-
 if_closed : (c s : List ℕ) → codes "IF(" ++ c ++ codes ")" ++ s ≡ codes "IF" ++ (codes "(" ++ (c ++ (codes ")" ++ s)))
 if_closed c s = simp append_assoc
 
 no_then : (v : ℕ → ℕ) (s : SimpleForm) → is_same_text (simple_form_text s) (codes "THEN") ≡ false
 unfolding simple_of worded_of
 no_then v s =
-    let none : simple_of v (codes "THEN") ≡ None = not_simple v (codes "THEN") (word_alone v (codes "THEN") [] refl refl refl refl (λ q h. absurd cc)) refl in
+    let none : simple_of v (codes "THEN") ≡ None = not_simple v (codes "THEN") (no_equals v (codes "THEN") refl) refl in
     let go : (b : Bool) → is_same_text (simple_form_text s) (codes "THEN") ≡ b → b ≡ false = λ b. elim b as (λ b. is_same_text (simple_form_text s) (codes "THEN") ≡ b → b ≡ false) [
       | true ↦ λ h. absurd (no_some (simple_does v s) (sym none ∙ ap (simple_of v) (same_words (simple_form_text s) (codes "THEN") h) ∙ simple_again v s))
       | false ↦ λ h. refl
@@ -292,19 +275,25 @@ else_if_read v c =
     ap (statement_of v) (append_assoc (codes "ELSEIF(") (cond_form_text c) (codes ")THEN"))
     ∙ by_keyword v keyword.ElseIf (codes "ELSEIF(" ++ rest) rest _ (not_simple v (codes "ELSEIF(" ++ rest) (condition_behind v (codes "ELSEIF") c (codes ")THEN") refl refl) refl) refl b
 
-do_read : (v : ℕ → ℕ) (parallel : Bool) (label : List ℕ) (is : IsTrue (is_label label)) (c : ControlForm) → statement_of v (statement_form_text (do_loop parallel label is c)) ≡ Some (says_with_literals v (statement_item (do_loop parallel label is c)))
+do_read : (v : ℕ → ℕ) (parallel : Bool) (l : LabelForm) (c : ControlForm) → statement_of v (statement_form_text (do_loop parallel l c)) ≡ Some (says_with_literals v (statement_item (do_loop parallel l c)))
 unfolding statement_behind worded_of
-do_read v true label is c =
-    let rest = label ++ control_form_text c in
-    ap (statement_of v) (append_assoc (codes "PARALLELDO") label (control_form_text c))
-    ∙ by_keyword v keyword.ParallelDo (codes "PARALLELDO" ++ rest) rest _ (not_simple v (codes "PARALLELDO" ++ rest) (do_assigns_nothing v true label c is) refl) refl (do_again v true label c is)
-do_read v false label is c =
-    let rest = label ++ control_form_text c in
-    ap (statement_of v) (append_assoc (codes "DO") label (control_form_text c))
-    ∙ by_keyword v keyword.Do (codes "DO" ++ rest) rest _ (not_simple v (codes "DO" ++ rest) (do_assigns_nothing v false label c is) refl) refl (do_again v false label c is)
+do_read v true l c =
+    let rest = label_form_text l ++ control_form_text c in
+    ap (statement_of v) (append_assoc (codes "PARALLELDO") (label_form_text l) (control_form_text c))
+    ∙ by_keyword v keyword.ParallelDo (codes "PARALLELDO" ++ rest) rest _ (not_simple v (codes "PARALLELDO" ++ rest) (do_assigns_nothing v (codes "PARALLELDO") l c refl (λ t. refl)) refl) refl (do_again v true l c)
+do_read v false l c =
+    let rest = label_form_text l ++ control_form_text c in
+    ap (statement_of v) (append_assoc (codes "DO") (label_form_text l) (control_form_text c))
+    ∙ by_keyword v keyword.Do (codes "DO" ++ rest) rest _ (not_simple v (codes "DO" ++ rest) (do_assigns_nothing v (codes "DO") l c refl (λ t. refl)) refl) refl (do_again v false l c)
 
-closed_word : (v : ℕ → ℕ) (k : Keyword) (word : List ℕ) (i : Item) → list_all is_alphanumeric word ≡ true → assignment_of v (word ++ []) ≡ None → worded_of v word ≡ None → keyword_at word ≡ Some (k, []) → statement_behind v k [] ≡ Some i → statement_of v word ≡ Some i
-closed_word v k word i a n w at h = by_keyword v k word [] i (short_text v word a n w) at h
+closed_word : (v : ℕ → ℕ) (k : Keyword) (word : List ℕ) (i : Item) → lacks_equals word ≡ true → worded_of v word ≡ None → keyword_at word ≡ Some (k, []) → statement_behind v k [] ≡ Some i → statement_of v word ≡ Some i
+closed_word v k word i l w at h = by_keyword v k word [] i (not_simple v word (no_equals v word l) w) at h
+
+parameter_assigns_nothing : (v : ℕ → ℕ) (c : ConstantForm) (cs : List ConstantForm) → assignment_of v (codes "PARAMETER(" ++ (join_by constant_form_text (codes ",") (c ∷ cs) ++ codes ")")) ≡ None
+parameter_assigns_nothing v (a_constant x is e) cs =
+    let others = flat_map (λ c. codes "," ++ constant_form_text c) cs in
+    ap (λ (w : List ℕ). assignment_of v (codes "PARAMETER(" ++ w)) (assoc_4 x (codes "=") (expr_form_text e) others (codes ")"))
+    ∙ value_behind v (codes "PARAMETER") x (expr_form_text e ++ (others ++ codes ")")) refl refl is
 
 dimension_again : (v : ℕ → ℕ) (a : ArrayForm) (rest : List ArrayForm) → statement_of v (statement_form_text (dimension a rest)) ≡ Some (says_with_literals v (statement_item (dimension a rest)))
 unfolding statement_behind worded_of
@@ -316,20 +305,20 @@ dimension_again v a rest =
     sym (map_map (declarator_with_literals v) declarator_form_tree (map of_array (a ∷ rest))) ∙ ap (map (declarator_with_literals v)) (arrays_tree (a ∷ rest)) in
     let b : statement_behind v keyword.Dimension ts ≡ Some (declares (plain.Dimension (map (declarator_with_literals v) (map array_form_tree (a ∷ rest))))) = rw (p, arrays) (ap (λ (ds : List DeclaratorTree). Some (declares (plain.Dimension ds))) same) in
     ap (λ (w : List ℕ). statement_of v (codes "DIMENSION" ++ w)) (sym (arrays_text a rest))
-    ∙ by_keyword v keyword.Dimension (codes "DIMENSION" ++ ts) ts _ (long_text v (codes "DIMENSION") ts refl (omega arith) refl) refl b
+    ∙ by_keyword v keyword.Dimension (codes "DIMENSION" ++ ts) ts _ (word_text v (codes "DIMENSION") ts refl (declarators_lack (of_array a) (map of_array rest)) refl) refl b
 
 -- a statement's text is read as its item
 pub statement_again : (v : ℕ → ℕ) (f : StatementForm) → statement_of v (statement_form_text f) ≡ Some (says_with_literals v (statement_item f))
 unfolding statement_of statement_behind worded_of
-statement_again v (program x is) = by_keyword v keyword.Program (codes "PROGRAM" ++ x) x _ (long_text v (codes "PROGRAM") x refl (omega arith) refl) refl (rw is refl)
-statement_again v implicit = by_keyword v keyword.Implicit (codes "IMPLICITINTEGER(A-Z)") [] _ (long_text v (codes "IMPLICIT") (codes "INTEGER(A-Z)") refl (omega arith) refl) refl refl
+statement_again v (program x is) = by_keyword v keyword.Program (codes "PROGRAM" ++ x) x _ (word_text v (codes "PROGRAM") x refl (name_lacks x is) refl) refl (rw is refl)
+statement_again v implicit = closed_word v keyword.Implicit (codes "IMPLICITINTEGER(A-Z)") _ refl refl refl refl
 statement_again v (integer d ds) =
     let ts = join_by declarator_form_text (codes ",") (d ∷ ds) in
     let s = shrinks declarator_form_text (λ d. declarator_with_literals v (declarator_form_tree d)) (λ d. true) (declarator_of v) (declarator_found v) in
     let p : whole (several (declarator_of v) ts) ≡ Some (map (declarator_with_literals v) (map declarator_form_tree (d ∷ ds))) =
     whole_several_again declarator_form_text (λ d. declarator_with_literals v (declarator_form_tree d)) (λ d. true) ends_part (declarator_of v) s (declarator_back v) (λ r. refl) refl d ds (all_true (d ∷ ds))
     ∙ ap (λ (xs : List DeclaratorTree). Some xs) (sym (map_map (declarator_with_literals v) declarator_form_tree (d ∷ ds))) in
-    by_keyword v keyword.Integer (codes "INTEGER" ++ ts) ts _ (long_text v (codes "INTEGER") ts refl (omega arith) refl) refl (rw p refl)
+    by_keyword v keyword.Integer (codes "INTEGER" ++ ts) ts _ (word_text v (codes "INTEGER") ts refl (declarators_lack d ds) refl) refl (rw p refl)
 statement_again v (dimension a rest) = dimension_again v a rest
 statement_again v (parameter c cs) =
     let ts = join_by constant_form_text (codes ",") (c ∷ cs) in
@@ -338,22 +327,23 @@ statement_again v (parameter c cs) =
     several_again constant_form_text (λ c. value_with_literals v (constant_form_tree c)) (λ c. true) ends_part (value_of v) s (value_back v) (λ r. refl) c cs (codes ")") (all_true (c ∷ cs)) refl refl
     ∙ ap (λ (xs : List (List ℕ × ExprTree)). Some (xs, codes ")")) (sym (map_map (value_with_literals v) constant_form_tree (c ∷ cs))) in
     ap (statement_of v) (append_assoc (codes "PARAMETER(") ts (codes ")"))
-    ∙ by_keyword v keyword.Parameter (codes "PARAMETER(" ++ (ts ++ codes ")")) (ts ++ codes ")") _ (long_text v (codes "PARAMETER") (codes "(" ++ (ts ++ codes ")")) refl (omega arith) refl) refl (rw p refl)
+    ∙ by_keyword v keyword.Parameter (codes "PARAMETER(" ++ (ts ++ codes ")")) (ts ++ codes ")") _ (not_simple v (codes "PARAMETER(" ++ (ts ++ codes ")")) (parameter_assigns_nothing v c cs) refl) refl (rw p refl)
 statement_again v (save names are) =
     let ts = join_by (λ x. x) (codes ",") names in
     let p = names_again names are in
     let e = some_names names are in
-    by_keyword v keyword.Save (codes "SAVE" ++ ts) ts _ (not_simple v (codes "SAVE" ++ ts) (save_assigns_nothing v names are) refl) refl (rw (e, p) refl)
-statement_again v save_all = closed_word v keyword.Save (codes "SAVE") _ refl (word_alone v (codes "SAVE") [] refl refl refl refl (λ q h. absurd cc)) refl refl refl
+    by_keyword v keyword.Save (codes "SAVE" ++ ts) ts _ (word_text v (codes "SAVE") ts refl (names_lack names are) refl) refl (rw (e, p) refl)
+statement_again v save_all = closed_word v keyword.Save (codes "SAVE") _ refl refl refl refl
 statement_again v (simple s) = rw (simple_again v s) (ap (λ (i : Item). Some i) (simple_says v s))
 statement_again v (if_simple c s) = if_read v c s
 statement_again v (if_then c) = if_then_read v c
 statement_again v (else_if_then c) = else_if_read v c
-statement_again v else_alone = closed_word v keyword.Else (codes "ELSE") _ refl (word_alone v (codes "ELSE") [] refl refl refl refl (λ q h. absurd cc)) refl refl refl
-statement_again v end_of_if = closed_word v keyword.EndIf (codes "ENDIF") _ refl (word_alone v (codes "ENDIF") [] refl refl refl refl (λ q h. absurd cc)) refl refl refl
-statement_again v (do_loop parallel label is c) = do_read v parallel label is c
+statement_again v else_alone = closed_word v keyword.Else (codes "ELSE") _ refl refl refl refl
+statement_again v end_of_if = closed_word v keyword.EndIf (codes "ENDIF") _ refl refl refl refl
+statement_again v (do_loop parallel l c) = do_read v parallel l c
+statement_again v end_of_do = closed_word v keyword.EndDo (codes "ENDDO") _ refl refl refl refl
 statement_again v (private names are) =
     let ts = join_by (λ x. x) (codes ",") names in
     let p = names_again names are in
-    by_keyword v keyword.Private (codes "PRIVATE" ++ ts) ts _ (long_text v (codes "PRIVATE") ts refl (omega arith) refl) refl (rw p refl)
-statement_again v end = closed_word v keyword.End (codes "END") _ refl (word_alone v (codes "END") [] refl refl refl refl (λ q h. absurd cc)) refl refl refl
+    by_keyword v keyword.Private (codes "PRIVATE" ++ ts) ts _ (word_text v (codes "PRIVATE") ts refl (names_lack names are) refl) refl (rw p refl)
+statement_again v end = closed_word v keyword.End (codes "END") _ refl refl refl refl

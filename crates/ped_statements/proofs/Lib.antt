@@ -6,6 +6,7 @@ pub mod FirstKeyword
 pub mod Gathered
 pub mod Labels
 pub mod NoAssignment
+pub mod NoEquals
 pub mod OneReading
 pub mod OneStatement
 pub mod Outside

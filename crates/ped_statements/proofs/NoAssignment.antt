@@ -1,20 +1,23 @@
--- Texts that are no assignments: their first word is too long for a name, or what follows it is neither = nor a list in parentheses before =.
-use Rattle.std.proofs.Common.{◌≡◌, ℕ, ◌<◌, Bool, true, false, cond, List, [], ◌∷◌, ◌++◌, length, Option, Some, None, refl, ap, ◌∙◌, arith, inl, inr, length-append}
-use Rattle.std.specs.Prelude.{codes, ◌&&◌, nat_le}
+-- Texts that are no assignments: they have no =, or neither = nor a list in parentheses before = follows their first word.
+use Rattle.std.proofs.Common.{◌≡◌, ℕ, Bool, true, false, cond, List, [], ◌∷◌, ◌++◌, Option, Some, None, refl, sym, ap, ◌∙◌, arith, inl, inr}
+use Rattle.std.specs.Prelude.{codes}
 use Rattle.std.specs.List.{list_all}
-use Rattle.std.proofs.lemmas.Bool.{eqb-true, lt-leb}
-use Rattle.ped_base.specs.Letters as Letters
+use Rattle.std.proofs.lemmas.Bool.{eqb-true}
 use Rattle.ped_base.specs.Letters.{is_letter, is_digit, is_alphanumeric}
 use Rattle.ped_tree.specs.Tree.{ExprTree, Var, no_exprs, more_exprs, StmtTree, Assign}
 use Rattle.ped_tree.specs.Grammar.Words.{is_name}
+use Rattle.ped_tree.specs.Grammar.ExpressionForms.{unsigned, first, single, plain, reference, scalar, reference_form_text}
 use Rattle.ped_tree.specs.Grammar.ConditionForms.{CondForm, cond_form_text}
 use Rattle.ped_expressions.specs.Scanning.{◌>>=◌, front, behind, first_is, after}
 use Rattle.ped_expressions.specs.ExpressionReading.{expr_of, primary_of, named_of, exprs_of}
 use Rattle.ped_statements.specs.Listing.{whole}
 use Rattle.ped_statements.specs.StatementReading.{is_reference, reference_of, assignment_of}
+use Rattle.ped_expressions.proofs.Basics.{bind_some, after_is}
 use Rattle.ped_expressions.proofs.Equations.{primary_step, named_step, exprs_step}
-use Rattle.ped_expressions.proofs.Again.{stops, front_again, behind_again}
+use Rattle.ped_expressions.proofs.Again.{stops, front_again, behind_again, expr_again, sums_stop}
 use Rattle.ped_expressions.proofs.CondAgain.{Fails, cond_fails}
+use Rattle.ped_statements.proofs.Pieces.{reference_found}
+use Rattle.ped_statements.proofs.NoEquals.{lacks_equals, equals_inside}
 
 -- a text that begins with a letter
 
@@ -42,28 +45,26 @@ unassigned : (v : ℕ → ℕ) (ts : List ℕ) → reference_of v ts ≡ None �
 unfolding assignment_of
 unassigned v ts h = rw h refl
 
--- long words
+-- a text without =
 
-front_more : (p : ℕ → Bool) (w ts : List ℕ) → list_all p w ≡ true → front p (w ++ ts) ≡ w ++ front p ts
-front_more p [] ts h = refl
-front_more p (c ∷ w) ts h =
-    let k : p c ≡ true = grind arith in
-    let i : list_all p w ≡ true = grind arith in
-    rw k (ap (λ (r : List ℕ). c ∷ r) (front_more p w ts i))
+no_lack : false ≡ true → ⊥
+no_lack e = absurd cc
 
-and_false : (a : Bool) → (a && false) ≡ false
-and_false true = refl
-and_false false = refl
-
-long_is_no_name : (x : List ℕ) → 6 < length x → is_name x ≡ false
-long_is_no_name x h = let k : nat_le (length x) 6 ≡ false = lt-leb (length x) 6 h in rw k (and_false (Letters.is_name x))
-
-pub long_word : (v : ℕ → ℕ) (w ts : List ℕ) → list_all is_alphanumeric w ≡ true → 6 < length w → assignment_of v (w ++ ts) ≡ None
-long_word v w ts a l =
-    let x = front is_alphanumeric (w ++ ts) in
-    let long : 6 < length x = omega (arith, ap length (front_more is_alphanumeric w ts a), length-append w (front is_alphanumeric ts)) in
-    let n = long_is_no_name x long in
-    unassigned v (w ++ ts) (unread v (w ++ ts) (λ h. letter_named v (w ++ ts) h ∙ named_step v x (behind is_alphanumeric (w ++ ts)) ∙ rw n refl))
+pub no_equals : (v : ℕ → ℕ) (ts : List ℕ) → lacks_equals ts ≡ true → assignment_of v ts ≡ None
+unfolding assignment_of
+no_equals v ts h =
+    let behind_reference : ExprTree × List ℕ → Option StmtTree = λ l. after (codes "=") l.1 >>= λ q. whole (expr_of v q) >>= λ e. Some (Assign l.0 e) in
+    let go : (o : Option StmtTree) → (reference_of v ts >>= behind_reference) ≡ o → o ≡ None = λ o. elim o as (λ o. (reference_of v ts >>= behind_reference) ≡ o → o ≡ None) [
+      | None ↦ λ e. refl
+      | Some s ↦ λ e.
+          let l = bind_some (reference_of v ts) behind_reference s e in
+          let q = bind_some (after (codes "=") l.0.1) (λ q. whole (expr_of v q) >>= λ e. Some (Assign l.0.0 e)) s l.2 in
+          let r = reference_found v ts l.0 l.1 in
+          let t = reference_form_text r.0 in
+          let text : ts ≡ t ++ (codes "=" ++ q.0) = r.3 ∙ ap (λ (w : List ℕ). t ++ w) (after_is (codes "=") l.0.1 q.0 q.1) in
+          absurd (no_lack (sym (equals_inside t q.0) ∙ ap lacks_equals (sym text) ∙ h))
+    ] in
+    go (assignment_of v ts) refl
 
 -- a word before something else than = or (
 
@@ -99,7 +100,7 @@ word_alone v x rest a s l o none =
     ] in
     ap (λ (r : Option (ExprTree × List ℕ)). r >>= f) (word_read v x rest a s l o) ∙ cond_none (is_name x) (Var x, rest) f (go (after (codes "=") rest) refl)
 
--- a condition in parentheses is no list of subscripts
+-- neither a condition in parentheses nor a name before = is a list of subscripts
 
 no_choice : {A : Type 0} (b : Bool) → cond {A = Option A} b None None ≡ None
 no_choice true = refl
@@ -117,3 +118,16 @@ pub condition_behind : (v : ℕ → ℕ) (x : List ℕ) (c : CondForm) (rest : L
 condition_behind v x c rest a l =
     let ts = cond_form_text c ++ rest in
     unassigned v (x ++ (codes "(" ++ ts)) (unread v (x ++ (codes "(" ++ ts)) (λ h. word_named v x (codes "(" ++ ts) a refl l ∙ listed_fails v x ts (cond_fails v c rest)))
+
+equals_behind : (v : ℕ → ℕ) (x rest : List ℕ) → is_name x ≡ true → exprs_of v (x ++ (codes "=" ++ rest)) ≡ Some (more_exprs (Var x) no_exprs, codes "=" ++ rest)
+equals_behind v x rest is =
+    let e : expr_of v (x ++ (codes "=" ++ rest)) ≡ Some (Var x, codes "=" ++ rest) =
+    expr_again v (first unsigned (single (plain (reference (scalar x is))))) (codes "=" ++ rest) refl refl ∙ sums_stop v (Var x) (codes "=" ++ rest) refl in
+    exprs_step v (x ++ (codes "=" ++ rest)) ∙ rw e refl
+
+pub value_behind : (v : ℕ → ℕ) (w x rest : List ℕ) → list_all is_alphanumeric w ≡ true → first_is is_letter (w ++ (codes "(" ++ (x ++ (codes "=" ++ rest)))) ≡ true → is_name x ≡ true → assignment_of v (w ++ (codes "(" ++ (x ++ (codes "=" ++ rest)))) ≡ None
+value_behind v w x rest a l is =
+    let ts = x ++ (codes "=" ++ rest) in
+    let e = equals_behind v x rest is in
+    let n : named_of v w (codes "(" ++ ts) ≡ None = named_step v w (codes "(" ++ ts) ∙ rw e (no_choice (is_name w)) in
+    unassigned v (w ++ (codes "(" ++ ts)) (unread v (w ++ (codes "(" ++ ts)) (λ h. word_named v w (codes "(" ++ ts) a refl l ∙ n))

@@ -20,12 +20,12 @@ no_item v text h = λ i r. no_some (says_with_literals v i) (sym h ∙ item_agai
 false_true : false ≡ true → ⊥
 false_true e = absurd cc
 
-without_form : (v : ℕ → ℕ) (text : List ℕ) (outside : Bool) → statement_of v text ≡ None → is_outside v text ≡ outside → IsReadAs v text (cond outside outside_profile no_form)
-without_form v text true h o = (outside_profile, (no_item v text h, outside_found v text o), refl)
-without_form v text false h o = (no_form, (no_item v text h, λ i. false_true (sym o ∙ outside_again v text i)), refl)
+without_form : (v : ℕ → ℕ) (text : List ℕ) (outside : Bool) → statement_of v text ≡ None → is_outside text ≡ outside → IsReadAs v text (cond outside outside_profile no_form)
+without_form v text true h o = (outside_profile, (no_item v text h, outside_found text o), refl)
+without_form v text false h o = (no_form, (no_item v text h, λ i. false_true (sym o ∙ outside_again text i)), refl)
 
-by_statement : (v : ℕ → ℕ) (text : List ℕ) (o : Option Item) → statement_of v text ≡ o → IsReadAs v text (go_on o (cond (is_outside v text) outside_profile no_form) (λ i. says i))
-by_statement v text None h = without_form v text (is_outside v text) h refl
+by_statement : (v : ℕ → ℕ) (text : List ℕ) (o : Option Item) → statement_of v text ≡ o → IsReadAs v text (go_on o (cond (is_outside text) outside_profile no_form) (λ i. says i))
+by_statement v text None h = without_form v text (is_outside text) h refl
 by_statement v text (Some i) h = let f = statement_found v text i h in (says (statement_item f.0), (f.0, f.1, refl), ap says (sym f.2))
 
 pub reading_is : (v : ℕ → ℕ) (text : List ℕ) → IsReadAs v text (reading_in v text)

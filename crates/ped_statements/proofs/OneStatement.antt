@@ -1,7 +1,7 @@
 -- A text says one thing at most.
 use Rattle.std.proofs.Common.{◌≡◌, ℕ, List, [], ◌∷◌, map, Some, refl, sym, ap, ◌∙◌}
 use Rattle.ped_tree.specs.Tree.{ExprTree, CondTree, ItemTree, Value, Text, Head, StmtTree, StmtTrees, Assign, If, Do, Print, Read, Stop, Comment, no_stmts, more_stmts, BoundTree, DeclaratorTree, DeclTree, Program, Implicit, Integer, Dimension, Parameter, Save, Remark}
-use Rattle.ped_tree.specs.Grammar.Items.{Item, declares, saves_all, does, continues, logical_if, block_if, else_if, else_line, end_if, begins_do, keeps_private, ends_program}
+use Rattle.ped_tree.specs.Grammar.Items.{Item, declares, saves_all, does, continues, logical_if, block_if, else_if, else_line, end_if, begins_do, ends_do, keeps_private, ends_program}
 use Rattle.ped_tree.specs.Grammar.StatementForms.{ReadsItem}
 use Rattle.ped_tree.specs.Grammar.Reading.{OneItem}
 use Rattle.ped_expressions.specs.ExpressionReading.{with_literals}
@@ -71,6 +71,7 @@ says_same (else_if c) = ap else_if (cond_with_same c)
 says_same else_line = refl
 says_same end_if = refl
 says_same (begins_do label h) = ap (begins_do label) (head_same h)
+says_same ends_do = refl
 says_same (keeps_private names) = refl
 says_same ends_program = refl
 

@@ -6,17 +6,15 @@ use Rattle.std.proofs.lemmas.Bool.{eqb-true}
 use Rattle.ped_base.specs.Letters.{is_digit}
 use Rattle.ped_tree.specs.Printing.{constant_text}
 use Rattle.ped_tree.specs.Grammar.Words.{is_numeral}
-use Rattle.ped_tree.specs.Grammar.StatementForms.{ControlForm, control_form_text, do_form_word}
-use Rattle.ped_tree.specs.Grammar.OutsideProfile.{begins_with, words_outside, is_enclosed, are_labels, IsOutside, by_word, stop_with_digits, stop_with_constant, do_without_label, if_with_labels}
-use Rattle.ped_expressions.specs.Scanning.{◌>>=◌, go_on, after}
+use Rattle.ped_tree.specs.Grammar.OutsideProfile.{begins_with, words_outside, is_enclosed, are_labels, IsOutside, by_word, stop_with_digits, stop_with_constant, if_with_labels}
+use Rattle.ped_expressions.specs.Scanning.{◌>>=◌, after}
 use Rattle.ped_statements.specs.Listing.{whole, several}
-use Rattle.ped_statements.specs.StatementReading.{quoted_at, control_of}
-use Rattle.ped_statements.specs.ProfileReading.{is_some, numeral_at, is_constant, stops_with_code, is_control, lacks_label, closing_at, branches_to_labels, is_outside}
+use Rattle.ped_statements.specs.StatementReading.{quoted_at}
+use Rattle.ped_statements.specs.ProfileReading.{is_some, numeral_at, is_constant, stops_with_code, closing_at, branches_to_labels, is_outside}
 use Rattle.ped_expressions.proofs.Basics.{some_is, bind_some, stops_or_goes, chosen, after_is}
 use Rattle.ped_expressions.proofs.Again.{stops}
 use Rattle.ped_statements.proofs.Several.{shrinks, whole_is, whole_several_found, whole_several_again}
 use Rattle.ped_statements.proofs.Pieces.{numeral_found, numeral_back, quoted_again, constant_found}
-use Rattle.ped_statements.proofs.Control.{control_found, control_again}
 
 -- one of two
 
@@ -64,35 +62,6 @@ constant_again text = let q = quoted_again text [] refl in rw q refl
 stop_again : (text : List ℕ) → stops_with_code (codes "STOP" ++ constant_text text) ≡ true
 unfolding stops_with_code
 stop_again text = either_other (is_numeral (constant_text text)) (is_constant (constant_text text)) (constant_again text)
-
--- DO without a label
-
-control_is : (v : ℕ → ℕ) (text : List ℕ) → is_control v text ≡ true → (c : ControlForm) × (control_form_text c ≡ text)
-unfolding is_control
-control_is v text h =
-    let c = there_is (whole (control_of v false text)) h in
-    let f = control_found v false text c.0 c.1 in
-    (f.0, f.1)
-
-is_control_again : (v : ℕ → ℕ) (c : ControlForm) → is_control v (control_form_text c) ≡ true
-unfolding is_control
-is_control_again v c = let k = control_again v false c in rw k refl
-
-lacks_found : (v : ℕ → ℕ) (text : List ℕ) → lacks_label v text ≡ true → IsOutside text
-unfolding lacks_label
-lacks_found v text h =
-    elim (stops_or_goes (after (codes "PARALLELDO") text) (go_on (after (codes "DO") text) false (λ r. is_control v r)) (λ r. is_control v r) true h) [
-      | inl g ↦ elim (stops_or_goes (after (codes "DO") text) false (λ r. is_control v r) true g.1) [
-        | inl d ↦ absurd (let z = d.1 in cc)
-        | inr d ↦ let c = control_is v d.0 d.2 in do_without_label false c.0 (ap (λ (w : List ℕ). codes "DO" ++ w) c.1 ∙ sym (after_is (codes "DO") text d.0 d.1))
-      ]
-      | inr g ↦ let c = control_is v g.0 g.2 in do_without_label true c.0 (ap (λ (w : List ℕ). codes "PARALLELDO" ++ w) c.1 ∙ sym (after_is (codes "PARALLELDO") text g.0 g.1))
-    ]
-
-lacks_again : (v : ℕ → ℕ) (parallel : Bool) (c : ControlForm) → lacks_label v (do_form_word parallel ++ control_form_text c) ≡ true
-unfolding lacks_label
-lacks_again v true c = is_control_again v c
-lacks_again v false c = is_control_again v c
 
 -- IF with labels
 
@@ -216,33 +185,27 @@ branches_again inner labels i are =
 
 -- all of them
 
-pub outside_found : (v : ℕ → ℕ) (text : List ℕ) → is_outside v text ≡ true → IsOutside text
+pub outside_found : (text : List ℕ) → is_outside text ≡ true → IsOutside text
 unfolding is_outside
-outside_found v text h =
-    elim (one_of (list_any (begins_with text) words_outside || stops_with_code text || lacks_label v text) (branches_to_labels text) h) [
-      | inl a ↦ elim (one_of (list_any (begins_with text) words_outside || stops_with_code text) (lacks_label v text) a) [
-        | inl b ↦ elim (one_of (list_any (begins_with text) words_outside) (stops_with_code text) b) [
-          | inl c ↦ by_word c
-          | inr c ↦ stops_found text c
-        ]
-        | inr b ↦ lacks_found v text b
+outside_found text h =
+    elim (one_of (list_any (begins_with text) words_outside || stops_with_code text) (branches_to_labels text) h) [
+      | inl a ↦ elim (one_of (list_any (begins_with text) words_outside) (stops_with_code text) a) [
+        | inl b ↦ by_word b
+        | inr b ↦ stops_found text b
       ]
       | inr a ↦ branches_found text a
     ]
 
-in_four : (a b c d : Bool) → (a ≡ true) ⊎ ((b ≡ true) ⊎ ((c ≡ true) ⊎ (d ≡ true))) → (a || b || c || d) ≡ true
-in_four true b c d h = refl
-in_four false true c d h = refl
-in_four false false true d h = refl
-in_four false false false d (inl h) = absurd cc
-in_four false false false d (inr (inl h)) = absurd cc
-in_four false false false d (inr (inr (inl h))) = absurd cc
-in_four false false false d (inr (inr (inr h))) = h
+in_three : (a b c : Bool) → (a ≡ true) ⊎ ((b ≡ true) ⊎ (c ≡ true)) → (a || b || c) ≡ true
+in_three true b c h = refl
+in_three false true c h = refl
+in_three false false c (inl h) = absurd cc
+in_three false false c (inr (inl h)) = absurd cc
+in_three false false c (inr (inr h)) = h
 
-pub outside_again : (v : ℕ → ℕ) (text : List ℕ) → IsOutside text → is_outside v text ≡ true
+pub outside_again : (text : List ℕ) → IsOutside text → is_outside text ≡ true
 unfolding is_outside
-outside_again v text (by_word w) = in_four (list_any (begins_with text) words_outside) (stops_with_code text) (lacks_label v text) (branches_to_labels text) (inl w)
-outside_again v text (stop_with_digits digits is t) = in_four (list_any (begins_with text) words_outside) (stops_with_code text) (lacks_label v text) (branches_to_labels text) (inr (inl (ap stops_with_code (sym t) ∙ digits_again digits is)))
-outside_again v text (stop_with_constant c t) = in_four (list_any (begins_with text) words_outside) (stops_with_code text) (lacks_label v text) (branches_to_labels text) (inr (inl (ap stops_with_code (sym t) ∙ stop_again c)))
-outside_again v text (do_without_label parallel c t) = in_four (list_any (begins_with text) words_outside) (stops_with_code text) (lacks_label v text) (branches_to_labels text) (inr (inr (inl (ap (lacks_label v) (sym t) ∙ lacks_again v parallel c))))
-outside_again v text (if_with_labels inner labels i are t) = in_four (list_any (begins_with text) words_outside) (stops_with_code text) (lacks_label v text) (branches_to_labels text) (inr (inr (inr (ap branches_to_labels (sym t) ∙ branches_again inner labels i are))))
+outside_again text (by_word w) = in_three (list_any (begins_with text) words_outside) (stops_with_code text) (branches_to_labels text) (inl w)
+outside_again text (stop_with_digits digits is t) = in_three (list_any (begins_with text) words_outside) (stops_with_code text) (branches_to_labels text) (inr (inl (ap stops_with_code (sym t) ∙ digits_again digits is)))
+outside_again text (stop_with_constant c t) = in_three (list_any (begins_with text) words_outside) (stops_with_code text) (branches_to_labels text) (inr (inl (ap stops_with_code (sym t) ∙ stop_again c)))
+outside_again text (if_with_labels inner labels i are t) = in_three (list_any (begins_with text) words_outside) (stops_with_code text) (branches_to_labels text) (inr (inr (ap branches_to_labels (sym t) ∙ branches_again inner labels i are)))

@@ -7,7 +7,7 @@ use Rattle.ped_tree.specs.Grammar.Items.{Reading, says, outside_profile, no_form
 use Rattle.ped_tree.specs.Grammar.OutsideProfile.{begins_with, words_outside}
 use Rattle.ped_expressions.specs.Scanning.{Answer, ◌>>=◌, go_on, front, behind, first_is, after}
 use Rattle.ped_statements.specs.Listing.{whole, several}
-use Rattle.ped_statements.specs.StatementReading.{quoted_at, control_of, statement_of}
+use Rattle.ped_statements.specs.StatementReading.{quoted_at, statement_of}
 
 -- there is one
 abbrev pub is_some : {A : Type 0} → Option A → Bool
@@ -26,14 +26,6 @@ is_constant text = is_some (after (codes "'") text >>= λ q. whole (quoted_at fa
 unfoldable pub stops_with_code : List ℕ → Bool
 stops_with_code text = go_on (after (codes "STOP") text) false (λ r. is_numeral r || is_constant r)
 
--- what follows the label of a DO, and nothing else
-unfoldable pub is_control : (ℕ → ℕ) → List ℕ → Bool
-is_control v text = is_some (whole (control_of v false text))
-
--- a DO or PARALLEL DO without a label
-unfoldable pub lacks_label : (ℕ → ℕ) → List ℕ → Bool
-lacks_label v text = go_on (after (codes "PARALLELDO") text) (go_on (after (codes "DO") text) false (λ r. is_control v r)) (λ r. is_control v r)
-
 -- what follows the parenthesis that closes the innermost of those that are open, where so many are open and a constant may be open
 abbrev pub closing_at : Bool → ℕ → List ℕ → Option (List ℕ)
 closing_at quoted depth [] = None
@@ -49,9 +41,9 @@ unfoldable pub branches_to_labels : List ℕ → Bool
 branches_to_labels text = is_some (after (codes "IF(") text >>= λ q. closing_at false 1 q >>= λ r. whole (several numeral_at r))
 
 -- a statement that the profile leaves out
-unfoldable pub is_outside : (ℕ → ℕ) → List ℕ → Bool
-is_outside v text = list_any (begins_with text) words_outside || stops_with_code text || lacks_label v text || branches_to_labels text
+unfoldable pub is_outside : List ℕ → Bool
+is_outside text = list_any (begins_with text) words_outside || stops_with_code text || branches_to_labels text
 
 -- what the text of a statement is
 unfoldable pub reading_in : (ℕ → ℕ) → List ℕ → Reading
-reading_in v text = go_on (statement_of v text) (if is_outside v text then outside_profile else no_form) (λ i. says i)
+reading_in v text = go_on (statement_of v text) (if is_outside text then outside_profile else no_form) (λ i. says i)

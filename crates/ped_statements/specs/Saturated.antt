@@ -1,7 +1,7 @@
 -- What statements say where each literal n is taken as v n: code keeps a literal in 32 bits, the greatest number of these for a greater one (this project).
 use Rattle.std.specs.Prelude.{◌≡◌, ℕ, List, map}
 use Rattle.ped_tree.specs.Tree.{ExprTree, ItemTree, Value, Text, Head, StmtTree, StmtTrees, Assign, If, Do, Print, Read, Stop, Comment, no_stmts, more_stmts, BoundTree, DeclaratorTree, DeclTree, Program, Implicit, Integer, Dimension, Parameter, Save, Remark}
-use Rattle.ped_tree.specs.Grammar.Items.{Item, declares, saves_all, does, continues, logical_if, block_if, else_if, else_line, end_if, begins_do, keeps_private, ends_program, Reading, says, outside_profile, no_form, Entry}
+use Rattle.ped_tree.specs.Grammar.Items.{Item, declares, saves_all, does, continues, logical_if, block_if, else_if, else_line, end_if, begins_do, ends_do, keeps_private, ends_program, Reading, says, outside_profile, no_form, Entry}
 use Rattle.ped_tree.specs.Grammar.Reading.{IsReading}
 use Rattle.ped_expressions.specs.ExpressionReading.{with_literals}
 use Rattle.ped_expressions.specs.ConditionReading.{cond_with_literals}
@@ -65,6 +65,7 @@ says_with_literals v (else_if c) = else_if (cond_with_literals v c)
 says_with_literals v else_line = else_line
 says_with_literals v end_if = end_if
 says_with_literals v (begins_do label h) = begins_do label (head_with_literals v h)
+says_with_literals v ends_do = ends_do
 says_with_literals v (keeps_private names) = keeps_private names
 says_with_literals v ends_program = ends_program
 

@@ -6,7 +6,7 @@ use Rattle.ped_tree.specs.Tree as plain
 use Rattle.ped_tree.specs.Tree.{ExprTree, Int, Var, Element, Neg, Add, Sub, Mul, Div, Pow, Call, ItemTree, Value, Text, Head, StmtTree, StmtTrees, Assign, Print, Read, Stop, no_stmts, more_stmts, BoundTree, DeclaratorTree}
 use Rattle.ped_base.specs.Lists.{has_some, is_same_text}
 use Rattle.ped_tree.specs.Grammar.Words.{is_name, numeral_value}
-use Rattle.ped_tree.specs.Grammar.Items.{Item, declares, saves_all, does, continues, logical_if, block_if, else_if, else_line, end_if, begins_do, keeps_private, ends_program}
+use Rattle.ped_tree.specs.Grammar.Items.{Item, declares, saves_all, does, continues, logical_if, block_if, else_if, else_line, end_if, begins_do, ends_do, keeps_private, ends_program}
 use Rattle.ped_tree.specs.Grammar.StatementForms.{is_label}
 use Rattle.ped_statements.specs.declared.keywords.Keyword.{Keyword}
 use Rattle.ped_statements.specs.declared.keywords.Keyword.TheVariants as keyword
@@ -123,16 +123,17 @@ step_of v text = go_on (after (codes ",") text) (Some (Int (v 1), text)) (λ r. 
 abbrev pub head : Bool → List ℕ → ExprTree → ExprTree → ExprTree → Head
 head parallel x first last step = record { variable = x; first = first; last = last; step = step; parallel = parallel; private = []; rejected = [] }
 
--- what follows the label of a DO
+-- the variable of a DO, its bounds and its increment
 unfoldable pub control_of : (ℕ → ℕ) → Bool → List ℕ → Answer Head
 control_of v parallel text =
-    name_at (without_comma text) >>= λ x. after (codes "=") x.1 >>= λ q. expr_of v q >>= λ a. after (codes ",") a.1 >>= λ r. expr_of v r >>= λ b. step_of v b.1 >>= λ s.
+    name_at text >>= λ x. after (codes "=") x.1 >>= λ q. expr_of v q >>= λ a. after (codes ",") a.1 >>= λ r. expr_of v r >>= λ b. step_of v b.1 >>= λ s.
     Some (head parallel x.0 a.0 b.0 s.0, s.1)
 
--- what follows DO or PARALLEL DO
+-- what follows DO or PARALLEL DO: a label with or without a comma behind it, or none
 unfoldable pub do_of : (ℕ → ℕ) → Bool → List ℕ → Option Item
 do_of v parallel text =
-    if is_label (front is_digit text) then (whole (control_of v parallel (behind is_digit text)) >>= λ h. Some (begins_do (numeral_value (front is_digit text)) h))
+    if is_end (front is_digit text) then (whole (control_of v parallel text) >>= λ h. Some (begins_do None h))
+    else if is_label (front is_digit text) then (whole (control_of v parallel (without_comma (behind is_digit text))) >>= λ h. Some (begins_do (Some (numeral_value (front is_digit text))) h))
     else None
 
 -- a word that begins a statement, with what always follows it
@@ -147,6 +148,7 @@ keyword_text keyword.If = codes "IF("
 keyword_text keyword.ElseIf = codes "ELSEIF("
 keyword_text keyword.Else = codes "ELSE"
 keyword_text keyword.EndIf = codes "ENDIF"
+keyword_text keyword.EndDo = codes "ENDDO"
 keyword_text keyword.Do = codes "DO"
 keyword_text keyword.ParallelDo = codes "PARALLELDO"
 keyword_text keyword.Private = codes "PRIVATE"
@@ -161,7 +163,7 @@ first_keyword (k ∷ ks) text = go_on (after (keyword_text k) text) (first_keywo
 abbrev pub all_keywords : List Keyword
 all_keywords =
     keyword.Program ∷ keyword.Implicit ∷ keyword.Integer ∷ keyword.Dimension ∷ keyword.Parameter ∷ keyword.Save
-    ∷ keyword.If ∷ keyword.ElseIf ∷ keyword.Else ∷ keyword.EndIf ∷ keyword.Do ∷ keyword.ParallelDo ∷ keyword.Private ∷ keyword.End ∷ []
+    ∷ keyword.If ∷ keyword.ElseIf ∷ keyword.Else ∷ keyword.EndIf ∷ keyword.EndDo ∷ keyword.Do ∷ keyword.ParallelDo ∷ keyword.Private ∷ keyword.End ∷ []
 
 -- the keyword at the front
 abbrev pub keyword_at : List ℕ → Answer Keyword
@@ -183,6 +185,7 @@ statement_behind v keyword.If text = if_of v text
 statement_behind v keyword.ElseIf text = else_if_of v text
 statement_behind v keyword.Else text = alone else_line text
 statement_behind v keyword.EndIf text = alone end_if text
+statement_behind v keyword.EndDo text = alone ends_do text
 statement_behind v keyword.Do text = do_of v false text
 statement_behind v keyword.ParallelDo text = do_of v true text
 statement_behind v keyword.Private text = whole (several name_at text) >>= λ names. Some (keeps_private names)

@@ -49,6 +49,7 @@ fn statement_behind(alloc: Global, keyword: Keyword, text: &[u8]) -> Result<Item
         Keyword::ElseIf => else_if_statement(alloc, text),
         Keyword::Else => at_end(Item::Else, text),
         Keyword::EndIf => at_end(Item::EndIf, text),
+        Keyword::EndDo => at_end(Item::EndDo, text),
         Keyword::Do => do_statement(alloc, false, text),
         Keyword::ParallelDo => do_statement(alloc, true, text),
         Keyword::Private => private(alloc, text),

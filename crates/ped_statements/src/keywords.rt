@@ -31,6 +31,8 @@ pub enum Keyword {
     Else,
     /// `END IF`
     EndIf,
+    /// `END DO`
+    EndDo,
     /// `DO`
     Do,
     /// `PARALLEL DO`
@@ -42,7 +44,7 @@ pub enum Keyword {
 }
 
 /// The keywords, each before those that begin it.
-const KEYWORDS: [Keyword; 14] = [
+const KEYWORDS: [Keyword; 15] = [
     Keyword::Program,
     Keyword::Implicit,
     Keyword::Integer,
@@ -53,6 +55,7 @@ const KEYWORDS: [Keyword; 14] = [
     Keyword::ElseIf,
     Keyword::Else,
     Keyword::EndIf,
+    Keyword::EndDo,
     Keyword::Do,
     Keyword::ParallelDo,
     Keyword::Private,
@@ -86,6 +89,7 @@ fn word(keyword: Keyword) -> &'static [u8]
         Keyword::ElseIf => b"ELSEIF(",
         Keyword::Else => b"ELSE",
         Keyword::EndIf => b"ENDIF",
+        Keyword::EndDo => b"ENDDO",
         Keyword::Do => b"DO",
         Keyword::ParallelDo => b"PARALLELDO",
         Keyword::Private => b"PRIVATE",

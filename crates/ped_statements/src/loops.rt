@@ -10,41 +10,45 @@ ghost use Rattle.ped_tree.specs.Grammar.ItemViews.{item_of};
 ghost use Rattle.ped_expressions.specs.ExpressionReading.{saturated};
 ghost use Rattle.ped_expressions.specs.Views.{Gives, expr_and_rest};
 ghost use Rattle.ped_statements.specs.StatementReading as Spec;
+ghost use Rattle.ped_statements.specs.Listing.{whole};
 ghost use Rattle.ped_statements.specs.StatementReading.{step_of, control_of, do_of};
 ghost use Rattle.ped_statements.specs.StatementViews.{head_of, control_and_rest};
 
-use crate::names::at_end;
+use crate::names::{at_end, is_end};
 use ped_base::Name;
 use ped_expressions::{Failure, after, expr, literal_value, name_of, split_digits, split_word};
 use ped_tree::Expr;
 use ped_tree::grammar::{DoStatement, Item};
 use std::alloc::Global;
 
-/// What follows the label of a DO.
+/// The control of a DO: what follows that word and its label.
 #[derive(Drop)]
-pub struct Control {
+struct Control {
     /// The DO variable.
-    pub variable: Name,
+    variable: Name,
     /// The initial value.
-    pub first: Expr,
+    first: Expr,
     /// The limit.
-    pub last: Expr,
+    last: Expr,
     /// The increment, a literal 1 where none is written.
-    pub step: Expr,
+    step: Expr,
 }
 
-/// What a DO or a PARALLEL DO says, by what follows that word.
+/// What a DO or a PARALLEL DO says, by what follows that word. A comma is read behind a label alone.
 #[tactic(auto, using(ped_expressions::proofs::Basics::front_all), unfolding(crate::specs::StatementReading::do_of))]
 pub fn do_statement(alloc: Global, parallel: bool, text: &[u8]) -> Result<Item, Failure>
     ensures { Gives item_of result (do_of saturated parallel text.now) }
 {
     let (digits, rest) = split_digits(text);
+    if is_end(digits) {
+        let control = whole_control(alloc, parallel, text)?;
+        return Ok(begins_do(None, parallel, control));
+    }
     let Some(label) = label_of(digits) else {
         return Err(Failure::NoForm);
     };
-    let (control, rest) = take_control(alloc, parallel, rest)?;
-    let control = at_end(control, rest)?;
-    Ok(begins_do(label, parallel, control))
+    let control = whole_control(alloc, parallel, without_comma(rest))?;
+    Ok(begins_do(Some(label), parallel, control))
 }
 
 /// The number of a label, where the digits are one: one to five of them, not all zero.
@@ -60,8 +64,8 @@ fn label_of(digits: &[u8]) -> Option<u32>
     if label == 0 { None } else { Some(label) }
 }
 
-/// The DO statement with that label and control.
-fn begins_do(label: u32, parallel: bool, control: Control) -> Item
+/// The DO statement with that label, if any, and that control.
+fn begins_do(label: Option<u32>, parallel: bool, control: Control) -> Item
     ensures { item_of result ≡ Items.begins_do label (head_of parallel control) }
 {
     Item::Do(DoStatement {
@@ -74,13 +78,21 @@ fn begins_do(label: u32, parallel: bool, control: Control) -> Item
     })
 }
 
-/// What follows the label of a DO, at the front of a text, and what follows that.
+/// The control of a DO that the whole text is.
+fn whole_control(alloc: Global, parallel: bool, text: &[u8]) -> Result<Control, Failure>
+    ensures { Gives (head_of parallel) result (whole (control_of saturated parallel text.now)) }
+{
+    let (control, rest) = take_control(alloc, parallel, text)?;
+    at_end(control, rest)
+}
+
+/// The control of a DO at the front of a text, and what follows it.
 #[tactic(auto, unfolding(crate::specs::StatementReading::control_of))]
-pub fn take_control(alloc: Global, parallel: bool, text: &[u8]) -> Result<(Control, &[u8]), Failure>
+fn take_control(alloc: Global, parallel: bool, text: &[u8]) -> Result<(Control, &[u8]), Failure>
     ensures gives { Gives (control_and_rest parallel) result (control_of saturated parallel text.now) }
     ensures shorter { IfOk result (λ x. length x.1.now < length text.now) }
 {
-    let (word, rest) = split_word(without_comma(text));
+    let (word, rest) = split_word(text);
     let Some(variable) = name_of(word) else {
         return Err(Failure::NoForm);
     };
@@ -118,8 +130,7 @@ pub fn take_control(alloc: Global, parallel: bool, text: &[u8]) -> Result<(Contr
 
 /// The text without a comma at its front.
 fn without_comma(text: &[u8]) -> &[u8]
-    ensures is { result.now ≡ Spec.without_comma text.now }
-    ensures shorter { length result.now ≤ length text.now }
+    ensures { result.now ≡ Spec.without_comma text.now }
 {
     match after(text, b",") {
         Some(rest) => rest,

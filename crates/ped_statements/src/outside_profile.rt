@@ -1,17 +1,15 @@
 //! The test of statements of FORTRAN 77 that the profile leaves out: by the word that begins them, STOP with
-//! a code, a DO without a label, and an IF with labels (ANSI X3.9-1978, sections 11.4, 11.8 and 11.12).
+//! a code, and an IF with labels (ANSI X3.9-1978, sections 11.4 and 11.12).
 
 ghost use Rattle.std.specs.Prelude.{◌≡◌, false, IfOk, map};
 ghost use Rattle.std.specs.List.{list_any};
 ghost use Rattle.ped_tree.specs.Grammar.OutsideProfile as OutsideProfile;
 ghost use Rattle.ped_tree.specs.Grammar.Words as Words;
-ghost use Rattle.ped_expressions.specs.ExpressionReading.{saturated};
 ghost use Rattle.ped_expressions.specs.Views.{lent};
 ghost use Rattle.ped_statements.specs.Listing.{whole, several};
 ghost use Rattle.ped_statements.specs.ProfileReading as Spec;
 ghost use Rattle.ped_statements.specs.ProfileReading.{is_some, numeral_at, closing_at};
 
-use crate::loops::take_control;
 use crate::names::is_end;
 use crate::simple_statements::characters;
 use ped_base::NoMemory;
@@ -21,15 +19,12 @@ use std::alloc::Global;
 /// Whether the text is a statement that the profile leaves out.
 #[tactic(auto, unfolding(crate::specs::ProfileReading::is_outside))]
 pub fn is_outside(alloc: Global, text: &[u8]) -> Result<bool, NoMemory>
-    ensures { IfOk result (λ b. b ≡ Spec.is_outside saturated text.now) }
+    ensures { IfOk result (λ b. b ≡ Spec.is_outside text.now) }
 {
     if begins_with_word_outside(text) || branches_to_labels(text) {
         return Ok(true);
     }
-    if stops_with_code(alloc, text)? {
-        return Ok(true);
-    }
-    lacks_label(alloc, text)
+    stops_with_code(alloc, text)
 }
 
 /// Whether one of the words that begin a statement outside the profile begins the text.
@@ -71,8 +66,7 @@ fn begins_with_word_outside(text: &[u8]) -> bool
             b"REWIND",
             b"BACKSPACE",
             b"ENDFILE",
-            b"ENDDO",
-            b"DOWHILE(",
+            b"DOWHILE",
         ],
     )
 }
@@ -129,35 +123,6 @@ fn is_constant(alloc: Global, text: &[u8]) -> Result<bool, NoMemory>
     };
     match characters(alloc, inside) {
         Ok((_, rest)) => Ok(is_end(rest)),
-        Err(Failure::NoForm) => Ok(false),
-        Err(Failure::OutOfMemory) => Err(NoMemory),
-    }
-}
-
-/// Whether the text is a DO or PARALLEL DO without a label.
-#[tactic(auto, unfolding(crate::specs::ProfileReading::lacks_label))]
-fn lacks_label(alloc: Global, text: &[u8]) -> Result<bool, NoMemory>
-    ensures { IfOk result (λ b. b ≡ Spec.lacks_label saturated text.now) }
-{
-    if let Some(behind) = after(text, b"PARALLELDO") {
-        return is_control(alloc, behind);
-    }
-    match after(text, b"DO") {
-        Some(behind) => is_control(alloc, behind),
-        None => Ok(false),
-    }
-}
-
-/// Whether the text is what follows the label of a DO.
-#[tactic(auto, unfolding(crate::specs::ProfileReading::is_control))]
-fn is_control(alloc: Global, text: &[u8]) -> Result<bool, NoMemory>
-    ensures { IfOk result (λ b. b ≡ Spec.is_control saturated text.now) }
-{
-    match take_control(alloc, false, text) {
-        Ok((control, rest)) => {
-            drop(control);
-            Ok(is_end(rest))
-        }
         Err(Failure::NoForm) => Ok(false),
         Err(Failure::OutOfMemory) => Err(NoMemory),
     }

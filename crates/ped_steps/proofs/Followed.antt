@@ -6,7 +6,7 @@ use Rattle.ped_tree.specs.Numbering.{statement_count, statements_count}
 use Rattle.ped_tree.specs.declared.statements.Stmt.{Stmt}
 use Rattle.ped_tree.proofs.Numbers.{stmt_trees-drop}
 use Rattle.ped_tree.specs.Nests.{Loop}
-use Rattle.ped_flow.specs.PlainBounds.{loops_round, all_loops_round}
+use Rattle.ped_laws.specs.ped_flow.specs.PlainBounds.{loops_round, all_loops_round}
 use Rattle.std.proofs.lemmas.List.{append_assoc}
 use Rattle.ped_steps.specs.Replacing.{followed, alone}
 use Rattle.ped_steps.specs.Placing.{placed, all_placed}
@@ -14,7 +14,7 @@ use Rattle.ped_steps.specs.declared.replacing.Place.{Place}
 use Rattle.ped_tree.specs.Tree as plain
 use Rattle.ped_tree.specs.declared.statements.Do.{Do as DoLoop}
 use Rattle.ped_tree.specs.declared.statements.Stmt as variant
-use Rattle.ped_graph.specs.ped_refs.specs.Loops.{head_of}
+use Rattle.ped_laws.specs.ped_graph.specs.ped_refs.specs.Loops.{head_of}
 
 pub followed-assoc : (a b c : StmtTrees) → followed (followed a b) c ≡ followed a (followed b c)
 followed-assoc no_stmts b c = refl

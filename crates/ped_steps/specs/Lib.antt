@@ -1,8 +1,8 @@
-pub use Rattle.ped_graph.specs.ped_views
-pub use Rattle.ped_graph.specs.ped_refs
-pub use Rattle.ped_graph.specs.ped_symbols
-pub use Rattle.ped_flow.specs.ped_affine
-pub use Rattle.ped_flow
+pub use Rattle.ped_laws.specs.ped_graph.specs.ped_views
+pub use Rattle.ped_laws.specs.ped_graph.specs.ped_refs
+pub use Rattle.ped_laws.specs.ped_graph.specs.ped_symbols
+pub use Rattle.ped_laws.specs.ped_flow.specs.ped_affine
+pub use Rattle.ped_laws.specs.ped_flow
 pub use Rattle.ped_laws.specs.ped_eval
 pub use Rattle.ped_laws
 pub mod RuleNames

@@ -6,7 +6,7 @@ use Rattle.std.proofs.lemmas.Bool.{and_parts}
 use Rattle.std.proofs.lemmas.List.{map-append}
 use Rattle.ped_base.specs.Lists.{has_some, is_among}
 use Rattle.ped_tree.specs.Tree.{Head, StmtTree, StmtTrees, Assign, If, Do, Print, Read, Stop, Comment, no_stmts, more_stmts, ProgramTree}
-use Rattle.ped_tree.specs.Numbering.{statement_count, statements_count, loop_count, loops_count}
+use Rattle.ped_tree.specs.Numbering.{statement_count, statements_count}
 use Rattle.ped_tree.specs.Accesses.{Access, own_accesses}
 use Rattle.ped_tree.specs.Nests.{Loop, indices_of}
 use Rattle.ped_tree.specs.Printing.{own_text}
@@ -33,7 +33,7 @@ length-numbered n number nest (a ∷ rest) = ap suc (length-numbered n (suc numb
 own_few : (p : Surroundings) (nest : List Loop) (n : ℕ) (s : StmtTree) → HaveSame p.variables (indices_of nest) → is_within p s ≡ true
     → IsFew p.statements 1 (numbered_accesses n 1 nest (own_accesses p.constants (indices_of nest) s))
 own_few p nest n s same h =
-    let a = and_parts _ (nat_le (length (own_text p.loops s)) most_characters) h in
+    let a = and_parts _ (nat_le (length (own_text s)) most_characters) h in
     let b = and_parts (nat_lt p.statements most_statements) (nat_le (length (own_accesses p.constants p.variables s)) most_references) a.0 in
     let as_many : length (own_accesses p.constants p.variables s) ≡ length (own_accesses p.constants (indices_of nest) s) = ap length (same_accesses p.constants p.constants p.variables (indices_of nest) (λ x. refl) same s) in
     let few : length (own_accesses p.constants p.variables s) ≤ 64 = grind (arith, b.1) in
@@ -80,14 +80,14 @@ mutual
       let a = and_parts _ (expr_fits right) fit in
       own_few p nest n (Assign left right) same (simple_within p (Assign left right) (and_parts (simple_fits p (Assign left right)) (target_fits left) a.0).0)
   stmt_few p nest n (If c t e) same h fit =
-      let a = and_parts _ (stmts_fit (in_if p (1 + statements_count t) (loops_count t)) e) fit in
-      let b = and_parts _ (stmts_fit (in_if p 1 0) t) a.0 in
+      let a = and_parts _ (stmts_fit (in_if p (1 + statements_count t)) e) fit in
+      let b = and_parts _ (stmts_fit (in_if p 1) t) a.0 in
       let d = and_parts _ (cond_fits c) b.0 in
       let f = and_parts (is_within p (If c t e)) (nat_lt p.depth 100) d.0 in
       let own = own_few p nest n (If c t e) same f.0 in
-      let then_few = stmts_few (in_if p 1 0) nest (n + 1) t same own.statements b.1 in
+      let then_few = stmts_few (in_if p 1) nest (n + 1) t same own.statements b.1 in
       let front = one_behind p.statements 1 (statements_count t) _ _ own then_few in
-      let else_few = stmts_few (in_if p (1 + statements_count t) (loops_count t)) nest (n + 1 + statements_count t) e same front.statements a.1 in
+      let else_few = stmts_few (in_if p (1 + statements_count t)) nest (n + 1 + statements_count t) e same front.statements a.1 in
       as_counted p.statements p.statements _ (statement_count (If c t e)) _ refl (omega arith)
       (one_behind p.statements (1 + statements_count t) (statements_count e) _ _ front else_few)
   stmt_few p nest n (Do head body) same h fit =
@@ -109,7 +109,7 @@ mutual
       → IsFew p.statements (statements_count ss) (statements_references p.constants nest n ss)
   stmts_few p nest n no_stmts same h fit = record { statements = omega (arith, h); references = omega arith }
   stmts_few p nest n (more_stmts s rest) same h fit =
-      let q = moved p (statement_count s) (loop_count s) in
+      let q = moved p (statement_count s) in
       let a = and_parts (stmt_fits p s) (stmts_fit q rest) fit in
       let first = stmt_few p nest n s same h a.0 in
       one_behind p.statements (statement_count s) (statements_count rest) _ _ first (stmts_few q nest (n + statement_count s) rest same first.statements a.1)

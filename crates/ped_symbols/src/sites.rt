@@ -11,7 +11,7 @@ ghost use Rattle.ped_symbols.specs.Passes.{Knows, is_reached, refused_at};
 use crate::declared::Declared;
 use crate::pairs::one_less;
 use crate::uses::{Role, Use};
-use ped_expressions::intrinsic_of;
+use ped_limits::ped_expressions::intrinsic_of;
 use ped_tree::grammar::{Refusal, RefusalKind, standing};
 
 /// What is wrong at a site beside single uses of names.

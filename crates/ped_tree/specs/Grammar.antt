@@ -6,6 +6,7 @@ pub mod ConditionForms
 pub mod Contexts
 pub mod ExpressionForms
 pub mod Fits
+pub mod Former
 pub mod Grouping
 pub mod ItemViews
 pub mod Items

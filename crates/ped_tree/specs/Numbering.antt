@@ -1,4 +1,4 @@
--- Statement numbers: executable statements are numbered from 1 in text order, and so are the DO loops. A comment has no number (this project).
+-- Statement numbers: executable statements are numbered from 1 in text order. A comment has no number (this project).
 use Rattle.std.specs.Prelude.{ℕ, ◌+◌, ◌-◌, ◌==◌, List, [], ◌∷◌, ◌++◌, Option, Some, None, if◌then◌else◌}
 use Rattle.ped_tree.specs.Tree.{StmtTree, StmtTrees, Assign, If, Do, Print, Read, Stop, Comment, no_stmts, more_stmts, ProgramTree}
 
@@ -40,18 +40,3 @@ abbrev mutual
   pub statements_count : StmtTrees → ℕ
   statements_count no_stmts = 0
   statements_count (more_stmts s rest) = statement_count s + statements_count rest
-
--- how many DO loops a statement has
-abbrev mutual
-  pub loop_count : StmtTree → ℕ
-  loop_count (Assign left right) = 0
-  loop_count (If condition then_part else_part) = loops_count then_part + loops_count else_part
-  loop_count (Do h body) = loops_count body + 1
-  loop_count (Print items) = 0
-  loop_count (Read items) = 0
-  loop_count Stop = 0
-  loop_count (Comment text) = 0
-
-  pub loops_count : StmtTrees → ℕ
-  loops_count no_stmts = 0
-  loops_count (more_stmts s rest) = loop_count s + loops_count rest

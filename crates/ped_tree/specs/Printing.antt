@@ -1,13 +1,13 @@
--- The printed form of a program: one statement a line with its continuation lines, indented by the loops and IFs round it, each DO ended by a CONTINUE of its own (this project).
-use Rattle.std.specs.Prelude.{ℕ, suc, ◌+◌, ◌-◌, ◌*◌, ◌/◌, min, List, [], ◌∷◌, ◌++◌, map, take, drop, length, replicate, codes, Bool, true, false, ◌==◌, Option, Some, None, if◌then◌else◌}
-use Rattle.std.specs.List.{join_by, flat_map, range_with_len}
+-- The printed form of a program: one statement a line with its continuation lines, indented by the loops and IFs round it, each DO ended by an END DO of its own (this project).
+use Rattle.std.specs.Prelude.{ℕ, suc, ◌+◌, ◌-◌, ◌*◌, ◌/◌, min, List, [], ◌∷◌, ◌++◌, map, take, drop, length, replicate, codes, Bool, true, false, ◌==◌, Option, Some, None, is_some, if◌then◌else◌}
+use Rattle.std.specs.List.{count_by, join_by, flat_map, range_with_len}
 use Rattle.std.specs.Fmt.{decimal}
 use Rattle.ped_tree.specs.declared.expressions.Intrinsic.{Intrinsic}
 use Rattle.ped_tree.specs.declared.expressions.Intrinsic.TheVariants.{Mod, Abs, Max, Min}
 use Rattle.ped_tree.specs.declared.conditions.Relation.{Relation}
 use Rattle.ped_tree.specs.declared.conditions.Relation.TheVariants as relation
 use Rattle.ped_tree.specs.Tree.{ExprTree, ExprTrees, Int, Var, Element, Neg, Add, Sub, Mul, Div, Pow, Call, no_exprs, more_exprs, CondTree, Rel, Not, And, Or, ItemTree, Value, Text, Head, StmtTree, StmtTrees, Assign, If, Do, Print, Read, Stop, Comment, no_stmts, more_stmts, BoundTree, DeclaratorTree, DeclTree, Program, Implicit, Integer, Dimension, Parameter, Save, Remark, ProgramTree}
-use Rattle.ped_tree.specs.Numbering.{statement_count, statements_count, loop_count, loops_count}
+use Rattle.ped_tree.specs.Numbering.{statement_count, statements_count}
 
 -- where an expression stands: alone, as a term of a sum or behind a sign, as a factor, as the base of a power (ANSI X3.9-1978, section 6.1.2)
 pub data Place : Type 0 where
@@ -157,10 +157,6 @@ blanks n = replicate n 32
 abbrev pub indentation : ℕ → List ℕ
 indentation depth = blanks (min (2 * depth) 20)
 
--- the label of a DO, by how many DO loops begin before it: 10, 20, 30 and so on (ANSI X3.9-1978, section 3.4; this project)
-abbrev pub label_text : ℕ → List ℕ
-label_text before = decimal (10 * (before + 1))
-
 -- an increment other than the literal 1 (ANSI X3.9-1978, section 11.10)
 abbrev pub step_text : ExprTree → List ℕ
 step_text step = if is_one step then [] else codes ", " ++ value_text step
@@ -170,22 +166,22 @@ abbrev pub do_word : Bool → List ℕ
 do_word parallel = if parallel then codes "PARALLEL DO " else codes "DO "
 
 -- the text of a DO statement (ANSI X3.9-1978, section 11.10; this project)
-abbrev pub do_text : List ℕ → Head → List ℕ
-do_text label h = do_word h.parallel ++ label ++ codes " " ++ h.variable ++ codes " = " ++ value_text h.first ++ codes ", " ++ value_text h.last ++ step_text h.step
+abbrev pub do_text : Head → List ℕ
+do_text h = do_word h.parallel ++ h.variable ++ codes " = " ++ value_text h.first ++ codes ", " ++ value_text h.last ++ step_text h.step
 
 -- the text of a PRIVATE statement
 abbrev pub private_text : List (List ℕ) → List ℕ
 private_text names = codes "PRIVATE " ++ names_text names
 
--- the text of a statement by itself, by how many DO loops begin before it (ANSI X3.9-1978, sections 10.1, 11, 12.8)
-abbrev pub own_text : ℕ → StmtTree → List ℕ
-own_text before (Assign left right) = value_text left ++ codes " = " ++ value_text right
-own_text before (If condition then_part else_part) = codes "IF (" ++ cond_text whole condition ++ codes ") THEN"
-own_text before (Do h body) = do_text (label_text before) h
-own_text before (Print items) = codes "PRINT *" ++ flat_map (λ i. codes ", " ++ item_text i) items
-own_text before (Read items) = codes "READ *" ++ flat_map (λ e. codes ", " ++ value_text e) items
-own_text before Stop = codes "STOP"
-own_text before (Comment text) = codes "C" ++ text
+-- the text of a statement by itself (ANSI X3.9-1978, sections 10.1, 11, 12.8)
+abbrev pub own_text : StmtTree → List ℕ
+own_text (Assign left right) = value_text left ++ codes " = " ++ value_text right
+own_text (If condition then_part else_part) = codes "IF (" ++ cond_text whole condition ++ codes ") THEN"
+own_text (Do h body) = do_text h
+own_text (Print items) = codes "PRINT *" ++ flat_map (λ i. codes ", " ++ item_text i) items
+own_text (Read items) = codes "READ *" ++ flat_map (λ e. codes ", " ++ value_text e) items
+own_text Stop = codes "STOP"
+own_text (Comment text) = codes "C" ++ text
 
 -- a printed line, and the number of the statement that begins on it, where a numbered one does
 pub record Line : Type 0 where
@@ -214,10 +210,6 @@ text_lines number depth text =
     (record { statement = number; text = blanks 6 ++ piece (indentation depth ++ text) 0 })
     ∷ continuation_lines (indentation depth ++ text)
 
--- the line that ends a DO: its label from column 1, and CONTINUE below the DO (ANSI X3.9-1978, sections 11.10, 11.11)
-abbrev pub end_line : ℕ → List ℕ → Line
-end_line depth label = plain_line (label ++ blanks (6 - length label) ++ indentation depth ++ codes "CONTINUE")
-
 -- the directives before a DO, one for each rejected name
 abbrev pub directive_lines : List (List ℕ) → List Line
 directive_lines names = map (λ x. plain_line (codes "C$PED REJECT " ++ x)) names
@@ -227,38 +219,38 @@ abbrev pub private_lines : ℕ → List (List ℕ) → List Line
 private_lines depth [] = []
 private_lines depth (x ∷ xs) = text_lines None depth (private_text (x ∷ xs))
 
--- the lines of a statement, by the loops and IFs round it, its number, and the DO loops before it (ANSI X3.9-1978, sections 3.3, 11.6)
+-- the lines of a statement, by the loops and IFs round it and its number (ANSI X3.9-1978, sections 3.3, 11.6)
 abbrev mutual
-  pub statement_lines : ℕ → ℕ → ℕ → StmtTree → List Line
-  statement_lines depth number before (Assign left right) = text_lines (Some number) depth (own_text before (Assign left right))
-  statement_lines depth number before (If condition then_part else_part) =
-      text_lines (Some number) depth (own_text before (If condition then_part else_part))
-      ++ statements_lines (suc depth) (number + 1) before then_part
-      ++ else_lines depth (number + 1 + statements_count then_part) (before + loops_count then_part) else_part
+  pub statement_lines : ℕ → ℕ → StmtTree → List Line
+  statement_lines depth number (Assign left right) = text_lines (Some number) depth (own_text (Assign left right))
+  statement_lines depth number (If condition then_part else_part) =
+      text_lines (Some number) depth (own_text (If condition then_part else_part))
+      ++ statements_lines (suc depth) (number + 1) then_part
+      ++ else_lines depth (number + 1 + statements_count then_part) else_part
       ++ text_lines None depth (codes "END IF")
-  statement_lines depth number before (Do h body) =
+  statement_lines depth number (Do h body) =
       directive_lines h.rejected
-      ++ text_lines (Some number) depth (own_text before (Do h body))
+      ++ text_lines (Some number) depth (own_text (Do h body))
       ++ private_lines (suc depth) h.private
-      ++ statements_lines (suc depth) (number + 1) (before + 1) body
-      ++ end_line depth (label_text before) ∷ []
-  statement_lines depth number before (Print items) = text_lines (Some number) depth (own_text before (Print items))
-  statement_lines depth number before (Read items) = text_lines (Some number) depth (own_text before (Read items))
-  statement_lines depth number before Stop = text_lines (Some number) depth (own_text before Stop)
-  statement_lines depth number before (Comment text) = plain_line (own_text before (Comment text)) ∷ []
+      ++ statements_lines (suc depth) (number + 1) body
+      ++ text_lines None depth (codes "END DO")
+  statement_lines depth number (Print items) = text_lines (Some number) depth (own_text (Print items))
+  statement_lines depth number (Read items) = text_lines (Some number) depth (own_text (Read items))
+  statement_lines depth number Stop = text_lines (Some number) depth (own_text Stop)
+  statement_lines depth number (Comment text) = plain_line (own_text (Comment text)) ∷ []
 
-  pub statements_lines : ℕ → ℕ → ℕ → StmtTrees → List Line
-  statements_lines depth number before no_stmts = []
-  statements_lines depth number before (more_stmts s rest) =
-      statement_lines depth number before s ++ statements_lines depth (number + statement_count s) (before + loop_count s) rest
+  pub statements_lines : ℕ → ℕ → StmtTrees → List Line
+  statements_lines depth number no_stmts = []
+  statements_lines depth number (more_stmts s rest) =
+      statement_lines depth number s ++ statements_lines depth (number + statement_count s) rest
 
   -- ELSE and its part, where there is one (ANSI X3.9-1978, sections 3.3, 11.6)
-  pub else_lines : ℕ → ℕ → ℕ → StmtTrees → List Line
-  else_lines depth number before no_stmts = []
-  else_lines depth number before (more_stmts s rest) =
+  pub else_lines : ℕ → ℕ → StmtTrees → List Line
+  else_lines depth number no_stmts = []
+  else_lines depth number (more_stmts s rest) =
       text_lines None depth (codes "ELSE")
-      ++ statement_lines (suc depth) number before s
-      ++ statements_lines (suc depth) (number + statement_count s) (before + loop_count s) rest
+      ++ statement_lines (suc depth) number s
+      ++ statements_lines (suc depth) (number + statement_count s) rest
 
 -- a dimension: a lower bound of literal 1 isn't printed (ANSI X3.9-1978, section 5.1.1.1)
 abbrev pub bound_text : BoundTree → List ℕ
@@ -305,13 +297,17 @@ decl_lines d = if is_remark d then plain_line (decl_text d) ∷ [] else text_lin
 abbrev pub program_lines : ProgramTree → List Line
 program_lines t =
     flat_map decl_lines t.decls
-    ++ statements_lines 0 1 0 t.body
+    ++ statements_lines 0 1 t.body
     ++ text_lines None 0 (codes "END")
 
 -- the printed text of a program (ANSI X3.9-1978, sections 3.3, 3.5)
 abbrev pub program_text : ProgramTree → List ℕ
 program_text t = flat_map (λ l. l.text ++ 10 ∷ []) (program_lines t)
 
--- the printed length of a statement by itself, without indentation; a DO counts with the label 10
+-- how many numbered statements begin on these lines
+abbrev pub begun_in : List Line → ℕ
+begun_in ls = count_by (λ l. is_some l.statement) ls
+
+-- the printed length of a statement by itself, without indentation
 abbrev pub printed_length : StmtTree → ℕ
-printed_length s = length (own_text 0 s)
+printed_length s = length (own_text s)

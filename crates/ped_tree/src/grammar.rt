@@ -7,6 +7,6 @@ mod refusals;
 mod statements;
 
 pub use items::{DoStatement, Entry, Item, StatementReading};
-pub use laws::{first_finding_is_least, one_refusal, tree_or_refusal};
+pub use laws::{first_finding_is_least, former_texts_read, one_refusal, tree_or_refusal};
 pub use refusals::{Refusal, RefusalKind, standing};
 pub use statements::{NoteLine, Statement, Statements};

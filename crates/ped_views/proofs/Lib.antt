@@ -3,4 +3,5 @@ pub mod Dividing
 mod Equal
 pub mod Images
 pub mod Products
+pub mod SameViews
 mod Twos

@@ -80,8 +80,17 @@ impl Model for PairView {
 }
 
 impl PairView {
+    ghost use Rattle.ped_views.specs.SameViews.{same_view};
+
     /// Whether both views hold the same numbers.
     pub fn same(&self, other: &PairView) -> bool
+        ensures same { result ≡ same_view self.now other.now }
+        ensures equal { IsTrue result ↔ (self.now ≡ other.now) }
+    {
+        self.is_equal(other)
+    }
+
+    fn is_equal(&self, other: &PairView) -> bool
         ensures { IsTrue result ↔ (self.now ≡ other.now) }
     {
         same_ranges(&self.loops, &other.loops)

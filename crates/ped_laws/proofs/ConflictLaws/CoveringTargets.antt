@@ -9,7 +9,7 @@ use Rattle.ped_flow.specs.ped_base.specs.Lists.{has_some, is_same_text, is_among
 use Rattle.ped_flow.specs.ped_tree.specs.Tree.{ExprTree, ExprTrees, Int, Var, Element, Neg, Add, Sub, Mul, Div, Pow, Call, no_exprs, more_exprs, CondTree, Rel, Not, And, Or, ItemTree, Value, Text, Head, StmtTree, StmtTrees, Assign, If, Do, Print, Read, Stop, Comment, no_stmts, more_stmts, ProgramTree}
 use Rattle.ped_flow.specs.ped_tree.specs.Accesses.{Access, listed, write_of, unless_constant, expr_reads, exprs_reads, cond_reads, left_accesses, item_reads, private_writes, own_accesses, constant_names}
 use Rattle.ped_flow.specs.ped_tree.specs.Nests.{Loop, indices_of}
-use Rattle.ped_flow.specs.ped_tree.specs.Numbering.{statement_count, statements_count, loop_count, loops_count}
+use Rattle.ped_flow.specs.ped_tree.specs.Numbering.{statement_count, statements_count}
 use Rattle.ped_flow.specs.ped_tree.specs.Printing.{private_text}
 use Rattle.ped_flow.specs.ped_tree.specs.Grammar.LimitNumbers.{most_characters}
 use Rattle.ped_flow.specs.ped_tree.specs.Grammar.StatementForms.{are_names}
@@ -165,13 +165,13 @@ module _ (c : List (List ℕ)) where
         (spare_append p.variables (expr_reads c (indices_of nest) right) (left_accesses c (indices_of nest) left) (reads_spare p.variables (expr_reads c (indices_of nest) right) (expr_read c (indices_of nest) right))
         (left_spares c (indices_of nest) p.variables left front.1 (simple_unmet p (Assign left right) front.0)))
     statement_spared p nest n (If condition a b) same h =
-        let last = and_parts _ (stmts_fit (in_if p (1 + statements_count a) (loops_count a)) b) h in
-        let front = and_parts _ (stmts_fit (in_if p 1 0) a) last.0 in
+        let last = and_parts _ (stmts_fit (in_if p (1 + statements_count a)) b) h in
+        let front = and_parts _ (stmts_fit (in_if p 1) a) last.0 in
         spared_append (numbered_accesses n 1 nest (own_accesses c (indices_of nest) (If condition a b)) ++ statements_references c nest (n + 1) a) (statements_references c nest (n + 1 + statements_count a) b)
         (spared_append (numbered_accesses n 1 nest (own_accesses c (indices_of nest) (If condition a b))) (statements_references c nest (n + 1) a)
         (own_spared p nest n (If condition a b) same (cond_spares c (indices_of nest) p.variables condition))
-        (statements_spared (in_if p 1 0) nest (n + 1) a same front.1))
-        (statements_spared (in_if p (1 + statements_count a) (loops_count a)) nest (n + 1 + statements_count a) b same last.1)
+        (statements_spared (in_if p 1) nest (n + 1) a same front.1))
+        (statements_spared (in_if p (1 + statements_count a)) nest (n + 1 + statements_count a) b same last.1)
     statement_spared p nest n (Do h body) same k =
         let both = and_parts (loop_fits p h body) (stmts_fit (in_loop p h) body) k in
         let private = (and_parts _ (private_fits p h) (and_parts _ (list_all _ h.rejected) both.0).0).1 in
@@ -194,9 +194,9 @@ module _ (c : List (List ℕ)) where
     statements_spared : (p : Surroundings) (nest : List Loop) (n : ℕ) (ss : StmtTrees) → AreRound p nest → stmts_fit p ss ≡ true → AllSpared (statements_references c nest n ss)
     statements_spared p nest n no_stmts same h = none_spared
     statements_spared p nest n (more_stmts s rest) same h =
-        let both = and_parts (stmt_fits p s) (stmts_fit (moved p (statement_count s) (loop_count s)) rest) h in
+        let both = and_parts (stmt_fits p s) (stmts_fit (moved p (statement_count s)) rest) h in
         spared_append (statement_references c nest n s) (statements_references c nest (n + statement_count s) rest) (statement_spared p nest n s same both.0)
-        (statements_spared (moved p (statement_count s) (loop_count s)) nest (n + statement_count s) rest same both.1)
+        (statements_spared (moved p (statement_count s)) nest (n + statement_count s) rest same both.1)
 
 -- in a program that fits no reference writes the variable of a DO round it
 pub variables_spared : (t : ProgramTree) → fits t ≡ true → (r : Reference) → IsIn r (references t) → r.access.writes ≡ true → r.access.subscripts ≡ [] → is_same_text r.access.name (codes "(IN)") ≡ false → is_same_text r.access.name (codes "(OUT)") ≡ false

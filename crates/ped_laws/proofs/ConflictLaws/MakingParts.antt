@@ -7,7 +7,7 @@ use Rattle.ped_flow.specs.ped_tree.proofs.NameLaws.Collected.{among_append}
 use Rattle.ped_flow.specs.ped_tree.proofs.NameLaws.NameEquality.{same_itself}
 use Rattle.ped_flow.specs.ped_tree.specs.Tree.{CondTree, Head, StmtTree, StmtTrees, If, Do, more_stmts, ProgramTree}
 use Rattle.ped_flow.specs.ped_tree.specs.Nests.{Loop, indices_of}
-use Rattle.ped_flow.specs.ped_tree.specs.Numbering.{numbered, all_numbered, at_place, statement_with, statement_count, statements_count, loop_count, loops_count}
+use Rattle.ped_flow.specs.ped_tree.specs.Numbering.{numbered, all_numbered, at_place, statement_with, statement_count, statements_count}
 use Rattle.ped_flow.specs.ped_tree.specs.Accesses.{own_accesses, constant_names}
 use Rattle.ped_flow.specs.ped_tree.proofs.Numbers.{length-numbered, length-all_numbered, at_place-front, at_place-back}
 use Rattle.ped_flow.specs.ped_tree.specs.Grammar.Fits.{Surroundings, moved, in_if, in_loop, loop_fits, stmt_fits, stmts_fit}
@@ -96,7 +96,7 @@ module _ (t : ProgramTree) where
       round = p.round;
     }
 
-    pub rest_parts : (u : StmtTree) (rest : StmtTrees) → Parts s nest scope around n (more_stmts u rest) → Parts s nest scope (moved around (statement_count u) (loop_count u)) (n + statement_count u) rest
+    pub rest_parts : (u : StmtTree) (rest : StmtTrees) → Parts s nest scope around n (more_stmts u rest) → Parts s nest scope (moved around (statement_count u)) (n + statement_count u) rest
     rest_parts u rest p = record {
       fit = (and_parts (stmt_fits around u) _ p.fit).1;
       uses = (and_parts (stmt_is_right (kind_in t) u) _ p.uses).1;
@@ -112,10 +112,10 @@ module _ (t : ProgramTree) where
     abbrev if_own : CondTree → StmtTrees → StmtTrees → List Reference
     if_own c a b = numbered_accesses n 1 nest (own_accesses constants (indices_of nest) (If c a b))
 
-    pub then_parts : (c : CondTree) (a b : StmtTrees) → Part s nest scope around n (If c a b) → Parts s nest scope (in_if around 1 0) (n + 1) a
+    pub then_parts : (c : CondTree) (a b : StmtTrees) → Part s nest scope around n (If c a b) → Parts s nest scope (in_if around 1) (n + 1) a
     then_parts c a b p =
-        let fits = and_parts _ (stmts_fit (in_if around (1 + statements_count a) (loops_count a)) b) p.fit in
-        let front = and_parts _ (stmts_fit (in_if around 1 0) a) fits.0 in
+        let fits = and_parts _ (stmts_fit (in_if around (1 + statements_count a)) b) p.fit in
+        let front = and_parts _ (stmts_fit (in_if around 1) a) fits.0 in
         let right = and_parts _ (stmts_are_right (kind_in t) b) p.uses in
         let inner = stand_rest t n 1 (If c a b ∷ []) (all_numbered a ++ all_numbered b) refl p.stand in
         record {
@@ -130,11 +130,11 @@ module _ (t : ProgramTree) where
           round = p.round;
         }
 
-    pub else_parts : (c : CondTree) (a b : StmtTrees) → Part s nest scope around n (If c a b) → Parts s nest scope (in_if around (1 + statements_count a) (loops_count a)) (n + 1 + statements_count a) b
+    pub else_parts : (c : CondTree) (a b : StmtTrees) → Part s nest scope around n (If c a b) → Parts s nest scope (in_if around (1 + statements_count a)) (n + 1 + statements_count a) b
     else_parts c a b p =
         let inner = stand_rest t n 1 (If c a b ∷ []) (all_numbered a ++ all_numbered b) refl p.stand in
         record {
-          fit = (and_parts _ (stmts_fit (in_if around (1 + statements_count a) (loops_count a)) b) p.fit).1;
+          fit = (and_parts _ (stmts_fit (in_if around (1 + statements_count a)) b) p.fit).1;
           uses = (and_parts _ (stmts_are_right (kind_in t) b) p.uses).1;
           increments = (and_parts (steps_are_right (at_last t).values a) (steps_are_right (at_last t).values b) p.increments).1;
           assigns = λ x h. p.assigns x (among_right x (assigned_in_all a) (assigned_in_all b) h);

@@ -7,7 +7,7 @@ use Rattle.ped_flow.specs.ped_base.specs.Lists.{is_among}
 use Rattle.ped_flow.specs.ped_tree.specs.Names.Collecting.{with_names}
 use Rattle.ped_flow.specs.ped_tree.proofs.NameLaws.Collected.{among_collected}
 use Rattle.ped_flow.specs.ped_tree.specs.Tree.{CondTree, Head, StmtTree, StmtTrees, Assign, If, Do, Print, Read, Stop, Comment, no_stmts, more_stmts, ProgramTree}
-use Rattle.ped_flow.specs.ped_tree.specs.Numbering.{statement_with, statement_count, statements_count, loop_count, loops_count}
+use Rattle.ped_flow.specs.ped_tree.specs.Numbering.{statement_with, statement_count, statements_count}
 use Rattle.ped_flow.specs.ped_tree.specs.Grammar.Fits.{Surroundings, moved, in_if, decls_fit, stmts_fit, begins_with_statement, at_body}
 use Rattle.ped_graph.specs.ped_refs.specs.References.{Reference, outermost}
 use Rattle.ped_graph.specs.ped_symbols.specs.NameRefusals.{IsValid}
@@ -184,9 +184,9 @@ module _ (t : ProgramTree) (valid : IsValid t) where
     run_top (Assign left right) around n k u h = simple_top u n (n + 1) (run p (Assign left right) n [] u) (assignment_done t valid whole u (FineIn (λ m. u) 0 0) n [] [] around (own u n) left right k u (stored u h))
     run_top (If c a b) around n k u h =
         if_top around n (n + (statements_count a + statements_count b + 1)) c a b k (run_all p a (n + 1) []) (run_all p b (n + 1 + statements_count a) []) (omega arith)
-        (λ v g. widened_top (n + 1) (n + 1 + statements_count a) (n + 1) (n + (statements_count a + statements_count b + 1)) (run_all p a (n + 1) [] v) (omega arith) (omega arith) (all_top a (in_if around 1 0) (n + 1) (then_parts t whole [] [] around n c a b k) v g))
+        (λ v g. widened_top (n + 1) (n + 1 + statements_count a) (n + 1) (n + (statements_count a + statements_count b + 1)) (run_all p a (n + 1) [] v) (omega arith) (omega arith) (all_top a (in_if around 1) (n + 1) (then_parts t whole [] [] around n c a b k) v g))
         (λ v g. widened_top (n + 1 + statements_count a) (n + 1 + statements_count a + statements_count b) (n + 1) (n + (statements_count a + statements_count b + 1)) (run_all p b (n + 1 + statements_count a) [] v) (omega arith) (omega arith)
-        (all_top b (in_if around (1 + statements_count a) (loops_count a)) (n + 1 + statements_count a) (else_parts t whole [] [] around n c a b k) v g))
+        (all_top b (in_if around (1 + statements_count a)) (n + 1 + statements_count a) (else_parts t whole [] [] around n c a b k) v g))
         u h
     run_top (Do hd b) around n k u h = do_top around n (n + (statements_count b + 1)) hd b k (omega arith) u h
     run_top (Print items) around n k u h = simple_top u n (n + 1) (run p (Print items) n [] u) (print_done t valid whole u (FineIn (λ m. u) 0 0) n [] [] around (own u n) items k u (stored u h))
@@ -198,7 +198,7 @@ module _ (t : ProgramTree) (valid : IsValid t) where
     all_top no_stmts around n k u h = record { first = λ m. u; acts = each_none (FineIn (λ m. u) n (n + 0)); behind = h }
     all_top (more_stmts x rest) around n k u h =
         let r = run_top x around n (first_part t whole [] [] around n x rest k) u h in
-        let more = λ (v : Store) (g : HoldsStorable variables v). all_top rest (moved around (statement_count x) (loop_count x)) (n + statement_count x) (rest_parts t whole [] [] around n x rest k) v g in
+        let more = λ (v : Store) (g : HoldsStorable variables v). all_top rest (moved around (statement_count x)) (n + statement_count x) (rest_parts t whole [] [] around n x rest k) v g in
         let same : n + statement_count x + statements_count rest ≡ n + (statement_count x + statements_count rest) = omega arith in
         subst (λ (hi : ℕ). Top n hi (run_all p (more_stmts x rest) n [] u)) same
         (followed_top n (n + statement_count x) (n + statement_count x + statements_count rest) r.first (run p x n [] u).acts (run p x n [] u).ending (run_all p rest (n + statement_count x) []) (omega arith) (omega arith) r.acts r.behind more)

@@ -4,7 +4,7 @@ use Rattle.std.proofs.lemmas.Bool.{and_parts}
 use Rattle.ped_flow.specs.ped_base.specs.Lists.{is_among}
 use Rattle.ped_flow.specs.ped_tree.specs.Tree.{Head, StmtTree, StmtTrees, Assign, If, Do, Print, Read, Stop, Comment, no_stmts, more_stmts, ProgramTree}
 use Rattle.ped_flow.specs.ped_tree.specs.Nests.{Loop}
-use Rattle.ped_flow.specs.ped_tree.specs.Numbering.{statement_with, statement_count, statements_count, loop_count, loops_count}
+use Rattle.ped_flow.specs.ped_tree.specs.Numbering.{statement_with, statement_count, statements_count}
 use Rattle.ped_flow.specs.ped_tree.specs.Grammar.Fits.{Surroundings, moved, in_if, in_loop, stmts_fit}
 use Rattle.ped_graph.specs.ped_refs.specs.References.{Reference, outermost}
 use Rattle.ped_graph.specs.ped_symbols.specs.NameRefusals.{IsValid}
@@ -92,8 +92,8 @@ module _ (t : ProgramTree) (valid : IsValid t) (outer : Loop) (first : Store) wh
     run_made (Assign left right) ls scope around n reached k v stored = assignment_done t valid s first Fine n (outer ∷ ls) scope around (own_fine ls scope n reached) left right k v stored
     run_made (If c a b) ls scope around n reached k v stored =
         if_done t valid s first Fine n (outer ∷ ls) scope around (own_fine ls scope n reached) c a b k
-        (λ w within. all_made a ls scope (in_if around 1 0) (n + 1) reached (then_parts t s (outer ∷ ls) scope around n c a b k) w within)
-        (λ w within. all_made b ls scope (in_if around (1 + statements_count a) (loops_count a)) (n + 1 + statements_count a) reached (else_parts t s (outer ∷ ls) scope around n c a b k) w within)
+        (λ w within. all_made a ls scope (in_if around 1) (n + 1) reached (then_parts t s (outer ∷ ls) scope around n c a b k) w within)
+        (λ w within. all_made b ls scope (in_if around (1 + statements_count a)) (n + 1 + statements_count a) reached (else_parts t s (outer ∷ ls) scope around n c a b k) w within)
         v stored
     run_made (Do h b) ls scope around n reached k v stored =
         do_done t valid s first Fine n (outer ∷ ls) scope around (own_fine ls scope n reached) h b k
@@ -112,7 +112,7 @@ module _ (t : ProgramTree) (valid : IsValid t) (outer : Loop) (first : Store) wh
     all_made no_stmts ls scope around n reached k v stored = nothing_is_done s first Fine v stored
     all_made (more_stmts u rest) ls scope around n reached k v stored =
         then_done s first Fine (run p u n scope v) (run_all p rest (n + statement_count u) scope) (run_made u ls scope around n reached (first_part t s (outer ∷ ls) scope around n u rest k) v stored)
-        (λ w within. all_made rest ls scope (moved around (statement_count u) (loop_count u)) (n + statement_count u) reached (rest_parts t s (outer ∷ ls) scope around n u rest k) w within)
+        (λ w within. all_made rest ls scope (moved around (statement_count u)) (n + statement_count u) reached (rest_parts t s (outer ∷ ls) scope around n u rest k) w within)
 
 -- the run of a DO that stands in no other
 pub outermost_made : (t : ProgramTree) (valid : IsValid t) (around : Surroundings) (n : ℕ) (h : Head) (b : StmtTrees) → Part t (setting_in t n) [] [] around n (Do h b) → (u : Store) → IsStoreIn (setting_in t n) u u

@@ -7,7 +7,7 @@ use Rattle.ped_flow.specs.ped_base.specs.Lists.{has_some, is_same_text, is_among
 use Rattle.ped_flow.specs.ped_tree.proofs.NameLaws.Collected.{among_append}
 use Rattle.ped_flow.specs.ped_tree.specs.Tree.{ExprTree, CondTree, ItemTree, Head, StmtTree, StmtTrees, Assign, If, Do, Print, Read, Stop, Comment, no_stmts, more_stmts, ProgramTree}
 use Rattle.ped_flow.specs.ped_tree.specs.Nests.{Loop, indices_of}
-use Rattle.ped_flow.specs.ped_tree.specs.Numbering.{statements_count, loops_count}
+use Rattle.ped_flow.specs.ped_tree.specs.Numbering.{statements_count}
 use Rattle.ped_flow.specs.ped_tree.specs.Accesses.{own_accesses, constant_names}
 use Rattle.ped_flow.specs.ped_tree.specs.Grammar.LimitNumbers.{most_blocks_nested}
 use Rattle.ped_flow.specs.ped_tree.specs.Grammar.Words.{is_name}
@@ -193,8 +193,8 @@ module _ (t : ProgramTree) (valid : IsValid t) (s : ranges.Setting) (first : Sto
   -- the condition of an IF
   pub condition_good : (c : CondTree) (a b : StmtTrees) → Part t s nest scope around n (If c a b) → (u : Store) → IsStoreIn s first u → Each GoodHere (numbered 1 (truth g c u).seen)
   condition_good c a b k u stored =
-      let fits = and_parts _ (stmts_fit (in_if around (1 + statements_count a) (loops_count a)) b) k.fit in
-      let front = and_parts _ (stmts_fit (in_if around 1 0) a) fits.0 in
+      let fits = and_parts _ (stmts_fit (in_if around (1 + statements_count a)) b) k.fit in
+      let front = and_parts _ (stmts_fit (in_if around 1) a) fits.0 in
       let mine = and_parts _ (cond_fits c) front.0 in
       let uses = and_parts _ (stmts_are_right (kind_in t) b) k.uses in
       let condition = and_parts (cond_is_right (kind_in t) c) (stmts_are_right (kind_in t) a) uses.0 in

@@ -17,8 +17,8 @@ use Rattle.ped_eval.specs.ped_store.specs.Stores.{Store}
 use Rattle.ped_eval.specs.Scopes.{Names}
 use Rattle.ped_eval.specs.Evaluation.{Seen, Evaluated, onward, ◌>>>◌, given, by_number}
 use Rattle.ped_eval.specs.Values.{unary, binary, of_intrinsic, name_value, value, values}
-use Rattle.ped_flow.specs.ped_affine.specs.IntervalArithmetic.{interval, point}
-use Rattle.ped_flow.specs.ped_affine.specs.Ranges.{is_near, kept_near, onto}
+use Rattle.ped_flow.specs.ped_affine.specs.IntervalArithmetic.{point}
+use Rattle.ped_flow.specs.ped_affine.specs.Ranges.{is_near, kept_near}
 
 -- a value came of a first one
 pub came : {A B : Type 0} (seen : List Seen) (a : Result A ℕ) (next : A → Evaluated B) (y : B) → (onward seen a next).result ≡ Ok y → (x : A) × (a ≡ Ok x) × ((next x).result ≡ Ok y)

@@ -1,10 +1,10 @@
 -- Iteration counts: the values of a DO variable lie between its limits.
-use Rattle.std.proofs.Common.{◌≡◌, ℕ, suc, ◌*◌, ◌%◌, ◌≤◌, ◌<◌, ◌-◌, refl, sym, ap, ◌∙◌, arith, ℤ, pos, negsuc, neg_ℤ, ◌+ℤ◌, ◌-ℤ◌, ◌*ℤ◌, ◌≤ℤ◌, ◌<ℤ◌, unsigned_abs, int_div, int_rem}
+use Rattle.std.proofs.Common.{◌≡◌, ℕ, ◌*◌, ◌≤◌, ◌<◌, ◌-◌, refl, ◌∙◌, arith, ℤ, pos, negsuc, neg_ℤ, ◌+ℤ◌, ◌-ℤ◌, ◌*ℤ◌, ◌≤ℤ◌, ◌<ℤ◌, unsigned_abs, int_div, int_rem}
 use Rattle.std.proofs.Math.IntN.{*ℤ_comm}
 use Rattle.std.proofs.lemmas.Int.{ints, quot-rem, rem_below}
 use Rattle.ped_eval.specs.ped_store.specs.Storage.{natural}
 use Rattle.ped_eval.specs.Loops.{iteration_count}
-use Rattle.ped_graph.specs.ped_views.proofs.Products.{linear, mul-sub, mul-neg, neg-mul, mul-le}
+use Rattle.ped_graph.specs.ped_views.proofs.Products.{linear, mul-sub, neg-mul, mul-le}
 
 natural_reaches : (q : ℤ) (k : ℕ) → 1 ≤ k → k ≤ natural q → pos k ≤ℤ q
 natural_reaches (pos n) k one h = omega (arith, ints)

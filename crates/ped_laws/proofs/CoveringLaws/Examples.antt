@@ -1,18 +1,15 @@
 -- The definitions at work: DO 20 I=1,N round DO 10 J=I,5,2, with the subscript 2*I-J+K; and a loop in which one access comes an iteration before the other.
-use Rattle.std.proofs.Common.{◌≡◌, ℕ, List, [], ◌∷◌, Bool, true, false, refl, arith, ℤ, pos, negsuc, ◌+ℤ◌, Option, Some, None}
+use Rattle.std.proofs.Common.{◌≡◌, ℕ, List, [], ◌∷◌, true, false, refl, arith, pos, negsuc, Some, None}
 use Rattle.std.specs.Prelude.{codes}
 use Rattle.ped_graph.specs.ped_views.specs.declared.directions.Direction.TheVariants.{Before}
-use Rattle.ped_graph.specs.ped_views.specs.Views.{Range, range, View}
+use Rattle.ped_graph.specs.ped_views.specs.Views.{range, View}
 use Rattle.ped_graph.specs.ped_views.proofs.Products.{linear}
 use Rattle.ped_flow.specs.ped_tree.specs.Tree.{ExprTree, Int, Var, Add, Sub, Mul, Head}
-use Rattle.ped_flow.specs.ped_tree.specs.Nests.{Loop}
 use Rattle.ped_eval.specs.ped_store.specs.Cells.{Scalar, Element, Private, Out}
-use Rattle.ped_eval.specs.ped_store.specs.Acts.{Turn}
 use Rattle.ped_eval.specs.Loops.{iteration_count}
-use Rattle.ped_flow.specs.ped_affine.specs.IntervalArithmetic.{interval}
 use Rattle.ped_flow.specs.ped_affine.specs.Ranges.{Setting, nest_ranges, interval_of}
-use Rattle.ped_flow.specs.ped_affine.specs.AffineForms.{Terms, AffineForm, form, affine_of}
-use Rattle.ped_laws.specs.Covering.Within.{is_storing, AllLie}
+use Rattle.ped_flow.specs.ped_affine.specs.AffineForms.{form, affine_of}
+use Rattle.ped_laws.specs.Covering.Within.{is_storing}
 use Rattle.ped_laws.specs.Covering.Nested.{StandsIn, loop, around_with}
 use Rattle.ped_laws.specs.Covering.Weights.{first_values, form_value}
 use Rattle.ped_laws.specs.Covering.Together.{StandTogether, indices_among, AgreeOnOthers}

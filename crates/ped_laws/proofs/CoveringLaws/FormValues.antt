@@ -1,5 +1,5 @@
 -- Values of expressions by their affine forms.
-use Rattle.std.proofs.Common.{◌≡◌, ℕ, List, [], ◌∷◌, map, length, Bool, true, false, refl, sym, ap, ◌∙◌, subst, arith, ℤ, pos, neg_ℤ, ◌+ℤ◌, ◌-ℤ◌, ◌*ℤ◌, Option, Some, None, Result, Ok, if◌then◌else◌}
+use Rattle.std.proofs.Common.{◌≡◌, ℕ, List, [], length, Bool, true, false, refl, sym, ap, ◌∙◌, subst, arith, ℤ, pos, neg_ℤ, ◌+ℤ◌, ◌-ℤ◌, ◌*ℤ◌, Option, Some, None, Result, Ok, if◌then◌else◌}
 use Rattle.std.proofs.Math.IntN.{*ℤ_comm}
 use Rattle.ped_flow.specs.ped_base.specs.Lists.{is_among}
 use Rattle.ped_flow.specs.ped_base.specs.Arithmetic.Arithmetic.{in_range, negation_of}
@@ -12,8 +12,8 @@ use Rattle.ped_eval.specs.ped_store.specs.Stores.{Store}
 use Rattle.ped_eval.specs.Scopes.{Names}
 use Rattle.ped_eval.specs.Evaluation.{Evaluated, ◌>>>◌, given, by_number}
 use Rattle.ped_eval.specs.Values.{unary, binary, name_value, value}
-use Rattle.ped_flow.specs.ped_affine.specs.AffineForms.{Terms, AffineForm, form, is_limited, within_limits, constant_form, unknown_coefficient, unknown_form, variable_form, combined, combined_form, combination, times, opposite, negation, is_constant_form, product, constant_or, affine_of}
-use Rattle.ped_laws.specs.Covering.Weights.{first_values, form_value, HaveValues}
+use Rattle.ped_flow.specs.ped_affine.specs.AffineForms.{Terms, AffineForm, is_limited, within_limits, constant_form, unknown_coefficient, unknown_form, variable_form, combined_form, combination, times, opposite, negation, is_constant_form, product, constant_or, affine_of}
+use Rattle.ped_laws.specs.Covering.Weights.{first_values, HaveValues}
 use Rattle.ped_laws.proofs.CoveringLaws.Comings.{came, ok_one, some_one, within_range, Comes, constant_comes}
 use Rattle.ped_laws.proofs.CoveringLaws.Weighing.{dot_zeros, dot_opposite, dot_sum, dot_difference, dot_times, dot_none, length_combined, length_mapped, dot_unknown}
 

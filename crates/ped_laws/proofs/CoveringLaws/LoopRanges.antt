@@ -1,20 +1,20 @@
 -- The values of a DO variable in the range of its loop.
-use Rattle.std.proofs.Common.{◌≡◌, ℕ, ◌-◌, ◌≤◌, List, Bool, true, false, not, ◌&&◌, refl, sym, ap, ◌∙◌, subst, arith, ℤ, pos, ◌+ℤ◌, ◌*ℤ◌, ◌<ℤ◌, int_lt, unsigned_abs, nat_le, int_eq, Option, Some, None, Ok, if◌then◌else◌, unwrap_or}
+use Rattle.std.proofs.Common.{◌≡◌, ℕ, ◌-◌, ◌≤◌, List, Bool, true, false, not, refl, sym, ap, ◌∙◌, subst, arith, ℤ, pos, ◌+ℤ◌, ◌*ℤ◌, int_lt, int_eq, Option, Some, None, Ok, if◌then◌else◌, unwrap_or}
 use Rattle.std.proofs.lemmas.Bool.{and_parts}
 use Rattle.std.proofs.lemmas.Int.{ints}
 use Rattle.ped_graph.specs.ped_views.specs.Intervals.{Lies}
 use Rattle.ped_graph.specs.ped_views.specs.declared.intervals.Interval.{Interval}
-use Rattle.ped_graph.specs.ped_views.specs.Views.{Range, range}
+use Rattle.ped_graph.specs.ped_views.specs.Views.{range}
 use Rattle.ped_graph.specs.ped_views.specs.Excluded.{InRange}
 use Rattle.ped_graph.specs.ped_views.proofs.Products.{linear}
-use Rattle.ped_flow.specs.ped_tree.specs.Tree.{ExprTree, Head, StmtTrees}
+use Rattle.ped_flow.specs.ped_tree.specs.Tree.{Head, StmtTrees}
 use Rattle.ped_flow.specs.ped_tree.specs.Constants.ConstantExpressions.{constant_value}
 use Rattle.ped_eval.specs.ped_store.specs.Stores.{Store}
 use Rattle.ped_graph.specs.ped_symbols.specs.RightUses.RightLoops.{is_small, is_step, step_is_right}
 use Rattle.ped_eval.specs.Scopes as run
 use Rattle.ped_eval.specs.Scopes.{Scope, names_in}
 use Rattle.ped_eval.specs.Evaluation.{Seen}
-use Rattle.ped_eval.specs.Loops.{Limits, limits, increment, iteration_count, Entered, entered_with, value_in}
+use Rattle.ped_eval.specs.Loops.{Limits, limits, increment, iteration_count, entered_with, value_in}
 use Rattle.ped_flow.specs.ped_affine.specs.Ranges.{Setting, Around, bound_interval, step_by, is_steady, range_between, loop_range}
 use Rattle.ped_laws.specs.Covering.Within.{AreWithin}
 use Rattle.ped_laws.proofs.CoveringLaws.Counting.{upwards, downwards}

@@ -10,18 +10,18 @@ use Rattle.ped_graph.specs.ped_views.specs.Excluded.{InRange}
 use Rattle.ped_graph.specs.ped_views.proofs.Products.{linear}
 use Rattle.ped_flow.specs.ped_tree.specs.Tree.{Head, StmtTrees}
 use Rattle.ped_flow.specs.ped_tree.specs.Nests.{Loop}
-use Rattle.ped_eval.specs.ped_store.specs.Cells.{Cell, Scalar, Element, Private}
+use Rattle.ped_eval.specs.ped_store.specs.Cells.{Element, Private}
 use Rattle.ped_eval.specs.ped_store.specs.Stores.{Store, Number}
 use Rattle.ped_eval.specs.ped_store.specs.Acts.{Turn, iterations_of}
 use Rattle.ped_graph.specs.ped_symbols.specs.RightUses.RightLoops.{step_is_right}
 use Rattle.ped_eval.specs.Scopes as run
 use Rattle.ped_eval.specs.Scopes.{Scope, turns_of, names_in, cell_of, index_value}
 use Rattle.ped_eval.specs.Evaluation.{Seen}
-use Rattle.ped_eval.specs.Loops.{Limits, limits, Entered, entered_with, frame, value_in}
-use Rattle.ped_flow.specs.ped_affine.specs.Ranges.{Setting, Around, any_value, variable_by, variable_interval, loop_range, between_ends, inside, ranges_inside}
+use Rattle.ped_eval.specs.Loops.{Limits, limits, entered_with, frame, value_in}
+use Rattle.ped_flow.specs.ped_affine.specs.Ranges.{Setting, Around, any_value, variable_by, loop_range, between_ends, inside, ranges_inside}
 use Rattle.ped_flow.specs.ped_affine.specs.PairViews.{heads_of}
 use Rattle.ped_laws.specs.Covering.Within.{AreWithin, is_storing, HoldsStorable}
-use Rattle.ped_laws.specs.Covering.Nested.{AreIterations, StandsIn, Match, Surround, around_with, IsInNest, loop}
+use Rattle.ped_laws.specs.Covering.Nested.{AreIterations, Match, Surround, around_with, IsInNest, loop}
 use Rattle.ped_laws.proofs.CoveringLaws.Comings.{some_one}
 use Rattle.ped_laws.proofs.CoveringLaws.Parts.{storable_lies}
 use Rattle.ped_laws.proofs.CoveringLaws.LoopRanges.{value_in_range}

@@ -16,7 +16,7 @@ use Rattle.ped_flow.specs.ped_tree.specs.Constants.ConstantExpressions.{intrinsi
 use Rattle.ped_eval.specs.ped_store.specs.Stores.{Content, Undefined, Number, Lines, number_read, is_storable}
 use Rattle.ped_eval.specs.Evaluation.{Evaluated, ◌>>>◌, given, by_number}
 use Rattle.ped_eval.specs.Values.{unary, binary, of_intrinsic}
-use Rattle.ped_flow.specs.ped_affine.specs.IntervalArithmetic.{interval, interval_sum, interval_difference, interval_negation, interval_product, interval_max, interval_min}
+use Rattle.ped_flow.specs.ped_affine.specs.IntervalArithmetic.{interval_sum, interval_difference, interval_negation, interval_product, interval_max, interval_min}
 use Rattle.ped_flow.specs.ped_affine.specs.Ranges.{constant_or, of_one, of_two, any_value, onto, call_interval}
 use Rattle.ped_laws.specs.Covering.Within.{AllLie}
 use Rattle.ped_laws.proofs.CoveringLaws.Comings.{came, ok_one, some_one, within_range, kept, point_lies, Comes}

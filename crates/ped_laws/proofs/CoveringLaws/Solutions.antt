@@ -1,5 +1,5 @@
 -- Values that make both subscripts of a position equal.
-use Rattle.std.proofs.Common.{◌≡◌, ℕ, suc, ◌+◌, List, [], ◌∷◌, ◌++◌, length, All, Bool, true, false, not, ◌&&◌, ◌||◌, ◌==◌, IsTrue, refl, sym, ap, ◌∙◌, subst, arith, inl, inr, ◌⊎◌, ℤ, pos, negsuc, neg_ℤ, ◌+ℤ◌, ◌-ℤ◌, ◌*ℤ◌, ◌≤ℤ◌, int_eq, slice_index_or, if◌then◌else◌}
+use Rattle.std.proofs.Common.{◌≡◌, ℕ, suc, ◌+◌, List, [], ◌∷◌, ◌++◌, length, All, Bool, true, false, not, ◌&&◌, ◌||◌, ◌==◌, refl, sym, ap, ◌∙◌, subst, arith, inl, inr, ℤ, pos, negsuc, neg_ℤ, ◌+ℤ◌, ◌*ℤ◌, int_eq, slice_index_or, if◌then◌else◌}
 use Rattle.std.specs.List.{list_any, list_all, AllByRecursion}
 use Rattle.std.proofs.lemmas.Bool.{and_parts, eqb-true}
 use Rattle.std.proofs.lemmas.Bool.Decides.{Decides-int_eq}
@@ -7,9 +7,9 @@ use Rattle.ped_graph.specs.ped_views.specs.declared.directions.Direction.{Direct
 use Rattle.ped_graph.specs.ped_views.specs.declared.directions.Direction.TheVariants.{Before, Same, After}
 use Rattle.ped_graph.specs.ped_views.specs.declared.strong_rows.StrongRow.{StrongRow}
 use Rattle.ped_graph.specs.ped_views.specs.Whole.{is_zero}
-use Rattle.ped_graph.specs.ped_views.specs.Views.{Range, range, Row, SubscriptPair, View}
+use Rattle.ped_graph.specs.ped_views.specs.Views.{Range, range, SubscriptPair, View}
 use Rattle.ped_graph.specs.ped_views.specs.Forms.{Form, ziv, strong_siv, weak_zero_siv, weak_crossing_siv, other_form, Occurrence, occurring, occurrences, has_inner, single_form, common_form, form_of}
-use Rattle.ped_graph.specs.ped_views.specs.Excluded.{by_value, Stands, InRange, Meets, rows_in, group_of, Indices, dot, subscript_value, difference, HasIndices, SharesIndices, HasNoSolution, CommonInRange, InnerInRange, IsPoint, IsBeyondExtremes, loop_at, direction_at, FormExcludes, Excludes}
+use Rattle.ped_graph.specs.ped_views.specs.Excluded.{Stands, Meets, rows_in, group_of, Indices, dot, difference, HasIndices, SharesIndices, CommonInRange, InnerInRange, IsPoint, loop_at, direction_at, FormExcludes, Excludes}
 use Rattle.ped_graph.specs.ped_views.specs.Limits.{FitsLoops, IsView}
 use Rattle.ped_graph.specs.ped_views.specs.Vectors.{IsPossible}
 use Rattle.ped_graph.specs.ped_views.proofs.Products.{linear}

@@ -1,5 +1,5 @@
 -- Sums of coefficients times values.
-use Rattle.std.proofs.Common.{◌≡◌, ℕ, List, [], ◌∷◌, map, length, Bool, true, false, ◌&&◌, ◌||◌, refl, sym, ap, ◌∙◌, subst, arith, ℤ, pos, neg_ℤ, ◌+ℤ◌, ◌-ℤ◌, ◌*ℤ◌, int_eq, if◌then◌else◌}
+use Rattle.std.proofs.Common.{◌≡◌, ℕ, List, [], ◌∷◌, map, length, Bool, true, false, ◌||◌, refl, sym, ap, ◌∙◌, subst, arith, ℤ, pos, neg_ℤ, ◌+ℤ◌, ◌-ℤ◌, ◌*ℤ◌, if◌then◌else◌}
 use Rattle.std.specs.List.{list_all}
 use Rattle.std.proofs.Math.IntN.{*ℤ_comm}
 use Rattle.std.proofs.lemmas.Bool.{and_parts}
@@ -8,10 +8,10 @@ use Rattle.std.proofs.lemmas.Int.{ints}
 use Rattle.ped_flow.specs.ped_base.specs.Lists.{is_same_text, is_among}
 use Rattle.ped_graph.specs.ped_views.specs.Excluded.{dot}
 use Rattle.ped_graph.specs.ped_views.specs.Whole.{is_zero}
-use Rattle.ped_graph.specs.ped_views.proofs.Products.{linear, mul-add, mul-sub, mul-neg, neg-mul, mul-assoc, sub-mul}
+use Rattle.ped_graph.specs.ped_views.proofs.Products.{linear, mul-add, neg-mul, mul-assoc, sub-mul}
 use Rattle.ped_flow.specs.ped_affine.specs.AffineForms.{unknown_coefficient, combined}
 use Rattle.ped_laws.specs.Covering.Weights.{first_values}
-use Rattle.ped_laws.proofs.CoveringLaws.Texts.{text_is, text_itself}
+use Rattle.ped_laws.proofs.CoveringLaws.Texts.{text_is}
 
 zero_times : (i : ℤ) → pos 0 *ℤ i ≡ pos 0
 zero_times i = omega (arith, ints)

@@ -21,7 +21,7 @@ use Rattle.ped_eval.specs.Loops.{Limits, limits, Entered, entered_with, frame, e
 use Rattle.ped_eval.specs.Runs.{Ending, going, stopped, failed, Run, followed_by, then_run, on_value, does, nothing_done, run_taking, turns, run_entered, run_from_entry, run, run_all}
 use Rattle.ped_flow.specs.Events.{Event, start_events, exit_events, overwrites}
 use Rattle.ped_flow.specs.PathSets as paths
-use Rattle.ped_flow.specs.PathSets.{Kind, Just, InTurn, AnyTimes, Paths, in_turn, either}
+use Rattle.ped_flow.specs.PathSets.{Just, InTurn, AnyTimes, Paths, in_turn, either}
 use Rattle.ped_flow.specs.Paths.{all_paths, at_once, paths_behind, all_paths_behind}
 use Rattle.ped_flow.proofs.Truths.{untrue, or_split, or_none}
 use Rattle.ped_flow.proofs.EventLaws.{overwrites-append, reads_first-front, reads_first-back}

@@ -11,7 +11,7 @@ use Rattle.ped_laws.specs.Acts.Sets.{writes_to, written_by, read_first, needed_b
 use Rattle.ped_eval.specs.Evaluation.{Seen, cell_seen, index_seen, numbered}
 use Rattle.ped_eval.specs.Statements.{write_touch}
 use Rattle.ped_flow.specs.Events as events
-use Rattle.ped_flow.specs.Events.{Event, event, reads_of, is_overwriting_of, is_assigning, is_read_by, overwrites, reads_first, has_value}
+use Rattle.ped_flow.specs.Events.{Event, event, reads_of, overwrites, reads_first, has_value}
 use Rattle.ped_flow.proofs.EventLaws.{overwrites-append, reads_first-front, reads_first-back, has_value-append, has_value-kept}
 use Rattle.ped_flow.proofs.Truths.{untrue, or_split, or_none}
 use Rattle.ped_laws.specs.FlowRuns.Covering.{is_number, holds_number, IsReadOn, Covers}

@@ -3,7 +3,7 @@ use Rattle.std.proofs.Common.{◌≡◌, ℕ, suc, ℤ, List, [], ◌∷◌, ◌
 use Rattle.std.specs.List.{flat_map}
 use Rattle.std.proofs.lemmas.List.{append-nil, map-append}
 use Rattle.ped_flow.specs.ped_base.specs.Lists.{is_same_text, is_among}
-use Rattle.ped_flow.specs.ped_tree.specs.Tree.{ExprTree, Int, Var, Element, Neg, Add, Sub, Mul, Div, Pow, Call, CondTree, ItemTree}
+use Rattle.ped_flow.specs.ped_tree.specs.Tree.{ExprTree, Int, Var, Element, Neg, Add, Sub, Mul, Div, Pow, Call, ItemTree}
 use Rattle.ped_flow.specs.ped_tree.specs.Tree as tree
 use Rattle.ped_eval.specs.ped_store.specs.Cells as tree_cell
 use Rattle.ped_eval.specs.ped_store.specs.Cells.{Cell, In, Out, same_cell}

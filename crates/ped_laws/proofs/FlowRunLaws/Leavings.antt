@@ -11,7 +11,7 @@ use Rattle.ped_laws.specs.Acts.Sets.{written_by, needed_by}
 use Rattle.ped_eval.specs.Scopes.{Scope, cell_of}
 use Rattle.ped_eval.specs.Loops.{Entered, inner_variables, undefined_by, undefined_all, exit_touches, left_in_variable}
 use Rattle.ped_flow.specs.Events as events
-use Rattle.ped_flow.specs.Events.{Event, event, copied, has_value, overwrites, is_overwriting_of, is_assigning}
+use Rattle.ped_flow.specs.Events.{event, copied, has_value, overwrites}
 use Rattle.ped_flow.proofs.Truths.{untrue, or_split, or_none}
 use Rattle.ped_laws.specs.FlowRuns.Covering.{is_number, holds_number}
 use Rattle.ped_laws.proofs.FlowRunLaws.Coverings.{written_parts, holds_append, needed_parts, not_so, kept_number}

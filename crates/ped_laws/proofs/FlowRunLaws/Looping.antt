@@ -13,7 +13,7 @@ use Rattle.ped_eval.specs.Evaluation.{Seen, numbered}
 use Rattle.ped_eval.specs.Loops.{Entered, inner_variables, frame, exit_touches, exit_when_none, entry_touches}
 use Rattle.ped_eval.specs.Runs.{Ending, going, stopped, failed, Run, followed_by, does, nothing_done, turns, parallel_turns, run_entered, run_from_entry}
 use Rattle.ped_flow.specs.Events as events
-use Rattle.ped_flow.specs.Events.{Event, event, reads_of, scalars_in, own_events, copied, start_events, exit_events, overwrites, reads_first, has_value}
+use Rattle.ped_flow.specs.Events.{Event, event, reads_of, copied, start_events, exit_events, overwrites, has_value}
 use Rattle.ped_flow.specs.PathSets.{Kind, Just, InTurn, Times, AnyTimes, Paths}
 use Rattle.ped_flow.proofs.Truths.{untrue, or_none}
 use Rattle.ped_flow.proofs.EventLaws.{has_value-append, reads_first-front}

@@ -5,7 +5,7 @@ use Rattle.std.proofs.lemmas.Bool.{and_parts}
 use Rattle.std.proofs.lemmas.List.Folds.{list_any-append}
 use Rattle.ped_flow.specs.ped_base.specs.Lists.{has_some}
 use Rattle.ped_flow.specs.ped_tree.specs.Tree.{StmtTree, StmtTrees, Assign, If, Do, Print, Read, Stop, Comment, no_stmts, more_stmts, ProgramTree}
-use Rattle.ped_flow.specs.ped_tree.specs.Numbering.{numbered, all_numbered, at_place, statement_count, loop_count, statements_count, loops_count}
+use Rattle.ped_flow.specs.ped_tree.specs.Numbering.{numbered, all_numbered, at_place, statement_count, statements_count}
 use Rattle.ped_flow.specs.ped_tree.specs.Grammar.Fits.{Surroundings, moved, in_if, in_loop, loop_fits, stmt_fits, stmts_fit, decls_fit, begins_with_statement, at_body, fits}
 use Rattle.ped_flow.specs.Questions.{LoopOf}
 use Rattle.ped_flow.proofs.Truths.{untrue, or_none}
@@ -28,8 +28,8 @@ mutual
   none_within : (p : Surroundings) (t : StmtTree) → has_some p.variables ≡ true → stmt_fits p t ≡ true → has_stop t ≡ false
   none_within p (Assign left right) v h = refl
   none_within p (If condition a b) v h =
-      let first = none_within_all (in_if p 1 0) a v (last_part _ (stmts_fit (in_if p 1 0) a) (first_part _ (stmts_fit (in_if p (1 + statements_count a) (loops_count a)) b) h)) in
-      let second = none_within_all (in_if p (1 + statements_count a) (loops_count a)) b v (last_part _ (stmts_fit (in_if p (1 + statements_count a) (loops_count a)) b) h) in
+      let first = none_within_all (in_if p 1) a v (last_part _ (stmts_fit (in_if p 1) a) (first_part _ (stmts_fit (in_if p (1 + statements_count a)) b) h)) in
+      let second = none_within_all (in_if p (1 + statements_count a)) b v (last_part _ (stmts_fit (in_if p (1 + statements_count a)) b) h) in
       λ i. first i || second i
   none_within p (Do h b) v k = none_within_all (in_loop p h) b refl (last_part (loop_fits p h b) (stmts_fit (in_loop p h) b) k)
   none_within p (Print items) v h = refl
@@ -40,16 +40,16 @@ mutual
   none_within_all : (p : Surroundings) (ts : StmtTrees) → has_some p.variables ≡ true → stmts_fit p ts ≡ true → some_stop ts ≡ false
   none_within_all p no_stmts v h = refl
   none_within_all p (more_stmts t rest) v h =
-      let first = none_within p t v (first_part (stmt_fits p t) (stmts_fit (moved p (statement_count t) (loop_count t)) rest) h) in
-      let second = none_within_all (moved p (statement_count t) (loop_count t)) rest v (last_part (stmt_fits p t) (stmts_fit (moved p (statement_count t) (loop_count t)) rest) h) in
+      let first = none_within p t v (first_part (stmt_fits p t) (stmts_fit (moved p (statement_count t)) rest) h) in
+      let second = none_within_all (moved p (statement_count t)) rest v (last_part (stmt_fits p t) (stmts_fit (moved p (statement_count t)) rest) h) in
       λ i. first i || second i
 
 mutual
   none_stops : (p : Surroundings) (t : StmtTree) → stmt_fits p t ≡ true → stops_in_loop t ≡ false
   none_stops p (Assign left right) h = refl
   none_stops p (If condition a b) h =
-      let first = all_none_stop (in_if p 1 0) a (last_part _ (stmts_fit (in_if p 1 0) a) (first_part _ (stmts_fit (in_if p (1 + statements_count a) (loops_count a)) b) h)) in
-      let second = all_none_stop (in_if p (1 + statements_count a) (loops_count a)) b (last_part _ (stmts_fit (in_if p (1 + statements_count a) (loops_count a)) b) h) in
+      let first = all_none_stop (in_if p 1) a (last_part _ (stmts_fit (in_if p 1) a) (first_part _ (stmts_fit (in_if p (1 + statements_count a)) b) h)) in
+      let second = all_none_stop (in_if p (1 + statements_count a)) b (last_part _ (stmts_fit (in_if p (1 + statements_count a)) b) h) in
       λ i. first i || second i
   none_stops p (Do h b) k = none_within_all (in_loop p h) b refl (last_part (loop_fits p h b) (stmts_fit (in_loop p h) b) k)
   none_stops p (Print items) h = refl
@@ -60,8 +60,8 @@ mutual
   all_none_stop : (p : Surroundings) (ts : StmtTrees) → stmts_fit p ts ≡ true → some_stops_in_loop ts ≡ false
   all_none_stop p no_stmts h = refl
   all_none_stop p (more_stmts t rest) h =
-      let first = none_stops p t (first_part (stmt_fits p t) (stmts_fit (moved p (statement_count t) (loop_count t)) rest) h) in
-      let second = all_none_stop (moved p (statement_count t) (loop_count t)) rest (last_part (stmt_fits p t) (stmts_fit (moved p (statement_count t) (loop_count t)) rest) h) in
+      let first = none_stops p t (first_part (stmt_fits p t) (stmts_fit (moved p (statement_count t)) rest) h) in
+      let second = all_none_stop (moved p (statement_count t)) rest (last_part (stmt_fits p t) (stmts_fit (moved p (statement_count t)) rest) h) in
       λ i. first i || second i
 
 -- a program of the profile has none in a DO

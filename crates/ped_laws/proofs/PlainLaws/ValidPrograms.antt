@@ -1,15 +1,15 @@
 -- What a valid program tells of its bounds and of STOP.
-use Rattle.std.proofs.Common.{◌≡◌, ℕ, ◌+◌, ◌-◌, ℤ, List, [], ◌∷◌, ◌++◌, Bool, true, false, Option, Some, None, is_some, refl, ap, sym, ◌∙◌, if◌then◌else◌}
+use Rattle.std.proofs.Common.{◌≡◌, ℕ, ◌+◌, ◌-◌, ℤ, List, [], ◌∷◌, Bool, true, false, Option, Some, None, is_some, refl, ap, sym, ◌∙◌, if◌then◌else◌}
 use Rattle.std.specs.Prelude.{◌&&◌, ◌==◌}
 use Rattle.std.specs.List.{list_all}
 use Rattle.std.proofs.lemmas.Bool.{and_parts, and_from}
 use Rattle.std.proofs.lemmas.List.Folds.{list_all-append}
 use Rattle.ped_flow.specs.ped_base.specs.Lists.{is_among}
 use Rattle.ped_flow.specs.ped_tree.specs.Tree.{Head, StmtTree, StmtTrees, Assign, If, Do, Print, Read, Stop, Comment, no_stmts, more_stmts, ProgramTree}
-use Rattle.ped_flow.specs.ped_tree.specs.Numbering.{statement_count, statements_count, loop_count, loops_count, numbered, all_numbered, at_place, statement_with}
+use Rattle.ped_flow.specs.ped_tree.specs.Numbering.{statement_count, statements_count, numbered, all_numbered, at_place, statement_with}
 use Rattle.ped_flow.specs.ped_tree.specs.Accesses.{constant_names}
 use Rattle.ped_flow.specs.ped_tree.specs.Constants.NamedConstants.{value_named}
-use Rattle.ped_flow.specs.ped_tree.specs.Grammar.Fits.{Surroundings, moved, in_if, in_loop, expr_fits, loop_fits, stmt_fits, stmts_fit, decls_fit, begins_with_statement, at_body, fits}
+use Rattle.ped_flow.specs.ped_tree.specs.Grammar.Fits.{Surroundings, moved, in_if, in_loop, expr_fits, loop_fits, stmt_fits, stmts_fit, decls_fit, begins_with_statement, at_body}
 use Rattle.ped_graph.specs.ped_symbols.specs.NameRefusals.{IsValid}
 use Rattle.ped_graph.specs.ped_symbols.proofs.RightUseLaws.Whole.{constants_valued}
 use Rattle.ped_eval.specs.Outcomes.{setting_of}
@@ -38,9 +38,9 @@ mutual
   own_bounds : (p : Surroundings) (s : StmtTree) → stmt_fits p s ≡ true → list_all bounds_fit (numbered s) ≡ true
   own_bounds p (Assign left right) f = refl
   own_bounds p (If c a b) f =
-      let second = and_parts _ (stmts_fit (in_if p (1 + statements_count a) (loops_count a)) b) f in
-      let first = and_parts _ (stmts_fit (in_if p 1 0) a) second.0 in
-      list_all-append bounds_fit (all_numbered a) (all_numbered b) ∙ and_from _ _ (all_bounds (in_if p 1 0) a first.1) (all_bounds (in_if p (1 + statements_count a) (loops_count a)) b second.1)
+      let second = and_parts _ (stmts_fit (in_if p (1 + statements_count a)) b) f in
+      let first = and_parts _ (stmts_fit (in_if p 1) a) second.0 in
+      list_all-append bounds_fit (all_numbered a) (all_numbered b) ∙ and_from _ _ (all_bounds (in_if p 1) a first.1) (all_bounds (in_if p (1 + statements_count a)) b second.1)
   own_bounds p (Do h body) f =
       let parts = and_parts (loop_fits p h body) (stmts_fit (in_loop p h) body) f in
       and_from (expr_fits h.first && expr_fits h.last) _ (head_bounds p h body parts.0) (all_bounds (in_loop p h) body parts.1)
@@ -52,8 +52,8 @@ mutual
   all_bounds : (p : Surroundings) (ss : StmtTrees) → stmts_fit p ss ≡ true → list_all bounds_fit (all_numbered ss) ≡ true
   all_bounds p no_stmts f = refl
   all_bounds p (more_stmts s rest) f =
-      let parts = and_parts (stmt_fits p s) (stmts_fit (moved p (statement_count s) (loop_count s)) rest) f in
-      list_all-append bounds_fit (numbered s) (all_numbered rest) ∙ and_from _ _ (own_bounds p s parts.0) (all_bounds (moved p (statement_count s) (loop_count s)) rest parts.1)
+      let parts = and_parts (stmt_fits p s) (stmts_fit (moved p (statement_count s)) rest) f in
+      list_all-append bounds_fit (numbered s) (all_numbered rest) ∙ and_from _ _ (own_bounds p s parts.0) (all_bounds (moved p (statement_count s)) rest parts.1)
 
 bounds_at : (ss : List StmtTree) (n : ℕ) (s : StmtTree) → list_all bounds_fit ss ≡ true → at_place ss n ≡ Some s → bounds_fit s ≡ true
 bounds_at [] n s a h = absurd cc

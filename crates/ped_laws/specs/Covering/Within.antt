@@ -1,5 +1,5 @@
 -- Values that lie in the intervals of their names, at a place of a run and in a store (ANSI X3.9-1978, section 11.10.3; this project).
-use Rattle.std.specs.Prelude.{◌≡◌, ℕ, ℤ, List, [], ◌∷◌, Bool, true, false, not, Option, Some, None}
+use Rattle.std.specs.Prelude.{◌≡◌, ℕ, ℤ, List, [], ◌∷◌, Bool, true, false, not, Some, None}
 use Rattle.ped_flow.specs.ped_base.specs.Lists.{is_among}
 use Rattle.ped_graph.specs.ped_views.specs.declared.intervals.Interval.{Interval}
 use Rattle.ped_graph.specs.ped_views.specs.Intervals.{Lies}

@@ -1,18 +1,18 @@
 -- The printed text of a program is that of its printed statements.
-use Rattle.std.proofs.Common.{◌≡◌, ℕ, suc, ◌+◌, ◌-◌, ◌*◌, ◌≤◌, min, List, [], ◌∷◌, ◌++◌, map, length, codes, Option, None, Some, refl, ap, sym, ◌∙◌, append_assoc, length-append, arith}
+use Rattle.std.proofs.Common.{◌≡◌, ℕ, suc, ◌+◌, ◌-◌, List, [], ◌∷◌, ◌++◌, map, codes, Option, None, Some, refl, ap, sym, ◌∙◌, append_assoc}
 use Rattle.std.specs.List.{flat_map, range_with_len}
-use Rattle.std.proofs.lemmas.List.{append-nil, map-append, take_all, length-replicate}
+use Rattle.std.proofs.lemmas.List.{append-nil, map-append}
 use Rattle.std.proofs.lemmas.List.Concat.{flat_map-append}
 use Rattle.ped_tree.specs.Tree.{StmtTree, StmtTrees, Assign, If, Do, Print, Read, Stop, Comment, no_stmts, more_stmts, DeclTree, Program, Implicit, Integer, Dimension, Parameter, Save, Remark, ProgramTree}
-use Rattle.ped_tree.specs.Numbering.{statement_count, statements_count, loop_count, loops_count}
-use Rattle.ped_tree.specs.Printing.{Line, plain_line, blanks, indentation, piece, piece_count, text_lines, end_line, directive_lines, private_lines, private_text, label_text, own_text, statement_lines, statements_lines, else_lines, decl_text, decl_lines, program_lines, program_text}
+use Rattle.ped_tree.specs.Numbering.{statement_count, statements_count}
+use Rattle.ped_tree.specs.Printing.{Line, plain_line, blanks, piece, piece_count, text_lines, directive_lines, private_lines, private_text, own_text, statement_lines, statements_lines, else_lines, decl_text, decl_lines, program_lines, program_text}
 use Rattle.ped_lines.specs.Printed.Printed.{PrintedNote, a_rejection, note_line, characters, cut_lines, all_printed_lines, printed_text}
-use Rattle.ped_lines.specs.Printed.Parts.{Part, a_note, a_statement, unlabelled, private_parts, statement_parts, statements_parts, else_parts, decl_part, program_parts, with_notes, notes_left, printed_statements}
+use Rattle.ped_lines.specs.Printed.Parts.{Part, a_note, a_statement, private_parts, statement_parts, statements_parts, else_parts, decl_part, program_parts, with_notes, notes_left, printed_statements}
 
 -- the lines of a part
 abbrev pub part_lines : Part → List (List ℕ)
 part_lines (a_note n) = note_line n ∷ []
-part_lines (a_statement label depth text) = cut_lines label (characters depth text)
+part_lines (a_statement depth text) = cut_lines (characters depth text)
 
 abbrev pub parts_lines : List Part → List (List ℕ)
 parts_lines ps = flat_map part_lines ps
@@ -39,25 +39,11 @@ continuations : (cs : List ℕ) (ks : List ℕ) → texts (map (λ k. plain_line
 continuations cs [] = refl
 continuations cs (k ∷ ks) = ap (λ (x : List (List ℕ)). (codes "     &" ++ piece cs k) ∷ x) (continuations cs ks)
 
-one : (number : Option ℕ) (depth : ℕ) (text : List ℕ) → Prints (unlabelled depth text ∷ []) (text_lines number depth text)
+one : (number : Option ℕ) (depth : ℕ) (text : List ℕ) → Prints (a_statement depth text ∷ []) (text_lines number depth text)
 one number depth text =
     let cs = characters depth text in
     record {
-      same = ap (λ (x : List (List ℕ)). (blanks 6 ++ piece cs 0) ∷ x) (continuations cs (range_with_len 1 (piece_count cs - 1))) ∙ sym (append-nil (cut_lines None cs));
-    }
-
--- the line that ends a DO
-last_line : (depth before : ℕ) → Prints (a_statement (Some (10 * (before + 1))) depth (codes "CONTINUE") ∷ []) (end_line depth (label_text before) ∷ [])
-last_line depth before =
-    let label = label_text before in
-    let cs = characters depth (codes "CONTINUE") in
-    let field = label ++ blanks (6 - length label) in
-    let width : length (indentation depth) ≤ 20 = omega (arith, length-replicate {A = ℕ} (min (2 * depth) 20) 32) in
-    let short : length cs ≤ 66 = omega (arith, length-append (indentation depth) (codes "CONTINUE"), width) in
-    let no_more : piece_count cs - 1 ≡ 0 = omega (arith, short) in
-    let here : field ++ indentation depth ++ codes "CONTINUE" ≡ field ++ piece cs 0 = append_assoc field (indentation depth) (codes "CONTINUE") ∙ ap (λ (x : List ℕ). field ++ x) (sym (take_all 66 cs short)) in
-    record {
-      same = (λ i. here i ∷ map (λ k. codes "     &" ++ piece cs k) (range_with_len 1 (sym no_more i))) ∙ sym (append-nil (cut_lines (Some (10 * (before + 1))) cs));
+      same = ap (λ (x : List (List ℕ)). (blanks 6 ++ piece cs 0) ∷ x) (continuations cs (range_with_len 1 (piece_count cs - 1))) ∙ sym (append-nil (cut_lines cs));
     }
 
 rejections : (names : List (List ℕ)) → Prints (map (λ x. a_note (a_rejection x)) names) (directive_lines names)
@@ -69,40 +55,40 @@ privates depth [] = record { same = refl }
 privates depth (x ∷ xs) = one None depth (private_text (x ∷ xs))
 
 mutual
-  of_statement : (depth number before : ℕ) (s : StmtTree) → Prints (statement_parts depth before s) (statement_lines depth number before s)
-  of_statement depth number before (Assign left right) = one (Some number) depth (own_text before (Assign left right))
-  of_statement depth number before (If condition then_part else_part) =
+  of_statement : (depth number : ℕ) (s : StmtTree) → Prints (statement_parts depth s) (statement_lines depth number s)
+  of_statement depth number (Assign left right) = one (Some number) depth (own_text (Assign left right))
+  of_statement depth number (If condition then_part else_part) =
       behind (behind (behind
-      (one (Some number) depth (own_text before (If condition then_part else_part)))
-      (of_statements (suc depth) (number + 1) before then_part))
-      (of_else depth (number + 1 + statements_count then_part) (before + loops_count then_part) else_part))
+      (one (Some number) depth (own_text (If condition then_part else_part)))
+      (of_statements (suc depth) (number + 1) then_part))
+      (of_else depth (number + 1 + statements_count then_part) else_part))
       (one None depth (codes "END IF"))
-  of_statement depth number before (Do h body) =
+  of_statement depth number (Do h body) =
       behind (behind (behind (behind
       (rejections h.rejected)
-      (one (Some number) depth (own_text before (Do h body))))
+      (one (Some number) depth (own_text (Do h body))))
       (privates (suc depth) h.private))
-      (of_statements (suc depth) (number + 1) (before + 1) body))
-      (last_line depth before)
-  of_statement depth number before (Print items) = one (Some number) depth (own_text before (Print items))
-  of_statement depth number before (Read items) = one (Some number) depth (own_text before (Read items))
-  of_statement depth number before Stop = one (Some number) depth (own_text before Stop)
-  of_statement depth number before (Comment text) = record { same = refl }
+      (of_statements (suc depth) (number + 1) body))
+      (one None depth (codes "END DO"))
+  of_statement depth number (Print items) = one (Some number) depth (own_text (Print items))
+  of_statement depth number (Read items) = one (Some number) depth (own_text (Read items))
+  of_statement depth number Stop = one (Some number) depth (own_text Stop)
+  of_statement depth number (Comment text) = record { same = refl }
 
-  of_statements : (depth number before : ℕ) (ss : StmtTrees) → Prints (statements_parts depth before ss) (statements_lines depth number before ss)
-  of_statements depth number before no_stmts = record { same = refl }
-  of_statements depth number before (more_stmts s rest) =
+  of_statements : (depth number : ℕ) (ss : StmtTrees) → Prints (statements_parts depth ss) (statements_lines depth number ss)
+  of_statements depth number no_stmts = record { same = refl }
+  of_statements depth number (more_stmts s rest) =
       behind
-      (of_statement depth number before s)
-      (of_statements depth (number + statement_count s) (before + loop_count s) rest)
+      (of_statement depth number s)
+      (of_statements depth (number + statement_count s) rest)
 
-  of_else : (depth number before : ℕ) (ss : StmtTrees) → Prints (else_parts depth before ss) (else_lines depth number before ss)
-  of_else depth number before no_stmts = record { same = refl }
-  of_else depth number before (more_stmts s rest) =
+  of_else : (depth number : ℕ) (ss : StmtTrees) → Prints (else_parts depth ss) (else_lines depth number ss)
+  of_else depth number no_stmts = record { same = refl }
+  of_else depth number (more_stmts s rest) =
       behind (behind
       (one None depth (codes "ELSE"))
-      (of_statement (suc depth) number before s))
-      (of_statements (suc depth) (number + statement_count s) (before + loop_count s) rest)
+      (of_statement (suc depth) number s))
+      (of_statements (suc depth) (number + statement_count s) rest)
 
 of_decl : (d : DeclTree) → Prints (decl_part d ∷ []) (decl_lines d)
 of_decl (Program x) = one None 0 (decl_text (Program x))
@@ -118,7 +104,7 @@ of_decls [] = record { same = refl }
 of_decls (d ∷ ds) = behind (of_decl d) (of_decls ds)
 
 of_program : (t : ProgramTree) → Prints (program_parts t) (program_lines t)
-of_program t = behind (behind (of_decls t.decls) (of_statements 0 1 0 t.body)) (one None 0 (codes "END"))
+of_program t = behind (behind (of_decls t.decls) (of_statements 0 1 t.body)) (one None 0 (codes "END"))
 
 -- parts as statements with the notes before them
 
@@ -131,20 +117,20 @@ grouped before (a_note n ∷ rest) =
     grouped (before ++ n ∷ []) rest
     ∙ ap (λ (x : List (List ℕ)). x ++ parts_lines rest) (notes_lines before n)
     ∙ append_assoc (map note_line before) (note_line n ∷ []) (parts_lines rest)
-grouped before (a_statement label depth text ∷ rest) =
-    let own = cut_lines label (characters depth text) in
+grouped before (a_statement depth text ∷ rest) =
+    let own = cut_lines (characters depth text) in
     append_assoc (map note_line before ++ own) (all_printed_lines (with_notes [] rest)) (map note_line (notes_left [] rest))
     ∙ ap (λ (x : List (List ℕ)). (map note_line before ++ own) ++ x) (grouped [] rest)
     ∙ append_assoc (map note_line before) own (parts_lines rest)
 
 -- no note stands behind a last statement
-none_left : (before : List PrintedNote) (ps : List Part) (label : Option ℕ) (depth : ℕ) (text : List ℕ) → notes_left before (ps ++ a_statement label depth text ∷ []) ≡ []
-none_left before [] label depth text = refl
-none_left before (a_note n ∷ rest) label depth text = none_left (before ++ n ∷ []) rest label depth text
-none_left before (a_statement other far words ∷ rest) label depth text = none_left [] rest label depth text
+none_left : (before : List PrintedNote) (ps : List Part) (depth : ℕ) (text : List ℕ) → notes_left before (ps ++ a_statement depth text ∷ []) ≡ []
+none_left before [] depth text = refl
+none_left before (a_note n ∷ rest) depth text = none_left (before ++ n ∷ []) rest depth text
+none_left before (a_statement far words ∷ rest) depth text = none_left [] rest depth text
 
 program_left : (t : ProgramTree) → notes_left [] (program_parts t) ≡ []
-program_left t = none_left [] (map decl_part t.decls ++ statements_parts 0 0 t.body) None 0 (codes "END")
+program_left t = none_left [] (map decl_part t.decls ++ statements_parts 0 t.body) 0 (codes "END")
 
 statements_printed : (t : ProgramTree) → all_printed_lines (printed_statements t) ≡ parts_lines (program_parts t)
 statements_printed t =

@@ -1,5 +1,5 @@
 -- The lines of all printed statements, statement by statement.
-use Rattle.std.proofs.Common.{◌≡◌, ℕ, suc, zero, ◌+◌, ◌-◌, ◌*◌, ◌≤◌, min, true, false, List, [], ◌∷◌, ◌++◌, map, length, take, replicate, Option, None, refl, ap, sym, subst, ◌∙◌, append_assoc, length-append, arith}
+use Rattle.std.proofs.Common.{◌≡◌, ℕ, suc, zero, ◌+◌, ◌-◌, ◌*◌, ◌≤◌, min, true, false, List, [], ◌∷◌, ◌++◌, map, length, take, replicate, None, refl, ap, sym, subst, ◌∙◌, append_assoc, length-append, arith}
 use Rattle.std.specs.List.{AllByRecursion, list_all, flat_map, range_with_len}
 use Rattle.std.specs.Str.Lines.{lines}
 use Rattle.std.proofs.lemmas.Bool.{and_from}
@@ -12,17 +12,17 @@ use Rattle.ped_tree.specs.Grammar.Grouping.{comment_at, directive_at, further_li
 use Rattle.ped_tree.specs.Grammar.Refusal.{OpenConstant, refused_if, first_of}
 use Rattle.ped_tree.specs.Grammar.LimitNumbers.{most_continuations}
 use Rattle.ped_tree.specs.Grammar.LineRefusals.{Initial, at_line, at_further, at_orphans, in_rest, in_statements, first_line_refusal}
-use Rattle.ped_tree.specs.Printing.{piece, piece_count}
+use Rattle.ped_tree.specs.Printing.{blanks, piece, piece_count}
 use Rattle.ped_lines.proofs.Quoting.{has_bad_append}
-use Rattle.ped_lines.specs.Printed.Printed.{PrintedStatement, note_line, label_field, characters, cut_lines, printed_lines, all_printed_lines, printed_text}
-use Rattle.ped_lines.specs.Printed.Fitting.{LabelFits, TextFits, StatementFits, StatementsFit}
+use Rattle.ped_lines.specs.Printed.Printed.{PrintedStatement, note_line, characters, cut_lines, printed_lines, all_printed_lines, printed_text}
+use Rattle.ped_lines.specs.Printed.Fitting.{TextFits, StatementFits, StatementsFit}
 use Rattle.ped_lines.specs.Printed.Cut.{comments_at, directives_at, cut_at, cut_from, cut}
 use Rattle.ped_lines.proofs.PrintedLaws.Bytes.{neither, allowed_printable}
 use Rattle.ped_lines.proofs.PrintedLaws.Blanks.{quoted_blanks, quoted_behind, text_indented, bad_indented, text_filled, bad_filled, seen}
 use Rattle.ped_lines.proofs.PrintedLaws.Pieces.{filled, piece_short, columns_behind, blanks_behind, pieces_back}
 use Rattle.ped_lines.proofs.PrintedLaws.Grouped.{all_joined}
 use Rattle.ped_lines.proofs.PrintedLaws.Lines.{IsLine, printable_line, lines_written}
-use Rattle.ped_lines.proofs.PrintedLaws.Fields.{label_fields}
+use Rattle.ped_lines.proofs.PrintedLaws.Fields.{blank_field}
 use Rattle.ped_lines.proofs.PrintedLaws.Notes as notes
 use Rattle.ped_lines.proofs.PrintedLaws.Further as further
 use Rattle.ped_lines.proofs.PrintedLaws.Further.{IsFresh, further_line, numbered_from}
@@ -64,18 +64,18 @@ whole depth text fits =
     }
 
 -- and of the initial line with them
-record IsInitial (label : Option ℕ) (cs line : List ℕ) : Type 0 where
+record IsInitial (cs line : List ℕ) : Type 0 where
   comment : is_comment line ≡ false
   begins : is_continuation line ≡ false
-  label_is : label_of line ≡ label
+  label_is : label_of line ≡ None
   good : has_bad_label line ≡ false
   prints : list_all is_printable line ≡ true
   columns : statement_columns line ≡ filled (piece cs 0)
 
-initial : (label : Option ℕ) (cs text : List ℕ) → LabelFits label → IsWhole cs text → IsInitial label cs (label_field label ++ piece cs 0)
-initial label cs text fits w =
-    let f = label_fields label fits in
-    let field = label_field label in
+initial : (cs text : List ℕ) → IsWhole cs text → IsInitial cs (blanks 6 ++ piece cs 0)
+initial cs text w =
+    let f = blank_field in
+    let field = blanks 6 in
     record {
       comment = f.comment (piece cs 0) w.shown;
       begins = f.begins (piece cs 0);
@@ -87,20 +87,20 @@ initial label cs text fits w =
 
 -- an initial line ends what came before it
 
-fresh_first : (label : Option ℕ) (cs line : List ℕ) (more : List (List ℕ)) → IsInitial label cs line → IsFresh (line ∷ more)
-fresh_first label cs line more h = record {
+fresh_first : (cs line : List ℕ) (more : List (List ℕ)) → IsInitial cs line → IsFresh (line ∷ more)
+fresh_first cs line more h = record {
   further = λ n. rw (h.comment, h.begins) refl;
   within = λ at before n. rw (h.comment, h.begins) refl;
 }
 
-refusals_first : (label : Option ℕ) (cs line : List ℕ) (more : List (List ℕ)) (n : ℕ) → IsInitial label cs line → in_statements n (line ∷ more) ≡ at_line n Initial [] line ++ in_rest n most_continuations (statement_columns line) (further_lines (n + 1) more) ++ in_statements (n + 1) more
-refusals_first label cs line more n h = rw (h.comment, h.begins) refl
+refusals_first : (cs line : List ℕ) (more : List (List ℕ)) (n : ℕ) → IsInitial cs line → in_statements n (line ∷ more) ≡ at_line n Initial [] line ++ in_rest n most_continuations (statement_columns line) (further_lines (n + 1) more) ++ in_statements (n + 1) more
+refusals_first cs line more n h = rw (h.comment, h.begins) refl
 
-statements_first : (label : Option ℕ) (cs line : List ℕ) (more : List (List ℕ)) (comments directives : List Note) (n : ℕ) → IsInitial label cs line → statements_from comments directives n (line ∷ more) ≡ statement_at comments directives n line more ∷ statements_from [] [] (n + 1) more
-statements_first label cs line more comments directives n h = rw (h.comment, h.begins) refl
+statements_first : (cs line : List ℕ) (more : List (List ℕ)) (comments directives : List Note) (n : ℕ) → IsInitial cs line → statements_from comments directives n (line ∷ more) ≡ statement_at comments directives n line more ∷ statements_from [] [] (n + 1) more
+statements_first cs line more comments directives n h = rw (h.comment, h.begins) refl
 
-behind_first : (label : Option ℕ) (cs line : List ℕ) (more : List (List ℕ)) (at : ℕ → List ℕ → List Note) (before : List Note) (n : ℕ) → IsInitial label cs line → notes_behind at before n (line ∷ more) ≡ notes_behind at [] (n + 1) more
-behind_first label cs line more at before n h = rw h.comment refl
+behind_first : (cs line : List ℕ) (more : List (List ℕ)) (at : ℕ → List ℕ → List Note) (before : List Note) (n : ℕ) → IsInitial cs line → notes_behind at before n (line ∷ more) ≡ notes_behind at [] (n + 1) more
+behind_first cs line more at before n h = rw h.comment refl
 
 -- no refusal stands in a statement
 
@@ -117,25 +117,25 @@ nothing_in_rest first n cs text columns w same =
 -- the lines of a statement, and those behind it
 
 first_line : PrintedStatement → List ℕ
-first_line s = label_field s.label ++ piece (characters s.depth s.text) 0
+first_line s = blanks 6 ++ piece (characters s.depth s.text) 0
 
 lines_behind : PrintedStatement → List (List ℕ) → List (List ℕ)
 lines_behind s rest = map (further_line (characters s.depth s.text)) (numbers (characters s.depth s.text)) ++ rest
 
 parts : (s : PrintedStatement) (rest : List (List ℕ)) → printed_lines s ++ rest ≡ map note_line s.notes ++ (first_line s ∷ lines_behind s rest)
 unfolding first_line lines_behind
-parts s rest = append_assoc (map note_line s.notes) (cut_lines s.label (characters s.depth s.text)) rest
+parts s rest = append_assoc (map note_line s.notes) (cut_lines (characters s.depth s.text)) rest
 
-first_initial : (s : PrintedStatement) → StatementFits s → IsInitial s.label (characters s.depth s.text) (first_line s)
+first_initial : (s : PrintedStatement) → StatementFits s → IsInitial (characters s.depth s.text) (first_line s)
 unfolding first_line
-first_initial s h = initial s.label (characters s.depth s.text) s.text h.label (whole s.depth s.text h.text)
+first_initial s h = initial (characters s.depth s.text) s.text (whole s.depth s.text h.text)
 
 all_fresh : (ss : List PrintedStatement) → StatementsFit ss → IsFresh (all_printed_lines ss)
 all_fresh [] h = record { further = λ n. refl; within = λ at before n. refl }
 all_fresh (s ∷ ss) h =
     let rest = all_printed_lines ss in
     let more = lines_behind s rest in
-    let first = fresh_first s.label (characters s.depth s.text) (first_line s) more (first_initial s h.0) in
+    let first = fresh_first (characters s.depth s.text) (first_line s) more (first_initial s h.0) in
     subst IsFresh (sym (parts s rest)) record {
       further = λ n. notes.further_past n s.notes (first_line s ∷ more) ∙ first.further (n + length s.notes);
       within = λ at before n. notes.within_past at (first_line s ∷ more) (first.within at) before n s.notes;
@@ -145,7 +145,7 @@ all_fresh (s ∷ ss) h =
 line_behind : (n : ℕ) (s : PrintedStatement) → ((n + length s.notes) + 1) + length (numbers (characters s.depth s.text)) ≡ n + length (printed_lines s)
 line_behind n s =
     let cs = characters s.depth s.text in
-    omega (arith, length-append (map note_line s.notes) (cut_lines s.label cs), length-map s.notes note_line, length-map (numbers cs) (further_line cs))
+    omega (arith, length-append (map note_line s.notes) (cut_lines cs), length-map s.notes note_line, length-map (numbers cs) (further_line cs))
 
 nothing_refused : (n : ℕ) (ss : List PrintedStatement) → StatementsFit ss → in_statements n (all_printed_lines ss) ≡ []
 unfolding lines_behind
@@ -166,7 +166,7 @@ nothing_refused n (s ∷ ss) h =
     let behind : in_statements (m + 1) more ≡ [] = further.refusals_past (m + 1) cs (numbers cs) rest ∙ nothing_refused ((m + 1) + length (numbers cs)) ss h.1 in
     ap (in_statements n) (parts s rest)
     ∙ notes.statements_past n s.notes (line ∷ more)
-    ∙ refusals_first s.label cs line more m i0
+    ∙ refusals_first cs line more m i0
     ∙ (λ i. here i ++ inside i ++ behind i)
 
 statement_is : (n m : ℕ) (s : PrintedStatement) (rest : List (List ℕ)) → m ≡ n + length s.notes → StatementFits s → IsFresh rest → statement_at (comments_at n s.notes) (directives_at n s.notes) m (first_line s) (lines_behind s rest) ≡ cut_at n s
@@ -197,7 +197,7 @@ all_cut n (s ∷ ss) h =
     further.statements_past (m + 1) cs (numbers cs) rest ∙ ap (λ (k : ℕ). statements_from [] [] k rest) (line_behind n s) ∙ all_cut (n + length (printed_lines s)) ss h.1 in
     ap (statements_from [] [] n) (parts s rest)
     ∙ notes.statements_with [] [] n s.notes (line ∷ more) h.0.notes
-    ∙ statements_first s.label cs line more (comments_at n s.notes) (directives_at n s.notes) m (first_initial s h.0)
+    ∙ statements_first cs line more (comments_at n s.notes) (directives_at n s.notes) m (first_initial s h.0)
     ∙ (λ i. statement_is n m s rest refl h.0 (all_fresh ss h.1) i ∷ behind i)
 
 nothing_behind : (at : ℕ → List ℕ → List Note) (n : ℕ) (ss : List PrintedStatement) → StatementsFit ss → notes_behind at [] n (all_printed_lines ss) ≡ []
@@ -209,7 +209,7 @@ nothing_behind at n (s ∷ ss) h =
     let line = first_line s in
     let more = lines_behind s rest in
     let from : (before : List Note) (m : ℕ) → notes_behind at before m (line ∷ more) ≡ [] =
-    λ before m. behind_first s.label cs line more at before m (first_initial s h.0) ∙ further.behind_past at (m + 1) cs (numbers cs) rest ∙ nothing_behind at ((m + 1) + length (numbers cs)) ss h.1 in
+    λ before m. behind_first cs line more at before m (first_initial s h.0) ∙ further.behind_past at (m + 1) cs (numbers cs) rest ∙ nothing_behind at ((m + 1) + length (numbers cs)) ss h.1 in
     ap (notes_behind at [] n) (parts s rest) ∙ notes.behind_past at (line ∷ more) from [] n s.notes
 
 -- the lines are read as they were written
@@ -219,7 +219,7 @@ unfolding first_line
 statement_lines s h =
     let cs = characters s.depth s.text in
     let first : IsLine (first_line s) = printable_line (first_line s) (first_initial s h).prints in
-    all_joined IsLine (map note_line s.notes) (cut_lines s.label cs) (notes.note_lines s.notes h.notes) (first, further.further_are_lines cs (numbers cs) (whole s.depth s.text h.text).prints)
+    all_joined IsLine (map note_line s.notes) (cut_lines cs) (notes.note_lines s.notes h.notes) (first, further.further_are_lines cs (numbers cs) (whole s.depth s.text h.text).prints)
 
 all_lines : (ss : List PrintedStatement) → StatementsFit ss → AllByRecursion IsLine (all_printed_lines ss)
 all_lines [] h = tt

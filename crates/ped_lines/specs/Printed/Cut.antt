@@ -1,5 +1,5 @@
 -- The statements that are read back from the lines of printed ones (ANSI X3.9-1978, section 3.2).
-use Rattle.std.specs.Prelude.{ℕ, ◌+◌, List, [], ◌∷◌, ◌++◌, length, codes}
+use Rattle.std.specs.Prelude.{ℕ, ◌+◌, List, [], ◌∷◌, ◌++◌, length, codes, None}
 use Rattle.ped_tree.specs.Grammar.Characters.{text_of}
 use Rattle.ped_tree.specs.Grammar.Statement.{Note, Statement, Statements}
 use Rattle.ped_lines.specs.Printed.Printed.{PrintedNote, a_comment, a_rejection, PrintedStatement, printed_lines, all_printed_lines}
@@ -20,7 +20,7 @@ directives_at n (a_rejection name ∷ more) = record { line = n; text = codes "R
 abbrev pub cut_at : ℕ → PrintedStatement → Statement
 cut_at n s = record {
   line = n + length s.notes;
-  label = s.label;
+  label = None;
   text = text_of s.text;
   comments = comments_at n s.notes;
   directives = directives_at n s.notes;

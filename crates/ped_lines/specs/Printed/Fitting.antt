@@ -1,5 +1,5 @@
 -- Which statements are printed so that their lines can be read back (ANSI X3.9-1978, section 3.2; this project).
-use Rattle.std.specs.Prelude.{◌≡◌, ℕ, ◌≤◌, List, [], ◌∷◌, length, Option, Some, None, Bool, true, false, not, ◌==◌}
+use Rattle.std.specs.Prelude.{◌≡◌, ℕ, ◌≤◌, List, [], ◌∷◌, length, Bool, true, false, not, ◌==◌}
 use Rattle.std.specs.List.{AllByRecursion, list_all, list_any}
 use Rattle.ped_base.specs.Letters.{is_alphanumeric}
 use Rattle.ped_tree.specs.Grammar.Columns.{is_blank, is_directive}
@@ -24,11 +24,6 @@ abbrev pub NoteFits : PrintedNote → Type 0
 NoteFits (a_comment text) = IsCommentText text
 NoteFits (a_rejection name) = IsRejectedName name
 
--- a label is 1 to 99999
-abbrev pub LabelFits : Option ℕ → Type 0
-LabelFits None = Unit {0}
-LabelFits (Some label) = (1 ≤ label) × (label ≤ 99999)
-
 -- the first character is no blank
 abbrev pub begins_at_once : List ℕ → Bool
 begins_at_once [] = false
@@ -44,7 +39,6 @@ pub record TextFits (depth : ℕ) (text : List ℕ) : Type 0 where
 -- a statement can be read back
 pub record StatementFits (s : PrintedStatement) : Type 0 where
   pub notes : AllByRecursion NoteFits s.notes
-  pub label : LabelFits s.label
   pub text : TextFits s.depth s.text
 
 -- and so can all of these

@@ -1,7 +1,6 @@
 -- Printed statements and their lines (ANSI X3.9-1978, section 3.2; this project).
-use Rattle.std.specs.Prelude.{ℕ, ◌-◌, List, [], ◌∷◌, ◌++◌, map, codes, length, Option, Some, None}
+use Rattle.std.specs.Prelude.{ℕ, ◌-◌, List, [], ◌∷◌, ◌++◌, map, codes}
 use Rattle.std.specs.List.{flat_map, range_with_len}
-use Rattle.std.specs.Fmt.{decimal}
 use Rattle.ped_tree.specs.Printing.{blanks, indentation, piece, piece_count}
 
 -- what is printed before a statement: a comment by its text, or the directive that rejects a name
@@ -9,10 +8,9 @@ pub data PrintedNote : Type 0 where
   a_comment : List ℕ → PrintedNote
   a_rejection : List ℕ → PrintedNote
 
--- a printed statement: the comments and directives before it, its label, by how many loops and IFs it is indented, and its text
+-- a printed statement, which has no label: the comments and directives before it, by how many loops and IFs it is indented, and its text
 pub record PrintedStatement : Type 0 where
   pub notes : List PrintedNote
-  pub label : Option ℕ
   pub depth : ℕ
   pub text : List ℕ
 
@@ -21,22 +19,17 @@ abbrev pub note_line : PrintedNote → List ℕ
 note_line (a_comment text) = codes "C" ++ text
 note_line (a_rejection name) = codes "C$PED REJECT " ++ name
 
--- columns 1 to 6 of an initial line: blanks, or the label from column 1
-abbrev pub label_field : Option ℕ → List ℕ
-label_field None = blanks 6
-label_field (Some label) = decimal label ++ blanks (6 - length (decimal label))
-
 -- the characters that are cut into the lines of a statement
 abbrev pub characters : ℕ → List ℕ → List ℕ
 characters depth text = indentation depth ++ text
 
--- a statement's initial line and its continuation lines, with 66 of these characters on each
-abbrev pub cut_lines : Option ℕ → List ℕ → List (List ℕ)
-cut_lines label cs = (label_field label ++ piece cs 0) ∷ map (λ k. codes "     &" ++ piece cs k) (range_with_len 1 (piece_count cs - 1))
+-- a statement's initial line, blank in columns 1 to 6, and its continuation lines, with 66 of these characters on each
+abbrev pub cut_lines : List ℕ → List (List ℕ)
+cut_lines cs = (blanks 6 ++ piece cs 0) ∷ map (λ k. codes "     &" ++ piece cs k) (range_with_len 1 (piece_count cs - 1))
 
 -- the lines of a statement, with the comments and directives before it
 abbrev pub printed_lines : PrintedStatement → List (List ℕ)
-printed_lines s = map note_line s.notes ++ cut_lines s.label (characters s.depth s.text)
+printed_lines s = map note_line s.notes ++ cut_lines (characters s.depth s.text)
 
 -- the lines of statements
 abbrev pub all_printed_lines : List PrintedStatement → List (List ℕ)

@@ -11,7 +11,7 @@ use Rattle.ped_lines.specs.ped_tree.specs.Grammar.Refusal.{Finding, Syntax, Open
 use Rattle.ped_lines.specs.ped_tree.specs.Grammar.Statement.{Note, Statements}
 use Rattle.ped_lines.specs.ped_tree.specs.Grammar.Items.{declares, ends_program, says, Entry}
 use Rattle.ped_lines.specs.ped_tree.specs.Grammar.Occurrences.{saved_names}
-use Rattle.ped_lines.specs.ped_tree.specs.Grammar.Contexts.{Block, Context, at_start, decl_rank, is_save, open_loops, open_variables, has_do, behind, behind_all}
+use Rattle.ped_lines.specs.ped_tree.specs.Grammar.Contexts.{Block, Context, at_start, decl_rank, is_save, open_loops, open_variables, behind, behind_all}
 use Rattle.ped_lines.specs.ped_tree.specs.Grammar.BlockForms.{entry}
 use Rattle.ped_lines.specs.ped_tree.specs.Grammar.ProgramRefusals.{is_out_of_order, is_behind_end, breaks_syntax, leaves_open, block_depth, is_too_large, is_too_long, at_statement, at_statements, at_end, program_refusals}
 use Rattle.ped_printed.proofs.ProgramLaws.Pieces.{decl_piece, end_piece, statements_pieces, Spot, statement_here, behind_piece, entry_here, entries_here, behind_both, entries_both}
@@ -32,7 +32,6 @@ record Declaring (ks : List (List ℕ)) (phase : ℕ) (c : Context) : Type 0 whe
   early : nat_le phase 3 ≡ true
   blocks : c.blocks ≡ []
   statements : c.statements ≡ 0
-  loops : c.loops ≡ 0
   everything : c.saves_everything ≡ false
 
 -- a declaration that is accepted
@@ -58,16 +57,16 @@ and_none false = refl
 -- one declaration, whose rank is the phase behind it
 pass_decl : (saved ks : List (List ℕ)) (phase : ℕ) (c : Context) (q : Spot) (d : DeclTree) (rest : List Entry) → Declaring ks phase c → rejections q.notes ≡ [] → DeclarationFits phase d
     → nat_le (decl_rank d) 3 ≡ true → max phase (decl_rank d) ≡ decl_rank d
-    → OnePassed saved c (ks ++ constants_in d) (decl_rank d) (entry (statement_here q None 0 (decl_text d)) (declares d) ∷ []) rest
+    → OnePassed saved c (ks ++ constants_in d) (decl_rank d) (entry (statement_here q 0 (decl_text d)) (declares d) ∷ []) rest
 pass_decl saved ks phase c q d rest at only fits low high =
     let i = declares d in
-    let e = entry (statement_here q None 0 (decl_text d)) i in
+    let e = entry (statement_here q 0 (decl_text d)) i in
     let ended : is_behind_end c ≡ false = ap (nat_le 5) at.reached ∙ before_end phase at.early in
     let order : is_out_of_order c.phase (decl_rank d) ≡ false = ap (λ n. is_out_of_order n (decl_rank d)) at.reached ∙ fits.ordered in
     let again : (is_save d && c.saves_everything) ≡ false = ap (λ (b : Bool). is_save d && b) at.everything ∙ and_none (is_save d) in
-    let placed : breaks_syntax c (says i) ≡ false = λ j. not false && (ended j || false || (order j || false || false || (again j || (false && (c.saves_names || c.saves_everything))))) in
+    let placed : breaks_syntax c None (says i) ≡ false = λ j. not false && (ended j || false || (order j || false || false || (again j || (false && (c.saves_names || c.saves_everything))) || false)) in
     let large : is_too_large i ≡ false = (let a = declared_small d fits.declares in let b = declared_few d fits.declares in λ j. a j || b j) in
-    let long : is_too_long saved c.loops i ≡ false = or_none _ fits.short in
+    let long : is_too_long saved i ≡ false = or_none _ fits.short in
     let ok = passes_all saved c e rest (undirected c e q.line q.notes refl only) placed refl refl refl refl (kept_never (open_loops c.blocks)) refl (within_limit saved c rest i large refl refl refl long) in
     record {
       after = behind c e;
@@ -78,7 +77,6 @@ pass_decl saved ks phase c q d rest at only fits low high =
         early = low;
         blocks = at.blocks;
         statements = ap (λ n. n + 0) at.statements;
-        loops = ap (λ n. n + 0) at.loops;
         everything = ap (λ (b : Bool). b || false) at.everything;
       };
     }
@@ -164,13 +162,13 @@ past_end : (phase : ℕ) → nat_le 5 (max phase 5) ≡ true
 past_end phase = grind arith
 
 -- END
-end_passes : (saved : List (List ℕ)) (c : Context) (p : Surroundings) (q : Spot) → Stands p c → c.blocks ≡ [] → rejections q.notes ≡ [] → at_statement saved c (entry (statement_here q None 0 (codes "END")) ends_program) [] ≡ []
+end_passes : (saved : List (List ℕ)) (c : Context) (p : Surroundings) (q : Spot) → Stands p c → c.blocks ≡ [] → rejections q.notes ≡ [] → at_statement saved c (entry (statement_here q 0 (codes "END")) ends_program) [] ≡ []
 end_passes saved c p q at none only =
     let i = ends_program in
-    let e = entry (statement_here q None 0 (codes "END")) i in
+    let e = entry (statement_here q 0 (codes "END")) i in
     let ended = early c.phase at.phase in
     let order = not_past_end c.phase at.phase in
-    let placed : breaks_syntax c (says i) ≡ false = λ j. not false && (ended j || false || (order j || false || false || ((false && c.saves_everything) || (false && (c.saves_names || c.saves_everything))))) in
+    let placed : breaks_syntax c None (says i) ≡ false = λ j. not false && (ended j || false || (order j || false || false || ((false && c.saves_everything) || (false && (c.saves_names || c.saves_everything))) || false)) in
     let closed : leaves_open c.blocks i ≡ false = ap (λ (bs : List Block). has_some bs) none in
     passes_all saved c e [] (undirected c e q.line q.notes refl only) placed refl closed refl refl (kept_never (open_loops c.blocks)) refl (within_limit saved c [] i refl refl refl refl refl)
 
@@ -192,27 +190,25 @@ whole_accepted t all h none =
     let f = and_parts (decls_fit 0 t.decls) (stmts_fit (at_body t) t.body) parts.0 in
     let saved = saved_names (whole_entries t) in
     let ds = map decl_piece t.decls in
-    let ss = statements_pieces 0 0 t.body in
+    let ss = statements_pieces 0 t.body in
     let p = body_spot t in
     let q = ending_spot t in
-    let e = entry (statement_here q None 0 (codes "END")) ends_program in
+    let e = entry (statement_here q 0 (codes "END")) ends_program in
     let ed = entries_here start ds in
     let es = entries_here p ss in
     let last : List Entry = e ∷ [] in
     let clear = decls_only start t.decls refl in
-    let first = pass_decls saved [] 0 at_start start t.decls (es ++ last ++ []) (record { constants = refl; reached = refl; early = refl; blocks = refl; statements = refl; loops = refl; everything = refl }) refl f.0 in
+    let first = pass_decls saved [] 0 at_start start t.decls (es ++ last ++ []) (record { constants = refl; reached = refl; early = refl; blocks = refl; statements = refl; everything = refl }) refl f.0 in
     let at : Stands (at_body t) first.after = record {
       constants = first.position.constants;
       variables = ap open_variables first.position.blocks;
       private = ap open_private first.position.blocks;
       depth = ap block_depth first.position.blocks;
       statements = first.position.statements;
-      loops = first.position.loops;
       phase = ap (λ n. nat_le n 4) first.position.reached ∙ from_decls first.phase first.position.early;
-      fresh = λ m h. ap (has_do m) first.position.blocks;
     } in
-    let second = pass_stmts saved first.after (at_body t) 0 0 p t.body (last ++ []) at refl clear f.1 in
-    let ok = end_passes saved second.after _ q second.position (second.blocks ∙ first.position.blocks) (only_all 0 0 p t.body clear) in
+    let second = pass_stmts saved first.after (at_body t) 0 p t.body (last ++ []) at clear f.1 in
+    let ok = end_passes saved second.after _ q second.position (second.blocks ∙ first.position.blocks) (only_all 0 p t.body clear) in
     let third : at_statements saved second.after (e ∷ []) ≡ [] = ap (λ (fs : List Finding). fs ++ []) ok in
     let entries : whole_entries t ≡ ed ++ es ++ last =
     entries_both start (ds ++ ss) (end_piece ∷ [])

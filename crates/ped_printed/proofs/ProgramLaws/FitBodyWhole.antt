@@ -33,8 +33,8 @@ entries_sourced (s ∷ ss) [] h k = absurd h
 
 -- the comments before the first statement belong to the declarations
 
-nowhere_on : (p : Surroundings) → moved p 0 0 ≡ p
-nowhere_on p = let n = none_more p.statements in let m = none_more p.loops in λ i. record p { statements = n i; loops = m i }
+nowhere_on : (p : Surroundings) → moved p 0 ≡ p
+nowhere_on p = let n = none_more p.statements in λ i. record p { statements = n i }
 
 pub behind_front_fit : (p : Surroundings) (ts : List StmtTree) → ListFit p ts → ListFit p (behind_front ts)
 behind_front_fit p [] f = tt
@@ -54,7 +54,7 @@ front_fit p phase (Do h body ∷ ts) f = refl
 front_fit p phase (Print items ∷ ts) f = refl
 front_fit p phase (Read items ∷ ts) f = refl
 front_fit p phase (Stop ∷ ts) f = refl
-front_fit p phase (Comment text ∷ ts) f = and_from (comment_fits text) _ f.0 (front_fit (moved p 0 0) phase ts f.1)
+front_fit p phase (Comment text ∷ ts) f = and_from (comment_fits text) _ f.0 (front_fit (moved p 0) phase ts f.1)
 
 pub begins_behind_front : (ts : List StmtTree) → begins_with_statement (pack_stmts (behind_front ts)) ≡ true
 begins_behind_front [] = refl
@@ -68,20 +68,20 @@ begins_behind_front (Comment text ∷ ts) = begins_behind_front ts
 
 -- before the first executable statement
 abbrev pub body_place : List (List ℕ) → Surroundings
-body_place constants = record { constants = constants; variables = []; private = []; depth = 0; statements = 0; loops = 0 }
+body_place constants = record { constants = constants; variables = []; private = []; depth = 0; statements = 0 }
 
 -- all executable statements of a program with the comments before END
-pub all_fit : (saved : List (List ℕ)) (c : Context) (b : BodyForm) (ending : Statement) (rest : List Entry) → c.blocks ≡ [] → c.statements ≡ 0 → c.loops ≡ 0
+pub all_fit : (saved : List (List ℕ)) (c : Context) (b : BodyForm) (ending : Statement) (rest : List Entry) → c.blocks ≡ [] → c.statements ≡ 0
     → IsTrue (body_keeps_labels [] b) → at_statements saved c (body_entries b ++ rest) ≡ [] → Sourced (body_entries b) → CommentsFit ending.comments
     → ListFit (body_place c.constants) (body_trees b ++ comments_of ending)
-all_fit saved c b ending rest none first outside fits ok r comments =
-    let f = body_fit saved c.constants [] 0 0 0 c b rest refl (record { constants_are = refl; blocks_are = none; statements_are = first; loops_are = outside }) fits (record { nothing_found = ok }) r in
-    (with_comments c.constants [] 0 0 0 c (body_trees b) (body_entries b) ending comments f).fits
+all_fit saved c b ending rest none first fits ok r comments =
+    let f = body_fit saved c.constants [] 0 0 c b rest refl (record { constants_are = refl; blocks_are = none; statements_are = first }) fits (record { nothing_found = ok }) r in
+    (with_comments c.constants [] 0 0 c (body_trees b) (body_entries b) ending comments f).fits
 
 -- the statements of the tree, which begin with the first that is no comment
-pub whole_body_fits : (saved : List (List ℕ)) (c : Context) (b : BodyForm) (ending : Statement) (rest : List Entry) → c.blocks ≡ [] → c.statements ≡ 0 → c.loops ≡ 0
+pub whole_body_fits : (saved : List (List ℕ)) (c : Context) (b : BodyForm) (ending : Statement) (rest : List Entry) → c.blocks ≡ [] → c.statements ≡ 0
     → IsTrue (body_keeps_labels [] b) → at_statements saved c (body_entries b ++ rest) ≡ [] → Sourced (body_entries b) → CommentsFit ending.comments
     → stmts_fit (body_place c.constants) (pack_stmts (behind_front (body_trees b ++ comments_of ending))) ≡ true
-whole_body_fits saved c b ending rest none first outside fits ok r comments =
+whole_body_fits saved c b ending rest none first fits ok r comments =
     let ts = body_trees b ++ comments_of ending in
-    packed_fit (body_place c.constants) (behind_front ts) (behind_front_fit (body_place c.constants) ts (all_fit saved c b ending rest none first outside fits ok r comments))
+    packed_fit (body_place c.constants) (behind_front ts) (behind_front_fit (body_place c.constants) ts (all_fit saved c b ending rest none first fits ok r comments))

@@ -8,11 +8,11 @@ use Rattle.ped_lines.specs.ped_tree.specs.Accesses.{constants_in, constant_names
 use Rattle.ped_lines.specs.ped_tree.specs.Printing.{is_remark}
 use Rattle.ped_lines.specs.ped_tree.specs.Grammar.Statement.{Note, Statement}
 use Rattle.ped_lines.specs.ped_tree.specs.Grammar.Items.{Item, declares, saves_all, says, Entry}
-use Rattle.ped_lines.specs.ped_tree.specs.Grammar.StatementForms.{StatementForm, program, implicit, integer, dimension, parameter, save, save_all, simple, if_simple, if_then, else_if_then, else_alone, end_of_if, do_loop, private, end, assignment, print, read, stop, continue, statement_item, ReadsItem}
+use Rattle.ped_lines.specs.ped_tree.specs.Grammar.StatementForms.{StatementForm, program, implicit, integer, dimension, parameter, save, save_all, simple, if_simple, if_then, else_if_then, else_alone, end_of_if, do_loop, end_of_do, private, end, assignment, print, read, stop, continue, statement_item, ReadsItem}
 use Rattle.ped_lines.specs.ped_tree.specs.Grammar.Contexts.{Context, left_by, decl_rank, rank, behind, behind_all}
 use Rattle.ped_lines.specs.ped_tree.specs.Grammar.BlockForms.{entry}
 use Rattle.ped_lines.specs.ped_tree.specs.Grammar.ProgramForms.{DeclForm, a_declaration, a_save_of_all, decl_entry, remarks_of, save_of, decl_trees, front_remarks}
-use Rattle.ped_lines.specs.ped_tree.specs.Grammar.ProgramRefusals.{is_behind_end, is_out_of_order, lacks_if, is_late_private, saves_again, is_misplaced, breaks_syntax, at_statement}
+use Rattle.ped_lines.specs.ped_tree.specs.Grammar.ProgramRefusals.{is_behind_end, is_out_of_order, lacks_if, lacks_do, is_late_private, saves_again, is_misplaced, breaks_syntax, at_statement}
 use Rattle.ped_blocks.proofs.BlocksFound.{none_stands, left_empty, right_empty}
 use Rattle.ped_lines.specs.ped_tree.specs.Grammar.Fits.{comment_fits, decls_fit}
 use Rattle.ped_printed.proofs.ProgramLaws.Fits.{comment_whole, DeclarationFits, declaration_parts, declaration_whole}
@@ -60,7 +60,8 @@ form_no_remark (if_then c) = refl
 form_no_remark (else_if_then c) = refl
 form_no_remark else_alone = refl
 form_no_remark end_of_if = refl
-form_no_remark (do_loop parallel label is c) = refl
+form_no_remark (do_loop parallel label c) = refl
+form_no_remark end_of_do = refl
 form_no_remark (private names are) = refl
 form_no_remark end = refl
 
@@ -85,18 +86,19 @@ in_order saved c s i rest h =
     let h4 = left_empty _ _ h5 in
     let h3 = left_empty _ _ h4 in
     let h2 = left_empty _ _ h3 in
-    let placed : breaks_syntax c (says i) ≡ false = none_stands _ _ _ (right_empty _ _ h2) in
-    let misplaced = or_right (is_behind_end c || false) (is_misplaced c i) placed in
-    let three = or_left (is_out_of_order c.phase (rank i) || lacks_if c.blocks i || is_late_private c.behind_do i) (saves_again c i) misplaced in
+    let placed : breaks_syntax c s.label (says i) ≡ false = none_stands _ _ _ (right_empty _ _ h2) in
+    let misplaced = or_right (is_behind_end c || false) (is_misplaced c s.label i) placed in
+    let four = or_left (is_out_of_order c.phase (rank i) || lacks_if c.blocks i || is_late_private c.behind_do i || saves_again c i) (lacks_do c.blocks s.label i) misplaced in
+    let three = or_left (is_out_of_order c.phase (rank i) || lacks_if c.blocks i || is_late_private c.behind_do i) (saves_again c i) four in
     let two = or_left (is_out_of_order c.phase (rank i) || lacks_if c.blocks i) (is_late_private c.behind_do i) three in
     or_left (is_out_of_order c.phase (rank i)) (lacks_if c.blocks i) two
 
 -- a declaration at which nothing is refused
 
-declaration_fits : (saved ks : List (List ℕ)) (c : Context) (phase : ℕ) (s : Statement) (d : DeclTree) (rest : List Entry) → phase ≤ c.phase → At ks [] 0 0 c → Accepted saved c (entry s (declares d) ∷ rest)
+declaration_fits : (saved ks : List (List ℕ)) (c : Context) (phase : ℕ) (s : Statement) (d : DeclTree) (rest : List Entry) → phase ≤ c.phase → At ks [] 0 c → Accepted saved c (entry s (declares d) ∷ rest)
     → IsSourced (entry s (declares d)) → DeclarationFits phase d
 declaration_fits saved ks c phase s d rest before a h r =
-    let tests = passed saved ks [] 0 0 c s (declares d) rest a h in
+    let tests = passed saved ks [] 0 c s (declares d) rest a h in
     record {
       declares = said_fits r.text (declares d) r.reads tests.small;
       short = or_left _ false tests.short;
@@ -104,10 +106,10 @@ declaration_fits saved ks c phase s d rest before a h r =
     }
 
 -- SAVE without a list, as it is printed where there are names
-save_fits : (x : List ℕ) (xs ks : List (List ℕ)) (c : Context) (phase : ℕ) (s : Statement) (rest : List Entry) → Named (x ∷ xs) → phase ≤ c.phase → At ks [] 0 0 c → Accepted (x ∷ xs) c (entry s saves_all ∷ rest)
+save_fits : (x : List ℕ) (xs ks : List (List ℕ)) (c : Context) (phase : ℕ) (s : Statement) (rest : List Entry) → Named (x ∷ xs) → phase ≤ c.phase → At ks [] 0 c → Accepted (x ∷ xs) c (entry s saves_all ∷ rest)
     → DeclarationFits phase (Save (x ∷ xs))
 save_fits x xs ks c phase s rest named before a h =
-    let tests = passed (x ∷ xs) ks [] 0 0 c s saves_all rest a h in
+    let tests = passed (x ∷ xs) ks [] 0 c s saves_all rest a h in
     record {
       declares = named_all (x ∷ xs) named;
       short = or_left _ false tests.short;
@@ -120,20 +122,18 @@ none_left : (label : Option ℕ) → left_by label [] ≡ []
 none_left None = refl
 none_left (Some l) = refl
 
-at_next : (ks : List (List ℕ)) (c : Context) (s : Statement) (d : DeclTree) → At ks [] 0 0 c → At (ks ++ constants_in d) [] 0 0 (behind c (entry s (declares d)))
+at_next : (ks : List (List ℕ)) (c : Context) (s : Statement) (d : DeclTree) → At ks [] 0 c → At (ks ++ constants_in d) [] 0 (behind c (entry s (declares d)))
 at_next ks c s d a = record {
   constants_are = ap (λ xs. xs ++ constants_in d) a.constants_are;
   blocks_are = ap (left_by s.label) a.blocks_are ∙ none_left s.label;
   statements_are = none_more c.statements ∙ a.statements_are;
-  loops_are = none_more c.loops ∙ a.loops_are;
 }
 
-at_next_all : (ks : List (List ℕ)) (c : Context) (s : Statement) → At ks [] 0 0 c → At ks [] 0 0 (behind c (entry s saves_all))
+at_next_all : (ks : List (List ℕ)) (c : Context) (s : Statement) → At ks [] 0 c → At ks [] 0 (behind c (entry s saves_all))
 at_next_all ks c s a = record {
   constants_are = append-nil c.constants ∙ a.constants_are;
   blocks_are = ap (left_by s.label) a.blocks_are ∙ none_left s.label;
   statements_are = none_more c.statements ∙ a.statements_are;
-  loops_are = none_more c.loops ∙ a.loops_are;
 }
 
 later_right : (m n : ℕ) → n ≤ max m n
@@ -144,7 +144,7 @@ later_left p m n h = omega arith
 
 -- the declarations of a text
 
-pub declarations_fit : (saved : List (List ℕ)) (ks : List (List ℕ)) (c : Context) (phase : ℕ) (fs : List DeclForm) (rest : List Entry) → Named saved → phase ≤ c.phase → At ks [] 0 0 c
+pub declarations_fit : (saved : List (List ℕ)) (ks : List (List ℕ)) (c : Context) (phase : ℕ) (fs : List DeclForm) (rest : List Entry) → Named saved → phase ≤ c.phase → At ks [] 0 c
     → Accepted saved c (map decl_entry fs ++ rest) → Sourced (map decl_entry fs) → decls_fit phase (flat_map (decl_trees saved) fs) ≡ true
 declarations_fit saved ks c phase [] rest named before a h r = refl
 declarations_fit saved ks c phase (a_declaration s d ∷ fs) rest named before a h r =
@@ -186,20 +186,20 @@ trees_constants saved s d = constants_both (remarks_of s) (d ∷ []) ∙ ap (λ 
 no_constants : (saved : List (List ℕ)) (s : Statement) → constant_names (decl_trees saved (a_save_of_all s)) ≡ []
 no_constants saved s = constants_both (remarks_of s) (save_of saved) ∙ ap (λ ks. ks ++ constant_names (save_of saved)) (remarks_constants s.comments) ∙ save_constants saved
 
-pub behind_declarations : (saved ks : List (List ℕ)) (c : Context) (fs : List DeclForm) → At ks [] 0 0 c → At (ks ++ constant_names (flat_map (decl_trees saved) fs)) [] 0 0 (behind_all c (map decl_entry fs))
-behind_declarations saved ks c [] a = subst (λ (xs : List (List ℕ)). At xs [] 0 0 c) (sym (append-nil ks)) a
+pub behind_declarations : (saved ks : List (List ℕ)) (c : Context) (fs : List DeclForm) → At ks [] 0 c → At (ks ++ constant_names (flat_map (decl_trees saved) fs)) [] 0 (behind_all c (map decl_entry fs))
+behind_declarations saved ks c [] a = subst (λ (xs : List (List ℕ)). At xs [] 0 c) (sym (append-nil ks)) a
 behind_declarations saved ks c (a_declaration s d ∷ fs) a =
     let e = entry s (declares d) in
     let more = flat_map (decl_trees saved) fs in
     let same : ks ++ constants_in d ++ constant_names more ≡ ks ++ constant_names (decl_trees saved (a_declaration s d) ++ more) =
     append_assoc ks (constants_in d) (constant_names more) ∙ ap (λ xs. ks ++ (xs ++ constant_names more)) (sym (trees_constants saved s d)) ∙ ap (λ xs. ks ++ xs) (sym (constants_both (decl_trees saved (a_declaration s d)) more)) in
-    subst (λ (xs : List (List ℕ)). At xs [] 0 0 (behind_all c (map decl_entry (a_declaration s d ∷ fs)))) same (behind_declarations saved (ks ++ constants_in d) (behind c e) fs (at_next ks c s d a))
+    subst (λ (xs : List (List ℕ)). At xs [] 0 (behind_all c (map decl_entry (a_declaration s d ∷ fs)))) same (behind_declarations saved (ks ++ constants_in d) (behind c e) fs (at_next ks c s d a))
 behind_declarations saved ks c (a_save_of_all s ∷ fs) a =
     let e = entry s saves_all in
     let more = flat_map (decl_trees saved) fs in
     let same : ks ++ constant_names more ≡ ks ++ constant_names (decl_trees saved (a_save_of_all s) ++ more) =
     ap (λ xs. ks ++ (xs ++ constant_names more)) (sym (no_constants saved s)) ∙ ap (λ xs. ks ++ xs) (sym (constants_both (decl_trees saved (a_save_of_all s)) more)) in
-    subst (λ (xs : List (List ℕ)). At xs [] 0 0 (behind_all c (map decl_entry (a_save_of_all s ∷ fs)))) same (behind_declarations saved ks (behind c e) fs (at_next_all ks c s a))
+    subst (λ (xs : List (List ℕ)). At xs [] 0 (behind_all c (map decl_entry (a_save_of_all s ∷ fs)))) same (behind_declarations saved ks (behind c e) fs (at_next_all ks c s a))
 
 -- the comments before the first executable statement
 pub front_constants : (ts : List StmtTree) → constant_names (front_remarks ts) ≡ []

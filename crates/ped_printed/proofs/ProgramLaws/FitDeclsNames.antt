@@ -5,7 +5,7 @@ use Rattle.std.specs.List.{list_all, flat_map}
 use Rattle.ped_lines.specs.ped_tree.specs.Grammar.Words.{is_name}
 use Rattle.ped_lines.specs.ped_tree.specs.Grammar.ExpressionForms.{unsigned, positive, negative, add, subtract, multiply, divide, ExprForm, first, sum, TermForm, single, product, FactorForm, plain, power, PrimaryForm, literal, reference, remainder, absolute, greatest, least, parentheses, ReferenceForm, scalar, element, ExprsForm, one, more, expr_form_tree, term_form_tree, factor_form_tree, primary_form_tree, reference_form_tree, exprs_form_trees}
 use Rattle.ped_lines.specs.ped_tree.specs.Grammar.ConditionForms.{CondForm, one_term, or, LogicalTermForm, one_factor, and, LogicalFactorForm, affirmed, negated, LogicalPrimaryForm, relation, group, cond_form_tree, logical_term_tree, logical_factor_tree, logical_primary_tree}
-use Rattle.ped_lines.specs.ped_tree.specs.Grammar.StatementForms.{are_names, BoundForm, upper_bound, both_bounds, ArrayForm, an_array, DeclaratorForm, a_scalar, of_array, ConstantForm, a_constant, ItemForm, a_value, a_text, SimpleForm, assignment, print, read, stop, continue, ControlForm, control, StatementForm, program, implicit, integer, dimension, parameter, save, save_all, simple, if_simple, if_then, else_if_then, else_alone, end_of_if, do_loop, private, end, bound_form_tree, array_form_tree, declarator_form_tree, constant_form_tree, item_form_tree, simple_item, behind_if, step_form_tree, control_form_head, statement_item, ReadsItem}
+use Rattle.ped_lines.specs.ped_tree.specs.Grammar.StatementForms.{are_names, BoundForm, upper_bound, both_bounds, ArrayForm, an_array, DeclaratorForm, a_scalar, of_array, ConstantForm, a_constant, ItemForm, a_value, a_text, SimpleForm, assignment, print, read, stop, continue, ControlForm, control, StatementForm, program, implicit, integer, dimension, parameter, save, save_all, simple, if_simple, if_then, else_if_then, else_alone, end_of_if, do_loop, end_of_do, private, end, bound_form_tree, array_form_tree, declarator_form_tree, constant_form_tree, item_form_tree, simple_item, behind_if, step_form_tree, control_form_head, statement_item, ReadsItem}
 use Rattle.ped_lines.specs.ped_tree.specs.Grammar.Statement.{Note}
 use Rattle.ped_lines.specs.ped_tree.specs.Grammar.Items.{Item, Reading, says, outside_profile, no_form, Entry}
 use Rattle.ped_lines.specs.ped_tree.specs.NamesIn.{expr_names, exprs_names, cond_names, item_names, head_names, stmts_names, declarator_names, first_occurrences}
@@ -164,7 +164,7 @@ step_named None = tt
 step_named (Some e) = expr_named e
 
 control_named : (parallel : Bool) (c : ControlForm) → Named (head_names (control_form_head parallel c))
-control_named parallel (control comma x is begin limit step) =
+control_named parallel (control x is begin limit step) =
     let first = expr_names (expr_form_tree begin) in
     let last = expr_names (expr_form_tree limit) in
     let further = expr_names (step_form_tree step) in
@@ -184,7 +184,8 @@ form_named (if_then c) = cond_named c
 form_named (else_if_then c) = cond_named c
 form_named else_alone = tt
 form_named end_of_if = tt
-form_named (do_loop parallel label is c) = control_named parallel c
+form_named (do_loop parallel label c) = control_named parallel c
+form_named end_of_do = tt
 form_named (private names are) = are_named names are
 form_named end = tt
 

@@ -33,13 +33,13 @@ form_tree_fits saved f named labelled h r =
     let h1 = subst (λ (xs : List Entry). Accepted saved at_start xs) split h in
     let r1 = first_sourced (ds ++ es) last r in
     let comments = (rest_sourced (ds ++ es) last r).0.comments in
-    let at_first : At [] [] 0 0 at_start = record { constants_are = refl; blocks_are = refl; statements_are = refl; loops_are = refl } in
+    let at_first : At [] [] 0 at_start = record { constants_are = refl; blocks_are = refl; statements_are = refl } in
     let declared = declarations_fit saved [] at_start 0 f.declarations (es ++ last) named (omega arith) at_first h1 (first_sourced ds es r1) in
     let a = behind_declarations saved [] at_start f.declarations at_first in
     let ok = (accepted_behind saved at_start ds (es ++ last) h1).nothing_found in
     let sourced = rest_sourced ds es r1 in
-    let all = all_fit saved c f.body f.ending last a.blocks_are a.statements_are a.loops_are labelled ok sourced comments in
-    let body = whole_body_fits saved c f.body f.ending last a.blocks_are a.statements_are a.loops_are labelled ok sourced comments in
+    let all = all_fit saved c f.body f.ending last a.blocks_are a.statements_are labelled ok sourced comments in
+    let body = whole_body_fits saved c f.body f.ending last a.blocks_are a.statements_are labelled ok sourced comments in
     let front = front_remarks (all_trees f) in
     let constants : c.constants ≡ constant_names (trees ++ front) =
     a.constants_are ∙ sym (append-nil (constant_names trees)) ∙ ap (λ ks. constant_names trees ++ ks) (sym (front_constants (all_trees f))) ∙ sym (constants_both trees front) in

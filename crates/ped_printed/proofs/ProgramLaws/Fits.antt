@@ -5,7 +5,7 @@ use Rattle.std.specs.List.{list_all, list_any}
 use Rattle.std.proofs.lemmas.Bool.{and_parts, and_from, not-true, not_from_false, leb-true, le-leb, eqb-true, eq-eqb}
 use Rattle.ped_lines.specs.ped_base.specs.Lists.{has_some, is_same_text, is_among}
 use Rattle.ped_lines.specs.ped_tree.specs.Tree.{CondTree, Head, StmtTree, StmtTrees, Assign, If, Do, Print, Read, Stop, Comment, DeclTree, Program, Implicit, Integer, Dimension, Parameter, Save, Remark}
-use Rattle.ped_lines.specs.ped_tree.specs.Numbering.{statements_count, loops_count}
+use Rattle.ped_lines.specs.ped_tree.specs.Numbering.{statements_count}
 use Rattle.ped_lines.specs.ped_tree.specs.Accesses.{own_accesses}
 use Rattle.ped_lines.specs.ped_tree.specs.Printing.{own_text, private_text, decl_text, is_remark}
 use Rattle.ped_lines.specs.ped_tree.specs.Grammar.Words.{is_name}
@@ -35,7 +35,7 @@ own_fits (Comment text) = false
 pub record Within (p : Surroundings) (s : StmtTree) : Type 0 where
   pub few : nat_lt 4000 (p.statements + 1) ≡ false
   pub referring : nat_lt 64 (length (own_accesses p.constants p.variables s)) ≡ false
-  pub short : nat_lt 1300 (length (own_text p.loops s)) ≡ false
+  pub short : nat_lt 1300 (length (own_text s)) ≡ false
 
 -- an assignment, PRINT, READ or STOP
 pub record SimpleFits (p : Surroundings) (s : StmtTree) : Type 0 where
@@ -87,17 +87,17 @@ one_less n h = grind arith
 
 pub within_parts : (p : Surroundings) (s : StmtTree) → is_within p s ≡ true → Within p s
 within_parts p s h =
-    let a = and_parts _ (nat_le (length (own_text p.loops s)) 1300) h in
+    let a = and_parts _ (nat_le (length (own_text s)) 1300) h in
     let b = and_parts (nat_lt p.statements 4000) (nat_le (length (own_accesses p.constants p.variables s)) 64) a.0 in
     record {
       few = one_more p.statements b.0;
       referring = up_to (length (own_accesses p.constants p.variables s)) 64 b.1;
-      short = up_to (length (own_text p.loops s)) 1300 a.1;
+      short = up_to (length (own_text s)) 1300 a.1;
     }
 
 pub within_from : (p : Surroundings) (s : StmtTree) → Within p s → is_within p s ≡ true
 within_from p s w =
-    and_from _ _ (and_from _ _ (one_less p.statements w.few) (at_most (length (own_accesses p.constants p.variables s)) 64 w.referring)) (at_most (length (own_text p.loops s)) 1300 w.short)
+    and_from _ _ (and_from _ _ (one_less p.statements w.few) (at_most (length (own_accesses p.constants p.variables s)) 64 w.referring)) (at_most (length (own_text s)) 1300 w.short)
 
 -- simple statements
 
@@ -148,13 +148,13 @@ simple_whole p (Comment text) is f = absurd cc
 -- the IF with its parts
 pub record IfFits (p : Surroundings) (c : CondTree) (a b : StmtTrees) : Type 0 where
   pub branch : BranchFits p (If c a b)
-  pub then_part : stmts_fit (in_if p 1 0) a ≡ true
-  pub else_part : stmts_fit (in_if p (1 + statements_count a) (loops_count a)) b ≡ true
+  pub then_part : stmts_fit (in_if p 1) a ≡ true
+  pub else_part : stmts_fit (in_if p (1 + statements_count a)) b ≡ true
 
 pub if_parts : (p : Surroundings) (c : CondTree) (a b : StmtTrees) → stmt_fits p (If c a b) ≡ true → IfFits p c a b
 if_parts p c a b h =
-    let x = and_parts _ (stmts_fit (in_if p (1 + statements_count a) (loops_count a)) b) h in
-    let y = and_parts _ (stmts_fit (in_if p 1 0) a) x.0 in
+    let x = and_parts _ (stmts_fit (in_if p (1 + statements_count a)) b) h in
+    let y = and_parts _ (stmts_fit (in_if p 1) a) x.0 in
     let z = and_parts _ (cond_fits c) y.0 in
     let w = and_parts (is_within p (If c a b)) (nat_lt p.depth 100) z.0 in
     record { branch = record { within = within_parts p (If c a b) w.0; own = z.1; shallow = below p.depth 100 w.1 }; then_part = y.1; else_part = x.1 }

@@ -15,7 +15,7 @@ use Rattle.ped_lines.specs.ped_tree.specs.Grammar.Literals.{has_large_literal, c
 use Rattle.ped_lines.specs.ped_tree.specs.Grammar.ExpressionForms.{ExprForm, expr_form_tree, ReferenceForm, scalar, element, reference_form_tree}
 use Rattle.ped_lines.specs.ped_tree.specs.Grammar.ConditionForms.{CondForm, cond_form_text, cond_form_tree}
 use Rattle.ped_lines.specs.ped_tree.specs.Grammar.Items.{Item, declares, does, logical_if, block_if, else_if, begins_do, keeps_private}
-use Rattle.ped_lines.specs.ped_tree.specs.Grammar.StatementForms.{are_names, BoundForm, upper_bound, both_bounds, ArrayForm, an_array, DeclaratorForm, a_scalar, of_array, ConstantForm, a_constant, ItemForm, a_value, a_text, SimpleForm, assignment, print, read, stop, continue, ControlForm, control, StatementForm, program, implicit, integer, dimension, parameter, save, save_all, simple, if_simple, if_then, else_if_then, else_alone, end_of_if, do_loop, private, end, bound_form_tree, array_form_tree, declarator_form_tree, constant_form_tree, item_form_text, item_form_tree, simple_form_text, simple_item, behind_if, step_form_tree, control_form_head, statement_form_text, statement_item, ReadsItem}
+use Rattle.ped_lines.specs.ped_tree.specs.Grammar.StatementForms.{are_names, BoundForm, upper_bound, both_bounds, ArrayForm, an_array, DeclaratorForm, a_scalar, of_array, ConstantForm, a_constant, ItemForm, a_value, a_text, SimpleForm, assignment, print, read, stop, continue, ControlForm, control, StatementForm, program, implicit, integer, dimension, parameter, save, save_all, simple, if_simple, if_then, else_if_then, else_alone, end_of_if, do_loop, end_of_do, private, end, bound_form_tree, array_form_tree, declarator_form_tree, constant_form_tree, item_form_text, item_form_tree, simple_form_text, simple_item, behind_if, step_form_tree, control_form_head, statement_form_text, statement_item, ReadsItem}
 use Rattle.ped_lines.specs.ped_tree.specs.Grammar.ProgramRefusals.{is_too_large}
 use Rattle.ped_lines.specs.ped_tree.specs.Grammar.Fits.{is_no_intrinsic, takes_arguments, has_expr, expr_fits, exprs_fit, target_fits, cond_fits, item_fits, bound_fits, declarator_fits, array_fits, constant_fits, decl_fits}
 use Rattle.ped_statements.specs.ped_expressions.specs.ExpressionReading.{expr_count, takes}
@@ -207,7 +207,7 @@ step_is None h = refl
 step_is (Some e) h = expr_is e h
 
 control_is : (parallel : Bool) (c : ControlForm) → head_has_large_literal (control_form_head parallel c) ≡ false → head_fits (control_form_head parallel c) ≡ true
-control_is parallel (control comma x is begin limit step) h =
+control_is parallel (control x is begin limit step) h =
     let a = or_parts _ (has_large_literal (step_form_tree step)) h in
     let b = or_parts (has_large_literal (expr_form_tree begin)) (has_large_literal (expr_form_tree limit)) a.0 in
     and_from _ _ (and_from _ _ (and_from _ _ is (expr_is begin b.0)) (expr_is limit b.1)) (step_is step a.1)
@@ -235,7 +235,8 @@ form_fits (if_then c) h p = cond_is c h
 form_fits (else_if_then c) h p = cond_is c h
 form_fits else_alone h p = tt
 form_fits end_of_if h p = tt
-form_fits (do_loop parallel label is c) h p = control_is parallel c h
+form_fits (do_loop parallel label c) h p = control_is parallel c h
+form_fits end_of_do h p = tt
 form_fits (private names are) h p = are
 form_fits end h p = tt
 

@@ -1,6 +1,6 @@
 -- What fits has a form, without a literal that is too large.
 use Rattle.std.proofs.Common.{◌≡◌, ℕ, suc, List, [], ◌∷◌, map, length, Bool, true, false, Option, Some, None, refl, ap, arith}
-use Rattle.std.specs.Prelude.{codes, ◌||◌, nat_lt, nat_le}
+use Rattle.std.specs.Prelude.{◌||◌, nat_lt, nat_le}
 use Rattle.std.specs.List.{list_all, list_any}
 use Rattle.std.proofs.lemmas.Bool.{and_parts, or_from, le-leb}
 use Rattle.ped_lines.specs.ped_base.specs.Lists.{has_some}
@@ -8,13 +8,13 @@ use Rattle.ped_lines.specs.ped_tree.specs.declared.expressions.Intrinsic.{Intrin
 use Rattle.ped_lines.specs.ped_tree.specs.declared.expressions.Intrinsic.TheVariants.{Mod, Abs, Max, Min}
 use Rattle.ped_lines.specs.ped_tree.specs.Tree.{ExprTree, ExprTrees, Int, Var, Element, Neg, Add, Sub, Mul, Div, Pow, Call, no_exprs, more_exprs, CondTree, Rel, Not, And, Or, ItemTree, Value, Text, StmtTree, Assign, If, Do, Print, Read, Stop, Comment, BoundTree, DeclaratorTree, DeclTree, Program, Implicit, Integer, Dimension, Parameter, Save, Remark}
 use Rattle.ped_lines.specs.ped_tree.specs.Printing.{is_remark}
-use Rattle.ped_lines.specs.ped_tree.specs.Grammar.Words.{is_name, numeral_value, intrinsic_of}
+use Rattle.ped_lines.specs.ped_tree.specs.Grammar.Words.{is_name, intrinsic_of}
 use Rattle.ped_lines.specs.ped_tree.specs.Grammar.Literals.{has_large_literal, have_large_literal, cond_has_large_literal, item_has_large_literal, declarator_has_large_literal, decl_has_large_literal}
 use Rattle.ped_lines.specs.ped_tree.specs.Grammar.ExpressionForms.{ExprForm, expr_form_tree, ReferenceForm, scalar, element, reference_form_tree}
 use Rattle.ped_lines.specs.ped_tree.specs.Grammar.ConditionForms.{CondForm, cond_form_tree}
 use Rattle.ped_lines.specs.ped_tree.specs.Grammar.Items.{Item, declares, does, block_if, begins_do, keeps_private}
 use Rattle.ped_lines.specs.ped_tree.specs.Grammar.BlockForms.{whole_head}
-use Rattle.ped_lines.specs.ped_tree.specs.Grammar.StatementForms.{BoundForm, both_bounds, ArrayForm, an_array, DeclaratorForm, a_scalar, of_array, ConstantForm, a_constant, ItemForm, a_value, a_text, assignment, print, read, stop, control, StatementForm, program, implicit, integer, dimension, parameter, save, simple, if_then, do_loop, private, bound_form_tree, array_form_tree, declarator_form_tree, constant_form_tree, item_form_tree, statement_form_text, statement_item, are_names, ReadsItem}
+use Rattle.ped_lines.specs.ped_tree.specs.Grammar.StatementForms.{BoundForm, both_bounds, ArrayForm, an_array, DeclaratorForm, a_scalar, of_array, ConstantForm, a_constant, ItemForm, a_value, a_text, assignment, print, read, stop, no_label, control, StatementForm, program, implicit, integer, dimension, parameter, save, simple, if_then, do_loop, private, bound_form_tree, array_form_tree, declarator_form_tree, constant_form_tree, item_form_tree, statement_form_text, statement_item, are_names, ReadsItem}
 use Rattle.ped_lines.specs.ped_tree.specs.Grammar.ProgramRefusals.{is_too_large, has_eight_dimensions}
 use Rattle.ped_lines.specs.ped_tree.specs.Grammar.Fits.{is_no_intrinsic, takes_arguments, has_expr, expr_fits, exprs_fit, target_fits, cond_fits, item_fits, bound_fits, declarator_fits, array_fits, constant_fits, decl_fits}
 use Rattle.ped_statements.specs.ped_expressions.specs.ExpressionReading.{expr_count, takes}
@@ -177,25 +177,25 @@ said_by : (s : StmtTree) (f : StatementForm) (i : Item) → statement_item f ≡
 said_by s f i e small says = record { text = statement_form_text f; item = i; reads = (f, refl, e); small = small; says = says }
 
 -- the first line of a statement, as it is printed, has no literal that is too large
-pub first_small : (before : ℕ) (s : StmtTree) → own_fits s ≡ true → is_too_large (first_line_item before s) ≡ false
-first_small before (Assign l r) h = let k = and_parts (target_fits l) (expr_fits r) h in or_from _ _ (target_small l k.0) (expr_small r k.1)
-first_small before (If c x y) h = cond_small c h
-first_small before (Do k body) h =
+pub first_small : (s : StmtTree) → own_fits s ≡ true → is_too_large (first_line_item s) ≡ false
+first_small (Assign l r) h = let k = and_parts (target_fits l) (expr_fits r) h in or_from _ _ (target_small l k.0) (expr_small r k.1)
+first_small (If c x y) h = cond_small c h
+first_small (Do k body) h =
     let p = and_parts _ (expr_fits k.step) h in
     let q = and_parts _ (expr_fits k.last) p.0 in
     let r = and_parts (is_name k.variable) (expr_fits k.first) q.0 in
     or_from _ _ (or_from _ _ (expr_small k.first r.1) (expr_small k.last q.1)) (expr_small k.step p.1)
-first_small before (Print items) h = none_of item_fits item_has_large_literal item_small items h
-first_small before (Read items) h = none_of target_fits has_large_literal target_small items h
-first_small before Stop h = refl
-first_small before (Comment text) h = absurd cc
+first_small (Print items) h = none_of item_fits item_has_large_literal item_small items h
+first_small (Read items) h = none_of target_fits has_large_literal target_small items h
+first_small Stop h = refl
+first_small (Comment text) h = absurd cc
 
 pub own_said : (s : StmtTree) → own_fits s ≡ true → IsSaid s
 own_said (Assign l r) h =
     let k = and_parts (target_fits l) (expr_fits r) h in
     let a = target_of l k.0 in
     let b = expr_of r k.1 in
-    said_by (Assign l r) (simple (assignment a.0 b.0)) (does (Assign l r)) (λ i. does (Assign (a.1 i) (b.1 i))) (first_small 0 (Assign l r) h) (itself refl)
+    said_by (Assign l r) (simple (assignment a.0 b.0)) (does (Assign l r)) (λ i. does (Assign (a.1 i) (b.1 i))) (first_small (Assign l r) h) (itself refl)
 own_said (If c x y) h = let a = cond_of c h in said_by (If c x y) (if_then a.0) (block_if c) (ap block_if a.1) (cond_small c h) (of_block_if c x y refl refl)
 own_said (Do k body) h =
     let p = and_parts _ (expr_fits k.step) h in
@@ -204,17 +204,16 @@ own_said (Do k body) h =
     let a = expr_of k.first r.1 in
     let b = expr_of k.last q.1 in
     let c = expr_of k.step p.1 in
-    let label = codes "10" in
     let head = whole_head k [] [] in
-    said_by (Do k body) (do_loop k.parallel label refl (control false k.variable r.0 a.0 b.0 (Some c.0))) (begins_do (numeral_value label) head)
-    (λ i. begins_do (numeral_value label) (record { variable = k.variable; first = a.1 i; last = b.1 i; step = c.1 i; parallel = k.parallel; private = []; rejected = [] }))
-    (first_small 0 (Do k body) h) (of_do (numeral_value label) head k.private k.rejected body refl refl)
+    said_by (Do k body) (do_loop k.parallel no_label (control k.variable r.0 a.0 b.0 (Some c.0))) (begins_do None head)
+    (λ i. begins_do None (record { variable = k.variable; first = a.1 i; last = b.1 i; step = c.1 i; parallel = k.parallel; private = []; rejected = [] }))
+    (first_small (Do k body) h) (of_do None head k.private k.rejected body refl refl)
 own_said (Print items) h =
     let a = each_of item_form_tree item_fits item_of items h in
-    said_by (Print items) (simple (print a.0)) (does (Print items)) (λ i. does (Print (a.1 i))) (first_small 0 (Print items) h) (itself refl)
+    said_by (Print items) (simple (print a.0)) (does (Print items)) (λ i. does (Print (a.1 i))) (first_small (Print items) h) (itself refl)
 own_said (Read items) h =
     let a = each_of reference_form_tree target_fits target_of items h in
-    said_by (Read items) (simple (read a.0)) (does (Read items)) (λ i. does (Read (a.1 i))) (first_small 0 (Read items) h) (itself refl)
+    said_by (Read items) (simple (read a.0)) (does (Read items)) (λ i. does (Read (a.1 i))) (first_small (Read items) h) (itself refl)
 own_said Stop h = said_by Stop (simple stop) (does Stop) refl refl (itself refl)
 own_said (Comment text) h = absurd cc
 

@@ -92,7 +92,7 @@ name_plain (c ∷ cs) h =
 
 pub name_passes : (x : List ℕ) → is_name x ≡ true → Lettered x
 name_passes x h =
-    let k = and_parts (Letters.is_name x) (leb (length x) 6) h in
+    let k = and_parts (Letters.is_name x) (leb (length x) 31) h in
     words x (name_plain x (and_parts (Letters.begins_with_letter x) (list_all Letters.is_alphanumeric x) k.0).1)
 
 -- numerals, of whatever number
@@ -166,7 +166,7 @@ followed {a} {b} w l = record { begins = begins_before a b w.begins; letters = j
 pub name_begins : (x : List ℕ) → is_name x ≡ true → begins_at_once x ≡ true
 name_begins [] h = absurd cc
 name_begins (c ∷ cs) h =
-    let k = and_parts (Letters.is_name (c ∷ cs)) (leb (length (c ∷ cs)) 6) h in
+    let k = and_parts (Letters.is_name (c ∷ cs)) (leb (length (c ∷ cs)) 31) h in
     let l = and_parts (Letters.is_letter c) (list_all Letters.is_alphanumeric (c ∷ cs)) k.0 in
     let low = leb-true 65 c (and_parts (leb 65 c) (leb c 90) l.0).0 in
     not_from_false (eqb c 32) (ne_eqb c 32 (λ e. omega arith))

@@ -1,94 +1,85 @@
 -- What is printed for a program, piece by piece: the comments and directives, and the statements with what they say; and the statements with their lines.
-use Rattle.std.proofs.Common.{◌≡◌, ℕ, suc, ◌+◌, ◌*◌, List, [], ◌∷◌, ◌++◌, map, length, Option, Some, None, refl, sym, ap, ◌∙◌, append_assoc}
+use Rattle.std.proofs.Common.{◌≡◌, ℕ, suc, ◌+◌, List, [], ◌∷◌, ◌++◌, map, length, None, refl, sym, ap, ◌∙◌, append_assoc}
 use Rattle.std.specs.Prelude.{codes}
 use Rattle.ped_lines.specs.ped_tree.specs.Tree.{Head, StmtTree, StmtTrees, Assign, If, Do, Print, Read, Stop, Comment, no_stmts, more_stmts, DeclTree, Program, Implicit, Integer, Dimension, Parameter, Save, Remark, ProgramTree}
-use Rattle.ped_lines.specs.ped_tree.specs.Numbering.{loop_count, loops_count}
 use Rattle.ped_lines.specs.ped_tree.specs.Printing.{own_text, decl_text, private_text}
 use Rattle.ped_lines.specs.ped_tree.specs.Grammar.Statement.{Statement}
-use Rattle.ped_lines.specs.ped_tree.specs.Grammar.Items.{Item, declares, does, continues, block_if, else_line, end_if, begins_do, keeps_private, ends_program, Entry}
+use Rattle.ped_lines.specs.ped_tree.specs.Grammar.Items.{Item, declares, does, block_if, else_line, end_if, begins_do, ends_do, keeps_private, ends_program, Entry}
 use Rattle.ped_lines.specs.ped_tree.specs.Grammar.BlockForms.{entry, whole_head}
 use Rattle.ped_lines.specs.Printed.Printed.{PrintedNote, a_comment, a_rejection, PrintedStatement, printed_lines}
 use Rattle.ped_lines.specs.Printed.Parts.{Part, a_note, a_statement, private_parts, statement_parts, statements_parts, else_parts, decl_part, program_parts, with_notes}
 use Rattle.ped_lines.specs.Printed.Cut.{cut_at, cut_from}
 
--- a comment or a directive; or a statement by its label, its depth, its text, and what it says
+-- a comment or a directive; or a statement by its depth, its text, and what it says
 pub data Piece : Type 0 where
   noted : PrintedNote → Piece
-  said : Option ℕ → ℕ → List ℕ → Item → Piece
-
--- a statement without a label
-abbrev pub bare : ℕ → List ℕ → Item → Piece
-bare depth text i = said None depth text i
-
--- the label of a DO, by how many begin before it
-abbrev pub label_number : ℕ → ℕ
-label_number before = 10 * (before + 1)
+  said : ℕ → List ℕ → Item → Piece
 
 -- the first line of a DO
-abbrev pub do_piece : ℕ → ℕ → Head → StmtTrees → Piece
-do_piece depth before h body = bare depth (own_text before (Do h body)) (begins_do (label_number before) (whole_head h [] []))
+abbrev pub do_piece : ℕ → Head → StmtTrees → Piece
+do_piece depth h body = said depth (own_text (Do h body)) (begins_do None (whole_head h [] []))
 
--- the CONTINUE that ends a DO
-abbrev pub continue_piece : ℕ → ℕ → Piece
-continue_piece depth before = said (Some (label_number before)) depth (codes "CONTINUE") continues
+-- the END DO that ends it
+abbrev pub end_do_piece : ℕ → Piece
+end_do_piece depth = said depth (codes "END DO") ends_do
 
 abbrev pub private_pieces : ℕ → List (List ℕ) → List Piece
 private_pieces depth [] = []
-private_pieces depth (x ∷ xs) = bare depth (private_text (x ∷ xs)) (keeps_private (x ∷ xs)) ∷ []
+private_pieces depth (x ∷ xs) = said depth (private_text (x ∷ xs)) (keeps_private (x ∷ xs)) ∷ []
 
 abbrev pub rejection_pieces : List (List ℕ) → List Piece
 rejection_pieces names = map (λ x. noted (a_rejection x)) names
 
 abbrev mutual
-  pub statement_pieces : ℕ → ℕ → StmtTree → List Piece
-  statement_pieces depth before (Assign l r) = bare depth (own_text before (Assign l r)) (does (Assign l r)) ∷ []
-  statement_pieces depth before (If c a b) =
-      bare depth (own_text before (If c a b)) (block_if c)
-      ∷ (statements_pieces (suc depth) before a
-      ++ (else_pieces depth (before + loops_count a) b
-      ++ bare depth (codes "END IF") end_if ∷ []))
-  statement_pieces depth before (Do h body) =
+  pub statement_pieces : ℕ → StmtTree → List Piece
+  statement_pieces depth (Assign l r) = said depth (own_text (Assign l r)) (does (Assign l r)) ∷ []
+  statement_pieces depth (If c a b) =
+      said depth (own_text (If c a b)) (block_if c)
+      ∷ (statements_pieces (suc depth) a
+      ++ (else_pieces depth b
+      ++ said depth (codes "END IF") end_if ∷ []))
+  statement_pieces depth (Do h body) =
       rejection_pieces h.rejected
-      ++ do_piece depth before h body
+      ++ do_piece depth h body
       ∷ (private_pieces (suc depth) h.private
-      ++ (statements_pieces (suc depth) (before + 1) body
-      ++ continue_piece depth before ∷ []))
-  statement_pieces depth before (Print items) = bare depth (own_text before (Print items)) (does (Print items)) ∷ []
-  statement_pieces depth before (Read items) = bare depth (own_text before (Read items)) (does (Read items)) ∷ []
-  statement_pieces depth before Stop = bare depth (own_text before Stop) (does Stop) ∷ []
-  statement_pieces depth before (Comment text) = noted (a_comment text) ∷ []
+      ++ (statements_pieces (suc depth) body
+      ++ end_do_piece depth ∷ []))
+  statement_pieces depth (Print items) = said depth (own_text (Print items)) (does (Print items)) ∷ []
+  statement_pieces depth (Read items) = said depth (own_text (Read items)) (does (Read items)) ∷ []
+  statement_pieces depth Stop = said depth (own_text Stop) (does Stop) ∷ []
+  statement_pieces depth (Comment text) = noted (a_comment text) ∷ []
 
-  pub statements_pieces : ℕ → ℕ → StmtTrees → List Piece
-  statements_pieces depth before no_stmts = []
-  statements_pieces depth before (more_stmts s rest) = statement_pieces depth before s ++ statements_pieces depth (before + loop_count s) rest
+  pub statements_pieces : ℕ → StmtTrees → List Piece
+  statements_pieces depth no_stmts = []
+  statements_pieces depth (more_stmts s rest) = statement_pieces depth s ++ statements_pieces depth rest
 
-  pub else_pieces : ℕ → ℕ → StmtTrees → List Piece
-  else_pieces depth before no_stmts = []
-  else_pieces depth before (more_stmts s rest) =
-      bare depth (codes "ELSE") else_line
-      ∷ (statement_pieces (suc depth) before s
-      ++ statements_pieces (suc depth) (before + loop_count s) rest)
+  pub else_pieces : ℕ → StmtTrees → List Piece
+  else_pieces depth no_stmts = []
+  else_pieces depth (more_stmts s rest) =
+      said depth (codes "ELSE") else_line
+      ∷ (statement_pieces (suc depth) s
+      ++ statements_pieces (suc depth) rest)
 
 abbrev pub decl_piece : DeclTree → Piece
-decl_piece (Program x) = bare 0 (decl_text (Program x)) (declares (Program x))
-decl_piece Implicit = bare 0 (decl_text Implicit) (declares Implicit)
-decl_piece (Integer ds) = bare 0 (decl_text (Integer ds)) (declares (Integer ds))
-decl_piece (Dimension ds) = bare 0 (decl_text (Dimension ds)) (declares (Dimension ds))
-decl_piece (Parameter values) = bare 0 (decl_text (Parameter values)) (declares (Parameter values))
-decl_piece (Save names) = bare 0 (decl_text (Save names)) (declares (Save names))
+decl_piece (Program x) = said 0 (decl_text (Program x)) (declares (Program x))
+decl_piece Implicit = said 0 (decl_text Implicit) (declares Implicit)
+decl_piece (Integer ds) = said 0 (decl_text (Integer ds)) (declares (Integer ds))
+decl_piece (Dimension ds) = said 0 (decl_text (Dimension ds)) (declares (Dimension ds))
+decl_piece (Parameter values) = said 0 (decl_text (Parameter values)) (declares (Parameter values))
+decl_piece (Save names) = said 0 (decl_text (Save names)) (declares (Save names))
 decl_piece (Remark text) = noted (a_comment text)
 
 abbrev pub end_piece : Piece
-end_piece = bare 0 (codes "END") ends_program
+end_piece = said 0 (codes "END") ends_program
 
 abbrev pub program_pieces : ProgramTree → List Piece
-program_pieces t = map decl_piece t.decls ++ statements_pieces 0 0 t.body ++ end_piece ∷ []
+program_pieces t = map decl_piece t.decls ++ statements_pieces 0 t.body ++ end_piece ∷ []
 
 -- the pieces without what they say
 
 abbrev pub part_of : Piece → Part
 part_of (noted n) = a_note n
-part_of (said label depth text i) = a_statement label depth text
+part_of (said depth text i) = a_statement depth text
 
 maps_both : {A B : Type 0} (f : A → B) (xs ys : List A) → map f (xs ++ ys) ≡ map f xs ++ map f ys
 maps_both f [] ys = refl
@@ -113,40 +104,40 @@ private_parts_of depth [] = refl
 private_parts_of depth (x ∷ xs) = refl
 
 mutual
-  statement_parts_of : (depth before : ℕ) (s : StmtTree) → map part_of (statement_pieces depth before s) ≡ statement_parts depth before s
-  statement_parts_of depth before (Assign l r) = refl
-  statement_parts_of depth before (If c a b) =
-      let x = statements_parts_of (suc depth) before a in
-      let y = else_parts_of depth (before + loops_count a) b in
-      let ending : List Part = a_statement None depth (codes "END IF") ∷ [] in
-      ap (λ (ps : List Part). a_statement None depth (own_text before (If c a b)) ∷ ps)
-      (parts_both (statements_pieces (suc depth) before a) _ x (parts_both (else_pieces depth (before + loops_count a) b) _ y refl)
-      ∙ sym (append_assoc (statements_parts (suc depth) before a) (else_parts depth (before + loops_count a) b) ending))
-  statement_parts_of depth before (Do h body) =
+  statement_parts_of : (depth : ℕ) (s : StmtTree) → map part_of (statement_pieces depth s) ≡ statement_parts depth s
+  statement_parts_of depth (Assign l r) = refl
+  statement_parts_of depth (If c a b) =
+      let x = statements_parts_of (suc depth) a in
+      let y = else_parts_of depth b in
+      let ending : List Part = a_statement depth (codes "END IF") ∷ [] in
+      ap (λ (ps : List Part). a_statement depth (own_text (If c a b)) ∷ ps)
+      (parts_both (statements_pieces (suc depth) a) _ x (parts_both (else_pieces depth b) _ y refl)
+      ∙ sym (append_assoc (statements_parts (suc depth) a) (else_parts depth b) ending))
+  statement_parts_of depth (Do h body) =
       let r = rejection_parts h.rejected in
       let p = private_parts_of (suc depth) h.private in
-      let b = statements_parts_of (suc depth) (before + 1) body in
-      let first : Part = a_statement None depth (own_text before (Do h body)) in
-      let last : List Part = a_statement (Some (label_number before)) depth (codes "CONTINUE") ∷ [] in
+      let b = statements_parts_of (suc depth) body in
+      let first : Part = a_statement depth (own_text (Do h body)) in
+      let last : List Part = a_statement depth (codes "END DO") ∷ [] in
       let rs = map (λ x. a_note (a_rejection x)) h.rejected in
       let ps = private_parts (suc depth) h.private in
-      let bs = statements_parts (suc depth) (before + 1) body in
-      parts_both (rejection_pieces h.rejected) _ r (ap (λ (xs : List Part). first ∷ xs) (parts_both (private_pieces (suc depth) h.private) _ p (parts_both (statements_pieces (suc depth) (before + 1) body) _ b refl)))
+      let bs = statements_parts (suc depth) body in
+      parts_both (rejection_pieces h.rejected) _ r (ap (λ (xs : List Part). first ∷ xs) (parts_both (private_pieces (suc depth) h.private) _ p (parts_both (statements_pieces (suc depth) body) _ b refl)))
       ∙ nested rs first ps bs last
-  statement_parts_of depth before (Print items) = refl
-  statement_parts_of depth before (Read items) = refl
-  statement_parts_of depth before Stop = refl
-  statement_parts_of depth before (Comment text) = refl
+  statement_parts_of depth (Print items) = refl
+  statement_parts_of depth (Read items) = refl
+  statement_parts_of depth Stop = refl
+  statement_parts_of depth (Comment text) = refl
 
-  statements_parts_of : (depth before : ℕ) (s : StmtTrees) → map part_of (statements_pieces depth before s) ≡ statements_parts depth before s
-  statements_parts_of depth before no_stmts = refl
-  statements_parts_of depth before (more_stmts s rest) = parts_both (statement_pieces depth before s) _ (statement_parts_of depth before s) (statements_parts_of depth (before + loop_count s) rest)
+  statements_parts_of : (depth : ℕ) (s : StmtTrees) → map part_of (statements_pieces depth s) ≡ statements_parts depth s
+  statements_parts_of depth no_stmts = refl
+  statements_parts_of depth (more_stmts s rest) = parts_both (statement_pieces depth s) _ (statement_parts_of depth s) (statements_parts_of depth rest)
 
-  else_parts_of : (depth before : ℕ) (s : StmtTrees) → map part_of (else_pieces depth before s) ≡ else_parts depth before s
-  else_parts_of depth before no_stmts = refl
-  else_parts_of depth before (more_stmts s rest) =
-      ap (λ (ps : List Part). a_statement None depth (codes "ELSE") ∷ ps)
-      (parts_both (statement_pieces (suc depth) before s) _ (statement_parts_of (suc depth) before s) (statements_parts_of (suc depth) (before + loop_count s) rest))
+  else_parts_of : (depth : ℕ) (s : StmtTrees) → map part_of (else_pieces depth s) ≡ else_parts depth s
+  else_parts_of depth no_stmts = refl
+  else_parts_of depth (more_stmts s rest) =
+      ap (λ (ps : List Part). a_statement depth (codes "ELSE") ∷ ps)
+      (parts_both (statement_pieces (suc depth) s) _ (statement_parts_of (suc depth) s) (statements_parts_of (suc depth) rest))
 
 decl_part_of : (d : DeclTree) → part_of (decl_piece d) ≡ decl_part d
 decl_part_of (Program x) = refl
@@ -163,8 +154,8 @@ decl_parts_of (d ∷ ds) = let p = decl_part_of d in let q = decl_parts_of ds in
 
 pub program_parts_of : (t : ProgramTree) → map part_of (program_pieces t) ≡ program_parts t
 program_parts_of t =
-    parts_both (map decl_piece t.decls ++ statements_pieces 0 0 t.body) _
-    (parts_both (map decl_piece t.decls) _ (decl_parts_of t.decls) (statements_parts_of 0 0 t.body)) refl
+    parts_both (map decl_piece t.decls ++ statements_pieces 0 t.body) _
+    (parts_both (map decl_piece t.decls) _ (decl_parts_of t.decls) (statements_parts_of 0 t.body)) refl
 
 -- where a piece stands: the line of the first of the notes before it, and these notes
 pub record Spot : Type 0 where
@@ -175,16 +166,16 @@ abbrev pub spot : ℕ → List PrintedNote → Spot
 spot line notes = record { line = line; notes = notes }
 
 -- the statement that stands there
-abbrev pub printed_at : Spot → Option ℕ → ℕ → List ℕ → PrintedStatement
-printed_at p label depth text = record { notes = p.notes; label = label; depth = depth; text = text }
+abbrev pub printed_at : Spot → ℕ → List ℕ → PrintedStatement
+printed_at p depth text = record { notes = p.notes; depth = depth; text = text }
 
-abbrev pub statement_here : Spot → Option ℕ → ℕ → List ℕ → Statement
-statement_here p label depth text = cut_at p.line (printed_at p label depth text)
+abbrev pub statement_here : Spot → ℕ → List ℕ → Statement
+statement_here p depth text = cut_at p.line (printed_at p depth text)
 
 -- behind a piece
 abbrev pub behind_piece : Spot → Piece → Spot
 behind_piece p (noted n) = spot p.line (p.notes ++ n ∷ [])
-behind_piece p (said label depth text i) = spot (p.line + length (printed_lines (printed_at p label depth text))) []
+behind_piece p (said depth text i) = spot (p.line + length (printed_lines (printed_at p depth text))) []
 
 -- behind pieces
 abbrev pub behind_pieces : Spot → List Piece → Spot
@@ -194,7 +185,7 @@ behind_pieces p (x ∷ xs) = behind_pieces (behind_piece p x) xs
 -- the statement that a piece is
 abbrev pub entry_here : Spot → Piece → List Entry
 entry_here p (noted n) = []
-entry_here p (said label depth text i) = entry (statement_here p label depth text) i ∷ []
+entry_here p (said depth text i) = entry (statement_here p depth text) i ∷ []
 
 -- the statements among pieces
 abbrev pub entries_here : Spot → List Piece → List Entry
@@ -213,4 +204,4 @@ entries_both p (x ∷ xs) ys = ap (λ (es : List Entry). entry_here p x ++ es) (
 pub cut_here : (p : Spot) (xs : List Piece) → map (λ (e : Entry). e.statement) (entries_here p xs) ≡ cut_from p.line (with_notes p.notes (map part_of xs))
 cut_here p [] = refl
 cut_here p (noted n ∷ xs) = cut_here (behind_piece p (noted n)) xs
-cut_here p (said label depth text i ∷ xs) = ap (λ (ss : List Statement). statement_here p label depth text ∷ ss) (cut_here (behind_piece p (said label depth text i)) xs)
+cut_here p (said depth text i ∷ xs) = ap (λ (ss : List Statement). statement_here p depth text ∷ ss) (cut_here (behind_piece p (said depth text i)) xs)

@@ -3,7 +3,7 @@ use Rattle.std.proofs.Common.{◌≡◌, ◌+◌, true, List, [], ◌∷◌, map
 use Rattle.std.specs.List.{AllByRecursion}
 use Rattle.std.proofs.lemmas.Bool.{and_parts}
 use Rattle.ped_lines.specs.ped_tree.specs.Tree.{StmtTree, StmtTrees, Assign, If, Do, Print, Read, Stop, Comment, no_stmts, more_stmts, ProgramTree}
-use Rattle.ped_lines.specs.ped_tree.specs.Numbering.{statement_count, statements_count, loop_count, loops_count}
+use Rattle.ped_lines.specs.ped_tree.specs.Numbering.{statement_count, statements_count}
 use Rattle.ped_lines.specs.ped_tree.specs.Printing.{program_text}
 use Rattle.ped_lines.specs.ped_tree.specs.Grammar.Statement.{Statement, Statements}
 use Rattle.ped_lines.specs.ped_tree.specs.Grammar.Grouping.{statements_of}
@@ -31,7 +31,7 @@ use Rattle.ped_printed.proofs.ProgramLaws.Good.{AllGood, good_program, parts_fit
 mutual
   rejecting : (p : Surroundings) (s : StmtTree) → stmt_fits p s ≡ true → Rejecting s
   rejecting p (Assign l r) fits = tt
-  rejecting p (If c a b) fits = let f = if_parts p c a b fits in (all_rejecting (in_if p 1 0) a f.then_part, all_rejecting (in_if p (1 + statements_count a) (loops_count a)) b f.else_part)
+  rejecting p (If c a b) fits = let f = if_parts p c a b fits in (all_rejecting (in_if p 1) a f.then_part, all_rejecting (in_if p (1 + statements_count a)) b f.else_part)
   rejecting p (Do h body) fits = let f = do_parts p h body fits in (f.0.rejected, all_rejecting (in_loop p h) body f.1)
   rejecting p (Print items) fits = tt
   rejecting p (Read items) fits = tt
@@ -41,7 +41,7 @@ mutual
   all_rejecting : (p : Surroundings) (s : StmtTrees) → stmts_fit p s ≡ true → AllRejecting s
   all_rejecting p no_stmts fits = tt
   all_rejecting p (more_stmts s rest) fits =
-      let q = moved p (statement_count s) (loop_count s) in
+      let q = moved p (statement_count s) in
       let f = and_parts (stmt_fits p s) (stmts_fit q rest) fits in
       (rejecting p s f.0, all_rejecting q rest f.1)
 
@@ -49,7 +49,7 @@ mutual
 all_read : (p : Spot) (xs : List Piece) → AllGood xs → AreEntries (map (λ (e : Entry). e.statement) (entries_here p xs)) (entries_here p xs)
 all_read p [] g = tt
 all_read p (noted n ∷ xs) g = all_read (behind_piece p (noted n)) xs g.1
-all_read p (said label depth text i ∷ xs) g = (refl, g.0.2, all_read (behind_piece p (said label depth text i)) xs g.1)
+all_read p (said depth text i ∷ xs) g = (refl, g.0.1, all_read (behind_piece p (said depth text i)) xs g.1)
 
 -- the printed text of a program that fits reads as it
 pub reads_again : (t : ProgramTree) → fits t ≡ true → Reads (program_text t) t

@@ -1,14 +1,14 @@
 -- What is open at the statements of a printed program, and which tests fail there.
-use Rattle.std.proofs.Common.{◌≡◌, ℕ, suc, ◌+◌, ◌*◌, ◌<◌, ◌≤◌, List, [], ◌∷◌, ◌++◌, map, max, length, Bool, true, false, cond, refl, ap, ◌∙◌, append_assoc, arith}
-use Rattle.std.specs.Prelude.{codes, not, ◌&&◌, ◌||◌, ◌==◌, nat_lt, nat_le}
+use Rattle.std.proofs.Common.{◌≡◌, ℕ, suc, ◌+◌, ◌≤◌, List, [], ◌∷◌, ◌++◌, map, max, length, Bool, true, false, refl, ap, ◌∙◌, append_assoc, arith}
+use Rattle.std.specs.Prelude.{codes, not, ◌&&◌, ◌||◌, nat_lt, nat_le}
 use Rattle.std.specs.List.{list_any, list_all, flat_map}
 use Rattle.ped_lines.specs.ped_tree.specs.Grammar.Words.{is_name}
 use Rattle.ped_lines.specs.ped_tree.specs.Grammar.Refusal.{Finding, Syntax, NotInProfile, OpenBlock, BadTerminal, IndexAssigned, StopPlace, Limit, refused_if}
 use Rattle.ped_lines.specs.ped_tree.specs.Grammar.Statement.{Note}
 use Rattle.ped_lines.specs.ped_tree.specs.Grammar.Items.{Entry}
-use Rattle.ped_lines.specs.ped_tree.specs.Grammar.Contexts.{Block, in_then, in_else, in_do, Context, is_do, open_variables, has_do, behind}
+use Rattle.ped_lines.specs.ped_tree.specs.Grammar.Contexts.{Block, in_then, in_else, in_do, Context, is_do, open_variables, behind}
 use Rattle.ped_lines.specs.ped_tree.specs.Grammar.Fits.{Surroundings}
-use Rattle.ped_lines.specs.ped_tree.specs.Grammar.ProgramRefusals.{where_it_says, is_left_out, breaks_syntax, is_behind_end, leaves_open, closed, ends_badly, assigns_index, at_private, stops, loop_depth, block_depth, passes_limit, is_bad_directive, at_directives, at_statement, at_statements}
+use Rattle.ped_lines.specs.ped_tree.specs.Grammar.ProgramRefusals.{where_it_says, is_left_out, breaks_syntax, is_behind_end, leaves_open, ends_badly, assigns_index, at_private, stops, loop_depth, block_depth, passes_limit, is_bad_directive, at_directives, at_statement, at_statements}
 use Rattle.ped_lines.specs.Printed.Printed.{PrintedNote, a_comment, a_rejection}
 use Rattle.ped_lines.specs.Printed.Cut.{comments_at, directives_at}
 use Rattle.ped_printed.proofs.ProgramLaws.Trees.{rejections}
@@ -21,9 +21,7 @@ pub record Stands (p : Surroundings) (c : Context) : Type 0 where
   pub private : open_private c.blocks ≡ p.private
   pub depth : block_depth c.blocks ≡ p.depth
   pub statements : c.statements ≡ p.statements
-  pub loops : c.loops ≡ p.loops
   pub phase : nat_le c.phase 4 ≡ true
-  pub fresh : (m : ℕ) → 10 * p.loops < m → has_do m c.blocks ≡ false
 
 pub early : (phase : ℕ) → nat_le phase 4 ≡ true → nat_le 5 phase ≡ false
 early phase h = grind arith
@@ -41,7 +39,7 @@ loops_open (in_else n ∷ bs) = loops_open bs
 loops_open (in_do d ∷ bs) = ap suc (loops_open bs)
 
 -- nothing is refused where all tests fail
-pub passes_all : (saved : List (List ℕ)) (c : Context) (e : Entry) (rest : List Entry) → at_directives c e ≡ [] → breaks_syntax c e.reading ≡ false → is_left_out e.reading ≡ false
+pub passes_all : (saved : List (List ℕ)) (c : Context) (e : Entry) (rest : List Entry) → at_directives c e ≡ [] → breaks_syntax c e.statement.label e.reading ≡ false → is_left_out e.reading ≡ false
     → where_it_says (leaves_open c.blocks) e.reading ≡ false → ends_badly c.blocks e.statement.label e.reading ≡ false → assigns_index c e.reading ≡ false → at_private c e.reading ≡ []
     → (where_it_says stops e.reading && nat_lt 0 (loop_depth c.blocks)) ≡ false → where_it_says (passes_limit saved c rest) e.reading ≡ false → at_statement saved c e rest ≡ []
 passes_all saved c e rest d b o l t x k s m =
@@ -156,19 +154,6 @@ directed c e n ns names before loop comments directives line only named =
 
     last : (n : ℕ) (ns : List PrintedNote) (names : List (List ℕ)) (l : ℕ) → l ≡ n + length (ns ++ map a_rejection names) → n + length ns + length names ≤ l
     last n ns names l h = let k = lengths ns names in omega (arith, h, k)
-
--- labels that no open DO has
-
-pub none_closed : (l : ℕ) (bs : List Block) → has_do l bs ≡ false → closed l bs ≡ bs
-none_closed l [] h = refl
-none_closed l (in_then n ∷ bs) h = refl
-none_closed l (in_else n ∷ bs) h = refl
-none_closed l (in_do d ∷ bs) h =
-    let go : (b : Bool) → (d.label == l) ≡ b → (b || has_do l bs) ≡ false → cond b (closed l bs) (in_do d ∷ bs) ≡ in_do d ∷ bs = λ b. elim b as (λ b. (d.label == l) ≡ b → (b || has_do l bs) ≡ false → cond b (closed l bs) (in_do d ∷ bs) ≡ in_do d ∷ bs) [
-      | true ↦ λ k g. absurd cc
-      | false ↦ λ k g. refl
-    ] in
-    go (d.label == l) refl h
 
 -- statements that are accepted one behind the other, and what is open behind them
 pub record Passed (saved : List (List ℕ)) (c : Context) (p : Surroundings) (bs : List Block) (es rest : List Entry) : Type 0 where

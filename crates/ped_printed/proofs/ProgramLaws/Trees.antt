@@ -1,20 +1,19 @@
 -- The trees of the statements among the pieces are those that were printed.
-use Rattle.std.proofs.Common.{◌≡◌, ℕ, suc, ◌+◌, List, [], ◌∷◌, ◌++◌, map, Option, Some, None, Bool, true, false, cond, refl, sym, ap, ◌∙◌, append_assoc, append-nil}
+use Rattle.std.proofs.Common.{◌≡◌, ℕ, suc, ◌+◌, List, [], ◌∷◌, ◌++◌, map, Bool, true, false, cond, refl, sym, ap, ◌∙◌, append_assoc, append-nil}
 use Rattle.std.specs.Prelude.{codes, ◌&&◌, filter}
 use Rattle.std.specs.List.{list_all}
 use Rattle.ped_lines.specs.ped_tree.specs.Tree.{StmtTree, StmtTrees, Assign, If, Do, Print, Read, Stop, Comment, no_stmts, more_stmts}
 use Rattle.ped_lines.specs.ped_tree.specs.Views.{pack_stmts}
 use Rattle.ped_lines.specs.ped_tree.specs.Grammar.Words.{is_name}
-use Rattle.ped_lines.specs.ped_tree.specs.Numbering.{loop_count, loops_count}
 use Rattle.ped_lines.specs.ped_tree.specs.Printing.{own_text, private_text}
 use Rattle.ped_lines.specs.ped_tree.specs.Grammar.Statement.{Note}
-use Rattle.ped_lines.specs.ped_tree.specs.Grammar.Items.{Item, continues, end_if}
+use Rattle.ped_lines.specs.ped_tree.specs.Grammar.Items.{Item, end_if, ends_do}
 use Rattle.ped_lines.specs.ped_tree.specs.Grammar.Occurrences.{is_rejection, rejected_name, rejected_names}
 use Rattle.ped_lines.specs.ped_tree.specs.Grammar.ProgramRefusals.{listed_stmts}
 use Rattle.ped_lines.specs.ped_tree.specs.Grammar.BlockForms.{BodyForm, nothing, comments_of, whole_head, names_of_private, comments_of_private, first_of_rest, body_trees, rest_trees}
 use Rattle.ped_lines.specs.Printed.Printed.{PrintedNote, a_comment, a_rejection}
 use Rattle.ped_lines.specs.Printed.Cut.{comments_at, directives_at}
-use Rattle.ped_printed.proofs.ProgramLaws.Pieces.{Piece, said, bare, label_number, do_piece, continue_piece, private_pieces, rejection_pieces, statement_pieces, statements_pieces, else_pieces, Spot, spot, statement_here, behind_pieces, behind_both}
+use Rattle.ped_printed.proofs.ProgramLaws.Pieces.{Piece, said, do_piece, end_do_piece, private_pieces, rejection_pieces, statement_pieces, statements_pieces, else_pieces, Spot, spot, statement_here, behind_pieces, behind_both}
 use Rattle.ped_printed.proofs.ProgramLaws.Forms.{then_spot, rest_spot, else_spot, do_spot, private_spot, inner_spot, end_spot, private_form, with_stmt, with_stmts, rest_form}
 
 -- the comments among notes
@@ -49,8 +48,8 @@ comments_are n [] = refl
 comments_are n (a_comment text ∷ ns) = ap (λ (ts : List StmtTree). Comment text ∷ ts) (comments_are (n + 1) ns)
 comments_are n (a_rejection x ∷ ns) = comments_are (n + 1) ns
 
-pub comments_here : (p : Spot) (label : Option ℕ) (depth : ℕ) (text : List ℕ) → comments_of (statement_here p label depth text) ≡ note_trees p.notes
-comments_here p label depth text = comments_are p.line p.notes
+pub comments_here : (p : Spot) (depth : ℕ) (text : List ℕ) → comments_of (statement_here p depth text) ≡ note_trees p.notes
+comments_here p depth text = comments_are p.line p.notes
 
 and_left : (a b : Bool) → (a && b) ≡ true → a ≡ true
 and_left true b h = refl
@@ -101,28 +100,28 @@ notes_after ns (Read items) = []
 notes_after ns Stop = []
 notes_after ns (Comment text) = ns ++ a_comment text ∷ []
 
-clean : (p : Spot) (xs : List Piece) (label : Option ℕ) (depth : ℕ) (text : List ℕ) (i : Item) → (behind_pieces p (xs ++ said label depth text i ∷ [])).notes ≡ []
-clean p xs label depth text i = ap (λ (q : Spot). q.notes) (behind_both p xs (said label depth text i ∷ []))
+clean : (p : Spot) (xs : List Piece) (depth : ℕ) (text : List ℕ) (i : Item) → (behind_pieces p (xs ++ said depth text i ∷ [])).notes ≡ []
+clean p xs depth text i = ap (λ (q : Spot). q.notes) (behind_both p xs (said depth text i ∷ []))
 
-pub notes_are : (depth before : ℕ) (p : Spot) (s : StmtTree) → (behind_pieces p (statement_pieces depth before s)).notes ≡ notes_after p.notes s
-notes_are depth before p (Assign l r) = refl
-notes_are depth before p (If c x y) =
-    let q = then_spot depth before p (If c x y) in
-    let xs = statements_pieces (suc depth) before x in
-    let ys = else_pieces depth (before + loops_count x) y in
-    ap (λ (ps : List Piece). (behind_pieces q ps).notes) (sym (append_assoc xs ys (bare depth (codes "END IF") end_if ∷ [])))
-    ∙ clean q (xs ++ ys) None depth (codes "END IF") end_if
-notes_are depth before p (Do h body) =
+pub notes_are : (depth : ℕ) (p : Spot) (s : StmtTree) → (behind_pieces p (statement_pieces depth s)).notes ≡ notes_after p.notes s
+notes_are depth p (Assign l r) = refl
+notes_are depth p (If c x y) =
+    let q = then_spot depth p (If c x y) in
+    let xs = statements_pieces (suc depth) x in
+    let ys = else_pieces depth y in
+    ap (λ (ps : List Piece). (behind_pieces q ps).notes) (sym (append_assoc xs ys (said depth (codes "END IF") end_if ∷ [])))
+    ∙ clean q (xs ++ ys) depth (codes "END IF") end_if
+notes_are depth p (Do h body) =
     let ps = private_pieces (suc depth) h.private in
-    let bs = statements_pieces (suc depth) (before + 1) body in
-    let r = private_spot depth before p h body in
-    ap (λ (q : Spot). q.notes) (behind_both p (rejection_pieces h.rejected) (do_piece depth before h body ∷ (ps ++ (bs ++ continue_piece depth before ∷ []))))
-    ∙ ap (λ (xs : List Piece). (behind_pieces r xs).notes) (sym (append_assoc ps bs (continue_piece depth before ∷ [])))
-    ∙ clean r (ps ++ bs) (Some (label_number before)) depth (codes "CONTINUE") continues
-notes_are depth before p (Print items) = refl
-notes_are depth before p (Read items) = refl
-notes_are depth before p Stop = refl
-notes_are depth before p (Comment text) = refl
+    let bs = statements_pieces (suc depth) body in
+    let r = private_spot depth p h body in
+    ap (λ (q : Spot). q.notes) (behind_both p (rejection_pieces h.rejected) (do_piece depth h body ∷ (ps ++ (bs ++ end_do_piece depth ∷ []))))
+    ∙ ap (λ (xs : List Piece). (behind_pieces r xs).notes) (sym (append_assoc ps bs (end_do_piece depth ∷ [])))
+    ∙ clean r (ps ++ bs) depth (codes "END DO") ends_do
+notes_are depth p (Print items) = refl
+notes_are depth p (Read items) = refl
+notes_are depth p Stop = refl
+notes_are depth p (Comment text) = refl
 
 comments_only : (ns : List PrintedNote) (text : List ℕ) → rejections ns ≡ [] → rejections (ns ++ a_comment text ∷ []) ≡ []
 comments_only [] text h = refl
@@ -141,8 +140,8 @@ only_after ns s h = elim s as (λ s. rejections (notes_after ns s) ≡ []) [
   | Comment text ↦ comments_only ns text h
 ]
 
-pub only_behind : (depth before : ℕ) (p : Spot) (s : StmtTree) → rejections p.notes ≡ [] → rejections (behind_pieces p (statement_pieces depth before s)).notes ≡ []
-only_behind depth before p s h = ap rejections (notes_are depth before p s) ∙ only_after p.notes s h
+pub only_behind : (depth : ℕ) (p : Spot) (s : StmtTree) → rejections p.notes ≡ [] → rejections (behind_pieces p (statement_pieces depth s)).notes ≡ []
+only_behind depth p s h = ap rejections (notes_are depth p s) ∙ only_after p.notes s h
 
 pub packed : (s : StmtTrees) → pack_stmts (listed_stmts s) ≡ s
 packed no_stmts = refl
@@ -153,9 +152,9 @@ trees_push [] text = refl
 trees_push (a_comment t ∷ ns) text = ap (λ (ts : List StmtTree). Comment t ∷ ts) (trees_push ns text)
 trees_push (a_rejection x ∷ ns) text = trees_push ns text
 
-rest_comments : (depth before : ℕ) (p : Spot) (s : StmtTrees) → comments_of (first_of_rest (rest_form depth before p s)) ≡ note_trees p.notes
-rest_comments depth before p no_stmts = comments_here p None depth (codes "END IF")
-rest_comments depth before p (more_stmts s rest) = comments_here p None depth (codes "ELSE")
+rest_comments : (depth : ℕ) (p : Spot) (s : StmtTrees) → comments_of (first_of_rest (rest_form depth p s)) ≡ note_trees p.notes
+rest_comments depth p no_stmts = comments_here p depth (codes "END IF")
+rest_comments depth p (more_stmts s rest) = comments_here p depth (codes "ELSE")
 
 private_names : (p : Spot) (depth : ℕ) (names : List (List ℕ)) → names_of_private (private_form p depth names) ≡ names
 private_names p depth [] = refl
@@ -163,87 +162,87 @@ private_names p depth (x ∷ xs) = refl
 
 private_comments : (p : Spot) (depth : ℕ) (names : List (List ℕ)) → p.notes ≡ [] → comments_of_private (private_form p depth names) ≡ []
 private_comments p depth [] h = refl
-private_comments p depth (x ∷ xs) h = comments_here p None depth (private_text (x ∷ xs)) ∙ ap note_trees h
+private_comments p depth (x ∷ xs) h = comments_here p depth (private_text (x ∷ xs)) ∙ ap note_trees h
 
 private_clean : (p : Spot) (depth : ℕ) (names : List (List ℕ)) → p.notes ≡ [] → (behind_pieces p (private_pieces depth names)).notes ≡ []
 private_clean p depth [] h = h
 private_clean p depth (x ∷ xs) h = refl
 
 -- a plain statement with its comments
-plain_law : (xs : List StmtTree) (p : Spot) (depth : ℕ) (text : List ℕ) (s : StmtTree) → xs ++ (comments_of (statement_here p None depth text) ++ s ∷ []) ++ [] ≡ xs ++ note_trees p.notes ++ s ∷ []
+plain_law : (xs : List StmtTree) (p : Spot) (depth : ℕ) (text : List ℕ) (s : StmtTree) → xs ++ (comments_of (statement_here p depth text) ++ s ∷ []) ++ [] ≡ xs ++ note_trees p.notes ++ s ∷ []
 plain_law xs p depth text s =
-    append-nil (xs ++ (comments_of (statement_here p None depth text) ++ s ∷ []))
-    ∙ ap (λ (ts : List StmtTree). xs ++ (ts ++ s ∷ [])) (comments_here p None depth text)
+    append-nil (xs ++ (comments_of (statement_here p depth text) ++ s ∷ []))
+    ∙ ap (λ (ts : List StmtTree). xs ++ (ts ++ s ∷ [])) (comments_here p depth text)
     ∙ sym (append_assoc xs (note_trees p.notes) (s ∷ []))
 
 mutual
-  pub stmt_law : (b : BodyForm) (depth before : ℕ) (p : Spot) (s : StmtTree) → rejections p.notes ≡ [] → Rejecting s
-      → body_trees (with_stmt b depth before p s) ++ note_trees (notes_after p.notes s) ≡ body_trees b ++ note_trees p.notes ++ s ∷ []
-  stmt_law b depth before p (Assign l r) only named = plain_law (body_trees b) p depth (own_text before (Assign l r)) (Assign l r)
-  stmt_law b depth before p (If c x y) only named =
-      let q = then_spot depth before p (If c x y) in
-      let r = rest_spot depth before p (If c x y) x in
-      let then_is : body_trees (with_stmts nothing (suc depth) before q x) ++ comments_of (first_of_rest (rest_form depth (before + loops_count x) r y)) ≡ listed_stmts x =
-      ap (λ (ts : List StmtTree). body_trees (with_stmts nothing (suc depth) before q x) ++ ts) (rest_comments depth (before + loops_count x) r y)
-      ∙ stmts_law nothing (suc depth) before q x refl named.0 in
-      let rest_is = rest_law depth (before + loops_count x) r y named.1 in
-      let whole : If c (pack_stmts (body_trees (with_stmts nothing (suc depth) before q x) ++ comments_of (first_of_rest (rest_form depth (before + loops_count x) r y)))) (pack_stmts (rest_trees (rest_form depth (before + loops_count x) r y))) ≡ If c x y =
+  pub stmt_law : (b : BodyForm) (depth : ℕ) (p : Spot) (s : StmtTree) → rejections p.notes ≡ [] → Rejecting s
+      → body_trees (with_stmt b depth p s) ++ note_trees (notes_after p.notes s) ≡ body_trees b ++ note_trees p.notes ++ s ∷ []
+  stmt_law b depth p (Assign l r) only named = plain_law (body_trees b) p depth (own_text (Assign l r)) (Assign l r)
+  stmt_law b depth p (If c x y) only named =
+      let q = then_spot depth p (If c x y) in
+      let r = rest_spot depth p (If c x y) x in
+      let then_is : body_trees (with_stmts nothing (suc depth) q x) ++ comments_of (first_of_rest (rest_form depth r y)) ≡ listed_stmts x =
+      ap (λ (ts : List StmtTree). body_trees (with_stmts nothing (suc depth) q x) ++ ts) (rest_comments depth r y)
+      ∙ stmts_law nothing (suc depth) q x refl named.0 in
+      let rest_is = rest_law depth r y named.1 in
+      let whole : If c (pack_stmts (body_trees (with_stmts nothing (suc depth) q x) ++ comments_of (first_of_rest (rest_form depth r y)))) (pack_stmts (rest_trees (rest_form depth r y))) ≡ If c x y =
       (λ i. If c (pack_stmts (then_is i)) (pack_stmts (rest_is i))) ∙ (λ i. If c (packed x i) (packed y i)) in
-      ap (λ (t : StmtTree). body_trees b ++ (comments_of (statement_here p None depth (own_text before (If c x y))) ++ t ∷ []) ++ []) whole
-      ∙ plain_law (body_trees b) p depth (own_text before (If c x y)) (If c x y)
-  stmt_law b depth before p (Do h body) only named =
+      ap (λ (t : StmtTree). body_trees b ++ (comments_of (statement_here p depth (own_text (If c x y))) ++ t ∷ []) ++ []) whole
+      ∙ plain_law (body_trees b) p depth (own_text (If c x y)) (If c x y)
+  stmt_law b depth p (Do h body) only named =
       let q = do_spot p h in
-      let r = private_spot depth before p h body in
-      let s = inner_spot depth before p h body in
-      let t = end_spot depth before p h body in
-      let st = statement_here q None depth (own_text before (Do h body)) in
+      let r = private_spot depth p h body in
+      let s = inner_spot depth p h body in
+      let t = end_spot depth p h body in
+      let st = statement_here q depth (own_text (Do h body)) in
       let notes : q.notes ≡ p.notes ++ map a_rejection h.rejected = ap (λ (z : Spot). z.notes) (notes_rejected p h.rejected) in
       let names : rejections q.notes ≡ h.rejected = ap rejections notes ∙ rejections_both p.notes h.rejected ∙ ap (λ (ys : List (List ℕ)). ys ++ h.rejected) only in
       let rejected : rejected_names st.directives ≡ h.rejected = rejections_are q.line q.notes (ap (list_all is_name) names ∙ named.0) ∙ names in
       let private = private_names r (suc depth) h.private in
       let clear : s.notes ≡ [] = private_clean r (suc depth) h.private refl in
-      let inner : body_trees (with_stmts nothing (suc depth) (before + 1) s body) ++ note_trees t.notes ≡ listed_stmts body =
-      stmts_law nothing (suc depth) (before + 1) s body (ap rejections clear) named.1 ∙ ap (λ (ns : List PrintedNote). note_trees ns ++ listed_stmts body) clear in
-      let last = statement_here t (Some (label_number before)) depth (codes "CONTINUE") in
-      let ending : comments_of last ++ [] ≡ note_trees t.notes = append-nil (comments_of last) ∙ comments_here t (Some (label_number before)) depth (codes "CONTINUE") in
+      let inner : body_trees (with_stmts nothing (suc depth) s body) ++ note_trees t.notes ≡ listed_stmts body =
+      stmts_law nothing (suc depth) s body (ap rejections clear) named.1 ∙ ap (λ (ns : List PrintedNote). note_trees ns ++ listed_stmts body) clear in
+      let last = statement_here t depth (codes "END DO") in
+      let ending : comments_of last ≡ note_trees t.notes = comments_here t depth (codes "END DO") in
       let early = private_comments r (suc depth) h.private refl in
-      let bodies : comments_of_private (private_form r (suc depth) h.private) ++ body_trees (with_stmts nothing (suc depth) (before + 1) s body) ++ (comments_of last ++ []) ≡ listed_stmts body =
-      (λ i. early i ++ body_trees (with_stmts nothing (suc depth) (before + 1) s body) ++ ending i) ∙ inner in
+      let bodies : comments_of_private (private_form r (suc depth) h.private) ++ body_trees (with_stmts nothing (suc depth) s body) ++ comments_of last ≡ listed_stmts body =
+      (λ i. early i ++ body_trees (with_stmts nothing (suc depth) s body) ++ ending i) ∙ inner in
       let head : whole_head (whole_head h [] []) (names_of_private (private_form r (suc depth) h.private)) (rejected_names st.directives) ≡ h = λ i. record h { private = private i; rejected = rejected i } in
-      let whole : Do (whole_head (whole_head h [] []) (names_of_private (private_form r (suc depth) h.private)) (rejected_names st.directives)) (pack_stmts (comments_of_private (private_form r (suc depth) h.private) ++ body_trees (with_stmts nothing (suc depth) (before + 1) s body) ++ (comments_of last ++ []))) ≡ Do h body =
+      let whole : Do (whole_head (whole_head h [] []) (names_of_private (private_form r (suc depth) h.private)) (rejected_names st.directives)) (pack_stmts (comments_of_private (private_form r (suc depth) h.private) ++ body_trees (with_stmts nothing (suc depth) s body) ++ comments_of last)) ≡ Do h body =
       (λ i. Do (head i) (pack_stmts (bodies i))) ∙ ap (Do h) (packed body) in
-      let front : comments_of st ≡ note_trees p.notes = comments_here q None depth (own_text before (Do h body)) ∙ ap note_trees notes ∙ trees_rejected p.notes h.rejected in
+      let front : comments_of st ≡ note_trees p.notes = comments_here q depth (own_text (Do h body)) ∙ ap note_trees notes ∙ trees_rejected p.notes h.rejected in
       append-nil _
       ∙ (λ i. body_trees b ++ (front i ++ whole i ∷ []))
       ∙ sym (append_assoc (body_trees b) (note_trees p.notes) (Do h body ∷ []))
-  stmt_law b depth before p (Print items) only named = plain_law (body_trees b) p depth (own_text before (Print items)) (Print items)
-  stmt_law b depth before p (Read items) only named = plain_law (body_trees b) p depth (own_text before (Read items)) (Read items)
-  stmt_law b depth before p Stop only named = plain_law (body_trees b) p depth (own_text before Stop) Stop
-  stmt_law b depth before p (Comment text) only named =
+  stmt_law b depth p (Print items) only named = plain_law (body_trees b) p depth (own_text (Print items)) (Print items)
+  stmt_law b depth p (Read items) only named = plain_law (body_trees b) p depth (own_text (Read items)) (Read items)
+  stmt_law b depth p Stop only named = plain_law (body_trees b) p depth (own_text Stop) Stop
+  stmt_law b depth p (Comment text) only named =
       ap (λ (ts : List StmtTree). body_trees b ++ ts) (trees_push p.notes text) ∙ sym (append_assoc (body_trees b) (note_trees p.notes) (Comment text ∷ []))
 
-  pub stmts_law : (b : BodyForm) (depth before : ℕ) (p : Spot) (s : StmtTrees) → rejections p.notes ≡ [] → AllRejecting s
-      → body_trees (with_stmts b depth before p s) ++ note_trees (behind_pieces p (statements_pieces depth before s)).notes ≡ body_trees b ++ note_trees p.notes ++ listed_stmts s
-  stmts_law b depth before p no_stmts only named = sym (append-nil (body_trees b ++ note_trees p.notes))
-  stmts_law b depth before p (more_stmts s rest) only named =
-      let q = behind_pieces p (statement_pieces depth before s) in
-      let more = stmts_law (with_stmt b depth before p s) depth (before + loop_count s) q rest (only_behind depth before p s only) named.1 in
-      let one = stmt_law b depth before p s only named.0 in
-      ap (λ (z : Spot). body_trees (with_stmts (with_stmt b depth before p s) depth (before + loop_count s) q rest) ++ note_trees z.notes) (behind_both p (statement_pieces depth before s) (statements_pieces depth (before + loop_count s) rest))
+  pub stmts_law : (b : BodyForm) (depth : ℕ) (p : Spot) (s : StmtTrees) → rejections p.notes ≡ [] → AllRejecting s
+      → body_trees (with_stmts b depth p s) ++ note_trees (behind_pieces p (statements_pieces depth s)).notes ≡ body_trees b ++ note_trees p.notes ++ listed_stmts s
+  stmts_law b depth p no_stmts only named = sym (append-nil (body_trees b ++ note_trees p.notes))
+  stmts_law b depth p (more_stmts s rest) only named =
+      let q = behind_pieces p (statement_pieces depth s) in
+      let more = stmts_law (with_stmt b depth p s) depth q rest (only_behind depth p s only) named.1 in
+      let one = stmt_law b depth p s only named.0 in
+      ap (λ (z : Spot). body_trees (with_stmts (with_stmt b depth p s) depth q rest) ++ note_trees z.notes) (behind_both p (statement_pieces depth s) (statements_pieces depth rest))
       ∙ more
-      ∙ ap (λ (ns : List PrintedNote). body_trees (with_stmt b depth before p s) ++ note_trees ns ++ listed_stmts rest) (notes_are depth before p s)
+      ∙ ap (λ (ns : List PrintedNote). body_trees (with_stmt b depth p s) ++ note_trees ns ++ listed_stmts rest) (notes_are depth p s)
       ∙ ap (λ (ts : List StmtTree). ts ++ listed_stmts rest) one
       ∙ append_assoc (body_trees b ++ note_trees p.notes) (s ∷ []) (listed_stmts rest)
 
-  rest_law : (depth before : ℕ) (p : Spot) (s : StmtTrees) → AllRejecting s → rest_trees (rest_form depth before p s) ≡ listed_stmts s
-  rest_law depth before p no_stmts named = refl
-  rest_law depth before p (more_stmts s rest) named =
+  rest_law : (depth : ℕ) (p : Spot) (s : StmtTrees) → AllRejecting s → rest_trees (rest_form depth p s) ≡ listed_stmts s
+  rest_law depth p no_stmts named = refl
+  rest_law depth p (more_stmts s rest) named =
       let q = else_spot depth p in
-      let r = behind_pieces q (statement_pieces (suc depth) before s) in
-      let t = behind_pieces r (statements_pieces (suc depth) (before + loop_count s) rest) in
-      let one = stmt_law nothing (suc depth) before q s refl named.0 in
-      let more = stmts_law (with_stmt nothing (suc depth) before q s) (suc depth) (before + loop_count s) r rest (only_behind (suc depth) before q s refl) named.1 in
-      ap (λ (ts : List StmtTree). body_trees (with_stmts (with_stmt nothing (suc depth) before q s) (suc depth) (before + loop_count s) r rest) ++ ts) (comments_here t None depth (codes "END IF"))
+      let r = behind_pieces q (statement_pieces (suc depth) s) in
+      let t = behind_pieces r (statements_pieces (suc depth) rest) in
+      let one = stmt_law nothing (suc depth) q s refl named.0 in
+      let more = stmts_law (with_stmt nothing (suc depth) q s) (suc depth) r rest (only_behind (suc depth) q s refl) named.1 in
+      ap (λ (ts : List StmtTree). body_trees (with_stmts (with_stmt nothing (suc depth) q s) (suc depth) r rest) ++ ts) (comments_here t depth (codes "END IF"))
       ∙ more
-      ∙ ap (λ (ns : List PrintedNote). body_trees (with_stmt nothing (suc depth) before q s) ++ note_trees ns ++ listed_stmts rest) (notes_are (suc depth) before q s)
+      ∙ ap (λ (ns : List PrintedNote). body_trees (with_stmt nothing (suc depth) q s) ++ note_trees ns ++ listed_stmts rest) (notes_are (suc depth) q s)
       ∙ ap (λ (ts : List StmtTree). ts ++ listed_stmts rest) one

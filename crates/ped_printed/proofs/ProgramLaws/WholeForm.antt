@@ -1,5 +1,5 @@
 -- The form of a whole printed program.
-use Rattle.std.proofs.Common.{◌≡◌, ℕ, ◌+◌, List, [], ◌∷◌, ◌++◌, map, None, true, refl, sym, ap, ◌∙◌, append_assoc, append-nil}
+use Rattle.std.proofs.Common.{◌≡◌, ℕ, ◌+◌, List, [], ◌∷◌, ◌++◌, map, true, refl, sym, ap, ◌∙◌, append_assoc, append-nil}
 use Rattle.std.specs.Prelude.{codes, IsTrue}
 use Rattle.std.specs.List.{flat_map}
 use Rattle.ped_lines.specs.ped_tree.specs.Tree.{StmtTree, StmtTrees, Assign, If, Do, Print, Read, Stop, Comment, no_stmts, more_stmts, DeclTree, Program, Implicit, Integer, Dimension, Parameter, Save, Remark, ProgramTree}
@@ -25,12 +25,12 @@ note_remarks (a_comment text ∷ ns) = Remark text ∷ note_remarks ns
 note_remarks (a_rejection x ∷ ns) = note_remarks ns
 
 abbrev pub decl_form : Spot → DeclTree → List DeclForm
-decl_form p (Program x) = a_declaration (statement_here p None 0 (decl_text (Program x))) (Program x) ∷ []
-decl_form p Implicit = a_declaration (statement_here p None 0 (decl_text Implicit)) Implicit ∷ []
-decl_form p (Integer ds) = a_declaration (statement_here p None 0 (decl_text (Integer ds))) (Integer ds) ∷ []
-decl_form p (Dimension ds) = a_declaration (statement_here p None 0 (decl_text (Dimension ds))) (Dimension ds) ∷ []
-decl_form p (Parameter values) = a_declaration (statement_here p None 0 (decl_text (Parameter values))) (Parameter values) ∷ []
-decl_form p (Save names) = a_declaration (statement_here p None 0 (decl_text (Save names))) (Save names) ∷ []
+decl_form p (Program x) = a_declaration (statement_here p 0 (decl_text (Program x))) (Program x) ∷ []
+decl_form p Implicit = a_declaration (statement_here p 0 (decl_text Implicit)) Implicit ∷ []
+decl_form p (Integer ds) = a_declaration (statement_here p 0 (decl_text (Integer ds))) (Integer ds) ∷ []
+decl_form p (Dimension ds) = a_declaration (statement_here p 0 (decl_text (Dimension ds))) (Dimension ds) ∷ []
+decl_form p (Parameter values) = a_declaration (statement_here p 0 (decl_text (Parameter values))) (Parameter values) ∷ []
+decl_form p (Save names) = a_declaration (statement_here p 0 (decl_text (Save names))) (Save names) ∷ []
 decl_form p (Remark text) = []
 
 abbrev pub decl_forms : Spot → List DeclTree → List DeclForm
@@ -44,13 +44,13 @@ abbrev pub body_spot : ProgramTree → Spot
 body_spot t = behind_pieces start (map decl_piece t.decls)
 
 abbrev pub ending_spot : ProgramTree → Spot
-ending_spot t = behind_pieces (body_spot t) (statements_pieces 0 0 t.body)
+ending_spot t = behind_pieces (body_spot t) (statements_pieces 0 t.body)
 
 abbrev pub whole_form : ProgramTree → ProgramForm
 whole_form t = record {
   declarations = decl_forms start t.decls;
-  body = with_stmts nothing 0 0 (body_spot t) t.body;
-  ending = statement_here (ending_spot t) None 0 (codes "END");
+  body = with_stmts nothing 0 (body_spot t) t.body;
+  ending = statement_here (ending_spot t) 0 (codes "END");
 }
 
 abbrev pub whole_entries : ProgramTree → List Entry
@@ -82,10 +82,10 @@ decl_entries p (d ∷ ds) =
 pub form_entries : (t : ProgramTree) → program_entries (whole_form t) ≡ whole_entries t
 form_entries t =
     let ds = map decl_piece t.decls in
-    let ss = statements_pieces 0 0 t.body in
-    let last : List Entry = entry (statement_here (ending_spot t) None 0 (codes "END")) ends_program ∷ [] in
+    let ss = statements_pieces 0 t.body in
+    let last : List Entry = entry (statement_here (ending_spot t) 0 (codes "END")) ends_program ∷ [] in
     let a = decl_entries start t.decls in
-    let b = stmts_entries nothing 0 0 (body_spot t) t.body in
+    let b = stmts_entries nothing 0 (body_spot t) t.body in
     (λ i. a i ++ b i ++ last)
     ∙ ap (λ (es : List Entry). es ++ last) (sym (entries_both start ds ss))
     ∙ ap (λ (p : Spot). entries_here start (ds ++ ss) ++ entries_here p (end_piece ∷ [])) (sym (behind_both start ds ss))
@@ -180,8 +180,8 @@ form_tree saved t named begins =
     let q = ending_spot t in
     let f = whole_form t in
     let all : all_trees f ≡ note_trees p.notes ++ listed_stmts t.body =
-    ap (λ (ts : List StmtTree). body_trees f.body ++ ts) (comments_here q None 0 (codes "END"))
-    ∙ stmts_law nothing 0 0 p t.body (decls_only start t.decls refl) named in
+    ap (λ (ts : List StmtTree). body_trees f.body ++ ts) (comments_here q 0 (codes "END"))
+    ∙ stmts_law nothing 0 p t.body (decls_only start t.decls refl) named in
     let front : front_remarks (all_trees f) ≡ note_remarks p.notes =
     ap front_remarks all ∙ front_both p.notes (listed_stmts t.body) ∙ ap (λ (ds : List DeclTree). note_remarks p.notes ++ ds) (no_front t.body begins) ∙ append-nil (note_remarks p.notes) in
     let rest : pack_stmts (behind_front (all_trees f)) ≡ t.body =
@@ -193,4 +193,4 @@ form_tree saved t named begins =
     λ i. record { decls = decls i; body = rest i }
 
 pub form_labelled : (t : ProgramTree) → IsTrue (body_keeps_labels [] (whole_form t).body)
-form_labelled t = stmts_fit [] nothing 0 0 (body_spot t) t.body (λ m h. refl) refl
+form_labelled t = stmts_fit [] nothing 0 (body_spot t) t.body refl

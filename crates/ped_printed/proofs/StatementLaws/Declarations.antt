@@ -11,7 +11,7 @@ use Rattle.ped_lines.specs.ped_tree.specs.Grammar.Literals.{has_large_literal, d
 use Rattle.ped_lines.specs.ped_tree.specs.Printing.{value_text, is_one, bound_text, declarator_text, parameter_text, decl_text}
 use Rattle.ped_lines.specs.ped_tree.specs.Grammar.ExpressionForms.{expr_form_tree}
 use Rattle.ped_lines.specs.ped_tree.specs.Grammar.Items.{Item, declares}
-use Rattle.ped_lines.specs.ped_tree.specs.Grammar.StatementForms.{BoundForm, upper_bound, both_bounds, an_array, a_scalar, of_array, a_constant, bound_form_text, array_form_text, declarator_form_text, constant_form_text, bound_form_tree, array_form_tree, declarator_form_tree, constant_form_tree, are_names, StatementForm, program, implicit, integer, dimension, parameter, save, save_all, simple, if_simple, if_then, else_if_then, else_alone, end_of_if, do_loop, private, end, SimpleForm, assignment, print, read, stop, continue, statement_item}
+use Rattle.ped_lines.specs.ped_tree.specs.Grammar.StatementForms.{BoundForm, upper_bound, both_bounds, an_array, a_scalar, of_array, a_constant, bound_form_text, array_form_text, declarator_form_text, constant_form_text, bound_form_tree, array_form_tree, declarator_form_tree, constant_form_tree, are_names, StatementForm, program, implicit, integer, dimension, parameter, save, save_all, simple, if_simple, if_then, else_if_then, else_alone, end_of_if, do_loop, end_of_do, private, end, SimpleForm, assignment, print, read, stop, continue, statement_item}
 use Rattle.ped_printed.specs.Statements.Printed.{ReadsOnly, DeclarationPrints, SavePrints}
 use Rattle.ped_printed.proofs.StatementLaws.Squeezing.{Reduces, joined, words, comma_blank, name_stays}
 use Rattle.ped_printed.proofs.StatementLaws.Expressions.{expr_again}
@@ -104,7 +104,8 @@ declares_again (if_then c) = tt
 declares_again (else_if_then c) = tt
 declares_again else_alone = tt
 declares_again end_of_if = tt
-declares_again (do_loop parallel label is c) = tt
+declares_again (do_loop parallel l c) = tt
+declares_again end_of_do = tt
 declares_again (private names are) = tt
 declares_again end = tt
 

@@ -9,6 +9,7 @@ use Rattle.ped_lines.specs.ped_base.specs.Letters
 use Rattle.ped_lines.specs.ped_base.specs.Letters.{is_letter, is_digit, is_alphanumeric}
 use Rattle.ped_lines.specs.ped_tree.specs.Grammar.Columns.{is_blank}
 use Rattle.ped_lines.specs.ped_tree.specs.Grammar.Characters.{is_quoted, ends_apart, kept, text_behind, text_of}
+use Rattle.ped_lines.specs.ped_tree.specs.Grammar.LimitNumbers.{most_name}
 use Rattle.ped_lines.specs.ped_tree.specs.Grammar.Words.{is_name, is_numeral}
 use Rattle.ped_lines.specs.ped_tree.specs.Printing.{blanks, doubled, constant_text}
 use Rattle.ped_lines.proofs.Quoting.{quoted_more, text_append}
@@ -119,7 +120,7 @@ word_stays (c ∷ cs) h =
 
 pub name_stays : (x : List ℕ) → is_name x ≡ true → Reduces x x
 name_stays x h =
-    let k = and_parts (Letters.is_name x) (leb (length x) 6) h in
+    let k = and_parts (Letters.is_name x) (leb (length x) most_name) h in
     word_stays x (and_parts (Letters.begins_with_letter x) (list_all is_alphanumeric x) k.0).1
 
 digits_pass : (x : List ℕ) → list_all is_digit x ≡ true → list_all is_alphanumeric x ≡ true

@@ -1,25 +1,23 @@
 -- The first printed lines of statements have forms with the same meaning.
-use Rattle.std.proofs.Common.{◌≡◌, ℕ, ◌+◌, ◌*◌, ◌<◌, ◌^◌, Bool, true, false, List, [], ◌++◌, map, length, Option, Some, None, refl, sym, ap, subst, ◌∙◌, append_assoc, arith, leb, eqb}
-use Rattle.std.specs.Prelude.{codes, ◌||◌, ◌&&◌, not}
-use Rattle.std.specs.Fmt.{decimal}
+use Rattle.std.proofs.Common.{◌≡◌, ℕ, Bool, true, false, List, [], ◌++◌, map, Option, Some, None, refl, sym, ap, subst, ◌∙◌, append_assoc}
+use Rattle.std.specs.Prelude.{codes, ◌||◌}
 use Rattle.std.specs.List.{list_any, list_all}
-use Rattle.std.proofs.lemmas.Bool.{cond_both, or_parts, and_parts, and_from, le-leb, ne_eqb, not_from_false}
+use Rattle.std.proofs.lemmas.Bool.{cond_both, or_parts, and_parts}
 use Rattle.std.proofs.lemmas.List.{append-nil}
-use Rattle.std.proofs.lemmas.Fmt.{length-decimal-le}
 use Rattle.ped_lines.specs.ped_tree.specs.Tree.{ExprTree, CondTree, ItemTree, Value, Head, StmtTree, StmtTrees, Assign, Print, Read, Stop, no_stmts, more_stmts}
 use Rattle.ped_lines.specs.ped_base.specs.Lists.{has_some}
-use Rattle.ped_lines.specs.ped_tree.specs.Grammar.Words.{is_name, is_numeral, numeral_value}
+use Rattle.ped_lines.specs.ped_tree.specs.Grammar.Words.{is_name}
 use Rattle.ped_lines.specs.ped_tree.specs.Grammar.Literals.{has_large_literal, cond_has_large_literal, item_has_large_literal, head_has_large_literal, stmt_has_large_literal}
-use Rattle.ped_lines.specs.ped_tree.specs.Printing.{value_text, whole, cond_text, is_one, item_text, label_text, step_text, do_word, do_text, private_text, own_text}
+use Rattle.ped_lines.specs.ped_tree.specs.Printing.{value_text, whole, cond_text, is_one, item_text, step_text, do_word, do_text, private_text, own_text}
 use Rattle.ped_lines.specs.ped_tree.specs.Grammar.ExpressionForms.{ExprForm, expr_form_text, expr_form_tree, ReferenceForm, reference_form_text, reference_form_tree}
 use Rattle.ped_lines.specs.ped_tree.specs.Grammar.ConditionForms.{CondForm, cond_form_tree}
-use Rattle.ped_lines.specs.ped_tree.specs.Grammar.Items.{Item, does, continues, logical_if, block_if, else_if, else_line, end_if, begins_do, keeps_private, ends_program}
-use Rattle.ped_lines.specs.ped_tree.specs.Grammar.StatementForms.{ItemForm, a_value, a_text, item_form_text, item_form_tree, SimpleForm, assignment, print, read, stop, continue, simple_item, behind_if, ControlForm, control, control_form_head, further_form_text, step_form_tree, do_form_word, is_label, StatementForm, program, implicit, integer, dimension, parameter, save, save_all, simple, if_simple, if_then, else_if_then, else_alone, end_of_if, do_loop, private, end, statement_item}
+use Rattle.ped_lines.specs.ped_tree.specs.Grammar.Items.{Item, does, logical_if, block_if, else_if, else_line, end_if, begins_do, ends_do, keeps_private, ends_program}
+use Rattle.ped_lines.specs.ped_tree.specs.Grammar.StatementForms.{ItemForm, a_value, a_text, item_form_text, item_form_tree, SimpleForm, assignment, print, read, stop, continue, simple_item, behind_if, no_label, ControlForm, control, control_form_head, further_form_text, step_form_tree, do_form_word, StatementForm, program, implicit, integer, dimension, parameter, save, save_all, simple, if_simple, if_then, else_if_then, else_alone, end_of_if, do_loop, end_of_do, private, end, statement_item}
 use Rattle.ped_lines.specs.ped_tree.specs.Grammar.BlockForms.{whole_head}
 use Rattle.ped_lines.specs.ped_tree.specs.Grammar.ProgramRefusals.{listed_stmts, is_too_large}
-use Rattle.ped_printed.specs.Statements.Printed.{ReadsOnly, SaysFirstLine, itself, of_block_if, of_else_if, of_logical_if, behind_logical_if, of_do, first_line_item, HasShortLabel, StatementPrints, PrivatePrints, WordsPrint}
-use Rattle.ped_printed.proofs.StatementLaws.Squeezing.{Reduces, joined, nothing, words, comma_blank, name_stays, numeral_stays, listed_constant}
-use Rattle.ped_printed.proofs.StatementLaws.Expressions.{Again, decimal_numeral, expr_again, reference_again, cond_again}
+use Rattle.ped_printed.specs.Statements.Printed.{ReadsOnly, SaysFirstLine, itself, of_block_if, of_else_if, of_logical_if, behind_logical_if, of_do, first_line_item, StatementPrints, PrivatePrints, WordsPrint}
+use Rattle.ped_printed.proofs.StatementLaws.Squeezing.{Reduces, joined, nothing, words, comma_blank, name_stays, listed_constant}
+use Rattle.ped_printed.proofs.StatementLaws.Expressions.{Again, expr_again, reference_again, cond_again}
 use Rattle.ped_printed.proofs.StatementLaws.Listing.{EachAgain, further_again, names_again}
 use Rattle.ped_printed.proofs.StatementLaws.Declarations.{one_is}
 use Rattle.ped_printed.proofs.StatementLaws.Only.{reads_only}
@@ -33,31 +31,31 @@ item_again (a_text text) h = (a_text text, listed_constant text, refl)
 
 -- what a statement says by itself is printed again
 abbrev DoesAgain : StmtTree → Type 0
-DoesAgain s = (before : ℕ) → stmt_has_large_literal s ≡ false → ReadsOnly (own_text before s) (first_line_item before s)
+DoesAgain s = stmt_has_large_literal s ≡ false → ReadsOnly (own_text s) (first_line_item s)
 
 assign_again : (r : ReferenceForm) (e : ExprForm) → DoesAgain (Assign (reference_form_tree r) (expr_form_tree e))
-assign_again r e before small =
+assign_again r e small =
     let k = or_parts (has_large_literal (reference_form_tree r)) (has_large_literal (expr_form_tree e)) small in
     let p = reference_again r k.0 in
     let q = expr_again e k.1 in
     let s = Assign (reference_form_tree r) (expr_form_tree e) in
-    reads_only (own_text before s) (does s) (simple (assignment p.0 q.0)) (joined (joined p.1 (words (codes " = ") refl)) q.1)
+    reads_only (own_text s) (does s) (simple (assignment p.0 q.0)) (joined (joined p.1 (words (codes " = ") refl)) q.1)
     (ap (λ (t : ExprTree). does (Assign t (expr_form_tree q.0))) p.2 ∙ ap (λ (t : ExprTree). does (Assign (reference_form_tree r) t)) q.2)
 
 print_again : (items : List ItemForm) → DoesAgain (Print (map item_form_tree items))
-print_again items before small =
+print_again items small =
     let p = further_again (λ g. codes "," ++ item_form_text g) item_form_tree (λ t. codes ", " ++ item_text t) item_has_large_literal [] [] nothing item_again items small in
     let s = Print (map item_form_tree items) in
-    reads_only (own_text before s) (does s) (simple (print p.0)) (joined (words (codes "PRINT *") refl) p.1) (ap (λ (ts : List ItemTree). does (Print ts)) p.2)
+    reads_only (own_text s) (does s) (simple (print p.0)) (joined (words (codes "PRINT *") refl) p.1) (ap (λ (ts : List ItemTree). does (Print ts)) p.2)
 
 read_again : (items : List ReferenceForm) → DoesAgain (Read (map reference_form_tree items))
-read_again items before small =
+read_again items small =
     let p = further_again reference_form_text reference_form_tree value_text has_large_literal (codes ", ") (codes ",") comma_blank reference_again items small in
     let s = Read (map reference_form_tree items) in
-    reads_only (own_text before s) (does s) (simple (read p.0)) (joined (words (codes "READ *") refl) p.1) (ap (λ (ts : List ExprTree). does (Read ts)) p.2)
+    reads_only (own_text s) (does s) (simple (read p.0)) (joined (words (codes "READ *") refl) p.1) (ap (λ (ts : List ExprTree). does (Read ts)) p.2)
 
 stop_again : DoesAgain Stop
-stop_again before small = reads_only (own_text before Stop) (does Stop) (simple stop) (words (codes "STOP") refl) refl
+stop_again small = reads_only (own_text Stop) (does Stop) (simple stop) (words (codes "STOP") refl) refl
 
 -- IF
 
@@ -67,15 +65,6 @@ if_again c small =
     reads_only (codes "IF (" ++ cond_text whole (cond_form_tree c) ++ codes ") THEN") (block_if (cond_form_tree c)) (if_then p.0) (joined (joined (words (codes "IF (") refl) p.1) (words (codes ") THEN") refl)) (ap block_if p.2)
 
 -- DO
-
-label_is : (before : ℕ) → before < 9999 → (is_label (label_text before) ≡ true) × (numeral_value (label_text before) ≡ 10 * (before + 1))
-label_is before small =
-    let n = 10 * (before + 1) in
-    let fits : n < 2 ^ 64 = omega arith in
-    let d = decimal_numeral n fits in
-    let short : leb (length (decimal n)) 5 ≡ true = le-leb (length (decimal n)) 5 (length-decimal-le 5 n (omega arith) (omega arith) fits) in
-    let some : not (eqb (numeral_value (decimal n)) 0) ≡ true = not_from_false (eqb (numeral_value (decimal n)) 0) (ne_eqb (numeral_value (decimal n)) 0 (λ e. omega (arith, d.1))) in
-    (and_from (is_numeral (decimal n) && leb (length (decimal n)) 5) (not (eqb (numeral_value (decimal n)) 0)) (and_from (is_numeral (decimal n)) (leb (length (decimal n)) 5) d.0 short) some, d.1)
 
 step_again : (step : Option ExprForm) → has_large_literal (step_form_tree step) ≡ false → Again further_form_text step_form_tree step_text (step_form_tree step)
 step_again None h = (None, nothing, refl)
@@ -90,16 +79,15 @@ word_again : (parallel : Bool) → Reduces (do_word parallel) (do_form_word para
 word_again true = words (codes "PARALLEL DO ") refl
 word_again false = words (codes "DO ") refl
 
--- the blank behind the label vanishes
-regrouped : (a x e f c l s : List ℕ) → a ++ [] ++ x ++ e ++ f ++ c ++ l ++ s ≡ a ++ (x ++ e ++ f ++ c ++ l ++ s)
-regrouped a x e f c l s = simp (append-nil, append_assoc)
+regrouped : (a x e f c l s : List ℕ) → a ++ x ++ e ++ f ++ c ++ l ++ s ≡ a ++ (x ++ e ++ f ++ c ++ l ++ s)
+regrouped a x e f c l s = simp append_assoc
 
 -- the head of a DO is printed again
 abbrev HeadAgain : Head → Type 0
-HeadAgain h = (before : ℕ) → before < 9999 → head_has_large_literal h ≡ false → ReadsOnly (do_text (label_text before) h) (begins_do (10 * (before + 1)) (whole_head h [] []))
+HeadAgain h = head_has_large_literal h ≡ false → ReadsOnly (do_text h) (begins_do None (whole_head h [] []))
 
 do_again : (parallel : Bool) (c : ControlForm) → HeadAgain (control_form_head parallel c)
-do_again parallel (control comma x is begin limit step) before short small =
+do_again parallel (control x is begin limit step) small =
     let b = expr_form_tree begin in
     let l = expr_form_tree limit in
     let k = or_parts (has_large_literal b || has_large_literal l) (has_large_literal (step_form_tree step)) small in
@@ -107,15 +95,14 @@ do_again parallel (control comma x is begin limit step) before short small =
     let p = expr_again begin m.0 in
     let q = expr_again limit m.1 in
     let s = step_again step k.1 in
-    let label = label_is before short in
-    let h = control_form_head parallel (control comma x is begin limit step) in
-    let f = do_loop parallel (label_text before) label.0 (control false x is p.0 q.0 s.0) in
-    let front : Reduces (do_word parallel ++ label_text before) (do_form_word parallel ++ label_text before) = joined (word_again parallel) (numeral_stays (label_text before) (and_parts (is_numeral (label_text before)) (leb (length (label_text before)) 5) (and_parts (is_numeral (label_text before) && leb (length (label_text before)) 5) (not (eqb (numeral_value (label_text before)) 0)) label.0).0).0) in
-    let bounds : Reduces (do_text (label_text before) h) (do_form_word parallel ++ label_text before ++ [] ++ x ++ codes "=" ++ expr_form_text p.0 ++ codes "," ++ expr_form_text q.0 ++ further_form_text s.0) =
-    joined (joined (joined (joined (joined (joined (joined front (words (codes " ") refl)) (name_stays x is)) (words (codes " = ") refl)) p.1) comma_blank) q.1) s.1 in
-    reads_only (do_text (label_text before) h) (begins_do (10 * (before + 1)) h) f
-    (subst (Reduces (do_text (label_text before) h)) (regrouped (do_form_word parallel ++ label_text before) x (codes "=") (expr_form_text p.0) (codes ",") (expr_form_text q.0) (further_form_text s.0)) bounds)
-    (λ i. begins_do (label.1 i) (record { variable = x; first = p.2 i; last = q.2 i; step = s.2 i; parallel = parallel; private = []; rejected = [] }))
+    let h = control_form_head parallel (control x is begin limit step) in
+    let f = do_loop parallel no_label (control x is p.0 q.0 s.0) in
+    let bounds : Reduces (do_text h) (do_form_word parallel ++ x ++ codes "=" ++ expr_form_text p.0 ++ codes "," ++ expr_form_text q.0 ++ further_form_text s.0) =
+    joined (joined (joined (joined (joined (joined (word_again parallel) (name_stays x is)) (words (codes " = ") refl)) p.1) comma_blank) q.1) s.1 in
+    let word = do_form_word parallel in
+    let squeezed : Reduces (do_text h) (word ++ [] ++ (x ++ codes "=" ++ expr_form_text p.0 ++ codes "," ++ expr_form_text q.0 ++ further_form_text s.0)) =
+    subst (Reduces (do_text h)) (regrouped word x (codes "=") (expr_form_text p.0) (codes ",") (expr_form_text q.0) (further_form_text s.0) ∙ ap (λ (w : List ℕ). w ++ (x ++ codes "=" ++ expr_form_text p.0 ++ codes "," ++ expr_form_text q.0 ++ further_form_text s.0)) (sym (append-nil word))) bounds in
+    reads_only (do_text h) (begins_do None h) f squeezed (λ i. begins_do None (record { variable = x; first = p.2 i; last = q.2 i; step = s.2 i; parallel = parallel; private = []; rejected = [] }))
 
 -- items
 
@@ -166,29 +153,30 @@ says_again (if_then c) = if_again c
 says_again (else_if_then c) = if_again c
 says_again else_alone = tt
 says_again end_of_if = tt
-says_again (do_loop parallel label is c) = do_again parallel c
+says_again (do_loop parallel l c) = do_again parallel c
+says_again end_of_do = tt
 says_again (private names are) =
     let k = and_parts (has_some names) (list_all is_name names) are in
     reads_only (private_text names) (keeps_private names) (private names are) (joined (words (codes "PRIVATE ") refl) (names_again names k.1)) refl
 says_again end = tt
 
-first_line_again : (i : Item) (s : StmtTree) (before : ℕ) → ItemAgain i → is_too_large i ≡ false → SaysFirstLine i s → HasShortLabel before s → ReadsOnly (own_text before s) (first_line_item before s)
-first_line_again i s before again small (itself e) short = subst ItemAgain e again before (sym (ap is_too_large e) ∙ small)
-first_line_again i s before again small (of_block_if c t u e d) short =
-    subst (λ (s : StmtTree). ReadsOnly (own_text before s) (first_line_item before s)) (sym d) (subst ItemAgain e again (sym (ap is_too_large e) ∙ small))
-first_line_again i s before again small (of_else_if c t u e d) short =
-    subst (λ (s : StmtTree). ReadsOnly (own_text before s) (first_line_item before s)) (sym d) (subst ItemAgain e again (sym (ap is_too_large e) ∙ small))
-first_line_again i s before again small (of_logical_if c b t u e d) short =
+first_line_again : (i : Item) (s : StmtTree) → ItemAgain i → is_too_large i ≡ false → SaysFirstLine i s → ReadsOnly (own_text s) (first_line_item s)
+first_line_again i s again small (itself e) = subst ItemAgain e again (sym (ap is_too_large e) ∙ small)
+first_line_again i s again small (of_block_if c t u e d) =
+    subst (λ (s : StmtTree). ReadsOnly (own_text s) (first_line_item s)) (sym d) (subst ItemAgain e again (sym (ap is_too_large e) ∙ small))
+first_line_again i s again small (of_else_if c t u e d) =
+    subst (λ (s : StmtTree). ReadsOnly (own_text s) (first_line_item s)) (sym d) (subst ItemAgain e again (sym (ap is_too_large e) ∙ small))
+first_line_again i s again small (of_logical_if c b t u e d) =
     let k = or_parts (cond_has_large_literal c) (list_any stmt_has_large_literal (listed_stmts b)) (sym (ap is_too_large e) ∙ small) in
-    subst (λ (s : StmtTree). ReadsOnly (own_text before s) (first_line_item before s)) (sym d) ((subst ItemAgain e again).0 k.0)
-first_line_again i s before again small (behind_logical_if c e) short =
+    subst (λ (s : StmtTree). ReadsOnly (own_text s) (first_line_item s)) (sym d) ((subst ItemAgain e again).0 k.0)
+first_line_again i s again small (behind_logical_if c e) =
     let k = or_parts (cond_has_large_literal c) (stmt_has_large_literal s || false) (sym (ap is_too_large e) ∙ small) in
-    (subst ItemAgain e again).1 before (or_parts (stmt_has_large_literal s) false k.1).0
-first_line_again i s before again small (of_do label h names others body e d) short =
-    subst (λ (s : StmtTree). ReadsOnly (own_text before s) (first_line_item before s)) (sym d) (subst ItemAgain e again before (subst (HasShortLabel before) d short) (sym (ap is_too_large e) ∙ small))
+    (subst ItemAgain e again).1 (or_parts (stmt_has_large_literal s) false k.1).0
+first_line_again i s again small (of_do label h names others body e d) =
+    subst (λ (s : StmtTree). ReadsOnly (own_text s) (first_line_item s)) (sym d) (subst ItemAgain e again (sym (ap is_too_large e) ∙ small))
 
 pub statement_prints : StatementPrints
-statement_prints text i s before r small says short = first_line_again i s before (subst ItemAgain r.2 (says_again r.0)) small says short
+statement_prints text i s r small says = first_line_again i s (subst ItemAgain r.2 (says_again r.0)) small says
 
 pub private_prints : PrivatePrints
 private_prints text names r = subst ItemAgain r.2 (says_again r.0)
@@ -197,6 +185,6 @@ pub words_print : WordsPrint
 words_print = record {
   of_else = reads_only (codes "ELSE") else_line else_alone (words (codes "ELSE") refl) refl;
   of_end_if = reads_only (codes "END IF") end_if end_of_if (words (codes "END IF") refl) refl;
-  of_continue = reads_only (codes "CONTINUE") continues (simple continue) (words (codes "CONTINUE") refl) refl;
+  of_end_do = reads_only (codes "END DO") ends_do end_of_do (words (codes "END DO") refl) refl;
   of_end = reads_only (codes "END") ends_program end (words (codes "END") refl) refl;
 }

@@ -15,8 +15,7 @@ pub fn printed_save()
 {}
 
 /// The same of the first printed line of an executable statement. Each IF is printed as a block IF, and
-/// a DO with a label of its own, which has five digits at most where fewer than 9,999 DO loops begin
-/// before it.
+/// each DO without a label.
 pub fn printed_statement()
     ensures { StatementPrints }
 {}
@@ -26,7 +25,7 @@ pub fn printed_private()
     ensures { PrivatePrints }
 {}
 
-/// The same of ELSE, END IF, END, and the CONTINUE that ends a DO loop.
+/// The same of ELSE, END IF, END DO and END.
 pub fn printed_words()
     ensures { WordsPrint }
 {}

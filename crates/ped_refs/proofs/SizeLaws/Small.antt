@@ -1,12 +1,12 @@
 -- A tree that fits is small.
-use Rattle.std.proofs.Common.{◌≡◌, ℕ, suc, ◌+◌, ◌*◌, ◌≤◌, ◌<◌, List, [], ◌∷◌, ◌++◌, length, Bool, true, false, refl, ap, sym, ◌∙◌, subst, arith}
-use Rattle.std.specs.Prelude.{nat_lt, nat_le, ◌&&◌, ◌||◌, not}
-use Rattle.std.specs.List.{list_any, AllByRecursion}
+use Rattle.std.proofs.Common.{◌≡◌, ℕ, suc, ◌+◌, ◌*◌, ◌≤◌, ◌<◌, List, [], ◌∷◌, ◌++◌, length, Bool, true, false, refl, ap, sym, ◌∙◌, arith}
+use Rattle.std.specs.Prelude.{nat_lt, ◌&&◌, ◌||◌}
+use Rattle.std.specs.List.{AllByRecursion}
 use Rattle.std.proofs.lemmas.Bool.{ltb-true, leb-true}
 use Rattle.std.proofs.lemmas.List.{length-append, map-append}
 use Rattle.ped_base.specs.Lists.{is_among, is_same_text}
 use Rattle.ped_tree.specs.Tree.{Head, StmtTree, StmtTrees, Assign, If, Do, Print, Read, Stop, Comment, no_stmts, more_stmts, ProgramTree}
-use Rattle.ped_tree.specs.Numbering.{statement_count, statements_count, loop_count, loops_count}
+use Rattle.ped_tree.specs.Numbering.{statement_count, statements_count}
 use Rattle.ped_tree.specs.Nests.{Loop, indices_of}
 use Rattle.ped_tree.specs.Accesses.{Access, own_accesses, constant_names}
 use Rattle.ped_tree.specs.Grammar.LimitNumbers.{most_statements, most_references, most_loops_nested}
@@ -122,11 +122,11 @@ tells_loop p c nest t h body n e = record {
       let less = ltb-true (length p.variables) most_loops_nested (loop_less p h body e) in omega (arith, long, alike, less);
 }
 
-tells_moved : (p : Surroundings) (c : List (List ℕ)) (nest : List Loop) (n m : ℕ) → Tells p c nest → Tells (moved p n m) c nest
-tells_moved p c nest n m t = record { constants = t.constants; variables = t.variables; long = t.long; few = t.few }
+tells_moved : (p : Surroundings) (c : List (List ℕ)) (nest : List Loop) (n : ℕ) → Tells p c nest → Tells (moved p n) c nest
+tells_moved p c nest n t = record { constants = t.constants; variables = t.variables; long = t.long; few = t.few }
 
-tells_if : (p : Surroundings) (c : List (List ℕ)) (nest : List Loop) (n m : ℕ) → Tells p c nest → Tells (in_if p n m) c nest
-tells_if p c nest n m t = record { constants = t.constants; variables = t.variables; long = t.long; few = t.few }
+tells_if : (p : Surroundings) (c : List (List ℕ)) (nest : List Loop) (n : ℕ) → Tells p c nest → Tells (in_if p n) c nest
+tells_if p c nest n t = record { constants = t.constants; variables = t.variables; long = t.long; few = t.few }
 
 if_within : (p : Surroundings) (s : StmtTree) (b c d f : Bool) → ((((is_within p s && b) && c) && d) && f) ≡ true → is_within p s ≡ true
 if_within p s b c d f e = first_of _ _ (first_of _ _ (first_of _ _ (first_of _ _ e)))
@@ -137,8 +137,8 @@ mutual
   statement_counted p (Assign left right) e k = within_count p (Assign left right) (simple_within p (Assign left right) (first_of _ _ (first_of _ _ e)))
   statement_counted p (If c a b) e k =
       let one : p.statements + 1 ≤ most_statements = within_count p (If c a b) (first_of _ _ (first_of _ _ (first_of _ _ (first_of _ _ e)))) in
-      let first : p.statements + 1 + statements_count a ≤ most_statements = statements_counted (in_if p 1 0) a (second_of _ _ (first_of _ _ e)) one in
-      let second : p.statements + (1 + statements_count a) + statements_count b ≤ most_statements = statements_counted (in_if p (1 + statements_count a) (loops_count a)) b (second_of _ _ e) (omega (arith, first)) in
+      let first : p.statements + 1 + statements_count a ≤ most_statements = statements_counted (in_if p 1) a (second_of _ _ (first_of _ _ e)) one in
+      let second : p.statements + (1 + statements_count a) + statements_count b ≤ most_statements = statements_counted (in_if p (1 + statements_count a)) b (second_of _ _ e) (omega (arith, first)) in
       omega (arith, second)
   statement_counted p (Do h body) e k =
       let one : p.statements + 1 ≤ most_statements = within_count p (Do h body) (loop_within p h body (first_of _ _ e)) in
@@ -154,7 +154,7 @@ mutual
   statements_counted p no_stmts e k = omega (arith, k)
   statements_counted p (more_stmts s rest) e k =
       let first : p.statements + statement_count s ≤ most_statements = statement_counted p s (first_of _ _ e) k in
-      let others : p.statements + statement_count s + statements_count rest ≤ most_statements = statements_counted (moved p (statement_count s) (loop_count s)) rest (second_of _ _ e) first in
+      let others : p.statements + statement_count s + statements_count rest ≤ most_statements = statements_counted (moved p (statement_count s)) rest (second_of _ _ e) first in
       omega (arith, others)
 
 mutual
@@ -164,8 +164,8 @@ mutual
   statement_few p c nest t n (Assign left right) e = own_few p c nest t n (Assign left right) (simple_within p (Assign left right) (first_of _ _ (first_of _ _ e)))
   statement_few p c nest t n (If d a b) e =
       let own = own_few p c nest t n (If d a b) (first_of _ _ (first_of _ _ (first_of _ _ (first_of _ _ e)))) in
-      let first = statements_few (in_if p 1 0) c nest (tells_if p c nest 1 0 t) (n + 1) a (second_of _ _ (first_of _ _ e)) in
-      let second = statements_few (in_if p (1 + statements_count a) (loops_count a)) c nest (tells_if p c nest (1 + statements_count a) (loops_count a) t) (n + 1 + statements_count a) b (second_of _ _ e) in
+      let first = statements_few (in_if p 1) c nest (tells_if p c nest 1 t) (n + 1) a (second_of _ _ (first_of _ _ e)) in
+      let second = statements_few (in_if p (1 + statements_count a)) c nest (tells_if p c nest (1 + statements_count a) t) (n + 1 + statements_count a) b (second_of _ _ e) in
       few_more _ _ _ (omega arith) (few_append _ _ _ _ (few_append _ _ _ _ own first) second)
   statement_few p c nest t n (Do h body) e =
       let own = own_few p c nest t n (Do h body) (loop_within p h body (first_of _ _ e)) in
@@ -182,7 +182,7 @@ mutual
   statements_few p c nest t n no_stmts e = none_few _
   statements_few p c nest t n (more_stmts s rest) e =
       let first = statement_few p c nest t n s (first_of _ _ e) in
-      let others = statements_few (moved p (statement_count s) (loop_count s)) c nest (tells_moved p c nest (statement_count s) (loop_count s) t) (n + statement_count s) rest (second_of _ _ e) in
+      let others = statements_few (moved p (statement_count s)) c nest (tells_moved p c nest (statement_count s) t) (n + statement_count s) rest (second_of _ _ e) in
       few_more _ _ _ (omega arith) (few_append _ _ _ _ first others)
 
 tells_body : (t : ProgramTree) → Tells (at_body t) (constant_names t.decls) []

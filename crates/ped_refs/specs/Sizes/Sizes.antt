@@ -1,5 +1,5 @@
 -- How large a program within the limits is (this project).
-use Rattle.std.specs.Prelude.{ℕ, ◌≤◌, ◌*◌, length}
+use Rattle.std.specs.Prelude.{◌≤◌, ◌*◌, length}
 use Rattle.std.specs.List.{AllByRecursion}
 use Rattle.ped_tree.specs.Tree.{ProgramTree}
 use Rattle.ped_tree.specs.Numbering.{statements_count}

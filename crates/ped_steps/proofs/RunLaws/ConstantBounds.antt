@@ -3,7 +3,7 @@ use Rattle.std.proofs.Common.{◌≡◌, ◌⊎◌, inl, inr, ℕ, zero, suc, �
 use Rattle.std.specs.Int.{int_min, int_max}
 use Rattle.std.proofs.Math.IntN.{*ℤ_comm}
 use Rattle.std.proofs.lemmas.Int.{ints, quot-rem, rem_below, by_lt_z}
-use Rattle.ped_graph.specs.ped_views.proofs.Products.{linear, mul-sub, mul-le, neg-mul, small_multiple}
+use Rattle.ped_laws.specs.ped_graph.specs.ped_views.proofs.Products.{linear, mul-sub, mul-le, neg-mul, small_multiple}
 use Rattle.ped_tree.specs.Tree.{ExprTree, Head, StmtTrees}
 use Rattle.ped_tree.specs.Constants.ConstantExpressions.{constant_value}
 use Rattle.ped_laws.specs.ped_store.specs.Stores.{Store, out_of_range}

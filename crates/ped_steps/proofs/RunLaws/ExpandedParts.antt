@@ -20,7 +20,7 @@ use Rattle.ped_laws.specs.ped_eval.specs.Evaluation.{Seen, Evaluated}
 use Rattle.ped_laws.specs.ped_eval.specs.Loops.{Limits, limits, entered_with, frame, value_in}
 use Rattle.ped_laws.specs.ped_eval.specs.Runs.{Run, run, run_all}
 use Rattle.ped_laws.specs.ped_eval.specs.Outcomes.{Ends}
-use Rattle.ped_flow.specs.Questions.{LoopOf}
+use Rattle.ped_laws.specs.ped_flow.specs.Questions.{LoopOf}
 use Rattle.ped_laws.specs.FlowRuns.Covering.{is_number}
 use Rattle.ped_laws.specs.FlowRuns.Exits.{IsExit}
 use Rattle.ped_laws.specs.Runs.Replaying.{Finish, goes_on, has_fault, finish_of, ending_with, Replays}

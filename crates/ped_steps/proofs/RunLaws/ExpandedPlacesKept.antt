@@ -3,7 +3,7 @@ use Rattle.std.proofs.Common.{◌≡◌, ℕ, ◌+◌, ℤ, List, ◌∷◌, tru
 use Rattle.ped_base.specs.Lists.{is_among}
 use Rattle.ped_tree.specs.Tree.{Head, StmtTrees, ProgramTree}
 use Rattle.ped_tree.specs.Accesses.{constant_names}
-use Rattle.ped_flow.specs.ped_affine.specs.Assigned.{all_loop_variables}
+use Rattle.ped_laws.specs.ped_flow.specs.ped_affine.specs.Assigned.{all_loop_variables}
 use Rattle.ped_laws.specs.ped_store.specs.Cells.{Cell}
 use Rattle.ped_laws.specs.ped_store.specs.Stores.{Content, Undefined, Number, Lines, Store, put, is_storable}
 use Rattle.ped_laws.specs.ped_store.specs.Acts.{Act}
@@ -16,7 +16,7 @@ use Rattle.ped_laws.specs.ped_eval.specs.Scopes.{Setting, Scope, cell_of}
 use Rattle.ped_laws.specs.ped_eval.specs.Evaluation.{Seen}
 use Rattle.ped_laws.specs.ped_eval.specs.Loops.{Limits, entered_with, frame}
 use Rattle.ped_laws.specs.ped_eval.specs.Runs.{Ending, going, stopped, failed, run_all}
-use Rattle.ped_flow.specs.Questions.{LoopOf, IsExposed, IsAssignedThrough}
+use Rattle.ped_laws.specs.ped_flow.specs.Questions.{LoopOf, IsExposed, IsAssignedThrough}
 use Rattle.ped_laws.specs.FlowRuns.Covering.{is_number, some_stop}
 use Rattle.ped_laws.proofs.FlowRunLaws.Cells.{cell_named}
 use Rattle.ped_laws.proofs.FlowRunLaws.Covered.{none_in_loops}

@@ -8,9 +8,9 @@ use Rattle.ped_tree.specs.Tree.{Head, StmtTree, StmtTrees, Do, ProgramTree}
 use Rattle.ped_tree.specs.NamesIn.{stmt_names, stmts_names}
 use Rattle.ped_tree.specs.Accesses.{constant_names}
 use Rattle.ped_tree.specs.Numbering.{statement_count, statements_count}
-use Rattle.ped_graph.specs.ped_symbols.specs.NameRefusals.{IsValid}
+use Rattle.ped_laws.specs.ped_graph.specs.ped_symbols.specs.NameRefusals.{IsValid}
 use Rattle.ped_laws.specs.ped_store.specs.Cells as cells
-use Rattle.ped_laws.specs.ped_store.specs.Cells.{Cell, Element}
+use Rattle.ped_laws.specs.ped_store.specs.Cells.{Element}
 use Rattle.ped_laws.specs.ped_store.specs.Stores.{Store, store_at_start}
 use Rattle.ped_laws.specs.ped_store.specs.Acts.{Act}
 use Rattle.ped_laws.specs.ped_store.specs.Races.{accesses, HasNoRace}
@@ -22,9 +22,9 @@ use Rattle.ped_laws.specs.ped_eval.specs.Scopes.{Setting, Scope, cell_of, names_
 use Rattle.ped_laws.specs.ped_eval.specs.Loops.{Limits, limits, entered_with, frame, value_in, all_index_names}
 use Rattle.ped_laws.specs.ped_eval.specs.Runs.{Ending, Run, run, run_all}
 use Rattle.ped_laws.specs.ped_eval.specs.Outcomes as outcomes
-use Rattle.ped_laws.specs.ped_eval.specs.Outcomes.{setting_of, run_of, live_names, Outcome, outcome_of, outcome, Ends, IsRaceFree}
-use Rattle.ped_flow.specs.Questions as flow
-use Rattle.ped_flow.specs.Questions.{LoopOf, IsExposed, IsLiveAfter}
+use Rattle.ped_laws.specs.ped_eval.specs.Outcomes.{setting_of, run_of, outcome_of, outcome, Ends, IsRaceFree}
+use Rattle.ped_laws.specs.ped_flow.specs.Questions as flow
+use Rattle.ped_laws.specs.ped_flow.specs.Questions.{LoopOf, IsExposed, IsLiveAfter}
 use Rattle.ped_laws.specs.FlowRuns.Exits.{IsOneToOne}
 use Rattle.ped_laws.proofs.FlowRunLaws.Stopping.{fitting_stops, loop_stops}
 use Rattle.ped_laws.proofs.FlowRunLaws.TripReads.{unexposed_unneeded}

@@ -4,7 +4,7 @@ use Rattle.std.specs.Prelude.{◌&&◌, ◌||◌}
 use Rattle.std.proofs.lemmas.Bool.{and_parts, both_ways}
 use Rattle.ped_base.specs.Lists.{is_among}
 use Rattle.ped_tree.specs.Tree.{Head, StmtTrees, Do, ProgramTree}
-use Rattle.ped_graph.specs.ped_symbols.specs.NameRefusals.{IsValid}
+use Rattle.ped_laws.specs.ped_graph.specs.ped_symbols.specs.NameRefusals.{IsValid}
 use Rattle.ped_laws.specs.ped_store.specs.Cells.{Scalar, Element, same_cell}
 use Rattle.ped_laws.specs.ped_store.specs.Stores.{Store}
 use Rattle.ped_laws.specs.ped_store.specs.Acts.{Turn, Act}
@@ -22,7 +22,7 @@ use Rattle.ped_laws.specs.ped_eval.specs.Scopes.{Setting, Scope, cell_of, names_
 use Rattle.ped_laws.specs.ped_eval.specs.Loops.{Limits, limits, entered_with}
 use Rattle.ped_laws.specs.ped_eval.specs.Outcomes.{setting_of}
 use Rattle.ped_laws.specs.ped_eval.specs.Runs.{Run, run, run_all}
-use Rattle.ped_flow.specs.Questions.{LoopOf}
+use Rattle.ped_laws.specs.ped_flow.specs.Questions.{LoopOf}
 use Rattle.ped_laws.specs.FlowRuns.Exits.{IsOneToOne}
 use Rattle.ped_laws.specs.Runs.Replaying.{goes_on, finish_of}
 use Rattle.ped_laws.proofs.RunLaws.Placing.{kinds_of_run}

@@ -14,7 +14,7 @@ use Rattle.ped_tree.specs.Numbering.{statement_count, statements_count}
 use Rattle.ped_laws.specs.ped_store.specs.Acts.{did}
 use Rattle.ped_laws.specs.ped_store.proofs.LaidSlots.{same_itself}
 use Rattle.ped_laws.specs.ped_store.specs.Cells as cells
-use Rattle.ped_laws.specs.ped_store.specs.Cells.{Cell, In}
+use Rattle.ped_laws.specs.ped_store.specs.Cells.{In}
 use Rattle.ped_laws.specs.ped_store.specs.Stores.{Number, Store, put, lines_in, outside_bounds, storable}
 use Rattle.ped_laws.specs.ped_store.specs.Storage.{is_within}
 use Rattle.ped_laws.specs.ped_store.specs.DataLines.{Data, begun, next_value_of}

@@ -11,8 +11,8 @@ use Rattle.ped_laws.specs.Acts.Orders.{IsIn}
 use Rattle.ped_laws.proofs.ActLaws.Lists.{in_left, in_right}
 use Rattle.ped_laws.specs.ped_eval.specs.Scopes.{Setting, Scope, turns_of, cell_of}
 use Rattle.ped_laws.specs.ped_eval.specs.Loops.{inner_variables, all_index_names}
-use Rattle.ped_flow.specs.PlainBounds.{nest_round}
-use Rattle.ped_flow.specs.Questions.{LoopOf}
+use Rattle.ped_laws.specs.ped_flow.specs.PlainBounds.{nest_round}
+use Rattle.ped_laws.specs.ped_flow.specs.Questions.{LoopOf}
 use Rattle.ped_laws.specs.FlowRuns.Exits.{IsOneToOne, AreIterationsOf}
 use Rattle.ped_laws.proofs.RunLaws.Turning.{inner_among}
 use Rattle.ped_steps.specs.Runs.Pasting.{AreTurnsOf, IsPlaceOf}

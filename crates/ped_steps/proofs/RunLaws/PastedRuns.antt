@@ -24,7 +24,7 @@ use Rattle.ped_laws.proofs.RunLaws.Told.{found_reads, found_reads_first}
 use Rattle.ped_laws.proofs.RunLaws.Sight.{truth_told, limits_told}
 use Rattle.ped_laws.proofs.RunLaws.StatementsTold.{run_told, all_told}
 use Rattle.ped_laws.proofs.RunLaws.Numbers.{run_same, all_same}
-use Rattle.ped_flow.specs.PlainBounds.{loops_round, all_loops_round, nest_round, outermost_or}
+use Rattle.ped_laws.specs.ped_flow.specs.PlainBounds.{loops_round, all_loops_round, nest_round, outermost_or}
 use Rattle.ped_laws.specs.FlowRuns.Covering.{some_stop}
 use Rattle.ped_laws.specs.FlowRuns.Exits.{AreIterationsOf}
 use Rattle.ped_laws.proofs.FlowRunLaws.Unstopped.{IsUnstopped, all_unstopped}

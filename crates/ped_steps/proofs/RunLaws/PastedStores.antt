@@ -20,8 +20,8 @@ use Rattle.ped_laws.specs.ped_eval.specs.Runs.{Ending, going, stopped, failed, R
 use Rattle.ped_laws.specs.ped_eval.specs.Outcomes.{Ends}
 use Rattle.ped_laws.specs.Runs.Replaying.{Finish, goes_on, finish_of, ending_with, act}
 use Rattle.ped_laws.proofs.RunLaws.StatementsTold.{all_told}
-use Rattle.ped_flow.specs.Questions.{LoopOf}
-use Rattle.ped_flow.specs.PlainBounds.{nest_round, outermost_or}
+use Rattle.ped_laws.specs.ped_flow.specs.Questions.{LoopOf}
+use Rattle.ped_laws.specs.ped_flow.specs.PlainBounds.{nest_round, outermost_or}
 use Rattle.ped_laws.specs.FlowRuns.Entries.{IsEntry}
 use Rattle.ped_laws.specs.FlowRuns.Exits.{is_exit, IsExit}
 use Rattle.ped_steps.specs.Runs.Pasting.{AreTurnsOf, IsPlaceOf, IsPartOf, IsDone, IsInExecution, AreExecutions, StandInstead}

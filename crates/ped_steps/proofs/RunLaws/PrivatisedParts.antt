@@ -17,7 +17,7 @@ use Rattle.ped_laws.specs.ped_eval.specs.Evaluation.{Seen, Evaluated}
 use Rattle.ped_laws.specs.ped_eval.specs.Loops.{Limits, limits, entered_with, inner_variables, frame}
 use Rattle.ped_laws.specs.ped_eval.specs.Runs.{Run, run, run_all}
 use Rattle.ped_laws.specs.ped_eval.specs.Outcomes.{Ends}
-use Rattle.ped_flow.specs.Questions.{LoopOf}
+use Rattle.ped_laws.specs.ped_flow.specs.Questions.{LoopOf}
 use Rattle.ped_laws.specs.FlowRuns.Exits.{IsOneToOne, IsExit}
 use Rattle.ped_laws.proofs.FlowRunLaws.Standing.{Stand, whole_stands, first_stands, rest_stands, inner_stands, else_stands, is_there}
 use Rattle.ped_laws.specs.Runs.Replaying.{goes_on, faults, finish_of, Replays}

@@ -20,8 +20,8 @@ use Rattle.ped_laws.proofs.ActLaws.RaceFree.{no_race_before, no_race_from, apart
 use Rattle.ped_laws.specs.ped_eval.specs.Scopes.{Setting, Scope, turns_of, names_in}
 use Rattle.ped_laws.specs.ped_eval.specs.Loops.{Limits, limits}
 use Rattle.ped_laws.specs.ped_eval.specs.Runs.{run, run_all}
-use Rattle.ped_flow.specs.Questions.{LoopOf}
-use Rattle.ped_flow.specs.PlainBounds.{nest_round}
+use Rattle.ped_laws.specs.ped_flow.specs.Questions.{LoopOf}
+use Rattle.ped_laws.specs.ped_flow.specs.PlainBounds.{nest_round}
 use Rattle.ped_laws.specs.FlowRuns.Exits.{IsOneToOne}
 use Rattle.ped_laws.proofs.RunLaws.Placing.{kinds_of_run}
 use Rattle.ped_steps.specs.Runs.Pasting.{AreTurnsOf, AreExecutions}

@@ -19,7 +19,7 @@ use Rattle.ped_laws.specs.ped_eval.specs.Evaluation.{Seen}
 use Rattle.ped_laws.specs.ped_eval.specs.Loops.{Limits, limits, entered_with, frame, entry_touches, exit_when_none}
 use Rattle.ped_laws.specs.ped_eval.specs.Runs.{Run, run, run_all}
 use Rattle.ped_laws.specs.ped_eval.specs.Turns.{body_run}
-use Rattle.ped_flow.specs.Questions.{LoopOf}
+use Rattle.ped_laws.specs.ped_flow.specs.Questions.{LoopOf}
 use Rattle.ped_laws.specs.Runs.Replaying.{goes_on, finish_of, act}
 use Rattle.ped_laws.specs.FlowRuns.Exits.{IsOneToOne, AreIterationsOf}
 use Rattle.ped_laws.proofs.FlowRunLaws.Standing.{whole_stands}

@@ -6,7 +6,7 @@ use Rattle.std.proofs.lemmas.Bool.{both_ways, and_parts}
 use Rattle.std.proofs.lemmas.List.Folds.{list_any-append}
 use Rattle.ped_base.specs.Lists.{has_some, is_same_text, is_among}
 use Rattle.ped_tree.specs.Tree.{ExprTree, Int, Var, Element, Neg, Add, Sub, Mul, Div, Pow, Call, Head, StmtTree, StmtTrees, Assign, If, Do, Print, Read, Stop, Comment, no_stmts, more_stmts, ProgramTree}
-use Rattle.ped_tree.specs.Numbering.{numbered, all_numbered, statement_with, statement_count, statements_count, loop_count, loops_count}
+use Rattle.ped_tree.specs.Numbering.{numbered, all_numbered, statement_with, statement_count, statements_count}
 use Rattle.ped_tree.specs.Printing.{private_text}
 use Rattle.ped_tree.proofs.NameLaws.NameEquality.{same_is, same_itself}
 use Rattle.ped_tree.specs.Grammar.LimitNumbers.{most_characters, most_loops_nested, most_blocks_nested}
@@ -14,14 +14,14 @@ use Rattle.ped_tree.specs.Grammar.StatementForms.{are_names}
 use Rattle.ped_tree.specs.Grammar.Words.{is_name}
 use Rattle.ped_tree.specs.Grammar.ProgramRefusals.{scalar_of, assigned_by, meets}
 use Rattle.ped_tree.specs.Grammar.Fits.{Surroundings, moved, in_if, in_loop, simple_fits, is_within, target_fits, expr_fits, private_fits, loop_fits, stmt_fits, stmts_fit, decls_fit, begins_with_statement, at_body}
-use Rattle.ped_flow.specs.ped_affine.specs.Assigned.{assigned_left, assigned_in, assigned_in_all}
-use Rattle.ped_graph.specs.ped_symbols.specs.declared.symbols.Kind.{Kind}
-use Rattle.ped_graph.specs.ped_symbols.specs.declared.symbols.Kind.TheVariants.{Scalar, Array, Constant}
-use Rattle.ped_graph.specs.ped_symbols.specs.Kinds.{kind_in}
-use Rattle.ped_graph.specs.ped_symbols.specs.Uses.{expr_count}
-use Rattle.ped_graph.specs.ped_symbols.specs.NameRefusals.{IsValid}
-use Rattle.ped_graph.specs.ped_symbols.specs.RightUses.RightUses.{NameKinds, is_scalar_kind, is_array_kind, is_scalar, expr_is_right, exprs_are_right, target_is_right, cond_is_right, head_is_right, stmt_is_right, stmts_are_right, has_rank, is_rank}
-use Rattle.ped_graph.specs.ped_symbols.proofs.RightUseLaws.Whole.{right_program}
+use Rattle.ped_laws.specs.ped_flow.specs.ped_affine.specs.Assigned.{assigned_left, assigned_in, assigned_in_all}
+use Rattle.ped_laws.specs.ped_graph.specs.ped_symbols.specs.declared.symbols.Kind.{Kind}
+use Rattle.ped_laws.specs.ped_graph.specs.ped_symbols.specs.declared.symbols.Kind.TheVariants.{Scalar, Array, Constant}
+use Rattle.ped_laws.specs.ped_graph.specs.ped_symbols.specs.Kinds.{kind_in}
+use Rattle.ped_laws.specs.ped_graph.specs.ped_symbols.specs.Uses.{expr_count}
+use Rattle.ped_laws.specs.ped_graph.specs.ped_symbols.specs.NameRefusals.{IsValid}
+use Rattle.ped_laws.specs.ped_graph.specs.ped_symbols.specs.RightUses.RightUses.{NameKinds, is_scalar_kind, is_array_kind, is_scalar, expr_is_right, exprs_are_right, target_is_right, cond_is_right, head_is_right, stmt_is_right, stmts_are_right, has_rank, is_rank}
+use Rattle.ped_laws.specs.ped_graph.specs.ped_symbols.proofs.RightUseLaws.Whole.{right_program}
 use Rattle.ped_laws.proofs.FlowRunLaws.Standing.{Stand, whole_stands, first_stands, rest_stands, inner_stands, else_stands, is_there}
 use Rattle.ped_steps.proofs.RunLaws.RunCells.{EachDo, EachDos}
 
@@ -127,11 +127,11 @@ module _ (k : NameKinds) where
           left_spared p.variables left i (and_parts (target_is_right k left) (expr_is_right k right) r).0
           (simple_unmet p (Assign left right) (and_parts (simple_fits p (Assign left right)) (target_fits left) (and_parts _ (expr_fits right) h).0).0)
       stmt_spared p (If condition a b) i h r =
-          let last = and_parts _ (stmts_fit (in_if p (1 + statements_count a) (loops_count a)) b) h in
-          let front = and_parts _ (stmts_fit (in_if p 1 0) a) last.0 in
+          let last = and_parts _ (stmts_fit (in_if p (1 + statements_count a)) b) h in
+          let front = and_parts _ (stmts_fit (in_if p 1) a) last.0 in
           let right = and_parts (cond_is_right k condition && stmts_are_right k a) (stmts_are_right k b) r in
-          among_both v (assigned_in_all a) (assigned_in_all b) (stmts_spared (in_if p 1 0) a i front.1 (and_parts (cond_is_right k condition) (stmts_are_right k a) right.0).1)
-          (stmts_spared (in_if p (1 + statements_count a) (loops_count a)) b i last.1 right.1)
+          among_both v (assigned_in_all a) (assigned_in_all b) (stmts_spared (in_if p 1) a i front.1 (and_parts (cond_is_right k condition) (stmts_are_right k a) right.0).1)
+          (stmts_spared (in_if p (1 + statements_count a)) b i last.1 right.1)
       stmt_spared p (Do h body) i f r =
           let both = and_parts (loop_fits p h body) (stmts_fit (in_loop p h) body) f in
           let listed = and_parts _ (list_all _ h.rejected) both.0 in
@@ -152,9 +152,9 @@ module _ (k : NameKinds) where
       stmts_spared : (p : Surroundings) (ss : StmtTrees) → is_among v p.variables ≡ true → stmts_fit p ss ≡ true → stmts_are_right k ss ≡ true → is_among v (assigned_in_all ss) ≡ false
       stmts_spared p no_stmts i h r = refl
       stmts_spared p (more_stmts s rest) i h r =
-          let both = and_parts (stmt_fits p s) (stmts_fit (moved p (statement_count s) (loop_count s)) rest) h in
+          let both = and_parts (stmt_fits p s) (stmts_fit (moved p (statement_count s)) rest) h in
           let right = and_parts (stmt_is_right k s) (stmts_are_right k rest) r in
-          among_both v (assigned_in s) (assigned_in_all rest) (stmt_spared p s i both.0 right.0) (stmts_spared (moved p (statement_count s) (loop_count s)) rest i both.1 right.1)
+          among_both v (assigned_in s) (assigned_in_all rest) (stmt_spared p s i both.0 right.0) (stmts_spared (moved p (statement_count s)) rest i both.1 right.1)
 
 module _ (t : ProgramTree) (k : NameKinds) where
   -- the DO stands in the program under this number, and its body doesn't assign its variable
@@ -168,12 +168,12 @@ module _ (t : ProgramTree) (k : NameKinds) where
     each_unassigned : (p : Surroundings) (s : StmtTree) (n : ℕ) → Stand t n (numbered s) → stmt_fits p s ≡ true → stmt_is_right k s ≡ true → EachDo IsUnassigned s n
     each_unassigned p (Assign left right) n st h r = tt
     each_unassigned p (If condition a b) n st h r =
-        let last = and_parts _ (stmts_fit (in_if p (1 + statements_count a) (loops_count a)) b) h in
-        let front = and_parts _ (stmts_fit (in_if p 1 0) a) last.0 in
+        let last = and_parts _ (stmts_fit (in_if p (1 + statements_count a)) b) h in
+        let front = and_parts _ (stmts_fit (in_if p 1) a) last.0 in
         let right = and_parts (cond_is_right k condition && stmts_are_right k a) (stmts_are_right k b) r in
         let inside = inner_stands t (If condition a b) (all_numbered a ++ all_numbered b) n st in (
-          all_unassigned_in (in_if p 1 0) a (n + 1) (first_stands t (n + 1) (all_numbered a) (all_numbered b) inside) front.1 (and_parts (cond_is_right k condition) (stmts_are_right k a) right.0).1,
-          all_unassigned_in (in_if p (1 + statements_count a) (loops_count a)) b (n + 1 + statements_count a) (else_stands t a b (n + 1) inside) last.1 right.1,
+          all_unassigned_in (in_if p 1) a (n + 1) (first_stands t (n + 1) (all_numbered a) (all_numbered b) inside) front.1 (and_parts (cond_is_right k condition) (stmts_are_right k a) right.0).1,
+          all_unassigned_in (in_if p (1 + statements_count a)) b (n + 1 + statements_count a) (else_stands t a b (n + 1) inside) last.1 right.1,
         )
     each_unassigned p (Do h body) n st f r =
         let both = and_parts (loop_fits p h body) (stmts_fit (in_loop p h) body) f in
@@ -189,10 +189,10 @@ module _ (t : ProgramTree) (k : NameKinds) where
     all_unassigned_in : (p : Surroundings) (ss : StmtTrees) (n : ℕ) → Stand t n (all_numbered ss) → stmts_fit p ss ≡ true → stmts_are_right k ss ≡ true → EachDos IsUnassigned ss n
     all_unassigned_in p no_stmts n st h r = tt
     all_unassigned_in p (more_stmts s rest) n st h r =
-        let both = and_parts (stmt_fits p s) (stmts_fit (moved p (statement_count s) (loop_count s)) rest) h in
+        let both = and_parts (stmt_fits p s) (stmts_fit (moved p (statement_count s)) rest) h in
         let right = and_parts (stmt_is_right k s) (stmts_are_right k rest) r in (
           each_unassigned p s n (first_stands t n (numbered s) (all_numbered rest) st) both.0 right.0,
-          all_unassigned_in (moved p (statement_count s) (loop_count s)) rest (n + statement_count s) (rest_stands t s rest n st) both.1 right.1,
+          all_unassigned_in (moved p (statement_count s)) rest (n + statement_count s) (rest_stands t s rest n st) both.1 right.1,
         )
 
 -- so it is with each DO of a valid program

@@ -9,11 +9,11 @@ use Rattle.std.proofs.lemmas.Bool.{both_ways, or_parts}
 use Rattle.ped_base.specs.Lists.{is_same_text, is_among}
 use Rattle.ped_tree.specs.Tree.{ExprTree, CondTree, ItemTree, Head, StmtTree, StmtTrees, Assign, If, Do, Print, Read, Stop, Comment, no_stmts, more_stmts}
 use Rattle.ped_tree.specs.Numbering.{statement_count, statements_count}
-use Rattle.ped_graph.specs.ped_symbols.specs.declared.uses.Use.{Use}
-use Rattle.ped_graph.specs.ped_symbols.specs.declared.uses.Role.TheVariants.{Rejected, Index}
-use Rattle.ped_graph.specs.ped_symbols.specs.Uses.{used_as, expr_uses, cond_uses, target_uses, item_uses}
-use Rattle.ped_graph.specs.ped_symbols.specs.Sites.{Site, private_site, stmt_sites, stmts_sites, site_uses}
-use Rattle.ped_flow.specs.ped_affine.specs.Assigned.{loop_variables, all_loop_variables}
+use Rattle.ped_laws.specs.ped_graph.specs.ped_symbols.specs.declared.uses.Use.{Use}
+use Rattle.ped_laws.specs.ped_graph.specs.ped_symbols.specs.declared.uses.Role.TheVariants.{Rejected, Index}
+use Rattle.ped_laws.specs.ped_graph.specs.ped_symbols.specs.Uses.{used_as, expr_uses, cond_uses, target_uses, item_uses}
+use Rattle.ped_laws.specs.ped_graph.specs.ped_symbols.specs.Sites.{Site, private_site, stmt_sites, stmts_sites, site_uses}
+use Rattle.ped_laws.specs.ped_flow.specs.ped_affine.specs.Assigned.{loop_variables, all_loop_variables}
 use Rattle.ped_sums.specs.Substitution.{substituted, condition_substituted, item_substituted, head_substituted, statement_substituted, statements_substituted}
 use Rattle.ped_laws.specs.ped_store.specs.Cells as cells
 use Rattle.ped_laws.specs.ped_store.specs.Cells.{Cell, Private, In, Out, same_cell}

@@ -13,8 +13,8 @@ use Rattle.ped_tree.specs.Constants.NamedConstants.{value_named}
 use Rattle.ped_tree.specs.Constants.ConstantExpressions.{intrinsic_result}
 use Rattle.ped_tree.proofs.NameLaws.NameEquality.{same_is}
 use Rattle.ped_tree.specs.Tree.{ExprTree, ExprTrees, Int, Var, Element, Neg, Add, Sub, Mul, Div, Pow, Call, no_exprs, more_exprs, CondTree, Rel, Not, And, Or, ItemTree, Value, Text, Head}
-use Rattle.ped_graph.specs.ped_symbols.specs.declared.uses.Use.{Use}
-use Rattle.ped_graph.specs.ped_symbols.specs.Uses.{expr_uses, exprs_uses, cond_uses, target_uses, item_uses}
+use Rattle.ped_laws.specs.ped_graph.specs.ped_symbols.specs.declared.uses.Use.{Use}
+use Rattle.ped_laws.specs.ped_graph.specs.ped_symbols.specs.Uses.{expr_uses, exprs_uses, cond_uses, target_uses, item_uses}
 use Rattle.ped_sums.specs.Sums.{plus_of, minus_of}
 use Rattle.ped_sums.specs.Substitution.{has_scalar, is_scalar, substituted, all_substituted, condition_substituted, item_substituted, head_substituted}
 use Rattle.ped_laws.specs.ped_store.specs.Cells as cells

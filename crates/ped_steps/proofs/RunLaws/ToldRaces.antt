@@ -5,8 +5,8 @@ use Rattle.ped_base.specs.Lists.{is_same_text}
 use Rattle.ped_tree.proofs.NameLaws.NameEquality.{same_itself}
 use Rattle.ped_tree.specs.Tree.{Head, StmtTrees, Do, ProgramTree}
 use Rattle.ped_tree.specs.Numbering.{statement_with}
-use Rattle.ped_graph.specs.ped_symbols.specs.Kinds.{kind_in}
-use Rattle.ped_graph.specs.ped_symbols.specs.NameRefusals.{IsValid}
+use Rattle.ped_laws.specs.ped_graph.specs.ped_symbols.specs.Kinds.{kind_in}
+use Rattle.ped_laws.specs.ped_graph.specs.ped_symbols.specs.NameRefusals.{IsValid}
 use Rattle.ped_laws.specs.ped_store.specs.Cells.{Cell, Scalar, Element, Private, In, Out, Iteration, same_cell}
 use Rattle.ped_laws.specs.ped_store.specs.Stores.{Store}
 use Rattle.ped_laws.specs.ped_store.specs.Acts.{Manner, reads, writes, is_told, Touch, Turn, Act, iterations_of}

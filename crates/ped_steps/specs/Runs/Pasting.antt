@@ -17,8 +17,8 @@ use Rattle.ped_laws.specs.ped_eval.specs.Scopes.{Setting, Scope, turns_of}
 use Rattle.ped_laws.specs.ped_eval.specs.Loops.{all_index_names}
 use Rattle.ped_laws.specs.ped_eval.specs.Runs.{Run, run, run_all}
 use Rattle.ped_laws.specs.ped_eval.specs.Outcomes.{Ends}
-use Rattle.ped_flow.specs.PlainBounds.{nest_round, outermost_or}
-use Rattle.ped_flow.specs.Questions.{LoopOf}
+use Rattle.ped_laws.specs.ped_flow.specs.PlainBounds.{nest_round, outermost_or}
+use Rattle.ped_laws.specs.ped_flow.specs.Questions.{LoopOf}
 use Rattle.ped_laws.specs.FlowRuns.Covering.{has_stop, some_stop}
 use Rattle.ped_laws.specs.FlowRuns.Exits.{AreIterationsOf}
 use Rattle.ped_laws.specs.Runs.Replaying.{goes_on, finish_of, Replays}

@@ -3,9 +3,9 @@ use Rattle.std.specs.Prelude.{◌≡◌, ℕ, ℤ, List, [], ◌∷◌, ◌++◌
 use Rattle.ped_base.specs.Lists.{is_among}
 use Rattle.ped_tree.specs.Tree.{ExprTree, Var, Element, no_exprs, more_exprs, StmtTree, StmtTrees, Assign, If, Do, Print, Read, Stop, Comment, no_stmts, more_stmts}
 use Rattle.ped_tree.specs.Constants.NamedConstants.{value_named}
-use Rattle.ped_graph.specs.ped_symbols.specs.Sites.{stmts_sites}
-use Rattle.ped_graph.specs.ped_symbols.specs.Kinds.{names_at}
-use Rattle.ped_flow.specs.ped_affine.specs.Assigned.{all_loop_variables}
+use Rattle.ped_laws.specs.ped_graph.specs.ped_symbols.specs.Sites.{stmts_sites}
+use Rattle.ped_laws.specs.ped_graph.specs.ped_symbols.specs.Kinds.{names_at}
+use Rattle.ped_laws.specs.ped_flow.specs.ped_affine.specs.Assigned.{all_loop_variables}
 use Rattle.ped_laws.specs.ped_store.specs.Cells.{Cell}
 use Rattle.ped_laws.specs.ped_store.specs.Acts.{Act}
 use Rattle.ped_laws.specs.ped_store.specs.Storage.{is_within}

@@ -12,7 +12,7 @@ ghost use Rattle.ped_laws.specs.ped_eval.specs.Scopes.{Setting, Scope};
 ghost use Rattle.ped_laws.specs.ped_eval.specs.Runs.{Run, run, run_all};
 ghost use Rattle.ped_laws.specs.ped_eval.specs.Outcomes.{Ends};
 ghost use Rattle.ped_laws.specs.Runs.Replaying.{goes_on, finish_of, ending_with, Replays};
-ghost use Rattle.ped_flow.specs.Questions.{LoopOf};
+ghost use Rattle.ped_laws.specs.ped_flow.specs.Questions.{LoopOf};
 ghost use Rattle.ped_laws.specs.FlowRuns.Entries.{IsEntry};
 ghost use Rattle.ped_laws.specs.FlowRuns.Exits.{IsExit};
 ghost use Rattle.ped_steps.specs.Replacing.{program_with};

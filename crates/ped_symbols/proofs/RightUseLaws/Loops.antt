@@ -6,7 +6,7 @@ use Rattle.std.specs.Ordering.{int_eq}
 use Rattle.std.proofs.lemmas.Bool.{and_parts, and_from, or_parts, ltb-true, not_from_false}
 use Rattle.std.proofs.lemmas.List.Folds.{list_any-append}
 use Rattle.ped_tree.specs.Tree.{Head, StmtTree, StmtTrees, Assign, If, Do, Print, Read, Stop, Comment, no_stmts, more_stmts}
-use Rattle.ped_tree.specs.Numbering.{statement_count, statements_count, loop_count, loops_count}
+use Rattle.ped_tree.specs.Numbering.{statement_count, statements_count}
 use Rattle.ped_tree.specs.Grammar.LimitNumbers.{greatest_literal, most_loops_nested}
 use Rattle.ped_tree.specs.Grammar.Fits.{Surroundings, moved, in_if, in_loop, loop_fits, stmt_fits, stmts_fit}
 use Rattle.ped_tree.specs.Constants.ConstantExpressions.{constant_value}
@@ -21,10 +21,10 @@ mutual
   depth_within : (p : Surroundings) (s : StmtTree) → stmt_fits p s ≡ true → length p.variables ≤ most_loops_nested → length p.variables + loop_depth s ≤ most_loops_nested
   depth_within p (Assign left right) f h = omega (arith, h)
   depth_within p (If c a b) f h =
-      let second = and_parts _ (stmts_fit (in_if p (1 + statements_count a) (loops_count a)) b) f in
-      let first = and_parts _ (stmts_fit (in_if p 1 0) a) second.0 in
-      let of_a : length p.variables + loops_deep a ≤ most_loops_nested = deep_within (in_if p 1 0) a first.1 h in
-      let of_b : length p.variables + loops_deep b ≤ most_loops_nested = deep_within (in_if p (1 + statements_count a) (loops_count a)) b second.1 h in
+      let second = and_parts _ (stmts_fit (in_if p (1 + statements_count a)) b) f in
+      let first = and_parts _ (stmts_fit (in_if p 1) a) second.0 in
+      let of_a : length p.variables + loops_deep a ≤ most_loops_nested = deep_within (in_if p 1) a first.1 h in
+      let of_b : length p.variables + loops_deep b ≤ most_loops_nested = deep_within (in_if p (1 + statements_count a)) b second.1 h in
       omega (arith, of_a, of_b)
   depth_within p (Do h body) f k =
       let fits = and_parts (loop_fits p h body) (stmts_fit (in_loop p h) body) f in
@@ -40,9 +40,9 @@ mutual
   pub deep_within : (p : Surroundings) (ss : StmtTrees) → stmts_fit p ss ≡ true → length p.variables ≤ most_loops_nested → length p.variables + loops_deep ss ≤ most_loops_nested
   deep_within p no_stmts f h = omega (arith, h)
   deep_within p (more_stmts s rest) f h =
-      let fits = and_parts (stmt_fits p s) (stmts_fit (moved p (statement_count s) (loop_count s)) rest) f in
+      let fits = and_parts (stmt_fits p s) (stmts_fit (moved p (statement_count s)) rest) f in
       let of_first : length p.variables + loop_depth s ≤ most_loops_nested = depth_within p s fits.0 h in
-      let of_rest : length p.variables + loops_deep rest ≤ most_loops_nested = deep_within (moved p (statement_count s) (loop_count s)) rest fits.1 h in
+      let of_rest : length p.variables + loops_deep rest ≤ most_loops_nested = deep_within (moved p (statement_count s)) rest fits.1 h in
       omega (arith, of_first, of_rest)
 
 -- an increment with a value that isn't refused

@@ -4,16 +4,15 @@ use Rattle.std.specs.Prelude.{◌||◌}
 use Rattle.std.specs.List.{flat_map}
 use Rattle.std.proofs.lemmas.Bool.{or_parts}
 use Rattle.ped_base.specs.Lists.{is_same_text, is_among}
-use Rattle.ped_tree.specs.Tree.{ExprTree, DeclTree, Program, Implicit, Integer, Dimension, Parameter, Save, Remark, ProgramTree}
-use Rattle.ped_tree.specs.Accesses.{constants_in, constant_names}
+use Rattle.ped_tree.specs.Tree.{ExprTree, DeclTree, Program, Implicit, Integer, Dimension, Parameter, Save, Remark}
+use Rattle.ped_tree.specs.Accesses.{constant_names}
 use Rattle.ped_tree.proofs.NameLaws.NameEquality.{same_is, same_itself}
 use Rattle.ped_tree.proofs.NameLaws.Collected.{among_append}
-use Rattle.ped_tree.specs.Constants.NamedConstants.{value_named}
 use Rattle.ped_refs.specs.References.{Reference}
 use Rattle.ped_symbols.specs.Entries.{entry_of, with_entry}
 use Rattle.ped_symbols.specs.Declarations.{Declared}
 use Rattle.ped_symbols.specs.Values.{Values, fixed_value, is_missing, with_value, some_item_fails, behind_items}
-use Rattle.ped_symbols.specs.Sites.{Site, declaration, decl_sites}
+use Rattle.ped_symbols.specs.Sites.{declaration, decl_sites}
 use Rattle.ped_symbols.specs.NameRefusals.{Before, behind_site, behind_sites}
 use Rattle.ped_symbols.proofs.RightUseLaws.Constants.{none_behind_items}
 use Rattle.ped_symbols.proofs.RightUseLaws.Quiet.{AreQuiet}

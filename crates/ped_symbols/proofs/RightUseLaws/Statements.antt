@@ -6,7 +6,7 @@ use Rattle.std.proofs.lemmas.Bool.{false≢true, and_parts, and_from}
 use Rattle.std.proofs.lemmas.List.Folds.{list_all-append, list_all-map}
 use Rattle.std.proofs.lemmas.Grind.{flat_map-append}
 use Rattle.ped_tree.specs.Tree.{ExprTree, ExprTrees, Int, Var, Element, Neg, Add, Sub, Mul, Div, Pow, Call, no_exprs, more_exprs, CondTree, Rel, Not, And, Or, ItemTree, Value, Text, Head, StmtTree, StmtTrees, Assign, If, Do, Print, Read, Stop, Comment, no_stmts, more_stmts, DeclTree, Program, Implicit, Integer, Dimension, Parameter, Save, Remark}
-use Rattle.ped_tree.specs.Numbering.{statement_count, statements_count, loop_count, loops_count}
+use Rattle.ped_tree.specs.Numbering.{statement_count, statements_count}
 use Rattle.ped_tree.specs.Grammar.Fits.{expr_fits, exprs_fit, takes_arguments, target_fits, cond_fits, item_fits, Surroundings, moved, in_if, in_loop, loop_fits, stmt_fits, stmts_fit}
 use Rattle.ped_symbols.specs.declared.uses.Role.TheVariants.{Saved, Rejected, Private, Index}
 use Rattle.ped_symbols.specs.declared.uses.Use.{Use}
@@ -134,11 +134,11 @@ mutual
   stmt_right k p (If c a b) u f =
       let own = in_front k (cond_uses c) (flat_map site_uses (stmts_sites a ++ stmts_sites b)) u in
       let parts = behind k (cond_uses c) (flat_map site_uses (stmts_sites a ++ stmts_sites b)) u in
-      let second = and_parts _ (stmts_fit (in_if p (1 + statements_count a) (loops_count a)) b) f in
-      let first = and_parts _ (stmts_fit (in_if p 1 0) a) second.0 in
+      let second = and_parts _ (stmts_fit (in_if p (1 + statements_count a)) b) f in
+      let first = and_parts _ (stmts_fit (in_if p 1) a) second.0 in
       and_from _ _
-      (and_from _ _ (cond_right k c own (and_parts _ (cond_fits c) first.0).1) (stmts_right k (in_if p 1 0) a (sites_in_front k (stmts_sites a) (stmts_sites b) parts) first.1))
-      (stmts_right k (in_if p (1 + statements_count a) (loops_count a)) b (sites_behind k (stmts_sites a) (stmts_sites b) parts) second.1)
+      (and_from _ _ (cond_right k c own (and_parts _ (cond_fits c) first.0).1) (stmts_right k (in_if p 1) a (sites_in_front k (stmts_sites a) (stmts_sites b) parts) first.1))
+      (stmts_right k (in_if p (1 + statements_count a)) b (sites_behind k (stmts_sites a) (stmts_sites b) parts) second.1)
   stmt_right k p (Do h body) u f =
       let own = in_front k (own_uses (Do h body)) (flat_map site_uses (private_site h.private ++ stmts_sites body)) u in
       let parts = behind k (own_uses (Do h body)) (flat_map site_uses (private_site h.private ++ stmts_sites body)) u in
@@ -158,8 +158,8 @@ mutual
   pub stmts_right : (k : NameKinds) (p : Surroundings) (ss : StmtTrees) → all_right k (flat_map site_uses (stmts_sites ss)) ≡ true → stmts_fit p ss ≡ true → stmts_are_right k ss ≡ true
   stmts_right k p no_stmts u f = refl
   stmts_right k p (more_stmts s rest) u f =
-      let fits = and_parts (stmt_fits p s) (stmts_fit (moved p (statement_count s) (loop_count s)) rest) f in
-      and_from _ _ (stmt_right k p s (sites_in_front k (stmt_sites s) (stmts_sites rest) u) fits.0) (stmts_right k (moved p (statement_count s) (loop_count s)) rest (sites_behind k (stmt_sites s) (stmts_sites rest) u) fits.1)
+      let fits = and_parts (stmt_fits p s) (stmts_fit (moved p (statement_count s)) rest) f in
+      and_from _ _ (stmt_right k p s (sites_in_front k (stmt_sites s) (stmts_sites rest) u) fits.0) (stmts_right k (moved p (statement_count s)) rest (sites_behind k (stmt_sites s) (stmts_sites rest) u) fits.1)
 
 save_right : (k : NameKinds) (d : DeclTree) → all_right k (decl_uses d) ≡ true → save_is_right k d ≡ true
 save_right k (Program x) u = refl

@@ -1,10 +1,10 @@
--- How statements nest: the parts of a block IF, and DO loops that end at a statement of their own or at one that they share (ANSI X3.9-1978, sections 11.6, 11.10).
-use Rattle.std.specs.Prelude.{ℕ, List, [], ◌∷◌, ◌++◌, map, Bool, true, false, not, ◌&&◌, ◌==◌, Option, Some, None}
+-- How statements nest: the parts of a block IF, and DO loops that end at END DO, at a labelled statement of their own or at one that they share (ANSI X3.9-1978, sections 11.6, 11.10).
+use Rattle.std.specs.Prelude.{ℕ, List, [], ◌∷◌, ◌++◌, map, Bool, true, false, not, ◌&&◌, ◌||◌, ◌==◌, Option, Some, None, is_none}
 use Rattle.std.specs.List.{list_any}
 use Rattle.ped_tree.specs.Tree.{CondTree, Head, StmtTree, StmtTrees, no_stmts, If, Do, Comment}
 use Rattle.ped_tree.specs.Views.{pack_stmts}
 use Rattle.ped_tree.specs.Grammar.Statement.{Statement}
-use Rattle.ped_tree.specs.Grammar.Items.{Item, does, continues, logical_if, block_if, else_if, else_line, end_if, begins_do, keeps_private, says, Entry}
+use Rattle.ped_tree.specs.Grammar.Items.{Item, does, continues, logical_if, block_if, else_if, else_line, end_if, begins_do, ends_do, keeps_private, says, Entry}
 use Rattle.ped_tree.specs.Grammar.Occurrences.{rejected_names}
 
 -- an assignment, PRINT, READ or STOP, a CONTINUE, or a logical IF (ANSI X3.9-1978, sections 10.1, 11.5, 11.11, 11.12, 12.8)
@@ -36,13 +36,14 @@ mutual
     has_else : Statement → BodyForm → Statement → RestForm
     has_else_if : Statement → CondTree → BodyForm → RestForm → RestForm
 
-  -- a DO statement with its label, PRIVATE, the statements of the body, and how the loop ends
+  -- a DO statement with its label or none, PRIVATE, the statements of the body, and how the loop ends
   pub data LoopForm : Type 0 where
-    loop : Statement → ℕ → Head → PrivateForm → BodyForm → EndingForm → LoopForm
+    loop : Statement → Option ℕ → Head → PrivateForm → BodyForm → EndingForm → LoopForm
 
-  -- a loop ends at a plain statement with its label, or where a loop in it ends that has the same label
+  -- a loop ends at a plain statement with its label, at END DO, or where a loop in it ends that has the same label
   pub data EndingForm : Type 0 where
     at_plain : Statement → PlainForm → EndingForm
+    at_end_do : Statement → EndingForm
     with_inner : LoopForm → EndingForm
 
 -- what a plain statement says (ANSI X3.9-1978, section 3.5)
@@ -81,6 +82,7 @@ abbrev mutual
 
   pub ending_entries : EndingForm → List Entry
   ending_entries (at_plain s p) = entry s (plain_item p) ∷ []
+  ending_entries (at_end_do s) = entry s ends_do ∷ []
   ending_entries (with_inner d) = loop_entries d
 
 -- the comments before a statement, which come before it in the tree (this project)
@@ -136,45 +138,48 @@ abbrev mutual
 
   pub ending_trees : EndingForm → List StmtTree
   ending_trees (at_plain s p) = comments_of s ++ plain_trees p
+  ending_trees (at_end_do s) = comments_of s
   ending_trees (with_inner d) = loop_trees d
 
--- the label of a DO (ANSI X3.9-1978, section 11.10)
-abbrev pub loop_label : LoopForm → ℕ
+-- the label of a DO, where it has one (ANSI X3.9-1978, section 11.10)
+abbrev pub loop_label : LoopForm → Option ℕ
 loop_label (loop s l h p b e) = l
 
--- the statement has this label (ANSI X3.9-1978, section 11.10.1)
-abbrev pub has_label : ℕ → Option ℕ → Bool
-has_label l None = false
-has_label l (Some m) = m == l
+-- a loop has a label, and it is that of the statement (ANSI X3.9-1978, section 11.10.1)
+abbrev pub has_label : Option ℕ → Option ℕ → Bool
+has_label (Some l) (Some m) = m == l
+has_label (Some l) None = false
+has_label None m = false
 
 -- the statement has none of these labels, those of the loops round it (ANSI X3.9-1978, section 11.10.1)
-abbrev pub is_free : List ℕ → Statement → Bool
+abbrev pub is_free : List (Option ℕ) → Statement → Bool
 is_free labels s = not (list_any (λ l. has_label l s.label) labels)
 
 -- PRIVATE has none of these labels (this project)
-abbrev pub private_keeps_labels : List ℕ → PrivateForm → Bool
+abbrev pub private_keeps_labels : List (Option ℕ) → PrivateForm → Bool
 private_keeps_labels labels no_private = true
 private_keeps_labels labels (private_list s names) = is_free labels s
 
--- the first statement behind a DO that has its label ends it: within loops with these labels none of them stands but at an ending (ANSI X3.9-1978, section 11.10.1)
+-- the first statement behind a DO that has its label ends it: within loops with these labels none of them stands but at an ending; END DO ends a DO without a label (ANSI X3.9-1978, section 11.10.1; this project)
 abbrev mutual
-  pub body_keeps_labels : List ℕ → BodyForm → Bool
+  pub body_keeps_labels : List (Option ℕ) → BodyForm → Bool
   body_keeps_labels labels nothing = true
   body_keeps_labels labels (and_then b p) = body_keeps_labels labels b && part_keeps_labels labels p
 
-  pub part_keeps_labels : List ℕ → PartForm → Bool
+  pub part_keeps_labels : List (Option ℕ) → PartForm → Bool
   part_keeps_labels labels (a_plain s p) = is_free labels s
   part_keeps_labels labels (an_if s c b r) = is_free labels s && body_keeps_labels labels b && rest_keeps_labels labels r
-  part_keeps_labels labels (a_do d) = not (list_any (λ l. l == loop_label d) labels) && loop_keeps_labels labels d
+  part_keeps_labels labels (a_do d) = not (list_any (λ l. has_label l (loop_label d)) labels) && loop_keeps_labels labels d
 
-  pub rest_keeps_labels : List ℕ → RestForm → Bool
+  pub rest_keeps_labels : List (Option ℕ) → RestForm → Bool
   rest_keeps_labels labels (ends_if s) = is_free labels s
   rest_keeps_labels labels (has_else s b e) = is_free labels s && body_keeps_labels labels b && is_free labels e
   rest_keeps_labels labels (has_else_if s c b r) = is_free labels s && body_keeps_labels labels b && rest_keeps_labels labels r
 
-  pub loop_keeps_labels : List ℕ → LoopForm → Bool
+  pub loop_keeps_labels : List (Option ℕ) → LoopForm → Bool
   loop_keeps_labels labels (loop s l h p b e) = is_free labels s && private_keeps_labels (l ∷ labels) p && body_keeps_labels (l ∷ labels) b && ending_keeps_labels (l ∷ labels) l e
 
-  pub ending_keeps_labels : List ℕ → ℕ → EndingForm → Bool
+  pub ending_keeps_labels : List (Option ℕ) → Option ℕ → EndingForm → Bool
   ending_keeps_labels labels l (at_plain s p) = has_label l s.label
-  ending_keeps_labels labels l (with_inner d) = loop_label d == l && loop_keeps_labels labels d
+  ending_keeps_labels labels l (at_end_do s) = has_label l s.label || (is_none l && is_free labels s)
+  ending_keeps_labels labels l (with_inner d) = has_label l (loop_label d) && loop_keeps_labels labels d

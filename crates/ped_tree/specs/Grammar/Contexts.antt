@@ -1,15 +1,16 @@
 -- What is open at a statement, and what has come before it (ANSI X3.9-1978, sections 3.5, 11.6 to 11.10). Each statement takes the text on, whatever is refused at it.
-use Rattle.std.specs.Prelude.{ℕ, ◌+◌, List, [], ◌∷◌, ◌++◌, map, max, Bool, true, false, not, ◌||◌, ◌==◌, Option, Some, None, if◌then◌else◌}
+use Rattle.std.specs.Prelude.{ℕ, ◌+◌, List, [], ◌∷◌, ◌++◌, map, max, Bool, true, false, not, ◌||◌, Option, Some, None, is_none, if◌then◌else◌}
 use Rattle.std.specs.List.{list_any}
-use Rattle.ped_tree.specs.Tree.{Head, StmtTree, Assign, If, Do, Print, Read, Stop, Comment, DeclTree, Program, Implicit, Integer, Dimension, Parameter, Save, Remark}
+use Rattle.ped_tree.specs.Tree.{Head, StmtTree, Stop, DeclTree, Program, Implicit, Save}
 use Rattle.ped_tree.specs.Numbering.{statement_count, statements_count}
 use Rattle.ped_tree.specs.Grammar.Statement.{Statement}
-use Rattle.ped_tree.specs.Grammar.Items.{Item, declares, saves_all, does, continues, logical_if, block_if, else_if, else_line, end_if, begins_do, keeps_private, ends_program, Reading, says, outside_profile, no_form, Entry}
+use Rattle.ped_tree.specs.Grammar.Items.{Item, declares, saves_all, does, continues, logical_if, block_if, else_if, else_line, end_if, begins_do, ends_do, keeps_private, ends_program, Reading, says, Entry}
 use Rattle.ped_tree.specs.Grammar.Occurrences.{constants_of}
+use Rattle.ped_tree.specs.Grammar.BlockForms.{has_label}
 
--- a DO loop that is open: its label, its variable, and the names and the line of its PRIVATE statement, none and 0 before that (ANSI X3.9-1978, section 11.10; this project)
+-- a DO loop that is open: its label or none, its variable, and the names and the line of its PRIVATE statement, none and 0 before that (ANSI X3.9-1978, section 11.10; this project)
 pub record OpenLoop : Type 0 where
-  pub label : ℕ
+  pub label : Option ℕ
   pub variable : List ℕ
   pub private : List (List ℕ)
   pub private_line : ℕ
@@ -20,12 +21,11 @@ pub data Block : Type 0 where
   in_else : ℕ → Block
   in_do : OpenLoop → Block
 
--- at a statement: how far the order of statements has come, the open blocks with the innermost first, the numbered statements and the DO loops before it, the named constants, whether a SAVE with a list and one without have come, whether the statement before it is a DO
+-- at a statement: how far the order of statements has come, the open blocks with the innermost first, the numbered statements before it, the named constants, whether a SAVE with a list and one without have come, whether the statement before it is a DO
 pub record Context : Type 0 where
   pub phase : ℕ
   pub blocks : List Block
   pub statements : ℕ
-  pub loops : ℕ
   pub constants : List (List ℕ)
   pub saves_names : Bool
   pub saves_everything : Bool
@@ -37,7 +37,6 @@ at_start = record {
   phase = 0;
   blocks = [];
   statements = 0;
-  loops = 0;
   constants = [];
   saves_names = false;
   saves_everything = false;
@@ -80,6 +79,7 @@ is_stop s = false
 abbrev pub may_end : Item → Bool
 may_end (does s) = not (is_stop s)
 may_end continues = true
+may_end ends_do = true
 may_end (logical_if c s) = true
 may_end i = false
 
@@ -111,7 +111,7 @@ open_variables c = map (λ d. d.variable) (open_loops c)
 
 -- a DO with this label is open (ANSI X3.9-1978, section 11.10)
 abbrev pub has_do : ℕ → List Block → Bool
-has_do l c = list_any (λ d. d.label == l) (open_loops c)
+has_do l c = list_any (λ d. has_label d.label (Some l)) (open_loops c)
 
 -- an IF is open (ANSI X3.9-1978, section 11.6)
 abbrev pub has_if : List Block → Bool
@@ -122,7 +122,7 @@ has_if (in_do d ∷ c) = has_if c
 
 -- a DO loop with this label (ANSI X3.9-1978, section 11.10)
 abbrev pub is_loop_with : ℕ → Block → Bool
-is_loop_with l (in_do d) = d.label == l
+is_loop_with l (in_do d) = has_label d.label (Some l)
 is_loop_with l b = false
 
 -- the first statement behind a DO that has its label ends the loop, and all that was begun in it; loops with one label end together (ANSI X3.9-1978, section 11.10.1)
@@ -158,8 +158,23 @@ without_if (in_then n ∷ c) = c
 without_if (in_else n ∷ c) = c
 without_if c = c
 
+-- the innermost open block is a DO without a label (this project)
+abbrev pub is_in_bare_do : List Block → Bool
+is_in_bare_do (in_do d ∷ c) = is_none d.label
+is_in_bare_do c = false
+
+-- a DO with the statement's label is open (this project)
+abbrev pub carries_open : Option ℕ → List Block → Bool
+carries_open None c = false
+carries_open (Some l) c = has_do l c
+
+-- END DO: a DO without a label that is the innermost open block is closed (this project)
+abbrev pub without_do : List Block → List Block
+without_do (in_do d ∷ c) = if is_none d.label then c else in_do d ∷ c
+without_do c = c
+
 -- a loop that has just begun
-abbrev pub begun : ℕ → Head → OpenLoop
+abbrev pub begun : Option ℕ → Head → OpenLoop
 begun l h = record { label = l; variable = h.variable; private = []; private_line = 0 }
 
 -- PRIVATE on this line belongs to the innermost block, which is a DO (this project)
@@ -174,13 +189,10 @@ blocks_behind behind_do s (else_if e) c = left_by s.label (with_else_if (left_in
 blocks_behind behind_do s else_line c = left_by s.label (with_else (left_in_if c))
 blocks_behind behind_do s end_if c = left_by s.label (without_if (left_in_if c))
 blocks_behind behind_do s (begins_do l h) c = in_do (begun l h) ∷ left_by s.label c
+blocks_behind behind_do s ends_do c = if carries_open s.label c then left_by s.label c else without_do c
 blocks_behind behind_do s (keeps_private names) c = left_by s.label (if behind_do then with_private s.line names c else c)
 blocks_behind behind_do s ends_program c = []
 blocks_behind behind_do s i c = left_by s.label c
-
--- how many loops a DO statement opens (ANSI X3.9-1978, section 11.10)
-abbrev pub loops_in : Item → ℕ
-loops_in i = if is_do i then 1 else 0
 
 -- behind a statement that says this
 abbrev pub behind_item : Context → Statement → Item → Context
@@ -188,7 +200,6 @@ behind_item c s i = record {
   phase = max c.phase (rank i);
   blocks = blocks_behind c.behind_do s i c.blocks;
   statements = c.statements + numbered_in i;
-  loops = c.loops + loops_in i;
   constants = c.constants ++ constants_of i;
   saves_names = c.saves_names || saves_list i;
   saves_everything = c.saves_everything || saves_without i;

@@ -5,7 +5,7 @@ use Rattle.ped_base.specs.Lists.{has_some, is_same_text, is_among}
 use Rattle.ped_tree.specs.declared.expressions.Intrinsic.{Intrinsic}
 use Rattle.ped_tree.specs.declared.expressions.Intrinsic.TheVariants.{Mod, Abs, Max, Min}
 use Rattle.ped_tree.specs.Tree.{ExprTree, ExprTrees, Int, Var, Element, Neg, Add, Sub, Mul, Div, Pow, Call, no_exprs, more_exprs, CondTree, Rel, Not, And, Or, ItemTree, Value, Text, Head, StmtTree, StmtTrees, Assign, If, Do, Print, Read, Stop, Comment, no_stmts, more_stmts, BoundTree, DeclaratorTree, DeclTree, Program, Implicit, Integer, Dimension, Parameter, Save, Remark, ProgramTree}
-use Rattle.ped_tree.specs.Numbering.{statement_count, statements_count, loop_count, loops_count}
+use Rattle.ped_tree.specs.Numbering.{statement_count, statements_count}
 use Rattle.ped_tree.specs.Accesses.{own_accesses, constant_names}
 use Rattle.ped_tree.specs.Printing.{own_text, private_text, decl_text}
 use Rattle.ped_tree.specs.Grammar.LimitNumbers.{greatest_literal, most_dimensions, most_statements, most_loops_nested, most_blocks_nested, most_references, most_characters}
@@ -76,22 +76,21 @@ item_fits (Text text) = list_all is_printable text
 abbrev pub comment_fits : List ℕ → Bool
 comment_fits text = nat_le (length text) 71 && not (list_any (λ c. c == 10) text) && is_same_text (trimmed text) text && not (is_directive (67 ∷ text))
 
--- round a statement: the named constants, the variables and the PRIVATE names of the DO loops, how many loops and IFs, and how many numbered statements and DO loops stand before it
+-- round a statement: the named constants, the variables and the PRIVATE names of the DO loops, how many loops and IFs, and how many numbered statements stand before it
 pub record Surroundings : Type 0 where
   pub constants : List (List ℕ)
   pub variables : List (List ℕ)
   pub private : List (List ℕ)
   pub depth : ℕ
   pub statements : ℕ
-  pub loops : ℕ
 
--- behind so many statements and loops
-abbrev pub moved : Surroundings → ℕ → ℕ → Surroundings
-moved p n m = record p { statements = p.statements + n; loops = p.loops + m }
+-- behind so many statements
+abbrev pub moved : Surroundings → ℕ → Surroundings
+moved p n = record p { statements = p.statements + n }
 
--- in a part of an IF, behind so many statements and loops
-abbrev pub in_if : Surroundings → ℕ → ℕ → Surroundings
-in_if p n m = record p { depth = p.depth + 1; statements = p.statements + n; loops = p.loops + m }
+-- in a part of an IF, behind so many statements
+abbrev pub in_if : Surroundings → ℕ → Surroundings
+in_if p n = record p { depth = p.depth + 1; statements = p.statements + n }
 
 -- in the loop
 abbrev pub in_loop : Surroundings → Head → Surroundings
@@ -100,7 +99,6 @@ in_loop p h = record p {
   private = h.private ++ p.private;
   depth = p.depth + 1;
   statements = p.statements + 1;
-  loops = p.loops + 1;
 }
 
 -- a numbered statement by itself passes no limit: how many there are, its references, its printed length
@@ -108,7 +106,7 @@ abbrev pub is_within : Surroundings → StmtTree → Bool
 is_within p s =
     nat_lt p.statements most_statements
     && nat_le (length (own_accesses p.constants p.variables s)) most_references
-    && nat_le (length (own_text p.loops s)) most_characters
+    && nat_le (length (own_text s)) most_characters
 
 -- an assignment, PRINT, READ or STOP: it changes the variable of no loop round it, and STOP stands in no loop
 abbrev pub simple_fits : Surroundings → StmtTree → Bool
@@ -134,8 +132,8 @@ abbrev mutual
   stmt_fits p (Assign left right) = simple_fits p (Assign left right) && target_fits left && expr_fits right
   stmt_fits p (If condition then_part else_part) =
       is_within p (If condition then_part else_part) && nat_lt p.depth most_blocks_nested && cond_fits condition
-      && stmts_fit (in_if p 1 0) then_part
-      && stmts_fit (in_if p (1 + statements_count then_part) (loops_count then_part)) else_part
+      && stmts_fit (in_if p 1) then_part
+      && stmts_fit (in_if p (1 + statements_count then_part)) else_part
   stmt_fits p (Do h body) = loop_fits p h body && stmts_fit (in_loop p h) body
   stmt_fits p (Print items) = simple_fits p (Print items) && list_all item_fits items
   stmt_fits p (Read items) = simple_fits p (Read items) && list_all target_fits items
@@ -145,7 +143,7 @@ abbrev mutual
   -- statements one behind the other
   pub stmts_fit : Surroundings → StmtTrees → Bool
   stmts_fit p no_stmts = true
-  stmts_fit p (more_stmts s rest) = stmt_fits p s && stmts_fit (moved p (statement_count s) (loop_count s)) rest
+  stmts_fit p (more_stmts s rest) = stmt_fits p s && stmts_fit (moved p (statement_count s)) rest
 
 -- the bounds of a dimension (ANSI X3.9-1978, section 5.1.1.1)
 abbrev pub bound_fits : BoundTree → Bool
@@ -186,7 +184,7 @@ begins_with_statement ss = true
 
 -- before the first executable statement
 abbrev pub at_body : ProgramTree → Surroundings
-at_body t = record { constants = constant_names t.decls; variables = []; private = []; depth = 0; statements = 0; loops = 0 }
+at_body t = record { constants = constant_names t.decls; variables = []; private = []; depth = 0; statements = 0 }
 
 -- a program of the profile
 abbrev pub fits : ProgramTree → Bool

@@ -41,6 +41,7 @@ item_of (item.ElseIf c) = plain.else_if (cond_tree c)
 item_of item.Else = plain.else_line
 item_of item.EndIf = plain.end_if
 item_of (item.Do d) = plain.begins_do d.label (do_head d)
+item_of item.EndDo = plain.ends_do
 item_of (item.Private names) = plain.keeps_private names
 item_of item.End = plain.ends_program
 

@@ -1,6 +1,10 @@
 -- The limits of the language as numbers; passing one is refused (this project).
 use Rattle.std.specs.Prelude.{ℕ}
 
+-- the most characters of a name
+abbrev pub most_name : ℕ
+most_name = 31
+
 -- the greatest literal
 abbrev pub greatest_literal : ℕ
 greatest_literal = 2147483647

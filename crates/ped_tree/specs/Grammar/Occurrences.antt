@@ -6,7 +6,7 @@ use Rattle.ped_tree.specs.Accesses.{constants_in}
 use Rattle.ped_tree.specs.NamesIn.{cond_names, head_names, stmt_names, stmts_names, decl_names, first_occurrences}
 use Rattle.ped_tree.specs.Grammar.Words.{is_name}
 use Rattle.ped_tree.specs.Grammar.Statement.{Note}
-use Rattle.ped_tree.specs.Grammar.Items.{Item, declares, saves_all, does, continues, logical_if, block_if, else_if, else_line, end_if, begins_do, keeps_private, ends_program, Reading, says, outside_profile, no_form, Entry}
+use Rattle.ped_tree.specs.Grammar.Items.{Item, declares, does, logical_if, block_if, else_if, begins_do, keeps_private, ends_program, Reading, says, Entry}
 
 -- the names in what a statement says
 abbrev pub names_in : Item → List (List ℕ)

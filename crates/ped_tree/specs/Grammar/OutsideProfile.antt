@@ -4,7 +4,6 @@ use Rattle.std.specs.List.{list_any, list_all, join_by}
 use Rattle.ped_tree.specs.Printing.{constant_text}
 use Rattle.ped_base.specs.Lists.{has_some, is_same_text}
 use Rattle.ped_tree.specs.Grammar.Words.{is_numeral}
-use Rattle.ped_tree.specs.Grammar.StatementForms.{ControlForm, control_form_text, do_form_word}
 
 -- the text begins with the word
 abbrev pub begins_with : List ℕ → List ℕ → Bool
@@ -18,7 +17,7 @@ words_outside =
     ∷ codes "FUNCTION" ∷ codes "INTEGERFUNCTION" ∷ codes "INTEGER*" ∷ codes "SUBROUTINE" ∷ codes "BLOCKDATA"
     ∷ codes "IMPLICIT" ∷ codes "CALL" ∷ codes "RETURN" ∷ codes "GOTO" ∷ codes "ASSIGN" ∷ codes "PAUSE"
     ∷ codes "WRITE" ∷ codes "READ" ∷ codes "PRINT" ∷ codes "FORMAT" ∷ codes "OPEN" ∷ codes "CLOSE" ∷ codes "INQUIRE"
-    ∷ codes "REWIND" ∷ codes "BACKSPACE" ∷ codes "ENDFILE" ∷ codes "ENDDO" ∷ codes "DOWHILE("
+    ∷ codes "REWIND" ∷ codes "BACKSPACE" ∷ codes "ENDFILE" ∷ codes "DOWHILE"
     ∷ []
 
 -- the parenthesis before the text stays open up to its end
@@ -36,11 +35,10 @@ is_enclosed quoted depth (c ∷ cs) =
 abbrev pub are_labels : List (List ℕ) → Bool
 are_labels labels = has_some labels && list_all is_numeral labels
 
--- one of the words begins it; STOP with digits or a constant; a DO without a label; an IF with labels
+-- one of the words begins it; STOP with digits or a constant; an IF with labels
 pub data IsOutside (text : List ℕ) : Type 0 where
   by_word : IsTrue (list_any (begins_with text) words_outside) → IsOutside text
   stop_with_digits : (digits : List ℕ) → IsTrue (is_numeral digits) → codes "STOP" ++ digits ≡ text → IsOutside text
   stop_with_constant : (constant : List ℕ) → codes "STOP" ++ constant_text constant ≡ text → IsOutside text
-  do_without_label : (parallel : Bool) (c : ControlForm) → do_form_word parallel ++ control_form_text c ≡ text → IsOutside text
   if_with_labels : (inner : List ℕ) (labels : List (List ℕ)) → IsTrue (is_enclosed false 1 inner) → IsTrue (are_labels labels)
       → codes "IF(" ++ inner ++ codes ")" ++ join_by (λ x. x) (codes ",") labels ≡ text → IsOutside text

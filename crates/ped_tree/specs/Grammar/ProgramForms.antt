@@ -1,11 +1,11 @@
 -- A whole program: declarations, executable statements, END (ANSI X3.9-1978, section 3.5).
 use Rattle.std.specs.Prelude.{ℕ, List, [], ◌∷◌, ◌++◌, map, replicate, if◌then◌else◌}
 use Rattle.std.specs.List.{flat_map}
-use Rattle.ped_tree.specs.Tree.{StmtTree, Assign, If, Do, Print, Read, Stop, Comment, DeclTree, Save, Remark, ProgramTree}
+use Rattle.ped_tree.specs.Tree.{StmtTree, Comment, DeclTree, Save, Remark, ProgramTree}
 use Rattle.ped_tree.specs.Views.{pack_stmts}
 use Rattle.ped_base.specs.Lists.{has_some}
 use Rattle.ped_tree.specs.Grammar.Statement.{Statement}
-use Rattle.ped_tree.specs.Grammar.Items.{Item, declares, saves_all, does, continues, logical_if, block_if, else_if, else_line, end_if, begins_do, keeps_private, ends_program, Reading, says, outside_profile, no_form, Entry}
+use Rattle.ped_tree.specs.Grammar.Items.{Item, declares, saves_all, keeps_private, ends_program, Reading, says, Entry}
 use Rattle.ped_tree.specs.Grammar.Contexts.{numbered_in}
 use Rattle.ped_tree.specs.Grammar.BlockForms.{BodyForm, entry, body_entries, body_trees, comments_of}
 

@@ -2,16 +2,16 @@
 use Rattle.std.specs.Prelude.{ℕ, ◌+◌, List, [], ◌∷◌, ◌++◌, map, length, Bool, true, false, not, ◌&&◌, ◌||◌, nat_lt, nat_le, Option, Some, None, if◌then◌else◌}
 use Rattle.std.specs.List.{list_any, flat_map}
 use Rattle.ped_base.specs.Lists.{has_some, is_among}
-use Rattle.ped_tree.specs.Tree.{ExprTree, Int, Var, Element, Neg, Add, Sub, Mul, Div, Pow, Call, StmtTree, StmtTrees, Assign, If, Do, Print, Read, Stop, Comment, no_stmts, more_stmts, DeclTree, Program, Implicit, Integer, Dimension, Parameter, Save, Remark}
+use Rattle.ped_tree.specs.Tree.{ExprTree, Var, StmtTree, StmtTrees, Assign, If, Do, Read, no_stmts, more_stmts, DeclTree, Integer, Dimension, Save}
 use Rattle.ped_tree.specs.Accesses.{own_accesses}
 use Rattle.ped_tree.specs.Printing.{own_text, private_text, decl_text}
 use Rattle.ped_tree.specs.Grammar.LimitNumbers.{most_dimensions, most_statements, most_loops_nested, most_blocks_nested, most_references, most_characters}
 use Rattle.ped_tree.specs.Grammar.Literals.{cond_has_large_literal, head_has_large_literal, stmt_has_large_literal, decl_has_large_literal}
 use Rattle.ped_tree.specs.Grammar.Refusal.{Finding, Syntax, NotInProfile, OpenBlock, BadTerminal, IndexAssigned, StopPlace, Limit, refused_if}
 use Rattle.ped_tree.specs.Grammar.Statement.{Note, Statement, Statements}
-use Rattle.ped_tree.specs.Grammar.Items.{Item, declares, saves_all, does, continues, logical_if, block_if, else_if, else_line, end_if, begins_do, keeps_private, ends_program, Reading, says, outside_profile, no_form, Entry}
+use Rattle.ped_tree.specs.Grammar.Items.{Item, declares, saves_all, does, logical_if, block_if, else_if, else_line, end_if, begins_do, ends_do, keeps_private, ends_program, Reading, says, outside_profile, no_form, Entry}
 use Rattle.ped_tree.specs.Grammar.Occurrences.{of_reading, do_variables, is_rejection, saved_names}
-use Rattle.ped_tree.specs.Grammar.Contexts.{Block, in_then, in_else, in_do, Context, at_start, rank, numbered_in, is_do, is_stop, may_end, saves_list, saves_without, open_loops, open_variables, has_do, has_if, is_loop_with, behind, behind_all}
+use Rattle.ped_tree.specs.Grammar.Contexts.{Block, in_then, in_else, in_do, Context, at_start, rank, numbered_in, is_do, is_stop, may_end, saves_list, saves_without, open_loops, open_variables, has_do, has_if, is_loop_with, is_in_bare_do, carries_open, behind, behind_all}
 use Rattle.ped_tree.specs.Grammar.BlockForms.{whole_head}
 
 -- a test of what a statement says, false where it says nothing (plain words)
@@ -47,6 +47,11 @@ lacks_if c else_line = not (takes_else c)
 lacks_if c end_if = not (has_if c)
 lacks_if c i = false
 
+-- END DO that carries the label of no open DO, where the innermost open block isn't a DO without a label (this project)
+abbrev pub lacks_do : List Block → Option ℕ → Item → Bool
+lacks_do c label ends_do = not (carries_open label c) && not (is_in_bare_do c)
+lacks_do c label i = false
+
 -- PRIVATE that isn't the first statement behind a DO (this project)
 abbrev pub is_late_private : Bool → Item → Bool
 is_late_private behind_do (keeps_private names) = not behind_do
@@ -56,17 +61,18 @@ is_late_private behind_do i = false
 abbrev pub saves_again : Context → Item → Bool
 saves_again c i = (saves_list i && c.saves_everything) || (saves_without i && (c.saves_names || c.saves_everything))
 
--- a form at a place where it can't stand (this project)
-abbrev pub is_misplaced : Context → Item → Bool
-is_misplaced c i = is_out_of_order c.phase (rank i) || lacks_if c.blocks i || is_late_private c.behind_do i || saves_again c i
+-- a form at a place where it can't stand, by the statement's label (this project)
+abbrev pub is_misplaced : Context → Option ℕ → Item → Bool
+is_misplaced c label i =
+    is_out_of_order c.phase (rank i) || lacks_if c.blocks i || is_late_private c.behind_do i || saves_again c i || lacks_do c.blocks label i
 
 -- the statement stands behind END (ANSI X3.9-1978, section 11.14)
 abbrev pub is_behind_end : Context → Bool
 is_behind_end c = nat_le 5 c.phase
 
 -- no form, or a form that can't stand there; a form that the profile leaves out is refused as that (this project)
-abbrev pub breaks_syntax : Context → Reading → Bool
-breaks_syntax c r = not (is_left_out r) && (is_behind_end c || is_formless r || where_it_says (is_misplaced c) r)
+abbrev pub breaks_syntax : Context → Option ℕ → Reading → Bool
+breaks_syntax c label r = not (is_left_out r) && (is_behind_end c || is_formless r || where_it_says (is_misplaced c label) r)
 
 -- the innermost open block is a DO (this project)
 abbrev pub is_in_do : List Block → Bool
@@ -151,12 +157,12 @@ statements_of_item private (else_if e) = If e no_stmts no_stmts ∷ []
 statements_of_item private (begins_do l h) = Do (whole_head h private []) no_stmts ∷ []
 statements_of_item private i = []
 
--- the texts of what is printed for an item, by the names of SAVE and the DO loops before it (this project)
-abbrev pub printed_texts : List (List ℕ) → ℕ → Item → List (List ℕ)
-printed_texts saved before (declares d) = decl_text d ∷ []
-printed_texts saved before saves_all = if has_some saved then decl_text (Save saved) ∷ [] else []
-printed_texts saved before (keeps_private names) = private_text names ∷ []
-printed_texts saved before i = map (own_text before) (statements_of_item [] i)
+-- the texts of what is printed for an item, by the names of SAVE (this project)
+abbrev pub printed_texts : List (List ℕ) → Item → List (List ℕ)
+printed_texts saved (declares d) = decl_text d ∷ []
+printed_texts saved saves_all = if has_some saved then decl_text (Save saved) ∷ [] else []
+printed_texts saved (keeps_private names) = private_text names ∷ []
+printed_texts saved i = map own_text (statements_of_item [] i)
 
 -- how many loops are open (this project)
 abbrev pub loop_depth : List Block → ℕ
@@ -206,8 +212,8 @@ abbrev pub has_many_references : List (List ℕ) → List (List ℕ) → List (L
 has_many_references constants indices private i = list_any (λ s. nat_lt most_references (length (own_accesses constants indices s))) (statements_of_item private i)
 
 -- too many characters in one printed statement (this project)
-abbrev pub is_too_long : List (List ℕ) → ℕ → Item → Bool
-is_too_long saved before i = list_any (λ text. nat_lt most_characters (length text)) (printed_texts saved before i)
+abbrev pub is_too_long : List (List ℕ) → Item → Bool
+is_too_long saved i = list_any (λ text. nat_lt most_characters (length text)) (printed_texts saved i)
 
 -- a limit is passed (this project)
 abbrev pub passes_limit : List (List ℕ) → Context → List Entry → Item → Bool
@@ -216,7 +222,7 @@ passes_limit saved c rest i =
     || are_too_many c.statements i
     || is_too_deep c.blocks i
     || has_many_references c.constants (open_variables c.blocks) (private_behind rest) i
-    || is_too_long saved c.loops i
+    || is_too_long saved i
 
 -- a comment stands between a directive and its statement (ParaScope; this project)
 abbrev pub is_parted : Note → Statement → Bool
@@ -239,7 +245,7 @@ at_directives c e = flat_map (λ d. refused_if (is_bad_directive c e d) Syntax d
 abbrev pub at_statement : List (List ℕ) → Context → Entry → List Entry → List Finding
 at_statement saved c e rest =
     at_directives c e
-    ++ refused_if (breaks_syntax c e.reading) Syntax e.statement.line
+    ++ refused_if (breaks_syntax c e.statement.label e.reading) Syntax e.statement.line
     ++ refused_if (is_left_out e.reading) NotInProfile e.statement.line
     ++ refused_if (where_it_says (leaves_open c.blocks) e.reading) OpenBlock e.statement.line
     ++ refused_if (ends_badly c.blocks e.statement.label e.reading) BadTerminal e.statement.line

@@ -7,7 +7,7 @@ use Rattle.ped_tree.specs.Printing.{constant_text}
 use Rattle.ped_tree.specs.Grammar.Words.{is_name, is_numeral, numeral_value}
 use Rattle.ped_tree.specs.Grammar.ExpressionForms.{ExprForm, expr_form_text, expr_form_tree, ReferenceForm, reference_form_text, reference_form_tree}
 use Rattle.ped_tree.specs.Grammar.ConditionForms.{CondForm, cond_form_text, cond_form_tree}
-use Rattle.ped_tree.specs.Grammar.Items.{Item, declares, saves_all, does, continues, logical_if, block_if, else_if, else_line, end_if, begins_do, keeps_private, ends_program}
+use Rattle.ped_tree.specs.Grammar.Items.{Item, declares, saves_all, does, continues, logical_if, block_if, else_if, else_line, end_if, begins_do, ends_do, keeps_private, ends_program}
 
 -- one name or more (ANSI X3.9-1978, section 8.9)
 abbrev pub are_names : List (List ℕ) → Bool
@@ -52,9 +52,14 @@ pub data SimpleForm : Type 0 where
   stop : SimpleForm
   continue : SimpleForm
 
--- what follows the label of a DO: a comma or none, the variable, the initial value, the limit, the increment or none (ANSI X3.9-1978, section 11.10)
+-- the label behind DO, with or without a comma behind it; or none (ANSI X3.9-1978, section 11.10; this project)
+pub data LabelForm : Type 0 where
+  no_label : LabelForm
+  a_label : (digits : List ℕ) → IsTrue (is_label digits) → (comma : Bool) → LabelForm
+
+-- the control of a DO: the variable, the initial value, the limit, the increment or none (ANSI X3.9-1978, section 11.10)
 pub data ControlForm : Type 0 where
-  control : (comma : Bool) → (x : List ℕ) → IsTrue (is_name x) → ExprForm → ExprForm → Option ExprForm → ControlForm
+  control : (x : List ℕ) → IsTrue (is_name x) → ExprForm → ExprForm → Option ExprForm → ControlForm
 
 -- a statement of the profile
 pub data StatementForm : Type 0 where
@@ -71,7 +76,8 @@ pub data StatementForm : Type 0 where
   else_if_then : CondForm → StatementForm
   else_alone : StatementForm
   end_of_if : StatementForm
-  do_loop : (parallel : Bool) → (label : List ℕ) → IsTrue (is_label label) → ControlForm → StatementForm
+  do_loop : (parallel : Bool) → LabelForm → ControlForm → StatementForm
+  end_of_do : StatementForm
   private : (names : List (List ℕ)) → IsTrue (are_names names) → StatementForm
   end : StatementForm
 
@@ -110,15 +116,20 @@ simple_form_text continue = codes "CONTINUE"
 abbrev pub comma_text : Bool → List ℕ
 comma_text comma = if comma then codes "," else []
 
+-- the text of the label of a DO (ANSI X3.9-1978, section 11.10)
+abbrev pub label_form_text : LabelForm → List ℕ
+label_form_text no_label = []
+label_form_text (a_label digits is comma) = digits ++ comma_text comma
+
 -- a further expression behind a comma, or none (ANSI X3.9-1978, section 11.10)
 abbrev pub further_form_text : Option ExprForm → List ℕ
 further_form_text None = []
 further_form_text (Some e) = codes "," ++ expr_form_text e
 
--- the text of what follows the label of a DO (ANSI X3.9-1978, section 11.10)
+-- the text of the control of a DO (ANSI X3.9-1978, section 11.10)
 abbrev pub control_form_text : ControlForm → List ℕ
-control_form_text (control comma x is begin limit step) =
-    comma_text comma ++ x ++ codes "=" ++ expr_form_text begin ++ codes "," ++ expr_form_text limit ++ further_form_text step
+control_form_text (control x is begin limit step) =
+    x ++ codes "=" ++ expr_form_text begin ++ codes "," ++ expr_form_text limit ++ further_form_text step
 
 -- DO or PARALLEL DO (ANSI X3.9-1978, section 11.10; this project)
 abbrev pub do_form_word : Bool → List ℕ
@@ -139,7 +150,8 @@ statement_form_text (if_then c) = codes "IF(" ++ cond_form_text c ++ codes ")THE
 statement_form_text (else_if_then c) = codes "ELSEIF(" ++ cond_form_text c ++ codes ")THEN"
 statement_form_text else_alone = codes "ELSE"
 statement_form_text end_of_if = codes "ENDIF"
-statement_form_text (do_loop parallel label is c) = do_form_word parallel ++ label ++ control_form_text c
+statement_form_text (do_loop parallel l c) = do_form_word parallel ++ label_form_text l ++ control_form_text c
+statement_form_text end_of_do = codes "ENDDO"
 statement_form_text (private names are) = codes "PRIVATE" ++ names_form_text names
 statement_form_text end = codes "END"
 
@@ -182,6 +194,11 @@ behind_if (read items) = more_stmts (Read (map reference_form_tree items)) no_st
 behind_if stop = more_stmts Stop no_stmts
 behind_if continue = no_stmts
 
+-- the label of a DO, where it has one (ANSI X3.9-1978, section 11.10)
+abbrev pub form_label : LabelForm → Option ℕ
+form_label no_label = None
+form_label (a_label digits is comma) = Some (numeral_value digits)
+
 -- an increment, 1 where none is written (ANSI X3.9-1978, section 11.10)
 abbrev pub step_form_tree : Option ExprForm → ExprTree
 step_form_tree None = Int 1
@@ -189,7 +206,7 @@ step_form_tree (Some e) = expr_form_tree e
 
 -- the head of a DO (ANSI X3.9-1978, section 11.10; this project)
 abbrev pub control_form_head : Bool → ControlForm → Head
-control_form_head parallel (control comma x is begin limit step) = record {
+control_form_head parallel (control x is begin limit step) = record {
   variable = x;
   first = expr_form_tree begin;
   last = expr_form_tree limit;
@@ -214,7 +231,8 @@ statement_item (if_then c) = block_if (cond_form_tree c)
 statement_item (else_if_then c) = else_if (cond_form_tree c)
 statement_item else_alone = else_line
 statement_item end_of_if = end_if
-statement_item (do_loop parallel label is c) = begins_do (numeral_value label) (control_form_head parallel c)
+statement_item (do_loop parallel l c) = begins_do (form_label l) (control_form_head parallel c)
+statement_item end_of_do = ends_do
 statement_item (private names are) = keeps_private names
 statement_item end = ends_program
 

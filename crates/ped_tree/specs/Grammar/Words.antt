@@ -1,5 +1,5 @@
 -- Words of statements: names, numerals, and the names of the intrinsic functions (ANSI X3.9-1978, section 2.2).
-use Rattle.std.specs.Prelude.{ℕ, List, [], ◌∷◌, Bool, false, ◌&&◌, ◌||◌, ◌==◌, nat_le, length, codes, Option, Some, None, if◌then◌else◌}
+use Rattle.std.specs.Prelude.{ℕ, List, [], ◌∷◌, Bool, false, ◌&&◌, ◌||◌, nat_le, length, codes, Option, Some, None, if◌then◌else◌}
 use Rattle.std.specs.List.{list_all}
 use Rattle.std.specs.Str.Parse.{digits_value}
 use Rattle.ped_base.specs.Letters
@@ -7,10 +7,11 @@ use Rattle.ped_base.specs.Lists.{is_same_text}
 use Rattle.ped_base.specs.Letters.{is_digit}
 use Rattle.ped_tree.specs.declared.expressions.Intrinsic.{Intrinsic}
 use Rattle.ped_tree.specs.declared.expressions.Intrinsic.TheVariants.{Mod, Abs, Max, Min}
+use Rattle.ped_tree.specs.Grammar.LimitNumbers.{most_name}
 
--- a name: a letter, and at most five letters and digits behind it
+-- a name: a letter and letters and digits behind it, 31 characters at most (ANSI X3.9-1978, section 2.2; this project)
 abbrev pub is_name : List ℕ → Bool
-is_name x = Letters.is_name x && nat_le (length x) 6
+is_name x = Letters.is_name x && nat_le (length x) most_name
 
 -- a numeral: one digit or more (ANSI X3.9-1978, section 4.3.1)
 abbrev pub is_numeral : List ℕ → Bool

@@ -3,6 +3,7 @@
 
 ghost use Rattle.std.specs.Prelude.{◌≡◌, [], ℕ, List, Some, None, false};
 ghost use Rattle.ped_tree.specs.Tree.{ProgramTree};
+ghost use Rattle.ped_tree.specs.Grammar.Former.{FormerReads};
 ghost use Rattle.ped_tree.specs.Grammar.Reading.{OneItem, Reads, Refuses};
 ghost use Rattle.ped_tree.specs.Grammar.Refusal.{Finding, first_of, is_before, IsAmong};
 
@@ -25,4 +26,10 @@ pub fn one_refusal()
 /// which `one_item` of ped_statements proves.
 pub fn tree_or_refusal()
     ensures { OneItem → (text : List ℕ) (t : ProgramTree) (a : Finding) → Reads text t → Refuses text a → ⊥ }
+{}
+
+/// A text that read as a tree in the former source form, where names had at most six characters and each DO had a
+/// label, reads as the same tree.
+pub fn former_texts_read()
+    ensures { (text : List ℕ) (t : ProgramTree) → FormerReads text t → Reads text t }
 {}

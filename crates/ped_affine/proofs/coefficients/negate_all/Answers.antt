@@ -1,4 +1,4 @@
-use Rattle.std.proofs.Common.{◌≡◌, ◌≤◌, ◌^◌, length, map, get_or, subst, neg_ℤ, ℤ, pos, ◌-ℤ◌, unsigned_abs, to_z, of_z, w64, arith}
+use Rattle.std.proofs.Common.{◌≡◌, ◌≤◌, ◌^◌, get_or, neg_ℤ, ℤ, pos, ◌-ℤ◌, unsigned_abs, to_z, of_z, w64, arith}
 use Rattle.std.proofs.lemmas.Int.{ints}
 use Rattle.ped_views.specs.Limits.{IsSmallCoefficient}
 use Rattle.ped_affine.proofs.CoefficientSteps.{rest_step, rest_first, negated_step}

@@ -13,9 +13,6 @@ use Rattle.ped_flow.proofs.OutsideSteps.{first_reader-append}
 use Rattle.ped_flow.proofs.PartSums.{same_part, next_least}
 use Rattle.ped_flow.proofs.row_events.reading.Goals as goal
 
-pub then-requires : goal.then-requires
-then-requires c = c.loop-left.invariant.width ∙ sym (c.in_ok-item.ensures 0).width
-
 pub loop-left-init : goal.loop-left-init
 loop-left-init c =
     let is = c.in_ok-part.ensures (names_in c.args.places.now) (sym c.len.ensures) in
@@ -23,7 +20,7 @@ loop-left-init c =
 
 pub loop-left-preserved : goal.loop-left-preserved
 loop-left-preserved c = record {
-  width = c.then.ensures.width ∙ c.loop-left.invariant.width;
+  width = c.add_item.ensures.width ∙ c.loop-left.invariant.width;
   part = λ n.
       let names = names_in c.args.places.now in
       let cs = constants_in c.args.places.now in
@@ -35,7 +32,7 @@ loop-left-preserved c = record {
       record {
         sum = λ x. sum_in_turn (i.sum x) (sum_events x (left_events cs n e));
         outside = λ x. least_of (i.outside x) (first_reader x (left_events cs n e));
-        is = c.in_ok-then.ensures.part names _ _ _ _ _ _ i.is (c.in_ok-item.ensures n);
+        is = c.in_default.ensures.part n i.sum i.outside i.is;
         sums = λ x. next_in_turn (i.sum x) _ _ (sum_events x (left_events cs n e)) (sum_events x rest) (sum_events x others) (i.sums x) (ap (sum_events x) parts ∙ events-append x (left_events cs n e) others) refl;
         loose = λ x. next_least (i.outside x) _ _ (first_reader x (left_events cs n e)) (first_reader x rest) (first_reader x others) (i.loose x) (ap (first_reader x) parts ∙ first_reader-append x (left_events cs n e) others) refl;
       };

@@ -1,18 +1,12 @@
-use Rattle.std.proofs.Common.{Bool, sym, ap, subst, ◌∙◌, if◌then◌else◌}
-use Rattle.ped_tree.specs.Views.{stmt_trees}
-use Rattle.ped_affine.specs.ped_refs.specs.Loops.{head_of}
-use Rattle.ped_flow.specs.Events.{clears, copied}
-use Rattle.ped_flow.specs.Summaries.{passing, of_manner}
-use Rattle.ped_flow.specs.Rows.{Holds}
-use Rattle.ped_flow.specs.declared.summaries.Summary.{Summary}
-use Rattle.ped_flow.proofs.SumLaws.{cleared}
+use Rattle.std.proofs.Common.{sym, ◌∙◌}
+use Rattle.ped_flow.proofs.EventRows.{if_ok}
 use Rattle.ped_flow.proofs.row_loops.iterating.Goals as goal
 
+pub followed-requires : goal.followed-requires
+followed-requires c = c.in_ok-start.ensures.width ∙ sym c.requires
+
+pub returns-clause-width : goal.returns-clause-width
+returns-clause-width c = if_ok c.followed.result (λ r wide. wide ∙ c.in_ok-start.ensures.width) c.followed.ensures.width
+
 pub returns-clause-held : goal.returns-clause-held
-returns-clause-held c = λ n f o k x i at.
-    let names = copied (head_of c.args.d.now) (stmt_trees c.args.d.now.body.items) in
-    c.in_ok-then.ensures.held i _ (f x)
-    (subst (λ (m : Summary). Holds c.in_ok-iteration.iteration i m)
-    (ap (λ (b : Bool). if b then of_manner clears 0 else passing) (c.in_ok-copies.ensures.row k.indices x i at) ∙ sym (cleared x n names))
-    (c.in_ok-iteration.ensures.held i))
-    (k.sums x i at)
+returns-clause-held c = if_ok c.followed.result (λ r made n f o k x i at. made i _ (f x) (c.in_ok-start.ensures.held n k.indices x i at) (k.sums x i at)) c.followed.ensures.held

@@ -1,4 +1,4 @@
-use Rattle.std.proofs.Common.{[], ◌∷◌, sym}
+use Rattle.std.proofs.Common.{sym}
 use Rattle.ped_flow.specs.RowMarks.{names_in}
 use Rattle.ped_flow.proofs.EventRows.{row_marked, marked_wide}
 use Rattle.ped_flow.proofs.row_loops.variable_of.Goals as goal

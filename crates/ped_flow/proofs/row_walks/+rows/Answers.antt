@@ -1,4 +1,4 @@
-use Rattle.std.proofs.Common.{◌≡◌, ◌+◌, ◌<◌, ◌++◌, ℕ, List, [], None, map, drop, refl, sym, ap, subst, ◌∙◌, append_assoc, append-nil, add-zero, arith}
+use Rattle.std.proofs.Common.{◌≡◌, ◌+◌, ◌<◌, ◌++◌, ℕ, List, [], Option, None, map, drop, refl, sym, ap, subst, ◌∙◌, append_assoc, append-nil, add-zero, arith}
 use Rattle.std.specs.Result.{IfOk}
 use Rattle.std.proofs.lemmas.List.{at_drop_all}
 use Rattle.ped_tree.specs.Tree.{StmtTree, StmtTrees, no_stmts}
@@ -10,12 +10,12 @@ use Rattle.ped_tree.specs.declared.statements.PrintItem.{PrintItem}
 use Rattle.ped_tree.specs.declared.statements.Stmt.{Stmt}
 use Rattle.ped_affine.specs.ped_refs.specs.Loops.{head_of}
 use Rattle.ped_affine.specs.Assigned.{loop_variables, all_loop_variables}
-use Rattle.ped_flow.specs.Events.{reads_of, scalars_in_cond}
-use Rattle.ped_flow.specs.Summaries.{passing, sum_in_turn, sum_either, sum_events, least_of, sum_of, sum_of_all}
-use Rattle.ped_flow.specs.Kept.{first_reader, first_outside, all_first_outside}
+use Rattle.ped_flow.specs.Summaries.{passing, sum_in_turn, least_of, sum_of, sum_of_all}
+use Rattle.ped_flow.specs.Kept.{first_outside, all_first_outside}
 use Rattle.ped_flow.specs.RowMarks.{names_in, constants_in}
 use Rattle.ped_flow.specs.Parts.{IsPart}
-use Rattle.ped_flow.specs.Entries.{IsEntry, KnowsAll, KnowsInside, AreSameBut}
+use Rattle.ped_flow.specs.Entries.{IsEntry, Knows, KnowsAll, KnowsInside, AreSameBut}
+use Rattle.ped_flow.specs.declared.entries.Entry.{Entry}
 use Rattle.ped_flow.proofs.SumLaws.{least-none, in_turn-passing}
 use Rattle.ped_flow.proofs.ScalarSteps.{rest_is}
 use Rattle.ped_flow.proofs.WalkSteps.{count_next, walk_next}
@@ -60,28 +60,26 @@ entry_of-returns-in-Read-clause-entry t c =
     subst (λ (z : StmtTree). IfOk c.new-in-Read.result (λ e. IsEntry p e z c.args.number.now)) (sym (ap stmt_tree c.in-Read.is ∙ tree-Read c.in-Read.items ∙ ap (λ (es : List Expr). plain.Read (map expr_tree es)) (sym c.deref-in-Read.ensures.value)))
     (if_ok c.new-in-Read.result (λ e made. made_entry p s c.args.number.now _ _ e made (c.in_ok-part-in-Read.ensures c.args.number.now) (omega arith)) c.new-in-Read.ensures)
 
-pub entry_of-returns-in-If : goal.entry_of-returns-in-If
-entry_of-returns-in-If t c =
+pub entry_of-returns-in-Ok : goal.entry_of-returns-in-Ok
+entry_of-returns-in-Ok t c =
     let p = c.args.places.now in
     let n = c.args.number.now in
     let m = c.all_parts.new.number in
     let a = stmt_trees c.deref-in-If.result.now in
     let b = stmt_trees c.deref-in-If-2.result.now in
     let first = c.in_ok-first-in-If.ensures in
-    let second = c.in_ok-second-in-If.ensures in
+    let second = c.in-Ok.ensures in
     let s = plain.If (cond_tree c.in-If.c) a b in
     let tree : s ≡ stmt_tree c.args.s.now = sym (ap stmt_tree c.in-If.is ∙ tree-If c.in-If.c c.in-If.then_part c.in-If.else_part ∙ (λ j. plain.If (cond_tree c.in-If.c) (stmt_trees (sym c.deref-in-If.ensures.value j)) (stmt_trees (sym c.deref-in-If-2.ensures.value j)))) in
-    let part = subst (λ (k : ℕ). IsPart (names_in p) c.in_ok-part-in-If.part
-    (λ x. sum_in_turn (sum_events x (reads_of n (scalars_in_cond (constants_in p) (cond_tree c.in-If.c)))) (sum_either (sum_of_all (constants_in p) x a (n + 1)) (sum_of_all (constants_in p) x b k)))
-    (λ x. least_of (first_reader x (reads_of n (scalars_in_cond (constants_in p) (cond_tree c.in-If.c)))) (least_of (all_first_outside (constants_in p) x a (n + 1)) (all_first_outside (constants_in p) x b k)))
-    (all_loop_variables a ++ all_loop_variables b)) first.number (c.in_ok-part-in-If.ensures n _ _ _ _ _ _ first.part second.part) in
+    let count = if_count p [] [] [] (cond_tree c.in-If.c) a b n m first.number c.all_parts-in-If.new.number second.number in
+    let behind = subst (λ (k : ℕ). IsPart (names_in p) c.in-Ok.second (λ x. sum_of_all (constants_in p) x b k) (λ x. all_first_outside (constants_in p) x b k) (all_loop_variables b)) first.number second.part in
     record {
-      number = on_ok c.new-in-If.result (if_count p [] [] [] (cond_tree c.in-If.c) a b n m first.number c.all_parts-in-If.new.number second.number ∙ ap (λ (z : StmtTree). n + statement_count z) tree);
-      entry = subst (λ (z : StmtTree). IfOk c.new-in-If.result (λ e. IsEntry p e z n)) tree
-          (if_ok c.new-in-If.result (λ e made. made_entry p s n _ _ e made part (if_count p [] [] [] (cond_tree c.in-If.c) a b n m first.number c.all_parts-in-If.new.number second.number)) c.new-in-If.ensures);
-      known = on_ok c.new-in-If.result (subst (λ (z : StmtTree). KnowsInside p c.all_parts-in-If.new.table z n) tree
+      number = on_ok c.branches_entry.result (count ∙ ap (λ (z : StmtTree). n + statement_count z) tree);
+      entry = subst (λ (z : StmtTree). IfOk c.branches_entry.result (λ e. IsEntry p e z n)) tree
+          (if_ok c.branches_entry.result (λ e made. made n a b first.part behind count) c.branches_entry.ensures);
+      known = on_ok c.branches_entry.result (subst (λ (z : StmtTree). KnowsInside p c.all_parts-in-If.new.table z n) tree
           (if_known p [] c.all_parts.new.table c.all_parts-in-If.new.table (cond_tree c.in-If.c) a b n m first.number first.known second.known second.others));
-      others = on_ok c.new-in-If.result (subst (λ (z : StmtTree). AreSameBut c.args.table.now c.all_parts-in-If.new.table (n + 1) (n + statement_count z)) tree
+      others = on_ok c.branches_entry.result (subst (λ (z : StmtTree). AreSameBut c.args.table.now c.all_parts-in-If.new.table (n + 1) (n + statement_count z)) tree
           (if_others p c.args.table.now c.all_parts.new.table c.all_parts-in-If.new.table (cond_tree c.in-If.c) a b n m first.number first.others second.others));
     }
 
@@ -120,13 +118,13 @@ add_part-returns-then-not-is_numbered t c =
       others = λ k h. refl;
     }
 
-pub add_part-bounds-table-own : goal.add_part-bounds-table-own
-add_part-bounds-table-own t c =
+pub add_part-keep-requires : goal.add_part-keep-requires
+add_part-keep-requires t c =
     let some : 0 < statement_count (stmt_tree c.args.s.now) = c.is_numbered.ensures.0 c.if-not-is_numbered.false in
     omega (arith, some, c.requires.room, c.entry_of.auto.table)
 
-pub add_part-returns : goal.add_part-returns
-add_part-returns t c =
+pub add_part-returns-in-Ok : goal.add_part-returns-in-Ok
+add_part-returns-in-Ok t c =
     let p = c.args.places.now in
     let s = stmt_tree c.args.s.now in
     let n = c.args.number.now in
@@ -134,9 +132,11 @@ add_part-returns t c =
     let some : 0 < statement_count s = c.is_numbered.ensures.0 c.if-not-is_numbered.false in
     record {
       number = e.number;
-      part = λ f o u h. c.in_ok-then.ensures.part (names_in p) f _ o _ u _ h e.entry.part;
-      known = knows_written p c.entry_of.new.table s n c.in_ok-entry.entry (omega (arith, some, c.requires.room, c.entry_of.auto.table)) e.entry e.known;
-      others = same_written c.args.table.now c.entry_of.new.table n (n + statement_count s) c.in_ok-entry.entry (omega (arith, some)) e.others;
+      part = λ f o u h. c.in-Ok.ensures.part (names_in p) f _ o _ u _ h e.entry.part;
+      known = subst (λ (table : List (Option Entry)). Knows p table s n) (sym c.keep.ensures)
+          (knows_written p c.entry_of.new.table s n c.in_ok-entry.entry (omega (arith, some, c.requires.room, c.entry_of.auto.table)) e.entry e.known);
+      others = subst (λ (table : List (Option Entry)). AreSameBut c.args.table.now table n (n + statement_count s)) (sym c.keep.ensures)
+          (same_written c.args.table.now c.entry_of.new.table n (n + statement_count s) c.in_ok-entry.entry (omega (arith, some)) e.others);
     }
 
 pub all_parts-loop-s-init : goal.all_parts-loop-s-init
@@ -164,7 +164,7 @@ all_parts-loop-s-preserved t c =
     let n = c.loop-s.number in
     let m = c.add_part.new.number in
     let inv = c.loop-s.invariant in
-    let add = c.in_ok-add_part.ensures in
+    let add = c.in_default.ensures in
     let tree = ap stmt_trees (rest_is body i s c.loop-s-test.true c.s-item.is) in
     record {
       number = count_next cs [] body i s c.loop-s-test.true c.s-item.is n m add.number _ inv.number;

@@ -18,9 +18,9 @@ returns c =
     let program = c.args.program.now in
     let start = map line_of c.new-lines.result.items in
     let first = map line_of c.push_decls.new.lines.items in
-    joined (flat_map decl_lines (map decl_tree program.decls.items)) (statements_lines 0 1 0 (stmt_trees program.body.items)) (text_lines None 0 (codes "END"))
+    joined (flat_map decl_lines (map decl_tree program.decls.items)) (statements_lines 0 1 (stmt_trees program.body.items)) (text_lines None 0 (codes "END"))
     start first (map line_of c.push_statements.new.lines.items) (map line_of c.push_words.new.lines.items)
     (ap (map line_of) c.new-lines.ensures.items)
     (c.in_ok-push_decls.ensures ∙ ap (λ (d : List Decl). start ++ flat_map decl_lines (map decl_tree d)) c.deref.ensures.value)
-    (c.in_ok-push_statements.ensures.lines ∙ ap (λ (s : List Stmt). first ++ statements_lines 0 1 0 (stmt_trees s)) c.deref-2.ensures.value)
+    (c.in_ok-push_statements.ensures.lines ∙ ap (λ (s : List Stmt). first ++ statements_lines 0 1 (stmt_trees s)) c.deref-2.ensures.value)
     c.in_ok-push_words.ensures.lines

@@ -48,3 +48,8 @@ returns c =
     let t = program_tree c.args.program.now in
     let m = most_is in
     sym (none_free t c.loop-n.n (omega (arith, m, c.loop-n-test.false))) ∙ c.loop-n.invariant.free
+
+pub loop-n-smaller : goal.loop-n-smaller
+loop-n-smaller c =
+    let m = most_is in
+    omega (arith, m, c.loop-n-test.true)

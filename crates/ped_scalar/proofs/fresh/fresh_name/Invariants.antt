@@ -8,3 +8,6 @@ invariant-loop-n l = record {
   free : first_free (program_tree l.program) (numbered_names l.n (most_numbered + 1 - l.n)) ≡ fresh_name (program_tree l.program);
   within : l.n ≤ most_numbered + 1;
 }
+
+abbrev pub decreases-loop-n : goal.decreases-loop-n
+decreases-loop-n l = most_numbered + 1 - l.n

@@ -1,5 +1,4 @@
-use Rattle.std.proofs.Common.{◌≡◌, ◌^◌, true, ℤ, unsigned_abs, sym, ◌∙◌, to_z, of_z, w64, arith, rules, FitsSigned}
-use Rattle.std.specs.Int.{w128}
+use Rattle.std.proofs.Common.{◌≡◌, true, sym, ◌∙◌, arith}
 use Rattle.std.proofs.lemmas.Int.{ints, to_z-of_z}
 use Rattle.ped_affine.specs.Ranges.{is_near}
 use Rattle.ped_affine.specs.KeptForms.{unknowns_of}

@@ -1,4 +1,4 @@
-use Rattle.std.proofs.Common.{ap, ◌∙◌, ◌+ℤ◌, rules}
+use Rattle.std.proofs.Common.{ap, ◌∙◌, ◌+ℤ◌}
 use Rattle.ped_affine.specs.AffineForms.{combination}
 use Rattle.ped_affine.specs.KeptForms.{unknowns_of, kept}
 use Rattle.ped_affine.proofs.FormLaws.{difference_is}

@@ -1,4 +1,4 @@
-use Rattle.std.proofs.Common.{◌≡◌, ℕ, ◌+◌, ◌++◌, List, length, map, replicate, ℤ, pos, ap, ◌∙◌, arith, rules, w64, FitsSigned}
+use Rattle.std.proofs.Common.{◌≡◌, ℕ, ◌+◌, ◌++◌, List, length, replicate, ℤ, pos, ap, ◌∙◌, arith, rules, w64, FitsSigned}
 use Rattle.std.proofs.lemmas.Int.{to_z-of_z}
 use Rattle.std.proofs.lemmas.Grind.{common_steps}
 use Rattle.std.proofs.lemmas.List.{length-map, length-append}
@@ -6,7 +6,7 @@ use Rattle.ped_tree.specs.Nests.{Loop, indices_of}
 use Rattle.ped_refs.specs.Loops.{nest_of, loop_of}
 use Rattle.ped_refs.specs.declared.loops.Loop.{Loop as CodeLoop}
 use Rattle.ped_affine.specs.KeptForms.{unknowns_of}
-use Rattle.ped_affine.proofs.FormLaws.{filled_is, filled_complete, nil_of}
+use Rattle.ped_affine.proofs.FormLaws.{filled_is, nil_of}
 use Rattle.ped_affine.proofs.forms.Terms.filled.Goals as goal
 
 -- how many unknowns there are

@@ -1,8 +1,8 @@
-use Rattle.std.proofs.Common.{◌≡◌, map, length, All, subst, true, ℤ, ◌*ℤ◌, sym, ap, ◌∙◌, arith, rules, w64, FitsSigned}
+use Rattle.std.proofs.Common.{◌≡◌, map, length, All, subst, true, ℤ, ◌*ℤ◌, sym, ap, ◌∙◌, rules, w64, FitsSigned}
 use Rattle.std.specs.Int.{w128}
 use Rattle.std.specs.List.{list_all}
 use Rattle.std.proofs.lemmas.Int.{to_z-of_z}
-use Rattle.std.proofs.lemmas.List.{with_items_is, length-map}
+use Rattle.std.proofs.lemmas.List.{with_items_is}
 use Rattle.ped_views.specs.Limits.{IsSmallConstant, IsSmallCoefficient}
 use Rattle.ped_affine.specs.Ranges.{is_near}
 use Rattle.ped_affine.specs.AffineForms.{is_small}

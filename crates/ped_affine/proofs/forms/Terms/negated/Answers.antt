@@ -1,7 +1,6 @@
-use Rattle.std.proofs.Common.{◌≡◌, map, length, All, subst, ℤ, neg_ℤ, sym, ap, ◌∙◌, arith}
+use Rattle.std.proofs.Common.{◌≡◌, map, length, All, subst, neg_ℤ, sym, ap, ◌∙◌, arith}
 use Rattle.std.proofs.lemmas.Int.{ints}
 use Rattle.std.proofs.lemmas.List.{with_items_is, length-map}
-use Rattle.std.specs.Vec.{with_items}
 use Rattle.ped_views.specs.Limits.{IsSmallCoefficient}
 use Rattle.ped_affine.specs.KeptForms.{unknowns_of}
 use Rattle.ped_affine.proofs.FormLaws.{opposite_is, complete_again, negations_small}

@@ -1,10 +1,10 @@
-use Rattle.std.proofs.Common.{◌≡◌, false, true, sym, ap, ◌∙◌, rules, FitsSigned, w64, Some}
+use Rattle.std.proofs.Common.{◌≡◌, false, true, sym, ap, ◌∙◌, rules, FitsSigned, w64}
 use Rattle.std.specs.List.{list_all}
 use Rattle.std.proofs.lemmas.Int.{to_z-of_z}
 use Rattle.ped_views.specs.Whole.{is_zero}
 use Rattle.ped_affine.specs.AffineForms.{is_constant_form, product}
 use Rattle.ped_affine.specs.KeptForms.{unknowns_of, kept, form_kept}
-use Rattle.ped_affine.proofs.FormLaws.{product_first, product_second, product_none, coefficients_zero}
+use Rattle.ped_affine.proofs.FormLaws.{product_first, product_second, coefficients_zero}
 use Rattle.ped_affine.proofs.forms.Terms.product.Goals as goal
 
 pub multiple-requires-clause-form : goal.multiple-requires-clause-form

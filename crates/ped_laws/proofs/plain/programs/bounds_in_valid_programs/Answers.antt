@@ -1,11 +1,9 @@
-use Rattle.std.proofs.Common.{◌≡◌, List, true, refl, sym, ap, ◌∙◌, ◌⊎◌, inl, inr}
+use Rattle.std.proofs.Common.{◌≡◌, true, refl, ap, ◌∙◌, ◌⊎◌, inl, inr}
 use Rattle.std.specs.Str.Lines.{lines}
-use Rattle.ped_flow.specs.ped_tree.specs.Tree.{ExprTree, Head, ProgramTree}
+use Rattle.ped_flow.specs.ped_tree.specs.Tree.{ExprTree, Head}
 use Rattle.ped_flow.specs.ped_tree.specs.Grammar.Fits.{expr_fits}
-use Rattle.ped_graph.specs.ped_symbols.specs.NameRefusals.{IsValid}
 use Rattle.ped_eval.specs.ped_store.specs.Stores.{store_at_start}
 use Rattle.ped_eval.specs.Outcomes.{setting_of}
-use Rattle.ped_flow.specs.Questions.{LoopOf}
 use Rattle.ped_laws.proofs.PlainLaws.Standing.{value_during}
 use Rattle.ped_laws.proofs.PlainLaws.ValidPrograms.{loop_bounds_fit, no_stop_in_loops, have_values}
 use Rattle.ped_laws.proofs.plain.programs.bounds_in_valid_programs.Goals as goal

@@ -13,7 +13,6 @@ returns c = record {
   phase = search rules;
   blocks = sym c.in_ok-take_on.ensures;
   statements = counted c.args.self.statements (Spec.numbered_in (item_of c.args.item.now)) c.numbered_in.result c.saturating_add.result c.numbered_in.ensures c.saturating_add.ensures;
-  loops = ap (λ (n : ℕ). c.args.self.loops + n) (sym c.loops_in.ensures);
   constants = λ x. sym (c.in_ok-add_constants.ensures x);
   saves_names = search rules;
   saves_everything = search rules;

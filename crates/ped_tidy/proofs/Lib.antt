@@ -1,0 +1,13 @@
+pub mod UnrejectedTrees
+pub mod UnrejectedEdges
+pub mod TidyPathsSums
+pub mod TidyPathsStops
+pub mod TidyPathsGaps
+pub mod TidyPathsBut
+pub mod TidyPathsPassed
+pub mod TidyPathsShown
+pub mod TidyPathsInside
+pub mod TidyReferences
+pub mod TidyReferencesFilled
+pub mod TidyReferencesGaps
+pub mod ExchangedShown

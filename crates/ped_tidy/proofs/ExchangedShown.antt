@@ -19,6 +19,7 @@ use Rattle.ped_tidy.proofs.TidyPathsSums.{Summary, no_more, no_more_by, unreache
 use Rattle.ped_tidy.proofs.TidyPathsGaps.{IsOutside, gap_from, followed_behind, all_behind_none}
 use Rattle.ped_tidy.proofs.TidyPathsShown.{shown_by}
 use Rattle.ped_tidy.proofs.TidyPathsBut.{IsNoMoreBut, both_more}
+use Rattle.ped_tidy.proofs.Comments.{without_comments}
 use Rattle.ped_tidy.proofs.TidyPathsPassed.{IsPassed, gap_left_behind}
 
 -- what is shown where the paths from the exit of a DO leave no more than those from the exits of two others in another program
@@ -91,9 +92,10 @@ module _ (x : Exchange) (t u : ProgramTree) (w : List ℕ) (is : IsExchanged x t
   in_programs : (k m : ℕ) → Before k m → Behind k m → IsNoMoreBut (sum_behind_all (constant_names u.decls) w m u.body 1) (sum_behind_all cs w k t.body 1) (sum_behind_all cs w (loop_of x) t.body 1)
   in_programs k m before behind =
       subst (λ (names : List (List ℕ)). IsNoMoreBut (sum_behind_all names w m u.body 1) (sum_behind_all cs w k t.body 1) (sum_behind_all cs w (loop_of x) t.body 1)) (sym is.constants)
+      (subst (λ (a : Summary). IsNoMoreBut a (sum_behind_all cs w k t.body 1) (sum_behind_all cs w (loop_of x) t.body 1)) (without_comments cs w m is.comments u.body 1 is.uncounted)
       (subst (λ (ts : StmtTrees). IsNoMoreBut (sum_behind_all cs w m ts 1) (sum_behind_all cs w k t.body 1) (sum_behind_all cs w (loop_of x) t.body 1)) (sym is.new_body)
       (subst (λ (ts : StmtTrees). IsNoMoreBut (sum_behind_all cs w m (filled x.gap x.new) 1) (sum_behind_all cs w k ts 1) (sum_behind_all cs w (loop_of x) ts 1)) (sym is.old_body)
-      (gap_left_behind cs w x.new (old_of x) (start_of x) (loop_of x) passed k m before behind x.gap 1 (omega arith) refl)))
+      (gap_left_behind cs w x.new (old_of x) (start_of x) (loop_of x) passed k m before behind x.gap 1 (omega arith) refl))))
 
   before_staying : (k m : ℕ) → IsStaying x k m → Before k m
   before_staying k m (inl p) i a b = ap (λ (z : ℕ). z == i) p.1

@@ -10,4 +10,10 @@ pub mod TidyPathsInside
 pub mod TidyReferences
 pub mod TidyReferencesFilled
 pub mod TidyReferencesGaps
+pub mod Comments
+pub mod WrittenIndices
+pub mod TidyPathsPrivate
 pub mod ExchangedShown
+pub mod ExchangedDos
+pub mod ExchangedTidy
+pub mod Examples

@@ -7,4 +7,4 @@ mod tidiness;
 
 pub use ped_steps;
 pub use rejections::{none_rejected, stays_unrejected};
-pub use tidiness::shown_behind_gap;
+pub use tidiness::{private_names_cleared, shown_behind_gap, stays_tidy, stays_trusted};

@@ -18,8 +18,8 @@ ghost use Rattle.ped_bodies.specs.Moving.{own_number, is_cell_among, moved_behin
 ghost use Rattle.ped_bodies.specs.Rewriting.{MayBeRewritten};
 ghost use Rattle.ped_bodies.specs.Standing.{SettingsAgree, GoLikewise};
 
-/// A body does likewise in another iteration: of the same loop, where that is reversed; of the first of the loops into
-/// which it is distributed; of a strip; of what is left of a loop behind a peeled iteration; and of two loops that are
+/// A body does likewise in another iteration: of the same loop, where that is reversed; of another loop, as where it is
+/// distributed; of a strip; of what is left of a loop behind a peeled iteration; and of two loops that are
 /// interchanged. In the order of the clauses.
 pub fn bodies_in_other_iterations()
     ensures reversed { (p q : Setting) (ts : StmtTrees) (n m : ℕ) (scope : Scope) (l k : ℕ) (r z : Frame) → SettingsAgree own_number p q ts n m → r.turn.statement ≡ l → z.turn.statement ≡ l → z.turn.number ≡ k + 1 - r.turn.number → TellAlike r z → z.private ≡ r.private

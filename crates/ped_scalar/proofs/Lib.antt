@@ -20,4 +20,4 @@ pub mod WrittenThere
 pub mod VariablesRound
 pub mod KeptByExpanding
 pub mod TidyKept
-pub mod UnrejectedSteps
+mod UnrejectedSteps

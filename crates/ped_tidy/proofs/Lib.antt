@@ -1,19 +1,19 @@
 pub mod UnrejectedTrees
-pub mod UnrejectedEdges
+mod UnrejectedEdges
 pub mod TidyPathsSums
 pub mod TidyPathsStops
 pub mod TidyPathsGaps
-pub mod TidyPathsBut
-pub mod TidyPathsPassed
+mod TidyPathsBut
+mod TidyPathsPassed
 pub mod TidyPathsShown
 pub mod TidyPathsInside
 pub mod TidyReferences
 pub mod TidyReferencesFilled
 pub mod TidyReferencesGaps
-pub mod Comments
-pub mod WrittenIndices
-pub mod TidyPathsPrivate
-pub mod ExchangedShown
-pub mod ExchangedDos
-pub mod ExchangedTidy
-pub mod Examples
+mod Comments
+mod WrittenIndices
+mod TidyPathsPrivate
+mod ExchangedShown
+mod ExchangedDos
+mod ExchangedTidy
+mod Examples

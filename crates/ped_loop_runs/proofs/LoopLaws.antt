@@ -1,0 +1,5 @@
+-- Lemmas of one loop in the runs of a program.
+pub mod Carrying
+pub mod Nested
+pub mod Trips
+pub mod PlainReads

@@ -1,0 +1,9 @@
+//! Cut and paste: laws by which a program in which statements have been exchanged for others does what the old one did,
+//! with new acts in the place of each execution of the old statements. Each function here does nothing; its contract is
+//! the law, and docs/MEANING.md tells what the laws are for.
+#![tactic(auto)]
+
+mod executions;
+
+pub use executions::{executions_pasted, parts_stand};
+pub use ped_steps;

@@ -1,0 +1,15 @@
+//! Laws of lists of acts for steps that rewrite loops: parts exchanged where stores may differ on some cells, lists woven
+//! anew of blocks and controls, and where accesses come from. No function here does anything; its contract is the law,
+//! and docs/MEANING.md tells what the laws are for.
+#![tactic(auto)]
+
+mod apart;
+mod puttings;
+mod sources;
+mod weaves;
+
+pub use apart::{agreed_sets, parts_apart, standing_pieces};
+pub use ped_laws;
+pub use puttings::{act_for_act, kept_part};
+pub use sources::comes_free;
+pub use weaves::{counted_acts, trips_reordered, weaving, woven_rows};

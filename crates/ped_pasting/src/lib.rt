@@ -3,7 +3,11 @@
 //! the law, and docs/MEANING.md tells what the laws are for.
 #![tactic(auto)]
 
+mod copies;
 mod executions;
+mod meaning;
 
+pub use copies::copies_inside;
 pub use executions::{executions_pasted, parts_stand};
+pub use meaning::exchanged_keeps;
 pub use ped_steps;

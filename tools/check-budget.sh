@@ -15,8 +15,8 @@ most_crates_with_edits=12
 most_test_lines=250
 most_crates_with_tests=2
 most_ways=5000
-most_lemma_files=136
-most_lemma_imports=654
+most_lemma_files=139
+most_lemma_imports=665
 most_needless_doors=121
 
 edits() {

@@ -1,4 +1,5 @@
 -- Lemmas of cut and paste.
+pub mod CountedNumbers
 pub mod JoinedParts
 pub mod LeftCopies
 pub mod KeptMeaning

@@ -3,3 +3,4 @@ pub mod Executions
 pub mod Copies
 pub mod Pasting
 pub mod Meaning
+pub mod Numbers

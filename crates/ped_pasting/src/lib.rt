@@ -6,8 +6,10 @@
 mod copies;
 mod executions;
 mod meaning;
+mod numbers;
 
 pub use copies::copies_inside;
 pub use executions::{executions_pasted, parts_stand};
-pub use meaning::exchanged_keeps;
+pub use meaning::{exchanged_keeps, suiting_sets};
+pub use numbers::numbers_kept;
 pub use ped_steps;

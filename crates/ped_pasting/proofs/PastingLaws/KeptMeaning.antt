@@ -1,5 +1,5 @@
 -- A program in which statements have been exchanged for others keeps its meaning, where a step shows what it has to.
-use Rattle.std.proofs.Common.{◌≡◌, ℕ, List, [], ◌∷◌, ◌++◌, map, Bool, true, false, ◌||◌, ◌⊎◌, refl, sym, ap, subst, ◌∙◌}
+use Rattle.std.proofs.Common.{◌≡◌, ℕ, List, [], ◌∷◌, ◌++◌, map, Bool, true, not, ◌||◌, inl, inr, refl, sym, ap, subst, ◌∙◌}
 use Rattle.std.specs.Str.Lines.{lines}
 use Rattle.std.specs.List.{flat_map}
 use Rattle.ped_steps.specs.ped_flow.specs.ped_base.specs.Lists.{is_same_text, is_among}
@@ -12,19 +12,19 @@ use Rattle.ped_laws.specs.ped_store.specs.Variables.{values_of}
 use Rattle.ped_laws.specs.ped_store.specs.Acts.{Act}
 use Rattle.ped_laws.specs.ped_store.specs.Races.{accesses, HasNoRace}
 use Rattle.ped_laws.specs.Acts.Fitting.{Fits, store_after, touches_of, of_cells}
-use Rattle.ped_laws.specs.Acts.Sets.{AgreeIn}
+use Rattle.ped_laws.specs.Acts.Sets.{AgreeIn, wants}
 use Rattle.ped_laws.specs.Acts.Pieces.{Part, same, changed, old_parts, new_parts, StandsFor}
 use Rattle.ped_laws.proofs.ActLaws.SameCells.{text_itself}
 use Rattle.ped_laws.proofs.ActLaws.Stores.{after_append, fits_append, fits_first, fits_rest}
-use Rattle.ped_laws.proofs.ActLaws.Renamings.{own_names}
-use Rattle.ped_laws.proofs.ActLaws.Exchanging.{same_stands}
+use Rattle.ped_laws.proofs.ActLaws.Renamings.{or_left, or_right, or_either, own_names}
+use Rattle.ped_laws.proofs.ActLaws.Exchanging.{same_stands, needed_wanted, wanted_before, shown_wanted}
 use Rattle.ped_laws.specs.ped_graph.specs.ped_symbols.specs.Kinds.{kind_in}
 use Rattle.ped_laws.specs.Runs.Showing.{shown_at_end}
 use Rattle.ped_laws.specs.Runs.Replaying.{Finish, goes_on, stops, faults, finish_of, ending_with}
 use Rattle.ped_laws.proofs.RunLaws.Shown.{outcome_same}
 use Rattle.ped_laws.proofs.RunLaws.Told.{own_run}
 use Rattle.ped_laws.proofs.RunLaws.StatementsTold.{all_told}
-use Rattle.ped_laws.specs.ped_eval.specs.Scopes.{Setting, Scope}
+use Rattle.ped_laws.specs.ped_eval.specs.Scopes.{Setting}
 use Rattle.ped_laws.specs.ped_eval.specs.Loops.{sorted_once}
 use Rattle.ped_laws.specs.ped_eval.specs.Runs.{Ending, going, stopped, failed, Run, run_all}
 use Rattle.ped_laws.specs.ped_eval.specs.Outcomes as outcomes
@@ -33,7 +33,7 @@ use Rattle.ped_steps.specs.Runs.Gaps.{Gap, number_at}
 use Rattle.ped_steps.specs.Runs.Meaning.{Keeps}
 use Rattle.ped_steps.specs.Runs.Renumbering.{IsRenumbered, renumbered}
 use Rattle.ped_steps.proofs.RunLaws.RenumberedPrograms.{program_renumbered, ends_back, no_race_back, outcome_renumbered}
-use Rattle.ped_pasting.specs.Pasting.{PartsStandBy, AreExchanged}
+use Rattle.ped_pasting.specs.Pasting.{PartsStandBy}
 use Rattle.ped_pasting.specs.Meaning.{SuitEnds, IsExchange}
 use Rattle.ped_pasting.proofs.PastingLaws.PastedRuns.{Exchanged, exchanged}
 use Rattle.ped_pasting.proofs.PastingLaws.StandingParts.{all_stand}
@@ -68,12 +68,19 @@ ends_so goes_on v w h = tt
 ends_so stops v w h = tt
 ends_so (faults fault n) v w h = absurd h
 
-or_left : (a b : Bool) → a ≡ true → (a || b) ≡ true
-or_left a b h = ap (λ (z : Bool). z || b) h
+-- what acts want suits, and so does all that doesn't stand apart, and of the rest what they want
+pub wanted_suit : (shown : Cell → Bool) → SuitEnds shown (wants shown)
+wanted_suit shown = record { needed = needed_wanted shown; kept = wanted_before shown; shows = shown_wanted shown }
 
-or_right : (a b : Bool) → b ≡ true → (a || b) ≡ true
-or_right true b h = refl
-or_right false b h = h
+pub apart_suit : (apart shown : Cell → Bool) → SuitEnds shown (λ acts c. not (apart c) || wants shown acts c)
+apart_suit apart shown = record {
+  needed = λ acts rest c h. or_right (not (apart c)) (wants shown (acts ++ rest) c) (needed_wanted shown acts rest c h);
+  kept = λ acts rest c h. elim (or_either (not (apart c)) (wants shown rest c) h) [
+    | inl other ↦ inl (or_left (not (apart c)) (wants shown (acts ++ rest) c) other)
+    | inr wanted ↦ elim (wanted_before shown acts rest c wanted) [ inl so ↦ inl (or_right (not (apart c)) (wants shown (acts ++ rest) c) so) | inr written ↦ inr written ]
+  ];
+  shows = λ c h. or_right (not (apart c)) (wants shown [] c) (shown_wanted shown c h);
+}
 
 -- names of the same kinds have the same rows
 module _ (t u : ProgramTree) (saved : flat_map outcomes.saved_in u.decls ≡ flat_map outcomes.saved_in t.decls) (kinds : (x : List ℕ) → is_among x (live_names t) ≡ true → kind_in u x ≡ kind_in t x) where

@@ -1,15 +1,15 @@
 -- Copies that belong to iterations inside an execution: no other act touches them, so they are undefined before it and not wanted behind it.
-use Rattle.std.proofs.Common.{◌≡◌, ℕ, List, [], ◌∷◌, ◌++◌, Bool, true, false, ◌&&◌, ◌||◌, refl, sym, ap, ◌∙◌, arith}
+use Rattle.std.proofs.Common.{◌≡◌, ℕ, List, Bool, true, false, ◌&&◌, ◌||◌, refl, sym, ap, ◌∙◌}
 use Rattle.std.specs.Prelude.{not}
 use Rattle.std.proofs.lemmas.Bool.{both_ways}
 use Rattle.ped_tree.specs.Tree.{StmtTrees, ProgramTree}
-use Rattle.ped_laws.specs.ped_store.specs.Cells.{Cell, Private}
-use Rattle.ped_laws.specs.ped_store.specs.Stores.{Content, Undefined, Number, Lines, Store, store_at_start}
+use Rattle.ped_laws.specs.ped_store.specs.Cells.{Cell}
+use Rattle.ped_laws.specs.ped_store.specs.Stores.{Undefined, Number, Store, store_at_start}
 use Rattle.ped_laws.specs.ped_store.specs.Acts.{Act}
 use Rattle.ped_laws.specs.ped_store.specs.Races.{is_lines}
-use Rattle.ped_laws.specs.Acts.Fitting.{touches_of, store_after}
+use Rattle.ped_laws.specs.Acts.Fitting.{touches_of}
 use Rattle.ped_laws.specs.Acts.Renaming.{touch}
-use Rattle.ped_laws.specs.Acts.Sets.{needs, written, wants}
+use Rattle.ped_laws.specs.Acts.Sets.{needs, written}
 use Rattle.ped_laws.proofs.ActLaws.Renamings.{needed_touched, written_touched, after_other}
 use Rattle.ped_laws.specs.Runs.Replaying.{finish_of, has_fault}
 use Rattle.ped_laws.proofs.RunLaws.Defined.{numbers_needed}

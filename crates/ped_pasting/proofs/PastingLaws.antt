@@ -1,5 +1,8 @@
 -- Lemmas of cut and paste.
+pub mod CountedNumbers
 pub mod JoinedParts
 pub mod LeftCopies
+pub mod KeptMeaning
 pub mod PastedRuns
+pub mod TheirCopies
 pub mod StandingParts

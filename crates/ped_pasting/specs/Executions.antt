@@ -12,7 +12,7 @@ use Rattle.ped_laws.specs.ped_eval.specs.Loops.{Limits, limits, entered_with, fr
 use Rattle.ped_laws.specs.ped_eval.specs.Runs.{run, run_all}
 use Rattle.ped_laws.specs.ped_flow.specs.PlainBounds.{nest_round, outermost_or}
 use Rattle.ped_laws.specs.ped_flow.specs.Questions.{LoopOf}
-use Rattle.ped_steps.specs.Runs.Pasting.{IsPlaceOf, IsInExecution, IsInOutermost, IsDone}
+use Rattle.ped_steps.specs.Runs.Pasting.{IsPlaceOf, IsInOutermost, IsDone}
 
 -- a copy that belongs to an iteration of a DO with one of these numbers, so many from n on, or of one in such a DO; the DO stands in these iterations (ParaScope; this project)
 pub record IsCopyInside (p : Setting) (scope : Scope) (n count : ℕ) (c : Cell) : Type 0 where

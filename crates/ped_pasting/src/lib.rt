@@ -3,7 +3,13 @@
 //! the law, and docs/MEANING.md tells what the laws are for.
 #![tactic(auto)]
 
+mod copies;
 mod executions;
+mod meaning;
+mod numbers;
 
+pub use copies::copies_inside;
 pub use executions::{executions_pasted, parts_stand};
+pub use meaning::{exchanged_keeps, suiting_sets};
+pub use numbers::numbers_kept;
 pub use ped_steps;

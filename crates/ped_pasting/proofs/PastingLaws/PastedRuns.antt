@@ -1,5 +1,5 @@
 -- A program in which statements have been exchanged for others: its run is made of that of the old one, and each execution knows what it is.
-use Rattle.std.proofs.Common.{◌≡◌, ℕ, zero, suc, ◌+◌, ◌-◌, ◌≤◌, ◌<◌, List, [], ◌∷◌, ◌++◌, Bool, true, false, ◌||◌, Some, Result, Ok, ◌⊎◌, inl, inr, if◌then◌else◌, refl, sym, ap, subst, ◌∙◌, arith}
+use Rattle.std.proofs.Common.{◌≡◌, ℕ, zero, suc, ◌+◌, ◌-◌, ◌≤◌, ◌<◌, List, [], ◌∷◌, ◌++◌, Bool, true, false, ◌||◌, Some, Ok, inl, inr, if◌then◌else◌, refl, sym, ap, subst, ◌∙◌, arith}
 use Rattle.std.specs.List.{list_any}
 use Rattle.std.proofs.lemmas.List.{append-nil, append_assoc}
 use Rattle.std.proofs.lemmas.List.Folds.{list_any-append}
@@ -8,12 +8,12 @@ use Rattle.ped_tree.specs.Nests.{Loop}
 use Rattle.ped_tree.specs.NamesIn.{cond_names, head_names, stmt_names, stmts_names}
 use Rattle.ped_tree.specs.Numbering.{numbered, all_numbered, statement_with, statement_count, statements_count}
 use Rattle.ped_laws.specs.ped_store.specs.Stores.{Store}
-use Rattle.ped_laws.specs.ped_store.specs.Acts.{Act, Step, Touch, Place, Turn, did, entered, ended_turn, closed, store_behind}
+use Rattle.ped_laws.specs.ped_store.specs.Acts.{Act, Touch, Turn, did, entered, ended_turn, closed, store_behind}
 use Rattle.ped_laws.specs.Acts.Fitting.{store_after}
 use Rattle.ped_laws.proofs.ActLaws.Stores.{after_append}
 use Rattle.ped_laws.specs.Acts.Pieces.{Part, changed, old_parts, new_parts}
 use Rattle.ped_laws.specs.ped_eval.specs.Scopes.{Setting, Frame, Scope, turns_of, names_in, place_of}
-use Rattle.ped_laws.specs.ped_eval.specs.Evaluation.{Seen, Evaluated, numbered as numbered_reads, number_behind}
+use Rattle.ped_laws.specs.ped_eval.specs.Evaluation.{Seen, numbered as numbered_reads, number_behind}
 use Rattle.ped_laws.specs.ped_eval.specs.Values.{truth}
 use Rattle.ped_laws.specs.ped_eval.specs.Loops.{Limits, limits, increment, iteration_count, Entered, entered_with, frame, inner_variables, exit_touches, exit_when_none, entry_touches}
 use Rattle.ped_laws.specs.ped_eval.specs.Runs.{Ending, going, stopped, failed, Run, nothing_done, followed_by, then_run, does, on, turns, parallel_turns, run_if, run_entered, run_from_entry, run_do, run, run_all}

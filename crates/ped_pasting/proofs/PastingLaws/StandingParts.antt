@@ -1,5 +1,5 @@
 -- Executions in a list of acts: what is known of each holds of all.
-use Rattle.std.proofs.Common.{◌≡◌, ℕ, List, [], ◌∷◌, ◌++◌, Bool, sym, ap, subst, append-nil}
+use Rattle.std.proofs.Common.{ℕ, List, [], ◌∷◌, ◌++◌, Bool, sym, subst, append-nil}
 use Rattle.ped_tree.specs.Tree.{ProgramTree}
 use Rattle.ped_laws.specs.ped_store.specs.Cells.{Cell}
 use Rattle.ped_laws.specs.ped_store.specs.Stores.{Store}

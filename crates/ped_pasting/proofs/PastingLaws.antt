@@ -5,4 +5,5 @@ pub mod LeftCopies
 pub mod KeptMeaning
 pub mod PastedRuns
 pub mod TheirCopies
+pub mod RunStores
 pub mod StandingParts

@@ -7,9 +7,11 @@ mod copies;
 mod executions;
 mod meaning;
 mod numbers;
+mod stores;
 
 pub use copies::copies_inside;
 pub use executions::{executions_pasted, parts_stand};
 pub use meaning::{exchanged_keeps, suiting_sets};
 pub use numbers::numbers_kept;
 pub use ped_steps;
+pub use stores::stores_hold_storable;

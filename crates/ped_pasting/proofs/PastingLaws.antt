@@ -1,5 +1,6 @@
 -- Lemmas of cut and paste.
 pub mod CountedNumbers
+pub mod Examples
 pub mod JoinedParts
 pub mod LeftCopies
 pub mod KeptMeaning

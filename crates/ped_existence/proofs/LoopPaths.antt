@@ -16,7 +16,7 @@ use Rattle.ped_answer.specs.ped_scalar.specs.Scalars.{is_scalar, IsLiveBy}
 use Rattle.ped_answer.specs.ped_scalar.specs.Privatising.{IsScalarExposedOrLiveBy}
 use Rattle.ped_answer.specs.ped_scalar.specs.Expanding.{IsScalarLostBy, SaysLive}
 use Rattle.ped_answer.specs.ped_scalar.proofs.FlowAnswers.{true_not_false, live_answer}
-use Rattle.ped_answer.specs.ped_scalar.proofs.TidyPathsSums.{Summary}
+use Rattle.ped_answer.specs.ped_scalar.specs.ped_tidy.proofs.TidyPathsSums.{Summary}
 use Rattle.ped_answer.specs.ped_scalar.proofs.LostAnswers.{kept_answer, lost_answer}
 use Rattle.ped_existence.specs.Deciding.{Decided}
 use Rattle.ped_existence.proofs.Deciding.{decided_same, decided_both, true_decided}

@@ -6,16 +6,10 @@ pub mod FirstAgainstExpanding
 pub mod FreshNames
 pub mod ExpandedPrograms
 pub mod Steps
-pub mod TidyReferences
-pub mod TidyReferencesGaps
 pub mod TidyReferencesSubstituted
 pub mod TidyReferencesPrivatised
 pub mod TidyReferencesExpanded
-pub mod TidyPathsSums
-pub mod TidyPathsGaps
-pub mod TidyPathsShown
 pub mod TidyPathsPrivatising
-pub mod TidyPathsInside
 pub mod TidyPathsSubstituted
 pub mod TidyPathsExpanding
 pub mod TidyPathsUnshown
@@ -26,3 +20,4 @@ pub mod WrittenThere
 pub mod VariablesRound
 pub mod KeptByExpanding
 pub mod TidyKept
+mod UnrejectedSteps

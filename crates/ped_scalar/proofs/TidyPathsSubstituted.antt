@@ -1,47 +1,18 @@
--- Statements with elements of an array in the place of a scalar leave no more of another scalar; and statements without a STOP end no path.
+-- Statements with elements of an array in the place of a scalar leave no more of another scalar.
 use Rattle.std.proofs.Common.{◌≡◌, ℕ, ◌+◌, Bool, true, false, ◌||◌, List, [], ◌∷◌, ◌++◌, map, refl, sym, ap, subst, ◌∙◌, if◌then◌else◌}
 use Rattle.std.specs.List.{flat_map}
 use Rattle.ped_base.specs.Lists.{is_same_text, is_among}
 use Rattle.ped_tree.proofs.NameLaws.NameEquality.{same_is}
 use Rattle.ped_tree.specs.Tree.{ExprTree, Int, Var, Element, Neg, Add, Sub, Mul, Div, Pow, Call, Head, StmtTree, StmtTrees, Assign, If, Do, Print, Read, Stop, Comment, no_stmts, more_stmts}
 use Rattle.ped_tree.specs.Numbering.{statement_count, statements_count}
-use Rattle.ped_steps.specs.ped_affine.specs.Assigned.{loop_variables, all_loop_variables}
-use Rattle.ped_steps.specs.ped_flow.specs.Events.{own_events, start_events, exit_events}
-use Rattle.ped_steps.specs.ped_flow.specs.Summaries.{passing, unreached, sum_in_turn, sum_either, sum_trips, sum_events, sum_loop, sum_of, sum_of_all, sum_behind, sum_behind_all}
-use Rattle.ped_steps.specs.ped_flow.proofs.Truths.{untrue, or_none}
-use Rattle.ped_steps.specs.ped_laws.specs.FlowRuns.Covering.{has_stop, some_stop}
+use Rattle.ped_tidy.specs.ped_steps.specs.ped_affine.specs.Assigned.{loop_variables, all_loop_variables}
+use Rattle.ped_tidy.specs.ped_steps.specs.ped_flow.specs.Summaries.{passing, unreached, sum_in_turn, sum_either, sum_of, sum_of_all, sum_behind, sum_behind_all}
+use Rattle.ped_tidy.specs.ped_steps.specs.ped_flow.proofs.Truths.{untrue}
+use Rattle.ped_tidy.specs.ped_steps.specs.ped_laws.specs.FlowRuns.Covering.{has_stop, some_stop}
 use Rattle.ped_sums.specs.Substitution.{substituted, head_substituted, condition_substituted, item_substituted, statement_substituted, statements_substituted}
-use Rattle.ped_steps.proofs.RunLaws.SubstitutedShapes.{count_kept, counts_kept}
-use Rattle.ped_scalar.proofs.TidyPathsSums.{IsNoMore, AreNoMore, ClearsAll, append_more, no_more, in_turn_more, either_more, trips_more, events_pass, lefts, own_more, loop_more, do_more, if_more, more_more}
-use Rattle.ped_scalar.proofs.TidyPathsGaps.{loop_behind_more, rest_behind_more}
-
--- statements without a STOP end no path
-module _ (cs : List (List ℕ)) (w : List ℕ) where
-  mutual
-    pub unstopped : (t : StmtTree) (n : ℕ) → has_stop t ≡ false → IsNoMore (sum_of cs w t n) passing
-    unstopped (Assign left right) n h = events_pass w (own_events cs n (Assign left right))
-    unstopped (If c a b) n h =
-        let k = or_none (some_stop a) (some_stop b) h in
-        in_turn_more (sum_events w (own_events cs n (If c a b))) (sum_either (sum_of_all cs w a (n + 1)) (sum_of_all cs w b (n + 1 + statements_count a))) passing passing
-        (events_pass w (own_events cs n (If c a b)))
-        (either_more (sum_of_all cs w a (n + 1)) (sum_of_all cs w b (n + 1 + statements_count a)) passing passing (all_unstopped a (n + 1) k.0) (all_unstopped b (n + 1 + statements_count a) k.1))
-    unstopped (Do h body) n k =
-        let start = sum_events w (start_events n h body) in
-        let inner = sum_of_all cs w body (n + 1) in
-        in_turn_more (sum_events w (own_events cs n (Do h body))) (sum_loop w n h body inner) passing passing (events_pass w (own_events cs n (Do h body)))
-        (in_turn_more (sum_trips (sum_in_turn start inner)) (sum_events w (exit_events n h body)) passing passing
-        (trips_more (sum_in_turn start inner) passing (in_turn_more start inner passing passing (events_pass w (start_events n h body)) (all_unstopped body (n + 1) k)))
-        (events_pass w (exit_events n h body)))
-    unstopped (Print items) n h = events_pass w (own_events cs n (Print items))
-    unstopped (Read items) n h = events_pass w (own_events cs n (Read items))
-    unstopped Stop n h = untrue (sym h)
-    unstopped (Comment text) n h = no_more passing
-
-    pub all_unstopped : (ts : StmtTrees) (n : ℕ) → some_stop ts ≡ false → IsNoMore (sum_of_all cs w ts n) passing
-    all_unstopped no_stmts n h = no_more passing
-    all_unstopped (more_stmts t rest) n h =
-        let k = or_none (has_stop t) (some_stop rest) h in
-        in_turn_more (sum_of cs w t n) (sum_of_all cs w rest (n + statement_count t)) passing passing (unstopped t n k.0) (all_unstopped rest (n + statement_count t) k.1)
+use Rattle.ped_tidy.specs.ped_steps.proofs.RunLaws.SubstitutedShapes.{count_kept, counts_kept}
+use Rattle.ped_tidy.proofs.TidyPathsSums.{IsNoMore, AreNoMore, ClearsAll, append_more, no_more, either_more, lefts, own_more, loop_more, do_more, if_more, more_more}
+use Rattle.ped_tidy.proofs.TidyPathsGaps.{loop_behind_more, rest_behind_more}
 
 module _ (x : List ℕ) (by : ExprTree) where
   mutual

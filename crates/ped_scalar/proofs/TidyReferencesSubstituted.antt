@@ -1,19 +1,16 @@
--- Which names are written where an element of an array stands for a scalar, and where others have come into a gap: but for the array's name, no new ones. And the variables of the DO loops stay.
+-- Which names are written where an element of an array stands for a scalar: but for the array's name, no new ones. And the variables of the DO loops stay.
 use Rattle.std.proofs.Common.{◌≡◌, ℕ, List, [], ◌∷◌, ◌++◌, map, Bool, true, false, refl, sym, ap, ◌∙◌, append_assoc, if◌then◌else◌}
 use Rattle.std.specs.Prelude.{◌||◌, ◌&&◌}
 use Rattle.std.specs.List.{list_any, list_all}
 use Rattle.std.proofs.lemmas.Bool.{and_parts, or_parts}
 use Rattle.ped_base.specs.Lists.{is_same_text, is_among}
 use Rattle.ped_tree.specs.Tree.{ExprTree, ExprTrees, Int, Var, Element, Neg, Add, Sub, Mul, Div, Pow, Call, StmtTree, StmtTrees, Assign, If, Do, Print, Read, Stop, Comment, no_stmts, more_stmts}
-use Rattle.ped_steps.specs.ped_affine.specs.Assigned.{loop_variables, all_loop_variables}
+use Rattle.ped_tidy.specs.ped_steps.specs.ped_affine.specs.Assigned.{loop_variables, all_loop_variables}
 use Rattle.ped_sums.specs.Substitution.{substituted, statement_substituted, statements_substituted}
-use Rattle.ped_steps.specs.ped_symbols.specs.RightUses.RightUses.{NameKinds, expr_is_right, target_is_right, cond_is_right, head_is_right, stmt_is_right, stmts_are_right}
-use Rattle.ped_steps.specs.Replacing.{followed}
-use Rattle.ped_steps.specs.Runs.Gaps.{Gap, at_front, past, in_then, in_else, in_body, filled}
-use Rattle.ped_scalar.proofs.TidyReferences.{writes_name, writes_left, writes, all_write}
-
-both_false : (a b : Bool) → a ≡ false → b ≡ false → (a || b) ≡ false
-both_false a b e f = λ i. e i || f i
+use Rattle.ped_tidy.specs.ped_steps.specs.ped_symbols.specs.RightUses.RightUses.{NameKinds, expr_is_right, target_is_right, cond_is_right, head_is_right, stmt_is_right, stmts_are_right}
+use Rattle.ped_tidy.specs.ped_steps.specs.Replacing.{followed}
+use Rattle.ped_tidy.specs.ped_steps.specs.Runs.Gaps.{Gap, at_front, past, in_then, in_else, in_body, filled}
+use Rattle.ped_tidy.specs.Writing.{writes_name, writes_left, writes, all_write}
 
 module _ (x : List ℕ) (by : ExprTree) where
   mutual
@@ -86,36 +83,6 @@ module _ (constants : List (List ℕ)) (w : List ℕ) where
           let right = and_parts (stmt_is_right k s) (stmts_are_right k rest) r in
           let none = or_parts (writes constants w s) (all_write constants w rest) h in
           λ i. one_unwritten s right.0 none.0 i || all_unwritten rest right.1 none.1 i
-
-  all_followed : (xs ys : StmtTrees) → all_write constants w (followed xs ys) ≡ (all_write constants w xs || all_write constants w ys)
-  all_followed no_stmts ys = refl
-  all_followed (more_stmts s xs) ys = ap (λ (b : Bool). writes constants w s || b) (all_followed xs ys) ∙ or_assoc (writes constants w s) (all_write constants w xs) (all_write constants w ys)
-    where
-      or_assoc : (a b c : Bool) → (a || (b || c)) ≡ ((a || b) || c)
-      or_assoc true b c = refl
-      or_assoc false b c = refl
-
-  -- others in a gap write the name where what was there did, or not at all
-  module _ (old new : StmtTrees) (gained : all_write constants w old ≡ false → all_write constants w new ≡ false) where
-    pub filled_unwritten : (gap : Gap) → all_write constants w (filled gap old) ≡ false → all_write constants w (filled gap new) ≡ false
-    filled_unwritten (at_front rest) h =
-        let none = or_parts (all_write constants w old) (all_write constants w rest) (sym (all_followed old rest) ∙ h) in
-        all_followed new rest ∙ both_false (all_write constants w new) (all_write constants w rest) (gained none.0) none.1
-    filled_unwritten (past s gap) h =
-        let none = or_parts (writes constants w s) (all_write constants w (filled gap old)) h in
-        λ i. none.0 i || filled_unwritten gap none.1 i
-    filled_unwritten (in_then c gap b rest) h =
-        let none = or_parts (all_write constants w (filled gap old) || all_write constants w b) (all_write constants w rest) h in
-        let parts = or_parts (all_write constants w (filled gap old)) (all_write constants w b) none.0 in
-        λ i. (filled_unwritten gap parts.0 i || parts.1 i) || none.1 i
-    filled_unwritten (in_else c a gap rest) h =
-        let none = or_parts (all_write constants w a || all_write constants w (filled gap old)) (all_write constants w rest) h in
-        let parts = or_parts (all_write constants w a) (all_write constants w (filled gap old)) none.0 in
-        λ i. (parts.0 i || filled_unwritten gap parts.1 i) || none.1 i
-    filled_unwritten (in_body head gap rest) h =
-        let none = or_parts (list_any (writes_name constants w) head.private || all_write constants w (filled gap old)) (all_write constants w rest) h in
-        let parts = or_parts (list_any (writes_name constants w) head.private) (all_write constants w (filled gap old)) none.0 in
-        λ i. (parts.0 i || filled_unwritten gap parts.1 i) || none.1 i
 
 module _ (old new : StmtTrees) (same : all_loop_variables new ≡ all_loop_variables old) where
   variables_followed : (xs ys : StmtTrees) → all_loop_variables (followed xs ys) ≡ all_loop_variables xs ++ all_loop_variables ys

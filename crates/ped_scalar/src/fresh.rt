@@ -6,12 +6,12 @@ ghost use Rattle.std.specs.List.{flat_map};
 ghost use Rattle.ped_base.specs.Lists as Lists;
 ghost use Rattle.ped_tree.specs.Tree.{ProgramTree};
 ghost use Rattle.ped_tree.specs.Views.{decl_tree, program_tree};
-ghost use Rattle.ped_steps.specs.ped_symbols.specs.Kinds.{table_of};
+ghost use Rattle.ped_tidy.specs.ped_steps.specs.ped_symbols.specs.Kinds.{table_of};
 ghost use Rattle.ped_scalar.specs.Expanding as Spec;
 
 use itoa::Buffer;
 use ped_base::{Bytes, Name, NoMemory};
-use ped_steps::ped_symbols::Symbols;
+use ped_tidy::ped_steps::ped_symbols::Symbols;
 use ped_tree::{Decl, Program};
 use std::alloc::Global;
 

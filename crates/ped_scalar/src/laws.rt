@@ -1,12 +1,13 @@
 //! What the definitions in `specs/` determine. The functions do nothing; their contracts are the laws.
 
-ghost use Rattle.std.specs.Prelude.{◌≡◌, ℕ, List, Option, None};
+ghost use Rattle.std.specs.Prelude.{◌≡◌, ℕ, List, Option, None, false};
 ghost use Rattle.ped_tree.specs.Tree.{ProgramTree};
-ghost use Rattle.ped_steps.specs.ped_symbols.specs.NameRefusals.{IsValid};
-ghost use Rattle.ped_steps.specs.ped_flow.specs.Questions.{LoopOf};
-ghost use Rattle.ped_steps.specs.Causes.{Cause, IsFirstCause, none_forbids};
-ghost use Rattle.ped_steps.specs.Tidy.{IsTidy};
-ghost use Rattle.ped_steps.specs.Runs.Meaning.{Keeps};
+ghost use Rattle.ped_tidy.specs.ped_steps.specs.ped_symbols.specs.NameRefusals.{IsValid};
+ghost use Rattle.ped_tidy.specs.ped_steps.specs.ped_flow.specs.Questions.{LoopOf};
+ghost use Rattle.ped_tidy.specs.ped_steps.specs.Causes.{Cause, IsFirstCause, none_forbids};
+ghost use Rattle.ped_tidy.specs.ped_steps.specs.Tidy.{IsTidy};
+ghost use Rattle.ped_tidy.specs.ped_steps.specs.Runs.Meaning.{Keeps};
+ghost use Rattle.ped_tidy.specs.Unrejected.{some_rejection};
 ghost use Rattle.ped_scalar.specs.Privatising.{privatised, StandsAgainstPrivatising};
 ghost use Rattle.ped_scalar.specs.Expanding.{IsExpanded, StandsAgainstExpanding};
 
@@ -43,4 +44,14 @@ pub fn privatising_stays_tidy()
 /// Where nothing stands against `expand`, a tidy program stays tidy (ParaScope).
 pub fn expanding_stays_tidy()
     ensures { (t new : ProgramTree) (s : ℕ) (l : LoopOf t s) (x : List ℕ) → IsValid t → IsFirstCause t (StandsAgainstExpanding t s x) none_forbids None → IsExpanded t s x l.head new → IsTidy t → IsTidy new }
+{}
+
+/// `privatise` puts no C$PED REJECT line into a program that has none (ParaScope).
+pub fn privatising_rejects_nothing()
+    ensures { (t : ProgramTree) (s : ℕ) (x : List ℕ) → some_rejection t.body ≡ false → some_rejection (privatised t s x).body ≡ false }
+{}
+
+/// `expand` puts no C$PED REJECT line into a program that has none (ParaScope).
+pub fn expanding_rejects_nothing()
+    ensures { (t new : ProgramTree) (s : ℕ) (l : LoopOf t s) (x : List ℕ) → IsExpanded t s x l.head new → some_rejection t.body ≡ false → some_rejection new.body ≡ false }
 {}

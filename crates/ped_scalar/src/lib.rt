@@ -16,9 +16,11 @@ mod spans;
 
 pub use expanding::expand;
 pub use laws::{
-    expanding_keeps, expanding_stays_tidy, one_cause_against_expanding,
-    one_cause_against_privatising, privatising_keeps, privatising_stays_tidy,
+    expanding_keeps, expanding_rejects_nothing, expanding_stays_tidy, one_cause_against_expanding,
+    one_cause_against_privatising, privatising_keeps, privatising_rejects_nothing,
+    privatising_stays_tidy,
 };
-pub use ped_steps;
-pub use ped_steps::ped_flow;
+pub use ped_tidy;
+pub use ped_tidy::ped_steps;
+pub use ped_tidy::ped_steps::ped_flow;
 pub use privatising::privatise;

@@ -4,19 +4,19 @@ ghost use Rattle.std.specs.Prelude.{◌≡◌, ◌||◌, ◌+◌, ◌<◌, ◌^�
 ghost use Rattle.std.specs.List.{list_any};
 ghost use Rattle.ped_tree.specs.Views.{stmt_tree, stmt_trees, do_tree, program_tree};
 ghost use Rattle.ped_tree.specs.Numbering.{statements_count};
-ghost use Rattle.ped_steps.specs.ped_refs.specs.Loops.{head_of, nest_of};
-ghost use Rattle.ped_steps.specs.ped_flow.specs.Questions.{IsLoop};
-ghost use Rattle.ped_steps.specs.Replacing as Replacing;
-ghost use Rattle.ped_steps.specs.Causes.{none_forbids};
-ghost use Rattle.ped_steps.specs.Scenes.{IsSceneOf};
-ghost use Rattle.ped_steps.specs.Changes.{IsAnswer};
+ghost use Rattle.ped_tidy.specs.ped_steps.specs.ped_refs.specs.Loops.{head_of, nest_of};
+ghost use Rattle.ped_tidy.specs.ped_steps.specs.ped_flow.specs.Questions.{IsLoop};
+ghost use Rattle.ped_tidy.specs.ped_steps.specs.Replacing as Replacing;
+ghost use Rattle.ped_tidy.specs.ped_steps.specs.Causes.{none_forbids};
+ghost use Rattle.ped_tidy.specs.ped_steps.specs.Scenes.{IsSceneOf};
+ghost use Rattle.ped_tidy.specs.ped_steps.specs.Changes.{IsAnswer};
 ghost use Rattle.ped_scalar.specs.Privatising as Spec;
 
 use crate::indices::is_some_parallel;
 use crate::scalars::{against, is_scalar, is_unfit, live_by};
 use ped_base::{Name, NoMemory};
-use ped_steps::ped_refs::Loop;
-use ped_steps::{
+use ped_tidy::ped_steps::ped_refs::Loop;
+use ped_tidy::ped_steps::{
     Change, Refused, Rule, Scene, all_kept, change_to, is_among, loop_at, loops_round, program_with,
 };
 use ped_tree::{Do, Program, Stmt};

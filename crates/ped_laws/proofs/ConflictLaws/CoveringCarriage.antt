@@ -44,10 +44,10 @@ pub record IsIndependent (a b : Access) (level : ℕ) (is js : List Turn) (vecto
   pub text : IsBeforeInText a b ⊎ IsExit b is js
 
 -- what the directions of one loop and those of the loops in it say
-abbrev Here : ProgramTree → Turn → Turn → List Turn → List Turn → List Direction → Type 0
+abbrev pub Here : ProgramTree → Turn → Turn → List Turn → List Turn → List Direction → Type 0
 Here t i j is js vector = (d : Direction) × (rest : List Direction) × (vector ≡ d ∷ rest) × StandsByValue (by_value (step_at t i.statement) d) i.value j.value × StandInDirections t is js rest
 
-here : (t : ProgramTree) (i j : Turn) (is js : List Turn) (vector : List Direction) → i.statement ≡ j.statement → StandInDirections t (i ∷ is) (j ∷ js) vector → Here t i j is js vector
+pub here : (t : ProgramTree) (i j : Turn) (is js : List Turn) (vector : List Direction) → i.statement ≡ j.statement → StandInDirections t (i ∷ is) (j ∷ js) vector → Here t i j is js vector
 here t i j is js vector e h = when_true (Here t i j is js vector) (vector ≡ []) (same_numbers i.statement j.statement e) h
 
 apart_deeper : (i j : Turn) (is js : List Turn) → i ≡ j → are_apart (i ∷ is) (j ∷ js) ≡ true → are_apart is js ≡ true

@@ -13,11 +13,11 @@ use Rattle.ped_flow.specs.ped_tree.specs.Nests.{Loop, indices_of, common_nest}
 use Rattle.ped_flow.specs.ped_tree.specs.Numbering.{statement_with}
 use Rattle.ped_flow.specs.ped_tree.specs.Grammar.Words.{is_name}
 use Rattle.ped_graph.specs.ped_symbols.specs.Kinds.{kind_in}
-use Rattle.ped_graph.specs.ped_refs.specs.References.{Reference, outermost, innermost_private, is_pair, comes_before}
+use Rattle.ped_graph.specs.ped_refs.specs.References.{Reference, references, outermost, innermost_private, is_pair, comes_before, pairs}
 use Rattle.ped_graph.specs.ped_edges.specs.Edges.{Edge}
 use Rattle.ped_graph.specs.ped_symbols.specs.RightUses.RightUses.{is_scalar}
 use Rattle.ped_graph.specs.Owners.{have_same_owner, owner_level, is_same}
-use Rattle.ped_graph.specs.Dependences.{is_of, setting_in, view_of, AreEdges}
+use Rattle.ped_graph.specs.Dependences.{carriage_from, is_of, setting_in, view_of, EdgesOfPairs, AreEdges}
 use Rattle.ped_eval.specs.ped_store.specs.Cells.{same_cell}
 use Rattle.ped_eval.specs.ped_store.specs.Stores.{Store}
 use Rattle.ped_eval.specs.ped_store.specs.Acts.{Turn}
@@ -34,7 +34,7 @@ use Rattle.ped_laws.proofs.ConflictLaws.CoveringNests.{IsOf, AreOf, reached_are,
 use Rattle.ped_laws.proofs.ConflictLaws.CoveringOwners.{HaveOneOwner, none_owned, one_owner, never_private, holds_among, same_owner}
 use Rattle.ped_laws.proofs.ConflictLaws.CoveringDirections.{same_numbers, numbers_are}
 use Rattle.ped_laws.proofs.ConflictLaws.CoveringCarriage.{IsExit, carriage_is, same_front}
-use Rattle.ped_laws.proofs.ConflictLaws.CoveringEdges.{IsBetween, edge_between}
+use Rattle.ped_laws.proofs.ConflictLaws.CoveringEdges.{IsLevel, IsBetween, is_listed, edge_between}
 use Rattle.ped_laws.proofs.ConflictLaws.CoveringWrites.{statement_of, do_writes}
 use Rattle.ped_laws.proofs.ConflictLaws.CoveringCells.{name_in, name_of_cell, kind_of_cell, depth_of, no_deeper, deeper}
 
@@ -92,7 +92,7 @@ module _ (t : ProgramTree) (first : Store) (a b : Access) (source sink : Referen
       let equal : l.number ≡ n.number = sym h.0.statement ∙ numbers_are i.statement j.statement s ∙ k.0.statement in
       ap (λ (b : Bool). has_some (if b then l ∷ common_nest ls ms else [])) (same_numbers l.number n.number equal)
 
-  pair : is_pair source sink ≡ true
+  pub pair : is_pair source sink ≡ true
   pair =
       let common = share_common source.nest sink.nest a.place.turns b.place.turns source_nest sink_nest m.share in
       let same : is_same_text source.access.name sink.access.name ≡ true = ap (is_same_text source.access.name) (sym names) ∙ text_itself source.access.name in
@@ -163,13 +163,22 @@ module _ (t : ProgramTree) (first : Store) (a b : Access) (source sink : Referen
       let long : length (turns_of m.at_sink) ≡ length b.place.turns = ap length (sym m.makes.turns) in
       omega (arith, deep, flat, same, long)
 
-  text : IsBeforeInText a b → comes_before source sink ≡ true
+  pub text : IsBeforeInText a b → comes_before source sink ≡ true
   text h =
       text_before source.statement sink.statement source.number sink.number
       (elim h [
         | inl less ↦ inl (omega (arith, less, m.made.statement, m.makes.statement))
         | inr both ↦ inr (sym m.made.statement ∙ both.0 ∙ m.makes.statement, omega (arith, both.1, m.made.number, m.makes.number))
       ])
+
+  -- the dependence of the level that carries their directions, among those of pairs of which theirs is one
+  pub covered_of : (ps : List (Reference × Reference)) (edges : List Edge) (vector : List Direction) (level : Option ℕ) → EdgesOfPairs t ps edges → IsIn (source, sink) ps → StandInDirections t a.place.turns b.place.turns vector → IsPossible (view_of t source sink) vector → length vector ≡ length (view_of t source sink).loops
+      → is_of level (carriage_from 1 vector) ≡ true → IsLevel source sink (length (view_of t source sink).loops) level → IsBetween source sink level vector edges
+  covered_of ps edges vector level are among stands possible long carries l = edge_between t source sink ps edges vector level are among owners (within vector stands) possible long carries l
+
+  -- the pair of their references is one of those of the program
+  pub pair_listed : IsIn (source, sink) (pairs (references t))
+  pair_listed = is_listed (references t) source sink m.made.listed m.makes.listed pair
 
   -- the dependence that covers them
   pub covered_at : (edges : List Edge) (vector : List Direction) → StandInDirections t a.place.turns b.place.turns vector → IsPossible (view_of t source sink) vector → length vector ≡ length (view_of t source sink).loops → AreEdges t edges
@@ -179,7 +188,7 @@ module _ (t : ProgramTree) (first : Store) (a b : Access) (source sink : Referen
       vector = vector;
       stands = stands;
       level = Some (length c.front + 1);
-      between = edge_between t source sink edges vector (Some (length c.front + 1)) are m.made.listed m.makes.listed pair owners (within vector stands) possible long
+      between = covered_of (pairs (references t)) edges vector (Some (length c.front + 1)) are pair_listed stands possible long
           (ap (is_of (Some (length c.front + 1))) c.carriage ∙ same_numbers (length c.front + 1) (length c.front + 1) refl) (omega arith, omega (arith, c.within, long));
       parallel = λ p. (length c.front + 1, refl, (c.front, c.l, c.inner, c.nest_is, refl, c.parallel p));
     }
@@ -187,7 +196,7 @@ module _ (t : ProgramTree) (first : Store) (a b : Access) (source sink : Referen
       vector = vector;
       stands = stands;
       level = None;
-      between = edge_between t source sink edges vector None are m.made.listed m.makes.listed pair owners (within vector stands) possible long (ap (is_of None) c.carriage)
+      between = covered_of (pairs (references t)) edges vector None are pair_listed stands possible long (ap (is_of None) c.carriage)
           (elim c.text [ inl h ↦ text h | inr x ↦ absurd (never_exit x) ]);
       parallel = λ p. absurd (c.together p);
     }

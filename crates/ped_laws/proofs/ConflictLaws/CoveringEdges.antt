@@ -9,10 +9,10 @@ use Rattle.ped_graph.specs.ped_views.specs.declared.directions.Direction.TheVari
 use Rattle.ped_graph.specs.ped_views.specs.Views.{View}
 use Rattle.ped_graph.specs.ped_views.specs.Vectors.{all_vectors, AreThose, IsPossible}
 use Rattle.ped_flow.specs.ped_tree.specs.Tree.{ProgramTree}
-use Rattle.ped_graph.specs.ped_refs.specs.References.{Reference, references, is_pair, comes_before, pairs}
+use Rattle.ped_graph.specs.ped_refs.specs.References.{Reference, is_pair, comes_before, pairs}
 use Rattle.ped_graph.specs.ped_edges.specs.Edges.{Edge}
 use Rattle.ped_graph.specs.Owners.{have_same_owner, owner_level, is_same, within_iteration}
-use Rattle.ped_graph.specs.Dependences.{carriage_from, is_of, vectors_of, kind_of, place_of, distances_of, Facts, facts_of, view_of, edge_at, independent_edge, divided, PairEdges, EdgesOfPairs, AreEdges}
+use Rattle.ped_graph.specs.Dependences.{carriage_from, is_of, vectors_of, kind_of, place_of, distances_of, Facts, facts_of, view_of, edge_at, independent_edge, divided, PairEdges, EdgesOfPairs}
 use Rattle.ped_graph.specs.Marks.{mark_of}
 use Rattle.ped_laws.specs.Acts.Orders.{IsIn}
 use Rattle.ped_laws.proofs.ActLaws.Lists.{in_left, in_right}
@@ -142,12 +142,12 @@ pub record IsBetween (source sink : Reference) (level : Option ℕ) (x : List Di
   pub of_level : edge.level ≡ level
   pub contains : IsIn x edge.vectors
 
--- a vector of a pair of references that no position excludes, and that has `=` down to the level of their owner, stands in the dependence of the level that carries it
-pub edge_between : (t : ProgramTree) (source sink : Reference) (edges : List Edge) (x : List Direction) (level : Option ℕ) → AreEdges t edges → IsIn source (references t) → IsIn sink (references t) → is_pair source sink ≡ true
+-- a vector of a pair of references that no position excludes, and that has `=` down to the level of their owner, stands in the dependence of the level that carries it, among those of any pairs of which this is one
+pub edge_between : (t : ProgramTree) (source sink : Reference) (ps : List (Reference × Reference)) (edges : List Edge) (x : List Direction) (level : Option ℕ) → EdgesOfPairs t ps edges → IsIn (source, sink) ps
     → have_same_owner source sink ≡ true → list_all is_same (take (owner_level source) x) ≡ true → IsPossible (view_of t source sink) x → length x ≡ length (view_of t source sink).loops
     → is_of level (carriage_from 1 x) ≡ true → IsLevel source sink (length (view_of t source sink).loops) level → IsBetween source sink level x edges
-edge_between t source sink edges x level are i j pair owner within possible long carries l =
-    let its = edges_of_pair t (source, sink) (pairs (references t)) edges are (is_listed (references t) source sink i j pair) in
+edge_between t source sink ps edges x level are among owner within possible long carries l =
+    let its = edges_of_pair t (source, sink) ps edges are among in
     let v : View = view_of t source sink in
     let vectors : List (List Direction) = its.are.vectors in
     let chosen : IsIn x vectors = chosen_in (IsPossible v) x (all_vectors (length v.loops)) vectors its.are.possible (in_all (length v.loops) x long) possible in

@@ -67,37 +67,54 @@ outermost_is t (l ∷ ls) i is h = sym h.0.statement
 made_in : (t : ProgramTree) (first : Store) (a : Access) (r : Reference) (scope : Scope) (u : Store) (i : Turn) (is : List Turn) → IsMade t first a r scope u → a.place.turns ≡ i ∷ is → outermost r ≡ i.statement
 made_in t first a r scope u i is m e = outermost_is t r.nest i is (subst (AreOf t r.nest) (sym m.turns ∙ e) (reached_are t (setting_in t (outermost r)) first r.nest scope m.reached))
 
+-- the references that make two accesses, which meet
+pub record Makers (t : ProgramTree) (a b : Access) : Type 0 where
+  pub first : Store
+  pub source : Reference
+  pub sink : Reference
+  pub met : AreMet t first a b source sink
+
 -- the references of two accesses, and what covers them
 abbrev pub Covers : ProgramTree → List Edge → Access → Access → Type 0
 Covers t edges a b =
     (source : Reference) × (sink : Reference) × IsIn source (references t) × IsCoveredAt t edges a b source sink × (a.place.statement ≡ source.statement) × (a.reference ≡ source.number) × (b.place.statement ≡ sink.statement) × (b.reference ≡ sink.number)
 
-module _ (made : MakingLaw) (sequence : SequenceLaw) (possible : PossibleLaw) where
-  pub covers : (t : ProgramTree) (data_bytes : List ℕ) (a b : Access) (edges : List Edge) → IsValid t → ComeInRun t data_bytes a b → conflict a b ≡ true → 0 < a.reference → 0 < b.reference → share_a_loop a.place.turns b.place.turns ≡ true → AreEdges t edges → Covers t edges a b
-  covers t data_bytes a b edges valid come meets one other share are =
+module _ (made : MakingLaw) (sequence : SequenceLaw) where
+  -- conflicting accesses in one execution of a DO are made by references
+  pub makers : (t : ProgramTree) (data_bytes : List ℕ) (a b : Access) → IsValid t → ComeInRun t data_bytes a b → conflict a b ≡ true → 0 < a.reference → 0 < b.reference → share_a_loop a.place.turns b.place.turns ≡ true → Makers t a b
+  makers t data_bytes a b valid come meets one other share =
       let all = made t data_bytes valid in
       let s = shared a.place.turns b.place.turns share in
       let x = all.1 a s.source s.source_inner (first_comes t data_bytes a b come) one s.of_source in
       let y = all.1 b s.sink s.sink_inner (second_comes t data_bytes a b come) other s.of_sink in
       let same : outermost y.0 ≡ outermost x.0 = made_in t (all.0 (outermost y.0)) b y.0 y.1 y.2 s.sink s.sink_inner y.3 s.of_sink ∙ sym s.same ∙ sym (made_in t (all.0 (outermost x.0)) a x.0 x.1 x.2 s.source s.source_inner x.3 s.of_source) in
-      let first : Store = all.0 (outermost x.0) in
-      let makes : IsMade t first b y.0 y.1 y.2 = subst (λ (n : ℕ). IsMade t (all.0 n) b y.0 y.1 y.2) same y.3 in
       let parts = and_parts (same_cell a.cell b.cell) (a.writes || b.writes) meets in
+      record {
+        first = all.0 (outermost x.0);
+        source = x.0;
+        sink = y.0;
+        met = record {
+          at_source = x.1;
+          at_sink = y.1;
+          before = x.2;
+          behind = y.2;
+          made = x.3;
+          makes = subst (λ (n : ℕ). IsMade t (all.0 n) b y.0 y.1 y.2) same y.3;
+          same = parts.0;
+          write = parts.1;
+          share = share;
+          order = sequence t data_bytes a b valid come one other;
+        };
+      }
+
+module _ (made : MakingLaw) (sequence : SequenceLaw) (possible : PossibleLaw) where
+  pub covers : (t : ProgramTree) (data_bytes : List ℕ) (a b : Access) (edges : List Edge) → IsValid t → ComeInRun t data_bytes a b → conflict a b ≡ true → 0 < a.reference → 0 < b.reference → share_a_loop a.place.turns b.place.turns ≡ true → AreEdges t edges → Covers t edges a b
+  covers t data_bytes a b edges valid come meets one other share are =
+      let by = makers made sequence t data_bytes a b valid come meets one other share in
+      let m = by.met in
       let d = have_directions t a.place.turns b.place.turns in
-      let p = possible t first a b x.0 y.0 x.1 y.1 x.2 y.2 d.0 valid x.3 makes share parts.0 d.1 in
-      let met : AreMet t first a b x.0 y.0 = record {
-        at_source = x.1;
-        at_sink = y.1;
-        before = x.2;
-        behind = y.2;
-        made = x.3;
-        makes = makes;
-        same = parts.0;
-        write = parts.1;
-        share = share;
-        order = sequence t data_bytes a b valid come one other;
-      } in
-      (x.0, y.0, x.3.listed, covered_at t first a b x.0 y.0 met edges d.0 d.1 p.0 p.1 are, x.3.statement, x.3.number, makes.statement, makes.number)
+      let p = possible t by.first a b by.source by.sink m.at_source m.at_sink m.before m.behind d.0 valid m.made m.makes share m.same d.1 in
+      (by.source, by.sink, m.made.listed, covered_at t by.first a b by.source by.sink m edges d.0 d.1 p.0 p.1 are, m.made.statement, m.made.number, m.makes.statement, m.makes.number)
 
   -- conflicts of references in one execution of a DO are covered
   pub conflicts_covered : (t : ProgramTree) (data_bytes : List ℕ) (a b : Access) (edges : List Edge) → IsValid t → ComeInRun t data_bytes a b → conflict a b ≡ true → 0 < a.reference → 0 < b.reference → share_a_loop a.place.turns b.place.turns ≡ true → AreEdges t edges → IsCovered t edges a b

@@ -13,7 +13,7 @@ use Rattle.ped_steps.specs.ped_flow.proofs.Truths.{untrue, or_split}
 use Rattle.ped_steps.specs.Replacing.{followed, alone, program_with}
 use Rattle.ped_steps.specs.Runs.Gaps.{Gap, at_front, past, in_then, in_else, in_body, filled, number_at}
 use Rattle.ped_steps.proofs.RunLaws.ReplacedTrees.{HasGap, program_gap}
-use Rattle.ped_scalar.proofs.TidyPathsGaps.{gap_count, gap_from}
+use Rattle.ped_tidy.proofs.TidyPathsGaps.{gap_count, gap_from}
 
 within : (xs ys : List StmtTree) (k : ℕ) → k < length xs → at_place (xs ++ ys) k ≡ at_place xs k
 within [] ys k h = absurd (omega arith)

@@ -14,48 +14,7 @@ use Rattle.ped_steps.specs.ped_refs.specs.References.{Reference, numbered_access
 use Rattle.ped_steps.specs.ped_flow.specs.Questions.{LoopOf}
 use Rattle.ped_steps.specs.Tidy.{is_write_in, is_written_in}
 use Rattle.ped_steps.proofs.RunLaws.ReplacedTrees.{in_if, in_more, itself, next_place, no_later}
-
--- a write of the name y is one of the name w, where y is no constant
-abbrev pub writes_name : List (List ℕ) → List ℕ → List ℕ → Bool
-writes_name constants w y = if is_among y constants then false else is_same_text w y
-
--- a left side, or an item of a READ, is w, or is an element of it
-abbrev pub writes_left : List (List ℕ) → List ℕ → ExprTree → Bool
-writes_left constants w (Var y) = writes_name constants w y
-writes_left constants w (Element y es) = writes_name constants w y
-writes_left constants w (Int n) = false
-writes_left constants w (Neg a) = false
-writes_left constants w (Add a b) = false
-writes_left constants w (Sub a b) = false
-writes_left constants w (Mul a b) = false
-writes_left constants w (Div a b) = false
-writes_left constants w (Pow a b) = false
-writes_left constants w (Call f es) = false
-
--- the statement by itself writes the name
-abbrev pub writes_itself : List (List ℕ) → List ℕ → StmtTree → Bool
-writes_itself constants w (Assign left right) = writes_left constants w left
-writes_itself constants w (If c a b) = false
-writes_itself constants w (Do h body) = list_any (writes_name constants w) h.private
-writes_itself constants w (Print items) = is_same_text w (codes "(OUT)")
-writes_itself constants w (Read items) = is_same_text w (codes "(IN)") || list_any (writes_left constants w) items
-writes_itself constants w Stop = false
-writes_itself constants w (Comment text) = false
-
--- the statement or one in its parts writes the name
-abbrev mutual
-  pub writes : List (List ℕ) → List ℕ → StmtTree → Bool
-  writes constants w (Assign left right) = writes_itself constants w (Assign left right)
-  writes constants w (If c a b) = all_write constants w a || all_write constants w b
-  writes constants w (Do h body) = writes_itself constants w (Do h body) || all_write constants w body
-  writes constants w (Print items) = writes_itself constants w (Print items)
-  writes constants w (Read items) = writes_itself constants w (Read items)
-  writes constants w Stop = false
-  writes constants w (Comment text) = false
-
-  pub all_write : List (List ℕ) → List ℕ → StmtTrees → Bool
-  all_write constants w no_stmts = false
-  all_write constants w (more_stmts s rest) = writes constants w s || all_write constants w rest
+use Rattle.ped_tidy.specs.Writing.{writes_name, writes_left, writes_itself, writes, all_write}
 
 module _ (constants : List (List ℕ)) (w : List ℕ) where
   -- an access writes the name

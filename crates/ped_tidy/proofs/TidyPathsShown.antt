@@ -14,8 +14,8 @@ use Rattle.ped_steps.specs.ped_flow.proofs.TreeSums.{all_behind-summed}
 use Rattle.ped_steps.specs.Replacing.{alone, program_with}
 use Rattle.ped_steps.specs.Runs.Gaps.{filled}
 use Rattle.ped_steps.proofs.RunLaws.ReplacedTrees.{HasGap, program_gap}
-use Rattle.ped_scalar.proofs.TidyPathsSums.{IsNoMore}
-use Rattle.ped_scalar.proofs.TidyPathsGaps.{LeaveNoMore, gap_behind}
+use Rattle.ped_tidy.proofs.TidyPathsSums.{IsNoMore}
+use Rattle.ped_tidy.proofs.TidyPathsGaps.{LeaveNoMore, gap_behind}
 
 -- what is shown where the paths from the exit of one DO leave no more than those from another's in another program
 pub shown_by : (new t : ProgramTree) (w : List ℕ) (k l : ℕ) → flat_map saved_in new.decls ≡ flat_map saved_in t.decls

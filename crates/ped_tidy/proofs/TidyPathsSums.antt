@@ -215,7 +215,7 @@ module _ (cs : List (List ℕ)) (w : List ℕ) where
   when_more true xs ys h = h
   when_more false xs ys h = λ e. e
 
-  copied_more : (h g : Head) (body other : StmtTrees) → ClearsAll h g body other → AreNoMore w (copied g other) (copied h body)
+  pub copied_more : (h g : Head) (body other : StmtTrees) → ClearsAll h g body other → AreNoMore w (copied g other) (copied h body)
   copied_more h g body other c =
       append_more w g.private (if g.parallel then all_loop_variables other else []) h.private (if h.parallel then all_loop_variables body else []) c.private
       (subst (λ (p : Bool). AreNoMore w (if p then all_loop_variables other else []) (if h.parallel then all_loop_variables body else [])) c.parallel
@@ -224,7 +224,7 @@ module _ (cs : List (List ℕ)) (w : List ℕ) where
   own_exit_more : (h g : Head) (body other : StmtTrees) → ClearsAll h g body other → AreNoMore w (own_exit g) (own_exit h)
   own_exit_more h g body other c e = ap (is_among w) (λ i. if c.parallel i then c.variable i ∷ [] else []) ∙ e
 
-  cleared_more : (n m : ℕ) (xs ys : List (List ℕ)) → AreNoMore w ys xs → IsNoMore (sum_events w (map (event n clears) xs)) (sum_events w (map (event m clears) ys))
+  pub cleared_more : (n m : ℕ) (xs ys : List (List ℕ)) → AreNoMore w ys xs → IsNoMore (sum_events w (map (event n clears) xs)) (sum_events w (map (event m clears) ys))
   cleared_more n m xs ys h = events_more w (map (event n clears) xs) (map (event m clears) ys) (λ e. clear_all w n xs ∙ h (sym (clear_all w m ys) ∙ e))
 
   pub loop_more : (h g : Head) (body other : StmtTrees) (n m : ℕ) (a b : Summary) → ClearsAll h g body other → IsNoMore a b → IsNoMore (sum_loop w n h body a) (sum_loop w m g other b)

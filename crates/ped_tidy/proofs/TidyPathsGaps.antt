@@ -9,7 +9,7 @@ use Rattle.ped_steps.specs.ped_flow.specs.Summaries.{unreached, sum_in_turn, sum
 use Rattle.ped_steps.specs.ped_flow.proofs.SumLaws.{in_turn-assoc, either-in_turn, either-assoc}
 use Rattle.ped_steps.specs.Replacing.{followed}
 use Rattle.ped_steps.specs.Runs.Gaps.{Gap, at_front, past, in_then, in_else, in_body, filled, number_at}
-use Rattle.ped_scalar.proofs.TidyPathsSums.{Summary, IsNoMore, AreNoMore, or_more, append_more, no_more, same_no_more, in_turn_more, either_more, same_head_clears, loop_more, do_more, if_more, more_more, any_number, any_numbers}
+use Rattle.ped_tidy.proofs.TidyPathsSums.{Summary, IsNoMore, AreNoMore, or_more, append_more, no_more, same_no_more, in_turn_more, either_more, same_head_clears, loop_more, do_more, if_more, more_more, any_number, any_numbers}
 
 -- two numbers stand alike to statements of which the first has the one number before and the other behind
 abbrev pub IsPlaced : ℕ → ℕ → ℕ → ℕ → ℕ → Type 0
@@ -53,14 +53,14 @@ part_outside : (k n count start part i : ℕ) → start + part ≤ count → i �
 part_outside k n count start part i h e p o less = let a : i + o ≡ n + (start + o) = omega (arith, e) in ap (λ (z : ℕ). k == z) a ∙ p (start + o) (omega (arith, h, less))
 
 module _ (cs : List (List ℕ)) (w : List ℕ) where
-  followed_sum : (ts us : StmtTrees) (n : ℕ) → sum_of_all cs w (followed ts us) n ≡ sum_in_turn (sum_of_all cs w ts n) (sum_of_all cs w us (n + statements_count ts))
+  pub followed_sum : (ts us : StmtTrees) (n : ℕ) → sum_of_all cs w (followed ts us) n ≡ sum_in_turn (sum_of_all cs w ts n) (sum_of_all cs w us (n + statements_count ts))
   followed_sum no_stmts us n = let e : n ≡ n + 0 = omega arith in ap (sum_of_all cs w us) e
   followed_sum (more_stmts t rest) us n =
       let e : n + statement_count t + statements_count rest ≡ n + (statement_count t + statements_count rest) = omega arith in
       ap (sum_in_turn (sum_of cs w t n)) (followed_sum rest us (n + statement_count t) ∙ ap (λ (i : ℕ). sum_in_turn (sum_of_all cs w rest (n + statement_count t)) (sum_of_all cs w us i)) e)
       ∙ sym (in_turn-assoc (sum_of cs w t n) (sum_of_all cs w rest (n + statement_count t)) (sum_of_all cs w us (n + (statement_count t + statements_count rest))))
 
-  followed_behind : (k : ℕ) (ts us : StmtTrees) (n : ℕ)
+  pub followed_behind : (k : ℕ) (ts us : StmtTrees) (n : ℕ)
       → sum_behind_all cs w k (followed ts us) n ≡ sum_either (sum_in_turn (sum_behind_all cs w k ts n) (sum_of_all cs w us (n + statements_count ts))) (sum_behind_all cs w k us (n + statements_count ts))
   followed_behind k no_stmts us n = let e : n ≡ n + 0 = omega arith in ap (sum_behind_all cs w k us) e
   followed_behind k (more_stmts t rest) us n =
@@ -154,7 +154,7 @@ module _ (cs : List (List ℕ)) (w : List ℕ) where
         (all_behind_none rest k (n + statement_count t) (part_outside k n count (statement_count t) (statements_count rest) (n + statement_count t) (omega arith) refl p))
 
 -- how many statements stand behind a gap
-abbrev behind_gap : Gap → ℕ
+abbrev pub behind_gap : Gap → ℕ
 behind_gap (at_front rest) = statements_count rest
 behind_gap (past t gap) = behind_gap gap
 behind_gap (in_then condition gap else_part rest) = behind_gap gap + statements_count else_part + statements_count rest
@@ -181,21 +181,26 @@ pub record LeaveNoMore (cs : List (List ℕ)) (w : List ℕ) (new old : StmtTree
   pub summed : (n m : ℕ) → IsNoMore (sum_of_all cs w new n) (sum_of_all cs w old m)
   pub loops : AreNoMore w (all_loop_variables old) (all_loop_variables new)
 
+-- where the new statements' DO loops have the variable, so have the DO loops of statements with the gap
+module _ (w : List ℕ) (new old : StmtTrees) (more : AreNoMore w (all_loop_variables old) (all_loop_variables new)) where
+  pub gap_variables : (g : Gap) → AreNoMore w (all_loop_variables (filled g old)) (all_loop_variables (filled g new))
+  gap_variables (at_front rest) = λ e.
+      ap (is_among w) (followed_loops new rest)
+      ∙ append_more w (all_loop_variables old) (all_loop_variables rest) (all_loop_variables new) (all_loop_variables rest) more (λ f. f) (sym (ap (is_among w) (followed_loops old rest)) ∙ e)
+  gap_variables (past t g) = append_more w (loop_variables t) (all_loop_variables (filled g old)) (loop_variables t) (all_loop_variables (filled g new)) (λ e. e) (gap_variables g)
+  gap_variables (in_then c g b rest) =
+      append_more w (all_loop_variables (filled g old) ++ all_loop_variables b) (all_loop_variables rest) (all_loop_variables (filled g new) ++ all_loop_variables b) (all_loop_variables rest)
+      (append_more w (all_loop_variables (filled g old)) (all_loop_variables b) (all_loop_variables (filled g new)) (all_loop_variables b) (gap_variables g) (λ e. e)) (λ e. e)
+  gap_variables (in_else c a g rest) =
+      append_more w (all_loop_variables a ++ all_loop_variables (filled g old)) (all_loop_variables rest) (all_loop_variables a ++ all_loop_variables (filled g new)) (all_loop_variables rest)
+      (append_more w (all_loop_variables a) (all_loop_variables (filled g old)) (all_loop_variables a) (all_loop_variables (filled g new)) (λ e. e) (gap_variables g)) (λ e. e)
+  gap_variables (in_body h g rest) =
+      or_more (is_same_text w h.variable) (is_among w (all_loop_variables (filled g old) ++ all_loop_variables rest)) (is_same_text w h.variable) (is_among w (all_loop_variables (filled g new) ++ all_loop_variables rest)) (λ e. e)
+      (append_more w (all_loop_variables (filled g old)) (all_loop_variables rest) (all_loop_variables (filled g new)) (all_loop_variables rest) (gap_variables g) (λ e. e))
+
 module _ (cs : List (List ℕ)) (w : List ℕ) (new old : StmtTrees) (less : LeaveNoMore cs w new old) where
   gap_loops : (g : Gap) → AreNoMore w (all_loop_variables (filled g old)) (all_loop_variables (filled g new))
-  gap_loops (at_front rest) = λ e.
-      ap (is_among w) (followed_loops new rest)
-      ∙ append_more w (all_loop_variables old) (all_loop_variables rest) (all_loop_variables new) (all_loop_variables rest) less.loops (λ f. f) (sym (ap (is_among w) (followed_loops old rest)) ∙ e)
-  gap_loops (past t g) = append_more w (loop_variables t) (all_loop_variables (filled g old)) (loop_variables t) (all_loop_variables (filled g new)) (λ e. e) (gap_loops g)
-  gap_loops (in_then c g b rest) =
-      append_more w (all_loop_variables (filled g old) ++ all_loop_variables b) (all_loop_variables rest) (all_loop_variables (filled g new) ++ all_loop_variables b) (all_loop_variables rest)
-      (append_more w (all_loop_variables (filled g old)) (all_loop_variables b) (all_loop_variables (filled g new)) (all_loop_variables b) (gap_loops g) (λ e. e)) (λ e. e)
-  gap_loops (in_else c a g rest) =
-      append_more w (all_loop_variables a ++ all_loop_variables (filled g old)) (all_loop_variables rest) (all_loop_variables a ++ all_loop_variables (filled g new)) (all_loop_variables rest)
-      (append_more w (all_loop_variables a) (all_loop_variables (filled g old)) (all_loop_variables a) (all_loop_variables (filled g new)) (λ e. e) (gap_loops g)) (λ e. e)
-  gap_loops (in_body h g rest) =
-      or_more (is_same_text w h.variable) (is_among w (all_loop_variables (filled g old) ++ all_loop_variables rest)) (is_same_text w h.variable) (is_among w (all_loop_variables (filled g new) ++ all_loop_variables rest)) (λ e. e)
-      (append_more w (all_loop_variables (filled g old)) (all_loop_variables rest) (all_loop_variables (filled g new)) (all_loop_variables rest) (gap_loops g) (λ e. e))
+  gap_loops g = gap_variables w new old less.loops g
 
   -- programs that differ in a gap
   pub gap_sum : (g : Gap) (n m : ℕ) → IsNoMore (sum_of_all cs w (filled g new) n) (sum_of_all cs w (filled g old) m)

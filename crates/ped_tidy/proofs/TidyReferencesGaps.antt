@@ -49,27 +49,32 @@ each_of_program P t all l loop = by_number (l == 0) refl loop.is
     by_number true e h = absurd cc
     by_number false e h = let more : l ≡ 1 + (l - 1) = grind (arith, eqb-true, e) in all_at P loop.head loop.body t.body 1 (l - 1) l more h all
 
--- statements with numbers from low up to high, of which each is so much greater now
-module _ (P Q : ℕ → Head → StmtTrees → Type 0) (shift low high : ℕ) (moves : (k j : ℕ) (h : Head) (b : StmtTrees) → low ≤ k → k < high → j ≡ k + shift → P k h b → Q j h b) where
+-- statements with numbers from low up to high, of which each counts by so much up and down now
+module _ (P Q : ℕ → Head → StmtTrees → Type 0) (up down low high : ℕ) (moves : (k j : ℕ) (h : Head) (b : StmtTrees) → low ≤ k → k < high → j + down ≡ k + up → P k h b → Q j h b) where
   mutual
-    one_moves : (s : StmtTree) (k j : ℕ) → low ≤ k → k + statement_count s ≤ high → j ≡ k + shift → EachDo P s k → EachDo Q s j
-    one_moves (Assign left right) k j from to e all = tt
-    one_moves (If c a b) k j from to e all = (
-      all_move a (k + 1) (j + 1) (omega (arith, from)) (omega (arith, to)) (omega (arith, e)) all.0,
-      all_move b (k + 1 + statements_count a) (j + 1 + statements_count a) (omega (arith, from)) (omega (arith, to)) (omega (arith, e)) all.1,
+    pub one_goes : (s : StmtTree) (k j : ℕ) → low ≤ k → k + statement_count s ≤ high → j + down ≡ k + up → EachDo P s k → EachDo Q s j
+    one_goes (Assign left right) k j from to e all = tt
+    one_goes (If c a b) k j from to e all = (
+      all_go a (k + 1) (j + 1) (omega (arith, from)) (omega (arith, to)) (omega (arith, e)) all.0,
+      all_go b (k + 1 + statements_count a) (j + 1 + statements_count a) (omega (arith, from)) (omega (arith, to)) (omega (arith, e)) all.1,
     )
-    one_moves (Do h b) k j from to e all = (moves k j h b from (omega (arith, to)) e all.0, all_move b (k + 1) (j + 1) (omega (arith, from)) (omega (arith, to)) (omega (arith, e)) all.1)
-    one_moves (Print items) k j from to e all = tt
-    one_moves (Read items) k j from to e all = tt
-    one_moves Stop k j from to e all = tt
-    one_moves (Comment text) k j from to e all = tt
+    one_goes (Do h b) k j from to e all = (moves k j h b from (omega (arith, to)) e all.0, all_go b (k + 1) (j + 1) (omega (arith, from)) (omega (arith, to)) (omega (arith, e)) all.1)
+    one_goes (Print items) k j from to e all = tt
+    one_goes (Read items) k j from to e all = tt
+    one_goes Stop k j from to e all = tt
+    one_goes (Comment text) k j from to e all = tt
 
-    pub all_move : (ss : StmtTrees) (k j : ℕ) → low ≤ k → k + statements_count ss ≤ high → j ≡ k + shift → EachDos P ss k → EachDos Q ss j
-    all_move no_stmts k j from to e all = tt
-    all_move (more_stmts s rest) k j from to e all = (
-      one_moves s k j from (omega (arith, to)) e all.0,
-      all_move rest (k + statement_count s) (j + statement_count s) (omega (arith, from)) (omega (arith, to)) (omega (arith, e)) all.1,
+    pub all_go : (ss : StmtTrees) (k j : ℕ) → low ≤ k → k + statements_count ss ≤ high → j + down ≡ k + up → EachDos P ss k → EachDos Q ss j
+    all_go no_stmts k j from to e all = tt
+    all_go (more_stmts s rest) k j from to e all = (
+      one_goes s k j from (omega (arith, to)) e all.0,
+      all_go rest (k + statement_count s) (j + statement_count s) (omega (arith, from)) (omega (arith, to)) (omega (arith, e)) all.1,
     )
+
+-- the same where each is so much greater
+pub all_move : (P Q : ℕ → Head → StmtTrees → Type 0) (shift low high : ℕ) (moves : (k j : ℕ) (h : Head) (b : StmtTrees) → low ≤ k → k < high → j ≡ k + shift → P k h b → Q j h b)
+    (ss : StmtTrees) (k j : ℕ) → low ≤ k → k + statements_count ss ≤ high → j ≡ k + shift → EachDos P ss k → EachDos Q ss j
+all_move P Q shift low high moves ss k j from to e = all_go P Q shift 0 low high (λ n m h b a c f. moves n m h b a c (omega (arith, f))) ss k j from to (omega (arith, e))
 
 module _ (P : ℕ → Head → StmtTrees → Type 0) where
   -- the first of statements that follow each other, and the others
@@ -85,23 +90,23 @@ module _ (P : ℕ → Head → StmtTrees → Type 0) where
   of_both no_stmts ys n m e first rest = subst (λ (k : ℕ). EachDos P ys k) (omega (arith, e)) rest
   of_both (more_stmts x xs) ys n m e first rest = (first.0, of_both xs ys (n + statement_count x) m (omega (arith, e)) first.1 rest)
 
--- Statements with number l are exchanged for others, which are so many more. The DO loops before them stay, and those behind them move; those round them are told by the gap.
-module _ (P Q : ℕ → Head → StmtTrees → Type 0) (old new : StmtTrees) (shift l : ℕ) (nest : List Loop) (some : 0 < statements_count old) (more : statements_count new ≡ statements_count old + shift)
-    (stays : (k j : ℕ) (h : Head) (b : StmtTrees) → k < l → j ≡ k + 0 → P k h b → Q j h b) (moves : (k j : ℕ) (h : Head) (b : StmtTrees) → l + statements_count old ≤ k → j ≡ k + shift → P k h b → Q j h b)
+-- Statements with number l are exchanged for others, so that what stands behind them counts by so much up and down. The DO loops before them stay, and those behind them move; those round them are told by the gap.
+module _ (P Q : ℕ → Head → StmtTrees → Type 0) (old new : StmtTrees) (up down l : ℕ) (nest : List Loop) (some : 0 < statements_count old) (more : statements_count new + down ≡ statements_count old + up)
+    (stays : (k j : ℕ) (h : Head) (b : StmtTrees) → k < l → j ≡ k → P k h b → Q j h b) (moves : (k j : ℕ) (h : Head) (b : StmtTrees) → l + statements_count old ≤ k → j + down ≡ k + up → P k h b → Q j h b)
     (round : (n : ℕ) (h : Head) (gap : Gap) → n < l → IsIn (record { number = n; head = h }) nest → P n h (filled gap old) → Q n h (filled gap new)) (inside : EachDos P old l → EachDos Q new l) where
   abbrev Within : List Loop → Type 0
   Within loops = (m : Loop) → IsIn m loops → IsIn m nest
 
   -- what stands before the statements
   before_one : (s : StmtTree) (n : ℕ) → n + statement_count s ≤ l → EachDo P s n → EachDo Q s n
-  before_one s n to all = one_moves P Q 0 0 l (λ k j h b from below. stays k j h b below) s n n (omega arith) to (omega arith) all
+  before_one s n to all = one_goes P Q 0 0 0 l (λ k j h b from below e. stays k j h b below (omega (arith, e))) s n n (omega arith) to (omega arith) all
 
   before : (ss : StmtTrees) (n : ℕ) → n + statements_count ss ≤ l → EachDos P ss n → EachDos Q ss n
-  before ss n to all = all_move P Q 0 0 l (λ k j h b from below. stays k j h b below) ss n n (omega arith) to (omega arith) all
+  before ss n to all = all_go P Q 0 0 0 l (λ k j h b from below e. stays k j h b below (omega (arith, e))) ss n n (omega arith) to (omega arith) all
 
   -- and behind them
-  further : (rest : StmtTrees) (n m : ℕ) → l + statements_count old ≤ n → m ≡ n + shift → EachDos P rest n → EachDos Q rest m
-  further rest n m from e all = all_move P Q shift (l + statements_count old) (n + statements_count rest) (λ k j h b above below. moves k j h b above) rest n m from (omega arith) e all
+  further : (rest : StmtTrees) (n m : ℕ) → l + statements_count old ≤ n → m + down ≡ n + up → EachDos P rest n → EachDos Q rest m
+  further rest n m from e all = all_go P Q up down (l + statements_count old) (n + statements_count rest) (λ k j h b above below. moves k j h b above) rest n m from (omega arith) e all
 
   -- what stands behind a part with the gap, which begins at a number
   behind : (gap : Gap) (rest : StmtTrees) (start k n m : ℕ) → number_at gap start ≡ l → start ≤ k → n ≡ k + statements_count (filled gap old) → m ≡ k + statements_count (filled gap new) → EachDos P rest n → EachDos Q rest m
@@ -116,44 +121,53 @@ module _ (P Q : ℕ → Head → StmtTrees → Type 0) (old new : StmtTrees) (sh
       let high = number_room gap old (n + 1) in
       one_more l h (filled gap old) n (omega (arith, e, low)) (omega (arith, e, high, some))
 
-  pub exchanged_each : (gap : Gap) (n : ℕ) → number_at gap n ≡ l → Within (all_loops_round l (filled gap old) n) → EachDos P (filled gap old) n → EachDos Q (filled gap new) n
-  exchanged_each (at_front rest) n e within all =
+  pub each_exchanged : (gap : Gap) (n : ℕ) → number_at gap n ≡ l → Within (all_loops_round l (filled gap old) n) → EachDos P (filled gap old) n → EachDos Q (filled gap new) n
+  each_exchanged (at_front rest) n e within all =
       subst (λ (k : ℕ). EachDos Q (followed new rest) k) (sym e)
       (of_both Q new rest l (l + statements_count new) refl
       (inside (of_first P old rest l (subst (λ (k : ℕ). EachDos P (followed old rest) k) e all)))
       (further rest (l + statements_count old) (l + statements_count new) (omega arith) (omega (arith, more)) (of_rest P old rest n (l + statements_count old) (omega (arith, e)) all)))
-  exchanged_each (past s gap) n e within all =
+  each_exchanged (past s gap) n e within all =
       let low = number_from gap (n + statement_count s) in (
         before_one s n (omega (arith, e, low)) all.0,
-        exchanged_each gap (n + statement_count s) e (λ m i. within m (in_right m (loops_round l s n) (all_loops_round l (filled gap old) (n + statement_count s)) i)) all.1,
+        each_exchanged gap (n + statement_count s) e (λ m i. within m (in_right m (loops_round l s n) (all_loops_round l (filled gap old) (n + statement_count s)) i)) all.1,
       )
-  exchanged_each (in_then c gap b rest) n e within all = (
+  each_exchanged (in_then c gap b rest) n e within all = (
     (
-      exchanged_each gap (n + 1) e
+      each_exchanged gap (n + 1) e
           (λ m i. within m (in_left m (loops_round l (If c (filled gap old) b) n) (all_loops_round l rest (n + statement_count (If c (filled gap old) b)))
           (in_left m (all_loops_round l (filled gap old) (n + 1)) (all_loops_round l b (n + 1 + statements_count (filled gap old))) i))) all.0.0,
       behind gap b (n + 1) (n + 1) (n + 1 + statements_count (filled gap old)) (n + 1 + statements_count (filled gap new)) e (omega arith) refl refl all.0.1,
     ),
     behind gap rest (n + 1) (n + 1 + statements_count b) (n + statement_count (If c (filled gap old) b)) (n + statement_count (If c (filled gap new) b)) e (omega arith) (omega arith) (omega arith) all.1,
   )
-  exchanged_each (in_else c a gap rest) n e within all =
+  each_exchanged (in_else c a gap rest) n e within all =
       let start : ℕ = n + 1 + statements_count a in
       let low = number_from gap start in (
         (
           before a (n + 1) (omega (arith, e, low)) all.0.0,
-          exchanged_each gap start e
+          each_exchanged gap start e
               (λ m i. within m (in_left m (loops_round l (If c a (filled gap old)) n) (all_loops_round l rest (n + statement_count (If c a (filled gap old))))
               (in_right m (all_loops_round l a (n + 1)) (all_loops_round l (filled gap old) start) i))) all.0.1,
         ),
         behind gap rest start start (n + statement_count (If c a (filled gap old))) (n + statement_count (If c a (filled gap new))) e (omega arith) (omega arith) (omega arith) all.1,
       )
-  exchanged_each (in_body h gap rest) n e within all =
+  each_exchanged (in_body h gap rest) n e within all =
       let outer : Within (loops_round l (Do h (filled gap old)) n) = λ m i. within m (in_left m (loops_round l (Do h (filled gap old)) n) (all_loops_round l rest (n + statement_count (Do h (filled gap old)))) i) in
       let told : Within ((record { number = n; head = h }) ∷ all_loops_round l (filled gap old) (n + 1)) = subst Within (here gap h n e) outer in
       let low = number_from gap (n + 1) in (
-        (round n h gap (omega (arith, e, low)) (told (record { number = n; head = h }) (inl refl)) all.0.0, exchanged_each gap (n + 1) e (λ m i. told m (inr i)) all.0.1),
+        (round n h gap (omega (arith, e, low)) (told (record { number = n; head = h }) (inl refl)) all.0.0, each_exchanged gap (n + 1) e (λ m i. told m (inr i)) all.0.1),
         behind gap rest (n + 1) (n + 1) (n + statement_count (Do h (filled gap old))) (n + statement_count (Do h (filled gap new))) e (omega arith) (omega arith) (omega arith) all.1,
       )
+
+-- the same where the others are so many more
+module _ (P Q : ℕ → Head → StmtTrees → Type 0) (old new : StmtTrees) (shift l : ℕ) (nest : List Loop) (some : 0 < statements_count old) (more : statements_count new ≡ statements_count old + shift)
+    (stays : (k j : ℕ) (h : Head) (b : StmtTrees) → k < l → j ≡ k + 0 → P k h b → Q j h b) (moves : (k j : ℕ) (h : Head) (b : StmtTrees) → l + statements_count old ≤ k → j ≡ k + shift → P k h b → Q j h b)
+    (round : (n : ℕ) (h : Head) (gap : Gap) → n < l → IsIn (record { number = n; head = h }) nest → P n h (filled gap old) → Q n h (filled gap new)) (inside : EachDos P old l → EachDos Q new l) where
+  pub exchanged_each : (gap : Gap) (n : ℕ) → number_at gap n ≡ l → ((m : Loop) → IsIn m (all_loops_round l (filled gap old) n) → IsIn m nest) → EachDos P (filled gap old) n → EachDos Q (filled gap new) n
+  exchanged_each =
+      each_exchanged P Q old new shift 0 l nest some (omega (arith, more)) (λ k j h b below e. stays k j h b below (omega (arith, e)))
+      (λ k j h b above e. moves k j h b above (omega (arith, e))) round inside
 
 -- the DO stands in the program under this number
 abbrev pub Stands : ProgramTree → ℕ → Head → StmtTrees → Type 0

@@ -1,0 +1,3 @@
+pub use Rattle.ped_steps
+pub mod Carried
+pub mod Bounds

@@ -1,0 +1,10 @@
+-- Lemmas of cut and paste.
+pub mod CountedNumbers
+pub mod Examples
+pub mod JoinedParts
+pub mod LeftCopies
+pub mod KeptMeaning
+pub mod PastedRuns
+pub mod TheirCopies
+pub mod RunStores
+pub mod StandingParts

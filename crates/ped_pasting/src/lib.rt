@@ -1,0 +1,17 @@
+//! Cut and paste: laws by which a program in which statements have been exchanged for others does what the old one did,
+//! with new acts in the place of each execution of the old statements. Each function here does nothing; its contract is
+//! the law, and docs/MEANING.md tells what the laws are for.
+#![tactic(auto)]
+
+mod copies;
+mod executions;
+mod meaning;
+mod numbers;
+mod stores;
+
+pub use copies::copies_inside;
+pub use executions::{executions_pasted, parts_stand};
+pub use meaning::{exchanged_keeps, suiting_sets};
+pub use numbers::numbers_kept;
+pub use ped_steps;
+pub use stores::stores_hold_storable;

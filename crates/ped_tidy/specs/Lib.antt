@@ -1,0 +1,4 @@
+pub use Rattle.ped_steps
+pub mod Unrejected
+pub mod Exchanges
+pub mod Writing

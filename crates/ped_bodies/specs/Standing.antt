@@ -5,15 +5,15 @@ use Rattle.ped_tree.specs.Tree.{ExprTree, Var, StmtTrees}
 use Rattle.ped_tree.specs.NamesIn.{stmts_names}
 use Rattle.ped_tree.specs.Numbering.{statements_count}
 use Rattle.ped_tree.specs.Constants.NamedConstants.{value_named}
-use Rattle.ped_laws.specs.ped_store.specs.Cells.{Cell, Private, Iteration}
-use Rattle.ped_laws.specs.ped_store.specs.Stores.{Store}
-use Rattle.ped_laws.specs.ped_store.specs.Acts.{iterations_of}
-use Rattle.ped_laws.specs.ped_eval.specs.Scopes.{Setting, Scope, turns_of, cell_of, index_value, names_in}
-use Rattle.ped_laws.specs.ped_eval.specs.Evaluation.{Seen, cell_seen, index_seen, Evaluated}
-use Rattle.ped_laws.specs.ped_eval.specs.Values.{value}
-use Rattle.ped_laws.specs.ped_eval.specs.Loops.{all_index_names}
-use Rattle.ped_laws.specs.ped_eval.specs.Runs.{run_all}
-use Rattle.ped_laws.specs.Runs.Replaying.{goes_on, finish_of}
+use Rattle.ped_steps.specs.ped_laws.specs.ped_store.specs.Cells.{Cell, Private, Iteration}
+use Rattle.ped_steps.specs.ped_laws.specs.ped_store.specs.Stores.{Store}
+use Rattle.ped_steps.specs.ped_laws.specs.ped_store.specs.Acts.{iterations_of}
+use Rattle.ped_steps.specs.ped_laws.specs.ped_eval.specs.Scopes.{Setting, Scope, turns_of, cell_of, index_value, names_in}
+use Rattle.ped_steps.specs.ped_laws.specs.ped_eval.specs.Evaluation.{Seen, cell_seen, index_seen, Evaluated}
+use Rattle.ped_steps.specs.ped_laws.specs.ped_eval.specs.Values.{value}
+use Rattle.ped_steps.specs.ped_laws.specs.ped_eval.specs.Loops.{all_index_names}
+use Rattle.ped_steps.specs.ped_laws.specs.ped_eval.specs.Runs.{run_all}
+use Rattle.ped_steps.specs.ped_laws.specs.Runs.Replaying.{goes_on, finish_of}
 use Rattle.ped_steps.specs.Runs.Pasting.{AgreeInBounds}
 use Rattle.ped_steps.specs.Runs.Renumbering.{renumbered_iteration}
 use Rattle.ped_bodies.specs.Likewise.{Meet, DoesLikewise}

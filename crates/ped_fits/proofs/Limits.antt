@@ -1,5 +1,5 @@
 -- What a DO that fits by itself says of the limits round it.
-use Rattle.std.proofs.Common.{◌≡◌, ℕ, ◌<◌, Bool, true, List, length}
+use Rattle.std.proofs.Common.{◌≡◌, ◌<◌, Bool, true, length}
 use Rattle.std.specs.Prelude.{◌&&◌, not, nat_lt, nat_le}
 use Rattle.std.specs.List.{list_all}
 use Rattle.std.proofs.lemmas.Bool.{and_parts, ltb-true}

@@ -3,16 +3,16 @@ use Rattle.std.specs.Prelude.{◌≡◌, ℕ, ◌+◌, ◌<◌, ◌≤◌, List,
 use Rattle.ped_tree.specs.Tree.{StmtTrees, ProgramTree}
 use Rattle.ped_tree.specs.NamesIn.{stmts_names}
 use Rattle.ped_tree.specs.Numbering.{statements_count}
-use Rattle.ped_laws.specs.ped_store.specs.Cells.{Cell}
-use Rattle.ped_laws.specs.ped_store.specs.Stores.{Store}
-use Rattle.ped_laws.specs.ped_store.specs.Acts.{Act}
-use Rattle.ped_laws.specs.Acts.Fitting.{store_after}
-use Rattle.ped_laws.specs.Acts.Pieces.{Part, same, changed, old_parts, StandsFor}
-use Rattle.ped_laws.specs.FlowRuns.Covering.{some_stop}
-use Rattle.ped_laws.specs.FlowRuns.Exits.{IsOneToOne}
-use Rattle.ped_laws.specs.Runs.Replaying.{goes_on, finish_of, Replays}
-use Rattle.ped_laws.specs.ped_eval.specs.Scopes.{Setting, Scope}
-use Rattle.ped_laws.specs.ped_eval.specs.Runs.{Run, run_all}
+use Rattle.ped_steps.specs.ped_laws.specs.ped_store.specs.Cells.{Cell}
+use Rattle.ped_steps.specs.ped_laws.specs.ped_store.specs.Stores.{Store}
+use Rattle.ped_steps.specs.ped_laws.specs.ped_store.specs.Acts.{Act}
+use Rattle.ped_steps.specs.ped_laws.specs.Acts.Fitting.{store_after}
+use Rattle.ped_steps.specs.ped_laws.specs.Acts.Pieces.{Part, same, changed, old_parts, StandsFor}
+use Rattle.ped_steps.specs.ped_laws.specs.FlowRuns.Covering.{some_stop}
+use Rattle.ped_steps.specs.ped_laws.specs.FlowRuns.Exits.{IsOneToOne}
+use Rattle.ped_steps.specs.ped_laws.specs.Runs.Replaying.{goes_on, finish_of, Replays}
+use Rattle.ped_steps.specs.ped_laws.specs.ped_eval.specs.Scopes.{Setting, Scope}
+use Rattle.ped_steps.specs.ped_laws.specs.ped_eval.specs.Runs.{Run, run_all}
 use Rattle.ped_steps.specs.Runs.Gaps.{Gap, filled, number_at}
 use Rattle.ped_steps.specs.Runs.Pasting.{AgreeInBounds, is_in_parallel, HaveSameIndices}
 use Rattle.ped_pasting.specs.Executions.{IsExecuted}

@@ -1,8 +1,8 @@
 //! What a step shows, and the meaning that is kept.
 
 ghost use Rattle.std.specs.Prelude.{Bool, ◌||◌, not};
-ghost use Rattle.ped_laws.specs.Acts.Sets.{wants};
-ghost use Rattle.ped_laws.specs.ped_store.specs.Cells.{Cell};
+ghost use Rattle.ped_steps.specs.ped_laws.specs.Acts.Sets.{wants};
+ghost use Rattle.ped_steps.specs.ped_laws.specs.ped_store.specs.Cells.{Cell};
 ghost use Rattle.ped_tree.specs.Tree.{StmtTrees, ProgramTree};
 ghost use Rattle.ped_steps.specs.Runs.Gaps.{Gap};
 ghost use Rattle.ped_steps.specs.Runs.Meaning.{Keeps};

@@ -42,7 +42,7 @@ abbrev pub factor_of : Text → Option ℤ
 factor_of [] = None
 factor_of (c ∷ cs) = if c == 45 then option_map (λ n. neg_ℤ (pos n)) (number_of 9 cs) else option_map pos (number_of 9 (c ∷ cs))
 
--- the name that a word writes, in capitals: a letter, and at most thirty letters and digits behind it (ANSI X3.9-1978, section 2.2, with 31 for six)
+-- the name that a word writes, in capitals: a letter, and at most thirty letters and digits behind it (ANSI X3.9-1978, section 2.2; this project)
 abbrev pub name_of : Text → Option Text
 name_of word =
     let capitals = map to_ascii_uppercase word in

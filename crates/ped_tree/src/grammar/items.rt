@@ -8,7 +8,7 @@ use ped_base::{Name, Names};
 /// A DO statement by itself (ANSI X3.9-1978, section 11.10).
 #[derive(Drop)]
 pub struct DoStatement {
-    /// The label of the statement that ends the loop, 1 to 99999; none where END DO ends it.
+    /// The label of the statement that ends the loop, 1 to 99999; none where it has none.
     pub label: Option<u32>,
     /// The DO variable.
     pub variable: Name,

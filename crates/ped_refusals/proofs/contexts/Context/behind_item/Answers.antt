@@ -1,4 +1,4 @@
-use Rattle.std.proofs.Common.{◌≡◌, ℕ, ◌+◌, rules, sym, ap, arith}
+use Rattle.std.proofs.Common.{◌≡◌, ℕ, ◌+◌, rules, sym, arith}
 use Rattle.ped_tree.specs.Grammar.Contexts as Spec
 use Rattle.ped_tree.specs.Grammar.ItemViews.{item_of}
 use Rattle.ped_print.specs.Lengths.{limited}

@@ -4,6 +4,7 @@ pub mod Examples
 pub mod JoinedParts
 pub mod LeftCopies
 pub mod KeptMeaning
+pub mod OneStatement
 pub mod PastedRuns
 pub mod TheirCopies
 pub mod RunStores

@@ -4,3 +4,4 @@ pub mod Copies
 pub mod Pasting
 pub mod Meaning
 pub mod Numbers
+pub mod Statements

@@ -7,6 +7,7 @@ mod copies;
 mod executions;
 mod meaning;
 mod numbers;
+mod statements;
 mod stores;
 
 pub use copies::copies_inside;
@@ -14,4 +15,5 @@ pub use executions::{executions_pasted, parts_stand};
 pub use meaning::{exchanged_keeps, suiting_sets};
 pub use numbers::numbers_kept;
 pub use ped_steps;
+pub use statements::statement_gives_way;
 pub use stores::stores_hold_storable;

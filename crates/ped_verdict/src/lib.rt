@@ -15,6 +15,7 @@ mod steps;
 mod testing;
 mod vectors;
 
+pub use listing::vectors_of;
 pub use steps::Steps;
 pub use testing::{Verdict, test};
 pub use vectors::Vector;

@@ -5,11 +5,21 @@ ghost use Rattle.ped_views.specs.Vectors.{AreVectors};
 ghost use Rattle.ped_verdict.specs.Marked.{AreMarked};
 
 use crate::places::vector_at;
+use crate::refining::possible_vectors;
 use crate::vectors::Vector;
 use ped_base::NoMemory;
 use ped_bits::Row;
 use ped_views::PairView;
 use std::alloc::Global;
+
+/// All vectors of a view that no position and no group excludes, in the lexicographic order `<`, `=`, `>`. It makes no
+/// verdict and counts no test: it serves a question about a program that a session doesn't hold.
+pub fn vectors_of(alloc: Global, view: &PairView) -> Result<Vec<Vector>, NoMemory>
+    ensures { IfOk result (λ vectors. AreVectors view.now vectors.items) }
+{
+    let possible = possible_vectors(alloc, view)?;
+    listed(alloc, view, &possible)
+}
 
 /// The possible vectors of a view, of which a row has the places, in their order.
 pub(crate) fn listed(

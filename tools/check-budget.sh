@@ -3,6 +3,8 @@
 # more for its tests and for each must-fail edit. And whenever the toolchain looks whether a crate is up to date, it goes
 # down every way that leads from the crate by crates.txt, so the same crate is read as often as ways lead to it.
 #
+# How far crates reach into the lemmas of others is held, too, file by file: tools/lemma-doors.py --list shows it.
+#
 # There is a line for each count that is above its limit, and a last line with all. The status is 0 only where none is.
 set -eu
 cd -- "$(dirname -- "${BASH_SOURCE[0]}")/.."
@@ -13,6 +15,9 @@ most_crates_with_edits=12
 most_test_lines=250
 most_crates_with_tests=2
 most_ways=6000
+most_lemma_files=109
+most_lemma_imports=509
+most_needless_doors=117
 
 edits() {
     find crates/*/must-fail -name '*.edit' 2>/dev/null
@@ -71,6 +76,11 @@ hold 'crates with such edits' "$(edits | count_crates)" "$most_crates_with_edits
 hold 'lines of tests' "$test_lines" "$most_test_lines"
 hold 'crates with tests' "$(tests | count_crates)" "$most_crates_with_tests"
 hold 'ways down by crates.txt' "$(count_ways)" "$most_ways"
+
+read -r lemma_files lemma_imports needless_doors < <(python3 tools/lemma-doors.py)
+hold 'files of lemmas that other crates cite' "$lemma_files" "$most_lemma_files"
+hold 'imports of other crates'"'"' lemmas' "$lemma_imports" "$most_lemma_imports"
+hold 'open files of lemmas that no other crate cites' "$needless_doors" "$most_needless_doors"
 
 printf 'budget: %s' "${said[0]}"
 printf ', %s' "${said[@]:1}"

@@ -18,7 +18,7 @@ private_is (variant.Element x rank subscripts) d e h = absurd (false_true (ap is
   where
     false_true : false ≡ true → ⊥
     false_true e = cc
-private_is (variant.Private x depth dos iterations) d e h = tt
+private_is (variant.Private copy) d e h = tt
 private_is variant.In d e h = absurd (false_true (ap is_copy e ∙ h))
   where
     false_true : false ≡ true → ⊥
@@ -47,7 +47,7 @@ scalar_cell (f ∷ fs) x = scalar_by f fs x (is_among x f.private) (scalar_cell 
 scalar_is : (c : code.Cell) → is_of_scalar (cell_view c) ≡ true → IsOfScalar c
 scalar_is (variant.Scalar x) h = tt
 scalar_is (variant.Element x rank subscripts) h = absurd cc
-scalar_is (variant.Private x depth dos iterations) h = tt
+scalar_is (variant.Private copy) h = tt
 scalar_is variant.In h = absurd cc
 scalar_is variant.Out h = absurd cc
 

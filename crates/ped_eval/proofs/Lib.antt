@@ -1,36 +1,36 @@
-pub mod Agreements
-pub mod Assignments
-pub mod CellForms
-pub mod Copies
+mod Agreements
+mod Assignments
+mod CellForms
+mod Copies
 pub mod Endings
-pub mod Entries
-pub mod Evaluations
-pub mod Examples
-pub mod Frames
-pub mod Intrinsics
-pub mod Iterations
-pub mod Levels
-pub mod Lines
-pub mod Moments
-pub mod Notings
-pub mod Parts
-pub mod Prints
-pub mod Quotients
-pub mod ReadNotes
-pub mod Readings
-pub mod RowsByNames
-pub mod RunOutcomes
-pub mod Running
-pub mod SameValues
-pub mod Seeing
-pub mod ShapesByNames
-pub mod Spans
-pub mod Starts
-pub mod StatementActs
-pub mod StatementWatches
-pub mod Storing
-pub mod Steps
-pub mod Takings
-pub mod Undefining
-pub mod Walks
-pub mod Watching
+mod Entries
+mod Evaluations
+mod Examples
+mod Frames
+mod Intrinsics
+mod Iterations
+mod Levels
+mod Lines
+mod Moments
+mod Notings
+mod Parts
+mod Prints
+mod Quotients
+mod ReadNotes
+mod Readings
+mod RowsByNames
+mod RunOutcomes
+mod Running
+mod SameValues
+mod Seeing
+mod ShapesByNames
+mod Spans
+mod Starts
+mod StatementActs
+mod StatementWatches
+mod Storing
+mod Steps
+mod Takings
+mod Undefining
+mod Walks
+mod Watching

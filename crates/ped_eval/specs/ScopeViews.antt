@@ -1,5 +1,6 @@
 -- The iterations that the code's scopes stand for (this project).
 use Rattle.std.specs.Prelude.{ℕ, ℤ, List, [], ◌∷◌, map, reverse}
+use Rattle.ped_store.specs.Cells.{Iteration}
 use Rattle.ped_store.specs.Memories.{Memory}
 use Rattle.ped_eval.specs.Scopes.{Frame, Scope, Names, cell_of, index_value}
 use Rattle.ped_eval.specs.declared.scopes.Frame as code
@@ -11,6 +12,10 @@ frame_view f = record {
   variable = f.variable;
   private = f.private;
 }
+
+-- the iteration of a DO that a frame stands for
+abbrev pub frame_iteration : code.Frame → Iteration
+frame_iteration f = record { statement = f.statement; number = f.number }
 
 -- the iterations of frames that are kept from the outermost on; the innermost comes first
 abbrev pub scope_view : List code.Frame → Scope

@@ -24,7 +24,7 @@ use crate::operations::{
 };
 use crate::surroundings::Surroundings;
 use ped_base::Name;
-use ped_store::Cell;
+use ped_store::{Cell, FaultKind, RunFault};
 use ped_tree::constants::Consts;
 use ped_tree::{Cond, Expr, Intrinsic};
 
@@ -32,8 +32,8 @@ use ped_tree::{Cond, Expr, Intrinsic};
 ///
 /// # Errors
 ///
-/// The number of the first fault from left to right: 1 where an undefined scalar or element is read, 2 where a subscript
-/// lies outside its bounds, 3 for a division by zero, 4 where a value leaves 128 bits (ANSI X3.9-1978, section 6.6).
+/// The first fault from left to right: an undefined scalar or element is read, a subscript lies outside its bounds, a
+/// division by zero, or a value leaves 128 bits (ANSI X3.9-1978, section 6.6).
 #[cycle(value_of)]
 pub fn value_of(e: &Expr, around: &Surroundings, notes: &mut Notes) -> Valued
     ensures value { result ≡ value_at around.now (expr_tree e.now) }
@@ -176,7 +176,7 @@ fn is_read(value: &Valued) -> bool
 {
     match value {
         Ok(_) => return true,
-        Err(fault) => return *fault == 1,
+        Err(fault) => return matches!(fault.kind, FaultKind::UndefinedRead),
     }
 }
 
@@ -185,9 +185,9 @@ fn is_read(value: &Valued) -> bool
 ///
 /// # Errors
 ///
-/// The number of the first fault in the subscripts; 2 where there are no subscripts or more than seven, and where the
+/// The first fault in the subscripts; outside bounds where there are no subscripts or more than seven, and where the
 /// expression is neither a scalar nor an element.
-pub fn target_cell(e: &Expr, around: &Surroundings, notes: &mut Notes) -> Result<Cell, u8>
+pub fn target_cell(e: &Expr, around: &Surroundings, notes: &mut Notes) -> Result<Cell, RunFault>
     ensures cell { IfOk result (λ c. IsCell c) }
     ensures named { IfOk result (λ c. IsNamedBy around.now.scope.now (expr_tree e.now) (cell_view c)) }
     ensures target { IfOk result (λ c. target_at around.now (expr_tree e.now) ≡ bounded (memory_of around.now.store.now) (cell_view c)) }
@@ -204,7 +204,7 @@ pub fn target_cell(e: &Expr, around: &Surroundings, notes: &mut Notes) -> Result
         | Expr::Mul(_, _)
         | Expr::Div(_, _)
         | Expr::Pow(_, _)
-        | Expr::Call(_, _) => return Err(2),
+        | Expr::Call(_, _) => return Err(RunFault::OUTSIDE_BOUNDS),
     }
 }
 
@@ -215,7 +215,7 @@ fn element_cell(
     subscripts: &[Expr],
     around: &Surroundings,
     notes: &mut Notes,
-) -> Result<Cell, u8>
+) -> Result<Cell, RunFault>
     ensures cell { IfOk result (λ c. IsCell c) }
     ensures named { IfOk result (λ c. IsNamedBy around.now.scope.now (Tree.Element name.now (pack_exprs (map expr_tree subscripts.now))) (cell_view c)) }
     ensures target { IfOk result (λ c. target_at around.now (Tree.Element name.now (pack_exprs (map expr_tree subscripts.now))) ≡ bounded (memory_of around.now.store.now) (cell_view c)) }
@@ -223,7 +223,7 @@ fn element_cell(
     ensures noted { HasNoted notes.old (all_seen_at around.now subscripts.now) notes.new }
 {
     if !is_rank(subscripts.len()) {
-        return Err(fault_in(subscripts, 2, around, notes));
+        return Err(fault_in(subscripts, RunFault::OUTSIDE_BOUNDS, around, notes));
     }
     match places_of(subscripts, around, notes) {
         Ok(places) => {
@@ -246,7 +246,11 @@ fn is_rank(count: usize) -> bool
 
 /// The values of at most seven subscripts, in order, and 0 in the places past them.
 #[cycle(value_of)]
-fn places_of(subscripts: &[Expr], around: &Surroundings, notes: &mut Notes) -> Result<[i128; 7], u8>
+fn places_of(
+    subscripts: &[Expr],
+    around: &Surroundings,
+    notes: &mut Notes,
+) -> Result<[i128; 7], RunFault>
     requires { length subscripts.now ≤ 7 }
     ensures places { IfOk result (λ places. values_at around.now subscripts.now ≡ Ok (take (length subscripts.now) places)) }
     ensures rest { IfOk result (λ places. drop (length subscripts.now) places ≡ replicate (7 - length subscripts.now) (pos 0)) }
@@ -262,7 +266,12 @@ fn places_of(subscripts: &[Expr], around: &Surroundings, notes: &mut Notes) -> R
 
 /// The first fault in expressions that are evaluated in order, or else this one.
 #[cycle(value_of)]
-fn fault_in(expressions: &[Expr], fault: u8, around: &Surroundings, notes: &mut Notes) -> u8
+fn fault_in(
+    expressions: &[Expr],
+    fault: RunFault,
+    around: &Surroundings,
+    notes: &mut Notes,
+) -> RunFault
     ensures noted { HasNoted notes.old (all_seen_at around.now expressions.now) notes.new }
     ensures fault { result ≡ fault_or fault (values_at around.now expressions.now) }
 {
@@ -301,7 +310,7 @@ fn remainder_of_two(arguments: &[Expr], around: &Surroundings, notes: &mut Notes
     ensures noted { HasNoted notes.old (all_seen_at around.now arguments.now) notes.new }
 {
     let [dividend, divisor] = arguments else {
-        return Err(fault_in(arguments, 4, around, notes));
+        return Err(fault_in(arguments, RunFault::OUT_OF_RANGE, around, notes));
     };
     let first = value_of(dividend, around, notes);
     let second = next_value(&first, divisor, around, notes);
@@ -316,7 +325,7 @@ fn absolute_value_of_one(arguments: &[Expr], around: &Surroundings, notes: &mut 
     ensures noted { HasNoted notes.old (all_seen_at around.now arguments.now) notes.new }
 {
     let [argument] = arguments else {
-        return Err(fault_in(arguments, 4, around, notes));
+        return Err(fault_in(arguments, RunFault::OUT_OF_RANGE, around, notes));
     };
     absolute(value_of(argument, around, notes))
 }
@@ -329,7 +338,7 @@ fn greatest_of_all(arguments: &[Expr], around: &Surroundings, notes: &mut Notes)
     ensures noted { HasNoted notes.old (all_seen_at around.now arguments.now) notes.new }
 {
     if arguments.len() < 2 {
-        return Err(fault_in(arguments, 4, around, notes));
+        return Err(fault_in(arguments, RunFault::OUT_OF_RANGE, around, notes));
     }
     let mut value = value_of(&arguments[0], around, notes)?;
     for argument in &arguments[1..] {
@@ -346,7 +355,7 @@ fn least_of_all(arguments: &[Expr], around: &Surroundings, notes: &mut Notes) ->
     ensures noted { HasNoted notes.old (all_seen_at around.now arguments.now) notes.new }
 {
     if arguments.len() < 2 {
-        return Err(fault_in(arguments, 4, around, notes));
+        return Err(fault_in(arguments, RunFault::OUT_OF_RANGE, around, notes));
     }
     let mut value = value_of(&arguments[0], around, notes)?;
     for argument in &arguments[1..] {
@@ -376,7 +385,11 @@ fn less(a: i128, b: i128) -> i128
 ///
 /// Those of the first of its expressions that faults.
 #[cycle(truth_of)]
-pub fn truth_of(condition: &Cond, around: &Surroundings, notes: &mut Notes) -> Result<bool, u8>
+pub fn truth_of(
+    condition: &Cond,
+    around: &Surroundings,
+    notes: &mut Notes,
+) -> Result<bool, RunFault>
     ensures truth { result ≡ truth_at around.now (cond_tree condition.now) }
     ensures noted { HasNoted notes.old (truth_seen_at around.now (cond_tree condition.now)) notes.new }
 {
@@ -403,11 +416,11 @@ pub fn truth_of(condition: &Cond, around: &Surroundings, notes: &mut Notes) -> R
 /// Whether a condition is true, where the one before it has no fault; else that fault.
 #[cycle(truth_of)]
 fn next_truth(
-    first: &Result<bool, u8>,
+    first: &Result<bool, RunFault>,
     condition: &Cond,
     around: &Surroundings,
     notes: &mut Notes,
-) -> Result<bool, u8>
+) -> Result<bool, RunFault>
     ensures truth { result ≡ next_result first.now (truth_at around.now (cond_tree condition.now)) }
     ensures noted { HasNoted notes.old (seen_next first.now (truth_seen_at around.now (cond_tree condition.now))) notes.new }
 {

@@ -10,103 +10,101 @@ ghost use Rattle.ped_eval.specs.Values as Values;
 use ped_base::arithmetic::{
     Fault, absolute_value, difference, negation, power, product, quotient, remainder, sum,
 };
+use ped_store::RunFault;
 use ped_tree::Relation;
 
-/// A number, or the number of a fault.
-pub type Valued = Result<i128, u8>;
+/// A number, or a fault.
+pub type Valued = Result<i128, RunFault>;
 
 /// `-a`.
 pub fn negative(a: Valued) -> Valued
     ensures { result ≡ of_one (λ u. Evaluation.by_number (negation_of u)) a }
 {
-    by_number(negation(a?))
+    of_run(negation(a?))
 }
 
 /// `a + b`.
 pub fn added(a: Valued, b: Valued) -> Valued
     ensures { result ≡ of_two (λ u v. Evaluation.by_number (sum_of u v)) a b }
 {
-    by_number(sum(a?, b?))
+    of_run(sum(a?, b?))
 }
 
 /// `a - b`.
 pub fn subtracted(a: Valued, b: Valued) -> Valued
     ensures { result ≡ of_two (λ u v. Evaluation.by_number (difference_of u v)) a b }
 {
-    by_number(difference(a?, b?))
+    of_run(difference(a?, b?))
 }
 
 /// `a * b`.
 pub fn multiplied(a: Valued, b: Valued) -> Valued
     ensures { result ≡ of_two (λ u v. Evaluation.by_number (product_of u v)) a b }
 {
-    by_number(product(a?, b?))
+    of_run(product(a?, b?))
 }
 
 /// `a / b`.
 pub fn divided(a: Valued, b: Valued) -> Valued
     ensures { result ≡ of_two (λ u v. Evaluation.by_number (quotient_of u v)) a b }
 {
-    by_number(quotient(a?, b?))
+    of_run(quotient(a?, b?))
 }
 
 /// `a ** b`.
 pub fn raised(a: Valued, b: Valued) -> Valued
     ensures { result ≡ of_two (λ u v. Evaluation.by_number (power_of u v)) a b }
 {
-    by_number(power(a?, b?))
+    of_run(power(a?, b?))
 }
 
 /// `MOD(a,b)`.
 pub fn remaining(a: Valued, b: Valued) -> Valued
     ensures { result ≡ of_two (λ u v. Evaluation.by_number (remainder_of u v)) a b }
 {
-    by_number(remainder(a?, b?))
+    of_run(remainder(a?, b?))
 }
 
 /// `ABS(a)`.
 pub fn absolute(a: Valued) -> Valued
     ensures { result ≡ of_one (λ u. Evaluation.by_number (absolute_value_of u)) a }
 {
-    by_number(absolute_value(a?))
+    of_run(absolute_value(a?))
 }
 
 /// A relation of two numbers.
-pub fn related(relation: &Relation, a: Valued, b: Valued) -> Result<bool, u8>
+pub fn related(relation: &Relation, a: Valued, b: Valued) -> Result<bool, RunFault>
     ensures { result ≡ of_two (λ u v. Ok (Values.relation_holds relation.now u v)) a b }
 {
     Ok(holds(*relation, a?, b?))
 }
 
 /// `.NOT. a`.
-pub fn denied(a: Result<bool, u8>) -> Result<bool, u8>
+pub fn denied(a: Result<bool, RunFault>) -> Result<bool, RunFault>
     ensures { result ≡ of_one (λ u. Ok (not u)) a }
 {
     Ok(!a?)
 }
 
 /// `a .AND. b`.
-pub fn both(a: Result<bool, u8>, b: Result<bool, u8>) -> Result<bool, u8>
+pub fn both(a: Result<bool, RunFault>, b: Result<bool, RunFault>) -> Result<bool, RunFault>
     ensures { result ≡ of_two (λ u v. Ok (u && v)) a b }
 {
     Ok(a? & b?)
 }
 
 /// `a .OR. b`.
-pub fn either(a: Result<bool, u8>, b: Result<bool, u8>) -> Result<bool, u8>
+pub fn either(a: Result<bool, RunFault>, b: Result<bool, RunFault>) -> Result<bool, RunFault>
     ensures { result ≡ of_two (λ u v. Ok (u || v)) a b }
 {
     Ok(a? | b?)
 }
 
-/// A result of arithmetic, its fault by its number.
-fn by_number(outcome: Result<i128, Fault>) -> Valued
+/// A result of arithmetic, its fault as one of the run.
+fn of_run(outcome: Result<i128, Fault>) -> Valued
     ensures { result ≡ Evaluation.by_number outcome }
 {
-    match outcome {
-        Ok(value) => return Ok(value),
-        Err(fault) => return Err(fault.number()),
-    }
+    Ok(outcome?)
 }
 
 /// Whether a relation of two numbers holds.

@@ -1,6 +1,7 @@
 //! Outcomes of programs.
 
 use ped_base::{Bytes, Listed, Name};
+use ped_store::RunFault;
 
 /// A live-out variable with what it holds at the end.
 #[derive(Drop)]
@@ -24,8 +25,8 @@ pub enum Outcome {
     },
     /// By a fault.
     Fault {
-        /// Its number: 1 undefined, 2 outside bounds, 3 division by zero, 4 out of range, 5 bad data.
-        number: u8,
+        /// What it is.
+        fault: RunFault,
         /// The statement that met it.
         statement: u32,
     },

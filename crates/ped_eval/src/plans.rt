@@ -23,6 +23,7 @@ use crate::surroundings::Surroundings;
 use crate::telling::tell_bounds;
 use crate::watches::Watch;
 use ped_base::{Names, NoMemory};
+use ped_store::RunFault;
 use ped_symbols::Symbols;
 use ped_tree::constants::{Consts, constant};
 use ped_tree::{Do, Expr};
@@ -71,7 +72,7 @@ impl Plan {
 ///
 /// # Errors
 ///
-/// The first fault of a limit, 4 where it lies beyond 2^62, or `NoMemory`.
+/// The first fault of a limit, out of range where it lies beyond 2^62, or `NoMemory`.
 pub fn plan_of<W: Watch>(
     alloc: Global,
     symbols: &Symbols,
@@ -87,10 +88,8 @@ pub fn plan_of<W: Watch>(
 {
     let mut notes = Notes::from_reference(alloc, 1);
     let limits = limits_of(symbols, state, d, &mut notes);
-    match tell_bounds(alloc, watch, &state.scope, number, &notes) {
-        Ok(behind) => return plan_by(alloc, symbols, d, number, limits, behind),
-        Err(_) => return Err(RunError::NoMemory),
-    }
+    let behind = tell_bounds(alloc, watch, &state.scope, number, &notes)?;
+    plan_by(alloc, symbols, d, number, limits, behind)
 }
 
 /// The plan of a DO whose limits have come to this.
@@ -99,7 +98,7 @@ fn plan_by(
     symbols: &Symbols,
     d: &Do,
     number: u32,
-    limits: Result<Limits, u8>,
+    limits: Result<Limits, RunFault>,
     behind: u32,
 ) -> Result<Plan, RunError>
     requires step { step_is_right symbols.now.constants (expr_tree d.now.step) ≡ true }
@@ -108,19 +107,24 @@ fn plan_by(
     ensures behind { IfOk result (λ plan. plan.behind ≡ behind) }
 {
     match limits {
-        Ok(limits) => match plan_within(alloc, symbols.consts(), d, number, &limits, behind) {
-            Ok(plan) => return Ok(plan),
-            Err(_) => return Err(RunError::NoMemory),
-        },
+        Ok(limits) => {
+            let plan = plan_within(alloc, symbols.consts(), d, number, &limits, behind)?;
+            return Ok(plan);
+        }
         Err(fault) => return Err(RunError::Fault {
-            number: fault,
+            fault,
             statement: number,
         }),
     }
 }
 
 /// The limits of a DO: the first is evaluated and its range tested, and then the other. Notes are made of what they read.
-fn limits_of(symbols: &Symbols, state: &State, d: &Do, notes: &mut Notes) -> Result<Limits, u8>
+fn limits_of(
+    symbols: &Symbols,
+    state: &State,
+    d: &Do,
+    notes: &mut Notes,
+) -> Result<Limits, RunFault>
     ensures ok { IfOk result (λ l. (Loops.limits (names_at (memory_of state.now.store) state.now.scope symbols.now.constants) (head_of d.now) (memory_of state.now.store).cells).result ≡ Ok (limits_view l)) }
     ensures bounds { IfOk result (λ l. (Loops.is_bound l.first ≡ true) × (Loops.is_bound l.last ≡ true)) }
     ensures err { IfErr result (λ n. (Loops.limits (names_at (memory_of state.now.store) state.now.scope symbols.now.constants) (head_of d.now) (memory_of state.now.store).cells).result ≡ Err n) }
@@ -136,7 +140,7 @@ fn limits_of(symbols: &Symbols, state: &State, d: &Do, notes: &mut Notes) -> Res
 }
 
 /// A limit of a DO.
-fn limit_of(symbols: &Symbols, state: &State, e: &Expr, notes: &mut Notes) -> Result<i128, u8>
+fn limit_of(symbols: &Symbols, state: &State, e: &Expr, notes: &mut Notes) -> Result<i128, RunFault>
     ensures value { result ≡ (value (names_at (memory_of state.now.store) state.now.scope symbols.now.constants) (expr_tree e.now) (memory_of state.now.store).cells >>> λ u. given (Loops.in_bounds u)).result }
     ensures bound { IfOk result (λ u. Loops.is_bound u ≡ true) }
     ensures noted { HasNoted notes.old (value (names_at (memory_of state.now.store) state.now.scope symbols.now.constants) (expr_tree e.now) (memory_of state.now.store).cells).seen notes.new }
@@ -153,11 +157,15 @@ fn limit_of(symbols: &Symbols, state: &State, e: &Expr, notes: &mut Notes) -> Re
 }
 
 /// The number, where a limit of a DO may have it.
-fn in_bounds(value: i128) -> Result<i128, u8>
+fn in_bounds(value: i128) -> Result<i128, RunFault>
     ensures result { result ≡ Loops.in_bounds value }
     ensures bound { IfOk result (λ u. Loops.is_bound u ≡ true) }
 {
-    if is_bound(value) { Ok(value) } else { Err(4) }
+    if is_bound(value) {
+        Ok(value)
+    } else {
+        Err(RunFault::OUT_OF_RANGE)
+    }
 }
 
 /// Whether a limit of a DO may have this value.

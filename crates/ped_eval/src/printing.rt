@@ -24,7 +24,7 @@ use crate::telling::tell;
 use crate::watches::Watch;
 use itoa::Buffer;
 use ped_base::{Bytes, NoMemory};
-use ped_store::Cell;
+use ped_store::{Cell, RunFault};
 use ped_symbols::Symbols;
 use ped_tree::{Expr, PrintItem};
 use std::alloc::Global;
@@ -32,8 +32,8 @@ use std::alloc::Global;
 /// Why a PRINT has written nothing.
 #[derive(Clone, Copy)]
 pub enum PrintError {
-    /// The fault with this number.
-    Fault(u8),
+    /// A fault of an item.
+    Fault(RunFault),
     /// Want of memory.
     NoMemory,
 }
@@ -68,10 +68,8 @@ pub(crate) fn watched_print<W: Watch>(
 {
     let mut notes = Notes::of_statement(alloc, watch);
     let answer = run_print(alloc, symbols, state, items, number, &mut notes);
-    match tell(alloc, watch, &state.scope, number, &notes) {
-        Ok(()) => return answer,
-        Err(_) => return Err(RunError::NoMemory),
-    }
+    tell(alloc, watch, &state.scope, number, &notes)?;
+    answer
 }
 
 /// Runs the PRINT with this number: its items are evaluated, and then the line is written.
@@ -92,18 +90,18 @@ fn run_print(
     ensures noted { IfRan result (HasAdded notes.old (print_noted notes.old.next (printed_line (names_at (memory_of state.old.store) state.old.scope symbols.now.constants) (map item_tree items.now) (memory_of state.old.store).cells)) notes.new) }
 {
     match line_of(alloc, symbols, state, items, notes) {
-        Ok(line) => match state.store.put_line(alloc, line.as_slice()) {
-            Ok(()) => {
-                notes.refer(&Cell::Out, true);
-                return Ok(Flow::Going);
-            }
-            Err(_) => return Err(RunError::NoMemory),
+        Ok(line) => {
+            state.store.put_line(alloc, line.as_slice())?;
+            notes.refer(&Cell::Out, true);
+            return Ok(Flow::Going);
+        }
+        Err(error) => match &error {
+            PrintError::Fault(fault) => return Err(RunError::Fault {
+                fault: *fault,
+                statement: number,
+            }),
+            PrintError::NoMemory => return Err(RunError::NoMemory),
         },
-        Err(PrintError::Fault(fault)) => return Err(RunError::Fault {
-            number: fault,
-            statement: number,
-        }),
-        Err(PrintError::NoMemory) => return Err(RunError::NoMemory),
     }
 }
 
@@ -156,10 +154,7 @@ fn add_item(
 {
     match item {
         PrintItem::Value(e) => return add_value(line, symbols, state, e, notes),
-        PrintItem::Text(text) => match line.extend_from_slice(text.as_slice()) {
-            Ok(()) => return Ok(()),
-            Err(_) => return Err(PrintError::NoMemory),
-        },
+        PrintItem::Text(text) => return Ok(line.extend_from_slice(text.as_slice())?),
     }
 }
 
@@ -180,10 +175,7 @@ fn add_value(
         consts: symbols.consts(),
     };
     match value_of(e, &around, notes) {
-        Ok(number) => match add_number(line, number) {
-            Ok(()) => return Ok(()),
-            Err(_) => return Err(PrintError::NoMemory),
-        },
+        Ok(number) => return Ok(add_number(line, number)?),
         Err(fault) => return Err(PrintError::Fault(fault)),
     }
 }

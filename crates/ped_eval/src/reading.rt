@@ -21,7 +21,7 @@ use crate::states::{Flow, RunError, State};
 use crate::surroundings::Surroundings;
 use crate::telling::tell;
 use crate::watches::Watch;
-use ped_store::Cell;
+use ped_store::{Cell, RunFault};
 use ped_symbols::Symbols;
 use ped_tree::Expr;
 use std::alloc::Global;
@@ -46,15 +46,13 @@ pub(crate) fn run_read<W: Watch>(
 {
     let mut notes = Notes::of_statement(alloc, watch);
     let taken = take_items(symbols, state, items, &mut notes);
-    match tell(alloc, watch, &state.scope, number, &notes) {
-        Ok(()) => match taken {
-            Ok(()) => return Ok(Flow::Going),
-            Err(fault) => return Err(RunError::Fault {
-                number: fault,
-                statement: number,
-            }),
-        },
-        Err(_) => return Err(RunError::NoMemory),
+    tell(alloc, watch, &state.scope, number, &notes)?;
+    match taken {
+        Ok(()) => return Ok(Flow::Going),
+        Err(fault) => return Err(RunError::Fault {
+            fault,
+            statement: number,
+        }),
     }
 }
 
@@ -62,13 +60,13 @@ pub(crate) fn run_read<W: Watch>(
 ///
 /// # Errors
 ///
-/// The number of the first fault.
+/// The first fault.
 pub fn take_items(
     symbols: &Symbols,
     state: &mut State,
     items: &[Expr],
     notes: &mut Notes,
-) -> Result<(), u8>
+) -> Result<(), RunFault>
     requires right { list_all (target_is_right (kinds_by symbols.now)) (map expr_tree items.now) ≡ true }
     requires ready { IsReady symbols.now state.old.scope (memory_of state.old.store) }
     ensures taken { IsTaken (read_taken symbols.now.constants state.old.scope (map expr_tree items.now) (memory_of state.old.store)) (memory_of state.new.store) result }
@@ -90,7 +88,12 @@ pub fn take_items(
 }
 
 /// Takes the next value of the data for an item, and stores it there.
-fn take_item(symbols: &Symbols, state: &mut State, item: &Expr, notes: &mut Notes) -> Result<(), u8>
+fn take_item(
+    symbols: &Symbols,
+    state: &mut State,
+    item: &Expr,
+    notes: &mut Notes,
+) -> Result<(), RunFault>
     requires right { target_is_right (kinds_by symbols.now) (expr_tree item.now) ≡ true }
     requires ready { IsReady symbols.now state.old.scope (memory_of state.old.store) }
     ensures taken { IsTaken (item_taken symbols.now.constants state.old.scope (expr_tree item.now) (memory_of state.old.store)) (memory_of state.new.store) result }

@@ -86,11 +86,11 @@ fn finished(
 ) -> Result<Outcome, NoMemory>
     ensures { IfOk result (λ o. IsOutcomeBy (program_tree program.now) (memory_of store.now) answer (outcome_view o)) }
 {
-    match answer {
+    match &answer {
         Ok(_) => return ended(alloc, program, store),
-        Err(RunError::Fault { number, statement }) => return Ok(Outcome::Fault {
-            number,
-            statement,
+        Err(RunError::Fault { fault, statement }) => return Ok(Outcome::Fault {
+            fault: *fault,
+            statement: *statement,
         }),
         Err(RunError::NoMemory) => return Err(NoMemory),
     }

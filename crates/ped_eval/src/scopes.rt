@@ -1,17 +1,17 @@
 //! The iterations of DO loops round a place of a run, and what scalars stand for there.
 
-ghost use Rattle.std.specs.Prelude.{◌≡◌, ◌<◌, ◌≤◌, ◌-◌, ◌+◌, ◌++◌, ◌∷◌, [], length, map, replicate, MatchOption, IfOk, OnOk, OnErr};
+ghost use Rattle.std.specs.Prelude.{◌≡◌, ◌<◌, ◌≤◌, ◌+◌, ◌∷◌, [], length, map, MatchOption, IfOk, OnOk, OnErr};
 ghost use Rattle.ped_store.specs.Cells.{Private};
-ghost use Rattle.ped_store.specs.Acts.{iterations_of};
+ghost use Rattle.ped_store.specs.Acts as Acts;
 ghost use Rattle.ped_store.specs.CellViews.{cell_view, IsCell};
 ghost use Rattle.ped_eval.specs.Scopes as Scopes;
-ghost use Rattle.ped_eval.specs.ScopeViews.{frame_view, scope_view, with_turn, outside};
+ghost use Rattle.ped_eval.specs.ScopeViews.{frame_view, frame_iteration, scope_view, with_turn, outside};
 ghost use Rattle.ped_eval.specs.AccessViews.{turn_view};
 
 use crate::accesses::Turn;
 use crate::turns::copy_names;
 use ped_base::{Listed, Name, Names, NoMemory};
-use ped_store::Cell;
+use ped_store::{Cell, Iteration, Iterations, PrivateCopy};
 use ped_tree::names::is_among;
 use std::alloc::Global;
 use std::marker::Model;
@@ -79,10 +79,8 @@ impl Scope {
     pub fn copy(&self, alloc: Global) -> Result<Scope, NoMemory>
         ensures { IfOk result (λ scope. scope ≡ self.now) }
     {
-        match copy_frames(alloc, &self.frames) {
-            Ok(frames) => return Ok(Scope { frames }),
-            Err(_) => return Err(NoMemory),
-        }
+        let frames = copy_frames(alloc, &self.frames)?;
+        Ok(Scope { frames })
     }
 
     /// Goes on to another iteration of the innermost loop, in which its variable has this value.
@@ -213,38 +211,27 @@ fn copy_in(frames: &[Frame], name: &Name) -> Cell
     requires some { 0 < length frames.now }
     requires few { length frames.now ≤ 6 }
     ensures cell { IsCell result }
-    ensures view { cell_view result ≡ Private name.now (iterations_of (Scopes.turns_of (scope_view frames.now))) }
+    ensures view { cell_view result ≡ Private name.now (Acts.iterations_of (Scopes.turns_of (scope_view frames.now))) }
 {
-    Cell::Private {
+    Cell::Private(PrivateCopy {
         name: *name,
-        depth: frames.len() as u8,
-        dos: dos_of(frames),
-        iterations: numbers_of(frames),
-    }
+        iterations: iterations_of(frames),
+    })
 }
 
-/// The statement numbers of the DO loops, and 0 in the places past them.
-fn dos_of(frames: &[Frame]) -> [u32; 6]
+/// The iterations of these frames.
+fn iterations_of(frames: &[Frame]) -> Iterations
     requires { length frames.now ≤ 6 }
-    ensures { result ≡ map (λ f. f.statement) frames.now ++ replicate (6 - length frames.now) 0 }
+    ensures { result ≡ map frame_iteration frames.now }
 {
-    let mut dos = [0; 6];
-    for i in 0..frames.len() {
-        dos[i] = frames[i].statement;
+    let mut iterations = Iterations::new();
+    for frame in frames {
+        iterations.push(Iteration {
+            statement: frame.statement,
+            number: frame.number,
+        });
     }
-    dos
-}
-
-/// The numbers of the iterations, and 0 in the places past them.
-fn numbers_of(frames: &[Frame]) -> [u64; 6]
-    requires { length frames.now ≤ 6 }
-    ensures { result ≡ map (λ f. f.number) frames.now ++ replicate (6 - length frames.now) 0 }
-{
-    let mut numbers = [0; 6];
-    for i in 0..frames.len() {
-        numbers[i] = frames[i].number;
-    }
-    numbers
+    iterations
 }
 
 /// The value of the variable of a DO in these iterations.

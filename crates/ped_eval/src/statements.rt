@@ -33,6 +33,7 @@ use crate::surroundings::Surroundings;
 use crate::telling::{tell, tell_exit, watched_truth};
 use crate::turns::{close_copies, enter_loop, open_turn};
 use crate::watches::Watch;
+use ped_store::RunFault;
 use ped_symbols::Symbols;
 use ped_tree::{Do, Expr, Stmt};
 use std::alloc::Global;
@@ -132,10 +133,8 @@ fn watched_assignment<W: Watch>(
 {
     let mut notes = Notes::of_statement(alloc, watch);
     let answer = run_assignment(symbols, state, left, right, number, &mut notes);
-    match tell(alloc, watch, &state.scope, number, &notes) {
-        Ok(()) => return answer,
-        Err(_) => return Err(RunError::NoMemory),
-    }
+    tell(alloc, watch, &state.scope, number, &notes)?;
+    answer
 }
 
 /// Runs the assignment with this number (ANSI X3.9-1978, section 10.1).
@@ -158,7 +157,7 @@ fn run_assignment(
     match assign(symbols, state, left, right, notes) {
         Ok(()) => return Ok(Flow::Going),
         Err(fault) => return Err(RunError::Fault {
-            number: fault,
+            fault,
             statement: number,
         }),
     }
@@ -168,14 +167,14 @@ fn run_assignment(
 ///
 /// # Errors
 ///
-/// The number of the first fault.
+/// The first fault.
 pub fn assign(
     symbols: &Symbols,
     state: &mut State,
     left: &Expr,
     right: &Expr,
     notes: &mut Notes,
-) -> Result<(), u8>
+) -> Result<(), RunFault>
     requires right { target_is_right (kinds_by symbols.now) (expr_tree left.now) ≡ true }
     requires ready { IsReady symbols.now state.old.scope (memory_of state.old.store) }
     ensures ok { OnOk result ((w : Stored) × ((assigned (names_at (memory_of state.old.store) state.old.scope symbols.now.constants) (expr_tree left.now) (expr_tree right.now) (memory_of state.old.store).cells).result ≡ Ok w)
@@ -247,10 +246,7 @@ fn run_turns<W: Watch>(
     ensures watched { Watched W.follows watch.old watch.new state.old.scope (before state.old.scope plan.now.number) (memory_of state.old.store).cells result
         (turns_run plan.now.count 1 (entered_by (head_of d.now) plan.now plan.now.behind) state.old.scope (place_by plan.now.number state.old.scope) (body_run (setting_by symbols.now) (stmt_trees d.now.body.items) plan.now.number state.old.scope)) }
 {
-    match enter_loop(alloc, state, d, plan) {
-        Ok(()) => {}
-        Err(_) => return Err(RunError::NoMemory),
-    }
+    enter_loop(alloc, state, d, plan)?;
     for earlier in 0..plan.count {
         match run_turn(alloc, symbols, state, watch, d, plan, earlier) {
             Ok(Flow::Going) => {}
@@ -259,10 +255,8 @@ fn run_turns<W: Watch>(
         }
     }
     leave_loop(state, d, plan);
-    match tell_exit(alloc, &state.scope, watch, d, plan) {
-        Ok(()) => return Ok(Flow::Going),
-        Err(_) => return Err(RunError::NoMemory),
-    }
+    tell_exit(alloc, &state.scope, watch, d, plan)?;
+    Ok(Flow::Going)
 }
 
 /// Runs the iteration of a DO before which there are so many.
@@ -288,10 +282,7 @@ fn run_turn<W: Watch>(
     ensures watched { Watched W.follows watch.old watch.new (outside state.old.scope) (before_turn (outside state.old.scope) plan.now.number (earlier + 1)) (memory_of state.old.store).cells result
         (body_run (setting_by symbols.now) (stmt_trees d.now.body.items) plan.now.number (outside state.old.scope) (frame (entered_by (head_of d.now) plan.now 0) (earlier + 1))) }
 {
-    match open_turn(alloc, state, d, plan, earlier) {
-        Ok(()) => {}
-        Err(_) => return Err(RunError::NoMemory),
-    }
+    open_turn(alloc, state, d, plan, earlier)?;
     match run_all(alloc, symbols, state, watch, &d.body, plan.number + 1) {
         Ok(Flow::Going) => {
             close_copies(state, plan.copied.as_slice());

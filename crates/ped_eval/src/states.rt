@@ -2,7 +2,7 @@
 
 use crate::scopes::Scope;
 use ped_base::NoMemory;
-use ped_store::Store;
+use ped_store::{RunFault, Store};
 
 /// What a run keeps at a place.
 #[derive(Drop)]
@@ -27,8 +27,8 @@ pub enum Flow {
 pub enum RunError {
     /// By a fault of the program.
     Fault {
-        /// Its number.
-        number: u8,
+        /// What it is.
+        fault: RunFault,
         /// The statement that met it.
         statement: u32,
     },

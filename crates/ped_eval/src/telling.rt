@@ -89,10 +89,8 @@ pub(crate) fn tell_bounds<W: Watch>(
     if !notes.kept {
         return Err(NoMemory);
     }
-    match tell(alloc, watch, scope, statement, notes) {
-        Ok(()) => return Ok(notes.next),
-        Err(_) => return Err(NoMemory),
-    }
+    tell(alloc, watch, scope, statement, notes)?;
+    Ok(notes.next)
 }
 
 /// The truth of the condition of the statement with this number; a watch is told what it reads.
@@ -114,15 +112,13 @@ pub(crate) fn watched_truth<W: Watch>(
     };
     let mut notes = Notes::of_statement(alloc, watch);
     let truth = truth_of(condition, &around, &mut notes);
-    match tell(alloc, watch, &state.scope, number, &notes) {
-        Ok(()) => match truth {
-            Ok(holds) => return Ok(holds),
-            Err(fault) => return Err(RunError::Fault {
-                number: fault,
-                statement: number,
-            }),
-        },
-        Err(_) => return Err(RunError::NoMemory),
+    tell(alloc, watch, &state.scope, number, &notes)?;
+    match truth {
+        Ok(holds) => return Ok(holds),
+        Err(fault) => return Err(RunError::Fault {
+            fault,
+            statement: number,
+        }),
     }
 }
 

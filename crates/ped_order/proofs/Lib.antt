@@ -1,5 +1,3 @@
-mod SameKeys
-mod Hashes
 mod Searches
 mod Levels
 mod Remembering

@@ -1,25 +1,20 @@
 -- Keys are compared and hashed as what they are (plain words).
 use Rattle.std.specs.Prelude.{◌≡◌, true, ◌&&◌, ◌==◌, Decides}
-use Rattle.std.proofs.Common.{refl, ap}
+use Rattle.std.proofs.Common.{ap}
 use Rattle.std.proofs.lemmas.Bool.Decides.{Decides-and, Decides-like}
-use Rattle.std.proofs.lemmas.Slice.Eq.{slice_eq-Decides}
 use Rattle.std.specs.Cmp.{IsEquivalence, IsPartialEquivalence, decided, partial_equiv_from_equiv, unsigned_Decides}
 use Rattle.std.specs.Cmp.Lexicographic.{pointwise}
-use Rattle.ped_store.specs.Cells.{Iteration, same_iteration, same_cell}
+use Rattle.ped_store.specs.Cells.{same_iteration, same_cell}
+use Rattle.ped_store.specs.IterationLaws.{iterations_decide}
 use Rattle.ped_laws.proofs.ActLaws.SameCells.{cell_is, is_cell}
 use Rattle.ped_order.specs.Keys.{Key, same_key, key_writes}
-
-iteration_decides : (i j : Iteration) → Decides (same_iteration i j) (i ≡ j)
-iteration_decides i j =
-    Decides-like (same_iteration i j) (λ p z. record { statement = p.0 z; number = p.1 z }) (λ e. (ap (λ (k : Iteration). k.statement) e, ap (λ (k : Iteration). k.number) e))
-    (Decides-and (i.statement == j.statement) (i.number == j.number) (unsigned_Decides i.statement j.statement) (unsigned_Decides i.number j.number))
 
 -- the test of keys is equality
 pub key_decides : (k l : Key) → Decides (same_key k l) (k ≡ l)
 key_decides k l =
     Decides-like (same_key k l) (λ p z. record { statement = p.0 z; cell = p.1.0 z; around = p.1.1 z }) (λ e. (ap (λ (j : Key). j.statement) e, (ap (λ (j : Key). j.cell) e, ap (λ (j : Key). j.around) e)))
     (Decides-and (k.statement == l.statement) (same_cell k.cell l.cell && pointwise same_iteration k.around l.around) (unsigned_Decides k.statement l.statement)
-    (Decides-and (same_cell k.cell l.cell) (pointwise same_iteration k.around l.around) (cell_is k.cell l.cell, is_cell k.cell l.cell) (slice_eq-Decides iteration_decides k.around l.around (pointwise same_iteration k.around l.around) refl)))
+    (Decides-and (same_cell k.cell l.cell) (pointwise same_iteration k.around l.around) (cell_is k.cell l.cell, is_cell k.cell l.cell) (iterations_decide k.around l.around)))
 
 -- the test of keys goes both ways, and from one to the next
 pub key_equivalence : IsEquivalence same_key

@@ -3,6 +3,7 @@ use Rattle.std.specs.Prelude.{ℕ, List, [], ◌∷◌, ◌++◌, map, Bool, fal
 use Rattle.std.specs.Hash as fed
 use Rattle.std.specs.Cmp.Lexicographic.{pointwise}
 use Rattle.ped_store.specs.Cells.{Cell, Scalar, Element, Private, In, Out, Iteration, same_iteration, same_cell}
+use Rattle.ped_store.specs.Iterations.{iterations_writes}
 use Rattle.ped_store.specs.Acts.{Turn}
 use Rattle.ped_store.specs.Races.{Access}
 
@@ -35,22 +36,14 @@ is_elsewhere (i ∷ is) statement n [] = false
 abbrev pub is_rival : Key → ℕ → Bool → Access → Bool
 is_rival k n writes a = is_elsewhere k.around k.statement n a.place.turns && (same_cell a.cell k.cell && (a.writes || writes))
 
--- what a hasher is fed of the iterations that a private copy belongs to
-abbrev pub numbers_writes : List Iteration → fed.HashWrites
-numbers_writes is = fed.slice fed.u32 (map (λ i. i.statement) is) ++ fed.slice fed.u64 (map (λ i. i.number) is)
-
 -- what a hasher is fed of a cell
 abbrev pub cell_writes : Cell → fed.HashWrites
 cell_writes (Scalar x) = fed.slice fed.u8 x
 cell_writes (Element x subscripts) = fed.slice fed.u8 x ++ fed.slice fed.i128 subscripts
-cell_writes (Private x iterations) = fed.slice fed.u8 x ++ numbers_writes iterations
+cell_writes (Private x iterations) = fed.slice fed.u8 x ++ iterations_writes iterations
 cell_writes In = fed.u8 0
 cell_writes Out = fed.u8 1
 
--- what a hasher is fed of an iteration
-abbrev pub iteration_writes : Iteration → fed.HashWrites
-iteration_writes i = fed.u32 i.statement ++ fed.u64 i.number
-
 -- what a hasher is fed of a key
 abbrev pub key_writes : Key → fed.HashWrites
-key_writes k = cell_writes k.cell ++ (fed.u32 k.statement ++ fed.slice iteration_writes k.around)
+key_writes k = cell_writes k.cell ++ (fed.u32 k.statement ++ iterations_writes k.around)

@@ -4,7 +4,6 @@ pub use Rattle.ped_eval
 pub mod FirstRaces
 pub mod KeyLaws
 pub mod Keys
-pub mod KeyViews
 pub mod Reports
 pub mod ReportViews
 pub mod CarriedRaces

@@ -1,30 +1,20 @@
 //! By what accesses are looked up: a cell, and one execution of a DO.
 
 ghost use Rattle.std.specs.Prelude.{◌≡◌, ◌&&◌, fold, map, take, length, min, IfOk};
-ghost use Rattle.std.specs.Hash as fed;
 ghost use Rattle.std.specs.Cmp.Lexicographic.{pointwise};
 ghost use Rattle.ped_base.specs.Lists.{is_same_text};
-ghost use Rattle.ped_store.specs.Cells.{same_cell, same_iteration};
-ghost use Rattle.ped_store.specs.CellViews.{cell_view, iterations_by};
+ghost use Rattle.ped_store.specs.Cells.{Private, same_cell, same_iteration};
+ghost use Rattle.ped_store.specs.CellViews.{cell_view};
+ghost use Rattle.ped_store.specs.Iterations.{iterations_writes};
 ghost use Rattle.ped_eval.specs.AccessViews.{turn_view};
-ghost use Rattle.ped_order.specs.Keys.{cell_writes, numbers_writes, iteration_writes, iteration_of, key_of};
-ghost use Rattle.ped_order.specs.KeyViews.{iterations_view};
+ghost use Rattle.ped_order.specs.Keys.{cell_writes, iteration_of, key_of};
 
 use ped_base::{Name, NoMemory};
 use ped_eval::Turn;
-use ped_store::Cell;
+use ped_store::{Cell, Iteration, PrivateCopy};
 use std::alloc::Global;
 use std::hash::{Hash, Hasher};
 use std::marker::Model;
-
-/// An iteration of a DO.
-#[derive(Clone, Copy, PartialEq, Eq, Hash)]
-pub(crate) struct Iteration {
-    /// The statement number of the DO.
-    statement: u32,
-    /// The number of the iteration, from 1.
-    number: u64,
-}
 
 /// A cell at one execution of a DO. A DO runs once at most in each iteration of the DO loops round it, so those iterations
 /// tell the execution.
@@ -38,11 +28,10 @@ pub(crate) struct Key {
 impl Model for Key {
     ghost use Rattle.ped_store.specs.CellViews.{cell_view};
     ghost use Rattle.ped_order.specs.Keys as Spec;
-    ghost use Rattle.ped_order.specs.KeyViews.{iterations_view};
 
     ghost Value = { Spec.Key };
 
-    ghost view = { λ k. record { cell = cell_view k.cell; statement = k.statement; around = iterations_view k.around.items } };
+    ghost view = { λ k. record { cell = cell_view k.cell; statement = k.statement; around = k.around.items } };
 }
 
 impl Key {
@@ -65,7 +54,7 @@ impl Key {
 
 /// The iterations of turns.
 fn iterations(alloc: Global, turns: &[Turn]) -> Result<Vec<Iteration>, NoMemory>
-    ensures { IfOk result (λ is. iterations_view is.items ≡ map iteration_of (map turn_view turns.now)) }
+    ensures { IfOk result (λ is. is.items ≡ map iteration_of (map turn_view turns.now)) }
 {
     let mut iterations = Vec::with_capacity(alloc, turns.len())?;
     for turn in turns {
@@ -137,26 +126,8 @@ fn are_same_cell(a: &Cell, b: &Cell) -> bool
             }
             _ => return false,
         },
-        Cell::Private {
-            name,
-            depth,
-            dos,
-            iterations,
-        } => match b {
-            Cell::Private {
-                name: other,
-                depth: other_depth,
-                dos: other_dos,
-                iterations: others,
-            } => {
-                return are_same_name(name, other)
-                    && are_same_numbers(
-                        front(dos, *depth),
-                        front(iterations, *depth),
-                        front(other_dos, *other_depth),
-                        front(others, *other_depth),
-                    );
-            }
+        Cell::Private(copy) => match b {
+            Cell::Private(other) => return are_same_copy(copy, other),
             _ => return false,
         },
         Cell::In => match b {
@@ -170,13 +141,11 @@ fn are_same_cell(a: &Cell, b: &Cell) -> bool
     }
 }
 
-/// Whether iterations with these statement numbers and numbers are the same.
-fn are_same_numbers(dos: &[u32], numbers: &[u64], others: &[u32], other_numbers: &[u64]) -> bool
-    requires first { length dos.now ≡ length numbers.now }
-    requires second { length others.now ≡ length other_numbers.now }
-    ensures { result ≡ pointwise same_iteration (iterations_by dos.now numbers.now) (iterations_by others.now other_numbers.now) }
+/// Whether these are one private copy.
+fn are_same_copy(a: &PrivateCopy, b: &PrivateCopy) -> bool
+    ensures { result ≡ same_cell (Private a.now.name a.now.iterations) (Private b.now.name b.now.iterations) }
 {
-    *dos == *others && *numbers == *other_numbers
+    are_same_name(&a.name, &b.name) && a.iterations == b.iterations
 }
 
 /// Whether these are one name.
@@ -199,25 +168,16 @@ fn front<T>(items: &[T], count: u8) -> &[T]
 
 /// Whether these are the same iterations of the same DO loops.
 fn are_same_iterations(a: &[Iteration], b: &[Iteration]) -> bool
-    ensures { result ≡ pointwise same_iteration (iterations_view a.now) (iterations_view b.now) }
+    ensures { result ≡ pointwise same_iteration a.now b.now }
 {
     *a == *b
 }
 
 /// Feeds iterations to a hasher.
 fn hash_iterations<H: Hasher>(iterations: &[Iteration], state: &mut H)
-    ensures { state.new ≡ fold H.write state.old (fed.slice iteration_writes (iterations_view iterations.now)) }
+    ensures { state.new ≡ fold H.write state.old (iterations_writes iterations.now) }
 {
     iterations.hash(state);
-}
-
-/// Feeds iterations with these statement numbers and numbers to a hasher.
-fn hash_numbers<H: Hasher>(dos: &[u32], numbers: &[u64], state: &mut H)
-    requires { length dos.now ≡ length numbers.now }
-    ensures { state.new ≡ fold H.write state.old (numbers_writes (iterations_by dos.now numbers.now)) }
-{
-    dos.hash(state);
-    numbers.hash(state);
 }
 
 /// Feeds a cell to a hasher.
@@ -234,14 +194,9 @@ fn hash_cell<H: Hasher>(cell: &Cell, state: &mut H)
             name.as_bytes().hash(state);
             front(subscripts, *rank).hash(state);
         }
-        Cell::Private {
-            name,
-            depth,
-            dos,
-            iterations,
-        } => {
-            name.as_bytes().hash(state);
-            hash_numbers(front(dos, *depth), front(iterations, *depth), state);
+        Cell::Private(copy) => {
+            copy.name.as_bytes().hash(state);
+            copy.iterations.hash(state);
         }
         Cell::In => 0u8.hash(state),
         Cell::Out => 1u8.hash(state),

@@ -1,6 +1,6 @@
 //! The report of races of a program.
 
-use ped_store::Cell;
+use ped_store::{Cell, RunFault};
 
 /// What is found of a program on its data.
 #[derive(Clone, Copy)]
@@ -19,8 +19,8 @@ pub enum RaceReport {
     },
     /// The run meets a fault, and no access before it races with an earlier one.
     Fault {
-        /// Its number: 1 undefined, 2 outside bounds, 3 division by zero, 4 out of range, 5 bad data.
-        number: u8,
+        /// What it is.
+        fault: RunFault,
         /// The statement that met it.
         statement: u32,
     },

@@ -44,10 +44,8 @@ pub fn races(
 {
     races_are_covered();
     let mut watch = RaceWatch::new(alloc);
-    match run_watched(alloc, program, symbols, input, &mut watch) {
-        Ok(outcome) => return Ok(report(&watch.found, &outcome)),
-        Err(NoMemory) => return Err(NoMemory),
-    }
+    let outcome = run_watched(alloc, program, symbols, input, &mut watch)?;
+    Ok(report(&watch.found, &outcome))
 }
 
 /// The report of a run that has ended so.
@@ -62,8 +60,8 @@ fn report(found: &Option<FoundRace>, outcome: &Outcome) -> RaceReport
         },
         None => match outcome {
             Outcome::Ended { output: _, live: _ } => return RaceReport::NoRace,
-            Outcome::Fault { number, statement } => return RaceReport::Fault {
-                number: *number,
+            Outcome::Fault { fault, statement } => return RaceReport::Fault {
+                fault: *fault,
                 statement: *statement,
             },
         },

@@ -101,9 +101,7 @@ impl Table {
         let key = Key::new(alloc, &access.cell, around, turn)?;
         let entry = self.entries.get(&key).copied();
         let entry = with_access(&entry, turn.number, access.writes, sighting);
-        match self.entries.insert(key, entry) {
-            Ok(_) => return Ok(()),
-            Err(_) => return Err(NoMemory),
-        }
+        self.entries.insert(key, entry)?;
+        Ok(())
     }
 }

@@ -60,8 +60,8 @@ impl Watch for RaceWatch {
         if self.found.is_some() {
             return Ok(());
         }
-        match self.table.rival(self.alloc, access) {
-            Ok(Some(first)) => {
+        match self.table.rival(self.alloc, access)? {
+            Some(first) => {
                 self.found = Some(FoundRace {
                     cell: access.cell,
                     first: first.statement,
@@ -69,8 +69,7 @@ impl Watch for RaceWatch {
                 });
                 return Ok(());
             }
-            Ok(None) => return self.table.add(self.alloc, access),
-            Err(NoMemory) => return Err(NoMemory),
+            None => return self.table.add(self.alloc, access),
         }
     }
 }

@@ -10,6 +10,7 @@ use crate::scripts::push_number;
 use itoa::Buffer;
 use ped_base::{Bytes, NoMemory};
 use ped_order::ped_eval::{LiveRow, Outcome};
+use ped_order::ped_store::RunFault;
 use std::alloc::Global;
 
 /// The printed lines, `ended` and the live-out variables; or the fault with its statement.
@@ -23,7 +24,7 @@ pub(crate) fn block(alloc: Global, outcome: &Outcome) -> Result<Bytes, NoMemory>
             out.extend_from_slice(b"ended\n")?;
             push_live(&mut out, live.as_slice())?;
         }
-        Outcome::Fault { number, statement } => push_fault(&mut out, *number, *statement)?,
+        Outcome::Fault { fault, statement } => push_fault(&mut out, *fault, *statement)?,
     }
     Ok(out)
 }
@@ -78,11 +79,11 @@ fn push_value(out: &mut Bytes, value: Option<i128>) -> Result<(), NoMemory>
 }
 
 /// Adds a fault with its statement.
-pub(crate) fn push_fault(out: &mut Bytes, number: u8, statement: u32) -> Result<(), NoMemory>
-    ensures { OnOk result (out.new ≡ out.old ++ Spec.fault_row number statement) }
+pub(crate) fn push_fault(out: &mut Bytes, fault: RunFault, statement: u32) -> Result<(), NoMemory>
+    ensures { OnOk result (out.new ≡ out.old ++ Spec.fault_row fault statement) }
 {
     out.extend_from_slice(b"fault ")?;
-    push_number(out, u64::from(number))?;
+    push_number(out, u64::from(fault.number()))?;
     out.extend_from_slice(b" at ")?;
     push_number(out, u64::from(statement))?;
     out.push(b'\n')

@@ -27,7 +27,7 @@ pub(crate) fn race_row(alloc: Global, report: &RaceReport) -> Result<Bytes, NoMe
             first,
             second,
         } => push_race(&mut out, cell, *first, *second)?,
-        RaceReport::Fault { number, statement } => push_fault(&mut out, *number, *statement)?,
+        RaceReport::Fault { fault, statement } => push_fault(&mut out, *fault, *statement)?,
     }
     Ok(out)
 }
@@ -61,12 +61,7 @@ fn push_cell(out: &mut Bytes, cell: &Cell) -> Result<(), NoMemory>
             push_subscripts(out, front(subscripts, *rank))?;
             return out.push(b')');
         }
-        Cell::Private {
-            name,
-            depth: _,
-            dos: _,
-            iterations: _,
-        } => return out.extend_from_slice(name.as_bytes()),
+        Cell::Private(copy) => return out.extend_from_slice(copy.name.as_bytes()),
         Cell::In => return out.extend_from_slice(b"(IN)"),
         Cell::Out => return out.extend_from_slice(b"(OUT)"),
     }

@@ -1,5 +1,5 @@
 -- Lines, blanks and words at the front of a text.
-use Rattle.std.proofs.Common.{◌≡◌, ℕ, suc, ◌+◌, ◌-◌, ◌<◌, ◌≤◌, Bool, true, false, cond, not, List, [], ◌∷◌, length, take, drop, Option, Some, None, if◌then◌else◌, position, refl, sym, ap, ◌∙◌, ltb, eqb, arith}
+use Rattle.std.proofs.Common.{◌≡◌, ℕ, suc, ◌+◌, ◌<◌, ◌≤◌, Bool, true, false, cond, not, List, [], ◌∷◌, length, take, drop, Some, None, if◌then◌else◌, position, refl, sym, ap, ◌∙◌, ltb, eqb, arith}
 use Rattle.std.specs.List.{slice_split, onto_first, position_or_len}
 use Rattle.std.specs.Option.{unwrap_or}
 use Rattle.std.specs.Str.Lines.{lines, lines_of_parts, strip_carriage_return}

@@ -1,23 +1,19 @@
 -- The elements of an array stand one behind the other in storage order.
-use Rattle.std.proofs.Common.{◌≡◌, ℕ, zero, suc, ◌+◌, ◌*◌, ◌<◌, ◌≤◌, ℤ, pos, ◌+ℤ◌, ◌-ℤ◌, List, [], ◌∷◌, ◌++◌, map, length, take, drop, get_or, Bool, true, false, ◌&&◌, Option, Some, None, if◌then◌else◌, refl, sym, ap, ◌∙◌, arith, drop-cons}
-use Rattle.std.specs.Prelude.{int_le, option_and_then}
+use Rattle.std.proofs.Common.{◌≡◌, ℕ, zero, suc, ◌+◌, ◌*◌, ◌<◌, ◌≤◌, ℤ, pos, ◌+ℤ◌, List, [], ◌∷◌, ◌++◌, map, length, take, drop, get_or, Option, Some, None, refl, sym, ap, ◌∙◌, arith, drop-cons}
+use Rattle.std.specs.Prelude.{option_and_then}
 use Rattle.std.specs.List.{flat_map}
 use Rattle.std.specs.Option.{option_map}
 use Rattle.std.proofs.lemmas.Int.{ints}
 use Rattle.std.proofs.lemmas.List.{map-append}
 use Rattle.std.proofs.lemmas.Simd.{map-map}
-use Rattle.ped_base.specs.Dimensions.{Dimensions}
-use Rattle.ped_base.specs.Lists.{has_some}
 use Rattle.ped_store.specs.declared.slots.Slot.{Slot}
-use Rattle.ped_store.specs.Cells.{Scalar, Element}
 use Rattle.ped_store.specs.Stores.{number_in}
-use Rattle.ped_store.specs.Storage.{natural, extent, numbers_from, all_within, elements_of}
-use Rattle.ped_store.specs.Slots.{count, slot_count, scalar_in, element_in, place_in, place_within, offset_within, slot_of, index_of, held_at, content_of, IsLaid}
+use Rattle.ped_store.specs.Storage.{extent, numbers_from, all_within}
+use Rattle.ped_store.specs.Slots.{count, slot_count, scalar_in, element_in, place_in, place_within, offset_within, slot_of, held_at, content_of}
 use Rattle.ped_store.specs.Variables.{values_of}
 use Rattle.ped_store.specs.Keeping.{Kept, cells_of, bounds_in}
 use Rattle.ped_store.proofs.Places.{both}
-use Rattle.ped_store.proofs.LaidSlots.{laid_within}
-use Rattle.ped_store.proofs.Writes.{held_is, count_one}
+use Rattle.ped_store.proofs.Writes.{held_is}
 
 -- so many places from one on
 abbrev places_from : ℕ → ℕ → List ℕ

@@ -5,9 +5,9 @@ pub mod LaidSlots
 mod Layouts
 mod Lookups
 mod NameEquality
-pub mod Places
+mod Places
 mod Readings
-pub mod SameCopies
+mod SameCopies
 mod Starts
 mod Taking
-pub mod Writes
+mod Writes

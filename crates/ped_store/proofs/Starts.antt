@@ -1,23 +1,20 @@
 -- A store before the first statement.
-use Rattle.std.proofs.Common.{◌≡◌, ℕ, List, [], ◌∷◌, map, length, replicate, get_or, ℤ, Bool, true, false, ◌&&◌, ◌||◌, Option, Some, None, if◌then◌else◌, refl, sym, ap, ◌∙◌, ltb, eqb, arith}
-use Rattle.std.specs.Prelude.{is_some}
-use Rattle.std.specs.Option.{option_map, option_flatten}
-use Rattle.std.specs.Map.{lookup}
+use Rattle.std.proofs.Common.{◌≡◌, ℕ, List, [], ◌∷◌, length, replicate, get_or, ℤ, Bool, true, false, ◌&&◌, ◌||◌, Option, Some, None, if◌then◌else◌, refl, ap, ◌∙◌, ltb, eqb, arith}
+use Rattle.std.specs.Option.{option_map}
 use Rattle.std.proofs.lemmas.Bool.{ltb-true, ltb-false}
 use Rattle.std.proofs.lemmas.List.{get_or-replicate, get_or_past, length-replicate}
 use mathlib.Core.Path.{fun_ext}
 use Rattle.ped_base.specs.Dimensions.{Dimensions}
-use Rattle.ped_base.specs.Lists.{has_some, is_same_text, is_among}
+use Rattle.ped_base.specs.Lists.{has_some, is_same_text}
 use Rattle.ped_store.specs.declared.shapes.Shape.{Shape}
 use Rattle.ped_store.specs.declared.slots.Slot.{Slot}
-use Rattle.ped_store.specs.declared.copies.Copied.{Copied}
 use Rattle.ped_store.specs.Cells.{Cell, Scalar, Element, Private, In, Out}
-use Rattle.ped_store.specs.Stores.{Content, Undefined, Lines, store_at_start}
+use Rattle.ped_store.specs.Stores.{Undefined, store_at_start}
 use Rattle.ped_store.specs.DataLines.{not_begun}
 use Rattle.ped_store.specs.Variables.{no_dimensions}
 use Rattle.ped_store.specs.Memories.{memory_at_start, bounds_among, is_shape, stands_among}
 use Rattle.ped_store.specs.Slots.{slot_of, slot_bounds, first_bounds, index_of, held_at, content_of}
-use Rattle.ped_store.specs.Keeping.{Kept, memory_of, cells_of, stands_in, bounds_in, has_rank, copied, copy_of}
+use Rattle.ped_store.specs.Keeping.{memory_of, cells_of, stands_in, bounds_in, has_rank}
 use Rattle.ped_store.proofs.Writes.{held_is}
 
 -- nothing is held at first

@@ -1,8 +1,8 @@
 -- Values that are taken from the data.
-use Rattle.std.proofs.Common.{◌≡◌, ℕ, ◌+◌, ◌-◌, ◌≤◌, ◌<◌, ◌^◌, ℤ, pos, List, [], ◌∷◌, Bool, true, false, length, take, drop, Result, Ok, Err, if◌then◌else◌, refl, sym, ap, ◌∙◌, arith, FitsSigned, w64}
+use Rattle.std.proofs.Common.{◌≡◌, ℕ, ◌+◌, ◌-◌, ◌≤◌, ◌<◌, ℤ, List, [], ◌∷◌, Bool, true, false, length, take, drop, Result, Ok, Err, if◌then◌else◌, refl, sym, ap, ◌∙◌, arith, FitsSigned, w64}
 use Rattle.std.specs.Str.Lines.{lines}
 use Rattle.std.specs.Str.Parse.{signed_digits_value}
-use Rattle.std.proofs.lemmas.List.{drop-take, drop-drop, length-drop, length-take, nil_from_length}
+use Rattle.std.proofs.lemmas.List.{drop-take, drop-drop, length-drop, length-take}
 use Rattle.std.proofs.lemmas.Int.{ints}
 use Rattle.ped_base.specs.Lists.{has_some}
 use Rattle.ped_store.specs.declared.data_lines.Place.{Place}

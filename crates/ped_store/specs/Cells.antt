@@ -3,11 +3,11 @@ use Rattle.std.specs.Prelude.{ℕ, ℤ, List, Bool, true, false, ◌==◌, ◌&&
 use Rattle.std.specs.Ordering.{int_eq}
 use Rattle.std.specs.Cmp.Lexicographic.{pointwise}
 use Rattle.ped_base.specs.Lists.{is_same_text}
+use Rattle.ped_store.specs.declared.iterations.Iteration as code
 
 -- an iteration of a DO: the DO's statement number, and the iteration's number, from 1 (ANSI X3.9-1978, section 11.10; this project)
-pub record Iteration : Type 0 where
-  pub statement : ℕ
-  pub number : ℕ
+abbrev pub Iteration : Type 0
+Iteration = code.Iteration
 
 -- a scalar; an element of an array by its subscripts; the copy of a scalar that belongs to one iteration, named by the iterations from that of the outermost DO to its own; the data; the output (ANSI X3.9-1978, sections 2.4, 5.3; this project)
 pub data Cell : Type 0 where

@@ -1,41 +1,36 @@
 -- What the code's store is made of, and what it keeps thereby (this project).
-use Rattle.std.specs.Prelude.{◌≡◌, ℕ, ◌-◌, ℤ, List, [], ◌++◌, map, length, slice_set, replicate, Bool, false, ◌&&◌, ◌==◌, Option, Some, None, is_some, if◌then◌else◌}
+use Rattle.std.specs.Prelude.{◌≡◌, ℕ, ℤ, List, [], length, slice_set, Bool, false, ◌&&◌, ◌==◌, Option, Some, None, is_some, if◌then◌else◌}
 use Rattle.std.specs.Option.{option_flatten}
 use Rattle.std.specs.Map.{lookup}
 use Rattle.std.specs.Cmp.Lexicographic.{pointwise}
 use Rattle.ped_base.specs.Dimensions.{Dimensions}
 use Rattle.ped_base.specs.Lists.{has_some, is_same_text}
-use Rattle.ped_store.specs.Cells.{Cell, Scalar, Element, Private, In, Out, Iteration}
+use Rattle.ped_store.specs.Cells.{Cell, Scalar, Element, Private, In, Out, Iteration, same_iteration}
 use Rattle.ped_store.specs.Stores.{Lines, Store}
 use Rattle.ped_store.specs.DataLines.{Data}
 use Rattle.ped_store.specs.Memories.{Memory}
 use Rattle.ped_store.specs.Slots.{slot_of, index_of, held_at, content_of}
 use Rattle.ped_store.specs.declared.slots.Slot.{Slot}
-use Rattle.ped_store.specs.declared.copies.Copied.{Copied}
+use Rattle.ped_store.specs.declared.copies.PrivateCopy.{PrivateCopy}
 
 -- the slots of the names, what they hold, the private copies, the data and the lines that are printed
 pub record Kept : Type 0 where
   pub slots : List (List ℕ × Slot)
   pub held : List (Option ℤ)
-  pub copies : List (Copied × Option ℤ)
+  pub copies : List (PrivateCopy × Option ℤ)
   pub input : Data
   pub output : List (List ℕ)
 
 -- a private copy as it is kept
-abbrev pub copied : List ℕ → List Iteration → Copied
-copied x iterations = record {
-  name = x;
-  depth = length iterations;
-  dos = map (λ i. i.statement) iterations ++ replicate (6 - length iterations) 0;
-  iterations = map (λ i. i.number) iterations ++ replicate (6 - length iterations) 0;
-}
+abbrev pub copied : List ℕ → List Iteration → PrivateCopy
+copied x iterations = record { name = x; iterations = iterations }
 
 -- the same private copy
-abbrev pub same_copied : Copied → Copied → Bool
-same_copied a b = is_same_text a.name b.name && ((a.depth == b.depth) && (pointwise ◌==◌ a.dos b.dos && pointwise ◌==◌ a.iterations b.iterations))
+abbrev pub same_copied : PrivateCopy → PrivateCopy → Bool
+same_copied a b = is_same_text a.name b.name && pointwise same_iteration a.iterations b.iterations
 
 -- what is known of a private copy
-abbrev pub copy_of : List (Copied × Option ℤ) → List ℕ → List Iteration → Option (Option ℤ)
+abbrev pub copy_of : List (PrivateCopy × Option ℤ) → List ℕ → List Iteration → Option (Option ℤ)
 copy_of copies x iterations = lookup (same_copied (copied x iterations)) copies
 
 -- what each cell holds
@@ -78,9 +73,9 @@ abbrev pub with_held : ℕ → Option ℤ → Kept → Kept
 with_held i content s = record s { held = slice_set s.held i content }
 
 -- what is known of the copy is now this, and all else is as it was
-pub record IsCopyPut (copy : Copied) (known : Option (Option ℤ)) (old new : Kept) : Type 0 where
+pub record IsCopyPut (copy : PrivateCopy) (known : Option (Option ℤ)) (old new : Kept) : Type 0 where
   pub slots : new.slots ≡ old.slots
   pub held : new.held ≡ old.held
   pub input : new.input ≡ old.input
   pub output : new.output ≡ old.output
-  pub copies : (other : Copied) → lookup (same_copied other) new.copies ≡ (if same_copied copy other then known else lookup (same_copied other) old.copies)
+  pub copies : (other : PrivateCopy) → lookup (same_copied other) new.copies ≡ (if same_copied copy other then known else lookup (same_copied other) old.copies)

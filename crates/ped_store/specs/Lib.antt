@@ -3,6 +3,9 @@ pub mod CellViews
 pub mod Cells
 pub mod DataLines
 pub mod DataPlaces
+pub mod Faults
+pub mod IterationLaws
+pub mod Iterations
 pub mod Keeping
 pub mod Memories
 pub mod Races

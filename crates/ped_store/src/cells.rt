@@ -1,5 +1,6 @@
 //! Cells, of a fixed size.
 
+use crate::copies::PrivateCopy;
 use ped_base::Name;
 
 /// A cell of a store. It has room for seven subscripts and for six DO loops, so making one takes no memory.
@@ -16,18 +17,8 @@ pub enum Cell {
         /// The subscripts.
         subscripts: [i128; 7],
     },
-    /// The copy of a scalar that belongs to one iteration of a DO loop. The iterations go from that of the outermost
-    /// DO to the one that the copy belongs to; the places at or past `depth` hold 0.
-    Private {
-        /// The scalar.
-        name: Name,
-        /// How many DO loops there are, 1 to 6.
-        depth: u8,
-        /// Their statement numbers.
-        dos: [u32; 6],
-        /// The numbers of their iterations, from 1.
-        iterations: [u64; 6],
-    },
+    /// The copy of a scalar that belongs to one iteration of a DO loop.
+    Private(PrivateCopy),
     /// The data.
     In,
     /// The output.

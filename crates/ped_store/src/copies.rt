@@ -1,16 +1,13 @@
 //! Private copies of scalars.
 
+use crate::iterations::Iterations;
 use ped_base::Name;
 
-/// The private copy of a scalar, by the iteration that it belongs to.
+/// The private copy of a scalar (ParaScope).
 #[derive(Clone, Copy, PartialEq, Eq, Hash)]
-pub struct Copied {
+pub struct PrivateCopy {
     /// The scalar.
     pub name: Name,
-    /// How many DO loops there are round the iteration, its own counted.
-    pub depth: u8,
-    /// Their statement numbers, and 0 in the places past them.
-    pub dos: [u32; 6],
-    /// The numbers of their iterations, and 0 in the places past them.
-    pub iterations: [u64; 6],
+    /// The iteration that the copy belongs to, behind those round it.
+    pub iterations: Iterations,
 }

@@ -8,6 +8,7 @@ ghost use Rattle.ped_store.specs.Stores.{bad_data};
 
 use crate::data_text::{blank_count, first_line, separator_len, word_len};
 use crate::data_values::number_of;
+use crate::faults::RunFault;
 use ped_base::NoMemory;
 use std::alloc::Global;
 use std::marker::Model;
@@ -69,7 +70,7 @@ impl DataLines {
     /// # Errors
     ///
     /// 5 where there is no line left. Nothing has changed then.
-    pub fn next_line(&mut self) -> Result<(), u8>
+    pub fn next_line(&mut self) -> Result<(), RunFault>
         ensures ok { OnOk result (begun self.old.lines ≡ Ok self.new) }
         ensures err { IfErr result (λ n. (begun self.old.lines ≡ Err n) × (self.new ≡ self.old)) }
     {
@@ -78,7 +79,7 @@ impl DataLines {
                 self.place = place;
                 return Ok(());
             }
-            None => return Err(5),
+            None => return Err(RunFault::BAD_DATA),
         }
     }
 
@@ -88,7 +89,7 @@ impl DataLines {
     ///
     /// 5 where no value is left or what stands there is none, and 4 where it isn't from -2^31 to 2^31-1. Nothing has
     /// changed then.
-    pub fn next_value(&mut self) -> Result<i64, u8>
+    pub fn next_value(&mut self) -> Result<i64, RunFault>
         ensures ok { IfOk result (λ n. next_value_of self.old ≡ Ok (record { value = n; behind = self.new })) }
         ensures err { IfErr result (λ n. (next_value_of self.old ≡ Err n) × (self.new ≡ self.old)) }
     {
@@ -117,7 +118,7 @@ fn next_place(input: &[u8], next: usize) -> Option<Place>
 }
 
 /// The value that comes next, and the place behind it.
-fn take_next_value(input: &[u8], place: &Place) -> Result<Taken, u8>
+fn take_next_value(input: &[u8], place: &Place) -> Result<Taken, RunFault>
     requires { IsPlaceIn input.now place.now }
     ensures ok { IfOk result (λ t. next_value_of (data_at input.now place.now) ≡ Ok (record { value = t.value; behind = data_at input.now t.behind })) }
     ensures within { IfOk result (λ t. IsPlaceIn input.now t.behind) }
@@ -125,7 +126,7 @@ fn take_next_value(input: &[u8], place: &Place) -> Result<Taken, u8>
 {
     match value_place(input, *place) {
         Some(place) => return take_value(input, &place),
-        None => return Err(5),
+        None => return Err(RunFault::BAD_DATA),
     }
 }
 
@@ -153,7 +154,7 @@ fn value_place(input: &[u8], start: Place) -> Option<Place>
 }
 
 /// The value that begins at a place, and the place behind it.
-fn take_value(input: &[u8], place: &Place) -> Result<Taken, u8>
+fn take_value(input: &[u8], place: &Place) -> Result<Taken, RunFault>
     requires { IsPlaceIn input.now place.now }
     ensures ok { IfOk result (λ t. taken_from (data_at input.now place.now).rest (data_at input.now place.now).lines ≡ Ok (record { value = t.value; behind = data_at input.now t.behind })) }
     ensures within { IfOk result (λ t. IsPlaceIn input.now t.behind) }

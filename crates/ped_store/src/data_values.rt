@@ -7,18 +7,20 @@ ghost use Rattle.ped_base.specs.Letters.{is_digit};
 ghost use Rattle.ped_store.specs.DataLines as Spec;
 ghost use Rattle.ped_store.specs.Stores as Stores;
 
+use crate::faults::RunFault;
+
 /// The number that a word is.
 ///
 /// # Errors
 ///
 /// 5 where the word isn't one sign or none and digits, and 4 where the number isn't from -2^31 to 2^31-1.
-pub fn number_of(word: &[u8]) -> Result<i64, u8>
+pub fn number_of(word: &[u8]) -> Result<i64, RunFault>
     ensures { result ≡ Spec.number_of word.now }
 {
     if is_value(word) {
         storable(signed_number(word))
     } else {
-        Err(5)
+        Err(RunFault::BAD_DATA)
     }
 }
 
@@ -72,12 +74,12 @@ fn saturated_value(digits: &[u8]) -> u32
     value
 }
 
-fn storable(value: i64) -> Result<i64, u8>
+fn storable(value: i64) -> Result<i64, RunFault>
     ensures { result ≡ Stores.storable value }
 {
     if -(1 << 31) <= value && value <= (1 << 31) - 1 {
         Ok(value)
     } else {
-        Err(4)
+        Err(RunFault::OUT_OF_RANGE)
     }
 }

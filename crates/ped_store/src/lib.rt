@@ -8,10 +8,15 @@ mod copies;
 mod data_lines;
 mod data_text;
 mod data_values;
+mod faults;
+mod iterations;
 mod shapes;
 mod slots;
 mod store;
 
 pub use cells::Cell;
+pub use copies::PrivateCopy;
+pub use faults::{FaultKind, RunFault};
+pub use iterations::{Iteration, Iterations};
 pub use shapes::{Shape, Shapes};
 pub use store::Store;

@@ -113,13 +113,9 @@ impl Layout {
         if cells == usize::MAX {
             return Err(NoMemory);
         }
-        match self.slots.insert(shape.name, slot) {
-            Ok(_) => {
-                self.cells = cells;
-                return Ok(());
-            }
-            Err(_) => return Err(NoMemory),
-        }
+        self.slots.insert(shape.name, slot)?;
+        self.cells = cells;
+        Ok(())
     }
 }
 

@@ -15,8 +15,9 @@ ghost use Rattle.ped_store.specs.Stores as Stores;
 ghost use Rattle.ped_store.specs.Keeping.{memory_of, same_copied, with_held, IsCopyPut};
 
 use crate::cells::Cell;
-use crate::copies::Copied;
+use crate::copies::PrivateCopy;
 use crate::data_lines::DataLines;
+use crate::faults::RunFault;
 use crate::shapes::Shape;
 use crate::slots::{Layout, Slot, SlotTable, element_index, find_slot, lay_out, scalar_index};
 use indexmap::IndexMap;
@@ -30,7 +31,7 @@ use std::marker::Model;
 pub struct Store {
     slots: SlotTable,
     held: Vec<Option<i128>>,
-    copies: IndexMap<Copied, Option<i128>>,
+    copies: IndexMap<PrivateCopy, Option<i128>>,
     input: DataLines,
     output: Listed<Bytes>,
 }
@@ -72,20 +73,7 @@ impl Store {
         ensures err { OnErr result (self.new ≡ self.old) }
     {
         match cell {
-            Cell::Private {
-                name,
-                depth,
-                dos,
-                iterations,
-            } => {
-                let copy = Copied {
-                    name: *name,
-                    depth: *depth,
-                    dos: *dos,
-                    iterations: *iterations,
-                };
-                return self.add_copy(&copy);
-            }
+            Cell::Private(copy) => return self.add_copy(copy),
             Cell::Scalar(_) => return Ok(()),
             Cell::Element {
                 name: _,
@@ -104,19 +92,8 @@ impl Store {
         ensures { memory_of self.new ≡ without_copy (cell_view cell.now) (memory_of self.old) }
     {
         match cell {
-            Cell::Private {
-                name,
-                depth,
-                dos,
-                iterations,
-            } => {
-                let copy = Copied {
-                    name: *name,
-                    depth: *depth,
-                    dos: *dos,
-                    iterations: *iterations,
-                };
-                self.drop_copy(&copy);
+            Cell::Private(copy) => {
+                self.drop_copy(copy);
                 return;
             }
             Cell::Scalar(_) => return,
@@ -135,7 +112,7 @@ impl Store {
     /// # Errors
     ///
     /// 5 where there is no line left. The store is as it was then.
-    pub fn next_line(&mut self) -> Result<(), u8>
+    pub fn next_line(&mut self) -> Result<(), RunFault>
         ensures ok { OnOk result ((d : Data) × (begun (memory_of self.old).input.lines ≡ Ok d) × (memory_of self.new ≡ with_data d (memory_of self.old))) }
         ensures err { IfErr result (λ n. (begun (memory_of self.old).input.lines ≡ Err n) × (self.new ≡ self.old)) }
     {
@@ -148,7 +125,7 @@ impl Store {
     ///
     /// 5 where no value is left or what stands there is none, and 4 where it isn't from -2^31 to 2^31-1. The store is as it
     /// was then.
-    pub fn next_value(&mut self) -> Result<i64, u8>
+    pub fn next_value(&mut self) -> Result<i64, RunFault>
         ensures ok { IfOk result (λ n. (behind : Data) × (next_value_of (memory_of self.old).input ≡ Ok (record { value = n; behind = behind })) × (memory_of self.new ≡ with_data behind (memory_of self.old))) }
         ensures err { IfErr result (λ n. (next_value_of (memory_of self.old).input ≡ Err n) × (self.new ≡ self.old)) }
     {
@@ -177,7 +154,7 @@ impl Store {
     /// # Errors
     ///
     /// 2 where a subscript of an element lies outside its bounds, and else 1 where the cell is undefined.
-    pub fn get(&self, cell: &Cell) -> Result<i128, u8>
+    pub fn get(&self, cell: &Cell) -> Result<i128, RunFault>
         requires { IsCell cell.now }
         ensures { result ≡ got (memory_of self.now) (cell_view cell.now) }
     {
@@ -188,22 +165,9 @@ impl Store {
                 rank,
                 subscripts,
             } => return self.get_element(name, &subscripts[..*rank as usize]),
-            Cell::Private {
-                name,
-                depth,
-                dos,
-                iterations,
-            } => {
-                let copy = Copied {
-                    name: *name,
-                    depth: *depth,
-                    dos: *dos,
-                    iterations: *iterations,
-                };
-                return self.get_copy(&copy);
-            }
-            Cell::In => return Err(1),
-            Cell::Out => return Err(1),
+            Cell::Private(copy) => return self.get_copy(copy),
+            Cell::In => return Err(RunFault::UNDEFINED_READ),
+            Cell::Out => return Err(RunFault::UNDEFINED_READ),
         }
     }
 
@@ -223,7 +187,7 @@ impl Store {
     ///
     /// 2 where a subscript of an element lies outside its bounds, and else 4 where the number isn't from -2^31 to 2^31-1.
     /// The store is as it was then.
-    pub fn set(&mut self, cell: &Cell, value: i128) -> Result<(), u8>
+    pub fn set(&mut self, cell: &Cell, value: i128) -> Result<(), RunFault>
         requires cell { IsCell cell.now }
         requires stands { IsTrue ((memory_of self.old).stands (cell_view cell.now)) }
         ensures ok { OnOk result (stored (cell_view cell.now) value (memory_of self.old) ≡ Ok (memory_of self.new)) }
@@ -236,22 +200,9 @@ impl Store {
                 rank,
                 subscripts,
             } => return self.set_element(name, &subscripts[..*rank as usize], &value),
-            Cell::Private {
-                name,
-                depth,
-                dos,
-                iterations,
-            } => {
-                let copy = Copied {
-                    name: *name,
-                    depth: *depth,
-                    dos: *dos,
-                    iterations: *iterations,
-                };
-                return self.set_copy(&copy, &value);
-            }
-            Cell::In => return Err(4),
-            Cell::Out => return Err(4),
+            Cell::Private(copy) => return self.set_copy(copy, &value),
+            Cell::In => return Err(RunFault::OUT_OF_RANGE),
+            Cell::Out => return Err(RunFault::OUT_OF_RANGE),
         }
     }
 
@@ -286,19 +237,8 @@ impl Store {
                 self.put_scalar(name, content);
                 return;
             }
-            Cell::Private {
-                name,
-                depth,
-                dos,
-                iterations,
-            } => {
-                let copy = Copied {
-                    name: *name,
-                    depth: *depth,
-                    dos: *dos,
-                    iterations: *iterations,
-                };
-                self.put_copy(&copy, content);
+            Cell::Private(copy) => {
+                self.put_copy(copy, content);
                 return;
             }
             Cell::Element {
@@ -311,7 +251,7 @@ impl Store {
         }
     }
 
-    fn set_scalar(&mut self, name: &Name, value: &i128) -> Result<(), u8>
+    fn set_scalar(&mut self, name: &Name, value: &i128) -> Result<(), RunFault>
         requires { IsTrue ((memory_of self.old).stands (Scalar name.now)) }
         ensures ok { OnOk result (stored (Scalar name.now) value.now (memory_of self.old) ≡ Ok (memory_of self.new)) }
         ensures err { IfErr result (λ n. (stored (Scalar name.now) value.now (memory_of self.old) ≡ Err n) × (self.new ≡ self.old)) }
@@ -322,13 +262,18 @@ impl Store {
                     self.put_number(index, value);
                     return Ok(());
                 }
-                return Err(4);
+                return Err(RunFault::OUT_OF_RANGE);
             }
-            None => return Err(1),
+            None => return Err(RunFault::UNDEFINED_READ),
         }
     }
 
-    fn set_element(&mut self, name: &Name, subscripts: &[i128], value: &i128) -> Result<(), u8>
+    fn set_element(
+        &mut self,
+        name: &Name,
+        subscripts: &[i128],
+        value: &i128,
+    ) -> Result<(), RunFault>
         requires { 0 < length subscripts.now }
         ensures ok { OnOk result (stored (Element name.now subscripts.now) value.now (memory_of self.old) ≡ Ok (memory_of self.new)) }
         ensures err { IfErr result (λ n. (stored (Element name.now subscripts.now) value.now (memory_of self.old) ≡ Err n) × (self.new ≡ self.old)) }
@@ -339,13 +284,13 @@ impl Store {
                     self.put_number(index, value);
                     return Ok(());
                 }
-                return Err(4);
+                return Err(RunFault::OUT_OF_RANGE);
             }
-            None => return Err(2),
+            None => return Err(RunFault::OUTSIDE_BOUNDS),
         }
     }
 
-    fn set_copy(&mut self, copy: &Copied, value: &i128) -> Result<(), u8>
+    fn set_copy(&mut self, copy: &PrivateCopy, value: &i128) -> Result<(), RunFault>
         requires { IsTrue (is_some (lookup (same_copied copy.now) self.old.copies)) }
         ensures ok { OnOk result ((Stores.is_storable value.now ≡ true) × IsCopyPut copy.now (Some (Some value.now)) self.old self.new) }
         ensures err { IfErr result (λ n. (Stores.is_storable value.now ≡ false) × (n ≡ 4) × (self.new ≡ self.old)) }
@@ -354,10 +299,10 @@ impl Store {
             self.put_copy(copy, Some(*value));
             return Ok(());
         }
-        return Err(4);
+        return Err(RunFault::OUT_OF_RANGE);
     }
 
-    fn put_copy(&mut self, copy: &Copied, content: Option<i128>)
+    fn put_copy(&mut self, copy: &PrivateCopy, content: Option<i128>)
         requires { IsTrue (is_some (lookup (same_copied copy.now) self.old.copies)) }
         ensures { IsCopyPut copy.now (Some content) self.old self.new }
     {
@@ -367,17 +312,15 @@ impl Store {
         }
     }
 
-    fn add_copy(&mut self, copy: &Copied) -> Result<(), NoMemory>
+    fn add_copy(&mut self, copy: &PrivateCopy) -> Result<(), NoMemory>
         ensures ok { OnOk result (IsCopyPut copy.now (Some None) self.old self.new) }
         ensures err { OnErr result (self.new ≡ self.old) }
     {
-        match self.copies.insert(*copy, None) {
-            Ok(_) => return Ok(()),
-            Err(_) => return Err(NoMemory),
-        }
+        self.copies.insert(*copy, None)?;
+        Ok(())
     }
 
-    fn drop_copy(&mut self, copy: &Copied)
+    fn drop_copy(&mut self, copy: &PrivateCopy)
         ensures { IsCopyPut copy.now None self.old self.new }
     {
         self.copies.swap_remove(copy);
@@ -410,29 +353,33 @@ impl Store {
         self.held[index] = content;
     }
 
-    fn get_scalar(&self, name: &Name) -> Result<i128, u8>
+    fn get_scalar(&self, name: &Name) -> Result<i128, RunFault>
         ensures { result ≡ got (memory_of self.now) (Scalar name.now) }
     {
         match scalar_index(&self.slots, name) {
             Some(index) => return number_at(&self.held, index),
-            None => return Err(1),
+            None => return Err(RunFault::UNDEFINED_READ),
         }
     }
 
-    fn get_element(&self, name: &Name, subscripts: &[i128]) -> Result<i128, u8>
+    fn get_element(&self, name: &Name, subscripts: &[i128]) -> Result<i128, RunFault>
         requires { 0 < length subscripts.now }
         ensures { result ≡ got (memory_of self.now) (Element name.now subscripts.now) }
     {
         match element_index(&self.slots, name, subscripts) {
             Some(index) => return number_at(&self.held, index),
-            None => return Err(2),
+            None => return Err(RunFault::OUTSIDE_BOUNDS),
         }
     }
 
-    fn get_copy(&self, copy: &Copied) -> Result<i128, u8>
+    fn get_copy(&self, copy: &PrivateCopy) -> Result<i128, RunFault>
         ensures { result ≡ number_read (content_of (option_flatten (lookup (same_copied copy.now) self.now.copies))) }
     {
-        self.copies.get(copy).copied().flatten().ok_or(1)
+        self.copies
+            .get(copy)
+            .copied()
+            .flatten()
+            .ok_or(RunFault::UNDEFINED_READ)
     }
 }
 
@@ -458,10 +405,13 @@ fn copied_values(alloc: Global, values: &[Option<i128>]) -> Result<Listed<Option
 }
 
 /// The number that is held at a place.
-fn number_at(held: &[Option<i128>], index: usize) -> Result<i128, u8>
+fn number_at(held: &[Option<i128>], index: usize) -> Result<i128, RunFault>
     ensures { result ≡ number_read (held_at held.now (Some index)) }
 {
-    held.get(index).copied().flatten().ok_or(1)
+    held.get(index)
+        .copied()
+        .flatten()
+        .ok_or(RunFault::UNDEFINED_READ)
 }
 
 /// Whether a scalar or an element can hold the number.

@@ -14,19 +14,19 @@ use Rattle.ped_eval.proofs.Notings.{noted_as}
 use Rattle.ped_eval.proofs.Storing.{value_seen}
 use Rattle.ped_eval.proofs.printing.add_value.Goals as goal
 
-pub returns-in-Ok-add_number-clause-added : goal.returns-in-Ok-add_number-clause-added
+pub returns-in-Ok-clause-added : goal.returns-in-Ok-clause-added
 unfolding value_at
-returns-in-Ok-add_number-clause-added c =
+returns-in-Ok-clause-added c =
     let m = memory_of c.args.state.now.store in
     let e = λ (k : List (List ℕ × ℤ)). value (names_at m c.args.state.now.scope k) (expr_tree c.args.e.now) m.cells in
     let v : ℤ = to_z w128 (of_z w128 c.in-Ok.number) in
     let fits : FitsSigned w128 c.in-Ok.number = search rules in
     let h : (e c.args.symbols.now.constants).result ≡ Ok v = sym (ap (λ k. (e k).result) c.consts.ensures) ∙ sym c.value_of.ensures.value ∙ c.in-Ok.is ∙ ap Ok (sym (to_z-of_z w128 c.in-Ok.number fits)) in
-    (signed_decimal v, ap (λ (r : Result ℤ ℕ). (onward (e c.args.symbols.now.constants).seen r (λ n. given (Ok (signed_decimal n)))).result) h, c.in-Ok-add_number.ensures)
+    (signed_decimal v, ap (λ (r : Result ℤ ℕ). (onward (e c.args.symbols.now.constants).seen r (λ n. given (Ok (signed_decimal n)))).result) h, c.in_ok-add_number-in-Ok.ensures)
 
-pub returns-in-Ok-add_number-clause-noted : goal.returns-in-Ok-add_number-clause-noted
+pub returns-in-Ok-clause-noted : goal.returns-in-Ok-clause-noted
 unfolding seen_at
-returns-in-Ok-add_number-clause-noted c =
+returns-in-Ok-clause-noted c =
     let m = memory_of c.args.state.now.store in
     let e = λ (k : List (List ℕ × ℤ)). value (names_at m c.args.state.now.scope k) (expr_tree c.args.e.now) m.cells in
     noted_as c.args.notes.now c.value_of.new.notes _ _ (ap (λ k. (e k).seen) c.consts.ensures ∙ sym (value_seen (names_at m c.args.state.now.scope c.args.symbols.now.constants) m.cells (expr_tree c.args.e.now))) c.value_of.ensures.noted

@@ -388,7 +388,7 @@ run_turns-loop-earlier-init g t c =
     let body = body_run (setting_by table) (stmt_trees c.args.d.now.body.items) n scope in
     let store = c.enter_loop.ensures.store in
     record {
-      scope = c.in-Ok.ensures.scope;
+      scope = c.in_ok-enter_loop.ensures.scope;
       ready = subst (λ (k : Kept). IsReady table scope (memory_of k)) (sym store) c.requires.ready;
       run = λ behind s a m q.
           let agrees : Agrees scope (before_turn scope n 1) (memory_of c.args.state.now.store).cells s = agrees_later scope (before scope n) (before_turn scope n 1) (memory_of c.args.state.now.store).cells s (first_turn scope n 1) a in
@@ -466,8 +466,8 @@ run_turns-returns-in-Ok-Stopped-clause-watched g t c s a =
     awaits_broken follows c.args.watch.now c.loop-earlier.watch c.run_turn.new.watch scope (before_turn scope n (k + 1)) (before_turn scope n (k + 2)) (Ok flow.Stopped) kept.cells new.cells (body_run p ts n scope (frame e (k + 1)))
     (turns_run m (k + 1 + 1) e scope at_place (body_run p ts n scope)) (accesses (turns_run c.args.plan.now.count 1 e scope at_place (body_run p ts n scope) s).acts) tt (inv.told s a (suc m) more) told watched
 
-pub run_turns-returns-in-Err-run_turn-clause-told : goal.run_turns-returns-in-Err-run_turn-clause-told
-run_turns-returns-in-Err-run_turn-clause-told g t c behind s a =
+pub run_turns-returns-in-Err-clause-told : goal.run_turns-returns-in-Err-clause-told
+run_turns-returns-in-Err-clause-told g t c behind s a =
     let p = setting_by c.args.symbols.now in
     let scope = c.args.state.now.scope in
     let n = c.args.plan.now.number in
@@ -481,14 +481,14 @@ run_turns-returns-in-Err-run_turn-clause-told g t c behind s a =
     let m : ℕ = c.args.plan.now.count - (k + 1) in
     let less : k < c.args.plan.now.count = c.loop-earlier-test.true in
     let more : suc m + k ≡ c.args.plan.now.count = omega (arith, less) in
-    let r : Result Flow RunError = Err c.in-Err-run_turn.error in
+    let r : Result Flow RunError = Err c.in-Err.error in
     let told : TellsFrom scope (before_turn scope n (k + 1)) kept.cells (before_turn scope n (k + 2)) r new.cells (λ u. (body_run p ts n scope (frame e (k + 1)) u).ending) =
-    subst (λ (o : Scope). TellsFrom o (before_turn o n (k + 1)) kept.cells (before_turn o n (k + 2)) r new.cells (λ u. (body_run p ts n o (frame e (k + 1)) u).ending)) out c.in-Err-run_turn.ensures.told in
+    subst (λ (o : Scope). TellsFrom o (before_turn o n (k + 1)) kept.cells (before_turn o n (k + 2)) r new.cells (λ u. (body_run p ts n o (frame e (k + 1)) u).ending)) out c.in-Err.ensures.told in
     tells_broken scope (before_turn scope n (k + 1)) (before_turn scope n (k + 2)) (before scope (n + (statements_count ts + 1))) r kept.cells new.cells (λ u. (body_run p ts n scope (frame e (k + 1)) u).ending) (turns_end m (k + 1 + 1) e scope (body_run p ts n scope))
     (turns_end c.args.plan.now.count 1 e scope (body_run p ts n scope) s) tt (inv.run behind s a (suc m) more) told
 
-pub run_turns-returns-in-Err-run_turn-clause-watched : goal.run_turns-returns-in-Err-run_turn-clause-watched
-run_turns-returns-in-Err-run_turn-clause-watched g t c s a =
+pub run_turns-returns-in-Err-clause-watched : goal.run_turns-returns-in-Err-clause-watched
+run_turns-returns-in-Err-clause-watched g t c s a =
     let p = setting_by c.args.symbols.now in
     let scope = c.args.state.now.scope in
     let n = c.args.plan.now.number in
@@ -502,13 +502,13 @@ run_turns-returns-in-Err-run_turn-clause-watched g t c s a =
     let m : ℕ = c.args.plan.now.count - (k + 1) in
     let less : k < c.args.plan.now.count = c.loop-earlier-test.true in
     let more : suc m + k ≡ c.args.plan.now.count = omega (arith, less) in
-    let r : Result Flow RunError = Err c.in-Err-run_turn.error in
+    let r : Result Flow RunError = Err c.in-Err.error in
     let told : TellsFrom scope (before_turn scope n (k + 1)) kept.cells (before_turn scope n (k + 2)) r new.cells (λ u. (body_run p ts n scope (frame e (k + 1)) u).ending) =
-    subst (λ (o : Scope). TellsFrom o (before_turn o n (k + 1)) kept.cells (before_turn o n (k + 2)) r new.cells (λ u. (body_run p ts n o (frame e (k + 1)) u).ending)) out c.in-Err-run_turn.ensures.told in
+    subst (λ (o : Scope). TellsFrom o (before_turn o n (k + 1)) kept.cells (before_turn o n (k + 2)) r new.cells (λ u. (body_run p ts n o (frame e (k + 1)) u).ending)) out c.in-Err.ensures.told in
     let follows = g.W.Watch.follows in
     let at_place = place_by n scope in
     let watched : Watched follows c.loop-earlier.watch c.run_turn.new.watch scope (before_turn scope n (k + 1)) kept.cells r (body_run p ts n scope (frame e (k + 1))) =
-    subst (λ (o : Scope). Watched follows c.loop-earlier.watch c.run_turn.new.watch o (before_turn o n (k + 1)) kept.cells r (body_run p ts n o (frame e (k + 1)))) out c.in-Err-run_turn.ensures.watched in
+    subst (λ (o : Scope). Watched follows c.loop-earlier.watch c.run_turn.new.watch o (before_turn o n (k + 1)) kept.cells r (body_run p ts n o (frame e (k + 1)))) out c.in-Err.ensures.watched in
     awaits_broken follows c.args.watch.now c.loop-earlier.watch c.run_turn.new.watch scope (before_turn scope n (k + 1)) (before_turn scope n (k + 2)) r kept.cells new.cells (body_run p ts n scope (frame e (k + 1)))
     (turns_run m (k + 1 + 1) e scope at_place (body_run p ts n scope)) (accesses (turns_run c.args.plan.now.count 1 e scope at_place (body_run p ts n scope) s).acts) tt (inv.told s a (suc m) more) told watched
 
@@ -589,8 +589,8 @@ run_turns-leave_loop-requires-clause-inner g t c =
     subst (λ (o : Scope). list_all (λ x. kept.stands (cell_of o x)) c.args.plan.now.inner ≡ true) (sym out)
     (subst (λ (xs : List (List ℕ)). list_all (λ x. kept.stands (cell_of scope x)) xs ≡ true) (sym c.requires.plan.inner) (scalars_stand table scope kept (inner_variables h.parallel ts) inv.ready scalars))
 
-pub run_turns-returns-in-Ok-tell_exit-clause-told : goal.run_turns-returns-in-Ok-tell_exit-clause-told
-run_turns-returns-in-Ok-tell_exit-clause-told g t c behind s a =
+pub run_turns-returns-clause-told : goal.run_turns-returns-clause-told
+run_turns-returns-clause-told g t c behind s a =
     let p = setting_by c.args.symbols.now in
     let scope = c.args.state.now.scope in
     let n = c.args.plan.now.number in
@@ -609,8 +609,8 @@ run_turns-returns-in-Ok-tell_exit-clause-told g t c behind s a =
     subst (λ (m : Memory). Goes scope (before scope (n + (statements_count ts + 1))) m.cells (turns_end c.args.plan.now.count 1 e scope (body_run p ts n scope) s)) (sym memory)
     (subst (λ (x : Ending). Goes scope (before scope (n + (statements_count ts + 1))) (exited e scope kept).cells x) reach.2 told)
 
-pub run_turns-returns-in-Ok-tell_exit-clause-watched : goal.run_turns-returns-in-Ok-tell_exit-clause-watched
-run_turns-returns-in-Ok-tell_exit-clause-watched g t c s a =
+pub run_turns-returns-clause-watched : goal.run_turns-returns-clause-watched
+run_turns-returns-clause-watched g t c s a =
     let p = setting_by c.args.symbols.now in
     let scope = c.args.state.now.scope in
     let n = c.args.plan.now.number in
@@ -626,11 +626,11 @@ run_turns-returns-in-Ok-tell_exit-clause-watched g t c s a =
     let awaits = inv.told s a zero done in
     let same : c.leave_loop.new.state.scope ≡ scope = c.leave_loop.ensures.scope ∙ out in
     let told : Follow follows c.loop-earlier.watch (accesses_by n scope (noted (exit_touches e scope))) c.tell_exit.new.watch =
-    subst (λ (o : Scope). Follow follows c.loop-earlier.watch (accesses_by n o (noted (exit_touches e o))) c.tell_exit.new.watch) same c.in-Ok-tell_exit.ensures in
+    subst (λ (o : Scope). Follow follows c.loop-earlier.watch (accesses_by n o (noted (exit_touches e o))) c.tell_exit.new.watch) same c.in_ok-tell_exit.ensures in
     awaits.2 c.tell_exit.new.watch (subst (λ (xs : List Access). Follow follows c.loop-earlier.watch xs c.tell_exit.new.watch) (sym (act_accesses closed at_place (exit_touches e scope))) told)
 
-pub run_turns-returns-in-Ok-tell_exit-clause-ready : goal.run_turns-returns-in-Ok-tell_exit-clause-ready
-run_turns-returns-in-Ok-tell_exit-clause-ready g t c =
+pub run_turns-returns-clause-ready : goal.run_turns-returns-clause-ready
+run_turns-returns-clause-ready g t c =
     let table = c.args.symbols.now in
     let scope = c.args.state.now.scope in
     let inv = c.loop-earlier.invariant in
@@ -650,8 +650,8 @@ run_turn-run_all-requires g t c =
     let mid = memory_of c.open_turn.new.state.store in
     let fs = outside c.args.state.now.scope in
     let f = frame (entered_by (head_of c.args.d.now) c.args.plan.now 0) (c.args.earlier + 1) in
-    let scope : c.open_turn.new.state.scope ≡ f ∷ fs = c.in-Ok.ensures.scope in
-    let memory : mid ≡ with_copies (f ∷ fs) f.private old = c.in-Ok.ensures.copies ∙ (λ i. with_copies (scope i) (c.requires.plan.copied i) old) in
+    let scope : c.open_turn.new.state.scope ≡ f ∷ fs = c.in_ok-open_turn.ensures.scope in
+    let memory : mid ≡ with_copies (f ∷ fs) f.private old = c.in_ok-open_turn.ensures.copies ∙ (λ i. with_copies (scope i) (c.requires.plan.copied i) old) in
     let can : CanRun table (f ∷ fs) (n + 1) (stmt_trees c.args.d.now.body.items) = body_can table fs n (head_of c.args.d.now) (stmt_trees c.args.d.now.body.items) c.requires.can f in
     let here : CanRun table (f ∷ fs) (n + 1) (stmt_trees c.deref.result.now) = subst (λ (ss : List Stmt). CanRun table (f ∷ fs) (n + 1) (stmt_trees ss)) (sym c.deref.ensures.value) can in
     let ready : IsReady table (f ∷ fs) mid = subst (λ (m : Memory). IsReady table (f ∷ fs) m) (sym memory) (open_ready table f fs old c.requires.ready) in
@@ -664,7 +664,7 @@ run_turn-close_copies-requires g t c =
     let f = frame e (c.args.earlier + 1) in
     let ready_there : StaysReady c.args.symbols.now (Ok flow.Going) c.open_turn.new.state.scope c.run_all.new.state.scope (memory_of c.run_all.new.state.store) =
     subst (λ (x : Flow). StaysReady c.args.symbols.now (Ok x) c.open_turn.new.state.scope c.run_all.new.state.scope (memory_of c.run_all.new.state.store)) c.in-Ok-Going.field-0-is c.in-Ok-Going.ensures.ready in
-    let same : c.run_all.new.state.scope ≡ f ∷ fs = ready_there.0 ∙ c.in-Ok.ensures.scope in
+    let same : c.run_all.new.state.scope ≡ f ∷ fs = ready_there.0 ∙ c.in_ok-open_turn.ensures.scope in
     (λ i. list_all (λ x. is_copy (cell_of (same i) x)) ((c.as_slice.ensures ∙ c.requires.plan.copied) i)) ∙ all_copies f fs (copied_names e) (all_among (copied_names e))
 
 pub run_turn-returns-in-Ok-Going-clause-told : goal.run_turn-returns-in-Ok-Going-clause-told
@@ -678,8 +678,8 @@ run_turn-returns-in-Ok-Going-clause-told g t c =
     let new = memory_of c.close_copies.new.state.store in
     let fs = outside c.args.state.now.scope in
     let f = frame (entered_by (head_of c.args.d.now) c.args.plan.now 0) (c.args.earlier + 1) in
-    let scope : c.open_turn.new.state.scope ≡ f ∷ fs = c.in-Ok.ensures.scope in
-    let memory : mid ≡ with_copies (f ∷ fs) f.private old = c.in-Ok.ensures.copies ∙ (λ i. with_copies (scope i) (c.requires.plan.copied i) old) in
+    let scope : c.open_turn.new.state.scope ≡ f ∷ fs = c.in_ok-open_turn.ensures.scope in
+    let memory : mid ≡ with_copies (f ∷ fs) f.private old = c.in_ok-open_turn.ensures.copies ∙ (λ i. with_copies (scope i) (c.requires.plan.copied i) old) in
     let ready_there : StaysReady c.args.symbols.now (Ok flow.Going) c.open_turn.new.state.scope c.run_all.new.state.scope (memory_of c.run_all.new.state.store) =
     subst (λ (x : Flow). StaysReady c.args.symbols.now (Ok x) c.open_turn.new.state.scope c.run_all.new.state.scope (memory_of c.run_all.new.state.store)) c.in-Ok-Going.field-0-is c.in-Ok-Going.ensures.ready in
     let same : c.run_all.new.state.scope ≡ f ∷ fs = ready_there.0 ∙ scope in
@@ -699,8 +699,8 @@ run_turn-returns-in-Ok-Going-clause-watched g t c =
     let mid = memory_of c.open_turn.new.state.store in
     let fs = outside c.args.state.now.scope in
     let f = frame (entered_by (head_of c.args.d.now) c.args.plan.now 0) (c.args.earlier + 1) in
-    let scope : c.open_turn.new.state.scope ≡ f ∷ fs = c.in-Ok.ensures.scope in
-    let memory : mid ≡ with_copies (f ∷ fs) f.private old = c.in-Ok.ensures.copies ∙ (λ i. with_copies (scope i) (c.requires.plan.copied i) old) in
+    let scope : c.open_turn.new.state.scope ≡ f ∷ fs = c.in_ok-open_turn.ensures.scope in
+    let memory : mid ≡ with_copies (f ∷ fs) f.private old = c.in_ok-open_turn.ensures.copies ∙ (λ i. with_copies (scope i) (c.requires.plan.copied i) old) in
     turn_watched g.W.Watch.follows (setting_by c.args.symbols.now) f fs n c.open_turn.new.state.scope c.deref.result.now c.args.d.now.body.items old mid c.args.watch.now c.run_all.new.watch (Ok flow.Going) scope memory c.deref.ensures.value c.in-Ok-Going.ensures.watched
 
 pub run_turn-returns-in-Ok-Going-clause-ready : goal.run_turn-returns-in-Ok-Going-clause-ready
@@ -712,7 +712,7 @@ run_turn-returns-in-Ok-Going-clause-ready g t c =
     let f = frame (entered_by (head_of c.args.d.now) c.args.plan.now 0) (c.args.earlier + 1) in
     let ready_there : StaysReady c.args.symbols.now (Ok flow.Going) c.open_turn.new.state.scope c.run_all.new.state.scope (memory_of c.run_all.new.state.store) =
     subst (λ (x : Flow). StaysReady c.args.symbols.now (Ok x) c.open_turn.new.state.scope c.run_all.new.state.scope (memory_of c.run_all.new.state.store)) c.in-Ok-Going.field-0-is c.in-Ok-Going.ensures.ready in
-    let same : c.run_all.new.state.scope ≡ f ∷ fs = ready_there.0 ∙ c.in-Ok.ensures.scope in
+    let same : c.run_all.new.state.scope ≡ f ∷ fs = ready_there.0 ∙ c.in_ok-open_turn.ensures.scope in
     let closed : new ≡ without_copies (f ∷ fs) f.private ran = c.close_copies.ensures.copies ∙ (λ i. without_copies (same i) ((c.as_slice.ensures ∙ c.requires.plan.copied) i) ran) in
     let ready : IsReady table (f ∷ fs) ran = subst (λ (o : Scope). IsReady table o ran) same ready_there.1 in
     (c.close_copies.ensures.scope ∙ same, subst (λ (m : Memory). IsReady table fs m) (sym closed) (close_ready table f fs ran ready))
@@ -727,8 +727,8 @@ run_turn-returns-in-Ok-Stopped-clause-told g t c =
     let ran = memory_of c.run_all.new.state.store in
     let fs = outside c.args.state.now.scope in
     let f = frame (entered_by (head_of c.args.d.now) c.args.plan.now 0) (c.args.earlier + 1) in
-    let scope : c.open_turn.new.state.scope ≡ f ∷ fs = c.in-Ok.ensures.scope in
-    let memory : mid ≡ with_copies (f ∷ fs) f.private old = c.in-Ok.ensures.copies ∙ (λ i. with_copies (scope i) (c.requires.plan.copied i) old) in
+    let scope : c.open_turn.new.state.scope ≡ f ∷ fs = c.in_ok-open_turn.ensures.scope in
+    let memory : mid ≡ with_copies (f ∷ fs) f.private old = c.in_ok-open_turn.ensures.copies ∙ (λ i. with_copies (scope i) (c.requires.plan.copied i) old) in
     let told_there : Ran c.open_turn.new.state.scope (n + 1) mid (n + 1 + statements_count (stmt_trees c.deref.result.now)) (Ok flow.Stopped) ran (run_all p (stmt_trees c.deref.result.now) (n + 1) c.open_turn.new.state.scope) =
     subst (λ (x : Flow). Ran c.open_turn.new.state.scope (n + 1) mid (n + 1 + statements_count (stmt_trees c.deref.result.now)) (Ok x) ran (run_all p (stmt_trees c.deref.result.now) (n + 1) c.open_turn.new.state.scope)) c.in-Ok-Stopped.field-0-is c.in-Ok-Stopped.ensures.told in
     let part = turn_part p f fs n c.open_turn.new.state.scope c.deref.result.now c.args.d.now.body.items old mid ran (Ok flow.Stopped) scope memory c.deref.ensures.value told_there in
@@ -741,12 +741,12 @@ run_turn-returns-in-Ok-Stopped-clause-watched g t c =
     let mid = memory_of c.open_turn.new.state.store in
     let fs = outside c.args.state.now.scope in
     let f = frame (entered_by (head_of c.args.d.now) c.args.plan.now 0) (c.args.earlier + 1) in
-    let scope : c.open_turn.new.state.scope ≡ f ∷ fs = c.in-Ok.ensures.scope in
-    let memory : mid ≡ with_copies (f ∷ fs) f.private old = c.in-Ok.ensures.copies ∙ (λ i. with_copies (scope i) (c.requires.plan.copied i) old) in
+    let scope : c.open_turn.new.state.scope ≡ f ∷ fs = c.in_ok-open_turn.ensures.scope in
+    let memory : mid ≡ with_copies (f ∷ fs) f.private old = c.in_ok-open_turn.ensures.copies ∙ (λ i. with_copies (scope i) (c.requires.plan.copied i) old) in
     turn_watched g.W.Watch.follows (setting_by c.args.symbols.now) f fs n c.open_turn.new.state.scope c.deref.result.now c.args.d.now.body.items old mid c.args.watch.now c.run_all.new.watch (Ok flow.Stopped) scope memory c.deref.ensures.value c.in-Ok-Stopped.ensures.watched
 
-pub run_turn-returns-in-Err-run_all-clause-told : goal.run_turn-returns-in-Err-run_all-clause-told
-run_turn-returns-in-Err-run_all-clause-told g t c =
+pub run_turn-returns-in-Err-clause-told : goal.run_turn-returns-in-Err-clause-told
+run_turn-returns-in-Err-clause-told g t c =
     let p = setting_by c.args.symbols.now in
     let n = c.args.plan.now.number in
     let ts = stmt_trees c.args.d.now.body.items in
@@ -755,21 +755,21 @@ run_turn-returns-in-Err-run_all-clause-told g t c =
     let ran = memory_of c.run_all.new.state.store in
     let fs = outside c.args.state.now.scope in
     let f = frame (entered_by (head_of c.args.d.now) c.args.plan.now 0) (c.args.earlier + 1) in
-    let r : Result Flow RunError = Err c.in-Err-run_all.error in
-    let scope : c.open_turn.new.state.scope ≡ f ∷ fs = c.in-Ok.ensures.scope in
-    let memory : mid ≡ with_copies (f ∷ fs) f.private old = c.in-Ok.ensures.copies ∙ (λ i. with_copies (scope i) (c.requires.plan.copied i) old) in
-    let part = turn_part p f fs n c.open_turn.new.state.scope c.deref.result.now c.args.d.now.body.items old mid ran r scope memory c.deref.ensures.value c.in-Err-run_all.ensures.told in
-    let told = turn_fails f fs (n + 1) (n + 1 + statements_count ts) old (λ s. (run_all p ts (n + 1) (f ∷ fs) s).ending) c.in-Err-run_all.error ran part in
+    let r : Result Flow RunError = Err c.in-Err.error in
+    let scope : c.open_turn.new.state.scope ≡ f ∷ fs = c.in_ok-open_turn.ensures.scope in
+    let memory : mid ≡ with_copies (f ∷ fs) f.private old = c.in_ok-open_turn.ensures.copies ∙ (λ i. with_copies (scope i) (c.requires.plan.copied i) old) in
+    let part = turn_part p f fs n c.open_turn.new.state.scope c.deref.result.now c.args.d.now.body.items old mid ran r scope memory c.deref.ensures.value c.in-Err.ensures.told in
+    let told = turn_fails f fs (n + 1) (n + 1 + statements_count ts) old (λ s. (run_all p ts (n + 1) (f ∷ fs) s).ending) c.in-Err.error ran part in
     let two : c.args.earlier + 1 + 1 ≡ c.args.earlier + 2 = omega arith in
     subst (λ (k : ℕ). TellsFrom fs (before_turn fs n (c.args.earlier + 1)) old.cells (before_turn fs n k) r ran.cells (λ s. (run_all p ts (n + 1) (f ∷ fs) s).ending)) two told
 
-pub run_turn-returns-in-Err-run_all-clause-watched : goal.run_turn-returns-in-Err-run_all-clause-watched
-run_turn-returns-in-Err-run_all-clause-watched g t c =
+pub run_turn-returns-in-Err-clause-watched : goal.run_turn-returns-in-Err-clause-watched
+run_turn-returns-in-Err-clause-watched g t c =
     let n = c.args.plan.now.number in
     let old = memory_of c.args.state.now.store in
     let mid = memory_of c.open_turn.new.state.store in
     let fs = outside c.args.state.now.scope in
     let f = frame (entered_by (head_of c.args.d.now) c.args.plan.now 0) (c.args.earlier + 1) in
-    let scope : c.open_turn.new.state.scope ≡ f ∷ fs = c.in-Ok.ensures.scope in
-    let memory : mid ≡ with_copies (f ∷ fs) f.private old = c.in-Ok.ensures.copies ∙ (λ i. with_copies (scope i) (c.requires.plan.copied i) old) in
-    turn_watched g.W.Watch.follows (setting_by c.args.symbols.now) f fs n c.open_turn.new.state.scope c.deref.result.now c.args.d.now.body.items old mid c.args.watch.now c.run_all.new.watch (Err c.in-Err-run_all.error) scope memory c.deref.ensures.value c.in-Err-run_all.ensures.watched
+    let scope : c.open_turn.new.state.scope ≡ f ∷ fs = c.in_ok-open_turn.ensures.scope in
+    let memory : mid ≡ with_copies (f ∷ fs) f.private old = c.in_ok-open_turn.ensures.copies ∙ (λ i. with_copies (scope i) (c.requires.plan.copied i) old) in
+    turn_watched g.W.Watch.follows (setting_by c.args.symbols.now) f fs n c.open_turn.new.state.scope c.deref.result.now c.args.d.now.body.items old mid c.args.watch.now c.run_all.new.watch (Err c.in-Err.error) scope memory c.deref.ensures.value c.in-Err.ensures.watched

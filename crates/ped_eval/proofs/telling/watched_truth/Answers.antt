@@ -9,23 +9,23 @@ use Rattle.ped_eval.specs.StatementNotes.{reads_noted}
 use Rattle.ped_eval.proofs.Storing.{fresh_noted}
 use Rattle.ped_eval.proofs.telling.watched_truth.Goals as goal
 
-pub returns-in-Ok-truth : goal.returns-in-Ok-truth
+pub returns-in-Ok : goal.returns-in-Ok
 unfolding truth_seen_at truth_at
-returns-in-Ok-truth g c =
+returns-in-Ok g c =
     let m = memory_of c.args.state.now.store in
     let at = λ (k : List (List ℕ × ℤ)). truth (names_at m c.args.state.now.scope k) (cond_tree c.args.condition.now) m.cells in
     let noted = fresh_noted c.of_statement-notes.result c.truth_of-truth.new.notes _ c.of_statement-notes.ensures.touches c.of_statement-notes.ensures.next c.truth_of-truth.ensures.noted in (
-      sym (ap (λ k. (at k).result) c.consts.ensures) ∙ sym c.truth_of-truth.ensures.truth ∙ c.in-Ok-truth.is,
-      c.in-Ok.ensures (reads_noted (at c.args.symbols.now.constants).seen) (λ kept. noted kept ∙ ap (λ k. reads_noted (at k).seen) c.consts.ensures),
+      sym (ap (λ k. (at k).result) c.consts.ensures) ∙ sym c.truth_of-truth.ensures.truth ∙ c.in-Ok.is,
+      c.in_ok-tell.ensures (reads_noted (at c.args.symbols.now.constants).seen) (λ kept. noted kept ∙ ap (λ k. reads_noted (at k).seen) c.consts.ensures),
     )
 
-pub returns-in-Err-truth : goal.returns-in-Err-truth
+pub returns-in-Err : goal.returns-in-Err
 unfolding truth_seen_at truth_at
-returns-in-Err-truth g c =
+returns-in-Err g c =
     let m = memory_of c.args.state.now.store in
     let at = λ (k : List (List ℕ × ℤ)). truth (names_at m c.args.state.now.scope k) (cond_tree c.args.condition.now) m.cells in
     let noted = fresh_noted c.of_statement-notes.result c.truth_of-truth.new.notes _ c.of_statement-notes.ensures.touches c.of_statement-notes.ensures.next c.truth_of-truth.ensures.noted in (
-      sym (ap (λ k. (at k).result) c.consts.ensures) ∙ sym c.truth_of-truth.ensures.truth ∙ c.in-Err-truth.is,
+      sym (ap (λ k. (at k).result) c.consts.ensures) ∙ sym c.truth_of-truth.ensures.truth ∙ c.in-Err.is,
       refl,
-      c.in-Ok.ensures (reads_noted (at c.args.symbols.now.constants).seen) (λ kept. noted kept ∙ ap (λ k. reads_noted (at k).seen) c.consts.ensures),
+      c.in_ok-tell.ensures (reads_noted (at c.args.symbols.now.constants).seen) (λ kept. noted kept ∙ ap (λ k. reads_noted (at k).seen) c.consts.ensures),
     )

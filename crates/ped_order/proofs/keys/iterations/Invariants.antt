@@ -1,8 +1,7 @@
 use Rattle.std.proofs.Common.{◌≡◌, map, take}
 use Rattle.ped_eval.specs.AccessViews.{turn_view}
 use Rattle.ped_order.specs.Keys.{iteration_of}
-use Rattle.ped_order.specs.KeyViews.{iterations_view}
 use Rattle.ped_order.proofs.keys.iterations.Given as goal
 
 abbrev pub invariant-loop-turn : goal.invariant-loop-turn
-invariant-loop-turn l = iterations_view l.iterations.items ≡ map iteration_of (map turn_view (take l.turn-index l.turns))
+invariant-loop-turn l = l.iterations.items ≡ map iteration_of (map turn_view (take l.turn-index l.turns))

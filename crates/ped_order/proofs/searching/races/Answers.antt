@@ -8,19 +8,19 @@ use Rattle.ped_order.proofs.Following.{seen_all, reported}
 use Rattle.ped_order.proofs.Carried.{reported_carried}
 use Rattle.ped_order.proofs.searching.races.Goals as goal
 
-pub returns-in-Ok-clause-report : goal.returns-in-Ok-clause-report
-returns-in-Ok-clause-report c =
+pub returns-clause-report : goal.returns-clause-report
+returns-clause-report c =
     let t = program_tree c.args.program.now in
     let data_bytes = c.args.input.now in
     let watch = c.run_watched.new.watch in
-    let saw = seen_all c.new-watch.result watch [] (accesses (run_of t data_bytes).acts) c.in-Ok.ensures.watch c.new-watch.ensures in
-    subst (IsReport t data_bytes) (sym (c.report.ensures ∙ ap (report_of watch.found) c.in-Ok.ensures.outcome)) (reported t data_bytes watch.found watch.table saw)
+    let saw = seen_all c.new-watch.result watch [] (accesses (run_of t data_bytes).acts) c.in_ok-outcome.ensures.watch c.new-watch.ensures in
+    subst (IsReport t data_bytes) (sym (c.report.ensures ∙ ap (report_of watch.found) c.in_ok-outcome.ensures.outcome)) (reported t data_bytes watch.found watch.table saw)
 
-pub returns-in-Ok-clause-carried : goal.returns-in-Ok-clause-carried
-returns-in-Ok-clause-carried c = λ edges are.
+pub returns-clause-carried : goal.returns-clause-carried
+returns-clause-carried c = λ edges are.
     let t = program_tree c.args.program.now in
     let data_bytes = c.args.input.now in
     let watch = c.run_watched.new.watch in
-    let saw = seen_all c.new-watch.result watch [] (accesses (run_of t data_bytes).acts) c.in-Ok.ensures.watch c.new-watch.ensures in
+    let saw = seen_all c.new-watch.result watch [] (accesses (run_of t data_bytes).acts) c.in_ok-outcome.ensures.watch c.new-watch.ensures in
     reported_carried t data_bytes edges (λ a b come races. c.races_are_covered.ensures t data_bytes a b edges c.requires.valid come races are) (report_view c.report.result)
-    (subst (IsReport t data_bytes) (sym (c.report.ensures ∙ ap (report_of watch.found) c.in-Ok.ensures.outcome)) (reported t data_bytes watch.found watch.table saw))
+    (subst (IsReport t data_bytes) (sym (c.report.ensures ∙ ap (report_of watch.found) c.in_ok-outcome.ensures.outcome)) (reported t data_bytes watch.found watch.table saw))

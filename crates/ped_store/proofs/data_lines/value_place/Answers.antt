@@ -1,5 +1,5 @@
 use Rattle.std.proofs.Common.{◌∙◌}
-use Rattle.ped_store.proofs.Taking.{value_at, value_behind, no_value}
+use Rattle.ped_store.proofs.Taking.{value_at}
 use Rattle.ped_store.proofs.data_lines.value_place.Goals as goal
 
 pub returns-then-from-place-clause-value : goal.returns-then-from-place-clause-value

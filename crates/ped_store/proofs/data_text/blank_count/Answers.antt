@@ -1,4 +1,4 @@
-use Rattle.std.proofs.Common.{ℕ, length, drop, not, ap, sym, ◌∙◌, arith}
+use Rattle.std.proofs.Common.{ℕ, length, drop, not, ap, ◌∙◌, arith}
 use Rattle.std.specs.Option.{unwrap_or}
 use Rattle.ped_store.specs.DataLines.{is_data_blank}
 use Rattle.ped_store.proofs.DataTexts.{first_or_end, first_within, blanks_are}

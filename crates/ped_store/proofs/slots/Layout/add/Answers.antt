@@ -1,8 +1,7 @@
 use Rattle.std.proofs.Common.{◌≡◌, ℕ, ◌+◌, List, Some, if◌then◌else◌, refl, sym, ap, subst, ◌∙◌, arith}
 use Rattle.std.specs.Prelude.{is_some}
 use Rattle.std.specs.Map.{lookup}
-use Rattle.ped_base.specs.Lists.{is_same_text}
-use Rattle.ped_store.specs.Slots.{slot_of, slot_count, IsLaid}
+use Rattle.ped_store.specs.Slots.{slot_count, IsLaid}
 use Rattle.ped_store.proofs.Lookups.{looked_up}
 use Rattle.indexmap.proofs.CallerLemmas.{insert_entry-new}
 use Rattle.ped_base.specs.contracts.identifiers.NamePartialEq.TheImpl as code
@@ -16,21 +15,21 @@ returns-then-contains_key-clause-first c =
     let entries = c.args.self.now.slots.entries in
     known_bounds entries c.args.shape.now.name c.args.shape.now.bounds (ap is_some (sym (looked_up c.args.shape.now.name entries)) ∙ sym c.contains_key.ensures ∙ c.if-contains_key.true)
 
-pub returns-in-Ok-clause-laid : goal.returns-in-Ok-clause-laid
-returns-in-Ok-clause-laid c =
+pub returns-clause-laid : goal.returns-clause-laid
+returns-clause-laid c =
     let slots = c.args.self.now.slots in
     let slot : Slot = record { bounds = c.args.shape.now.bounds; start = c.args.self.now.cells } in
     let none = nothing_there (lookup ((code.eq-value).it c.args.shape.now.name) slots.entries) (sym c.contains_key.ensures ∙ c.if-contains_key.false) in
-    let placed = c.in-Ok.ensures.entries ∙ insert_entry-new (code.eq-value).it slots c.args.shape.now.name slot none in
+    let placed = c.in_ok-insert.ensures.entries ∙ insert_entry-new (code.eq-value).it slots c.args.shape.now.name slot none in
     let end : c.args.self.now.cells + slot_count slot ≡ c.saturating_add-cells.result = omega (arith, c.saturating_add-cells.ensures, c.cell_count.ensures.count, c.if-cells.false) in
     subst (λ (n : ℕ). IsLaid 0 c.insert.new.self.entries n) end
     (subst (λ (es : List (List ℕ × Slot)). IsLaid 0 es (c.args.self.now.cells + slot_count slot)) (sym placed) (laid_more slots.entries 0 c.args.self.now.cells c.args.shape.now.name slot c.requires refl))
 
-pub returns-in-Ok-clause-first : goal.returns-in-Ok-clause-first
-returns-in-Ok-clause-first c =
+pub returns-clause-first : goal.returns-clause-first
+returns-clause-first c =
     let entries = c.args.self.now.slots.entries in
     let name = c.args.shape.now.name in
     let slot : Slot = record { bounds = c.args.shape.now.bounds; start = c.args.self.now.cells } in
     added_bounds entries c.insert.new.self.entries name slot
     (ap is_some (sym (looked_up name entries)) ∙ sym c.contains_key.ensures ∙ c.if-contains_key.false)
-    (λ x. sym (looked_up x c.insert.new.self.entries) ∙ c.in-Ok.ensures.updates.0 x ∙ (λ i. if name_same name x i then Some slot else looked_up x entries i))
+    (λ x. sym (looked_up x c.insert.new.self.entries) ∙ c.in_ok-insert.ensures.updates.0 x ∙ (λ i. if name_same name x i then Some slot else looked_up x entries i))

@@ -15,8 +15,8 @@ most_crates_with_edits=12
 most_test_lines=250
 most_crates_with_tests=2
 most_ways=6000
-most_lemma_files=109
-most_lemma_imports=509
+most_lemma_files=107
+most_lemma_imports=534
 most_needless_doors=117
 
 edits() {

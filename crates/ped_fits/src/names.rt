@@ -7,8 +7,7 @@ ghost use Rattle.ped_tree.specs.Grammar.Words as Words;
 ghost use Rattle.ped_tree.specs.Grammar.StatementForms as Spec;
 ghost use Rattle.ped_tree.specs.Grammar.ProgramRefusals as Refusals;
 
-use ped_base::Name;
-use ped_limits::is_among;
+use ped_base::{Name, is_among};
 
 /// Whether a name has at most six characters.
 pub fn name_fits(name: &Name) -> bool

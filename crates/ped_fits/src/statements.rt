@@ -14,8 +14,8 @@ use crate::comments::comment_fits;
 use crate::expressions::{cond_fits, expr_fits, items_fit, target_fits, targets_fit};
 use crate::loops::loop_fits;
 use crate::surroundings::{Numbers, Surroundings, is_within, with_private, with_variable};
-use ped_base::Name;
-use ped_limits::{MOST_BLOCKS_NESTED, is_among};
+use ped_base::{Name, is_among};
+use ped_limits::MOST_BLOCKS_NESTED;
 use ped_tree::{Cond, Do, Expr, Stmt};
 
 /// The numbers behind statements that stand one behind the other; none where one of them doesn't fit.

@@ -13,8 +13,7 @@ ghost use Rattle.ped_flow.specs.Kept.{name_of, constants_of};
 use crate::asked::Scalar;
 use crate::decls::is_constant;
 use crate::summaries::Summary;
-use ped_base::Name;
-use ped_tree::names::is_among;
+use ped_base::{Name, is_among};
 use ped_tree::{Cond, Do, Expr, PrintItem, Stmt};
 
 /// Whether two names are the same.

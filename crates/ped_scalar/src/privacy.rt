@@ -8,8 +8,7 @@ ghost use Rattle.ped_tree.specs.Views.{stmt_tree, stmt_trees};
 ghost use Rattle.ped_steps.specs.ped_refs.specs.Loops.{head_of, nest_of};
 ghost use Rattle.ped_scalar.specs.Expanding as Spec;
 
-use ped_base::Name;
-use ped_steps::is_among;
+use ped_base::{Name, is_among};
 use ped_steps::ped_refs::Loop;
 use ped_tree::{Do, Stmt};
 

@@ -48,7 +48,7 @@ pub struct ElseBlock {
 pub struct LoopBlock {
     /// The statements before the loop.
     pub before: Vec<Stmt>,
-    /// The label of the statement that ends it, none where an END DO ends it.
+    /// The label of the statement that ends it, none where it has none.
     pub label: Option<u32>,
     /// The loop, without a body so far.
     pub head: Do,

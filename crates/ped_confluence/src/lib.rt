@@ -1,4 +1,4 @@
-//! Confluence: where a program runs without a race, the order in which the iterations of its PARALLEL DO loops go on
+//! Confluence: where a program runs without a fault and a race, the order in which iterations of PARALLEL DO loops go on
 //! doesn't show. No function here does anything; its contract is the law, and docs/MEANING.md tells how it is proved.
 #![tactic(auto)]
 

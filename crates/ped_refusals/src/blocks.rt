@@ -19,7 +19,7 @@ use std::alloc::Global;
 /// A DO loop that is open.
 #[derive(Drop)]
 pub struct OpenLoop {
-    /// The label of the statement that ends it, none where an END DO ends it.
+    /// The label of the statement that ends it, none where it has none.
     pub label: Option<u32>,
     /// The DO variable.
     pub variable: Name,

@@ -6,7 +6,8 @@ use Rattle.ped_base.specs.Lists.{is_same_text}
 use Rattle.ped_views.specs.Views.{Range}
 use Rattle.ped_tree.specs.Tree.{Head}
 use Rattle.ped_refs.specs.declared.loops.Loop.{Loop}
-use Rattle.ped_refs.specs.Loops.{nest_of, head_of}
+use Rattle.ped_refs.specs.Loops.{nest_of}
+use Rattle.ped_tree.specs.Views.{head_of}
 use Rattle.ped_affine.specs.Ranges.{Setting, Around, between_ends, inside, loop_range, ranges_inside, nest_ranges}
 use Rattle.ped_affine.specs.PairViews.{heads_of}
 use Rattle.ped_affine.specs.Surroundings.{with_ranges}

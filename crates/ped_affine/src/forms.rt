@@ -10,10 +10,9 @@ use crate::coefficients::{
 };
 use crate::intervals::is_near;
 use crate::names::is_index;
-use ped_base::{Name, NoMemory};
+use ped_base::{Name, NoMemory, is_among};
 use ped_refs::Loop;
 use ped_tree::constants::Consts;
-use ped_tree::names::is_among;
 use ped_views::product;
 use std::alloc::Global;
 

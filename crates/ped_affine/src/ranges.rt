@@ -2,7 +2,8 @@
 
 ghost use Rattle.std.specs.Prelude.{◌≡◌, ◌≢◌, ◌-◌, ◌<◌, ◌≤◌, map, take, length, pos, unsigned_abs, slice_get, Some};
 ghost use Rattle.ped_tree.specs.Views.{expr_tree, pack_exprs};
-ghost use Rattle.ped_refs.specs.Loops.{nest_of, head_of};
+ghost use Rattle.ped_refs.specs.Loops.{nest_of};
+ghost use Rattle.ped_tree.specs.Views.{head_of};
 ghost use Rattle.ped_tree.specs.Constants.ConstantExpressions.{constant_value};
 ghost use Rattle.ped_affine.specs.Ranges as Spec;
 ghost use Rattle.ped_affine.specs.PairViews.{heads_of};

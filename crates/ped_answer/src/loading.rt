@@ -8,8 +8,7 @@ ghost use Rattle.ped_answer.specs.Serving.{SaysUnread, unread_status};
 
 use crate::answering::Status;
 use crate::finishing::finish;
-use crate::refusals::push_number;
-use ped_base::{Bytes, NoMemory};
+use ped_base::{Bytes, NoMemory, push_number};
 use ped_io::{LoadError, Sink};
 use std::alloc::Global;
 

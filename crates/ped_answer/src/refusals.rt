@@ -9,8 +9,7 @@ ghost use Rattle.ped_answer.specs.Refusals as Spec;
 
 use crate::answering::Status;
 use crate::finishing::finish;
-use itoa::Buffer;
-use ped_base::{Bytes, NoMemory};
+use ped_base::{Bytes, NoMemory, push_number};
 use ped_io::Sink;
 use ped_session::ped_tree::grammar::Refusal;
 use std::alloc::Global;
@@ -44,12 +43,4 @@ fn refused_line(alloc: Global, refusal: Refusal) -> Result<Bytes, NoMemory>
     push_number(&mut line, refusal.line)?;
     line.push(b'\n')?;
     Ok(line)
-}
-
-/// Adds the digits of a number.
-pub fn push_number(out: &mut Bytes, number: u64) -> Result<(), NoMemory>
-    ensures { OnOk result (out.new ≡ out.old ++ decimal number) }
-{
-    let mut buffer = Buffer::new();
-    out.extend_from_slice(buffer.format(number).as_bytes())
 }

@@ -1,2 +1,3 @@
 mod Keeping
 pub mod ArithmeticLaws
+pub mod NameEquality

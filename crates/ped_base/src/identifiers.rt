@@ -3,6 +3,7 @@
 ghost use Rattle.std.specs.Prelude.{◌≡◌, ◌≤◌, IsTrue, length};
 ghost use Rattle.std.specs.List.{list_all};
 ghost use Rattle.ped_base.specs.Letters as Spec;
+ghost use Rattle.ped_base.specs.Lists as Lists;
 
 use crate::listing::Listed;
 use std::marker::Model;
@@ -62,6 +63,13 @@ impl Name {
     {
         &self.text[..self.len as usize]
     }
+}
+
+/// Whether the name is one of these.
+pub fn is_among(name: &Name, names: &[Name]) -> bool
+    ensures { result ≡ Lists.is_among name.now names.now }
+{
+    names.contains(name)
 }
 
 fn is_name(bytes: &[u8]) -> bool

@@ -7,8 +7,10 @@ mod bounds;
 mod identifiers;
 mod listing;
 mod memory;
+mod numbers;
 
 pub use bounds::Bounds;
-pub use identifiers::{Name, Names};
+pub use identifiers::{Name, Names, is_among};
 pub use listing::{Bytes, Listed};
 pub use memory::NoMemory;
+pub use numbers::{push_number, push_signed};

@@ -1,9 +1,7 @@
 -- What the open blocks of the code stand for. Contracts of private functions alone speak of this.
 use Rattle.std.specs.Prelude.{ℕ, List, map, reverse, Bool, false, Some}
-use Rattle.ped_tree.specs.Tree.{Head}
-use Rattle.ped_tree.specs.Views.{cond_tree, head, stmt_tree, decl_tree}
+use Rattle.ped_tree.specs.Views.{cond_tree, head_of, stmt_tree, decl_tree}
 use Rattle.ped_tree.specs.Grammar.BlockForms.{has_label}
-use Rattle.ped_tree.specs.declared.statements.Do.{Do}
 use Rattle.ped_blocks.specs.Machine as plain
 use Rattle.ped_blocks.specs.declared.frames.Arm.{Arm}
 use Rattle.ped_blocks.specs.declared.frames.Frame.{Frame}
@@ -18,10 +16,6 @@ arm_of a = record { condition = cond_tree a.condition; then_part = map stmt_tree
 -- conditions, the last first
 unfoldable pub arms_of : List Arm → List plain.Arm
 arms_of arms = reverse (map arm_of arms)
-
--- the head of a DO
-abbrev pub head_of : Do → Head
-head_of d = head d.variable d.first d.last d.step d.parallel d.private d.rejected
 
 -- an open block with the statements before it
 abbrev pub frame_of : Frame → plain.Frame

@@ -7,7 +7,8 @@ ghost use Rattle.ped_tree.specs.Views.{cond_tree, stmt_tree, stmt_trees};
 ghost use Rattle.ped_tree.specs.Grammar.BlockForms.{whole_head};
 ghost use Rattle.ped_tree.specs.Grammar.ItemViews.{do_head};
 ghost use Rattle.ped_blocks.specs.Machine;
-ghost use Rattle.ped_blocks.specs.BlockViews.{arms_of, ends_at, frame_of, head_of};
+ghost use Rattle.ped_blocks.specs.BlockViews.{arms_of, ends_at, frame_of};
+ghost use Rattle.ped_tree.specs.Views.{head_of};
 
 use ped_base::{Names, NoMemory};
 use ped_tree::grammar::DoStatement;

@@ -3,7 +3,6 @@
 
 mod edges;
 mod lists;
-mod numbers;
 mod pane;
 mod products;
 mod rows;

@@ -6,8 +6,7 @@ ghost use Rattle.ped_edges.specs.Rows as shown;
 ghost use Rattle.ped_edges.specs.CodeEdges.{edge_of, HasAtMostSixLoops};
 
 use crate::edges::Edge;
-use crate::numbers::push_number;
-use ped_base::{Bytes, NoMemory};
+use ped_base::{Bytes, NoMemory, push_number};
 use std::alloc::Global;
 
 /// The dependence pane of these dependences: `dependences` and their number, and then a row for each.

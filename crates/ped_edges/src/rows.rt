@@ -6,9 +6,8 @@ ghost use Rattle.ped_edges.specs.CodeEdges.{edge_of, kind_of, mark_of, name_text
 
 use crate::edges::{Edge, Kind, Mark};
 use crate::lists::{Shown, push_list};
-use crate::numbers::{push_number, push_signed};
 use crate::vectors::push_vectors;
-use ped_base::{Bytes, NoMemory};
+use ped_base::{Bytes, NoMemory, push_number, push_signed};
 use ped_refs::RefName;
 use std::alloc::Global;
 

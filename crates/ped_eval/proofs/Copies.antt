@@ -5,6 +5,7 @@ use Rattle.std.proofs.lemmas.Bool.{and_parts, ltb-true, lt-ltb}
 use Rattle.std.specs.List.{list_all, list_any}
 use Rattle.std.specs.Cmp.Lexicographic.{pointwise}
 use Rattle.ped_base.specs.Lists.{is_same_text, is_among}
+use Rattle.ped_base.proofs.NameEquality.{same_is, same_itself}
 use Rattle.ped_store.specs.Cells.{Cell, Scalar, Element, Private, In, Out, Iteration, same_iteration, same_cell}
 use Rattle.ped_store.specs.Stores.{Undefined, Store}
 use Rattle.ped_store.specs.Memories.{Memory, with_copy, without_copy}
@@ -47,20 +48,6 @@ opened_bounds scope (x ∷ xs) m = opened_bounds scope xs (with_copy (cell_of sc
 pub closed_bounds : (scope : Scope) (xs : List (List ℕ)) (m : Memory) → (without_copies scope xs m).bounds ≡ m.bounds
 closed_bounds scope [] m = refl
 closed_bounds scope (x ∷ xs) m = closed_bounds scope xs (without_copy (cell_of scope x) m)
-
--- the same texts are equal, and a text is the same as itself
-pub same_itself : (x : List ℕ) → is_same_text x x ≡ true
-same_itself [] = refl
-same_itself (x ∷ xs) = ap (λ b. b && pointwise eqb xs xs) (itself x) ∙ same_itself xs
-
-pub same_is : (x y : List ℕ) → is_same_text x y ≡ true → x ≡ y
-same_is [] [] h = refl
-same_is [] (y ∷ ys) h = absurd cc
-same_is (x ∷ xs) [] h = absurd cc
-same_is (x ∷ xs) (y ∷ ys) h =
-    let p = and_parts (eqb x y) (is_same_text xs ys) h in
-    let e : x ≡ y = eqb-true x y p.0 in
-    λ i. e i ∷ same_is xs ys p.1 i
 
 same_path : (p : List Iteration) → pointwise same_iteration p p ≡ true
 same_path [] = refl

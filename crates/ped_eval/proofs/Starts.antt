@@ -17,7 +17,7 @@ use Rattle.ped_eval.specs.Outcomes.{bounds_of}
 use Rattle.ped_eval.specs.Live.{shape_by, shapes_by}
 use Rattle.ped_symbols.specs.RightUses.RightUses.{NameKinds, is_scalar_kind, is_array_kind, is_rank}
 use Rattle.ped_eval.specs.Readiness.{IsReady}
-use Rattle.ped_tree.proofs.NameLaws.NameEquality.{same_is}
+use Rattle.ped_base.proofs.NameEquality.{same_is}
 
 -- the shapes of names by their kinds
 abbrev pub shapes_with : NameKinds → List (List ℕ × Kind) → List Shape

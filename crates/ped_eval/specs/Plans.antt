@@ -1,8 +1,6 @@
 -- What the entry of a DO answers (ANSI X3.9-1978, section 11.10.3; this project).
 use Rattle.std.specs.Prelude.{◌≡◌, ◌≤◌, ◌^◌, ℕ, ℤ, unsigned_abs, List, ◌∷◌, ◌++◌, Result, Ok, Err, if◌then◌else◌}
 use Rattle.ped_tree.specs.Tree.{Head, StmtTrees}
-use Rattle.ped_tree.specs.Views.{head}
-use Rattle.ped_tree.specs.declared.statements.Do.{Do}
 use Rattle.ped_store.specs.Stores.{Store}
 use Rattle.ped_symbols.specs.Kinds.{Table}
 use Rattle.ped_eval.specs.Scopes.{Names}
@@ -14,10 +12,6 @@ use Rattle.ped_eval.specs.declared.plans.Plan.{Plan}
 use Rattle.ped_eval.specs.declared.plans.Limits as code
 use Rattle.ped_eval.specs.declared.states.RunError.{RunError}
 use Rattle.ped_eval.specs.declared.states.RunError.TheVariants as error
-
--- the head of a DO
-abbrev pub head_of : Do → Head
-head_of d = head d.variable d.first d.last d.step d.parallel d.private d.rejected
 
 -- a DO that has been entered, by what the code keeps of it, and the number behind the references in its bounds
 abbrev pub entered_by : Head → Plan → ℕ → Entered

@@ -3,7 +3,8 @@
 ghost use Rattle.std.specs.Prelude.{◌≡◌};
 ghost use Rattle.ped_tree.specs.Views.{stmt_trees};
 ghost use Rattle.ped_eval.specs.Loops as Loops;
-ghost use Rattle.ped_eval.specs.Plans.{entered_by, head_of};
+ghost use Rattle.ped_eval.specs.Plans.{entered_by};
+ghost use Rattle.ped_tree.specs.Views.{head_of};
 ghost use Rattle.ped_eval.specs.Noting.{noted, AreNoted, HasAdded};
 
 use crate::notes::Notes;

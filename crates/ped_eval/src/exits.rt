@@ -9,7 +9,8 @@ ghost use Rattle.ped_store.specs.Keeping.{memory_of};
 ghost use Rattle.ped_eval.specs.Scopes.{cell_of};
 ghost use Rattle.ped_eval.specs.ScopeViews.{outside};
 ghost use Rattle.ped_eval.specs.Loops.{left_in_variable};
-ghost use Rattle.ped_eval.specs.Plans.{entered_by, head_of, IsPlan};
+ghost use Rattle.ped_eval.specs.Plans.{entered_by, IsPlan};
+ghost use Rattle.ped_tree.specs.Views.{head_of};
 ghost use Rattle.ped_eval.specs.Turns.{undefined_in, exited};
 
 use crate::plans::Plan;

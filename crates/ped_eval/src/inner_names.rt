@@ -3,7 +3,8 @@
 ghost use Rattle.std.specs.Prelude.{◌≡◌, [], ◌++◌, IfOk, OnOk};
 ghost use Rattle.ped_tree.specs.Views.{stmt_tree, stmt_trees};
 ghost use Rattle.ped_eval.specs.Loops as Loops;
-ghost use Rattle.ped_eval.specs.Plans.{copied_by, head_of};
+ghost use Rattle.ped_eval.specs.Plans.{copied_by};
+ghost use Rattle.ped_tree.specs.Views.{head_of};
 
 use crate::sorting::sorted_once;
 use ped_base::{Name, Names, NoMemory};

@@ -22,8 +22,7 @@ use crate::states::{Flow, RunError, State};
 use crate::surroundings::Surroundings;
 use crate::telling::tell;
 use crate::watches::Watch;
-use itoa::Buffer;
-use ped_base::{Bytes, NoMemory};
+use ped_base::{Bytes, NoMemory, push_signed};
 use ped_store::{Cell, RunFault};
 use ped_symbols::Symbols;
 use ped_tree::{Expr, PrintItem};
@@ -175,15 +174,7 @@ fn add_value(
         consts: symbols.consts(),
     };
     match value_of(e, &around, notes) {
-        Ok(number) => return Ok(add_number(line, number)?),
+        Ok(number) => return Ok(push_signed(line, number)?),
         Err(fault) => return Err(PrintError::Fault(fault)),
     }
-}
-
-/// Adds a number in decimal.
-fn add_number(line: &mut Bytes, number: i128) -> Result<(), NoMemory>
-    ensures { OnOk result (line.new ≡ line.old ++ signed_decimal number) }
-{
-    let mut buffer = Buffer::new();
-    line.extend_from_slice(buffer.format(number).as_bytes())
 }

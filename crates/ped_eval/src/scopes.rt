@@ -9,10 +9,9 @@ ghost use Rattle.ped_eval.specs.ScopeViews.{frame_view, frame_iteration, scope_v
 ghost use Rattle.ped_eval.specs.AccessViews.{turn_view};
 
 use crate::accesses::Turn;
-use crate::turns::copy_names;
-use ped_base::{Listed, Name, Names, NoMemory};
+use ped_base::{Listed, Name, Names, NoMemory, is_among};
 use ped_store::{Cell, Iteration, Iterations, PrivateCopy};
-use ped_tree::names::is_among;
+use ped_tree::copy_names;
 use std::alloc::Global;
 use std::marker::Model;
 
@@ -156,7 +155,7 @@ fn copy_frames(alloc: Global, frames: &[Frame]) -> Result<Vec<Frame>, NoMemory>
 fn copy_frame(alloc: Global, frame: &Frame) -> Result<Frame, NoMemory>
     ensures { IfOk result (λ copy. frame_view copy ≡ frame_view frame.now) }
 {
-    let private = copy_names(alloc, frame.private.as_slice())?;
+    let private = copy_names(&frame.private, alloc)?;
     Ok(Frame {
         statement: frame.statement,
         parallel: frame.parallel,

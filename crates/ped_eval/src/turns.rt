@@ -8,14 +8,15 @@ ghost use Rattle.ped_eval.specs.Scopes.{cell_of};
 ghost use Rattle.ped_eval.specs.ScopeViews.{frame_view, outside};
 ghost use Rattle.ped_eval.specs.Loops as Loops;
 ghost use Rattle.ped_eval.specs.Agreement.{is_copy};
-ghost use Rattle.ped_eval.specs.Plans.{entered_by, head_of, IsPlan};
+ghost use Rattle.ped_eval.specs.Plans.{entered_by, IsPlan};
+ghost use Rattle.ped_tree.specs.Views.{head_of};
 ghost use Rattle.ped_eval.specs.Turns.{IsInside, with_copies, without_copies};
 
 use crate::plans::Plan;
 use crate::scopes::Frame;
 use crate::states::State;
-use ped_base::{Name, Names, NoMemory};
-use ped_tree::Do;
+use ped_base::{Name, NoMemory};
+use ped_tree::{Do, copy_names};
 use std::alloc::Global;
 
 /// Goes into a DO, before its first iteration.
@@ -34,7 +35,7 @@ fn frame_of(alloc: Global, d: &Do, plan: &Plan) -> Result<Frame, NoMemory>
     requires { IsPlan (head_of d.now) (stmt_trees d.now.body.items) plan.now }
     ensures { IfOk result (λ f. frame_view f ≡ Loops.frame (entered_by (head_of d.now) plan.now 0) 0) }
 {
-    let private = copy_names(alloc, plan.copied.as_slice())?;
+    let private = copy_names(&plan.copied, alloc)?;
     Ok(Frame {
         statement: plan.number,
         parallel: d.parallel,
@@ -43,13 +44,6 @@ fn frame_of(alloc: Global, d: &Do, plan: &Plan) -> Result<Frame, NoMemory>
         variable: d.variable,
         private,
     })
-}
-
-/// A copy of names, which takes no memory where there are none.
-pub(crate) fn copy_names(alloc: Global, names: &[Name]) -> Result<Names, NoMemory>
-    ensures { IfOk result (λ copy. copy ≡ names.now) }
-{
-    Ok(Names::from_vec(Vec::from_slice(alloc, names)?))
 }
 
 /// Goes on from an iteration of a DO to that before which there are so many, and makes its copies.

@@ -3,6 +3,7 @@ use Rattle.std.proofs.Common.{◌≡◌, ℕ, suc, ◌+◌, ◌≤◌, Bool, tru
 use Rattle.std.specs.Prelude.{not, ◌-◌, ◌||◌, ◌==◌, nat_le, Option, Some, None, slice_get}
 use Rattle.std.proofs.lemmas.Bool.{and_parts, and_from, eq-eqb, false_from_ne_true}
 use Rattle.ped_base.specs.Lists.{is_same_text}
+use Rattle.ped_base.proofs.NameEquality.{same_itself}
 use Rattle.ped_tree.specs.declared.expressions.Intrinsic.TheVariants.{Mod, Abs, Max, Min}
 use Rattle.ped_tree.specs.Tree.{ExprTree}
 use Rattle.ped_tree.specs.Views.{pack_exprs}
@@ -73,10 +74,6 @@ same_length [] [] h = refl
 same_length [] (y ∷ ys) h = absurd cc
 same_length (x ∷ xs) [] h = absurd cc
 same_length (x ∷ xs) (y ∷ ys) h = ap suc (same_length xs ys (and_parts (x == y) (is_same_text xs ys) h).1)
-
-same_itself : (x : List ℕ) → is_same_text x x ≡ true
-same_itself [] = refl
-same_itself (x ∷ xs) = and_from (x == x) (is_same_text xs xs) (eq-eqb x x refl) (same_itself xs)
 
 shorter : (xs : List ℕ) (c : ℕ) → (c == 32 || c == 13) ≡ true → is_same_text (trimmed (xs ++ c ∷ [])) (xs ++ c ∷ []) ≡ true → ⊥
 shorter xs c h k =

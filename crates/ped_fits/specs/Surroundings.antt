@@ -3,9 +3,8 @@ use Rattle.std.specs.Prelude.{◌≡◌, ℕ, ◌+◌, ◌≤◌, List, [], map,
 use Rattle.std.specs.List.{list_all, flat_map}
 use Rattle.std.specs.Borrow.{Bor}
 use Rattle.ped_tree.specs.Accesses.{constant_names}
-use Rattle.ped_tree.specs.Tree.{Head, StmtTree, Assign, If, Do, Print, Read, Stop, Comment}
-use Rattle.ped_tree.specs.Views.{head, decl_tree}
-use Rattle.ped_tree.specs.declared.statements.Do as code
+use Rattle.ped_tree.specs.Tree.{StmtTree, Assign, If, Do, Print, Read, Stop, Comment}
+use Rattle.ped_tree.specs.Views.{decl_tree}
 use Rattle.ped_tree.specs.declared.declarations.Decl.{Decl}
 use Rattle.ped_tree.specs.Grammar.Fits as plain
 use Rattle.ped_fits.specs.declared.surroundings.Surroundings.{Surroundings}
@@ -37,10 +36,6 @@ pub record IsBehind (before statements n : ℕ) : Type 0 where
 -- how many numbered statements come before what is behind what fits, none where it doesn't fit
 abbrev pub Follows : Bool → ℕ → ℕ → Option ℕ → Type 0
 Follows fits before statements result = MatchOption result (fits ≡ false) (λ n. (fits ≡ true) × IsBehind before statements n)
-
--- the head of a DO
-abbrev pub head_of : code.Do → Head
-head_of d = head d.variable d.first d.last d.step d.parallel d.private d.rejected
 
 -- the expressions and items of an assignment, PRINT, READ or STOP
 abbrev pub simple_parts_fit : StmtTree → Bool

@@ -8,13 +8,14 @@ ghost use Rattle.ped_tree.specs.Views.{stmt_tree, stmt_trees};
 ghost use Rattle.ped_tree.specs.Grammar.StatementForms.{are_names};
 ghost use Rattle.ped_tree.specs.Grammar.ProgramRefusals as Refusals;
 ghost use Rattle.ped_tree.specs.Grammar.Fits as Spec;
-ghost use Rattle.ped_fits.specs.Surroundings.{place, head_of};
+ghost use Rattle.ped_fits.specs.Surroundings.{place};
+ghost use Rattle.ped_tree.specs.Views.{head_of};
 
 use crate::expressions::expr_fits;
 use crate::names::{all_names_fit, are_names, meets, name_fits};
 use crate::surroundings::{Surroundings, is_private, is_within, with_variable};
-use ped_base::Name;
-use ped_limits::{MOST_BLOCKS_NESTED, MOST_CHARACTERS, MOST_LOOPS_NESTED, is_among};
+use ped_base::{Name, is_among};
+use ped_limits::{MOST_BLOCKS_NESTED, MOST_CHARACTERS, MOST_LOOPS_NESTED};
 use ped_print::private_length;
 use ped_tree::{Do, Stmt};
 

@@ -6,8 +6,8 @@ ghost use Rattle.ped_tree.specs.Grammar.Words as Words;
 ghost use Rattle.ped_tree.specs.Grammar.StatementForms as Spec;
 ghost use Rattle.ped_tree.specs.Grammar.ProgramRefusals as Refusals;
 
-use ped_base::Name;
-use ped_limits::{MOST_NAME, is_among};
+use ped_base::{Name, is_among};
+use ped_limits::MOST_NAME;
 
 /// Whether a name has at most so many characters as the profile allows; a `Name` holds no more.
 pub fn name_fits(name: &Name) -> bool

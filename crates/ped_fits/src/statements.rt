@@ -8,14 +8,15 @@ ghost use Rattle.ped_tree.specs.Views.{expr_tree, cond_tree, stmt_tree, stmt_tre
 ghost use Rattle.ped_tree.specs.Grammar.Contexts.{is_stop};
 ghost use Rattle.ped_tree.specs.Grammar.ProgramRefusals as Refusals;
 ghost use Rattle.ped_tree.specs.Grammar.Fits as Spec;
-ghost use Rattle.ped_fits.specs.Surroundings.{place, IsAround, Follows, head_of, is_simple, simple_parts_fit};
+ghost use Rattle.ped_fits.specs.Surroundings.{place, IsAround, Follows, is_simple, simple_parts_fit};
+ghost use Rattle.ped_tree.specs.Views.{head_of};
 
 use crate::comments::comment_fits;
 use crate::expressions::{cond_fits, expr_fits, items_fit, target_fits, targets_fit};
 use crate::loops::loop_fits;
 use crate::surroundings::{Surroundings, is_within, with_private, with_variable};
-use ped_base::Name;
-use ped_limits::{MOST_BLOCKS_NESTED, is_among};
+use ped_base::{Name, is_among};
+use ped_limits::MOST_BLOCKS_NESTED;
 use ped_tree::{Cond, Do, Expr, Stmt};
 
 /// How many numbered statements come before what is behind statements that stand one behind the other, of which

@@ -4,7 +4,7 @@ use Rattle.std.specs.List.{flat_map}
 use Rattle.ped_base.specs.Lists.{is_same_text, is_among}
 use Rattle.ped_tree.specs.Tree.{Head, StmtTrees, Do, ProgramTree}
 use Rattle.ped_tree.specs.Accesses.{constant_names}
-use Rattle.ped_tree.proofs.NameLaws.NameEquality.{same_is, same_itself}
+use Rattle.ped_base.proofs.NameEquality.{same_is, same_itself}
 use Rattle.ped_affine.specs.Assigned.{loop_variables}
 use Rattle.ped_flow.specs.Questions.{IsLoop, IsFirst, IsReadBehind, IsShownBehind, IsReadLoose, IsIndexIn, IsContained, IsBrokenBy, IsLiveAfter, saved_in, all_reads_outside}
 use Rattle.ped_flow.specs.Answers.{IsEscape}

@@ -9,7 +9,7 @@ use Rattle.ped_tree.specs.declared.conditions.Cond.{Cond}
 use Rattle.ped_tree.specs.declared.statements.PrintItem.{PrintItem}
 use Rattle.ped_tree.specs.declared.statements.Do.{Do as DoLoop}
 use Rattle.ped_tree.specs.declared.statements.Stmt as variant
-use Rattle.ped_affine.specs.ped_refs.specs.Loops.{head_of}
+use Rattle.ped_tree.specs.Views.{head_of}
 use Rattle.ped_tree.specs.Numbering.{statement_count, statements_count}
 use Rattle.ped_tree.specs.declared.statements.Stmt.{Stmt}
 use Rattle.ped_affine.specs.Assigned.{loop_variables}

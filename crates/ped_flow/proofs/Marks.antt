@@ -7,7 +7,7 @@ use Rattle.std.specs.List.{list_any}
 use Rattle.std.specs.Global.{Box}
 use Rattle.ped_base.specs.Lists.{is_same_text, is_among}
 use Rattle.ped_tree.proofs.NameLaws.Collected.{among_append}
-use Rattle.ped_tree.proofs.NameLaws.NameEquality.{same_itself, same_is}
+use Rattle.ped_base.proofs.NameEquality.{same_itself, same_is}
 use Rattle.ped_tree.specs.Tree as plain
 use Rattle.ped_tree.specs.Views.{expr_tree, cond_tree}
 use Rattle.ped_tree.specs.declared.expressions.Expr.{Expr}

@@ -4,7 +4,7 @@ use Rattle.ped_base.specs.Lists.{is_same_text, is_among}
 use Rattle.ped_base.specs.contracts.identifiers.NamePartialEq.TheImpl as code
 use Rattle.ped_tree.specs.Names.Collecting.{with_name}
 use Rattle.ped_tree.proofs.NameLaws.Collected.{among_collected}
-use Rattle.ped_tree.proofs.NameLaws.NameEquality.{name_same, same_is}
+use Rattle.ped_base.proofs.NameEquality.{name_same, same_is}
 use Rattle.ped_flow.specs.RowPlaces.{place_of}
 
 -- the code's search for a name

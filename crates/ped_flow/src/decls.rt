@@ -8,8 +8,7 @@ ghost use Rattle.ped_tree.specs.Views.{decl_tree, value_tree};
 ghost use Rattle.ped_flow.specs.Questions.{saved_in};
 
 use crate::scalars::is_same;
-use ped_base::Name;
-use ped_tree::names::is_among;
+use ped_base::{Name, is_among};
 use ped_tree::{Decl, Expr};
 
 /// Whether the declarations make the name a constant.

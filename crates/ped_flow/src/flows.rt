@@ -9,7 +9,7 @@ ghost use Rattle.ped_tree.specs.Tree.{Head, StmtTrees};
 ghost use Rattle.ped_tree.specs.Views.{stmt_tree, stmt_trees, program_tree};
 ghost use Rattle.ped_tree.specs.Numbering.{statements_count};
 ghost use Rattle.ped_tree.specs.Accesses.{constant_names};
-ghost use Rattle.ped_affine.specs.ped_refs.specs.Loops.{head_of};
+ghost use Rattle.ped_tree.specs.Views.{head_of};
 ghost use Rattle.ped_flow.specs.Paths.{all_paths, iteration};
 ghost use Rattle.ped_flow.specs.Questions.{saved_in, IsLoop, IsFirst, IsExposed, IsAssignedOn, IsAssignedThrough, IsAssignedBefore};
 ghost use Rattle.ped_flow.specs.Answers.{IsReader, IsEscape};

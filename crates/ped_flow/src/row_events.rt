@@ -3,7 +3,7 @@
 ghost use Rattle.std.specs.Prelude.{◌≡◌, ℕ, List, [], Option, map, length, IfOk, OnOk};
 ghost use Rattle.ped_tree.specs.Tree;
 ghost use Rattle.ped_tree.specs.Views.{expr_tree, cond_tree, item_tree, stmt_trees};
-ghost use Rattle.ped_affine.specs.ped_refs.specs.Loops.{head_of};
+ghost use Rattle.ped_tree.specs.Views.{head_of};
 ghost use Rattle.ped_flow.specs.Events as Event;
 ghost use Rattle.ped_flow.specs.Summaries as Spec;
 ghost use Rattle.ped_flow.specs.Kept.{first_reader};

@@ -4,7 +4,7 @@ ghost use Rattle.std.specs.Prelude.{◌≡◌, ℕ, List, [], ◌∷◌, ◌++�
 ghost use Rattle.ped_base.specs.Lists.{is_same_text};
 ghost use Rattle.ped_tree.specs.Tree;
 ghost use Rattle.ped_tree.specs.Views.{stmt_trees};
-ghost use Rattle.ped_affine.specs.ped_refs.specs.Loops.{head_of};
+ghost use Rattle.ped_tree.specs.Views.{head_of};
 ghost use Rattle.ped_affine.specs.Assigned.{all_loop_variables};
 ghost use Rattle.ped_flow.specs.Events as Event;
 ghost use Rattle.ped_flow.specs.Summaries as Spec;

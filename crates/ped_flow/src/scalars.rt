@@ -4,7 +4,7 @@ ghost use Rattle.std.specs.Prelude.{◌≡◌, [], ◌∷◌, ◌++◌, map, if�
 ghost use Rattle.std.specs.List.{flat_map};
 ghost use Rattle.ped_base.specs.Lists as Lists;
 ghost use Rattle.ped_tree.specs.Views.{expr_tree, pack_exprs, cond_tree, item_tree, stmt_tree, stmt_trees};
-ghost use Rattle.ped_affine.specs.ped_refs.specs.Loops.{head_of};
+ghost use Rattle.ped_tree.specs.Views.{head_of};
 ghost use Rattle.ped_affine.specs.Assigned.{loop_variables, all_loop_variables};
 ghost use Rattle.ped_flow.specs.Events as Event;
 ghost use Rattle.ped_flow.specs.Summaries.{sum_events};
@@ -13,8 +13,7 @@ ghost use Rattle.ped_flow.specs.Kept.{name_of, constants_of};
 use crate::asked::Scalar;
 use crate::decls::is_constant;
 use crate::summaries::Summary;
-use ped_base::Name;
-use ped_tree::names::is_among;
+use ped_base::{Name, is_among};
 use ped_tree::{Cond, Do, Expr, PrintItem, Stmt};
 
 /// Whether two names are the same.

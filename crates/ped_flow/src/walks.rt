@@ -3,7 +3,7 @@
 ghost use Rattle.std.specs.Prelude.{◌≡◌, ◌+◌, ◌<◌, ◌^◌};
 ghost use Rattle.ped_tree.specs.Views.{stmt_tree, stmt_trees};
 ghost use Rattle.ped_tree.specs.Numbering.{statement_count, statements_count};
-ghost use Rattle.ped_affine.specs.ped_refs.specs.Loops.{head_of};
+ghost use Rattle.ped_tree.specs.Views.{head_of};
 ghost use Rattle.ped_flow.specs.Summaries as Spec;
 ghost use Rattle.ped_flow.specs.Kept.{name_of, constants_of};
 ghost use Rattle.ped_flow.specs.Entries.{IsKnown, AreKnown};

@@ -6,8 +6,8 @@ ghost use Rattle.ped_tree.specs.Accesses.{constants_in, constant_names};
 ghost use Rattle.ped_tree.specs.Views.{decl_tree, value_tree};
 ghost use Rattle.ped_limits.specs.Constants.{names_of};
 
-use crate::names::NameSet;
 use ped_base::Name;
+use ped_tree::names::NameSet;
 use ped_tree::{Decl, Expr};
 
 /// Where named constants are looked up.

@@ -12,8 +12,8 @@ ghost use Rattle.ped_print.specs.Lengths.{limited};
 ghost use Rattle.ped_limits.specs.Constants.{names_of};
 
 use crate::constants::{Constants, is_constant};
-use crate::names::{NameSet, is_among};
-use ped_base::Name;
+use ped_base::{Name, is_among};
+use ped_tree::names::NameSet;
 use ped_tree::{Cond, Decl, Expr, PrintItem, Stmt};
 
 /// How many references a statement by itself has, where these are the named constants and the variables of

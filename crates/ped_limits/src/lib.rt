@@ -6,7 +6,6 @@ mod constants;
 mod counting;
 mod limits;
 mod literals;
-mod names;
 mod numbering;
 
 pub use counting::{cond_references, do_references, references, references_declared};
@@ -17,6 +16,5 @@ pub use limits::{
 pub use literals::{
     decl_has_large_literal, has_eight_dimensions, head_has_large_literal, stmt_has_large_literal,
 };
-pub use names::{NameSet, is_among};
 pub use numbering::statement_count;
 pub use ped_expressions;

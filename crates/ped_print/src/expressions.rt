@@ -8,8 +8,7 @@ ghost use Rattle.ped_tree.specs.Printing.{alone, expr_text, exprs_text, further_
 ghost use Rattle.ped_tree.specs.Views.{expr_tree, pack_exprs};
 ghost use Rattle.ped_print.specs.Places.{place_of, encloses};
 
-use itoa::Buffer;
-use ped_base::{Bytes, NoMemory};
+use ped_base::{Bytes, NoMemory, push_number};
 use ped_tree::{Expr, Intrinsic};
 
 /// Where an expression stands (ANSI X3.9-1978, section 6.1.2).
@@ -23,14 +22,6 @@ pub enum Place {
     AsFactor,
     /// As the base of a power.
     AsBase,
-}
-
-/// Adds the digits of a number.
-pub fn push_number(out: &mut Bytes, number: u64) -> Result<(), NoMemory>
-    ensures { OnOk result (out.new ≡ out.old ++ decimal number) }
-{
-    let mut buffer = Buffer::new();
-    out.extend_from_slice(buffer.format(number).as_bytes())
 }
 
 /// Adds an expression that stands alone.

@@ -6,10 +6,9 @@ ghost use Rattle.std.specs.Fmt.{decimal};
 ghost use Rattle.ped_tree.specs.SourcePane as Spec;
 ghost use Rattle.ped_print.specs.PrintedLines.{line_of};
 
-use crate::expressions::push_number;
 use crate::lines::{Line, push_blanks};
 use itoa::Buffer;
-use ped_base::{Bytes, NoMemory};
+use ped_base::{Bytes, NoMemory, push_number};
 
 /// Adds the source pane: `source` and the number of lines, and then the lines.
 pub fn push_pane(out: &mut Bytes, lines: &[Line]) -> Result<(), NoMemory>

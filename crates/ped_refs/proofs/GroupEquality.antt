@@ -2,7 +2,7 @@
 use Rattle.std.proofs.Common.{◌≡◌, Bool, true, false, cond, ◌&&◌, eqb, Option, Some, refl, ap, subst, ◌∙◌}
 use Rattle.std.specs.Prelude.{unwrap_or, if◌then◌else◌}
 use Rattle.indexmap.specs.IndexMap.{get, Updates}
-use Rattle.ped_tree.proofs.NameLaws.NameEquality.{name_same}
+use Rattle.ped_base.proofs.NameEquality.{name_same}
 use Rattle.ped_refs.specs.Groups.{is_same_name, is_same_group}
 use Rattle.ped_refs.specs.Tallies.{Tallies, tally_at}
 use Rattle.ped_refs.specs.declared.references.RefName.{RefName}

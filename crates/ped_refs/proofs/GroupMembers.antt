@@ -3,7 +3,7 @@ use Rattle.std.proofs.Common.{◌≡◌, ℕ, [], Bool, true, false, cond, Optio
 use Rattle.std.specs.Prelude.{unwrap_or, if◌then◌else◌}
 use Rattle.std.proofs.lemmas.Bool.{and_parts}
 use Rattle.indexmap.specs.IndexMap.{get, Updates}
-use Rattle.ped_tree.proofs.NameLaws.NameEquality.{same_is}
+use Rattle.ped_base.proofs.NameEquality.{same_is}
 use Rattle.ped_refs.specs.Groups.{is_same_name, is_same_group}
 use Rattle.ped_refs.specs.Grouping.{Places, Table, places_of, places_or_none, places_at, with_place, sinks_in}
 use Rattle.ped_refs.specs.declared.references.RefName.{RefName}

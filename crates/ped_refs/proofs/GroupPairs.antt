@@ -8,7 +8,7 @@ use Rattle.std.proofs.lemmas.List.Concat.{length-flat_map}
 use Rattle.std.proofs.lemmas.List.Sums.{length-filter}
 use Rattle.ped_base.specs.Lists.{has_some, is_same_text}
 use Rattle.ped_tree.specs.Nests.{Loop, common_nest}
-use Rattle.ped_tree.proofs.NameLaws.NameEquality.{same_flip, same_is, same_itself}
+use Rattle.ped_base.proofs.NameEquality.{same_flip, same_is, same_itself}
 use Rattle.ped_refs.specs.References.{Reference, is_pair, pair_count, outermost, outermost_number}
 use Rattle.ped_refs.specs.ListedReferences.{ref_name}
 use Rattle.ped_refs.specs.Groups.{is_same_name, is_same_group, group_of}

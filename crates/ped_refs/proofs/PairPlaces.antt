@@ -7,7 +7,7 @@ use Rattle.std.proofs.lemmas.List.{map-append}
 use Rattle.std.proofs.lemmas.Option.{slice_get-get_or}
 use Rattle.std.proofs.lemmas.Simd.{map-map}
 use Rattle.ped_base.specs.Lists.{has_some, is_same_text}
-use Rattle.ped_tree.proofs.NameLaws.NameEquality.{same_flip}
+use Rattle.ped_base.proofs.NameEquality.{same_flip}
 use Rattle.ped_tree.specs.Nests.{Loop, common_nest}
 use Rattle.ped_refs.specs.References.{Reference, is_pair, pairs}
 use Rattle.ped_refs.specs.ListedReferences.{ref_name}

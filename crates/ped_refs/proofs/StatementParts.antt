@@ -11,7 +11,7 @@ use Rattle.ped_tree.specs.declared.statements.Stmt.{Stmt, the_lemmas}
 use Rattle.ped_tree.specs.declared.statements.Stmt as variant
 use Rattle.ped_tree.specs.declared.statements.Do.{Do}
 use Rattle.ped_refs.specs.References.{Reference, numbered_accesses, statement_references, statements_references}
-use Rattle.ped_refs.specs.Loops.{head_of}
+use Rattle.ped_tree.specs.Views.{head_of}
 
 stmt_tree-If : (c : Cond) (a b : Vec Stmt) → stmt_tree (variant.If c a b) ≡ plain.If (cond_tree c) (stmt_trees a.items) (stmt_trees b.items)
 stmt_tree-If c a b = search (rules, the_lemmas)

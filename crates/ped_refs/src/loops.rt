@@ -21,7 +21,7 @@ impl Loop<'_> {
     ghost use Rattle.ped_refs.specs.Loops.{loop_of};
 
     /// Whether this is the name of its variable.
-    #[tactic(auto, using(ped_tree::proofs::NameLaws::NameEquality::name_same))]
+    #[tactic(auto, using(ped_base::proofs::NameEquality::name_same))]
     pub fn has_variable(&self, name: &Name) -> bool
         ensures { result ≡ Lists.is_same_text name.now (loop_of self.now).head.variable }
     {

@@ -5,7 +5,8 @@ ghost use Rattle.std.specs.Prelude.{◌≡◌, [], ◌∷◌, ◌++◌, ◌+◌,
 ghost use Rattle.ped_tree.specs.Numbering.{statement_count, statements_count};
 ghost use Rattle.ped_tree.specs.Views.{stmt_tree, stmt_trees, program_tree};
 ghost use Rattle.ped_refs.specs.References.{numbered_accesses, statement_references, statements_references, references};
-ghost use Rattle.ped_refs.specs.Loops.{nest_of, head_of};
+ghost use Rattle.ped_refs.specs.Loops.{nest_of};
+ghost use Rattle.ped_tree.specs.Views.{head_of};
 ghost use Rattle.ped_refs.specs.Occurrences.{references_of};
 ghost use Rattle.ped_refs.specs.Listing.{accesses_of, constants_round, nest_round, own_references};
 

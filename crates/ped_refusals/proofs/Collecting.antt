@@ -3,6 +3,7 @@ use Rattle.std.proofs.Common.{◌≡◌, ℕ, List, [], ◌∷◌, ◌++◌, Boo
 use Rattle.std.specs.Prelude.{◌||◌}
 use Rattle.std.specs.List.{fold}
 use Rattle.ped_base.specs.Lists.{is_same_text, is_among}
+use Rattle.ped_base.proofs.NameEquality.{same_is}
 use Rattle.ped_tree.specs.NamesIn.{first_occurrences}
 use Rattle.ped_refusals.specs.Collecting.{with_name, with_names}
 use Rattle.ped_limits.proofs.SameNames.{HaveSame, among_append}
@@ -39,15 +40,6 @@ collected a b h [] = sym (append-nil a)
 collected a b h (x ∷ xs) =
     pick a b x xs (is_among x a) (collected a b h xs) (collected (a ++ x ∷ []) (x ∷ b) (same_more a b x h) xs)
     ∙ ap (λ (r : Bool). a ++ (if r then first_occurrences b xs else x ∷ first_occurrences (x ∷ b) xs)) (h x)
-
-same_is : (x y : List ℕ) → is_same_text x y ≡ true → x ≡ y
-same_is [] [] h = refl
-same_is [] (y ∷ ys) h = absurd cc
-same_is (x ∷ xs) [] h = absurd cc
-same_is (x ∷ xs) (y ∷ ys) h =
-    let p = both_true (eqb x y) (is_same_text xs ys) h in
-    let e : x ≡ y = eqb-true x y p.0 in
-    λ i. e i ∷ same_is xs ys p.1 i
 
 or_false : (a : Bool) → a ≡ (a || false)
 or_false true = refl

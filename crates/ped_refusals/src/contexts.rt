@@ -15,8 +15,8 @@ ghost use Rattle.ped_refusals.specs.OpenContexts.{context_of, IsLike};
 use crate::blocks::{Block, leave_by, take_on};
 use crate::limits::numbered_in;
 use ped_base::{Name, NoMemory};
-use ped_limits::NameSet;
 use ped_tree::grammar::{Entry, Item, Statement, StatementReading};
+use ped_tree::names::NameSet;
 use ped_tree::{Decl, Expr};
 use std::alloc::Global;
 

@@ -16,8 +16,7 @@ ghost use Rattle.ped_refusals.specs.OpenContexts.{context_of};
 
 use crate::blocks::{Block, split_innermost};
 use crate::contexts::Context;
-use ped_base::Name;
-use ped_limits::is_among;
+use ped_base::{Name, is_among};
 use ped_tree::grammar::{Item, Refusal, RefusalKind, StatementReading, standing};
 use ped_tree::{Expr, Stmt};
 

@@ -13,8 +13,8 @@ ghost use Rattle.ped_refusals.specs.Collecting.{with_name, with_names};
 
 use ped_base::{Name, NoMemory};
 use ped_expressions::{after, name_of};
-use ped_limits::NameSet;
 use ped_tree::grammar::{DoStatement, Entry, Item, NoteLine, StatementReading};
+use ped_tree::names::NameSet;
 use ped_tree::{Bound, Cond, Decl, Declarator, Do, Expr, PrintItem, Stmt};
 
 /// Adds the names of a statement, those that its directives reject first.

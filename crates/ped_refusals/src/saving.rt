@@ -10,8 +10,8 @@ ghost use Rattle.ped_refusals.specs.Collecting.{with_names};
 
 use crate::occurrences::{add_constants, add_do_variable, add_entry};
 use ped_base::{Listed, Name, Names, NoMemory};
-use ped_limits::NameSet;
 use ped_tree::grammar::{Entry, Item, StatementReading};
+use ped_tree::names::NameSet;
 use std::alloc::Global;
 
 /// The names that SAVE without a list stands for: all variables up to END that are the variable of no DO,

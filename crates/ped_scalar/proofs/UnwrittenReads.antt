@@ -8,7 +8,7 @@ use Rattle.ped_base.specs.Lists.{is_same_text, is_among}
 use Rattle.ped_tree.specs.Tree.{ExprTree, ExprTrees, Int, Var, Element, Neg, Add, Sub, Mul, Div, Pow, Call, no_exprs, more_exprs, CondTree, Rel, Not, And, Or, ItemTree, Value, Text, Head, StmtTrees, Assign, If, Do, Print, Read}
 use Rattle.ped_tree.specs.Accesses.{Access, listed, read_of, write_of, unless_constant, expr_reads, exprs_reads, cond_reads, left_accesses, item_reads, private_writes, own_accesses}
 use Rattle.ped_tree.specs.Grammar.Fits.{takes_arguments}
-use Rattle.ped_tree.proofs.NameLaws.NameEquality.{same_is}
+use Rattle.ped_base.proofs.NameEquality.{same_is}
 use Rattle.ped_tidy.specs.ped_steps.specs.ped_symbols.specs.Uses.{expr_count}
 use Rattle.ped_tidy.specs.ped_steps.specs.ped_symbols.specs.declared.symbols.Kind.{Kind}
 use Rattle.ped_tidy.specs.ped_steps.specs.ped_symbols.specs.declared.symbols.Kind.TheVariants.{Scalar, Array, Constant}

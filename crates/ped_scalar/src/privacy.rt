@@ -5,11 +5,11 @@ ghost use Rattle.std.specs.List.{list_any};
 ghost use Rattle.ped_base.specs.Lists as Lists;
 ghost use Rattle.ped_tree.specs.Tree;
 ghost use Rattle.ped_tree.specs.Views.{stmt_tree, stmt_trees};
-ghost use Rattle.ped_tidy.specs.ped_steps.specs.ped_refs.specs.Loops.{head_of, nest_of};
+ghost use Rattle.ped_tidy.specs.ped_steps.specs.ped_refs.specs.Loops.{nest_of};
+ghost use Rattle.ped_tree.specs.Views.{head_of};
 ghost use Rattle.ped_scalar.specs.Expanding as Spec;
 
-use ped_base::Name;
-use ped_tidy::ped_steps::is_among;
+use ped_base::{Name, is_among};
 use ped_tidy::ped_steps::ped_refs::Loop;
 use ped_tree::{Do, Stmt};
 

@@ -1,7 +1,7 @@
 //! The values of a DO's variable in its first and its last iteration.
 
 ghost use Rattle.std.specs.Prelude.{◌≡◌, ◌<◌, ◌^◌, ◌≤ℤ◌, ◌<ℤ◌, pos, neg_ℤ, int_rem, unsigned_abs, IsTrue, Some, false};
-ghost use Rattle.ped_tidy.specs.ped_steps.specs.ped_refs.specs.Loops.{head_of};
+ghost use Rattle.ped_tree.specs.Views.{head_of};
 ghost use Rattle.ped_scalar.specs.Expanding as Spec;
 ghost use Rattle.ped_scalar.specs.CodeSpans.{IsCourse};
 ghost use Rattle.ped_tidy.specs.ped_steps.specs.ped_symbols.specs.RightUses.RightLoops.{step_is_right, is_step};

@@ -6,9 +6,7 @@ ghost use Rattle.std.specs.List.{flat_map};
 ghost use Rattle.ped_order.specs.ped_eval.specs.OutcomeViews.{outcome_view, row_view};
 ghost use Rattle.ped_session.specs.Blocks as Spec;
 
-use crate::scripts::push_number;
-use itoa::Buffer;
-use ped_base::{Bytes, NoMemory};
+use ped_base::{Bytes, NoMemory, push_number, push_signed};
 use ped_order::ped_eval::{LiveRow, Outcome};
 use ped_order::ped_store::RunFault;
 use std::alloc::Global;
@@ -71,9 +69,8 @@ fn push_value(out: &mut Bytes, value: Option<i128>) -> Result<(), NoMemory>
     match value {
         None => out.extend_from_slice(b" ?"),
         Some(number) => {
-            let mut buffer = Buffer::new();
             out.push(b' ')?;
-            out.extend_from_slice(buffer.format(number).as_bytes())
+            push_signed(out, number)
         }
     }
 }

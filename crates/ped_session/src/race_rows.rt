@@ -8,9 +8,7 @@ ghost use Rattle.ped_order.specs.ReportViews.{report_view};
 ghost use Rattle.ped_session.specs.RaceRows as Spec;
 
 use crate::blocks::push_fault;
-use crate::scripts::push_number;
-use itoa::Buffer;
-use ped_base::{Bytes, NoMemory};
+use ped_base::{Bytes, NoMemory, push_number, push_signed};
 use ped_order::RaceReport;
 use ped_order::ped_store::Cell;
 use std::alloc::Global;
@@ -84,7 +82,7 @@ fn push_subscripts(out: &mut Bytes, subscripts: &[i128]) -> Result<(), NoMemory>
     match subscripts.split_first() {
         None => return Ok(()),
         Some((first, others)) => {
-            push_subscript(out, first)?;
+            push_signed(out, *first)?;
             return push_others(out, others);
         }
     }
@@ -96,15 +94,7 @@ fn push_others(out: &mut Bytes, subscripts: &[i128]) -> Result<(), NoMemory>
 {
     for subscript in subscripts {
         out.push(b',')?;
-        push_subscript(out, subscript)?;
+        push_signed(out, *subscript)?;
     }
     Ok(())
-}
-
-/// Adds a subscript.
-fn push_subscript(out: &mut Bytes, subscript: &i128) -> Result<(), NoMemory>
-    ensures { OnOk result (out.new ≡ out.old ++ signed_decimal subscript.now) }
-{
-    let mut buffer = Buffer::new();
-    out.extend_from_slice(buffer.format(*subscript).as_bytes())
 }

@@ -7,8 +7,7 @@ ghost use Rattle.ped_scalar.specs.ped_steps.specs.CauseWords.{cause_words};
 ghost use Rattle.ped_session.specs.Replies as Spec;
 
 use crate::replies::{FirstCause, Refusal, Reply};
-use itoa::Buffer;
-use ped_base::{Bytes, NoMemory};
+use ped_base::{Bytes, NoMemory, push_number};
 use ped_tree::grammar::Refusal as TextRefusal;
 use std::alloc::Global;
 
@@ -87,12 +86,4 @@ fn push_cause(alloc: Global, out: &mut Bytes, cause: &FirstCause) -> Result<(), 
 {
     let words = ped_scalar::ped_steps::cause_words(alloc, cause.refused())?;
     out.extend_from_slice(words.as_slice())
-}
-
-/// Adds the digits of a number.
-pub(crate) fn push_number(out: &mut Bytes, number: u64) -> Result<(), NoMemory>
-    ensures { OnOk result (out.new ≡ out.old ++ decimal number) }
-{
-    let mut buffer = Buffer::new();
-    out.extend_from_slice(buffer.format(number).as_bytes())
 }

@@ -14,7 +14,7 @@ use Rattle.ped_steps.specs.declared.replacing.Place.{Place}
 use Rattle.ped_tree.specs.Tree as plain
 use Rattle.ped_tree.specs.declared.statements.Do.{Do as DoLoop}
 use Rattle.ped_tree.specs.declared.statements.Stmt as variant
-use Rattle.ped_laws.specs.ped_graph.specs.ped_refs.specs.Loops.{head_of}
+use Rattle.ped_tree.specs.Views.{head_of}
 
 pub followed-assoc : (a b c : StmtTrees) → followed (followed a b) c ≡ followed a (followed b c)
 followed-assoc no_stmts b c = refl

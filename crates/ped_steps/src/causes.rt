@@ -5,9 +5,8 @@ ghost use Rattle.ped_laws.specs.ped_graph.specs.ped_edges.specs.CodeEdges.{edge_
 ghost use Rattle.ped_steps.specs.CauseWords as shown;
 ghost use Rattle.ped_steps.specs.CodeCauses.{cause_of, IsShort};
 
-use crate::numbers::push_number;
 use crate::rules::Rule;
-use ped_base::{Bytes, NoMemory};
+use ped_base::{Bytes, NoMemory, push_number};
 use ped_laws::ped_graph::ped_edges::Edge;
 use std::alloc::Global;
 

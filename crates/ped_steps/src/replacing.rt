@@ -4,7 +4,7 @@ ghost use Rattle.std.specs.Prelude.{◌≡◌, ◌+◌, ◌<◌, ◌^◌, [], ma
 ghost use Rattle.ped_tree.specs.Views.{stmt_tree, stmt_trees, do_tree, decl_tree, program_tree};
 ghost use Rattle.ped_tree.specs.Numbering.{statement_count, statements_count};
 ghost use Rattle.ped_tree.specs.Tree;
-ghost use Rattle.ped_laws.specs.ped_graph.specs.ped_refs.specs.Loops.{head_of};
+ghost use Rattle.ped_tree.specs.Views.{head_of};
 ghost use Rattle.ped_steps.specs.Replacing as Spec;
 ghost use Rattle.ped_steps.specs.Placing.{placed, all_placed};
 

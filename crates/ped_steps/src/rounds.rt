@@ -5,7 +5,8 @@ ghost use Rattle.ped_tree.specs.Tree;
 ghost use Rattle.ped_tree.specs.Tree.{Head, StmtTrees};
 ghost use Rattle.ped_tree.specs.Views.{stmt_tree, stmt_trees, program_tree};
 ghost use Rattle.ped_tree.specs.Numbering.{statement_count, statements_count};
-ghost use Rattle.ped_laws.specs.ped_graph.specs.ped_refs.specs.Loops.{head_of, nest_of};
+ghost use Rattle.ped_laws.specs.ped_graph.specs.ped_refs.specs.Loops.{nest_of};
+ghost use Rattle.ped_tree.specs.Views.{head_of};
 ghost use Rattle.ped_laws.specs.ped_flow.specs.Questions.{IsLoop};
 ghost use Rattle.ped_laws.specs.ped_flow.specs.PlainBounds as Spec;
 

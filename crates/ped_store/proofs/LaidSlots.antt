@@ -2,23 +2,9 @@
 use Rattle.std.proofs.Common.{◌≡◌, ℕ, ◌+◌, ◌<◌, ◌≤◌, List, [], ◌∷◌, Bool, true, false, ◌&&◌, Some, if◌then◌else◌, refl, sym, ap, ◌∙◌, arith, eqb, eqb-true}
 use Rattle.std.proofs.lemmas.Bool.{and_parts}
 use Rattle.ped_base.specs.Lists.{is_same_text}
+use Rattle.ped_base.proofs.NameEquality.{same_is, same_itself}
 use Rattle.ped_store.specs.declared.slots.Slot.{Slot}
 use Rattle.ped_store.specs.Slots.{slot_count, slot_of, IsLaid}
-
--- the same texts are equal
-pub same_is : (x y : List ℕ) → is_same_text x y ≡ true → x ≡ y
-same_is [] [] h = refl
-same_is [] (y ∷ ys) h = absurd cc
-same_is (x ∷ xs) [] h = absurd cc
-same_is (x ∷ xs) (y ∷ ys) h =
-    let p = and_parts (eqb x y) (is_same_text xs ys) h in
-    let e : x ≡ y = eqb-true x y p.0 in
-    λ i. e i ∷ same_is xs ys p.1 i
-
--- a text is the same as itself
-pub same_itself : (x : List ℕ) → is_same_text x x ≡ true
-same_itself [] = refl
-same_itself (x ∷ xs) = let e : eqb x x ≡ true = grind (arith, eqb-true) in ap (λ b. b && is_same_text xs xs) e ∙ same_itself xs
 
 -- slots end no earlier than they begin
 pub laid_up : (es : List (List ℕ × Slot)) (at end : ℕ) → IsLaid at es end → at ≤ end

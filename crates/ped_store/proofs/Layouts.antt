@@ -9,7 +9,7 @@ use Rattle.ped_base.specs.Lists.{is_same_text}
 use Rattle.ped_store.specs.declared.shapes.Shape.{Shape}
 use Rattle.ped_store.specs.declared.slots.Slot.{Slot}
 use Rattle.ped_store.specs.Slots.{slot_count, slot_of, slot_bounds, first_bounds, IsLaid}
-use Rattle.ped_store.proofs.NameEquality.{same_is, same_flip}
+use Rattle.ped_base.proofs.NameEquality.{same_is, same_flip}
 
 -- a slot behind the others
 pub laid_more : (es : List (List ℕ × Slot)) (at end : ℕ) (x : List ℕ) (slot : Slot) → IsLaid at es end → slot.start ≡ end → IsLaid at (es ++ (x, slot) ∷ []) (end + slot_count slot)

@@ -1,10 +1,8 @@
 mod DataNumbers
 mod DataTexts
 mod ElementOrder
-pub mod LaidSlots
+mod LaidSlots
 mod Layouts
-mod Lookups
-mod NameEquality
 mod Places
 mod Readings
 mod SameCopies

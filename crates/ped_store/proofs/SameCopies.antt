@@ -15,8 +15,7 @@ use Rattle.ped_base.specs.Lists.{is_same_text, has_some}
 use Rattle.ped_store.specs.declared.copies.PrivateCopy.{PrivateCopy}
 use Rattle.ped_store.specs.contracts.copies.PrivateCopyPartialEq.TheImpl as code
 use Rattle.ped_store.specs.Keeping.{Kept, copied, same_copied, copy_of, memory_of, cells_of, stands_in, bounds_in, has_rank, IsCopyPut}
-use Rattle.ped_store.proofs.NameEquality.{name_same}
-use Rattle.ped_store.proofs.LaidSlots.{same_is}
+use Rattle.ped_base.proofs.NameEquality.{name_same, same_is}
 
 pub copies_same : (a b : PrivateCopy) → (code.eq-value).it a b ≡ same_copied a b
 copies_same a b = λ i. name_same a.name b.name i && pointwise same_iteration a.iterations b.iterations

@@ -19,7 +19,8 @@ use Rattle.ped_store.specs.Slots.{place, count, scalar_in, element_in, place_in,
 use Rattle.ped_store.specs.Memories.{Memory, with_content, with_number}
 use Rattle.ped_store.specs.Keeping.{Kept, memory_of, cells_of, bounds_in, with_held}
 use Rattle.ped_store.proofs.Places.{place_in_below, place_same}
-use Rattle.ped_store.proofs.LaidSlots.{same_is, same_itself, laid_within, laid_apart}
+use Rattle.ped_base.proofs.NameEquality.{same_is, same_itself}
+use Rattle.ped_store.proofs.LaidSlots.{laid_within, laid_apart}
 
 same_subscripts : (js ks : List ℤ) → pointwise int_eq js ks ≡ true → js ≡ ks
 same_subscripts [] [] h = refl

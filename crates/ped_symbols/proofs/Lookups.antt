@@ -4,7 +4,7 @@ use Rattle.std.specs.Prelude.{◌||◌}
 use Rattle.std.specs.Map.{lookup}
 use Rattle.ped_base.specs.Lists.{is_same_text, is_among}
 use Rattle.ped_base.specs.contracts.identifiers.NamePartialEq.TheImpl as code
-use Rattle.ped_limits.proofs.NameEquality.{name_same}
+use Rattle.ped_base.proofs.NameEquality.{name_same, same_is}
 use Rattle.ped_limits.proofs.SameNames.{among_append}
 use Rattle.ped_symbols.specs.Entries.{entry_of, with_entry}
 use Rattle.ped_symbols.specs.Passes.{HaveSame}
@@ -12,16 +12,6 @@ use Rattle.ped_symbols.specs.Passes.{HaveSame}
 both_true : (a b : Bool) → a && b ≡ true → (a ≡ true) × (b ≡ true)
 both_true true b h = (refl, h)
 both_true false b h = absurd cc
-
--- texts that are the same are equal
-pub same_is : (x y : List ℕ) → is_same_text x y ≡ true → x ≡ y
-same_is [] [] h = refl
-same_is [] (y ∷ ys) h = absurd cc
-same_is (x ∷ xs) [] h = absurd cc
-same_is (x ∷ xs) (y ∷ ys) h =
-    let p = both_true (eqb x y) (is_same_text xs ys) h in
-    let e : x ≡ y = eqb-true x y p.0 in
-    λ i. e i ∷ same_is xs ys p.1 i
 
 -- the first, or else the second (plain words)
 abbrev or_else : {X : Type 0} → Option X → Option X → Option X

@@ -5,6 +5,7 @@ use Rattle.std.proofs.lemmas.Grind.{flat_map-append}
 use Rattle.std.proofs.lemmas.List.Elements.{filter-append}
 use Rattle.std.proofs.lemmas.List.{map-append}
 use Rattle.ped_base.specs.Lists.{is_same_text, is_among}
+use Rattle.ped_base.proofs.NameEquality.{same_flip}
 use Rattle.ped_limits.proofs.SameNames.{among_append}
 use Rattle.ped_symbols.specs.declared.uses.Role.{Role}
 use Rattle.ped_symbols.specs.declared.uses.Use.{Use}
@@ -45,15 +46,6 @@ pub again_more : (again has total : Bool) (a b : List Use) (u : Use) (rest : Lis
     → ((again || has) || declares_again b rest) ≡ total
 again_more again has total a b u rest h e k =
     or_assoc again has (declares_again b rest) ∙ (λ i. again || (k i || declares_again (e i) rest)) ∙ h
-
-eqb_flip : (m n : ℕ) → eqb m n ≡ eqb n m
-eqb_flip m n = grind (arith, eqb-true)
-
-same_flip : (x y : List ℕ) → is_same_text x y ≡ is_same_text y x
-same_flip [] [] = refl
-same_flip [] (y ∷ ys) = refl
-same_flip (x ∷ xs) [] = refl
-same_flip (x ∷ xs) (y ∷ ys) = λ i. eqb_flip x y i && same_flip xs ys i
 
 -- none is among no names
 pub none_of : (xs : List (List ℕ)) → has_one_of [] xs ≡ false

@@ -13,8 +13,8 @@ use crate::repeating::insert_where;
 use crate::tables::NameTable;
 use crate::uses::{Role, Use};
 use ped_base::{Name, NoMemory};
-use ped_limits::NameSet;
 use ped_tree::Decl;
+use ped_tree::names::NameSet;
 use std::alloc::Global;
 
 /// What declarations say of names.

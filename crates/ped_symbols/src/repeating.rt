@@ -9,8 +9,8 @@ ghost use Rattle.ped_tree.specs.Views.{stmt_tree};
 
 use crate::uses::Use;
 use ped_base::{Name, NoMemory};
-use ped_limits::NameSet;
 use ped_tree::Stmt;
+use ped_tree::names::NameSet;
 use std::alloc::Global;
 
 /// The names that declarations have typed, dimensioned, made constants and saved so far.

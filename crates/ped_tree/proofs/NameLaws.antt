@@ -1,4 +1,3 @@
 -- Lemmas of the room that this folder is named after.
 pub mod Collected
-pub mod NameEquality
 pub mod SameAccesses

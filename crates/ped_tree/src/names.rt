@@ -1,8 +1,6 @@
-//! Sets of names, and names in lists. A set is looked up by the bytes of a name. What a statement refers to
+//! Sets of names. A set is looked up by the bytes of a name. What a statement refers to
 //! depends only on which names are constants, so a set of them serves as well as the list of declarations.
 
-mod lists;
 mod sets;
 
-pub use lists::is_among;
 pub use sets::NameSet;

@@ -5,7 +5,7 @@ use Rattle.std.proofs.lemmas.Bool.{or_parts}
 use Rattle.ped_flow.specs.ped_base.specs.Lists.{is_same_text, is_among}
 use Rattle.ped_flow.specs.ped_tree.specs.Tree.{ExprTree, DeclTree, Program, Implicit, Integer, Dimension, Parameter, Save, Remark, StmtTree, StmtTrees, Assign, If, Do, Print, Read, Stop, Comment, no_stmts, more_stmts, ProgramTree}
 use Rattle.ped_flow.specs.ped_tree.specs.Accesses.{constants_in, constant_names}
-use Rattle.ped_flow.specs.ped_tree.proofs.NameLaws.NameEquality.{same_is}
+use Rattle.ped_flow.specs.ped_base.proofs.NameEquality.{same_is}
 use Rattle.ped_flow.specs.ped_tree.proofs.NameLaws.Collected.{among_append}
 use Rattle.ped_flow.specs.ped_tree.specs.Grammar.Refusal.{Finding, Refusal, refused_if}
 use Rattle.ped_graph.specs.ped_refs.specs.References.{Reference, references}

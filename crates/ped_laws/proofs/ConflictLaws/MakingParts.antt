@@ -4,7 +4,7 @@ use Rattle.std.proofs.lemmas.Bool.{and_parts}
 use Rattle.std.proofs.lemmas.List.{map-append}
 use Rattle.ped_flow.specs.ped_base.specs.Lists.{is_same_text, is_among}
 use Rattle.ped_flow.specs.ped_tree.proofs.NameLaws.Collected.{among_append}
-use Rattle.ped_flow.specs.ped_tree.proofs.NameLaws.NameEquality.{same_itself}
+use Rattle.ped_flow.specs.ped_base.proofs.NameEquality.{same_itself}
 use Rattle.ped_flow.specs.ped_tree.specs.Tree.{CondTree, Head, StmtTree, StmtTrees, If, Do, more_stmts, ProgramTree}
 use Rattle.ped_flow.specs.ped_tree.specs.Nests.{Loop, indices_of}
 use Rattle.ped_flow.specs.ped_tree.specs.Numbering.{numbered, all_numbered, at_place, statement_with, statement_count, statements_count}

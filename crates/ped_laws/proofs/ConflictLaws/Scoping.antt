@@ -2,7 +2,7 @@
 use Rattle.std.proofs.Common.{◌≡◌, ℕ, ℤ, List, [], ◌∷◌, map, filter, Bool, true, false, not, ◌||◌, Some, None, refl, ap, ◌∙◌, inl, inr, if◌then◌else◌}
 use Rattle.std.proofs.lemmas.Bool.{or_parts}
 use Rattle.ped_flow.specs.ped_base.specs.Lists.{is_same_text, is_among}
-use Rattle.ped_flow.specs.ped_tree.proofs.NameLaws.NameEquality.{same_is}
+use Rattle.ped_flow.specs.ped_base.proofs.NameEquality.{same_is}
 use Rattle.ped_eval.specs.ped_store.specs.Cells.{Scalar, Private, same_cell}
 use Rattle.ped_eval.specs.ped_store.specs.Acts.{Touch, Place, Act, iterations_of}
 use Rattle.ped_eval.specs.ped_store.specs.Races.{Access, accesses, accesses_of, is_access, is_write}

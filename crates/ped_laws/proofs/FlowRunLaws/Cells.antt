@@ -1,25 +1,13 @@
 -- The cells that scalars stand for.
 use Rattle.std.proofs.Common.{◌≡◌, ℕ, List, [], ◌∷◌, Bool, true, false, if◌then◌else◌, sym, ap, subst, ◌∙◌}
 use Rattle.ped_flow.specs.ped_base.specs.Lists.{is_same_text, is_among}
+use Rattle.ped_flow.specs.ped_base.proofs.NameEquality.{same_is, same_itself}
 use Rattle.ped_eval.specs.ped_store.specs.Cells.{Cell, Scalar, Element, Private, In, Out, Iteration, same_cell}
 use Rattle.ped_eval.specs.ped_store.specs.Acts.{iterations_of}
 use Rattle.ped_eval.specs.Scopes.{Scope, turns_of, cell_of}
 use Rattle.ped_laws.proofs.ActLaws.SameCells.{cell_is, cell_itself}
 use Rattle.ped_flow.proofs.Truths.{untrue}
 use Rattle.ped_laws.specs.FlowRuns.Covering.{is_cell_of}
-
-pub same_itself : (x : List ℕ) → is_same_text x x ≡ true
-same_itself x = cell_itself (Scalar x)
-
-abbrev name_in : Cell → List ℕ
-name_in (Scalar x) = x
-name_in (Element x js) = x
-name_in (Private x is) = x
-name_in In = []
-name_in Out = []
-
-pub same_is : (x y : List ℕ) → is_same_text x y ≡ true → x ≡ y
-same_is x y h = ap name_in (cell_is (Scalar x) (Scalar y) h)
 
 -- a cell is one of one scalar
 pub named_once : (x y : List ℕ) (c : Cell) → is_cell_of x c ≡ true → is_cell_of y c ≡ true → x ≡ y

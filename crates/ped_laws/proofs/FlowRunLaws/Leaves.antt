@@ -21,7 +21,8 @@ use Rattle.ped_flow.specs.Events.{Event, event, reads_of, unless_constant, scala
 use Rattle.ped_flow.specs.PathSets.{going}
 use Rattle.ped_flow.proofs.Truths.{untrue}
 use Rattle.ped_laws.specs.FlowRuns.Covering.{is_cell_of, Covers, AreCovered}
-use Rattle.ped_laws.proofs.FlowRunLaws.Cells.{same_itself, same_is, cell_named, stands_for}
+use Rattle.ped_flow.specs.ped_base.proofs.NameEquality.{same_itself, same_is}
+use Rattle.ped_laws.proofs.FlowRunLaws.Cells.{cell_named, stands_for}
 use Rattle.ped_laws.proofs.FlowRunLaws.Seeing.{is_seen, scalars_left, element_other, assigned_seen, line_seen, target_seen}
 use Rattle.ped_laws.proofs.FlowRunLaws.Coverings.{covers_nothing, covers_append, covers_at_end, covers_other, covers_write, covers_elsewhere, covers_reads}
 use Rattle.ped_laws.proofs.ActLaws.SameCells.{is_cell}

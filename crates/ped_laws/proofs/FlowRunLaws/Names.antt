@@ -17,7 +17,8 @@ use Rattle.ped_eval.specs.Loops.{with_name_by, with_sorted, sorted_once, index_n
 use Rattle.ped_flow.specs.Events.{copied}
 use Rattle.ped_flow.proofs.Truths.{untrue}
 use Rattle.ped_laws.proofs.ActLaws.SameCells.{is_cell, other_cell}
-use Rattle.ped_laws.proofs.FlowRunLaws.Cells.{same_itself, same_is, cell_named, stands_for}
+use Rattle.ped_flow.specs.ped_base.proofs.NameEquality.{same_itself, same_is}
+use Rattle.ped_laws.proofs.FlowRunLaws.Cells.{cell_named, stands_for}
 
 -- the variables of DO loops, as runs and as paths list them
 mutual

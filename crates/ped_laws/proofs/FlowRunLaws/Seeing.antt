@@ -22,7 +22,8 @@ use Rattle.ped_flow.specs.Events.{unless_constant, scalars_in, all_scalars_in, s
 use Rattle.ped_laws.proofs.ActLaws.SameCells.{cell_is}
 use Rattle.ped_flow.proofs.Truths.{untrue}
 use Rattle.ped_laws.specs.FlowRuns.Covering.{is_cell_of}
-use Rattle.ped_laws.proofs.FlowRunLaws.Cells.{same_itself, stands_for}
+use Rattle.ped_flow.specs.ped_base.proofs.NameEquality.{same_itself}
+use Rattle.ped_laws.proofs.FlowRunLaws.Cells.{stands_for}
 
 -- an evaluation has read the cell
 abbrev pub is_seen : Cell → List Seen → Bool

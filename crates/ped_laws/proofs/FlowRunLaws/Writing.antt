@@ -21,7 +21,8 @@ use Rattle.ped_eval.specs.Runs.{Ending, going, stopped, failed, Run, followed_by
 use Rattle.ped_flow.proofs.Truths.{untrue, or_split}
 use Rattle.ped_laws.proofs.ActLaws.Reorderings.{touches_append}
 use Rattle.ped_laws.specs.FlowRuns.Covering.{is_cell_of}
-use Rattle.ped_laws.proofs.FlowRunLaws.Cells.{same_itself, stands_for}
+use Rattle.ped_flow.specs.ped_base.proofs.NameEquality.{same_itself}
+use Rattle.ped_laws.proofs.FlowRunLaws.Cells.{stands_for}
 use Rattle.ped_laws.proofs.FlowRunLaws.Seeing.{among_left, among_right, element_other}
 use Rattle.ped_laws.proofs.FlowRunLaws.Coverings.{written_parts, seen_unwritten, not_so}
 use Rattle.ped_laws.proofs.FlowRunLaws.Names.{inner_among}

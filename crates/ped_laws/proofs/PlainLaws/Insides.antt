@@ -11,7 +11,7 @@ use Rattle.ped_flow.specs.ped_affine.specs.Assigned.{assigned_in, assigned_in_al
 use Rattle.ped_flow.specs.PlainBounds.{Values, nest_round, setting_round, outermost_or, assigned_by}
 use Rattle.ped_flow.specs.Questions.{LoopOf}
 use Rattle.ped_flow.proofs.Truths.{untrue, or_split}
-use Rattle.ped_laws.proofs.FlowRunLaws.Cells.{same_itself}
+use Rattle.ped_flow.specs.ped_base.proofs.NameEquality.{same_itself}
 use Rattle.ped_laws.proofs.FlowRunLaws.Names.{inner_among}
 use Rattle.ped_laws.proofs.FlowRunLaws.Seeing.{among_left, among_right}
 use Rattle.ped_laws.proofs.CoveringLaws.Comings.{some_one}

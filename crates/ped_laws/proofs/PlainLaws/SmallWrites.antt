@@ -23,7 +23,8 @@ use Rattle.ped_eval.specs.Runs.{Ending, going, stopped, failed, Run, followed_by
 use Rattle.ped_flow.specs.ped_affine.specs.Assigned.{loop_variables, all_loop_variables}
 use Rattle.ped_flow.proofs.Truths.{untrue, or_none}
 use Rattle.ped_laws.specs.FlowRuns.Covering.{is_cell_of}
-use Rattle.ped_laws.proofs.FlowRunLaws.Cells.{same_itself, stands_for}
+use Rattle.ped_flow.specs.ped_base.proofs.NameEquality.{same_itself}
+use Rattle.ped_laws.proofs.FlowRunLaws.Cells.{stands_for}
 use Rattle.ped_laws.proofs.FlowRunLaws.Coverings.{seen_unwritten}
 use Rattle.ped_laws.proofs.CoveringLaws.Comings.{came, ok_one}
 use Rattle.ped_laws.specs.Plain.Executions.{is_small, WriteSmall}

@@ -23,7 +23,7 @@ use Rattle.ped_flow.proofs.Truths.{untrue, or_none}
 use Rattle.ped_laws.specs.FlowRuns.Covering.{is_number, some_stops_in_loop}
 use Rattle.ped_laws.specs.FlowRuns.Exits.{IsOneToOne}
 use Rattle.ped_laws.specs.FlowRuns.Entries.{IsEntry}
-use Rattle.ped_laws.proofs.FlowRunLaws.Cells.{same_itself, same_is}
+use Rattle.ped_flow.specs.ped_base.proofs.NameEquality.{same_itself, same_is}
 use Rattle.ped_laws.proofs.FlowRunLaws.Writing.{unassigned}
 use Rattle.ped_laws.proofs.FlowRunLaws.Entering.{number_before}
 use Rattle.ped_laws.specs.Plain.PlainValues.{around_loop, AreInRange, Stand}

@@ -4,6 +4,7 @@ use Rattle.std.specs.Prelude.{not, ◌&&◌, ◌||◌, ◌==◌, nat_lt, nat_le}
 use Rattle.std.specs.List.{list_all, list_any}
 use Rattle.std.proofs.lemmas.Bool.{and_parts, and_from, not-true, not_from_false, leb-true, le-leb, eqb-true, eq-eqb}
 use Rattle.ped_lines.specs.ped_base.specs.Lists.{has_some, is_same_text, is_among}
+use Rattle.ped_lines.specs.ped_base.proofs.NameEquality.{same_is, same_itself}
 use Rattle.ped_lines.specs.ped_tree.specs.Tree.{CondTree, Head, StmtTree, StmtTrees, Assign, If, Do, Print, Read, Stop, Comment, DeclTree, Program, Implicit, Integer, Dimension, Parameter, Save, Remark}
 use Rattle.ped_lines.specs.ped_tree.specs.Numbering.{statements_count}
 use Rattle.ped_lines.specs.ped_tree.specs.Accesses.{own_accesses}
@@ -221,20 +222,6 @@ private_whole p h f =
     there (has_some h.private) _ (and_from _ _ (and_from _ _ f.names (at_most (length (private_text h.private)) 1300 f.short)) (not_from_false _ f.others))
 
 -- comments
-
-same_is : (x y : List ℕ) → is_same_text x y ≡ true → x ≡ y
-same_is [] [] h = refl
-same_is [] (y ∷ ys) h = absurd cc
-same_is (x ∷ xs) [] h = absurd cc
-same_is (x ∷ xs) (y ∷ ys) h =
-    let a = and_parts (x == y) (is_same_text xs ys) h in
-    let e : x ≡ y = eqb-true x y a.0 in
-    let more = same_is xs ys a.1 in
-    λ i. e i ∷ more i
-
-same_itself : (x : List ℕ) → is_same_text x x ≡ true
-same_itself [] = refl
-same_itself (x ∷ xs) = and_from (x == x) (is_same_text xs xs) (eq-eqb x x refl) (same_itself xs)
 
 pub comment_parts : (text : List ℕ) → comment_fits text ≡ true → IsCommentText text
 comment_parts text h =

@@ -10,7 +10,7 @@ use Rattle.ped_tree.specs.Tree.{Head, StmtTree, StmtTrees, Do, no_stmts, more_st
 use Rattle.ped_tree.specs.NamesIn.{expr_names, head_names, stmts_names}
 use Rattle.ped_tree.specs.Numbering.{statement_with}
 use Rattle.ped_tree.proofs.NameLaws.Collected.{among_append}
-use Rattle.ped_tree.proofs.NameLaws.NameEquality.{same_is, same_flip}
+use Rattle.ped_base.proofs.NameEquality.{same_is, same_flip}
 use Rattle.ped_laws.specs.ped_graph.specs.ped_symbols.specs.declared.symbols.Kind.{Kind}
 use Rattle.ped_laws.specs.ped_graph.specs.ped_symbols.specs.declared.symbols.Kind.TheVariants.{Scalar, Array, Constant}
 use Rattle.ped_laws.specs.ped_graph.specs.ped_symbols.specs.Sites.{stmt_sites, stmts_sites}

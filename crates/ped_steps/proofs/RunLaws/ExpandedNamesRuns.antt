@@ -7,12 +7,11 @@ use Rattle.ped_base.specs.Lists.{is_same_text, is_among}
 use Rattle.ped_tree.specs.Tree.{Head, StmtTree, StmtTrees, Assign, If, Do, Print, Read, Stop, Comment, no_stmts, more_stmts}
 use Rattle.ped_tree.specs.NamesIn.{stmt_names, stmts_names}
 use Rattle.ped_tree.specs.Numbering.{statement_count, statements_count}
-use Rattle.ped_tree.proofs.NameLaws.NameEquality.{same_is}
+use Rattle.ped_base.proofs.NameEquality.{same_is, same_itself}
 use Rattle.ped_laws.specs.ped_store.specs.Cells.{Cell, Scalar, Element, Private, In, Out}
 use Rattle.ped_laws.specs.ped_store.specs.Stores.{Store}
 use Rattle.ped_laws.specs.ped_store.specs.Storage.{is_within}
 use Rattle.ped_laws.specs.ped_store.specs.Variables.{no_dimensions}
-use Rattle.ped_laws.specs.ped_store.proofs.LaidSlots.{same_itself}
 use Rattle.ped_laws.specs.Acts.Renaming.{touch}
 use Rattle.ped_laws.specs.ped_eval.specs.Scopes.{Setting, Scope, cell_of}
 use Rattle.ped_laws.specs.ped_eval.specs.Values.{is_rank}

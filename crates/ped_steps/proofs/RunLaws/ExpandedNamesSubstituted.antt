@@ -7,7 +7,7 @@ use Rattle.ped_base.specs.Lists.{is_same_text, is_among}
 use Rattle.ped_tree.specs.Tree.{ExprTree, ExprTrees, Int, Var, Element, Neg, Add, Sub, Mul, Div, Pow, Call, no_exprs, more_exprs, CondTree, Rel, Not, And, Or, ItemTree, Value, Text, Head, StmtTree, StmtTrees, Assign, If, Do, Print, Read, Stop, Comment, no_stmts, more_stmts}
 use Rattle.ped_tree.specs.NamesIn.{expr_names, exprs_names, cond_names, item_names, head_names, stmt_names, stmts_names}
 use Rattle.ped_tree.proofs.NameLaws.Collected.{among_append}
-use Rattle.ped_tree.proofs.NameLaws.NameEquality.{same_is}
+use Rattle.ped_base.proofs.NameEquality.{same_is}
 use Rattle.ped_sums.specs.Sums.{literal, literal_value, of_both, small, literal_or, is_zero, added, subtracted, plus_of, minus_of}
 use Rattle.ped_sums.specs.Substitution.{substituted, all_substituted, changes, condition_substituted, item_substituted, head_substituted, statement_substituted, statements_substituted}
 use Rattle.ped_steps.proofs.RunLaws.SubstitutedSums.{by_shape}

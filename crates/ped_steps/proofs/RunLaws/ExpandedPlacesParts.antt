@@ -8,7 +8,7 @@ use Rattle.ped_tree.specs.Tree.{Head, StmtTree, StmtTrees, Assign, If, Do, Print
 use Rattle.ped_tree.specs.Numbering.{statement_count, statements_count, numbered, all_numbered, at_place, statement_with}
 use Rattle.ped_tree.specs.Grammar.Words.{is_name}
 use Rattle.ped_tree.specs.Grammar.Fits.{Surroundings, moved, in_if, in_loop, private_fits, loop_fits, stmt_fits, stmts_fit, decls_fit, begins_with_statement, at_body}
-use Rattle.ped_tree.proofs.NameLaws.NameEquality.{same_is}
+use Rattle.ped_base.proofs.NameEquality.{same_is}
 use Rattle.ped_laws.specs.ped_graph.specs.ped_symbols.specs.Sites.{Site, statement, decl_sites, private_site, stmt_sites, stmts_sites, program_sites}
 use Rattle.ped_laws.specs.ped_graph.specs.ped_symbols.specs.Kinds.{kind_in, at_last}
 use Rattle.ped_laws.specs.ped_graph.specs.ped_symbols.specs.NameRefusals.{IsValid}

@@ -9,7 +9,7 @@ use Rattle.ped_tree.specs.Nests.{indices_of}
 use Rattle.ped_tree.specs.Grammar.Fits.{in_loop, loop_fits, stmts_fit}
 use Rattle.ped_tree.specs.Constants.NamedConstants.{value_named}
 use Rattle.ped_tree.specs.Constants.ConstantExpressions.{constant_value}
-use Rattle.ped_tree.proofs.NameLaws.NameEquality.{same_itself}
+use Rattle.ped_base.proofs.NameEquality.{same_itself}
 use Rattle.ped_laws.specs.ped_graph.specs.ped_symbols.specs.Sites.{statement, private_site, stmts_sites}
 use Rattle.ped_laws.specs.ped_graph.specs.ped_symbols.specs.Kinds.{kind_in, names_of, at_last}
 use Rattle.ped_laws.specs.ped_graph.specs.ped_symbols.specs.NameRefusals.{IsValid}

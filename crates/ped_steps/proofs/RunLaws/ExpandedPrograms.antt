@@ -3,7 +3,7 @@ use Rattle.std.proofs.Common.{◌≡◌, ℕ, ◌+◌, ◌<◌, ◌≤◌, ℤ, 
 use Rattle.std.specs.List.{flat_map}
 use Rattle.std.specs.Str.Lines.{lines}
 use Rattle.ped_base.specs.Lists.{is_same_text, is_among}
-use Rattle.ped_tree.proofs.NameLaws.NameEquality.{same_is}
+use Rattle.ped_base.proofs.NameEquality.{same_is}
 use Rattle.ped_tree.specs.Tree.{Head, StmtTree, StmtTrees, Do, ProgramTree}
 use Rattle.ped_tree.specs.NamesIn.{stmt_names, stmts_names}
 use Rattle.ped_tree.specs.Accesses.{constant_names}

@@ -8,7 +8,7 @@ use Rattle.ped_base.specs.Lists.{is_same_text, is_among}
 use Rattle.ped_tree.specs.Tree.{StmtTree, StmtTrees, Assign, If, Do, Print, Read, Stop, Comment, no_stmts, more_stmts, ProgramTree}
 use Rattle.ped_tree.specs.Numbering.{statement_count, statements_count, numbered, all_numbered, statement_with}
 use Rattle.ped_tree.proofs.NameLaws.Collected.{among_append}
-use Rattle.ped_tree.proofs.NameLaws.NameEquality.{same_is}
+use Rattle.ped_base.proofs.NameEquality.{same_is}
 use Rattle.ped_laws.specs.ped_graph.specs.ped_symbols.specs.declared.uses.Use.{Use}
 use Rattle.ped_laws.specs.ped_graph.specs.ped_symbols.specs.Sites.{Site, statement, decl_sites, private_site, stmt_sites, stmts_sites, program_sites, site_uses}
 use Rattle.ped_laws.specs.ped_graph.specs.ped_symbols.specs.Kinds.{names_at, names_of}

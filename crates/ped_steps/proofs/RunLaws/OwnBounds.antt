@@ -12,7 +12,7 @@ use Rattle.ped_tree.specs.Tree.{ExprTree, ExprTrees, Int, Var, Element, Neg, Add
 use Rattle.ped_tree.specs.NamesIn.{expr_names, exprs_names, cond_names, item_names, head_names, stmt_names, stmts_names}
 use Rattle.ped_tree.specs.Numbering.{statement_count, statements_count}
 use Rattle.ped_laws.specs.ped_store.specs.Acts.{did}
-use Rattle.ped_laws.specs.ped_store.proofs.LaidSlots.{same_itself}
+use Rattle.ped_base.proofs.NameEquality.{same_itself}
 use Rattle.ped_laws.specs.ped_store.specs.Cells as cells
 use Rattle.ped_laws.specs.ped_store.specs.Cells.{In}
 use Rattle.ped_laws.specs.ped_store.specs.Stores.{Number, Store, put, lines_in, outside_bounds, storable}

@@ -8,7 +8,7 @@ use Rattle.std.proofs.lemmas.Cmp.{nat_list_cmp_total}
 use Rattle.std.proofs.lemmas.Map.Lookups.{exact_bytes}
 use Rattle.ped_base.specs.Lists.{is_same_text, is_among}
 use Rattle.ped_tree.specs.Tree.{StmtTrees}
-use Rattle.ped_laws.specs.ped_store.proofs.LaidSlots.{same_is, same_itself}
+use Rattle.ped_base.proofs.NameEquality.{same_is, same_itself}
 use Rattle.ped_laws.specs.ped_eval.specs.Loops.{with_name_by, with_sorted, sorted_once, all_index_names}
 use Rattle.ped_laws.proofs.RunLaws.Turning.{once_among}
 

@@ -8,7 +8,7 @@ use Rattle.ped_base.specs.Lists.{has_some, is_same_text, is_among}
 use Rattle.ped_tree.specs.Tree.{ExprTree, Int, Var, Element, Neg, Add, Sub, Mul, Div, Pow, Call, Head, StmtTree, StmtTrees, Assign, If, Do, Print, Read, Stop, Comment, no_stmts, more_stmts, ProgramTree}
 use Rattle.ped_tree.specs.Numbering.{numbered, all_numbered, statement_with, statement_count, statements_count}
 use Rattle.ped_tree.specs.Printing.{private_text}
-use Rattle.ped_tree.proofs.NameLaws.NameEquality.{same_is, same_itself}
+use Rattle.ped_base.proofs.NameEquality.{same_is, same_itself}
 use Rattle.ped_tree.specs.Grammar.LimitNumbers.{most_characters, most_loops_nested, most_blocks_nested}
 use Rattle.ped_tree.specs.Grammar.StatementForms.{are_names}
 use Rattle.ped_tree.specs.Grammar.Words.{is_name}

@@ -7,7 +7,7 @@ use Rattle.ped_base.specs.Lists.{is_same_text, is_among}
 use Rattle.ped_laws.specs.ped_store.specs.Cells.{Cell, Scalar, Element, Private, In, Out, same_cell}
 use Rattle.ped_laws.specs.ped_store.specs.Acts.{Turn, iterations_of}
 use Rattle.ped_laws.proofs.ActLaws.SameCells.{text_itself, cell_itself, cell_is, other_cell}
-use Rattle.ped_tree.proofs.NameLaws.NameEquality.{same_is}
+use Rattle.ped_base.proofs.NameEquality.{same_is}
 use Rattle.ped_laws.specs.ped_eval.specs.Scopes.{Frame, Scope, turns_of, cell_of, index_value}
 use Rattle.ped_steps.specs.Runs.Exchanging.{IsExchange, AreExchanged, swapped, is_of_scalar}
 

@@ -7,8 +7,8 @@ ghost use Rattle.ped_sums.specs.Substitution as Spec;
 
 use super::conditions::substitute_in_condition;
 use super::expressions::{substitute, substitute_in_all};
-use ped_base::{Listed, Name, Names, NoMemory};
-use ped_tree::{Do, Expr, PrintItem, Stmt};
+use ped_base::{Name, NoMemory};
+use ped_tree::{Do, Expr, PrintItem, Stmt, copy_names};
 use std::alloc::Global;
 
 fn substitute_in_item(
@@ -38,12 +38,6 @@ fn substitute_in_items(
         new.push(substitute_in_item(alloc, item, name, by)?)?;
     }
     Ok(new)
-}
-
-fn copy_names(alloc: Global, names: &Names) -> Result<Names, NoMemory>
-    ensures { IfOk result (λ copy. copy ≡ names.now) }
-{
-    Ok(Listed::from_vec(names.as_slice().to_vec(alloc)?))
 }
 
 /// The statement with `by` in place of the scalar `name`, also where this stands on the left side of an assignment or
@@ -89,8 +83,8 @@ pub fn substitute_in_loop(alloc: Global, body: &Do, name: &Name, by: &Expr) -> R
     let first = substitute(alloc, &body.first, name, by)?;
     let last = substitute(alloc, &body.last, name, by)?;
     let step = substitute(alloc, &body.step, name, by)?;
-    let private = copy_names(alloc, &body.private)?;
-    let rejected = copy_names(alloc, &body.rejected)?;
+    let private = copy_names(&body.private, alloc)?;
+    let rejected = copy_names(&body.rejected, alloc)?;
     let statements = substitute_in_statements(alloc, &body.body, name, by)?;
     Ok(Do {
         variable: body.variable,

@@ -3,7 +3,7 @@ use Rattle.std.proofs.Common.{◌≡◌, ℕ, List, [], ◌∷◌, map, Bool, tr
 use Rattle.std.specs.Prelude.{◌||◌}
 use Rattle.ped_base.specs.Lists.{is_same_text, is_among}
 use Rattle.ped_tree.specs.Tree.{ProgramTree}
-use Rattle.ped_tree.proofs.NameLaws.NameEquality.{same_is}
+use Rattle.ped_base.proofs.NameEquality.{same_is}
 use Rattle.ped_symbols.specs.declared.symbols.Kind.{Kind}
 use Rattle.ped_symbols.specs.Entries.{entry_of}
 use Rattle.ped_symbols.specs.Kinds.{kind_of, names_of, kinds_of, kind_in}

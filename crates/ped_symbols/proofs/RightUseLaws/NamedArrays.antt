@@ -4,7 +4,7 @@ use Rattle.std.proofs.lemmas.Bool.{or_parts, and_from}
 use Rattle.std.proofs.lemmas.List.Sums.{sum_by-cons}
 use Rattle.ped_base.specs.Dimensions.{Dimensions}
 use Rattle.ped_base.specs.Lists.{is_same_text, is_among}
-use Rattle.ped_tree.proofs.NameLaws.NameEquality.{same_flip, same_is}
+use Rattle.ped_base.proofs.NameEquality.{same_flip, same_is}
 use Rattle.ped_symbols.specs.declared.symbols.Kind.{Kind}
 use Rattle.ped_symbols.specs.Entries.{entry_of}
 use Rattle.ped_symbols.specs.Values.{Values}

@@ -5,7 +5,7 @@ use Rattle.std.proofs.lemmas.Bool.{true≢false, or_from, or_right}
 use Rattle.ped_base.specs.Lists.{is_same_text, is_among}
 use Rattle.ped_tree.specs.NamesIn.{first_occurrences}
 use Rattle.ped_symbols.specs.NameRefusals.{has_twice}
-use Rattle.ped_tree.proofs.NameLaws.NameEquality.{same_itself, same_flip, same_is}
+use Rattle.ped_base.proofs.NameEquality.{same_itself, same_flip, same_is}
 
 -- a name that isn't seen yet and one that is seen differ
 differ : (x y : List ℕ) (seen : List (List ℕ)) → is_among x seen ≡ false → is_among y seen ≡ true → is_same_text x y ≡ false

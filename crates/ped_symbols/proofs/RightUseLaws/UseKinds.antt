@@ -5,7 +5,7 @@ use Rattle.std.specs.List.{list_any, list_all}
 use Rattle.std.proofs.lemmas.Bool.{or_parts, or_right, and_parts, and_from, eqb-true, leb-true, lt-ltb, not-false}
 use Rattle.ped_base.specs.Dimensions.{Dimensions}
 use Rattle.ped_base.specs.Lists.{is_same_text, is_among}
-use Rattle.ped_tree.proofs.NameLaws.NameEquality.{same_is, same_itself as same_text}
+use Rattle.ped_base.proofs.NameEquality.{same_is, same_itself as same_text}
 use Rattle.ped_symbols.specs.declared.uses.Role.{Role}
 use Rattle.ped_symbols.specs.declared.uses.Role.TheVariants.{Typed, Dimensioned, Named, Saved, Rejected, Private, Index, Assigned, Operand}
 use Rattle.ped_symbols.specs.declared.uses.Use.{Use}

@@ -49,4 +49,11 @@ impl NameSet {
     {
         self.names.contains(name)
     }
+
+    /// The names in the order in which they came.
+    pub fn as_slice(&self) -> &[Name]
+        ensures { result.now ≡ self.now }
+    {
+        self.names.as_slice()
+    }
 }

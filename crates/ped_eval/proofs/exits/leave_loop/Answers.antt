@@ -1,7 +1,8 @@
 use Rattle.std.proofs.Common.{ap, ◌∙◌}
 use Rattle.ped_store.specs.Keeping.{memory_of}
 use Rattle.ped_eval.specs.Scopes.{Scope, cell_of}
-use Rattle.ped_eval.specs.Plans.{entered_by, head_of}
+use Rattle.ped_eval.specs.Plans.{entered_by}
+use Rattle.ped_tree.specs.Views.{head_of}
 use Rattle.ped_eval.specs.Turns.{exited}
 use Rattle.std.specs.List.{list_all}
 use Rattle.ped_eval.proofs.exits.leave_loop.Goals as goal

@@ -4,7 +4,8 @@ use Rattle.ped_store.specs.Memories.{with_content}
 use Rattle.ped_store.specs.Keeping.{memory_of}
 use Rattle.ped_eval.specs.Scopes.{Scope, cell_of}
 use Rattle.ped_eval.specs.Loops.{left_in_variable}
-use Rattle.ped_eval.specs.Plans.{entered_by, head_of}
+use Rattle.ped_eval.specs.Plans.{entered_by}
+use Rattle.ped_tree.specs.Views.{head_of}
 use Rattle.ped_eval.specs.Turns.{undefined_in}
 use Rattle.ped_eval.proofs.Undefining.{undefined_stands}
 use Rattle.ped_eval.proofs.exits.write_exit.Goals as goal

@@ -1,7 +1,7 @@
 use Rattle.ped_store.specs.Keeping.{memory_of}
 use Rattle.ped_eval.specs.ScopeViews.{names_at}
 use Rattle.ped_eval.specs.Values.{value}
-use Rattle.ped_eval.specs.Plans.{head_of}
+use Rattle.ped_tree.specs.Views.{head_of}
 use Rattle.ped_eval.proofs.Notings.{next_noted, fault_noted}
 use Rattle.ped_eval.proofs.Storing.{limits_noted}
 use Rattle.ped_eval.proofs.plans.limits_of.Goals as goal

@@ -4,7 +4,7 @@ use Rattle.ped_store.specs.Keeping.{memory_of}
 use Rattle.ped_eval.specs.ScopeViews.{names_at}
 use Rattle.ped_eval.specs.Evaluation.{number_behind}
 use Rattle.ped_eval.specs.Loops.{limits}
-use Rattle.ped_eval.specs.Plans.{head_of}
+use Rattle.ped_tree.specs.Views.{head_of}
 use Rattle.ped_eval.specs.Follow.{Follow}
 use Rattle.ped_eval.specs.Noting.{Noted, accesses_by}
 use Rattle.ped_eval.proofs.Storing.{fresh_noted, fresh_next}

@@ -22,7 +22,7 @@ returns-in-Ok-clause-added c =
     let v : ℤ = to_z w128 (of_z w128 c.in-Ok.number) in
     let fits : FitsSigned w128 c.in-Ok.number = search rules in
     let h : (e c.args.symbols.now.constants).result ≡ Ok v = sym (ap (λ k. (e k).result) c.consts.ensures) ∙ sym c.value_of.ensures.value ∙ c.in-Ok.is ∙ ap Ok (sym (to_z-of_z w128 c.in-Ok.number fits)) in
-    (signed_decimal v, ap (λ (r : Result ℤ ℕ). (onward (e c.args.symbols.now.constants).seen r (λ n. given (Ok (signed_decimal n)))).result) h, c.in_ok-add_number-in-Ok.ensures)
+    (signed_decimal v, ap (λ (r : Result ℤ ℕ). (onward (e c.args.symbols.now.constants).seen r (λ n. given (Ok (signed_decimal n)))).result) h, c.in_ok-push_signed-in-Ok.ensures)
 
 pub returns-in-Ok-clause-noted : goal.returns-in-Ok-clause-noted
 unfolding seen_at

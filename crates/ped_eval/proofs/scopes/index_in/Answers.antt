@@ -3,7 +3,7 @@ use Rattle.std.specs.Int.{w128}
 use Rattle.std.specs.Int.RustNames.{FitsSigned}
 use Rattle.std.proofs.lemmas.Int.{to_z-of_z}
 use Rattle.ped_base.specs.Lists.{is_same_text}
-use Rattle.ped_tree.proofs.NameLaws.NameEquality.{name_same}
+use Rattle.ped_base.proofs.NameEquality.{name_same}
 use Rattle.ped_eval.specs.Scopes.{index_value}
 use Rattle.ped_eval.specs.ScopeViews.{scope_view}
 use Rattle.ped_eval.proofs.scopes.index_in.Goals as goal

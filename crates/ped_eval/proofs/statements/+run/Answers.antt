@@ -13,7 +13,8 @@ use Rattle.ped_eval.specs.ScopeViews.{names_at, outside}
 use Rattle.ped_eval.specs.Values.{truth}
 use Rattle.ped_eval.specs.Loops.{frame, copied_names, inner_variables}
 use Rattle.ped_symbols.specs.RightUses.RightUses.{is_scalar}
-use Rattle.ped_eval.specs.Plans.{entered_by, head_of, IsEntry}
+use Rattle.ped_eval.specs.Plans.{entered_by, IsEntry}
+use Rattle.ped_tree.specs.Views.{head_of}
 use Rattle.ped_eval.specs.Readiness.{kinds_by, setting_by, IsReady, CanDo, CanRun}
 use Rattle.ped_eval.specs.Agreement.{before, before_turn, is_copy, Agrees}
 use Rattle.ped_eval.specs.Runs.{Ending, run, run_all}

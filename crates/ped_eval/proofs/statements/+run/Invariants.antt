@@ -7,7 +7,8 @@ use Rattle.ped_eval.specs.Runs.{run_all}
 use Rattle.ped_eval.specs.Loops.{frame}
 use Rattle.ped_eval.specs.Readiness.{setting_by, IsReady, CanRun}
 use Rattle.ped_eval.specs.Agreement.{before, before_turn, Agrees}
-use Rattle.ped_eval.specs.Plans.{entered_by, head_of}
+use Rattle.ped_eval.specs.Plans.{entered_by}
+use Rattle.ped_tree.specs.Views.{head_of}
 use Rattle.ped_eval.specs.Turns.{turns_end, body_run}
 use Rattle.ped_eval.specs.Told.{Reaches}
 use Rattle.ped_store.specs.Races.{accesses}

@@ -1,7 +1,8 @@
 use Rattle.std.proofs.Common.{sym, ◌∙◌}
 use Rattle.std.proofs.lemmas.Result.{on_ok_weaker}
 use Rattle.ped_eval.specs.Loops.{exit_touches}
-use Rattle.ped_eval.specs.Plans.{entered_by, head_of}
+use Rattle.ped_eval.specs.Plans.{entered_by}
+use Rattle.ped_tree.specs.Views.{head_of}
 use Rattle.ped_eval.specs.Noting.{noted, accesses_by}
 use Rattle.ped_eval.proofs.Watching.{idle_follows}
 use Rattle.ped_eval.proofs.telling.tell_exit.Goals as goal

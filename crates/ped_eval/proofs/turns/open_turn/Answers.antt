@@ -6,7 +6,8 @@ use Rattle.ped_eval.specs.Scopes.{Frame, cell_of}
 use Rattle.ped_eval.specs.ScopeViews.{with_turn, outside}
 use Rattle.ped_eval.specs.Agreement.{is_copy}
 use Rattle.ped_eval.specs.Loops.{frame, copied_names}
-use Rattle.ped_eval.specs.Plans.{entered_by, head_of}
+use Rattle.ped_eval.specs.Plans.{entered_by}
+use Rattle.ped_tree.specs.Views.{head_of}
 use Rattle.ped_eval.proofs.Copies.{all_among, all_copies}
 use Rattle.ped_eval.proofs.turns.open_turn.Goals as goal
 

@@ -2,7 +2,8 @@ use Rattle.std.proofs.Common.{◌≡◌, true, rules}
 use Rattle.ped_tree.specs.Views.{stmt_trees}
 use Rattle.ped_tree.specs.declared.statements.Stmt.{the_lemmas}
 use Rattle.ped_tree.specs.Grammar.Fits.{loop_fits}
-use Rattle.ped_fits.specs.Surroundings.{place, head_of}
+use Rattle.ped_fits.specs.Surroundings.{place}
+use Rattle.ped_tree.specs.Views.{head_of}
 use Rattle.ped_fits.proofs.Limits.{has_room}
 use Rattle.ped_fits.proofs.statements.+statements.Goals as goal
 

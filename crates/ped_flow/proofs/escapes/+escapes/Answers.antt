@@ -1,7 +1,7 @@
 use Rattle.std.proofs.Common.{List, ap, sym, ◌∙◌, ◌+◌, drop}
 use Rattle.ped_tree.specs.Tree.{StmtTree}
 use Rattle.ped_tree.specs.Views.{stmt_tree, stmt_trees, program_tree}
-use Rattle.ped_affine.specs.ped_refs.specs.Loops.{head_of}
+use Rattle.ped_tree.specs.Views.{head_of}
 use Rattle.ped_tree.proofs.Levels.{stmt_tree-If}
 use Rattle.ped_tree.specs.declared.statements.Stmt.{Stmt}
 use Rattle.ped_affine.specs.Assigned.{loop_variables, all_loop_variables}

@@ -2,7 +2,7 @@ use Rattle.std.proofs.Common.{◌+◌, List, ap, ◌∙◌}
 use Rattle.ped_tree.specs.declared.statements.Stmt.{Stmt}
 use Rattle.ped_flow.specs.Summaries.{sum_of_all}
 use Rattle.ped_tree.specs.Views.{stmt_trees}
-use Rattle.ped_affine.specs.ped_refs.specs.Loops.{head_of}
+use Rattle.ped_tree.specs.Views.{head_of}
 use Rattle.ped_flow.specs.Kept.{name_of, constants_of}
 use Rattle.ped_flow.proofs.Answering.{first_in_iteration}
 use Rattle.ped_flow.proofs.flows.exposed_in.Goals as goal

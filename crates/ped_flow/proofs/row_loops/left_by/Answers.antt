@@ -1,6 +1,6 @@
 use Rattle.std.proofs.Common.{List, Bool, [], ◌∷◌, subst, sym, inl, inr}
 use Rattle.ped_tree.specs.Views.{stmt_trees}
-use Rattle.ped_affine.specs.ped_refs.specs.Loops.{head_of}
+use Rattle.ped_tree.specs.Views.{head_of}
 use Rattle.ped_flow.specs.Events.{copied}
 use Rattle.ped_flow.specs.RowPlaces.{AreMarked}
 use Rattle.ped_flow.specs.RowMarks.{names_in}

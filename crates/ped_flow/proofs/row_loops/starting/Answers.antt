@@ -1,6 +1,6 @@
 use Rattle.std.proofs.Common.{Bool, sym, ap, subst, ◌∙◌, if◌then◌else◌}
 use Rattle.ped_tree.specs.Views.{stmt_trees}
-use Rattle.ped_affine.specs.ped_refs.specs.Loops.{head_of}
+use Rattle.ped_tree.specs.Views.{head_of}
 use Rattle.ped_flow.specs.Events.{clears, copied}
 use Rattle.ped_flow.specs.Summaries.{passing, of_manner}
 use Rattle.ped_flow.specs.Rows.{Holds}

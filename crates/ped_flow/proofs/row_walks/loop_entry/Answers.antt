@@ -1,6 +1,6 @@
 use Rattle.ped_tree.specs.Tree.{Do}
 use Rattle.ped_tree.specs.Views.{stmt_trees}
-use Rattle.ped_affine.specs.ped_refs.specs.Loops.{head_of}
+use Rattle.ped_tree.specs.Views.{head_of}
 use Rattle.ped_flow.proofs.EventRows.{if_ok}
 use Rattle.ped_flow.proofs.Known.{made_entry}
 use Rattle.ped_flow.proofs.row_walks.loop_entry.Goals as goal

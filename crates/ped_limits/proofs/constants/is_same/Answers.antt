@@ -1,5 +1,5 @@
 use Rattle.std.proofs.Common.{◌∙◌}
-use Rattle.ped_limits.proofs.NameEquality.{name_same}
+use Rattle.ped_base.proofs.NameEquality.{name_same}
 use Rattle.ped_limits.proofs.constants.is_same.Goals as goal
 
 pub returns : goal.returns

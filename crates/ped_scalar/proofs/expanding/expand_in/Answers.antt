@@ -1,6 +1,6 @@
 use Rattle.std.proofs.Common.{ℕ, ℤ, List, IsTrue, sym, ap, ◌∙◌, subst}
 use Rattle.ped_tree.specs.Views.{program_tree, stmt_trees}
-use Rattle.ped_tidy.specs.ped_steps.specs.ped_refs.specs.Loops.{head_of}
+use Rattle.ped_tree.specs.Views.{head_of}
 use Rattle.ped_tidy.specs.ped_steps.specs.ped_symbols.specs.Kinds.{Table, table_of}
 use Rattle.ped_tidy.specs.ped_steps.specs.ped_symbols.specs.RightUses.RightLoops.{step_is_right}
 use Rattle.ped_tidy.specs.ped_steps.specs.declared.rules.Rule.TheVariants.{ParallelState, Range}

@@ -1,6 +1,7 @@
 use Rattle.std.proofs.Common.{◌≡◌, Option, Some, None, sym, ap, ◌∙◌, subst}
 use Rattle.ped_tree.specs.Views.{program_tree, stmt_trees}
-use Rattle.ped_tidy.specs.ped_steps.specs.ped_refs.specs.Loops.{head_of, nest_of}
+use Rattle.ped_tidy.specs.ped_steps.specs.ped_refs.specs.Loops.{nest_of}
+use Rattle.ped_tree.specs.Views.{head_of}
 use Rattle.ped_tidy.specs.ped_steps.specs.ped_symbols.specs.Kinds.{table_of}
 use Rattle.ped_tidy.specs.ped_steps.specs.declared.rules.Rule.TheVariants.{ExposedOrLive, NotScalar, NotConstant}
 use Rattle.ped_tidy.specs.ped_steps.proofs.Answering.{few_numbers}

@@ -4,7 +4,7 @@ use Rattle.ped_base.specs.Lists.{is_among}
 use Rattle.ped_tree.specs.Tree.{Do}
 use Rattle.ped_tree.specs.Nests.{Loop}
 use Rattle.ped_tree.specs.Views.{program_tree, stmt_trees}
-use Rattle.ped_tidy.specs.ped_steps.specs.ped_refs.specs.Loops.{head_of}
+use Rattle.ped_tree.specs.Views.{head_of}
 use Rattle.ped_tidy.specs.ped_steps.specs.ped_symbols.specs.NameRefusals.{IsValid}
 use Rattle.ped_tidy.specs.ped_steps.specs.ped_flow.proofs.Answering.{loop_fits}
 use Rattle.ped_tidy.specs.ped_steps.specs.declared.rules.Rule.TheVariants.{Limit, AlreadyPrivate}

@@ -4,7 +4,8 @@ use Rattle.ped_base.specs.Lists.{is_among}
 use Rattle.ped_tree.specs.Tree.{ProgramTree}
 use Rattle.ped_tree.specs.Nests.{Loop}
 use Rattle.ped_tree.specs.Views.{program_tree, stmt_trees}
-use Rattle.ped_tidy.specs.ped_steps.specs.ped_refs.specs.Loops.{head_of, nest_of}
+use Rattle.ped_tidy.specs.ped_steps.specs.ped_refs.specs.Loops.{nest_of}
+use Rattle.ped_tree.specs.Views.{head_of}
 use Rattle.ped_tidy.specs.ped_steps.specs.ped_symbols.specs.NameRefusals.{IsValid}
 use Rattle.ped_tidy.specs.ped_steps.specs.declared.rules.Rule.TheVariants.{ParallelState, ExposedOrLive, NotScalar, Limit, AlreadyPrivate}
 use Rattle.ped_tidy.specs.ped_steps.specs.Replacing.{all_kept}

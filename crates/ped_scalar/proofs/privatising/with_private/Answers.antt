@@ -2,7 +2,7 @@ use Rattle.std.proofs.Common.{List, [], ◌∷◌, ◌++◌, ap, ◌∙◌}
 use Rattle.std.proofs.lemmas.Result.{IfOk-weaker}
 use Rattle.ped_tree.specs.Views.{program_tree, stmt_trees}
 use Rattle.ped_tree.specs.declared.statements.Stmt.{Stmt}
-use Rattle.ped_tidy.specs.ped_steps.specs.ped_refs.specs.Loops.{head_of}
+use Rattle.ped_tree.specs.Views.{head_of}
 use Rattle.ped_scalar.proofs.FlowAnswers.{private_program}
 use Rattle.ped_scalar.proofs.privatising.with_private.Goals as goal
 

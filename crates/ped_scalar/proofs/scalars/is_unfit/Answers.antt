@@ -2,7 +2,7 @@ use Rattle.std.proofs.Common.{List, not, ◌||◌, sym, ap, ◌∙◌, arith}
 use Rattle.ped_base.specs.Lists.{is_among}
 use Rattle.ped_tree.specs.Nests.{Loop, indices_of}
 use Rattle.ped_tree.specs.Views.{program_tree, stmt_trees}
-use Rattle.ped_tidy.specs.ped_steps.specs.ped_refs.specs.Loops.{head_of}
+use Rattle.ped_tree.specs.Views.{head_of}
 use Rattle.ped_tidy.specs.ped_steps.specs.ped_symbols.proofs.FewReferences.{few_references}
 use Rattle.ped_tidy.specs.ped_steps.specs.ped_flow.proofs.Answering.{loop_fits}
 use Rattle.ped_tidy.specs.ped_steps.proofs.Answering.{few_numbers}

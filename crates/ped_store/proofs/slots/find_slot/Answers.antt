@@ -1,5 +1,5 @@
 use Rattle.std.proofs.Common.{◌∙◌}
-use Rattle.ped_store.proofs.Lookups.{looked_up}
+use Rattle.ped_base.proofs.NameEquality.{looked_up}
 use Rattle.ped_store.proofs.slots.find_slot.Goals as goal
 
 pub returns : goal.returns

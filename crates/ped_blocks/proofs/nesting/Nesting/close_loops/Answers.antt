@@ -1,7 +1,8 @@
 use Rattle.std.proofs.Common.{◌≡◌, [], ap, sym, ◌∙◌, map, arith}
 use Rattle.ped_tree.specs.Views.{stmt_tree}
 use Rattle.ped_blocks.specs.Machine.{nest, close_loops}
-use Rattle.ped_blocks.specs.BlockViews.{frame_of, blocks_of, head_of}
+use Rattle.ped_blocks.specs.BlockViews.{frame_of, blocks_of}
+use Rattle.ped_tree.specs.Views.{head_of}
 use Rattle.ped_blocks.proofs.OpenBlocks.{last_block, no_blocks, ends_here, stays_open}
 use Rattle.ped_blocks.proofs.nesting.Nesting.close_loops.Goals as goal
 

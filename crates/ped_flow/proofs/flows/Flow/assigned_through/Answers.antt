@@ -1,6 +1,6 @@
 use Rattle.std.proofs.Common.{◌+◌, arith}
 use Rattle.ped_tree.specs.Views.{program_tree, stmt_trees}
-use Rattle.ped_affine.specs.ped_refs.specs.Loops.{head_of}
+use Rattle.ped_tree.specs.Views.{head_of}
 use Rattle.ped_flow.specs.Kept.{name_of, constants_of}
 use Rattle.ped_flow.proofs.Skipping.{asked_known, loop_known, entered_known}
 use Rattle.ped_flow.proofs.Answering.{through_answer, through_nowhere, loop_fits}

@@ -1,6 +1,6 @@
 use Rattle.std.proofs.Common.{arith, subst, sym, Option}
 use Rattle.ped_tree.specs.Views.{program_tree, stmt_trees}
-use Rattle.ped_affine.specs.ped_refs.specs.Loops.{head_of}
+use Rattle.ped_tree.specs.Views.{head_of}
 use Rattle.ped_flow.specs.Answers.{IsEscape}
 use Rattle.ped_flow.specs.declared.flows.Reader.{Reader}
 use Rattle.ped_flow.proofs.Skipping.{loop_known, entered_known}

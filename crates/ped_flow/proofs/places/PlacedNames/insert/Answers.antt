@@ -1,6 +1,6 @@
 use Rattle.std.proofs.Common.{List, ℕ, ◌∷◌, [], ◌++◌, Bool, ap, ◌∙◌, if◌then◌else◌}
 use Rattle.ped_base.specs.Lists.{is_among}
-use Rattle.ped_tree.proofs.NameLaws.NameEquality.{any_same}
+use Rattle.ped_base.proofs.NameEquality.{any_same}
 use Rattle.ped_flow.proofs.places.PlacedNames.insert.Goals as goal
 
 pub returns-clause-ok : goal.returns-clause-ok

@@ -2,7 +2,7 @@ use Rattle.std.proofs.Common.{List, map, ap, ◌∙◌}
 use Rattle.ped_tree.specs.Views.{program_tree, stmt_trees, decl_tree}
 use Rattle.ped_tree.specs.declared.statements.Stmt.{Stmt}
 use Rattle.ped_tree.specs.declared.declarations.Decl.{Decl}
-use Rattle.ped_tidy.specs.ped_steps.specs.ped_refs.specs.Loops.{head_of}
+use Rattle.ped_tree.specs.Views.{head_of}
 use Rattle.ped_tree.specs.Tree.{StmtTree}
 use Rattle.ped_tidy.specs.ped_steps.specs.Replacing.{all_replaced}
 use Rattle.ped_scalar.specs.Expanding.{declaration}

@@ -2,11 +2,11 @@ use Rattle.std.proofs.Common.{◌≡◌, ℕ, ◌+◌, List, Some, if◌then◌e
 use Rattle.std.specs.Prelude.{is_some}
 use Rattle.std.specs.Map.{lookup}
 use Rattle.ped_store.specs.Slots.{slot_count, IsLaid}
-use Rattle.ped_store.proofs.Lookups.{looked_up}
+use Rattle.ped_base.proofs.NameEquality.{looked_up}
 use Rattle.indexmap.proofs.CallerLemmas.{insert_entry-new}
 use Rattle.ped_base.specs.contracts.identifiers.NamePartialEq.TheImpl as code
 use Rattle.ped_store.specs.declared.slots.Slot.{Slot}
-use Rattle.ped_store.proofs.NameEquality.{name_same}
+use Rattle.ped_base.proofs.NameEquality.{name_same}
 use Rattle.ped_store.proofs.Layouts.{added_bounds, known_bounds, laid_more, nothing_there}
 use Rattle.ped_store.proofs.slots.Layout.add.Goals as goal
 

@@ -1,6 +1,6 @@
 use Rattle.std.proofs.Common.{ap, ◌∙◌}
 use Rattle.ped_base.specs.Lists.{is_among}
-use Rattle.ped_tree.proofs.NameLaws.NameEquality.{any_same}
+use Rattle.ped_base.proofs.NameEquality.{any_same}
 use Rattle.ped_tree.proofs.names.sets.NameSet.contains.Goals as goal
 
 pub returns : goal.returns

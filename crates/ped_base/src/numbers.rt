@@ -1,14 +1,14 @@
-//! Numbers in decimal, each added at the end of a text. After want of memory the text ends somewhere in
-//! the number.
+//! Numbers in decimal, each added at the end of a text. After want of memory the text ends somewhere in the number.
 
 ghost use Rattle.std.specs.Prelude.{◌≡◌, ◌++◌, OnOk};
 ghost use Rattle.std.specs.Fmt.{decimal, signed_decimal};
 
+use crate::listing::Bytes;
+use crate::memory::NoMemory;
 use itoa::Buffer;
-use ped_base::{Bytes, NoMemory};
 
 /// Adds the digits of a number.
-pub(crate) fn push_number(out: &mut Bytes, number: u64) -> Result<(), NoMemory>
+pub fn push_number(out: &mut Bytes, number: u64) -> Result<(), NoMemory>
     ensures { OnOk result (out.new ≡ out.old ++ decimal number) }
 {
     let mut buffer = Buffer::new();
@@ -16,7 +16,7 @@ pub(crate) fn push_number(out: &mut Bytes, number: u64) -> Result<(), NoMemory>
 }
 
 /// Adds the digits of a number, behind a minus sign where it is negative.
-pub(crate) fn push_signed(out: &mut Bytes, number: i128) -> Result<(), NoMemory>
+pub fn push_signed(out: &mut Bytes, number: i128) -> Result<(), NoMemory>
     ensures { OnOk result (out.new ≡ out.old ++ signed_decimal number) }
 {
     let mut buffer = Buffer::new();

@@ -1,7 +1,0 @@
-use Rattle.std.proofs.Common.{ap, ◌∙◌}
-use Rattle.ped_base.specs.Lists.{is_among}
-use Rattle.ped_limits.proofs.NameEquality.{any_same}
-use Rattle.ped_limits.proofs.names.NameSet.contains.Goals as goal
-
-pub returns : goal.returns
-returns c = c.contains.ensures ∙ any_same c.args.name.now c.self.inside.names.keys ∙ ap (is_among c.args.name.now) c.self.view_is

@@ -1,6 +1,0 @@
-use Rattle.std.proofs.Common.{◌≡◌, drop}
-use Rattle.ped_base.specs.Lists.{is_among}
-use Rattle.ped_steps.proofs.names.is_among.Given as goal
-
-abbrev pub invariant-loop-other : goal.invariant-loop-other
-invariant-loop-other l = is_among l.name (drop l.other-index l.names) ≡ is_among l.name l.names

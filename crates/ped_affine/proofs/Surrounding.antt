@@ -1,5 +1,5 @@
 -- The loops round a bound with their ranges, loop by loop.
-use Rattle.std.proofs.Common.{◌≡◌, ℕ, suc, ◌+◌, ◌<◌, List, [], ◌∷◌, ◌++◌, length, take, drop, set, get_or, refl, sym, ap, ◌∙◌, append_assoc, arith, None}
+use Rattle.std.proofs.Common.{◌≡◌, ℕ, suc, ◌+◌, ◌<◌, List, [], ◌∷◌, ◌++◌, length, take, drop, set, get_or, refl, sym, ap, ◌∙◌, append_assoc, append-nil, arith, None}
 use Rattle.std.proofs.lemmas.List.{take_more, take_more_set, drop_more, length-take-le}
 use Rattle.std.specs.Map.{lookup}
 use Rattle.ped_base.specs.Lists.{is_same_text}
@@ -8,7 +8,7 @@ use Rattle.ped_tree.specs.Tree.{Head}
 use Rattle.ped_refs.specs.declared.loops.Loop.{Loop}
 use Rattle.ped_refs.specs.Loops.{nest_of}
 use Rattle.ped_tree.specs.Views.{head_of}
-use Rattle.ped_affine.specs.Ranges.{Setting, Around, between_ends, inside, loop_range, ranges_inside, nest_ranges}
+use Rattle.ped_affine.specs.Ranges.{Setting, Around, between_ends, inside, loop_range, around_with, ranges_inside, nest_ranges}
 use Rattle.ped_affine.specs.PairViews.{heads_of}
 use Rattle.ped_affine.specs.Surroundings.{with_ranges}
 
@@ -70,3 +70,11 @@ length-ranges s around (h ∷ hs) = ap suc (length-ranges s (inside around h (lo
 
 pub length-nest_ranges : (s : Setting) (ls : List Loop) → length (nest_ranges s (heads_of (nest_of ls))) ≡ length ls
 length-nest_ranges s ls = length-ranges s [] (heads_of (nest_of ls)) ∙ length-heads ls
+
+-- loops with the ranges found for them, behind those around, are those around with the nest inside them
+pub nest_inside : (s : Setting) (around : Around) (hs : List Head) → around ++ with_ranges hs (ranges_inside s around hs) ≡ around_with s around hs
+nest_inside s around [] = append-nil around
+nest_inside s around (h ∷ hs) =
+    let r : Range = loop_range s around h in
+    sym (append_assoc around ((h.variable, between_ends r) ∷ []) (with_ranges hs (ranges_inside s (inside around h r) hs)))
+    ∙ nest_inside s (inside around h r) hs

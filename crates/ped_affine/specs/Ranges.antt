@@ -140,6 +140,11 @@ between_ends r = interval (int_min r.lo r.hi) (int_max r.lo r.hi)
 abbrev pub inside : Around → Head → Range → Around
 inside around h r = around ++ (h.variable, between_ends r) ∷ []
 
+-- the loops around with those of a nest inside them (ANSI X3.9-1978, section 11.10.3)
+abbrev pub around_with : Setting → Around → List Head → Around
+around_with s around [] = around
+around_with s around (h ∷ hs) = around_with s (inside around h (loop_range s around h)) hs
+
 -- the ranges of loops, each inside those before it (ANSI X3.9-1978, section 11.10.3)
 abbrev pub ranges_inside : Setting → Around → List Head → List Range
 ranges_inside s around [] = []

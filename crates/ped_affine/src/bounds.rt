@@ -64,10 +64,18 @@ pub(crate) fn bound(setting: &Setting, around: &Enclosing, e: &Expr) -> Interval
     ensures value { result ≡ bound_interval (setting_of setting.now) (around_of around.now) (expr_tree e.now) }
     ensures near { IsWithin (2 ^ 62) result }
 {
-    match part_of(setting, around, e).interval {
+    match interval_in(setting, around, e) {
         Some(r) => r,
         None => ALL,
     }
+}
+
+/// The values that an expression of bounds may have; none where a part of it leaves 2^62, or has no interval.
+pub(crate) fn interval_in(setting: &Setting, around: &Enclosing, e: &Expr) -> Option<Interval>
+    requires { length around.now.ranges.now ≤ length around.now.loops.now }
+    ensures { result ≡ interval_of (setting_of setting.now) (around_of around.now) (expr_tree e.now) }
+{
+    part_of(setting, around, e).interval
 }
 
 /// What is known of a bound or of a part of it.

@@ -16,6 +16,6 @@ mod subscripts;
 mod views;
 
 pub use assigning::{assigned, loop_variables};
-pub use ranges::range;
+pub use ranges::{interval, range};
 pub use settings::{Place, Setting};
 pub use views::view;

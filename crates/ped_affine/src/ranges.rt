@@ -1,6 +1,6 @@
 //! The ranges of DO loops (ANSI X3.9-1978, section 11.10.3).
 
-ghost use Rattle.std.specs.Prelude.{◌≡◌, ◌≢◌, ◌-◌, ◌<◌, ◌≤◌, map, take, length, pos, unsigned_abs, slice_get, Some};
+ghost use Rattle.std.specs.Prelude.{◌≡◌, ◌≢◌, [], ◌-◌, ◌<◌, ◌≤◌, map, take, length, pos, unsigned_abs, slice_get, Some};
 ghost use Rattle.ped_tree.specs.Views.{expr_tree, pack_exprs};
 ghost use Rattle.ped_refs.specs.Loops.{nest_of};
 ghost use Rattle.ped_tree.specs.Views.{head_of};
@@ -10,12 +10,12 @@ ghost use Rattle.ped_affine.specs.PairViews.{heads_of};
 ghost use Rattle.ped_affine.specs.Arguments.{setting_of};
 ghost use Rattle.ped_affine.specs.Surroundings.{around_of};
 
-use crate::bounds::{Enclosing, bound};
+use crate::bounds::{Enclosing, bound, interval_in};
 use crate::settings::Setting;
 use ped_refs::Loop;
 use ped_tree::constants::{Consts, constant};
 use ped_tree::{Do, Expr};
-use ped_views::LoopRange;
+use ped_views::{Interval, LoopRange};
 
 /// A range for a place in which none is found yet.
 pub(crate) const NO_RANGE: LoopRange = LoopRange {
@@ -36,6 +36,21 @@ pub fn range(setting: &Setting, nest: &[Loop], level: usize) -> LoopRange
     let mut ranges = [NO_RANGE; 6];
     find_ranges(setting, nest, &mut ranges);
     ranges[level - 1]
+}
+
+/// The values that an expression of bounds may have inside the loops of a nest, the outermost first; none where a part of
+/// it leaves 2^62 or has no interval, as a quotient that isn't constant. It takes no memory. At most six loops stand in a nest.
+pub fn interval(setting: &Setting, nest: &[Loop], e: &Expr) -> Option<Interval>
+    requires { length nest.now ≤ 6 }
+    ensures { result ≡ Spec.interval_of (setting_of setting.now) (Spec.around_with (setting_of setting.now) [] (heads_of (nest_of nest.now))) (expr_tree e.now) }
+{
+    let mut ranges = [NO_RANGE; 6];
+    find_ranges(setting, nest, &mut ranges);
+    let around = Enclosing {
+        loops: nest,
+        ranges: &ranges[..nest.len()],
+    };
+    interval_in(setting, &around, e)
 }
 
 /// Finds the ranges of the loops of a nest, the outermost first, and puts them at the front of the list.

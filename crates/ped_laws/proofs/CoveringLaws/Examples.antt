@@ -10,7 +10,8 @@ use Rattle.ped_eval.specs.Loops.{iteration_count}
 use Rattle.ped_flow.specs.ped_affine.specs.Ranges.{Setting, nest_ranges, interval_of}
 use Rattle.ped_flow.specs.ped_affine.specs.AffineForms.{form, affine_of}
 use Rattle.ped_laws.specs.Covering.Within.{is_storing}
-use Rattle.ped_laws.specs.Covering.Nested.{StandsIn, loop, around_with}
+use Rattle.ped_laws.specs.Covering.Nested.{StandsIn, loop}
+use Rattle.ped_flow.specs.ped_affine.specs.Ranges.{around_with}
 use Rattle.ped_laws.specs.Covering.Weights.{first_values, form_value}
 use Rattle.ped_laws.specs.Covering.Together.{StandTogether, indices_among, AgreeOnOthers}
 

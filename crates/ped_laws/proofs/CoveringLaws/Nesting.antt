@@ -21,7 +21,8 @@ use Rattle.ped_eval.specs.Loops.{Limits, limits, entered_with, frame, value_in}
 use Rattle.ped_flow.specs.ped_affine.specs.Ranges.{Setting, Around, any_value, variable_by, loop_range, between_ends, inside, ranges_inside}
 use Rattle.ped_flow.specs.ped_affine.specs.PairViews.{heads_of}
 use Rattle.ped_laws.specs.Covering.Within.{AreWithin, is_storing, HoldsStorable}
-use Rattle.ped_laws.specs.Covering.Nested.{AreIterations, Match, Surround, around_with, IsInNest, loop}
+use Rattle.ped_laws.specs.Covering.Nested.{AreIterations, Match, Surround, IsInNest, loop}
+use Rattle.ped_flow.specs.ped_affine.specs.Ranges.{around_with}
 use Rattle.ped_laws.proofs.CoveringLaws.Comings.{some_one}
 use Rattle.ped_laws.proofs.CoveringLaws.Parts.{storable_lies}
 use Rattle.ped_laws.proofs.CoveringLaws.LoopRanges.{value_in_range}

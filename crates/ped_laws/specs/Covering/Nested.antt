@@ -11,7 +11,7 @@ use Rattle.ped_flow.specs.ped_tree.specs.Tree.{Head}
 use Rattle.ped_eval.specs.ped_store.specs.Acts.{Turn}
 use Rattle.ped_eval.specs.Scopes as run
 use Rattle.ped_eval.specs.Scopes.{Scope, turns_of, index_value}
-use Rattle.ped_flow.specs.ped_affine.specs.Ranges.{Setting, Around, inside, loop_range, nest_ranges}
+use Rattle.ped_flow.specs.ped_affine.specs.Ranges.{Setting, Around, around_with, nest_ranges}
 use Rattle.ped_flow.specs.ped_affine.specs.PairViews.{heads_of}
 
 -- each iteration is one of the DO at its level, and its value lies in the range at that level; there are as many of each (this project)
@@ -37,11 +37,6 @@ Match None (Some r) = ⊥
 -- the loops around are those of the iterations, by their variables: each name that is the variable of one has a value in its interval, and no other name has either (this project)
 abbrev pub Surround : Around → Scope → Type 0
 Surround around scope = (x : List ℕ) → Match (index_value scope x) (lookup (is_same_text x) around)
-
--- the loops around with those of a nest inside them (ANSI X3.9-1978, section 11.10.3)
-abbrev pub around_with : Setting → Around → List Head → Around
-around_with s around [] = around
-around_with s around (h ∷ hs) = around_with s (inside around h (loop_range s around h)) hs
 
 -- a place of a run in a nest: its iterations are those of the nest's loops, outermost first, each at a value in its range; and they tell the values of the variables of these loops, and of no other (ANSI X3.9-1978, section 11.10; this project)
 pub record IsInNest (s : Setting) (p : run.Setting) (nest : List Loop) (scope : Scope) : Type 0 where

@@ -12,7 +12,8 @@ ghost use Rattle.ped_eval.specs.Loops.{Limits, limits, Entered, entered_with, fr
 ghost use Rattle.ped_flow.specs.ped_affine.specs.Ranges.{Setting, Around};
 ghost use Rattle.ped_flow.specs.ped_affine.specs.PairViews.{heads_of};
 ghost use Rattle.ped_laws.specs.Covering.Within.{AreWithin, HoldsStorable};
-ghost use Rattle.ped_laws.specs.Covering.Nested.{Surround, around_with, IsInNest, loop};
+ghost use Rattle.ped_laws.specs.Covering.Nested.{Surround, IsInNest, loop};
+ghost use Rattle.ped_flow.specs.ped_affine.specs.Ranges.{around_with};
 
 /// What can be read lies in its interval where the loops around are those of the iterations, and elements and scalars
 /// that are the variable of no DO hold storable numbers.

@@ -9,3 +9,7 @@ pub mod PastedRuns
 pub mod TheirCopies
 pub mod RunStores
 pub mod StandingParts
+pub mod NestsRound
+pub mod ToldPlaces
+pub mod EnteredRanges
+pub mod ExecutedDuring

@@ -5,3 +5,4 @@ pub mod Pasting
 pub mod Meaning
 pub mod Numbers
 pub mod Statements
+pub mod Places

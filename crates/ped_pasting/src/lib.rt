@@ -7,6 +7,7 @@ mod copies;
 mod executions;
 mod meaning;
 mod numbers;
+mod places;
 mod statements;
 mod stores;
 
@@ -15,5 +16,6 @@ pub use executions::{executions_pasted, parts_stand};
 pub use meaning::{exchanged_keeps, suiting_sets};
 pub use numbers::numbers_kept;
 pub use ped_steps;
+pub use places::{executed_during, places_tell, ranges_entered};
 pub use statements::statement_gives_way;
 pub use stores::stores_hold_storable;

@@ -6,3 +6,4 @@ pub mod Meaning
 pub mod Numbers
 pub mod Statements
 pub mod Places
+pub mod OtherCopies

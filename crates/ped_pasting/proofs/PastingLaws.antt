@@ -13,3 +13,8 @@ pub mod NestsRound
 pub mod ToldPlaces
 pub mod EnteredRanges
 pub mod ExecutedDuring
+pub mod NearPlaces
+pub mod ActNumbers
+pub mod FilledIndices
+pub mod PastedLoops
+pub mod ExitsStand

@@ -1,15 +1,17 @@
 -- Cut and paste where a step brings a name into PARALLEL DO loops round the statements, or takes it away: their iterations have other copies then (ParaScope; this project).
 use Rattle.std.specs.Prelude.{◌≡◌, ℕ, ◌+◌, ◌<◌, ◌≤◌, List, [], ◌∷◌, ◌++◌, Bool, true, false, ◌⊎◌}
+use Rattle.std.specs.Str.Lines.{lines}
+use Rattle.std.specs.List.{flat_map}
 use Rattle.ped_steps.specs.ped_flow.specs.ped_base.specs.Lists.{is_among}
 use Rattle.ped_tree.specs.Tree.{Head, StmtTrees, ProgramTree}
-use Rattle.ped_tree.specs.NamesIn.{stmts_names, all_loop_variables}
+use Rattle.ped_tree.specs.NamesIn.{stmts_names, all_loop_variables, saved_in}
 use Rattle.ped_tree.specs.Numbering.{statement_count, statements_count}
 use Rattle.ped_steps.specs.ped_laws.specs.ped_store.specs.Cells.{Cell}
-use Rattle.ped_steps.specs.ped_laws.specs.ped_store.specs.Stores.{Store}
+use Rattle.ped_steps.specs.ped_laws.specs.ped_store.specs.Stores.{Store, store_at_start}
 use Rattle.ped_steps.specs.ped_laws.specs.ped_store.specs.Acts.{Touch, Step, Act}
 use Rattle.ped_steps.specs.ped_laws.specs.Acts.Fitting.{store_after}
 use Rattle.ped_steps.specs.ped_laws.specs.Acts.Orders.{IsIn}
-use Rattle.ped_steps.specs.ped_laws.specs.Acts.Pieces.{Part, StandsFor}
+use Rattle.ped_steps.specs.ped_laws.specs.Acts.Pieces.{Part, old_parts, new_parts, StandsFor}
 use Rattle.ped_steps.specs.ped_laws.specs.FlowRuns.Covering.{some_stop}
 use Rattle.ped_steps.specs.ped_laws.specs.FlowRuns.Exits.{is_exit, IsOneToOne}
 use Rattle.ped_steps.specs.ped_laws.specs.Runs.Replaying.{act, goes_on, finish_of, Replays}
@@ -19,9 +21,15 @@ use Rattle.ped_steps.specs.ped_laws.specs.ped_eval.specs.Scopes.{Setting, Scope,
 use Rattle.ped_steps.specs.ped_laws.specs.ped_eval.specs.Evaluation.{Seen}
 use Rattle.ped_steps.specs.ped_laws.specs.ped_eval.specs.Loops.{Limits, entered_with, frame, undefined_all}
 use Rattle.ped_steps.specs.ped_laws.specs.ped_eval.specs.Runs.{Run, run_all}
+use Rattle.ped_steps.specs.ped_laws.specs.ped_eval.specs.Outcomes.{setting_of, run_of, live_names, IsRaceFree}
+use Rattle.ped_steps.specs.ped_laws.specs.ped_graph.specs.ped_symbols.specs.Kinds.{kind_in}
+use Rattle.ped_steps.specs.ped_laws.specs.ped_store.specs.Races.{accesses, HasNoRace}
+use Rattle.ped_steps.specs.ped_laws.specs.Runs.Showing.{shown_at_end}
+use Rattle.ped_steps.specs.Runs.Renumbering.{IsToldBack, renumbered}
 use Rattle.ped_steps.specs.Runs.Gaps.{Gap, at_front, past, in_then, in_else, in_body, filled, number_at}
 use Rattle.ped_steps.specs.Runs.Pasting.{AgreeInBounds, is_in_parallel}
 use Rattle.ped_pasting.specs.Executions.{IsExecuted}
+use Rattle.ped_pasting.specs.Meaning.{SuitEnds}
 use Rattle.ped_pasting.specs.Pasting.{CountAlike, AreChangedBy}
 
 -- two places in the same iterations, which tell the same values of DO variables: a scalar stands for the same cell at both, but for these names, and what one of them stands for at the first place stands apart where it is another cell at the second (ParaScope; this project)
@@ -127,8 +135,34 @@ abbrev pub StandNear : (agreed : List Act → Cell → Bool) (names : List (List
 StandNear agreed names apart p t start l count piece fresh = OfExecutionsNear names apart p t start l count piece λ scope other behind u.
     StandsFor (record { agreed = agreed ((piece scope u).acts ++ behind); old = (piece scope u).acts; new = fresh scope other u }) (agreed behind) u
 
--- behind each exit of a PARALLEL DO round the statements nothing is asked of what one of these names stands for there, where the exit makes it undefined in one of the two programs (ParaScope; this project)
+-- in both programs the exit makes undefined what the name stands for, which is one cell (ParaScope; this project)
+abbrev pub IsUndefinedInBoth : {names : List (List ℕ)} {apart : Cell → Bool} {p : Setting} {t : ProgramTree} {start : Store} {l : ℕ} {front behind : List Act} {u : Store} {old new : List Act} → IsOtherExit names apart p t start l front behind u old new → List ℕ → Type 0
+IsUndefinedInBoth e x = (is_among x e.undefined ≡ true) × (is_among x e.undefined_now ≡ true) × (cell_of e.other x ≡ cell_of e.scope x)
+
+-- behind each exit of a PARALLEL DO round the statements nothing is asked of what one of these names stands for there, where the exit makes it undefined in one of the two programs alone (ParaScope; this project)
 abbrev pub AskNothing : (agreed : List Act → Cell → Bool) (names : List (List ℕ)) (apart : Cell → Bool) (p : Setting) (t : ProgramTree) (start : Store) (l : ℕ) → Type 0
 AskNothing agreed names apart p t start l =
     (front behind : List Act) (u : Store) (old new : List Act) → (e : IsOtherExit names apart p t start l front behind u old new) → (x : List ℕ) → is_among x names ≡ true
-    → (is_among x e.undefined ≡ true → agreed behind (cell_of e.scope x) ≡ false) × (is_among x e.undefined_now ≡ true → agreed behind (cell_of e.other x) ≡ false)
+    → IsUndefinedInBoth e x ⊎ ((is_among x e.undefined ≡ true → agreed behind (cell_of e.scope x) ≡ false) × (is_among x e.undefined_now ≡ true → agreed behind (cell_of e.other x) ≡ false))
+
+-- where the old acts of a run have no race, the list with the new ones has none (ParaScope; this project)
+abbrev pub RaceFreeNear : (names : List (List ℕ)) (apart : Cell → Bool) (p : Setting) (t : ProgramTree) (start : Store) (l count : ℕ) (piece : Scope → Store → Run) (fresh : (scope other : Scope) → Store → List Act) → Type 0
+RaceFreeNear names apart p t start l count piece fresh =
+    (parts : List Part) → old_parts parts ≡ (run_all p t.body 1 [] start).acts → AreExchangedNear names apart p t start l count piece fresh [] parts [] start → HasNoRace (accesses (old_parts parts)) → HasNoRace (accesses (new_parts parts))
+
+-- a program in which statements are exchanged for others, where names come into PARALLEL DO loops round them, or go, and what a step shows of it: the same as where none does; and that other statements leave alone what stands apart, and nobody asks for it behind the exits of these loops (ParaScope; this project)
+pub record IsExchangeNear (names : List (List ℕ)) (apart : Cell → Bool) (gap : Gap) (old new : StmtTrees) (t u : ProgramTree) : Type 0 where
+  pub saved : flat_map saved_in u.decls ≡ flat_map saved_in t.decls
+  pub kinds : (x : List ℕ) → is_among x (live_names t) ≡ true → kind_in u x ≡ kind_in t x
+  pub counted : ℕ → ℕ
+  pub told : ℕ → ℕ
+  pub back : IsToldBack counted told
+  pub pasted : IsPastedBut names apart (setting_of t) (renumbered counted (setting_of u)) gap old new t u
+  pub quiet : (data_bytes : List ℕ) → IsRaceFree t data_bytes → LeaveApart apart (setting_of t) t (number_at gap 1) (statements_count old) (run_of t data_bytes).acts
+  pub agreed : List ℕ → List Act → Cell → Bool
+  pub suit : (data_bytes : List ℕ) → SuitEnds (shown_at_end t) (agreed data_bytes)
+  pub asked : (data_bytes : List ℕ) → IsRaceFree t data_bytes → AskNothing (agreed data_bytes) names apart (setting_of t) t (store_at_start (lines data_bytes)) (number_at gap 1)
+  pub fresh : List ℕ → (scope other : Scope) → Store → List Act
+  pub instead : (data_bytes : List ℕ) → IsRaceFree t data_bytes → DoNear names apart (setting_of t) (renumbered counted (setting_of u)) t (store_at_start (lines data_bytes)) (number_at gap 1) (statements_count old) (run_all (setting_of t) old (number_at gap 1)) new (fresh data_bytes)
+  pub stand : (data_bytes : List ℕ) → IsRaceFree t data_bytes → StandNear (agreed data_bytes) names apart (setting_of t) t (store_at_start (lines data_bytes)) (number_at gap 1) (statements_count old) (run_all (setting_of t) old (number_at gap 1)) (fresh data_bytes)
+  pub free : (data_bytes : List ℕ) → IsRaceFree t data_bytes → RaceFreeNear names apart (setting_of t) t (store_at_start (lines data_bytes)) (number_at gap 1) (statements_count old) (run_all (setting_of t) old (number_at gap 1)) (fresh data_bytes)

@@ -16,7 +16,7 @@ pub use copies::copies_inside;
 pub use executions::{executions_pasted, parts_stand};
 pub use meaning::{exchanged_keeps, suiting_sets};
 pub use numbers::numbers_kept;
-pub use other_copies::{executions_pasted_near, exchanged_near_keeps, parts_stand_near};
+pub use other_copies::{exchanged_near_keeps, executions_pasted_near, parts_stand_near};
 pub use ped_steps;
 pub use places::{executed_during, places_tell, ranges_entered};
 pub use statements::statement_gives_way;

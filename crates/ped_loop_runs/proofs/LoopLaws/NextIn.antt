@@ -1,12 +1,12 @@
 -- The loops round the first statement in a DO are those round the DO, and it. The paths to the outermost DO round both are the same.
-use Rattle.std.proofs.Common.{◌≡◌, ℕ, ◌+◌, ◌<◌, ◌≤◌, List, [], ◌∷◌, ◌++◌, inl, inr, refl, sym, ap, subst, ◌∙◌, arith, append-nil}
-use Rattle.ped_laws.specs.ped_flow.specs.ped_tree.specs.Tree.{CondTree, Head, StmtTree, StmtTrees, Assign, If, Do, Print, Read, Stop, Comment, no_stmts, more_stmts, ProgramTree}
+use Rattle.std.proofs.Common.{◌≡◌, ℕ, ◌+◌, ◌<◌, ◌≤◌, List, [], ◌∷◌, ◌++◌, inl, inr, sym, ap, subst, ◌∙◌, arith, append-nil}
+use Rattle.ped_laws.specs.ped_flow.specs.ped_tree.specs.Tree.{Head, StmtTree, StmtTrees, Assign, If, Do, Print, Read, Stop, Comment, no_stmts, more_stmts, ProgramTree}
 use Rattle.ped_laws.specs.ped_flow.specs.ped_tree.specs.Accesses.{constant_names}
 use Rattle.ped_laws.specs.ped_flow.specs.ped_tree.specs.Nests.{Loop}
 use Rattle.ped_laws.specs.ped_flow.specs.ped_tree.specs.Numbering.{statement_count, statements_count}
 use Rattle.ped_laws.specs.ped_flow.specs.Events.{Event}
 use Rattle.ped_laws.specs.ped_flow.specs.Paths.{paths_before, all_paths_before}
-use Rattle.ped_laws.specs.ped_flow.specs.PlainBounds.{loops_round, all_loops_round, nest_round}
+use Rattle.ped_laws.specs.ped_flow.specs.PlainBounds.{all_loops_round}
 use Rattle.ped_laws.specs.ped_flow.specs.Questions.{LoopOf, IsAssignedBefore}
 use Rattle.ped_laws.specs.Covering.Nested.{loop}
 use Rattle.ped_steps.specs.Replacing.{alone, program_with}
@@ -44,9 +44,9 @@ module _ (l : ℕ) (h : Head) (b : StmtTrees) where
       let room = number_room gap it (n + 1) in
       let deeper = nest_filled some gap (n + 1) e in
       let next = first_alone (all_loops_round (l + 1) a (n + 1)) (all_loops_round (l + 1) other (n + 1 + statements_count a)) (all_loops_round (l + 1) rest (n + statement_count (If c a other)))
-          (all_none_from (l + 1) other (n + 1 + statements_count a) (omega (arith, room, e, some))) (all_none_from (l + 1) rest (n + statement_count (If c a other)) (omega (arith, room, e, some))) in
+      (all_none_from (l + 1) other (n + 1 + statements_count a) (omega (arith, room, e, some))) (all_none_from (l + 1) rest (n + statement_count (If c a other)) (omega (arith, room, e, some))) in
       let here = first_alone (all_loops_round l a (n + 1)) (all_loops_round l other (n + 1 + statements_count a)) (all_loops_round l rest (n + statement_count (If c a other)))
-          (all_none_from l other (n + 1 + statements_count a) (omega (arith, room, e))) (all_none_from l rest (n + statement_count (If c a other)) (omega (arith, room, e))) in
+      (all_none_from l other (n + 1 + statements_count a) (omega (arith, room, e))) (all_none_from l rest (n + statement_count (If c a other)) (omega (arith, room, e))) in
       next ∙ (deeper ∙ ap (λ (ls : List Loop). ls ++ loop l h ∷ []) (sym here))
   nest_filled some (in_else c other gap rest) n e =
       let a = filled gap it in
@@ -54,9 +54,9 @@ module _ (l : ℕ) (h : Head) (b : StmtTrees) where
       let room = number_room gap it (n + 1 + statements_count other) in
       let deeper = nest_filled some gap (n + 1 + statements_count other) e in
       let next = second_alone (all_loops_round (l + 1) other (n + 1)) (all_loops_round (l + 1) a (n + 1 + statements_count other)) (all_loops_round (l + 1) rest (n + statement_count (If c other a)))
-          (all_none_before (l + 1) other (n + 1) (omega (arith, from, e))) (all_none_from (l + 1) rest (n + statement_count (If c other a)) (omega (arith, room, e, some))) in
+      (all_none_before (l + 1) other (n + 1) (omega (arith, from, e))) (all_none_from (l + 1) rest (n + statement_count (If c other a)) (omega (arith, room, e, some))) in
       let here = second_alone (all_loops_round l other (n + 1)) (all_loops_round l a (n + 1 + statements_count other)) (all_loops_round l rest (n + statement_count (If c other a)))
-          (all_none_before l other (n + 1) (omega (arith, from, e))) (all_none_from l rest (n + statement_count (If c other a)) (omega (arith, room, e))) in
+      (all_none_before l other (n + 1) (omega (arith, from, e))) (all_none_from l rest (n + statement_count (If c other a)) (omega (arith, room, e))) in
       next ∙ (deeper ∙ ap (λ (ls : List Loop). ls ++ loop l h ∷ []) (sym here))
   nest_filled some (in_body g gap rest) n e =
       let a = filled gap it in
@@ -120,10 +120,16 @@ module _ (constants : List (List ℕ)) (l m : ℕ) (h : Head) (b : StmtTrees) (f
       let a = filled gap one in
       let room = number_room gap one (n + 1) in
       elim p [
-        | inl q ↦ inl (q.0, q.1, q.2, q.3, elim q.4 [
-          | inl z ↦ inl (paths_filled gap (n + 1) e q.1 z)
-          | inr z ↦ absurd (none_leads_back_in constants l other (n + 1 + statements_count a) q.1 (omega (arith, room, e)) z)
-        ])
+        | inl q ↦ inl (
+          q.0,
+          q.1,
+          q.2,
+          q.3,
+          elim q.4 [
+            | inl z ↦ inl (paths_filled gap (n + 1) e q.1 z)
+            | inr z ↦ absurd (none_leads_back_in constants l other (n + 1 + statements_count a) q.1 (omega (arith, room, e)) z)
+          ],
+        )
         | inr r ↦ absurd (none_leads_back_in constants l rest (n + statement_count (If c a other)) r.1 (omega (arith, room, e)) r.4)
       ]
   paths_filled (in_else c other gap rest) n e path p =
@@ -131,10 +137,16 @@ module _ (constants : List (List ℕ)) (l m : ℕ) (h : Head) (b : StmtTrees) (f
       let earlier = number_from gap (n + 1 + statements_count other) in
       let room = number_room gap one (n + 1 + statements_count other) in
       elim p [
-        | inl q ↦ inl (q.0, q.1, q.2, q.3, elim q.4 [
-          | inl z ↦ absurd (none_leads_on_in constants l other (n + 1) q.1 (omega (arith, earlier, e)) z)
-          | inr z ↦ inr (paths_filled gap (n + 1 + statements_count other) e q.1 z)
-        ])
+        | inl q ↦ inl (
+          q.0,
+          q.1,
+          q.2,
+          q.3,
+          elim q.4 [
+            | inl z ↦ absurd (none_leads_on_in constants l other (n + 1) q.1 (omega (arith, earlier, e)) z)
+            | inr z ↦ inr (paths_filled gap (n + 1 + statements_count other) e q.1 z)
+          ],
+        )
         | inr r ↦ absurd (none_leads_back_in constants l rest (n + statement_count (If c other a)) r.1 (omega (arith, room, e)) r.4)
       ]
   paths_filled (in_body g gap rest) n e path p =

@@ -1,5 +1,5 @@
 -- A plain bound that doesn't name the variable of the loop round it is plain one loop further out, and has the same interval there.
-use Rattle.std.proofs.Common.{◌≡◌, ℕ, ℤ, List, [], ◌∷◌, ◌++◌, Bool, true, false, cond, ◌||◌, ◌⊎◌, inl, inr, Option, Some, None, IsTrue, refl, sym, ap, subst, ◌∙◌, if◌then◌else◌}
+use Rattle.std.proofs.Common.{◌≡◌, ℕ, ℤ, List, [], ◌∷◌, ◌++◌, Bool, true, false, cond, ◌||◌, inl, inr, Option, Some, None, IsTrue, refl, sym, ap, subst, ◌∙◌, if◌then◌else◌}
 use Rattle.std.specs.Map.{lookup}
 use Rattle.std.specs.Str.Lines.{lines}
 use Rattle.std.proofs.lemmas.Bool.{or_parts}
@@ -10,7 +10,7 @@ use Rattle.ped_laws.specs.ped_flow.proofs.Truths.{untrue}
 use Rattle.ped_laws.specs.ped_graph.specs.ped_views.specs.declared.intervals.Interval.{Interval}
 use Rattle.ped_laws.specs.ped_graph.specs.ped_symbols.specs.NameRefusals.{IsValid}
 use Rattle.ped_laws.specs.ped_flow.specs.ped_affine.specs.IntervalArithmetic.{interval_sum, interval_difference, interval_negation, interval_product}
-use Rattle.ped_laws.specs.ped_flow.specs.ped_affine.specs.Ranges.{Setting, Around, kept_near, constant_or, of_one, of_two, variable_by, onto, call_interval, interval_of, intervals_of, near_or_all, bound_interval, loop_range, between_ends, inside}
+use Rattle.ped_laws.specs.ped_flow.specs.ped_affine.specs.Ranges.{Setting, Around, constant_or, of_one, of_two, variable_by, onto, call_interval, interval_of, intervals_of, near_or_all, bound_interval, loop_range, between_ends, inside}
 use Rattle.ped_laws.specs.ped_flow.specs.ped_tree.specs.Tree.{ExprTree, ExprTrees, Int, Var, Element, Neg, Add, Sub, Mul, Div, Pow, Call, no_exprs, more_exprs, ProgramTree}
 use Rattle.ped_laws.specs.ped_flow.specs.ped_tree.specs.NamesIn.{expr_names, exprs_names, all_loop_variables}
 use Rattle.ped_laws.specs.ped_flow.specs.ped_tree.specs.Nests.{Loop, indices_of}

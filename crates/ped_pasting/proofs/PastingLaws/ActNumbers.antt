@@ -8,10 +8,10 @@ use Rattle.ped_steps.specs.ped_laws.specs.ped_store.specs.Acts.{Touch, Step, Act
 use Rattle.ped_steps.specs.ped_laws.specs.FlowRuns.Exits.{is_exit}
 use Rattle.ped_steps.specs.ped_laws.specs.Runs.Replaying.{act}
 use Rattle.ped_steps.specs.ped_laws.specs.ped_eval.specs.Scopes.{Setting, Frame, Scope, names_in, place_of}
-use Rattle.ped_steps.specs.ped_laws.specs.ped_eval.specs.Evaluation.{Seen, numbered as numbered_reads}
+use Rattle.ped_steps.specs.ped_laws.specs.ped_eval.specs.Evaluation.{numbered as numbered_reads}
 use Rattle.ped_steps.specs.ped_laws.specs.ped_eval.specs.Values.{truth}
 use Rattle.ped_steps.specs.ped_laws.specs.ped_eval.specs.Statements.{Taking, assigned, printed_line, reading}
-use Rattle.ped_steps.specs.ped_laws.specs.ped_eval.specs.Loops.{Limits, limits, Entered, entered_with, frame, exit_touches, exit_when_none, entry_touches}
+use Rattle.ped_steps.specs.ped_laws.specs.ped_eval.specs.Loops.{limits, Entered, entered_with, frame, exit_touches, exit_when_none, entry_touches}
 use Rattle.ped_steps.specs.ped_laws.specs.ped_eval.specs.Runs.{Run, nothing_done, does, run_taking, turns, parallel_turns, run_entered, run, run_all}
 use Rattle.ped_steps.specs.ped_laws.proofs.FlowRunLaws.Standing.{Stand, first_stands, rest_stands, inner_stands, else_stands, is_there}
 use Rattle.ped_steps.specs.ped_laws.proofs.RunLaws.Touches.{Each, each_none, each_more, then_each, does_each, on_each, any_result}

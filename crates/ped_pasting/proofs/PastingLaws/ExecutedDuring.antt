@@ -1,7 +1,6 @@
 -- What is done in a DO, or by it, is done while the outermost DO is executed.
 use Rattle.std.proofs.Common.{◌≡◌, ℕ, List, [], ◌∷◌, ◌++◌, Result, Ok, Err, Some, refl, sym, ap, subst, ◌∙◌, append_assoc, append-nil, arith, ◌≤◌, ◌+◌}
 use Rattle.ped_tree.specs.Tree.{Head, StmtTrees, Do, ProgramTree}
-use Rattle.ped_tree.specs.Nests.{Loop}
 use Rattle.ped_tree.specs.Numbering.{statement_with, statements_count}
 use Rattle.ped_steps.specs.ped_laws.specs.ped_flow.specs.PlainBounds.{nest_round, outermost_or}
 use Rattle.ped_steps.specs.ped_laws.specs.ped_flow.specs.Questions.{LoopOf}
@@ -17,7 +16,7 @@ use Rattle.ped_steps.specs.ped_laws.specs.FlowRuns.Entries.{IsEntry}
 use Rattle.ped_steps.specs.ped_laws.specs.Plain.Executions.{IsDuring}
 use Rattle.ped_steps.specs.ped_laws.specs.Runs.Replaying.{act}
 use Rattle.ped_steps.specs.ped_laws.proofs.ActLaws.Stores.{after_append}
-use Rattle.ped_steps.specs.Runs.Pasting.{IsPlaceOf, IsPartOf, IsInExecution, IsDone}
+use Rattle.ped_steps.specs.Runs.Pasting.{IsPlaceOf, IsPartOf, IsDone}
 use Rattle.ped_pasting.specs.Places.{AreDuring}
 use Rattle.ped_pasting.proofs.PastingLaws.ToldPlaces.{no_turns}
 

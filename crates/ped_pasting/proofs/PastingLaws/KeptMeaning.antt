@@ -228,6 +228,6 @@ module _ (gap : Gap) (old new : StmtTrees) (t u : ProgramTree) where
     where
       made : (data_bytes : List ℕ) → IsRaceFree t data_bytes
           → (parts : List Part) × (old_parts parts ≡ (run_of t data_bytes).acts) × AreExchangedNear names apart (setting_of t) t (from data_bytes) l (statements_count old) (run_all (setting_of t) old l) (x.fresh data_bytes) [] parts [] (from data_bytes)
-            × Replays (run_all (renumbered x.counted (setting_of u)) u.body 1 []) (new_parts parts) (finish_of (run_of t data_bytes).ending)
+          × Replays (run_all (renumbered x.counted (setting_of u)) u.body 1 []) (new_parts parts) (finish_of (run_of t data_bytes).ending)
       made data_bytes free =
           exchanged_near names apart (setting_of t) (renumbered x.counted (setting_of u)) gap old new t u (from data_bytes) (x.fresh data_bytes) x.pasted (x.quiet data_bytes free) (x.instead data_bytes free) free.0

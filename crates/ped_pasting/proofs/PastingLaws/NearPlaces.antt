@@ -1,5 +1,5 @@
 -- Two places in the same iterations, at which some names stand for other cells: what leaves these cells alone is done alike at both.
-use Rattle.std.proofs.Common.{◌≡◌, ℕ, suc, ◌+◌, ◌<◌, ◌≤◌, List, [], ◌∷◌, ◌++◌, map, length, Bool, true, false, eqb, Some, Result, Ok, inl, inr, ◌⊎◌, refl, sym, ap, subst, ◌∙◌, arith, if◌then◌else◌}
+use Rattle.std.proofs.Common.{◌≡◌, ℕ, suc, ◌+◌, ◌<◌, List, [], ◌∷◌, ◌++◌, map, length, Bool, true, false, eqb, Some, Ok, inl, inr, ◌⊎◌, refl, sym, ap, subst, ◌∙◌, arith, if◌then◌else◌}
 use Rattle.std.specs.Prelude.{◌||◌}
 use Rattle.std.proofs.lemmas.Bool.{both_ways, or_right}
 use Rattle.ped_steps.specs.ped_flow.specs.ped_base.specs.Lists.{is_same_text, is_among}
@@ -23,7 +23,7 @@ use Rattle.ped_steps.specs.ped_laws.proofs.RunLaws.SeenCells.{AllSeen, truth_see
 use Rattle.ped_steps.specs.ped_laws.proofs.RunLaws.Sight.{truth_told, limits_told}
 use Rattle.ped_steps.specs.ped_laws.proofs.RunLaws.StatementsTold.{run_told}
 use Rattle.ped_steps.specs.ped_laws.proofs.RunLaws.Touches.{Each}
-use Rattle.ped_steps.specs.Runs.Exchanging.{IsExchange, AreExchanged, exchanged_store, exchanged_touch, exchanged_act, exchanged_acts, exchanged_run, is_of_scalar, swapped}
+use Rattle.ped_steps.specs.Runs.Exchanging.{IsExchange, AreExchanged, exchanged_store, exchanged_touch, exchanged_acts, exchanged_run, is_of_scalar, swapped}
 use Rattle.ped_steps.proofs.RunLaws.ExchangedRuns.{run_in}
 use Rattle.ped_steps.proofs.RunLaws.ExchangedSight.{seen_in, seeing, itself, names_exchanged, truth_in, limits_in}
 use Rattle.ped_steps.proofs.RunLaws.Replayed.{same_finish, replays_in}
@@ -138,7 +138,7 @@ module _ (S T : Scope) where
     near_exchanged = record { turns = turns; index = index; cell = λ x. sym (near_cell x); inside = near_inside }
 
     deep_stays : (c : Cell) → length (turns_of S) < cell_depth c → near_name S T c ≡ c
-      deep_stays (Private x path) less = near_inside x path less
+    deep_stays (Private x path) less = near_inside x path less
     deep_stays (Scalar x) less = absurd (omega (arith, less))
     deep_stays (Element x js) less = refl
     deep_stays In less = refl

@@ -1,10 +1,10 @@
 -- The DO loops round a statement stand in the program, and all of them in the outermost one. In a valid program their increments are right, and none has the variable of one round it.
-use Rattle.std.proofs.Common.{◌≡◌, ℕ, ◌+◌, List, [], ◌∷◌, ◌++◌, Bool, true, false, ◌&&◌, ◌⊎◌, inl, inr, Some, refl, sym, ap, subst, arith, nat_le, if◌then◌else◌}
+use Rattle.std.proofs.Common.{◌≡◌, ℕ, ◌+◌, List, [], ◌∷◌, ◌++◌, Bool, true, false, ◌&&◌, ◌⊎◌, inl, inr, Some, refl, sym, subst, arith, nat_le, if◌then◌else◌}
 use Rattle.std.specs.Prelude.{nat_lt}
 use Rattle.std.proofs.lemmas.Bool.{cases_lt, and_parts}
 use Rattle.std.proofs.lemmas.List.{append-nil}
 use Rattle.ped_steps.specs.ped_flow.specs.ped_base.specs.Lists.{is_among}
-use Rattle.ped_tree.specs.Tree.{CondTree, Head, StmtTree, StmtTrees, Assign, If, Do, Print, Read, Stop, Comment, no_stmts, more_stmts, ProgramTree}
+use Rattle.ped_tree.specs.Tree.{Head, StmtTree, StmtTrees, Assign, If, Do, Print, Read, Stop, Comment, no_stmts, more_stmts, ProgramTree}
 use Rattle.ped_tree.specs.Nests.{Loop}
 use Rattle.ped_tree.specs.Numbering.{numbered, all_numbered, statement_with, statement_count, statements_count}
 use Rattle.ped_tree.specs.Grammar.Fits.{Surroundings, moved, in_if, in_loop, loop_fits, stmt_fits, stmts_fit, decls_fit, begins_with_statement, at_body}
@@ -16,7 +16,6 @@ use Rattle.ped_steps.specs.ped_laws.specs.ped_eval.specs.Outcomes.{setting_of}
 use Rattle.ped_steps.specs.ped_laws.specs.Acts.Orders.{IsIn}
 use Rattle.ped_steps.specs.ped_laws.specs.Covering.Nested.{loop}
 use Rattle.ped_steps.specs.ped_laws.specs.Plain.Executions.{IsOneOf}
-use Rattle.ped_steps.specs.ped_laws.proofs.ActLaws.Lists.{in_parts}
 use Rattle.ped_steps.specs.ped_laws.proofs.ConflictLaws.MakingSteps.{head_fits}
 use Rattle.ped_steps.specs.ped_laws.proofs.FlowRunLaws.Standing.{Stand, whole_stands, first_stands, rest_stands, inner_stands, else_stands, is_there}
 use Rattle.ped_steps.proofs.RunLaws.LoopsRound.{none_before, all_none_before, all_none_from}

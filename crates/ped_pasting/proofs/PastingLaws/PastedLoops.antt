@@ -1,47 +1,35 @@
 -- The way down to statements that are exchanged: where acts are done on it, and a DO with the gap in its body.
-use Rattle.std.proofs.Common.{◌≡◌, ℕ, zero, suc, ◌+◌, ◌-◌, ◌≤◌, ◌<◌, List, [], ◌∷◌, ◌++◌, Bool, true, false, ◌||◌, Some, Ok, inl, inr, if◌then◌else◌, refl, sym, ap, subst, ◌∙◌, arith}
+use Rattle.std.proofs.Common.{◌≡◌, ℕ, zero, suc, ◌+◌, ◌-◌, ◌≤◌, List, [], ◌∷◌, ◌++◌, Bool, true, false, ◌||◌, Some, Ok, inl, inr, refl, sym, ap, subst, ◌∙◌, arith}
 use Rattle.std.specs.List.{list_any}
 use Rattle.std.proofs.lemmas.List.{append-nil, append_assoc}
 use Rattle.std.proofs.lemmas.List.Folds.{list_any-append}
-use Rattle.ped_tree.specs.Tree.{CondTree, Head, StmtTree, StmtTrees, If, Do, no_stmts, more_stmts, ProgramTree}
+use Rattle.ped_tree.specs.Tree.{Head, StmtTree, StmtTrees, Do, no_stmts, more_stmts, ProgramTree}
 use Rattle.ped_tree.specs.Nests.{Loop}
-use Rattle.ped_tree.specs.NamesIn.{cond_names, head_names, stmt_names, stmts_names}
-use Rattle.ped_tree.specs.Numbering.{numbered, all_numbered, statement_with, statement_count, statements_count}
+use Rattle.ped_tree.specs.Numbering.{all_numbered, statement_with, statement_count, statements_count}
 use Rattle.ped_steps.specs.ped_laws.specs.ped_store.specs.Stores.{Store}
-use Rattle.ped_steps.specs.ped_laws.specs.ped_store.specs.Acts.{Act, Touch, Turn, did, entered, ended_turn, closed, store_behind}
+use Rattle.ped_steps.specs.ped_laws.specs.ped_store.specs.Acts.{Act, Touch, Turn, entered, ended_turn, closed, store_behind}
 use Rattle.ped_steps.specs.ped_laws.specs.Acts.Fitting.{store_after}
 use Rattle.ped_steps.specs.ped_laws.proofs.ActLaws.Stores.{after_append}
-use Rattle.ped_steps.specs.ped_laws.specs.Acts.Pieces.{Part, changed, old_parts, new_parts}
+use Rattle.ped_steps.specs.ped_laws.specs.Acts.Pieces.{changed}
 use Rattle.ped_steps.specs.ped_laws.specs.ped_eval.specs.Scopes.{Setting, Frame, Scope, turns_of, names_in, place_of}
-use Rattle.ped_steps.specs.ped_laws.specs.ped_eval.specs.Evaluation.{Seen, numbered as numbered_reads, number_behind}
-use Rattle.ped_steps.specs.ped_laws.specs.ped_eval.specs.Values.{truth}
-use Rattle.ped_steps.specs.ped_laws.specs.ped_eval.specs.Loops.{Limits, limits, increment, iteration_count, Entered, entered_with, frame, inner_variables, exit_touches, exit_when_none, entry_touches}
-use Rattle.ped_steps.specs.ped_laws.specs.ped_eval.specs.Runs.{Ending, going, stopped, failed, Run, nothing_done, followed_by, then_run, does, on, turns, parallel_turns, run_if, run_entered, run_from_entry, run_do, run, run_all}
+use Rattle.ped_steps.specs.ped_laws.specs.ped_eval.specs.Evaluation.{Seen}
+use Rattle.ped_steps.specs.ped_laws.specs.ped_eval.specs.Loops.{Limits, limits, Entered, entered_with, frame, exit_touches, exit_when_none, entry_touches}
+use Rattle.ped_steps.specs.ped_laws.specs.ped_eval.specs.Runs.{Ending, going, stopped, failed, Run, nothing_done, followed_by, then_run, does, on, turns, parallel_turns, run_entered, run, run_all}
 use Rattle.ped_steps.specs.ped_laws.specs.ped_eval.specs.Outcomes.{Ends}
-use Rattle.ped_steps.specs.ped_laws.specs.Runs.Replaying.{Finish, goes_on, finish_of, act, Replays, IsToldByActs}
+use Rattle.ped_steps.specs.ped_laws.specs.Runs.Replaying.{goes_on, finish_of, act}
 use Rattle.ped_steps.specs.ped_laws.proofs.RunLaws.Touches.{Each}
-use Rattle.ped_steps.specs.ped_laws.proofs.RunLaws.Told.{found_reads, found_reads_first}
-use Rattle.ped_steps.specs.ped_laws.proofs.RunLaws.Sight.{truth_told, limits_told}
-use Rattle.ped_steps.specs.ped_laws.proofs.RunLaws.StatementsTold.{parallel_told, run_told, all_told}
-use Rattle.ped_steps.specs.ped_laws.proofs.RunLaws.Numbers.{run_same, all_same}
-use Rattle.ped_steps.specs.ped_laws.specs.ped_flow.specs.PlainBounds.{loops_round, all_loops_round, nest_round, outermost_or}
-use Rattle.ped_steps.specs.ped_laws.specs.FlowRuns.Covering.{some_stop}
-use Rattle.ped_steps.specs.ped_laws.specs.FlowRuns.Exits.{IsOneToOne, AreIterationsOf}
-use Rattle.ped_steps.specs.ped_laws.proofs.FlowRunLaws.Unstopped.{IsUnstopped, all_unstopped}
-use Rattle.ped_steps.specs.ped_laws.proofs.FlowRunLaws.Standing.{Stand, whole_stands, first_stands, rest_stands, inner_stands, else_stands, is_there}
+use Rattle.ped_steps.specs.ped_laws.proofs.RunLaws.StatementsTold.{parallel_told, all_told}
+use Rattle.ped_steps.specs.ped_laws.specs.ped_flow.specs.PlainBounds.{nest_round, outermost_or}
+use Rattle.ped_steps.specs.ped_laws.specs.FlowRuns.Exits.{AreIterationsOf}
+use Rattle.ped_steps.specs.ped_laws.proofs.FlowRunLaws.Unstopped.{IsUnstopped}
+use Rattle.ped_steps.specs.ped_laws.proofs.FlowRunLaws.Standing.{Stand, inner_stands, is_there}
 use Rattle.ped_steps.specs.Replacing.{followed}
-use Rattle.ped_steps.specs.Runs.Gaps.{Gap, at_front, past, in_then, in_else, in_body, filled, number_at}
-use Rattle.ped_steps.specs.Runs.Pasting.{AgreeInBounds, AreTurnsOf, IsPlaceOf, IsPartOf, IsInExecution, IsInOutermost, is_in_parallel, HaveSameIndices}
-use Rattle.ped_steps.proofs.RunLaws.SameNames.{inner_alike}
-use Rattle.ped_steps.proofs.RunLaws.FilledGaps.{counted, number_from, number_room, count_filled, indices_filled}
-use Rattle.ped_steps.proofs.RunLaws.OwnBounds.{agree_left, agree_right, truth_same, limits_same, with_bounds, run_bounds, all_bounds}
-use Rattle.ped_steps.proofs.RunLaws.LoopsRound.{none_before, all_none_before, all_none_from, one_more}
+use Rattle.ped_steps.specs.Runs.Pasting.{AreTurnsOf, IsPlaceOf, IsPartOf, IsInExecution, IsInOutermost, is_in_parallel}
 use Rattle.ped_steps.specs.ped_laws.specs.Acts.Orders.{IsIn}
 use Rattle.ped_steps.specs.ped_laws.proofs.ActLaws.Lists.{in_right}
-use Rattle.ped_pasting.specs.Executions.{LeaveCopies, IsEntered, AreEntered, AreEnteredIn, IsExecuted}
-use Rattle.ped_pasting.specs.Pasting.{CountAlike, IsPasted, DoInstead, AreExchanged}
-use Rattle.ped_pasting.proofs.PastingLaws.JoinedParts.{IsJoined, AreJoined, joined_same, joined_nothing, joined_then, joined_act, joined_on}
-use Rattle.ped_pasting.proofs.PastingLaws.LeftCopies.{IsOwn, leave_narrow, leave_inward, leave_append, leave_none, own_leaves, run_leaves, all_leave, condition_own, entry_own, exit_own, exit_when_own, body_leaves, end_leaves, turns_leave, parallel_leave}
+use Rattle.ped_pasting.specs.Executions.{LeaveCopies, IsEntered, AreEntered, AreEnteredIn}
+use Rattle.ped_pasting.proofs.PastingLaws.JoinedParts.{AreJoined, joined_nothing, joined_then, joined_act, joined_changed}
+use Rattle.ped_pasting.proofs.PastingLaws.LeftCopies.{IsOwn, leave_narrow, leave_inward, leave_append, entry_own, exit_own, exit_when_own, body_leaves, end_leaves, turns_leave, parallel_leave}
 
 -- statements behind statements
 module _ (acts : List Act) (g : Store → Run) where

@@ -1,50 +1,44 @@
 -- A program in which statements have been exchanged for others: its run is made of that of the old one, and each execution knows what it is. Round it, the iterations of PARALLEL DO loops may have other copies.
-use Rattle.std.proofs.Common.{◌≡◌, ℕ, zero, suc, ◌+◌, ◌-◌, ◌≤◌, ◌<◌, List, [], ◌∷◌, ◌++◌, Bool, true, false, ◌||◌, Some, Ok, inl, inr, if◌then◌else◌, refl, sym, ap, subst, ◌∙◌, arith}
-use Rattle.std.specs.List.{list_any}
+use Rattle.std.proofs.Common.{◌≡◌, ℕ, suc, ◌+◌, ◌-◌, ◌≤◌, ◌<◌, List, [], ◌∷◌, ◌++◌, Bool, true, false, Some, inl, inr, if◌then◌else◌, refl, sym, ap, subst, ◌∙◌, arith}
 use Rattle.std.proofs.lemmas.List.{append-nil, append_assoc}
-use Rattle.std.proofs.lemmas.List.Folds.{list_any-append}
 use Rattle.ped_tree.specs.Tree.{CondTree, Head, StmtTree, StmtTrees, If, Do, no_stmts, more_stmts, ProgramTree}
-use Rattle.ped_tree.specs.Nests.{Loop}
 use Rattle.ped_tree.specs.NamesIn.{cond_names, head_names, stmt_names, stmts_names}
 use Rattle.ped_tree.specs.Numbering.{numbered, all_numbered, statement_with, statement_count, statements_count}
 use Rattle.ped_steps.specs.ped_laws.specs.ped_store.specs.Stores.{Store}
-use Rattle.ped_steps.specs.ped_laws.specs.ped_store.specs.Acts.{Act, Touch, Turn, did, entered, ended_turn, closed, store_behind}
+use Rattle.ped_steps.specs.ped_laws.specs.ped_store.specs.Acts.{Act, Touch, did, entered, ended_turn, closed, store_behind}
 use Rattle.ped_steps.specs.ped_laws.specs.Acts.Fitting.{store_after}
-use Rattle.ped_steps.specs.ped_laws.proofs.ActLaws.Stores.{after_append}
 use Rattle.ped_steps.specs.ped_laws.specs.Acts.Pieces.{Part, changed, old_parts, new_parts}
 use Rattle.ped_steps.specs.ped_laws.specs.ped_eval.specs.Scopes.{Setting, Frame, Scope, turns_of, names_in, place_of}
 use Rattle.ped_steps.specs.ped_laws.specs.ped_eval.specs.Evaluation.{Seen, numbered as numbered_reads, number_behind}
 use Rattle.ped_steps.specs.ped_laws.specs.ped_eval.specs.Values.{truth}
 use Rattle.ped_steps.specs.ped_laws.specs.ped_eval.specs.Loops.{Limits, limits, increment, iteration_count, Entered, entered_with, frame, inner_variables, exit_touches, exit_when_none, entry_touches}
-use Rattle.ped_steps.specs.ped_laws.specs.ped_eval.specs.Runs.{Ending, going, stopped, failed, Run, nothing_done, followed_by, then_run, does, on, turns, parallel_turns, run_if, run_entered, run_from_entry, run_do, run, run_all}
+use Rattle.ped_steps.specs.ped_laws.specs.ped_eval.specs.Runs.{going, Run, then_run, does, on, turns, run_if, run_entered, run_from_entry, run_do, run, run_all}
 use Rattle.ped_steps.specs.ped_laws.specs.ped_eval.specs.Outcomes.{Ends}
 use Rattle.ped_steps.specs.ped_laws.specs.Runs.Replaying.{Finish, goes_on, finish_of, act, Replays, IsToldByActs}
 use Rattle.ped_steps.specs.ped_laws.proofs.RunLaws.Touches.{Each}
 use Rattle.ped_steps.specs.ped_laws.proofs.RunLaws.Told.{found_reads, found_reads_first}
-use Rattle.ped_steps.specs.ped_laws.proofs.RunLaws.Sight.{truth_told, limits_told}
-use Rattle.ped_steps.specs.ped_laws.proofs.RunLaws.StatementsTold.{parallel_told, run_told, all_told}
+use Rattle.ped_steps.specs.ped_laws.proofs.RunLaws.StatementsTold.{run_told, all_told}
 use Rattle.ped_steps.specs.ped_laws.proofs.RunLaws.Numbers.{run_same, all_same}
 use Rattle.ped_steps.specs.ped_laws.specs.ped_flow.specs.PlainBounds.{loops_round, all_loops_round, nest_round, outermost_or}
 use Rattle.ped_steps.specs.ped_laws.specs.FlowRuns.Covering.{some_stop}
-use Rattle.ped_steps.specs.ped_laws.specs.FlowRuns.Exits.{IsOneToOne, AreIterationsOf}
-use Rattle.ped_steps.specs.ped_laws.proofs.FlowRunLaws.Unstopped.{IsUnstopped, all_unstopped}
+use Rattle.ped_steps.specs.ped_laws.specs.FlowRuns.Exits.{IsOneToOne}
+use Rattle.ped_steps.specs.ped_laws.proofs.FlowRunLaws.Unstopped.{all_unstopped}
 use Rattle.ped_steps.specs.ped_laws.proofs.FlowRunLaws.Standing.{Stand, whole_stands, first_stands, rest_stands, inner_stands, else_stands, is_there}
 use Rattle.ped_steps.specs.Replacing.{followed}
 use Rattle.ped_steps.specs.Runs.Gaps.{Gap, at_front, past, in_then, in_else, in_body, filled, number_at}
-use Rattle.ped_steps.specs.Runs.Pasting.{AgreeInBounds, AreTurnsOf, IsPlaceOf, IsPartOf, IsInExecution, IsInOutermost, is_in_parallel, HaveSameIndices}
+use Rattle.ped_steps.specs.Runs.Pasting.{AgreeInBounds, IsPlaceOf, IsPartOf, is_in_parallel, HaveSameIndices}
 use Rattle.ped_steps.proofs.RunLaws.SameNames.{inner_alike}
 use Rattle.ped_steps.proofs.RunLaws.FilledGaps.{counted, number_from, number_room, count_filled, indices_filled}
 use Rattle.ped_steps.proofs.RunLaws.OwnBounds.{agree_left, agree_right, truth_same, limits_same, with_bounds, run_bounds, all_bounds}
 use Rattle.ped_steps.proofs.RunLaws.LoopsRound.{none_before, all_none_before, all_none_from, one_more}
-use Rattle.ped_pasting.specs.Executions.{LeaveCopies, IsEntered, AreEntered, AreEnteredIn, IsExecuted}
-use Rattle.ped_pasting.specs.Pasting.{CountAlike, IsPasted, DoInstead, AreExchanged}
-use Rattle.ped_pasting.proofs.PastingLaws.JoinedParts.{IsJoined, AreJoined, joined_same, joined_nothing, joined_then, joined_act, joined_on}
-use Rattle.ped_pasting.proofs.PastingLaws.LeftCopies.{IsOwn, leave_narrow, leave_inward, leave_append, leave_none, own_leaves, run_leaves, all_leave, condition_own, entry_own, exit_own, exit_when_own, body_leaves, end_leaves, turns_leave, parallel_leave}
+use Rattle.ped_pasting.specs.Executions.{LeaveCopies, IsExecuted}
+use Rattle.ped_pasting.specs.Pasting.{CountAlike, IsPasted, DoInstead}
+use Rattle.ped_pasting.proofs.PastingLaws.JoinedParts.{IsJoined, AreJoined, joined_near, joined_then, joined_on}
+use Rattle.ped_pasting.proofs.PastingLaws.LeftCopies.{IsOwn, leave_none, own_leaves, run_leaves, all_leave, condition_own}
 use Rattle.std.proofs.lemmas.Bool.{both_ways}
 use Rattle.ped_steps.specs.ped_flow.specs.ped_base.specs.Lists.{is_among}
 use Rattle.ped_tree.specs.NamesIn.{all_loop_variables}
 use Rattle.ped_steps.specs.ped_laws.specs.ped_store.specs.Cells.{Cell}
-use Rattle.ped_steps.specs.ped_laws.specs.ped_store.specs.Stores.{Undefined}
 use Rattle.ped_steps.specs.ped_laws.specs.ped_store.specs.Acts.{Place, Step}
 use Rattle.ped_steps.specs.ped_laws.specs.Acts.Orders.{IsIn}
 use Rattle.ped_steps.specs.ped_laws.specs.Acts.Sets.{nothing}
@@ -60,7 +54,7 @@ use Rattle.ped_pasting.specs.Pasting.{IsExchanged, AreChangedBy}
 use Rattle.ped_pasting.proofs.PastingLaws.ActNumbers.{IsActIn, run_in, all_in}
 use Rattle.ped_pasting.proofs.PastingLaws.FilledIndices.{index_filled, copied_same, inner_same_name}
 use Rattle.ped_pasting.proofs.PastingLaws.NearPlaces.{LeaveTouches, LeaveActs, all_near, run_near, truth_near, limits_near, exit_when_near, named_same, private_near, near_more, near_itself}
-use Rattle.ped_pasting.proofs.PastingLaws.PastedLoops.{run_followed, IsReached, reached_with, reached_place, parallel_round, reached_body, none_left, none_first, must_go, inside_outer, in_whole, IsHere, here_first, here_only, here_rest, outermost_is, executing, enter, entered_come, whole_first, whole_rest, from_rest}
+use Rattle.ped_pasting.proofs.PastingLaws.PastedLoops.{run_followed, IsReached, reached_with, reached_place, parallel_round, reached_body, none_left, none_first, must_go, inside_outer, in_whole, IsHere, here_first, here_only, here_rest, outermost_is, executing, enter, entered_come, whole_first, whole_rest}
 
 -- statements behind others
 module _ (t : ProgramTree) where
@@ -338,20 +332,21 @@ module _ (names : List (List ℕ)) (apart : Cell → Bool) (p q : Setting) (t : 
       now_same : (seen : List Seen) (m : Limits) → h.parallel ≡ false → Now seen m ≡ Old seen m
       now_same seen m e = now_with seen m (no_inner next e ∙ sym (no_inner b e))
 
+      -- whether an iteration has a copy of a name, where such statements are in the body
+      abbrev copied : List ℕ → Bool → StmtTrees → Bool
+      copied x z xs = is_among x (if z then h.variable ∷ (h.private ++ inner_variables z xs) else h.private)
+
       -- an iteration further in
       copies_near : (seen : List Seen) (m : Limits) (k : ℕ) (x : List ℕ) → (is_among x (frame (Now seen m) k).private ≡ is_among x (frame (Old seen m) k).private) ⊎ ((is_among x names ≡ true) × (apart (cell_of (frame (Old seen m) k ∷ scope) x) ≡ true))
       copies_near seen m k x = by_kind h.parallel refl
         where
-          abbrev copied : Bool → StmtTrees → Bool
-          copied z xs = is_among x (if z then h.variable ∷ (h.private ++ inner_variables z xs) else h.private)
-
-          by_name : (z : Bool) → is_among x names ≡ z → h.parallel ≡ true → (copied h.parallel next ≡ copied h.parallel b) ⊎ ((is_among x names ≡ true) × (apart (cell_of (frame (Old seen m) k ∷ scope) x) ≡ true))
+          by_name : (z : Bool) → is_among x names ≡ z → h.parallel ≡ true → (copied x h.parallel next ≡ copied x h.parallel b) ⊎ ((is_among x names ≡ true) × (apart (cell_of (frame (Old seen m) k ∷ scope) x) ≡ true))
           by_name false none e = inl (copied_same x h.parallel h b next (inner_but e x none))
           by_name true among e = elim (copies e x among) [ inl is ↦ inl (copied_same x h.parallel h b next is) | inr stands ↦ inr (among, stands scope seen m k) ]
 
-          by_kind : (z : Bool) → h.parallel ≡ z → (copied h.parallel next ≡ copied h.parallel b) ⊎ ((is_among x names ≡ true) × (apart (cell_of (frame (Old seen m) k ∷ scope) x) ≡ true))
+          by_kind : (z : Bool) → h.parallel ≡ z → (copied x h.parallel next ≡ copied x h.parallel b) ⊎ ((is_among x names ≡ true) × (apart (cell_of (frame (Old seen m) k ∷ scope) x) ≡ true))
           by_kind true e = by_name (is_among x names) refl e
-          by_kind false e = inl (ap (λ (z : Bool). copied z next) e ∙ sym (ap (λ (z : Bool). copied z b) e))
+          by_kind false e = inl (ap (λ (z : Bool). copied x z next) e ∙ sym (ap (λ (z : Bool). copied x z b) e))
 
       near_inside : (seen : List Seen) (m : Limits) (k : ℕ) → AreNear names apart (frame (Old seen m) k ∷ scope) (frame (Now seen m) k ∷ other)
       near_inside seen m k = near_more names apart scope other near (frame (Old seen m) k) (frame (Now seen m) k) refl refl (copies_near seen m k)
@@ -413,25 +408,23 @@ module _ (names : List (List ℕ)) (apart : Cell → Bool) (p q : Setting) (t : 
               | inr by ↦ inr by
             ]
 
+        -- an entry with these touches stays, or is changed
+        abbrev Answer : List Act → List Act → Store → List Touch → List Touch → Type 0
+        Answer front behind u ts us = (us ≡ ts) ⊎ By front behind u (act (entered E.count) (place_of p n scope) ts ∷ []) (act (entered E.count) (place_of p n scope) us ∷ [])
+
         -- the entry stays, or it leaves a PARALLEL DO
         entry_comes : (front more behind : List Act) (u : Store) → Ran ≡ front ++ ((act (entered E.count) (place_of p n scope) (entry_touches seen E scope) ∷ more) ++ behind) → u ≡ store_after front start
             → (entry_touches seen F other ≡ entry_touches seen E scope)
             ⊎ By front (more ++ behind) u (act (entered E.count) (place_of p n scope) (entry_touches seen E scope) ∷ []) (act (entered E.count) (place_of p n scope) (entry_touches seen F other) ∷ [])
         entry_comes front more behind u whole from = by_kind h.parallel refl
           where
-            entry : Act
-            entry = act (entered E.count) (place_of p n scope) (entry_touches seen E scope)
-
-            abbrev Answer : List Touch → List Touch → Type 0
-            Answer ts us = (us ≡ ts) ⊎ By front (more ++ behind) u (act (entered E.count) (place_of p n scope) ts ∷ []) (act (entered E.count) (place_of p n scope) us ∷ [])
-
-            none_left_out : (z : Bool) → (E.count == 0) ≡ z → h.parallel ≡ true → Answer (numbered_reads 1 seen ++ (if z then exit_touches E scope else [])) (numbered_reads 1 seen ++ (if z then exit_touches F other else []))
+            none_left_out : (z : Bool) → (E.count == 0) ≡ z → h.parallel ≡ true → Answer front (more ++ behind) u (numbered_reads 1 seen ++ (if z then exit_touches E scope else [])) (numbered_reads 1 seen ++ (if z then exit_touches F other else []))
             none_left_out false c e = inl refl
             none_left_out true c e =
                 other_exit (entered E.count) (numbered_reads 1 seen) front (more ++ behind) u e c
                 (whole ∙ ap (λ (z : Bool). front ++ (act (entered E.count) (place_of p n scope) (numbered_reads 1 seen ++ (if z then exit_touches E scope else [])) ∷ (more ++ behind))) c) from
 
-            by_kind : (z : Bool) → h.parallel ≡ z → Answer (entry_touches seen E scope) (entry_touches seen F other)
+            by_kind : (z : Bool) → h.parallel ≡ z → Answer front (more ++ behind) u (entry_touches seen E scope) (entry_touches seen F other)
             by_kind true e = none_left_out (E.count == 0) refl e
             by_kind false e =
                 let leave = quiet_act (act (entered E.count) (place_of p n scope) (entry_touches seen E scope)) (in_whole p t start l front (act (entered E.count) (place_of p n scope) (entry_touches seen E scope)) (more ++ behind) whole) n before refl (λ exit round. not_round e round) in
@@ -596,7 +589,7 @@ module _ (names : List (List ℕ)) (apart : Cell → Bool) (p q : Setting) (t : 
       let inner_but : h.parallel ≡ true → (x : List ℕ) → is_among x names ≡ false → is_among x (all_loop_variables (filled gap new)) ≡ is_among x (all_loop_variables b) = (λ k x none. index_filled x old new (indices (parallel k) x none) gap) in
       let named : h.parallel ≡ true → (is_among h.variable names ≡ false) × ((x : List ℕ) → is_among x h.private ≡ true → is_among x names ≡ false) = (λ k. ((round.0 k).variable, (round.0 k).private)) in
       let copies : h.parallel ≡ true → (x : List ℕ) → is_among x names ≡ true → (is_among x (all_loop_variables (filled gap new)) ≡ is_among x (all_loop_variables b)) ⊎ ((S : Scope) (seen : List Seen) (m : Limits) (k : ℕ) → apart (cell_of (frame (entered_with p n h b seen m) k ∷ S) x) ≡ true)
-          = (λ k. (round.0 k).copies) in
+      = (λ k. (round.0 k).copies) in
       with_rest scope other near (Do h b) (Do h (filled gap new)) rest n (rest_stands t (Do h b) rest n r.stand) (agree_right p.bounds q.bounds (stmt_names (Do h b)) (stmts_names rest) agree) inside (omega (arith, count)) within
       (do_comes scope other near n h b (filled gap new) there before reach same inner_if inner_but named copies (λ f. run_all q (filled gap new) (n + 1) (f ∷ other))
       (λ none. outermost_is p t start l scope n h (Do h b ∷ all_numbered b) (loops_round l (Do h b) n) (all_loops_round l b (n + 1)) (ap turns_of none) loops reached)
@@ -682,7 +675,7 @@ pub exchanged_near : (names : List (List ℕ)) (apart : Cell → Bool) (p q : Se
     → LeaveApart apart p t (number_at gap 1) (statements_count old) (run_all p t.body 1 [] start).acts → DoNear names apart p q t start (number_at gap 1) (statements_count old) (run_all p old (number_at gap 1)) new fresh
     → Ends (run_all p t.body 1 [] start).ending
     → IsMadeOf (λ front behind v a b. IsExchangedNear names apart p t start (number_at gap 1) (statements_count old) (run_all p old (number_at gap 1)) fresh front behind v a b ⊎ IsOtherExit names apart p t start (number_at gap 1) front behind v a b)
-      (run_all p t.body 1 [] start).acts start (run_all q u.body 1 []) (finish_of (run_all p t.body 1 [] start).ending)
+    (run_all p t.body 1 [] start).acts start (run_all q u.body 1 []) (finish_of (run_all p t.body 1 [] start).ending)
 exchanged_near names apart p q gap old new t u start fresh pasting quiet each ends =
     changed_program names apart p q gap old new t u start
     (λ front behind v a b. IsExchangedNear names apart p t start (number_at gap 1) (statements_count old) (run_all p old (number_at gap 1)) fresh front behind v a b ⊎ IsOtherExit names apart p t start (number_at gap 1) front behind v a b) pasting quiet

@@ -1,5 +1,5 @@
 -- The iterations round a place are of the DO loops round it, one of each: they tell the values of their variables.
-use Rattle.std.proofs.Common.{◌≡◌, ℕ, ℤ, pos, List, [], ◌∷◌, ◌++◌, true, ◌||◌, ◌⊎◌, inl, inr, Option, Some, IsTrue, refl, sym, ap, subst, ◌∙◌}
+use Rattle.std.proofs.Common.{◌≡◌, ℕ, ℤ, pos, List, [], ◌∷◌, ◌++◌, Bool, true, false, ◌||◌, ◌⊎◌, inl, inr, Option, Some, IsTrue, refl, sym, ap, subst, ◌∙◌}
 use Rattle.std.specs.Prelude.{unwrap_or}
 use Rattle.std.proofs.lemmas.Bool.{or_left, or_right}
 use Rattle.ped_steps.specs.ped_flow.specs.ped_base.specs.Lists.{is_same_text, is_among}
@@ -9,8 +9,8 @@ use Rattle.ped_tree.specs.Numbering.{numbered, statement_with}
 use Rattle.ped_steps.specs.ped_laws.specs.ped_flow.specs.PlainBounds.{nest_round, setting_round, outermost_or}
 use Rattle.ped_steps.specs.ped_laws.specs.ped_flow.specs.Questions.{LoopOf}
 use Rattle.ped_steps.specs.ped_laws.specs.ped_store.specs.Acts.{Turn}
-use Rattle.ped_steps.specs.ped_laws.specs.ped_eval.specs.Scopes.{Setting, Frame, Scope, turns_of, index_value}
-use Rattle.ped_steps.specs.ped_laws.specs.ped_eval.specs.Loops.{Limits, entered_with, frame}
+use Rattle.ped_steps.specs.ped_laws.specs.ped_eval.specs.Scopes.{Setting, Scope, turns_of}
+use Rattle.ped_steps.specs.ped_laws.specs.ped_eval.specs.Loops.{Limits}
 use Rattle.ped_steps.specs.ped_laws.specs.Acts.Orders.{IsIn}
 use Rattle.ped_steps.specs.ped_laws.specs.FlowRuns.Exits.{IsOneToOne, AreIterationsOf}
 use Rattle.ped_steps.specs.ped_laws.specs.Plain.Executions.{IsOneOf, IsInside, AreInside, IsPlaceWith}
@@ -20,7 +20,7 @@ use Rattle.ped_steps.specs.ped_laws.proofs.CoveringLaws.Comings.{some_one}
 use Rattle.ped_steps.specs.ped_laws.proofs.PlainLaws.Insides.{inside_iteration}
 use Rattle.ped_steps.specs.Runs.Pasting.{AreTurnsOf, IsPlaceOf}
 use Rattle.ped_pasting.specs.Places.{told_at}
-use Rattle.ped_pasting.proofs.PastingLaws.NestsRound.{IsLoopIn, AreRound, nest_is_round}
+use Rattle.ped_pasting.proofs.PastingLaws.NestsRound.{IsLoopIn, nest_is_round}
 
 -- the innermost of loops in one another, of which this is an iteration
 pub record IsLast (number : ℕ → ℕ) (nest : List Loop) (ts : List Turn) (t : Turn) : Type 0 where
@@ -49,12 +49,12 @@ same_head h k b c e = cc
 indices_last : (x : List ℕ) (front : List Loop) (k : Loop) → is_among x (indices_of (front ++ k ∷ [])) ≡ true → (is_among x (indices_of front) ≡ true) ⊎ (is_same_text x k.head.variable ≡ true)
 indices_last x [] k h = go (is_same_text x k.head.variable) h
   where
-    go : (b : _) → (b || is_among x []) ≡ true → (is_among x [] ≡ true) ⊎ (b ≡ true)
+    go : (b : Bool) → (b || is_among x []) ≡ true → (is_among x [] ≡ true) ⊎ (b ≡ true)
     go true e = inr refl
     go false e = inl e
 indices_last x (m ∷ front) k h = go (is_same_text x m.head.variable) (indices_last x front k) h
   where
-    go : (b : _) → (is_among x (indices_of (front ++ k ∷ [])) ≡ true → (is_among x (indices_of front) ≡ true) ⊎ (is_same_text x k.head.variable ≡ true))
+    go : (b : Bool) → (is_among x (indices_of (front ++ k ∷ [])) ≡ true → (is_among x (indices_of front) ≡ true) ⊎ (is_same_text x k.head.variable ≡ true))
         → (b || is_among x (indices_of (front ++ k ∷ []))) ≡ true → ((b || is_among x (indices_of front)) ≡ true) ⊎ (is_same_text x k.head.variable ≡ true)
     go true rest e = inl refl
     go false rest e = rest e
@@ -67,7 +67,7 @@ module _ (p : Setting) (t : ProgramTree) (l : ℕ) (one : IsOneToOne p.number) w
   in_outermost : (nest : List Loop) → nest_round t l ≡ nest → (k : Loop) → IsIn k nest → InOutermost k
   in_outermost [] e k i = absurd i
   in_outermost (o ∷ ks) e k i =
-      let r : AreRound t _ (nest_round t l) = nest_is_round t l in
+      let r = nest_is_round t l in
       let outer = r.outermost o ks e in (
         record { head = o.head; body = outer.0; is = subst (λ (ms : List Loop). statement_with (outermost_or l ms) t ≡ Some (Do o.head outer.0)) (sym e) outer.1 },
         outer.2 k (subst (IsIn k) (sym e) i),

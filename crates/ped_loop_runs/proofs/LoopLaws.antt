@@ -6,3 +6,4 @@ pub mod PlainReads
 pub mod Examples
 pub mod NextIn
 pub mod OneOut
+pub mod FurtherOut

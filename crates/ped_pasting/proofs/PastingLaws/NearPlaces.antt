@@ -7,15 +7,15 @@ use Rattle.ped_steps.specs.ped_flow.specs.ped_base.proofs.NameEquality.{same_its
 use Rattle.ped_tree.specs.Tree.{CondTree, Head, StmtTree, StmtTrees, Assign, If, Do, Print, Read, Stop, Comment, no_stmts, more_stmts}
 use Rattle.ped_tree.specs.Numbering.{statement_count, statements_count}
 use Rattle.ped_steps.specs.ped_laws.specs.ped_store.specs.Cells.{Cell, Scalar, Element, Private, In, Out, same_cell}
-use Rattle.ped_steps.specs.ped_laws.specs.ped_store.specs.Stores.{Undefined, Store}
-use Rattle.ped_steps.specs.ped_laws.specs.ped_store.specs.Acts.{Turn, Touch, Act, iterations_of}
+use Rattle.ped_steps.specs.ped_laws.specs.ped_store.specs.Stores.{Undefined, Number, Store}
+use Rattle.ped_steps.specs.ped_laws.specs.ped_store.specs.Acts.{is_told, Turn, Touch, Act, iterations_of}
 use Rattle.ped_steps.specs.ped_laws.specs.Acts.Orders.{IsIn}
 use Rattle.ped_steps.specs.ped_laws.specs.Runs.Seeing.{Holds, ComesTo, IsToldBySight}
 use Rattle.ped_steps.specs.ped_laws.specs.Runs.Replaying.{Finish, finish_of, Replays}
 use Rattle.ped_steps.specs.ped_laws.specs.ped_eval.specs.Scopes.{Setting, Frame, Scope, turns_of, cell_of, index_value, names_in}
 use Rattle.ped_steps.specs.ped_laws.specs.ped_eval.specs.Evaluation.{Seen, cell_seen, index_seen, Evaluated, numbered}
 use Rattle.ped_steps.specs.ped_laws.specs.ped_eval.specs.Values.{truth}
-use Rattle.ped_steps.specs.ped_laws.specs.ped_eval.specs.Statements.{write_touch}
+use Rattle.ped_steps.specs.ped_laws.specs.ped_eval.specs.Statements.{read_touch, write_touch}
 use Rattle.ped_steps.specs.ped_laws.specs.ped_eval.specs.Loops.{Limits, limits, Entered, entered_with, frame, undefined_by, undefined_all, left_in_variable, exit_touches, exit_when_none}
 use Rattle.ped_steps.specs.ped_laws.specs.ped_eval.specs.Runs.{Run, run, run_all}
 use Rattle.ped_steps.specs.ped_laws.proofs.ActLaws.Lists.{in_left, in_right}
@@ -215,8 +215,8 @@ module _ (names : List (List ℕ)) (apart : Cell → Bool) (S T : Scope) (near :
 
   seen_stay : (n : ℕ) (seen : List Seen) → AllSeen (Own S) seen → LeaveTouches apart (numbered n seen) → Stay seen
   seen_stay n [] own leave = tt
-  seen_stay n (cell_seen c content ∷ more) own leave = (stays c own.0 (leave _ (inl refl)), seen_stay (suc n) more own.1 (λ t i. leave t (inr i)))
-  seen_stay n (index_seen c v ∷ more) own leave = (stays c own.0 (leave _ (inl refl)), seen_stay n more own.1 (λ t i. leave t (inr i)))
+  seen_stay n (cell_seen c content ∷ more) own leave = (stays c own.0 (leave (read_touch c content n) (inl refl)), seen_stay (suc n) more own.1 (λ t i. leave t (inr i)))
+  seen_stay n (index_seen c v ∷ more) own leave = (stays c own.0 (leave (record { cell = c; manner = is_told; content = Number v; reference = 0 }) (inl refl)), seen_stay n more own.1 (λ t i. leave t (inr i)))
 
   seen_same : (seen : List Seen) → Stay seen → map (seen_in name) seen ≡ seen
   seen_same [] h = refl
@@ -246,17 +246,17 @@ module _ (names : List (List ℕ)) (apart : Cell → Bool) (S T : Scope) (near :
   -- exits
   undefined_by_near : (n : ℕ) (xs : List (List ℕ)) → LeaveTouches apart (undefined_by S n xs) → undefined_by T n xs ≡ undefined_by S n xs
   undefined_by_near n [] leave = refl
-  undefined_by_near n (x ∷ xs) leave = λ i. write_touch (cell_same x (leave _ (inl refl)) i) Undefined n ∷ undefined_by_near (suc n) xs (λ t j. leave t (inr j)) i
+  undefined_by_near n (x ∷ xs) leave = λ i. write_touch (cell_same x (leave (write_touch (cell_of S x) Undefined n) (inl refl)) i) Undefined n ∷ undefined_by_near (suc n) xs (λ t j. leave t (inr j)) i
 
   undefined_all_near : (xs : List (List ℕ)) → LeaveTouches apart (undefined_all S xs) → undefined_all T xs ≡ undefined_all S xs
   undefined_all_near [] leave = refl
-  undefined_all_near (x ∷ xs) leave = λ i. write_touch (cell_same x (leave _ (inl refl)) i) Undefined 0 ∷ undefined_all_near xs (λ t j. leave t (inr j)) i
+  undefined_all_near (x ∷ xs) leave = λ i. write_touch (cell_same x (leave (write_touch (cell_of S x) Undefined 0) (inl refl)) i) Undefined 0 ∷ undefined_all_near xs (λ t j. leave t (inr j)) i
 
   pub exit_near : (e : Entered) → LeaveTouches apart (exit_touches e S) → exit_touches e T ≡ exit_touches e S
   exit_near e leave =
       let private = undefined_by_near e.behind_bounds e.head.private (λ t j. leave t (inr (in_left t (undefined_by S e.behind_bounds e.head.private) (undefined_all S e.inner) j))) in
       let inner = undefined_all_near e.inner (λ t j. leave t (inr (in_right t (undefined_by S e.behind_bounds e.head.private) (undefined_all S e.inner) j))) in
-      λ i. write_touch (cell_same e.head.variable (leave _ (inl refl)) i) (left_in_variable e) 0 ∷ (private i ++ inner i)
+      λ i. write_touch (cell_same e.head.variable (leave (write_touch (cell_of S e.head.variable) (left_in_variable e) 0) (inl refl)) i) (left_in_variable e) 0 ∷ (private i ++ inner i)
 
   pub exit_when_near : (n : ℕ) (e : Entered) → LeaveTouches apart (exit_when_none n e S) → exit_when_none n e T ≡ exit_when_none n e S
   exit_when_near n e leave = go (eqb n 0) leave

@@ -90,7 +90,7 @@ same_body h k b c e = cc
 same_head : (h k : Head) (b c : StmtTrees) → Some (Do h b) ≡ Some (Do k c) → h ≡ k
 same_head h k b c e = cc
 
-first_touches : List Act → List Touch
+abbrev first_touches : List Act → List Touch
 first_touches [] = []
 first_touches (a ∷ acts) = a.touches
 

@@ -151,10 +151,10 @@ module _ (S T : Scope) where
   other_stays In h = refl
   other_stays Out h = refl
 
-first_among : (x : List ℕ) (xs : List (List ℕ)) → is_among x (x ∷ xs) ≡ true
+pub first_among : (x : List ℕ) (xs : List (List ℕ)) → is_among x (x ∷ xs) ≡ true
 first_among x xs = ap (λ (b : Bool). b || is_among x xs) (same_itself x)
 
-rest_among : (y x : List ℕ) (xs : List (List ℕ)) → is_among y xs ≡ true → is_among y (x ∷ xs) ≡ true
+pub rest_among : (y x : List ℕ) (xs : List (List ℕ)) → is_among y xs ≡ true → is_among y (x ∷ xs) ≡ true
 rest_among y x xs h = or_right (is_same_text y x) (is_among y xs) h
 
 -- touches that leave the cells alone that stand apart

@@ -1,5 +1,5 @@
 -- The way down to statements that are exchanged: where acts are done on it, and a DO with the gap in its body.
-use Rattle.std.proofs.Common.{◌≡◌, ℕ, zero, suc, ◌+◌, ◌-◌, ◌≤◌, List, [], ◌∷◌, ◌++◌, Bool, true, false, ◌||◌, Some, Ok, inl, inr, refl, sym, ap, subst, ◌∙◌, arith}
+use Rattle.std.proofs.Common.{◌⊎◌, ◌≡◌, ℕ, zero, suc, ◌+◌, ◌-◌, ◌≤◌, List, [], ◌∷◌, ◌++◌, Bool, true, false, ◌||◌, Some, Ok, inl, inr, refl, sym, ap, subst, ◌∙◌, arith}
 use Rattle.std.specs.List.{list_any}
 use Rattle.std.proofs.lemmas.List.{append-nil, append_assoc}
 use Rattle.std.proofs.lemmas.List.Folds.{list_any-append}
@@ -404,7 +404,7 @@ module _ (p : Setting) (t : ProgramTree) (start : Store) (l : ℕ) where
             | inr by ↦ joined_changed By closed (place_of p n S) (exit_touches E S) (exit_touches F T) nothing_done nothing_done front behind u by rest
           ]
 
-      entered_come : (parallel : Bool) → (parallel ≡ false → EndsStay) → (parallel ≡ true → Closes) → (so_many : ℕ) → so_many ≡ E.count → AreJoined By (IsInLoop 1) (run_entered parallel so_many E S (place_of p n S) Body) (run_entered parallel so_many F T (place_of p n S) other)
+      pub entered_come : (parallel : Bool) → (parallel ≡ false → EndsStay) → (parallel ≡ true → Closes) → (so_many : ℕ) → so_many ≡ E.count → AreJoined By (IsInLoop 1) (run_entered parallel so_many E S (place_of p n S) Body) (run_entered parallel so_many F T (place_of p n S) other)
       entered_come parallel stay closes zero e = joined_nothing By (IsInLoop 1)
       entered_come false stay closes (suc more) e = turns_come (stay refl) (suc more) 1 (omega arith) (omega (arith, e))
       entered_come true stay closes (suc more) e =

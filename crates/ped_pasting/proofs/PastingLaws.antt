@@ -18,3 +18,5 @@ pub mod ActNumbers
 pub mod FilledIndices
 pub mod PastedLoops
 pub mod ExitsStand
+pub mod LeftPlaces
+pub mod OneExecution

@@ -13,7 +13,7 @@ mod statements;
 mod stores;
 
 pub use copies::copies_inside;
-pub use executions::{executions_pasted, parts_stand};
+pub use executions::{executed_once, executions_pasted, parts_stand};
 pub use meaning::{exchanged_keeps, suiting_sets};
 pub use numbers::numbers_kept;
 pub use other_copies::{exchanged_near_keeps, executions_pasted_near, parts_stand_near};

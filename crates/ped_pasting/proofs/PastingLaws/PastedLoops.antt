@@ -20,16 +20,17 @@ use Rattle.ped_steps.specs.ped_laws.specs.Runs.Replaying.{goes_on, finish_of, ac
 use Rattle.ped_steps.specs.ped_laws.proofs.RunLaws.Touches.{Each}
 use Rattle.ped_steps.specs.ped_laws.proofs.RunLaws.StatementsTold.{parallel_told, all_told}
 use Rattle.ped_steps.specs.ped_laws.specs.ped_flow.specs.PlainBounds.{nest_round, outermost_or}
-use Rattle.ped_steps.specs.ped_laws.specs.FlowRuns.Exits.{AreIterationsOf}
+use Rattle.ped_steps.specs.ped_laws.specs.FlowRuns.Exits.{IsOneToOne, AreIterationsOf}
 use Rattle.ped_steps.specs.ped_laws.proofs.FlowRunLaws.Unstopped.{IsUnstopped}
 use Rattle.ped_steps.specs.ped_laws.proofs.FlowRunLaws.Standing.{Stand, inner_stands, is_there}
 use Rattle.ped_steps.specs.Replacing.{followed}
 use Rattle.ped_steps.specs.Runs.Pasting.{AreTurnsOf, IsPlaceOf, IsPartOf, IsInExecution, IsInOutermost, is_in_parallel}
 use Rattle.ped_steps.specs.ped_laws.specs.Acts.Orders.{IsIn}
 use Rattle.ped_steps.specs.ped_laws.proofs.ActLaws.Lists.{in_right}
-use Rattle.ped_pasting.specs.Executions.{LeaveCopies, IsEntered, AreEntered, AreEnteredIn}
+use Rattle.ped_pasting.specs.Executions.{IsEntered, AreEntered, AreEnteredIn}
 use Rattle.ped_pasting.proofs.PastingLaws.JoinedParts.{AreJoined, joined_nothing, joined_then, joined_act, joined_changed}
-use Rattle.ped_pasting.proofs.PastingLaws.LeftCopies.{IsOwn, leave_narrow, leave_inward, leave_append, entry_own, exit_own, exit_when_own, body_leaves, end_leaves, turns_leave, parallel_leave}
+use Rattle.ped_pasting.proofs.PastingLaws.LeftPlaces.{LeaveAll, left_narrow, left_inward, left_append, left_body, left_end, left_turns, left_parallel}
+use Rattle.ped_pasting.proofs.PastingLaws.LeftCopies.{IsOwn, entry_own, exit_own, exit_when_own}
 
 -- statements behind statements
 module _ (acts : List Act) (g : Store → Run) where
@@ -160,8 +161,8 @@ module _ (p : Setting) (t : ProgramTree) (start : Store) (l : ℕ) where
     pub whole : Whole ≡ front ++ (acts ++ behind)
     pub from : u ≡ store_after front start
     pub inside : Inside S acts u
-    pub before : LeaveCopies p S n count front
-    pub after : LeaveCopies p S n count behind
+    pub before : LeaveAll p S n count front
+    pub after : LeaveAll p S n count behind
 
   pub whole_first : (front acts others behind : List Act) → Whole ≡ front ++ ((acts ++ others) ++ behind) → Whole ≡ front ++ (acts ++ (others ++ behind))
   whole_first front acts others behind e = e ∙ ap (λ (z : List Act). front ++ z) (append_assoc acts others behind)
@@ -172,13 +173,13 @@ module _ (p : Setting) (t : ProgramTree) (start : Store) (l : ℕ) where
   pub from_rest : (front acts : List Act) (u : Store) → u ≡ store_after front start → store_after acts u ≡ store_after (front ++ acts) start
   from_rest front acts u e = ap (store_after acts) e ∙ sym (after_append front acts start)
 
-  pub here_first : (S : Scope) (n count lo more : ℕ) (front acts others behind : List Act) (u : Store) → n ≤ lo → lo + more ≤ n + count → LeaveCopies p S lo more others → IsHere S n count front (acts ++ others) behind u → IsHere S lo more front acts (others ++ behind) u
+  pub here_first : (S : Scope) (n count lo more : ℕ) (front acts others behind : List Act) (u : Store) → n ≤ lo → lo + more ≤ n + count → LeaveAll p S lo more others → IsHere S n count front (acts ++ others) behind u → IsHere S lo more front acts (others ++ behind) u
   here_first S n count lo more front acts others behind u below above leave d = record {
     whole = whole_first front acts others behind d.whole;
     from = d.from;
     inside = inside_first S acts others u d.inside;
-    before = leave_narrow p S n count lo more front below above d.before;
-    after = leave_append p S lo more others behind leave (leave_narrow p S n count lo more behind below above d.after);
+    before = left_narrow p S n count lo more front below above d.before;
+    after = left_append p S lo more others behind leave (left_narrow p S n count lo more behind below above d.after);
   }
 
   pub here_only : (S : Scope) (n count lo more : ℕ) (front acts behind : List Act) (u : Store) → n ≤ lo → lo + more ≤ n + count → IsHere S n count front acts behind u → IsHere S lo more front acts behind u
@@ -186,17 +187,17 @@ module _ (p : Setting) (t : ProgramTree) (start : Store) (l : ℕ) where
     whole = d.whole;
     from = d.from;
     inside = d.inside;
-    before = leave_narrow p S n count lo more front below above d.before;
-    after = leave_narrow p S n count lo more behind below above d.after;
+    before = left_narrow p S n count lo more front below above d.before;
+    after = left_narrow p S n count lo more behind below above d.after;
   }
 
-  pub here_rest : (S : Scope) (n count lo more : ℕ) (front acts others behind : List Act) (u : Store) → n ≤ lo → lo + more ≤ n + count → LeaveCopies p S lo more acts → IsHere S n count front (acts ++ others) behind u → IsHere S lo more (front ++ acts) others behind (store_after acts u)
+  pub here_rest : (S : Scope) (n count lo more : ℕ) (front acts others behind : List Act) (u : Store) → n ≤ lo → lo + more ≤ n + count → LeaveAll p S lo more acts → IsHere S n count front (acts ++ others) behind u → IsHere S lo more (front ++ acts) others behind (store_after acts u)
   here_rest S n count lo more front acts others behind u below above leave d = record {
     whole = whole_rest front acts others behind d.whole;
     from = from_rest front acts u d.from;
     inside = inside_rest S acts others u d.inside;
-    before = leave_append p S lo more front acts (leave_narrow p S n count lo more front below above d.before) leave;
-    after = leave_narrow p S n count lo more behind below above d.after;
+    before = left_append p S lo more front acts (left_narrow p S n count lo more front below above d.before) leave;
+    after = left_narrow p S n count lo more behind below above d.after;
   }
 
   -- into a DO
@@ -227,8 +228,8 @@ module _ (p : Setting) (t : ProgramTree) (start : Store) (l : ℕ) where
       pub whole : Whole ≡ front ++ (acts ++ behind)
       pub from : u ≡ store_after front start
       pub entering : Entering acts u
-      pub before : (j : ℕ) → k ≤ j → LeaveCopies p (frame E j ∷ S) (n + 1) (statements_count b) front
-      pub after : (j : ℕ) → k ≤ j → LeaveCopies p (frame E j ∷ S) (n + 1) (statements_count b) behind
+      pub before : (j : ℕ) → k ≤ j → LeaveAll p (frame E j ∷ S) (n + 1) (statements_count b) front
+      pub after : (j : ℕ) → k ≤ j → LeaveAll p (frame E j ∷ S) (n + 1) (statements_count b) behind
 
     one_entered : (acts : List Act) (first : Store) (u : Store) (front behind : List Act) → statement_with n t ≡ Some (Do h b) → acts ≡ front ++ behind → u ≡ store_after front first → limits (names_in p S) h u ≡ record { seen = seen; result = Ok m }
         → (j : ℕ) → 1 ≤ j → j ≤ E.count → IsEntered p t acts first S (frame E j)
@@ -297,52 +298,52 @@ module _ (p : Setting) (t : ProgramTree) (start : Store) (l : ℕ) where
               )
 
     -- behind the entry
-    pub enter : (count : ℕ) (front more behind : List Act) (u : Store) → count ≡ statements_count b + 1 → Entering (Entry ∷ more) u → limits (names_in p S) h u ≡ record { seen = seen; result = Ok m } → IsHere S n count front (Entry ∷ more) behind u
+    pub enter : IsOneToOne p.number → (count : ℕ) (front more behind : List Act) (u : Store) → count ≡ statements_count b + 1 → Entering (Entry ∷ more) u → limits (names_in p S) h u ≡ record { seen = seen; result = Ok m } → IsHere S n count front (Entry ∷ more) behind u
         → IsInLoop 1 (front ++ Entry ∷ []) more behind (store_after (Entry ∷ []) u)
-    enter count front more behind u size x come d = record {
+    enter one count front more behind u size x come d = record {
       whole = whole_rest front (Entry ∷ []) more behind d.whole;
       from = from_rest front (Entry ∷ []) u d.from;
       entering = (inner_rest (Entry ∷ []) more u x.0, x.1);
-      before = λ j k. leave_append p (frame E j ∷ S) (n + 1) (statements_count b) front (Entry ∷ [])
-          (leave_inward p n h b seen m S j n count (n + 1) (statements_count b) front (omega arith) (omega (arith, size)) d.before)
-          (end_leaves p n h b seen m S j (n + 1) (statements_count b) (entered E.count) (place_of p n S) (entry_touches seen E S)
+      before = λ j k. left_append p (frame E j ∷ S) (n + 1) (statements_count b) front (Entry ∷ [])
+          (left_inward p n h b seen m S j n count (n + 1) (statements_count b) front (omega arith) (omega (arith, size)) (omega arith) (omega (arith, size)) d.before)
+          (left_end p one n h b seen m S j (n + 1) (statements_count b) (entered E.count) (entry_touches seen E S) (omega arith)
           (subst (λ (z : List Seen). Each (λ (w : Touch). IsOwn p S w.cell) (entry_touches z E S)) (ap (λ r. r.seen) come) (entry_own p S h u E)));
-      after = λ j k. leave_inward p n h b seen m S j n count (n + 1) (statements_count b) behind (omega arith) (omega (arith, size)) d.after;
+      after = λ j k. left_inward p n h b seen m S j n count (n + 1) (statements_count b) behind (omega arith) (omega (arith, size)) (omega arith) (omega (arith, size)) d.after;
     }
 
-    in_trip : (k : ℕ) (front acts others behind : List Act) (u : Store) → 1 ≤ k → k ≤ E.count → LeaveCopies p (frame E k ∷ S) (n + 1) (statements_count b) others → IsInLoop k front (acts ++ others) behind u
+    in_trip : (k : ℕ) (front acts others behind : List Act) (u : Store) → 1 ≤ k → k ≤ E.count → LeaveAll p (frame E k ∷ S) (n + 1) (statements_count b) others → IsInLoop k front (acts ++ others) behind u
         → IsHere (frame E k ∷ S) (n + 1) (statements_count b) front acts (others ++ behind) u
     in_trip k front acts others behind u lo hi leave d = record {
       whole = whole_first front acts others behind d.whole;
       from = d.from;
       inside = (inner_first acts others u d.entering.0, d.entering.1 k lo hi);
       before = d.before k (omega arith);
-      after = leave_append p (frame E k ∷ S) (n + 1) (statements_count b) others behind leave (d.after k (omega arith));
+      after = left_append p (frame E k ∷ S) (n + 1) (statements_count b) others behind leave (d.after k (omega arith));
     }
 
     in_last_trip : (k : ℕ) (front acts behind : List Act) (u : Store) → 1 ≤ k → k ≤ E.count → IsInLoop k front acts behind u → IsHere (frame E k ∷ S) (n + 1) (statements_count b) front acts behind u
     in_last_trip k front acts behind u lo hi d = record { whole = d.whole; from = d.from; inside = (d.entering.0, d.entering.1 k lo hi); before = d.before k (omega arith); after = d.after k (omega arith) }
 
-    further_on : (k j : ℕ) (front acts others behind : List Act) (u : Store) → k ≤ j → ((i : ℕ) → j ≤ i → LeaveCopies p (frame E i ∷ S) (n + 1) (statements_count b) acts) → IsInLoop k front (acts ++ others) behind u
+    further_on : (k j : ℕ) (front acts others behind : List Act) (u : Store) → k ≤ j → ((i : ℕ) → j ≤ i → LeaveAll p (frame E i ∷ S) (n + 1) (statements_count b) acts) → IsInLoop k front (acts ++ others) behind u
         → IsInLoop j (front ++ acts) others behind (store_after acts u)
     further_on k j front acts others behind u later leave d = record {
       whole = whole_rest front acts others behind d.whole;
       from = from_rest front acts u d.from;
       entering = (inner_rest acts others u d.entering.0, d.entering.1);
-      before = λ i e. leave_append p (frame E i ∷ S) (n + 1) (statements_count b) front acts (d.before i (omega (arith, later, e))) (leave i e);
+      before = λ i e. left_append p (frame E i ∷ S) (n + 1) (statements_count b) front acts (d.before i (omega (arith, later, e))) (leave i e);
       after = λ i e. d.after i (omega (arith, later, e));
     }
 
-    before_last : (k : ℕ) (front acts others behind : List Act) (u : Store) → ((i : ℕ) → k ≤ i → LeaveCopies p (frame E i ∷ S) (n + 1) (statements_count b) others) → IsInLoop k front (acts ++ others) behind u → IsInLoop k front acts (others ++ behind) u
+    before_last : (k : ℕ) (front acts others behind : List Act) (u : Store) → ((i : ℕ) → k ≤ i → LeaveAll p (frame E i ∷ S) (n + 1) (statements_count b) others) → IsInLoop k front (acts ++ others) behind u → IsInLoop k front acts (others ++ behind) u
     before_last k front acts others behind u leave d = record {
       whole = whole_first front acts others behind d.whole;
       from = d.from;
       entering = (inner_first acts others u d.entering.0, d.entering.1);
       before = d.before;
-      after = λ i e. leave_append p (frame E i ∷ S) (n + 1) (statements_count b) others behind (leave i e) (d.after i e);
+      after = λ i e. left_append p (frame E i ∷ S) (n + 1) (statements_count b) others behind (leave i e) (d.after i e);
     }
 
-    module _ (By : List Act → List Act → Store → List Act → List Act → Type 0) (T : Scope) (F : Entered) (other : Frame → Store → Run)
+    module _ (one : IsOneToOne p.number) (By : List Act → List Act → Store → List Act → List Act → Type 0) (T : Scope) (F : Entered) (other : Frame → Store → Run)
         (comes : (k : ℕ) → 1 ≤ k → k ≤ E.count → AreJoined By (IsHere (frame E k ∷ S) (n + 1) (statements_count b)) (Body (frame E k)) (other (frame F k))) where
       abbrev Ended : ℕ → Act
       Ended left = act (ended_turn left) (place_of p n S) (exit_when_none left E S)
@@ -357,20 +358,20 @@ module _ (p : Setting) (t : ProgramTree) (start : Store) (l : ℕ) where
       turns_come : EndsStay → (left k : ℕ) → 1 ≤ k → k + left ≡ E.count + 1 → AreJoined By (IsInLoop k) (turns left k E S (place_of p n S) Body) (turns left k F T (place_of p n S) other)
       turns_come stay zero k lo whole = joined_nothing By (IsInLoop k)
       turns_come stay (suc left) k lo whole =
-          let ending : (i : ℕ) → LeaveCopies p (frame E i ∷ S) (n + 1) (statements_count b) (Ended left ∷ []) =
-          λ i. end_leaves p n h b seen m S i (n + 1) (statements_count b) (ended_turn left) (place_of p n S) (exit_when_none left E S) (exit_when_own p S left E) in
+          let ending : (i : ℕ) → LeaveAll p (frame E i ∷ S) (n + 1) (statements_count b) (Ended left ∷ []) =
+          λ i. left_end p one n h b seen m S i (n + 1) (statements_count b) (ended_turn left) (exit_when_none left E S) (omega arith) (exit_when_own p S left E) in
           let hi : k ≤ E.count = omega (arith, whole) in
           joined_then By (IsInLoop k) (IsHere (frame E k ∷ S) (n + 1) (statements_count b)) (IsInLoop (k + 1)) (Body (frame E k))
           (does (ended_turn left) (place_of p n S) (exit_when_none left E S) (turns left (k + 1) E S (place_of p n S) Body)) (other (frame F k))
           (does (ended_turn left) (place_of p n S) (exit_when_none left F T) (turns left (k + 1) F T (place_of p n S) other)) (all_told p b (n + 1) (frame E k ∷ S))
           (λ front behind u v d. in_trip k front (Body (frame E k) u).acts (Ended left ∷ (turns left (k + 1) E S (place_of p n S) Body (store_behind (exit_when_none left E S) v)).acts) behind u lo hi
-          (leave_append p (frame E k ∷ S) (n + 1) (statements_count b) (Ended left ∷ []) (turns left (k + 1) E S (place_of p n S) Body (store_behind (exit_when_none left E S) v)).acts (ending k)
-          (turns_leave p n h b seen m S (place_of p n S) left (k + 1) (store_behind (exit_when_none left E S) v) k (n + 1) (statements_count b) (omega arith))) d)
+          (left_append p (frame E k ∷ S) (n + 1) (statements_count b) (Ended left ∷ []) (turns left (k + 1) E S (place_of p n S) Body (store_behind (exit_when_none left E S) v)).acts (ending k)
+          (left_turns p one n h b seen m S left (k + 1) (store_behind (exit_when_none left E S) v) k (n + 1) (statements_count b) (omega arith) (omega arith))) d)
           (λ front behind u d. in_last_trip k front (Body (frame E k) u).acts behind u lo hi d)
           (λ front behind u d.
           let v = store_after (Body (frame E k) u).acts u in
           further_on k (k + 1) front (Body (frame E k) u).acts (Ended left ∷ (turns left (k + 1) E S (place_of p n S) Body (store_behind (exit_when_none left E S) v)).acts) behind u (omega arith)
-          (λ i e. body_leaves p n h b seen m S i k u (n + 1) (statements_count b) (λ same. omega (arith, e, same))) d)
+          (λ i e. left_body p one n h b seen m S i k u (n + 1) (statements_count b) (λ same. omega (arith, e, same))) d)
           (comes k lo hi)
           (λ front behind u d e. joined_act By (ended_turn left) (place_of p n S) (exit_when_none left E S) (exit_when_none left F T) (turns left (k + 1) E S (place_of p n S) Body) (turns left (k + 1) F T (place_of p n S) other) front behind u
           (stay left (in_whole front (Ended left) ((turns left (k + 1) E S (place_of p n S) Body (store_behind (exit_when_none left E S) u)).acts ++ behind) d.whole))
@@ -383,10 +384,10 @@ module _ (p : Setting) (t : ProgramTree) (start : Store) (l : ℕ) where
           let hi : k ≤ E.count = omega (arith, whole) in
           joined_then By (IsInLoop k) (IsHere (frame E k ∷ S) (n + 1) (statements_count b)) (IsInLoop (k + 1)) (Body (frame E k)) (parallel_turns left (k + 1) E Body) (other (frame F k)) (parallel_turns left (k + 1) F other)
           (all_told p b (n + 1) (frame E k ∷ S))
-          (λ front behind u v d. in_trip k front (Body (frame E k) u).acts (parallel_turns left (k + 1) E Body v).acts behind u lo hi (parallel_leave p n h b seen m S left (k + 1) v k (n + 1) (statements_count b) (omega arith)) d)
+          (λ front behind u v d. in_trip k front (Body (frame E k) u).acts (parallel_turns left (k + 1) E Body v).acts behind u lo hi (left_parallel p one n h b seen m S left (k + 1) v k (n + 1) (statements_count b) (omega arith)) d)
           (λ front behind u d. in_last_trip k front (Body (frame E k) u).acts behind u lo hi d)
           (λ front behind u d. further_on k (k + 1) front (Body (frame E k) u).acts (parallel_turns left (k + 1) E Body (store_after (Body (frame E k) u).acts u)).acts behind u (omega arith)
-          (λ i e. body_leaves p n h b seen m S i k u (n + 1) (statements_count b) (λ same. omega (arith, e, same))) d)
+          (λ i e. left_body p one n h b seen m S i k u (n + 1) (statements_count b) (λ same. omega (arith, e, same))) d)
           (comes k lo hi) (parallel_come left (k + 1) (omega arith) (omega (arith, whole)))
 
       -- the close of a PARALLEL DO stays, or is changed
@@ -411,7 +412,7 @@ module _ (p : Setting) (t : ProgramTree) (start : Store) (l : ℕ) where
           joined_then By (IsInLoop 1) (IsInLoop 1) IsDoneAt (parallel_turns (suc more) 1 E Body) (does closed (place_of p n S) (exit_touches E S) nothing_done) (parallel_turns (suc more) 1 F other) (does closed (place_of p n S) (exit_touches F T) nothing_done)
           (parallel_told E Body (λ f. all_told p b (n + 1) (f ∷ S)) (suc more) 1)
           (λ front behind u v d. before_last 1 front (parallel_turns (suc more) 1 E Body u).acts (Closing ∷ []) behind u
-          (λ i q. end_leaves p n h b seen m S i (n + 1) (statements_count b) closed (place_of p n S) (exit_touches E S) (exit_own p S E)) d)
+          (λ i q. left_end p one n h b seen m S i (n + 1) (statements_count b) closed (exit_touches E S) (omega arith) (exit_own p S E)) d)
           (λ front behind u d. d)
           (λ front behind u d. (whole_rest front (parallel_turns (suc more) 1 E Body u).acts (Closing ∷ []) behind d.whole, from_rest front (parallel_turns (suc more) 1 E Body u).acts u d.from))
           (parallel_come (suc more) 1 (omega arith) (omega (arith, e))) (close_comes (closes refl))

@@ -31,10 +31,11 @@ use Rattle.ped_steps.proofs.RunLaws.SameNames.{inner_alike}
 use Rattle.ped_steps.proofs.RunLaws.FilledGaps.{counted, number_from, number_room, count_filled, indices_filled}
 use Rattle.ped_steps.proofs.RunLaws.OwnBounds.{agree_left, agree_right, truth_same, limits_same, with_bounds, run_bounds, all_bounds}
 use Rattle.ped_steps.proofs.RunLaws.LoopsRound.{none_before, all_none_before, all_none_from, one_more}
-use Rattle.ped_pasting.specs.Executions.{LeaveCopies, IsExecuted}
+use Rattle.ped_pasting.specs.Executions.{IsExecuted}
 use Rattle.ped_pasting.specs.Pasting.{CountAlike, IsPasted, DoInstead}
 use Rattle.ped_pasting.proofs.PastingLaws.JoinedParts.{IsJoined, AreJoined, joined_near, joined_then, joined_on}
-use Rattle.ped_pasting.proofs.PastingLaws.LeftCopies.{IsOwn, leave_none, own_leaves, run_leaves, all_leave, condition_own}
+use Rattle.ped_pasting.proofs.PastingLaws.LeftPlaces.{LeaveAll, left_none, left_own, left_run, left_all}
+use Rattle.ped_pasting.proofs.PastingLaws.LeftCopies.{IsOwn, condition_own}
 use Rattle.std.proofs.lemmas.Bool.{both_ways}
 use Rattle.ped_steps.specs.ped_flow.specs.ped_base.specs.Lists.{is_among}
 use Rattle.ped_tree.specs.NamesIn.{all_loop_variables}
@@ -115,7 +116,7 @@ module _ (names : List (List ℕ)) (apart : Cell → Bool) (p q : Setting) (t : 
   Goes = AreJoined By IsAmong
 
   -- the gap is in the first of two, or in the rest
-  first_comes : (scope : Scope) (n some lo more : ℕ) (f g other others : Store → Run) → lo ≤ n → n + some ≤ lo + more → IsToldByActs f → ((v : Store) → LeaveCopies p scope n some (g v).acts) → Comes scope n some f other → Goes g others
+  first_comes : (scope : Scope) (n some lo more : ℕ) (f g other others : Store → Run) → lo ≤ n → n + some ≤ lo + more → IsToldByActs f → ((v : Store) → LeaveAll p scope n some (g v).acts) → Comes scope n some f other → Goes g others
       → Comes scope lo more (λ u. then_run (f u) g) (λ u. then_run (other u) others)
   first_comes scope n some lo more f g other others below above told leave h k =
       joined_then By (IsHere p t start l scope lo more) (IsHere p t start l scope n some) IsAmong f g other others told
@@ -123,7 +124,7 @@ module _ (names : List (List ℕ)) (apart : Cell → Bool) (p q : Setting) (t : 
       (λ front behind u d. here_only p t start l scope lo more n some front (f u).acts behind u below above d)
       (λ front behind u d. whole_rest p t start l front (f u).acts (g (store_after (f u).acts u)).acts behind d.whole) h k
 
-  rest_comes : (scope : Scope) (n some lo more : ℕ) (f g other others : Store → Run) → lo ≤ n → n + some ≤ lo + more → IsToldByActs f → ((v : Store) → LeaveCopies p scope n some (f v).acts) → Goes f other → Comes scope n some g others
+  rest_comes : (scope : Scope) (n some lo more : ℕ) (f g other others : Store → Run) → lo ≤ n → n + some ≤ lo + more → IsToldByActs f → ((v : Store) → LeaveAll p scope n some (f v).acts) → Goes f other → Comes scope n some g others
       → Comes scope lo more (λ u. then_run (f u) g) (λ u. then_run (other u) others)
   rest_comes scope n some lo more f g other others below above told leave h k =
       joined_then By (IsHere p t start l scope lo more) IsAmong (IsHere p t start l scope n some) f g other others told
@@ -203,7 +204,7 @@ module _ (names : List (List ℕ)) (apart : Cell → Bool) (p q : Setting) (t : 
       let goes : finish_of (run_all p old l scope u).ending ≡ goes_on = must_go (run_all p old l scope u).ending e (all_unstopped p old l scope u stop) in
       let outer = inside_outer p t start l scope (run_all p old l scope u).acts u d.inside in
       let executed : IsExecuted p t start l (statements_count old) scope front (run_all p old l scope u).acts behind u =
-      record { place = place; whole = d.whole; from = d.from; outer = outer.0; entered = outer.1; unused_before = d.before; unused_behind = d.after } in
+      record { place = place; whole = d.whole; from = d.from; outer = outer.0; entered = outer.1; unused_before = d.before.0; unused_behind = d.after.0; only_before = d.before.1; only_behind = d.after.1 } in
       let made = each scope other front behind u near same executed goes in
       record {
         parts = changed (run_all p old l scope u).acts made.0 ∷ [];
@@ -248,7 +249,7 @@ module _ (names : List (List ℕ)) (apart : Cell → Bool) (p q : Setting) (t : 
         → Comes scope n (statement_count x) (run p x n scope) (run q y n other) → Comes scope n (statements_count (more_stmts x rest)) (run_all p (more_stmts x rest) n scope) (run_all q (more_stmts y rest) n other)
     with_rest x y rest n stand agree h count within first =
         first_comes scope n (statement_count x) n (statements_count (more_stmts x rest)) (run p x n scope) (run_all p rest (n + statement_count x) scope) (run q y n other) (run_all q rest (n + statement_count y) other) (omega arith) (omega arith) (run_told p x n scope)
-        (λ v. all_leave p one rest (n + statement_count x) scope v n (statement_count x) (inr (omega arith))) first
+        (λ v. left_all p one t rest (n + statement_count x) scope v n (statement_count x) stand (inr (omega arith))) first
         (all_behind rest (n + statement_count x) (n + statement_count y) stand agree h (omega (arith, count)) (omega (arith, within)))
 
     -- what a place tells a statement round it
@@ -274,7 +275,7 @@ module _ (names : List (List ℕ)) (apart : Cell → Bool) (p q : Setting) (t : 
     else_part lo some first second one_part two_part h k true = λ front behind u d ends. h front behind u d.whole ends
     else_part lo some first second one_part two_part h k false = k
 
-    if_comes : (n lo some : ℕ) (c : CondTree) (a b : StmtTrees) (first second one_part two_part : Store → Run) → n ≤ lo → lo + some ≤ n + statement_count (If c a b) → n < l → Agree (cond_names c)
+    if_comes : (n lo some : ℕ) (c : CondTree) (a b : StmtTrees) (first second one_part two_part : Store → Run) → n < lo → lo + some ≤ n + statement_count (If c a b) → n < l → Agree (cond_names c)
         → ((holds : Bool) → Comes scope lo some (if holds then first else second) (if holds then one_part else two_part))
         → Comes scope n (statement_count (If c a b)) (run_if (names_in p scope) (place_of p n scope) c first second) (run_if (names_in q other) (place_of q n other) c one_part two_part)
     if_comes n lo some c a b first second one_part two_part below above e agree part front behind u d ends =
@@ -290,8 +291,8 @@ module _ (names : List (List ℕ)) (apart : Cell → Bool) (p q : Setting) (t : 
           comes = truth_near names apart scope other near p c u seen holds is (quiet_act condition there n e refl (λ exit round. both_ways false refl exit));
           first = inl refl;
           rest = part holds (front ++ condition ∷ []) behind v
-              (here_rest p t start l scope n (statement_count (If c a b)) lo some front (condition ∷ []) ((if holds then first else second) v).acts behind u below above
-              (own_leaves p scope lo some did (place_of p n scope) (numbered_reads 1 seen) (subst (λ (z : List Seen). Each (λ (w : Touch). IsOwn p scope w.cell) (numbered_reads 1 z)) (ap (λ r. r.seen) is) (condition_own p scope c u))) here) going;
+              (here_rest p t start l scope n (statement_count (If c a b)) lo some front (condition ∷ []) ((if holds then first else second) v).acts behind u (omega (arith, below)) above
+              (left_own p one scope n lo some did (numbered_reads 1 seen) below (subst (λ (z : List Seen). Each (λ (w : Touch). IsOwn p scope w.cell) (numbered_reads 1 z)) (ap (λ r. r.seen) is) (condition_own p scope c u))) here) going;
         })
         d ends)
 
@@ -478,9 +479,9 @@ module _ (names : List (List ℕ)) (apart : Cell → Bool) (p q : Setting) (t : 
           record {
             comes = limits_near names apart scope other near p h u seen m is (quiet_reads entry first n before refl seen (λ y i. in_left y (numbered_reads 1 seen) (exit_when_none e.count e scope) i));
             first = entry_comes seen m front more behind u here.0.whole here.0.from;
-            rest = entered_come p t start l scope n h b seen m By other (Now seen m) body (λ k lo hi. comes seen m k) h.parallel (ends_stay seen m) (closes seen m) e.count refl
+            rest = entered_come p t start l scope n h b seen m one By other (Now seen m) body (λ k lo hi. comes seen m k) h.parallel (ends_stay seen m) (closes seen m) e.count refl
                 (front ++ entry ∷ []) behind v
-                (enter p t start l scope n h b seen m (statement_count (Do h b)) front more behind u (omega arith) x is here.0) going;
+                (enter p t start l scope n h b seen m one (statement_count (Do h b)) front more behind u (omega arith) x is here.0) going;
           })
           (d, refl) ends)
 
@@ -520,7 +521,7 @@ module _ (names : List (List ℕ)) (apart : Cell → Bool) (p q : Setting) (t : 
       subst (λ (f : Store → Run). Comes scope n (statements_count (followed old rest)) f (run_all q (followed new rest) n other)) (sym (run_followed p old rest n scope))
       (subst (Comes scope n (statements_count (followed old rest)) (λ u. then_run (run_all p old n scope u) (run_all p rest (n + statements_count old) scope))) (sym (run_followed q new rest n other))
       (first_comes scope n (statements_count old) n (statements_count (followed old rest)) (run_all p old n scope) (run_all p rest (n + statements_count old) scope) (run_all q new n other) (run_all q rest (n + statements_count new) other) (omega arith) (omega (arith, size)) (all_told p old n scope)
-      (λ v. all_leave p one rest (n + statements_count old) scope v n (statements_count old) (inr (omega arith)))
+      (λ v. left_all p one t rest (n + statements_count old) scope v n (statements_count old) (followed_stands t old rest n stand) (inr (omega arith)))
       (subst (λ (m : ℕ). Comes scope m (statements_count old) (run_all p old m scope) (run_all q new m other)) (sym e) (in_place scope other near same place))
       (all_behind scope other near rest (n + statements_count old) (n + statements_count new) (followed_stands t old rest n stand) agree (omega (arith, e)) (omega arith) (omega (arith, size, within)))))
 
@@ -538,7 +539,7 @@ module _ (names : List (List ℕ)) (apart : Cell → Bool) (p q : Setting) (t : 
       let from = number_from gap (n + statement_count x) in
       let earlier : n + statement_count x ≤ l = omega (arith, from, e) in
       rest_comes scope (n + statement_count x) (statements_count (filled gap old)) n (statements_count (more_stmts x (filled gap old))) (run p x n scope) (run_all p (filled gap old) (n + statement_count x) scope) (run q x n other) (run_all q (filled gap new) (n + statement_count x) other)
-      (omega arith) (omega arith) (run_told p x n scope) (λ v. run_leaves p one x n scope v (n + statement_count x) (statements_count (filled gap old)) (inl (omega arith)))
+      (omega arith) (omega arith) (run_told p x n scope) (λ v. left_run p one t x n scope v (n + statement_count x) (statements_count (filled gap old)) (first_stands t n (numbered x) (all_numbered (filled gap old)) r.stand) (inl (omega arith)))
       (one_before scope other near x n (first_stands t n (numbered x) (all_numbered (filled gap old)) r.stand) (agree_left p.bounds q.bounds (stmt_names x) (stmts_names (filled gap old)) agree) earlier)
       (all_come gap (n + statement_count x) scope other near same round e (omega (arith, within)) (agree_right p.bounds q.bounds (stmt_names x) (stmts_names (filled gap old)) agree) (into_rest x (filled gap old) n scope earlier r))
   all_come (in_then c gap b rest) n scope other near same round e within agree r =
@@ -625,8 +626,8 @@ changed_program names apart p q gap old new t u start By pasting quiet each exit
       whole = sym (append-nil (run_all p t.body 1 [] start).acts);
       from = refl;
       inside = tt;
-      before = leave_none p [] 1 (statements_count (filled gap old));
-      after = leave_none p [] 1 (statements_count (filled gap old));
+      before = left_none p [] 1 (statements_count (filled gap old));
+      after = left_none p [] 1 (statements_count (filled gap old));
     } in
     let h = bodies [] [] start here ends in
     (h.parts, h.old_is, h.exchanged, h.replays)

@@ -1,5 +1,5 @@
 -- Two executions of statements at one place of a run are one.
-use Rattle.std.proofs.Common.{◌≡◌, ℕ, ◌+◌, ◌<◌, ◌≤◌, List, [], ◌∷◌, ◌++◌, Bool, true, false, Option, Some, None, Result, Ok, Err, inl, inr, refl, sym, ap, subst, ◌∙◌, append-nil, append_assoc, arith, if◌then◌else◌}
+use Rattle.std.proofs.Common.{◌≡◌, ℕ, ◌+◌, ◌<◌, ◌≤◌, List, [], ◌∷◌, ◌++◌, Option, Some, None, Result, Ok, Err, inl, inr, refl, sym, ap, subst, ◌∙◌, append-nil, arith}
 use Rattle.ped_tree.specs.Tree.{StmtTree, StmtTrees, Assign, If, Do, Print, Read, Stop, Comment, no_stmts, more_stmts, ProgramTree}
 use Rattle.ped_tree.specs.Numbering.{statement_count, statements_count}
 use Rattle.ped_steps.specs.ped_laws.specs.ped_store.specs.Stores.{Store}
@@ -11,10 +11,9 @@ use Rattle.ped_steps.specs.ped_laws.specs.ped_eval.specs.Evaluation.{Seen, numbe
 use Rattle.ped_steps.specs.ped_laws.specs.ped_eval.specs.Values.{truth}
 use Rattle.ped_steps.specs.ped_laws.specs.ped_eval.specs.Statements.{Taking, assigned, assignment_touches, printed_line, print_touches, reading}
 use Rattle.ped_steps.specs.ped_laws.specs.ped_eval.specs.Loops.{limits, entered_with, entry_touches}
-use Rattle.ped_steps.specs.ped_laws.specs.ped_eval.specs.Runs.{Ending, going, stopped, failed, Run, followed_by, nothing_done, on_value, does, run_taking, run_from_entry, run_entered, run, run_all}
-use Rattle.ped_steps.specs.ped_laws.proofs.ActLaws.Lists.{in_middle}
+use Rattle.ped_steps.specs.ped_laws.specs.ped_eval.specs.Runs.{Ending, going, stopped, failed, Run, followed_by, on_value, run_taking, run, run_all}
 use Rattle.ped_steps.specs.ped_laws.proofs.FlowRunLaws.Apart.{same_behind}
-use Rattle.ped_pasting.specs.Executions.{IsActInside, LeavePlaces, IsExecuted}
+use Rattle.ped_pasting.specs.Executions.{IsActInside, IsExecuted}
 
 -- acts that begin with one of so many statements from number n on
 record BeginAt (p : Setting) (n count : ℕ) (S : Scope) (acts : List Act) : Type 0 where
@@ -90,23 +89,30 @@ module _ (Q : Act → Type 0) where
       let behind : front ++ a ∷ more ≡ others ++ b ∷ rest = cc in
       λ i. same i ∷ one_front front others a b more rest (λ z k. none z (inr k)) (λ z k. never z (inr k)) q r behind i
 
--- the same front, store and acts behind
-pub record AreOne (front others : List Act) (u v : Store) (behind rest : List Act) : Type 0 where
-  pub front_is : front ≡ others
-  pub store_is : u ≡ v
-  pub behind_is : behind ≡ rest
+module _ (p : Setting) (t : ProgramTree) (start : Store) (l : ℕ) (ts : StmtTrees) (some : 0 < statements_count ts) where
+  abbrev Inside : Scope → Act → Type 0
+  Inside S a = IsActInside p S l (statements_count ts) a
 
-pub one_execution : (p : Setting) (t : ProgramTree) (start : Store) (l : ℕ) (ts : StmtTrees) (scope : Scope) (front others behind rest : List Act) (u v : Store) → 0 < statements_count ts
-    → IsExecuted p t start l (statements_count ts) scope front (run_all p ts l scope u).acts behind u → IsExecuted p t start l (statements_count ts) scope others (run_all p ts l scope v).acts rest v
-    → (front ≡ others) × (u ≡ v) × (behind ≡ rest)
-one_execution p t start l ts scope front others behind rest u v some x y =
-    let a = all_begin p ts l scope u some in
-    let b = all_begin p ts l scope v some in
-    let whole : front ++ a.first ∷ (a.more ++ behind) ≡ others ++ b.first ∷ (b.more ++ rest) =
-    sym (ap (λ (z : List Act). front ++ (z ++ behind)) a.is) ∙ (sym x.whole ∙ (y.whole ∙ ap (λ (z : List Act). others ++ (z ++ rest)) b.is)) in
-    let front_is = one_front (λ (c : Act). IsActInside p scope l (statements_count ts) c) front others a.first b.first (a.more ++ behind) (b.more ++ rest) (λ c i q. x.only_before c i q) (λ c i q. y.only_before c i q) a.inside b.inside whole in
-    let store_is : u ≡ v = x.from ∙ (ap (λ (z : List Act). store_after z start) front_is ∙ sym y.from) in
-    let tail : (run_all p ts l scope u).acts ++ behind ≡ (run_all p ts l scope u).acts ++ rest =
-    same_behind front ((run_all p ts l scope u).acts ++ behind) ((run_all p ts l scope u).acts ++ rest)
-    (sym x.whole ∙ (y.whole ∙ (λ i. sym front_is i ++ ((run_all p ts l scope (sym store_is i)).acts ++ rest)))) in
-    (front_is, store_is, same_behind (run_all p ts l scope u).acts behind rest tail)
+  in_same : (scope other : Scope) → turns_of other ≡ turns_of scope → (a : Act) → Inside other a → Inside scope a
+  in_same scope other e a x = record { number = x.number; from = x.from; to = x.to; is = x.is; more = x.more; turns = x.turns ∙ ap (λ z. z ++ x.more) e }
+
+  abbrev Executed : Scope → List Act → List Act → Store → Type 0
+  Executed S front behind u = IsExecuted p t start l (statements_count ts) S front (run_all p ts l S u).acts behind u
+
+  pub one_place : (scope other : Scope) (front others behind rest : List Act) (u v : Store) → turns_of other ≡ turns_of scope → Executed scope front behind u → Executed other others rest v → (front ≡ others) × (u ≡ v)
+  one_place scope other front others behind rest u v e x y =
+      let a = all_begin p ts l scope u some in
+      let b = all_begin p ts l other v some in
+      let whole : front ++ a.first ∷ (a.more ++ behind) ≡ others ++ b.first ∷ (b.more ++ rest) =
+      sym (ap (λ (z : List Act). front ++ (z ++ behind)) a.is) ∙ (sym x.whole ∙ (y.whole ∙ ap (λ (z : List Act). others ++ (z ++ rest)) b.is)) in
+      let front_is =
+      one_front (Inside scope) front others a.first b.first (a.more ++ behind) (b.more ++ rest) (λ c i q. x.only_before c i q) (λ c i q. y.only_before c i (in_same other scope (sym e) c q)) a.inside (in_same scope other e b.first b.inside) whole in
+      (front_is, x.from ∙ (ap (λ (z : List Act). store_after z start) front_is ∙ sym y.from))
+
+  pub one_execution : (scope : Scope) (front others behind rest : List Act) (u v : Store) → Executed scope front behind u → Executed scope others rest v → behind ≡ rest
+  one_execution scope front others behind rest u v x y =
+      let same = one_place scope scope front others behind rest u v refl x y in
+      let tail : (run_all p ts l scope u).acts ++ behind ≡ (run_all p ts l scope u).acts ++ rest =
+      same_behind front ((run_all p ts l scope u).acts ++ behind) ((run_all p ts l scope u).acts ++ rest)
+      (sym x.whole ∙ (y.whole ∙ (λ i. sym same.0 i ++ ((run_all p ts l scope (sym same.1 i)).acts ++ rest)))) in
+      same_behind (run_all p ts l scope u).acts behind rest tail

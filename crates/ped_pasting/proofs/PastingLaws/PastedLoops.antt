@@ -1,5 +1,5 @@
 -- The way down to statements that are exchanged: where acts are done on it, and a DO with the gap in its body.
-use Rattle.std.proofs.Common.{◌⊎◌, ◌≡◌, ℕ, zero, suc, ◌+◌, ◌-◌, ◌≤◌, List, [], ◌∷◌, ◌++◌, Bool, true, false, ◌||◌, Some, Ok, inl, inr, refl, sym, ap, subst, ◌∙◌, arith}
+use Rattle.std.proofs.Common.{◌⊎◌, ◌≡◌, ℕ, zero, suc, ◌+◌, ◌≤◌, List, [], ◌∷◌, ◌++◌, Bool, true, false, ◌||◌, Some, Ok, inl, inr, refl, sym, ap, subst, ◌∙◌, arith}
 use Rattle.std.specs.List.{list_any}
 use Rattle.std.proofs.lemmas.List.{append-nil, append_assoc}
 use Rattle.std.proofs.lemmas.List.Folds.{list_any-append}
@@ -10,11 +10,10 @@ use Rattle.ped_steps.specs.ped_laws.specs.ped_store.specs.Stores.{Store}
 use Rattle.ped_steps.specs.ped_laws.specs.ped_store.specs.Acts.{Act, Touch, Turn, entered, ended_turn, closed, store_behind}
 use Rattle.ped_steps.specs.ped_laws.specs.Acts.Fitting.{store_after}
 use Rattle.ped_steps.specs.ped_laws.proofs.ActLaws.Stores.{after_append}
-use Rattle.ped_steps.specs.ped_laws.specs.Acts.Pieces.{changed}
 use Rattle.ped_steps.specs.ped_laws.specs.ped_eval.specs.Scopes.{Setting, Frame, Scope, turns_of, names_in, place_of}
 use Rattle.ped_steps.specs.ped_laws.specs.ped_eval.specs.Evaluation.{Seen}
 use Rattle.ped_steps.specs.ped_laws.specs.ped_eval.specs.Loops.{Limits, limits, Entered, entered_with, frame, exit_touches, exit_when_none, entry_touches}
-use Rattle.ped_steps.specs.ped_laws.specs.ped_eval.specs.Runs.{Ending, going, stopped, failed, Run, nothing_done, followed_by, then_run, does, on, turns, parallel_turns, run_entered, run, run_all}
+use Rattle.ped_steps.specs.ped_laws.specs.ped_eval.specs.Runs.{Ending, going, stopped, failed, Run, nothing_done, followed_by, then_run, does, turns, parallel_turns, run_entered, run, run_all}
 use Rattle.ped_steps.specs.ped_laws.specs.ped_eval.specs.Outcomes.{Ends}
 use Rattle.ped_steps.specs.ped_laws.specs.Runs.Replaying.{goes_on, finish_of, act}
 use Rattle.ped_steps.specs.ped_laws.proofs.RunLaws.Touches.{Each}

@@ -12,7 +12,7 @@ use Rattle.ped_steps.specs.ped_laws.specs.ped_eval.specs.Scopes.{Setting, Frame,
 use Rattle.ped_steps.specs.ped_laws.specs.ped_eval.specs.Evaluation.{Seen, numbered as numbered_reads, number_behind}
 use Rattle.ped_steps.specs.ped_laws.specs.ped_eval.specs.Values.{truth}
 use Rattle.ped_steps.specs.ped_laws.specs.ped_eval.specs.Loops.{Limits, limits, increment, iteration_count, Entered, entered_with, frame, inner_variables, exit_touches, exit_when_none, entry_touches}
-use Rattle.ped_steps.specs.ped_laws.specs.ped_eval.specs.Runs.{going, Run, then_run, does, on, turns, run_if, run_entered, run_from_entry, run_do, run, run_all}
+use Rattle.ped_steps.specs.ped_laws.specs.ped_eval.specs.Runs.{Run, then_run, does, on, run_if, run_entered, run_from_entry, run_do, run, run_all}
 use Rattle.ped_steps.specs.ped_laws.specs.ped_eval.specs.Outcomes.{Ends}
 use Rattle.ped_steps.specs.ped_laws.specs.Runs.Replaying.{Finish, goes_on, finish_of, act, Replays, IsToldByActs}
 use Rattle.ped_steps.specs.ped_laws.proofs.RunLaws.Touches.{Each}

@@ -20,3 +20,4 @@ pub mod PastedLoops
 pub mod ExitsStand
 pub mod LeftPlaces
 pub mod OneExecution
+pub mod StripCopies

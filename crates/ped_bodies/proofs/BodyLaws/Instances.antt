@@ -3,7 +3,7 @@ use Rattle.std.proofs.Common.{◌≡◌, ℕ, ◌+◌, ◌-◌, List, [], ◌∷
 use Rattle.std.specs.Prelude.{◌==◌, ◌/◌, ◌%◌}
 use Rattle.std.proofs.lemmas.Bool.{both_ways}
 use Rattle.ped_steps.specs.ped_flow.specs.ped_base.specs.Lists.{is_same_text, is_among}
-use Rattle.ped_base.proofs.NameEquality.{same_is}
+use Rattle.ped_steps.specs.ped_flow.specs.ped_base.proofs.NameEquality.{same_is}
 use Rattle.ped_tree.specs.Constants.NamedConstants.{value_named}
 use Rattle.ped_tree.specs.Tree.{ExprTree, Var, StmtTrees}
 use Rattle.ped_tree.specs.NamesIn.{stmts_names}

@@ -31,11 +31,11 @@ counted_up a b k zero x y c d e f g h = (omega (arith, g), omega (arith, h))
 counted_up a b k (suc n) x y c d e f g h =
     (omega (arith, e), omega (arith, f), counted_up a b (k + 1) n (a + k) (b + k) c d (omega arith) (omega arith) (omega (arith, e, g)) (omega (arith, f, h)))
 
-pub same_map : {X Y : Type 0} (f g : X → Y) → ((x : X) → f x ≡ g x) → (xs : List X) → map f xs ≡ map g xs
+same_map : {X Y : Type 0} (f g : X → Y) → ((x : X) → f x ≡ g x) → (xs : List X) → map f xs ≡ map g xs
 same_map f g same [] = refl
 same_map f g same (x ∷ xs) = λ i. same x i ∷ same_map f g same xs i
 
-pub plain_pair : (j : ℕ) → ◌≡◌ {A = ℕ × ℕ} (0 + j, 0 + j) (j, j)
+plain_pair : (j : ℕ) → ◌≡◌ {A = ℕ × ℕ} (0 + j, 0 + j) (j, j)
 plain_pair j = let e : 0 + j ≡ j = omega arith in λ i. (e i, e i)
 
 all_later : (a b c d : ℕ) (ps : List (ℕ × ℕ)) → Rise a b c d ps → AllByRecursion (λ (q : ℕ × ℕ). (a < q.0) × (b < q.1)) ps
@@ -50,13 +50,13 @@ firsts : (a b c d : ℕ) (ps : List (ℕ × ℕ)) → Rise a b c d ps → AllPai
 firsts a b c d [] h = λ i j e less below. absurd (omega (arith, below))
 firsts a b c d (p ∷ ps) h =
     AllPairs-cons (λ (x y : ℕ × ℕ). x.0 ≢ y.0) p ps
-    (All-from_recursion _ ps (told _ _ (λ (q : ℕ × ℕ) later (same : p.0 ≡ q.0). let l = later.0 in omega (arith, l, same)) ps (all_later p.0 p.1 c d ps h.2))) (firsts p.0 p.1 c d ps h.2)
+    (All-from_recursion _ ps (told (λ (q : ℕ × ℕ). (p.0 < q.0) × (p.1 < q.1)) (λ (q : ℕ × ℕ). p.0 ≢ q.0) (λ (q : ℕ × ℕ) later (same : p.0 ≡ q.0). let l = later.0 in omega (arith, l, same)) ps (all_later p.0 p.1 c d ps h.2))) (firsts p.0 p.1 c d ps h.2)
 
 seconds : (a b c d : ℕ) (ps : List (ℕ × ℕ)) → Rise a b c d ps → AllPairs (λ p q. p.1 ≢ q.1) ps
 seconds a b c d [] h = λ i j e less below. absurd (omega (arith, below))
 seconds a b c d (p ∷ ps) h =
     AllPairs-cons (λ (x y : ℕ × ℕ). x.1 ≢ y.1) p ps
-    (All-from_recursion _ ps (told _ _ (λ (q : ℕ × ℕ) later (same : p.1 ≡ q.1). let l = later.1 in omega (arith, l, same)) ps (all_later p.0 p.1 c d ps h.2))) (seconds p.0 p.1 c d ps h.2)
+    (All-from_recursion _ ps (told (λ (q : ℕ × ℕ). (p.0 < q.0) × (p.1 < q.1)) (λ (q : ℕ × ℕ). p.1 ≢ q.1) (λ (q : ℕ × ℕ) later (same : p.1 ≡ q.1). let l = later.1 in omega (arith, l, same)) ps (all_later p.0 p.1 c d ps h.2))) (seconds p.0 p.1 c d ps h.2)
 
 -- so many at the front and so many at the back, where they don't meet
 pub ends_one_to_one : (n m front back : ℕ) → front + back ≤ n → front + back ≤ m → IsOneToOne (kept_ends n m front back)

@@ -1,6 +1,5 @@
 -- What a command does: its reply, and the state of the session behind it (ParaScope; this project).
-use Rattle.std.specs.Prelude.{◌≡◌, ◌⊎◌, ℕ, ◌-◌, ◌+◌, List, [], ◌∷◌, ◌++◌, codes, true, false, Option, Some, None, MatchBool, is_some}
-use Rattle.std.specs.Fmt.{decimal}
+use Rattle.std.specs.Prelude.{◌≡◌, ◌⊎◌, ℕ, ◌-◌, ◌+◌, List, [], ◌∷◌, true, false, Option, Some, None, MatchBool, is_some}
 use Rattle.ped_tree.specs.Tree.{StmtTree, ProgramTree}
 use Rattle.ped_tree.specs.Printing.{program_text}
 use Rattle.ped_tree.specs.Numbering.{statement_with}
@@ -21,7 +20,7 @@ use Rattle.ped_session.specs.declared.replies.Reply.TheVariants.{Changed, Shown,
 use Rattle.ped_session.specs.declared.replies.Refusal.{Refusal}
 use Rattle.ped_session.specs.States.{Other, State, changed_to, gone_back_to, gone_forward_to}
 use Rattle.ped_session.specs.Splices.{spliced, are_lines, is_place, edit_keep}
-use Rattle.ped_session.specs.Panes.{IsSourcePane, ArePanes}
+use Rattle.ped_session.specs.Panes.{IsSourcePane, ArePanes, tested_row}
 use Rattle.ped_session.specs.Blocks.{block}
 use Rattle.ped_session.specs.RaceRows.{IsRaceRow}
 use Rattle.ped_session.specs.Transforming.{StepAt, privatising, expanding}
@@ -90,10 +89,6 @@ GoesForward (other ∷ future) s reply next = (reply ≡ Changed) × (next ≡ g
 abbrev pub Runs : List ℕ → List ℕ → State → Reply → State → Type 0
 Runs [] data_bytes s reply next = Shows (λ t bytes. bytes ≡ block (outcome t data_bytes)) s reply next
 Runs (c ∷ cs) data_bytes s reply next = Refuses NotBuilt s reply next
-
--- the number of pairs that were tested, as a line (this project)
-abbrev pub tested_row : ℕ → List ℕ
-tested_row n = codes "tested " ++ decimal n ++ 10 ∷ []
 
 -- what a command does to a session whose programs are run on these data
 abbrev pub IsStep : Command → List ℕ → State → Reply → State → Type 0

@@ -1,8 +1,15 @@
 //! Edits: lines of the present source go, others come, and what results is read afresh.
 
 ghost use Rattle.std.specs.Prelude.{◌≡◌, ◌+◌, ◌≤◌, IfOk, OnErr};
+ghost use Rattle.ped_tree.specs.Tree.{ProgramTree};
+ghost use Rattle.ped_tree.specs.Views.{program_tree};
+ghost use Rattle.ped_valid.specs.ped_symbols.specs.NameRefusals.{IsValid};
+ghost use Rattle.ped_valid.specs.ped_symbols.specs.Kinds.{table_of};
+ghost use Rattle.ped_valid.specs.Validity.{ReadsValid};
+ghost use Rattle.ped_graph.specs.Update.Fresh.{tested_pairs};
 ghost use Rattle.ped_session.specs.declared.replies.Reply.{Reply};
 ghost use Rattle.ped_session.specs.States.{State};
+ghost use Rattle.ped_session.specs.Changing.{EditChanges};
 ghost use Rattle.ped_session.specs.Splices as Splices;
 ghost use Rattle.ped_session.specs.Steps.{Edits, Replaces, Inserts};
 ghost use Rattle.ped_session.specs.Scripts.{tests_of};
@@ -82,19 +89,6 @@ impl<L: Ledger> Session<L> {
             Err(OpenRefusal::NoMemory) => return Err(NoMemory),
         }
     }
-}
-
-impl<L: Ledger> Session<L> {
-    ghost use Rattle.std.specs.Prelude.{List, ℕ};
-    ghost use Rattle.ped_tree.specs.Tree.{ProgramTree};
-    ghost use Rattle.ped_tree.specs.Views.{program_tree};
-    ghost use Rattle.ped_tree.specs.Printing.{program_text};
-    ghost use Rattle.ped_valid.specs.Validity.{ReadsValid};
-    ghost use Rattle.ped_valid.specs.ped_symbols.specs.NameRefusals.{IsValid};
-    ghost use Rattle.ped_valid.specs.ped_symbols.specs.Kinds.{table_of};
-    ghost use Rattle.ped_graph.specs.Update.Fresh.{tested_pairs};
-    ghost use Rattle.ped_session.specs.declared.changes.Change.TheVariants as change;
-    ghost use Rattle.ped_session.specs.Changing.{EditChanges};
 
     /// Makes what an edit reads as the present program; so many lines of the former source were kept at the front, and
     /// so many went.

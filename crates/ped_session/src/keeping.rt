@@ -58,7 +58,8 @@ fn push_kept(keep: &mut Keep, before: u32, behind: u32, count: u32) -> Result<()
     ensures { OnOk result (keep.new ≡ keep.old ++ map (λ j. (before + j, behind + j)) (range_with_len 1 count)) }
 {
     for number in 0..count {
-        keep.push((before + number + 1, behind + number + 1))?;
+        let next = number + 1;
+        keep.push((before + next, behind + next))?;
     }
     Ok(())
 }

@@ -1,13 +1,12 @@
 -- What takes a graph to that of a changed program, by the program.
 use Rattle.std.proofs.Common.{◌≡◌, ℕ, ◌+◌, List, length, ap, sym, ◌∙◌, subst}
-use Rattle.std.specs.List.{count_by}
 use Rattle.ped_tree.specs.Tree.{ProgramTree}
 use Rattle.ped_refs.specs.References.{references, pairs}
 use Rattle.ped_graph.specs.Dependences.{facts_of, view_of}
-use Rattle.ped_graph.specs.Held.{Held, framed, held_of, held_pairs}
+use Rattle.ped_graph.specs.Held.{Held, framed, held_of}
 use Rattle.ped_graph.specs.Keys.{AreInOrder}
 use Rattle.ped_graph.specs.Parts.{HeldParts, Fit}
-use Rattle.ped_graph.specs.Update.Fresh.{IsOneToOne, is_fresh, tested_pairs}
+use Rattle.ped_graph.specs.Update.Fresh.{IsOneToOne, fresh_pairs}
 use Rattle.ped_graph.specs.Update.Matching.{parts_for}
 use Rattle.ped_graph.proofs.Slices.{length_mapped}
 use Rattle.ped_graph.proofs.InOrder.{frame_in_order}
@@ -30,11 +29,11 @@ module _ (former : Held) (keep : List (ℕ × ℕ)) (once : IsOneToOne keep) (t 
       (subst (λ (h : Held). Fit (parts_for former keep changed) former h) is (parts_fit former keep once changed in_order (paired_views t changed is)))
 
   -- the slots are those of fresh pairs and of pairs that keep a verdict
-  pub slots_counted : length parts.slots ≡ count_by (is_fresh former keep) (held_pairs changed) + length parts.kept
+  pub slots_counted : length parts.slots ≡ fresh_pairs former keep changed + length parts.kept
   slots_counted =
       ap (λ (p : HeldParts). length p.slots) made ∙ tested_counted former keep once changed in_order (paired_views t changed is)
-      ∙ ap (λ (p : HeldParts). count_by (is_fresh former keep) (held_pairs changed) + length p.kept) (sym made)
+      ∙ ap (λ (p : HeldParts). fresh_pairs former keep changed + length p.kept) (sym made)
 
--- the fresh pairs of a program by the former program
-pub fresh_pairs : (former : Held) (keep : List (ℕ × ℕ)) (old new : ProgramTree) (changed : Held) → former ≡ held_of old → changed ≡ held_of new → count_by (is_fresh former keep) (held_pairs changed) ≡ tested_pairs old new keep
-fresh_pairs former keep old new changed is goes = λ i. count_by (is_fresh (is i) keep) (held_pairs (goes i))
+-- the fresh pairs of what a graph holds of a program
+pub fresh_of : (former : Held) (keep : List (ℕ × ℕ)) (t : ProgramTree) (changed : Held) → changed ≡ held_of t → fresh_pairs former keep changed ≡ fresh_pairs former keep (held_of t)
+fresh_of former keep t changed is = ap (λ (h : Held). fresh_pairs former keep h) is

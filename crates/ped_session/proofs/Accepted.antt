@@ -10,7 +10,8 @@ use Rattle.ped_tree.specs.Grammar.RefusalViews.{finding_of}
 use Rattle.ped_tree.specs.declared.grammar.refusals.Refusal as of_text
 use Rattle.ped_valid.specs.Validity.{ReadsValid, RefusesText}
 use Rattle.ped_valid.proofs.OneVerdict.{one_of_both}
-use Rattle.ped_graph.specs.Update.Fresh.{tested_pairs}
+use Rattle.ped_graph.specs.Held.{Held, held_of}
+use Rattle.ped_graph.specs.Update.Fresh.{fresh_pairs, tested_pairs}
 use Rattle.ped_session.specs.declared.changes.Change.TheVariants.{Edit}
 use Rattle.ped_session.specs.declared.replies.Reply.{Reply}
 use Rattle.ped_session.specs.declared.replies.Reply.TheVariants.{Changed, Refused}
@@ -43,6 +44,10 @@ module _ {L : _} where
 -- counts of tests
 pub as_counted : (now before tested all count : ℕ) → now ≡ before + all → tested ≡ all → count ≡ tested → now ≡ before + count
 as_counted now before tested all count ticks is told = ticks ∙ ap (λ (n : ℕ). before + n) (sym (told ∙ is))
+
+-- the pairs that a change tests, by the program that the graph holds
+pub fresh_by : (h : Held) (old new : ProgramTree) (keep : List (ℕ × ℕ)) → h ≡ held_of old → fresh_pairs h keep (held_of new) ≡ tested_pairs old new keep
+fresh_by h old new keep is = ap (λ (k : Held). fresh_pairs k keep (held_of new)) is
 
 -- a text reads as one valid program
 pub one_valid : (text : List ℕ) (t u : ProgramTree) → ReadsValid text t → ReadsValid text u → t ≡ u

@@ -2,12 +2,9 @@ use Rattle.std.proofs.Common.{◌≡◌, ◌∙◌, ◌+◌, ◌≤◌, ◌-◌,
 use Rattle.ped_tree.specs.Views.{program_tree}
 use Rattle.ped_graph.specs.Held.{Held, held_of}
 use Rattle.ped_graph.specs.Parts.{HeldParts, Fit}
-use Rattle.ped_graph.specs.Update.Fresh.{IsOneToOne}
-use Rattle.ped_graph.proofs.Updated.{paired_views, program_fits, slots_counted, fresh_pairs}
+use Rattle.ped_graph.specs.Update.Fresh.{IsOneToOne, fresh_pairs}
+use Rattle.ped_graph.proofs.Updated.{paired_views, program_fits, slots_counted, fresh_of}
 use Rattle.ped_graph.proofs.update.updating.update.Goals as goal
 
-pub overflow_sub-tested : goal.overflow_sub-tested
-overflow_sub-tested g c = let h = c.in_ok-parts in ?
-
-pub exchange-requires : goal.exchange-requires
-exchange-requires g c = ?
+pub matched-requires : goal.matched-requires
+matched-requires g c = paired_views (program_tree c.args.program.now) _ c.in_ok-prepared.ensures

@@ -19,7 +19,7 @@ use Rattle.ped_session.specs.declared.replies.Refusal.TheVariants.{BadEdit, NoSu
 use Rattle.ped_session.specs.declared.versions.Entry.{Entry}
 use Rattle.ped_session.specs.Holding.{other_of}
 use Rattle.ped_session.specs.States.{State, changed_to}
-use Rattle.ped_session.specs.Changing.{EditChanges}
+use Rattle.ped_session.specs.Changing.{Changes, EditChanges}
 use Rattle.ped_session.specs.Splices.{spliced, line_count, are_lines, is_place, edit_keep}
 use Rattle.ped_session.specs.Steps.{Refuses, Edits, accepted, refused, Replaces, Inserts}
 use Rattle.ped_session.specs.Scripts.{tests_of}
@@ -72,6 +72,22 @@ made_from slice text source present kept gone new is made from = is ∙ made ∙
 pub edited : (s next : State) (kept gone : ℕ) (text all : List ℕ) (new : ProgramTree) (reply : Reply) → text ≡ all → ReadsValid text new → EditChanges new kept gone s reply next → Edits kept gone all s reply next
 edited s next kept gone text all new reply made reads change =
     accepted change.1 new change.2 (subst (λ (bytes : List ℕ). ReadsValid bytes new) made reads) change.0 change.3
+
+-- the statements that it keeps are those of the program that the present source reads as
+keep_of : (old u new : ProgramTree) (kept gone : ℕ) (keep : List (ℕ × ℕ)) → keep ≡ edit_keep old new kept gone → u ≡ old → keep ≡ edit_keep u new kept gone
+keep_of old u new kept gone keep is same = is ∙ ap (λ (t : ProgramTree). edit_keep t new kept gone) (sym same)
+
+pub edit_changes : (s next : State) (old new : ProgramTree) (kept gone : ℕ) (keep : List (ℕ × ℕ)) (reply : Reply)
+    → keep ≡ edit_keep old new kept gone → ((t : ProgramTree) → ReadsValid s.present t → t ≡ old)
+    → Changes new keep Edit s reply next → EditChanges new kept gone s reply next
+edit_changes s next old new kept gone keep reply is only h =
+    let same = keep_of old h.1 new kept gone keep is (only h.1 h.2) in
+    (h.0, h.1, h.2, h.3 ∙ ap (λ (k : List (ℕ × ℕ)). changed_to (program_text new) Edit (tested_pairs h.1 new k) s) same)
+
+pub edit_tests : (old u new : ProgramTree) (kept gone : ℕ) (keep : List (ℕ × ℕ)) (before now : ℕ) → keep ≡ edit_keep old new kept gone → u ≡ old
+    → now ≤ before + tested_pairs u new keep → now ≤ before + tested_pairs u new (edit_keep u new kept gone)
+edit_tests old u new kept gone keep before now is same most =
+    subst (λ (k : List (ℕ × ℕ)). now ≤ before + tested_pairs u new k) (keep_of old u new kept gone keep is same) most
 
 -- an edit whose text is refused
 pub refused_edit : (s : State) (kept gone : ℕ) (text all : List ℕ) (why : of_text.Refusal) → text ≡ all → RefusesText text (finding_of why)

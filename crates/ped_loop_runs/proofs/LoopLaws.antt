@@ -4,3 +4,6 @@ pub mod Nested
 pub mod Trips
 pub mod PlainReads
 pub mod Examples
+pub mod NextIn
+pub mod OneOut
+pub mod FurtherOut

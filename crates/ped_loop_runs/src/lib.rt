@@ -4,7 +4,9 @@
 
 mod bounds;
 mod carried;
+mod one_out;
 
 pub use bounds::plain_reads_unwritten;
 pub use carried::{meetings_are_carried, trips_are_carried, trips_dont_conflict};
+pub use one_out::plain_one_out;
 pub use ped_steps;

@@ -15,8 +15,8 @@ most_crates_with_edits=12
 most_test_lines=250
 most_crates_with_tests=2
 most_ways=5000
-most_lemma_files=142
-most_lemma_imports=726
+most_lemma_files=150
+most_lemma_imports=778
 most_needless_doors=135
 
 edits() {

@@ -24,11 +24,11 @@ use Rattle.ped_answer.specs.ped_session.specs.declared.replies.Reply.{Reply}
 use Rattle.ped_answer.specs.ped_session.specs.declared.replies.Reply.TheVariants.{Changed, Shown, Refused}
 use Rattle.ped_answer.specs.ped_session.specs.States.{Other, State, opened, changed_to, gone_back_to, gone_forward_to}
 use Rattle.ped_answer.specs.ped_session.specs.Splices.{spliced, are_lines, is_place, edit_keep}
-use Rattle.ped_answer.specs.ped_session.specs.Panes.{IsSourcePane, ArePanes}
+use Rattle.ped_answer.specs.ped_session.specs.Panes.{IsSourcePane, ArePanes, tested_row}
 use Rattle.ped_answer.specs.ped_session.specs.Blocks.{block}
 use Rattle.ped_answer.specs.ped_session.specs.RaceRows.{race_row, IsRaceRow}
 use Rattle.ped_answer.specs.ped_session.specs.Transforming.{StepAt, privatising, expanding}
-use Rattle.ped_answer.specs.ped_session.specs.Steps.{Refuses, Shows, ShowsOf, ShowsStatement, Edits, accepted, refused, Transforms, missing, forbidden, transformed, GoesBack, GoesForward, Runs, IsStep, tested_row}
+use Rattle.ped_answer.specs.ped_session.specs.Steps.{Refuses, Shows, ShowsOf, ShowsStatement, Edits, accepted, refused, Transforms, missing, forbidden, transformed, GoesBack, GoesForward, Runs, IsStep}
 use Rattle.ped_answer.specs.ped_session.specs.Histories.{IsPrinted, ArePrinted}
 use Rattle.ped_answer.specs.ped_session.specs.Scripts.{Said, said_by, bad_command_said, nothing_said, said_both, AnswersCommand, AnswersItems}
 use Rattle.ped_existence.proofs.Edges.{pane_of_program, pane_of_statement}

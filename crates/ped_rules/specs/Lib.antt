@@ -1,0 +1,11 @@
+pub use Rattle.ped_tidy
+pub use Rattle.ped_tidy.specs.ped_steps
+pub mod Steps
+pub mod Lawful
+pub mod Chains
+pub mod OnlyLoops
+pub mod Spans
+pub mod Rules
+pub mod Carried
+pub mod KeepMaps
+pub mod Fresh

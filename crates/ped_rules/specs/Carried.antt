@@ -5,11 +5,11 @@ use Rattle.ped_tree.specs.Tree.{ProgramTree}
 use Rattle.ped_tidy.specs.ped_steps.specs.ped_views.specs.declared.directions.Direction.{Direction}
 use Rattle.ped_tidy.specs.ped_steps.specs.ped_views.specs.declared.directions.Direction.TheVariants.{Before, Same, After}
 use Rattle.ped_tidy.specs.ped_steps.specs.ped_flow.specs.PlainBounds.{nest_round}
-use Rattle.ped_tidy.specs.ped_steps.specs.ped_graph.specs.ped_edges.specs.Edges.{Mark, proven, pending, rejected, Edge}
-use Rattle.ped_tidy.specs.ped_steps.specs.ped_graph.specs.ped_edges.specs.CodeEdges.{edge_of, HasAtMostSixLoops}
-use Rattle.ped_tidy.specs.ped_steps.specs.ped_graph.specs.ped_edges.specs.declared.edges.Edge.{Edge as CodeEdge}
-use Rattle.ped_tidy.specs.ped_steps.specs.ped_graph.specs.Dependences.{AreEdges}
-use Rattle.ped_tidy.specs.ped_steps.specs.ped_graph.specs.DependencePane.{is_level, is_in_body, extent_of}
+use Rattle.ped_tidy.specs.ped_steps.specs.ped_laws.specs.ped_graph.specs.ped_edges.specs.Edges.{Mark, proven, pending, rejected, Edge}
+use Rattle.ped_tidy.specs.ped_steps.specs.ped_laws.specs.ped_graph.specs.ped_edges.specs.CodeEdges.{edge_of, HasAtMostSixLoops}
+use Rattle.ped_tidy.specs.ped_steps.specs.ped_laws.specs.ped_graph.specs.ped_edges.specs.declared.edges.Edge.{Edge as CodeEdge}
+use Rattle.ped_tidy.specs.ped_steps.specs.ped_laws.specs.ped_graph.specs.Dependences.{AreEdges}
+use Rattle.ped_tidy.specs.ped_steps.specs.ped_laws.specs.ped_graph.specs.DependencePane.{is_level, is_in_body, extent_of}
 use Rattle.ped_tidy.specs.ped_steps.specs.Causes.{IsFirstForbidding}
 
 -- the level of the DO with this number: 1 where no other is round it (Allen and Kennedy, section 2.2.2)
@@ -37,9 +37,13 @@ is_after (Some Before) = false
 is_after (Some Same) = false
 is_after None = false
 
+-- a vector of the dependence has `>` for the DO in the one of this level (Allen and Kennedy, section 2.2.5)
+abbrev pub has_after : ℕ → Edge → Bool
+has_after level e = list_any (λ v. is_after (slice_get v level)) e.vectors
+
 -- the DO carries the dependence, the user hasn't rejected it, and a vector of it has `>` for the next DO in it: the interchange of the two would turn it round (Allen and Kennedy, section 5.2)
 abbrev pub crossing : ProgramTree → ℕ → Edge → Bool
-crossing t s e = carried t s e && list_any (λ v. is_after (slice_get v (level_at t s))) e.vectors
+crossing t s e = carried t s e && has_after (level_at t s) e
 
 -- of the dependences of a program this is the first that forbids a step, or none does (plain words)
 abbrev pub IsFirstOf : ProgramTree → (Edge → Bool) → Option CodeEdge → Type 0

@@ -2,7 +2,7 @@
 use Rattle.std.specs.Prelude.{◌≡◌, ℕ, List, Option, Some, None, ⊤}
 use Rattle.ped_tree.specs.Tree.{ProgramTree}
 use Rattle.ped_tidy.specs.ped_steps.specs.ped_symbols.specs.NameRefusals.{IsValid}
-use Rattle.ped_tidy.specs.ped_steps.specs.ped_graph.specs.Update.Fresh.{IsOneToOne}
+use Rattle.ped_tidy.specs.ped_steps.specs.ped_laws.specs.ped_graph.specs.Update.Fresh.{IsOneToOne}
 use Rattle.ped_tidy.specs.ped_steps.specs.Causes.{Cause}
 use Rattle.ped_tidy.specs.ped_steps.specs.Runs.Meaning.{Keeps}
 use Rattle.ped_tidy.specs.Unrejected.{IsTrusted}

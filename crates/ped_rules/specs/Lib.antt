@@ -5,7 +5,10 @@ pub mod Lawful
 pub mod Chains
 pub mod OnlyLoops
 pub mod Spans
+pub mod CodeSpans
 pub mod Rules
 pub mod Carried
+pub mod CodeCarried
 pub mod KeepMaps
 pub mod Fresh
+pub mod CodeFresh

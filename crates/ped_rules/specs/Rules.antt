@@ -1,5 +1,6 @@
 -- The rules that several steps share: what stands against a step by each, and which statement it names (ParaScope; this project).
-use Rattle.std.specs.Prelude.{◌≡◌, ◌⊎◌, ℕ, ℤ, List, map, Bool, true, not, is_none, Option, Some, None}
+use Rattle.std.specs.Prelude.{◌≡◌, ◌⊎◌, ℕ, ℤ, pos, neg_ℤ, List, map, Bool, true, not, ◌||◌, is_none, Option, Some, None}
+use Rattle.std.specs.Ordering.{int_eq}
 use Rattle.ped_base.specs.Lists.{has_some}
 use Rattle.ped_tree.specs.Tree.{ExprTree, Head, StmtTrees, ProgramTree}
 use Rattle.ped_tree.specs.Nests.{Loop}
@@ -54,6 +55,14 @@ WhereUnplain t s Asked n = LoopOf t s × IsFirst (HasUnplain t Asked) (Some n)
 abbrev pub isnt_allowed : (ℤ → Bool) → Option ℤ → Bool
 isnt_allowed allowed None = true
 isnt_allowed allowed (Some n) = not (allowed n)
+
+-- a DO goes through its values one by one (ANSI X3.9-1978, section 11.10.3)
+abbrev pub is_one : ℤ → Bool
+is_one n = int_eq n (pos 1)
+
+-- a DO goes through its values one by one, upwards or downwards (ANSI X3.9-1978, section 11.10.3)
+abbrev pub is_unit : ℤ → Bool
+is_unit n = int_eq n (pos 1) || int_eq n (neg_ℤ (pos 1))
 
 -- rule 8: the increment has no constant value, or one that isn't allowed (this project)
 abbrev pub has_other_step : Values → (ℤ → Bool) → Head → StmtTrees → Bool

@@ -55,23 +55,23 @@ module _ (test : Edge → Bool) where
 
   first_by : (all : List Edge) (e : Edge) (rest : List Edge) → filter test all ≡ e ∷ rest → IsFirstForbidding test all e
   first_by [] e rest h = absurd (nothing_first e rest h)
-  first_by (a ∷ all) e rest h = by (test a) refl
+  first_by (a ∷ all) e rest h = by (test a) refl (first_by all e rest)
     where
-      by : (b : Bool) → test a ≡ b → IsFirstForbidding test (a ∷ all) e
-      by true is =
+      by : (b : Bool) → test a ≡ b → (filter test all ≡ e ∷ rest → IsFirstForbidding test all e) → IsFirstForbidding test (a ∷ all) e
+      by true is next =
           let here : a ∷ filter test all ≡ e ∷ rest = sym (ap (λ (b : Bool). cond b (a ∷ filter test all) (filter test all)) is) ∙ h in
           subst (λ (z : Edge). IsFirstForbidding test (a ∷ all) z) (head_is a e (filter test all) rest here) ([], all, refl, is, All-nil (λ f. test f ≡ false))
-      by false is =
-          let behind = first_by all e rest (sym (ap (λ (b : Bool). cond b (a ∷ filter test all) (filter test all)) is) ∙ h) in
+      by false is next =
+          let behind = next (sym (ap (λ (b : Bool). cond b (a ∷ filter test all) (filter test all)) is) ∙ h) in
           (a ∷ behind.0, behind.1, ap (λ (es : List Edge). a ∷ es) behind.2, behind.3, All-cons (λ f. test f ≡ false) a behind.0 is behind.4)
 
   none_by : (all : List Edge) → filter test all ≡ [] → All (λ e. test e ≡ false) all
   none_by [] h = All-nil (λ f. test f ≡ false)
-  none_by (a ∷ all) h = by (test a) refl
+  none_by (a ∷ all) h = by (test a) refl (none_by all)
     where
-      by : (b : Bool) → test a ≡ b → All (λ e. test e ≡ false) (a ∷ all)
-      by true is = absurd (nothing_first a (filter test all) (sym h ∙ ap (λ (b : Bool). cond b (a ∷ filter test all) (filter test all)) is))
-      by false is = All-cons (λ f. test f ≡ false) a all is (none_by all (sym (ap (λ (b : Bool). cond b (a ∷ filter test all) (filter test all)) is) ∙ h))
+      by : (b : Bool) → test a ≡ b → (filter test all ≡ [] → All (λ e. test e ≡ false) all) → All (λ e. test e ≡ false) (a ∷ all)
+      by true is next = absurd (nothing_first a (filter test all) (sym h ∙ ap (λ (b : Bool). cond b (a ∷ filter test all) (filter test all)) is))
+      by false is next = All-cons (λ f. test f ≡ false) a all is (next (sym (ap (λ (b : Bool). cond b (a ∷ filter test all) (filter test all)) is) ∙ h))
 
 module _ (t : ProgramTree) (test : Edge → Bool) (found : List CodeEdge) (those : AreThose t test found) where
   pub first_found : (e : CodeEdge) (rest : List CodeEdge) → found ≡ e ∷ rest → IsFirstOf t test (Some e)

@@ -1,5 +1,5 @@
 -- Dependences that pass a test are kept in their order; so the first that is kept is the first that passes it.
-use Rattle.std.proofs.Common.{◌≡◌, ℕ, ◌+◌, ◌≤◌, nat_le, List, [], ◌∷◌, ◌++◌, map, filter, cond, length, Bool, true, false, not, ◌&&◌, All, Option, Some, None, refl, sym, ap, ◌∙◌, subst, arith}
+use Rattle.std.proofs.Common.{◌≡◌, ℕ, ◌+◌, ◌≤◌, nat_le, List, [], ◌∷◌, ◌++◌, map, filter, cond, length, Bool, true, false, not, ◌&&◌, All, Option, Some, None, MatchOption, refl, sym, ap, ◌∙◌, subst, arith}
 use Rattle.std.specs.Prelude.{nat_lt}
 use Rattle.std.proofs.lemmas.Bool.Decides.{nat_tests}
 use Rattle.std.proofs.lemmas.List.Elements.{All-nil, All-cons, All-head, All-filter}
@@ -84,6 +84,12 @@ module _ (t : ProgramTree) (test : Edge → Bool) (found : List CodeEdge) (those
   none_found is = λ edges are.
       subst (λ (es : List Edge). All (λ e. test e ≡ false) es) (one_edges t those.all edges those.are are)
       (none_by test those.all (sym those.those ∙ ap (λ (es : List CodeEdge). map edge_of es) is))
+
+-- the first of the dependences that are kept
+pub found_first : (t : ProgramTree) (test : Edge → Bool) (found : List CodeEdge) (r : Option CodeEdge) → AreThose t test found
+    → MatchOption r (found ≡ []) (λ e. (rest : List CodeEdge) × (found ≡ e ∷ rest)) → IsFirstOf t test r
+found_first t test found None those is = none_found t test found those is
+found_first t test found (Some e) those is = first_found t test found those e is.0 is.1
 
 -- a statement in the body of a DO, by how many statements the body has
 pub in_body : (t : ProgramTree) (s : ℕ) (h : Head) (body : StmtTrees) (k : ℕ) → IsLoop t s h body → is_in_body s (extent_of t s) k ≡ (nat_lt s k && nat_le k (s + statements_count body))

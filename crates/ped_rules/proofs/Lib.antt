@@ -7,5 +7,5 @@ pub mod CarriedEdges
 pub mod Increments
 pub mod FreshNames
 pub mod NestDepths
-mod Escaping
+pub mod Escaping
 pub mod SameIntervals

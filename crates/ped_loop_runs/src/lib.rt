@@ -6,5 +6,5 @@ mod bounds;
 mod carried;
 
 pub use bounds::plain_reads_unwritten;
-pub use carried::{meetings_are_carried, trips_are_carried, trips_dont_conflict};
+pub use carried::{indices_unwritten, meetings_are_carried, trips_are_carried, trips_dont_conflict};
 pub use ped_steps;

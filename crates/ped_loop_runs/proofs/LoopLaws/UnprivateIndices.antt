@@ -14,7 +14,7 @@ use Rattle.ped_laws.specs.ped_flow.specs.ped_tree.specs.Grammar.StatementForms.{
 use Rattle.ped_laws.specs.ped_flow.specs.ped_tree.specs.Grammar.Words.{is_name}
 use Rattle.ped_laws.specs.ped_flow.specs.ped_tree.specs.Grammar.ProgramRefusals.{meets}
 use Rattle.ped_laws.specs.ped_flow.specs.ped_tree.specs.Grammar.Fits.{Surroundings, moved, in_if, in_loop, private_fits, loop_fits, stmt_fits, stmts_fit}
-use Rattle.ped_laws.specs.ped_flow.specs.ped_affine.specs.Assigned.{loop_variables, all_loop_variables}
+use Rattle.ped_laws.specs.ped_flow.specs.ped_tree.specs.NamesIn.{loop_variables, all_loop_variables}
 use Rattle.ped_laws.proofs.ConflictLaws.MakingParts.{among_first, among_right}
 use Rattle.ped_steps.proofs.RunLaws.ExpandedPlacesParts.{not_true}
 

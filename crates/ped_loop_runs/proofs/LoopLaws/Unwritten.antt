@@ -16,7 +16,7 @@ use Rattle.ped_laws.specs.ped_flow.specs.ped_tree.specs.Nests.{Loop, indices_of,
 use Rattle.ped_laws.specs.ped_flow.specs.ped_tree.specs.Numbering.{numbered, all_numbered, at_place, statement_with, statement_count, statements_count}
 use Rattle.ped_laws.specs.ped_flow.specs.ped_tree.specs.Accesses.{own_accesses, constant_names}
 use Rattle.ped_laws.specs.ped_flow.specs.ped_tree.specs.Grammar.Fits.{Surroundings, moved, in_if, in_loop, loop_fits, stmt_fits, stmts_fit, decls_fit, begins_with_statement, at_body}
-use Rattle.ped_laws.specs.ped_flow.specs.ped_affine.specs.Assigned.{loop_variables, all_loop_variables}
+use Rattle.ped_laws.specs.ped_flow.specs.ped_tree.specs.NamesIn.{loop_variables, all_loop_variables}
 use Rattle.ped_laws.specs.ped_flow.specs.ped_affine.specs.Ranges.{Setting, Around, loop_range, inside, ranges_inside, nest_ranges}
 use Rattle.ped_laws.specs.ped_flow.specs.ped_affine.specs.PairViews.{Site, positions_of, heads_of}
 use Rattle.ped_laws.specs.ped_flow.specs.PlainBounds.{nest_round}

@@ -5,6 +5,7 @@ use Rattle.ped_laws.specs.ped_flow.specs.ped_tree.specs.Tree.{Head, StmtTrees, D
 use Rattle.ped_laws.specs.ped_flow.specs.ped_tree.specs.NamesIn.{loop_variables}
 use Rattle.ped_laws.specs.ped_flow.specs.Questions.{LoopOf, IsContained}
 use Rattle.ped_laws.specs.ped_graph.specs.Dependences.{AreEdges}
+use Rattle.ped_laws.specs.ped_graph.specs.ped_symbols.specs.Kinds.{kind_in}
 use Rattle.ped_laws.specs.ped_graph.specs.ped_symbols.specs.NameRefusals.{IsValid}
 use Rattle.ped_laws.specs.ped_edges.specs.Edges.{Edge}
 use Rattle.ped_laws.specs.ped_store.specs.Cells.{Cell, Iteration}
@@ -46,20 +47,22 @@ pub record HasSameTrips (p : Setting) (d h : Head) (body : StmtTrees) (l : ℕ) 
   pub values : OfTrips (entered_from p h body l scope s bounds) (λ k. value_in (entered_from p h body l scope s bounds) k ≡ value_in (entered_from p d body l scope s old) (trip_of reversed (entered_from p d body l scope s old).count k))
   pub among : ReadAmong (numbered 1 (bounds_seen p d scope s)) (numbered 1 (bounds_seen p h scope s))
 
--- a DO of a valid program gives way to one with another head: the variable, the PRIVATE names and the body are the same, the DO is contained, and the new one has the same iterations, in the same order or from the last to the first. It carries no dependence where their order changes, or where they are done in any order from now on; and where only one of the two is a PARALLEL DO, no reference in it writes the variable of a DO of it (Allen and Kennedy, sections 2.2.3, 2.4; ParaScope; this project)
+-- a DO of a valid program gives way to one with another head, and names stand for what they stood for: the variable, the PRIVATE names and the body are the same, the DO is contained, and the new one has the same iterations, from the last to the first where neither is a PARALLEL DO, or else in the same order where one of the two is. It carries no dependence where their order changes, or where they are done in any order from now on; and where one of the two is a PARALLEL DO, no reference in it writes the variable of a DO of it (Allen and Kennedy, sections 2.2.3, 2.4; ParaScope; this project)
 pub record IsOneForOne (t u : ProgramTree) (l : ℕ) (loop : LoopOf t l) (h : Head) (reversed : Bool) : Type 0 where
   pub valid : IsValid t
   pub new_valid : IsValid u
   pub new : u ≡ program_with (λ s. alone (Do h loop.body)) l t
+  pub kinds : (y : List ℕ) → kind_in u y ≡ kind_in t y
   pub variable : h.variable ≡ loop.head.variable
   pub private : h.private ≡ loop.head.private
   pub contained : IsContained t l
   pub trips : (scope : Scope) (s : Store) (old : Limits) → (limits (names_in (setting_of t) scope) loop.head s).result ≡ Ok old → HasSameTrips (setting_of t) loop.head h loop.body l reversed scope s old
   pub in_turn : reversed ≡ true → (loop.head.parallel ≡ false) × (h.parallel ≡ false)
+  pub differ : reversed ≡ false → h.parallel ≡ loop.head.parallel → ⊥
   pub edges : List Edge
   pub are : AreEdges t edges
   pub carries : (reversed ≡ true) ⊎ ((loop.head.parallel ≡ false) × (h.parallel ≡ true)) → NoneCarriedBy t edges l loop.body
-  pub unwritten : (h.parallel ≡ loop.head.parallel → ⊥) → (w : List ℕ) → is_among w (loop_variables (Do loop.head loop.body)) ≡ true → is_written_in t l loop.body w ≡ false
+  pub unwritten : reversed ≡ false → (w : List ℕ) → is_among w (loop_variables (Do loop.head loop.body)) ≡ true → is_written_in t l loop.body w ≡ false
 
 -- in one execution the new DO is made of trips that do likewise what those of the old one did (this project)
 pub record IsMadeInstead (p : Setting) (d h : Head) (body : StmtTrees) (l : ℕ) (reversed : Bool) (scope : Scope) (s : Store) : Type 0 where

@@ -7,7 +7,9 @@ mod carried;
 mod loops;
 
 pub use bounds::plain_reads_unwritten;
-pub use carried::{indices_unwritten, meetings_are_carried, trips_are_carried, trips_dont_conflict};
+pub use carried::{
+    indices_unwritten, meetings_are_carried, trips_are_carried, trips_dont_conflict,
+};
 pub use loops::one_for_one;
 pub use ped_bodies;
 pub use ped_pasting;

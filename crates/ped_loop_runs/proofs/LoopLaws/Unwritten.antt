@@ -276,7 +276,7 @@ module _ (t : ProgramTree) (edges : List Edge) (are : AreEdges t edges) where
       no_owner : innermost_private w (body.nest ++ itself ∷ []) ≡ None
       no_owner =
           let parts = or_none (is_among w loop.head.private) (is_among w body.around.private)
-              (sym (list_any-append (is_same_text w) loop.head.private body.around.private) ∙ indices_unprivate body.around loop.head loop.body w body.fits among) in
+          (sym (list_any-append (is_same_text w) loop.head.private body.around.private) ∙ indices_unprivate body.around loop.head loop.body w body.fits among) in
           more_free w body.nest itself (body.free w parts.1) parts.0
 
       carries : all_write (constant_names t.decls) w loop.body ≡ true → ⊥
@@ -290,7 +290,7 @@ module _ (t : ProgramTree) (edges : List Edge) (are : AreEdges t edges) where
           let number = ap (λ (z : ℕ × ℕ). z.0) b.from in
           let sink = ap (λ (z : ℕ × ℕ). z.0) b.to in
           let level : is_level (length (nest_round t l) + 1) b.edge.level ≡ true =
-              ap (is_level (length (nest_round t l) + 1)) b.of_level ∙ same_numbers (length body.nest + 1) (length (nest_round t l) + 1) (ap (λ (ls : List Loop). length ls + 1) (sym place.1)) in
+          ap (is_level (length (nest_round t l) + 1)) b.of_level ∙ same_numbers (length body.nest + 1) (length (nest_round t l) + 1) (ap (λ (ls : List Loop). length ls + 1) (sym place.1)) in
           let there = ap (is_in_body l loop.body) number ∙ place.0 in
           let at_sink = ap (is_in_body l loop.body) sink ∙ place.0 in
           both_ways (is_carried_by t l loop.body b.edge) (none b.edge b.listed) (λ i. level i && (there i && at_sink i))

@@ -1,5 +1,6 @@
 -- Acts that leave copies alone: those of other statements in the same iterations, and those of other iterations of a DO.
 use Rattle.std.proofs.Common.{◌≡◌, ℕ, zero, suc, ◌+◌, ◌≤◌, ◌<◌, List, [], ◌∷◌, ◌++◌, Bool, true, false, eqb, refl, sym, ap, ◌∙◌, ◌⊎◌, inl, inr, append_assoc, arith, if◌then◌else◌}
+use Rattle.std.proofs.lemmas.Bool.{both_ways}
 use Rattle.std.proofs.lemmas.List.{map-append}
 use Rattle.ped_steps.specs.ped_flow.specs.ped_base.specs.Lists.{is_among}
 use Rattle.ped_tree.specs.Tree.{CondTree, Head, StmtTree, StmtTrees, Assign, If, Do, Print, Read, Stop, Comment, no_stmts, more_stmts}
@@ -20,6 +21,7 @@ use Rattle.ped_steps.specs.ped_laws.proofs.FlowRunLaws.Names.{no_copy_within}
 use Rattle.ped_steps.specs.ped_laws.proofs.FlowRunLaws.Apart.{same_behind}
 use Rattle.ped_steps.specs.ped_laws.proofs.RunLaws.SeenCells.{AllSeen, truth_seen, limits_seen}
 use Rattle.ped_steps.specs.ped_laws.proofs.RunLaws.Touches.{Each, each_none, each_more, each_append, then_each, does_each}
+use Rattle.ped_steps.specs.Runs.Exchanging.{is_of_scalar}
 use Rattle.ped_steps.proofs.RunLaws.RunCells.{EachDo, EachDos, run_keeps, all_keep}
 use Rattle.ped_steps.proofs.RunLaws.RunPlaces.{run_each, all_each}
 use Rattle.ped_pasting.specs.Executions.{IsCopyInside, StandsInside, LeaveCopies}
@@ -63,24 +65,24 @@ mutual
   dos_between (more_stmts x rest) n lo count h k = (do_between x n lo count h (omega (arith, k)), dos_between rest (n + statement_count x) lo count (omega (arith, h)) (omega (arith, k)))
 
 module _ (p : Setting) where
-  -- what a scalar stands for in these iterations, or no copy at all
+  -- what a scalar stands for in these iterations, or no cell of a scalar
   abbrev pub IsOwn : Scope → Cell → Type 0
-  IsOwn S c = ((x : List ℕ) × (c ≡ cell_of S x)) ⊎ ((x : List ℕ) (path : List Iteration) → c ≡ Private x path → ⊥)
+  IsOwn S c = ((x : List ℕ) × (c ≡ cell_of S x)) ⊎ (is_of_scalar c ≡ false)
 
-  abbrev Reaches : ℕ → ℕ → Scope → Cell → Type 0
+  abbrev pub Reaches : ℕ → ℕ → Scope → Cell → Type 0
   Reaches n count S c = IsOwn S c ⊎ IsCopyInside p S n count c
 
-  own_scalar : (S : Scope) (x : List ℕ) → IsOwn S (cell_of S x)
+  pub own_scalar : (S : Scope) (x : List ℕ) → IsOwn S (cell_of S x)
   own_scalar S x = inl (x, refl)
 
   own_element : (S : Scope) (x : List ℕ) (js : _) → IsOwn S (Element x js)
-  own_element S x js = inr (λ y path e. absurd cc)
+  own_element S x js = inr refl
 
   own_in : (S : Scope) → IsOwn S In
-  own_in S = inr (λ y path e. absurd cc)
+  own_in S = inr refl
 
   own_out : (S : Scope) → IsOwn S Out
-  own_out S = inr (λ y path e. absurd cc)
+  own_out S = inr refl
 
   -- an iteration of a DO further in
   module _ (n : ℕ) (h : Head) (b : StmtTrees) (seen : List Seen) (m : Limits) (S : Scope) where
@@ -91,10 +93,10 @@ module _ (p : Setting) where
     longer j = map-append _ (turns_of S) ((frame (entered_with p n h b seen m) j).turn ∷ [])
 
     -- a copy of this iteration, or of one further inside
-    record IsOfTrip (j : ℕ) (c : Cell) : Type 0 where
-      name : List ℕ
-      rest : List Iteration
-      is : c ≡ Private name (iterations_of (turns_of S) ++ (record { statement = p.number n; number = j }) ∷ rest)
+    pub record IsOfTrip (j : ℕ) (c : Cell) : Type 0 where
+      pub name : List ℕ
+      pub rest : List Iteration
+      pub is : c ≡ Private name (iterations_of (turns_of S) ++ (record { statement = p.number n; number = j }) ∷ rest)
 
     inside_trip : (j lo count : ℕ) (c : Cell) → IsCopyInside p (Trip j) lo count c → IsOfTrip j c
     inside_trip j lo count c k =
@@ -117,7 +119,7 @@ module _ (p : Setting) where
     reach_trip j lo count c (inl own) = own_trip j c own
     reach_trip j lo count c (inr k) = inr (inside_trip j lo count c k)
 
-    trip_inside : (j lo count : ℕ) (c : Cell) → lo ≤ n → n < lo + count → IsOfTrip j c → IsCopyInside p S lo count c
+    pub trip_inside : (j lo count : ℕ) (c : Cell) → lo ≤ n → n < lo + count → IsOfTrip j c → IsCopyInside p S lo count c
     trip_inside j lo count c from to k = record { name = k.name; statement = n; from = from; to = to; number = j; rest = k.rest; is = k.is }
 
     outward : (j lo count : ℕ) (c : Cell) → (lo ≤ n) × (n < lo + count) → Reaches lo count (Trip j) c → Reaches lo count S c
@@ -131,7 +133,7 @@ module _ (p : Setting) where
       where
         own_apart : IsOwn S c → IsOfTrip i c → ⊥
         own_apart (inl e) d = no_copy_within S e.0 d.name (record { statement = p.number n; number = i }) d.rest (sym e.1 ∙ d.is)
-        own_apart (inr none) d = none d.name _ d.is
+        own_apart (inr none) d = both_ways (is_of_scalar c) none (ap is_of_scalar d.is)
 
   -- where an act stands: here, or further inside
   abbrev Stands : ℕ → ℕ → Scope → Act → Type 0
@@ -153,7 +155,7 @@ module _ (p : Setting) where
 
   own_apart : (S : Scope) (lo count : ℕ) (c : Cell) → IsOwn S c → IsCopyInside p S lo count c → ⊥
   own_apart S lo count c (inl e) d = no_copy_within S e.0 d.name (record { statement = p.number d.statement; number = d.number }) d.rest (sym e.1 ∙ d.is)
-  own_apart S lo count c (inr none) d = none d.name _ d.is
+  own_apart S lo count c (inr none) d = both_ways (is_of_scalar c) none (ap is_of_scalar d.is)
 
   inside_apart : IsOneToOne p.number → (S : Scope) (n count lo more : ℕ) (c : Cell) → (n + count ≤ lo) ⊎ (lo + more ≤ n) → IsCopyInside p S n count c → IsCopyInside p S lo more c → ⊥
   inside_apart one S n count lo more c ranges k d =
@@ -192,14 +194,24 @@ module _ (p : Setting) where
   own_leaves S lo count step at there touches own =
       each_more (Leaves S lo count) (act step at touches) [] ((λ t i copy. own_apart S lo count t.cell (own t i) copy), (λ k. here_apart S lo count (act step at touches) (ap iterations_of there) k)) (leave_none S lo count)
 
+  -- the cells that a run touches
+  pub run_reaches : (x : StmtTree) (n : ℕ) (S : Scope) (s : Store) (a : Act) → IsIn a (run p x n S s).acts → (t : Touch) → IsIn t a.touches → Reaches n (statement_count x) S t.cell
+  run_reaches x n S s a i t j =
+      run_keeps p (λ k h b. (n ≤ k) × (k < n + statement_count x)) (λ S c. Reaches n (statement_count x) S c) (λ S y. inl (own_scalar S y)) (λ S y js w. inl (own_element S y js)) (λ S. inl (own_in S)) (λ S. inl (own_out S))
+      (λ k h b seen m i S c q r. outward k h b seen m S i n (statement_count x) c q r) x n S s (do_between x n n (statement_count x) (omega arith) (omega arith)) a i t j
+
+  pub all_reach : (xs : StmtTrees) (n : ℕ) (S : Scope) (s : Store) (a : Act) → IsIn a (run_all p xs n S s).acts → (t : Touch) → IsIn t a.touches → Reaches n (statements_count xs) S t.cell
+  all_reach xs n S s a i t j =
+      all_keep p (λ k h b. (n ≤ k) × (k < n + statements_count xs)) (λ S c. Reaches n (statements_count xs) S c) (λ S y. inl (own_scalar S y)) (λ S y js w. inl (own_element S y js)) (λ S. inl (own_in S)) (λ S. inl (own_out S))
+      (λ k h b seen m i S c q r. outward k h b seen m S i n (statements_count xs) c q r) xs n S s (dos_between xs n n (statements_count xs) (omega arith) (omega arith)) a i t j
+
   -- other statements in the same iterations
   pub run_leaves : IsOneToOne p.number → (x : StmtTree) (n : ℕ) (S : Scope) (s : Store) (lo count : ℕ) → (n + statement_count x ≤ lo) ⊎ (lo + count ≤ n) → LeaveCopies p S lo count (run p x n S s).acts
   run_leaves one x n S s lo count ranges a i = (touches, stands)
     where
       touches : (t : Touch) → IsIn t a.touches → IsCopyInside p S lo count t.cell → ⊥
       touches t j copy =
-          elim (run_keeps p (λ k h b. (n ≤ k) × (k < n + statement_count x)) (λ S c. Reaches n (statement_count x) S c) (λ S y. inl (own_scalar S y)) (λ S y js w. inl (own_element S y js)) (λ S. inl (own_in S)) (λ S. inl (own_out S))
-          (λ k h b seen m i S c q r. outward k h b seen m S i n (statement_count x) c q r) x n S s (do_between x n n (statement_count x) (omega arith) (omega arith)) a i t j) [
+          elim (run_reaches x n S s a i t j) [
             | inl own ↦ own_apart S lo count t.cell own copy
             | inr k ↦ inside_apart one S n (statement_count x) lo count t.cell ranges k copy
           ]
@@ -217,8 +229,7 @@ module _ (p : Setting) where
     where
       touches : (t : Touch) → IsIn t a.touches → IsCopyInside p S lo count t.cell → ⊥
       touches t j copy =
-          elim (all_keep p (λ k h b. (n ≤ k) × (k < n + statements_count xs)) (λ S c. Reaches n (statements_count xs) S c) (λ S y. inl (own_scalar S y)) (λ S y js w. inl (own_element S y js)) (λ S. inl (own_in S)) (λ S. inl (own_out S))
-          (λ k h b seen m i S c q r. outward k h b seen m S i n (statements_count xs) c q r) xs n S s (dos_between xs n n (statements_count xs) (omega arith) (omega arith)) a i t j) [
+          elim (all_reach xs n S s a i t j) [
             | inl own ↦ own_apart S lo count t.cell own copy
             | inr k ↦ inside_apart one S n (statements_count xs) lo count t.cell ranges k copy
           ]
@@ -273,15 +284,16 @@ module _ (p : Setting) where
     abbrev Body : Frame → Store → Run
     Body f = run_all p b (n + 1) (f ∷ S)
 
+    pub body_reaches : (j : ℕ) (s : Store) (a : Act) → IsIn a (Body (frame (entered_with p n h b seen m) j) s).acts → (t : Touch) → IsIn t a.touches → IsOwn S t.cell ⊎ IsOfTrip n h b seen m S j t.cell
+    body_reaches j s a i t k = reach_trip n h b seen m S j (n + 1) (statements_count b) t.cell (all_reach b (n + 1) (Of j) s a i t k)
+
     pub body_leaves : (i j : ℕ) (s : Store) (lo count : ℕ) → (i ≡ j → ⊥) → LeaveCopies p (Of i) lo count (Body (frame (entered_with p n h b seen m) j) s).acts
     body_leaves i j s lo count other a k = (touches, stands)
       where
         touches : (t : Touch) → IsIn t a.touches → IsCopyInside p (Of i) lo count t.cell → ⊥
         touches t q copy =
             trips_apart n h b seen m S i j lo count t.cell other
-            (reach_trip n h b seen m S j (n + 1) (statements_count b) t.cell
-            (all_keep p (λ k h c. (n + 1 ≤ k) × (k < n + 1 + statements_count b)) (λ S c. Reaches (n + 1) (statements_count b) S c) (λ S y. inl (own_scalar S y)) (λ S y js w. inl (own_element S y js)) (λ S. inl (own_in S)) (λ S. inl (own_out S))
-            (λ k h b' seen m i S c q r. outward k h b' seen m S i (n + 1) (statements_count b) c q r) b (n + 1) (Of j) s (dos_between b (n + 1) (n + 1) (statements_count b) (omega arith) (omega arith)) a k t q))
+            (body_reaches j s a k t q)
             copy
 
         stands : StandsInside p (Of i) lo count a.place.turns → ⊥

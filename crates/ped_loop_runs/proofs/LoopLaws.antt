@@ -6,4 +6,9 @@ pub mod PlainReads
 mod UnprivateIndices
 mod FreeWrites
 pub mod Unwritten
+pub mod RacesByReferences
+pub mod LoopParts
+pub mod PlacedLoops
+pub mod OneForOneRaces
+pub mod RacesInOrder
 pub mod Examples

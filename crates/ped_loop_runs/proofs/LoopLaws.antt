@@ -6,6 +6,7 @@ pub mod PlainReads
 mod UnprivateIndices
 mod FreeWrites
 pub mod Unwritten
+pub mod SomeEdges
 pub mod RacesByReferences
 pub mod LoopParts
 pub mod PlacedLoops

@@ -54,6 +54,7 @@ use Rattle.ped_pasting.specs.Pasting.{AreExchanged}
 use Rattle.ped_loop_runs.specs.Carried.{is_in_body, is_carried_by, AreInTrips, NoneCarriedBy}
 use Rattle.ped_loop_runs.specs.OneForOne.{IsOneForOne, IsMadeInstead}
 use Rattle.ped_loop_runs.proofs.LoopLaws.Nested.{in_loop_body}
+use Rattle.ped_loop_runs.proofs.LoopLaws.SomeEdges.{some_edges}
 use Rattle.ped_loop_runs.proofs.LoopLaws.Trips.{trips_carried}
 use Rattle.ped_loop_runs.proofs.LoopLaws.Unwritten.{index_named}
 use Rattle.ped_loop_runs.proofs.LoopLaws.PlacedLoops.{placed_loop}
@@ -361,8 +362,9 @@ module _ (made : MakingLaw) (sequence : SequenceLaw) (t u : ProgramTree) (l : �
       let come = come_in_run t data_bytes y z before in
       let order = sequence t data_bytes y z x.valid come one other in
       let r = trips_of t y z l y.place.turns z.place.turns order critical in
-      let c = trips_carried made sequence t data_bytes x.valid x.edges x.are l loop y z r.0 r.1 r.2 r.3 r.4 come meets one other (record { at_first = r.5; at_second = r.6; of_first = r.7; of_second = r.8; earlier = r.9 }) in
-      both_ways (is_carried_by t l body c.0.covered.edge) (x.carries (inr (became flag, flag)) c.0.covered.edge c.0.covered.listed) c.1
+      some_edges t (λ edges are.
+          let c = trips_carried made sequence t data_bytes x.valid edges are l loop y z r.0 r.1 r.2 r.3 r.4 come meets one other (record { at_first = r.5; at_second = r.6; of_first = r.7; of_second = r.8; earlier = r.9 }) in
+          both_ways (is_carried_by t l body c.0.covered.edge) (x.carries (inr (became flag, flag)) edges are c.0.covered.edge c.0.covered.listed) c.1)
 
   conflict_flip : (y z : Access) → conflict y z ≡ true → conflict z y ≡ true
   conflict_flip y z k =

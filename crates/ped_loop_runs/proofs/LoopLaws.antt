@@ -6,4 +6,10 @@ pub mod PlainReads
 mod UnprivateIndices
 mod FreeWrites
 pub mod Unwritten
+pub mod OneForOneNames
+pub mod OneForOneTrips
+pub mod OneForOneKnots
+pub mod OneForOneCells
+pub mod OneForOneStands
+pub mod OneForOne
 pub mod Examples

@@ -16,7 +16,8 @@ use Rattle.ped_answer.specs.ped_scalar.specs.ped_steps.specs.Causes.{NoneBelow, 
 use Rattle.ped_answer.specs.ped_scalar.specs.ped_steps.specs.Replacing.{all_kept}
 use Rattle.ped_answer.specs.ped_scalar.specs.Scalars.{is_unfit}
 use Rattle.ped_answer.specs.ped_scalar.specs.Privatising.{privatised, IsScalarExposedOrLiveBy, StandsAgainstPrivatising}
-use Rattle.ped_answer.specs.ped_scalar.specs.Expanding.{Span, span_of, spans_far, fresh_name, is_private_near, IsScalarLostBy, SaysLive, IsExpanded, expanded, expand_kept, StandsAgainstExpanding}
+use Rattle.ped_answer.specs.ped_scalar.specs.ped_rules.specs.Spans.{Span, span_of, spans_far}
+use Rattle.ped_answer.specs.ped_scalar.specs.Expanding.{array_name, is_private_near, IsScalarLostBy, SaysLive, IsExpanded, expanded, expand_kept, StandsAgainstExpanding}
 use Rattle.ped_answer.specs.ped_scalar.proofs.FlowAnswers.{fit_scalar}
 use Rattle.ped_answer.specs.ped_scalar.proofs.FirstAgainstPrivatising as private
 use Rattle.ped_answer.specs.ped_scalar.proofs.FirstAgainstExpanding as expand

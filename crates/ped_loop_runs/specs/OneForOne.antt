@@ -59,9 +59,7 @@ pub record IsOneForOne (t u : ProgramTree) (l : ℕ) (loop : LoopOf t l) (h : He
   pub trips : (scope : Scope) (s : Store) (old : Limits) → (limits (names_in (setting_of t) scope) loop.head s).result ≡ Ok old → HasSameTrips (setting_of t) loop.head h loop.body l reversed scope s old
   pub in_turn : reversed ≡ true → (loop.head.parallel ≡ false) × (h.parallel ≡ false)
   pub differ : reversed ≡ false → h.parallel ≡ loop.head.parallel → ⊥
-  pub edges : List Edge
-  pub are : AreEdges t edges
-  pub carries : (reversed ≡ true) ⊎ ((loop.head.parallel ≡ false) × (h.parallel ≡ true)) → NoneCarriedBy t edges l loop.body
+  pub carries : (reversed ≡ true) ⊎ ((loop.head.parallel ≡ false) × (h.parallel ≡ true)) → (edges : List Edge) → AreEdges t edges → NoneCarriedBy t edges l loop.body
   pub unwritten : reversed ≡ false → (w : List ℕ) → is_among w (loop_variables (Do loop.head loop.body)) ≡ true → is_written_in t l loop.body w ≡ false
 
 -- in one execution the new DO is made of trips that do likewise what those of the old one did (this project)

@@ -6,12 +6,12 @@ ghost use Rattle.ped_base.specs.Lists as Lists;
 ghost use Rattle.ped_tree.specs.Tree;
 ghost use Rattle.ped_tree.specs.Nests.{indices_of};
 ghost use Rattle.ped_tree.specs.Views.{stmt_tree, stmt_trees};
-ghost use Rattle.ped_tidy.specs.ped_steps.specs.ped_refs.specs.Loops.{nest_of};
+ghost use Rattle.ped_rules.specs.ped_steps.specs.ped_refs.specs.Loops.{nest_of};
 ghost use Rattle.ped_tree.specs.Views.{head_of};
 ghost use Rattle.ped_tree.specs.NamesIn.{loop_variables, all_loop_variables};
 
 use ped_base::Name;
-use ped_tidy::ped_steps::ped_refs::Loop;
+use ped_rules::ped_steps::ped_refs::Loop;
 use ped_tree::{Do, Stmt};
 
 /// Whether the name is the variable of one of these DO loops.

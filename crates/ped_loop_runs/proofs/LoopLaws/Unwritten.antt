@@ -93,13 +93,13 @@ module _ (t : ProgramTree) where
   NoOwner p nest = (x : List ℕ) → is_among x p.private ≡ false → innermost_private x nest ≡ None
 
   -- the references in the body of a DO are among these; the DO fits and is right, and what is private to no DO round it has no owner there
-  record IsReached (l : ℕ) (h : Head) (body : StmtTrees) (refs : List Reference) : Type 0 where
-    nest : List Loop
-    around : Surroundings
-    fits : stmt_fits around (Do h body) ≡ true
-    right : stmt_is_right kinds (Do h body) ≡ true
-    free : NoOwner around nest
-    listed : (r : Reference) → IsIn r (statements_references cs (nest ++ (record { number = l; head = h }) ∷ []) (l + 1) body) → IsIn r refs
+  pub record IsReached (l : ℕ) (h : Head) (body : StmtTrees) (refs : List Reference) : Type 0 where
+    pub nest : List Loop
+    pub around : Surroundings
+    pub fits : stmt_fits around (Do h body) ≡ true
+    pub right : stmt_is_right kinds (Do h body) ≡ true
+    pub free : NoOwner around nest
+    pub listed : (r : Reference) → IsIn r (statements_references cs (nest ++ (record { number = l; head = h }) ∷ []) (l + 1) body) → IsIn r refs
 
   module _ (l : ℕ) (h : Head) (body : StmtTrees) where
     first_reached : (xs ys : List Reference) → IsReached l h body xs → IsReached l h body (xs ++ ys)
@@ -172,6 +172,10 @@ module _ (t : ProgramTree) where
           let more : l ≡ 1 + (l - 1) = grind (arith, eqb-true, e) in
           all_reached l loop.head loop.body (at_body t) [] (λ x k. refl) t.body 1 (l - 1) more h
           (and_parts (decls_fit 0 t.decls) (stmts_fit (at_body t) t.body) (and_parts _ (begins_with_statement t.body) valid.fits).0).1 (right_program t valid).statements
+
+-- the variable of a DO or of a DO in it is no named constant
+pub index_named : (t : ProgramTree) → IsValid t → (l : ℕ) (loop : LoopOf t l) (w : List ℕ) → is_among w (loop_variables (Do loop.head loop.body)) ≡ true → is_among w (constant_names t.decls) ≡ false
+index_named t valid l loop w among = scalar_named t w valid (index_scalar (kind_in t) w (Do loop.head loop.body) (loop_reached t valid l loop).right among)
 
 -- `=` for each of these loops
 abbrev sames : List Loop → List Direction

@@ -70,7 +70,7 @@ pub record IsKept (acts : List Act) (b : Access) : Type 0 where
 access_by_cell : (w l : Bool) (m k : Manner) → (is_write m || not l) ≡ true → m ≡ k → (is_write k || not l) ≡ true
 access_by_cell w l m k h e = ap (λ (z : Manner). is_write z || not l) (sym e) ∙ h
 
-module _ (t : ProgramTree) (start : Store) (l : ℕ) (loop : LoopOf t l) (h : Head) (reversed : Bool) where
+module _ (t : ProgramTree) (start : Store) (whole : List Act) (l : ℕ) (loop : LoopOf t l) (h : Head) (reversed : Bool) where
   abbrev p : Setting
   p = setting_of t
 
@@ -79,9 +79,6 @@ module _ (t : ProgramTree) (start : Store) (l : ℕ) (loop : LoopOf t l) (h : He
 
   abbrev body : StmtTrees
   body = loop.body
-
-  abbrev whole : List Act
-  whole = (run_all p t.body 1 [] start).acts
 
   abbrev piece : Scope → Store → Run
   piece = run_all p (alone (Do d body)) l
@@ -92,15 +89,8 @@ module _ (t : ProgramTree) (start : Store) (l : ℕ) (loop : LoopOf t l) (h : He
   abbrev count : ℕ
   count = statements_count (alone (Do d body))
 
-  -- an access is made likewise in a trip of the new DO
-  pub record IsInTrip (b : Access) : Type 0 where
-    pub scope : Scope
-    pub store : Store
-    pub front : List Act
-    pub behind : List Act
-    pub executed : IsExecuted p t start l count scope front (piece scope store).acts behind store
-    pub goes : finish_of (piece scope store).ending ≡ goes_on
-    pub made : IsMadeInstead p d h body l reversed scope store
+  -- an access is made likewise in a trip of the new DO, in one execution
+  pub record IsMadeInTrip (scope : Scope) (store : Store) (made : IsMadeInstead p d h body l reversed scope store) (b : Access) : Type 0 where
     pub number : ℕ
     pub from : 1 ≤ number
     pub to : number ≤ (entered_from p h body l scope store made.trips.bounds).count
@@ -109,6 +99,17 @@ module _ (t : ProgramTree) (start : Store) (l : ℕ) (loop : LoopOf t l) (h : He
     pub found : IsIn origin (accesses whole)
     pub likewise : IsMadeLikewise (trip_names reversed (iterations_of (turns_of scope)) (p.number l) (entered_from p d body l scope store made.old.bounds).count) (trip_idle reversed (loop_variables (Do d body))) own_number
         (turns_of (frame (entered_from p d body l scope store made.old.bounds) (trip_of reversed (entered_from p d body l scope store made.old.bounds).count number) ∷ scope)) (turns_of (frame (entered_from p h body l scope store made.trips.bounds) number ∷ scope)) origin b
+
+  -- in some execution
+  pub record IsInTrip (b : Access) : Type 0 where
+    pub scope : Scope
+    pub store : Store
+    pub front : List Act
+    pub behind : List Act
+    pub executed : IsExecuted p t start l count scope front (piece scope store).acts behind store
+    pub goes : finish_of (piece scope store).ending ≡ goes_on
+    pub made : IsMadeInstead p d h body l reversed scope store
+    pub trip : IsMadeInTrip scope store made b
 
   abbrev pub Comes : Access → Type 0
   Comes b = IsKept whole b ⊎ IsInTrip b
@@ -206,7 +207,7 @@ module _ (t : ProgramTree) (start : Store) (l : ℕ) (loop : LoopOf t l) (h : He
           let v = touch_of a a.touches b j in
           exit_kept b v.0 (control.touches v.0 v.1) (access_place a b j ∙ control.place) (ap (λ (x : Access). x.cell) v.3) (ap (λ (x : Access). x.writes) v.3) (subst (λ (k : ℕ). 0 < k) (ap (λ (x : Access). x.reference) v.3) some)
 
-      trip_comes : (a : Act) (b : Access) → IsOfTrip (bounds_seen p h scope s) z scope at made.made.fresh a → IsIn b (accesses_of a) → 0 < b.reference → IsInTrip b
+      trip_comes : (a : Act) (b : Access) → IsOfTrip (bounds_seen p h scope s) z scope at made.made.fresh a → IsIn b (accesses_of a) → 0 < b.reference → IsMadeInTrip scope s made b
       trip_comes a b trip j some = by (likewise_accesses (trip_names reversed (iterations_of (turns_of scope)) (p.number l) e.count) (trip_idle reversed (loop_variables (Do d body)))
           (names_leave reversed (iterations_of (turns_of scope)) (p.number l) e.count) (idle_no_lines reversed (loop_variables (Do d body))) own_number (turns_of (frame e (trip_of reversed e.count trip.number) ∷ scope)) (turns_of (frame z trip.number ∷ scope))
           (made.old.trip (trip_of reversed e.count trip.number)) (made.made.fresh trip.number) (made.made.likewise trip.number trip.from trip.to) b (accesses_in (made.made.fresh trip.number) a b trip.there j))
@@ -228,15 +229,8 @@ module _ (t : ProgramTree) (start : Store) (l : ℕ) (loop : LoopOf t l) (h : He
               accesses_in whole q.0 x (old_among q.0 (trip_among (bounds_seen p d scope s) e scope at made.old.trip k is_trip.0 is_trip.1 q.0 q.1)) q.2
 
           by : ((x : Access) × IsIn x (accesses (made.old.trip k)) × IsMadeLikewise (trip_names reversed (iterations_of (turns_of scope)) (p.number l) e.count) (trip_idle reversed (loop_variables (Do d body))) own_number (turns_of (frame e k ∷ scope)) (turns_of (frame z trip.number ∷ scope)) x b)
-              ⊎ IsOnlyTold (made.made.fresh trip.number) b → IsInTrip b
+              ⊎ IsOnlyTold (made.made.fresh trip.number) b → IsMadeInTrip scope s made b
           by (inl r) = record {
-            scope = scope;
-            store = s;
-            front = front;
-            behind = behind;
-            executed = executed;
-            goes = goes;
-            made = made;
             number = trip.number;
             from = trip.from;
             to = trip.to;
@@ -251,10 +245,17 @@ module _ (t : ProgramTree) (start : Store) (l : ℕ) (loop : LoopOf t l) (h : He
               let same = ap (λ (x : Access). x.reference) told.is in
               absurd (omega (arith, none, same, some))
 
+      -- of the entry and of what leaves the DO, at its place, or of a trip
+      pub execution_made : (a : Act) (b : Access) → IsIn a (fresh scope s) → IsIn b (accesses_of a) → 0 < b.reference → (IsKept whole b × (b.place.turns ≡ turns_of scope)) ⊎ IsMadeInTrip scope s made b
+      execution_made a b i j some = elim (act_of_loop (bounds_seen p h scope s) z scope at made.made.fresh a (subst (λ (acts : List Act). IsIn a acts) (alone_acts p (Do h body) l scope s ∙ made.acts) i)) [
+        | inl entry ↦ inl (entry_kept b (subst (λ (x : Act). IsIn b (accesses_of x)) entry j) some, ap (λ (q : Place). q.turns) (access_place a b j) ∙ ap (λ (x : Act). x.place.turns) entry)
+        | inr r ↦ elim r [ inl trip ↦ inr (trip_comes a b trip j some) | inr control ↦ inl (control_kept a b control j some, ap (λ (q : Place). q.turns) (access_place a b j ∙ control.place)) ]
+      ]
+
       pub execution_comes : (a : Act) (b : Access) → IsIn a (fresh scope s) → IsIn b (accesses_of a) → 0 < b.reference → Comes b
-      execution_comes a b i j some = elim (act_of_loop (bounds_seen p h scope s) z scope at made.made.fresh a (subst (λ (acts : List Act). IsIn a acts) (alone_acts p (Do h body) l scope s ∙ made.acts) i)) [
-        | inl entry ↦ inl (entry_kept b (subst (λ (x : Act). IsIn b (accesses_of x)) entry j) some)
-        | inr r ↦ elim r [ inl trip ↦ inr (trip_comes a b trip j some) | inr control ↦ inl (control_kept a b control j some) ]
+      execution_comes a b i j some = elim (execution_made a b i j some) [
+        | inl k ↦ inl k.0
+        | inr k ↦ inr (record { scope = scope; store = s; front = front; behind = behind; executed = executed; goes = goes; made = made; trip = k })
       ]
 
     -- all parts

@@ -294,12 +294,12 @@ module _ (made : MakingLaw) (sequence : SequenceLaw) (t u : ProgramTree) (l : �
   of_kept : (b : Access) → IsKept olds b → IsFrom b
   of_kept b k = record { origin = k.origin; found = k.found; cell = k.cell; writes = k.writes; alike = subst (λ (ts : List Turn). AreAlike l k.origin.place.turns ts) k.turns (alike_same l k.origin.place.turns); referred = k.referred }
 
-  of_trip : (b : Access) → 0 < b.reference → IsInTrip t start l loop h false b → IsFrom b
+  of_trip : (b : Access) → 0 < b.reference → IsInTrip t start olds l loop h false b → IsFrom b
   of_trip b some k = record {
-    origin = k.origin;
-    found = k.found;
+    origin = k.trip.origin;
+    found = k.trip.found;
     cell = cell;
-    writes = sym k.likewise.writes;
+    writes = sym k.trip.likewise.writes;
     alike = alike;
     referred = referred;
   }
@@ -310,29 +310,29 @@ module _ (made : MakingLaw) (sequence : SequenceLaw) (t u : ProgramTree) (l : �
       now : Entered
       now = entered_from p h body l k.scope k.store k.made.trips.bounds
 
-      high : k.number ≤ old.count
-      high = let to = k.to in let same = k.made.trips.count in omega (arith, to, same)
+      high : k.trip.number ≤ old.count
+      high = let to = k.trip.to in let same = k.made.trips.count in omega (arith, to, same)
 
-      referred : 0 < k.origin.reference
-      referred = let same = k.likewise.reference in omega (arith, same, some)
+      referred : 0 < k.trip.origin.reference
+      referred = let same = k.trip.likewise.reference in omega (arith, same, some)
 
       -- the places differ in the flag of that DO alone
-      alike : AreAlike l k.origin.place.turns b.place.turns
+      alike : AreAlike l k.trip.origin.place.turns b.place.turns
       alike =
-          let round = alike_append l (turns_of k.scope) (turns_of k.scope) ((frame old k.number).turn ∷ []) ((frame now k.number).turn ∷ []) (alike_same l (turns_of k.scope)) ((refl, refl, (λ n. absurd (n refl))), tt) in
-          let whole = alike_append l (turns_of (frame old k.number ∷ k.scope)) (turns_of (frame now k.number ∷ k.scope)) k.likewise.more (map (renumbered_turn own_number) k.likewise.more) round (alike_numbered l k.likewise.more) in
-          subst (λ (is : List Turn). AreAlike l is b.place.turns) (sym k.likewise.old) (subst (λ (js : List Turn). AreAlike l (turns_of (frame old k.number ∷ k.scope) ++ k.likewise.more) js) (sym k.likewise.new) whole)
+          let round = alike_append l (turns_of k.scope) (turns_of k.scope) ((frame old k.trip.number).turn ∷ []) ((frame now k.trip.number).turn ∷ []) (alike_same l (turns_of k.scope)) ((refl, refl, (λ n. absurd (n refl))), tt) in
+          let whole = alike_append l (turns_of (frame old k.trip.number ∷ k.scope)) (turns_of (frame now k.trip.number ∷ k.scope)) k.trip.likewise.more (map (renumbered_turn own_number) k.trip.likewise.more) round (alike_numbered l k.trip.likewise.more) in
+          subst (λ (is : List Turn). AreAlike l is b.place.turns) (sym k.trip.likewise.old) (subst (λ (js : List Turn). AreAlike l (turns_of (frame old k.trip.number ∷ k.scope) ++ k.trip.likewise.more) js) (sym k.trip.likewise.new) whole)
 
-      cell : k.origin.cell ≡ b.cell
-      cell = elim k.likewise.cell [
+      cell : k.trip.origin.cell ≡ b.cell
+      cell = elim k.trip.likewise.cell [
         | inl same ↦ sym same
         | inr idle ↦ (
-            let are = k.made.old.are k.number k.from high in
-            absurd (not_idle k.scope k.number old refl refl _ (k.made.old.trip k.number) are.is k.origin k.in_trip k.found k.likewise.more k.likewise.old referred idle.0)
+            let are = k.made.old.are k.trip.number k.trip.from high in
+            absurd (not_idle k.scope k.trip.number old refl refl _ (k.made.old.trip k.trip.number) are.is k.trip.origin k.trip.in_trip k.trip.found k.trip.likewise.more k.trip.likewise.old referred idle.0)
             )
       ]
 
-  of_comes : (b : Access) → 0 < b.reference → Comes t start l loop h false b → IsFrom b
+  of_comes : (b : Access) → 0 < b.reference → Comes t start olds l loop h false b → IsFrom b
   of_comes b some (inl k) = of_kept b k
   of_comes b some (inr k) = of_trip b some k
 
@@ -393,7 +393,7 @@ module _ (made : MakingLaw) (sequence : SequenceLaw) (t u : ProgramTree) (l : �
     from : (b : Access) → IsIn b (accesses news) → 0 < b.reference → IsFrom b
     from b i some =
         of_comes b some
-        (access_comes t start l loop h false x.private news (λ a k v j e. told_is_unreferred (setting_of u) u.body 1 [] start a k v j e) instead parts olds_are news_are exchanged b (subst (λ (acts : List Act). IsIn b (accesses acts)) (sym news_are) i) some)
+        (access_comes t start olds l loop h false x.private news (λ a k v j e. told_is_unreferred (setting_of u) u.body 1 [] start a k v j e) instead parts olds_are news_are exchanged b (subst (λ (acts : List Act). IsIn b (accesses acts)) (sym news_are) i) some)
 
     -- two new accesses that race come from two old ones that do
     race_before : (b c : Access) → StandsBefore b c (accesses news) → race b c ≡ true → RaceSomewhere olds

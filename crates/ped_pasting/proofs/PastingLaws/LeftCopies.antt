@@ -153,7 +153,7 @@ module _ (p : Setting) where
     stands_outward : (j lo count : ℕ) (a : Act) → (lo ≤ n) × (n < lo + count) → Stands lo count (Trip n h b seen m S j) a → Stands lo count S a
     stands_outward j lo count a q r = inr (trip_inside n h b seen m S j lo count (standing a) q.0 q.1 (stands_trip j lo count a r))
 
-  own_apart : (S : Scope) (lo count : ℕ) (c : Cell) → IsOwn S c → IsCopyInside p S lo count c → ⊥
+  pub own_apart : (S : Scope) (lo count : ℕ) (c : Cell) → IsOwn S c → IsCopyInside p S lo count c → ⊥
   own_apart S lo count c (inl e) d = no_copy_within S e.0 d.name (record { statement = p.number d.statement; number = d.number }) d.rest (sym e.1 ∙ d.is)
   own_apart S lo count c (inr none) d = both_ways (is_of_scalar c) none (ap is_of_scalar d.is)
 

@@ -23,8 +23,8 @@ StandsAgainstParallel s t =
     (also Limit (WhereLimit (MakesParallel s) t s) no_rules)))
 
 -- `parallel s`: a dependence that the DO carries forbids it (Allen and Kennedy, section 2.4.2)
-abbrev pub parallel_at : ℕ → StepAt
-parallel_at s = record {
+abbrev pub paralleling : ℕ → StepAt
+paralleling s = record {
   statement = s;
   kind = transformation;
   IsCause = λ t. IsFirstCause t (StandsAgainstParallel s t) (carried t s);

@@ -20,8 +20,8 @@ abbrev pub with_rejection : List ℕ → Head → StmtTrees → StmtTrees
 with_rejection x h body = alone (Do (record h { rejected = h.rejected ++ x ∷ [] }) body)
 
 -- the program behind the step (ParaScope)
-abbrev pub rejecting : ProgramTree → ℕ → List ℕ → ProgramTree
-rejecting t s x = program_with (on_loop (with_rejection x)) s t
+abbrev pub with_directive : ProgramTree → ℕ → List ℕ → ProgramTree
+with_directive t s x = program_with (on_loop (with_rejection x)) s t
 
 -- the tests don't tell whether the dependence is there, nor does the user (ParaScope)
 abbrev pub is_pending : Mark → Bool
@@ -39,15 +39,15 @@ WhereNothing t s x n = LoopOf t s × ((edges : List Edge) → AreEdges t edges �
 
 -- what the step makes, which keeps each statement with its number (ParaScope)
 abbrev pub MakesRejection : (s : ℕ) → List ℕ → ProgramTree → ProgramTree → List (ℕ × ℕ) → Type 0
-MakesRejection s x t new keep = (new ≡ rejecting t s x) × (keep ≡ all_kept t)
+MakesRejection s x t new keep = (new ≡ with_directive t s x) × (keep ≡ all_kept t)
 
 -- which rules stand against the step: the statement is no DO; it carries no pending dependence on the name (ParaScope)
 abbrev pub StandsAgainstRejection : (s : ℕ) → List ℕ → ProgramTree → Rules
 StandsAgainstRejection s x t = also NoLoop (WhereNoLoop t s) (also NothingToReject (WhereNothing t s x) no_rules)
 
 -- `reject s x`: it promises nothing of the meaning, since it takes the user's word for what the steps behind it keep (ParaScope)
-abbrev pub reject_at : ℕ → List ℕ → StepAt
-reject_at s x = record {
+abbrev pub rejecting : ℕ → List ℕ → StepAt
+rejecting s x = record {
   statement = s;
   kind = rejection;
   IsCause = λ t. IsFirstCause t (StandsAgainstRejection s x t) none_forbids;

@@ -22,8 +22,8 @@ StandsAgainstSerial s t =
     (also Limit (WhereLimit (MakesSerial s) t s) no_rules)))
 
 -- `serial s`: no dependence forbids it, since iterations may be done in any order before (ParaScope)
-abbrev pub serial_at : ℕ → StepAt
-serial_at s = record {
+abbrev pub serialising : ℕ → StepAt
+serialising s = record {
   statement = s;
   kind = transformation;
   IsCause = λ t. IsFirstCause t (StandsAgainstSerial s t) none_forbids;

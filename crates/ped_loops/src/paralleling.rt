@@ -31,7 +31,7 @@ pub fn make_parallel<L: Ledger>(
     number: u32,
 ) -> Result<Result<Change, Refused>, NoMemory>
     requires { IsSceneOf (program_tree scene.now.tree.now) scene.now }
-    ensures { IfOk result (Answers (Spec.parallel_at number) (program_tree scene.now.tree.now)) }
+    ensures { IfOk result (Answers (Spec.paralleling number) (program_tree scene.now.tree.now)) }
 {
     match loop_at(scene.tree, number) {
         Some(d) => {
@@ -52,7 +52,7 @@ fn make_parallel_in<L: Ledger>(
 ) -> Result<Result<Change, Refused>, NoMemory>
     requires scene { IsSceneOf (program_tree scene.now.tree.now) scene.now }
     requires is { IsLoop (program_tree scene.now.tree.now) number (head_of d.now) (stmt_trees d.now.body.items) }
-    ensures { IfOk result (Answers (Spec.parallel_at number) (program_tree scene.now.tree.now)) }
+    ensures { IfOk result (Answers (Spec.paralleling number) (program_tree scene.now.tree.now)) }
 {
     if d.parallel {
         return Ok(Err(against(Rule::ParallelState, number)));
@@ -80,7 +80,7 @@ fn unless_carried<L: Ledger>(
     requires scene { IsSceneOf (program_tree scene.now.tree.now) scene.now }
     requires free { NoRule (Spec.StandsAgainstParallel number (program_tree scene.now.tree.now)) }
     requires is { IsChange (Flags.flagged (program_tree scene.now.tree.now) number true) (all_kept (program_tree scene.now.tree.now)) change }
-    ensures { IfOk result (Answers (Spec.parallel_at number) (program_tree scene.now.tree.now)) }
+    ensures { IfOk result (Answers (Spec.paralleling number) (program_tree scene.now.tree.now)) }
 {
     match first_carried(alloc, scene, number) {
         Ok(Some(edge)) => {

@@ -28,7 +28,7 @@ pub fn make_serial<L: Ledger>(
     number: u32,
 ) -> Result<Result<Change, Refused>, NoMemory>
     requires { IsSceneOf (program_tree scene.now.tree.now) scene.now }
-    ensures { IfOk result (Answers (Spec.serial_at number) (program_tree scene.now.tree.now)) }
+    ensures { IfOk result (Answers (Spec.serialising number) (program_tree scene.now.tree.now)) }
 {
     match loop_at(scene.tree, number) {
         Some(d) => {
@@ -49,7 +49,7 @@ fn make_serial_in<L: Ledger>(
 ) -> Result<Result<Change, Refused>, NoMemory>
     requires scene { IsSceneOf (program_tree scene.now.tree.now) scene.now }
     requires is { IsLoop (program_tree scene.now.tree.now) number (head_of d.now) (stmt_trees d.now.body.items) }
-    ensures { IfOk result (Answers (Spec.serial_at number) (program_tree scene.now.tree.now)) }
+    ensures { IfOk result (Answers (Spec.serialising number) (program_tree scene.now.tree.now)) }
 {
     if !d.parallel {
         return Ok(Err(against(Rule::ParallelState, number)));

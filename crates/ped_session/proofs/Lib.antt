@@ -4,8 +4,6 @@ mod Doing
 mod Examples
 mod HistoryMoves
 pub mod KeptMeanings
-mod KeptStatements
-mod Lawful
 mod LinesLeft
 mod Moves
 pub mod OneAnswer

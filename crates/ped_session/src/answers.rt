@@ -29,7 +29,7 @@ pub struct Answered {
 /// Answers the items of a script one behind another; programs are run on these data. It answers what they say, and
 /// whether one was refused; it tests the pairs that they test, and after want of memory at most as many. Each `run`
 /// shows what the programs show from which the present one has come by transformations alone, where these are tidy
-/// and run without a fault and without a race.
+/// and without C$PED REJECT and run without a fault and without a race.
 ///
 /// Where memory is wanting, nothing is said of the session but how many pairs were tested.
 pub fn answer_items<L: Ledger>(

@@ -1,0 +1,3 @@
+mod FlagRules
+mod FlaggedLoops
+mod FlagsLawful

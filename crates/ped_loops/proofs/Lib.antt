@@ -1,3 +1,4 @@
 mod FlagRules
 mod FlaggedLoops
 mod FlagsLawful
+mod RejectRules

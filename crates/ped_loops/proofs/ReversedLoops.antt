@@ -16,9 +16,9 @@ use Rattle.ped_rules.specs.ped_steps.specs.ped_eval.specs.Evaluation.{Seen, cell
 use Rattle.ped_rules.specs.ped_steps.specs.ped_eval.specs.Values.{value}
 use Rattle.ped_rules.specs.ped_steps.specs.ped_eval.specs.Scopes.{Setting, Scope, Names, names_in}
 use Rattle.ped_rules.specs.ped_steps.specs.ped_eval.specs.Loops.{Limits, limits, increment, iteration_count, Entered, value_in}
-use Rattle.ped_weaves.specs.Puttings.{ReadAmong}
-use Rattle.ped_bodies.specs.Trips.{HasLimits, OfTrips, bounds_seen, entered_from}
-use Rattle.ped_bodies.proofs.BodyLaws.LimitParts.{limits_come, limits_parted}
+use Rattle.ped_loop_runs.specs.ped_weaves.specs.Puttings.{ReadAmong}
+use Rattle.ped_loop_runs.specs.ped_bodies.specs.Trips.{HasLimits, OfTrips, bounds_seen, entered_from}
+use Rattle.ped_loop_runs.specs.ped_bodies.proofs.BodyLaws.LimitParts.{limits_come, limits_parted}
 use Rattle.ped_rules.specs.Rules.{is_unit}
 use Rattle.ped_rules.specs.Spans.{Values}
 use Rattle.ped_loop_runs.specs.OneForOne.{trip_of, HasSameTrips}

@@ -6,12 +6,12 @@ pub mod PlainReads
 mod UnprivateIndices
 mod FreeWrites
 pub mod Unwritten
+pub mod SomeEdges
 pub mod OneForOneNames
 pub mod OneForOneTrips
 pub mod OneForOneKnots
 pub mod OneForOneCells
 pub mod OneForOneStands
-pub mod SomeEdges
 pub mod RacesByReferences
 pub mod LoopParts
 pub mod PlacedLoops

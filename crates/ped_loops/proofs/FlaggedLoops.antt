@@ -97,7 +97,7 @@ module _ (t : ProgramTree) (valid : IsValid t) (s : ℕ) (loop : LoopOf t s) (fl
     valid = valid;
     new_valid = new_valid;
     new = flagged_is;
-    kinds = λ y. ap (λ (v : ProgramTree). kind_in v y) flagged_is ∙ kinds_alike t valid s loop h refl (λ z. refl) y;
+    kinds = λ y. ap (λ (v : ProgramTree). kind_in v y) flagged_is ∙ kinds_alike t valid s loop h refl (λ z e. refl) y;
     variable = refl;
     private = refl;
     contained = contained;

@@ -71,7 +71,7 @@ and_true true b e f = let wrong : true ≡ false = sym (ap not f) ∙ e in absur
 and_true false b e f = refl
 
 -- where no dependence forbids `parallel`, the DO carries none, as none is rejected
-none_carried : UnrejectedLaw → (t : ProgramTree) (s : ℕ) (loop : LoopOf t s) (edges : List Edge) → some_rejection t.body ≡ false → AreEdges t edges → All (λ e. carried t s e ≡ false) edges → NoneCarriedBy t edges s loop.body
+pub none_carried : UnrejectedLaw → (t : ProgramTree) (s : ℕ) (loop : LoopOf t s) (edges : List Edge) → some_rejection t.body ≡ false → AreEdges t edges → All (λ e. carried t s e ≡ false) edges → NoneCarriedBy t edges s loop.body
 none_carried law t s loop edges plain are none e i =
     same_carried t s loop e ∙ and_true (is_carried_by t s e) (is_rejected e.mark) (each_of (λ (z : Edge). carried t s z ≡ false) edges e none i) (not_rejected e.mark (law t edges plain are e i))
 

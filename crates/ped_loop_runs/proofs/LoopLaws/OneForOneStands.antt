@@ -74,6 +74,7 @@ use Rattle.ped_bodies.proofs.BodyLaws.TripLists.{loop_apart}
 use Rattle.ped_loop_runs.specs.Carried.{StandIn, AreTrips, AllStoreWithin}
 use Rattle.ped_loop_runs.specs.OneForOne.{trip_of, trip_names, trip_idle, HasSameTrips, IsOneForOne, IsMadeInstead}
 use Rattle.ped_loop_runs.proofs.LoopLaws.Trips.{trips_apart}
+use Rattle.ped_loop_runs.proofs.LoopLaws.SomeEdges.{some_edges}
 use Rattle.ped_loop_runs.proofs.LoopLaws.OneForOneNames.{variables_unnamed}
 use Rattle.ped_loop_runs.proofs.LoopLaws.OneForOneTrips.{one_made}
 use Rattle.ped_loop_runs.proofs.LoopLaws.OneForOneKnots.{le_true, le_false, two_at, quiet_end, leaving, quiet_touches, trip_or_exit, whole_trip, is_trip, is_exit, rest_is}
@@ -455,8 +456,11 @@ module _ (making : MakingLaw) (sequence : SequenceLaw) (t u : ProgramTree) (l : 
             ap (λ (y : List _). a ++ b ∷ y) inner ∙ sym (append_assoc a (b ∷ c) (k ++ ((m ++ q) ++ (j ++ ((r ++ s) ++ f)))))
 
     none_conflict : reversed ≡ true → (k j : ℕ) → 1 ≤ k → k < j → j ≤ n → blocks_conflict_outside idle (old.trip k) (old.trip j) ≡ false
-    none_conflict turned k j from between hi =
-        trips_apart making sequence t data_bytes x.valid x.edges x.are l loop idle (old.trip k) (old.trip j) (x.carries (inl turned)) (two_trips k j from between hi) (stores k from (omega (arith, between, hi))) (stores j (omega (arith, from, between)) hi)
+    none_conflict turned k j from between hi = false_unless (blocks_conflict_outside idle (old.trip k) (old.trip j)) (λ m.
+        some_edges t (λ edges are.
+        both_ways (blocks_conflict_outside idle (old.trip k) (old.trip j))
+        (trips_apart making sequence t data_bytes x.valid edges are l loop idle (old.trip k) (old.trip j) (x.carries (inl turned) edges are) (two_trips k j from between hi) (stores k from (omega (arith, between, hi))) (stores j (omega (arith, from, between)) hi))
+        m))
 
     apart : (k j : ℕ) → 1 ≤ k → k < j → j ≤ n + 1 → to j < to k → blocks_conflict_outside idle (w.acts k (to k)) (w.acts j (to j)) ≡ false
     apart k j from between hi crossing = elim (eq-or-lt_of_le hi) [
@@ -634,11 +638,13 @@ module _ (making : MakingLaw) (sequence : SequenceLaw) (t u : ProgramTree) (l : 
       own = λ c m. keeps_name c (λ copy. unneeded_copy c copy (counted_needed w c (λ a i. subst (WriteWithin idle) (sym (old_quiet a i)) tt) unread m));
       own_behind = λ c m.
           let wanted = (and_parts (wants shown behind c) (not (idle c)) m).0 in
-          let stays = keeps_name c (λ copy. unwanted_copy c copy wanted) in
-          (stays, (λ f k q. elim (stays_or_moves p scope l n reversed f) [
-            | inl own ↦ sym own ∙ q ∙ stays
-            | inr moved ↦ absurd (unwanted_copy c (inside p scope l count c some (subst (IsOfLoop p scope l) (q ∙ stays) (moves_inside p scope l n reversed f moved))) wanted)
-          ]));
+          let stays = keeps_name c (λ copy. unwanted_copy c copy wanted) in (
+            stays,
+            (λ f k q. elim (stays_or_moves p scope l n reversed f) [
+              | inl own ↦ sym own ∙ q ∙ stays
+              | inr moved ↦ absurd (unwanted_copy c (inside p scope l count c some (subst (IsOfLoop p scope l) (q ∙ stays) (moves_inside p scope l n reversed f moved))) wanted)
+            ]),
+          );
     }
 
     -- the entry of the new DO stands for that of the old one

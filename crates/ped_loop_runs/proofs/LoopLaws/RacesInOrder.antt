@@ -363,8 +363,8 @@ module _ (made : MakingLaw) (sequence : SequenceLaw) (t u : ProgramTree) (l : �
       let order = sequence t data_bytes y z x.valid come one other in
       let r = trips_of t y z l y.place.turns z.place.turns order critical in
       some_edges t (λ edges are.
-          let c = trips_carried made sequence t data_bytes x.valid edges are l loop y z r.0 r.1 r.2 r.3 r.4 come meets one other (record { at_first = r.5; at_second = r.6; of_first = r.7; of_second = r.8; earlier = r.9 }) in
-          both_ways (is_carried_by t l body c.0.covered.edge) (x.carries (inr (became flag, flag)) edges are c.0.covered.edge c.0.covered.listed) c.1)
+      let c = trips_carried made sequence t data_bytes x.valid edges are l loop y z r.0 r.1 r.2 r.3 r.4 come meets one other (record { at_first = r.5; at_second = r.6; of_first = r.7; of_second = r.8; earlier = r.9 }) in
+      both_ways (is_carried_by t l body c.0.covered.edge) (x.carries (inr (became flag, flag)) edges are c.0.covered.edge c.0.covered.listed) c.1)
 
   conflict_flip : (y z : Access) → conflict y z ≡ true → conflict z y ≡ true
   conflict_flip y z k =

@@ -12,7 +12,7 @@ mod literals;
 mod only_loops;
 mod spans;
 
-pub use carried::{first_carried, first_crossing};
+pub use carried::{first_carried, first_crossing, level_at};
 pub use causes::against;
 pub use escaping::escapes;
 pub use fresh::{NewName, fresh_name};

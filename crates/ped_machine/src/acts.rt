@@ -1,5 +1,17 @@
 //! Statements of one act, and the conditions of IF statements.
 
+ghost use Rattle.std.specs.Prelude.{◌≡◌, ◌<◌, ◌+◌, ◌^◌, ◌∷◌, map, false, None, IfOk, OnOk, OnErr, Ok};
+ghost use Rattle.ped_tree.specs.Tree.{Assign, Print, Read};
+ghost use Rattle.ped_tree.specs.Views.{expr_tree, cond_tree, item_tree, stmt_tree, stmt_trees};
+ghost use Rattle.ped_store.specs.Keeping.{memory_of};
+ghost use Rattle.ped_eval.specs.ScopeViews.{names_at};
+ghost use Rattle.ped_eval.specs.Values.{truth};
+ghost use Rattle.ped_eval.specs.Readiness.{setting_by, IsReady, CanDo};
+ghost use Rattle.ped_interleavings.specs.Steps.{begun};
+ghost use Rattle.ped_machine.specs.Doing.{IsActed, IsDone, IfGoing, IfOpen, HasGrown, HasRoom};
+ghost use Rattle.ped_machine.specs.declared.steps.Done.TheVariants as done;
+ghost use Rattle.ped_machine.specs.Parts.{CanGo, is_comment, is_loop, parts_left};
+
 use crate::parts::{Part, Parts};
 use crate::steps::Done;
 use ped_base::NoMemory;
@@ -19,7 +31,19 @@ pub(crate) fn begin<'a>(
     parts: &mut Parts<'a>,
     stmt: &'a Stmt,
     number: u32,
-) -> Result<Done, NoMemory> {
+) -> Result<Done, NoMemory>
+    requires can { CanDo symbols.now state.old.scope number (stmt_tree stmt.now) }
+    requires simple { is_loop (stmt_tree stmt.now) ≡ false }
+    requires real { is_comment (stmt_tree stmt.now) ≡ false }
+    requires ready { IsReady symbols.now state.old.scope (memory_of state.old.store) }
+    requires go { CanGo symbols.now parts.old state.old.scope }
+    ensures does { IfOk result (λ d. IsDone (begun (setting_by symbols.now) (stmt_tree stmt.now) number state.old.scope (parts_left parts.old state.old.scope) (memory_of state.old.store).cells)
+        (parts_left parts.old state.old.scope) (memory_of state.old.store).cells d (parts_left parts.new state.old.scope) (memory_of state.new.store).cells) }
+    ensures kept { OnErr result ((parts.new ≡ parts.old) × HasRoom (memory_of state.old.store) (memory_of state.new.store)) }
+    ensures go { IfOpen result (CanGo symbols.now parts.new state.old.scope) }
+    ensures grown { IfOpen result (HasGrown (memory_of state.old.store) (memory_of state.new.store)) }
+    ensures scope { state.new.scope ≡ state.old.scope }
+{
     match stmt {
         Stmt::Assign { left, right } => {
             return Ok(do_assignment(alloc, symbols, state, left, right, number));
@@ -51,7 +75,11 @@ fn push_block<'a>(
     parts: &mut Parts<'a>,
     stmts: &'a [Stmt],
     first: u32,
-) -> Result<Done, NoMemory> {
+) -> Result<Done, NoMemory>
+    ensures done { IfOk result (λ d. d ≡ done.Went) }
+    ensures ok { OnOk result (parts.new ≡ record { stmts = stmt_trees stmts.now; first = first; turn = None } ∷ parts.old) }
+    ensures err { OnErr result (parts.new ≡ parts.old) }
+{
     parts.push(Part {
         stmts,
         first,
@@ -68,7 +96,13 @@ fn do_assignment(
     left: &Expr,
     right: &Expr,
     number: u32,
-) -> Done {
+) -> Done
+    requires can { CanDo symbols.now state.old.scope number (Assign (expr_tree left.now) (expr_tree right.now)) }
+    requires ready { IsReady symbols.now state.old.scope (memory_of state.old.store) }
+    ensures does { IsActed symbols.now state.old.scope number (Assign (expr_tree left.now) (expr_tree right.now)) (memory_of state.old.store) result (memory_of state.new.store) }
+    ensures grown { IfGoing result (HasGrown (memory_of state.old.store) (memory_of state.new.store)) }
+    ensures scope { state.new.scope ≡ state.old.scope }
+{
     let mut notes = Notes::unkept(alloc);
     match assign(symbols, state, left, right, &mut notes) {
         Ok(()) => return Done::Went,
@@ -86,7 +120,14 @@ fn do_print(
     state: &mut State,
     items: &[PrintItem],
     number: u32,
-) -> Result<Done, NoMemory> {
+) -> Result<Done, NoMemory>
+    requires can { CanDo symbols.now state.old.scope number (Print (map item_tree items.now)) }
+    requires ready { IsReady symbols.now state.old.scope (memory_of state.old.store) }
+    ensures does { IfOk result (λ d. IsActed symbols.now state.old.scope number (Print (map item_tree items.now)) (memory_of state.old.store) d (memory_of state.new.store)) }
+    ensures grown { IfOpen result (HasGrown (memory_of state.old.store) (memory_of state.new.store)) }
+    ensures kept { OnErr result (state.new.store ≡ state.old.store) }
+    ensures scope { state.new.scope ≡ state.old.scope }
+{
     let mut notes = Notes::unkept(alloc);
     match line_of(alloc, symbols, state, items, &mut notes) {
         Ok(line) => {
@@ -110,7 +151,13 @@ fn do_read(
     state: &mut State,
     items: &[Expr],
     number: u32,
-) -> Done {
+) -> Done
+    requires can { CanDo symbols.now state.old.scope number (Read (map expr_tree items.now)) }
+    requires ready { IsReady symbols.now state.old.scope (memory_of state.old.store) }
+    ensures does { IsActed symbols.now state.old.scope number (Read (map expr_tree items.now)) (memory_of state.old.store) result (memory_of state.new.store) }
+    ensures grown { IfGoing result (HasGrown (memory_of state.old.store) (memory_of state.new.store)) }
+    ensures scope { state.new.scope ≡ state.old.scope }
+{
     let mut notes = Notes::unkept(alloc);
     match take_items(symbols, state, items, &mut notes) {
         Ok(()) => return Done::Went,
@@ -127,7 +174,9 @@ fn do_condition(
     symbols: &Symbols,
     state: &State,
     condition: &Cond,
-) -> Result<bool, RunFault> {
+) -> Result<bool, RunFault>
+    ensures { result ≡ (truth (names_at (memory_of state.now.store) state.now.scope symbols.now.constants) (cond_tree condition.now) (memory_of state.now.store).cells).result }
+{
     let around = Surroundings {
         store: &state.store,
         scope: &state.scope,

@@ -1,29 +1,39 @@
-//! What is left of an iteration, with the PARALLEL DO loops that are open in it.
+//! The iterations of PARALLEL DO loops that have been started.
 
-use crate::acts::begin;
-use crate::opens::Open;
-use crate::parts::{Next, Part, Parts};
+ghost use Rattle.std.specs.Prelude.{◌≡◌, ◌<◌, ◌+◌, ◌^◌, ◌∷◌, length, [], None, IfOk};
+ghost use Rattle.ped_tree.specs.Views.{head_of, stmt_trees};
+ghost use Rattle.ped_eval.specs.Loops as Loops;
+ghost use Rattle.ped_eval.specs.Plans.{entered_by, IsPlan};
+
+use crate::parts::{Part, Parts};
+use crate::rests::Rest;
 use crate::steps::Done;
-use crate::turns::{end_turn, enter_do, frame_of, open_copies};
+use crate::turns::{frame_of, open_copies};
 use crate::works::Work;
 use ped_base::NoMemory;
-use ped_eval::{NoWatch, Plan, RunError, Scope, State, plan_of, write_exit};
+use ped_eval::{Plan, Scope, State};
 use ped_symbols::Symbols;
-use ped_tree::{Do, Stmt};
+use ped_tree::Do;
 use std::alloc::Global;
 
-/// What is left of the whole run, or of an iteration of a PARALLEL DO.
+/// An iteration of a PARALLEL DO that has been started.
 #[derive(Drop)]
 pub struct Level<'a, C> {
     /// The iterations round the place where it stands.
     pub scope: Scope,
-    /// What is left outside of the open loop.
-    pub parts: Parts<'a>,
-    /// The loop that is open there.
-    pub open: Option<Open<'a, C>>,
+    /// What is left of it.
+    pub rest: Rest<'a, C>,
 }
 
 impl<'a, C: Work<'a>> Work<'a> for Level<'a, C> {
+    ghost use Rattle.ped_machine.specs.Levels.{level_left, IsSoundLevel, level_grows};
+
+    ghost left = { level_left C.left };
+
+    ghost sound = { IsSoundLevel C.left C.sound };
+
+    ghost grows = { level_grows C.left C.sound C.grows };
+
     fn start(
         alloc: Global,
         state: &mut State,
@@ -36,16 +46,12 @@ impl<'a, C: Work<'a>> Work<'a> for Level<'a, C> {
         let parts = body_parts(alloc, d, plan)?;
         Ok(Level {
             scope,
-            parts,
-            open: None,
+            rest: Rest { parts, open: None },
         })
     }
 
     fn is_over(&mut self) -> bool {
-        match &self.open {
-            None => self.parts.is_over(),
-            Some(_) => false,
-        }
+        self.rest.is_over()
     }
 
     fn step(
@@ -56,155 +62,9 @@ impl<'a, C: Work<'a>> Work<'a> for Level<'a, C> {
         choice: u64,
     ) -> Result<Done, NoMemory> {
         std::mem::swap(&mut self.scope, &mut state.scope);
-        let answer = self.step_here(alloc, symbols, state, choice);
+        let answer = self.rest.step(alloc, symbols, state, choice);
         std::mem::swap(&mut self.scope, &mut state.scope);
         answer
-    }
-}
-
-impl<'a, C: Work<'a>> Level<'a, C> {
-    /// A level at which nothing is left.
-    pub fn new(alloc: Global, parts: Parts<'a>) -> Level<'a, C> {
-        Level {
-            scope: Scope::new(alloc),
-            parts,
-            open: None,
-        }
-    }
-
-    /// Whether the next step is one of an iteration of the loop that is open.
-    pub fn wants_choice(&self) -> bool {
-        match &self.open {
-            None => false,
-            Some(open) => open.pick(0).is_some(),
-        }
-    }
-
-    /// Does the next step, where the iterations round it are those of the state.
-    fn step_here(
-        &mut self,
-        alloc: Global,
-        symbols: &Symbols,
-        state: &mut State,
-        choice: u64,
-    ) -> Result<Done, NoMemory> {
-        if self.open.is_some() {
-            self.step_open(alloc, symbols, state, choice)
-        } else {
-            self.step_parts(alloc, symbols, state)
-        }
-    }
-
-    /// Does a step of the loop that is open.
-    fn step_open(
-        &mut self,
-        alloc: Global,
-        symbols: &Symbols,
-        state: &mut State,
-        choice: u64,
-    ) -> Result<Done, NoMemory> {
-        match &mut self.open {
-            None => return Ok(Done::Ended),
-            Some(open) => match open.pick(choice % open.plan.count) {
-                Some(place) => {
-                    let inner = choice / open.plan.count;
-                    return open.step_at(alloc, symbols, state, place, inner);
-                }
-                None => write_exit(state, open.d, &open.plan),
-            },
-        }
-        self.open = None;
-        Ok(Done::Went)
-    }
-
-    /// Does the next step where no loop is open.
-    fn step_parts(
-        &mut self,
-        alloc: Global,
-        symbols: &Symbols,
-        state: &mut State,
-    ) -> Result<Done, NoMemory> {
-        match self.parts.next() {
-            Next::Nothing => return Ok(Done::Ended),
-            Next::EndsTurn => return end_turn(alloc, state, &mut self.parts),
-            Next::Begins { stmt, number } => {
-                return self.step_statement(alloc, symbols, state, stmt, number);
-            }
-        }
-    }
-
-    /// Begins the first statement that is left.
-    fn step_statement(
-        &mut self,
-        alloc: Global,
-        symbols: &Symbols,
-        state: &mut State,
-        stmt: &'a Stmt,
-        number: u32,
-    ) -> Result<Done, NoMemory> {
-        let before = self.parts.advance();
-        match self.step_advanced(alloc, symbols, state, stmt, number) {
-            Ok(done) => return Ok(done),
-            Err(error) => {
-                self.parts.restore(before);
-                return Err(error);
-            }
-        }
-    }
-
-    /// Begins a statement, where what is behind it is left.
-    fn step_advanced(
-        &mut self,
-        alloc: Global,
-        symbols: &Symbols,
-        state: &mut State,
-        stmt: &'a Stmt,
-        number: u32,
-    ) -> Result<Done, NoMemory> {
-        match stmt {
-            Stmt::Do(d) => return self.enter(alloc, symbols, state, d, number),
-            _ => return begin(alloc, symbols, state, &mut self.parts, stmt, number),
-        }
-    }
-
-    /// Enters a DO.
-    fn enter(
-        &mut self,
-        alloc: Global,
-        symbols: &Symbols,
-        state: &mut State,
-        d: &'a Do,
-        number: u32,
-    ) -> Result<Done, NoMemory> {
-        match plan_of(alloc, symbols, state, &mut NoWatch, d, number) {
-            Ok(plan) => return self.go_in(alloc, state, d, plan),
-            Err(error) => match &error {
-                RunError::Fault { fault, statement } => return Ok(Done::Fault {
-                    fault: *fault,
-                    statement: *statement,
-                }),
-                RunError::NoMemory => return Err(NoMemory),
-            },
-        }
-    }
-
-    /// Goes into a DO that has been entered.
-    fn go_in(
-        &mut self,
-        alloc: Global,
-        state: &mut State,
-        d: &'a Do,
-        plan: Plan,
-    ) -> Result<Done, NoMemory> {
-        if plan.count == 0 {
-            write_exit(state, d, &plan);
-            return Ok(Done::Went);
-        }
-        if d.parallel {
-            self.open = Some(Open::new(alloc, d, plan));
-            return Ok(Done::Went);
-        }
-        enter_do(alloc, state, &mut self.parts, d, plan)
     }
 }
 
@@ -215,7 +75,12 @@ fn inner_scope(
     d: &Do,
     plan: &Plan,
     earlier: u64,
-) -> Result<Scope, NoMemory> {
+) -> Result<Scope, NoMemory>
+    requires plan { IsPlan (head_of d.now) (stmt_trees d.now.body.items) plan.now }
+    requires earlier { earlier < plan.now.count }
+    requires few { length outer.now < 6 }
+    ensures { IfOk result (λ scope. scope ≡ Loops.frame (entered_by (head_of d.now) plan.now 0) (earlier + 1) ∷ outer.now) }
+{
     let mut scope = outer.copy(alloc)?;
     let frame = frame_of(alloc, d, plan, earlier)?;
     scope.enter(frame)?;
@@ -223,7 +88,10 @@ fn inner_scope(
 }
 
 /// The body of a DO as what is left.
-fn body_parts<'a>(alloc: Global, d: &'a Do, plan: &Plan) -> Result<Parts<'a>, NoMemory> {
+fn body_parts<'a>(alloc: Global, d: &'a Do, plan: &Plan) -> Result<Parts<'a>, NoMemory>
+    requires { plan.now.number + 1 < 2 ^ 32 }
+    ensures { IfOk result (λ parts. parts ≡ record { stmts = stmt_trees d.now.body.items; first = plan.now.number + 1; turn = None } ∷ []) }
+{
     let mut parts = Parts::new(alloc);
     parts.push(Part {
         stmts: &d.body,

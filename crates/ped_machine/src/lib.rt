@@ -5,9 +5,9 @@
 mod acts;
 mod levels;
 mod machine;
-mod marks;
 mod opens;
 mod parts;
+mod rests;
 mod steps;
 mod turns;
 mod works;

@@ -1,5 +1,11 @@
 //! What an iteration has left outside of open PARALLEL DO loops.
 
+ghost use Rattle.std.specs.Prelude.{◌≡◌, ◌<◌, ◌+◌, ◌^◌, [], ◌∷◌, length, Some, None, MatchOption, OnOk, OnErr};
+ghost use Rattle.ped_tree.specs.Views.{stmt_trees};
+ghost use Rattle.ped_eval.specs.Scopes.{Scope};
+ghost use Rattle.ped_interleavings.specs.Lefts.{is_finished};
+ghost use Rattle.ped_machine.specs.Parts.{part_view, turn_view, parts_left, advanced, with_statements, with_next_turn, behind_first, first_turn, first_statements, first_number, first_count, CanTurnOn, FirstGoesOn, IsFirstBlock, IsNext, IsSettled, IsSpent, IsWithoutComments};
+
 use ped_base::NoMemory;
 use ped_eval::{Plan, count};
 use ped_tree::{Do, Stmt};
@@ -59,33 +65,56 @@ pub struct Parts<'a> {
     items: Vec<Part<'a>>,
 }
 
+impl<'a> Model for Parts<'a> {
+    ghost use Rattle.std.specs.Prelude.{List};
+    ghost use Rattle.ped_machine.specs.Parts as Spec;
+    ghost use Rattle.ped_machine.specs.Parts.{parts_view};
+
+    ghost Value = { List Spec.Part };
+
+    ghost view = { λ s. parts_view s.items.items };
+}
+
 impl<'a> Parts<'a> {
     /// Nothing is left.
-    pub fn new(alloc: Global) -> Parts<'a> {
+    pub fn new(alloc: Global) -> Parts<'a>
+        ensures { result ≡ [] }
+    {
         Parts {
             items: Vec::new(alloc),
         }
     }
 
     /// Puts a part before the others.
-    pub fn push(&mut self, part: Part<'a>) -> Result<(), NoMemory> {
+    pub fn push(&mut self, part: Part<'a>) -> Result<(), NoMemory>
+        ensures ok { OnOk result (self.new ≡ part_view part ∷ self.old) }
+        ensures err { OnErr result (self.new ≡ self.old) }
+    {
         self.items.push(part)?;
         Ok(())
     }
 
     /// Drops the first part.
-    pub fn pop(&mut self) {
+    pub fn pop(&mut self)
+        ensures { self.new ≡ behind_first self.old }
+    {
         self.items.pop();
     }
 
     /// Nothing is left.
-    pub fn is_over(&mut self) -> bool {
+    pub fn is_over(&mut self) -> bool
+        ensures over { (scope : Scope) → result ≡ is_finished (parts_left self.old scope) }
+        ensures settled { IsSettled self.old self.new }
+    {
         self.settle();
         self.items.is_empty()
     }
 
     /// What is to be done next. Comments and parts of which nothing is left are passed over.
-    pub fn next(&mut self) -> Next<'a> {
+    pub fn next(&mut self) -> Next<'a>
+        ensures next { IsNext result self.new }
+        ensures settled { IsSettled self.old self.new }
+    {
         self.settle();
         match self.items.last() {
             None => Next::Nothing,
@@ -100,14 +129,21 @@ impl<'a> Parts<'a> {
     }
 
     /// Passes over comments and parts of which nothing is left.
-    fn settle(&mut self) {
+    fn settle(&mut self)
+        ensures settled { IsSettled self.old self.new }
+        ensures begins { FirstGoesOn self.new }
+    {
         while self.is_spent() {
             self.items.pop();
         }
     }
 
     /// Passes over the comments before the first statement, and tells whether nothing is left of the first part.
-    fn is_spent(&mut self) -> bool {
+    fn is_spent(&mut self) -> bool
+        ensures settled { IsSettled self.old self.new }
+        ensures spent { IsSpent result self.new }
+        ensures length { length self.new ≡ length self.old }
+    {
         match self.items.last_mut() {
             None => false,
             Some(part) => {
@@ -118,7 +154,11 @@ impl<'a> Parts<'a> {
     }
 
     /// Passes over the first statement, and answers the statements as they were.
-    pub fn advance(&mut self) -> Block<'a> {
+    pub fn advance(&mut self) -> Block<'a>
+        requires few { first_number self.old + first_count (first_statements self.old) < 2 ^ 32 }
+        ensures advanced { self.new ≡ advanced self.old }
+        ensures block { IsFirstBlock self.old result }
+    {
         match self.items.last_mut() {
             None => Block { stmts: &[], first: 0 },
             Some(part) => {
@@ -136,7 +176,9 @@ impl<'a> Parts<'a> {
     }
 
     /// Makes these the statements of the first part.
-    pub fn restore(&mut self, block: Block<'a>) {
+    pub fn restore(&mut self, block: Block<'a>)
+        ensures { self.new ≡ with_statements (stmt_trees block.stmts.now) block.first self.old }
+    {
         if let Some(part) = self.items.last_mut() {
             part.stmts = block.stmts;
             part.first = block.first;
@@ -144,7 +186,9 @@ impl<'a> Parts<'a> {
     }
 
     /// The iteration that ends behind the first part.
-    pub fn turn(&self) -> Option<&Turn<'a>> {
+    pub fn turn(&self) -> Option<&Turn<'a>>
+        ensures { MatchOption result (first_turn self.now ≡ None) (λ t. first_turn self.now ≡ Some (turn_view t.now)) }
+    {
         match self.items.last() {
             None => None,
             Some(part) => match &part.turn {
@@ -155,7 +199,10 @@ impl<'a> Parts<'a> {
     }
 
     /// Goes on with the next iteration of the DO, all whose body is left.
-    pub fn turn_on(&mut self) {
+    pub fn turn_on(&mut self)
+        requires few { CanTurnOn (first_turn self.old) }
+        ensures { self.new ≡ with_next_turn self.old }
+    {
         if let Some(part) = self.items.last_mut() {
             if let Some(turn) = &mut part.turn {
                 turn.earlier += 1;
@@ -167,7 +214,9 @@ impl<'a> Parts<'a> {
 }
 
 /// The statements behind the comments before them.
-pub fn without_comments<'a>(stmts: &'a [Stmt]) -> &'a [Stmt] {
+pub fn without_comments<'a>(stmts: &'a [Stmt]) -> &'a [Stmt]
+    ensures { IsWithoutComments (stmt_trees stmts.now) (stmt_trees result.now) }
+{
     let mut left = stmts;
     while let Some((Stmt::Comment(_), rest)) = left.split_first() {
         left = rest;

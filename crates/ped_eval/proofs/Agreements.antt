@@ -50,7 +50,7 @@ is_past moment (Private x path) = not (is_ahead moment (row_of path))
 is_past moment In = true
 is_past moment Out = true
 
-same_iterations : (xs ys : List Iteration) → pointwise same_iteration xs ys ≡ true → xs ≡ ys
+pub same_iterations : (xs ys : List Iteration) → pointwise same_iteration xs ys ≡ true → xs ≡ ys
 same_iterations [] [] h = refl
 same_iterations [] (y ∷ ys) h = absurd cc
 same_iterations (x ∷ xs) [] h = absurd cc
@@ -94,7 +94,7 @@ past_by : (f : Frame) (fs : Scope) (x : List ℕ) (moment : List ℕ) (b : Bool)
 past_by f fs x moment true e h = ap not e
 past_by f fs x moment false e h = h
 
-past_behind : (scope : Scope) (x : List ℕ) (n : ℕ) (more : List ℕ) → is_past (row_of (path_of scope) ++ n ∷ more) (cell_of scope x) ≡ true
+pub past_behind : (scope : Scope) (x : List ℕ) (n : ℕ) (more : List ℕ) → is_past (row_of (path_of scope) ++ n ∷ more) (cell_of scope x) ≡ true
 past_behind [] x n more = refl
 past_behind (f ∷ fs) x n more =
     let e : row_of (path_of (f ∷ fs)) ++ n ∷ more ≡ row_of (path_of fs) ++ f.turn.statement ∷ (f.turn.number ∷ (n ∷ more)) =

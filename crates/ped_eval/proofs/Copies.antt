@@ -116,14 +116,14 @@ is_shallow n (Private x path) = ltb (length path) n
 is_shallow n In = true
 is_shallow n Out = true
 
-turns_length : (gs : Scope) → length (turns_of gs) ≡ length gs
+pub turns_length : (gs : Scope) → length (turns_of gs) ≡ length gs
 turns_length [] = refl
 turns_length (f ∷ fs) =
     let h : length (turns_of fs) ≡ length fs = turns_length fs in
     let k : length (turns_of fs ++ f.turn ∷ []) ≡ length (turns_of fs) + 1 = length-append (turns_of fs) (f.turn ∷ []) in
     omega (arith, h, k)
 
-path_length : (fs : Scope) → length (path_of fs) ≡ length fs
+pub path_length : (fs : Scope) → length (path_of fs) ≡ length fs
 path_length fs = length-map (turns_of fs) _ ∙ turns_length fs
 
 -- what holds the same in all shallow cells does so for the iterations outside

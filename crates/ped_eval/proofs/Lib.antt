@@ -1,36 +1,37 @@
-mod Agreements
-mod Assignments
+pub mod Agreements
+pub mod Assignments
 mod CellForms
-mod Copies
+pub mod Copies
 pub mod Endings
-mod Entries
-mod Evaluations
+pub mod Entries
+pub mod Evaluations
 mod Examples
 mod Frames
 mod Intrinsics
-mod Iterations
+pub mod Iterations
+pub mod KeptByWrites
 mod Levels
 mod Lines
-mod Moments
+pub mod Moments
 mod Notings
-mod Parts
-mod Prints
+pub mod Parts
+pub mod Prints
 mod Quotients
 mod ReadNotes
-mod Readings
+pub mod Readings
 mod RowsByNames
-mod RunOutcomes
-mod Running
-mod SameValues
+pub mod RunOutcomes
+pub mod Running
+pub mod SameValues
 mod Seeing
 mod ShapesByNames
 mod Spans
-mod Starts
+pub mod Starts
 mod StatementActs
 mod StatementWatches
 mod Storing
 mod Steps
-mod Takings
-mod Undefining
+pub mod Takings
+pub mod Undefining
 mod Walks
 mod Watching

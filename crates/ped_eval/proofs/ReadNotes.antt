@@ -29,6 +29,7 @@ use Rattle.ped_eval.specs.declared.states.RunError.{RunError}
 use Rattle.ped_eval.proofs.Evaluations.{IsVariable, target_variable}
 use Rattle.ped_eval.proofs.Assignments.{stored_is, IsUnstored, unstored_is}
 use Rattle.ped_eval.proofs.Readings.{value_storable}
+use Rattle.ped_eval.proofs.KeptByWrites.{agrees_kept}
 use Rattle.ped_eval.proofs.Takings.{item_agrees, target_same, same_lines, begins_same}
 use Rattle.ped_eval.proofs.Notings.{noted-append}
 use Rattle.ped_eval.proofs.StatementActs.{read_accesses}
@@ -49,7 +50,7 @@ module _ (p : Setting) (scope : Scope) (j : ℕ) (v : Content) where
     touched_as t seen (Ok c) is =
         noted-append (numbered n seen ++ write_touch c (Number t.value) (number_behind n seen) ∷ []) (taking (names_in p scope) rest (suc (number_behind n seen)) t.behind (put c (Number t.value) s)).touches
         ∙ (λ i. noted-append (numbered n seen) (write_touch c (Number t.value) (number_behind n seen) ∷ []) i
-        ++ alike (suc (number_behind n seen)) (put c (Number t.value) s) (with_content c (Number t.value) (with_data t.behind m)) b (item_agrees p scope j v t c s m (is c refl) h) i)
+        ++ alike (suc (number_behind n seen)) (put c (Number t.value) s) (with_content c (Number t.value) (with_data t.behind m)) b (item_agrees p scope (Agrees scope (before scope j)) (agrees_kept p scope j) v t c s m (is c refl) h) i)
 
     value_as : (o : Result Taken ℕ)
         → noted (with_taken m.input o λ w left. into_item n left w (target (names_in p scope) item s).seen (target (names_in p scope) item s).result λ k c. taking (names_in p scope) rest k left (put c (Number w) s)).touches
@@ -58,7 +59,7 @@ module _ (p : Setting) (scope : Scope) (j : ℕ) (v : Content) where
     value_as (Err f) = refl
     value_as (Ok t) =
         touched_as t (target (names_in p scope) item s).seen (target (names_in p scope) item s).result (target_variable (names_in p scope) item s)
-        ∙ (λ i. item_noted n (sym (target_same p scope j v t item m s b h) i).seen (sym (target_same p scope j v t item m s b h) i).result (λ k c. items_noted p.constants scope rest k (with_content c (Number t.value) (with_data t.behind m))))
+        ∙ (λ i. item_noted n (sym (target_same p scope (Agrees scope (before scope j)) (agrees_kept p scope j) v t item m s b h) i).seen (sym (target_same p scope (Agrees scope (before scope j)) (agrees_kept p scope j) v t item m s b h) i).result (λ k c. items_noted p.constants scope rest k (with_content c (Number t.value) (with_data t.behind m))))
 
   items_alike : (items : List ExprTree) → AreAlike items
   items_alike [] n s m b h = refl
@@ -67,11 +68,11 @@ module _ (p : Setting) (scope : Scope) (j : ℕ) (v : Content) where
 module _ (p : Setting) (scope : Scope) (j : ℕ) (items : List ExprTree) (s : Store) (m : Memory) (b : m.bounds ≡ p.bounds) (h : Agrees scope (before scope j) m.cells s) (kept : m.cells In ≡ Lines m.input.lines) where
   line_as : (o : Result Data ℕ) → noted (taking_from (names_in p scope) items o s).touches ≡ line_noted o (λ d. items_noted p.constants scope items 2 (with_data d m))
   line_as (Err f) = refl
-  line_as (Ok d) = items_alike p scope j (Lines []) items 2 s (with_data d m) b (begins_same p scope j (place_of p j scope) items s m b h kept (Lines []) d)
+  line_as (Ok d) = items_alike p scope j (Lines []) items 2 s (with_data d m) b (begins_same p scope (Agrees scope (before scope j)) (agrees_kept p scope j) (place_of p j scope) items s m b h kept (Lines []) d)
 
   -- the items of a READ touch what they note
   reading_as : noted (reading (names_in p scope) items s).touches ≡ line_noted (begun m.input.lines) (λ d. items_noted p.constants scope items 2 (with_data d m))
-  reading_as = ap (λ (ls : List (List ℕ)). noted (taking_from (names_in p scope) items (begun ls) s).touches) (same_lines p scope j (place_of p j scope) items s m b h kept) ∙ line_as (begun m.input.lines)
+  reading_as = ap (λ (ls : List (List ℕ)). noted (taking_from (names_in p scope) items (begun ls) s).touches) (same_lines p scope (Agrees scope (before scope j)) (agrees_kept p scope j) (place_of p j scope) items s m b h kept) ∙ line_as (begun m.input.lines)
 
 -- a watch is told the accesses of a READ
 pub read_watched : {W : Type 0} (follows : W → Access → W → Type 0) (table : Table) (scope : Scope) (n : ℕ) (items : List ExprTree) (m : Memory) → IsReady table scope m → m.cells In ≡ Lines m.input.lines → (old new : W) (r : Result Flow RunError)

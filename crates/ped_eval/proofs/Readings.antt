@@ -22,7 +22,7 @@ use Rattle.ped_eval.specs.Targets.{bounded}
 use Rattle.ped_symbols.specs.RightUses.RightUses.{NameKinds, target_is_right}
 use Rattle.ped_eval.specs.Readiness.{setting_by, IsReady}
 use Rattle.ped_eval.specs.Takings.{names_with, item_taken, items_taken, read_taken}
-use Rattle.ped_eval.specs.Agreement.{before}
+use Rattle.ped_eval.specs.Agreement.{before, Agrees}
 use Rattle.ped_eval.specs.Runs.{Ending, run}
 use Rattle.ped_eval.specs.Told.{Goes, Fails, Ran}
 use Rattle.ped_eval.specs.declared.states.Flow.TheVariants as flow
@@ -30,6 +30,7 @@ use Rattle.ped_eval.specs.declared.states.RunError.TheVariants as error
 use Rattle.ped_eval.proofs.Walks.{next_drop}
 use Rattle.ped_eval.proofs.Moments.{next_statement}
 use Rattle.ped_eval.proofs.Agreements.{agrees_later}
+use Rattle.ped_eval.proofs.KeptByWrites.{agrees_kept}
 use Rattle.ped_eval.proofs.Takings.{read_ending, read_ending_fails}
 use Rattle.ped_eval.proofs.Assignments.{ready_with}
 
@@ -166,7 +167,7 @@ module _ (table : Table) (scope : Scope) (n : ℕ) (items : List ExprTree) (old 
   pub read_ran : (new : Kept) → read_taken table.constants scope items (memory_of old) ≡ Ok (memory_of new)
       → Ran scope n (memory_of old) (n + 1) (Ok flow.Going) (memory_of new) (run (setting_by table) (Read items) n scope)
   read_ran new h s g =
-      let e = read_ending (setting_by table) scope n (place_of (setting_by table) n scope) items s (memory_of old) ready.bounds g refl (memory_of new) h refl in
+      let e = read_ending (setting_by table) scope (Agrees scope (before scope n)) (agrees_kept (setting_by table) scope n) (place_of (setting_by table) n scope) items s (memory_of old) ready.bounds g refl (memory_of new) h refl in
       subst (λ (x : Ending). Goes scope (before scope (n + 1)) (memory_of new).cells x) (sym e.1)
       (agrees_later scope (before scope n) (before scope (n + 1)) (memory_of new).cells e.0 (next_statement scope n 1) e.2)
 
@@ -174,7 +175,7 @@ module _ (table : Table) (scope : Scope) (n : ℕ) (items : List ExprTree) (old 
   pub read_failed : (new : Memory) (k : ℕ) → read_taken table.constants scope items (memory_of old) ≡ Err k
       → Ran scope n (memory_of old) (n + 1) (Err (error.Fault k n)) new (run (setting_by table) (Read items) n scope)
   read_failed new k h s g =
-      subst (λ (x : Ending). Fails k n x) (sym (read_ending_fails (setting_by table) scope n (place_of (setting_by table) n scope) items s (memory_of old) ready.bounds g refl k h)) (refl, refl)
+      subst (λ (x : Ending). Fails k n x) (sym (read_ending_fails (setting_by table) scope (Agrees scope (before scope n)) (agrees_kept (setting_by table) scope n) (place_of (setting_by table) n scope) items s (memory_of old) ready.bounds g refl k h)) (refl, refl)
 
 -- behind the last item none is left
 pub none_left : {A : Type 0} (f : List ExprTree → A) (items : List Expr) (i : ℕ) → length items ≤ i → f (map expr_tree (drop i items)) ≡ f []

@@ -1,4 +1,4 @@
--- What is kept behind a READ agrees with the store of a run.
+-- What is kept behind a READ goes with the store of a run as it did before, in each way that equal writes keep.
 use Rattle.std.proofs.Common.{◌≡◌, ℕ, suc, List, [], ◌∷◌, false, Some, None, Result, Ok, Err, if◌then◌else◌, refl, sym, ap, subst, ◌∙◌, append_assoc}
 use mathlib.Core.Path.{fun_ext}
 use Rattle.ped_base.specs.Arithmetic.Faults.{◌>>=◌}
@@ -13,11 +13,11 @@ use Rattle.ped_eval.specs.Evaluation.{Seen, numbered, number_behind}
 use Rattle.ped_eval.specs.Values.{target}
 use Rattle.ped_eval.specs.Statements.{Taking, write_touch, into_item, with_taken, taking, taking_from, reading}
 use Rattle.ped_eval.specs.Runs.{going, failed, run_read}
-use Rattle.ped_eval.specs.Agreement.{before, Agrees}
 use Rattle.ped_eval.specs.Takings.{names_with, items_taken, read_taken}
 use Rattle.ped_eval.proofs.SameValues.{IsSameFor, same_target}
-use Rattle.ped_eval.proofs.Agreements.{agrees_put, outside_same}
-use Rattle.ped_eval.proofs.Evaluations.{IsVariable, reached_same, names_same, target_variable, in_not_scalar, variable_not_in, variable_past}
+use Rattle.ped_eval.proofs.Agreements.{outside_same}
+use Rattle.ped_eval.proofs.Evaluations.{IsVariable, reached_same, names_same, target_variable, in_not_scalar, variable_not_in}
+use Rattle.ped_eval.proofs.KeptByWrites.{IsKeptByWrites}
 use Rattle.ped_eval.proofs.Endings.{reads_leave, read_goes, read_fails}
 
 twice_by : (v w : Content) (k : Store) (d : Cell) → put In v (put In w k) d ≡ put In v k d
@@ -43,22 +43,22 @@ in_apart : (c : Cell) (x v : Content) (k : Store) → same_cell c In ≡ false �
 in_apart c x v k h = fun_ext (apart_by c x v k h)
 
 -- the items of a READ have been taken, and this is kept behind them
-record AreTaken (scope : Scope) (j : ℕ) (v : Content) (t : Taking) (s : Store) (m after : Memory) : Type 0 where
-  fault : t.fault ≡ None
-  left : t.left ≡ after.input
-  agrees : Agrees scope (before scope j) (put In v after.cells) (store_behind t.touches (put In v s))
-  stands : after.stands ≡ m.stands
-  bounds : after.bounds ≡ m.bounds
+pub record AreTaken (R : Store → Store → Type 0) (v : Content) (t : Taking) (s : Store) (m after : Memory) : Type 0 where
+  pub fault : t.fault ≡ None
+  pub left : t.left ≡ after.input
+  pub agrees : R (put In v after.cells) (store_behind t.touches (put In v s))
+  pub stands : after.stands ≡ m.stands
+  pub bounds : after.bounds ≡ m.bounds
 
-module _ (p : Setting) (scope : Scope) (j : ℕ) (v : Content) where
+module _ (p : Setting) (scope : Scope) (R : Store → Store → Type 0) (writes : IsKeptByWrites p scope R) (v : Content) where
   into_taken : (n : ℕ) (t : Taken) (seen : List Seen) (c : Cell) (rest : Taking) (s : Store) (m after : Memory)
       → IsVariable (names_in p scope) c
-      → AreTaken scope j v rest (put c (Number t.value) s) (with_content c (Number t.value) (with_data t.behind m)) after
-      → AreTaken scope j v (into_item n t.behind t.value seen (Ok c) (λ k d. rest)) s m after
+      → AreTaken R v rest (put c (Number t.value) s) (with_content c (Number t.value) (with_data t.behind m)) after
+      → AreTaken R v (into_item n t.behind t.value seen (Ok c) (λ k d. rest)) s m after
   into_taken n t seen c rest s m after is a = record {
     fault = a.fault;
     left = a.left;
-    agrees = subst (λ (u : Store). Agrees scope (before scope j) (put In v after.cells) u)
+    agrees = subst (λ (u : Store). R (put In v after.cells) u)
         (ap (store_behind rest.touches) (in_apart c (Number t.value) v s (variable_not_in p scope c is))
         ∙ sym (reads_leave seen n (write_touch c (Number t.value) (number_behind n seen) ∷ rest.touches) (put In v s))
         ∙ ap (λ (ts : List Touch). store_behind ts (put In v s)) (sym (append_assoc (numbered n seen) (write_touch c (Number t.value) (number_behind n seen) ∷ []) rest.touches)))
@@ -68,29 +68,29 @@ module _ (p : Setting) (scope : Scope) (j : ℕ) (v : Content) where
   }
 
   -- what is kept agrees behind an item
-  pub item_agrees : (t : Taken) (c : Cell) (s : Store) (m : Memory) → IsVariable (names_in p scope) c → Agrees scope (before scope j) (put In v m.cells) (put In v s)
-      → Agrees scope (before scope j) (put In v (with_content c (Number t.value) (with_data t.behind m)).cells) (put In v (put c (Number t.value) s))
+  pub item_agrees : (t : Taken) (c : Cell) (s : Store) (m : Memory) → IsVariable (names_in p scope) c → R (put In v m.cells) (put In v s)
+      → R (put In v (with_content c (Number t.value) (with_data t.behind m)).cells) (put In v (put c (Number t.value) s))
   item_agrees t c s m is h =
       let not_in = variable_not_in p scope c is in
       let kept : put c (Number t.value) (put In v m.cells) ≡ put In v (put c (Number t.value) (put In (Lines t.behind.lines) m.cells)) =
       sym (in_apart c (Number t.value) v (put In (Lines t.behind.lines) m.cells) not_in ∙ ap (put c (Number t.value)) (in_twice v (Lines t.behind.lines) m.cells)) in
       let run : put c (Number t.value) (put In v s) ≡ put In v (put c (Number t.value) s) = sym (in_apart c (Number t.value) v s not_in) in
-      subst (λ (u : Store). Agrees scope (before scope j) u (put In v (put c (Number t.value) s))) kept
-      (subst (λ (u : Store). Agrees scope (before scope j) (put c (Number t.value) (put In v m.cells)) u) run
-      (agrees_put scope (before scope j) c (Number t.value) (put In v m.cells) (put In v s) (variable_past p scope j c is) h))
+      subst (λ (u : Store). R u (put In v (put c (Number t.value) s))) kept
+      (subst (λ (u : Store). R (put c (Number t.value) (put In v m.cells)) u) run
+      (writes.variable c (Number t.value) (put In v m.cells) (put In v s) is h))
 
   without_in : (w : Content) (k : Store) (x : List ℕ) → put In w k (cell_of scope x) ≡ k (cell_of scope x)
   without_in w k x = ap (λ b. if b then w else k (cell_of scope x)) (in_not_scalar scope x)
 
-  same_without : (w : Content) (m : Memory) (s : Store) → Agrees scope (before scope j) (put In v m.cells) (put In v s) → IsSameFor (names_in p scope) (put In w m.cells) s
+  same_without : (w : Content) (m : Memory) (s : Store) → R (put In v m.cells) (put In v s) → IsSameFor (names_in p scope) (put In w m.cells) s
   same_without w m s h =
-      let f = reached_same p scope (put In v m.cells) (put In v s) h.same in
+      let f = reached_same p scope (put In v m.cells) (put In v s) (writes.same (put In v m.cells) (put In v s) h) in
       record {
         scalars = λ x. without_in w m.cells x ∙ sym (without_in v m.cells x) ∙ f.scalars x ∙ without_in v s x;
         elements = λ x js. f.elements x js;
       }
 
-  pub target_same : (t : Taken) (item : ExprTree) (m : Memory) (s : Store) → m.bounds ≡ p.bounds → Agrees scope (before scope j) (put In v m.cells) (put In v s)
+  pub target_same : (t : Taken) (item : ExprTree) (m : Memory) (s : Store) → m.bounds ≡ p.bounds → R (put In v m.cells) (put In v s)
       → target (names_with (with_data t.behind m) scope p.constants) item (with_data t.behind m).cells ≡ target (names_in p scope) item s
   target_same t item m s b h =
       ap (λ g. target g item (with_data t.behind m).cells) (names_same p scope (with_data t.behind m) b)
@@ -98,14 +98,14 @@ module _ (p : Setting) (scope : Scope) (j : ℕ) (v : Content) where
 
   -- what the items behind an item come to, where they are taken, and where one fails
   abbrev Follows : List ExprTree → Memory → Type 0
-  Follows rest after = (n : ℕ) (s : Store) (m : Memory) → m.bounds ≡ p.bounds → Agrees scope (before scope j) (put In v m.cells) (put In v s)
-      → items_taken p.constants scope rest m ≡ Ok after → AreTaken scope j v (taking (names_in p scope) rest n m.input s) s m after
+  Follows rest after = (n : ℕ) (s : Store) (m : Memory) → m.bounds ≡ p.bounds → R (put In v m.cells) (put In v s)
+      → items_taken p.constants scope rest m ≡ Ok after → AreTaken R v (taking (names_in p scope) rest n m.input s) s m after
 
   abbrev FollowFailing : List ExprTree → ℕ → Type 0
-  FollowFailing rest f = (n : ℕ) (s : Store) (m : Memory) → m.bounds ≡ p.bounds → Agrees scope (before scope j) (put In v m.cells) (put In v s)
+  FollowFailing rest f = (n : ℕ) (s : Store) (m : Memory) → m.bounds ≡ p.bounds → R (put In v m.cells) (put In v s)
       → items_taken p.constants scope rest m ≡ Err f → (taking (names_in p scope) rest n m.input s).fault ≡ Some f
 
-  module _ (item : ExprTree) (rest : List ExprTree) (n : ℕ) (s : Store) (m : Memory) (b : m.bounds ≡ p.bounds) (h : Agrees scope (before scope j) (put In v m.cells) (put In v s)) where
+  module _ (item : ExprTree) (rest : List ExprTree) (n : ℕ) (s : Store) (m : Memory) (b : m.bounds ≡ p.bounds) (h : R (put In v m.cells) (put In v s)) where
     abbrev stored_behind : Taken → Result Cell ℕ → Result Memory ℕ
     stored_behind t r = (r >>= λ c. Ok (with_content c (Number t.value) (with_data t.behind m))) >>= items_taken p.constants scope rest
 
@@ -119,7 +119,7 @@ module _ (p : Setting) (scope : Scope) (j : ℕ) (v : Content) where
     taking_value o = with_taken m.input o λ w left. into_item n left w (target (names_in p scope) item s).seen (target (names_in p scope) item s).result λ k c. taking (names_in p scope) rest k left (put c (Number w) s)
 
     cell_agrees : (after : Memory) → Follows rest after → (t : Taken) (seen : List Seen) (r : Result Cell ℕ) → ((c : Cell) → r ≡ Ok c → IsVariable (names_in p scope) c)
-        → stored_behind t r ≡ Ok after → AreTaken scope j v (taking_into t seen r) s m after
+        → stored_behind t r ≡ Ok after → AreTaken R v (taking_into t seen r) s m after
     cell_agrees after follow t seen (Err f) is e = absurd cc
     cell_agrees after follow t seen (Ok c) is e =
         into_taken n t seen c (taking (names_in p scope) rest (suc (number_behind n seen)) t.behind (put c (Number t.value) s)) s m after (is c refl)
@@ -133,7 +133,7 @@ module _ (p : Setting) (scope : Scope) (j : ℕ) (v : Content) where
     by_same_target : (t : Taken) → taken_behind (Ok t) ≡ stored_behind t (target (names_in p scope) item s).result
     by_same_target t = λ i. stored_behind t (target_same t item m s b h i).result
 
-    value_agrees : (after : Memory) → Follows rest after → (o : Result Taken ℕ) → taken_behind o ≡ Ok after → AreTaken scope j v (taking_value o) s m after
+    value_agrees : (after : Memory) → Follows rest after → (o : Result Taken ℕ) → taken_behind o ≡ Ok after → AreTaken R v (taking_value o) s m after
     value_agrees after follow (Err f) e = absurd cc
     value_agrees after follow (Ok t) e =
         cell_agrees after follow t (target (names_in p scope) item s).seen (target (names_in p scope) item s).result (target_variable (names_in p scope) item s) (sym (by_same_target t) ∙ e)
@@ -149,7 +149,7 @@ module _ (p : Setting) (scope : Scope) (j : ℕ) (v : Content) where
       record {
         fault = refl;
         left = λ i. (k i).input;
-        agrees = subst (λ (a : Memory). Agrees scope (before scope j) (put In v a.cells) (put In v s)) k h;
+        agrees = subst (λ (a : Memory). R (put In v a.cells) (put In v s)) k h;
         stands = λ i. (sym k i).stands;
         bounds = λ i. (sym k i).bounds;
       }
@@ -159,39 +159,39 @@ module _ (p : Setting) (scope : Scope) (j : ℕ) (v : Content) where
   taken_fails [] f n s m b h e = absurd cc
   taken_fails (item ∷ rest) f n s m b h e = value_fails item rest n s m b h f (taken_fails rest f) (next_value_of m.input) e
 
--- a READ that goes on does so in the run, and what is kept agrees behind it
-module _ (p : Setting) (scope : Scope) (j : ℕ) (at : Place) (items : List ExprTree) (s : Store) (m : Memory) (b : m.bounds ≡ p.bounds) (h : Agrees scope (before scope j) m.cells s) (kept : m.cells In ≡ Lines m.input.lines) where
+-- a READ that goes on does so in the run, and what is kept goes with the run's store behind it
+module _ (p : Setting) (scope : Scope) (R : Store → Store → Type 0) (writes : IsKeptByWrites p scope R) (at : Place) (items : List ExprTree) (s : Store) (m : Memory) (b : m.bounds ≡ p.bounds) (h : R m.cells s) (kept : m.cells In ≡ Lines m.input.lines) where
   pub same_lines : lines_in (s In) ≡ m.input.lines
-  same_lines = λ i. lines_in ((sym (outside_same scope m.cells s h.same In refl) ∙ kept) i)
+  same_lines = λ i. lines_in ((sym (outside_same scope m.cells s (writes.same m.cells s h) In refl) ∙ kept) i)
 
-  pub begins_same : (v : Content) (d : Data) → Agrees scope (before scope j) (put In v (with_data d m).cells) (put In v s)
+  pub begins_same : (v : Content) (d : Data) → R (put In v (with_data d m).cells) (put In v s)
   begins_same v d =
-      subst (λ (u : Store). Agrees scope (before scope j) u (put In v s)) (sym (in_twice v (Lines d.lines) m.cells)) (agrees_put scope (before scope j) In v m.cells s refl h)
+      subst (λ (u : Store). R u (put In v s)) (sym (in_twice v (Lines d.lines) m.cells)) (writes.input v m.cells s h)
 
   by_begun : (after : Memory) → (o : Result Data ℕ) → (o >>= λ d. items_taken p.constants scope items (with_data d m)) ≡ Ok after
-      → AreTaken scope j (Lines after.input.lines) (taking_from (names_in p scope) items o s) s m after
+      → AreTaken R (Lines after.input.lines) (taking_from (names_in p scope) items o s) s m after
   by_begun after (Err f) e = absurd cc
   by_begun after (Ok d) e =
-      let a = taken_agrees p scope j (Lines after.input.lines) items after 2 s (with_data d m) b (begins_same (Lines after.input.lines) d) e in
+      let a = taken_agrees p scope R writes (Lines after.input.lines) items after 2 s (with_data d m) b (begins_same (Lines after.input.lines) d) e in
       record { fault = a.fault; left = a.left; agrees = a.agrees; stands = a.stands; bounds = a.bounds }
 
   fails_begun : (f : ℕ) → (o : Result Data ℕ) → (o >>= λ d. items_taken p.constants scope items (with_data d m)) ≡ Err f → (taking_from (names_in p scope) items o s).fault ≡ Some f
   fails_begun f (Err k) e = let q : k ≡ f = cc in ap Some q
-  fails_begun f (Ok d) e = taken_fails p scope j (Lines []) items f 2 s (with_data d m) b (begins_same (Lines []) d) e
+  fails_begun f (Ok d) e = taken_fails p scope R writes (Lines []) items f 2 s (with_data d m) b (begins_same (Lines []) d) e
 
-  reading_taken : (after : Memory) → read_taken p.constants scope items m ≡ Ok after → AreTaken scope j (Lines after.input.lines) (reading (names_in p scope) items s) s m after
+  pub reading_taken : (after : Memory) → read_taken p.constants scope items m ≡ Ok after → AreTaken R (Lines after.input.lines) (reading (names_in p scope) items s) s m after
   reading_taken after e =
-      subst (λ (ls : List (List ℕ)). AreTaken scope j (Lines after.input.lines) (taking_from (names_in p scope) items (begun ls) s) s m after) (sym same_lines)
+      subst (λ (ls : List (List ℕ)). AreTaken R (Lines after.input.lines) (taking_from (names_in p scope) items (begun ls) s) s m after) (sym same_lines)
       (by_begun after (begun m.input.lines) e)
 
   -- where a READ goes on
   pub read_ending : (after : Memory) → read_taken p.constants scope items m ≡ Ok after → after.cells In ≡ Lines after.input.lines
-      → (u : Store) × ((run_read (names_in p scope) at items s).ending ≡ going u) × Agrees scope (before scope j) after.cells u
+      → (u : Store) × ((run_read (names_in p scope) at items s).ending ≡ going u) × R after.cells u
   read_ending after e kept_after =
       let a = reading_taken after e in (
         store_behind (reading (names_in p scope) items s).touches (put In (Lines after.input.lines) s),
         read_goes at (reading (names_in p scope) items s) s a.fault ∙ (λ i. going (store_behind (reading (names_in p scope) items s).touches (put In (Lines (a.left i).lines) s))),
-        subst (λ (w : Store). Agrees scope (before scope j) w (store_behind (reading (names_in p scope) items s).touches (put In (Lines after.input.lines) s)))
+        subst (λ (w : Store). R w (store_behind (reading (names_in p scope) items s).touches (put In (Lines after.input.lines) s)))
             (ap (λ v. put In v after.cells) (sym kept_after) ∙ in_itself after.cells) a.agrees,
       )
     where

@@ -7,8 +7,8 @@ use Rattle.ped_eval.specs.Scopes.{Scope, cell_of}
 use Rattle.ped_eval.specs.Loops.{Entered, exit_touches, left_in_variable}
 use Rattle.ped_eval.specs.Agreement.{before, Agrees}
 use Rattle.ped_eval.specs.Turns.{undefined_in, undefined_cells, exited}
-use Rattle.ped_eval.proofs.Agreements.{agrees_put, scalar_past}
 use Rattle.ped_eval.proofs.Endings.{exit_is}
+use Rattle.ped_eval.proofs.KeptByWrites.{IsKeptByScalars, agrees_by_scalars}
 
 pub undefined_stands : (scope : Scope) (xs : List (List ℕ)) (m : Memory) → (undefined_in scope xs m).stands ≡ m.stands
 undefined_stands scope [] m = refl
@@ -18,21 +18,25 @@ pub undefined_bounds : (scope : Scope) (xs : List (List ℕ)) (m : Memory) → (
 undefined_bounds scope [] m = refl
 undefined_bounds scope (x ∷ xs) m = undefined_bounds scope xs (with_content (cell_of scope x) Undefined m)
 
-undefined_agrees : (scope : Scope) (n : ℕ) (xs : List (List ℕ)) (m : Memory) (s : Store) → Agrees scope (before scope n) m.cells s → Agrees scope (before scope n) (undefined_in scope xs m).cells (undefined_cells scope xs s)
-undefined_agrees scope n [] m s h = h
-undefined_agrees scope n (x ∷ xs) m s h =
-    undefined_agrees scope n xs (with_content (cell_of scope x) Undefined m) (put (cell_of scope x) Undefined s)
-    (agrees_put scope (before scope n) (cell_of scope x) Undefined m.cells s (scalar_past scope x n) h)
+module _ (scope : Scope) (R : Store → Store → Type 0) (writes : IsKeptByScalars scope R) where
+  pub undefined_kept : (xs : List (List ℕ)) (m : Memory) (s : Store) → R m.cells s → R (undefined_in scope xs m).cells (undefined_cells scope xs s)
+  undefined_kept [] m s h = h
+  undefined_kept (x ∷ xs) m s h =
+      undefined_kept xs (with_content (cell_of scope x) Undefined m) (put (cell_of scope x) Undefined s) (writes x Undefined m.cells s h)
+
+  -- what is kept behind the exit of a DO goes with the store of the run there as it did before
+  pub exit_kept : (e : Entered) (m : Memory) (s : Store) → R m.cells s → R (exited e scope m).cells (store_behind (exit_touches e scope) s)
+  exit_kept e m s h =
+      let v = with_content (cell_of scope e.head.variable) (left_in_variable e) m in
+      let a = writes e.head.variable (left_in_variable e) m.cells s h in
+      let b = undefined_kept e.head.private v (put (cell_of scope e.head.variable) (left_in_variable e) s) a in
+      subst (λ (u : Store). R (exited e scope m).cells u) (sym (exit_is e scope s))
+      (undefined_kept e.inner (undefined_in scope e.head.private v) (undefined_cells scope e.head.private (put (cell_of scope e.head.variable) (left_in_variable e) s)) b)
 
 module _ (e : Entered) (scope : Scope) (m : Memory) where
   -- what is kept behind the exit of a DO agrees with the store of the run there
   pub exit_agrees : (n : ℕ) (s : Store) → Agrees scope (before scope n) m.cells s → Agrees scope (before scope n) (exited e scope m).cells (store_behind (exit_touches e scope) s)
-  exit_agrees n s h =
-      let v = with_content (cell_of scope e.head.variable) (left_in_variable e) m in
-      let a = agrees_put scope (before scope n) (cell_of scope e.head.variable) (left_in_variable e) m.cells s (scalar_past scope e.head.variable n) h in
-      let b = undefined_agrees scope n e.head.private v (put (cell_of scope e.head.variable) (left_in_variable e) s) a in
-      subst (λ (u : Store). Agrees scope (before scope n) (exited e scope m).cells u) (sym (exit_is e scope s))
-      (undefined_agrees scope n e.inner (undefined_in scope e.head.private v) (undefined_cells scope e.head.private (put (cell_of scope e.head.variable) (left_in_variable e) s)) b)
+  exit_agrees n s h = exit_kept scope (Agrees scope (before scope n)) (agrees_by_scalars scope n) e m s h
 
   pub exited_stands : (exited e scope m).stands ≡ m.stands
   exited_stands =

@@ -31,19 +31,3 @@ abbrev mutual
   pub assigned_in_all : StmtTrees → List (List ℕ)
   assigned_in_all no_stmts = []
   assigned_in_all (more_stmts s rest) = assigned_in s ++ assigned_in_all rest
-
--- the variables of the DO loops of a statement and of its parts (ANSI X3.9-1978, section 11.10)
-abbrev mutual
-  pub loop_variables : StmtTree → List (List ℕ)
-  loop_variables (Assign left right) = []
-  loop_variables (If condition then_part else_part) = all_loop_variables then_part ++ all_loop_variables else_part
-  loop_variables (Do h body) = h.variable ∷ all_loop_variables body
-  loop_variables (Print items) = []
-  loop_variables (Read items) = []
-  loop_variables Stop = []
-  loop_variables (Comment text) = []
-
-  -- the variables of the DO loops of statements (ANSI X3.9-1978, section 11.10)
-  pub all_loop_variables : StmtTrees → List (List ℕ)
-  all_loop_variables no_stmts = []
-  all_loop_variables (more_stmts s rest) = loop_variables s ++ all_loop_variables rest

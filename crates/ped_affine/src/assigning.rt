@@ -2,6 +2,7 @@
 
 ghost use Rattle.std.specs.Prelude.{◌≡◌, [], map, IfOk, OnOk};
 ghost use Rattle.std.specs.List.{flat_map};
+ghost use Rattle.ped_tree.specs.NamesIn as Names;
 ghost use Rattle.ped_tree.specs.Views.{expr_tree, stmt_tree, stmt_trees, do_tree};
 ghost use Rattle.ped_tree.specs.Names.Collecting.{with_names};
 ghost use Rattle.ped_affine.specs.Assigned as Spec;
@@ -13,7 +14,7 @@ use std::alloc::Global;
 
 /// The variables of the DO loops among statements and in them (ANSI X3.9-1978, section 11.10). Each name comes once.
 pub fn loop_variables(alloc: Global, body: &[Stmt]) -> Result<NameSet, NoMemory>
-    ensures { IfOk result (λ names. names ≡ with_names [] (Spec.all_loop_variables (stmt_trees body.now))) }
+    ensures { IfOk result (λ names. names ≡ with_names [] (Names.all_loop_variables (stmt_trees body.now))) }
 {
     let mut names = NameSet::new(alloc);
     add_variables(&mut names, body)?;
@@ -33,7 +34,7 @@ pub fn assigned(alloc: Global, d: &Do) -> Result<NameSet, NoMemory>
 /// Adds the variables of the DO loops among statements and in them.
 #[cycle(variables)]
 fn add_variables(names: &mut NameSet, statements: &[Stmt]) -> Result<(), NoMemory>
-    ensures { OnOk result (names.new ≡ with_names names.old (Spec.all_loop_variables (stmt_trees statements.now))) }
+    ensures { OnOk result (names.new ≡ with_names names.old (Names.all_loop_variables (stmt_trees statements.now))) }
 {
     for statement in statements {
         add_variables_of(names, statement)?;
@@ -44,7 +45,7 @@ fn add_variables(names: &mut NameSet, statements: &[Stmt]) -> Result<(), NoMemor
 /// Adds the variables of the DO loops of a statement and of its parts.
 #[cycle(variables)]
 fn add_variables_of(names: &mut NameSet, statement: &Stmt) -> Result<(), NoMemory>
-    ensures { OnOk result (names.new ≡ with_names names.old (Spec.loop_variables (stmt_tree statement.now))) }
+    ensures { OnOk result (names.new ≡ with_names names.old (Names.loop_variables (stmt_tree statement.now))) }
 {
     match statement {
         Stmt::If {
@@ -67,7 +68,7 @@ fn add_variables_of(names: &mut NameSet, statement: &Stmt) -> Result<(), NoMemor
 /// Adds the variable of a DO and those of the DO loops in it.
 #[cycle(variables)]
 fn add_variables_of_loop(names: &mut NameSet, d: &Do) -> Result<(), NoMemory>
-    ensures { OnOk result (names.new ≡ with_names names.old (Spec.loop_variables (do_tree d.now))) }
+    ensures { OnOk result (names.new ≡ with_names names.old (Names.loop_variables (do_tree d.now))) }
 {
     names.insert(&d.variable)?;
     add_variables(names, &d.body)

@@ -11,7 +11,7 @@ use Rattle.ped_steps.specs.ped_laws.specs.ped_store.specs.Acts.{iterations_of}
 use Rattle.ped_steps.specs.ped_laws.specs.ped_eval.specs.Scopes.{Setting, Scope, turns_of, cell_of, index_value, names_in}
 use Rattle.ped_steps.specs.ped_laws.specs.ped_eval.specs.Evaluation.{Seen, cell_seen, index_seen, Evaluated}
 use Rattle.ped_steps.specs.ped_laws.specs.ped_eval.specs.Values.{value}
-use Rattle.ped_steps.specs.ped_laws.specs.ped_eval.specs.Loops.{all_index_names}
+use Rattle.ped_tree.specs.NamesIn.{all_loop_variables}
 use Rattle.ped_steps.specs.ped_laws.specs.ped_eval.specs.Runs.{run_all}
 use Rattle.ped_steps.specs.ped_laws.specs.Runs.Replaying.{goes_on, finish_of}
 use Rattle.ped_steps.specs.Runs.Pasting.{AgreeInBounds}
@@ -64,7 +64,7 @@ pub record SettingsAgree (f : ℕ → ℕ) (p q : Setting) (ts : StmtTrees) (n m
 pub record StandRewritten (h : ExprTree → ExprTree) (name : Cell → Cell) (idle : Cell → Bool) (f : ℕ → ℕ) (p q : Setting) (ts : StmtTrees) (n m : ℕ) (scope other : Scope) : Type 0 where
   pub may : MayBeRewritten h p.constants ts
   pub agree : SettingsAgree f p q ts n m
-  pub places : StandLikewise h name idle f q (stmts_names ts) (all_index_names ts) scope other
+  pub places : StandLikewise h name idle f q (stmts_names ts) (all_loop_variables ts) scope other
 
 -- statements that go on do likewise at another place, with others there (this project)
 abbrev pub GoLikewise : (name : Cell → Cell) (idle : Cell → Bool) (f : ℕ → ℕ) (p q : Setting) (ts others : StmtTrees) (n m : ℕ) (scope other : Scope) → Type 0

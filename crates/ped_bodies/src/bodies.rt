@@ -11,7 +11,7 @@ ghost use Rattle.ped_steps.specs.ped_laws.specs.Acts.Renaming.{own_name};
 ghost use Rattle.ped_steps.specs.ped_laws.specs.Acts.Sets.{nothing};
 ghost use Rattle.ped_steps.specs.ped_laws.specs.ped_store.specs.Acts.{iterations_of};
 ghost use Rattle.ped_steps.specs.ped_laws.specs.ped_store.specs.Cells.{Cell, Iteration};
-ghost use Rattle.ped_steps.specs.ped_laws.specs.ped_eval.specs.Loops.{all_index_names};
+ghost use Rattle.ped_tree.specs.NamesIn.{all_loop_variables};
 ghost use Rattle.ped_steps.specs.ped_laws.specs.ped_eval.specs.Scopes.{Setting, Frame, Scope, turns_of};
 ghost use Rattle.ped_steps.specs.Runs.Exchanging.{IsExchange, AreExchanged};
 ghost use Rattle.ped_bodies.specs.Moving.{own_number, is_cell_among, moved_behind, turned, transposed, in_strips, peeled, in_loop, HaveNoCopies, HaveSameCopies, TellAlike, TellTheSame, ToldInside, GivesWayTo, IsOfTrips, IsInsideTrips, IsOfPairs, NamesApart, TellNumbers};
@@ -50,13 +50,13 @@ pub fn bodies_with_other_copies()
 /// skewed; in the same iteration of a loop that has got another variable; and in the loop with which its own one is fused.
 pub fn bodies_substituted()
     ensures peeled { (f : ℕ → ℕ) (p q : Setting) (ts : StmtTrees) (n m : ℕ) (scope : Scope) (l k : ℕ) (r : Frame) (by : ExprTree) → SettingsAgree f p q ts n m → r.turn.statement ≡ l → r.turn.number ≡ k → r.private ≡ [] → MayBeRewritten (substituted r.variable by) p.constants ts → value_named q.constants r.variable ≡ None
-        → ToldInside q (all_index_names ts) r.variable scope by r.turn.value → GoLikewise (moved_behind (iterations_of (turns_of scope)) (peeled l k f)) nothing f p q ts (statements_substituted r.variable by ts) n m (r ∷ scope) scope }
-    ensures skewed { (p q : Setting) (ts : StmtTrees) (n m : ℕ) (x : List ℕ) (by : ExprTree) (scope other : Scope) → SettingsAgree own_number p q ts n m → HaveSameCopies [] scope other → MayBeRewritten (substituted x by) p.constants ts → GivesWayTo q (stmts_names ts) (all_index_names ts) x by scope other
+        → ToldInside q (all_loop_variables ts) r.variable scope by r.turn.value → GoLikewise (moved_behind (iterations_of (turns_of scope)) (peeled l k f)) nothing f p q ts (statements_substituted r.variable by ts) n m (r ∷ scope) scope }
+    ensures skewed { (p q : Setting) (ts : StmtTrees) (n m : ℕ) (x : List ℕ) (by : ExprTree) (scope other : Scope) → SettingsAgree own_number p q ts n m → HaveSameCopies [] scope other → MayBeRewritten (substituted x by) p.constants ts → GivesWayTo q (stmts_names ts) (all_loop_variables ts) x by scope other
         → GoLikewise own_name nothing own_number p q ts (statements_substituted x by ts) n m scope other }
     ensures renamed { (p q : Setting) (ts : StmtTrees) (n m : ℕ) (scope : Scope) (r z : Frame) → SettingsAgree own_number p q ts n m → z.turn ≡ r.turn → z.private ≡ r.private → MayBeRewritten (substituted r.variable (Var z.variable)) p.constants ts → value_named q.constants r.variable ≡ None
-        → value_named q.constants z.variable ≡ None → is_among z.variable (all_index_names ts) ≡ false → is_among z.variable (stmts_names ts) ≡ false → GoLikewise own_name nothing own_number p q ts (statements_substituted r.variable (Var z.variable) ts) n m (r ∷ scope) (z ∷ scope) }
+        → value_named q.constants z.variable ≡ None → is_among z.variable (all_loop_variables ts) ≡ false → is_among z.variable (stmts_names ts) ≡ false → GoLikewise own_name nothing own_number p q ts (statements_substituted r.variable (Var z.variable) ts) n m (r ∷ scope) (z ∷ scope) }
     ensures fused { (p q : Setting) (ts : StmtTrees) (n m : ℕ) (scope : Scope) (l k : ℕ) (r z : Frame) → SettingsAgree own_number p q ts n m → r.turn.statement ≡ l → z.turn.statement ≡ k → z.turn.number ≡ r.turn.number → z.turn.value ≡ r.turn.value → z.private ≡ r.private → MayBeRewritten (substituted r.variable (Var z.variable)) p.constants ts
-        → value_named q.constants r.variable ≡ None → value_named q.constants z.variable ≡ None → is_among z.variable (all_index_names ts) ≡ false → is_among z.variable (stmts_names ts) ≡ false
+        → value_named q.constants r.variable ≡ None → value_named q.constants z.variable ≡ None → is_among z.variable (all_loop_variables ts) ≡ false → is_among z.variable (stmts_names ts) ≡ false
         → GoLikewise (moved_behind (iterations_of (turns_of scope)) (in_loop l k)) nothing own_number p q ts (statements_substituted r.variable (Var z.variable) ts) n m (r ∷ scope) (z ∷ scope) }
 {}
 

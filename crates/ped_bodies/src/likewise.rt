@@ -6,7 +6,7 @@ ghost use Rattle.ped_tree.specs.NamesIn.{stmts_names};
 ghost use Rattle.ped_sums.specs.Substitution.{substituted, statements_substituted};
 ghost use Rattle.ped_steps.specs.ped_laws.specs.ped_store.specs.Cells.{Cell};
 ghost use Rattle.ped_steps.specs.ped_laws.specs.ped_store.specs.Stores.{Store};
-ghost use Rattle.ped_steps.specs.ped_laws.specs.ped_eval.specs.Loops.{all_index_names};
+ghost use Rattle.ped_tree.specs.NamesIn.{all_loop_variables};
 ghost use Rattle.ped_steps.specs.ped_laws.specs.ped_eval.specs.Runs.{run_all};
 ghost use Rattle.ped_steps.specs.ped_laws.specs.ped_eval.specs.Scopes.{Setting, Scope, turns_of};
 ghost use Rattle.ped_steps.specs.ped_laws.specs.Runs.Replaying.{finish_of, has_fault};
@@ -31,5 +31,5 @@ pub fn bodies_likewise()
     ensures moved { (f : ℕ → ℕ) (p q : Setting) (ts : StmtTrees) (n m : ℕ) (name : Cell → Cell) (idle : Cell → Bool) (scope other : Scope) → SettingsAgree f p q ts n m → NamesScalars name → TellTheSame (stmts_names ts) scope other → CellsCorrespond name idle f (stmts_names ts) scope other
         → GoLikewise name idle f p q ts ts n m scope other }
     ensures substituted { (f : ℕ → ℕ) (p q : Setting) (ts : StmtTrees) (n m : ℕ) (x : List ℕ) (by : ExprTree) (name : Cell → Cell) (idle : Cell → Bool) (scope other : Scope) → SettingsAgree f p q ts n m → NamesScalars name → MayBeRewritten (substituted x by) p.constants ts
-        → GivesWayTo q (stmts_names ts) (all_index_names ts) x by scope other → CellsCorrespond name idle f (stmts_names ts) scope other → GoLikewise name idle f p q ts (statements_substituted x by ts) n m scope other }
+        → GivesWayTo q (stmts_names ts) (all_loop_variables ts) x by scope other → CellsCorrespond name idle f (stmts_names ts) scope other → GoLikewise name idle f p q ts (statements_substituted x by ts) n m scope other }
 {}

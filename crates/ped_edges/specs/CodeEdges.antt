@@ -1,7 +1,6 @@
 -- The dependences that the code keeps, and what they stand for (Allen and Kennedy, section 2.2; ParaScope).
-use Rattle.std.specs.Prelude.{ℕ, ◌≤◌, List, length, codes}
-use Rattle.ped_refs.specs.declared.references.RefName.{RefName}
-use Rattle.ped_refs.specs.declared.references.RefName.TheVariants.{Named, In, Out}
+use Rattle.std.specs.Prelude.{ℕ, ◌≤◌, List, length}
+use Rattle.ped_refs.specs.Occurrences.{name_text}
 use Rattle.ped_edges.specs.Edges as plain
 use Rattle.ped_edges.specs.declared.edges.Kind.{Kind}
 use Rattle.ped_edges.specs.declared.edges.Kind.TheVariants.{Flow, Anti, Output}
@@ -20,12 +19,6 @@ abbrev pub mark_of : Mark → plain.Mark
 mark_of Proven = plain.proven
 mark_of Pending = plain.pending
 mark_of Rejected = plain.rejected
-
--- the name of a variable, of the data lines or of the output, as the panes show it (this project)
-abbrev pub name_text : RefName → List ℕ
-name_text (Named x) = x
-name_text In = codes "(IN)"
-name_text Out = codes "(OUT)"
 
 -- the dependence as the definitions have it (Allen and Kennedy, section 2.2; ParaScope)
 abbrev pub edge_of : Edge → plain.Edge

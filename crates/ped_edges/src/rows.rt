@@ -2,7 +2,8 @@
 
 ghost use Rattle.std.specs.Prelude.{◌≡◌, ◌++◌, length, IfOk, OnOk};
 ghost use Rattle.ped_edges.specs.Rows as shown;
-ghost use Rattle.ped_edges.specs.CodeEdges.{edge_of, kind_of, mark_of, name_text, HasAtMostSixLoops};
+ghost use Rattle.ped_edges.specs.CodeEdges.{edge_of, kind_of, mark_of, HasAtMostSixLoops};
+ghost use Rattle.ped_refs.specs.Occurrences.{name_text};
 
 use crate::edges::{Edge, Kind, Mark};
 use crate::lists::{Shown, push_list};

@@ -19,7 +19,8 @@ use Rattle.ped_eval.specs.Scopes.{Setting, Frame, Scope, cell_of}
 use Rattle.ped_symbols.specs.RightUses.RightUses.{NameKinds, is_scalar, expr_is_right, cond_is_right, head_is_right, stmt_is_right, stmts_are_right}
 use Rattle.ped_eval.specs.Readiness.{kinds_by, IsReady}
 use Rattle.ped_eval.specs.Agreement.{before, before_turn}
-use Rattle.ped_eval.specs.Loops.{Entered, left_in_variable, index_names, all_index_names, with_name_by, with_sorted, sorted_once, inner_variables}
+use Rattle.ped_eval.specs.Loops.{Entered, left_in_variable, with_name_by, with_sorted, sorted_once, inner_variables}
+use Rattle.ped_tree.specs.NamesIn.{loop_variables, all_loop_variables}
 use Rattle.ped_eval.specs.Runs.{Ending, going, stopped, failed, Run, run_all}
 use Rattle.ped_eval.specs.Turns.{turns_end, undefined_in, exited, with_copies, without_copies}
 use Rattle.ped_eval.specs.Told.{Goes, Tells, TellsFrom, Ran}
@@ -74,12 +75,12 @@ module _ (k : NameKinds) (h : Head) (right : head_is_right k h ≡ true) where
   private_scalars = private_parts.1
 
 mutual
-  index_scalars : (k : NameKinds) (t : StmtTree) → stmt_is_right k t ≡ true → list_all (is_scalar k) (index_names t) ≡ true
+  index_scalars : (k : NameKinds) (t : StmtTree) → stmt_is_right k t ≡ true → list_all (is_scalar k) (loop_variables t) ≡ true
   index_scalars k (Assign left right) h = refl
   index_scalars k (If condition a b) h =
       let p = and_parts (cond_is_right k condition && stmts_are_right k a) (stmts_are_right k b) h in
       let q = and_parts (cond_is_right k condition) (stmts_are_right k a) p.0 in
-      appended k (all_index_names a) (all_index_names b) (all_index_scalars k a q.1) (all_index_scalars k b p.1)
+      appended k (all_loop_variables a) (all_loop_variables b) (all_index_scalars k a q.1) (all_index_scalars k b p.1)
   index_scalars k (Do head body) h =
       let p = and_parts (head_is_right k head) (stmts_are_right k body) h in
       λ i. variable_scalar k head p.0 i && all_index_scalars k body p.1 i
@@ -88,11 +89,11 @@ mutual
   index_scalars k Stop h = refl
   index_scalars k (Comment text) h = refl
 
-  all_index_scalars : (k : NameKinds) (ts : StmtTrees) → stmts_are_right k ts ≡ true → list_all (is_scalar k) (all_index_names ts) ≡ true
+  all_index_scalars : (k : NameKinds) (ts : StmtTrees) → stmts_are_right k ts ≡ true → list_all (is_scalar k) (all_loop_variables ts) ≡ true
   all_index_scalars k no_stmts h = refl
   all_index_scalars k (more_stmts t rest) h =
       let p = and_parts (stmt_is_right k t) (stmts_are_right k rest) h in
-      appended k (index_names t) (all_index_names rest) (index_scalars k t p.0) (all_index_scalars k rest p.1)
+      appended k (loop_variables t) (all_loop_variables rest) (index_scalars k t p.0) (all_index_scalars k rest p.1)
 
 name_by : (k : NameKinds) (o : Ordering) (x y : List ℕ) (rest further : List (List ℕ)) → is_scalar k x ≡ true → is_scalar k y ≡ true → list_all (is_scalar k) rest ≡ true → list_all (is_scalar k) further ≡ true
     → list_all (is_scalar k) (with_name_by o x y rest further) ≡ true
@@ -114,7 +115,7 @@ sorted_scalars k (x ∷ xs) h =
 
 -- the variables of the DO loops in a PARALLEL DO are scalars
 pub inner_scalars : (k : NameKinds) (parallel : Bool) (body : StmtTrees) → stmts_are_right k body ≡ true → list_all (is_scalar k) (inner_variables parallel body) ≡ true
-inner_scalars k true body h = sorted_scalars k (all_index_names body) (all_index_scalars k body h)
+inner_scalars k true body h = sorted_scalars k (all_loop_variables body) (all_index_scalars k body h)
 inner_scalars k false body h = refl
 
 module _ (table : Table) (f : Frame) (fs : Scope) (m : Memory) where

@@ -7,6 +7,7 @@ use Rattle.std.specs.declared.cmp.Ordering.TheVariants.{Less, Equal, Greater}
 use Rattle.std.specs.Cmp.Lexicographic.{slice_cmp}
 use Rattle.ped_tree.specs.Tree.{Head, StmtTree, StmtTrees, Assign, If, Do, Print, Read, Stop, Comment, no_stmts, more_stmts}
 use Rattle.ped_tree.specs.Constants.ConstantExpressions.{constant_value}
+use Rattle.ped_tree.specs.NamesIn.{all_loop_variables}
 use Rattle.ped_store.specs.Stores.{Content, Undefined, Number, Store, out_of_range}
 use Rattle.ped_store.specs.Storage.{natural}
 use Rattle.ped_store.specs.Acts.{Touch}
@@ -56,21 +57,6 @@ abbrev pub sorted_once : List (List ℕ) → List (List ℕ)
 sorted_once [] = []
 sorted_once (x ∷ xs) = with_sorted x (sorted_once xs)
 
--- the variables of the DO loops in a statement, in text order
-abbrev mutual
-  pub index_names : StmtTree → List (List ℕ)
-  index_names (Assign left right) = []
-  index_names (If condition then_part else_part) = all_index_names then_part ++ all_index_names else_part
-  index_names (Do h body) = h.variable ∷ all_index_names body
-  index_names (Print items) = []
-  index_names (Read items) = []
-  index_names Stop = []
-  index_names (Comment text) = []
-
-  pub all_index_names : StmtTrees → List (List ℕ)
-  all_index_names no_stmts = []
-  all_index_names (more_stmts s rest) = index_names s ++ all_index_names rest
-
 -- a DO that has been entered: its number, its head, its initial value, its increment and its iteration count; the number behind the references in its bounds; and, of a PARALLEL DO, the variables of the DO loops in it, each once, in byte order (ANSI X3.9-1978, section 11.10; this project)
 pub record Entered : Type 0 where
   pub number : ℕ
@@ -83,7 +69,7 @@ pub record Entered : Type 0 where
 
 -- the variables that are private to the iterations of a DO because DO loops in it have them: those of a PARALLEL DO alone (this project)
 abbrev pub inner_variables : Bool → StmtTrees → List (List ℕ)
-inner_variables true body = sorted_once (all_index_names body)
+inner_variables true body = sorted_once (all_loop_variables body)
 inner_variables false body = []
 
 -- a DO with these limits, whose bounds have read this

@@ -4,6 +4,7 @@ use Rattle.std.specs.List.{flat_map}
 use Rattle.std.specs.Str.Lines.{lines}
 use Rattle.ped_base.specs.Dimensions.{Dimensions}
 use Rattle.ped_tree.specs.Tree.{DeclTree, Program, Implicit, Integer, Dimension, Parameter, Save, Remark, ProgramTree}
+use Rattle.ped_tree.specs.NamesIn.{saved_in}
 use Rattle.ped_symbols.specs.declared.symbols.Kind.{Kind}
 use Rattle.ped_symbols.specs.declared.symbols.Kind.TheVariants.{Scalar, Array, Constant}
 use Rattle.ped_symbols.specs.Kinds.{kind_in, at_last}
@@ -34,16 +35,6 @@ run_of t data_bytes = run_all (setting_of t) t.body 1 [] (store_at_start (lines 
 pub record LiveRow : Type 0 where
   pub name : List ℕ
   pub values : List (Option ℤ)
-
--- the names that a declaration saves (ANSI X3.9-1978, section 8.9)
-abbrev pub saved_in : DeclTree → List (List ℕ)
-saved_in (Program x) = []
-saved_in Implicit = []
-saved_in (Integer ds) = []
-saved_in (Dimension ds) = []
-saved_in (Parameter values) = []
-saved_in (Save names) = names
-saved_in (Remark text) = []
 
 -- the live-out variables: the names in SAVE, in byte order (ANSI X3.9-1978, section 8.9; this project)
 abbrev pub live_names : ProgramTree → List (List ℕ)

@@ -1,6 +1,7 @@
 //! The names that are private to the iterations of a DO.
 
 ghost use Rattle.std.specs.Prelude.{◌≡◌, [], ◌++◌, IfOk, OnOk};
+ghost use Rattle.ped_tree.specs.NamesIn as Names;
 ghost use Rattle.ped_tree.specs.Views.{stmt_tree, stmt_trees};
 ghost use Rattle.ped_eval.specs.Loops as Loops;
 ghost use Rattle.ped_eval.specs.Plans.{copied_by};
@@ -51,7 +52,7 @@ pub(crate) fn add_all(names: &mut Names, more: &[Name]) -> Result<(), NoMemory>
 /// Adds the variables of the DO loops in a statement, in text order.
 #[cycle(index_names)]
 fn add_index_names_of(names: &mut Names, stmt: &Stmt) -> Result<(), NoMemory>
-    ensures { OnOk result (names.new ≡ names.old ++ Loops.index_names (stmt_tree stmt.now)) }
+    ensures { OnOk result (names.new ≡ names.old ++ Names.loop_variables (stmt_tree stmt.now)) }
 {
     match stmt {
         Stmt::If {
@@ -77,7 +78,7 @@ fn add_index_names_of(names: &mut Names, stmt: &Stmt) -> Result<(), NoMemory>
 /// Adds the variables of the DO loops in statements, in text order.
 #[cycle(index_names)]
 fn add_index_names(names: &mut Names, stmts: &[Stmt]) -> Result<(), NoMemory>
-    ensures { OnOk result (names.new ≡ names.old ++ Loops.all_index_names (stmt_trees stmts.now)) }
+    ensures { OnOk result (names.new ≡ names.old ++ Names.all_loop_variables (stmt_trees stmts.now)) }
 {
     for stmt in stmts {
         add_index_names_of(names, stmt)?;

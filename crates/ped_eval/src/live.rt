@@ -2,6 +2,7 @@
 
 ghost use Rattle.std.specs.Prelude.{◌≡◌, map, IfOk, OnOk, ◌++◌};
 ghost use Rattle.std.specs.List.{flat_map};
+ghost use Rattle.ped_tree.specs.NamesIn as Names;
 ghost use Rattle.ped_tree.specs.Views.{decl_tree, program_tree};
 ghost use Rattle.ped_store.specs.Keeping.{memory_of};
 ghost use Rattle.ped_eval.specs.Loops as Loops;
@@ -47,7 +48,7 @@ fn live_row(alloc: Global, store: &Store, name: &Name) -> Result<LiveRow, NoMemo
 
 /// The names in SAVE, each once, in byte order.
 fn live_names(alloc: Global, decls: &[Decl]) -> Result<Names, NoMemory>
-    ensures { IfOk result (λ names. names ≡ Loops.sorted_once (flat_map Outcomes.saved_in (map decl_tree decls.now))) }
+    ensures { IfOk result (λ names. names ≡ Loops.sorted_once (flat_map Names.saved_in (map decl_tree decls.now))) }
 {
     let mut names = Names::new(alloc);
     for decl in decls {

@@ -8,7 +8,8 @@ use Rattle.ped_answer.specs.ped_tree.specs.Numbering.{statement_with}
 use Rattle.ped_answer.specs.ped_tree.specs.Accesses.{constant_names}
 use Rattle.ped_answer.specs.ped_order.specs.ped_flow.specs.Events.{start_events}
 use Rattle.ped_answer.specs.ped_order.specs.ped_flow.specs.Paths.{all_paths, paths_from_exit}
-use Rattle.ped_answer.specs.ped_order.specs.ped_flow.specs.Questions.{LoopOf, IsFirst, IsExposed, IsReadBehind, saved_in, IsShownBehind, IsLiveAfter, IsAssignedThrough}
+use Rattle.ped_answer.specs.ped_order.specs.ped_flow.specs.Questions.{LoopOf, IsFirst, IsExposed, IsReadBehind, IsShownBehind, IsLiveAfter, IsAssignedThrough}
+use Rattle.ped_answer.specs.ped_tree.specs.NamesIn.{saved_in}
 use Rattle.ped_answer.specs.ped_order.specs.ped_flow.specs.Summaries.{AreSummed, sum_in_turn, sum_events, sum_of_all, sum_behind_all}
 use Rattle.ped_answer.specs.ped_order.specs.ped_flow.proofs.TreeSums.{all_summed, all_behind-summed}
 use Rattle.ped_answer.specs.ped_order.specs.ped_flow.proofs.Answering.{exposed_in_loop, exposed_nowhere, first_in_iteration, assigned_by, through_loop, read_behind, Left, left_is}

@@ -9,7 +9,8 @@ use Rattle.ped_tree.proofs.Numbers.{at_place-back, length-numbered, length-all_n
 use Rattle.ped_flow.specs.Events.{Event, start_events, overwrites, has_value}
 use Rattle.ped_flow.specs.PathSets.{Kind, Whole}
 use Rattle.ped_flow.specs.Paths.{iteration, all_paths, paths_from_exit, paths_to_outermost}
-use Rattle.ped_flow.specs.Questions.{IsLoop, IsFirst, IsExposed, IsReadBehind, saved_in, IsLiveAfter, IsAssignedOn, IsAssignedThrough, IsAssignedBefore}
+use Rattle.ped_flow.specs.Questions.{IsLoop, IsFirst, IsExposed, IsReadBehind, IsLiveAfter, IsAssignedOn, IsAssignedThrough, IsAssignedBefore}
+use Rattle.ped_tree.specs.NamesIn.{saved_in}
 use Rattle.ped_flow.specs.Answers.{IsReader}
 use Rattle.ped_flow.specs.Summaries.{AreOnward, AreSummed, IsReadOn, sum_in_turn, sum_events, sum_of_all, sum_behind_all, sum_before_all}
 use Rattle.ped_flow.specs.Kept.{reader_by, reader_else}

@@ -5,8 +5,9 @@ use Rattle.ped_base.specs.Lists.{is_same_text, is_among}
 use Rattle.ped_tree.specs.Tree.{Head, StmtTrees, Do, ProgramTree}
 use Rattle.ped_tree.specs.Accesses.{constant_names}
 use Rattle.ped_base.proofs.NameEquality.{same_is, same_itself}
-use Rattle.ped_affine.specs.Assigned.{loop_variables}
-use Rattle.ped_flow.specs.Questions.{IsLoop, IsFirst, IsReadBehind, IsShownBehind, IsReadLoose, IsIndexIn, IsContained, IsBrokenBy, IsLiveAfter, saved_in, all_reads_outside}
+use Rattle.ped_tree.specs.NamesIn.{loop_variables}
+use Rattle.ped_flow.specs.Questions.{IsLoop, IsFirst, IsReadBehind, IsShownBehind, IsReadLoose, IsIndexIn, IsContained, IsBrokenBy, IsLiveAfter, all_reads_outside}
+use Rattle.ped_tree.specs.NamesIn.{saved_in}
 use Rattle.ped_flow.specs.Answers.{IsEscape}
 use Rattle.ped_flow.specs.Kept.{unless, all_first_outside, reader_else, reader_by}
 use Rattle.ped_flow.specs.Escapes.{behind_loop, escape_of, either_escape, escapes_of, escaping}

@@ -12,7 +12,7 @@ use Rattle.ped_tree.specs.declared.statements.Stmt as variant
 use Rattle.ped_tree.specs.Views.{head_of}
 use Rattle.ped_tree.specs.Numbering.{statement_count, statements_count}
 use Rattle.ped_tree.specs.declared.statements.Stmt.{Stmt}
-use Rattle.ped_affine.specs.Assigned.{loop_variables}
+use Rattle.ped_tree.specs.NamesIn.{loop_variables}
 use Rattle.ped_flow.specs.Summaries.{passing, sum_of}
 use Rattle.ped_flow.specs.Kept.{first_outside}
 use Rattle.ped_flow.specs.RowMarks.{names_in, constants_in}

@@ -2,7 +2,7 @@
 use Rattle.std.specs.Prelude.{◌≡◌, ℕ, ◌+◌, ◌<◌, ◌≤◌, ◌⊎◌, List, Bool, true, false, Option, Some, None, is_some, slice_index_or}
 use Rattle.ped_tree.specs.Tree.{StmtTree, StmtTrees, Assign, If, Do, Print, Read, Stop, Comment, no_stmts, more_stmts}
 use Rattle.ped_tree.specs.Numbering.{all_numbered, at_place, statement_count, statements_count}
-use Rattle.ped_affine.specs.Assigned.{loop_variables}
+use Rattle.ped_tree.specs.NamesIn.{loop_variables}
 use Rattle.ped_flow.specs.Summaries.{passing, sum_of}
 use Rattle.ped_flow.specs.Kept.{first_outside}
 use Rattle.ped_flow.specs.RowPlaces.{place_of, bit}

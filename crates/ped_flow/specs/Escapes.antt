@@ -4,7 +4,7 @@ use Rattle.std.specs.List.{flat_map}
 use Rattle.ped_base.specs.Lists.{is_same_text, is_among}
 use Rattle.ped_tree.specs.Tree.{Head, StmtTrees, ProgramTree}
 use Rattle.ped_tree.specs.Accesses.{constant_names}
-use Rattle.ped_flow.specs.Questions.{saved_in}
+use Rattle.ped_tree.specs.NamesIn.{saved_in}
 use Rattle.ped_flow.specs.Summaries.{least_of, sum_behind_all}
 use Rattle.ped_flow.specs.Kept.{unless, all_first_outside, reader_by}
 use Rattle.ped_flow.specs.declared.summaries.Summary.{Summary}

@@ -7,7 +7,8 @@ use Rattle.ped_tree.specs.Tree.{ExprTree, ExprTrees, Int, Var, Element, Neg, Add
 use Rattle.ped_tree.specs.Nests.{Loop, indices_of}
 use Rattle.ped_tree.specs.Numbering.{statement_count, statements_count, statement_with}
 use Rattle.ped_tree.specs.Constants.ConstantExpressions.{constant_value}
-use Rattle.ped_affine.specs.Assigned.{assigned_in, all_loop_variables}
+use Rattle.ped_affine.specs.Assigned.{assigned_in}
+use Rattle.ped_tree.specs.NamesIn.{all_loop_variables}
 use Rattle.ped_affine.specs.Ranges.{Setting, Around, interval_of, loop_range, inside}
 use Rattle.ped_flow.specs.Questions.{IsAssignedBefore}
 

@@ -5,7 +5,7 @@ use Rattle.ped_base.specs.Lists.{is_same_text, is_among}
 use Rattle.ped_tree.specs.Tree.{Head, StmtTree, StmtTrees, Assign, If, Do, Print, Read, Stop, Comment, no_stmts, more_stmts, DeclTree, Program, Implicit, Integer, Dimension, Parameter, Save, Remark, ProgramTree}
 use Rattle.ped_tree.specs.Numbering.{statement_with, statement_count, statements_count}
 use Rattle.ped_tree.specs.Accesses.{constant_names}
-use Rattle.ped_affine.specs.Assigned.{loop_variables}
+use Rattle.ped_tree.specs.NamesIn.{loop_variables, saved_in}
 use Rattle.ped_flow.specs.Events.{Event, own_events, is_read_by, overwrites, reads_first, has_value}
 use Rattle.ped_flow.specs.PathSets.{Kind, Whole}
 use Rattle.ped_flow.specs.Paths.{all_paths, iteration, paths_from_exit, paths_to_outermost}
@@ -37,16 +37,6 @@ pub record IsReadBehind (t : ProgramTree) (l : ℕ) (x : List ℕ) (n : ℕ) : T
   pub path : List Event
   pub leads : Whole (paths_from_exit t l) path
   pub reads : IsTrue (reads_first x n path)
-
--- the names that a declaration saves (ANSI X3.9-1978, section 8.9)
-abbrev pub saved_in : DeclTree → List (List ℕ)
-saved_in (Program x) = []
-saved_in Implicit = []
-saved_in (Integer ds) = []
-saved_in (Dimension ds) = []
-saved_in (Parameter values) = []
-saved_in (Save names) = names
-saved_in (Remark text) = []
 
 -- the program's end may show what the scalar holds at the exit of a DO: the scalar is saved, and some path from the exit to the end, or to a STOP, doesn't overwrite it (ANSI X3.9-1978, section 8.9; this project)
 pub record IsShownBehind (t : ProgramTree) (l : ℕ) (x : List ℕ) : Type 0 where

@@ -5,7 +5,7 @@ ghost use Rattle.std.specs.List.{flat_map};
 ghost use Rattle.ped_base.specs.Lists as Lists;
 ghost use Rattle.ped_tree.specs.Accesses.{constants_in, constant_names};
 ghost use Rattle.ped_tree.specs.Views.{decl_tree, value_tree};
-ghost use Rattle.ped_flow.specs.Questions.{saved_in};
+ghost use Rattle.ped_tree.specs.NamesIn.{saved_in};
 
 use crate::scalars::is_same;
 use ped_base::{Name, is_among};

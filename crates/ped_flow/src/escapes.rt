@@ -4,7 +4,7 @@ ghost use Rattle.std.specs.Prelude.{◌≡◌, ◌+◌, ◌<◌, ◌^◌, ◌∷
 ghost use Rattle.ped_tree.specs.Views.{stmt_tree, stmt_trees, program_tree};
 ghost use Rattle.ped_tree.specs.Numbering.{statements_count};
 ghost use Rattle.ped_tree.specs.Views.{head_of};
-ghost use Rattle.ped_affine.specs.Assigned.{loop_variables, all_loop_variables};
+ghost use Rattle.ped_tree.specs.NamesIn.{loop_variables, all_loop_variables};
 ghost use Rattle.ped_flow.specs.Escapes as Spec;
 ghost use Rattle.ped_flow.specs.Entries.{KnowsAll};
 

@@ -11,7 +11,8 @@ ghost use Rattle.ped_tree.specs.Numbering.{statements_count};
 ghost use Rattle.ped_tree.specs.Accesses.{constant_names};
 ghost use Rattle.ped_tree.specs.Views.{head_of};
 ghost use Rattle.ped_flow.specs.Paths.{all_paths, iteration};
-ghost use Rattle.ped_flow.specs.Questions.{saved_in, IsLoop, IsFirst, IsExposed, IsAssignedOn, IsAssignedThrough, IsAssignedBefore};
+ghost use Rattle.ped_flow.specs.Questions.{IsLoop, IsFirst, IsExposed, IsAssignedOn, IsAssignedThrough, IsAssignedBefore};
+ghost use Rattle.ped_tree.specs.NamesIn.{saved_in};
 ghost use Rattle.ped_flow.specs.Answers.{IsReader, IsEscape};
 ghost use Rattle.ped_flow.specs.Summaries as Spec;
 ghost use Rattle.ped_flow.specs.Kept.{name_of, constants_of, reader_by};
@@ -240,8 +241,8 @@ pub(crate) fn reader_of(first: Option<u32>, shown: bool) -> Option<Reader>
     }
 }
 
-/// The loop with this number, where there is one.
-pub(crate) fn loop_at<'a>(program: &'a Program, number: u32) -> Option<&'a Do>
+/// The DO with this number, where there is one.
+pub fn loop_at<'a>(program: &'a Program, number: u32) -> Option<&'a Do>
     ensures { MatchOption result ((h : Head) (body : StmtTrees) → IsLoop (program_tree program.now) number h body → ⊥) (λ d. IsLoop (program_tree program.now) number (head_of d.now) (stmt_trees d.now.body.items)) }
 {
     match program.at(number) {

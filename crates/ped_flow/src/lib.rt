@@ -26,5 +26,5 @@ mod skips;
 mod summaries;
 mod walks;
 
-pub use flows::{Flow, Reader, flow_of};
+pub use flows::{Flow, Reader, flow_of, loop_at};
 pub use laws::paths_are_summed;

@@ -5,7 +5,7 @@ ghost use Rattle.ped_base.specs.Lists.{is_same_text};
 ghost use Rattle.ped_tree.specs.Tree;
 ghost use Rattle.ped_tree.specs.Views.{stmt_trees};
 ghost use Rattle.ped_tree.specs.Views.{head_of};
-ghost use Rattle.ped_affine.specs.Assigned.{all_loop_variables};
+ghost use Rattle.ped_tree.specs.NamesIn.{all_loop_variables};
 ghost use Rattle.ped_flow.specs.Events as Event;
 ghost use Rattle.ped_flow.specs.Summaries as Spec;
 ghost use Rattle.ped_flow.specs.Kept.{unless, first_reader};

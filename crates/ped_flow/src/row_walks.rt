@@ -6,7 +6,7 @@ ghost use Rattle.ped_tree.specs.Tree.{StmtTrees};
 ghost use Rattle.ped_tree.specs.Views.{cond_tree, stmt_tree, stmt_trees};
 ghost use Rattle.ped_tree.specs.Numbering.{statement_count, statements_count};
 ghost use Rattle.ped_tree.specs.Views.{head_of};
-ghost use Rattle.ped_affine.specs.Assigned.{loop_variables, all_loop_variables};
+ghost use Rattle.ped_tree.specs.NamesIn.{loop_variables, all_loop_variables};
 ghost use Rattle.ped_flow.specs.Events as Event;
 ghost use Rattle.ped_flow.specs.Summaries as Spec;
 ghost use Rattle.ped_flow.specs.Kept.{first_reader, first_outside, all_first_outside};

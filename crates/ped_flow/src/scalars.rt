@@ -5,7 +5,7 @@ ghost use Rattle.std.specs.List.{flat_map};
 ghost use Rattle.ped_base.specs.Lists as Lists;
 ghost use Rattle.ped_tree.specs.Views.{expr_tree, pack_exprs, cond_tree, item_tree, stmt_tree, stmt_trees};
 ghost use Rattle.ped_tree.specs.Views.{head_of};
-ghost use Rattle.ped_affine.specs.Assigned.{loop_variables, all_loop_variables};
+ghost use Rattle.ped_tree.specs.NamesIn.{loop_variables, all_loop_variables};
 ghost use Rattle.ped_flow.specs.Events as Event;
 ghost use Rattle.ped_flow.specs.Summaries.{sum_events};
 ghost use Rattle.ped_flow.specs.Kept.{name_of, constants_of};

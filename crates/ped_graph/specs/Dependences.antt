@@ -11,7 +11,8 @@ use Rattle.ped_tree.specs.Numbering.{statement_with}
 use Rattle.ped_symbols.specs.Kinds.{table_of}
 use Rattle.ped_tree.specs.Names.Collecting.{with_names}
 use Rattle.ped_refs.specs.References.{Reference, comes_before, outermost, references, pairs}
-use Rattle.ped_affine.specs.Assigned.{assigned_in, all_loop_variables}
+use Rattle.ped_affine.specs.Assigned.{assigned_in}
+use Rattle.ped_tree.specs.NamesIn.{all_loop_variables}
 use Rattle.ped_affine.specs.Ranges.{Setting}
 use Rattle.ped_affine.specs.PairViews.{Site, view_at}
 use Rattle.ped_graph.specs.Owners.{have_same_owner, owner_level, within_iteration}

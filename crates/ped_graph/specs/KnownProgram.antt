@@ -7,7 +7,7 @@ use Rattle.ped_symbols.specs.Kinds.{table_of}
 use Rattle.ped_tree.specs.Names.Collecting.{with_names}
 use Rattle.ped_refs.specs.Occurrences.{reference_of}
 use Rattle.ped_refs.specs.declared.occurring.Occurrence.{Occurrence}
-use Rattle.ped_affine.specs.Assigned.{all_loop_variables}
+use Rattle.ped_tree.specs.NamesIn.{all_loop_variables}
 use Rattle.ped_graph.specs.Guards.{guards}
 use Rattle.ped_graph.specs.Marks.{is_firm}
 use Rattle.ped_graph.specs.Dependences.{assigned_by}

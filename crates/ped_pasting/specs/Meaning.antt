@@ -15,7 +15,8 @@ use Rattle.ped_steps.specs.ped_laws.specs.ped_graph.specs.ped_symbols.specs.Kind
 use Rattle.ped_steps.specs.ped_laws.specs.Runs.Showing.{shown_at_end}
 use Rattle.ped_steps.specs.ped_laws.specs.ped_eval.specs.Scopes.{Setting, Scope}
 use Rattle.ped_steps.specs.ped_laws.specs.ped_eval.specs.Runs.{Run, run_all}
-use Rattle.ped_steps.specs.ped_laws.specs.ped_eval.specs.Outcomes.{setting_of, saved_in, live_names, IsRaceFree}
+use Rattle.ped_steps.specs.ped_laws.specs.ped_eval.specs.Outcomes.{setting_of, live_names, IsRaceFree}
+use Rattle.ped_tree.specs.NamesIn.{saved_in}
 use Rattle.ped_steps.specs.Runs.Gaps.{Gap, number_at}
 use Rattle.ped_steps.specs.Runs.Renumbering.{IsToldBack, renumbered}
 use Rattle.ped_pasting.specs.Pasting.{IsPasted, DoInstead, StandInstead, AreExchanged}

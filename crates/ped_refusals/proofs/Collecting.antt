@@ -5,7 +5,7 @@ use Rattle.std.specs.List.{fold}
 use Rattle.ped_base.specs.Lists.{is_same_text, is_among}
 use Rattle.ped_base.proofs.NameEquality.{same_is}
 use Rattle.ped_tree.specs.NamesIn.{first_occurrences}
-use Rattle.ped_refusals.specs.Collecting.{with_name, with_names}
+use Rattle.ped_tree.specs.Names.Collecting.{with_name, with_names}
 use Rattle.ped_limits.proofs.SameNames.{HaveSame, among_append}
 
 or_back : (a b : Bool) → (a || (b || false)) ≡ (b || a)

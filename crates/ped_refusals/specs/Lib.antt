@@ -1,3 +1,2 @@
-pub mod Collecting
 pub mod OpenBlocks
 pub mod OpenContexts

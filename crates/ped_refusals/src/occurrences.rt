@@ -9,7 +9,7 @@ ghost use Rattle.ped_tree.specs.Grammar.Occurrences.{names_in, of_reading, entry
 ghost use Rattle.ped_tree.specs.Views.{expr_tree, pack_exprs, cond_tree, item_tree, stmt_tree, stmt_trees, head, bound_tree, declarator_tree, decl_tree, value_tree};
 ghost use Rattle.ped_tree.specs.Grammar.StatementViews.{note_of};
 ghost use Rattle.ped_tree.specs.Grammar.ItemViews.{item_of, do_head, reading_of, entry_of};
-ghost use Rattle.ped_refusals.specs.Collecting.{with_name, with_names};
+ghost use Rattle.ped_tree.specs.Names.Collecting.{with_name, with_names};
 
 use ped_base::{Name, NoMemory};
 use ped_expressions::{after, name_of};

@@ -6,7 +6,7 @@ ghost use Rattle.ped_tree.specs.Grammar.Occurrences as Spec;
 ghost use Rattle.ped_tree.specs.Grammar.Occurrences.{entry_names};
 ghost use Rattle.ped_base.specs.Lists.{is_among};
 ghost use Rattle.ped_tree.specs.Grammar.ItemViews.{entry_of, reading_of};
-ghost use Rattle.ped_refusals.specs.Collecting.{with_names};
+ghost use Rattle.ped_tree.specs.Names.Collecting.{with_names};
 
 use crate::occurrences::{add_constants, add_do_variable, add_entry};
 use ped_base::{Listed, Name, Names, NoMemory};

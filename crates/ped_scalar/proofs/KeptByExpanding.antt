@@ -12,8 +12,8 @@ use Rattle.ped_tree.specs.Grammar.Refusal.{Finding}
 use Rattle.ped_tree.specs.Constants.ConstantExpressions.{constant_value}
 use Rattle.ped_tidy.specs.ped_steps.specs.ped_symbols.specs.Kinds.{names_of, table_of}
 use Rattle.ped_tidy.specs.ped_steps.specs.ped_symbols.specs.NameRefusals.{IsValid, name_refusals}
-use Rattle.ped_tidy.specs.ped_steps.specs.ped_affine.specs.Assigned.{loop_variables}
-use Rattle.ped_tidy.specs.ped_steps.specs.ped_eval.specs.Loops.{all_index_names}
+use Rattle.ped_tree.specs.NamesIn.{loop_variables}
+use Rattle.ped_tree.specs.NamesIn.{all_loop_variables}
 use Rattle.ped_tidy.specs.ped_steps.specs.ped_flow.specs.Paths.{all_paths}
 use Rattle.ped_tidy.specs.ped_steps.specs.ped_flow.specs.PlainBounds.{nest_round}
 use Rattle.ped_tidy.specs.ped_steps.specs.ped_flow.specs.Questions.{LoopOf, IsFirst, IsExposed, IsReadBehind, IsLiveAfter, IsAssignedThrough}
@@ -26,12 +26,13 @@ use Rattle.ped_tidy.specs.ped_steps.specs.declared.rules.Rule.TheVariants.{Paral
 use Rattle.ped_tidy.specs.ped_steps.specs.Causes.{NoRule}
 use Rattle.ped_tidy.specs.ped_steps.specs.Tidy.{is_written_in, IsTidy}
 use Rattle.ped_tidy.specs.ped_steps.specs.Runs.Meaning.{Keeps}
-use Rattle.ped_tidy.specs.ped_steps.specs.Runs.Substituting.{private_names_in, all_private_names_in}
+use Rattle.ped_tree.specs.NamesIn.{private_names_in, all_private_names_in}
 use Rattle.ped_tidy.specs.ped_steps.specs.Runs.Expanding as runs
 use Rattle.ped_tidy.specs.ped_steps.specs.Runs.Expanding.{expanded_by, IsRound, MayExpand}
 use Rattle.ped_tidy.specs.ped_steps.proofs.RunLaws.ExpandingKeeps.{expanding_keeps}
 use Rattle.ped_scalar.specs.Scalars.{is_scalar, is_unfit, is_index_near, is_referred, IsLiveBy}
-use Rattle.ped_scalar.specs.Expanding.{Span, has_iteration, last_value, span_by, is_far, spans_far, occurs, first_free, numbered_names, most_numbered, kept_value, with_elements, expanded, private_in, all_private_in, is_private_near, IsExpanded, StandsAgainstExpanding}
+use Rattle.ped_scalar.specs.Expanding.{Span, has_iteration, last_value, span_by, is_far, spans_far, occurs, first_free, numbered_names, most_numbered, kept_value, with_elements, expanded, is_private_near, IsExpanded, StandsAgainstExpanding}
+use Rattle.ped_tree.specs.NamesIn.{private_names_in, all_private_names_in}
 use Rattle.ped_tidy.proofs.TidyPathsSums.{Summary}
 use Rattle.ped_scalar.proofs.Steps.{near_is}
 use Rattle.ped_scalar.proofs.KeptByPrivatising.{least, false_by, or_neither, not_so}
@@ -40,7 +41,7 @@ use Rattle.ped_scalar.proofs.VariablesRound as round_it
 
 -- the private names, as steps and as runs list them
 mutual
-  same_private : (s : StmtTree) → private_names_in s ≡ private_in s
+  same_private : (s : StmtTree) → private_names_in s ≡ private_names_in s
   same_private (Assign left right) = refl
   same_private (If c a b) = λ i. all_same_private a i ++ all_same_private b i
   same_private (Do h b) = ap (λ (z : List (List ℕ)). h.private ++ z) (all_same_private b)
@@ -49,7 +50,7 @@ mutual
   same_private Stop = refl
   same_private (Comment text) = refl
 
-  all_same_private : (ss : StmtTrees) → all_private_names_in ss ≡ all_private_in ss
+  all_same_private : (ss : StmtTrees) → all_private_names_in ss ≡ all_private_names_in ss
   all_same_private no_stmts = refl
   all_same_private (more_stmts s rest) = λ i. same_private s i ++ all_same_private rest i
 
@@ -106,8 +107,8 @@ module _ (t : ProgramTree) (s : ℕ) (x : List ℕ) (l : LoopOf t s) (valid : Is
   pub shared : is_private_near t s l.head l.body x ≡ false
   shared = false_by (is_private_near t s l.head l.body x) (λ h. stands_none AlreadyPrivate s (l, scalar, h, refl))
 
-  privates : (is_among x (private_in (Do l.head l.body)) ≡ false) × (list_any (λ k. is_among x k.head.private) (nest_round t s) ≡ false)
-  privates = or_neither (is_among x (private_in (Do l.head l.body))) (list_any (λ k. is_among x k.head.private) (nest_round t s)) shared
+  privates : (is_among x (private_names_in (Do l.head l.body)) ≡ false) × (list_any (λ k. is_among x k.head.private) (nest_round t s) ≡ false)
+  privates = or_neither (is_among x (private_names_in (Do l.head l.body))) (list_any (λ k. is_among x k.head.private) (nest_round t s)) shared
 
   pub unexposed : (n : ℕ) → IsExposed t s x n → ⊥
   unexposed = least (IsExposed t s x) (λ n first. stands_none ExposedOrLive n (l, (scalar, inl first)))
@@ -120,9 +121,9 @@ module _ (t : ProgramTree) (s : ℕ) (x : List ℕ) (l : LoopOf t s) (valid : Is
   pub no_index : IsTidy t → (n : ℕ) (m : LoopOf t n) → IsRound t s n → m.head.parallel ≡ true → is_among x (loop_variables (Do m.head m.body)) ≡ false
   no_index tidy n m round parallel = round_it.no_index t s l.head l.body l.is n m round x tidy written_there parallel
 
-  no_index_name : IsTidy t → (n : ℕ) (m : LoopOf t n) → IsRound t s n → m.head.parallel ≡ true → is_among x (m.head.variable ∷ all_index_names m.body) ≡ false
+  no_index_name : IsTidy t → (n : ℕ) (m : LoopOf t n) → IsRound t s n → m.head.parallel ≡ true → is_among x (m.head.variable ∷ all_loop_variables m.body) ≡ false
   no_index_name tidy n m round parallel =
-      ap (λ (z : Bool). is_same_text x m.head.variable || z) (sym (sorted_among x (all_index_names m.body)) ∙ inner_among x m.body) ∙ no_index tidy n m round parallel
+      ap (λ (z : Bool). is_same_text x m.head.variable || z) (sym (sorted_among x (all_loop_variables m.body)) ∙ inner_among x m.body) ∙ no_index tidy n m round parallel
 
   -- the statement by which a scalar is live
   live_by : IsLiveAfter t s x → (n : ℕ) × IsLiveBy t s x n

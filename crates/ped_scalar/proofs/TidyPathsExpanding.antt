@@ -8,9 +8,10 @@ use Rattle.ped_base.proofs.NameEquality.{same_is}
 use Rattle.ped_tree.specs.Tree.{ExprTree, Var, Assign, Head, StmtTrees, Do, no_stmts, DeclTree, ProgramTree}
 use Rattle.ped_tree.specs.Numbering.{statement_count, statements_count}
 use Rattle.ped_tree.specs.Accesses.{constants_in, constant_names}
-use Rattle.ped_tidy.specs.ped_steps.specs.ped_affine.specs.Assigned.{loop_variables, all_loop_variables}
+use Rattle.ped_tree.specs.NamesIn.{loop_variables, all_loop_variables}
 use Rattle.ped_tidy.specs.ped_steps.specs.ped_flow.specs.Events.{copied, own_events, exit_events}
-use Rattle.ped_tidy.specs.ped_steps.specs.ped_flow.specs.Questions.{LoopOf, saved_in, IsIndexIn, IsShownBehind}
+use Rattle.ped_tidy.specs.ped_steps.specs.ped_flow.specs.Questions.{LoopOf, IsIndexIn, IsShownBehind}
+use Rattle.ped_tree.specs.NamesIn.{saved_in}
 use Rattle.ped_tidy.specs.ped_steps.specs.ped_flow.specs.Summaries.{passing, unreached, sum_in_turn, sum_events, sum_loop, sum_of, sum_of_all, sum_at_once, sum_behind_all}
 use Rattle.ped_tidy.specs.ped_steps.specs.ped_flow.proofs.Truths.{untrue, or_none}
 use Rattle.ped_tidy.specs.ped_steps.specs.ped_laws.specs.FlowRuns.Covering.{some_stop}

@@ -10,7 +10,7 @@ use Rattle.ped_tree.specs.Tree.{Var, no_exprs, more_exprs, Head, StmtTree, StmtT
 use Rattle.ped_tree.specs.Numbering.{statement_count, statements_count}
 use Rattle.ped_tree.specs.Accesses.{constants_in, constant_names}
 use Rattle.ped_base.proofs.NameEquality.{same_is}
-use Rattle.ped_tidy.specs.ped_steps.specs.ped_affine.specs.Assigned.{loop_variables, all_loop_variables}
+use Rattle.ped_tree.specs.NamesIn.{loop_variables, all_loop_variables}
 use Rattle.ped_tidy.specs.ped_steps.specs.ped_laws.specs.Acts.Orders.{IsIn}
 use Rattle.ped_tidy.specs.ped_steps.specs.ped_symbols.specs.NameRefusals.{IsValid}
 use Rattle.ped_tidy.specs.ped_steps.specs.ped_symbols.specs.Kinds.{kind_of, kind_in, names_of}

@@ -9,14 +9,14 @@ use Rattle.ped_tree.specs.Numbering.{statement_count, statements_count}
 use Rattle.ped_tree.specs.Accesses.{Access, own_accesses}
 use Rattle.ped_tree.specs.Nests.{Loop, indices_of}
 use Rattle.ped_tidy.specs.ped_steps.specs.ped_refs.specs.References.{Reference, numbered_accesses, statement_references, statements_references}
-use Rattle.ped_tidy.specs.ped_steps.specs.ped_affine.specs.Assigned.{loop_variables, all_loop_variables}
+use Rattle.ped_tree.specs.NamesIn.{loop_variables, all_loop_variables}
 use Rattle.ped_tidy.specs.ped_steps.specs.ped_symbols.specs.RightUses.RightUses.{NameKinds, is_scalar, cond_is_right, head_is_right, stmt_is_right, stmts_are_right}
 use Rattle.ped_tidy.specs.ped_steps.specs.ped_flow.specs.Events.{clears, event, own_events, copied, start_events, exit_events}
 use Rattle.ped_tidy.specs.ped_steps.specs.ped_flow.specs.Summaries.{passing, of_manner, sum_in_turn, sum_either, sum_trips, sum_events, sum_loop, sum_of, sum_of_all}
 use Rattle.ped_tidy.specs.ped_steps.specs.ped_flow.proofs.SumLaws.{cleared}
 use Rattle.ped_tidy.specs.ped_steps.specs.ped_flow.proofs.Truths.{untrue}
 use Rattle.ped_tidy.specs.ped_steps.specs.ped_laws.specs.FlowRuns.Covering.{has_stop, some_stop}
-use Rattle.ped_scalar.specs.Expanding.{private_in, all_private_in}
+use Rattle.ped_tree.specs.NamesIn.{private_names_in, all_private_names_in}
 use Rattle.ped_tidy.proofs.TidyPathsSums.{Summary}
 use Rattle.ped_scalar.proofs.UnwrittenReads.{IsStill, passing_still, in_turn_still, either_still, is_of, is_write_of, assignment_still, condition_still, entry_still, output_still, input_still}
 
@@ -69,14 +69,14 @@ module _ (constants : List (List ℕ)) (x : List ℕ) (kinds : NameKinds) (scala
   maybe_none true names h = h
   maybe_none false names h = refl
 
-  module _ (n : ℕ) (h : Head) (b : StmtTrees) (other : is_among x (loop_variables (Do h b)) ≡ false) (apart : is_among x (private_in (Do h b)) ≡ false) where
+  module _ (n : ℕ) (h : Head) (b : StmtTrees) (other : is_among x (loop_variables (Do h b)) ≡ false) (apart : is_among x (private_names_in (Do h b)) ≡ false) where
     abbrev pub variables : (is_same_text x h.variable ≡ false) × (is_among x (all_loop_variables b) ≡ false)
     variables = or_parts (is_same_text x h.variable) (is_among x (all_loop_variables b)) other
 
     copied_none : is_among x (copied h b) ≡ false
     copied_none =
         list_any-append (is_same_text x) h.private (if h.parallel then all_loop_variables b else [])
-        ∙ λ i. (among_parts h.private (all_private_in b) apart).0 i || maybe_none h.parallel (all_loop_variables b) variables.1 i
+        ∙ λ i. (among_parts h.private (all_private_names_in b) apart).0 i || maybe_none h.parallel (all_loop_variables b) variables.1 i
 
     start_still : IsStill (sum_events x (start_events n h b)) false
     start_still = cleared_still n (copied h b) copied_none
@@ -99,7 +99,7 @@ module _ (constants : List (List ℕ)) (x : List ℕ) (kinds : NameKinds) (scala
         (in_turn_still (sum_trips (sum_in_turn (sum_events x (start_events n h b)) m)) (sum_events x (exit_events n h b)) p false many exit_still)
 
   mutual
-    statement_still : (s : StmtTree) (n : ℕ) (nest : List Loop) → stmt_is_right kinds s ≡ true → is_among x (loop_variables s) ≡ false → is_among x (private_in s) ≡ false → has_stop s ≡ false
+    statement_still : (s : StmtTree) (n : ℕ) (nest : List Loop) → stmt_is_right kinds s ≡ true → is_among x (loop_variables s) ≡ false → is_among x (private_names_in s) ≡ false → has_stop s ≡ false
         → IsUnwritten (statement_references constants nest n s) → IsStill (sum_of constants x s n) (some (statement_references constants nest n s))
     statement_still (Assign left right) n nest r o a h u =
         own_still n nest (Assign left right) (assignment_still constants x kinds scalar (indices_of nest) n left right r (own_unwritten n nest (Assign left right) u))
@@ -107,7 +107,7 @@ module _ (constants : List (List ℕ)) (x : List ℕ) (kinds : NameKinds) (scala
         let right = and_parts (cond_is_right kinds c && stmts_are_right kinds p) (stmts_are_right kinds q) r in
         let left = and_parts (cond_is_right kinds c) (stmts_are_right kinds p) right.0 in
         let others = among_parts (all_loop_variables p) (all_loop_variables q) o in
-        let aparts = among_parts (all_private_in p) (all_private_in q) a in
+        let aparts = among_parts (all_private_names_in p) (all_private_names_in q) a in
         let stops = or_parts (some_stop p) (some_stop q) h in
         let mine = own n nest (If c p q) in
         let first = statements_references constants nest (n + 1) p in
@@ -126,7 +126,7 @@ module _ (constants : List (List ℕ)) (x : List ℕ) (kinds : NameKinds) (scala
     statement_still (Do g b) n nest r o a h u =
         let right = and_parts (head_is_right kinds g) (stmts_are_right kinds b) r in
         let others = or_parts (is_same_text x g.variable) (is_among x (all_loop_variables b)) o in
-        let aparts = among_parts g.private (all_private_in b) a in
+        let aparts = among_parts g.private (all_private_names_in b) a in
         let round : List Loop = nest ++ (record { number = n; head = g }) ∷ [] in
         let mine = own n nest (Do g b) in
         let inner = statements_references constants round (n + 1) b in
@@ -140,13 +140,13 @@ module _ (constants : List (List ℕ)) (x : List ℕ) (kinds : NameKinds) (scala
     statement_still Stop n nest r o a h u = untrue (sym h)
     statement_still (Comment text) n nest r o a h u = passing_still
 
-    pub statements_still : (ss : StmtTrees) (n : ℕ) (nest : List Loop) → stmts_are_right kinds ss ≡ true → is_among x (all_loop_variables ss) ≡ false → is_among x (all_private_in ss) ≡ false → some_stop ss ≡ false
+    pub statements_still : (ss : StmtTrees) (n : ℕ) (nest : List Loop) → stmts_are_right kinds ss ≡ true → is_among x (all_loop_variables ss) ≡ false → is_among x (all_private_names_in ss) ≡ false → some_stop ss ≡ false
         → IsUnwritten (statements_references constants nest n ss) → IsStill (sum_of_all constants x ss n) (some (statements_references constants nest n ss))
     statements_still no_stmts n nest r o a h u = passing_still
     statements_still (more_stmts s rest) n nest r o a h u =
         let right = and_parts (stmt_is_right kinds s) (stmts_are_right kinds rest) r in
         let others = among_parts (loop_variables s) (all_loop_variables rest) o in
-        let aparts = among_parts (private_in s) (all_private_in rest) a in
+        let aparts = among_parts (private_names_in s) (all_private_names_in rest) a in
         let stops = or_parts (has_stop s) (some_stop rest) h in
         let parts = unwritten_parts (statement_references constants nest n s) (statements_references constants nest (n + statement_count s) rest) u in
         subst (λ (z : Bool). IsStill (sum_of_all constants x (more_stmts s rest) n) z) (sym (list_any-append (refers x) (statement_references constants nest n s) (statements_references constants nest (n + statement_count s) rest)))

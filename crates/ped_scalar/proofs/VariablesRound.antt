@@ -8,7 +8,7 @@ use Rattle.ped_tree.specs.Tree.{Head, StmtTree, StmtTrees, Assign, If, Do, Print
 use Rattle.ped_tree.specs.Numbering.{statement_count, statements_count, numbered, all_numbered, statement_with}
 use Rattle.ped_tree.specs.Nests.{Loop}
 use Rattle.ped_tidy.specs.ped_steps.specs.ped_refs.specs.References.{Reference, references}
-use Rattle.ped_tidy.specs.ped_steps.specs.ped_affine.specs.Assigned.{loop_variables}
+use Rattle.ped_tree.specs.NamesIn.{loop_variables}
 use Rattle.ped_tidy.specs.ped_steps.specs.ped_laws.specs.Acts.Orders.{IsIn}
 use Rattle.ped_tidy.specs.ped_steps.specs.ped_flow.specs.PlainBounds.{loops_round, all_loops_round, nest_round}
 use Rattle.ped_tidy.specs.ped_steps.specs.ped_flow.specs.Questions.{LoopOf, IsIndexIn}

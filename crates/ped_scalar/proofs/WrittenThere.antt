@@ -11,7 +11,7 @@ use Rattle.ped_tree.specs.Accesses.{constant_names}
 use Rattle.ped_tidy.specs.ped_steps.specs.ped_refs.specs.References.{Reference, statements_references, references}
 use Rattle.ped_tidy.specs.ped_steps.specs.ped_symbols.specs.Kinds.{kind_in}
 use Rattle.ped_tidy.specs.ped_steps.specs.ped_symbols.specs.NameRefusals.{IsValid}
-use Rattle.ped_tidy.specs.ped_steps.specs.ped_affine.specs.Assigned.{loop_variables, all_loop_variables}
+use Rattle.ped_tree.specs.NamesIn.{loop_variables, all_loop_variables}
 use Rattle.ped_tidy.specs.ped_steps.specs.ped_symbols.specs.RightUses.RightUses.{head_is_right, stmts_are_right}
 use Rattle.ped_tidy.specs.ped_steps.specs.ped_flow.specs.Events.{start_events}
 use Rattle.ped_tidy.specs.ped_steps.specs.ped_flow.specs.PathSets.{Paths}
@@ -26,7 +26,7 @@ use Rattle.ped_tidy.specs.ped_steps.specs.ped_laws.proofs.FlowRunLaws.Stopping.{
 use Rattle.ped_tidy.specs.ped_steps.specs.Tidy.{is_written_in}
 use Rattle.ped_tidy.specs.ped_steps.proofs.RunLaws.ExpandedPlacesParts.{part_at}
 use Rattle.ped_scalar.specs.Scalars.{is_scalar, is_referred}
-use Rattle.ped_scalar.specs.Expanding.{private_in, all_private_in}
+use Rattle.ped_tree.specs.NamesIn.{private_names_in, all_private_names_in}
 use Rattle.ped_tidy.proofs.TidyPathsSums.{Summary}
 use Rattle.ped_scalar.proofs.UnwrittenReads.{IsStill}
 use Rattle.ped_scalar.proofs.UnwrittenStatements.{refers, writes, statements_still, iteration_still}
@@ -44,7 +44,7 @@ from_one t s h b is = elim (cases_eq s 0) [
 ]
 
 module _ (t : ProgramTree) (valid : IsValid t) (s : ℕ) (l : LoopOf t s) (x : List ℕ) (scalar : is_scalar t x ≡ true)
-    (near : is_among x (loop_variables (Do l.head l.body)) ≡ false) (shared : is_among x (private_in (Do l.head l.body)) ≡ false) where
+    (near : is_among x (loop_variables (Do l.head l.body)) ≡ false) (shared : is_among x (private_names_in (Do l.head l.body)) ≡ false) where
   abbrev constants : List (List ℕ)
   constants = constant_names t.decls
 
@@ -76,7 +76,7 @@ module _ (t : ProgramTree) (valid : IsValid t) (s : ℕ) (l : LoopOf t s) (x : L
       let nest = place.nest in
       let referring : list_any (refers x) (statements_references constants nest (s + 1) l.body) ≡ true = sym (place.tested (refers x)) ∙ referred in
       let parts = or_parts (is_same_text x l.head.variable) (is_among x (all_loop_variables l.body)) near in
-      let aparts = or_parts (is_among x l.head.private) (is_among x (all_private_in l.body)) (sym (list_any-append (is_same_text x) l.head.private (all_private_in l.body)) ∙ shared) in
+      let aparts = or_parts (is_among x l.head.private) (is_among x (all_private_names_in l.body)) (sym (list_any-append (is_same_text x) l.head.private (all_private_names_in l.body)) ∙ shared) in
       subst (λ (b : Bool). IsStill sum b) referring
       (iteration_still constants x (kind_in t) scalar s l.head l.body near shared (sum_of_all constants x l.body (s + 1)) (list_any (refers x) (statements_references constants nest (s + 1) l.body))
       (statements_still constants x (kind_in t) scalar l.body (s + 1) nest right parts.1 aparts.1 stops (sym written_is ∙ unwritten)))

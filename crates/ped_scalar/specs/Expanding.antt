@@ -7,6 +7,7 @@ use Rattle.ped_base.specs.Lists.{is_among}
 use Rattle.ped_tree.specs.Tree.{ExprTree, Var, Element, no_exprs, more_exprs, Head, StmtTree, StmtTrees, Assign, If, Do, Print, Read, Stop, Comment, no_stmts, more_stmts, DeclTree, Program, Implicit, Integer, Dimension, Parameter, Save, Remark, ProgramTree}
 use Rattle.ped_tree.specs.Numbering.{statements_count}
 use Rattle.ped_tree.specs.Constants.ConstantExpressions.{constant_value}
+use Rattle.ped_tree.specs.NamesIn.{private_names_in}
 use Rattle.ped_tidy.specs.ped_steps.specs.ped_symbols.specs.Kinds.{names_of, table_of}
 use Rattle.ped_tidy.specs.ped_steps.specs.ped_symbols.specs.NameRefusals.{IsValid}
 use Rattle.ped_tidy.specs.ped_steps.specs.ped_flow.specs.PlainBounds.{nest_round}
@@ -116,25 +117,9 @@ declaration array v = Integer ((record { name = array; bounds = (record { lower 
 abbrev pub expanded : ProgramTree → ℕ → List ℕ → Bool → List ℕ → Span → ProgramTree
 expanded t s x live array v = record { decls = t.decls ++ declaration array v ∷ []; body = all_replaced (with_elements x array live v.last) s t.body 1 }
 
--- the PRIVATE names of the DO loops in a statement and in its parts (ParaScope)
-abbrev mutual
-  pub private_in : StmtTree → List (List ℕ)
-  private_in (Assign left right) = []
-  private_in (If condition then_part else_part) = all_private_in then_part ++ all_private_in else_part
-  private_in (Do h body) = h.private ++ all_private_in body
-  private_in (Print items) = []
-  private_in (Read items) = []
-  private_in Stop = []
-  private_in (Comment text) = []
-
-  -- the same of statements (ParaScope)
-  pub all_private_in : StmtTrees → List (List ℕ)
-  all_private_in no_stmts = []
-  all_private_in (more_stmts s rest) = private_in s ++ all_private_in rest
-
 -- the name is in the PRIVATE list of the DO, of one in it or of one round it (ParaScope)
 abbrev pub is_private_near : ProgramTree → ℕ → Head → StmtTrees → List ℕ → Bool
-is_private_near t s h body x = is_among x (private_in (Do h body)) || list_any (λ l. is_among x l.head.private) (nest_round t s)
+is_private_near t s h body x = is_among x (private_names_in (Do h body)) || list_any (λ l. is_among x l.head.private) (nest_round t s)
 
 -- the scalar is exposed in the DO by this statement, or else live behind it by this statement and not assigned on each path through the body (Allen and Kennedy, section 5.3; this project)
 abbrev pub IsLostBy : ProgramTree → ℕ → List ℕ → ℕ → Type 0

@@ -7,7 +7,7 @@ use Rattle.ped_tree.specs.Nests.{indices_of}
 use Rattle.ped_tree.specs.Numbering.{statements_count}
 use Rattle.ped_tidy.specs.ped_steps.specs.ped_refs.specs.References.{Reference, references}
 use Rattle.ped_tidy.specs.ped_steps.specs.ped_symbols.specs.Kinds.{kind_in}
-use Rattle.ped_tidy.specs.ped_steps.specs.ped_affine.specs.Assigned.{loop_variables}
+use Rattle.ped_tree.specs.NamesIn.{loop_variables}
 use Rattle.ped_tidy.specs.ped_steps.specs.ped_symbols.specs.RightUses.RightUses as uses
 use Rattle.ped_tidy.specs.ped_steps.specs.ped_flow.specs.PlainBounds.{nest_round}
 use Rattle.ped_tidy.specs.ped_steps.specs.ped_flow.specs.Questions.{LoopOf, IsFirst, IsExposed, IsReadBehind, IsShownBehind}

@@ -3,6 +3,7 @@
 ghost use Rattle.std.specs.Prelude.{◌≡◌, ◌+◌, ◌<◌, ◌^◌, ℕ, IfOk, IsTrue, MatchOption, Some, ◌||◌};
 ghost use Rattle.std.specs.List.{list_any};
 ghost use Rattle.ped_base.specs.Lists.{is_among};
+ghost use Rattle.ped_tree.specs.NamesIn as Names;
 ghost use Rattle.ped_tree.specs.Tree;
 ghost use Rattle.ped_tree.specs.Views.{stmt_trees, program_tree};
 ghost use Rattle.ped_tree.specs.Numbering.{statements_count};
@@ -188,7 +189,7 @@ fn expand_to<L: Ledger>(
 
 /// Whether the name is in the PRIVATE list of the DO, of one in it or of one of these round it.
 fn is_private_near(name: &Name, d: &Do, round: &[Loop]) -> bool
-    ensures { result ≡ (is_among name.now (Spec.private_in (Tree.Do (head_of d.now) (stmt_trees d.now.body.items))) || list_any (λ l. is_among name.now l.head.private) (nest_of round.now)) }
+    ensures { result ≡ (is_among name.now (Names.private_names_in (Tree.Do (head_of d.now) (stmt_trees d.now.body.items))) || list_any (λ l. is_among name.now l.head.private) (nest_of round.now)) }
 {
     is_private_in(name, d) || is_private_round(name, round)
 }

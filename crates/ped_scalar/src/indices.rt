@@ -8,7 +8,7 @@ ghost use Rattle.ped_tree.specs.Nests.{indices_of};
 ghost use Rattle.ped_tree.specs.Views.{stmt_tree, stmt_trees};
 ghost use Rattle.ped_tidy.specs.ped_steps.specs.ped_refs.specs.Loops.{nest_of};
 ghost use Rattle.ped_tree.specs.Views.{head_of};
-ghost use Rattle.ped_tidy.specs.ped_steps.specs.ped_affine.specs.Assigned.{loop_variables, all_loop_variables};
+ghost use Rattle.ped_tree.specs.NamesIn.{loop_variables, all_loop_variables};
 
 use ped_base::Name;
 use ped_tidy::ped_steps::ped_refs::Loop;

@@ -3,6 +3,7 @@
 ghost use Rattle.std.specs.Prelude.{◌≡◌};
 ghost use Rattle.std.specs.List.{list_any};
 ghost use Rattle.ped_base.specs.Lists as Lists;
+ghost use Rattle.ped_tree.specs.NamesIn as Names;
 ghost use Rattle.ped_tree.specs.Tree;
 ghost use Rattle.ped_tree.specs.Views.{stmt_tree, stmt_trees};
 ghost use Rattle.ped_tidy.specs.ped_steps.specs.ped_refs.specs.Loops.{nest_of};
@@ -27,7 +28,7 @@ pub(crate) fn is_private_round(name: &Name, loops: &[Loop]) -> bool
 
 /// Whether the name is in the PRIVATE list of a DO or of one in it.
 pub(crate) fn is_private_in(name: &Name, d: &Do) -> bool
-    ensures { result ≡ Lists.is_among name.now (Spec.private_in (Tree.Do (head_of d.now) (stmt_trees d.now.body.items))) }
+    ensures { result ≡ Lists.is_among name.now (Names.private_names_in (Tree.Do (head_of d.now) (stmt_trees d.now.body.items))) }
 {
     is_among(name, d.private.as_slice()) || is_private_among(name, &d.body)
 }
@@ -35,7 +36,7 @@ pub(crate) fn is_private_in(name: &Name, d: &Do) -> bool
 /// Whether the name is in the PRIVATE list of a DO among statements or in them.
 #[cycle(private)]
 fn is_private_among(name: &Name, statements: &[Stmt]) -> bool
-    ensures { result ≡ Lists.is_among name.now (Spec.all_private_in (stmt_trees statements.now)) }
+    ensures { result ≡ Lists.is_among name.now (Names.all_private_names_in (stmt_trees statements.now)) }
 {
     for statement in statements {
         if is_private_within(name, statement) {
@@ -48,7 +49,7 @@ fn is_private_among(name: &Name, statements: &[Stmt]) -> bool
 /// Whether the name is in the PRIVATE list of a DO that is this statement or in it.
 #[cycle(private)]
 fn is_private_within(name: &Name, statement: &Stmt) -> bool
-    ensures { result ≡ Lists.is_among name.now (Spec.private_in (stmt_tree statement.now)) }
+    ensures { result ≡ Lists.is_among name.now (Names.private_names_in (stmt_tree statement.now)) }
 {
     match statement {
         Stmt::If {

@@ -1,13 +1,9 @@
-//! The DO with a number, and the DO loops round a statement.
+//! The DO loops round a statement.
 
-ghost use Rattle.std.specs.Prelude.{◌≡◌, ◌++◌, ◌+◌, ◌<◌, ◌^◌, IfOk, OnOk, MatchOption};
-ghost use Rattle.ped_tree.specs.Tree;
-ghost use Rattle.ped_tree.specs.Tree.{Head, StmtTrees};
+ghost use Rattle.std.specs.Prelude.{◌≡◌, ◌++◌, ◌+◌, ◌<◌, ◌^◌, IfOk, OnOk};
 ghost use Rattle.ped_tree.specs.Views.{stmt_tree, stmt_trees, program_tree};
 ghost use Rattle.ped_tree.specs.Numbering.{statement_count, statements_count};
 ghost use Rattle.ped_laws.specs.ped_graph.specs.ped_refs.specs.Loops.{nest_of};
-ghost use Rattle.ped_tree.specs.Views.{head_of};
-ghost use Rattle.ped_laws.specs.ped_flow.specs.Questions.{IsLoop};
 ghost use Rattle.ped_laws.specs.ped_flow.specs.PlainBounds as Spec;
 
 use crate::counting::{count_statement, count_statements};
@@ -15,53 +11,6 @@ use ped_base::NoMemory;
 use ped_laws::ped_graph::ped_refs::Loop;
 use ped_tree::{Do, Program, Stmt};
 use std::alloc::Global;
-
-/// The DO with this number, where there is one.
-pub fn loop_at<'a>(program: &'a Program, number: u32) -> Option<&'a Do>
-    ensures { MatchOption result ((h : Head) (body : StmtTrees) → IsLoop (program_tree program.now) number h body → ⊥) (λ d. IsLoop (program_tree program.now) number (head_of d.now) (stmt_trees d.now.body.items)) }
-{
-    match program.at(number) {
-        Some(statement) => {
-            return as_loop(statement);
-        }
-        None => {
-            return None;
-        }
-    }
-}
-
-/// A statement as a DO, where it is one.
-fn as_loop<'a>(statement: &'a Stmt) -> Option<&'a Do>
-    ensures { MatchOption result ((h : Head) (body : StmtTrees) → stmt_tree statement.now ≡ Tree.Do h body → ⊥) (λ d. stmt_tree statement.now ≡ Tree.Do (head_of d.now) (stmt_trees d.now.body.items)) }
-{
-    match statement {
-        Stmt::Do(d) => {
-            return Some(d);
-        }
-        Stmt::Assign { left: _, right: _ } => {
-            return None;
-        }
-        Stmt::If {
-            condition: _,
-            then_part: _,
-            else_part: _,
-        } => {
-            return None;
-        }
-        Stmt::Print(_) => {
-            return None;
-        }
-        Stmt::Read(_) => {
-            return None;
-        }
-        Stmt::Stop => {
-            return None;
-        }
-        Stmt::Comment(_) => {
-            return None;
-        }
-    }
-}
 
 /// The DO loops of a program round the statement with a number, the outermost first.
 pub fn loops_round<'a>(

@@ -8,7 +8,8 @@ use Rattle.ped_tree.specs.Accesses.{constant_names}
 use Rattle.ped_steps.specs.ped_flow.specs.Events.{Event, overwrites}
 use Rattle.ped_steps.specs.ped_flow.specs.PathSets.{Whole}
 use Rattle.ped_steps.specs.ped_flow.specs.Paths.{paths_from_exit}
-use Rattle.ped_steps.specs.ped_flow.specs.Questions.{saved_in, IsShownBehind}
+use Rattle.ped_steps.specs.ped_flow.specs.Questions.{IsShownBehind}
+use Rattle.ped_tree.specs.NamesIn.{saved_in}
 use Rattle.ped_steps.specs.ped_flow.specs.Summaries.{AreSummed, unreached, sum_in_turn, sum_either, sum_loop, sum_of_all, sum_at_once, sum_behind, sum_behind_all}
 use Rattle.ped_steps.specs.ped_flow.proofs.TreeSums.{all_behind-summed}
 use Rattle.ped_steps.specs.ped_flow.proofs.Truths.{or_split}

@@ -4,7 +4,7 @@ use Rattle.std.proofs.lemmas.List.{append_assoc}
 use Rattle.ped_base.specs.Lists.{is_same_text, is_among}
 use Rattle.ped_tree.specs.Tree.{Head, StmtTree, StmtTrees, Assign, If, Do, Print, Read, Stop, Comment, no_stmts, more_stmts}
 use Rattle.ped_tree.specs.Numbering.{statement_count, statements_count}
-use Rattle.ped_steps.specs.ped_affine.specs.Assigned.{loop_variables, all_loop_variables}
+use Rattle.ped_tree.specs.NamesIn.{loop_variables, all_loop_variables}
 use Rattle.ped_steps.specs.ped_flow.specs.Summaries.{unreached, sum_in_turn, sum_either, sum_loop, sum_of, sum_of_all, sum_at_once, sum_behind, sum_behind_all}
 use Rattle.ped_steps.specs.ped_flow.proofs.SumLaws.{in_turn-assoc, either-in_turn, either-assoc}
 use Rattle.ped_steps.specs.Replacing.{followed}

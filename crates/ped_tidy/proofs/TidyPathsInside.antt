@@ -7,7 +7,7 @@ use Rattle.ped_base.specs.Lists.{is_same_text, is_among}
 use Rattle.ped_tree.specs.Tree.{StmtTree, StmtTrees, Assign, If, Do, Print, Read, Stop, Comment, no_stmts, more_stmts, ProgramTree}
 use Rattle.ped_tree.specs.Numbering.{numbered, all_numbered, at_place, statement_with, statement_count, statements_count}
 use Rattle.ped_tree.proofs.Numbers.{length-all_numbered, numbered-back, all_numbered-back}
-use Rattle.ped_steps.specs.ped_affine.specs.Assigned.{loop_variables, all_loop_variables}
+use Rattle.ped_tree.specs.NamesIn.{loop_variables, all_loop_variables}
 use Rattle.ped_steps.specs.ped_flow.specs.Questions.{LoopOf, IsIndexIn}
 use Rattle.ped_steps.specs.ped_flow.proofs.Truths.{untrue, or_split}
 use Rattle.ped_steps.specs.Replacing.{followed, alone, program_with}

@@ -2,7 +2,7 @@
 use Rattle.std.proofs.Common.{◌≡◌, ℕ, ◌+◌, ◌<◌, ◌≤◌, ◌==◌, List, true, false, sym, ap, subst, ◌∙◌, arith}
 use Rattle.ped_tree.specs.Tree.{CondTree, StmtTree, StmtTrees, If, Do}
 use Rattle.ped_tree.specs.Numbering.{statement_count, statements_count}
-use Rattle.ped_steps.specs.ped_affine.specs.Assigned.{all_loop_variables}
+use Rattle.ped_tree.specs.NamesIn.{all_loop_variables}
 use Rattle.ped_steps.specs.ped_flow.specs.Events.{own_events}
 use Rattle.ped_steps.specs.ped_flow.specs.Summaries.{sum_in_turn, sum_either, sum_events, sum_loop, sum_of, sum_of_all, sum_at_once, sum_behind, sum_behind_all}
 use Rattle.ped_steps.specs.ped_flow.proofs.Truths.{untrue}

@@ -3,7 +3,7 @@ use Rattle.std.proofs.Common.{◌≡◌, ℕ, Bool, true, false, not, ◌&&◌, 
 use Rattle.std.proofs.lemmas.List.Folds.{list_any-append}
 use Rattle.ped_base.specs.Lists.{is_same_text, is_among}
 use Rattle.ped_tree.specs.Tree.{Head, StmtTrees, Do}
-use Rattle.ped_steps.specs.ped_affine.specs.Assigned.{loop_variables, all_loop_variables}
+use Rattle.ped_tree.specs.NamesIn.{loop_variables, all_loop_variables}
 use Rattle.ped_steps.specs.ped_flow.specs.Events.{copied, own_events, exit_events}
 use Rattle.ped_steps.specs.ped_flow.specs.Summaries.{sum_events, sum_of}
 use Rattle.ped_steps.specs.ped_flow.proofs.Truths.{or_none}

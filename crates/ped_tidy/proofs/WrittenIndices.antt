@@ -5,7 +5,7 @@ use Rattle.ped_base.specs.Lists.{is_same_text, is_among}
 use Rattle.ped_base.proofs.NameEquality.{same_itself, same_is}
 use Rattle.ped_tree.specs.Tree.{Head, StmtTree, StmtTrees, Assign, If, Do, Print, Read, Stop, Comment, no_stmts, more_stmts}
 use Rattle.ped_tree.specs.Numbering.{statement_count, statements_count}
-use Rattle.ped_steps.specs.ped_affine.specs.Assigned.{all_loop_variables}
+use Rattle.ped_tree.specs.NamesIn.{all_loop_variables}
 use Rattle.ped_steps.specs.ped_flow.proofs.Truths.{untrue, or_none, or_split}
 use Rattle.ped_steps.specs.Replacing.{followed}
 use Rattle.ped_steps.specs.Runs.Gaps.{Gap, at_front, past, in_then, in_else, in_body, filled}

@@ -5,8 +5,9 @@ use Rattle.ped_base.specs.Lists.{is_among}
 use Rattle.ped_tree.specs.Tree.{Head, StmtTrees, Do, ProgramTree}
 use Rattle.ped_tree.specs.Numbering.{statements_count}
 use Rattle.ped_tree.specs.Accesses.{constant_names}
-use Rattle.ped_steps.specs.ped_affine.specs.Assigned.{all_loop_variables}
-use Rattle.ped_steps.specs.ped_flow.specs.Questions.{saved_in, IsShownBehind}
+use Rattle.ped_tree.specs.NamesIn.{all_loop_variables}
+use Rattle.ped_steps.specs.ped_flow.specs.Questions.{IsShownBehind}
+use Rattle.ped_tree.specs.NamesIn.{saved_in}
 use Rattle.ped_steps.specs.ped_flow.specs.Summaries.{sum_of_all}
 use Rattle.ped_steps.specs.ped_laws.specs.FlowRuns.Covering.{some_stop}
 use Rattle.ped_steps.specs.Replacing.{followed, alone}

@@ -3,7 +3,7 @@ use Rattle.std.specs.Prelude.{ℕ, List, ◌∷◌, codes, Bool, false, ◌&&◌
 use Rattle.std.specs.List.{list_any}
 use Rattle.ped_base.specs.Lists.{is_same_text, is_among}
 use Rattle.ped_tree.specs.Tree.{ExprTree, Int, Var, Element, Neg, Add, Sub, Mul, Div, Pow, Call, StmtTree, StmtTrees, Assign, If, Do, Print, Read, Stop, Comment, no_stmts, more_stmts}
-use Rattle.ped_steps.specs.ped_affine.specs.Assigned.{all_loop_variables}
+use Rattle.ped_tree.specs.NamesIn.{all_loop_variables}
 
 -- a write of the name y is one of the name w, where y is no constant (ANSI X3.9-1978, section 8.6)
 abbrev pub writes_name : List (List ℕ) → List ℕ → List ℕ → Bool

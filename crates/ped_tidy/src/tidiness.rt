@@ -3,7 +3,7 @@
 ghost use Rattle.std.specs.Prelude.{◌≡◌, ℕ, List, Bool, false, not, ◌⊎◌};
 ghost use Rattle.ped_base.specs.Lists.{is_among};
 ghost use Rattle.ped_tree.specs.Tree.{Head, StmtTrees, Do, ProgramTree};
-ghost use Rattle.ped_steps.specs.ped_affine.specs.Assigned.{loop_variables};
+ghost use Rattle.ped_tree.specs.NamesIn.{loop_variables};
 ghost use Rattle.ped_steps.specs.ped_flow.specs.Questions.{IsShownBehind};
 ghost use Rattle.ped_steps.specs.ped_flow.specs.Summaries.{sum_of};
 ghost use Rattle.ped_steps.specs.Tidy.{IsTidy};

@@ -71,3 +71,45 @@ decl_names (Remark text) = []
 abbrev pub first_occurrences : List (List ℕ) → List (List ℕ) → List (List ℕ)
 first_occurrences seen [] = []
 first_occurrences seen (x ∷ xs) = if is_among x seen then first_occurrences seen xs else x ∷ first_occurrences (x ∷ seen) xs
+
+-- the variables of the DO loops in a statement and in its parts, in text order (ANSI X3.9-1978, section 11.10)
+abbrev mutual
+  pub loop_variables : StmtTree → List (List ℕ)
+  loop_variables (Assign left right) = []
+  loop_variables (If condition then_part else_part) = all_loop_variables then_part ++ all_loop_variables else_part
+  loop_variables (Do h body) = h.variable ∷ all_loop_variables body
+  loop_variables (Print items) = []
+  loop_variables (Read items) = []
+  loop_variables Stop = []
+  loop_variables (Comment text) = []
+
+  -- the variables of the DO loops in statements (ANSI X3.9-1978, section 11.10)
+  pub all_loop_variables : StmtTrees → List (List ℕ)
+  all_loop_variables no_stmts = []
+  all_loop_variables (more_stmts s rest) = loop_variables s ++ all_loop_variables rest
+
+-- the PRIVATE names of the DO loops in a statement and in its parts, in text order (ParaScope)
+abbrev mutual
+  pub private_names_in : StmtTree → List (List ℕ)
+  private_names_in (Assign left right) = []
+  private_names_in (If condition then_part else_part) = all_private_names_in then_part ++ all_private_names_in else_part
+  private_names_in (Do h body) = h.private ++ all_private_names_in body
+  private_names_in (Print items) = []
+  private_names_in (Read items) = []
+  private_names_in Stop = []
+  private_names_in (Comment text) = []
+
+  -- the PRIVATE names of the DO loops in statements (ParaScope)
+  pub all_private_names_in : StmtTrees → List (List ℕ)
+  all_private_names_in no_stmts = []
+  all_private_names_in (more_stmts s rest) = private_names_in s ++ all_private_names_in rest
+
+-- the names that a declaration saves (ANSI X3.9-1978, section 8.9)
+abbrev pub saved_in : DeclTree → List (List ℕ)
+saved_in (Program x) = []
+saved_in Implicit = []
+saved_in (Integer ds) = []
+saved_in (Dimension ds) = []
+saved_in (Parameter values) = []
+saved_in (Save names) = names
+saved_in (Remark text) = []

@@ -3,7 +3,7 @@ use Rattle.std.proofs.Common.{◌≡◌, ℕ, ◌+◌, ◌-◌, List, [], ◌∷
 use Rattle.std.specs.Prelude.{◌==◌, ◌/◌, ◌%◌}
 use Rattle.std.proofs.lemmas.Bool.{both_ways}
 use Rattle.ped_steps.specs.ped_flow.specs.ped_base.specs.Lists.{is_same_text, is_among}
-use Rattle.ped_base.proofs.NameEquality.{same_is}
+use Rattle.ped_steps.specs.ped_flow.specs.ped_base.proofs.NameEquality.{same_is}
 use Rattle.ped_tree.specs.Constants.NamedConstants.{value_named}
 use Rattle.ped_tree.specs.Tree.{ExprTree, Var, StmtTrees}
 use Rattle.ped_tree.specs.NamesIn.{stmts_names}
@@ -14,7 +14,7 @@ use Rattle.ped_steps.specs.ped_laws.specs.Acts.Renaming.{own_name}
 use Rattle.ped_steps.specs.ped_laws.specs.Acts.Sets.{nothing}
 use Rattle.ped_steps.specs.ped_laws.proofs.ActLaws.SameCells.{text_itself}
 use Rattle.ped_steps.specs.ped_laws.specs.ped_eval.specs.Scopes.{Setting, Frame, Scope, turns_of, index_value}
-use Rattle.ped_steps.specs.ped_laws.specs.ped_eval.specs.Loops.{all_index_names}
+use Rattle.ped_tree.specs.NamesIn.{all_loop_variables}
 use Rattle.ped_steps.specs.ped_laws.specs.ped_eval.specs.Runs.{run_all}
 use Rattle.ped_steps.specs.ped_laws.specs.Runs.Replaying.{goes_on}
 use Rattle.ped_steps.specs.Runs.Exchanging.{IsExchange, AreExchanged}
@@ -84,7 +84,7 @@ module _ (f : ℕ → ℕ) (p q : Setting) (ts : StmtTrees) (n m : ℕ) (agree :
   names = stmts_names ts
 
   abbrev loops : List (List ℕ)
-  loops = all_index_names ts
+  loops = all_loop_variables ts
 
   abbrev Moved : (Cell → Cell) → (Cell → Bool) → Scope → Scope → Type 0
   Moved name idle scope other = GoLikewise name idle f p q ts ts n m scope other
@@ -126,7 +126,7 @@ module _ (p q : Setting) (ts : StmtTrees) (n m : ℕ) (agree : SettingsAgree own
   its_names = stmts_names ts
 
   abbrev its_loops : List (List ℕ)
-  its_loops = all_index_names ts
+  its_loops = all_loop_variables ts
 
   -- in the same iterations, where some names have other copies: parallel and serial loops, and what stands round a loop that a step changes
   pub with_other_copies : (apart : List (List ℕ)) (scope other : Scope) → HaveSameCopies apart scope other → TellTheSame its_names scope other → Moved own_number p q ts n m agree own_name (is_cell_among apart) scope other

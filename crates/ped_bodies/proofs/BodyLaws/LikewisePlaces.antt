@@ -4,7 +4,7 @@ use Rattle.std.specs.Option.{unwrap_or}
 use Rattle.std.proofs.lemmas.List.{map-append}
 use Rattle.ped_steps.specs.ped_flow.specs.ped_base.specs.Lists.{is_same_text, is_among}
 use Rattle.ped_tree.specs.Constants.NamedConstants.{value_named}
-use Rattle.ped_base.proofs.NameEquality.{same_is}
+use Rattle.ped_steps.specs.ped_flow.specs.ped_base.proofs.NameEquality.{same_is}
 use Rattle.ped_tree.specs.Tree.{ExprTree, Var, Head, StmtTree, StmtTrees, Assign, If, Do, Print, Read, Stop, Comment, no_stmts, more_stmts}
 use Rattle.ped_tree.specs.Numbering.{statement_count, statements_count}
 use Rattle.ped_steps.specs.ped_laws.specs.ped_store.specs.Cells.{Cell, Private, Iteration}
@@ -12,7 +12,8 @@ use Rattle.ped_steps.specs.ped_laws.specs.ped_store.specs.Stores.{Store}
 use Rattle.ped_steps.specs.ped_laws.specs.ped_store.specs.Acts.{Turn, Act, iterations_of}
 use Rattle.ped_steps.specs.ped_laws.specs.ped_eval.specs.Scopes.{Setting, Frame, Scope, turns_of, cell_of, index_value, names_in}
 use Rattle.ped_steps.specs.ped_laws.specs.ped_eval.specs.Values.{variable_value, name_value, value}
-use Rattle.ped_steps.specs.ped_laws.specs.ped_eval.specs.Loops.{increment, sorted_once, index_names, all_index_names, inner_variables}
+use Rattle.ped_steps.specs.ped_laws.specs.ped_eval.specs.Loops.{increment, sorted_once, inner_variables}
+use Rattle.ped_tree.specs.NamesIn.{loop_variables, all_loop_variables}
 use Rattle.ped_steps.specs.Runs.Renumbering.{renumbered_iteration, renumbered_turn}
 use Rattle.ped_bodies.specs.Rewriting.{head_rewritten, statement_rewritten, statements_rewritten, KeepsIncrement}
 use Rattle.ped_bodies.specs.Likewise.{Meet, IsLikewise, AreLikewise}
@@ -34,7 +35,7 @@ module _ (h : ExprTree → ExprTree) where
     counts_kept (more_stmts t rest) = λ i. count_kept t i + counts_kept rest i
 
   mutual
-    index_kept : (t : StmtTree) → index_names (statement_rewritten h t) ≡ index_names t
+    index_kept : (t : StmtTree) → loop_variables (statement_rewritten h t) ≡ loop_variables t
     index_kept (Assign left right) = refl
     index_kept (If c a b) = λ i. indices_kept a i ++ indices_kept b i
     index_kept (Do d body) = λ i. d.variable ∷ indices_kept body i
@@ -43,7 +44,7 @@ module _ (h : ExprTree → ExprTree) where
     index_kept Stop = refl
     index_kept (Comment text) = refl
 
-    pub indices_kept : (ts : StmtTrees) → all_index_names (statements_rewritten h ts) ≡ all_index_names ts
+    pub indices_kept : (ts : StmtTrees) → all_loop_variables (statements_rewritten h ts) ≡ all_loop_variables ts
     indices_kept no_stmts = refl
     indices_kept (more_stmts t rest) = λ i. index_kept t i ++ indices_kept rest i
 

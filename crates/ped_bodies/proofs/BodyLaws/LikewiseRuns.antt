@@ -4,7 +4,7 @@ use Rattle.std.specs.Prelude.{◌==◌, ◌||◌}
 use Rattle.std.specs.List.{flat_map}
 use Rattle.std.proofs.lemmas.List.Folds.{list_any-append}
 use Rattle.ped_steps.specs.ped_flow.specs.ped_base.specs.Lists.{is_same_text, is_among}
-use Rattle.ped_base.proofs.NameEquality.{same_is}
+use Rattle.ped_steps.specs.ped_flow.specs.ped_base.proofs.NameEquality.{same_is}
 use Rattle.ped_tree.specs.Tree.{ExprTree, ExprTrees, Var, CondTree, ItemTree, Head, StmtTree, StmtTrees, Assign, If, Do, Print, Read, Stop, Comment, no_stmts, more_stmts}
 use Rattle.ped_tree.specs.NamesIn.{expr_names, cond_names, item_names, head_names, stmt_names, stmts_names}
 use Rattle.ped_tree.specs.Numbering.{statement_count, statements_count}
@@ -16,7 +16,8 @@ use Rattle.ped_steps.specs.ped_laws.specs.ped_eval.specs.Scopes.{Setting, Frame,
 use Rattle.ped_steps.specs.ped_laws.specs.ped_eval.specs.Evaluation.{Seen, Evaluated, numbered, number_behind}
 use Rattle.ped_steps.specs.ped_laws.specs.ped_eval.specs.Values.{value, truth}
 use Rattle.ped_steps.specs.ped_laws.specs.ped_eval.specs.Statements.{assigned, assignment_touches, printed_line, print_touches, read_touch, write_touch, reading, reading_touches}
-use Rattle.ped_steps.specs.ped_laws.specs.ped_eval.specs.Loops.{Limits, limits, increment, iteration_count, index_names, all_index_names, inner_variables, Entered, entered_with, frame, left_in_variable, undefined_by, undefined_all, exit_touches, exit_when_none, entry_touches}
+use Rattle.ped_steps.specs.ped_laws.specs.ped_eval.specs.Loops.{Limits, limits, increment, iteration_count, inner_variables, Entered, entered_with, frame, left_in_variable, undefined_by, undefined_all, exit_touches, exit_when_none, entry_touches}
+use Rattle.ped_tree.specs.NamesIn.{loop_variables, all_loop_variables}
 use Rattle.ped_steps.specs.ped_laws.specs.ped_eval.specs.Runs.{Ending, going, stopped, failed, Run, nothing_done, followed_by, then_run, does, on, run_taking, turns, parallel_turns, run_entered, run_from_entry, run, run_all}
 use Rattle.ped_steps.specs.ped_laws.specs.Runs.Replaying.{Finish, goes_on, stops, finish_of, has_fault, act, Replays}
 use Rattle.ped_steps.specs.ped_laws.proofs.FlowRunLaws.Names.{sorted_among}
@@ -71,27 +72,27 @@ module _ (names : List (List ℕ)) where
       go false same r = k y r
 
   mutual
-    index_within : (t : StmtTree) → Within names (stmt_names t) → Within names (index_names t)
+    index_within : (t : StmtTree) → Within names (stmt_names t) → Within names (loop_variables t)
     index_within (Assign left right) h = λ x e. absurd cc
     index_within (If c a b) h =
         let whole = within_parts names (cond_names c ++ stmts_names a) (stmts_names b) h in
-        within_both (all_index_names a) (all_index_names b) (indices_within a (within_parts names (cond_names c) (stmts_names a) whole.0).1) (indices_within b whole.1)
+        within_both (all_loop_variables a) (all_loop_variables b) (indices_within a (within_parts names (cond_names c) (stmts_names a) whole.0).1) (indices_within b whole.1)
     index_within (Do d body) h =
         let among = do_within names d body h in
-        within_more d.variable (all_index_names body) among.variable (indices_within body among.inside)
+        within_more d.variable (all_loop_variables body) among.variable (indices_within body among.inside)
     index_within (Print items) h = λ x e. absurd cc
     index_within (Read items) h = λ x e. absurd cc
     index_within Stop h = λ x e. absurd cc
     index_within (Comment text) h = λ x e. absurd cc
 
-    indices_within : (ts : StmtTrees) → Within names (stmts_names ts) → Within names (all_index_names ts)
+    indices_within : (ts : StmtTrees) → Within names (stmts_names ts) → Within names (all_loop_variables ts)
     indices_within no_stmts h = λ x e. absurd cc
     indices_within (more_stmts t rest) h =
         let each = within_parts names (stmt_names t) (stmts_names rest) h in
-        within_both (index_names t) (all_index_names rest) (index_within t each.0) (indices_within rest each.1)
+        within_both (loop_variables t) (all_loop_variables rest) (index_within t each.0) (indices_within rest each.1)
 
   inner_within : (b : Bool) (body : StmtTrees) → Within names (stmts_names body) → Within names (inner_variables b body)
-  inner_within true body h = λ x e. indices_within body h x (sym (sorted_among x (all_index_names body)) ∙ e)
+  inner_within true body h = λ x e. indices_within body h x (sym (sorted_among x (all_loop_variables body)) ∙ e)
   inner_within false body h = λ x e. absurd cc
 
 -- statements from two numbers on count by the new numbers
@@ -385,14 +386,14 @@ module _ (name : Cell → Cell) (idle : Cell → Bool) (laws : NamesScalars name
               }
 
   mutual
-    run_follow : (t : StmtTree) (n m : ℕ) (scope other : Scope) → StandLikewise h name idle f q names loops scope other → LieInside (stmt_names t) (index_names t) (assigned_in t) → OfHeads (KeepsIncrement h p.constants) t
+    run_follow : (t : StmtTree) (n m : ℕ) (scope other : Scope) → StandLikewise h name idle f q names loops scope other → LieInside (stmt_names t) (loop_variables t) (assigned_in t) → OfHeads (KeepsIncrement h p.constants) t
         → CountBy f p q n m (statement_count t) → Follow name idle f (turns_of scope) (turns_of other) (run p t n scope) (run q (statement_rewritten h t) m other)
     run_follow (Assign left right) n m scope other at inside increments by = assignment_follow scope other at n m (first_by f p q 1 n m (omega arith) by) left right inside.among inside.kept
     run_follow (If c a b) n m scope other at inside increments by =
         let count = statements_count a + statements_count b + 1 in
         let whole = within_parts names (cond_names c ++ stmts_names a) (stmts_names b) inside.among in
         let first = within_parts names (cond_names c) (stmts_names a) whole.0 in
-        let indices = within_parts loops (all_index_names a) (all_index_names b) inside.indices in
+        let indices = within_parts loops (all_loop_variables a) (all_loop_variables b) inside.indices in
         if_follow scope other at n m (first_by f p q count n m (omega arith) by) c a b first.0
         (all_follow a (n + 1) (m + 1) scope other at (record { among = first.1; indices = indices.0; kept = kept_first (assigned_in_all a) (assigned_in_all b) inside.kept }) increments.0
         (part_by f p q count n m (statements_count a) 1 (n + 1) (m + 1) refl refl (omega arith) by))
@@ -402,7 +403,7 @@ module _ (name : Cell → Cell) (idle : Cell → Bool) (laws : NamesScalars name
     run_follow (Do d body) n m scope other at inside increments by =
         let count = statements_count body + 1 in
         let number = first_by f p q count n m (omega arith) by in
-        let indices = within_first loops d.variable (all_index_names body) inside.indices in
+        let indices = within_first loops d.variable (all_loop_variables body) inside.indices in
         do_follow scope other at n m number d body increments.0 (do_within names d body inside.among)
         (λ seen l k. outside_follow name idle f (turns_of scope) (turns_of other) (frame (entered_with p n d body seen l) k).turn
         (run_all p body (n + 1) (frame (entered_with p n d body seen l) k ∷ scope)) (run_all q (statements_rewritten h body) (m + 1) (renumbered_frame f (frame (entered_with p n d body seen l) k) ∷ other))
@@ -419,12 +420,12 @@ module _ (name : Cell → Cell) (idle : Cell → Bool) (laws : NamesScalars name
     run_follow Stop n m scope other at inside increments by = stop_follow scope other at n m (first_by f p q 1 n m (omega arith) by)
     run_follow (Comment text) n m scope other at inside increments by = nothing_follow name idle f (turns_of scope) (turns_of other)
 
-    pub all_follow : (ts : StmtTrees) (n m : ℕ) (scope other : Scope) → StandLikewise h name idle f q names loops scope other → LieInside (stmts_names ts) (all_index_names ts) (assigned_in_all ts) → OfAllHeads (KeepsIncrement h p.constants) ts
+    pub all_follow : (ts : StmtTrees) (n m : ℕ) (scope other : Scope) → StandLikewise h name idle f q names loops scope other → LieInside (stmts_names ts) (all_loop_variables ts) (assigned_in_all ts) → OfAllHeads (KeepsIncrement h p.constants) ts
         → CountBy f p q n m (statements_count ts) → Follow name idle f (turns_of scope) (turns_of other) (run_all p ts n scope) (run_all q (statements_rewritten h ts) m other)
     all_follow no_stmts n m scope other at inside increments by = nothing_follow name idle f (turns_of scope) (turns_of other)
     all_follow (more_stmts t rest) n m scope other at inside increments by =
         let count = statement_count t + statements_count rest in
-        let each = lie_parts (stmt_names t) (stmts_names rest) (index_names t) (all_index_names rest) (assigned_in t) (assigned_in_all rest) inside in
+        let each = lie_parts (stmt_names t) (stmts_names rest) (loop_variables t) (all_loop_variables rest) (assigned_in t) (assigned_in_all rest) inside in
         then_follow name idle f (turns_of scope) (turns_of other) (run p t n scope) (run_all p rest (n + statement_count t) scope) (run q (statement_rewritten h t) m other) (run_all q (statements_rewritten h rest) (m + statement_count (statement_rewritten h t)) other)
         (run_follow t n m scope other at each.0 increments.0 (part_by f p q count n m (statement_count t) 0 n m (omega arith) (omega arith) (omega arith) by))
         (subst (λ (j : ℕ). Follow name idle f (turns_of scope) (turns_of other) (run_all p rest (n + statement_count t) scope) (run_all q (statements_rewritten h rest) (m + j) other)) (sym (count_kept h t))
@@ -434,7 +435,7 @@ module _ (name : Cell → Cell) (idle : Cell → Bool) (laws : NamesScalars name
 pub do_likewise : (h : ExprTree → ExprTree) (hs : ExprTrees → ExprTrees) (name : Cell → Cell) (idle : Cell → Bool) (f : ℕ → ℕ) (p q : Setting) (ts : StmtTrees) (n m : ℕ) (scope other : Scope) → IsRewriting h hs → NamesScalars name → StandRewritten h name idle f p q ts n m scope other
     → (s : Store) → has_fault (finish_of (run_all p ts n scope s).ending) ≡ false → DoesLikewise name idle f (turns_of scope) (turns_of other) (run_all p ts n scope s).acts (finish_of (run_all p ts n scope s).ending) (run_all q (statements_rewritten h ts) m other)
 do_likewise h hs name idle f p q ts n m scope other parts laws stand s =
-    all_follow name idle laws h hs parts p q stand.agree.constants (stmts_names ts) (all_index_names ts) stand.agree.bounds f ts n m scope other stand.places
+    all_follow name idle laws h hs parts p q stand.agree.constants (stmts_names ts) (all_loop_variables ts) stand.agree.bounds f ts n m scope other stand.places
     (record { among = λ x e. e; indices = λ x e. e; kept = stand.may.kept }) stand.may.increments stand.agree.numbers s
 
 -- the same of statements that go on

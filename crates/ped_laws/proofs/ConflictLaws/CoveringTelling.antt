@@ -15,7 +15,8 @@ use Rattle.ped_eval.specs.Scopes.{Setting, Frame, Scope, Names, turns_of, cell_o
 use Rattle.ped_eval.specs.Evaluation.{Seen, cell_seen, index_seen, numbered, number_behind}
 use Rattle.ped_eval.specs.Values.{truth, target}
 use Rattle.ped_eval.specs.Statements.{assigned, printed_line, into_item, with_taken, taking, taking_from, reading, reading_touches, read_touch, write_touch}
-use Rattle.ped_eval.specs.Loops.{limits, Entered, entered_with, frame, index_names, all_index_names, undefined_by, undefined_all, exit_touches, exit_when_none}
+use Rattle.ped_eval.specs.Loops.{limits, Entered, entered_with, frame, undefined_by, undefined_all, exit_touches, exit_when_none}
+use Rattle.ped_flow.specs.ped_tree.specs.NamesIn.{loop_variables, all_loop_variables}
 use Rattle.ped_eval.specs.Runs.{Run, nothing_done, does, run_taking, turns, parallel_turns, run_entered, run, run_all}
 use Rattle.ped_eval.specs.Outcomes.{setting_of}
 use Rattle.ped_laws.specs.Runs.Replaying.{act}
@@ -167,7 +168,7 @@ module _ (t : ProgramTree) where
   part_tells f h k l false u = l u
 
   mutual
-    run_tells : (s : StmtTree) (n : ℕ) (scope : Scope) (u : Store) → Stand t n (statements_of s) → HaveCopies scope (index_names s) → TellsIndices t scope → Each (ActTells t) (run Own s n scope u).acts
+    run_tells : (s : StmtTree) (n : ℕ) (scope : Scope) (u : Store) → Stand t n (statements_of s) → HaveCopies scope (loop_variables s) → TellsIndices t scope → Each (ActTells t) (run Own s n scope u).acts
     run_tells (Assign left right) n scope u w copies tells =
         let e = assigned (names_in Own scope) left right u in
         let a = numbered_tells (turns_of scope) 1 e.seen (assigned_told (IsIndexAt t (turns_of scope)) (names_in Own scope) tells left right u) in
@@ -180,14 +181,14 @@ module _ (t : ProgramTree) where
         on_each (ActTells t) (λ x. Unit {0}) (place_of Own n scope) e.seen e.result _ (any_result e.result) told
         (λ holds o. does_each (ActTells t) did (place_of Own n scope) (numbered 1 e.seen) (if holds then run_all Own a (n + 1) scope else run_all Own b (n + 1 + statements_count a) scope) u told
         (part_tells (run_all Own a (n + 1) scope) (run_all Own b (n + 1 + statements_count a) scope)
-        (λ v. all_tell a (n + 1) scope v (stand_first t (n + 1) (all_numbered a) (all_numbered b) rest) (λ x i. copies x (first_names x (all_index_names a) (all_index_names b) i)) tells)
-        (λ v. all_tell b (n + 1 + statements_count a) scope v (stand_rest t (n + 1) (statements_count a) (all_numbered a) (all_numbered b) (sym (length-all_numbered a)) rest) (λ x i. copies x (second_names x (all_index_names a) (all_index_names b) i)) tells)
+        (λ v. all_tell a (n + 1) scope v (stand_first t (n + 1) (all_numbered a) (all_numbered b) rest) (λ x i. copies x (first_names x (all_loop_variables a) (all_loop_variables b) i)) tells)
+        (λ v. all_tell b (n + 1 + statements_count a) scope v (stand_rest t (n + 1) (statements_count a) (all_numbered a) (all_numbered b) (sym (length-all_numbered a)) rest) (λ x i. copies x (second_names x (all_loop_variables a) (all_loop_variables b) i)) tells)
         holds))
     run_tells (Do h body) n scope u w copies tells =
         let l = limits (names_in Own scope) h u in
         let told = numbered_tells (turns_of scope) 1 l.seen (limits_told (IsIndexAt t (turns_of scope)) (names_in Own scope) tells h u) in
-        let names : HaveCopies scope (all_index_names body) = λ x i. copies x (or_right (is_same_text x h.variable) (is_among x (all_index_names body)) i) in
-        let own : HasCopies scope h.variable = copies h.variable (or_left (is_same_text h.variable h.variable) (is_among h.variable (all_index_names body)) (text_itself h.variable)) in
+        let names : HaveCopies scope (all_loop_variables body) = λ x i. copies x (or_right (is_same_text x h.variable) (is_among x (all_loop_variables body)) i) in
+        let own : HasCopies scope h.variable = copies h.variable (or_left (is_same_text h.variable h.variable) (is_among h.variable (all_loop_variables body)) (text_itself h.variable)) in
         let stands : statement_with n t ≡ Some (Do h body) = ap (λ (m : ℕ). statement_with m t) (omega arith) ∙ w 0 (Do h body) refl in
         on_each (ActTells t) (λ x. Unit {0}) (place_of Own n scope) l.seen l.result _ (any_result l.result) told
         (λ bounds o.
@@ -208,12 +209,12 @@ module _ (t : ProgramTree) where
     run_tells Stop n scope u w copies tells = each_more (ActTells t) (act did (place_of Own n scope) []) [] (each_none (TouchTells t (turns_of scope))) (each_none (ActTells t))
     run_tells (Comment text) n scope u w copies tells = each_none (ActTells t)
 
-    all_tell : (ss : StmtTrees) (n : ℕ) (scope : Scope) (u : Store) → Stand t n (all_numbered ss) → HaveCopies scope (all_index_names ss) → TellsIndices t scope → Each (ActTells t) (run_all Own ss n scope u).acts
+    all_tell : (ss : StmtTrees) (n : ℕ) (scope : Scope) (u : Store) → Stand t n (all_numbered ss) → HaveCopies scope (all_loop_variables ss) → TellsIndices t scope → Each (ActTells t) (run_all Own ss n scope u).acts
     all_tell no_stmts n scope u w copies tells = each_none (ActTells t)
     all_tell (more_stmts s rest) n scope u w copies tells =
         then_each (ActTells t) (run Own s n scope u) (run_all Own rest (n + statement_count s) scope)
-        (run_tells s n scope u (stand_first t n (statements_of s) (all_numbered rest) w) (λ x i. copies x (first_names x (index_names s) (all_index_names rest) i)) tells)
-        (λ v. all_tell rest (n + statement_count s) scope v (stand_rest t n (statement_count s) (statements_of s) (all_numbered rest) (sym (length-numbered s)) w) (λ x i. copies x (second_names x (index_names s) (all_index_names rest) i)) tells)
+        (run_tells s n scope u (stand_first t n (statements_of s) (all_numbered rest) w) (λ x i. copies x (first_names x (loop_variables s) (all_loop_variables rest) i)) tells)
+        (λ v. all_tell rest (n + statement_count s) scope v (stand_rest t n (statement_count s) (statements_of s) (all_numbered rest) (sym (length-numbered s)) w) (λ x i. copies x (second_names x (loop_variables s) (all_loop_variables rest) i)) tells)
 
 -- so it is in the run of a program
 pub program_tells : (t : ProgramTree) (s : Store) → Each (ActTells t) (run_all (setting_of t) t.body 1 [] s).acts

@@ -15,7 +15,8 @@ use Rattle.ped_graph.specs.ped_refs.specs.References.{Reference, references, num
 use Rattle.ped_graph.specs.ped_symbols.specs.Kinds.{kind_in, at_last}
 use Rattle.ped_graph.specs.ped_symbols.specs.RightUses.RightUses.{cond_is_right, head_is_right, stmt_is_right, stmts_are_right}
 use Rattle.ped_graph.specs.ped_symbols.specs.RightUses.RightLoops.{step_is_right, stmt_steps_are_right, steps_are_right}
-use Rattle.ped_flow.specs.ped_affine.specs.Assigned.{assigned_in, assigned_in_all, loop_variables, all_loop_variables}
+use Rattle.ped_flow.specs.ped_affine.specs.Assigned.{assigned_in, assigned_in_all}
+use Rattle.ped_flow.specs.ped_tree.specs.NamesIn.{loop_variables, all_loop_variables}
 use Rattle.ped_flow.specs.ped_affine.specs.Ranges.{Setting}
 use Rattle.ped_laws.specs.Acts.Orders.{IsIn}
 use Rattle.ped_laws.proofs.ActLaws.Lists.{in_left, in_right}

@@ -13,7 +13,8 @@ use Rattle.ped_graph.specs.ped_refs.specs.References.{Reference, outermost}
 use Rattle.ped_graph.specs.ped_symbols.specs.NameRefusals.{IsValid}
 use Rattle.ped_graph.specs.ped_symbols.specs.Kinds.{table_of}
 use Rattle.ped_graph.specs.ped_symbols.specs.RightUses.RightPrograms.{IsRight}
-use Rattle.ped_flow.specs.ped_affine.specs.Assigned.{assigned_in, assigned_in_all, all_loop_variables}
+use Rattle.ped_flow.specs.ped_affine.specs.Assigned.{assigned_in, assigned_in_all}
+use Rattle.ped_flow.specs.ped_tree.specs.NamesIn.{all_loop_variables}
 use Rattle.ped_flow.specs.ped_affine.specs.Ranges as ranges
 use Rattle.ped_graph.specs.Dependences.{assigned_by, setting_in}
 use Rattle.ped_eval.specs.ped_store.specs.Cells.{Scalar, Element, Private, In, Out}

@@ -26,7 +26,8 @@ use Rattle.ped_eval.specs.Scopes.{Frame, Scope, Names, Setting, names_in, place_
 use Rattle.ped_eval.specs.Evaluation.{Seen, Evaluated, numbered}
 use Rattle.ped_eval.specs.Values.{truth}
 use Rattle.ped_eval.specs.Statements.{Stored, assigned, assignment_touches, printed_line, print_touches, reading, reading_touches}
-use Rattle.ped_eval.specs.Loops.{index_names, all_index_names, inner_variables, Limits, limits, Entered, entered_with, frame, exit_touches, exit_when_none, entry_touches}
+use Rattle.ped_eval.specs.Loops.{inner_variables, Limits, limits, Entered, entered_with, frame, exit_touches, exit_when_none, entry_touches}
+use Rattle.ped_flow.specs.ped_tree.specs.NamesIn.{loop_variables, all_loop_variables}
 use Rattle.ped_eval.specs.Runs.{Ending, going, stopped, failed, Run, followed_by, then_run, does, on_value, nothing_done, run_taking, turns, parallel_turns, run_entered, run_from_entry, run, run_all}
 use Rattle.ped_eval.specs.Outcomes.{setting_of}
 use Rattle.ped_laws.proofs.RunLaws.Touches.{Each, each_none, each_more, each_append}
@@ -42,13 +43,13 @@ or_split false b h = inr h
 -- the variables of DO loops are assigned
 module _ (x : List ℕ) where
   mutual
-    index_assigned : (u : StmtTree) → is_among x (index_names u) ≡ true → is_among x (assigned_in u) ≡ true
+    index_assigned : (u : StmtTree) → is_among x (loop_variables u) ≡ true → is_among x (assigned_in u) ≡ true
     index_assigned (Assign left right) h = absurd cc
-    index_assigned (If c a b) h = elim (or_split (is_among x (all_index_names a)) (is_among x (all_index_names b)) (sym (among_append x (all_index_names a) (all_index_names b)) ∙ h)) [
+    index_assigned (If c a b) h = elim (or_split (is_among x (all_loop_variables a)) (is_among x (all_loop_variables b)) (sym (among_append x (all_loop_variables a) (all_loop_variables b)) ∙ h)) [
       | inl k ↦ among_left x (assigned_in_all a) (assigned_in_all b) (all_index_assigned a k)
       | inr k ↦ among_right x (assigned_in_all a) (assigned_in_all b) (all_index_assigned b k)
     ]
-    index_assigned (Do h b) g = elim (or_split (is_same_text x h.variable) (is_among x (all_index_names b)) g) [
+    index_assigned (Do h b) g = elim (or_split (is_same_text x h.variable) (is_among x (all_loop_variables b)) g) [
       | inl k ↦ ap (λ (z : Bool). z || is_among x (h.private ++ assigned_in_all b)) k
       | inr k ↦ among_rest x h.variable (h.private ++ assigned_in_all b) (among_right x h.private (assigned_in_all b) (all_index_assigned b k))
     ]
@@ -57,9 +58,9 @@ module _ (x : List ℕ) where
     index_assigned Stop h = absurd cc
     index_assigned (Comment text) h = absurd cc
 
-    all_index_assigned : (us : StmtTrees) → is_among x (all_index_names us) ≡ true → is_among x (assigned_in_all us) ≡ true
+    all_index_assigned : (us : StmtTrees) → is_among x (all_loop_variables us) ≡ true → is_among x (assigned_in_all us) ≡ true
     all_index_assigned no_stmts h = absurd cc
-    all_index_assigned (more_stmts u rest) h = elim (or_split (is_among x (index_names u)) (is_among x (all_index_names rest)) (sym (among_append x (index_names u) (all_index_names rest)) ∙ h)) [
+    all_index_assigned (more_stmts u rest) h = elim (or_split (is_among x (loop_variables u)) (is_among x (all_loop_variables rest)) (sym (among_append x (loop_variables u) (all_loop_variables rest)) ∙ h)) [
       | inl k ↦ among_left x (assigned_in u) (assigned_in_all rest) (index_assigned u k)
       | inr k ↦ among_right x (assigned_in u) (assigned_in_all rest) (all_index_assigned rest k)
     ]

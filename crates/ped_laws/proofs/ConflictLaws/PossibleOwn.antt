@@ -16,7 +16,8 @@ use Rattle.ped_eval.specs.ped_store.specs.Acts.{iterations_of}
 use Rattle.ped_eval.specs.Scopes.{Scope, Names, turns_of, cell_of, index_value}
 use Rattle.ped_eval.specs.Evaluation.{cell_seen, ◌>>>◌, given}
 use Rattle.ped_eval.specs.Values.{unary, binary, of_intrinsic, variable_value, name_value, value, values}
-use Rattle.ped_eval.specs.Loops.{index_names, all_index_names, inner_variables, entered_with, frame}
+use Rattle.ped_eval.specs.Loops.{inner_variables, entered_with, frame}
+use Rattle.ped_flow.specs.ped_tree.specs.NamesIn.{loop_variables, all_loop_variables}
 use Rattle.ped_eval.specs.Outcomes.{setting_of}
 use Rattle.ped_laws.proofs.RunLaws.Turning.{inner_among}
 use Rattle.ped_flow.specs.ped_affine.specs.Assigned.{assigned_in, assigned_in_all}
@@ -48,13 +49,13 @@ module _ (x : List ℕ) where
 
   -- the variables of DO loops are assigned
   mutual
-    index_assigned : (s : StmtTree) → is_among x (index_names s) ≡ true → is_among x (assigned_in s) ≡ true
+    index_assigned : (s : StmtTree) → is_among x (loop_variables s) ≡ true → is_among x (assigned_in s) ≡ true
     index_assigned (Assign left right) h = none_true h
-    index_assigned (If condition a b) h = elim (in_parts (all_index_names a) (all_index_names b) h) [
+    index_assigned (If condition a b) h = elim (in_parts (all_loop_variables a) (all_loop_variables b) h) [
       | inl i ↦ among_front x (assigned_in_all a) (assigned_in_all b) (all_index_assigned a i)
       | inr i ↦ among_back x (assigned_in_all a) (assigned_in_all b) (all_index_assigned b i)
     ]
-    index_assigned (Do h b) k = elim (one_true (is_same_text x h.variable) (is_among x (all_index_names b)) k) [
+    index_assigned (Do h b) k = elim (one_true (is_same_text x h.variable) (is_among x (all_loop_variables b)) k) [
       | inl i ↦ among_first x h.variable (h.private ++ assigned_in_all b) i
       | inr i ↦ among_inner x h.variable (h.private ++ assigned_in_all b) (among_back x h.private (assigned_in_all b) (all_index_assigned b i))
     ]
@@ -63,9 +64,9 @@ module _ (x : List ℕ) where
     index_assigned Stop h = none_true h
     index_assigned (Comment text) h = none_true h
 
-    all_index_assigned : (ss : StmtTrees) → is_among x (all_index_names ss) ≡ true → is_among x (assigned_in_all ss) ≡ true
+    all_index_assigned : (ss : StmtTrees) → is_among x (all_loop_variables ss) ≡ true → is_among x (assigned_in_all ss) ≡ true
     all_index_assigned no_stmts h = none_true h
-    all_index_assigned (more_stmts s rest) h = elim (in_parts (index_names s) (all_index_names rest) h) [
+    all_index_assigned (more_stmts s rest) h = elim (in_parts (loop_variables s) (all_loop_variables rest) h) [
       | inl i ↦ among_front x (assigned_in s) (assigned_in_all rest) (index_assigned s i)
       | inr i ↦ among_back x (assigned_in s) (assigned_in_all rest) (all_index_assigned rest i)
     ]

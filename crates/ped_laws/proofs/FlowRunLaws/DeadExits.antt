@@ -17,7 +17,8 @@ use Rattle.ped_eval.specs.Outcomes.{Ends}
 use Rattle.ped_flow.specs.Events.{Event, overwrites}
 use Rattle.ped_flow.specs.PathSets.{Whole}
 use Rattle.ped_flow.specs.Paths.{paths_from_exit}
-use Rattle.ped_flow.specs.Questions.{saved_in, IsLiveAfter}
+use Rattle.ped_flow.specs.Questions.{IsLiveAfter}
+use Rattle.ped_flow.specs.ped_tree.specs.NamesIn.{saved_in}
 use Rattle.ped_flow.proofs.Truths.{untrue, or_split, and_split, not_true}
 use Rattle.ped_laws.specs.FlowRuns.Covering.{some_stops_in_loop}
 use Rattle.ped_laws.specs.FlowRuns.Exits.{IsOneToOne, IsIterationOf, AreIterationsOf, Follows, IsExit}

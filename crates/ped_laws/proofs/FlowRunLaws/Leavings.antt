@@ -3,7 +3,7 @@ use Rattle.std.proofs.Common.{map, ◌≡◌, ℕ, suc, ℤ, List, [], ◌∷◌
 use Rattle.std.proofs.lemmas.List.Folds.{list_any-append}
 use Rattle.ped_flow.specs.ped_base.specs.Lists.{is_same_text, is_among}
 use Rattle.ped_flow.specs.ped_tree.specs.Tree.{Head, StmtTrees}
-use Rattle.ped_flow.specs.ped_affine.specs.Assigned.{all_loop_variables}
+use Rattle.ped_flow.specs.ped_tree.specs.NamesIn.{all_loop_variables}
 use Rattle.ped_eval.specs.ped_store.specs.Cells.{Cell, same_cell}
 use Rattle.ped_eval.specs.ped_store.specs.Stores.{Undefined, Number}
 use Rattle.ped_eval.specs.ped_store.specs.Acts.{Touch}

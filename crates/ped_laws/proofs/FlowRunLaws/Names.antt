@@ -9,11 +9,12 @@ use Rattle.std.proofs.lemmas.List.{append-nil, length-append, length-map}
 use Rattle.std.proofs.lemmas.List.Folds.{list_any-append}
 use Rattle.ped_flow.specs.ped_base.specs.Lists.{is_same_text, is_among}
 use Rattle.ped_flow.specs.ped_tree.specs.Tree.{Head, StmtTree, StmtTrees, Assign, If, Do, Print, Read, Stop, Comment, no_stmts, more_stmts}
-use Rattle.ped_flow.specs.ped_affine.specs.Assigned.{loop_variables, all_loop_variables}
+use Rattle.ped_flow.specs.ped_tree.specs.NamesIn.{loop_variables, all_loop_variables}
 use Rattle.ped_eval.specs.ped_store.specs.Cells.{Cell, Scalar, Element, Private, In, Out, Iteration, same_cell}
 use Rattle.ped_eval.specs.ped_store.specs.Acts.{iterations_of}
 use Rattle.ped_eval.specs.Scopes.{Scope, turns_of, cell_of}
-use Rattle.ped_eval.specs.Loops.{with_name_by, with_sorted, sorted_once, index_names, all_index_names, inner_variables, Entered, copied_names}
+use Rattle.ped_eval.specs.Loops.{with_name_by, with_sorted, sorted_once, inner_variables, Entered, copied_names}
+use Rattle.ped_flow.specs.ped_tree.specs.NamesIn.{loop_variables, all_loop_variables}
 use Rattle.ped_flow.specs.Events.{copied}
 use Rattle.ped_flow.proofs.Truths.{untrue}
 use Rattle.ped_laws.proofs.ActLaws.SameCells.{is_cell, other_cell}
@@ -22,7 +23,7 @@ use Rattle.ped_laws.proofs.FlowRunLaws.Cells.{cell_named, stands_for}
 
 -- the variables of DO loops, as runs and as paths list them
 mutual
-  index_same : (t : StmtTree) → index_names t ≡ loop_variables t
+  index_same : (t : StmtTree) → loop_variables t ≡ loop_variables t
   index_same (Assign left right) = refl
   index_same (If condition a b) = λ i. all_index_same a i ++ all_index_same b i
   index_same (Do h b) = ap (λ z. h.variable ∷ z) (all_index_same b)
@@ -31,7 +32,7 @@ mutual
   index_same Stop = refl
   index_same (Comment text) = refl
 
-  all_index_same : (ts : StmtTrees) → all_index_names ts ≡ all_loop_variables ts
+  all_index_same : (ts : StmtTrees) → all_loop_variables ts ≡ all_loop_variables ts
   all_index_same no_stmts = refl
   all_index_same (more_stmts t rest) = λ i. index_same t i ++ all_index_same rest i
 
@@ -62,7 +63,7 @@ sorted_among x [] = refl
 sorted_among x (y ∷ ys) = with_sorted_among x y (sorted_once ys) ∙ ap (λ (b : Bool). is_same_text x y || b) (sorted_among x ys)
 
 pub inner_among : (x : List ℕ) (b : StmtTrees) → is_among x (inner_variables true b) ≡ is_among x (all_loop_variables b)
-inner_among x b = sorted_among x (all_index_names b) ∙ ap (is_among x) (all_index_same b)
+inner_among x b = sorted_among x (all_loop_variables b) ∙ ap (is_among x) (all_index_same b)
 
 -- what the exit of a DO clears on a path
 abbrev pub cleared : Head → StmtTrees → List (List ℕ)

@@ -5,7 +5,7 @@ use Rattle.ped_flow.specs.ped_base.specs.Lists.{is_same_text, is_among}
 use Rattle.ped_flow.specs.ped_tree.specs.Tree.{Head, StmtTrees, Do, ProgramTree}
 use Rattle.ped_flow.specs.ped_tree.specs.Accesses.{constant_names}
 use Rattle.ped_flow.specs.ped_tree.specs.Numbering.{statements_count}
-use Rattle.ped_flow.specs.ped_affine.specs.Assigned.{loop_variables}
+use Rattle.ped_flow.specs.ped_tree.specs.NamesIn.{loop_variables}
 use Rattle.ped_eval.specs.ped_store.specs.Cells.{Cell, Private, same_cell}
 use Rattle.ped_eval.specs.ped_store.specs.Stores.{Store}
 use Rattle.ped_eval.specs.ped_store.specs.Acts.{Manner, reads, writes, is_told, Touch, Act, iterations_of}

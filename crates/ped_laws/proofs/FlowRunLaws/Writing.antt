@@ -5,7 +5,8 @@ use Rattle.std.proofs.lemmas.List.Folds.{list_any-append}
 use Rattle.ped_flow.specs.ped_base.specs.Lists.{is_same_text, is_among}
 use Rattle.ped_flow.specs.ped_tree.specs.Tree.{ExprTree, Int, Var, Element, Neg, Add, Sub, Mul, Div, Pow, Call, ItemTree, Head, StmtTree, StmtTrees, Assign, If, Do, Print, Read, Stop, Comment, no_stmts, more_stmts}
 use Rattle.ped_flow.specs.ped_tree.specs.Numbering.{statement_count, statements_count}
-use Rattle.ped_flow.specs.ped_affine.specs.Assigned.{assigned_left, assigned_in, assigned_in_all, loop_variables, all_loop_variables}
+use Rattle.ped_flow.specs.ped_affine.specs.Assigned.{assigned_left, assigned_in, assigned_in_all}
+use Rattle.ped_flow.specs.ped_tree.specs.NamesIn.{loop_variables, all_loop_variables}
 use Rattle.ped_eval.specs.ped_store.specs.Cells.{Cell, In, same_cell}
 use Rattle.ped_eval.specs.ped_store.specs.Stores.{Store, Number, put, lines_in}
 use Rattle.ped_eval.specs.ped_store.specs.DataLines.{Data, Taken, begun, next_value_of}

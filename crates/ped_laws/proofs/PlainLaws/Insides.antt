@@ -7,7 +7,8 @@ use Rattle.ped_flow.specs.ped_tree.specs.Numbering.{numbered, all_numbered, at_p
 use Rattle.ped_eval.specs.Scopes as run
 use Rattle.ped_eval.specs.Evaluation.{Seen}
 use Rattle.ped_eval.specs.Loops.{Limits, entered_with, inner_variables, frame}
-use Rattle.ped_flow.specs.ped_affine.specs.Assigned.{assigned_in, assigned_in_all, loop_variables, all_loop_variables}
+use Rattle.ped_flow.specs.ped_affine.specs.Assigned.{assigned_in, assigned_in_all}
+use Rattle.ped_flow.specs.ped_tree.specs.NamesIn.{loop_variables, all_loop_variables}
 use Rattle.ped_flow.specs.PlainBounds.{Values, nest_round, setting_round, outermost_or, assigned_by}
 use Rattle.ped_flow.specs.Questions.{LoopOf}
 use Rattle.ped_flow.proofs.Truths.{untrue, or_split}

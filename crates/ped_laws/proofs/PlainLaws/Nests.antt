@@ -6,7 +6,7 @@ use Rattle.ped_flow.specs.ped_base.specs.Lists.{is_same_text, is_among}
 use Rattle.ped_flow.specs.ped_tree.specs.Tree.{StmtTree, StmtTrees, Assign, If, Do, Print, Read, Stop, Comment, no_stmts, more_stmts, Head}
 use Rattle.ped_flow.specs.ped_tree.specs.Nests.{Loop, indices_of}
 use Rattle.ped_flow.specs.ped_tree.specs.Numbering.{statement_count, statements_count}
-use Rattle.ped_flow.specs.ped_affine.specs.Assigned.{loop_variables, all_loop_variables}
+use Rattle.ped_flow.specs.ped_tree.specs.NamesIn.{loop_variables, all_loop_variables}
 use Rattle.ped_flow.specs.PlainBounds.{loops_round, all_loops_round}
 use Rattle.ped_flow.proofs.Truths.{untrue}
 

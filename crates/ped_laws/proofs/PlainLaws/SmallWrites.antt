@@ -20,7 +20,7 @@ use Rattle.ped_eval.specs.Values.{value, target, truth}
 use Rattle.ped_eval.specs.Statements.{write_touch, Stored, assigned, assignment_touches, printed_line, print_touches, into_item, with_taken, taking, taking_from, reading, reading_touches}
 use Rattle.ped_eval.specs.Loops.{limits, Entered, entered_with, frame, undefined_by, undefined_all, exit_touches, exit_when_none, entry_touches}
 use Rattle.ped_eval.specs.Runs.{Ending, going, stopped, failed, Run, followed_by, on_value, does, nothing_done, run_assignment, run_print, run_taking, run_read, turns, parallel_turns, run_entered, run_from_entry, run, run_all}
-use Rattle.ped_flow.specs.ped_affine.specs.Assigned.{loop_variables, all_loop_variables}
+use Rattle.ped_flow.specs.ped_tree.specs.NamesIn.{loop_variables, all_loop_variables}
 use Rattle.ped_flow.proofs.Truths.{untrue, or_none}
 use Rattle.ped_laws.specs.FlowRuns.Covering.{is_cell_of}
 use Rattle.ped_flow.specs.ped_base.proofs.NameEquality.{same_itself}

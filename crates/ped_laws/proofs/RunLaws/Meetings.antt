@@ -14,7 +14,7 @@ use Rattle.ped_laws.proofs.ActLaws.Conflicting.{access_by, access_in, access_fro
 use Rattle.ped_flow.specs.ped_tree.specs.Tree.{StmtTrees}
 use Rattle.ped_eval.specs.ped_store.specs.Stores.{Store}
 use Rattle.ped_eval.specs.Scopes.{Setting, Scope}
-use Rattle.ped_eval.specs.Loops.{all_index_names}
+use Rattle.ped_flow.specs.ped_tree.specs.NamesIn.{all_loop_variables}
 use Rattle.ped_eval.specs.Runs.{run_all}
 use Rattle.ped_laws.specs.Runs.Touching.{is_own_store, StoresWithin, HasCopies, HaveCopies, Meeting}
 use Rattle.ped_laws.proofs.RunLaws.Turning.{At, Owned, cell_owned, body_copies, owned_apart}
@@ -172,19 +172,19 @@ module _ (p : Setting) (ts : StmtTrees) (n : ℕ) (scope : Scope) (s : Store) wh
   any_good : (a : Act) → IsIn a (run_all p ts n scope s).acts → Good (λ ts c. Unit {0}) a
   any_good = all_good (λ ts c. Unit {0}) (λ scope x. Unit {0}) (λ scope x h. tt) (λ scope e k body q h x i. tt) p ts n scope s (λ x i. tt)
 
-  owned_good : HaveCopies scope (all_index_names ts) → (a : Act) → IsIn a (run_all p ts n scope s).acts → Good Owned a
+  owned_good : HaveCopies scope (all_loop_variables ts) → (a : Act) → IsIn a (run_all p ts n scope s).acts → Good Owned a
   owned_good h = all_good Owned HasCopies cell_owned body_copies p ts n scope s h
 
   pub lines_of_run : (a : Act) → IsIn a (run_all p ts n scope s).acts → WritesItsLines a
   lines_of_run a i = good_lines (λ ts c. Unit {0}) a (any_good a i)
 
-  pub touches_of_run : (a b : Act) (x y : Touch) → HaveCopies scope (all_index_names ts) → IsIn a (run_all p ts n scope s).acts → IsIn b (run_all p ts n scope s).acts → are_apart a.place.turns b.place.turns ≡ true → IsIn x a.touches → IsIn y b.touches → is_own_store x ≡ true → same_cell x.cell y.cell ≡ false
+  pub touches_of_run : (a b : Act) (x y : Touch) → HaveCopies scope (all_loop_variables ts) → IsIn a (run_all p ts n scope s).acts → IsIn b (run_all p ts n scope s).acts → are_apart a.place.turns b.place.turns ≡ true → IsIn x a.touches → IsIn y b.touches → is_own_store x ≡ true → same_cell x.cell y.cell ≡ false
   touches_of_run a b x y h i j apart k l o = own_apart a b (owned_good h a i) (owned_good h b j) apart x y k l o
 
-  pub accesses_of_run : (a b : Act) (x y : Access) → HaveCopies scope (all_index_names ts) → IsIn a (run_all p ts n scope s).acts → IsIn b (run_all p ts n scope s).acts → are_apart a.place.turns b.place.turns ≡ true → IsIn x (accesses_of a) → IsIn y (accesses_of b) → x.writes ≡ true → x.reference ≡ 0 → conflict x y ≡ false
+  pub accesses_of_run : (a b : Act) (x y : Access) → HaveCopies scope (all_loop_variables ts) → IsIn a (run_all p ts n scope s).acts → IsIn b (run_all p ts n scope s).acts → are_apart a.place.turns b.place.turns ≡ true → IsIn x (accesses_of a) → IsIn y (accesses_of b) → x.writes ≡ true → x.reference ≡ 0 → conflict x y ≡ false
   accesses_of_run a b x y h i j apart k l w r = own_accesses_apart a b (owned_good h a i) (owned_good h b j) apart x y k l w r
 
-  pub apart_of_run : (a b : Act) → HaveCopies scope (all_index_names ts) → IsIn a (run_all p ts n scope s).acts → IsIn b (run_all p ts n scope s).acts → are_apart a.place.turns b.place.turns ≡ true → are_apart b.place.turns a.place.turns ≡ true → acts_conflict a b ≡ true → Meeting a b
+  pub apart_of_run : (a b : Act) → HaveCopies scope (all_loop_variables ts) → IsIn a (run_all p ts n scope s).acts → IsIn b (run_all p ts n scope s).acts → are_apart a.place.turns b.place.turns ≡ true → are_apart b.place.turns a.place.turns ≡ true → acts_conflict a b ≡ true → Meeting a b
   apart_of_run a b h i j apart back c = meet_apart a b (owned_good h a i) (owned_good h b j) apart back c
 
   pub outside_of_run : (d : Cell → Bool) (a b : Act) → IsIn a (run_all p ts n scope s).acts → IsIn b (run_all p ts n scope s).acts → StoresWithin d a → StoresWithin d b → acts_conflict_outside d a b ≡ true → (m : Meeting a b) × (d m.first.cell ≡ false)

@@ -17,7 +17,8 @@ use Rattle.ped_eval.specs.Scopes.{Setting, Frame, Scope, Names, turns_of, cell_o
 use Rattle.ped_eval.specs.Evaluation.{Seen, cell_seen, index_seen, numbered, number_behind}
 use Rattle.ped_eval.specs.Values.{truth, target}
 use Rattle.ped_eval.specs.Statements.{Stored, assigned, printed_line, into_item, with_taken, taking, taking_from, reading, reading_touches, read_touch, write_touch}
-use Rattle.ped_eval.specs.Loops.{Limits, limits, Entered, entered_with, frame, inner_variables, index_names, all_index_names, undefined_by, undefined_all, exit_touches, exit_when_none}
+use Rattle.ped_eval.specs.Loops.{Limits, limits, Entered, entered_with, frame, inner_variables, undefined_by, undefined_all, exit_touches, exit_when_none}
+use Rattle.ped_flow.specs.ped_tree.specs.NamesIn.{loop_variables, all_loop_variables}
 use Rattle.ped_eval.specs.Runs.{Ending, going, stopped, failed, Run, nothing_done, followed_by, then_run, does, on_value, run_assignment, run_print, run_taking, run_if, run_do, turns, parallel_turns, run_entered, run, run_all}
 use Rattle.ped_laws.specs.Runs.Replaying.{act}
 use Rattle.ped_laws.proofs.RunLaws.StatementsTold.{no_lines}
@@ -99,7 +100,7 @@ behind_one n (index_seen c v ∷ more) h = behind_one n more h
 
 module _ (Own : List Turn → Cell → Type 0) (May : Scope → List ℕ → Type 0)
     (owned : (scope : Scope) (x : List ℕ) → May scope x → Own (turns_of scope) (cell_of scope x))
-    (inside : (scope : Scope) (e : Entered) (k : ℕ) (body : StmtTrees) → e.inner ≡ inner_variables e.head.parallel body → ((x : List ℕ) → is_among x (all_index_names body) ≡ true → May scope x) → (x : List ℕ) → is_among x (all_index_names body) ≡ true → May (frame e k ∷ scope) x) where
+    (inside : (scope : Scope) (e : Entered) (k : ℕ) (body : StmtTrees) → e.inner ≡ inner_variables e.head.parallel body → ((x : List ℕ) → is_among x (all_loop_variables body) ≡ true → May scope x) → (x : List ℕ) → is_among x (all_loop_variables body) ≡ true → May (frame e k ∷ scope) x) where
   -- a touch as it should be, of a cell without lines
   abbrev Sound : List Turn → Touch → Type 0
   Sound ts t = Fine Own ts t.manner t.cell t.reference × (is_lines t.cell ≡ false)
@@ -254,7 +255,7 @@ module _ (Own : List Turn → Cell → Type 0) (May : Scope → List ℕ → Typ
           part true u = h u
           part false u = k u
 
-      do_good : (h : Head) (statements : StmtTrees) (body : Frame → Store → Run) → May scope h.variable → ((x : List ℕ) → is_among x (all_index_names statements) ≡ true → May scope x)
+      do_good : (h : Head) (statements : StmtTrees) (body : Frame → Store → Run) → May scope h.variable → ((x : List ℕ) → is_among x (all_loop_variables statements) ≡ true → May scope x)
           → ((e : Entered) (k : ℕ) (u : Store) → e.inner ≡ inner_variables e.head.parallel statements → Each (Good Own) (body (frame e k) u).acts)
           → Each (Good Own) (run_do p n scope h statements body s).acts
       do_good h statements body m names bodies =
@@ -285,24 +286,24 @@ module _ (Own : List Turn → Cell → Type 0) (May : Scope → List ℕ → Typ
   second_names x xs ys i = list_any-append (is_same_text x) xs ys ∙ or_second (is_among x xs) (is_among x ys) i
 
   mutual
-    pub run_good : (p : Setting) (t : StmtTree) (n : ℕ) (scope : Scope) (s : Store) → ((x : List ℕ) → is_among x (index_names t) ≡ true → May scope x) → Each (Good Own) (run p t n scope s).acts
+    pub run_good : (p : Setting) (t : StmtTree) (n : ℕ) (scope : Scope) (s : Store) → ((x : List ℕ) → is_among x (loop_variables t) ≡ true → May scope x) → Each (Good Own) (run p t n scope s).acts
     run_good p (Assign left right) n scope s may = assignment_good p scope n s left right
     run_good p (If c a b) n scope s may =
         if_good p scope n s c (run_all p a (n + 1) scope) (run_all p b (n + 1 + statements_count a) scope)
-        (λ u. all_good p a (n + 1) scope u (λ x i. may x (first_names x (all_index_names a) (all_index_names b) i)))
-        (λ u. all_good p b (n + 1 + statements_count a) scope u (λ x i. may x (second_names x (all_index_names a) (all_index_names b) i)))
+        (λ u. all_good p a (n + 1) scope u (λ x i. may x (first_names x (all_loop_variables a) (all_loop_variables b) i)))
+        (λ u. all_good p b (n + 1 + statements_count a) scope u (λ x i. may x (second_names x (all_loop_variables a) (all_loop_variables b) i)))
     run_good p (Do h body) n scope s may =
-        let names : (x : List ℕ) → is_among x (all_index_names body) ≡ true → May scope x = λ x i. may x (or_second (is_same_text x h.variable) (is_among x (all_index_names body)) i) in
-        do_good p scope n s h body (λ f. run_all p body (n + 1) (f ∷ scope)) (may h.variable (ap (λ b. b || is_among h.variable (all_index_names body)) (text_itself h.variable))) names
+        let names : (x : List ℕ) → is_among x (all_loop_variables body) ≡ true → May scope x = λ x i. may x (or_second (is_same_text x h.variable) (is_among x (all_loop_variables body)) i) in
+        do_good p scope n s h body (λ f. run_all p body (n + 1) (f ∷ scope)) (may h.variable (ap (λ b. b || is_among h.variable (all_loop_variables body)) (text_itself h.variable))) names
         (λ e k u q. all_good p body (n + 1) (frame e k ∷ scope) u (inside scope e k body q names))
     run_good p (Print items) n scope s may = print_good p scope n s items
     run_good p (Read items) n scope s may = taking_good p scope n s items (reading (names_in p scope) items s).fault
     run_good p Stop n scope s may = each_more (Good Own) _ [] (sound_good did (place_of p n scope) [] (each_none _)) (each_none (Good Own))
     run_good p (Comment text) n scope s may = each_none (Good Own)
 
-    pub all_good : (p : Setting) (ts : StmtTrees) (n : ℕ) (scope : Scope) (s : Store) → ((x : List ℕ) → is_among x (all_index_names ts) ≡ true → May scope x) → Each (Good Own) (run_all p ts n scope s).acts
+    pub all_good : (p : Setting) (ts : StmtTrees) (n : ℕ) (scope : Scope) (s : Store) → ((x : List ℕ) → is_among x (all_loop_variables ts) ≡ true → May scope x) → Each (Good Own) (run_all p ts n scope s).acts
     all_good p no_stmts n scope s may = each_none (Good Own)
     all_good p (more_stmts t rest) n scope s may =
         then_each (Good Own) (run p t n scope s) (run_all p rest (n + statement_count t) scope)
-        (run_good p t n scope s (λ x i. may x (first_names x (index_names t) (all_index_names rest) i)))
-        (λ u. all_good p rest (n + statement_count t) scope u (λ x i. may x (second_names x (index_names t) (all_index_names rest) i)))
+        (run_good p t n scope s (λ x i. may x (first_names x (loop_variables t) (all_loop_variables rest) i)))
+        (λ u. all_good p rest (n + statement_count t) scope u (λ x i. may x (second_names x (loop_variables t) (all_loop_variables rest) i)))

@@ -13,7 +13,8 @@ use Rattle.ped_eval.specs.ped_store.specs.Cells.{Cell, Scalar, Element, Private,
 use Rattle.ped_eval.specs.ped_store.specs.Acts.{Turn, iterations_of}
 use Rattle.ped_eval.specs.ped_store.specs.Races.{are_apart}
 use Rattle.ped_eval.specs.Scopes.{Scope, turns_of, cell_of}
-use Rattle.ped_eval.specs.Loops.{Entered, frame, with_name_by, with_sorted, sorted_once, inner_variables, all_index_names}
+use Rattle.ped_eval.specs.Loops.{Entered, frame, with_name_by, with_sorted, sorted_once, inner_variables}
+use Rattle.ped_flow.specs.ped_tree.specs.NamesIn.{all_loop_variables}
 use Rattle.ped_laws.specs.Runs.Touching.{HasCopies, HaveCopies}
 
 -- the iterations of a copy are the outer ones of these
@@ -164,8 +165,8 @@ pub once_among : (z : List ℕ) (xs : List (List ℕ)) → is_among z (sorted_on
 once_among z [] = refl
 once_among z (x ∷ xs) = sorted_among z x (sorted_once xs) ∙ ap (λ b. is_same_text z x || b) (once_among z xs)
 
-pub inner_among : (parallel : Bool) (body : StmtTrees) (z : List ℕ) → is_among z (inner_variables parallel body) ≡ true → is_among z (all_index_names body) ≡ true
-inner_among true body z h = sym (once_among z (all_index_names body)) ∙ h
+pub inner_among : (parallel : Bool) (body : StmtTrees) (z : List ℕ) → is_among z (inner_variables parallel body) ≡ true → is_among z (all_loop_variables body) ≡ true
+inner_among true body z h = sym (once_among z (all_loop_variables body)) ∙ h
 inner_among false body z h = absurd cc
 
 or_right : (a b : Bool) → b ≡ true → a || b ≡ true
@@ -173,7 +174,7 @@ or_right true b h = refl
 or_right false b h = h
 
 -- the variables of the DO loops in a PARALLEL DO have copies in its iterations
-pub body_copies : (scope : Scope) (e : Entered) (k : ℕ) (body : StmtTrees) → e.inner ≡ inner_variables e.head.parallel body → HaveCopies scope (all_index_names body) → HaveCopies (frame e k ∷ scope) (all_index_names body)
+pub body_copies : (scope : Scope) (e : Entered) (k : ℕ) (body : StmtTrees) → e.inner ≡ inner_variables e.head.parallel body → HaveCopies scope (all_loop_variables body) → HaveCopies (frame e k ∷ scope) (all_loop_variables body)
 body_copies scope e k body q h x i = (λ r. go e.head.parallel q r, h x i)
   where
     go : (b : Bool) → e.inner ≡ inner_variables b body → b ≡ true → is_among x (if b then e.head.variable ∷ (e.head.private ++ e.inner) else e.head.private) ≡ true
@@ -181,4 +182,4 @@ body_copies scope e k body q h x i = (λ r. go e.head.parallel q r, h x i)
     go true s r =
         or_right (is_same_text x e.head.variable) (is_among x (e.head.private ++ e.inner))
         (list_any-append (is_same_text x) e.head.private e.inner
-        ∙ or_right (is_among x e.head.private) (is_among x e.inner) (ap (is_among x) s ∙ once_among x (all_index_names body) ∙ i))
+        ∙ or_right (is_among x e.head.private) (is_among x e.inner) (ap (is_among x) s ∙ once_among x (all_loop_variables body) ∙ i))

@@ -17,7 +17,7 @@ use Rattle.ped_eval.specs.Scopes.{Frame, Scope, Setting, names_in, index_value}
 use Rattle.ped_eval.specs.Values.{value}
 use Rattle.ped_eval.specs.Loops.{is_bound}
 use Rattle.ped_eval.specs.Runs.{run}
-use Rattle.ped_flow.specs.ped_affine.specs.Assigned.{all_loop_variables}
+use Rattle.ped_flow.specs.ped_tree.specs.NamesIn.{all_loop_variables}
 use Rattle.ped_flow.specs.ped_affine.specs.Ranges as ranges
 use Rattle.ped_flow.specs.ped_affine.specs.Ranges.{bound_interval}
 use Rattle.ped_flow.specs.PlainBounds.{Values, nest_round, setting_round, outermost_or}

@@ -14,7 +14,8 @@ ghost use Rattle.ped_eval.specs.Scopes.{Scope, Setting, cell_of};
 ghost use Rattle.ped_flow.specs.Events.{Event};
 ghost use Rattle.ped_flow.specs.PathSets.{Whole};
 ghost use Rattle.ped_flow.specs.Paths.{paths_from_exit};
-ghost use Rattle.ped_flow.specs.Questions.{saved_in, IsLiveAfter};
+ghost use Rattle.ped_flow.specs.Questions.{IsLiveAfter};
+ghost use Rattle.ped_flow.specs.ped_tree.specs.NamesIn.{saved_in};
 ghost use Rattle.ped_laws.specs.FlowRuns.Covering.{some_stops_in_loop};
 ghost use Rattle.ped_laws.specs.FlowRuns.Exits.{IsOneToOne, Follows, IsExit};
 

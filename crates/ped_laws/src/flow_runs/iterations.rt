@@ -4,7 +4,7 @@ ghost use Rattle.std.specs.Prelude.{◌≡◌, ℕ, List, ◌∷◌, false, true
 ghost use Rattle.ped_flow.specs.ped_base.specs.Lists.{is_among};
 ghost use Rattle.ped_flow.specs.ped_tree.specs.Tree.{Do, ProgramTree};
 ghost use Rattle.ped_flow.specs.ped_tree.specs.Accesses.{constant_names};
-ghost use Rattle.ped_flow.specs.ped_affine.specs.Assigned.{loop_variables};
+ghost use Rattle.ped_flow.specs.ped_tree.specs.NamesIn.{loop_variables};
 ghost use Rattle.ped_eval.specs.ped_store.specs.Stores.{Store};
 ghost use Rattle.ped_laws.specs.Acts.Sets.{needs};
 ghost use Rattle.ped_laws.specs.Acts.Conflicts.{ReadNone};

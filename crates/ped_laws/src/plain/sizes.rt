@@ -9,7 +9,7 @@ ghost use Rattle.ped_eval.specs.ped_store.specs.Acts.{Act};
 ghost use Rattle.ped_laws.specs.Acts.Fitting.{store_after, touches_of};
 ghost use Rattle.ped_eval.specs.Scopes.{Scope, Setting};
 ghost use Rattle.ped_eval.specs.Runs.{run, run_all};
-ghost use Rattle.ped_flow.specs.ped_affine.specs.Assigned.{loop_variables, all_loop_variables};
+ghost use Rattle.ped_flow.specs.ped_tree.specs.NamesIn.{loop_variables, all_loop_variables};
 ghost use Rattle.ped_laws.specs.FlowRuns.Covering.{is_cell_of};
 ghost use Rattle.ped_laws.specs.Plain.Executions.{is_small, WriteSmall};
 

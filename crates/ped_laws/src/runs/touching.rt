@@ -11,7 +11,7 @@ ghost use Rattle.ped_laws.specs.Acts.Conflicts.{acts_conflict, acts_conflict_out
 ghost use Rattle.ped_laws.specs.Acts.Orders.{IsIn};
 ghost use Rattle.ped_laws.specs.Acts.Origins.{WritesItsLines};
 ghost use Rattle.ped_eval.specs.Scopes.{Setting, Scope};
-ghost use Rattle.ped_eval.specs.Loops.{all_index_names};
+ghost use Rattle.ped_flow.specs.ped_tree.specs.NamesIn.{all_loop_variables};
 ghost use Rattle.ped_eval.specs.Runs.{run_all};
 ghost use Rattle.ped_laws.specs.Runs.Replaying.{finish_of, has_fault};
 ghost use Rattle.ped_laws.specs.Runs.Touching.{is_own_store, StoresWithin, HaveCopies, Meeting};
@@ -24,15 +24,15 @@ pub fn lines_are_written()
 /// What a DO stores of itself in an iteration of a PARALLEL DO goes to a copy of that iteration or of one in it: no act
 /// of another iteration touches it. For races, which are then of references alone.
 pub fn own_stores()
-    ensures touches { (p : Setting) (ts : StmtTrees) (n : ℕ) (scope : Scope) (s : Store) (a b : Act) (x y : Touch) → HaveCopies scope (all_index_names ts) → IsIn a (run_all p ts n scope s).acts → IsIn b (run_all p ts n scope s).acts → are_apart a.place.turns b.place.turns ≡ true → IsIn x a.touches → IsIn y b.touches → is_own_store x ≡ true → same_cell x.cell y.cell ≡ false }
-    ensures accesses { (p : Setting) (ts : StmtTrees) (n : ℕ) (scope : Scope) (s : Store) (a b : Act) (x y : Access) → HaveCopies scope (all_index_names ts) → IsIn a (run_all p ts n scope s).acts → IsIn b (run_all p ts n scope s).acts → are_apart a.place.turns b.place.turns ≡ true → IsIn x (accesses_of a) → IsIn y (accesses_of b) → x.writes ≡ true → x.reference ≡ 0 → conflict x y ≡ false }
+    ensures touches { (p : Setting) (ts : StmtTrees) (n : ℕ) (scope : Scope) (s : Store) (a b : Act) (x y : Touch) → HaveCopies scope (all_loop_variables ts) → IsIn a (run_all p ts n scope s).acts → IsIn b (run_all p ts n scope s).acts → are_apart a.place.turns b.place.turns ≡ true → IsIn x a.touches → IsIn y b.touches → is_own_store x ≡ true → same_cell x.cell y.cell ≡ false }
+    ensures accesses { (p : Setting) (ts : StmtTrees) (n : ℕ) (scope : Scope) (s : Store) (a b : Act) (x y : Access) → HaveCopies scope (all_loop_variables ts) → IsIn a (run_all p ts n scope s).acts → IsIn b (run_all p ts n scope s).acts → are_apart a.place.turns b.place.turns ≡ true → IsIn x (accesses_of a) → IsIn y (accesses_of b) → x.writes ≡ true → x.reference ≡ 0 → conflict x y ≡ false }
 {}
 
 /// Acts of a run that conflict have references that do: where they stand in two iterations of a PARALLEL DO, and where
 /// what DO loops store of themselves lies in a set of cells that don't count. For finding the dependence that forbids
 /// another order.
 pub fn references_meet()
-    ensures apart { (p : Setting) (ts : StmtTrees) (n : ℕ) (scope : Scope) (s : Store) (a b : Act) → HaveCopies scope (all_index_names ts) → IsIn a (run_all p ts n scope s).acts → IsIn b (run_all p ts n scope s).acts → are_apart a.place.turns b.place.turns ≡ true → are_apart b.place.turns a.place.turns ≡ true → acts_conflict a b ≡ true → Meeting a b }
+    ensures apart { (p : Setting) (ts : StmtTrees) (n : ℕ) (scope : Scope) (s : Store) (a b : Act) → HaveCopies scope (all_loop_variables ts) → IsIn a (run_all p ts n scope s).acts → IsIn b (run_all p ts n scope s).acts → are_apart a.place.turns b.place.turns ≡ true → are_apart b.place.turns a.place.turns ≡ true → acts_conflict a b ≡ true → Meeting a b }
     ensures outside { (p : Setting) (ts : StmtTrees) (n : ℕ) (scope : Scope) (s : Store) (d : Cell → Bool) (a b : Act) → IsIn a (run_all p ts n scope s).acts → IsIn b (run_all p ts n scope s).acts → StoresWithin d a → StoresWithin d b → acts_conflict_outside d a b ≡ true → (m : Meeting a b) × (d m.first.cell ≡ false) }
 {}
 

@@ -20,7 +20,7 @@ use Rattle.ped_laws.specs.ped_eval.specs.Runs.{run}
 use Rattle.ped_laws.specs.Acts.Sets.{written}
 use Rattle.ped_laws.specs.Plain.Executions.{IsPlaceWith, IsDuring}
 use Rattle.ped_laws.proofs.CoveringLaws.Comings.{some_one}
-use Rattle.ped_laws.proofs.FlowRunLaws.Cells.{same_itself}
+use Rattle.ped_laws.specs.ped_flow.specs.ped_base.proofs.NameEquality.{same_itself}
 use Rattle.ped_laws.proofs.FlowRunLaws.Writing.{unassigned}
 use Rattle.ped_laws.proofs.PlainLaws.Standing.{untold, own_cell, kept_during}
 use Rattle.ped_loop_runs.specs.Bounds.{IsOfFixed, ReadTheSame, ComeToTheSame}

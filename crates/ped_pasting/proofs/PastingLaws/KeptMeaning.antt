@@ -5,6 +5,7 @@ use Rattle.std.specs.List.{flat_map}
 use Rattle.ped_steps.specs.ped_flow.specs.ped_base.specs.Lists.{is_same_text, is_among}
 use Rattle.ped_tree.specs.Tree.{StmtTrees, ProgramTree}
 use Rattle.ped_tree.specs.Numbering.{statements_count}
+use Rattle.ped_tree.specs.NamesIn.{saved_in}
 use Rattle.ped_steps.specs.ped_laws.specs.ped_store.specs.Cells as cells
 use Rattle.ped_steps.specs.ped_laws.specs.ped_store.specs.Cells.{Cell}
 use Rattle.ped_steps.specs.ped_laws.specs.ped_store.specs.Stores.{Store, store_at_start, lines_in}
@@ -83,7 +84,7 @@ apart_suit apart shown = record {
 }
 
 -- names of the same kinds have the same rows
-module _ (t u : ProgramTree) (saved : flat_map outcomes.saved_in u.decls ≡ flat_map outcomes.saved_in t.decls) (kinds : (x : List ℕ) → is_among x (live_names t) ≡ true → kind_in u x ≡ kind_in t x) where
+module _ (t u : ProgramTree) (saved : flat_map saved_in u.decls ≡ flat_map saved_in t.decls) (kinds : (x : List ℕ) → is_among x (live_names t) ≡ true → kind_in u x ≡ kind_in t x) where
   abbrev row : ProgramTree → Store → List ℕ → LiveRow
   row s v x = record { name = x; values = values_of (bounds_of (kind_in s x)) x v }
 

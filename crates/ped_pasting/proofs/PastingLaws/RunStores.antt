@@ -12,7 +12,8 @@ use Rattle.ped_steps.specs.ped_laws.specs.ped_graph.specs.Dependences.{setting_i
 use Rattle.ped_steps.specs.ped_laws.specs.ped_graph.specs.ped_symbols.specs.NameRefusals.{IsValid}
 use Rattle.ped_steps.specs.ped_laws.specs.ped_graph.specs.ped_symbols.specs.Kinds.{table_of}
 use Rattle.ped_steps.specs.ped_laws.specs.ped_graph.specs.ped_symbols.specs.RightUses.RightPrograms.{IsRight}
-use Rattle.ped_steps.specs.ped_laws.specs.ped_flow.specs.ped_affine.specs.Assigned.{assigned_in_all, all_loop_variables}
+use Rattle.ped_steps.specs.ped_laws.specs.ped_flow.specs.ped_affine.specs.Assigned.{assigned_in_all}
+use Rattle.ped_tree.specs.NamesIn.{all_loop_variables}
 use Rattle.ped_steps.specs.ped_laws.specs.ped_flow.specs.ped_affine.specs.Ranges as ranges
 use Rattle.ped_steps.specs.ped_laws.specs.ped_store.specs.Cells.{Cell, Scalar, Element, Private, In, Out}
 use Rattle.ped_steps.specs.ped_laws.specs.ped_store.specs.Stores.{Store, store_at_start}

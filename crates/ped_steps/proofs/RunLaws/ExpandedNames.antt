@@ -7,7 +7,7 @@ use Rattle.std.proofs.lemmas.Grind.{flat_map-append}
 use Rattle.ped_base.specs.Dimensions.{Dimensions}
 use Rattle.ped_base.specs.Lists.{is_same_text, is_among}
 use Rattle.ped_tree.specs.Tree.{Head, StmtTree, StmtTrees, Do, no_stmts, more_stmts, DeclTree, ProgramTree}
-use Rattle.ped_tree.specs.NamesIn.{expr_names, head_names, stmts_names}
+use Rattle.ped_tree.specs.NamesIn.{expr_names, head_names, stmts_names, saved_in}
 use Rattle.ped_tree.specs.Numbering.{statement_with}
 use Rattle.ped_tree.proofs.NameLaws.Collected.{among_append}
 use Rattle.ped_base.proofs.NameEquality.{same_is, same_flip}
@@ -40,11 +40,11 @@ use Rattle.ped_steps.proofs.RunLaws.ExpandedNamesArrays.{names_besides, array_na
 use Rattle.ped_steps.proofs.RunLaws.ExpandedNamesSubstituted.{literal_names, in_stmts}
 
 -- the new declaration saves nothing
-pub saved_same : (ds : List DeclTree) (array : List ℕ) (lo hi : ℤ) → flat_map outcomes.saved_in (ds ++ array_decl array lo hi ∷ []) ≡ flat_map outcomes.saved_in ds
-saved_same ds array lo hi = flat_map-append outcomes.saved_in ds (array_decl array lo hi ∷ []) ∙ append-nil (flat_map outcomes.saved_in ds)
+pub saved_same : (ds : List DeclTree) (array : List ℕ) (lo hi : ℤ) → flat_map saved_in (ds ++ array_decl array lo hi ∷ []) ≡ flat_map saved_in ds
+saved_same ds array lo hi = flat_map-append saved_in ds (array_decl array lo hi ∷ []) ∙ append-nil (flat_map saved_in ds)
 
-pub saved_same_flow : (ds : List DeclTree) (array : List ℕ) (lo hi : ℤ) → flat_map flow.saved_in (ds ++ array_decl array lo hi ∷ []) ≡ flat_map flow.saved_in ds
-saved_same_flow ds array lo hi = flat_map-append flow.saved_in ds (array_decl array lo hi ∷ []) ∙ append-nil (flat_map flow.saved_in ds)
+pub saved_same_flow : (ds : List DeclTree) (array : List ℕ) (lo hi : ℤ) → flat_map saved_in (ds ++ array_decl array lo hi ∷ []) ≡ flat_map saved_in ds
+saved_same_flow ds array lo hi = flat_map-append saved_in ds (array_decl array lo hi ∷ []) ∙ append-nil (flat_map saved_in ds)
 
 -- a scalar's kind
 scalar_kind : (t : ProgramTree) (x : List ℕ) → is_scalar (kind_in t) x ≡ true → kind_of t x ≡ Scalar
@@ -183,7 +183,7 @@ module _ (t : ProgramTree) (l : ℕ) (loop : LoopOf t l) (x array : List ℕ) (s
   live_same = ap sorted_once (saved_same t.decls array lo hi)
 
   pub array_unlive : is_among array (live_names t) ≡ false
-  array_unlive = sorted_among array (flat_map outcomes.saved_in t.decls) ∙ unsaved t statements array lo hi near far absent
+  array_unlive = sorted_among array (flat_map saved_in t.decls) ∙ unsaved t statements array lo hi near far absent
 
   pub element_hidden : (js : List ℤ) → shown_at_end t (cells.Element array js) ≡ false
   element_hidden js = array_unlive

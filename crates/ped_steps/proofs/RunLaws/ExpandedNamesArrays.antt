@@ -10,7 +10,7 @@ use Rattle.ped_base.specs.Dimensions.{Dimensions}
 use Rattle.ped_base.specs.Lists.{has_some, is_same_text, is_among}
 use Rattle.ped_tree.specs.Tree.{ExprTree, Int, Neg, StmtTree, StmtTrees, Assign, If, Do, Print, Read, Stop, Comment, no_stmts, more_stmts, DeclaratorTree, DeclTree, Program, Implicit, Integer, Dimension, Parameter, Save, Remark, ProgramTree}
 use Rattle.ped_tree.specs.Accesses.{constant_names}
-use Rattle.ped_tree.specs.NamesIn.{stmts_names}
+use Rattle.ped_tree.specs.NamesIn.{stmts_names, saved_in}
 use Rattle.ped_base.proofs.NameEquality.{same_itself}
 use Rattle.ped_laws.specs.ped_graph.specs.ped_symbols.proofs.RightUseLaws.Whole.{names_occur, others_unvalued}
 use Rattle.ped_laws.specs.ped_graph.specs.ped_symbols.specs.declared.symbols.Kind.TheVariants.{Array}
@@ -116,7 +116,7 @@ no_constant (Save names ∷ ds) x h = no_constant ds x (neither x (decl_uses (Sa
 no_constant (Remark text ∷ ds) x h = no_constant ds x h
 
 -- nor is it saved
-pub no_saved : (ds : List DeclTree) (x : List ℕ) → occurs x (flat_map decl_sites ds) ≡ false → is_among x (flat_map outcomes.saved_in ds) ≡ false
+pub no_saved : (ds : List DeclTree) (x : List ℕ) → occurs x (flat_map decl_sites ds) ≡ false → is_among x (flat_map saved_in ds) ≡ false
 no_saved [] x h = refl
 no_saved (Program y ∷ ds) x h = no_saved ds x h
 no_saved (Implicit ∷ ds) x h = no_saved ds x h
@@ -125,7 +125,7 @@ no_saved (Dimension es ∷ ds) x h = no_saved ds x (neither x (decl_uses (Dimens
 no_saved (Parameter items ∷ ds) x h = no_saved ds x (neither x (decl_uses (Parameter items)) (flat_map site_uses (flat_map decl_sites ds)) h).1
 no_saved (Save names ∷ ds) x h =
     let p = neither x (decl_uses (Save names)) (flat_map site_uses (flat_map decl_sites ds)) h in
-    among_append x names (flat_map outcomes.saved_in ds) ∙ or_from _ _ (ap (is_among x) (sym (names_used_as Saved names)) ∙ p.0) (no_saved ds x p.1)
+    among_append x names (flat_map saved_in ds) ∙ or_from _ _ (ap (is_among x) (sym (names_used_as Saved names)) ∙ p.0) (no_saved ds x p.1)
 no_saved (Remark text ∷ ds) x h = no_saved ds x h
 
 -- so a name has no bounds behind declarations in which it doesn't occur
@@ -292,7 +292,7 @@ module _ (t : ProgramTree) (body : StmtTrees) (array : List ℕ) (lo hi : ℤ) w
       pub absent_in_body : is_among array (stmts_names t.body) ≡ false
       absent_in_body = ap (is_among array) (sym (stmts_at t.body)) ∙ apart.1
 
-      pub unsaved : is_among array (flat_map outcomes.saved_in t.decls) ≡ false
+      pub unsaved : is_among array (flat_map saved_in t.decls) ≡ false
       unsaved = no_saved t.decls array apart.0
 
       pub kind_there : kind_of array_program array ≡ Array (array_bounds lo hi)

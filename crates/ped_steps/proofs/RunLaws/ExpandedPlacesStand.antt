@@ -16,7 +16,7 @@ use Rattle.ped_laws.specs.ped_graph.specs.ped_symbols.specs.NameRefusals.{IsVali
 use Rattle.ped_laws.specs.ped_graph.specs.ped_symbols.specs.RightUses.RightUses.{is_scalar, expr_is_right, head_is_right, stmts_are_right}
 use Rattle.ped_laws.specs.ped_graph.specs.ped_symbols.specs.RightUses.RightLoops.{is_small, is_step, step_is_right, steps_are_right}
 use Rattle.ped_laws.specs.ped_graph.specs.ped_symbols.proofs.RightUseLaws.Whole.{names_occur}
-use Rattle.ped_laws.specs.ped_flow.specs.ped_affine.specs.Assigned.{loop_variables, all_loop_variables}
+use Rattle.ped_tree.specs.NamesIn.{loop_variables, all_loop_variables}
 use Rattle.ped_laws.specs.ped_store.specs.Stores.{Store}
 use Rattle.ped_laws.specs.ped_store.specs.Storage.{is_within}
 use Rattle.ped_laws.specs.ped_eval.specs.Scopes.{Setting, Scope, names_in, index_value}
@@ -28,7 +28,8 @@ use Rattle.ped_laws.specs.ped_flow.specs.Questions.{LoopOf}
 use Rattle.ped_laws.specs.ped_flow.proofs.Truths.{or_none}
 use Rattle.ped_laws.specs.FlowRuns.Exits.{IsOneToOne}
 use Rattle.ped_steps.specs.Runs.Pasting.{IsPlaceOf}
-use Rattle.ped_steps.specs.Runs.Substituting.{all_private_names_in, MayStandFor}
+use Rattle.ped_steps.specs.Runs.Substituting.{MayStandFor}
+use Rattle.ped_tree.specs.NamesIn.{all_private_names_in}
 use Rattle.ped_steps.specs.Runs.Expanding.{has_iteration, last_value}
 use Rattle.ped_steps.proofs.RunLaws.NamesKept.{occurs, occurs_append}
 use Rattle.ped_steps.proofs.RunLaws.PrivatisedPrograms.{scalar_unvalued}

@@ -10,7 +10,7 @@ use Rattle.ped_tree.specs.Constants.ConstantExpressions.{constant_value}
 use Rattle.ped_laws.specs.ped_graph.specs.ped_symbols.specs.Kinds.{kind_in, names_of}
 use Rattle.ped_laws.specs.ped_graph.specs.ped_symbols.specs.NameRefusals.{IsValid}
 use Rattle.ped_laws.specs.ped_graph.specs.ped_symbols.specs.RightUses.RightUses.{is_scalar}
-use Rattle.ped_laws.specs.ped_flow.specs.ped_affine.specs.Assigned.{loop_variables, all_loop_variables}
+use Rattle.ped_tree.specs.NamesIn.{loop_variables, all_loop_variables}
 use Rattle.ped_laws.specs.ped_store.specs.Stores.{Store}
 use Rattle.ped_laws.specs.ped_store.specs.Storage.{is_within}
 use Rattle.ped_laws.specs.ped_eval.specs.Scopes.{Setting, Scope, names_in}
@@ -22,7 +22,8 @@ use Rattle.ped_laws.specs.ped_flow.proofs.Truths.{or_none}
 use Rattle.ped_laws.specs.FlowRuns.Exits.{IsOneToOne}
 use Rattle.ped_laws.proofs.FlowRunLaws.Stopping.{fitting_stops, loop_stops}
 use Rattle.ped_steps.specs.Runs.Pasting.{IsPlaceOf}
-use Rattle.ped_steps.specs.Runs.Substituting.{private_names_in, all_private_names_in, MayStandFor}
+use Rattle.ped_steps.specs.Runs.Substituting.{MayStandFor}
+use Rattle.ped_tree.specs.NamesIn.{private_names_in, all_private_names_in}
 use Rattle.ped_steps.specs.Runs.Expanding.{has_iteration, last_value}
 use Rattle.ped_steps.proofs.RunLaws.PrivatisedPrograms.{scalar_named}
 use Rattle.ped_steps.proofs.RunLaws.ExpandedParts.{IsEnteredBy}

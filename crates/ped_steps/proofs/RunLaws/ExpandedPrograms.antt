@@ -5,7 +5,7 @@ use Rattle.std.specs.Str.Lines.{lines}
 use Rattle.ped_base.specs.Lists.{is_same_text, is_among}
 use Rattle.ped_base.proofs.NameEquality.{same_is}
 use Rattle.ped_tree.specs.Tree.{Head, StmtTree, StmtTrees, Do, ProgramTree}
-use Rattle.ped_tree.specs.NamesIn.{stmt_names, stmts_names}
+use Rattle.ped_tree.specs.NamesIn.{stmt_names, stmts_names, saved_in}
 use Rattle.ped_tree.specs.Accesses.{constant_names}
 use Rattle.ped_tree.specs.Numbering.{statement_count, statements_count}
 use Rattle.ped_laws.specs.ped_graph.specs.ped_symbols.specs.NameRefusals.{IsValid}
@@ -19,7 +19,8 @@ use Rattle.ped_laws.specs.Acts.Sets.{AgreeIn}
 use Rattle.ped_laws.specs.Acts.Renaming.{touch}
 use Rattle.ped_laws.specs.Acts.Pieces.{Part, old_parts, new_parts}
 use Rattle.ped_laws.specs.ped_eval.specs.Scopes.{Setting, Scope, cell_of, names_in}
-use Rattle.ped_laws.specs.ped_eval.specs.Loops.{Limits, limits, entered_with, frame, value_in, all_index_names}
+use Rattle.ped_laws.specs.ped_eval.specs.Loops.{Limits, limits, entered_with, frame, value_in}
+use Rattle.ped_tree.specs.NamesIn.{all_loop_variables}
 use Rattle.ped_laws.specs.ped_eval.specs.Runs.{Ending, Run, run, run_all}
 use Rattle.ped_laws.specs.ped_eval.specs.Outcomes as outcomes
 use Rattle.ped_laws.specs.ped_eval.specs.Outcomes.{setting_of, run_of, outcome_of, outcome, Ends, IsRaceFree}
@@ -64,7 +65,7 @@ module _ (t u : ProgramTree) (valid : IsValid t) (l : ℕ) (loop : LoopOf t l) (
     (unexposed : (n : ℕ) → IsExposed t l x n → ⊥) (dead : live ≡ false → IsLiveAfter t l x → ⊥)
     (constants : (setting_of u).constants ≡ (setting_of t).constants) (bounds : (y : List ℕ) → is_same_text y array ≡ false → (setting_of t).bounds y ≡ (setting_of u).bounds y)
     (unnamed : is_among array (stmts_names t.body) ≡ false) (unnamed_there : is_among array (stmt_names (Do loop.head loop.body)) ≡ false)
-    (same_end : (e : Ending) → outcome_of u e ≡ outcome_of t e) (saved : flat_map outcomes.saved_in u.decls ≡ flat_map outcomes.saved_in t.decls) (hidden : (js : List ℤ) → shown_at_end t (Element array js) ≡ false)
+    (same_end : (e : Ending) → outcome_of u e ≡ outcome_of t e) (saved : flat_map saved_in u.decls ≡ flat_map saved_in t.decls) (hidden : (js : List ℤ) → shown_at_end t (Element array js) ≡ false)
     (untouched : (start : Store) (js : List ℤ) → touch (run_all (old_setting t l loop.body live) t.body 1 [] start).acts (Element array js) ≡ false) where
   abbrev h : Head
   h = loop.head
@@ -122,10 +123,10 @@ module _ (t u : ProgramTree) (valid : IsValid t) (l : ℕ) (loop : LoopOf t l) (
       further true k = omega arith
       further false k = omega arith
 
-  same_indices : (y : List ℕ) → is_among y (all_index_names (by s)) ≡ is_among y (all_index_names (alone s))
-  same_indices y = ap (λ (zs : StmtTrees). is_among y (all_index_names zs)) by_is ∙ told live
+  same_indices : (y : List ℕ) → is_among y (all_loop_variables (by s)) ≡ is_among y (all_loop_variables (alone s))
+  same_indices y = ap (λ (zs : StmtTrees). is_among y (all_loop_variables zs)) by_is ∙ told live
     where
-      told : (b : Bool) → is_among y (all_index_names (new_statements x array b last h body)) ≡ is_among y (all_index_names (alone s))
+      told : (b : Bool) → is_among y (all_loop_variables (new_statements x array b last h body)) ≡ is_among y (all_loop_variables (alone s))
       told true = ap (λ (names : List (List ℕ)). is_among y (h.variable ∷ (names ++ []))) (indices_kept x (element_at array h.variable) body)
       told false = ap (λ (names : List (List ℕ)). is_among y (h.variable ∷ (names ++ []))) (indices_kept x (element_at array h.variable) body)
 
@@ -156,7 +157,7 @@ module _ (t u : ProgramTree) (valid : IsValid t) (l : ℕ) (loop : LoopOf t l) (
       old_free : HasNoRace (accesses (run_all p t.body 1 [] start).acts)
       old_free = no_race_alike (moved live end) (moved_back live end) (told_back live end) (run_of t data_bytes).acts (run_all p t.body 1 [] start).acts moved_run.acts free.1
 
-      shown_own : (S : Scope) → shown_at_end t (cell_of S x) ≡ true → (is_among x (flat_map flow.saved_in t.decls) ≡ true) × (cell_of S x ≡ cells.Scalar x)
+      shown_own : (S : Scope) → shown_at_end t (cell_of S x) ≡ true → (is_among x (flat_map saved_in t.decls) ≡ true) × (cell_of S x ≡ cells.Scalar x)
       shown_own S k = shown_scalar t x S k
 
       exchanged : (parts : List Part) × (old_parts parts ≡ (run_all p t.body 1 [] start).acts) × AreExecutions p t start l (run p s l) (expanded_acts t l loop x array live last q) parts start

@@ -12,7 +12,7 @@ use Rattle.ped_laws.specs.ped_eval.specs.Scopes.{Setting}
 use Rattle.ped_laws.specs.ped_eval.specs.Outcomes.{setting_of}
 use Rattle.ped_laws.specs.ped_flow.specs.Questions.{LoopOf}
 use Rattle.ped_laws.specs.ped_flow.proofs.Truths.{or_none}
-use Rattle.ped_laws.specs.ped_flow.specs.ped_affine.specs.Assigned.{all_loop_variables}
+use Rattle.ped_tree.specs.NamesIn.{all_loop_variables}
 use Rattle.ped_steps.specs.Runs.Meaning.{Keeps}
 use Rattle.ped_steps.specs.Runs.Expanding.{new_statements, last_value, expanded_by, MayExpand}
 use Rattle.ped_steps.proofs.RunLaws.PrivatisedPrograms.{scalar_named}

@@ -4,7 +4,7 @@ use Rattle.std.proofs.lemmas.List.Folds.{list_any-append}
 use Rattle.ped_base.specs.Lists.{is_same_text, is_among}
 use Rattle.ped_tree.specs.Tree.{StmtTrees, Do, If, no_stmts, more_stmts}
 use Rattle.ped_tree.specs.Numbering.{statement_count, statements_count}
-use Rattle.ped_laws.specs.ped_eval.specs.Loops.{index_names, all_index_names}
+use Rattle.ped_tree.specs.NamesIn.{loop_variables, all_loop_variables}
 use Rattle.ped_steps.specs.Replacing.{followed}
 use Rattle.ped_steps.specs.Runs.Gaps.{Gap, at_front, past, in_then, in_else, in_body, filled, number_at}
 use Rattle.ped_steps.specs.Runs.Pasting.{HaveSameIndices}
@@ -44,27 +44,27 @@ module _ (old new : StmtTrees) where
     both : (xs ys us vs : List (List ℕ)) → is_among x xs ≡ is_among x us → is_among x ys ≡ is_among x vs → is_among x (xs ++ ys) ≡ is_among x (us ++ vs)
     both xs ys us vs e f = among-append xs ys ∙ ((λ i. e i || f i) ∙ sym (among-append us vs))
 
-    followed_among : (xs ys : StmtTrees) → is_among x (all_index_names (followed xs ys)) ≡ (is_among x (all_index_names xs) || is_among x (all_index_names ys))
+    followed_among : (xs ys : StmtTrees) → is_among x (all_loop_variables (followed xs ys)) ≡ (is_among x (all_loop_variables xs) || is_among x (all_loop_variables ys))
     followed_among no_stmts ys = refl
     followed_among (more_stmts s xs) ys =
-        among-append (index_names s) (all_index_names (followed xs ys))
-        ∙ (ap (λ (b : Bool). is_among x (index_names s) || b) (followed_among xs ys)
-        ∙ (or_assoc (is_among x (index_names s)) (is_among x (all_index_names xs)) (is_among x (all_index_names ys))
-        ∙ ap (λ (b : Bool). b || is_among x (all_index_names ys)) (sym (among-append (index_names s) (all_index_names xs)))))
+        among-append (loop_variables s) (all_loop_variables (followed xs ys))
+        ∙ (ap (λ (b : Bool). is_among x (loop_variables s) || b) (followed_among xs ys)
+        ∙ (or_assoc (is_among x (loop_variables s)) (is_among x (all_loop_variables xs)) (is_among x (all_loop_variables ys))
+        ∙ ap (λ (b : Bool). b || is_among x (all_loop_variables ys)) (sym (among-append (loop_variables s) (all_loop_variables xs)))))
       where
         or_assoc : (a b c : Bool) → (a || (b || c)) ≡ ((a || b) || c)
         or_assoc true b c = refl
         or_assoc false b c = refl
 
-    pub indices_filled : (gap : Gap) → is_among x (all_index_names (filled gap new)) ≡ is_among x (all_index_names (filled gap old))
-    indices_filled (at_front rest) = followed_among new rest ∙ (ap (λ (b : Bool). b || is_among x (all_index_names rest)) (indices x) ∙ sym (followed_among old rest))
-    indices_filled (past s gap) = both (index_names s) (all_index_names (filled gap new)) (index_names s) (all_index_names (filled gap old)) refl (indices_filled gap)
+    pub indices_filled : (gap : Gap) → is_among x (all_loop_variables (filled gap new)) ≡ is_among x (all_loop_variables (filled gap old))
+    indices_filled (at_front rest) = followed_among new rest ∙ (ap (λ (b : Bool). b || is_among x (all_loop_variables rest)) (indices x) ∙ sym (followed_among old rest))
+    indices_filled (past s gap) = both (loop_variables s) (all_loop_variables (filled gap new)) (loop_variables s) (all_loop_variables (filled gap old)) refl (indices_filled gap)
     indices_filled (in_then c gap b rest) =
-        both (index_names (If c (filled gap new) b)) (all_index_names rest) (index_names (If c (filled gap old) b)) (all_index_names rest)
-        (both (all_index_names (filled gap new)) (all_index_names b) (all_index_names (filled gap old)) (all_index_names b) (indices_filled gap) refl) refl
+        both (loop_variables (If c (filled gap new) b)) (all_loop_variables rest) (loop_variables (If c (filled gap old) b)) (all_loop_variables rest)
+        (both (all_loop_variables (filled gap new)) (all_loop_variables b) (all_loop_variables (filled gap old)) (all_loop_variables b) (indices_filled gap) refl) refl
     indices_filled (in_else c a gap rest) =
-        both (index_names (If c a (filled gap new))) (all_index_names rest) (index_names (If c a (filled gap old))) (all_index_names rest)
-        (both (all_index_names a) (all_index_names (filled gap new)) (all_index_names a) (all_index_names (filled gap old)) refl (indices_filled gap)) refl
+        both (loop_variables (If c a (filled gap new))) (all_loop_variables rest) (loop_variables (If c a (filled gap old))) (all_loop_variables rest)
+        (both (all_loop_variables a) (all_loop_variables (filled gap new)) (all_loop_variables a) (all_loop_variables (filled gap old)) refl (indices_filled gap)) refl
     indices_filled (in_body h gap rest) =
-        both (index_names (Do h (filled gap new))) (all_index_names rest) (index_names (Do h (filled gap old))) (all_index_names rest)
+        both (loop_variables (Do h (filled gap new))) (all_loop_variables rest) (loop_variables (Do h (filled gap old))) (all_loop_variables rest)
         (ap (λ (b : Bool). is_same_text x h.variable || b) (indices_filled gap)) refl

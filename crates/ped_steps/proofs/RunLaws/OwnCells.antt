@@ -10,7 +10,8 @@ use Rattle.ped_laws.specs.ped_store.specs.Acts.{Turn, iterations_of}
 use Rattle.ped_laws.specs.Acts.Orders.{IsIn}
 use Rattle.ped_laws.proofs.ActLaws.Lists.{in_left, in_right}
 use Rattle.ped_laws.specs.ped_eval.specs.Scopes.{Setting, Scope, turns_of, cell_of}
-use Rattle.ped_laws.specs.ped_eval.specs.Loops.{inner_variables, all_index_names}
+use Rattle.ped_laws.specs.ped_eval.specs.Loops.{inner_variables}
+use Rattle.ped_tree.specs.NamesIn.{all_loop_variables}
 use Rattle.ped_laws.specs.ped_flow.specs.PlainBounds.{nest_round}
 use Rattle.ped_laws.specs.ped_flow.specs.Questions.{LoopOf}
 use Rattle.ped_laws.specs.FlowRuns.Exits.{IsOneToOne, AreIterationsOf}
@@ -34,18 +35,18 @@ module _ (p : Setting) (t : ProgramTree) (one : IsOneToOne p.number) (l : ℕ) (
   abbrev pub IsRound : ℕ → Type 0
   IsRound n = (m : Loop) × IsIn m (nest_round t l) × (m.number ≡ n)
 
-  module _ (shared : (n : ℕ) (m : LoopOf t n) → IsRound n → is_among x m.head.private ≡ false) (no_index : (n : ℕ) (m : LoopOf t n) → IsRound n → m.head.parallel ≡ true → is_among x (m.head.variable ∷ all_index_names m.body) ≡ false) where
+  module _ (shared : (n : ℕ) (m : LoopOf t n) → IsRound n → is_among x m.head.private ≡ false) (no_index : (n : ℕ) (m : LoopOf t n) → IsRound n → m.head.parallel ≡ true → is_among x (m.head.variable ∷ all_loop_variables m.body) ≡ false) where
     -- no DO round the statement has copies of the scalar
     uncopied : (n : ℕ) (m : LoopOf t n) → IsRound n → is_among x (if m.head.parallel then m.head.variable ∷ (m.head.private ++ inner_variables m.head.parallel m.body) else m.head.private) ≡ false
     uncopied n m round = go m.head.parallel (no_index n m round)
       where
-        inner : is_among x (all_index_names m.body) ≡ false → (b : Bool) → is_among x (inner_variables true m.body) ≡ b → b ≡ false
-        inner h true e = absurd (both_ways (is_among x (all_index_names m.body)) h (inner_among true m.body x e))
+        inner : is_among x (all_loop_variables m.body) ≡ false → (b : Bool) → is_among x (inner_variables true m.body) ≡ b → b ≡ false
+        inner h true e = absurd (both_ways (is_among x (all_loop_variables m.body)) h (inner_among true m.body x e))
         inner h false e = refl
 
-        go : (b : Bool) → (b ≡ true → is_among x (m.head.variable ∷ all_index_names m.body) ≡ false) → is_among x (if b then m.head.variable ∷ (m.head.private ++ inner_variables b m.body) else m.head.private) ≡ false
+        go : (b : Bool) → (b ≡ true → is_among x (m.head.variable ∷ all_loop_variables m.body) ≡ false) → is_among x (if b then m.head.variable ∷ (m.head.private ++ inner_variables b m.body) else m.head.private) ≡ false
         go true h =
-            let k = none_of (is_same_text x m.head.variable) (is_among x (all_index_names m.body)) (h refl) in
+            let k = none_of (is_same_text x m.head.variable) (is_among x (all_loop_variables m.body)) (h refl) in
             λ i. k.0 i || (list_any-append (is_same_text x) m.head.private (inner_variables true m.body) ∙ (λ j. shared n m round j || inner k.1 (is_among x (inner_variables true m.body)) refl j)) i
         go false h = shared n m round
 

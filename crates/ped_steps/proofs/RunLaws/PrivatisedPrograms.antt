@@ -11,6 +11,7 @@ use Rattle.ped_tree.specs.Tree.{Head, StmtTree, StmtTrees, Do, DeclTree, Program
 use Rattle.ped_tree.specs.Accesses.{constant_names}
 use Rattle.ped_tree.specs.Numbering.{statement_count, statements_count, statement_with}
 use Rattle.ped_tree.specs.Constants.NamedConstants.{value_named}
+use Rattle.ped_tree.specs.NamesIn.{saved_in}
 use Rattle.ped_laws.specs.ped_graph.specs.ped_symbols.specs.declared.uses.Role.TheVariants.{Private}
 use Rattle.ped_laws.specs.ped_graph.specs.ped_symbols.specs.declared.uses.Use.{Use}
 use Rattle.ped_laws.specs.ped_graph.specs.ped_symbols.specs.Uses.{used_as}
@@ -110,7 +111,7 @@ statement_in other (Some s) = s
 statement_in other None = other
 
 -- both ways of telling what a declaration saves
-pub same_saved : (ds : List DeclTree) → flat_map outcomes.saved_in ds ≡ flat_map flow.saved_in ds
+pub same_saved : (ds : List DeclTree) → flat_map saved_in ds ≡ flat_map saved_in ds
 same_saved [] = refl
 same_saved (Program x ∷ ds) = same_saved ds
 same_saved (Implicit ∷ ds) = same_saved ds
@@ -126,12 +127,12 @@ ends_kept stops s u e = tt
 ends_kept (faults fault n) s u e = absurd e
 
 -- where the cell of a scalar is shown at the end, it is the scalar's own, and the scalar is saved
-pub shown_scalar : (t : ProgramTree) (x : List ℕ) (S : Scope) → shown_at_end t (cell_of S x) ≡ true → (is_among x (flat_map flow.saved_in t.decls) ≡ true) × (cell_of S x ≡ cells.Scalar x)
+pub shown_scalar : (t : ProgramTree) (x : List ℕ) (S : Scope) → shown_at_end t (cell_of S x) ≡ true → (is_among x (flat_map saved_in t.decls) ≡ true) × (cell_of S x ≡ cells.Scalar x)
 shown_scalar t x S h = go (cell_of S x) h (named_so S x) (of_scalar S x)
   where
-    go : (c : Cell) → shown_at_end t c ≡ true → cell_name c ≡ x → is_of_scalar c ≡ true → (is_among x (flat_map flow.saved_in t.decls) ≡ true) × (c ≡ cells.Scalar x)
+    go : (c : Cell) → shown_at_end t c ≡ true → cell_name c ≡ x → is_of_scalar c ≡ true → (is_among x (flat_map saved_in t.decls) ≡ true) × (c ≡ cells.Scalar x)
     go (cells.Scalar y) k e o =
-        (ap (is_among x) (sym (same_saved t.decls)) ∙ sym (sorted_among x (flat_map outcomes.saved_in t.decls)) ∙ ap (λ (z : List ℕ). is_among z (live_names t)) (sym e) ∙ k, ap cells.Scalar e)
+        (ap (is_among x) (sym (same_saved t.decls)) ∙ sym (sorted_among x (flat_map saved_in t.decls)) ∙ ap (λ (z : List ℕ). is_among z (live_names t)) (sym e) ∙ k, ap cells.Scalar e)
     go (cells.Element y js) k e o = absurd cc
     go (cells.Private y path) k e o = absurd cc
     go cells.In k e o = absurd cc

@@ -9,7 +9,8 @@ use Rattle.std.proofs.lemmas.Map.Lookups.{exact_bytes}
 use Rattle.ped_base.specs.Lists.{is_same_text, is_among}
 use Rattle.ped_tree.specs.Tree.{StmtTrees}
 use Rattle.ped_base.proofs.NameEquality.{same_is, same_itself}
-use Rattle.ped_laws.specs.ped_eval.specs.Loops.{with_name_by, with_sorted, sorted_once, all_index_names}
+use Rattle.ped_laws.specs.ped_eval.specs.Loops.{with_name_by, with_sorted, sorted_once}
+use Rattle.ped_tree.specs.NamesIn.{all_loop_variables}
 use Rattle.ped_laws.proofs.RunLaws.Turning.{once_among}
 
 abbrev compared : List ℕ → List ℕ → Ordering
@@ -105,7 +106,7 @@ one_list (x ∷ xs) (y ∷ ys) h k same = by (compared x y) refl (one_list xs ys
         λ i. it i ∷ rest i
 
 -- a PARALLEL DO that has the same variables in it undefines the same names, in one order
-pub inner_alike : (body other : StmtTrees) → Alike (all_index_names body) (all_index_names other) → sorted_once (all_index_names body) ≡ sorted_once (all_index_names other)
+pub inner_alike : (body other : StmtTrees) → Alike (all_loop_variables body) (all_loop_variables other) → sorted_once (all_loop_variables body) ≡ sorted_once (all_loop_variables other)
 inner_alike body other same =
-    one_list (sorted_once (all_index_names body)) (sorted_once (all_index_names other)) (once_ascends (all_index_names body)) (once_ascends (all_index_names other))
-    (λ z. once_among z (all_index_names body) ∙ (same z ∙ sym (once_among z (all_index_names other))))
+    one_list (sorted_once (all_loop_variables body)) (sorted_once (all_loop_variables other)) (once_ascends (all_loop_variables body)) (once_ascends (all_loop_variables other))
+    (λ z. once_among z (all_loop_variables body) ∙ (same z ∙ sym (once_among z (all_loop_variables other))))

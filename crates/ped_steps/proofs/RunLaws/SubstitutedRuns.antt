@@ -13,7 +13,7 @@ use Rattle.ped_laws.specs.ped_graph.specs.ped_symbols.specs.declared.uses.Use.{U
 use Rattle.ped_laws.specs.ped_graph.specs.ped_symbols.specs.declared.uses.Role.TheVariants.{Rejected, Index}
 use Rattle.ped_laws.specs.ped_graph.specs.ped_symbols.specs.Uses.{used_as, expr_uses, cond_uses, target_uses, item_uses}
 use Rattle.ped_laws.specs.ped_graph.specs.ped_symbols.specs.Sites.{Site, private_site, stmt_sites, stmts_sites, site_uses}
-use Rattle.ped_laws.specs.ped_flow.specs.ped_affine.specs.Assigned.{loop_variables, all_loop_variables}
+use Rattle.ped_tree.specs.NamesIn.{loop_variables, all_loop_variables}
 use Rattle.ped_sums.specs.Substitution.{substituted, condition_substituted, item_substituted, head_substituted, statement_substituted, statements_substituted}
 use Rattle.ped_laws.specs.ped_store.specs.Cells as cells
 use Rattle.ped_laws.specs.ped_store.specs.Cells.{Cell, Private, In, Out, same_cell}
@@ -33,7 +33,8 @@ use Rattle.ped_laws.specs.ped_eval.specs.Runs.{Ending, going, stopped, failed, R
 use Rattle.ped_laws.specs.Runs.Replaying.{finish_of, has_fault}
 use Rattle.ped_laws.proofs.FlowRunLaws.Names.{inner_among}
 use Rattle.ped_steps.specs.Runs.Exchanging.{exchanged_store, exchanged_ending, swapped, is_of_scalar}
-use Rattle.ped_steps.specs.Runs.Substituting.{AreSameOn, element_at, private_names_in, all_private_names_in, MayStandFor}
+use Rattle.ped_steps.specs.Runs.Substituting.{AreSameOn, element_at, MayStandFor}
+use Rattle.ped_tree.specs.NamesIn.{private_names_in, all_private_names_in}
 use Rattle.ped_steps.proofs.RunLaws.ExchangedTouches.{told_apart}
 use Rattle.ped_steps.proofs.RunLaws.ExchangedSight.{itself}
 use Rattle.ped_steps.proofs.RunLaws.Swapped.{cell_name, swapped_first, swapped_other, twice, named_so, of_scalar}

@@ -12,7 +12,7 @@ use Rattle.ped_tree.specs.Tree.{ExprTree, ExprTrees, Int, Var, Element, Neg, Add
 use Rattle.ped_tree.specs.Numbering.{statement_count, statements_count}
 use Rattle.ped_sums.specs.Sums.{literal_value, of_both, small, computed, literal_or, is_zero, added, subtracted, plus_of, minus_of}
 use Rattle.ped_sums.specs.Substitution.{has_scalar, have_scalar, is_scalar, changes, substituted, all_substituted, statement_substituted, statements_substituted}
-use Rattle.ped_laws.specs.ped_eval.specs.Loops.{index_names, all_index_names}
+use Rattle.ped_tree.specs.NamesIn.{loop_variables, all_loop_variables}
 
 module _ (x : List ℕ) (by : ExprTree) where
   mutual
@@ -30,7 +30,7 @@ module _ (x : List ℕ) (by : ExprTree) where
     counts_kept (more_stmts t rest) = λ i. count_kept t i + counts_kept rest i
 
   mutual
-    index_kept : (t : StmtTree) → index_names (statement_substituted x by t) ≡ index_names t
+    index_kept : (t : StmtTree) → loop_variables (statement_substituted x by t) ≡ loop_variables t
     index_kept (Assign left right) = refl
     index_kept (If c a b) = λ i. indices_kept a i ++ indices_kept b i
     index_kept (Do h body) = λ i. h.variable ∷ indices_kept body i
@@ -39,7 +39,7 @@ module _ (x : List ℕ) (by : ExprTree) where
     index_kept Stop = refl
     index_kept (Comment text) = refl
 
-    pub indices_kept : (ts : StmtTrees) → all_index_names (statements_substituted x by ts) ≡ all_index_names ts
+    pub indices_kept : (ts : StmtTrees) → all_loop_variables (statements_substituted x by ts) ≡ all_loop_variables ts
     indices_kept no_stmts = refl
     indices_kept (more_stmts t rest) = λ i. index_kept t i ++ indices_kept rest i
 

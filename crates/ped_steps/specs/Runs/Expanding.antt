@@ -8,15 +8,16 @@ use Rattle.ped_tree.specs.Nests.{Loop, indices_of}
 use Rattle.ped_tree.specs.Constants.ConstantExpressions.{constant_value}
 use Rattle.ped_laws.specs.ped_graph.specs.ped_symbols.specs.Kinds.{kind_in, names_of, table_of}
 use Rattle.ped_laws.specs.ped_graph.specs.ped_symbols.specs.RightUses.RightUses.{is_scalar}
-use Rattle.ped_laws.specs.ped_flow.specs.ped_affine.specs.Assigned.{loop_variables}
+use Rattle.ped_tree.specs.NamesIn.{loop_variables}
 use Rattle.ped_sums.specs.Sums.{literal}
 use Rattle.ped_sums.specs.Substitution.{statements_substituted}
 use Rattle.ped_laws.specs.Acts.Orders.{IsIn}
-use Rattle.ped_laws.specs.ped_eval.specs.Loops.{all_index_names}
+use Rattle.ped_tree.specs.NamesIn.{all_loop_variables}
 use Rattle.ped_laws.specs.ped_flow.specs.PlainBounds.{nest_round}
 use Rattle.ped_laws.specs.ped_flow.specs.Questions.{LoopOf, IsExposed, IsLiveAfter, IsAssignedThrough}
 use Rattle.ped_steps.specs.Replacing.{all_replaced}
-use Rattle.ped_steps.specs.Runs.Substituting.{element_at, private_names_in}
+use Rattle.ped_steps.specs.Runs.Substituting.{element_at}
+use Rattle.ped_tree.specs.NamesIn.{private_names_in}
 
 -- the array's element at a number, in a program (ANSI X3.9-1978, section 5.3)
 abbrev pub element_expr : List ℕ → ℤ → ExprTree
@@ -71,7 +72,7 @@ pub record MayExpand (t : ProgramTree) (l : ℕ) (loop : LoopOf t l) (x array : 
   pub near : is_among x (loop_variables (Do loop.head loop.body)) ≡ false
   pub shared : is_among x (private_names_in (Do loop.head loop.body)) ≡ false
   pub shared_round : (n : ℕ) (m : LoopOf t n) → IsRound t l n → is_among x m.head.private ≡ false
-  pub no_index : (n : ℕ) (m : LoopOf t n) → IsRound t l n → m.head.parallel ≡ true → is_among x (m.head.variable ∷ all_index_names m.body) ≡ false
+  pub no_index : (n : ℕ) (m : LoopOf t n) → IsRound t l n → m.head.parallel ≡ true → is_among x (m.head.variable ∷ all_loop_variables m.body) ≡ false
   pub unexposed : (n : ℕ) → IsExposed t l x n → ⊥
   pub dead : live ≡ false → IsLiveAfter t l x → ⊥
   pub through : live ≡ true → IsAssignedThrough t l x

@@ -14,7 +14,7 @@ use Rattle.ped_laws.specs.Acts.Fitting.{store_after}
 use Rattle.ped_laws.specs.Acts.Sets.{wants}
 use Rattle.ped_laws.specs.Acts.Pieces.{Part, same, changed, StandsFor}
 use Rattle.ped_laws.specs.ped_eval.specs.Scopes.{Setting, Scope, turns_of}
-use Rattle.ped_laws.specs.ped_eval.specs.Loops.{all_index_names}
+use Rattle.ped_tree.specs.NamesIn.{all_loop_variables}
 use Rattle.ped_laws.specs.ped_eval.specs.Runs.{Run, run, run_all}
 use Rattle.ped_laws.specs.ped_eval.specs.Outcomes.{Ends}
 use Rattle.ped_laws.specs.ped_flow.specs.PlainBounds.{nest_round, outermost_or}
@@ -94,7 +94,7 @@ is_in_parallel t l = list_any (λ loop. loop.head.parallel) (nest_round t l)
 
 -- the DO loops in some statements and in others have the same variables, in any order and number (ANSI X3.9-1978, section 11.10; this project)
 abbrev pub HaveSameIndices : StmtTrees → StmtTrees → Type 0
-HaveSameIndices old new = (x : List ℕ) → is_among x (all_index_names new) ≡ is_among x (all_index_names old)
+HaveSameIndices old new = (x : List ℕ) → is_among x (all_loop_variables new) ≡ is_among x (all_loop_variables old)
 
 -- statements of a program are exchanged for others: the two programs fill one gap, and their runs take the same bounds for what the old program names, and the same constants, and count alike the statements that stay. The old statements are some and no STOP stands in them, and a PARALLEL DO round them finds the same variables of DO loops in it, of which its iterations have copies (ParaScope; this project)
 pub record IsPasting (p q : Setting) (gap : Gap) (old new : StmtTrees) (t u : ProgramTree) : Type 0 where

@@ -5,7 +5,7 @@ use Rattle.ped_tree.specs.Tree.{ExprTree, Var, Element, no_exprs, more_exprs, St
 use Rattle.ped_tree.specs.Constants.NamedConstants.{value_named}
 use Rattle.ped_laws.specs.ped_graph.specs.ped_symbols.specs.Sites.{stmts_sites}
 use Rattle.ped_laws.specs.ped_graph.specs.ped_symbols.specs.Kinds.{names_at}
-use Rattle.ped_laws.specs.ped_flow.specs.ped_affine.specs.Assigned.{all_loop_variables}
+use Rattle.ped_tree.specs.NamesIn.{all_loop_variables, all_private_names_in}
 use Rattle.ped_laws.specs.ped_store.specs.Cells.{Cell}
 use Rattle.ped_laws.specs.ped_store.specs.Acts.{Act}
 use Rattle.ped_laws.specs.ped_store.specs.Storage.{is_within}
@@ -29,22 +29,6 @@ AreSameOn name (a ∷ others) (b ∷ bs) = IsSameOn name a b × AreSameOn name o
 -- the element of an array at the value of a DO variable (ANSI X3.9-1978, section 5.3)
 abbrev pub element_at : List ℕ → List ℕ → ExprTree
 element_at array v = Element array (more_exprs (Var v) no_exprs)
-
--- the PRIVATE names of the DO loops in a statement and in its parts (ParaScope)
-abbrev mutual
-  pub private_names_in : StmtTree → List (List ℕ)
-  private_names_in (Assign left right) = []
-  private_names_in (If condition then_part else_part) = all_private_names_in then_part ++ all_private_names_in else_part
-  private_names_in (Do h body) = h.private ++ all_private_names_in body
-  private_names_in (Print items) = []
-  private_names_in (Read items) = []
-  private_names_in Stop = []
-  private_names_in (Comment text) = []
-
-  -- the same of statements (ParaScope)
-  pub all_private_names_in : StmtTrees → List (List ℕ)
-  all_private_names_in no_stmts = []
-  all_private_names_in (more_stmts s rest) = private_names_in s ++ all_private_names_in rest
 
 -- an element of an array may stand in the place of a scalar in statements: the array doesn't occur there; the scalar is no constant, no variable of a DO there or round them, and private to no DO there; the element's subscript is the variable of a DO round them, of no DO in them, and lies within the array's bounds (Allen and Kennedy, section 5.3; this project)
 pub record MayStandFor (p : Setting) (S : Scope) (ts : StmtTrees) (x array v : List ℕ) (k : ℤ) : Type 0 where

@@ -1,7 +1,7 @@
 use Rattle.std.proofs.Common.{◌≡◌, drop}
 use Rattle.ped_tree.specs.Views.{stmt_trees}
 use Rattle.ped_tree.specs.Names.Collecting.{with_names}
-use Rattle.ped_affine.specs.Assigned.{all_loop_variables}
+use Rattle.ped_tree.specs.NamesIn.{all_loop_variables}
 use Rattle.ped_affine.proofs.assigning.+variables.Given as goal
 
 abbrev pub invariant-add_variables-loop-statement : goal.invariant-add_variables-loop-statement

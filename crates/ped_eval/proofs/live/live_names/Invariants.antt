@@ -1,7 +1,7 @@
 use Rattle.std.proofs.Common.{◌≡◌, ◌++◌, drop, map}
 use Rattle.std.specs.List.{flat_map}
 use Rattle.ped_tree.specs.Views.{decl_tree}
-use Rattle.ped_eval.specs.Outcomes.{saved_in}
+use Rattle.ped_tree.specs.NamesIn.{saved_in}
 use Rattle.ped_eval.proofs.live.live_names.Given as goal
 
 abbrev pub invariant-loop-decl : goal.invariant-loop-decl

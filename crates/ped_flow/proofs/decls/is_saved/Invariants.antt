@@ -2,7 +2,7 @@ use Rattle.std.proofs.Common.{◌≡◌, map, drop}
 use Rattle.std.specs.List.{flat_map}
 use Rattle.ped_base.specs.Lists.{is_among}
 use Rattle.ped_tree.specs.Views.{decl_tree}
-use Rattle.ped_flow.specs.Questions.{saved_in}
+use Rattle.ped_tree.specs.NamesIn.{saved_in}
 use Rattle.ped_flow.proofs.decls.is_saved.Given as goal
 
 abbrev pub invariant-loop-decl : goal.invariant-loop-decl

@@ -4,7 +4,7 @@ use Rattle.ped_tree.specs.Views.{stmt_tree, stmt_trees, program_tree}
 use Rattle.ped_tree.specs.Views.{head_of}
 use Rattle.ped_tree.proofs.Levels.{stmt_tree-If}
 use Rattle.ped_tree.specs.declared.statements.Stmt.{Stmt}
-use Rattle.ped_affine.specs.Assigned.{loop_variables, all_loop_variables}
+use Rattle.ped_tree.specs.NamesIn.{loop_variables, all_loop_variables}
 use Rattle.ped_flow.specs.Escapes.{either_escape, escapes_of}
 use Rattle.ped_flow.proofs.ScalarSteps.{rest_is}
 use Rattle.ped_flow.proofs.Escaping.{escapes-append, escapes_next}

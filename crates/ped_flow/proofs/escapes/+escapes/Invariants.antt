@@ -1,7 +1,7 @@
 use Rattle.std.proofs.Common.{◌≡◌, drop}
 use Rattle.ped_tree.specs.Views.{stmt_trees, program_tree}
 use Rattle.ped_tree.specs.Views.{head_of}
-use Rattle.ped_affine.specs.Assigned.{all_loop_variables}
+use Rattle.ped_tree.specs.NamesIn.{all_loop_variables}
 use Rattle.ped_flow.specs.Escapes.{either_escape, escapes_of}
 use Rattle.ped_flow.proofs.escapes.+escapes.Given as goal
 

@@ -1,6 +1,6 @@
 use Rattle.std.proofs.Common.{List, ℕ, length, ap, subst, sym, inl, inr, ◌∙◌}
 use Rattle.ped_tree.specs.Views.{stmt_trees}
-use Rattle.ped_affine.specs.Assigned.{all_loop_variables}
+use Rattle.ped_tree.specs.NamesIn.{all_loop_variables}
 use Rattle.ped_flow.specs.RowPlaces.{AreMarked}
 use Rattle.ped_flow.specs.RowMarks.{names_in}
 use Rattle.ped_flow.proofs.RowSums.{union_wide}

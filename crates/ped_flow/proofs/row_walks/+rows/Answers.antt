@@ -9,7 +9,7 @@ use Rattle.ped_tree.specs.declared.expressions.Expr.{Expr}
 use Rattle.ped_tree.specs.declared.statements.PrintItem.{PrintItem}
 use Rattle.ped_tree.specs.declared.statements.Stmt.{Stmt}
 use Rattle.ped_tree.specs.Views.{head_of}
-use Rattle.ped_affine.specs.Assigned.{loop_variables, all_loop_variables}
+use Rattle.ped_tree.specs.NamesIn.{loop_variables, all_loop_variables}
 use Rattle.ped_flow.specs.Summaries.{passing, sum_in_turn, least_of, sum_of, sum_of_all}
 use Rattle.ped_flow.specs.Kept.{first_outside, all_first_outside}
 use Rattle.ped_flow.specs.RowMarks.{names_in, constants_in}

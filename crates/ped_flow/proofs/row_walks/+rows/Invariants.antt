@@ -1,7 +1,7 @@
 use Rattle.std.proofs.Common.{◌≡◌, ℕ, ◌+◌, ◌<◌, ◌≤◌, ◌++◌, List, Option, drop}
 use Rattle.ped_tree.specs.Views.{stmt_trees}
 use Rattle.ped_tree.specs.Numbering.{statements_count}
-use Rattle.ped_affine.specs.Assigned.{all_loop_variables}
+use Rattle.ped_tree.specs.NamesIn.{all_loop_variables}
 use Rattle.ped_flow.specs.Summaries.{least_of, sum_in_turn, sum_of_all}
 use Rattle.ped_flow.specs.Kept.{all_first_outside}
 use Rattle.ped_flow.specs.RowMarks.{names_in, constants_in}

@@ -1,7 +1,7 @@
 use Rattle.std.proofs.Common.{◌≡◌, drop}
 use Rattle.ped_base.specs.Lists.{is_among}
 use Rattle.ped_tree.specs.Views.{stmt_trees}
-use Rattle.ped_affine.specs.Assigned.{all_loop_variables}
+use Rattle.ped_tree.specs.NamesIn.{all_loop_variables}
 use Rattle.ped_flow.proofs.scalars.+loops.Given as goal
 
 abbrev pub invariant-has_loop_of-loop-statement : goal.invariant-has_loop_of-loop-statement

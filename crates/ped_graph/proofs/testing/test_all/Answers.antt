@@ -5,7 +5,7 @@ use Rattle.ped_tree.specs.Names.Collecting.{with_names}
 use Rattle.ped_refs.specs.References.{Reference, pairs, pair_count, references}
 use Rattle.ped_refs.specs.Occurrences.{reference_of, references_of, pair_at}
 use Rattle.ped_refs.specs.declared.occurring.Occurrence.{Occurrence}
-use Rattle.ped_affine.specs.Assigned.{all_loop_variables}
+use Rattle.ped_tree.specs.NamesIn.{all_loop_variables}
 use Rattle.ped_graph.specs.Guards.{all_guards_in}
 use Rattle.ped_graph.specs.Marks.{is_firm}
 use Rattle.ped_graph.proofs.Places.{same_length}

@@ -1,7 +1,7 @@
 use Rattle.std.proofs.Common.{◌≡◌, map, drop}
 use Rattle.ped_tree.specs.NamesIn.{exprs_names}
 use Rattle.ped_tree.specs.Views.{expr_tree, pack_exprs}
-use Rattle.ped_refusals.specs.Collecting.{with_names}
+use Rattle.ped_tree.specs.Names.Collecting.{with_names}
 use Rattle.ped_refusals.proofs.occurrences.+expressions.Given as goal
 
 abbrev pub invariant-add_exprs-loop-e : goal.invariant-add_exprs-loop-e

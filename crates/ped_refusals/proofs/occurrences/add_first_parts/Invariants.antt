@@ -1,6 +1,6 @@
 use Rattle.std.proofs.Common.{◌≡◌, map, drop}
 use Rattle.ped_tree.specs.Views.{value_tree}
-use Rattle.ped_refusals.specs.Collecting.{with_names}
+use Rattle.ped_tree.specs.Names.Collecting.{with_names}
 use Rattle.ped_refusals.proofs.occurrences.add_first_parts.Given as goal
 
 abbrev pub invariant-loop-constant : goal.invariant-loop-constant

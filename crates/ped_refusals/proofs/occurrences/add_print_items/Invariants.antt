@@ -2,7 +2,7 @@ use Rattle.std.proofs.Common.{◌≡◌, map, drop}
 use Rattle.std.specs.List.{flat_map}
 use Rattle.ped_tree.specs.NamesIn.{item_names}
 use Rattle.ped_tree.specs.Views.{item_tree}
-use Rattle.ped_refusals.specs.Collecting.{with_names}
+use Rattle.ped_tree.specs.Names.Collecting.{with_names}
 use Rattle.ped_refusals.proofs.occurrences.add_print_items.Given as goal
 
 abbrev pub invariant-loop-item : goal.invariant-loop-item

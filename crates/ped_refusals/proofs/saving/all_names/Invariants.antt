@@ -2,7 +2,7 @@ use Rattle.std.proofs.Common.{◌≡◌, map, drop}
 use Rattle.std.specs.List.{flat_map}
 use Rattle.ped_tree.specs.Grammar.Occurrences.{entry_names}
 use Rattle.ped_tree.specs.Grammar.ItemViews.{entry_of}
-use Rattle.ped_refusals.specs.Collecting.{with_names}
+use Rattle.ped_tree.specs.Names.Collecting.{with_names}
 use Rattle.ped_refusals.proofs.saving.all_names.Given as goal
 
 abbrev pub invariant-loop-entry : goal.invariant-loop-entry

@@ -1,7 +1,7 @@
 use Rattle.std.proofs.Common.{◌≡◌, map, drop}
 use Rattle.ped_tree.specs.Grammar.Occurrences.{all_constants, all_do_variables}
 use Rattle.ped_tree.specs.Grammar.ItemViews.{entry_of}
-use Rattle.ped_refusals.specs.Collecting.{with_names}
+use Rattle.ped_tree.specs.Names.Collecting.{with_names}
 use Rattle.ped_refusals.proofs.saving.constants_and_do_variables.Given as goal
 
 abbrev pub invariant-constants : goal.invariant-constants

@@ -4,7 +4,7 @@ use Rattle.std.proofs.lemmas.Result.{IfOk-weaker}
 use Rattle.ped_base.specs.Lists.{is_among}
 use Rattle.ped_tree.specs.Grammar.Occurrences.{all_constants, all_do_variables, entry_names, saved_among, saved_names}
 use Rattle.ped_tree.specs.Grammar.ItemViews.{entry_of}
-use Rattle.ped_refusals.specs.Collecting.{with_names}
+use Rattle.ped_tree.specs.Names.Collecting.{with_names}
 use Rattle.ped_refusals.proofs.Collecting.{saved}
 use Rattle.ped_refusals.proofs.saving.saved_names.Goals as goal
 

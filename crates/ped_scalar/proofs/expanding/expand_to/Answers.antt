@@ -11,7 +11,8 @@ use Rattle.ped_tidy.specs.ped_steps.specs.declared.rules.Rule.TheVariants.{Limit
 use Rattle.ped_tidy.specs.ped_steps.specs.declared.changes.Change.{Change}
 use Rattle.ped_tidy.specs.ped_steps.specs.Changes.{IsChange}
 use Rattle.ped_tidy.specs.ped_steps.proofs.Answering.{few_numbers}
-use Rattle.ped_scalar.specs.Expanding.{private_in, IsExpanded}
+use Rattle.ped_scalar.specs.Expanding.{IsExpanded}
+use Rattle.ped_tree.specs.NamesIn.{private_names_in}
 use Rattle.ped_scalar.specs.CodeSpans.{span_in}
 use Rattle.ped_scalar.proofs.FirstAgainstExpanding as first
 use Rattle.ped_scalar.proofs.expanding.expand_to.Goals as goal
@@ -42,7 +43,7 @@ returns-then-is_private_near g c =
     record { array = e.array; fresh = c.requires.elements.fresh; span = span_in e.span; spans = c.requires.elements.known.0; live = e.live; says = c.requires.elements.says; made = c.in_ok-tree.ensures.tree } in
     let found : IsChange u c.in_ok-keep.keep c.in-Some.change =
     subst (λ (o : Option Change). MatchOption o (IsValid u → ⊥) (IsChange u c.in_ok-keep.keep)) c.in-Some.is c.in_ok-change.ensures in
-    let test = c.is_private_near.ensures ∙ ap (λ (nest : List Loop). is_among x (private_in (Do h body)) || list_any (λ (l : Loop). is_among x l.head.private) nest) c.requires.round in
+    let test = c.is_private_near.ensures ∙ ap (λ (nest : List Loop). is_among x (private_names_in (Do h body)) || list_any (λ (l : Loop). is_among x l.head.private) nest) c.requires.round in
     first.refused_by t s x AlreadyPrivate s c.against.result c.against.ensures
     (first.private t s x h body c.requires.is c.requires.below u made found.valid c.requires.scalar (sym test ∙ c.if-is_private_near.true))
 
@@ -59,7 +60,7 @@ returns-in-Some g c =
     record { array = e.array; fresh = c.requires.elements.fresh; span = span_in e.span; spans = c.requires.elements.known.0; live = e.live; says = c.requires.elements.says; made = c.in_ok-tree.ensures.tree } in
     let found : IsChange u c.in_ok-keep.keep c.in-Some.change =
     subst (λ (o : Option Change). MatchOption o (IsValid u → ⊥) (IsChange u c.in_ok-keep.keep)) c.in-Some.is c.in_ok-change.ensures in
-    let test = c.is_private_near.ensures ∙ ap (λ (nest : List Loop). is_among x (private_in (Do h body)) || list_any (λ (l : Loop). is_among x l.head.private) nest) c.requires.round in
+    let test = c.is_private_near.ensures ∙ ap (λ (nest : List Loop). is_among x (private_names_in (Do h body)) || list_any (λ (l : Loop). is_among x l.head.private) nest) c.requires.round in
     let change = subst (λ (k : List (ℕ × ℕ)). IsChange u k c.in-Some.change) c.in_ok-keep.ensures found in
     first.accepted_with t s x (record { head = h; body = body; is = c.requires.is }) u made c.in-Some.change
     (first.nothing t s x h body c.requires.is c.requires.below u made found.valid (sym test ∙ c.if-is_private_near.false)) change

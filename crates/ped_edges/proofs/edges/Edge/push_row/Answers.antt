@@ -1,7 +1,8 @@
 use Rattle.std.proofs.Common.{length}
 use Rattle.std.proofs.lemmas.Result.{on_ok_weaker}
 use Rattle.ped_edges.specs.Rows as shown
-use Rattle.ped_edges.specs.CodeEdges.{kind_of, mark_of, name_text}
+use Rattle.ped_edges.specs.CodeEdges.{kind_of, mark_of}
+use Rattle.ped_refs.specs.Occurrences.{name_text}
 use Rattle.ped_edges.proofs.PushedRows.{eight_pushed}
 use Rattle.ped_edges.proofs.edges.Edge.push_row.Goals as goal
 

@@ -1,5 +1,5 @@
 -- What the entries say once an iteration is finished: its entry has become a stretch, joined with those that it touches.
-use Rattle.std.proofs.Common.{◌≡◌, ◌⊎◌, inl, inr, ℕ, ◌+◌, ◌<◌, ◌≤◌, arith, Bool, true, false, Option, Some, None, if◌then◌else◌, eqb, refl, sym, ap, subst, ◌∙◌}
+use Rattle.std.proofs.Common.{◌≡◌, ◌⊎◌, inl, inr, ℕ, ◌+◌, ◌<◌, ◌≤◌, arith, Bool, true, false, Option, Some, None, is_some, if◌then◌else◌, eqb, refl, sym, ap, subst, ◌∙◌}
 use Rattle.std.proofs.lemmas.Bool.{cases_eq, cases_lt}
 use Rattle.ped_marks.specs.declared.marks.Mark.{Mark}
 use Rattle.ped_marks.specs.declared.marks.Mark.TheVariants as mark
@@ -32,7 +32,7 @@ ends_by g next end None e is = inr (is, λ other f. let never : None ≡ Some (D
 ends_by g next end (Some (Running key)) e is = inr (is, λ other f. let never : Some (Running key) ≡ Some (Done other) = sym e ∙ f in absurd cc)
 ends_by g next end (Some (Done behind)) e is = inl (e ∙ ap (λ (n : ℕ). Some (Done n)) (sym is))
 
-module _ (count place key start end : ℕ) (g h : ℕ → Option Stretch) (is : IsLaidOut count g) (running : g place ≡ Some (Running key)) (starts : IsStart g place start) (ends : IsEnd g (place + 1) end) where
+module _ (count place key start end : ℕ) (g : ℕ → Option Stretch) (is : IsLaidOut count g) (running : g place ≡ Some (Running key)) (starts : IsStart g place start) (ends : IsEnd g (place + 1) end) where
   -- the stretch covers the place
   record Bounds : Type 0 where
     from : start ≤ place
@@ -55,18 +55,15 @@ module _ (count place key start end : ℕ) (g h : ℕ → Option Stretch) (is : 
       inside (inr e) = let q = e.0 in let w = is.within place (Running key) running in omega arith
 
   -- the stretch stands at its start, the entries that it takes in are gone, and the others stay
-  pub record Joins : Type 0 where
+  pub record Joins (h : ℕ → Option Stretch) : Type 0 where
     pub at_start : h start ≡ Some (Done end)
     pub at_place : (place ≡ start → ⊥) → h place ≡ None
     pub at_next : (place + 1 ≡ end → ⊥) → h (place + 1) ≡ None
     pub others : (k : ℕ) → (k ≡ start → ⊥) → (k ≡ place → ⊥) → (k ≡ place + 1 → place + 1 ≡ end) → h k ≡ g k
 
-  -- three changes in turn make it so
+  -- the changed entries, in turn
   module _ (one two : ℕ → Option Stretch) (taken_next : (k : ℕ) → one k ≡ (if eqb (place + 1) end then g k else with_entry g (place + 1) None k))
-      (taken : (k : ℕ) → two k ≡ (if eqb place start then one k else with_entry one place None k)) (put : (k : ℕ) → h k ≡ with_entry two start (Some (Done end)) k) where
-    put_else : (k : ℕ) → (k ≡ start → ⊥) → h k ≡ two k
-    put_else k ne = put k ∙ ap (λ b. if b then Some (Done end) else two k) (is_elsewhere k start ne)
-
+      (taken : (k : ℕ) → two k ≡ (if eqb place start then one k else with_entry one place None k)) where
     taken_else : (k : ℕ) → (k ≡ place → ⊥) → two k ≡ one k
     taken_else k ne = by (eqb place start) refl
       where
@@ -83,19 +80,33 @@ module _ (count place key start end : ℕ) (g h : ℕ → Option Stretch) (is : 
             taken_next k ∙ ap (λ b. if b then g k else with_entry g (place + 1) None k) (is_elsewhere (place + 1) end ne)
             ∙ ap (λ b. if b then None else g k) (is_elsewhere k (place + 1) (λ q. ne (if_next q)))
 
-    pub joins : Joins
-    joins = record {
-      at_start = put start ∙ ap (λ b. if b then Some (Done end) else two start) (is_here start start refl);
-      at_place = λ ne. put_else place ne ∙ taken place ∙ ap (λ b. if b then one place else with_entry one place None place) (is_elsewhere place start ne)
-          ∙ ap (λ b. if b then None else one place) (is_here place place refl);
-      at_next = λ ne. let b = bounds.from in
-          put_else (place + 1) (λ q. omega arith) ∙ taken_else (place + 1) (λ q. omega arith)
-          ∙ taken_next (place + 1) ∙ ap (λ b. if b then g (place + 1) else with_entry g (place + 1) None (place + 1)) (is_elsewhere (place + 1) end ne)
-          ∙ ap (λ b. if b then None else g (place + 1)) (is_here (place + 1) (place + 1) refl);
-      others = λ k not_start not_place if_next. put_else k not_start ∙ taken_else k not_place ∙ next_else k if_next;
-    }
+    -- an entry stands where the stretch begins
+    pub stands : is_some (two start) ≡ true
+    stands = by starts
+      where
+        by : IsStart g place start → is_some (two start) ≡ true
+        by (inl s) = let l = s.0 in ap is_some (taken_else start (λ q. omega arith) ∙ next_else start (λ q. absurd (omega arith)) ∙ s.1)
+        by (inr s) =
+            ap is_some (ap two s.0 ∙ taken place ∙ ap (λ b. if b then one place else with_entry one place None place) (is_here place start (sym s.0))
+            ∙ next_else place (λ q. absurd (omega arith)) ∙ running)
 
-  module _ (new : Joins) where
+    module _ (h : ℕ → Option Stretch) (put : (k : ℕ) → h k ≡ with_entry two start (Some (Done end)) k) where
+      put_else : (k : ℕ) → (k ≡ start → ⊥) → h k ≡ two k
+      put_else k ne = put k ∙ ap (λ b. if b then Some (Done end) else two k) (is_elsewhere k start ne)
+
+      pub joins : Joins h
+      joins = record {
+        at_start = put start ∙ ap (λ b. if b then Some (Done end) else two start) (is_here start start refl);
+        at_place = λ ne. put_else place ne ∙ taken place ∙ ap (λ b. if b then one place else with_entry one place None place) (is_elsewhere place start ne)
+            ∙ ap (λ b. if b then None else one place) (is_here place place refl);
+        at_next = λ ne. let b = bounds.from in
+            put_else (place + 1) (λ q. omega arith) ∙ taken_else (place + 1) (λ q. omega arith)
+            ∙ taken_next (place + 1) ∙ ap (λ b. if b then g (place + 1) else with_entry g (place + 1) None (place + 1)) (is_elsewhere (place + 1) end ne)
+            ∙ ap (λ b. if b then None else g (place + 1)) (is_here (place + 1) (place + 1) refl);
+        others = λ k not_start not_place if_next. put_else k not_start ∙ taken_else k not_place ∙ next_else k if_next;
+      }
+
+  module _ (h : ℕ → Option Stretch) (new : Joins h) where
     -- an entry that stays lies before the stretch or behind it
     abbrev Aside : ℕ → Stretch → Type 0
     Aside k x = (k ≡ start → ⊥) × (g k ≡ Some x) × ((end_of k x ≤ start) ⊎ (end ≤ k))

@@ -2,7 +2,7 @@
 use Rattle.std.specs.Prelude.{◌≡◌, ℕ, ◌^◌, ◌<◌, List, map, length, codes, if◌then◌else◌}
 use Rattle.ped_base.specs.Lists.{is_same_text}
 use Rattle.ped_tree.specs.Tree.{ProgramTree}
-use Rattle.ped_refs.specs.References.{Reference, references, outermost}
+use Rattle.ped_refs.specs.References.{Reference, references, outermost, pair_count}
 use Rattle.ped_refs.specs.declared.references.RefName.{RefName}
 use Rattle.ped_refs.specs.declared.references.RefName.TheVariants.{Named, In, Out}
 use Rattle.ped_refs.specs.declared.references.Ref.{Ref}
@@ -17,12 +17,17 @@ abbrev pub ref_of : Reference → Ref
 ref_of r = record { statement = r.statement; number = r.number; name = ref_name r.access.name; writes = r.access.writes }
 
 -- the list has exactly the references of the program, in text order, and for each the outermost DO loop round it
-pub record AreReferences (t : ProgramTree) (refs : Refs) : Type 0 where
+pub record AreInOrder (t : ProgramTree) (refs : Refs) : Type 0 where
   pub items : refs.items ≡ map ref_of (references t)
   pub outer : refs.outer ≡ map outermost (references t)
+
+-- and it has the number of the ordered pairs of references that may depend on each other
+pub record AreReferences (t : ProgramTree) (refs : Refs) : Type 0 where
+  pub in_order : AreInOrder t refs
+  pub pairs : refs.pairs ≡ pair_count (references t)
 
 -- the list has the references of some program, which has fewer than 2^32
 pub record AreOfProgram (refs : Refs) : Type 0 where
   pub tree : ProgramTree
-  pub are : AreReferences tree refs
+  pub are : AreInOrder tree refs
   pub few : length (references tree) < 2 ^ 32

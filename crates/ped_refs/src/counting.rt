@@ -1,12 +1,12 @@
-//! How many ordered pairs of references there are. They aren't made: references can only pair with those of
-//! one name and the same outermost DO, so a table of these groups tells in one pass how many pairs each
+//! How many ordered pairs of references there are. To count them they aren't made: references can only pair with
+//! those of one name and the same outermost DO, so a table of these groups tells in one pass how many pairs each
 //! reference adds.
 
 ghost use Rattle.std.specs.Prelude.{◌≡◌, ◌+◌, ◌^◌, ◌<◌, ◌≤◌, length, IfOk, OnOk, MatchOption, if◌then◌else◌};
 ghost use Rattle.ped_tree.specs.Tree.{ProgramTree};
 ghost use Rattle.ped_refs.specs.References.{references, pair_count};
 ghost use Rattle.ped_refs.specs.PairLimit.{most_pairs, is_within_pair_limit, IsFirstBeyond};
-ghost use Rattle.ped_refs.specs.ListedReferences.{AreReferences, AreOfProgram};
+ghost use Rattle.ped_refs.specs.ListedReferences.{AreInOrder, AreReferences, AreOfProgram};
 ghost use Rattle.ped_refs.specs.Tallies as Spec;
 ghost use Rattle.ped_refs.specs.Groups.{PlainGroup, group, is_same_group};
 ghost use Rattle.ped_refs.specs.Tallies.{AreCounted, tally_at};
@@ -27,11 +27,18 @@ struct Tally {
     writes: u64,
 }
 
-/// How many ordered pairs of references the program has whose references these are. The time is linear in the number
-/// of references. A pair has one name, a write among its two, and a DO round both.
-pub fn pairs(alloc: Global, refs: &Refs) -> Result<u64, NoMemory>
+/// How many ordered pairs of references the program has whose references these are. A pair has one name, a write among
+/// its two, and a DO round both. They were counted when the references were listed.
+pub fn pairs(refs: &Refs) -> u64
+    ensures { (tree : ProgramTree) → AreReferences tree refs.now → result ≡ pair_count (references tree) }
+{
+    refs.pairs
+}
+
+/// Counts the ordered pairs of references in a list. The time is linear in the number of references.
+pub(crate) fn count_pairs(alloc: Global, refs: &Refs) -> Result<u64, NoMemory>
     requires { AreOfProgram refs.now }
-    ensures { IfOk result (λ n. (tree : ProgramTree) → AreReferences tree refs.now → n ≡ pair_count (references tree)) }
+    ensures { IfOk result (λ n. (tree : ProgramTree) → AreInOrder tree refs.now → n ≡ pair_count (references tree)) }
 {
     let mut groups = IndexMap::new(alloc);
     let mut total = 0;
@@ -43,21 +50,22 @@ pub fn pairs(alloc: Global, refs: &Refs) -> Result<u64, NoMemory>
 
 /// Whether the program whose references these are has no more ordered pairs than a program may have. These are
 /// 200,000.
-pub fn within_limit(alloc: Global, refs: &Refs) -> Result<bool, NoMemory>
-    requires { AreOfProgram refs.now }
-    ensures { IfOk result (λ within. (tree : ProgramTree) → AreReferences tree refs.now
-        → within ≡ is_within_pair_limit (references tree)) }
+pub fn within_limit(refs: &Refs) -> bool
+    ensures { (tree : ProgramTree) → AreReferences tree refs.now → result ≡ is_within_pair_limit (references tree) }
 {
-    Ok(pairs(alloc, refs)? <= MOST_PAIRS)
+    refs.pairs <= MOST_PAIRS
 }
 
 /// The first statement at which the ordered pairs among the references so far are more than a program may
-/// have, none where there are never so many. The time is linear in the number of references.
+/// have, none where there are never so many. Where there is one, the time is linear in the number of references.
 pub fn first_beyond_limit(alloc: Global, refs: &Refs) -> Result<Option<u32>, NoMemory>
     requires { AreOfProgram refs.now }
     ensures { IfOk result (λ first. (tree : ProgramTree) → AreReferences tree refs.now
         → MatchOption first (pair_count (references tree) ≤ most_pairs) (λ number. IsFirstBeyond (references tree) number)) }
 {
+    if within_limit(refs) {
+        return Ok(None);
+    }
     let mut groups = IndexMap::new(alloc);
     let mut total = 0;
     for i in 0..refs.items.len() {

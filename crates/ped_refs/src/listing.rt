@@ -8,6 +8,7 @@ ghost use Rattle.ped_refs.specs.References.{references, outermost};
 ghost use Rattle.ped_refs.specs.ListedReferences.{ref_of, AreReferences};
 ghost use Rattle.ped_refs.specs.Occurrences.{reference_of, references_of};
 
+use crate::counting::count_pairs;
 use crate::occurring::{Occurrence, occurrences};
 use crate::references::{Ref, Refs};
 use ped_base::{Listed, NoMemory};
@@ -15,17 +16,19 @@ use ped_tree::Program;
 use std::alloc::Global;
 
 /// The references of a program, in text order. Each has its statement, its number there, its name, whether it writes,
-/// and the number of the outermost DO round it.
+/// and the number of the outermost DO round it. Their pairs are counted.
 pub fn refs(alloc: Global, program: &Program) -> Result<Refs, NoMemory>
     requires statements { statements_count (program_tree program.now).body < 2 ^ 32 }
     requires references { length (references (program_tree program.now)) < 2 ^ 32 }
     ensures { IfOk result (AreReferences (program_tree program.now)) }
 {
     let found = occurrences(alloc, program)?;
-    in_list(alloc, &found)
+    let mut refs = in_list(alloc, &found)?;
+    refs.pairs = count_pairs(alloc, &refs)?;
+    Ok(refs)
 }
 
-/// The references without what stands round them.
+/// The references without what stands round them, whose pairs aren't counted yet.
 fn in_list(alloc: Global, found: &[Occurrence]) -> Result<Refs, NoMemory>
     ensures items { IfOk result (λ refs. refs.items ≡ map ref_of (references_of found.now)) }
     ensures outer { IfOk result (λ refs. refs.outer ≡ map outermost (references_of found.now)) }
@@ -33,6 +36,7 @@ fn in_list(alloc: Global, found: &[Occurrence]) -> Result<Refs, NoMemory>
     let mut refs = Refs {
         items: Listed::new(alloc),
         outer: Listed::new(alloc),
+        pairs: 0,
     };
     for occurrence in found {
         refs.items.push(without_surroundings(occurrence))?;

@@ -20,12 +20,13 @@ use ped_base::Name;
 use ped_expressions::cond_has_large_literal;
 use ped_limits::{
     MOST_BLOCKS_NESTED, MOST_CHARACTERS, MOST_LOOPS_NESTED, MOST_REFERENCES, MOST_STATEMENTS,
-    NameSet, cond_references, decl_has_large_literal, do_references, has_eight_dimensions,
+    cond_references, decl_has_large_literal, do_references, has_eight_dimensions,
     head_has_large_literal, references, statement_count, stmt_has_large_literal,
 };
 use ped_print::{decl_length, do_length, if_length, length, private_length, save_length};
 use ped_tree::Stmt;
 use ped_tree::grammar::{DoStatement, Entry, Item, StatementReading};
+use ped_tree::names::NameSet;
 
 /// Whether a statement passes a limit, where `variables` are those of the open DO loops, `rest` are the
 /// statements behind it, and SAVE without a list is read as `saved`.

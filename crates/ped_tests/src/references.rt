@@ -13,6 +13,6 @@ fn no_pair_is_within_the_limit(rt: HostRuntime) -> Result<(), Fail> {
         lines: Vec::new(alloc),
     };
     let refs = refs(alloc, &program)?;
-    assert!(rt; within_limit(alloc, &refs)?);
+    assert!(rt; within_limit(&refs));
     Ok(())
 }

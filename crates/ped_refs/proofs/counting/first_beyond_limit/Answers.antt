@@ -9,7 +9,8 @@ use Rattle.ped_refs.proofs.TextOrder.{references_between}
 use Rattle.ped_refs.proofs.counting.first_beyond_limit.Goals as goal
 
 pub returns-then-total-gt-MOST_PAIRS : goal.returns-then-total-gt-MOST_PAIRS
-returns-then-total-gt-MOST_PAIRS c = λ tree are.
+returns-then-total-gt-MOST_PAIRS c = λ tree known.
+    let are = known.in_order in
     let listed = program_listed tree c.args.refs.now are in
     let within : c.loop-i.i < length (references tree) = omega (arith, length-listed tree c.args.refs.now are, c.loop-i-test.true, c.len-i-end.ensures) in
     let same = statement_at tree c.args.refs.now c.as_slice.result.now c.loop-i.i no_reference c.index-as_slice-i.result are c.as_slice.ensures within in
@@ -19,6 +20,7 @@ returns-then-total-gt-MOST_PAIRS c = λ tree are.
     (beyond_is 1 (1 + statements_count tree.body) (references tree) c.loop-i.i no_reference (references_between tree) within many few)
 
 pub returns : goal.returns
-returns c = λ tree are.
+returns c = λ tree known.
+    let are = known.in_order in
     let all : take c.loop-i.i (references tree) ≡ references tree = all_taken tree c.args.refs.now c.loop-i.i are (omega (arith, c.loop-i-test.false, c.len-i-end.ensures)) in
     omega (arith, ap pair_count all, (c.loop-i.invariant.counted (references tree) (program_listed tree c.args.refs.now are)).pairs, c.loop-i.invariant.few)

@@ -1,7 +1,7 @@
 use Rattle.std.proofs.Common.{ap, ◌∙◌, arith}
 use Rattle.ped_refs.specs.References.{references, pair_count}
 use Rattle.ped_refs.proofs.ListedProgram.{program_listed, all_taken}
-use Rattle.ped_refs.proofs.counting.pairs.Goals as goal
+use Rattle.ped_refs.proofs.counting.count_pairs.Goals as goal
 
 pub returns : goal.returns
 returns c = λ tree are.

@@ -1,7 +1,6 @@
 -- What the entries say once an iteration is finished: its entry has become a stretch, joined with those that it touches.
 use Rattle.std.proofs.Common.{◌≡◌, ◌⊎◌, inl, inr, ℕ, ◌+◌, ◌<◌, ◌≤◌, arith, Bool, true, false, Option, Some, None, is_some, if◌then◌else◌, eqb, refl, sym, ap, subst, ◌∙◌}
 use Rattle.std.proofs.lemmas.Bool.{cases_eq, cases_lt}
-use Rattle.ped_marks.specs.declared.marks.Mark.{Mark}
 use Rattle.ped_marks.specs.declared.marks.Mark.TheVariants as mark
 use Rattle.ped_marks.specs.declared.stretches.Stretch.{Stretch}
 use Rattle.ped_marks.specs.declared.stretches.Stretch.TheVariants.{Running, Done}

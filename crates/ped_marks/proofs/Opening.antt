@@ -2,12 +2,11 @@
 use Rattle.std.proofs.Common.{◌≡◌, ◌⊎◌, inl, inr, ℕ, ◌+◌, ◌<◌, ◌≤◌, arith, length, Bool, true, false, Option, Some, None, if◌then◌else◌, refl, sym, ap, subst, ◌∙◌}
 use Rattle.std.specs.Prelude.{nat_lt}
 use Rattle.std.proofs.lemmas.Bool.{cases_eq, cases_lt}
-use Rattle.ped_marks.specs.declared.marks.Mark.{Mark}
 use Rattle.ped_marks.specs.declared.marks.Mark.TheVariants as mark
 use Rattle.ped_marks.specs.declared.stretches.Stretch.{Stretch}
 use Rattle.ped_marks.specs.declared.stretches.Stretch.TheVariants.{Running, Done}
 use Rattle.ped_marks.specs.Marks.{at, is_done}
-use Rattle.ped_marks.specs.Stretches.{end_of, meaning, said, mark_at, marks_of, first_open, IsLaidOut, IsLast}
+use Rattle.ped_marks.specs.Stretches.{meaning, mark_at, marks_of, first_open, IsLaidOut, IsLast}
 use Rattle.ped_marks.proofs.Covering.{Covers, by_last, covered, covered_or, is_below, is_not_below}
 use Rattle.ped_marks.proofs.Values.{length-values, at-values}
 

@@ -1,5 +1,5 @@
 -- The values of a function as a list.
-use Rattle.std.proofs.Common.{◌≡◌, ◌⊎◌, inl, inr, ℕ, zero, suc, ◌<◌, ◌≤◌, List, length, refl, ap, subst, arith, Bool, false, if◌then◌else◌, eqb, ◌∙◌, sym}
+use Rattle.std.proofs.Common.{◌≡◌, ◌⊎◌, inl, inr, ℕ, zero, suc, ◌<◌, ◌≤◌, List, length, refl, ap, subst, arith, false, if◌then◌else◌, eqb, ◌∙◌, sym}
 use Rattle.std.proofs.lemmas.Bool.{cases_lt}
 use Rattle.std.proofs.lemmas.List.{get_or_past}
 use Rattle.ped_marks.specs.declared.marks.Mark.{Mark}

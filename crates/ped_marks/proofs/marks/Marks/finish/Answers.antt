@@ -1,5 +1,5 @@
 -- What the marks are once the place's entry has become a stretch.
-use Rattle.std.proofs.Common.{◌≡◌, ◌<◌, ◌+◌, ◌^◌, ℕ, arith, true, Option, Some, length, List, if◌then◌else◌, eqb, refl, sym, ap, ◌∙◌}
+use Rattle.std.proofs.Common.{◌≡◌, ◌<◌, ◌+◌, ◌^◌, ℕ, arith, Option, Some, length, List, if◌then◌else◌, eqb, refl, sym, ap, ◌∙◌}
 use Rattle.std.specs.Ordering.{nat_cmp}
 use Rattle.std.specs.BTreeMap.{get}
 use Rattle.ped_marks.specs.declared.marks.Mark.{Mark}

@@ -1,5 +1,5 @@
 -- What the marks are with another entry.
-use Rattle.std.proofs.Common.{◌≡◌, ◌<◌, ℕ, arith, Some, length, List, if◌then◌else◌, eqb, sym, ap, subst, ◌∙◌}
+use Rattle.std.proofs.Common.{◌≡◌, ◌<◌, ℕ, arith, Some, length, List, if◌then◌else◌, eqb, sym, ap, ◌∙◌}
 use Rattle.std.proofs.lemmas.Grind.{common_steps}
 use Rattle.std.specs.Ordering.{nat_cmp}
 use Rattle.std.specs.BTreeMap.{get}

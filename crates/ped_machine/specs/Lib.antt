@@ -7,3 +7,4 @@ pub mod Parts
 pub mod Levels
 pub mod Opens
 pub mod Rests
+pub mod Roots

@@ -5,7 +5,8 @@ use Rattle.ped_store.specs.Stores.{Store}
 use Rattle.ped_store.specs.Acts.{store_behind}
 use Rattle.ped_interleavings.specs.Lefts.{Left, finished}
 use Rattle.ped_interleavings.specs.Steps.{Next, over, met, went, halted}
-use Rattle.ped_interleavings.specs.Interleavings.{Standing}
+use Rattle.ped_eval.specs.Outcomes.{setting_of}
+use Rattle.ped_interleavings.specs.Interleavings.{Standing, IsReached}
 use Rattle.ped_machine.specs.declared.steps.Step.{Step}
 use Rattle.ped_machine.specs.declared.steps.Step.TheVariants as step
 
@@ -32,3 +33,7 @@ IsStepBy (met fault statement) old (step.Fault number n) new = (number ≡ fault
 IsStepBy (went a rest) old step.Went new = (new.left ≡ rest) × (new.store ≡ store_behind a.touches old.store)
 IsStepBy (halted a) old step.Went new = (new.left ≡ finished) × (new.store ≡ store_behind a.touches old.store)
 IsStepBy next old answer new = ⊥
+
+-- a run with these choices comes to stand so, with some choices left
+abbrev pub ReachesSome : Held → List ℕ → Held → Type 0
+ReachesSome old choices new = (left : List ℕ) × IsReached (setting_of old.tree) (standing old choices) (standing new left)

@@ -1,9 +1,10 @@
 -- Open PARALLEL DO loops of the code, and what each of their iterations has left (this project).
-use Rattle.std.specs.Prelude.{◌≡◌, ◌≢◌, ◌<◌, ◌+◌, ◌==◌, ℕ, zero, suc, length, Bool, false, Option, Some, None, if◌then◌else◌}
+use Rattle.std.specs.Prelude.{◌≡◌, ◌≢◌, ◌<◌, ◌+◌, ◌==◌, ℕ, zero, suc, [], length, Bool, false, Option, Some, None, if◌then◌else◌}
 use Rattle.slab.specs.Slab.{Slab, get, Updates}
 use Rattle.ped_marks.specs.declared.marks.Mark.{Mark}
 use Rattle.ped_marks.specs.declared.marks.Mark.TheVariants.{Waits, Running, Done}
 use Rattle.ped_marks.specs.Marks.{at}
+use Rattle.ped_tree.specs.Tree.{StmtTrees}
 use Rattle.ped_tree.specs.Views.{head_of, stmt_trees, do_tree}
 use Rattle.ped_symbols.specs.Kinds.{Table}
 use Rattle.ped_store.specs.Cells.{Cell}
@@ -12,7 +13,7 @@ use Rattle.ped_eval.specs.Loops.{Entered}
 use Rattle.ped_eval.specs.Plans.{entered_by, IsPlan}
 use Rattle.ped_eval.specs.Readiness.{CanDo}
 use Rattle.ped_eval.specs.Agreement.{DoCopiesStand}
-use Rattle.ped_interleavings.specs.Lefts.{Left, finished, open_loop, Lefts, no_lefts, more_lefts, is_finished, body_left}
+use Rattle.ped_interleavings.specs.Lefts.{Left, finished, open_loop, Lefts, no_lefts, more_lefts, is_finished, left_of_all, body_left}
 use Rattle.ped_machine.specs.declared.opens.Open.{Open}
 
 -- what is left of a task, where one is kept
@@ -35,18 +36,21 @@ lefts_of (suc n) item = more_lefts (item 0) (lefts_of n (λ j. item (suc j)))
 abbrev pub open_entered : {C : Type 0} → Open C → Entered
 open_entered o = entered_by (head_of o.d.now) o.plan o.plan.behind
 
+-- statements that have nothing but comments
+abbrev pub is_bare : StmtTrees → Bool
+is_bare body = is_finished (left_of_all body 0 [] finished)
+
 -- the same loop
 pub record IsSameLoop {C : Type 0} (old new : Open C) : Type 0 where
   pub d : new.d ≡ old.d
   pub plan : new.plan ≡ old.plan
 
--- this task is kept for the iteration at a place, under a key that was free
-pub record HasStarted {C : Type 0} (task : C) (place key : ℕ) (old new : Open C) : Type 0 where
+-- an iteration has this mark, and this is kept under its key; the others are as they were
+pub record HasMarked {C : Type 0} (slot : Option C) (mark : Mark) (place key : ℕ) (old new : Open C) : Type 0 where
   pub same : IsSameLoop old new
-  pub free : get old.tasks key ≡ None
-  pub tasks : Updates old.tasks new.tasks key (Some task)
+  pub tasks : Updates old.tasks new.tasks key slot
   pub count : length new.marks ≡ length old.marks
-  pub marks : (k : ℕ) → at new.marks k ≡ (if k == place then Running key else at old.marks k)
+  pub marks : (k : ℕ) → at new.marks k ≡ (if k == place then mark else at old.marks k)
 
 module _ {C : Type 0} (left : C → Left) where
   -- what the iteration at a place has left
@@ -77,4 +81,5 @@ module _ {C : Type 0} (left : C → Left) where
       pub some : 0 < o.plan.count
       pub marks : length o.marks ≡ o.plan.count
       pub running : (j key : ℕ) → j < o.plan.count → at o.marks j ≡ Running key → IsRunning o.tasks key
+      pub real : (j key : ℕ) → j < o.plan.count → at o.marks j ≡ Running key → is_bare (stmt_trees o.d.now.body.items) ≡ false
       pub keys : (i j key : ℕ) → i < o.plan.count → j < o.plan.count → at o.marks i ≡ Running key → at o.marks j ≡ Running key → i ≡ j

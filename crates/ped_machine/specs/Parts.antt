@@ -99,6 +99,16 @@ abbrev pub with_statements : StmtTrees → ℕ → List Part → List Part
 with_statements ts n [] = []
 with_statements ts n (p ∷ ps) = record { stmts = ts; first = n; turn = p.turn } ∷ ps
 
+-- an iteration with one more before it (plain words)
+abbrev pub turn_counted : Option Turn → Option Turn
+turn_counted None = None
+turn_counted (Some t) = Some (record t { earlier = t.earlier + 1 })
+
+-- parts, of which the first has such a one (plain words)
+abbrev pub counted : List Part → List Part
+counted [] = []
+counted (p ∷ ps) = record { stmts = p.stmts; first = p.first; turn = turn_counted p.turn } ∷ ps
+
 -- an iteration and the next one, all whose body is left (plain words)
 abbrev pub turned_on : Part → Option Turn → Part
 turned_on p None = p
@@ -148,16 +158,16 @@ pub record IsSettled (old new : List Part) : Type 0 where
   pub left : (scope : Scope) → parts_left new scope ≡ parts_left old scope
   pub can : (table : Table) (scope : Scope) → CanGo table old scope → CanGo table new scope
 
--- the first of these statements is no comment (plain words)
-abbrev pub IsUncommented : StmtTrees → Type 0
-IsUncommented no_stmts = Unit {0}
-IsUncommented (more_stmts t ts) = is_comment t ≡ false
+-- the first of these statements is a comment (plain words)
+abbrev pub begins_with_comment : StmtTrees → Bool
+begins_with_comment no_stmts = false
+begins_with_comment (more_stmts t ts) = is_comment t
 
 -- these statements are those behind the comments that come before the first of those
 pub record IsWithoutComments (old new : StmtTrees) : Type 0 where
   pub left : (n : ℕ) (scope : Scope) (rest : Left) → left_of_all new n scope rest ≡ left_of_all old n scope rest
   pub can : (table : Table) (scope : Scope) (n : ℕ) → CanRun table scope n old → CanRun table scope n new
-  pub begins : IsUncommented new
+  pub begins : begins_with_comment new ≡ false
 
 -- a part begins with a statement, or ends an iteration of a DO
 abbrev pub GoesOn : StmtTrees → Option Turn → Type 0
@@ -212,5 +222,5 @@ CanTurnOn (Some t) = (t.earlier + 1 < 2 ^ 64) × (t.plan.number + 1 < 2 ^ 32)
 
 -- the statements of the first part with their number
 abbrev pub IsFirstBlock : List Part → Block → Type 0
-IsFirstBlock [] b = Unit {0}
+IsFirstBlock [] b = ⊥
 IsFirstBlock (p ∷ ps) b = (stmt_trees b.stmts.now ≡ p.stmts) × (b.first ≡ p.first)

@@ -1,7 +1,7 @@
 //! Open PARALLEL DO loops: what each of their iterations has left.
 
-ghost use Rattle.std.specs.Prelude.{◌≡◌, ◌≢◌, ◌<◌, ℕ, length, Bool, false, IfOk, OnOk, OnErr};
-ghost use Rattle.slab.specs.Slab.{SameValues};
+ghost use Rattle.std.specs.Prelude.{◌≡◌, ◌≢◌, ◌<◌, ℕ, length, Bool, false, Some, None, IfOk, OnErr};
+ghost use Rattle.slab.specs.Slab.{get, SameValues};
 ghost use Rattle.ped_marks.specs.Marks.{at};
 ghost use Rattle.ped_marks.specs.declared.marks.Mark.TheVariants.{Waits, Running};
 ghost use Rattle.ped_symbols.specs.Kinds.{Table};
@@ -12,7 +12,7 @@ ghost use Rattle.ped_eval.specs.Readiness.{setting_by, IsReady};
 ghost use Rattle.ped_interleavings.specs.Lefts.{is_finished, unfinished, or_else};
 ghost use Rattle.ped_interleavings.specs.Steps as Steps;
 ghost use Rattle.ped_machine.specs.Doing.{IsDone, IfOpen, HasGrown, HasRoom};
-ghost use Rattle.ped_machine.specs.Opens.{HasStarted, IsOpen, IsSameLoop, IsSameElsewhere, lefts_of, place_left};
+ghost use Rattle.ped_machine.specs.Opens.{HasMarked, IsOpen, IsSameLoop, IsSameElsewhere, lefts_of, place_left};
 
 use crate::parts::without_comments;
 use crate::steps::Done;
@@ -110,7 +110,8 @@ impl<'a, C: Work<'a>> Open<'a, C> {
     fn keep(&mut self, task: C, place: u64) -> Result<usize, NoMemory>
         requires place { place < length self.old.marks }
         requires waits { at self.old.marks place ≡ Waits }
-        ensures running { IfOk result (λ key. HasStarted task place key self.old self.new) }
+        ensures free { IfOk result (λ key. get self.old.tasks key ≡ None) }
+        ensures marked { IfOk result (λ key. HasMarked (Some task) (Running key) place key self.old self.new) }
         ensures kept { OnErr result (IsSameLoop self.old self.new × (self.new.marks ≡ self.old.marks) × SameValues self.old.tasks self.new.tasks) }
     {
         let key = self.tasks.insert(task)?;

@@ -154,7 +154,7 @@ impl<'a, C: Work<'a>> Rest<'a, C> {
         match self.step_advanced(alloc, symbols, state, stmt, number) {
             Ok(done) => return Ok(done),
             Err(error) => {
-                self.parts.restore(before);
+                self.parts.set_block(before);
                 return Err(error);
             }
         }

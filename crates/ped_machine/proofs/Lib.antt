@@ -1,0 +1,6 @@
+mod Acting
+mod Growing
+mod OpenLefts
+mod Opening
+mod PartsLeft
+mod Turning

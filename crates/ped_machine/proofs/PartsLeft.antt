@@ -30,8 +30,7 @@ last_part fs f some is =
     let n : length front ≡ k = length-take-le k fs (omega arith) in
     let all : k + 1 ≡ length fs = omega (arith, some) in
     let whole : fs ≡ front ++ f ∷ [] =
-    sym (take-length fs) ∙ ap (λ (j : ℕ). take j fs) (sym all) ∙ take_more fs k f (omega (arith, some)) ∙ ap (λ (h : code.Part). front ++ h ∷ []) (sym is) in
-    (
+    sym (take-length fs) ∙ ap (λ (j : ℕ). take j fs) (sym all) ∙ take_more fs k f (omega (arith, some)) ∙ ap (λ (h : code.Part). front ++ h ∷ []) (sym is) in (
       parts_view front,
       ap parts_view whole ∙ front_view f front,
       λ g. ap parts_view (ap (λ (xs : List code.Part). set xs k g) whole ∙ ap (λ (j : ℕ). set (front ++ f ∷ []) j g) (sym n) ∙ set-append_seam front f [] g) ∙ front_view g front,

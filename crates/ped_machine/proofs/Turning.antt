@@ -51,10 +51,9 @@ module _ (scope : Scope) (part : Part) (ps : List Part) (t : Turn) (stmts : part
         let two : t.earlier + 2 ≡ t.earlier + 1 + 1 = omega arith in
         let less : t.plan.count - (t.earlier + 1 + 1) ≡ more = omega (arith, some) in
         subst (λ (l : Left). IsDone (step p l c m.cells) (parts_left (part ∷ ps) scope) m.cells done.Went (parts_left (next ∷ ps) inner) m.cells)
-        (sym (ends_left ∙ ap (λ (k : ℕ). ends_turn e t.body t.plan.number (outside scope) (t.earlier + 1) k behind) some))
-        (
+        (sym (ends_left ∙ ap (λ (k : ℕ). ends_turn e t.body t.plan.number (outside scope) (t.earlier + 1) k behind) some)) (
           (λ i. parts_left (is i ∷ ps) (there i))
-          ∙ (λ i. left_of_all t.body (t.plan.number + 1) (frame e (two i) ∷ outside scope) (ends_turn e t.body t.plan.number (outside scope) (t.earlier + 1 + 1) (less i) behind)),
+              ∙ (λ i. left_of_all t.body (t.plan.number + 1) (frame e (two i) ∷ outside scope) (ends_turn e t.body t.plan.number (outside scope) (t.earlier + 1 + 1) (less i) behind)),
           ap (λ (ts : List Touch). store_behind ts m.cells) (sym (none_left more e (outside scope))),
         )
 
@@ -67,8 +66,7 @@ module _ (scope : Scope) (part : Part) (ps : List Part) (t : Turn) (stmts : part
       let two : t.earlier + 2 ≡ t.earlier + 1 + 1 = omega arith in
       let f : Frame = frame (entered_by t.head t.plan 0) (t.earlier + 1 + 1) in
       let here : inner ≡ f ∷ outside scope = there ∙ (λ i. frame (entered_by t.head t.plan 0) (two i) ∷ outside scope) in
-      let can : CanGo table (record { stmts = t.body; first = t.plan.number + 1; turn = Some (record t { earlier = t.earlier + 1 }) } ∷ ps) (f ∷ outside scope) =
-      (
+      let can : CanGo table (record { stmts = t.body; first = t.plan.number + 1; turn = Some (record t { earlier = t.earlier + 1 }) } ∷ ps) (f ∷ outside scope) = (
         body_can table (outside scope) t.plan.number t.head t.body k.0.can f,
         (record { plan = k.0.plan; inside = refl; earlier = more; can = k.0.can }, k.1),
       ) in

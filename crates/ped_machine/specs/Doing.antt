@@ -33,6 +33,14 @@ abbrev pub IfOpen : {E : Type 0} → Result Done E → Type 0 → Type 0
 IfOpen (Ok d) P = IfGoing d P
 IfOpen (Err e) P = P
 
+-- something holds but behind a fault
+abbrev pub IfSafe : {E : Type 0} → Result Done E → Type 0 → Type 0
+IfSafe (Ok (done.Fault number n)) P = Unit {0}
+IfSafe (Ok done.Went) P = P
+IfSafe (Ok done.Ended) P = P
+IfSafe (Ok done.Halted) P = P
+IfSafe (Err e) P = P
+
 -- arrays have the same bounds, and all cells that stood stand still
 pub record HasGrown (old new : Memory) : Type 0 where
   pub bounds : new.bounds ≡ old.bounds

@@ -8,7 +8,7 @@ ghost use Rattle.ped_eval.specs.ScopeViews.{names_at};
 ghost use Rattle.ped_eval.specs.Values.{truth};
 ghost use Rattle.ped_eval.specs.Readiness.{setting_by, IsReady, CanDo};
 ghost use Rattle.ped_interleavings.specs.Steps.{begun};
-ghost use Rattle.ped_machine.specs.Doing.{IsActed, IsDone, IfGoing, IfOpen, HasGrown, HasRoom};
+ghost use Rattle.ped_machine.specs.Doing.{IsActed, IsDone, IfGoing, IfOpen, IfSafe, HasGrown, HasRoom};
 ghost use Rattle.ped_machine.specs.declared.steps.Done.TheVariants as done;
 ghost use Rattle.ped_machine.specs.Parts.{CanGo, is_comment, is_loop, parts_left};
 
@@ -41,7 +41,7 @@ pub(crate) fn begin<'a>(
         (parts_left parts.old state.old.scope) (memory_of state.old.store).cells d (parts_left parts.new state.old.scope) (memory_of state.new.store).cells) }
     ensures kept { OnErr result ((parts.new ≡ parts.old) × HasRoom (memory_of state.old.store) (memory_of state.new.store)) }
     ensures go { IfOpen result (CanGo symbols.now parts.new state.old.scope) }
-    ensures grown { IfOpen result (HasGrown (memory_of state.old.store) (memory_of state.new.store)) }
+    ensures grown { IfSafe result (HasGrown (memory_of state.old.store) (memory_of state.new.store)) }
     ensures scope { state.new.scope ≡ state.old.scope }
 {
     match stmt {
@@ -71,11 +71,7 @@ pub(crate) fn begin<'a>(
 }
 
 /// Puts statements before what is left.
-fn push_block<'a>(
-    parts: &mut Parts<'a>,
-    stmts: &'a [Stmt],
-    first: u32,
-) -> Result<Done, NoMemory>
+fn push_block<'a>(parts: &mut Parts<'a>, stmts: &'a [Stmt], first: u32) -> Result<Done, NoMemory>
     ensures done { IfOk result (λ d. d ≡ done.Went) }
     ensures ok { OnOk result (parts.new ≡ record { stmts = stmt_trees stmts.now; first = first; turn = None } ∷ parts.old) }
     ensures err { OnErr result (parts.new ≡ parts.old) }
@@ -100,7 +96,7 @@ fn do_assignment(
     requires can { CanDo symbols.now state.old.scope number (Assign (expr_tree left.now) (expr_tree right.now)) }
     requires ready { IsReady symbols.now state.old.scope (memory_of state.old.store) }
     ensures does { IsActed symbols.now state.old.scope number (Assign (expr_tree left.now) (expr_tree right.now)) (memory_of state.old.store) result (memory_of state.new.store) }
-    ensures grown { IfGoing result (HasGrown (memory_of state.old.store) (memory_of state.new.store)) }
+    ensures grown { IfSafe {E = ⊥} (Ok result) (HasGrown (memory_of state.old.store) (memory_of state.new.store)) }
     ensures scope { state.new.scope ≡ state.old.scope }
 {
     let mut notes = Notes::unkept(alloc);
@@ -124,7 +120,7 @@ fn do_print(
     requires can { CanDo symbols.now state.old.scope number (Print (map item_tree items.now)) }
     requires ready { IsReady symbols.now state.old.scope (memory_of state.old.store) }
     ensures does { IfOk result (λ d. IsActed symbols.now state.old.scope number (Print (map item_tree items.now)) (memory_of state.old.store) d (memory_of state.new.store)) }
-    ensures grown { IfOpen result (HasGrown (memory_of state.old.store) (memory_of state.new.store)) }
+    ensures grown { IfSafe result (HasGrown (memory_of state.old.store) (memory_of state.new.store)) }
     ensures kept { OnErr result (state.new.store ≡ state.old.store) }
     ensures scope { state.new.scope ≡ state.old.scope }
 {
@@ -145,17 +141,11 @@ fn do_print(
 }
 
 /// Does a READ (ANSI X3.9-1978, section 12.8).
-fn do_read(
-    alloc: Global,
-    symbols: &Symbols,
-    state: &mut State,
-    items: &[Expr],
-    number: u32,
-) -> Done
+fn do_read(alloc: Global, symbols: &Symbols, state: &mut State, items: &[Expr], number: u32) -> Done
     requires can { CanDo symbols.now state.old.scope number (Read (map expr_tree items.now)) }
     requires ready { IsReady symbols.now state.old.scope (memory_of state.old.store) }
     ensures does { IsActed symbols.now state.old.scope number (Read (map expr_tree items.now)) (memory_of state.old.store) result (memory_of state.new.store) }
-    ensures grown { IfGoing result (HasGrown (memory_of state.old.store) (memory_of state.new.store)) }
+    ensures grown { IfSafe {E = ⊥} (Ok result) (HasGrown (memory_of state.old.store) (memory_of state.new.store)) }
     ensures scope { state.new.scope ≡ state.old.scope }
 {
     let mut notes = Notes::unkept(alloc);

@@ -7,6 +7,7 @@ mod levels;
 mod machine;
 mod opens;
 mod parts;
+mod phases;
 mod rests;
 mod steps;
 mod turns;

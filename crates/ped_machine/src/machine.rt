@@ -1,21 +1,21 @@
 //! The machine.
 
-ghost use Rattle.std.specs.Prelude.{◌≡◌, [], None, IfOk, OnErr, OnOk};
-ghost use Rattle.std.specs.Str.Lines.{lines};
+ghost use Rattle.std.specs.Prelude.{◌≡◌, ◌<◌, ◌∷◌, [], ℕ, List, None, false, drop, Ok, IfOk, OnErr};
 ghost use Rattle.ped_tree.specs.Views.{program_tree, stmt_trees};
 ghost use Rattle.ped_symbols.specs.Kinds.{table_of};
 ghost use Rattle.ped_symbols.specs.NameRefusals.{IsValid};
 ghost use Rattle.ped_eval.specs.Outcomes.{setting_of};
 ghost use Rattle.ped_eval.specs.OutcomeViews.{outcome_view};
 ghost use Rattle.ped_interleavings.specs.Lefts as Lefts;
-ghost use Rattle.ped_interleavings.specs.Lefts.{left_of_all, finished};
 ghost use Rattle.ped_interleavings.specs.Steps as Steps;
-ghost use Rattle.ped_interleavings.specs.Interleavings.{IsInterleavedFrom, at_start, choice, behind_choice};
+ghost use Rattle.ped_interleavings.specs.Interleavings.{IsInterleavedFrom, at_start, choice};
 ghost use Rattle.ped_interleavings.specs.Weights.{left_weight};
 ghost use Rattle.ped_machine.specs.Machines.{standing, IsSameRun, IsStepBy, ReachesSome};
+ghost use Rattle.ped_machine.specs.declared.steps.Step.TheVariants as step;
 
 use crate::levels::Level;
 use crate::parts::{Part, Parts};
+use crate::phases::Phase;
 use crate::rests::Rest;
 use crate::steps::{Done, Step};
 use crate::works::Never;
@@ -27,8 +27,7 @@ use std::alloc::Global;
 use std::marker::Model;
 
 /// An iteration of an outermost PARALLEL DO: DO loops stand at most six deep in one another.
-type Outermost<'a> =
-    Level<'a, Level<'a, Level<'a, Level<'a, Level<'a, Level<'a, Never>>>>>>;
+type Outermost<'a> = Level<'a, Level<'a, Level<'a, Level<'a, Level<'a, Level<'a, Never>>>>>>;
 
 /// A run of a program whose PARALLEL DO loops go on in any order, as choices pick it. Contracts see the program, what is left
 /// of the run, and its store.
@@ -39,7 +38,7 @@ pub struct Machine<'a> {
     symbols: &'a Symbols,
     state: State,
     rest: Rest<'a, Outermost<'a>>,
-    is_over: bool,
+    phase: Phase,
 }
 
 impl<'a> Model for Machine<'a> {
@@ -48,13 +47,13 @@ impl<'a> Model for Machine<'a> {
     ghost use Rattle.ped_symbols.specs.Kinds.{table_of};
     ghost use Rattle.ped_store.specs.Keeping.{memory_of};
     ghost use Rattle.ped_machine.specs.Machines.{Held};
-    ghost use Rattle.ped_machine.specs.Roots.{root_left, IsRootSound};
+    ghost use Rattle.ped_machine.specs.Roots.{root_left, has_faulted, IsRight};
 
     ghost Value = { Held };
 
-    ghost view = { λ m. record { tree = program_tree m.program.now; left = root_left m.is_over m.rest; store = (memory_of m.state.store).cells } };
+    ghost view = { λ m. record { tree = program_tree m.program.now; left = root_left m.phase m.rest; store = (memory_of m.state.store).cells; faulted = has_faulted m.phase } };
 
-    ghost invariant = { λ m. (m.symbols.now ≡ table_of (program_tree m.program.now)) × (m.state.scope ≡ []) × (m.is_over ≡ false → IsRootSound m.rest m.symbols.now (memory_of m.state.store)) };
+    ghost invariant = { λ m. (m.symbols.now ≡ table_of (program_tree m.program.now)) × (m.state.scope ≡ []) × IsRight m.phase m.rest m.symbols.now (memory_of m.state.store) };
 }
 
 impl<'a> Machine<'a> {
@@ -73,6 +72,7 @@ impl<'a> Machine<'a> {
         requires valid { IsValid (program_tree program.now) }
         requires symbols { symbols.now ≡ table_of (program_tree program.now) }
         ensures tree { IfOk result (λ m. m.tree ≡ program_tree program.now) }
+        ensures faulted { IfOk result (λ m. m.faulted ≡ false) }
         ensures stands { IfOk result (λ m. (choices : List ℕ) → standing m choices ≡ at_start (program_tree program.now) input.now choices) }
     {
         let rest = whole(alloc, program)?;
@@ -83,7 +83,7 @@ impl<'a> Machine<'a> {
             symbols,
             state,
             rest,
-            is_over: false,
+            phase: Phase::Goes,
         })
     }
 
@@ -91,10 +91,10 @@ impl<'a> Machine<'a> {
     pub fn wants_choice(&self) -> bool
         ensures { result ≡ Lefts.wants_choice self.now.left }
     {
-        if self.is_over {
-            return false;
+        match self.phase {
+            Phase::Goes => return self.rest.wants_choice(),
+            Phase::Ended | Phase::Faulted => return false,
         }
-        self.rest.wants_choice()
     }
 
     /// Does the next step: of an open PARALLEL DO with N iterations, the choice c picks the iteration c mod N or the first
@@ -104,28 +104,32 @@ impl<'a> Machine<'a> {
     ///
     /// Want of memory. Then the same is left, and the store is the same.
     pub fn step(&mut self, choice: u64) -> Result<Step, NoMemory>
+        requires { self.old.faulted ≡ false }
         ensures does { IfOk result (λ r. IsStepBy (Steps.step (setting_of self.old.tree) self.old.left choice self.old.store) self.old r self.new) }
         ensures kept { OnErr result (IsSameRun self.old self.new) }
         ensures tree { self.new.tree ≡ self.old.tree }
         ensures lighter { result ≡ Ok step.Went → left_weight self.new.left < left_weight self.old.left }
     {
-        if self.is_over {
-            return Ok(Step::Ended);
+        match self.phase {
+            Phase::Goes => return self.go_on(choice),
+            Phase::Ended | Phase::Faulted => return Ok(Step::Ended),
         }
-        let done = self
-            .rest
-            .step(self.alloc, self.symbols, &mut self.state, choice)?;
-        match done {
-            Done::Went => return Ok(Step::Went),
-            Done::Ended => return Ok(Step::Ended),
-            Done::Halted => {
-                self.is_over = true;
+    }
+
+    /// Does the next step of a run that goes on.
+    fn go_on(&mut self, choice: u64) -> Result<Step, NoMemory> {
+        match self.rest.step(self.alloc, self.symbols, &mut self.state, choice) {
+            Ok(Done::Went) => return Ok(Step::Went),
+            Ok(Done::Ended) => return Ok(Step::Ended),
+            Ok(Done::Halted) => {
+                self.phase = Phase::Ended;
                 return Ok(Step::Went);
             }
-            Done::Fault { fault, statement } => {
-                self.is_over = true;
+            Ok(Done::Fault { fault, statement }) => {
+                self.phase = Phase::Faulted;
                 return Ok(Step::Fault { fault, statement });
             }
+            Err(error) => return Err(error),
         }
     }
 
@@ -136,6 +140,7 @@ impl<'a> Machine<'a> {
     /// Want of memory. Then the run stands where steps with these choices have brought it, or with all of them and zeros
     /// behind them.
     pub fn run(&mut self, choices: &[u64]) -> Result<Outcome, NoMemory>
+        requires { self.old.faulted ≡ false }
         ensures outcome { IfOk result (λ o. IsInterleavedFrom self.old.tree (standing self.old choices.now) (outcome_view o)) }
         ensures reached { OnErr result (ReachesSome self.old choices.now self.new) }
         ensures tree { self.new.tree ≡ self.old.tree }

@@ -11,7 +11,7 @@ ghost use Rattle.ped_eval.specs.Scopes.{Scope};
 ghost use Rattle.ped_eval.specs.Readiness.{setting_by, IsReady};
 ghost use Rattle.ped_interleavings.specs.Lefts.{is_finished, unfinished, or_else};
 ghost use Rattle.ped_interleavings.specs.Steps as Steps;
-ghost use Rattle.ped_machine.specs.Doing.{IsDone, IfOpen, HasGrown, HasRoom};
+ghost use Rattle.ped_machine.specs.Doing.{IsDone, IfOpen, IfSafe, HasGrown, HasRoom};
 ghost use Rattle.ped_machine.specs.Opens.{HasMarked, IsOpen, IsSameLoop, IsSameElsewhere, lefts_of, place_left};
 
 use crate::parts::without_comments;
@@ -72,7 +72,7 @@ impl<'a, C: Work<'a>> Open<'a, C> {
         ensures same { IfOpen result (IsSameLoop self.old self.new) }
         ensures elsewhere { IfOpen result (IsSameElsewhere C.left state.old.scope place self.old self.new) }
         ensures open { IfOpen result (IsOpen C.left C.sound symbols.now (memory_of state.new.store).stands state.old.scope self.new) }
-        ensures grown { IfOpen result (HasGrown (memory_of state.old.store) (memory_of state.new.store)) }
+        ensures grown { IfSafe result (HasGrown (memory_of state.old.store) (memory_of state.new.store)) }
         ensures scope { state.new.scope ≡ state.old.scope }
     {
         match self.marks.at(place) {
@@ -144,7 +144,7 @@ impl<'a, C: Work<'a>> Open<'a, C> {
         ensures same { IfOpen result (IsSameLoop self.old self.new) }
         ensures elsewhere { IfOpen result (IsSameElsewhere C.left state.old.scope place self.old self.new) }
         ensures open { IfOpen result (IsOpen C.left C.sound symbols.now (memory_of state.new.store).stands state.old.scope self.new) }
-        ensures grown { IfOpen result (HasGrown (memory_of state.old.store) (memory_of state.new.store)) }
+        ensures grown { IfSafe result (HasGrown (memory_of state.old.store) (memory_of state.new.store)) }
         ensures scope { state.new.scope ≡ state.old.scope }
     {
         match self.tasks.get_mut(key) {

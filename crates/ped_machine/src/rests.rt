@@ -13,7 +13,7 @@ ghost use Rattle.ped_eval.specs.Plans.{entered_by, IsPlan};
 ghost use Rattle.ped_eval.specs.Readiness.{setting_by, CanDo, IsReady};
 ghost use Rattle.ped_interleavings.specs.Lefts.{Left, is_finished, wants_choice, entered_left};
 ghost use Rattle.ped_interleavings.specs.Steps as Steps;
-ghost use Rattle.ped_machine.specs.Doing.{IsDone, IfOpen, HasGrown, HasRoom};
+ghost use Rattle.ped_machine.specs.Doing.{IsDone, IfOpen, IfSafe, HasGrown, HasRoom};
 ghost use Rattle.ped_machine.specs.Parts.{CanGo, Begins, is_comment, is_loop, parts_left};
 ghost use Rattle.ped_machine.specs.Opens.{IsOpen, open_left};
 ghost use Rattle.ped_machine.specs.Rests.{rest_left, IsSound};
@@ -84,7 +84,7 @@ impl<'a, C: Work<'a>> Rest<'a, C> {
         ensures kept { OnErr result ((state.new.scope ≡ state.old.scope) × (rest_left C.left state.old.scope self.new ≡ rest_left C.left state.old.scope self.old) × HasRoom (memory_of state.old.store) (memory_of state.new.store)) }
         ensures sound { IfOpen result (IsSound C.left C.sound state.new.scope self.new symbols.now (memory_of state.new.store).stands) }
         ensures copies { IfOpen result (DoCopiesStand state.new.scope (memory_of state.new.store).stands) }
-        ensures grown { IfOpen result (HasGrown (memory_of state.old.store) (memory_of state.new.store)) }
+        ensures grown { IfSafe result (HasGrown (memory_of state.old.store) (memory_of state.new.store)) }
     {
         if self.open.is_some() {
             return self.step_open(alloc, symbols, state, choice);
@@ -114,7 +114,7 @@ impl<'a, C: Work<'a>> Rest<'a, C> {
         ensures kept { OnErr result ((state.new.scope ≡ state.old.scope) × (rest_left C.left state.old.scope self.new ≡ rest_left C.left state.old.scope self.old) × HasRoom (memory_of state.old.store) (memory_of state.new.store)) }
         ensures sound { IfOpen result (IsSound C.left C.sound state.new.scope self.new symbols.now (memory_of state.new.store).stands) }
         ensures copies { IfOpen result (DoCopiesStand state.new.scope (memory_of state.new.store).stands) }
-        ensures grown { IfOpen result (HasGrown (memory_of state.old.store) (memory_of state.new.store)) }
+        ensures grown { IfSafe result (HasGrown (memory_of state.old.store) (memory_of state.new.store)) }
     {
         match &mut self.open {
             None => return Ok(Done::Ended),
@@ -148,7 +148,7 @@ impl<'a, C: Work<'a>> Rest<'a, C> {
         ensures kept { OnErr result ((state.new.scope ≡ state.old.scope) × (rest_left C.left state.old.scope self.new ≡ rest_left C.left state.old.scope self.old) × HasRoom (memory_of state.old.store) (memory_of state.new.store)) }
         ensures sound { IfOpen result (IsSound C.left C.sound state.new.scope self.new symbols.now (memory_of state.new.store).stands) }
         ensures copies { IfOpen result (DoCopiesStand state.new.scope (memory_of state.new.store).stands) }
-        ensures grown { IfOpen result (HasGrown (memory_of state.old.store) (memory_of state.new.store)) }
+        ensures grown { IfSafe result (HasGrown (memory_of state.old.store) (memory_of state.new.store)) }
     {
         let before = self.parts.advance();
         match self.step_advanced(alloc, symbols, state, stmt, number) {
@@ -179,7 +179,7 @@ impl<'a, C: Work<'a>> Rest<'a, C> {
         ensures kept { OnErr result ((state.new.scope ≡ state.old.scope) × (self.new ≡ self.old) × HasRoom (memory_of state.old.store) (memory_of state.new.store)) }
         ensures sound { IfOpen result (IsSound C.left C.sound state.new.scope self.new symbols.now (memory_of state.new.store).stands) }
         ensures copies { IfOpen result (DoCopiesStand state.new.scope (memory_of state.new.store).stands) }
-        ensures grown { IfOpen result (HasGrown (memory_of state.old.store) (memory_of state.new.store)) }
+        ensures grown { IfSafe result (HasGrown (memory_of state.old.store) (memory_of state.new.store)) }
     {
         match loop_of(stmt) {
             Some(d) => return self.enter(alloc, symbols, state, d, number),
@@ -205,7 +205,7 @@ impl<'a, C: Work<'a>> Rest<'a, C> {
         ensures kept { OnErr result ((state.new.scope ≡ state.old.scope) × (self.new ≡ self.old) × HasRoom (memory_of state.old.store) (memory_of state.new.store)) }
         ensures sound { IfOpen result (IsSound C.left C.sound state.new.scope self.new symbols.now (memory_of state.new.store).stands) }
         ensures copies { IfOpen result (DoCopiesStand state.new.scope (memory_of state.new.store).stands) }
-        ensures grown { IfOpen result (HasGrown (memory_of state.old.store) (memory_of state.new.store)) }
+        ensures grown { IfSafe result (HasGrown (memory_of state.old.store) (memory_of state.new.store)) }
     {
         match plan_of(alloc, symbols, state, &mut NoWatch, d, number) {
             Ok(plan) => return self.go_in(alloc, state, d, plan),

@@ -14,7 +14,7 @@ ghost use Rattle.ped_eval.specs.Plans.{entered_by, IsPlan};
 ghost use Rattle.ped_eval.specs.Readiness.{CanDo, IsReady};
 ghost use Rattle.ped_interleavings.specs.Lefts.{turns_left};
 ghost use Rattle.ped_interleavings.specs.Steps as Steps;
-ghost use Rattle.ped_machine.specs.Doing.{IsDone, IfOpen, HasGrown, HasRoom};
+ghost use Rattle.ped_machine.specs.Doing.{IsDone, IfOpen, IfSafe, HasGrown, HasRoom};
 ghost use Rattle.ped_machine.specs.Parts.{CanGo, Ends, first_turn_part, parts_left};
 ghost use Rattle.ped_machine.specs.declared.steps.Done.TheVariants as done;
 
@@ -27,12 +27,7 @@ use ped_tree::{Do, copy_names};
 use std::alloc::Global;
 
 /// What stands for the iteration of a DO before which there are so many.
-pub(crate) fn frame_of(
-    alloc: Global,
-    d: &Do,
-    plan: &Plan,
-    earlier: u64,
-) -> Result<Frame, NoMemory>
+pub(crate) fn frame_of(alloc: Global, d: &Do, plan: &Plan, earlier: u64) -> Result<Frame, NoMemory>
     requires plan { IsPlan (head_of d.now) (stmt_trees d.now.body.items) plan.now }
     requires earlier { earlier < plan.now.count }
     ensures { IfOk result (λ f. frame_view f ≡ Loops.frame (entered_by (head_of d.now) plan.now 0) (earlier + 1)) }
@@ -66,12 +61,7 @@ pub(crate) fn open_copies(
 }
 
 /// Makes the copy of a name, which is private to these iterations. One that stands keeps what it holds.
-fn open_copy(
-    alloc: Global,
-    store: &mut Store,
-    scope: &Scope,
-    name: &Name,
-) -> Result<(), NoMemory>
+fn open_copy(alloc: Global, store: &mut Store, scope: &Scope, name: &Name) -> Result<(), NoMemory>
     requires { is_copy (cell_of scope.now name.now) ≡ true }
     ensures room { HasRoom (memory_of store.old) (memory_of store.new) }
     ensures stands { OnOk result ((memory_of store.new).stands (cell_of scope.now name.now) ≡ true) }
@@ -129,7 +119,12 @@ fn open_body<'a>(
     ensures stand { OnOk result (list_all (λ x. (memory_of state.new.store).stands (cell_of state.old.scope x)) plan.copied ≡ true) }
     ensures scope { state.new.scope ≡ state.old.scope }
 {
-    open_copies(alloc, &mut state.store, &state.scope, plan.copied.as_slice())?;
+    open_copies(
+        alloc,
+        &mut state.store,
+        &state.scope,
+        plan.copied.as_slice(),
+    )?;
     let first = plan.number + 1;
     parts.push(Part {
         stmts: &d.body,
@@ -155,7 +150,7 @@ pub(crate) fn end_turn(
     ensures kept { OnErr result ((state.new.scope ≡ state.old.scope) × (parts.new ≡ parts.old) × HasRoom (memory_of state.old.store) (memory_of state.new.store)) }
     ensures go { IfOpen result ((table : Table) → CanGo table parts.old state.old.scope → CanGo table parts.new state.new.scope) }
     ensures copies { IfOpen result (DoCopiesStand state.old.scope (memory_of state.old.store).stands → DoCopiesStand state.new.scope (memory_of state.new.store).stands) }
-    ensures grown { IfOpen result (HasGrown (memory_of state.old.store) (memory_of state.new.store)) }
+    ensures grown { IfSafe result (HasGrown (memory_of state.old.store) (memory_of state.new.store)) }
 {
     match parts.turn() {
         None => return Ok(Done::Ended),
@@ -184,8 +179,15 @@ fn next_turn(alloc: Global, state: &mut State, turn: &Turn) -> Result<(), NoMemo
 {
     let plan = &turn.plan;
     let earlier = turn.earlier;
-    state.scope.turn(earlier + 2, plan.value_behind(earlier + 1));
-    match open_copies(alloc, &mut state.store, &state.scope, plan.copied.as_slice()) {
+    state
+        .scope
+        .turn(earlier + 2, plan.value_behind(earlier + 1));
+    match open_copies(
+        alloc,
+        &mut state.store,
+        &state.scope,
+        plan.copied.as_slice(),
+    ) {
         Ok(()) => return Ok(()),
         Err(error) => {
             state.scope.turn(earlier + 1, plan.value_behind(earlier));

@@ -10,7 +10,7 @@ ghost use Rattle.ped_eval.specs.Plans.{entered_by, IsPlan};
 ghost use Rattle.ped_eval.specs.Readiness.{setting_by, CanDo, IsReady};
 ghost use Rattle.ped_interleavings.specs.Lefts.{Left, finished, is_finished, body_left};
 ghost use Rattle.ped_interleavings.specs.Steps as Steps;
-ghost use Rattle.ped_machine.specs.Doing.{IsDone, IfOpen, HasGrown, HasRoom};
+ghost use Rattle.ped_machine.specs.Doing.{IsDone, IfOpen, IfSafe, HasGrown, HasRoom};
 
 use crate::steps::Done;
 use ped_base::NoMemory;
@@ -71,7 +71,7 @@ pub trait Work<'a>: Drop {
         ensures does { IfOk result (λ d. IsDone (Steps.step (setting_by symbols.now) (left self.old) choice (memory_of state.old.store).cells) (left self.old) (memory_of state.old.store).cells d (left self.new) (memory_of state.new.store).cells) }
         ensures kept { OnErr result ((left self.new ≡ left self.old) × HasRoom (memory_of state.old.store) (memory_of state.new.store)) }
         ensures sound { IfOpen result (sound self.new symbols.now (memory_of state.new.store).stands) }
-        ensures grown { IfOpen result (HasGrown (memory_of state.old.store) (memory_of state.new.store)) }
+        ensures grown { IfSafe result (HasGrown (memory_of state.old.store) (memory_of state.new.store)) }
         ensures scope { state.new.scope ≡ state.old.scope };
 
     /// It can be done where more stands, too.

@@ -111,13 +111,9 @@ impl<'a> Machine<'a> {
         ensures lighter { result ≡ Ok step.Went → left_weight self.new.left < left_weight self.old.left }
     {
         match self.phase {
-            Phase::Goes => return self.go_on(choice),
+            Phase::Goes => {}
             Phase::Ended | Phase::Faulted => return Ok(Step::Ended),
         }
-    }
-
-    /// Does the next step of a run that goes on.
-    fn go_on(&mut self, choice: u64) -> Result<Step, NoMemory> {
         match self.rest.step(self.alloc, self.symbols, &mut self.state, choice) {
             Ok(Done::Went) => return Ok(Step::Went),
             Ok(Done::Ended) => return Ok(Step::Ended),

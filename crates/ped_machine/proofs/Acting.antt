@@ -119,13 +119,12 @@ module _ (table : Table) (scope : Scope) (n : ℕ) (m : Memory) (bounds : m.boun
         let p = setting_by table in
         let t = limits (names_in p scope) h m.cells in
         let lim : t.result ≡ Ok l = (λ i. (limits (sym names_are i) h m.cells).result) ∙ r in
-        let as : entered_with p n h body t.seen l ≡ e = (λ i. entered_with p n h body (limits (sym names_are i) h m.cells).seen l) ∙ is in
+        let there : entered_with p n h body t.seen l ≡ e = (λ i. entered_with p n h body (limits (sym names_are i) h m.cells).seen l) ∙ is in
         subst (λ (x : Next). IsDone x rest m.cells done.Went left new)
-        (λ i. seen_next (place_of p n scope) t.seen (sym lim i) goes_in)
-        (
-          k ∙ (λ i. entered_left h.parallel (sym as i).count (sym as i) body n scope rest),
-          u ∙ (λ i. store_behind (exit_when_none (sym as i).count (sym as i) scope) m.cells)
-          ∙ sym (reads_leave t.seen 1 (exit_when_none (entered_with p n h body t.seen l).count (entered_with p n h body t.seen l) scope) m.cells),
+        (λ i. seen_next (place_of p n scope) t.seen (sym lim i) goes_in) (
+          k ∙ (λ i. entered_left h.parallel (sym there i).count (sym there i) body n scope rest),
+          u ∙ (λ i. store_behind (exit_when_none (sym there i).count (sym there i) scope) m.cells)
+              ∙ sym (reads_leave t.seen 1 (exit_when_none (entered_with p n h body t.seen l).count (entered_with p n h body t.seen l) scope) m.cells),
         )
 
     pub enter_fails : (f : ℕ) (left : Left) (new : Store) → (limits (names_at m scope table.constants) h m.cells).result ≡ Err f

@@ -76,7 +76,7 @@ module _ {C : Type 0} (left : C → Left) (sound : C → Table → (Cell → Boo
     running_open : (j key : ℕ) → j < o.plan.count → at o.marks j ≡ Running key → is_finished (place_left left scope o j) ≡ false
     running_open j key k r =
         let t = h.running j key k r in
-        ap is_finished (left_by o j (Running key) r ∙ ap (kept_left left) t.kept) ∙ t.open
+        ap is_finished (left_by o j (Running key) r ∙ ap (kept_left left) t.kept) ∙ t.unfinished
 
     -- in a loop with comments alone all iterations are finished
     bare_finished : is_bare (body_of o) ≡ true → (j : ℕ) → j < o.plan.count → is_finished (place_left left scope o j) ≡ true
@@ -181,7 +181,7 @@ module _ {C : Type 0} (left : C → Left) (sound : C → Table → (Cell → Boo
           by Done e = left_by new j Done (mark_else j d ∙ e) ∙ sym (left_by old j Done e)
           by (Running k) e = left_by new j (Running k) (mark_else j d ∙ e) ∙ ap (kept_left left) (h.tasks.others k (apart j k less d e)) ∙ sym (left_by old j (Running k) e)
 
-      module _ (table : Table) (stands more : Cell → Bool) (grows : Grows) (grown : More stands more) (open : IsOpen left sound table stands scope old) where
+      module _ (table : Table) (stands more : Cell → Bool) (grows : Grows) (grown : More stands more) (o : IsOpen left sound table stands scope old) where
         count_same : new.plan.count ≡ old.plan.count
         count_same = λ i. (h.same.plan i).count
 
@@ -191,23 +191,23 @@ module _ {C : Type 0} (left : C → Left) (sound : C → Table → (Cell → Boo
         -- where that of this iteration is right, all that is left of the loop can be done
         pub marked_open : ((k : ℕ) → mark ≡ Running k → (k ≡ key) × IsRunning left sound table more new.tasks key × (is_bare (body_of old) ≡ false)) → IsOpen left sound table more scope new
         marked_open right = record {
-          plan = subst (λ (p : Plan). IsPlan (head_of new.d.now) (stmt_trees new.d.now.body.items) p) (sym h.same.plan) (subst (λ (d : _). IsPlan (head_of d.now) (stmt_trees d.now.body.items) old.plan) (sym h.same.d) open.plan);
-          can = subst (λ (p : Plan). CanDo table scope p.number (do_tree new.d.now)) (sym h.same.plan) (subst (λ (d : _). CanDo table scope old.plan.number (do_tree d.now)) (sym h.same.d) open.can);
-          some = subst (λ (n : ℕ). 0 < n) (sym count_same) open.some;
-          marks = h.count ∙ open.marks ∙ sym count_same;
+          plan = subst (λ (p : Plan). IsPlan (head_of new.d.now) (stmt_trees new.d.now.body.items) p) (sym h.same.plan) (subst (λ (d : _). IsPlan (head_of d.now) (stmt_trees d.now.body.items) old.plan) (sym h.same.d) o.plan);
+          can = subst (λ (p : Plan). CanDo table scope p.number (do_tree new.d.now)) (sym h.same.plan) (subst (λ (d : _). CanDo table scope old.plan.number (do_tree d.now)) (sym h.same.d) o.can);
+          some = subst (λ (n : ℕ). 0 < n) (sym count_same) o.some;
+          marks = h.count ∙ o.marks ∙ sym count_same;
           running = λ j k less r.
               this_or_other j place (IsRunning left sound table more new.tasks k)
               (λ e. let q = right k (sym mark_there ∙ ap (at new.marks) (sym e) ∙ r) in subst (IsRunning left sound table more new.tasks) (sym q.0) q.1)
               (λ d.
               let r2 = sym (mark_else j d) ∙ r in
               let less2 = less_too j less in
-              let t = open.running j k less2 r2 in
-              record { task = t.task; kept = h.tasks.others k (apart j k less2 d r2) ∙ t.kept; open = t.open; sound = grows t.task table stands more grown t.sound });
+              let t = o.running j k less2 r2 in
+              record { task = t.task; kept = h.tasks.others k (apart j k less2 d r2) ∙ t.kept; unfinished = t.unfinished; sound = grows t.task table stands more grown t.sound });
           real = λ j k less r.
               ap is_bare (λ i. stmt_trees (h.same.d i).now.body.items)
               ∙ this_or_other j place (is_bare (body_of old) ≡ false)
               (λ e. (right k (sym mark_there ∙ ap (at new.marks) (sym e) ∙ r)).2)
-              (λ d. open.real j k (less_too j less) (sym (mark_else j d) ∙ r));
+              (λ d. o.real j k (less_too j less) (sym (mark_else j d) ∙ r));
           keys = λ i j k a b r s.
               this_or_other i place (i ≡ j)
               (λ e. this_or_other j place (i ≡ j)
@@ -215,19 +215,19 @@ module _ {C : Type 0} (left : C → Left) (sound : C → Table → (Cell → Boo
               (λ d. absurd (apart j k (less_too j b) d (sym (mark_else j d) ∙ s) (right k (sym mark_there ∙ ap (at new.marks) (sym e) ∙ r)).0)))
               (λ d. this_or_other j place (i ≡ j)
               (λ f. absurd (apart i k (less_too i a) d (sym (mark_else i d) ∙ r) (right k (sym mark_there ∙ ap (at new.marks) (sym f) ∙ s)).0))
-              (λ g. open.keys i j k (less_too i a) (less_too j b) (sym (mark_else i d) ∙ r) (sym (mark_else j g) ∙ s)));
+              (λ g. o.keys i j k (less_too i a) (less_too j b) (sym (mark_else i d) ∙ r) (sym (mark_else j g) ∙ s)));
         }
 
   -- a free key is no other iteration's
   pub free_apart : (table : Table) (stands : Cell → Bool) (old : Open C) (place key : ℕ) → IsOpen left sound table stands scope old → get old.tasks key ≡ None
       → (j k : ℕ) → j < old.plan.count → j ≢ place → at old.marks j ≡ Running k → k ≢ key
-  free_apart table stands old place key open free j k less d r e =
-      let t = open.running j k less r in
+  free_apart table stands old place key o free j k less d r e =
+      let t = o.running j k less r in
       let w : Some t.task ≡ None = sym t.kept ∙ ap (get old.tasks) e ∙ free in
       absurd cc
 
   -- the key of a running iteration is no other iteration's
   pub running_apart : (table : Table) (stands : Cell → Bool) (old : Open C) (place key : ℕ) → IsOpen left sound table stands scope old → place < old.plan.count → at old.marks place ≡ Running key
       → (j k : ℕ) → j < old.plan.count → j ≢ place → at old.marks j ≡ Running k → k ≢ key
-  running_apart table stands old place key open there running j k less d r e =
-      d (open.keys j place key less there (r ∙ ap Running e) running)
+  running_apart table stands old place key o there running j k less d r e =
+      d (o.keys j place key less there (r ∙ ap Running e) running)

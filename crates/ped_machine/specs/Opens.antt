@@ -71,7 +71,7 @@ module _ {C : Type 0} (left : C → Left) where
     pub record IsRunning (tasks : Slab C) (key : ℕ) : Type 0 where
       pub task : C
       pub kept : get tasks key ≡ Some task
-      pub open : is_finished (left task) ≡ false
+      pub unfinished : is_finished (left task) ≡ false
       pub sound : sound task table stands
 
     -- the steps of an open loop can be done

@@ -17,7 +17,7 @@ module _ {C : Type 0} (left : C → Left) where
 
   -- what is left, with these iterations round it
   abbrev pub rest_left : Scope → Rest C → Left
-  rest_left scope r = opened_left scope r.open (parts_left r.parts scope)
+  rest_left scope r = opened_left scope r.inner (parts_left r.parts scope)
 
   module _ (sound : C → Table → (Cell → Bool) → Type 0) (scope : Scope) where
     -- where a loop is open, its steps can be done
@@ -28,4 +28,4 @@ module _ {C : Type 0} (left : C → Left) where
     -- all that is left can be done
     pub record IsSound (r : Rest C) (table : Table) (stands : Cell → Bool) : Type 0 where
       pub parts : CanGo table r.parts scope
-      pub open : IfOpened r.open table stands
+      pub inner : IfOpened r.inner table stands

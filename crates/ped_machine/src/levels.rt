@@ -3,6 +3,7 @@
 ghost use Rattle.std.specs.Prelude.{◌≡◌, ◌<◌, ◌+◌, ◌^◌, ◌∷◌, length, [], None, IfOk};
 ghost use Rattle.ped_tree.specs.Views.{head_of, stmt_trees};
 ghost use Rattle.ped_eval.specs.Loops as Loops;
+ghost use Rattle.ped_eval.specs.ScopeViews.{frame_view};
 ghost use Rattle.ped_eval.specs.Plans.{entered_by, IsPlan};
 
 use crate::parts::{Part, Parts};
@@ -11,7 +12,7 @@ use crate::steps::Done;
 use crate::turns::{frame_of, open_copies};
 use crate::works::Work;
 use ped_base::NoMemory;
-use ped_eval::{Plan, Scope, State};
+use ped_eval::{Frame, Plan, Scope, State};
 use ped_symbols::Symbols;
 use ped_tree::Do;
 use std::alloc::Global;
@@ -42,12 +43,10 @@ impl<'a, C: Work<'a>> Work<'a> for Level<'a, C> {
         earlier: u64,
     ) -> Result<Level<'a, C>, NoMemory> {
         let scope = inner_scope(alloc, &state.scope, d, plan, earlier)?;
-        open_copies(alloc, &mut state.store, &scope, plan.copied.as_slice())?;
-        let parts = body_parts(alloc, d, plan)?;
-        Ok(Level {
-            scope,
-            rest: Rest { parts, open: None },
-        })
+        match open_copies(alloc, &mut state.store, &scope, plan.copied.as_slice()) {
+            Ok(()) => return with_body(alloc, scope, d, plan),
+            Err(error) => return Err(error),
+        }
     }
 
     fn is_over(&mut self) -> bool {
@@ -81,22 +80,51 @@ fn inner_scope(
     requires few { length outer.now < 6 }
     ensures { IfOk result (λ scope. scope ≡ Loops.frame (entered_by (head_of d.now) plan.now 0) (earlier + 1) ∷ outer.now) }
 {
-    let mut scope = outer.copy(alloc)?;
-    let frame = frame_of(alloc, d, plan, earlier)?;
-    scope.enter(frame)?;
-    Ok(scope)
+    match frame_of(alloc, d, plan, earlier) {
+        Ok(frame) => return entered(alloc, outer, frame),
+        Err(error) => return Err(error),
+    }
 }
 
-/// The body of a DO as what is left.
-fn body_parts<'a>(alloc: Global, d: &'a Do, plan: &Plan) -> Result<Parts<'a>, NoMemory>
+/// The iterations round a place, and one more.
+fn entered(alloc: Global, outer: &Scope, frame: Frame) -> Result<Scope, NoMemory>
+    requires { length outer.now < 6 }
+    ensures { IfOk result (λ scope. scope ≡ frame_view frame ∷ outer.now) }
+{
+    match outer.copy(alloc) {
+        Ok(scope) => {
+            let mut inner = scope;
+            match inner.enter(frame) {
+                Ok(()) => return Ok(inner),
+                Err(error) => return Err(error),
+            }
+        }
+        Err(error) => return Err(error),
+    }
+}
+
+/// The iteration of a DO with all its body left.
+fn with_body<'a, C: Work<'a>>(
+    alloc: Global,
+    scope: Scope,
+    d: &'a Do,
+    plan: &Plan,
+) -> Result<Level<'a, C>, NoMemory>
     requires { plan.now.number + 1 < 2 ^ 32 }
-    ensures { IfOk result (λ parts. parts ≡ record { stmts = stmt_trees d.now.body.items; first = plan.now.number + 1; turn = None } ∷ []) }
+    ensures scope { IfOk result (λ w. w.scope ≡ scope) }
+    ensures parts { IfOk result (λ w. w.rest.parts ≡ record { stmts = stmt_trees d.now.body.items; first = plan.now.number + 1; turn = None } ∷ []) }
+    ensures inner { IfOk result (λ w. w.rest.inner ≡ None) }
 {
     let mut parts = Parts::new(alloc);
-    parts.push(Part {
+    match parts.push(Part {
         stmts: &d.body,
         first: plan.number + 1,
         turn: None,
-    })?;
-    Ok(parts)
+    }) {
+        Ok(()) => return Ok(Level {
+            scope,
+            rest: Rest { parts, inner: None },
+        }),
+        Err(error) => return Err(error),
+    }
 }

@@ -114,7 +114,10 @@ impl<'a> Machine<'a> {
             Phase::Goes => {}
             Phase::Ended | Phase::Faulted => return Ok(Step::Ended),
         }
-        match self.rest.step(self.alloc, self.symbols, &mut self.state, choice) {
+        match self
+            .rest
+            .step(self.alloc, self.symbols, &mut self.state, choice)
+        {
             Ok(Done::Went) => return Ok(Step::Went),
             Ok(Done::Ended) => return Ok(Step::Ended),
             Ok(Done::Halted) => {
@@ -162,7 +165,7 @@ impl<'a> Machine<'a> {
 /// A program of which all is left.
 fn whole<'a>(alloc: Global, program: &'a Program) -> Result<Rest<'a, Outermost<'a>>, NoMemory>
     ensures parts { IfOk result (λ r. r.parts ≡ record { stmts = stmt_trees program.now.body.items; first = 1; turn = None } ∷ []) }
-    ensures open { IfOk result (λ r. r.open ≡ None) }
+    ensures inner { IfOk result (λ r. r.inner ≡ None) }
 {
     let mut parts = Parts::new(alloc);
     parts.push(Part {
@@ -170,7 +173,7 @@ fn whole<'a>(alloc: Global, program: &'a Program) -> Result<Rest<'a, Outermost<'
         first: 1,
         turn: None,
     })?;
-    Ok(Rest { parts, open: None })
+    Ok(Rest { parts, inner: None })
 }
 
 /// The first choice, 0 where there is none.

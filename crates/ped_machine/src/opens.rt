@@ -63,7 +63,7 @@ impl<'a, C: Work<'a>> Open<'a, C> {
         choice: u64,
     ) -> Result<Done, NoMemory>
         requires ready { IsReady symbols.now state.old.scope (memory_of state.old.store) }
-        requires open { IsOpen C.left C.sound symbols.now (memory_of state.old.store).stands state.old.scope self.old }
+        requires inner { IsOpen C.left C.sound symbols.now (memory_of state.old.store).stands state.old.scope self.old }
         requires place { place < self.old.plan.count }
         requires unfinished { is_finished (place_left C.left state.old.scope self.old place) ≡ false }
         ensures does { IfOk result (λ d. IsDone (Steps.step (setting_by symbols.now) (place_left C.left state.old.scope self.old place) choice (memory_of state.old.store).cells)
@@ -71,7 +71,7 @@ impl<'a, C: Work<'a>> Open<'a, C> {
         ensures kept { OnErr result ((place_left C.left state.old.scope self.new place ≡ place_left C.left state.old.scope self.old place) × HasRoom (memory_of state.old.store) (memory_of state.new.store)) }
         ensures same { IfOpen result (IsSameLoop self.old self.new) }
         ensures elsewhere { IfOpen result (IsSameElsewhere C.left state.old.scope place self.old self.new) }
-        ensures open { IfOpen result (IsOpen C.left C.sound symbols.now (memory_of state.new.store).stands state.old.scope self.new) }
+        ensures inner { IfOpen result (IsOpen C.left C.sound symbols.now (memory_of state.new.store).stands state.old.scope self.new) }
         ensures grown { IfSafe result (HasGrown (memory_of state.old.store) (memory_of state.new.store)) }
         ensures scope { state.new.scope ≡ state.old.scope }
     {
@@ -89,14 +89,14 @@ impl<'a, C: Work<'a>> Open<'a, C> {
 
     /// Starts the iteration at this place, and answers its key.
     fn start(&mut self, alloc: Global, state: &mut State, place: u64) -> Result<usize, NoMemory>
-        requires open { (table : Table) × (IsReady table state.old.scope (memory_of state.old.store) × IsOpen C.left C.sound table (memory_of state.old.store).stands state.old.scope self.old) }
+        requires inner { (table : Table) × (IsReady table state.old.scope (memory_of state.old.store) × IsOpen C.left C.sound table (memory_of state.old.store).stands state.old.scope self.old) }
         requires place { place < self.old.plan.count }
         requires waits { at self.old.marks place ≡ Waits }
         requires unfinished { is_finished (place_left C.left state.old.scope self.old place) ≡ false }
         ensures running { IfOk result (λ key. at self.new.marks place ≡ Running key) }
         ensures same { IsSameLoop self.old self.new }
         ensures left { (j : ℕ) → j < self.old.plan.count → place_left C.left state.old.scope self.new j ≡ place_left C.left state.old.scope self.old j }
-        ensures open { (table : Table) → IsReady table state.old.scope (memory_of state.old.store) → IsOpen C.left C.sound table (memory_of state.old.store).stands state.old.scope self.old → IsOpen C.left C.sound table (memory_of state.new.store).stands state.old.scope self.new }
+        ensures inner { (table : Table) → IsReady table state.old.scope (memory_of state.old.store) → IsOpen C.left C.sound table (memory_of state.old.store).stands state.old.scope self.old → IsOpen C.left C.sound table (memory_of state.new.store).stands state.old.scope self.new }
         ensures room { HasRoom (memory_of state.old.store) (memory_of state.new.store) }
         ensures scope { state.new.scope ≡ state.old.scope }
     {
@@ -135,7 +135,7 @@ impl<'a, C: Work<'a>> Open<'a, C> {
         choice: u64,
     ) -> Result<Done, NoMemory>
         requires ready { IsReady symbols.now state.old.scope (memory_of state.old.store) }
-        requires open { IsOpen C.left C.sound symbols.now (memory_of state.old.store).stands state.old.scope self.old }
+        requires inner { IsOpen C.left C.sound symbols.now (memory_of state.old.store).stands state.old.scope self.old }
         requires place { place < self.old.plan.count }
         requires running { at self.old.marks place ≡ Running key }
         ensures does { IfOk result (λ d. IsDone (Steps.step (setting_by symbols.now) (place_left C.left state.old.scope self.old place) choice (memory_of state.old.store).cells)
@@ -143,7 +143,7 @@ impl<'a, C: Work<'a>> Open<'a, C> {
         ensures kept { OnErr result ((place_left C.left state.old.scope self.new place ≡ place_left C.left state.old.scope self.old place) × HasRoom (memory_of state.old.store) (memory_of state.new.store)) }
         ensures same { IfOpen result (IsSameLoop self.old self.new) }
         ensures elsewhere { IfOpen result (IsSameElsewhere C.left state.old.scope place self.old self.new) }
-        ensures open { IfOpen result (IsOpen C.left C.sound symbols.now (memory_of state.new.store).stands state.old.scope self.new) }
+        ensures inner { IfOpen result (IsOpen C.left C.sound symbols.now (memory_of state.new.store).stands state.old.scope self.new) }
         ensures grown { IfSafe result (HasGrown (memory_of state.old.store) (memory_of state.new.store)) }
         ensures scope { state.new.scope ≡ state.old.scope }
     {

@@ -39,7 +39,7 @@ pub struct Rest<'a, C> {
     /// What is left outside of the open loop.
     pub parts: Parts<'a>,
     /// The loop that is open.
-    pub open: Option<Open<'a, C>>,
+    pub inner: Option<Open<'a, C>>,
 }
 
 impl<'a, C: Work<'a>> Rest<'a, C> {
@@ -49,7 +49,7 @@ impl<'a, C: Work<'a>> Rest<'a, C> {
         ensures left { (scope : Scope) → rest_left C.left scope self.new ≡ rest_left C.left scope self.old }
         ensures sound { (scope : Scope) (table : Table) (stands : Cell → Bool) → IsSound C.left C.sound scope self.old table stands → IsSound C.left C.sound scope self.new table stands }
     {
-        match &self.open {
+        match &self.inner {
             None => return self.parts.is_over(),
             Some(_) => return false,
         }
@@ -59,9 +59,9 @@ impl<'a, C: Work<'a>> Rest<'a, C> {
     pub fn wants_choice(&self) -> bool
         ensures { (scope : Scope) (table : Table) (stands : Cell → Bool) → IsSound C.left C.sound scope self.now table stands → result ≡ wants_choice (rest_left C.left scope self.now) }
     {
-        match &self.open {
+        match &self.inner {
             None => return false,
-            Some(open) => return open.pick(0).is_some(),
+            Some(inner) => return inner.pick(0).is_some(),
         }
     }
 
@@ -86,7 +86,7 @@ impl<'a, C: Work<'a>> Rest<'a, C> {
         ensures copies { IfOpen result (DoCopiesStand state.new.scope (memory_of state.new.store).stands) }
         ensures grown { IfSafe result (HasGrown (memory_of state.old.store) (memory_of state.new.store)) }
     {
-        if self.open.is_some() {
+        if self.inner.is_some() {
             return self.step_open(alloc, symbols, state, choice);
         }
         match self.parts.next() {
@@ -106,7 +106,7 @@ impl<'a, C: Work<'a>> Rest<'a, C> {
         state: &mut State,
         choice: u64,
     ) -> Result<Done, NoMemory>
-        requires some { IsSome self.old.open }
+        requires some { IsSome self.old.inner }
         requires ready { IsReady symbols.now state.old.scope (memory_of state.old.store) }
         requires sound { IsSound C.left C.sound state.old.scope self.old symbols.now (memory_of state.old.store).stands }
         ensures does { IfOk result (λ d. IsDone (Steps.step (setting_by symbols.now) (rest_left C.left state.old.scope self.old) choice (memory_of state.old.store).cells)
@@ -116,17 +116,17 @@ impl<'a, C: Work<'a>> Rest<'a, C> {
         ensures copies { IfOpen result (DoCopiesStand state.new.scope (memory_of state.new.store).stands) }
         ensures grown { IfSafe result (HasGrown (memory_of state.old.store) (memory_of state.new.store)) }
     {
-        match &mut self.open {
+        match &mut self.inner {
             None => return Ok(Done::Ended),
-            Some(open) => match open.pick(choice % open.plan.count) {
+            Some(inner) => match inner.pick(choice % inner.plan.count) {
                 Some(place) => {
-                    let inner = choice / open.plan.count;
-                    return open.step_at(alloc, symbols, state, place, inner);
+                    let within = choice / inner.plan.count;
+                    return inner.step_at(alloc, symbols, state, place, within);
                 }
-                None => write_exit(state, open.d, &open.plan),
+                None => write_exit(state, inner.d, &inner.plan),
             },
         }
-        self.open = None;
+        self.inner = None;
         Ok(Done::Went)
     }
 
@@ -139,7 +139,7 @@ impl<'a, C: Work<'a>> Rest<'a, C> {
         stmt: &'a Stmt,
         number: u32,
     ) -> Result<Done, NoMemory>
-        requires none { self.old.open ≡ None }
+        requires none { self.old.inner ≡ None }
         requires begins { Begins (stmt_tree stmt.now) number self.old.parts }
         requires ready { IsReady symbols.now state.old.scope (memory_of state.old.store) }
         requires sound { IsSound C.left C.sound state.old.scope self.old symbols.now (memory_of state.old.store).stands }
@@ -169,7 +169,7 @@ impl<'a, C: Work<'a>> Rest<'a, C> {
         stmt: &'a Stmt,
         number: u32,
     ) -> Result<Done, NoMemory>
-        requires none { self.old.open ≡ None }
+        requires none { self.old.inner ≡ None }
         requires can { CanDo symbols.now state.old.scope number (stmt_tree stmt.now) }
         requires real { is_comment (stmt_tree stmt.now) ≡ false }
         requires ready { IsReady symbols.now state.old.scope (memory_of state.old.store) }
@@ -196,7 +196,7 @@ impl<'a, C: Work<'a>> Rest<'a, C> {
         d: &'a Do,
         number: u32,
     ) -> Result<Done, NoMemory>
-        requires none { self.old.open ≡ None }
+        requires none { self.old.inner ≡ None }
         requires can { CanDo symbols.now state.old.scope number (do_tree d.now) }
         requires ready { IsReady symbols.now state.old.scope (memory_of state.old.store) }
         requires sound { IsSound C.left C.sound state.old.scope self.old symbols.now (memory_of state.old.store).stands }
@@ -228,7 +228,7 @@ impl<'a, C: Work<'a>> Rest<'a, C> {
         d: &'a Do,
         plan: Plan,
     ) -> Result<Done, NoMemory>
-        requires none { self.old.open ≡ None }
+        requires none { self.old.inner ≡ None }
         requires plan { IsPlan (head_of d.now) (stmt_trees d.now.body.items) plan }
         requires can { (table : Table) × (CanDo table state.old.scope plan.number (do_tree d.now) × IsReady table state.old.scope (memory_of state.old.store)) }
         ensures done { IfOk result (λ d. d ≡ done.Went) }
@@ -244,7 +244,7 @@ impl<'a, C: Work<'a>> Rest<'a, C> {
             return Ok(Done::Went);
         }
         if d.parallel {
-            self.open = Some(opened(alloc, d, plan));
+            self.inner = Some(opened(alloc, d, plan));
             return Ok(Done::Went);
         }
         enter_do(alloc, state, &mut self.parts, d, plan)
@@ -256,7 +256,7 @@ fn opened<'a, C: Work<'a>>(alloc: Global, d: &'a Do, plan: Plan) -> Open<'a, C>
     requires plan { IsPlan (head_of d.now) (stmt_trees d.now.body.items) plan }
     requires some { 0 < plan.count }
     ensures left { (scope : Scope) (rest : Left) → open_left C.left scope result rest ≡ entered_left true plan.count (entered_by (head_of d.now) plan plan.behind) (stmt_trees d.now.body.items) plan.number scope rest }
-    ensures open { (scope : Scope) (table : Table) (stands : Cell → Bool) → CanDo table scope plan.number (do_tree d.now) → IsOpen C.left C.sound table stands scope result }
+    ensures inner { (scope : Scope) (table : Table) (stands : Cell → Bool) → CanDo table scope plan.number (do_tree d.now) → IsOpen C.left C.sound table stands scope result }
 {
     let count = plan.count;
     Open {

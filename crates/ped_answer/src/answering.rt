@@ -116,6 +116,7 @@ pub fn ped_main<F: Shelf, K: Sink, L: Ledger>(
     ensures untested { IsUntested result → steps.new ≡ steps.old }
     ensures steps { steps.old ≤ steps.new }
 {
+    ped_session::runs_are_as_before();
     match asked_for(alloc, words) {
         Ok(asked) => serve(alloc, asked, shelf, out, steps),
         Err(WordsError::Bad) => finish(out, USAGE, Status::BadWords),
@@ -135,7 +136,9 @@ pub fn one_answer()
 pub fn runs_are_as_before()
     ensures { (request : Option Answer.Request) (files : Contents) (s : Status) (bytes : List ℕ) → IsWhole s →
         Answers request files s bytes → RunsRequest request files bytes }
-{}
+{
+    ped_session::runs_are_as_before();
+}
 
 /// Answers the words over a shelf and a sink that never fail: no read fault and no write fault comes.
 pub fn answer_surely<L: Ledger>(

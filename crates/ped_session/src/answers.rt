@@ -12,6 +12,7 @@ use crate::replies::Reply;
 use crate::scripts::{bad_command_row, reply_text};
 use crate::session::Session;
 use ped_base::{Bytes, NoMemory};
+use ped_confluence::interleavings_agree;
 use ped_graph::ped_verdict::Steps;
 use ped_script::{Command, Item};
 use std::alloc::Global;
@@ -45,6 +46,7 @@ pub fn answer_items<L: Ledger>(
     ensures least { steps.old ≤ steps.new }
     ensures most { (said : Spec.Said) (last : State) → AnswersItems items.now input.now session.old said last → steps.new ≤ steps.old + said.tests }
 {
+    interleavings_agree();
     let _ = &session.present;
     let mut answered = Answered {
         bytes: Bytes::new(alloc),

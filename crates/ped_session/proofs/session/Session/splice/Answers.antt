@@ -15,14 +15,14 @@ returns-in-Ok-clause-answers g c =
     let s = c.args.self.now in
     let all = Splices.spliced s.present c.args.kept c.args.gone c.args.lines.now in
     let made = made_from c.as_slice.result.now c.in_ok-text.text c.source.result.now s.present c.args.kept c.args.gone c.args.lines.now c.as_slice.ensures c.in_ok-text.ensures c.source.ensures in
-    IfOk-weaker c.edit-in-Ok.result _ _ (λ reply change. edited s c.edit-in-Ok.new.self c.args.kept c.args.gone c.as_slice.result.now all (program_tree c.in-Ok.opened.program) reply made c.in-Ok.ensures.tree change) c.edit-in-Ok.ensures.answers
+    IfOk-weaker c.edit.result _ _ (λ reply change. edited s c.edit.new.self c.args.kept c.args.gone c.as_slice.result.now all (program_tree c.in-Ok.opened.program) reply made c.in-Ok.ensures.tree change) c.edit.ensures.answers
 
 pub returns-in-Ok-clause-most : goal.returns-in-Ok-clause-most
 returns-in-Ok-clause-most g c =
     let s = c.args.self.now in
     let all = Splices.spliced s.present c.args.kept c.args.gone c.args.lines.now in
     let made = made_from c.as_slice.result.now c.in_ok-text.text c.source.result.now s.present c.args.kept c.args.gone c.args.lines.now c.as_slice.ensures c.in_ok-text.ensures c.source.ensures in
-    tests_by s c.args.kept c.args.gone c.as_slice.result.now all (program_tree c.in-Ok.opened.program) c.args.steps.now c.edit-in-Ok.new.steps made c.in-Ok.ensures.tree c.edit-in-Ok.ensures.most
+    tests_by s c.args.kept c.args.gone c.as_slice.result.now all (program_tree c.in-Ok.opened.program) c.args.steps.now c.edit.new.steps made c.in-Ok.ensures.tree c.edit.ensures.most
 
 pub returns-in-Err-At-clause-answers : goal.returns-in-Err-At-clause-answers
 returns-in-Err-At-clause-answers g c =

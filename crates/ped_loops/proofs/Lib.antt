@@ -9,3 +9,4 @@ mod OneHead
 mod ReversedLoops
 mod ReversedNames
 mod ReversalLawful
+mod ReverseAnswers

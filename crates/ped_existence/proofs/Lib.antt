@@ -5,6 +5,7 @@ mod Differences
 mod Edges
 mod Excluding
 mod Files
+mod LoopCauses
 mod FirstCauses
 mod LoopPaths
 mod Meeting

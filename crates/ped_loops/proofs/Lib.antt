@@ -1,7 +1,7 @@
 mod FlagRules
 mod FlaggedLoops
 mod FlagsLawful
-mod RejectRules
+pub mod RejectRules
 mod TurnedCounts
 mod Contained
 mod ReverseRules
@@ -10,3 +10,4 @@ mod ReversedLoops
 mod ReversedNames
 mod ReversalLawful
 mod ReverseAnswers
+pub mod Determined

@@ -14,14 +14,14 @@ use Rattle.ped_session.specs.Splices.{are_lines, is_place}
 use Rattle.ped_transformations.specs.ped_rules.specs.Steps.{StepAt, MaybeStep, no_step, some_step, MatchStep}
 use Rattle.ped_transformations.specs.ped_rules.specs.Lawful.{IsLawful}
 use Rattle.ped_transformations.specs.Table.{step_of}
-use Rattle.ped_transformations.proofs.LawfulTable.{lawful_step}
+use Rattle.ped_transformations.proofs.LawfulTable.{AllLawful}
 use Rattle.ped_session.specs.Steps.{Refuses, Prints, Shows, ShowsOf, Edits, Transforms, GoesBack, GoesForward, IsOther, IsStep}
 
 -- what a command does
 pub data Does (c : Command) (s : State) (reply : Reply) (next : State) : Type 1 where
   by_nothing : (reply ≡ Changed → ⊥) → next ≡ s → Does c s reply next
   by_edit : (kept gone : ℕ) (text : List ℕ) → Edits kept gone text s reply next → Does c s reply next
-  by_step : (at : StepAt) → IsLawful at → Transforms at s reply next → Does c s reply next
+  by_step : (at : StepAt) → (AllLawful → IsLawful at) → Transforms at s reply next → Does c s reply next
   by_undo : c ≡ Undo → GoesBack s.past s reply next → Does c s reply next
   by_redo : c ≡ Redo → GoesForward s.future s reply next → Does c s reply next
 
@@ -76,10 +76,10 @@ does_other (Serial number) d s next reply h = refuses (Serial number) NotBuilt s
 does_other (Reject number name) d s next reply h = refuses (Reject number name) NotBuilt s next reply h
 does_other Tested d s next reply h = prints Tested _ s next reply h
 
-does_by : (c : Command) (step : MaybeStep) (d : List ℕ) (s next : State) (reply : Reply) → MatchStep step ⊤ IsLawful
+does_by : (c : Command) (step : MaybeStep) (d : List ℕ) (s next : State) (reply : Reply) → (AllLawful → MatchStep step ⊤ IsLawful)
     → MatchStep step (IsOther c d s reply next) (λ at. Transforms at s reply next) → Does c s reply next
 does_by c no_step d s next reply lawful h = does_other c d s next reply h
 does_by c (some_step at) d s next reply lawful h = by_step at lawful h
 
 pub does : (c : Command) (d : List ℕ) (s next : State) (reply : Reply) → IsStep c d s reply next → Does c s reply next
-does c d s next reply h = does_by c (step_of c) d s next reply (lawful_step c) h
+does c d s next reply h = does_by c (step_of c) d s next reply (λ all. all c) h

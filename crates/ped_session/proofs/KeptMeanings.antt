@@ -27,6 +27,7 @@ use Rattle.ped_session.specs.Steps.{Edits, accepted, refused, change_by, Transfo
 use Rattle.ped_session.specs.Scripts.{Said, said_by, AnswersCommand, AnswersItems}
 use Rattle.ped_session.specs.Meanings.{MeansTheSame, IsKept, IsPastKept, IsFutureKept, IsMeaningKept, ComesFrom, IsAsBefore, ShowsAsBefore}
 use Rattle.ped_session.specs.RunsAsBefore.{RunsAsBefore, AnswersAsBefore}
+use Rattle.ped_transformations.proofs.LawfulTable.{AllLawful}
 use Rattle.ped_session.proofs.OneStep.{one_tree}
 use Rattle.ped_session.proofs.Doing.{Does, by_nothing, by_edit, by_step, by_undo, by_redo, does}
 
@@ -91,20 +92,20 @@ forward_keeps : (future : List Other) (s next : State) (reply : Reply) → IsMea
 forward_keeps [] s next reply k kept h = same s next k h.1
 forward_keeps (other ∷ future) s next reply k kept h = subst IsMeaningKept (sym h.1) (record { past = (kept.0, k.past); future = kept.1 })
 
-keeps_by : (c : Command) (s next : State) (reply : Reply) → IsMeaningKept s → Does c s reply next → IsMeaningKept next
-keeps_by c s next reply k (by_nothing changed is) = same s next k is
-keeps_by c s next reply k (by_edit kept gone text h) = edit_keeps kept gone text s next reply k h
-keeps_by c s next reply k (by_step at lawful h) = step_keeps at s next reply lawful k h
-keeps_by c s next reply k (by_undo is h) = back_keeps s.past s next reply k k.past h
-keeps_by c s next reply k (by_redo is h) = forward_keeps s.future s next reply k k.future h
+keeps_by : AllLawful → (c : Command) (s next : State) (reply : Reply) → IsMeaningKept s → Does c s reply next → IsMeaningKept next
+keeps_by all c s next reply k (by_nothing changed is) = same s next k is
+keeps_by all c s next reply k (by_edit kept gone text h) = edit_keeps kept gone text s next reply k h
+keeps_by all c s next reply k (by_step at lawful h) = step_keeps at s next reply (lawful all) k h
+keeps_by all c s next reply k (by_undo is h) = back_keeps s.past s next reply k k.past h
+keeps_by all c s next reply k (by_redo is h) = forward_keeps s.future s next reply k k.future h
 
 -- a command keeps it
-pub command_keeps : (c : Command) (d : List ℕ) (s next : State) (reply : Reply) → IsMeaningKept s → IsStep c d s reply next → IsMeaningKept next
-command_keeps c d s next reply k h = keeps_by c s next reply k (does c d s next reply h)
+pub command_keeps : AllLawful → (c : Command) (d : List ℕ) (s next : State) (reply : Reply) → IsMeaningKept s → IsStep c d s reply next → IsMeaningKept next
+command_keeps all c d s next reply k h = keeps_by all c s next reply k (does c d s next reply h)
 
-line_keeps : (line : ℕ) (command : Option Command) (d : List ℕ) (s next : State) (said : Said) → IsMeaningKept s → AnswersCommand line command d s said next → IsMeaningKept next
-line_keeps line None d s next said k h = same s next k h.1
-line_keeps line (Some c) d s next said k h = command_keeps c d s next h.0 k h.1
+line_keeps : AllLawful → (line : ℕ) (command : Option Command) (d : List ℕ) (s next : State) (said : Said) → IsMeaningKept s → AnswersCommand line command d s said next → IsMeaningKept next
+line_keeps all line None d s next said k h = same s next k h.1
+line_keeps all line (Some c) d s next said k h = command_keeps all c d s next h.0 k h.1
 
 -- a session is opened without a history
 pub opened_keeps : (t : ProgramTree) → IsMeaningKept (opened t)
@@ -121,16 +122,16 @@ line_shows : Agree → (line : ℕ) (command : Option Command) (d : List ℕ) (s
 line_shows agree line command d s next said k h = λ choices is. run_shows agree line choices d s next said k (subst (λ (c : Option Command). AnswersCommand line c d s said next) is h)
 
 -- the items of a script
-pub items_as_before : Agree → (items : List Item) (d : List ℕ) (s last : State) (said : Said) → IsMeaningKept s → AnswersItems items d s said last → AnswersAsBefore items d s said last
-items_as_before agree [] d s last said k h = (k, h.0, h.1)
-items_as_before agree (item ∷ items) d s last said k h = (
+pub items_as_before : Agree → AllLawful → (items : List Item) (d : List ℕ) (s last : State) (said : Said) → IsMeaningKept s → AnswersItems items d s said last → AnswersAsBefore items d s said last
+items_as_before agree all [] d s last said k h = (k, h.0, h.1)
+items_as_before agree all (item ∷ items) d s last said k h = (
   k,
   h.0,
   h.1,
   h.2,
   line_shows agree item.line item.command d s h.1 h.0 k h.2,
   h.3,
-  items_as_before agree items d h.1 last h.3 (line_keeps item.line item.command d s h.1 h.0 k h.2) h.4,
+  items_as_before agree all items d h.1 last h.3 (line_keeps all item.line item.command d s h.1 h.0 k h.2) h.4,
   h.5,
 )
 

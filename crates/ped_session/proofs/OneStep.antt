@@ -30,9 +30,9 @@ use Rattle.ped_session.specs.Panes.{IsSourcePane, ArePanes}
 use Rattle.ped_session.specs.Splices.{are_lines, is_place, edit_keep}
 use Rattle.ped_session.specs.Steps.{Refuses, Shows, ShowsOf, ShowsStatement, Edits, accepted, refused, change_by, Transforms, missing, forbidden, transformed, GoesBack, GoesForward, IsOther, IsStep}
 use Rattle.ped_transformations.specs.ped_rules.specs.Steps.{StepAt, MaybeStep, no_step, some_step, MatchStep}
-use Rattle.ped_transformations.specs.ped_rules.specs.Lawful.{IsLawful}
+use Rattle.ped_transformations.specs.ped_rules.specs.Lawful.{IsDetermined}
 use Rattle.ped_transformations.specs.Table.{step_of}
-use Rattle.ped_transformations.proofs.LawfulTable.{lawful_step}
+use Rattle.ped_transformations.proofs.LawfulTable.{determined_step}
 use Rattle.ped_order.proofs.OneReport.{one_at_most}
 use Rattle.ped_session.proofs.OneFinding.{one_found}
 
@@ -125,7 +125,7 @@ one_run choices data_bytes s p q m n a b = one_shows (IsRunBlock choices data_by
     (λ t x y e f. e.2 ∙ ap block (one_outcome t (at_start t data_bytes choices) e.0 f.0 e.1 f.1) ∙ sym f.2) s p q m n a b
 
 -- a step, whose first cause is one
-one_transform : (at : StepAt) (s : State) (p q : Reply) (m n : State) → IsLawful at → Transforms at s p m → Transforms at s q n → (p ≡ q) × (m ≡ n)
+one_transform : (at : StepAt) (s : State) (p q : Reply) (m n : State) → IsDetermined at → Transforms at s p m → Transforms at s q n → (p ≡ q) × (m ≡ n)
 one_transform at s p q m n lawful (missing t reads none a) (missing u other nothing b) = one_refuses NoSuchStatement s p q m n a b
 one_transform at s p q m n lawful (missing t reads none a) (forbidden u other some d is b) =
     absurd (none_and_some (statement_with at.statement u) (subst (λ (v : ProgramTree). is_some (statement_with at.statement v) ≡ false) (one_tree s.present t u reads other) none) some)
@@ -178,11 +178,11 @@ one_other (Serial number) d s m n p q a b = one_refuses NotBuilt s p q m n a b
 one_other (Reject number name) d s m n p q a b = one_refuses NotBuilt s p q m n a b
 one_other Tested d s m n p q a b = (a.0 ∙ sym b.0, a.1 ∙ sym b.1)
 
-one_by : (c : Command) (step : MaybeStep) (d : List ℕ) (s m n : State) (p q : Reply) → MatchStep step ⊤ IsLawful
+one_by : (c : Command) (step : MaybeStep) (d : List ℕ) (s m n : State) (p q : Reply) → MatchStep step ⊤ IsDetermined
     → MatchStep step (IsOther c d s p m) (λ at. Transforms at s p m) → MatchStep step (IsOther c d s q n) (λ at. Transforms at s q n) → (p ≡ q) × (m ≡ n)
 one_by c no_step d s m n p q lawful a b = one_other c d s m n p q a b
 one_by c (some_step at) d s m n p q lawful a b = one_transform at s p q m n lawful a b
 
 -- a command has one reply, and leads to one state
 pub one : (c : Command) (data_bytes : List ℕ) (s m n : State) (p q : Reply) → IsStep c data_bytes s p m → IsStep c data_bytes s q n → (p ≡ q) × (m ≡ n)
-one c d s m n p q a b = one_by c (step_of c) d s m n p q (lawful_step c) a b
+one c d s m n p q a b = one_by c (step_of c) d s m n p q (determined_step c) a b

@@ -15,6 +15,7 @@ use ped_base::{Bytes, NoMemory};
 use ped_confluence::interleavings_agree;
 use ped_graph::ped_verdict::Steps;
 use ped_script::{Command, Item};
+use ped_transformations::every_step_is_lawful;
 use std::alloc::Global;
 use std::sync::ledger::Ledger;
 
@@ -47,6 +48,7 @@ pub fn answer_items<L: Ledger>(
     ensures most { (said : Spec.Said) (last : State) → AnswersItems items.now input.now session.old said last → steps.new ≤ steps.old + said.tests }
 {
     interleavings_agree();
+    every_step_is_lawful();
     let _ = &session.present;
     let mut answered = Answered {
         bytes: Bytes::new(alloc),

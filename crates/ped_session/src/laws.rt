@@ -23,6 +23,7 @@ ghost use Rattle.ped_session.specs.RunsAsBefore.{AnswersAsBefore};
 ghost use Rattle.ped_session.specs.Histories.{ArePrinted, HaveSameSources, Times};
 
 use ped_confluence::{interleavings_agree, without_choices};
+use ped_transformations::every_step_is_lawful;
 
 /// A command has one reply at most in a state, and leads to one state.
 pub fn one_step()
@@ -69,7 +70,9 @@ pub fn transformations_keep_the_meaning()
     ensures opened { (t : ProgramTree) → IsMeaningKept (opened t) }
     ensures step { (c : Command) (data_bytes : List ℕ) (s next : State) (reply : code_reply.Reply) →
         IsMeaningKept s → IsStep c data_bytes s reply next → IsMeaningKept next }
-{}
+{
+    every_step_is_lawful();
+}
 
 /// Where a program is tidy and without C$PED REJECT, so is each to which it has come by transformations alone, and that
 /// one keeps its meaning.
@@ -84,6 +87,7 @@ pub fn runs_are_as_before()
     ensures { (t : ProgramTree) (items : List Item) (data_bytes : List ℕ) (said : Said) (last : State) →
         AnswersItems items data_bytes (opened t) said last → AnswersAsBefore items data_bytes (opened t) said last }
 {
+    every_step_is_lawful();
     interleavings_agree();
 }
 

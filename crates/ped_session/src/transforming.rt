@@ -20,7 +20,7 @@ use ped_graph::ped_verdict::Steps;
 use ped_script::Command;
 use ped_transformations::ped_flow::flow_of;
 use ped_transformations::ped_steps::{Refused, Scene};
-use ped_transformations::{Kind, Place};
+use ped_transformations::{Kind, Place, every_step_is_lawful};
 use ped_valid::Opened;
 use std::alloc::Global;
 use std::sync::ledger::Ledger;
@@ -41,6 +41,7 @@ impl<L: Ledger> Session<L> {
         ensures least { steps.old ≤ steps.new }
         ensures most { (reply : Reply) (next : State) → MatchStep (step_of command.now) ⊥ (λ at. Transforms at self.old reply next) → steps.new ≤ steps.old + tests_of reply next }
     {
+        every_step_is_lawful();
         if !self.graph.has_statement(place.statement) {
             return Ok(Reply::Refused(Refusal::NoSuchStatement));
         }
@@ -60,6 +61,7 @@ impl<L: Ledger> Session<L> {
         ensures answers { IfOk result (IsAnswerTo command.now (change_by (kind_of place.kind)) self.now) }
         ensures takeable { IfOk result (IsTakeable (change_by (kind_of place.kind)) self.now) }
     {
+        every_step_is_lawful();
         let present = &self.present;
         let flow = flow_of(alloc, &present.program)?;
         let scene = Scene {

@@ -3,7 +3,6 @@ use Rattle.std.proofs.lemmas.Result.{IfOk-weaker}
 use Rattle.ped_tree.specs.Numbering.{statement_with}
 use Rattle.ped_transformations.specs.Table.{step_of}
 use Rattle.ped_transformations.proofs.ByPlace.{with_some, some_then, out_of_some}
-use Rattle.ped_transformations.proofs.LawfulTable.{lawful_step}
 use Rattle.ped_session.specs.declared.changes.Change.{Change}
 use Rattle.ped_session.specs.Holding.{tree_of}
 use Rattle.ped_session.specs.States.{State}
@@ -36,7 +35,7 @@ returns-clause-most g c reply next h =
     let s = c.args.self.now in
     let text = ap (λ (u : State). u.present) c.self.view_is in
     let there = sym (c.has_statement.ensures (tree_of v) c.self.invariant.graph_is) ∙ c.if-not-has_statement.false in
-    out_of_some c.args.place (step_of c.args.command.now) ⊥ ⊥ _ _ _ (lawful_step c.args.command.now) c.requires c.in_ok-answer.ensures.answers h
+    out_of_some c.args.place (step_of c.args.command.now) ⊥ ⊥ _ _ _ (c.every_step_is_lawful.ensures c.args.command.now) c.requires c.in_ok-answer.ensures.answers h
     (λ at lawful is found goes. tests_most at s c.in_ok-answer.answer c.args.steps.now c.take.new.steps lawful
     (is_there at.statement v s c.self.invariant.version text (ap (λ (n : ℕ). is_some (statement_with n (tree_of v))) is.0 ∙ there))
     found.1 c.take.ensures.most reply next goes)

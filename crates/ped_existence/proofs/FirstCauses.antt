@@ -23,6 +23,7 @@ use Rattle.ped_answer.specs.ped_scalar.proofs.FirstAgainstExpanding as expand
 use Rattle.ped_answer.specs.ped_script.specs.declared.items.Command.{Command}
 use Rattle.ped_answer.specs.ped_script.specs.declared.items.Command.TheVariants.{Source, Deps, Show, Print, Advise, Replace, Insert, Delete, Interchange, Reverse, Skew, Strip, Peel, Distribute, Fuse, Expand, Privatise, Parallel, Serial, Reject, Undo, Redo, Run, Races, Tested}
 use Rattle.ped_answer.specs.ped_scalar.specs.ped_rules.specs.Steps.{StepAt, MatchStep}
+use Rattle.ped_answer.specs.ped_scalar.specs.ped_rules.specs.Lawful.{IsLawful}
 use Rattle.ped_answer.specs.ped_scalar.specs.ped_rules.proofs.Decided.{valid_decided, loop_decided}
 use Rattle.ped_answer.specs.ped_transformations.specs.Table.{step_of}
 use Rattle.ped_existence.specs.Deciding.{Decided}
@@ -118,10 +119,18 @@ module _ (t : ProgramTree) (s : ℕ) (x : List ℕ) where
       by (inl l) = expand_loop l.head l.body l.is l.head.parallel refl
       by (inr n) = inl (rule NoLoop s, expand.no_loop t s x (λ h body is. n (record { head = h; body = body; is = is })))
 
+-- a lawful step that has a first cause in each program, or none
+pub goes_by : (at : StepAt) → IsLawful at → ((t : ProgramTree) → (c : Option Cause) × at.IsCause t c) → (t : ProgramTree) → IsValid t → Goes at t
+goes_by at lawful some t valid = by (some t)
+  where
+    by : (c : Option Cause) × at.IsCause t c → Goes at t
+    by (Some c, is) = inl (c, is)
+    by (None, none) = let made = lawful.some_made t valid none in inr (none, made.0, made.1, made.2, made.3)
+
 -- each step of the table
-pub each_goes : (command : Command) → MatchStep (step_of command) ⊤ (λ at. (t : ProgramTree) → Goes at t)
-each_goes (Expand number name) = λ t. expanding_goes t number name
-each_goes (Privatise number name) = λ t. privatising_goes t number name
+pub each_goes : (command : Command) → MatchStep (step_of command) ⊤ (λ at. (t : ProgramTree) → IsValid t → Goes at t)
+each_goes (Expand number name) = λ t valid. expanding_goes t number name
+each_goes (Privatise number name) = λ t valid. privatising_goes t number name
 each_goes (Interchange number) = tt
 each_goes (Reverse number) = tt
 each_goes (Skew number factor) = tt

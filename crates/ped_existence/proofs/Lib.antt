@@ -1,3 +1,4 @@
+mod ChainCauses
 mod Choosing
 mod Deciding
 mod Differences

@@ -98,7 +98,7 @@ module _ (s : State) (all : ArePrinted s) where
   edits_where true text = edits text
   edits_where false text = stays NoSuchLine
 
-  transforms : (at : StepAt) → ((t : ProgramTree) → Goes at t) → Answered (λ reply. λ next. Transforms at s reply next)
+  transforms : (at : StepAt) → ((t : ProgramTree) → IsValid t → Goes at t) → Answered (λ reply. λ next. Transforms at s reply next)
   transforms at goes = by (reads_printed s.present all.present)
     where
       on : (t : ProgramTree) → ReadsValid s.present t → (b : Bool) → is_some (statement_with at.statement t) ≡ b → Goes at t → Answered (λ reply. λ next. Transforms at s reply next)
@@ -112,7 +112,7 @@ module _ (s : State) (all : ArePrinted s) where
       }
 
       by : (t : ProgramTree) × ReadsValid s.present t → Answered (λ reply. λ next. Transforms at s reply next)
-      by (t, reads) = on t reads (is_some (statement_with at.statement t)) refl (goes t)
+      by (t, reads) = on t reads (is_some (statement_with at.statement t)) refl (goes t reads.valid)
 
   goes_back : (past : List Other) → All IsPrintedOther past → Answered (λ reply. λ next. GoesBack past s reply next)
   goes_back [] before = stays NothingToUndo
@@ -175,7 +175,7 @@ module _ (s : State) (all : ArePrinted s) where
   pub replies : (c : Command) (data_bytes : List ℕ) → Answered (λ reply. λ next. IsStep c data_bytes s reply next)
   replies c d = by (table.step_of c) (each_goes c)
     where
-      by : (step : MaybeStep) → MatchStep step ⊤ (λ at. (t : ProgramTree) → Goes at t) → Answered (λ reply. λ next. MatchStep step (IsOther c d s reply next) (λ at. Transforms at s reply next))
+      by : (step : MaybeStep) → MatchStep step ⊤ (λ at. (t : ProgramTree) → IsValid t → Goes at t) → Answered (λ reply. λ next. MatchStep step (IsOther c d s reply next) (λ at. Transforms at s reply next))
       by no_step goes = others c d
       by (some_step at) goes = transforms at goes
 

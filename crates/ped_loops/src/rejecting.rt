@@ -5,7 +5,7 @@ ghost use Rattle.std.specs.List.{list_any};
 ghost use Rattle.ped_base.specs.Lists.{is_same_text};
 ghost use Rattle.ped_tree.specs.Numbering.{statements_count};
 ghost use Rattle.ped_tree.specs.Views.{stmt_tree, stmt_trees, program_tree, head_of};
-ghost use Rattle.ped_rules.specs.Carried.{level_at, is_carried_by};
+ghost use Rattle.ped_rules.specs.Carried.{is_carried_by};
 ghost use Rattle.ped_rules.specs.Steps.{Answers};
 ghost use Rattle.ped_rules.specs.ped_steps.specs.Changes.{IsChange};
 ghost use Rattle.ped_rules.specs.ped_steps.specs.Replacing as Replacing;
@@ -19,12 +19,12 @@ ghost use Rattle.ped_rules.specs.ped_steps.specs.ped_laws.specs.ped_graph.specs.
 ghost use Rattle.ped_loops.specs.Rejecting as Spec;
 
 use ped_base::{Name, NoMemory};
-use ped_rules::against;
 use ped_rules::ped_steps::ped_graph::ped_edges::{Edge, Mark};
 use ped_rules::ped_steps::ped_refs::RefName;
 use ped_rules::ped_steps::{
-    Change, Refused, Rule, Scene, all_kept, change_to, loop_at, loops_round, program_with,
+    Change, Refused, Rule, Scene, all_kept, change_to, loop_at, program_with,
 };
+use ped_rules::{against, level_at};
 use ped_tree::{Do, Program, Stmt};
 use std::alloc::Global;
 use std::sync::ledger::Ledger;
@@ -91,8 +91,7 @@ fn has_pending<L: Ledger>(
     ensures { IfOk result (λ found. (all : List plain.Edge) × AreEdges (program_tree scene.now.tree.now) all
         × (found ≡ list_any (λ e. is_carried_by (program_tree scene.now.tree.now) number e && Spec.is_pending_of name.now e) all)) }
 {
-    let round = loops_round(alloc, scene.tree, number)?;
-    let level = round.len() as u8 + 1;
+    let level = level_at(alloc, scene, number)?;
     let edges = scene.graph.edges_at(alloc, number, level)?;
     Ok(is_some_pending(&edges, name))
 }

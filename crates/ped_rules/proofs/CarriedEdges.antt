@@ -1,5 +1,5 @@
 -- Dependences that pass a test are kept in their order; so the first that is kept is the first that passes it.
-use Rattle.std.proofs.Common.{◌≡◌, ℕ, ◌+◌, ◌≤◌, nat_le, List, [], ◌∷◌, ◌++◌, map, filter, cond, length, Bool, true, false, not, ◌&&◌, All, Option, Some, None, refl, sym, ap, ◌∙◌, subst, arith}
+use Rattle.std.proofs.Common.{◌≡◌, ℕ, ◌+◌, ◌≤◌, nat_le, List, [], ◌∷◌, ◌++◌, map, filter, cond, length, Bool, true, false, not, ◌&&◌, All, Option, Some, None, MatchOption, refl, sym, ap, ◌∙◌, subst, arith}
 use Rattle.std.specs.Prelude.{nat_lt}
 use Rattle.std.proofs.lemmas.Bool.Decides.{nat_tests}
 use Rattle.std.proofs.lemmas.List.Elements.{All-nil, All-cons, All-head, All-filter}
@@ -55,23 +55,23 @@ module _ (test : Edge → Bool) where
 
   first_by : (all : List Edge) (e : Edge) (rest : List Edge) → filter test all ≡ e ∷ rest → IsFirstForbidding test all e
   first_by [] e rest h = absurd (nothing_first e rest h)
-  first_by (a ∷ all) e rest h = by (test a) refl
+  first_by (a ∷ all) e rest h = by (test a) refl (first_by all e rest)
     where
-      by : (b : Bool) → test a ≡ b → IsFirstForbidding test (a ∷ all) e
-      by true is =
+      by : (b : Bool) → test a ≡ b → (filter test all ≡ e ∷ rest → IsFirstForbidding test all e) → IsFirstForbidding test (a ∷ all) e
+      by true is next =
           let here : a ∷ filter test all ≡ e ∷ rest = sym (ap (λ (b : Bool). cond b (a ∷ filter test all) (filter test all)) is) ∙ h in
           subst (λ (z : Edge). IsFirstForbidding test (a ∷ all) z) (head_is a e (filter test all) rest here) ([], all, refl, is, All-nil (λ f. test f ≡ false))
-      by false is =
-          let behind = first_by all e rest (sym (ap (λ (b : Bool). cond b (a ∷ filter test all) (filter test all)) is) ∙ h) in
+      by false is next =
+          let behind = next (sym (ap (λ (b : Bool). cond b (a ∷ filter test all) (filter test all)) is) ∙ h) in
           (a ∷ behind.0, behind.1, ap (λ (es : List Edge). a ∷ es) behind.2, behind.3, All-cons (λ f. test f ≡ false) a behind.0 is behind.4)
 
   none_by : (all : List Edge) → filter test all ≡ [] → All (λ e. test e ≡ false) all
   none_by [] h = All-nil (λ f. test f ≡ false)
-  none_by (a ∷ all) h = by (test a) refl
+  none_by (a ∷ all) h = by (test a) refl (none_by all)
     where
-      by : (b : Bool) → test a ≡ b → All (λ e. test e ≡ false) (a ∷ all)
-      by true is = absurd (nothing_first a (filter test all) (sym h ∙ ap (λ (b : Bool). cond b (a ∷ filter test all) (filter test all)) is))
-      by false is = All-cons (λ f. test f ≡ false) a all is (none_by all (sym (ap (λ (b : Bool). cond b (a ∷ filter test all) (filter test all)) is) ∙ h))
+      by : (b : Bool) → test a ≡ b → (filter test all ≡ [] → All (λ e. test e ≡ false) all) → All (λ e. test e ≡ false) (a ∷ all)
+      by true is next = absurd (nothing_first a (filter test all) (sym h ∙ ap (λ (b : Bool). cond b (a ∷ filter test all) (filter test all)) is))
+      by false is next = All-cons (λ f. test f ≡ false) a all is (next (sym (ap (λ (b : Bool). cond b (a ∷ filter test all) (filter test all)) is) ∙ h))
 
 module _ (t : ProgramTree) (test : Edge → Bool) (found : List CodeEdge) (those : AreThose t test found) where
   pub first_found : (e : CodeEdge) (rest : List CodeEdge) → found ≡ e ∷ rest → IsFirstOf t test (Some e)
@@ -84,6 +84,12 @@ module _ (t : ProgramTree) (test : Edge → Bool) (found : List CodeEdge) (those
   none_found is = λ edges are.
       subst (λ (es : List Edge). All (λ e. test e ≡ false) es) (one_edges t those.all edges those.are are)
       (none_by test those.all (sym those.those ∙ ap (λ (es : List CodeEdge). map edge_of es) is))
+
+-- the first of the dependences that are kept
+pub found_first : (t : ProgramTree) (test : Edge → Bool) (found : List CodeEdge) (r : Option CodeEdge) → AreThose t test found
+    → MatchOption r (found ≡ []) (λ e. (rest : List CodeEdge) × (found ≡ e ∷ rest)) → IsFirstOf t test r
+found_first t test found None those is = none_found t test found those is
+found_first t test found (Some e) those is = first_found t test found those e is.0 is.1
 
 -- a statement in the body of a DO, by how many statements the body has
 pub in_body : (t : ProgramTree) (s : ℕ) (h : Head) (body : StmtTrees) (k : ℕ) → IsLoop t s h body → is_in_body s (extent_of t s) k ≡ (nat_lt s k && nat_le k (s + statements_count body))

@@ -1,5 +1,5 @@
 -- The statements that a step keeps stand one to one.
-use Rattle.std.proofs.Common.{◌≡◌, ℕ, suc, ◌+◌, ◌<◌, ◌≤◌, List, [], ◌∷◌, length, map, filter, get_or, cond, AllPairs, Bool, true, false, not, refl, ap, sym, ◌∙◌, subst, arith}
+use Rattle.std.proofs.Common.{◌≡◌, ℕ, suc, ◌+◌, ◌<◌, ◌≤◌, List, [], ◌∷◌, length, map, get_or, AllPairs, Bool, true, false, not, refl, ap, arith}
 use Rattle.std.specs.Prelude.{nat_lt, ◌≢◌, if◌then◌else◌}
 use Rattle.std.specs.List.{range_with_len}
 use Rattle.std.proofs.lemmas.Bool.{lt-ltb, ltb-true}
@@ -9,7 +9,7 @@ use Rattle.ped_tree.specs.Tree.{ProgramTree}
 use Rattle.ped_tree.specs.Numbering.{statements_count}
 use Rattle.ped_tidy.specs.ped_steps.specs.ped_laws.specs.ped_graph.specs.Update.Fresh.{IsOneToOne}
 use Rattle.ped_tidy.specs.ped_steps.specs.Replacing.{all_kept}
-use Rattle.ped_rules.specs.KeepMaps.{numbers_in, is_between, all_but, moved, moved_by}
+use Rattle.ped_rules.specs.KeepMaps.{is_between, all_but, moved, moved_by}
 
 -- statements whose order stays stand one to one
 rising_differ : (m n : ℕ) → m < n → m ≡ n → ⊥
@@ -59,23 +59,10 @@ pub moved_one_to_one : (t : ProgramTree) (end further : ℕ) → IsOneToOne (mov
 moved_one_to_one t end further = one_to_one (moved end further) (moved_grows end further) (statements_count t.body)
 
 -- some go, and the others keep their numbers
-abbrev same : ℕ → ℕ × ℕ
-same n = (n, n)
-
-filter_pairs : (p : ℕ → Bool) (xs : List ℕ) → map same (filter p xs) ≡ filter (λ c. p c.0) (map same xs)
-filter_pairs p [] = refl
-filter_pairs p (x ∷ xs) = by (p x) (filter_pairs p xs)
-  where
-    by : (b : Bool) → map same (filter p xs) ≡ filter (λ c. p c.0) (map same xs) → map same (cond b (x ∷ filter p xs) (filter p xs)) ≡ cond b (same x ∷ filter (λ c. p c.0) (map same xs)) (filter (λ c. p c.0) (map same xs))
-    by true e = ap (λ (zs : List (ℕ × ℕ)). same x ∷ zs) e
-    by false e = e
-
 pub but_one_to_one : (t : ProgramTree) (first last : ℕ) → IsOneToOne (all_but first last t)
 but_one_to_one t first last =
     let all = all_one_to_one t in
-    let keeps : ℕ → Bool = λ n. not (is_between first last n) in
-    subst IsOneToOne (sym (filter_pairs keeps (numbers_in t)))
-    (record {
-      before = AllPairs-filter (λ p q. p.0 ≢ q.0) (λ (c : ℕ × ℕ). keeps c.0) (all_kept t) all.before;
-      behind = AllPairs-filter (λ p q. p.1 ≢ q.1) (λ (c : ℕ × ℕ). keeps c.0) (all_kept t) all.behind;
-    })
+    record {
+      before = AllPairs-filter (λ p q. p.0 ≢ q.0) (λ (c : ℕ × ℕ). not (is_between first last c.0)) (all_kept t) all.before;
+      behind = AllPairs-filter (λ p q. p.1 ≢ q.1) (λ (c : ℕ × ℕ). not (is_between first last c.0)) (all_kept t) all.behind;
+    }

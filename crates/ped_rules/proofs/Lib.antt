@@ -7,3 +7,5 @@ pub mod CarriedEdges
 pub mod Increments
 pub mod FreshNames
 pub mod NestDepths
+pub mod Escaping
+pub mod SameIntervals

@@ -3,10 +3,7 @@ use Rattle.std.specs.Prelude.{ℕ, ◌+◌, nat_le, nat_lt, List, map, filter, B
 use Rattle.std.specs.List.{range_with_len}
 use Rattle.ped_tree.specs.Tree.{ProgramTree}
 use Rattle.ped_tree.specs.Numbering.{statements_count}
-
--- the numbers of a program's statements
-abbrev pub numbers_in : ProgramTree → List ℕ
-numbers_in t = range_with_len 1 (statements_count t.body)
+use Rattle.ped_tidy.specs.ped_steps.specs.Replacing.{all_kept}
 
 -- the number lies from the first of these to the last
 abbrev pub is_between : (first last : ℕ) → ℕ → Bool
@@ -14,7 +11,7 @@ is_between first last n = nat_le first n && nat_le n last
 
 -- all statements keep their numbers but those with numbers from the first to the last, which go
 abbrev pub all_but : (first last : ℕ) → ProgramTree → List (ℕ × ℕ)
-all_but first last t = map (λ n. (n, n)) (filter (λ n. not (is_between first last n)) (numbers_in t))
+all_but first last t = filter (λ p. not (is_between first last p.0)) (all_kept t)
 
 -- statements up to this number keep theirs, and those behind it go so much further
 abbrev pub moved : ℕ → ℕ → ℕ → ℕ
@@ -22,4 +19,4 @@ moved end further n = if nat_lt end n then n + further else n
 
 -- all statements stay, those behind this number so much further
 abbrev pub moved_by : (end further : ℕ) → ProgramTree → List (ℕ × ℕ)
-moved_by end further t = map (λ n. (n, moved end further n)) (numbers_in t)
+moved_by end further t = map (λ n. (n, moved end further n)) (range_with_len 1 (statements_count t.body))

@@ -1,13 +1,13 @@
 -- The rules that several steps share: what stands against a step by each, and which statement it names (ParaScope; this project).
-use Rattle.std.specs.Prelude.{◌≡◌, ◌⊎◌, ℕ, ℤ, pos, neg_ℤ, List, map, Bool, true, not, ◌||◌, is_none, Option, Some, None}
+use Rattle.std.specs.Prelude.{◌≡◌, ◌⊎◌, ℕ, ℤ, pos, neg_ℤ, List, Bool, true, not, ◌||◌, is_none, Option, Some, None}
 use Rattle.std.specs.Ordering.{int_eq}
 use Rattle.ped_base.specs.Lists.{has_some}
 use Rattle.ped_tree.specs.Tree.{ExprTree, Head, StmtTrees, ProgramTree}
-use Rattle.ped_tree.specs.Nests.{Loop}
 use Rattle.ped_tree.specs.Constants.ConstantExpressions.{constant_value}
 use Rattle.ped_tidy.specs.ped_steps.specs.ped_symbols.specs.Kinds.{table_of}
 use Rattle.ped_tidy.specs.ped_steps.specs.ped_symbols.specs.NameRefusals.{IsValid}
-use Rattle.ped_tidy.specs.ped_steps.specs.ped_affine.specs.Ranges.{Setting, interval_of, around_with}
+use Rattle.ped_affine.specs.Ranges.{Setting, interval_of, around_with}
+use Rattle.ped_affine.specs.PairViews.{heads_of}
 use Rattle.ped_tidy.specs.ped_steps.specs.ped_flow.specs.PlainBounds.{setting_round, nest_round, IsPlain}
 use Rattle.ped_tidy.specs.ped_steps.specs.ped_flow.specs.Questions.{LoopOf, IsFirst}
 use Rattle.ped_tidy.specs.ped_steps.specs.ped_flow.specs.Answers.{IsEscape}
@@ -67,10 +67,6 @@ is_unit n = int_eq n (pos 1) || int_eq n (neg_ℤ (pos 1))
 -- rule 8: the increment has no constant value, or one that isn't allowed (this project)
 abbrev pub has_other_step : Values → (ℤ → Bool) → Head → StmtTrees → Bool
 has_other_step constants allowed h body = isnt_allowed allowed (constant_value constants h.step)
-
--- the heads of DO loops
-abbrev pub heads_of : List Loop → List Head
-heads_of nest = map (λ l. l.head) nest
 
 -- rule 9: a new bound in these DO loops, the outermost first, has a part whose values may leave 2^62 (this project)
 abbrev pub leaves : Setting → List Head → ExprTree → Bool

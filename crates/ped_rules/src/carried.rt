@@ -64,8 +64,12 @@ fn carried_edges<L: Ledger>(
     Ok(edges)
 }
 
-/// The level of the DO with this number, 1 for the outermost.
-fn level_at<L: Ledger>(alloc: Global, scene: &Scene<L>, number: u32) -> Result<u8, NoMemory>
+/// The level of the DO with this number, 1 for the outermost (Allen and Kennedy, section 2.2.5).
+pub fn level_at<L: Ledger>(
+    alloc: Global,
+    scene: &Scene<L>,
+    number: u32,
+) -> Result<u8, NoMemory>
     requires { IsSceneOf (program_tree scene.now.tree.now) scene.now }
     ensures { IfOk result (λ level. level ≡ Spec.level_at (program_tree scene.now.tree.now) number) }
 {

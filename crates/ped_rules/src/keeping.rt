@@ -65,7 +65,7 @@ pub fn all_but(
 
 /// So many statements, without those with numbers from `first` to `last`.
 fn kept_but(alloc: Global, count: u32, first: u32, last: u32) -> Result<Keep, NoMemory>
-    ensures { IfOk result (λ keep. keep ≡ map (λ n. (n, n)) (filter (λ n. not (Spec.is_between first last n)) (range_with_len 1 count))) }
+    ensures { IfOk result (λ keep. keep ≡ filter (λ p. not (Spec.is_between first last p.0)) (map (λ n. (n, n)) (range_with_len 1 count))) }
 {
     let mut keep = Listed::new(alloc);
     for n in 0..count {

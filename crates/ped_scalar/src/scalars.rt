@@ -14,9 +14,10 @@ ghost use Rattle.ped_rules.specs.ped_steps.specs.ped_flow.specs.Questions.{IsLoo
 ghost use Rattle.ped_rules.specs.ped_steps.specs.Scenes.{IsSceneOf, IsFlowOf};
 ghost use Rattle.ped_scalar.specs.Scalars as Spec;
 
-use crate::indices::{is_index, is_index_in};
+use crate::indices::is_index_in;
 use crate::referring::is_referred;
 use ped_base::{Name, NoMemory};
+use ped_rules::is_index;
 use ped_rules::ped_steps::ped_flow::{Flow, Reader};
 use ped_rules::ped_steps::ped_refs::Loop;
 use ped_rules::ped_steps::ped_symbols::{Kind, Symbols};

@@ -3,11 +3,11 @@ use Rattle.std.proofs.Common.{◌≡◌, ◌⊎◌, ℕ, List, [], ◌∷◌, �
 use Rattle.std.specs.Prelude.{◌&&◌, ◌||◌, Some}
 use Rattle.std.specs.List.{list_all, flat_map}
 use Rattle.std.proofs.lemmas.Bool.{and_parts}
-use Rattle.std.proofs.lemmas.Grind.{list_all-append}
+use Rattle.std.proofs.lemmas.List.Folds.{list_all-append}
 use Rattle.std.proofs.lemmas.List.{map-append}
-use Rattle.ped_tree.proofs.NameLaws.Collected.{among_append}
+use Rattle.ped_laws.specs.ped_flow.specs.ped_tree.proofs.NameLaws.Collected.{among_append}
 use Rattle.ped_laws.specs.ped_flow.specs.ped_base.specs.Lists.{is_same_text, is_among}
-use Rattle.ped_base.proofs.NameEquality.{same_is}
+use Rattle.ped_laws.specs.ped_flow.specs.ped_base.proofs.NameEquality.{same_is}
 use Rattle.ped_laws.specs.ped_flow.specs.ped_tree.specs.Tree.{ExprTree, Head, StmtTree, StmtTrees, Assign, If, Do, Print, Read, Stop, Comment, no_stmts, more_stmts, DeclTree, Program, Implicit, Integer, Dimension, Parameter, Save, Remark, ProgramTree}
 use Rattle.ped_laws.specs.ped_flow.specs.ped_tree.specs.Accesses.{constants_in, constant_names}
 use Rattle.ped_laws.specs.ped_flow.specs.ped_tree.specs.NamesIn.{loop_variables, all_loop_variables}

@@ -48,6 +48,7 @@ placed_loop t l loop h = by (l == 0) refl
     u : ProgramTree
     u = program_with (λ s. alone (Do h loop.body)) l t
 
+    g : HasGap (λ s. alone (Do h loop.body)) l (Do loop.head loop.body) 1 t.body u.body
     g = program_gap (λ s. alone (Do h loop.body)) l (Do loop.head loop.body) t loop.is
 
     low : 1 ≤ number_at g.gap 1

@@ -28,7 +28,7 @@ use Rattle.ped_laws.specs.ped_graph.specs.ped_symbols.specs.NameRefusals.{IsVali
 use Rattle.ped_laws.specs.ped_graph.specs.ped_symbols.specs.RightUses.RightUses.{NameKinds, is_scalar, expr_is_right, cond_is_right, head_is_right, stmt_is_right, stmts_are_right}
 use Rattle.ped_laws.specs.ped_graph.specs.ped_symbols.proofs.RightUseLaws.Whole.{right_program}
 use Rattle.ped_laws.specs.ped_graph.specs.Owners.{is_same_owner, have_same_owner, level_by, private_level, owner_level, is_same}
-use Rattle.ped_laws.specs.ped_graph.specs.Dependences.{Carriage, carried, carriage_from, is_of, setting_in, view_of, AreEdges}
+use Rattle.ped_laws.specs.ped_graph.specs.Dependences.{Carriage, carried, carriage_from, is_of, setting_in, site_of, view_of, AreEdges}
 use Rattle.ped_laws.specs.ped_edges.specs.Edges.{Edge}
 use Rattle.ped_laws.specs.Acts.Orders.{IsIn}
 use Rattle.ped_laws.proofs.ActLaws.Lists.{in_left, in_right}
@@ -254,7 +254,7 @@ module _ (t : ProgramTree) (edges : List Edge) (are : AreEdges t edges) where
         edge_between t r r (pairs (references t)) edges vector (Some (length front + 1)) are (is_listed (references t) r r listed listed pair)
         (λ i. is_same_owner (free i) (free i))
         (ap (λ (n : ℕ). list_all is_same (take n vector)) (no_level r.access.name r.nest free))
-        (no_positions _ _ _ (λ (p : SubscriptPair). ¬ (Excludes (view_of t r r) p vector)) r.access.subscripts r.access.subscripts bare)
+        (no_positions (setting_in t (outermost r)) (site_of r) (site_of r) (λ (p : SubscriptPair). ¬ (Excludes (view_of t r r) p vector)) r.access.subscripts r.access.subscripts bare)
         vector_long
         (ap (is_of (Some (length front + 1))) (carried_at front (sames more) 1) ∙ same_numbers (length front + 1) (length front + 1) refl)
         (omega arith, omega (arith, loops, long))

@@ -20,7 +20,7 @@ use Rattle.ped_answer.specs.ped_scalar.specs.ped_rules.specs.Chains.{no_rules, a
 use Rattle.ped_answer.specs.ped_scalar.specs.ped_rules.specs.Rules.{WhereNoLoop, WhereEscape, WhereLimit}
 use Rattle.ped_answer.specs.ped_scalar.specs.ped_rules.proofs.Chains.{IsChain, first_here, first_later, none_later, none_at_end}
 use Rattle.ped_answer.specs.ped_scalar.specs.ped_rules.proofs.Decided.{loop_decided, valid_decided, limit_stands, limit_not}
-use Rattle.ped_answer.specs.ped_scalar.specs.ped_rules.proofs.Escaping.{by_statement, by_saved, by_nothing}
+use Rattle.ped_answer.specs.ped_scalar.specs.ped_rules.proofs.EscapeRule.{by_statement, by_saved, by_nothing}
 use Rattle.ped_existence.proofs.Edges.{edges_of_program}
 
 -- the rule names a statement, or none

@@ -104,7 +104,7 @@ module _ (t : ProgramTree) (valid : IsValid t) (s : ℕ) (loop : LoopOf t s) (fl
     trips = same_trips;
     in_turn = λ e. absurd (both_ways false refl e);
     differ = λ e. differ;
-    carries = λ e. elim e [ inl no ↦ absurd (both_ways false refl no) | inr became ↦ carries became ];
+    carries = λ e. elim e [ inl never ↦ absurd (both_ways false refl never) | inr became ↦ carries became ];
     unwritten = λ e. unwritten;
   }
 

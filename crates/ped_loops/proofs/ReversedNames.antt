@@ -1,6 +1,7 @@
 -- The names in the head of a reversed DO: those of the old one, but for the named constants in its increment.
-use Rattle.std.proofs.Common.{◌≡◌, ◌⊎◌, ℕ, ℤ, pos, negsuc, List, [], ◌∷◌, ◌++◌, map, Bool, true, false, ◌||◌, Option, Some, None, Ok, Err, Result, refl, sym, ap, ◌∙◌, inl, inr, append-nil}
+use Rattle.std.proofs.Common.{◌≡◌, ◌⊎◌, ℕ, ℤ, pos, negsuc, List, [], ◌∷◌, ◌++◌, map, Bool, true, false, ◌||◌, Option, Some, None, Ok, Err, Result, refl, sym, ap, ◌∙◌, inl, inr, append-nil, unsigned_abs, if◌then◌else◌}
 use Rattle.std.specs.Prelude.{neg_ℤ, option_and_then}
+use Rattle.std.specs.Int.{is_negative}
 use Rattle.std.specs.Result.{result_ok}
 use Rattle.std.specs.List.{flat_map}
 use Rattle.std.proofs.lemmas.List.{map-append}
@@ -21,7 +22,7 @@ use Rattle.ped_rules.specs.ped_steps.specs.ped_symbols.specs.Uses.{used_as, expr
 use Rattle.ped_rules.specs.ped_steps.proofs.RunLaws.NamesKept.{occurs}
 use Rattle.ped_rules.specs.Spans.{Values}
 
-names_in : List Use → List (List ℕ)
+abbrev names_in : List Use → List (List ℕ)
 names_in us = map (λ (u : Use). u.name) us
 
 among_both : (y : List ℕ) (a b : List Use) → is_among y (names_in (a ++ b)) ≡ is_among y (names_in a) || is_among y (names_in b)
@@ -61,15 +62,22 @@ module _ (constants : Values) (y : List ℕ) (none : value_named constants y ≡
     unnamed (Var x) m h = not_it x m h (is_same_text y x) refl
     unnamed (Element x subscripts) m h = absurd cc
     unnamed (Neg a) m h = let r = of_unary negation_of (constant_value constants a) m h in unnamed a r.0 r.1
-    unnamed (Add a b) m h = both a b (of_binary sum_of (constant_value constants a) (constant_value constants b) m h)
-    unnamed (Sub a b) m h = both a b (of_binary difference_of (constant_value constants a) (constant_value constants b) m h)
-    unnamed (Mul a b) m h = both a b (of_binary product_of (constant_value constants a) (constant_value constants b) m h)
-    unnamed (Div a b) m h = both a b (of_binary quotient_of (constant_value constants a) (constant_value constants b) m h)
-    unnamed (Pow a b) m h = both a b (of_binary power_of (constant_value constants a) (constant_value constants b) m h)
+    unnamed (Add a b) m h =
+        let r = of_binary sum_of (constant_value constants a) (constant_value constants b) m h in
+        none_in_both y (expr_uses a) (expr_uses b) (unnamed a r.0 r.2) (unnamed b r.1 r.3)
+    unnamed (Sub a b) m h =
+        let r = of_binary difference_of (constant_value constants a) (constant_value constants b) m h in
+        none_in_both y (expr_uses a) (expr_uses b) (unnamed a r.0 r.2) (unnamed b r.1 r.3)
+    unnamed (Mul a b) m h =
+        let r = of_binary product_of (constant_value constants a) (constant_value constants b) m h in
+        none_in_both y (expr_uses a) (expr_uses b) (unnamed a r.0 r.2) (unnamed b r.1 r.3)
+    unnamed (Div a b) m h =
+        let r = of_binary quotient_of (constant_value constants a) (constant_value constants b) m h in
+        none_in_both y (expr_uses a) (expr_uses b) (unnamed a r.0 r.2) (unnamed b r.1 r.3)
+    unnamed (Pow a b) m h =
+        let r = of_binary power_of (constant_value constants a) (constant_value constants b) m h in
+        none_in_both y (expr_uses a) (expr_uses b) (unnamed a r.0 r.2) (unnamed b r.1 r.3)
     unnamed (Call f arguments) m h = let r = of_call f (constant_values constants arguments) m h in all_unnamed arguments r.0 r.1
-
-    both : (a b : ExprTree) → (v : ℤ) × (w : ℤ) × (constant_value constants a ≡ Some v) × (constant_value constants b ≡ Some w) → is_among y (names_in (expr_uses a ++ expr_uses b)) ≡ false
-    both a b r = none_in_both y (expr_uses a) (expr_uses b) (unnamed a r.0 r.2) (unnamed b r.1 r.3)
 
     all_unnamed : (es : ExprTrees) (vs : List ℤ) → constant_values constants es ≡ Some vs → is_among y (names_in (exprs_uses es)) ≡ false
     all_unnamed no_exprs vs h = refl
@@ -79,22 +87,25 @@ module _ (constants : Values) (y : List ℕ) (none : value_named constants y ≡
 
 -- the uses in a head
 head_uses : (y : List ℕ) (h : Head) (body : StmtTrees)
-    → occurs y (statement (Do h body) ∷ []) ≡ is_among y (names_in (map (used_as Rejected) h.rejected)) || (is_same_text y h.variable || (is_among y (names_in (expr_uses h.first)) || (is_among y (names_in (expr_uses h.last)) || is_among y (names_in (expr_uses h.step)))))
+    → occurs y (statement (Do h body) ∷ []) ≡ is_among y (names_in (map (used_as Rejected) h.rejected)) || (is_same_text y h.variable || ((is_among y (names_in (expr_uses h.first)) || is_among y (names_in (expr_uses h.last))) || is_among y (names_in (expr_uses h.step))))
 head_uses y h body =
     ap (λ (us : List Use). is_among y (names_in us)) (append-nil (own_uses (Do h body)))
     ∙ among_both y (map (used_as Rejected) h.rejected) (used_as Index h.variable ∷ (expr_uses h.first ++ expr_uses h.last ++ expr_uses h.step))
     ∙ ap (λ (b : Bool). is_among y (names_in (map (used_as Rejected) h.rejected)) || (is_same_text y h.variable || b))
-    (among_both y (expr_uses h.first) (expr_uses h.last ++ expr_uses h.step) ∙ ap (λ (b : Bool). is_among y (names_in (expr_uses h.first)) || b) (among_both y (expr_uses h.last) (expr_uses h.step)))
+        (among_both y (expr_uses h.first ++ expr_uses h.last) (expr_uses h.step) ∙ ap (λ (b : Bool). b || is_among y (names_in (expr_uses h.step))) (among_both y (expr_uses h.first) (expr_uses h.last)))
 
-exchanged : (a b s r : Bool) → s ≡ false → r ≡ false → b || (a || s) ≡ a || (b || r)
+exchanged : (a b s r : Bool) → s ≡ false → r ≡ false → (b || a) || s ≡ (a || b) || r
 exchanged true true s r p q = refl
 exchanged true false s r p q = refl
 exchanged false true s r p q = refl
 exchanged false false s r p q = p ∙ sym q
 
+signed_unnamed : (y : List ℕ) (k : ℕ) (b : Bool) → is_among y (names_in (expr_uses (if b then Neg (Int k) else Int k))) ≡ false
+signed_unnamed y k true = refl
+signed_unnamed y k false = refl
+
 literal_unnamed : (y : List ℕ) (n : ℤ) → is_among y (names_in (expr_uses (literal n))) ≡ false
-literal_unnamed y (pos n) = refl
-literal_unnamed y (negsuc n) = refl
+literal_unnamed y n = signed_unnamed y (unsigned_abs n) (is_negative n)
 
 -- a head whose bounds are exchanged and whose increment is a literal, where the old increment has a value
 pub turned_names : (constants : Values) (h : Head) (n m : ℤ) (body : StmtTrees) → constant_value constants h.step ≡ Some m → (y : List ℕ) → value_named constants y ≡ None
@@ -102,5 +113,5 @@ pub turned_names : (constants : Values) (h : Head) (n m : ℤ) (body : StmtTrees
 turned_names constants h n m body value y none =
     head_uses y (record h { first = h.last; last = h.first; step = literal n }) body
     ∙ ap (λ (b : Bool). is_among y (names_in (map (used_as Rejected) h.rejected)) || (is_same_text y h.variable || b))
-    (exchanged (is_among y (names_in (expr_uses h.first))) (is_among y (names_in (expr_uses h.last))) (is_among y (names_in (expr_uses (literal n)))) (is_among y (names_in (expr_uses h.step))) (literal_unnamed y n) (unnamed constants y none h.step m value))
+        (exchanged (is_among y (names_in (expr_uses h.first))) (is_among y (names_in (expr_uses h.last))) (is_among y (names_in (expr_uses (literal n)))) (is_among y (names_in (expr_uses h.step))) (literal_unnamed y n) (unnamed constants y none h.step m value))
     ∙ sym (head_uses y h body)

@@ -4,8 +4,9 @@ pub mod Decided
 pub mod Answering
 pub mod KeptNumbers
 pub mod CarriedEdges
-pub mod Increments
+pub mod RightSteps
 pub mod FreshNames
 pub mod NestDepths
-pub mod Escaping
+pub mod EscapeRule
 pub mod SameIntervals
+pub mod OutermostLoops

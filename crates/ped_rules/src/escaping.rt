@@ -22,7 +22,7 @@ pub fn escapes<L: Ledger>(scene: &Scene<L>, number: u32) -> Option<u32>
 }
 
 /// The statement that the rule names where this is what the flow answers of the DO with this number.
-#[tactic(auto, using(crate::proofs::Escaping::by_statement, crate::proofs::Escaping::by_saved, crate::proofs::Escaping::by_nothing))]
+#[tactic(auto, using(crate::proofs::EscapeRule::by_statement, crate::proofs::EscapeRule::by_saved, crate::proofs::EscapeRule::by_nothing))]
 fn named(reader: Option<Reader>, number: u32) -> Option<u32>
     ensures { (t : ProgramTree) → IsEscape t number reader → MatchOption result ((n : ℕ) → WhereEscape t number n → ⊥) (WhereEscape t number) }
 {

@@ -36,7 +36,7 @@ use Rattle.ped_rules.specs.Fresh.{occurs, first_free, numbered_names, most_numbe
 use Rattle.ped_scalar.specs.Expanding.{kept_value, with_elements, expanded, is_private_near, IsExpanded, StandsAgainstExpanding}
 use Rattle.ped_tree.specs.NamesIn.{private_names_in, all_private_names_in}
 use Rattle.ped_rules.specs.ped_tidy.proofs.TidyPathsSums.{Summary}
-use Rattle.ped_rules.proofs.Increments.{near_is}
+use Rattle.ped_rules.proofs.RightSteps.{near_is}
 use Rattle.ped_scalar.proofs.KeptByPrivatising.{least, false_by, or_neither, not_so}
 use Rattle.ped_scalar.proofs.WrittenThere as writing
 use Rattle.ped_scalar.proofs.VariablesRound as round_it

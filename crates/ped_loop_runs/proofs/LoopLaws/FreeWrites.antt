@@ -175,7 +175,11 @@ module _ (cs : List (List ℕ)) (k : NameKinds) (w : List ℕ) (scalar : is_scal
               (second_free nest own (statements_references cs nest (n + 1) a) (all_free_write nest (n + 1) a free (and_parts (cond_is_right k c) (stmts_are_right k a) right.0).1 e))
           | inr e ↦ second_free nest (own ++ statements_references cs nest (n + 1) a) (statements_references cs nest (n + 1 + statements_count a) b) (all_free_write nest (n + 1 + statements_count a) b free right.1 e)
         ]
-    free_write nest n (Do g body) free r h = go (list_any (writes_name cs w) g.private) refl
+    free_write nest n (Do g body) free r h =
+        let loop : Loop = record { number = n; head = g } in
+        go (list_any (writes_name cs w) g.private) refl
+        (λ e. all_free_write (nest ++ loop ∷ []) (n + 1) body (more_free w nest loop free (unlisted g.private e)) (and_parts (head_is_right k g) (stmts_are_right k body) r).1
+        (sym (ap (λ (b : Bool). b || all_write cs w body) e) ∙ h))
       where
         loop : Loop
         loop = record { number = n; head = g }
@@ -183,13 +187,12 @@ module _ (cs : List (List ℕ)) (k : NameKinds) (w : List ℕ) (scalar : is_scal
         own : List Reference
         own = numbered_accesses n 1 nest (own_accesses cs (indices_of nest) (Do g body))
 
-        go : (b : Bool) → list_any (writes_name cs w) g.private ≡ b → IsFreeWrite nest (statement_references cs nest n (Do g body))
-        go true e = first_free nest own (statements_references cs (nest ++ loop ∷ []) (n + 1) body) (own_free nest n (Do g body) free r e)
-        go false e =
-            second_free nest own (statements_references cs (nest ++ loop ∷ []) (n + 1) body)
-            (further_in nest loop (statements_references cs (nest ++ loop ∷ []) (n + 1) body)
-            (all_free_write (nest ++ loop ∷ []) (n + 1) body (more_free w nest loop free (unlisted g.private e)) (and_parts (head_is_right k g) (stmts_are_right k body) r).1
-            (sym (ap (λ (b : Bool). b || all_write cs w body) e) ∙ h)))
+        inner : List Reference
+        inner = statements_references cs (nest ++ loop ∷ []) (n + 1) body
+
+        go : (b : Bool) → list_any (writes_name cs w) g.private ≡ b → (list_any (writes_name cs w) g.private ≡ false → IsFreeWrite (nest ++ loop ∷ []) inner) → IsFreeWrite nest (statement_references cs nest n (Do g body))
+        go true e within = first_free nest own inner (own_free nest n (Do g body) free r e)
+        go false e within = second_free nest own inner (further_in nest loop inner (within e))
     free_write nest n (Print items) free r h = own_free nest n (Print items) free r h
     free_write nest n (Read items) free r h = own_free nest n (Read items) free r h
     free_write nest n Stop free r h = untrue h

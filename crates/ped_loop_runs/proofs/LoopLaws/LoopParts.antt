@@ -15,11 +15,11 @@ use Rattle.ped_bodies.specs.Trips.{loop_entry, trip_end, trips, loop_close, loop
 -- items of lists for some numbers, one behind the other
 in_flat : {X : Type 0} (g : ℕ → List X) (x : X) (from count k : ℕ) → from ≤ k → k < from + count → IsIn x (g k) → IsIn x (flat_map g (range_with_len from count))
 in_flat g x from zero k low high i = absurd (omega (arith, low, high))
-in_flat g x from (suc count) k low high i = go (k == from) refl
+in_flat g x from (suc count) k low high i = go (k == from) refl (λ more. in_flat g x (from + 1) count k more (omega (arith, high)) i)
   where
-    go : (b : Bool) → (k == from) ≡ b → IsIn x (g from ++ flat_map g (range_with_len (from + 1) count))
-    go true e = let same : k ≡ from = grind (arith, nat_tests, e) in in_left x (g from) (flat_map g (range_with_len (from + 1) count)) (subst (λ (m : ℕ). IsIn x (g m)) same i)
-    go false e = let more : from + 1 ≤ k = grind (arith, nat_tests, e, low) in in_right x (g from) (flat_map g (range_with_len (from + 1) count)) (in_flat g x (from + 1) count k more (omega (arith, high)) i)
+    go : (b : Bool) → (k == from) ≡ b → (from + 1 ≤ k → IsIn x (flat_map g (range_with_len (from + 1) count))) → IsIn x (g from ++ flat_map g (range_with_len (from + 1) count))
+    go true e later = let same : k ≡ from = grind (arith, nat_tests, e) in in_left x (g from) (flat_map g (range_with_len (from + 1) count)) (subst (λ (m : ℕ). IsIn x (g m)) same i)
+    go false e later = let more : from + 1 ≤ k = grind (arith, nat_tests, e, low) in in_right x (g from) (flat_map g (range_with_len (from + 1) count)) (later more)
 
 of_flat : {X : Type 0} (g : ℕ → List X) (x : X) (from count : ℕ) → IsIn x (flat_map g (range_with_len from count)) → (k : ℕ) × (from ≤ k) × (k < from + count) × IsIn x (g k)
 of_flat g x from zero i = absurd i

@@ -3,11 +3,11 @@ use Rattle.std.proofs.Common.{◌≡◌, ◌⊎◌, ℕ, List, [], ◌∷◌, �
 use Rattle.std.specs.Prelude.{◌&&◌, ◌||◌, Some}
 use Rattle.std.specs.List.{list_all, flat_map}
 use Rattle.std.proofs.lemmas.Bool.{and_parts}
-use Rattle.std.proofs.lemmas.Grind.{list_all-append}
+use Rattle.std.proofs.lemmas.List.Folds.{list_all-append}
 use Rattle.std.proofs.lemmas.List.{map-append}
-use Rattle.ped_tree.proofs.NameLaws.Collected.{among_append}
+use Rattle.ped_laws.specs.ped_flow.specs.ped_tree.proofs.NameLaws.Collected.{among_append}
 use Rattle.ped_laws.specs.ped_flow.specs.ped_base.specs.Lists.{is_same_text, is_among}
-use Rattle.ped_base.proofs.NameEquality.{same_is}
+use Rattle.ped_laws.specs.ped_flow.specs.ped_base.proofs.NameEquality.{same_is}
 use Rattle.ped_laws.specs.ped_flow.specs.ped_tree.specs.Tree.{ExprTree, Head, StmtTree, StmtTrees, Assign, If, Do, Print, Read, Stop, Comment, no_stmts, more_stmts, DeclTree, Program, Implicit, Integer, Dimension, Parameter, Save, Remark, ProgramTree}
 use Rattle.ped_laws.specs.ped_flow.specs.ped_tree.specs.Accesses.{constants_in, constant_names}
 use Rattle.ped_laws.specs.ped_flow.specs.ped_tree.specs.NamesIn.{loop_variables, all_loop_variables}
@@ -77,13 +77,13 @@ or_of true b h = refl
 or_of false b (inl e) = absurd cc
 or_of false b (inr e) = e
 
-names_in : List Use → List (List ℕ)
+abbrev names_in : List Use → List (List ℕ)
 names_in us = map (λ (u : Use). u.name) us
 
 among_both : (y : List ℕ) (a b : List Use) → is_among y (names_in (a ++ b)) ≡ is_among y (names_in a) || is_among y (names_in b)
 among_both y a b = ap (is_among y) (map-append (λ (u : Use). u.name) a b) ∙ among_append y (names_in a) (names_in b)
 
-parameter_uses : List ℕ × ExprTree → List Use
+abbrev parameter_uses : List ℕ × ExprTree → List Use
 parameter_uses v = used_as Named v.0 ∷ expr_uses v.1
 
 parameters_occur : (y : List ℕ) (values : List (List ℕ × ExprTree)) → is_among y (map (λ v. v.0) values) ≡ true → is_among y (names_in (flat_map parameter_uses values)) ≡ true

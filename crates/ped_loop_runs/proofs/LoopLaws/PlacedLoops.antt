@@ -11,35 +11,35 @@ use Rattle.ped_steps.proofs.RunLaws.FilledGaps.{number_from}
 use Rattle.ped_steps.proofs.RunLaws.ReplacedTrees.{HasGap, program_gap}
 
 module _ (h : Head) (b : StmtTrees) where
-  abbrev do : StmtTrees
-  do = alone (Do h b)
+  abbrev new : StmtTrees
+  new = alone (Do h b)
 
   in_rest : (xs ys : List StmtTree) (k m : ℕ) → k ≡ m + length xs → at_place ys m ≡ Some (Do h b) → at_place (xs ++ ys) k ≡ Some (Do h b)
   in_rest xs ys k m e there = at_place-back xs ys k m (sym e) ∙ there
 
   -- where the gap stands, there the DO stands
-  gap_at : (gap : Gap) (n k : ℕ) → number_at gap n ≡ n + k → at_place (all_numbered (filled gap do)) k ≡ Some (Do h b)
-  gap_at (at_front rest) n k e = let none : k ≡ 0 = omega (arith, e) in ap (at_place (all_numbered (filled (at_front rest) do))) none
+  gap_at : (gap : Gap) (n k : ℕ) → number_at gap n ≡ n + k → at_place (all_numbered (filled gap new)) k ≡ Some (Do h b)
+  gap_at (at_front rest) n k e = let none : k ≡ 0 = omega (arith, e) in ap (at_place (all_numbered (filled (at_front rest) new))) none
   gap_at (past s gap) n k e =
       let low = number_from gap (n + statement_count s) in
-      in_rest (numbered s) (all_numbered (filled gap do)) k (k - statement_count s) (let long = length-numbered s in omega (arith, e, low, long)) (gap_at gap (n + statement_count s) (k - statement_count s) (omega (arith, e, low)))
+      in_rest (numbered s) (all_numbered (filled gap new)) k (k - statement_count s) (let long = length-numbered s in omega (arith, e, low, long)) (gap_at gap (n + statement_count s) (k - statement_count s) (omega (arith, e, low)))
   gap_at (in_then c gap a rest) n k e =
       let low = number_from gap (n + 1) in
-      let whole = If c (filled gap do) a in
+      let whole = If c (filled gap new) a in
       at_place-front (numbered whole) (all_numbered rest) k (Do h b)
-      (in_rest (whole ∷ []) (all_numbered (filled gap do) ++ all_numbered a) k (k - 1) (omega (arith, e, low)) (at_place-front (all_numbered (filled gap do)) (all_numbered a) (k - 1) (Do h b) (gap_at gap (n + 1) (k - 1) (omega (arith, e, low)))))
+      (in_rest (whole ∷ []) (all_numbered (filled gap new) ++ all_numbered a) k (k - 1) (omega (arith, e, low)) (at_place-front (all_numbered (filled gap new)) (all_numbered a) (k - 1) (Do h b) (gap_at gap (n + 1) (k - 1) (omega (arith, e, low)))))
   gap_at (in_else c a gap rest) n k e =
       let low = number_from gap (n + 1 + statements_count a) in
-      let whole = If c a (filled gap do) in
+      let whole = If c a (filled gap new) in
       let long = length-all_numbered a in
       at_place-front (numbered whole) (all_numbered rest) k (Do h b)
-      (in_rest (whole ∷ []) (all_numbered a ++ all_numbered (filled gap do)) k (k - 1) (omega (arith, e, low))
-      (in_rest (all_numbered a) (all_numbered (filled gap do)) (k - 1) (k - 1 - statements_count a) (omega (arith, e, low, long)) (gap_at gap (n + 1 + statements_count a) (k - 1 - statements_count a) (omega (arith, e, low)))))
+      (in_rest (whole ∷ []) (all_numbered a ++ all_numbered (filled gap new)) k (k - 1) (omega (arith, e, low))
+      (in_rest (all_numbered a) (all_numbered (filled gap new)) (k - 1) (k - 1 - statements_count a) (omega (arith, e, low, long)) (gap_at gap (n + 1 + statements_count a) (k - 1 - statements_count a) (omega (arith, e, low)))))
   gap_at (in_body g gap rest) n k e =
       let low = number_from gap (n + 1) in
-      let whole = Do g (filled gap do) in
+      let whole = Do g (filled gap new) in
       at_place-front (numbered whole) (all_numbered rest) k (Do h b)
-      (in_rest (whole ∷ []) (all_numbered (filled gap do)) k (k - 1) (omega (arith, e, low)) (gap_at gap (n + 1) (k - 1) (omega (arith, e, low))))
+      (in_rest (whole ∷ []) (all_numbered (filled gap new)) k (k - 1) (omega (arith, e, low)) (gap_at gap (n + 1) (k - 1) (omega (arith, e, low))))
 
 -- so the new program has the new DO under the old number
 pub placed_loop : (t : ProgramTree) (l : ℕ) (loop : LoopOf t l) (h : Head) → statement_with l (program_with (λ s. alone (Do h loop.body)) l t) ≡ Some (Do h loop.body)
@@ -48,6 +48,7 @@ placed_loop t l loop h = by (l == 0) refl
     u : ProgramTree
     u = program_with (λ s. alone (Do h loop.body)) l t
 
+    g : HasGap (λ s. alone (Do h loop.body)) l (Do loop.head loop.body) 1 t.body u.body
     g = program_gap (λ s. alone (Do h loop.body)) l (Do loop.head loop.body) t loop.is
 
     low : 1 ≤ number_at g.gap 1

@@ -113,7 +113,7 @@ apart_before l flag (x ∷ xs) [] ys cs flags h k apart = absurd h
 apart_before l flag (x ∷ xs) (b ∷ bs) [] [] flags h k apart = absurd (both_ways false refl apart)
 apart_before l flag (x ∷ xs) (b ∷ bs) [] (c ∷ cs) flags h k apart = absurd k
 apart_before l flag (x ∷ xs) (b ∷ bs) (y ∷ ys) [] flags h k apart = absurd k
-apart_before l flag (x ∷ xs) (b ∷ bs) (y ∷ ys) (c ∷ cs) flags h k apart = by (b.number == c.number) refl parts.1
+apart_before l flag (x ∷ xs) (b ∷ bs) (y ∷ ys) (c ∷ cs) flags h k apart = by (b.number == c.number) refl parts.1 (λ r. apart_before l flag xs bs ys cs (λ j i. flags j (inr i)) h.1 k.1 r)
   where
     parts : ((b.statement == c.statement) ≡ true) × ((if b.number == c.number then are_apart bs cs else b.parallel) ≡ true)
     parts = and_parts (b.statement == c.statement) (if b.number == c.number then are_apart bs cs else b.parallel) apart
@@ -133,12 +133,14 @@ apart_before l flag (x ∷ xs) (b ∷ bs) (y ∷ ys) (c ∷ cs) flags h k apart 
         inr ((statements, inr (unequal x.number y.number (numbers false e), is)), sym (flags b (inl refl) (h.0.0 ∙ is)) ∙ parallel)
     differ e parallel false of = let own = sym (h.0.2 (unequal x.statement l of)) ∙ parallel in let other = numbers false e in inl (λ i. same i && (if other i then are_apart xs ys else own i))
 
-    by : (r : Bool) → (b.number == c.number) ≡ r → (if b.number == c.number then are_apart bs cs else b.parallel) ≡ true → (are_apart (x ∷ xs) (y ∷ ys) ≡ true) ⊎ (IsCritical l (x ∷ xs) (y ∷ ys) × (flag ≡ true))
-    by true e rest = elim (apart_before l flag xs bs ys cs (λ j i. flags j (inr i)) h.1 k.1 (sym (ap (λ (z : Bool). if z then are_apart bs cs else b.parallel) e) ∙ rest)) [
+    by : (r : Bool) → (b.number == c.number) ≡ r → (if b.number == c.number then are_apart bs cs else b.parallel) ≡ true
+        → (are_apart bs cs ≡ true → (are_apart xs ys ≡ true) ⊎ (IsCritical l xs ys × (flag ≡ true)))
+        → (are_apart (x ∷ xs) (y ∷ ys) ≡ true) ⊎ (IsCritical l (x ∷ xs) (y ∷ ys) × (flag ≡ true))
+    by true e rest further = elim (further (sym (ap (λ (z : Bool). if z then are_apart bs cs else b.parallel) e) ∙ rest)) [
       | inl more ↦ (let other = numbers true e in inl (λ i. same i && (if other i then more i else x.parallel)))
       | inr c ↦ inr ((statements, inl (numbers_are x.number y.number (numbers true e), c.0)), c.1)
     ]
-    by false e rest = differ e (sym (ap (λ (z : Bool). if z then are_apart bs cs else b.parallel) e) ∙ rest) (x.statement == l) refl
+    by false e rest further = differ e (sym (ap (λ (z : Bool). if z then are_apart bs cs else b.parallel) e) ∙ rest) (x.statement == l) refl
 
 -- accesses of a run that differ first there stand in two trips
 trips_of : (t : ProgramTree) (a b : Access) (l : ℕ) (is js : List Turn) → ComesBefore t a b is js → IsCritical l is js → (outer : List Turn) × (i j : Turn) × (more others : List Turn) × (is ≡ outer ++ i ∷ more) × (js ≡ outer ++ j ∷ others) × (i.statement ≡ l) × (j.statement ≡ l) × (i.number < j.number)

@@ -211,13 +211,13 @@ module _ (t u : ProgramTree) (l : ℕ) (loop : LoopOf t l) (h : Head) (x : IsOne
 
   -- two old ones that they come from race
   somewhere : (b c y z : Access) → Race b c → IsIn y (accesses olds) → IsIn z (accesses olds) → y.cell ≡ b.cell → z.cell ≡ c.cell → y.writes ≡ b.writes → z.writes ≡ c.writes → are_apart y.place.turns z.place.turns ≡ true → RaceSomewhere olds
-  somewhere b c y z r i j cell other write writes apart = record {
+  somewhere b c y z r i j cell other w v apart = record {
     one = y;
     other = z;
     one_in = i;
     other_in = j;
     apart = (apart, turned_apart y z i j apart);
-    conflicting = let alike = is_cell y.cell z.cell (cell ∙ r.cells ∙ sym other) in let some : y.writes || z.writes ≡ true = (λ k. write k || writes k) ∙ r.writing in λ k. alike k && some k;
+    conflicting = let alike = is_cell y.cell z.cell (cell ∙ r.cells ∙ sym other) in let some : y.writes || z.writes ≡ true = (λ k. w k || v k) ∙ r.writing in λ k. alike k && some k;
   }
 
   both_kept : (b c : Access) → Race b c → IsKept olds b → IsKept olds c → RaceSomewhere olds
@@ -241,7 +241,7 @@ module _ (t u : ProgramTree) (l : ℕ) (loop : LoopOf t l) (h : Head) (x : IsOne
       within : (a : Act) → IsIn a (fresh scope store) → IsIn a news
 
     module _ (y : Execution) where
-      made : IsMadeInstead p d h body l true y.scope y.store
+      abbrev made : IsMadeInstead p d h body l true y.scope y.store
       made = instead y.scope y.front y.behind y.store y.executed y.goes
 
       abbrev e : Entered
@@ -254,10 +254,10 @@ module _ (t u : ProgramTree) (l : ℕ) (loop : LoopOf t l) (h : Head) (x : IsOne
       round = turns_of y.scope
 
       -- the access is of the entry or of what leaves the DO, or of a trip
-      AtLoop : Access → Type 0
+      abbrev AtLoop : Access → Type 0
       AtLoop b = IsKept (piece y.scope y.store).acts b × (b.place.turns ≡ round)
 
-      InTrip : Access → Type 0
+      abbrev InTrip : Access → Type 0
       InTrip b = IsMadeInTrip t start (piece y.scope y.store).acts l loop h true y.scope y.store made b
 
       comes : (b : Access) → IsIn b (accesses (fresh y.scope y.store)) → 0 < b.reference → AtLoop b ⊎ InTrip b
@@ -265,7 +265,7 @@ module _ (t u : ProgramTree) (l : ℕ) (loop : LoopOf t l) (h : Head) (x : IsOne
           let a = accesses_from (fresh y.scope y.store) b i in
           execution_made t start (piece y.scope y.store).acts l loop h true x.private y.scope y.store y.front y.behind y.executed y.goes made (λ c k. k) news y.within (λ c k v j q. told_is_unreferred (setting_of u) u.body 1 [] start c k v j q) a.0 b a.1 a.2 some
 
-      Outside : List Turn → Type 0
+      abbrev Outside : List Turn → Type 0
       Outside ts = StandsInside p y.scope l count ts → ⊥
 
       -- what is done before or behind it stands outside
@@ -302,8 +302,8 @@ module _ (t u : ProgramTree) (l : ℕ) (loop : LoopOf t l) (h : Head) (x : IsOne
         side c r outside = (apart, cell (stays_or_moves p y.scope l e.count true k.origin.cell))
           where
             inside : (rs vs : List Turn) → c.place.turns ≡ rs ++ vs → iterations_of rs ≡ iterations_of round → are_apart (new_turn ∷ k.likewise.more) vs ≡ true → ⊥
-            inside rs [] is same differ = absurd cc
-            inside rs (v ∷ vs) is same differ =
+            inside rs [] is alike differ = absurd cc
+            inside rs (v ∷ vs) is alike differ =
                 let statement : l ≡ v.statement = eqb-true l v.statement (and_parts (eqb l v.statement) (if eqb k.number v.number then are_apart k.likewise.more vs else h.parallel) differ).0 in
                 outside (record {
                   statement = l;
@@ -311,7 +311,7 @@ module _ (t u : ProgramTree) (l : ℕ) (loop : LoopOf t l) (h : Head) (x : IsOne
                   to = omega arith;
                   number = v.number;
                   rest = iterations_of vs;
-                  is = ap iterations_of is ∙ iterations_append rs (v ∷ vs) ∙ (λ i. same i ++ record { statement = sym statement i; number = v.number } ∷ iterations_of vs);
+                  is = ap iterations_of is ∙ iterations_append rs (v ∷ vs) ∙ (λ i. alike i ++ record { statement = sym statement i; number = v.number } ∷ iterations_of vs);
                 })
 
             apart : are_apart round c.place.turns ≡ true
@@ -448,7 +448,7 @@ module _ (t u : ProgramTree) (l : ℕ) (loop : LoopOf t l) (h : Head) (x : IsOne
     referred_kept : (acts : List Act) (c : Access) → IsIn c (accesses acts) → 0 < c.reference → IsKept acts c
     referred_kept acts c i some = record { origin = c; found = i; cell = refl; writes = refl; turns = refl; referred = some }
 
-    execution_at : (front behind : List Act) (parts : List Part) (s : Store) (old new : List Act) → AreExchanged p t start l count piece fresh front (changed old new ∷ parts) behind s → ((a : Act) → IsIn a (old ++ old_parts parts) → IsIn a olds) → ((a : Act) → IsIn a (new ++ new_parts parts) → IsIn a news) → Execution
+    abbrev execution_at : (front behind : List Act) (parts : List Part) (s : Store) (old new : List Act) → AreExchanged p t start l count piece fresh front (changed old new ∷ parts) behind s → ((a : Act) → IsIn a (old ++ old_parts parts) → IsIn a olds) → ((a : Act) → IsIn a (new ++ new_parts parts) → IsIn a news) → Execution
     execution_at front behind parts s old new exchanged sub within =
         let it = exchanged.0 in
         record {

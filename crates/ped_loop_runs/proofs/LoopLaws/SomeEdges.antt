@@ -9,7 +9,7 @@ use Rattle.ped_laws.specs.ped_edges.specs.Edges.{Edge}
 
 those_are : {X : Type 0} (P : X → Type 0) (xs : List X) → ((chosen : List X) → AreThose P xs chosen → ⊥) → ⊥
 those_are P [] none = none [] refl
-those_are P (x ∷ xs) none = those_are P xs (λ rest r. none rest (inr ((λ p. none (x ∷ rest) (inl (p, (rest, (refl, r))))), r)))
+those_are P (x ∷ xs) none = those_are P xs (λ rest r. none rest (inr ((λ p. none (x ∷ rest) (inl (p, (rest, refl, r)))), r)))
 
 pair_has : (t : ProgramTree) (source sink : Reference) → ((edges : List Edge) → PairEdges t source sink edges → ⊥) → ⊥
 pair_has t source sink none =
@@ -18,7 +18,7 @@ pair_has t source sink none =
 
 pairs_have : (t : ProgramTree) (ps : List (Reference × Reference)) → ((edges : List Edge) → EdgesOfPairs t ps edges → ⊥) → ⊥
 pairs_have t [] none = none [] refl
-pairs_have t (p ∷ ps) none = pair_has t p.0 p.1 (λ first a. pairs_have t ps (λ rest b. none (first ++ rest) (first, (rest, (refl, (a, b))))))
+pairs_have t (p ∷ ps) none = pair_has t p.0 p.1 (λ first a. pairs_have t ps (λ rest b. none (first ++ rest) (first, rest, refl, a, b)))
 
 pub some_edges : (t : ProgramTree) → ((edges : List Edge) → AreEdges t edges → ⊥) → ⊥
 some_edges t none = pairs_have t (pairs (references t)) none

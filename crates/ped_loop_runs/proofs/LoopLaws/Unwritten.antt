@@ -28,7 +28,7 @@ use Rattle.ped_laws.specs.ped_graph.specs.ped_symbols.specs.NameRefusals.{IsVali
 use Rattle.ped_laws.specs.ped_graph.specs.ped_symbols.specs.RightUses.RightUses.{NameKinds, is_scalar, expr_is_right, cond_is_right, head_is_right, stmt_is_right, stmts_are_right}
 use Rattle.ped_laws.specs.ped_graph.specs.ped_symbols.proofs.RightUseLaws.Whole.{right_program}
 use Rattle.ped_laws.specs.ped_graph.specs.Owners.{is_same_owner, have_same_owner, level_by, private_level, owner_level, is_same}
-use Rattle.ped_laws.specs.ped_graph.specs.Dependences.{Carriage, carried, carriage_from, is_of, setting_in, view_of, AreEdges}
+use Rattle.ped_laws.specs.ped_graph.specs.Dependences.{Carriage, carried, carriage_from, is_of, setting_in, site_of, view_of, AreEdges}
 use Rattle.ped_laws.specs.ped_edges.specs.Edges.{Edge}
 use Rattle.ped_laws.specs.Acts.Orders.{IsIn}
 use Rattle.ped_laws.proofs.ActLaws.Lists.{in_left, in_right}
@@ -200,17 +200,17 @@ ranges_long s around (h ∷ hs) = ap suc (ranges_long s (inside around h (loop_r
 -- what belongs to no DO has no level
 no_level : (x : List ℕ) (nest : List Loop) → innermost_private x nest ≡ None → private_level x nest ≡ 0
 no_level x [] h = refl
-no_level x (l ∷ ls) h = go (innermost_private x ls) (is_among x l.head.private) refl refl h
+no_level x (l ∷ ls) h = go (innermost_private x ls) (is_among x l.head.private) refl refl h (λ e. no_level x ls e)
   where
-    go : (o : Option Loop) (b : Bool) → innermost_private x ls ≡ o → is_among x l.head.private ≡ b → option_or o (if b then Some l else None) ≡ None → private_level x (l ∷ ls) ≡ 0
-    go (Some m) b e f g = absurd cc
-    go None true e f g = absurd cc
-    go None false e f g = let rest = no_level x ls e in λ i. level_by (rest i) (f i)
+    go : (o : Option Loop) (b : Bool) → innermost_private x ls ≡ o → is_among x l.head.private ≡ b → option_or o (if b then Some l else None) ≡ None → (innermost_private x ls ≡ None → private_level x ls ≡ 0) → private_level x (l ∷ ls) ≡ 0
+    go (Some m) b e f g inner = absurd cc
+    go None true e f g inner = absurd cc
+    go None false e f g inner = let rest = inner e in λ i. level_by (rest i) (f i)
 
 -- a scalar has no positions that could exclude anything
-no_positions : {s : Setting} {a b : Site} (P : SubscriptPair → Type 0) (es gs : List ExprTree) → es ≡ [] → AllByRecursion P (positions_of s a b es gs)
-no_positions P [] gs h = tt
-no_positions P (e ∷ es) gs h = absurd cc
+no_positions : (s : Setting) (a b : Site) (P : SubscriptPair → Type 0) (es gs : List ExprTree) → es ≡ [] → AllByRecursion P (positions_of s a b es gs)
+no_positions s a b P [] gs h = tt
+no_positions s a b P (e ∷ es) gs h = absurd cc
 
 same_do : (a b : StmtTree) → Some a ≡ Some b → a ≡ b
 same_do a b e = cc
@@ -229,7 +229,7 @@ module _ (t : ProgramTree) (edges : List Edge) (are : AreEdges t edges) where
         (λ i. same i && write i && common i)
 
     nest_long : length r.nest ≡ length front + (1 + length more)
-    nest_long = ap length split ∙ length-append front (l ∷ more)
+    nest_long = let long : length r.nest ≡ length front + suc (length more) = ap length split ∙ length-append front (l ∷ more) in omega (arith, long)
 
     loops_long : length (view_of t r r).loops ≡ length r.nest
     loops_long =
@@ -240,7 +240,7 @@ module _ (t : ProgramTree) (edges : List Edge) (are : AreEdges t edges) where
 
     vector_long : length vector ≡ length (view_of t r r).loops
     vector_long =
-        let parts : length vector ≡ length (sames front) + (1 + length (sames more)) = length-append (sames front) (Before ∷ sames more) in
+        let parts : length vector ≡ length (sames front) + suc (length (sames more)) = length-append (sames front) (Before ∷ sames more) in
         let first : length (sames front) ≡ length front = length-map front (λ (m : Loop). Same) in
         let rest : length (sames more) ≡ length more = length-map more (λ (m : Loop). Same) in
         let loops = loops_long in
@@ -254,7 +254,7 @@ module _ (t : ProgramTree) (edges : List Edge) (are : AreEdges t edges) where
         edge_between t r r (pairs (references t)) edges vector (Some (length front + 1)) are (is_listed (references t) r r listed listed pair)
         (λ i. is_same_owner (free i) (free i))
         (ap (λ (n : ℕ). list_all is_same (take n vector)) (no_level r.access.name r.nest free))
-        (no_positions (λ (p : SubscriptPair). ¬ (Excludes (view_of t r r) p vector)) r.access.subscripts r.access.subscripts bare)
+        (no_positions (setting_in t (outermost r)) (site_of r) (site_of r) (λ (p : SubscriptPair). ¬ (Excludes (view_of t r r) p vector)) r.access.subscripts r.access.subscripts bare)
         vector_long
         (ap (is_of (Some (length front + 1))) (carried_at front (sames more) 1) ∙ same_numbers (length front + 1) (length front + 1) refl)
         (omega arith, omega (arith, loops, long))

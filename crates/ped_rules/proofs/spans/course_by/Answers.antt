@@ -2,7 +2,7 @@ use Rattle.std.proofs.Common.{◌≡◌, ◌∙◌, ◌≤◌, ℤ, pos, int_lt,
 use Rattle.std.specs.Int.{w64, w128}
 use Rattle.std.proofs.lemmas.Int.{to_z-of_z}
 use Rattle.ped_rules.specs.Spans.{Span, has_iteration, is_far, last_value}
-use Rattle.ped_rules.proofs.Increments.{course_far, far_first, far_second, far_last, less_is, near_is, near_fits}
+use Rattle.ped_rules.proofs.RightSteps.{course_far, far_first, far_second, far_last, less_is, near_is, near_fits}
 use Rattle.ped_rules.proofs.spans.course_by.Goals as goal
 
 pub returns-then-is_far : goal.returns-then-is_far

@@ -1,7 +1,7 @@
 use Rattle.std.proofs.Common.{◌≡◌, ℤ, ◌-ℤ◌, int_rem, ◌<◌, unsigned_abs, FitsSigned, to_z, of_z, sym, ap, ◌∙◌, subst}
 use Rattle.std.specs.Int.{w128}
 use Rattle.std.proofs.lemmas.Int.{to_z-of_z}
-use Rattle.ped_rules.proofs.Increments.{left_fits, way_fits}
+use Rattle.ped_rules.proofs.RightSteps.{left_fits, way_fits}
 use Rattle.ped_rules.proofs.spans.last_value.Goals as goal
 
 pub overflow_sub-result : goal.overflow_sub-result

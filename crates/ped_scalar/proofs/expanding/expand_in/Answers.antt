@@ -7,7 +7,7 @@ use Rattle.ped_rules.specs.ped_steps.specs.declared.rules.Rule.TheVariants.{Para
 use Rattle.ped_rules.specs.Spans.{span_of}
 use Rattle.ped_rules.specs.CodeSpans.{IsCourse}
 use Rattle.ped_rules.specs.declared.spans.Course.TheVariants.{Far, Near, Unknown}
-use Rattle.ped_rules.proofs.Increments.{right_step, near_spans}
+use Rattle.ped_rules.proofs.RightSteps.{right_step, near_spans}
 use Rattle.ped_scalar.proofs.FirstAgainstExpanding as first
 use Rattle.ped_scalar.proofs.expanding.expand_in.Goals as goal
 

@@ -83,6 +83,11 @@ mapped_at f [] n x e = cc
 mapped_at f (y ∷ xs) zero x e = ap (λ z. Some (f z)) (some_is y x e)
 mapped_at f (y ∷ xs) (suc n) x e = mapped_at f xs n x e
 
+-- one more item
+pub map_more : {X Y : Type 0} (f : X → Y) (xs : List X) (x : X) → map f (xs ++ x ∷ []) ≡ map f xs ++ f x ∷ []
+map_more f [] x = refl
+map_more f (y ∷ xs) x = ap (λ (ys : List _). f y ∷ ys) (map_more f xs x)
+
 -- nothing stands behind the last
 pub none_past : {X : Type 0} (xs : List X) (n : ℕ) → length xs ≤ n → slice_get xs n ≡ None
 none_past [] n h = refl

@@ -35,5 +35,5 @@ module _ (former : Held) (keep : List (ℕ × ℕ)) (once : IsOneToOne keep) (t 
       ∙ ap (λ (p : HeldParts). fresh_pairs former keep changed + length p.kept) (sym made)
 
 -- the fresh pairs of what a graph holds of a program
-pub fresh_of : (former : Held) (keep : List (ℕ × ℕ)) (t : ProgramTree) (changed : Held) → changed ≡ held_of t → fresh_pairs former keep changed ≡ fresh_pairs former keep (held_of t)
-fresh_of former keep t changed is = ap (λ (h : Held). fresh_pairs former keep h) is
+pub fresh_of : (former : Held) (given keep : List (ℕ × ℕ)) (t : ProgramTree) (changed : Held) → given ≡ keep → changed ≡ held_of t → fresh_pairs former given changed ≡ fresh_pairs former keep (held_of t)
+fresh_of former given keep t changed same is = λ i. fresh_pairs former (same i) (is i)

@@ -9,7 +9,7 @@ use Rattle.ped_graph.specs.Update.Fresh.{is_fresh}
 use Rattle.ped_graph.specs.Update.Matching.{former_in, origin, slot_by, kept_by, slots_for, kept_from}
 use Rattle.ped_graph.specs.declared.parts.Kept.{Kept}
 use Rattle.ped_graph.proofs.Matched.{counted, as_counted, fresh_by}
-use Rattle.ped_graph.proofs.Slices.{some_is}
+use Rattle.ped_graph.proofs.Slices.{some_is, map_more}
 
 -- one more view
 pub pairs_more : (fs : List Framed) (vs : List View) (f : Framed) (v : View) → slice_get fs (length vs) ≡ Some f → pairs_by fs (vs ++ v ∷ []) ≡ pairs_by fs vs ++ pair_by f v ∷ []
@@ -26,10 +26,6 @@ many_pairs [] [] e = refl
 many_pairs [] (v ∷ vs) e = absurd (omega (arith, e))
 many_pairs (f ∷ fs) [] e = refl
 many_pairs (f ∷ fs) (v ∷ vs) e = ap suc (many_pairs fs vs (omega (arith, e)))
-
-map_more : {X Y : Type 0} (f : X → Y) (xs : List X) (x : X) → map f (xs ++ x ∷ []) ≡ map f xs ++ f x ∷ []
-map_more f [] x = refl
-map_more f (y ∷ xs) x = ap (λ (ys : List _). f y ∷ ys) (map_more f xs x)
 
 counted_more : {X : Type 0} (test : X → Bool) (xs : List X) (x : X) → counted test (xs ++ x ∷ []) ≡ counted test xs + cond (test x) 1 0
 counted_more test [] x = go (test x)

@@ -1,6 +1,6 @@
 //! What is known of a pair of references without a test.
 
-ghost use Rattle.std.specs.Prelude.{◌≡◌, ◌≤◌, ◌&&◌, ◌++◌, ◌∷◌, [], length, OnOk};
+ghost use Rattle.std.specs.Prelude.{◌≡◌, ◌≤◌, ◌&&◌, ◌++◌, ◌∷◌, [], map, length, OnOk};
 ghost use Rattle.ped_refs.specs.References.{comes_before};
 ghost use Rattle.ped_refs.specs.Occurrences.{reference_of};
 ghost use Rattle.ped_edges.specs.CodeEdges.{kind_of};
@@ -36,15 +36,20 @@ pub struct Facts {
     pub rejecting: [bool; 6],
 }
 
-/// The facts of a pair, of which it is known whether constants alone decide that both references are reached.
-pub fn facts_of(source: &Occurrence, sink: &Occurrence, firm: bool) -> Facts
+/// Adds the facts of a pair, of which it is known whether constants alone decide that both references are reached.
+pub fn push_facts(
+    all: &mut Vec<Facts>,
+    source: &Occurrence,
+    sink: &Occurrence,
+    firm: bool,
+) -> Result<(), NoMemory>
     requires source { length source.now.nest.items ≤ 6 }
     requires sink { length sink.now.nest.items ≤ 6 }
-    ensures { (facts : Spec.Facts)
+    ensures { OnOk result ((facts : Spec.Facts)
         → firm ≡ (is_firm facts.constants facts.guards (reference_of source.now) && is_firm facts.constants facts.guards (reference_of sink.now))
-        → framed_of result ≡ framed facts (reference_of source.now) (reference_of sink.now) }
+        → map framed_of all.new.items ≡ map framed_of all.old.items ++ framed facts (reference_of source.now) (reference_of sink.now) ∷ []) }
 {
-    Facts {
+    all.push(Facts {
         source: (source.statement, source.number),
         sink: (sink.statement, sink.number),
         name: source.name,
@@ -53,14 +58,7 @@ pub fn facts_of(source: &Occurrence, sink: &Occurrence, firm: bool) -> Facts
         owner: common_owner(source, sink),
         firm,
         rejecting: rejecting_levels(source, sink),
-    }
-}
-
-/// Adds the facts of a pair.
-pub fn push_facts(all: &mut Vec<Facts>, facts: Facts) -> Result<(), NoMemory>
-    ensures { OnOk result (all.new.items ≡ all.old.items ++ facts ∷ []) }
-{
-    all.push(facts)?;
+    })?;
     Ok(())
 }
 

@@ -15,7 +15,7 @@ ghost use Rattle.ped_graph.specs.Dependences.{facts_of, view_of};
 ghost use Rattle.ped_graph.specs.CodeFacts.{framed_of};
 ghost use Rattle.ped_graph.specs.KnownProgram.{IsKnown, IsRound};
 
-use crate::facts::{Facts, facts_of, push_facts};
+use crate::facts::{Facts, push_facts};
 use crate::firmness::all_firm;
 use crate::guards::guards;
 use crate::rounds::{assigned_by, outermost};
@@ -129,7 +129,7 @@ fn add_pair(
     ensures views { OnOk result ((p : Reference × Reference) → pair_at (references_of known.now.found.now) pair.now ≡ Some p
         → pairs.new.views.items ≡ pairs.old.views.items ++ view_of (program_tree known.now.program.now) p.0 p.1 ∷ []) }
 {
-    push_facts(&mut pairs.facts, facts_at(known, pair))?;
+    add_facts(&mut pairs.facts, known, pair)?;
     let view = view_at(alloc, known, round, pair)?;
     pairs.views.push(view)?;
     Ok(())
@@ -149,15 +149,16 @@ fn enter(alloc: Global, round: &mut Round, program: &Program, number: u32) -> Re
     Ok(())
 }
 
-/// What is known of a pair of the program's references, by their places.
-fn facts_at(known: &Known, pair: &Pair) -> Facts
+/// Adds what is known of a pair of the program's references, by their places.
+fn add_facts(all: &mut Vec<Facts>, known: &Known, pair: &Pair) -> Result<(), NoMemory>
     requires known { IsKnown known.now }
     requires within { IsWithin (length known.now.found.now) pair.now }
-    ensures { (p : Reference × Reference) → pair_at (references_of known.now.found.now) pair.now ≡ Some p
-        → framed_of result ≡ framed (facts_of (program_tree known.now.program.now)) p.0 p.1 }
+    ensures { OnOk result ((p : Reference × Reference) → pair_at (references_of known.now.found.now) pair.now ≡ Some p
+        → map framed_of all.new.items ≡ map framed_of all.old.items ++ framed (facts_of (program_tree known.now.program.now)) p.0 p.1 ∷ []) }
 {
     let firm = both(firm_at(known, pair.source), firm_at(known, pair.sink));
-    facts_of(
+    push_facts(
+        all,
         occurrence_at(known, pair.source),
         occurrence_at(known, pair.sink),
         firm,

@@ -25,13 +25,11 @@ use Rattle.ped_answer.specs.ped_session.specs.declared.replies.Reply.TheVariants
 use Rattle.ped_answer.specs.ped_session.specs.States.{Other, State, opened, changed_to, gone_back_to, gone_forward_to}
 use Rattle.ped_answer.specs.ped_session.specs.Splices.{spliced, are_lines, is_place, edit_keep}
 use Rattle.ped_answer.specs.ped_session.specs.Panes.{IsSourcePane, ArePanes, tested_row}
-use Rattle.ped_answer.specs.ped_session.specs.Blocks.{block, IsRunBlock}
-use Rattle.ped_answer.specs.ped_session.specs.ped_confluence.specs.ped_interleavings.specs.Interleavings.{at_start}
-use Rattle.ped_answer.specs.ped_session.specs.ped_confluence.specs.ped_interleavings.proofs.Ending.{some_outcome}
+use Rattle.ped_answer.specs.ped_session.specs.Blocks.{block}
 use Rattle.ped_answer.specs.ped_session.specs.RaceRows.{race_row, IsRaceRow}
 use Rattle.ped_answer.specs.ped_scalar.specs.ped_rules.specs.Steps.{StepAt, MaybeStep, no_step, some_step, MatchStep}
 use Rattle.ped_answer.specs.ped_transformations.specs.Table as table
-use Rattle.ped_answer.specs.ped_session.specs.Steps.{Refuses, Shows, ShowsOf, ShowsStatement, Edits, accepted, refused, change_by, Transforms, missing, forbidden, transformed, GoesBack, GoesForward, IsOther, IsStep}
+use Rattle.ped_answer.specs.ped_session.specs.Steps.{Refuses, Shows, ShowsOf, ShowsStatement, Edits, accepted, refused, change_by, Transforms, missing, forbidden, transformed, GoesBack, GoesForward, Runs, IsOther, IsStep}
 use Rattle.ped_answer.specs.ped_session.specs.Histories.{IsPrinted, ArePrinted}
 use Rattle.ped_answer.specs.ped_session.specs.Scripts.{Said, said_by, bad_command_said, nothing_said, said_both, AnswersCommand, AnswersItems}
 use Rattle.ped_existence.proofs.Edges.{pane_of_program, pane_of_statement}
@@ -142,9 +140,9 @@ module _ (s : State) (all : ArePrinted s) where
     };
   }
 
-  -- a run comes to an outcome with whatever choices
-  run_block : (choices data_bytes : List ℕ) (t : ProgramTree) → (bytes : List ℕ) × IsRunBlock choices data_bytes t bytes
-  run_block choices data_bytes t = let o = some_outcome t (at_start t data_bytes choices) in (block o.0, (o.0, o.1, refl))
+  runs : (choices data_bytes : List ℕ) → Answered (λ reply. λ next. Runs choices data_bytes s reply next)
+  runs [] data_bytes = shows (λ t. λ bytes. bytes ≡ block (outcome t data_bytes)) (λ t. (block (outcome t data_bytes), refl))
+  runs (c ∷ cs) data_bytes = stays NotBuilt
 
   others : (c : Command) (data_bytes : List ℕ) → Answered (λ reply. λ next. IsOther c data_bytes s reply next)
   others Source d = shows IsSourcePane (λ t. (source_pane t, refl))
@@ -157,7 +155,7 @@ module _ (s : State) (all : ArePrinted s) where
   others (Delete first last) d = edits_where (are_lines s.present first last) (first - 1) (last + 1 - first) (spliced s.present (first - 1) (last + 1 - first) [])
   others Undo d = goes_back s.past all.past
   others Redo d = goes_forward s.future all.future
-  others (Run choices) d = shows (IsRunBlock choices d) (run_block choices d)
+  others (Run choices) d = runs choices d
   others Races d = shows (IsRaceRow d) (race_rows d)
   others (Advise number) d = stays NotBuilt
   others (Interchange number) d = stays NotBuilt

@@ -5,7 +5,6 @@ pub use Rattle.ped_valid.specs.ped_symbols
 pub use Rattle.ped_valid
 pub use Rattle.ped_graph
 pub use Rattle.ped_order
-pub use Rattle.ped_confluence
 pub use Rattle.ped_transformations.specs.ped_scalar
 pub use Rattle.ped_transformations.specs.ped_rules
 pub use Rattle.ped_transformations.specs.ped_steps

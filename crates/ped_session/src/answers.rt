@@ -12,7 +12,6 @@ use crate::replies::Reply;
 use crate::scripts::{bad_command_row, reply_text};
 use crate::session::Session;
 use ped_base::{Bytes, NoMemory};
-use ped_confluence::interleavings_agree;
 use ped_graph::ped_verdict::Steps;
 use ped_script::{Command, Item};
 use ped_transformations::every_step_is_lawful;
@@ -47,7 +46,6 @@ pub fn answer_items<L: Ledger>(
     ensures least { steps.old ≤ steps.new }
     ensures most { (said : Spec.Said) (last : State) → AnswersItems items.now input.now session.old said last → steps.new ≤ steps.old + said.tests }
 {
-    interleavings_agree();
     every_step_is_lawful();
     let _ = &session.present;
     let mut answered = Answered {

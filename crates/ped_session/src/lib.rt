@@ -14,7 +14,6 @@ mod laws;
 mod moving;
 mod race_rows;
 mod replies;
-mod running;
 mod scripts;
 mod session;
 mod showing;
@@ -25,9 +24,8 @@ mod versions;
 pub use answers::{Answered, answer_items};
 pub use changes::Change;
 pub use laws::{
-    interleavings_keep_the_meaning, moves_restore_each_other, one_answer, one_step,
-    refused_changes_nothing, runs_are_as_before, runs_in_order, sources_are_printed,
-    sources_keep_the_meaning, transformations_keep_the_meaning, undo_restores,
+    moves_restore_each_other, one_answer, one_step, refused_changes_nothing, runs_are_as_before,
+    sources_are_printed, sources_keep_the_meaning, transformations_keep_the_meaning, undo_restores,
 };
 pub use ped_graph;
 pub use ped_graph::ped_verdict;

@@ -12,7 +12,7 @@ ghost use Rattle.ped_valid.specs.Validity.{ReadsValid, RefusesText};
 ghost use Rattle.ped_valid.specs.Refusals.{IsRefusalOf};
 ghost use Rattle.ped_graph.specs.ped_edges.specs.Edges as plain;
 ghost use Rattle.ped_graph.specs.Dependences.{AreEdges};
-ghost use Rattle.ped_confluence.specs.ped_interleavings.specs.Interleavings.{IsInterleaved};
+ghost use Rattle.ped_order.specs.ped_eval.specs.Outcomes.{outcome};
 ghost use Rattle.ped_order.specs.ped_eval.specs.OutcomeViews.{outcome_view};
 ghost use Rattle.ped_session.specs.declared.replies.Reply.{Reply};
 ghost use Rattle.ped_session.specs.Meanings.{IsAsBefore};
@@ -21,15 +21,13 @@ ghost use Rattle.ped_session.specs.Steps.{IsStep, IsOther, IsMove};
 ghost use Rattle.ped_session.specs.Scripts.{tests_of};
 
 use crate::replies::{Refusal, Reply};
-use crate::running::run_version;
 use crate::versions::{Entry, Version};
 use ped_base::{Bytes, NoMemory};
-use ped_confluence::interleavings_agree;
 use ped_graph::Graph;
 use ped_graph::ped_edges::Edge;
 use ped_graph::ped_verdict::Steps;
 use ped_history::History;
-use ped_order::ped_eval::Outcome;
+use ped_order::ped_eval::{Outcome, run_in_order};
 use ped_print::print;
 use ped_script::Command;
 use ped_transformations::place_of;
@@ -144,15 +142,14 @@ impl<L: Ledger> Session<L> {
         self.tested
     }
 
-    /// Runs the present program on the lines of its data, its parallel iterations as these choices pick them, and in order
-    /// behind them. The outcome is also that of each program from which it has come by transformations alone, where that
-    /// one is tidy and without C$PED REJECT and runs in order without a fault and without a race.
-    pub fn run(&self, alloc: Global, input: &[u8], choices: &[u64]) -> Result<Outcome, NoMemory>
-        ensures outcome { IfOk result (λ o. (t : ProgramTree) → ReadsValid self.now.present t → IsInterleaved t input.now choices.now (outcome_view o)) }
+    /// Runs the present program in order on the lines of its data. The outcome is also that of each program from which
+    /// it has come by transformations alone, where that one is tidy and without C$PED REJECT and runs
+    /// without a fault and without a race.
+    pub fn run(&self, alloc: Global, input: &[u8]) -> Result<Outcome, NoMemory>
+        ensures outcome { IfOk result (λ o. (t : ProgramTree) → ReadsValid self.now.present t → outcome_view o ≡ outcome t input.now) }
         ensures before { IfOk result (λ o. IsAsBefore self.now input.now (outcome_view o)) }
     {
-        interleavings_agree();
-        run_version(alloc, &self.present, input, choices)
+        run_in_order(alloc, &self.present.program, &self.present.symbols, input)
     }
 
     /// Answers a command; programs are run on these data. A refused command leaves the session as it was, and so does

@@ -2,6 +2,9 @@ mod FlagRules
 mod FlaggedLoops
 mod FlagsLawful
 pub mod RejectRules
+mod FlagAnswers
+mod RejectedTrees
+mod RejectAnswers
 mod TurnedCounts
 mod Contained
 mod ReverseRules

@@ -1,11 +1,11 @@
-use Rattle.std.proofs.Common.{◌≡◌, ◌∙◌, ◌+◌, ◌<◌, ◌≤◌, ◌++◌, ◌∷◌, ℕ, suc, ap, sym, refl, List, [], length, map, take, get_or, Option, Some, None, slice_get, append-nil, map-id, rules, arith}
+use Rattle.std.proofs.Common.{◌≡◌, ◌∙◌, ◌≤◌, ◌++◌, ◌∷◌, ℕ, suc, ap, sym, refl, List, [], length, map, take, Some, None, slice_get, append-nil, map-id, rules, arith}
 use Rattle.std.specs.List.{count_by}
 use Rattle.std.proofs.lemmas.List.{length_push}
 use Rattle.std.proofs.lemmas.Iterator.Adapters.{YieldsList-from_vec}
 use Rattle.std.proofs.lemmas.Iterator.Consumers.{YieldsList-turn, YieldsList-so_far}
 use Rattle.ped_views.specs.Views.{View}
 use Rattle.ped_refs.specs.TextPlaces.{Key}
-use Rattle.ped_graph.specs.Held.{Framed, HeldFrame, Pair, pairs_by}
+use Rattle.ped_graph.specs.Held.{Framed, HeldFrame, Pair}
 use Rattle.ped_graph.specs.Keys.{key_of, key_shown}
 use Rattle.ped_graph.specs.Update.Fresh.{IsOneToOne, is_fresh}
 use Rattle.ped_graph.specs.Update.Matching.{slots_for, kept_from}

@@ -1,12 +1,12 @@
-use Rattle.std.proofs.Common.{◌≡◌, ◌<◌, ◌∙◌, ℕ, List, map, length, Bool, true, false, Option, Some, None, slice_get, nat_eq, ap, sym, subst, arith}
+use Rattle.std.proofs.Common.{◌≡◌, ◌∙◌, ℕ, map, Bool, true, false, Option, Some, None, slice_get, nat_eq, ap, sym, subst, arith}
 use Rattle.std.specs.Prelude.{if◌then◌else◌, option_map}
 use Rattle.indexmap.specs.IndexMap.{get}
 use Rattle.ped_views.specs.Views.{View}
 use Rattle.ped_views.specs.SameViews.{same_view}
 use Rattle.ped_refs.specs.TextPlaces.{Key}
-use Rattle.ped_graph.specs.Held.{Framed, HeldFrame, Held, pair_by}
+use Rattle.ped_graph.specs.Held.{HeldFrame, pair_by}
 use Rattle.ped_graph.specs.Keys.{key_of, key_shown, IsOnlyAt}
-use Rattle.ped_graph.specs.Update.Matching.{former_in, with_number, both_places, former_key, origin}
+use Rattle.ped_graph.specs.Update.Matching.{former_in, with_number, both_places, former_key}
 use Rattle.ped_graph.proofs.Slices.{within, length_mapped}
 use Rattle.ped_graph.proofs.Matching.{no_key, no_pair, one_pair}
 use Rattle.ped_graph.proofs.update.matching.origin.Goals as goal

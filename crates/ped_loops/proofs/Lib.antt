@@ -2,11 +2,3 @@ mod FlagRules
 mod FlaggedLoops
 mod FlagsLawful
 mod RejectRules
-mod TurnedCounts
-mod Contained
-mod ReverseRules
-mod OneHead
-mod ReversedLoops
-mod ReversedNames
-mod ReversalLawful
-mod ReverseAnswers

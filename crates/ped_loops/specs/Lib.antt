@@ -5,4 +5,3 @@ pub mod Flags
 pub mod Paralleling
 pub mod Serialising
 pub mod Rejecting
-pub mod Reversing

@@ -2,3 +2,11 @@ mod FlagRules
 mod FlaggedLoops
 mod FlagsLawful
 mod RejectRules
+mod TurnedCounts
+mod Contained
+mod ReverseRules
+mod OneHead
+mod ReversedLoops
+mod ReversedNames
+mod ReversalLawful
+mod ReverseAnswers

@@ -5,3 +5,4 @@ pub mod Flags
 pub mod Paralleling
 pub mod Serialising
 pub mod Rejecting
+pub mod Reversing

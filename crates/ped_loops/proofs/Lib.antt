@@ -1,7 +1,10 @@
 mod FlagRules
 mod FlaggedLoops
 mod FlagsLawful
+mod FlagAnswers
 mod RejectRules
+mod RejectedTrees
+mod RejectAnswers
 mod TurnedCounts
 mod Contained
 mod ReverseRules

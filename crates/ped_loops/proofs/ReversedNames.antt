@@ -92,7 +92,7 @@ head_uses y h body =
     ap (λ (us : List Use). is_among y (names_in us)) (append-nil (own_uses (Do h body)))
     ∙ among_both y (map (used_as Rejected) h.rejected) (used_as Index h.variable ∷ (expr_uses h.first ++ expr_uses h.last ++ expr_uses h.step))
     ∙ ap (λ (b : Bool). is_among y (names_in (map (used_as Rejected) h.rejected)) || (is_same_text y h.variable || b))
-        (among_both y (expr_uses h.first ++ expr_uses h.last) (expr_uses h.step) ∙ ap (λ (b : Bool). b || is_among y (names_in (expr_uses h.step))) (among_both y (expr_uses h.first) (expr_uses h.last)))
+    (among_both y (expr_uses h.first ++ expr_uses h.last) (expr_uses h.step) ∙ ap (λ (b : Bool). b || is_among y (names_in (expr_uses h.step))) (among_both y (expr_uses h.first) (expr_uses h.last)))
 
 exchanged : (a b s r : Bool) → s ≡ false → r ≡ false → (b || a) || s ≡ (a || b) || r
 exchanged true true s r p q = refl
@@ -113,5 +113,5 @@ pub turned_names : (constants : Values) (h : Head) (n m : ℤ) (body : StmtTrees
 turned_names constants h n m body value y none =
     head_uses y (record h { first = h.last; last = h.first; step = literal n }) body
     ∙ ap (λ (b : Bool). is_among y (names_in (map (used_as Rejected) h.rejected)) || (is_same_text y h.variable || b))
-        (exchanged (is_among y (names_in (expr_uses h.first))) (is_among y (names_in (expr_uses h.last))) (is_among y (names_in (expr_uses (literal n)))) (is_among y (names_in (expr_uses h.step))) (literal_unnamed y n) (unnamed constants y none h.step m value))
+    (exchanged (is_among y (names_in (expr_uses h.first))) (is_among y (names_in (expr_uses h.last))) (is_among y (names_in (expr_uses (literal n)))) (is_among y (names_in (expr_uses h.step))) (literal_unnamed y n) (unnamed constants y none h.step m value))
     ∙ sym (head_uses y h body)

@@ -1,4 +1,7 @@
 mod FlagRules
 mod FlaggedLoops
 mod FlagsLawful
+mod FlagAnswers
 mod RejectRules
+mod RejectedTrees
+mod RejectAnswers

@@ -41,14 +41,11 @@ directive_program t n x h body f new is listed made =
 -- two tests one behind the other
 any_filtered : (p q : Edge → Bool) (xs : List Edge) → list_any q (filter p xs) ≡ list_any (λ e. p e && q e) xs
 any_filtered p q [] = refl
-any_filtered p q (x ∷ xs) = go (p x) refl
+any_filtered p q (x ∷ xs) = go (p x) refl (any_filtered p q xs)
   where
-    rest : list_any q (filter p xs) ≡ list_any (λ e. p e && q e) xs
-    rest = any_filtered p q xs
-
-    go : (b : Bool) → p x ≡ b → list_any q (cond (p x) (x ∷ filter p xs) (filter p xs)) ≡ (p x && q x) || list_any (λ e. p e && q e) xs
-    go true e = ap (λ (b : Bool). list_any q (cond b (x ∷ filter p xs) (filter p xs))) e ∙ (λ i. q x || rest i) ∙ ap (λ (b : Bool). (b && q x) || list_any (λ z. p z && q z) xs) (sym e)
-    go false e = ap (λ (b : Bool). list_any q (cond b (x ∷ filter p xs) (filter p xs))) e ∙ rest ∙ ap (λ (b : Bool). (b && q x) || list_any (λ z. p z && q z) xs) (sym e)
+    go : (b : Bool) → p x ≡ b → list_any q (filter p xs) ≡ list_any (λ e. p e && q e) xs → list_any q (cond (p x) (x ∷ filter p xs) (filter p xs)) ≡ ((p x && q x) || list_any (λ e. p e && q e) xs)
+    go true e rest = ap (λ (b : Bool). list_any q (cond b (x ∷ filter p xs) (filter p xs))) e ∙ ap (λ (r : Bool). q x || r) rest ∙ ap (λ (b : Bool). (b && q x) || list_any (λ z. p z && q z) xs) (sym e)
+    go false e rest = ap (λ (b : Bool). list_any q (cond b (x ∷ filter p xs) (filter p xs))) e ∙ rest ∙ ap (λ (b : Bool). (b && q x) || list_any (λ z. p z && q z) xs) (sym e)
 
 any_mapped : {X : Type 0} (f : X → Edge) (q : Edge → Bool) (xs : List X) → list_any (λ x. q (f x)) xs ≡ list_any q (map f xs)
 any_mapped f q [] = refl

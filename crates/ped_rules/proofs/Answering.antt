@@ -30,11 +30,11 @@ module _ (kind : StepKind) (s : ℕ) (stands : ProgramTree → Rules) (forbids :
 
   -- the first dependence that forbids it
   pub forbidden_by : (e : CodeEdge) (refused : Refused) → refused ≡ variant.Dependence e → NoRule (stands t) → IsFirstOf t (forbids t) (Some e) → Answers (step_by kind s stands forbids Makes) t (Err refused)
-  forbidden_by e refused is none first = subst (λ (x : Refused). Answers (step_by kind s stands forbids Makes) t (Err x)) (sym is) ((none, first.0), first.1)
+  forbidden_by e refused is none first = subst (λ (x : Refused). Answers (step_by kind s stands forbids Makes) t (Err x)) (sym is) ((none, first.0.0, first.0.1, first.0.2), first.1)
 
   -- none of both
   pub accepted_by : (change : Change) (new : ProgramTree) (keep : List (ℕ × ℕ)) → NoRule (stands t) → IsFirstOf t (forbids t) None → Makes t new keep → IsChange new keep change → Answers (step_by kind s stands forbids Makes) t (Ok change)
-  accepted_by change new keep none first makes made = ((none, first), (new, keep, makes, made))
+  accepted_by change new keep none first makes made = ((none, first), new, keep, makes, made)
 
 -- where no dependence forbids a step, none does
 pub none_first : (t : ProgramTree) → IsFirstOf t none_forbids None

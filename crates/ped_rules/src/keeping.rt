@@ -13,12 +13,7 @@ use ped_tree::Program;
 use std::alloc::Global;
 
 /// Each statement of a program with its number behind a step: those behind the number `end` go so much further.
-pub fn moved_by(
-    alloc: Global,
-    program: &Program,
-    end: u32,
-    further: u32,
-) -> Result<Keep, NoMemory>
+pub fn moved_by(alloc: Global, program: &Program, end: u32, further: u32) -> Result<Keep, NoMemory>
     requires { statements_count (program_tree program.now).body + further < 2 ^ 32 }
     ensures { IfOk result (λ keep. keep ≡ Spec.moved_by end further (program_tree program.now)) }
 {
@@ -51,12 +46,7 @@ fn moved(end: u32, further: u32, number: u32) -> u32
 }
 
 /// Each statement of a program with the same number behind a step, without those with numbers from `first` to `last`.
-pub fn all_but(
-    alloc: Global,
-    program: &Program,
-    first: u32,
-    last: u32,
-) -> Result<Keep, NoMemory>
+pub fn all_but(alloc: Global, program: &Program, first: u32, last: u32) -> Result<Keep, NoMemory>
     requires { statements_count (program_tree program.now).body < 2 ^ 32 }
     ensures { IfOk result (λ keep. keep ≡ Spec.all_but first last (program_tree program.now)) }
 {

@@ -6,7 +6,5 @@ mod laws;
 mod table;
 
 pub use laws::every_step_is_lawful;
-pub use ped_scalar::ped_flow;
-pub use ped_scalar::ped_rules;
-pub use ped_scalar::ped_steps;
+pub use ped_scalar::{ped_flow, ped_rules, ped_steps};
 pub use table::{Kind, Place, answer, place_of};

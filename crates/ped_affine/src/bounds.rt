@@ -73,7 +73,8 @@ pub(crate) fn bound(setting: &Setting, around: &Enclosing, e: &Expr) -> Interval
 /// The values that an expression of bounds may have; none where a part of it leaves 2^62, or has no interval.
 pub(crate) fn interval_in(setting: &Setting, around: &Enclosing, e: &Expr) -> Option<Interval>
     requires { length around.now.ranges.now ≤ length around.now.loops.now }
-    ensures { result ≡ interval_of (setting_of setting.now) (around_of around.now) (expr_tree e.now) }
+    ensures value { result ≡ interval_of (setting_of setting.now) (around_of around.now) (expr_tree e.now) }
+    ensures near { IfSome result (IsWithin (2 ^ 62)) }
 {
     part_of(setting, around, e).interval
 }

@@ -27,7 +27,7 @@ mod Seeing
 mod ShapesByNames
 mod Spans
 pub mod Starts
-pub mod StatementActs
+mod StatementActs
 mod StatementWatches
 mod Storing
 mod Steps

@@ -50,7 +50,7 @@ pub(crate) fn add_all(names: &mut Names, more: &[Name]) -> Result<(), NoMemory>
 }
 
 /// Adds the variables of the DO loops in a statement, in text order.
-#[cycle(index_names)]
+#[cycle(loop_variables)]
 fn add_index_names_of(names: &mut Names, stmt: &Stmt) -> Result<(), NoMemory>
     ensures { OnOk result (names.new ≡ names.old ++ Names.loop_variables (stmt_tree stmt.now)) }
 {
@@ -76,7 +76,7 @@ fn add_index_names_of(names: &mut Names, stmt: &Stmt) -> Result<(), NoMemory>
 }
 
 /// Adds the variables of the DO loops in statements, in text order.
-#[cycle(index_names)]
+#[cycle(loop_variables)]
 fn add_index_names(names: &mut Names, stmts: &[Stmt]) -> Result<(), NoMemory>
     ensures { OnOk result (names.new ≡ names.old ++ Names.all_loop_variables (stmt_trees stmts.now)) }
 {

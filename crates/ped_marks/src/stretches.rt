@@ -1,7 +1,7 @@
 //! The entries of the marks, by the places at which they begin: an iteration that is running, or a stretch
 //! of finished ones.
 
-ghost use Rattle.std.specs.Prelude.{◌≡◌, ◌≢◌, ◌+◌, ◌<◌, ◌≤◌, ℕ, is_some, true, IfOk, OnOk, OnErr, if◌then◌else◌, ◌==◌};
+ghost use Rattle.std.specs.Prelude.{◌≡◌, ℕ, is_some, true, if◌then◌else◌, ◌==◌};
 ghost use Rattle.std.specs.Ordering.{nat_cmp};
 ghost use Rattle.std.specs.BTreeMap.{get};
 ghost use Rattle.std.specs.declared.option.Option.TheVariants.{None, Some};

@@ -18,14 +18,7 @@ use Rattle.ped_eval.proofs.Copies.{private_cell}
 use Rattle.ped_eval.proofs.Endings.{exit_is}
 use Rattle.ped_eval.proofs.Undefining.{exited_stands, exited_bounds}
 use Rattle.ped_machine.specs.Doing.{HasGrown, HasRoom}
-
--- more stands
-abbrev pub More : (Cell → Bool) → (Cell → Bool) → Type 0
-More stands more = (c : Cell) → stands c ≡ true → more c ≡ true
-
-pub copies_grow : (scope : Scope) (stands more : Cell → Bool) → More stands more → DoCopiesStand scope stands → DoCopiesStand scope more
-copies_grow [] stands more g h = tt
-copies_grow (f ∷ fs) stands more g h = (λ x k. g (Private x (path_of (f ∷ fs))) (h.0 x k), copies_grow fs stands more g h.1)
+use Rattle.ped_machine.specs.Growth.{copies_grow}
 
 pub ready_grows : (table : Table) (scope : Scope) (old new : Memory) → HasGrown old new → IsReady table scope old → IsReady table scope new
 ready_grows table scope old new g h = record {

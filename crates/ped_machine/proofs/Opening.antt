@@ -19,7 +19,7 @@ use Rattle.ped_interleavings.specs.Lefts.{Left, Lefts, finished, begins, ends_tu
 use Rattle.ped_machine.specs.declared.opens.Open.{Open}
 use Rattle.ped_machine.specs.Parts.{is_comment, IsWithoutComments, begins_with_comment}
 use Rattle.ped_machine.specs.Opens.{kept_left, mark_left, lefts_of, is_bare, open_entered, place_left, IsSameLoop, HasMarked, IsSameElsewhere, IsRunning, IsOpen}
-use Rattle.ped_machine.proofs.Growing.{More}
+use Rattle.ped_machine.specs.Growth.{More}
 use Rattle.ped_machine.proofs.OpenLefts.{unfinished_none, unfinished_first}
 
 -- only comments are finished at once, wherever they stand

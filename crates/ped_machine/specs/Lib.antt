@@ -4,6 +4,7 @@ pub use Rattle.ped_interleavings
 pub mod Doing
 pub mod Machines
 pub mod Parts
+pub mod Growth
 pub mod Levels
 pub mod Opens
 pub mod Rests

@@ -28,7 +28,8 @@ pub struct Level<'a, C> {
 }
 
 impl<'a, C: Work<'a>> Work<'a> for Level<'a, C> {
-    ghost use Rattle.ped_machine.specs.Levels.{level_left, IsSoundLevel, level_grows};
+    ghost use Rattle.ped_machine.specs.Growth.{level_grows};
+    ghost use Rattle.ped_machine.specs.Levels.{level_left, IsSoundLevel};
 
     ghost left = { level_left C.left };
 

@@ -79,8 +79,8 @@ impl<'a, C: Work<'a>> Rest<'a, C> {
     ) -> Result<Done, NoMemory>
         requires ready { IsReady symbols.now state.old.scope (memory_of state.old.store) }
         requires sound { IsSound C.left C.sound state.old.scope self.old symbols.now (memory_of state.old.store).stands }
-        ensures does { IfOk result (λ d. IsDone (Steps.step (setting_by symbols.now) (rest_left C.left state.old.scope self.old) choice (memory_of state.old.store).cells)
-            (rest_left C.left state.old.scope self.old) (memory_of state.old.store).cells d (rest_left C.left state.new.scope self.new) (memory_of state.new.store).cells) }
+        ensures does { IfOk result (λ r. IsDone (Steps.step (setting_by symbols.now) (rest_left C.left state.old.scope self.old) choice (memory_of state.old.store).cells)
+            (rest_left C.left state.old.scope self.old) (memory_of state.old.store).cells r (rest_left C.left state.new.scope self.new) (memory_of state.new.store).cells) }
         ensures kept { OnErr result ((state.new.scope ≡ state.old.scope) × (rest_left C.left state.old.scope self.new ≡ rest_left C.left state.old.scope self.old) × HasRoom (memory_of state.old.store) (memory_of state.new.store)) }
         ensures sound { IfOpen result (IsSound C.left C.sound state.new.scope self.new symbols.now (memory_of state.new.store).stands) }
         ensures copies { IfOpen result (DoCopiesStand state.new.scope (memory_of state.new.store).stands) }
@@ -109,8 +109,8 @@ impl<'a, C: Work<'a>> Rest<'a, C> {
         requires some { IsSome self.old.inner }
         requires ready { IsReady symbols.now state.old.scope (memory_of state.old.store) }
         requires sound { IsSound C.left C.sound state.old.scope self.old symbols.now (memory_of state.old.store).stands }
-        ensures does { IfOk result (λ d. IsDone (Steps.step (setting_by symbols.now) (rest_left C.left state.old.scope self.old) choice (memory_of state.old.store).cells)
-            (rest_left C.left state.old.scope self.old) (memory_of state.old.store).cells d (rest_left C.left state.new.scope self.new) (memory_of state.new.store).cells) }
+        ensures does { IfOk result (λ r. IsDone (Steps.step (setting_by symbols.now) (rest_left C.left state.old.scope self.old) choice (memory_of state.old.store).cells)
+            (rest_left C.left state.old.scope self.old) (memory_of state.old.store).cells r (rest_left C.left state.new.scope self.new) (memory_of state.new.store).cells) }
         ensures kept { OnErr result ((state.new.scope ≡ state.old.scope) × (rest_left C.left state.old.scope self.new ≡ rest_left C.left state.old.scope self.old) × HasRoom (memory_of state.old.store) (memory_of state.new.store)) }
         ensures sound { IfOpen result (IsSound C.left C.sound state.new.scope self.new symbols.now (memory_of state.new.store).stands) }
         ensures copies { IfOpen result (DoCopiesStand state.new.scope (memory_of state.new.store).stands) }
@@ -143,8 +143,8 @@ impl<'a, C: Work<'a>> Rest<'a, C> {
         requires begins { Begins (stmt_tree stmt.now) number (parts_of self.old.parts) }
         requires ready { IsReady symbols.now state.old.scope (memory_of state.old.store) }
         requires sound { IsSound C.left C.sound state.old.scope self.old symbols.now (memory_of state.old.store).stands }
-        ensures does { IfOk result (λ d. IsDone (Steps.step (setting_by symbols.now) (rest_left C.left state.old.scope self.old) 0 (memory_of state.old.store).cells)
-            (rest_left C.left state.old.scope self.old) (memory_of state.old.store).cells d (rest_left C.left state.new.scope self.new) (memory_of state.new.store).cells) }
+        ensures does { IfOk result (λ r. IsDone (Steps.step (setting_by symbols.now) (rest_left C.left state.old.scope self.old) 0 (memory_of state.old.store).cells)
+            (rest_left C.left state.old.scope self.old) (memory_of state.old.store).cells r (rest_left C.left state.new.scope self.new) (memory_of state.new.store).cells) }
         ensures kept { OnErr result ((state.new.scope ≡ state.old.scope) × (rest_left C.left state.old.scope self.new ≡ rest_left C.left state.old.scope self.old) × HasRoom (memory_of state.old.store) (memory_of state.new.store)) }
         ensures sound { IfOpen result (IsSound C.left C.sound state.new.scope self.new symbols.now (memory_of state.new.store).stands) }
         ensures copies { IfOpen result (DoCopiesStand state.new.scope (memory_of state.new.store).stands) }
@@ -174,8 +174,8 @@ impl<'a, C: Work<'a>> Rest<'a, C> {
         requires real { is_comment (stmt_tree stmt.now) ≡ false }
         requires ready { IsReady symbols.now state.old.scope (memory_of state.old.store) }
         requires sound { IsSound C.left C.sound state.old.scope self.old symbols.now (memory_of state.old.store).stands }
-        ensures does { IfOk result (λ d. IsDone (Steps.begun (setting_by symbols.now) (stmt_tree stmt.now) number state.old.scope (parts_left (parts_of self.old.parts) state.old.scope) (memory_of state.old.store).cells)
-            (parts_left (parts_of self.old.parts) state.old.scope) (memory_of state.old.store).cells d (rest_left C.left state.new.scope self.new) (memory_of state.new.store).cells) }
+        ensures does { IfOk result (λ r. IsDone (Steps.begun (setting_by symbols.now) (stmt_tree stmt.now) number state.old.scope (parts_left (parts_of self.old.parts) state.old.scope) (memory_of state.old.store).cells)
+            (parts_left (parts_of self.old.parts) state.old.scope) (memory_of state.old.store).cells r (rest_left C.left state.new.scope self.new) (memory_of state.new.store).cells) }
         ensures kept { OnErr result ((state.new.scope ≡ state.old.scope) × (parts_of self.new.parts ≡ parts_of self.old.parts) × (self.new.inner ≡ self.old.inner) × HasRoom (memory_of state.old.store) (memory_of state.new.store)) }
         ensures sound { IfOpen result (IsSound C.left C.sound state.new.scope self.new symbols.now (memory_of state.new.store).stands) }
         ensures copies { IfOpen result (DoCopiesStand state.new.scope (memory_of state.new.store).stands) }
@@ -200,8 +200,8 @@ impl<'a, C: Work<'a>> Rest<'a, C> {
         requires can { CanDo symbols.now state.old.scope number (do_tree d.now) }
         requires ready { IsReady symbols.now state.old.scope (memory_of state.old.store) }
         requires sound { IsSound C.left C.sound state.old.scope self.old symbols.now (memory_of state.old.store).stands }
-        ensures does { IfOk result (λ d. IsDone (Steps.begun (setting_by symbols.now) (do_tree d.now) number state.old.scope (parts_left (parts_of self.old.parts) state.old.scope) (memory_of state.old.store).cells)
-            (parts_left (parts_of self.old.parts) state.old.scope) (memory_of state.old.store).cells d (rest_left C.left state.new.scope self.new) (memory_of state.new.store).cells) }
+        ensures does { IfOk result (λ r. IsDone (Steps.begun (setting_by symbols.now) (do_tree d.now) number state.old.scope (parts_left (parts_of self.old.parts) state.old.scope) (memory_of state.old.store).cells)
+            (parts_left (parts_of self.old.parts) state.old.scope) (memory_of state.old.store).cells r (rest_left C.left state.new.scope self.new) (memory_of state.new.store).cells) }
         ensures kept { OnErr result ((state.new.scope ≡ state.old.scope) × (parts_of self.new.parts ≡ parts_of self.old.parts) × (self.new.inner ≡ self.old.inner) × HasRoom (memory_of state.old.store) (memory_of state.new.store)) }
         ensures sound { IfOpen result (IsSound C.left C.sound state.new.scope self.new symbols.now (memory_of state.new.store).stands) }
         ensures copies { IfOpen result (DoCopiesStand state.new.scope (memory_of state.new.store).stands) }
@@ -231,7 +231,7 @@ impl<'a, C: Work<'a>> Rest<'a, C> {
         requires none { self.old.inner ≡ None }
         requires plan { IsPlan (head_of d.now) (stmt_trees d.now.body.items) plan }
         requires can { (table : Table) × (CanDo table state.old.scope plan.number (do_tree d.now) × IsReady table state.old.scope (memory_of state.old.store)) }
-        ensures done { IfOk result (λ d. d ≡ done.Went) }
+        ensures done { IfOk result (λ r. r ≡ done.Went) }
         ensures left { OnOk result (rest_left C.left state.new.scope self.new ≡ entered_left d.now.parallel plan.count (entered_by (head_of d.now) plan plan.behind) (stmt_trees d.now.body.items) plan.number state.old.scope (parts_left (parts_of self.old.parts) state.old.scope)) }
         ensures store { OnOk result ((memory_of state.new.store).cells ≡ store_behind (exit_when_none plan.count (entered_by (head_of d.now) plan plan.behind) state.old.scope) (memory_of state.old.store).cells) }
         ensures kept { OnErr result ((state.new.scope ≡ state.old.scope) × (parts_of self.new.parts ≡ parts_of self.old.parts) × (self.new.inner ≡ self.old.inner) × HasRoom (memory_of state.old.store) (memory_of state.new.store)) }

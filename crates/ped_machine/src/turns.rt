@@ -85,7 +85,7 @@ pub(crate) fn enter_do<'a>(
     requires some { 0 < plan.count }
     requires few { length state.old.scope < 6 }
     requires number { plan.number + 1 < 2 ^ 32 }
-    ensures done { IfOk result (λ d. d ≡ done.Went) }
+    ensures done { IfOk result (λ r. r ≡ done.Went) }
     ensures left { OnOk result (parts_left (parts_of parts.new) state.new.scope ≡ turns_left plan.count 1 (entered_by (head_of d.now) plan plan.behind) (stmt_trees d.now.body.items) plan.number state.old.scope (parts_left (parts_of parts.old) state.old.scope)) }
     ensures go { OnOk result ((table : Table) → CanDo table state.old.scope plan.number (do_tree d.now) → CanGo table (parts_of parts.old) state.old.scope → CanGo table (parts_of parts.new) state.new.scope) }
     ensures copies { OnOk result (DoCopiesStand state.old.scope (memory_of state.old.store).stands → DoCopiesStand state.new.scope (memory_of state.new.store).stands) }

@@ -83,7 +83,8 @@ pub trait Work<'a>: Drop {
 pub enum Never {}
 
 impl<'a> Work<'a> for Never {
-    ghost use Rattle.ped_machine.specs.Levels.{never_left, IsNever, never_grows};
+    ghost use Rattle.ped_machine.specs.Levels.{never_left, IsNever};
+    ghost use Rattle.ped_machine.specs.Growth.{never_grows};
 
     ghost left = { never_left };
 

@@ -1,26 +1,56 @@
 -- Statements by what the code answers for them.
-use Rattle.std.proofs.Common.{◌≡◌, ℕ, ◌+◌, List, [], ◌∷◌, ◌++◌, Bool, true, false, Some, None, Result, Ok, Err, if◌then◌else◌, refl, sym, ap, subst, ◌∙◌}
+use Rattle.std.proofs.Common.{◌≡◌, ℕ, ◌+◌, List, [], ◌∷◌, ◌++◌, Bool, true, false, Option, Some, None, Result, Ok, Err, if◌then◌else◌, refl, sym, ap, subst, ◌∙◌}
 use Rattle.ped_tree.specs.Tree.{ExprTree, ItemTree, CondTree, Head, StmtTrees, Assign, If, Do, Print, Read, Stop}
 use Rattle.ped_tree.specs.Numbering.{statements_count}
 use Rattle.ped_symbols.specs.Kinds.{Table}
 use Rattle.ped_store.specs.Cells.{In}
 use Rattle.ped_store.specs.Stores.{Number, Lines, Store, put}
-use Rattle.ped_store.specs.Acts.{did, entered, Act, Touch, store_behind}
+use Rattle.ped_store.specs.Acts.{Place, did, entered, store_behind}
 use Rattle.ped_store.specs.Memories.{Memory, with_content, with_printed}
-use Rattle.ped_eval.specs.Scopes.{Scope, Names, names_in, place_of, cell_of, index_value}
+use Rattle.ped_eval.specs.Agreement.{IsSame}
+use Rattle.ped_eval.specs.Scopes.{Setting, Scope, names_in, place_of, cell_of, index_value}
 use Rattle.ped_eval.specs.ScopeViews.{names_at}
 use Rattle.ped_eval.specs.Evaluation.{Seen, Evaluated, numbered, number_behind}
 use Rattle.ped_eval.specs.Values.{truth}
 use Rattle.ped_eval.specs.Statements.{Stored, assigned, assignment_touches, printed_line, print_touches, write_touch, reading, reading_touches, Taking}
 use Rattle.ped_eval.specs.Takings.{read_taken}
 use Rattle.ped_eval.specs.Loops.{Limits, limits, Entered, entered_with, exit_when_none, entry_touches}
-use Rattle.ped_eval.specs.Runs.{does, nothing_done, on_value, run_taking}
+use Rattle.ped_eval.specs.Runs.{going, failed, does, nothing_done, on_value, run_taking}
 use Rattle.ped_eval.specs.Readiness.{setting_by, IsReady}
 use Rattle.ped_eval.proofs.Endings.{reads_leave, only_reads}
+use Rattle.ped_eval.proofs.KeptByWrites.{IsKeptByWrites}
+use Rattle.ped_eval.proofs.Takings.{reading_taken, read_ending, read_ending_fails}
 use Rattle.ped_interleavings.specs.Lefts.{Left, left_of_all, entered_left}
 use Rattle.ped_interleavings.specs.Steps.{Next, met, went, halted, act_of, by_run, simple_step, seen_next, begun}
 use Rattle.ped_machine.specs.Doing.{IsDone, IsActed}
 use Rattle.ped_machine.specs.declared.steps.Done.TheVariants as done
+
+-- what is kept is the store of the run
+abbrev pub Same : Store → Store → Type 0
+Same kept s = kept ≡ s
+
+same_itself : (scope : Scope) (u : Store) → IsSame scope u u
+same_itself [] u = λ c h. refl
+same_itself (f ∷ fs) u = (λ x h. refl, same_itself fs u)
+
+same_kept : (p : Setting) (scope : Scope) → IsKeptByWrites p scope Same
+same_kept p scope = record {
+  same = λ u s h. subst (λ (z : Store). IsSame scope u z) h (same_itself scope u);
+  variable = λ c v u s is h. ap (put c v) h;
+  input = λ v u s h. ap (put In v) h;
+}
+
+going_is : {a b : Store} → going a ≡ going b → a ≡ b
+going_is h = cc
+
+-- a READ that has failed
+fails_by : (at : Place) (t : Taking) (rest : Left) (f : ℕ) (u : Store) {s : Store} (o : Option ℕ) → t.fault ≡ o → (run_taking at t t.fault s).ending ≡ failed f at.statement
+    → IsDone (simple_step (run_taking at t t.fault s) rest) rest s (done.Fault f at.statement) rest u
+fails_by at t rest f u {s} None e q = absurd (let w : going (store_behind (reading_touches t s) s) ≡ failed f at.statement = sym (λ i. (run_taking at t (e i) s).ending) ∙ q in cc)
+fails_by at t rest f u {s} (Some k) e q =
+    let w : failed k at.statement ≡ failed f at.statement = sym (λ i. (run_taking at t (e i) s).ending) ∙ q in
+    let is : k ≡ f = cc in
+    subst (λ (x : Next). IsDone x rest s (done.Fault f at.statement) rest u) (λ i. simple_step (run_taking at t (sym e i) s) rest) (sym is, refl)
 
 module _ (table : Table) (scope : Scope) (n : ℕ) (m : Memory) (bounds : m.bounds ≡ (setting_by table).bounds) where
   -- what names stand for by what is kept is what they stand for in the run
@@ -72,6 +102,30 @@ module _ (table : Table) (scope : Scope) (n : ℕ) (m : Memory) (bounds : m.boun
       subst (λ (x : Next). IsDone x rest m.cells (done.Fault f n) rest new.cells)
       (λ i. simple_step (on_value at a.seen (sym is i) (λ seen v. does did at (print_touches seen v m.cells) nothing_done m.cells)) rest)
       (refl, refl)
+
+  -- a READ that takes its items
+  pub reads : (items : List ExprTree) (after : Memory) → m.cells In ≡ Lines m.input.lines → after.cells In ≡ Lines after.input.lines → read_taken table.constants scope items m ≡ Ok after
+      → IsActed table scope n (Read items) m done.Went after
+  reads items after kept kept_after e rest =
+      let p = setting_by table in
+      let at = place_of p n scope in
+      let t = reading (names_in p scope) items m.cells in
+      let a = reading_taken p scope Same (same_kept p scope) at items m.cells m bounds refl kept after e in
+      let q = read_ending p scope Same (same_kept p scope) at items m.cells m bounds refl kept after e kept_after in
+      let w : going (store_behind (reading_touches t m.cells) m.cells) ≡ going q.0 = sym (λ i. (run_taking at t (a.fault i) m.cells).ending) ∙ q.1 in
+      let is : store_behind (reading_touches t m.cells) m.cells ≡ q.0 = going_is w in
+      subst (λ (x : Next). IsDone x rest m.cells done.Went rest after.cells)
+      (λ i. simple_step (run_taking at t (sym a.fault i) m.cells) rest)
+      (refl, q.2 ∙ sym is)
+
+  pub read_fails : (items : List ExprTree) (f : ℕ) (new : Memory) → m.cells In ≡ Lines m.input.lines → read_taken table.constants scope items m ≡ Err f
+      → IsActed table scope n (Read items) m (done.Fault f n) new
+  read_fails items f new kept e rest =
+      let p = setting_by table in
+      let at = place_of p n scope in
+      let t = reading (names_in p scope) items m.cells in
+      let q = read_ending_fails p scope Same (same_kept p scope) at items m.cells m bounds refl kept f e in
+      fails_by at t rest f new.cells t.fault refl q
 
   -- a STOP
   pub stops : IsActed table scope n Stop m done.Halted m

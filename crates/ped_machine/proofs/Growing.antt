@@ -80,3 +80,14 @@ exit_grows e scope m = record {
   bounds = exited_bounds e scope m;
   stands = λ c h. (λ i. exited_stands e scope m i c) ∙ h;
 }
+
+-- a write leaves all standing
+pub content_grows : (c : Cell) (v : Content) (m new : Memory) → new ≡ with_content c v m → HasGrown m new
+content_grows c v m new e = record { bounds = λ i. (e i).bounds; stands = λ d h. (λ i. (e i).stands d) ∙ h }
+
+pub same_grows : (m new : Memory) → new.bounds ≡ m.bounds → new.stands ≡ m.stands → HasGrown m new
+same_grows m new b s = record { bounds = b; stands = λ d h. (λ i. s i d) ∙ h }
+
+-- where nothing has changed
+pub unchanged : (m new : Memory) → new ≡ m → HasRoom m new
+unchanged m new e = subst (λ (k : Memory). HasRoom m k) (sym e) (no_room m)

@@ -1,0 +1,197 @@
+//! The machine.
+
+ghost use Rattle.std.specs.Prelude.{◌≡◌, ◌<◌, ◌∷◌, [], ℕ, List, None, false, drop, Ok, IfOk, OnErr};
+ghost use Rattle.ped_tree.specs.Views.{program_tree, stmt_trees};
+ghost use Rattle.ped_symbols.specs.Kinds.{table_of};
+ghost use Rattle.ped_symbols.specs.NameRefusals.{IsValid};
+ghost use Rattle.ped_eval.specs.Outcomes.{setting_of};
+ghost use Rattle.ped_eval.specs.OutcomeViews.{outcome_view};
+ghost use Rattle.ped_interleavings.specs.Lefts as Lefts;
+ghost use Rattle.ped_interleavings.specs.Steps as Steps;
+ghost use Rattle.ped_interleavings.specs.Interleavings.{IsInterleavedFrom, at_start, choice};
+ghost use Rattle.ped_interleavings.specs.Weights.{left_weight};
+ghost use Rattle.ped_machine.specs.Machines.{standing, IsSameRun, IsStepBy, ReachesSome};
+ghost use Rattle.ped_machine.specs.declared.steps.Step.TheVariants as step;
+
+use crate::levels::Level;
+use crate::parts::{Part, Parts};
+use crate::phases::Phase;
+use crate::rests::Rest;
+use crate::steps::{Done, Step};
+use crate::works::Never;
+use ped_base::NoMemory;
+use ped_eval::{Outcome, State, ended, start};
+use ped_symbols::Symbols;
+use ped_tree::Program;
+use std::alloc::Global;
+use std::marker::Model;
+
+/// An iteration of an outermost PARALLEL DO: DO loops stand at most six deep in one another.
+type Outermost<'a> = Level<'a, Level<'a, Level<'a, Level<'a, Level<'a, Level<'a, Never>>>>>>;
+
+/// A run of a program whose PARALLEL DO loops go on in any order, as choices pick it. Contracts see the program, what is left
+/// of the run, and its store.
+#[derive(Drop)]
+pub struct Machine<'a> {
+    alloc: Global,
+    program: &'a Program,
+    symbols: &'a Symbols,
+    state: State,
+    rest: Rest<'a, Outermost<'a>>,
+    phase: Phase,
+}
+
+impl<'a> Model for Machine<'a> {
+    ghost use Rattle.std.specs.Prelude.{◌≡◌, [], false};
+    ghost use Rattle.ped_tree.specs.Views.{program_tree};
+    ghost use Rattle.ped_symbols.specs.Kinds.{table_of};
+    ghost use Rattle.ped_store.specs.Keeping.{memory_of};
+    ghost use Rattle.ped_machine.specs.Machines.{Held};
+    ghost use Rattle.ped_machine.specs.Roots.{root_left, has_faulted, IsRight};
+
+    ghost Value = { Held };
+
+    ghost view = { λ m. record { tree = program_tree m.program.now; left = root_left m.phase m.rest; store = (memory_of m.state.store).cells; faulted = has_faulted m.phase } };
+
+    ghost invariant = { λ m. (m.symbols.now ≡ table_of (program_tree m.program.now)) × (m.state.scope ≡ []) × IsRight m.phase m.rest m.symbols.now (memory_of m.state.store) };
+}
+
+impl<'a> Machine<'a> {
+    /// A machine before the first step of a valid program, whose names these are, on the lines of its data (ANSI X3.9-1978,
+    /// section 2.4.1; this project).
+    ///
+    /// # Errors
+    ///
+    /// Want of memory.
+    pub fn new(
+        alloc: Global,
+        program: &'a Program,
+        symbols: &'a Symbols,
+        input: &[u8],
+    ) -> Result<Machine<'a>, NoMemory>
+        requires valid { IsValid (program_tree program.now) }
+        requires symbols { symbols.now ≡ table_of (program_tree program.now) }
+        ensures tree { IfOk result (λ m. m.tree ≡ program_tree program.now) }
+        ensures faulted { IfOk result (λ m. m.faulted ≡ false) }
+        ensures stands { IfOk result (λ m. (choices : List ℕ) → standing m choices ≡ at_start (program_tree program.now) input.now choices) }
+    {
+        let rest = whole(alloc, program)?;
+        let state = start(alloc, symbols, input)?;
+        Ok(Machine {
+            alloc,
+            program,
+            symbols,
+            state,
+            rest,
+            phase: Phase::Goes,
+        })
+    }
+
+    /// Whether the next step takes a choice: it is one of an iteration of a PARALLEL DO.
+    pub fn wants_choice(&self) -> bool
+        ensures { result ≡ Lefts.wants_choice self.now.left }
+    {
+        match self.phase {
+            Phase::Goes => return self.rest.wants_choice(),
+            Phase::Ended | Phase::Faulted => return false,
+        }
+    }
+
+    /// Does the next step: of an open PARALLEL DO with N iterations, the choice c picks the iteration c mod N or the first
+    /// behind it that isn't finished, going round, and c div N picks on inside of it. Behind a fault nothing is left.
+    ///
+    /// # Errors
+    ///
+    /// Want of memory. Then the same is left, and the store is the same.
+    pub fn step(&mut self, choice: u64) -> Result<Step, NoMemory>
+        requires { self.old.faulted ≡ false }
+        ensures does { IfOk result (λ r. IsStepBy (Steps.step (setting_of self.old.tree) self.old.left choice self.old.store) self.old r self.new) }
+        ensures kept { OnErr result (IsSameRun self.old self.new) }
+        ensures tree { self.new.tree ≡ self.old.tree }
+        ensures lighter { result ≡ Ok step.Went → left_weight self.new.left < left_weight self.old.left }
+    {
+        match self.phase {
+            Phase::Goes => {}
+            Phase::Ended | Phase::Faulted => return Ok(Step::Ended),
+        }
+        match self
+            .rest
+            .step(self.alloc, self.symbols, &mut self.state, choice)
+        {
+            Ok(Done::Went) => return Ok(Step::Went),
+            Ok(Done::Ended) => return Ok(Step::Ended),
+            Ok(Done::Halted) => {
+                self.phase = Phase::Ended;
+                return Ok(Step::Went);
+            }
+            Ok(Done::Fault { fault, statement }) => {
+                self.phase = Phase::Faulted;
+                return Ok(Step::Fault { fault, statement });
+            }
+            Err(error) => return Err(error),
+        }
+    }
+
+    /// Goes on with these choices, and then with 0, until the program ends.
+    ///
+    /// # Errors
+    ///
+    /// Want of memory. Then the run stands where steps with these choices have brought it, or with all of them and zeros
+    /// behind them.
+    pub fn run(&mut self, choices: &[u64]) -> Result<Outcome, NoMemory>
+        requires { self.old.faulted ≡ false }
+        ensures outcome { IfOk result (λ o. IsInterleavedFrom self.old.tree (standing self.old choices.now) (outcome_view o)) }
+        ensures reached { OnErr result (ReachesSome self.old choices.now self.new) }
+        ensures tree { self.new.tree ≡ self.old.tree }
+    {
+        let mut left = choices;
+        loop {
+            let choice = first_of(left);
+            if self.wants_choice() {
+                left = behind_first(left);
+            }
+            match self.step(choice) {
+                Ok(Step::Went) => {}
+                Ok(Step::Ended) => return ended(self.alloc, self.program, &self.state.store),
+                Ok(Step::Fault { fault, statement }) => {
+                    return Ok(Outcome::Fault { fault, statement });
+                }
+                Err(error) => return Err(error),
+            }
+        }
+    }
+}
+
+/// A program of which all is left.
+fn whole<'a>(alloc: Global, program: &'a Program) -> Result<Rest<'a, Outermost<'a>>, NoMemory>
+    ensures parts { IfOk result (λ r. r.parts ≡ record { stmts = stmt_trees program.now.body.items; first = 1; turn = None } ∷ []) }
+    ensures inner { IfOk result (λ r. r.inner ≡ None) }
+{
+    let mut parts = Parts::new(alloc);
+    parts.push(Part {
+        stmts: &program.body,
+        first: 1,
+        turn: None,
+    })?;
+    Ok(Rest { parts, inner: None })
+}
+
+/// The first choice, 0 where there is none.
+fn first_of(choices: &[u64]) -> u64
+    ensures { result ≡ choice choices.now }
+{
+    match choices.first() {
+        Some(first) => *first,
+        None => 0,
+    }
+}
+
+/// The choices behind the first.
+fn behind_first(choices: &[u64]) -> &[u64]
+    ensures { result.now ≡ drop 1 choices.now }
+{
+    match choices.split_first() {
+        Some((_, rest)) => rest,
+        None => &[],
+    }
+}

@@ -15,7 +15,7 @@ use Rattle.ped_eval.specs.Loops.{Entered}
 use Rattle.ped_eval.specs.Plans.{entered_by, IsPlan}
 use Rattle.ped_eval.specs.Readiness.{CanDo}
 use Rattle.ped_eval.specs.declared.plans.Plan.{Plan}
-use Rattle.ped_interleavings.specs.Lefts.{Left, finished, begins, ends_turn, open_loop, is_finished, left_of_all, body_left, unfinished, or_else}
+use Rattle.ped_interleavings.specs.Lefts.{Left, Lefts, finished, begins, ends_turn, open_loop, is_finished, left_of_all, body_left, unfinished, or_else}
 use Rattle.ped_machine.specs.declared.opens.Open.{Open}
 use Rattle.ped_machine.specs.Parts.{is_comment, IsWithoutComments, begins_with_comment}
 use Rattle.ped_machine.specs.Opens.{kept_left, mark_left, lefts_of, is_bare, open_entered, place_left, IsSameLoop, HasMarked, IsSameElsewhere, IsRunning, IsOpen}
@@ -96,7 +96,7 @@ module _ {C : Type 0} (left : C → Left) (sound : C → Table → (Cell → Boo
         by Done e = ap is_finished (left_by o j Done e) ∙ sym (ap is_done e)
         by (Running key) e = running_open j key k e ∙ sym (ap is_done e)
 
-    abbrev lefts : _
+    abbrev lefts : Lefts
     lefts = lefts_of o.plan.count (place_left left scope o)
 
     -- no iteration is picked in a loop with comments alone
@@ -202,7 +202,7 @@ module _ {C : Type 0} (left : C → Left) (sound : C → Table → (Cell → Boo
               let r2 = sym (mark_else j d) ∙ r in
               let less2 = less_too j less in
               let t = o.running j k less2 r2 in
-              record { task = t.task; kept = h.tasks.others k (apart j k less2 d r2) ∙ t.kept; unfinished = t.unfinished; sound = grows t.task table stands more grown t.sound });
+              record { task = t.task; kept = h.tasks.others k (apart j k less2 d r2) ∙ t.kept; unfinished = t.unfinished; safe = grows t.task table stands more grown t.safe });
           real = λ j k less r.
               ap is_bare (λ i. stmt_trees (h.same.d i).now.body.items)
               ∙ this_or_other j place (is_bare (body_of old) ≡ false)

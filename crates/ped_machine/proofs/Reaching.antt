@@ -12,21 +12,20 @@ use Rattle.ped_interleavings.specs.Steps.{Next, over, met, went, halted, step}
 use Rattle.ped_interleavings.specs.Interleavings.{Standing, choice, choices_behind, next_step, standing_by, next_standing, after_steps, IsReached, ended_by, IsInterleavedFrom}
 use Rattle.ped_machine.specs.declared.steps.Step.{Step}
 use Rattle.ped_machine.specs.declared.steps.Step.TheVariants as answer
-use Rattle.ped_machine.specs.Machines.{Held, standing, IsSameRun, IsBehind, IsStepBy}
+use Rattle.ped_machine.specs.Machines.{Held, standing, IsBehind, IsStepBy}
 
 some_is : {A : Type 0} (x y : A) → ◌≡◌ {A = Option A} (Some x) (Some y) → x ≡ y
 some_is x y h = cc
 
 module _ (p : Setting) where
+  by_next : (n : ℕ) (st mid new : Standing) (x : Option Standing) → next_standing p st ≡ x → after_steps p (suc n) st ≡ Some mid → ((z : Standing) → after_steps p n z ≡ Some mid → after_steps p (suc n) z ≡ Some new)
+      → after_steps p (suc (suc n)) st ≡ Some new
+  by_next n st mid new None k h more = absurd (let w : ◌≡◌ {A = Option Standing} None (Some mid) = sym (ap (option_and_then (after_steps p n)) k) ∙ h in cc)
+  by_next n st mid new (Some z) k h more = ap (option_and_then (after_steps p (suc n))) k ∙ more z (sym (ap (option_and_then (after_steps p n)) k) ∙ h)
+
   more_steps : (n : ℕ) (st mid new : Standing) → after_steps p n st ≡ Some mid → next_standing p mid ≡ Some new → after_steps p (suc n) st ≡ Some new
   more_steps zero st mid new h e = subst (λ (z : Standing). option_and_then (after_steps p zero) (next_standing p z) ≡ Some new) (sym (some_is st mid h)) (ap (option_and_then (after_steps p zero)) e)
-  more_steps (suc n) st mid new h e = by (next_standing p st) refl
-    where
-      by : (x : Option Standing) → next_standing p st ≡ x → after_steps p (suc (suc n)) st ≡ Some new
-      by None k = absurd (let w : ◌≡◌ {A = Option Standing} None (Some mid) = sym (ap (option_and_then (after_steps p n)) k) ∙ h in cc)
-      by (Some z) k =
-          ap (option_and_then (after_steps p (suc n))) k
-          ∙ more_steps n z mid new (sym (ap (option_and_then (after_steps p n)) k) ∙ h) e
+  more_steps (suc n) st mid new h e = by_next n st mid new (next_standing p st) refl h (λ z k. more_steps n z mid new k e)
 
   -- one step more
   pub one_more : (st mid new : Standing) → IsReached p st mid → next_standing p mid ≡ Some new → IsReached p st new

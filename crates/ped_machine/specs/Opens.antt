@@ -72,7 +72,7 @@ module _ {C : Type 0} (left : C → Left) where
       pub task : C
       pub kept : get tasks key ≡ Some task
       pub unfinished : is_finished (left task) ≡ false
-      pub sound : sound task table stands
+      pub safe : sound task table stands
 
     -- the steps of an open loop can be done
     pub record IsOpen (scope : Scope) (o : Open C) : Type 0 where

@@ -13,6 +13,7 @@ use Rattle.ped_eval.specs.declared.plans.Plan.{Plan}
 use Rattle.ped_interleavings.specs.Lefts.{Left, finished, ends_turn, left_of_all}
 use Rattle.ped_machine.specs.declared.parts.Turn as code_turn
 use Rattle.ped_machine.specs.declared.parts.Part as code
+use Rattle.ped_machine.specs.declared.parts.Parts as code_parts
 use Rattle.ped_machine.specs.declared.parts.Block.{Block}
 use Rattle.ped_machine.specs.declared.parts.Next.{Next}
 use Rattle.ped_machine.specs.declared.parts.Next.TheVariants as next
@@ -46,6 +47,10 @@ part_view p = record { stmts = stmt_trees p.stmts.now; first = p.first; turn = t
 -- the parts that are kept with that which is done first as the last; it comes first here
 abbrev pub parts_view : List code.Part → List Part
 parts_view parts = reverse (map part_view parts)
+
+-- the parts that the code's stand for
+abbrev pub parts_of : code_parts.Parts → List Part
+parts_of ps = parts_view ps.items.items
 
 -- the DO of an iteration, as it was entered
 abbrev pub turn_entered : Turn → Entered
@@ -157,6 +162,11 @@ is_loop t = false
 pub record IsSettled (old new : List Part) : Type 0 where
   pub left : (scope : Scope) → parts_left new scope ≡ parts_left old scope
   pub can : (table : Table) (scope : Scope) → CanGo table old scope → CanGo table new scope
+
+-- there are statements (plain words)
+abbrev pub has_some : StmtTrees → Bool
+has_some no_stmts = false
+has_some (more_stmts t ts) = true
 
 -- the first of these statements is a comment (plain words)
 abbrev pub begins_with_comment : StmtTrees → Bool

@@ -4,7 +4,7 @@ use Rattle.ped_symbols.specs.Kinds.{Table}
 use Rattle.ped_store.specs.Cells.{Cell}
 use Rattle.ped_eval.specs.Scopes.{Scope}
 use Rattle.ped_interleavings.specs.Lefts.{Left}
-use Rattle.ped_machine.specs.Parts.{parts_left, CanGo}
+use Rattle.ped_machine.specs.Parts.{parts_of, parts_left, CanGo}
 use Rattle.ped_machine.specs.Opens.{open_left, IsOpen}
 use Rattle.ped_machine.specs.declared.opens.Open.{Open}
 use Rattle.ped_machine.specs.declared.rests.Rest.{Rest}
@@ -17,7 +17,7 @@ module _ {C : Type 0} (left : C → Left) where
 
   -- what is left, with these iterations round it
   abbrev pub rest_left : Scope → Rest C → Left
-  rest_left scope r = opened_left scope r.inner (parts_left r.parts scope)
+  rest_left scope r = opened_left scope r.inner (parts_left (parts_of r.parts) scope)
 
   module _ (sound : C → Table → (Cell → Bool) → Type 0) (scope : Scope) where
     -- where a loop is open, its steps can be done
@@ -27,5 +27,5 @@ module _ {C : Type 0} (left : C → Left) where
 
     -- all that is left can be done
     pub record IsSound (r : Rest C) (table : Table) (stands : Cell → Bool) : Type 0 where
-      pub parts : CanGo table r.parts scope
+      pub parts : CanGo table (parts_of r.parts) scope
       pub inner : IfOpened r.inner table stands

@@ -10,7 +10,7 @@ ghost use Rattle.ped_eval.specs.Readiness.{setting_by, IsReady, CanDo};
 ghost use Rattle.ped_interleavings.specs.Steps.{begun};
 ghost use Rattle.ped_machine.specs.Doing.{IsActed, IsDone, IfGoing, IfOpen, IfSafe, HasGrown, HasRoom};
 ghost use Rattle.ped_machine.specs.declared.steps.Done.TheVariants as done;
-ghost use Rattle.ped_machine.specs.Parts.{CanGo, is_comment, is_loop, parts_left};
+ghost use Rattle.ped_machine.specs.Parts.{CanGo, is_comment, is_loop, parts_left, parts_of};
 
 use crate::parts::{Part, Parts};
 use crate::steps::Done;
@@ -36,11 +36,11 @@ pub(crate) fn begin<'a>(
     requires simple { is_loop (stmt_tree stmt.now) ≡ false }
     requires real { is_comment (stmt_tree stmt.now) ≡ false }
     requires ready { IsReady symbols.now state.old.scope (memory_of state.old.store) }
-    requires go { CanGo symbols.now parts.old state.old.scope }
-    ensures does { IfOk result (λ d. IsDone (begun (setting_by symbols.now) (stmt_tree stmt.now) number state.old.scope (parts_left parts.old state.old.scope) (memory_of state.old.store).cells)
-        (parts_left parts.old state.old.scope) (memory_of state.old.store).cells d (parts_left parts.new state.old.scope) (memory_of state.new.store).cells) }
-    ensures kept { OnErr result ((parts.new ≡ parts.old) × HasRoom (memory_of state.old.store) (memory_of state.new.store)) }
-    ensures go { IfOpen result (CanGo symbols.now parts.new state.old.scope) }
+    requires go { CanGo symbols.now (parts_of parts.old) state.old.scope }
+    ensures does { IfOk result (λ d. IsDone (begun (setting_by symbols.now) (stmt_tree stmt.now) number state.old.scope (parts_left (parts_of parts.old) state.old.scope) (memory_of state.old.store).cells)
+        (parts_left (parts_of parts.old) state.old.scope) (memory_of state.old.store).cells d (parts_left (parts_of parts.new) state.old.scope) (memory_of state.new.store).cells) }
+    ensures kept { OnErr result (((parts_of parts.new) ≡ (parts_of parts.old)) × HasRoom (memory_of state.old.store) (memory_of state.new.store)) }
+    ensures go { IfOpen result (CanGo symbols.now (parts_of parts.new) state.old.scope) }
     ensures grown { IfSafe result (HasGrown (memory_of state.old.store) (memory_of state.new.store)) }
     ensures scope { state.new.scope ≡ state.old.scope }
 {
@@ -73,8 +73,8 @@ pub(crate) fn begin<'a>(
 /// Puts statements before what is left.
 fn push_block<'a>(parts: &mut Parts<'a>, stmts: &'a [Stmt], first: u32) -> Result<Done, NoMemory>
     ensures done { IfOk result (λ d. d ≡ done.Went) }
-    ensures ok { OnOk result (parts.new ≡ record { stmts = stmt_trees stmts.now; first = first; turn = None } ∷ parts.old) }
-    ensures err { OnErr result (parts.new ≡ parts.old) }
+    ensures ok { OnOk result ((parts_of parts.new) ≡ record { stmts = stmt_trees stmts.now; first = first; turn = None } ∷ (parts_of parts.old)) }
+    ensures err { OnErr result ((parts_of parts.new) ≡ (parts_of parts.old)) }
 {
     parts.push(Part {
         stmts,

@@ -4,6 +4,7 @@ ghost use Rattle.std.specs.Prelude.{◌≡◌, ◌<◌, ◌+◌, ◌^◌, ◌∷
 ghost use Rattle.ped_tree.specs.Views.{head_of, stmt_trees};
 ghost use Rattle.ped_eval.specs.Loops as Loops;
 ghost use Rattle.ped_eval.specs.ScopeViews.{frame_view};
+ghost use Rattle.ped_machine.specs.Parts.{parts_of};
 ghost use Rattle.ped_eval.specs.Plans.{entered_by, IsPlan};
 
 use crate::parts::{Part, Parts};
@@ -112,7 +113,7 @@ fn with_body<'a, C: Work<'a>>(
 ) -> Result<Level<'a, C>, NoMemory>
     requires { plan.now.number + 1 < 2 ^ 32 }
     ensures scope { IfOk result (λ w. w.scope ≡ scope) }
-    ensures parts { IfOk result (λ w. w.rest.parts ≡ record { stmts = stmt_trees d.now.body.items; first = plan.now.number + 1; turn = None } ∷ []) }
+    ensures parts { IfOk result (λ w. parts_of w.rest.parts ≡ record { stmts = stmt_trees d.now.body.items; first = plan.now.number + 1; turn = None } ∷ []) }
     ensures inner { IfOk result (λ w. w.rest.inner ≡ None) }
 {
     let mut parts = Parts::new(alloc);

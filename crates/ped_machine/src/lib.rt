@@ -7,7 +7,6 @@ mod levels;
 mod machine;
 mod opens;
 mod parts;
-mod phases;
 mod rests;
 mod steps;
 mod turns;

@@ -1,6 +1,6 @@
 //! The machine.
 
-ghost use Rattle.std.specs.Prelude.{◌≡◌, ◌<◌, ◌∷◌, [], ℕ, List, None, false, drop, Ok, IfOk, OnErr};
+ghost use Rattle.std.specs.Prelude.{◌≡◌, ◌<◌, ◌∷◌, [], ℕ, List, None, drop, Ok, IfOk, OnErr};
 ghost use Rattle.ped_tree.specs.Views.{program_tree, stmt_trees};
 ghost use Rattle.ped_symbols.specs.Kinds.{table_of};
 ghost use Rattle.ped_symbols.specs.NameRefusals.{IsValid};
@@ -10,12 +10,13 @@ ghost use Rattle.ped_interleavings.specs.Lefts as Lefts;
 ghost use Rattle.ped_interleavings.specs.Steps as Steps;
 ghost use Rattle.ped_interleavings.specs.Interleavings.{IsInterleavedFrom, at_start, choice};
 ghost use Rattle.ped_interleavings.specs.Weights.{left_weight};
-ghost use Rattle.ped_machine.specs.Machines.{standing, IsSameRun, IsStepBy, ReachesSome};
+ghost use Rattle.ped_machine.specs.Parts.{parts_of};
+ghost use Rattle.ped_machine.specs.Machines.{standing, IsSameRun, IsStepBy, IfFaultless, ReachesSome};
+ghost use Rattle.ped_machine.specs.Roots.{held, IsSafe};
 ghost use Rattle.ped_machine.specs.declared.steps.Step.TheVariants as step;
 
 use crate::levels::Level;
 use crate::parts::{Part, Parts};
-use crate::phases::Phase;
 use crate::rests::Rest;
 use crate::steps::{Done, Step};
 use crate::works::Never;
@@ -24,7 +25,6 @@ use ped_eval::{Outcome, State, ended, start};
 use ped_symbols::Symbols;
 use ped_tree::Program;
 use std::alloc::Global;
-use std::marker::Model;
 
 /// An iteration of an outermost PARALLEL DO: DO loops stand at most six deep in one another.
 type Outermost<'a> = Level<'a, Level<'a, Level<'a, Level<'a, Level<'a, Level<'a, Never>>>>>>;
@@ -38,22 +38,7 @@ pub struct Machine<'a> {
     symbols: &'a Symbols,
     state: State,
     rest: Rest<'a, Outermost<'a>>,
-    phase: Phase,
-}
-
-impl<'a> Model for Machine<'a> {
-    ghost use Rattle.std.specs.Prelude.{◌≡◌, [], false};
-    ghost use Rattle.ped_tree.specs.Views.{program_tree};
-    ghost use Rattle.ped_symbols.specs.Kinds.{table_of};
-    ghost use Rattle.ped_store.specs.Keeping.{memory_of};
-    ghost use Rattle.ped_machine.specs.Machines.{Held};
-    ghost use Rattle.ped_machine.specs.Roots.{root_left, has_faulted, IsRight};
-
-    ghost Value = { Held };
-
-    ghost view = { λ m. record { tree = program_tree m.program.now; left = root_left m.phase m.rest; store = (memory_of m.state.store).cells; faulted = has_faulted m.phase } };
-
-    ghost invariant = { λ m. (m.symbols.now ≡ table_of (program_tree m.program.now)) × (m.state.scope ≡ []) × IsRight m.phase m.rest m.symbols.now (memory_of m.state.store) };
+    is_over: bool,
 }
 
 impl<'a> Machine<'a> {
@@ -71,9 +56,9 @@ impl<'a> Machine<'a> {
     ) -> Result<Machine<'a>, NoMemory>
         requires valid { IsValid (program_tree program.now) }
         requires symbols { symbols.now ≡ table_of (program_tree program.now) }
-        ensures tree { IfOk result (λ m. m.tree ≡ program_tree program.now) }
-        ensures faulted { IfOk result (λ m. m.faulted ≡ false) }
-        ensures stands { IfOk result (λ m. (choices : List ℕ) → standing m choices ≡ at_start (program_tree program.now) input.now choices) }
+        ensures safe { IfOk result IsSafe }
+        ensures tree { IfOk result (λ m. (held m).tree ≡ program_tree program.now) }
+        ensures stands { IfOk result (λ m. (choices : List ℕ) → standing (held m) choices ≡ at_start (program_tree program.now) input.now choices) }
     {
         let rest = whole(alloc, program)?;
         let state = start(alloc, symbols, input)?;
@@ -83,18 +68,19 @@ impl<'a> Machine<'a> {
             symbols,
             state,
             rest,
-            phase: Phase::Goes,
+            is_over: false,
         })
     }
 
     /// Whether the next step takes a choice: it is one of an iteration of a PARALLEL DO.
     pub fn wants_choice(&self) -> bool
-        ensures { result ≡ Lefts.wants_choice self.now.left }
+        requires { IsSafe self.now }
+        ensures { result ≡ Lefts.wants_choice (held self.now).left }
     {
-        match self.phase {
-            Phase::Goes => return self.rest.wants_choice(),
-            Phase::Ended | Phase::Faulted => return false,
+        if self.is_over {
+            return false;
         }
+        self.rest.wants_choice()
     }
 
     /// Does the next step: of an open PARALLEL DO with N iterations, the choice c picks the iteration c mod N or the first
@@ -104,15 +90,15 @@ impl<'a> Machine<'a> {
     ///
     /// Want of memory. Then the same is left, and the store is the same.
     pub fn step(&mut self, choice: u64) -> Result<Step, NoMemory>
-        requires { self.old.faulted ≡ false }
-        ensures does { IfOk result (λ r. IsStepBy (Steps.step (setting_of self.old.tree) self.old.left choice self.old.store) self.old r self.new) }
-        ensures kept { OnErr result (IsSameRun self.old self.new) }
-        ensures tree { self.new.tree ≡ self.old.tree }
-        ensures lighter { result ≡ Ok step.Went → left_weight self.new.left < left_weight self.old.left }
+        requires { IsSafe self.old }
+        ensures does { IfOk result (λ r. IsStepBy (Steps.step (setting_of (held self.old).tree) (held self.old).left choice (held self.old).store) (held self.old) r (held self.new)) }
+        ensures kept { OnErr result (IsSameRun (held self.old) (held self.new)) }
+        ensures safe { IfFaultless result (IsSafe self.new) }
+        ensures tree { (held self.new).tree ≡ (held self.old).tree }
+        ensures lighter { result ≡ Ok step.Went → left_weight (held self.new).left < left_weight (held self.old).left }
     {
-        match self.phase {
-            Phase::Goes => {}
-            Phase::Ended | Phase::Faulted => return Ok(Step::Ended),
+        if self.is_over {
+            return Ok(Step::Ended);
         }
         match self
             .rest
@@ -121,11 +107,11 @@ impl<'a> Machine<'a> {
             Ok(Done::Went) => return Ok(Step::Went),
             Ok(Done::Ended) => return Ok(Step::Ended),
             Ok(Done::Halted) => {
-                self.phase = Phase::Ended;
+                self.is_over = true;
                 return Ok(Step::Went);
             }
             Ok(Done::Fault { fault, statement }) => {
-                self.phase = Phase::Faulted;
+                self.is_over = true;
                 return Ok(Step::Fault { fault, statement });
             }
             Err(error) => return Err(error),
@@ -139,10 +125,11 @@ impl<'a> Machine<'a> {
     /// Want of memory. Then the run stands where steps with these choices have brought it, or with all of them and zeros
     /// behind them.
     pub fn run(&mut self, choices: &[u64]) -> Result<Outcome, NoMemory>
-        requires { self.old.faulted ≡ false }
-        ensures outcome { IfOk result (λ o. IsInterleavedFrom self.old.tree (standing self.old choices.now) (outcome_view o)) }
-        ensures reached { OnErr result (ReachesSome self.old choices.now self.new) }
-        ensures tree { self.new.tree ≡ self.old.tree }
+        requires { IsSafe self.old }
+        ensures outcome { IfOk result (λ o. IsInterleavedFrom (held self.old).tree (standing (held self.old) choices.now) (outcome_view o)) }
+        ensures reached { OnErr result (ReachesSome (held self.old) choices.now (held self.new)) }
+        ensures safe { OnErr result (IsSafe self.new) }
+        ensures tree { (held self.new).tree ≡ (held self.old).tree }
     {
         let mut left = choices;
         loop {
@@ -164,7 +151,7 @@ impl<'a> Machine<'a> {
 
 /// A program of which all is left.
 fn whole<'a>(alloc: Global, program: &'a Program) -> Result<Rest<'a, Outermost<'a>>, NoMemory>
-    ensures parts { IfOk result (λ r. r.parts ≡ record { stmts = stmt_trees program.now.body.items; first = 1; turn = None } ∷ []) }
+    ensures parts { IfOk result (λ r. parts_of r.parts ≡ record { stmts = stmt_trees program.now.body.items; first = 1; turn = None } ∷ []) }
     ensures inner { IfOk result (λ r. r.inner ≡ None) }
 {
     let mut parts = Parts::new(alloc);

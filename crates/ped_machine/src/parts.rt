@@ -1,17 +1,16 @@
 //! What an iteration has left outside of open PARALLEL DO loops.
 
-ghost use Rattle.std.specs.Prelude.{◌≡◌, ◌<◌, ◌+◌, ◌^◌, [], ◌∷◌, length, Some, None, MatchOption, OnOk, OnErr};
+ghost use Rattle.std.specs.Prelude.{◌≡◌, ◌<◌, ◌+◌, ◌^◌, [], ◌∷◌, length, true, is_none, Some, None, MatchOption, OnOk, OnErr};
 ghost use Rattle.ped_tree.specs.Views.{stmt_tree, stmt_trees};
 ghost use Rattle.ped_tree.specs.Numbering.{statements_count};
 ghost use Rattle.ped_eval.specs.Scopes.{Scope};
 ghost use Rattle.ped_interleavings.specs.Lefts.{is_finished};
-ghost use Rattle.ped_machine.specs.Parts.{part_view, turn_view, parts_left, advanced, counted, with_statements, with_next_turn, statements_behind, behind_first, begins_with_comment, first_turn, first_statements, first_number, first_count, is_comment, CanTurnOn, FirstGoesOn, IsFirstBlock, IsNext, IsSettled, IsSpent, IsWithoutComments};
+ghost use Rattle.ped_machine.specs.Parts.{part_view, turn_view, parts_of, parts_left, advanced, counted, with_statements, with_next_turn, statements_behind, behind_first, begins_with_comment, first_turn, first_statements, has_some, first_number, first_count, is_comment, CanTurnOn, FirstGoesOn, IsFirstBlock, IsNext, IsSettled, IsSpent, IsWithoutComments};
 
 use ped_base::NoMemory;
 use ped_eval::{Plan, count};
 use ped_tree::{Do, Stmt};
 use std::alloc::Global;
-use std::marker::Model;
 
 /// An iteration of a DO whose end is still to be done.
 #[derive(Drop)]
@@ -66,20 +65,10 @@ pub struct Parts<'a> {
     items: Vec<Part<'a>>,
 }
 
-impl<'a> Model for Parts<'a> {
-    ghost use Rattle.std.specs.Prelude.{List};
-    ghost use Rattle.ped_machine.specs.Parts as Spec;
-    ghost use Rattle.ped_machine.specs.Parts.{parts_view};
-
-    ghost Value = { List Spec.Part };
-
-    ghost view = { λ s. parts_view s.items.items };
-}
-
 impl<'a> Parts<'a> {
     /// Nothing is left.
     pub fn new(alloc: Global) -> Parts<'a>
-        ensures { result ≡ [] }
+        ensures { parts_of result ≡ [] }
     {
         Parts {
             items: Vec::new(alloc),
@@ -88,8 +77,8 @@ impl<'a> Parts<'a> {
 
     /// Puts a part before the others. After want of memory they are as they were.
     pub fn push(&mut self, part: Part<'a>) -> Result<(), NoMemory>
-        ensures ok { OnOk result (self.new ≡ part_view part ∷ self.old) }
-        ensures err { OnErr result (self.new ≡ self.old) }
+        ensures ok { OnOk result (parts_of self.new ≡ part_view part.entry ∷ (parts_of self.old)) }
+        ensures err { OnErr result (parts_of self.new ≡ parts_of self.old) }
     {
         self.items.push(part)?;
         Ok(())
@@ -97,14 +86,14 @@ impl<'a> Parts<'a> {
 
     /// Drops the first part.
     pub fn pop(&mut self)
-        ensures { self.new ≡ behind_first self.old }
+        ensures { parts_of self.new ≡ behind_first (parts_of self.old) }
     {
         self.items.pop();
     }
 
     /// The statements of the first part.
     fn block(&self) -> Option<Block<'a>>
-        ensures { MatchOption result (self.now ≡ []) (λ b. IsFirstBlock self.now b) }
+        ensures { MatchOption result ((parts_of self.now) ≡ []) (λ b. IsFirstBlock (parts_of self.now) b) }
     {
         match self.items.last() {
             None => return None,
@@ -117,7 +106,7 @@ impl<'a> Parts<'a> {
 
     /// Makes these the statements of the first part.
     pub fn set_block(&mut self, block: Block<'a>)
-        ensures { self.new ≡ with_statements (stmt_trees block.stmts.now) block.first self.old }
+        ensures { parts_of self.new ≡ with_statements (stmt_trees block.entry.stmts.now) block.entry.first (parts_of self.old) }
     {
         if let Some(part) = self.items.last_mut() {
             part.stmts = block.stmts;
@@ -127,7 +116,7 @@ impl<'a> Parts<'a> {
 
     /// The iteration that ends behind the first part.
     pub fn turn(&self) -> Option<&Turn<'a>>
-        ensures { MatchOption result (first_turn self.now ≡ None) (λ t. first_turn self.now ≡ Some (turn_view t.now)) }
+        ensures { MatchOption result (first_turn (parts_of self.now) ≡ None) (λ t. first_turn (parts_of self.now) ≡ Some (turn_view t.now)) }
     {
         match self.items.last() {
             None => return None,
@@ -138,10 +127,20 @@ impl<'a> Parts<'a> {
         }
     }
 
+    /// Whether no iteration ends behind the first part.
+    fn has_no_turn(&self) -> bool
+        ensures { result ≡ is_none (first_turn (parts_of self.now)) }
+    {
+        match self.turn() {
+            None => return true,
+            Some(_) => return false,
+        }
+    }
+
     /// Counts one iteration more before that which ends behind the first part.
     fn count_turn(&mut self)
-        requires { CanTurnOn (first_turn self.old) }
-        ensures { self.new ≡ counted self.old }
+        requires { CanTurnOn (first_turn (parts_of self.old)) }
+        ensures { parts_of self.new ≡ counted (parts_of self.old) }
     {
         if let Some(part) = self.items.last_mut() {
             if let Some(turn) = &mut part.turn {
@@ -152,8 +151,8 @@ impl<'a> Parts<'a> {
 
     /// Whether nothing is left.
     pub fn is_over(&mut self) -> bool
-        ensures over { (scope : Scope) → result ≡ is_finished (parts_left self.old scope) }
-        ensures settled { IsSettled self.old self.new }
+        ensures over { (scope : Scope) → result ≡ is_finished (parts_left (parts_of self.old) scope) }
+        ensures settled { IsSettled (parts_of self.old) (parts_of self.new) }
     {
         self.settle();
         self.block().is_none()
@@ -161,8 +160,8 @@ impl<'a> Parts<'a> {
 
     /// What is to be done next. Comments and parts of which nothing is left are passed over.
     pub fn next(&mut self) -> Next<'a>
-        ensures next { IsNext result self.new }
-        ensures settled { IsSettled self.old self.new }
+        ensures next { IsNext result (parts_of self.new) }
+        ensures settled { IsSettled (parts_of self.old) (parts_of self.new) }
     {
         self.settle();
         match self.block() {
@@ -179,8 +178,8 @@ impl<'a> Parts<'a> {
 
     /// Passes over comments and parts of which nothing is left.
     fn settle(&mut self)
-        ensures settled { IsSettled self.old self.new }
-        ensures goes { FirstGoesOn self.new }
+        ensures settled { IsSettled (parts_of self.old) (parts_of self.new) }
+        ensures goes { FirstGoesOn (parts_of self.new) }
     {
         while self.is_spent() {
             self.pop();
@@ -189,9 +188,9 @@ impl<'a> Parts<'a> {
 
     /// Passes over the comments before the first statement, and tells whether nothing is left of the first part.
     fn is_spent(&mut self) -> bool
-        ensures settled { IsSettled self.old self.new }
-        ensures spent { IsSpent result self.new }
-        ensures length { length self.new ≡ length self.old }
+        ensures settled { IsSettled (parts_of self.old) (parts_of self.new) }
+        ensures spent { IsSpent result (parts_of self.new) }
+        ensures length { length (parts_of self.new) ≡ length (parts_of self.old) }
     {
         match self.block() {
             None => return false,
@@ -201,16 +200,19 @@ impl<'a> Parts<'a> {
                     stmts,
                     first: block.first,
                 });
-                return stmts.is_empty() && self.turn().is_none();
+                if has_some(stmts) {
+                    return false;
+                }
+                return self.has_no_turn();
             }
         }
     }
 
     /// Passes over the first statement, and answers the statements as they were.
     pub fn advance(&mut self) -> Block<'a>
-        requires few { first_number self.old + statements_count (first_statements self.old) < 2 ^ 31 }
-        ensures advanced { self.new ≡ advanced self.old }
-        ensures block { with_statements (stmt_trees result.stmts.now) result.first self.old ≡ self.old }
+        requires few { first_number (parts_of self.old) + statements_count (first_statements (parts_of self.old)) < 2 ^ 31 }
+        ensures advanced { parts_of self.new ≡ advanced (parts_of self.old) }
+        ensures block { with_statements (stmt_trees result.stmts.now) result.first (parts_of self.old) ≡ (parts_of self.old) }
     {
         match self.block() {
             None => return Block {
@@ -226,8 +228,8 @@ impl<'a> Parts<'a> {
 
     /// Goes on with the next iteration of the DO, all whose body is left.
     pub fn turn_on(&mut self)
-        requires few { CanTurnOn (first_turn self.old) }
-        ensures { self.new ≡ with_next_turn self.old }
+        requires few { CanTurnOn (first_turn (parts_of self.old)) }
+        ensures { parts_of self.new ≡ with_next_turn (parts_of self.old) }
     {
         match self.turn() {
             None => {}
@@ -243,7 +245,7 @@ impl<'a> Parts<'a> {
     }
 }
 
-/// The statements behind the first one.
+/// The statements behind the first one, with their number.
 fn behind_statement<'a>(block: &Block<'a>) -> Block<'a>
     requires { block.now.first + statements_count (stmt_trees block.now.stmts.now) < 2 ^ 31 }
     ensures stmts { stmt_trees result.stmts.now ≡ statements_behind (stmt_trees block.now.stmts.now) }
@@ -264,9 +266,30 @@ pub fn without_comments(stmts: &[Stmt]) -> &[Stmt]
 {
     let mut left = stmts;
     while begins_with_comment(left) {
-        left = &left[1..];
+        left = behind_first_one(left);
     }
     left
+}
+
+/// The statements behind the first one.
+fn behind_first_one(stmts: &[Stmt]) -> &[Stmt]
+    ensures stmts { stmt_trees result.now ≡ statements_behind (stmt_trees stmts.now) }
+    ensures less { begins_with_comment (stmt_trees stmts.now) ≡ true → length result.now < length stmts.now }
+{
+    match stmts.split_first() {
+        Some((_, rest)) => return rest,
+        None => return stmts,
+    }
+}
+
+/// Whether there are any statements.
+fn has_some(stmts: &[Stmt]) -> bool
+    ensures { result ≡ has_some (stmt_trees stmts.now) }
+{
+    match stmts.first() {
+        Some(_) => return true,
+        None => return false,
+    }
 }
 
 /// Whether the first of these statements is a comment.

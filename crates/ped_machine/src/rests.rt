@@ -14,7 +14,7 @@ ghost use Rattle.ped_eval.specs.Readiness.{setting_by, CanDo, IsReady};
 ghost use Rattle.ped_interleavings.specs.Lefts.{Left, is_finished, wants_choice, entered_left};
 ghost use Rattle.ped_interleavings.specs.Steps as Steps;
 ghost use Rattle.ped_machine.specs.Doing.{IsDone, IfOpen, IfSafe, HasGrown, HasRoom};
-ghost use Rattle.ped_machine.specs.Parts.{CanGo, Begins, is_comment, is_loop, parts_left};
+ghost use Rattle.ped_machine.specs.Parts.{CanGo, Begins, is_comment, is_loop, parts_left, parts_of};
 ghost use Rattle.ped_machine.specs.Opens.{IsOpen, open_left};
 ghost use Rattle.ped_machine.specs.Rests.{rest_left, IsSound};
 ghost use Rattle.ped_machine.specs.declared.steps.Done.TheVariants as done;
@@ -140,7 +140,7 @@ impl<'a, C: Work<'a>> Rest<'a, C> {
         number: u32,
     ) -> Result<Done, NoMemory>
         requires none { self.old.inner ≡ None }
-        requires begins { Begins (stmt_tree stmt.now) number self.old.parts }
+        requires begins { Begins (stmt_tree stmt.now) number (parts_of self.old.parts) }
         requires ready { IsReady symbols.now state.old.scope (memory_of state.old.store) }
         requires sound { IsSound C.left C.sound state.old.scope self.old symbols.now (memory_of state.old.store).stands }
         ensures does { IfOk result (λ d. IsDone (Steps.step (setting_by symbols.now) (rest_left C.left state.old.scope self.old) 0 (memory_of state.old.store).cells)
@@ -174,9 +174,9 @@ impl<'a, C: Work<'a>> Rest<'a, C> {
         requires real { is_comment (stmt_tree stmt.now) ≡ false }
         requires ready { IsReady symbols.now state.old.scope (memory_of state.old.store) }
         requires sound { IsSound C.left C.sound state.old.scope self.old symbols.now (memory_of state.old.store).stands }
-        ensures does { IfOk result (λ d. IsDone (Steps.begun (setting_by symbols.now) (stmt_tree stmt.now) number state.old.scope (parts_left self.old.parts state.old.scope) (memory_of state.old.store).cells)
-            (parts_left self.old.parts state.old.scope) (memory_of state.old.store).cells d (rest_left C.left state.new.scope self.new) (memory_of state.new.store).cells) }
-        ensures kept { OnErr result ((state.new.scope ≡ state.old.scope) × (self.new ≡ self.old) × HasRoom (memory_of state.old.store) (memory_of state.new.store)) }
+        ensures does { IfOk result (λ d. IsDone (Steps.begun (setting_by symbols.now) (stmt_tree stmt.now) number state.old.scope (parts_left (parts_of self.old.parts) state.old.scope) (memory_of state.old.store).cells)
+            (parts_left (parts_of self.old.parts) state.old.scope) (memory_of state.old.store).cells d (rest_left C.left state.new.scope self.new) (memory_of state.new.store).cells) }
+        ensures kept { OnErr result ((state.new.scope ≡ state.old.scope) × (parts_of self.new.parts ≡ parts_of self.old.parts) × (self.new.inner ≡ self.old.inner) × HasRoom (memory_of state.old.store) (memory_of state.new.store)) }
         ensures sound { IfOpen result (IsSound C.left C.sound state.new.scope self.new symbols.now (memory_of state.new.store).stands) }
         ensures copies { IfOpen result (DoCopiesStand state.new.scope (memory_of state.new.store).stands) }
         ensures grown { IfSafe result (HasGrown (memory_of state.old.store) (memory_of state.new.store)) }
@@ -200,9 +200,9 @@ impl<'a, C: Work<'a>> Rest<'a, C> {
         requires can { CanDo symbols.now state.old.scope number (do_tree d.now) }
         requires ready { IsReady symbols.now state.old.scope (memory_of state.old.store) }
         requires sound { IsSound C.left C.sound state.old.scope self.old symbols.now (memory_of state.old.store).stands }
-        ensures does { IfOk result (λ d. IsDone (Steps.begun (setting_by symbols.now) (do_tree d.now) number state.old.scope (parts_left self.old.parts state.old.scope) (memory_of state.old.store).cells)
-            (parts_left self.old.parts state.old.scope) (memory_of state.old.store).cells d (rest_left C.left state.new.scope self.new) (memory_of state.new.store).cells) }
-        ensures kept { OnErr result ((state.new.scope ≡ state.old.scope) × (self.new ≡ self.old) × HasRoom (memory_of state.old.store) (memory_of state.new.store)) }
+        ensures does { IfOk result (λ d. IsDone (Steps.begun (setting_by symbols.now) (do_tree d.now) number state.old.scope (parts_left (parts_of self.old.parts) state.old.scope) (memory_of state.old.store).cells)
+            (parts_left (parts_of self.old.parts) state.old.scope) (memory_of state.old.store).cells d (rest_left C.left state.new.scope self.new) (memory_of state.new.store).cells) }
+        ensures kept { OnErr result ((state.new.scope ≡ state.old.scope) × (parts_of self.new.parts ≡ parts_of self.old.parts) × (self.new.inner ≡ self.old.inner) × HasRoom (memory_of state.old.store) (memory_of state.new.store)) }
         ensures sound { IfOpen result (IsSound C.left C.sound state.new.scope self.new symbols.now (memory_of state.new.store).stands) }
         ensures copies { IfOpen result (DoCopiesStand state.new.scope (memory_of state.new.store).stands) }
         ensures grown { IfSafe result (HasGrown (memory_of state.old.store) (memory_of state.new.store)) }
@@ -232,10 +232,10 @@ impl<'a, C: Work<'a>> Rest<'a, C> {
         requires plan { IsPlan (head_of d.now) (stmt_trees d.now.body.items) plan }
         requires can { (table : Table) × (CanDo table state.old.scope plan.number (do_tree d.now) × IsReady table state.old.scope (memory_of state.old.store)) }
         ensures done { IfOk result (λ d. d ≡ done.Went) }
-        ensures left { OnOk result (rest_left C.left state.new.scope self.new ≡ entered_left d.now.parallel plan.count (entered_by (head_of d.now) plan plan.behind) (stmt_trees d.now.body.items) plan.number state.old.scope (parts_left self.old.parts state.old.scope)) }
+        ensures left { OnOk result (rest_left C.left state.new.scope self.new ≡ entered_left d.now.parallel plan.count (entered_by (head_of d.now) plan plan.behind) (stmt_trees d.now.body.items) plan.number state.old.scope (parts_left (parts_of self.old.parts) state.old.scope)) }
         ensures store { OnOk result ((memory_of state.new.store).cells ≡ store_behind (exit_when_none plan.count (entered_by (head_of d.now) plan plan.behind) state.old.scope) (memory_of state.old.store).cells) }
-        ensures kept { OnErr result ((state.new.scope ≡ state.old.scope) × (self.new ≡ self.old) × HasRoom (memory_of state.old.store) (memory_of state.new.store)) }
-        ensures sound { OnOk result ((table : Table) → CanDo table state.old.scope plan.number (do_tree d.now) → CanGo table self.old.parts state.old.scope → IsSound C.left C.sound state.new.scope self.new table (memory_of state.new.store).stands) }
+        ensures kept { OnErr result ((state.new.scope ≡ state.old.scope) × (parts_of self.new.parts ≡ parts_of self.old.parts) × (self.new.inner ≡ self.old.inner) × HasRoom (memory_of state.old.store) (memory_of state.new.store)) }
+        ensures sound { OnOk result ((table : Table) → CanDo table state.old.scope plan.number (do_tree d.now) → CanGo table (parts_of self.old.parts) state.old.scope → IsSound C.left C.sound state.new.scope self.new table (memory_of state.new.store).stands) }
         ensures copies { OnOk result (DoCopiesStand state.old.scope (memory_of state.old.store).stands → DoCopiesStand state.new.scope (memory_of state.new.store).stands) }
         ensures grown { OnOk result (HasGrown (memory_of state.old.store) (memory_of state.new.store)) }
     {

@@ -15,7 +15,7 @@ ghost use Rattle.ped_eval.specs.Readiness.{CanDo, IsReady};
 ghost use Rattle.ped_interleavings.specs.Lefts.{turns_left};
 ghost use Rattle.ped_interleavings.specs.Steps as Steps;
 ghost use Rattle.ped_machine.specs.Doing.{IsDone, IfOpen, IfSafe, HasGrown, HasRoom};
-ghost use Rattle.ped_machine.specs.Parts.{CanGo, Ends, first_turn_part, parts_left};
+ghost use Rattle.ped_machine.specs.Parts.{CanGo, Ends, first_turn_part, parts_left, parts_of};
 ghost use Rattle.ped_machine.specs.declared.steps.Done.TheVariants as done;
 
 use crate::parts::{Part, Parts, Turn};
@@ -86,11 +86,11 @@ pub(crate) fn enter_do<'a>(
     requires few { length state.old.scope < 6 }
     requires number { plan.number + 1 < 2 ^ 32 }
     ensures done { IfOk result (λ d. d ≡ done.Went) }
-    ensures left { OnOk result (parts_left parts.new state.new.scope ≡ turns_left plan.count 1 (entered_by (head_of d.now) plan plan.behind) (stmt_trees d.now.body.items) plan.number state.old.scope (parts_left parts.old state.old.scope)) }
-    ensures go { OnOk result ((table : Table) → CanDo table state.old.scope plan.number (do_tree d.now) → CanGo table parts.old state.old.scope → CanGo table parts.new state.new.scope) }
+    ensures left { OnOk result (parts_left (parts_of parts.new) state.new.scope ≡ turns_left plan.count 1 (entered_by (head_of d.now) plan plan.behind) (stmt_trees d.now.body.items) plan.number state.old.scope (parts_left (parts_of parts.old) state.old.scope)) }
+    ensures go { OnOk result ((table : Table) → CanDo table state.old.scope plan.number (do_tree d.now) → CanGo table (parts_of parts.old) state.old.scope → CanGo table (parts_of parts.new) state.new.scope) }
     ensures copies { OnOk result (DoCopiesStand state.old.scope (memory_of state.old.store).stands → DoCopiesStand state.new.scope (memory_of state.new.store).stands) }
     ensures room { HasRoom (memory_of state.old.store) (memory_of state.new.store) }
-    ensures kept { OnErr result ((state.new.scope ≡ state.old.scope) × (parts.new ≡ parts.old)) }
+    ensures kept { OnErr result ((state.new.scope ≡ state.old.scope) × ((parts_of parts.new) ≡ (parts_of parts.old))) }
 {
     let frame = frame_of(alloc, d, &plan, 0)?;
     state.scope.enter(frame)?;
@@ -113,8 +113,8 @@ fn open_body<'a>(
 ) -> Result<(), NoMemory>
     requires copies { list_all (λ x. is_copy (cell_of state.old.scope x)) plan.copied ≡ true }
     requires number { plan.number + 1 < 2 ^ 32 }
-    ensures parts { OnOk result (parts.new ≡ first_turn_part (head_of d.now) (stmt_trees d.now.body.items) plan ∷ parts.old) }
-    ensures kept { OnErr result (parts.new ≡ parts.old) }
+    ensures parts { OnOk result ((parts_of parts.new) ≡ first_turn_part (head_of d.now) (stmt_trees d.now.body.items) plan ∷ (parts_of parts.old)) }
+    ensures kept { OnErr result ((parts_of parts.new) ≡ (parts_of parts.old)) }
     ensures room { HasRoom (memory_of state.old.store) (memory_of state.new.store) }
     ensures stand { OnOk result (list_all (λ x. (memory_of state.new.store).stands (cell_of state.old.scope x)) plan.copied ≡ true) }
     ensures scope { state.new.scope ≡ state.old.scope }
@@ -143,12 +143,12 @@ pub(crate) fn end_turn(
     state: &mut State,
     parts: &mut Parts,
 ) -> Result<Done, NoMemory>
-    requires ends { Ends parts.old }
-    requires can { (table : Table) × (CanGo table parts.old state.old.scope × IsReady table state.old.scope (memory_of state.old.store)) }
-    ensures does { IfOk result (λ d. (p : Setting) (c : ℕ) → IsDone (Steps.step p (parts_left parts.old state.old.scope) c (memory_of state.old.store).cells)
-        (parts_left parts.old state.old.scope) (memory_of state.old.store).cells d (parts_left parts.new state.new.scope) (memory_of state.new.store).cells) }
-    ensures kept { OnErr result ((state.new.scope ≡ state.old.scope) × (parts.new ≡ parts.old) × HasRoom (memory_of state.old.store) (memory_of state.new.store)) }
-    ensures go { IfOpen result ((table : Table) → CanGo table parts.old state.old.scope → CanGo table parts.new state.new.scope) }
+    requires ends { Ends (parts_of parts.old) }
+    requires can { (table : Table) × (CanGo table (parts_of parts.old) state.old.scope × IsReady table state.old.scope (memory_of state.old.store)) }
+    ensures does { IfOk result (λ d. (p : Setting) (c : ℕ) → IsDone (Steps.step p (parts_left (parts_of parts.old) state.old.scope) c (memory_of state.old.store).cells)
+        (parts_left (parts_of parts.old) state.old.scope) (memory_of state.old.store).cells d (parts_left (parts_of parts.new) state.new.scope) (memory_of state.new.store).cells) }
+    ensures kept { OnErr result ((state.new.scope ≡ state.old.scope) × ((parts_of parts.new) ≡ (parts_of parts.old)) × HasRoom (memory_of state.old.store) (memory_of state.new.store)) }
+    ensures go { IfOpen result ((table : Table) → CanGo table (parts_of parts.old) state.old.scope → CanGo table (parts_of parts.new) state.new.scope) }
     ensures copies { IfOpen result (DoCopiesStand state.old.scope (memory_of state.old.store).stands → DoCopiesStand state.new.scope (memory_of state.new.store).stands) }
     ensures grown { IfSafe result (HasGrown (memory_of state.old.store) (memory_of state.new.store)) }
 {

@@ -5,4 +5,5 @@ mod OpenSteps
 mod Opening
 mod PartsLeft
 mod Reaching
+mod Starting
 mod Turning

@@ -59,17 +59,17 @@ is_nothing (ends_turn e body n scope k more rest) h = absurd cc
 is_nothing (open_loop e n scope ls rest) h = absurd cc
 
 module _ {C : Type 0} (left : C → Left) (sound : C → Table → (Cell → Bool) → Type 0) (scope : Scope) where
-  abbrev body_of : Open C → StmtTrees
+  abbrev pub body_of : Open C → StmtTrees
   body_of o = stmt_trees o.d.now.body.items
 
-  abbrev whole_of : Open C → ℕ → Left
+  abbrev pub whole_of : Open C → ℕ → Left
   whole_of o j = body_left (open_entered o) (body_of o) o.plan.number scope (j + 1) finished
 
   -- what an iteration has left by its mark
   pub left_by : (o : Open C) (j : ℕ) (mark : Mark) → at o.marks j ≡ mark → place_left left scope o j ≡ mark_left left o.tasks mark (whole_of o j)
   left_by o j mark h = ap (λ m. mark_left left o.tasks m (whole_of o j)) h
 
-  waits_finished : (o : Open C) (j : ℕ) → at o.marks j ≡ Waits → is_finished (place_left left scope o j) ≡ is_bare (body_of o)
+  pub waits_finished : (o : Open C) (j : ℕ) → at o.marks j ≡ Waits → is_finished (place_left left scope o j) ≡ is_bare (body_of o)
   waits_finished o j h = ap is_finished (left_by o j Waits h) ∙ bare_there (body_of o) (o.plan.number + 1) 0 _ []
 
   module _ (table : Table) (stands : Cell → Bool) (o : Open C) (h : IsOpen left sound table stands scope o) where
@@ -121,7 +121,7 @@ module _ {C : Type 0} (left : C → Left) (sound : C → Table → (Cell → Boo
         (λ k a c. done_finished b k (omega (arith, c, less)) ∙ ap is_done (f.3 k a c)))
 
   -- the same loop has the same whole
-  same_whole : (o p : Open C) (j : ℕ) → IsSameLoop o p → whole_of p j ≡ whole_of o j
+  pub same_whole : (o p : Open C) (j : ℕ) → IsSameLoop o p → whole_of p j ≡ whole_of o j
   same_whole o p j h = λ i. body_left (record {
     number = (h.plan i).number;
     head = head_of (h.d i).now;
@@ -132,7 +132,7 @@ module _ {C : Type 0} (left : C → Left) (sound : C → Table → (Cell → Boo
     inner = (h.plan i).inner;
   }) (stmt_trees (h.d i).now.body.items) (h.plan i).number scope (j + 1) finished
 
-  abbrev Grows : Type 0
+  abbrev pub Grows : Type 0
   Grows = (w : C) (table : Table) (stands more : Cell → Bool) → More stands more → sound w table stands → sound w table more
 
   itself : (n : ℕ) → (n == n) ≡ true

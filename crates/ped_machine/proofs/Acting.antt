@@ -33,7 +33,7 @@ same_itself : (scope : Scope) (u : Store) → IsSame scope u u
 same_itself [] u = λ c h. refl
 same_itself (f ∷ fs) u = (λ x h. refl, same_itself fs u)
 
-same_kept : (p : Setting) (scope : Scope) → IsKeptByWrites p scope Same
+pub same_kept : (p : Setting) (scope : Scope) → IsKeptByWrites p scope Same
 same_kept p scope = record {
   same = λ u s h. subst (λ (z : Store). IsSame scope u z) h (same_itself scope u);
   variable = λ c v u s is h. ap (put c v) h;

@@ -1,4 +1,5 @@
 mod Acting
+mod Answering
 mod Growing
 mod OpenLefts
 mod OpenSteps

@@ -67,14 +67,14 @@ module _ {C : Type 0} (left : C → Left) (sound : C → Table → (Cell → Boo
         started_open more grows grown safe unfinished =
             marked_open left sound scope (Some task) (Running key) place key old new h (free_apart left sound scope table stands old place key o free) table stands more grows grown o
             (λ k e. (
-                (let q : key ≡ k = cc in sym q),
-                record {
-                  task = task;
-                  kept = h.tasks.changed;
-                  unfinished = ap is_finished (whole ∙ sym (left_by left sound scope old place Waits waits)) ∙ unfinished;
-                  safe = safe;
-                },
-                sym (waits_finished left sound scope old place waits) ∙ unfinished,
+              (let q : key ≡ k = cc in sym q),
+              record {
+                task = task;
+                kept = h.tasks.changed;
+                unfinished = ap is_finished (whole ∙ sym (left_by left sound scope old place Waits waits)) ∙ unfinished;
+                safe = safe;
+              },
+              sym (waits_finished left sound scope old place waits) ∙ unfinished,
             ))
 
     module _ {E : Type 0} (r : Result ℕ E) (free : IfOk r (λ key. get old.tasks key ≡ None)) (marked : IfOk r (λ key. HasMarked (Some task) (Running key) place key old new))

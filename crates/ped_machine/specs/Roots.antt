@@ -1,7 +1,8 @@
 -- What is left of a whole run, by the levels of a machine: DO loops stand at most six deep in one another (this project).
-use Rattle.std.specs.Prelude.{◌≡◌, [], Bool, true, false}
+use Rattle.std.specs.Prelude.{◌≡◌, Bool, true, false}
 use Rattle.ped_symbols.specs.Kinds.{Table}
 use Rattle.ped_store.specs.Memories.{Memory}
+use Rattle.ped_eval.specs.Scopes.{Scope}
 use Rattle.ped_eval.specs.Readiness.{setting_by, IsReady}
 use Rattle.ped_interleavings.specs.Lefts.{Left, finished}
 use Rattle.ped_machine.specs.Rests.{rest_left, IsSound}
@@ -58,27 +59,26 @@ IsSound5 = IsSoundLevel left_4 IsSound4
 abbrev pub IsOutermostSound : Outermost → Table → (Cell → Bool) → Type 0
 IsOutermostSound = IsSoundLevel left_5 IsSound5
 
--- all that is left of the whole run can be done
-pub record IsRootSound (r : Rest Outermost) (table : Table) (m : Memory) : Type 0 where
-  pub ready : IsReady table [] m
-  pub sound : IsSound outermost_left IsOutermostSound [] r table m.stands
+-- all that is left of the whole run can be done, with these iterations round it
+pub record IsRootSound (scope : Scope) (r : Rest Outermost) (table : Table) (m : Memory) : Type 0 where
+  pub ready : IsReady table scope m
+  pub sound : IsSound outermost_left IsOutermostSound scope r table m.stands
 
 -- what is left of a run, which a STOP or a fault may have ended
-abbrev pub root_left : Bool → Rest Outermost → Left
-root_left false r = rest_left outermost_left [] r
-root_left true r = finished
+abbrev pub root_left : Bool → Scope → Rest Outermost → Left
+root_left false scope r = rest_left outermost_left scope r
+root_left true scope r = finished
 
 -- what is kept of it is right: while it goes on all that is left can be done, and behind its end arrays have their bounds still
-abbrev pub IsRight : Bool → Rest Outermost → Table → Memory → Type 0
-IsRight false r table m = IsRootSound r table m
-IsRight true r table m = m.bounds ≡ (setting_by table).bounds
+abbrev pub IsRight : Bool → Scope → Rest Outermost → Table → Memory → Type 0
+IsRight false scope r table m = IsRootSound scope r table m
+IsRight true scope r table m = m.bounds ≡ (setting_by table).bounds
 
 -- the run that a machine stands for
 abbrev pub held : Machine → Held
-held m = record { tree = program_tree m.program.now; left = root_left m.is_over m.rest; store = (memory_of m.state.store).cells }
+held m = record { tree = program_tree m.program.now; left = root_left m.is_over m.state.scope m.rest; store = (memory_of m.state.store).cells }
 
 -- a machine whose calls so far have met no fault
 pub record IsSafe (m : Machine) : Type 0 where
   pub table : m.symbols.now ≡ table_of (program_tree m.program.now)
-  pub scope : m.state.scope ≡ []
-  pub right : IsRight m.is_over m.rest m.symbols.now (memory_of m.state.store)
+  pub right : IsRight m.is_over m.state.scope m.rest m.symbols.now (memory_of m.state.store)

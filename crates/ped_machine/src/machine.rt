@@ -22,7 +22,9 @@ use crate::steps::{Done, Step};
 use crate::works::Never;
 use ped_base::NoMemory;
 use ped_eval::{Outcome, State, ended, start};
+use ped_interleavings::lighter;
 use ped_symbols::Symbols;
+use ped_symbols::right_uses::right_where_valid;
 use ped_tree::Program;
 use std::alloc::Global;
 
@@ -60,6 +62,7 @@ impl<'a> Machine<'a> {
         ensures tree { IfOk result (λ m. (held m).tree ≡ program_tree program.now) }
         ensures stands { IfOk result (λ m. (choices : List ℕ) → standing (held m) choices ≡ at_start (program_tree program.now) input.now choices) }
     {
+        right_where_valid();
         let rest = whole(alloc, program)?;
         let state = start(alloc, symbols, input)?;
         Ok(Machine {

@@ -1,5 +1,6 @@
 mod Acting
 mod Answering
+mod Copying
 mod Growing
 mod OpenLefts
 mod OpenSteps

@@ -8,4 +8,5 @@ mod Opening
 mod PartsLeft
 mod Reaching
 mod Starting
+mod Stepped
 mod Turning

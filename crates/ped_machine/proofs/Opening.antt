@@ -52,7 +52,7 @@ real_without body new t ts h e =
     ap is_finished (sym (h.left 0 [] finished)) ∙ ap (λ (us : StmtTrees). is_finished (left_of_all us 0 [] finished)) e
     ∙ first_real t ts (sym (ap begins_with_comment e) ∙ h.begins)
 
-is_nothing : (l : Left) → is_finished l ≡ true → l ≡ finished
+pub is_nothing : (l : Left) → is_finished l ≡ true → l ≡ finished
 is_nothing finished h = refl
 is_nothing (begins t n scope rest) h = absurd cc
 is_nothing (ends_turn e body n scope k more rest) h = absurd cc

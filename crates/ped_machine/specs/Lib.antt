@@ -9,3 +9,4 @@ pub mod Levels
 pub mod Opens
 pub mod Rests
 pub mod Roots
+pub mod Stepping

@@ -1,9 +1,9 @@
 //! Open PARALLEL DO loops: what each of their iterations has left.
 
-ghost use Rattle.std.specs.Prelude.{◌≡◌, ◌≢◌, ◌<◌, ℕ, length, Bool, false, Some, None, IfOk, OnErr};
+ghost use Rattle.std.specs.Prelude.{◌≡◌, ◌≢◌, ◌<◌, ℕ, length, Bool, false, [], Some, None, IsSome, IfOk, OnErr};
 ghost use Rattle.slab.specs.Slab.{get, SameValues};
 ghost use Rattle.ped_marks.specs.Marks.{at};
-ghost use Rattle.ped_marks.specs.declared.marks.Mark.TheVariants.{Waits, Running};
+ghost use Rattle.ped_marks.specs.declared.marks.Mark.TheVariants.{Waits, Running, Done};
 ghost use Rattle.ped_symbols.specs.Kinds.{Table};
 ghost use Rattle.ped_store.specs.Cells.{Cell};
 ghost use Rattle.ped_store.specs.Keeping.{memory_of};
@@ -12,7 +12,8 @@ ghost use Rattle.ped_eval.specs.Readiness.{setting_by, IsReady};
 ghost use Rattle.ped_interleavings.specs.Lefts.{is_finished, unfinished, or_else};
 ghost use Rattle.ped_interleavings.specs.Steps as Steps;
 ghost use Rattle.ped_machine.specs.Doing.{IsDone, IfOpen, IfSafe, HasGrown, HasRoom};
-ghost use Rattle.ped_machine.specs.Opens.{HasMarked, IsOpen, IsSameLoop, IsSameElsewhere, lefts_of, place_left};
+ghost use Rattle.ped_machine.specs.Stepping.{HasSettled, HasStepped, IsLookedAt};
+ghost use Rattle.ped_machine.specs.Opens.{HasMarked, IsOpen, IsRunning, IsSameLoop, IsSameElsewhere, lefts_of, place_left};
 
 use crate::parts::without_comments;
 use crate::steps::Done;
@@ -147,18 +148,69 @@ impl<'a, C: Work<'a>> Open<'a, C> {
         ensures grown { IfSafe result (HasGrown (memory_of state.old.store) (memory_of state.new.store)) }
         ensures scope { state.new.scope ≡ state.old.scope }
     {
+        match self.step_task(alloc, symbols, state, key, choice) {
+            Ok(done) => {
+                self.finish_over(place, key);
+                return Ok(done);
+            }
+            Err(error) => return Err(error),
+        }
+    }
+
+    /// Does a step of the iteration with this key.
+    fn step_task(
+        &mut self,
+        alloc: Global,
+        symbols: &Symbols,
+        state: &mut State,
+        key: usize,
+        choice: u64,
+    ) -> Result<Done, NoMemory>
+        requires ready { IsReady symbols.now [] (memory_of state.old.store) }
+        requires running { IsRunning C.left C.sound symbols.now (memory_of state.old.store).stands self.old.tasks key }
+        ensures same { IsSameLoop self.old self.new × (self.new.marks ≡ self.old.marks) }
+        ensures stepped { HasStepped C.left C.sound symbols.now key choice self.old.tasks self.new.tasks (memory_of state.old.store) (memory_of state.new.store) result }
+        ensures grown { IfSafe result (HasGrown (memory_of state.old.store) (memory_of state.new.store)) }
+        ensures scope { state.new.scope ≡ state.old.scope }
+    {
         match self.tasks.get_mut(key) {
             None => return Ok(Done::Ended),
-            Some(task) => match task.step(alloc, symbols, state, choice) {
-                Ok(done) => {
-                    if task.is_over() {
-                        self.tasks.try_remove(key);
-                        self.marks.finish(place);
-                    }
-                    return Ok(done);
-                }
-                Err(error) => return Err(error),
-            },
+            Some(task) => return task.step(alloc, symbols, state, choice),
+        }
+    }
+
+    /// Drops the iteration with this key, at this place, where nothing is left of it, and marks it as finished.
+    fn finish_over(&mut self, place: u64, key: usize)
+        requires place { place < length self.old.marks }
+        requires running { at self.old.marks place ≡ Running key }
+        requires kept { IsSome (get self.old.tasks key) }
+        ensures { HasSettled C.left C.sound place key self.old self.new }
+    {
+        if self.is_task_over(key) {
+            self.drop_task(place, key);
+            return;
+        }
+    }
+
+    /// Drops the iteration with this key, at this place, and marks it as finished.
+    fn drop_task(&mut self, place: u64, key: usize)
+        requires place { place < length self.old.marks }
+        requires running { at self.old.marks place ≡ Running key }
+        ensures { HasMarked None Done place key self.old self.new }
+    {
+        self.tasks.try_remove(key);
+        self.marks.finish(place);
+    }
+
+    /// Whether nothing is left of the iteration with this key.
+    fn is_task_over(&mut self, key: usize) -> bool
+        requires kept { IsSome (get self.old.tasks key) }
+        ensures same { IsSameLoop self.old self.new × (self.new.marks ≡ self.old.marks) }
+        ensures over { IsLookedAt C.left C.sound key self.old.tasks self.new.tasks result }
+    {
+        match self.tasks.get_mut(key) {
+            None => return false,
+            Some(task) => return task.is_over(),
         }
     }
 }

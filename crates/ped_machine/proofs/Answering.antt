@@ -19,6 +19,7 @@ use Rattle.ped_interleavings.specs.Weights.{left_weight, lefts_weight, stmt_weig
 use Rattle.ped_machine.specs.Doing.{IsDone}
 use Rattle.ped_machine.specs.Machines.{Held, IsSameRun, IsBehind, IsStepBy}
 use Rattle.ped_machine.specs.declared.steps.Step.TheVariants as answer
+use Rattle.ped_machine.specs.declared.steps.Done as doing
 use Rattle.ped_machine.specs.declared.steps.Done.TheVariants as done
 
 -- the setting of a table is that of its program
@@ -92,3 +93,9 @@ went_lighter p old new c law h = by (step p old.left c old.store) refl h
 pub ended_outcome : (t : ProgramTree) (table : Table) (m : Memory) → table ≡ table_of t → m.bounds ≡ (setting_by table).bounds
     → Outcomes.Ended (lines_in (m.cells Out)) (rows_in m (live_names t)) ≡ outcome_of t (going m.cells)
 ended_outcome t table m h b = ended_by_stop t m (stopped m.cells) (b ∙ ap (λ (x : Table). (setting_by x).bounds) h) (λ c k. refl)
+
+-- a step of what is left is one of the program
+pub told : (t : ProgramTree) (table : Table) (c : ℕ) (s u : Store) (d : doing.Done) (before after l : Left) → table ≡ table_of t → before ≡ after → IsDone (step (setting_by table) after c s) after s d l u → IsDone (step (setting_of t) before c s) before s d l u
+told t table c s u d before after l h e k =
+    subst (λ (q : Setting). IsDone (step q before c s) before s d l u) (setting_is t table h)
+    (subst (λ (x : Left). IsDone (step (setting_by table) x c s) x s d l u) (sym e) k)

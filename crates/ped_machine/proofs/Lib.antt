@@ -8,5 +8,6 @@ mod Opening
 mod PartsLeft
 mod Reaching
 mod Starting
+mod Resting
 mod Stepped
 mod Turning

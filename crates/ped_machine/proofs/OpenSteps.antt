@@ -1,5 +1,5 @@
 -- Steps of open loops.
-use Rattle.std.proofs.Common.{◌≡◌, ◌≢◌, ◌<◌, ℕ, ◌/◌, ◌%◌, Option, Some, None, eqb, refl, sym, ap, subst, ◌∙◌}
+use Rattle.std.proofs.Common.{◌≡◌, ◌≢◌, ◌<◌, ℕ, suc, ◌+◌, ◌-◌, ◌/◌, ◌%◌, Bool, true, Option, Some, None, eqb, refl, sym, ap, subst, ◌∙◌, arith}
 use Rattle.std.specs.Prelude.{◌==◌}
 use Rattle.ped_store.specs.Stores.{Store}
 use Rattle.ped_store.specs.Acts.{store_behind, closed}
@@ -9,7 +9,7 @@ use Rattle.ped_eval.specs.Scopes.{Setting, Scope, place_of}
 use Rattle.ped_eval.specs.Loops.{Entered, exit_touches}
 use Rattle.ped_eval.specs.Plans.{entered_by}
 use Rattle.ped_eval.specs.Turns.{exited}
-use Rattle.ped_interleavings.specs.Lefts.{Left, open_loop, unfinished, or_else, with_left}
+use Rattle.ped_interleavings.specs.Lefts.{Left, finished, open_loop, lefts_by, body_left, entered_left, unfinished, or_else, with_left}
 use Rattle.ped_interleavings.specs.Steps.{Next, over, met, went, halted, act_of, inside, step}
 use Rattle.ped_machine.specs.declared.opens.Open.{Open}
 use Rattle.ped_machine.specs.declared.steps.Done.{Done}
@@ -17,7 +17,12 @@ use Rattle.ped_machine.specs.declared.steps.Done.TheVariants as done
 use Rattle.ped_machine.specs.Doing.{IsDone, IfGoing}
 use Rattle.ped_machine.specs.Opens.{lefts_of, open_entered, place_left, open_left, IsSameLoop, IsSameElsewhere}
 use Rattle.ped_machine.proofs.Growing.{exit_cells}
-use Rattle.ped_machine.proofs.OpenLefts.{with_of, same_of, picks, closes}
+use Rattle.ped_machine.proofs.OpenLefts.{with_of, same_of, by_numbers, picks, closes}
+use Rattle.ped_machine.proofs.Opening.{left_by}
+use Rattle.ped_marks.specs.Marks.{at}
+use Rattle.ped_marks.specs.declared.marks.Mark.TheVariants.{Waits}
+use Rattle.ped_symbols.specs.Kinds.{Table}
+use Rattle.ped_store.specs.Cells.{Cell}
 
 -- the step of an iteration is one of the loop
 pub inside_done : (x : Next) (d : Done) (whole : Left → Left) (old new before behind : Left) (s u : Store) → before ≡ whole old → IfGoing d (behind ≡ whole new) → IsDone x old s d new u → IsDone (inside x whole) before s d behind u
@@ -98,3 +103,14 @@ module _ {C : Type 0} (left : C → Left) (scope : Scope) (old new : Open C) (re
       subst (λ (x : Next). IsDone x (open_left left scope old rest) m.cells done.Went rest after.cells)
       (sym (closes p (open_entered old) old.plan.number old.plan.count scope (place_left left scope old) rest c m.cells (sym none)))
       (refl, (λ i. (is i).cells) ∙ exit_cells (open_entered old) scope m)
+
+-- a loop that has just been opened
+pub opened_is : {C : Type 0} (left : C → Left) (sound : C → Table → (Cell → Bool) → Type 0) (scope : Scope) (o : Open C) (rest : Left) → 0 < o.plan.count → ((k : ℕ) → at o.marks k ≡ Waits)
+    → open_left left scope o rest ≡ entered_left true o.plan.count (open_entered o) (stmt_trees o.d.now.body.items) o.plan.number scope rest
+opened_is left sound scope o rest some waits =
+    let body = stmt_trees o.d.now.body.items in
+    let item : ℕ → Left = λ k. body_left (open_entered o) body o.plan.number scope k finished in
+    let count : o.plan.count ≡ suc (o.plan.count - 1) = omega (arith, some) in
+    ap (λ ls. open_loop (open_entered o) o.plan.number scope ls rest)
+    (same_of o.plan.count (place_left left scope o) (λ j. item (j + 1)) (λ j less. left_by left sound scope o j Waits (waits j)) ∙ sym (by_numbers o.plan.count item) ∙ ap (λ (k : ℕ). lefts_by k 1 item) count)
+    ∙ sym (ap (λ (k : ℕ). entered_left true k (open_entered o) body o.plan.number scope rest) count)

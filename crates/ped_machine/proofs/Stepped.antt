@@ -72,7 +72,7 @@ module _ {C : Type 0} (left : C → Left) (sound : C → Table → (Cell → Boo
         marked_open left sound scope (Some last) (Running key) place key old new h (running_apart left sound scope table stands old place key o there running) table stands more grows grown o
         (λ k e. let w : k ≡ key = cc in (w, record { task = last; kept = h.tasks.changed; unfinished = ap is_finished s ∙ f; safe = safe }, o.real place key there running))
 
-some_is : {A : Type 0} (x y : A) → ◌≡◌ {A = Option A} (Some x) (Some y) → x ≡ y
+pub some_is : {A : Type 0} (x y : A) → ◌≡◌ {A = Option A} (Some x) (Some y) → x ≡ y
 some_is x y h = cc
 
 settled_whole : {C : Type 0} (left : C → Left) (sound : C → Table → (Cell → Bool) → Type 0) (over : Bool) (t b : C) (task : Option C) (place key : ℕ) (old mid new : Open C) → IsSameLoop old mid → mid.marks ≡ old.marks → Updates old.tasks mid.tasks key task

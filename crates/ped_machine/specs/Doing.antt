@@ -53,4 +53,4 @@ pub record HasRoom (old new : Memory) : Type 0 where
 
 -- the statement with number n has been begun so, where what is behind it is left
 abbrev pub IsActed : Table → Scope → ℕ → StmtTree → Memory → Done → Memory → Type 0
-IsActed table scope n t old d new = (rest : Left) → IsDone (begun (setting_by table) t n scope rest old.cells) rest old.cells d rest new.cells
+IsActed table scope n t old d new = (left rest : Left) → IsDone (begun (setting_by table) t n scope rest old.cells) left old.cells d rest new.cells

@@ -7,6 +7,7 @@ ghost use Rattle.ped_store.specs.Keeping.{memory_of};
 ghost use Rattle.ped_eval.specs.ScopeViews.{names_at};
 ghost use Rattle.ped_eval.specs.Values.{truth};
 ghost use Rattle.ped_eval.specs.Readiness.{setting_by, IsReady, CanDo};
+ghost use Rattle.ped_interleavings.specs.Lefts.{Left};
 ghost use Rattle.ped_interleavings.specs.Steps.{begun};
 ghost use Rattle.ped_machine.specs.Doing.{IsActed, IsDone, IfGoing, IfOpen, IfSafe, HasGrown, HasRoom};
 ghost use Rattle.ped_machine.specs.declared.steps.Done.TheVariants as done;
@@ -37,8 +38,8 @@ pub(crate) fn begin<'a>(
     requires real { is_comment (stmt_tree stmt.now) ≡ false }
     requires ready { IsReady symbols.now state.old.scope (memory_of state.old.store) }
     requires go { CanGo symbols.now (parts_of parts.old) state.old.scope }
-    ensures does { IfOk result (λ d. IsDone (begun (setting_by symbols.now) (stmt_tree stmt.now) number state.old.scope (parts_left (parts_of parts.old) state.old.scope) (memory_of state.old.store).cells)
-        (parts_left (parts_of parts.old) state.old.scope) (memory_of state.old.store).cells d (parts_left (parts_of parts.new) state.old.scope) (memory_of state.new.store).cells) }
+    ensures does { IfOk result (λ d. (l : Left) → IsDone (begun (setting_by symbols.now) (stmt_tree stmt.now) number state.old.scope (parts_left (parts_of parts.old) state.old.scope) (memory_of state.old.store).cells)
+        l (memory_of state.old.store).cells d (parts_left (parts_of parts.new) state.old.scope) (memory_of state.new.store).cells) }
     ensures kept { OnErr result (((parts_of parts.new) ≡ (parts_of parts.old)) × HasRoom (memory_of state.old.store) (memory_of state.new.store)) }
     ensures go { IfOpen result (CanGo symbols.now (parts_of parts.new) state.old.scope) }
     ensures grown { IfSafe result (HasGrown (memory_of state.old.store) (memory_of state.new.store)) }

@@ -32,7 +32,7 @@ use std::alloc::Global;
 type Outermost<'a> = Level<'a, Level<'a, Level<'a, Level<'a, Level<'a, Level<'a, Never>>>>>>;
 
 /// A run of a program whose PARALLEL DO loops go on in any order, as choices pick it. Contracts see the program, what is left
-/// of the run, and its store.
+/// of the run, and its store. Iterations that wait or are finished take no memory, but private copies stay until the run ends.
 #[derive(Drop)]
 pub struct Machine<'a> {
     alloc: Global,
@@ -100,6 +100,7 @@ impl<'a> Machine<'a> {
         ensures tree { (held self.new).tree ≡ (held self.old).tree }
         ensures lighter { result ≡ Ok step.Went → left_weight (held self.new).left < left_weight (held self.old).left }
     {
+        lighter();
         if self.is_over {
             return Ok(Step::Ended);
         }

@@ -3,7 +3,8 @@
 ghost use Rattle.std.specs.Prelude.{◌≡◌, ◌≢◌, ◌<◌, ℕ, length, Bool, false, [], Some, None, IsSome, IfOk, OnErr};
 ghost use Rattle.slab.specs.Slab.{get, SameValues};
 ghost use Rattle.ped_marks.specs.Marks.{at};
-ghost use Rattle.ped_marks.specs.declared.marks.Mark.TheVariants.{Waits, Running, Done};
+ghost use Rattle.ped_marks.specs.declared.marks.Mark.TheVariants as mark;
+ghost use Rattle.ped_marks.specs.declared.marks.Mark.TheVariants.{Waits, Running};
 ghost use Rattle.ped_symbols.specs.Kinds.{Table};
 ghost use Rattle.ped_store.specs.Cells.{Cell};
 ghost use Rattle.ped_store.specs.Keeping.{memory_of};
@@ -196,7 +197,7 @@ impl<'a, C: Work<'a>> Open<'a, C> {
     fn drop_task(&mut self, place: u64, key: usize)
         requires place { place < length self.old.marks }
         requires running { at self.old.marks place ≡ Running key }
-        ensures { HasMarked None Done place key self.old self.new }
+        ensures { HasMarked None mark.Done place key self.old self.new }
     {
         self.tasks.try_remove(key);
         self.marks.finish(place);

@@ -1,6 +1,6 @@
 //! What is left of the whole run or of an iteration, with the PARALLEL DO that is open in it.
 
-ghost use Rattle.std.specs.Prelude.{◌≡◌, ◌<◌, ◌^◌, Bool, true, false, None, IsSome, MatchOption, IfOk, OnOk, OnErr};
+ghost use Rattle.std.specs.Prelude.{◌≡◌, ◌<◌, ◌^◌, ℕ, Bool, true, false, None, IsSome, MatchOption, IfOk, OnOk, OnErr};
 ghost use Rattle.ped_tree.specs.Views.{head_of, stmt_tree, stmt_trees, do_tree};
 ghost use Rattle.ped_symbols.specs.Kinds.{Table};
 ghost use Rattle.ped_store.specs.Cells.{Cell};
@@ -143,7 +143,7 @@ impl<'a, C: Work<'a>> Rest<'a, C> {
         requires begins { Begins (stmt_tree stmt.now) number (parts_of self.old.parts) }
         requires ready { IsReady symbols.now state.old.scope (memory_of state.old.store) }
         requires sound { IsSound C.left C.sound state.old.scope self.old symbols.now (memory_of state.old.store).stands }
-        ensures does { IfOk result (λ r. IsDone (Steps.step (setting_by symbols.now) (rest_left C.left state.old.scope self.old) 0 (memory_of state.old.store).cells)
+        ensures does { IfOk result (λ r. (c : ℕ) → IsDone (Steps.step (setting_by symbols.now) (rest_left C.left state.old.scope self.old) c (memory_of state.old.store).cells)
             (rest_left C.left state.old.scope self.old) (memory_of state.old.store).cells r (rest_left C.left state.new.scope self.new) (memory_of state.new.store).cells) }
         ensures kept { OnErr result ((state.new.scope ≡ state.old.scope) × (rest_left C.left state.old.scope self.new ≡ rest_left C.left state.old.scope self.old) × HasRoom (memory_of state.old.store) (memory_of state.new.store)) }
         ensures sound { IfOpen result (IsSound C.left C.sound state.new.scope self.new symbols.now (memory_of state.new.store).stands) }
@@ -174,8 +174,8 @@ impl<'a, C: Work<'a>> Rest<'a, C> {
         requires real { is_comment (stmt_tree stmt.now) ≡ false }
         requires ready { IsReady symbols.now state.old.scope (memory_of state.old.store) }
         requires sound { IsSound C.left C.sound state.old.scope self.old symbols.now (memory_of state.old.store).stands }
-        ensures does { IfOk result (λ r. IsDone (Steps.begun (setting_by symbols.now) (stmt_tree stmt.now) number state.old.scope (parts_left (parts_of self.old.parts) state.old.scope) (memory_of state.old.store).cells)
-            (parts_left (parts_of self.old.parts) state.old.scope) (memory_of state.old.store).cells r (rest_left C.left state.new.scope self.new) (memory_of state.new.store).cells) }
+        ensures does { IfOk result (λ r. (l : Left) → IsDone (Steps.begun (setting_by symbols.now) (stmt_tree stmt.now) number state.old.scope (parts_left (parts_of self.old.parts) state.old.scope) (memory_of state.old.store).cells)
+            l (memory_of state.old.store).cells r (rest_left C.left state.new.scope self.new) (memory_of state.new.store).cells) }
         ensures kept { OnErr result ((state.new.scope ≡ state.old.scope) × (parts_of self.new.parts ≡ parts_of self.old.parts) × (self.new.inner ≡ self.old.inner) × HasRoom (memory_of state.old.store) (memory_of state.new.store)) }
         ensures sound { IfOpen result (IsSound C.left C.sound state.new.scope self.new symbols.now (memory_of state.new.store).stands) }
         ensures copies { IfOpen result (DoCopiesStand state.new.scope (memory_of state.new.store).stands) }
@@ -200,8 +200,8 @@ impl<'a, C: Work<'a>> Rest<'a, C> {
         requires can { CanDo symbols.now state.old.scope number (do_tree d.now) }
         requires ready { IsReady symbols.now state.old.scope (memory_of state.old.store) }
         requires sound { IsSound C.left C.sound state.old.scope self.old symbols.now (memory_of state.old.store).stands }
-        ensures does { IfOk result (λ r. IsDone (Steps.begun (setting_by symbols.now) (do_tree d.now) number state.old.scope (parts_left (parts_of self.old.parts) state.old.scope) (memory_of state.old.store).cells)
-            (parts_left (parts_of self.old.parts) state.old.scope) (memory_of state.old.store).cells r (rest_left C.left state.new.scope self.new) (memory_of state.new.store).cells) }
+        ensures does { IfOk result (λ r. (l : Left) → IsDone (Steps.begun (setting_by symbols.now) (do_tree d.now) number state.old.scope (parts_left (parts_of self.old.parts) state.old.scope) (memory_of state.old.store).cells)
+            l (memory_of state.old.store).cells r (rest_left C.left state.new.scope self.new) (memory_of state.new.store).cells) }
         ensures kept { OnErr result ((state.new.scope ≡ state.old.scope) × (parts_of self.new.parts ≡ parts_of self.old.parts) × (self.new.inner ≡ self.old.inner) × HasRoom (memory_of state.old.store) (memory_of state.new.store)) }
         ensures sound { IfOpen result (IsSound C.left C.sound state.new.scope self.new symbols.now (memory_of state.new.store).stands) }
         ensures copies { IfOpen result (DoCopiesStand state.new.scope (memory_of state.new.store).stands) }

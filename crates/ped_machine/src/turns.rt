@@ -32,12 +32,14 @@ pub(crate) fn frame_of(alloc: Global, d: &Do, plan: &Plan, earlier: u64) -> Resu
     requires earlier { earlier < plan.now.count }
     ensures { IfOk result (λ f. frame_view f ≡ Loops.frame (entered_by (head_of d.now) plan.now 0) (earlier + 1)) }
 {
+    let number = earlier + 1;
+    let value = plan.value_behind(earlier);
     let private = copy_names(&plan.copied, alloc)?;
     Ok(Frame {
         statement: plan.number,
         parallel: d.parallel,
-        number: earlier + 1,
-        value: plan.value_behind(earlier),
+        number,
+        value,
         variable: d.variable,
         private,
     })

@@ -4,7 +4,14 @@
 
 mod bounds;
 mod carried;
+mod loops;
 
 pub use bounds::plain_reads_unwritten;
-pub use carried::{meetings_are_carried, trips_are_carried, trips_dont_conflict};
+pub use carried::{
+    indices_unwritten, meetings_are_carried, trips_are_carried, trips_dont_conflict,
+};
+pub use loops::one_for_one;
+pub use ped_bodies;
+pub use ped_pasting;
 pub use ped_steps;
+pub use ped_weaves;

@@ -160,7 +160,7 @@ module _ (gap : Gap) (old new : StmtTrees) (t u : ProgramTree) (x : IsExchange g
     new_free =
         no_race_back x.counted x.told x.back (run_of u data_bytes).acts (run_all q u.body 1 [] start).acts moved.acts
         (subst (λ (r : Run). HasNoRace (accesses r.acts)) (sym new_run)
-        (x.free data_bytes free parts.0 parts.1 parts.2 (subst (λ (acts : List Act). HasNoRace (accesses acts)) (sym parts.1) free.1)))
+        (x.free data_bytes free parts.0 parts.1 (sym (ap (λ (r : Run). r.acts) new_run)) parts.2 (subst (λ (acts : List Act). HasNoRace (accesses acts)) (sym parts.1) free.1)))
 
   pub exchange_keeps : Keeps t u
   exchange_keeps = record { saved = x.saved; same = outcome_kept; race_free = λ data_bytes free. (new_ends data_bytes free, new_free data_bytes free) }

@@ -311,7 +311,7 @@ module _ (p : Setting) (t : ProgramTree) (start : Store) (l : ℕ) where
       entering = (inner_rest (Entry ∷ []) more u x.0, x.1);
       before = λ j k. leave_append p (frame E j ∷ S) (n + 1) (statements_count b) front (Entry ∷ [])
           (leave_inward p n h b seen m S j n count (n + 1) (statements_count b) front (omega arith) (omega (arith, size)) d.before)
-          (end_leaves p n h b seen m S j (n + 1) (statements_count b) (entered E.count) (place_of p n S) (entry_touches seen E S)
+          (end_leaves p n h b seen m S j (n + 1) (statements_count b) (entered E.count) (place_of p n S) refl (entry_touches seen E S)
           (subst (λ (z : List Seen). Each (λ (w : Touch). IsOwn p S w.cell) (entry_touches z E S)) (ap (λ r. r.seen) come) (entry_own p S h u E)));
       after = λ j k. leave_inward p n h b seen m S j n count (n + 1) (statements_count b) behind (omega arith) (omega (arith, size)) d.after;
     }
@@ -355,14 +355,14 @@ module _ (p : Setting) (t : ProgramTree) (start : Store) (l : ℕ) where
       turns_come (suc left) k lo whole =
           let ended = act (ended_turn left) (place_of p n S) (exit_when_none left E S) in
           let ending : (i : ℕ) → LeaveCopies p (frame E i ∷ S) (n + 1) (statements_count b) (ended ∷ []) =
-          λ i. end_leaves p n h b seen m S i (n + 1) (statements_count b) (ended_turn left) (place_of p n S) (exit_when_none left E S) (exit_when_own p S left E) in
+          λ i. end_leaves p n h b seen m S i (n + 1) (statements_count b) (ended_turn left) (place_of p n S) refl (exit_when_none left E S) (exit_when_own p S left E) in
           let hi : k ≤ E.count = omega (arith, whole) in
           joined_then p t start l count piece fresh (IsInLoop k) (IsHere (frame E k ∷ S) (n + 1) (statements_count b)) (IsInLoop (k + 1)) (Body (frame E k))
           (does (ended_turn left) (place_of p n S) (exit_when_none left E S) (turns left (k + 1) E S (place_of p n S) Body)) (other (frame E k))
           (does (ended_turn left) (place_of p n S) (exit_when_none left E S) (turns left (k + 1) E S (place_of p n S) other)) (all_told p b (n + 1) (frame E k ∷ S))
           (λ front behind u v d. in_trip k front (Body (frame E k) u).acts (ended ∷ (turns left (k + 1) E S (place_of p n S) Body (store_behind (exit_when_none left E S) v)).acts) behind u lo hi
           (leave_append p (frame E k ∷ S) (n + 1) (statements_count b) (ended ∷ []) (turns left (k + 1) E S (place_of p n S) Body (store_behind (exit_when_none left E S) v)).acts (ending k)
-          (turns_leave p n h b seen m S (place_of p n S) left (k + 1) (store_behind (exit_when_none left E S) v) k (n + 1) (statements_count b) (omega arith))) d)
+          (turns_leave p n h b seen m S (place_of p n S) refl left (k + 1) (store_behind (exit_when_none left E S) v) k (n + 1) (statements_count b) (omega arith))) d)
           (λ front behind u d. in_last_trip k front (Body (frame E k) u).acts behind u lo hi d)
           (λ front behind u d.
           let v = store_after (Body (frame E k) u).acts u in
@@ -392,7 +392,7 @@ module _ (p : Setting) (t : ProgramTree) (start : Store) (l : ℕ) where
           joined_then p t start l count piece fresh (IsInLoop 1) (IsInLoop 1) (λ front acts behind u. Unit {0}) (parallel_turns (suc more) 1 E Body) (does closed (place_of p n S) (exit_touches E S) nothing_done) (parallel_turns (suc more) 1 E other) (does closed (place_of p n S) (exit_touches E S) nothing_done)
           (parallel_told E Body (λ f. all_told p b (n + 1) (f ∷ S)) (suc more) 1)
           (λ front behind u v d. before_last 1 front (parallel_turns (suc more) 1 E Body u).acts (act closed (place_of p n S) (exit_touches E S) ∷ []) behind u
-          (λ i q. end_leaves p n h b seen m S i (n + 1) (statements_count b) closed (place_of p n S) (exit_touches E S) (exit_own p S E)) d)
+          (λ i q. end_leaves p n h b seen m S i (n + 1) (statements_count b) closed (place_of p n S) refl (exit_touches E S) (exit_own p S E)) d)
           (λ front behind u d. d) (λ front behind u d. tt)
           (parallel_come (suc more) 1 (omega arith) (omega (arith, e)))
           (λ front behind u d ends. joined_act p t start l count piece fresh closed (place_of p n S) (exit_touches E S) nothing_done nothing_done front behind u
@@ -510,7 +510,7 @@ module _ (p q : Setting) (t : ProgramTree) (start : Store) (l : ℕ) (old new : 
       (λ (r : Run). IsHere p t start l scope n (statement_count (If c a b)) front r.acts behind u) front behind u
       (λ seen holds is here going. part holds (front ++ act did (place_of p n scope) (numbered_reads 1 seen) ∷ []) behind (store_behind (numbered_reads 1 seen) u)
       (here_rest p t start l scope n (statement_count (If c a b)) lo some front (act did (place_of p n scope) (numbered_reads 1 seen) ∷ []) ((if holds then first else second) (store_behind (numbered_reads 1 seen) u)).acts behind u below above
-      (own_leaves p scope lo some did (place_of p n scope) (numbered_reads 1 seen) (subst (λ (z : List Seen). Each (λ (w : Touch). IsOwn p scope w.cell) (numbered_reads 1 z)) (ap (λ r. r.seen) is) (condition_own p scope c u))) here) going)
+      (own_leaves p scope lo some did (place_of p n scope) refl (numbered_reads 1 seen) (subst (λ (z : List Seen). Each (λ (w : Touch). IsOwn p scope w.cell) (numbered_reads 1 z)) (ap (λ r. r.seen) is) (condition_own p scope c u))) here) going)
       d ends)
 
   do_same : (scope : Scope) (n : ℕ) (h : Head) (b other : StmtTrees) (body : Frame → Store → Run) → Agree (head_names h) → place_of q n scope ≡ place_of p n scope → inner_variables h.parallel other ≡ inner_variables h.parallel b

@@ -20,3 +20,6 @@ pub mod RacesInOrder
 pub mod RacesReversed
 pub mod OneForOne
 pub mod Examples
+pub mod NextIn
+pub mod OneOut
+pub mod FurtherOut

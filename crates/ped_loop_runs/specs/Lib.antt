@@ -5,3 +5,4 @@ pub use Rattle.ped_pasting
 pub mod Carried
 pub mod Bounds
 pub mod OneForOne
+pub mod OneOut

@@ -9,3 +9,15 @@ pub mod PastedRuns
 pub mod TheirCopies
 pub mod RunStores
 pub mod StandingParts
+pub mod NestsRound
+pub mod ToldPlaces
+pub mod EnteredRanges
+pub mod ExecutedDuring
+pub mod NearPlaces
+pub mod ActNumbers
+pub mod FilledIndices
+pub mod PastedLoops
+pub mod ExitsStand
+pub mod LeftPlaces
+pub mod OneExecution
+pub mod StripCopies

@@ -3,7 +3,7 @@ use Rattle.std.specs.Prelude.{◌≡◌, ℕ, ◌+◌, ◌<◌, ◌≤◌, List,
 use Rattle.ped_tree.specs.Tree.{Do, ProgramTree}
 use Rattle.ped_steps.specs.ped_laws.specs.ped_store.specs.Cells.{Cell, Private, Iteration}
 use Rattle.ped_steps.specs.ped_laws.specs.ped_store.specs.Stores.{Store}
-use Rattle.ped_steps.specs.ped_laws.specs.ped_store.specs.Acts.{Touch, Turn, Act, iterations_of}
+use Rattle.ped_steps.specs.ped_laws.specs.ped_store.specs.Acts.{Turn, Touch, Act, iterations_of}
 use Rattle.ped_steps.specs.ped_laws.specs.Acts.Fitting.{store_after}
 use Rattle.ped_steps.specs.ped_laws.specs.Acts.Orders.{IsIn}
 use Rattle.ped_steps.specs.ped_laws.specs.ped_eval.specs.Scopes.{Setting, Frame, Scope, turns_of, names_in}
@@ -37,6 +37,19 @@ pub record StandsInside (p : Setting) (scope : Scope) (n count : ℕ) (turns : L
 abbrev pub LeaveCopies : Setting → Scope → ℕ → ℕ → List Act → Type 0
 LeaveCopies p scope n count acts = (a : Act) → IsIn a acts → ((t : Touch) → IsIn t a.touches → IsCopyInside p scope n count t.cell → ⊥) × (StandsInside p scope n count a.place.turns → ⊥)
 
+-- an act of one of so many statements from number n on, done in these iterations or further inside (this project)
+pub record IsActInside (p : Setting) (scope : Scope) (n count : ℕ) (a : Act) : Type 0 where
+  pub number : ℕ
+  pub from : n ≤ number
+  pub to : number < n + count
+  pub is : a.place.statement ≡ p.number number
+  pub more : List Turn
+  pub turns : a.place.turns ≡ turns_of scope ++ more
+
+-- none of these acts is one of so many statements from number n on in these iterations, or further inside (this project)
+abbrev pub LeavePlaces : Setting → Scope → ℕ → ℕ → List Act → Type 0
+LeavePlaces p scope n count acts = (a : Act) → IsIn a acts → IsActInside p scope n count a → ⊥
+
 -- an iteration of a DO of the program that has been entered in these iterations round it: its limits came with the store that the first ones of these acts have left, and it is one of the DO's iterations (ANSI X3.9-1978, sections 11.10.3 to 11.10.7)
 pub record IsEntered (p : Setting) (t : ProgramTree) (acts : List Act) (first : Store) (outer : Scope) (f : Frame) : Type 0 where
   pub number : ℕ
@@ -64,7 +77,7 @@ abbrev pub AreEnteredIn : (p : Setting) (t : ProgramTree) (start : Store) (l : �
 AreEnteredIn p t start l [] acts u x = Unit {0}
 AreEnteredIn p t start l (f ∷ fs) acts u x = AreEntered p t (run p (Do x.loop.head x.loop.body) (outermost_or l (nest_round t l)) [] x.first).acts x.first (f ∷ fs)
 
--- in a run of a program, which begins with a store, these acts of so many statements from number l on are done in these iterations, from this store, behind the front and before what is behind: the iterations have been entered, and no other act touches the copies that belong to iterations inside the statements, or stands in such an iteration (ANSI X3.9-1978, section 11.10; this project)
+-- in a run of a program, which begins with a store, these acts of so many statements from number l on are done in these iterations, from this store, behind the front and before what is behind: the iterations have been entered, no other act touches the copies that belong to iterations inside the statements, or stands in such an iteration, and none is one of theirs in these iterations (ANSI X3.9-1978, section 11.10; this project)
 pub record IsExecuted (p : Setting) (t : ProgramTree) (start : Store) (l count : ℕ) (scope : Scope) (front acts behind : List Act) (u : Store) : Type 0 where
   pub place : IsPlaceOf p t l scope
   pub whole : (run_all p t.body 1 [] start).acts ≡ front ++ (acts ++ behind)
@@ -73,6 +86,8 @@ pub record IsExecuted (p : Setting) (t : ProgramTree) (start : Store) (l count :
   pub entered : AreEnteredIn p t start l scope acts u outer
   pub unused_before : LeaveCopies p scope l count front
   pub unused_behind : LeaveCopies p scope l count behind
+  pub only_before : LeavePlaces p scope l count front
+  pub only_behind : LeavePlaces p scope l count behind
 
 -- the same without what has been entered and what nobody touches (this project)
 abbrev pub as_done : {p : Setting} {t : ProgramTree} {start : Store} {l count : ℕ} {scope : Scope} {front acts behind : List Act} {u : Store} → IsExecuted p t start l count scope front acts behind u → IsDone p t start l scope acts u

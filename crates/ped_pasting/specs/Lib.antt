@@ -5,3 +5,5 @@ pub mod Pasting
 pub mod Meaning
 pub mod Numbers
 pub mod Statements
+pub mod Places
+pub mod OtherCopies

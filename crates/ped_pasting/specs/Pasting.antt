@@ -61,9 +61,12 @@ pub record IsExchanged (p : Setting) (t : ProgramTree) (start : Store) (l count 
   pub old_is : old ≡ (piece scope u).acts
   pub new_is : new ≡ fresh scope u
 
+-- each changed part of a list of acts, which is done from this store behind the front and before what is behind, is changed so (plain words)
+abbrev pub AreChangedBy : (List Act → List Act → Store → List Act → List Act → Type 0) → List Act → List Part → List Act → Store → Type 0
+AreChangedBy By front [] behind u = Unit {0}
+AreChangedBy By front (same acts ∷ parts) behind u = AreChangedBy By (front ++ acts) parts behind (store_after acts u)
+AreChangedBy By front (changed old new ∷ parts) behind u = By front (old_parts parts ++ behind) u old new × AreChangedBy By (front ++ old) parts behind (store_after old u)
+
 -- the changed parts of a list of acts, which is done from this store behind the front and before what is behind, are executions of what stands at the number (this project)
 abbrev pub AreExchanged : (p : Setting) (t : ProgramTree) (start : Store) (l count : ℕ) (piece : Scope → Store → Run) (fresh : Scope → Store → List Act) → List Act → List Part → List Act → Store → Type 0
-AreExchanged p t start l count piece fresh front [] behind u = Unit {0}
-AreExchanged p t start l count piece fresh front (same acts ∷ parts) behind u = AreExchanged p t start l count piece fresh (front ++ acts) parts behind (store_after acts u)
-AreExchanged p t start l count piece fresh front (changed old new ∷ parts) behind u =
-    IsExchanged p t start l count piece fresh front (old_parts parts ++ behind) u old new × AreExchanged p t start l count piece fresh (front ++ old) parts behind (store_after old u)
+AreExchanged p t start l count piece fresh = AreChangedBy (IsExchanged p t start l count piece fresh)

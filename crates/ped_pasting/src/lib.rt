@@ -7,13 +7,17 @@ mod copies;
 mod executions;
 mod meaning;
 mod numbers;
+mod other_copies;
+mod places;
 mod statements;
 mod stores;
 
 pub use copies::copies_inside;
-pub use executions::{executions_pasted, parts_stand};
+pub use executions::{executed_once, executions_pasted, parts_stand};
 pub use meaning::{exchanged_keeps, suiting_sets};
 pub use numbers::numbers_kept;
+pub use other_copies::{exchanged_near_keeps, executions_pasted_near, parts_stand_near};
 pub use ped_steps;
+pub use places::{executed_during, places_tell, ranges_entered};
 pub use statements::statement_gives_way;
 pub use stores::stores_hold_storable;

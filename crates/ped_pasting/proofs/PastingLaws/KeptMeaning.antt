@@ -21,7 +21,7 @@ use Rattle.ped_steps.specs.ped_laws.proofs.ActLaws.Renamings.{or_left, or_right,
 use Rattle.ped_steps.specs.ped_laws.proofs.ActLaws.Exchanging.{same_stands, needed_wanted, wanted_before, shown_wanted}
 use Rattle.ped_steps.specs.ped_laws.specs.ped_graph.specs.ped_symbols.specs.Kinds.{kind_in}
 use Rattle.ped_steps.specs.ped_laws.specs.Runs.Showing.{shown_at_end}
-use Rattle.ped_steps.specs.ped_laws.specs.Runs.Replaying.{Finish, goes_on, stops, faults, finish_of, ending_with}
+use Rattle.ped_steps.specs.ped_laws.specs.Runs.Replaying.{Finish, goes_on, stops, faults, finish_of, ending_with, Replays}
 use Rattle.ped_steps.specs.ped_laws.proofs.RunLaws.Shown.{outcome_same}
 use Rattle.ped_steps.specs.ped_laws.proofs.RunLaws.Told.{own_run}
 use Rattle.ped_steps.specs.ped_laws.proofs.RunLaws.StatementsTold.{all_told}
@@ -32,12 +32,13 @@ use Rattle.ped_steps.specs.ped_laws.specs.ped_eval.specs.Outcomes as outcomes
 use Rattle.ped_steps.specs.ped_laws.specs.ped_eval.specs.Outcomes.{setting_of, run_of, bounds_of, LiveRow, live_names, live_rows, outcome_of, outcome, Ends, IsRaceFree}
 use Rattle.ped_steps.specs.Runs.Gaps.{Gap, number_at}
 use Rattle.ped_steps.specs.Runs.Meaning.{Keeps}
-use Rattle.ped_steps.specs.Runs.Renumbering.{IsRenumbered, renumbered}
+use Rattle.ped_steps.specs.Runs.Renumbering.{IsRenumbered, IsToldBack, renumbered}
 use Rattle.ped_steps.proofs.RunLaws.RenumberedPrograms.{program_renumbered, ends_back, no_race_back, outcome_renumbered}
 use Rattle.ped_pasting.specs.Pasting.{PartsStandBy}
 use Rattle.ped_pasting.specs.Meaning.{SuitEnds, IsExchange}
-use Rattle.ped_pasting.proofs.PastingLaws.PastedRuns.{Exchanged, exchanged}
-use Rattle.ped_pasting.proofs.PastingLaws.StandingParts.{all_stand}
+use Rattle.ped_pasting.specs.OtherCopies.{AreExchangedNear, IsExchangeNear}
+use Rattle.ped_pasting.proofs.PastingLaws.PastedRuns.{Exchanged, exchanged, exchanged_near}
+use Rattle.ped_pasting.proofs.PastingLaws.StandingParts.{all_stand, all_stand_near}
 
 -- parts that stand for others fit, and the stores agree on what is shown
 module _ (shown : Cell → Bool) (agreed : List Act → Cell → Bool) (suit : SuitEnds shown agreed) where
@@ -104,7 +105,22 @@ module _ (t u : ProgramTree) (saved : flat_map saved_in u.decls ≡ flat_map sav
   shown_alike (stopped v) = ap (outcomes.Ended (lines_in (v cells.Out))) (rows v)
   shown_alike (failed fault n) = refl
 
-module _ (gap : Gap) (old new : StmtTrees) (t u : ProgramTree) (x : IsExchange gap old new t u) where
+-- a new program whose run is made of parts, which stand for those of the old one and make no race where they are its acts
+pub record IsMadeAnew (t u : ProgramTree) : Type 0 where
+  pub saved : flat_map saved_in u.decls ≡ flat_map saved_in t.decls
+  pub kinds : (x : List ℕ) → is_among x (live_names t) ≡ true → kind_in u x ≡ kind_in t x
+  pub counted : ℕ → ℕ
+  pub told : ℕ → ℕ
+  pub back : IsToldBack counted told
+  pub agreed : List ℕ → List Act → Cell → Bool
+  pub suit : (data_bytes : List ℕ) → SuitEnds (shown_at_end t) (agreed data_bytes)
+  pub parts : (data_bytes : List ℕ) → IsRaceFree t data_bytes → List Part
+  pub old_are : (data_bytes : List ℕ) (free : IsRaceFree t data_bytes) → old_parts (parts data_bytes free) ≡ (run_of t data_bytes).acts
+  pub stand : (data_bytes : List ℕ) (free : IsRaceFree t data_bytes) → PartsStandBy (agreed data_bytes) (parts data_bytes free) (store_at_start (lines data_bytes))
+  pub replays : (data_bytes : List ℕ) (free : IsRaceFree t data_bytes) → Replays (run_all (renumbered counted (setting_of u)) u.body 1 []) (new_parts (parts data_bytes free)) (finish_of (run_of t data_bytes).ending)
+  pub free : (data_bytes : List ℕ) (free : IsRaceFree t data_bytes) → new_parts (parts data_bytes free) ≡ (run_all (renumbered counted (setting_of u)) u.body 1 [] (store_at_start (lines data_bytes))).acts → HasNoRace (accesses (old_parts (parts data_bytes free))) → HasNoRace (accesses (new_parts (parts data_bytes free)))
+
+module _ (t u : ProgramTree) (x : IsMadeAnew t u) where
   abbrev p : Setting
   p = setting_of t
 
@@ -118,25 +134,22 @@ module _ (gap : Gap) (old new : StmtTrees) (t u : ProgramTree) (x : IsExchange g
     abbrev finish : Finish
     finish = finish_of (run_of t data_bytes).ending
 
-    parts : Exchanged p t start (number_at gap 1) (statements_count old) (run_all p old (number_at gap 1)) (x.fresh data_bytes) (run_all q u.body 1 []) (finish_of (run_of t data_bytes).ending)
-    parts = exchanged p q gap old new t u start (x.fresh data_bytes) x.pasted (x.instead data_bytes free) free.0
+    abbrev parts : List Part
+    parts = x.parts data_bytes free
 
-    stand : PartsStandBy (x.agreed data_bytes) parts.0 start
-    stand = all_stand (x.agreed data_bytes) p t start (number_at gap 1) (statements_count old) (run_all p old (number_at gap 1)) (x.fresh data_bytes) (x.stand data_bytes free) parts.0 parts.2
+    fit : Fits (old_parts parts) start
+    fit = subst (λ (acts : List Act). Fits acts start) (sym (x.old_are data_bytes free)) ((all_told p t.body 1 []).fits start)
 
-    fit : Fits (old_parts parts.0) start
-    fit = subst (λ (acts : List Act). Fits acts start) (sym parts.1) ((all_told p t.body 1 []).fits start)
-
-    new_run : run_all q u.body 1 [] start ≡ record { acts = new_parts parts.0; ending = ending_with finish (store_after (new_parts parts.0) start) }
-    new_run = parts.3 start (parts_fit (shown_at_end t) (x.agreed data_bytes) (x.suit data_bytes) parts.0 start start stand (λ c k. refl) fit)
+    new_run : run_all q u.body 1 [] start ≡ record { acts = new_parts parts; ending = ending_with finish (store_after (new_parts parts) start) }
+    new_run = x.replays data_bytes free start (parts_fit (shown_at_end t) (x.agreed data_bytes) (x.suit data_bytes) parts start start (x.stand data_bytes free) (λ c k. refl) fit)
 
     old_run : run_of t data_bytes ≡ record { acts = (run_of t data_bytes).acts; ending = ending_with finish (store_after (run_of t data_bytes).acts start) }
     old_run = own_run (run_all p t.body 1 []) (all_told p t.body 1 []) start
 
-    agree : AgreeIn (shown_at_end t) (store_after (run_of t data_bytes).acts start) (store_after (new_parts parts.0) start)
+    agree : AgreeIn (shown_at_end t) (store_after (run_of t data_bytes).acts start) (store_after (new_parts parts) start)
     agree =
-        subst (λ (acts : List Act). AgreeIn (shown_at_end t) (store_after acts start) (store_after (new_parts parts.0) start)) parts.1
-        (parts_leave (shown_at_end t) (x.agreed data_bytes) (x.suit data_bytes) parts.0 start start stand (λ c k. refl) fit)
+        subst (λ (acts : List Act). AgreeIn (shown_at_end t) (store_after acts start) (store_after (new_parts parts) start)) (x.old_are data_bytes free)
+        (parts_leave (shown_at_end t) (x.agreed data_bytes) (x.suit data_bytes) parts start start (x.stand data_bytes free) (λ c k. refl) fit)
 
     -- the new program under the numbers that tell the old ones
     moved : IsRenumbered x.counted (run_all q u.body 1 [] start) (run_of u data_bytes)
@@ -145,7 +158,7 @@ module _ (gap : Gap) (old new : StmtTrees) (t u : ProgramTree) (x : IsExchange g
     moved_ends : Ends (run_all q u.body 1 [] start).ending
     moved_ends =
         subst (λ (r : Run). Ends r.ending) (sym new_run)
-        (ends_so finish (store_after (run_of t data_bytes).acts start) (store_after (new_parts parts.0) start) (subst (λ (r : Run). Ends r.ending) old_run free.0))
+        (ends_so finish (store_after (run_of t data_bytes).acts start) (store_after (new_parts parts) start) (subst (λ (r : Run). Ends r.ending) old_run free.0))
 
     new_ends : Ends (run_of u data_bytes).ending
     new_ends = ends_back x.counted x.told x.back (run_all q u.body 1 [] start).ending (run_of u data_bytes).ending moved.ending moved_ends
@@ -153,14 +166,68 @@ module _ (gap : Gap) (old new : StmtTrees) (t u : ProgramTree) (x : IsExchange g
     outcome_kept : outcome u data_bytes ≡ outcome t data_bytes
     outcome_kept =
         sym (outcome_renumbered x.counted u (run_all q u.body 1 [] start).ending (run_of u data_bytes).ending moved.ending new_ends)
-        ∙ ap (λ (r : Run). outcome_of u r.ending) new_run ∙ shown_alike t u x.saved x.kinds (ending_with finish (store_after (new_parts parts.0) start))
-        ∙ sym (outcome_same t (store_after (run_of t data_bytes).acts start) (store_after (new_parts parts.0) start) agree finish) ∙ ap (λ (r : Run). outcome_of t r.ending) (sym old_run)
+        ∙ ap (λ (r : Run). outcome_of u r.ending) new_run ∙ shown_alike t u x.saved x.kinds (ending_with finish (store_after (new_parts parts) start))
+        ∙ sym (outcome_same t (store_after (run_of t data_bytes).acts start) (store_after (new_parts parts) start) agree finish) ∙ ap (λ (r : Run). outcome_of t r.ending) (sym old_run)
 
     new_free : HasNoRace (accesses (run_of u data_bytes).acts)
     new_free =
         no_race_back x.counted x.told x.back (run_of u data_bytes).acts (run_all q u.body 1 [] start).acts moved.acts
         (subst (λ (r : Run). HasNoRace (accesses r.acts)) (sym new_run)
-        (x.free data_bytes free parts.0 parts.1 (sym (ap (λ (r : Run). r.acts) new_run)) parts.2 (subst (λ (acts : List Act). HasNoRace (accesses acts)) (sym parts.1) free.1)))
+        (x.free data_bytes free (sym (ap (λ (r : Run). r.acts) new_run)) (subst (λ (acts : List Act). HasNoRace (accesses acts)) (sym (x.old_are data_bytes free)) free.1)))
 
-  pub exchange_keeps : Keeps t u
-  exchange_keeps = record { saved = x.saved; same = outcome_kept; race_free = λ data_bytes free. (new_ends data_bytes free, new_free data_bytes free) }
+  made_keeps : Keeps t u
+  made_keeps = record { saved = x.saved; same = outcome_kept; race_free = λ data_bytes free. (new_ends data_bytes free, new_free data_bytes free) }
+
+module _ (gap : Gap) (old new : StmtTrees) (t u : ProgramTree) where
+  abbrev l : ℕ
+  l = number_at gap 1
+
+  abbrev from : List ℕ → Store
+  from data_bytes = store_at_start (lines data_bytes)
+
+  -- statements exchanged, where no name comes or goes
+  pub exchange_keeps : IsExchange gap old new t u → Keeps t u
+  exchange_keeps x = made_keeps t u (record {
+    saved = x.saved;
+    kinds = x.kinds;
+    counted = x.counted;
+    told = x.told;
+    back = x.back;
+    agreed = x.agreed;
+    suit = x.suit;
+    parts = λ data_bytes free. (made data_bytes free).0;
+    old_are = λ data_bytes free. (made data_bytes free).1;
+    stand = λ data_bytes free.
+        all_stand (x.agreed data_bytes) (setting_of t) t (from data_bytes) l (statements_count old) (run_all (setting_of t) old l) (x.fresh data_bytes) (x.stand data_bytes free) (made data_bytes free).0 (made data_bytes free).2;
+    replays = λ data_bytes free. (made data_bytes free).3;
+    free = λ data_bytes free same. x.free data_bytes free (made data_bytes free).0 (made data_bytes free).1 same (made data_bytes free).2;
+  })
+    where
+      made : (data_bytes : List ℕ) → IsRaceFree t data_bytes
+          → Exchanged (setting_of t) t (from data_bytes) l (statements_count old) (run_all (setting_of t) old l) (x.fresh data_bytes) (run_all (renumbered x.counted (setting_of u)) u.body 1 []) (finish_of (run_of t data_bytes).ending)
+      made data_bytes free = exchanged (setting_of t) (renumbered x.counted (setting_of u)) gap old new t u (from data_bytes) (x.fresh data_bytes) x.pasted (x.instead data_bytes free) free.0
+
+  -- and where names come or go
+  pub exchange_near_keeps : (names : List (List ℕ)) (apart : Cell → Bool) → IsExchangeNear names apart gap old new t u → Keeps t u
+  exchange_near_keeps names apart x = made_keeps t u (record {
+    saved = x.saved;
+    kinds = x.kinds;
+    counted = x.counted;
+    told = x.told;
+    back = x.back;
+    agreed = x.agreed;
+    suit = x.suit;
+    parts = λ data_bytes free. (made data_bytes free).0;
+    old_are = λ data_bytes free. (made data_bytes free).1;
+    stand = λ data_bytes free.
+        all_stand_near (shown_at_end t) (x.agreed data_bytes) (x.suit data_bytes) names apart (setting_of t) t (from data_bytes) l (statements_count old) (run_all (setting_of t) old l) (x.fresh data_bytes)
+        (x.stand data_bytes free) (x.asked data_bytes free) (made data_bytes free).0 (made data_bytes free).2;
+    replays = λ data_bytes free. (made data_bytes free).3;
+    free = λ data_bytes free same. x.free data_bytes free (made data_bytes free).0 (made data_bytes free).1 (made data_bytes free).2;
+  })
+    where
+      made : (data_bytes : List ℕ) → IsRaceFree t data_bytes
+          → (parts : List Part) × (old_parts parts ≡ (run_of t data_bytes).acts) × AreExchangedNear names apart (setting_of t) t (from data_bytes) l (statements_count old) (run_all (setting_of t) old l) (x.fresh data_bytes) [] parts [] (from data_bytes)
+          × Replays (run_all (renumbered x.counted (setting_of u)) u.body 1 []) (new_parts parts) (finish_of (run_of t data_bytes).ending)
+      made data_bytes free =
+          exchanged_near names apart (setting_of t) (renumbered x.counted (setting_of u)) gap old new t u (from data_bytes) (x.fresh data_bytes) x.pasted (x.quiet data_bytes free) (x.instead data_bytes free) free.0

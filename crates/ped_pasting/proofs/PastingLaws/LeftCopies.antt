@@ -7,7 +7,7 @@ use Rattle.ped_tree.specs.Tree.{CondTree, Head, StmtTree, StmtTrees, Assign, If,
 use Rattle.ped_tree.specs.Numbering.{statement_count, statements_count}
 use Rattle.ped_steps.specs.ped_laws.specs.ped_store.specs.Cells.{Cell, Scalar, Element, Private, In, Out, Iteration}
 use Rattle.ped_steps.specs.ped_laws.specs.ped_store.specs.Stores.{Undefined, Number, Store}
-use Rattle.ped_steps.specs.ped_laws.specs.ped_store.specs.Acts.{is_told, Touch, Turn, Step, Place, Act, ended_turn, iterations_of}
+use Rattle.ped_steps.specs.ped_laws.specs.ped_store.specs.Acts.{is_told, Touch, Step, Place, Act, ended_turn, iterations_of}
 use Rattle.ped_steps.specs.ped_laws.specs.Acts.Orders.{IsIn}
 use Rattle.ped_steps.specs.ped_laws.specs.FlowRuns.Exits.{IsOneToOne}
 use Rattle.ped_steps.specs.ped_laws.specs.Runs.Replaying.{act}

@@ -12,3 +12,4 @@ pub mod CodeCarried
 pub mod KeepMaps
 pub mod Fresh
 pub mod CodeFresh
+pub mod CodePlain

@@ -12,6 +12,7 @@ mod intervals;
 mod keeping;
 mod literals;
 mod only_loops;
+mod plain;
 mod spans;
 
 pub use carried::{first_carried, first_crossing};
@@ -27,4 +28,5 @@ pub use only_loops::only_loop;
 pub use ped_tidy;
 pub use ped_tidy::ped_steps;
 pub use ped_tidy::ped_steps::ped_flow;
+pub use plain::is_plain;
 pub use spans::{Course, Span, course_of, is_far};

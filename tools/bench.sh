@@ -343,12 +343,14 @@ for program in many_references deep_blocks; do
     printf '%16s %10d\n' "$program" "$(least_stack "$work/$program.f")"
 done
 
-# So many edits, each of which puts the first line in its own place; and behind one of them, so often a step back and forward.
+# So many edits, each of which puts a line in its own place, given by its number; and behind one of them, so often a step back
+# and forward.
 edits() {
-    awk -v n="$1" -v line="$2" 'BEGIN { for (k = 0; k < n; k++) printf "replace 1 1\n%s\n.\n", line }'
+    awk -v n="$1" -v number="$2" -v line="$3" \
+        'BEGIN { for (k = 0; k < n; k++) printf "replace %d %d\n%s\n.\n", number, number, line }'
 }
 moves() {
-    edits 1 "$2"
+    edits 1 "$2" "$3"
     awk -v n="$1" 'BEGIN { for (k = 0; k < n; k++) printf "undo\nredo\n" }'
 }
 
@@ -381,30 +383,43 @@ for count in 150 300 600; do
 done
 awk 'NR == 1 { least = $2 } END { printf "races, time per operand, 600 to 150: %.2f\n", $2 / least }' "$work/figures"
 
-array_line='      INTEGER A(100,100)'
-printf '\n%10s %10s %12s %12s\n' statements pairs us/edit us/move
-while read -r statements pairs times; do
+# An edit of one statement in the nest, by which the pairs of its references alone are new; how many pairs the opening and an
+# edit test; and what a change keeps.
+line='      A(I,J) = A(I-1,J)+A(I,J-1)'
+tested() {
+    { [ "$2" -eq 0 ] || edits "$2" 4 "$line"; echo tested; } >"$work/tested"
+    "$ped" session "$1" "$work/tested" | awk '$1 == "tested" { print $2 }'
+}
+printf '\n%10s %10s %10s %12s %10s %12s %12s %14s\n' statements pairs 'of an edit' ms/opening ms/edit ratio us/move bytes/change
+while read -r statements pairs times steps; do
     file=$work/two-$statements.f
     two_deep "$statements" >"$file"
-    edits 1 "$array_line" >"$work/one"
-    edits "$((times + 1))" "$array_line" >"$work/edits"
-    moves 100000 "$array_line" >"$work/moves"
-    awk -v statements="$statements" -v pairs="$pairs" -v times="$times" \
+    edits 1 4 "$line" >"$work/one"
+    edits "$((times + 1))" 4 "$line" >"$work/edits"
+    moves "$steps" 4 "$line" >"$work/moves"
+    awk -v statements="$statements" -v pairs="$(tested "$file" 0)" -v of_edit="$(tested "$file" 1)" -v times="$times" -v steps="$steps" \
+        -v opening="$(least_session '%U %S' "$file" "$work/nothing")" \
+        -v nothing="$(least_session '%U %S' examples/recurrence.f "$work/nothing")" \
         -v one="$(least_session '%U %S' "$file" "$work/one")" \
         -v edits="$(least_session '%U %S' "$file" "$work/edits")" \
-        -v moves="$(least_session '%U %S' "$file" "$work/moves")" 'BEGIN {
-            printf "%10d %10d %12.1f %12.3f\n", statements, pairs, (edits - one) * 1e6 / times, (moves - one) * 1e6 / 200000
+        -v moves="$(least_session '%U %S' "$file" "$work/moves")" \
+        -v one_peak="$(least_session %M "$file" "$work/one")" -v peak="$(least_session %M "$file" "$work/edits")" 'BEGIN {
+            edit = (edits - one) * 1e3 / times
+            open_time = (opening - nothing) * 1e3
+            printf "%10d %10d %10d %12.2f %10.3f %12.3f %12.3f %14d\n", statements, pairs, of_edit, open_time, edit,
+                open_time ? edit / open_time : 0, (moves - one) * 1e6 / 2 / steps, (peak - one_peak) * 1024 / times
         }'
 done <<'END'
-14 980 1000
-45 10125 100
-141 99405 10
+14 980 1000 10000
+45 10125 200 1000
+141 99405 40 200
+200 200000 20 100
 END
 
 # A program of 4,000 statements without references, whose changes keep its tree, its names and its text.
 awk 'BEGIN { print "      INTEGER K"; for (k = 0; k < 4000; k++) print "      K = 1"; print "      END" }' >"$work/large.f"
-edits 1 '      INTEGER K' >"$work/one"
-edits 1001 '      INTEGER K' >"$work/edits"
+edits 1 1 '      INTEGER K' >"$work/one"
+edits 1001 1 '      INTEGER K' >"$work/edits"
 awk -v one="$(least_session '%U %S' "$work/large.f" "$work/one")" -v edits="$(least_session '%U %S' "$work/large.f" "$work/edits")" \
     -v one_peak="$(least_session %M "$work/large.f" "$work/one")" -v peak="$(least_session %M "$work/large.f" "$work/edits")" \
     'BEGIN { printf "an edit of 4,000 statements: %.2f ms, and %.0f KiB kept for a change\n", edits - one, (peak - one_peak) / 1000 }'

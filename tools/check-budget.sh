@@ -17,7 +17,7 @@ most_crates_with_tests=2
 most_ways=5000
 most_lemma_files=150
 most_lemma_imports=778
-most_needless_doors=138
+most_needless_doors=135
 
 edits() {
     find crates/*/must-fail -name '*.edit' 2>/dev/null

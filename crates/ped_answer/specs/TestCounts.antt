@@ -1,4 +1,4 @@
--- How many dependence tests an answer takes, and what a call may have made of them: each ordered pair of references is tested once (Allen and Kennedy, section 3.2; this project).
+-- How many dependence tests an answer takes, and what a call may have made of them: the opening of a program tests each ordered pair of references once, and a change the pairs that come from none before it (Allen and Kennedy, section 3.2; this project).
 use Rattle.std.specs.Prelude.{◌≡◌, ℕ, ◌+◌, ◌≤◌, List, [], length, nat_lt, Option, Some, None, MatchOption, MatchBool, ⊤}
 use Rattle.ped_io.specs.Outside.{Contents, content}
 use Rattle.ped_session.specs.ped_tree.specs.Tree.{ProgramTree}

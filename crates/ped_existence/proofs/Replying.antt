@@ -23,8 +23,8 @@ use Rattle.ped_answer.specs.ped_session.specs.declared.replies.Refusal.TheVarian
 use Rattle.ped_answer.specs.ped_session.specs.declared.replies.Reply.{Reply}
 use Rattle.ped_answer.specs.ped_session.specs.declared.replies.Reply.TheVariants.{Changed, Shown, Refused}
 use Rattle.ped_answer.specs.ped_session.specs.States.{Other, State, opened, changed_to, gone_back_to, gone_forward_to}
-use Rattle.ped_answer.specs.ped_session.specs.Splices.{spliced, are_lines, is_place}
-use Rattle.ped_answer.specs.ped_session.specs.Panes.{IsSourcePane, ArePanes}
+use Rattle.ped_answer.specs.ped_session.specs.Splices.{spliced, are_lines, is_place, edit_keep}
+use Rattle.ped_answer.specs.ped_session.specs.Panes.{IsSourcePane, ArePanes, tested_row}
 use Rattle.ped_answer.specs.ped_session.specs.Blocks.{block}
 use Rattle.ped_answer.specs.ped_session.specs.RaceRows.{race_row, IsRaceRow}
 use Rattle.ped_answer.specs.ped_session.specs.Transforming.{StepAt, privatising, expanding}
@@ -79,23 +79,23 @@ module _ (s : State) (all : ArePrinted s) where
   behind_change : (new : ProgramTree) → IsValid new → (text : List ℕ) → text ≡ program_text new → (past : List Other) → All IsPrintedOther past → (tested : ℕ) → ArePrinted (record { past = past; present = text; future = []; tested = tested })
   behind_change new valid text e past before tested = record { past = before; present = (new, valid, e); future = All-nil IsPrintedOther }
 
-  edits : (text : List ℕ) → Answered (λ reply. λ next. Edits text s reply next)
-  edits text = by (reads_printed s.present all.present) (one_of_both text)
+  edits : (kept gone : ℕ) (text : List ℕ) → Answered (λ reply. λ next. Edits kept gone text s reply next)
+  edits kept gone text = by (reads_printed s.present all.present) (one_of_both text)
     where
-      by : (t : ProgramTree) × ReadsValid s.present t → HasOneValidTree text ⊎ HasOneFirstRefusal text → Answered (λ reply. λ next. Edits text s reply next)
+      by : (t : ProgramTree) × ReadsValid s.present t → HasOneValidTree text ⊎ HasOneFirstRefusal text → Answered (λ reply. λ next. Edits kept gone text s reply next)
       by (old, from) (inl h) = record {
         reply = Changed;
-        next = changed_to (program_text h.tree) Edit (tested_pairs old h.tree []) s;
+        next = changed_to (program_text h.tree) Edit (tested_pairs old h.tree (edit_keep old h.tree kept gone)) s;
         is = accepted old h.tree from h.reads refl refl;
-        printed = behind_change h.tree h.reads.valid (program_text h.tree) refl ((s.present, Edit) ∷ s.past) (All-cons IsPrintedOther (s.present, Edit) s.past all.present all.past) (tested_pairs old h.tree []);
+        printed = behind_change h.tree h.reads.valid (program_text h.tree) refl ((s.present, Edit) ∷ s.past) (All-cons IsPrintedOther (s.present, Edit) s.past all.present all.past) (tested_pairs old h.tree (edit_keep old h.tree kept gone));
       }
       by (old, from) (inr h) =
           let why = refusal_for h.first in
           record { reply = Refused (BadEdit why.0); next = s; is = refused why.0 (subst (RefusesText text) (sym why.1) h.refuses) (refl, refl); printed = all }
 
-  edits_where : (there : Bool) (text : List ℕ) → Answered (λ reply. λ next. MatchBool there (Edits text s reply next) (Refuses NoSuchLine s reply next))
-  edits_where true text = edits text
-  edits_where false text = stays NoSuchLine
+  edits_where : (there : Bool) (kept gone : ℕ) (text : List ℕ) → Answered (λ reply. λ next. MatchBool there (Edits kept gone text s reply next) (Refuses NoSuchLine s reply next))
+  edits_where true kept gone text = edits kept gone text
+  edits_where false kept gone text = stays NoSuchLine
 
   transforms : (at : StepAt) → ((t : ProgramTree) → Goes at t) → Answered (λ reply. λ next. Transforms at s reply next)
   transforms at goes = by (reads_printed s.present all.present)
@@ -149,9 +149,9 @@ module _ (s : State) (all : ArePrinted s) where
   replies (Deps (Some number)) d = shows_statement number
   replies Show d = shows ArePanes panes
   replies Print d = record { reply = Shown s.present; next = s; is = (refl, refl); printed = all }
-  replies (Replace first last lines) d = edits_where (are_lines s.present first last) (spliced s.present (first - 1) (last + 1 - first) lines)
-  replies (Insert after lines) d = edits_where (is_place s.present after) (spliced s.present after 0 lines)
-  replies (Delete first last) d = edits_where (are_lines s.present first last) (spliced s.present (first - 1) (last + 1 - first) [])
+  replies (Replace first last lines) d = edits_where (are_lines s.present first last) (first - 1) (last + 1 - first) (spliced s.present (first - 1) (last + 1 - first) lines)
+  replies (Insert after lines) d = edits_where (is_place s.present after) after 0 (spliced s.present after 0 lines)
+  replies (Delete first last) d = edits_where (are_lines s.present first last) (first - 1) (last + 1 - first) (spliced s.present (first - 1) (last + 1 - first) [])
   replies Undo d = goes_back s.past all.past
   replies Redo d = goes_forward s.future all.future
   replies (Run choices) d = runs choices d
@@ -169,7 +169,7 @@ module _ (s : State) (all : ArePrinted s) where
   replies (Parallel number) d = stays NotBuilt
   replies (Serial number) d = stays NotBuilt
   replies (Reject number name) d = stays NotBuilt
-  replies Tested d = stays NotBuilt
+  replies Tested d = record { reply = Shown (tested_row s.tested); next = s; is = (refl, refl); printed = all }
 
   pub step_of : (c : Command) (data_bytes : List ℕ) → (reply : Reply) × (next : State) × IsStep c data_bytes s reply next
   step_of c d = let a = replies c d in (a.reply, a.next, a.is)

@@ -1,6 +1,6 @@
 -- The dependences that a graph holds of a program are the program's.
-use Rattle.std.proofs.Common.{◌≡◌, ℕ, zero, suc, ◌+◌, ◌<◌, ◌≤◌, List, [], ◌∷◌, ◌++◌, map, length, drop, get_or, refl, sym, ap, subst, ◌∙◌, Bool, true, false, Some, None, if◌then◌else◌, append_assoc, arith}
-use Rattle.std.proofs.lemmas.List.{append-nil, drop_more, drop_all}
+use Rattle.std.proofs.Common.{◌≡◌, ℕ, zero, suc, ◌+◌, ◌<◌, ◌≤◌, List, [], ◌∷◌, ◌++◌, map, length, drop, refl, sym, ap, subst, ◌∙◌, Bool, true, false, Some, None, if◌then◌else◌, append_assoc, slice_get, arith}
+use Rattle.std.proofs.lemmas.List.{append-nil, drop_all}
 use Rattle.std.specs.List.{flat_map, range_with_len}
 use Rattle.ped_views.specs.declared.directions.Direction.{Direction}
 use Rattle.ped_views.specs.Views.{View}
@@ -9,7 +9,7 @@ use Rattle.ped_refs.specs.References.{Reference, references, pairs}
 use Rattle.ped_edges.specs.Edges.{Edge}
 use Rattle.ped_graph.specs.Owners.{have_same_owner, owner_level, within_iteration}
 use Rattle.ped_graph.specs.Dependences.{Facts, facts_of, view_of, edge_at, vectors_of, independent_edge, divided, edges_by, PairEdges, EdgesOfPairs, AreEdges}
-use Rattle.ped_graph.specs.Held.{Pair, Held, held_of, pair_with, pair_of, held_by, held_edge, held_edges}
+use Rattle.ped_graph.specs.Held.{Framed, Pair, Held, framed, held_of, pair_by, pair_with, pair_of, pairs_by, held_pairs, held_by, held_edge, held_edges}
 use Rattle.ped_graph.specs.HeldPairs.{held_carried, HeldPairEdges, AreHeldEdges}
 
 -- one more number of a range
@@ -81,23 +81,43 @@ edges_of_pairs t [] edges h = h
 edges_of_pairs t (p ∷ ps) edges h = (h.0, h.1, h.2, pair_edges t p.0 p.1 h.0 h.3, edges_of_pairs t ps h.1 h.4)
 
 -- the dependences so far, and those of the pairs ahead of place i, are all
-abbrev pub AreAhead : {X : Type 0} → (X → Pair) → List X → ℕ → List Edge → Type 0
-AreAhead f xs i found = (rest : List Edge) → AreHeldEdges (map f (drop i xs)) rest → AreHeldEdges (map f xs) (found ++ rest)
+abbrev pub AreAhead : List Pair → ℕ → List Edge → Type 0
+AreAhead ps i found = (rest : List Edge) → AreHeldEdges (drop i ps) rest → AreHeldEdges ps (found ++ rest)
 
-module _ {X : Type 0} (f : X → Pair) (xs : List X) where
-  pub none_found : AreAhead f xs 0 []
-  none_found rest h = h
+pub none_found : (ps : List Pair) → AreAhead ps 0 []
+none_found ps rest h = h
 
-  pub one_found : (i : ℕ) (found first : List Edge) (x : X) → i < length xs → get_or xs i x ≡ x → HeldPairEdges (f x) first → AreAhead f xs i found → AreAhead f xs (i + 1) (found ++ first)
-  one_found i found first x below is held ahead rest h =
-      let d : drop i xs ≡ x ∷ drop (i + 1) xs = drop_more xs i x below ∙ ap (λ y. y ∷ drop (i + 1) xs) is in
-      subst (λ ys. AreHeldEdges (map f xs) ys) (sym (append_assoc found first rest)) (ahead (first ++ rest) (subst (λ ys. AreHeldEdges (map f ys) (first ++ rest)) (sym d) (first, rest, refl, held, h)))
+pub one_found : (ps : List Pair) (i : ℕ) (found first : List Edge) (p : Pair) → drop i ps ≡ p ∷ drop (i + 1) ps → HeldPairEdges p first → AreAhead ps i found → AreAhead ps (i + 1) (found ++ first)
+one_found ps i found first p next held ahead rest h =
+    subst (λ (es : List Edge). AreHeldEdges ps es) (sym (append_assoc found first rest)) (ahead (first ++ rest) (subst (λ (qs : List Pair). AreHeldEdges qs (first ++ rest)) (sym next) (first, rest, refl, held, h)))
 
-  pub all_found : (i : ℕ) (found : List Edge) → length xs ≤ i → AreAhead f xs i found → AreHeldEdges (map f xs) found
-  all_found i found past ahead =
-      subst (λ ys. AreHeldEdges (map f xs) ys) (append-nil found) (ahead [] (subst (λ ys. AreHeldEdges (map f ys) []) (sym (drop_all i xs past)) refl))
+pub all_found : (ps : List Pair) (i : ℕ) (found : List Edge) → length ps ≤ i → AreAhead ps i found → AreHeldEdges ps found
+all_found ps i found past ahead =
+    subst (λ (es : List Edge). AreHeldEdges ps es) (append-nil found) (ahead [] (subst (λ (qs : List Pair). AreHeldEdges qs []) (sym (drop_all i ps past)) refl))
+
+-- the next of pairs with their views
+pub next_pair : (fs : List Framed) (vs : List View) (i : ℕ) (f : Framed) (v : View) → slice_get fs i ≡ Some f → slice_get vs i ≡ Some v → drop i (pairs_by fs vs) ≡ pair_by f v ∷ drop (suc i) (pairs_by fs vs)
+next_pair [] vs i f v e k = cc
+next_pair (g ∷ fs) [] i f v e k = cc
+next_pair (g ∷ fs) (w ∷ vs) zero f v e k = let same : g ≡ f = cc in let alike : w ≡ v = cc in λ i. pair_by (same i) (alike i) ∷ pairs_by fs vs
+next_pair (g ∷ fs) (w ∷ vs) (suc i) f v e k = next_pair fs vs i f v e k
+
+-- no more pairs with their views than pairs
+pub few_pairs : (fs : List Framed) (vs : List View) → length (pairs_by fs vs) ≤ length fs
+few_pairs [] vs = omega arith
+few_pairs (f ∷ fs) [] = omega arith
+few_pairs (f ∷ fs) (v ∷ vs) = let rest = few_pairs fs vs in omega (arith, rest)
+
+-- pairs and their views, both made of the same
+pub pairs_mapped : {X : Type 0} (f : X → Framed) (g : X → View) (xs : List X) → pairs_by (map f xs) (map g xs) ≡ map (λ x. pair_by (f x) (g x)) xs
+pairs_mapped f g [] = refl
+pairs_mapped f g (x ∷ xs) = ap (λ (ps : List Pair). pair_by (f x) (g x) ∷ ps) (pairs_mapped f g xs)
+
+-- what the graph of a program holds of its pairs
+pub held_pairs_of : (t : ProgramTree) → held_pairs (held_of t) ≡ map (pair_of t) (pairs (references t))
+held_pairs_of t = pairs_mapped (λ p. framed (facts_of t) p.0 p.1) (λ p. view_of t p.0 p.1) (pairs (references t))
 
 -- what a graph holds of a program has the program's dependences
-pub program_edges : (t : ProgramTree) (h : Held) (ps : List Pair) (edges : List Edge) → ps ≡ h.pairs → h ≡ held_of t → AreHeldEdges ps edges → AreEdges t edges
+pub program_edges : (t : ProgramTree) (h : Held) (ps : List Pair) (edges : List Edge) → ps ≡ held_pairs h → h ≡ held_of t → AreHeldEdges ps edges → AreEdges t edges
 program_edges t h ps edges same is these =
-    edges_of_pairs t (pairs (references t)) edges (subst (λ (xs : List Pair). AreHeldEdges xs edges) (same ∙ ap (λ (k : Held). k.pairs) is) these)
+    edges_of_pairs t (pairs (references t)) edges (subst (λ (xs : List Pair). AreHeldEdges xs edges) (same ∙ ap held_pairs is ∙ held_pairs_of t) these)

@@ -1,5 +1,5 @@
 -- The references at the places of a pair.
-use Rattle.std.proofs.Common.{◌≡◌, ℕ, zero, suc, ◌<◌, ◌≤◌, List, [], ◌∷◌, ◌++◌, length, map, drop, Bool, false, Option, Some, None, refl, ap, sym, ◌∙◌, arith}
+use Rattle.std.proofs.Common.{◌≡◌, ℕ, zero, suc, ◌<◌, ◌≤◌, List, [], ◌∷◌, ◌++◌, length, map, drop, Bool, false, Option, Some, None, refl, ap, sym, ◌∙◌, append_assoc, append-nil, arith}
 use Rattle.std.specs.Prelude.{slice_get, slice_index_or}
 use Rattle.ped_refs.specs.References.{Reference}
 use Rattle.ped_refs.specs.Occurrences.{both, pair_at}
@@ -74,8 +74,11 @@ none_left (p ∷ ps) zero h = elim (none_long (length ps) h) [ ] where
   none_long n h = omega (arith, h)
 none_left (p ∷ ps) (suc i) h = none_left ps i (omega (arith, h))
 
--- one more of what is held, and one fewer to come
-pub more_held : {A B C : Type 0} (h : A → C) (g : B → C) (done : List A) (x : A) (p : B) (rest : List B) → h x ≡ g p
-    → map h (done ++ x ∷ []) ++ map g rest ≡ map h done ++ map g (p ∷ rest)
-more_held h g [] x p rest e = ap (λ (c : _). c ∷ map g rest) e
-more_held h g (y ∷ done) x p rest e = ap (λ (cs : _). h y ∷ cs) (more_held h g done x p rest e)
+-- one more of what is made, and one fewer to come
+pub more_made : {B C : Type 0} (g : B → C) (done new all : List C) (p : B) (rest behind : List B) → new ≡ done ++ g p ∷ [] → rest ≡ p ∷ behind → done ++ map g rest ≡ all → new ++ map g behind ≡ all
+more_made g done new all p rest behind e f h =
+    ap (λ (xs : List _). xs ++ map g behind) e ∙ append_assoc done (g p ∷ []) (map g behind) ∙ ap (λ (xs : List _). done ++ map g xs) (sym f) ∙ h
+
+-- all are made where none are to come
+pub all_made : {B C : Type 0} (g : B → C) (done all : List C) (rest : List B) → rest ≡ [] → done ++ map g rest ≡ all → done ≡ all
+all_made g done all rest none h = sym (append-nil done) ∙ ap (λ (xs : List _). done ++ map g xs) (sym none) ∙ h

@@ -37,8 +37,8 @@ extent_by_test : (t : ProgramTree) (number : ℕ) (is_none : Bool)
 extent_by_test t number true = refl
 extent_by_test t number false = extent_at (all_numbered t.body) (number - 1)
 
-pub extent_is : (t : ProgramTree) (h : Held) (number : ℕ) → h ≡ held_of t → extent_held h.extents number ≡ extent_of t number
-extent_is t h number is = ap (λ (k : Held). extent_held k.extents number) is ∙ extent_by_test t number (number == 0)
+pub extent_is : (t : ProgramTree) (h : Held) (number : ℕ) → h ≡ held_of t → extent_held h.frame.extents number ≡ extent_of t number
+extent_is t h number is = ap (λ (k : Held). extent_held k.frame.extents number) is ∙ extent_by_test t number (number == 0)
 
 -- the dependences of a statement
 pub touching : (t : ProgramTree) (number extent : ℕ) (all kept : List CodeEdge) → extent ≡ extent_of t number

@@ -9,8 +9,8 @@ use Rattle.ped_graph.specs.Held.{Held, held_of}
 use Rattle.ped_graph.specs.HeldSelections.{has_number}
 
 -- a graph holds as many numbers as there are statements
-pub counted : (t : ProgramTree) (h : Held) → h ≡ held_of t → length h.extents ≡ statements_count t.body
-counted t h is = ap (λ (k : Held). length k.extents) is ∙ length-map (all_numbered t.body) statement_count ∙ length-all_numbered t.body
+pub counted : (t : ProgramTree) (h : Held) → h ≡ held_of t → length h.frame.extents ≡ statements_count t.body
+counted t h is = ap (λ (k : Held). length k.frame.extents) is ∙ length-map (all_numbered t.body) statement_count ∙ length-all_numbered t.body
 
 -- a statement stands at each place within a list, and at no other
 stands_at : (ss : List StmtTree) (n : ℕ) → nat_lt n (length (map statement_count ss)) ≡ is_some (at_place ss n)
@@ -30,5 +30,5 @@ stands_by_test t number true = refl
 stands_by_test t number false = stands_at (all_numbered t.body) (number - 1)
 
 -- a number is held exactly where a statement has it
-pub stands : (t : ProgramTree) (h : Held) (number : ℕ) → h ≡ held_of t → has_number h.extents number ≡ is_some (statement_with number t)
-stands t h number is = ap (λ (k : Held). has_number k.extents number) is ∙ stands_by_test t number (number == 0)
+pub stands : (t : ProgramTree) (h : Held) (number : ℕ) → h ≡ held_of t → has_number h.frame.extents number ≡ is_some (statement_with number t)
+stands t h number is = ap (λ (k : Held). has_number k.frame.extents number) is ∙ stands_by_test t number (number == 0)

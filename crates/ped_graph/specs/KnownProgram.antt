@@ -11,8 +11,8 @@ use Rattle.ped_tree.specs.NamesIn.{all_loop_variables}
 use Rattle.ped_graph.specs.Guards.{guards}
 use Rattle.ped_graph.specs.Marks.{is_firm}
 use Rattle.ped_graph.specs.Dependences.{assigned_by}
-use Rattle.ped_graph.specs.declared.testing.Known.{Known}
-use Rattle.ped_graph.specs.declared.testing.Round.{Round}
+use Rattle.ped_graph.specs.declared.preparing.Known.{Known}
+use Rattle.ped_graph.specs.declared.preparing.Round.{Round}
 
 -- the named constants, the variables of the DO loops, and of each reference, round which few loops stand, whether constants alone decide that it is reached
 pub record IsKnown (k : Known) : Type 0 where

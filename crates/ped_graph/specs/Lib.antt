@@ -3,13 +3,16 @@ pub use Rattle.ped_refs
 pub use Rattle.ped_symbols
 pub use Rattle.ped_edges
 pub mod CodeFacts
+pub mod CodeParts
 pub mod DependencePane
 pub mod Dependences
 pub mod Guards
 pub mod Held
 pub mod HeldPairs
 pub mod HeldSelections
+pub mod Keys
 pub mod KnownProgram
 pub mod Marks
 pub mod Owners
+pub mod Parts
 pub mod Update

@@ -1,6 +1,6 @@
 //! The dependences of tested pairs.
 
-ghost use Rattle.std.specs.Prelude.{◌≡◌, ◌++◌, ◌≤◌, List, map, take, length, All, IfOk, OnOk};
+ghost use Rattle.std.specs.Prelude.{◌≡◌, ◌++◌, ◌≤◌, ◌<◌, List, Some, map, take, length, slice_get, All, IfOk, OnOk};
 ghost use Rattle.std.specs.List.{list_all};
 ghost use Rattle.ped_edges.specs.CodeEdges.{edge_of, mark_of, HasAtMostSixLoops};
 ghost use Rattle.ped_edges.specs.Edges as plain;
@@ -9,10 +9,12 @@ ghost use Rattle.ped_graph.specs.Marks.{mark_by};
 ghost use Rattle.ped_graph.specs.Dependences as Spec;
 ghost use Rattle.ped_graph.specs.Held as Held;
 ghost use Rattle.ped_graph.specs.HeldPairs.{HeldPairEdges, AreHeldEdges, held_carried};
-ghost use Rattle.ped_graph.specs.CodeFacts.{pair_tested};
+ghost use Rattle.ped_graph.specs.Held.{pairs_by};
+ghost use Rattle.ped_graph.specs.CodeFacts.{framed_of, pair_tested, views_in};
 
 use crate::facts::Facts;
-use crate::testing::TestedPair;
+use crate::parts::Slot;
+use crate::telling::is_telling;
 use ped_base::NoMemory;
 use ped_edges::{Edge, Mark};
 use ped_verdict::{Vector, Verdict};
@@ -20,30 +22,58 @@ use ped_views::Direction;
 use std::alloc::Global;
 use std::sync::ledger::Ledger;
 
+/// A pair of references that was tested.
+#[derive(Clone, Copy)]
+pub struct TestedPair<'a, L: Ledger> {
+    /// What is known of it without a test.
+    pub facts: &'a Facts,
+    /// What the tests say.
+    pub verdict: &'a Verdict<L>,
+}
+
 /// The dependences of pairs, pair by pair.
-pub fn all_edges<L: Ledger>(alloc: Global, pairs: &[TestedPair<L>]) -> Result<Vec<Edge>, NoMemory>
-    ensures edges { IfOk result (λ edges. AreHeldEdges (map pair_tested pairs.now) (map edge_of edges.items)) }
+pub fn all_edges<L: Ledger>(
+    alloc: Global,
+    pairs: &[Facts],
+    verdicts: &[Slot<L>],
+) -> Result<Vec<Edge>, NoMemory>
+    requires there { verdicts.now ≡ map Some (views_in verdicts.now) }
+    requires paired { length verdicts.now ≡ length pairs.now }
+    ensures edges { IfOk result (λ edges. AreHeldEdges (pairs_by (map framed_of pairs.now) (views_in verdicts.now)) (map edge_of edges.items)) }
     ensures short { IfOk result (λ edges. All HasAtMostSixLoops edges.items) }
 {
     let mut edges = Vec::new(alloc);
-    for pair in pairs {
-        push_edges(alloc, &mut edges, pair)?;
+    for (place, facts) in pairs.iter().enumerate() {
+        let pair = TestedPair {
+            facts,
+            verdict: verdict_at(verdicts, place),
+        };
+        push_edges(alloc, &mut edges, &pair)?;
     }
     Ok(edges)
+}
+
+/// The verdict at a place of verdicts that are all there.
+fn verdict_at<L: Ledger>(verdicts: &[Slot<L>], place: usize) -> &Verdict<L>
+    requires there { verdicts.now ≡ map Some (views_in verdicts.now) }
+    requires within { place < length verdicts.now }
+    ensures { slice_get (views_in verdicts.now) place ≡ Some result.now }
+{
+    verdicts[place].verdict()
 }
 
 /// Adds the dependences of a pair: carried by each common loop in turn, and then independent of loops.
 fn push_edges<L: Ledger>(
     alloc: Global,
     edges: &mut Vec<Edge>,
-    pair: &TestedPair<L>,
+    pair: &TestedPair<'_, L>,
 ) -> Result<(), NoMemory>
     ensures edges { OnOk result ((added : List plain.Edge) × (map edge_of edges.new.items ≡ map edge_of edges.old.items ++ added)
         × HeldPairEdges (pair_tested pair.now) added) }
     ensures short { OnOk result (All HasAtMostSixLoops edges.old.items → All HasAtMostSixLoops edges.new.items) }
 {
     let vectors = pair.verdict.vectors(alloc)?;
-    let loops = loop_count(&pair.verdict);
+    let loops = loop_count(pair.verdict);
     push_shared(alloc, edges, pair, loops, &vectors)
 }
 
@@ -51,11 +81,11 @@ fn push_edges<L: Ledger>(
 fn push_shared<L: Ledger>(
     alloc: Global,
     edges: &mut Vec<Edge>,
-    pair: &TestedPair<L>,
+    pair: &TestedPair<'_, L>,
     loops: u8,
     vectors: &[Vector],
 ) -> Result<(), NoMemory>
-    requires loops { loops ≡ length pair.now.verdict.loops }
+    requires loops { loops ≡ length pair.now.verdict.now.loops }
     requires few { loops ≤ 6 }
     ensures edges { OnOk result (map edge_of edges.new.items ≡ map edge_of edges.old.items ++ Held.held_edges (pair_tested pair.now) vectors.now) }
     ensures short { OnOk result (All HasAtMostSixLoops edges.old.items → All HasAtMostSixLoops edges.new.items) }
@@ -73,11 +103,11 @@ fn push_shared<L: Ledger>(
 fn push_divided<L: Ledger>(
     alloc: Global,
     edges: &mut Vec<Edge>,
-    pair: &TestedPair<L>,
+    pair: &TestedPair<'_, L>,
     loops: u8,
     vectors: &[Vector],
 ) -> Result<(), NoMemory>
-    requires loops { loops ≡ length pair.now.verdict.loops }
+    requires loops { loops ≡ length pair.now.verdict.now.loops }
     requires few { loops ≤ 6 }
     ensures edges { OnOk result (map edge_of edges.new.items ≡ map edge_of edges.old.items ++ Held.held_divided (pair_tested pair.now) vectors.now) }
     ensures short { OnOk result (All HasAtMostSixLoops edges.old.items → All HasAtMostSixLoops edges.new.items) }
@@ -93,7 +123,7 @@ fn push_divided<L: Ledger>(
 fn push_carried<L: Ledger>(
     alloc: Global,
     edges: &mut Vec<Edge>,
-    pair: &TestedPair<L>,
+    pair: &TestedPair<'_, L>,
     loops: u8,
     vectors: &[Vector],
 ) -> Result<(), NoMemory>
@@ -161,7 +191,7 @@ fn is_same(direction: Direction) -> bool
 fn push_edge<L: Ledger>(
     alloc: Global,
     edges: &mut Vec<Edge>,
-    pair: &TestedPair<L>,
+    pair: &TestedPair<'_, L>,
     level: Option<u8>,
     vectors: &[Vector],
 ) -> Result<(), NoMemory>
@@ -173,7 +203,7 @@ fn push_edge<L: Ledger>(
     if vectors.is_empty() {
         return Ok(());
     }
-    let distances = distances_of(alloc, &pair.verdict)?;
+    let distances = distances_of(alloc, pair.verdict)?;
     edges.push(Edge {
         source: pair.facts.source,
         sink: pair.facts.sink,
@@ -182,7 +212,7 @@ fn push_edge<L: Ledger>(
         level,
         vectors,
         distances,
-        mark: mark_of(&pair.facts, level),
+        mark: mark_of(is_proven(pair), &pair.facts.rejecting, level),
     })?;
     Ok(())
 }
@@ -240,14 +270,21 @@ fn distances_of<L: Ledger>(
     Ok(distances)
 }
 
-/// The mark of the dependence of a level.
-fn mark_of(facts: &Facts, level: Option<u8>) -> Mark
-    ensures { mark_of result ≡ mark_by facts.now.proven (Held.rejects_at facts.now.rejecting level) }
+/// Whether the dependences of a pair are proven.
+fn is_proven<L: Ledger>(pair: &TestedPair<'_, L>) -> bool
+    ensures { result ≡ (pair_tested pair.now).proven }
 {
-    if facts.proven {
+    pair.facts.firm && is_telling(pair.verdict)
+}
+
+/// The mark of the dependence of a level of a pair, of which it is known whether it is proven.
+fn mark_of(proven: bool, rejecting: &[bool], level: Option<u8>) -> Mark
+    ensures { mark_of result ≡ mark_by proven (Held.rejects_at rejecting.now level) }
+{
+    if proven {
         return Mark::Proven;
     }
-    if rejects_at(&facts.rejecting, level) {
+    if rejects_at(rejecting, level) {
         return Mark::Rejected;
     }
     Mark::Pending

@@ -1,21 +1,21 @@
-//! What a graph keeps of a pair of references beside its verdict.
+//! What is known of a pair of references without a test.
 
-ghost use Rattle.std.specs.Prelude.{◌≡◌, ◌≤◌, ◌&&◌, List, ℕ, ℤ, Bool, length};
-ghost use Rattle.ped_views.specs.Views.{View};
+ghost use Rattle.std.specs.Prelude.{◌≡◌, ◌≤◌, ◌&&◌, ◌++◌, ◌∷◌, [], map, length, OnOk};
 ghost use Rattle.ped_refs.specs.References.{comes_before};
 ghost use Rattle.ped_refs.specs.Occurrences.{reference_of};
 ghost use Rattle.ped_edges.specs.CodeEdges.{kind_of};
-ghost use Rattle.ped_graph.specs.Marks.{is_firm, is_telling};
-ghost use Rattle.ped_graph.specs.Held.{pair_with};
+ghost use Rattle.ped_graph.specs.Marks.{is_firm};
+ghost use Rattle.ped_graph.specs.Held.{framed};
 ghost use Rattle.ped_graph.specs.Dependences as Spec;
-ghost use Rattle.ped_graph.specs.CodeFacts.{pair_by};
+ghost use Rattle.ped_graph.specs.CodeFacts.{framed_of};
 
 use crate::owners::common_owner;
 use crate::rejections::rejecting_levels;
+use ped_base::NoMemory;
 use ped_edges::Kind;
 use ped_refs::{Occurrence, RefName};
 
-/// What a graph keeps of a pair of references beside its verdict.
+/// What is known of a pair of references without a test.
 #[derive(Clone, Copy)]
 pub struct Facts {
     /// The source, by statement and number.
@@ -30,30 +30,36 @@ pub struct Facts {
     pub is_forward: bool,
     /// The level of the DO whose private copies both mean, 0 for none; none where they mean different ones.
     pub owner: Option<u8>,
-    /// Whether each dependence of the pair is proven.
-    pub proven: bool,
+    /// Whether constants alone decide that both references are reached.
+    pub firm: bool,
     /// For each level whether its loop rejects the variable.
     pub rejecting: [bool; 6],
 }
 
-/// The facts of a pair, of which it is known whether it is proven.
-pub fn facts_of(source: &Occurrence, sink: &Occurrence, proven: bool) -> Facts
+/// Adds the facts of a pair, of which it is known whether constants alone decide that both references are reached.
+pub fn push_facts(
+    all: &mut Vec<Facts>,
+    source: &Occurrence,
+    sink: &Occurrence,
+    firm: bool,
+) -> Result<(), NoMemory>
     requires source { length source.now.nest.items ≤ 6 }
     requires sink { length sink.now.nest.items ≤ 6 }
-    ensures { (facts : Spec.Facts) (v : View)
-        → proven ≡ (is_firm facts.constants facts.guards (reference_of source.now) && is_firm facts.constants facts.guards (reference_of sink.now) && is_telling v)
-        → pair_by result v ≡ pair_with facts (reference_of source.now) (reference_of sink.now) v }
+    ensures { OnOk result ((facts : Spec.Facts)
+        → firm ≡ (is_firm facts.constants facts.guards (reference_of source.now) && is_firm facts.constants facts.guards (reference_of sink.now))
+        → map framed_of all.new.items ≡ map framed_of all.old.items ++ framed facts (reference_of source.now) (reference_of sink.now) ∷ []) }
 {
-    Facts {
+    all.push(Facts {
         source: (source.statement, source.number),
         sink: (sink.statement, sink.number),
         name: source.name,
         kind: kind_of(source.writes, sink.writes),
         is_forward: comes_before(source, sink),
         owner: common_owner(source, sink),
-        proven,
+        firm,
         rejecting: rejecting_levels(source, sink),
-    }
+    })?;
+    Ok(())
 }
 
 /// The kind of a dependence by who writes.

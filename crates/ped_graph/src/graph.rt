@@ -1,6 +1,6 @@
 //! The dependence graph of a program.
 
-ghost use Rattle.std.specs.Prelude.{◌≡◌, ◌+◌, ◌≤◌, List, Some, is_some, map, length, All, IfOk, OnOk};
+ghost use Rattle.std.specs.Prelude.{◌≡◌, ◌+◌, ◌≤◌, ◌<◌, List, Some, is_some, map, length, slice_get, All, IfOk, OnOk};
 ghost use Rattle.ped_tree.specs.Tree.{ProgramTree};
 ghost use Rattle.ped_tree.specs.Numbering.{statement_with, statements_count};
 ghost use Rattle.ped_tree.specs.Views.{program_tree};
@@ -11,38 +11,81 @@ ghost use Rattle.ped_edges.specs.CodeEdges.{edge_of, HasAtMostSixLoops};
 ghost use Rattle.ped_edges.specs.Edges as plain;
 ghost use Rattle.ped_graph.specs.Dependences.{AreEdges};
 ghost use Rattle.ped_graph.specs.DependencePane as Pane;
-ghost use Rattle.ped_graph.specs.Held.{held_of};
+ghost use Rattle.ped_graph.specs.Held.{Held, held_of};
+ghost use Rattle.ped_graph.specs.Parts.{Fit, turned};
 
 use crate::edges::all_edges;
 use crate::extents::extents;
+use crate::frames::Frame;
+use crate::parts::{Parts, Slot, exchange_kept, turn};
+use crate::preparing::all_pairs;
 use crate::selections::{extent_of, has_number, keep_carried_in, keep_touching};
-use crate::testing::{TestedPair, test_all};
+use crate::testing::test_all;
 use ped_base::{Bytes, NoMemory};
 use ped_edges::{Edge, edges_pane};
 use ped_refs::occurrences;
 use ped_tree::Program;
 use ped_tree::constants::Consts;
-use ped_verdict::Steps;
+use ped_verdict::{Steps, Verdict};
+use ped_views::PairView;
 use std::alloc::Global;
 use std::marker::Model;
+use std::mem;
 use std::sync::ledger::Ledger;
 
 /// The dependence graph of a program: one verdict for each ordered pair of references to one name with a write and
 /// a common DO (Allen and Kennedy, section 2.2). Contracts see what it holds.
 #[derive(Drop)]
 pub struct Graph<L: Ledger> {
-    pairs: Vec<TestedPair<L>>,
-    extents: Vec<u32>,
+    frame: Frame,
+    verdicts: Vec<Slot<L>>,
 }
 
 impl<L: Ledger> Model for Graph<L> {
-    ghost use Rattle.std.specs.Prelude.{map};
     ghost use Rattle.ped_graph.specs.Held.{Held};
-    ghost use Rattle.ped_graph.specs.CodeFacts.{pair_tested};
+    ghost use Rattle.ped_graph.specs.CodeFacts.{views_in, AreWhole};
 
     ghost Value = { Held };
 
-    ghost view = { λ g. record { pairs = map pair_tested g.pairs.items; extents = g.extents.items } };
+    ghost view = { λ g. record { frame = g.frame; views = views_in g.verdicts.items } };
+
+    ghost invariant = { λ g. AreWhole g.frame g.verdicts.items };
+}
+
+/// A program before its pairs are tested: what is known of them, and the views that are to be tested, in the order
+/// of the pairs. Contracts see what its graph would hold.
+#[derive(Drop)]
+pub struct Prepared {
+    /// What is known without a test.
+    pub frame: Frame,
+    /// The views of the pairs.
+    pub views: Vec<PairView>,
+}
+
+impl Model for Prepared {
+    ghost use Rattle.ped_graph.specs.Held.{Held};
+
+    ghost Value = { Held };
+
+    ghost view = { λ p. record { frame = p.frame; views = p.views.items } };
+}
+
+/// What the graph of a valid program knows before its pairs are tested, where these are its named constants.
+pub fn prepare(alloc: Global, program: &Program, consts: &Consts) -> Result<Prepared, NoMemory>
+    requires valid { IsValid (program_tree program.now) }
+    requires constants { consts.now ≡ (table_of (program_tree program.now)).constants }
+    ensures { IfOk result (λ prepared. prepared ≡ held_of (program_tree program.now)) }
+{
+    let found = occurrences(alloc, program)?;
+    let extents = extents(alloc, &program.body)?;
+    let pairs = all_pairs(alloc, program, consts, &found)?;
+    Ok(Prepared {
+        frame: Frame {
+            pairs: pairs.facts,
+            extents,
+        },
+        views: pairs.views,
+    })
 }
 
 impl<L: Ledger> Graph<L> {
@@ -61,32 +104,61 @@ impl<L: Ledger> Graph<L> {
         ensures least { steps.old ≤ steps.new }
         ensures most { steps.new ≤ steps.old + pair_count (references (program_tree program.now)) }
     {
-        let found = occurrences(alloc, program)?;
-        let extents = extents(alloc, &program.body)?;
-        let pairs = test_all(alloc, program, consts, &found, steps)?;
-        Ok(Graph { pairs, extents })
+        let prepared = prepare(alloc, program, consts)?;
+        let verdicts = test_all(alloc, prepared.views, steps)?;
+        Ok(Graph {
+            frame: prepared.frame,
+            verdicts,
+        })
+    }
+
+    /// What is known of the program without a test.
+    pub fn frame(&self) -> &Frame
+        ensures { result.now ≡ self.now.frame }
+    {
+        &self.frame
+    }
+
+    /// The verdict of a pair; pairs count from 0.
+    pub fn verdict(&self, n: u64) -> &Verdict<L>
+        requires { n < length self.now.frame.pairs }
+        ensures { slice_get self.now.views n ≡ Some result.now }
+    {
+        self.verdicts[n as usize].verdict()
+    }
+
+    /// Exchanges the frame and the verdicts for those of another program. A pair of both with the same view keeps its
+    /// verdict, which moves. The parts then lead back. It takes no memory and tests nothing.
+    pub fn exchange(&mut self, parts: &mut Parts<L>)
+        requires { (other : Held) × Fit parts.old self.old other }
+        ensures exchanged { (other : Held) → Fit parts.old self.old other → (self.new ≡ other) × Fit parts.new other self.old }
+        ensures kept { parts.new.kept ≡ map turned parts.old.kept }
+    {
+        exchange_kept(&mut self.verdicts, &mut parts.slots, &parts.kept);
+        turn(&mut parts.kept);
+        mem::swap(&mut self.verdicts, &mut parts.slots);
+        mem::swap(&mut self.frame, &mut parts.frame);
     }
 
     /// How many ordered pairs of references the program has.
     pub fn pair_count(&self) -> u64
         ensures { (t : ProgramTree) → self.now ≡ held_of t → result ≡ pair_count (references t) }
     {
-        self.pairs.len() as u64
+        self.frame.pair_count()
     }
 
     /// How many numbered statements the program has.
     pub fn statement_count(&self) -> u64
         ensures { (t : ProgramTree) → self.now ≡ held_of t → result ≡ statements_count t.body }
     {
-        let extents: &[u32] = &self.extents;
-        extents.len() as u64
+        self.frame.extents().len() as u64
     }
 
     /// Whether the program has a statement with this number; they count from 1.
     pub fn has_statement(&self, number: u32) -> bool
         ensures { (t : ProgramTree) → self.now ≡ held_of t → result ≡ is_some (statement_with number t) }
     {
-        has_number(&self.extents, number)
+        has_number(self.frame.extents(), number)
     }
 
     /// The dependences of the program, in the order of the pane.
@@ -94,7 +166,7 @@ impl<L: Ledger> Graph<L> {
         ensures edges { IfOk result (λ edges. (t : ProgramTree) → self.now ≡ held_of t → AreEdges t (map edge_of edges.items)) }
         ensures short { IfOk result (λ edges. All HasAtMostSixLoops edges.items) }
     {
-        all_edges(alloc, &self.pairs)
+        all_edges(alloc, self.frame.pairs(), &self.verdicts)
     }
 
     /// The dependences of a level, 1 for the outermost loop, with both references in the body of the DO with this
@@ -141,6 +213,6 @@ impl<L: Ledger> Graph<L> {
     fn extent(&self, number: u32) -> u32
         ensures { (t : ProgramTree) → self.now ≡ held_of t → result ≡ Pane.extent_of t number }
     {
-        extent_of(&self.extents, number)
+        extent_of(self.frame.extents(), number)
     }
 }

@@ -2,6 +2,7 @@
 
 mod deltas;
 mod laws;
+mod matching;
 mod updating;
 
 pub use deltas::{Delta, swap};

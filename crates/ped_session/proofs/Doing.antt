@@ -18,7 +18,7 @@ use Rattle.ped_session.proofs.Lawful.{IsLawful, lawful_privatising, lawful_expan
 -- what a command does
 pub data Does (c : Command) (s : State) (reply : Reply) (next : State) : Type 1 where
   by_nothing : (reply ≡ Changed → ⊥) → next ≡ s → Does c s reply next
-  by_edit : (text : List ℕ) → Edits text s reply next → Does c s reply next
+  by_edit : (kept gone : ℕ) (text : List ℕ) → Edits kept gone text s reply next → Does c s reply next
   by_step : (at : StepAt) → IsLawful at → Transforms at s reply next → Does c s reply next
   by_undo : c ≡ Undo → GoesBack s.past s reply next → Does c s reply next
   by_redo : c ≡ Redo → GoesForward s.future s reply next → Does c s reply next
@@ -42,9 +42,9 @@ shows_of : (c : Command) (number : ℕ) (o : Option StmtTree) (s next : State) (
 shows_of c number None s next reply h = refuses c _ s next reply h
 shows_of c number (Some found) s next reply h = shows c _ s next reply h
 
-edits : (c : Command) (there : Bool) (text : List ℕ) (s next : State) (reply : Reply) → MatchBool there (Edits text s reply next) (Refuses NoSuchLine s reply next) → Does c s reply next
-edits c true text s next reply h = by_edit text h
-edits c false text s next reply h = refuses c NoSuchLine s next reply h
+edits : (c : Command) (there : Bool) (kept gone : ℕ) (text : List ℕ) (s next : State) (reply : Reply) → MatchBool there (Edits kept gone text s reply next) (Refuses NoSuchLine s reply next) → Does c s reply next
+edits c true kept gone text s next reply h = by_edit kept gone text h
+edits c false kept gone text s next reply h = refuses c NoSuchLine s next reply h
 
 runs : (c : Command) (choices d : List ℕ) (s next : State) (reply : Reply) → Runs choices d s reply next → Does c s reply next
 runs c [] d s next reply h = shows c _ s next reply h
@@ -56,9 +56,9 @@ does (Deps None) d s next reply h = shows (Deps None) _ s next reply h
 does (Deps (Some number)) d s next reply h = shows_of (Deps (Some number)) number (statement_with number h.tree) s next reply h.shows
 does Show d s next reply h = shows Show _ s next reply h
 does Print d s next reply h = prints Print _ s next reply h
-does (Replace first last lines) d s next reply h = edits (Replace first last lines) (are_lines s.present first last) _ s next reply h
-does (Insert after lines) d s next reply h = edits (Insert after lines) (is_place s.present after) _ s next reply h
-does (Delete first last) d s next reply h = edits (Delete first last) (are_lines s.present first last) _ s next reply h
+does (Replace first last lines) d s next reply h = edits (Replace first last lines) (are_lines s.present first last) _ _ _ s next reply h
+does (Insert after lines) d s next reply h = edits (Insert after lines) (is_place s.present after) _ _ _ s next reply h
+does (Delete first last) d s next reply h = edits (Delete first last) (are_lines s.present first last) _ _ _ s next reply h
 does Undo d s next reply h = by_undo refl h
 does Redo d s next reply h = by_redo refl h
 does (Run choices) d s next reply h = runs (Run choices) choices d s next reply h
@@ -76,4 +76,4 @@ does (Fuse number) d s next reply h = refuses (Fuse number) NotBuilt s next repl
 does (Parallel number) d s next reply h = refuses (Parallel number) NotBuilt s next reply h
 does (Serial number) d s next reply h = refuses (Serial number) NotBuilt s next reply h
 does (Reject number name) d s next reply h = refuses (Reject number name) NotBuilt s next reply h
-does Tested d s next reply h = refuses Tested NotBuilt s next reply h
+does Tested d s next reply h = prints Tested _ s next reply h

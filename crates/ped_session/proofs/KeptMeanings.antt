@@ -60,9 +60,9 @@ as_before s d u kept reads = λ earlier t comes from tidy free. (came s.present 
 same : (s next : State) → IsMeaningKept s → next ≡ s → IsMeaningKept next
 same s next k e = subst IsMeaningKept (sym e) k
 
-edit_keeps : (text : List ℕ) (s next : State) (reply : Reply) → IsMeaningKept s → Edits text s reply next → IsMeaningKept next
-edit_keeps text s next reply k (accepted old new from to changed after) = subst IsMeaningKept (sym after) (record { past = (tt, k.past); future = tt })
-edit_keeps text s next reply k (refused why first stays) = same s next k stays.1
+edit_keeps : (kept gone : ℕ) (text : List ℕ) (s next : State) (reply : Reply) → IsMeaningKept s → Edits kept gone text s reply next → IsMeaningKept next
+edit_keeps kept gone text s next reply k (accepted old new from to changed after) = subst IsMeaningKept (sym after) (record { past = (tt, k.past); future = tt })
+edit_keeps kept gone text s next reply k (refused why first stays) = same s next k stays.1
 
 step_keeps : (at : StepAt) (s next : State) (reply : Reply) → IsLawful at → IsMeaningKept s → Transforms at s reply next → IsMeaningKept next
 step_keeps at s next reply lawful k (missing t reads none stays) = same s next k stays.1
@@ -81,7 +81,7 @@ forward_keeps (other ∷ future) s next reply k kept h = subst IsMeaningKept (sy
 
 keeps_by : (c : Command) (s next : State) (reply : Reply) → IsMeaningKept s → Does c s reply next → IsMeaningKept next
 keeps_by c s next reply k (by_nothing changed is) = same s next k is
-keeps_by c s next reply k (by_edit text h) = edit_keeps text s next reply k h
+keeps_by c s next reply k (by_edit kept gone text h) = edit_keeps kept gone text s next reply k h
 keeps_by c s next reply k (by_step at lawful h) = step_keeps at s next reply lawful k h
 keeps_by c s next reply k (by_undo is h) = back_keeps s.past s next reply k k.past h
 keeps_by c s next reply k (by_redo is h) = forward_keeps s.future s next reply k k.future h

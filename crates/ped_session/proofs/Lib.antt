@@ -3,6 +3,7 @@ mod Answering
 mod Doing
 mod Examples
 mod HistoryMoves
+mod KeptEnds
 pub mod KeptMeanings
 mod KeptStatements
 mod Lawful

@@ -106,9 +106,9 @@ record Leaves (s next : State) : Type 0 where
   change : Change
   past_is : next.past ≡ (s.present, change) ∷ s.past
 
-edit_leaves : (edited : List ℕ) (s next : State) → Edits edited s Changed next → Leaves s next
-edit_leaves edited s next (accepted old new from to reply after) = record { change = Edit; past_is = ap (λ (n : State). n.past) after }
-edit_leaves edited s next (refused why first same) = absurd (no_refusal _ same.0)
+edit_leaves : (kept gone : ℕ) (edited : List ℕ) (s next : State) → Edits kept gone edited s Changed next → Leaves s next
+edit_leaves kept gone edited s next (accepted old new from to reply after) = record { change = Edit; past_is = ap (λ (n : State). n.past) after }
+edit_leaves kept gone edited s next (refused why first same) = absurd (no_refusal _ same.0)
 
 step_leaves : (at : StepAt) (s next : State) → Transforms at s Changed next → Leaves s next
 step_leaves at s next (missing t reads none same) = absurd (no_refusal _ same.0)
@@ -117,7 +117,7 @@ step_leaves at s next (transformed t new keep reads some none makes valid reply 
 
 leaves_by : (c : Command) (s next : State) → ¬ (IsMove c) → Does c s Changed next → Leaves s next
 leaves_by c s next still (by_nothing changed is) = absurd (changed refl)
-leaves_by c s next still (by_edit text h) = edit_leaves text s next h
+leaves_by c s next still (by_edit kept gone text h) = edit_leaves kept gone text s next h
 leaves_by c s next still (by_step at lawful h) = step_leaves at s next h
 leaves_by c s next still (by_undo is h) = absurd (still (inl is))
 leaves_by c s next still (by_redo is h) = absurd (still (inr is))

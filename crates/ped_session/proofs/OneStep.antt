@@ -26,7 +26,7 @@ use Rattle.ped_session.specs.States.{Other, State, changed_to}
 use Rattle.ped_session.specs.Blocks.{block}
 use Rattle.ped_session.specs.RaceRows.{race_row, IsRaceRow}
 use Rattle.ped_session.specs.Panes.{IsSourcePane, ArePanes}
-use Rattle.ped_session.specs.Splices.{are_lines, is_place}
+use Rattle.ped_session.specs.Splices.{are_lines, is_place, edit_keep}
 use Rattle.ped_session.specs.Steps.{Refuses, Shows, ShowsOf, ShowsStatement, Edits, accepted, refused, Transforms, missing, forbidden, transformed, GoesBack, GoesForward, Runs, IsStep}
 use Rattle.ped_session.specs.Transforming.{StepAt, privatising, expanding}
 use Rattle.ped_session.proofs.Lawful.{IsLawful, lawful_privatising, lawful_expanding}
@@ -92,22 +92,22 @@ one_statement number s p q m n a b =
     one_of number (statement_with number b.tree) s p q m n (subst (λ (t : ProgramTree). ShowsOf number (statement_with number t) s p m) tree a.shows) b.shows
 
 -- an edit by its text
-one_edit : (edited : List ℕ) (s : State) (p q : Reply) (m n : State) → Edits edited s p m → Edits edited s q n → (p ≡ q) × (m ≡ n)
-one_edit edited s p q m n (accepted old new from to reply next) (accepted old' new' from' to' reply' next') =
+one_edit : (kept gone : ℕ) (edited : List ℕ) (s : State) (p q : Reply) (m n : State) → Edits kept gone edited s p m → Edits kept gone edited s q n → (p ≡ q) × (m ≡ n)
+one_edit kept gone edited s p q m n (accepted old new from to reply next) (accepted old' new' from' to' reply' next') =
     let olds = one_tree s.present old old' from from' in
     let news = one_tree edited new new' to to' in
-    (reply ∙ sym reply', next ∙ (λ i. changed_to (program_text (news i)) Edit (tested_pairs (olds i) (news i) []) s) ∙ sym next')
-one_edit edited s p q m n (accepted old new from to reply next) (refused why first same) = absurd (not_both edited new (finding_of why) to first)
-one_edit edited s p q m n (refused why first same) (accepted old new from to reply next) = absurd (not_both edited new (finding_of why) to first)
-one_edit edited s p q m n (refused why first same) (refused why' first' same') =
+    (reply ∙ sym reply', next ∙ (λ i. changed_to (program_text (news i)) Edit (tested_pairs (olds i) (news i) (edit_keep (olds i) (news i) kept gone)) s) ∙ sym next')
+one_edit kept gone edited s p q m n (accepted old new from to reply next) (refused why first same) = absurd (not_both edited new (finding_of why) to first)
+one_edit kept gone edited s p q m n (refused why first same) (accepted old new from to reply next) = absurd (not_both edited new (finding_of why) to first)
+one_edit kept gone edited s p q m n (refused why first same) (refused why' first' same') =
     let whys = one_found why why' (one_refusal edited (finding_of why) (finding_of why') first first') in
     (same.0 ∙ ap (λ (r : text.Refusal). Refused (BadEdit r)) whys ∙ sym same'.0, same.1 ∙ sym same'.1)
 
 -- an edit, where there are such lines
-one_edit_by : (there : Bool) (edited : List ℕ) (s : State) (p q : Reply) (m n : State) → MatchBool there (Edits edited s p m) (Refuses NoSuchLine s p m)
-    → MatchBool there (Edits edited s q n) (Refuses NoSuchLine s q n) → (p ≡ q) × (m ≡ n)
-one_edit_by true edited s p q m n a b = one_edit edited s p q m n a b
-one_edit_by false edited s p q m n a b = one_refuses NoSuchLine s p q m n a b
+one_edit_by : (there : Bool) (kept gone : ℕ) (edited : List ℕ) (s : State) (p q : Reply) (m n : State) → MatchBool there (Edits kept gone edited s p m) (Refuses NoSuchLine s p m)
+    → MatchBool there (Edits kept gone edited s q n) (Refuses NoSuchLine s q n) → (p ≡ q) × (m ≡ n)
+one_edit_by true kept gone edited s p q m n a b = one_edit kept gone edited s p q m n a b
+one_edit_by false kept gone edited s p q m n a b = one_refuses NoSuchLine s p q m n a b
 
 one_back : (past : List Other) (s : State) (p q : Reply) (m n : State) → GoesBack past s p m → GoesBack past s q n → (p ≡ q) × (m ≡ n)
 one_back [] s p q m n a b = one_refuses NothingToUndo s p q m n a b
@@ -154,9 +154,9 @@ one (Deps None) d s m n p q a b = one_shows IsDependencePane one_pane s p q m n 
 one (Deps (Some number)) d s m n p q a b = one_statement number s p q m n a b
 one Show d s m n p q a b = one_shows ArePanes one_panes s p q m n a b
 one Print d s m n p q a b = (a.0 ∙ sym b.0, a.1 ∙ sym b.1)
-one (Replace first last lines) d s m n p q a b = one_edit_by (are_lines s.present first last) _ s p q m n a b
-one (Insert after lines) d s m n p q a b = one_edit_by (is_place s.present after) _ s p q m n a b
-one (Delete first last) d s m n p q a b = one_edit_by (are_lines s.present first last) _ s p q m n a b
+one (Replace first last lines) d s m n p q a b = one_edit_by (are_lines s.present first last) _ _ _ s p q m n a b
+one (Insert after lines) d s m n p q a b = one_edit_by (is_place s.present after) _ _ _ s p q m n a b
+one (Delete first last) d s m n p q a b = one_edit_by (are_lines s.present first last) _ _ _ s p q m n a b
 one Undo d s m n p q a b = one_back s.past s p q m n a b
 one Redo d s m n p q a b = one_forward s.future s p q m n a b
 one (Run choices) d s m n p q a b = one_run choices d s p q m n a b
@@ -174,4 +174,4 @@ one (Privatise number name) d s m n p q a b = one_transform (privatising number 
 one (Parallel number) d s m n p q a b = one_refuses NotBuilt s p q m n a b
 one (Serial number) d s m n p q a b = one_refuses NotBuilt s p q m n a b
 one (Reject number name) d s m n p q a b = one_refuses NotBuilt s p q m n a b
-one Tested d s m n p q a b = one_refuses NotBuilt s p q m n a b
+one Tested d s m n p q a b = (a.0 ∙ sym b.0, a.1 ∙ sym b.1)

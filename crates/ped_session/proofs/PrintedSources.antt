@@ -21,10 +21,10 @@ IsPrintedOther o = IsPrinted o.0
 same : (s next : State) → ArePrinted s → next ≡ s → ArePrinted next
 same s next a e = subst ArePrinted (sym e) a
 
-edit_prints : (edited : List ℕ) (s next : State) (reply : Reply) → ArePrinted s → Edits edited s reply next → ArePrinted next
-edit_prints edited s next reply a (accepted old new from to changed after) =
+edit_prints : (kept gone : ℕ) (edited : List ℕ) (s next : State) (reply : Reply) → ArePrinted s → Edits kept gone edited s reply next → ArePrinted next
+edit_prints kept gone edited s next reply a (accepted old new from to changed after) =
     subst ArePrinted (sym after) (record { past = All-cons IsPrintedOther _ _ a.present a.past; present = (new, to.valid, refl); future = All-nil IsPrintedOther })
-edit_prints edited s next reply a (refused why first stays) = same s next a stays.1
+edit_prints kept gone edited s next reply a (refused why first stays) = same s next a stays.1
 
 step_prints : (at : StepAt) (s next : State) (reply : Reply) → ArePrinted s → Transforms at s reply next → ArePrinted next
 step_prints at s next reply a (missing t reads none stays) = same s next a stays.1
@@ -42,7 +42,7 @@ forward_prints (o ∷ future) s next reply a all h = subst ArePrinted (sym h.1) 
 
 prints_by : (c : Command) (s next : State) (reply : Reply) → ArePrinted s → Does c s reply next → ArePrinted next
 prints_by c s next reply a (by_nothing changed is) = same s next a is
-prints_by c s next reply a (by_edit text h) = edit_prints text s next reply a h
+prints_by c s next reply a (by_edit kept gone text h) = edit_prints kept gone text s next reply a h
 prints_by c s next reply a (by_step at lawful h) = step_prints at s next reply a h
 prints_by c s next reply a (by_undo is h) = back_prints s.past s next reply a a.past h
 prints_by c s next reply a (by_redo is h) = forward_prints s.future s next reply a a.future h

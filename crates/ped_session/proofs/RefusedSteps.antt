@@ -8,9 +8,9 @@ use Rattle.ped_session.specs.Transforming.{StepAt}
 use Rattle.ped_session.specs.Steps.{Edits, accepted, refused, Transforms, missing, forbidden, transformed, GoesBack, GoesForward, IsStep}
 use Rattle.ped_session.proofs.Doing.{Does, by_nothing, by_edit, by_step, by_undo, by_redo, no_refusal, does}
 
-edit_stays : (edited : List ℕ) (s next : State) (why : Refusal) → Edits edited s (Refused why) next → next ≡ s
-edit_stays edited s next why (accepted old new from to reply after) = absurd (no_refusal why reply)
-edit_stays edited s next why (refused cause first same) = same.1
+edit_stays : (kept gone : ℕ) (edited : List ℕ) (s next : State) (why : Refusal) → Edits kept gone edited s (Refused why) next → next ≡ s
+edit_stays kept gone edited s next why (accepted old new from to reply after) = absurd (no_refusal why reply)
+edit_stays kept gone edited s next why (refused cause first same) = same.1
 
 step_stays : (at : StepAt) (s next : State) (why : Refusal) → Transforms at s (Refused why) next → next ≡ s
 step_stays at s next why (missing t reads none same) = same.1
@@ -27,7 +27,7 @@ forward_stays (other ∷ future) s next why h = absurd (no_refusal why h.0)
 
 stays_by : (c : Command) (s next : State) (why : Refusal) → Does c s (Refused why) next → next ≡ s
 stays_by c s next why (by_nothing same is) = is
-stays_by c s next why (by_edit text h) = edit_stays text s next why h
+stays_by c s next why (by_edit kept gone text h) = edit_stays kept gone text s next why h
 stays_by c s next why (by_step at lawful h) = step_stays at s next why h
 stays_by c s next why (by_undo is h) = back_stays s.past s next why h
 stays_by c s next why (by_redo is h) = forward_stays s.future s next why h

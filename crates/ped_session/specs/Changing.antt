@@ -11,11 +11,12 @@ use Rattle.ped_scalar.specs.ped_steps.specs.declared.causes.Refused.{Refused}
 use Rattle.ped_scalar.specs.ped_steps.specs.declared.changes.Change as step
 use Rattle.ped_scalar.specs.ped_steps.specs.CodeCauses.{cause_of, IsShort}
 use Rattle.ped_session.specs.declared.changes.Change.{Change}
-use Rattle.ped_session.specs.declared.changes.Change.TheVariants.{Transformation}
+use Rattle.ped_session.specs.declared.changes.Change.TheVariants.{Edit, Transformation}
 use Rattle.ped_session.specs.declared.replies.Refusal.TheVariants as refusal
 use Rattle.ped_session.specs.declared.replies.Reply.{Reply}
 use Rattle.ped_session.specs.declared.replies.Reply.TheVariants.{Changed}
 use Rattle.ped_session.specs.States.{State, changed_to}
+use Rattle.ped_session.specs.Splices.{edit_keep}
 use Rattle.ped_session.specs.Meanings.{IsKept}
 use Rattle.ped_session.specs.declared.asked.Asked.{Asked}
 use Rattle.ped_session.specs.declared.asked.Asked.TheVariants as asked
@@ -26,6 +27,11 @@ use Rattle.ped_session.specs.Steps.{Refuses}
 abbrev pub Changes : ProgramTree → List (ℕ × ℕ) → Change → State → Reply → State → Type 0
 Changes new keep change s reply next =
     (reply ≡ Changed) × (old : ProgramTree) × ReadsValid s.present old × (next ≡ changed_to (program_text new) change (tested_pairs old new keep) s)
+
+-- the printed text of a program has become the present source by an edit that keeps so many lines of the former one at the front and lets so many go
+abbrev pub EditChanges : ProgramTree → ℕ → ℕ → State → Reply → State → Type 0
+EditChanges new kept gone s reply next =
+    (reply ≡ Changed) × (old : ProgramTree) × ReadsValid s.present old × (next ≡ changed_to (program_text new) Edit (tested_pairs old new (edit_keep old new kept gone)) s)
 
 -- the step that is asked for
 abbrev pub step_at : Asked → StepAt

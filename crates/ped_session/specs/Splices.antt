@@ -1,7 +1,10 @@
--- A source with lines put in the place of others (this project).
-use Rattle.std.specs.Prelude.{ℕ, ◌+◌, List, [], ◌∷◌, ◌++◌, take, drop, length, Bool, ◌&&◌, nat_le}
-use Rattle.std.specs.List.{flat_map}
+-- A source with lines put in the place of others, and the statements that are kept then (this project).
+use Rattle.std.specs.Prelude.{ℕ, ◌+◌, ◌-◌, min, List, [], ◌∷◌, ◌++◌, map, take, drop, length, Bool, ◌&&◌, nat_le}
+use Rattle.std.specs.List.{flat_map, range_with_len}
 use Rattle.std.specs.Str.Lines.{lines}
+use Rattle.ped_tree.specs.Tree.{ProgramTree}
+use Rattle.ped_tree.specs.Numbering.{statements_count}
+use Rattle.ped_tree.specs.Printing.{begun_in, program_lines}
 
 -- lines as a text: each with its line feed
 abbrev pub text_of_lines : List (List ℕ) → List ℕ
@@ -22,3 +25,21 @@ are_lines text first last = nat_le 1 first && nat_le first last && nat_le last (
 -- this is the number of a line of the text, or 0 for its front
 abbrev pub is_place : List ℕ → ℕ → Bool
 is_place text after = nat_le after (line_count text)
+
+-- how many statements an edit keeps at the front: those that begin before the first line that it touches, where so many lines are kept, as far as the new program has as many
+abbrev pub kept_front : ProgramTree → ProgramTree → ℕ → ℕ
+kept_front old new kept = min (begun_in (take kept (program_lines old))) (statements_count new.body)
+
+-- how many it keeps at the back: those that begin behind the last line that it touches, as far as the new program has as many behind those at the front
+abbrev pub kept_back : ProgramTree → ProgramTree → ℕ → ℕ → ℕ
+kept_back old new kept gone = min (begun_in (drop (kept + gone) (program_lines old))) (statements_count new.body - kept_front old new kept)
+
+-- of two programs with so many statements, so many at the front keep their numbers, and so many at the back count from the end
+abbrev pub kept_ends : ℕ → ℕ → ℕ → ℕ → List (ℕ × ℕ)
+kept_ends before behind front back =
+    map (λ i. (i, i)) (range_with_len 1 front) ++ map (λ j. (before - back + j, behind - back + j)) (range_with_len 1 back)
+
+-- the statements that an edit of the first program keeps in the second, where so many of its lines are kept at the front and so many go: the number of each before the edit and behind it
+abbrev pub edit_keep : ProgramTree → ProgramTree → ℕ → ℕ → List (ℕ × ℕ)
+edit_keep old new kept gone =
+    kept_ends (statements_count old.body) (statements_count new.body) (kept_front old new kept) (kept_back old new kept gone)

@@ -19,8 +19,8 @@ use Rattle.ped_session.specs.declared.replies.Reply.{Reply}
 use Rattle.ped_session.specs.declared.replies.Reply.TheVariants.{Changed, Shown, Refused}
 use Rattle.ped_session.specs.declared.replies.Refusal.{Refusal}
 use Rattle.ped_session.specs.States.{Other, State, changed_to, gone_back_to, gone_forward_to}
-use Rattle.ped_session.specs.Splices.{spliced, are_lines, is_place}
-use Rattle.ped_session.specs.Panes.{IsSourcePane, ArePanes}
+use Rattle.ped_session.specs.Splices.{spliced, are_lines, is_place, edit_keep}
+use Rattle.ped_session.specs.Panes.{IsSourcePane, ArePanes, tested_row}
 use Rattle.ped_session.specs.Blocks.{block}
 use Rattle.ped_session.specs.RaceRows.{IsRaceRow}
 use Rattle.ped_session.specs.Transforming.{StepAt, privatising, expanding}
@@ -52,21 +52,21 @@ pub record ShowsStatement (number : ℕ) (s : State) (reply : Reply) (next : Sta
   pub reads : ReadsValid s.present tree
   pub shows : ShowsOf number (statement_with number tree) s reply next
 
--- the text of an edit is read afresh, and the printed text of what was read is the new source; or it is refused, and the session is as it was
-pub data Edits (text : List ℕ) (s : State) (reply : Reply) (next : State) : Type 0 where
+-- the text of an edit, which keeps so many lines at the front and lets so many go, is read afresh, and the printed text of what was read is the new source; or it is refused, and the session is as it was
+pub data Edits (kept gone : ℕ) (text : List ℕ) (s : State) (reply : Reply) (next : State) : Type 0 where
   accepted : (old new : ProgramTree) → ReadsValid s.present old → ReadsValid text new
-      → reply ≡ Changed → next ≡ changed_to (program_text new) Edit (tested_pairs old new []) s → Edits text s reply next
-  refused : (why : reading.Refusal) → RefusesText text (finding_of why) → Refuses (BadEdit why) s reply next → Edits text s reply next
+      → reply ≡ Changed → next ≡ changed_to (program_text new) Edit (tested_pairs old new (edit_keep old new kept gone)) s → Edits kept gone text s reply next
+  refused : (why : reading.Refusal) → RefusesText text (finding_of why) → Refuses (BadEdit why) s reply next → Edits kept gone text s reply next
 
 -- lines of the present source go and others come in their place, where it has the lines that go
 abbrev pub Replaces : ℕ → ℕ → List (List ℕ) → State → Reply → State → Type 0
 Replaces first last new s reply next =
-    MatchBool (are_lines s.present first last) (Edits (spliced s.present (first - 1) (last + 1 - first) new) s reply next) (Refuses NoSuchLine s reply next)
+    MatchBool (are_lines s.present first last) (Edits (first - 1) (last + 1 - first) (spliced s.present (first - 1) (last + 1 - first) new) s reply next) (Refuses NoSuchLine s reply next)
 
 -- lines come behind a line of the present source, or before its first line for 0
 abbrev pub Inserts : ℕ → List (List ℕ) → State → Reply → State → Type 0
 Inserts after new s reply next =
-    MatchBool (is_place s.present after) (Edits (spliced s.present after 0 new) s reply next) (Refuses NoSuchLine s reply next)
+    MatchBool (is_place s.present after) (Edits after 0 (spliced s.present after 0 new) s reply next) (Refuses NoSuchLine s reply next)
 
 -- a step: the present program has no statement of that number, or a cause forbids the step and the first is told, and the session is as it was; or the printed text of the program that the step makes, which is valid, is the new source (ParaScope; this project)
 pub data Transforms (at : StepAt) (s : State) (reply : Reply) (next : State) : Type 0 where
@@ -117,7 +117,7 @@ IsStep (Privatise number name) data_bytes s reply next = Transforms (privatising
 IsStep (Parallel number) data_bytes s reply next = Refuses NotBuilt s reply next
 IsStep (Serial number) data_bytes s reply next = Refuses NotBuilt s reply next
 IsStep (Reject number name) data_bytes s reply next = Refuses NotBuilt s reply next
-IsStep Tested data_bytes s reply next = Refuses NotBuilt s reply next
+IsStep Tested data_bytes s reply next = Prints (tested_row s.tested) s reply next
 
 -- `undo` and `redo` move along the history
 abbrev pub IsMove : Command → Type 0

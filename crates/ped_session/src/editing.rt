@@ -1,20 +1,27 @@
 //! Edits: lines of the present source go, others come, and what results is read afresh.
 
 ghost use Rattle.std.specs.Prelude.{◌≡◌, ◌+◌, ◌≤◌, IfOk, OnErr};
+ghost use Rattle.ped_tree.specs.Tree.{ProgramTree};
+ghost use Rattle.ped_tree.specs.Views.{program_tree};
+ghost use Rattle.ped_valid.specs.ped_symbols.specs.NameRefusals.{IsValid};
+ghost use Rattle.ped_valid.specs.ped_symbols.specs.Kinds.{table_of};
+ghost use Rattle.ped_valid.specs.Validity.{ReadsValid};
+ghost use Rattle.ped_graph.specs.Update.Fresh.{tested_pairs};
 ghost use Rattle.ped_session.specs.declared.replies.Reply.{Reply};
 ghost use Rattle.ped_session.specs.States.{State};
+ghost use Rattle.ped_session.specs.Changing.{EditChanges};
 ghost use Rattle.ped_session.specs.Splices as Splices;
 ghost use Rattle.ped_session.specs.Steps.{Edits, Replaces, Inserts};
 ghost use Rattle.ped_session.specs.Scripts.{tests_of};
 
 use crate::changes::Change;
+use crate::keeping::edit_keep;
 use crate::replies::{Refusal, Reply};
 use crate::session::Session;
 use crate::splices::{line_count, spliced};
 use ped_base::{Bytes, NoMemory};
 use ped_graph::ped_verdict::Steps;
-use ped_graph::update::Keep;
-use ped_valid::{OpenRefusal, open_program};
+use ped_valid::{OpenRefusal, Opened, open_program};
 use std::alloc::Global;
 use std::sync::ledger::Ledger;
 
@@ -69,20 +76,40 @@ impl<L: Ledger> Session<L> {
         lines: &[Bytes],
         steps: &mut Steps<L>,
     ) -> Result<Reply, NoMemory>
-        ensures answers { IfOk result (λ reply. Edits (Splices.spliced self.old.present kept gone lines.now) self.old reply self.new) }
+        ensures answers { IfOk result (λ reply. Edits kept gone (Splices.spliced self.old.present kept gone lines.now) self.old reply self.new) }
         ensures kept { OnErr result (self.new ≡ self.old) }
         ensures ticks { IfOk result (λ reply. steps.new ≡ steps.old + tests_of reply self.new) }
         ensures least { steps.old ≤ steps.new }
-        ensures most { (reply : Reply) (next : State) → Edits (Splices.spliced self.old.present kept gone lines.now) self.old reply next → steps.new ≤ steps.old + tests_of reply next }
+        ensures most { (reply : Reply) (next : State) → Edits kept gone (Splices.spliced self.old.present kept gone lines.now) self.old reply next → steps.new ≤ steps.old + tests_of reply next }
     {
         let text = spliced(alloc, self.source(), kept, gone, lines)?;
         match open_program(alloc, text.as_slice()) {
-            Ok(opened) => {
-                return self.change(alloc, opened, &Keep::new(alloc), Change::Edit, steps);
-            }
+            Ok(opened) => return self.edit(alloc, opened, kept, gone, steps),
             Err(OpenRefusal::At(why)) => return Ok(Reply::Refused(Refusal::BadEdit(why))),
             Err(OpenRefusal::NoMemory) => return Err(NoMemory),
         }
+    }
+
+    /// Makes what an edit reads as the present program; so many lines of the former source were kept at the front, and
+    /// so many went.
+    fn edit(
+        &mut self,
+        alloc: Global,
+        new: Opened,
+        kept: u64,
+        gone: u64,
+        steps: &mut Steps<L>,
+    ) -> Result<Reply, NoMemory>
+        requires valid { IsValid (program_tree new.program) }
+        requires symbols { new.symbols ≡ table_of (program_tree new.program) }
+        ensures answers { IfOk result (λ reply. EditChanges (program_tree new.program) kept gone self.old reply self.new) }
+        ensures kept { OnErr result (self.new ≡ self.old) }
+        ensures ticks { IfOk result (λ reply. steps.new ≡ steps.old + tests_of reply self.new) }
+        ensures least { steps.old ≤ steps.new }
+        ensures most { (old : ProgramTree) → ReadsValid self.old.present old → steps.new ≤ steps.old + tested_pairs old (program_tree new.program) (Splices.edit_keep old (program_tree new.program) kept gone) }
+    {
+        let keep = edit_keep(alloc, &self.present.program, &new.program, kept, gone)?;
+        self.change(alloc, new, &keep, Change::Edit, steps)
     }
 }
 

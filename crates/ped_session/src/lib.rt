@@ -10,6 +10,7 @@ mod blocks;
 mod changes;
 mod changing;
 mod editing;
+mod keeping;
 mod laws;
 mod moving;
 mod race_rows;

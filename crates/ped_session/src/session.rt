@@ -193,6 +193,7 @@ impl<L: Ledger> Session<L> {
             }
             Command::Run(choices) => return self.show_run(alloc, choices.as_slice(), input),
             Command::Races => return self.show_races(alloc, input),
+            Command::Tested => return self.show_tested(alloc),
             Command::Advise(_)
             | Command::Interchange(_)
             | Command::Reverse(_)
@@ -203,8 +204,7 @@ impl<L: Ledger> Session<L> {
             | Command::Fuse(_)
             | Command::Parallel(_)
             | Command::Serial(_)
-            | Command::Reject(_, _)
-            | Command::Tested => return Ok(Reply::Refused(Refusal::NotBuilt)),
+            | Command::Reject(_, _) => return Ok(Reply::Refused(Refusal::NotBuilt)),
         }
     }
 }

@@ -3,6 +3,7 @@
 ghost use Rattle.std.specs.Prelude.{◌≡◌, IfOk, Option, List, ℕ};
 ghost use Rattle.ped_graph.specs.DependencePane.{IsDependencePane, IsDependencePaneOf};
 ghost use Rattle.ped_session.specs.Panes.{IsSourcePane, ArePanes};
+ghost use Rattle.ped_session.specs.Panes as Panes;
 ghost use Rattle.ped_session.specs.RaceRows.{IsRaceRow};
 ghost use Rattle.ped_session.specs.Steps.{Shows, ShowsStatement, Prints, Runs, IsStep};
 ghost use Rattle.ped_script.specs.declared.items.Command.TheVariants as commands;
@@ -11,7 +12,7 @@ use crate::blocks::block;
 use crate::race_rows::race_row;
 use crate::replies::{Refusal, Reply};
 use crate::session::Session;
-use ped_base::{Bytes, NoMemory};
+use ped_base::{Bytes, NoMemory, push_number};
 use ped_order::ped_eval::run_in_order;
 use ped_order::races;
 use ped_print::source_pane;
@@ -51,6 +52,13 @@ impl<L: Ledger> Session<L> {
             return Ok(Reply::Refused(Refusal::NoSuchStatement));
         }
         Ok(Reply::Shown(self.graph.dependence_pane(alloc, Some(number))?))
+    }
+
+    /// How many pairs of references the last accepted change, undo or redo has tested, or the opening.
+    pub(crate) fn show_tested(&self, alloc: Global) -> Result<Reply, NoMemory>
+        ensures { IfOk result (λ reply. Prints (Panes.tested_row self.now.tested) self.now reply self.now) }
+    {
+        Ok(Reply::Shown(tested_row(alloc, self.tested)?))
     }
 
     /// Both panes.
@@ -97,4 +105,15 @@ impl<L: Ledger> Session<L> {
         let report = races(alloc, &present.program, &present.symbols, input)?;
         Ok(Reply::Shown(race_row(alloc, &report)?))
     }
+}
+
+/// The row that says how many pairs were tested.
+fn tested_row(alloc: Global, tested: u64) -> Result<Bytes, NoMemory>
+    ensures { IfOk result (λ row. row ≡ Panes.tested_row tested) }
+{
+    let mut row = Bytes::new(alloc);
+    row.extend_from_slice(b"tested ")?;
+    push_number(&mut row, tested)?;
+    row.push(b'\n')?;
+    Ok(row)
 }

@@ -5,14 +5,14 @@ ghost use Rattle.ped_graph.specs.Held.{Held};
 ghost use Rattle.ped_graph.specs.Update.Deltas.{TakesTo, IsSwap};
 
 use crate::Graph;
+use crate::parts::Parts;
 use std::marker::Model;
-use std::mem;
 use std::sync::ledger::Ledger;
 
 /// The step between two states of a graph. It belongs to one of them, and `swap` takes the graph to the other.
 #[derive(Drop)]
 pub struct Delta<L: Ledger> {
-    other: Graph<L>,
+    parts: Parts<L>,
     tested: u64,
 }
 
@@ -21,16 +21,16 @@ impl<L: Ledger> Model for Delta<L> {
 
     ghost Value = { HeldDelta };
 
-    ghost view = { λ d. record { other = d.other; tested = d.tested } };
+    ghost view = { λ d. record { parts = d.parts; tested = d.tested } };
 }
 
 impl<L: Ledger> Delta<L> {
-    /// The step back to this state, of a change that tested so many pairs.
-    pub(crate) fn new(other: Graph<L>, tested: u64) -> Delta<L>
-        ensures other { result.other ≡ other }
+    /// The step by these parts, of a change that tested so many pairs.
+    pub(crate) fn new(parts: Parts<L>, tested: u64) -> Delta<L>
+        ensures parts { result.parts ≡ parts }
         ensures tested { result.tested ≡ tested }
     {
-        Delta { other, tested }
+        Delta { parts, tested }
     }
 
     /// How many pairs of references the change tested that this step belongs to.
@@ -48,5 +48,5 @@ pub fn swap<L: Ledger>(graph: &mut Graph<L>, delta: &mut Delta<L>)
     ensures swapped { IsSwap delta.old graph.old delta.new graph.new }
     ensures tested { delta.new.tested ≡ delta.old.tested }
 {
-    mem::swap(graph, &mut delta.other);
+    graph.exchange(&mut delta.parts);
 }

@@ -1,30 +1,30 @@
 //! The graph of a program in place of that of the program before a change.
 
 ghost use Rattle.std.specs.Prelude.{◌≡◌, ◌+◌, ◌≤◌, IfOk, OnOk, OnErr};
-ghost use Rattle.ped_tree.specs.Tree.{ProgramTree};
 ghost use Rattle.ped_tree.specs.Views.{program_tree};
 ghost use Rattle.ped_symbols.specs.NameRefusals.{IsValid};
 ghost use Rattle.ped_symbols.specs.Kinds.{table_of};
 ghost use Rattle.ped_graph.specs.Held.{held_of};
 ghost use Rattle.ped_graph.specs.Update.Deltas.{TakesTo};
-ghost use Rattle.ped_graph.specs.Update.Fresh.{IsOneToOne, tested_pairs};
+ghost use Rattle.ped_graph.specs.Update.Fresh.{IsOneToOne, fresh_pairs};
 
-use crate::Graph;
 use crate::update::deltas::Delta;
+use crate::update::matching::matched;
+use crate::{Graph, prepare};
 use ped_base::{Listed, NoMemory};
 use ped_tree::Program;
 use ped_tree::constants::Consts;
 use ped_verdict::Steps;
 use std::alloc::Global;
-use std::mem;
 use std::sync::ledger::Ledger;
 
 /// Statements that a change keeps: the number of each before the change, and its number behind it.
 pub type Keep = Listed<(u32, u32)>;
 
 /// Makes the graph of the program before a change that of the valid program behind it, whose named constants these
-/// are, and gives the step back. So far each pair of references of the program is tested, once. After want of
-/// memory the graph is as it was.
+/// are, and gives the step back. A pair of references whose statements are kept, with the same numbers in them and the
+/// same view as before, keeps its verdict; every other pair is tested, once. After want of memory the graph is as it
+/// was.
 pub fn update<L: Ledger>(
     alloc: Global,
     graph: &mut Graph<L>,
@@ -35,18 +35,18 @@ pub fn update<L: Ledger>(
 ) -> Result<Delta<L>, NoMemory>
     requires valid { IsValid (program_tree program.now) }
     requires constants { consts.now ≡ (table_of (program_tree program.now)).constants }
-    requires former { (t : ProgramTree) × IsValid t × (graph.old ≡ held_of t) }
     requires one_to_one { IsOneToOne keep.now }
     ensures built { OnOk result (graph.new ≡ held_of (program_tree program.now)) }
     ensures back { IfOk result (λ delta. TakesTo delta graph.new graph.old) }
-    ensures tested { IfOk result (λ delta. (t : ProgramTree) → graph.old ≡ held_of t → delta.tested ≡ tested_pairs t (program_tree program.now) keep.now) }
-    ensures ticks { OnOk result ((t : ProgramTree) → graph.old ≡ held_of t → steps.new ≡ steps.old + tested_pairs t (program_tree program.now) keep.now) }
+    ensures tested { IfOk result (λ delta. delta.tested ≡ fresh_pairs graph.old keep.now (held_of (program_tree program.now))) }
+    ensures ticks { OnOk result (steps.new ≡ steps.old + fresh_pairs graph.old keep.now (held_of (program_tree program.now))) }
     ensures least { steps.old ≤ steps.new }
-    ensures most { (t : ProgramTree) → graph.old ≡ held_of t → steps.new ≤ steps.old + tested_pairs t (program_tree program.now) keep.now }
+    ensures most { steps.new ≤ steps.old + fresh_pairs graph.old keep.now (held_of (program_tree program.now)) }
     ensures unchanged { OnErr result (graph.new ≡ graph.old) }
 {
-    let mut other = Graph::build(alloc, program, consts, steps)?;
-    let tested = other.pair_count();
-    mem::swap(graph, &mut other);
-    Ok(Delta::new(other, tested))
+    let prepared = prepare(alloc, program, consts)?;
+    let mut parts = matched(alloc, graph, prepared, keep.as_slice(), steps)?;
+    let tested = (parts.slots.len() - parts.kept.len()) as u64;
+    graph.exchange(&mut parts);
+    Ok(Delta::new(parts, tested))
 }

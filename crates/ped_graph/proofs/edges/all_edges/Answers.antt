@@ -1,17 +1,31 @@
-use Rattle.std.proofs.Common.{◌+◌, List, map, subst, sym}
+use Rattle.std.proofs.Common.{◌≡◌, ◌≤◌, ◌+◌, ◌∙◌, suc, List, ◌∷◌, map, drop, length, ap, subst, sym, add-one, arith}
 use Rattle.ped_edges.specs.Edges.{Edge}
 use Rattle.ped_edges.specs.CodeEdges.{edge_of}
-use Rattle.ped_graph.specs.CodeFacts.{pair_tested}
-use Rattle.ped_graph.proofs.HeldEdges.{AreAhead, one_found, all_found}
+use Rattle.ped_graph.specs.Held.{pair_by, pairs_by}
+use Rattle.ped_graph.specs.CodeFacts.{framed_of, views_in}
+use Rattle.ped_graph.proofs.Slices.{item_there, mapped_at, length_mapped}
+use Rattle.ped_graph.proofs.HeldEdges.{AreAhead, next_pair, few_pairs, one_found, all_found}
 use Rattle.ped_graph.proofs.edges.all_edges.Goals as goal
 
-pub loop-pair-preserved : goal.loop-pair-preserved
-loop-pair-preserved g c =
-    let xs = c.args.pairs.now in
-    let k = c.loop-pair.pair-index in
+pub loop-place-preserved : goal.loop-place-preserved
+loop-place-preserved g c =
+    let fs = map framed_of c.args.pairs.now in
+    let vs = views_in c.args.verdicts.now in
+    let ps = pairs_by fs vs in
+    let i = c.loop-place.place in
+    let x = c.index-pairs-place.result in
     let more = c.in_ok-push_edges.ensures.edges in
-    let ahead = one_found pair_tested xs k (map edge_of c.loop-pair.edges.items) more.0 c.pair-item.result c.loop-pair-test.true (sym c.pair-item.is) more.2 c.loop-pair.invariant.0 in
-    (subst (λ (es : List Edge). AreAhead pair_tested xs (k + 1) es) (sym more.1) ahead, c.in_ok-push_edges.ensures.short c.loop-pair.invariant.1)
+    let at = mapped_at framed_of c.args.pairs.now i x (item_there c.args.pairs.now i x c.index-pairs-place.is c.loop-place-test.true) in
+    let p = pair_by (framed_of x) c.verdict_at.result.now in
+    let next = next_pair fs vs i (framed_of x) c.verdict_at.result.now at c.verdict_at.ensures ∙ ap (λ (n : _). p ∷ drop n ps) (sym (add-one i)) in
+    let ahead = one_found ps i (map edge_of c.loop-place.edges.items) more.0 p next more.2 c.loop-place.invariant.0 in
+    (subst (λ (es : List Edge). AreAhead ps (i + 1) es) (sym more.1) ahead, c.in_ok-push_edges.ensures.short c.loop-place.invariant.1)
 
 pub returns-clause-edges : goal.returns-clause-edges
-returns-clause-edges g c = all_found pair_tested c.args.pairs.now c.loop-pair.pair-index (map edge_of c.loop-pair.edges.items) c.loop-pair-test.false c.loop-pair.invariant.0
+returns-clause-edges g c =
+    let fs = map framed_of c.args.pairs.now in
+    let vs = views_in c.args.verdicts.now in
+    let few = few_pairs fs vs in
+    let mapped = length_mapped framed_of c.args.pairs.now in
+    let past = c.loop-place-test.false in
+    all_found (pairs_by fs vs) c.loop-place.place (map edge_of c.loop-place.edges.items) (omega (arith, few, mapped, past)) c.loop-place.invariant.0

@@ -1,9 +1,10 @@
 use Rattle.std.proofs.Common.{map, All}
 use Rattle.ped_edges.specs.CodeEdges.{edge_of, HasAtMostSixLoops}
-use Rattle.ped_graph.specs.CodeFacts.{pair_tested}
+use Rattle.ped_graph.specs.Held.{pairs_by}
+use Rattle.ped_graph.specs.CodeFacts.{framed_of, views_in}
 use Rattle.ped_graph.proofs.HeldEdges.{AreAhead}
 use Rattle.ped_graph.proofs.edges.all_edges.Given as goal
 
 -- the dependences so far, and those of the pairs ahead, are all
-abbrev pub invariant-loop-pair : goal.invariant-loop-pair
-invariant-loop-pair g l = AreAhead pair_tested l.pairs l.pair-index (map edge_of l.edges.items) × All HasAtMostSixLoops l.edges.items
+abbrev pub invariant-loop-place : goal.invariant-loop-place
+invariant-loop-place g l = AreAhead (pairs_by (map framed_of l.pairs) (views_in l.verdicts)) l.place (map edge_of l.edges.items) × All HasAtMostSixLoops l.edges.items

@@ -1,19 +1,22 @@
-use Rattle.std.proofs.Common.{◌≡◌, ◌<◌, ◌^◌, ◌∙◌, List, ap, subst, sym}
-use Rattle.ped_tree.specs.Views.{program_tree, stmt_trees}
-use Rattle.ped_tree.specs.Numbering.{statements_count}
-use Rattle.ped_tree.specs.declared.statements.Stmt.{Stmt}
-use Rattle.ped_refs.specs.Occurrences.{references_of}
-use Rattle.ped_graph.proofs.Known.{few_statements, few_references, shallow_found}
+use Rattle.std.proofs.Common.{◌≡◌, ◌∙◌, ap, sym, map, length, Some, List}
+use Rattle.ped_views.specs.Views.{View}
+use Rattle.ped_tree.specs.Views.{program_tree}
+use Rattle.ped_graph.specs.Held.{Held}
+use Rattle.ped_graph.specs.CodeFacts.{views_in}
+use Rattle.ped_graph.proofs.Slices.{length_mapped}
+use Rattle.ped_graph.proofs.Exchanging.{are_whole, views_there}
+use Rattle.ped_graph.proofs.Updated.{paired_views}
 use Rattle.ped_graph.proofs.graph.Graph.build.Goals as goal
 
-pub occurrences-requires-clause-statements : goal.occurrences-requires-clause-statements
-occurrences-requires-clause-statements g c = few_statements (program_tree c.args.program.now) c.requires.valid
+pub invariant_of-result : goal.invariant_of-result
+invariant_of-result g c =
+    let views = c.prepared.inside.views.items in
+    let there = c.in_ok-verdicts.ensures.verdicts in
+    let paired = paired_views (program_tree c.args.program.now) _ (c.prepared.view_is ∙ c.in_ok-prepared.ensures) in
+    are_whole c.prepared.inside.frame views c.in_ok-verdicts.verdicts.items there (ap (λ ss. length ss) there ∙ length_mapped Some views ∙ paired)
 
-pub occurrences-requires-clause-references : goal.occurrences-requires-clause-references
-occurrences-requires-clause-references g c = few_references (program_tree c.args.program.now) c.requires.valid
-
-pub extents-requires : goal.extents-requires
-extents-requires g c = subst (λ (body : List Stmt). statements_count (stmt_trees body) < 2 ^ 32) (sym c.deref.ensures.value) (few_statements (program_tree c.args.program.now) c.requires.valid)
-
-pub test_all-requires-clause-shallow : goal.test_all-requires-clause-shallow
-test_all-requires-clause-shallow g c = shallow_found (program_tree c.args.program.now) c.deref-2.result.now c.requires.valid (ap references_of c.deref-2.ensures.value ∙ c.in_ok-found.ensures)
+pub returns-clause-built : goal.returns-clause-built
+returns-clause-built g c =
+    let there = c.in_ok-verdicts.ensures.verdicts in
+    let views = ap views_in there ∙ views_there c.prepared.inside.views.items in
+    (λ i. record { frame = c.prepared.inside.frame; views = views i }) ∙ c.prepared.view_is ∙ c.in_ok-prepared.ensures

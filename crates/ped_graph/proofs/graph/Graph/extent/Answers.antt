@@ -6,5 +6,5 @@ use Rattle.ped_graph.proofs.graph.Graph.extent.Goals as goal
 
 pub returns : goal.returns
 returns g c t is =
-    c.extent_of.ensures ∙ ap (λ (es : List ℕ). extent_held es c.args.number) c.deref.ensures.value
-    ∙ ap (λ (h : Held). extent_held h.extents c.args.number) c.self.view_is ∙ extent_is t c.args.self.now c.args.number is
+    c.extent_of.ensures ∙ ap (λ (es : List ℕ). extent_held es c.args.number) c.extents.ensures
+    ∙ ap (λ (h : Held). extent_held h.frame.extents c.args.number) c.self.view_is ∙ extent_is t c.args.self.now c.args.number is

@@ -6,5 +6,5 @@ use Rattle.ped_graph.proofs.graph.Graph.has_statement.Goals as goal
 
 pub returns : goal.returns
 returns g c t is =
-    c.has_number.ensures ∙ ap (λ (es : List ℕ). has_number es c.args.number) c.deref.ensures.value
-    ∙ ap (λ (h : Held). has_number h.extents c.args.number) c.self.view_is ∙ stands t c.args.self.now c.args.number is
+    c.has_number.ensures ∙ ap (λ (es : List ℕ). has_number es c.args.number) c.extents.ensures
+    ∙ ap (λ (h : Held). has_number h.frame.extents c.args.number) c.self.view_is ∙ stands t c.args.self.now c.args.number is

@@ -5,5 +5,5 @@ use Rattle.ped_graph.proofs.graph.Graph.statement_count.Goals as goal
 
 pub returns : goal.returns
 returns g c t is =
-    ap (λ (es : List ℕ). length es) c.deref-extents.ensures.value
-    ∙ ap (λ (h : Held). length h.extents) c.self.view_is ∙ counted t c.args.self.now is
+    ap (λ (es : List ℕ). length es) c.extents.ensures
+    ∙ ap (λ (h : Held). length h.frame.extents) c.self.view_is ∙ counted t c.args.self.now is

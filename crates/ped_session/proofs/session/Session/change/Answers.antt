@@ -1,4 +1,4 @@
-use Rattle.std.proofs.Common.{refl, ap, ◌∙◌}
+use Rattle.std.proofs.Common.{ℕ, ◌+◌, ◌≤◌, refl, ap, subst, ◌∙◌}
 use Rattle.ped_tree.specs.Views.{program_tree}
 use Rattle.ped_tree.specs.Printing.{program_text}
 use Rattle.ped_graph.specs.Update.Fresh.{tested_pairs}
@@ -6,14 +6,14 @@ use Rattle.ped_session.specs.declared.versions.Version.{Version}
 use Rattle.ped_session.specs.Holding.{tree_of}
 use Rattle.ped_session.specs.States.{State}
 use Rattle.ped_session.proofs.PresentProgram.{graph_of, reads_version}
-use Rattle.ped_session.proofs.Accepted.{changed_by, as_counted}
+use Rattle.ped_session.proofs.Accepted.{changed_by, as_counted, fresh_by}
 use Rattle.ped_session.proofs.session.Session.change.Goals as goal
 
 pub returns-in_err-delta-clause-most : goal.returns-in_err-delta-clause-most
 returns-in_err-delta-clause-most g c old reads =
     let s = c.self.inside in
     let held = graph_of s.present s.graph s.history.past s.history.future c.self.invariant c.args.self.now.present (ap (λ (u : State). u.present) c.self.view_is) old reads in
-    c.update.ensures.most old held
+    subst (λ (n : ℕ). c.update.new.steps ≤ c.args.steps.now + n) (fresh_by s.graph old (program_tree c.args.new.program) c.args.keep.now held) c.update.ensures.most
 
 pub returns-clause-answers : goal.returns-clause-answers
 returns-clause-answers g c =
@@ -27,17 +27,19 @@ returns-clause-answers g c =
           (record { other = c.replace-other.result; change = c.args.change; delta = c.in_ok-delta.delta }) s.tested c.tested-self-inside.result (tested_pairs old t c.args.keep.now)
           (ap (λ (v : Version). v.text) c.replace-other.ensures.after ∙ c.in_ok-text.ensures) c.push.ensures c.in_ok-reserve.ensures.past
           (ap (λ (v : Version). v.text) c.replace-other.ensures.value) c.self.view_is
-          (c.tested-self-inside.ensures ∙ c.in_ok-delta.ensures.tested old c.self.invariant.graph_is),
+          (c.tested-self-inside.ensures ∙ c.in_ok-delta.ensures.tested ∙ fresh_by s.graph old t c.args.keep.now c.self.invariant.graph_is),
     )
 
 pub returns-clause-ticks : goal.returns-clause-ticks
 returns-clause-ticks g c =
-    let t = tree_of c.self.inside.present in
-    as_counted c.update.new.steps c.args.steps.now c.in_ok-delta.delta.tested (tested_pairs t (program_tree c.args.new.program) c.args.keep.now) c.tested-self-inside.result
-    (c.in_ok-delta.ensures.ticks t c.self.invariant.graph_is) (c.in_ok-delta.ensures.tested t c.self.invariant.graph_is) c.tested-self-inside.ensures
+    let s = c.self.inside in
+    let t = program_tree c.args.new.program in
+    let fresh = fresh_by s.graph (tree_of s.present) t c.args.keep.now c.self.invariant.graph_is in
+    as_counted c.update.new.steps c.args.steps.now c.in_ok-delta.delta.tested (tested_pairs (tree_of s.present) t c.args.keep.now) c.tested-self-inside.result
+    (c.in_ok-delta.ensures.ticks ∙ ap (λ (n : ℕ). c.args.steps.now + n) fresh) (c.in_ok-delta.ensures.tested ∙ fresh) c.tested-self-inside.ensures
 
 pub returns-clause-most : goal.returns-clause-most
 returns-clause-most g c old reads =
     let s = c.self.inside in
     let held = graph_of s.present s.graph s.history.past s.history.future c.self.invariant c.args.self.now.present (ap (λ (u : State). u.present) c.self.view_is) old reads in
-    c.update.ensures.most old held
+    subst (λ (n : ℕ). c.update.new.steps ≤ c.args.steps.now + n) (fresh_by s.graph old (program_tree c.args.new.program) c.args.keep.now held) c.update.ensures.most

@@ -5,7 +5,7 @@ use Rattle.ped_refs.specs.Occurrences.{reference_of}
 use Rattle.ped_graph.specs.Guards.{guards}
 use Rattle.ped_graph.specs.Marks.{is_firm}
 use Rattle.ped_graph.proofs.Places.{index_mapped}
-use Rattle.ped_graph.proofs.testing.firm_at.Goals as goal
+use Rattle.ped_graph.proofs.preparing.firm_at.Goals as goal
 
 pub returns : goal.returns
 returns c = λ r e.

@@ -9,10 +9,10 @@ use Rattle.ped_tree.specs.NamesIn.{all_loop_variables}
 use Rattle.ped_graph.specs.Guards.{all_guards_in}
 use Rattle.ped_graph.specs.Marks.{is_firm}
 use Rattle.ped_graph.proofs.Places.{same_length}
-use Rattle.ped_graph.proofs.testing.test_all.Goals as goal
+use Rattle.ped_graph.proofs.preparing.all_pairs.Goals as goal
 
-pub tested_pairs-requires-clause-known : goal.tested_pairs-requires-clause-known
-tested_pairs-requires-clause-known g c =
+pub pairs_of-requires-clause-known : goal.pairs_of-requires-clause-known
+pairs_of-requires-clause-known c =
     let guards = c.deref-2.ensures.value ∙ c.in_ok-guards.ensures ∙ ap (λ (body : List Stmt). all_guards_in false (stmt_trees body)) c.deref.ensures.value in
     record {
       constants = c.requires.constants;

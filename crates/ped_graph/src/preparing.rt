@@ -1,0 +1,236 @@
+//! What is known of the pairs of a program without a test, and the views that are to be tested.
+
+ghost use Rattle.std.specs.Prelude.{◌≡◌, ◌≤◌, ◌<◌, ◌&&◌, ◌++◌, ◌∷◌, [], Some, map, length, IfOk, OnOk, All, slice_get};
+ghost use Rattle.ped_tree.specs.Views.{program_tree};
+ghost use Rattle.ped_symbols.specs.Kinds.{table_of};
+ghost use Rattle.ped_refs.specs.References.{Reference, outermost, references, pairs};
+ghost use Rattle.ped_refs.specs.Occurrences.{reference_of, references_of, pair_at, IsWithin};
+ghost use Rattle.ped_affine.specs.Arguments.{setting_of, site};
+ghost use Rattle.ped_affine.specs.PairViews.{view_at};
+ghost use Rattle.ped_graph.specs.Guards as Guards;
+ghost use Rattle.ped_graph.specs.Marks.{is_firm};
+ghost use Rattle.ped_graph.specs.Held.{framed, frame_of, views_of};
+ghost use Rattle.ped_graph.specs.Dependences as Spec;
+ghost use Rattle.ped_graph.specs.Dependences.{facts_of, view_of};
+ghost use Rattle.ped_graph.specs.CodeFacts.{framed_of};
+ghost use Rattle.ped_graph.specs.KnownProgram.{IsKnown, IsRound};
+
+use crate::facts::{Facts, push_facts};
+use crate::firmness::all_firm;
+use crate::guards::guards;
+use crate::rounds::{assigned_by, outermost};
+use ped_affine::{Place, Setting, loop_variables, view};
+use ped_base::NoMemory;
+use ped_refs::{Occurrence, Pair, listed_pairs};
+use ped_tree::Program;
+use ped_tree::constants::Consts;
+use ped_tree::names::NameSet;
+use ped_views::PairView;
+use std::alloc::Global;
+
+/// Pairs of references with their views, side by side.
+#[derive(Drop)]
+pub struct Pairs {
+    /// What is known of them without a test.
+    pub facts: Vec<Facts>,
+    /// Their views.
+    pub views: Vec<PairView>,
+}
+
+/// What is known of a program before its pairs are tested.
+#[derive(Clone, Copy)]
+pub struct Known<'a> {
+    /// The program.
+    pub program: &'a Program,
+    /// Its named constants.
+    pub consts: &'a Consts,
+    /// The variables of its DO loops.
+    pub loop_variables: &'a NameSet,
+    /// Its references.
+    pub found: &'a [Occurrence<'a>],
+    /// For each reference whether constants alone decide that it is reached.
+    pub firm: &'a [bool],
+}
+
+/// The DO that is the outermost round some references, and what it assigns.
+#[derive(Drop)]
+pub struct Round {
+    /// Its statement number.
+    pub number: u32,
+    /// What it assigns.
+    pub assigned: NameSet,
+}
+
+/// All pairs of these references, which are those of the program, with their views.
+pub fn all_pairs(
+    alloc: Global,
+    program: &Program,
+    consts: &Consts,
+    found: &[Occurrence],
+) -> Result<Pairs, NoMemory>
+    requires constants { consts.now ≡ (table_of (program_tree program.now)).constants }
+    requires found { references_of found.now ≡ references (program_tree program.now) }
+    requires shallow { All (λ o. length o.nest.items ≤ 6) found.now }
+    ensures facts { IfOk result (λ pairs. map framed_of pairs.facts.items ≡ (frame_of (program_tree program.now)).pairs) }
+    ensures views { IfOk result (λ pairs. pairs.views.items ≡ views_of (program_tree program.now)) }
+{
+    let listed = listed_pairs(alloc, found)?;
+    let guards = guards(alloc, &program.body)?;
+    let firm = all_firm(alloc, consts, &guards, found)?;
+    let loop_variables = loop_variables(alloc, &program.body)?;
+    let known = Known {
+        program,
+        consts,
+        loop_variables: &loop_variables,
+        found,
+        firm: &firm,
+    };
+    pairs_of(alloc, &known, &listed)
+}
+
+/// These pairs of references, which are all pairs of the program, with their views.
+fn pairs_of(alloc: Global, known: &Known, listed: &[Pair]) -> Result<Pairs, NoMemory>
+    requires known { IsKnown known.now }
+    requires within { All (IsWithin (length known.now.found.now)) listed.now }
+    requires listed { map (pair_at (references_of known.now.found.now)) listed.now ≡ map Some (pairs (references (program_tree known.now.program.now))) }
+    ensures facts { IfOk result (λ pairs. map framed_of pairs.facts.items ≡ (frame_of (program_tree known.now.program.now)).pairs) }
+    ensures views { IfOk result (λ pairs. pairs.views.items ≡ views_of (program_tree known.now.program.now)) }
+{
+    let mut pairs = Pairs {
+        facts: Vec::new(alloc),
+        views: Vec::new(alloc),
+    };
+    let mut round = Round {
+        number: 0,
+        assigned: NameSet::new(alloc),
+    };
+    for pair in listed {
+        let number = outermost(occurrence_at(known, pair.source));
+        enter(alloc, &mut round, known.program, number)?;
+        add_pair(alloc, &mut pairs, known, &round, pair)?;
+    }
+    Ok(pairs)
+}
+
+/// Adds a pair of the program's references, by their places, with its view.
+fn add_pair(
+    alloc: Global,
+    pairs: &mut Pairs,
+    known: &Known,
+    round: &Round,
+    pair: &Pair,
+) -> Result<(), NoMemory>
+    requires known { IsKnown known.now }
+    requires within { IsWithin (length known.now.found.now) pair.now }
+    requires round { IsRound (program_tree known.now.program.now) round.now }
+    requires entered { (source : Reference) → slice_get (references_of known.now.found.now) pair.now.source ≡ Some source → round.now.number ≡ outermost source }
+    ensures facts { OnOk result ((p : Reference × Reference) → pair_at (references_of known.now.found.now) pair.now ≡ Some p
+        → map framed_of pairs.new.facts.items ≡ map framed_of pairs.old.facts.items ++ framed (facts_of (program_tree known.now.program.now)) p.0 p.1 ∷ []) }
+    ensures views { OnOk result ((p : Reference × Reference) → pair_at (references_of known.now.found.now) pair.now ≡ Some p
+        → pairs.new.views.items ≡ pairs.old.views.items ++ view_of (program_tree known.now.program.now) p.0 p.1 ∷ []) }
+{
+    add_facts(&mut pairs.facts, known, pair)?;
+    let view = view_at(alloc, known, round, pair)?;
+    pairs.views.push(view)?;
+    Ok(())
+}
+
+/// Goes on to the DO with this number, unless it is the same.
+fn enter(alloc: Global, round: &mut Round, program: &Program, number: u32) -> Result<(), NoMemory>
+    requires { IsRound (program_tree program.now) round.old }
+    ensures round { OnOk result (IsRound (program_tree program.now) round.new) }
+    ensures number { OnOk result (round.new.number ≡ number) }
+{
+    if round.number == number {
+        return Ok(());
+    }
+    round.assigned = assigned_by(alloc, program, number)?;
+    round.number = number;
+    Ok(())
+}
+
+/// Adds what is known of a pair of the program's references, by their places.
+fn add_facts(all: &mut Vec<Facts>, known: &Known, pair: &Pair) -> Result<(), NoMemory>
+    requires known { IsKnown known.now }
+    requires within { IsWithin (length known.now.found.now) pair.now }
+    ensures { OnOk result ((p : Reference × Reference) → pair_at (references_of known.now.found.now) pair.now ≡ Some p
+        → map framed_of all.new.items ≡ map framed_of all.old.items ++ framed (facts_of (program_tree known.now.program.now)) p.0 p.1 ∷ []) }
+{
+    let firm = both(firm_at(known, pair.source), firm_at(known, pair.sink));
+    push_facts(
+        all,
+        occurrence_at(known, pair.source),
+        occurrence_at(known, pair.sink),
+        firm,
+    )
+}
+
+/// The view of a pair of the program's references, by their places.
+fn view_at(alloc: Global, known: &Known, round: &Round, pair: &Pair) -> Result<PairView, NoMemory>
+    requires known { IsKnown known.now }
+    requires within { IsWithin (length known.now.found.now) pair.now }
+    requires round { IsRound (program_tree known.now.program.now) round.now }
+    requires entered { (source : Reference) → slice_get (references_of known.now.found.now) pair.now.source ≡ Some source → round.now.number ≡ outermost source }
+    ensures { IfOk result (λ v. (p : Reference × Reference) → pair_at (references_of known.now.found.now) pair.now ≡ Some p
+        → v ≡ view_of (program_tree known.now.program.now) p.0 p.1) }
+{
+    let setting = Setting {
+        constants: known.consts,
+        loop_variables: known.loop_variables,
+        assigned: &round.assigned,
+    };
+    let source = occurrence_at(known, pair.source);
+    let sink = occurrence_at(known, pair.sink);
+    view_in(alloc, &setting, source, sink)
+}
+
+/// The view of a pair of references in a setting.
+fn view_in(
+    alloc: Global,
+    setting: &Setting,
+    source: &Occurrence,
+    sink: &Occurrence,
+) -> Result<PairView, NoMemory>
+    requires source { length source.now.nest.items ≤ 6 }
+    requires sink { length sink.now.nest.items ≤ 6 }
+    ensures { IfOk result (λ v. v ≡ view_at (setting_of setting.now) (Spec.site_of (reference_of source.now)) (Spec.site_of (reference_of sink.now))) }
+{
+    view(alloc, setting, &place_of(source), &place_of(sink))
+}
+
+/// The reference at a place.
+fn occurrence_at<'a>(known: &Known<'a>, place: usize) -> &'a Occurrence<'a>
+    requires known { IsKnown known.now }
+    requires within { place < length known.now.found.now }
+    ensures there { slice_get (references_of known.now.found.now) place ≡ Some (reference_of result.now) }
+    ensures shallow { length result.now.nest.items ≤ 6 }
+{
+    &known.found[place]
+}
+
+/// Whether constants alone decide that the reference at a place is reached.
+fn firm_at(known: &Known, place: usize) -> bool
+    requires known { IsKnown known.now }
+    requires within { place < length known.now.found.now }
+    ensures { (r : Reference) → slice_get (references_of known.now.found.now) place ≡ Some r
+        → result ≡ is_firm known.now.consts.now (Guards.guards (program_tree known.now.program.now)) r }
+{
+    known.firm[place]
+}
+
+fn both(first: bool, second: bool) -> bool
+    ensures { result ≡ (first && second) }
+{
+    first && second
+}
+
+/// Where a reference stands.
+fn place_of<'a>(occurrence: &'a Occurrence<'a>) -> Place<'a>
+    ensures site { site result ≡ Spec.site_of (reference_of occurrence.now) }
+    ensures depth { length result.nest.now ≡ length occurrence.now.nest.items }
+{
+    Place {
+        nest: &occurrence.nest,
+        subscripts: occurrence.subscripts,
+    }
+}

@@ -4,9 +4,15 @@
 
 mod bounds;
 mod carried;
+mod loops;
 mod one_out;
 
 pub use bounds::plain_reads_unwritten;
-pub use carried::{meetings_are_carried, trips_are_carried, trips_dont_conflict};
+pub use carried::{
+    indices_unwritten, meetings_are_carried, trips_are_carried, trips_dont_conflict,
+};
+pub use loops::one_for_one;
 pub use one_out::plain_one_out;
-pub use ped_steps;
+pub use ped_tidy;
+pub use ped_tidy::{ped_bodies, ped_pasting, ped_steps};
+pub use ped_tidy::ped_steps::ped_weaves;

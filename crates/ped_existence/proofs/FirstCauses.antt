@@ -1,25 +1,25 @@
 -- Each step has a first cause against it in a program, or none, and then it makes a program, which is valid.
 use Rattle.std.proofs.Common.{◌≡◌, ◌⊎◌, ℕ, refl, sym, ap, ◌∙◌, inl, inr, Bool, true, false, ◌||◌, List, [], ◌∷◌, All, Option, Some, None, MatchOption}
 use Rattle.std.specs.List.{list_any}
-use Rattle.ped_answer.specs.ped_order.specs.ped_flow.specs.ped_base.specs.Lists.{is_among}
-use Rattle.ped_answer.specs.ped_tree.specs.Tree.{Head, StmtTrees, ProgramTree}
-use Rattle.ped_answer.specs.ped_tree.specs.Nests.{Loop}
-use Rattle.ped_answer.specs.ped_tree.specs.Grammar.Fits.{fits}
-use Rattle.ped_answer.specs.ped_tree.specs.Grammar.Refusal.{Finding}
-use Rattle.ped_answer.specs.ped_order.specs.ped_flow.specs.PlainBounds.{nest_round}
-use Rattle.ped_answer.specs.ped_order.specs.ped_flow.specs.Questions.{IsLoop, LoopOf}
-use Rattle.ped_answer.specs.ped_symbols.specs.NameRefusals.{name_refusals, IsValid}
-use Rattle.ped_answer.specs.ped_symbols.specs.Kinds.{table_of}
-use Rattle.ped_answer.specs.ped_graph.specs.ped_edges.specs.Edges.{Edge}
-use Rattle.ped_answer.specs.ped_scalar.specs.ped_steps.specs.declared.rules.Rule.TheVariants.{NoLoop, ParallelState, Range, ExposedOrLive, NotScalar, NotConstant, Limit, AlreadyPrivate}
-use Rattle.ped_answer.specs.ped_scalar.specs.ped_steps.specs.Causes.{NoneBelow, Cause, rule, none_forbids}
-use Rattle.ped_answer.specs.ped_scalar.specs.ped_steps.specs.Replacing.{all_kept}
-use Rattle.ped_answer.specs.ped_scalar.specs.Scalars.{is_unfit}
-use Rattle.ped_answer.specs.ped_scalar.specs.Privatising.{privatised, IsScalarExposedOrLiveBy, StandsAgainstPrivatising}
-use Rattle.ped_answer.specs.ped_scalar.specs.Expanding.{Span, span_of, spans_far, fresh_name, is_private_near, IsScalarLostBy, SaysLive, IsExpanded, expanded, expand_kept, StandsAgainstExpanding}
-use Rattle.ped_answer.specs.ped_scalar.proofs.FlowAnswers.{fit_scalar}
-use Rattle.ped_answer.specs.ped_scalar.proofs.FirstAgainstPrivatising as private
-use Rattle.ped_answer.specs.ped_scalar.proofs.FirstAgainstExpanding as expand
+use Rattle.ped_answer.specs.ped_session.specs.ped_order.specs.ped_flow.specs.ped_base.specs.Lists.{is_among}
+use Rattle.ped_answer.specs.ped_session.specs.ped_tree.specs.Tree.{Head, StmtTrees, ProgramTree}
+use Rattle.ped_answer.specs.ped_session.specs.ped_tree.specs.Nests.{Loop}
+use Rattle.ped_answer.specs.ped_session.specs.ped_tree.specs.Grammar.Fits.{fits}
+use Rattle.ped_answer.specs.ped_session.specs.ped_tree.specs.Grammar.Refusal.{Finding}
+use Rattle.ped_answer.specs.ped_session.specs.ped_order.specs.ped_flow.specs.PlainBounds.{nest_round}
+use Rattle.ped_answer.specs.ped_session.specs.ped_order.specs.ped_flow.specs.Questions.{IsLoop, LoopOf}
+use Rattle.ped_answer.specs.ped_session.specs.ped_symbols.specs.NameRefusals.{name_refusals, IsValid}
+use Rattle.ped_answer.specs.ped_session.specs.ped_symbols.specs.Kinds.{table_of}
+use Rattle.ped_answer.specs.ped_session.specs.ped_graph.specs.ped_edges.specs.Edges.{Edge}
+use Rattle.ped_answer.specs.ped_session.specs.ped_scalar.specs.ped_tidy.specs.ped_pasting.specs.ped_bodies.specs.ped_steps.specs.declared.rules.Rule.TheVariants.{NoLoop, ParallelState, Range, ExposedOrLive, NotScalar, NotConstant, Limit, AlreadyPrivate}
+use Rattle.ped_answer.specs.ped_session.specs.ped_scalar.specs.ped_tidy.specs.ped_pasting.specs.ped_bodies.specs.ped_steps.specs.Causes.{NoneBelow, Cause, rule, none_forbids}
+use Rattle.ped_answer.specs.ped_session.specs.ped_scalar.specs.ped_tidy.specs.ped_pasting.specs.ped_bodies.specs.ped_steps.specs.Replacing.{all_kept}
+use Rattle.ped_answer.specs.ped_session.specs.ped_scalar.specs.Scalars.{is_unfit}
+use Rattle.ped_answer.specs.ped_session.specs.ped_scalar.specs.Privatising.{privatised, IsScalarExposedOrLiveBy, StandsAgainstPrivatising}
+use Rattle.ped_answer.specs.ped_session.specs.ped_scalar.specs.Expanding.{Span, span_of, spans_far, fresh_name, is_private_near, IsScalarLostBy, SaysLive, IsExpanded, expanded, expand_kept, StandsAgainstExpanding}
+use Rattle.ped_answer.specs.ped_session.specs.ped_scalar.proofs.FlowAnswers.{fit_scalar}
+use Rattle.ped_answer.specs.ped_session.specs.ped_scalar.proofs.FirstAgainstPrivatising as private
+use Rattle.ped_answer.specs.ped_session.specs.ped_scalar.proofs.FirstAgainstExpanding as expand
 use Rattle.ped_answer.specs.ped_session.specs.Transforming.{StepAt, privatising, expanding}
 use Rattle.ped_existence.specs.Deciding.{Decided}
 use Rattle.ped_existence.proofs.Deciding.{decided_same, decided_both, true_decided}

@@ -2,21 +2,21 @@
 use Rattle.std.proofs.Common.{◌≡◌, ◌⊎◌, ℕ, ◌+◌, ◌-◌, refl, sym, subst, inl, inr, Bool, true, false, List, [], ◌∷◌, ◌++◌, All, Option, Some, None, is_some}
 use Rattle.std.specs.Prelude.{MatchBool}
 use Rattle.std.proofs.lemmas.List.Elements.{All-nil, All-cons, All-head, All-tail}
-use Rattle.ped_answer.specs.ped_tree.specs.Tree.{StmtTree, ProgramTree}
-use Rattle.ped_answer.specs.ped_tree.specs.Printing.{program_text}
-use Rattle.ped_answer.specs.ped_tree.specs.SourcePane.{source_pane}
-use Rattle.ped_answer.specs.ped_tree.specs.Numbering.{statement_with}
-use Rattle.ped_answer.specs.ped_symbols.specs.NameRefusals.{IsValid}
-use Rattle.ped_answer.specs.ped_graph.specs.DependencePane.{IsDependencePane, IsDependencePaneOf}
-use Rattle.ped_answer.specs.ped_graph.specs.Update.Fresh.{tested_pairs}
-use Rattle.ped_answer.specs.ped_valid.specs.Validity.{ReadsValid, RefusesText}
-use Rattle.ped_answer.specs.ped_valid.specs.Verdicts.{HasOneValidTree, HasOneFirstRefusal}
-use Rattle.ped_answer.specs.ped_valid.proofs.OneVerdict.{one_of_both, valid_prints}
-use Rattle.ped_answer.specs.ped_order.specs.ped_eval.specs.Outcomes.{outcome}
-use Rattle.ped_answer.specs.ped_order.proofs.OneReport.{one_at_least}
-use Rattle.ped_answer.specs.ped_script.specs.declared.items.Command.{Command}
-use Rattle.ped_answer.specs.ped_script.specs.declared.items.Command.TheVariants.{Source, Deps, Show, Print, Advise, Replace, Insert, Delete, Interchange, Reverse, Skew, Strip, Peel, Distribute, Fuse, Expand, Privatise, Parallel, Serial, Reject, Undo, Redo, Run, Races, Tested}
-use Rattle.ped_answer.specs.ped_script.specs.declared.items.Item.{Item}
+use Rattle.ped_answer.specs.ped_session.specs.ped_tree.specs.Tree.{StmtTree, ProgramTree}
+use Rattle.ped_answer.specs.ped_session.specs.ped_tree.specs.Printing.{program_text}
+use Rattle.ped_answer.specs.ped_session.specs.ped_tree.specs.SourcePane.{source_pane}
+use Rattle.ped_answer.specs.ped_session.specs.ped_tree.specs.Numbering.{statement_with}
+use Rattle.ped_answer.specs.ped_session.specs.ped_symbols.specs.NameRefusals.{IsValid}
+use Rattle.ped_answer.specs.ped_session.specs.ped_graph.specs.DependencePane.{IsDependencePane, IsDependencePaneOf}
+use Rattle.ped_answer.specs.ped_session.specs.ped_graph.specs.Update.Fresh.{tested_pairs}
+use Rattle.ped_answer.specs.ped_session.specs.ped_valid.specs.Validity.{ReadsValid, RefusesText}
+use Rattle.ped_answer.specs.ped_session.specs.ped_valid.specs.Verdicts.{HasOneValidTree, HasOneFirstRefusal}
+use Rattle.ped_answer.specs.ped_session.specs.ped_valid.proofs.OneVerdict.{one_of_both, valid_prints}
+use Rattle.ped_answer.specs.ped_session.specs.ped_order.specs.ped_eval.specs.Outcomes.{outcome}
+use Rattle.ped_answer.specs.ped_session.specs.ped_order.proofs.OneReport.{one_at_least}
+use Rattle.ped_answer.specs.ped_session.specs.ped_script.specs.declared.items.Command.{Command}
+use Rattle.ped_answer.specs.ped_session.specs.ped_script.specs.declared.items.Command.TheVariants.{Source, Deps, Show, Print, Advise, Replace, Insert, Delete, Interchange, Reverse, Skew, Strip, Peel, Distribute, Fuse, Expand, Privatise, Parallel, Serial, Reject, Undo, Redo, Run, Races, Tested}
+use Rattle.ped_answer.specs.ped_session.specs.ped_script.specs.declared.items.Item.{Item}
 use Rattle.ped_answer.specs.ped_session.specs.declared.changes.Change.TheVariants.{Edit, Transformation}
 use Rattle.ped_answer.specs.ped_session.specs.declared.replies.Refusal.{Refusal}
 use Rattle.ped_answer.specs.ped_session.specs.declared.replies.Refusal.TheVariants.{BadEdit, Step, NothingToUndo, NothingToRedo, NoSuchStatement, NoSuchLine, NotBuilt}

@@ -10,8 +10,8 @@ use Rattle.std.proofs.lemmas.Fmt.{decimal_is_IsNumeral_wide, length-decimal-le_w
 use Rattle.ped_base.specs.Letters.{is_letter, is_digit, is_alphanumeric, name_of}
 use Rattle.ped_base.specs.Lists.{is_among}
 use Rattle.ped_tree.specs.Tree.{ProgramTree}
-use Rattle.ped_tidy.specs.ped_steps.specs.ped_symbols.specs.declared.symbols.Kind.{Kind}
-use Rattle.ped_tidy.specs.ped_steps.specs.ped_symbols.specs.Kinds.{kind_of, kind_in, names_of}
+use Rattle.ped_tidy.specs.ped_pasting.specs.ped_bodies.specs.ped_steps.specs.ped_symbols.specs.declared.symbols.Kind.{Kind}
+use Rattle.ped_tidy.specs.ped_pasting.specs.ped_bodies.specs.ped_steps.specs.ped_symbols.specs.Kinds.{kind_of, kind_in, names_of}
 use Rattle.ped_scalar.specs.Expanding.{occurs, first_free, numbered_names, most_numbered}
 
 kind_there : (b : Bool) (k : Kind) → is_some (if b then Some k else None) ≡ b

@@ -8,19 +8,19 @@ use Rattle.ped_tree.specs.Tree.{ExprTree, Var, Element, no_exprs, more_exprs, He
 use Rattle.ped_tree.specs.Numbering.{statements_count}
 use Rattle.ped_tree.specs.Constants.ConstantExpressions.{constant_value}
 use Rattle.ped_tree.specs.NamesIn.{private_names_in}
-use Rattle.ped_tidy.specs.ped_steps.specs.ped_symbols.specs.Kinds.{names_of, table_of}
-use Rattle.ped_tidy.specs.ped_steps.specs.ped_symbols.specs.NameRefusals.{IsValid}
-use Rattle.ped_tidy.specs.ped_steps.specs.ped_flow.specs.PlainBounds.{nest_round}
-use Rattle.ped_tidy.specs.ped_steps.specs.ped_flow.specs.Questions.{LoopOf, IsLiveAfter, IsAssignedThrough}
+use Rattle.ped_tidy.specs.ped_pasting.specs.ped_bodies.specs.ped_steps.specs.ped_symbols.specs.Kinds.{names_of, table_of}
+use Rattle.ped_tidy.specs.ped_pasting.specs.ped_bodies.specs.ped_steps.specs.ped_symbols.specs.NameRefusals.{IsValid}
+use Rattle.ped_tidy.specs.ped_pasting.specs.ped_bodies.specs.ped_steps.specs.ped_flow.specs.PlainBounds.{nest_round}
+use Rattle.ped_tidy.specs.ped_pasting.specs.ped_bodies.specs.ped_steps.specs.ped_flow.specs.Questions.{LoopOf, IsLiveAfter, IsAssignedThrough}
 use Rattle.ped_sums.specs.Sums.{literal}
 use Rattle.ped_sums.specs.Substitution.{statements_substituted}
-use Rattle.ped_tidy.specs.ped_steps.specs.declared.rules.Rule.TheVariants.{NoLoop, NotPerfect, ParallelState, HasPrivate, IndexEscapes, BoundNotPlain, BoundsShape, StepShape, Range, NoNeighbour, OneBlock, ExposedOrLive, NotScalar, NotConstant, Limit, BadFactor, AlreadyPrivate, NothingToReject}
-use Rattle.ped_tidy.specs.ped_steps.specs.declared.causes.Refused.{Refused}
-use Rattle.ped_tidy.specs.ped_steps.specs.declared.changes.Change.{Change}
-use Rattle.ped_tidy.specs.ped_steps.specs.Causes.{Rules, IsFirstCause, none_forbids}
-use Rattle.ped_tidy.specs.ped_steps.specs.CodeCauses.{cause_of, IsShort}
-use Rattle.ped_tidy.specs.ped_steps.specs.Changes.{IsChange}
-use Rattle.ped_tidy.specs.ped_steps.specs.Replacing.{alone, all_replaced}
+use Rattle.ped_tidy.specs.ped_pasting.specs.ped_bodies.specs.ped_steps.specs.declared.rules.Rule.TheVariants.{NoLoop, NotPerfect, ParallelState, HasPrivate, IndexEscapes, BoundNotPlain, BoundsShape, StepShape, Range, NoNeighbour, OneBlock, ExposedOrLive, NotScalar, NotConstant, Limit, BadFactor, AlreadyPrivate, NothingToReject}
+use Rattle.ped_tidy.specs.ped_pasting.specs.ped_bodies.specs.ped_steps.specs.declared.causes.Refused.{Refused}
+use Rattle.ped_tidy.specs.ped_pasting.specs.ped_bodies.specs.ped_steps.specs.declared.changes.Change.{Change}
+use Rattle.ped_tidy.specs.ped_pasting.specs.ped_bodies.specs.ped_steps.specs.Causes.{Rules, IsFirstCause, none_forbids}
+use Rattle.ped_tidy.specs.ped_pasting.specs.ped_bodies.specs.ped_steps.specs.CodeCauses.{cause_of, IsShort}
+use Rattle.ped_tidy.specs.ped_pasting.specs.ped_bodies.specs.ped_steps.specs.Changes.{IsChange}
+use Rattle.ped_tidy.specs.ped_pasting.specs.ped_bodies.specs.ped_steps.specs.Replacing.{alone, all_replaced}
 use Rattle.ped_scalar.specs.Scalars.{IsNoLoop, is_scalar, is_unfit, IsLiveBy, IsExposedBy, IsUnexposed}
 
 -- the named constants with their values

@@ -6,9 +6,9 @@ use Rattle.ped_valid.specs.ped_symbols.specs.NameRefusals.{IsValid}
 use Rattle.ped_valid.specs.Validity.{ReadsValid}
 use Rattle.ped_valid.proofs.OneVerdict.{valid_prints}
 use Rattle.ped_order.specs.ped_eval.specs.Outcomes.{outcome}
-use Rattle.ped_scalar.specs.ped_steps.specs.Tidy.{IsTidy}
-use Rattle.ped_scalar.specs.ped_steps.specs.Runs.Meaning.{Keeps}
-use Rattle.ped_scalar.specs.ped_steps.proofs.RunLaws.KeptMeanings.{keeps_itself, keeps_further}
+use Rattle.ped_scalar.specs.ped_tidy.specs.ped_pasting.specs.ped_bodies.specs.ped_steps.specs.Tidy.{IsTidy}
+use Rattle.ped_scalar.specs.ped_tidy.specs.ped_pasting.specs.ped_bodies.specs.ped_steps.specs.Runs.Meaning.{Keeps}
+use Rattle.ped_scalar.specs.ped_tidy.specs.ped_pasting.specs.ped_bodies.specs.ped_steps.proofs.RunLaws.KeptMeanings.{keeps_itself, keeps_further}
 use Rattle.ped_script.specs.declared.items.Command.{Command}
 use Rattle.ped_script.specs.declared.items.Command.TheVariants.{Run}
 use Rattle.ped_script.specs.declared.items.Item.{Item}

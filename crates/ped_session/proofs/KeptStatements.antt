@@ -7,7 +7,7 @@ use Rattle.std.proofs.lemmas.List.FromFn.{get_or-map-range_with_len, length-map-
 use Rattle.ped_tree.specs.Tree.{StmtTrees, ProgramTree}
 use Rattle.ped_tree.specs.Numbering.{statements_count}
 use Rattle.ped_graph.specs.Update.Fresh.{IsOneToOne}
-use Rattle.ped_scalar.specs.ped_steps.specs.Replacing.{all_kept}
+use Rattle.ped_scalar.specs.ped_tidy.specs.ped_pasting.specs.ped_bodies.specs.ped_steps.specs.Replacing.{all_kept}
 use Rattle.ped_scalar.specs.Expanding.{moved_behind, expand_kept}
 
 module _ (behind : ℕ → ℕ) (grows : (m n : ℕ) → m < n → behind m < behind n) where

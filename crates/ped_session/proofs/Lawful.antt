@@ -6,10 +6,10 @@ use Rattle.ped_valid.specs.ped_symbols.specs.NameRefusals.{IsValid}
 use Rattle.ped_order.specs.ped_flow.specs.Questions.{IsLiveAfter}
 use Rattle.ped_order.specs.ped_flow.proofs.Answering.{same_head, same_body}
 use Rattle.ped_graph.specs.Update.Fresh.{IsOneToOne}
-use Rattle.ped_scalar.specs.ped_steps.specs.Causes.{Cause, none_forbids}
-use Rattle.ped_scalar.specs.ped_steps.specs.Tidy.{IsTidy}
-use Rattle.ped_scalar.specs.ped_steps.proofs.OneCause.{one_cause}
-use Rattle.ped_scalar.specs.ped_steps.specs.Runs.Meaning.{Keeps}
+use Rattle.ped_scalar.specs.ped_tidy.specs.ped_pasting.specs.ped_bodies.specs.ped_steps.specs.Causes.{Cause, none_forbids}
+use Rattle.ped_scalar.specs.ped_tidy.specs.ped_pasting.specs.ped_bodies.specs.ped_steps.specs.Tidy.{IsTidy}
+use Rattle.ped_scalar.specs.ped_tidy.specs.ped_pasting.specs.ped_bodies.specs.ped_steps.proofs.OneCause.{one_cause}
+use Rattle.ped_scalar.specs.ped_tidy.specs.ped_pasting.specs.ped_bodies.specs.ped_steps.specs.Runs.Meaning.{Keeps}
 use Rattle.ped_scalar.specs.Privatising.{StandsAgainstPrivatising}
 use Rattle.ped_scalar.specs.Expanding.{StandsAgainstExpanding, Span, span_of, expanded, expand_kept}
 use Rattle.ped_scalar.proofs.FirstAgainstPrivatising as against_privatising

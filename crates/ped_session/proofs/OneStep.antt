@@ -14,7 +14,7 @@ use Rattle.ped_graph.specs.DependencePane.{IsDependencePane, IsDependencePaneOf}
 use Rattle.ped_graph.proofs.OnePane.{one_pane, one_pane_of}
 use Rattle.ped_graph.specs.Update.Fresh.{tested_pairs}
 use Rattle.ped_order.specs.ped_eval.specs.Outcomes.{outcome}
-use Rattle.ped_scalar.specs.ped_steps.specs.Causes.{Cause}
+use Rattle.ped_scalar.specs.ped_tidy.specs.ped_pasting.specs.ped_bodies.specs.ped_steps.specs.Causes.{Cause}
 use Rattle.ped_script.specs.declared.items.Command.{Command}
 use Rattle.ped_script.specs.declared.items.Command.TheVariants.{Source, Deps, Show, Print, Advise, Replace, Insert, Delete, Interchange, Reverse, Skew, Strip, Peel, Distribute, Fuse, Expand, Privatise, Parallel, Serial, Reject, Undo, Redo, Run, Races, Tested}
 use Rattle.ped_session.specs.declared.changes.Change.TheVariants.{Edit, Transformation}

@@ -8,12 +8,12 @@ use Rattle.ped_valid.specs.ped_symbols.specs.Kinds.{table_of}
 use Rattle.ped_valid.specs.ped_symbols.specs.NameRefusals.{IsValid}
 use Rattle.ped_valid.specs.Validity.{ReadsValid}
 use Rattle.ped_graph.specs.Update.Fresh.{tested_pairs}
-use Rattle.ped_scalar.specs.ped_steps.specs.declared.causes.Refused.{Refused}
-use Rattle.ped_scalar.specs.ped_steps.specs.declared.changes.Change as step
-use Rattle.ped_scalar.specs.ped_steps.specs.Causes.{none_forbids}
-use Rattle.ped_scalar.specs.ped_steps.specs.CodeCauses.{cause_of, IsShort}
-use Rattle.ped_scalar.specs.ped_steps.specs.Replacing.{all_kept}
-use Rattle.ped_scalar.specs.ped_steps.specs.Changes.{IsChange, IsAnswer}
+use Rattle.ped_scalar.specs.ped_tidy.specs.ped_pasting.specs.ped_bodies.specs.ped_steps.specs.declared.causes.Refused.{Refused}
+use Rattle.ped_scalar.specs.ped_tidy.specs.ped_pasting.specs.ped_bodies.specs.ped_steps.specs.declared.changes.Change as step
+use Rattle.ped_scalar.specs.ped_tidy.specs.ped_pasting.specs.ped_bodies.specs.ped_steps.specs.Causes.{none_forbids}
+use Rattle.ped_scalar.specs.ped_tidy.specs.ped_pasting.specs.ped_bodies.specs.ped_steps.specs.CodeCauses.{cause_of, IsShort}
+use Rattle.ped_scalar.specs.ped_tidy.specs.ped_pasting.specs.ped_bodies.specs.ped_steps.specs.Replacing.{all_kept}
+use Rattle.ped_scalar.specs.ped_tidy.specs.ped_pasting.specs.ped_bodies.specs.ped_steps.specs.Changes.{IsChange, IsAnswer}
 use Rattle.ped_scalar.specs.Privatising.{StandsAgainstPrivatising, privatised}
 use Rattle.ped_scalar.specs.Expanding.{expand_kept, AnswersExpanding}
 use Rattle.ped_session.specs.declared.changes.Change.TheVariants.{Transformation}

@@ -3,8 +3,8 @@ use Rattle.std.specs.Prelude.{◌≡◌, ◌⊎◌, ℕ, List, [], ◌∷◌, �
 use Rattle.ped_tree.specs.Tree.{ProgramTree}
 use Rattle.ped_valid.specs.Validity.{ReadsValid}
 use Rattle.ped_order.specs.ped_eval.specs.Outcomes.{Outcome, outcome, IsRaceFree}
-use Rattle.ped_scalar.specs.ped_steps.specs.Tidy.{IsTidy}
-use Rattle.ped_scalar.specs.ped_steps.specs.Runs.Meaning.{Keeps}
+use Rattle.ped_scalar.specs.ped_tidy.specs.ped_pasting.specs.ped_bodies.specs.ped_steps.specs.Tidy.{IsTidy}
+use Rattle.ped_scalar.specs.ped_tidy.specs.ped_pasting.specs.ped_bodies.specs.ped_steps.specs.Runs.Meaning.{Keeps}
 use Rattle.ped_session.specs.declared.changes.Change.{Change}
 use Rattle.ped_session.specs.declared.changes.Change.TheVariants.{Edit, Rejection, Transformation}
 use Rattle.ped_session.specs.States.{Other, State}

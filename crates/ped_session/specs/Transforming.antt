@@ -2,8 +2,8 @@
 use Rattle.std.specs.Prelude.{◌≡◌, ℕ, List, Option}
 use Rattle.ped_tree.specs.Tree.{ProgramTree}
 use Rattle.ped_order.specs.ped_flow.specs.Questions.{LoopOf}
-use Rattle.ped_scalar.specs.ped_steps.specs.Causes.{Cause, IsFirstCause, none_forbids}
-use Rattle.ped_scalar.specs.ped_steps.specs.Replacing.{all_kept}
+use Rattle.ped_scalar.specs.ped_tidy.specs.ped_pasting.specs.ped_bodies.specs.ped_steps.specs.Causes.{Cause, IsFirstCause, none_forbids}
+use Rattle.ped_scalar.specs.ped_tidy.specs.ped_pasting.specs.ped_bodies.specs.ped_steps.specs.Replacing.{all_kept}
 use Rattle.ped_scalar.specs.Privatising.{StandsAgainstPrivatising, privatised}
 use Rattle.ped_scalar.specs.Expanding.{StandsAgainstExpanding, IsExpanded, expand_kept}
 

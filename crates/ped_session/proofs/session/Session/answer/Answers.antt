@@ -1,6 +1,6 @@
 use Rattle.std.proofs.Common.{ap, sym, subst}
 use Rattle.std.proofs.lemmas.Result.{IfOk-weaker}
-use Rattle.ped_scalar.specs.ped_steps.proofs.Answering.{few_numbers}
+use Rattle.ped_scalar.specs.ped_tidy.specs.ped_pasting.specs.ped_bodies.specs.ped_steps.proofs.Answering.{few_numbers}
 use Rattle.ped_session.specs.declared.asked.Asked.{Asked}
 use Rattle.ped_session.specs.declared.asked.Asked.TheVariants.{Privatise, Expand}
 use Rattle.ped_session.specs.Holding.{tree_of}

@@ -15,7 +15,7 @@ ghost use Rattle.ped_scalar.specs.CodeSpans.{span_in, IsNear};
 use crate::spans::Span;
 use ped_base::{Name, NoMemory};
 use ped_sums::substitute_in_statements;
-use ped_tidy::ped_steps::{body_with, copy_decls, with_body};
+use ped_tidy::ped_pasting::ped_bodies::ped_steps::{body_with, copy_decls, with_body};
 use ped_tree::{Bound, Decl, Declarator, Do, Expr, Program, Stmt};
 use std::alloc::Global;
 

@@ -27,8 +27,10 @@ use crate::scalars;
 use crate::scalars::{against, is_unfit, live_by};
 use crate::spans::{Course, Span, course_of};
 use ped_base::{Name, NoMemory};
-use ped_tidy::ped_steps::ped_refs::Loop;
-use ped_tidy::ped_steps::{Change, Refused, Rule, Scene, change_to, loop_at, loops_round};
+use ped_tidy::ped_pasting::ped_bodies::ped_steps::ped_weaves::ped_laws::ped_graph::ped_refs::Loop;
+use ped_tidy::ped_pasting::ped_bodies::ped_steps::{
+    Change, Refused, Rule, Scene, change_to, loop_at, loops_round,
+};
 use ped_tree::Do;
 use std::alloc::Global;
 use std::sync::ledger::Ledger;

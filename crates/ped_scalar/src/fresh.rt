@@ -11,7 +11,7 @@ ghost use Rattle.ped_scalar.specs.Expanding as Spec;
 
 use itoa::Buffer;
 use ped_base::{Bytes, Name, NoMemory};
-use ped_tidy::ped_steps::ped_symbols::Symbols;
+use ped_tidy::ped_pasting::ped_bodies::ped_steps::ped_weaves::ped_laws::ped_graph::ped_symbols::Symbols;
 use ped_tree::{Decl, Program};
 use std::alloc::Global;
 

@@ -21,6 +21,5 @@ pub use laws::{
     privatising_stays_tidy,
 };
 pub use ped_tidy;
-pub use ped_tidy::ped_steps;
-pub use ped_tidy::ped_steps::ped_flow;
+pub use ped_tidy::ped_pasting::ped_bodies::ped_steps::{Change, Refused, Scene, cause_words};
 pub use privatising::privatise;

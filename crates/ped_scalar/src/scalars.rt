@@ -18,10 +18,12 @@ ghost use Rattle.ped_scalar.specs.Scalars as Spec;
 use crate::indices::{is_index, is_index_in};
 use crate::referring::is_referred;
 use ped_base::{Name, NoMemory};
-use ped_tidy::ped_steps::ped_flow::{Flow, Reader};
-use ped_tidy::ped_steps::ped_refs::Loop;
-use ped_tidy::ped_steps::ped_symbols::{Kind, Symbols};
-use ped_tidy::ped_steps::{Refused, Rule, Scene};
+use ped_tidy::ped_pasting::ped_bodies::ped_steps::ped_weaves::ped_laws::ped_flow::{Flow, Reader};
+use ped_tidy::ped_pasting::ped_bodies::ped_steps::ped_weaves::ped_laws::ped_graph::ped_refs::Loop;
+use ped_tidy::ped_pasting::ped_bodies::ped_steps::ped_weaves::ped_laws::ped_graph::ped_symbols::{
+    Kind, Symbols,
+};
+use ped_tidy::ped_pasting::ped_bodies::ped_steps::{Refused, Rule, Scene};
 use ped_tree::Do;
 use std::alloc::Global;
 use std::sync::ledger::Ledger;

@@ -4,7 +4,7 @@ ghost use Rattle.std.specs.Prelude.{◌≡◌};
 ghost use Rattle.ped_scalar.specs.ped_tidy.specs.ped_pasting.specs.ped_bodies.specs.ped_steps.specs.CodeCauses.{cause_of, IsShort};
 
 use ped_base::Bytes;
-use ped_scalar::ped_steps::Refused;
+use ped_scalar::Refused;
 use ped_tree::grammar::Refusal as TextRefusal;
 use std::marker::Model;
 

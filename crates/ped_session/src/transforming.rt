@@ -15,9 +15,8 @@ use crate::replies::{FirstCause, Refusal, Reply};
 use crate::session::Session;
 use ped_base::NoMemory;
 use ped_graph::ped_verdict::Steps;
-use ped_scalar::ped_flow::flow_of;
-use ped_scalar::ped_steps::{Refused, Scene};
-use ped_scalar::{expand, privatise};
+use ped_scalar::ped_tidy::ped_pasting::ped_bodies::ped_steps::ped_weaves::ped_laws::ped_flow::flow_of;
+use ped_scalar::{Refused, Scene, expand, privatise};
 use ped_valid::Opened;
 use std::alloc::Global;
 use std::sync::ledger::Ledger;
@@ -48,7 +47,7 @@ impl<L: Ledger> Session<L> {
         &self,
         alloc: Global,
         asked: &Asked,
-    ) -> Result<Result<ped_scalar::ped_steps::Change, Refused>, NoMemory>
+    ) -> Result<Result<ped_scalar::Change, Refused>, NoMemory>
         ensures answers { IfOk result (IsStepAnswer (step_at asked.now) self.now) }
         ensures takeable { IfOk result (IsTakeable self.now) }
     {
@@ -74,7 +73,7 @@ impl<L: Ledger> Session<L> {
     fn take(
         &mut self,
         alloc: Global,
-        answer: Result<ped_scalar::ped_steps::Change, Refused>,
+        answer: Result<ped_scalar::Change, Refused>,
         steps: &mut Steps<L>,
     ) -> Result<Reply, NoMemory>
         requires { IsTakeable self.old answer }

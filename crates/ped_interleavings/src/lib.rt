@@ -6,3 +6,4 @@
 mod ends;
 
 pub use ends::{an_interleaving, lighter, one_interleaving};
+pub use ped_eval;

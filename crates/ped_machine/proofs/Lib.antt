@@ -1,0 +1,16 @@
+mod Acting
+mod Answering
+mod Copying
+mod Growing
+mod Leaving
+mod Leveling
+mod OpenLefts
+mod OpenRests
+mod OpenSteps
+mod Opening
+mod PartsLeft
+mod Reaching
+mod Starting
+mod Resting
+mod Stepped
+mod Turning

@@ -1,0 +1,11 @@
+pub use Rattle.ped_interleavings
+pub mod Answers
+pub mod Doing
+pub mod Machines
+pub mod Parts
+pub mod Growth
+pub mod Levels
+pub mod Opens
+pub mod Rests
+pub mod Roots
+pub mod Stepping

@@ -2,7 +2,7 @@
 
 ghost use Rattle.std.specs.Prelude.{◌≡◌, ◌⊎◌, ◌∷◌, [], ◌+◌, ◌≤◌, ℕ, List, Some, None, IfOk, option_map};
 ghost use Rattle.ped_io.specs.Outside.{Rose};
-ghost use Rattle.ped_session.specs.ped_script.specs.Items.{commands_of};
+ghost use Rattle.ped_session.specs.ped_transformations.specs.ped_script.specs.Items.{commands_of};
 ghost use Rattle.ped_session.specs.States.{State};
 ghost use Rattle.ped_session.specs.Scripts.{Said, AnswersItems};
 ghost use Rattle.ped_answer.specs.Answer.{session, source_input, data_input, data_inputs, AnswersInput, AnswersData, IsSession, Sends};
@@ -13,7 +13,7 @@ use crate::answering::Status;
 use crate::finishing::finish;
 use crate::loading::{DATA_LIMIT, SOURCE_LIMIT, say_unread};
 use crate::refusals::is_refused;
-use ped_base::NoMemory;
+use ped_session::ped_base::NoMemory;
 use ped_io::{Shelf, Sink, load};
 use ped_session::ped_script::commands;
 use ped_session::ped_valid::OpenRefusal;

@@ -1,6 +1,5 @@
-pub use Rattle.ped_tidy
+pub use Rattle.ped_rules
 pub mod Scalars
 pub mod Privatising
 pub mod Expanding
-pub mod CodeSpans
 pub mod CodeElements

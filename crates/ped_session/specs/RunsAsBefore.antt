@@ -1,13 +1,13 @@
 -- What the runs of a script show (ParaScope; this project).
 use Rattle.std.specs.Prelude.{◌≡◌, ℕ, List, [], ◌∷◌, Option, Some}
-use Rattle.ped_script.specs.declared.items.Command.{Command}
-use Rattle.ped_script.specs.declared.items.Command.TheVariants.{Run}
-use Rattle.ped_script.specs.declared.items.Item.{Item}
+use Rattle.ped_session.specs.ped_transformations.specs.ped_script.specs.declared.items.Command.{Command}
+use Rattle.ped_session.specs.ped_transformations.specs.ped_script.specs.declared.items.Command.TheVariants.{Run}
+use Rattle.ped_session.specs.ped_transformations.specs.ped_script.specs.declared.items.Item.{Item}
 use Rattle.ped_session.specs.States.{State}
 use Rattle.ped_session.specs.Meanings.{IsMeaningKept, ShowsAsBefore}
 use Rattle.ped_session.specs.Scripts.{Said, nothing_said, said_both, AnswersItem}
 
--- where a command is `run` without choices, it shows what each program shows from which the present one has come by transformations alone, if that one is tidy and runs without a fault and without a race (ParaScope; this project)
+-- where a command is `run` without choices, it shows what each program shows from which the present one has come by transformations alone, if that one is tidy and without C$PED REJECT and runs without a fault and without a race (ParaScope; this project)
 abbrev pub RunsAsBefore : Option Command → List ℕ → State → Said → Type 0
 RunsAsBefore command data_bytes s said = command ≡ Some (Run []) → ShowsAsBefore s data_bytes said.bytes
 

@@ -5,7 +5,6 @@
 #![tactic(auto)]
 
 mod answers;
-mod asked;
 mod blocks;
 mod changes;
 mod changing;
@@ -28,10 +27,11 @@ pub use laws::{
     moves_restore_each_other, one_answer, one_step, refused_changes_nothing, runs_are_as_before,
     sources_are_printed, sources_keep_the_meaning, transformations_keep_the_meaning, undo_restores,
 };
-pub use ped_graph;
-pub use ped_graph::ped_verdict;
+pub use ped_base;
 pub use ped_print;
 pub use ped_script;
+pub use ped_transformations::ped_scalar::ped_rules::ped_loop_runs::ped_tidy::ped_pasting::ped_bodies::ped_steps::ped_weaves::ped_laws::ped_graph;
+pub use ped_transformations::ped_scalar::ped_rules::ped_loop_runs::ped_tidy::ped_pasting::ped_bodies::ped_steps::ped_weaves::ped_laws::ped_graph::ped_verdict;
 pub use ped_tree;
 pub use ped_valid;
 pub use replies::{FirstCause, Refusal, Reply};

@@ -1,0 +1,12 @@
+-- The one table of the steps: which one each command takes (ParaScope; this project).
+use Rattle.ped_script.specs.declared.items.Command.{Command}
+use Rattle.ped_script.specs.declared.items.Command.TheVariants.{Expand, Privatise}
+use Rattle.ped_scalar.specs.ped_rules.specs.Steps.{MaybeStep, no_step, some_step}
+use Rattle.ped_scalar.specs.Privatising.{privatising}
+use Rattle.ped_scalar.specs.Expanding.{expanding}
+
+-- the step that a command takes; none where it takes none, or where the step isn't built yet
+abbrev pub step_of : Command → MaybeStep
+step_of (Expand number name) = some_step (expanding number name)
+step_of (Privatise number name) = some_step (privatising number name)
+step_of command = no_step

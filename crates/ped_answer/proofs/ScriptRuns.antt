@@ -3,8 +3,11 @@ use Rattle.std.proofs.Common.{◌≡◌, ℕ, Bool, true, false, List, [], Optio
 use Rattle.std.specs.Prelude.{MatchOption, MatchBool, nat_lt}
 use Rattle.ped_io.specs.Outside.{Contents, content}
 use Rattle.ped_session.specs.ped_script.specs.Items.{commands_of}
-use Rattle.ped_session.specs.States.{opened}
-use Rattle.ped_session.proofs.KeptMeanings.{items_as_before, opened_keeps}
+use Rattle.ped_session.specs.ped_tree.specs.Tree.{ProgramTree}
+use Rattle.ped_session.specs.ped_script.specs.declared.items.Item.{Item}
+use Rattle.ped_session.specs.States.{State, opened}
+use Rattle.ped_session.specs.Scripts.{Said, AnswersItems}
+use Rattle.ped_session.specs.RunsAsBefore.{AnswersAsBefore}
 use Rattle.ped_answer.specs.declared.answering.Status.{Status}
 use Rattle.ped_answer.specs.declared.answering.Status.TheVariants.{Done, SomeRefused, BadWords, ReadFault, WriteFault, ProgramRefused, NoMemory, TooLong}
 use Rattle.ped_answer.specs.Answer.{Request, show, session, Input, source_input, data_input, cannot_read_line, too_long_line, IsJust, AnswersScript, IsSession, AnswersInput, AnswersData, Answers, MayAnswer, IsOutcome}
@@ -56,8 +59,12 @@ of_session text script data_bytes ProgramRefused b whole h = absurd whole
 of_session text script data_bytes NoMemory b whole h = absurd whole
 of_session text script data_bytes TooLong b whole h = absurd whole
 
-session_runs : (program script : List ℕ) (data_file : Option (List ℕ)) (files : Contents) (s : Status) (b : List ℕ) → IsWhole s → Answers (Some (session program script data_file)) files s b → RunsSession program script data_file files b
-session_runs program script data_file files s b whole h =
+-- whatever a script does, each `run` shows what the earlier programs show
+abbrev pub AsBefore : Type 0
+AsBefore = (t : ProgramTree) (items : List Item) (data_bytes : List ℕ) (said : Said) (last : State) → AnswersItems items data_bytes (opened t) said last → AnswersAsBefore items data_bytes (opened t) said last
+
+session_runs : AsBefore → (program script : List ℕ) (data_file : Option (List ℕ)) (files : Contents) (s : Status) (b : List ℕ) → IsWhole s → Answers (Some (session program script data_file)) files s b → RunsSession program script data_file files b
+session_runs as_before program script data_file files s b whole h =
     let p = of_file (source_input program) files (λ text. AnswersInput (source_input script) files (λ commands. AnswersData data_file files (IsSession text commands))) s b whole h in
     let c = of_file (source_input script) files (λ commands. AnswersData data_file files (IsSession p.bytes commands)) s b whole p.answer in
     let d = of_data data_file files (IsSession p.bytes c.bytes) s b whole c.answer in
@@ -73,23 +80,23 @@ session_runs program script data_file files s b whole h =
       reads = a.reads;
       said = a.said;
       last = a.last;
-      answers = items_as_before (commands_of c.bytes) d.bytes (opened a.tree) a.last a.said (opened_keeps a.tree) a.answers;
+      answers = as_before a.tree (commands_of c.bytes) d.bytes a.said a.last a.answers;
       says = a.says;
     }
 
 -- the answer to a request
-pub request_runs : (request : Option Request) (files : Contents) (s : Status) (b : List ℕ) → IsWhole s → Answers request files s b → RunsRequest request files b
-request_runs None files s b whole h = tt
-request_runs (Some (show program)) files s b whole h = tt
-request_runs (Some (session program script data_file)) files s b whole h = session_runs program script data_file files s b whole h
+pub request_runs : AsBefore → (request : Option Request) (files : Contents) (s : Status) (b : List ℕ) → IsWhole s → Answers request files s b → RunsRequest request files b
+request_runs as_before None files s b whole h = tt
+request_runs as_before (Some (show program)) files s b whole h = tt
+request_runs as_before (Some (session program script data_file)) files s b whole h = session_runs as_before program script data_file files s b whole h
 
 -- and what was sent, where it was written whole
-pub sent_runs : (request : Option Request) (files : Contents) (failed : List ℕ → Type 0) (sink_failed : Type 0) (sent : List ℕ) (s : Status) → IsWhole s → IsOutcome (MayAnswer request files failed) sink_failed sent s → RunsRequest request files sent
-sent_runs request files failed sink_failed sent Done whole h = request_runs request files Done sent whole h
-sent_runs request files failed sink_failed sent SomeRefused whole h = request_runs request files SomeRefused sent whole h
-sent_runs request files failed sink_failed sent BadWords whole h = absurd whole
-sent_runs request files failed sink_failed sent ReadFault whole h = absurd whole
-sent_runs request files failed sink_failed sent WriteFault whole h = absurd whole
-sent_runs request files failed sink_failed sent ProgramRefused whole h = absurd whole
-sent_runs request files failed sink_failed sent NoMemory whole h = absurd whole
-sent_runs request files failed sink_failed sent TooLong whole h = absurd whole
+pub sent_runs : AsBefore → (request : Option Request) (files : Contents) (failed : List ℕ → Type 0) (sink_failed : Type 0) (sent : List ℕ) (s : Status) → IsWhole s → IsOutcome (MayAnswer request files failed) sink_failed sent s → RunsRequest request files sent
+sent_runs as_before request files failed sink_failed sent Done whole h = request_runs as_before request files Done sent whole h
+sent_runs as_before request files failed sink_failed sent SomeRefused whole h = request_runs as_before request files SomeRefused sent whole h
+sent_runs as_before request files failed sink_failed sent BadWords whole h = absurd whole
+sent_runs as_before request files failed sink_failed sent ReadFault whole h = absurd whole
+sent_runs as_before request files failed sink_failed sent WriteFault whole h = absurd whole
+sent_runs as_before request files failed sink_failed sent ProgramRefused whole h = absurd whole
+sent_runs as_before request files failed sink_failed sent NoMemory whole h = absurd whole
+sent_runs as_before request files failed sink_failed sent TooLong whole h = absurd whole

@@ -3,6 +3,7 @@ pub use Rattle.ped_session.specs.ped_graph
 pub use Rattle.ped_session.specs.ped_order
 pub use Rattle.ped_session.specs.ped_refs
 pub use Rattle.ped_session.specs.ped_scalar
+pub use Rattle.ped_session.specs.ped_transformations
 pub use Rattle.ped_session.specs.ped_script
 pub use Rattle.ped_session.specs.ped_symbols
 pub use Rattle.ped_session.specs.ped_tree

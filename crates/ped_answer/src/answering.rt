@@ -92,9 +92,9 @@ pub fn ped_main<F: Shelf, K: Sink, L: Ledger>(
         × (K.taken out.new ≡ Some (before ++ bytes))) }
 
     // Where a session's answer is written whole, each `run` of its script shows what the programs show from which the
-    // present one has come by transformations alone, if they are tidy and run on the data without a fault and without a
-    // race. Tidy: no reference in a PARALLEL DO writes the variable of it or of a DO in it, and each path from that
-    // PARALLEL DO's exit to the end overwrites such a variable that is saved.
+    // present one has come by transformations alone, if they are tidy and without C$PED REJECT and run on the data
+    // without a fault and without a race. Tidy: no reference in a PARALLEL DO writes the variable of it or of a DO in it,
+    // and each path from that PARALLEL DO's exit to the end overwrites such a variable that is saved.
     ensures runs { (files : Contents) → F.told shelf.old ≡ Some files →
         (before : List ℕ) → K.taken out.old ≡ Some before → IsWhole result →
         (bytes : List ℕ) × (K.taken out.new ≡ Some (before ++ bytes))
@@ -116,6 +116,7 @@ pub fn ped_main<F: Shelf, K: Sink, L: Ledger>(
     ensures untested { IsUntested result → steps.new ≡ steps.old }
     ensures steps { steps.old ≤ steps.new }
 {
+    ped_session::runs_are_as_before();
     match asked_for(alloc, words) {
         Ok(asked) => serve(alloc, asked, shelf, out, steps),
         Err(WordsError::Bad) => finish(out, USAGE, Status::BadWords),
@@ -130,11 +131,14 @@ pub fn one_answer()
 {}
 
 /// In each answer to a session each `run` of its script shows what the programs show from which the present one has come
-/// by transformations alone, if they are tidy and run on the data without a fault and without a race.
+/// by transformations alone, if they are tidy and without C$PED REJECT and run on the data without a fault and without a
+/// race.
 pub fn runs_are_as_before()
     ensures { (request : Option Answer.Request) (files : Contents) (s : Status) (bytes : List ℕ) → IsWhole s →
         Answers request files s bytes → RunsRequest request files bytes }
-{}
+{
+    ped_session::runs_are_as_before();
+}
 
 /// Answers the words over a shelf and a sink that never fail: no read fault and no write fault comes.
 pub fn answer_surely<L: Ledger>(

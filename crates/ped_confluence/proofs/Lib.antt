@@ -6,5 +6,5 @@ mod Tracing
 mod Halting
 mod Reaching
 mod Outcomes
-mod InOrder
+pub mod InOrder
 mod Examples

@@ -1,39 +1,36 @@
 -- Each step has a first cause against it in a program, or none, and then it makes a program, which is valid.
 use Rattle.std.proofs.Common.{◌≡◌, ◌⊎◌, ℕ, refl, sym, ap, ◌∙◌, inl, inr, Bool, true, false, ◌||◌, List, [], ◌∷◌, All, Option, Some, None, MatchOption}
 use Rattle.std.specs.List.{list_any}
+use Rattle.std.specs.Prelude.{⊤}
 use Rattle.ped_answer.specs.ped_order.specs.ped_flow.specs.ped_base.specs.Lists.{is_among}
 use Rattle.ped_answer.specs.ped_tree.specs.Tree.{Head, StmtTrees, ProgramTree}
 use Rattle.ped_answer.specs.ped_tree.specs.Nests.{Loop}
-use Rattle.ped_answer.specs.ped_tree.specs.Grammar.Fits.{fits}
-use Rattle.ped_answer.specs.ped_tree.specs.Grammar.Refusal.{Finding}
 use Rattle.ped_answer.specs.ped_order.specs.ped_flow.specs.PlainBounds.{nest_round}
 use Rattle.ped_answer.specs.ped_order.specs.ped_flow.specs.Questions.{IsLoop, LoopOf}
-use Rattle.ped_answer.specs.ped_symbols.specs.NameRefusals.{name_refusals, IsValid}
+use Rattle.ped_answer.specs.ped_symbols.specs.NameRefusals.{IsValid}
 use Rattle.ped_answer.specs.ped_symbols.specs.Kinds.{table_of}
 use Rattle.ped_answer.specs.ped_graph.specs.ped_edges.specs.Edges.{Edge}
 use Rattle.ped_answer.specs.ped_scalar.specs.ped_steps.specs.declared.rules.Rule.TheVariants.{NoLoop, ParallelState, Range, ExposedOrLive, NotScalar, NotConstant, Limit, AlreadyPrivate}
 use Rattle.ped_answer.specs.ped_scalar.specs.ped_steps.specs.Causes.{NoneBelow, Cause, rule, none_forbids}
 use Rattle.ped_answer.specs.ped_scalar.specs.ped_steps.specs.Replacing.{all_kept}
 use Rattle.ped_answer.specs.ped_scalar.specs.Scalars.{is_unfit}
-use Rattle.ped_answer.specs.ped_scalar.specs.Privatising.{privatised, IsScalarExposedOrLiveBy, StandsAgainstPrivatising}
-use Rattle.ped_answer.specs.ped_scalar.specs.Expanding.{Span, span_of, spans_far, fresh_name, is_private_near, IsScalarLostBy, SaysLive, IsExpanded, expanded, expand_kept, StandsAgainstExpanding}
+use Rattle.ped_answer.specs.ped_scalar.specs.Privatising.{privatised, IsScalarExposedOrLiveBy, StandsAgainstPrivatising, privatising}
+use Rattle.ped_answer.specs.ped_scalar.specs.ped_rules.specs.Spans.{Span, span_of, spans_far}
+use Rattle.ped_answer.specs.ped_scalar.specs.Expanding.{array_name, is_private_near, IsScalarLostBy, SaysLive, IsExpanded, expanded, expand_kept, StandsAgainstExpanding, expanding}
 use Rattle.ped_answer.specs.ped_scalar.proofs.FlowAnswers.{fit_scalar}
 use Rattle.ped_answer.specs.ped_scalar.proofs.FirstAgainstPrivatising as private
 use Rattle.ped_answer.specs.ped_scalar.proofs.FirstAgainstExpanding as expand
-use Rattle.ped_answer.specs.ped_session.specs.Transforming.{StepAt, privatising, expanding}
+use Rattle.ped_answer.specs.ped_script.specs.declared.items.Command.{Command}
+use Rattle.ped_answer.specs.ped_script.specs.declared.items.Command.TheVariants.{Source, Deps, Show, Print, Advise, Replace, Insert, Delete, Interchange, Reverse, Skew, Strip, Peel, Distribute, Fuse, Expand, Privatise, Parallel, Serial, Reject, Undo, Redo, Run, Races, Tested}
+use Rattle.ped_answer.specs.ped_scalar.specs.ped_rules.specs.Steps.{StepAt, MatchStep}
+use Rattle.ped_answer.specs.ped_scalar.specs.ped_rules.specs.Lawful.{IsDetermined}
+use Rattle.ped_answer.specs.ped_scalar.specs.ped_rules.proofs.Decided.{valid_decided, loop_decided}
+use Rattle.ped_answer.specs.ped_transformations.specs.Table.{step_of}
+use Rattle.ped_answer.specs.ped_transformations.specs.ped_loops.proofs.Determined.{determined_parallel, determined_serial, determined_reversal, determined_rejection}
+use Rattle.ped_existence.proofs.LoopCauses.{parallel_cause, serial_cause, reversal_cause, rejection_cause}
 use Rattle.ped_existence.specs.Deciding.{Decided}
-use Rattle.ped_existence.proofs.Deciding.{decided_same, decided_both, true_decided}
-use Rattle.ped_existence.proofs.LoopPaths.{loop_decided, live_said, exposed_or_live, lost}
-
--- a program is valid, or it isn't
-nothing_decided : (fs : List Finding) → Decided (fs ≡ [])
-nothing_decided [] = inl refl
-nothing_decided (f ∷ fs) = inr (λ e. absurd (cc))
-
-pub valid_decided : (t : ProgramTree) → Decided (IsValid t)
-valid_decided t =
-    decided_same (λ p. record { fits = p.0; names = p.1 }) (λ v. (v.fits, v.names))
-    (decided_both (true_decided (fits t)) (nothing_decided (name_refusals [] t)))
+use Rattle.ped_existence.proofs.LoopPaths.{exposed_or_live, lost}
+use Rattle.ped_answer.specs.ped_scalar.proofs.LiveSaid.{live_said}
 
 -- a step is forbidden by a first cause, or it makes a valid program
 abbrev pub Goes : StepAt → ProgramTree → Type 0
@@ -77,7 +74,7 @@ module _ (t : ProgramTree) (s : ℕ) (x : List ℕ) where
   expand_here h body is below fit new made (inr invalid) = inl (rule Limit s, expand.limit t s x h body is below new made invalid)
   expand_here h body is below fit new made (inl valid) = expand_private h body is below fit new made valid (is_private_near t s h body x) refl
 
-  expand_named : (h : Head) (body : StmtTrees) (is : IsLoop t s h body) → NoneBelow (StandsAgainstExpanding t s x) 15 → is_unfit t s h body x ≡ false → (v : Span) → span_of (table_of t).constants h ≡ Some v → (o : Option (List ℕ)) → fresh_name t ≡ o → (live : Bool) × SaysLive t s x live → Goes (expanding s x) t
+  expand_named : (h : Head) (body : StmtTrees) (is : IsLoop t s h body) → NoneBelow (StandsAgainstExpanding t s x) 15 → is_unfit t s h body x ≡ false → (v : Span) → span_of (table_of t).constants h ≡ Some v → (o : Option (List ℕ)) → array_name t ≡ o → (live : Bool) × SaysLive t s x live → Goes (expanding s x) t
   expand_named h body is below fit v found None e live = inl (rule Limit s, expand.no_name t s x h body is below e)
   expand_named h body is below fit v found (Some array) e (live, says) =
       let new : ProgramTree = expanded t s x live array v in
@@ -85,7 +82,7 @@ module _ (t : ProgramTree) (s : ℕ) (x : List ℕ) where
 
   expand_over : (h : Head) (body : StmtTrees) (is : IsLoop t s h body) → NoneBelow (StandsAgainstExpanding t s x) 14 → is_unfit t s h body x ≡ false → (o : Option Span) → span_of (table_of t).constants h ≡ o → Goes (expanding s x) t
   expand_over h body is below fit None e = inl (rule NotConstant s, expand.constant t s x h body is below e)
-  expand_over h body is below fit (Some v) e = expand_named h body is (expand.below_limit t s x h body is below v e) fit v e (fresh_name t) refl (live_said t s x)
+  expand_over h body is below fit (Some v) e = expand_named h body is (expand.below_limit t s x h body is below v e) fit v e (array_name t) refl (live_said t s x)
 
   expand_fit : (h : Head) (body : StmtTrees) (is : IsLoop t s h body) → NoneBelow (StandsAgainstExpanding t s x) 13 → (b : Bool) → is_unfit t s h body x ≡ b → Goes (expanding s x) t
   expand_fit h body is below true e = inl (rule NotScalar s, expand.unfit t s x h body is below e)
@@ -123,3 +120,39 @@ module _ (t : ProgramTree) (s : ℕ) (x : List ℕ) where
       by : Decided (LoopOf t s) → Goes (expanding s x) t
       by (inl l) = expand_loop l.head l.body l.is l.head.parallel refl
       by (inr n) = inl (rule NoLoop s, expand.no_loop t s x (λ h body is. n (record { head = h; body = body; is = is })))
+
+-- a determined step that has a first cause in each program, or none
+pub goes_by : (at : StepAt) → IsDetermined at → ((t : ProgramTree) → (c : Option Cause) × at.IsCause t c) → (t : ProgramTree) → IsValid t → Goes at t
+goes_by at lawful some t valid = by (some t)
+  where
+    by : (c : Option Cause) × at.IsCause t c → Goes at t
+    by (Some c, is) = inl (c, is)
+    by (None, none) = let made = lawful.some_made t valid none in inr (none, made.0, made.1, made.2, made.3)
+
+-- each step of the table
+pub each_goes : (command : Command) → MatchStep (step_of command) ⊤ (λ at. (t : ProgramTree) → IsValid t → Goes at t)
+each_goes (Expand number name) = λ t valid. expanding_goes t number name
+each_goes (Privatise number name) = λ t valid. privatising_goes t number name
+each_goes (Interchange number) = tt
+each_goes (Reverse number) = goes_by _ (determined_reversal number) (λ t. reversal_cause t number)
+each_goes (Skew number factor) = tt
+each_goes (Strip number size) = tt
+each_goes (Peel number last) = tt
+each_goes (Distribute number) = tt
+each_goes (Fuse number) = tt
+each_goes (Parallel number) = goes_by _ (determined_parallel number) (λ t. parallel_cause t number)
+each_goes (Serial number) = goes_by _ (determined_serial number) (λ t. serial_cause t number)
+each_goes (Reject number name) = goes_by _ (determined_rejection number name) (λ t. rejection_cause t number name)
+each_goes (Deps of) = tt
+each_goes (Advise number) = tt
+each_goes (Replace first last lines) = tt
+each_goes (Insert after lines) = tt
+each_goes (Delete first last) = tt
+each_goes (Run choices) = tt
+each_goes Source = tt
+each_goes Show = tt
+each_goes Print = tt
+each_goes Undo = tt
+each_goes Redo = tt
+each_goes Races = tt
+each_goes Tested = tt

@@ -17,39 +17,12 @@ use Rattle.ped_answer.specs.ped_scalar.specs.Scalars.{is_scalar, IsLiveBy}
 use Rattle.ped_answer.specs.ped_scalar.specs.Privatising.{IsScalarExposedOrLiveBy}
 use Rattle.ped_answer.specs.ped_scalar.specs.Expanding.{IsScalarLostBy, SaysLive}
 use Rattle.ped_answer.specs.ped_scalar.proofs.FlowAnswers.{true_not_false, live_answer}
-use Rattle.ped_answer.specs.ped_scalar.specs.ped_tidy.proofs.TidyPathsSums.{Summary}
+use Rattle.ped_answer.specs.ped_scalar.specs.ped_rules.specs.ped_tidy.proofs.TidyPathsSums.{Summary}
 use Rattle.ped_answer.specs.ped_scalar.proofs.LostAnswers.{kept_answer, lost_answer}
+use Rattle.ped_answer.specs.ped_scalar.proofs.LiveSaid.{behind_first, shown_decided}
+use Rattle.ped_answer.specs.ped_scalar.specs.ped_rules.proofs.Decided.{loop_decided}
 use Rattle.ped_existence.specs.Deciding.{Decided}
 use Rattle.ped_existence.proofs.Deciding.{decided_same, decided_both, true_decided}
-
--- it is a DO
-abbrev is_loop : Option StmtTree → Bool
-is_loop None = false
-is_loop (Some (Assign left right)) = false
-is_loop (Some (If condition then_part else_part)) = false
-is_loop (Some (Do h body)) = true
-is_loop (Some (Print items)) = false
-is_loop (Some (Read items)) = false
-is_loop (Some Stop) = false
-is_loop (Some (Comment text)) = false
-
-module _ (t : ProgramTree) (s : ℕ) where
-  no_loop : (o : Option StmtTree) → statement_with s t ≡ o → is_loop o ≡ false → Decided (LoopOf t s)
-  no_loop o e f = inr (λ l. true_not_false true refl (sym (ap is_loop (sym e ∙ l.is)) ∙ f))
-
-  loop_by : (o : Option StmtTree) → statement_with s t ≡ o → Decided (LoopOf t s)
-  loop_by None e = no_loop None e refl
-  loop_by (Some (Assign left right)) e = no_loop (Some (Assign left right)) e refl
-  loop_by (Some (If condition then_part else_part)) e = no_loop (Some (If condition then_part else_part)) e refl
-  loop_by (Some (Do h body)) e = inl (record { head = h; body = body; is = e })
-  loop_by (Some (Print items)) e = no_loop (Some (Print items)) e refl
-  loop_by (Some (Read items)) e = no_loop (Some (Read items)) e refl
-  loop_by (Some Stop) e = no_loop (Some Stop) e refl
-  loop_by (Some (Comment text)) e = no_loop (Some (Comment text)) e refl
-
-  -- the statement with a number is a DO, or it isn't
-  pub loop_decided : Decided (LoopOf t s)
-  loop_decided = loop_by (statement_with s t) refl
 
 module _ (t : ProgramTree) (s : ℕ) (x : List ℕ) where
   -- the first statement with an exposed read, or none
@@ -64,30 +37,9 @@ module _ (t : ProgramTree) (s : ℕ) (x : List ℕ) where
           let inside : Summary = sum_of_all cs x l.body (s + 1) in
           ((sum_in_turn start inside).first, exposed_in_loop t s x l.head l.body (sum_in_turn start inside).first l.is (first_in_iteration cs x s l.head l.body start inside (sum_in_turn start inside) refl refl refl))
 
-  abbrev behind : Summary
-  behind = sum_behind_all (constant_names t.decls) x s t.body 1
-
-  behind_summed : AreSummed (paths_from_exit t s) x behind
-  behind_summed = all_behind-summed (constant_names t.decls) x s t.body 1
-
-  -- the first statement that may read what the scalar holds at the exit, or none
-  behind_first : (a : Option ℕ) × IsFirst (IsReadBehind t s x) a
-  behind_first = (behind.first, read_behind t s x behind.first behind_summed.first)
-
-  -- the program's end may show the scalar, or it can't
-  shown_decided : Decided (IsShownBehind t s x)
-  shown_decided =
-      decided_same
-      (λ p. record { saved = p.0; path = p.1.0; leads = p.1.1; kept = p.1.2 })
-      (λ u. (u.saved, (u.path, u.leads, u.kept)))
-      (decided_both (true_decided (is_among x (flat_map saved_in t.decls))) (decided_same left.0 left.1 (true_decided (behind.keeps || behind.ends))))
-    where
-      left : IsTrue (behind.keeps || behind.ends) ↔ Left t s x
-      left = left_is t s x behind behind_summed
-
   -- by which statement the scalar is live behind the DO, if by any
   live_by : (r : Option ℕ) × MatchOption r ((n : ℕ) → IsLiveBy t s x n → ⊥) (IsLiveBy t s x)
-  live_by = by behind_first shown_decided
+  live_by = by (behind_first t s x) (shown_decided t s x)
     where
       by : (a : Option ℕ) × IsFirst (IsReadBehind t s x) a → Decided (IsShownBehind t s x) → (r : Option ℕ) × MatchOption r ((n : ℕ) → IsLiveBy t s x n → ⊥) (IsLiveBy t s x)
       by (Some n, f) d = (Some n, inl f)
@@ -97,19 +49,6 @@ module _ (t : ProgramTree) (s : ℕ) (x : List ℕ) where
           none : (n : ℕ) → IsLiveBy t s x n → ⊥
           none n (inl p) = f n p.0
           none n (inr p) = hidden p.1
-
-  -- whether the scalar is live after the DO
-  pub live_said : (live : Bool) × SaysLive t s x live
-  live_said = by behind_first shown_decided
-    where
-      by : (a : Option ℕ) × IsFirst (IsReadBehind t s x) a → Decided (IsShownBehind t s x) → (live : Bool) × SaysLive t s x live
-      by (Some n, f) d = (true, (λ e. inl (n, f.0), λ l. refl))
-      by (None, f) (inl u) = (true, (λ e. inr u, λ l. refl))
-      by (None, f) (inr hidden) = (false, (λ e. absurd (true_not_false false e refl), λ l. absurd (none l)))
-        where
-          none : IsLiveAfter t s x → ⊥
-          none (inl r) = f r.0 r.1
-          none (inr u) = hidden u
 
   -- the scalar is assigned on each path through the body, or not on some
   assigned_decided : Decided (IsAssignedThrough t s x)

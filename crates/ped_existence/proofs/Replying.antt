@@ -1,6 +1,6 @@
 -- Each command has a reply in each state whose sources are printed texts of valid programs, and leads to such a state.
 use Rattle.std.proofs.Common.{◌≡◌, ◌⊎◌, ℕ, ◌+◌, ◌-◌, refl, sym, subst, inl, inr, Bool, true, false, List, [], ◌∷◌, ◌++◌, All, Option, Some, None, is_some}
-use Rattle.std.specs.Prelude.{MatchBool}
+use Rattle.std.specs.Prelude.{MatchBool, ⊤}
 use Rattle.std.proofs.lemmas.List.Elements.{All-nil, All-cons, All-head, All-tail}
 use Rattle.ped_answer.specs.ped_tree.specs.Tree.{StmtTree, ProgramTree}
 use Rattle.ped_answer.specs.ped_tree.specs.Printing.{program_text}
@@ -17,7 +17,7 @@ use Rattle.ped_answer.specs.ped_order.proofs.OneReport.{one_at_least}
 use Rattle.ped_answer.specs.ped_script.specs.declared.items.Command.{Command}
 use Rattle.ped_answer.specs.ped_script.specs.declared.items.Command.TheVariants.{Source, Deps, Show, Print, Advise, Replace, Insert, Delete, Interchange, Reverse, Skew, Strip, Peel, Distribute, Fuse, Expand, Privatise, Parallel, Serial, Reject, Undo, Redo, Run, Races, Tested}
 use Rattle.ped_answer.specs.ped_script.specs.declared.items.Item.{Item}
-use Rattle.ped_answer.specs.ped_session.specs.declared.changes.Change.TheVariants.{Edit, Transformation}
+use Rattle.ped_answer.specs.ped_session.specs.declared.changes.Change.TheVariants.{Edit}
 use Rattle.ped_answer.specs.ped_session.specs.declared.replies.Refusal.{Refusal}
 use Rattle.ped_answer.specs.ped_session.specs.declared.replies.Refusal.TheVariants.{BadEdit, Step, NothingToUndo, NothingToRedo, NoSuchStatement, NoSuchLine, NotBuilt}
 use Rattle.ped_answer.specs.ped_session.specs.declared.replies.Reply.{Reply}
@@ -27,12 +27,13 @@ use Rattle.ped_answer.specs.ped_session.specs.Splices.{spliced, are_lines, is_pl
 use Rattle.ped_answer.specs.ped_session.specs.Panes.{IsSourcePane, ArePanes, tested_row}
 use Rattle.ped_answer.specs.ped_session.specs.Blocks.{block}
 use Rattle.ped_answer.specs.ped_session.specs.RaceRows.{race_row, IsRaceRow}
-use Rattle.ped_answer.specs.ped_session.specs.Transforming.{StepAt, privatising, expanding}
-use Rattle.ped_answer.specs.ped_session.specs.Steps.{Refuses, Shows, ShowsOf, ShowsStatement, Edits, accepted, refused, Transforms, missing, forbidden, transformed, GoesBack, GoesForward, Runs, IsStep}
+use Rattle.ped_answer.specs.ped_scalar.specs.ped_rules.specs.Steps.{StepAt, MaybeStep, no_step, some_step, MatchStep}
+use Rattle.ped_answer.specs.ped_transformations.specs.Table as table
+use Rattle.ped_answer.specs.ped_session.specs.Steps.{Refuses, Shows, ShowsOf, ShowsStatement, Edits, accepted, refused, change_by, Transforms, missing, forbidden, transformed, GoesBack, GoesForward, Runs, IsOther, IsStep}
 use Rattle.ped_answer.specs.ped_session.specs.Histories.{IsPrinted, ArePrinted}
 use Rattle.ped_answer.specs.ped_session.specs.Scripts.{Said, said_by, bad_command_said, nothing_said, said_both, AnswersCommand, AnswersItems}
 use Rattle.ped_existence.proofs.Edges.{pane_of_program, pane_of_statement}
-use Rattle.ped_existence.proofs.FirstCauses.{Goes, privatising_goes, expanding_goes}
+use Rattle.ped_existence.proofs.FirstCauses.{Goes, each_goes}
 use Rattle.ped_existence.proofs.Refusing.{refusal_for}
 
 -- a reply and a state of which this is so; all sources there are printed texts of valid programs
@@ -97,7 +98,7 @@ module _ (s : State) (all : ArePrinted s) where
   edits_where true kept gone text = edits kept gone text
   edits_where false kept gone text = stays NoSuchLine
 
-  transforms : (at : StepAt) → ((t : ProgramTree) → Goes at t) → Answered (λ reply. λ next. Transforms at s reply next)
+  transforms : (at : StepAt) → ((t : ProgramTree) → IsValid t → Goes at t) → Answered (λ reply. λ next. Transforms at s reply next)
   transforms at goes = by (reads_printed s.present all.present)
     where
       on : (t : ProgramTree) → ReadsValid s.present t → (b : Bool) → is_some (statement_with at.statement t) ≡ b → Goes at t → Answered (λ reply. λ next. Transforms at s reply next)
@@ -105,13 +106,13 @@ module _ (s : State) (all : ArePrinted s) where
       on t reads true e (inl (c, is)) = record { reply = Refused (Step c); next = s; is = forbidden t reads e c is (refl, refl); printed = all }
       on t reads true e (inr (none, new, keep, makes, valid)) = record {
         reply = Changed;
-        next = changed_to (program_text new) Transformation (tested_pairs t new keep) s;
+        next = changed_to (program_text new) (change_by at.kind) (tested_pairs t new keep) s;
         is = transformed t new keep reads e none makes valid refl refl;
-        printed = behind_change new valid (program_text new) refl ((s.present, Transformation) ∷ s.past) (All-cons IsPrintedOther (s.present, Transformation) s.past all.present all.past) (tested_pairs t new keep);
+        printed = behind_change new valid (program_text new) refl ((s.present, change_by at.kind) ∷ s.past) (All-cons IsPrintedOther (s.present, change_by at.kind) s.past all.present all.past) (tested_pairs t new keep);
       }
 
       by : (t : ProgramTree) × ReadsValid s.present t → Answered (λ reply. λ next. Transforms at s reply next)
-      by (t, reads) = on t reads (is_some (statement_with at.statement t)) refl (goes t)
+      by (t, reads) = on t reads (is_some (statement_with at.statement t)) refl (goes t reads.valid)
 
   goes_back : (past : List Other) → All IsPrintedOther past → Answered (λ reply. λ next. GoesBack past s reply next)
   goes_back [] before = stays NothingToUndo
@@ -143,33 +144,40 @@ module _ (s : State) (all : ArePrinted s) where
   runs [] data_bytes = shows (λ t. λ bytes. bytes ≡ block (outcome t data_bytes)) (λ t. (block (outcome t data_bytes), refl))
   runs (c ∷ cs) data_bytes = stays NotBuilt
 
+  others : (c : Command) (data_bytes : List ℕ) → Answered (λ reply. λ next. IsOther c data_bytes s reply next)
+  others Source d = shows IsSourcePane (λ t. (source_pane t, refl))
+  others (Deps None) d = shows IsDependencePane pane_of_program
+  others (Deps (Some number)) d = shows_statement number
+  others Show d = shows ArePanes panes
+  others Print d = record { reply = Shown s.present; next = s; is = (refl, refl); printed = all }
+  others (Replace first last lines) d = edits_where (are_lines s.present first last) (first - 1) (last + 1 - first) (spliced s.present (first - 1) (last + 1 - first) lines)
+  others (Insert after lines) d = edits_where (is_place s.present after) after 0 (spliced s.present after 0 lines)
+  others (Delete first last) d = edits_where (are_lines s.present first last) (first - 1) (last + 1 - first) (spliced s.present (first - 1) (last + 1 - first) [])
+  others Undo d = goes_back s.past all.past
+  others Redo d = goes_forward s.future all.future
+  others (Run choices) d = runs choices d
+  others Races d = shows (IsRaceRow d) (race_rows d)
+  others (Advise number) d = stays NotBuilt
+  others (Interchange number) d = stays NotBuilt
+  others (Reverse number) d = stays NotBuilt
+  others (Skew number factor) d = stays NotBuilt
+  others (Strip number size) d = stays NotBuilt
+  others (Peel number last) d = stays NotBuilt
+  others (Distribute number) d = stays NotBuilt
+  others (Fuse number) d = stays NotBuilt
+  others (Expand number name) d = stays NotBuilt
+  others (Privatise number name) d = stays NotBuilt
+  others (Parallel number) d = stays NotBuilt
+  others (Serial number) d = stays NotBuilt
+  others (Reject number name) d = stays NotBuilt
+  others Tested d = record { reply = Shown (tested_row s.tested); next = s; is = (refl, refl); printed = all }
+
   pub replies : (c : Command) (data_bytes : List ℕ) → Answered (λ reply. λ next. IsStep c data_bytes s reply next)
-  replies Source d = shows IsSourcePane (λ t. (source_pane t, refl))
-  replies (Deps None) d = shows IsDependencePane pane_of_program
-  replies (Deps (Some number)) d = shows_statement number
-  replies Show d = shows ArePanes panes
-  replies Print d = record { reply = Shown s.present; next = s; is = (refl, refl); printed = all }
-  replies (Replace first last lines) d = edits_where (are_lines s.present first last) (first - 1) (last + 1 - first) (spliced s.present (first - 1) (last + 1 - first) lines)
-  replies (Insert after lines) d = edits_where (is_place s.present after) after 0 (spliced s.present after 0 lines)
-  replies (Delete first last) d = edits_where (are_lines s.present first last) (first - 1) (last + 1 - first) (spliced s.present (first - 1) (last + 1 - first) [])
-  replies Undo d = goes_back s.past all.past
-  replies Redo d = goes_forward s.future all.future
-  replies (Run choices) d = runs choices d
-  replies Races d = shows (IsRaceRow d) (race_rows d)
-  replies (Advise number) d = stays NotBuilt
-  replies (Interchange number) d = stays NotBuilt
-  replies (Reverse number) d = stays NotBuilt
-  replies (Skew number factor) d = stays NotBuilt
-  replies (Strip number size) d = stays NotBuilt
-  replies (Peel number last) d = stays NotBuilt
-  replies (Distribute number) d = stays NotBuilt
-  replies (Fuse number) d = stays NotBuilt
-  replies (Expand number name) d = transforms (expanding number name) (λ t. expanding_goes t number name)
-  replies (Privatise number name) d = transforms (privatising number name) (λ t. privatising_goes t number name)
-  replies (Parallel number) d = stays NotBuilt
-  replies (Serial number) d = stays NotBuilt
-  replies (Reject number name) d = stays NotBuilt
-  replies Tested d = record { reply = Shown (tested_row s.tested); next = s; is = (refl, refl); printed = all }
+  replies c d = by (table.step_of c) (each_goes c)
+    where
+      by : (step : MaybeStep) → MatchStep step ⊤ (λ at. (t : ProgramTree) → IsValid t → Goes at t) → Answered (λ reply. λ next. MatchStep step (IsOther c d s reply next) (λ at. Transforms at s reply next))
+      by no_step goes = others c d
+      by (some_step at) goes = transforms at goes
 
   pub step_of : (c : Command) (data_bytes : List ℕ) → (reply : Reply) × (next : State) × IsStep c data_bytes s reply next
   step_of c d = let a = replies c d in (a.reply, a.next, a.is)

@@ -1,5 +1,5 @@
 mod Counts
 mod Nexts
 mod Weighing
-mod Ending
+pub mod Ending
 mod Examples

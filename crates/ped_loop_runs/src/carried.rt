@@ -2,7 +2,7 @@
 
 ghost use Rattle.std.specs.Prelude.{◌≡◌, ◌<◌, ℕ, List, ◌∷◌, ◌++◌, length, Bool, true, false, None};
 ghost use Rattle.ped_laws.specs.ped_flow.specs.ped_tree.specs.Tree.{ProgramTree};
-ghost use Rattle.ped_laws.specs.ped_flow.specs.Questions.{LoopOf};
+ghost use Rattle.ped_laws.specs.ped_flow.specs.Questions.{LoopOf, IsIndexIn};
 ghost use Rattle.ped_laws.specs.ped_graph.specs.ped_symbols.specs.NameRefusals.{IsValid};
 ghost use Rattle.ped_laws.specs.ped_graph.specs.ped_refs.specs.References.{Reference};
 ghost use Rattle.ped_laws.specs.ped_graph.specs.Dependences.{EdgesOfPairs, AreEdges};
@@ -16,6 +16,7 @@ ghost use Rattle.ped_laws.specs.Acts.Orders.{IsIn};
 ghost use Rattle.ped_laws.specs.Conflicts.Directions.{share_a_loop};
 ghost use Rattle.ped_laws.specs.Conflicts.Sequence.{IsBeforeInText, AreSuccessive};
 ghost use Rattle.ped_laws.specs.Conflicts.Covered.{ComeInRun};
+ghost use Rattle.ped_steps.specs.Tidy.{is_written_in};
 ghost use Rattle.ped_loop_runs.specs.Carried.{MakeConflict, IsCoveredAt, IsCarriedInside, AreInTrips, IsCarriedByLoop, AreTrips, AllStoreWithin, NoneCarriedBy};
 
 use ped_laws::conflicts::{accesses_are_made, accesses_in_sequence};
@@ -48,3 +49,12 @@ pub fn trips_dont_conflict()
     accesses_are_made();
     accesses_in_sequence();
 }
+
+/// Where a DO carries no dependence, no reference in its body writes its variable, nor that of a DO in it. For such a
+/// write belongs to no DO, as no DO may have the variable of a DO round it or in it among its PRIVATE names, or else the
+/// DO that has it there writes it in its own header; and a write of a scalar that belongs to no DO depends on itself, from
+/// each iteration to the next (Allen and Kennedy, section 2.2.1). So a loop may become a PARALLEL DO, whose iterations have
+/// copies of these variables.
+pub fn indices_unwritten()
+    ensures { (t : ProgramTree) → IsValid t → (edges : List Edge) → AreEdges t edges → (l : ℕ) (loop : LoopOf t l) → NoneCarriedBy t edges l loop.body → (w : List ℕ) → IsIndexIn t l w → is_written_in t l loop.body w ≡ false }
+{}

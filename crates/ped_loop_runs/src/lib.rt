@@ -4,9 +4,16 @@
 
 mod bounds;
 mod carried;
+mod loops;
 mod one_out;
 
 pub use bounds::plain_reads_unwritten;
-pub use carried::{meetings_are_carried, trips_are_carried, trips_dont_conflict};
+pub use carried::{
+    indices_unwritten, meetings_are_carried, trips_are_carried, trips_dont_conflict,
+};
+pub use loops::one_for_one;
 pub use one_out::plain_one_out;
+pub use ped_bodies;
+pub use ped_pasting;
 pub use ped_steps;
+pub use ped_weaves;

@@ -24,9 +24,18 @@ pub record IsCopyInside (p : Setting) (scope : Scope) (n count : ℕ) (c : Cell)
   pub rest : List Iteration
   pub is : c ≡ Private name (iterations_of (turns_of scope) ++ (record { statement = p.number statement; number = number }) ∷ rest)
 
--- no act touches such a copy, nor does its place tell the value of one (this project)
+-- a place stands in such an iteration (ANSI X3.9-1978, section 11.10; this project)
+pub record StandsInside (p : Setting) (scope : Scope) (n count : ℕ) (turns : List Turn) : Type 0 where
+  pub statement : ℕ
+  pub from : n ≤ statement
+  pub to : statement < n + count
+  pub number : ℕ
+  pub rest : List Iteration
+  pub is : iterations_of turns ≡ iterations_of (turns_of scope) ++ (record { statement = p.number statement; number = number }) ∷ rest
+
+-- no act touches such a copy, nor does its place tell the value of one; and none stands in such an iteration (this project)
 abbrev pub LeaveCopies : Setting → Scope → ℕ → ℕ → List Act → Type 0
-LeaveCopies p scope n count acts = (a : Act) → IsIn a acts → (t : Touch) → IsIn t a.touches → IsCopyInside p scope n count t.cell → ⊥
+LeaveCopies p scope n count acts = (a : Act) → IsIn a acts → ((t : Touch) → IsIn t a.touches → IsCopyInside p scope n count t.cell → ⊥) × (StandsInside p scope n count a.place.turns → ⊥)
 
 -- an act of one of so many statements from number n on, done in these iterations or further inside (this project)
 pub record IsActInside (p : Setting) (scope : Scope) (n count : ℕ) (a : Act) : Type 0 where
@@ -68,7 +77,7 @@ abbrev pub AreEnteredIn : (p : Setting) (t : ProgramTree) (start : Store) (l : �
 AreEnteredIn p t start l [] acts u x = Unit {0}
 AreEnteredIn p t start l (f ∷ fs) acts u x = AreEntered p t (run p (Do x.loop.head x.loop.body) (outermost_or l (nest_round t l)) [] x.first).acts x.first (f ∷ fs)
 
--- in a run of a program, which begins with a store, these acts of so many statements from number l on are done in these iterations, from this store, behind the front and before what is behind: the iterations have been entered, no other act touches the copies that belong to iterations inside the statements, and none is one of theirs in these iterations (ANSI X3.9-1978, section 11.10; this project)
+-- in a run of a program, which begins with a store, these acts of so many statements from number l on are done in these iterations, from this store, behind the front and before what is behind: the iterations have been entered, no other act touches the copies that belong to iterations inside the statements, or stands in such an iteration, and none is one of theirs in these iterations (ANSI X3.9-1978, section 11.10; this project)
 pub record IsExecuted (p : Setting) (t : ProgramTree) (start : Store) (l count : ℕ) (scope : Scope) (front acts behind : List Act) (u : Store) : Type 0 where
   pub place : IsPlaceOf p t l scope
   pub whole : (run_all p t.body 1 [] start).acts ≡ front ++ (acts ++ behind)

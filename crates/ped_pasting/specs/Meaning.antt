@@ -27,10 +27,10 @@ pub record SuitEnds (shown : Cell → Bool) (agreed : List Act → Cell → Bool
   pub kept : (acts rest : List Act) (c : Cell) → agreed rest c ≡ true → (agreed (acts ++ rest) c ≡ true) ⊎ (written acts c ≡ true)
   pub shows : (c : Cell) → shown c ≡ true → agreed [] c ≡ true
 
--- where the old acts of a run have no race, the list with the new ones has none (ParaScope; this project)
-abbrev pub RaceFreeInstead : (p : Setting) (t : ProgramTree) (start : Store) (l count : ℕ) (piece : Scope → Store → Run) (fresh : Scope → Store → List Act) → Type 0
-RaceFreeInstead p t start l count piece fresh =
-    (parts : List Part) → old_parts parts ≡ (run_all p t.body 1 [] start).acts → AreExchanged p t start l count piece fresh [] parts [] start → HasNoRace (accesses (old_parts parts)) → HasNoRace (accesses (new_parts parts))
+-- where the old acts of a run have no race, the list with the new ones has none, which are the acts of the new program (ParaScope; this project)
+abbrev pub RaceFreeInstead : (p : Setting) (t : ProgramTree) (start : Store) (l count : ℕ) (piece : Scope → Store → Run) (fresh : Scope → Store → List Act) (program : Store → Run) → Type 0
+RaceFreeInstead p t start l count piece fresh program =
+    (parts : List Part) → old_parts parts ≡ (run_all p t.body 1 [] start).acts → new_parts parts ≡ (program start).acts → AreExchanged p t start l count piece fresh [] parts [] start → HasNoRace (accesses (old_parts parts)) → HasNoRace (accesses (new_parts parts))
 
 -- a program in which statements are exchanged for others, and what a step shows of it: the same names are saved, and are of the same kinds; statements of the new one count under numbers that tell them, those that stay under their old ones; and on all data on which the old program runs without a fault and without a race, the new statements do the new acts in each execution, these may stand for the old ones, and they make no race (ParaScope; this project)
 pub record IsExchange (gap : Gap) (old new : StmtTrees) (t u : ProgramTree) : Type 0 where
@@ -45,4 +45,4 @@ pub record IsExchange (gap : Gap) (old new : StmtTrees) (t u : ProgramTree) : Ty
   pub fresh : List ℕ → Scope → Store → List Act
   pub instead : (data_bytes : List ℕ) → IsRaceFree t data_bytes → DoInstead (setting_of t) (renumbered counted (setting_of u)) t (store_at_start (lines data_bytes)) (number_at gap 1) (statements_count old) (run_all (setting_of t) old (number_at gap 1)) new (fresh data_bytes)
   pub stand : (data_bytes : List ℕ) → IsRaceFree t data_bytes → StandInstead (agreed data_bytes) (setting_of t) t (store_at_start (lines data_bytes)) (number_at gap 1) (statements_count old) (run_all (setting_of t) old (number_at gap 1)) (fresh data_bytes)
-  pub free : (data_bytes : List ℕ) → IsRaceFree t data_bytes → RaceFreeInstead (setting_of t) t (store_at_start (lines data_bytes)) (number_at gap 1) (statements_count old) (run_all (setting_of t) old (number_at gap 1)) (fresh data_bytes)
+  pub free : (data_bytes : List ℕ) → IsRaceFree t data_bytes → RaceFreeInstead (setting_of t) t (store_at_start (lines data_bytes)) (number_at gap 1) (statements_count old) (run_all (setting_of t) old (number_at gap 1)) (fresh data_bytes) (run_all (renumbered counted (setting_of u)) u.body 1 [])

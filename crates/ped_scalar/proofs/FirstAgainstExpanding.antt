@@ -1,21 +1,23 @@
 -- The first of the rules that stand against `expand`, rule by rule in the order of their numbers.
 use Rattle.std.proofs.Common.{◌≡◌, ℕ, List, Bool, true, false, ◌↔◌, inl, inr, Some, None, Ok, Err, IsTrue, sym, ap, ◌∙◌, subst, refl, arith}
 use Rattle.ped_tree.specs.Tree.{Head, StmtTrees, ProgramTree}
-use Rattle.ped_tidy.specs.ped_steps.specs.ped_symbols.specs.Kinds.{table_of}
-use Rattle.ped_tidy.specs.ped_steps.specs.ped_symbols.specs.NameRefusals.{IsValid}
-use Rattle.ped_tidy.specs.ped_steps.specs.ped_flow.specs.Questions.{IsLoop, LoopOf, IsFirst, IsExposed, IsReadBehind, IsLiveAfter}
-use Rattle.ped_tidy.specs.ped_steps.specs.ped_flow.proofs.Answering.{same_head, same_body}
-use Rattle.ped_tidy.specs.ped_steps.specs.declared.rules.Rule.{Rule}
-use Rattle.ped_tidy.specs.ped_steps.specs.declared.rules.Rule.TheVariants.{NoLoop, NotPerfect, ParallelState, HasPrivate, IndexEscapes, BoundNotPlain, BoundsShape, StepShape, Range, NoNeighbour, OneBlock, ExposedOrLive, NotScalar, NotConstant, Limit, BadFactor, AlreadyPrivate, NothingToReject}
-use Rattle.ped_tidy.specs.ped_steps.specs.declared.causes.Refused.{Refused}
-use Rattle.ped_tidy.specs.ped_steps.specs.declared.causes.Refused.TheVariants as variant
-use Rattle.ped_tidy.specs.ped_steps.specs.declared.changes.Change.{Change}
-use Rattle.ped_tidy.specs.ped_steps.specs.Changes.{IsChange}
-use Rattle.ped_tidy.specs.ped_steps.proofs.Answering.{accepted}
-use Rattle.ped_tidy.specs.ped_steps.specs.Causes.{NoRule, NoneBelow, IsFirstRule}
-use Rattle.ped_tidy.specs.ped_steps.proofs.FirstRules.{none_at_first, none_up_to, none_stands, first_stands}
+use Rattle.ped_rules.specs.ped_steps.specs.ped_symbols.specs.Kinds.{table_of}
+use Rattle.ped_rules.specs.ped_steps.specs.ped_symbols.specs.NameRefusals.{IsValid}
+use Rattle.ped_rules.specs.ped_steps.specs.ped_flow.specs.Questions.{IsLoop, LoopOf, IsFirst, IsExposed, IsReadBehind, IsLiveAfter}
+use Rattle.ped_rules.specs.ped_steps.specs.ped_flow.proofs.Answering.{same_head, same_body}
+use Rattle.ped_rules.specs.ped_steps.specs.declared.rules.Rule.{Rule}
+use Rattle.ped_rules.specs.ped_steps.specs.declared.rules.Rule.TheVariants.{NoLoop, NotPerfect, ParallelState, HasPrivate, IndexEscapes, BoundNotPlain, BoundsShape, StepShape, Range, NoNeighbour, OneBlock, ExposedOrLive, NotScalar, NotConstant, Limit, BadFactor, AlreadyPrivate, NothingToReject}
+use Rattle.ped_rules.specs.ped_steps.specs.declared.causes.Refused.{Refused}
+use Rattle.ped_rules.specs.ped_steps.specs.declared.causes.Refused.TheVariants as variant
+use Rattle.ped_rules.specs.ped_steps.specs.declared.changes.Change.{Change}
+use Rattle.ped_rules.specs.ped_steps.specs.Changes.{IsChange}
+use Rattle.ped_rules.specs.Steps.{Answers}
+use Rattle.ped_rules.proofs.Answering.{none_first}
+use Rattle.ped_rules.specs.ped_steps.specs.Causes.{NoRule, NoneBelow, IsFirstRule}
+use Rattle.ped_rules.specs.ped_steps.proofs.FirstRules.{none_at_first, none_up_to, none_stands, first_stands}
 use Rattle.ped_scalar.specs.Scalars.{is_scalar, is_unfit, IsLiveBy}
-use Rattle.ped_scalar.specs.Expanding.{Span, span_of, spans_far, fresh_name, is_private_near, IsLostBy, IsScalarLostBy, IsExpanded, expanded, expand_kept, AnswersExpanding, StandsAgainstExpanding}
+use Rattle.ped_rules.specs.Spans.{Span, span_of, spans_far}
+use Rattle.ped_scalar.specs.Expanding.{array_name, is_private_near, IsLostBy, IsScalarLostBy, IsExpanded, expanded, expand_kept, expanding, StandsAgainstExpanding}
 use Rattle.ped_scalar.proofs.FlowAnswers.{true_not_false}
 
 one_span : (v w : Span) → Some v ≡ Some w → v ≡ w
@@ -85,7 +87,7 @@ module _ (t : ProgramTree) (s : ℕ) (x : List ℕ) where
         none_up_to (StandsAgainstExpanding t s x) NotConstant below
         (λ m p. no_span v (sym found ∙ ap (λ (g : Head). span_of (table_of t).constants g) (sym (same p.0)) ∙ p.1))
 
-    pub no_name : NoneBelow (StandsAgainstExpanding t s x) 15 → fresh_name t ≡ None → IsFirstRule (StandsAgainstExpanding t s x) Limit s
+    pub no_name : NoneBelow (StandsAgainstExpanding t s x) 15 → array_name t ≡ None → IsFirstRule (StandsAgainstExpanding t s x) Limit s
     no_name below none = first_stands (StandsAgainstExpanding t s x) Limit s (record { head = h; body = body; is = is }, inl none, refl) below
 
     pub limit : NoneBelow (StandsAgainstExpanding t s x) 15 → (new : ProgramTree) → IsExpanded t s x h new → (IsValid new → ⊥) → IsFirstRule (StandsAgainstExpanding t s x) Limit s
@@ -127,12 +129,12 @@ module _ (t : ProgramTree) (s : ℕ) (x : List ℕ) where
         (none_up_to stands Limit below (no_limit new made valid)) (λ m p. p)) (λ m p. true_not_false _ p.2 (same_private p.0 ∙ fails))) (λ m p. p))
 
   -- a step that is refused by its first rule
-  pub refused_by : (r : Rule) (n : ℕ) (refused : Refused) → refused ≡ variant.Rule r n → IsFirstRule (StandsAgainstExpanding t s x) r n → AnswersExpanding t s x (Err refused)
-  refused_by r n refused is first = subst (λ (e : Refused). AnswersExpanding t s x (Err e)) (sym is) (first, tt)
+  pub refused_by : (r : Rule) (n : ℕ) (refused : Refused) → refused ≡ variant.Rule r n → IsFirstRule (StandsAgainstExpanding t s x) r n → Answers (expanding s x) t (Err refused)
+  refused_by r n refused is first = subst (λ (e : Refused). Answers (expanding s x) t (Err e)) (sym is) (first, tt)
 
   -- a step that is accepted
-  pub accepted_with : (l : LoopOf t s) (new : ProgramTree) (e : IsExpanded t s x l.head new) (change : Change) → NoRule (StandsAgainstExpanding t s x) → IsChange new (expand_kept t s l.body e.live) change → AnswersExpanding t s x (Ok change)
-  accepted_with l new e change none made = ((accepted t (StandsAgainstExpanding t s x) new (expand_kept t s l.body e.live) change none made).0, l, new, e, made)
+  pub accepted_with : (l : LoopOf t s) (new : ProgramTree) (e : IsExpanded t s x l.head new) (change : Change) → NoRule (StandsAgainstExpanding t s x) → IsChange new (expand_kept t s l.body e.live) change → Answers (expanding s x) t (Ok change)
+  accepted_with l new e change none made = ((none, none_first t), (new, expand_kept t s l.body e.live, (l, e, refl), made))
 
   one_first : (P : ℕ → Type 0) (m n : ℕ) → IsFirst P (Some m) → IsFirst P (Some n) → m ≡ n
   one_first P m n a b = let le = a.1 n b.0 in let ge = b.1 m a.0 in omega (arith, le, ge)

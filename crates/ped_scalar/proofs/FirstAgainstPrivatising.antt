@@ -1,20 +1,27 @@
 -- The first of the rules that stand against `privatise`, rule by rule in the order of their numbers.
-use Rattle.std.proofs.Common.{◌≡◌, ℕ, List, false, ◌||◌, inl, inr, Some, IsTrue, sym, ap, ◌∙◌, refl, arith}
+use Rattle.std.proofs.Common.{◌≡◌, ℕ, List, false, ◌||◌, inl, inr, Some, Ok, Err, IsTrue, sym, ap, ◌∙◌, subst, refl, arith}
 use Rattle.std.specs.List.{list_any}
 use Rattle.ped_base.specs.Lists.{is_among}
 use Rattle.ped_tree.specs.Tree.{Head, StmtTrees, ProgramTree}
 use Rattle.ped_tree.specs.Nests.{Loop}
-use Rattle.ped_tidy.specs.ped_steps.specs.ped_symbols.specs.NameRefusals.{IsValid}
-use Rattle.ped_tidy.specs.ped_steps.specs.ped_flow.specs.PlainBounds.{nest_round}
-use Rattle.ped_tidy.specs.ped_steps.specs.ped_flow.specs.Questions.{IsLoop, LoopOf, IsFirst, IsExposed, IsReadBehind}
-use Rattle.ped_tidy.specs.ped_steps.specs.ped_flow.proofs.Answering.{same_head, same_body}
-use Rattle.ped_tidy.specs.ped_steps.specs.declared.rules.Rule.{Rule}
-use Rattle.ped_tidy.specs.ped_steps.specs.declared.rules.Rule.TheVariants.{NoLoop, NotPerfect, ParallelState, HasPrivate, IndexEscapes, BoundNotPlain, BoundsShape, StepShape, Range, NoNeighbour, OneBlock, ExposedOrLive, NotScalar, NotConstant, Limit, BadFactor, AlreadyPrivate, NothingToReject}
-use Rattle.ped_tidy.specs.ped_steps.specs.Causes.{NoRule, NoneBelow, IsFirstRule}
-use Rattle.ped_tidy.specs.ped_steps.proofs.FirstRules.{none_at_first, none_up_to, none_stands, first_stands}
+use Rattle.ped_rules.specs.ped_steps.specs.ped_symbols.specs.NameRefusals.{IsValid}
+use Rattle.ped_rules.specs.ped_steps.specs.ped_flow.specs.PlainBounds.{nest_round}
+use Rattle.ped_rules.specs.ped_steps.specs.ped_flow.specs.Questions.{IsLoop, LoopOf, IsFirst, IsExposed, IsReadBehind}
+use Rattle.ped_rules.specs.ped_steps.specs.ped_flow.proofs.Answering.{same_head, same_body}
+use Rattle.ped_rules.specs.ped_steps.specs.declared.rules.Rule.{Rule}
+use Rattle.ped_rules.specs.ped_steps.specs.declared.rules.Rule.TheVariants.{NoLoop, NotPerfect, ParallelState, HasPrivate, IndexEscapes, BoundNotPlain, BoundsShape, StepShape, Range, NoNeighbour, OneBlock, ExposedOrLive, NotScalar, NotConstant, Limit, BadFactor, AlreadyPrivate, NothingToReject}
+use Rattle.ped_rules.specs.ped_steps.specs.declared.causes.Refused.{Refused}
+use Rattle.ped_rules.specs.ped_steps.specs.declared.causes.Refused.TheVariants as variant
+use Rattle.ped_rules.specs.ped_steps.specs.declared.changes.Change.{Change}
+use Rattle.ped_rules.specs.ped_steps.specs.Changes.{IsChange}
+use Rattle.ped_rules.specs.ped_steps.specs.Replacing.{all_kept}
+use Rattle.ped_rules.specs.Steps.{Answers}
+use Rattle.ped_rules.proofs.Answering.{none_first}
+use Rattle.ped_rules.specs.ped_steps.specs.Causes.{NoRule, NoneBelow, IsFirstRule}
+use Rattle.ped_rules.specs.ped_steps.proofs.FirstRules.{none_at_first, none_up_to, none_stands, first_stands}
 use Rattle.ped_scalar.specs.Scalars.{is_scalar, is_unfit}
 use Rattle.ped_scalar.proofs.FlowAnswers.{true_not_false}
-use Rattle.ped_scalar.specs.Privatising.{privatised, IsExposedOrLiveBy, IsScalarExposedOrLiveBy, StandsAgainstPrivatising}
+use Rattle.ped_scalar.specs.Privatising.{privatised, IsExposedOrLiveBy, IsScalarExposedOrLiveBy, StandsAgainstPrivatising, privatising}
 
 module _ (t : ProgramTree) (s : ℕ) (x : List ℕ) where
   -- the statement is no DO
@@ -71,6 +78,14 @@ module _ (t : ProgramTree) (s : ℕ) (x : List ℕ) where
         let stands = StandsAgainstPrivatising t s x in
         none_stands stands (none_up_to stands NothingToReject (none_up_to stands AlreadyPrivate (none_up_to stands BadFactor
         (none_up_to stands Limit below (λ m p. p.2 valid)) (λ m p. p)) (λ m p. true_not_false _ p.2 (same_private p.0 ∙ fails))) (λ m p. p))
+
+  -- a step that is refused by its first rule
+  pub refused_by : (r : Rule) (n : ℕ) (refused : Refused) → refused ≡ variant.Rule r n → IsFirstRule (StandsAgainstPrivatising t s x) r n → Answers (privatising s x) t (Err refused)
+  refused_by r n refused is first = subst (λ (e : Refused). Answers (privatising s x) t (Err e)) (sym is) (first, tt)
+
+  -- a step that is accepted
+  pub accepted_with : (change : Change) → NoRule (StandsAgainstPrivatising t s x) → IsChange (privatised t s x) (all_kept t) change → Answers (privatising s x) t (Ok change)
+  accepted_with change none made = ((none, none_first t), (privatised t s x, all_kept t, (refl, refl), made))
 
   one_first : (P : ℕ → Type 0) (m n : ℕ) → IsFirst P (Some m) → IsFirst P (Some n) → m ≡ n
   one_first P m n a b = let le = a.1 n b.0 in let ge = b.1 m a.0 in omega (arith, le, ge)

@@ -3,9 +3,7 @@ pub mod LostAnswers
 pub mod FirstAgainstPrivatising
 pub mod KeptByPrivatising
 pub mod FirstAgainstExpanding
-pub mod FreshNames
 pub mod ExpandedPrograms
-pub mod Steps
 pub mod TidyReferencesSubstituted
 pub mod TidyReferencesPrivatised
 pub mod TidyReferencesExpanded
@@ -20,4 +18,6 @@ pub mod WrittenThere
 pub mod VariablesRound
 pub mod KeptByExpanding
 pub mod TidyKept
-mod UnrejectedSteps
+pub mod UnrejectedSteps
+pub mod LiveSaid
+pub mod LawfulSteps

@@ -1,94 +1,29 @@
 -- `expand`: a scalar becomes an array with an element for each value of a DO's variable. The new program, and the rules that stand against it (Allen and Kennedy, section 5.3; ParaScope).
-use Rattle.std.specs.Prelude.{◌≡◌, ◌⊎◌, ◌↔◌, ℕ, ◌+◌, ℤ, pos, neg_ℤ, ◌-ℤ◌, int_le, int_lt, int_rem, nat_lt, List, [], ◌∷◌, ◌++◌, map, codes, Bool, true, false, ◌&&◌, ◌||◌, IsTrue, Option, Some, None, Result, Ok, Err, if◌then◌else◌}
-use Rattle.std.specs.List.{list_any, flat_map, range_with_len}
+use Rattle.std.specs.Prelude.{◌≡◌, ◌⊎◌, ◌↔◌, ℕ, ◌+◌, ℤ, nat_lt, List, [], ◌∷◌, ◌++◌, map, codes, Bool, true, false, ◌&&◌, ◌||◌, IsTrue, Option, Some, None, if◌then◌else◌}
+use Rattle.std.specs.List.{list_any, range_with_len}
 use Rattle.std.specs.Int.{int_min, int_max}
-use Rattle.std.specs.Fmt.{decimal}
 use Rattle.ped_base.specs.Lists.{is_among}
-use Rattle.ped_tree.specs.Tree.{ExprTree, Var, Element, no_exprs, more_exprs, Head, StmtTree, StmtTrees, Assign, If, Do, Print, Read, Stop, Comment, no_stmts, more_stmts, DeclTree, Program, Implicit, Integer, Dimension, Parameter, Save, Remark, ProgramTree}
+use Rattle.ped_tree.specs.Tree.{ExprTree, Var, Element, no_exprs, more_exprs, Head, StmtTree, StmtTrees, Assign, If, Do, Print, Read, Stop, Comment, no_stmts, more_stmts, DeclTree, Integer, ProgramTree}
 use Rattle.ped_tree.specs.Numbering.{statements_count}
-use Rattle.ped_tree.specs.Constants.ConstantExpressions.{constant_value}
 use Rattle.ped_tree.specs.NamesIn.{private_names_in}
-use Rattle.ped_tidy.specs.ped_steps.specs.ped_symbols.specs.Kinds.{names_of, table_of}
-use Rattle.ped_tidy.specs.ped_steps.specs.ped_symbols.specs.NameRefusals.{IsValid}
-use Rattle.ped_tidy.specs.ped_steps.specs.ped_flow.specs.PlainBounds.{nest_round}
-use Rattle.ped_tidy.specs.ped_steps.specs.ped_flow.specs.Questions.{LoopOf, IsLiveAfter, IsAssignedThrough}
+use Rattle.ped_rules.specs.ped_steps.specs.ped_symbols.specs.Kinds.{table_of}
+use Rattle.ped_rules.specs.ped_steps.specs.ped_symbols.specs.NameRefusals.{IsValid}
+use Rattle.ped_rules.specs.ped_steps.specs.ped_flow.specs.PlainBounds.{nest_round}
+use Rattle.ped_rules.specs.ped_steps.specs.ped_flow.specs.Questions.{LoopOf, IsLiveAfter, IsAssignedThrough}
 use Rattle.ped_sums.specs.Sums.{literal}
 use Rattle.ped_sums.specs.Substitution.{statements_substituted}
-use Rattle.ped_tidy.specs.ped_steps.specs.declared.rules.Rule.TheVariants.{NoLoop, NotPerfect, ParallelState, HasPrivate, IndexEscapes, BoundNotPlain, BoundsShape, StepShape, Range, NoNeighbour, OneBlock, ExposedOrLive, NotScalar, NotConstant, Limit, BadFactor, AlreadyPrivate, NothingToReject}
-use Rattle.ped_tidy.specs.ped_steps.specs.declared.causes.Refused.{Refused}
-use Rattle.ped_tidy.specs.ped_steps.specs.declared.changes.Change.{Change}
-use Rattle.ped_tidy.specs.ped_steps.specs.Causes.{Rules, IsFirstCause, none_forbids}
-use Rattle.ped_tidy.specs.ped_steps.specs.CodeCauses.{cause_of, IsShort}
-use Rattle.ped_tidy.specs.ped_steps.specs.Changes.{IsChange}
-use Rattle.ped_tidy.specs.ped_steps.specs.Replacing.{alone, all_replaced}
-use Rattle.ped_scalar.specs.Scalars.{IsNoLoop, is_scalar, is_unfit, IsLiveBy, IsExposedBy, IsUnexposed}
-
--- the named constants with their values
-abbrev pub Values : Type 0
-Values = List (List ℕ × ℤ)
-
--- the values of a DO's variable in its first and in its last iteration
-pub record Span : Type 0 where
-  pub first : ℤ
-  pub last : ℤ
-
--- from the first value in steps of the increment there is a value up to the limit (ANSI X3.9-1978, section 11.10.3)
-abbrev pub has_iteration : ℤ → ℤ → ℤ → Bool
-has_iteration m1 m2 m3 = if int_lt (pos 0) m3 then int_le m1 m2 else int_le m2 m1
-
--- the value in the last iteration: the limit less what is left of the way there in steps of the increment (ANSI X3.9-1978, section 11.10.3)
-abbrev pub last_value : ℤ → ℤ → ℤ → ℤ
-last_value m1 m2 m3 = m2 -ℤ int_rem (m2 -ℤ m1) m3
-
--- the first and the last value of a DO by its initial value, its limit and its increment, where all are constant and there is an iteration (ANSI X3.9-1978, section 11.10.3)
-abbrev pub span_by : Option ℤ → Option ℤ → Option ℤ → Option Span
-span_by (Some m1) (Some m2) (Some m3) = if has_iteration m1 m2 m3 then Some (record { first = m1; last = last_value m1 m2 m3 }) else None
-span_by (Some m1) (Some m2) None = None
-span_by (Some m1) None m3 = None
-span_by None m2 m3 = None
-
--- the first and the last value of a DO's variable, where its bounds are constant and there is an iteration (ANSI X3.9-1978, section 11.10.3)
-abbrev pub span_of : Values → Head → Option Span
-span_of constants h = span_by (constant_value constants h.first) (constant_value constants h.last) (constant_value constants h.step)
-
--- no literal has this value: it lies more than 2147483647 from zero (this project)
-abbrev pub is_far : ℤ → Bool
-is_far n = int_lt (pos 2147483647) n || int_lt n (neg_ℤ (pos 2147483647))
-
--- the DO's variable has a least or a greatest value that no literal has (this project)
-abbrev pub spans_far : Span → Bool
-spans_far v = is_far v.first || is_far v.last
-
--- the name that a PROGRAM statement gives the program (ANSI X3.9-1978, section 14.1)
-abbrev pub program_name : DeclTree → List (List ℕ)
-program_name (Program x) = x ∷ []
-program_name Implicit = []
-program_name (Integer ds) = []
-program_name (Dimension ds) = []
-program_name (Parameter values) = []
-program_name (Save names) = []
-program_name (Remark text) = []
-
--- the name occurs in the program, as that of the program or of anything else; what stands in comments doesn't count (this project)
-abbrev pub occurs : ProgramTree → List ℕ → Bool
-occurs t x = is_among x (names_of t) || is_among x (flat_map program_name t.decls)
-
--- the first of these names that doesn't occur in the program (this project)
-abbrev pub first_free : ProgramTree → List (List ℕ) → Option (List ℕ)
-first_free t [] = None
-first_free t (x ∷ xs) = if occurs t x then first_free t xs else Some x
-
--- the names KX with so many numbers, from this one on (this project)
-abbrev pub numbered_names : ℕ → ℕ → List (List ℕ)
-numbered_names n count = map (λ k. codes "KX" ++ decimal k) (range_with_len n count)
-
--- the greatest number that a name of 31 characters has behind KX (this project)
-unfoldable pub most_numbered : ℕ
-most_numbered = 99999999999999999999999999999
+use Rattle.ped_rules.specs.ped_steps.specs.declared.rules.Rule.TheVariants.{NoLoop, NotPerfect, ParallelState, HasPrivate, IndexEscapes, BoundNotPlain, BoundsShape, StepShape, Range, NoNeighbour, OneBlock, ExposedOrLive, NotScalar, NotConstant, Limit, BadFactor, AlreadyPrivate, NothingToReject}
+use Rattle.ped_rules.specs.ped_steps.specs.Causes.{Rules, IsFirstCause, none_forbids}
+use Rattle.ped_rules.specs.ped_steps.specs.Replacing.{alone, all_replaced}
+use Rattle.ped_rules.specs.Steps.{transformation, StepAt}
+use Rattle.ped_rules.specs.Rules.{IsNoLoop}
+use Rattle.ped_rules.specs.Spans.{Span, span_of, spans_far}
+use Rattle.ped_rules.specs.Fresh.{fresh_name}
+use Rattle.ped_scalar.specs.Scalars.{is_scalar, is_unfit, IsLiveBy, IsExposedBy, IsUnexposed}
 
 -- the name of the new array: the first of KX1, KX2 and so on that doesn't occur in the program; none where it would have more than 31 characters (this project)
-abbrev pub fresh_name : ProgramTree → Option (List ℕ)
-fresh_name t = first_free t (numbered_names 1 most_numbered)
+abbrev pub array_name : ProgramTree → Option (List ℕ)
+array_name t = fresh_name (codes "KX") t
 
 -- an array with one subscript (ANSI X3.9-1978, section 5.3)
 abbrev pub element : List ℕ → ExprTree → ExprTree
@@ -136,7 +71,7 @@ SaysLive t s x live = IsTrue live ↔ IsLiveAfter t s x
 -- with what is found in a program the step makes this new program: a fresh name, the first and the last value of the DO's variable, and whether the scalar is live after the DO (this project)
 pub record IsExpanded (t : ProgramTree) (s : ℕ) (x : List ℕ) (h : Head) (new : ProgramTree) : Type 0 where
   pub array : List ℕ
-  pub fresh : fresh_name t ≡ Some array
+  pub fresh : array_name t ≡ Some array
   pub span : Span
   pub spans : span_of (table_of t).constants h ≡ Some span
   pub live : Bool
@@ -151,7 +86,7 @@ StandsAgainstExpanding t s x Range n = (l : LoopOf t s) × (v : Span) × (span_o
 StandsAgainstExpanding t s x ExposedOrLive n = LoopOf t s × IsScalarLostBy t s x n
 StandsAgainstExpanding t s x NotScalar n = (l : LoopOf t s) × IsTrue (is_unfit t s l.head l.body x) × (n ≡ s)
 StandsAgainstExpanding t s x NotConstant n = (l : LoopOf t s) × (span_of (table_of t).constants l.head ≡ None) × (n ≡ s)
-StandsAgainstExpanding t s x Limit n = (l : LoopOf t s) × ((fresh_name t ≡ None) ⊎ ((new : ProgramTree) × IsExpanded t s x l.head new × (IsValid new → ⊥))) × (n ≡ s)
+StandsAgainstExpanding t s x Limit n = (l : LoopOf t s) × ((array_name t ≡ None) ⊎ ((new : ProgramTree) × IsExpanded t s x l.head new × (IsValid new → ⊥))) × (n ≡ s)
 StandsAgainstExpanding t s x AlreadyPrivate n = (l : LoopOf t s) × IsTrue (is_scalar t x) × IsTrue (is_private_near t s l.head l.body x) × (n ≡ s)
 StandsAgainstExpanding t s x NotPerfect n = ⊥
 StandsAgainstExpanding t s x HasPrivate n = ⊥
@@ -172,9 +107,11 @@ moved_behind end further n = if nat_lt end n && further then n + 1 else n
 abbrev pub expand_kept : ProgramTree → ℕ → StmtTrees → Bool → List (ℕ × ℕ)
 expand_kept t s body live = map (λ n. (n, moved_behind (s + statements_count body) live n)) (range_with_len 1 (statements_count t.body))
 
--- the first cause against the step, where there is one; else the change to the new program (ParaScope; this project)
-abbrev pub AnswersExpanding : ProgramTree → ℕ → List ℕ → Result Change Refused → Type 0
-AnswersExpanding t s x (Ok change) =
-    IsFirstCause t (StandsAgainstExpanding t s x) none_forbids None
-    × (l : LoopOf t s) × (new : ProgramTree) × (e : IsExpanded t s x l.head new) × IsChange new (expand_kept t s l.body e.live) change
-AnswersExpanding t s x (Err refused) = IsFirstCause t (StandsAgainstExpanding t s x) none_forbids (Some (cause_of refused)) × IsShort refused
+-- the step at a statement: a scalar becomes an array with an element for each value of a DO's variable (Allen and Kennedy, section 5.3; ParaScope)
+abbrev pub expanding : ℕ → List ℕ → StepAt
+expanding s x = record {
+  statement = s;
+  kind = transformation;
+  IsCause = λ t. IsFirstCause t (StandsAgainstExpanding t s x) none_forbids;
+  Makes = λ t new keep. (l : LoopOf t s) × (e : IsExpanded t s x l.head new) × (keep ≡ expand_kept t s l.body e.live);
+}

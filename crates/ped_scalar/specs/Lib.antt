@@ -1,7 +1,6 @@
-pub use Rattle.ped_tidy
-pub use Rattle.ped_tidy.specs.ped_steps
+pub use Rattle.ped_rules
+pub use Rattle.ped_rules.specs.ped_steps
 pub mod Scalars
 pub mod Privatising
 pub mod Expanding
-pub mod CodeSpans
 pub mod CodeElements

@@ -3,13 +3,15 @@ use Rattle.std.specs.Prelude.{◌≡◌, ◌⊎◌, ℕ, List, [], ◌∷◌, �
 use Rattle.std.specs.List.{list_any}
 use Rattle.ped_base.specs.Lists.{is_among}
 use Rattle.ped_tree.specs.Tree.{StmtTree, StmtTrees, Assign, If, Do, Print, Read, Stop, Comment, ProgramTree}
-use Rattle.ped_tidy.specs.ped_steps.specs.ped_symbols.specs.NameRefusals.{IsValid}
-use Rattle.ped_tidy.specs.ped_steps.specs.ped_flow.specs.PlainBounds.{nest_round}
-use Rattle.ped_tidy.specs.ped_steps.specs.ped_flow.specs.Questions.{LoopOf}
-use Rattle.ped_tidy.specs.ped_steps.specs.declared.rules.Rule.TheVariants.{NoLoop, NotPerfect, ParallelState, HasPrivate, IndexEscapes, BoundNotPlain, BoundsShape, StepShape, Range, NoNeighbour, OneBlock, ExposedOrLive, NotScalar, NotConstant, Limit, BadFactor, AlreadyPrivate, NothingToReject}
-use Rattle.ped_tidy.specs.ped_steps.specs.Causes.{Rules}
-use Rattle.ped_tidy.specs.ped_steps.specs.Replacing.{alone, program_with}
-use Rattle.ped_scalar.specs.Scalars.{IsNoLoop, is_scalar, is_unfit, IsLiveBy, IsExposedBy, IsUnexposed}
+use Rattle.ped_rules.specs.ped_steps.specs.ped_symbols.specs.NameRefusals.{IsValid}
+use Rattle.ped_rules.specs.ped_steps.specs.ped_flow.specs.PlainBounds.{nest_round}
+use Rattle.ped_rules.specs.ped_steps.specs.ped_flow.specs.Questions.{LoopOf}
+use Rattle.ped_rules.specs.ped_steps.specs.declared.rules.Rule.TheVariants.{NoLoop, NotPerfect, ParallelState, HasPrivate, IndexEscapes, BoundNotPlain, BoundsShape, StepShape, Range, NoNeighbour, OneBlock, ExposedOrLive, NotScalar, NotConstant, Limit, BadFactor, AlreadyPrivate, NothingToReject}
+use Rattle.ped_rules.specs.ped_steps.specs.Causes.{Rules, IsFirstCause, none_forbids}
+use Rattle.ped_rules.specs.ped_steps.specs.Replacing.{alone, program_with, all_kept}
+use Rattle.ped_rules.specs.Steps.{transformation, StepAt}
+use Rattle.ped_rules.specs.Rules.{IsNoLoop}
+use Rattle.ped_scalar.specs.Scalars.{is_scalar, is_unfit, IsLiveBy, IsExposedBy, IsUnexposed}
 
 -- a DO with the name last in its PRIVATE list (ParaScope)
 abbrev pub with_private : List ℕ → StmtTree → StmtTrees
@@ -53,3 +55,12 @@ StandsAgainstPrivatising t s x OneBlock n = ⊥
 StandsAgainstPrivatising t s x NotConstant n = ⊥
 StandsAgainstPrivatising t s x BadFactor n = ⊥
 StandsAgainstPrivatising t s x NothingToReject n = ⊥
+
+-- the step at a statement: a scalar becomes private to the iterations of a DO (Allen and Kennedy, section 5.2; ParaScope)
+abbrev pub privatising : ℕ → List ℕ → StepAt
+privatising s x = record {
+  statement = s;
+  kind = transformation;
+  IsCause = λ t. IsFirstCause t (StandsAgainstPrivatising t s x) none_forbids;
+  Makes = λ t new keep. (new ≡ privatised t s x) × (keep ≡ all_kept t);
+}

@@ -5,17 +5,17 @@ ghost use Rattle.ped_tree.specs.Tree;
 ghost use Rattle.ped_tree.specs.Views.{expr_tree, stmt_tree, stmt_trees, do_tree, decl_tree, program_tree};
 ghost use Rattle.ped_tree.specs.Numbering.{statements_count};
 ghost use Rattle.ped_tree.specs.Views.{head_of};
-ghost use Rattle.ped_tidy.specs.ped_steps.specs.ped_flow.specs.Questions.{IsLoop};
+ghost use Rattle.ped_rules.specs.ped_steps.specs.ped_flow.specs.Questions.{IsLoop};
 ghost use Rattle.ped_sums.specs.Sums as Sums;
 ghost use Rattle.ped_sums.specs.Substitution.{statements_substituted};
-ghost use Rattle.ped_tidy.specs.ped_steps.specs.Replacing as Replacing;
+ghost use Rattle.ped_rules.specs.ped_steps.specs.Replacing as Replacing;
 ghost use Rattle.ped_scalar.specs.Expanding as Spec;
-ghost use Rattle.ped_scalar.specs.CodeSpans.{span_in, IsNear};
+ghost use Rattle.ped_rules.specs.CodeSpans.{span_in, IsNear};
 
-use crate::spans::Span;
 use ped_base::{Name, NoMemory};
+use ped_rules::ped_steps::{body_with, copy_decls, with_body};
+use ped_rules::{Span, literal};
 use ped_sums::substitute_in_statements;
-use ped_tidy::ped_steps::{body_with, copy_decls, with_body};
 use ped_tree::{Bound, Decl, Declarator, Do, Expr, Program, Stmt};
 use std::alloc::Global;
 
@@ -115,17 +115,4 @@ fn element(alloc: Global, array: Name, subscript: Expr) -> Result<Expr, NoMemory
     let mut subscripts = Vec::new(alloc);
     subscripts.push(subscript)?;
     Ok(Expr::element(array, subscripts))
-}
-
-/// The literal of a number, with a sign where the number is negative.
-fn literal(alloc: Global, n: i64) -> Result<Expr, NoMemory>
-    requires { unsigned_abs n ≤ 2147483647 }
-    ensures { IfOk result (λ e. expr_tree e ≡ Sums.literal n) }
-{
-    let size = Expr::literal(n.unsigned_abs() as u32);
-    if n < 0 {
-        Expr::negation(alloc, size)
-    } else {
-        Ok(size)
-    }
 }

@@ -7,28 +7,29 @@ ghost use Rattle.ped_tree.specs.NamesIn as Names;
 ghost use Rattle.ped_tree.specs.Tree;
 ghost use Rattle.ped_tree.specs.Views.{stmt_trees, program_tree};
 ghost use Rattle.ped_tree.specs.Numbering.{statements_count};
-ghost use Rattle.ped_tidy.specs.ped_steps.specs.ped_refs.specs.Loops.{nest_of};
+ghost use Rattle.ped_rules.specs.ped_steps.specs.ped_refs.specs.Loops.{nest_of};
 ghost use Rattle.ped_tree.specs.Views.{head_of};
-ghost use Rattle.ped_tidy.specs.ped_steps.specs.ped_flow.specs.PlainBounds.{nest_round};
-ghost use Rattle.ped_tidy.specs.ped_steps.specs.ped_flow.specs.Questions.{IsLoop};
-ghost use Rattle.ped_tidy.specs.ped_steps.specs.Causes.{NoneBelow};
-ghost use Rattle.ped_tidy.specs.ped_steps.specs.Scenes.{IsSceneOf};
-ghost use Rattle.ped_tidy.specs.ped_steps.specs.ped_symbols.specs.Kinds.{table_of};
+ghost use Rattle.ped_rules.specs.ped_steps.specs.ped_flow.specs.PlainBounds.{nest_round};
+ghost use Rattle.ped_rules.specs.ped_steps.specs.ped_flow.specs.Questions.{IsLoop};
+ghost use Rattle.ped_rules.specs.ped_steps.specs.Causes.{NoneBelow};
+ghost use Rattle.ped_rules.specs.ped_steps.specs.Scenes.{IsSceneOf};
+ghost use Rattle.ped_rules.specs.ped_steps.specs.ped_symbols.specs.Kinds.{table_of};
 ghost use Rattle.ped_scalar.specs.Scalars.{is_scalar};
-ghost use Rattle.ped_scalar.specs.CodeSpans.{IsKnown};
+ghost use Rattle.ped_rules.specs.Steps.{Answers};
+ghost use Rattle.ped_rules.specs.Spans as Spans;
+ghost use Rattle.ped_rules.specs.CodeSpans.{IsKnown};
 ghost use Rattle.ped_scalar.specs.CodeElements.{AreElements};
 ghost use Rattle.ped_scalar.specs.Expanding as Spec;
 
 use crate::elements::Elements;
-use crate::fresh::fresh_name;
 use crate::keeping::expand_kept;
 use crate::privacy::{is_private_in, is_private_round};
 use crate::scalars;
-use crate::scalars::{against, is_unfit, live_by};
-use crate::spans::{Course, Span, course_of};
+use crate::scalars::{is_unfit, live_by};
 use ped_base::{Name, NoMemory};
-use ped_tidy::ped_steps::ped_refs::Loop;
-use ped_tidy::ped_steps::{Change, Refused, Rule, Scene, change_to, loop_at, loops_round};
+use ped_rules::ped_steps::ped_refs::Loop;
+use ped_rules::ped_steps::{Change, Refused, Rule, Scene, change_to, loop_at, loops_round};
+use ped_rules::{Course, NewName, Span, against, course_of, fresh_name};
 use ped_tree::Do;
 use std::alloc::Global;
 use std::sync::ledger::Ledger;
@@ -47,7 +48,7 @@ pub fn expand<L: Ledger>(
     name: &Name,
 ) -> Result<Result<Change, Refused>, NoMemory>
     requires { IsSceneOf (program_tree scene.now.tree.now) scene.now }
-    ensures { IfOk result (Spec.AnswersExpanding (program_tree scene.now.tree.now) number name.now) }
+    ensures { IfOk result (Answers (Spec.expanding number name.now) (program_tree scene.now.tree.now)) }
 {
     match loop_at(scene.tree, number) {
         Some(d) => {
@@ -69,7 +70,7 @@ fn expand_in<L: Ledger>(
 ) -> Result<Result<Change, Refused>, NoMemory>
     requires scene { IsSceneOf (program_tree scene.now.tree.now) scene.now }
     requires is { IsLoop (program_tree scene.now.tree.now) number (head_of d.now) (stmt_trees d.now.body.items) }
-    ensures { IfOk result (Spec.AnswersExpanding (program_tree scene.now.tree.now) number name.now) }
+    ensures { IfOk result (Answers (Spec.expanding number name.now) (program_tree scene.now.tree.now)) }
 {
     if d.parallel {
         return Ok(Err(against(Rule::ParallelState, number)));
@@ -99,9 +100,9 @@ fn expand_known<L: Ledger>(
 ) -> Result<Result<Change, Refused>, NoMemory>
     requires scene { IsSceneOf (program_tree scene.now.tree.now) scene.now }
     requires is { IsLoop (program_tree scene.now.tree.now) number (head_of d.now) (stmt_trees d.now.body.items) }
-    requires span { IsKnown (Spec.span_of (table_of (program_tree scene.now.tree.now)).constants (head_of d.now)) span }
+    requires span { IsKnown (Spans.span_of (table_of (program_tree scene.now.tree.now)).constants (head_of d.now)) span }
     requires below { NoneBelow (Spec.StandsAgainstExpanding (program_tree scene.now.tree.now) number name.now) 12 }
-    ensures { IfOk result (Spec.AnswersExpanding (program_tree scene.now.tree.now) number name.now) }
+    ensures { IfOk result (Answers (Spec.expanding number name.now) (program_tree scene.now.tree.now)) }
 {
     if let Some(statement) = lost_by(scene, number, name) {
         return Ok(Err(against(Rule::ExposedOrLive, statement)));
@@ -133,13 +134,13 @@ fn expand_over<L: Ledger>(
 ) -> Result<Result<Change, Refused>, NoMemory>
     requires scene { IsSceneOf (program_tree scene.now.tree.now) scene.now }
     requires is { IsLoop (program_tree scene.now.tree.now) number (head_of d.now) (stmt_trees d.now.body.items) }
-    requires span { IsKnown (Spec.span_of (table_of (program_tree scene.now.tree.now)).constants (head_of d.now)) (Some span) }
+    requires span { IsKnown (Spans.span_of (table_of (program_tree scene.now.tree.now)).constants (head_of d.now)) (Some span) }
     requires round { nest_of round.now ≡ nest_round (program_tree scene.now.tree.now) number }
     requires scalar { IsTrue (is_scalar (program_tree scene.now.tree.now) name.now) }
     requires below { NoneBelow (Spec.StandsAgainstExpanding (program_tree scene.now.tree.now) number name.now) 15 }
-    ensures { IfOk result (Spec.AnswersExpanding (program_tree scene.now.tree.now) number name.now) }
+    ensures { IfOk result (Answers (Spec.expanding number name.now) (program_tree scene.now.tree.now)) }
 {
-    match fresh_name(alloc, scene.tree, scene.symbols)? {
+    match fresh_name(alloc, NewName::Array, scene.tree, scene.symbols)? {
         Some(array) => {
             let elements = Elements {
                 scalar: *name,
@@ -170,7 +171,7 @@ fn expand_to<L: Ledger>(
     requires elements { AreElements (program_tree scene.now.tree.now) number (head_of d.now) elements.now }
     requires scalar { IsTrue (is_scalar (program_tree scene.now.tree.now) elements.now.scalar) }
     requires below { NoneBelow (Spec.StandsAgainstExpanding (program_tree scene.now.tree.now) number elements.now.scalar) 15 }
-    ensures { IfOk result (Spec.AnswersExpanding (program_tree scene.now.tree.now) number elements.now.scalar) }
+    ensures { IfOk result (Answers (Spec.expanding number elements.now.scalar) (program_tree scene.now.tree.now)) }
 {
     let tree = elements.expand(alloc, scene.tree, number, d)?;
     let keep = expand_kept(alloc, scene.tree, number, d, elements.live)?;

@@ -4,27 +4,14 @@ ghost use Rattle.std.specs.Prelude.{◌≡◌, ◌||◌};
 ghost use Rattle.std.specs.List.{list_any};
 ghost use Rattle.ped_base.specs.Lists as Lists;
 ghost use Rattle.ped_tree.specs.Tree;
-ghost use Rattle.ped_tree.specs.Nests.{indices_of};
 ghost use Rattle.ped_tree.specs.Views.{stmt_tree, stmt_trees};
-ghost use Rattle.ped_tidy.specs.ped_steps.specs.ped_refs.specs.Loops.{nest_of};
+ghost use Rattle.ped_rules.specs.ped_steps.specs.ped_refs.specs.Loops.{nest_of};
 ghost use Rattle.ped_tree.specs.Views.{head_of};
 ghost use Rattle.ped_tree.specs.NamesIn.{loop_variables, all_loop_variables};
 
 use ped_base::Name;
-use ped_tidy::ped_steps::ped_refs::Loop;
+use ped_rules::ped_steps::ped_refs::Loop;
 use ped_tree::{Do, Stmt};
-
-/// Whether the name is the variable of one of these DO loops.
-pub(crate) fn is_index(name: &Name, loops: &[Loop]) -> bool
-    ensures { result ≡ Lists.is_among name.now (indices_of (nest_of loops.now)) }
-{
-    for l in loops {
-        if l.has_variable(name) {
-            return true;
-        }
-    }
-    false
-}
 
 /// Whether one of these DO loops is a PARALLEL DO.
 pub(crate) fn is_some_parallel(loops: &[Loop]) -> bool

@@ -2,14 +2,15 @@
 
 ghost use Rattle.std.specs.Prelude.{◌≡◌, ℕ, List, Option, None, false};
 ghost use Rattle.ped_tree.specs.Tree.{ProgramTree};
-ghost use Rattle.ped_tidy.specs.ped_steps.specs.ped_symbols.specs.NameRefusals.{IsValid};
-ghost use Rattle.ped_tidy.specs.ped_steps.specs.ped_flow.specs.Questions.{LoopOf};
-ghost use Rattle.ped_tidy.specs.ped_steps.specs.Causes.{Cause, IsFirstCause, none_forbids};
-ghost use Rattle.ped_tidy.specs.ped_steps.specs.Tidy.{IsTidy};
-ghost use Rattle.ped_tidy.specs.ped_steps.specs.Runs.Meaning.{Keeps};
-ghost use Rattle.ped_tidy.specs.Unrejected.{some_rejection};
-ghost use Rattle.ped_scalar.specs.Privatising.{privatised, StandsAgainstPrivatising};
-ghost use Rattle.ped_scalar.specs.Expanding.{IsExpanded, StandsAgainstExpanding};
+ghost use Rattle.ped_rules.specs.ped_steps.specs.ped_symbols.specs.NameRefusals.{IsValid};
+ghost use Rattle.ped_rules.specs.ped_steps.specs.ped_flow.specs.Questions.{LoopOf};
+ghost use Rattle.ped_rules.specs.ped_steps.specs.Causes.{Cause, IsFirstCause, none_forbids};
+ghost use Rattle.ped_rules.specs.ped_steps.specs.Tidy.{IsTidy};
+ghost use Rattle.ped_rules.specs.ped_steps.specs.Runs.Meaning.{Keeps};
+ghost use Rattle.ped_rules.specs.ped_tidy.specs.Unrejected.{some_rejection};
+ghost use Rattle.ped_rules.specs.Lawful.{IsLawful};
+ghost use Rattle.ped_scalar.specs.Privatising.{privatised, StandsAgainstPrivatising, privatising};
+ghost use Rattle.ped_scalar.specs.Expanding.{IsExpanded, StandsAgainstExpanding, expanding};
 
 /// Against `privatise` there is at most one first cause, and none where there is no cause.
 pub fn one_cause_against_privatising()
@@ -54,4 +55,14 @@ pub fn privatising_rejects_nothing()
 /// `expand` puts no C$PED REJECT line into a program that has none (ParaScope).
 pub fn expanding_rejects_nothing()
     ensures { (t new : ProgramTree) (s : ℕ) (l : LoopOf t s) (x : List ℕ) → IsExpanded t s x l.head new → some_rejection t.body ≡ false → some_rejection new.body ≡ false }
+{}
+
+/// `privatise` is lawful: what is true of every step of the editor is true of it.
+pub fn privatising_is_lawful()
+    ensures { (s : ℕ) (x : List ℕ) → IsLawful (privatising s x) }
+{}
+
+/// `expand` is lawful: what is true of every step of the editor is true of it.
+pub fn expanding_is_lawful()
+    ensures { (s : ℕ) (x : List ℕ) → IsLawful (expanding s x) }
 {}

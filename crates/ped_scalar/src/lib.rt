@@ -4,7 +4,6 @@
 
 mod elements;
 mod expanding;
-mod fresh;
 mod indices;
 mod keeping;
 mod laws;
@@ -12,15 +11,14 @@ mod privacy;
 mod privatising;
 mod referring;
 mod scalars;
-mod spans;
 
 pub use expanding::expand;
 pub use laws::{
-    expanding_keeps, expanding_rejects_nothing, expanding_stays_tidy, one_cause_against_expanding,
-    one_cause_against_privatising, privatising_keeps, privatising_rejects_nothing,
-    privatising_stays_tidy,
+    expanding_is_lawful, expanding_keeps, expanding_rejects_nothing, expanding_stays_tidy,
+    one_cause_against_expanding, one_cause_against_privatising, privatising_is_lawful,
+    privatising_keeps, privatising_rejects_nothing, privatising_stays_tidy,
 };
-pub use ped_tidy;
-pub use ped_tidy::ped_steps;
-pub use ped_tidy::ped_steps::ped_flow;
+pub use ped_rules;
+pub use ped_rules::ped_steps;
+pub use ped_rules::ped_steps::ped_flow;
 pub use privatising::privatise;

@@ -4,20 +4,20 @@ ghost use Rattle.std.specs.Prelude.{◌≡◌, ◌||◌, ◌+◌, ◌<◌, ◌^�
 ghost use Rattle.std.specs.List.{list_any};
 ghost use Rattle.ped_tree.specs.Views.{stmt_tree, stmt_trees, do_tree, program_tree};
 ghost use Rattle.ped_tree.specs.Numbering.{statements_count};
-ghost use Rattle.ped_tidy.specs.ped_steps.specs.ped_refs.specs.Loops.{nest_of};
+ghost use Rattle.ped_rules.specs.ped_steps.specs.ped_refs.specs.Loops.{nest_of};
 ghost use Rattle.ped_tree.specs.Views.{head_of};
-ghost use Rattle.ped_tidy.specs.ped_steps.specs.ped_flow.specs.Questions.{IsLoop};
-ghost use Rattle.ped_tidy.specs.ped_steps.specs.Replacing as Replacing;
-ghost use Rattle.ped_tidy.specs.ped_steps.specs.Causes.{none_forbids};
-ghost use Rattle.ped_tidy.specs.ped_steps.specs.Scenes.{IsSceneOf};
-ghost use Rattle.ped_tidy.specs.ped_steps.specs.Changes.{IsAnswer};
+ghost use Rattle.ped_rules.specs.ped_steps.specs.ped_flow.specs.Questions.{IsLoop};
+ghost use Rattle.ped_rules.specs.ped_steps.specs.Replacing as Replacing;
+ghost use Rattle.ped_rules.specs.ped_steps.specs.Scenes.{IsSceneOf};
+ghost use Rattle.ped_rules.specs.Steps.{Answers};
 ghost use Rattle.ped_scalar.specs.Privatising as Spec;
 
 use crate::indices::is_some_parallel;
-use crate::scalars::{against, is_scalar, is_unfit, live_by};
+use crate::scalars::{is_scalar, is_unfit, live_by};
 use ped_base::{Name, NoMemory, is_among};
-use ped_tidy::ped_steps::ped_refs::Loop;
-use ped_tidy::ped_steps::{
+use ped_rules::against;
+use ped_rules::ped_steps::ped_refs::Loop;
+use ped_rules::ped_steps::{
     Change, Refused, Rule, Scene, all_kept, change_to, loop_at, loops_round, program_with,
 };
 use ped_tree::{Do, Program, Stmt};
@@ -38,8 +38,7 @@ pub fn privatise<L: Ledger>(
     name: &Name,
 ) -> Result<Result<Change, Refused>, NoMemory>
     requires { IsSceneOf (program_tree scene.now.tree.now) scene.now }
-    ensures { IfOk result (IsAnswer (program_tree scene.now.tree.now) (Spec.StandsAgainstPrivatising (program_tree scene.now.tree.now) number name.now) none_forbids
-        (Spec.privatised (program_tree scene.now.tree.now) number name.now) (Replacing.all_kept (program_tree scene.now.tree.now))) }
+    ensures { IfOk result (Answers (Spec.privatising number name.now) (program_tree scene.now.tree.now)) }
 {
     match loop_at(scene.tree, number) {
         Some(d) => {
@@ -61,8 +60,7 @@ fn privatise_in<L: Ledger>(
 ) -> Result<Result<Change, Refused>, NoMemory>
     requires scene { IsSceneOf (program_tree scene.now.tree.now) scene.now }
     requires is { IsLoop (program_tree scene.now.tree.now) number (head_of d.now) (stmt_trees d.now.body.items) }
-    ensures { IfOk result (IsAnswer (program_tree scene.now.tree.now) (Spec.StandsAgainstPrivatising (program_tree scene.now.tree.now) number name.now) none_forbids
-        (Spec.privatised (program_tree scene.now.tree.now) number name.now) (Replacing.all_kept (program_tree scene.now.tree.now))) }
+    ensures { IfOk result (Answers (Spec.privatising number name.now) (program_tree scene.now.tree.now)) }
 {
     let round = loops_round(alloc, scene.tree, number)?;
     if is_parallel(d, &round) {

@@ -4,34 +4,27 @@ ghost use Rattle.std.specs.Prelude.{◌≡◌, ◌+◌, ◌<◌, ◌^◌, ℕ, l
 ghost use Rattle.ped_tree.specs.Tree.{ProgramTree};
 ghost use Rattle.ped_tree.specs.Numbering.{statements_count};
 ghost use Rattle.ped_tree.specs.Views.{stmt_trees, program_tree};
-ghost use Rattle.ped_tidy.specs.ped_steps.specs.ped_refs.specs.References.{references};
-ghost use Rattle.ped_tidy.specs.ped_steps.specs.ped_refs.specs.Loops.{nest_of};
+ghost use Rattle.ped_rules.specs.ped_steps.specs.ped_refs.specs.References.{references};
+ghost use Rattle.ped_rules.specs.ped_steps.specs.ped_refs.specs.Loops.{nest_of};
 ghost use Rattle.ped_tree.specs.Views.{head_of};
-ghost use Rattle.ped_tidy.specs.ped_steps.specs.ped_symbols.specs.Kinds.{table_of};
-ghost use Rattle.ped_tidy.specs.ped_steps.specs.ped_symbols.specs.RightUses.RightUses as uses;
-ghost use Rattle.ped_tidy.specs.ped_steps.specs.ped_flow.specs.PlainBounds.{nest_round};
-ghost use Rattle.ped_tidy.specs.ped_steps.specs.ped_flow.specs.Questions.{IsLoop, IsFirst, IsExposed};
-ghost use Rattle.ped_tidy.specs.ped_steps.specs.Scenes.{IsSceneOf, IsFlowOf};
-ghost use Rattle.ped_tidy.specs.ped_steps.specs.declared.causes.Refused.TheVariants as refused;
+ghost use Rattle.ped_rules.specs.ped_steps.specs.ped_symbols.specs.Kinds.{table_of};
+ghost use Rattle.ped_rules.specs.ped_steps.specs.ped_symbols.specs.RightUses.RightUses as uses;
+ghost use Rattle.ped_rules.specs.ped_steps.specs.ped_flow.specs.PlainBounds.{nest_round};
+ghost use Rattle.ped_rules.specs.ped_steps.specs.ped_flow.specs.Questions.{IsLoop, IsFirst, IsExposed};
+ghost use Rattle.ped_rules.specs.ped_steps.specs.Scenes.{IsSceneOf, IsFlowOf};
 ghost use Rattle.ped_scalar.specs.Scalars as Spec;
 
-use crate::indices::{is_index, is_index_in};
+use crate::indices::is_index_in;
 use crate::referring::is_referred;
 use ped_base::{Name, NoMemory};
-use ped_tidy::ped_steps::ped_flow::{Flow, Reader};
-use ped_tidy::ped_steps::ped_refs::Loop;
-use ped_tidy::ped_steps::ped_symbols::{Kind, Symbols};
-use ped_tidy::ped_steps::{Refused, Rule, Scene};
+use ped_rules::is_index;
+use ped_rules::ped_steps::Scene;
+use ped_rules::ped_steps::ped_flow::{Flow, Reader};
+use ped_rules::ped_steps::ped_refs::Loop;
+use ped_rules::ped_steps::ped_symbols::{Kind, Symbols};
 use ped_tree::Do;
 use std::alloc::Global;
 use std::sync::ledger::Ledger;
-
-/// A rule that stands, with the statement that it names.
-pub(crate) fn against(rule: Rule, statement: u32) -> Refused
-    ensures { result ≡ refused.Rule rule statement }
-{
-    Refused::Rule { rule, statement }
-}
 
 /// Whether the name is that of a scalar variable of the program.
 pub(crate) fn is_scalar(symbols: &Symbols, name: &Name) -> bool

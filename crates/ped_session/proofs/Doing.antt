@@ -1,6 +1,6 @@
 -- What a command does to the state of a session: nothing, an edit, a step, or a move along the history.
 use Rattle.std.proofs.Common.{◌≡◌, ℕ, Bool, true, false, List, [], ◌∷◌, Option, Some, None, refl, sym, ◌∙◌}
-use Rattle.std.specs.Prelude.{MatchBool}
+use Rattle.std.specs.Prelude.{MatchBool, ⊤}
 use Rattle.ped_tree.specs.Tree.{StmtTree, ProgramTree}
 use Rattle.ped_tree.specs.Numbering.{statement_with}
 use Rattle.ped_script.specs.declared.items.Command.{Command}
@@ -11,15 +11,17 @@ use Rattle.ped_session.specs.declared.replies.Reply.{Reply}
 use Rattle.ped_session.specs.declared.replies.Reply.TheVariants.{Changed, Shown, Refused}
 use Rattle.ped_session.specs.States.{State}
 use Rattle.ped_session.specs.Splices.{are_lines, is_place}
-use Rattle.ped_session.specs.Transforming.{StepAt, privatising, expanding}
-use Rattle.ped_session.specs.Steps.{Refuses, Prints, Shows, ShowsOf, Edits, Transforms, GoesBack, GoesForward, Runs, IsStep}
-use Rattle.ped_session.proofs.Lawful.{IsLawful, lawful_privatising, lawful_expanding}
+use Rattle.ped_transformations.specs.ped_rules.specs.Steps.{StepAt, MaybeStep, no_step, some_step, MatchStep}
+use Rattle.ped_transformations.specs.ped_rules.specs.Lawful.{IsLawful}
+use Rattle.ped_transformations.specs.Table.{step_of}
+use Rattle.ped_transformations.proofs.LawfulTable.{AllLawful}
+use Rattle.ped_session.specs.Steps.{Refuses, Prints, Shows, ShowsOf, Edits, Transforms, GoesBack, GoesForward, Runs, IsOther, IsStep}
 
 -- what a command does
 pub data Does (c : Command) (s : State) (reply : Reply) (next : State) : Type 1 where
   by_nothing : (reply ≡ Changed → ⊥) → next ≡ s → Does c s reply next
   by_edit : (kept gone : ℕ) (text : List ℕ) → Edits kept gone text s reply next → Does c s reply next
-  by_step : (at : StepAt) → IsLawful at → Transforms at s reply next → Does c s reply next
+  by_step : (at : StepAt) → (AllLawful → IsLawful at) → Transforms at s reply next → Does c s reply next
   by_undo : c ≡ Undo → GoesBack s.past s reply next → Does c s reply next
   by_redo : c ≡ Redo → GoesForward s.future s reply next → Does c s reply next
 
@@ -50,30 +52,38 @@ runs : (c : Command) (choices d : List ℕ) (s next : State) (reply : Reply) →
 runs c [] d s next reply h = shows c _ s next reply h
 runs c (choice ∷ choices) d s next reply h = refuses c NotBuilt s next reply h
 
+does_other : (c : Command) (d : List ℕ) (s next : State) (reply : Reply) → IsOther c d s reply next → Does c s reply next
+does_other Source d s next reply h = shows Source _ s next reply h
+does_other (Deps None) d s next reply h = shows (Deps None) _ s next reply h
+does_other (Deps (Some number)) d s next reply h = shows_of (Deps (Some number)) number (statement_with number h.tree) s next reply h.shows
+does_other Show d s next reply h = shows Show _ s next reply h
+does_other Print d s next reply h = prints Print _ s next reply h
+does_other (Replace first last lines) d s next reply h = edits (Replace first last lines) (are_lines s.present first last) _ _ _ s next reply h
+does_other (Insert after lines) d s next reply h = edits (Insert after lines) (is_place s.present after) _ _ _ s next reply h
+does_other (Delete first last) d s next reply h = edits (Delete first last) (are_lines s.present first last) _ _ _ s next reply h
+does_other Undo d s next reply h = by_undo refl h
+does_other Redo d s next reply h = by_redo refl h
+does_other (Run choices) d s next reply h = runs (Run choices) choices d s next reply h
+does_other Races d s next reply h = shows Races _ s next reply h
+does_other (Advise number) d s next reply h = refuses (Advise number) NotBuilt s next reply h
+does_other (Interchange number) d s next reply h = refuses (Interchange number) NotBuilt s next reply h
+does_other (Reverse number) d s next reply h = refuses (Reverse number) NotBuilt s next reply h
+does_other (Skew number factor) d s next reply h = refuses (Skew number factor) NotBuilt s next reply h
+does_other (Strip number size) d s next reply h = refuses (Strip number size) NotBuilt s next reply h
+does_other (Peel number last) d s next reply h = refuses (Peel number last) NotBuilt s next reply h
+does_other (Distribute number) d s next reply h = refuses (Distribute number) NotBuilt s next reply h
+does_other (Fuse number) d s next reply h = refuses (Fuse number) NotBuilt s next reply h
+does_other (Expand number name) d s next reply h = refuses (Expand number name) NotBuilt s next reply h
+does_other (Privatise number name) d s next reply h = refuses (Privatise number name) NotBuilt s next reply h
+does_other (Parallel number) d s next reply h = refuses (Parallel number) NotBuilt s next reply h
+does_other (Serial number) d s next reply h = refuses (Serial number) NotBuilt s next reply h
+does_other (Reject number name) d s next reply h = refuses (Reject number name) NotBuilt s next reply h
+does_other Tested d s next reply h = prints Tested _ s next reply h
+
+does_by : (c : Command) (step : MaybeStep) (d : List ℕ) (s next : State) (reply : Reply) → (AllLawful → MatchStep step ⊤ IsLawful)
+    → MatchStep step (IsOther c d s reply next) (λ at. Transforms at s reply next) → Does c s reply next
+does_by c no_step d s next reply lawful h = does_other c d s next reply h
+does_by c (some_step at) d s next reply lawful h = by_step at lawful h
+
 pub does : (c : Command) (d : List ℕ) (s next : State) (reply : Reply) → IsStep c d s reply next → Does c s reply next
-does Source d s next reply h = shows Source _ s next reply h
-does (Deps None) d s next reply h = shows (Deps None) _ s next reply h
-does (Deps (Some number)) d s next reply h = shows_of (Deps (Some number)) number (statement_with number h.tree) s next reply h.shows
-does Show d s next reply h = shows Show _ s next reply h
-does Print d s next reply h = prints Print _ s next reply h
-does (Replace first last lines) d s next reply h = edits (Replace first last lines) (are_lines s.present first last) _ _ _ s next reply h
-does (Insert after lines) d s next reply h = edits (Insert after lines) (is_place s.present after) _ _ _ s next reply h
-does (Delete first last) d s next reply h = edits (Delete first last) (are_lines s.present first last) _ _ _ s next reply h
-does Undo d s next reply h = by_undo refl h
-does Redo d s next reply h = by_redo refl h
-does (Run choices) d s next reply h = runs (Run choices) choices d s next reply h
-does Races d s next reply h = shows Races _ s next reply h
-does (Privatise number name) d s next reply h = by_step (privatising number name) (lawful_privatising number name) h
-does (Expand number name) d s next reply h = by_step (expanding number name) (lawful_expanding number name) h
-does (Advise number) d s next reply h = refuses (Advise number) NotBuilt s next reply h
-does (Interchange number) d s next reply h = refuses (Interchange number) NotBuilt s next reply h
-does (Reverse number) d s next reply h = refuses (Reverse number) NotBuilt s next reply h
-does (Skew number factor) d s next reply h = refuses (Skew number factor) NotBuilt s next reply h
-does (Strip number size) d s next reply h = refuses (Strip number size) NotBuilt s next reply h
-does (Peel number last) d s next reply h = refuses (Peel number last) NotBuilt s next reply h
-does (Distribute number) d s next reply h = refuses (Distribute number) NotBuilt s next reply h
-does (Fuse number) d s next reply h = refuses (Fuse number) NotBuilt s next reply h
-does (Parallel number) d s next reply h = refuses (Parallel number) NotBuilt s next reply h
-does (Serial number) d s next reply h = refuses (Serial number) NotBuilt s next reply h
-does (Reject number name) d s next reply h = refuses (Reject number name) NotBuilt s next reply h
-does Tested d s next reply h = prints Tested _ s next reply h
+does c d s next reply h = does_by c (step_of c) d s next reply (λ all. all c) h

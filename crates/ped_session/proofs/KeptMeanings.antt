@@ -6,9 +6,9 @@ use Rattle.ped_valid.specs.ped_symbols.specs.NameRefusals.{IsValid}
 use Rattle.ped_valid.specs.Validity.{ReadsValid}
 use Rattle.ped_valid.proofs.OneVerdict.{valid_prints}
 use Rattle.ped_order.specs.ped_eval.specs.Outcomes.{outcome}
-use Rattle.ped_scalar.specs.ped_steps.specs.Tidy.{IsTidy}
-use Rattle.ped_scalar.specs.ped_steps.specs.Runs.Meaning.{Keeps}
-use Rattle.ped_scalar.specs.ped_steps.proofs.RunLaws.KeptMeanings.{keeps_itself, keeps_further}
+use Rattle.ped_transformations.specs.ped_rules.specs.ped_tidy.specs.Unrejected.{IsTrusted}
+use Rattle.ped_transformations.specs.ped_rules.specs.Lawful.{IsFaithful, Owes, IsLawful}
+use Rattle.ped_transformations.specs.ped_steps.proofs.RunLaws.KeptMeanings.{keeps_itself, keeps_further}
 use Rattle.ped_script.specs.declared.items.Command.{Command}
 use Rattle.ped_script.specs.declared.items.Command.TheVariants.{Run}
 use Rattle.ped_script.specs.declared.items.Item.{Item}
@@ -20,41 +20,42 @@ use Rattle.ped_session.specs.declared.changes.Change.{Change}
 use Rattle.ped_session.specs.declared.replies.Reply.{Reply}
 use Rattle.ped_session.specs.States.{Other, State, opened}
 use Rattle.ped_session.specs.Blocks.{block}
-use Rattle.ped_session.specs.Transforming.{StepAt}
-use Rattle.ped_session.specs.Steps.{Edits, accepted, refused, Transforms, missing, forbidden, transformed, GoesBack, GoesForward, Runs, IsStep}
+use Rattle.ped_transformations.specs.ped_rules.specs.Steps.{StepKind, transformation, rejection, StepAt}
+use Rattle.ped_session.specs.Steps.{Edits, accepted, refused, change_by, Transforms, missing, forbidden, transformed, GoesBack, GoesForward, Runs, IsStep}
 use Rattle.ped_session.specs.Scripts.{Said, said_by, AnswersCommand, AnswersItems}
 use Rattle.ped_session.specs.Meanings.{MeansTheSame, IsKept, IsPastKept, IsFutureKept, IsMeaningKept, ComesFrom, IsAsBefore, ShowsAsBefore}
 use Rattle.ped_session.specs.RunsAsBefore.{RunsAsBefore, AnswersAsBefore}
+use Rattle.ped_transformations.proofs.LawfulTable.{AllLawful}
 use Rattle.ped_session.proofs.OneStep.{one_tree}
-use Rattle.ped_session.proofs.Lawful.{IsLawful}
 use Rattle.ped_session.proofs.Doing.{Does, by_nothing, by_edit, by_step, by_undo, by_redo, does}
 
--- a program that keeps the meaning of another where that is tidy, by their texts
-pub same_meaning : (source : List ℕ) (t u : ProgramTree) → ReadsValid source t → IsValid u → (IsTidy t → IsTidy u) → (IsTidy t → Keeps t u) → MeansTheSame source (program_text u)
-same_meaning source t u reads valid tidy keeps = record { before = t; reads_before = reads; behind = u; reads_behind = (valid_prints u valid u).1 refl; tidy = tidy; keeps = keeps }
+-- a program that keeps the meaning of another where that may be trusted, by their texts
+pub same_meaning : (source : List ℕ) (t u : ProgramTree) → ReadsValid source t → IsValid u → (IsTrusted t → IsFaithful t u) → MeansTheSame source (program_text u)
+same_meaning source t u reads valid kept = record { before = t; reads_before = reads; behind = u; reads_behind = (valid_prints u valid u).1 refl; kept = kept }
 
--- a tidy program that keeps the meaning of another
-pub record TidilyKeeps (t u : ProgramTree) : Type 0 where
-  pub tidy : IsTidy u
-  pub keeps : Keeps t u
+-- what a step of a kind owes is what the history asks of it
+pub kept_by : (kind : StepKind) (source : List ℕ) (t u : ProgramTree) → ReadsValid source t → IsValid u → Owes kind t u → IsKept (change_by kind) source (program_text u)
+kept_by transformation source t u reads valid owes = same_meaning source t u reads valid owes
+kept_by rejection source t u reads valid owes = tt
 
-the_same : (source earlier : List ℕ) (t u : ProgramTree) → earlier ≡ source → ReadsValid earlier t → ReadsValid source u → IsTidy t → TidilyKeeps t u
-the_same source earlier t u is from to tidy =
-    subst (TidilyKeeps t) (one_tree source t u (subst (λ (b : List ℕ). ReadsValid b t) is from) to) (record { tidy = tidy; keeps = keeps_itself t })
+the_same : (source earlier : List ℕ) (t u : ProgramTree) → earlier ≡ source → ReadsValid earlier t → ReadsValid source u → IsTrusted t → IsFaithful t u
+the_same source earlier t u is from to trusted =
+    subst (IsFaithful t) (one_tree source t u (subst (λ (b : List ℕ). ReadsValid b t) is from) to) (record { trusted = trusted; keeps = keeps_itself t })
 
--- where a program is tidy, so is that of a source which has come from it by transformations alone, and it keeps the meaning
-pub came : (source : List ℕ) (past : List Other) (earlier : List ℕ) (t u : ProgramTree) → IsPastKept source past → ComesFrom source past earlier → ReadsValid earlier t → ReadsValid source u → IsTidy t → TidilyKeeps t u
-came source [] earlier t u kept is from to tidy = the_same source earlier t u is from to tidy
-came source (other ∷ past) earlier t u kept (inl is) from to tidy = the_same source earlier t u is from to tidy
-came source (other ∷ past) earlier t u kept (inr comes) from to tidy =
+-- where a program may be trusted, so may that of a source which has come from it by transformations alone, and it keeps the meaning
+pub came : (source : List ℕ) (past : List Other) (earlier : List ℕ) (t u : ProgramTree) → IsPastKept source past → ComesFrom source past earlier → ReadsValid earlier t → ReadsValid source u → IsTrusted t → IsFaithful t u
+came source [] earlier t u kept is from to trusted = the_same source earlier t u is from to trusted
+came source (other ∷ past) earlier t u kept (inl is) from to trusted = the_same source earlier t u is from to trusted
+came source (other ∷ past) earlier t u kept (inr comes) from to trusted =
     let last : MeansTheSame other.0 source = subst (λ (c : Change). IsKept c other.0 source) comes.0 kept.0 in
-    let front = came other.0 past earlier t last.before kept.1 comes.1 from last.reads_before tidy in
-    subst (TidilyKeeps t) (one_tree source last.behind u last.reads_behind to)
-    (record { tidy = last.tidy front.tidy; keeps = keeps_further t last.before last.behind front.keeps (last.keeps front.tidy) })
+    let front = came other.0 past earlier t last.before kept.1 comes.1 from last.reads_before trusted in
+    let behind = last.kept front.trusted in
+    subst (IsFaithful t) (one_tree source last.behind u last.reads_behind to)
+    (record { trusted = behind.trusted; keeps = keeps_further t last.before last.behind front.keeps behind.keeps })
 
 -- so the outcome of the present program is that of each of these
 pub as_before : (s : State) (d : List ℕ) (u : ProgramTree) → IsMeaningKept s → ReadsValid s.present u → IsAsBefore s d (outcome u d)
-as_before s d u kept reads = λ earlier t comes from tidy free. (came s.present s.past earlier t u kept.past comes from reads tidy).keeps.same d free
+as_before s d u kept reads = λ earlier t comes from trusted free. (came s.present s.past earlier t u kept.past comes from reads trusted).keeps.same d free
 
 -- a state that is as it was
 same : (s next : State) → IsMeaningKept s → next ≡ s → IsMeaningKept next
@@ -69,7 +70,7 @@ step_keeps at s next reply lawful k (missing t reads none stays) = same s next k
 step_keeps at s next reply lawful k (forbidden t reads some c is stays) = same s next k stays.1
 step_keeps at s next reply lawful k (transformed t new keep reads some none makes valid changed after) =
     subst IsMeaningKept (sym after)
-    (record { past = (same_meaning s.present t new reads valid (lawful.tidy t new keep reads.valid none makes) (lawful.keeps t new keep reads.valid none makes), k.past); future = tt })
+    (record { past = (kept_by at.kind s.present t new reads valid (lawful.keeps t new keep reads.valid none makes), k.past); future = tt })
 
 back_keeps : (past : List Other) (s next : State) (reply : Reply) → IsMeaningKept s → IsPastKept s.present past → GoesBack past s reply next → IsMeaningKept next
 back_keeps [] s next reply k kept h = same s next k h.1
@@ -79,45 +80,45 @@ forward_keeps : (future : List Other) (s next : State) (reply : Reply) → IsMea
 forward_keeps [] s next reply k kept h = same s next k h.1
 forward_keeps (other ∷ future) s next reply k kept h = subst IsMeaningKept (sym h.1) (record { past = (kept.0, k.past); future = kept.1 })
 
-keeps_by : (c : Command) (s next : State) (reply : Reply) → IsMeaningKept s → Does c s reply next → IsMeaningKept next
-keeps_by c s next reply k (by_nothing changed is) = same s next k is
-keeps_by c s next reply k (by_edit kept gone text h) = edit_keeps kept gone text s next reply k h
-keeps_by c s next reply k (by_step at lawful h) = step_keeps at s next reply lawful k h
-keeps_by c s next reply k (by_undo is h) = back_keeps s.past s next reply k k.past h
-keeps_by c s next reply k (by_redo is h) = forward_keeps s.future s next reply k k.future h
+keeps_by : AllLawful → (c : Command) (s next : State) (reply : Reply) → IsMeaningKept s → Does c s reply next → IsMeaningKept next
+keeps_by all c s next reply k (by_nothing changed is) = same s next k is
+keeps_by all c s next reply k (by_edit kept gone text h) = edit_keeps kept gone text s next reply k h
+keeps_by all c s next reply k (by_step at lawful h) = step_keeps at s next reply (lawful all) k h
+keeps_by all c s next reply k (by_undo is h) = back_keeps s.past s next reply k k.past h
+keeps_by all c s next reply k (by_redo is h) = forward_keeps s.future s next reply k k.future h
 
 -- a command keeps it
-pub command_keeps : (c : Command) (d : List ℕ) (s next : State) (reply : Reply) → IsMeaningKept s → IsStep c d s reply next → IsMeaningKept next
-command_keeps c d s next reply k h = keeps_by c s next reply k (does c d s next reply h)
+pub command_keeps : AllLawful → (c : Command) (d : List ℕ) (s next : State) (reply : Reply) → IsMeaningKept s → IsStep c d s reply next → IsMeaningKept next
+command_keeps all c d s next reply k h = keeps_by all c s next reply k (does c d s next reply h)
 
-line_keeps : (line : ℕ) (command : Option Command) (d : List ℕ) (s next : State) (said : Said) → IsMeaningKept s → AnswersCommand line command d s said next → IsMeaningKept next
-line_keeps line None d s next said k h = same s next k h.1
-line_keeps line (Some c) d s next said k h = command_keeps c d s next h.0 k h.1
+line_keeps : AllLawful → (line : ℕ) (command : Option Command) (d : List ℕ) (s next : State) (said : Said) → IsMeaningKept s → AnswersCommand line command d s said next → IsMeaningKept next
+line_keeps all line None d s next said k h = same s next k h.1
+line_keeps all line (Some c) d s next said k h = command_keeps all c d s next h.0 k h.1
 
 -- a session is opened without a history
 pub opened_keeps : (t : ProgramTree) → IsMeaningKept (opened t)
 opened_keeps t = record { past = tt; future = tt }
 
 run_shows : (line : ℕ) (d : List ℕ) (s next : State) (said : Said) → IsMeaningKept s → AnswersCommand line (Some (Run [])) d s said next → ShowsAsBefore s d said.bytes
-run_shows line d s next said k h = λ earlier t comes from tidy free.
+run_shows line d s next said k h = λ earlier t comes from trusted free.
     let shows : Runs [] d s h.0 next = h.1 in
-    ap (λ (x : Said). x.bytes) (h.2 ∙ ap (λ (r : Reply). said_by line r next) shows.prints.0) ∙ shows.so ∙ ap block (as_before s d shows.tree k shows.reads earlier t comes from tidy free)
+    ap (λ (x : Said). x.bytes) (h.2 ∙ ap (λ (r : Reply). said_by line r next) shows.prints.0) ∙ shows.so ∙ ap block (as_before s d shows.tree k shows.reads earlier t comes from trusted free)
 
 -- a `run` shows what the earlier programs show
 line_shows : (line : ℕ) (command : Option Command) (d : List ℕ) (s next : State) (said : Said) → IsMeaningKept s → AnswersCommand line command d s said next → RunsAsBefore command d s said
 line_shows line command d s next said k h is = run_shows line d s next said k (subst (λ (c : Option Command). AnswersCommand line c d s said next) is h)
 
 -- the items of a script
-pub items_as_before : (items : List Item) (d : List ℕ) (s last : State) (said : Said) → IsMeaningKept s → AnswersItems items d s said last → AnswersAsBefore items d s said last
-items_as_before [] d s last said k h = (k, h.0, h.1)
-items_as_before (item ∷ items) d s last said k h = (
+pub items_as_before : AllLawful → (items : List Item) (d : List ℕ) (s last : State) (said : Said) → IsMeaningKept s → AnswersItems items d s said last → AnswersAsBefore items d s said last
+items_as_before all [] d s last said k h = (k, h.0, h.1)
+items_as_before all (item ∷ items) d s last said k h = (
   k,
   h.0,
   h.1,
   h.2,
   line_shows item.line item.command d s h.1 h.0 k h.2,
   h.3,
-  items_as_before items d h.1 last h.3 (line_keeps item.line item.command d s h.1 h.0 k h.2) h.4,
+  items_as_before all items d h.1 last h.3 (line_keeps all item.line item.command d s h.1 h.0 k h.2) h.4,
   h.5,
 )
 

@@ -5,8 +5,6 @@ mod Examples
 mod HistoryMoves
 mod KeptEnds
 pub mod KeptMeanings
-mod KeptStatements
-mod Lawful
 mod LinesLeft
 mod Moves
 pub mod OneAnswer

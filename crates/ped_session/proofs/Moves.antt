@@ -3,13 +3,13 @@ use Rattle.std.proofs.Common.{◌≡◌, inl, inr, ℕ, zero, suc, List, [], ◌
 use Rattle.ped_script.specs.declared.items.Command.{Command}
 use Rattle.ped_script.specs.declared.items.Command.TheVariants.{Undo, Redo}
 use Rattle.ped_session.specs.declared.changes.Change.{Change}
-use Rattle.ped_session.specs.declared.changes.Change.TheVariants.{Edit, Transformation}
+use Rattle.ped_session.specs.declared.changes.Change.TheVariants.{Edit}
 use Rattle.ped_session.specs.declared.replies.Refusal.{Refusal}
 use Rattle.ped_session.specs.declared.replies.Reply.{Reply}
 use Rattle.ped_session.specs.declared.replies.Reply.TheVariants.{Changed, Refused}
 use Rattle.ped_session.specs.States.{Other, State, gone_back_to, gone_forward_to}
-use Rattle.ped_session.specs.Transforming.{StepAt}
-use Rattle.ped_session.specs.Steps.{Edits, accepted, refused, Transforms, missing, forbidden, transformed, GoesBack, GoesForward, IsStep, IsMove}
+use Rattle.ped_transformations.specs.ped_rules.specs.Steps.{StepAt}
+use Rattle.ped_session.specs.Steps.{Edits, accepted, refused, change_by, Transforms, missing, forbidden, transformed, GoesBack, GoesForward, IsStep, IsMove}
 use Rattle.ped_session.specs.Histories.{HaveSameSources, Times}
 use Rattle.ped_session.proofs.Doing.{Does, by_nothing, by_edit, by_step, by_undo, by_redo, does}
 
@@ -113,7 +113,7 @@ edit_leaves kept gone edited s next (refused why first same) = absurd (no_refusa
 step_leaves : (at : StepAt) (s next : State) → Transforms at s Changed next → Leaves s next
 step_leaves at s next (missing t reads none same) = absurd (no_refusal _ same.0)
 step_leaves at s next (forbidden t reads some c is same) = absurd (no_refusal _ same.0)
-step_leaves at s next (transformed t new keep reads some none makes valid reply after) = record { change = Transformation; past_is = ap (λ (n : State). n.past) after }
+step_leaves at s next (transformed t new keep reads some none makes valid reply after) = record { change = change_by at.kind; past_is = ap (λ (n : State). n.past) after }
 
 leaves_by : (c : Command) (s next : State) → ¬ (IsMove c) → Does c s Changed next → Leaves s next
 leaves_by c s next still (by_nothing changed is) = absurd (changed refl)

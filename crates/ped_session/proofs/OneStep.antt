@@ -1,6 +1,6 @@
 -- A command has one reply in a state, and leads to one state.
 use Rattle.std.proofs.Common.{◌≡◌, inl, inr, ℕ, Bool, true, false, List, [], ◌∷◌, ◌++◌, Option, Some, None, is_some, sym, ap, ◌∙◌, subst}
-use Rattle.std.specs.Prelude.{MatchBool}
+use Rattle.std.specs.Prelude.{MatchBool, ⊤}
 use Rattle.ped_tree.specs.Tree.{StmtTree, ProgramTree}
 use Rattle.ped_tree.specs.Printing.{program_text}
 use Rattle.ped_tree.specs.SourcePane.{source_pane}
@@ -14,10 +14,10 @@ use Rattle.ped_graph.specs.DependencePane.{IsDependencePane, IsDependencePaneOf}
 use Rattle.ped_graph.proofs.OnePane.{one_pane, one_pane_of}
 use Rattle.ped_graph.specs.Update.Fresh.{tested_pairs}
 use Rattle.ped_order.specs.ped_eval.specs.Outcomes.{outcome}
-use Rattle.ped_scalar.specs.ped_steps.specs.Causes.{Cause}
+use Rattle.ped_transformations.specs.ped_steps.specs.Causes.{Cause}
 use Rattle.ped_script.specs.declared.items.Command.{Command}
 use Rattle.ped_script.specs.declared.items.Command.TheVariants.{Source, Deps, Show, Print, Advise, Replace, Insert, Delete, Interchange, Reverse, Skew, Strip, Peel, Distribute, Fuse, Expand, Privatise, Parallel, Serial, Reject, Undo, Redo, Run, Races, Tested}
-use Rattle.ped_session.specs.declared.changes.Change.TheVariants.{Edit, Transformation}
+use Rattle.ped_session.specs.declared.changes.Change.TheVariants.{Edit}
 use Rattle.ped_session.specs.declared.replies.Refusal.{Refusal}
 use Rattle.ped_session.specs.declared.replies.Refusal.TheVariants.{BadEdit, Step, NothingToUndo, NothingToRedo, NoSuchStatement, NoSuchLine, NotBuilt}
 use Rattle.ped_session.specs.declared.replies.Reply.{Reply}
@@ -27,9 +27,11 @@ use Rattle.ped_session.specs.Blocks.{block}
 use Rattle.ped_session.specs.RaceRows.{race_row, IsRaceRow}
 use Rattle.ped_session.specs.Panes.{IsSourcePane, ArePanes}
 use Rattle.ped_session.specs.Splices.{are_lines, is_place, edit_keep}
-use Rattle.ped_session.specs.Steps.{Refuses, Shows, ShowsOf, ShowsStatement, Edits, accepted, refused, Transforms, missing, forbidden, transformed, GoesBack, GoesForward, Runs, IsStep}
-use Rattle.ped_session.specs.Transforming.{StepAt, privatising, expanding}
-use Rattle.ped_session.proofs.Lawful.{IsLawful, lawful_privatising, lawful_expanding}
+use Rattle.ped_session.specs.Steps.{Refuses, Shows, ShowsOf, ShowsStatement, Edits, accepted, refused, change_by, Transforms, missing, forbidden, transformed, GoesBack, GoesForward, Runs, IsOther, IsStep}
+use Rattle.ped_transformations.specs.ped_rules.specs.Steps.{StepAt, MaybeStep, no_step, some_step, MatchStep}
+use Rattle.ped_transformations.specs.ped_rules.specs.Lawful.{IsDetermined}
+use Rattle.ped_transformations.specs.Table.{step_of}
+use Rattle.ped_transformations.proofs.LawfulTable.{determined_step}
 use Rattle.ped_order.proofs.OneReport.{one_at_most}
 use Rattle.ped_session.proofs.OneFinding.{one_found}
 
@@ -122,7 +124,7 @@ one_run [] data_bytes s p q m n a b = one_shows (λ t bytes. bytes ≡ block (ou
 one_run (c ∷ cs) data_bytes s p q m n a b = one_refuses NotBuilt s p q m n a b
 
 -- a step, whose first cause is one
-one_transform : (at : StepAt) (s : State) (p q : Reply) (m n : State) → IsLawful at → Transforms at s p m → Transforms at s q n → (p ≡ q) × (m ≡ n)
+one_transform : (at : StepAt) (s : State) (p q : Reply) (m n : State) → IsDetermined at → Transforms at s p m → Transforms at s q n → (p ≡ q) × (m ≡ n)
 one_transform at s p q m n lawful (missing t reads none a) (missing u other nothing b) = one_refuses NoSuchStatement s p q m n a b
 one_transform at s p q m n lawful (missing t reads none a) (forbidden u other some d is b) =
     absurd (none_and_some (statement_with at.statement u) (subst (λ (v : ProgramTree). is_some (statement_with at.statement v) ≡ false) (one_tree s.present t u reads other) none) some)
@@ -133,45 +135,53 @@ one_transform at s p q m n lawful (forbidden t reads some c is a) (missing u oth
 one_transform at s p q m n lawful (transformed t new keep reads some free makes valid a after) (missing u other none b) =
     absurd (none_and_some (statement_with at.statement t) (subst (λ (v : ProgramTree). is_some (statement_with at.statement v) ≡ false) (one_tree s.present u t other reads) none) some)
 one_transform at s p q m n lawful (forbidden t reads some c is a) (forbidden u other more d same b) =
-    let causes = lawful.one u (Some c) (Some d) (subst (λ (v : ProgramTree). at.IsCause v (Some c)) (one_tree s.present t u reads other) is) same in
+    let causes = lawful.one_cause u (Some c) (Some d) (subst (λ (v : ProgramTree). at.IsCause v (Some c)) (one_tree s.present t u reads other) is) same in
     (a.0 ∙ ap (λ (x : Cause). Refused (Step x)) (some_is c d causes) ∙ sym b.0, a.1 ∙ sym b.1)
 one_transform at s p q m n lawful (forbidden t reads some c is a) (transformed u new keep other more free makes valid b after) =
-    absurd (no_cause c (lawful.one u (Some c) None (subst (λ (v : ProgramTree). at.IsCause v (Some c)) (one_tree s.present t u reads other) is) free))
+    absurd (no_cause c (lawful.one_cause u (Some c) None (subst (λ (v : ProgramTree). at.IsCause v (Some c)) (one_tree s.present t u reads other) is) free))
 one_transform at s p q m n lawful (transformed t new keep reads some free makes valid a after) (forbidden u other more d is b) =
-    absurd (no_cause d (lawful.one t (Some d) None (subst (λ (v : ProgramTree). at.IsCause v (Some d)) (one_tree s.present u t other reads) is) free))
+    absurd (no_cause d (lawful.one_cause t (Some d) None (subst (λ (v : ProgramTree). at.IsCause v (Some d)) (one_tree s.present u t other reads) is) free))
 one_transform at s p q m n lawful (transformed t new keep reads some free makes valid a after) (transformed u else_new else_keep other more none made well b next) =
     let trees = one_tree s.present t u reads other in
     let one = lawful.one_made u new else_new keep else_keep (subst (λ (v : ProgramTree). at.Makes v new keep) trees makes) made in
-    (a ∙ sym b, after ∙ (λ i. changed_to (program_text (one.0 i)) Transformation (tested_pairs (trees i) (one.0 i) (one.1 i)) s) ∙ sym next)
+    (a ∙ sym b, after ∙ (λ i. changed_to (program_text (one.0 i)) (change_by at.kind) (tested_pairs (trees i) (one.0 i) (one.1 i)) s) ∙ sym next)
 
 one_race_row : (data_bytes : List ℕ) (t : ProgramTree) (x y : List ℕ) → IsRaceRow data_bytes t x → IsRaceRow data_bytes t y → x ≡ y
 one_race_row data_bytes t x y a b = a.2 ∙ ap race_row (one_at_most t data_bytes a.0 b.0 a.1 b.1) ∙ sym b.2
 
+one_other : (c : Command) (data_bytes : List ℕ) (s m n : State) (p q : Reply) → IsOther c data_bytes s p m → IsOther c data_bytes s q n → (p ≡ q) × (m ≡ n)
+one_other Source d s m n p q a b = one_shows IsSourcePane one_source_pane s p q m n a b
+one_other (Deps None) d s m n p q a b = one_shows IsDependencePane one_pane s p q m n a b
+one_other (Deps (Some number)) d s m n p q a b = one_statement number s p q m n a b
+one_other Show d s m n p q a b = one_shows ArePanes one_panes s p q m n a b
+one_other Print d s m n p q a b = (a.0 ∙ sym b.0, a.1 ∙ sym b.1)
+one_other (Replace first last lines) d s m n p q a b = one_edit_by (are_lines s.present first last) _ _ _ s p q m n a b
+one_other (Insert after lines) d s m n p q a b = one_edit_by (is_place s.present after) _ _ _ s p q m n a b
+one_other (Delete first last) d s m n p q a b = one_edit_by (are_lines s.present first last) _ _ _ s p q m n a b
+one_other Undo d s m n p q a b = one_back s.past s p q m n a b
+one_other Redo d s m n p q a b = one_forward s.future s p q m n a b
+one_other (Run choices) d s m n p q a b = one_run choices d s p q m n a b
+one_other Races d s m n p q a b = one_shows (IsRaceRow d) (one_race_row d) s p q m n a b
+one_other (Advise number) d s m n p q a b = one_refuses NotBuilt s p q m n a b
+one_other (Interchange number) d s m n p q a b = one_refuses NotBuilt s p q m n a b
+one_other (Reverse number) d s m n p q a b = one_refuses NotBuilt s p q m n a b
+one_other (Skew number factor) d s m n p q a b = one_refuses NotBuilt s p q m n a b
+one_other (Strip number size) d s m n p q a b = one_refuses NotBuilt s p q m n a b
+one_other (Peel number last) d s m n p q a b = one_refuses NotBuilt s p q m n a b
+one_other (Distribute number) d s m n p q a b = one_refuses NotBuilt s p q m n a b
+one_other (Fuse number) d s m n p q a b = one_refuses NotBuilt s p q m n a b
+one_other (Expand number name) d s m n p q a b = one_refuses NotBuilt s p q m n a b
+one_other (Privatise number name) d s m n p q a b = one_refuses NotBuilt s p q m n a b
+one_other (Parallel number) d s m n p q a b = one_refuses NotBuilt s p q m n a b
+one_other (Serial number) d s m n p q a b = one_refuses NotBuilt s p q m n a b
+one_other (Reject number name) d s m n p q a b = one_refuses NotBuilt s p q m n a b
+one_other Tested d s m n p q a b = (a.0 ∙ sym b.0, a.1 ∙ sym b.1)
+
+one_by : (c : Command) (step : MaybeStep) (d : List ℕ) (s m n : State) (p q : Reply) → MatchStep step ⊤ IsDetermined
+    → MatchStep step (IsOther c d s p m) (λ at. Transforms at s p m) → MatchStep step (IsOther c d s q n) (λ at. Transforms at s q n) → (p ≡ q) × (m ≡ n)
+one_by c no_step d s m n p q lawful a b = one_other c d s m n p q a b
+one_by c (some_step at) d s m n p q lawful a b = one_transform at s p q m n lawful a b
+
 -- a command has one reply, and leads to one state
 pub one : (c : Command) (data_bytes : List ℕ) (s m n : State) (p q : Reply) → IsStep c data_bytes s p m → IsStep c data_bytes s q n → (p ≡ q) × (m ≡ n)
-one Source d s m n p q a b = one_shows IsSourcePane one_source_pane s p q m n a b
-one (Deps None) d s m n p q a b = one_shows IsDependencePane one_pane s p q m n a b
-one (Deps (Some number)) d s m n p q a b = one_statement number s p q m n a b
-one Show d s m n p q a b = one_shows ArePanes one_panes s p q m n a b
-one Print d s m n p q a b = (a.0 ∙ sym b.0, a.1 ∙ sym b.1)
-one (Replace first last lines) d s m n p q a b = one_edit_by (are_lines s.present first last) _ _ _ s p q m n a b
-one (Insert after lines) d s m n p q a b = one_edit_by (is_place s.present after) _ _ _ s p q m n a b
-one (Delete first last) d s m n p q a b = one_edit_by (are_lines s.present first last) _ _ _ s p q m n a b
-one Undo d s m n p q a b = one_back s.past s p q m n a b
-one Redo d s m n p q a b = one_forward s.future s p q m n a b
-one (Run choices) d s m n p q a b = one_run choices d s p q m n a b
-one Races d s m n p q a b = one_shows (IsRaceRow d) (one_race_row d) s p q m n a b
-one (Advise number) d s m n p q a b = one_refuses NotBuilt s p q m n a b
-one (Interchange number) d s m n p q a b = one_refuses NotBuilt s p q m n a b
-one (Reverse number) d s m n p q a b = one_refuses NotBuilt s p q m n a b
-one (Skew number factor) d s m n p q a b = one_refuses NotBuilt s p q m n a b
-one (Strip number size) d s m n p q a b = one_refuses NotBuilt s p q m n a b
-one (Peel number last) d s m n p q a b = one_refuses NotBuilt s p q m n a b
-one (Distribute number) d s m n p q a b = one_refuses NotBuilt s p q m n a b
-one (Fuse number) d s m n p q a b = one_refuses NotBuilt s p q m n a b
-one (Expand number name) d s m n p q a b = one_transform (expanding number name) s p q m n (lawful_expanding number name) a b
-one (Privatise number name) d s m n p q a b = one_transform (privatising number name) s p q m n (lawful_privatising number name) a b
-one (Parallel number) d s m n p q a b = one_refuses NotBuilt s p q m n a b
-one (Serial number) d s m n p q a b = one_refuses NotBuilt s p q m n a b
-one (Reject number name) d s m n p q a b = one_refuses NotBuilt s p q m n a b
-one Tested d s m n p q a b = (a.0 ∙ sym b.0, a.1 ∙ sym b.1)
+one c d s m n p q a b = one_by c (step_of c) d s m n p q (determined_step c) a b

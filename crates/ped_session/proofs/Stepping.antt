@@ -8,56 +8,37 @@ use Rattle.ped_valid.specs.ped_symbols.specs.Kinds.{table_of}
 use Rattle.ped_valid.specs.ped_symbols.specs.NameRefusals.{IsValid}
 use Rattle.ped_valid.specs.Validity.{ReadsValid}
 use Rattle.ped_graph.specs.Update.Fresh.{tested_pairs}
-use Rattle.ped_scalar.specs.ped_steps.specs.declared.causes.Refused.{Refused}
-use Rattle.ped_scalar.specs.ped_steps.specs.declared.changes.Change as step
-use Rattle.ped_scalar.specs.ped_steps.specs.Causes.{none_forbids}
-use Rattle.ped_scalar.specs.ped_steps.specs.CodeCauses.{cause_of, IsShort}
-use Rattle.ped_scalar.specs.ped_steps.specs.Replacing.{all_kept}
-use Rattle.ped_scalar.specs.ped_steps.specs.Changes.{IsChange, IsAnswer}
-use Rattle.ped_scalar.specs.Privatising.{StandsAgainstPrivatising, privatised}
-use Rattle.ped_scalar.specs.Expanding.{expand_kept, AnswersExpanding}
-use Rattle.ped_session.specs.declared.changes.Change.TheVariants.{Transformation}
+use Rattle.ped_transformations.specs.ped_steps.specs.declared.causes.Refused.{Refused}
+use Rattle.ped_transformations.specs.ped_steps.specs.declared.changes.Change as step
+use Rattle.ped_transformations.specs.ped_steps.specs.CodeCauses.{cause_of, IsShort}
+use Rattle.ped_transformations.specs.ped_steps.specs.Changes.{IsChange}
 use Rattle.ped_session.specs.declared.replies.Refusal.TheVariants.{NoSuchStatement}
 use Rattle.ped_session.specs.declared.replies.Reply.{Reply}
 use Rattle.ped_session.specs.declared.replies.Reply.TheVariants as reply
 use Rattle.ped_session.specs.declared.versions.Version.{Version}
 use Rattle.ped_session.specs.States.{State, changed_to}
 use Rattle.ped_session.specs.Holding.{tree_of, IsVersion}
-use Rattle.ped_session.specs.Transforming.{StepAt, privatising, expanding}
-use Rattle.ped_session.specs.Steps.{Transforms, missing, forbidden, transformed}
+use Rattle.ped_transformations.specs.ped_rules.specs.Steps.{StepAt, Answers}
+use Rattle.ped_transformations.specs.ped_rules.specs.Lawful.{IsLawful}
+use Rattle.ped_session.specs.Steps.{change_by, Transforms, missing, forbidden, transformed}
 use Rattle.ped_session.specs.Changing.{IsStepAnswer, IsTakeable, Takes, most_tests}
 use Rattle.ped_session.specs.Scripts.{tests_of}
 use Rattle.ped_session.proofs.PresentProgram.{reads_version, only_version}
 use Rattle.ped_session.proofs.OneStep.{one_tree, none_and_some, no_cause}
-use Rattle.ped_session.proofs.Lawful.{IsLawful}
-use Rattle.ped_session.proofs.KeptMeanings.{same_meaning}
-
--- what a step answers for a program: what it makes of it, or the first cause against it
-abbrev pub AnswersFor : StepAt → ProgramTree → Result step.Change Refused → Type 0
-AnswersFor at t (Ok change) = at.IsCause t None × (new : ProgramTree) × (keep : List (ℕ × ℕ)) × at.Makes t new keep × IsChange new keep change
-AnswersFor at t (Err why) = at.IsCause t (Some (cause_of why)) × IsShort why
-
-pub answers_privatising : (t : ProgramTree) (s : ℕ) (x : List ℕ) (answer : Result step.Change Refused)
-    → IsAnswer t (StandsAgainstPrivatising t s x) none_forbids (privatised t s x) (all_kept t) answer → AnswersFor (privatising s x) t answer
-answers_privatising t s x (Ok change) h = (h.0, privatised t s x, all_kept t, (refl, refl), h.1)
-answers_privatising t s x (Err why) h = h
-
-pub answers_expanding : (t : ProgramTree) (s : ℕ) (x : List ℕ) (answer : Result step.Change Refused) → AnswersExpanding t s x answer → AnswersFor (expanding s x) t answer
-answers_expanding t s x (Ok change) h = (h.0, h.2, expand_kept t s h.1.body h.3.live, (h.1, h.3, refl), h.4)
-answers_expanding t s x (Err why) h = h
+use Rattle.ped_session.proofs.KeptMeanings.{kept_by}
 
 made : (at : StepAt) (t new : ProgramTree) (keep : List (ℕ × ℕ)) (change : step.Change) → at.Makes t new keep → IsChange new keep change → at.Makes t (program_tree change.tree) change.keep
 made at t new keep change makes is =
     subst (λ (u : ProgramTree). at.Makes t u change.keep) (sym is.tree) (subst (λ (k : List (ℕ × ℕ)). at.Makes t new k) (sym is.kept) makes)
 
 -- what a step answers for the program of a version
-pub answered : (at : StepAt) (v : Version) (s : State) → IsVersion v → v.text ≡ s.present → (answer : Result step.Change Refused) → AnswersFor at (tree_of v) answer → IsStepAnswer at s answer
+pub answered : (at : StepAt) (v : Version) (s : State) → IsVersion v → v.text ≡ s.present → (answer : Result step.Change Refused) → Answers at (tree_of v) answer → IsStepAnswer at s answer
 answered at v s is text (Ok change) h =
     (tree_of v, reads_version v is s.present text, h.0, made at (tree_of v) h.1 h.2 change h.3 h.4, subst IsValid (sym h.4.tree) h.4.valid)
 answered at v s is text (Err why) h = (tree_of v, reads_version v is s.present text, h.0)
 
 -- it can be taken
-pub takeable : (at : StepAt) (v : Version) (s : State) → IsVersion v → v.text ≡ s.present → IsLawful at → (answer : Result step.Change Refused) → AnswersFor at (tree_of v) answer → IsTakeable s answer
+pub takeable : (at : StepAt) (v : Version) (s : State) → IsVersion v → v.text ≡ s.present → IsLawful at → (answer : Result step.Change Refused) → Answers at (tree_of v) answer → IsTakeable (change_by at.kind) s answer
 takeable at v s is text lawful (Ok change) h =
     let t = tree_of v in
     let new = program_tree change.tree in
@@ -66,7 +47,7 @@ takeable at v s is text lawful (Ok change) h =
       valid,
       h.4.symbols ∙ ap table_of (sym h.4.tree),
       lawful.one_to_one t new change.keep makes,
-      same_meaning s.present t new (reads_version v is s.present text) valid (lawful.tidy t new change.keep is.valid h.0 makes) (lawful.keeps t new change.keep is.valid h.0 makes),
+      kept_by at.kind s.present t new (reads_version v is s.present text) valid (lawful.keeps t new change.keep is.valid h.0 makes),
     )
 takeable at v s is text lawful (Err why) h = h.1
 
@@ -83,12 +64,12 @@ is_there number v s is text some t reads = subst (λ (u : ProgramTree). is_some 
 -- what a step answers is taken
 pub takes : (at : StepAt) (s next : State) (r : Reply) (answer : Result step.Change Refused)
     → ((t : ProgramTree) → ReadsValid s.present t → is_some (statement_with at.statement t) ≡ true)
-    → IsStepAnswer at s answer → Takes answer s r next → Transforms at s r next
+    → IsStepAnswer at s answer → Takes (change_by at.kind) answer s r next → Transforms at s r next
 takes at s next r (Ok change) some a h =
     let new = program_tree change.tree in
     let old = one_tree s.present h.1 a.0 h.2 a.1 in
     transformed a.0 new change.keep a.1 (some a.0 a.1) a.2 a.3 a.4 h.0
-    (h.3 ∙ ap (λ (u : ProgramTree). changed_to (program_text new) Transformation (tested_pairs u new change.keep) s) old)
+    (h.3 ∙ ap (λ (u : ProgramTree). changed_to (program_text new) (change_by at.kind) (tested_pairs u new change.keep) s) old)
 takes at s next r (Err why) some a h = forbidden a.0 a.1 (some a.0 a.1) (cause_of why) a.2 h
 
 -- no more is tested than its reply says
@@ -98,7 +79,7 @@ pub tests_most : (at : StepAt) (s : State) (answer : Result step.Change Refused)
     → (r : Reply) (next : State) → Transforms at s r next → now ≤ before + tests_of r next
 tests_most at s (Ok change) before now lawful some a most r next (missing t reads none same) = absurd (none_and_some (statement_with at.statement t) none (some t reads))
 tests_most at s (Ok change) before now lawful some a most r next (forbidden t reads there c is same) =
-    absurd (no_cause c (lawful.one t (Some c) None is (subst (λ (u : ProgramTree). at.IsCause u None) (one_tree s.present a.0 t a.1 reads) a.2)))
+    absurd (no_cause c (lawful.one_cause t (Some c) None is (subst (λ (u : ProgramTree). at.IsCause u None) (one_tree s.present a.0 t a.1 reads) a.2)))
 tests_most at s (Ok change) before now lawful some a most r next (transformed t new keep reads there none makes valid replies goes) =
     let here = subst (λ (u : ProgramTree). at.Makes u (program_tree change.tree) change.keep) (one_tree s.present a.0 t a.1 reads) a.3 in
     let one = lawful.one_made t new (program_tree change.tree) keep change.keep makes here in

@@ -7,21 +7,21 @@ use Rattle.ped_valid.specs.ped_symbols.specs.Kinds.{table_of}
 use Rattle.ped_valid.specs.ped_symbols.specs.NameRefusals.{IsValid}
 use Rattle.ped_valid.specs.Validity.{ReadsValid}
 use Rattle.ped_graph.specs.Update.Fresh.{IsOneToOne, tested_pairs}
-use Rattle.ped_scalar.specs.ped_steps.specs.declared.causes.Refused.{Refused}
-use Rattle.ped_scalar.specs.ped_steps.specs.declared.changes.Change as step
-use Rattle.ped_scalar.specs.ped_steps.specs.CodeCauses.{cause_of, IsShort}
+use Rattle.ped_transformations.specs.ped_steps.specs.declared.causes.Refused.{Refused}
+use Rattle.ped_transformations.specs.ped_steps.specs.declared.changes.Change as step
+use Rattle.ped_transformations.specs.ped_steps.specs.CodeCauses.{cause_of, IsShort}
 use Rattle.ped_session.specs.declared.changes.Change.{Change}
-use Rattle.ped_session.specs.declared.changes.Change.TheVariants.{Edit, Transformation}
+use Rattle.ped_session.specs.declared.changes.Change.TheVariants.{Edit}
 use Rattle.ped_session.specs.declared.replies.Refusal.TheVariants as refusal
 use Rattle.ped_session.specs.declared.replies.Reply.{Reply}
 use Rattle.ped_session.specs.declared.replies.Reply.TheVariants.{Changed}
 use Rattle.ped_session.specs.States.{State, changed_to}
 use Rattle.ped_session.specs.Splices.{edit_keep}
 use Rattle.ped_session.specs.Meanings.{IsKept}
-use Rattle.ped_session.specs.declared.asked.Asked.{Asked}
-use Rattle.ped_session.specs.declared.asked.Asked.TheVariants as asked
-use Rattle.ped_session.specs.Transforming.{StepAt, privatising, expanding}
-use Rattle.ped_session.specs.Steps.{Refuses}
+use Rattle.ped_transformations.specs.ped_rules.specs.Steps.{StepAt, MatchStep}
+use Rattle.ped_transformations.specs.Table.{step_of}
+use Rattle.ped_script.specs.declared.items.Command.{Command}
+use Rattle.ped_session.specs.Steps.{Refuses, change_by}
 
 -- the printed text of a program has become the present source by a change that keeps these statements
 abbrev pub Changes : ProgramTree → List (ℕ × ℕ) → Change → State → Reply → State → Type 0
@@ -33,27 +33,26 @@ abbrev pub EditChanges : ProgramTree → ℕ → ℕ → State → Reply → Sta
 EditChanges new kept gone s reply next =
     (reply ≡ Changed) × (old : ProgramTree) × ReadsValid s.present old × (next ≡ changed_to (program_text new) Edit (tested_pairs old new (edit_keep old new kept gone)) s)
 
--- the step that is asked for
-abbrev pub step_at : Asked → StepAt
-step_at (asked.Privatise number name) = privatising number name
-step_at (asked.Expand number name) = expanding number name
-
 -- what a step answers for the present program: what it makes of it, a valid program with the statements that it keeps; or the first cause against it
 abbrev pub IsStepAnswer : StepAt → State → Result step.Change Refused → Type 0
 IsStepAnswer at s (Ok change) =
     (t : ProgramTree) × ReadsValid s.present t × at.IsCause t None × at.Makes t (program_tree change.tree) change.keep × IsValid (program_tree change.tree)
 IsStepAnswer at s (Err why) = (t : ProgramTree) × ReadsValid s.present t × at.IsCause t (Some (cause_of why))
 
--- what a step answers can be taken: a valid program that keeps the meaning of the present one where that is tidy, or a cause that can be printed
-abbrev pub IsTakeable : State → Result step.Change Refused → Type 0
-IsTakeable s (Ok change) =
-    IsValid (program_tree change.tree) × (change.symbols ≡ table_of (program_tree change.tree)) × IsOneToOne change.keep × IsKept Transformation s.present (program_text (program_tree change.tree))
-IsTakeable s (Err why) = IsShort why
+-- what a step answers can be taken by a change of this kind: a valid program that keeps the meaning of the present one where the change has to, or a cause that can be printed
+abbrev pub IsTakeable : Change → State → Result step.Change Refused → Type 0
+IsTakeable kind s (Ok change) =
+    IsValid (program_tree change.tree) × (change.symbols ≡ table_of (program_tree change.tree)) × IsOneToOne change.keep × IsKept kind s.present (program_text (program_tree change.tree))
+IsTakeable kind s (Err why) = IsShort why
 
--- what a step answers is taken: its program becomes the present one, or the session refuses it for its cause
-abbrev pub Takes : Result step.Change Refused → State → Reply → State → Type 0
-Takes (Ok change) s reply next = Changes (program_tree change.tree) change.keep Transformation s reply next
-Takes (Err why) s reply next = Refuses (refusal.Step (cause_of why)) s reply next
+-- what a step answers is taken by a change of this kind: its program becomes the present one, or the session refuses it for its cause
+abbrev pub Takes : Change → Result step.Change Refused → State → Reply → State → Type 0
+Takes kind (Ok change) s reply next = Changes (program_tree change.tree) change.keep kind s reply next
+Takes kind (Err why) s reply next = Refuses (refusal.Step (cause_of why)) s reply next
+
+-- what the step of a command answers, and how the history takes it down, where the command has a step
+abbrev pub IsAnswerTo : Command → Change → State → Result step.Change Refused → Type 0
+IsAnswerTo command kind s answer = MatchStep (step_of command) ⊥ (λ at. (change_by at.kind ≡ kind) × IsStepAnswer at s answer)
 
 -- how many pairs may be tested at the most where what a step answers is taken in a session whose present program is this
 abbrev pub most_tests : Result step.Change Refused → ProgramTree → ℕ

@@ -5,7 +5,10 @@ pub use Rattle.ped_valid.specs.ped_symbols
 pub use Rattle.ped_valid
 pub use Rattle.ped_graph
 pub use Rattle.ped_order
-pub use Rattle.ped_scalar
+pub use Rattle.ped_transformations.specs.ped_scalar
+pub use Rattle.ped_transformations.specs.ped_rules
+pub use Rattle.ped_transformations.specs.ped_steps
+pub use Rattle.ped_transformations
 pub mod Adding
 pub mod Blocks
 pub mod Changing
@@ -20,4 +23,3 @@ pub mod Scripts
 pub mod Splices
 pub mod States
 pub mod Steps
-pub mod Transforming

@@ -3,21 +3,20 @@ use Rattle.std.specs.Prelude.{◌≡◌, ◌⊎◌, ℕ, List, [], ◌∷◌, �
 use Rattle.ped_tree.specs.Tree.{ProgramTree}
 use Rattle.ped_valid.specs.Validity.{ReadsValid}
 use Rattle.ped_order.specs.ped_eval.specs.Outcomes.{Outcome, outcome, IsRaceFree}
-use Rattle.ped_scalar.specs.ped_steps.specs.Tidy.{IsTidy}
-use Rattle.ped_scalar.specs.ped_steps.specs.Runs.Meaning.{Keeps}
+use Rattle.ped_transformations.specs.ped_rules.specs.ped_tidy.specs.Unrejected.{IsTrusted}
+use Rattle.ped_transformations.specs.ped_rules.specs.Lawful.{IsFaithful}
 use Rattle.ped_session.specs.declared.changes.Change.{Change}
 use Rattle.ped_session.specs.declared.changes.Change.TheVariants.{Edit, Rejection, Transformation}
 use Rattle.ped_session.specs.States.{Other, State}
 use Rattle.ped_session.specs.Blocks.{block}
 
--- where the program of the earlier source is tidy, that of the later one is tidy and keeps its meaning. A program is tidy where no reference in a PARALLEL DO writes the variable of it or of a DO in it, and each path from that PARALLEL DO's exit to the end overwrites such a variable that is saved (ParaScope; this project)
+-- where the program of the earlier source may be trusted, so may that of the later one, which keeps its meaning. A program may be trusted where it has no C$PED REJECT line and is tidy: where no reference in a PARALLEL DO writes the variable of it or of a DO in it, and each path from that PARALLEL DO's exit to the end overwrites such a variable that is saved (ParaScope; this project)
 pub record MeansTheSame (earlier later : List ℕ) : Type 0 where
   pub before : ProgramTree
   pub reads_before : ReadsValid earlier before
   pub behind : ProgramTree
   pub reads_behind : ReadsValid later behind
-  pub tidy : IsTidy before → IsTidy behind
-  pub keeps : IsTidy before → Keeps before behind
+  pub kept : IsTrusted before → IsFaithful before behind
 
 -- where the change between two sources is a transformation, it keeps the meaning; an edit and a rejection needn't (ParaScope)
 abbrev pub IsKept : Change → List ℕ → List ℕ → Type 0
@@ -45,10 +44,10 @@ abbrev pub ComesFrom : List ℕ → List Other → List ℕ → Type 0
 ComesFrom source [] earlier = earlier ≡ source
 ComesFrom source (other ∷ past) earlier = (earlier ≡ source) ⊎ ((other.1 ≡ Transformation) × ComesFrom other.0 past earlier)
 
--- an outcome of the present program is that of each program from which it has come by transformations alone, where that one is tidy and runs on the data without a fault and without a race. Tidy: no reference in a PARALLEL DO writes the variable of it or of a DO in it, and each path from that PARALLEL DO's exit to the end overwrites such a variable that is saved (ParaScope; this project)
+-- an outcome of the present program is that of each program from which it has come by transformations alone, where that one is tidy and without C$PED REJECT and runs on the data without a fault and without a race. Tidy: no reference in a PARALLEL DO writes the variable of it or of a DO in it, and each path from that PARALLEL DO's exit to the end overwrites such a variable that is saved (ParaScope; this project)
 abbrev pub IsAsBefore : State → List ℕ → Outcome → Type 0
-IsAsBefore s data_bytes o = (earlier : List ℕ) (t : ProgramTree) → ComesFrom s.present s.past earlier → ReadsValid earlier t → IsTidy t → IsRaceFree t data_bytes → o ≡ outcome t data_bytes
+IsAsBefore s data_bytes o = (earlier : List ℕ) (t : ProgramTree) → ComesFrom s.present s.past earlier → ReadsValid earlier t → IsTrusted t → IsRaceFree t data_bytes → o ≡ outcome t data_bytes
 
--- what is shown of a run of the present program is the block of the outcome of each such program, where that one is tidy and runs on the data without a fault and without a race (ParaScope; this project)
+-- what is shown of a run of the present program is the block of the outcome of each such program, where that one is tidy and without C$PED REJECT and runs on the data without a fault and without a race (ParaScope; this project)
 abbrev pub ShowsAsBefore : State → List ℕ → List ℕ → Type 0
-ShowsAsBefore s data_bytes shown = (earlier : List ℕ) (t : ProgramTree) → ComesFrom s.present s.past earlier → ReadsValid earlier t → IsTidy t → IsRaceFree t data_bytes → shown ≡ block (outcome t data_bytes)
+ShowsAsBefore s data_bytes shown = (earlier : List ℕ) (t : ProgramTree) → ComesFrom s.present s.past earlier → ReadsValid earlier t → IsTrusted t → IsRaceFree t data_bytes → shown ≡ block (outcome t data_bytes)

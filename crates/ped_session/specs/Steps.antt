@@ -10,10 +10,11 @@ use Rattle.ped_valid.specs.Validity.{ReadsValid, RefusesText}
 use Rattle.ped_graph.specs.DependencePane.{IsDependencePane, IsDependencePaneOf}
 use Rattle.ped_graph.specs.Update.Fresh.{tested_pairs}
 use Rattle.ped_order.specs.ped_eval.specs.Outcomes.{outcome}
-use Rattle.ped_scalar.specs.ped_steps.specs.Causes.{Cause}
+use Rattle.ped_transformations.specs.ped_steps.specs.Causes.{Cause}
 use Rattle.ped_script.specs.declared.items.Command.{Command}
-use Rattle.ped_script.specs.declared.items.Command.TheVariants.{Source, Deps, Show, Print, Advise, Replace, Insert, Delete, Interchange, Reverse, Skew, Strip, Peel, Distribute, Fuse, Expand, Privatise, Parallel, Serial, Reject, Undo, Redo, Run, Races, Tested}
-use Rattle.ped_session.specs.declared.changes.Change.TheVariants.{Edit, Transformation}
+use Rattle.ped_script.specs.declared.items.Command.TheVariants.{Source, Deps, Show, Print, Replace, Insert, Delete, Undo, Redo, Run, Races}
+use Rattle.ped_session.specs.declared.changes.Change.{Change}
+use Rattle.ped_session.specs.declared.changes.Change.TheVariants.{Edit, Rejection, Transformation}
 use Rattle.ped_session.specs.declared.replies.Refusal.TheVariants.{BadEdit, Step, NothingToUndo, NothingToRedo, NoSuchStatement, NoSuchLine, NotBuilt}
 use Rattle.ped_session.specs.declared.replies.Reply.{Reply}
 use Rattle.ped_session.specs.declared.replies.Reply.TheVariants.{Changed, Shown, Refused}
@@ -23,7 +24,8 @@ use Rattle.ped_session.specs.Splices.{spliced, are_lines, is_place, edit_keep}
 use Rattle.ped_session.specs.Panes.{IsSourcePane, ArePanes, tested_row}
 use Rattle.ped_session.specs.Blocks.{block}
 use Rattle.ped_session.specs.RaceRows.{IsRaceRow}
-use Rattle.ped_session.specs.Transforming.{StepAt, privatising, expanding}
+use Rattle.ped_transformations.specs.ped_rules.specs.Steps.{StepKind, transformation, rejection, StepAt, MatchStep}
+use Rattle.ped_transformations.specs.Table.{step_of}
 
 -- the command is refused, and the session is as it was
 abbrev pub Refuses : Refusal → State → Reply → State → Type 0
@@ -68,12 +70,17 @@ abbrev pub Inserts : ℕ → List (List ℕ) → State → Reply → State → T
 Inserts after new s reply next =
     MatchBool (is_place s.present after) (Edits after 0 (spliced s.present after 0 new) s reply next) (Refuses NoSuchLine s reply next)
 
+-- how the history takes down a step of a kind (ParaScope)
+abbrev pub change_by : StepKind → Change
+change_by transformation = Transformation
+change_by rejection = Rejection
+
 -- a step: the present program has no statement of that number, or a cause forbids the step and the first is told, and the session is as it was; or the printed text of the program that the step makes, which is valid, is the new source (ParaScope; this project)
 pub data Transforms (at : StepAt) (s : State) (reply : Reply) (next : State) : Type 0 where
   missing : (t : ProgramTree) → ReadsValid s.present t → is_some (statement_with at.statement t) ≡ false → Refuses NoSuchStatement s reply next → Transforms at s reply next
   forbidden : (t : ProgramTree) → ReadsValid s.present t → is_some (statement_with at.statement t) ≡ true → (c : Cause) → at.IsCause t (Some c) → Refuses (Step c) s reply next → Transforms at s reply next
   transformed : (t new : ProgramTree) (keep : List (ℕ × ℕ)) → ReadsValid s.present t → is_some (statement_with at.statement t) ≡ true → at.IsCause t None → at.Makes t new keep → IsValid new
-      → reply ≡ Changed → next ≡ changed_to (program_text new) Transformation (tested_pairs t new keep) s → Transforms at s reply next
+      → reply ≡ Changed → next ≡ changed_to (program_text new) (change_by at.kind) (tested_pairs t new keep) s → Transforms at s reply next
 
 -- one step back, where there is a past
 abbrev pub GoesBack : List Other → State → Reply → State → Type 0
@@ -90,34 +97,26 @@ abbrev pub Runs : List ℕ → List ℕ → State → Reply → State → Type 0
 Runs [] data_bytes s reply next = Shows (λ t bytes. bytes ≡ block (outcome t data_bytes)) s reply next
 Runs (c ∷ cs) data_bytes s reply next = Refuses NotBuilt s reply next
 
--- what a command does to a session whose programs are run on these data
+-- what a command that takes no step does to a session whose programs are run on these data; steps that aren't built yet, and `advise`, are refused
+abbrev pub IsOther : Command → List ℕ → State → Reply → State → Type 0
+IsOther Source data_bytes s reply next = Shows IsSourcePane s reply next
+IsOther (Deps None) data_bytes s reply next = Shows IsDependencePane s reply next
+IsOther (Deps (Some number)) data_bytes s reply next = ShowsStatement number s reply next
+IsOther Show data_bytes s reply next = Shows ArePanes s reply next
+IsOther Print data_bytes s reply next = Prints s.present s reply next
+IsOther (Replace first last lines) data_bytes s reply next = Replaces first last lines s reply next
+IsOther (Insert after lines) data_bytes s reply next = Inserts after lines s reply next
+IsOther (Delete first last) data_bytes s reply next = Replaces first last [] s reply next
+IsOther Undo data_bytes s reply next = GoesBack s.past s reply next
+IsOther Redo data_bytes s reply next = GoesForward s.future s reply next
+IsOther (Run choices) data_bytes s reply next = Runs choices data_bytes s reply next
+IsOther Races data_bytes s reply next = Shows (IsRaceRow data_bytes) s reply next
+IsOther Tested data_bytes s reply next = Prints (tested_row s.tested) s reply next
+IsOther command data_bytes s reply next = Refuses NotBuilt s reply next
+
+-- what a command does to a session whose programs are run on these data: it takes its step, where it has one in the table of the steps
 abbrev pub IsStep : Command → List ℕ → State → Reply → State → Type 0
-IsStep Source data_bytes s reply next = Shows IsSourcePane s reply next
-IsStep (Deps None) data_bytes s reply next = Shows IsDependencePane s reply next
-IsStep (Deps (Some number)) data_bytes s reply next = ShowsStatement number s reply next
-IsStep Show data_bytes s reply next = Shows ArePanes s reply next
-IsStep Print data_bytes s reply next = Prints s.present s reply next
-IsStep (Replace first last lines) data_bytes s reply next = Replaces first last lines s reply next
-IsStep (Insert after lines) data_bytes s reply next = Inserts after lines s reply next
-IsStep (Delete first last) data_bytes s reply next = Replaces first last [] s reply next
-IsStep Undo data_bytes s reply next = GoesBack s.past s reply next
-IsStep Redo data_bytes s reply next = GoesForward s.future s reply next
-IsStep (Run choices) data_bytes s reply next = Runs choices data_bytes s reply next
-IsStep Races data_bytes s reply next = Shows (IsRaceRow data_bytes) s reply next
-IsStep (Advise number) data_bytes s reply next = Refuses NotBuilt s reply next
-IsStep (Interchange number) data_bytes s reply next = Refuses NotBuilt s reply next
-IsStep (Reverse number) data_bytes s reply next = Refuses NotBuilt s reply next
-IsStep (Skew number factor) data_bytes s reply next = Refuses NotBuilt s reply next
-IsStep (Strip number size) data_bytes s reply next = Refuses NotBuilt s reply next
-IsStep (Peel number last) data_bytes s reply next = Refuses NotBuilt s reply next
-IsStep (Distribute number) data_bytes s reply next = Refuses NotBuilt s reply next
-IsStep (Fuse number) data_bytes s reply next = Refuses NotBuilt s reply next
-IsStep (Expand number name) data_bytes s reply next = Transforms (expanding number name) s reply next
-IsStep (Privatise number name) data_bytes s reply next = Transforms (privatising number name) s reply next
-IsStep (Parallel number) data_bytes s reply next = Refuses NotBuilt s reply next
-IsStep (Serial number) data_bytes s reply next = Refuses NotBuilt s reply next
-IsStep (Reject number name) data_bytes s reply next = Refuses NotBuilt s reply next
-IsStep Tested data_bytes s reply next = Prints (tested_row s.tested) s reply next
+IsStep command data_bytes s reply next = MatchStep (step_of command) (IsOther command data_bytes s reply next) (λ at. Transforms at s reply next)
 
 -- `undo` and `redo` move along the history
 abbrev pub IsMove : Command → Type 0

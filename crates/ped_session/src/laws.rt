@@ -4,8 +4,8 @@ ghost use Rattle.std.specs.Prelude.{◌≡◌, ℕ, List};
 ghost use Rattle.ped_tree.specs.Tree.{ProgramTree};
 ghost use Rattle.ped_valid.specs.ped_symbols.specs.NameRefusals.{IsValid};
 ghost use Rattle.ped_valid.specs.Validity.{ReadsValid};
-ghost use Rattle.ped_scalar.specs.ped_steps.specs.Tidy.{IsTidy};
-ghost use Rattle.ped_scalar.specs.ped_steps.specs.Runs.Meaning.{Keeps};
+ghost use Rattle.ped_transformations.specs.ped_rules.specs.ped_tidy.specs.Unrejected.{IsTrusted};
+ghost use Rattle.ped_transformations.specs.ped_rules.specs.Lawful.{IsFaithful};
 ghost use Rattle.ped_script.specs.declared.items.Command.{Command};
 ghost use Rattle.ped_script.specs.declared.items.Command.TheVariants.{Undo, Redo};
 ghost use Rattle.ped_script.specs.declared.items.Item.{Item};
@@ -18,6 +18,8 @@ ghost use Rattle.ped_session.specs.Scripts.{Said, AnswersItems};
 ghost use Rattle.ped_session.specs.Meanings.{IsMeaningKept, ComesFrom};
 ghost use Rattle.ped_session.specs.RunsAsBefore.{AnswersAsBefore};
 ghost use Rattle.ped_session.specs.Histories.{ArePrinted, HaveSameSources, Times};
+
+use ped_transformations::every_step_is_lawful;
 
 /// A command has one reply at most in a state, and leads to one state.
 pub fn one_step()
@@ -59,24 +61,27 @@ pub fn moves_restore_each_other()
 {}
 
 /// A session is opened without a history, and each command keeps that each transformation in it keeps the meaning. A
-/// transformation keeps the meaning of a tidy program, and leaves it tidy.
+/// transformation keeps the meaning of a tidy program without C$PED REJECT, and leaves it so.
 pub fn transformations_keep_the_meaning()
     ensures opened { (t : ProgramTree) → IsMeaningKept (opened t) }
     ensures step { (c : Command) (data_bytes : List ℕ) (s next : State) (reply : code_reply.Reply) →
         IsMeaningKept s → IsStep c data_bytes s reply next → IsMeaningKept next }
-{}
+{
+    every_step_is_lawful();
+}
 
-/// Where a program is tidy, so is each to which it has come by transformations alone, and that one keeps its meaning.
+/// Where a program is tidy and without C$PED REJECT, so is each to which it has come by transformations alone, and that
+/// one keeps its meaning.
 pub fn sources_keep_the_meaning()
-    ensures tidy { (s : State) (earlier : List ℕ) (t u : ProgramTree) → IsMeaningKept s → ComesFrom s.present s.past earlier →
-        ReadsValid earlier t → ReadsValid s.present u → IsTidy t → IsTidy u }
-    ensures keeps { (s : State) (earlier : List ℕ) (t u : ProgramTree) → IsMeaningKept s → ComesFrom s.present s.past earlier →
-        ReadsValid earlier t → ReadsValid s.present u → IsTidy t → Keeps t u }
+    ensures { (s : State) (earlier : List ℕ) (t u : ProgramTree) → IsMeaningKept s → ComesFrom s.present s.past earlier →
+        ReadsValid earlier t → ReadsValid s.present u → IsTrusted t → IsFaithful t u }
 {}
 
 /// Whatever a script does, each `run` shows what the programs show from which the present one has come by
-/// transformations alone, where these are tidy and run without a fault and without a race.
+/// transformations alone, where these are tidy and without C$PED REJECT and run without a fault and without a race.
 pub fn runs_are_as_before()
     ensures { (t : ProgramTree) (items : List Item) (data_bytes : List ℕ) (said : Said) (last : State) →
         AnswersItems items data_bytes (opened t) said last → AnswersAsBefore items data_bytes (opened t) said last }
-{}
+{
+    every_step_is_lawful();
+}

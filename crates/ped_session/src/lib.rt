@@ -5,7 +5,6 @@
 #![tactic(auto)]
 
 mod answers;
-mod asked;
 mod blocks;
 mod changes;
 mod changing;

@@ -1,10 +1,10 @@
 //! Replies to commands.
 
 ghost use Rattle.std.specs.Prelude.{◌≡◌};
-ghost use Rattle.ped_scalar.specs.ped_steps.specs.CodeCauses.{cause_of, IsShort};
+ghost use Rattle.ped_transformations.specs.ped_steps.specs.CodeCauses.{cause_of, IsShort};
 
 use ped_base::Bytes;
-use ped_scalar::ped_steps::Refused;
+use ped_transformations::ped_steps::Refused;
 use ped_tree::grammar::Refusal as TextRefusal;
 use std::marker::Model;
 
@@ -15,8 +15,8 @@ pub struct FirstCause {
 }
 
 impl Model for FirstCause {
-    ghost use Rattle.ped_scalar.specs.ped_steps.specs.Causes.{Cause};
-    ghost use Rattle.ped_scalar.specs.ped_steps.specs.CodeCauses.{cause_of, IsShort};
+    ghost use Rattle.ped_transformations.specs.ped_steps.specs.Causes.{Cause};
+    ghost use Rattle.ped_transformations.specs.ped_steps.specs.CodeCauses.{cause_of, IsShort};
 
     ghost Value = { Cause };
 

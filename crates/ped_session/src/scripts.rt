@@ -3,7 +3,7 @@
 ghost use Rattle.std.specs.Prelude.{◌≡◌, ◌++◌, ◌∷◌, [], codes, IfOk, OnOk};
 ghost use Rattle.std.specs.Fmt.{decimal};
 ghost use Rattle.ped_tree.specs.Grammar.RefusalViews.{finding_of};
-ghost use Rattle.ped_scalar.specs.ped_steps.specs.CauseWords.{cause_words};
+ghost use Rattle.ped_transformations.specs.ped_steps.specs.CauseWords.{cause_words};
 ghost use Rattle.ped_session.specs.Replies as Spec;
 
 use crate::replies::{FirstCause, Refusal, Reply};
@@ -84,6 +84,6 @@ fn push_bad_edit(out: &mut Bytes, refusal: TextRefusal) -> Result<(), NoMemory>
 fn push_cause(alloc: Global, out: &mut Bytes, cause: &FirstCause) -> Result<(), NoMemory>
     ensures { OnOk result (out.new ≡ out.old ++ cause_words cause.now) }
 {
-    let words = ped_scalar::ped_steps::cause_words(alloc, cause.refused())?;
+    let words = ped_transformations::ped_steps::cause_words(alloc, cause.refused())?;
     out.extend_from_slice(words.as_slice())
 }

@@ -17,10 +17,9 @@ ghost use Rattle.ped_order.specs.ped_eval.specs.OutcomeViews.{outcome_view};
 ghost use Rattle.ped_session.specs.declared.replies.Reply.{Reply};
 ghost use Rattle.ped_session.specs.Meanings.{IsAsBefore};
 ghost use Rattle.ped_session.specs.States.{State, opened};
-ghost use Rattle.ped_session.specs.Steps.{IsStep, IsMove};
+ghost use Rattle.ped_session.specs.Steps.{IsStep, IsOther, IsMove};
 ghost use Rattle.ped_session.specs.Scripts.{tests_of};
 
-use crate::asked::Asked;
 use crate::replies::{Refusal, Reply};
 use crate::versions::{Entry, Version};
 use ped_base::{Bytes, NoMemory};
@@ -31,6 +30,7 @@ use ped_history::History;
 use ped_order::ped_eval::{Outcome, run_in_order};
 use ped_print::print;
 use ped_script::Command;
+use ped_transformations::place_of;
 use ped_valid::{OpenRefusal, Opened, open_program};
 use std::alloc::Global;
 use std::marker::Model;
@@ -143,7 +143,8 @@ impl<L: Ledger> Session<L> {
     }
 
     /// Runs the present program in order on the lines of its data. The outcome is also that of each program from which
-    /// it has come by transformations alone, where that one is tidy and runs without a fault and without a race.
+    /// it has come by transformations alone, where that one is tidy and without C$PED REJECT and runs
+    /// without a fault and without a race.
     pub fn run(&self, alloc: Global, input: &[u8]) -> Result<Outcome, NoMemory>
         ensures outcome { IfOk result (λ o. (t : ProgramTree) → ReadsValid self.now.present t → outcome_view o ≡ outcome t input.now) }
         ensures before { IfOk result (λ o. IsAsBefore self.now input.now (outcome_view o)) }
@@ -169,6 +170,27 @@ impl<L: Ledger> Session<L> {
         ensures most { (reply : Reply) (next : State) → IsStep command.now input.now self.old reply next → steps.new ≤ steps.old + tests_of reply next }
         ensures sure { IsMove command.now → is_ok result ≡ true }
     {
+        match place_of(command) {
+            Some(place) => return self.transform(alloc, command, place, steps),
+            None => return self.apply_other(alloc, command, input, steps),
+        }
+    }
+
+    /// Answers a command that takes no step.
+    fn apply_other(
+        &mut self,
+        alloc: Global,
+        command: &Command,
+        input: &[u8],
+        steps: &mut Steps<L>,
+    ) -> Result<Reply, NoMemory>
+        ensures answers { IfOk result (λ reply. IsOther command.now input.now self.old reply self.new) }
+        ensures kept { OnErr result (self.new ≡ self.old) }
+        ensures ticks { IfOk result (λ reply. steps.new ≡ steps.old + tests_of reply self.new) }
+        ensures least { steps.old ≤ steps.new }
+        ensures most { (reply : Reply) (next : State) → IsOther command.now input.now self.old reply next → steps.new ≤ steps.old + tests_of reply next }
+        ensures sure { IsMove command.now → is_ok result ≡ true }
+    {
         match command {
             Command::Source => return self.show_source(alloc),
             Command::Deps(of) => return self.show_dependences(alloc, *of),
@@ -185,12 +207,6 @@ impl<L: Ledger> Session<L> {
             }
             Command::Undo => return Ok(self.undo()),
             Command::Redo => return Ok(self.redo()),
-            Command::Privatise(number, name) => {
-                return self.transform(alloc, &Asked::Privatise(*number, *name), steps);
-            }
-            Command::Expand(number, name) => {
-                return self.transform(alloc, &Asked::Expand(*number, *name), steps);
-            }
             Command::Run(choices) => return self.show_run(alloc, choices.as_slice(), input),
             Command::Races => return self.show_races(alloc, input),
             Command::Tested => return self.show_tested(alloc),
@@ -202,6 +218,8 @@ impl<L: Ledger> Session<L> {
             | Command::Peel { .. }
             | Command::Distribute(_)
             | Command::Fuse(_)
+            | Command::Expand(_, _)
+            | Command::Privatise(_, _)
             | Command::Parallel(_)
             | Command::Serial(_)
             | Command::Reject(_, _) => return Ok(Reply::Refused(Refusal::NotBuilt)),

@@ -1,57 +1,67 @@
-//! Steps: transformations of the present program.
+//! Steps: transformations of the present program, and rejections of its dependences.
 
-ghost use Rattle.std.specs.Prelude.{◌≡◌, ◌+◌, ◌≤◌, IfOk, OnErr};
+ghost use Rattle.std.specs.Prelude.{◌≡◌, ◌+◌, ◌≤◌, Some, IfOk, OnErr};
 ghost use Rattle.ped_tree.specs.Tree.{ProgramTree};
 ghost use Rattle.ped_valid.specs.Validity.{ReadsValid};
+ghost use Rattle.ped_transformations.specs.ped_rules.specs.Steps.{MatchStep};
+ghost use Rattle.ped_transformations.specs.Table.{step_of};
+ghost use Rattle.ped_transformations.specs.CodeKinds.{kind_of, IsPlace};
 ghost use Rattle.ped_session.specs.declared.replies.Reply.{Reply};
 ghost use Rattle.ped_session.specs.States.{State};
-ghost use Rattle.ped_session.specs.Steps.{Transforms};
-ghost use Rattle.ped_session.specs.Changing.{step_at, IsStepAnswer, IsTakeable, Takes, most_tests};
+ghost use Rattle.ped_session.specs.Steps.{Transforms, change_by};
+ghost use Rattle.ped_session.specs.Changing.{IsAnswerTo, IsTakeable, Takes, most_tests};
 ghost use Rattle.ped_session.specs.Scripts.{tests_of};
 
-use crate::asked::Asked;
 use crate::changes::Change;
 use crate::replies::{FirstCause, Refusal, Reply};
 use crate::session::Session;
 use ped_base::NoMemory;
 use ped_graph::ped_verdict::Steps;
-use ped_scalar::ped_flow::flow_of;
-use ped_scalar::ped_steps::{Refused, Scene};
-use ped_scalar::{expand, privatise};
+use ped_script::Command;
+use ped_transformations::ped_flow::flow_of;
+use ped_transformations::ped_steps::{Refused, Scene};
+use ped_transformations::{Kind, Place, every_step_is_lawful};
 use ped_valid::Opened;
 use std::alloc::Global;
 use std::sync::ledger::Ledger;
 
 impl<L: Ledger> Session<L> {
-    /// Takes a step, where the present program has its statement and nothing forbids it.
+    /// Takes the step of a command at its place, where the present program has its statement and nothing forbids it.
     pub(crate) fn transform(
         &mut self,
         alloc: Global,
-        asked: &Asked,
+        command: &Command,
+        place: Place,
         steps: &mut Steps<L>,
     ) -> Result<Reply, NoMemory>
-        ensures answers { IfOk result (λ reply. Transforms (step_at asked.now) self.old reply self.new) }
+        requires { IsPlace (step_of command.now) (Some place) }
+        ensures answers { IfOk result (λ reply. MatchStep (step_of command.now) ⊥ (λ at. Transforms at self.old reply self.new)) }
         ensures kept { OnErr result (self.new ≡ self.old) }
         ensures ticks { IfOk result (λ reply. steps.new ≡ steps.old + tests_of reply self.new) }
         ensures least { steps.old ≤ steps.new }
-        ensures most { (reply : Reply) (next : State) → Transforms (step_at asked.now) self.old reply next → steps.new ≤ steps.old + tests_of reply next }
+        ensures most { (reply : Reply) (next : State) → MatchStep (step_of command.now) ⊥ (λ at. Transforms at self.old reply next) → steps.new ≤ steps.old + tests_of reply next }
     {
-        if !self.graph.has_statement(asked.statement()) {
+        every_step_is_lawful();
+        if !self.graph.has_statement(place.statement) {
             return Ok(Reply::Refused(Refusal::NoSuchStatement));
         }
-        let answer = self.answer(alloc, asked)?;
-        self.take(alloc, answer, steps)
+        let kind = change_of(place.kind);
+        let answer = self.answer(alloc, command, place)?;
+        self.take(alloc, kind, answer, steps)
     }
 
-    /// What the step makes of the present program, or the first cause against it.
+    /// What the step of a command makes of the present program, or the first cause against it.
     fn answer(
         &self,
         alloc: Global,
-        asked: &Asked,
-    ) -> Result<Result<ped_scalar::ped_steps::Change, Refused>, NoMemory>
-        ensures answers { IfOk result (IsStepAnswer (step_at asked.now) self.now) }
-        ensures takeable { IfOk result (IsTakeable self.now) }
+        command: &Command,
+        place: Place,
+    ) -> Result<Result<ped_transformations::ped_steps::Change, Refused>, NoMemory>
+        requires { IsPlace (step_of command.now) (Some place) }
+        ensures answers { IfOk result (IsAnswerTo command.now (change_by (kind_of place.kind)) self.now) }
+        ensures takeable { IfOk result (IsTakeable (change_by (kind_of place.kind)) self.now) }
     {
+        every_step_is_lawful();
         let present = &self.present;
         let flow = flow_of(alloc, &present.program)?;
         let scene = Scene {
@@ -60,25 +70,24 @@ impl<L: Ledger> Session<L> {
             graph: &self.graph,
             flow: &flow,
         };
-        match asked {
-            Asked::Privatise(number, name) => {
-                return privatise(alloc, &scene, *number, name);
+        match ped_transformations::answer(alloc, &scene, command)? {
+            Some(answer) => {
+                return Ok(answer);
             }
-            Asked::Expand(number, name) => {
-                return expand(alloc, &scene, *number, name);
-            }
+            None => unreachable!(),
         }
     }
 
-    /// Takes what a step answers: its program becomes the present one, or its cause is the reply.
+    /// Takes what a step answers: its program becomes the present one by a change of this kind, or its cause is the reply.
     fn take(
         &mut self,
         alloc: Global,
-        answer: Result<ped_scalar::ped_steps::Change, Refused>,
+        kind: Change,
+        answer: Result<ped_transformations::ped_steps::Change, Refused>,
         steps: &mut Steps<L>,
     ) -> Result<Reply, NoMemory>
-        requires { IsTakeable self.old answer }
-        ensures answers { IfOk result (λ reply. Takes answer self.old reply self.new) }
+        requires { IsTakeable kind self.old answer }
+        ensures answers { IfOk result (λ reply. Takes kind answer self.old reply self.new) }
         ensures kept { OnErr result (self.new ≡ self.old) }
         ensures ticks { IfOk result (λ reply. steps.new ≡ steps.old + tests_of reply self.new) }
         ensures least { steps.old ≤ steps.new }
@@ -90,9 +99,19 @@ impl<L: Ledger> Session<L> {
                     program: change.tree,
                     symbols: change.symbols,
                 };
-                return self.change(alloc, new, &change.keep, Change::Transformation, steps);
+                return self.change(alloc, new, &change.keep, kind, steps);
             }
             Err(refused) => return Ok(Reply::Refused(Refusal::Step(FirstCause::new(refused)))),
         }
+    }
+}
+
+/// How the history takes down a step of a kind.
+fn change_of(kind: Kind) -> Change
+    ensures { result ≡ change_by (kind_of kind) }
+{
+    match kind {
+        Kind::Transformation => Change::Transformation,
+        Kind::Rejection => Change::Rejection,
     }
 }

@@ -65,7 +65,7 @@ module _ (gap : Gap) (old : StmtTrees) (t : ProgramTree) (body : t.body ≡ fill
     stand = λ data_bytes free scope front behind u x goes.
         same_stands (acts_of scope u) (acts_of scope u) (wants (shown_at_end t) (acts_of scope u ++ behind)) (wants (shown_at_end t) behind) u (own_names (of_cells (touches_of (acts_of scope u)))) ((all_told p old l scope).fits u)
         (needed_wanted (shown_at_end t) (acts_of scope u) behind) (wanted_before (shown_at_end t) (acts_of scope u) behind);
-    free = λ data_bytes free parts is exchanged h. subst (λ (acts : List Act). HasNoRace (accesses acts)) (sym (same_parts (store_at_start (lines data_bytes)) [] parts [] (store_at_start (lines data_bytes)) exchanged)) h;
+    free = λ data_bytes free parts is same exchanged h. subst (λ (acts : List Act). HasNoRace (accesses acts)) (sym (same_parts (store_at_start (lines data_bytes)) [] parts [] (store_at_start (lines data_bytes)) exchanged)) h;
   }
 
   -- so it keeps its own meaning

@@ -105,7 +105,7 @@ module _ (t u : ProgramTree) (saved : flat_map saved_in u.decls ≡ flat_map sav
   shown_alike (stopped v) = ap (outcomes.Ended (lines_in (v cells.Out))) (rows v)
   shown_alike (failed fault n) = refl
 
--- a new program whose run is made of parts, which stand for those of the old one and make no race
+-- a new program whose run is made of parts, which stand for those of the old one and make no race where they are its acts
 pub record IsMadeAnew (t u : ProgramTree) : Type 0 where
   pub saved : flat_map saved_in u.decls ≡ flat_map saved_in t.decls
   pub kinds : (x : List ℕ) → is_among x (live_names t) ≡ true → kind_in u x ≡ kind_in t x
@@ -118,7 +118,7 @@ pub record IsMadeAnew (t u : ProgramTree) : Type 0 where
   pub old_are : (data_bytes : List ℕ) (free : IsRaceFree t data_bytes) → old_parts (parts data_bytes free) ≡ (run_of t data_bytes).acts
   pub stand : (data_bytes : List ℕ) (free : IsRaceFree t data_bytes) → PartsStandBy (agreed data_bytes) (parts data_bytes free) (store_at_start (lines data_bytes))
   pub replays : (data_bytes : List ℕ) (free : IsRaceFree t data_bytes) → Replays (run_all (renumbered counted (setting_of u)) u.body 1 []) (new_parts (parts data_bytes free)) (finish_of (run_of t data_bytes).ending)
-  pub free : (data_bytes : List ℕ) (free : IsRaceFree t data_bytes) → HasNoRace (accesses (old_parts (parts data_bytes free))) → HasNoRace (accesses (new_parts (parts data_bytes free)))
+  pub free : (data_bytes : List ℕ) (free : IsRaceFree t data_bytes) → new_parts (parts data_bytes free) ≡ (run_all (renumbered counted (setting_of u)) u.body 1 [] (store_at_start (lines data_bytes))).acts → HasNoRace (accesses (old_parts (parts data_bytes free))) → HasNoRace (accesses (new_parts (parts data_bytes free)))
 
 module _ (t u : ProgramTree) (x : IsMadeAnew t u) where
   abbrev p : Setting
@@ -173,7 +173,7 @@ module _ (t u : ProgramTree) (x : IsMadeAnew t u) where
     new_free =
         no_race_back x.counted x.told x.back (run_of u data_bytes).acts (run_all q u.body 1 [] start).acts moved.acts
         (subst (λ (r : Run). HasNoRace (accesses r.acts)) (sym new_run)
-        (x.free data_bytes free (subst (λ (acts : List Act). HasNoRace (accesses acts)) (sym (x.old_are data_bytes free)) free.1)))
+        (x.free data_bytes free (sym (ap (λ (r : Run). r.acts) new_run)) (subst (λ (acts : List Act). HasNoRace (accesses acts)) (sym (x.old_are data_bytes free)) free.1)))
 
   made_keeps : Keeps t u
   made_keeps = record { saved = x.saved; same = outcome_kept; race_free = λ data_bytes free. (new_ends data_bytes free, new_free data_bytes free) }
@@ -200,7 +200,7 @@ module _ (gap : Gap) (old new : StmtTrees) (t u : ProgramTree) where
     stand = λ data_bytes free.
         all_stand (x.agreed data_bytes) (setting_of t) t (from data_bytes) l (statements_count old) (run_all (setting_of t) old l) (x.fresh data_bytes) (x.stand data_bytes free) (made data_bytes free).0 (made data_bytes free).2;
     replays = λ data_bytes free. (made data_bytes free).3;
-    free = λ data_bytes free. x.free data_bytes free (made data_bytes free).0 (made data_bytes free).1 (made data_bytes free).2;
+    free = λ data_bytes free same. x.free data_bytes free (made data_bytes free).0 (made data_bytes free).1 same (made data_bytes free).2;
   })
     where
       made : (data_bytes : List ℕ) → IsRaceFree t data_bytes
@@ -223,7 +223,7 @@ module _ (gap : Gap) (old new : StmtTrees) (t u : ProgramTree) where
         all_stand_near (shown_at_end t) (x.agreed data_bytes) (x.suit data_bytes) names apart (setting_of t) t (from data_bytes) l (statements_count old) (run_all (setting_of t) old l) (x.fresh data_bytes)
         (x.stand data_bytes free) (x.asked data_bytes free) (made data_bytes free).0 (made data_bytes free).2;
     replays = λ data_bytes free. (made data_bytes free).3;
-    free = λ data_bytes free. x.free data_bytes free (made data_bytes free).0 (made data_bytes free).1 (made data_bytes free).2;
+    free = λ data_bytes free same. x.free data_bytes free (made data_bytes free).0 (made data_bytes free).1 (made data_bytes free).2;
   })
     where
       made : (data_bytes : List ℕ) → IsRaceFree t data_bytes

@@ -1,5 +1,5 @@
 -- Acts that are done elsewhere: those of other statements in the same iterations, and those of other iterations of a DO. They leave copies alone, too.
-use Rattle.std.proofs.Common.{◌≡◌, ℕ, zero, suc, ◌+◌, ◌≤◌, ◌<◌, List, [], ◌∷◌, ◌++◌, ◌⊎◌, inl, inr, sym, ap, ◌∙◌, append_assoc, arith}
+use Rattle.std.proofs.Common.{◌≡◌, ℕ, zero, suc, ◌+◌, ◌≤◌, ◌<◌, List, [], ◌∷◌, ◌++◌, ◌⊎◌, inl, inr, refl, sym, ap, ◌∙◌, append_assoc, arith}
 use Rattle.ped_tree.specs.Tree.{Head, StmtTree, StmtTrees, ProgramTree}
 use Rattle.ped_tree.specs.Numbering.{numbered, all_numbered, statement_count, statements_count}
 use Rattle.ped_steps.specs.ped_laws.specs.ped_store.specs.Stores.{Store}
@@ -117,7 +117,7 @@ module _ (p : Setting) where
 
   module _ (one : IsOneToOne p.number) where
     pub left_own : (S : Scope) (n lo count : ℕ) (step : Step) (touches : List Touch) → n < lo → Each (λ (t : Touch). IsOwn p S t.cell) touches → LeaveAll p S lo count (act step (place_of p n S) touches ∷ [])
-    left_own S n lo count step touches before own = (own_leaves p S lo count step (place_of p n S) touches own, places_of_one p one S S n lo count step touches (inl before))
+    left_own S n lo count step touches before own = (own_leaves p S lo count step (place_of p n S) refl touches own, places_of_one p one S S n lo count step touches (inl before))
 
     pub left_run : (t : ProgramTree) (x : StmtTree) (n : ℕ) (S : Scope) (s : Store) (lo count : ℕ) → Stand t n (numbered x) → (n + statement_count x ≤ lo) ⊎ (lo + count ≤ n) → LeaveAll p S lo count (run p x n S s).acts
     left_run t x n S s lo count stand apart = (run_leaves p one x n S s lo count apart, places_of_others p one t n (statement_count x) lo count S (run p x n S s).acts apart (run_in p t x n S s stand))
@@ -136,10 +136,10 @@ module _ (p : Setting) where
       left_body i j s lo count other = (body_leaves p n h b seen m S i j s lo count other, body_places p one n h b seen m S i j s lo count other)
 
       pub left_end : (i lo count : ℕ) (step : Step) (touches : List Touch) → n < lo → Each (λ (t : Touch). IsOwn p S t.cell) touches → LeaveAll p (In i) lo count (act step (place_of p n S) touches ∷ [])
-      left_end i lo count step touches before own = (end_leaves p n h b seen m S i lo count step (place_of p n S) touches own, places_of_one p one S (In i) n lo count step touches (inl before))
+      left_end i lo count step touches before own = (end_leaves p n h b seen m S i lo count step (place_of p n S) refl touches own, places_of_one p one S (In i) n lo count step touches (inl before))
 
       pub left_turns : (left k : ℕ) (s : Store) (i lo count : ℕ) → i < k → n < lo → LeaveAll p (In i) lo count (turns left k (entered_with p n h b seen m) S (place_of p n S) Trip s).acts
-      left_turns left k s i lo count earlier before = (turns_leave p n h b seen m S (place_of p n S) left k s i lo count earlier, turns_places p one n h b seen m S left k s i lo count earlier before)
+      left_turns left k s i lo count earlier before = (turns_leave p n h b seen m S (place_of p n S) refl left k s i lo count earlier, turns_places p one n h b seen m S left k s i lo count earlier before)
 
       pub left_parallel : (left k : ℕ) (s : Store) (i lo count : ℕ) → i < k → LeaveAll p (In i) lo count (parallel_turns left k (entered_with p n h b seen m) Trip s).acts
       left_parallel left k s i lo count earlier = (parallel_leave p n h b seen m S left k s i lo count earlier, parallel_places p one n h b seen m S left k s i lo count earlier)

@@ -25,7 +25,7 @@ none_where true b f h = absurd (both_ways b h (f refl))
 
 module _ (p : Setting) (scope : Scope) (l count : ℕ) (c : Cell) (copy : IsCopyInside p scope l count c) where
   left_untouched : (acts : List Act) → LeaveCopies p scope l count acts → touch acts c ≡ false
-  left_untouched acts leave = untouched_acts c acts (λ a i t j e. leave a i t j (record { name = copy.name; statement = copy.statement; from = copy.from; to = copy.to; number = copy.number; rest = copy.rest; is = e ∙ copy.is }))
+  left_untouched acts leave = untouched_acts c acts (λ a i t j e. (leave a i).0 t j (record { name = copy.name; statement = copy.statement; from = copy.from; to = copy.to; number = copy.number; rest = copy.rest; is = e ∙ copy.is }))
 
   no_copy_at_start : (ls : List (List ℕ)) → store_at_start ls c ≡ Undefined
   no_copy_at_start ls = ap (store_at_start ls) copy.is

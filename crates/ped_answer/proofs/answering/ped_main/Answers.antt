@@ -54,7 +54,7 @@ pub returns-in-Ok-clause-runs : goal.returns-in-Ok-clause-runs
 returns-in-Ok-clause-runs g c = λ files told before taken whole.
     let o = returns-in-Ok-clause-answer g c files told before taken in
     let failed : List ℕ → Type 0 = λ (name : List ℕ). Rose (g.F.Shelf.count c.args.shelf.now name) (g.F.Shelf.count c.serve.new.shelf name) in
-    (o.0, o.1, sent_runs _ files failed _ o.0 c.serve.result whole o.2)
+    (o.0, o.1, sent_runs c.runs_are_as_before.ensures _ files failed _ o.0 c.serve.result whole o.2)
 
 pub returns-in-Ok-clause-counts : goal.returns-in-Ok-clause-counts
 returns-in-Ok-clause-counts g c = (served g c).rises

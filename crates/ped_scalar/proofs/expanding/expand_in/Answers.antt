@@ -1,13 +1,13 @@
 use Rattle.std.proofs.Common.{ℕ, ℤ, List, IsTrue, sym, ap, ◌∙◌, subst}
 use Rattle.ped_tree.specs.Views.{program_tree, stmt_trees}
 use Rattle.ped_tree.specs.Views.{head_of}
-use Rattle.ped_tidy.specs.ped_steps.specs.ped_symbols.specs.Kinds.{Table, table_of}
-use Rattle.ped_tidy.specs.ped_steps.specs.ped_symbols.specs.RightUses.RightLoops.{step_is_right}
-use Rattle.ped_tidy.specs.ped_steps.specs.declared.rules.Rule.TheVariants.{ParallelState, Range}
-use Rattle.ped_scalar.specs.Expanding.{span_of}
-use Rattle.ped_scalar.specs.CodeSpans.{IsCourse}
-use Rattle.ped_scalar.specs.declared.spans.Course.TheVariants.{Far, Near, Unknown}
-use Rattle.ped_scalar.proofs.Steps.{right_step, near_spans}
+use Rattle.ped_rules.specs.ped_steps.specs.ped_symbols.specs.Kinds.{Table, table_of}
+use Rattle.ped_rules.specs.ped_steps.specs.ped_symbols.specs.RightUses.RightLoops.{step_is_right}
+use Rattle.ped_rules.specs.ped_steps.specs.declared.rules.Rule.TheVariants.{ParallelState, Range}
+use Rattle.ped_rules.specs.Spans.{span_of}
+use Rattle.ped_rules.specs.CodeSpans.{IsCourse}
+use Rattle.ped_rules.specs.declared.spans.Course.TheVariants.{Far, Near, Unknown}
+use Rattle.ped_rules.proofs.RightSteps.{right_step, near_spans}
 use Rattle.ped_scalar.proofs.FirstAgainstExpanding as first
 use Rattle.ped_scalar.proofs.expanding.expand_in.Goals as goal
 

@@ -1,13 +1,13 @@
 use Rattle.std.proofs.Common.{◌≡◌, Option, Some, None, sym, ap, ◌∙◌, subst}
 use Rattle.ped_tree.specs.Views.{program_tree, stmt_trees}
-use Rattle.ped_tidy.specs.ped_steps.specs.ped_refs.specs.Loops.{nest_of}
+use Rattle.ped_rules.specs.ped_steps.specs.ped_refs.specs.Loops.{nest_of}
 use Rattle.ped_tree.specs.Views.{head_of}
-use Rattle.ped_tidy.specs.ped_steps.specs.ped_symbols.specs.Kinds.{table_of}
-use Rattle.ped_tidy.specs.ped_steps.specs.declared.rules.Rule.TheVariants.{ExposedOrLive, NotScalar, NotConstant}
-use Rattle.ped_tidy.specs.ped_steps.proofs.Answering.{few_numbers}
-use Rattle.ped_scalar.specs.Expanding.{span_of}
-use Rattle.ped_scalar.specs.CodeSpans.{IsKnown, span_in}
-use Rattle.ped_scalar.specs.declared.spans.Span.{Span as CodeSpan}
+use Rattle.ped_rules.specs.ped_steps.specs.ped_symbols.specs.Kinds.{table_of}
+use Rattle.ped_rules.specs.ped_steps.specs.declared.rules.Rule.TheVariants.{ExposedOrLive, NotScalar, NotConstant}
+use Rattle.ped_rules.specs.ped_steps.proofs.Answering.{few_numbers}
+use Rattle.ped_rules.specs.Spans.{span_of}
+use Rattle.ped_rules.specs.CodeSpans.{IsKnown, span_in}
+use Rattle.ped_rules.specs.declared.spans.Span.{Span as CodeSpan}
 use Rattle.ped_scalar.proofs.FlowAnswers.{fit_scalar}
 use Rattle.ped_scalar.proofs.FirstAgainstExpanding as first
 use Rattle.ped_scalar.proofs.expanding.expand_known.Goals as goal

@@ -1,56 +1,36 @@
-use Rattle.std.proofs.Common.{ap, sym, subst}
-use Rattle.std.proofs.lemmas.Result.{IfOk-weaker}
-use Rattle.ped_scalar.specs.ped_steps.proofs.Answering.{few_numbers}
-use Rattle.ped_session.specs.declared.asked.Asked.{Asked}
-use Rattle.ped_session.specs.declared.asked.Asked.TheVariants.{Privatise, Expand}
+use Rattle.std.proofs.Common.{ap, subst}
+use Rattle.ped_transformations.specs.ped_steps.proofs.Answering.{few_numbers}
+use Rattle.ped_transformations.specs.ped_rules.specs.Steps.{StepKind, StepAt, Answers}
+use Rattle.ped_transformations.specs.Table.{step_of}
+use Rattle.ped_transformations.proofs.ByPlace.{some_then, out_of_some}
+use Rattle.ped_session.specs.declared.changes.Change.{Change}
 use Rattle.ped_session.specs.Holding.{tree_of}
 use Rattle.ped_session.specs.States.{State}
-use Rattle.ped_session.specs.Changing.{step_at, IsStepAnswer}
-use Rattle.ped_session.proofs.Lawful.{lawful_step}
-use Rattle.ped_session.proofs.Stepping.{answers_privatising, answers_expanding, answered, takeable}
+use Rattle.ped_session.specs.Steps.{change_by}
+use Rattle.ped_session.specs.Changing.{IsTakeable}
+use Rattle.ped_session.proofs.Stepping.{answered, takeable}
 use Rattle.ped_session.proofs.session.Session.answer.Goals as goal
 
 pub flow_of-requires : goal.flow_of-requires
 flow_of-requires g c = few_numbers (tree_of c.self.inside.present) c.self.invariant.version.valid
 
-pub returns-in-Privatise-clause-answers : goal.returns-in-Privatise-clause-answers
-returns-in-Privatise-clause-answers g c =
+pub returns-in-Some-clause-answers : goal.returns-in-Some-clause-answers
+returns-in-Some-clause-answers g c =
     let v = c.self.inside.present in
     let s = c.args.self.now in
-    let number = c.in-Privatise.number in
-    let name = c.in-Privatise.name in
-    IfOk-weaker c.privatise.result _ _ (λ answer h.
-    subst (λ (asked : Asked). IsStepAnswer (step_at asked) s answer) (sym c.in-Privatise.is)
-    (answered (step_at (Privatise number name)) v s c.self.invariant.version (ap (λ (u : State). u.present) c.self.view_is) answer (answers_privatising (tree_of v) number name answer h)))
-    c.privatise.ensures
+    some_then c.args.place (step_of c.args.command.now) ⊥ ⊥ (λ at. Answers at (tree_of v) c.in-Some.answer) _ c.requires c.in_ok-answer.ensures
+    (λ at is h. (ap change_by is.1, answered at v s c.self.invariant.version (ap (λ (u : State). u.present) c.self.view_is) c.in-Some.answer h))
 
-pub returns-in-Privatise-clause-takeable : goal.returns-in-Privatise-clause-takeable
-returns-in-Privatise-clause-takeable g c =
-    let v = c.self.inside.present in
-    let number = c.in-Privatise.number in
-    let name = c.in-Privatise.name in
-    let at = Privatise number name in
-    IfOk-weaker c.privatise.result _ _ (λ answer h.
-    takeable (step_at at) v c.args.self.now c.self.invariant.version (ap (λ (u : State). u.present) c.self.view_is) (lawful_step at) answer (answers_privatising (tree_of v) number name answer h))
-    c.privatise.ensures
-
-pub returns-in-Expand-clause-answers : goal.returns-in-Expand-clause-answers
-returns-in-Expand-clause-answers g c =
+pub returns-in-Some-clause-takeable : goal.returns-in-Some-clause-takeable
+returns-in-Some-clause-takeable g c =
     let v = c.self.inside.present in
     let s = c.args.self.now in
-    let number = c.in-Expand.number in
-    let name = c.in-Expand.name in
-    IfOk-weaker c.expand.result _ _ (λ answer h.
-    subst (λ (asked : Asked). IsStepAnswer (step_at asked) s answer) (sym c.in-Expand.is)
-    (answered (step_at (Expand number name)) v s c.self.invariant.version (ap (λ (u : State). u.present) c.self.view_is) answer (answers_expanding (tree_of v) number name answer h)))
-    c.expand.ensures
+    let found = c.in_ok-answer.ensures in
+    out_of_some c.args.place (step_of c.args.command.now) ⊥ ⊥ _ (λ at. Answers at (tree_of v) c.in-Some.answer) (λ at. Answers at (tree_of v) c.in-Some.answer) (c.every_step_is_lawful.ensures c.args.command.now) c.requires found found
+    (λ at lawful is h same. subst (λ (k : Change). IsTakeable k s c.in-Some.answer) (ap change_by is.1)
+    (takeable at v s c.self.invariant.version (ap (λ (u : State). u.present) c.self.view_is) lawful c.in-Some.answer h))
 
-pub returns-in-Expand-clause-takeable : goal.returns-in-Expand-clause-takeable
-returns-in-Expand-clause-takeable g c =
-    let v = c.self.inside.present in
-    let number = c.in-Expand.number in
-    let name = c.in-Expand.name in
-    let at = Expand number name in
-    IfOk-weaker c.expand.result _ _ (λ answer h.
-    takeable (step_at at) v c.args.self.now c.self.invariant.version (ap (λ (u : State). u.present) c.self.view_is) (lawful_step at) answer (answers_expanding (tree_of v) number name answer h))
-    c.expand.ensures
+pub unreachable-requires : goal.unreachable-requires
+unreachable-requires g c =
+    let found = c.in_ok-answer.ensures in
+    out_of_some c.args.place (step_of c.args.command.now) _ _ ⊥ (λ at. ⊥) (λ at. ⊥) (c.every_step_is_lawful.ensures c.args.command.now) c.requires found found (λ at lawful is h same. h)

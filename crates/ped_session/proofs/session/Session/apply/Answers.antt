@@ -1,19 +1,22 @@
-use Rattle.std.proofs.Common.{subst}
+use Rattle.std.proofs.Common.{inl, inr, is_ok}
 use Rattle.std.proofs.lemmas.Result.{IfOk-weaker}
-use Rattle.ped_script.specs.declared.items.Command.{Command}
-use Rattle.ped_session.specs.Steps.{IsStep}
-use Rattle.ped_session.proofs.Shown.{untested_dependences}
+use Rattle.ped_transformations.specs.Table.{step_of}
+use Rattle.ped_transformations.proofs.ByPlace.{with_none, from_none, some_then}
+use Rattle.ped_session.specs.Steps.{Transforms, IsOther}
 use Rattle.ped_session.proofs.session.Session.apply.Goals as goal
 
-pub returns-in-Deps-clause-ticks : goal.returns-in-Deps-clause-ticks
-returns-in-Deps-clause-ticks g c =
-    let s = c.args.self.now in
-    IfOk-weaker c.show_dependences.result _ _ (λ reply shows. untested_dependences c.in-Deps.of c.args.input.now s s reply s c.args.steps.now (shows c.args.input.now)) c.show_dependences.ensures
+pub returns-in-Some-clause-answers : goal.returns-in-Some-clause-answers
+returns-in-Some-clause-answers g c =
+    IfOk-weaker c.transform.result _ _ (λ reply h. some_then c.in-Some.place (step_of c.args.command.now) ⊥ _ _ _ c.place_of.ensures h (λ at is q. q)) c.transform.ensures.answers
 
-pub returns-in-Privatise-clause-most : goal.returns-in-Privatise-clause-most
-returns-in-Privatise-clause-most g c reply next h =
-    c.transform.ensures.most reply next (subst (λ (command : Command). IsStep command c.args.input.now c.args.self.now reply next) c.in-Privatise.is h)
+pub returns-in-Some-clause-most : goal.returns-in-Some-clause-most
+returns-in-Some-clause-most g c reply next h =
+    c.transform.ensures.most reply next (some_then c.in-Some.place (step_of c.args.command.now) _ ⊥ _ _ c.place_of.ensures h (λ at is q. q))
 
-pub returns-in-Expand-clause-most : goal.returns-in-Expand-clause-most
-returns-in-Expand-clause-most g c reply next h =
-    c.transform-in-Expand.ensures.most reply next (subst (λ (command : Command). IsStep command c.args.input.now c.args.self.now reply next) c.in-Expand.is h)
+pub returns-in-None-clause-answers : goal.returns-in-None-clause-answers
+returns-in-None-clause-answers g c =
+    IfOk-weaker c.apply_other.result _ _ (λ reply h. with_none (step_of c.args.command.now) _ (λ at. Transforms at c.args.self.now reply c.apply_other.new.self) c.place_of.ensures h) c.apply_other.ensures.answers
+
+pub returns-in-None-clause-most : goal.returns-in-None-clause-most
+returns-in-None-clause-most g c reply next h =
+    c.apply_other.ensures.most reply next (from_none (step_of c.args.command.now) _ (λ at. Transforms at c.args.self.now reply next) c.place_of.ensures h)

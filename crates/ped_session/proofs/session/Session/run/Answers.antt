@@ -20,5 +20,5 @@ returns-clause-before g c =
     let v = c.self.inside.present in
     let text = ap (λ (u : State). u.present) c.self.view_is in
     let kept = kept_in v c.self.inside.graph c.self.inside.history.past c.self.inside.history.future c.self.invariant c.args.self.now c.self.inside.tested c.self.view_is in
-    IfOk-weaker c.run_in_order.result _ _ (λ o is earlier t comes from tidy free.
-    is ∙ as_before c.args.self.now c.args.input.now (tree_of v) kept (reads_version v c.self.invariant.version c.args.self.now.present text) earlier t comes from tidy free) c.run_in_order.ensures
+    IfOk-weaker c.run_in_order.result _ _ (λ o is earlier t comes from trusted free.
+    is ∙ as_before c.args.self.now c.args.input.now (tree_of v) kept (reads_version v c.self.invariant.version c.args.self.now.present text) earlier t comes from trusted free) c.run_in_order.ensures

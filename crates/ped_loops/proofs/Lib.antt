@@ -1,0 +1,16 @@
+mod FlagRules
+mod FlaggedLoops
+mod FlagsLawful
+pub mod RejectRules
+mod FlagAnswers
+mod RejectedTrees
+mod RejectAnswers
+mod TurnedCounts
+mod Contained
+mod ReverseRules
+mod OneHead
+mod ReversedLoops
+mod ReversedNames
+mod ReversalLawful
+mod ReverseAnswers
+pub mod Determined

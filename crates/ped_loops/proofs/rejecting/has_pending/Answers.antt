@@ -1,0 +1,13 @@
+use Rattle.std.proofs.Common.{ap, ◌∙◌}
+use Rattle.ped_tree.specs.Views.{program_tree}
+use Rattle.ped_rules.specs.ped_steps.specs.ped_laws.specs.ped_graph.specs.ped_edges.specs.CodeEdges.{edge_of}
+use Rattle.ped_loops.proofs.RejectRules.{found_at}
+use Rattle.ped_loops.proofs.rejecting.has_pending.Goals as goal
+
+pub returns : goal.returns
+returns g c =
+    let t = program_tree c.args.scene.now.tree.now in
+    let s = c.args.number in
+    let x = c.args.name.now in
+    let found = c.in_ok-edges.ensures.edges t c.requires.graph in
+    (found.0, found.1, c.is_some_pending.ensures ∙ found_at edge_of t s c.in_ok-level.level x found.0 c.in_ok-edges.edges.items c.in_ok-level.ensures found.2)

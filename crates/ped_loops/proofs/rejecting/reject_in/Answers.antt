@@ -1,0 +1,33 @@
+use Rattle.std.proofs.Common.{sym, ◌∙◌}
+use Rattle.ped_tree.specs.Views.{program_tree, stmt_trees, head_of}
+use Rattle.ped_rules.specs.ped_steps.specs.declared.rules.Rule.TheVariants.{NothingToReject, Limit}
+use Rattle.ped_loops.proofs.RejectRules as rules
+use Rattle.ped_loops.proofs.RejectAnswers.{refused, accepted}
+use Rattle.ped_loops.proofs.rejecting.reject_in.Goals as goal
+
+pub returns-then-branch : goal.returns-then-branch
+returns-then-branch g c =
+    let t = program_tree c.args.scene.now.tree.now in
+    let s = c.args.number in
+    let x = c.args.name.now in
+    let found = c.in_ok-has_pending.ensures in
+    let none = rules.nothing_pending s x t found.0 found.1 (sym found.2 ∙ c.if-branch.true) in
+    refused t s x NothingToReject s c.against.result c.against.ensures (rules.nothing_first s x t (head_of c.args.d.now) (stmt_trees c.args.d.now.body.items) c.requires.is none)
+
+pub returns-in-Some : goal.returns-in-Some
+returns-in-Some g c =
+    let t = program_tree c.args.scene.now.tree.now in
+    let s = c.args.number in
+    let x = c.args.name.now in
+    let found = c.in_ok-has_pending.ensures in
+    let some = rules.some_pending s x t found.0 found.1 (sym found.2 ∙ c.if-branch.false) in
+    accepted t s x c.in-Some.change (rules.nothing_stands s x t (head_of c.args.d.now) (stmt_trees c.args.d.now.body.items) c.requires.is some c.in-Some.ensures.valid) c.in-Some.ensures
+
+pub returns-in-None : goal.returns-in-None
+returns-in-None g c =
+    let t = program_tree c.args.scene.now.tree.now in
+    let s = c.args.number in
+    let x = c.args.name.now in
+    let found = c.in_ok-has_pending.ensures in
+    let some = rules.some_pending s x t found.0 found.1 (sym found.2 ∙ c.if-branch.false) in
+    refused t s x Limit s c.against-in-None.result c.against-in-None.ensures (rules.limit_first s x t (head_of c.args.d.now) (stmt_trees c.args.d.now.body.items) c.requires.is some c.in-None.ensures)

@@ -1,0 +1,13 @@
+mod Acting
+mod Answering
+mod Copying
+mod Growing
+mod OpenLefts
+mod OpenSteps
+mod Opening
+mod PartsLeft
+mod Reaching
+mod Starting
+mod Resting
+mod Stepped
+mod Turning

@@ -1,0 +1,17 @@
+use Rattle.std.proofs.Common.{◌≡◌}
+use Rattle.ped_eval.specs.Outcomes.{setting_of}
+use Rattle.ped_interleavings.specs.Interleavings.{IsReached}
+use Rattle.ped_interleavings.specs.Weights.{left_weight}
+use Rattle.ped_machine.specs.Machines.{standing}
+use Rattle.ped_machine.specs.Roots.{held, IsSafe}
+use Rattle.ped_machine.proofs.machine.Machine.run.Given as goal
+
+abbrev pub invariant-loop : goal.invariant-loop
+invariant-loop l = record {
+  safe : IsSafe l.self;
+  tree : (held l.self).tree ≡ (held l.initial.self).tree;
+  reached : IsReached (setting_of (held l.initial.self).tree) (standing (held l.initial.self) l.choices) (standing (held l.self) l.left);
+}
+
+abbrev pub decreases-loop : goal.decreases-loop
+decreases-loop l = left_weight (held l.self).left

@@ -1,0 +1,24 @@
+use Rattle.std.proofs.Common.{◌≡◌, ◌≤◌, ◌<◌, ℕ, List, drop, length, refl, sym, ap, subst, ◌∙◌}
+use Rattle.std.proofs.lemmas.List.{drop_all}
+use Rattle.std.specs.List.{list_all}
+use Rattle.ped_store.specs.Memories.{Memory}
+use Rattle.ped_store.specs.Keeping.{memory_of}
+use Rattle.ped_eval.specs.Scopes.{cell_of}
+use Rattle.ped_eval.specs.Agreement.{is_copy}
+use Rattle.ped_machine.proofs.Copying.{one_of_all, all_of_one}
+use Rattle.ped_machine.proofs.Growing.{room_twice, grown_twice}
+use Rattle.ped_machine.proofs.turns.open_copies.Goals as goal
+
+pub loop-name-preserved : goal.loop-name-preserved
+loop-name-preserved c =
+    let r = c.loop-name.invariant in
+    let at = c.args.scope.now in
+    let x : List ℕ = c.name-item.result in
+    let i = c.loop-name.name-index in
+    record {
+      room = room_twice _ _ _ r.room c.in_ok-open_copy.ensures.room;
+      copies = (one_of_all (λ y. is_copy (cell_of at y)) c.args.names.now i x c.loop-name-test.true c.name-item.is r.copies).1;
+      stand = λ m g h.
+          r.stand m (grown_twice _ _ _ c.in_ok-open_copy.ensures.room.grown g)
+          (all_of_one (λ y. m.stands (cell_of at y)) c.args.names.now i x c.loop-name-test.true c.name-item.is (g.stands (cell_of at x) c.in_ok-open_copy.ensures.stands) h);
+    }

@@ -1,0 +1,12 @@
+pub use Rattle.ped_tree
+pub use Rattle.ped_eval
+pub use Rattle.ped_interleavings
+pub mod Doing
+pub mod Machines
+pub mod Parts
+pub mod Growth
+pub mod Levels
+pub mod Opens
+pub mod Rests
+pub mod Roots
+pub mod Stepping

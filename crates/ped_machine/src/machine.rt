@@ -1,0 +1,188 @@
+//! The machine.
+
+ghost use Rattle.std.specs.Prelude.{◌≡◌, ◌<◌, ◌∷◌, [], ℕ, List, None, drop, Ok, IfOk, OnErr};
+ghost use Rattle.ped_tree.specs.Views.{program_tree, stmt_trees};
+ghost use Rattle.ped_symbols.specs.Kinds.{table_of};
+ghost use Rattle.ped_symbols.specs.NameRefusals.{IsValid};
+ghost use Rattle.ped_eval.specs.Outcomes.{setting_of};
+ghost use Rattle.ped_eval.specs.OutcomeViews.{outcome_view};
+ghost use Rattle.ped_interleavings.specs.Lefts as Lefts;
+ghost use Rattle.ped_interleavings.specs.Steps as Steps;
+ghost use Rattle.ped_interleavings.specs.Interleavings.{IsInterleavedFrom, at_start, choice};
+ghost use Rattle.ped_interleavings.specs.Weights.{left_weight};
+ghost use Rattle.ped_machine.specs.Parts.{parts_of};
+ghost use Rattle.ped_machine.specs.Machines.{standing, IsSameRun, IsStepBy, IfFaultless, ReachesSome};
+ghost use Rattle.ped_machine.specs.Roots.{held, IsSafe};
+ghost use Rattle.ped_machine.specs.declared.steps.Step.TheVariants as step;
+
+use crate::levels::Level;
+use crate::parts::{Part, Parts};
+use crate::rests::Rest;
+use crate::steps::{Done, Step};
+use crate::works::Never;
+use ped_base::NoMemory;
+use ped_eval::{Outcome, State, ended, start};
+use ped_interleavings::lighter;
+use ped_symbols::Symbols;
+use ped_symbols::right_uses::right_where_valid;
+use ped_tree::Program;
+use std::alloc::Global;
+
+/// An iteration of an outermost PARALLEL DO: DO loops stand at most six deep in one another.
+type Outermost<'a> = Level<'a, Level<'a, Level<'a, Level<'a, Level<'a, Level<'a, Never>>>>>>;
+
+/// A run of a program whose PARALLEL DO loops go on in any order, as choices pick it. Contracts see the program, what is left
+/// of the run, and its store. Iterations that wait or are finished take no memory, but private copies stay until the run ends.
+#[derive(Drop)]
+pub struct Machine<'a> {
+    alloc: Global,
+    program: &'a Program,
+    symbols: &'a Symbols,
+    state: State,
+    rest: Rest<'a, Outermost<'a>>,
+    is_over: bool,
+}
+
+impl<'a> Machine<'a> {
+    /// A machine before the first step of a valid program, whose names these are, on the lines of its data (ANSI X3.9-1978,
+    /// section 2.4.1; this project).
+    ///
+    /// # Errors
+    ///
+    /// Want of memory.
+    pub fn new(
+        alloc: Global,
+        program: &'a Program,
+        symbols: &'a Symbols,
+        input: &[u8],
+    ) -> Result<Machine<'a>, NoMemory>
+        requires valid { IsValid (program_tree program.now) }
+        requires symbols { symbols.now ≡ table_of (program_tree program.now) }
+        ensures safe { IfOk result IsSafe }
+        ensures tree { IfOk result (λ m. (held m).tree ≡ program_tree program.now) }
+        ensures stands { IfOk result (λ m. (choices : List ℕ) → standing (held m) choices ≡ at_start (program_tree program.now) input.now choices) }
+    {
+        right_where_valid();
+        let rest = whole(alloc, program)?;
+        let state = start(alloc, symbols, input)?;
+        Ok(Machine {
+            alloc,
+            program,
+            symbols,
+            state,
+            rest,
+            is_over: false,
+        })
+    }
+
+    /// Whether the next step takes a choice: it is one of an iteration of a PARALLEL DO.
+    pub fn wants_choice(&self) -> bool
+        requires { IsSafe self.now }
+        ensures { result ≡ Lefts.wants_choice (held self.now).left }
+    {
+        if self.is_over {
+            return false;
+        }
+        self.rest.wants_choice()
+    }
+
+    /// Does the next step: of an open PARALLEL DO with N iterations, the choice c picks the iteration c mod N or the first
+    /// behind it that isn't finished, going round, and c div N picks on inside of it. Behind a fault nothing is left.
+    ///
+    /// # Errors
+    ///
+    /// Want of memory. Then the same is left, and the store is the same.
+    pub fn step(&mut self, choice: u64) -> Result<Step, NoMemory>
+        requires { IsSafe self.old }
+        ensures does { IfOk result (λ r. IsStepBy (Steps.step (setting_of (held self.old).tree) (held self.old).left choice (held self.old).store) (held self.old) r (held self.new)) }
+        ensures kept { OnErr result (IsSameRun (held self.old) (held self.new)) }
+        ensures safe { IfFaultless result (IsSafe self.new) }
+        ensures tree { (held self.new).tree ≡ (held self.old).tree }
+        ensures lighter { result ≡ Ok step.Went → left_weight (held self.new).left < left_weight (held self.old).left }
+    {
+        lighter();
+        if self.is_over {
+            return Ok(Step::Ended);
+        }
+        match self
+            .rest
+            .step(self.alloc, self.symbols, &mut self.state, choice)
+        {
+            Ok(Done::Went) => return Ok(Step::Went),
+            Ok(Done::Ended) => return Ok(Step::Ended),
+            Ok(Done::Halted) => {
+                self.is_over = true;
+                return Ok(Step::Went);
+            }
+            Ok(Done::Fault { fault, statement }) => {
+                self.is_over = true;
+                return Ok(Step::Fault { fault, statement });
+            }
+            Err(error) => return Err(error),
+        }
+    }
+
+    /// Goes on with these choices, and then with 0, until the program ends.
+    ///
+    /// # Errors
+    ///
+    /// Want of memory. Then the run stands where steps with these choices have brought it, or with all of them and zeros
+    /// behind them.
+    pub fn run(&mut self, choices: &[u64]) -> Result<Outcome, NoMemory>
+        requires { IsSafe self.old }
+        ensures outcome { IfOk result (λ o. IsInterleavedFrom (held self.old).tree (standing (held self.old) choices.now) (outcome_view o)) }
+        ensures reached { OnErr result (ReachesSome (held self.old) choices.now (held self.new)) }
+        ensures safe { OnErr result (IsSafe self.new) }
+        ensures tree { (held self.new).tree ≡ (held self.old).tree }
+    {
+        let mut left = choices;
+        loop {
+            let choice = first_of(left);
+            if self.wants_choice() {
+                left = behind_first(left);
+            }
+            match self.step(choice) {
+                Ok(Step::Went) => {}
+                Ok(Step::Ended) => return ended(self.alloc, self.program, &self.state.store),
+                Ok(Step::Fault { fault, statement }) => {
+                    return Ok(Outcome::Fault { fault, statement });
+                }
+                Err(error) => return Err(error),
+            }
+        }
+    }
+}
+
+/// A program of which all is left.
+fn whole<'a>(alloc: Global, program: &'a Program) -> Result<Rest<'a, Outermost<'a>>, NoMemory>
+    ensures parts { IfOk result (λ r. parts_of r.parts ≡ record { stmts = stmt_trees program.now.body.items; first = 1; turn = None } ∷ []) }
+    ensures inner { IfOk result (λ r. r.inner ≡ None) }
+{
+    let mut parts = Parts::new(alloc);
+    parts.push(Part {
+        stmts: &program.body,
+        first: 1,
+        turn: None,
+    })?;
+    Ok(Rest { parts, inner: None })
+}
+
+/// The first choice, 0 where there is none.
+fn first_of(choices: &[u64]) -> u64
+    ensures { result ≡ choice choices.now }
+{
+    match choices.first() {
+        Some(first) => *first,
+        None => 0,
+    }
+}
+
+/// The choices behind the first.
+fn behind_first(choices: &[u64]) -> &[u64]
+    ensures { result.now ≡ drop 1 choices.now }
+{
+    match choices.split_first() {
+        Some((_, rest)) => rest,
+        None => &[],
+    }
+}

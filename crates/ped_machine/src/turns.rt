@@ -1,0 +1,199 @@
+//! The iterations of DO loops: how one begins, and how it ends (ANSI X3.9-1978, section 11.10).
+
+ghost use Rattle.std.specs.Prelude.{◌≡◌, ◌<◌, ◌+◌, ◌^◌, ◌∷◌, ℕ, length, Bool, true, IfOk, OnOk, OnErr};
+ghost use Rattle.std.specs.List.{list_all};
+ghost use Rattle.ped_tree.specs.Views.{head_of, stmt_trees, do_tree};
+ghost use Rattle.ped_symbols.specs.Kinds.{Table};
+ghost use Rattle.ped_store.specs.Keeping.{memory_of};
+ghost use Rattle.ped_eval.specs.Scopes as Scopes;
+ghost use Rattle.ped_eval.specs.Scopes.{Setting, cell_of};
+ghost use Rattle.ped_eval.specs.ScopeViews.{frame_view, outside};
+ghost use Rattle.ped_eval.specs.Loops as Loops;
+ghost use Rattle.ped_eval.specs.Agreement.{is_copy, DoCopiesStand};
+ghost use Rattle.ped_eval.specs.Plans.{entered_by, IsPlan};
+ghost use Rattle.ped_eval.specs.Readiness.{CanDo, IsReady};
+ghost use Rattle.ped_interleavings.specs.Lefts.{turns_left};
+ghost use Rattle.ped_interleavings.specs.Steps as Steps;
+ghost use Rattle.ped_machine.specs.Doing.{IsDone, IfOpen, IfSafe, HasGrown, HasRoom};
+ghost use Rattle.ped_machine.specs.Parts.{CanGo, Ends, first_turn_part, parts_left, parts_of};
+ghost use Rattle.ped_machine.specs.declared.steps.Done.TheVariants as done;
+
+use crate::parts::{Part, Parts, Turn};
+use crate::steps::Done;
+use ped_base::{Name, NoMemory};
+use ped_eval::{Frame, Plan, Scope, State, leave_loop};
+use ped_store::Store;
+use ped_tree::{Do, copy_names};
+use std::alloc::Global;
+
+/// What stands for the iteration of a DO before which there are so many.
+pub(crate) fn frame_of(alloc: Global, d: &Do, plan: &Plan, earlier: u64) -> Result<Frame, NoMemory>
+    requires plan { IsPlan (head_of d.now) (stmt_trees d.now.body.items) plan.now }
+    requires earlier { earlier < plan.now.count }
+    ensures { IfOk result (λ f. frame_view f ≡ Loops.frame (entered_by (head_of d.now) plan.now 0) (earlier + 1)) }
+{
+    let number = earlier + 1;
+    let value = plan.value_behind(earlier);
+    let private = copy_names(&plan.copied, alloc)?;
+    Ok(Frame {
+        statement: plan.number,
+        parallel: d.parallel,
+        number,
+        value,
+        variable: d.variable,
+        private,
+    })
+}
+
+/// Makes the copies of these names, which are private to these iterations. One that stands keeps what it holds.
+pub(crate) fn open_copies(
+    alloc: Global,
+    store: &mut Store,
+    scope: &Scope,
+    names: &[Name],
+) -> Result<(), NoMemory>
+    requires { list_all (λ x. is_copy (cell_of scope.now x)) names.now ≡ true }
+    ensures room { HasRoom (memory_of store.old) (memory_of store.new) }
+    ensures stand { OnOk result (list_all (λ x. (memory_of store.new).stands (cell_of scope.now x)) names.now ≡ true) }
+{
+    for name in names {
+        open_copy(alloc, store, scope, name)?;
+    }
+    Ok(())
+}
+
+/// Makes the copy of a name, which is private to these iterations. One that stands keeps what it holds.
+fn open_copy(alloc: Global, store: &mut Store, scope: &Scope, name: &Name) -> Result<(), NoMemory>
+    requires { is_copy (cell_of scope.now name.now) ≡ true }
+    ensures room { HasRoom (memory_of store.old) (memory_of store.new) }
+    ensures stands { OnOk result ((memory_of store.new).stands (cell_of scope.now name.now) ≡ true) }
+{
+    let cell = scope.cell(name);
+    match store.get(&cell) {
+        Ok(_) => return Ok(()),
+        Err(_) => return store.open_copy(alloc, &cell),
+    }
+}
+
+/// Goes into a DO: its first iteration is left before what is left behind the DO.
+pub(crate) fn enter_do<'a>(
+    alloc: Global,
+    state: &mut State,
+    parts: &mut Parts<'a>,
+    d: &'a Do,
+    plan: Plan,
+) -> Result<Done, NoMemory>
+    requires plan { IsPlan (head_of d.now) (stmt_trees d.now.body.items) plan }
+    requires some { 0 < plan.count }
+    requires few { length state.old.scope < 6 }
+    requires number { plan.number + 1 < 2 ^ 32 }
+    ensures done { IfOk result (λ r. r ≡ done.Went) }
+    ensures left { OnOk result (parts_left (parts_of parts.new) state.new.scope ≡ turns_left plan.count 1 (entered_by (head_of d.now) plan plan.behind) (stmt_trees d.now.body.items) plan.number state.old.scope (parts_left (parts_of parts.old) state.old.scope)) }
+    ensures go { OnOk result ((table : Table) → CanDo table state.old.scope plan.number (do_tree d.now) → CanGo table (parts_of parts.old) state.old.scope → CanGo table (parts_of parts.new) state.new.scope) }
+    ensures copies { OnOk result (DoCopiesStand state.old.scope (memory_of state.old.store).stands → DoCopiesStand state.new.scope (memory_of state.new.store).stands) }
+    ensures room { HasRoom (memory_of state.old.store) (memory_of state.new.store) }
+    ensures kept { OnErr result ((state.new.scope ≡ state.old.scope) × ((parts_of parts.new) ≡ (parts_of parts.old))) }
+{
+    let frame = frame_of(alloc, d, &plan, 0)?;
+    state.scope.enter(frame)?;
+    match open_body(alloc, state, parts, d, plan) {
+        Ok(()) => return Ok(Done::Went),
+        Err(error) => {
+            state.scope.leave();
+            return Err(error);
+        }
+    }
+}
+
+/// Makes the copies of the first iteration of a DO, and puts its body before what is left.
+fn open_body<'a>(
+    alloc: Global,
+    state: &mut State,
+    parts: &mut Parts<'a>,
+    d: &'a Do,
+    plan: Plan,
+) -> Result<(), NoMemory>
+    requires copies { list_all (λ x. is_copy (cell_of state.old.scope x)) plan.copied ≡ true }
+    requires number { plan.number + 1 < 2 ^ 32 }
+    ensures parts { OnOk result ((parts_of parts.new) ≡ first_turn_part (head_of d.now) (stmt_trees d.now.body.items) plan ∷ (parts_of parts.old)) }
+    ensures kept { OnErr result ((parts_of parts.new) ≡ (parts_of parts.old)) }
+    ensures room { HasRoom (memory_of state.old.store) (memory_of state.new.store) }
+    ensures stand { OnOk result (list_all (λ x. (memory_of state.new.store).stands (cell_of state.old.scope x)) plan.copied ≡ true) }
+    ensures scope { state.new.scope ≡ state.old.scope }
+{
+    open_copies(
+        alloc,
+        &mut state.store,
+        &state.scope,
+        plan.copied.as_slice(),
+    )?;
+    let first = plan.number + 1;
+    parts.push(Part {
+        stmts: &d.body,
+        first,
+        turn: Some(Turn {
+            d,
+            plan,
+            earlier: 0,
+        }),
+    })
+}
+
+/// Ends an iteration of a DO: the next one begins, or the last one leaves the DO.
+pub(crate) fn end_turn(
+    alloc: Global,
+    state: &mut State,
+    parts: &mut Parts,
+) -> Result<Done, NoMemory>
+    requires ends { Ends (parts_of parts.old) }
+    requires can { (table : Table) × (CanGo table (parts_of parts.old) state.old.scope × IsReady table state.old.scope (memory_of state.old.store)) }
+    ensures does { IfOk result (λ d. (p : Setting) (c : ℕ) → IsDone (Steps.step p (parts_left (parts_of parts.old) state.old.scope) c (memory_of state.old.store).cells)
+        (parts_left (parts_of parts.old) state.old.scope) (memory_of state.old.store).cells d (parts_left (parts_of parts.new) state.new.scope) (memory_of state.new.store).cells) }
+    ensures kept { OnErr result ((state.new.scope ≡ state.old.scope) × ((parts_of parts.new) ≡ (parts_of parts.old)) × HasRoom (memory_of state.old.store) (memory_of state.new.store)) }
+    ensures go { IfOpen result ((table : Table) → CanGo table (parts_of parts.old) state.old.scope → CanGo table (parts_of parts.new) state.new.scope) }
+    ensures copies { IfOpen result (DoCopiesStand state.old.scope (memory_of state.old.store).stands → DoCopiesStand state.new.scope (memory_of state.new.store).stands) }
+    ensures grown { IfSafe result (HasGrown (memory_of state.old.store) (memory_of state.new.store)) }
+{
+    match parts.turn() {
+        None => return Ok(Done::Ended),
+        Some(turn) => {
+            if turn.earlier + 1 < turn.plan.count {
+                next_turn(alloc, state, turn)?;
+                parts.turn_on();
+            } else {
+                leave_loop(state, turn.d, &turn.plan);
+                parts.pop();
+            }
+            return Ok(Done::Went);
+        }
+    }
+}
+
+/// Goes on from an iteration of a DO to the next one, and makes its copies. After want of memory the iteration is the same.
+fn next_turn(alloc: Global, state: &mut State, turn: &Turn) -> Result<(), NoMemory>
+    requires plan { IsPlan (head_of turn.now.d.now) (stmt_trees turn.now.d.now.body.items) turn.now.plan }
+    requires more { turn.now.earlier + 1 < turn.now.plan.count }
+    requires inside { state.old.scope ≡ Loops.frame (entered_by (head_of turn.now.d.now) turn.now.plan 0) (turn.now.earlier + 1) ∷ outside state.old.scope }
+    ensures ok { OnOk result (state.new.scope ≡ Loops.frame (entered_by (head_of turn.now.d.now) turn.now.plan 0) (turn.now.earlier + 2) ∷ outside state.old.scope) }
+    ensures err { OnErr result (state.new.scope ≡ state.old.scope) }
+    ensures room { HasRoom (memory_of state.old.store) (memory_of state.new.store) }
+    ensures copies { OnOk result (DoCopiesStand (outside state.old.scope) (memory_of state.old.store).stands → DoCopiesStand state.new.scope (memory_of state.new.store).stands) }
+{
+    let plan = &turn.plan;
+    let earlier = turn.earlier;
+    state
+        .scope
+        .turn(earlier + 2, plan.value_behind(earlier + 1));
+    match open_copies(
+        alloc,
+        &mut state.store,
+        &state.scope,
+        plan.copied.as_slice(),
+    ) {
+        Ok(()) => return Ok(()),
+        Err(error) => {
+            state.scope.turn(earlier + 1, plan.value_behind(earlier));
+            return Err(error);
+        }
+    }
+}

@@ -1,0 +1,118 @@
+//! What an iteration of a PARALLEL DO is to the loop.
+
+ghost use Rattle.std.specs.Prelude.{◌≡◌, ◌<◌, ◌+◌, ◌^◌, [], length, Bool, true, IfOk, OnErr};
+ghost use Rattle.ped_tree.specs.Views.{head_of, stmt_trees, do_tree};
+ghost use Rattle.ped_symbols.specs.Kinds.{Table};
+ghost use Rattle.ped_store.specs.Cells.{Cell};
+ghost use Rattle.ped_store.specs.Keeping.{memory_of};
+ghost use Rattle.ped_eval.specs.Agreement.{DoCopiesStand};
+ghost use Rattle.ped_eval.specs.Plans.{entered_by, IsPlan};
+ghost use Rattle.ped_eval.specs.Readiness.{setting_by, CanDo, IsReady};
+ghost use Rattle.ped_interleavings.specs.Lefts.{Left, finished, is_finished, body_left};
+ghost use Rattle.ped_interleavings.specs.Steps as Steps;
+ghost use Rattle.ped_machine.specs.Doing.{IsDone, IfOpen, IfSafe, HasGrown, HasRoom};
+
+use crate::steps::Done;
+use ped_base::NoMemory;
+use ped_eval::{Plan, State};
+use ped_symbols::Symbols;
+use ped_tree::Do;
+use std::alloc::Global;
+
+/// An iteration of a PARALLEL DO that has been started.
+pub trait Work<'a>: Drop {
+    /// What it has left.
+    ghost left: { Self → Left };
+
+    /// All that it has left can be done, where these cells stand.
+    ghost sound: { Self → Table → (Cell → Bool) → Type 0 };
+
+    /// Starts the iteration before which there are so many.
+    ///
+    /// # Errors
+    ///
+    /// Want of memory.
+    fn start(
+        alloc: Global,
+        state: &mut State,
+        d: &'a Do,
+        plan: &Plan,
+        earlier: u64,
+    ) -> Result<Self, NoMemory>
+        requires plan { IsPlan (head_of d.now) (stmt_trees d.now.body.items) plan.now }
+        requires earlier { earlier < plan.now.count }
+        requires few { length state.old.scope < 6 }
+        requires number { plan.now.number + 1 < 2 ^ 32 }
+        ensures left { IfOk result (λ w. left w ≡ body_left (entered_by (head_of d.now) plan.now plan.now.behind) (stmt_trees d.now.body.items) plan.now.number state.old.scope (earlier + 1) finished) }
+        ensures sound { IfOk result (λ w. (table : Table) → CanDo table state.old.scope plan.now.number (do_tree d.now) → DoCopiesStand state.old.scope (memory_of state.old.store).stands → sound w table (memory_of state.new.store).stands) }
+        ensures room { HasRoom (memory_of state.old.store) (memory_of state.new.store) }
+        ensures scope { state.new.scope ≡ state.old.scope };
+
+    /// Whether nothing is left of it.
+    fn is_over(&mut self) -> bool
+        ensures over { result ≡ is_finished (left self.old) }
+        ensures left { left self.new ≡ left self.old }
+        ensures sound { (table : Table) (stands : Cell → Bool) → sound self.old table stands → sound self.new table stands };
+
+    /// Does the next step, with a choice.
+    ///
+    /// # Errors
+    ///
+    /// Want of memory. Then the same is left.
+    fn step(
+        &mut self,
+        alloc: Global,
+        symbols: &Symbols,
+        state: &mut State,
+        choice: u64,
+    ) -> Result<Done, NoMemory>
+        requires ready { IsReady symbols.now [] (memory_of state.old.store) }
+        requires sound { sound self.old symbols.now (memory_of state.old.store).stands }
+        ensures does { IfOk result (λ d. IsDone (Steps.step (setting_by symbols.now) (left self.old) choice (memory_of state.old.store).cells) (left self.old) (memory_of state.old.store).cells d (left self.new) (memory_of state.new.store).cells) }
+        ensures kept { OnErr result ((left self.new ≡ left self.old) × HasRoom (memory_of state.old.store) (memory_of state.new.store)) }
+        ensures sound { IfOpen result (sound self.new symbols.now (memory_of state.new.store).stands) }
+        ensures grown { IfSafe result (HasGrown (memory_of state.old.store) (memory_of state.new.store)) }
+        ensures scope { state.new.scope ≡ state.old.scope };
+
+    /// It can be done where more stands, too.
+    ghost grows: { (w : Self) (table : Table) (stands more : Cell → Bool) → ((c : Cell) → stands c ≡ true → more c ≡ true) → sound w table stands → sound w table more };
+}
+
+/// What stands for iterations deeper than loops stand in one another: there are none.
+#[derive(Drop)]
+pub enum Never {}
+
+impl<'a> Work<'a> for Never {
+    ghost use Rattle.ped_machine.specs.Levels.{never_left, IsNever};
+    ghost use Rattle.ped_machine.specs.Growth.{never_grows};
+
+    ghost left = { never_left };
+
+    ghost sound = { IsNever };
+
+    ghost grows = { never_grows };
+
+    fn start(
+        _alloc: Global,
+        _state: &mut State,
+        _d: &'a Do,
+        _plan: &Plan,
+        _earlier: u64,
+    ) -> Result<Never, NoMemory> {
+        Err(NoMemory)
+    }
+
+    fn is_over(&mut self) -> bool {
+        match *self {}
+    }
+
+    fn step(
+        &mut self,
+        _alloc: Global,
+        _symbols: &Symbols,
+        _state: &mut State,
+        _choice: u64,
+    ) -> Result<Done, NoMemory> {
+        match *self {}
+    }
+}

@@ -1,0 +1,6 @@
+mod Covering
+mod Finishing
+mod Opening
+mod Ranges
+mod Starting
+mod Values

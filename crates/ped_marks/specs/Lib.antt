@@ -1,0 +1,3 @@
+pub use Rattle.ped_base
+pub mod Marks
+pub mod Stretches

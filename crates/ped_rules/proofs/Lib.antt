@@ -1,0 +1,12 @@
+pub mod Chains
+pub mod OneEach
+pub mod Decided
+pub mod Answering
+pub mod KeptNumbers
+pub mod CarriedEdges
+pub mod RightSteps
+pub mod FreshNames
+pub mod NestDepths
+pub mod EscapeRule
+pub mod SameIntervals
+pub mod OutermostLoops

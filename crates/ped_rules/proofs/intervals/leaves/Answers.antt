@@ -1,0 +1,20 @@
+use Rattle.std.proofs.Common.{List, ℕ, Option, is_none, refl, ap, ◌∙◌, ◌≡◌}
+use Rattle.ped_tree.specs.Views.{program_tree, stmt_trees, expr_tree}
+use Rattle.ped_tree.specs.NamesIn.{all_loop_variables}
+use Rattle.ped_tree.specs.Names.Collecting.{with_names}
+use Rattle.ped_tree.proofs.NameLaws.Collected.{among_collected}
+use Rattle.ped_base.specs.Lists.{is_among}
+use Rattle.ped_views.specs.declared.intervals.Interval.{Interval}
+use Rattle.ped_affine.specs.Arguments.{setting_of}
+use Rattle.ped_affine.specs.PairViews.{heads_of}
+use Rattle.ped_tidy.specs.ped_steps.specs.ped_refs.specs.Loops.{nest_of}
+use Rattle.ped_tidy.specs.ped_steps.specs.ped_symbols.specs.Kinds.{Table}
+use Rattle.ped_rules.specs.Rules.{setting_at}
+use Rattle.ped_rules.proofs.SameIntervals.{TellTheSame, same_in_loops}
+use Rattle.ped_rules.proofs.intervals.leaves.Goals as goal
+
+pub returns : goal.returns
+returns g c s =
+    let t = program_tree c.args.scene.now.tree.now in
+    let names : (x : List ℕ) → is_among x c.in_ok-variables.variables ≡ is_among x (all_loop_variables t.body) = λ x. ap (is_among x) c.in_ok-variables.ensures ∙ among_collected x [] (all_loop_variables t.body) in
+    c.is_none.ensures ∙ ap (λ (o : Option Interval). is_none o) (c.interval.ensures ∙ same_in_loops _ (setting_at t s) (record { constants = c.consts.ensures ∙ ap (λ (k : Table). k.constants) c.requires.scene.symbols; variables = names }) (heads_of (nest_of c.args.nest.now)) (expr_tree c.args.e.now))

@@ -1,0 +1,22 @@
+-- The rules of a step as a chain: each rule with what stands against the step by it, and then the others (this project).
+use Rattle.std.specs.Prelude.{◌≡◌, ◌⊎◌, ℕ, Bool, true, false}
+use Rattle.ped_tree.specs.Tree.{Head, StmtTrees, ProgramTree}
+use Rattle.ped_tidy.specs.ped_steps.specs.ped_flow.specs.Questions.{LoopOf}
+use Rattle.ped_tidy.specs.ped_steps.specs.declared.rules.Rule.{Rule}
+use Rattle.ped_tidy.specs.ped_steps.specs.Causes.{Rules}
+
+-- no rule stands
+abbrev pub no_rules : Rules
+no_rules q n = ⊥
+
+-- this rule stands with the statements of which this holds, and so do others
+abbrev pub also : Rule → (ℕ → Type 0) → Rules → Rules
+also r P others q n = ((q ≡ r) × P n) ⊎ others q n
+
+-- the statement with number s is a DO whose head and body pass the test, and the rule names it
+abbrev pub WhereLoop : ProgramTree → (s : ℕ) → (Head → StmtTrees → Bool) → ℕ → Type 0
+WhereLoop t s test n = (l : LoopOf t s) × (test l.head l.body ≡ true) × (n ≡ s)
+
+-- where a number isn't allowed, what is asked of the program that it would make isn't asked (this project)
+abbrev pub Unless : (bad : Bool) → (ℕ → Type 0) → ℕ → Type 0
+Unless bad P n = (bad ≡ false) × P n

@@ -1,0 +1,37 @@
+-- What is true of every step of the editor (ParaScope; this project).
+use Rattle.std.specs.Prelude.{◌≡◌, ℕ, List, Option, Some, None, ⊤}
+use Rattle.ped_tree.specs.Tree.{ProgramTree}
+use Rattle.ped_tidy.specs.ped_steps.specs.ped_symbols.specs.NameRefusals.{IsValid}
+use Rattle.ped_tidy.specs.ped_steps.specs.ped_laws.specs.ped_graph.specs.Update.Fresh.{IsOneToOne}
+use Rattle.ped_tidy.specs.ped_steps.specs.Causes.{Cause}
+use Rattle.ped_tidy.specs.ped_steps.specs.Runs.Meaning.{Keeps}
+use Rattle.ped_tidy.specs.Unrejected.{IsTrusted}
+use Rattle.ped_rules.specs.Steps.{StepKind, transformation, rejection, StepAt}
+
+-- a step makes a valid program of this one (plain words)
+abbrev pub MakesSome : StepAt → ProgramTree → Type 0
+MakesSome at t = (new : ProgramTree) × (keep : List (ℕ × ℕ)) × at.Makes t new keep × IsValid new
+
+-- a new program may be trusted as the old one, and means the same (Allen and Kennedy, section 2.2.3; ParaScope)
+pub record IsFaithful (t new : ProgramTree) : Type 0 where
+  pub trusted : IsTrusted new
+  pub keeps : Keeps t new
+
+-- what a step of a kind owes a program that may be trusted: a transformation keeps its meaning, a rejection needn't (ParaScope)
+abbrev pub Owes : StepKind → ProgramTree → ProgramTree → Type 0
+Owes transformation t new = IsTrusted t → IsFaithful t new
+Owes rejection t new = ⊤
+
+-- a step has one first cause at most; it makes one program and keeps the same statements; and where nothing forbids it, it makes a valid program of a valid one (plain words)
+pub record IsDetermined (at : StepAt) : Type 0 where
+  pub one_cause : (t : ProgramTree) (c d : Option Cause) → at.IsCause t c → at.IsCause t d → c ≡ d
+  pub one_made : (t new other : ProgramTree) (keep more : List (ℕ × ℕ)) → at.Makes t new keep → at.Makes t other more → (new ≡ other) × (keep ≡ more)
+  pub some_made : (t : ProgramTree) → IsValid t → at.IsCause t None → MakesSome at t
+
+-- a step has one first cause at most; it makes one program and keeps the same statements, each of which goes to one place and comes from one; where nothing forbids it, it makes a valid program of a valid one; and what it makes then, of a program without C$PED REJECT whose PARALLEL DOs leave their variables alone, is such a program and means the same, unless the step is a rejection (ParaScope; this project)
+pub record IsLawful (at : StepAt) : Type 0 where
+  pub one_cause : (t : ProgramTree) (c d : Option Cause) → at.IsCause t c → at.IsCause t d → c ≡ d
+  pub one_made : (t new other : ProgramTree) (keep more : List (ℕ × ℕ)) → at.Makes t new keep → at.Makes t other more → (new ≡ other) × (keep ≡ more)
+  pub one_to_one : (t new : ProgramTree) (keep : List (ℕ × ℕ)) → at.Makes t new keep → IsOneToOne keep
+  pub some_made : (t : ProgramTree) → IsValid t → at.IsCause t None → MakesSome at t
+  pub keeps : (t new : ProgramTree) (keep : List (ℕ × ℕ)) → IsValid t → at.IsCause t None → at.Makes t new keep → Owes at.kind t new

@@ -1,0 +1,14 @@
+pub use Rattle.ped_tidy
+pub use Rattle.ped_tidy.specs.ped_steps
+pub mod Steps
+pub mod Lawful
+pub mod Chains
+pub mod OnlyLoops
+pub mod Spans
+pub mod CodeSpans
+pub mod Rules
+pub mod Carried
+pub mod CodeCarried
+pub mod KeepMaps
+pub mod Fresh
+pub mod CodeFresh

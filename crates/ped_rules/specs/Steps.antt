@@ -1,0 +1,40 @@
+-- Steps of the editor: of which kind one is, what forbids it, what it makes of a program, and what its code answers (ParaScope; this project).
+use Rattle.std.specs.Prelude.{◌≡◌, ℕ, List, Option, Some, None, Result, Ok, Err}
+use Rattle.ped_tree.specs.Tree.{ProgramTree}
+use Rattle.ped_tidy.specs.ped_steps.specs.declared.causes.Refused.{Refused}
+use Rattle.ped_tidy.specs.ped_steps.specs.declared.changes.Change.{Change}
+use Rattle.ped_tidy.specs.ped_steps.specs.Causes.{Cause}
+use Rattle.ped_tidy.specs.ped_steps.specs.CodeCauses.{cause_of, IsShort}
+use Rattle.ped_tidy.specs.ped_steps.specs.Changes.{IsChange}
+
+-- a step transforms the program, so that it means the same; or it takes down what the user says of a dependence (ParaScope)
+pub data StepKind : Type 0 where
+  transformation : StepKind
+  rejection : StepKind
+
+-- a step at a statement: its kind; the first cause against it in a program, or that there is none; and what it makes of a program: a new one, and the statements that it keeps, each with its number before and behind it. So it may ask the dependences of another program than the old one (ParaScope; this project)
+pub record StepAt : Type 1 where
+  pub statement : ℕ
+  pub kind : StepKind
+  pub IsCause : ProgramTree → Option Cause → Type 0
+  pub Makes : ProgramTree → ProgramTree → List (ℕ × ℕ) → Type 0
+
+-- the step that a command takes, where it takes one (ParaScope; this project)
+pub data MaybeStep : Type 1 where
+  no_step : MaybeStep
+  some_step : StepAt → MaybeStep
+
+-- one thing where there is no step, another of the step that is there (plain words)
+abbrev pub MatchStep : MaybeStep → Type 0 → (StepAt → Type 0) → Type 0
+MatchStep no_step P Q = P
+MatchStep (some_step at) P Q = Q at
+
+-- the statement at which the step is taken, where there is one
+abbrev pub place_of : MaybeStep → Option ℕ
+place_of no_step = None
+place_of (some_step at) = Some at.statement
+
+-- what the code of a step answers for a program: a change to what the step makes of it, where nothing forbids the step; or the first cause against it (this project)
+abbrev pub Answers : StepAt → ProgramTree → Result Change Refused → Type 0
+Answers at t (Ok change) = at.IsCause t None × (new : ProgramTree) × (keep : List (ℕ × ℕ)) × at.Makes t new keep × IsChange new keep change
+Answers at t (Err refused) = at.IsCause t (Some (cause_of refused)) × IsShort refused

@@ -1,0 +1,130 @@
+//! Dependences that forbid a step, since a DO carries them (Allen and Kennedy, sections 2.2.5, 5.2).
+
+ghost use Rattle.std.specs.Prelude.{◌≡◌, ◌+◌, ◌<◌, ◌^◌, [], ◌∷◌, List, map, filter, length, slice_get, not, All, IfOk, MatchOption};
+ghost use Rattle.std.specs.List.{list_any};
+ghost use Rattle.ped_tree.specs.Views.{program_tree, stmt_trees, head_of};
+ghost use Rattle.ped_tidy.specs.ped_steps.specs.ped_flow.specs.PlainBounds.{nest_round};
+ghost use Rattle.ped_tidy.specs.ped_steps.specs.Scenes.{IsSceneOf};
+ghost use Rattle.ped_tidy.specs.ped_steps.specs.ped_laws.specs.ped_graph.specs.ped_edges.specs.CodeEdges.{edge_of, mark_of, HasAtMostSixLoops};
+ghost use Rattle.ped_tidy.specs.ped_steps.specs.ped_laws.specs.ped_graph.specs.ped_edges.specs.Edges as plain;
+ghost use Rattle.ped_tidy.specs.ped_steps.specs.ped_laws.specs.ped_graph.specs.Dependences.{AreEdges};
+ghost use Rattle.ped_rules.specs.Carried as Spec;
+ghost use Rattle.ped_rules.specs.CodeCarried.{AreThose};
+
+use ped_base::NoMemory;
+use ped_tidy::ped_steps::ped_graph::ped_edges::{Edge, Mark};
+use ped_tidy::ped_steps::ped_graph::ped_verdict::Vector;
+use ped_tidy::ped_steps::{Scene, loops_round};
+use ped_views::Direction;
+use std::alloc::Global;
+use std::sync::ledger::Ledger;
+
+/// The first dependence, in the order of the pane, that the DO with this number carries and the user hasn't rejected
+/// (Allen and Kennedy, section 5.2; ParaScope).
+pub fn first_carried<L: Ledger>(
+    alloc: Global,
+    scene: &Scene<L>,
+    number: u32,
+) -> Result<Option<Edge>, NoMemory>
+    requires { IsSceneOf (program_tree scene.now.tree.now) scene.now }
+    ensures { IfOk result (Spec.IsFirstOf (program_tree scene.now.tree.now) (Spec.carried (program_tree scene.now.tree.now) number)) }
+{
+    let edges = carried_edges(alloc, scene, number)?;
+    Ok(first_of(edges))
+}
+
+/// The first dependence, in the order of the pane, that the interchange of the DO with this number and the next one in it
+/// turns round, and that the user hasn't rejected (Allen and Kennedy, section 5.2; ParaScope).
+pub fn first_crossing<L: Ledger>(
+    alloc: Global,
+    scene: &Scene<L>,
+    number: u32,
+) -> Result<Option<Edge>, NoMemory>
+    requires { IsSceneOf (program_tree scene.now.tree.now) scene.now }
+    ensures { IfOk result (Spec.IsFirstOf (program_tree scene.now.tree.now) (Spec.crossing (program_tree scene.now.tree.now) number)) }
+{
+    let level = level_at(alloc, scene, number)?;
+    let mut edges = carried_edges(alloc, scene, number)?;
+    keep_crossing(&mut edges, level);
+    Ok(first_of(edges))
+}
+
+/// The dependences that the DO with this number carries and the user hasn't rejected.
+fn carried_edges<L: Ledger>(
+    alloc: Global,
+    scene: &Scene<L>,
+    number: u32,
+) -> Result<Vec<Edge>, NoMemory>
+    requires { IsSceneOf (program_tree scene.now.tree.now) scene.now }
+    ensures { IfOk result (λ edges. AreThose (program_tree scene.now.tree.now) (Spec.carried (program_tree scene.now.tree.now) number) edges.items) }
+{
+    let level = level_at(alloc, scene, number)?;
+    let mut edges = scene.graph.edges_at(alloc, number, level)?;
+    keep_standing(&mut edges);
+    Ok(edges)
+}
+
+/// The level of the DO with this number, 1 for the outermost (Allen and Kennedy, section 2.2.5).
+pub fn level_at<L: Ledger>(alloc: Global, scene: &Scene<L>, number: u32) -> Result<u8, NoMemory>
+    requires { IsSceneOf (program_tree scene.now.tree.now) scene.now }
+    ensures { IfOk result (λ level. level ≡ Spec.level_at (program_tree scene.now.tree.now) number) }
+{
+    let round = loops_round(alloc, scene.tree, number)?;
+    Ok(round.len() as u8 + 1)
+}
+
+/// Keeps the dependences that the user hasn't rejected.
+fn keep_standing(edges: &mut Vec<Edge>)
+    ensures { edges.new.items ≡ filter (λ e. not (Spec.is_rejected (edge_of e).mark)) edges.old.items }
+{
+    edges.retain(|edge| !is_rejected(edge.mark));
+}
+
+fn is_rejected(mark: Mark) -> bool
+    ensures { result ≡ Spec.is_rejected (mark_of mark) }
+{
+    match mark {
+        Mark::Rejected => true,
+        Mark::Proven | Mark::Pending => false,
+    }
+}
+
+/// Keeps the dependences with a vector that has `>` behind this level.
+fn keep_crossing(edges: &mut Vec<Edge>, level: u8)
+    ensures { edges.new.items ≡ filter (λ e. Spec.has_after level (edge_of e)) edges.old.items }
+{
+    edges.retain(|edge| has_after(level, &edge.vectors));
+}
+
+/// Whether one of these vectors has `>` behind this level.
+fn has_after(level: u8, vectors: &[Vector]) -> bool
+    ensures { result ≡ list_any (λ v. Spec.is_after (slice_get v level)) vectors.now }
+{
+    for vector in vectors {
+        if is_after(level, vector.directions()) {
+            return true;
+        }
+    }
+    false
+}
+
+/// Whether the vector has `>` behind this level.
+fn is_after(level: u8, directions: &[Direction]) -> bool
+    ensures { result ≡ Spec.is_after (slice_get directions.now level) }
+{
+    match directions.get(level as usize) {
+        Some(direction) => *direction == Direction::After,
+        None => false,
+    }
+}
+
+/// The first of these dependences, where there is one.
+fn first_of(edges: Vec<Edge>) -> Option<Edge>
+    ensures { MatchOption result (edges.items ≡ []) (λ e. (rest : List Edge) × (edges.items ≡ e ∷ rest)) }
+{
+    let mut edges = edges;
+    if edges.is_empty() {
+        return None;
+    }
+    Some(edges.swap_remove(0))
+}

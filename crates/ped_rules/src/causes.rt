@@ -1,0 +1,13 @@
+//! Rules that stand against a step.
+
+ghost use Rattle.std.specs.Prelude.{◌≡◌};
+ghost use Rattle.ped_tidy.specs.ped_steps.specs.declared.causes.Refused.TheVariants as refused;
+
+use ped_tidy::ped_steps::{Refused, Rule};
+
+/// A rule that stands, with the statement that it names.
+pub fn against(rule: Rule, statement: u32) -> Refused
+    ensures { result ≡ refused.Rule rule statement }
+{
+    Refused::Rule { rule, statement }
+}

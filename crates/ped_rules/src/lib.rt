@@ -1,0 +1,30 @@
+//! What the steps of the editor share: what a step answers and what is true of each, the rules by which steps are refused,
+//! the dependences that forbid one, and which statements one keeps. The definitions stand in `specs/`.
+#![tactic(auto)]
+
+mod carried;
+mod causes;
+mod escaping;
+mod fresh;
+mod increments;
+mod indices;
+mod intervals;
+mod keeping;
+mod literals;
+mod only_loops;
+mod spans;
+
+pub use carried::{first_carried, first_crossing, level_at};
+pub use causes::against;
+pub use escaping::escapes;
+pub use fresh::{NewName, fresh_name};
+pub use increments::{has_step_one, unit_step};
+pub use indices::is_index;
+pub use intervals::leaves;
+pub use keeping::{all_but, moved_by};
+pub use literals::literal;
+pub use only_loops::only_loop;
+pub use ped_tidy;
+pub use ped_tidy::ped_steps;
+pub use ped_tidy::ped_steps::ped_flow;
+pub use spans::{Course, Span, course_of, is_far};

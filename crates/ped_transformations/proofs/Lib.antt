@@ -1,0 +1,2 @@
+pub mod LawfulTable
+pub mod ByPlace

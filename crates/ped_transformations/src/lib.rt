@@ -1,0 +1,10 @@
+//! The one table of the steps of the editor: which step a command takes, at which statement and of which kind, what it
+//! answers, and that each is lawful. A new step is a row of `step_of` and one of each function here.
+#![tactic(auto)]
+
+mod laws;
+mod table;
+
+pub use laws::every_step_is_lawful;
+pub use ped_scalar::{ped_flow, ped_rules, ped_steps};
+pub use table::{Kind, Place, answer, place_of};

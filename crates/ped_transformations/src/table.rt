@@ -1,0 +1,111 @@
+//! Which step a command takes, and what it answers.
+
+ghost use Rattle.std.specs.Prelude.{◌≡◌, IfOk};
+ghost use Rattle.ped_tree.specs.Views.{program_tree};
+ghost use Rattle.ped_scalar.specs.ped_steps.specs.Scenes.{IsSceneOf};
+ghost use Rattle.ped_transformations.specs.declared.table.Kind.TheVariants as Kind;
+ghost use Rattle.ped_transformations.specs.Table.{step_of};
+ghost use Rattle.ped_transformations.specs.CodeKinds.{IsPlace, AnswersStep};
+
+use ped_base::NoMemory;
+use ped_loops::{make_parallel, make_serial, reject, reverse};
+use ped_scalar::ped_steps::{Change, Refused, Scene};
+use ped_scalar::{expand, privatise};
+use ped_script::Command;
+use std::alloc::Global;
+use std::sync::ledger::Ledger;
+
+/// What a step is to the meaning of a program (ParaScope).
+#[derive(Clone, Copy, Debug, PartialEq, Eq)]
+pub enum Kind {
+    /// It keeps the meaning.
+    Transformation,
+    /// It takes down what the user says of a dependence.
+    Rejection,
+}
+
+/// Where a step is taken.
+#[derive(Clone, Copy, Debug, PartialEq, Eq)]
+pub struct Place {
+    /// The number of its statement.
+    pub statement: u32,
+    /// What the step is to the meaning.
+    pub kind: Kind,
+}
+
+/// Where the step of a command is taken, and its kind: none where the command takes no step, or where the step isn't built
+/// yet.
+pub fn place_of(command: &Command) -> Option<Place>
+    ensures { IsPlace (step_of command.now) result }
+{
+    match command {
+        Command::Privatise(number, _) => Some(transformation(*number)),
+        Command::Expand(number, _) => Some(transformation(*number)),
+        Command::Reverse(number) => Some(transformation(*number)),
+        Command::Parallel(number) => Some(transformation(*number)),
+        Command::Serial(number) => Some(transformation(*number)),
+        Command::Reject(number, _) => Some(rejection(*number)),
+        _ => None,
+    }
+}
+
+/// A transformation at this statement.
+fn transformation(statement: u32) -> Place
+    ensures { result ≡ record { statement = statement; kind = Kind.Transformation } }
+{
+    Place {
+        statement,
+        kind: Kind::Transformation,
+    }
+}
+
+/// A rejection at this statement.
+fn rejection(statement: u32) -> Place
+    ensures { result ≡ record { statement = statement; kind = Kind.Rejection } }
+{
+    Place {
+        statement,
+        kind: Kind::Rejection,
+    }
+}
+
+/// What the step of a command makes of a program, or the first cause against it: none where the command takes no step, or
+/// where the step isn't built yet.
+pub fn answer<L: Ledger>(
+    alloc: Global,
+    scene: &Scene<L>,
+    command: &Command,
+) -> Result<Option<Result<Change, Refused>>, NoMemory>
+    requires { IsSceneOf (program_tree scene.now.tree.now) scene.now }
+    ensures { IfOk result (AnswersStep (step_of command.now) (program_tree scene.now.tree.now)) }
+{
+    match command {
+        Command::Privatise(number, name) => {
+            let found = privatise(alloc, scene, *number, name)?;
+            return Ok(Some(found));
+        }
+        Command::Expand(number, name) => {
+            let found = expand(alloc, scene, *number, name)?;
+            return Ok(Some(found));
+        }
+        Command::Reverse(number) => {
+            let found = reverse(alloc, scene, *number)?;
+            return Ok(Some(found));
+        }
+        Command::Parallel(number) => {
+            let found = make_parallel(alloc, scene, *number)?;
+            return Ok(Some(found));
+        }
+        Command::Serial(number) => {
+            let found = make_serial(alloc, scene, *number)?;
+            return Ok(Some(found));
+        }
+        Command::Reject(number, name) => {
+            let found = reject(alloc, scene, *number, name)?;
+            return Ok(Some(found));
+        }
+        _ => {
+            return Ok(None);
+        }
+    }
+}

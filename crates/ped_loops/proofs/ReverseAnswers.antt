@@ -44,13 +44,10 @@ same_statement a b e = cc
 pub turned_program : (t : ProgramTree) (n : ℕ) (h : Head) (body : StmtTrees) (m : ℤ) (f : Stmt) (new : List Stmt) → IsLoop t n h body → constant_value (table_of t).constants h.step ≡ Some m → new ≡ f ∷ []
     → stmt_tree f ≡ Do (record h { first = h.last; last = h.first; step = literal (neg_ℤ m) }) body → program_with (λ s. stmt_trees new) n t ≡ reversed t n
 turned_program t n h body m f new is step listed made =
-    one_program (λ (s : StmtTree). stmt_trees new) (on_loop (with_turned constants)) n t
-    (λ g e. ap stmt_trees listed ∙ ap alone (made ∙ same) ∙ ap (on_loop (with_turned constants)) (same_statement (Do h body) g (sym is ∙ e)))
+    one_program (λ (s : StmtTree). stmt_trees new) (on_loop (with_turned (table_of t).constants)) n t
+    (λ g e. ap stmt_trees listed ∙ ap alone (made ∙ same) ∙ ap (on_loop (with_turned (table_of t).constants)) (same_statement (Do h body) g (sym is ∙ e)))
   where
-    constants : Values
-    constants = (table_of t).constants
-
-    same : Do (record h { first = h.last; last = h.first; step = literal (neg_ℤ m) }) body ≡ Do (turned_head constants h) body
+    same : Do (record h { first = h.last; last = h.first; step = literal (neg_ℤ m) }) body ≡ Do (turned_head (table_of t).constants h) body
     same = ap (λ (o : Option ℤ). Do (record h { first = h.last; last = h.first; step = literal (neg_ℤ (unwrap_or o (pos 1))) }) body) (sym step)
 
 -- 1 and -1 are small, and so are their negatives

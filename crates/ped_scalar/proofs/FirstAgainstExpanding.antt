@@ -134,7 +134,7 @@ module _ (t : ProgramTree) (s : ℕ) (x : List ℕ) where
 
   -- a step that is accepted
   pub accepted_with : (l : LoopOf t s) (new : ProgramTree) (e : IsExpanded t s x l.head new) (change : Change) → NoRule (StandsAgainstExpanding t s x) → IsChange new (expand_kept t s l.body e.live) change → Answers (expanding s x) t (Ok change)
-  accepted_with l new e change none made = ((none, none_first t), (new, expand_kept t s l.body e.live, (l, e, refl), made))
+  accepted_with l new e change none made = ((none, none_first t), new, expand_kept t s l.body e.live, (l, e, refl), made)
 
   one_first : (P : ℕ → Type 0) (m n : ℕ) → IsFirst P (Some m) → IsFirst P (Some n) → m ≡ n
   one_first P m n a b = let le = a.1 n b.0 in let ge = b.1 m a.0 in omega (arith, le, ge)

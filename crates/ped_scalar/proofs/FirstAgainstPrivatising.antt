@@ -85,7 +85,7 @@ module _ (t : ProgramTree) (s : ℕ) (x : List ℕ) where
 
   -- a step that is accepted
   pub accepted_with : (change : Change) → NoRule (StandsAgainstPrivatising t s x) → IsChange (privatised t s x) (all_kept t) change → Answers (privatising s x) t (Ok change)
-  accepted_with change none made = ((none, none_first t), (privatised t s x, all_kept t, (refl, refl), made))
+  accepted_with change none made = ((none, none_first t), privatised t s x, all_kept t, (refl, refl), made)
 
   one_first : (P : ℕ → Type 0) (m n : ℕ) → IsFirst P (Some m) → IsFirst P (Some n) → m ≡ n
   one_first P m n a b = let le = a.1 n b.0 in let ge = b.1 m a.0 in omega (arith, le, ge)

@@ -1,4 +1,4 @@
-use Rattle.std.proofs.Common.{List, ℕ, Option, is_none, refl, ap, ◌∙◌, ◌≡◌}
+use Rattle.std.proofs.Common.{List, [], ℕ, Option, is_none, refl, ap, ◌∙◌, ◌≡◌}
 use Rattle.ped_tree.specs.Views.{program_tree, stmt_trees, expr_tree}
 use Rattle.ped_tree.specs.NamesIn.{all_loop_variables}
 use Rattle.ped_tree.specs.Names.Collecting.{with_names}

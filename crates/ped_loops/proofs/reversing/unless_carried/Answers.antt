@@ -1,0 +1,15 @@
+use Rattle.std.proofs.Common.{refl}
+use Rattle.ped_tree.specs.Views.{program_tree}
+use Rattle.ped_rules.specs.ped_steps.specs.declared.causes.Refused.TheVariants as variant
+use Rattle.ped_loops.proofs.ReverseAnswers.{forbidden, accepted}
+use Rattle.ped_loops.proofs.reversing.unless_carried.Goals as goal
+
+pub returns-in-Some : goal.returns-in-Some
+returns-in-Some g c =
+    let t = program_tree c.args.scene.now.tree.now in
+    forbidden c.args.number t c.in-Some.edge (variant.Dependence c.in-Some.edge) refl c.requires.free c.in-Some.ensures
+
+pub returns-in-None : goal.returns-in-None
+returns-in-None g c =
+    let t = program_tree c.args.scene.now.tree.now in
+    accepted c.args.number t c.args.change c.requires.free c.in-None.ensures c.requires.is

@@ -1,0 +1,6 @@
+use Rattle.ped_tree.specs.Views.{program_tree}
+use Rattle.ped_tidy.specs.ped_steps.proofs.Answering.{few_numbers}
+use Rattle.ped_rules.proofs.carried.level_at.Goals as goal
+
+pub loops_round-requires : goal.loops_round-requires
+loops_round-requires g c = few_numbers (program_tree c.args.scene.now.tree.now) c.requires.valid

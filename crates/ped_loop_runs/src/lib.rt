@@ -13,7 +13,6 @@ pub use carried::{
 };
 pub use loops::one_for_one;
 pub use one_out::plain_one_out;
-pub use ped_bodies;
-pub use ped_pasting;
-pub use ped_steps;
-pub use ped_weaves;
+pub use ped_tidy;
+pub use ped_tidy::{ped_bodies, ped_pasting, ped_steps};
+pub use ped_tidy::ped_steps::ped_weaves;

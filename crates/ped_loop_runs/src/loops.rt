@@ -1,12 +1,12 @@
 //! One loop in the place of another.
 
 ghost use Rattle.std.specs.Prelude.{ℕ, Bool};
-ghost use Rattle.ped_laws.specs.ped_flow.specs.ped_tree.specs.Tree.{Head, ProgramTree};
-ghost use Rattle.ped_laws.specs.ped_flow.specs.Questions.{LoopOf};
-ghost use Rattle.ped_steps.specs.Runs.Meaning.{Keeps};
+ghost use Rattle.ped_tidy.specs.ped_steps.specs.ped_laws.specs.ped_flow.specs.ped_tree.specs.Tree.{Head, ProgramTree};
+ghost use Rattle.ped_tidy.specs.ped_steps.specs.ped_laws.specs.ped_flow.specs.Questions.{LoopOf};
+ghost use Rattle.ped_tidy.specs.ped_steps.specs.Runs.Meaning.{Keeps};
 ghost use Rattle.ped_loop_runs.specs.OneForOne.{IsOneForOne};
 
-use ped_laws::conflicts::{accesses_are_made, accesses_in_sequence};
+use ped_tidy::ped_steps::ped_laws::conflicts::{accesses_are_made, accesses_in_sequence};
 
 /// A program keeps its meaning where a DO gives way to one with the same body and the same iterations, in the same order
 /// or from the last to the first, if it carries no dependence where their order changes or where it becomes a PARALLEL

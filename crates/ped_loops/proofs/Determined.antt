@@ -1,11 +1,11 @@
 -- What each step comes to is determined, whatever it keeps of the meaning.
 use Rattle.std.proofs.Common.{ℕ, List, true, false, refl}
-use Rattle.ped_rules.specs.ped_steps.specs.Causes.{none_forbids}
-use Rattle.ped_rules.specs.ped_steps.specs.Replacing.{all_kept}
-use Rattle.ped_rules.specs.ped_steps.proofs.OneCause.{one_cause}
-use Rattle.ped_rules.specs.Carried.{carried}
-use Rattle.ped_rules.specs.Rules.{is_parallel, is_serial}
-use Rattle.ped_rules.specs.Lawful.{IsDetermined}
+use Rattle.ped_scalar.specs.ped_rules.specs.ped_steps.specs.Causes.{none_forbids}
+use Rattle.ped_scalar.specs.ped_rules.specs.ped_steps.specs.Replacing.{all_kept}
+use Rattle.ped_scalar.specs.ped_rules.specs.ped_steps.proofs.OneCause.{one_cause}
+use Rattle.ped_scalar.specs.ped_rules.specs.Carried.{carried}
+use Rattle.ped_scalar.specs.ped_rules.specs.Rules.{is_parallel, is_serial}
+use Rattle.ped_scalar.specs.ped_rules.specs.Lawful.{IsDetermined}
 use Rattle.ped_loops.specs.Flags.{flagged}
 use Rattle.ped_loops.specs.Paralleling.{StandsAgainstParallel, paralleling}
 use Rattle.ped_loops.specs.Serialising.{StandsAgainstSerial, serialising}

@@ -1,13 +1,13 @@
 -- `parallel`: a DO becomes a PARALLEL DO, whose iterations may be done in any order (Allen and Kennedy, section 2.4.2; ParaScope).
 use Rattle.std.specs.Prelude.{◌≡◌, ℕ, List, true}
 use Rattle.ped_tree.specs.Tree.{ProgramTree}
-use Rattle.ped_rules.specs.Carried.{carried}
-use Rattle.ped_rules.specs.Chains.{no_rules, also, WhereLoop}
-use Rattle.ped_rules.specs.Rules.{WhereNoLoop, is_parallel, WhereEscape, WhereLimit}
-use Rattle.ped_rules.specs.Steps.{transformation, StepAt}
-use Rattle.ped_rules.specs.ped_steps.specs.declared.rules.Rule.TheVariants.{NoLoop, ParallelState, IndexEscapes, Limit}
-use Rattle.ped_rules.specs.ped_steps.specs.Causes.{Rules, IsFirstCause}
-use Rattle.ped_rules.specs.ped_steps.specs.Replacing.{all_kept}
+use Rattle.ped_scalar.specs.ped_rules.specs.Carried.{carried}
+use Rattle.ped_scalar.specs.ped_rules.specs.Chains.{no_rules, also, WhereLoop}
+use Rattle.ped_scalar.specs.ped_rules.specs.Rules.{WhereNoLoop, is_parallel, WhereEscape, WhereLimit}
+use Rattle.ped_scalar.specs.ped_rules.specs.Steps.{transformation, StepAt}
+use Rattle.ped_scalar.specs.ped_rules.specs.ped_steps.specs.declared.rules.Rule.TheVariants.{NoLoop, ParallelState, IndexEscapes, Limit}
+use Rattle.ped_scalar.specs.ped_rules.specs.ped_steps.specs.Causes.{Rules, IsFirstCause}
+use Rattle.ped_scalar.specs.ped_rules.specs.ped_steps.specs.Replacing.{all_kept}
 use Rattle.ped_loops.specs.Flags.{flagged}
 
 -- the program behind the step, which keeps each statement with its number (ParaScope)

@@ -2,15 +2,15 @@
 
 ghost use Rattle.std.specs.Prelude.{IfOk};
 ghost use Rattle.ped_tree.specs.Views.{stmt_trees, program_tree, head_of};
-ghost use Rattle.ped_rules.specs.Steps.{Answers};
-ghost use Rattle.ped_rules.specs.ped_steps.specs.Scenes.{IsSceneOf};
-ghost use Rattle.ped_rules.specs.ped_steps.specs.ped_flow.specs.Questions.{IsLoop};
+ghost use Rattle.ped_scalar.specs.ped_rules.specs.Steps.{Answers};
+ghost use Rattle.ped_scalar.specs.ped_rules.specs.ped_steps.specs.Scenes.{IsSceneOf};
+ghost use Rattle.ped_scalar.specs.ped_rules.specs.ped_steps.specs.ped_flow.specs.Questions.{IsLoop};
 ghost use Rattle.ped_loops.specs.Serialising as Spec;
 
 use crate::flags::flagged;
 use ped_base::NoMemory;
-use ped_rules::ped_steps::{Change, Refused, Rule, Scene, loop_at};
-use ped_rules::{against, escapes};
+use ped_scalar::ped_rules::ped_steps::{Change, Refused, Rule, Scene, loop_at};
+use ped_scalar::ped_rules::{against, escapes};
 use ped_tree::Do;
 use std::alloc::Global;
 use std::sync::ledger::Ledger;

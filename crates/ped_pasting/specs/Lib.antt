@@ -1,4 +1,5 @@
-pub use Rattle.ped_steps
+pub use Rattle.ped_bodies
+pub use Rattle.ped_bodies.specs.ped_steps
 pub mod Executions
 pub mod Copies
 pub mod Pasting

@@ -2,23 +2,23 @@
 use Rattle.std.specs.Prelude.{◌≡◌, ℕ, List, [], ◌++◌, Bool, true, ◌⊎◌}
 use Rattle.std.specs.Str.Lines.{lines}
 use Rattle.std.specs.List.{flat_map}
-use Rattle.ped_steps.specs.ped_flow.specs.ped_base.specs.Lists.{is_among}
-use Rattle.ped_tree.specs.Tree.{StmtTrees, ProgramTree}
-use Rattle.ped_tree.specs.Numbering.{statements_count}
-use Rattle.ped_steps.specs.ped_laws.specs.ped_store.specs.Cells.{Cell}
-use Rattle.ped_steps.specs.ped_laws.specs.ped_store.specs.Stores.{Store, store_at_start}
-use Rattle.ped_steps.specs.ped_laws.specs.ped_store.specs.Acts.{Act}
-use Rattle.ped_steps.specs.ped_laws.specs.ped_store.specs.Races.{accesses, HasNoRace}
-use Rattle.ped_steps.specs.ped_laws.specs.Acts.Sets.{needs, written}
-use Rattle.ped_steps.specs.ped_laws.specs.Acts.Pieces.{Part, old_parts, new_parts}
-use Rattle.ped_steps.specs.ped_laws.specs.ped_graph.specs.ped_symbols.specs.Kinds.{kind_in}
-use Rattle.ped_steps.specs.ped_laws.specs.Runs.Showing.{shown_at_end}
-use Rattle.ped_steps.specs.ped_laws.specs.ped_eval.specs.Scopes.{Setting, Scope}
-use Rattle.ped_steps.specs.ped_laws.specs.ped_eval.specs.Runs.{Run, run_all}
-use Rattle.ped_steps.specs.ped_laws.specs.ped_eval.specs.Outcomes.{setting_of, live_names, IsRaceFree}
-use Rattle.ped_tree.specs.NamesIn.{saved_in}
-use Rattle.ped_steps.specs.Runs.Gaps.{Gap, number_at}
-use Rattle.ped_steps.specs.Runs.Renumbering.{IsToldBack, renumbered}
+use Rattle.ped_bodies.specs.ped_steps.specs.ped_flow.specs.ped_base.specs.Lists.{is_among}
+use Rattle.ped_bodies.specs.ped_steps.specs.ped_tree.specs.Tree.{StmtTrees, ProgramTree}
+use Rattle.ped_bodies.specs.ped_steps.specs.ped_tree.specs.Numbering.{statements_count}
+use Rattle.ped_bodies.specs.ped_steps.specs.ped_laws.specs.ped_store.specs.Cells.{Cell}
+use Rattle.ped_bodies.specs.ped_steps.specs.ped_laws.specs.ped_store.specs.Stores.{Store, store_at_start}
+use Rattle.ped_bodies.specs.ped_steps.specs.ped_laws.specs.ped_store.specs.Acts.{Act}
+use Rattle.ped_bodies.specs.ped_steps.specs.ped_laws.specs.ped_store.specs.Races.{accesses, HasNoRace}
+use Rattle.ped_bodies.specs.ped_steps.specs.ped_laws.specs.Acts.Sets.{needs, written}
+use Rattle.ped_bodies.specs.ped_steps.specs.ped_laws.specs.Acts.Pieces.{Part, old_parts, new_parts}
+use Rattle.ped_bodies.specs.ped_steps.specs.ped_laws.specs.ped_graph.specs.ped_symbols.specs.Kinds.{kind_in}
+use Rattle.ped_bodies.specs.ped_steps.specs.ped_laws.specs.Runs.Showing.{shown_at_end}
+use Rattle.ped_bodies.specs.ped_steps.specs.ped_laws.specs.ped_eval.specs.Scopes.{Setting, Scope}
+use Rattle.ped_bodies.specs.ped_steps.specs.ped_laws.specs.ped_eval.specs.Runs.{Run, run_all}
+use Rattle.ped_bodies.specs.ped_steps.specs.ped_laws.specs.ped_eval.specs.Outcomes.{setting_of, live_names, IsRaceFree}
+use Rattle.ped_bodies.specs.ped_steps.specs.ped_tree.specs.NamesIn.{saved_in}
+use Rattle.ped_bodies.specs.ped_steps.specs.Runs.Gaps.{Gap, number_at}
+use Rattle.ped_bodies.specs.ped_steps.specs.Runs.Renumbering.{IsToldBack, renumbered}
 use Rattle.ped_pasting.specs.Pasting.{IsPasted, DoInstead, StandInstead, AreExchanged}
 
 -- a set of cells is told for all acts that are left to do, so that acts which stay may stand for themselves: it has what they need, and what is in the set for the acts behind them is in it, or they write it; and at the end it has what is shown (Allen and Kennedy, section 4.4; this project)

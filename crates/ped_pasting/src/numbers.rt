@@ -1,10 +1,10 @@
 //! Numbers under which the statements of a new program count.
 
 ghost use Rattle.std.specs.Prelude.{◌≡◌, ℕ, List};
-ghost use Rattle.ped_tree.specs.Tree.{ProgramTree};
-ghost use Rattle.ped_steps.specs.ped_laws.specs.Acts.Orders.{IsIn};
-ghost use Rattle.ped_steps.specs.ped_laws.specs.ped_eval.specs.Outcomes.{setting_of};
-ghost use Rattle.ped_steps.specs.Runs.Renumbering.{IsToldBack, renumbered};
+ghost use Rattle.ped_bodies.specs.ped_steps.specs.ped_tree.specs.Tree.{ProgramTree};
+ghost use Rattle.ped_bodies.specs.ped_steps.specs.ped_laws.specs.Acts.Orders.{IsIn};
+ghost use Rattle.ped_bodies.specs.ped_steps.specs.ped_laws.specs.ped_eval.specs.Outcomes.{setting_of};
+ghost use Rattle.ped_bodies.specs.ped_steps.specs.Runs.Renumbering.{IsToldBack, renumbered};
 ghost use Rattle.ped_pasting.specs.Numbers.{counted_by, told_by, AreApart, kept_numbers, FitInGap};
 ghost use Rattle.ped_pasting.specs.Pasting.{CountAlike};
 

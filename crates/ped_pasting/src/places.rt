@@ -2,20 +2,20 @@
 
 ghost use Rattle.std.specs.Prelude.{◌≡◌, ℕ, List, [], ◌∷◌};
 ghost use Rattle.std.specs.Str.Lines.{lines};
-ghost use Rattle.ped_tree.specs.Tree.{Do, ProgramTree};
-ghost use Rattle.ped_steps.specs.ped_laws.specs.Covering.Nested.{IsInNest};
-ghost use Rattle.ped_steps.specs.ped_laws.specs.FlowRuns.Exits.{IsOneToOne};
-ghost use Rattle.ped_steps.specs.ped_laws.specs.Plain.Executions.{IsPlaceWith, LieInRanges};
-ghost use Rattle.ped_steps.specs.ped_laws.specs.ped_eval.specs.Outcomes.{setting_of, Ends};
-ghost use Rattle.ped_steps.specs.ped_laws.specs.ped_eval.specs.Runs.{run};
-ghost use Rattle.ped_steps.specs.ped_laws.specs.ped_eval.specs.Scopes.{Setting, Frame, Scope};
-ghost use Rattle.ped_steps.specs.ped_laws.specs.ped_flow.specs.PlainBounds.{nest_round, setting_round};
-ghost use Rattle.ped_steps.specs.ped_laws.specs.ped_flow.specs.Questions.{LoopOf};
-ghost use Rattle.ped_steps.specs.ped_laws.specs.ped_graph.specs.Dependences.{setting_in};
-ghost use Rattle.ped_steps.specs.ped_laws.specs.ped_graph.specs.ped_symbols.specs.NameRefusals.{IsValid};
-ghost use Rattle.ped_steps.specs.ped_laws.specs.ped_store.specs.Acts.{Act};
-ghost use Rattle.ped_steps.specs.ped_laws.specs.ped_store.specs.Stores.{Store, store_at_start};
-ghost use Rattle.ped_steps.specs.Runs.Pasting.{IsPlaceOf, IsDone};
+ghost use Rattle.ped_bodies.specs.ped_steps.specs.ped_tree.specs.Tree.{Do, ProgramTree};
+ghost use Rattle.ped_bodies.specs.ped_steps.specs.ped_laws.specs.Covering.Nested.{IsInNest};
+ghost use Rattle.ped_bodies.specs.ped_steps.specs.ped_laws.specs.FlowRuns.Exits.{IsOneToOne};
+ghost use Rattle.ped_bodies.specs.ped_steps.specs.ped_laws.specs.Plain.Executions.{IsPlaceWith, LieInRanges};
+ghost use Rattle.ped_bodies.specs.ped_steps.specs.ped_laws.specs.ped_eval.specs.Outcomes.{setting_of, Ends};
+ghost use Rattle.ped_bodies.specs.ped_steps.specs.ped_laws.specs.ped_eval.specs.Runs.{run};
+ghost use Rattle.ped_bodies.specs.ped_steps.specs.ped_laws.specs.ped_eval.specs.Scopes.{Setting, Frame, Scope};
+ghost use Rattle.ped_bodies.specs.ped_steps.specs.ped_laws.specs.ped_flow.specs.PlainBounds.{nest_round, setting_round};
+ghost use Rattle.ped_bodies.specs.ped_steps.specs.ped_laws.specs.ped_flow.specs.Questions.{LoopOf};
+ghost use Rattle.ped_bodies.specs.ped_steps.specs.ped_laws.specs.ped_graph.specs.Dependences.{setting_in};
+ghost use Rattle.ped_bodies.specs.ped_steps.specs.ped_laws.specs.ped_graph.specs.ped_symbols.specs.NameRefusals.{IsValid};
+ghost use Rattle.ped_bodies.specs.ped_steps.specs.ped_laws.specs.ped_store.specs.Acts.{Act};
+ghost use Rattle.ped_bodies.specs.ped_steps.specs.ped_laws.specs.ped_store.specs.Stores.{Store, store_at_start};
+ghost use Rattle.ped_bodies.specs.ped_steps.specs.Runs.Pasting.{IsPlaceOf, IsDone};
 ghost use Rattle.ped_pasting.specs.Executions.{IsExecuted};
 ghost use Rattle.ped_pasting.specs.Places.{told_at, AreDuring};
 

@@ -15,8 +15,8 @@ use Rattle.ped_tree.specs.NamesIn.{saved_in}
 use Rattle.ped_rules.specs.ped_steps.specs.ped_flow.specs.Summaries.{passing, unreached, sum_in_turn, sum_events, sum_loop, sum_of, sum_of_all, sum_at_once, sum_behind_all}
 use Rattle.ped_rules.specs.ped_steps.specs.ped_flow.proofs.Truths.{untrue, or_none}
 use Rattle.ped_rules.specs.ped_steps.specs.ped_laws.specs.FlowRuns.Covering.{some_stop}
-use Rattle.ped_sums.specs.Sums.{literal}
-use Rattle.ped_sums.specs.Substitution.{statements_substituted}
+use Rattle.ped_rules.specs.ped_steps.specs.ped_sums.specs.Sums.{literal}
+use Rattle.ped_rules.specs.ped_steps.specs.ped_sums.specs.Substitution.{statements_substituted}
 use Rattle.ped_rules.specs.ped_steps.specs.Replacing.{alone}
 use Rattle.ped_rules.specs.ped_steps.proofs.RunLaws.SubstitutedShapes.{counts_kept}
 use Rattle.ped_rules.specs.Spans.{Span}

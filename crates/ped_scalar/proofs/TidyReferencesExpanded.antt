@@ -17,7 +17,7 @@ use Rattle.ped_rules.specs.ped_steps.specs.ped_symbols.specs.Kinds.{kind_of, kin
 use Rattle.ped_rules.specs.ped_steps.specs.ped_symbols.specs.RightUses.RightUses.{is_scalar_kind, is_scalar, cond_is_right, head_is_right, stmt_is_right, stmts_are_right}
 use Rattle.ped_rules.specs.ped_steps.specs.ped_flow.specs.PlainBounds.{all_loops_round, nest_round}
 use Rattle.ped_rules.specs.ped_steps.specs.ped_flow.specs.Questions.{LoopOf, IsIndexIn}
-use Rattle.ped_sums.specs.Substitution.{statement_substituted, statements_substituted}
+use Rattle.ped_rules.specs.ped_steps.specs.ped_sums.specs.Substitution.{statement_substituted, statements_substituted}
 use Rattle.ped_rules.specs.ped_steps.specs.Replacing.{alone}
 use Rattle.ped_rules.specs.ped_steps.specs.Tidy.{is_written_in}
 use Rattle.ped_rules.specs.ped_steps.specs.Runs.Gaps.{Gap, filled}

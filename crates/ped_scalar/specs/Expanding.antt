@@ -10,8 +10,8 @@ use Rattle.ped_rules.specs.ped_steps.specs.ped_symbols.specs.Kinds.{table_of}
 use Rattle.ped_rules.specs.ped_steps.specs.ped_symbols.specs.NameRefusals.{IsValid}
 use Rattle.ped_rules.specs.ped_steps.specs.ped_flow.specs.PlainBounds.{nest_round}
 use Rattle.ped_rules.specs.ped_steps.specs.ped_flow.specs.Questions.{LoopOf, IsLiveAfter, IsAssignedThrough}
-use Rattle.ped_sums.specs.Sums.{literal}
-use Rattle.ped_sums.specs.Substitution.{statements_substituted}
+use Rattle.ped_rules.specs.ped_steps.specs.ped_sums.specs.Sums.{literal}
+use Rattle.ped_rules.specs.ped_steps.specs.ped_sums.specs.Substitution.{statements_substituted}
 use Rattle.ped_rules.specs.ped_steps.specs.declared.rules.Rule.TheVariants.{NoLoop, NotPerfect, ParallelState, HasPrivate, IndexEscapes, BoundNotPlain, BoundsShape, StepShape, Range, NoNeighbour, OneBlock, ExposedOrLive, NotScalar, NotConstant, Limit, BadFactor, AlreadyPrivate, NothingToReject}
 use Rattle.ped_rules.specs.ped_steps.specs.Causes.{Rules, IsFirstCause, none_forbids}
 use Rattle.ped_rules.specs.ped_steps.specs.Replacing.{alone, all_replaced}

@@ -2,8 +2,8 @@
 use Rattle.std.proofs.Common.{◌≡◌, ℕ, ◌≤◌, Bool, true, false, List, [], ◌∷◌, ◌++◌, All, Option, Some, None, refl, sym, ap, ap₂, ◌∙◌, subst, arith}
 use Rattle.std.proofs.lemmas.List.Elements.{All-head, All-tail}
 use Rattle.ped_tree.specs.Tree.{ProgramTree}
-use Rattle.ped_laws.specs.ped_graph.specs.ped_edges.specs.Edges.{Edge}
-use Rattle.ped_laws.specs.ped_graph.proofs.OnePane.{one_edges}
+use Rattle.ped_weaves.specs.ped_laws.specs.ped_graph.specs.ped_edges.specs.Edges.{Edge}
+use Rattle.ped_weaves.specs.ped_laws.specs.ped_graph.proofs.OnePane.{one_edges}
 use Rattle.ped_steps.specs.declared.rules.Rule.{Rule}
 use Rattle.ped_steps.specs.RuleNames.{number_of}
 use Rattle.ped_steps.specs.Causes.{Rules, IsFirstForbidding, Cause, rule, dependence, IsFirstCause}

@@ -1,13 +1,13 @@
 //! Why a step is refused, and the words that say it.
 
 ghost use Rattle.std.specs.Prelude.{◌≡◌, IfOk};
-ghost use Rattle.ped_laws.specs.ped_graph.specs.ped_edges.specs.CodeEdges.{edge_of, HasAtMostSixLoops};
+ghost use Rattle.ped_weaves.specs.ped_laws.specs.ped_graph.specs.ped_edges.specs.CodeEdges.{edge_of, HasAtMostSixLoops};
 ghost use Rattle.ped_steps.specs.CauseWords as shown;
 ghost use Rattle.ped_steps.specs.CodeCauses.{cause_of, IsShort};
 
 use crate::rules::Rule;
 use ped_base::{Bytes, NoMemory, push_number};
-use ped_laws::ped_graph::ped_edges::Edge;
+use ped_weaves::ped_laws::ped_graph::ped_edges::Edge;
 use std::alloc::Global;
 
 /// Why a step is refused.

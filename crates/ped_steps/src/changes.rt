@@ -7,8 +7,8 @@ ghost use Rattle.ped_steps.specs.Replacing as Spec;
 
 use crate::counting::count_statements;
 use ped_base::{Listed, NoMemory};
-use ped_laws::ped_graph::ped_symbols::Symbols;
-use ped_laws::ped_graph::update::Keep;
+use ped_weaves::ped_laws::ped_graph::ped_symbols::Symbols;
+use ped_weaves::ped_laws::ped_graph::update::Keep;
 use ped_tree::Program;
 use std::alloc::Global;
 

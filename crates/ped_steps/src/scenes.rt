@@ -1,8 +1,8 @@
 //! What a step is given.
 
-use ped_laws::ped_flow::Flow;
-use ped_laws::ped_graph::Graph;
-use ped_laws::ped_graph::ped_symbols::Symbols;
+use ped_weaves::ped_laws::ped_flow::Flow;
+use ped_weaves::ped_laws::ped_graph::Graph;
+use ped_weaves::ped_laws::ped_graph::ped_symbols::Symbols;
 use ped_tree::Program;
 use std::sync::ledger::Ledger;
 

@@ -2,15 +2,15 @@
 
 ghost use Rattle.std.specs.Prelude.{◌≡◌, [], IfOk, MatchOption};
 ghost use Rattle.ped_tree.specs.Views.{program_tree};
-ghost use Rattle.ped_laws.specs.ped_graph.specs.ped_symbols.specs.Kinds.{table_of};
-ghost use Rattle.ped_laws.specs.ped_graph.specs.ped_symbols.specs.NameRefusals.{IsValid};
+ghost use Rattle.ped_weaves.specs.ped_laws.specs.ped_graph.specs.ped_symbols.specs.Kinds.{table_of};
+ghost use Rattle.ped_weaves.specs.ped_laws.specs.ped_graph.specs.ped_symbols.specs.NameRefusals.{IsValid};
 ghost use Rattle.ped_steps.specs.Changes.{IsChange};
 
 use crate::changes::Change;
 use ped_base::NoMemory;
 use ped_fits::fits;
-use ped_laws::ped_graph::ped_symbols::{NameRefusal, Symbols, symbols_of};
-use ped_laws::ped_graph::update::Keep;
+use ped_weaves::ped_laws::ped_graph::ped_symbols::{NameRefusal, Symbols, symbols_of};
+use ped_weaves::ped_laws::ped_graph::update::Keep;
 use ped_tree::Program;
 use std::alloc::Global;
 

@@ -1,4 +1,6 @@
-pub use Rattle.ped_steps
+pub use Rattle.ped_pasting.specs.ped_bodies
+pub use Rattle.ped_pasting
+pub use Rattle.ped_pasting.specs.ped_steps
 pub mod Unrejected
 pub mod Exchanges
 pub mod Writing

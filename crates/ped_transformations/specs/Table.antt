@@ -1,9 +1,9 @@
 -- The one table of the steps: which one each command takes (ParaScope; this project).
 use Rattle.ped_script.specs.declared.items.Command.{Command}
 use Rattle.ped_script.specs.declared.items.Command.TheVariants.{Reverse, Expand, Privatise, Parallel, Serial, Reject}
-use Rattle.ped_scalar.specs.ped_rules.specs.Steps.{MaybeStep, no_step, some_step}
-use Rattle.ped_scalar.specs.Privatising.{privatising}
-use Rattle.ped_scalar.specs.Expanding.{expanding}
+use Rattle.ped_loops.specs.ped_scalar.specs.ped_rules.specs.Steps.{MaybeStep, no_step, some_step}
+use Rattle.ped_loops.specs.ped_scalar.specs.Privatising.{privatising}
+use Rattle.ped_loops.specs.ped_scalar.specs.Expanding.{expanding}
 use Rattle.ped_loops.specs.Reversing.{reversing}
 use Rattle.ped_loops.specs.Paralleling.{paralleling}
 use Rattle.ped_loops.specs.Serialising.{serialising}

@@ -2,8 +2,8 @@
 
 ghost use Rattle.std.specs.Prelude.{⊤};
 ghost use Rattle.ped_script.specs.declared.items.Command.{Command};
-ghost use Rattle.ped_scalar.specs.ped_rules.specs.Steps.{MatchStep};
-ghost use Rattle.ped_scalar.specs.ped_rules.specs.Lawful.{IsLawful};
+ghost use Rattle.ped_loops.specs.ped_scalar.specs.ped_rules.specs.Steps.{MatchStep};
+ghost use Rattle.ped_loops.specs.ped_scalar.specs.ped_rules.specs.Lawful.{IsLawful};
 ghost use Rattle.ped_transformations.specs.Table.{step_of};
 
 use ped_loops::{parallel_is_lawful, rejection_is_lawful, reversal_is_lawful, serial_is_lawful};

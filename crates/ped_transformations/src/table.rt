@@ -2,15 +2,15 @@
 
 ghost use Rattle.std.specs.Prelude.{◌≡◌, IfOk};
 ghost use Rattle.ped_tree.specs.Views.{program_tree};
-ghost use Rattle.ped_scalar.specs.ped_steps.specs.Scenes.{IsSceneOf};
+ghost use Rattle.ped_loops.specs.ped_scalar.specs.ped_steps.specs.Scenes.{IsSceneOf};
 ghost use Rattle.ped_transformations.specs.declared.table.Kind.TheVariants as Kind;
 ghost use Rattle.ped_transformations.specs.Table.{step_of};
 ghost use Rattle.ped_transformations.specs.CodeKinds.{IsPlace, AnswersStep};
 
 use ped_base::NoMemory;
 use ped_loops::{make_parallel, make_serial, reject, reverse};
-use ped_scalar::ped_steps::{Change, Refused, Scene};
-use ped_scalar::{expand, privatise};
+use ped_loops::ped_scalar::ped_steps::{Change, Refused, Scene};
+use ped_loops::ped_scalar::{expand, privatise};
 use ped_script::Command;
 use std::alloc::Global;
 use std::sync::ledger::Ledger;

@@ -9,10 +9,10 @@ use Rattle.ped_steps.specs.ped_flow.specs.ped_base.specs.declared.arithmetic.fau
 use Rattle.ped_steps.specs.ped_flow.specs.ped_base.specs.declared.arithmetic.faults.Fault.TheVariants.{OutOfRange}
 use Rattle.ped_steps.specs.ped_flow.specs.ped_base.specs.Arithmetic.Arithmetic.{is_in_range, in_range, sum_of, difference_of, negation_of, product_of}
 use Rattle.ped_steps.specs.ped_flow.specs.ped_base.proofs.NameEquality.{same_is}
-use Rattle.ped_tree.specs.Constants.NamedConstants.{value_named}
-use Rattle.ped_tree.specs.Tree.{ExprTree, Int, Var, Neg, Add, Sub, Mul}
-use Rattle.ped_sums.specs.Sums.{literal, times_of}
-use Rattle.ped_sums.specs.Substitution.{substituted}
+use Rattle.ped_steps.specs.ped_tree.specs.Constants.NamedConstants.{value_named}
+use Rattle.ped_steps.specs.ped_tree.specs.Tree.{ExprTree, Int, Var, Neg, Add, Sub, Mul}
+use Rattle.ped_steps.specs.ped_sums.specs.Sums.{literal, times_of}
+use Rattle.ped_steps.specs.ped_sums.specs.Substitution.{substituted}
 use Rattle.ped_steps.specs.ped_laws.specs.ped_store.specs.Cells.{Cell}
 use Rattle.ped_steps.specs.ped_laws.specs.ped_store.specs.Stores.{Store}
 use Rattle.ped_steps.specs.ped_laws.specs.ped_eval.specs.Scopes.{Setting, Scope, cell_of, index_value, names_in}

@@ -1,9 +1,9 @@
 -- One statement of a program that gives way to others.
 use Rattle.std.proofs.Common.{◌≡◌, ℕ, ◌<◌, Some, subst, arith}
-use Rattle.ped_tree.specs.Tree.{StmtTree, StmtTrees, ProgramTree}
-use Rattle.ped_tree.specs.Numbering.{statement_with, statement_count, statements_count}
-use Rattle.ped_steps.specs.Replacing.{alone}
-use Rattle.ped_steps.proofs.RunLaws.ReplacedTrees.{program_gap}
+use Rattle.ped_bodies.specs.ped_steps.specs.ped_tree.specs.Tree.{StmtTree, StmtTrees, ProgramTree}
+use Rattle.ped_bodies.specs.ped_steps.specs.ped_tree.specs.Numbering.{statement_with, statement_count, statements_count}
+use Rattle.ped_bodies.specs.ped_steps.specs.Replacing.{alone}
+use Rattle.ped_bodies.specs.ped_steps.proofs.RunLaws.ReplacedTrees.{program_gap}
 use Rattle.ped_pasting.specs.Statements.{GivesWay}
 
 pub gives_way : (by : StmtTree → StmtTrees) (l : ℕ) (s : StmtTree) (t : ProgramTree) → statement_with l t ≡ Some s → GivesWay by l s t

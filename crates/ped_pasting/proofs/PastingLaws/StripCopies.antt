@@ -1,13 +1,13 @@
 -- Other copies at work: a strip brings the variable W into a PARALLEL DO round its loop, so that this has a copy of W in each iteration.
 use Rattle.std.proofs.Common.{◌≡◌, ℕ, List, [], ◌∷◌, Bool, true, false, ◌⊎◌, inl, inr, refl, ap, ◌∙◌, pos}
 use Rattle.std.specs.Prelude.{codes, ◌||◌}
-use Rattle.ped_tree.specs.Tree.{Int, Head, Do, StmtTrees, no_stmts, more_stmts}
-use Rattle.ped_steps.specs.ped_flow.specs.ped_base.specs.Lists.{is_same_text, is_among}
-use Rattle.ped_steps.specs.ped_laws.specs.ped_store.specs.Cells.{Cell, Scalar, Private}
-use Rattle.ped_steps.specs.ped_laws.specs.ped_eval.specs.Scopes.{Setting, Scope, cell_of}
-use Rattle.ped_steps.specs.ped_laws.specs.ped_eval.specs.Loops.{Limits, entered_with, frame}
-use Rattle.ped_steps.specs.Runs.Gaps.{Gap, at_front, filled}
-use Rattle.ped_steps.proofs.RunLaws.Swapped.{cell_name, named_so}
+use Rattle.ped_bodies.specs.ped_steps.specs.ped_tree.specs.Tree.{Int, Head, Do, StmtTrees, no_stmts, more_stmts}
+use Rattle.ped_bodies.specs.ped_steps.specs.ped_flow.specs.ped_base.specs.Lists.{is_same_text, is_among}
+use Rattle.ped_bodies.specs.ped_steps.specs.ped_laws.specs.ped_store.specs.Cells.{Cell, Scalar, Private}
+use Rattle.ped_bodies.specs.ped_steps.specs.ped_laws.specs.ped_eval.specs.Scopes.{Setting, Scope, cell_of}
+use Rattle.ped_bodies.specs.ped_steps.specs.ped_laws.specs.ped_eval.specs.Loops.{Limits, entered_with, frame}
+use Rattle.ped_bodies.specs.ped_steps.specs.Runs.Gaps.{Gap, at_front, filled}
+use Rattle.ped_bodies.specs.ped_steps.proofs.RunLaws.Swapped.{cell_name, named_so}
 use Rattle.ped_pasting.specs.OtherCopies.{AreNear, HasOtherCopies}
 use Rattle.ped_pasting.proofs.PastingLaws.NearPlaces.{near_more, near_itself}
 

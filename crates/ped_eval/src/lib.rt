@@ -4,7 +4,6 @@
 #![tactic(auto)]
 
 mod accesses;
-mod counts;
 mod evaluation;
 mod exit_notes;
 mod exits;
@@ -33,7 +32,6 @@ ghost use Rattle.ped_eval.specs.Outcomes as Spec;
 ghost use Rattle.ped_eval.specs.Outcomes.{outcome, outcome_of, run_of};
 
 pub use accesses::{Access, Turn};
-pub use counts::{count, count_all};
 pub use evaluation::{target_cell, truth_of, value_of};
 pub use exits::{leave_loop, write_exit};
 pub use notes::Notes;

@@ -33,8 +33,8 @@ use ped_tree::Program;
 use std::alloc::Global;
 
 /// Runs a valid program, whose names these are, on the lines of its data. The iterations of a PARALLEL DO run in
-/// order. The time is linear in the statements that it does. The outcome has the lines that are printed and what the
-/// live-out variables hold, or the number of the fault and the statement that met it.
+/// order. The outcome has the lines that are printed and what the live-out variables hold, or the number of the fault
+/// and the statement that met it.
 ///
 /// # Errors
 ///

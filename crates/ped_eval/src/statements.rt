@@ -22,7 +22,6 @@ ghost use Rattle.ped_eval.specs.StatementNotes.{assignment_noted};
 ghost use Rattle.ped_eval.specs.Watched.{Watched, turns_run};
 ghost use Rattle.ped_eval.specs.Told.{Ran, TellsFrom, StaysReady, OnGoing, OnStopped};
 
-use crate::counts::{count, count_all};
 use crate::evaluation::{target_cell, value_of};
 use crate::exits::leave_loop;
 use crate::notes::Notes;
@@ -36,7 +35,7 @@ use crate::turns::{close_copies, enter_loop, open_turn};
 use crate::watches::Watch;
 use ped_store::RunFault;
 use ped_symbols::Symbols;
-use ped_tree::{Do, Expr, Stmt};
+use ped_tree::{Do, Expr, Stmt, count_statement, count_statements};
 use std::alloc::Global;
 
 /// Runs statements, of which the first has this number.
@@ -64,7 +63,7 @@ pub(crate) fn run_all<W: Watch>(
     let mut number = first;
     for stmt in stmts {
         match run_one(alloc, symbols, state, watch, stmt, number) {
-            Ok(Flow::Going) => number += count(stmt),
+            Ok(Flow::Going) => number += count_statement(stmt),
             Ok(Flow::Stopped) => return Ok(Flow::Stopped),
             Err(error) => return Err(error),
         }
@@ -101,7 +100,7 @@ fn run_one<W: Watch>(
         } => match watched_truth(alloc, symbols, state, watch, condition, number) {
             Ok(true) => return run_all(alloc, symbols, state, watch, then_part, number + 1),
             Ok(false) => {
-                let behind = number + 1 + count_all(then_part);
+                let behind = number + 1 + count_statements(then_part);
                 return run_all(alloc, symbols, state, watch, else_part, behind);
             }
             Err(error) => return Err(error),

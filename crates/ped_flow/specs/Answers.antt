@@ -11,7 +11,7 @@ IsReader t l x None = IsLiveAfter t l x → ⊥
 IsReader t l x (Some (Statement n)) = IsFirst (IsReadBehind t l x) (Some n)
 IsReader t l x (Some Saved) = IsFirst (IsReadBehind t l x) None × IsShownBehind t l x
 
--- the DO is contained; or this is the first statement by whose read it isn't; or there is none, and the program's end may show a variable of it
+-- the DO is contained; or this is the first statement by whose read it isn't; or there is none, and the program's end may show its variable or that of a DO in it
 abbrev pub IsEscape : ProgramTree → ℕ → Option Reader → Type 0
 IsEscape t l None = IsContained t l
 IsEscape t l (Some (Statement n)) = IsFirst (IsBrokenBy t l) (Some n)

@@ -35,6 +35,6 @@ abbrev pub escapes_of : ProgramTree → ℕ → Head → StmtTrees → List (Lis
 escapes_of t l h body [] = no_escape
 escapes_of t l h body (x ∷ xs) = either_escape (escape_of t l h body x) (escapes_of t l h body xs)
 
--- who breaks the DO: the statement of the first read, or else the program's end, where it may show a variable
+-- by what the DO isn't contained: the first statement that reads; where none reads, the program's end, if it may show a variable; else nothing
 abbrev pub escaping : Escape → Option Reader
 escaping e = reader_by e.first e.shown

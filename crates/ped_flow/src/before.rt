@@ -13,7 +13,7 @@ use crate::scalars::condition;
 use crate::skips::{elsewhere, past};
 use crate::summaries::Summary;
 use crate::walks::statement;
-use ped_tree::Stmt;
+use ped_tree::{Stmt, count_statements};
 
 /// What the paths to the outermost loop do in statements. The number of the first becomes that of the statement behind
 /// them.
@@ -148,39 +148,9 @@ fn before_inside(scalar: &Scalar, l: u32, s: &Stmt, number: &mut u32) -> Summary
             return condition(scalar, c, own).then(first.or(second));
         }
         Stmt::Do(d) => {
-            let last = own + count_all(&d.body);
+            let last = own + count_statements(&d.body);
             *number = last + 1;
             return at_once(own <= l && l <= last);
         }
     }
-}
-
-#[cycle(count)]
-fn count(stmt: &Stmt) -> u32
-    requires { statement_count (stmt_tree stmt.now) < 2 ^ 32 }
-    ensures { result ≡ statement_count (stmt_tree stmt.now) }
-{
-    match stmt {
-        Stmt::If {
-            condition: _,
-            then_part,
-            else_part,
-        } => count_all(then_part) + count_all(else_part) + 1,
-        Stmt::Do(body) => count_all(&body.body) + 1,
-        Stmt::Comment(_) => 0,
-        Stmt::Assign { left: _, right: _ } | Stmt::Print(_) | Stmt::Read(_) | Stmt::Stop => 1,
-    }
-}
-
-/// How many numbered statements there are.
-#[cycle(count)]
-pub(crate) fn count_all(stmts: &[Stmt]) -> u32
-    requires { statements_count (stmt_trees stmts.now) < 2 ^ 32 }
-    ensures { result ≡ statements_count (stmt_trees stmts.now) }
-{
-    let mut total = 0;
-    for stmt in stmts {
-        total += count(stmt);
-    }
-    total
 }

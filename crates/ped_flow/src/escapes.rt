@@ -51,7 +51,7 @@ impl Escape {
         }
     }
 
-    /// Who breaks it: the statement of the first read, or else the program's end, where it may show a variable.
+    /// By what it isn't contained: the first statement that reads, or else the program's end, where it may show a variable.
     fn reader(self) -> Option<Reader>
         ensures { result ≡ Spec.escaping self }
     {

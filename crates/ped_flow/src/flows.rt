@@ -20,7 +20,7 @@ ghost use Rattle.ped_flow.specs.RowMarks.{constants_in};
 ghost use Rattle.ped_flow.specs.Entries.{AreEntered, KnowsAll, AreKnown};
 
 use crate::asked::{Scalar, scalar_by};
-use crate::before::{before_all, count_all};
+use crate::before::before_all;
 use crate::behind::behind_all;
 use crate::collecting::place_statements;
 use crate::decls::is_saved;
@@ -32,7 +32,7 @@ use crate::scalars::start;
 use crate::summaries::Summary;
 use crate::walks::statements;
 use ped_base::{Name, NoMemory};
-use ped_tree::{Do, Program, Stmt};
+use ped_tree::{Do, Program, Stmt, count_statements};
 use std::alloc::Global;
 
 /// Who may read what a scalar holds.
@@ -85,7 +85,7 @@ fn table_of(alloc: Global, places: &Places, body: &[Stmt]) -> Result<Vec<Option<
     requires { statements_count (stmt_trees body.now) + 1 < 2 ^ 32 }
     ensures { IfOk result (λ table. KnowsAll places.now table.items (stmt_trees body.now) 1) }
 {
-    let mut table = empty_table(alloc, count_all(body) + 1)?;
+    let mut table = empty_table(alloc, count_statements(body) + 1)?;
     let mut number = 1;
     all_parts(alloc, places, &mut table, body, &mut number)?;
     Ok(table)

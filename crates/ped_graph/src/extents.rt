@@ -5,7 +5,7 @@ ghost use Rattle.ped_tree.specs.Views.{stmt_tree, stmt_trees};
 ghost use Rattle.ped_tree.specs.Numbering.{numbered, all_numbered, statement_count, statements_count};
 
 use ped_base::NoMemory;
-use ped_tree::Stmt;
+use ped_tree::{Stmt, count_statement};
 use std::alloc::Global;
 
 /// For each numbered statement, in text order, how many statements it has, itself and those in it.
@@ -43,12 +43,12 @@ fn push_statement(extents: &mut Vec<u32>, statement: &Stmt) -> Result<(), NoMemo
             then_part,
             else_part,
         } => {
-            extents.push(count(statement))?;
+            extents.push(count_statement(statement))?;
             push_all(extents, then_part)?;
             push_all(extents, else_part)
         }
         Stmt::Do(d) => {
-            extents.push(count(statement))?;
+            extents.push(count_statement(statement))?;
             push_all(extents, &d.body)
         }
         Stmt::Assign { left: _, right: _ } => push_one(extents),
@@ -63,34 +63,4 @@ fn push_one(extents: &mut Vec<u32>) -> Result<(), NoMemory>
 {
     extents.push(1)?;
     Ok(())
-}
-
-/// How many numbered statements a statement has, itself and those in it.
-#[cycle(count)]
-fn count(stmt: &Stmt) -> u32
-    requires { statement_count (stmt_tree stmt.now) < 2 ^ 32 }
-    ensures { result ≡ statement_count (stmt_tree stmt.now) }
-{
-    match stmt {
-        Stmt::If {
-            condition: _,
-            then_part,
-            else_part,
-        } => count_all(then_part) + count_all(else_part) + 1,
-        Stmt::Do(body) => count_all(&body.body) + 1,
-        Stmt::Comment(_) => 0,
-        Stmt::Assign { left: _, right: _ } | Stmt::Print(_) | Stmt::Read(_) | Stmt::Stop => 1,
-    }
-}
-
-#[cycle(count)]
-fn count_all(stmts: &[Stmt]) -> u32
-    requires { statements_count (stmt_trees stmts.now) < 2 ^ 32 }
-    ensures { result ≡ statements_count (stmt_trees stmts.now) }
-{
-    let mut total = 0;
-    for stmt in stmts {
-        total += count(stmt);
-    }
-    total
 }

@@ -17,11 +17,11 @@ use crate::parts::{Part, Parts};
 use crate::steps::Done;
 use ped_base::NoMemory;
 use ped_eval::{
-    Notes, PrintError, State, Surroundings, assign, count_all, line_of, take_items, truth_of,
+    Notes, PrintError, State, Surroundings, assign, line_of, take_items, truth_of,
 };
 use ped_store::RunFault;
 use ped_symbols::Symbols;
-use ped_tree::{Cond, Expr, PrintItem, Stmt};
+use ped_tree::{Cond, Expr, PrintItem, Stmt, count_statements};
 use std::alloc::Global;
 
 /// Begins a statement other than a DO, of which the parts are what is left behind it.
@@ -56,7 +56,7 @@ pub(crate) fn begin<'a>(
         } => match do_condition(alloc, symbols, state, condition) {
             Ok(true) => return push_block(parts, then_part, number + 1),
             Ok(false) => {
-                let behind = number + 1 + count_all(then_part);
+                let behind = number + 1 + count_statements(then_part);
                 return push_block(parts, else_part, behind);
             }
             Err(fault) => return Ok(Done::Fault {

@@ -8,8 +8,8 @@ ghost use Rattle.ped_interleavings.specs.Lefts.{is_finished};
 ghost use Rattle.ped_machine.specs.Parts.{part_view, turn_view, parts_of, parts_left, advanced, counted, with_statements, with_next_turn, statements_behind, behind_first, begins_with_comment, first_turn, first_statements, has_some, first_number, first_count, is_comment, CanTurnOn, FirstGoesOn, IsFirstBlock, IsNext, IsSettled, IsSpent, IsWithoutComments};
 
 use ped_base::NoMemory;
-use ped_eval::{Plan, count};
-use ped_tree::{Do, Stmt};
+use ped_eval::Plan;
+use ped_tree::{Do, Stmt, count_statement};
 use std::alloc::Global;
 
 /// An iteration of a DO whose end is still to be done.
@@ -254,7 +254,7 @@ fn behind_statement<'a>(block: &Block<'a>) -> Block<'a>
     match block.stmts.split_first() {
         Some((stmt, rest)) => return Block {
             stmts: rest,
-            first: block.first + count(stmt),
+            first: block.first + count_statement(stmt),
         },
         None => return *block,
     }

@@ -32,8 +32,8 @@ struct Members {
     writes: Vec<usize>,
 }
 
-/// All ordered pairs of these references, in the order of the sources and then of the sinks. The time is linear in
-/// the number of references and pairs. A pair is two places of the list.
+/// All ordered pairs of these references, in the order of the sources and then of the sinks. A pair is two places of
+/// the list.
 pub fn listed_pairs(alloc: Global, found: &[Occurrence]) -> Result<Vec<Pair>, NoMemory>
     ensures pairs { IfOk result (λ listed. map (pair_at (references_of found.now)) listed.items ≡ map Some (pairs (references_of found.now))) }
     ensures within { IfOk result (λ listed. All (IsWithin (length found.now)) listed.items) }

@@ -7,9 +7,8 @@ ghost use Rattle.ped_tree.specs.Numbering.{statements_count};
 ghost use Rattle.ped_rules.specs.KeepMaps as Spec;
 
 use ped_base::{Listed, NoMemory};
-use ped_loop_runs::ped_tidy::ped_steps::count_statements;
 use ped_loop_runs::ped_tidy::ped_steps::ped_graph::update::Keep;
-use ped_tree::Program;
+use ped_tree::{Program, count_statements};
 use std::alloc::Global;
 
 /// Each statement of a program with its number behind a step: those behind the number `end` go so much further.

@@ -7,9 +7,8 @@ ghost use Rattle.ped_tree.specs.Numbering.{statements_count};
 ghost use Rattle.ped_scalar.specs.Expanding as Spec;
 
 use ped_base::{Listed, NoMemory};
-use ped_rules::ped_steps::count_statements;
 use ped_rules::ped_steps::ped_graph::update::Keep;
-use ped_tree::{Do, Program};
+use ped_tree::{Do, Program, count_statements};
 use std::alloc::Global;
 
 /// Each statement of a program with its number behind the step: those behind the DO with this number go one further where

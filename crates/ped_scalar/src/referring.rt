@@ -10,9 +10,8 @@ ghost use Rattle.ped_rules.specs.ped_steps.specs.ped_refs.specs.Occurrences.{nam
 ghost use Rattle.ped_scalar.specs.Scalars as Spec;
 
 use ped_base::{Name, NoMemory};
-use ped_rules::ped_steps::count_statements;
 use ped_rules::ped_steps::ped_refs::{Occurrence, RefName, occurrences};
-use ped_tree::{Do, Program};
+use ped_tree::{Do, Program, count_statements};
 use std::alloc::Global;
 
 /// Whether a reference in the body of the DO with this number refers to the name.

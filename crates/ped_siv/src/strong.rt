@@ -12,9 +12,9 @@ use ped_views::{Direction, LoopRange, StrongRow, difference, divides, exact_quot
 /// is 0.
 ///
 /// The subscripts of a row are equal exactly where `j - i = (c1 - c2) / a`, one distance for all iterations. So the
-/// direction is excluded exactly where this isn't whole or isn't the same for all rows, is longer than the range,
-/// points elsewhere, or isn't a whole number of steps of a steady loop. The test can't tell which values of its range
-/// the index takes: where a loop that isn't steady starts, and whether it runs at all.
+/// direction is excluded exactly where this isn't whole or isn't the same for all rows, is longer than the range, points
+/// elsewhere, or isn't a whole number of steps of a steady loop. No distance fits an empty range. Otherwise the test can't
+/// tell which values of its range the index takes: where a loop that isn't steady starts, and whether it runs at all.
 pub fn group_excludes(rows: &[StrongRow], range: &LoopRange, d: Direction) -> bool
     requires some { 0 < length rows.now }
     requires coefficients { All (λ s. ¬ (s.a ≡ pos 0)) rows.now }

@@ -5,11 +5,10 @@ ghost use Rattle.ped_tree.specs.Views.{program_tree};
 ghost use Rattle.ped_tree.specs.Numbering.{statements_count};
 ghost use Rattle.ped_steps.specs.Replacing as Spec;
 
-use crate::counting::count_statements;
 use ped_base::{Listed, NoMemory};
+use ped_tree::{Program, count_statements};
 use ped_weaves::ped_laws::ped_graph::ped_symbols::Symbols;
 use ped_weaves::ped_laws::ped_graph::update::Keep;
-use ped_tree::Program;
 use std::alloc::Global;
 
 /// What an accepted step makes of a program.

@@ -4,7 +4,6 @@
 
 mod causes;
 mod changes;
-mod counting;
 mod laws;
 mod replacing;
 mod rounds;
@@ -15,7 +14,6 @@ mod validity;
 
 pub use causes::{Refused, cause_words};
 pub use changes::{Change, all_kept};
-pub use counting::count_statements;
 pub use laws::one_replacement;
 pub use ped_base;
 pub use ped_sums;

@@ -8,9 +8,8 @@ ghost use Rattle.ped_tree.specs.Views.{head_of};
 ghost use Rattle.ped_steps.specs.Replacing as Spec;
 ghost use Rattle.ped_steps.specs.Placing.{placed, all_placed};
 
-use crate::counting::{count_statement, count_statements};
 use ped_base::NoMemory;
-use ped_tree::{Decl, Do, Program, Stmt};
+use ped_tree::{Decl, Do, Program, Stmt, count_statement, count_statements};
 use std::alloc::Global;
 
 /// The program with copies of these statements in the place of its statement with this number. It has no lines.

@@ -19,4 +19,5 @@ pub use copying::{copy_decls, copy_names};
 pub use declarations::{Bound, Consts, Decl, Declarator, Program};
 pub use expressions::{Expr, Intrinsic};
 pub use laws::numbers_end_at_count;
+pub use numbering::{count_statement, count_statements};
 pub use statements::{Do, PrintItem, Stmt};

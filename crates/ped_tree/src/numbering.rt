@@ -14,7 +14,7 @@ impl Program {
         requires { statements_count (program_tree self.now).body < 2 ^ 32 }
         ensures { result ≡ statements_count (program_tree self.now).body }
     {
-        count_all(&self.body)
+        count_statements(&self.body)
     }
 
     /// The statement with this number, where there is one.
@@ -30,31 +30,33 @@ impl Program {
     }
 }
 
+/// How many numbered statements a statement has, itself and those in its parts.
 #[cycle(count)]
-fn count(stmt: &Stmt) -> u32
-    requires { statement_count (stmt_tree stmt.now) < 2 ^ 32 }
-    ensures { result ≡ statement_count (stmt_tree stmt.now) }
+pub fn count_statement(statement: &Stmt) -> u32
+    requires { statement_count (stmt_tree statement.now) < 2 ^ 32 }
+    ensures { result ≡ statement_count (stmt_tree statement.now) }
 {
-    match stmt {
+    match statement {
         Stmt::If {
             condition: _,
             then_part,
             else_part,
-        } => count_all(then_part) + count_all(else_part) + 1,
-        Stmt::Do(body) => count_all(&body.body) + 1,
+        } => count_statements(then_part) + count_statements(else_part) + 1,
+        Stmt::Do(d) => count_statements(&d.body) + 1,
         Stmt::Comment(_) => 0,
         Stmt::Assign { left: _, right: _ } | Stmt::Print(_) | Stmt::Read(_) | Stmt::Stop => 1,
     }
 }
 
+/// How many numbered statements these are, with those in their parts.
 #[cycle(count)]
-fn count_all(stmts: &[Stmt]) -> u32
-    requires { statements_count (stmt_trees stmts.now) < 2 ^ 32 }
-    ensures { result ≡ statements_count (stmt_trees stmts.now) }
+pub fn count_statements(statements: &[Stmt]) -> u32
+    requires { statements_count (stmt_trees statements.now) < 2 ^ 32 }
+    ensures { result ≡ statements_count (stmt_trees statements.now) }
 {
     let mut total = 0;
-    for stmt in stmts {
-        total += count(stmt);
+    for statement in statements {
+        total += count_statement(statement);
     }
     total
 }

@@ -18,7 +18,7 @@ abbrev pub AreThose : {X : Type 0} → (X → Type 0) → List X → List X → 
 AreThose P [] chosen = chosen ≡ []
 AreThose P (x ∷ xs) chosen = (P x × ((rest : List _) × (chosen ≡ x ∷ rest) × AreThose P xs rest)) ⊎ (¬ (P x) × AreThose P xs chosen)
 
--- no position of the view excludes the vector, and no group: each group has a position, and excludes where its positions do (Allen and Kennedy, section 3.1)
+-- no position of the view excludes the vector, and no group: a group excludes where its positions do, and one without positions is never asked (Allen and Kennedy, section 3.1)
 abbrev pub IsPossible : View → List Direction → Type 0
 IsPossible v vector = AllByRecursion (λ p. ¬ (Excludes v p vector)) v.positions
 

@@ -131,10 +131,10 @@ run_one-run_all-requires-in-Ok-false g t c =
     let is = ap stmt_tree c.in-If.is ∙ stmt_tree-If c.in-If.condition c.in-If.then_part c.in-If.else_part in
     let a = stmt_trees c.in-If.then_part.items in
     let b = stmt_trees c.in-If.else_part.items in
-    let count : c.count_all.result ≡ statements_count a = c.count_all.ensures ∙ ap (λ (ss : List Stmt). statements_count (stmt_trees ss)) c.deref-in-Ok-false.ensures.value in
+    let count : c.count_statements.result ≡ statements_count a = c.count_statements.ensures ∙ ap (λ (ss : List Stmt). statements_count (stmt_trees ss)) c.deref-in-Ok-false.ensures.value in
     let can = else_can c.args.symbols.now c.args.state.now.scope c.args.number (cond_tree c.in-If.condition) a b (subst (λ (x : StmtTree). CanDo c.args.symbols.now c.args.state.now.scope c.args.number x) is c.requires.can) in
-    let counted : CanRun c.args.symbols.now c.args.state.now.scope (c.args.number + 1 + c.count_all.result) b = subst (λ (k : ℕ). CanRun c.args.symbols.now c.args.state.now.scope (c.args.number + 1 + k) b) (sym count) can in
-    λ κs h. (search (rules, the_lemmas), ((λ a b. h a b), (subst (λ (ss : List Stmt). CanRun c.args.symbols.now c.args.state.now.scope (c.args.number + 1 + c.count_all.result) (stmt_trees ss)) (sym c.deref-in-Ok-false-2.ensures.value) counted, c.requires.ready)))
+    let counted : CanRun c.args.symbols.now c.args.state.now.scope (c.args.number + 1 + c.count_statements.result) b = subst (λ (k : ℕ). CanRun c.args.symbols.now c.args.state.now.scope (c.args.number + 1 + k) b) (sym count) can in
+    λ κs h. (search (rules, the_lemmas), ((λ a b. h a b), (subst (λ (ss : List Stmt). CanRun c.args.symbols.now c.args.state.now.scope (c.args.number + 1 + c.count_statements.result) (stmt_trees ss)) (sym c.deref-in-Ok-false-2.ensures.value) counted, c.requires.ready)))
 
 pub run_one-returns-in-Ok-false-clause-told : goal.run_one-returns-in-Ok-false-clause-told
 run_one-returns-in-Ok-false-clause-told g t c =
@@ -147,11 +147,11 @@ run_one-returns-in-Ok-false-clause-told g t c =
     let is = ap stmt_tree c.in-If.is ∙ stmt_tree-If c.in-If.condition c.in-If.then_part c.in-If.else_part in
     let a = stmt_trees c.in-If.then_part.items in
     let b = stmt_trees c.in-If.else_part.items in
-    let count : c.count_all.result ≡ statements_count a = c.count_all.ensures ∙ ap (λ (ss : List Stmt). statements_count (stmt_trees ss)) c.deref-in-Ok-false.ensures.value in
+    let count : c.count_statements.result ≡ statements_count a = c.count_statements.ensures ∙ ap (λ (ss : List Stmt). statements_count (stmt_trees ss)) c.deref-in-Ok-false.ensures.value in
     let holds : (truth (names_at old scope table.constants) (cond_tree c.in-If.condition) old.cells).result ≡ Ok false =
     c.in-Ok-false.ensures.0 ∙ ap Ok c.in-Ok-false.field-0-test in
-    let part : Ran scope (n + 1 + c.count_all.result) old (n + 1 + c.count_all.result + statements_count b) r new (run_all (setting_by table) b (n + 1 + c.count_all.result) scope) =
-    subst (λ (ss : List Stmt). Ran scope (n + 1 + c.count_all.result) old (n + 1 + c.count_all.result + statements_count (stmt_trees ss)) r new (run_all (setting_by table) (stmt_trees ss) (n + 1 + c.count_all.result) scope))
+    let part : Ran scope (n + 1 + c.count_statements.result) old (n + 1 + c.count_statements.result + statements_count b) r new (run_all (setting_by table) b (n + 1 + c.count_statements.result) scope) =
+    subst (λ (ss : List Stmt). Ran scope (n + 1 + c.count_statements.result) old (n + 1 + c.count_statements.result + statements_count (stmt_trees ss)) r new (run_all (setting_by table) (stmt_trees ss) (n + 1 + c.count_statements.result) scope))
     c.deref-in-Ok-false-2.ensures.value c.run_all-in-Ok-false.ensures.told in
     let told : Ran scope (n + 1 + statements_count a) old (n + 1 + statements_count a + statements_count b) r new (run_all (setting_by table) b (n + 1 + statements_count a) scope) =
     subst (λ (k : ℕ). Ran scope (n + 1 + k) old (n + 1 + k + statements_count b) r new (run_all (setting_by table) b (n + 1 + k) scope)) count part in
@@ -167,7 +167,7 @@ run_one-returns-in-Ok-false-clause-watched g t c =
     let is = ap stmt_tree c.in-If.is ∙ stmt_tree-If c.in-If.condition c.in-If.then_part c.in-If.else_part in
     let a = stmt_trees c.in-If.then_part.items in
     let b = stmt_trees c.in-If.else_part.items in
-    let count : c.count_all.result ≡ statements_count a = c.count_all.ensures ∙ ap (λ (ss : List Stmt). statements_count (stmt_trees ss)) c.deref-in-Ok-false.ensures.value in
+    let count : c.count_statements.result ≡ statements_count a = c.count_statements.ensures ∙ ap (λ (ss : List Stmt). statements_count (stmt_trees ss)) c.deref-in-Ok-false.ensures.value in
     let holds : (truth (names_at old scope table.constants) (cond_tree c.in-If.condition) old.cells).result ≡ Ok false =
     c.in-Ok-false.ensures.0 ∙ ap Ok c.in-Ok-false.field-0-test in
     let first = c.args.watch.now in
@@ -175,8 +175,8 @@ run_one-returns-in-Ok-false-clause-watched g t c =
     let last = c.run_all-in-Ok-false.new.watch in
     let follows = g.W.Watch.follows in
     let behind : n + 1 + statements_count a ≡ n + (1 + statements_count a) = omega arith in
-    let there : Watched follows mid last scope (before scope (n + 1 + c.count_all.result)) old.cells r (run_all (setting_by table) b (n + 1 + c.count_all.result) scope) =
-    subst (λ (ss : List Stmt). Watched follows mid last scope (before scope (n + 1 + c.count_all.result)) old.cells r (run_all (setting_by table) (stmt_trees ss) (n + 1 + c.count_all.result) scope))
+    let there : Watched follows mid last scope (before scope (n + 1 + c.count_statements.result)) old.cells r (run_all (setting_by table) b (n + 1 + c.count_statements.result) scope) =
+    subst (λ (ss : List Stmt). Watched follows mid last scope (before scope (n + 1 + c.count_statements.result)) old.cells r (run_all (setting_by table) (stmt_trees ss) (n + 1 + c.count_statements.result) scope))
     c.deref-in-Ok-false-2.ensures.value c.run_all-in-Ok-false.ensures.watched in
     let part : Watched follows mid last scope (before scope (n + (1 + statements_count a))) old.cells r (run_all (setting_by table) b (n + 1 + statements_count a) scope) =
     subst (λ (k : ℕ). Watched follows mid last scope (before scope k) old.cells r (run_all (setting_by table) b (n + 1 + statements_count a) scope)) behind
@@ -323,7 +323,7 @@ run_all-loop-stmt-preserved g t c =
     subst (λ (x : Flow). Ran c.loop-stmt.state.scope n kept (n + statement_count tree) (Ok x) new (run p tree n c.loop-stmt.state.scope)) c.in-Ok-Going.field-0-is c.in-Ok-Going.ensures.told in
     let left : stmt_trees (drop i c.args.stmts.now) ≡ more_stmts tree rest = stmts_left c.args.stmts.now i c.stmt-item.result c.loop-stmt-test.true c.stmt-item.is in
     let same : c.run_one.new.state.scope ≡ scope = going.0 ∙ inv.scope in
-    let count : c.count-number.result ≡ statement_count tree = c.count-number.ensures in
+    let count : c.count_statement-number.result ≡ statement_count tree = c.count_statement-number.ensures in
     let counts : statements_count (stmt_trees (drop i c.args.stmts.now)) ≡ statement_count tree + statements_count rest = ap statements_count left in
     let behind : n + statements_count (stmt_trees (drop i c.args.stmts.now)) ≡ c.args.first + statements_count (stmt_trees c.args.stmts.now) = inv.behind in
     let told : Ran scope n kept (n + statement_count tree) (Ok flow.Going) new (run p tree n scope) =

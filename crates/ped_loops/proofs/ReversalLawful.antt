@@ -63,7 +63,7 @@ module _ (t : ProgramTree) (valid : IsValid t) (s : ℕ) (loop : LoopOf t s) whe
   module _ (m : ℤ) (step : constant_value constants d.step ≡ Some m) (unit : is_unit m ≡ true) where
     kinds : (y : List ℕ) → kind_in (reversed t s) y ≡ kind_in t y
     kinds y = ap (λ (v : ProgramTree). kind_in v y) reversed_is
-        ∙ kinds_alike t valid s loop h refl (λ z other. turned_names constants d (neg_ℤ (increment constants d)) m body step z (others_unvalued t z valid other)) y
+        ∙ kinds_alike t valid s loop h refl (λ z other. turned_names constants d (neg_ℤ (increment constants d)) m body step z (others_unvalued t z other)) y
 
     trips : (scope : Scope) (v : Store) (old : Limits) → (limits (names_in (setting_of t) scope) d v).result ≡ Ok old → HasSameTrips (setting_of t) d h body s true scope v old
     trips scope v old come = turned_trips (setting_of t) d body s m step (unit_is m unit) scope v old come
@@ -80,9 +80,9 @@ module _ (t : ProgramTree) (valid : IsValid t) (s : ℕ) (loop : LoopOf t s) whe
       contained = contained;
       trips = trips;
       in_turn = λ e. (serial, serial);
-      differ = λ e. absurd (both_ways true refl e);
+      differ = λ e. absurd (both_ways true e refl);
       carries = λ e. carries;
-      unwritten = λ e. absurd (both_ways true refl e);
+      unwritten = λ e. absurd (both_ways true e refl);
     }
 
     -- and a program that may be trusted stays so

@@ -34,9 +34,8 @@ use Rattle.ped_scalar.specs.ped_rules.specs.ped_loop_runs.specs.Carried.{NoneCar
 use Rattle.ped_scalar.specs.ped_rules.specs.ped_loop_runs.specs.OneForOne.{HasSameTrips, IsOneForOne}
 use Rattle.ped_scalar.specs.ped_rules.specs.ped_loop_runs.proofs.LoopLaws.OneForOneNames.{kinds_alike}
 use Rattle.ped_loops.specs.Reversing.{turned_head, with_turned, reversed, MakesReversed, StandsAgainstReversal, reversing}
-use Rattle.ped_loops.proofs.FlaggedLoops.{TrustedLaw, ClearedLaw}
 use Rattle.ped_loops.proofs.FlagsLawful.{KeepsLaw, UnrejectedLaw, none_carried}
-use Rattle.ped_loops.proofs.OneHead.{stays_trusted_head}
+use Rattle.ped_loops.proofs.OneHead.{TrustedLaw, ClearedLaw, stays_trusted_head}
 use Rattle.ped_loops.proofs.ReverseRules as rules
 use Rattle.ped_loops.proofs.ReversedLoops.{unit_is, turned_trips}
 use Rattle.ped_loops.proofs.ReversedNames.{turned_names}

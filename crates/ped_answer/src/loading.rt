@@ -8,7 +8,7 @@ ghost use Rattle.ped_answer.specs.Serving.{SaysUnread, unread_status};
 
 use crate::answering::Status;
 use crate::finishing::finish;
-use ped_base::{Bytes, NoMemory, push_number};
+use ped_session::ped_base::{Bytes, NoMemory, push_number};
 use ped_io::{LoadError, Sink};
 use std::alloc::Global;
 

@@ -7,7 +7,7 @@ ghost use Rattle.ped_session.specs.ped_symbols.specs.Kinds.{table_of};
 ghost use Rattle.ped_session.specs.ped_refs.specs.References.{references, pair_count};
 ghost use Rattle.ped_session.specs.Panes.{ArePanes};
 
-use ped_base::{Bytes, NoMemory};
+use ped_session::ped_base::{Bytes, NoMemory};
 use ped_session::ped_graph::Graph;
 use ped_session::ped_print::source_pane;
 use ped_session::ped_tree::Program;

@@ -9,7 +9,7 @@ ghost use Rattle.ped_answer.specs.Refusals as Spec;
 
 use crate::answering::Status;
 use crate::finishing::finish;
-use ped_base::{Bytes, NoMemory, push_number};
+use ped_session::ped_base::{Bytes, NoMemory, push_number};
 use ped_io::Sink;
 use ped_session::ped_tree::grammar::Refusal;
 use std::alloc::Global;

@@ -13,7 +13,7 @@ use crate::answering::Status;
 use crate::finishing::finish;
 use crate::loading::{DATA_LIMIT, SOURCE_LIMIT, say_unread};
 use crate::refusals::is_refused;
-use ped_base::NoMemory;
+use ped_session::ped_base::NoMemory;
 use ped_io::{Shelf, Sink, load};
 use ped_session::ped_script::commands;
 use ped_session::ped_valid::OpenRefusal;

@@ -15,7 +15,7 @@ use crate::finishing::finish;
 use crate::loading::{SOURCE_LIMIT, say_unread};
 use crate::panes::panes;
 use crate::refusals::is_refused;
-use ped_base::NoMemory;
+use ped_session::ped_base::NoMemory;
 use ped_io::{Shelf, Sink, load};
 use ped_session::ped_tree::Program;
 use ped_session::ped_tree::constants::Consts;

@@ -6,7 +6,7 @@ use Rattle.ped_order.specs.ped_store.specs.Cells.{Scalar, Element, Private, In}
 use Rattle.ped_order.specs.ped_eval.specs.Outcomes.{Outcome, Ended, Fault}
 use Rattle.ped_order.specs.Reports.{NoRace, Race}
 use Rattle.ped_order.specs.Reports as races
-use Rattle.ped_tree.specs.declared.grammar.refusals.RefusalKind.TheVariants.{OpenBlock, StorageLimit}
+use Rattle.ped_session.specs.ped_tree.specs.declared.grammar.refusals.RefusalKind.TheVariants.{OpenBlock, StorageLimit}
 use Rattle.ped_session.specs.declared.replies.Refusal.TheVariants.{BadEdit, NothingToUndo, NothingToRedo, NoSuchStatement, NoSuchLine, NotBuilt}
 use Rattle.ped_session.specs.declared.replies.Reply.TheVariants.{Changed, Shown, Refused}
 use Rattle.ped_session.specs.Splices.{text_of_lines, spliced, are_lines, is_place}

@@ -1,22 +1,22 @@
 -- A command has one reply in a state, and leads to one state.
 use Rattle.std.proofs.Common.{◌≡◌, inl, inr, ℕ, Bool, true, false, List, [], ◌∷◌, ◌++◌, Option, Some, None, is_some, sym, ap, ◌∙◌, subst}
 use Rattle.std.specs.Prelude.{MatchBool, ⊤}
-use Rattle.ped_tree.specs.Tree.{StmtTree, ProgramTree}
-use Rattle.ped_tree.specs.Printing.{program_text}
-use Rattle.ped_tree.specs.SourcePane.{source_pane}
-use Rattle.ped_tree.specs.Numbering.{statement_with}
-use Rattle.ped_tree.specs.Grammar.Refusal.{Finding}
-use Rattle.ped_tree.specs.Grammar.RefusalViews.{finding_of}
-use Rattle.ped_tree.specs.declared.grammar.refusals.Refusal as text
+use Rattle.ped_session.specs.ped_tree.specs.Tree.{StmtTree, ProgramTree}
+use Rattle.ped_session.specs.ped_tree.specs.Printing.{program_text}
+use Rattle.ped_session.specs.ped_tree.specs.SourcePane.{source_pane}
+use Rattle.ped_session.specs.ped_tree.specs.Numbering.{statement_with}
+use Rattle.ped_session.specs.ped_tree.specs.Grammar.Refusal.{Finding}
+use Rattle.ped_session.specs.ped_tree.specs.Grammar.RefusalViews.{finding_of}
+use Rattle.ped_session.specs.ped_tree.specs.declared.grammar.refusals.Refusal as text
 use Rattle.ped_valid.specs.Validity.{ReadsValid, RefusesText}
 use Rattle.ped_valid.proofs.OneVerdict.{one_of_both}
-use Rattle.ped_graph.specs.DependencePane.{IsDependencePane, IsDependencePaneOf}
-use Rattle.ped_graph.proofs.OnePane.{one_pane, one_pane_of}
-use Rattle.ped_graph.specs.Update.Fresh.{tested_pairs}
+use Rattle.ped_session.specs.ped_graph.specs.DependencePane.{IsDependencePane, IsDependencePaneOf}
+use Rattle.ped_session.specs.ped_graph.proofs.OnePane.{one_pane, one_pane_of}
+use Rattle.ped_session.specs.ped_graph.specs.Update.Fresh.{tested_pairs}
 use Rattle.ped_order.specs.ped_eval.specs.Outcomes.{outcome}
 use Rattle.ped_transformations.specs.ped_steps.specs.Causes.{Cause}
-use Rattle.ped_script.specs.declared.items.Command.{Command}
-use Rattle.ped_script.specs.declared.items.Command.TheVariants.{Source, Deps, Show, Print, Advise, Replace, Insert, Delete, Interchange, Reverse, Skew, Strip, Peel, Distribute, Fuse, Expand, Privatise, Parallel, Serial, Reject, Undo, Redo, Run, Races, Tested}
+use Rattle.ped_session.specs.ped_script.specs.declared.items.Command.{Command}
+use Rattle.ped_session.specs.ped_script.specs.declared.items.Command.TheVariants.{Source, Deps, Show, Print, Advise, Replace, Insert, Delete, Interchange, Reverse, Skew, Strip, Peel, Distribute, Fuse, Expand, Privatise, Parallel, Serial, Reject, Undo, Redo, Run, Races, Tested}
 use Rattle.ped_session.specs.declared.changes.Change.TheVariants.{Edit}
 use Rattle.ped_session.specs.declared.replies.Refusal.{Refusal}
 use Rattle.ped_session.specs.declared.replies.Refusal.TheVariants.{BadEdit, Step, NothingToUndo, NothingToRedo, NoSuchStatement, NoSuchLine, NotBuilt}

@@ -1,6 +1,6 @@
 -- What transformations keep in a session: the meaning of its programs (Allen and Kennedy, section 2.2.3; ParaScope; this project).
 use Rattle.std.specs.Prelude.{◌≡◌, ◌⊎◌, ℕ, List, [], ◌∷◌, ⊤}
-use Rattle.ped_tree.specs.Tree.{ProgramTree}
+use Rattle.ped_session.specs.ped_tree.specs.Tree.{ProgramTree}
 use Rattle.ped_valid.specs.Validity.{ReadsValid}
 use Rattle.ped_order.specs.ped_eval.specs.Outcomes.{Outcome, outcome, IsRaceFree}
 use Rattle.ped_transformations.specs.ped_rules.specs.ped_tidy.specs.Unrejected.{IsTrusted}

@@ -1,8 +1,8 @@
 -- What is printed of replies (this project).
 use Rattle.std.specs.Prelude.{ℕ, List, [], ◌∷◌, ◌++◌, codes, Bool, true, false}
 use Rattle.std.specs.Fmt.{decimal}
-use Rattle.ped_tree.specs.Grammar.Refusal.{Finding, number_of, name_of_refusal}
-use Rattle.ped_tree.specs.Grammar.RefusalViews.{finding_of}
+use Rattle.ped_session.specs.ped_tree.specs.Grammar.Refusal.{Finding, number_of, name_of_refusal}
+use Rattle.ped_session.specs.ped_tree.specs.Grammar.RefusalViews.{finding_of}
 use Rattle.ped_session.specs.declared.replies.Refusal.{Refusal}
 use Rattle.ped_transformations.specs.ped_steps.specs.CauseWords.{cause_words}
 use Rattle.ped_session.specs.declared.replies.Refusal.TheVariants.{BadEdit, Step, NothingToUndo, NothingToRedo, NoSuchStatement, NoSuchLine, NotBuilt}

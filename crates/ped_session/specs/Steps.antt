@@ -1,18 +1,18 @@
 -- What a command does: its reply, and the state of the session behind it (ParaScope; this project).
 use Rattle.std.specs.Prelude.{◌≡◌, ◌⊎◌, ℕ, ◌-◌, ◌+◌, List, [], ◌∷◌, true, false, Option, Some, None, MatchBool, is_some}
-use Rattle.ped_tree.specs.Tree.{StmtTree, ProgramTree}
-use Rattle.ped_tree.specs.Printing.{program_text}
-use Rattle.ped_tree.specs.Numbering.{statement_with}
+use Rattle.ped_session.specs.ped_tree.specs.Tree.{StmtTree, ProgramTree}
+use Rattle.ped_session.specs.ped_tree.specs.Printing.{program_text}
+use Rattle.ped_session.specs.ped_tree.specs.Numbering.{statement_with}
 use Rattle.ped_valid.specs.ped_symbols.specs.NameRefusals.{IsValid}
-use Rattle.ped_tree.specs.Grammar.RefusalViews.{finding_of}
-use Rattle.ped_tree.specs.declared.grammar.refusals.Refusal as reading
+use Rattle.ped_session.specs.ped_tree.specs.Grammar.RefusalViews.{finding_of}
+use Rattle.ped_session.specs.ped_tree.specs.declared.grammar.refusals.Refusal as reading
 use Rattle.ped_valid.specs.Validity.{ReadsValid, RefusesText}
-use Rattle.ped_graph.specs.DependencePane.{IsDependencePane, IsDependencePaneOf}
-use Rattle.ped_graph.specs.Update.Fresh.{tested_pairs}
+use Rattle.ped_session.specs.ped_graph.specs.DependencePane.{IsDependencePane, IsDependencePaneOf}
+use Rattle.ped_session.specs.ped_graph.specs.Update.Fresh.{tested_pairs}
 use Rattle.ped_order.specs.ped_eval.specs.Outcomes.{outcome}
 use Rattle.ped_transformations.specs.ped_steps.specs.Causes.{Cause}
-use Rattle.ped_script.specs.declared.items.Command.{Command}
-use Rattle.ped_script.specs.declared.items.Command.TheVariants.{Source, Deps, Show, Print, Replace, Insert, Delete, Undo, Redo, Run, Races}
+use Rattle.ped_session.specs.ped_script.specs.declared.items.Command.{Command}
+use Rattle.ped_session.specs.ped_script.specs.declared.items.Command.TheVariants.{Source, Deps, Show, Print, Replace, Insert, Delete, Undo, Redo, Run, Races}
 use Rattle.ped_session.specs.declared.changes.Change.{Change}
 use Rattle.ped_session.specs.declared.changes.Change.TheVariants.{Edit, Rejection, Transformation}
 use Rattle.ped_session.specs.declared.replies.Refusal.TheVariants.{BadEdit, Step, NothingToUndo, NothingToRedo, NoSuchStatement, NoSuchLine, NotBuilt}

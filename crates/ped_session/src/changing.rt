@@ -1,13 +1,13 @@
 //! Accepted changes: a valid program becomes the present one.
 
 ghost use Rattle.std.specs.Prelude.{◌≡◌, ◌+◌, ◌≤◌, IfOk, OnErr};
-ghost use Rattle.ped_tree.specs.Tree.{ProgramTree};
-ghost use Rattle.ped_tree.specs.Views.{program_tree};
+ghost use Rattle.ped_session.specs.ped_tree.specs.Tree.{ProgramTree};
+ghost use Rattle.ped_session.specs.ped_tree.specs.Views.{program_tree};
 ghost use Rattle.ped_valid.specs.ped_symbols.specs.NameRefusals.{IsValid};
 ghost use Rattle.ped_valid.specs.ped_symbols.specs.Kinds.{table_of};
 ghost use Rattle.ped_valid.specs.Validity.{ReadsValid};
-ghost use Rattle.ped_tree.specs.Printing.{program_text};
-ghost use Rattle.ped_graph.specs.Update.Fresh.{IsOneToOne, tested_pairs};
+ghost use Rattle.ped_session.specs.ped_tree.specs.Printing.{program_text};
+ghost use Rattle.ped_session.specs.ped_graph.specs.Update.Fresh.{IsOneToOne, tested_pairs};
 ghost use Rattle.ped_session.specs.Changing.{Changes};
 ghost use Rattle.ped_session.specs.Meanings.{IsKept};
 ghost use Rattle.ped_session.specs.Scripts.{tests_of};
@@ -16,9 +16,9 @@ use crate::changes::Change;
 use crate::replies::Reply;
 use crate::session::Session;
 use crate::versions::{Entry, Version};
-use ped_base::NoMemory;
-use ped_graph::ped_verdict::Steps;
-use ped_graph::update::{Keep, update};
+use crate::ped_base::NoMemory;
+use crate::ped_graph::ped_verdict::Steps;
+use crate::ped_graph::update::{Keep, update};
 use ped_print::print;
 use ped_valid::Opened;
 use std::alloc::Global;

@@ -1,12 +1,12 @@
 //! Edits: lines of the present source go, others come, and what results is read afresh.
 
 ghost use Rattle.std.specs.Prelude.{◌≡◌, ◌+◌, ◌≤◌, IfOk, OnErr};
-ghost use Rattle.ped_tree.specs.Tree.{ProgramTree};
-ghost use Rattle.ped_tree.specs.Views.{program_tree};
+ghost use Rattle.ped_session.specs.ped_tree.specs.Tree.{ProgramTree};
+ghost use Rattle.ped_session.specs.ped_tree.specs.Views.{program_tree};
 ghost use Rattle.ped_valid.specs.ped_symbols.specs.NameRefusals.{IsValid};
 ghost use Rattle.ped_valid.specs.ped_symbols.specs.Kinds.{table_of};
 ghost use Rattle.ped_valid.specs.Validity.{ReadsValid};
-ghost use Rattle.ped_graph.specs.Update.Fresh.{tested_pairs};
+ghost use Rattle.ped_session.specs.ped_graph.specs.Update.Fresh.{tested_pairs};
 ghost use Rattle.ped_session.specs.declared.replies.Reply.{Reply};
 ghost use Rattle.ped_session.specs.States.{State};
 ghost use Rattle.ped_session.specs.Changing.{EditChanges};
@@ -19,8 +19,8 @@ use crate::keeping::edit_keep;
 use crate::replies::{Refusal, Reply};
 use crate::session::Session;
 use crate::splices::{line_count, spliced};
-use ped_base::{Bytes, NoMemory};
-use ped_graph::ped_verdict::Steps;
+use crate::ped_base::{Bytes, NoMemory};
+use crate::ped_graph::ped_verdict::Steps;
 use ped_valid::{OpenRefusal, Opened, open_program};
 use std::alloc::Global;
 use std::sync::ledger::Ledger;

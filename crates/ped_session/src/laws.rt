@@ -1,14 +1,14 @@
 //! What holds of every session. Each function here does nothing; its contract is the law.
 
 ghost use Rattle.std.specs.Prelude.{◌≡◌, ℕ, List};
-ghost use Rattle.ped_tree.specs.Tree.{ProgramTree};
+ghost use Rattle.ped_session.specs.ped_tree.specs.Tree.{ProgramTree};
 ghost use Rattle.ped_valid.specs.ped_symbols.specs.NameRefusals.{IsValid};
 ghost use Rattle.ped_valid.specs.Validity.{ReadsValid};
 ghost use Rattle.ped_transformations.specs.ped_rules.specs.ped_tidy.specs.Unrejected.{IsTrusted};
 ghost use Rattle.ped_transformations.specs.ped_rules.specs.Lawful.{IsFaithful};
-ghost use Rattle.ped_script.specs.declared.items.Command.{Command};
-ghost use Rattle.ped_script.specs.declared.items.Command.TheVariants.{Undo, Redo};
-ghost use Rattle.ped_script.specs.declared.items.Item.{Item};
+ghost use Rattle.ped_session.specs.ped_script.specs.declared.items.Command.{Command};
+ghost use Rattle.ped_session.specs.ped_script.specs.declared.items.Command.TheVariants.{Undo, Redo};
+ghost use Rattle.ped_session.specs.ped_script.specs.declared.items.Item.{Item};
 ghost use Rattle.ped_session.specs.declared.replies.Refusal as code_refusal;
 ghost use Rattle.ped_session.specs.declared.replies.Reply as code_reply;
 ghost use Rattle.ped_session.specs.declared.replies.Reply.TheVariants.{Changed, Refused};

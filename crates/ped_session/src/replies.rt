@@ -3,9 +3,9 @@
 ghost use Rattle.std.specs.Prelude.{◌≡◌};
 ghost use Rattle.ped_transformations.specs.ped_steps.specs.CodeCauses.{cause_of, IsShort};
 
-use ped_base::Bytes;
+use crate::ped_base::Bytes;
 use ped_transformations::ped_steps::Refused;
-use ped_tree::grammar::Refusal as TextRefusal;
+use crate::ped_tree::grammar::Refusal as TextRefusal;
 use std::marker::Model;
 
 /// The first cause against a step. Contracts see the rule with the statement that it names, or the dependence.

@@ -2,13 +2,13 @@
 
 ghost use Rattle.std.specs.Prelude.{◌≡◌, ◌++◌, ◌∷◌, [], codes, IfOk, OnOk};
 ghost use Rattle.std.specs.Fmt.{decimal};
-ghost use Rattle.ped_tree.specs.Grammar.RefusalViews.{finding_of};
+ghost use Rattle.ped_session.specs.ped_tree.specs.Grammar.RefusalViews.{finding_of};
 ghost use Rattle.ped_transformations.specs.ped_steps.specs.CauseWords.{cause_words};
 ghost use Rattle.ped_session.specs.Replies as Spec;
 
 use crate::replies::{FirstCause, Refusal, Reply};
-use ped_base::{Bytes, NoMemory, push_number};
-use ped_tree::grammar::Refusal as TextRefusal;
+use crate::ped_base::{Bytes, NoMemory, push_number};
+use crate::ped_tree::grammar::Refusal as TextRefusal;
 use std::alloc::Global;
 
 /// What is printed of the reply to the command on this line of a script.

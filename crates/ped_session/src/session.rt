@@ -1,17 +1,17 @@
 //! Sessions, and the commands that they answer.
 
 ghost use Rattle.std.specs.Prelude.{◌≡◌, ◌≢◌, ◌+◌, ◌≤◌, ℕ, List, length, IfOk, IfErr, OnOk, OnErr, is_ok, true};
-ghost use Rattle.ped_tree.specs.Tree.{ProgramTree};
-ghost use Rattle.ped_tree.specs.Numbering.{statements_count};
-ghost use Rattle.ped_graph.specs.ped_refs.specs.References.{references, pair_count};
-ghost use Rattle.ped_tree.specs.Views.{program_tree};
+ghost use Rattle.ped_session.specs.ped_tree.specs.Tree.{ProgramTree};
+ghost use Rattle.ped_session.specs.ped_tree.specs.Numbering.{statements_count};
+ghost use Rattle.ped_session.specs.ped_graph.specs.ped_refs.specs.References.{references, pair_count};
+ghost use Rattle.ped_session.specs.ped_tree.specs.Views.{program_tree};
 ghost use Rattle.ped_valid.specs.ped_symbols.specs.NameRefusals.{IsValid};
 ghost use Rattle.ped_valid.specs.ped_symbols.specs.Kinds.{table_of};
-ghost use Rattle.ped_tree.specs.Grammar.Refusal.{Finding};
+ghost use Rattle.ped_session.specs.ped_tree.specs.Grammar.Refusal.{Finding};
 ghost use Rattle.ped_valid.specs.Validity.{ReadsValid, RefusesText};
 ghost use Rattle.ped_valid.specs.Refusals.{IsRefusalOf};
-ghost use Rattle.ped_graph.specs.ped_edges.specs.Edges as plain;
-ghost use Rattle.ped_graph.specs.Dependences.{AreEdges};
+ghost use Rattle.ped_session.specs.ped_graph.specs.ped_edges.specs.Edges as plain;
+ghost use Rattle.ped_session.specs.ped_graph.specs.Dependences.{AreEdges};
 ghost use Rattle.ped_order.specs.ped_eval.specs.Outcomes.{outcome};
 ghost use Rattle.ped_order.specs.ped_eval.specs.OutcomeViews.{outcome_view};
 ghost use Rattle.ped_session.specs.declared.replies.Reply.{Reply};
@@ -22,14 +22,14 @@ ghost use Rattle.ped_session.specs.Scripts.{tests_of};
 
 use crate::replies::{Refusal, Reply};
 use crate::versions::{Entry, Version};
-use ped_base::{Bytes, NoMemory};
-use ped_graph::Graph;
-use ped_graph::ped_edges::Edge;
-use ped_graph::ped_verdict::Steps;
+use crate::ped_base::{Bytes, NoMemory};
+use crate::ped_graph::Graph;
+use crate::ped_graph::ped_edges::Edge;
+use crate::ped_graph::ped_verdict::Steps;
 use ped_history::History;
 use ped_order::ped_eval::{Outcome, run_in_order};
 use ped_print::print;
-use ped_script::Command;
+use crate::ped_script::Command;
 use ped_transformations::place_of;
 use ped_valid::{OpenRefusal, Opened, open_program};
 use std::alloc::Global;

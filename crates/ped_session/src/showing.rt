@@ -1,18 +1,18 @@
 //! What is shown of the present program. Nothing here changes the session.
 
 ghost use Rattle.std.specs.Prelude.{◌≡◌, IfOk, Option, List, ℕ};
-ghost use Rattle.ped_graph.specs.DependencePane.{IsDependencePane, IsDependencePaneOf};
+ghost use Rattle.ped_session.specs.ped_graph.specs.DependencePane.{IsDependencePane, IsDependencePaneOf};
 ghost use Rattle.ped_session.specs.Panes.{IsSourcePane, ArePanes};
 ghost use Rattle.ped_session.specs.Panes as Panes;
 ghost use Rattle.ped_session.specs.RaceRows.{IsRaceRow};
 ghost use Rattle.ped_session.specs.Steps.{Shows, ShowsStatement, Prints, Runs, IsStep};
-ghost use Rattle.ped_script.specs.declared.items.Command.TheVariants as commands;
+ghost use Rattle.ped_session.specs.ped_script.specs.declared.items.Command.TheVariants as commands;
 
 use crate::blocks::block;
 use crate::race_rows::race_row;
 use crate::replies::{Refusal, Reply};
 use crate::session::Session;
-use ped_base::{Bytes, NoMemory, push_number};
+use crate::ped_base::{Bytes, NoMemory, push_number};
 use ped_order::ped_eval::run_in_order;
 use ped_order::races;
 use ped_print::source_pane;

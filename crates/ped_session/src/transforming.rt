@@ -1,7 +1,7 @@
 //! Steps: transformations of the present program, and rejections of its dependences.
 
 ghost use Rattle.std.specs.Prelude.{◌≡◌, ◌+◌, ◌≤◌, Some, IfOk, OnErr};
-ghost use Rattle.ped_tree.specs.Tree.{ProgramTree};
+ghost use Rattle.ped_session.specs.ped_tree.specs.Tree.{ProgramTree};
 ghost use Rattle.ped_valid.specs.Validity.{ReadsValid};
 ghost use Rattle.ped_transformations.specs.ped_rules.specs.Steps.{MatchStep};
 ghost use Rattle.ped_transformations.specs.Table.{step_of};
@@ -15,9 +15,9 @@ ghost use Rattle.ped_session.specs.Scripts.{tests_of};
 use crate::changes::Change;
 use crate::replies::{FirstCause, Refusal, Reply};
 use crate::session::Session;
-use ped_base::NoMemory;
-use ped_graph::ped_verdict::Steps;
-use ped_script::Command;
+use crate::ped_base::NoMemory;
+use crate::ped_graph::ped_verdict::Steps;
+use crate::ped_script::Command;
 use ped_transformations::ped_flow::flow_of;
 use ped_transformations::ped_steps::{Refused, Scene};
 use ped_transformations::{Kind, Place, every_step_is_lawful};

@@ -1,10 +1,10 @@
 //! Programs of a session.
 
 use crate::changes::Change;
-use ped_base::Bytes;
-use ped_graph::ped_symbols::Symbols;
-use ped_graph::update::Delta;
-use ped_tree::Program;
+use crate::ped_base::Bytes;
+use crate::ped_graph::ped_symbols::Symbols;
+use crate::ped_graph::update::Delta;
+use crate::ped_tree::Program;
 use std::sync::ledger::Ledger;
 
 /// A valid program of a session.

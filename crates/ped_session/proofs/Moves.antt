@@ -1,7 +1,7 @@
 -- `undo` and `redo` move along the sources, and take each other back.
 use Rattle.std.proofs.Common.{◌≡◌, inl, inr, ℕ, zero, suc, List, [], ◌∷◌, refl, sym, ap, ◌∙◌, subst}
-use Rattle.ped_session.specs.ped_script.specs.declared.items.Command.{Command}
-use Rattle.ped_session.specs.ped_script.specs.declared.items.Command.TheVariants.{Undo, Redo}
+use Rattle.ped_session.specs.ped_transformations.specs.ped_script.specs.declared.items.Command.{Command}
+use Rattle.ped_session.specs.ped_transformations.specs.ped_script.specs.declared.items.Command.TheVariants.{Undo, Redo}
 use Rattle.ped_session.specs.declared.changes.Change.{Change}
 use Rattle.ped_session.specs.declared.changes.Change.TheVariants.{Edit}
 use Rattle.ped_session.specs.declared.replies.Refusal.{Refusal}

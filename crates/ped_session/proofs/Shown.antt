@@ -4,7 +4,7 @@ use Rattle.std.proofs.lemmas.Bool.Decides.{nat_tests}
 use Rattle.ped_session.specs.ped_tree.specs.Tree.{StmtTree, ProgramTree}
 use Rattle.ped_session.specs.ped_tree.specs.Numbering.{statement_with}
 use Rattle.ped_session.specs.ped_graph.specs.DependencePane.{IsDependencePane, IsDependencePaneOf}
-use Rattle.ped_session.specs.ped_script.specs.declared.items.Command.TheVariants.{Deps}
+use Rattle.ped_session.specs.ped_transformations.specs.ped_script.specs.declared.items.Command.TheVariants.{Deps}
 use Rattle.ped_order.specs.ped_eval.specs.Outcomes.{outcome}
 use Rattle.ped_session.specs.declared.versions.Version.{Version}
 use Rattle.ped_session.specs.declared.replies.Refusal.TheVariants.{NoSuchStatement}

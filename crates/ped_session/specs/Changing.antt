@@ -20,7 +20,7 @@ use Rattle.ped_session.specs.Splices.{edit_keep}
 use Rattle.ped_session.specs.Meanings.{IsKept}
 use Rattle.ped_transformations.specs.ped_loops.specs.ped_scalar.specs.ped_rules.specs.Steps.{StepAt, MatchStep}
 use Rattle.ped_transformations.specs.Table.{step_of}
-use Rattle.ped_session.specs.ped_script.specs.declared.items.Command.{Command}
+use Rattle.ped_session.specs.ped_transformations.specs.ped_script.specs.declared.items.Command.{Command}
 use Rattle.ped_session.specs.Steps.{Refuses, change_by}
 
 -- the printed text of a program has become the present source by a change that keeps these statements

@@ -6,7 +6,7 @@ ghost use Rattle.ped_session.specs.Panes.{IsSourcePane, ArePanes};
 ghost use Rattle.ped_session.specs.Panes as Panes;
 ghost use Rattle.ped_session.specs.RaceRows.{IsRaceRow};
 ghost use Rattle.ped_session.specs.Steps.{Shows, ShowsStatement, Prints, Runs, IsStep};
-ghost use Rattle.ped_session.specs.ped_script.specs.declared.items.Command.TheVariants as commands;
+ghost use Rattle.ped_session.specs.ped_transformations.specs.ped_script.specs.declared.items.Command.TheVariants as commands;
 
 use crate::blocks::block;
 use crate::race_rows::race_row;

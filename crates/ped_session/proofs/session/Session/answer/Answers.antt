@@ -2,6 +2,7 @@ use Rattle.std.proofs.Common.{ap, subst}
 use Rattle.ped_transformations.specs.ped_loops.specs.ped_scalar.specs.ped_rules.specs.ped_loop_runs.specs.ped_tidy.specs.ped_pasting.specs.ped_bodies.specs.ped_steps.proofs.Answering.{few_numbers}
 use Rattle.ped_transformations.specs.ped_loops.specs.ped_scalar.specs.ped_rules.specs.Steps.{StepKind, StepAt, Answers}
 use Rattle.ped_transformations.specs.Table.{step_of}
+use Rattle.ped_transformations.specs.CodeKinds.{AnswersStep}
 use Rattle.ped_transformations.proofs.ByPlace.{some_then, out_of_some}
 use Rattle.ped_session.specs.declared.changes.Change.{Change}
 use Rattle.ped_session.specs.Holding.{tree_of}
@@ -18,19 +19,20 @@ pub returns-in-Some-clause-answers : goal.returns-in-Some-clause-answers
 returns-in-Some-clause-answers g c =
     let v = c.self.inside.present in
     let s = c.args.self.now in
-    some_then c.args.place (step_of c.args.command.now) ⊥ ⊥ (λ at. Answers at (tree_of v) c.in-Some.answer) _ c.requires c.in_ok-answer.ensures
+    let found = subst (AnswersStep (step_of c.args.command.now) (tree_of v)) c.in-Some.is c.in_ok-answer.ensures in
+    some_then c.args.place (step_of c.args.command.now) ⊥ ⊥ (λ at. Answers at (tree_of v) c.in-Some.answer) _ c.requires found
     (λ at is h. (ap change_by is.1, answered at v s c.self.invariant.version (ap (λ (u : State). u.present) c.self.view_is) c.in-Some.answer h))
 
 pub returns-in-Some-clause-takeable : goal.returns-in-Some-clause-takeable
 returns-in-Some-clause-takeable g c =
     let v = c.self.inside.present in
     let s = c.args.self.now in
-    let found = c.in_ok-answer.ensures in
+    let found = subst (AnswersStep (step_of c.args.command.now) (tree_of v)) c.in-Some.is c.in_ok-answer.ensures in
     out_of_some c.args.place (step_of c.args.command.now) ⊥ ⊥ _ (λ at. Answers at (tree_of v) c.in-Some.answer) (λ at. Answers at (tree_of v) c.in-Some.answer) (c.every_step_is_lawful.ensures c.args.command.now) c.requires found found
     (λ at lawful is h same. subst (λ (k : Change). IsTakeable k s c.in-Some.answer) (ap change_by is.1)
     (takeable at v s c.self.invariant.version (ap (λ (u : State). u.present) c.self.view_is) lawful c.in-Some.answer h))
 
 pub unreachable-requires : goal.unreachable-requires
 unreachable-requires g c =
-    let found = c.in_ok-answer.ensures in
+    let found = subst (AnswersStep (step_of c.args.command.now) (tree_of c.self.inside.present)) c.in-None.is c.in_ok-answer.ensures in
     out_of_some c.args.place (step_of c.args.command.now) _ _ ⊥ (λ at. ⊥) (λ at. ⊥) (c.every_step_is_lawful.ensures c.args.command.now) c.requires found found (λ at lawful is h same. h)

@@ -8,12 +8,12 @@ ghost use Rattle.ped_session.specs.RunsAsBefore.{AnswersAsBefore};
 ghost use Rattle.ped_session.specs.Replies as Replies;
 ghost use Rattle.ped_session.specs.Adding.{added, Adds};
 
-use crate::replies::Reply;
-use crate::scripts::{bad_command_row, reply_text};
-use crate::session::Session;
 use crate::ped_base::{Bytes, NoMemory};
 use crate::ped_graph::ped_verdict::Steps;
 use crate::ped_script::{Command, Item};
+use crate::replies::Reply;
+use crate::scripts::{bad_command_row, reply_text};
+use crate::session::Session;
 use ped_transformations::every_step_is_lawful;
 use std::alloc::Global;
 use std::sync::ledger::Ledger;

@@ -9,8 +9,8 @@ ghost use Rattle.ped_session.specs.Splices as Splices;
 
 use crate::ped_base::NoMemory;
 use crate::ped_graph::update::Keep;
-use ped_print::begun;
 use crate::ped_tree::Program;
+use ped_print::begun;
 use std::alloc::Global;
 
 /// The statements that an edit of the first program keeps in the second, where so many lines of the first are kept at

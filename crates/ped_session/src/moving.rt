@@ -6,10 +6,10 @@ ghost use Rattle.ped_session.specs.ped_graph.specs.Update.Deltas.{TakesTo};
 ghost use Rattle.ped_session.specs.Holding.{tree_of};
 ghost use Rattle.ped_session.specs.Steps.{GoesBack, GoesForward};
 
+use crate::ped_graph::Graph;
 use crate::replies::{Refusal, Reply};
 use crate::session::Session;
 use crate::versions::{Entry, Version};
-use crate::ped_graph::Graph;
 use ped_history::{NothingToRedo, NothingToUndo};
 use std::mem::swap;
 use std::sync::ledger::Ledger;

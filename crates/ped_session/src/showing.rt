@@ -9,10 +9,10 @@ ghost use Rattle.ped_session.specs.Steps.{Shows, ShowsStatement, Prints, Runs, I
 ghost use Rattle.ped_session.specs.ped_transformations.specs.ped_script.specs.declared.items.Command.TheVariants as commands;
 
 use crate::blocks::block;
+use crate::ped_base::{Bytes, NoMemory, push_number};
 use crate::race_rows::race_row;
 use crate::replies::{Refusal, Reply};
 use crate::session::Session;
-use crate::ped_base::{Bytes, NoMemory, push_number};
 use ped_order::ped_eval::run_in_order;
 use ped_order::races;
 use ped_print::source_pane;

@@ -1,4 +1,3 @@
-use Rattle.std.proofs.Common.{inl, inr, is_ok}
 use Rattle.std.proofs.lemmas.Result.{IfOk-weaker}
 use Rattle.ped_transformations.specs.Table.{step_of}
 use Rattle.ped_transformations.proofs.ByPlace.{with_none, from_none, some_then}

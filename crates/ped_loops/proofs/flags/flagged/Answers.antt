@@ -5,6 +5,7 @@ use Rattle.ped_scalar.specs.ped_rules.specs.ped_loop_runs.specs.ped_tidy.specs.p
 use Rattle.ped_scalar.specs.ped_rules.specs.ped_loop_runs.specs.ped_tidy.specs.ped_pasting.specs.ped_bodies.specs.ped_steps.specs.Changes.{IsChange}
 use Rattle.ped_scalar.specs.ped_rules.specs.ped_loop_runs.specs.ped_tidy.specs.ped_pasting.specs.ped_bodies.specs.ped_steps.specs.declared.changes.Change.{Change}
 use Rattle.ped_scalar.specs.ped_rules.specs.ped_loop_runs.specs.ped_tidy.specs.ped_pasting.specs.ped_bodies.specs.ped_steps.proofs.Answering.{few_numbers}
+use Rattle.ped_loops.specs.Flags.{flagged}
 use Rattle.ped_loops.proofs.flags.flagged.Goals as goal
 
 pub with_flag-requires-clause-few : goal.with_flag-requires-clause-few
@@ -15,5 +16,6 @@ all_kept-requires g c = let few = few_numbers (program_tree c.args.scene.now.tre
 
 pub returns : goal.returns
 returns g c =
-    subst (λ (k : List (ℕ × ℕ)). IfOk c.change_to.result (λ (found : Option Change). MatchOption found (IsValid _ → ⊥) (IsChange _ k))) c.in_ok-keep.ensures
-    (subst (λ (u : ProgramTree). IfOk c.change_to.result (λ (found : Option Change). MatchOption found (IsValid u → ⊥) (IsChange u c.in_ok-keep.keep))) c.in_ok-tree.ensures.tree c.change_to.ensures)
+    let u = flagged (program_tree c.args.scene.now.tree.now) c.args.number c.args.parallel in
+    subst (λ (k : List (ℕ × ℕ)). IfOk c.change_to.result (λ (found : Option Change). MatchOption found (IsValid u → ⊥) (IsChange u k))) c.in_ok-keep.ensures
+    (subst (λ (v : ProgramTree). IfOk c.change_to.result (λ (found : Option Change). MatchOption found (IsValid v → ⊥) (IsChange v c.in_ok-keep.keep))) c.in_ok-tree.ensures.tree c.change_to.ensures)

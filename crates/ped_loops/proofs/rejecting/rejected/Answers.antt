@@ -4,6 +4,8 @@ use Rattle.ped_tree.specs.Views.{program_tree}
 use Rattle.ped_scalar.specs.ped_rules.specs.ped_loop_runs.specs.ped_tidy.specs.ped_pasting.specs.ped_bodies.specs.ped_steps.specs.ped_symbols.specs.NameRefusals.{IsValid}
 use Rattle.ped_scalar.specs.ped_rules.specs.ped_loop_runs.specs.ped_tidy.specs.ped_pasting.specs.ped_bodies.specs.ped_steps.specs.Changes.{IsChange}
 use Rattle.ped_scalar.specs.ped_rules.specs.ped_loop_runs.specs.ped_tidy.specs.ped_pasting.specs.ped_bodies.specs.ped_steps.proofs.Answering.{few_numbers}
+use Rattle.ped_loops.specs.Rejecting.{with_directive}
+use Rattle.ped_loops.proofs.FlagAnswers.{some_made, none_made}
 use Rattle.ped_loops.proofs.rejecting.rejected.Goals as goal
 
 pub with_directive-requires-clause-few : goal.with_directive-requires-clause-few
@@ -14,8 +16,9 @@ all_kept-requires g c = let few = few_numbers (program_tree c.args.scene.now.tre
 
 pub returns-in-Some : goal.returns-in-Some
 returns-in-Some g c =
-    subst (λ (k : List (ℕ × ℕ)). IsChange _ k c.in-Some.change) c.in_ok-keep.ensures
-    (subst (λ (u : ProgramTree). IsChange u c.in_ok-keep.keep c.in-Some.change) c.in_ok-tree.ensures.tree c.in-Some.ensures)
+    let made = some_made (program_tree c.in_ok-tree.tree) c.in_ok-keep.keep c.in_ok-change.field-0 c.in-Some.change c.in-Some.is c.in_ok-change.ensures in
+    subst (λ (k : List (ℕ × ℕ)). IsChange (with_directive (program_tree c.args.scene.now.tree.now) c.args.number c.args.name.now) k c.in-Some.change) c.in_ok-keep.ensures
+    (subst (λ (u : ProgramTree). IsChange u c.in_ok-keep.keep c.in-Some.change) c.in_ok-tree.ensures.tree made)
 
 pub unreachable-requires : goal.unreachable-requires
-unreachable-requires g c = c.in-None.ensures (subst IsValid (sym c.in_ok-tree.ensures.tree) c.requires.valid)
+unreachable-requires g c = none_made (program_tree c.in_ok-tree.tree) c.in_ok-keep.keep c.in_ok-change.field-0 c.in-None.is c.in_ok-change.ensures (subst IsValid (sym c.in_ok-tree.ensures.tree) c.requires.valid)

@@ -1,11 +1,11 @@
-use Rattle.std.proofs.Common.{◌≡◌, ℕ, ℤ, List, true, Option, Some, ap, ◌∙◌, subst}
+use Rattle.std.proofs.Common.{◌≡◌, ℕ, ℤ, List, true, Option, Some, sym, ap, ◌∙◌, subst}
 use Rattle.ped_tree.specs.Constants.ConstantExpressions.{constant_value}
 use Rattle.ped_tree.specs.Views.{program_tree, stmt_trees, head_of}
 use Rattle.ped_scalar.specs.ped_rules.specs.Rules.{is_unit, has_other_step}
 use Rattle.ped_scalar.specs.ped_rules.specs.ped_loop_runs.specs.ped_tidy.specs.ped_pasting.specs.ped_bodies.specs.ped_steps.specs.ped_symbols.specs.Kinds.{Table}
 use Rattle.ped_scalar.specs.ped_rules.specs.ped_loop_runs.specs.ped_tidy.specs.ped_pasting.specs.ped_bodies.specs.ped_steps.specs.declared.rules.Rule.TheVariants.{ParallelState, IndexEscapes, StepShape}
 use Rattle.ped_loops.proofs.ReverseRules as rules
-use Rattle.ped_loops.proofs.ReverseAnswers.{refused}
+use Rattle.ped_loops.proofs.ReverseAnswers.{refused, unit_passed}
 use Rattle.ped_loops.proofs.reversing.reverse_in.Goals as goal
 
 pub returns-then-d : goal.returns-then-d
@@ -24,7 +24,7 @@ returns-in-Some g c =
 pub reverse_by-requires-clause-step : goal.reverse_by-requires-clause-step
 reverse_by-requires-clause-step g c =
     let consts = c.consts.ensures ∙ ap (λ (table : Table). table.constants) c.requires.scene.symbols in
-    subst (λ (cs : List (List ℕ × ℤ)). constant_value cs (head_of c.args.d.now).step ≡ Some c.in-Some-unit_step.step) consts c.in-Some-unit_step.ensures.0
+    subst (λ (cs : List (List ℕ × ℤ)). constant_value cs (head_of c.args.d.now).step ≡ Some c.in-Some-unit_step.step) consts c.in-Some-unit_step.ensures.0 ∙ ap (λ (n : ℤ). Some n) (sym (unit_passed c.in-Some-unit_step.step c.in-Some-unit_step.ensures.1))
 
 pub returns-in-None : goal.returns-in-None
 returns-in-None g c =

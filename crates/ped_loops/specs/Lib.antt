@@ -7,3 +7,7 @@ pub mod Paralleling
 pub mod Serialising
 pub mod Rejecting
 pub mod Reversing
+pub mod Shapes
+pub mod Interchanging
+pub mod CodeShapes
+pub mod CodePlain

@@ -2,13 +2,17 @@
 //! `reverse` does them from the last to the first, and `reject` takes down what the user says of a dependence. The definitions stand in `specs/`.
 #![tactic(auto)]
 
+mod bounds;
 mod flags;
+mod interchanging;
 mod laws;
 mod paralleling;
 mod rejecting;
 mod reversing;
 mod serialising;
+mod shapes;
 
+pub use interchanging::interchange;
 pub use laws::{parallel_is_lawful, rejection_is_lawful, reversal_is_lawful, serial_is_lawful};
 pub use paralleling::make_parallel;
 pub use ped_scalar;

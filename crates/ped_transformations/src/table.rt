@@ -8,7 +8,7 @@ ghost use Rattle.ped_transformations.specs.Table.{step_of};
 ghost use Rattle.ped_transformations.specs.CodeKinds.{IsPlace, AnswersStep};
 
 use ped_base::NoMemory;
-use ped_loops::{make_parallel, make_serial, reject, reverse};
+use ped_loops::{interchange, make_parallel, make_serial, reject, reverse};
 use ped_loops::ped_scalar::ped_steps::{Change, Refused, Scene};
 use ped_loops::ped_scalar::{expand, privatise};
 use ped_script::Command;
@@ -41,6 +41,7 @@ pub fn place_of(command: &Command) -> Option<Place>
     match command {
         Command::Privatise(number, _) => Some(transformation(*number)),
         Command::Expand(number, _) => Some(transformation(*number)),
+        Command::Interchange(number) => Some(transformation(*number)),
         Command::Reverse(number) => Some(transformation(*number)),
         Command::Parallel(number) => Some(transformation(*number)),
         Command::Serial(number) => Some(transformation(*number)),
@@ -86,6 +87,10 @@ pub fn answer<L: Ledger>(
         }
         Command::Expand(number, name) => {
             let found = expand(alloc, scene, *number, name)?;
+            return Ok(Some(found));
+        }
+        Command::Interchange(number) => {
+            let found = interchange(alloc, scene, *number)?;
             return Ok(Some(found));
         }
         Command::Reverse(number) => {

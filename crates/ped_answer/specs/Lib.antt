@@ -1,13 +1,4 @@
 pub use Rattle.ped_io
-pub use Rattle.ped_session.specs.ped_graph
-pub use Rattle.ped_session.specs.ped_order
-pub use Rattle.ped_session.specs.ped_refs
-pub use Rattle.ped_session.specs.ped_scalar
-pub use Rattle.ped_session.specs.ped_transformations
-pub use Rattle.ped_session.specs.ped_script
-pub use Rattle.ped_session.specs.ped_symbols
-pub use Rattle.ped_session.specs.ped_tree
-pub use Rattle.ped_session.specs.ped_valid
 pub use Rattle.ped_session
 pub mod Answer
 pub mod Refusals

@@ -1,8 +1,8 @@
 -- Bodies of loops that a step moves to other iterations: what their copies are called there (this project).
 use Rattle.std.specs.Prelude.{◌≡◌, ℕ, ◌+◌, ◌-◌, ◌/◌, ◌%◌, ◌≤◌, ℤ, List, [], ◌∷◌, ◌++◌, map, Bool, true, false, ◌==◌, Option, Some, None, if◌then◌else◌}
 use Rattle.ped_steps.specs.ped_flow.specs.ped_base.specs.Lists.{is_same_text, is_among}
-use Rattle.ped_steps.specs.ped_tree.specs.Tree.{ExprTree}
-use Rattle.ped_steps.specs.ped_tree.specs.Constants.NamedConstants.{value_named}
+use Rattle.ped_steps.specs.ped_flow.specs.ped_tree.specs.Tree.{ExprTree}
+use Rattle.ped_steps.specs.ped_flow.specs.ped_tree.specs.Constants.NamedConstants.{value_named}
 use Rattle.ped_steps.specs.ped_laws.specs.ped_store.specs.Cells.{Cell, Scalar, Element, Private, In, Out, Iteration, same_iteration}
 use Rattle.ped_steps.specs.ped_laws.specs.ped_store.specs.Acts.{iterations_of}
 use Rattle.ped_steps.specs.ped_laws.specs.ped_eval.specs.Scopes.{Setting, Frame, Scope, turns_of, cell_of, index_value, names_in}

@@ -1,9 +1,9 @@
 -- Statements with each expression rewritten: what a rewriting of expressions is, and what it may be where statements are to do the same (this project).
 use Rattle.std.specs.Prelude.{◌≡◌, ℕ, ℤ, List, map, true, Some, ◌⊎◌}
 use Rattle.ped_steps.specs.ped_flow.specs.ped_base.specs.Lists.{is_among}
-use Rattle.ped_steps.specs.ped_tree.specs.Tree.{ExprTree, ExprTrees, Int, Var, Element, Neg, Add, Sub, Mul, Div, Pow, Call, no_exprs, more_exprs, CondTree, Rel, Not, And, Or, ItemTree, Value, Text, Head, StmtTree, StmtTrees, Assign, If, Do, Print, Read, Stop, Comment, no_stmts, more_stmts}
-use Rattle.ped_steps.specs.ped_tree.specs.declared.expressions.Intrinsic.{Intrinsic}
-use Rattle.ped_steps.specs.ped_tree.specs.Constants.ConstantExpressions.{constant_value}
+use Rattle.ped_steps.specs.ped_flow.specs.ped_tree.specs.Tree.{ExprTree, ExprTrees, Int, Var, Element, Neg, Add, Sub, Mul, Div, Pow, Call, no_exprs, more_exprs, CondTree, Rel, Not, And, Or, ItemTree, Value, Text, Head, StmtTree, StmtTrees, Assign, If, Do, Print, Read, Stop, Comment, no_stmts, more_stmts}
+use Rattle.ped_steps.specs.ped_flow.specs.ped_tree.specs.declared.expressions.Intrinsic.{Intrinsic}
+use Rattle.ped_steps.specs.ped_flow.specs.ped_tree.specs.Constants.ConstantExpressions.{constant_value}
 use Rattle.ped_steps.specs.ped_flow.specs.ped_affine.specs.Assigned.{assigned_in_all}
 use Rattle.ped_steps.specs.ped_sums.specs.Sums.{plus_of, minus_of}
 

@@ -1,7 +1,7 @@
 -- A DO taken apart into its trips, one for each iteration, and put together from them (ANSI X3.9-1978, section 11.10; this project).
 use Rattle.std.specs.Prelude.{◌≡◌, ℕ, ◌+◌, ◌-◌, ◌≤◌, List, [], ◌∷◌, ◌++◌, Bool, true, ◌==◌, ◌&&◌, not, Ok, if◌then◌else◌}
 use Rattle.std.specs.List.{flat_map, range_with_len}
-use Rattle.ped_steps.specs.ped_tree.specs.Tree.{Head, StmtTrees, Do}
+use Rattle.ped_steps.specs.ped_flow.specs.ped_tree.specs.Tree.{Head, StmtTrees, Do}
 use Rattle.ped_steps.specs.ped_laws.specs.ped_store.specs.Cells.{Cell}
 use Rattle.ped_steps.specs.ped_laws.specs.ped_store.specs.Stores.{Store}
 use Rattle.ped_steps.specs.ped_laws.specs.ped_store.specs.Acts.{Place, Act, entered, ended_turn, closed}

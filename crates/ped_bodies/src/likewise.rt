@@ -1,12 +1,12 @@
 //! Statements at another place, with their expressions rewritten.
 
 ghost use Rattle.std.specs.Prelude.{◌≡◌, ℕ, List, Bool, false};
-ghost use Rattle.ped_steps.specs.ped_tree.specs.Tree.{ExprTree, ExprTrees, StmtTrees};
-ghost use Rattle.ped_steps.specs.ped_tree.specs.NamesIn.{stmts_names};
+ghost use Rattle.ped_steps.specs.ped_flow.specs.ped_tree.specs.Tree.{ExprTree, ExprTrees, StmtTrees};
+ghost use Rattle.ped_steps.specs.ped_flow.specs.ped_tree.specs.NamesIn.{stmts_names};
 ghost use Rattle.ped_steps.specs.ped_sums.specs.Substitution.{substituted, statements_substituted};
 ghost use Rattle.ped_steps.specs.ped_laws.specs.ped_store.specs.Cells.{Cell};
 ghost use Rattle.ped_steps.specs.ped_laws.specs.ped_store.specs.Stores.{Store};
-ghost use Rattle.ped_steps.specs.ped_tree.specs.NamesIn.{all_loop_variables};
+ghost use Rattle.ped_steps.specs.ped_flow.specs.ped_tree.specs.NamesIn.{all_loop_variables};
 ghost use Rattle.ped_steps.specs.ped_laws.specs.ped_eval.specs.Runs.{run_all};
 ghost use Rattle.ped_steps.specs.ped_laws.specs.ped_eval.specs.Scopes.{Setting, Scope, turns_of};
 ghost use Rattle.ped_steps.specs.ped_laws.specs.Runs.Replaying.{finish_of, has_fault};

@@ -3,8 +3,8 @@
 ghost use Rattle.std.specs.Prelude.{◌≡◌, ℕ, ℤ, List, false, None};
 ghost use Rattle.ped_steps.specs.ped_flow.specs.ped_base.specs.Lists.{is_among};
 ghost use Rattle.ped_steps.specs.ped_affine.specs.Assigned.{assigned_in_all};
-ghost use Rattle.ped_steps.specs.ped_tree.specs.Constants.NamedConstants.{value_named};
-ghost use Rattle.ped_steps.specs.ped_tree.specs.Tree.{ExprTree, StmtTrees};
+ghost use Rattle.ped_steps.specs.ped_flow.specs.ped_tree.specs.Constants.NamedConstants.{value_named};
+ghost use Rattle.ped_steps.specs.ped_flow.specs.ped_tree.specs.Tree.{ExprTree, StmtTrees};
 ghost use Rattle.ped_steps.specs.ped_sums.specs.Substitution.{substituted, all_substituted, statements_substituted};
 ghost use Rattle.ped_bodies.specs.Rewriting.{IsRewriting, unchanged, all_unchanged, statements_rewritten, HaveIncrements, MayBeRewritten};
 

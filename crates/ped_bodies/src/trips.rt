@@ -1,7 +1,7 @@
 //! A DO and its trips.
 
 ghost use Rattle.std.specs.Prelude.{◌≡◌, ℕ, ℤ, List, ◌++◌, Bool, true, Ok};
-ghost use Rattle.ped_steps.specs.ped_tree.specs.Tree.{Head, StmtTrees, Do};
+ghost use Rattle.ped_steps.specs.ped_flow.specs.ped_tree.specs.Tree.{Head, StmtTrees, Do};
 ghost use Rattle.ped_steps.specs.ped_laws.specs.ped_store.specs.Cells.{Cell};
 ghost use Rattle.ped_steps.specs.ped_laws.specs.ped_store.specs.Stores.{Store};
 ghost use Rattle.ped_steps.specs.ped_laws.specs.ped_store.specs.Acts.{Act};

@@ -4,9 +4,9 @@ ghost use Rattle.std.specs.Prelude.{◌≡◌, ℕ, ℤ, pos, neg_ℤ, ◌+ℤ�
 ghost use Rattle.ped_steps.specs.Runs.Pasting.{AgreeInBounds};
 ghost use Rattle.ped_steps.specs.ped_flow.specs.ped_base.specs.Arithmetic.Arithmetic.{is_in_range};
 ghost use Rattle.ped_steps.specs.ped_flow.specs.ped_base.specs.Lists.{is_among};
-ghost use Rattle.ped_steps.specs.ped_tree.specs.Constants.NamedConstants.{value_named};
-ghost use Rattle.ped_steps.specs.ped_tree.specs.NamesIn.{expr_names};
-ghost use Rattle.ped_steps.specs.ped_tree.specs.Tree.{ExprTree, ExprTrees, Int, Var, Neg, Add, Sub, Mul, Head};
+ghost use Rattle.ped_steps.specs.ped_flow.specs.ped_tree.specs.Constants.NamedConstants.{value_named};
+ghost use Rattle.ped_steps.specs.ped_flow.specs.ped_tree.specs.NamesIn.{expr_names};
+ghost use Rattle.ped_steps.specs.ped_flow.specs.ped_tree.specs.Tree.{ExprTree, ExprTrees, Int, Var, Neg, Add, Sub, Mul, Head};
 ghost use Rattle.ped_steps.specs.ped_sums.specs.Sums.{literal, times_of};
 ghost use Rattle.ped_steps.specs.ped_laws.specs.ped_store.specs.Cells.{Cell};
 ghost use Rattle.ped_steps.specs.ped_laws.specs.ped_store.specs.Stores.{Store};

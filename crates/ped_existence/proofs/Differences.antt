@@ -3,11 +3,11 @@
 use Rattle.std.proofs.Common.{◌≡◌, ◌⊎◌, refl, sym, ap, ◌∙◌, inl, inr, arith, ℤ, pos, ◌+ℤ◌, ◌-ℤ◌, ◌*ℤ◌, neg_ℤ, ◌≤ℤ◌, List, [], ◌∷◌, length, Bool, true, false, not, ◌&&◌, IsTrue}
 use Rattle.std.proofs.Math.IntN.{zero-*ℤ}
 use Rattle.std.proofs.lemmas.Bool.Decides.{Decides-int_eq, Decides-and}
-use Rattle.ped_answer.specs.ped_graph.specs.ped_views.specs.declared.directions.Direction.{Direction}
-use Rattle.ped_answer.specs.ped_graph.specs.ped_views.specs.Whole.{Divides, is_zero}
-use Rattle.ped_answer.specs.ped_graph.specs.ped_views.specs.Views.{Range, SubscriptPair, View}
-use Rattle.ped_answer.specs.ped_graph.specs.ped_views.specs.Excluded.{InRange, Stands, Indices, dot, difference, CommonInRange, InnerInRange, IsPoint, IsBeyondExtremes}
-use Rattle.ped_answer.specs.ped_graph.specs.ped_views.proofs.Products.{linear}
+use Rattle.ped_answer.specs.ped_session.specs.ped_graph.specs.ped_views.specs.declared.directions.Direction.{Direction}
+use Rattle.ped_answer.specs.ped_session.specs.ped_graph.specs.ped_views.specs.Whole.{Divides, is_zero}
+use Rattle.ped_answer.specs.ped_session.specs.ped_graph.specs.ped_views.specs.Views.{Range, SubscriptPair, View}
+use Rattle.ped_answer.specs.ped_session.specs.ped_graph.specs.ped_views.specs.Excluded.{InRange, Stands, Indices, dot, difference, CommonInRange, InnerInRange, IsPoint, IsBeyondExtremes}
+use Rattle.ped_answer.specs.ped_session.specs.ped_graph.specs.ped_views.proofs.Products.{linear}
 use Rattle.ped_existence.specs.Deciding.{Decided}
 use Rattle.ped_existence.proofs.Deciding.{true_decided}
 use Rattle.ped_existence.proofs.Reaching.{Reach, Within, Sum, reach_same, reach_alone, reach_within, reach_sum, reach_turned, reach_multiples, reach_decides}

@@ -1,11 +1,11 @@
 -- Each program has its dependences, pair by pair, and so its dependence pane.
 use Rattle.std.proofs.Common.{ℕ, refl, List, [], ◌∷◌, ◌++◌, Option, Some, None}
-use Rattle.ped_answer.specs.ped_tree.specs.Tree.{ProgramTree}
-use Rattle.ped_answer.specs.ped_refs.specs.References.{Reference, references, pairs}
-use Rattle.ped_answer.specs.ped_graph.specs.ped_edges.specs.Edges.{Edge}
-use Rattle.ped_answer.specs.ped_graph.specs.ped_edges.specs.Rows.{edges_pane}
-use Rattle.ped_answer.specs.ped_graph.specs.Dependences.{facts_of, view_of, edges_by, PairEdges, EdgesOfPairs, AreEdges}
-use Rattle.ped_answer.specs.ped_graph.specs.DependencePane.{IsDependencePane, IsDependencePaneOf, edges_of}
+use Rattle.ped_answer.specs.ped_session.specs.ped_tree.specs.Tree.{ProgramTree}
+use Rattle.ped_answer.specs.ped_session.specs.ped_refs.specs.References.{Reference, references, pairs}
+use Rattle.ped_answer.specs.ped_session.specs.ped_graph.specs.ped_edges.specs.Edges.{Edge}
+use Rattle.ped_answer.specs.ped_session.specs.ped_graph.specs.ped_edges.specs.Rows.{edges_pane}
+use Rattle.ped_answer.specs.ped_session.specs.ped_graph.specs.Dependences.{facts_of, view_of, edges_by, PairEdges, EdgesOfPairs, AreEdges}
+use Rattle.ped_answer.specs.ped_session.specs.ped_graph.specs.DependencePane.{IsDependencePane, IsDependencePaneOf, edges_of}
 use Rattle.ped_existence.proofs.Choosing.{vectors_of_view}
 
 edges_of_pair : (t : ProgramTree) (source sink : Reference) → (edges : List Edge) × PairEdges t source sink edges

@@ -1,9 +1,9 @@
 -- Whether a subscript pair excludes a vector is decided, form by form.
 use Rattle.std.proofs.Common.{List}
-use Rattle.ped_answer.specs.ped_graph.specs.ped_views.specs.declared.directions.Direction.{Direction}
-use Rattle.ped_answer.specs.ped_graph.specs.ped_views.specs.Views.{SubscriptPair, View}
-use Rattle.ped_answer.specs.ped_graph.specs.ped_views.specs.Forms.{Form, ziv, strong_siv, weak_zero_siv, weak_crossing_siv, other_form, form_of}
-use Rattle.ped_answer.specs.ped_graph.specs.ped_views.specs.Excluded.{group_of, loop_at, direction_at, FormExcludes, Excludes}
+use Rattle.ped_answer.specs.ped_session.specs.ped_graph.specs.ped_views.specs.declared.directions.Direction.{Direction}
+use Rattle.ped_answer.specs.ped_session.specs.ped_graph.specs.ped_views.specs.Views.{SubscriptPair, View}
+use Rattle.ped_answer.specs.ped_session.specs.ped_graph.specs.ped_views.specs.Forms.{Form, ziv, strong_siv, weak_zero_siv, weak_crossing_siv, other_form, form_of}
+use Rattle.ped_answer.specs.ped_session.specs.ped_graph.specs.ped_views.specs.Excluded.{group_of, loop_at, direction_at, FormExcludes, Excludes}
 use Rattle.ped_existence.specs.Deciding.{Decided}
 use Rattle.ped_existence.proofs.Deciding.{decided_not, decided_both, decided_either, true_decided, equal_decided}
 use Rattle.ped_existence.proofs.Meeting.{never_meets_decided, never_meet_together_decided}

@@ -3,8 +3,8 @@
 use Rattle.std.proofs.Common.{◌≡◌, ◌⊎◌, ℕ, zero, suc, refl, sym, ap, subst, ◌∙◌, inl, inr, arith, ℤ, pos, ◌+ℤ◌, ◌-ℤ◌, ◌*ℤ◌, neg_ℤ, ◌≤ℤ◌, ◌<ℤ◌, unsigned_abs, Bool, true, false, not}
 use Rattle.std.proofs.Math.IntN.{*ℤ_comm, zero-*ℤ}
 use Rattle.std.proofs.lemmas.Int.{by_lt_z, ints}
-use Rattle.ped_answer.specs.ped_graph.specs.ped_views.specs.Whole.{Divides}
-use Rattle.ped_answer.specs.ped_graph.specs.ped_views.proofs.Products.{linear, mul-neg, neg-mul, mul-le}
+use Rattle.ped_answer.specs.ped_session.specs.ped_graph.specs.ped_views.specs.Whole.{Divides}
+use Rattle.ped_answer.specs.ped_session.specs.ped_graph.specs.ped_views.proofs.Products.{linear, mul-neg, neg-mul, mul-le}
 use Rattle.ped_existence.specs.Deciding.{Decided}
 use Rattle.ped_existence.proofs.Deciding.{at_most_decided}
 

@@ -2,21 +2,21 @@
 use Rattle.std.proofs.Common.{◌≡◌, ◌⊎◌, ℕ, ◌+◌, ◌-◌, refl, sym, subst, inl, inr, Bool, true, false, List, [], ◌∷◌, ◌++◌, All, Option, Some, None, is_some}
 use Rattle.std.specs.Prelude.{MatchBool, ⊤}
 use Rattle.std.proofs.lemmas.List.Elements.{All-nil, All-cons, All-head, All-tail}
-use Rattle.ped_answer.specs.ped_tree.specs.Tree.{StmtTree, ProgramTree}
-use Rattle.ped_answer.specs.ped_tree.specs.Printing.{program_text}
-use Rattle.ped_answer.specs.ped_tree.specs.SourcePane.{source_pane}
-use Rattle.ped_answer.specs.ped_tree.specs.Numbering.{statement_with}
-use Rattle.ped_answer.specs.ped_symbols.specs.NameRefusals.{IsValid}
-use Rattle.ped_answer.specs.ped_graph.specs.DependencePane.{IsDependencePane, IsDependencePaneOf}
-use Rattle.ped_answer.specs.ped_graph.specs.Update.Fresh.{tested_pairs}
-use Rattle.ped_answer.specs.ped_valid.specs.Validity.{ReadsValid, RefusesText}
-use Rattle.ped_answer.specs.ped_valid.specs.Verdicts.{HasOneValidTree, HasOneFirstRefusal}
-use Rattle.ped_answer.specs.ped_valid.proofs.OneVerdict.{one_of_both, valid_prints}
-use Rattle.ped_answer.specs.ped_order.specs.ped_eval.specs.Outcomes.{outcome}
-use Rattle.ped_answer.specs.ped_order.proofs.OneReport.{one_at_least}
-use Rattle.ped_answer.specs.ped_script.specs.declared.items.Command.{Command}
-use Rattle.ped_answer.specs.ped_script.specs.declared.items.Command.TheVariants.{Source, Deps, Show, Print, Advise, Replace, Insert, Delete, Interchange, Reverse, Skew, Strip, Peel, Distribute, Fuse, Expand, Privatise, Parallel, Serial, Reject, Undo, Redo, Run, Races, Tested}
-use Rattle.ped_answer.specs.ped_script.specs.declared.items.Item.{Item}
+use Rattle.ped_answer.specs.ped_session.specs.ped_tree.specs.Tree.{StmtTree, ProgramTree}
+use Rattle.ped_answer.specs.ped_session.specs.ped_tree.specs.Printing.{program_text}
+use Rattle.ped_answer.specs.ped_session.specs.ped_tree.specs.SourcePane.{source_pane}
+use Rattle.ped_answer.specs.ped_session.specs.ped_tree.specs.Numbering.{statement_with}
+use Rattle.ped_answer.specs.ped_session.specs.ped_symbols.specs.NameRefusals.{IsValid}
+use Rattle.ped_answer.specs.ped_session.specs.ped_graph.specs.DependencePane.{IsDependencePane, IsDependencePaneOf}
+use Rattle.ped_answer.specs.ped_session.specs.ped_graph.specs.Update.Fresh.{tested_pairs}
+use Rattle.ped_answer.specs.ped_session.specs.ped_valid.specs.Validity.{ReadsValid, RefusesText}
+use Rattle.ped_answer.specs.ped_session.specs.ped_valid.specs.Verdicts.{HasOneValidTree, HasOneFirstRefusal}
+use Rattle.ped_answer.specs.ped_session.specs.ped_valid.proofs.OneVerdict.{one_of_both, valid_prints}
+use Rattle.ped_answer.specs.ped_session.specs.ped_order.specs.ped_eval.specs.Outcomes.{outcome}
+use Rattle.ped_answer.specs.ped_session.specs.ped_order.proofs.OneReport.{one_at_least}
+use Rattle.ped_answer.specs.ped_session.specs.ped_script.specs.declared.items.Command.{Command}
+use Rattle.ped_answer.specs.ped_session.specs.ped_script.specs.declared.items.Command.TheVariants.{Source, Deps, Show, Print, Advise, Replace, Insert, Delete, Interchange, Reverse, Skew, Strip, Peel, Distribute, Fuse, Expand, Privatise, Parallel, Serial, Reject, Undo, Redo, Run, Races, Tested}
+use Rattle.ped_answer.specs.ped_session.specs.ped_script.specs.declared.items.Item.{Item}
 use Rattle.ped_answer.specs.ped_session.specs.declared.changes.Change.TheVariants.{Edit}
 use Rattle.ped_answer.specs.ped_session.specs.declared.replies.Refusal.{Refusal}
 use Rattle.ped_answer.specs.ped_session.specs.declared.replies.Refusal.TheVariants.{BadEdit, Step, NothingToUndo, NothingToRedo, NoSuchStatement, NoSuchLine, NotBuilt}
@@ -27,8 +27,8 @@ use Rattle.ped_answer.specs.ped_session.specs.Splices.{spliced, are_lines, is_pl
 use Rattle.ped_answer.specs.ped_session.specs.Panes.{IsSourcePane, ArePanes, tested_row}
 use Rattle.ped_answer.specs.ped_session.specs.Blocks.{block}
 use Rattle.ped_answer.specs.ped_session.specs.RaceRows.{race_row, IsRaceRow}
-use Rattle.ped_answer.specs.ped_scalar.specs.ped_rules.specs.Steps.{StepAt, MaybeStep, no_step, some_step, MatchStep}
-use Rattle.ped_answer.specs.ped_transformations.specs.Table as table
+use Rattle.ped_answer.specs.ped_session.specs.ped_scalar.specs.ped_rules.specs.Steps.{StepAt, MaybeStep, no_step, some_step, MatchStep}
+use Rattle.ped_answer.specs.ped_session.specs.ped_transformations.specs.Table as table
 use Rattle.ped_answer.specs.ped_session.specs.Steps.{Refuses, Shows, ShowsOf, ShowsStatement, Edits, accepted, refused, change_by, Transforms, missing, forbidden, transformed, GoesBack, GoesForward, Runs, IsOther, IsStep}
 use Rattle.ped_answer.specs.ped_session.specs.Histories.{IsPrinted, ArePrinted}
 use Rattle.ped_answer.specs.ped_session.specs.Scripts.{Said, said_by, bad_command_said, nothing_said, said_both, AnswersCommand, AnswersItems}

@@ -1,7 +1,7 @@
 -- Sums of coefficients times indices: of one row, and of two rows over common loops. Both open loop by loop.
 use Rattle.std.proofs.Common.{◌≡◌, refl, ◌∙◌, arith, ℤ, pos, ◌+ℤ◌, ◌-ℤ◌, ◌*ℤ◌, neg_ℤ, List, [], ◌∷◌, length}
-use Rattle.ped_answer.specs.ped_graph.specs.ped_views.specs.Excluded.{dot}
-use Rattle.ped_answer.specs.ped_graph.specs.ped_views.proofs.Products.{linear}
+use Rattle.ped_answer.specs.ped_session.specs.ped_graph.specs.ped_views.specs.Excluded.{dot}
+use Rattle.ped_answer.specs.ped_session.specs.ped_graph.specs.ped_views.proofs.Products.{linear}
 use Rattle.ped_existence.proofs.Reaching.{Sum}
 
 -- a multiple of a by an index that stands so

@@ -2,10 +2,10 @@
 
 ghost use Rattle.std.specs.Prelude.{ℕ, List, Option};
 ghost use Rattle.ped_answer.specs.ped_io.specs.Outside.{Contents};
-ghost use Rattle.ped_answer.specs.ped_tree.specs.Tree.{ProgramTree};
-ghost use Rattle.ped_answer.specs.ped_symbols.specs.NameRefusals.{IsValid};
-ghost use Rattle.ped_answer.specs.ped_script.specs.declared.items.Command.{Command};
-ghost use Rattle.ped_answer.specs.ped_script.specs.declared.items.Item.{Item};
+ghost use Rattle.ped_answer.specs.ped_session.specs.ped_tree.specs.Tree.{ProgramTree};
+ghost use Rattle.ped_answer.specs.ped_session.specs.ped_symbols.specs.NameRefusals.{IsValid};
+ghost use Rattle.ped_answer.specs.ped_session.specs.ped_script.specs.declared.items.Command.{Command};
+ghost use Rattle.ped_answer.specs.ped_session.specs.ped_script.specs.declared.items.Item.{Item};
 ghost use Rattle.ped_answer.specs.ped_session.specs.declared.replies.Reply.{Reply};
 ghost use Rattle.ped_answer.specs.ped_session.specs.States.{State, opened};
 ghost use Rattle.ped_answer.specs.ped_session.specs.Steps.{IsStep};

@@ -1,8 +1,4 @@
 pub use Rattle.ped_tidy
-pub use Rattle.ped_tidy.specs.ped_steps
-pub use Rattle.ped_tidy.specs.ped_bodies
-pub use Rattle.ped_tidy.specs.ped_steps.specs.ped_weaves
-pub use Rattle.ped_tidy.specs.ped_pasting
 pub mod Carried
 pub mod Bounds
 pub mod OneForOne

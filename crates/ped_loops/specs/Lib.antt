@@ -1,7 +1,4 @@
 pub use Rattle.ped_scalar
-pub use Rattle.ped_scalar.specs.ped_rules
-pub use Rattle.ped_scalar.specs.ped_rules.specs.ped_steps
-pub use Rattle.ped_scalar.specs.ped_rules.specs.ped_loop_runs
 pub mod Flags
 pub mod Paralleling
 pub mod Serialising

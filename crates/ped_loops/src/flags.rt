@@ -3,11 +3,11 @@
 ghost use Rattle.std.specs.Prelude.{◌≡◌, ◌+◌, ◌<◌, ◌^◌, [], IfOk, MatchOption};
 ghost use Rattle.ped_tree.specs.Numbering.{statements_count};
 ghost use Rattle.ped_tree.specs.Views.{stmt_tree, stmt_trees, program_tree, head_of};
-ghost use Rattle.ped_scalar.specs.ped_rules.specs.ped_steps.specs.ped_symbols.specs.NameRefusals.{IsValid};
-ghost use Rattle.ped_scalar.specs.ped_rules.specs.ped_steps.specs.ped_flow.specs.Questions.{IsLoop};
-ghost use Rattle.ped_scalar.specs.ped_rules.specs.ped_steps.specs.Changes.{IsChange};
-ghost use Rattle.ped_scalar.specs.ped_rules.specs.ped_steps.specs.Replacing as Replacing;
-ghost use Rattle.ped_scalar.specs.ped_rules.specs.ped_steps.specs.Scenes.{IsSceneOf};
+ghost use Rattle.ped_scalar.specs.ped_rules.specs.ped_loop_runs.specs.ped_tidy.specs.ped_pasting.specs.ped_bodies.specs.ped_steps.specs.ped_symbols.specs.NameRefusals.{IsValid};
+ghost use Rattle.ped_scalar.specs.ped_rules.specs.ped_loop_runs.specs.ped_tidy.specs.ped_pasting.specs.ped_bodies.specs.ped_steps.specs.ped_flow.specs.Questions.{IsLoop};
+ghost use Rattle.ped_scalar.specs.ped_rules.specs.ped_loop_runs.specs.ped_tidy.specs.ped_pasting.specs.ped_bodies.specs.ped_steps.specs.Changes.{IsChange};
+ghost use Rattle.ped_scalar.specs.ped_rules.specs.ped_loop_runs.specs.ped_tidy.specs.ped_pasting.specs.ped_bodies.specs.ped_steps.specs.Replacing as Replacing;
+ghost use Rattle.ped_scalar.specs.ped_rules.specs.ped_loop_runs.specs.ped_tidy.specs.ped_pasting.specs.ped_bodies.specs.ped_steps.specs.Scenes.{IsSceneOf};
 ghost use Rattle.ped_loops.specs.Flags as Spec;
 
 use ped_base::NoMemory;

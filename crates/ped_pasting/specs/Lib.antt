@@ -1,5 +1,4 @@
 pub use Rattle.ped_bodies
-pub use Rattle.ped_bodies.specs.ped_steps
 pub mod Executions
 pub mod Copies
 pub mod Pasting

@@ -3,8 +3,8 @@ use Rattle.std.specs.Prelude.{◌≡◌, ℕ, List, [], ◌++◌, Bool, true, �
 use Rattle.std.specs.Str.Lines.{lines}
 use Rattle.std.specs.List.{flat_map}
 use Rattle.ped_bodies.specs.ped_steps.specs.ped_flow.specs.ped_base.specs.Lists.{is_among}
-use Rattle.ped_bodies.specs.ped_steps.specs.ped_tree.specs.Tree.{StmtTrees, ProgramTree}
-use Rattle.ped_bodies.specs.ped_steps.specs.ped_tree.specs.Numbering.{statements_count}
+use Rattle.ped_bodies.specs.ped_steps.specs.ped_flow.specs.ped_tree.specs.Tree.{StmtTrees, ProgramTree}
+use Rattle.ped_bodies.specs.ped_steps.specs.ped_flow.specs.ped_tree.specs.Numbering.{statements_count}
 use Rattle.ped_bodies.specs.ped_steps.specs.ped_laws.specs.ped_store.specs.Cells.{Cell}
 use Rattle.ped_bodies.specs.ped_steps.specs.ped_laws.specs.ped_store.specs.Stores.{Store, store_at_start}
 use Rattle.ped_bodies.specs.ped_steps.specs.ped_laws.specs.ped_store.specs.Acts.{Act}
@@ -16,7 +16,7 @@ use Rattle.ped_bodies.specs.ped_steps.specs.ped_laws.specs.Runs.Showing.{shown_a
 use Rattle.ped_bodies.specs.ped_steps.specs.ped_laws.specs.ped_eval.specs.Scopes.{Setting, Scope}
 use Rattle.ped_bodies.specs.ped_steps.specs.ped_laws.specs.ped_eval.specs.Runs.{Run, run_all}
 use Rattle.ped_bodies.specs.ped_steps.specs.ped_laws.specs.ped_eval.specs.Outcomes.{setting_of, live_names, IsRaceFree}
-use Rattle.ped_bodies.specs.ped_steps.specs.ped_tree.specs.NamesIn.{saved_in}
+use Rattle.ped_bodies.specs.ped_steps.specs.ped_flow.specs.ped_tree.specs.NamesIn.{saved_in}
 use Rattle.ped_bodies.specs.ped_steps.specs.Runs.Gaps.{Gap, number_at}
 use Rattle.ped_bodies.specs.ped_steps.specs.Runs.Renumbering.{IsToldBack, renumbered}
 use Rattle.ped_pasting.specs.Pasting.{IsPasted, DoInstead, StandInstead, AreExchanged}

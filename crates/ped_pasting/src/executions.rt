@@ -1,8 +1,8 @@
 //! Executions of the statements that a step exchanges.
 
 ghost use Rattle.std.specs.Prelude.{◌≡◌, ◌<◌, ℕ, List, [], Bool};
-ghost use Rattle.ped_bodies.specs.ped_steps.specs.ped_tree.specs.Tree.{StmtTrees, ProgramTree};
-ghost use Rattle.ped_bodies.specs.ped_steps.specs.ped_tree.specs.Numbering.{statements_count};
+ghost use Rattle.ped_bodies.specs.ped_steps.specs.ped_flow.specs.ped_tree.specs.Tree.{StmtTrees, ProgramTree};
+ghost use Rattle.ped_bodies.specs.ped_steps.specs.ped_flow.specs.ped_tree.specs.Numbering.{statements_count};
 ghost use Rattle.ped_bodies.specs.ped_steps.specs.ped_laws.specs.ped_store.specs.Cells.{Cell};
 ghost use Rattle.ped_bodies.specs.ped_steps.specs.ped_laws.specs.ped_store.specs.Stores.{Store};
 ghost use Rattle.ped_bodies.specs.ped_steps.specs.ped_laws.specs.ped_store.specs.Acts.{Act};

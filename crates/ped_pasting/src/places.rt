@@ -2,7 +2,7 @@
 
 ghost use Rattle.std.specs.Prelude.{◌≡◌, ℕ, List, [], ◌∷◌};
 ghost use Rattle.std.specs.Str.Lines.{lines};
-ghost use Rattle.ped_bodies.specs.ped_steps.specs.ped_tree.specs.Tree.{Do, ProgramTree};
+ghost use Rattle.ped_bodies.specs.ped_steps.specs.ped_flow.specs.ped_tree.specs.Tree.{Do, ProgramTree};
 ghost use Rattle.ped_bodies.specs.ped_steps.specs.ped_laws.specs.Covering.Nested.{IsInNest};
 ghost use Rattle.ped_bodies.specs.ped_steps.specs.ped_laws.specs.FlowRuns.Exits.{IsOneToOne};
 ghost use Rattle.ped_bodies.specs.ped_steps.specs.ped_laws.specs.Plain.Executions.{IsPlaceWith, LieInRanges};

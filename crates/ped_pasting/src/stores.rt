@@ -2,11 +2,11 @@
 
 ghost use Rattle.std.specs.Prelude.{◌≡◌, ℕ, List, ◌++◌};
 ghost use Rattle.std.specs.Str.Lines.{lines};
-ghost use Rattle.ped_bodies.specs.ped_steps.specs.ped_tree.specs.Tree.{ProgramTree};
+ghost use Rattle.ped_bodies.specs.ped_steps.specs.ped_flow.specs.ped_tree.specs.Tree.{ProgramTree};
 ghost use Rattle.ped_bodies.specs.ped_steps.specs.ped_laws.specs.Acts.Fitting.{store_after};
 ghost use Rattle.ped_bodies.specs.ped_steps.specs.ped_laws.specs.Covering.Within.{HoldsStorable};
 ghost use Rattle.ped_bodies.specs.ped_steps.specs.ped_laws.specs.ped_eval.specs.Outcomes.{run_of};
-ghost use Rattle.ped_bodies.specs.ped_steps.specs.ped_tree.specs.NamesIn.{all_loop_variables};
+ghost use Rattle.ped_bodies.specs.ped_steps.specs.ped_flow.specs.ped_tree.specs.NamesIn.{all_loop_variables};
 ghost use Rattle.ped_bodies.specs.ped_steps.specs.ped_laws.specs.ped_graph.specs.Dependences.{setting_in};
 ghost use Rattle.ped_bodies.specs.ped_steps.specs.ped_laws.specs.ped_graph.specs.ped_symbols.specs.NameRefusals.{IsValid};
 ghost use Rattle.ped_bodies.specs.ped_steps.specs.ped_laws.specs.ped_store.specs.Acts.{Act};

@@ -1,6 +1,4 @@
 pub use Rattle.ped_loop_runs
-pub use Rattle.ped_loop_runs.specs.ped_tidy
-pub use Rattle.ped_loop_runs.specs.ped_tidy.specs.ped_steps
 pub mod Steps
 pub mod Lawful
 pub mod Chains

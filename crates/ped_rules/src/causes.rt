@@ -1,7 +1,7 @@
 //! Rules that stand against a step.
 
 ghost use Rattle.std.specs.Prelude.{◌≡◌};
-ghost use Rattle.ped_loop_runs.specs.ped_tidy.specs.ped_steps.specs.declared.causes.Refused.TheVariants as refused;
+ghost use Rattle.ped_loop_runs.specs.ped_tidy.specs.ped_pasting.specs.ped_bodies.specs.ped_steps.specs.declared.causes.Refused.TheVariants as refused;
 
 use ped_loop_runs::ped_tidy::ped_steps::{Refused, Rule};
 

@@ -4,21 +4,21 @@ use Rattle.std.specs.List.{list_any}
 use Rattle.ped_base.specs.Lists.{is_among}
 use Rattle.ped_tree.specs.Tree.{Head, StmtTrees, ProgramTree}
 use Rattle.ped_tree.specs.Nests.{Loop}
-use Rattle.ped_rules.specs.ped_steps.specs.ped_symbols.specs.NameRefusals.{IsValid}
-use Rattle.ped_rules.specs.ped_steps.specs.ped_flow.specs.PlainBounds.{nest_round}
-use Rattle.ped_rules.specs.ped_steps.specs.ped_flow.specs.Questions.{IsLoop, LoopOf, IsFirst, IsExposed, IsReadBehind}
-use Rattle.ped_rules.specs.ped_steps.specs.ped_flow.proofs.Answering.{same_head, same_body}
-use Rattle.ped_rules.specs.ped_steps.specs.declared.rules.Rule.{Rule}
-use Rattle.ped_rules.specs.ped_steps.specs.declared.rules.Rule.TheVariants.{NoLoop, NotPerfect, ParallelState, HasPrivate, IndexEscapes, BoundNotPlain, BoundsShape, StepShape, Range, NoNeighbour, OneBlock, ExposedOrLive, NotScalar, NotConstant, Limit, BadFactor, AlreadyPrivate, NothingToReject}
-use Rattle.ped_rules.specs.ped_steps.specs.declared.causes.Refused.{Refused}
-use Rattle.ped_rules.specs.ped_steps.specs.declared.causes.Refused.TheVariants as variant
-use Rattle.ped_rules.specs.ped_steps.specs.declared.changes.Change.{Change}
-use Rattle.ped_rules.specs.ped_steps.specs.Changes.{IsChange}
-use Rattle.ped_rules.specs.ped_steps.specs.Replacing.{all_kept}
+use Rattle.ped_rules.specs.ped_loop_runs.specs.ped_tidy.specs.ped_pasting.specs.ped_bodies.specs.ped_steps.specs.ped_symbols.specs.NameRefusals.{IsValid}
+use Rattle.ped_rules.specs.ped_loop_runs.specs.ped_tidy.specs.ped_pasting.specs.ped_bodies.specs.ped_steps.specs.ped_flow.specs.PlainBounds.{nest_round}
+use Rattle.ped_rules.specs.ped_loop_runs.specs.ped_tidy.specs.ped_pasting.specs.ped_bodies.specs.ped_steps.specs.ped_flow.specs.Questions.{IsLoop, LoopOf, IsFirst, IsExposed, IsReadBehind}
+use Rattle.ped_rules.specs.ped_loop_runs.specs.ped_tidy.specs.ped_pasting.specs.ped_bodies.specs.ped_steps.specs.ped_flow.proofs.Answering.{same_head, same_body}
+use Rattle.ped_rules.specs.ped_loop_runs.specs.ped_tidy.specs.ped_pasting.specs.ped_bodies.specs.ped_steps.specs.declared.rules.Rule.{Rule}
+use Rattle.ped_rules.specs.ped_loop_runs.specs.ped_tidy.specs.ped_pasting.specs.ped_bodies.specs.ped_steps.specs.declared.rules.Rule.TheVariants.{NoLoop, NotPerfect, ParallelState, HasPrivate, IndexEscapes, BoundNotPlain, BoundsShape, StepShape, Range, NoNeighbour, OneBlock, ExposedOrLive, NotScalar, NotConstant, Limit, BadFactor, AlreadyPrivate, NothingToReject}
+use Rattle.ped_rules.specs.ped_loop_runs.specs.ped_tidy.specs.ped_pasting.specs.ped_bodies.specs.ped_steps.specs.declared.causes.Refused.{Refused}
+use Rattle.ped_rules.specs.ped_loop_runs.specs.ped_tidy.specs.ped_pasting.specs.ped_bodies.specs.ped_steps.specs.declared.causes.Refused.TheVariants as variant
+use Rattle.ped_rules.specs.ped_loop_runs.specs.ped_tidy.specs.ped_pasting.specs.ped_bodies.specs.ped_steps.specs.declared.changes.Change.{Change}
+use Rattle.ped_rules.specs.ped_loop_runs.specs.ped_tidy.specs.ped_pasting.specs.ped_bodies.specs.ped_steps.specs.Changes.{IsChange}
+use Rattle.ped_rules.specs.ped_loop_runs.specs.ped_tidy.specs.ped_pasting.specs.ped_bodies.specs.ped_steps.specs.Replacing.{all_kept}
 use Rattle.ped_rules.specs.Steps.{Answers}
 use Rattle.ped_rules.proofs.Answering.{none_first}
-use Rattle.ped_rules.specs.ped_steps.specs.Causes.{NoRule, NoneBelow, IsFirstRule}
-use Rattle.ped_rules.specs.ped_steps.proofs.FirstRules.{none_at_first, none_up_to, none_stands, first_stands}
+use Rattle.ped_rules.specs.ped_loop_runs.specs.ped_tidy.specs.ped_pasting.specs.ped_bodies.specs.ped_steps.specs.Causes.{NoRule, NoneBelow, IsFirstRule}
+use Rattle.ped_rules.specs.ped_loop_runs.specs.ped_tidy.specs.ped_pasting.specs.ped_bodies.specs.ped_steps.proofs.FirstRules.{none_at_first, none_up_to, none_stands, first_stands}
 use Rattle.ped_scalar.specs.Scalars.{is_scalar, is_unfit}
 use Rattle.ped_scalar.proofs.FlowAnswers.{true_not_false}
 use Rattle.ped_scalar.specs.Privatising.{privatised, IsExposedOrLiveBy, IsScalarExposedOrLiveBy, StandsAgainstPrivatising, privatising}

@@ -5,17 +5,17 @@ use Rattle.std.proofs.lemmas.Bool.{lt-ltb, ltb-true}
 use Rattle.ped_base.specs.Lists.{is_among}
 use Rattle.ped_tree.specs.Tree.{Head, StmtTrees, ProgramTree}
 use Rattle.ped_tree.specs.Numbering.{statements_count}
-use Rattle.ped_rules.specs.ped_steps.specs.ped_laws.specs.ped_graph.specs.Update.Fresh.{IsOneToOne}
-use Rattle.ped_rules.specs.ped_steps.specs.ped_symbols.specs.Kinds.{table_of}
-use Rattle.ped_rules.specs.ped_steps.specs.ped_symbols.specs.NameRefusals.{IsValid}
-use Rattle.ped_rules.specs.ped_steps.specs.ped_flow.specs.Questions.{LoopOf, IsLiveAfter}
-use Rattle.ped_rules.specs.ped_steps.specs.ped_flow.proofs.Answering.{same_head, same_body}
-use Rattle.ped_rules.specs.ped_steps.specs.declared.rules.Rule.TheVariants.{NoLoop, NotScalar, NotConstant, Limit, AlreadyPrivate}
-use Rattle.ped_rules.specs.ped_steps.specs.Causes.{NoRule, none_forbids}
-use Rattle.ped_rules.specs.ped_steps.specs.Replacing.{all_kept}
-use Rattle.ped_rules.specs.ped_steps.specs.Tidy.{IsTidy}
-use Rattle.ped_rules.specs.ped_steps.proofs.OneCause.{one_cause}
-use Rattle.ped_rules.specs.ped_tidy.specs.Unrejected.{some_rejection, IsTrusted}
+use Rattle.ped_rules.specs.ped_loop_runs.specs.ped_tidy.specs.ped_pasting.specs.ped_bodies.specs.ped_steps.specs.ped_laws.specs.ped_graph.specs.Update.Fresh.{IsOneToOne}
+use Rattle.ped_rules.specs.ped_loop_runs.specs.ped_tidy.specs.ped_pasting.specs.ped_bodies.specs.ped_steps.specs.ped_symbols.specs.Kinds.{table_of}
+use Rattle.ped_rules.specs.ped_loop_runs.specs.ped_tidy.specs.ped_pasting.specs.ped_bodies.specs.ped_steps.specs.ped_symbols.specs.NameRefusals.{IsValid}
+use Rattle.ped_rules.specs.ped_loop_runs.specs.ped_tidy.specs.ped_pasting.specs.ped_bodies.specs.ped_steps.specs.ped_flow.specs.Questions.{LoopOf, IsLiveAfter}
+use Rattle.ped_rules.specs.ped_loop_runs.specs.ped_tidy.specs.ped_pasting.specs.ped_bodies.specs.ped_steps.specs.ped_flow.proofs.Answering.{same_head, same_body}
+use Rattle.ped_rules.specs.ped_loop_runs.specs.ped_tidy.specs.ped_pasting.specs.ped_bodies.specs.ped_steps.specs.declared.rules.Rule.TheVariants.{NoLoop, NotScalar, NotConstant, Limit, AlreadyPrivate}
+use Rattle.ped_rules.specs.ped_loop_runs.specs.ped_tidy.specs.ped_pasting.specs.ped_bodies.specs.ped_steps.specs.Causes.{NoRule, none_forbids}
+use Rattle.ped_rules.specs.ped_loop_runs.specs.ped_tidy.specs.ped_pasting.specs.ped_bodies.specs.ped_steps.specs.Replacing.{all_kept}
+use Rattle.ped_rules.specs.ped_loop_runs.specs.ped_tidy.specs.ped_pasting.specs.ped_bodies.specs.ped_steps.specs.Tidy.{IsTidy}
+use Rattle.ped_rules.specs.ped_loop_runs.specs.ped_tidy.specs.ped_pasting.specs.ped_bodies.specs.ped_steps.proofs.OneCause.{one_cause}
+use Rattle.ped_rules.specs.ped_loop_runs.specs.ped_tidy.specs.Unrejected.{some_rejection, IsTrusted}
 use Rattle.ped_rules.specs.Steps.{StepAt}
 use Rattle.ped_rules.specs.Lawful.{MakesSome, IsFaithful, IsLawful}
 use Rattle.ped_rules.specs.Spans.{Span, span_of}

@@ -4,14 +4,14 @@ ghost use Rattle.std.specs.Prelude.{◌≡◌, ◌+◌, ◌<◌, ◌^◌, ℕ, l
 ghost use Rattle.ped_tree.specs.Tree.{ProgramTree};
 ghost use Rattle.ped_tree.specs.Numbering.{statements_count};
 ghost use Rattle.ped_tree.specs.Views.{stmt_trees, program_tree};
-ghost use Rattle.ped_rules.specs.ped_steps.specs.ped_refs.specs.References.{references};
-ghost use Rattle.ped_rules.specs.ped_steps.specs.ped_refs.specs.Loops.{nest_of};
+ghost use Rattle.ped_rules.specs.ped_loop_runs.specs.ped_tidy.specs.ped_pasting.specs.ped_bodies.specs.ped_steps.specs.ped_refs.specs.References.{references};
+ghost use Rattle.ped_rules.specs.ped_loop_runs.specs.ped_tidy.specs.ped_pasting.specs.ped_bodies.specs.ped_steps.specs.ped_refs.specs.Loops.{nest_of};
 ghost use Rattle.ped_tree.specs.Views.{head_of};
-ghost use Rattle.ped_rules.specs.ped_steps.specs.ped_symbols.specs.Kinds.{table_of};
-ghost use Rattle.ped_rules.specs.ped_steps.specs.ped_symbols.specs.RightUses.RightUses as uses;
-ghost use Rattle.ped_rules.specs.ped_steps.specs.ped_flow.specs.PlainBounds.{nest_round};
-ghost use Rattle.ped_rules.specs.ped_steps.specs.ped_flow.specs.Questions.{IsLoop, IsFirst, IsExposed};
-ghost use Rattle.ped_rules.specs.ped_steps.specs.Scenes.{IsSceneOf, IsFlowOf};
+ghost use Rattle.ped_rules.specs.ped_loop_runs.specs.ped_tidy.specs.ped_pasting.specs.ped_bodies.specs.ped_steps.specs.ped_symbols.specs.Kinds.{table_of};
+ghost use Rattle.ped_rules.specs.ped_loop_runs.specs.ped_tidy.specs.ped_pasting.specs.ped_bodies.specs.ped_steps.specs.ped_symbols.specs.RightUses.RightUses as uses;
+ghost use Rattle.ped_rules.specs.ped_loop_runs.specs.ped_tidy.specs.ped_pasting.specs.ped_bodies.specs.ped_steps.specs.ped_flow.specs.PlainBounds.{nest_round};
+ghost use Rattle.ped_rules.specs.ped_loop_runs.specs.ped_tidy.specs.ped_pasting.specs.ped_bodies.specs.ped_steps.specs.ped_flow.specs.Questions.{IsLoop, IsFirst, IsExposed};
+ghost use Rattle.ped_rules.specs.ped_loop_runs.specs.ped_tidy.specs.ped_pasting.specs.ped_bodies.specs.ped_steps.specs.Scenes.{IsSceneOf, IsFlowOf};
 ghost use Rattle.ped_scalar.specs.Scalars as Spec;
 
 use crate::indices::is_index_in;

@@ -1,5 +1,3 @@
-pub use Rattle.ped_base
-pub use Rattle.ped_tree
 pub use Rattle.ped_sums
 pub use Rattle.ped_weaves
 pub use Rattle.ped_weaves.specs.ped_laws.specs.ped_graph.specs.ped_views

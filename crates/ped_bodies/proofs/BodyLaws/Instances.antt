@@ -4,9 +4,9 @@ use Rattle.std.specs.Prelude.{◌==◌, ◌/◌, ◌%◌}
 use Rattle.std.proofs.lemmas.Bool.{both_ways}
 use Rattle.ped_steps.specs.ped_flow.specs.ped_base.specs.Lists.{is_same_text, is_among}
 use Rattle.ped_steps.specs.ped_flow.specs.ped_base.proofs.NameEquality.{same_is}
-use Rattle.ped_steps.specs.ped_tree.specs.Constants.NamedConstants.{value_named}
-use Rattle.ped_steps.specs.ped_tree.specs.Tree.{ExprTree, Var, StmtTrees}
-use Rattle.ped_steps.specs.ped_tree.specs.NamesIn.{stmts_names}
+use Rattle.ped_steps.specs.ped_flow.specs.ped_tree.specs.Constants.NamedConstants.{value_named}
+use Rattle.ped_steps.specs.ped_flow.specs.ped_tree.specs.Tree.{ExprTree, Var, StmtTrees}
+use Rattle.ped_steps.specs.ped_flow.specs.ped_tree.specs.NamesIn.{stmts_names}
 use Rattle.ped_steps.specs.ped_sums.specs.Substitution.{substituted, all_substituted, statements_substituted}
 use Rattle.ped_steps.specs.ped_laws.specs.ped_store.specs.Cells.{Cell, Scalar, Element, Private, In, Out, Iteration}
 use Rattle.ped_steps.specs.ped_laws.specs.ped_store.specs.Acts.{Turn, iterations_of}
@@ -14,7 +14,7 @@ use Rattle.ped_steps.specs.ped_laws.specs.Acts.Renaming.{own_name}
 use Rattle.ped_steps.specs.ped_laws.specs.Acts.Sets.{nothing}
 use Rattle.ped_steps.specs.ped_laws.proofs.ActLaws.SameCells.{text_itself}
 use Rattle.ped_steps.specs.ped_laws.specs.ped_eval.specs.Scopes.{Setting, Frame, Scope, turns_of, index_value}
-use Rattle.ped_steps.specs.ped_tree.specs.NamesIn.{all_loop_variables}
+use Rattle.ped_steps.specs.ped_flow.specs.ped_tree.specs.NamesIn.{all_loop_variables}
 use Rattle.ped_steps.specs.ped_laws.specs.ped_eval.specs.Runs.{run_all}
 use Rattle.ped_steps.specs.ped_laws.specs.Runs.Replaying.{goes_on}
 use Rattle.ped_steps.specs.Runs.Exchanging.{IsExchange, AreExchanged}

@@ -2,8 +2,8 @@
 use Rattle.std.proofs.Common.{◌≡◌, ℕ, suc, ℤ, List, [], ◌∷◌, ◌++◌, map, Bool, true, false, None, Result, Ok, Err, inl, refl, sym, ap, subst, ◌∙◌, if◌then◌else◌}
 use Rattle.std.specs.List.{flat_map}
 use Rattle.ped_steps.specs.ped_flow.specs.ped_base.specs.Lists.{is_among}
-use Rattle.ped_steps.specs.ped_tree.specs.Tree.{ExprTree, ExprTrees, Var}
-use Rattle.ped_steps.specs.ped_tree.specs.NamesIn.{expr_names}
+use Rattle.ped_steps.specs.ped_flow.specs.ped_tree.specs.Tree.{ExprTree, ExprTrees, Var}
+use Rattle.ped_steps.specs.ped_flow.specs.ped_tree.specs.NamesIn.{expr_names}
 use Rattle.ped_steps.specs.ped_affine.specs.Assigned.{assigned_left}
 use Rattle.ped_steps.specs.ped_laws.specs.ped_store.specs.Cells.{Cell, Scalar, Element, Private, In, Out, same_cell}
 use Rattle.ped_steps.specs.ped_laws.specs.ped_store.specs.Stores.{Content, Number, Lines, Store, put, lines_in}

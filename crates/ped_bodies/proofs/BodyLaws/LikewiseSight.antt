@@ -8,10 +8,10 @@ use Rattle.ped_steps.specs.ped_flow.specs.ped_base.specs.Dimensions.{Dimensions}
 use Rattle.ped_steps.specs.ped_flow.specs.ped_base.specs.Lists.{is_same_text, is_among}
 use Rattle.ped_steps.specs.ped_flow.specs.ped_base.specs.declared.arithmetic.faults.Fault.{Fault}
 use Rattle.ped_steps.specs.ped_flow.specs.ped_base.specs.Arithmetic.Arithmetic.{sum_of, difference_of, negation_of, product_of, quotient_of, power_of}
-use Rattle.ped_steps.specs.ped_tree.specs.Constants.NamedConstants.{value_named}
-use Rattle.ped_steps.specs.ped_tree.specs.Constants.ConstantExpressions.{intrinsic_result}
-use Rattle.ped_steps.specs.ped_tree.specs.Tree.{ExprTree, ExprTrees, Int, Var, Element, Neg, Add, Sub, Mul, Div, Pow, Call, no_exprs, more_exprs, CondTree, Rel, Not, And, Or, ItemTree, Value, Text, Head}
-use Rattle.ped_steps.specs.ped_tree.specs.NamesIn.{expr_names, exprs_names, cond_names, item_names}
+use Rattle.ped_steps.specs.ped_flow.specs.ped_tree.specs.Constants.NamedConstants.{value_named}
+use Rattle.ped_steps.specs.ped_flow.specs.ped_tree.specs.Constants.ConstantExpressions.{intrinsic_result}
+use Rattle.ped_steps.specs.ped_flow.specs.ped_tree.specs.Tree.{ExprTree, ExprTrees, Int, Var, Element, Neg, Add, Sub, Mul, Div, Pow, Call, no_exprs, more_exprs, CondTree, Rel, Not, And, Or, ItemTree, Value, Text, Head}
+use Rattle.ped_steps.specs.ped_flow.specs.ped_tree.specs.NamesIn.{expr_names, exprs_names, cond_names, item_names}
 use Rattle.ped_steps.specs.ped_sums.specs.Sums.{plus_of, minus_of}
 use Rattle.ped_steps.specs.ped_affine.specs.Assigned.{assigned_left}
 use Rattle.ped_steps.specs.ped_laws.specs.ped_store.specs.Cells as cells

@@ -1,6 +1,6 @@
 -- The limits of a DO come from the values of its bounds.
 use Rattle.std.proofs.Common.{◌≡◌, ℕ, ℤ, List, ◌++◌, Bool, true, false, Result, Ok, Err, refl, sym, ap, ◌∙◌, append-nil, if◌then◌else◌}
-use Rattle.ped_steps.specs.ped_tree.specs.Tree.{Head}
+use Rattle.ped_steps.specs.ped_flow.specs.ped_tree.specs.Tree.{Head}
 use Rattle.ped_steps.specs.ped_laws.specs.ped_store.specs.Stores.{Store, out_of_range}
 use Rattle.ped_steps.specs.ped_laws.specs.ped_eval.specs.Scopes.{Names}
 use Rattle.ped_steps.specs.ped_laws.specs.ped_eval.specs.Evaluation.{Seen, Evaluated, having_seen, onward, ◌>>>◌, given}

@@ -8,9 +8,9 @@ use Rattle.ped_steps.specs.ped_flow.specs.ped_base.specs.declared.arithmetic.fau
 use Rattle.ped_steps.specs.ped_flow.specs.ped_base.specs.Arithmetic.Arithmetic.{sum_of, difference_of, negation_of, product_of, quotient_of, power_of}
 use Rattle.ped_steps.specs.ped_affine.specs.Assigned.{assigned_in_all}
 use Rattle.ped_steps.specs.ped_flow.specs.ped_base.proofs.NameEquality.{same_is}
-use Rattle.ped_steps.specs.ped_tree.specs.Constants.NamedConstants.{value_named}
-use Rattle.ped_steps.specs.ped_tree.specs.Constants.ConstantExpressions.{unary_value, binary_value, onto, intrinsic_result, constant_value, constant_values}
-use Rattle.ped_steps.specs.ped_tree.specs.Tree.{ExprTree, ExprTrees, Int, Var, Element, Neg, Add, Sub, Mul, Div, Pow, Call, no_exprs, more_exprs, CondTree, Rel, Not, And, Or, ItemTree, Value, Text, StmtTree, StmtTrees, Assign, If, Do, Print, Read, Stop, Comment, no_stmts, more_stmts}
+use Rattle.ped_steps.specs.ped_flow.specs.ped_tree.specs.Constants.NamedConstants.{value_named}
+use Rattle.ped_steps.specs.ped_flow.specs.ped_tree.specs.Constants.ConstantExpressions.{unary_value, binary_value, onto, intrinsic_result, constant_value, constant_values}
+use Rattle.ped_steps.specs.ped_flow.specs.ped_tree.specs.Tree.{ExprTree, ExprTrees, Int, Var, Element, Neg, Add, Sub, Mul, Div, Pow, Call, no_exprs, more_exprs, CondTree, Rel, Not, And, Or, ItemTree, Value, Text, StmtTree, StmtTrees, Assign, If, Do, Print, Read, Stop, Comment, no_stmts, more_stmts}
 use Rattle.ped_steps.specs.ped_sums.specs.Sums.{plus_of, minus_of}
 use Rattle.ped_steps.specs.ped_sums.specs.Substitution.{has_scalar, have_scalar, is_scalar, changes, substituted, all_substituted, condition_substituted, item_substituted, head_substituted, statement_substituted, statements_substituted}
 use Rattle.ped_steps.proofs.RunLaws.SubstitutedShapes.{stays}

@@ -9,8 +9,8 @@ use Rattle.ped_steps.specs.ped_flow.specs.ped_base.specs.declared.arithmetic.fau
 use Rattle.ped_steps.specs.ped_flow.specs.ped_base.specs.declared.arithmetic.faults.Fault.TheVariants.{OutOfRange}
 use Rattle.ped_steps.specs.ped_flow.specs.ped_base.specs.Arithmetic.Arithmetic.{is_in_range, in_range, sum_of, difference_of, negation_of, product_of}
 use Rattle.ped_steps.specs.ped_flow.specs.ped_base.proofs.NameEquality.{same_is}
-use Rattle.ped_steps.specs.ped_tree.specs.Constants.NamedConstants.{value_named}
-use Rattle.ped_steps.specs.ped_tree.specs.Tree.{ExprTree, Int, Var, Neg, Add, Sub, Mul}
+use Rattle.ped_steps.specs.ped_flow.specs.ped_tree.specs.Constants.NamedConstants.{value_named}
+use Rattle.ped_steps.specs.ped_flow.specs.ped_tree.specs.Tree.{ExprTree, Int, Var, Neg, Add, Sub, Mul}
 use Rattle.ped_steps.specs.ped_sums.specs.Sums.{literal, times_of}
 use Rattle.ped_steps.specs.ped_sums.specs.Substitution.{substituted}
 use Rattle.ped_steps.specs.ped_laws.specs.ped_store.specs.Cells.{Cell}

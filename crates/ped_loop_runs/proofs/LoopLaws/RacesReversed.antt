@@ -4,43 +4,43 @@ use Rattle.std.specs.Str.Lines.{lines}
 use Rattle.std.proofs.lemmas.Bool.{and_parts, both_ways}
 use Rattle.std.proofs.lemmas.Grind.{flat_map-append}
 use Rattle.std.proofs.lemmas.List.{map-append}
-use Rattle.ped_tidy.specs.ped_steps.specs.ped_laws.specs.ped_flow.specs.ped_tree.specs.Tree.{Head, StmtTrees, Do, ProgramTree}
-use Rattle.ped_tidy.specs.ped_steps.specs.ped_laws.specs.ped_flow.specs.ped_tree.specs.Nests.{Loop}
-use Rattle.ped_tidy.specs.ped_steps.specs.ped_laws.specs.ped_flow.specs.ped_tree.specs.Numbering.{statements_count}
-use Rattle.ped_tidy.specs.ped_steps.specs.ped_laws.specs.ped_flow.specs.PlainBounds.{nest_round}
-use Rattle.ped_tidy.specs.ped_steps.specs.ped_laws.specs.ped_flow.specs.Questions.{LoopOf}
-use Rattle.ped_tidy.specs.ped_steps.specs.ped_laws.specs.ped_store.specs.Cells.{Cell, Scalar, Element, Private, In, Out, Iteration, same_cell}
-use Rattle.ped_tidy.specs.ped_steps.specs.ped_laws.specs.ped_store.specs.Stores.{Store, store_at_start}
-use Rattle.ped_tidy.specs.ped_steps.specs.ped_laws.specs.ped_store.specs.Acts.{Manner, reads, writes, is_told, Touch, Turn, Place, Act, iterations_of}
-use Rattle.ped_tidy.specs.ped_steps.specs.ped_laws.specs.ped_store.specs.Races.{Access, is_write, accesses_of, accesses, conflict, are_apart, race, HasNoRace}
-use Rattle.ped_tidy.specs.ped_steps.specs.ped_laws.specs.ped_eval.specs.Loops.{Entered, frame}
-use Rattle.ped_tidy.specs.ped_steps.specs.ped_laws.specs.ped_eval.specs.Scopes.{Setting, Scope, turns_of}
-use Rattle.ped_tidy.specs.ped_steps.specs.ped_laws.specs.ped_eval.specs.Outcomes.{setting_of, run_of}
-use Rattle.ped_tidy.specs.ped_steps.specs.ped_laws.specs.ped_eval.specs.Runs.{Run, run_all}
-use Rattle.ped_tidy.specs.ped_steps.specs.ped_laws.specs.Acts.Fitting.{store_after}
-use Rattle.ped_tidy.specs.ped_steps.specs.ped_laws.specs.Acts.Orders.{IsIn, StandsBefore}
-use Rattle.ped_tidy.specs.ped_steps.specs.ped_laws.specs.Acts.Origins.{StandApart}
-use Rattle.ped_tidy.specs.ped_steps.specs.ped_laws.specs.Acts.Pieces.{Part, same, changed, old_parts, new_parts}
-use Rattle.ped_tidy.specs.ped_steps.specs.ped_laws.specs.Runs.Replaying.{goes_on, finish_of}
-use Rattle.ped_tidy.specs.ped_steps.specs.ped_laws.proofs.ActLaws.Lists.{in_left, in_right, in_parts, first_in, second_in, before_parts}
-use Rattle.ped_tidy.specs.ped_steps.specs.ped_laws.proofs.ActLaws.SameCells.{cell_is, is_cell}
-use Rattle.ped_tidy.specs.ped_steps.specs.ped_laws.proofs.ActLaws.Conflicting.{access_place, accesses_in}
-use Rattle.ped_tidy.specs.ped_steps.specs.ped_laws.proofs.ActLaws.RaceFree.{apart_flip}
-use Rattle.ped_tidy.specs.ped_steps.specs.ped_laws.proofs.RunLaws.Touches.{Fine}
-use Rattle.ped_tidy.specs.ped_steps.specs.ped_laws.proofs.RunLaws.Turning.{Front, At}
-use Rattle.ped_tidy.specs.ped_steps.specs.ped_laws.proofs.RunLaws.Placing.{kinds_of_run}
-use Rattle.ped_tidy.specs.ped_steps.specs.Replacing.{alone}
-use Rattle.ped_tidy.specs.ped_steps.specs.Runs.Pasting.{AreTurnsOf}
-use Rattle.ped_tidy.specs.ped_steps.specs.Runs.Renumbering.{renumbered_turn}
-use Rattle.ped_tidy.specs.ped_steps.proofs.RunLaws.PrivatisedRacesOrigins.{accesses_from}
-use Rattle.ped_tidy.specs.ped_steps.proofs.RunLaws.ExpandedRacesOrigins.{touch_of}
-use Rattle.ped_tidy.specs.ped_steps.specs.ped_weaves.specs.Sources.{RaceSomewhere}
-use Rattle.ped_tidy.specs.ped_steps.specs.ped_weaves.proofs.WeaveLaws.RaceSources.{pairs_free}
+use Rattle.ped_tidy.specs.ped_pasting.specs.ped_bodies.specs.ped_steps.specs.ped_laws.specs.ped_flow.specs.ped_tree.specs.Tree.{Head, StmtTrees, Do, ProgramTree}
+use Rattle.ped_tidy.specs.ped_pasting.specs.ped_bodies.specs.ped_steps.specs.ped_laws.specs.ped_flow.specs.ped_tree.specs.Nests.{Loop}
+use Rattle.ped_tidy.specs.ped_pasting.specs.ped_bodies.specs.ped_steps.specs.ped_laws.specs.ped_flow.specs.ped_tree.specs.Numbering.{statements_count}
+use Rattle.ped_tidy.specs.ped_pasting.specs.ped_bodies.specs.ped_steps.specs.ped_laws.specs.ped_flow.specs.PlainBounds.{nest_round}
+use Rattle.ped_tidy.specs.ped_pasting.specs.ped_bodies.specs.ped_steps.specs.ped_laws.specs.ped_flow.specs.Questions.{LoopOf}
+use Rattle.ped_tidy.specs.ped_pasting.specs.ped_bodies.specs.ped_steps.specs.ped_laws.specs.ped_store.specs.Cells.{Cell, Scalar, Element, Private, In, Out, Iteration, same_cell}
+use Rattle.ped_tidy.specs.ped_pasting.specs.ped_bodies.specs.ped_steps.specs.ped_laws.specs.ped_store.specs.Stores.{Store, store_at_start}
+use Rattle.ped_tidy.specs.ped_pasting.specs.ped_bodies.specs.ped_steps.specs.ped_laws.specs.ped_store.specs.Acts.{Manner, reads, writes, is_told, Touch, Turn, Place, Act, iterations_of}
+use Rattle.ped_tidy.specs.ped_pasting.specs.ped_bodies.specs.ped_steps.specs.ped_laws.specs.ped_store.specs.Races.{Access, is_write, accesses_of, accesses, conflict, are_apart, race, HasNoRace}
+use Rattle.ped_tidy.specs.ped_pasting.specs.ped_bodies.specs.ped_steps.specs.ped_laws.specs.ped_eval.specs.Loops.{Entered, frame}
+use Rattle.ped_tidy.specs.ped_pasting.specs.ped_bodies.specs.ped_steps.specs.ped_laws.specs.ped_eval.specs.Scopes.{Setting, Scope, turns_of}
+use Rattle.ped_tidy.specs.ped_pasting.specs.ped_bodies.specs.ped_steps.specs.ped_laws.specs.ped_eval.specs.Outcomes.{setting_of, run_of}
+use Rattle.ped_tidy.specs.ped_pasting.specs.ped_bodies.specs.ped_steps.specs.ped_laws.specs.ped_eval.specs.Runs.{Run, run_all}
+use Rattle.ped_tidy.specs.ped_pasting.specs.ped_bodies.specs.ped_steps.specs.ped_laws.specs.Acts.Fitting.{store_after}
+use Rattle.ped_tidy.specs.ped_pasting.specs.ped_bodies.specs.ped_steps.specs.ped_laws.specs.Acts.Orders.{IsIn, StandsBefore}
+use Rattle.ped_tidy.specs.ped_pasting.specs.ped_bodies.specs.ped_steps.specs.ped_laws.specs.Acts.Origins.{StandApart}
+use Rattle.ped_tidy.specs.ped_pasting.specs.ped_bodies.specs.ped_steps.specs.ped_laws.specs.Acts.Pieces.{Part, same, changed, old_parts, new_parts}
+use Rattle.ped_tidy.specs.ped_pasting.specs.ped_bodies.specs.ped_steps.specs.ped_laws.specs.Runs.Replaying.{goes_on, finish_of}
+use Rattle.ped_tidy.specs.ped_pasting.specs.ped_bodies.specs.ped_steps.specs.ped_laws.proofs.ActLaws.Lists.{in_left, in_right, in_parts, first_in, second_in, before_parts}
+use Rattle.ped_tidy.specs.ped_pasting.specs.ped_bodies.specs.ped_steps.specs.ped_laws.proofs.ActLaws.SameCells.{cell_is, is_cell}
+use Rattle.ped_tidy.specs.ped_pasting.specs.ped_bodies.specs.ped_steps.specs.ped_laws.proofs.ActLaws.Conflicting.{access_place, accesses_in}
+use Rattle.ped_tidy.specs.ped_pasting.specs.ped_bodies.specs.ped_steps.specs.ped_laws.proofs.ActLaws.RaceFree.{apart_flip}
+use Rattle.ped_tidy.specs.ped_pasting.specs.ped_bodies.specs.ped_steps.specs.ped_laws.proofs.RunLaws.Touches.{Fine}
+use Rattle.ped_tidy.specs.ped_pasting.specs.ped_bodies.specs.ped_steps.specs.ped_laws.proofs.RunLaws.Turning.{Front, At}
+use Rattle.ped_tidy.specs.ped_pasting.specs.ped_bodies.specs.ped_steps.specs.ped_laws.proofs.RunLaws.Placing.{kinds_of_run}
+use Rattle.ped_tidy.specs.ped_pasting.specs.ped_bodies.specs.ped_steps.specs.Replacing.{alone}
+use Rattle.ped_tidy.specs.ped_pasting.specs.ped_bodies.specs.ped_steps.specs.Runs.Pasting.{AreTurnsOf}
+use Rattle.ped_tidy.specs.ped_pasting.specs.ped_bodies.specs.ped_steps.specs.Runs.Renumbering.{renumbered_turn}
+use Rattle.ped_tidy.specs.ped_pasting.specs.ped_bodies.specs.ped_steps.proofs.RunLaws.PrivatisedRacesOrigins.{accesses_from}
+use Rattle.ped_tidy.specs.ped_pasting.specs.ped_bodies.specs.ped_steps.proofs.RunLaws.ExpandedRacesOrigins.{touch_of}
+use Rattle.ped_tidy.specs.ped_pasting.specs.ped_bodies.specs.ped_steps.specs.ped_weaves.specs.Sources.{RaceSomewhere}
+use Rattle.ped_tidy.specs.ped_pasting.specs.ped_bodies.specs.ped_steps.specs.ped_weaves.proofs.WeaveLaws.RaceSources.{pairs_free}
 use Rattle.ped_tidy.specs.ped_pasting.specs.Executions.{StandsInside, LeaveCopies, IsExecuted}
 use Rattle.ped_tidy.specs.ped_pasting.specs.Pasting.{AreExchanged}
 use Rattle.ped_tidy.specs.ped_pasting.proofs.PastingLaws.LeftCopies.{body_reaches}
-use Rattle.ped_tidy.specs.ped_bodies.specs.Moving.{own_number}
-use Rattle.ped_tidy.specs.ped_bodies.specs.Trips.{bounds_seen, entered_from}
+use Rattle.ped_tidy.specs.ped_pasting.specs.ped_bodies.specs.Moving.{own_number}
+use Rattle.ped_tidy.specs.ped_pasting.specs.ped_bodies.specs.Trips.{bounds_seen, entered_from}
 use Rattle.ped_loop_runs.specs.OneForOne.{trip_of, trip_names, IsOneForOne, IsMadeInstead}
 use Rattle.ped_loop_runs.proofs.LoopLaws.RacesByReferences.{act_good, told_is_unreferred, by_references}
 use Rattle.ped_loop_runs.proofs.LoopLaws.OneForOneRaces.{IsKept, IsMadeInTrip, execution_made}

@@ -6,9 +6,9 @@ use Rattle.std.specs.Str.Lines.{lines}
 use Rattle.ped_bodies.specs.ped_steps.specs.ped_flow.specs.ped_base.specs.Lists.{is_same_text, is_among}
 use Rattle.ped_bodies.specs.ped_steps.specs.ped_laws.specs.ped_graph.specs.ped_views.specs.declared.intervals.Interval.{Interval}
 use Rattle.ped_bodies.specs.ped_steps.specs.ped_laws.specs.ped_graph.specs.ped_views.specs.Intervals.{Lies}
-use Rattle.ped_bodies.specs.ped_steps.specs.ped_tree.specs.Tree.{Head, Do, ProgramTree}
-use Rattle.ped_bodies.specs.ped_steps.specs.ped_tree.specs.Nests.{Loop}
-use Rattle.ped_bodies.specs.ped_steps.specs.ped_tree.specs.Numbering.{all_numbered, statement_with}
+use Rattle.ped_bodies.specs.ped_steps.specs.ped_flow.specs.ped_tree.specs.Tree.{Head, Do, ProgramTree}
+use Rattle.ped_bodies.specs.ped_steps.specs.ped_flow.specs.ped_tree.specs.Nests.{Loop}
+use Rattle.ped_bodies.specs.ped_steps.specs.ped_flow.specs.ped_tree.specs.Numbering.{all_numbered, statement_with}
 use Rattle.ped_bodies.specs.ped_steps.specs.ped_laws.specs.ped_graph.specs.Dependences.{setting_in}
 use Rattle.ped_bodies.specs.ped_steps.specs.ped_laws.specs.ped_graph.specs.ped_symbols.specs.NameRefusals.{IsValid}
 use Rattle.ped_bodies.specs.ped_steps.specs.ped_laws.specs.ped_graph.specs.ped_symbols.specs.RightUses.RightLoops.{step_is_right}

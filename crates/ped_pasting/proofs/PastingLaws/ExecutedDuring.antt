@@ -1,7 +1,7 @@
 -- What is done in a DO, or by it, is done while the outermost DO is executed.
 use Rattle.std.proofs.Common.{◌≡◌, ℕ, List, [], ◌∷◌, ◌++◌, Result, Ok, Err, Some, refl, sym, ap, subst, ◌∙◌, append_assoc, append-nil, arith, ◌≤◌, ◌+◌}
-use Rattle.ped_bodies.specs.ped_steps.specs.ped_tree.specs.Tree.{Head, StmtTrees, Do, ProgramTree}
-use Rattle.ped_bodies.specs.ped_steps.specs.ped_tree.specs.Numbering.{statement_with, statements_count}
+use Rattle.ped_bodies.specs.ped_steps.specs.ped_flow.specs.ped_tree.specs.Tree.{Head, StmtTrees, Do, ProgramTree}
+use Rattle.ped_bodies.specs.ped_steps.specs.ped_flow.specs.ped_tree.specs.Numbering.{statement_with, statements_count}
 use Rattle.ped_bodies.specs.ped_steps.specs.ped_laws.specs.ped_flow.specs.PlainBounds.{nest_round, outermost_or}
 use Rattle.ped_bodies.specs.ped_steps.specs.ped_laws.specs.ped_flow.specs.Questions.{LoopOf}
 use Rattle.ped_bodies.specs.ped_steps.specs.ped_laws.specs.ped_store.specs.Stores.{Store}

@@ -1,9 +1,9 @@
 -- A program in which statements have been exchanged for others: its run is made of that of the old one, and each execution knows what it is. Round it, the iterations of PARALLEL DO loops may have other copies.
 use Rattle.std.proofs.Common.{◌==◌, ◌⊎◌, ◌≡◌, ℕ, suc, ◌+◌, ◌-◌, ◌≤◌, ◌<◌, List, [], ◌∷◌, ◌++◌, Bool, true, false, Some, inl, inr, if◌then◌else◌, refl, sym, ap, subst, ◌∙◌, arith}
 use Rattle.std.proofs.lemmas.List.{append-nil, append_assoc}
-use Rattle.ped_bodies.specs.ped_steps.specs.ped_tree.specs.Tree.{CondTree, Head, StmtTree, StmtTrees, If, Do, no_stmts, more_stmts, ProgramTree}
-use Rattle.ped_bodies.specs.ped_steps.specs.ped_tree.specs.NamesIn.{cond_names, head_names, stmt_names, stmts_names}
-use Rattle.ped_bodies.specs.ped_steps.specs.ped_tree.specs.Numbering.{numbered, all_numbered, statement_with, statement_count, statements_count}
+use Rattle.ped_bodies.specs.ped_steps.specs.ped_flow.specs.ped_tree.specs.Tree.{CondTree, Head, StmtTree, StmtTrees, If, Do, no_stmts, more_stmts, ProgramTree}
+use Rattle.ped_bodies.specs.ped_steps.specs.ped_flow.specs.ped_tree.specs.NamesIn.{cond_names, head_names, stmt_names, stmts_names}
+use Rattle.ped_bodies.specs.ped_steps.specs.ped_flow.specs.ped_tree.specs.Numbering.{numbered, all_numbered, statement_with, statement_count, statements_count}
 use Rattle.ped_bodies.specs.ped_steps.specs.ped_laws.specs.ped_store.specs.Stores.{Store}
 use Rattle.ped_bodies.specs.ped_steps.specs.ped_laws.specs.ped_store.specs.Acts.{Act, Touch, did, entered, ended_turn, closed, store_behind}
 use Rattle.ped_bodies.specs.ped_steps.specs.ped_laws.specs.Acts.Fitting.{store_after}
@@ -38,7 +38,7 @@ use Rattle.ped_pasting.proofs.PastingLaws.LeftPlaces.{LeaveAll, left_none, left_
 use Rattle.ped_pasting.proofs.PastingLaws.LeftCopies.{IsOwn, condition_own}
 use Rattle.std.proofs.lemmas.Bool.{both_ways}
 use Rattle.ped_bodies.specs.ped_steps.specs.ped_flow.specs.ped_base.specs.Lists.{is_among}
-use Rattle.ped_bodies.specs.ped_steps.specs.ped_tree.specs.NamesIn.{all_loop_variables}
+use Rattle.ped_bodies.specs.ped_steps.specs.ped_flow.specs.ped_tree.specs.NamesIn.{all_loop_variables}
 use Rattle.ped_bodies.specs.ped_steps.specs.ped_laws.specs.ped_store.specs.Cells.{Cell}
 use Rattle.ped_bodies.specs.ped_steps.specs.ped_laws.specs.ped_store.specs.Acts.{Place, Step}
 use Rattle.ped_bodies.specs.ped_steps.specs.ped_laws.specs.Acts.Orders.{IsIn}

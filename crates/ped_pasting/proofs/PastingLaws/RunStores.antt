@@ -2,18 +2,18 @@
 use Rattle.std.proofs.Common.{◌≡◌, ℕ, ◌+◌, List, [], ◌∷◌, ◌++◌, true, not, refl, sym, ap, ◌∙◌, subst, inl, inr}
 use Rattle.std.specs.Str.Lines.{lines}
 use Rattle.std.proofs.lemmas.Bool.{and_parts}
-use Rattle.ped_bodies.specs.ped_steps.specs.ped_tree.specs.Names.Collecting.{with_names}
-use Rattle.ped_bodies.specs.ped_steps.specs.ped_tree.proofs.NameLaws.Collected.{among_collected}
-use Rattle.ped_bodies.specs.ped_steps.specs.ped_tree.specs.Tree.{StmtTree, StmtTrees, Assign, If, Do, Print, Read, Stop, Comment, no_stmts, more_stmts, ProgramTree}
-use Rattle.ped_bodies.specs.ped_steps.specs.ped_tree.specs.Nests.{Loop}
-use Rattle.ped_bodies.specs.ped_steps.specs.ped_tree.specs.Numbering.{statement_count, statements_count}
-use Rattle.ped_bodies.specs.ped_steps.specs.ped_tree.specs.Grammar.Fits.{Surroundings, moved, in_if, in_loop, decls_fit, stmts_fit, begins_with_statement, at_body}
+use Rattle.ped_bodies.specs.ped_steps.specs.ped_flow.specs.ped_tree.specs.Names.Collecting.{with_names}
+use Rattle.ped_bodies.specs.ped_steps.specs.ped_flow.specs.ped_tree.proofs.NameLaws.Collected.{among_collected}
+use Rattle.ped_bodies.specs.ped_steps.specs.ped_flow.specs.ped_tree.specs.Tree.{StmtTree, StmtTrees, Assign, If, Do, Print, Read, Stop, Comment, no_stmts, more_stmts, ProgramTree}
+use Rattle.ped_bodies.specs.ped_steps.specs.ped_flow.specs.ped_tree.specs.Nests.{Loop}
+use Rattle.ped_bodies.specs.ped_steps.specs.ped_flow.specs.ped_tree.specs.Numbering.{statement_count, statements_count}
+use Rattle.ped_bodies.specs.ped_steps.specs.ped_flow.specs.ped_tree.specs.Grammar.Fits.{Surroundings, moved, in_if, in_loop, decls_fit, stmts_fit, begins_with_statement, at_body}
 use Rattle.ped_bodies.specs.ped_steps.specs.ped_laws.specs.ped_graph.specs.Dependences.{setting_in}
 use Rattle.ped_bodies.specs.ped_steps.specs.ped_laws.specs.ped_graph.specs.ped_symbols.specs.NameRefusals.{IsValid}
 use Rattle.ped_bodies.specs.ped_steps.specs.ped_laws.specs.ped_graph.specs.ped_symbols.specs.Kinds.{table_of}
 use Rattle.ped_bodies.specs.ped_steps.specs.ped_laws.specs.ped_graph.specs.ped_symbols.specs.RightUses.RightPrograms.{IsRight}
 use Rattle.ped_bodies.specs.ped_steps.specs.ped_laws.specs.ped_flow.specs.ped_affine.specs.Assigned.{assigned_in_all}
-use Rattle.ped_bodies.specs.ped_steps.specs.ped_tree.specs.NamesIn.{all_loop_variables}
+use Rattle.ped_bodies.specs.ped_steps.specs.ped_flow.specs.ped_tree.specs.NamesIn.{all_loop_variables}
 use Rattle.ped_bodies.specs.ped_steps.specs.ped_laws.specs.ped_flow.specs.ped_affine.specs.Ranges as ranges
 use Rattle.ped_bodies.specs.ped_steps.specs.ped_laws.specs.ped_store.specs.Cells.{Cell, Scalar, Element, Private, In, Out}
 use Rattle.ped_bodies.specs.ped_steps.specs.ped_laws.specs.ped_store.specs.Stores.{Store, store_at_start}

@@ -1,7 +1,7 @@
 -- Other copies at work: a strip brings the variable W into a PARALLEL DO round its loop, so that this has a copy of W in each iteration.
 use Rattle.std.proofs.Common.{◌≡◌, ℕ, List, [], ◌∷◌, Bool, true, false, ◌⊎◌, inl, inr, refl, ap, ◌∙◌, pos}
 use Rattle.std.specs.Prelude.{codes, ◌||◌}
-use Rattle.ped_bodies.specs.ped_steps.specs.ped_tree.specs.Tree.{Int, Head, Do, StmtTrees, no_stmts, more_stmts}
+use Rattle.ped_bodies.specs.ped_steps.specs.ped_flow.specs.ped_tree.specs.Tree.{Int, Head, Do, StmtTrees, no_stmts, more_stmts}
 use Rattle.ped_bodies.specs.ped_steps.specs.ped_flow.specs.ped_base.specs.Lists.{is_same_text, is_among}
 use Rattle.ped_bodies.specs.ped_steps.specs.ped_laws.specs.ped_store.specs.Cells.{Cell, Scalar, Private}
 use Rattle.ped_bodies.specs.ped_steps.specs.ped_laws.specs.ped_eval.specs.Scopes.{Setting, Scope, cell_of}

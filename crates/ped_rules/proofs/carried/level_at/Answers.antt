@@ -1,5 +1,5 @@
 use Rattle.ped_tree.specs.Views.{program_tree}
-use Rattle.ped_loop_runs.specs.ped_tidy.specs.ped_steps.proofs.Answering.{few_numbers}
+use Rattle.ped_loop_runs.specs.ped_tidy.specs.ped_pasting.specs.ped_bodies.specs.ped_steps.proofs.Answering.{few_numbers}
 use Rattle.ped_rules.proofs.carried.level_at.Goals as goal
 
 pub loops_round-requires : goal.loops_round-requires

@@ -14,3 +14,14 @@ mod ReversedNames
 mod ReversalLawful
 mod ReverseAnswers
 pub mod Determined
+mod OnlyBodies
+mod NestKnots
+mod PairOrders
+mod LoopPairs
+mod LoopPlaces
+mod SwappedCells
+mod SwappedLoops
+mod SwappedWeave
+mod SwappedConflicts
+mod SwappedStands
+mod InterchangeRules

@@ -1,4 +1,17 @@
 -- Where the DO in the body of another stands, and which variables of DO loops a program has.
+use Rattle.std.proofs.Common.{Bool, List, None, Some, [], ap, arith, eqb-true, false, if◌then◌else◌, inl, inr, length, refl, sym, true, ℕ, ◌++◌, ◌+◌, ◌-◌, ◌<◌, ◌==◌, ◌∙◌, ◌∷◌, ◌≡◌, ◌≤◌, ◌⊎◌}
+use Rattle.std.proofs.Math.Decide.{dec_lt}
+use Rattle.std.proofs.Math.Logic.{dite}
+use Rattle.ped_base.specs.Lists.{is_among}
+use Rattle.ped_scalar.specs.ped_rules.specs.OnlyLoops.{only_loop}
+use Rattle.ped_scalar.specs.ped_rules.specs.ped_steps.specs.ped_flow.proofs.Answering.{at_place-within}
+use Rattle.ped_scalar.specs.ped_rules.specs.ped_steps.specs.ped_flow.specs.Questions.{LoopOf}
+use Rattle.ped_scalar.specs.ped_rules.specs.ped_steps.specs.ped_laws.proofs.PlainLaws.Insides.{all_loop_variables_part}
+use Rattle.ped_scalar.specs.ped_rules.specs.ped_steps.specs.ped_laws.specs.Plain.Executions.{IsOneOf}
+use Rattle.ped_tree.proofs.Numbers.{at_place-back, at_place-front}
+use Rattle.ped_tree.specs.NamesIn.{all_loop_variables, loop_variables}
+use Rattle.ped_tree.specs.Numbering.{all_numbered, at_place, numbered, statement_with, statements_count}
+use Rattle.ped_tree.specs.Tree.{Assign, Comment, Do, Head, If, Print, ProgramTree, Read, StmtTree, StmtTrees, Stop, more_stmts, no_stmts}
 
 next_place : (x : StmtTree) (xs : List StmtTree) (k : ℕ) → at_place (x ∷ xs) (k + 1) ≡ at_place xs k
 next_place x xs k = grind (arith, eqb-true)

@@ -68,6 +68,7 @@ pub record AreSwapped (t u : ProgramTree) (l : ℕ) (loop : LoopOf t l) (g h k :
   pub kinds : (y : List ℕ) → kind_in u y ≡ kind_in t y
   pub variable : h.variable ≡ g.variable
   pub inner_variable : k.variable ≡ loop.head.variable
+  pub increment : increment (setting_of t).constants h ≡ increment (setting_of t).constants g
   pub differ : is_same_text loop.head.variable g.variable ≡ false
   pub serial : loop.head.parallel ≡ false
   pub inner_serial : g.parallel ≡ false

@@ -8,3 +8,4 @@ pub mod Shapes
 pub mod Interchanging
 pub mod CodeShapes
 pub mod CodePlain
+pub mod CodeInterchanging

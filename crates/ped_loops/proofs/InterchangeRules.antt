@@ -1,5 +1,5 @@
 -- The rules that stand against `interchange`, one behind the other; and what is so where none stands.
-use Rattle.std.proofs.Common.{Bool, List, arith, false, inl, inr, refl, sym, true, ℕ, ◌+◌, ◌×◌, ◌∙◌, ◌≡◌, ◌≤◌}
+use Rattle.std.proofs.Common.{Bool, List, arith, false, inl, inr, refl, sym, true, ℕ, ◌+◌, ◌∙◌, ◌≡◌, ◌≤◌}
 use Rattle.std.proofs.lemmas.Bool.{both_ways}
 use Rattle.ped_loops.proofs.Contained.{contained}
 use Rattle.ped_loops.specs.CodeInterchanging.{NoneUpTo}
@@ -11,13 +11,13 @@ use Rattle.ped_scalar.specs.ped_rules.specs.Chains.{WhereLoop, also, no_rules}
 use Rattle.ped_scalar.specs.ped_rules.specs.KeepMaps.{all_but}
 use Rattle.ped_scalar.specs.ped_rules.specs.OnlyLoops.{either}
 use Rattle.ped_scalar.specs.ped_rules.specs.Rules.{WhereEscape, WhereLimit, WhereNoLoop, WhereUnplain, has_private, heads_round, is_parallel, isnt_perfect, setting_at}
-use Rattle.ped_scalar.specs.ped_rules.specs.ped_steps.specs.Causes.{IsFirstRule, NoRule, Rules}
-use Rattle.ped_scalar.specs.ped_rules.specs.ped_steps.specs.declared.rules.Rule.{Rule}
-use Rattle.ped_scalar.specs.ped_rules.specs.ped_steps.specs.declared.rules.Rule.TheVariants.{BoundNotPlain, BoundsShape, HasPrivate, IndexEscapes, Limit, NoLoop, NotPerfect, ParallelState, Range, StepShape}
-use Rattle.ped_scalar.specs.ped_rules.specs.ped_steps.specs.ped_flow.proofs.Answering.{same_body, same_head}
-use Rattle.ped_scalar.specs.ped_rules.specs.ped_steps.specs.ped_flow.specs.Questions.{IsContained, IsLoop, LoopOf}
-use Rattle.ped_scalar.specs.ped_rules.specs.ped_steps.specs.ped_symbols.specs.Kinds.{table_of}
-use Rattle.ped_scalar.specs.ped_rules.specs.ped_steps.specs.ped_symbols.specs.NameRefusals.{IsValid}
+use Rattle.ped_scalar.specs.ped_rules.specs.ped_loop_runs.specs.ped_tidy.specs.ped_pasting.specs.ped_bodies.specs.ped_steps.specs.Causes.{IsFirstRule, NoRule, Rules}
+use Rattle.ped_scalar.specs.ped_rules.specs.ped_loop_runs.specs.ped_tidy.specs.ped_pasting.specs.ped_bodies.specs.ped_steps.specs.declared.rules.Rule.{Rule}
+use Rattle.ped_scalar.specs.ped_rules.specs.ped_loop_runs.specs.ped_tidy.specs.ped_pasting.specs.ped_bodies.specs.ped_steps.specs.declared.rules.Rule.TheVariants.{BoundNotPlain, BoundsShape, HasPrivate, IndexEscapes, Limit, NoLoop, NotPerfect, ParallelState, Range, StepShape}
+use Rattle.ped_scalar.specs.ped_rules.specs.ped_loop_runs.specs.ped_tidy.specs.ped_pasting.specs.ped_bodies.specs.ped_steps.specs.ped_flow.proofs.Answering.{same_body, same_head}
+use Rattle.ped_scalar.specs.ped_rules.specs.ped_loop_runs.specs.ped_tidy.specs.ped_pasting.specs.ped_bodies.specs.ped_steps.specs.ped_flow.specs.Questions.{IsContained, IsLoop, LoopOf}
+use Rattle.ped_scalar.specs.ped_rules.specs.ped_loop_runs.specs.ped_tidy.specs.ped_pasting.specs.ped_bodies.specs.ped_steps.specs.ped_symbols.specs.Kinds.{table_of}
+use Rattle.ped_scalar.specs.ped_rules.specs.ped_loop_runs.specs.ped_tidy.specs.ped_pasting.specs.ped_bodies.specs.ped_steps.specs.ped_symbols.specs.NameRefusals.{IsValid}
 use Rattle.ped_tree.specs.Tree.{Head, ProgramTree, StmtTrees}
 
 false_by : (b : Bool) → (b ≡ true → ⊥) → b ≡ false
@@ -184,7 +184,7 @@ module _ (s : ℕ) where
       -- a test of the DO that fails
       fails_there : (test : Head → StmtTrees → Bool) → test h body ≡ false → (n : ℕ) → WhereLoop t s test n → ⊥
       fails_there test fails n p =
-          both_ways (test p.0.head p.0.body) p.1 ((λ i. test (sym (same_head t s h p.0.head body p.0.body is p.0.is) i) (sym (same_body t s h p.0.head body p.0.body is p.0.is) i)) ∙ fails)
+          never (test p.0.head p.0.body) p.1 ((λ i. test (sym (same_head t s h p.0.head body p.0.body is p.0.is) i) (sym (same_body t s h p.0.head body p.0.body is p.0.is) i)) ∙ fails)
 
       pub upto_loop : NoneUpTo 1 stands
       upto_loop = upto_this 1 NoLoop (WhereNoLoop t s) perfect (λ n p. p.0 loop) (upto_end 1 perfect perfect_chain)

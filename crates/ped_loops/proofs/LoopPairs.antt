@@ -1,10 +1,10 @@
 -- A DO whose body is one DO, taken apart into what that one's body does in each pair of iterations, and put together from it.
-use Rattle.std.proofs.Common.{Bool, List, Ok, Some, [], ap, arith, false, refl, subst, suc, sym, true, zero, ℕ, ◌&&◌, ◌++◌, ◌+◌, ◌<◌, ◌×◌, ◌∙◌, ◌∷◌, ◌≡◌, ◌≤◌}
-use Rattle.std.proofs.lemmas.Bool.{and_parts, both_ways}
+use Rattle.std.proofs.Common.{Bool, List, Ok, Some, [], ap, arith, false, refl, subst, suc, sym, true, zero, ℕ, ◌&&◌, ◌++◌, ◌+◌, ◌<◌, ◌∙◌, ◌∷◌, ◌≡◌, ◌≤◌}
+use Rattle.std.proofs.lemmas.Bool.{and_parts}
 use Rattle.std.proofs.lemmas.Bool.Decides.{nat_tests}
 use Rattle.std.specs.List.{flat_map, range_with_len}
 use Rattle.std.specs.Prelude.{nat_le}
-use Rattle.ped_loops.proofs.OnlyBodies.{only_runs}
+use Rattle.ped_loops.proofs.OnlyBodies.{never, only_runs, pair}
 use Rattle.ped_scalar.specs.ped_rules.specs.OnlyLoops.{only_loop}
 use Rattle.ped_scalar.specs.ped_rules.specs.ped_loop_runs.specs.ped_tidy.specs.ped_pasting.specs.ped_bodies.proofs.BodyLaws.TripLists.{loop_apart, loop_made}
 use Rattle.ped_scalar.specs.ped_rules.specs.ped_loop_runs.specs.ped_tidy.specs.ped_pasting.specs.ped_bodies.specs.Trips.{IsMadeOfTrips, IsTrip, OfTrips, bounds_seen, entered_from, loop_acts, loop_close, loop_entry, store_before, trip_end}
@@ -20,19 +20,19 @@ use Rattle.ped_tree.specs.Tree.{Do, Head, StmtTrees}
 
 -- what is there for each number of a row, in one function
 module _ {X : Type 0} (default : X) (n : ℕ) (P : ℕ → X → Type 0) (each : (k : ℕ) → 1 ≤ k → k ≤ n → (x : X) × P k x) where
-  abbrev within : ℕ → Bool
+  abbrev pub within : ℕ → Bool
   within k = nat_le 1 k && nat_le k n
 
-  is_first : (k : ℕ) → within k ≡ true → 1 ≤ k
+  pub is_first : (k : ℕ) → within k ≡ true → 1 ≤ k
   is_first k h = let both = and_parts (nat_le 1 k) (nat_le k n) h in let is : nat_le 1 k ≡ true = both.0 in grind (arith, nat_tests)
 
-  is_last : (k : ℕ) → within k ≡ true → k ≤ n
+  pub is_last : (k : ℕ) → within k ≡ true → k ≤ n
   is_last k h = let both = and_parts (nat_le 1 k) (nat_le k n) h in let is : nat_le k n ≡ true = both.1 in grind (arith, nat_tests)
 
   is_within : (k : ℕ) → 1 ≤ k → k ≤ n → within k ≡ true
   is_within k from to = grind (arith, nat_tests)
 
-  abbrev by_test : (k : ℕ) (b : Bool) → within k ≡ b → X
+  abbrev pub by_test : (k : ℕ) (b : Bool) → within k ≡ b → X
   by_test k true h = (each k (is_first k h) (is_last k h)).0
   by_test k false h = default
 
@@ -44,7 +44,7 @@ module _ {X : Type 0} (default : X) (n : ℕ) (P : ℕ → X → Type 0) (each :
     where
       go : (b : Bool) (h : within k ≡ b) → P k (by_test k b h)
       go true h = (each k (is_first k h) (is_last k h)).1
-      go false h = absurd (both_ways (within k) (is_within k from to) h)
+      go false h = absurd (never (within k) (is_within k from to) h)
 
 -- rows that are the same at the numbers that are asked for
 pub flat_same : {Y : Type 0} (f g : ℕ → List Y) (m a : ℕ) → ((k : ℕ) → a ≤ k → k < a + m → f k ≡ g k) → flat_map f (range_with_len a m) ≡ flat_map g (range_with_len a m)
@@ -61,7 +61,7 @@ pub record Row : Type 0 where
   pub bounds : Limits
   pub trip : ℕ → List Act
 
-module _ (p : Setting) (d g : Head) (body inside : StmtTrees) (only : only_loop body ≡ Some (g, inside)) (l : ℕ) (scope : Scope) (s : Store) (goes : finish_of (run p (Do d body) l scope s).ending ≡ goes_on) where
+module _ (p : Setting) (d g : Head) (body inside : StmtTrees) (only : only_loop body ≡ Some (pair g inside)) (l : ℕ) (scope : Scope) (s : Store) (goes : finish_of (run p (Do d body) l scope s).ending ≡ goes_on) where
   pub outer : IsMadeOfTrips p d body l scope s
   outer = loop_apart p d body l scope s goes
 
@@ -92,7 +92,7 @@ module _ (p : Setting) (d g : Head) (body inside : StmtTrees) (only : only_loop 
     pub are : OfTrips (entered_at i r.bounds) (λ j. IsTrip p inside (l + 1) (scope_at i) (entered_at i r.bounds) j (store_in i r j) (r.trip j))
     pub acts : outer.trip i ≡ loop_acts (seen_at i) (entered_at i r.bounds) (scope_at i) (place_at i) r.trip
 
-  each_row : (i : ℕ) → 1 ≤ i → i ≤ old_entered.count → (r : Row) × IsRow i r
+  pub each_row : (i : ℕ) → 1 ≤ i → i ≤ old_entered.count → (r : Row) × IsRow i r
   each_row i from to = (
     record { bounds = made.bounds; trip = made.trip },
     record { come = made.come; are = made.are; acts = trip.is ∙ ap (λ (r : Run). r.acts) alone ∙ made.acts },
@@ -107,7 +107,7 @@ module _ (p : Setting) (d g : Head) (body inside : StmtTrees) (only : only_loop 
       made : IsMadeOfTrips p g inside (l + 1) (scope_at i) (store_at i)
       made = loop_apart p g inside (l + 1) (scope_at i) (store_at i) (ap (λ (r : Run). finish_of r.ending) (sym alone) ∙ trip.goes)
 
-  abbrev no_row : Row
+  abbrev pub no_row : Row
   no_row = record { bounds = outer.bounds; trip = λ j. [] }
 
   abbrev pub row_at : ℕ → Row
@@ -126,7 +126,7 @@ module _ (p : Setting) (d g : Head) (body inside : StmtTrees) (only : only_loop 
       ∙ same_loop (bounds_seen p d scope s) old_entered scope (place_of p l scope) outer.trip (λ i. loop_acts (seen_at i) (inner_at i) (scope_at i) (place_at i) (row_at i).trip) (λ i from to. (rows_are i from to).acts)
 
 -- two loops whose bodies do these acts in each pair of iterations
-module _ (p : Setting) (d g : Head) (body inside : StmtTrees) (only : only_loop body ≡ Some (g, inside)) (l : ℕ) (scope : Scope) (seen : List Seen) (z : Entered) (entered : IsEntered p l scope d body seen z) (inner_seen : ℕ → List Seen) (inner : ℕ → Entered)
+module _ (p : Setting) (d g : Head) (body inside : StmtTrees) (only : only_loop body ≡ Some (pair g inside)) (l : ℕ) (scope : Scope) (seen : List Seen) (z : Entered) (entered : IsEntered p l scope d body seen z) (inner_seen : ℕ → List Seen) (inner : ℕ → Entered)
     (inner_entered : (a : ℕ) → 1 ≤ a → a ≤ z.count → IsEntered p (l + 1) (frame z a ∷ scope) g inside (inner_seen a) (inner a)) (trip : ℕ → ℕ → List Act)
     (trips_replay : (a b : ℕ) → 1 ≤ a → a ≤ z.count → 1 ≤ b → b ≤ (inner a).count → Replays (body_run p inside (l + 1) (frame z a ∷ scope) (frame (inner a) b)) (trip a b) goes_on) where
   abbrev pub whole_trip : ℕ → List Act

@@ -3,11 +3,13 @@ use Rattle.std.proofs.Common.{Bool, List, None, Some, [], ap, arith, eqb-true, f
 use Rattle.std.proofs.Math.Decide.{dec_lt}
 use Rattle.std.proofs.Math.Logic.{dite}
 use Rattle.ped_base.specs.Lists.{is_among}
+use Rattle.ped_loops.proofs.OnlyBodies.{pair, same_head, same_inside}
 use Rattle.ped_scalar.specs.ped_rules.specs.OnlyLoops.{only_loop}
-use Rattle.ped_scalar.specs.ped_rules.specs.ped_steps.specs.ped_flow.proofs.Answering.{at_place-within}
-use Rattle.ped_scalar.specs.ped_rules.specs.ped_steps.specs.ped_flow.specs.Questions.{LoopOf}
-use Rattle.ped_scalar.specs.ped_rules.specs.ped_steps.specs.ped_laws.proofs.PlainLaws.Insides.{all_loop_variables_part}
-use Rattle.ped_scalar.specs.ped_rules.specs.ped_steps.specs.ped_laws.specs.Plain.Executions.{IsOneOf}
+use Rattle.ped_scalar.specs.ped_rules.specs.ped_loop_runs.specs.ped_tidy.specs.ped_pasting.specs.ped_bodies.specs.ped_steps.specs.ped_flow.proofs.Answering.{at_place-within}
+use Rattle.ped_scalar.specs.ped_rules.specs.ped_loop_runs.specs.ped_tidy.specs.ped_pasting.specs.ped_bodies.specs.ped_steps.specs.ped_flow.specs.Questions.{LoopOf}
+use Rattle.ped_scalar.specs.ped_rules.specs.ped_loop_runs.specs.ped_tidy.specs.ped_pasting.specs.ped_bodies.specs.ped_steps.specs.ped_laws.proofs.ConflictLaws.CoveringCarriage.{here}
+use Rattle.ped_scalar.specs.ped_rules.specs.ped_loop_runs.specs.ped_tidy.specs.ped_pasting.specs.ped_bodies.specs.ped_steps.specs.ped_laws.proofs.PlainLaws.Insides.{all_loop_variables_part}
+use Rattle.ped_scalar.specs.ped_rules.specs.ped_loop_runs.specs.ped_tidy.specs.ped_pasting.specs.ped_bodies.specs.ped_steps.specs.ped_laws.specs.Plain.Executions.{IsOneOf}
 use Rattle.ped_tree.proofs.Numbers.{at_place-back, at_place-front}
 use Rattle.ped_tree.specs.NamesIn.{all_loop_variables, loop_variables}
 use Rattle.ped_tree.specs.Numbering.{all_numbered, at_place, numbered, statement_with, statements_count}
@@ -90,16 +92,16 @@ first_inside t l d body f e g = by (l == 0) refl e
         shift = (let none : (l + 1 == 0) ≡ false = grind (arith, eqb-true) in ap (λ (b : Bool). if b then None else at_place (all_numbered t.body) (l + 1 - 1)) none) ∙ ap (at_place (all_numbered t.body)) (let same : l + 1 - 1 ≡ l - 1 + 1 + 0 = omega (arith, some) in same)
 
 -- the one DO in a body is its first statement
-only_first : (ts : StmtTrees) (g : Head) (inside : StmtTrees) → only_loop ts ≡ Some (g, inside) → at_place (all_numbered ts) 0 ≡ Some (Do g inside)
+only_first : (ts : StmtTrees) (g : Head) (inside : StmtTrees) → only_loop ts ≡ Some (pair g inside) → at_place (all_numbered ts) 0 ≡ Some (Do g inside)
 only_first no_stmts g inside e = absurd cc
 only_first (more_stmts (Comment text) rest) g inside e = only_first rest g inside e
 only_first (more_stmts (Do h body) rest) g inside e = by (statements_count rest == 0) e
   where
-    heads : (a c : Head) (x y : StmtTrees) → Some (a, x) ≡ Some (c, y) → Do a x ≡ Do c y
-    heads a c x y q = (let one : a ≡ c = cc in let two : x ≡ y = cc in λ i. Do (one i) (two i))
+    heads : Some (pair h body) ≡ Some (pair g inside) → Do h body ≡ Do g inside
+    heads q = λ i. Do (same_head h g body inside q i) (same_inside h g body inside q i)
 
-    by : (b : Bool) → (if b then Some (h, body) else None) ≡ Some (g, inside) → Some (Do h body) ≡ Some (Do g inside)
-    by true q = ap (λ (s : StmtTree). Some s) (heads h g body inside q)
+    by : (b : Bool) → (if b then Some (pair h body) else None) ≡ Some (pair g inside) → Some (Do h body) ≡ Some (Do g inside)
+    by true q = ap (λ (s : StmtTree). Some s) (heads q)
     by false q = absurd cc
 only_first (more_stmts (Assign left right) rest) g inside e = absurd cc
 only_first (more_stmts (If c a b) rest) g inside e = absurd cc
@@ -107,7 +109,7 @@ only_first (more_stmts (Print items) rest) g inside e = absurd cc
 only_first (more_stmts (Read items) rest) g inside e = absurd cc
 only_first (more_stmts Stop rest) g inside e = absurd cc
 
-pub inner_there : (t : ProgramTree) (l : ℕ) (d : Head) (body : StmtTrees) (g : Head) (inside : StmtTrees) → statement_with l t ≡ Some (Do d body) → only_loop body ≡ Some (g, inside) → statement_with (l + 1) t ≡ Some (Do g inside)
+pub inner_there : (t : ProgramTree) (l : ℕ) (d : Head) (body : StmtTrees) (g : Head) (inside : StmtTrees) → statement_with l t ≡ Some (Do d body) → only_loop body ≡ Some (pair g inside) → statement_with (l + 1) t ≡ Some (Do g inside)
 inner_there t l d body g inside e only = first_inside t l d body (Do g inside) e (only_first body g inside only)
 
 -- variables of a DO of the program are among all

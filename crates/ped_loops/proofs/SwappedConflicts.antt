@@ -1,5 +1,5 @@
 -- Two pairs of iterations of two loops that change places: where the second comes later in the outer loop and earlier in the inner one, no dependence stands between them, and so their acts don't conflict.
-use Rattle.std.proofs.Common.{Bool, List, Option, Some, [], ap, append_assoc, false, inl, inr, length, map, negsuc, pos, refl, subst, suc, sym, true, ℕ, ℤ, ◌&&◌, ◌++◌, ◌+◌, ◌-◌, ◌==◌, ◌×◌, ◌∙◌, ◌∷◌, ◌≡◌}
+use Rattle.std.proofs.Common.{Bool, List, Option, Some, [], ap, append_assoc, false, inl, inr, length, map, negsuc, pos, refl, subst, suc, sym, true, ℕ, ℤ, ◌&&◌, ◌++◌, ◌+◌, ◌-◌, ◌==◌, ◌∙◌, ◌∷◌, ◌≡◌}
 use Rattle.std.proofs.lemmas.Bool.{and_parts, both_ways}
 use Rattle.std.proofs.lemmas.Grind.{flat_map-append}
 use Rattle.std.specs.Bool.{MatchBool}
@@ -135,7 +135,7 @@ module _ (made : MakingLaw) (sequence : SequenceLaw) (t : ProgramTree) (data_byt
 
       behind : (d : Direction) (ds : List Direction) → c.0.rest ≡ d ∷ ds → d ≡ After → ⊥
       behind d ds is so =
-          both_ways (has_after (length (nest_round t l) + 1) c.0.covered.edge)
+          never (has_after (length (nest_round t l) + 1) c.0.covered.edge)
           (some_after (length (nest_round t l) + 1) c.0.covered.vector c.0.covered.edge.vectors c.0.covered.contains
           (ap (λ (v : List Direction). slice_get v (length (nest_round t l) + 1)) (c.0.vector ∙ (λ i. map (λ (z : Turn). Same) outer ++ Before ∷ (is ∙ ap (λ (x : Direction). x ∷ ds) so) i))
           ∙ ap (slice_get (map (λ (z : Turn). Same) outer ++ Before ∷ (After ∷ ds))) (sym level) ∙ at_level outer Before After ds))

@@ -1,5 +1,5 @@
 -- In each execution two loops in each other's place may stand for the old ones.
-use Rattle.std.proofs.Common.{Bool, List, Some, [], ap, append-nil, append_assoc, arith, false, inl, inr, not, pos, refl, subst, sym, true, ℕ, ℤ, ◌&&◌, ◌*ℤ◌, ◌++◌, ◌+ℤ◌, ◌+◌, ◌-◌, ◌<◌, ◌||◌, ◌×◌, ◌∙◌, ◌∷◌, ◌≡◌, ◌≤◌, ◌⊎◌}
+use Rattle.std.proofs.Common.{Bool, List, Some, [], ap, append-nil, append_assoc, arith, false, inl, inr, not, pos, refl, subst, sym, true, ℕ, ℤ, ◌&&◌, ◌*ℤ◌, ◌++◌, ◌+ℤ◌, ◌+◌, ◌-◌, ◌<◌, ◌||◌, ◌∙◌, ◌∷◌, ◌≡◌, ◌≤◌, ◌⊎◌}
 use Rattle.std.proofs.lemmas.Bool.{and_parts, both_ways}
 use Rattle.std.specs.List.{list_all}
 use Rattle.std.specs.Str.Lines.{lines}
@@ -21,67 +21,67 @@ use Rattle.ped_scalar.specs.ped_rules.specs.ped_loop_runs.proofs.LoopLaws.OneFor
 use Rattle.ped_scalar.specs.ped_rules.specs.ped_loop_runs.proofs.LoopLaws.SomeEdges.{some_edges}
 use Rattle.ped_scalar.specs.ped_rules.specs.ped_loop_runs.specs.Bounds.{IsOfFixed}
 use Rattle.ped_scalar.specs.ped_rules.specs.ped_loop_runs.specs.Carried.{AllStoreWithin, AreTrips}
-use Rattle.ped_scalar.specs.ped_rules.specs.ped_loop_runs.specs.ped_bodies.proofs.BodyLaws.LikewiseActs.{likewise_stripped}
-use Rattle.ped_scalar.specs.ped_rules.specs.ped_loop_runs.specs.ped_bodies.proofs.BodyLaws.MovedCells.{no_copies, path_append}
-use Rattle.ped_scalar.specs.ped_rules.specs.ped_loop_runs.specs.ped_bodies.specs.Likewise.{AreLikewise}
-use Rattle.ped_scalar.specs.ped_rules.specs.ped_loop_runs.specs.ped_bodies.specs.Moving.{is_cell_among, own_number}
-use Rattle.ped_scalar.specs.ped_rules.specs.ped_loop_runs.specs.ped_bodies.specs.Trips.{IsTrip, bounds_seen, loop_acts}
-use Rattle.ped_scalar.specs.ped_rules.specs.ped_loop_runs.specs.ped_pasting.proofs.PastingLaws.LeftCopies.{IsOwn, body_reaches, run_reaches}
-use Rattle.ped_scalar.specs.ped_rules.specs.ped_loop_runs.specs.ped_pasting.proofs.PastingLaws.TheirCopies.{theirs, theirs_unneeded}
-use Rattle.ped_scalar.specs.ped_rules.specs.ped_loop_runs.specs.ped_pasting.proofs.PastingLaws.ToldPlaces.{no_turns}
-use Rattle.ped_scalar.specs.ped_rules.specs.ped_loop_runs.specs.ped_pasting.specs.Copies.{IsTheirs}
-use Rattle.ped_scalar.specs.ped_rules.specs.ped_loop_runs.specs.ped_pasting.specs.Executions.{IsCopyInside, IsExecuted, as_done}
-use Rattle.ped_scalar.specs.ped_rules.specs.ped_loop_runs.specs.ped_weaves.proofs.WeaveLaws.AgreedApart.{agreed_before_or_written, needed_agreed}
-use Rattle.ped_scalar.specs.ped_rules.specs.ped_loop_runs.specs.ped_weaves.proofs.WeaveLaws.CountedActs.{counted_needed, counted_touched, counted_writes}
-use Rattle.ped_scalar.specs.ped_rules.specs.ped_loop_runs.specs.ped_weaves.proofs.WeaveLaws.Woven.{woven_stands}
-use Rattle.ped_scalar.specs.ped_rules.specs.ped_loop_runs.specs.ped_weaves.specs.Puttings.{Suit}
-use Rattle.ped_scalar.specs.ped_rules.specs.ped_loop_runs.specs.ped_weaves.specs.Weaves.{IsSteady, IsWoven, Knot, Weave, block, blocks_in, control, new_list, old_list}
-use Rattle.ped_scalar.specs.ped_rules.specs.ped_steps.proofs.RunLaws.ExpandedRacesOrigins.{write_in}
-use Rattle.ped_scalar.specs.ped_rules.specs.ped_steps.proofs.RunLaws.PastedStores.{execution_left}
-use Rattle.ped_scalar.specs.ped_rules.specs.ped_steps.proofs.RunLaws.PrivatisedPrograms.{shown_scalar}
-use Rattle.ped_scalar.specs.ped_rules.specs.ped_steps.proofs.RunLaws.RunPlaces.{stands_in}
-use Rattle.ped_scalar.specs.ped_rules.specs.ped_steps.specs.Replacing.{alone}
-use Rattle.ped_scalar.specs.ped_rules.specs.ped_steps.specs.Runs.Exchanging.{is_of_scalar}
-use Rattle.ped_scalar.specs.ped_rules.specs.ped_steps.specs.Runs.Pasting.{IsInOutermost, IsPlaceOf}
-use Rattle.ped_scalar.specs.ped_rules.specs.ped_steps.specs.ped_flow.specs.PlainBounds.{nest_round, outermost_or}
-use Rattle.ped_scalar.specs.ped_rules.specs.ped_steps.specs.ped_flow.specs.Questions.{LoopOf}
-use Rattle.ped_scalar.specs.ped_rules.specs.ped_steps.specs.ped_laws.proofs.ActLaws.Appending.{written_append}
-use Rattle.ped_scalar.specs.ped_rules.specs.ped_steps.specs.ped_laws.proofs.ActLaws.Lists.{in_parts}
-use Rattle.ped_scalar.specs.ped_rules.specs.ped_steps.specs.ped_laws.proofs.ActLaws.Outside.{dropped_first, kept_first, none_first, none_rest}
-use Rattle.ped_scalar.specs.ped_rules.specs.ped_steps.specs.ped_laws.proofs.ActLaws.Renamings.{after_other, or_left, or_right}
-use Rattle.ped_scalar.specs.ped_rules.specs.ped_steps.specs.ped_laws.proofs.ActLaws.SameCells.{text_itself}
-use Rattle.ped_scalar.specs.ped_rules.specs.ped_steps.specs.ped_laws.proofs.ConflictLaws.CoveringNests.{IsOf}
-use Rattle.ped_scalar.specs.ped_rules.specs.ped_steps.specs.ped_laws.proofs.ConflictLaws.CoveringRuns.{MakingLaw, SequenceLaw}
-use Rattle.ped_scalar.specs.ped_rules.specs.ped_steps.specs.ped_laws.proofs.FlowRunLaws.DeadExits.{unwanted_behind}
-use Rattle.ped_scalar.specs.ped_rules.specs.ped_steps.specs.ped_laws.proofs.FlowRunLaws.Stopping.{fitting_stops}
-use Rattle.ped_scalar.specs.ped_rules.specs.ped_steps.specs.ped_laws.proofs.FlowRunLaws.TripReads.{contained_unread}
-use Rattle.ped_scalar.specs.ped_rules.specs.ped_steps.specs.ped_laws.proofs.RunLaws.Sight.{limits_told}
-use Rattle.ped_scalar.specs.ped_rules.specs.ped_steps.specs.ped_laws.proofs.RunLaws.StatementsTold.{run_told}
-use Rattle.ped_scalar.specs.ped_rules.specs.ped_steps.specs.ped_laws.specs.Acts.Conflicts.{ReadNone, WriteWithin, act_without, blocks_conflict_outside, touches_without, without}
-use Rattle.ped_scalar.specs.ped_rules.specs.ped_steps.specs.ped_laws.specs.Acts.Fitting.{Fits, store_after, touches_of}
-use Rattle.ped_scalar.specs.ped_rules.specs.ped_steps.specs.ped_laws.specs.Acts.Grids.{block_at}
-use Rattle.ped_scalar.specs.ped_rules.specs.ped_steps.specs.ped_laws.specs.Acts.Orders.{Block, EachOnce, IsIn, IsReordered, KeepsOrder, acts_in_blocks, block_conflict}
-use Rattle.ped_scalar.specs.ped_rules.specs.ped_steps.specs.ped_laws.specs.Acts.Pieces.{StandsFor}
-use Rattle.ped_scalar.specs.ped_rules.specs.ped_steps.specs.ped_laws.specs.Acts.Renaming.{Renamed, touch}
-use Rattle.ped_scalar.specs.ped_rules.specs.ped_steps.specs.ped_laws.specs.Acts.Sets.{AgreeIn, needs, nothing, wants, written}
-use Rattle.ped_scalar.specs.ped_rules.specs.ped_steps.specs.ped_laws.specs.Conflicts.Sequence.{AreSuccessive}
-use Rattle.ped_scalar.specs.ped_rules.specs.ped_steps.specs.ped_laws.specs.FlowRuns.Covering.{is_cell_of, some_stops_in_loop}
-use Rattle.ped_scalar.specs.ped_rules.specs.ped_steps.specs.ped_laws.specs.FlowRuns.Exits.{IsExit, IsOneToOne}
-use Rattle.ped_scalar.specs.ped_rules.specs.ped_steps.specs.ped_laws.specs.Runs.Replaying.{Replays, ending_with, finish_of, goes_on, has_fault}
-use Rattle.ped_scalar.specs.ped_rules.specs.ped_steps.specs.ped_laws.specs.Runs.Seeing.{Holds}
-use Rattle.ped_scalar.specs.ped_rules.specs.ped_steps.specs.ped_laws.specs.Runs.Showing.{shown_at_end}
-use Rattle.ped_scalar.specs.ped_rules.specs.ped_steps.specs.ped_laws.specs.ped_eval.specs.Evaluation.{Seen, cell_seen, index_seen}
-use Rattle.ped_scalar.specs.ped_rules.specs.ped_steps.specs.ped_laws.specs.ped_eval.specs.Loops.{Entered, frame, inner_variables, value_in}
-use Rattle.ped_scalar.specs.ped_rules.specs.ped_steps.specs.ped_laws.specs.ped_eval.specs.Outcomes.{Ends, run_of, setting_of}
-use Rattle.ped_scalar.specs.ped_rules.specs.ped_steps.specs.ped_laws.specs.ped_eval.specs.Runs.{Run, run, run_all}
-use Rattle.ped_scalar.specs.ped_rules.specs.ped_steps.specs.ped_laws.specs.ped_eval.specs.Scopes.{Scope, Setting, cell_of, names_in, place_of, turns_of}
-use Rattle.ped_scalar.specs.ped_rules.specs.ped_steps.specs.ped_laws.specs.ped_graph.proofs.Matching.{same_number}
-use Rattle.ped_scalar.specs.ped_rules.specs.ped_steps.specs.ped_laws.specs.ped_store.specs.Acts.{Act, Place, Touch, Turn, iterations_of, reads}
-use Rattle.ped_scalar.specs.ped_rules.specs.ped_steps.specs.ped_laws.specs.ped_store.specs.Cells.{Cell, Element, In, Iteration, Out, Private, Scalar}
-use Rattle.ped_scalar.specs.ped_rules.specs.ped_steps.specs.ped_laws.specs.ped_store.specs.Races.{is_write}
-use Rattle.ped_scalar.specs.ped_rules.specs.ped_steps.specs.ped_laws.specs.ped_store.specs.Stores.{Content, Store, store_at_start}
-use Rattle.ped_scalar.specs.ped_rules.specs.ped_steps.specs.ped_symbols.specs.Kinds.{kind_in}
-use Rattle.ped_scalar.specs.ped_rules.specs.ped_steps.specs.ped_symbols.specs.RightUses.RightUses.{is_scalar}
+use Rattle.ped_scalar.specs.ped_rules.specs.ped_loop_runs.specs.ped_tidy.specs.ped_pasting.specs.ped_bodies.proofs.BodyLaws.LikewiseActs.{likewise_stripped}
+use Rattle.ped_scalar.specs.ped_rules.specs.ped_loop_runs.specs.ped_tidy.specs.ped_pasting.specs.ped_bodies.proofs.BodyLaws.MovedCells.{no_copies, path_append}
+use Rattle.ped_scalar.specs.ped_rules.specs.ped_loop_runs.specs.ped_tidy.specs.ped_pasting.specs.ped_bodies.specs.Likewise.{AreLikewise}
+use Rattle.ped_scalar.specs.ped_rules.specs.ped_loop_runs.specs.ped_tidy.specs.ped_pasting.specs.ped_bodies.specs.Moving.{is_cell_among, own_number}
+use Rattle.ped_scalar.specs.ped_rules.specs.ped_loop_runs.specs.ped_tidy.specs.ped_pasting.specs.ped_bodies.specs.Trips.{IsTrip, bounds_seen, loop_acts}
+use Rattle.ped_scalar.specs.ped_rules.specs.ped_loop_runs.specs.ped_tidy.specs.ped_pasting.proofs.PastingLaws.LeftCopies.{IsOwn, body_reaches, run_reaches}
+use Rattle.ped_scalar.specs.ped_rules.specs.ped_loop_runs.specs.ped_tidy.specs.ped_pasting.proofs.PastingLaws.TheirCopies.{theirs, theirs_unneeded}
+use Rattle.ped_scalar.specs.ped_rules.specs.ped_loop_runs.specs.ped_tidy.specs.ped_pasting.proofs.PastingLaws.ToldPlaces.{no_turns}
+use Rattle.ped_scalar.specs.ped_rules.specs.ped_loop_runs.specs.ped_tidy.specs.ped_pasting.specs.Copies.{IsTheirs}
+use Rattle.ped_scalar.specs.ped_rules.specs.ped_loop_runs.specs.ped_tidy.specs.ped_pasting.specs.Executions.{IsCopyInside, IsExecuted, as_done}
+use Rattle.ped_scalar.specs.ped_rules.specs.ped_loop_runs.specs.ped_tidy.specs.ped_pasting.specs.ped_bodies.specs.ped_steps.specs.ped_weaves.proofs.WeaveLaws.AgreedApart.{agreed_before_or_written, needed_agreed}
+use Rattle.ped_scalar.specs.ped_rules.specs.ped_loop_runs.specs.ped_tidy.specs.ped_pasting.specs.ped_bodies.specs.ped_steps.specs.ped_weaves.proofs.WeaveLaws.CountedActs.{counted_needed, counted_touched, counted_writes}
+use Rattle.ped_scalar.specs.ped_rules.specs.ped_loop_runs.specs.ped_tidy.specs.ped_pasting.specs.ped_bodies.specs.ped_steps.specs.ped_weaves.proofs.WeaveLaws.Woven.{woven_stands}
+use Rattle.ped_scalar.specs.ped_rules.specs.ped_loop_runs.specs.ped_tidy.specs.ped_pasting.specs.ped_bodies.specs.ped_steps.specs.ped_weaves.specs.Puttings.{Suit}
+use Rattle.ped_scalar.specs.ped_rules.specs.ped_loop_runs.specs.ped_tidy.specs.ped_pasting.specs.ped_bodies.specs.ped_steps.specs.ped_weaves.specs.Weaves.{IsSteady, IsWoven, Knot, Weave, block, blocks_in, control, new_list, old_list}
+use Rattle.ped_scalar.specs.ped_rules.specs.ped_loop_runs.specs.ped_tidy.specs.ped_pasting.specs.ped_bodies.specs.ped_steps.proofs.RunLaws.ExpandedRacesOrigins.{write_in}
+use Rattle.ped_scalar.specs.ped_rules.specs.ped_loop_runs.specs.ped_tidy.specs.ped_pasting.specs.ped_bodies.specs.ped_steps.proofs.RunLaws.PastedStores.{execution_left}
+use Rattle.ped_scalar.specs.ped_rules.specs.ped_loop_runs.specs.ped_tidy.specs.ped_pasting.specs.ped_bodies.specs.ped_steps.proofs.RunLaws.PrivatisedPrograms.{shown_scalar}
+use Rattle.ped_scalar.specs.ped_rules.specs.ped_loop_runs.specs.ped_tidy.specs.ped_pasting.specs.ped_bodies.specs.ped_steps.proofs.RunLaws.RunPlaces.{stands_in}
+use Rattle.ped_scalar.specs.ped_rules.specs.ped_loop_runs.specs.ped_tidy.specs.ped_pasting.specs.ped_bodies.specs.ped_steps.specs.Replacing.{alone}
+use Rattle.ped_scalar.specs.ped_rules.specs.ped_loop_runs.specs.ped_tidy.specs.ped_pasting.specs.ped_bodies.specs.ped_steps.specs.Runs.Exchanging.{is_of_scalar}
+use Rattle.ped_scalar.specs.ped_rules.specs.ped_loop_runs.specs.ped_tidy.specs.ped_pasting.specs.ped_bodies.specs.ped_steps.specs.Runs.Pasting.{IsInOutermost, IsPlaceOf}
+use Rattle.ped_scalar.specs.ped_rules.specs.ped_loop_runs.specs.ped_tidy.specs.ped_pasting.specs.ped_bodies.specs.ped_steps.specs.ped_flow.specs.PlainBounds.{nest_round, outermost_or}
+use Rattle.ped_scalar.specs.ped_rules.specs.ped_loop_runs.specs.ped_tidy.specs.ped_pasting.specs.ped_bodies.specs.ped_steps.specs.ped_flow.specs.Questions.{LoopOf}
+use Rattle.ped_scalar.specs.ped_rules.specs.ped_loop_runs.specs.ped_tidy.specs.ped_pasting.specs.ped_bodies.specs.ped_steps.specs.ped_laws.proofs.ActLaws.Appending.{written_append}
+use Rattle.ped_scalar.specs.ped_rules.specs.ped_loop_runs.specs.ped_tidy.specs.ped_pasting.specs.ped_bodies.specs.ped_steps.specs.ped_laws.proofs.ActLaws.Lists.{in_parts}
+use Rattle.ped_scalar.specs.ped_rules.specs.ped_loop_runs.specs.ped_tidy.specs.ped_pasting.specs.ped_bodies.specs.ped_steps.specs.ped_laws.proofs.ActLaws.Outside.{dropped_first, kept_first, none_first, none_rest}
+use Rattle.ped_scalar.specs.ped_rules.specs.ped_loop_runs.specs.ped_tidy.specs.ped_pasting.specs.ped_bodies.specs.ped_steps.specs.ped_laws.proofs.ActLaws.Renamings.{after_other, or_left, or_right}
+use Rattle.ped_scalar.specs.ped_rules.specs.ped_loop_runs.specs.ped_tidy.specs.ped_pasting.specs.ped_bodies.specs.ped_steps.specs.ped_laws.proofs.ActLaws.SameCells.{text_itself}
+use Rattle.ped_scalar.specs.ped_rules.specs.ped_loop_runs.specs.ped_tidy.specs.ped_pasting.specs.ped_bodies.specs.ped_steps.specs.ped_laws.proofs.ConflictLaws.CoveringNests.{IsOf}
+use Rattle.ped_scalar.specs.ped_rules.specs.ped_loop_runs.specs.ped_tidy.specs.ped_pasting.specs.ped_bodies.specs.ped_steps.specs.ped_laws.proofs.ConflictLaws.CoveringRuns.{MakingLaw, SequenceLaw}
+use Rattle.ped_scalar.specs.ped_rules.specs.ped_loop_runs.specs.ped_tidy.specs.ped_pasting.specs.ped_bodies.specs.ped_steps.specs.ped_laws.proofs.FlowRunLaws.DeadExits.{unwanted_behind}
+use Rattle.ped_scalar.specs.ped_rules.specs.ped_loop_runs.specs.ped_tidy.specs.ped_pasting.specs.ped_bodies.specs.ped_steps.specs.ped_laws.proofs.FlowRunLaws.Stopping.{fitting_stops}
+use Rattle.ped_scalar.specs.ped_rules.specs.ped_loop_runs.specs.ped_tidy.specs.ped_pasting.specs.ped_bodies.specs.ped_steps.specs.ped_laws.proofs.FlowRunLaws.TripReads.{contained_unread}
+use Rattle.ped_scalar.specs.ped_rules.specs.ped_loop_runs.specs.ped_tidy.specs.ped_pasting.specs.ped_bodies.specs.ped_steps.specs.ped_laws.proofs.RunLaws.Sight.{limits_told}
+use Rattle.ped_scalar.specs.ped_rules.specs.ped_loop_runs.specs.ped_tidy.specs.ped_pasting.specs.ped_bodies.specs.ped_steps.specs.ped_laws.proofs.RunLaws.StatementsTold.{run_told}
+use Rattle.ped_scalar.specs.ped_rules.specs.ped_loop_runs.specs.ped_tidy.specs.ped_pasting.specs.ped_bodies.specs.ped_steps.specs.ped_laws.specs.Acts.Conflicts.{ReadNone, WriteWithin, act_without, blocks_conflict_outside, touches_without, without}
+use Rattle.ped_scalar.specs.ped_rules.specs.ped_loop_runs.specs.ped_tidy.specs.ped_pasting.specs.ped_bodies.specs.ped_steps.specs.ped_laws.specs.Acts.Fitting.{Fits, store_after, touches_of}
+use Rattle.ped_scalar.specs.ped_rules.specs.ped_loop_runs.specs.ped_tidy.specs.ped_pasting.specs.ped_bodies.specs.ped_steps.specs.ped_laws.specs.Acts.Grids.{block_at}
+use Rattle.ped_scalar.specs.ped_rules.specs.ped_loop_runs.specs.ped_tidy.specs.ped_pasting.specs.ped_bodies.specs.ped_steps.specs.ped_laws.specs.Acts.Orders.{Block, EachOnce, IsIn, IsReordered, KeepsOrder, acts_in_blocks, block_conflict}
+use Rattle.ped_scalar.specs.ped_rules.specs.ped_loop_runs.specs.ped_tidy.specs.ped_pasting.specs.ped_bodies.specs.ped_steps.specs.ped_laws.specs.Acts.Pieces.{StandsFor}
+use Rattle.ped_scalar.specs.ped_rules.specs.ped_loop_runs.specs.ped_tidy.specs.ped_pasting.specs.ped_bodies.specs.ped_steps.specs.ped_laws.specs.Acts.Renaming.{Renamed, touch}
+use Rattle.ped_scalar.specs.ped_rules.specs.ped_loop_runs.specs.ped_tidy.specs.ped_pasting.specs.ped_bodies.specs.ped_steps.specs.ped_laws.specs.Acts.Sets.{AgreeIn, needs, nothing, wants, written}
+use Rattle.ped_scalar.specs.ped_rules.specs.ped_loop_runs.specs.ped_tidy.specs.ped_pasting.specs.ped_bodies.specs.ped_steps.specs.ped_laws.specs.Conflicts.Sequence.{AreSuccessive}
+use Rattle.ped_scalar.specs.ped_rules.specs.ped_loop_runs.specs.ped_tidy.specs.ped_pasting.specs.ped_bodies.specs.ped_steps.specs.ped_laws.specs.FlowRuns.Covering.{is_cell_of, some_stops_in_loop}
+use Rattle.ped_scalar.specs.ped_rules.specs.ped_loop_runs.specs.ped_tidy.specs.ped_pasting.specs.ped_bodies.specs.ped_steps.specs.ped_laws.specs.FlowRuns.Exits.{IsExit, IsOneToOne}
+use Rattle.ped_scalar.specs.ped_rules.specs.ped_loop_runs.specs.ped_tidy.specs.ped_pasting.specs.ped_bodies.specs.ped_steps.specs.ped_laws.specs.Runs.Replaying.{Replays, ending_with, finish_of, goes_on, has_fault}
+use Rattle.ped_scalar.specs.ped_rules.specs.ped_loop_runs.specs.ped_tidy.specs.ped_pasting.specs.ped_bodies.specs.ped_steps.specs.ped_laws.specs.Runs.Seeing.{Holds}
+use Rattle.ped_scalar.specs.ped_rules.specs.ped_loop_runs.specs.ped_tidy.specs.ped_pasting.specs.ped_bodies.specs.ped_steps.specs.ped_laws.specs.Runs.Showing.{shown_at_end}
+use Rattle.ped_scalar.specs.ped_rules.specs.ped_loop_runs.specs.ped_tidy.specs.ped_pasting.specs.ped_bodies.specs.ped_steps.specs.ped_laws.specs.ped_eval.specs.Evaluation.{Seen, cell_seen, index_seen}
+use Rattle.ped_scalar.specs.ped_rules.specs.ped_loop_runs.specs.ped_tidy.specs.ped_pasting.specs.ped_bodies.specs.ped_steps.specs.ped_laws.specs.ped_eval.specs.Loops.{Entered, frame, inner_variables, value_in}
+use Rattle.ped_scalar.specs.ped_rules.specs.ped_loop_runs.specs.ped_tidy.specs.ped_pasting.specs.ped_bodies.specs.ped_steps.specs.ped_laws.specs.ped_eval.specs.Outcomes.{Ends, run_of, setting_of}
+use Rattle.ped_scalar.specs.ped_rules.specs.ped_loop_runs.specs.ped_tidy.specs.ped_pasting.specs.ped_bodies.specs.ped_steps.specs.ped_laws.specs.ped_eval.specs.Runs.{Run, run, run_all}
+use Rattle.ped_scalar.specs.ped_rules.specs.ped_loop_runs.specs.ped_tidy.specs.ped_pasting.specs.ped_bodies.specs.ped_steps.specs.ped_laws.specs.ped_eval.specs.Scopes.{Scope, Setting, cell_of, names_in, place_of, turns_of}
+use Rattle.ped_scalar.specs.ped_rules.specs.ped_loop_runs.specs.ped_tidy.specs.ped_pasting.specs.ped_bodies.specs.ped_steps.specs.ped_laws.specs.ped_graph.proofs.Matching.{same_number}
+use Rattle.ped_scalar.specs.ped_rules.specs.ped_loop_runs.specs.ped_tidy.specs.ped_pasting.specs.ped_bodies.specs.ped_steps.specs.ped_laws.specs.ped_store.specs.Acts.{Act, Place, Touch, Turn, iterations_of, reads}
+use Rattle.ped_scalar.specs.ped_rules.specs.ped_loop_runs.specs.ped_tidy.specs.ped_pasting.specs.ped_bodies.specs.ped_steps.specs.ped_laws.specs.ped_store.specs.Cells.{Cell, Element, In, Iteration, Out, Private, Scalar}
+use Rattle.ped_scalar.specs.ped_rules.specs.ped_loop_runs.specs.ped_tidy.specs.ped_pasting.specs.ped_bodies.specs.ped_steps.specs.ped_laws.specs.ped_store.specs.Races.{is_write}
+use Rattle.ped_scalar.specs.ped_rules.specs.ped_loop_runs.specs.ped_tidy.specs.ped_pasting.specs.ped_bodies.specs.ped_steps.specs.ped_laws.specs.ped_store.specs.Stores.{Content, Store, store_at_start}
+use Rattle.ped_scalar.specs.ped_rules.specs.ped_loop_runs.specs.ped_tidy.specs.ped_pasting.specs.ped_bodies.specs.ped_steps.specs.ped_symbols.specs.Kinds.{kind_in}
+use Rattle.ped_scalar.specs.ped_rules.specs.ped_loop_runs.specs.ped_tidy.specs.ped_pasting.specs.ped_bodies.specs.ped_steps.specs.ped_symbols.specs.RightUses.RightUses.{is_scalar}
 use Rattle.ped_tree.specs.Grammar.Fits.{moved}
 use Rattle.ped_tree.specs.Grammar.Words.{is_name}
 use Rattle.ped_tree.specs.NamesIn.{all_loop_variables, loop_variables}
@@ -146,7 +146,7 @@ of_block (b ∷ bs) a i = elim (in_parts a b.acts (acts_in_blocks bs) i) [
   | inr k ↦ let r = of_block bs a k in (r.0, inr r.1, r.2)
 ]
 
-module _ (making : MakingLaw) (sequence : SequenceLaw) (t u : ProgramTree) (l : ℕ) (loop : LoopOf t l) (g h k : Head) (inside : StmtTrees) (only : only_loop loop.body ≡ Some (g, inside)) (x : AreSwapped t u l loop g h k inside only) (data_bytes : List ℕ) (ends : Ends (run_of t data_bytes).ending) where
+module _ (making : MakingLaw) (sequence : SequenceLaw) (t u : ProgramTree) (l : ℕ) (loop : LoopOf t l) (g h k : Head) (inside : StmtTrees) (only : only_loop loop.body ≡ Some (pair g inside)) (x : AreSwapped t u l loop g h k inside only) (data_bytes : List ℕ) (ends : Ends (run_of t data_bytes).ending) where
   abbrev p : Setting
   p = setting_of t
 
@@ -364,12 +364,12 @@ module _ (making : MakingLaw) (sequence : SequenceLaw) (t u : ProgramTree) (l : 
     -- a scalar that keeps its value is no variable of a loop, and nobody writes it
     fixed_counts : (c : Cell) → IsOfFixed p.constants t l c → (idle c ≡ false) × (apart c ≡ false)
     fixed_counts c f =
-        let none : is_among f.0 variables ≡ false = false_unless (is_among f.0 variables) (λ m. both_ways (is_among f.0 (all_loop_variables t.body)) (loops_of_program t l loop f.0 m) f.2.other) in
+        let none : is_among f.0 variables ≡ false = false_unless (is_among f.0 variables) (λ m. never (is_among f.0 (all_loop_variables t.body)) (loops_of_program t l loop f.0 m) f.2.other) in
         (ap idle f.1 ∙ none, ap apart f.1 ∙ none)
 
     -- part of what has no write has none
     none_in_part : (whole acts : List Act) (c : Cell) → IsPart whole acts → written whole c ≡ false → written acts c ≡ false
-    none_in_part whole acts c part none = false_unless (written acts c) (λ m. both_ways (written whole c)
+    none_in_part whole acts c part none = false_unless (written acts c) (λ m. never (written whole c)
         (ap (λ (ys : List Act). written ys c) part.is ∙ written_append part.before (acts ++ part.behind) c ∙ or_right (written part.before c) (written (acts ++ part.behind) c) (written_append acts part.behind c ∙ or_left (written acts c) (written part.behind c) m))
         none)
 
@@ -530,7 +530,7 @@ module _ (making : MakingLaw) (sequence : SequenceLaw) (t u : ProgramTree) (l : 
         (λ q. blocks_conflict_outside idle (of_pair i j q) (of_pair m n q))
         ∙ false_unless (blocks_conflict_outside idle ((row_old i).trip j) ((row_old m).trip n)) (λ clash.
         some_edges t (λ edges are.
-        both_ways (blocks_conflict_outside idle ((row_old i).trip j) ((row_old m).trip n)) clash
+        never (blocks_conflict_outside idle ((row_old i).trip j) ((row_old m).trip n)) clash
         (crossing_apart making sequence t data_bytes x.valid edges are l loop (x.uncrossed edges are) idle ((row_old i).trip j) ((row_old m).trip n) (record {
           trips = two_pairs i j m n from less its_to low high its_low its_high;
           r = (frame (in_old i) j).turn;
@@ -607,7 +607,7 @@ module _ (making : MakingLaw) (sequence : SequenceLaw) (t u : ProgramTree) (l : 
     hidden c copy = ap shown copy.is
 
     unwanted_copy : (c : Cell) → IsCopyInside p scope l size c → wants shown behind c ≡ true → ⊥
-    unwanted_copy c copy m = both_ways (wants shown behind c) m ((its c copy).unwanted shown (hidden c copy))
+    unwanted_copy c copy m = never (wants shown behind c) m ((its c copy).unwanted shown (hidden c copy))
 
     unagreed_copy : (c : Cell) → IsCopyInside p scope l size c → agreed apart shown behind c ≡ true → ⊥
     unagreed_copy c copy m = unwanted_copy c copy (agreed_wanted apart shown behind c (ap apart copy.is) m)
@@ -617,7 +617,7 @@ module _ (making : MakingLaw) (sequence : SequenceLaw) (t u : ProgramTree) (l : 
 
     unneeded_copy : (c : Cell) → IsCopyInside p scope l size c → needs (old_list w) c ≡ true → ⊥
     unneeded_copy c copy m =
-        both_ways (needs (run p old_loop l scope s).acts c) (ap (λ (acts : List Act). needs acts c) (sym old_is) ∙ m)
+        never (needs (run p old_loop l scope s).acts c) (ap (λ (acts : List Act). needs acts c) (sym old_is) ∙ m)
         (ap (λ (acts : List Act). needs acts c) (sym (ap (λ (r : Run). r.acts) (run_alone p old_loop l scope s))) ∙ theirs_unneeded p scope l size c copy (alone old_loop) l scope s (its c copy).undefined fine)
 
     stays_or_moves : (c : Cell) → (names c ≡ c) ⊎ IsOfLoop p scope l c
@@ -653,7 +653,7 @@ module _ (making : MakingLaw) (sequence : SequenceLaw) (t u : ProgramTree) (l : 
           held = r.held;
           agreed = ap (λ (b : Bool). not b || wants shown ((run p old_loop l scope s).acts ++ behind) v.cell) counts.1;
           counts = counts.0;
-          unwritten = λ f q named. both_ways (written (old_list w) f) (counted_writes w f q) (ap (λ (acts : List Act). written acts f) old_is ∙ fixed_unwritten f (subst (IsOfFixed p.constants t l) (sym (own_source f v.cell r.fixed named)) r.fixed));
+          unwritten = λ f q named. never (written (old_list w) f) (counted_writes w f q) (ap (λ (acts : List Act). written acts f) old_is ∙ fixed_unwritten f (subst (IsOfFixed p.constants t l) (sym (own_source f v.cell r.fixed named)) r.fixed));
         }
       where
         own_source : (f c : Cell) → IsOfFixed p.constants t l c → names f ≡ c → f ≡ c
@@ -713,8 +713,8 @@ module _ (making : MakingLaw) (sequence : SequenceLaw) (t u : ProgramTree) (l : 
     unreached : (c : Cell) → idle c ≡ true → wants shown behind c ≡ true → IsOwn p scope c ⊎ IsCopyInside p scope l size c → ⊥
     unreached c i m (inl (inl own)) =
         let named : is_among own.0 variables ≡ true = sym (cell_among variables scope own.0) ∙ ap idle (sym own.1) ∙ i in
-        both_ways (wants shown behind c) m (ap (wants shown behind) own.1 ∙ dead own.0 named)
-    unreached c i m (inl (inr none)) = both_ways (is_of_scalar c) (among_of_scalar variables c i) none
+        never (wants shown behind c) m (ap (wants shown behind) own.1 ∙ dead own.0 named)
+    unreached c i m (inl (inr none)) = never (is_of_scalar c) (among_of_scalar variables c i) none
     unreached c i m (inr copy) = unwanted_copy c copy m
 
     unwritten_by : (f : Head) (ts : StmtTrees) → statement_count (Do f ts) ≡ size → (c : Cell) → idle c ≡ true → wants shown behind c ≡ true → written (run p (Do f ts) l scope s).acts c ≡ false
@@ -737,7 +737,7 @@ module _ (making : MakingLaw) (sequence : SequenceLaw) (t u : ProgramTree) (l : 
             let wanted : wants shown behind c ≡ true = agreed_wanted apart shown behind c (idle_apart variables c i) m in
             let first : written (old_list w) c ≡ false = ap (λ (acts : List Act). written acts c) old_is ∙ unwritten_by d body old_many c i wanted in
             let second : written (new_list w) c ≡ false = ap (λ (acts : List Act). written acts c) (sym new_run_is) ∙ unwritten_by h its_body new_many c i wanted in
-            let there : before c ≡ true = elim (agreed_before_or_written apart shown (old_list w) behind c m) [ inl q ↦ sym (old_before c) ∙ q | inr q ↦ absurd (both_ways (written (old_list w) c) q first) ] in
+            let there : before c ≡ true = elim (agreed_before_or_written apart shown (old_list w) behind c m) [ inl q ↦ sym (old_before c) ∙ q | inr q ↦ absurd (never (written (old_list w) c) q first) ] in
             after_other (old_list w) s c first ∙ agree c there ∙ sym (after_other (new_list w) v c second)
 
     -- what is shown of each execution

@@ -8,7 +8,7 @@ use Rattle.ped_session.specs.ped_tree.specs.SourcePane.{source_pane}
 use Rattle.ped_session.specs.ped_valid.specs.Validity.{ReadsValid, RefusesText}
 use Rattle.ped_session.specs.ped_valid.proofs.OneVerdict.{one_of_both}
 use Rattle.ped_session.specs.ped_graph.proofs.OnePane.{one_pane}
-use Rattle.ped_session.specs.ped_script.specs.Items.{commands_of}
+use Rattle.ped_session.specs.ped_transformations.specs.ped_script.specs.Items.{commands_of}
 use Rattle.ped_session.specs.Panes.{ArePanes}
 use Rattle.ped_session.specs.States.{State, opened}
 use Rattle.ped_session.specs.Scripts.{Said, AnswersItems}

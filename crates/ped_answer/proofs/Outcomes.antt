@@ -10,7 +10,7 @@ use Rattle.ped_answer.specs.declared.answering.Status.TheVariants.{Done, SomeRef
 use Rattle.ped_session.specs.ped_tree.specs.Tree.{ProgramTree}
 use Rattle.ped_session.specs.ped_tree.specs.Grammar.Refusal.{Finding}
 use Rattle.ped_session.specs.ped_valid.specs.Validity.{ReadsValid, RefusesText}
-use Rattle.ped_session.specs.ped_script.specs.Items.{commands_of}
+use Rattle.ped_session.specs.ped_transformations.specs.ped_script.specs.Items.{commands_of}
 use Rattle.ped_session.specs.States.{State, opened}
 use Rattle.ped_session.specs.Scripts.{Said, AnswersItems}
 use Rattle.ped_answer.specs.Refusals.{refused_line}

@@ -3,7 +3,7 @@ use Rattle.std.specs.Prelude.{◌≡◌, ℕ, List, [], Option, Some, None, ⊤}
 use Rattle.ped_io.specs.Outside.{Contents, content}
 use Rattle.ped_session.specs.ped_tree.specs.Tree.{ProgramTree}
 use Rattle.ped_session.specs.ped_valid.specs.Validity.{ReadsValid}
-use Rattle.ped_session.specs.ped_script.specs.Items.{commands_of}
+use Rattle.ped_session.specs.ped_transformations.specs.ped_script.specs.Items.{commands_of}
 use Rattle.ped_session.specs.States.{State, opened}
 use Rattle.ped_session.specs.Scripts.{Said}
 use Rattle.ped_session.specs.RunsAsBefore.{AnswersAsBefore}

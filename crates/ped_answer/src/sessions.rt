@@ -2,7 +2,7 @@
 
 ghost use Rattle.std.specs.Prelude.{◌≡◌, ◌⊎◌, ◌∷◌, [], ◌+◌, ◌≤◌, ℕ, List, Some, None, IfOk, option_map};
 ghost use Rattle.ped_io.specs.Outside.{Rose};
-ghost use Rattle.ped_session.specs.ped_script.specs.Items.{commands_of};
+ghost use Rattle.ped_session.specs.ped_transformations.specs.ped_script.specs.Items.{commands_of};
 ghost use Rattle.ped_session.specs.States.{State};
 ghost use Rattle.ped_session.specs.Scripts.{Said, AnswersItems};
 ghost use Rattle.ped_answer.specs.Answer.{session, source_input, data_input, data_inputs, AnswersInput, AnswersData, IsSession, Sends};

@@ -14,9 +14,9 @@ use Rattle.ped_answer.specs.ped_session.specs.ped_valid.specs.Verdicts.{HasOneVa
 use Rattle.ped_answer.specs.ped_session.specs.ped_valid.proofs.OneVerdict.{one_of_both, valid_prints}
 use Rattle.ped_answer.specs.ped_session.specs.ped_order.specs.ped_eval.specs.Outcomes.{outcome}
 use Rattle.ped_answer.specs.ped_session.specs.ped_order.proofs.OneReport.{one_at_least}
-use Rattle.ped_answer.specs.ped_session.specs.ped_script.specs.declared.items.Command.{Command}
-use Rattle.ped_answer.specs.ped_session.specs.ped_script.specs.declared.items.Command.TheVariants.{Source, Deps, Show, Print, Advise, Replace, Insert, Delete, Interchange, Reverse, Skew, Strip, Peel, Distribute, Fuse, Expand, Privatise, Parallel, Serial, Reject, Undo, Redo, Run, Races, Tested}
-use Rattle.ped_answer.specs.ped_session.specs.ped_script.specs.declared.items.Item.{Item}
+use Rattle.ped_answer.specs.ped_session.specs.ped_transformations.specs.ped_script.specs.declared.items.Command.{Command}
+use Rattle.ped_answer.specs.ped_session.specs.ped_transformations.specs.ped_script.specs.declared.items.Command.TheVariants.{Source, Deps, Show, Print, Advise, Replace, Insert, Delete, Interchange, Reverse, Skew, Strip, Peel, Distribute, Fuse, Expand, Privatise, Parallel, Serial, Reject, Undo, Redo, Run, Races, Tested}
+use Rattle.ped_answer.specs.ped_session.specs.ped_transformations.specs.ped_script.specs.declared.items.Item.{Item}
 use Rattle.ped_answer.specs.ped_session.specs.declared.changes.Change.TheVariants.{Edit}
 use Rattle.ped_answer.specs.ped_session.specs.declared.replies.Refusal.{Refusal}
 use Rattle.ped_answer.specs.ped_session.specs.declared.replies.Refusal.TheVariants.{BadEdit, Step, NothingToUndo, NothingToRedo, NoSuchStatement, NoSuchLine, NotBuilt}
@@ -27,7 +27,7 @@ use Rattle.ped_answer.specs.ped_session.specs.Splices.{spliced, are_lines, is_pl
 use Rattle.ped_answer.specs.ped_session.specs.Panes.{IsSourcePane, ArePanes, tested_row}
 use Rattle.ped_answer.specs.ped_session.specs.Blocks.{block}
 use Rattle.ped_answer.specs.ped_session.specs.RaceRows.{race_row, IsRaceRow}
-use Rattle.ped_answer.specs.ped_session.specs.ped_scalar.specs.ped_rules.specs.Steps.{StepAt, MaybeStep, no_step, some_step, MatchStep}
+use Rattle.ped_answer.specs.ped_session.specs.ped_transformations.specs.ped_loops.specs.ped_scalar.specs.ped_rules.specs.Steps.{StepAt, MaybeStep, no_step, some_step, MatchStep}
 use Rattle.ped_answer.specs.ped_session.specs.ped_transformations.specs.Table as table
 use Rattle.ped_answer.specs.ped_session.specs.Steps.{Refuses, Shows, ShowsOf, ShowsStatement, Edits, accepted, refused, change_by, Transforms, missing, forbidden, transformed, GoesBack, GoesForward, Runs, IsOther, IsStep}
 use Rattle.ped_answer.specs.ped_session.specs.Histories.{IsPrinted, ArePrinted}

@@ -5,9 +5,6 @@ pub use Rattle.ped_valid.specs.ped_symbols
 pub use Rattle.ped_valid
 pub use Rattle.ped_graph
 pub use Rattle.ped_order
-pub use Rattle.ped_transformations.specs.ped_loops.specs.ped_scalar
-pub use Rattle.ped_transformations.specs.ped_loops.specs.ped_scalar.specs.ped_rules
-pub use Rattle.ped_transformations.specs.ped_loops.specs.ped_scalar.specs.ped_rules.specs.ped_loop_runs.specs.ped_tidy.specs.ped_pasting.specs.ped_bodies.specs.ped_steps
 pub use Rattle.ped_transformations
 pub mod Adding
 pub mod Blocks

@@ -14,5 +14,3 @@ pub use carried::{
 pub use loops::one_for_one;
 pub use one_out::plain_one_out;
 pub use ped_tidy;
-pub use ped_tidy::ped_steps::ped_weaves;
-pub use ped_tidy::{ped_bodies, ped_pasting, ped_steps};

@@ -157,7 +157,7 @@ open_pending t edges are e i s loop carries pending =
     let level = level_is (level_at t s) e.level parts.0 in
     let unrejected = not_rejected b.proven (is_rejected p.source.access.name (common_nest p.source.nest p.sink.nest) e.level) (ap is_pending (sym b.mark) ∙ pending) in
     let common : slice_get (common_nest p.source.nest p.sink.nest) (length (nest_round t s)) ≡ Some (record { number = s; head = loop.head }) =
-        (λ z. slice_get (common_nest (u.is z) (w.is z)) (length (nest_round t s))) ∙ common_front (nest_round t s) (record { number = s; head = loop.head }) u.inner w.inner in
+    (λ z. slice_get (common_nest (u.is z) (w.is z)) (length (nest_round t s))) ∙ common_front (nest_round t s) (record { number = s; head = loop.head }) u.inner w.inner in
     let less : level_at t s - 1 ≡ length (nest_round t s) = omega arith in
     record {
       reference = p.source;

@@ -433,9 +433,9 @@ module _ (making : MakingLaw) (sequence : SequenceLaw) (t u : ProgramTree) (l : 
         let pair : below (later i + j) + (i - below (later i + j)) ≡ i = omega (arith, under) in
         let inner_pair : later i + j - later i ≡ j = omega arith in
         let alike = new_likewise t l d g h k body inside only scope s goes same x.variable x.inner_variable x.differ x.serial x.inner_serial x.new_serial x.new_inner_serial x.private x.inner_private x.new_private x.new_inner_private
-            (later i + j) (i - below (later i + j)) (omega (arith, low)) r.0 (omega (arith, under)) (omega (arith, over, under)) in
+        (later i + j) (i - below (later i + j)) (omega (arith, low)) r.0 (omega (arith, under)) (omega (arith, over, under)) in
         (likewise_stripped names idle (swapped_idle p scope l e0.count z0.count (λ m. (in_old m).count) (λ m. (in_new m).count) later below same.grouped variables) own_number
-            (turns_of (frame (in_old i) j ∷ scope_old i)) (turns_of (frame (in_new (later i + j)) (i - below (later i + j)) ∷ scope_new (later i + j))) ((row_old i).trip j) (fresh_trip (later i + j) (i - below (later i + j))) (trip_unread i j from to low high)
+        (turns_of (frame (in_old i) j ∷ scope_old i)) (turns_of (frame (in_new (later i + j)) (i - below (later i + j)) ∷ scope_new (later i + j))) ((row_old i).trip j) (fresh_trip (later i + j) (i - below (later i + j))) (trip_unread i j from to low high)
         (likewise_idle true variables names own_number (turns_of (frame (in_old i) j ∷ scope_old i)) (turns_of (frame (in_new (later i + j)) (i - below (later i + j)) ∷ scope_new (later i + j))) ((row_old i).trip j) (fresh_trip (later i + j) (i - below (later i + j)))
         (subst (λ (m : ℕ). AreLikewise names nothing own_number (turns_of (frame (in_old i) m ∷ scope_old i)) (turns_of (frame (in_new (later i + j)) (i - below (later i + j)) ∷ scope_new (later i + j))) ((row_old i).trip m) (fresh_trip (later i + j) (i - below (later i + j)))) inner_pair
         (subst (λ (m : ℕ). AreLikewise names nothing own_number (turns_of (frame (in_old m) (later i + j - later m) ∷ scope_old m)) (turns_of (frame (in_new (later i + j)) (i - below (later i + j)) ∷ scope_new (later i + j))) ((row_old m).trip (later i + j - later m)) (fresh_trip (later i + j) (i - below (later i + j)))) pair alike)))).0
@@ -456,8 +456,7 @@ module _ (making : MakingLaw) (sequence : SequenceLaw) (t u : ProgramTree) (l : 
     stand_there : (i j : ℕ) → 1 ≤ i → i ≤ e0.count → 1 ≤ j → j ≤ (in_old i).count → (a : Act) → IsIn a ((row_old i).trip j) → (more : List Turn) × (a.place.turns ≡ turns_of scope ++ (frame e0 i).turn ∷ ((frame (in_old i) j).turn ∷ more))
     stand_there i j from to low high a m =
         let it = there i j from to low high in
-        let r = stands_in p inside (l + 1 + 1) (frame (in_old i) j ∷ scope_old i) it.0 a (subst (IsIn a) it.1.is m) in
-        (
+        let r = stands_in p inside (l + 1 + 1) (frame (in_old i) j ∷ scope_old i) it.0 a (subst (IsIn a) it.1.is m) in (
           r.0,
           r.1 ∙ append_assoc (turns_of scope ++ (frame e0 i).turn ∷ []) ((frame (in_old i) j).turn ∷ []) r.0 ∙ append_assoc (turns_of scope) ((frame e0 i).turn ∷ []) ((frame (in_old i) j).turn ∷ r.0),
         )

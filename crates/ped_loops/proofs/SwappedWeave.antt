@@ -107,10 +107,11 @@ module _ (variables : List (List ℕ)) where
 
   module _ (e : Entered) (scope : Scope) (serial : e.head.parallel ≡ false) (private : e.head.private ≡ []) (inner : e.inner ≡ []) (named : is_among e.head.variable variables ≡ true) where
     exit_within : WriteWithin idle (exit_touches e scope)
-    exit_within =
-        (cell_among variables scope e.head.variable ∙ named,
-        subst (λ (xs : List (List ℕ)). WriteWithin idle (undefined_by scope e.behind_bounds xs ++ undefined_all scope e.inner)) (sym private)
-        (subst (λ (xs : List (List ℕ)). WriteWithin idle (undefined_all scope xs)) (sym inner) tt))
+    exit_within = (
+      cell_among variables scope e.head.variable ∙ named,
+      subst (λ (xs : List (List ℕ)). WriteWithin idle (undefined_by scope e.behind_bounds xs ++ undefined_all scope e.inner)) (sym private)
+          (subst (λ (xs : List (List ℕ)). WriteWithin idle (undefined_all scope xs)) (sym inner) tt),
+    )
 
     none_within : (n : ℕ) → WriteWithin idle (exit_when_none n e scope)
     none_within n = go (n == 0)

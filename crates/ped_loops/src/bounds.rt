@@ -18,10 +18,14 @@ ghost use Rattle.ped_loops.specs.CodePlain.{tree_at, values_at, IsPlaced};
 
 use ped_base::{Name, NoMemory};
 use ped_scalar::ped_rules::is_index;
-use ped_scalar::ped_rules::ped_steps::ped_affine::{Setting, assigned, interval, loop_variables};
-use ped_scalar::ped_rules::ped_steps::ped_flow::Flow;
-use ped_scalar::ped_rules::ped_steps::ped_refs::Loop;
-use ped_scalar::ped_rules::ped_steps::{Scene, loop_at, loops_round};
+use ped_scalar::ped_rules::ped_loop_runs::ped_tidy::ped_pasting::ped_bodies::ped_steps::ped_weaves::ped_laws::ped_flow::Flow;
+use ped_scalar::ped_rules::ped_loop_runs::ped_tidy::ped_pasting::ped_bodies::ped_steps::ped_weaves::ped_laws::ped_graph::ped_affine::{
+    Setting, assigned, interval, loop_variables,
+};
+use ped_scalar::ped_rules::ped_loop_runs::ped_tidy::ped_pasting::ped_bodies::ped_steps::ped_weaves::ped_laws::ped_graph::ped_refs::Loop;
+use ped_scalar::ped_rules::ped_loop_runs::ped_tidy::ped_pasting::ped_bodies::ped_steps::{
+    Scene, loop_at, loops_round,
+};
 use ped_tree::constants::constant;
 use ped_tree::names::NameSet;
 use ped_tree::{Do, Expr, Intrinsic, Program};

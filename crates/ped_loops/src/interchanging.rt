@@ -10,8 +10,8 @@ ghost use Rattle.ped_loops.specs.Interchanging as Spec;
 use crate::bounds::are_plain;
 use crate::shapes::{Pair, exchanged, names_outer, pair_of};
 use ped_base::NoMemory;
-use ped_scalar::ped_rules::ped_steps::ped_refs::Loop;
-use ped_scalar::ped_rules::ped_steps::{
+use ped_scalar::ped_rules::ped_loop_runs::ped_tidy::ped_pasting::ped_bodies::ped_steps::ped_weaves::ped_laws::ped_graph::ped_refs::Loop;
+use ped_scalar::ped_rules::ped_loop_runs::ped_tidy::ped_pasting::ped_bodies::ped_steps::{
     Change, Refused, Rule, Scene, change_to, loop_at, loops_round, program_with,
 };
 use ped_scalar::ped_rules::{
@@ -175,8 +175,10 @@ fn leaves_either<L: Ledger>(
     })?;
     match only_loop(&new.body) {
         Some(inside) => {
-            return Ok(leaves(alloc, scene, &round, &inside.first)?
-                || leaves(alloc, scene, &round, &inside.last)?);
+            return Ok(
+                leaves(alloc, scene, &round, &inside.first)?
+                    || leaves(alloc, scene, &round, &inside.last)?,
+            );
         }
         None => {
             return Ok(false);

@@ -7,8 +7,10 @@ ghost use Rattle.ped_loops.specs.Serialising.{serialising};
 ghost use Rattle.ped_loops.specs.Rejecting.{rejecting};
 ghost use Rattle.ped_loops.specs.Reversing.{reversing};
 
+use ped_scalar::ped_rules::ped_loop_runs::ped_tidy::{
+    none_rejected, private_names_cleared, stays_trusted,
+};
 use ped_scalar::ped_rules::ped_loop_runs::{indices_unwritten, one_for_one};
-use ped_scalar::ped_rules::ped_tidy::{none_rejected, private_names_cleared, stays_trusted};
 
 /// `parallel` has one first cause at most and makes one program; where nothing forbids it, that one is valid, has no
 /// C$PED REJECT and is tidy if the old one is so, and means the same (Allen and Kennedy, section 2.4.2; ParaScope).

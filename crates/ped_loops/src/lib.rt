@@ -16,8 +16,6 @@ pub use interchanging::interchange;
 pub use laws::{parallel_is_lawful, rejection_is_lawful, reversal_is_lawful, serial_is_lawful};
 pub use paralleling::make_parallel;
 pub use ped_scalar;
-pub use ped_scalar::ped_rules;
-pub use ped_scalar::ped_rules::ped_steps;
 pub use rejecting::reject;
 pub use reversing::reverse;
 pub use serialising::make_serial;

@@ -13,7 +13,9 @@ ghost use Rattle.ped_loops.specs.Paralleling as Spec;
 
 use crate::flags::flagged;
 use ped_base::NoMemory;
-use ped_scalar::ped_rules::ped_steps::{Change, Refused, Rule, Scene, loop_at};
+use ped_scalar::ped_rules::ped_loop_runs::ped_tidy::ped_pasting::ped_bodies::ped_steps::{
+    Change, Refused, Rule, Scene, loop_at,
+};
 use ped_scalar::ped_rules::{against, escapes, first_carried};
 use ped_tree::Do;
 use std::alloc::Global;

@@ -18,9 +18,11 @@ ghost use Rattle.ped_scalar.specs.ped_rules.specs.ped_loop_runs.specs.ped_tidy.s
 ghost use Rattle.ped_loops.specs.Rejecting as Spec;
 
 use ped_base::{Name, NoMemory};
-use ped_scalar::ped_rules::ped_steps::ped_graph::ped_edges::{Edge, Mark};
-use ped_scalar::ped_rules::ped_steps::ped_refs::RefName;
-use ped_scalar::ped_rules::ped_steps::{
+use ped_scalar::ped_rules::ped_loop_runs::ped_tidy::ped_pasting::ped_bodies::ped_steps::ped_weaves::ped_laws::ped_graph::ped_edges::{
+    Edge, Mark,
+};
+use ped_scalar::ped_rules::ped_loop_runs::ped_tidy::ped_pasting::ped_bodies::ped_steps::ped_weaves::ped_laws::ped_graph::ped_refs::RefName;
+use ped_scalar::ped_rules::ped_loop_runs::ped_tidy::ped_pasting::ped_bodies::ped_steps::{
     Change, Refused, Rule, Scene, all_kept, change_to, loop_at, program_with,
 };
 use ped_scalar::ped_rules::{against, level_at};

@@ -18,7 +18,7 @@ ghost use Rattle.ped_scalar.specs.ped_rules.specs.ped_loop_runs.specs.ped_tidy.s
 ghost use Rattle.ped_loops.specs.Reversing as Spec;
 
 use ped_base::NoMemory;
-use ped_scalar::ped_rules::ped_steps::{
+use ped_scalar::ped_rules::ped_loop_runs::ped_tidy::ped_pasting::ped_bodies::ped_steps::{
     Change, Refused, Rule, Scene, all_kept, change_to, loop_at, program_with,
 };
 use ped_scalar::ped_rules::{against, escapes, first_carried, literal, unit_step};

@@ -12,7 +12,9 @@ ghost use Rattle.ped_loops.specs.Shapes as Spec;
 ghost use Rattle.ped_loops.specs.CodeShapes.{shape_in, outer_of, inner_of, HasShapes};
 
 use ped_base::{Name, NoMemory};
-use ped_scalar::ped_rules::ped_steps::ped_sums::{minus, plus};
+use ped_scalar::ped_rules::ped_loop_runs::ped_tidy::ped_pasting::ped_bodies::ped_steps::ped_sums::{
+    minus, plus,
+};
 use ped_tree::{Do, Expr, Intrinsic, Stmt};
 use std::alloc::Global;
 
@@ -205,7 +207,13 @@ fn outer_first(alloc: Global, pair: &Pair) -> Result<Expr, NoMemory>
     ensures { IfOk result (λ e. expr_tree e ≡ (Spec.new_outer (outer_of pair.now) (inner_of pair.now)).first) }
 {
     let bound = &pair.inner.first;
-    moved_bound(alloc, &pair.first, bound, &pair.outer.first, &pair.outer.last)
+    moved_bound(
+        alloc,
+        &pair.first,
+        bound,
+        &pair.outer.first,
+        &pair.outer.last,
+    )
 }
 
 /// The last bound of the new outer DO.
@@ -214,7 +222,13 @@ fn outer_last(alloc: Global, pair: &Pair) -> Result<Expr, NoMemory>
     ensures { IfOk result (λ e. expr_tree e ≡ (Spec.new_outer (outer_of pair.now) (inner_of pair.now)).last) }
 {
     let bound = &pair.inner.last;
-    moved_bound(alloc, &pair.last, bound, &pair.outer.last, &pair.outer.first)
+    moved_bound(
+        alloc,
+        &pair.last,
+        bound,
+        &pair.outer.last,
+        &pair.outer.first,
+    )
 }
 
 /// The bound of the new outer DO that comes of a bound of the old inner one with this shape.
@@ -369,7 +383,12 @@ fn asked_of(alloc: Global, shape: &Shape, x: &Name) -> Result<Option<Expr>, NoMe
 }
 
 /// The bound, or the greatest or the least of it and of others, where there are some.
-fn extreme_of(alloc: Global, f: Intrinsic, bound: &Expr, others: Vec<Expr>) -> Result<Expr, NoMemory>
+fn extreme_of(
+    alloc: Global,
+    f: Intrinsic,
+    bound: &Expr,
+    others: Vec<Expr>,
+) -> Result<Expr, NoMemory>
     ensures { IfOk result (λ e. expr_tree e ≡ Spec.extreme_of f (expr_tree bound.now) (map expr_tree others.items)) }
 {
     if others.is_empty() {

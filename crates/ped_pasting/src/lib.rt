@@ -18,7 +18,6 @@ pub use meaning::{exchanged_keeps, suiting_sets};
 pub use numbers::numbers_kept;
 pub use other_copies::{exchanged_near_keeps, executions_pasted_near, parts_stand_near};
 pub use ped_bodies;
-pub use ped_bodies::ped_steps;
 pub use places::{executed_during, places_tell, ranges_entered};
 pub use statements::statement_gives_way;
 pub use stores::stores_hold_storable;

@@ -12,7 +12,7 @@ ghost use Rattle.ped_rules.specs.CodeFresh.{letters_of};
 
 use itoa::Buffer;
 use ped_base::{Bytes, Name, NoMemory};
-use ped_loop_runs::ped_tidy::ped_steps::ped_symbols::Symbols;
+use ped_loop_runs::ped_tidy::ped_pasting::ped_bodies::ped_steps::ped_weaves::ped_laws::ped_graph::ped_symbols::Symbols;
 use ped_tree::{Decl, Program};
 use std::alloc::Global;
 

@@ -8,9 +8,11 @@ ghost use Rattle.ped_loop_runs.specs.ped_tidy.specs.ped_pasting.specs.ped_bodies
 ghost use Rattle.ped_rules.specs.Rules as Spec;
 
 use ped_base::NoMemory;
-use ped_loop_runs::ped_steps::ped_affine::{Setting, interval, loop_variables};
-use ped_loop_runs::ped_tidy::ped_steps::Scene;
-use ped_loop_runs::ped_tidy::ped_steps::ped_refs::Loop;
+use ped_loop_runs::ped_tidy::ped_pasting::ped_bodies::ped_steps::Scene;
+use ped_loop_runs::ped_tidy::ped_pasting::ped_bodies::ped_steps::ped_weaves::ped_laws::ped_graph::ped_affine::{
+    Setting, interval, loop_variables,
+};
+use ped_loop_runs::ped_tidy::ped_pasting::ped_bodies::ped_steps::ped_weaves::ped_laws::ped_graph::ped_refs::Loop;
 use ped_tree::Expr;
 use ped_tree::names::NameSet;
 use std::alloc::Global;

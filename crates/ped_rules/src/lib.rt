@@ -25,7 +25,4 @@ pub use keeping::{all_but, moved_by};
 pub use literals::literal;
 pub use only_loops::only_loop;
 pub use ped_loop_runs;
-pub use ped_loop_runs::ped_tidy;
-pub use ped_loop_runs::ped_tidy::ped_steps;
-pub use ped_loop_runs::ped_tidy::ped_steps::ped_flow;
 pub use spans::{Course, Span, course_of, is_far};

@@ -13,8 +13,10 @@ ghost use Rattle.ped_scalar.specs.Expanding as Spec;
 ghost use Rattle.ped_rules.specs.CodeSpans.{span_in, IsNear};
 
 use ped_base::{Name, NoMemory};
-use ped_rules::ped_steps::ped_sums::substitute_in_statements;
-use ped_rules::ped_steps::{body_with, copy_decls, with_body};
+use ped_rules::ped_loop_runs::ped_tidy::ped_pasting::ped_bodies::ped_steps::ped_sums::substitute_in_statements;
+use ped_rules::ped_loop_runs::ped_tidy::ped_pasting::ped_bodies::ped_steps::{
+    body_with, copy_decls, with_body,
+};
 use ped_rules::{Span, literal};
 use ped_tree::{Bound, Decl, Declarator, Do, Expr, Program, Stmt};
 use std::alloc::Global;

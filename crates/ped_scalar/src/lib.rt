@@ -19,6 +19,4 @@ pub use laws::{
     privatising_keeps, privatising_rejects_nothing, privatising_stays_tidy,
 };
 pub use ped_rules;
-pub use ped_rules::ped_steps;
-pub use ped_rules::ped_steps::ped_flow;
 pub use privatising::privatise;

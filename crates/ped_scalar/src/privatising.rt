@@ -16,8 +16,8 @@ use crate::indices::is_some_parallel;
 use crate::scalars::{is_scalar, is_unfit, live_by};
 use ped_base::{Name, NoMemory, is_among};
 use ped_rules::against;
-use ped_rules::ped_steps::ped_refs::Loop;
-use ped_rules::ped_steps::{
+use ped_rules::ped_loop_runs::ped_tidy::ped_pasting::ped_bodies::ped_steps::ped_weaves::ped_laws::ped_graph::ped_refs::Loop;
+use ped_rules::ped_loop_runs::ped_tidy::ped_pasting::ped_bodies::ped_steps::{
     Change, Refused, Rule, Scene, all_kept, change_to, loop_at, loops_round, program_with,
 };
 use ped_tree::{Do, Program, Stmt};

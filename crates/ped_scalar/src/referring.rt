@@ -10,7 +10,9 @@ ghost use Rattle.ped_rules.specs.ped_loop_runs.specs.ped_tidy.specs.ped_pasting.
 ghost use Rattle.ped_scalar.specs.Scalars as Spec;
 
 use ped_base::{Name, NoMemory};
-use ped_rules::ped_steps::ped_refs::{Occurrence, RefName, occurrences};
+use ped_rules::ped_loop_runs::ped_tidy::ped_pasting::ped_bodies::ped_steps::ped_weaves::ped_laws::ped_graph::ped_refs::{
+    Occurrence, RefName, occurrences,
+};
 use ped_tree::{Do, Program, count_statements};
 use std::alloc::Global;
 

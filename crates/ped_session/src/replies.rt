@@ -4,7 +4,7 @@ ghost use Rattle.std.specs.Prelude.{◌≡◌};
 ghost use Rattle.ped_transformations.specs.ped_loops.specs.ped_scalar.specs.ped_rules.specs.ped_loop_runs.specs.ped_tidy.specs.ped_pasting.specs.ped_bodies.specs.ped_steps.specs.CodeCauses.{cause_of, IsShort};
 
 use ped_base::Bytes;
-use ped_transformations::ped_steps::Refused;
+use ped_transformations::ped_loops::ped_scalar::ped_rules::ped_loop_runs::ped_tidy::ped_pasting::ped_bodies::ped_steps::Refused;
 use ped_tree::grammar::Refusal as TextRefusal;
 use std::marker::Model;
 

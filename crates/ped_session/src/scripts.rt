@@ -84,6 +84,10 @@ fn push_bad_edit(out: &mut Bytes, refusal: TextRefusal) -> Result<(), NoMemory>
 fn push_cause(alloc: Global, out: &mut Bytes, cause: &FirstCause) -> Result<(), NoMemory>
     ensures { OnOk result (out.new ≡ out.old ++ cause_words cause.now) }
 {
-    let words = ped_transformations::ped_steps::cause_words(alloc, cause.refused())?;
+    let words =
+        ped_transformations::ped_loops::ped_scalar::ped_rules::ped_loop_runs::ped_tidy::ped_pasting::ped_bodies::ped_steps::cause_words(
+            alloc,
+            cause.refused(),
+        )?;
     out.extend_from_slice(words.as_slice())
 }

@@ -18,8 +18,10 @@ use crate::session::Session;
 use ped_base::NoMemory;
 use ped_graph::ped_verdict::Steps;
 use ped_script::Command;
-use ped_transformations::ped_flow::flow_of;
-use ped_transformations::ped_steps::{Refused, Scene};
+use ped_transformations::ped_loops::ped_scalar::ped_rules::ped_loop_runs::ped_tidy::ped_pasting::ped_bodies::ped_steps::ped_weaves::ped_laws::ped_flow::flow_of;
+use ped_transformations::ped_loops::ped_scalar::ped_rules::ped_loop_runs::ped_tidy::ped_pasting::ped_bodies::ped_steps::{
+    Refused, Scene,
+};
 use ped_transformations::{Kind, Place, every_step_is_lawful};
 use ped_valid::Opened;
 use std::alloc::Global;
@@ -56,7 +58,13 @@ impl<L: Ledger> Session<L> {
         alloc: Global,
         command: &Command,
         place: Place,
-    ) -> Result<Result<ped_transformations::ped_steps::Change, Refused>, NoMemory>
+    ) -> Result<
+        Result<
+            ped_transformations::ped_loops::ped_scalar::ped_rules::ped_loop_runs::ped_tidy::ped_pasting::ped_bodies::ped_steps::Change,
+            Refused,
+        >,
+        NoMemory,
+    >
         requires { IsPlace (step_of command.now) (Some place) }
         ensures answers { IfOk result (IsAnswerTo command.now (change_by (kind_of place.kind)) self.now) }
         ensures takeable { IfOk result (IsTakeable (change_by (kind_of place.kind)) self.now) }
@@ -83,7 +91,10 @@ impl<L: Ledger> Session<L> {
         &mut self,
         alloc: Global,
         kind: Change,
-        answer: Result<ped_transformations::ped_steps::Change, Refused>,
+        answer: Result<
+            ped_transformations::ped_loops::ped_scalar::ped_rules::ped_loop_runs::ped_tidy::ped_pasting::ped_bodies::ped_steps::Change,
+            Refused,
+        >,
         steps: &mut Steps<L>,
     ) -> Result<Reply, NoMemory>
         requires { IsTakeable kind self.old answer }

@@ -6,6 +6,5 @@ mod rejections;
 mod tidiness;
 
 pub use ped_pasting;
-pub use ped_pasting::{ped_bodies, ped_steps};
 pub use rejections::{none_rejected, stays_unrejected};
 pub use tidiness::{private_names_cleared, shown_behind_gap, stays_tidy, stays_trusted};

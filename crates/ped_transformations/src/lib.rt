@@ -6,5 +6,5 @@ mod laws;
 mod table;
 
 pub use laws::every_step_is_lawful;
-pub use ped_loops::ped_scalar::{ped_flow, ped_rules, ped_steps};
+pub use ped_loops;
 pub use table::{Kind, Place, answer, place_of};

@@ -30,15 +30,13 @@ use Rattle.ped_scalar.specs.ped_rules.specs.ped_loop_runs.specs.ped_tidy.specs.p
 use Rattle.ped_scalar.specs.ped_rules.specs.ped_loop_runs.specs.ped_tidy.specs.ped_pasting.specs.ped_bodies.specs.ped_steps.specs.ped_laws.specs.ped_eval.specs.Outcomes.{run_of, setting_of}
 use Rattle.ped_scalar.specs.ped_rules.specs.ped_loop_runs.specs.ped_tidy.specs.ped_pasting.specs.ped_bodies.specs.ped_steps.specs.ped_laws.specs.ped_eval.specs.Runs.{Run, run_all}
 use Rattle.ped_scalar.specs.ped_rules.specs.ped_loop_runs.specs.ped_tidy.specs.ped_pasting.specs.ped_bodies.specs.ped_steps.specs.ped_laws.specs.ped_eval.specs.Scopes.{Scope, Setting, turns_of}
-use Rattle.ped_scalar.specs.ped_rules.specs.ped_loop_runs.specs.ped_tidy.specs.ped_pasting.specs.ped_bodies.specs.ped_steps.specs.ped_laws.specs.ped_graph.proofs.Exchanging.{parts_of}
 use Rattle.ped_scalar.specs.ped_rules.specs.ped_loop_runs.specs.ped_tidy.specs.ped_pasting.specs.ped_bodies.specs.ped_steps.specs.ped_laws.specs.ped_store.specs.Acts.{Act, Place, Turn, iterations_of}
 use Rattle.ped_scalar.specs.ped_rules.specs.ped_loop_runs.specs.ped_tidy.specs.ped_pasting.specs.ped_bodies.specs.ped_steps.specs.ped_laws.specs.ped_store.specs.Cells.{Cell, Iteration, Private, Scalar, same_cell}
-use Rattle.ped_scalar.specs.ped_rules.specs.ped_loop_runs.specs.ped_tidy.specs.ped_pasting.specs.ped_bodies.specs.ped_steps.specs.ped_laws.specs.ped_store.specs.Races.{Access, HasNoRace, accesses, accesses_of, are_apart, race}
+use Rattle.ped_scalar.specs.ped_rules.specs.ped_loop_runs.specs.ped_tidy.specs.ped_pasting.specs.ped_bodies.specs.ped_steps.specs.ped_laws.specs.ped_store.specs.Races.{Access, HasNoRace, accesses, accesses_of, are_apart, race, is_write}
 use Rattle.ped_scalar.specs.ped_rules.specs.ped_loop_runs.specs.ped_tidy.specs.ped_pasting.specs.ped_bodies.specs.ped_steps.specs.ped_laws.specs.ped_store.specs.Stores.{Store, store_at_start}
 use Rattle.ped_scalar.specs.ped_rules.specs.ped_loop_runs.specs.ped_tidy.specs.ped_pasting.specs.ped_bodies.specs.ped_steps.specs.ped_symbols.specs.NameRefusals.{IsValid}
 use Rattle.ped_scalar.specs.ped_rules.specs.ped_loop_runs.specs.ped_tidy.specs.ped_pasting.specs.ped_bodies.specs.ped_steps.specs.ped_weaves.proofs.WeaveLaws.RaceSources.{pairs_free}
 use Rattle.ped_scalar.specs.ped_rules.specs.ped_loop_runs.specs.ped_tidy.specs.ped_pasting.specs.ped_bodies.specs.ped_steps.specs.ped_weaves.specs.Sources.{RaceSomewhere}
-use Rattle.ped_tree.specs.Grammar.Fits.{moved}
 use Rattle.ped_tree.specs.Nests.{Loop}
 use Rattle.ped_tree.specs.Numbering.{statements_count}
 use Rattle.ped_tree.specs.Tree.{ProgramTree, StmtTrees}
@@ -67,7 +65,7 @@ pub record ComesInside (t : ProgramTree) (l : ℕ) (scope : Scope) (olds : List 
   pub cell : (origin.cell ≡ b.cell) ⊎ IsOfLoop (setting_of t) scope l b.cell
 
 -- two accesses come from two old ones that race
-pub record Meets (olds : List Act) (b c : Access) : Type 0 where
+pub record RaceBefore (olds : List Act) (b c : Access) : Type 0 where
   pub one : Access
   pub other : Access
   pub one_in : IsIn one (accesses olds)
@@ -79,12 +77,28 @@ pub record Meets (olds : List Act) (b c : Access) : Type 0 where
 -- the new acts of one execution: each access by a reference comes from one of it or reads such a scalar, and two that race from two that race; and none of the old acts writes such a scalar
 pub record AreRaceFree (t : ProgramTree) (l : ℕ) (scope : Scope) (old new : List Act) : Type 0 where
   pub comes : (b : Access) → IsIn b (accesses new) → 0 < b.reference → ReadsFixed t l scope b ⊎ ComesInside t l scope old b
-  pub meets : (b c : Access) → IsIn b (accesses new) → IsIn c (accesses new) → 0 < b.reference → 0 < c.reference → b.cell ≡ c.cell → b.writes || c.writes ≡ true → are_apart b.place.turns c.place.turns ≡ true → Meets old b c
+  pub meets : (b c : Access) → IsIn b (accesses new) → IsIn c (accesses new) → 0 < b.reference → 0 < c.reference → b.cell ≡ c.cell → b.writes || c.writes ≡ true → are_apart b.place.turns c.place.turns ≡ true → RaceBefore old b c
   pub unwritten : (c : Cell) → IsOfFixed (setting_of t).constants t l c → written old c ≡ false
 
-only_second : (a b : Bool) → a || b ≡ true → a ≡ false → b ≡ true
+pub only_second : (a b : Bool) → a || b ≡ true → a ≡ false → b ≡ true
 only_second true b h e = absurd cc
 only_second false b h e = h
+
+-- what comes from inside doesn't write a scalar that the old acts don't write
+pub inside_leaves : (t : ProgramTree) (l : ℕ) (scope : Scope) (olds : List Act) (b : Access) → ComesInside t l scope olds b → ((c : Cell) → IsOfFixed (setting_of t).constants t l c → written olds c ≡ false) → IsOfFixed (setting_of t).constants t l b.cell → b.writes ≡ true → ⊥
+inside_leaves t l scope olds b k unwritten fixed write = elim k.cell [
+  | inl kept ↦ (
+      let a = accesses_from olds k.origin k.found in
+      let v = touch_of a.0 a.0.touches k.origin a.2 in
+      let cell : v.0.cell ≡ b.cell = ap (λ (x : Access). x.cell) (sym v.3) ∙ kept in
+      let writing : is_write v.0.manner ≡ true = ap (λ (x : Access). x.writes) (sym v.3) ∙ k.writes ∙ write in
+      never (written olds b.cell) (ap (written olds) (sym cell) ∙ write_there olds a.0 v.0 a.1 v.1 writing) (unwritten b.cell fixed)
+      )
+  | inr gone ↦ no_scalar fixed.0 gone.name (iterations_of (turns_of scope) ++ record { statement = l; number = gone.number } ∷ gone.rest) (sym fixed.1 ∙ gone.is)
+]
+  where
+    no_scalar : (x n : List ℕ) (path : List Iteration) → Scalar x ≡ Private n path → ⊥
+    no_scalar x n path e = absurd cc
 
 module _ (t u : ProgramTree) (valid : IsValid t) (new_valid : IsValid u) (l : ℕ) (old : StmtTrees) (some : 0 < statements_count old) (fresh : Scope → Store → List Act) (data_bytes : List ℕ) where
   abbrev p : Setting
@@ -235,13 +249,13 @@ module _ (t u : ProgramTree) (valid : IsValid t) (new_valid : IsValid u) (l : �
 
         -- an access that stands outside is apart from the iterations round the DO, and the cell has its name
         side : (c : Access) → Race b c → Outside c.place.turns → (are_apart round c.place.turns ≡ true) × (k.origin.cell ≡ b.cell)
-        side c r outside = (apart, elim k.cell [ inl same ↦ same | inr moved ↦ absurd (reached moved) ])
+        side c r outside = (apart, elim k.cell [ inl kept ↦ kept | inr gone ↦ absurd (reached gone) ])
           where
             apart : are_apart round c.place.turns ≡ true
             apart = apart_round b c r outside (k.turn ∷ k.more) k.place (λ v more e. (let same : k.turn ≡ v = cc in ap (λ (z : Turn). z.statement) (sym same)) ∙ k.statement)
 
             reached : IsOfLoop p y.scope l b.cell → ⊥
-            reached moved = front_apart round c.place.turns (record { statement = p.number l; number = moved.number } ∷ moved.rest) (subst (λ (z : Cell). At c.place.turns z) (sym r.cells ∙ moved.is) (reaches c r.other)) apart
+            reached gone = front_apart round c.place.turns (record { statement = p.number l; number = gone.number } ∷ gone.rest) (subst (λ (z : Cell). At c.place.turns z) (sym r.cells ∙ gone.is) (reaches c r.other)) apart
 
         -- one that comes from inside, and one that stays as it was
         inside_kept : (c : Access) → Race b c → IsIn c (accesses olds) → Outside c.place.turns → RaceSomewhere olds
@@ -252,19 +266,7 @@ module _ (t u : ProgramTree) (valid : IsValid t) (new_valid : IsValid u) (l : �
 
         -- what comes from inside doesn't write such a scalar
         inside_read : IsOfFixed p.constants t l b.cell → b.writes ≡ true → ⊥
-        inside_read fixed write = elim k.cell [
-          | inl same ↦ (
-              let a = accesses_from its k.origin k.found in
-              let v = touch_of a.0 a.0.touches k.origin a.2 in
-              never (written its b.cell)
-              (ap (written its) (sym (ap (λ (x : Access). x.cell) (sym v.3) ∙ same)) ∙ write_there its a.0 v.0 a.1 v.1 (ap (λ (x : Access). x.writes) (sym v.3) ∙ k.writes ∙ write))
-              (free.unwritten b.cell fixed)
-              )
-          | inr moved ↦ no_scalar fixed.0 moved.name (iterations_of round ++ record { statement = p.number l; number = moved.number } ∷ moved.rest) (sym fixed.1 ∙ moved.is)
-        ]
-          where
-            no_scalar : (x n : List ℕ) (path : List Iteration) → Scalar x ≡ Private n path → ⊥
-            no_scalar x n path e = absurd cc
+        inside_read fixed write = inside_leaves t l y.scope its b k free.unwritten fixed write
 
       -- two accesses of one execution
       one_execution : (b c : Access) → Race b c → IsIn b (accesses (fresh y.scope y.store)) → IsIn c (accesses (fresh y.scope y.store)) → 0 < b.reference → 0 < c.reference → RaceSomewhere olds

@@ -1,11 +1,12 @@
 -- Two pairs of iterations of two loops that change places: where the second comes later in the outer loop and earlier in the inner one, no dependence stands between them, and so their acts don't conflict.
-use Rattle.std.proofs.Common.{Bool, List, Option, Some, [], ap, append_assoc, false, inl, inr, length, map, negsuc, pos, refl, subst, suc, sym, true, ℕ, ℤ, ◌&&◌, ◌++◌, ◌+◌, ◌-◌, ◌==◌, ◌∙◌, ◌∷◌, ◌≡◌}
-use Rattle.std.proofs.lemmas.Bool.{and_parts, both_ways}
+use Rattle.std.proofs.Common.{Bool, List, Option, Some, [], ap, append_assoc, arith, false, inl, inr, length, map, negsuc, pos, refl, subst, suc, sym, true, ℕ, ℤ, ◌&&◌, ◌++◌, ◌+◌, ◌-◌, ◌==◌, ◌∙◌, ◌∷◌, ◌≡◌}
+use Rattle.std.proofs.lemmas.Bool.{and_parts}
 use Rattle.std.proofs.lemmas.Grind.{flat_map-append}
 use Rattle.std.specs.Bool.{MatchBool}
 use Rattle.std.specs.List.{list_any}
 use Rattle.std.specs.Prelude.{slice_get}
 use Rattle.std.specs.Str.Lines.{lines}
+use Rattle.ped_loops.proofs.OnlyBodies.{never}
 use Rattle.ped_scalar.specs.ped_rules.specs.Carried.{has_after, is_after}
 use Rattle.ped_scalar.specs.ped_rules.specs.ped_loop_runs.proofs.LoopLaws.Trips.{trips_carried}
 use Rattle.ped_scalar.specs.ped_rules.specs.ped_loop_runs.specs.Carried.{AllStoreWithin, AreTrips, IsCarriedByLoop, is_carried_by, is_in_body, is_level}
@@ -96,7 +97,8 @@ stands_after t m r w of later d h =
 -- the direction at a level of a vector, behind the loops round it
 at_level : (outer : List Turn) (a b : Direction) (rest : List Direction) → slice_get (map (λ (i : Turn). Same) outer ++ a ∷ (b ∷ rest)) (length outer + 1) ≡ Some b
 at_level [] a b rest = refl
-at_level (i ∷ outer) a b rest = deeper (map (λ (i : Turn). Same) outer ++ a ∷ (b ∷ rest)) (length outer + 1) ∙ at_level outer a b rest
+at_level (i ∷ outer) a b rest =
+    ap (slice_get (Same ∷ (map (λ (i : Turn). Same) outer ++ a ∷ (b ∷ rest)))) (let one_more : suc (length outer) + 1 ≡ suc (length outer + 1) = omega arith in one_more) ∙ deeper (map (λ (i : Turn). Same) outer ++ a ∷ (b ∷ rest)) (length outer + 1) ∙ at_level outer a b rest
   where
     deeper : (ds : List Direction) (n : ℕ) → slice_get (Same ∷ ds) (suc n) ≡ slice_get ds n
     deeper ds n = refl

@@ -25,7 +25,7 @@ use Rattle.ped_scalar.specs.ped_rules.specs.ped_loop_runs.specs.ped_tidy.specs.p
 use Rattle.ped_scalar.specs.ped_rules.specs.ped_loop_runs.specs.ped_tidy.specs.ped_pasting.specs.ped_bodies.specs.ped_steps.specs.ped_laws.specs.Runs.Replaying.{IsEntered, Replays, finish_of, goes_on}
 use Rattle.ped_scalar.specs.ped_rules.specs.ped_loop_runs.specs.ped_tidy.specs.ped_pasting.specs.ped_bodies.specs.ped_steps.specs.ped_laws.specs.Runs.Seeing.{ComesTo}
 use Rattle.ped_scalar.specs.ped_rules.specs.ped_loop_runs.specs.ped_tidy.specs.ped_pasting.specs.ped_bodies.specs.ped_steps.specs.ped_laws.specs.ped_eval.specs.Evaluation.{Seen, cell_seen}
-use Rattle.ped_scalar.specs.ped_rules.specs.ped_loop_runs.specs.ped_tidy.specs.ped_pasting.specs.ped_bodies.specs.ped_steps.specs.ped_laws.specs.ped_eval.specs.Loops.{Entered, Limits, frame, limits, value_in}
+use Rattle.ped_scalar.specs.ped_rules.specs.ped_loop_runs.specs.ped_tidy.specs.ped_pasting.specs.ped_bodies.specs.ped_steps.specs.ped_laws.specs.ped_eval.specs.Loops.{Entered, Limits, frame, increment, limits, value_in}
 use Rattle.ped_scalar.specs.ped_rules.specs.ped_loop_runs.specs.ped_tidy.specs.ped_pasting.specs.ped_bodies.specs.ped_steps.specs.ped_laws.specs.ped_eval.specs.Outcomes.{setting_of}
 use Rattle.ped_scalar.specs.ped_rules.specs.ped_loop_runs.specs.ped_tidy.specs.ped_pasting.specs.ped_bodies.specs.ped_steps.specs.ped_laws.specs.ped_eval.specs.Runs.{run}
 use Rattle.ped_scalar.specs.ped_rules.specs.ped_loop_runs.specs.ped_tidy.specs.ped_pasting.specs.ped_bodies.specs.ped_steps.specs.ped_laws.specs.ped_eval.specs.Scopes.{Scope, Setting, names_in, place_of, turns_of}
@@ -68,7 +68,7 @@ pub record AreSwapped (t u : ProgramTree) (l : ℕ) (loop : LoopOf t l) (g h k :
   pub kinds : (y : List ℕ) → kind_in u y ≡ kind_in t y
   pub variable : h.variable ≡ g.variable
   pub inner_variable : k.variable ≡ loop.head.variable
-  pub increment : increment (setting_of t).constants h ≡ increment (setting_of t).constants g
+  pub steps : increment (setting_of t).constants h ≡ increment (setting_of t).constants g
   pub differ : is_same_text loop.head.variable g.variable ≡ false
   pub serial : loop.head.parallel ≡ false
   pub inner_serial : g.parallel ≡ false
@@ -162,11 +162,11 @@ module _ (t : ProgramTree) (l : ℕ) (d g h k : Head) (body inside : StmtTrees) 
     agree = record { constants = refl; bounds = λ x w. refl; numbers = λ m less. refl }
 
     -- in each new pair the body does likewise what it did in the old one
-    record PairDone (a b : ℕ) (acts : List Act) : Type 0 where
-      likewise : AreLikewise its_names nothing own_number (turns_of (frame (old_in (same.below a + b)) (a - same.later (same.below a + b)) ∷ old_scope (same.below a + b))) (turns_of (frame (new_in a) b ∷ new_scope a)) ((old_row (same.below a + b)).trip (a - same.later (same.below a + b))) acts
-      replays : Replays (body_run (setting_of t) inside (l + 1) (new_scope a) (frame (new_in a) b)) acts goes_on
+    pub record PairDone (a b : ℕ) (acts : List Act) : Type 0 where
+      pub likewise : AreLikewise its_names nothing own_number (turns_of (frame (old_in (same.below a + b)) (a - same.later (same.below a + b)) ∷ old_scope (same.below a + b))) (turns_of (frame (new_in a) b ∷ new_scope a)) ((old_row (same.below a + b)).trip (a - same.later (same.below a + b))) acts
+      pub replays : Replays (body_run (setting_of t) inside (l + 1) (new_scope a) (frame (new_in a) b)) acts goes_on
 
-    each_pair : (a b : ℕ) → 1 ≤ a → a ≤ z.count → 1 ≤ b → b ≤ (new_in a).count → (acts : List Act) × PairDone a b acts
+    pub each_pair : (a b : ℕ) → 1 ≤ a → a ≤ z.count → 1 ≤ b → b ≤ (new_in a).count → (acts : List Act) × PairDone a b acts
     each_pair a b from to low high = (done.fresh, record { likewise = done.likewise; replays = done.replays })
       where
         i : ℕ
@@ -197,16 +197,16 @@ module _ (t : ProgramTree) (l : ℕ) (d g h k : Head) (body inside : StmtTrees) 
             subst (λ (acts : List Act). DoesLikewise its_names nothing own_number (turns_of (frame (old_in i) j ∷ old_scope i)) (turns_of (frame (new_in a) b ∷ new_scope a)) acts goes_on (body_run (setting_of t) inside (l + 1) (new_scope a) (frame (new_in a) b)))
             (sym its.1.is) (goes_likewise its.0 its.1.goes)
 
-    record RowDone (a : ℕ) (f : ℕ → List Act) : Type 0 where
-      each : (b : ℕ) → 1 ≤ b → b ≤ (new_in a).count → PairDone a b (f b)
+    pub record RowDone (a : ℕ) (f : ℕ → List Act) : Type 0 where
+      pub each : (b : ℕ) → 1 ≤ b → b ≤ (new_in a).count → PairDone a b (f b)
 
-    each_new_row : (a : ℕ) → 1 ≤ a → a ≤ z.count → (f : ℕ → List Act) × RowDone a f
+    pub each_new_row : (a : ℕ) → 1 ≤ a → a ≤ z.count → (f : ℕ → List Act) × RowDone a f
     each_new_row a from to = (
       chosen [] (new_in a).count (PairDone a) (λ b low high. each_pair a b from to low high),
       record { each = chosen_are [] (new_in a).count (PairDone a) (λ b low high. each_pair a b from to low high) },
     )
 
-    abbrev nothing_there : ℕ → List Act
+    abbrev pub nothing_there : ℕ → List Act
     nothing_there b = []
 
     abbrev pub new_trip : ℕ → ℕ → List Act

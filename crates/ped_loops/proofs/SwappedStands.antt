@@ -1,18 +1,18 @@
 -- In each execution two loops in each other's place may stand for the old ones.
 use Rattle.std.proofs.Common.{Bool, List, Some, [], ap, append-nil, append_assoc, arith, false, inl, inr, not, pos, refl, subst, sym, true, ℕ, ℤ, ◌&&◌, ◌*ℤ◌, ◌++◌, ◌+ℤ◌, ◌+◌, ◌-◌, ◌<◌, ◌||◌, ◌∙◌, ◌∷◌, ◌≡◌, ◌≤◌, ◌⊎◌}
-use Rattle.std.proofs.lemmas.Bool.{and_parts, both_ways}
+use Rattle.std.proofs.lemmas.Bool.{and_parts}
 use Rattle.std.specs.List.{list_all}
 use Rattle.std.specs.Str.Lines.{lines}
 use Rattle.ped_base.specs.Lists.{is_among, is_same_text}
 use Rattle.ped_loops.proofs.LoopPairs.{Row, pairs_acts, place_at, rows_are, seen_at, store_at}
 use Rattle.ped_loops.proofs.LoopPlaces.{inner_there, loops_of_program}
-use Rattle.ped_loops.proofs.NestKnots.{IsControlOf, IsPair, control_of, nest_acts, nest_blocks, nest_knots, pair_of}
-use Rattle.ped_loops.proofs.OnlyBodies.{only_changed, only_counted, only_tells}
+use Rattle.ped_loops.proofs.NestKnots.{IsControlOf, IsPair, control_of, inner_end, inner_entry, nest_acts, nest_blocks, nest_knots, outer_end, outer_entry, pair_of}
+use Rattle.ped_loops.proofs.OnlyBodies.{never, only_changed, only_counted, only_tells, pair}
 use Rattle.ped_loops.proofs.PairOrders.{new_blocks, old_blocks, pairs_ordered}
 use Rattle.ped_loops.proofs.SwappedCells.{PairReached, swapped_apart, swapped_idle, swapped_inside, swapped_or_stays}
 use Rattle.ped_loops.proofs.SwappedConflicts.{crossing_apart, stands_after}
 use Rattle.ped_loops.proofs.SwappedLoops.{AreSwapped, HasSwappedTrips, its_names, new_in, new_likewise, new_place, new_replays, new_scope, new_seen, new_trip, new_whole, old_frames, old_in, old_scope, old_trip}
-use Rattle.ped_loops.proofs.SwappedWeave.{AreParts, IsPart, end_reads, end_within, entry_reads, entry_within, parts_around, parts_inside, trip_in_loop, trips_in_loop}
+use Rattle.ped_loops.proofs.SwappedWeave.{AreParts, IsPart, end_reads, end_within, entry_reads, entry_within, part_inside, parts_around, parts_inside, trip_in_loop, trips_in_loop}
 use Rattle.ped_scalar.specs.ped_rules.proofs.RightSteps.{right_step}
 use Rattle.ped_scalar.specs.ped_rules.specs.OnlyLoops.{change_only, only_loop}
 use Rattle.ped_scalar.specs.ped_rules.specs.ped_loop_runs.proofs.LoopLaws.OneForOneCells.{IsOfLoop, all_unread, among_of_scalar, cell_among, likewise_idle, touched_in}
@@ -21,21 +21,16 @@ use Rattle.ped_scalar.specs.ped_rules.specs.ped_loop_runs.proofs.LoopLaws.OneFor
 use Rattle.ped_scalar.specs.ped_rules.specs.ped_loop_runs.proofs.LoopLaws.SomeEdges.{some_edges}
 use Rattle.ped_scalar.specs.ped_rules.specs.ped_loop_runs.specs.Bounds.{IsOfFixed}
 use Rattle.ped_scalar.specs.ped_rules.specs.ped_loop_runs.specs.Carried.{AllStoreWithin, AreTrips}
-use Rattle.ped_scalar.specs.ped_rules.specs.ped_loop_runs.specs.ped_tidy.specs.ped_pasting.specs.ped_bodies.proofs.BodyLaws.LikewiseActs.{likewise_stripped}
-use Rattle.ped_scalar.specs.ped_rules.specs.ped_loop_runs.specs.ped_tidy.specs.ped_pasting.specs.ped_bodies.proofs.BodyLaws.MovedCells.{no_copies, path_append}
-use Rattle.ped_scalar.specs.ped_rules.specs.ped_loop_runs.specs.ped_tidy.specs.ped_pasting.specs.ped_bodies.specs.Likewise.{AreLikewise}
-use Rattle.ped_scalar.specs.ped_rules.specs.ped_loop_runs.specs.ped_tidy.specs.ped_pasting.specs.ped_bodies.specs.Moving.{is_cell_among, own_number}
-use Rattle.ped_scalar.specs.ped_rules.specs.ped_loop_runs.specs.ped_tidy.specs.ped_pasting.specs.ped_bodies.specs.Trips.{IsTrip, bounds_seen, loop_acts}
 use Rattle.ped_scalar.specs.ped_rules.specs.ped_loop_runs.specs.ped_tidy.specs.ped_pasting.proofs.PastingLaws.LeftCopies.{IsOwn, body_reaches, run_reaches}
 use Rattle.ped_scalar.specs.ped_rules.specs.ped_loop_runs.specs.ped_tidy.specs.ped_pasting.proofs.PastingLaws.TheirCopies.{theirs, theirs_unneeded}
 use Rattle.ped_scalar.specs.ped_rules.specs.ped_loop_runs.specs.ped_tidy.specs.ped_pasting.proofs.PastingLaws.ToldPlaces.{no_turns}
 use Rattle.ped_scalar.specs.ped_rules.specs.ped_loop_runs.specs.ped_tidy.specs.ped_pasting.specs.Copies.{IsTheirs}
 use Rattle.ped_scalar.specs.ped_rules.specs.ped_loop_runs.specs.ped_tidy.specs.ped_pasting.specs.Executions.{IsCopyInside, IsExecuted, as_done}
-use Rattle.ped_scalar.specs.ped_rules.specs.ped_loop_runs.specs.ped_tidy.specs.ped_pasting.specs.ped_bodies.specs.ped_steps.specs.ped_weaves.proofs.WeaveLaws.AgreedApart.{agreed_before_or_written, needed_agreed}
-use Rattle.ped_scalar.specs.ped_rules.specs.ped_loop_runs.specs.ped_tidy.specs.ped_pasting.specs.ped_bodies.specs.ped_steps.specs.ped_weaves.proofs.WeaveLaws.CountedActs.{counted_needed, counted_touched, counted_writes}
-use Rattle.ped_scalar.specs.ped_rules.specs.ped_loop_runs.specs.ped_tidy.specs.ped_pasting.specs.ped_bodies.specs.ped_steps.specs.ped_weaves.proofs.WeaveLaws.Woven.{woven_stands}
-use Rattle.ped_scalar.specs.ped_rules.specs.ped_loop_runs.specs.ped_tidy.specs.ped_pasting.specs.ped_bodies.specs.ped_steps.specs.ped_weaves.specs.Puttings.{Suit}
-use Rattle.ped_scalar.specs.ped_rules.specs.ped_loop_runs.specs.ped_tidy.specs.ped_pasting.specs.ped_bodies.specs.ped_steps.specs.ped_weaves.specs.Weaves.{IsSteady, IsWoven, Knot, Weave, block, blocks_in, control, new_list, old_list}
+use Rattle.ped_scalar.specs.ped_rules.specs.ped_loop_runs.specs.ped_tidy.specs.ped_pasting.specs.ped_bodies.proofs.BodyLaws.LikewiseActs.{likewise_stripped}
+use Rattle.ped_scalar.specs.ped_rules.specs.ped_loop_runs.specs.ped_tidy.specs.ped_pasting.specs.ped_bodies.proofs.BodyLaws.MovedCells.{no_copies, path_append}
+use Rattle.ped_scalar.specs.ped_rules.specs.ped_loop_runs.specs.ped_tidy.specs.ped_pasting.specs.ped_bodies.specs.Likewise.{AreLikewise}
+use Rattle.ped_scalar.specs.ped_rules.specs.ped_loop_runs.specs.ped_tidy.specs.ped_pasting.specs.ped_bodies.specs.Moving.{is_cell_among, own_number}
+use Rattle.ped_scalar.specs.ped_rules.specs.ped_loop_runs.specs.ped_tidy.specs.ped_pasting.specs.ped_bodies.specs.Trips.{IsTrip, bounds_seen, loop_acts}
 use Rattle.ped_scalar.specs.ped_rules.specs.ped_loop_runs.specs.ped_tidy.specs.ped_pasting.specs.ped_bodies.specs.ped_steps.proofs.RunLaws.ExpandedRacesOrigins.{write_in}
 use Rattle.ped_scalar.specs.ped_rules.specs.ped_loop_runs.specs.ped_tidy.specs.ped_pasting.specs.ped_bodies.specs.ped_steps.proofs.RunLaws.PastedStores.{execution_left}
 use Rattle.ped_scalar.specs.ped_rules.specs.ped_loop_runs.specs.ped_tidy.specs.ped_pasting.specs.ped_bodies.specs.ped_steps.proofs.RunLaws.PrivatisedPrograms.{shown_scalar}
@@ -75,13 +70,18 @@ use Rattle.ped_scalar.specs.ped_rules.specs.ped_loop_runs.specs.ped_tidy.specs.p
 use Rattle.ped_scalar.specs.ped_rules.specs.ped_loop_runs.specs.ped_tidy.specs.ped_pasting.specs.ped_bodies.specs.ped_steps.specs.ped_laws.specs.ped_eval.specs.Outcomes.{Ends, run_of, setting_of}
 use Rattle.ped_scalar.specs.ped_rules.specs.ped_loop_runs.specs.ped_tidy.specs.ped_pasting.specs.ped_bodies.specs.ped_steps.specs.ped_laws.specs.ped_eval.specs.Runs.{Run, run, run_all}
 use Rattle.ped_scalar.specs.ped_rules.specs.ped_loop_runs.specs.ped_tidy.specs.ped_pasting.specs.ped_bodies.specs.ped_steps.specs.ped_laws.specs.ped_eval.specs.Scopes.{Scope, Setting, cell_of, names_in, place_of, turns_of}
-use Rattle.ped_scalar.specs.ped_rules.specs.ped_loop_runs.specs.ped_tidy.specs.ped_pasting.specs.ped_bodies.specs.ped_steps.specs.ped_laws.specs.ped_graph.proofs.Matching.{same_number}
 use Rattle.ped_scalar.specs.ped_rules.specs.ped_loop_runs.specs.ped_tidy.specs.ped_pasting.specs.ped_bodies.specs.ped_steps.specs.ped_laws.specs.ped_store.specs.Acts.{Act, Place, Touch, Turn, iterations_of, reads}
 use Rattle.ped_scalar.specs.ped_rules.specs.ped_loop_runs.specs.ped_tidy.specs.ped_pasting.specs.ped_bodies.specs.ped_steps.specs.ped_laws.specs.ped_store.specs.Cells.{Cell, Element, In, Iteration, Out, Private, Scalar}
 use Rattle.ped_scalar.specs.ped_rules.specs.ped_loop_runs.specs.ped_tidy.specs.ped_pasting.specs.ped_bodies.specs.ped_steps.specs.ped_laws.specs.ped_store.specs.Races.{is_write}
 use Rattle.ped_scalar.specs.ped_rules.specs.ped_loop_runs.specs.ped_tidy.specs.ped_pasting.specs.ped_bodies.specs.ped_steps.specs.ped_laws.specs.ped_store.specs.Stores.{Content, Store, store_at_start}
 use Rattle.ped_scalar.specs.ped_rules.specs.ped_loop_runs.specs.ped_tidy.specs.ped_pasting.specs.ped_bodies.specs.ped_steps.specs.ped_symbols.specs.Kinds.{kind_in}
 use Rattle.ped_scalar.specs.ped_rules.specs.ped_loop_runs.specs.ped_tidy.specs.ped_pasting.specs.ped_bodies.specs.ped_steps.specs.ped_symbols.specs.RightUses.RightUses.{is_scalar}
+use Rattle.ped_scalar.specs.ped_rules.specs.ped_loop_runs.specs.ped_tidy.specs.ped_pasting.specs.ped_bodies.specs.ped_steps.specs.ped_weaves.proofs.WeaveLaws.AgreedApart.{agreed_before_or_written, needed_agreed}
+use Rattle.ped_scalar.specs.ped_rules.specs.ped_loop_runs.specs.ped_tidy.specs.ped_pasting.specs.ped_bodies.specs.ped_steps.specs.ped_weaves.proofs.WeaveLaws.CountedActs.{counted_needed, counted_touched, counted_writes}
+use Rattle.ped_scalar.specs.ped_rules.specs.ped_loop_runs.specs.ped_tidy.specs.ped_pasting.specs.ped_bodies.specs.ped_steps.specs.ped_weaves.proofs.WeaveLaws.Woven.{woven_stands}
+use Rattle.ped_scalar.specs.ped_rules.specs.ped_loop_runs.specs.ped_tidy.specs.ped_pasting.specs.ped_bodies.specs.ped_steps.specs.ped_weaves.specs.Apart.{agreed}
+use Rattle.ped_scalar.specs.ped_rules.specs.ped_loop_runs.specs.ped_tidy.specs.ped_pasting.specs.ped_bodies.specs.ped_steps.specs.ped_weaves.specs.Puttings.{Suit}
+use Rattle.ped_scalar.specs.ped_rules.specs.ped_loop_runs.specs.ped_tidy.specs.ped_pasting.specs.ped_bodies.specs.ped_steps.specs.ped_weaves.specs.Weaves.{IsSteady, IsWoven, Knot, Weave, block, blocks_in, control, counted, new_list, old_list}
 use Rattle.ped_tree.specs.Grammar.Fits.{moved}
 use Rattle.ped_tree.specs.Grammar.Words.{is_name}
 use Rattle.ped_tree.specs.NamesIn.{all_loop_variables, loop_variables}
@@ -128,11 +128,11 @@ agreed_wanted apart shown acts c e h = ap (λ (b : Bool). not b || wants shown a
 
 touches_in : (d : Cell → Bool) (ts : List Touch) (v : Touch) → IsIn v (touches_without d ts) → IsIn v ts
 touches_in d [] v i = i
-touches_in d (t ∷ ts) v i = go (is_write t.manner && d t.cell) refl i
+touches_in d (t ∷ ts) v i = go (is_write t.manner && d t.cell) refl i (touches_in d ts v)
   where
-    go : (b : Bool) → is_write t.manner && d t.cell ≡ b → IsIn v (touches_without d (t ∷ ts)) → IsIn v (t ∷ ts)
-    go true e k = inr (touches_in d ts v (subst (λ (us : List Touch). IsIn v us) (dropped_first d t ts e) k))
-    go false e k = elim (subst (λ (us : List Touch). IsIn v us) (kept_first d t ts e) k) [ inl q ↦ inl q | inr m ↦ inr (touches_in d ts v m) ]
+    go : (b : Bool) → is_write t.manner && d t.cell ≡ b → IsIn v (touches_without d (t ∷ ts)) → (IsIn v (touches_without d ts) → IsIn v ts) → (v ≡ t) ⊎ IsIn v ts
+    go true e k more = inr (more (subst (λ (us : List Touch). IsIn v us) (dropped_first d t ts e) k))
+    go false e k more = elim (subst (λ (us : List Touch). IsIn v us) (kept_first d t ts e) k) [ inl q ↦ inl q | inr m ↦ inr (more m) ]
 
 without_from : (d : Cell → Bool) (acts : List Act) (a : Act) → IsIn a (without d acts) → (b : Act) × IsIn b acts × (a ≡ act_without d b)
 without_from d [] a i = absurd i
@@ -208,89 +208,89 @@ module _ (making : MakingLaw) (sequence : SequenceLaw) (t u : ProgramTree) (l : 
   body_named : (w : List ℕ) → is_among w (all_loop_variables inside) ≡ true → is_among w variables ≡ true
   body_named w i = deeper w (or_right (is_same_text w g.variable) (is_among w (all_loop_variables inside)) i)
 
-  outer_new_named : is_among h.variable variables ≡ true
+  pub outer_new_named : is_among h.variable variables ≡ true
   outer_new_named = ap (λ (v : List ℕ). is_among v variables) x.variable ∙ inner_named
 
-  inner_new_named : is_among k.variable variables ≡ true
+  pub inner_new_named : is_among k.variable variables ≡ true
   inner_new_named = ap (λ (v : List ℕ). is_among v variables) x.inner_variable ∙ own_variable
 
   module _ (scope : Scope) (front behind : List Act) (s : Store) (executed : IsExecuted p t start l size scope front (run p old_loop l scope s).acts behind s) (goes : finish_of (run p old_loop l scope s).ending ≡ goes_on) where
-    same : HasSwappedTrips t l d g h k body inside only scope s goes
+    abbrev pub same : HasSwappedTrips t l d g h k body inside only scope s goes
     same = x.trips data_bytes scope front behind s executed goes
 
-    abbrev e0 : Entered
+    abbrev pub e0 : Entered
     e0 = loops.e t l d g h k body inside only scope s goes same
 
-    abbrev z0 : Entered
+    abbrev pub z0 : Entered
     z0 = loops.z t l d g h k body inside only scope s goes same
 
-    abbrev in_old : ℕ → Entered
+    abbrev pub in_old : ℕ → Entered
     in_old i = old_in t l d g h k body inside only scope s goes same i
 
-    abbrev in_new : ℕ → Entered
+    abbrev pub in_new : ℕ → Entered
     in_new a = new_in t l d g h k body inside only scope s goes same a
 
-    abbrev scope_old : ℕ → Scope
+    abbrev pub scope_old : ℕ → Scope
     scope_old i = old_scope t l d g h k body inside only scope s goes same i
 
-    abbrev scope_new : ℕ → Scope
+    abbrev pub scope_new : ℕ → Scope
     scope_new a = new_scope t l d g h k body inside only scope s goes same a
 
-    abbrev row_old : ℕ → Row
+    abbrev pub row_old : ℕ → Row
     row_old i = loops.old_row t l d g h k body inside only scope s goes same i
 
-    abbrev later : ℕ → ℕ
+    abbrev pub later : ℕ → ℕ
     later = same.later
 
-    abbrev below : ℕ → ℕ
+    abbrev pub below : ℕ → ℕ
     below = same.below
 
-    abbrev names : Cell → Cell
+    abbrev pub names : Cell → Cell
     names = its_names t l d g h k body inside only scope s goes same
 
-    abbrev fresh_trip : ℕ → ℕ → List Act
+    abbrev pub fresh_trip : ℕ → ℕ → List Act
     fresh_trip = new_trip t l d g h k body inside only scope s goes same x.variable x.inner_variable x.differ x.serial x.inner_serial x.new_serial x.new_inner_serial x.private x.inner_private x.new_private x.new_inner_private
 
-    abbrev seen_old : ℕ → List Seen
+    abbrev pub seen_old : ℕ → List Seen
     seen_old i = seen_at p d g body inside only l scope s goes i
 
-    abbrev place_old : ℕ → Place
+    abbrev pub place_old : ℕ → Place
     place_old i = place_at p d g body inside only l scope s goes i
 
-    abbrev seen_new : ℕ → List Seen
+    abbrev pub seen_new : ℕ → List Seen
     seen_new a = new_seen t l d g h k body inside only scope s goes same a
 
-    abbrev place_new : ℕ → Place
+    abbrev pub place_new : ℕ → Place
     place_new a = new_place t l d g h k body inside only scope s goes same a
 
-    abbrev at : Place
+    abbrev pub at : Place
     at = place_of p l scope
 
-    abbrev old_block : ℕ → ℕ → List Act
+    abbrev pub old_block : ℕ → ℕ → List Act
     old_block i a = (row_old i).trip (a - later i)
 
-    abbrev new_block : ℕ → ℕ → List Act
+    abbrev pub new_block : ℕ → ℕ → List Act
     new_block i a = fresh_trip a (i - below a)
 
-    abbrev first_number : ℕ → ℕ → ℕ
+    abbrev pub first_number : ℕ → ℕ → ℕ
     first_number i j = i
 
-    abbrev second_number : ℕ → ℕ → ℕ
+    abbrev pub second_number : ℕ → ℕ → ℕ
     second_number i j = later i + j
 
-    abbrev new_first : ℕ → ℕ → ℕ
+    abbrev pub new_first : ℕ → ℕ → ℕ
     new_first a b = below a + b
 
-    abbrev new_second : ℕ → ℕ → ℕ
+    abbrev pub new_second : ℕ → ℕ → ℕ
     new_second a b = a
 
-    abbrev old_knots : List Knot
+    abbrev pub old_knots : List Knot
     old_knots = nest_knots (bounds_seen p d scope s) e0 scope at seen_old in_old scope_old place_old first_number second_number
 
-    abbrev new_knots : List Knot
+    abbrev pub new_knots : List Knot
     new_knots = nest_knots (bounds_seen p h scope s) z0 scope at seen_new in_new scope_new place_new new_first new_second
 
-    abbrev w : Weave
+    abbrev pub w : Weave
     w = record { names = names; idle = idle; old = old_knots; new = new_knots; acts = old_block; others = new_block }
 
     -- the lists are woven so
@@ -373,7 +373,7 @@ module _ (making : MakingLaw) (sequence : SequenceLaw) (t u : ProgramTree) (l : 
         (ap (λ (ys : List Act). written ys c) part.is ∙ written_append part.before (acts ++ part.behind) c ∙ or_right (written part.before c) (written (acts ++ part.behind) c) (written_append acts part.behind c ∙ or_left (written acts c) (written part.behind c) m))
         none)
 
-    fixed_unwritten : (c : Cell) → IsOfFixed p.constants t l c → written (run p old_loop l scope s).acts c ≡ false
+    pub fixed_unwritten : (c : Cell) → IsOfFixed p.constants t l c → written (run p old_loop l scope s).acts c ≡ false
     fixed_unwritten c f = by scope executed.place executed.outer
       where
         by : (place : Scope) → IsPlaceOf p t l place → IsInOutermost p t start l place (run p old_loop l scope s).acts s → written (run p old_loop l scope s).acts c ≡ false
@@ -461,6 +461,18 @@ module _ (making : MakingLaw) (sequence : SequenceLaw) (t u : ProgramTree) (l : 
           r.1 ∙ append_assoc (turns_of scope ++ (frame e0 i).turn ∷ []) ((frame (in_old i) j).turn ∷ []) r.0 ∙ append_assoc (turns_of scope) ((frame e0 i).turn ∷ []) ((frame (in_old i) j).turn ∷ r.0),
         )
 
+    -- the acts of a pair stand among those of the row, and of all
+    one_trip : (q f : ℕ) → 1 ≤ q → q ≤ e0.count → 1 ≤ f → f ≤ (in_old q).count → IsPart ((pairs.outer p d g body inside only l scope s goes).trip q) ((row_old q).trip f)
+    one_trip q f begin end first last =
+        subst (λ (acts : List Act). IsPart acts ((row_old q).trip f)) (sym (row_acts q begin end)) (trip_in_loop (seen_old q) (in_old q) (scope_old q) (place_old q) (row_old q).trip f first last)
+
+    pub pair_part : (q f : ℕ) → 1 ≤ q → q ≤ e0.count → 1 ≤ f → f ≤ (in_old q).count → IsPart (run p old_loop l scope s).acts ((row_old q).trip f)
+    pair_part q f begin end first last =
+        part_inside (run p old_loop l scope s).acts ((pairs.outer p d g body inside only l scope s goes).trip q) ((row_old q).trip f)
+        (subst (λ (acts : List Act). IsPart acts ((pairs.outer p d g body inside only l scope s goes).trip q)) (sym (pairs.outer p d g body inside only l scope s goes).acts)
+        (trip_in_loop (bounds_seen p d scope s) e0 scope at (pairs.outer p d g body inside only l scope s goes).trip q begin end))
+        (one_trip q f begin end first last)
+
     two_pairs : (i j m n : ℕ) → 1 ≤ i → i < m → m ≤ e0.count → 1 ≤ j → j ≤ (in_old i).count → 1 ≤ n → n ≤ (in_old m).count → AreTrips t data_bytes l ((row_old i).trip j) ((row_old m).trip n)
     two_pairs i j m n from less to low high its_low its_high = record {
       front = parts.before;
@@ -482,10 +494,6 @@ module _ (making : MakingLaw) (sequence : SequenceLaw) (t u : ProgramTree) (l : 
             subst (λ (acts : List Act). AreParts acts ((pairs.outer p d g body inside only l scope s goes).trip i) ((pairs.outer p d g body inside only l scope s goes).trip m)) (sym (pairs.outer p d g body inside only l scope s goes).acts)
             (trips_in_loop (bounds_seen p d scope s) e0 scope at (pairs.outer p d g body inside only l scope s goes).trip i m from less to)
 
-        one_trip : (q f : ℕ) → 1 ≤ q → q ≤ e0.count → 1 ≤ f → f ≤ (in_old q).count → IsPart ((pairs.outer p d g body inside only l scope s goes).trip q) ((row_old q).trip f)
-        one_trip q f begin end first last =
-            subst (λ (acts : List Act). IsPart acts ((row_old q).trip f)) (sym (row_acts q begin end)) (trip_in_loop (seen_old q) (in_old q) (scope_old q) (place_old q) (row_old q).trip f first last)
-
         parts : AreParts (run_of t data_bytes).acts ((row_old i).trip j) ((row_old m).trip n)
         parts =
             parts_around (run_of t data_bytes).acts (run p old_loop l scope s).acts ((row_old i).trip j) ((row_old m).trip n) (record { before = front; behind = behind; is = executed.whole })
@@ -493,10 +501,10 @@ module _ (making : MakingLaw) (sequence : SequenceLaw) (t u : ProgramTree) (l : 
             (one_trip i j from (omega (arith, less, to)) low high) (one_trip m n (omega (arith, from, less)) to its_low its_high))
 
     -- blocks that conflict keep their order
-    its_inner : LoopOf t (l + 1)
+    abbrev its_inner : LoopOf t (l + 1)
     its_inner = record { head = g; body = inside; is = inner_there t l d body g inside loop.is only }
 
-    turn_at : ℕ → ℤ → Turn
+    abbrev turn_at : ℕ → ℤ → Turn
     turn_at n v = record { statement = l + 1; parallel = g.parallel; number = n; value = v }
 
     later_turn : (i j m n : ℕ) → 1 ≤ i → i ≤ e0.count → 1 ≤ j → j ≤ (in_old i).count → 1 ≤ m → m ≤ e0.count → 1 ≤ n → n ≤ (in_old m).count → later m + n < later i + j → AreSuccessive t (turn_at (later m + n) (value_in (in_old m) n)) (turn_at (later i + j) (value_in (in_old i) j))
@@ -508,8 +516,8 @@ module _ (making : MakingLaw) (sequence : SequenceLaw) (t u : ProgramTree) (l : 
       body = inside;
       stands = its_inner.is;
       initial = z0.first;
-      at_first = sym (same.values m n its_from its_to its_low its_high) ∙ ap (λ (step : ℤ). z0.first +ℤ pos (later m + n - 1) *ℤ step) x.increment;
-      at_second = sym (same.values i j from to low high) ∙ ap (λ (step : ℤ). z0.first +ℤ pos (later i + j - 1) *ℤ step) x.increment;
+      at_first = sym (same.values m n its_from its_to its_low its_high) ∙ ap (λ (step : ℤ). z0.first +ℤ pos (later m + n - 1) *ℤ step) x.steps;
+      at_second = sym (same.values i j from to low high) ∙ ap (λ (step : ℤ). z0.first +ℤ pos (later i + j - 1) *ℤ step) x.steps;
     }
 
     of_inner : (n : ℕ) (v : ℤ) → 1 ≤ n → IsOf t (record { number = l + 1; head = g }) (turn_at n v)
@@ -525,6 +533,7 @@ module _ (making : MakingLaw) (sequence : SequenceLaw) (t u : ProgramTree) (l : 
     }
 
     apart_pairs : (i j m n : ℕ) → 1 ≤ i → i ≤ e0.count → 1 ≤ j → j ≤ (in_old i).count → 1 ≤ m → m ≤ e0.count → 1 ≤ n → n ≤ (in_old m).count → i < m → later m + n < later i + j → blocks_conflict_outside idle (old_block i (later i + j)) (old_block m (later m + n)) ≡ false
+    unfolding two_pairs
     apart_pairs i j m n from to low high its_from its_to its_low its_high less crossing =
         (λ q. blocks_conflict_outside idle (of_pair i j q) (of_pair m n q))
         ∙ false_unless (blocks_conflict_outside idle ((row_old i).trip j) ((row_old m).trip n)) (λ clash.
@@ -566,7 +575,7 @@ module _ (making : MakingLaw) (sequence : SequenceLaw) (t u : ProgramTree) (l : 
         uncopied_cell m y = no_copies (frame e0 m ∷ []) scope y ((old_frames t l d g h k body inside only scope s goes same x.variable x.inner_variable x.differ x.serial x.inner_serial x.new_serial x.new_inner_serial x.private x.inner_private x.new_private x.new_inner_private m 1).1)
     outer_own i c (inr r) = inr r
 
-    reached_trip : (i j : ℕ) → 1 ≤ i → i ≤ e0.count → 1 ≤ j → j ≤ (in_old i).count → (a : Act) → IsIn a ((row_old i).trip j) → (v : Touch) → IsIn v a.touches → Reach v.cell
+    pub reached_trip : (i j : ℕ) → 1 ≤ i → i ≤ e0.count → 1 ≤ j → j ≤ (in_old i).count → (a : Act) → IsIn a ((row_old i).trip j) → (v : Touch) → IsIn v a.touches → Reach v.cell
     reached_trip i j from to low high a m v n =
         let it = there i j from to low high in
         elim (body_reaches p (l + 1) g inside (seen_old i) (row_old i).bounds (scope_old i) j it.0 a (subst (IsIn a) it.1.is m) v n) [

@@ -1,6 +1,7 @@
 -- The two loops as lists that are woven of the bodies in their pairs of iterations: by rows before the step, and by columns behind it.
 use Rattle.std.proofs.Common.{Bool, List, [], ap, append-nil, append_assoc, arith, false, if◌then◌else◌, inl, inr, refl, subst, suc, sym, true, ℕ, ◌++◌, ◌-◌, ◌<◌, ◌==◌, ◌∙◌, ◌∷◌, ◌≡◌, ◌≤◌}
 use Rattle.ped_base.specs.Lists.{is_among}
+use Rattle.ped_scalar.specs.ped_rules.specs.ped_loop_runs.proofs.LoopLaws.LoopParts.{numbered_reads}
 use Rattle.ped_scalar.specs.ped_rules.specs.ped_loop_runs.proofs.LoopLaws.OneForOneCells.{cell_among}
 use Rattle.ped_scalar.specs.ped_rules.specs.ped_loop_runs.proofs.LoopLaws.OneForOneKnots.{one_at, two_at}
 use Rattle.ped_scalar.specs.ped_rules.specs.ped_loop_runs.specs.ped_tidy.specs.ped_pasting.specs.ped_bodies.proofs.BodyLaws.TripLists.{end_in_order}
@@ -160,3 +161,29 @@ module _ (variables : List (List ℕ)) where
     end_reads at j v i m =
         none_reads (e.count - j) v
         (subst (IsIn v) (append-nil (exit_when_none (e.count - j) e scope)) (subst (λ (acts : List Act). IsIn v (touches_of acts)) (end_in_order e scope at j (e.count - j) serial refl) i)) m
+
+    -- what leaves the loop is written by no reference
+    exit_unreferred : (v : Touch) → IsIn v (exit_touches e scope) → v.reference ≡ 0
+    exit_unreferred v (inl q) = ap (λ (w : Touch). w.reference) q
+    exit_unreferred v (inr i) = absurd (none (subst (λ (xs : List (List ℕ)). IsIn v (undefined_by scope e.behind_bounds xs ++ undefined_all scope e.inner)) private i))
+      where
+        none : IsIn v (undefined_all scope e.inner) → ⊥
+        none j = subst (λ (xs : List (List ℕ)). IsIn v (undefined_all scope xs)) inner j
+
+    none_unreferred : (n : ℕ) (v : Touch) → IsIn v (exit_when_none n e scope) → v.reference ≡ 0
+    none_unreferred n v i = go (n == 0) i
+      where
+        go : (b : Bool) → IsIn v (if b then exit_touches e scope else []) → v.reference ≡ 0
+        go true k = exit_unreferred v k
+        go false k = absurd k
+
+    pub entry_referred : (seen : List Seen) (at : Place) (v : Touch) → IsIn v (loop_entry seen e scope at).touches → 0 < v.reference → v.manner ≡ reads
+    entry_referred seen at v i some = elim (in_parts v (numbered 1 seen) (exit_when_none e.count e scope) i) [
+      | inl k ↦ numbered_reads 1 seen v k some
+      | inr k ↦ (let none = none_unreferred e.count v k in absurd (omega (arith, none, some)))
+    ]
+
+    pub end_unreferred : (at : Place) (j : ℕ) (v : Touch) → IsIn v (touches_of (trip_end e scope at j)) → v.reference ≡ 0
+    end_unreferred at j v i =
+        none_unreferred (e.count - j) v
+        (subst (IsIn v) (append-nil (exit_when_none (e.count - j) e scope)) (subst (λ (acts : List Act). IsIn v (touches_of acts)) (end_in_order e scope at j (e.count - j) serial refl) i))

@@ -28,4 +28,9 @@ mod SwappedLoops
 mod SwappedWeave
 mod SwappedConflicts
 mod SwappedStands
+mod FixedWrites
+mod ApartTurns
+mod ExchangedRaces
+mod SwappedAccesses
+mod SwappedKeeps
 mod InterchangeRules

@@ -1,6 +1,6 @@
 -- The rules that stand against `interchange`, one behind the other; and what is so where none stands.
 use Rattle.std.proofs.Common.{Bool, List, arith, false, inl, inr, refl, sym, true, ℕ, ◌+◌, ◌∙◌, ◌≡◌, ◌≤◌}
-use Rattle.std.proofs.lemmas.Bool.{both_ways}
+use Rattle.ped_loops.proofs.OnlyBodies.{never}
 use Rattle.ped_loops.proofs.Contained.{contained}
 use Rattle.ped_loops.specs.CodeInterchanging.{NoneUpTo}
 use Rattle.ped_loops.specs.Interchanging.{IsBoundOfEither, MakesInterchanged, StandsAgainstInterchange, has_no_shape, has_no_unit, interchanged, makes_far}

@@ -33,4 +33,5 @@ mod ApartTurns
 mod ExchangedRaces
 mod SwappedAccesses
 mod SwappedKeeps
+mod SwappedBounds
 mod InterchangeRules

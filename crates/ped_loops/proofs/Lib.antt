@@ -34,4 +34,5 @@ mod ExchangedRaces
 mod SwappedAccesses
 mod SwappedKeeps
 mod SwappedBounds
+mod FreeBounds
 mod InterchangeRules

@@ -35,4 +35,5 @@ mod SwappedAccesses
 mod SwappedKeeps
 mod SwappedBounds
 mod FreeBounds
+mod FreeSwaps
 mod InterchangeRules

@@ -1,6 +1,6 @@
 -- What `reverse` answers, and the program that its code makes.
-use Rattle.std.proofs.Common.{◌≡◌, ◌⊎◌, ℕ, ℤ, pos, negsuc, neg_ℤ, ◌≤◌, unsigned_abs, List, [], ◌∷◌, Bool, true, false, not, ◌||◌, Option, Some, None, Ok, Err, refl, sym, ap, ◌∙◌, subst, inl, inr, arith, int_eq, unwrap_or, MatchOption}
-use Rattle.std.proofs.lemmas.Int.{ints}
+use Rattle.std.proofs.Common.{◌≡◌, ◌⊎◌, ℕ, ℤ, pos, negsuc, neg_ℤ, ◌≤◌, unsigned_abs, List, [], ◌∷◌, Bool, true, false, not, ◌||◌, Option, Some, None, Ok, Err, refl, sym, ap, ◌∙◌, subst, inl, inr, arith, unwrap_or, to_z, of_z, ◌-ℤ◌}
+use Rattle.std.specs.Int.{w64}
 use Rattle.ped_scalar.specs.ped_rules.specs.ped_loop_runs.specs.ped_tidy.specs.ped_pasting.specs.ped_bodies.specs.ped_steps.specs.ped_sums.specs.Sums.{literal}
 use Rattle.ped_tree.specs.Constants.ConstantExpressions.{constant_value}
 use Rattle.ped_tree.specs.Tree.{ExprTree, Head, StmtTree, StmtTrees, Do, ProgramTree}
@@ -41,14 +41,14 @@ same_statement : (a b : StmtTree) → Some a ≡ Some b → a ≡ b
 same_statement a b e = cc
 
 -- the new program of the code is that of the step
-pub turned_program : (t : ProgramTree) (n : ℕ) (h : Head) (body : StmtTrees) (m : ℤ) (f : Stmt) (new : List Stmt) → IsLoop t n h body → constant_value (table_of t).constants h.step ≡ Some m → new ≡ f ∷ []
-    → stmt_tree f ≡ Do (record h { first = h.last; last = h.first; step = literal (neg_ℤ m) }) body → program_with (λ s. stmt_trees new) n t ≡ reversed t n
-turned_program t n h body m f new is step listed made =
+pub turned_program : (t : ProgramTree) (n : ℕ) (h : Head) (body : StmtTrees) (m k : ℤ) (f : Stmt) (new : List Stmt) → IsLoop t n h body → constant_value (table_of t).constants h.step ≡ Some m → k ≡ neg_ℤ m → new ≡ f ∷ []
+    → stmt_tree f ≡ Do (record h { first = h.last; last = h.first; step = literal k }) body → program_with (λ s. stmt_trees new) n t ≡ reversed t n
+turned_program t n h body m k f new is step negated listed made =
     one_program (λ (s : StmtTree). stmt_trees new) (on_loop (with_turned (table_of t).constants)) n t
     (λ g e. ap stmt_trees listed ∙ ap alone (made ∙ same) ∙ ap (on_loop (with_turned (table_of t).constants)) (same_statement (Do h body) g (sym is ∙ e)))
   where
-    same : Do (record h { first = h.last; last = h.first; step = literal (neg_ℤ m) }) body ≡ Do (turned_head (table_of t).constants h) body
-    same = ap (λ (o : Option ℤ). Do (record h { first = h.last; last = h.first; step = literal (neg_ℤ (unwrap_or o (pos 1))) }) body) (sym step)
+    same : Do (record h { first = h.last; last = h.first; step = literal k }) body ≡ Do (turned_head (table_of t).constants h) body
+    same = ap (λ (j : ℤ). Do (record h { first = h.last; last = h.first; step = literal j }) body) negated ∙ ap (λ (o : Option ℤ). Do (record h { first = h.last; last = h.first; step = literal (neg_ℤ (unwrap_or o (pos 1))) }) body) (sym step)
 
 -- 1 and -1 are small, and so are their negatives
 unit_small_by : (m : ℤ) → (m ≡ pos 1) ⊎ (m ≡ negsuc 0) → unsigned_abs m ≤ 2147483647
@@ -64,3 +64,18 @@ negated_by m (inr is) = ap (λ (n : ℤ). is_unit (neg_ℤ n)) is
 
 pub unit_negated : (m : ℤ) → is_unit m ≡ true → is_unit (neg_ℤ m) ≡ true
 unit_negated m h = negated_by m (unit_is m h)
+
+-- a number as it is handed over, and with its sign turned on the way
+passed_by : (m : ℤ) → (m ≡ pos 1) ⊎ (m ≡ negsuc 0) → to_z w64 (of_z w64 m) ≡ m
+passed_by m (inl is) = ap (λ (n : ℤ). to_z w64 (of_z w64 n)) is ∙ sym is
+passed_by m (inr is) = ap (λ (n : ℤ). to_z w64 (of_z w64 n)) is ∙ sym is
+
+pub unit_passed : (m : ℤ) → is_unit m ≡ true → to_z w64 (of_z w64 m) ≡ m
+unit_passed m h = passed_by m (unit_is m h)
+
+turned_by : (m : ℤ) → (m ≡ pos 1) ⊎ (m ≡ negsuc 0) → to_z w64 (of_z w64 (pos 0 -ℤ to_z w64 (of_z w64 m))) ≡ neg_ℤ m
+turned_by m (inl is) = ap (λ (n : ℤ). to_z w64 (of_z w64 (pos 0 -ℤ to_z w64 (of_z w64 n)))) is ∙ ap neg_ℤ (sym is)
+turned_by m (inr is) = ap (λ (n : ℤ). to_z w64 (of_z w64 (pos 0 -ℤ to_z w64 (of_z w64 n)))) is ∙ ap neg_ℤ (sym is)
+
+pub unit_turned : (m : ℤ) → is_unit m ≡ true → to_z w64 (of_z w64 (pos 0 -ℤ to_z w64 (of_z w64 m))) ≡ neg_ℤ m
+unit_turned m h = turned_by m (unit_is m h)

@@ -6,28 +6,28 @@ use Rattle.ped_loops.proofs.FlagRules as rules
 use Rattle.ped_loops.proofs.FlagAnswers.{parallel_refused}
 use Rattle.ped_loops.proofs.paralleling.make_parallel_in.Goals as goal
 
-pub returns-then-parallel : goal.returns-then-parallel
-returns-then-parallel g c =
+pub returns-then-d : goal.returns-then-d
+returns-then-d g c =
     let t = program_tree c.args.scene.now.tree.now in
     let s = c.args.number in
-    parallel_refused t s ParallelState s c.against.result c.against.ensures (rules.state_first is_parallel true s t (head_of c.args.d.now) (stmt_trees c.args.d.now.body.items) c.requires.is c.if-parallel.true)
+    parallel_refused t s ParallelState s c.against.result c.against.ensures (rules.state_first is_parallel true s t (head_of c.args.d.now) (stmt_trees c.args.d.now.body.items) c.requires.is c.if-d.true)
 
 pub returns-in-Some : goal.returns-in-Some
 returns-in-Some g c =
     let t = program_tree c.args.scene.now.tree.now in
     let s = c.args.number in
     parallel_refused t s IndexEscapes c.in-Some.statement c.against-in-Some.result c.against-in-Some.ensures
-    (rules.escape_first is_parallel true s t (head_of c.args.d.now) (stmt_trees c.args.d.now.body.items) c.requires.is c.in-Some.statement c.if-parallel.false c.in-Some.ensures)
+    (rules.escape_first is_parallel true s t (head_of c.args.d.now) (stmt_trees c.args.d.now.body.items) c.requires.is c.in-Some.statement c.if-d.false c.in-Some.ensures)
 
 pub unless_carried-requires-clause-free : goal.unless_carried-requires-clause-free
 unless_carried-requires-clause-free g c =
     let t = program_tree c.args.scene.now.tree.now in
     let s = c.args.number in
-    rules.nothing_stands is_parallel true s t (head_of c.args.d.now) (stmt_trees c.args.d.now.body.items) c.requires.is c.if-parallel.false c.in_default.ensures c.in-Some-2.ensures.valid
+    rules.nothing_stands is_parallel true s t (head_of c.args.d.now) (stmt_trees c.args.d.now.body.items) c.requires.is c.if-d.false c.in_default.ensures c.in-Some-2.ensures.valid
 
 pub returns-in-None : goal.returns-in-None
 returns-in-None g c =
     let t = program_tree c.args.scene.now.tree.now in
     let s = c.args.number in
     parallel_refused t s Limit s c.against-in-None.result c.against-in-None.ensures
-    (rules.limit_first is_parallel true s t (head_of c.args.d.now) (stmt_trees c.args.d.now.body.items) c.requires.is c.if-parallel.false c.in_default.ensures c.in-None.ensures)
+    (rules.limit_first is_parallel true s t (head_of c.args.d.now) (stmt_trees c.args.d.now.body.items) c.requires.is c.if-d.false c.in_default.ensures c.in-None.ensures)

@@ -2,14 +2,14 @@ use Rattle.ped_tree.specs.Views.{program_tree}
 use Rattle.ped_loops.proofs.FlagAnswers.{parallel_forbidden, parallel_accepted}
 use Rattle.ped_loops.proofs.paralleling.unless_carried.Goals as goal
 
-pub returns-in-Some : goal.returns-in-Some
-returns-in-Some g c =
+pub returns-in-Ok-Some : goal.returns-in-Ok-Some
+returns-in-Ok-Some g c =
     let t = program_tree c.args.scene.now.tree.now in
     let s = c.args.number in
-    parallel_forbidden t s c.in-Some.edge c.requires.free c.in-Some.ensures
+    parallel_forbidden t s c.in-Ok-Some.edge c.requires.free c.in-Ok-Some.ensures
 
-pub returns-in-None : goal.returns-in-None
-returns-in-None g c =
+pub returns-in-Ok-None : goal.returns-in-Ok-None
+returns-in-Ok-None g c =
     let t = program_tree c.args.scene.now.tree.now in
     let s = c.args.number in
-    parallel_accepted t s c.args.change c.requires.free c.in-None.ensures c.requires.is
+    parallel_accepted t s c.args.change c.requires.free c.in-Ok-None.ensures c.requires.is

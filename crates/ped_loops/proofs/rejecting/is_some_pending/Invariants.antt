@@ -6,4 +6,4 @@ use Rattle.ped_loops.specs.Rejecting.{is_pending_of}
 use Rattle.ped_loops.proofs.rejecting.is_some_pending.Given as goal
 
 abbrev pub invariant-loop-edge : goal.invariant-loop-edge
-invariant-loop-edge l = list_any (λ (e : Edge). is_pending_of l.name.now (edge_of e)) (drop l.edge-index l.edges) ≡ list_any (λ (e : Edge). is_pending_of l.name.now (edge_of e)) l.edges
+invariant-loop-edge l = list_any (λ (e : Edge). is_pending_of l.name (edge_of e)) (drop l.edge-index l.edges) ≡ list_any (λ (e : Edge). is_pending_of l.name (edge_of e)) l.edges

@@ -6,24 +6,24 @@ use Rattle.ped_loops.proofs.FlagRules as rules
 use Rattle.ped_loops.proofs.FlagAnswers.{serial_refused, serial_accepted}
 use Rattle.ped_loops.proofs.serialising.make_serial_in.Goals as goal
 
-pub returns-then-not-parallel : goal.returns-then-not-parallel
-returns-then-not-parallel g c =
+pub returns-then-not-d : goal.returns-then-not-d
+returns-then-not-d g c =
     let t = program_tree c.args.scene.now.tree.now in
     let s = c.args.number in
-    serial_refused t s ParallelState s c.against.result c.against.ensures (rules.state_first is_serial false s t (head_of c.args.d.now) (stmt_trees c.args.d.now.body.items) c.requires.is (ap not c.if-not-parallel.true))
+    serial_refused t s ParallelState s c.against.result c.against.ensures (rules.state_first is_serial false s t (head_of c.args.d.now) (stmt_trees c.args.d.now.body.items) c.requires.is (ap not c.if-not-d.true))
 
 pub returns-in-Some : goal.returns-in-Some
 returns-in-Some g c =
     let t = program_tree c.args.scene.now.tree.now in
     let s = c.args.number in
     serial_refused t s IndexEscapes c.in-Some.statement c.against-in-Some.result c.against-in-Some.ensures
-    (rules.escape_first is_serial false s t (head_of c.args.d.now) (stmt_trees c.args.d.now.body.items) c.requires.is c.in-Some.statement (ap not c.if-not-parallel.false) c.in-Some.ensures)
+    (rules.escape_first is_serial false s t (head_of c.args.d.now) (stmt_trees c.args.d.now.body.items) c.requires.is c.in-Some.statement (ap not c.if-not-d.false) c.in-Some.ensures)
 
 pub returns-in-Some-2 : goal.returns-in-Some-2
 returns-in-Some-2 g c =
     let t = program_tree c.args.scene.now.tree.now in
     let s = c.args.number in
-    let none = rules.nothing_stands is_serial false s t (head_of c.args.d.now) (stmt_trees c.args.d.now.body.items) c.requires.is (ap not c.if-not-parallel.false) c.in_default.ensures c.in-Some-2.ensures.valid in
+    let none = rules.nothing_stands is_serial false s t (head_of c.args.d.now) (stmt_trees c.args.d.now.body.items) c.requires.is (ap not c.if-not-d.false) c.in_default.ensures c.in-Some-2.ensures.valid in
     serial_accepted t s c.in-Some-2.change none c.in-Some-2.ensures
 
 pub returns-in-None : goal.returns-in-None
@@ -31,4 +31,4 @@ returns-in-None g c =
     let t = program_tree c.args.scene.now.tree.now in
     let s = c.args.number in
     serial_refused t s Limit s c.against-in-None.result c.against-in-None.ensures
-    (rules.limit_first is_serial false s t (head_of c.args.d.now) (stmt_trees c.args.d.now.body.items) c.requires.is (ap not c.if-not-parallel.false) c.in_default.ensures c.in-None.ensures)
+    (rules.limit_first is_serial false s t (head_of c.args.d.now) (stmt_trees c.args.d.now.body.items) c.requires.is (ap not c.if-not-d.false) c.in_default.ensures c.in-None.ensures)

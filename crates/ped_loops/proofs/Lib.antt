@@ -38,4 +38,5 @@ mod SwappedKeeps
 mod SwappedBounds
 mod FreeBounds
 mod FreeSwaps
+mod UncrossedPairs
 mod InterchangeRules

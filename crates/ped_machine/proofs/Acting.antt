@@ -1,25 +1,25 @@
 -- Statements by what the code answers for them.
 use Rattle.std.proofs.Common.{◌≡◌, ℕ, ◌+◌, List, [], ◌∷◌, ◌++◌, Bool, true, false, Option, Some, None, Result, Ok, Err, if◌then◌else◌, refl, sym, ap, subst, ◌∙◌}
-use Rattle.ped_tree.specs.Tree.{ExprTree, ItemTree, CondTree, Head, StmtTrees, Assign, If, Do, Print, Read, Stop}
-use Rattle.ped_tree.specs.Numbering.{statements_count}
+use Rattle.ped_interleavings.specs.ped_tree.specs.Tree.{ExprTree, ItemTree, CondTree, Head, StmtTrees, Assign, If, Do, Print, Read, Stop}
+use Rattle.ped_interleavings.specs.ped_tree.specs.Numbering.{statements_count}
 use Rattle.ped_symbols.specs.Kinds.{Table}
 use Rattle.ped_store.specs.Cells.{In}
 use Rattle.ped_store.specs.Stores.{Number, Lines, Store, put}
 use Rattle.ped_store.specs.Acts.{Place, did, entered, store_behind}
 use Rattle.ped_store.specs.Memories.{Memory, with_content, with_printed}
-use Rattle.ped_eval.specs.Agreement.{IsSame}
-use Rattle.ped_eval.specs.Scopes.{Setting, Scope, names_in, place_of, cell_of, index_value}
-use Rattle.ped_eval.specs.ScopeViews.{names_at}
-use Rattle.ped_eval.specs.Evaluation.{Seen, Evaluated, numbered, number_behind}
-use Rattle.ped_eval.specs.Values.{truth}
-use Rattle.ped_eval.specs.Statements.{Stored, assigned, assignment_touches, printed_line, print_touches, write_touch, reading, reading_touches, Taking}
-use Rattle.ped_eval.specs.Takings.{read_taken}
-use Rattle.ped_eval.specs.Loops.{Limits, limits, Entered, entered_with, exit_when_none, entry_touches}
-use Rattle.ped_eval.specs.Runs.{going, failed, does, nothing_done, on_value, run_taking}
-use Rattle.ped_eval.specs.Readiness.{setting_by, IsReady}
-use Rattle.ped_eval.proofs.Endings.{reads_leave, only_reads}
-use Rattle.ped_eval.proofs.KeptByWrites.{IsKeptByWrites}
-use Rattle.ped_eval.proofs.Takings.{reading_taken, read_ending, read_ending_fails}
+use Rattle.ped_interleavings.specs.ped_eval.specs.Agreement.{IsSame}
+use Rattle.ped_interleavings.specs.ped_eval.specs.Scopes.{Setting, Scope, names_in, place_of, cell_of, index_value}
+use Rattle.ped_interleavings.specs.ped_eval.specs.ScopeViews.{names_at}
+use Rattle.ped_interleavings.specs.ped_eval.specs.Evaluation.{Seen, Evaluated, numbered, number_behind}
+use Rattle.ped_interleavings.specs.ped_eval.specs.Values.{truth}
+use Rattle.ped_interleavings.specs.ped_eval.specs.Statements.{Stored, assigned, assignment_touches, printed_line, print_touches, write_touch, reading, reading_touches, Taking}
+use Rattle.ped_interleavings.specs.ped_eval.specs.Takings.{read_taken}
+use Rattle.ped_interleavings.specs.ped_eval.specs.Loops.{Limits, limits, Entered, entered_with, exit_when_none, entry_touches}
+use Rattle.ped_interleavings.specs.ped_eval.specs.Runs.{going, failed, does, nothing_done, on_value, run_taking}
+use Rattle.ped_interleavings.specs.ped_eval.specs.Readiness.{setting_by, IsReady}
+use Rattle.ped_interleavings.specs.ped_eval.proofs.Endings.{reads_leave, only_reads}
+use Rattle.ped_interleavings.specs.ped_eval.proofs.KeptByWrites.{IsKeptByWrites}
+use Rattle.ped_interleavings.specs.ped_eval.proofs.Takings.{reading_taken, read_ending, read_ending_fails}
 use Rattle.ped_interleavings.specs.Lefts.{Left, left_of_all, entered_left}
 use Rattle.ped_interleavings.specs.Steps.{Next, met, went, halted, act_of, by_run, simple_step, seen_next, begun}
 use Rattle.ped_machine.specs.Doing.{IsDone, IsActed}

@@ -1,18 +1,18 @@
 -- What a step of a machine answers, by that of its parts.
 use Rattle.std.proofs.Common.{◌≡◌, ◌<◌, ◌+◌, ◌*◌, ℕ, zero, suc, List, [], ◌∷◌, refl, sym, ap, subst, ◌∙◌, arith}
-use Rattle.ped_tree.specs.Tree.{StmtTree, StmtTrees, ProgramTree, Assign, If, Do, Print, Read, Stop, Comment}
+use Rattle.ped_interleavings.specs.ped_tree.specs.Tree.{StmtTree, StmtTrees, ProgramTree, Assign, If, Do, Print, Read, Stop, Comment}
 use Rattle.ped_symbols.specs.Kinds.{Table, table_of}
 use Rattle.ped_store.specs.Cells.{Out}
 use Rattle.ped_store.specs.Stores.{Store, lines_in}
 use Rattle.ped_store.specs.Acts.{Act}
 use Rattle.ped_store.specs.Memories.{Memory}
-use Rattle.ped_eval.specs.Scopes.{Setting, Scope}
-use Rattle.ped_eval.specs.Outcomes as Outcomes
-use Rattle.ped_eval.specs.Outcomes.{setting_of, live_names, outcome_of}
-use Rattle.ped_eval.specs.Live.{rows_in}
-use Rattle.ped_eval.specs.Runs.{going, stopped}
-use Rattle.ped_eval.specs.Readiness.{setting_by}
-use Rattle.ped_eval.proofs.RunOutcomes.{setting_same, ended_by_stop}
+use Rattle.ped_interleavings.specs.ped_eval.specs.Scopes.{Setting, Scope}
+use Rattle.ped_interleavings.specs.ped_eval.specs.Outcomes as Outcomes
+use Rattle.ped_interleavings.specs.ped_eval.specs.Outcomes.{setting_of, live_names, outcome_of}
+use Rattle.ped_interleavings.specs.ped_eval.specs.Live.{rows_in}
+use Rattle.ped_interleavings.specs.ped_eval.specs.Runs.{going, stopped}
+use Rattle.ped_interleavings.specs.ped_eval.specs.Readiness.{setting_by}
+use Rattle.ped_interleavings.specs.ped_eval.proofs.RunOutcomes.{setting_same, ended_by_stop}
 use Rattle.ped_interleavings.specs.Lefts.{Left, finished, begins, ends_turn, open_loop}
 use Rattle.ped_interleavings.specs.Steps.{Next, over, met, went, halted, step}
 use Rattle.ped_interleavings.specs.Weights.{left_weight, lefts_weight, stmt_weight, stmts_weight, most_turns}

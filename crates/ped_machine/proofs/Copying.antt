@@ -14,8 +14,8 @@ use Rattle.ped_store.specs.Memories.{Memory, with_copy, standing, got}
 use Rattle.ped_store.specs.Keeping.{Kept, copy_of, cells_of, stands_in, memory_of}
 use Rattle.ped_store.specs.Slots.{content_of}
 use Rattle.ped_store.specs.IterationLaws.{iterations_decide}
-use Rattle.ped_eval.specs.Agreement.{is_copy}
-use Rattle.ped_eval.proofs.Copies.{own_copy}
+use Rattle.ped_interleavings.specs.ped_eval.specs.Agreement.{is_copy}
+use Rattle.ped_interleavings.specs.ped_eval.proofs.Copies.{own_copy}
 use Rattle.ped_machine.specs.Doing.{HasGrown, HasRoom}
 
 pub next_drop : {X : Type 0} (xs : List X) (i : ℕ) (d : X) → i < length xs → drop i xs ≡ get_or xs i d ∷ drop (i + 1) xs

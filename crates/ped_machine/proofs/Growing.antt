@@ -9,14 +9,14 @@ use Rattle.ped_store.specs.Cells.{Cell, Scalar, Element, Private, In, Out, same_
 use Rattle.ped_store.specs.Stores.{Content, Undefined, Store, put}
 use Rattle.ped_store.specs.Acts.{store_behind}
 use Rattle.ped_store.specs.Memories.{Memory, with_content}
-use Rattle.ped_eval.specs.Scopes.{Frame, Scope, cell_of}
-use Rattle.ped_eval.specs.Agreement.{path_of, DoCopiesStand}
-use Rattle.ped_eval.specs.Loops.{Entered, left_in_variable, exit_touches}
-use Rattle.ped_eval.specs.Turns.{undefined_in, exited, undefined_cells}
-use Rattle.ped_eval.specs.Readiness.{IsReady}
-use Rattle.ped_eval.proofs.Copies.{private_cell}
-use Rattle.ped_eval.proofs.Endings.{exit_is}
-use Rattle.ped_eval.proofs.Undefining.{exited_stands, exited_bounds}
+use Rattle.ped_interleavings.specs.ped_eval.specs.Scopes.{Frame, Scope, cell_of}
+use Rattle.ped_interleavings.specs.ped_eval.specs.Agreement.{path_of, DoCopiesStand}
+use Rattle.ped_interleavings.specs.ped_eval.specs.Loops.{Entered, left_in_variable, exit_touches}
+use Rattle.ped_interleavings.specs.ped_eval.specs.Turns.{undefined_in, exited, undefined_cells}
+use Rattle.ped_interleavings.specs.ped_eval.specs.Readiness.{IsReady}
+use Rattle.ped_interleavings.specs.ped_eval.proofs.Copies.{private_cell}
+use Rattle.ped_interleavings.specs.ped_eval.proofs.Endings.{exit_is}
+use Rattle.ped_interleavings.specs.ped_eval.proofs.Undefining.{exited_stands, exited_bounds}
 use Rattle.ped_machine.specs.Doing.{HasGrown, HasRoom}
 use Rattle.ped_machine.specs.Growth.{copies_grow}
 

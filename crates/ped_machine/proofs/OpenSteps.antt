@@ -4,11 +4,11 @@ use Rattle.std.specs.Prelude.{◌==◌}
 use Rattle.ped_store.specs.Stores.{Store}
 use Rattle.ped_store.specs.Acts.{store_behind, closed}
 use Rattle.ped_store.specs.Memories.{Memory}
-use Rattle.ped_tree.specs.Views.{head_of, stmt_trees}
-use Rattle.ped_eval.specs.Scopes.{Setting, Scope, place_of}
-use Rattle.ped_eval.specs.Loops.{Entered, exit_touches}
-use Rattle.ped_eval.specs.Plans.{entered_by}
-use Rattle.ped_eval.specs.Turns.{exited}
+use Rattle.ped_interleavings.specs.ped_tree.specs.Views.{head_of, stmt_trees}
+use Rattle.ped_interleavings.specs.ped_eval.specs.Scopes.{Setting, Scope, place_of}
+use Rattle.ped_interleavings.specs.ped_eval.specs.Loops.{Entered, exit_touches}
+use Rattle.ped_interleavings.specs.ped_eval.specs.Plans.{entered_by}
+use Rattle.ped_interleavings.specs.ped_eval.specs.Turns.{exited}
 use Rattle.ped_interleavings.specs.Lefts.{Left, finished, open_loop, lefts_by, body_left, entered_left, unfinished, or_else, with_left}
 use Rattle.ped_interleavings.specs.Steps.{Next, over, met, went, halted, act_of, inside, step}
 use Rattle.ped_machine.specs.declared.opens.Open.{Open}

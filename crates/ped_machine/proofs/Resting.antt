@@ -1,13 +1,13 @@
 -- Steps of what is left, by those of its parts.
 use Rattle.std.proofs.Common.{◌≡◌, ◌<◌, ◌^◌, ℕ, ◌+◌, List, [], ◌∷◌, false, Option, Some, None, refl, sym, ap, subst, ◌∙◌}
 use Rattle.std.specs.Prelude.{is_some}
-use Rattle.ped_tree.specs.Tree.{StmtTree, StmtTrees, Assign, If, Do, Print, Read, Stop, Comment, no_stmts, more_stmts}
-use Rattle.ped_tree.specs.Numbering.{statement_count, statements_count}
+use Rattle.ped_interleavings.specs.ped_tree.specs.Tree.{StmtTree, StmtTrees, Assign, If, Do, Print, Read, Stop, Comment, no_stmts, more_stmts}
+use Rattle.ped_interleavings.specs.ped_tree.specs.Numbering.{statement_count, statements_count}
 use Rattle.ped_symbols.specs.Kinds.{Table}
 use Rattle.ped_store.specs.Stores.{Store}
-use Rattle.ped_eval.specs.Scopes.{Setting, Scope}
-use Rattle.ped_eval.specs.Readiness.{CanDo, CanRun}
-use Rattle.ped_eval.proofs.Parts.{first_can, rest_can}
+use Rattle.ped_interleavings.specs.ped_eval.specs.Scopes.{Setting, Scope}
+use Rattle.ped_interleavings.specs.ped_eval.specs.Readiness.{CanDo, CanRun}
+use Rattle.ped_interleavings.specs.ped_eval.proofs.Parts.{first_can, rest_can}
 use Rattle.ped_interleavings.specs.Lefts.{Left, finished, begins, left_of_all, or_else, wants_choice}
 use Rattle.ped_interleavings.specs.Steps.{step, begun}
 use Rattle.ped_machine.specs.declared.opens.Open.{Open}

@@ -6,13 +6,13 @@ use Rattle.slab.specs.Slab.{get, SameValues}
 use Rattle.ped_marks.specs.declared.marks.Mark.{Mark}
 use Rattle.ped_marks.specs.declared.marks.Mark.TheVariants.{Waits, Running, Done}
 use Rattle.ped_marks.specs.Marks.{at}
-use Rattle.ped_tree.specs.Views.{head_of, stmt_trees, do_tree}
+use Rattle.ped_interleavings.specs.ped_tree.specs.Views.{head_of, stmt_trees, do_tree}
 use Rattle.ped_symbols.specs.Kinds.{Table}
 use Rattle.ped_store.specs.Cells.{Cell}
-use Rattle.ped_eval.specs.Scopes.{Scope}
-use Rattle.ped_eval.specs.Plans.{IsPlan}
-use Rattle.ped_eval.specs.Readiness.{CanDo}
-use Rattle.ped_eval.specs.declared.plans.Plan.{Plan}
+use Rattle.ped_interleavings.specs.ped_eval.specs.Scopes.{Scope}
+use Rattle.ped_interleavings.specs.ped_eval.specs.Plans.{IsPlan}
+use Rattle.ped_interleavings.specs.ped_eval.specs.Readiness.{CanDo}
+use Rattle.ped_interleavings.specs.ped_eval.specs.declared.plans.Plan.{Plan}
 use Rattle.ped_interleavings.specs.Lefts.{Left, is_finished}
 use Rattle.ped_machine.specs.declared.opens.Open.{Open}
 use Rattle.ped_machine.specs.Opens.{kept_left, mark_left, is_bare, place_left, IsSameLoop, HasMarked, IsRunning, IsOpen}

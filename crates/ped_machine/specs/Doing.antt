@@ -1,13 +1,13 @@
 -- What a step of a part of a machine comes to (this project).
 use Rattle.std.specs.Prelude.{◌≡◌, ℕ, true, Result, Ok, Err}
-use Rattle.ped_tree.specs.Tree.{StmtTree}
+use Rattle.ped_interleavings.specs.ped_tree.specs.Tree.{StmtTree}
 use Rattle.ped_symbols.specs.Kinds.{Table}
 use Rattle.ped_store.specs.Cells.{Cell}
 use Rattle.ped_store.specs.Stores.{Store}
 use Rattle.ped_store.specs.Memories.{Memory}
 use Rattle.ped_store.specs.Acts.{store_behind}
-use Rattle.ped_eval.specs.Scopes.{Scope}
-use Rattle.ped_eval.specs.Readiness.{setting_by}
+use Rattle.ped_interleavings.specs.ped_eval.specs.Scopes.{Scope}
+use Rattle.ped_interleavings.specs.ped_eval.specs.Readiness.{setting_by}
 use Rattle.ped_interleavings.specs.Lefts.{Left}
 use Rattle.ped_interleavings.specs.Steps.{Next, over, met, went, halted, begun}
 use Rattle.ped_machine.specs.declared.steps.Done.{Done}

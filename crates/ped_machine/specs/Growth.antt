@@ -2,8 +2,8 @@
 use Rattle.std.specs.Prelude.{◌≡◌, List, [], ◌∷◌, Bool, true, Option, Some, None}
 use Rattle.ped_symbols.specs.Kinds.{Table}
 use Rattle.ped_store.specs.Cells.{Cell, Private}
-use Rattle.ped_eval.specs.Scopes.{Scope}
-use Rattle.ped_eval.specs.Agreement.{path_of, DoCopiesStand}
+use Rattle.ped_interleavings.specs.ped_eval.specs.Scopes.{Scope}
+use Rattle.ped_interleavings.specs.ped_eval.specs.Agreement.{path_of, DoCopiesStand}
 use Rattle.ped_interleavings.specs.Lefts.{Left}
 use Rattle.ped_machine.specs.Opens.{IsRunning, IsOpen}
 use Rattle.ped_machine.specs.Rests.{IfOpened, IsSound}

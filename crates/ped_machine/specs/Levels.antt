@@ -2,7 +2,7 @@
 use Rattle.std.specs.Prelude.{◌≡◌, Bool, true, Option, Some, None}
 use Rattle.ped_symbols.specs.Kinds.{Table}
 use Rattle.ped_store.specs.Cells.{Cell}
-use Rattle.ped_eval.specs.Agreement.{DoCopiesStand}
+use Rattle.ped_interleavings.specs.ped_eval.specs.Agreement.{DoCopiesStand}
 use Rattle.ped_interleavings.specs.Lefts.{Left, finished}
 use Rattle.ped_machine.specs.Opens.{IsOpen}
 use Rattle.ped_machine.specs.Rests.{rest_left, IfOpened, IsSound}

@@ -1,11 +1,11 @@
 -- What a machine of the code stands for, and what its steps answer (this project).
 use Rattle.std.specs.Prelude.{◌≡◌, ℕ, List, Result, Ok, Err}
-use Rattle.ped_tree.specs.Tree.{ProgramTree}
+use Rattle.ped_interleavings.specs.ped_tree.specs.Tree.{ProgramTree}
 use Rattle.ped_store.specs.Stores.{Store}
 use Rattle.ped_store.specs.Acts.{Act, store_behind}
 use Rattle.ped_interleavings.specs.Lefts.{Left, finished}
 use Rattle.ped_interleavings.specs.Steps.{Next, over, met, went, halted}
-use Rattle.ped_eval.specs.Outcomes.{setting_of}
+use Rattle.ped_interleavings.specs.ped_eval.specs.Outcomes.{setting_of}
 use Rattle.ped_interleavings.specs.Interleavings.{Standing, IsReached}
 use Rattle.ped_machine.specs.declared.steps.Step.{Step}
 use Rattle.ped_machine.specs.declared.steps.Step.TheVariants as step

@@ -4,15 +4,15 @@ use Rattle.slab.specs.Slab.{Slab, get, Updates}
 use Rattle.ped_marks.specs.declared.marks.Mark.{Mark}
 use Rattle.ped_marks.specs.declared.marks.Mark.TheVariants.{Waits, Running, Done}
 use Rattle.ped_marks.specs.Marks.{at}
-use Rattle.ped_tree.specs.Tree.{StmtTrees}
-use Rattle.ped_tree.specs.Views.{head_of, stmt_trees, do_tree}
+use Rattle.ped_interleavings.specs.ped_tree.specs.Tree.{StmtTrees}
+use Rattle.ped_interleavings.specs.ped_tree.specs.Views.{head_of, stmt_trees, do_tree}
 use Rattle.ped_symbols.specs.Kinds.{Table}
 use Rattle.ped_store.specs.Cells.{Cell}
-use Rattle.ped_eval.specs.Scopes.{Scope}
-use Rattle.ped_eval.specs.Loops.{Entered}
-use Rattle.ped_eval.specs.Plans.{entered_by, IsPlan}
-use Rattle.ped_eval.specs.Readiness.{CanDo}
-use Rattle.ped_eval.specs.Agreement.{DoCopiesStand}
+use Rattle.ped_interleavings.specs.ped_eval.specs.Scopes.{Scope}
+use Rattle.ped_interleavings.specs.ped_eval.specs.Loops.{Entered}
+use Rattle.ped_interleavings.specs.ped_eval.specs.Plans.{entered_by, IsPlan}
+use Rattle.ped_interleavings.specs.ped_eval.specs.Readiness.{CanDo}
+use Rattle.ped_interleavings.specs.ped_eval.specs.Agreement.{DoCopiesStand}
 use Rattle.ped_interleavings.specs.Lefts.{Left, finished, open_loop, Lefts, no_lefts, more_lefts, is_finished, left_of_all, body_left}
 use Rattle.ped_machine.specs.declared.opens.Open.{Open}
 

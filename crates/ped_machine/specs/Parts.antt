@@ -1,15 +1,15 @@
 -- What an iteration has left outside of the PARALLEL DO loops that are open in it (this project).
 use Rattle.std.specs.Prelude.{◌≡◌, ◌<◌, ◌^◌, ℕ, ◌+◌, ◌-◌, List, [], ◌∷◌, map, reverse, Option, Some, None, Bool, true, false}
-use Rattle.ped_tree.specs.Tree.{Head, StmtTree, StmtTrees, Do, Comment, no_stmts, more_stmts}
-use Rattle.ped_tree.specs.Numbering.{statement_count}
-use Rattle.ped_tree.specs.Views.{head_of, stmt_tree, stmt_trees}
+use Rattle.ped_interleavings.specs.ped_tree.specs.Tree.{Head, StmtTree, StmtTrees, Do, Comment, no_stmts, more_stmts}
+use Rattle.ped_interleavings.specs.ped_tree.specs.Numbering.{statement_count}
+use Rattle.ped_interleavings.specs.ped_tree.specs.Views.{head_of, stmt_tree, stmt_trees}
 use Rattle.ped_symbols.specs.Kinds.{Table}
-use Rattle.ped_eval.specs.Scopes.{Scope}
-use Rattle.ped_eval.specs.ScopeViews.{outside}
-use Rattle.ped_eval.specs.Loops.{Entered, frame}
-use Rattle.ped_eval.specs.Plans.{entered_by, IsPlan}
-use Rattle.ped_eval.specs.Readiness.{CanDo, CanRun}
-use Rattle.ped_eval.specs.declared.plans.Plan.{Plan}
+use Rattle.ped_interleavings.specs.ped_eval.specs.Scopes.{Scope}
+use Rattle.ped_interleavings.specs.ped_eval.specs.ScopeViews.{outside}
+use Rattle.ped_interleavings.specs.ped_eval.specs.Loops.{Entered, frame}
+use Rattle.ped_interleavings.specs.ped_eval.specs.Plans.{entered_by, IsPlan}
+use Rattle.ped_interleavings.specs.ped_eval.specs.Readiness.{CanDo, CanRun}
+use Rattle.ped_interleavings.specs.ped_eval.specs.declared.plans.Plan.{Plan}
 use Rattle.ped_interleavings.specs.Lefts.{Left, finished, ends_turn, left_of_all}
 use Rattle.ped_machine.specs.declared.parts.Turn as code_turn
 use Rattle.ped_machine.specs.declared.parts.Part as code

@@ -2,7 +2,7 @@
 use Rattle.std.specs.Prelude.{◌≡◌, Bool, Option, Some, None}
 use Rattle.ped_symbols.specs.Kinds.{Table}
 use Rattle.ped_store.specs.Cells.{Cell}
-use Rattle.ped_eval.specs.Scopes.{Scope}
+use Rattle.ped_interleavings.specs.ped_eval.specs.Scopes.{Scope}
 use Rattle.ped_interleavings.specs.Lefts.{Left}
 use Rattle.ped_machine.specs.Parts.{parts_of, parts_left, CanGo}
 use Rattle.ped_machine.specs.Opens.{open_left, IsOpen}

@@ -2,8 +2,8 @@
 use Rattle.std.specs.Prelude.{◌≡◌, Bool, true, false}
 use Rattle.ped_symbols.specs.Kinds.{Table}
 use Rattle.ped_store.specs.Memories.{Memory}
-use Rattle.ped_eval.specs.Scopes.{Scope}
-use Rattle.ped_eval.specs.Readiness.{setting_by, IsReady}
+use Rattle.ped_interleavings.specs.ped_eval.specs.Scopes.{Scope}
+use Rattle.ped_interleavings.specs.ped_eval.specs.Readiness.{setting_by, IsReady}
 use Rattle.ped_interleavings.specs.Lefts.{Left, finished}
 use Rattle.ped_machine.specs.Rests.{rest_left, IsSound}
 use Rattle.ped_machine.specs.Levels.{level_left, IsSoundLevel, never_left, IsNever}
@@ -12,7 +12,7 @@ use Rattle.ped_machine.specs.declared.levels.Level.{Level}
 use Rattle.ped_machine.specs.declared.works.Never.{Never}
 use Rattle.ped_machine.specs.declared.machine.Machine.{Machine}
 use Rattle.ped_machine.specs.Machines.{Held}
-use Rattle.ped_tree.specs.Views.{program_tree}
+use Rattle.ped_interleavings.specs.ped_tree.specs.Views.{program_tree}
 use Rattle.ped_symbols.specs.Kinds.{table_of}
 use Rattle.ped_store.specs.Keeping.{memory_of}
 use Rattle.ped_store.specs.Cells.{Cell}

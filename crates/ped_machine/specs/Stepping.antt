@@ -5,7 +5,7 @@ use Rattle.ped_marks.specs.declared.marks.Mark.TheVariants.{Running, Done}
 use Rattle.ped_symbols.specs.Kinds.{Table}
 use Rattle.ped_store.specs.Cells.{Cell}
 use Rattle.ped_store.specs.Memories.{Memory}
-use Rattle.ped_eval.specs.Readiness.{setting_by}
+use Rattle.ped_interleavings.specs.ped_eval.specs.Readiness.{setting_by}
 use Rattle.ped_interleavings.specs.Lefts.{Left, is_finished}
 use Rattle.ped_interleavings.specs.Steps.{step}
 use Rattle.ped_machine.specs.Doing.{IsDone, IfOpen, HasRoom}

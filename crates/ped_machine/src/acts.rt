@@ -1,12 +1,12 @@
 //! Statements of one act, and the conditions of IF statements.
 
 ghost use Rattle.std.specs.Prelude.{◌≡◌, ◌<◌, ◌+◌, ◌^◌, ◌∷◌, map, false, None, IfOk, OnOk, OnErr, Ok};
-ghost use Rattle.ped_tree.specs.Tree.{Assign, Print, Read};
-ghost use Rattle.ped_tree.specs.Views.{expr_tree, cond_tree, item_tree, stmt_tree, stmt_trees};
+ghost use Rattle.ped_interleavings.specs.ped_tree.specs.Tree.{Assign, Print, Read};
+ghost use Rattle.ped_interleavings.specs.ped_tree.specs.Views.{expr_tree, cond_tree, item_tree, stmt_tree, stmt_trees};
 ghost use Rattle.ped_store.specs.Keeping.{memory_of};
-ghost use Rattle.ped_eval.specs.ScopeViews.{names_at};
-ghost use Rattle.ped_eval.specs.Values.{truth};
-ghost use Rattle.ped_eval.specs.Readiness.{setting_by, IsReady, CanDo};
+ghost use Rattle.ped_interleavings.specs.ped_eval.specs.ScopeViews.{names_at};
+ghost use Rattle.ped_interleavings.specs.ped_eval.specs.Values.{truth};
+ghost use Rattle.ped_interleavings.specs.ped_eval.specs.Readiness.{setting_by, IsReady, CanDo};
 ghost use Rattle.ped_interleavings.specs.Lefts.{Left};
 ghost use Rattle.ped_interleavings.specs.Steps.{begun};
 ghost use Rattle.ped_machine.specs.Doing.{IsActed, IsDone, IfGoing, IfOpen, IfSafe, HasGrown, HasRoom};
@@ -16,12 +16,12 @@ ghost use Rattle.ped_machine.specs.Parts.{CanGo, is_comment, is_loop, parts_left
 use crate::parts::{Part, Parts};
 use crate::steps::Done;
 use ped_base::NoMemory;
-use ped_eval::{
+use ped_interleavings::ped_eval::{
     Notes, PrintError, State, Surroundings, assign, line_of, take_items, truth_of,
 };
 use ped_store::RunFault;
 use ped_symbols::Symbols;
-use ped_tree::{Cond, Expr, PrintItem, Stmt, count_statements};
+use ped_interleavings::ped_tree::{Cond, Expr, PrintItem, Stmt, count_statements};
 use std::alloc::Global;
 
 /// Begins a statement other than a DO, of which the parts are what is left behind it.

@@ -8,8 +8,8 @@ ghost use Rattle.ped_marks.specs.declared.marks.Mark.TheVariants.{Waits, Running
 ghost use Rattle.ped_symbols.specs.Kinds.{Table};
 ghost use Rattle.ped_store.specs.Cells.{Cell};
 ghost use Rattle.ped_store.specs.Keeping.{memory_of};
-ghost use Rattle.ped_eval.specs.Scopes.{Scope};
-ghost use Rattle.ped_eval.specs.Readiness.{setting_by, IsReady};
+ghost use Rattle.ped_interleavings.specs.ped_eval.specs.Scopes.{Scope};
+ghost use Rattle.ped_interleavings.specs.ped_eval.specs.Readiness.{setting_by, IsReady};
 ghost use Rattle.ped_interleavings.specs.Lefts.{is_finished, unfinished, or_else};
 ghost use Rattle.ped_interleavings.specs.Steps as Steps;
 ghost use Rattle.ped_machine.specs.Doing.{IsDone, IfOpen, IfSafe, HasGrown, HasRoom};
@@ -20,10 +20,10 @@ use crate::parts::without_comments;
 use crate::steps::Done;
 use crate::works::Work;
 use ped_base::NoMemory;
-use ped_eval::{Plan, State};
+use ped_interleavings::ped_eval::{Plan, State};
 use ped_marks::{Mark, Marks};
 use ped_symbols::Symbols;
-use ped_tree::Do;
+use ped_interleavings::ped_tree::Do;
 use slab::Slab;
 use std::alloc::Global;
 

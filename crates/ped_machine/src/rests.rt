@@ -1,16 +1,16 @@
 //! What is left of the whole run or of an iteration, with the PARALLEL DO that is open in it.
 
 ghost use Rattle.std.specs.Prelude.{◌≡◌, ◌<◌, ◌^◌, ℕ, Bool, true, false, None, IsSome, MatchOption, IfOk, OnOk, OnErr};
-ghost use Rattle.ped_tree.specs.Views.{head_of, stmt_tree, stmt_trees, do_tree};
+ghost use Rattle.ped_interleavings.specs.ped_tree.specs.Views.{head_of, stmt_tree, stmt_trees, do_tree};
 ghost use Rattle.ped_symbols.specs.Kinds.{Table};
 ghost use Rattle.ped_store.specs.Cells.{Cell};
 ghost use Rattle.ped_store.specs.Acts.{store_behind};
 ghost use Rattle.ped_store.specs.Keeping.{memory_of};
-ghost use Rattle.ped_eval.specs.Scopes.{Scope};
-ghost use Rattle.ped_eval.specs.Loops.{exit_when_none};
-ghost use Rattle.ped_eval.specs.Agreement.{DoCopiesStand};
-ghost use Rattle.ped_eval.specs.Plans.{entered_by, IsPlan};
-ghost use Rattle.ped_eval.specs.Readiness.{setting_by, CanDo, IsReady};
+ghost use Rattle.ped_interleavings.specs.ped_eval.specs.Scopes.{Scope};
+ghost use Rattle.ped_interleavings.specs.ped_eval.specs.Loops.{exit_when_none};
+ghost use Rattle.ped_interleavings.specs.ped_eval.specs.Agreement.{DoCopiesStand};
+ghost use Rattle.ped_interleavings.specs.ped_eval.specs.Plans.{entered_by, IsPlan};
+ghost use Rattle.ped_interleavings.specs.ped_eval.specs.Readiness.{setting_by, CanDo, IsReady};
 ghost use Rattle.ped_interleavings.specs.Lefts.{Left, is_finished, wants_choice, entered_left};
 ghost use Rattle.ped_interleavings.specs.Steps as Steps;
 ghost use Rattle.ped_machine.specs.Doing.{IsDone, IfOpen, IfSafe, HasGrown, HasRoom};
@@ -26,10 +26,10 @@ use crate::steps::Done;
 use crate::turns::{end_turn, enter_do};
 use crate::works::Work;
 use ped_base::NoMemory;
-use ped_eval::{NoWatch, Plan, RunError, State, plan_of, write_exit};
+use ped_interleavings::ped_eval::{NoWatch, Plan, RunError, State, plan_of, write_exit};
 use ped_marks::Marks;
 use ped_symbols::Symbols;
-use ped_tree::{Do, Stmt};
+use ped_interleavings::ped_tree::{Do, Stmt};
 use slab::Slab;
 use std::alloc::Global;
 

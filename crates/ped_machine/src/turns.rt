@@ -2,16 +2,16 @@
 
 ghost use Rattle.std.specs.Prelude.{◌≡◌, ◌<◌, ◌+◌, ◌^◌, ◌∷◌, ℕ, length, Bool, true, IfOk, OnOk, OnErr};
 ghost use Rattle.std.specs.List.{list_all};
-ghost use Rattle.ped_tree.specs.Views.{head_of, stmt_trees, do_tree};
+ghost use Rattle.ped_interleavings.specs.ped_tree.specs.Views.{head_of, stmt_trees, do_tree};
 ghost use Rattle.ped_symbols.specs.Kinds.{Table};
 ghost use Rattle.ped_store.specs.Keeping.{memory_of};
-ghost use Rattle.ped_eval.specs.Scopes as Scopes;
-ghost use Rattle.ped_eval.specs.Scopes.{Setting, cell_of};
-ghost use Rattle.ped_eval.specs.ScopeViews.{frame_view, outside};
-ghost use Rattle.ped_eval.specs.Loops as Loops;
-ghost use Rattle.ped_eval.specs.Agreement.{is_copy, DoCopiesStand};
-ghost use Rattle.ped_eval.specs.Plans.{entered_by, IsPlan};
-ghost use Rattle.ped_eval.specs.Readiness.{CanDo, IsReady};
+ghost use Rattle.ped_interleavings.specs.ped_eval.specs.Scopes as Scopes;
+ghost use Rattle.ped_interleavings.specs.ped_eval.specs.Scopes.{Setting, cell_of};
+ghost use Rattle.ped_interleavings.specs.ped_eval.specs.ScopeViews.{frame_view, outside};
+ghost use Rattle.ped_interleavings.specs.ped_eval.specs.Loops as Loops;
+ghost use Rattle.ped_interleavings.specs.ped_eval.specs.Agreement.{is_copy, DoCopiesStand};
+ghost use Rattle.ped_interleavings.specs.ped_eval.specs.Plans.{entered_by, IsPlan};
+ghost use Rattle.ped_interleavings.specs.ped_eval.specs.Readiness.{CanDo, IsReady};
 ghost use Rattle.ped_interleavings.specs.Lefts.{turns_left};
 ghost use Rattle.ped_interleavings.specs.Steps as Steps;
 ghost use Rattle.ped_machine.specs.Doing.{IsDone, IfOpen, IfSafe, HasGrown, HasRoom};
@@ -21,9 +21,9 @@ ghost use Rattle.ped_machine.specs.declared.steps.Done.TheVariants as done;
 use crate::parts::{Part, Parts, Turn};
 use crate::steps::Done;
 use ped_base::{Name, NoMemory};
-use ped_eval::{Frame, Plan, Scope, State, leave_loop};
+use ped_interleavings::ped_eval::{Frame, Plan, Scope, State, leave_loop};
 use ped_store::Store;
-use ped_tree::{Do, copy_names};
+use ped_interleavings::ped_tree::{Do, copy_names};
 use std::alloc::Global;
 
 /// What stands for the iteration of a DO before which there are so many.

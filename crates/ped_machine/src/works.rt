@@ -1,22 +1,22 @@
 //! What an iteration of a PARALLEL DO is to the loop.
 
 ghost use Rattle.std.specs.Prelude.{◌≡◌, ◌<◌, ◌+◌, ◌^◌, [], length, Bool, true, IfOk, OnErr};
-ghost use Rattle.ped_tree.specs.Views.{head_of, stmt_trees, do_tree};
+ghost use Rattle.ped_interleavings.specs.ped_tree.specs.Views.{head_of, stmt_trees, do_tree};
 ghost use Rattle.ped_symbols.specs.Kinds.{Table};
 ghost use Rattle.ped_store.specs.Cells.{Cell};
 ghost use Rattle.ped_store.specs.Keeping.{memory_of};
-ghost use Rattle.ped_eval.specs.Agreement.{DoCopiesStand};
-ghost use Rattle.ped_eval.specs.Plans.{entered_by, IsPlan};
-ghost use Rattle.ped_eval.specs.Readiness.{setting_by, CanDo, IsReady};
+ghost use Rattle.ped_interleavings.specs.ped_eval.specs.Agreement.{DoCopiesStand};
+ghost use Rattle.ped_interleavings.specs.ped_eval.specs.Plans.{entered_by, IsPlan};
+ghost use Rattle.ped_interleavings.specs.ped_eval.specs.Readiness.{setting_by, CanDo, IsReady};
 ghost use Rattle.ped_interleavings.specs.Lefts.{Left, finished, is_finished, body_left};
 ghost use Rattle.ped_interleavings.specs.Steps as Steps;
 ghost use Rattle.ped_machine.specs.Doing.{IsDone, IfOpen, IfSafe, HasGrown, HasRoom};
 
 use crate::steps::Done;
 use ped_base::NoMemory;
-use ped_eval::{Plan, State};
+use ped_interleavings::ped_eval::{Plan, State};
 use ped_symbols::Symbols;
-use ped_tree::Do;
+use ped_interleavings::ped_tree::Do;
 use std::alloc::Global;
 
 /// An iteration of a PARALLEL DO that has been started.

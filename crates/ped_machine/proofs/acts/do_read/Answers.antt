@@ -1,11 +1,11 @@
 use Rattle.std.proofs.Common.{map, refl}
 use Rattle.ped_store.specs.Keeping.{memory_of}
-use Rattle.ped_tree.specs.Views.{expr_tree}
-use Rattle.ped_eval.proofs.Takings.{read_stands, read_bounds}
+use Rattle.ped_interleavings.specs.ped_tree.specs.Views.{expr_tree}
+use Rattle.ped_interleavings.specs.ped_eval.proofs.Takings.{read_stands, read_bounds}
 use Rattle.ped_machine.proofs.Acting.{Same, same_kept, reads, read_fails}
 use Rattle.ped_machine.proofs.Growing.{same_grows}
-use Rattle.ped_eval.specs.Readiness.{setting_by}
-use Rattle.ped_eval.specs.Scopes.{place_of}
+use Rattle.ped_interleavings.specs.ped_eval.specs.Readiness.{setting_by}
+use Rattle.ped_interleavings.specs.ped_eval.specs.Scopes.{place_of}
 use Rattle.ped_machine.proofs.acts.do_read.Goals as goal
 
 pub returns-in-Ok-clause-does : goal.returns-in-Ok-clause-does

@@ -3,8 +3,8 @@ use Rattle.std.proofs.lemmas.List.{drop_all}
 use Rattle.std.specs.List.{list_all}
 use Rattle.ped_store.specs.Memories.{Memory}
 use Rattle.ped_store.specs.Keeping.{memory_of}
-use Rattle.ped_eval.specs.Scopes.{cell_of}
-use Rattle.ped_eval.specs.Agreement.{is_copy}
+use Rattle.ped_interleavings.specs.ped_eval.specs.Scopes.{cell_of}
+use Rattle.ped_interleavings.specs.ped_eval.specs.Agreement.{is_copy}
 use Rattle.ped_machine.proofs.Copying.{one_of_all, all_of_one}
 use Rattle.ped_machine.proofs.Growing.{room_twice, grown_twice}
 use Rattle.ped_machine.proofs.turns.open_copies.Goals as goal

@@ -2,8 +2,8 @@ use Rattle.std.proofs.Common.{◌≡◌, drop, true}
 use Rattle.std.specs.List.{list_all}
 use Rattle.ped_store.specs.Memories.{Memory}
 use Rattle.ped_store.specs.Keeping.{memory_of}
-use Rattle.ped_eval.specs.Scopes.{cell_of}
-use Rattle.ped_eval.specs.Agreement.{is_copy}
+use Rattle.ped_interleavings.specs.ped_eval.specs.Scopes.{cell_of}
+use Rattle.ped_interleavings.specs.ped_eval.specs.Agreement.{is_copy}
 use Rattle.ped_machine.specs.Doing.{HasGrown, HasRoom}
 use Rattle.ped_machine.proofs.turns.open_copies.Given as goal
 

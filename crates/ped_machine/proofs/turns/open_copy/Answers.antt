@@ -2,7 +2,7 @@ use Rattle.std.proofs.Common.{◌≡◌, Err, Ok, sym, ap, subst, ◌∙◌, tru
 use Rattle.ped_store.specs.Cells.{Cell}
 use Rattle.ped_store.specs.Memories.{got, with_copy}
 use Rattle.ped_store.specs.Keeping.{memory_of}
-use Rattle.ped_eval.specs.Scopes.{cell_of}
+use Rattle.ped_interleavings.specs.ped_eval.specs.Scopes.{cell_of}
 use Rattle.ped_machine.proofs.Copying.{read_stands, unread_undefined, made_room, made_stands}
 use Rattle.ped_machine.proofs.Growing.{no_room}
 use Rattle.ped_machine.proofs.turns.open_copy.Goals as goal

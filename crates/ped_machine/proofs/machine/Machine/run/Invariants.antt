@@ -1,5 +1,5 @@
 use Rattle.std.proofs.Common.{◌≡◌}
-use Rattle.ped_eval.specs.Outcomes.{setting_of}
+use Rattle.ped_interleavings.specs.ped_eval.specs.Outcomes.{setting_of}
 use Rattle.ped_interleavings.specs.Interleavings.{IsReached}
 use Rattle.ped_interleavings.specs.Weights.{left_weight}
 use Rattle.ped_machine.specs.Machines.{standing}

@@ -1,7 +1,7 @@
 -- Statements by what the code answers for them.
 use Rattle.std.proofs.Common.{◌≡◌, ℕ, ◌+◌, List, [], ◌∷◌, ◌++◌, Bool, true, false, Option, Some, None, Result, Ok, Err, if◌then◌else◌, refl, sym, ap, subst, ◌∙◌}
-use Rattle.ped_interleavings.specs.ped_tree.specs.Tree.{ExprTree, ItemTree, CondTree, Head, StmtTrees, Assign, If, Do, Print, Read, Stop}
-use Rattle.ped_interleavings.specs.ped_tree.specs.Numbering.{statements_count}
+use Rattle.ped_tree.specs.Tree.{ExprTree, ItemTree, CondTree, Head, StmtTrees, Assign, If, Do, Print, Read, Stop}
+use Rattle.ped_tree.specs.Numbering.{statements_count}
 use Rattle.ped_symbols.specs.Kinds.{Table}
 use Rattle.ped_store.specs.Cells.{In}
 use Rattle.ped_store.specs.Stores.{Number, Lines, Store, put}

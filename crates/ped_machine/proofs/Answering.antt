@@ -1,6 +1,6 @@
 -- What a step of a machine answers, by that of its parts.
 use Rattle.std.proofs.Common.{◌≡◌, ◌<◌, ◌+◌, ◌*◌, ℕ, zero, suc, List, [], ◌∷◌, refl, sym, ap, subst, ◌∙◌, arith}
-use Rattle.ped_interleavings.specs.ped_tree.specs.Tree.{StmtTree, StmtTrees, ProgramTree, Assign, If, Do, Print, Read, Stop, Comment}
+use Rattle.ped_tree.specs.Tree.{StmtTree, StmtTrees, ProgramTree, Assign, If, Do, Print, Read, Stop, Comment}
 use Rattle.ped_symbols.specs.Kinds.{Table, table_of}
 use Rattle.ped_store.specs.Cells.{Out}
 use Rattle.ped_store.specs.Stores.{Store, lines_in}

@@ -4,7 +4,7 @@ use Rattle.std.specs.Prelude.{◌==◌}
 use Rattle.ped_store.specs.Stores.{Store}
 use Rattle.ped_store.specs.Acts.{store_behind, closed}
 use Rattle.ped_store.specs.Memories.{Memory}
-use Rattle.ped_interleavings.specs.ped_tree.specs.Views.{head_of, stmt_trees}
+use Rattle.ped_tree.specs.Views.{head_of, stmt_trees}
 use Rattle.ped_interleavings.specs.ped_eval.specs.Scopes.{Setting, Scope, place_of}
 use Rattle.ped_interleavings.specs.ped_eval.specs.Loops.{Entered, exit_touches}
 use Rattle.ped_interleavings.specs.ped_eval.specs.Plans.{entered_by}

@@ -5,9 +5,9 @@ use Rattle.slab.specs.Slab.{Slab, get, Updates, SameValues}
 use Rattle.ped_marks.specs.declared.marks.Mark.{Mark}
 use Rattle.ped_marks.specs.declared.marks.Mark.TheVariants.{Waits, Running, Done}
 use Rattle.ped_marks.specs.Marks.{at, is_done, is_running}
-use Rattle.ped_interleavings.specs.ped_tree.specs.Tree.{StmtTree, StmtTrees, Assign, If, Do, Print, Read, Stop, Comment, no_stmts, more_stmts}
-use Rattle.ped_interleavings.specs.ped_tree.specs.Views.{head_of, stmt_trees, do_tree}
-use Rattle.ped_interleavings.specs.ped_tree.specs.Numbering.{statement_count}
+use Rattle.ped_tree.specs.Tree.{StmtTree, StmtTrees, Assign, If, Do, Print, Read, Stop, Comment, no_stmts, more_stmts}
+use Rattle.ped_tree.specs.Views.{head_of, stmt_trees, do_tree}
+use Rattle.ped_tree.specs.Numbering.{statement_count}
 use Rattle.ped_symbols.specs.Kinds.{Table}
 use Rattle.ped_store.specs.Cells.{Cell}
 use Rattle.ped_interleavings.specs.ped_eval.specs.Scopes.{Scope}

@@ -1,7 +1,7 @@
 -- Runs that are reached from others.
 use Rattle.std.proofs.Common.{◌≡◌, ℕ, zero, suc, List, Bool, true, false, Option, Some, None, Ok, refl, sym, ap, subst, ◌∙◌}
 use Rattle.std.specs.Prelude.{option_and_then}
-use Rattle.ped_interleavings.specs.ped_tree.specs.Tree.{ProgramTree}
+use Rattle.ped_tree.specs.Tree.{ProgramTree}
 use Rattle.ped_store.specs.Stores.{Store}
 use Rattle.ped_store.specs.Acts.{Act, store_behind}
 use Rattle.ped_interleavings.specs.ped_eval.specs.Scopes.{Setting}

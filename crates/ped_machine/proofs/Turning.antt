@@ -1,6 +1,6 @@
 -- Iterations of DO loops: how one follows another, and how the last is left.
 use Rattle.std.proofs.Common.{◌≡◌, ◌<◌, ◌≤◌, ℕ, zero, suc, ◌+◌, ◌-◌, List, [], ◌∷◌, Bool, Option, Some, None, length, if◌then◌else◌, refl, sym, ap, subst, ◌∙◌, arith}
-use Rattle.ped_interleavings.specs.ped_tree.specs.Tree.{Head, StmtTrees, Do, no_stmts}
+use Rattle.ped_tree.specs.Tree.{Head, StmtTrees, Do, no_stmts}
 use Rattle.ped_symbols.specs.Kinds.{Table}
 use Rattle.ped_store.specs.Stores.{Store}
 use Rattle.ped_store.specs.Acts.{Touch, store_behind}

@@ -1,6 +1,6 @@
 -- What a step of a part of a machine comes to (this project).
 use Rattle.std.specs.Prelude.{◌≡◌, ℕ, true, Result, Ok, Err}
-use Rattle.ped_interleavings.specs.ped_tree.specs.Tree.{StmtTree}
+use Rattle.ped_tree.specs.Tree.{StmtTree}
 use Rattle.ped_symbols.specs.Kinds.{Table}
 use Rattle.ped_store.specs.Cells.{Cell}
 use Rattle.ped_store.specs.Stores.{Store}

@@ -1,4 +1,4 @@
-pub use Rattle.ped_interleavings.specs.ped_tree
+pub use Rattle.ped_tree
 pub use Rattle.ped_interleavings.specs.ped_eval
 pub use Rattle.ped_interleavings
 pub mod Doing

@@ -1,6 +1,6 @@
 -- What a machine of the code stands for, and what its steps answer (this project).
 use Rattle.std.specs.Prelude.{◌≡◌, ℕ, List, Result, Ok, Err}
-use Rattle.ped_interleavings.specs.ped_tree.specs.Tree.{ProgramTree}
+use Rattle.ped_tree.specs.Tree.{ProgramTree}
 use Rattle.ped_store.specs.Stores.{Store}
 use Rattle.ped_store.specs.Acts.{Act, store_behind}
 use Rattle.ped_interleavings.specs.Lefts.{Left, finished}

@@ -1,8 +1,8 @@
 -- What an iteration has left outside of the PARALLEL DO loops that are open in it (this project).
 use Rattle.std.specs.Prelude.{◌≡◌, ◌<◌, ◌^◌, ℕ, ◌+◌, ◌-◌, List, [], ◌∷◌, map, reverse, Option, Some, None, Bool, true, false}
-use Rattle.ped_interleavings.specs.ped_tree.specs.Tree.{Head, StmtTree, StmtTrees, Do, Comment, no_stmts, more_stmts}
-use Rattle.ped_interleavings.specs.ped_tree.specs.Numbering.{statement_count}
-use Rattle.ped_interleavings.specs.ped_tree.specs.Views.{head_of, stmt_tree, stmt_trees}
+use Rattle.ped_tree.specs.Tree.{Head, StmtTree, StmtTrees, Do, Comment, no_stmts, more_stmts}
+use Rattle.ped_tree.specs.Numbering.{statement_count}
+use Rattle.ped_tree.specs.Views.{head_of, stmt_tree, stmt_trees}
 use Rattle.ped_symbols.specs.Kinds.{Table}
 use Rattle.ped_interleavings.specs.ped_eval.specs.Scopes.{Scope}
 use Rattle.ped_interleavings.specs.ped_eval.specs.ScopeViews.{outside}

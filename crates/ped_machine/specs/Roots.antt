@@ -12,7 +12,7 @@ use Rattle.ped_machine.specs.declared.levels.Level.{Level}
 use Rattle.ped_machine.specs.declared.works.Never.{Never}
 use Rattle.ped_machine.specs.declared.machine.Machine.{Machine}
 use Rattle.ped_machine.specs.Machines.{Held}
-use Rattle.ped_interleavings.specs.ped_tree.specs.Views.{program_tree}
+use Rattle.ped_tree.specs.Views.{program_tree}
 use Rattle.ped_symbols.specs.Kinds.{table_of}
 use Rattle.ped_store.specs.Keeping.{memory_of}
 use Rattle.ped_store.specs.Cells.{Cell}

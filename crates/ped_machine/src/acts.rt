@@ -1,8 +1,8 @@
 //! Statements of one act, and the conditions of IF statements.
 
 ghost use Rattle.std.specs.Prelude.{◌≡◌, ◌<◌, ◌+◌, ◌^◌, ◌∷◌, map, false, None, IfOk, OnOk, OnErr, Ok};
-ghost use Rattle.ped_interleavings.specs.ped_tree.specs.Tree.{Assign, Print, Read};
-ghost use Rattle.ped_interleavings.specs.ped_tree.specs.Views.{expr_tree, cond_tree, item_tree, stmt_tree, stmt_trees};
+ghost use Rattle.ped_tree.specs.Tree.{Assign, Print, Read};
+ghost use Rattle.ped_tree.specs.Views.{expr_tree, cond_tree, item_tree, stmt_tree, stmt_trees};
 ghost use Rattle.ped_store.specs.Keeping.{memory_of};
 ghost use Rattle.ped_interleavings.specs.ped_eval.specs.ScopeViews.{names_at};
 ghost use Rattle.ped_interleavings.specs.ped_eval.specs.Values.{truth};
@@ -21,7 +21,7 @@ use ped_interleavings::ped_eval::{
 };
 use ped_store::RunFault;
 use ped_symbols::Symbols;
-use ped_interleavings::ped_tree::{Cond, Expr, PrintItem, Stmt, count_statements};
+use ped_tree::{Cond, Expr, PrintItem, Stmt, count_statements};
 use std::alloc::Global;
 
 /// Begins a statement other than a DO, of which the parts are what is left behind it.

@@ -1,7 +1,7 @@
 //! The iterations of PARALLEL DO loops that have been started.
 
 ghost use Rattle.std.specs.Prelude.{◌≡◌, ◌<◌, ◌+◌, ◌^◌, ◌∷◌, length, [], None, IfOk};
-ghost use Rattle.ped_interleavings.specs.ped_tree.specs.Views.{head_of, stmt_trees};
+ghost use Rattle.ped_tree.specs.Views.{head_of, stmt_trees};
 ghost use Rattle.ped_interleavings.specs.ped_eval.specs.Loops as Loops;
 ghost use Rattle.ped_interleavings.specs.ped_eval.specs.ScopeViews.{frame_view};
 ghost use Rattle.ped_machine.specs.Parts.{parts_of};
@@ -15,7 +15,7 @@ use crate::works::Work;
 use ped_base::NoMemory;
 use ped_interleavings::ped_eval::{Frame, Plan, Scope, State};
 use ped_symbols::Symbols;
-use ped_interleavings::ped_tree::Do;
+use ped_tree::Do;
 use std::alloc::Global;
 
 /// An iteration of a PARALLEL DO that has been started.

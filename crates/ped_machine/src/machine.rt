@@ -1,7 +1,7 @@
 //! The machine.
 
 ghost use Rattle.std.specs.Prelude.{◌≡◌, ◌<◌, ◌∷◌, [], ℕ, List, None, drop, Ok, IfOk, OnErr};
-ghost use Rattle.ped_interleavings.specs.ped_tree.specs.Views.{program_tree, stmt_trees};
+ghost use Rattle.ped_tree.specs.Views.{program_tree, stmt_trees};
 ghost use Rattle.ped_symbols.specs.Kinds.{table_of};
 ghost use Rattle.ped_symbols.specs.NameRefusals.{IsValid};
 ghost use Rattle.ped_interleavings.specs.ped_eval.specs.Outcomes.{setting_of};
@@ -25,7 +25,7 @@ use ped_interleavings::ped_eval::{Outcome, State, ended, start};
 use ped_interleavings::lighter;
 use ped_symbols::Symbols;
 use ped_symbols::right_uses::right_where_valid;
-use ped_interleavings::ped_tree::Program;
+use ped_tree::Program;
 use std::alloc::Global;
 
 /// An iteration of an outermost PARALLEL DO: DO loops stand at most six deep in one another.

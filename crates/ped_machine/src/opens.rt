@@ -23,7 +23,7 @@ use ped_base::NoMemory;
 use ped_interleavings::ped_eval::{Plan, State};
 use ped_marks::{Mark, Marks};
 use ped_symbols::Symbols;
-use ped_interleavings::ped_tree::Do;
+use ped_tree::Do;
 use slab::Slab;
 use std::alloc::Global;
 

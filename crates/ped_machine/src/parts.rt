@@ -1,15 +1,15 @@
 //! What an iteration has left outside of open PARALLEL DO loops.
 
 ghost use Rattle.std.specs.Prelude.{◌≡◌, ◌<◌, ◌+◌, ◌^◌, [], ◌∷◌, length, true, is_none, Some, None, MatchOption, OnOk, OnErr};
-ghost use Rattle.ped_interleavings.specs.ped_tree.specs.Views.{stmt_tree, stmt_trees};
-ghost use Rattle.ped_interleavings.specs.ped_tree.specs.Numbering.{statements_count};
+ghost use Rattle.ped_tree.specs.Views.{stmt_tree, stmt_trees};
+ghost use Rattle.ped_tree.specs.Numbering.{statements_count};
 ghost use Rattle.ped_interleavings.specs.ped_eval.specs.Scopes.{Scope};
 ghost use Rattle.ped_interleavings.specs.Lefts.{is_finished};
 ghost use Rattle.ped_machine.specs.Parts.{part_view, turn_view, parts_of, parts_left, advanced, counted, with_statements, with_next_turn, statements_behind, behind_first, begins_with_comment, first_turn, first_statements, has_some, first_number, first_count, is_comment, CanTurnOn, FirstGoesOn, IsFirstBlock, IsNext, IsSettled, IsSpent, IsWithoutComments};
 
 use ped_base::NoMemory;
 use ped_interleavings::ped_eval::Plan;
-use ped_interleavings::ped_tree::{Do, Stmt, count_statement};
+use ped_tree::{Do, Stmt, count_statement};
 use std::alloc::Global;
 
 /// An iteration of a DO whose end is still to be done.

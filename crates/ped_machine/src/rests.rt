@@ -1,7 +1,7 @@
 //! What is left of the whole run or of an iteration, with the PARALLEL DO that is open in it.
 
 ghost use Rattle.std.specs.Prelude.{◌≡◌, ◌<◌, ◌^◌, ℕ, Bool, true, false, None, IsSome, MatchOption, IfOk, OnOk, OnErr};
-ghost use Rattle.ped_interleavings.specs.ped_tree.specs.Views.{head_of, stmt_tree, stmt_trees, do_tree};
+ghost use Rattle.ped_tree.specs.Views.{head_of, stmt_tree, stmt_trees, do_tree};
 ghost use Rattle.ped_symbols.specs.Kinds.{Table};
 ghost use Rattle.ped_store.specs.Cells.{Cell};
 ghost use Rattle.ped_store.specs.Acts.{store_behind};
@@ -29,7 +29,7 @@ use ped_base::NoMemory;
 use ped_interleavings::ped_eval::{NoWatch, Plan, RunError, State, plan_of, write_exit};
 use ped_marks::Marks;
 use ped_symbols::Symbols;
-use ped_interleavings::ped_tree::{Do, Stmt};
+use ped_tree::{Do, Stmt};
 use slab::Slab;
 use std::alloc::Global;
 

@@ -2,7 +2,7 @@
 
 ghost use Rattle.std.specs.Prelude.{◌≡◌, ◌<◌, ◌+◌, ◌^◌, ◌∷◌, ℕ, length, Bool, true, IfOk, OnOk, OnErr};
 ghost use Rattle.std.specs.List.{list_all};
-ghost use Rattle.ped_interleavings.specs.ped_tree.specs.Views.{head_of, stmt_trees, do_tree};
+ghost use Rattle.ped_tree.specs.Views.{head_of, stmt_trees, do_tree};
 ghost use Rattle.ped_symbols.specs.Kinds.{Table};
 ghost use Rattle.ped_store.specs.Keeping.{memory_of};
 ghost use Rattle.ped_interleavings.specs.ped_eval.specs.Scopes as Scopes;
@@ -23,7 +23,7 @@ use crate::steps::Done;
 use ped_base::{Name, NoMemory};
 use ped_interleavings::ped_eval::{Frame, Plan, Scope, State, leave_loop};
 use ped_store::Store;
-use ped_interleavings::ped_tree::{Do, copy_names};
+use ped_tree::{Do, copy_names};
 use std::alloc::Global;
 
 /// What stands for the iteration of a DO before which there are so many.

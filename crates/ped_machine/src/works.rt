@@ -1,7 +1,7 @@
 //! What an iteration of a PARALLEL DO is to the loop.
 
 ghost use Rattle.std.specs.Prelude.{◌≡◌, ◌<◌, ◌+◌, ◌^◌, [], length, Bool, true, IfOk, OnErr};
-ghost use Rattle.ped_interleavings.specs.ped_tree.specs.Views.{head_of, stmt_trees, do_tree};
+ghost use Rattle.ped_tree.specs.Views.{head_of, stmt_trees, do_tree};
 ghost use Rattle.ped_symbols.specs.Kinds.{Table};
 ghost use Rattle.ped_store.specs.Cells.{Cell};
 ghost use Rattle.ped_store.specs.Keeping.{memory_of};
@@ -16,7 +16,7 @@ use crate::steps::Done;
 use ped_base::NoMemory;
 use ped_interleavings::ped_eval::{Plan, State};
 use ped_symbols::Symbols;
-use ped_interleavings::ped_tree::Do;
+use ped_tree::Do;
 use std::alloc::Global;
 
 /// An iteration of a PARALLEL DO that has been started.

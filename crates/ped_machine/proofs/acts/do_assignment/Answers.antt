@@ -1,7 +1,7 @@
 use Rattle.std.proofs.Common.{◌≡◌}
 use Rattle.ped_store.specs.Stores.{Number}
 use Rattle.ped_store.specs.Keeping.{memory_of}
-use Rattle.ped_interleavings.specs.ped_tree.specs.Views.{expr_tree}
+use Rattle.ped_tree.specs.Views.{expr_tree}
 use Rattle.ped_machine.proofs.Acting.{assigns, assign_fails}
 use Rattle.ped_machine.proofs.Growing.{content_grows}
 use Rattle.ped_machine.proofs.acts.do_assignment.Goals as goal

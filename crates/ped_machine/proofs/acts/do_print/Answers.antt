@@ -1,7 +1,7 @@
 use Rattle.std.proofs.Common.{◌≡◌, List, map, Err, Ok, sym, ap, subst, ◌∙◌, refl}
 use Rattle.ped_store.specs.Memories.{with_printed}
 use Rattle.ped_store.specs.Keeping.{memory_of}
-use Rattle.ped_interleavings.specs.ped_tree.specs.Views.{item_tree}
+use Rattle.ped_tree.specs.Views.{item_tree}
 use Rattle.ped_interleavings.specs.ped_eval.specs.ScopeViews.{names_at}
 use Rattle.ped_interleavings.specs.ped_eval.specs.Statements.{printed_line}
 use Rattle.ped_interleavings.specs.ped_eval.specs.Items.{IsPrinted}

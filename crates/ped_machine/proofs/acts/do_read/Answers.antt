@@ -1,6 +1,6 @@
 use Rattle.std.proofs.Common.{map, refl}
 use Rattle.ped_store.specs.Keeping.{memory_of}
-use Rattle.ped_interleavings.specs.ped_tree.specs.Views.{expr_tree}
+use Rattle.ped_tree.specs.Views.{expr_tree}
 use Rattle.ped_interleavings.specs.ped_eval.proofs.Takings.{read_stands, read_bounds}
 use Rattle.ped_machine.proofs.Acting.{Same, same_kept, reads, read_fails}
 use Rattle.ped_machine.proofs.Growing.{same_grows}

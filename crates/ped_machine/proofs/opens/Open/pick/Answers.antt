@@ -1,8 +1,8 @@
 -- Which iteration is picked, by what the marks tell.
 use Rattle.std.proofs.Common.{◌≡◌, ℕ, List, [], ◌∷◌, length, Bool, true, false, Option, Some, None, eqb, eqb-true, eq-eqb, refl, sym, ap, ◌∙◌}
-use Rattle.ped_interleavings.specs.ped_tree.specs.declared.statements.Stmt.{Stmt}
-use Rattle.ped_interleavings.specs.ped_tree.specs.Tree.{no_stmts}
-use Rattle.ped_interleavings.specs.ped_tree.specs.Views.{stmt_tree, stmt_trees}
+use Rattle.ped_tree.specs.declared.statements.Stmt.{Stmt}
+use Rattle.ped_tree.specs.Tree.{no_stmts}
+use Rattle.ped_tree.specs.Views.{stmt_tree, stmt_trees}
 use Rattle.ped_interleavings.specs.Lefts.{unfinished, or_else}
 use Rattle.ped_machine.specs.Parts.{IsWithoutComments}
 use Rattle.ped_machine.specs.Opens.{lefts_of, place_left, is_bare}

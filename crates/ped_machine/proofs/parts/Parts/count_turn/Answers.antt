@@ -1,7 +1,7 @@
 use Rattle.std.proofs.Common.{◌≡◌, ◌<◌, ◌∷◌, ◌+◌, ◌-◌, Some, length, refl, sym, ap, ◌∙◌, arith}
 use Rattle.std.specs.Vec.{vec_len}
 use Rattle.ped_machine.specs.Parts.{counted, turn_seen}
-use Rattle.ped_interleavings.specs.ped_tree.specs.Views.{stmt_trees}
+use Rattle.ped_tree.specs.Views.{stmt_trees}
 use Rattle.ped_machine.proofs.PartsLeft.{last_at}
 use Rattle.ped_machine.proofs.parts.Parts.count_turn.Goals as goal
 

@@ -1,13 +1,14 @@
 -- Statements by what the code answers for them.
+use Rattle.std.specs.Prelude.{IfOk, OnOk, OnErr}
 use Rattle.std.proofs.Common.{◌≡◌, ℕ, ◌+◌, List, [], ◌∷◌, ◌++◌, Bool, true, false, Option, Some, None, Result, Ok, Err, if◌then◌else◌, refl, sym, ap, subst, ◌∙◌}
-use Rattle.ped_tree.specs.Tree.{ExprTree, ItemTree, CondTree, Head, StmtTrees, Assign, If, Do, Print, Read, Stop}
+use Rattle.ped_tree.specs.Tree.{StmtTree, ExprTree, ItemTree, CondTree, Head, StmtTrees, Assign, If, Do, Print, Read, Stop}
 use Rattle.ped_tree.specs.Numbering.{statements_count}
 use Rattle.ped_symbols.specs.Kinds.{Table}
 use Rattle.ped_store.specs.Cells.{In}
 use Rattle.ped_store.specs.Stores.{Number, Lines, Store, put}
 use Rattle.ped_store.specs.Acts.{Place, did, entered, store_behind}
 use Rattle.ped_store.specs.Memories.{Memory, with_content, with_printed}
-use Rattle.ped_interleavings.specs.ped_eval.specs.Agreement.{IsSame}
+use Rattle.ped_interleavings.specs.ped_eval.specs.Agreement.{IsSame, DoCopiesStand}
 use Rattle.ped_interleavings.specs.ped_eval.specs.Scopes.{Setting, Scope, names_in, place_of, cell_of, index_value}
 use Rattle.ped_interleavings.specs.ped_eval.specs.ScopeViews.{names_at}
 use Rattle.ped_interleavings.specs.ped_eval.specs.Evaluation.{Seen, Evaluated, numbered, number_behind}
@@ -15,14 +16,19 @@ use Rattle.ped_interleavings.specs.ped_eval.specs.Values.{truth}
 use Rattle.ped_interleavings.specs.ped_eval.specs.Statements.{Stored, assigned, assignment_touches, printed_line, print_touches, write_touch, reading, reading_touches, Taking}
 use Rattle.ped_interleavings.specs.ped_eval.specs.Takings.{read_taken}
 use Rattle.ped_interleavings.specs.ped_eval.specs.Loops.{Limits, limits, Entered, entered_with, exit_when_none, entry_touches}
+use Rattle.ped_interleavings.specs.ped_eval.specs.Plans.{entered_by, IsPlanWithin}
+use Rattle.ped_interleavings.specs.ped_eval.specs.declared.plans.Plan.{Plan}
 use Rattle.ped_interleavings.specs.ped_eval.specs.Runs.{going, failed, does, nothing_done, on_value, run_taking}
-use Rattle.ped_interleavings.specs.ped_eval.specs.Readiness.{setting_by, IsReady}
+use Rattle.ped_interleavings.specs.ped_eval.specs.Readiness.{setting_by, IsReady, CanRun}
 use Rattle.ped_interleavings.specs.ped_eval.proofs.Endings.{reads_leave, only_reads}
 use Rattle.ped_interleavings.specs.ped_eval.proofs.KeptByWrites.{IsKeptByWrites}
 use Rattle.ped_interleavings.specs.ped_eval.proofs.Takings.{reading_taken, read_ending, read_ending_fails}
 use Rattle.ped_interleavings.specs.Lefts.{Left, left_of_all, entered_left}
 use Rattle.ped_interleavings.specs.Steps.{Next, met, went, halted, act_of, by_run, simple_step, seen_next, begun}
-use Rattle.ped_machine.specs.Doing.{IsDone, IsActed}
+use Rattle.ped_machine.specs.Doing.{IsDone, IsActed, IfOpen, HasRoom}
+use Rattle.ped_machine.proofs.Growing.{same_copies}
+use Rattle.ped_machine.specs.Parts.{Part, parts_left, CanGo}
+use Rattle.ped_machine.specs.declared.steps.Done as answer
 use Rattle.ped_machine.specs.declared.steps.Done.TheVariants as done
 
 -- what is kept is the store of the run
@@ -190,3 +196,72 @@ module _ (table : Table) (scope : Scope) (n : ℕ) (m : Memory) (bounds : m.boun
         subst (λ (x : Next). IsDone x start m.cells (done.Fault f n) left new)
         (λ i. seen_next (place_of p n scope) t.seen (sym lim i) goes_in)
         (refl, refl)
+
+-- the same statement
+pub acted_as : (table : Table) (scope : Scope) (n : ℕ) (t u : StmtTree) (m new : Memory) (d : answer.Done) → t ≡ u → IsActed table scope n u m d new → IsActed table scope n t m d new
+acted_as table scope n t u m new d e h = subst (λ (x : StmtTree). IsActed table scope n x m d new) (sym e) h
+
+-- what holds holds where the run may go on
+pub open_by : {E : Type 0} (r : Result answer.Done E) (P : Type 0) → P → IfOpen r P
+open_by (Ok done.Went) P h = h
+open_by (Ok done.Ended) P h = h
+open_by (Ok done.Halted) P h = tt
+open_by (Ok (done.Fault f n)) P h = tt
+open_by (Err x) P h = h
+
+module _ {E : Type 0} (r : Result answer.Done E) (old new : List Part) (ts : StmtTrees) (k : ℕ) (ok : OnOk r (new ≡ record { stmts = ts; first = k; turn = None } ∷ old)) where
+  -- statements that are put before what is left can be done where that can
+  pub pushed_can : (table : Table) (scope : Scope) → CanRun table scope k ts → CanGo table old scope → OnErr r (new ≡ old) → IfOpen r (CanGo table new scope)
+  pushed_can table scope can go err = by r ok err
+    where
+      by : (q : Result answer.Done E) → OnOk q (new ≡ record { stmts = ts; first = k; turn = None } ∷ old) → OnErr q (new ≡ old) → IfOpen q (CanGo table new scope)
+      by (Ok d) h e = open_by {E = E} (Ok d) (CanGo table new scope) (subst (λ (ps : List Part). CanGo table ps scope) (sym h) (can, go))
+      by (Err x) h e = subst (λ (ps : List Part). CanGo table ps scope) (sym e) go
+
+  -- the part of an IF that its condition picks is put before what is left
+  pub branched : (table : Table) (scope : Scope) (n : ℕ) (m : Memory) (bounds : m.bounds ≡ (setting_by table).bounds) (t : StmtTree) (condition : CondTree) (a b : StmtTrees) (holds : Bool)
+      → t ≡ If condition a b → (truth (names_at m scope table.constants) condition m.cells).result ≡ Ok holds
+      → left_of_all ts k scope (parts_left old scope) ≡ (if holds then left_of_all a (n + 1) scope (parts_left old scope) else left_of_all b (n + 1 + statements_count a) scope (parts_left old scope))
+      → IfOk r (λ d. d ≡ done.Went)
+      → IfOk r (λ d. (l : Left) → IsDone (begun (setting_by table) t n scope (parts_left old scope) m.cells) l m.cells d (parts_left new scope) m.cells)
+  branched table scope n m bounds t condition a b holds is e same gone = by r ok gone
+    where
+      by : (q : Result answer.Done E) → OnOk q (new ≡ record { stmts = ts; first = k; turn = None } ∷ old) → IfOk q (λ d. d ≡ done.Went)
+          → IfOk q (λ d. (l : Left) → IsDone (begun (setting_by table) t n scope (parts_left old scope) m.cells) l m.cells d (parts_left new scope) m.cells)
+      by (Ok d) h w =
+          λ l. subst (λ (x : StmtTree). IsDone (begun (setting_by table) x n scope (parts_left old scope) m.cells) l m.cells d (parts_left new scope) m.cells) (sym is)
+          (subst (λ (y : answer.Done). IsDone (begun (setting_by table) (If condition a b) n scope (parts_left old scope) m.cells) l m.cells y (parts_left new scope) m.cells) (sym w)
+          (branches table scope n m bounds condition a b l (parts_left old scope) holds (parts_left new scope) e (ap (λ (ps : List Part). parts_left ps scope) h ∙ same)))
+      by (Err x) h w = tt
+
+-- the same, where there may be no memory for it
+pub acted_or_not : {E : Type 0} (r : Result answer.Done E) (table : Table) (scope : Scope) (n : ℕ) (t u : StmtTree) (m new : Memory) → t ≡ u → IfOk r (λ d. IsActed table scope n u m d new)
+    → (rest : Left) → IfOk r (λ d. (l : Left) → IsDone (begun (setting_by table) t n scope rest m.cells) l m.cells d rest new.cells)
+acted_or_not (Ok d) table scope n t u m new e h rest = λ l. acted_as table scope n t u m new d e h l rest
+acted_or_not (Err x) table scope n t u m new e h rest = tt
+
+-- a DO that has been entered
+module _ {E : Type 0} (r : Result answer.Done E) (table : Table) (scope : Scope) (n : ℕ) (m : Memory) (bounds : m.bounds ≡ (setting_by table).bounds) (h : Head) (body : StmtTrees) (rest : Left) (plan : Plan) (lim : Limits) (left : Left) (new : Store) where
+  pub entered_done : (limits (names_at m scope table.constants) h m.cells).result ≡ Ok lim → IsPlanWithin table.constants n h body lim plan → plan.behind ≡ number_behind 1 (limits (names_at m scope table.constants) h m.cells).seen
+      → IfOk r (λ d. d ≡ done.Went) → OnOk r (left ≡ entered_left h.parallel plan.count (entered_by h plan plan.behind) body plan.number scope rest)
+      → OnOk r (new ≡ store_behind (exit_when_none plan.count (entered_by h plan plan.behind) scope) m.cells)
+      → IfOk r (λ d. (l : Left) → IsDone (begun (setting_by table) (Do h body) n scope rest m.cells) l m.cells d left new)
+  entered_done is within behind gone lefts store = by r gone lefts store
+    where
+      by : (q : Result answer.Done E) → IfOk q (λ d. d ≡ done.Went) → OnOk q (left ≡ entered_left h.parallel plan.count (entered_by h plan plan.behind) body plan.number scope rest)
+          → OnOk q (new ≡ store_behind (exit_when_none plan.count (entered_by h plan plan.behind) scope) m.cells)
+          → IfOk q (λ d. (l : Left) → IsDone (begun (setting_by table) (Do h body) n scope rest m.cells) l m.cells d left new)
+      by (Ok d) w k u =
+          let e = entered_by h plan plan.behind in
+          let number : n ≡ plan.number = ap (λ (x : Entered). x.number) (within.entered []) in
+          λ l. subst (λ (y : answer.Done). IsDone (begun (setting_by table) (Do h body) n scope rest m.cells) l m.cells y left new) (sym w)
+          (enters table scope n m bounds h body l rest lim e left new is
+          (within.entered (limits (names_at m scope table.constants) h m.cells).seen ∙ ap (entered_by h plan) (sym behind))
+          (k ∙ ap (λ (j : ℕ). entered_left h.parallel plan.count e body j scope rest) (sym number)) u)
+      by (Err x) w k u = tt
+
+-- what is left of an iteration has copies still
+pub entered_copies : (A B : Type 0) {E : Type 0} (r : Result answer.Done E) (scope inner : Scope) (m new : Memory) → OnOk r (DoCopiesStand scope m.stands → DoCopiesStand inner new.stands) → OnErr r ((inner ≡ scope) × A × B × HasRoom m new)
+    → DoCopiesStand scope m.stands → IfOpen r (DoCopiesStand inner new.stands)
+entered_copies A B {E = E} (Ok d) scope inner m new f k h = open_by {E = E} (Ok d) (DoCopiesStand inner new.stands) (f h)
+entered_copies A B (Err x) scope inner m new f k h = same_copies scope inner m new k.0 k.3.grown h

@@ -1,5 +1,5 @@
 -- What a step of a machine answers, by that of its parts.
-use Rattle.std.proofs.Common.{◌≡◌, ◌<◌, ◌+◌, ◌*◌, ℕ, zero, suc, List, [], ◌∷◌, refl, sym, ap, subst, ◌∙◌, arith}
+use Rattle.std.proofs.Common.{◌≡◌, ◌<◌, ◌+◌, ◌*◌, ℕ, zero, suc, List, [], ◌∷◌, Bool, true, false, Ok, if◌then◌else◌, refl, sym, ap, subst, ◌∙◌, arith}
 use Rattle.ped_tree.specs.Tree.{StmtTree, StmtTrees, ProgramTree, Assign, If, Do, Print, Read, Stop, Comment}
 use Rattle.ped_symbols.specs.Kinds.{Table, table_of}
 use Rattle.ped_store.specs.Cells.{Out}
@@ -11,13 +11,19 @@ use Rattle.ped_interleavings.specs.ped_eval.specs.Outcomes as Outcomes
 use Rattle.ped_interleavings.specs.ped_eval.specs.Outcomes.{setting_of, live_names, outcome_of}
 use Rattle.ped_interleavings.specs.ped_eval.specs.Live.{rows_in}
 use Rattle.ped_interleavings.specs.ped_eval.specs.Runs.{going, stopped}
-use Rattle.ped_interleavings.specs.ped_eval.specs.Readiness.{setting_by}
+use Rattle.ped_interleavings.specs.ped_eval.specs.Readiness.{setting_by, IsReady}
+use Rattle.ped_interleavings.specs.ped_eval.specs.Agreement.{DoCopiesStand}
 use Rattle.ped_interleavings.specs.ped_eval.proofs.RunOutcomes.{setting_same, ended_by_stop}
 use Rattle.ped_interleavings.specs.Lefts.{Left, finished, begins, ends_turn, open_loop}
 use Rattle.ped_interleavings.specs.Steps.{Next, over, met, went, halted, step}
 use Rattle.ped_interleavings.specs.Weights.{left_weight, lefts_weight, stmt_weight, stmts_weight, most_turns}
-use Rattle.ped_machine.specs.Doing.{IsDone}
-use Rattle.ped_machine.specs.Machines.{Held, IsSameRun, IsBehind, IsStepBy}
+use Rattle.ped_machine.specs.Answers.{ends_run, step_by}
+use Rattle.ped_machine.specs.Doing.{IsDone, IfOpen, IfSafe, HasGrown}
+use Rattle.ped_machine.specs.Machines.{Held, IsSameRun, IsBehind, IsStepBy, IfFaultless}
+use Rattle.ped_machine.specs.Rests.{rest_left, IsSound}
+use Rattle.ped_machine.specs.Roots.{Outermost, outermost_left, IsOutermostSound, root_left, IsRight}
+use Rattle.ped_machine.specs.declared.rests.Rest.{Rest}
+use Rattle.ped_machine.proofs.Growing.{ready_in, ready_grows}
 use Rattle.ped_machine.specs.declared.steps.Step.TheVariants as answer
 use Rattle.ped_machine.specs.declared.steps.Done as doing
 use Rattle.ped_machine.specs.declared.steps.Done.TheVariants as done
@@ -99,3 +105,24 @@ pub told : (t : ProgramTree) (table : Table) (c : ℕ) (s u : Store) (d : doing.
 told t table c s u d before after l h e k =
     subst (λ (q : Setting). IsDone (step q before c s) before s d l u) (setting_is t table h)
     (subst (λ (x : Left). IsDone (step (setting_by table) x c s) x s d l u) (sym e) k)
+
+-- the step of a run, by that of what is left of it
+pub any_step : (x : Next) (d : doing.Done) (old new : Held) (l : Left) (u : Store) → IsDone x old.left old.store d l u → new.tree ≡ old.tree → new.left ≡ (if ends_run d then finished else l) → new.store ≡ u → IsStepBy x old (step_by d) new
+any_step x done.Went old new l u h t e k = went_step x old new l u h e k
+any_step x done.Ended old new l u h t e k = ended_step x old new l u h t e k
+any_step x done.Halted old new l u h t e k = halted_step x old new l u h e k
+any_step x (done.Fault f n) old new l u h t e k = fault_step x old new l u f n h
+
+-- what is left, by whether the run has ended
+pub root_is : (b : Bool) (scope : Scope) (r : Rest Outermost) → root_left b scope r ≡ (if b then finished else rest_left outermost_left scope r)
+root_is true scope r = refl
+root_is false scope r = refl
+
+-- what is kept stays right but behind a fault
+pub still_right : {E : Type 0} (d : doing.Done) (scope : Scope) (r : Rest Outermost) (table : Table) (old new : Memory) (base : Scope) → IsReady table base old
+    → IfOpen {E = E} (Ok d) (IsSound outermost_left IsOutermostSound scope r table new.stands) → IfOpen {E = E} (Ok d) (DoCopiesStand scope new.stands) → IfSafe {E = E} (Ok d) (HasGrown old new)
+    → IfFaultless {E = E} (Ok (step_by d)) (IsRight (ends_run d) scope r table new)
+still_right done.Went scope r table old new base ready sound copies grown = record { ready = ready_in table base scope new (ready_grows table base old new grown ready) copies; sound = sound }
+still_right done.Ended scope r table old new base ready sound copies grown = record { ready = ready_in table base scope new (ready_grows table base old new grown ready) copies; sound = sound }
+still_right done.Halted scope r table old new base ready sound copies grown = grown.bounds ∙ ready.bounds
+still_right (done.Fault f n) scope r table old new base ready sound copies grown = tt

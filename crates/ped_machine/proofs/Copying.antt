@@ -2,7 +2,7 @@
 use Rattle.std.proofs.Common.{◌≡◌, ℕ, ◌+◌, ◌<◌, ℤ, List, [], ◌∷◌, length, get_or, drop, Bool, true, false, ◌&&◌, Option, Some, None, Result, Ok, Err, if◌then◌else◌, refl, sym, ap, subst, ◌∙◌, add-one, drop-cons}
 use mathlib.Core.Path.{fun_ext}
 use Rattle.std.proofs.lemmas.Bool.{and_parts}
-use Rattle.std.specs.Prelude.{is_some}
+use Rattle.std.specs.Prelude.{is_some, OnOk, OnErr}
 use Rattle.std.specs.List.{list_all}
 use Rattle.std.specs.Cmp.Lexicographic.{pointwise}
 use Rattle.ped_base.specs.Lists.{is_same_text}
@@ -17,6 +17,7 @@ use Rattle.ped_store.specs.IterationLaws.{iterations_decide}
 use Rattle.ped_interleavings.specs.ped_eval.specs.Agreement.{is_copy}
 use Rattle.ped_interleavings.specs.ped_eval.proofs.Copies.{own_copy}
 use Rattle.ped_machine.specs.Doing.{HasGrown, HasRoom}
+use Rattle.ped_machine.proofs.Growing.{unchanged}
 
 pub next_drop : {X : Type 0} (xs : List X) (i : ℕ) (d : X) → i < length xs → drop i xs ≡ get_or xs i d ∷ drop (i + 1) xs
 next_drop xs i d h = drop-cons xs i d h ∙ ap (λ n. get_or xs i d ∷ drop n xs) (sym (add-one i))
@@ -97,3 +98,13 @@ made_stands m new (Element y js) h e = absurd cc
 made_stands m new In h e = absurd cc
 made_stands m new Out h e = absurd cc
 made_stands m new (Private x path) h e = (λ i. (e i).stands (Private x path)) ∙ ap (λ b. if b then true else m.stands (Private x path)) (own_copy x path)
+
+-- a copy that could not be read is made, or there is no memory for it
+pub copy_room : {A E : Type 0} (r : Result A E) (old new : Kept) (c : Cell) (f : ℕ) → is_copy c ≡ true → got (memory_of old) c ≡ Err f → OnOk r (memory_of new ≡ with_copy c (memory_of old)) → OnErr r (new ≡ old)
+    → HasRoom (memory_of old) (memory_of new)
+copy_room (Ok a) old new c f h e made kept = made_room (memory_of old) (memory_of new) c h (unread_undefined old c f h e) made
+copy_room (Err x) old new c f h e made kept = unchanged (memory_of old) (memory_of new) (ap memory_of kept)
+
+pub copy_stands : {A E : Type 0} (r : Result A E) (m new : Memory) (c d : Cell) → c ≡ d → is_copy c ≡ true → OnOk r (new ≡ with_copy c m) → OnOk r (new.stands d ≡ true)
+copy_stands (Ok a) m new c d e h made = ap new.stands (sym e) ∙ made_stands m new c h made
+copy_stands (Err x) m new c d e h made = tt

@@ -1,5 +1,5 @@
 -- What stays so where more cells stand.
-use Rattle.std.proofs.Common.{◌≡◌, ℕ, ℤ, List, [], ◌∷◌, Bool, true, false, ◌&&◌, ◌||◌, Option, Some, None, if◌then◌else◌, refl, sym, ap, subst, ◌∙◌}
+use Rattle.std.proofs.Common.{◌≡◌, ◌<◌, ◌-◌, ℕ, suc, ℤ, List, [], ◌∷◌, Bool, true, false, ◌&&◌, ◌||◌, Option, Some, None, if◌then◌else◌, refl, sym, ap, subst, ◌∙◌, arith}
 use Rattle.std.proofs.lemmas.Bool.{and_parts}
 use Rattle.std.specs.List.{list_all}
 use Rattle.ped_base.specs.Lists.{is_same_text, is_among}
@@ -7,15 +7,16 @@ use Rattle.ped_base.proofs.NameEquality.{same_is}
 use Rattle.ped_symbols.specs.Kinds.{Table}
 use Rattle.ped_store.specs.Cells.{Cell, Scalar, Element, Private, In, Out, same_cell}
 use Rattle.ped_store.specs.Stores.{Content, Undefined, Store, put}
-use Rattle.ped_store.specs.Acts.{store_behind}
+use Rattle.ped_store.specs.Acts.{Touch, store_behind}
 use Rattle.ped_store.specs.Memories.{Memory, with_content}
 use Rattle.ped_interleavings.specs.ped_eval.specs.Scopes.{Frame, Scope, cell_of}
-use Rattle.ped_interleavings.specs.ped_eval.specs.Agreement.{path_of, DoCopiesStand}
-use Rattle.ped_interleavings.specs.ped_eval.specs.Loops.{Entered, left_in_variable, exit_touches}
+use Rattle.ped_interleavings.specs.ped_eval.specs.Agreement.{path_of, is_copy, DoCopiesStand}
+use Rattle.ped_interleavings.specs.ped_eval.specs.ScopeViews.{outside}
+use Rattle.ped_interleavings.specs.ped_eval.specs.Loops.{Entered, left_in_variable, exit_touches, exit_when_none}
 use Rattle.ped_interleavings.specs.ped_eval.specs.Turns.{undefined_in, exited, undefined_cells}
 use Rattle.ped_interleavings.specs.ped_eval.specs.Readiness.{IsReady}
-use Rattle.ped_interleavings.specs.ped_eval.proofs.Copies.{private_cell}
-use Rattle.ped_interleavings.specs.ped_eval.proofs.Endings.{exit_is}
+use Rattle.ped_interleavings.specs.ped_eval.proofs.Copies.{private_cell, all_among, all_copies}
+use Rattle.ped_interleavings.specs.ped_eval.proofs.Endings.{exit_is, none_left}
 use Rattle.ped_interleavings.specs.ped_eval.proofs.Undefining.{exited_stands, exited_bounds}
 use Rattle.ped_machine.specs.Doing.{HasGrown, HasRoom}
 use Rattle.ped_machine.specs.Growth.{copies_grow}
@@ -91,3 +92,37 @@ same_grows m new b s = record { bounds = b; stands = λ d h. (λ i. s i d) ∙ h
 -- where nothing has changed
 pub unchanged : (m new : Memory) → new ≡ m → HasRoom m new
 unchanged m new e = subst (λ (k : Memory). HasRoom m k) (sym e) (no_room m)
+
+-- the names of which an iteration has copies stand for these
+pub turned_names : (scope : Scope) (f : Frame) (fs : Scope) (names : List (List ℕ)) → scope ≡ f ∷ fs → names ≡ f.private → list_all (λ x. is_copy (cell_of scope x)) names ≡ true
+turned_names scope f fs names s n = (λ i. list_all (λ x. is_copy (cell_of (s i) x)) (n i)) ∙ all_copies f fs f.private (all_among f.private)
+
+-- where they stand, and those of the iterations round it, all do
+pub turned_copies : (scope : Scope) (f : Frame) (fs : Scope) (names : List (List ℕ)) (m new : Memory) → scope ≡ f ∷ fs → names ≡ f.private → HasRoom m new → list_all (λ x. new.stands (cell_of scope x)) names ≡ true
+    → DoCopiesStand fs m.stands → DoCopiesStand scope new.stands
+turned_copies scope f fs names m new s n r h k =
+    subst (λ (z : Scope). DoCopiesStand z new.stands) (sym s)
+    (own_copies_stand f fs new.stands ((λ i. list_all (λ x. new.stands (cell_of (sym s i) x)) (sym n i)) ∙ h) (copies_grow fs m.stands new.stands r.grown.stands k))
+
+-- the copies of iterations are those of the innermost and of the others
+pub outer_copies : (scope : Scope) (stands : Cell → Bool) → DoCopiesStand scope stands → DoCopiesStand (outside scope) stands
+outer_copies [] stands h = h
+outer_copies (f ∷ fs) stands h = h.1
+
+-- copies stand still in other iterations that are the same
+pub same_copies : (scope other : Scope) (m new : Memory) → other ≡ scope → HasGrown m new → DoCopiesStand scope m.stands → DoCopiesStand other new.stands
+same_copies scope other m new e g h = subst (λ (z : Scope). DoCopiesStand z new.stands) (sym e) (copies_grow scope m.stands new.stands g.stands h)
+
+-- the exit of a DO that has been left so
+pub left_grows : (e : Entered) (scope : Scope) (m new : Memory) → new ≡ exited e scope m → HasGrown m new
+left_grows e scope m new is = subst (λ (k : Memory). HasGrown m k) (sym is) (exit_grows e scope m)
+
+-- what is ready is so where more stands
+pub ready_there : (table : Table) (scope other : Scope) (m new : Memory) → other ≡ scope → HasGrown m new → IsReady table scope m → IsReady table other new
+ready_there table scope other m new e g h = subst (λ (z : Scope). IsReady table z new) (sym e) (ready_grows table scope m new g h)
+
+-- the entry of a DO that goes on leaves the store as it was
+pub entry_leaves : (count : ℕ) (e : Entered) (scope : Scope) (s : Store) → 0 < count → s ≡ store_behind (exit_when_none count e scope) s
+entry_leaves count e scope s some =
+    let one : count ≡ suc (count - 1) = omega (arith, some) in
+    sym (ap (λ (n : ℕ). store_behind (exit_when_none n e scope) s) one ∙ ap (λ (ts : List Touch). store_behind ts s) (none_left (count - 1) e scope))

@@ -2,7 +2,10 @@ mod Acting
 mod Answering
 mod Copying
 mod Growing
+mod Leaving
+mod Leveling
 mod OpenLefts
+mod OpenRests
 mod OpenSteps
 mod Opening
 mod PartsLeft

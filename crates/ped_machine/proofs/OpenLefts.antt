@@ -84,6 +84,39 @@ unfinished_first (suc n) (suc j) zero f a b u h = absurd (none a)
 unfinished_first (suc n) (suc j) (suc i) f a b u h =
     ap one_on (unfinished_first n j i (λ i. f (suc i)) (omega (arith, a)) (omega (arith, b)) u (λ k a b. h (suc k) (omega (arith, a)) (omega (arith, b))))
 
+one_less : (i : ℕ) (o : Option ℕ) → one_on o ≡ Some i → (j : ℕ) × ((o ≡ Some j) × (i ≡ suc j))
+one_less i None h = absurd cc
+one_less i (Some j) h = (j, (refl, cc))
+
+-- what is found is unfinished
+pub unfinished_is : (n j i : ℕ) (f : ℕ → Left) → unfinished j (lefts_of n f) ≡ Some i → (i < n) × (is_finished (f i) ≡ false)
+unfinished_is zero j i f h = absurd cc
+unfinished_is (suc n) zero i f h = by (is_finished (f 0)) refl (λ k. unfinished_is n 0 k (λ x. f (suc x)))
+  where
+    by : (b : Bool) → is_finished (f 0) ≡ b → ((k : ℕ) → unfinished 0 (lefts_of n (λ x. f (suc x))) ≡ Some k → (k < n) × (is_finished (f (suc k)) ≡ false)) → (i < suc n) × (is_finished (f i) ≡ false)
+    by true e behind =
+        let q = one_less i (unfinished 0 (lefts_of n (λ k. f (suc k)))) (sym (ap (λ b. if b then one_on (unfinished zero (lefts_of n (λ k. f (suc k)))) else Some 0) e) ∙ h) in
+        let k = behind q.0 q.1.0 in
+        let is : i ≡ suc q.0 = q.1.1 in
+        (omega (arith, k.0, is), ap (λ (x : ℕ). is_finished (f x)) is ∙ k.1)
+    by false e behind =
+        let w : Some 0 ≡ Some i = sym (ap (λ b. if b then one_on (unfinished zero (lefts_of n (λ k. f (suc k)))) else Some 0) e) ∙ h in
+        let is : 0 ≡ i = cc in
+        (omega (arith, is), ap (λ (x : ℕ). is_finished (f x)) (sym is) ∙ e)
+unfinished_is (suc n) (suc j) i f h =
+    let q = one_less i (unfinished j (lefts_of n (λ k. f (suc k)))) h in
+    let k = unfinished_is n j q.0 (λ k. f (suc k)) q.1.0 in
+    let is : i ≡ suc q.0 = q.1.1 in
+    (omega (arith, k.0, is), ap (λ (x : ℕ). is_finished (f x)) is ∙ k.1)
+
+-- so is what is picked
+pub picked_is : (n j k i : ℕ) (f : ℕ → Left) → Some i ≡ or_else (unfinished j (lefts_of n f)) (unfinished k (lefts_of n f)) → (i < n) × (is_finished (f i) ≡ false)
+picked_is n j k i f h = by (unfinished j (lefts_of n f)) refl h
+  where
+    by : (o : Option ℕ) → unfinished j (lefts_of n f) ≡ o → Some i ≡ or_else o (unfinished k (lefts_of n f)) → (i < n) × (is_finished (f i) ≡ false)
+    by (Some x) e q = unfinished_is n j i f (e ∙ sym q)
+    by None e q = unfinished_is n k i f (sym q)
+
 -- items by their numbers from 1
 pub by_numbers : (n : ℕ) (item : ℕ → Left) → lefts_by n 1 item ≡ lefts_of n (λ j. item (j + 1))
 by_numbers n item = go n 1 item (λ j. item (j + 1)) (λ j. refl)

@@ -1,6 +1,6 @@
 -- Steps of open loops.
-use Rattle.std.proofs.Common.{◌≡◌, ◌≢◌, ◌<◌, ℕ, suc, ◌+◌, ◌-◌, ◌/◌, ◌%◌, Bool, true, Option, Some, None, eqb, refl, sym, ap, subst, ◌∙◌, arith}
-use Rattle.std.specs.Prelude.{◌==◌}
+use Rattle.std.proofs.Common.{◌≡◌, ◌≢◌, ◌<◌, ℕ, suc, ◌+◌, ◌-◌, ◌/◌, ◌%◌, Bool, true, Option, Some, None, Result, Ok, Err, eqb, refl, sym, ap, subst, ◌∙◌, arith}
+use Rattle.std.specs.Prelude.{◌==◌, IfOk, OnOk}
 use Rattle.ped_store.specs.Stores.{Store}
 use Rattle.ped_store.specs.Acts.{store_behind, closed}
 use Rattle.ped_store.specs.Memories.{Memory}
@@ -14,7 +14,7 @@ use Rattle.ped_interleavings.specs.Steps.{Next, over, met, went, halted, act_of,
 use Rattle.ped_machine.specs.declared.opens.Open.{Open}
 use Rattle.ped_machine.specs.declared.steps.Done.{Done}
 use Rattle.ped_machine.specs.declared.steps.Done.TheVariants as done
-use Rattle.ped_machine.specs.Doing.{IsDone, IfGoing}
+use Rattle.ped_machine.specs.Doing.{IsDone, IfGoing, IfOpen, IfSafe}
 use Rattle.ped_machine.specs.Opens.{lefts_of, open_entered, place_left, open_left, IsSameLoop, IsSameElsewhere}
 use Rattle.ped_machine.proofs.Growing.{exit_cells}
 use Rattle.ped_machine.proofs.OpenLefts.{with_of, same_of, by_numbers, picks, closes}
@@ -55,6 +55,35 @@ both_going done.Ended P Q f h = (f, h)
 both_going done.Went P Q f h = (f, h)
 both_going done.Halted P Q f h = tt
 both_going (done.Fault k i) P Q f h = tt
+
+-- what holds but behind a fault holds where the run goes on
+pub safe_going : (E : Type 0) (d : Done) (P Q : Type 0) → (P → Q) → IfSafe {E = E} (Ok d) P → IfGoing d Q
+safe_going E done.Ended P Q f h = f h
+safe_going E done.Went P Q f h = f h
+safe_going E done.Halted P Q f h = tt
+safe_going E (done.Fault k i) P Q f h = tt
+
+-- and behind want of memory
+pub safe_open : {E : Type 0} (r : Result Done E) (P Q : Type 0) → (P → Q) → IfSafe r P → IfOpen r Q
+safe_open {E} (Ok d) P Q f h = safe_going E d P Q f h
+safe_open (Err x) P Q f h = f h
+
+pub open_both : {E : Type 0} (r : Result Done E) (P Q R : Type 0) → (P → Q → R) → IfOpen r P → IfOpen r Q → IfOpen r R
+open_both (Ok done.Ended) P Q R f g h = f g h
+open_both (Ok done.Went) P Q R f g h = f g h
+open_both (Ok done.Halted) P Q R f g h = tt
+open_both (Ok (done.Fault k i)) P Q R f g h = tt
+open_both (Err x) P Q R f g h = f g h
+
+-- what holds holds where there was memory
+pub ok_by : {A E : Type 0} (r : Result A E) (P : Type 0) → P → OnOk r P
+ok_by (Ok x) P h = h
+ok_by (Err x) P h = tt
+
+-- what holds with each choice holds with this one
+pub chosen : {E : Type 0} (r : Result Done E) (P : Done → ℕ → Type 0) (c : ℕ) → IfOk r (λ d. (k : ℕ) → P d k) → IfOk r (λ d. P d c)
+chosen (Ok d) P c h = h c
+chosen (Err x) P c h = tt
 
 module _ {C : Type 0} (left : C → Left) (scope : Scope) (old new : Open C) (rest : Left) where
   abbrev at_place : ℕ → Left → Left

@@ -12,7 +12,8 @@ use Rattle.ped_interleavings.specs.Steps.{Next, over, met, went, halted, step}
 use Rattle.ped_interleavings.specs.Interleavings.{Standing, choice, choices_behind, next_step, standing_by, next_standing, after_steps, IsReached, ended_by, IsInterleavedFrom}
 use Rattle.ped_machine.specs.declared.steps.Step.{Step}
 use Rattle.ped_machine.specs.declared.steps.Step.TheVariants as answer
-use Rattle.ped_machine.specs.Machines.{Held, standing, IsBehind, IsStepBy}
+use Rattle.ped_machine.specs.Answers.{is_last}
+use Rattle.ped_machine.specs.Machines.{Held, standing, IsBehind, IsStepBy, IsOutcomeBy}
 
 some_is : {A : Type 0} (x y : A) → ◌≡◌ {A = Option A} (Some x) (Some y) → x ≡ y
 some_is x y h = cc
@@ -64,6 +65,12 @@ fault_is (met k i) old new f n h = λ j. met (sym h.0 j) (sym h.1 j)
 fault_is (went a l) old new f n h = absurd h
 fault_is (halted a) old new f n h = absurd h
 
+same_store : (x : Next) (old new : Held) → IsStepBy x old answer.Ended new → new.store ≡ old.store
+same_store over old new h = h.store
+same_store (met f n) old new h = absurd h
+same_store (went a l) old new h = absurd h
+same_store (halted a) old new h = absurd h
+
 module _ (t : ProgramTree) (st : Standing) (old new : Held) (choices : List ℕ) (reached : IsReached (setting_of t) st (standing old choices)) where
   -- a run that has ended there
   pub ends_there : IsStepBy (step (setting_of t) old.left (choice choices) old.store) old answer.Ended new → (o : Outcome) → o ≡ outcome_of t (going old.store) → IsInterleavedFrom t st o
@@ -72,3 +79,9 @@ module _ (t : ProgramTree) (st : Standing) (old new : Held) (choices : List ℕ)
   -- a run that has met a fault there
   pub faults_there : (f n : ℕ) → IsStepBy (step (setting_of t) old.left (choice choices) old.store) old (answer.Fault f n) new → IsInterleavedFrom t st (Fault f n)
   faults_there f n h = (standing old choices, reached, λ i. ended_by t (fault_is (step (setting_of t) old.left (choice choices) old.store) old new f n h i) old.store)
+
+  -- a run that has come to an outcome there
+  pub comes_there : (r : Step) → is_last r ≡ true → IsStepBy (step (setting_of t) old.left (choice choices) old.store) old r new → new.tree ≡ t → (o : Outcome) → IsOutcomeBy r new o → IsInterleavedFrom t st o
+  comes_there answer.Went last h tree o is = absurd cc
+  comes_there answer.Ended last h tree o is = ends_there h o (is ∙ (λ i. outcome_of (tree i) (going (same_store (step (setting_of t) old.left (choice choices) old.store) old new h i))))
+  comes_there (answer.Fault f n) last h tree o is = subst (λ (x : Outcome). IsInterleavedFrom t st x) (sym is) (faults_there f n h)

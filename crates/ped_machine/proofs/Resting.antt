@@ -1,6 +1,6 @@
 -- Steps of what is left, by those of its parts.
-use Rattle.std.proofs.Common.{◌≡◌, ◌<◌, ◌^◌, ℕ, ◌+◌, List, [], ◌∷◌, false, Option, Some, None, refl, sym, ap, subst, ◌∙◌}
-use Rattle.std.specs.Prelude.{is_some}
+use Rattle.std.proofs.Common.{◌≡◌, ◌<◌, ◌^◌, ℕ, ◌+◌, List, [], ◌∷◌, false, Option, Some, None, Result, Ok, Err, refl, sym, ap, subst, ◌∙◌}
+use Rattle.std.specs.Prelude.{is_some, IfOk}
 use Rattle.ped_tree.specs.Tree.{StmtTree, StmtTrees, Assign, If, Do, Print, Read, Stop, Comment, no_stmts, more_stmts}
 use Rattle.ped_tree.specs.Numbering.{statement_count, statements_count}
 use Rattle.ped_symbols.specs.Kinds.{Table}
@@ -36,6 +36,13 @@ module _ {C : Type 0} (left : C → Left) (scope : Scope) where
   parts_done p c s u d old new mid inner e f same h =
       done_by p c s u d (rest_left left scope old) (rest_left left inner new) (parts_left mid scope) (parts_left (parts_of new.parts) inner)
       (none_inner old e ∙ sym same) (ap (λ (o : Option (Open C)). opened_left left inner o (parts_left (parts_of new.parts) inner)) f) h
+
+  -- the same, where there may be no memory for it
+  pub parts_done_or_not : {E : Type 0} (r : Result answer.Done E) (p : Setting) (c : ℕ) (s u : Store) (old new : Rest C) (mid : List Part) (inner : Scope) → old.inner ≡ None → new.inner ≡ None → parts_left mid scope ≡ parts_left (parts_of old.parts) scope
+      → IfOk r (λ d. (p : Setting) (c : ℕ) → IsDone (step p (parts_left mid scope) c s) (parts_left mid scope) s d (parts_left (parts_of new.parts) inner) u)
+      → IfOk r (λ d. IsDone (step p (rest_left left scope old) c s) (rest_left left scope old) s d (rest_left left inner new) u)
+  parts_done_or_not (Ok d) p c s u old new mid inner e f same h = parts_done p c s u d old new mid inner e f same (h p c)
+  parts_done_or_not (Err x) p c s u old new mid inner e f same h = tt
 
   -- nothing is left
   pub nothing_done : (p : Setting) (c : ℕ) (s : Store) (old new : Rest C) → old.inner ≡ None → new.inner ≡ None → IsSettled (parts_of old.parts) (parts_of new.parts) → parts_of new.parts ≡ []
@@ -110,3 +117,7 @@ parts_want_none (p ∷ ps) scope = statements_want_none p.stmts p.first scope (t
 pub first_of_same : (o : Option ℕ) → is_some (or_else o o) ≡ is_some o
 first_of_same None = refl
 first_of_same (Some j) = refl
+
+pub none_of : {A : Type 0} (o : Option A) → is_some o ≡ false → o ≡ None
+none_of None h = refl
+none_of (Some x) h = absurd cc

@@ -15,8 +15,15 @@ use Rattle.ped_interleavings.specs.ped_eval.specs.Readiness.{CanDo}
 use Rattle.ped_interleavings.specs.ped_eval.specs.declared.plans.Plan.{Plan}
 use Rattle.ped_interleavings.specs.Lefts.{Left, is_finished}
 use Rattle.ped_machine.specs.declared.opens.Open.{Open}
+use Rattle.ped_store.specs.Stores.{Store}
+use Rattle.ped_store.specs.Memories.{Memory}
+use Rattle.ped_interleavings.specs.ped_eval.specs.Scopes.{Setting}
+use Rattle.ped_interleavings.specs.Steps.{step}
+use Rattle.ped_machine.specs.Doing.{IsDone, HasRoom}
+use Rattle.ped_machine.specs.declared.steps.Done as answer
+use Rattle.ped_machine.proofs.Growing.{room_twice}
 use Rattle.ped_machine.specs.Opens.{kept_left, mark_left, is_bare, place_left, IsSameLoop, HasMarked, IsRunning, IsOpen}
-use Rattle.ped_machine.proofs.Growing.{More}
+use Rattle.ped_machine.specs.Growth.{More}
 use Rattle.ped_machine.proofs.Opening.{body_of, whole_of, left_by, waits_finished, same_whole, Grows, marked_there, marked_elsewhere, marked_open, free_apart}
 
 module _ {C : Type 0} (left : C → Left) (sound : C → Table → (Cell → Bool) → Type 0) (scope : Scope) (old new : Open C) where
@@ -96,3 +103,20 @@ module _ {C : Type 0} (left : C → Left) (sound : C → Table → (Cell → Boo
               → OnErr r (IsSameLoop old new × (new.marks ≡ old.marks) × SameValues old.tasks new.tasks) → IsOpen left sound table more scope new
           by (Ok key) f m k = started_open key m f table stands o more grows grown safe unfinished
           by (Err e) f m k = kept_open k.0 k.1 k.2 table stands more grows grown o
+
+-- a step behind the start of an iteration is one of the loop as it was
+module _ {C E : Type 0} (left : C → Left) (scope inner : Scope) (old mid new : Open C) (place : ℕ) (m after last : Memory) (r : Result answer.Done E) (there : inner ≡ scope)
+    (same : place_left left scope mid place ≡ place_left left scope old place) (room : HasRoom m after) where
+  pub started_does : (p : Setting) (c : ℕ) → IfOk r (λ d. IsDone (step p (place_left left inner mid place) c after.cells) (place_left left inner mid place) after.cells d (place_left left inner new place) last.cells)
+      → IfOk r (λ d. IsDone (step p (place_left left scope old place) c m.cells) (place_left left scope old place) m.cells d (place_left left scope new place) last.cells)
+  started_does p c h =
+      subst (λ (s : Store). IfOk r (λ d. IsDone (step p (place_left left scope old place) c s) (place_left left scope old place) s d (place_left left scope new place) last.cells)) room.cells
+      (subst (λ (l : Left). IfOk r (λ d. IsDone (step p l c after.cells) l after.cells d (place_left left scope new place) last.cells)) same
+      (subst (λ (z : Scope). IfOk r (λ d. IsDone (step p (place_left left z mid place) c after.cells) (place_left left z mid place) after.cells d (place_left left z new place) last.cells)) there h))
+
+  pub started_kept : OnErr r ((place_left left inner new place ≡ place_left left inner mid place) × HasRoom after last) → OnErr r ((place_left left scope new place ≡ place_left left scope old place) × HasRoom m last)
+  started_kept h = by r (subst (λ (z : Scope). OnErr r ((place_left left z new place ≡ place_left left z mid place) × HasRoom after last)) there h)
+    where
+      by : (q : Result answer.Done E) → OnErr q ((place_left left scope new place ≡ place_left left scope mid place) × HasRoom after last) → OnErr q ((place_left left scope new place ≡ place_left left scope old place) × HasRoom m last)
+      by (Ok d) k = tt
+      by (Err x) k = (k.0 ∙ same, room_twice m after last room k.1)

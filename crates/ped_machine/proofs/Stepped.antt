@@ -1,5 +1,5 @@
 -- What a step of an iteration of an open loop leaves of the loop.
-use Rattle.std.proofs.Common.{◌≡◌, ◌≢◌, ◌<◌, ℕ, length, Bool, true, false, Option, Some, None, Ok, eqb, eqb-true, if◌then◌else◌, refl, sym, ap, subst, ◌∙◌}
+use Rattle.std.proofs.Common.{◌≡◌, ◌≢◌, ◌<◌, ℕ, length, Bool, true, false, Option, Some, None, Ok, Err, eqb, eqb-true, if◌then◌else◌, refl, sym, ap, subst, ◌∙◌, arith}
 use Rattle.std.specs.Prelude.{◌==◌}
 use Rattle.slab.specs.Slab.{Slab, get, Updates}
 use Rattle.ped_marks.specs.declared.marks.Mark.{Mark}
@@ -118,3 +118,20 @@ module _ {C E : Type 0} (left : C → Left) (sound : C → Table → (Cell → B
       (λ q. has_open left sound scope table m.stands old place key o there running new st.behind after.stands grows q.1 (is_finished (left st.behind)) se.behind refl last_same
       (se.safe table after.stands (subst (λ (t : C). sound t table after.stands) (sym task_is) q.0)) settled_by)
       (both_going d _ _ st.safe grown)
+
+module _ {C E : Type 0} (left : C → Left) (sound : C → Table → (Cell → Bool) → Type 0) (scope : Scope) (table : Table) (m after : Memory) (choice : ℕ)
+    (old mid : Open C) (place key : ℕ) (o : IsOpen left sound table m.stands scope old) (there : place < old.plan.count) (running : at old.marks place ≡ Running key)
+    (x : E) (st : HasStepped left sound {E = E} table key choice old.tasks mid.tasks m after (Err x)) (same : IsSameLoop old mid) (marks : mid.marks ≡ old.marks) where
+  -- after want of memory all that is left of the loop can be done
+  pub wanted_open : ((w : C) (table : Table) (stands more : Cell → Bool) → More stands more → sound w table stands → sound w table more) → IsOpen left sound table after.stands scope mid
+  wanted_open grows =
+      let r = o.running place key there running in
+      let is : r.task ≡ st.task = some_is r.task st.task (sym r.kept ∙ st.was) in
+      marked_open left sound scope (Some st.behind) (Running key) place key old mid (same_mark st.behind place key old mid same marks st.tasks running) (running_apart left sound scope table m.stands old place key o there running) table m.stands after.stands
+      grows st.kept.1.grown.stands o
+      (λ k e.
+      let w : k ≡ key = cc in (
+        w,
+        record { task = st.behind; kept = st.tasks.changed; unfinished = ap is_finished st.kept.0 ∙ sym (ap (λ t. is_finished (left t)) is) ∙ r.unfinished; safe = st.safe },
+        o.real place key there running,
+      ))

@@ -1,5 +1,5 @@
 -- Iterations of DO loops: how one follows another, and how the last is left.
-use Rattle.std.proofs.Common.{◌≡◌, ◌<◌, ◌≤◌, ℕ, zero, suc, ◌+◌, ◌-◌, List, [], ◌∷◌, Bool, Option, Some, None, length, if◌then◌else◌, refl, sym, ap, subst, ◌∙◌, arith}
+use Rattle.std.proofs.Common.{◌≡◌, ◌<◌, ◌≤◌, ◌^◌, ℕ, zero, suc, ◌+◌, ◌-◌, List, [], ◌∷◌, Bool, Option, Some, None, length, if◌then◌else◌, refl, sym, ap, subst, ◌∙◌, arith}
 use Rattle.ped_tree.specs.Tree.{Head, StmtTrees, Do, no_stmts}
 use Rattle.ped_symbols.specs.Kinds.{Table}
 use Rattle.ped_store.specs.Stores.{Store}
@@ -17,7 +17,7 @@ use Rattle.ped_interleavings.specs.ped_eval.proofs.Parts.{body_can}
 use Rattle.ped_interleavings.specs.Lefts.{Left, ends_turn, left_of_all, turns_left}
 use Rattle.ped_interleavings.specs.Steps.{step}
 use Rattle.ped_machine.specs.Doing.{IsDone}
-use Rattle.ped_machine.specs.Parts.{Turn, Part, turn_entered, turn_left, parts_left, CanEnd, CanEndAnd, CanGo, first_turn_part}
+use Rattle.ped_machine.specs.Parts.{Turn, Part, turn_entered, turn_left, parts_left, CanEnd, CanEndAnd, CanGo, Ends, CanTurnOn, first_turn, first_turn_part, turned_on, with_next_turn, behind_first}
 use Rattle.ped_machine.specs.declared.steps.Done.TheVariants as done
 use Rattle.ped_machine.proofs.Growing.{exit_cells}
 
@@ -88,3 +88,50 @@ module _ (scope : Scope) (h : Head) (body : StmtTrees) (plan : Plan) (ps : List 
       let f : Frame = frame (entered_by h plan 0) 1 in
       subst (λ (s : Scope). CanGo table (first_turn_part h body plan ∷ ps) s) (sym there)
       (body_can table scope plan.number h body can f, (record { plan = right; inside = refl; earlier = some; can = can }, behind))
+
+-- parts with which an iteration of a DO ends
+module _ (parts : List Part) (scope : Scope) (e : Ends parts) (t : Turn) (is : first_turn parts ≡ Some t) where
+  turn_is : e.part.turn ≡ Some t
+  turn_is = sym (ap first_turn e.parts_are) ∙ is
+
+  -- it can be ended, and what is behind it can be done
+  pub ends_can : (table : Table) → CanGo table parts scope → CanEnd table scope t × CanGo table e.behind (outside scope)
+  ends_can table h = can_end scope e.part e.behind t e.stmts_are turn_is table (subst (λ (ps : List Part). CanGo table ps scope) e.parts_are h)
+
+  pub ends_turn_on : (table : Table) → CanGo table parts scope → t.earlier + 1 < 2 ^ 64 → CanTurnOn (first_turn parts)
+  ends_turn_on table h few =
+      let k = (ends_can table h).0 in
+      let number : t.plan.number + 1 < 2 ^ 32 = omega (arith, k.can.few) in
+      subst CanTurnOn (sym is) (few, number)
+
+  module _ (p : Setting) (c : ℕ) (m new : Memory) where
+    -- the last one leaves the DO
+    pub last_done : t.plan.count ≤ t.earlier + 1 → t.earlier < t.plan.count → new ≡ exited (entered_by t.head t.plan 0) (outside scope) m → (after : List Part) → after ≡ behind_first parts → (inner : Scope) → inner ≡ outside scope
+        → IsDone (step p (parts_left parts scope) c m.cells) (parts_left parts scope) m.cells done.Went (parts_left after inner) new.cells
+    last_done last less there after behind inner out =
+        let all : t.plan.count ≡ t.earlier + 1 = omega (arith, last, less) in
+        subst (λ (ps : List Part). IsDone (step p (parts_left ps scope) c m.cells) (parts_left ps scope) m.cells done.Went (parts_left after inner) new.cells) (sym e.parts_are)
+        (subst (λ (l : Left). IsDone (step p (parts_left (e.part ∷ e.behind) scope) c m.cells) (parts_left (e.part ∷ e.behind) scope) m.cells done.Went l new.cells)
+        (sym ((λ i. parts_left (behind i) (out i)) ∙ ap (λ (ps : List Part). parts_left (behind_first ps) (outside scope)) e.parts_are))
+        (last_ends scope e.part e.behind t e.stmts_are turn_is p c m new all there))
+
+    -- another one follows
+    pub next_done : t.earlier + 1 < t.plan.count → new.cells ≡ m.cells → (after : List Part) → after ≡ with_next_turn parts → (inner : Scope) → inner ≡ frame (entered_by t.head t.plan 0) (t.earlier + 2) ∷ outside scope
+        → IsDone (step p (parts_left parts scope) c m.cells) (parts_left parts scope) m.cells done.Went (parts_left after inner) new.cells
+    next_done less same after next inner there =
+        let more : t.plan.count - (t.earlier + 1) ≡ suc (t.plan.count - (t.earlier + 1) - 1) = omega (arith, less) in
+        subst (λ (ps : List Part). IsDone (step p (parts_left ps scope) c m.cells) (parts_left ps scope) m.cells done.Went (parts_left after inner) new.cells) (sym e.parts_are)
+        (subst (λ (ps : List Part). IsDone (step p (parts_left (e.part ∷ e.behind) scope) c m.cells) (parts_left (e.part ∷ e.behind) scope) m.cells done.Went (parts_left ps inner) new.cells)
+        (sym (next ∙ ap with_next_turn e.parts_are))
+        (subst (λ (s : Store). IsDone (step p (parts_left (e.part ∷ e.behind) scope) c m.cells) (parts_left (e.part ∷ e.behind) scope) m.cells done.Went (parts_left (with_next_turn (e.part ∷ e.behind)) inner) s) (sym same)
+        (next_follows scope e.part e.behind t e.stmts_are turn_is p c m (t.plan.count - (t.earlier + 1) - 1) inner (turned_on e.part e.part.turn) more there (ap (turned_on e.part) turn_is))))
+
+  pub next_can_go : (table : Table) (after : List Part) (inner : Scope) → after ≡ with_next_turn parts → inner ≡ frame (entered_by t.head t.plan 0) (t.earlier + 2) ∷ outside scope → t.earlier + 1 < t.plan.count
+      → CanGo table parts scope → CanGo table after inner
+  next_can_go table after inner next there less h =
+      subst (λ (ps : List Part). CanGo table ps inner) (sym (next ∙ ap with_next_turn e.parts_are))
+      (next_can scope e.part e.behind t e.stmts_are turn_is table inner (turned_on e.part e.part.turn) (subst (λ (ps : List Part). CanGo table ps scope) e.parts_are h) less there (ap (turned_on e.part) turn_is))
+
+  pub last_can_go : (table : Table) (after : List Part) (inner : Scope) → after ≡ behind_first parts → inner ≡ outside scope → CanGo table parts scope → CanGo table after inner
+  last_can_go table after inner behind out h =
+      subst (λ (ps : List Part). CanGo table ps inner) (sym (behind ∙ ap behind_first e.parts_are)) (subst (λ (s : Scope). CanGo table e.behind s) (sym out) (ends_can table h).1)

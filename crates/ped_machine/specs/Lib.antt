@@ -1,6 +1,5 @@
-pub use Rattle.ped_tree
-pub use Rattle.ped_interleavings.specs.ped_eval
 pub use Rattle.ped_interleavings
+pub mod Answers
 pub mod Doing
 pub mod Machines
 pub mod Parts

@@ -5,7 +5,8 @@ use Rattle.ped_store.specs.Stores.{Store}
 use Rattle.ped_store.specs.Acts.{Act, store_behind}
 use Rattle.ped_interleavings.specs.Lefts.{Left, finished}
 use Rattle.ped_interleavings.specs.Steps.{Next, over, met, went, halted}
-use Rattle.ped_interleavings.specs.ped_eval.specs.Outcomes.{setting_of}
+use Rattle.ped_interleavings.specs.ped_eval.specs.Outcomes.{Outcome, Fault, setting_of, outcome_of}
+use Rattle.ped_interleavings.specs.ped_eval.specs.Runs.{going}
 use Rattle.ped_interleavings.specs.Interleavings.{Standing, IsReached}
 use Rattle.ped_machine.specs.declared.steps.Step.{Step}
 use Rattle.ped_machine.specs.declared.steps.Step.TheVariants as step
@@ -49,3 +50,9 @@ IfFaultless (Err e) P = P
 -- a run with these choices comes to stand so, with some choices left
 abbrev pub ReachesSome : Held → List ℕ → Held → Type 0
 ReachesSome old choices new = (left : List ℕ) × IsReached (setting_of old.tree) (standing old choices) (standing new left)
+
+-- the outcome of a run whose last step has answered so
+abbrev pub IsOutcomeBy : Step → Held → Outcome → Type 0
+IsOutcomeBy step.Went h o = Unit {0}
+IsOutcomeBy step.Ended h o = o ≡ outcome_of h.tree (going h.store)
+IsOutcomeBy (step.Fault number n) h o = o ≡ Fault number n

@@ -1,6 +1,6 @@
 //! The machine.
 
-ghost use Rattle.std.specs.Prelude.{◌≡◌, ◌<◌, ◌∷◌, [], ℕ, List, None, drop, Ok, IfOk, OnErr};
+ghost use Rattle.std.specs.Prelude.{◌≡◌, ◌<◌, ◌∷◌, [], ℕ, List, None, drop, Ok, IfOk, OnErr, if◌then◌else◌};
 ghost use Rattle.ped_tree.specs.Views.{program_tree, stmt_trees};
 ghost use Rattle.ped_symbols.specs.Kinds.{table_of};
 ghost use Rattle.ped_symbols.specs.NameRefusals.{IsValid};
@@ -11,14 +11,14 @@ ghost use Rattle.ped_interleavings.specs.Steps as Steps;
 ghost use Rattle.ped_interleavings.specs.Interleavings.{IsInterleavedFrom, at_start, choice};
 ghost use Rattle.ped_interleavings.specs.Weights.{left_weight};
 ghost use Rattle.ped_machine.specs.Parts.{parts_of};
-ghost use Rattle.ped_machine.specs.Machines.{standing, IsSameRun, IsStepBy, IfFaultless, ReachesSome};
+ghost use Rattle.ped_machine.specs.Machines.{standing, IsSameRun, IsStepBy, IsOutcomeBy, IfFaultless, ReachesSome};
 ghost use Rattle.ped_machine.specs.Roots.{held, IsSafe};
 ghost use Rattle.ped_machine.specs.declared.steps.Step.TheVariants as step;
 
 use crate::levels::Level;
 use crate::parts::{Part, Parts};
 use crate::rests::Rest;
-use crate::steps::{Done, Step};
+use crate::steps::{Step, ends_run, is_last, step_by};
 use crate::works::Never;
 use ped_base::NoMemory;
 use ped_interleavings::ped_eval::{Outcome, State, ended, start};
@@ -108,15 +108,9 @@ impl<'a> Machine<'a> {
             .rest
             .step(self.alloc, self.symbols, &mut self.state, choice)
         {
-            Ok(Done::Went) => return Ok(Step::Went),
-            Ok(Done::Ended) => return Ok(Step::Ended),
-            Ok(Done::Halted) => {
-                self.is_over = true;
-                return Ok(Step::Went);
-            }
-            Ok(Done::Fault { fault, statement }) => {
-                self.is_over = true;
-                return Ok(Step::Fault { fault, statement });
+            Ok(done) => {
+                self.is_over = ends_run(&done);
+                return Ok(step_by(&done));
             }
             Err(error) => return Err(error),
         }
@@ -138,16 +132,30 @@ impl<'a> Machine<'a> {
         let mut left = choices;
         loop {
             let choice = first_of(left);
-            if self.wants_choice() {
-                left = behind_first(left);
-            }
+            left = choices_behind(self.wants_choice(), left);
             match self.step(choice) {
-                Ok(Step::Went) => {}
-                Ok(Step::Ended) => return ended(self.alloc, self.program, &self.state.store),
-                Ok(Step::Fault { fault, statement }) => {
-                    return Ok(Outcome::Fault { fault, statement });
+                Ok(step) => {
+                    if is_last(&step) {
+                        return self.outcome(&step);
+                    }
                 }
                 Err(error) => return Err(error),
+            }
+        }
+    }
+
+    /// The outcome of a run whose last step has answered so.
+    fn outcome(&self, step: &Step) -> Result<Outcome, NoMemory>
+        requires { IfFaultless {E = ⊥} (Ok step.now) (IsSafe self.now) }
+        ensures { IfOk result (λ o. IsOutcomeBy step.now (held self.now) (outcome_view o)) }
+    {
+        match step {
+            Step::Fault { fault, statement } => return Ok(Outcome::Fault {
+                fault: *fault,
+                statement: *statement,
+            }),
+            Step::Went | Step::Ended => {
+                return ended(self.alloc, self.program, &self.state.store);
             }
         }
     }
@@ -175,6 +183,16 @@ fn first_of(choices: &[u64]) -> u64
         Some(first) => *first,
         None => 0,
     }
+}
+
+/// The choices behind a step that takes one or none.
+fn choices_behind(takes: bool, choices: &[u64]) -> &[u64]
+    ensures { result.now ≡ (if takes then drop 1 choices.now else choices.now) }
+{
+    if takes {
+        return behind_first(choices);
+    }
+    choices
 }
 
 /// The choices behind the first.

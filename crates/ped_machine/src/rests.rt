@@ -258,12 +258,13 @@ fn opened<'a, C: Work<'a>>(alloc: Global, d: &'a Do, plan: Plan) -> Open<'a, C>
     ensures left { (scope : Scope) (rest : Left) → open_left C.left scope result rest ≡ entered_left true plan.count (entered_by (head_of d.now) plan plan.behind) (stmt_trees d.now.body.items) plan.number scope rest }
     ensures inner { (scope : Scope) (table : Table) (stands : Cell → Bool) → CanDo table scope plan.number (do_tree d.now) → IsOpen C.left C.sound table stands scope result }
 {
-    let count = plan.count;
+    let marks = Marks::new(alloc, plan.count);
+    let tasks = Slab::new(alloc);
     Open {
         d,
         plan,
-        tasks: Slab::new(alloc),
-        marks: Marks::new(alloc, count),
+        tasks,
+        marks,
     }
 }
 

@@ -1,6 +1,6 @@
 //! The iterations of DO loops: how one begins, and how it ends (ANSI X3.9-1978, section 11.10).
 
-ghost use Rattle.std.specs.Prelude.{◌≡◌, ◌<◌, ◌+◌, ◌^◌, ◌∷◌, ℕ, length, Bool, true, IfOk, OnOk, OnErr};
+ghost use Rattle.std.specs.Prelude.{◌≡◌, ◌<◌, ◌≤◌, ◌+◌, ◌^◌, ◌∷◌, ℕ, length, Bool, true, MatchBool, IfOk, OnOk, OnErr};
 ghost use Rattle.std.specs.List.{list_all};
 ghost use Rattle.ped_tree.specs.Views.{head_of, stmt_trees, do_tree};
 ghost use Rattle.ped_symbols.specs.Kinds.{Table};
@@ -32,6 +32,7 @@ pub(crate) fn frame_of(alloc: Global, d: &Do, plan: &Plan, earlier: u64) -> Resu
     requires earlier { earlier < plan.now.count }
     ensures { IfOk result (λ f. frame_view f ≡ Loops.frame (entered_by (head_of d.now) plan.now 0) (earlier + 1)) }
 {
+    let _count = plan.count;
     let number = earlier + 1;
     let value = plan.value_behind(earlier);
     let private = copy_names(&plan.copied, alloc)?;
@@ -157,16 +158,30 @@ pub(crate) fn end_turn(
     match parts.turn() {
         None => return Ok(Done::Ended),
         Some(turn) => {
-            if turn.earlier + 1 < turn.plan.count {
-                next_turn(alloc, state, turn)?;
-                parts.turn_on();
-            } else {
-                leave_loop(state, turn.d, &turn.plan);
-                parts.pop();
+            if is_followed(turn) {
+                match next_turn(alloc, state, turn) {
+                    Ok(()) => {
+                        parts.turn_on();
+                        return Ok(Done::Went);
+                    }
+                    Err(error) => return Err(error),
+                }
             }
+            leave_loop(state, turn.d, &turn.plan);
+            parts.pop();
             return Ok(Done::Went);
         }
     }
+}
+
+/// Whether another iteration follows.
+fn is_followed(turn: &Turn) -> bool
+    requires { turn.now.earlier < turn.now.plan.count }
+    ensures { MatchBool result ((turn.now.earlier + 1 < turn.now.plan.count) × (turn.now.earlier + 1 < 2 ^ 64)) (turn.now.plan.count ≤ turn.now.earlier + 1) }
+{
+    let plan = &turn.plan;
+    let count = plan.count;
+    turn.earlier + 1 < count
 }
 
 /// Goes on from an iteration of a DO to the next one, and makes its copies. After want of memory the iteration is the same.
@@ -181,6 +196,7 @@ fn next_turn(alloc: Global, state: &mut State, turn: &Turn) -> Result<(), NoMemo
 {
     let plan = &turn.plan;
     let earlier = turn.earlier;
+    let _count = plan.count;
     state
         .scope
         .turn(earlier + 2, plan.value_behind(earlier + 1));

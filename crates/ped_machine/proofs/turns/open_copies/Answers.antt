@@ -6,7 +6,7 @@ use Rattle.ped_store.specs.Keeping.{memory_of}
 use Rattle.ped_interleavings.specs.ped_eval.specs.Scopes.{cell_of}
 use Rattle.ped_interleavings.specs.ped_eval.specs.Agreement.{is_copy}
 use Rattle.ped_machine.proofs.Copying.{one_of_all, all_of_one}
-use Rattle.ped_machine.proofs.Growing.{room_twice, grown_twice}
+use Rattle.ped_machine.proofs.Growing.{room_twice, grown_twice, not_grown}
 use Rattle.ped_machine.proofs.turns.open_copies.Goals as goal
 
 pub loop-name-preserved : goal.loop-name-preserved
@@ -22,3 +22,11 @@ loop-name-preserved c =
           r.stand m (grown_twice _ _ _ c.in_ok-open_copy.ensures.room.grown g)
           (all_of_one (λ y. m.stands (cell_of at y)) c.args.names.now i x c.loop-name-test.true c.name-item.is (g.stands (cell_of at x) c.in_ok-open_copy.ensures.stands) h);
     }
+
+pub returns-in_err-open_copy-clause-room : goal.returns-in_err-open_copy-clause-room
+returns-in_err-open_copy-clause-room c = room_twice _ _ _ c.loop-name.invariant.room c.open_copy.ensures.room
+
+pub returns-clause-stand : goal.returns-clause-stand
+returns-clause-stand c =
+    let m = memory_of c.loop-name.store in
+    c.loop-name.invariant.stand m (not_grown m) (ap (list_all (λ x. m.stands (cell_of c.args.scope.now x))) (drop_all c.loop-name.name-index c.args.names.now c.loop-name-test.false))

@@ -1,0 +1,32 @@
+-- A step of an iteration that is started for it.
+use Rattle.std.proofs.Common.{◌≡◌, ◌<◌, ℕ, refl, sym, ap, subst, ◌∙◌}
+use Rattle.ped_store.specs.Keeping.{memory_of}
+use Rattle.ped_interleavings.specs.ped_eval.specs.Scopes.{Scope}
+use Rattle.ped_interleavings.specs.ped_eval.specs.Readiness.{setting_by}
+use Rattle.ped_interleavings.specs.ped_eval.specs.declared.plans.Plan.{Plan}
+use Rattle.ped_machine.specs.Opens.{IsOpen}
+use Rattle.ped_machine.proofs.Growing.{ready_there}
+use Rattle.ped_machine.proofs.Starting.{started_does, started_kept}
+use Rattle.ped_machine.proofs.opens.Open.step_at.Goals as goal
+
+pub step_running-requires : goal.step_running-requires
+step_running-requires g c κs =
+    let m = memory_of c.args.state.now.store in
+    let after = memory_of c.start.new.state.store in
+    let e = c.in-Ok.ensures in (
+      (refl, tt),
+      (ready_there c.args.symbols.now c.args.state.now.scope c.start.new.state.scope m after e.scope e.room.grown c.requires.ready, (
+        subst (λ (z : Scope). IsOpen g.C.Work.left g.C.Work.sound c.args.symbols.now after.stands z c.start.new.self) (sym e.scope) (e.inner c.args.symbols.now c.requires.ready c.requires.inner),
+        (subst (λ (p : Plan). c.args.place < p.count) (sym e.same.plan) c.requires.place, e.running),
+      )),
+    )
+
+pub returns-in-Ok-clause-does : goal.returns-in-Ok-clause-does
+returns-in-Ok-clause-does g c =
+    started_does g.C.Work.left c.args.state.now.scope c.start.new.state.scope c.args.self.now c.start.new.self c.step_running.new.self c.args.place (memory_of c.args.state.now.store) (memory_of c.start.new.state.store) (memory_of c.step_running.new.state.store)
+    c.step_running.result c.in-Ok.ensures.scope (c.in-Ok.ensures.left c.args.place c.requires.place) c.in-Ok.ensures.room (setting_by c.args.symbols.now) c.args.choice c.step_running.ensures.does
+
+pub returns-in-Ok-clause-kept : goal.returns-in-Ok-clause-kept
+returns-in-Ok-clause-kept g c =
+    started_kept g.C.Work.left c.args.state.now.scope c.start.new.state.scope c.args.self.now c.start.new.self c.step_running.new.self c.args.place (memory_of c.args.state.now.store) (memory_of c.start.new.state.store) (memory_of c.step_running.new.state.store)
+    c.step_running.result c.in-Ok.ensures.scope (c.in-Ok.ensures.left c.args.place c.requires.place) c.in-Ok.ensures.room c.step_running.ensures.kept

@@ -1,5 +1,5 @@
 -- What a step of a machine answers, by that of its parts.
-use Rattle.std.proofs.Common.{◌≡◌, ◌<◌, ◌+◌, ◌*◌, ℕ, zero, suc, List, [], ◌∷◌, Bool, true, false, Ok, if◌then◌else◌, refl, sym, ap, subst, ◌∙◌, arith}
+use Rattle.std.proofs.Common.{◌≡◌, ◌<◌, ◌+◌, ◌*◌, ℕ, zero, suc, List, [], ◌∷◌, Bool, true, false, Ok, ◌⊎◌, inl, inr, if◌then◌else◌, refl, sym, ap, subst, ◌∙◌, arith}
 use Rattle.ped_tree.specs.Tree.{StmtTree, StmtTrees, ProgramTree, Assign, If, Do, Print, Read, Stop, Comment}
 use Rattle.ped_symbols.specs.Kinds.{Table, table_of}
 use Rattle.ped_store.specs.Cells.{Out}
@@ -17,13 +17,14 @@ use Rattle.ped_interleavings.specs.ped_eval.proofs.RunOutcomes.{setting_same, en
 use Rattle.ped_interleavings.specs.Lefts.{Left, finished, begins, ends_turn, open_loop}
 use Rattle.ped_interleavings.specs.Steps.{Next, over, met, went, halted, step}
 use Rattle.ped_interleavings.specs.Weights.{left_weight, lefts_weight, stmt_weight, stmts_weight, most_turns}
-use Rattle.ped_machine.specs.Answers.{ends_run, step_by}
+use Rattle.ped_machine.specs.Answers.{ends_run, is_last, step_by}
 use Rattle.ped_machine.specs.Doing.{IsDone, IfOpen, IfSafe, HasGrown}
 use Rattle.ped_machine.specs.Machines.{Held, IsSameRun, IsBehind, IsStepBy, IfFaultless}
 use Rattle.ped_machine.specs.Rests.{rest_left, IsSound}
 use Rattle.ped_machine.specs.Roots.{Outermost, outermost_left, IsOutermostSound, root_left, IsRight}
 use Rattle.ped_machine.specs.declared.rests.Rest.{Rest}
 use Rattle.ped_machine.proofs.Growing.{ready_in, ready_grows}
+use Rattle.ped_machine.specs.declared.steps.Step.{Step}
 use Rattle.ped_machine.specs.declared.steps.Step.TheVariants as answer
 use Rattle.ped_machine.specs.declared.steps.Done as doing
 use Rattle.ped_machine.specs.declared.steps.Done.TheVariants as done
@@ -119,10 +120,30 @@ root_is true scope r = refl
 root_is false scope r = refl
 
 -- what is kept stays right but behind a fault
-pub still_right : {E : Type 0} (d : doing.Done) (scope : Scope) (r : Rest Outermost) (table : Table) (old new : Memory) (base : Scope) → IsReady table base old
+pub still_right : (E : Type 0) (d : doing.Done) (scope : Scope) (r : Rest Outermost) (table : Table) (old new : Memory) (base : Scope) → IsReady table base old
     → IfOpen {E = E} (Ok d) (IsSound outermost_left IsOutermostSound scope r table new.stands) → IfOpen {E = E} (Ok d) (DoCopiesStand scope new.stands) → IfSafe {E = E} (Ok d) (HasGrown old new)
     → IfFaultless {E = E} (Ok (step_by d)) (IsRight (ends_run d) scope r table new)
-still_right done.Went scope r table old new base ready sound copies grown = record { ready = ready_in table base scope new (ready_grows table base old new grown ready) copies; sound = sound }
-still_right done.Ended scope r table old new base ready sound copies grown = record { ready = ready_in table base scope new (ready_grows table base old new grown ready) copies; sound = sound }
-still_right done.Halted scope r table old new base ready sound copies grown = grown.bounds ∙ ready.bounds
-still_right (done.Fault f n) scope r table old new base ready sound copies grown = tt
+still_right E done.Went scope r table old new base ready sound copies grown = record { ready = ready_in table base scope new (ready_grows table base old new grown ready) copies; sound = sound }
+still_right E done.Ended scope r table old new base ready sound copies grown = record { ready = ready_in table base scope new (ready_grows table base old new grown ready) copies; sound = sound }
+still_right E done.Halted scope r table old new base ready sound copies grown = grown.bounds ∙ ready.bounds
+still_right E (done.Fault f n) scope r table old new base ready sound copies grown = tt
+
+pub faultless_maps : (E : Type 0) (r : Step) (P Q : Type 0) → (P → Q) → IfFaultless {E = E} (Ok r) P → IfFaultless {E = E} (Ok r) Q
+faultless_maps E answer.Went P Q f h = f h
+faultless_maps E answer.Ended P Q f h = f h
+faultless_maps E (answer.Fault k n) P Q f h = tt
+
+-- arrays have their bounds, whether the run goes on or has ended
+pub right_bounds : (b : Bool) (scope : Scope) (r : Rest Outermost) (table : Table) (m : Memory) → IsRight b scope r table m → m.bounds ≡ (setting_by table).bounds
+right_bounds true scope r table m h = h
+right_bounds false scope r table m h = h.ready.bounds
+
+-- what no step follows has ended or met a fault
+pub last_ended : (r : Step) → (r ≡ answer.Went) ⊎ (r ≡ answer.Ended) → is_last r ≡ true → r ≡ answer.Ended
+last_ended r (inl e) h = absurd (let w : false ≡ true = sym (ap is_last e) ∙ h in cc)
+last_ended r (inr e) h = e
+
+pub not_last : (r : Step) → is_last r ≡ false → r ≡ answer.Went
+not_last answer.Went h = refl
+not_last answer.Ended h = absurd cc
+not_last (answer.Fault k n) h = absurd cc

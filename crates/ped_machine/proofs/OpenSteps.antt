@@ -1,6 +1,6 @@
 -- Steps of open loops.
 use Rattle.std.proofs.Common.{◌≡◌, ◌≢◌, ◌<◌, ℕ, suc, ◌+◌, ◌-◌, ◌/◌, ◌%◌, Bool, true, Option, Some, None, Result, Ok, Err, eqb, refl, sym, ap, subst, ◌∙◌, arith}
-use Rattle.std.specs.Prelude.{◌==◌, IfOk, OnOk}
+use Rattle.std.specs.Prelude.{◌==◌, IfOk, OnOk, OnErr}
 use Rattle.ped_store.specs.Stores.{Store}
 use Rattle.ped_store.specs.Acts.{store_behind, closed}
 use Rattle.ped_store.specs.Memories.{Memory}
@@ -79,6 +79,14 @@ open_both (Err x) P Q R f g h = f g h
 pub ok_by : {A E : Type 0} (r : Result A E) (P : Type 0) → P → OnOk r P
 ok_by (Ok x) P h = h
 ok_by (Err x) P h = tt
+
+pub err_by : {A E : Type 0} (r : Result A E) (P : Type 0) → P → OnErr r P
+err_by (Ok x) P h = tt
+err_by (Err x) P h = h
+
+pub err_maps : {A E : Type 0} (r : Result A E) (P Q : Type 0) → (P → Q) → OnErr r P → OnErr r Q
+err_maps (Ok x) P Q f h = tt
+err_maps (Err x) P Q f h = f h
 
 -- what holds with each choice holds with this one
 pub chosen : {E : Type 0} (r : Result Done E) (P : Done → ℕ → Type 0) (c : ℕ) → IfOk r (λ d. (k : ℕ) → P d k) → IfOk r (λ d. P d c)

@@ -13,7 +13,7 @@ use Rattle.ped_interleavings.specs.Interleavings.{Standing, choice, choices_behi
 use Rattle.ped_machine.specs.declared.steps.Step.{Step}
 use Rattle.ped_machine.specs.declared.steps.Step.TheVariants as answer
 use Rattle.ped_machine.specs.Answers.{is_last}
-use Rattle.ped_machine.specs.Machines.{Held, standing, IsBehind, IsStepBy, IsOutcomeBy}
+use Rattle.ped_machine.specs.Machines.{Held, standing, IsSameRun, IsBehind, IsStepBy, IsOutcomeBy}
 
 some_is : {A : Type 0} (x y : A) → ◌≡◌ {A = Option A} (Some x) (Some y) → x ≡ y
 some_is x y h = cc
@@ -65,11 +65,16 @@ fault_is (met k i) old new f n h = λ j. met (sym h.0 j) (sym h.1 j)
 fault_is (went a l) old new f n h = absurd h
 fault_is (halted a) old new f n h = absurd h
 
-same_store : (x : Next) (old new : Held) → IsStepBy x old answer.Ended new → new.store ≡ old.store
-same_store over old new h = h.store
-same_store (met f n) old new h = absurd h
-same_store (went a l) old new h = absurd h
-same_store (halted a) old new h = absurd h
+-- where nothing was left, the run is the same
+pub same_run : (x : Next) (old new : Held) → IsStepBy x old answer.Ended new → IsSameRun old new
+same_run over old new h = h
+same_run (met f n) old new h = absurd h
+same_run (went a l) old new h = absurd h
+same_run (halted a) old new h = absurd h
+
+-- the same run is reached
+pub same_reached : (p : Setting) (st : Standing) (old new : Held) (choices : List ℕ) → IsReached p st (standing old choices) → IsSameRun old new → IsReached p st (standing new choices)
+same_reached p st old new choices h same = subst (λ (k : Standing). IsReached p st k) (λ i. record { left = sym same.left i; choices = choices; store = sym same.store i }) h
 
 module _ (t : ProgramTree) (st : Standing) (old new : Held) (choices : List ℕ) (reached : IsReached (setting_of t) st (standing old choices)) where
   -- a run that has ended there
@@ -83,5 +88,5 @@ module _ (t : ProgramTree) (st : Standing) (old new : Held) (choices : List ℕ)
   -- a run that has come to an outcome there
   pub comes_there : (r : Step) → is_last r ≡ true → IsStepBy (step (setting_of t) old.left (choice choices) old.store) old r new → new.tree ≡ t → (o : Outcome) → IsOutcomeBy r new o → IsInterleavedFrom t st o
   comes_there answer.Went last h tree o is = absurd cc
-  comes_there answer.Ended last h tree o is = ends_there h o (is ∙ (λ i. outcome_of (tree i) (going (same_store (step (setting_of t) old.left (choice choices) old.store) old new h i))))
+  comes_there answer.Ended last h tree o is = ends_there h o (is ∙ (λ i. outcome_of (tree i) (going ((same_run (step (setting_of t) old.left (choice choices) old.store) old new h).store i))))
   comes_there (answer.Fault f n) last h tree o is = subst (λ (x : Outcome). IsInterleavedFrom t st x) (sym is) (faults_there f n h)

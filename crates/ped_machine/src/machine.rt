@@ -1,6 +1,6 @@
 //! The machine.
 
-ghost use Rattle.std.specs.Prelude.{◌≡◌, ◌<◌, ◌∷◌, [], ℕ, List, None, drop, Ok, IfOk, OnErr, if◌then◌else◌};
+ghost use Rattle.std.specs.Prelude.{◌≡◌, ◌<◌, ◌∷◌, [], ℕ, List, true, None, drop, Ok, IfOk, OnErr, if◌then◌else◌};
 ghost use Rattle.ped_tree.specs.Views.{program_tree, stmt_trees};
 ghost use Rattle.ped_symbols.specs.Kinds.{table_of};
 ghost use Rattle.ped_symbols.specs.NameRefusals.{IsValid};
@@ -10,6 +10,7 @@ ghost use Rattle.ped_interleavings.specs.Lefts as Lefts;
 ghost use Rattle.ped_interleavings.specs.Steps as Steps;
 ghost use Rattle.ped_interleavings.specs.Interleavings.{IsInterleavedFrom, at_start, choice};
 ghost use Rattle.ped_interleavings.specs.Weights.{left_weight};
+ghost use Rattle.ped_machine.specs.Answers.{is_last};
 ghost use Rattle.ped_machine.specs.Parts.{parts_of};
 ghost use Rattle.ped_machine.specs.Machines.{standing, IsSameRun, IsStepBy, IsOutcomeBy, IfFaultless, ReachesSome};
 ghost use Rattle.ped_machine.specs.Roots.{held, IsSafe};
@@ -145,11 +146,13 @@ impl<'a> Machine<'a> {
     }
 
     /// The outcome of a run whose last step has answered so.
-    fn outcome(&self, step: &Step) -> Result<Outcome, NoMemory>
-        requires { IfFaultless {E = ⊥} (Ok step.now) (IsSafe self.now) }
-        ensures { IfOk result (λ o. IsOutcomeBy step.now (held self.now) (outcome_view o)) }
+    fn outcome(&self, answer: &Step) -> Result<Outcome, NoMemory>
+        requires last { is_last answer.now ≡ true }
+        requires safe { IfFaultless {E = ⊥} (Ok answer.now) (IsSafe self.now) }
+        ensures outcome { IfOk result (λ o. IsOutcomeBy answer.now (held self.now) (outcome_view o)) }
+        ensures ended { OnErr result (answer.now ≡ step.Ended) }
     {
-        match step {
+        match answer {
             Step::Fault { fault, statement } => return Ok(Outcome::Fault {
                 fault: *fault,
                 statement: *statement,

@@ -6,12 +6,12 @@ use Rattle.ped_machine.specs.Machines.{standing}
 use Rattle.ped_machine.specs.Roots.{held, IsSafe}
 use Rattle.ped_machine.proofs.machine.Machine.run.Given as goal
 
-abbrev pub invariant-loop-left : goal.invariant-loop-left
-invariant-loop-left l = record {
+abbrev pub invariant-loop-step : goal.invariant-loop-step
+invariant-loop-step l = record {
   safe : IsSafe l.self;
   tree : (held l.self).tree ≡ (held l.initial.self).tree;
   reached : IsReached (setting_of (held l.initial.self).tree) (standing (held l.initial.self) l.choices) (standing (held l.self) l.left);
 }
 
-abbrev pub decreases-loop-left : goal.decreases-loop-left
-decreases-loop-left l = left_weight (held l.self).left
+abbrev pub decreases-loop-step : goal.decreases-loop-step
+decreases-loop-step l = left_weight (held l.self).left

@@ -1,6 +1,6 @@
 -- Statements by what the code answers for them.
 use Rattle.std.specs.Prelude.{IfOk, OnOk, OnErr}
-use Rattle.std.proofs.Common.{◌≡◌, ℕ, ◌+◌, List, [], ◌∷◌, ◌++◌, Bool, true, false, Option, Some, None, Result, Ok, Err, if◌then◌else◌, refl, sym, ap, subst, ◌∙◌}
+use Rattle.std.proofs.Common.{◌≡◌, ℕ, ◌+◌, List, [], ◌∷◌, Bool, Option, Some, None, Result, Ok, Err, if◌then◌else◌, refl, sym, ap, subst, ◌∙◌}
 use Rattle.ped_tree.specs.Tree.{StmtTree, ExprTree, ItemTree, CondTree, Head, StmtTrees, Assign, If, Do, Print, Read, Stop}
 use Rattle.ped_tree.specs.Numbering.{statements_count}
 use Rattle.ped_symbols.specs.Kinds.{Table}
@@ -11,7 +11,7 @@ use Rattle.ped_store.specs.Memories.{Memory, with_content, with_printed}
 use Rattle.ped_interleavings.specs.ped_eval.specs.Agreement.{IsSame, DoCopiesStand}
 use Rattle.ped_interleavings.specs.ped_eval.specs.Scopes.{Setting, Scope, names_in, place_of, cell_of, index_value}
 use Rattle.ped_interleavings.specs.ped_eval.specs.ScopeViews.{names_at}
-use Rattle.ped_interleavings.specs.ped_eval.specs.Evaluation.{Seen, Evaluated, numbered, number_behind}
+use Rattle.ped_interleavings.specs.ped_eval.specs.Evaluation.{Seen, numbered, number_behind}
 use Rattle.ped_interleavings.specs.ped_eval.specs.Values.{truth}
 use Rattle.ped_interleavings.specs.ped_eval.specs.Statements.{Stored, assigned, assignment_touches, printed_line, print_touches, write_touch, reading, reading_touches, Taking}
 use Rattle.ped_interleavings.specs.ped_eval.specs.Takings.{read_taken}
@@ -19,12 +19,12 @@ use Rattle.ped_interleavings.specs.ped_eval.specs.Loops.{Limits, limits, Entered
 use Rattle.ped_interleavings.specs.ped_eval.specs.Plans.{entered_by, IsPlanWithin}
 use Rattle.ped_interleavings.specs.ped_eval.specs.declared.plans.Plan.{Plan}
 use Rattle.ped_interleavings.specs.ped_eval.specs.Runs.{going, failed, does, nothing_done, on_value, run_taking}
-use Rattle.ped_interleavings.specs.ped_eval.specs.Readiness.{setting_by, IsReady, CanRun}
+use Rattle.ped_interleavings.specs.ped_eval.specs.Readiness.{setting_by, CanRun}
 use Rattle.ped_interleavings.specs.ped_eval.proofs.Endings.{reads_leave, only_reads}
 use Rattle.ped_interleavings.specs.ped_eval.proofs.KeptByWrites.{IsKeptByWrites}
 use Rattle.ped_interleavings.specs.ped_eval.proofs.Takings.{reading_taken, read_ending, read_ending_fails}
 use Rattle.ped_interleavings.specs.Lefts.{Left, left_of_all, entered_left}
-use Rattle.ped_interleavings.specs.Steps.{Next, met, went, halted, act_of, by_run, simple_step, seen_next, begun}
+use Rattle.ped_interleavings.specs.Steps.{Next, went, act_of, simple_step, seen_next, begun}
 use Rattle.ped_machine.specs.Doing.{IsDone, IsActed, IfOpen, HasRoom}
 use Rattle.ped_machine.proofs.Growing.{same_copies}
 use Rattle.ped_machine.specs.Parts.{Part, parts_left, CanGo}

@@ -1,6 +1,6 @@
 -- What a step of a machine answers, by that of its parts.
-use Rattle.std.proofs.Common.{◌≡◌, ◌<◌, ◌+◌, ◌*◌, ℕ, zero, suc, List, [], ◌∷◌, Bool, true, false, Ok, ◌⊎◌, inl, inr, if◌then◌else◌, refl, sym, ap, subst, ◌∙◌, arith}
-use Rattle.ped_tree.specs.Tree.{StmtTree, StmtTrees, ProgramTree, Assign, If, Do, Print, Read, Stop, Comment}
+use Rattle.std.proofs.Common.{◌≡◌, ◌<◌, ◌+◌, ◌*◌, ℕ, Bool, true, false, Ok, ◌⊎◌, inl, inr, if◌then◌else◌, refl, sym, ap, subst, ◌∙◌, arith}
+use Rattle.ped_tree.specs.Tree.{StmtTree, ProgramTree, Assign, If, Do, Print, Read, Stop, Comment}
 use Rattle.ped_symbols.specs.Kinds.{Table, table_of}
 use Rattle.ped_store.specs.Cells.{Out}
 use Rattle.ped_store.specs.Stores.{Store, lines_in}
@@ -19,7 +19,7 @@ use Rattle.ped_interleavings.specs.Steps.{Next, over, met, went, halted, step}
 use Rattle.ped_interleavings.specs.Weights.{left_weight, lefts_weight, stmt_weight, stmts_weight, most_turns}
 use Rattle.ped_machine.specs.Answers.{ends_run, is_last, step_by}
 use Rattle.ped_machine.specs.Doing.{IsDone, IfOpen, IfSafe, HasGrown}
-use Rattle.ped_machine.specs.Machines.{Held, IsSameRun, IsBehind, IsStepBy, IfFaultless}
+use Rattle.ped_machine.specs.Machines.{Held, IsStepBy, IfFaultless}
 use Rattle.ped_machine.specs.Rests.{rest_left, IsSound}
 use Rattle.ped_machine.specs.Roots.{Outermost, outermost_left, IsOutermostSound, root_left, IsRight}
 use Rattle.ped_machine.specs.declared.rests.Rest.{Rest}

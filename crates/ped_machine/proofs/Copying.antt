@@ -1,5 +1,5 @@
 -- Private copies that are made, one after the other.
-use Rattle.std.proofs.Common.{◌≡◌, ℕ, ◌+◌, ◌<◌, ℤ, List, [], ◌∷◌, length, get_or, drop, Bool, true, false, ◌&&◌, Option, Some, None, Result, Ok, Err, if◌then◌else◌, refl, sym, ap, subst, ◌∙◌, add-one, drop-cons}
+use Rattle.std.proofs.Common.{◌≡◌, ℕ, ◌+◌, ◌<◌, ℤ, List, ◌∷◌, length, get_or, drop, Bool, true, false, ◌&&◌, Option, Some, None, Result, Ok, Err, if◌then◌else◌, refl, sym, ap, ◌∙◌, add-one, drop-cons}
 use mathlib.Core.Path.{fun_ext}
 use Rattle.std.proofs.lemmas.Bool.{and_parts}
 use Rattle.std.specs.Prelude.{is_some, OnOk, OnErr}
@@ -9,14 +9,14 @@ use Rattle.ped_base.specs.Lists.{is_same_text}
 use Rattle.ped_base.proofs.NameEquality.{same_is}
 use Rattle.std.specs.Option.{option_flatten}
 use Rattle.ped_store.specs.Cells.{Cell, Scalar, Element, Private, In, Out, Iteration, same_iteration, same_cell}
-use Rattle.ped_store.specs.Stores.{Content, Undefined, Number, Lines, Store, put, number_read}
+use Rattle.ped_store.specs.Stores.{Undefined, Store, put, number_read}
 use Rattle.ped_store.specs.Memories.{Memory, with_copy, standing, got}
 use Rattle.ped_store.specs.Keeping.{Kept, copy_of, cells_of, stands_in, memory_of}
 use Rattle.ped_store.specs.Slots.{content_of}
 use Rattle.ped_store.specs.IterationLaws.{iterations_decide}
 use Rattle.ped_interleavings.specs.ped_eval.specs.Agreement.{is_copy}
 use Rattle.ped_interleavings.specs.ped_eval.proofs.Copies.{own_copy}
-use Rattle.ped_machine.specs.Doing.{HasGrown, HasRoom}
+use Rattle.ped_machine.specs.Doing.{HasRoom}
 use Rattle.ped_machine.proofs.Growing.{unchanged}
 
 pub next_drop : {X : Type 0} (xs : List X) (i : ℕ) (d : X) → i < length xs → drop i xs ≡ get_or xs i d ∷ drop (i + 1) xs

@@ -1,16 +1,16 @@
 -- What stays so where more cells stand.
-use Rattle.std.proofs.Common.{◌≡◌, ◌<◌, ◌-◌, ℕ, suc, ℤ, List, [], ◌∷◌, Bool, true, false, ◌&&◌, ◌||◌, Option, Some, None, if◌then◌else◌, refl, sym, ap, subst, ◌∙◌, arith}
+use Rattle.std.proofs.Common.{◌≡◌, ◌<◌, ◌-◌, ℕ, suc, List, [], ◌∷◌, Bool, true, false, ◌||◌, refl, sym, ap, subst, ◌∙◌, arith}
 use Rattle.std.proofs.lemmas.Bool.{and_parts}
 use Rattle.std.specs.List.{list_all}
 use Rattle.ped_base.specs.Lists.{is_same_text, is_among}
 use Rattle.ped_base.proofs.NameEquality.{same_is}
 use Rattle.ped_symbols.specs.Kinds.{Table}
-use Rattle.ped_store.specs.Cells.{Cell, Scalar, Element, Private, In, Out, same_cell}
-use Rattle.ped_store.specs.Stores.{Content, Undefined, Store, put}
+use Rattle.ped_store.specs.Cells.{Cell, Scalar, Element}
+use Rattle.ped_store.specs.Stores.{Content, Undefined, Store}
 use Rattle.ped_store.specs.Acts.{Touch, store_behind}
 use Rattle.ped_store.specs.Memories.{Memory, with_content}
 use Rattle.ped_interleavings.specs.ped_eval.specs.Scopes.{Frame, Scope, cell_of}
-use Rattle.ped_interleavings.specs.ped_eval.specs.Agreement.{path_of, is_copy, DoCopiesStand}
+use Rattle.ped_interleavings.specs.ped_eval.specs.Agreement.{is_copy, DoCopiesStand}
 use Rattle.ped_interleavings.specs.ped_eval.specs.ScopeViews.{outside}
 use Rattle.ped_interleavings.specs.ped_eval.specs.Loops.{Entered, left_in_variable, exit_touches, exit_when_none}
 use Rattle.ped_interleavings.specs.ped_eval.specs.Turns.{undefined_in, exited, undefined_cells}

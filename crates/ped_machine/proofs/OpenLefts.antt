@@ -1,10 +1,10 @@
 -- The iterations of an open loop by their places.
-use Rattle.std.proofs.Common.{◌≡◌, ◌≢◌, ◌<◌, ◌≤◌, ℕ, zero, suc, ◌+◌, ◌%◌, ◌/◌, Bool, true, false, Option, Some, None, if◌then◌else◌, refl, sym, ap, subst, ◌∙◌, arith}
+use Rattle.std.proofs.Common.{◌≡◌, ◌≢◌, ◌<◌, ◌≤◌, ℕ, zero, suc, ◌+◌, ◌%◌, ◌/◌, Bool, true, false, Option, Some, None, if◌then◌else◌, refl, sym, ap, ◌∙◌, arith}
 use Rattle.ped_store.specs.Stores.{Store}
 use Rattle.ped_store.specs.Acts.{closed}
 use Rattle.ped_interleavings.specs.ped_eval.specs.Scopes.{Setting, Scope, place_of}
 use Rattle.ped_interleavings.specs.ped_eval.specs.Loops.{Entered, exit_touches}
-use Rattle.ped_interleavings.specs.Lefts.{Left, Lefts, more_lefts, lefts_by, is_finished, many, one_on, unfinished, or_else, with_left, open_loop}
+use Rattle.ped_interleavings.specs.Lefts.{Left, more_lefts, lefts_by, is_finished, many, one_on, unfinished, or_else, with_left, open_loop}
 use Rattle.ped_interleavings.specs.Steps.{Next, went, act_of, inside, opened_step, step, step_at}
 use Rattle.ped_machine.specs.Opens.{lefts_of}
 

@@ -1,16 +1,14 @@
 -- Steps of open loops.
-use Rattle.std.proofs.Common.{◌≡◌, ◌≢◌, ◌<◌, ℕ, suc, ◌+◌, ◌-◌, ◌/◌, ◌%◌, Bool, true, Option, Some, None, Result, Ok, Err, eqb, refl, sym, ap, subst, ◌∙◌, arith}
-use Rattle.std.specs.Prelude.{◌==◌, IfOk, OnOk, OnErr}
+use Rattle.std.proofs.Common.{◌≡◌, ◌<◌, ℕ, suc, ◌+◌, ◌-◌, ◌/◌, ◌%◌, Bool, true, Some, None, Result, Ok, Err, refl, sym, ap, subst, ◌∙◌, arith}
+use Rattle.std.specs.Prelude.{IfOk, OnOk, OnErr}
 use Rattle.ped_store.specs.Stores.{Store}
-use Rattle.ped_store.specs.Acts.{store_behind, closed}
 use Rattle.ped_store.specs.Memories.{Memory}
 use Rattle.ped_tree.specs.Views.{head_of, stmt_trees}
-use Rattle.ped_interleavings.specs.ped_eval.specs.Scopes.{Setting, Scope, place_of}
-use Rattle.ped_interleavings.specs.ped_eval.specs.Loops.{Entered, exit_touches}
+use Rattle.ped_interleavings.specs.ped_eval.specs.Scopes.{Setting, Scope}
 use Rattle.ped_interleavings.specs.ped_eval.specs.Plans.{entered_by}
 use Rattle.ped_interleavings.specs.ped_eval.specs.Turns.{exited}
 use Rattle.ped_interleavings.specs.Lefts.{Left, finished, open_loop, lefts_by, body_left, entered_left, unfinished, or_else, with_left}
-use Rattle.ped_interleavings.specs.Steps.{Next, over, met, went, halted, act_of, inside, step}
+use Rattle.ped_interleavings.specs.Steps.{Next, over, met, went, halted, inside, step}
 use Rattle.ped_machine.specs.declared.opens.Open.{Open}
 use Rattle.ped_machine.specs.declared.steps.Done.{Done}
 use Rattle.ped_machine.specs.declared.steps.Done.TheVariants as done

@@ -1,18 +1,16 @@
 -- Open loops: which iterations are finished, and what starting one and doing a step of one leave.
-use Rattle.std.proofs.Common.{◌≡◌, ◌≢◌, ◌<◌, ◌≤◌, ℕ, zero, suc, ◌+◌, ◌%◌, List, [], ◌∷◌, length, Bool, true, false, Option, Some, None, eqb, eqb-true, if◌then◌else◌, refl, sym, ap, subst, ◌∙◌, arith}
+use Rattle.std.proofs.Common.{◌≡◌, ◌≢◌, ◌<◌, ◌≤◌, ℕ, ◌+◌, [], length, Bool, true, false, Option, Some, None, eqb-true, if◌then◌else◌, refl, sym, ap, subst, ◌∙◌, arith}
 use Rattle.std.specs.Prelude.{◌==◌, MatchOption}
-use Rattle.slab.specs.Slab.{Slab, get, Updates, SameValues}
+use Rattle.slab.specs.Slab.{get}
 use Rattle.ped_marks.specs.declared.marks.Mark.{Mark}
 use Rattle.ped_marks.specs.declared.marks.Mark.TheVariants.{Waits, Running, Done}
-use Rattle.ped_marks.specs.Marks.{at, is_done, is_running}
+use Rattle.ped_marks.specs.Marks.{at, is_done}
 use Rattle.ped_tree.specs.Tree.{StmtTree, StmtTrees, Assign, If, Do, Print, Read, Stop, Comment, no_stmts, more_stmts}
 use Rattle.ped_tree.specs.Views.{head_of, stmt_trees, do_tree}
-use Rattle.ped_tree.specs.Numbering.{statement_count}
 use Rattle.ped_symbols.specs.Kinds.{Table}
 use Rattle.ped_store.specs.Cells.{Cell}
 use Rattle.ped_interleavings.specs.ped_eval.specs.Scopes.{Scope}
-use Rattle.ped_interleavings.specs.ped_eval.specs.Loops.{Entered}
-use Rattle.ped_interleavings.specs.ped_eval.specs.Plans.{entered_by, IsPlan}
+use Rattle.ped_interleavings.specs.ped_eval.specs.Plans.{IsPlan}
 use Rattle.ped_interleavings.specs.ped_eval.specs.Readiness.{CanDo}
 use Rattle.ped_interleavings.specs.ped_eval.specs.declared.plans.Plan.{Plan}
 use Rattle.ped_interleavings.specs.Lefts.{Left, Lefts, finished, begins, ends_turn, open_loop, is_finished, left_of_all, body_left, unfinished, or_else}

@@ -1,16 +1,15 @@
 -- Parts: what they leave, and what they need.
-use Rattle.std.proofs.Common.{◌≡◌, ◌<◌, ◌≤◌, ◌^◌, ℕ, zero, suc, ◌+◌, ◌-◌, List, [], ◌∷◌, ◌++◌, Bool, true, false, Option, Some, None, map, length, take, get_or, if◌then◌else◌, refl, sym, ap, subst, ◌∙◌, arith}
+use Rattle.std.proofs.Common.{◌≡◌, ◌<◌, ℕ, ◌+◌, List, [], ◌∷◌, ◌++◌, Bool, true, false, Option, Some, None, map, length, take, get_or, refl, sym, ap, subst, ◌∙◌, arith}
 use Rattle.std.specs.Prelude.{reverse, is_none}
 use Rattle.std.proofs.Math.ListN.{set}
 use Rattle.std.proofs.Math.Seq.{set-append_seam, take-length}
 use Rattle.std.proofs.lemmas.List.{length-take-le, take_more, map-append, reverse-append}
 use Rattle.ped_tree.specs.Tree.{StmtTree, StmtTrees, Assign, If, Do, Print, Read, Stop, Comment, no_stmts, more_stmts}
-use Rattle.ped_tree.specs.Numbering.{statement_count, statements_count}
-use Rattle.ped_symbols.specs.Kinds.{Table}
+use Rattle.ped_tree.specs.Numbering.{statement_count}
 use Rattle.ped_interleavings.specs.ped_eval.specs.Scopes.{Scope}
-use Rattle.ped_interleavings.specs.ped_eval.specs.Readiness.{CanDo, CanRun}
-use Rattle.ped_interleavings.specs.ped_eval.proofs.Parts.{first_can, rest_can}
-use Rattle.ped_interleavings.specs.Lefts.{Left, finished, begins, left_of, left_of_all, is_finished}
+use Rattle.ped_interleavings.specs.ped_eval.specs.Readiness.{CanRun}
+use Rattle.ped_interleavings.specs.ped_eval.proofs.Parts.{rest_can}
+use Rattle.ped_interleavings.specs.Lefts.{Left, begins, left_of_all, is_finished}
 use Rattle.ped_tree.specs.Views.{stmt_trees}
 use Rattle.ped_machine.specs.declared.parts.Part as code
 use Rattle.ped_machine.specs.declared.parts.Block.{Block}

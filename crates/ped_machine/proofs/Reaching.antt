@@ -1,19 +1,18 @@
 -- Runs that are reached from others.
-use Rattle.std.proofs.Common.{◌≡◌, ℕ, zero, suc, List, Bool, true, false, Option, Some, None, Ok, refl, sym, ap, subst, ◌∙◌}
+use Rattle.std.proofs.Common.{◌≡◌, ℕ, zero, suc, List, true, Option, Some, None, refl, sym, ap, subst, ◌∙◌}
 use Rattle.std.specs.Prelude.{option_and_then}
 use Rattle.ped_tree.specs.Tree.{ProgramTree}
-use Rattle.ped_store.specs.Stores.{Store}
-use Rattle.ped_store.specs.Acts.{Act, store_behind}
+use Rattle.ped_store.specs.Acts.{Act}
 use Rattle.ped_interleavings.specs.ped_eval.specs.Scopes.{Setting}
 use Rattle.ped_interleavings.specs.ped_eval.specs.Outcomes.{Outcome, Fault, setting_of, outcome_of}
 use Rattle.ped_interleavings.specs.ped_eval.specs.Runs.{going}
 use Rattle.ped_interleavings.specs.Lefts.{Left, finished}
 use Rattle.ped_interleavings.specs.Steps.{Next, over, met, went, halted, step}
-use Rattle.ped_interleavings.specs.Interleavings.{Standing, choice, choices_behind, next_step, standing_by, next_standing, after_steps, IsReached, ended_by, IsInterleavedFrom}
+use Rattle.ped_interleavings.specs.Interleavings.{Standing, choice, choices_behind, standing_by, next_standing, after_steps, IsReached, ended_by, IsInterleavedFrom}
 use Rattle.ped_machine.specs.declared.steps.Step.{Step}
 use Rattle.ped_machine.specs.declared.steps.Step.TheVariants as answer
 use Rattle.ped_machine.specs.Answers.{is_last}
-use Rattle.ped_machine.specs.Machines.{Held, standing, IsSameRun, IsBehind, IsStepBy, IsOutcomeBy}
+use Rattle.ped_machine.specs.Machines.{Held, standing, IsSameRun, IsStepBy, IsOutcomeBy}
 
 some_is : {A : Type 0} (x y : A) → ◌≡◌ {A = Option A} (Some x) (Some y) → x ≡ y
 some_is x y h = cc

@@ -1,5 +1,5 @@
 -- Starting an iteration of an open loop leaves what was left, whether there is memory or not.
-use Rattle.std.proofs.Common.{◌≡◌, ◌≢◌, ◌⊎◌, inl, inr, ◌<◌, ℕ, ◌+◌, length, Bool, true, false, Option, Some, None, Result, Ok, Err, refl, sym, ap, subst, ◌∙◌}
+use Rattle.std.proofs.Common.{◌≡◌, ◌⊎◌, inl, inr, ◌<◌, ℕ, length, Bool, false, Some, None, Result, Ok, Err, refl, sym, ap, subst, ◌∙◌}
 use Rattle.std.specs.Prelude.{IfOk, OnErr}
 use Rattle.std.proofs.lemmas.Bool.{cases_eq}
 use Rattle.slab.specs.Slab.{get, SameValues}
@@ -22,9 +22,9 @@ use Rattle.ped_interleavings.specs.Steps.{step}
 use Rattle.ped_machine.specs.Doing.{IsDone, HasRoom}
 use Rattle.ped_machine.specs.declared.steps.Done as answer
 use Rattle.ped_machine.proofs.Growing.{room_twice}
-use Rattle.ped_machine.specs.Opens.{kept_left, mark_left, is_bare, place_left, IsSameLoop, HasMarked, IsRunning, IsOpen}
+use Rattle.ped_machine.specs.Opens.{kept_left, is_bare, place_left, IsSameLoop, HasMarked, IsOpen}
 use Rattle.ped_machine.specs.Growth.{More}
-use Rattle.ped_machine.proofs.Opening.{body_of, whole_of, left_by, waits_finished, same_whole, Grows, marked_there, marked_elsewhere, marked_open, free_apart}
+use Rattle.ped_machine.proofs.Opening.{whole_of, left_by, waits_finished, same_whole, Grows, marked_there, marked_elsewhere, marked_open, free_apart}
 
 module _ {C : Type 0} (left : C → Left) (sound : C → Table → (Cell → Bool) → Type 0) (scope : Scope) (old new : Open C) where
   module _ (same : IsSameLoop old new) (marks : new.marks ≡ old.marks) (tasks : SameValues old.tasks new.tasks) where

@@ -1,9 +1,9 @@
 -- What a step of an iteration of an open loop leaves of the loop.
-use Rattle.std.proofs.Common.{◌≡◌, ◌≢◌, ◌<◌, ℕ, length, Bool, true, false, Option, Some, None, Ok, Err, eqb, eqb-true, if◌then◌else◌, refl, sym, ap, subst, ◌∙◌, arith}
+use Rattle.std.proofs.Common.{◌≡◌, ◌<◌, ℕ, length, Bool, true, false, Option, Some, None, Ok, Err, eqb-true, if◌then◌else◌, refl, sym, ap, subst, ◌∙◌, arith}
 use Rattle.std.specs.Prelude.{◌==◌}
-use Rattle.slab.specs.Slab.{Slab, get, Updates}
+use Rattle.slab.specs.Slab.{get, Updates}
 use Rattle.ped_marks.specs.declared.marks.Mark.{Mark}
-use Rattle.ped_marks.specs.declared.marks.Mark.TheVariants.{Waits, Running, Done}
+use Rattle.ped_marks.specs.declared.marks.Mark.TheVariants.{Running, Done}
 use Rattle.ped_marks.specs.Marks.{at}
 use Rattle.ped_symbols.specs.Kinds.{Table}
 use Rattle.ped_store.specs.Cells.{Cell}
@@ -11,13 +11,13 @@ use Rattle.ped_store.specs.Memories.{Memory}
 use Rattle.ped_interleavings.specs.ped_eval.specs.Scopes.{Scope}
 use Rattle.ped_interleavings.specs.ped_eval.specs.Readiness.{setting_by}
 use Rattle.ped_interleavings.specs.Steps.{step}
-use Rattle.ped_interleavings.specs.Lefts.{Left, finished, is_finished}
+use Rattle.ped_interleavings.specs.Lefts.{Left, is_finished}
 use Rattle.ped_machine.specs.declared.opens.Open.{Open}
 use Rattle.ped_machine.specs.declared.steps.Done as answer
 use Rattle.ped_machine.specs.Doing.{IsDone, IfGoing}
 use Rattle.ped_machine.proofs.OpenSteps.{if_going, both_going}
 use Rattle.ped_machine.specs.Growth.{More}
-use Rattle.ped_machine.specs.Opens.{kept_left, mark_left, place_left, IsSameLoop, HasMarked, IsSameElsewhere, IsRunning, IsOpen, is_bare}
+use Rattle.ped_machine.specs.Opens.{kept_left, place_left, IsSameLoop, HasMarked, IsSameElsewhere, IsOpen}
 use Rattle.ped_machine.specs.Stepping.{HasStepped, IsSettledBy, HasSettled}
 use Rattle.ped_machine.proofs.Opening.{left_by, is_nothing, marked_there, marked_elsewhere, marked_open, running_apart}
 

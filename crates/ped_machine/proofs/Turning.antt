@@ -1,5 +1,5 @@
 -- Iterations of DO loops: how one follows another, and how the last is left.
-use Rattle.std.proofs.Common.{◌≡◌, ◌<◌, ◌≤◌, ◌^◌, ℕ, zero, suc, ◌+◌, ◌-◌, List, [], ◌∷◌, Bool, Option, Some, None, length, if◌then◌else◌, refl, sym, ap, subst, ◌∙◌, arith}
+use Rattle.std.proofs.Common.{◌≡◌, ◌<◌, ◌≤◌, ◌^◌, ℕ, suc, ◌+◌, ◌-◌, List, ◌∷◌, Option, Some, refl, sym, ap, subst, ◌∙◌, arith}
 use Rattle.ped_tree.specs.Tree.{Head, StmtTrees, Do, no_stmts}
 use Rattle.ped_symbols.specs.Kinds.{Table}
 use Rattle.ped_store.specs.Stores.{Store}
@@ -7,10 +7,10 @@ use Rattle.ped_store.specs.Acts.{Touch, store_behind}
 use Rattle.ped_store.specs.Memories.{Memory}
 use Rattle.ped_interleavings.specs.ped_eval.specs.Scopes.{Setting, Scope, Frame}
 use Rattle.ped_interleavings.specs.ped_eval.specs.ScopeViews.{outside}
-use Rattle.ped_interleavings.specs.ped_eval.specs.Loops.{Entered, frame, exit_touches}
+use Rattle.ped_interleavings.specs.ped_eval.specs.Loops.{frame}
 use Rattle.ped_interleavings.specs.ped_eval.specs.Plans.{entered_by, IsPlan}
 use Rattle.ped_interleavings.specs.ped_eval.specs.Turns.{exited}
-use Rattle.ped_interleavings.specs.ped_eval.specs.Readiness.{CanDo, CanRun}
+use Rattle.ped_interleavings.specs.ped_eval.specs.Readiness.{CanDo}
 use Rattle.ped_interleavings.specs.ped_eval.specs.declared.plans.Plan.{Plan}
 use Rattle.ped_interleavings.specs.ped_eval.proofs.Endings.{none_left}
 use Rattle.ped_interleavings.specs.ped_eval.proofs.Parts.{body_can}

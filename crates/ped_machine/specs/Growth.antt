@@ -1,11 +1,11 @@
 -- What can be done where some cells stand can be done where more do (plain words).
-use Rattle.std.specs.Prelude.{◌≡◌, List, [], ◌∷◌, Bool, true, Option, Some, None}
+use Rattle.std.specs.Prelude.{◌≡◌, [], ◌∷◌, Bool, true, Option, Some, None}
 use Rattle.ped_symbols.specs.Kinds.{Table}
 use Rattle.ped_store.specs.Cells.{Cell, Private}
 use Rattle.ped_interleavings.specs.ped_eval.specs.Scopes.{Scope}
 use Rattle.ped_interleavings.specs.ped_eval.specs.Agreement.{path_of, DoCopiesStand}
 use Rattle.ped_interleavings.specs.Lefts.{Left}
-use Rattle.ped_machine.specs.Opens.{IsRunning, IsOpen}
+use Rattle.ped_machine.specs.Opens.{IsOpen}
 use Rattle.ped_machine.specs.Rests.{IfOpened, IsSound}
 use Rattle.ped_machine.specs.Levels.{IsSoundLevel, IsNever}
 use Rattle.ped_machine.specs.declared.opens.Open.{Open}

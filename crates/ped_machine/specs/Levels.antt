@@ -1,13 +1,11 @@
 -- What the iterations of PARALLEL DO loops have left that have been started (this project).
-use Rattle.std.specs.Prelude.{◌≡◌, Bool, true, Option, Some, None}
+use Rattle.std.specs.Prelude.{Bool}
 use Rattle.ped_symbols.specs.Kinds.{Table}
 use Rattle.ped_store.specs.Cells.{Cell}
 use Rattle.ped_interleavings.specs.ped_eval.specs.Agreement.{DoCopiesStand}
 use Rattle.ped_interleavings.specs.Lefts.{Left, finished}
-use Rattle.ped_machine.specs.Opens.{IsOpen}
-use Rattle.ped_machine.specs.Rests.{rest_left, IfOpened, IsSound}
+use Rattle.ped_machine.specs.Rests.{rest_left, IsSound}
 use Rattle.ped_machine.specs.declared.levels.Level.{Level}
-use Rattle.ped_machine.specs.declared.opens.Open.{Open}
 use Rattle.ped_machine.specs.declared.works.Never.{Never}
 
 -- what an iteration has left

@@ -12,7 +12,6 @@ use Rattle.ped_interleavings.specs.ped_eval.specs.Scopes.{Scope}
 use Rattle.ped_interleavings.specs.ped_eval.specs.Loops.{Entered}
 use Rattle.ped_interleavings.specs.ped_eval.specs.Plans.{entered_by, IsPlan}
 use Rattle.ped_interleavings.specs.ped_eval.specs.Readiness.{CanDo}
-use Rattle.ped_interleavings.specs.ped_eval.specs.Agreement.{DoCopiesStand}
 use Rattle.ped_interleavings.specs.Lefts.{Left, finished, open_loop, Lefts, no_lefts, more_lefts, is_finished, left_of_all, body_left}
 use Rattle.ped_machine.specs.declared.opens.Open.{Open}
 

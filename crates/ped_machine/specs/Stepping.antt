@@ -1,5 +1,5 @@
 -- Steps of iterations that have been started (this project).
-use Rattle.std.specs.Prelude.{◌≡◌, ℕ, Bool, true, false, Option, Some, None, Result, IfOk, OnErr}
+use Rattle.std.specs.Prelude.{◌≡◌, ℕ, Bool, true, false, Some, None, Result, IfOk, OnErr}
 use Rattle.slab.specs.Slab.{Slab, get, Updates}
 use Rattle.ped_marks.specs.declared.marks.Mark.TheVariants.{Running, Done}
 use Rattle.ped_symbols.specs.Kinds.{Table}

@@ -1,5 +1,5 @@
-use Rattle.std.proofs.Common.{◌≡◌, ◌+◌, ℕ, List, map, Ok, true, false, refl, sym, ap, subst, ◌∙◌}
-use Rattle.ped_tree.specs.Tree.{StmtTree, StmtTrees, If, Assign, Print, Read}
+use Rattle.std.proofs.Common.{◌≡◌, ◌+◌, ℕ, List, map, Ok, true, false, sym, ap, subst, ◌∙◌}
+use Rattle.ped_tree.specs.Tree.{StmtTree, Assign, Print, Read}
 use Rattle.ped_tree.specs.Numbering.{statements_count}
 use Rattle.ped_tree.specs.declared.statements.Stmt.{Stmt}
 use Rattle.ped_tree.specs.declared.statements.PrintItem.{PrintItem}

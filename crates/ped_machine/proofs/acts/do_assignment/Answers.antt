@@ -1,4 +1,3 @@
-use Rattle.std.proofs.Common.{◌≡◌}
 use Rattle.ped_store.specs.Stores.{Number}
 use Rattle.ped_store.specs.Keeping.{memory_of}
 use Rattle.ped_tree.specs.Views.{expr_tree}

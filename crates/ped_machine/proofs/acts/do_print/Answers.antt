@@ -1,4 +1,4 @@
-use Rattle.std.proofs.Common.{◌≡◌, List, map, Err, Ok, sym, ap, subst, ◌∙◌, refl}
+use Rattle.std.proofs.Common.{◌≡◌, map, Err, Ok, sym, ap, subst, ◌∙◌}
 use Rattle.ped_store.specs.Memories.{with_printed}
 use Rattle.ped_store.specs.Keeping.{memory_of}
 use Rattle.ped_tree.specs.Views.{item_tree}
@@ -7,7 +7,7 @@ use Rattle.ped_interleavings.specs.ped_eval.specs.Statements.{printed_line}
 use Rattle.ped_interleavings.specs.ped_eval.specs.Items.{IsPrinted}
 use Rattle.ped_interleavings.specs.ped_eval.specs.declared.printing.PrintError.{PrintError}
 use Rattle.ped_machine.proofs.Acting.{prints, print_fails}
-use Rattle.ped_machine.proofs.Growing.{same_grows, not_grown}
+use Rattle.ped_machine.proofs.Growing.{same_grows}
 use Rattle.ped_machine.proofs.acts.do_print.Goals as goal
 
 pub returns-in-Ok-clause-does : goal.returns-in-Ok-clause-does

@@ -2,7 +2,7 @@ use Rattle.std.proofs.Common.{sym, subst, ◌∙◌}
 use Rattle.ped_tree.specs.Tree.{StmtTrees}
 use Rattle.ped_tree.specs.Views.{stmt_trees}
 use Rattle.ped_machine.specs.Parts.{IsWithoutComments}
-use Rattle.ped_machine.proofs.PartsLeft.{first_passed, none_before}
+use Rattle.ped_machine.proofs.PartsLeft.{first_passed}
 use Rattle.ped_machine.proofs.parts.without_comments.Goals as goal
 
 pub loop-left-preserved : goal.loop-left-preserved

@@ -1,6 +1,6 @@
 use Rattle.std.proofs.Common.{◌≡◌, Bool, true, false, MatchBool, subst}
 use Rattle.ped_store.specs.Keeping.{memory_of}
-use Rattle.ped_tree.specs.Views.{head_of, stmt_trees}
+use Rattle.ped_tree.specs.Views.{head_of}
 use Rattle.ped_interleavings.specs.ped_eval.specs.ScopeViews.{outside}
 use Rattle.ped_interleavings.specs.ped_eval.specs.Plans.{entered_by}
 use Rattle.ped_machine.specs.Parts.{parts_of, turn_view}

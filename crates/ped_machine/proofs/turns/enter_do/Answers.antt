@@ -1,4 +1,4 @@
-use Rattle.std.proofs.Common.{◌≡◌, ◌∷◌, sym, ap, subst, ◌∙◌}
+use Rattle.std.proofs.Common.{◌∷◌, sym, ap, subst, ◌∙◌}
 use Rattle.ped_tree.specs.Views.{head_of}
 use Rattle.ped_store.specs.Keeping.{memory_of}
 use Rattle.ped_interleavings.specs.ped_eval.specs.Scopes.{Frame, Scope}

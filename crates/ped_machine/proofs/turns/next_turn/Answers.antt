@@ -1,9 +1,9 @@
-use Rattle.std.proofs.Common.{◌≡◌, ◌+◌, ◌∷◌, List, ℕ, ap, ◌∙◌, sym, refl}
+use Rattle.std.proofs.Common.{◌≡◌, ◌+◌, ◌∷◌, ap, ◌∙◌}
 use Rattle.std.specs.Int.{w128}
 use mir.Val.{to_z, of_z}
 use Rattle.ped_store.specs.Keeping.{memory_of}
 use Rattle.ped_tree.specs.Views.{head_of}
-use Rattle.ped_interleavings.specs.ped_eval.specs.Scopes.{Frame, Scope}
+use Rattle.ped_interleavings.specs.ped_eval.specs.Scopes.{Frame}
 use Rattle.ped_interleavings.specs.ped_eval.specs.ScopeViews.{with_turn, outside}
 use Rattle.ped_interleavings.specs.ped_eval.specs.Loops.{frame}
 use Rattle.ped_interleavings.specs.ped_eval.specs.Plans.{entered_by}

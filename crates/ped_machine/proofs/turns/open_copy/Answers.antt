@@ -1,4 +1,4 @@
-use Rattle.std.proofs.Common.{◌≡◌, sym, ap, ◌∙◌}
+use Rattle.std.proofs.Common.{sym, ap, ◌∙◌}
 use Rattle.ped_store.specs.CellViews.{cell_view}
 use Rattle.ped_store.specs.Memories.{got}
 use Rattle.ped_store.specs.Keeping.{memory_of}

@@ -1,5 +1,5 @@
 -- A machine before the first step.
-use Rattle.std.proofs.Common.{◌≡◌, List, [], Option, None, refl, sym, ap, subst, ◌∙◌}
+use Rattle.std.proofs.Common.{List, [], Option, refl, sym, ap, subst, ◌∙◌}
 use Rattle.std.specs.Str.Lines.{lines}
 use Rattle.ped_tree.specs.Views.{program_tree, stmt_trees}
 use Rattle.ped_store.specs.Keeping.{memory_of}

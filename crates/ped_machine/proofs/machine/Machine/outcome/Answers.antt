@@ -1,5 +1,5 @@
 -- The outcome of a run that has ended.
-use Rattle.std.proofs.Common.{◌≡◌, Ok, sym, subst, ◌∙◌}
+use Rattle.std.proofs.Common.{Ok, sym, subst, ◌∙◌}
 use Rattle.std.proofs.lemmas.Result.{IfOk-weaker}
 use Rattle.ped_tree.specs.Views.{program_tree}
 use Rattle.ped_store.specs.Keeping.{memory_of}

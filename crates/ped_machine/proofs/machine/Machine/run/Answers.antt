@@ -1,5 +1,5 @@
 -- A run with choices, step by step.
-use Rattle.std.proofs.Common.{◌≡◌, ℕ, List, drop, Bool, true, false, Ok, if◌then◌else◌, refl, sym, ap, subst, ◌∙◌}
+use Rattle.std.proofs.Common.{◌≡◌, ℕ, drop, Bool, Ok, if◌then◌else◌, refl, sym, ap, subst, ◌∙◌}
 use Rattle.std.proofs.lemmas.Result.{IfOk-weaker}
 use Rattle.ped_tree.specs.Tree.{ProgramTree}
 use Rattle.ped_interleavings.specs.ped_eval.specs.Outcomes.{setting_of}

@@ -1,7 +1,5 @@
 -- A task of which nothing is left is dropped.
-use Rattle.std.proofs.Common.{◌≡◌, Bool, true, false, Some, refl, sym, ap, subst, ◌∙◌}
-use Rattle.ped_marks.specs.Marks.{at}
-use Rattle.ped_marks.specs.declared.marks.Mark.{Mark}
+use Rattle.std.proofs.Common.{Bool, Some, sym, subst, ◌∙◌}
 use Rattle.ped_machine.specs.Stepping.{IsSettledBy}
 use Rattle.ped_machine.proofs.Stepped.{behind_step, same_mark}
 use Rattle.ped_machine.proofs.opens.Open.finish_over.Goals as goal

@@ -1,5 +1,5 @@
 -- A look at a task that is kept.
-use Rattle.std.proofs.Common.{◌≡◌, Option, Some, None, refl, sym, ap, subst, ◌∙◌}
+use Rattle.std.proofs.Common.{sym, ap, ◌∙◌}
 use Rattle.std.specs.Option.{option_copied_mut}
 use Rattle.std.specs.Prelude.{is_some}
 use Rattle.slab.proofs.SlabLemmas.{Updates-with_value}

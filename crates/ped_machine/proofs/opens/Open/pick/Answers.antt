@@ -1,5 +1,5 @@
 -- Which iteration is picked, by what the marks tell.
-use Rattle.std.proofs.Common.{◌≡◌, ℕ, List, [], ◌∷◌, length, Bool, true, false, Option, Some, None, eqb, eqb-true, eq-eqb, refl, sym, ap, ◌∙◌}
+use Rattle.std.proofs.Common.{◌≡◌, ℕ, List, [], ◌∷◌, length, true, false, Option, Some, None, eqb, eqb-true, eq-eqb, refl, sym, ap, ◌∙◌}
 use Rattle.ped_tree.specs.declared.statements.Stmt.{Stmt}
 use Rattle.ped_tree.specs.Tree.{no_stmts}
 use Rattle.ped_tree.specs.Views.{stmt_tree, stmt_trees}

@@ -1,8 +1,7 @@
 -- A step of a task that is kept.
-use Rattle.std.proofs.Common.{◌≡◌, Option, Some, None, refl, sym, ap, subst, ◌∙◌}
+use Rattle.std.proofs.Common.{◌≡◌, refl, sym, ap, subst, ◌∙◌}
 use Rattle.std.specs.Option.{option_copied_mut}
 use Rattle.std.specs.Prelude.{is_some}
-use Rattle.slab.specs.Slab.{get}
 use Rattle.slab.proofs.SlabLemmas.{Updates-with_value}
 use Rattle.ped_store.specs.Keeping.{memory_of}
 use Rattle.ped_machine.proofs.Stepped.{some_is}

@@ -1,8 +1,7 @@
-use Rattle.std.proofs.Common.{◌≡◌, List, Bool, refl, sym, ap, subst, ◌∙◌}
-use Rattle.std.specs.Prelude.{is_none}
+use Rattle.std.proofs.Common.{List, refl, sym, subst, ◌∙◌}
 use Rattle.ped_tree.specs.Views.{stmt_trees}
-use Rattle.ped_machine.specs.Parts.{Part, parts_of, first_turn, FirstGoesOn, IsSettled, IsSpent}
-use Rattle.ped_machine.proofs.PartsLeft.{settled_block, real_goes, ends_or_spent}
+use Rattle.ped_machine.specs.Parts.{Part, parts_of, FirstGoesOn, IsSettled}
+use Rattle.ped_machine.proofs.PartsLeft.{settled_block, real_goes}
 use Rattle.ped_machine.proofs.parts.Parts.is_spent.Goals as goal
 
 pub returns-then-has_some-clause-settled : goal.returns-then-has_some-clause-settled

@@ -1,4 +1,4 @@
-use Rattle.std.proofs.Common.{◌≡◌, ◌<◌, ◌+◌, ◌-◌, Some, length, refl, sym, ap, ◌∙◌, arith}
+use Rattle.std.proofs.Common.{◌≡◌, ◌<◌, ◌+◌, ◌-◌, length, refl, sym, ap, ◌∙◌, arith}
 use Rattle.std.specs.Vec.{vec_len}
 use Rattle.ped_tree.specs.Views.{stmt_trees}
 use Rattle.ped_machine.specs.Parts.{with_statements}

@@ -1,12 +1,11 @@
 -- Entries of DO loops, by what is kept of them.
-use Rattle.std.proofs.Common.{◌≡◌, ℕ, Ok, Err, sym, subst}
+use Rattle.std.proofs.Common.{ℕ, Err, sym, subst}
 use Rattle.ped_tree.specs.Views.{head_of, stmt_trees, do_tree}
 use Rattle.ped_store.specs.Keeping.{memory_of}
 use Rattle.ped_interleavings.specs.ped_eval.specs.ScopeViews.{names_at}
 use Rattle.ped_interleavings.specs.ped_eval.specs.Plans.{IsEntry}
 use Rattle.ped_interleavings.specs.ped_eval.specs.Readiness.{setting_by}
 use Rattle.ped_interleavings.specs.ped_eval.specs.declared.states.RunError.{RunError}
-use Rattle.ped_interleavings.specs.Lefts.{Left}
 use Rattle.ped_interleavings.specs.Steps.{begun}
 use Rattle.ped_machine.specs.Doing.{IsDone}
 use Rattle.ped_machine.specs.Parts.{parts_of, parts_left}

@@ -1,5 +1,5 @@
 -- Entries of DO loops.
-use Rattle.std.proofs.Common.{◌≡◌, ◌<◌, ℕ, sym, ap, ◌∙◌, arith}
+use Rattle.std.proofs.Common.{◌<◌, ℕ, sym, ap, ◌∙◌, arith}
 use Rattle.ped_tree.specs.Views.{head_of, stmt_trees}
 use Rattle.ped_store.specs.Acts.{store_behind}
 use Rattle.ped_store.specs.Keeping.{memory_of}

@@ -1,5 +1,5 @@
 -- Steps of the loop that is open.
-use Rattle.std.proofs.Common.{◌≡◌, Option, Some, None, refl, sym, subst, ◌∙◌}
+use Rattle.std.proofs.Common.{Option, Some, None, refl, sym, subst, ◌∙◌}
 use Rattle.ped_tree.specs.Views.{head_of, stmt_trees}
 use Rattle.ped_store.specs.Keeping.{memory_of}
 use Rattle.ped_interleavings.specs.ped_eval.specs.Agreement.{DoCopiesStand}

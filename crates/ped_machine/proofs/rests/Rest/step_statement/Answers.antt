@@ -1,5 +1,5 @@
 -- A step that begins with a statement.
-use Rattle.std.proofs.Common.{◌≡◌, List, subst}
+use Rattle.std.proofs.Common.{List, subst}
 use Rattle.ped_tree.specs.Views.{stmt_tree}
 use Rattle.ped_store.specs.Keeping.{memory_of}
 use Rattle.ped_interleavings.specs.ped_eval.specs.Readiness.{setting_by}

@@ -1,4 +1,4 @@
-use Rattle.std.proofs.Common.{◌≡◌, Option, None, sym, ap, subst, ◌∙◌}
+use Rattle.std.proofs.Common.{Option, sym, ap, subst, ◌∙◌}
 use Rattle.std.specs.Prelude.{is_some}
 use Rattle.ped_interleavings.specs.Lefts.{wants_choice, unfinished}
 use Rattle.ped_machine.specs.declared.opens.Open.{Open}

@@ -21,41 +21,51 @@ use Rattle.ped_store.specs.Cells.{Cell}
 abbrev pub Outermost : Type 0
 Outermost = Level (Level (Level (Level (Level (Level Never)))))
 
--- what an iteration has left, by the levels below it
+-- what an iteration of a PARALLEL DO has left, with no PARALLEL DO inside of it
 abbrev pub left_1 : Level Never → Left
 left_1 = level_left never_left
 
+-- the same, with PARALLEL DO loops one deep inside of it
 abbrev pub left_2 : Level (Level Never) → Left
 left_2 = level_left left_1
 
+-- the same, with PARALLEL DO loops two deep inside of it
 abbrev pub left_3 : Level (Level (Level Never)) → Left
 left_3 = level_left left_2
 
+-- the same, with PARALLEL DO loops three deep inside of it
 abbrev pub left_4 : Level (Level (Level (Level Never))) → Left
 left_4 = level_left left_3
 
+-- the same, with PARALLEL DO loops four deep inside of it
 abbrev pub left_5 : Level (Level (Level (Level (Level Never)))) → Left
 left_5 = level_left left_4
 
+-- what an iteration of an outermost PARALLEL DO has left, with loops five deep inside of it
 abbrev pub outermost_left : Outermost → Left
 outermost_left = level_left left_5
 
--- all that an iteration has left can be done, by the levels below it
+-- all that an iteration has left can be done, with no PARALLEL DO inside of it
 abbrev pub IsSound1 : Level Never → Table → (Cell → Bool) → Type 0
 IsSound1 = IsSoundLevel never_left IsNever
 
+-- the same, with PARALLEL DO loops one deep inside of it
 abbrev pub IsSound2 : Level (Level Never) → Table → (Cell → Bool) → Type 0
 IsSound2 = IsSoundLevel left_1 IsSound1
 
+-- the same, with PARALLEL DO loops two deep inside of it
 abbrev pub IsSound3 : Level (Level (Level Never)) → Table → (Cell → Bool) → Type 0
 IsSound3 = IsSoundLevel left_2 IsSound2
 
+-- the same, with PARALLEL DO loops three deep inside of it
 abbrev pub IsSound4 : Level (Level (Level (Level Never))) → Table → (Cell → Bool) → Type 0
 IsSound4 = IsSoundLevel left_3 IsSound3
 
+-- the same, with PARALLEL DO loops four deep inside of it
 abbrev pub IsSound5 : Level (Level (Level (Level (Level Never)))) → Table → (Cell → Bool) → Type 0
 IsSound5 = IsSoundLevel left_4 IsSound4
 
+-- the same of an iteration of an outermost PARALLEL DO
 abbrev pub IsOutermostSound : Outermost → Table → (Cell → Bool) → Type 0
 IsOutermostSound = IsSoundLevel left_5 IsSound5
 

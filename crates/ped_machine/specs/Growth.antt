@@ -49,6 +49,6 @@ module _ {C : Type 0} (left : C → Left) (sound : C → Table → (Cell → Boo
   pub level_grows : (l : Level C) (table : Table) (stands more : Cell → Bool) → More stands more → IsSoundLevel left sound l table stands → IsSoundLevel left sound l table more
   level_grows l table stands more g h = record { rest = rest_grows l.scope l.rest table stands more g h.rest; copies = copies_grow l.scope stands more g h.copies }
 
--- where nothing can be done
+-- where nothing is left
 pub never_grows : (w : Never) (table : Table) (stands more : Cell → Bool) → More stands more → IsNever w table stands → IsNever w table more
 never_grows w table stands more g h = h

@@ -1,5 +1,5 @@
 -- What the iterations of PARALLEL DO loops have left that have been started (this project).
-use Rattle.std.specs.Prelude.{Bool}
+use Rattle.std.specs.Prelude.{Bool, ⊤}
 use Rattle.ped_symbols.specs.Kinds.{Table}
 use Rattle.ped_store.specs.Cells.{Cell}
 use Rattle.ped_interleavings.specs.ped_eval.specs.Agreement.{DoCopiesStand}
@@ -21,6 +21,6 @@ pub record IsSoundLevel {C : Type 0} (left : C → Left) (sound : C → Table �
 abbrev pub never_left : Never → Left
 never_left w = finished
 
--- and nothing can be done
+-- and that can always be done
 abbrev pub IsNever : Never → Table → (Cell → Bool) → Type 0
-IsNever w table stands = ⊥
+IsNever w table stands = ⊤

@@ -78,9 +78,9 @@ pub trait Work<'a>: Drop {
     ghost grows: { (w : Self) (table : Table) (stands more : Cell → Bool) → ((c : Cell) → stands c ≡ true → more c ≡ true) → sound w table stands → sound w table more };
 }
 
-/// What stands for iterations deeper than loops stand in one another: there are none.
+/// What stands for iterations deeper than loops stand in one another: none is ever started, and nothing is left of one.
 #[derive(Drop)]
-pub enum Never {}
+pub struct Never;
 
 impl<'a> Work<'a> for Never {
     ghost use Rattle.ped_machine.specs.Levels.{never_left, IsNever};
@@ -103,7 +103,7 @@ impl<'a> Work<'a> for Never {
     }
 
     fn is_over(&mut self) -> bool {
-        match *self {}
+        true
     }
 
     fn step(
@@ -113,6 +113,6 @@ impl<'a> Work<'a> for Never {
         _state: &mut State,
         _choice: u64,
     ) -> Result<Done, NoMemory> {
-        match *self {}
+        Ok(Done::Ended)
     }
 }

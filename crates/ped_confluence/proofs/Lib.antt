@@ -6,5 +6,5 @@ mod Tracing
 mod Halting
 mod Reaching
 mod Outcomes
-pub mod InOrder
+mod InOrder
 mod Examples

@@ -20,7 +20,7 @@ use Rattle.ped_answer.specs.ped_session.specs.ped_transformations.specs.ped_loop
 use Rattle.ped_answer.specs.ped_session.specs.ped_transformations.specs.ped_loops.specs.Paralleling.{MakesParallel, StandsAgainstParallel}
 use Rattle.ped_answer.specs.ped_session.specs.ped_transformations.specs.ped_loops.specs.Serialising.{MakesSerial, StandsAgainstSerial}
 use Rattle.ped_answer.specs.ped_session.specs.ped_transformations.specs.ped_loops.specs.Reversing.{reversed, MakesReversed, StandsAgainstReversal}
-use Rattle.ped_answer.specs.ped_session.specs.ped_transformations.specs.ped_loops.specs.Rejecting.{with_directive, is_pending_of, NothingPending, WhereNothing, MakesRejection, WhereInvalid, StandsAgainstRejection}
+use Rattle.ped_answer.specs.ped_session.specs.ped_transformations.specs.ped_loops.specs.Rejecting.{is_pending_of, NothingPending, WhereNothing, StandsAgainstRejection}
 use Rattle.ped_answer.specs.ped_session.specs.ped_transformations.specs.ped_loops.proofs.RejectRules.{nothing_pending, some_pending}
 use Rattle.ped_existence.proofs.Edges.{edges_of_program}
 use Rattle.ped_existence.proofs.ChainCauses.{Settled, Found, found_end, found_link, settled_no_loop, settled_where, settled_escape, settled_limit, some_cause}
@@ -115,26 +115,13 @@ module _ (t : ProgramTree) (s : ℕ) where
     settled_nothing (inl none) (inr n) = (None, λ m p. n p.0)
     settled_nothing (inr some) b = (None, λ m p. some p.1)
 
-    settled_invalid : NothingPending t s x ⊎ (NothingPending t s x → ⊥) → Settled (WhereLimit (MakesRejection s x) t s) → Settled (WhereInvalid t s x)
-    settled_invalid (inl none) b = (None, λ m p. p.0 none)
-    settled_invalid (inr some) (Some n, limit) = (Some n, (some, limit))
-    settled_invalid (inr some) (None, none) = (None, λ m p. none m p.1)
-
     abbrev nothing : Rules
     nothing = also NothingToReject (WhereNothing t s x) no_rules
 
-    abbrev invalid : Rules
-    invalid = also Limit (WhereInvalid t s x) nothing
-
-    nothing_chain : IsChain 15 nothing
-    nothing_chain = chain_link NothingToReject (WhereNothing t s x) no_rules 15 (omega arith) (λ m n a b. a.2 ∙ sym b.2) (chain_end 18)
-
-    invalid_chain : IsChain 1 invalid
-    invalid_chain = chain_link Limit (WhereInvalid t s x) nothing 1 (omega arith) (λ m n a b. a.1.2 ∙ sym b.1.2) nothing_chain
+    nothing_chain : IsChain 1 nothing
+    nothing_chain = chain_link NothingToReject (WhereNothing t s x) no_rules 1 (omega arith) (λ m n a b. a.2 ∙ sym b.2) (chain_end 18)
 
     pub rejection_cause : (c : Option Cause) × IsFirstCause t (StandsAgainstRejection s x t) none_forbids c
     rejection_cause = some_cause t (StandsAgainstRejection s x t) none_forbids
-        (found_link NoLoop (WhereNoLoop t s) invalid invalid_chain (settled_no_loop t s)
-        (found_link Limit (WhereInvalid t s x) nothing nothing_chain
-        (settled_invalid pending_decided (settled_limit t s (MakesRejection s x) (λ new other keep more p q. (p.0 ∙ sym q.0, p.1 ∙ sym q.1)) (λ l. (with_directive t s x, all_kept t, (refl, refl)))))
-        (found_link NothingToReject (WhereNothing t s x) no_rules (chain_end 18) (settled_nothing pending_decided (loop_decided t s)) found_end)))
+        (found_link NoLoop (WhereNoLoop t s) nothing nothing_chain (settled_no_loop t s)
+        (found_link NothingToReject (WhereNothing t s x) no_rules (chain_end 18) (settled_nothing pending_decided (loop_decided t s)) found_end))

@@ -1,5 +1,5 @@
 mod Counts
 mod Nexts
 mod Weighing
-pub mod Ending
+mod Ending
 mod Examples

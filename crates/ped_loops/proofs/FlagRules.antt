@@ -15,17 +15,7 @@ use Rattle.ped_scalar.specs.ped_rules.proofs.Chains.{IsChain, chain_end, chain_l
 use Rattle.ped_scalar.specs.ped_rules.proofs.OneEach.{no_loop_one, loop_one, escape_one, limit_one}
 use Rattle.ped_scalar.specs.ped_rules.proofs.Decided.{some_loop, limit_stands, limit_not, limit_valid}
 use Rattle.ped_loops.specs.Flags.{flagged}
-
--- where no number is the least of which this holds, it holds of none
-least : (P : ℕ → Type 0) → ((n : ℕ) → IsFirst P (Some n) → ⊥) → (n : ℕ) → P n → ⊥
-least P unfound n h = below (suc n) n (omega arith) h
-  where
-    not_less : (m n : ℕ) → (m < n → ⊥) → n ≤ m
-    not_less m n h = omega (arith, h)
-
-    below : (k n : ℕ) → n < k → P n → ⊥
-    below zero n lt p = omega (arith, lt)
-    below (suc k) n lt p = unfound n (p, λ m q. not_less m n (λ less. below k m (omega (arith, lt, less)) q))
+use Rattle.ped_loops.proofs.Contained.{contained}
 
 false_by : (b : Bool) → (b ≡ true → ⊥) → b ≡ false
 false_by true h = absurd (h refl)
@@ -124,12 +114,5 @@ module _ (test : Head → StmtTrees → Bool) (flag : Bool) (s : ℕ) where
       unescaped : (n : ℕ) → WhereEscape t s n → ⊥
       unescaped = not_this IndexEscapes (WhereEscape t s) limit none_but_state
 
-      unbroken : (n : ℕ) → IsBrokenBy t s n → ⊥
-      unbroken = least (IsBrokenBy t s) (λ n first. unescaped n (its_loop, inl first))
-
       pub is_contained : IsContained t s
-      is_contained x index = ((λ n read. unbroken n (record { scalar = x; index = index; read = inl read })), dead)
-        where
-          dead : IsLiveAfter t s x → ⊥
-          dead (inl read) = unbroken read.0 (record { scalar = x; index = index; read = inr read.1 })
-          dead (inr shown) = unescaped s (its_loop, inr ((unbroken, record { scalar = x; index = index; shown = shown }), refl))
+      is_contained = contained t s its_loop unescaped

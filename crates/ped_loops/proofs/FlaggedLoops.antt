@@ -38,14 +38,10 @@ use Rattle.ped_scalar.specs.ped_rules.specs.ped_loop_runs.specs.Carried.{NoneCar
 use Rattle.ped_scalar.specs.ped_rules.specs.ped_loop_runs.specs.OneForOne.{HasSameTrips, IsOneForOne}
 use Rattle.ped_scalar.specs.ped_rules.specs.ped_loop_runs.proofs.LoopLaws.OneForOneNames.{kinds_alike}
 use Rattle.ped_loops.specs.Flags.{with_flag, flagged}
+use Rattle.ped_loops.proofs.OneHead.{TrustedLaw, ClearedLaw, stays_trusted_head}
 
 same_statement : (a b : StmtTree) → Some a ≡ Some b → a ≡ b
 same_statement a b e = cc
-
--- the new program of the code is that of the step
-pub flagged_program : (t : ProgramTree) (n : ℕ) (flag : Bool) (h : Head) (body : StmtTrees) (f : Stmt) (new : List Stmt) → IsLoop t n h body → new ≡ f ∷ [] → alone (stmt_tree f) ≡ with_flag flag h body → program_with (λ s. stmt_trees new) n t ≡ flagged t n flag
-flagged_program t n flag h body f new is listed made =
-    one_program (λ (s : StmtTree). stmt_trees new) (on_loop (with_flag flag)) n t (λ g e. ap stmt_trees listed ∙ made ∙ ap (on_loop (with_flag flag)) (same_statement (Do h body) g (sym is ∙ e)))
 
 none_of : (p : List ℕ → Bool) (names : List (List ℕ)) → ((w : List ℕ) → is_among w names ≡ true → p w ≡ false) → list_any p names ≡ false
 none_of p [] h = refl
@@ -57,13 +53,6 @@ none_of p (y ∷ ys) h =
     or_second : (a b : Bool) → b ≡ true → (a || b) ≡ true
     or_second true b e = refl
     or_second false b e = e
-
--- the laws that are cited
-abbrev pub TrustedLaw : Type 0
-TrustedLaw = (x : Exchange) (t u : ProgramTree) → IsExchanged x t u → LeavesAlone x t → (some_rejection (old_of x) ≡ false → some_rejection x.new ≡ false) → IsTrusted t → IsTrusted u
-
-abbrev pub ClearedLaw : Type 0
-ClearedLaw = (constants : List (List ℕ)) (w : List ℕ) (h : Head) (body : StmtTrees) (n : ℕ) → is_among w (loop_variables (Do h body)) ≡ false → (sum_of constants w (Do h body) n).keeps ≡ not (is_among w h.private)
 
 module _ (t : ProgramTree) (valid : IsValid t) (s : ℕ) (loop : LoopOf t s) (flag : Bool) where
   abbrev d : Head
@@ -110,32 +99,6 @@ module _ (t : ProgramTree) (valid : IsValid t) (s : ℕ) (loop : LoopOf t s) (fl
 
   -- and what may be trusted stays so
   module _ (contained : IsContained t s) (unwritten : (w : List ℕ) → is_among w (loop_variables (Do d body)) ≡ true → is_written_in t s body w ≡ false) where
-    gap : HasGap (on_loop (with_flag flag)) s (Do d body) 1 t.body u.body
-    gap = program_gap (on_loop (with_flag flag)) s (Do d body) t loop.is
-
-    abbrev exchange : Exchange
-    exchange = record { gap = gap.gap; front = no_stmts; head = d; body = body; new = alone (Do h body) }
-
-    exchanged : IsExchanged exchange t u
-    exchanged = record {
-      old_body = gap.old_is;
-      comments = no_stmts;
-      uncounted = refl;
-      new_body = gap.new_is;
-      constants = refl;
-      saved = refl;
-      unstopped = let stops = loop_stops t s loop (fitting_stops t valid.fits) in λ i. stops i || false;
-    }
-
-    only : (w : List ℕ) → is_among w (all_loop_variables (alone (Do d body))) ≡ is_among w (loop_variables (Do d body))
-    only w = ap (is_among w) (append-nil (loop_variables (Do d body)))
-
-    stands_at : loop_of exchange ≡ s
-    stands_at = let n = gap.number in omega (arith, n)
-
-    unshown : (w : List ℕ) → is_among w (all_loop_variables (alone (Do d body))) ≡ true → IsShownBehind t (loop_of exchange) w → ⊥
-    unshown w among shown = (contained w (record { loop = loop; among = sym (only w) ∙ among })).1 (inr (subst (λ (n : ℕ). IsShownBehind t n w) stands_at shown))
-
     no_index : list_any (λ w. all_write (constant_names t.decls) w body) (d.variable ∷ all_loop_variables body) ≡ false
     no_index = none_of (λ w. all_write (constant_names t.decls) w body) (d.variable ∷ all_loop_variables body) (λ w among. sym (written_is t s loop w) ∙ unwritten w among)
 
@@ -150,17 +113,5 @@ module _ (t : ProgramTree) (valid : IsValid t) (s : ℕ) (loop : LoopOf t s) (fl
         let own = and_false flag (list_any (λ w. all_write (constant_names t.decls) w body) (d.variable ∷ all_loop_variables body)) no_index in
         λ i. (own i || inner.1 i) || false
 
-    leaves_alone : ClearedLaw → LeavesAlone exchange t
-    leaves_alone cleared = record {
-      variables = λ w e. e;
-      further = λ w new old. untrue (sym old ∙ new);
-      unshown = unshown;
-      writes = λ w none. none;
-      unwritten = unwritten_index;
-      leaves = λ w other keeps.
-          let none = sym (only w) ∙ other in
-          ap (λ (b : Bool). b && true) (cleared (constant_names t.decls) w d body (start_of exchange) none ∙ sym (cleared (constant_names t.decls) w h body (start_of exchange) none)) ∙ keeps;
-    }
-
     pub stays_trusted_flag : TrustedLaw → ClearedLaw → IsTrusted t → IsTrusted u
-    stays_trusted_flag law cleared trusted = law exchange t u exchanged (leaves_alone cleared) (λ e. e) trusted
+    stays_trusted_flag law cleared trusted = subst IsTrusted (sym flagged_is) (stays_trusted_head t valid s loop contained h refl refl refl unwritten_index law cleared trusted)

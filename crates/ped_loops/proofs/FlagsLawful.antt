@@ -34,7 +34,8 @@ use Rattle.ped_loops.specs.Flags.{flagged}
 use Rattle.ped_loops.specs.Paralleling.{StandsAgainstParallel, paralleling}
 use Rattle.ped_loops.specs.Serialising.{StandsAgainstSerial, serialising}
 use Rattle.ped_loops.proofs.FlagRules as rules
-use Rattle.ped_loops.proofs.FlaggedLoops.{TrustedLaw, ClearedLaw, one_for_one_flag, stays_trusted_flag}
+use Rattle.ped_loops.proofs.FlaggedLoops.{one_for_one_flag, stays_trusted_flag}
+use Rattle.ped_loops.proofs.OneHead.{TrustedLaw, ClearedLaw}
 
 -- the laws that are cited
 abbrev pub KeepsLaw : Type 0

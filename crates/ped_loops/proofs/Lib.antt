@@ -4,6 +4,10 @@ mod FlagsLawful
 pub mod RejectRules
 mod FlagAnswers
 mod RejectedTrees
+mod LoopsOfReferences
+mod PendingEdges
+mod ReferencedNames
+mod VariableNames
 mod RejectAnswers
 mod TurnedCounts
 mod Contained

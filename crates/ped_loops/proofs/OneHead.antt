@@ -2,7 +2,7 @@
 use Rattle.std.proofs.Common.{◌≡◌, ℕ, ◌+◌, List, [], ◌∷◌, ◌++◌, Bool, true, false, ◌&&◌, ◌||◌, not, refl, sym, ap, ◌∙◌, subst, inl, inr, arith, append-nil}
 use Rattle.std.specs.List.{list_any, flat_map}
 use Rattle.ped_base.specs.Lists.{has_some, is_same_text, is_among}
-use Rattle.ped_tree.specs.Tree.{Head, StmtTree, Do, no_stmts, DeclTree, ProgramTree}
+use Rattle.ped_tree.specs.Tree.{Head, StmtTree, StmtTrees, Do, no_stmts, DeclTree, ProgramTree}
 use Rattle.ped_tree.specs.NamesIn.{loop_variables, all_loop_variables, saved_in}
 use Rattle.ped_tree.specs.Accesses.{constant_names}
 use Rattle.ped_scalar.specs.ped_rules.specs.ped_loop_runs.specs.ped_tidy.specs.ped_pasting.specs.ped_bodies.specs.ped_steps.specs.ped_laws.specs.FlowRuns.Covering.{some_stop}
@@ -17,7 +17,13 @@ use Rattle.ped_scalar.specs.ped_rules.specs.ped_loop_runs.specs.ped_tidy.specs.p
 use Rattle.ped_scalar.specs.ped_rules.specs.ped_loop_runs.specs.ped_tidy.specs.Unrejected.{some_rejection, IsTrusted}
 use Rattle.ped_scalar.specs.ped_rules.specs.ped_loop_runs.specs.ped_tidy.specs.Exchanges.{Exchange, old_of, start_of, loop_of, IsExchanged, LeavesAlone}
 use Rattle.ped_scalar.specs.ped_rules.specs.ped_loop_runs.specs.ped_tidy.specs.Writing.{writes_name, all_write, some_write_index}
-use Rattle.ped_loops.proofs.FlaggedLoops.{TrustedLaw, ClearedLaw}
+
+-- the laws that are cited
+abbrev pub TrustedLaw : Type 0
+TrustedLaw = (x : Exchange) (t u : ProgramTree) → IsExchanged x t u → LeavesAlone x t → (some_rejection (old_of x) ≡ false → some_rejection x.new ≡ false) → IsTrusted t → IsTrusted u
+
+abbrev pub ClearedLaw : Type 0
+ClearedLaw = (constants : List (List ℕ)) (w : List ℕ) (h : Head) (body : StmtTrees) (n : ℕ) → is_among w (loop_variables (Do h body)) ≡ false → (sum_of constants w (Do h body) n).keeps ≡ not (is_among w h.private)
 
 module _ (t : ProgramTree) (valid : IsValid t) (s : ℕ) (loop : LoopOf t s) (contained : IsContained t s) (h : Head) (variable : h.variable ≡ loop.head.variable) (private : h.private ≡ loop.head.private) (rejected : h.rejected ≡ loop.head.rejected)
     (writes : some_write_index (constant_names t.decls) (alone (Do loop.head loop.body)) ≡ false → some_write_index (constant_names t.decls) (alone (Do h loop.body)) ≡ false) where

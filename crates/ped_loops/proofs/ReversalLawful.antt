@@ -34,9 +34,8 @@ use Rattle.ped_scalar.specs.ped_rules.specs.ped_loop_runs.specs.Carried.{NoneCar
 use Rattle.ped_scalar.specs.ped_rules.specs.ped_loop_runs.specs.OneForOne.{HasSameTrips, IsOneForOne}
 use Rattle.ped_scalar.specs.ped_rules.specs.ped_loop_runs.proofs.LoopLaws.OneForOneNames.{kinds_alike}
 use Rattle.ped_loops.specs.Reversing.{turned_head, with_turned, reversed, MakesReversed, StandsAgainstReversal, reversing}
-use Rattle.ped_loops.proofs.FlaggedLoops.{TrustedLaw, ClearedLaw}
 use Rattle.ped_loops.proofs.FlagsLawful.{KeepsLaw, UnrejectedLaw, none_carried}
-use Rattle.ped_loops.proofs.OneHead.{stays_trusted_head}
+use Rattle.ped_loops.proofs.OneHead.{TrustedLaw, ClearedLaw, stays_trusted_head}
 use Rattle.ped_loops.proofs.ReverseRules as rules
 use Rattle.ped_loops.proofs.ReversedLoops.{unit_is, turned_trips}
 use Rattle.ped_loops.proofs.ReversedNames.{turned_names}
@@ -63,7 +62,7 @@ module _ (t : ProgramTree) (valid : IsValid t) (s : ℕ) (loop : LoopOf t s) whe
   module _ (m : ℤ) (step : constant_value constants d.step ≡ Some m) (unit : is_unit m ≡ true) where
     kinds : (y : List ℕ) → kind_in (reversed t s) y ≡ kind_in t y
     kinds y = ap (λ (v : ProgramTree). kind_in v y) reversed_is
-        ∙ kinds_alike t valid s loop h refl (λ z other. turned_names constants d (neg_ℤ (increment constants d)) m body step z (others_unvalued t z valid other)) y
+        ∙ kinds_alike t valid s loop h refl (λ z other. turned_names constants d (neg_ℤ (increment constants d)) m body step z (others_unvalued t z other)) y
 
     trips : (scope : Scope) (v : Store) (old : Limits) → (limits (names_in (setting_of t) scope) d v).result ≡ Ok old → HasSameTrips (setting_of t) d h body s true scope v old
     trips scope v old come = turned_trips (setting_of t) d body s m step (unit_is m unit) scope v old come
@@ -80,9 +79,9 @@ module _ (t : ProgramTree) (valid : IsValid t) (s : ℕ) (loop : LoopOf t s) whe
       contained = contained;
       trips = trips;
       in_turn = λ e. (serial, serial);
-      differ = λ e. absurd (both_ways true refl e);
+      differ = λ e. absurd (both_ways true e refl);
       carries = λ e. carries;
-      unwritten = λ e. absurd (both_ways true refl e);
+      unwritten = λ e. absurd (both_ways true e refl);
     }
 
     -- and a program that may be trusted stays so

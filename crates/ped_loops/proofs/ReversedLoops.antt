@@ -1,6 +1,7 @@
 -- A DO whose bounds are exchanged and whose increment, 1 or -1, is negated: it has the same iterations, from the last to the first.
 use Rattle.std.proofs.Common.{◌≡◌, ◌⊎◌, ℕ, suc, ◌+◌, ◌-◌, ◌≤◌, ℤ, pos, negsuc, neg_ℤ, ◌+ℤ◌, ◌-ℤ◌, ◌*ℤ◌, int_div, List, [], ◌∷◌, ◌++◌, Bool, true, false, ◌||◌, Option, Some, None, Ok, refl, sym, ap, ◌∙◌, subst, inl, inr, arith, int_eq, unwrap_or}
 use Rattle.std.proofs.lemmas.Bool.{both_ways}
+use Rattle.std.proofs.lemmas.Bool.Decides.{Decides-int_eq}
 use Rattle.std.proofs.lemmas.Int.{ints}
 use Rattle.ped_scalar.specs.ped_rules.specs.ped_loop_runs.specs.ped_tidy.specs.ped_pasting.specs.ped_bodies.specs.ped_steps.specs.ped_sums.specs.Sums.{literal}
 use Rattle.ped_tree.specs.Constants.ConstantExpressions.{constant_value}
@@ -30,8 +31,8 @@ pub unit_is : (m : ℤ) → is_unit m ≡ true → (m ≡ pos 1) ⊎ (m ≡ negs
 unit_is m h = go (int_eq m (pos 1)) refl h
   where
     go : (b : Bool) → int_eq m (pos 1) ≡ b → b || int_eq m (neg_ℤ (pos 1)) ≡ true → (m ≡ pos 1) ⊎ (m ≡ negsuc 0)
-    go true e k = inl (let is : m ≡ pos 1 = omega (arith, ints, e) in is)
-    go false e k = inr (let is : m ≡ negsuc 0 = omega (arith, ints, k) in is)
+    go true e k = inl ((Decides-int_eq m (pos 1)).0 e)
+    go false e k = inr ((Decides-int_eq m (negsuc 0)).0 k)
 
 -- what is read in the other order
 cell_among : (n : ℕ) (seen : List Seen) (y : Touch) → IsIn y (numbered n seen) → y.manner ≡ reads → IsIn (cell_seen y.cell y.content) seen

@@ -1,8 +1,7 @@
 //! `reject`: the user says that a name's pending dependences which a DO carries aren't there.
 
-ghost use Rattle.std.specs.Prelude.{◌≡◌, ◌+◌, ◌<◌, ◌^◌, ◌&&◌, List, [], IfOk, MatchOption};
+ghost use Rattle.std.specs.Prelude.{◌≡◌, ◌+◌, ◌<◌, ◌^◌, ◌&&◌, List, [], IfOk};
 ghost use Rattle.std.specs.List.{list_any};
-ghost use Rattle.ped_base.specs.Lists.{is_same_text};
 ghost use Rattle.ped_tree.specs.Numbering.{statements_count};
 ghost use Rattle.ped_tree.specs.Views.{stmt_tree, stmt_trees, program_tree, head_of};
 ghost use Rattle.ped_scalar.specs.ped_rules.specs.Carried.{is_carried_by};
@@ -36,8 +35,8 @@ use std::sync::ledger::Ledger;
 ///
 /// # Errors
 ///
-/// `Refused` exactly where a rule stands, with the rule of the least number: NoLoop, Limit or NothingToReject. No dependence
-/// forbids the step.
+/// `Refused` exactly where a rule stands: NoLoop, or NothingToReject where the DO carries no pending dependence on the name.
+/// No dependence forbids the step.
 pub fn reject<L: Ledger>(
     alloc: Global,
     scene: &Scene<L>,
@@ -72,14 +71,8 @@ fn reject_in<L: Ledger>(
     if !has_pending(alloc, scene, number, name)? {
         return Ok(Err(against(Rule::NothingToReject, number)));
     }
-    match rejected(alloc, scene, number, d, name)? {
-        Some(change) => {
-            return Ok(Ok(change));
-        }
-        None => {
-            return Ok(Err(against(Rule::Limit, number)));
-        }
-    }
+    let change = rejected(alloc, scene, number, d, name)?;
+    Ok(Ok(change))
 }
 
 /// Whether the DO with this number carries a pending dependence on the name.
@@ -114,7 +107,7 @@ fn is_some_pending(edges: &[Edge], name: &Name) -> bool
 fn is_pending_of(edge: &Edge, name: &Name) -> bool
     ensures { result ≡ Spec.is_pending_of name.now (edge_of edge.now) }
 {
-    is_pending(edge.mark) && is_named(edge.name, name)
+    is_pending(edge.mark) && is_variable(edge.name, name)
 }
 
 fn is_pending(mark: Mark) -> bool
@@ -126,36 +119,40 @@ fn is_pending(mark: Mark) -> bool
     }
 }
 
-/// Whether this is what a dependence is on. A name begins with a letter, so it is neither the data nor the output.
-fn is_named(found: RefName, name: &Name) -> bool
-    ensures { result ≡ is_same_text name.now (name_text found) }
+/// Whether this, on which a dependence is, is the variable of this name. The data and the output are none.
+fn is_variable(found: RefName, name: &Name) -> bool
+    ensures { result ≡ Spec.is_variable name.now (name_text found) }
 {
     match found {
-        RefName::Named(other) => *name == other,
-        RefName::In | RefName::Out => {
-            let _bytes = name.as_bytes();
-            false
+        RefName::Named(other) => {
+            let _bytes = other.as_bytes();
+            *name == other
         }
+        RefName::In | RefName::Out => false,
     }
 }
 
-/// The change to the program in which the name is the last in the directives of the DO with this number: none exactly where
-/// that program isn't valid.
+/// The change to the program in which the name is the last in the directives of the DO with this number.
 fn rejected<L: Ledger>(
     alloc: Global,
     scene: &Scene<L>,
     number: u32,
     d: &Do,
     name: &Name,
-) -> Result<Option<Change>, NoMemory>
+) -> Result<Change, NoMemory>
     requires scene { IsSceneOf (program_tree scene.now.tree.now) scene.now }
     requires is { IsLoop (program_tree scene.now.tree.now) number (head_of d.now) (stmt_trees d.now.body.items) }
-    ensures { IfOk result (λ found. MatchOption found (IsValid (Spec.with_directive (program_tree scene.now.tree.now) number name.now) → ⊥)
-        (IsChange (Spec.with_directive (program_tree scene.now.tree.now) number name.now) (Replacing.all_kept (program_tree scene.now.tree.now)))) }
+    requires valid { IsValid (Spec.with_directive (program_tree scene.now.tree.now) number name.now) }
+    ensures { IfOk result (IsChange (Spec.with_directive (program_tree scene.now.tree.now) number name.now) (Replacing.all_kept (program_tree scene.now.tree.now))) }
 {
     let tree = with_directive(alloc, scene.tree, number, d, name)?;
     let keep = all_kept(alloc, scene.tree)?;
-    change_to(alloc, tree, keep)
+    match change_to(alloc, tree, keep)? {
+        Some(change) => {
+            return Ok(change);
+        }
+        None => unreachable!(),
+    }
 }
 
 /// The program in which the name is the last in the directives of the DO with this number.

@@ -1,11 +1,14 @@
 -- At most six DO loops stand round a statement of a valid program.
 use Rattle.std.proofs.Common.{◌≡◌, ◌⊎◌, inl, inr, ℕ, ◌+◌, ◌≤◌, ◌<◌, max, List, [], ◌∷◌, ◌++◌, length, length-append, Bool, true, false, ◌&&◌, ap, ◌∙◌, refl, arith, nat_le, if◌then◌else◌}
 use Rattle.std.specs.Prelude.{nat_lt}
+use Rattle.std.proofs.lemmas.List.{length-map}
 use Rattle.std.proofs.Math.Decide.{dec_le}
 use Rattle.std.proofs.Math.Logic.{dite}
 use Rattle.ped_tree.specs.Tree.{StmtTree, StmtTrees, Assign, If, Do, Print, Read, Stop, Comment, no_stmts, more_stmts, ProgramTree}
 use Rattle.ped_tree.specs.Nests.{Loop}
 use Rattle.ped_tree.specs.Numbering.{statement_count, statements_count}
+use Rattle.ped_loop_runs.specs.ped_tidy.specs.ped_pasting.specs.ped_bodies.specs.ped_steps.specs.ped_refs.specs.declared.loops.Loop.{Loop as CodeLoop}
+use Rattle.ped_loop_runs.specs.ped_tidy.specs.ped_pasting.specs.ped_bodies.specs.ped_steps.specs.ped_refs.specs.Loops.{loop_of, nest_of}
 use Rattle.ped_loop_runs.specs.ped_tidy.specs.ped_pasting.specs.ped_bodies.specs.ped_steps.specs.ped_symbols.specs.NameRefusals.{IsValid}
 use Rattle.ped_loop_runs.specs.ped_tidy.specs.ped_pasting.specs.ped_bodies.specs.ped_steps.specs.ped_symbols.specs.RightUses.RightLoops.{loop_depth, loops_deep}
 use Rattle.ped_loop_runs.specs.ped_tidy.specs.ped_pasting.specs.ped_bodies.specs.ped_steps.specs.ped_symbols.proofs.RightUseLaws.Whole.{right_program}
@@ -50,3 +53,11 @@ nest_short t l v = let deep = (right_program t v).nested in let round = depths_r
   where
     short : (m n : ℕ) → m ≤ n → n ≤ 6 → m ≤ 6
     short m n h k = omega (arith, h, k)
+
+-- the loops of the code that are this nest
+pub loops_short : (t : ProgramTree) (l : ℕ) (loops : List CodeLoop) → IsValid t → nest_of loops ≡ nest_round t l → length loops ≤ 6
+loops_short t l loops v is =
+    let few = nest_short t l v in
+    let same : length (nest_of loops) ≡ length (nest_round t l) = ap (λ (nest : List Loop). length nest) is in
+    let size = length-map loops loop_of in
+    omega (arith, few, same, size)

@@ -7,5 +7,4 @@ mod table;
 
 pub use laws::every_step_is_lawful;
 pub use ped_loops;
-pub use ped_script;
 pub use table::{Kind, Place, answer, place_of};

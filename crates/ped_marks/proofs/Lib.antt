@@ -1,6 +1,0 @@
-mod Covering
-mod Finishing
-mod Opening
-mod Ranges
-mod Starting
-mod Values

@@ -1,3 +1,0 @@
-pub use Rattle.ped_base
-pub mod Marks
-pub mod Stretches

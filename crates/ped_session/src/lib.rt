@@ -27,12 +27,12 @@ pub use laws::{
     moves_restore_each_other, one_answer, one_step, refused_changes_nothing, runs_are_as_before,
     sources_are_printed, sources_keep_the_meaning, transformations_keep_the_meaning, undo_restores,
 };
+pub use ped_base;
 pub use ped_print;
+pub use ped_script;
+pub use ped_transformations::ped_loops::ped_scalar::ped_rules::ped_loop_runs::ped_tidy::ped_pasting::ped_bodies::ped_steps::ped_weaves::ped_laws::ped_graph;
 pub use ped_transformations::ped_loops::ped_scalar::ped_rules::ped_loop_runs::ped_tidy::ped_pasting::ped_bodies::ped_steps::ped_weaves::ped_laws::ped_graph::ped_verdict;
-pub use ped_transformations::ped_loops::ped_scalar::ped_rules::ped_loop_runs::ped_tidy::ped_pasting::ped_bodies::ped_steps::{
-    ped_base, ped_graph, ped_tree,
-};
-pub use ped_transformations::ped_script;
+pub use ped_tree;
 pub use ped_valid;
 pub use replies::{FirstCause, Refusal, Reply};
 pub use scripts::{bad_command_row, reply_text};

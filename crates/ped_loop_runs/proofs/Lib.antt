@@ -1,1 +1,1 @@
-pub mod LoopLaws
+mod LoopLaws

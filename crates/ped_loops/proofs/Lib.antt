@@ -1,3 +1,5 @@
+mod SameKinds
+mod SomeEdges
 mod FlagRules
 mod FlaggedLoops
 mod FlagsLawful

@@ -15,9 +15,9 @@ most_crates_with_edits=12
 most_test_lines=250
 most_crates_with_tests=2
 most_ways=5000
-most_lemma_files=150
-most_lemma_imports=778
-most_needless_doors=135
+most_lemma_files=174
+most_lemma_imports=887
+most_needless_doors=132
 
 edits() {
     find crates/*/must-fail -name '*.edit' 2>/dev/null

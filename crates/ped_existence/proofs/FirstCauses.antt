@@ -10,24 +10,27 @@ use Rattle.ped_answer.specs.ped_session.specs.ped_order.specs.ped_flow.specs.Que
 use Rattle.ped_answer.specs.ped_session.specs.ped_symbols.specs.NameRefusals.{IsValid}
 use Rattle.ped_answer.specs.ped_session.specs.ped_symbols.specs.Kinds.{table_of}
 use Rattle.ped_answer.specs.ped_session.specs.ped_graph.specs.ped_edges.specs.Edges.{Edge}
-use Rattle.ped_answer.specs.ped_session.specs.ped_transformations.specs.ped_scalar.specs.ped_rules.specs.ped_loop_runs.specs.ped_tidy.specs.ped_pasting.specs.ped_bodies.specs.ped_steps.specs.declared.rules.Rule.TheVariants.{NoLoop, ParallelState, Range, ExposedOrLive, NotScalar, NotConstant, Limit, AlreadyPrivate}
-use Rattle.ped_answer.specs.ped_session.specs.ped_transformations.specs.ped_scalar.specs.ped_rules.specs.ped_loop_runs.specs.ped_tidy.specs.ped_pasting.specs.ped_bodies.specs.ped_steps.specs.Causes.{NoneBelow, Cause, rule, none_forbids}
-use Rattle.ped_answer.specs.ped_session.specs.ped_transformations.specs.ped_scalar.specs.ped_rules.specs.ped_loop_runs.specs.ped_tidy.specs.ped_pasting.specs.ped_bodies.specs.ped_steps.specs.Replacing.{all_kept}
-use Rattle.ped_answer.specs.ped_session.specs.ped_transformations.specs.ped_scalar.specs.Scalars.{is_unfit}
-use Rattle.ped_answer.specs.ped_session.specs.ped_transformations.specs.ped_scalar.specs.Privatising.{privatised, IsScalarExposedOrLiveBy, StandsAgainstPrivatising, privatising}
-use Rattle.ped_answer.specs.ped_session.specs.ped_transformations.specs.ped_scalar.specs.ped_rules.specs.Spans.{Span, span_of, spans_far}
-use Rattle.ped_answer.specs.ped_session.specs.ped_transformations.specs.ped_scalar.specs.Expanding.{array_name, is_private_near, IsScalarLostBy, SaysLive, IsExpanded, expanded, expand_kept, StandsAgainstExpanding, expanding}
-use Rattle.ped_answer.specs.ped_session.specs.ped_transformations.specs.ped_scalar.proofs.FlowAnswers.{fit_scalar}
-use Rattle.ped_answer.specs.ped_session.specs.ped_transformations.specs.ped_scalar.proofs.FirstAgainstPrivatising as private
-use Rattle.ped_answer.specs.ped_session.specs.ped_transformations.specs.ped_scalar.proofs.FirstAgainstExpanding as expand
+use Rattle.ped_answer.specs.ped_session.specs.ped_transformations.specs.ped_loops.specs.ped_scalar.specs.ped_rules.specs.ped_loop_runs.specs.ped_tidy.specs.ped_pasting.specs.ped_bodies.specs.ped_steps.specs.declared.rules.Rule.TheVariants.{NoLoop, ParallelState, Range, ExposedOrLive, NotScalar, NotConstant, Limit, AlreadyPrivate}
+use Rattle.ped_answer.specs.ped_session.specs.ped_transformations.specs.ped_loops.specs.ped_scalar.specs.ped_rules.specs.ped_loop_runs.specs.ped_tidy.specs.ped_pasting.specs.ped_bodies.specs.ped_steps.specs.Causes.{NoneBelow, Cause, rule, none_forbids}
+use Rattle.ped_answer.specs.ped_session.specs.ped_transformations.specs.ped_loops.specs.ped_scalar.specs.ped_rules.specs.ped_loop_runs.specs.ped_tidy.specs.ped_pasting.specs.ped_bodies.specs.ped_steps.specs.Replacing.{all_kept}
+use Rattle.ped_answer.specs.ped_session.specs.ped_transformations.specs.ped_loops.specs.ped_scalar.specs.Scalars.{is_unfit}
+use Rattle.ped_answer.specs.ped_session.specs.ped_transformations.specs.ped_loops.specs.ped_scalar.specs.Privatising.{privatised, IsScalarExposedOrLiveBy, StandsAgainstPrivatising, privatising}
+use Rattle.ped_answer.specs.ped_session.specs.ped_transformations.specs.ped_loops.specs.ped_scalar.specs.ped_rules.specs.Spans.{Span, span_of, spans_far}
+use Rattle.ped_answer.specs.ped_session.specs.ped_transformations.specs.ped_loops.specs.ped_scalar.specs.Expanding.{array_name, is_private_near, IsScalarLostBy, SaysLive, IsExpanded, expanded, expand_kept, StandsAgainstExpanding, expanding}
+use Rattle.ped_answer.specs.ped_session.specs.ped_transformations.specs.ped_loops.specs.ped_scalar.proofs.FlowAnswers.{fit_scalar}
+use Rattle.ped_answer.specs.ped_session.specs.ped_transformations.specs.ped_loops.specs.ped_scalar.proofs.FirstAgainstPrivatising as private
+use Rattle.ped_answer.specs.ped_session.specs.ped_transformations.specs.ped_loops.specs.ped_scalar.proofs.FirstAgainstExpanding as expand
 use Rattle.ped_answer.specs.ped_session.specs.ped_transformations.specs.ped_script.specs.declared.items.Command.{Command}
 use Rattle.ped_answer.specs.ped_session.specs.ped_transformations.specs.ped_script.specs.declared.items.Command.TheVariants.{Source, Deps, Show, Print, Advise, Replace, Insert, Delete, Interchange, Reverse, Skew, Strip, Peel, Distribute, Fuse, Expand, Privatise, Parallel, Serial, Reject, Undo, Redo, Run, Races, Tested}
-use Rattle.ped_answer.specs.ped_session.specs.ped_transformations.specs.ped_scalar.specs.ped_rules.specs.Steps.{StepAt, MatchStep}
-use Rattle.ped_answer.specs.ped_session.specs.ped_transformations.specs.ped_scalar.specs.ped_rules.proofs.Decided.{valid_decided, loop_decided}
+use Rattle.ped_answer.specs.ped_session.specs.ped_transformations.specs.ped_loops.specs.ped_scalar.specs.ped_rules.specs.Steps.{StepAt, MatchStep}
+use Rattle.ped_answer.specs.ped_session.specs.ped_transformations.specs.ped_loops.specs.ped_scalar.specs.ped_rules.specs.Lawful.{IsDetermined}
+use Rattle.ped_answer.specs.ped_session.specs.ped_transformations.specs.ped_loops.specs.ped_scalar.specs.ped_rules.proofs.Decided.{valid_decided, loop_decided}
 use Rattle.ped_answer.specs.ped_session.specs.ped_transformations.specs.Table.{step_of}
+use Rattle.ped_answer.specs.ped_session.specs.ped_transformations.specs.ped_loops.proofs.Determined.{determined_parallel, determined_serial, determined_reversal, determined_rejection}
+use Rattle.ped_existence.proofs.LoopCauses.{parallel_cause, serial_cause, reversal_cause, rejection_cause}
 use Rattle.ped_existence.specs.Deciding.{Decided}
 use Rattle.ped_existence.proofs.LoopPaths.{exposed_or_live, lost}
-use Rattle.ped_answer.specs.ped_session.specs.ped_transformations.specs.ped_scalar.proofs.LiveSaid.{live_said}
+use Rattle.ped_answer.specs.ped_session.specs.ped_transformations.specs.ped_loops.specs.ped_scalar.proofs.LiveSaid.{live_said}
 
 -- a step is forbidden by a first cause, or it makes a valid program
 abbrev pub Goes : StepAt → ProgramTree → Type 0
@@ -118,20 +121,28 @@ module _ (t : ProgramTree) (s : ℕ) (x : List ℕ) where
       by (inl l) = expand_loop l.head l.body l.is l.head.parallel refl
       by (inr n) = inl (rule NoLoop s, expand.no_loop t s x (λ h body is. n (record { head = h; body = body; is = is })))
 
+-- a determined step that has a first cause in each program, or none
+pub goes_by : (at : StepAt) → IsDetermined at → ((t : ProgramTree) → (c : Option Cause) × at.IsCause t c) → (t : ProgramTree) → IsValid t → Goes at t
+goes_by at lawful some t valid = by (some t)
+  where
+    by : (c : Option Cause) × at.IsCause t c → Goes at t
+    by (Some c, is) = inl (c, is)
+    by (None, none) = let made = lawful.some_made t valid none in inr (none, made.0, made.1, made.2, made.3)
+
 -- each step of the table
 pub each_goes : (command : Command) → MatchStep (step_of command) ⊤ (λ at. (t : ProgramTree) → IsValid t → Goes at t)
 each_goes (Expand number name) = λ t valid. expanding_goes t number name
 each_goes (Privatise number name) = λ t valid. privatising_goes t number name
 each_goes (Interchange number) = tt
-each_goes (Reverse number) = tt
+each_goes (Reverse number) = goes_by _ (determined_reversal number) (λ t. reversal_cause t number)
 each_goes (Skew number factor) = tt
 each_goes (Strip number size) = tt
 each_goes (Peel number last) = tt
 each_goes (Distribute number) = tt
 each_goes (Fuse number) = tt
-each_goes (Parallel number) = tt
-each_goes (Serial number) = tt
-each_goes (Reject number name) = tt
+each_goes (Parallel number) = goes_by _ (determined_parallel number) (λ t. parallel_cause t number)
+each_goes (Serial number) = goes_by _ (determined_serial number) (λ t. serial_cause t number)
+each_goes (Reject number name) = goes_by _ (determined_rejection number name) (λ t. rejection_cause t number name)
 each_goes (Deps of) = tt
 each_goes (Advise number) = tt
 each_goes (Replace first last lines) = tt

@@ -1,9 +1,11 @@
+mod ChainCauses
 mod Choosing
 mod Deciding
 mod Differences
 mod Edges
 mod Excluding
 mod Files
+mod LoopCauses
 mod FirstCauses
 mod LoopPaths
 mod Meeting

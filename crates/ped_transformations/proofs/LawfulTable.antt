@@ -1,10 +1,16 @@
 -- Each step of the table is determined, and lawful.
+use Rattle.std.proofs.Common.{ℕ, List}
 use Rattle.std.specs.Prelude.{⊤}
 use Rattle.ped_script.specs.declared.items.Command.{Command}
 use Rattle.ped_script.specs.declared.items.Command.TheVariants.{Source, Deps, Show, Print, Advise, Replace, Insert, Delete, Interchange, Reverse, Skew, Strip, Peel, Distribute, Fuse, Expand, Privatise, Parallel, Serial, Reject, Undo, Redo, Run, Races, Tested}
-use Rattle.ped_scalar.specs.ped_rules.specs.Steps.{StepAt, MatchStep}
-use Rattle.ped_scalar.specs.ped_rules.specs.Lawful.{IsDetermined, IsLawful}
-use Rattle.ped_scalar.proofs.LawfulSteps.{lawful_privatising, lawful_expanding}
+use Rattle.ped_loops.specs.ped_scalar.specs.ped_rules.specs.Steps.{StepAt, MatchStep}
+use Rattle.ped_loops.specs.ped_scalar.specs.ped_rules.specs.Lawful.{IsDetermined, IsLawful}
+use Rattle.ped_loops.specs.ped_scalar.proofs.LawfulSteps.{lawful_privatising, lawful_expanding}
+use Rattle.ped_loops.specs.Reversing.{reversing}
+use Rattle.ped_loops.specs.Paralleling.{paralleling}
+use Rattle.ped_loops.specs.Serialising.{serialising}
+use Rattle.ped_loops.specs.Rejecting.{rejecting}
+use Rattle.ped_loops.proofs.Determined.{determined_parallel, determined_serial, determined_reversal, determined_rejection}
 use Rattle.ped_transformations.specs.Table.{step_of}
 
 determined_by : (at : StepAt) → IsLawful at → IsDetermined at
@@ -14,10 +20,10 @@ determined_by at lawful = record { one_cause = lawful.one_cause; one_made = lawf
 pub determined_step : (command : Command) → MatchStep (step_of command) ⊤ IsDetermined
 determined_step (Expand number name) = determined_by _ (lawful_expanding number name)
 determined_step (Privatise number name) = determined_by _ (lawful_privatising number name)
-determined_step (Reverse number) = tt
-determined_step (Parallel number) = tt
-determined_step (Serial number) = tt
-determined_step (Reject number name) = tt
+determined_step (Reverse number) = determined_reversal number
+determined_step (Parallel number) = determined_parallel number
+determined_step (Serial number) = determined_serial number
+determined_step (Reject number name) = determined_rejection number name
 determined_step (Interchange number) = tt
 determined_step (Skew number factor) = tt
 determined_step (Strip number size) = tt
@@ -38,33 +44,40 @@ determined_step (Run choices) = tt
 determined_step Races = tt
 determined_step Tested = tt
 
+-- the steps that keep one loop one loop are lawful
+pub record LoopsLawful : Type 0 where
+  pub reversal : (s : ℕ) → IsLawful (reversing s)
+  pub parallel : (s : ℕ) → IsLawful (paralleling s)
+  pub serial : (s : ℕ) → IsLawful (serialising s)
+  pub rejection : (s : ℕ) (x : List ℕ) → IsLawful (rejecting s x)
+
 -- each step of the table is lawful
 abbrev pub AllLawful : Type 0
 AllLawful = (command : Command) → MatchStep (step_of command) ⊤ IsLawful
 
-pub lawful_step : AllLawful
-lawful_step (Expand number name) = lawful_expanding number name
-lawful_step (Privatise number name) = lawful_privatising number name
-lawful_step (Reverse number) = tt
-lawful_step (Parallel number) = tt
-lawful_step (Serial number) = tt
-lawful_step (Reject number name) = tt
-lawful_step (Interchange number) = tt
-lawful_step (Skew number factor) = tt
-lawful_step (Strip number size) = tt
-lawful_step (Peel number last) = tt
-lawful_step (Distribute number) = tt
-lawful_step (Fuse number) = tt
-lawful_step Source = tt
-lawful_step (Deps of) = tt
-lawful_step Show = tt
-lawful_step Print = tt
-lawful_step (Advise number) = tt
-lawful_step (Replace first last lines) = tt
-lawful_step (Insert after lines) = tt
-lawful_step (Delete first last) = tt
-lawful_step Undo = tt
-lawful_step Redo = tt
-lawful_step (Run choices) = tt
-lawful_step Races = tt
-lawful_step Tested = tt
+pub lawful_step : LoopsLawful → AllLawful
+lawful_step loops (Expand number name) = lawful_expanding number name
+lawful_step loops (Privatise number name) = lawful_privatising number name
+lawful_step loops (Reverse number) = loops.reversal number
+lawful_step loops (Parallel number) = loops.parallel number
+lawful_step loops (Serial number) = loops.serial number
+lawful_step loops (Reject number name) = loops.rejection number name
+lawful_step loops (Interchange number) = tt
+lawful_step loops (Skew number factor) = tt
+lawful_step loops (Strip number size) = tt
+lawful_step loops (Peel number last) = tt
+lawful_step loops (Distribute number) = tt
+lawful_step loops (Fuse number) = tt
+lawful_step loops Source = tt
+lawful_step loops (Deps of) = tt
+lawful_step loops Show = tt
+lawful_step loops Print = tt
+lawful_step loops (Advise number) = tt
+lawful_step loops (Replace first last lines) = tt
+lawful_step loops (Insert after lines) = tt
+lawful_step loops (Delete first last) = tt
+lawful_step loops Undo = tt
+lawful_step loops Redo = tt
+lawful_step loops (Run choices) = tt
+lawful_step loops Races = tt
+lawful_step loops Tested = tt

@@ -1,4 +1,4 @@
 pub use Rattle.ped_script
-pub use Rattle.ped_scalar
+pub use Rattle.ped_loops
 pub mod Table
 pub mod CodeKinds

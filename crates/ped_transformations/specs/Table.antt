@@ -1,12 +1,20 @@
 -- The one table of the steps: which one each command takes (ParaScope; this project).
 use Rattle.ped_script.specs.declared.items.Command.{Command}
-use Rattle.ped_script.specs.declared.items.Command.TheVariants.{Expand, Privatise}
-use Rattle.ped_scalar.specs.ped_rules.specs.Steps.{MaybeStep, no_step, some_step}
-use Rattle.ped_scalar.specs.Privatising.{privatising}
-use Rattle.ped_scalar.specs.Expanding.{expanding}
+use Rattle.ped_script.specs.declared.items.Command.TheVariants.{Reverse, Expand, Privatise, Parallel, Serial, Reject}
+use Rattle.ped_loops.specs.ped_scalar.specs.ped_rules.specs.Steps.{MaybeStep, no_step, some_step}
+use Rattle.ped_loops.specs.ped_scalar.specs.Privatising.{privatising}
+use Rattle.ped_loops.specs.ped_scalar.specs.Expanding.{expanding}
+use Rattle.ped_loops.specs.Reversing.{reversing}
+use Rattle.ped_loops.specs.Paralleling.{paralleling}
+use Rattle.ped_loops.specs.Serialising.{serialising}
+use Rattle.ped_loops.specs.Rejecting.{rejecting}
 
 -- the step that a command takes; none where it takes none, or where the step isn't built yet
 abbrev pub step_of : Command → MaybeStep
 step_of (Expand number name) = some_step (expanding number name)
 step_of (Privatise number name) = some_step (privatising number name)
+step_of (Reverse number) = some_step (reversing number)
+step_of (Parallel number) = some_step (paralleling number)
+step_of (Serial number) = some_step (serialising number)
+step_of (Reject number name) = some_step (rejecting number name)
 step_of command = no_step

@@ -2,16 +2,17 @@
 
 ghost use Rattle.std.specs.Prelude.{◌≡◌, IfOk};
 ghost use Rattle.ped_tree.specs.Views.{program_tree};
-ghost use Rattle.ped_scalar.specs.ped_rules.specs.ped_loop_runs.specs.ped_tidy.specs.ped_pasting.specs.ped_bodies.specs.ped_steps.specs.Scenes.{IsSceneOf};
+ghost use Rattle.ped_loops.specs.ped_scalar.specs.ped_rules.specs.ped_loop_runs.specs.ped_tidy.specs.ped_pasting.specs.ped_bodies.specs.ped_steps.specs.Scenes.{IsSceneOf};
 ghost use Rattle.ped_transformations.specs.declared.table.Kind.TheVariants as Kind;
 ghost use Rattle.ped_transformations.specs.Table.{step_of};
 ghost use Rattle.ped_transformations.specs.CodeKinds.{IsPlace, AnswersStep};
 
 use ped_base::NoMemory;
-use ped_scalar::ped_rules::ped_loop_runs::ped_tidy::ped_pasting::ped_bodies::ped_steps::{
+use ped_loops::ped_scalar::ped_rules::ped_loop_runs::ped_tidy::ped_pasting::ped_bodies::ped_steps::{
     Change, Refused, Scene,
 };
-use ped_scalar::{expand, privatise};
+use ped_loops::ped_scalar::{expand, privatise};
+use ped_loops::{make_parallel, make_serial, reject, reverse};
 use ped_script::Command;
 use std::alloc::Global;
 use std::sync::ledger::Ledger;
@@ -42,6 +43,10 @@ pub fn place_of(command: &Command) -> Option<Place>
     match command {
         Command::Privatise(number, _) => Some(transformation(*number)),
         Command::Expand(number, _) => Some(transformation(*number)),
+        Command::Reverse(number) => Some(transformation(*number)),
+        Command::Parallel(number) => Some(transformation(*number)),
+        Command::Serial(number) => Some(transformation(*number)),
+        Command::Reject(number, _) => Some(rejection(*number)),
         _ => None,
     }
 }
@@ -53,6 +58,16 @@ fn transformation(statement: u32) -> Place
     Place {
         statement,
         kind: Kind::Transformation,
+    }
+}
+
+/// A rejection at this statement.
+fn rejection(statement: u32) -> Place
+    ensures { result ≡ record { statement = statement; kind = Kind.Rejection } }
+{
+    Place {
+        statement,
+        kind: Kind::Rejection,
     }
 }
 
@@ -73,6 +88,22 @@ pub fn answer<L: Ledger>(
         }
         Command::Expand(number, name) => {
             let found = expand(alloc, scene, *number, name)?;
+            return Ok(Some(found));
+        }
+        Command::Reverse(number) => {
+            let found = reverse(alloc, scene, *number)?;
+            return Ok(Some(found));
+        }
+        Command::Parallel(number) => {
+            let found = make_parallel(alloc, scene, *number)?;
+            return Ok(Some(found));
+        }
+        Command::Serial(number) => {
+            let found = make_serial(alloc, scene, *number)?;
+            return Ok(Some(found));
+        }
+        Command::Reject(number, name) => {
+            let found = reject(alloc, scene, *number, name)?;
             return Ok(Some(found));
         }
         _ => {

@@ -1,28 +1,21 @@
-use Rattle.std.proofs.Common.{inl, inr, is_ok, subst, Option}
 use Rattle.std.proofs.lemmas.Result.{IfOk-weaker}
 use Rattle.ped_transformations.specs.Table.{step_of}
-use Rattle.ped_transformations.specs.CodeKinds.{IsPlace}
-use Rattle.ped_transformations.specs.declared.table.Place.{Place}
 use Rattle.ped_transformations.proofs.ByPlace.{with_none, from_none, some_then}
 use Rattle.ped_session.specs.Steps.{Transforms, IsOther}
 use Rattle.ped_session.proofs.session.Session.apply.Goals as goal
 
 pub returns-in-Some-clause-answers : goal.returns-in-Some-clause-answers
 returns-in-Some-clause-answers g c =
-    let found = subst (λ (r : Option Place). IsPlace (step_of c.args.command.now) r) c.in-Some.is c.place_of.ensures in
-    IfOk-weaker c.transform.result _ _ (λ reply h. some_then c.in-Some.place (step_of c.args.command.now) ⊥ _ _ _ found h (λ at is q. q)) c.transform.ensures.answers
+    IfOk-weaker c.transform.result _ _ (λ reply h. some_then c.in-Some.place (step_of c.args.command.now) ⊥ _ _ _ c.in-Some.ensures h (λ at is q. q)) c.transform.ensures.answers
 
 pub returns-in-Some-clause-most : goal.returns-in-Some-clause-most
 returns-in-Some-clause-most g c reply next h =
-    let found = subst (λ (r : Option Place). IsPlace (step_of c.args.command.now) r) c.in-Some.is c.place_of.ensures in
-    c.transform.ensures.most reply next (some_then c.in-Some.place (step_of c.args.command.now) _ ⊥ _ _ found h (λ at is q. q))
+    c.transform.ensures.most reply next (some_then c.in-Some.place (step_of c.args.command.now) _ ⊥ _ _ c.in-Some.ensures h (λ at is q. q))
 
 pub returns-in-None-clause-answers : goal.returns-in-None-clause-answers
 returns-in-None-clause-answers g c =
-    let found = subst (λ (r : Option Place). IsPlace (step_of c.args.command.now) r) c.in-None.is c.place_of.ensures in
-    IfOk-weaker c.apply_other.result _ _ (λ reply h. with_none (step_of c.args.command.now) _ (λ at. Transforms at c.args.self.now reply c.apply_other.new.self) found h) c.apply_other.ensures.answers
+    IfOk-weaker c.apply_other.result _ _ (λ reply h. with_none (step_of c.args.command.now) _ (λ at. Transforms at c.args.self.now reply c.apply_other.new.self) c.in-None.ensures h) c.apply_other.ensures.answers
 
 pub returns-in-None-clause-most : goal.returns-in-None-clause-most
 returns-in-None-clause-most g c reply next h =
-    let found = subst (λ (r : Option Place). IsPlace (step_of c.args.command.now) r) c.in-None.is c.place_of.ensures in
-    c.apply_other.ensures.most reply next (from_none (step_of c.args.command.now) _ (λ at. Transforms at c.args.self.now reply next) found h)
+    c.apply_other.ensures.most reply next (from_none (step_of c.args.command.now) _ (λ at. Transforms at c.args.self.now reply next) c.in-None.ensures h)

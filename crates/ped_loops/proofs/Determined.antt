@@ -1,0 +1,42 @@
+-- What each step comes to is determined, whatever it keeps of the meaning.
+use Rattle.std.proofs.Common.{ℕ, List, true, false, refl}
+use Rattle.ped_scalar.specs.ped_rules.specs.ped_loop_runs.specs.ped_tidy.specs.ped_pasting.specs.ped_bodies.specs.ped_steps.specs.Causes.{none_forbids}
+use Rattle.ped_scalar.specs.ped_rules.specs.ped_loop_runs.specs.ped_tidy.specs.ped_pasting.specs.ped_bodies.specs.ped_steps.specs.Replacing.{all_kept}
+use Rattle.ped_scalar.specs.ped_rules.specs.ped_loop_runs.specs.ped_tidy.specs.ped_pasting.specs.ped_bodies.specs.ped_steps.proofs.OneCause.{one_cause}
+use Rattle.ped_scalar.specs.ped_rules.specs.Carried.{carried}
+use Rattle.ped_scalar.specs.ped_rules.specs.Rules.{is_parallel, is_serial}
+use Rattle.ped_scalar.specs.ped_rules.specs.Lawful.{IsDetermined}
+use Rattle.ped_loops.specs.Flags.{flagged}
+use Rattle.ped_loops.specs.Paralleling.{StandsAgainstParallel, paralleling}
+use Rattle.ped_loops.specs.Serialising.{StandsAgainstSerial, serialising}
+use Rattle.ped_loops.specs.Reversing.{reversed, StandsAgainstReversal, reversing}
+use Rattle.ped_loops.specs.Rejecting.{with_directive, StandsAgainstRejection, rejecting}
+use Rattle.ped_loops.proofs.FlagRules as flags
+use Rattle.ped_loops.proofs.ReverseRules as reversal
+use Rattle.ped_loops.proofs.RejectRules as rejection
+
+pub determined_parallel : (s : ℕ) → IsDetermined (paralleling s)
+determined_parallel s = record {
+  one_cause = λ t c d p q. one_cause t (StandsAgainstParallel s t) (carried t s) (flags.chain is_parallel true s t).one c d p q;
+  one_made = flags.one_made is_parallel true s;
+  some_made = λ t valid none. (flagged t s true, all_kept t, (refl, refl), flags.is_valid is_parallel true s t none.0);
+}
+
+pub determined_serial : (s : ℕ) → IsDetermined (serialising s)
+determined_serial s = record {
+  one_cause = λ t c d p q. one_cause t (StandsAgainstSerial s t) none_forbids (flags.chain is_serial false s t).one c d p q;
+  one_made = flags.one_made is_serial false s;
+  some_made = λ t valid none. (flagged t s false, all_kept t, (refl, refl), flags.is_valid is_serial false s t none.0);
+}
+
+pub determined_reversal : (s : ℕ) → IsDetermined (reversing s)
+determined_reversal s = record {
+  one_cause = λ t c d p q. one_cause t (StandsAgainstReversal s t) (carried t s) (reversal.chain s t).one c d p q;
+  one_made = reversal.one_made s;
+  some_made = λ t valid none. (reversed t s, all_kept t, (refl, refl), reversal.is_valid s t none.0);
+}
+
+pub determined_rejection : (s : ℕ) (x : List ℕ) → IsDetermined (rejecting s x)
+determined_rejection s x =
+    let lawful = rejection.lawful_rejection s x in
+    record { one_cause = lawful.one_cause; one_made = lawful.one_made; some_made = lawful.some_made }

@@ -1,0 +1,107 @@
+-- What names stand for in a program in which a DO has given way to one with another head and the same body.
+use Rattle.std.proofs.Common.{◌≡◌, ◌⊎◌, ℕ, List, [], ◌∷◌, ◌++◌, map, Bool, true, false, refl, sym, ap, subst, inl, inr, ◌∙◌, append-nil}
+use Rattle.std.specs.Prelude.{◌||◌, Some}
+use Rattle.std.specs.List.{flat_map}
+use Rattle.std.proofs.lemmas.List.{map-append}
+use Rattle.ped_tree.proofs.NameLaws.Collected.{among_append}
+use Rattle.ped_base.specs.Lists.{is_same_text, is_among}
+use Rattle.ped_tree.specs.Tree.{ExprTree, Head, StmtTree, StmtTrees, Do, DeclTree, Program, Implicit, Integer, Dimension, Parameter, Save, Remark, ProgramTree}
+use Rattle.ped_tree.specs.Accesses.{constants_in, constant_names}
+use Rattle.ped_tree.specs.Numbering.{statement_with}
+use Rattle.ped_scalar.specs.ped_rules.specs.ped_loop_runs.specs.ped_tidy.specs.ped_pasting.specs.ped_bodies.specs.ped_steps.specs.ped_laws.specs.ped_flow.specs.Questions.{LoopOf}
+use Rattle.ped_scalar.specs.ped_rules.specs.ped_loop_runs.specs.ped_tidy.specs.ped_pasting.specs.ped_bodies.specs.ped_steps.specs.ped_laws.specs.ped_graph.specs.ped_symbols.specs.Kinds.{names_of, kind_in}
+use Rattle.ped_scalar.specs.ped_rules.specs.ped_loop_runs.specs.ped_tidy.specs.ped_pasting.specs.ped_bodies.specs.ped_steps.specs.ped_laws.specs.ped_graph.specs.ped_symbols.specs.NameRefusals.{IsValid}
+use Rattle.ped_scalar.specs.ped_rules.specs.ped_loop_runs.specs.ped_tidy.specs.ped_pasting.specs.ped_bodies.specs.ped_steps.specs.ped_laws.specs.ped_graph.specs.ped_symbols.specs.Sites.{Site, declaration, statement, decl_sites, private_site, stmt_sites, stmts_sites}
+use Rattle.ped_scalar.specs.ped_rules.specs.ped_loop_runs.specs.ped_tidy.specs.ped_pasting.specs.ped_bodies.specs.ped_steps.specs.ped_laws.specs.ped_graph.specs.ped_symbols.specs.Uses.{used_as, expr_uses}
+use Rattle.ped_scalar.specs.ped_rules.specs.ped_loop_runs.specs.ped_tidy.specs.ped_pasting.specs.ped_bodies.specs.ped_steps.specs.ped_laws.specs.ped_graph.specs.ped_symbols.specs.declared.uses.Role.TheVariants.{Named}
+use Rattle.ped_scalar.specs.ped_rules.specs.ped_loop_runs.specs.ped_tidy.specs.ped_pasting.specs.ped_bodies.specs.ped_steps.specs.ped_laws.specs.ped_graph.specs.ped_symbols.specs.declared.uses.Use.{Use}
+use Rattle.ped_scalar.specs.ped_rules.specs.ped_loop_runs.specs.ped_tidy.specs.ped_pasting.specs.ped_bodies.specs.ped_steps.specs.ped_laws.specs.ped_graph.specs.ped_symbols.proofs.RightUseLaws.Whole.{same_kinds, names_occur}
+use Rattle.ped_scalar.specs.ped_rules.specs.ped_loop_runs.specs.ped_tidy.specs.ped_pasting.specs.ped_bodies.specs.ped_steps.specs.Replacing.{alone, program_with}
+use Rattle.ped_scalar.specs.ped_rules.specs.ped_loop_runs.specs.ped_tidy.specs.ped_pasting.specs.ped_bodies.specs.ped_steps.proofs.RunLaws.NamesKept.{occurs, occurs_append, Alike, AreAlike, alike_itself, append_alike, same_alike, by_sites, names_kept}
+use Rattle.ped_scalar.specs.ped_rules.specs.ped_loop_runs.specs.ped_tidy.specs.ped_pasting.specs.ped_bodies.specs.ped_steps.proofs.RunLaws.PrivatisedPrograms.{scalar_occurs, statement_in}
+use Rattle.ped_scalar.specs.ped_rules.specs.ped_loop_runs.specs.ped_tidy.specs.ped_pasting.specs.ped_bodies.specs.ped_steps.proofs.RunLaws.ExpandedPlacesStand.{variable_scalar}
+
+-- named constants occur in declarations
+or_either : (a b : Bool) → a || b ≡ true → (r : Bool) → a ≡ r → (r ≡ true) ⊎ (b ≡ true)
+or_either a b h true e = inl refl
+or_either a b h false e = inr (sym (ap (λ (r : Bool). r || b) e) ∙ h)
+
+or_of : (a b : Bool) → (a ≡ true) ⊎ (b ≡ true) → a || b ≡ true
+or_of true b h = refl
+or_of false b (inl e) = absurd cc
+or_of false b (inr e) = e
+
+abbrev names_in : List Use → List (List ℕ)
+names_in us = map (λ (u : Use). u.name) us
+
+among_both : (y : List ℕ) (a b : List Use) → is_among y (names_in (a ++ b)) ≡ is_among y (names_in a) || is_among y (names_in b)
+among_both y a b = ap (is_among y) (map-append (λ (u : Use). u.name) a b) ∙ among_append y (names_in a) (names_in b)
+
+abbrev parameter_uses : List ℕ × ExprTree → List Use
+parameter_uses v = used_as Named v.0 ∷ expr_uses v.1
+
+parameters_occur : (y : List ℕ) (values : List (List ℕ × ExprTree)) → is_among y (map (λ v. v.0) values) ≡ true → is_among y (names_in (flat_map parameter_uses values)) ≡ true
+parameters_occur y [] h = absurd cc
+parameters_occur y (v ∷ values) h = go (is_same_text y v.0) refl h (parameters_occur y values)
+  where
+    go : (b : Bool) → is_same_text y v.0 ≡ b → b || is_among y (map (λ v. v.0) values) ≡ true → (is_among y (map (λ v. v.0) values) ≡ true → is_among y (names_in (flat_map parameter_uses values)) ≡ true)
+        → is_among y (names_in (flat_map parameter_uses (v ∷ values))) ≡ true
+    go true e k more = ap (λ (b : Bool). b || is_among y (names_in (expr_uses v.1 ++ flat_map parameter_uses values))) e
+    go false e k more = or_of (is_same_text y v.0) (is_among y (names_in (expr_uses v.1 ++ flat_map parameter_uses values)))
+        (inr (among_both y (expr_uses v.1) (flat_map parameter_uses values) ∙ or_of (is_among y (names_in (expr_uses v.1))) (is_among y (names_in (flat_map parameter_uses values))) (inr (more k))))
+
+constant_occurs : (y : List ℕ) (d : DeclTree) → is_among y (constants_in d) ≡ true → occurs y (decl_sites d) ≡ true
+constant_occurs y (Program x) h = absurd cc
+constant_occurs y Implicit h = absurd cc
+constant_occurs y (Integer ds) h = absurd cc
+constant_occurs y (Dimension ds) h = absurd cc
+constant_occurs y (Parameter values) h = ap (λ (us : List Use). is_among y (names_in us)) (append-nil (flat_map parameter_uses values)) ∙ parameters_occur y values h
+constant_occurs y (Save names) h = absurd cc
+constant_occurs y (Remark text) h = absurd cc
+
+constants_occur : (y : List ℕ) (ds : List DeclTree) → is_among y (constant_names ds) ≡ true → occurs y (flat_map decl_sites ds) ≡ true
+constants_occur y [] h = absurd cc
+constants_occur y (d ∷ ds) h =
+    let either = or_either (is_among y (constants_in d)) (is_among y (constant_names ds)) (sym (among_append y (constants_in d) (constant_names ds)) ∙ h) (is_among y (constants_in d)) refl in
+    occurs_append y (decl_sites d) (flat_map decl_sites ds) ∙ or_of (occurs y (decl_sites d)) (occurs y (flat_map decl_sites ds)) (elim either [
+      | inl e ↦ inl (constant_occurs y d e)
+      | inr e ↦ inr (constants_occur y ds e)
+    ])
+
+constant_there : (y : List ℕ) (t : ProgramTree) → is_among y (constant_names t.decls) ≡ true → is_among y (names_of t) ≡ true
+constant_there y t h =
+    names_occur t y ∙ occurs_append y (flat_map decl_sites t.decls) (stmts_sites t.body)
+    ∙ or_of (occurs y (flat_map decl_sites t.decls)) (occurs y (stmts_sites t.body)) (inl (constants_occur y t.decls h))
+
+module _ (t : ProgramTree) (valid : IsValid t) (l : ℕ) (loop : LoopOf t l) where
+  -- where the new head has the same names but for named constants, names stand for what they stood for
+  module _ (h : Head) (private : h.private ≡ loop.head.private) (heads : (y : List ℕ) → is_among y (constant_names t.decls) ≡ false → occurs y (statement (Do h loop.body) ∷ []) ≡ occurs y (statement (Do loop.head loop.body) ∷ [])) where
+    abbrev by : StmtTree → StmtTrees
+    by s = alone (Do h loop.body)
+
+    abbrev v : List ℕ
+    v = loop.head.variable
+
+    sites_alike : (y : List ℕ) → is_among y (constant_names t.decls) ≡ false → AreAlike v y (stmts_sites (alone (Do h loop.body))) (stmt_sites (Do loop.head loop.body))
+    sites_alike y other =
+        by_sites v y (stmt_sites (Do h loop.body) ++ []) (stmt_sites (Do h loop.body)) (stmt_sites (Do loop.head loop.body)) (append-nil (stmt_sites (Do h loop.body)))
+        (append_alike v y (statement (Do h loop.body) ∷ []) (statement (Do loop.head loop.body) ∷ []) (private_site h.private ++ stmts_sites loop.body) (private_site loop.head.private ++ stmts_sites loop.body) head_alike
+        (append_alike v y (private_site h.private) (private_site loop.head.private) (stmts_sites loop.body) (stmts_sites loop.body) private_alike (same_alike v y (stmts_sites loop.body))))
+      where
+        head_alike : AreAlike v y (statement (Do h loop.body) ∷ []) (statement (Do loop.head loop.body) ∷ [])
+        head_alike = subst (λ (b : Bool). Alike (is_same_text y v) b (occurs y (statement (Do loop.head loop.body) ∷ []))) (sym (heads y other)) (alike_itself (is_same_text y v) (occurs y (statement (Do loop.head loop.body) ∷ [])))
+
+        private_alike : AreAlike v y (private_site h.private) (private_site loop.head.private)
+        private_alike = subst (λ (xs : List (List ℕ)). AreAlike v y (private_site xs) (private_site loop.head.private)) (sym private) (same_alike v y (private_site loop.head.private))
+
+    of_it : (y : List ℕ) → is_among y (constant_names t.decls) ≡ false → (old : StmtTree) → statement_with l t ≡ Some old → AreAlike v y (stmts_sites (by old)) (stmt_sites old)
+    of_it y other old there =
+        let is : Do loop.head loop.body ≡ old = ap (statement_in (Do loop.head loop.body)) (sym loop.is ∙ there) in
+        subst (λ (z : StmtTree). AreAlike v y (stmts_sites (alone (Do h loop.body))) (stmt_sites z)) is (sites_alike y other)
+
+    same_names : (y : List ℕ) (b : Bool) → is_among y (constant_names t.decls) ≡ b → is_among y (names_of (program_with by l t)) ≡ is_among y (names_of t)
+    same_names y true named = constant_there y (program_with by l t) named ∙ sym (constant_there y t named)
+    same_names y false other = names_kept v y by l t (of_it y other) (scalar_occurs t v (variable_scalar t valid l loop))
+
+    pub kinds_alike : (y : List ℕ) → kind_in (program_with by l t) y ≡ kind_in t y
+    kinds_alike = same_kinds t (program_with by l t) refl (λ y. same_names y (is_among y (constant_names t.decls)) refl)

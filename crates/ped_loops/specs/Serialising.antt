@@ -1,0 +1,31 @@
+-- `serial`: a PARALLEL DO becomes a DO whose iterations are done in order (ParaScope).
+use Rattle.std.specs.Prelude.{◌≡◌, ℕ, List, false}
+use Rattle.ped_tree.specs.Tree.{ProgramTree}
+use Rattle.ped_scalar.specs.ped_rules.specs.Chains.{no_rules, also, WhereLoop}
+use Rattle.ped_scalar.specs.ped_rules.specs.Rules.{WhereNoLoop, is_serial, WhereEscape, WhereLimit}
+use Rattle.ped_scalar.specs.ped_rules.specs.Steps.{transformation, StepAt}
+use Rattle.ped_scalar.specs.ped_rules.specs.ped_loop_runs.specs.ped_tidy.specs.ped_pasting.specs.ped_bodies.specs.ped_steps.specs.declared.rules.Rule.TheVariants.{NoLoop, ParallelState, IndexEscapes, Limit}
+use Rattle.ped_scalar.specs.ped_rules.specs.ped_loop_runs.specs.ped_tidy.specs.ped_pasting.specs.ped_bodies.specs.ped_steps.specs.Causes.{Rules, IsFirstCause, none_forbids}
+use Rattle.ped_scalar.specs.ped_rules.specs.ped_loop_runs.specs.ped_tidy.specs.ped_pasting.specs.ped_bodies.specs.ped_steps.specs.Replacing.{all_kept}
+use Rattle.ped_loops.specs.Flags.{flagged}
+
+-- the program behind the step, which keeps each statement with its number (ParaScope)
+abbrev pub MakesSerial : (s : ℕ) → ProgramTree → ProgramTree → List (ℕ × ℕ) → Type 0
+MakesSerial s t new keep = (new ≡ flagged t s false) × (keep ≡ all_kept t)
+
+-- which rules stand against the step: the statement is no DO, or no PARALLEL DO; a variable of the DO is read outside it; the new program isn't valid (this project)
+abbrev pub StandsAgainstSerial : (s : ℕ) → ProgramTree → Rules
+StandsAgainstSerial s t =
+    also NoLoop (WhereNoLoop t s)
+    (also ParallelState (WhereLoop t s is_serial)
+    (also IndexEscapes (WhereEscape t s)
+    (also Limit (WhereLimit (MakesSerial s) t s) no_rules)))
+
+-- `serial s`: no dependence forbids it, since iterations may be done in any order before (ParaScope)
+abbrev pub serialising : ℕ → StepAt
+serialising s = record {
+  statement = s;
+  kind = transformation;
+  IsCause = λ t. IsFirstCause t (StandsAgainstSerial s t) none_forbids;
+  Makes = MakesSerial s;
+}

@@ -1,0 +1,50 @@
+//! What is true of the steps. The functions do nothing; their contracts are the laws.
+
+ghost use Rattle.std.specs.Prelude.{ℕ, List};
+ghost use Rattle.ped_scalar.specs.ped_rules.specs.Lawful.{IsLawful};
+ghost use Rattle.ped_loops.specs.Paralleling.{paralleling};
+ghost use Rattle.ped_loops.specs.Serialising.{serialising};
+ghost use Rattle.ped_loops.specs.Rejecting.{rejecting};
+ghost use Rattle.ped_loops.specs.Reversing.{reversing};
+
+use ped_scalar::ped_rules::ped_loop_runs::ped_tidy::{
+    none_rejected, private_names_cleared, stays_trusted,
+};
+use ped_scalar::ped_rules::ped_loop_runs::{indices_unwritten, one_for_one};
+
+/// `parallel` has one first cause at most and makes one program; where nothing forbids it, that one is valid, has no
+/// C$PED REJECT and is tidy if the old one is so, and means the same (Allen and Kennedy, section 2.4.2; ParaScope).
+pub fn parallel_is_lawful()
+    ensures { (s : ℕ) → IsLawful (paralleling s) }
+{
+    one_for_one();
+    stays_trusted();
+    private_names_cleared();
+    indices_unwritten();
+    none_rejected();
+}
+
+/// So it is with `serial` (ParaScope).
+pub fn serial_is_lawful()
+    ensures { (s : ℕ) → IsLawful (serialising s) }
+{
+    one_for_one();
+    stays_trusted();
+    private_names_cleared();
+}
+
+/// `reject` has one first cause at most and makes one program, which is valid where nothing forbids the step (ParaScope).
+pub fn rejection_is_lawful()
+    ensures { (s : ℕ) (x : List ℕ) → IsLawful (rejecting s x) }
+{}
+
+/// `reverse` has one first cause at most and makes one program; where nothing forbids it, that one is valid, has no
+/// C$PED REJECT and is tidy if the old one is so, and means the same (Allen and Kennedy, sections 2.2.3, 5.2).
+pub fn reversal_is_lawful()
+    ensures { (s : ℕ) → IsLawful (reversing s) }
+{
+    one_for_one();
+    stays_trusted();
+    private_names_cleared();
+    none_rejected();
+}

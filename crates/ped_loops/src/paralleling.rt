@@ -1,0 +1,98 @@
+//! `parallel`: a DO becomes a PARALLEL DO.
+
+ghost use Rattle.std.specs.Prelude.{true, IfOk};
+ghost use Rattle.ped_tree.specs.Views.{stmt_trees, program_tree, head_of};
+ghost use Rattle.ped_scalar.specs.ped_rules.specs.Steps.{Answers};
+ghost use Rattle.ped_scalar.specs.ped_rules.specs.ped_loop_runs.specs.ped_tidy.specs.ped_pasting.specs.ped_bodies.specs.ped_steps.specs.Causes.{NoRule};
+ghost use Rattle.ped_scalar.specs.ped_rules.specs.ped_loop_runs.specs.ped_tidy.specs.ped_pasting.specs.ped_bodies.specs.ped_steps.specs.Changes.{IsChange};
+ghost use Rattle.ped_scalar.specs.ped_rules.specs.ped_loop_runs.specs.ped_tidy.specs.ped_pasting.specs.ped_bodies.specs.ped_steps.specs.Replacing.{all_kept};
+ghost use Rattle.ped_scalar.specs.ped_rules.specs.ped_loop_runs.specs.ped_tidy.specs.ped_pasting.specs.ped_bodies.specs.ped_steps.specs.Scenes.{IsSceneOf};
+ghost use Rattle.ped_scalar.specs.ped_rules.specs.ped_loop_runs.specs.ped_tidy.specs.ped_pasting.specs.ped_bodies.specs.ped_steps.specs.ped_flow.specs.Questions.{IsLoop};
+ghost use Rattle.ped_loops.specs.Flags as Flags;
+ghost use Rattle.ped_loops.specs.Paralleling as Spec;
+
+use crate::flags::flagged;
+use ped_base::NoMemory;
+use ped_scalar::ped_rules::ped_loop_runs::ped_tidy::ped_pasting::ped_bodies::ped_steps::{
+    Change, Refused, Rule, Scene, loop_at,
+};
+use ped_scalar::ped_rules::{against, escapes, first_carried};
+use ped_tree::Do;
+use std::alloc::Global;
+use std::sync::ledger::Ledger;
+
+/// Makes the DO with this number a PARALLEL DO (Allen and Kennedy, section 2.4.2; ParaScope). Each statement keeps its number.
+///
+/// # Errors
+///
+/// `Refused` exactly where a rule stands, with the rule of the least number: NoLoop, ParallelState, IndexEscapes or Limit;
+/// and else where the DO carries a dependence that the user hasn't rejected, with the first one in the order of the pane.
+pub fn make_parallel<L: Ledger>(
+    alloc: Global,
+    scene: &Scene<L>,
+    number: u32,
+) -> Result<Result<Change, Refused>, NoMemory>
+    requires { IsSceneOf (program_tree scene.now.tree.now) scene.now }
+    ensures { IfOk result (Answers (Spec.paralleling number) (program_tree scene.now.tree.now)) }
+{
+    match loop_at(scene.tree, number) {
+        Some(d) => {
+            return make_parallel_in(alloc, scene, number, d);
+        }
+        None => {
+            return Ok(Err(against(Rule::NoLoop, number)));
+        }
+    }
+}
+
+/// The same, where the statement is this DO.
+fn make_parallel_in<L: Ledger>(
+    alloc: Global,
+    scene: &Scene<L>,
+    number: u32,
+    d: &Do,
+) -> Result<Result<Change, Refused>, NoMemory>
+    requires scene { IsSceneOf (program_tree scene.now.tree.now) scene.now }
+    requires is { IsLoop (program_tree scene.now.tree.now) number (head_of d.now) (stmt_trees d.now.body.items) }
+    ensures { IfOk result (Answers (Spec.paralleling number) (program_tree scene.now.tree.now)) }
+{
+    if d.parallel {
+        return Ok(Err(against(Rule::ParallelState, number)));
+    }
+    if let Some(statement) = escapes(scene, number) {
+        return Ok(Err(against(Rule::IndexEscapes, statement)));
+    }
+    match flagged(alloc, scene, number, d, true)? {
+        Some(change) => {
+            return unless_carried(alloc, scene, number, change);
+        }
+        None => {
+            return Ok(Err(against(Rule::Limit, number)));
+        }
+    }
+}
+
+/// The change, against which no rule stands, unless the DO with this number carries a dependence.
+fn unless_carried<L: Ledger>(
+    alloc: Global,
+    scene: &Scene<L>,
+    number: u32,
+    change: Change,
+) -> Result<Result<Change, Refused>, NoMemory>
+    requires scene { IsSceneOf (program_tree scene.now.tree.now) scene.now }
+    requires free { NoRule (Spec.StandsAgainstParallel number (program_tree scene.now.tree.now)) }
+    requires is { IsChange (Flags.flagged (program_tree scene.now.tree.now) number true) (all_kept (program_tree scene.now.tree.now)) change }
+    ensures { IfOk result (Answers (Spec.paralleling number) (program_tree scene.now.tree.now)) }
+{
+    match first_carried(alloc, scene, number) {
+        Ok(Some(edge)) => {
+            return Ok(Err(Refused::Dependence(edge)));
+        }
+        Ok(None) => {
+            return Ok(Ok(change));
+        }
+        Err(NoMemory) => {
+            return Err(NoMemory);
+        }
+    }
+}

@@ -1,0 +1,183 @@
+//! `reverse`: the iterations of a DO are done from the last to the first.
+
+ghost use Rattle.std.specs.Prelude.{◌≡◌, ◌+◌, ◌<◌, ◌^◌, ℕ, [], true, false, Some, IfOk, MatchOption};
+ghost use Rattle.ped_scalar.specs.ped_rules.specs.ped_loop_runs.specs.ped_tidy.specs.ped_pasting.specs.ped_bodies.specs.ped_steps.specs.ped_sums.specs.Sums.{literal};
+ghost use Rattle.ped_tree.specs.Constants.ConstantExpressions.{constant_value};
+ghost use Rattle.ped_tree.specs.Numbering.{statements_count};
+ghost use Rattle.ped_tree.specs.Tree as Tree;
+ghost use Rattle.ped_tree.specs.Views.{stmt_tree, stmt_trees, program_tree, head_of};
+ghost use Rattle.ped_scalar.specs.ped_rules.specs.Rules.{is_unit, WhereEscape};
+ghost use Rattle.ped_scalar.specs.ped_rules.specs.Steps.{Answers};
+ghost use Rattle.ped_scalar.specs.ped_rules.specs.ped_loop_runs.specs.ped_tidy.specs.ped_pasting.specs.ped_bodies.specs.ped_steps.specs.Causes.{NoRule};
+ghost use Rattle.ped_scalar.specs.ped_rules.specs.ped_loop_runs.specs.ped_tidy.specs.ped_pasting.specs.ped_bodies.specs.ped_steps.specs.Changes.{IsChange};
+ghost use Rattle.ped_scalar.specs.ped_rules.specs.ped_loop_runs.specs.ped_tidy.specs.ped_pasting.specs.ped_bodies.specs.ped_steps.specs.Replacing as Replacing;
+ghost use Rattle.ped_scalar.specs.ped_rules.specs.ped_loop_runs.specs.ped_tidy.specs.ped_pasting.specs.ped_bodies.specs.ped_steps.specs.Scenes.{IsSceneOf};
+ghost use Rattle.ped_scalar.specs.ped_rules.specs.ped_loop_runs.specs.ped_tidy.specs.ped_pasting.specs.ped_bodies.specs.ped_steps.specs.ped_flow.specs.Questions.{IsLoop};
+ghost use Rattle.ped_scalar.specs.ped_rules.specs.ped_loop_runs.specs.ped_tidy.specs.ped_pasting.specs.ped_bodies.specs.ped_steps.specs.ped_symbols.specs.Kinds.{table_of};
+ghost use Rattle.ped_scalar.specs.ped_rules.specs.ped_loop_runs.specs.ped_tidy.specs.ped_pasting.specs.ped_bodies.specs.ped_steps.specs.ped_symbols.specs.NameRefusals.{IsValid};
+ghost use Rattle.ped_loops.specs.Reversing as Spec;
+
+use ped_base::NoMemory;
+use ped_scalar::ped_rules::ped_loop_runs::ped_tidy::ped_pasting::ped_bodies::ped_steps::{
+    Change, Refused, Rule, Scene, all_kept, change_to, loop_at, program_with,
+};
+use ped_scalar::ped_rules::{against, escapes, first_carried, literal, unit_step};
+use ped_tree::{Do, Program, Stmt};
+use std::alloc::Global;
+use std::sync::ledger::Ledger;
+
+/// Exchanges the bounds of the DO with this number and negates its increment (Allen and Kennedy, section 5.2; ParaScope).
+/// Each statement keeps its number.
+///
+/// # Errors
+///
+/// `Refused` exactly where a rule stands, with the rule of the least number: NoLoop, ParallelState, IndexEscapes,
+/// StepShape or Limit; and else where the DO carries a dependence that the user hasn't rejected, with the first one in the
+/// order of the pane.
+pub fn reverse<L: Ledger>(
+    alloc: Global,
+    scene: &Scene<L>,
+    number: u32,
+) -> Result<Result<Change, Refused>, NoMemory>
+    requires { IsSceneOf (program_tree scene.now.tree.now) scene.now }
+    ensures { IfOk result (Answers (Spec.reversing number) (program_tree scene.now.tree.now)) }
+{
+    match loop_at(scene.tree, number) {
+        Some(d) => {
+            return reverse_in(alloc, scene, number, d);
+        }
+        None => {
+            return Ok(Err(against(Rule::NoLoop, number)));
+        }
+    }
+}
+
+/// The same, where the statement is this DO.
+fn reverse_in<L: Ledger>(
+    alloc: Global,
+    scene: &Scene<L>,
+    number: u32,
+    d: &Do,
+) -> Result<Result<Change, Refused>, NoMemory>
+    requires scene { IsSceneOf (program_tree scene.now.tree.now) scene.now }
+    requires is { IsLoop (program_tree scene.now.tree.now) number (head_of d.now) (stmt_trees d.now.body.items) }
+    ensures { IfOk result (Answers (Spec.reversing number) (program_tree scene.now.tree.now)) }
+{
+    if d.parallel {
+        return Ok(Err(against(Rule::ParallelState, number)));
+    }
+    if let Some(statement) = escapes(scene, number) {
+        return Ok(Err(against(Rule::IndexEscapes, statement)));
+    }
+    match unit_step(scene.symbols.consts(), d) {
+        Some(step) => {
+            return reverse_by(alloc, scene, number, d, step);
+        }
+        None => {
+            return Ok(Err(against(Rule::StepShape, number)));
+        }
+    }
+}
+
+/// The same, where the DO is no PARALLEL DO, none of its variables is read outside it, and its increment is this one.
+fn reverse_by<L: Ledger>(
+    alloc: Global,
+    scene: &Scene<L>,
+    number: u32,
+    d: &Do,
+    step: i64,
+) -> Result<Result<Change, Refused>, NoMemory>
+    requires scene { IsSceneOf (program_tree scene.now.tree.now) scene.now }
+    requires is { IsLoop (program_tree scene.now.tree.now) number (head_of d.now) (stmt_trees d.now.body.items) }
+    requires serial { (head_of d.now).parallel ≡ false }
+    requires contained { (n : ℕ) → WhereEscape (program_tree scene.now.tree.now) number n → ⊥ }
+    requires step { constant_value (table_of (program_tree scene.now.tree.now)).constants (head_of d.now).step ≡ Some step }
+    requires unit { is_unit step ≡ true }
+    ensures { IfOk result (Answers (Spec.reversing number) (program_tree scene.now.tree.now)) }
+{
+    match reversed(alloc, scene, number, d, step)? {
+        Some(change) => {
+            return unless_carried(alloc, scene, number, change);
+        }
+        None => {
+            return Ok(Err(against(Rule::Limit, number)));
+        }
+    }
+}
+
+/// The change, against which no rule stands, unless the DO with this number carries a dependence.
+fn unless_carried<L: Ledger>(
+    alloc: Global,
+    scene: &Scene<L>,
+    number: u32,
+    change: Change,
+) -> Result<Result<Change, Refused>, NoMemory>
+    requires scene { IsSceneOf (program_tree scene.now.tree.now) scene.now }
+    requires free { NoRule (Spec.StandsAgainstReversal number (program_tree scene.now.tree.now)) }
+    requires is { IsChange (Spec.reversed (program_tree scene.now.tree.now) number) (Replacing.all_kept (program_tree scene.now.tree.now)) change }
+    ensures { IfOk result (Answers (Spec.reversing number) (program_tree scene.now.tree.now)) }
+{
+    match first_carried(alloc, scene, number) {
+        Ok(Some(edge)) => {
+            return Ok(Err(Refused::Dependence(edge)));
+        }
+        Ok(None) => {
+            return Ok(Ok(change));
+        }
+        Err(NoMemory) => {
+            return Err(NoMemory);
+        }
+    }
+}
+
+/// The change to the program with the DO of this number reversed: none exactly where that program isn't valid.
+fn reversed<L: Ledger>(
+    alloc: Global,
+    scene: &Scene<L>,
+    number: u32,
+    d: &Do,
+    step: i64,
+) -> Result<Option<Change>, NoMemory>
+    requires scene { IsSceneOf (program_tree scene.now.tree.now) scene.now }
+    requires is { IsLoop (program_tree scene.now.tree.now) number (head_of d.now) (stmt_trees d.now.body.items) }
+    requires step { constant_value (table_of (program_tree scene.now.tree.now)).constants (head_of d.now).step ≡ Some step }
+    requires unit { is_unit step ≡ true }
+    ensures { IfOk result (λ found. MatchOption found (IsValid (Spec.reversed (program_tree scene.now.tree.now) number) → ⊥)
+        (IsChange (Spec.reversed (program_tree scene.now.tree.now) number) (Replacing.all_kept (program_tree scene.now.tree.now)))) }
+{
+    let tree = with_turned(alloc, scene.tree, number, d, step)?;
+    let keep = all_kept(alloc, scene.tree)?;
+    change_to(alloc, tree, keep)
+}
+
+/// The program with the DO of this number reversed.
+fn with_turned(
+    alloc: Global,
+    program: &Program,
+    number: u32,
+    d: &Do,
+    step: i64,
+) -> Result<Program, NoMemory>
+    requires few { statements_count (program_tree program.now).body + 1 < 2 ^ 32 }
+    requires is { IsLoop (program_tree program.now) number (head_of d.now) (stmt_trees d.now.body.items) }
+    requires step { constant_value (table_of (program_tree program.now)).constants (head_of d.now).step ≡ Some step }
+    requires unit { is_unit step ≡ true }
+    ensures tree { IfOk result (λ p. program_tree p ≡ Spec.reversed (program_tree program.now) number) }
+    ensures lines { IfOk result (λ p. p.lines.items ≡ []) }
+{
+    let mut new = Vec::new(alloc);
+    new.push(turned(alloc, d, -step)?)?;
+    program_with(alloc, program, number, &new)
+}
+
+/// The DO with its bounds exchanged and this increment.
+fn turned(alloc: Global, d: &Do, step: i64) -> Result<Stmt, NoMemory>
+    requires { is_unit step ≡ true }
+    ensures { IfOk result (λ new. stmt_tree new ≡ Tree.Do (record (head_of d.now) { first = (head_of d.now).last; last = (head_of d.now).first; step = literal step }) (stmt_trees d.now.body.items)) }
+{
+    let mut new = d.copy(alloc)?;
+    new.first = d.last.copy(alloc)?;
+    new.last = d.first.copy(alloc)?;
+    new.step = literal(alloc, step)?;
+    Ok(Stmt::of_loop(new))
+}

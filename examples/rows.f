@@ -1,0 +1,13 @@
+      PROGRAM ROWS
+C     SUMS ALONG EACH ROW OF A TABLE. A POINT NEEDS THE ONE BEFORE IT IN
+C     ITS ROW, AND NOTHING OF THE OTHER ROWS.
+      PARAMETER (M=2,N=4)
+      INTEGER A(M,N)
+      SAVE A
+      DO 10 I=1,M
+      DO 10 J=1,N
+   10 A(I,J)=10*I+J
+      DO 20 I=1,M
+      DO 20 J=2,N
+   20 A(I,J)=A(I,J)+A(I,J-1)
+      END

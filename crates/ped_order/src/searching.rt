@@ -2,8 +2,8 @@
 
 ghost use Rattle.std.specs.Prelude.{◌≡◌, List, IfOk};
 ghost use Rattle.ped_tree.specs.Views.{program_tree};
-ghost use Rattle.ped_symbols.specs.Kinds.{table_of};
-ghost use Rattle.ped_symbols.specs.NameRefusals.{IsValid};
+ghost use Rattle.ped_laws.specs.ped_graph.specs.ped_symbols.specs.Kinds.{table_of};
+ghost use Rattle.ped_laws.specs.ped_graph.specs.ped_symbols.specs.NameRefusals.{IsValid};
 ghost use Rattle.ped_laws.specs.ped_edges.specs.Edges.{Edge};
 ghost use Rattle.ped_laws.specs.ped_graph.specs.Dependences.{AreEdges};
 ghost use Rattle.ped_laws.specs.ped_eval.specs.OutcomeViews.{outcome_view};
@@ -16,7 +16,7 @@ use crate::watches::{FoundRace, RaceWatch};
 use ped_base::NoMemory;
 use ped_laws::conflicts::races_are_covered;
 use ped_laws::ped_eval::{Outcome, run_watched};
-use ped_symbols::Symbols;
+use ped_laws::ped_graph::ped_symbols::Symbols;
 use ped_tree::Program;
 use std::alloc::Global;
 

@@ -14,8 +14,7 @@ use crate::comments::comment_fits;
 use crate::expressions::expr_fits;
 use crate::names::{are_names, name_fits};
 use ped_base::Name;
-use ped_limits::{MOST_CHARACTERS, MOST_DIMENSIONS};
-use ped_print::decl_length;
+use ped_limits::{MOST_CHARACTERS, MOST_DIMENSIONS, decl_length};
 use ped_tree::{Bound, Decl, Declarator, Expr};
 
 /// Whether declarations can be written one behind the other.

@@ -15,8 +15,7 @@ use crate::expressions::expr_fits;
 use crate::names::{all_names_fit, are_names, meets, name_fits};
 use crate::surroundings::{Surroundings, is_private, is_within, with_variable};
 use ped_base::{Name, is_among};
-use ped_limits::{MOST_BLOCKS_NESTED, MOST_CHARACTERS, MOST_LOOPS_NESTED};
-use ped_print::private_length;
+use ped_limits::{MOST_BLOCKS_NESTED, MOST_CHARACTERS, MOST_LOOPS_NESTED, private_length};
 use ped_tree::{Do, Stmt};
 
 /// Whether a DO, which is this statement, can be written where it stands, whatever its body is.

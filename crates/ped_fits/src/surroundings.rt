@@ -9,9 +9,9 @@ ghost use Rattle.ped_fits.specs.Surroundings.{all_names, place};
 
 use ped_base::{Name, is_among};
 use ped_limits::{
-    MOST_CHARACTERS, MOST_LOOPS_NESTED, MOST_REFERENCES, MOST_STATEMENTS, references_declared,
+    MOST_CHARACTERS, MOST_LOOPS_NESTED, MOST_REFERENCES, MOST_STATEMENTS, length,
+    references_declared,
 };
-use ped_print::length;
 use ped_tree::{Decl, Stmt};
 
 /// What stands round a statement.

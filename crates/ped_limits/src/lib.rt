@@ -18,3 +18,4 @@ pub use literals::{
 };
 pub use numbering::statement_count;
 pub use ped_expressions;
+pub use ped_print::{decl_length, length, private_length};

@@ -1,1 +1,1 @@
-mod LoopLaws
+pub mod LoopLaws

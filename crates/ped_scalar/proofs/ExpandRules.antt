@@ -38,6 +38,9 @@ one_name a b e = cc
 no_name_is : (a : List ℕ) → Some a ≡ None → ⊥
 no_name_is a e = cc
 
+no_span_is : (v : Span) → Some v ≡ None → ⊥
+no_span_is v e = cc
+
 one_truth : (P : Type 0) (a b : Bool) → IsTrue a ↔ P → IsTrue b ↔ P → a ≡ b
 one_truth P true true p q = refl
 one_truth P true false p q = absurd (both_ways false refl (q.1 (p.0 refl)))
@@ -134,6 +137,17 @@ module _ (s : ℕ) (x : List ℕ) where
     pub chain : IsChain 0 stands
     chain = chain_link NoLoop (WhereNoLoop t s) state 0 (omega arith) (no_loop_one t s) state_chain
 
+    -- no limit is passed where the new program is valid
+    pub no_limit : (l : LoopOf t s) (new : ProgramTree) → IsExpanded t s x l.head new → IsValid new → (n : ℕ) → WhereArrayLimit t s x n → ⊥
+    no_limit l new made valid n (m, inl none, at) = no_name_is made.array (sym made.fresh ∙ none)
+    no_limit l new made valid n (m, inr (other, again, invalid), at) = invalid (subst IsValid (one_new t l.head m.head (same_head t s l.head m.head l.body m.body l.is m.is) new other made again) valid)
+
+    -- nor where the name is there and a bound isn't constant
+    pub no_limit_unknown : (l : LoopOf t s) → (array_name t ≡ None → ⊥) → span_of constants l.head ≡ None → (n : ℕ) → WhereArrayLimit t s x n → ⊥
+    no_limit_unknown l named unknown n (m, inl none, at) = named none
+    no_limit_unknown l named unknown n (m, inr (new, made, invalid), at) =
+        no_span_is made.span (sym made.spans ∙ ap (λ (d : Head). span_of constants d) (same_head t s m.head l.head m.body l.body m.is l.is) ∙ unknown)
+
     -- the statement is no DO
     pub no_loop_first : ((h : Head) (body : StmtTrees) → IsLoop t s h body → ⊥) → IsFirstRule stands NoLoop s
     no_loop_first none = first_here NoLoop (WhereNoLoop t s) state s ((λ l. none l.head l.body l.is), refl) state_chain
@@ -198,8 +212,7 @@ module _ (s : ℕ) (x : List ℕ) where
 
                   module _ (valid : IsValid new) where
                     not_limit : (n : ℕ) → WhereArrayLimit t s x n → ⊥
-                    not_limit n (l, inl none, at) = no_name_is made.array (sym made.fresh ∙ none)
-                    not_limit n (l, inr (other, again, invalid), at) = invalid (subst IsValid (one_new t h l.head (same_head t s h l.head body l.body is l.is) new other made again) valid)
+                    not_limit = no_limit loop new made valid
 
                     pub private_first : is_private_near t s h body x ≡ true → IsFirstRule stands AlreadyPrivate s
                     private_first holds =

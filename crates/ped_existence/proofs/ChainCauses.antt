@@ -19,7 +19,7 @@ use Rattle.ped_answer.specs.ped_session.specs.ped_transformations.specs.ped_loop
 use Rattle.ped_answer.specs.ped_session.specs.ped_transformations.specs.ped_loops.specs.ped_scalar.specs.ped_rules.specs.ped_loop_runs.specs.ped_tidy.specs.ped_pasting.specs.ped_bodies.specs.ped_steps.specs.Causes.{Rules, NoRule, IsFirstRule, Cause, rule, dependence, IsFirstForbidding, IsFirstCause}
 use Rattle.ped_answer.specs.ped_session.specs.ped_transformations.specs.ped_loops.specs.ped_scalar.specs.ped_rules.specs.Chains.{no_rules, also, WhereLoop}
 use Rattle.ped_answer.specs.ped_session.specs.ped_transformations.specs.ped_loops.specs.ped_scalar.specs.ped_rules.specs.Rules.{WhereNoLoop, WhereEscape, WhereLimit}
-use Rattle.ped_answer.specs.ped_session.specs.ped_transformations.specs.ped_loops.specs.ped_scalar.specs.ped_rules.proofs.Chains.{IsChain, first_here, first_later, none_later, none_at_end}
+use Rattle.ped_answer.specs.ped_session.specs.ped_transformations.specs.ped_loops.specs.ped_scalar.specs.ped_rules.proofs.Chains.{IsChain, chain_end, first_here, first_later, none_later, none_at_end}
 use Rattle.ped_answer.specs.ped_session.specs.ped_transformations.specs.ped_loops.specs.ped_scalar.specs.ped_rules.proofs.Decided.{loop_decided, valid_decided, limit_stands}
 use Rattle.ped_answer.specs.ped_session.specs.ped_transformations.specs.ped_loops.specs.ped_scalar.specs.ped_rules.proofs.EscapeRule.{by_statement, by_saved, by_nothing}
 use Rattle.ped_existence.proofs.Edges.{edges_of_program}
@@ -32,13 +32,17 @@ Settled P = (o : Option ℕ) × MatchOption o ((n : ℕ) → P n → ⊥) P
 abbrev pub Found : Rules → Type 0
 Found stands = ((r : Rule) × (n : ℕ) × IsFirstRule stands r n) ⊎ NoRule stands
 
-pub found_end : Found no_rules
+found_end : Found no_rules
 found_end = inr none_at_end
 
 pub found_link : (r : Rule) (P : ℕ → Type 0) (others : Rules) → IsChain (number_of r) others → Settled P → Found others → Found (also r P others)
 found_link r P others chain (Some n, p) rest = inl (r, n, first_here r P others n p chain)
 found_link r P others chain (None, none) (inl (q, n, first)) = inl (q, n, first_later r P others none q n first)
 found_link r P others chain (None, none) (inr rest) = inr (none_later r P others none rest)
+
+-- the last rule of a chain
+pub found_last : (r : Rule) (P : ℕ → Type 0) → Settled P → Found (also r P no_rules)
+found_last r P settled = found_link r P no_rules (chain_end (number_of r)) settled found_end
 
 truth : (b : Bool) → (b ≡ true) ⊎ (b ≡ false)
 truth true = inl refl

@@ -7,10 +7,9 @@ use Rattle.ped_answer.specs.ped_session.specs.ped_order.specs.ped_flow.specs.Que
 use Rattle.ped_answer.specs.ped_session.specs.ped_transformations.specs.ped_loops.specs.ped_scalar.specs.ped_rules.specs.ped_loop_runs.specs.ped_tidy.specs.ped_pasting.specs.ped_bodies.specs.ped_steps.specs.declared.rules.Rule.TheVariants.{NoLoop, ParallelState, Range, ExposedOrLive, NotScalar, NotConstant, Limit, AlreadyPrivate}
 use Rattle.ped_answer.specs.ped_session.specs.ped_transformations.specs.ped_loops.specs.ped_scalar.specs.ped_rules.specs.ped_loop_runs.specs.ped_tidy.specs.ped_pasting.specs.ped_bodies.specs.ped_steps.specs.Causes.{Cause, IsFirstCause, none_forbids}
 use Rattle.ped_answer.specs.ped_session.specs.ped_transformations.specs.ped_loops.specs.ped_scalar.specs.ped_rules.specs.ped_loop_runs.specs.ped_tidy.specs.ped_pasting.specs.ped_bodies.specs.ped_steps.specs.Replacing.{all_kept}
-use Rattle.ped_answer.specs.ped_session.specs.ped_transformations.specs.ped_loops.specs.ped_scalar.specs.ped_rules.specs.Chains.{no_rules, WhereLoop}
+use Rattle.ped_answer.specs.ped_session.specs.ped_transformations.specs.ped_loops.specs.ped_scalar.specs.ped_rules.specs.Chains.{WhereLoop}
 use Rattle.ped_answer.specs.ped_session.specs.ped_transformations.specs.ped_loops.specs.ped_scalar.specs.ped_rules.specs.Rules.{WhereNoLoop, is_parallel, isnt_constant, WhereLimit}
 use Rattle.ped_answer.specs.ped_session.specs.ped_transformations.specs.ped_loops.specs.ped_scalar.specs.ped_rules.specs.Spans.{Values, Span, span_of}
-use Rattle.ped_answer.specs.ped_session.specs.ped_transformations.specs.ped_loops.specs.ped_scalar.specs.ped_rules.proofs.Chains.{chain_end}
 use Rattle.ped_answer.specs.ped_session.specs.ped_transformations.specs.ped_loops.specs.ped_scalar.specs.ped_rules.proofs.Decided.{loop_decided, valid_decided}
 use Rattle.ped_answer.specs.ped_session.specs.ped_transformations.specs.ped_loops.specs.ped_scalar.specs.Scalars.{is_unfit}
 use Rattle.ped_answer.specs.ped_session.specs.ped_transformations.specs.ped_loops.specs.ped_scalar.specs.Privatising.{privatised, IsScalarExposedOrLiveBy, is_in_parallel, WhereExposedOrLive, isnt_listed, MakesPrivatised, WhereUnlistedLimit, is_scalar_listed, StandsAgainstPrivatising}
@@ -18,8 +17,11 @@ use Rattle.ped_answer.specs.ped_session.specs.ped_transformations.specs.ped_loop
 use Rattle.ped_answer.specs.ped_session.specs.ped_transformations.specs.ped_loops.specs.ped_scalar.proofs.LiveSaid.{live_said}
 use Rattle.ped_answer.specs.ped_session.specs.ped_transformations.specs.ped_loops.specs.ped_scalar.proofs.PrivatiseRules as private
 use Rattle.ped_answer.specs.ped_session.specs.ped_transformations.specs.ped_loops.specs.ped_scalar.proofs.ExpandRules as expand
-use Rattle.ped_existence.proofs.ChainCauses.{Settled, found_end, found_link, settled_both, settled_no_loop, settled_there, settled_where, settled_limit, some_cause}
+use Rattle.ped_existence.proofs.ChainCauses.{Settled, found_link, found_last, settled_both, settled_no_loop, settled_there, settled_where, settled_limit, some_cause}
 use Rattle.ped_existence.proofs.LoopPaths.{exposed_or_live, lost}
+
+some_name : (a : List ℕ) → Some a ≡ None → ⊥
+some_name a e = cc
 
 module _ (t : ProgramTree) (s : ℕ) (x : List ℕ) where
   settled_unlisted : Settled (WhereUnlistedLimit t s x)
@@ -34,7 +36,7 @@ module _ (t : ProgramTree) (s : ℕ) (x : List ℕ) where
       (found_link ExposedOrLive (WhereExposedOrLive t s x) (private.unfit s x t) (private.unfit_chain s x t) (settled_there t s (IsScalarExposedOrLiveBy t s x) (exposed_or_live t s x))
       (found_link NotScalar (WhereLoop t s (is_unfit t s x)) (private.limit s x t) (private.limit_chain s x t) (settled_where t s (is_unfit t s x))
       (found_link Limit (WhereUnlistedLimit t s x) (private.listed s x t) (private.listed_chain s x t) settled_unlisted
-      (found_link AlreadyPrivate (WhereLoop t s (is_scalar_listed t x)) no_rules (chain_end 17) (settled_where t s (is_scalar_listed t x)) found_end))))))
+      (found_last AlreadyPrivate (WhereLoop t s (is_scalar_listed t x)) (settled_where t s (is_scalar_listed t x))))))))
 
   abbrev constants : Values
   constants = (table_of t).constants
@@ -53,9 +55,6 @@ module _ (t : ProgramTree) (s : ℕ) (x : List ℕ) where
   settled_named : (l : LoopOf t s) (o : Option (List ℕ)) → array_name t ≡ o → (v : Option Span) → span_of constants l.head ≡ v → Settled (WhereArrayLimit t s x)
   settled_named l None e v spans = (Some s, (l, inl e, refl))
   settled_named l (Some array) e None spans = (None, expand.no_limit_unknown s x t l (λ none. some_name array (sym e ∙ none)) spans)
-    where
-      some_name : (a : List ℕ) → Some a ≡ None → ⊥
-      some_name a q = cc
   settled_named l (Some array) e (Some v) spans = settled_new l v spans array e (live_said t s x)
 
   settled_array : Settled (WhereArrayLimit t s x)
@@ -74,4 +73,4 @@ module _ (t : ProgramTree) (s : ℕ) (x : List ℕ) where
       (found_link NotScalar (WhereLoop t s (is_unfit t s x)) (expand.constant s x t) (expand.constant_chain s x t) (settled_where t s (is_unfit t s x))
       (found_link NotConstant (WhereLoop t s (isnt_constant constants)) (expand.limit s x t) (expand.limit_chain s x t) (settled_where t s (isnt_constant constants))
       (found_link Limit (WhereArrayLimit t s x) (expand.near s x t) (expand.near_chain s x t) settled_array
-      (found_link AlreadyPrivate (WhereLoop t s (is_scalar_private_near t s x)) no_rules (chain_end 17) (settled_where t s (is_scalar_private_near t s x)) found_end))))))))
+      (found_last AlreadyPrivate (WhereLoop t s (is_scalar_private_near t s x)) (settled_where t s (is_scalar_private_near t s x))))))))))

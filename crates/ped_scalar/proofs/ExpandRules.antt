@@ -5,7 +5,6 @@ use Rattle.ped_tree.specs.Tree.{Head, StmtTrees, ProgramTree}
 use Rattle.ped_rules.specs.ped_loop_runs.specs.ped_tidy.specs.ped_pasting.specs.ped_bodies.specs.ped_steps.specs.ped_symbols.specs.Kinds.{table_of}
 use Rattle.ped_rules.specs.ped_loop_runs.specs.ped_tidy.specs.ped_pasting.specs.ped_bodies.specs.ped_steps.specs.ped_symbols.specs.NameRefusals.{IsValid}
 use Rattle.ped_rules.specs.ped_loop_runs.specs.ped_tidy.specs.ped_pasting.specs.ped_bodies.specs.ped_steps.specs.ped_flow.specs.Questions.{IsLoop, LoopOf, IsExposed, IsLiveAfter}
-use Rattle.ped_rules.specs.ped_loop_runs.specs.ped_tidy.specs.ped_pasting.specs.ped_bodies.specs.ped_steps.specs.ped_flow.proofs.Answering.{same_head, same_body}
 use Rattle.ped_rules.specs.ped_loop_runs.specs.ped_tidy.specs.ped_pasting.specs.ped_bodies.specs.ped_steps.specs.declared.rules.Rule.{Rule}
 use Rattle.ped_rules.specs.ped_loop_runs.specs.ped_tidy.specs.ped_pasting.specs.ped_bodies.specs.ped_steps.specs.declared.rules.Rule.TheVariants.{NoLoop, ParallelState, Range, ExposedOrLive, NotScalar, NotConstant, Limit, AlreadyPrivate}
 use Rattle.ped_rules.specs.ped_loop_runs.specs.ped_tidy.specs.ped_pasting.specs.ped_bodies.specs.ped_steps.specs.declared.causes.Refused.{Refused}
@@ -27,7 +26,7 @@ use Rattle.ped_rules.proofs.RightSteps.{near_spans}
 use Rattle.ped_scalar.specs.Scalars.{is_scalar, is_unfit}
 use Rattle.ped_scalar.specs.Expanding.{array_name, expanded, expand_kept, is_private_near, IsLostBy, IsScalarLostBy, IsExpanded, MakesExpanded, of_span, has_far_value, WhereLost, WhereArrayLimit, is_scalar_private_near, StandsAgainstExpanding, expanding}
 use Rattle.ped_scalar.proofs.FlowAnswers.{fit_scalar}
-use Rattle.ped_scalar.proofs.PrivatiseRules.{fails_there, live_one}
+use Rattle.ped_scalar.proofs.PrivatiseRules.{one_loop, fails_there, live_one}
 
 one_span : (v w : Span) → Some v ≡ Some w → v ≡ w
 one_span v w e = cc
@@ -68,10 +67,9 @@ module _ (s : ℕ) (x : List ℕ) where
   -- the step makes one program, and keeps the same statements
   pub one_made : (t new other : ProgramTree) (keep more : List (ℕ × ℕ)) → MakesExpanded s x t new keep → MakesExpanded s x t other more → (new ≡ other) × (keep ≡ more)
   one_made t new other keep more (l, e, kept) (m, f, kept_too) =
-      let head = same_head t s l.head m.head l.body m.body l.is m.is in
-      let body = same_body t s l.head m.head l.body m.body l.is m.is in
+      let same = one_loop t s l m in
       let live = same_live t l.head m.head new other e f in
-      (one_new t l.head m.head head new other e f, kept ∙ (λ i. expand_kept t s (body i) (live i)) ∙ sym kept_too)
+      (one_new t l.head m.head same.0 new other e f, kept ∙ (λ i. expand_kept t s (same.1 i) (live i)) ∙ sym kept_too)
 
   module _ (t : ProgramTree) where
     abbrev constants : Values
@@ -140,13 +138,13 @@ module _ (s : ℕ) (x : List ℕ) where
     -- no limit is passed where the new program is valid
     pub no_limit : (l : LoopOf t s) (new : ProgramTree) → IsExpanded t s x l.head new → IsValid new → (n : ℕ) → WhereArrayLimit t s x n → ⊥
     no_limit l new made valid n (m, inl none, at) = no_name_is made.array (sym made.fresh ∙ none)
-    no_limit l new made valid n (m, inr (other, again, invalid), at) = invalid (subst IsValid (one_new t l.head m.head (same_head t s l.head m.head l.body m.body l.is m.is) new other made again) valid)
+    no_limit l new made valid n (m, inr (other, again, invalid), at) = invalid (subst IsValid (one_new t l.head m.head (one_loop t s l m).0 new other made again) valid)
 
     -- nor where the name is there and a bound isn't constant
     pub no_limit_unknown : (l : LoopOf t s) → (array_name t ≡ None → ⊥) → span_of constants l.head ≡ None → (n : ℕ) → WhereArrayLimit t s x n → ⊥
     no_limit_unknown l named unknown n (m, inl none, at) = named none
     no_limit_unknown l named unknown n (m, inr (new, made, invalid), at) =
-        no_span_is made.span (sym made.spans ∙ ap (λ (d : Head). span_of constants d) (same_head t s m.head l.head m.body l.body m.is l.is) ∙ unknown)
+        no_span_is made.span (sym made.spans ∙ ap (λ (d : Head). span_of constants d) (one_loop t s m l).0 ∙ unknown)
 
     -- the statement is no DO
     pub no_loop_first : ((h : Head) (body : StmtTrees) → IsLoop t s h body → ⊥) → IsFirstRule stands NoLoop s

@@ -2,7 +2,7 @@
 use Rattle.std.proofs.Common.{◌≡◌, ℕ, ◌+◌, ℤ, List, [], ◌∷◌, Bool, true, false, Option, Some, None, if◌then◌else◌, refl, sym, ap, subst, ◌∙◌, inl, inr, arith}
 use Rattle.std.specs.Prelude.{codes, IsTrue, not, ◌&&◌, ◌||◌, ◌↔◌, nat_lt, unsigned_abs}
 use Rattle.std.specs.List.{list_any}
-use Rattle.std.proofs.lemmas.Bool.{not-false, or_parts}
+use Rattle.std.proofs.lemmas.Bool.{false≢true, not-false, or_parts}
 use Rattle.std.proofs.lemmas.Bool.Decides.{nat_tests}
 use Rattle.ped_base.specs.Lists.{is_same_text, is_among}
 use Rattle.ped_tree.specs.Tree.{Do, more_stmts, ProgramTree}
@@ -19,7 +19,6 @@ use Rattle.ped_rules.specs.ped_loop_runs.specs.ped_tidy.specs.ped_pasting.specs.
 use Rattle.ped_rules.specs.ped_loop_runs.specs.ped_tidy.specs.ped_pasting.specs.ped_bodies.specs.ped_steps.specs.ped_flow.specs.Summaries.{sum_of_all, sum_behind_all}
 use Rattle.ped_rules.specs.ped_loop_runs.specs.ped_tidy.specs.ped_pasting.specs.ped_bodies.specs.ped_steps.specs.ped_flow.proofs.Answering.{assigned_by, through_loop, read_behind}
 use Rattle.ped_rules.specs.ped_loop_runs.specs.ped_tidy.specs.ped_pasting.specs.ped_bodies.specs.ped_steps.specs.ped_flow.proofs.TreeSums.{all_summed, all_behind-summed}
-use Rattle.ped_rules.specs.ped_loop_runs.specs.ped_tidy.specs.ped_pasting.specs.ped_bodies.specs.ped_steps.specs.ped_flow.proofs.Truths.{untrue}
 use Rattle.ped_rules.specs.ped_loop_runs.specs.ped_tidy.specs.ped_pasting.specs.ped_bodies.specs.ped_steps.specs.ped_laws.proofs.FlowRunLaws.Names.{sorted_among, inner_among}
 use Rattle.ped_rules.specs.ped_loop_runs.specs.ped_tidy.specs.ped_pasting.specs.ped_bodies.specs.ped_steps.specs.Causes.{NoRule}
 use Rattle.ped_rules.specs.ped_loop_runs.specs.ped_tidy.specs.ped_pasting.specs.ped_bodies.specs.ped_steps.specs.Tidy.{is_written_in, IsTidy}
@@ -122,7 +121,7 @@ module _ (t : ProgramTree) (s : ℕ) (x : List ℕ) (l : LoopOf t s) (valid : Is
 
       go : (b : Bool) → assigned ≡ b → IsAssignedThrough t s x
       go true e = says.0 e
-      go false e = let by = live_by live in absurd (rules.is_kept s x t stands_none by.0 (scalar, inr (unexposed, by.1, λ all. untrue (sym e ∙ says.1 all))))
+      go false e = let by = live_by live in absurd (rules.is_kept s x t stands_none by.0 (scalar, inr (unexposed, by.1, λ all. false≢true (sym e ∙ says.1 all))))
 
   module _ (tidy : IsTidy t) (new : ProgramTree) (e : IsExpanded t s x l.head new) where
     pub fresh : is_among e.array (names_of t) ≡ false
@@ -146,7 +145,7 @@ module _ (t : ProgramTree) (s : ℕ) (x : List ℕ) (l : LoopOf t s) (valid : Is
         shared_round = λ n m round. round_it.private_round t s l.head l.body l.is n m round x privates.1;
         no_index = no_index_name tidy;
         unexposed = unexposed;
-        dead = λ dead live. untrue (sym dead ∙ e.says.1 live);
+        dead = λ dead live. false≢true (sym dead ∙ e.says.1 live);
         through = λ live. through (e.says.0 live);
         new = fresh;
         first = first;

@@ -25,10 +25,14 @@ use Rattle.ped_scalar.specs.Scalars.{is_scalar, is_unfit, IsLiveBy}
 use Rattle.ped_scalar.specs.Privatising.{privatised, IsExposedOrLiveBy, IsScalarExposedOrLiveBy, is_in_parallel, WhereExposedOrLive, isnt_listed, MakesPrivatised, WhereUnlistedLimit, is_scalar_listed, StandsAgainstPrivatising, privatising}
 use Rattle.ped_scalar.proofs.FlowAnswers.{fit_scalar}
 
+-- a statement is one DO
+pub one_loop : (t : ProgramTree) (s : ℕ) (l m : LoopOf t s) → (l.head ≡ m.head) × (l.body ≡ m.body)
+one_loop t s l m = (same_head t s l.head m.head l.body m.body l.is m.is, same_body t s l.head m.head l.body m.body l.is m.is)
+
 -- a test of a DO that fails there
 pub fails_there : (t : ProgramTree) (s : ℕ) (h : Head) (body : StmtTrees) → IsLoop t s h body → (test : Head → StmtTrees → Bool) → test h body ≡ false → (n : ℕ) → WhereLoop t s test n → ⊥
 fails_there t s h body is test fails n p =
-    both_ways (test p.0.head p.0.body) ((λ i. test (sym (same_head t s h p.0.head body p.0.body is p.0.is) i) (sym (same_body t s h p.0.head body p.0.body is p.0.is) i)) ∙ fails) p.1
+    let same = one_loop t s p.0 (record { head = h; body = body; is = is }) in both_ways (test p.0.head p.0.body) ((λ i. test (same.0 i) (same.1 i)) ∙ fails) p.1
 
 -- a scalar is live by one statement
 pub live_one : (t : ProgramTree) (s : ℕ) (x : List ℕ) (m n : ℕ) → IsLiveBy t s x m → IsLiveBy t s x n → m ≡ n

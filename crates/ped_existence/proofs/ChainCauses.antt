@@ -75,7 +75,7 @@ module _ (t : ProgramTree) (s : ℕ) where
       by : LoopOf t s ⊎ (LoopOf t s → ⊥) → Settled P → Settled (λ n. LoopOf t s × P n)
       by (inl l) (Some n, p) = (Some n, (l, p))
       by (inl l) (None, none) = (None, λ n h. none n h.1)
-      by (inr no) found = (None, λ n h. no h.0)
+      by (inr none) found = (None, λ n h. none h.0)
 
   -- a test of the DO
   pub settled_where : (test : Head → StmtTrees → Bool) → Settled (WhereLoop t s test)

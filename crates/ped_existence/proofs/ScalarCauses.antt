@@ -62,7 +62,7 @@ module _ (t : ProgramTree) (s : ℕ) (x : List ℕ) where
     where
       by : LoopOf t s ⊎ (LoopOf t s → ⊥) → Settled (WhereArrayLimit t s x)
       by (inl l) = settled_named l (array_name t) refl (span_of constants l.head) refl
-      by (inr no) = (None, λ n h. no h.0)
+      by (inr none) = (None, λ n h. none h.0)
 
   pub expanding_cause : (c : Option Cause) × IsFirstCause t (StandsAgainstExpanding s x t) none_forbids c
   expanding_cause = some_cause t (StandsAgainstExpanding s x t) none_forbids

@@ -1,10 +1,11 @@
 -- Each step whose rules are a chain of the shared ones, and that dependences forbid by a test, has a first cause or none.
-use Rattle.std.proofs.Common.{◌≡◌, ◌⊎◌, ℕ, refl, sym, ap, ◌∙◌, inl, inr, Bool, true, false, List, [], ◌∷◌, ◌++◌, All, Option, Some, None, MatchOption, subst}
+use Rattle.std.proofs.Common.{◌≡◌, ◌⊎◌, ℕ, refl, sym, ap, ◌∙◌, inl, inr, Bool, true, false, List, [], ◌∷◌, All, Option, Some, None, MatchOption, subst}
 use Rattle.std.proofs.lemmas.List.Elements.{All-nil, All-cons}
 use Rattle.ped_answer.specs.ped_session.specs.ped_tree.specs.Tree.{Head, StmtTrees, Do, ProgramTree}
 use Rattle.ped_answer.specs.ped_session.specs.ped_symbols.specs.NameRefusals.{IsValid}
 use Rattle.ped_answer.specs.ped_session.specs.ped_order.specs.ped_flow.specs.Questions.{LoopOf}
 use Rattle.ped_answer.specs.ped_session.specs.ped_tree.specs.NamesIn.{loop_variables}
+use Rattle.ped_answer.specs.ped_session.specs.ped_order.specs.ped_flow.proofs.Answering.{same_head, same_body}
 use Rattle.ped_answer.specs.ped_session.specs.ped_order.specs.ped_flow.specs.Answers.{IsEscape}
 use Rattle.ped_answer.specs.ped_session.specs.ped_order.specs.ped_flow.specs.Escapes.{escapes_of, escaping}
 use Rattle.ped_answer.specs.ped_session.specs.ped_order.specs.ped_flow.proofs.Escaping.{escape_is}
@@ -18,8 +19,8 @@ use Rattle.ped_answer.specs.ped_session.specs.ped_transformations.specs.ped_loop
 use Rattle.ped_answer.specs.ped_session.specs.ped_transformations.specs.ped_loops.specs.ped_scalar.specs.ped_rules.specs.ped_loop_runs.specs.ped_tidy.specs.ped_pasting.specs.ped_bodies.specs.ped_steps.specs.Causes.{Rules, NoRule, IsFirstRule, Cause, rule, dependence, IsFirstForbidding, IsFirstCause}
 use Rattle.ped_answer.specs.ped_session.specs.ped_transformations.specs.ped_loops.specs.ped_scalar.specs.ped_rules.specs.Chains.{no_rules, also, WhereLoop}
 use Rattle.ped_answer.specs.ped_session.specs.ped_transformations.specs.ped_loops.specs.ped_scalar.specs.ped_rules.specs.Rules.{WhereNoLoop, WhereEscape, WhereLimit}
-use Rattle.ped_answer.specs.ped_session.specs.ped_transformations.specs.ped_loops.specs.ped_scalar.specs.ped_rules.proofs.Chains.{IsChain, first_here, first_later, none_later, none_at_end}
-use Rattle.ped_answer.specs.ped_session.specs.ped_transformations.specs.ped_loops.specs.ped_scalar.specs.ped_rules.proofs.Decided.{loop_decided, valid_decided, limit_stands, limit_not}
+use Rattle.ped_answer.specs.ped_session.specs.ped_transformations.specs.ped_loops.specs.ped_scalar.specs.ped_rules.proofs.Chains.{IsChain, chain_end, first_here, first_later, none_later, none_at_end}
+use Rattle.ped_answer.specs.ped_session.specs.ped_transformations.specs.ped_loops.specs.ped_scalar.specs.ped_rules.proofs.Decided.{loop_decided, valid_decided, limit_stands}
 use Rattle.ped_answer.specs.ped_session.specs.ped_transformations.specs.ped_loops.specs.ped_scalar.specs.ped_rules.proofs.EscapeRule.{by_statement, by_saved, by_nothing}
 use Rattle.ped_existence.proofs.Edges.{edges_of_program}
 
@@ -31,7 +32,7 @@ Settled P = (o : Option ℕ) × MatchOption o ((n : ℕ) → P n → ⊥) P
 abbrev pub Found : Rules → Type 0
 Found stands = ((r : Rule) × (n : ℕ) × IsFirstRule stands r n) ⊎ NoRule stands
 
-pub found_end : Found no_rules
+found_end : Found no_rules
 found_end = inr none_at_end
 
 pub found_link : (r : Rule) (P : ℕ → Type 0) (others : Rules) → IsChain (number_of r) others → Settled P → Found others → Found (also r P others)
@@ -39,12 +40,22 @@ found_link r P others chain (Some n, p) rest = inl (r, n, first_here r P others 
 found_link r P others chain (None, none) (inl (q, n, first)) = inl (q, n, first_later r P others none q n first)
 found_link r P others chain (None, none) (inr rest) = inr (none_later r P others none rest)
 
+-- the last rule of a chain
+pub found_last : (r : Rule) (P : ℕ → Type 0) → Settled P → Found (also r P no_rules)
+found_last r P settled = found_link r P no_rules (chain_end (number_of r)) settled found_end
+
 truth : (b : Bool) → (b ≡ true) ⊎ (b ≡ false)
 truth true = inl refl
 truth false = inr refl
 
 not_both : (b : Bool) → b ≡ true → b ≡ false → ⊥
 not_both b p q = let f : true ≡ false = sym p ∙ q in absurd cc
+
+-- where both name the same statement
+pub settled_both : (P Q : ℕ → Type 0) → ((m n : ℕ) → P m → Q n → m ≡ n) → Settled P → Settled Q → Settled (λ n. P n × Q n)
+settled_both P Q same (None, none) q = (None, λ n h. none n h.0)
+settled_both P Q same (Some m, p) (None, none) = (None, λ n h. none n h.1)
+settled_both P Q same (Some m, p) (Some n, q) = (Some n, (subst P (same m n p q) p, q))
 
 module _ (t : ProgramTree) (s : ℕ) where
   pub settled_no_loop : Settled (WhereNoLoop t s)
@@ -54,13 +65,25 @@ module _ (t : ProgramTree) (s : ℕ) where
       by (inl l) = (None, λ n p. p.0 l)
       by (inr n) = (Some s, (n, refl))
 
-  -- a test of the DO, which is one
-  pub settled_where : ((l m : LoopOf t s) → (l.head ≡ m.head) × (l.body ≡ m.body)) → (test : Head → StmtTrees → Bool) → Settled (WhereLoop t s test)
-  settled_where one test = by (loop_decided t s)
+  one_loop : (l m : LoopOf t s) → (l.head ≡ m.head) × (l.body ≡ m.body)
+  one_loop l m = (same_head t s l.head m.head l.body m.body l.is m.is, same_body t s l.head m.head l.body m.body l.is m.is)
+
+  -- what is asked of a statement that is a DO
+  pub settled_there : (P : ℕ → Type 0) → Settled P → Settled (λ n. LoopOf t s × P n)
+  settled_there P found = by (loop_decided t s) found
+    where
+      by : LoopOf t s ⊎ (LoopOf t s → ⊥) → Settled P → Settled (λ n. LoopOf t s × P n)
+      by (inl l) (Some n, p) = (Some n, (l, p))
+      by (inl l) (None, none) = (None, λ n h. none n h.1)
+      by (inr none) found = (None, λ n h. none h.0)
+
+  -- a test of the DO
+  pub settled_where : (test : Head → StmtTrees → Bool) → Settled (WhereLoop t s test)
+  settled_where test = by (loop_decided t s)
     where
       on : (l : LoopOf t s) → (test l.head l.body ≡ true) ⊎ (test l.head l.body ≡ false) → Settled (WhereLoop t s test)
       on l (inl e) = (Some s, (l, e, refl))
-      on l (inr e) = (None, λ n p. not_both (test p.0.head p.0.body) p.1 (let same = one p.0 l in (λ i. test (same.0 i) (same.1 i)) ∙ e))
+      on l (inr e) = (None, λ n p. not_both (test p.0.head p.0.body) p.1 (let same = one_loop p.0 l in (λ i. test (same.0 i) (same.1 i)) ∙ e))
 
       by : LoopOf t s ⊎ (LoopOf t s → ⊥) → Settled (WhereLoop t s test)
       by (inl l) = on l (truth (test l.head l.body))

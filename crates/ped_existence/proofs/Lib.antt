@@ -12,6 +12,7 @@ mod Meeting
 mod Reaching
 mod Refusing
 mod Replying
+mod ScalarCauses
 mod Solutions
 mod Spanning
 mod Sums

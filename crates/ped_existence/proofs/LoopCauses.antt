@@ -1,9 +1,8 @@
 -- Each step that keeps one loop one loop has a first cause against it in a program, or none.
-use Rattle.std.proofs.Common.{◌≡◌, ◌⊎◌, ℕ, inl, inr, sym, ◌∙◌, Bool, true, false, ◌&&◌, List, All, Option, Some, None, refl, arith}
+use Rattle.std.proofs.Common.{◌≡◌, ◌⊎◌, ℕ, inl, inr, sym, ◌∙◌, Bool, true, false, ◌&&◌, List, Option, Some, None, refl, arith}
 use Rattle.std.specs.List.{list_any}
 use Rattle.ped_answer.specs.ped_session.specs.ped_tree.specs.Tree.{Head, StmtTrees, ProgramTree}
 use Rattle.ped_answer.specs.ped_session.specs.ped_order.specs.ped_flow.specs.Questions.{LoopOf}
-use Rattle.ped_answer.specs.ped_session.specs.ped_order.specs.ped_flow.proofs.Answering.{same_head, same_body}
 use Rattle.ped_answer.specs.ped_session.specs.ped_symbols.specs.Kinds.{table_of}
 use Rattle.ped_answer.specs.ped_session.specs.ped_graph.specs.ped_edges.specs.Edges.{Edge}
 use Rattle.ped_answer.specs.ped_session.specs.ped_graph.specs.Dependences.{AreEdges}
@@ -17,18 +16,15 @@ use Rattle.ped_answer.specs.ped_session.specs.ped_transformations.specs.ped_loop
 use Rattle.ped_answer.specs.ped_session.specs.ped_transformations.specs.ped_loops.specs.ped_scalar.specs.ped_rules.proofs.OneEach.{loop_one, escape_one, limit_one}
 use Rattle.ped_answer.specs.ped_session.specs.ped_transformations.specs.ped_loops.specs.ped_scalar.specs.ped_rules.proofs.Decided.{loop_decided}
 use Rattle.ped_answer.specs.ped_session.specs.ped_transformations.specs.ped_loops.specs.Flags.{flagged}
-use Rattle.ped_answer.specs.ped_session.specs.ped_transformations.specs.ped_loops.specs.Paralleling.{MakesParallel, StandsAgainstParallel}
-use Rattle.ped_answer.specs.ped_session.specs.ped_transformations.specs.ped_loops.specs.Serialising.{MakesSerial, StandsAgainstSerial}
+use Rattle.ped_answer.specs.ped_session.specs.ped_transformations.specs.ped_loops.specs.Paralleling.{StandsAgainstParallel}
+use Rattle.ped_answer.specs.ped_session.specs.ped_transformations.specs.ped_loops.specs.Serialising.{StandsAgainstSerial}
 use Rattle.ped_answer.specs.ped_session.specs.ped_transformations.specs.ped_loops.specs.Reversing.{reversed, MakesReversed, StandsAgainstReversal}
 use Rattle.ped_answer.specs.ped_session.specs.ped_transformations.specs.ped_loops.specs.Rejecting.{is_pending_of, NothingPending, WhereNothing, StandsAgainstRejection}
 use Rattle.ped_answer.specs.ped_session.specs.ped_transformations.specs.ped_loops.proofs.RejectRules.{nothing_pending, some_pending}
 use Rattle.ped_existence.proofs.Edges.{edges_of_program}
-use Rattle.ped_existence.proofs.ChainCauses.{Settled, Found, found_end, found_link, settled_no_loop, settled_where, settled_escape, settled_limit, some_cause}
+use Rattle.ped_existence.proofs.ChainCauses.{Settled, Found, found_link, found_last, settled_no_loop, settled_where, settled_escape, settled_limit, some_cause}
 
 module _ (t : ProgramTree) (s : ℕ) where
-  one_loop : (l m : LoopOf t s) → (l.head ≡ m.head) × (l.body ≡ m.body)
-  one_loop l m = (same_head t s l.head m.head l.body m.body l.is m.is, same_body t s l.head m.head l.body m.body l.is m.is)
-
   -- the rules of a step that asks about the DO, about escapes and whether the new program is valid
   module _ (test : Head → StmtTrees → Bool) (flag : Bool) where
     abbrev Makes : ProgramTree → ProgramTree → List (ℕ × ℕ) → Type 0
@@ -55,9 +51,9 @@ module _ (t : ProgramTree) (s : ℕ) where
     flag_found : Found (also NoLoop (WhereNoLoop t s) state)
     flag_found =
         found_link NoLoop (WhereNoLoop t s) state state_chain (settled_no_loop t s)
-        (found_link ParallelState (WhereLoop t s test) escape escape_chain (settled_where t s one_loop test)
+        (found_link ParallelState (WhereLoop t s test) escape escape_chain (settled_where t s test)
         (found_link IndexEscapes (WhereEscape t s) limit limit_chain (settled_escape t s)
-        (found_link Limit (WhereLimit Makes t s) no_rules (chain_end 15) (settled_limit t s Makes (λ new other keep more p q. (p.0 ∙ sym q.0, p.1 ∙ sym q.1)) (λ l. (flagged t s flag, all_kept t, (refl, refl)))) found_end)))
+        (found_last Limit (WhereLimit Makes t s) (settled_limit t s Makes (λ new other keep more p q. (p.0 ∙ sym q.0, p.1 ∙ sym q.1)) (λ l. (flagged t s flag, all_kept t, (refl, refl)))))))
 
   pub parallel_cause : (c : Option Cause) × IsFirstCause t (StandsAgainstParallel s t) (carried t s) c
   parallel_cause = some_cause t (StandsAgainstParallel s t) (carried t s) (flag_found is_parallel true)
@@ -96,10 +92,10 @@ module _ (t : ProgramTree) (s : ℕ) where
   pub reversal_cause : (c : Option Cause) × IsFirstCause t (StandsAgainstReversal s t) (carried t s) c
   reversal_cause = some_cause t (StandsAgainstReversal s t) (carried t s)
       (found_link NoLoop (WhereNoLoop t s) reverse_state reverse_state_chain (settled_no_loop t s)
-      (found_link ParallelState (WhereLoop t s is_parallel) reverse_escape reverse_escape_chain (settled_where t s one_loop is_parallel)
+      (found_link ParallelState (WhereLoop t s is_parallel) reverse_escape reverse_escape_chain (settled_where t s is_parallel)
       (found_link IndexEscapes (WhereEscape t s) reverse_shape reverse_shape_chain (settled_escape t s)
-      (found_link StepShape (WhereLoop t s other_step) reverse_limit reverse_limit_chain (settled_where t s one_loop other_step)
-      (found_link Limit (WhereLimit (MakesReversed s) t s) no_rules (chain_end 15) (settled_limit t s (MakesReversed s) (λ new other keep more p q. (p.0 ∙ sym q.0, p.1 ∙ sym q.1)) (λ l. (reversed t s, all_kept t, (refl, refl)))) found_end)))))
+      (found_link StepShape (WhereLoop t s other_step) reverse_limit reverse_limit_chain (settled_where t s other_step)
+      (found_last Limit (WhereLimit (MakesReversed s) t s) (settled_limit t s (MakesReversed s) (λ new other keep more p q. (p.0 ∙ sym q.0, p.1 ∙ sym q.1)) (λ l. (reversed t s, all_kept t, (refl, refl)))))))))
 
   -- the rules of `reject`
   module _ (x : List ℕ) where
@@ -124,4 +120,4 @@ module _ (t : ProgramTree) (s : ℕ) where
     pub rejection_cause : (c : Option Cause) × IsFirstCause t (StandsAgainstRejection s x t) none_forbids c
     rejection_cause = some_cause t (StandsAgainstRejection s x t) none_forbids
         (found_link NoLoop (WhereNoLoop t s) nothing nothing_chain (settled_no_loop t s)
-        (found_link NothingToReject (WhereNothing t s x) no_rules (chain_end 18) (settled_nothing pending_decided (loop_decided t s)) found_end))
+        (found_last NothingToReject (WhereNothing t s x) (settled_nothing pending_decided (loop_decided t s))))

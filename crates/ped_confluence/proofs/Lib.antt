@@ -6,5 +6,6 @@ mod Tracing
 mod Halting
 mod Reaching
 mod Outcomes
-mod InOrder
+pub mod InOrder
+pub mod OneOutcome
 mod Examples

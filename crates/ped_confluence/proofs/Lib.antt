@@ -6,6 +6,6 @@ mod Tracing
 mod Halting
 mod Reaching
 mod Outcomes
-pub mod InOrder
+mod InOrder
 pub mod OneOutcome
 mod Examples

@@ -7,10 +7,9 @@ use Rattle.ped_valid.specs.Validity.{ReadsValid}
 use Rattle.ped_valid.proofs.OneVerdict.{valid_prints}
 use Rattle.ped_order.specs.ped_eval.specs.Outcomes.{Outcome, outcome, IsRaceFree}
 use Rattle.ped_order.specs.ped_interleavings.specs.Interleavings.{IsInterleaved}
-use Rattle.ped_order.specs.ped_confluence.proofs.InOrder.{in_order}
 use Rattle.ped_transformations.specs.ped_loops.specs.ped_scalar.specs.ped_rules.specs.ped_loop_runs.specs.ped_tidy.specs.Unrejected.{IsTrusted}
 use Rattle.ped_transformations.specs.ped_loops.specs.ped_scalar.specs.ped_rules.specs.Lawful.{IsFaithful, Owes, IsLawful}
-use Rattle.ped_transformations.specs.ped_loops.specs.ped_scalar.specs.ped_rules.specs.ped_loop_runs.specs.ped_tidy.specs.ped_pasting.specs.ped_bodies.specs.ped_steps.proofs.RunLaws.KeptMeanings.{keeps_itself, keeps_further}
+use Rattle.ped_transformations.specs.ped_loops.specs.ped_scalar.specs.ped_rules.specs.ped_loop_runs.specs.ped_tidy.specs.ped_pasting.specs.ped_bodies.specs.ped_steps.specs.Runs.Meaning.{Keeps}
 use Rattle.ped_session.specs.ped_transformations.specs.ped_script.specs.declared.items.Command.{Command}
 use Rattle.ped_session.specs.ped_transformations.specs.ped_script.specs.declared.items.Command.TheVariants.{Run}
 use Rattle.ped_session.specs.ped_transformations.specs.ped_script.specs.declared.items.Item.{Item}
@@ -40,6 +39,17 @@ pub kept_by : (kind : StepKind) (source : List ℕ) (t u : ProgramTree) → Read
 kept_by transformation source t u reads valid owes = same_meaning source t u reads valid owes
 kept_by rejection source t u reads valid owes = tt
 
+-- a program keeps its own meaning, and one that keeps the meaning of another keeps what that one keeps
+keeps_itself : (t : ProgramTree) → Keeps t t
+keeps_itself t = record { saved = refl; same = λ data_bytes free. refl; race_free = λ data_bytes free. free }
+
+keeps_further : (t u v : ProgramTree) → Keeps t u → Keeps u v → Keeps t v
+keeps_further t u v h k = record {
+  saved = k.saved ∙ h.saved;
+  same = λ data_bytes free. k.same data_bytes (h.race_free data_bytes free) ∙ h.same data_bytes free;
+  race_free = λ data_bytes free. k.race_free data_bytes (h.race_free data_bytes free);
+}
+
 the_same : (source earlier : List ℕ) (t u : ProgramTree) → earlier ≡ source → ReadsValid earlier t → ReadsValid source u → IsTrusted t → IsFaithful t u
 the_same source earlier t u is from to trusted =
     subst (IsFaithful t) (one_tree source t u (subst (λ (b : List ℕ). ReadsValid b t) is from) to) (record { trusted = trusted; keeps = keeps_itself t })
@@ -64,10 +74,6 @@ pub as_before : Agree → (s : State) (d choices : List ℕ) (u : ProgramTree) (
 as_before agree s d choices u o kept reads is = λ earlier t comes from trusted free.
     let keeps = (came s.present s.past earlier t u kept.past comes from reads trusted).keeps in
     agree u d choices o reads.valid (keeps.race_free d free) is ∙ keeps.same d free
-
--- without choices a program has the outcome of its run in order
-pub in_order_is : (t : ProgramTree) (d choices : List ℕ) → choices ≡ [] → IsInterleaved t d choices (outcome t d)
-in_order_is t d choices none = subst (λ (cs : List ℕ). IsInterleaved t d cs (outcome t d)) (sym none) (in_order t d)
 
 -- a state that is as it was
 same : (s next : State) → IsMeaningKept s → next ≡ s → IsMeaningKept next

@@ -9,6 +9,7 @@ use crate::ped_base::NoMemory;
 use crate::versions::Version;
 use ped_machine::Machine;
 use ped_order::ped_eval::{Outcome, run_in_order};
+use ped_order::{an_interleaving, without_choices};
 use std::alloc::Global;
 
 /// Runs a program on these data. The choices pick which iteration of an open PARALLEL DO does the next step, and behind
@@ -22,6 +23,8 @@ pub(crate) fn run_version(
     requires { IsVersion version.now }
     ensures { IfOk result (λ o. IsInterleaved (tree_of version.now) input.now choices.now (outcome_view o)) }
 {
+    an_interleaving();
+    without_choices();
     if choices.is_empty() {
         return run_in_order(alloc, &version.program, &version.symbols, input);
     }

@@ -35,15 +35,17 @@ module _ (t : ProgramTree) where
   none_follows : (n : ℕ) (st y : Standing) → next st ≡ None → after (suc n) st ≡ Some y → ⊥
   none_follows n st y e h = no_more y (sym (by_next n st None e) ∙ h)
 
+  -- two that go on do the same step
+  both_go_on : (n m : ℕ) (st x y : Standing) (z : Option Standing) → next st ≡ z → after (suc n) st ≡ Some x → after (suc m) st ≡ Some y
+      → ((new : Standing) → after n new ≡ Some x → after m new ≡ Some y → x ≡ y) → x ≡ y
+  both_go_on n m st x y None e h k more = absurd (none_follows n st x e h)
+  both_go_on n m st x y (Some new) e h k more = more new (sym (by_next n st (Some new) e) ∙ h) (sym (by_next m st (Some new) e) ∙ k)
+
   one_last : (n m : ℕ) (st x y : Standing) → next x ≡ None → next y ≡ None → after n st ≡ Some x → after m st ≡ Some y → x ≡ y
   one_last zero zero st x y a b h k = some_is x y (sym h ∙ k)
   one_last zero (suc m) st x y a b h k = absurd (none_follows m st y (ap next (some_is st x h) ∙ a) k)
   one_last (suc n) zero st x y a b h k = absurd (none_follows n st x (ap next (some_is st y k) ∙ b) h)
-  one_last (suc n) (suc m) st x y a b h k = go (next st) refl
-    where
-      go : (z : Option Standing) → next st ≡ z → x ≡ y
-      go None e = absurd (none_follows n st x e h)
-      go (Some new) e = one_last n m new x y a b (sym (by_next n st (Some new) e) ∙ h) (sym (by_next m st (Some new) e) ∙ k)
+  one_last (suc n) (suc m) st x y a b h k = both_go_on n m st x y (next st) refl h k (λ new p q. one_last n m new x y a b p q)
 
   pub one_outcome : (st : Standing) (o other : Outcome) → IsInterleavedFrom t st o → IsInterleavedFrom t st other → o ≡ other
   one_outcome st o other (x, (n, h), f) (y, (m, k), g) =

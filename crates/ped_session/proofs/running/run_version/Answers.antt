@@ -19,7 +19,7 @@ returns-then-is_empty c =
     let d = c.args.input.now in
     let choices = c.args.choices.now in
     let (o, comes) = c.an_interleaving.ensures t (at_start t d choices) in
-    let in_order = c.without_choices.ensures t d o (subst (λ (cs : List ℕ). IsInterleaved t d cs o) (no_choices choices (sym c.is_empty.ensures)) comes) in
+    let in_order = c.without_choices.ensures t d o (subst (λ (cs : List ℕ). IsInterleaved t d cs o) (no_choices choices (sym c.is_empty.ensures ∙ c.if-is_empty.true)) comes) in
     IfOk-weaker c.run_in_order.result _ _ (λ found is. subst (λ (x : Outcome). IsInterleaved t d choices x) (in_order ∙ sym is) comes) c.run_in_order.ensures
 
 pub returns : goal.returns

@@ -8,4 +8,5 @@ pub mod KeptParts
 pub mod PairViews
 pub mod Pairs
 pub mod Ranges
+pub mod Sides
 pub mod Surroundings

@@ -1,5 +1,5 @@
 -- The view of two references by what is computed once of each of them.
-use Rattle.std.proofs.Common.{◌≡◌, ℕ, ◌+◌, ◌-◌, ℤ, List, [], ◌∷◌, ◌++◌, length, map, take, drop, Bool, true, false, cond, Option, Some, None, refl, sym, ap, ◌∙◌, subst, arith}
+use Rattle.std.proofs.Common.{◌≡◌, ℕ, suc, ◌+◌, ◌-◌, ℤ, List, [], ◌∷◌, ◌++◌, length, map, take, drop, Bool, true, false, cond, Option, Some, None, refl, sym, ap, ◌∙◌, subst, arith}
 use Rattle.std.specs.Prelude.{filter, not, ◌&&◌, if◌then◌else◌}
 use Rattle.std.specs.List.{AllByRecursion}
 use Rattle.std.specs.Ordering.{int_eq}
@@ -16,10 +16,13 @@ use Rattle.ped_affine.specs.declared.forms.Form.{Form}
 use Rattle.ped_affine.specs.declared.positions.Depths.{Depths as CodeDepths}
 use Rattle.ped_affine.specs.AffineForms.{AffineForm, affine_of, form_variables}
 use Rattle.ped_affine.specs.KeptForms.{plain_form}
-use Rattle.ped_affine.specs.Ranges.{Setting}
-use Rattle.ped_affine.specs.PairViews.{Site, Depths, depths_of, is_other, other_variables, terms_of, row_of, other_coefficients, usable_pair, unusable, subscript_pair, position_of, positions_of}
+use Rattle.ped_refs.specs.declared.loops.Loop.{Loop}
+use Rattle.ped_refs.specs.Loops.{nest_of}
+use Rattle.ped_affine.specs.declared.sides.Side.{Side}
+use Rattle.ped_affine.specs.Ranges.{Setting, nest_ranges}
+use Rattle.ped_affine.specs.PairViews.{Site, Depths, depths_of, is_other, other_variables, terms_of, row_of, other_coefficients, usable_pair, unusable, subscript_pair, position_of, positions_of, heads_of, view_at}
 use Rattle.ped_affine.specs.Pairs.{depths_kept}
-use Rattle.ped_affine.specs.Sides.{HasForm, IsForm, AreForms, IsPairOf, IsUsablePair, AreUsablePairs}
+use Rattle.ped_affine.specs.Sides.{HasForm, IsForm, AreForms, IsSide, IsPairOf, IsUsablePair, AreUsablePairs}
 
 -- the derived test on ranges
 pub range_decided : (a b : Range) → Decides (int_eq a.lo b.lo && (int_eq a.hi b.hi && (int_eq a.step b.step && beq a.steady b.steady))) (a ≡ b)
@@ -127,3 +130,26 @@ forms_more s p [] [] e f h k = (k, tt)
 forms_more s p [] (g ∷ fs) e f h k = absurd h
 forms_more s p (d ∷ es) [] e f h k = absurd h
 forms_more s p (d ∷ es) (g ∷ fs) e f h k = (h.0, forms_more s p es fs e f h.1 k)
+
+length-nest : (ls : List Loop) → length (nest_of ls) ≡ length ls
+length-nest [] = refl
+length-nest (l ∷ ls) = ap suc (length-nest ls)
+
+-- the view of two sides
+pub view_told : (w v : Side) (d : CodeDepths) (k : ℕ) (loops source sink : List Range) (ps : List SubscriptPair)
+    → k ≡ length (common_nest (nest_of w.nest.now) (nest_of v.nest.now)) → d.common ≡ k → d.source ≡ length w.nest.now - k → d.sink ≡ length v.nest.now - k
+    → loops ≡ take k w.ranges.items → source ≡ drop k w.ranges.items → sink ≡ drop k v.ranges.items → AreUsablePairs d w.forms.items v.forms.items ps
+    → (s : Setting) (a b : Site) → IsSide s a w → IsSide s b v → record { loops = loops; source_inner = source; sink_inner = sink; positions = ps } ≡ view_at s a b
+view_told w v d k loops source sink ps is at_common at_source at_sink in_loops in_source in_sink told s a b left right =
+    let common : k ≡ length (common_nest a.nest b.nest) = is ∙ (λ i. length (common_nest (left.nest i) (right.nest i))) in
+    let m : length w.nest.now ≡ length a.nest = sym (length-nest w.nest.now) ∙ ap length left.nest in
+    let n : length v.nest.now ≡ length b.nest = sym (length-nest v.nest.now) ∙ ap length right.nest in
+    let first : d.common ≡ length (common_nest a.nest b.nest) = at_common ∙ common in
+    let second : d.source ≡ length a.nest - length (common_nest a.nest b.nest) = at_source ∙ (λ i. m i - common i) in
+    let third : d.sink ≡ length b.nest - length (common_nest a.nest b.nest) = at_sink ∙ (λ i. n i - common i) in
+    let same : depths_kept d ≡ depths_of a b = λ i. record { common = first i; source = second i; sink = third i } in
+    let positions = positions_told s a b d same a.subscripts b.subscripts w.forms.items v.forms.items ps left.forms right.forms told in
+    let loops_is : loops ≡ take (length (common_nest a.nest b.nest)) (nest_ranges s (heads_of a.nest)) = in_loops ∙ (λ i. take (common i) (left.ranges i)) in
+    let source_is : source ≡ drop (length (common_nest a.nest b.nest)) (nest_ranges s (heads_of a.nest)) = in_source ∙ (λ i. drop (common i) (left.ranges i)) in
+    let sink_is : sink ≡ drop (length (common_nest a.nest b.nest)) (nest_ranges s (heads_of b.nest)) = in_sink ∙ (λ i. drop (common i) (right.ranges i)) in
+    λ i. record { loops = loops_is i; source_inner = source_is i; sink_inner = sink_is i; positions = positions i }

@@ -51,6 +51,6 @@ IsUsablePair d None b p = ⊥
 -- position by position, as many as both have
 abbrev pub AreUsablePairs : Depths → List (Option Form) → List (Option Form) → List SubscriptPair → Type 0
 AreUsablePairs d [] bs ps = ps ≡ []
-AreUsablePairs d (a ∷ as) [] ps = ps ≡ []
-AreUsablePairs d (a ∷ as) (b ∷ bs) [] = ⊥
-AreUsablePairs d (a ∷ as) (b ∷ bs) (p ∷ ps) = IsUsablePair d a b p × AreUsablePairs d as bs ps
+AreUsablePairs d (a ∷ rest) [] ps = ps ≡ []
+AreUsablePairs d (a ∷ rest) (b ∷ bs) [] = ⊥
+AreUsablePairs d (a ∷ rest) (b ∷ bs) (p ∷ ps) = IsUsablePair d a b p × AreUsablePairs d rest bs ps

@@ -19,5 +19,5 @@ mod views;
 pub use assigning::{assigned, loop_variables};
 pub use ranges::{interval, range};
 pub use settings::{Place, Setting};
-pub use sides::{Side, side, tells_view};
+pub use sides::{Side, side_at, tells_view};
 pub use views::view;

@@ -1,6 +1,6 @@
 //! What is computed once of a reference for all its pairs, and views that are told by it (Allen and Kennedy, sections 3.1 and 3.2).
 
-ghost use Rattle.std.specs.Prelude.{◌≡◌, ◌≤◌, IsTrue, Some, map, take, drop, length, IfOk};
+ghost use Rattle.std.specs.Prelude.{◌≡◌, ◌≤◌, ◌+◌, IsTrue, map, take, drop, length, IfOk};
 ghost use Rattle.ped_tree.specs.Views.{expr_tree};
 ghost use Rattle.ped_affine.specs.Ranges.{Setting as PlainSetting};
 ghost use Rattle.ped_affine.specs.KeptForms.{plain_form};
@@ -34,7 +34,7 @@ pub struct Side<'a> {
 }
 
 /// The side of the reference at a place. At most six loops stand round it.
-pub fn side<'a>(
+pub fn side_at<'a>(
     alloc: Global,
     setting: &Setting,
     place: &Place<'a>,

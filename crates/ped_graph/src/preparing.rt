@@ -21,7 +21,7 @@ use crate::facts::{Facts, push_facts};
 use crate::firmness::all_firm;
 use crate::guards::guards;
 use crate::rounds::{assigned_by, outermost};
-use ped_affine::{Place, Setting, Side, loop_variables, side, view};
+use ped_affine::{Place, Setting, Side, loop_variables, side_at, view};
 use ped_base::NoMemory;
 use ped_refs::{Occurrence, Pair, listed_pairs};
 use ped_tree::Program;
@@ -195,7 +195,7 @@ fn side_of<'a>(
         loop_variables: known.loop_variables,
         assigned: &round.assigned,
     };
-    side(alloc, &setting, &place_of(occurrence))
+    side_at(alloc, &setting, &place_of(occurrence))
 }
 
 /// No DO, which assigns nothing. It takes no memory.

@@ -134,6 +134,8 @@ fn match_pair<L: Ledger>(
     requires round { IsRound (program_tree changed.now.known.program.now) round.now }
     requires entered { (source : Reference) → slice_get (references_of changed.now.known.found.now) pair.now.source ≡ Some source → round.now.number ≡ outermost source }
     requires next { length parts.old.slots < length parts.old.frame.pairs }
+    ensures frame { parts.new.frame ≡ parts.old.frame }
+    ensures many { OnOk result (length parts.new.slots ≡ length parts.old.slots + 1) }
     ensures parts { OnOk result ((keep : List (ℕ × ℕ)) (f : Framed) (p : Reference × Reference) → IsOneToOne keep → Matching.IsTable keep former.now.statements.now
         → pair_at (references_of changed.now.known.found.now) pair.now ≡ Some p → slice_get parts.old.frame.pairs (length parts.old.slots) ≡ Some f
         → Matching.IsMatched former.now.graph.now keep (pair_by f (view_of (program_tree changed.now.known.program.now) p.0 p.1)) parts.old parts.new) }
@@ -162,6 +164,8 @@ fn match_view<L: Ledger>(
     parts: &mut Parts<L>,
     steps: &mut Steps<L>,
 ) -> Result<(), NoMemory>
+    ensures frame { parts.new.frame ≡ parts.old.frame }
+    ensures many { OnOk result (length parts.new.slots ≡ length parts.old.slots + 1) }
     ensures parts { OnOk result ((keep : List (ℕ × ℕ)) (f : Framed) → IsOneToOne keep → Matching.IsTable keep former.now.statements.now
         → (f.source, f.sink) ≡ key_shown key.now → Matching.IsMatched former.now.graph.now keep (pair_by f view) parts.old parts.new) }
     ensures ticks { OnOk result ((keep : List (ℕ × ℕ)) (f : Framed) → IsOneToOne keep → Matching.IsTable keep former.now.statements.now
@@ -283,6 +287,7 @@ fn former_place(former: &IndexMap<u32, u32>, place: (u32, u32)) -> Option<(u32, 
 /// Adds a pair that keeps the verdict of this pair.
 fn keep_verdict<L: Ledger>(parts: &mut Parts<L>, here: u64) -> Result<(), NoMemory>
     ensures frame { parts.new.frame ≡ parts.old.frame }
+    ensures many { OnOk result (length parts.new.slots ≡ length parts.old.slots + 1) }
     ensures slots { OnOk result (parts.new.slots ≡ parts.old.slots ++ None ∷ []) }
     ensures kept { OnOk result (parts.new.kept ≡ parts.old.kept ++ (record { here = here; there = length parts.old.slots }) ∷ []) }
 {
@@ -300,6 +305,7 @@ fn add_verdict<L: Ledger>(
     steps: &mut Steps<L>,
 ) -> Result<(), NoMemory>
     ensures frame { parts.new.frame ≡ parts.old.frame }
+    ensures many { OnOk result (length parts.new.slots ≡ length parts.old.slots + 1) }
     ensures slots { OnOk result (parts.new.slots ≡ parts.old.slots ++ Some view ∷ []) }
     ensures kept { parts.new.kept ≡ parts.old.kept }
     ensures tick { steps.new ≡ steps.old + 1 }

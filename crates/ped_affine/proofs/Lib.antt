@@ -3,6 +3,5 @@ mod Extremes
 mod FormLaws
 pub mod IntervalEnds
 mod PositionSteps
-mod SideLaws
 pub mod Surrounding
 mod ViewLimits

@@ -8,5 +8,4 @@ pub mod KeptParts
 pub mod PairViews
 pub mod Pairs
 pub mod Ranges
-pub mod Sides
 pub mod Surroundings

@@ -12,12 +12,10 @@ mod others;
 mod positions;
 mod ranges;
 mod settings;
-mod sides;
 mod subscripts;
 mod views;
 
 pub use assigning::{assigned, loop_variables};
 pub use ranges::{interval, range};
 pub use settings::{Place, Setting};
-pub use sides::{Side, side_at, tells_view};
 pub use views::view;

@@ -56,7 +56,7 @@ pub fn view(
 }
 
 /// How many loops at the front of two nests are common: those with one statement number.
-pub(crate) fn common_depth(source: &[Loop], sink: &[Loop]) -> usize
+fn common_depth(source: &[Loop], sink: &[Loop]) -> usize
     ensures common { result ≡ length (common_nest (nest_of source.now) (nest_of sink.now)) }
     ensures source { result ≤ length source.now }
     ensures sink { result ≤ length sink.now }
@@ -89,7 +89,7 @@ fn further_ranges(
 }
 
 /// The ranges from one place on, up to another one.
-pub(crate) fn part(
+fn part(
     alloc: Global,
     ranges: &[LoopRange],
     from: usize,

@@ -1,4 +1,5 @@
 mod Exchanging
+mod FormLengths
 mod HeldEdges
 mod InOrder
 mod Known
@@ -8,7 +9,8 @@ mod OneMore
 pub mod OnePane
 mod Places
 mod Selecting
-mod Sides
+mod SideLaws
+mod KnownSides
 mod Slices
 mod Standing
 mod Updated

@@ -9,8 +9,8 @@ use Rattle.ped_refs.specs.References.{Reference, outermost}
 use Rattle.ped_refs.specs.Occurrences.{reference_of}
 use Rattle.ped_refs.specs.declared.occurring.Occurrence.{Occurrence}
 use Rattle.ped_tree.specs.NamesIn.{all_loop_variables}
-use Rattle.ped_affine.specs.declared.sides.Side.{Side}
-use Rattle.ped_affine.specs.Sides.{IsSide}
+use Rattle.ped_graph.specs.declared.sides.Side.{Side}
+use Rattle.ped_graph.specs.Sides.{IsSide}
 use Rattle.ped_graph.specs.Guards.{guards}
 use Rattle.ped_graph.specs.Marks.{is_firm}
 use Rattle.ped_graph.specs.Dependences.{assigned_by, setting_in, site_of}

@@ -8,7 +8,7 @@ ghost use Rattle.ped_refs.specs.References.{Reference, outermost, references, pa
 ghost use Rattle.ped_refs.specs.Occurrences.{reference_of, references_of, pair_at, IsWithin};
 ghost use Rattle.ped_affine.specs.Arguments.{setting_of, site};
 ghost use Rattle.ped_affine.specs.PairViews.{view_at};
-ghost use Rattle.ped_affine.specs.Sides.{IsSide};
+ghost use Rattle.ped_graph.specs.Sides.{IsSide};
 ghost use Rattle.ped_graph.specs.Guards as Guards;
 ghost use Rattle.ped_graph.specs.Marks.{is_firm};
 ghost use Rattle.ped_graph.specs.Held.{framed, frame_of, views_of};
@@ -21,7 +21,8 @@ use crate::facts::{Facts, push_facts};
 use crate::firmness::all_firm;
 use crate::guards::guards;
 use crate::rounds::{assigned_by, outermost};
-use ped_affine::{Place, Setting, Side, loop_variables, side_at, view};
+use crate::sides::{Side, side_at};
+use ped_affine::{Place, Setting, loop_variables, view};
 use ped_base::NoMemory;
 use ped_refs::{Occurrence, Pair, listed_pairs};
 use ped_tree::Program;

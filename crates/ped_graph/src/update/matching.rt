@@ -18,10 +18,11 @@ use crate::frames::{Frame, PairKey};
 use crate::parts::{Kept, Parts, Slot};
 use crate::preparing::{Known, Round, enter, facts_of_pairs, occurrence_at, outside, sides_of, view_at};
 use crate::rounds::outermost;
+use crate::sides::{Side, tells_view};
 use crate::testing::tested;
 use crate::Graph;
 use indexmap::IndexMap;
-use ped_affine::{Side, tells_view};
+
 use ped_base::NoMemory;
 use ped_refs::Pair;
 use ped_verdict::Steps;
@@ -80,7 +81,8 @@ pub fn matched<L: Ledger>(
         sides: &sides,
     };
     let pairs = facts_of_pairs(alloc, known, listed)?;
-    let mut parts = Parts::new(alloc, Frame { pairs, extents });
+    let frame = Frame { pairs, extents };
+    let mut parts = Parts::new(alloc, frame);
     match_pairs(alloc, &former, &changed, listed, &mut parts, steps)?;
     Ok(parts)
 }

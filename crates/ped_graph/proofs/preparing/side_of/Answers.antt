@@ -7,7 +7,7 @@ use Rattle.ped_refs.specs.Occurrences.{reference_of}
 use Rattle.ped_affine.specs.Ranges.{Setting}
 use Rattle.ped_affine.specs.PairViews.{Site}
 use Rattle.ped_affine.specs.Arguments.{setting_of, site}
-use Rattle.ped_affine.specs.Sides.{IsSide}
+use Rattle.ped_graph.specs.Sides.{IsSide}
 use Rattle.ped_graph.specs.Dependences.{assigned_by, setting_in, site_of}
 use Rattle.ped_graph.proofs.preparing.side_of.Goals as goal
 

@@ -5,7 +5,7 @@ use Rattle.ped_refs.specs.References.{Reference}
 use Rattle.ped_refs.specs.Occurrences.{reference_of, references_of}
 use Rattle.ped_graph.proofs.Places.{index_there}
 use Rattle.ped_graph.proofs.Slices.{mapped_at}
-use Rattle.ped_graph.proofs.Sides.{no_sides, sides_more}
+use Rattle.ped_graph.proofs.KnownSides.{no_sides, sides_more}
 use Rattle.ped_graph.proofs.preparing.sides_of.Goals as goal
 
 pub loop-occurrence-init : goal.loop-occurrence-init

@@ -2,7 +2,7 @@ use Rattle.std.proofs.Common.{◌≡◌, ◌∙◌, ap, sym, subst, ℕ, Some, s
 use Rattle.ped_tree.specs.Views.{program_tree}
 use Rattle.ped_refs.specs.References.{Reference, outermost}
 use Rattle.ped_refs.specs.Occurrences.{reference_of, references_of}
-use Rattle.ped_affine.specs.Sides.{IsSide}
+use Rattle.ped_graph.specs.Sides.{IsSide}
 use Rattle.ped_graph.specs.Dependences.{setting_in, site_of}
 use Rattle.ped_graph.proofs.Places.{places_there, one_there}
 use Rattle.ped_graph.proofs.update.matching.is_told.Goals as goal

@@ -1,6 +1,6 @@
 use Rattle.std.proofs.Common.{length}
-use Rattle.ped_affine.proofs.sides.+positions.Given as goal
+use Rattle.ped_graph.proofs.sides.+positions.Given as goal
 
--- the forms that are left
+-- the positions that are left
 abbrev pub decreases-are_told : goal.decreases-are_told
 decreases-are_told l = length l.source.now

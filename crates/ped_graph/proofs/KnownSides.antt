@@ -2,8 +2,8 @@
 use Rattle.std.proofs.Common.{◌≡◌, ◌⊎◌, inl, inr, ℕ, zero, suc, List, [], ◌∷◌, ◌++◌, length, Option, Some, None, slice_get, refl, ap, sym, ◌∙◌, subst}
 use Rattle.ped_tree.specs.Tree.{ProgramTree}
 use Rattle.ped_refs.specs.References.{Reference, outermost}
-use Rattle.ped_affine.specs.declared.sides.Side.{Side}
-use Rattle.ped_affine.specs.Sides.{IsSide}
+use Rattle.ped_graph.specs.declared.sides.Side.{Side}
+use Rattle.ped_graph.specs.Sides.{IsSide}
 use Rattle.ped_graph.specs.Dependences.{setting_in, site_of}
 use Rattle.ped_graph.specs.KnownProgram.{AreSides}
 use Rattle.ped_graph.proofs.Slices.{some_is}

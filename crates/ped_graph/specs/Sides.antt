@@ -1,0 +1,52 @@
+-- What the code computes once of a reference for all its pairs. Contracts of private functions alone speak of these definitions (this project).
+use Rattle.std.specs.Prelude.{◌≡◌, ℕ, ◌≤◌, List, [], ◌∷◌, length, take, drop, IsTrue, Bool, true, ◌||◌, ◌&&◌}
+use Rattle.std.specs.List.{list_all}
+use Rattle.ped_base.specs.Lists.{is_among}
+use Rattle.ped_views.specs.Views.{Row, SubscriptPair}
+use Rattle.ped_tree.specs.Tree.{ExprTree, Int, Var, Element, Neg, Add, Sub, Mul, Div, Pow, Call}
+use Rattle.ped_tree.specs.Nests.{Loop, indices_of}
+use Rattle.ped_refs.specs.Loops.{nest_of}
+use Rattle.ped_affine.specs.Ranges.{Setting}
+use Rattle.ped_affine.specs.PairViews.{Site, view_at}
+use Rattle.ped_graph.specs.declared.sides.Side.{Side}
+
+-- each variable of which an affine form could be made is that of a loop round the subscript, or the outermost DO assigns it (Allen and Kennedy, section 3.1)
+abbrev pub is_alone : Setting → List Loop → ExprTree → Bool
+is_alone s nest (Int n) = true
+is_alone s nest (Var x) = is_among x (indices_of nest) || is_among x s.assigned
+is_alone s nest (Element x subscripts) = true
+is_alone s nest (Neg a) = is_alone s nest a
+is_alone s nest (Add a b) = is_alone s nest a && is_alone s nest b
+is_alone s nest (Sub a b) = is_alone s nest a && is_alone s nest b
+is_alone s nest (Mul a b) = is_alone s nest a && is_alone s nest b
+is_alone s nest (Div a b) = true
+is_alone s nest (Pow a b) = true
+is_alone s nest (Call f arguments) = true
+
+-- a reference with its loops, its view with itself, and whether all its subscripts are alone
+pub record IsSide (s : Setting) (p : Site) (w : Side) : Type 0 where
+  pub nest : nest_of w.nest.now ≡ p.nest
+  pub own : w.own ≡ view_at s p p
+  pub alone : w.alone ≡ list_all (is_alone s p.nest) p.subscripts
+
+-- a row, of which so many loops are common, of a subscript whose own row has them all so
+pub record IsOwnRow (common : ℕ) (own row : Row) : Type 0 where
+  pub within : common ≤ length own.common
+  pub common : row.common ≡ take common own.common
+  pub inner : row.inner ≡ drop common own.common
+  pub constant : row.constant ≡ own.constant
+
+-- a position of two subscripts by the positions of each of them with itself
+pub record IsOwnPosition (common : ℕ) (a b p : SubscriptPair) : Type 0 where
+  pub first : a.usable ≡ true
+  pub second : b.usable ≡ true
+  pub usable : p.usable ≡ true
+  pub source : IsOwnRow common a.source p.source
+  pub sink : IsOwnRow common b.source p.sink
+
+-- position by position, as many as both have
+abbrev pub AreOwnPositions : ℕ → List SubscriptPair → List SubscriptPair → List SubscriptPair → Type 0
+AreOwnPositions common [] bs ps = ps ≡ []
+AreOwnPositions common (a ∷ rest) [] ps = ps ≡ []
+AreOwnPositions common (a ∷ rest) (b ∷ bs) [] = ⊥
+AreOwnPositions common (a ∷ rest) (b ∷ bs) (p ∷ ps) = IsOwnPosition common a b p × AreOwnPositions common rest bs ps

@@ -5,7 +5,6 @@ use Rattle.std.specs.List.{count_by}
 use Rattle.std.proofs.lemmas.List.{length-take-le}
 use Rattle.ped_views.specs.Views.{View}
 use Rattle.ped_views.specs.SameViews.{same_view}
-use Rattle.ped_views.proofs.SameViews.{same_view_decides}
 use Rattle.ped_refs.specs.TextPlaces.{Key}
 use Rattle.ped_graph.specs.Held.{Framed, HeldFrame, Pair, Held, pair_by, pairs_by, held_pairs}
 use Rattle.ped_graph.specs.Keys.{key_of, IsOnlyAt}
@@ -15,7 +14,7 @@ use Rattle.ped_graph.specs.Update.Matching.{former_in, former_key, origin, slot_
 use Rattle.ped_graph.specs.declared.parts.Kept.{Kept}
 use Rattle.ped_graph.proofs.Slices.{within, length_mapped}
 use Rattle.ped_graph.proofs.Matching.{no_key, no_pair, one_pair}
-use Rattle.ped_graph.proofs.Matched.{fresh_by}
+use Rattle.ped_graph.proofs.Matched.{fresh_by, same_told}
 use Rattle.ped_graph.proofs.Yielded.{no_pairs, step_slots, step_kept, step_steps, count_front, take_next}
 
 -- the item at the front of what is left
@@ -67,7 +66,7 @@ module _ (former : Held) (keep : List (ℕ × ℕ)) (p : Pair) where
 
   -- a place with the same view
   pub same_place : (here : ℕ) (v : View) → IsPlace former keep p (Some here) → slice_get former.views here ≡ Some v → v ≡ p.view → Some here ≡ origin former keep p
-  same_place here v place at same = sym (place v at ∙ ap (λ (t : Bool). if t then Some here else None) ((same_view_decides v p.view).1 same))
+  same_place here v place at same = sym (place v at ∙ ap (λ (t : Bool). if t then Some here else None) (same_told v p.view same))
 
   pub other_place : (here : ℕ) (v : View) → IsPlace former keep p (Some here) → slice_get former.views here ≡ Some v → same_view v p.view ≡ false → None ≡ origin former keep p
   other_place here v place at other = sym (place v at ∙ ap (λ (t : Bool). if t then Some here else None) other)

@@ -10,13 +10,12 @@ use Rattle.std.proofs.lemmas.Bool.Decides.{Decides-int_eq, Decides-and, Decides-
 use Rattle.std.proofs.lemmas.List.{length-drop, drop_all, take_all, length-append}
 use Rattle.ped_base.specs.Lists.{is_among}
 use Rattle.ped_views.specs.Views.{Range, Row, SubscriptPair, View}
-use Rattle.ped_tree.specs.Tree.{ExprTree, Int, Var, Element, Neg, Add, Sub, Mul, Div, Pow, Call}
+use Rattle.ped_tree.specs.Tree.{Head, ExprTree, Int, Var, Element, Neg, Add, Sub, Mul, Div, Pow, Call}
 use Rattle.ped_tree.specs.Nests.{Loop, indices_of, common_nest}
 use Rattle.ped_affine.specs.AffineForms.{AffineForm, affine_of, form_variables}
 use Rattle.ped_refs.specs.Loops.{nest_of}
-use Rattle.ped_affine.specs.Ranges.{Setting, nest_ranges}
+use Rattle.ped_affine.specs.Ranges.{Setting, Around, inside, loop_range, ranges_inside, nest_ranges}
 use Rattle.ped_affine.specs.PairViews.{Site, Depths, depths_of, is_other, other_variables, terms_of, row_of, other_coefficients, usable_pair, unusable, subscript_pair, position_of, positions_of, heads_of, view_at}
-use Rattle.ped_affine.proofs.Surrounding.{length-ranges}
 use Rattle.ped_graph.specs.Sides.{is_alone, IsSide, IsOwnRow, IsOwnPosition, AreOwnPositions}
 use Rattle.ped_graph.specs.declared.sides.Side.{Side}
 use Rattle.ped_graph.proofs.FormLengths.{form_many}
@@ -98,31 +97,32 @@ used n (Some f) None h = cc
 used n None b h = cc
 
 -- the form of a subscript that is alone, by its position with itself
-module _ (s : Setting) (p : Site) (e : ExprTree) (q : SubscriptPair) (is : q ≡ position_of s p p e e) (usable : q.usable ≡ true) (alone : is_alone s p.nest e ≡ true) where
-  record OwnForm : Type 0 where
-    form : AffineForm
-    affine : affine_of (terms_of s p.nest []) e ≡ Some form
-    many : length form.coefficients ≡ length p.nest
-    coefficients : q.source.common ≡ form.coefficients
-    constant : q.source.constant ≡ form.constant
+record OwnForm (s : Setting) (p : Site) (e : ExprTree) (q : SubscriptPair) : Type 0 where
+  form : AffineForm
+  affine : affine_of (terms_of s p.nest []) e ≡ Some form
+  many : length form.coefficients ≡ length p.nest
+  coefficients : q.source.common ≡ form.coefficients
+  constant : q.source.constant ≡ form.constant
 
-  own_form : OwnForm
-  own_form =
-      let none = none_other s p p e e alone alone in
-      let there = used (depths_of p p) (affine_of (terms_of s p.nest (other_variables s p p e e)) e) (affine_of (terms_of s p.nest (other_variables s p p e e)) e) (ap (λ (r : SubscriptPair). r.usable) (sym is) ∙ usable) in
-      let f = there.0 in
-      let affine : affine_of (terms_of s p.nest []) e ≡ Some f = ap (λ (names : List (List ℕ)). affine_of (terms_of s p.nest names) e) (sym none) ∙ there.2 in
-      let unknowns : length (indices_of p.nest ++ []) ≡ length p.nest = length-append (indices_of p.nest) [] ∙ omega (arith, length-mapped (λ (l : Loop). l.head.variable) p.nest) in
-      let many : length f.coefficients ≡ length p.nest = form_many (terms_of s p.nest []) e f affine ∙ unknowns in
-      let common : length (common_nest p.nest p.nest) ≡ length p.nest = ap length (common_itself p.nest) in
-      let pair : q ≡ usable_pair (depths_of p p) f there.1 = is ∙ there.4 in
-      record {
-        form = f;
-        affine = affine;
-        many = many;
-        coefficients = ap (λ (r : SubscriptPair). r.source.common) pair ∙ ap (λ (n : ℕ). take n f.coefficients) common ∙ take_all (length p.nest) f.coefficients (omega (arith, many));
-        constant = ap (λ (r : SubscriptPair). r.source.constant) pair;
-      }
+own_form : (s : Setting) (p : Site) (e : ExprTree) (q : SubscriptPair) → q ≡ position_of s p p e e → q.usable ≡ true → is_alone s p.nest e ≡ true → OwnForm s p e q
+own_form s p e q is usable alone =
+    let none = none_other s p p e e alone alone in
+    let there = used (depths_of p p) (affine_of (terms_of s p.nest (other_variables s p p e e)) e) (affine_of (terms_of s p.nest (other_variables s p p e e)) e) (ap (λ (r : SubscriptPair). r.usable) (sym is) ∙ usable) in
+    let f = there.0 in
+    let affine : affine_of (terms_of s p.nest []) e ≡ Some f = ap (λ (names : List (List ℕ)). affine_of (terms_of s p.nest names) e) (sym none) ∙ there.2 in
+    let front = length-append (indices_of p.nest) [] in
+    let mapped = length-mapped (λ (l : Loop). l.head.variable) p.nest in
+    let unknowns : length (indices_of p.nest ++ []) ≡ length p.nest = omega (arith, front, mapped) in
+    let many : length f.coefficients ≡ length p.nest = form_many (terms_of s p.nest []) e f affine ∙ unknowns in
+    let common : length (common_nest p.nest p.nest) ≡ length p.nest = ap length (common_itself p.nest) in
+    let pair : q ≡ usable_pair (depths_of p p) f there.1 = is ∙ there.4 in
+    record {
+      form = f;
+      affine = affine;
+      many = many;
+      coefficients = ap (λ (r : SubscriptPair). r.source.common) pair ∙ ap (λ (n : ℕ). take n f.coefficients) common ∙ take_all (length p.nest) f.coefficients (omega (arith, many));
+      constant = ap (λ (r : SubscriptPair). r.source.constant) pair;
+    }
 
 -- a row of a form, divided behind the common loops
 row_told : (common n : ℕ) (own row : Row) (f : AffineForm) → IsOwnRow common own row → own.common ≡ f.coefficients → own.constant ≡ f.constant → length f.coefficients ≡ n → row ≡ row_of common (n - common) f
@@ -183,6 +183,11 @@ module _ (s : Setting) (a b : Site) (common : ℕ) (is : common ≡ length (comm
       head_is x y xs ys e = cc
       tail_is : (x y : SubscriptPair) (xs ys : List SubscriptPair) → x ∷ xs ≡ y ∷ ys → xs ≡ ys
       tail_is x y xs ys e = cc
+
+-- as many ranges as loops
+length-ranges : (s : Setting) (around : Around) (hs : List Head) → length (ranges_inside s around hs) ≡ length hs
+length-ranges s around [] = refl
+length-ranges s around (h ∷ hs) = ap suc (length-ranges s (inside around h (loop_range s around h)) hs)
 
 -- the ranges of a nest, all of which are common with itself
 own_ranges : (s : Setting) (p : Site) → (view_at s p p).loops ≡ nest_ranges s (heads_of p.nest)

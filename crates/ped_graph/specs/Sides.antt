@@ -1,4 +1,4 @@
--- What the code computes once of a reference for all its pairs. Contracts of private functions alone speak of these definitions (this project).
+-- What the code computes once of a reference for all its pairs (this project).
 use Rattle.std.specs.Prelude.{◌≡◌, ℕ, ◌≤◌, List, [], ◌∷◌, length, take, drop, IsTrue, Bool, true, ◌||◌, ◌&&◌}
 use Rattle.std.specs.List.{list_all}
 use Rattle.ped_base.specs.Lists.{is_among}
@@ -30,23 +30,23 @@ pub record IsSide (s : Setting) (p : Site) (w : Side) : Type 0 where
   pub alone : w.alone ≡ list_all (is_alone s p.nest) p.subscripts
 
 -- a row, of which so many loops are common, of a subscript whose own row has them all so
-pub record IsOwnRow (common : ℕ) (own row : Row) : Type 0 where
-  pub within : common ≤ length own.common
-  pub common : row.common ≡ take common own.common
-  pub inner : row.inner ≡ drop common own.common
+pub record IsOwnRow (depth : ℕ) (own row : Row) : Type 0 where
+  pub within : depth ≤ length own.common
+  pub common : row.common ≡ take depth own.common
+  pub inner : row.inner ≡ drop depth own.common
   pub constant : row.constant ≡ own.constant
 
 -- a position of two subscripts by the positions of each of them with itself
-pub record IsOwnPosition (common : ℕ) (a b p : SubscriptPair) : Type 0 where
+pub record IsOwnPosition (depth : ℕ) (a b p : SubscriptPair) : Type 0 where
   pub first : a.usable ≡ true
   pub second : b.usable ≡ true
   pub usable : p.usable ≡ true
-  pub source : IsOwnRow common a.source p.source
-  pub sink : IsOwnRow common b.source p.sink
+  pub source : IsOwnRow depth a.source p.source
+  pub sink : IsOwnRow depth b.source p.sink
 
 -- position by position, as many as both have
 abbrev pub AreOwnPositions : ℕ → List SubscriptPair → List SubscriptPair → List SubscriptPair → Type 0
-AreOwnPositions common [] bs ps = ps ≡ []
-AreOwnPositions common (a ∷ rest) [] ps = ps ≡ []
-AreOwnPositions common (a ∷ rest) (b ∷ bs) [] = ⊥
-AreOwnPositions common (a ∷ rest) (b ∷ bs) (p ∷ ps) = IsOwnPosition common a b p × AreOwnPositions common rest bs ps
+AreOwnPositions depth [] bs ps = ps ≡ []
+AreOwnPositions depth (a ∷ rest) [] ps = ps ≡ []
+AreOwnPositions depth (a ∷ rest) (b ∷ bs) [] = ⊥
+AreOwnPositions depth (a ∷ rest) (b ∷ bs) (p ∷ ps) = IsOwnPosition depth a b p × AreOwnPositions depth rest bs ps

@@ -1,6 +1,6 @@
 -- One more pair of a changed program is matched.
 use Rattle.std.proofs.Common.{◌≡◌, ◌⊎◌, inl, inr, ℕ, zero, suc, ◌+◌, ◌<◌, ◌≤◌, List, [], ◌∷◌, ◌++◌, length, map, take, drop, Bool, true, false, cond, Option, Some, None, slice_get, refl, ap, sym, ◌∙◌, subst, add-one, append-nil, arith}
-use Rattle.std.specs.Prelude.{is_some, not, if◌then◌else◌, MatchOption, IfSome}
+use Rattle.std.specs.Prelude.{is_some, not, if◌then◌else◌, MatchOption, IfSome, OnOk, Result, Ok, Err}
 use Rattle.std.specs.List.{count_by}
 use Rattle.std.proofs.lemmas.List.{length-take-le}
 use Rattle.ped_views.specs.Views.{View}
@@ -10,9 +10,9 @@ use Rattle.ped_graph.specs.Held.{Framed, HeldFrame, Pair, Held, pair_by, pairs_b
 use Rattle.ped_graph.specs.Keys.{key_of, IsOnlyAt}
 use Rattle.ped_graph.specs.Parts.{HeldParts}
 use Rattle.ped_graph.specs.Update.Fresh.{IsOneToOne, is_fresh, fresh_pairs}
-use Rattle.ped_graph.specs.Update.Matching.{former_in, former_key, origin, slot_by, kept_by, slots_for, kept_from, parts_for, IsPlace, IsMatched, tests}
+use Rattle.ped_graph.specs.Update.Matching.{former_in, former_key, origin, slot_by, kept_by, slots_for, kept_from, parts_for, IsPlace, IsMatched, KeepsVerdict, AddsVerdict, tests}
 use Rattle.ped_graph.specs.declared.parts.Kept.{Kept}
-use Rattle.ped_graph.proofs.Slices.{within, length_mapped}
+use Rattle.ped_graph.proofs.Slices.{within, length_mapped, mapped_at, some_is}
 use Rattle.ped_graph.proofs.Matching.{no_key, no_pair, one_pair}
 use Rattle.ped_graph.proofs.Matched.{fresh_by, same_told}
 use Rattle.ped_graph.proofs.Yielded.{no_pairs, step_slots, step_kept, step_steps, count_front, take_next}
@@ -32,21 +32,25 @@ take_past (x ∷ xs) (suc i) h = ap (λ ys. x ∷ ys) (take_past xs i (omega (ar
 
 module _ (former : Held) (keep : List (ℕ × ℕ)) (p : Pair) (before after : HeldParts) where
   -- a pair that keeps a verdict
-  pub keeps_matched : (here : ℕ) → Some here ≡ origin former keep p → after.frame ≡ before.frame → after.slots ≡ before.slots ++ None ∷ []
-      → after.kept ≡ before.kept ++ (record { here = here; there = length before.slots }) ∷ [] → IsMatched former keep p before after
-  keeps_matched here is frame slots kept = record {
-    frame = frame;
-    slots = slots ∙ ap (λ (o : Option ℕ). before.slots ++ slot_by o p ∷ []) is;
-    kept = kept ∙ ap (λ (o : Option ℕ). before.kept ++ kept_by o (length before.slots)) is;
+  pub keeps_matched : (here : ℕ) → Some here ≡ origin former keep p → KeepsVerdict here before after → IsMatched former keep p before after
+  keeps_matched here is keeps = record {
+    frame = keeps.frame;
+    slots = keeps.slots ∙ ap (λ (o : Option ℕ). before.slots ++ slot_by o p ∷ []) is;
+    kept = keeps.kept ∙ ap (λ (o : Option ℕ). before.kept ++ kept_by o (length before.slots)) is;
   }
 
   -- a pair that is tested
-  pub tests_matched : None ≡ origin former keep p → after.frame ≡ before.frame → after.slots ≡ before.slots ++ Some p.view ∷ [] → after.kept ≡ before.kept → IsMatched former keep p before after
-  tests_matched is frame slots kept = record {
-    frame = frame;
-    slots = slots ∙ ap (λ (o : Option ℕ). before.slots ++ slot_by o p ∷ []) is;
-    kept = kept ∙ sym (append-nil before.kept) ∙ ap (λ (o : Option ℕ). before.kept ++ kept_by o (length before.slots)) is;
+  pub tests_matched : None ≡ origin former keep p → AddsVerdict p.view before after → IsMatched former keep p before after
+  tests_matched is adds = record {
+    frame = adds.frame;
+    slots = adds.slots ∙ ap (λ (o : Option ℕ). before.slots ++ slot_by o p ∷ []) is;
+    kept = adds.kept ∙ sym (append-nil before.kept) ∙ ap (λ (o : Option ℕ). before.kept ++ kept_by o (length before.slots)) is;
   }
+
+-- what is so holds of each value
+pub on_any : {T E : Type 0} {P : Type 0} (r : Result T E) → P → OnOk r P
+on_any (Ok x) p = p
+on_any (Err x) p = tt
 
 module _ (former : Held) (keep : List (ℕ × ℕ)) (p : Pair) where
   tests_by : (o : Option ℕ) → o ≡ origin former keep p → tests former keep p ≡ cond (not (is_some o)) 1 0
@@ -127,3 +131,8 @@ pub place_within : (former : Held) (k : Key) (place : Option ℕ)
     → MatchOption place ((n : ℕ) → slice_get (map key_of former.frame.pairs) n ≡ Some k → ⊥) (λ n. IsOnlyAt (map key_of former.frame.pairs) k n) → IfSome place (λ n. n < length former.frame.pairs)
 place_within former k None none = tt
 place_within former k (Some here) alone = (let less = within (map key_of former.frame.pairs) here k alone.found in let mapped = length_mapped key_of former.frame.pairs in omega (arith, less, mapped))
+
+-- the key of the pair at a place
+pub key_there : (frame now : HeldFrame) (n m : ℕ) (k : Key) (f : Framed) → now ≡ frame → n ≡ m → slice_get (map key_of now.pairs) n ≡ Some k → slice_get frame.pairs m ≡ Some f → (f.source, f.sink) ≡ k
+key_there frame now n m k f same is at there =
+    some_is (key_of f) k (sym (mapped_at key_of frame.pairs m f there) ∙ ap (λ (i : ℕ). slice_get (map key_of frame.pairs) i) (sym is) ∙ ap (λ (h : HeldFrame). slice_get (map key_of h.pairs) n) (sym same) ∙ at)

@@ -16,7 +16,7 @@ use Rattle.ped_affine.specs.AffineForms.{AffineForm, affine_of, form_variables}
 use Rattle.ped_refs.specs.Loops.{nest_of}
 use Rattle.ped_affine.specs.Ranges.{Setting, Around, inside, loop_range, ranges_inside, nest_ranges}
 use Rattle.ped_affine.specs.PairViews.{Site, Depths, depths_of, is_other, other_variables, terms_of, row_of, other_coefficients, usable_pair, unusable, subscript_pair, position_of, positions_of, heads_of, view_at}
-use Rattle.ped_graph.specs.Sides.{is_alone, IsSide, IsOwnRow, IsOwnPosition, AreOwnPositions}
+use Rattle.ped_graph.specs.Sides.{is_alone, IsSide, IsLike, IsOwnRow, IsOwnPosition, AreOwnPositions}
 use Rattle.ped_graph.specs.declared.sides.Side.{Side}
 use Rattle.ped_graph.proofs.FormLengths.{form_many}
 use Rattle.ped_graph.proofs.Matching.{both_hold, same_number}
@@ -181,6 +181,7 @@ module _ (s : Setting) (a b : Site) (common : ℕ) (is : common ≡ length (comm
     where
       head_is : (x y : SubscriptPair) (xs ys : List SubscriptPair) → x ∷ xs ≡ y ∷ ys → x ≡ y
       head_is x y xs ys e = cc
+
       tail_is : (x y : SubscriptPair) (xs ys : List SubscriptPair) → x ∷ xs ≡ y ∷ ys → xs ≡ ys
       tail_is x y xs ys e = cc
 
@@ -197,17 +198,18 @@ own_ranges s p =
     take_all (length (common_nest p.nest p.nest)) (nest_ranges s (heads_of p.nest)) (omega (arith, common, long))
 
 -- the view of two sides
-pub view_told : (w v : Side) (k : ℕ) (view : View) → k ≡ length (common_nest (nest_of w.nest.now) (nest_of v.nest.now)) → w.alone ≡ true → v.alone ≡ true
-    → view.loops ≡ take k w.own.loops → view.source_inner ≡ drop k w.own.loops → view.sink_inner ≡ drop k v.own.loops → AreOwnPositions k w.own.positions v.own.positions view.positions
-    → (s : Setting) (a b : Site) → IsSide s a w → IsSide s b v → view ≡ view_at s a b
-view_told w v k view is first second in_loops in_source in_sink told s a b left right =
+pub view_told : (w v : Side) (k : ℕ) (view : View) → k ≡ length (common_nest (nest_of w.nest.now) (nest_of v.nest.now)) → IsLike k w v view → (s : Setting) (a b : Site) → IsSide s a w → IsSide s b v → view ≡ view_at s a b
+view_told w v k view is like s a b left right =
     let common : k ≡ length (common_nest a.nest b.nest) = is ∙ (λ i. length (common_nest (left.nest i) (right.nest i))) in
     let ranges : w.own.loops ≡ nest_ranges s (heads_of a.nest) = ap (λ (x : View). x.loops) left.own ∙ own_ranges s a in
     let others : v.own.loops ≡ nest_ranges s (heads_of b.nest) = ap (λ (x : View). x.loops) right.own ∙ own_ranges s b in
+    let first : list_all (is_alone s a.nest) a.subscripts ≡ true = sym left.alone ∙ like.source_alone in
+    let second : list_all (is_alone s b.nest) b.subscripts ≡ true = sym right.alone ∙ like.sink_alone in
+    let at_first : w.own.positions ≡ positions_of s a a a.subscripts a.subscripts = ap (λ (x : View). x.positions) left.own in
+    let at_second : v.own.positions ≡ positions_of s b b b.subscripts b.subscripts = ap (λ (x : View). x.positions) right.own in
     let positions : view.positions ≡ positions_of s a b a.subscripts b.subscripts =
-    positions_told s a b k common a.subscripts b.subscripts w.own.positions v.own.positions view.positions (ap (λ (x : View). x.positions) left.own) (ap (λ (x : View). x.positions) right.own)
-        (sym left.alone ∙ first) (sym right.alone ∙ second) told in
-    let loops : view.loops ≡ take (length (common_nest a.nest b.nest)) (nest_ranges s (heads_of a.nest)) = in_loops ∙ (λ i. take (common i) (ranges i)) in
-    let source : view.source_inner ≡ drop (length (common_nest a.nest b.nest)) (nest_ranges s (heads_of a.nest)) = in_source ∙ (λ i. drop (common i) (ranges i)) in
-    let sink : view.sink_inner ≡ drop (length (common_nest a.nest b.nest)) (nest_ranges s (heads_of b.nest)) = in_sink ∙ (λ i. drop (common i) (others i)) in
+    positions_told s a b k common a.subscripts b.subscripts w.own.positions v.own.positions view.positions at_first at_second first second like.positions in
+    let loops : view.loops ≡ take (length (common_nest a.nest b.nest)) (nest_ranges s (heads_of a.nest)) = like.loops ∙ (λ i. take (common i) (ranges i)) in
+    let source : view.source_inner ≡ drop (length (common_nest a.nest b.nest)) (nest_ranges s (heads_of a.nest)) = like.source_inner ∙ (λ i. drop (common i) (ranges i)) in
+    let sink : view.sink_inner ≡ drop (length (common_nest a.nest b.nest)) (nest_ranges s (heads_of b.nest)) = like.sink_inner ∙ (λ i. drop (common i) (others i)) in
     λ i. record { loops = loops i; source_inner = source i; sink_inner = sink i; positions = positions i }

@@ -1,8 +1,8 @@
 -- What the code computes once of a reference for all its pairs (this project).
-use Rattle.std.specs.Prelude.{◌≡◌, ℕ, ◌≤◌, List, [], ◌∷◌, length, take, drop, IsTrue, Bool, true, ◌||◌, ◌&&◌}
+use Rattle.std.specs.Prelude.{◌≡◌, ℕ, ◌≤◌, List, [], ◌∷◌, length, take, drop, Bool, true, ◌||◌, ◌&&◌}
 use Rattle.std.specs.List.{list_all}
 use Rattle.ped_base.specs.Lists.{is_among}
-use Rattle.ped_views.specs.Views.{Row, SubscriptPair}
+use Rattle.ped_views.specs.Views.{Row, SubscriptPair, View}
 use Rattle.ped_tree.specs.Tree.{ExprTree, Int, Var, Element, Neg, Add, Sub, Mul, Div, Pow, Call}
 use Rattle.ped_tree.specs.Nests.{Loop, indices_of}
 use Rattle.ped_refs.specs.Loops.{nest_of}
@@ -50,3 +50,12 @@ AreOwnPositions depth [] bs ps = ps ≡ []
 AreOwnPositions depth (a ∷ rest) [] ps = ps ≡ []
 AreOwnPositions depth (a ∷ rest) (b ∷ bs) [] = ⊥
 AreOwnPositions depth (a ∷ rest) (b ∷ bs) (p ∷ ps) = IsOwnPosition depth a b p × AreOwnPositions depth rest bs ps
+
+-- a view with the ranges and the positions of two sides, of which so many loops are common
+pub record IsLike (depth : ℕ) (source sink : Side) (v : View) : Type 0 where
+  pub source_alone : source.alone ≡ true
+  pub sink_alone : sink.alone ≡ true
+  pub loops : v.loops ≡ take depth source.own.loops
+  pub source_inner : v.source_inner ≡ drop depth source.own.loops
+  pub sink_inner : v.sink_inner ≡ drop depth sink.own.loops
+  pub positions : AreOwnPositions depth source.own.positions sink.own.positions v.positions

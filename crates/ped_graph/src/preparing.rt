@@ -105,11 +105,7 @@ fn pairs_of(alloc: Global, known: &Known, listed: &[Pair]) -> Result<Pairs, NoMe
 }
 
 /// What is known of these pairs, which are all pairs of the program, without a test.
-pub fn facts_of_pairs(
-    alloc: Global,
-    known: &Known,
-    listed: &[Pair],
-) -> Result<Vec<Facts>, NoMemory>
+pub fn facts_of_pairs(alloc: Global, known: &Known, listed: &[Pair]) -> Result<Vec<Facts>, NoMemory>
     requires known { IsKnown known.now }
     requires within { All (IsWithin (length known.now.found.now)) listed.now }
     requires listed { map (pair_at (references_of known.now.found.now)) listed.now ≡ map Some (pairs (references (program_tree known.now.program.now))) }
@@ -123,11 +119,7 @@ pub fn facts_of_pairs(
 }
 
 /// The views of these pairs, which are all pairs of the program.
-fn views_of_pairs(
-    alloc: Global,
-    known: &Known,
-    listed: &[Pair],
-) -> Result<Vec<PairView>, NoMemory>
+fn views_of_pairs(alloc: Global, known: &Known, listed: &[Pair]) -> Result<Vec<PairView>, NoMemory>
     requires known { IsKnown known.now }
     requires within { All (IsWithin (length known.now.found.now)) listed.now }
     requires listed { map (pair_at (references_of known.now.found.now)) listed.now ≡ map Some (pairs (references (program_tree known.now.program.now))) }
@@ -210,7 +202,12 @@ pub fn outside(alloc: Global) -> Round
 }
 
 /// Goes on to the DO with this number, unless it is the same.
-pub fn enter(alloc: Global, round: &mut Round, program: &Program, number: u32) -> Result<(), NoMemory>
+pub fn enter(
+    alloc: Global,
+    round: &mut Round,
+    program: &Program,
+    number: u32,
+) -> Result<(), NoMemory>
     requires { IsRound (program_tree program.now) round.old }
     ensures round { OnOk result (IsRound (program_tree program.now) round.new) }
     ensures number { OnOk result (round.new.number ≡ number) }
@@ -240,7 +237,12 @@ fn add_facts(all: &mut Vec<Facts>, known: &Known, pair: &Pair) -> Result<(), NoM
 }
 
 /// The view of a pair of the program's references, by their places.
-pub fn view_at(alloc: Global, known: &Known, round: &Round, pair: &Pair) -> Result<PairView, NoMemory>
+pub fn view_at(
+    alloc: Global,
+    known: &Known,
+    round: &Round,
+    pair: &Pair,
+) -> Result<PairView, NoMemory>
     requires known { IsKnown known.now }
     requires within { IsWithin (length known.now.found.now) pair.now }
     requires round { IsRound (program_tree known.now.program.now) round.now }

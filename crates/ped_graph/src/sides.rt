@@ -11,7 +11,7 @@ ghost use Rattle.ped_affine.specs.Arguments.{setting_of, site};
 ghost use Rattle.ped_affine.specs.PairViews.{Site, view_at};
 ghost use Rattle.ped_affine.specs.Ranges.{Setting as PlainSetting};
 ghost use Rattle.ped_graph.specs.Sides as Spec;
-ghost use Rattle.ped_graph.specs.Sides.{IsSide, IsOwnRow, IsOwnPosition, AreOwnPositions};
+ghost use Rattle.ped_graph.specs.Sides.{IsSide, IsLike, IsOwnRow, IsOwnPosition, AreOwnPositions};
 
 use ped_affine::{Place, Setting, view};
 use ped_base::{Name, NoMemory};
@@ -72,7 +72,8 @@ fn is_alone(setting: &Setting, nest: &[Loop], e: &Expr) -> bool
         Expr::Add(a, b) => is_alone(setting, nest, a) && is_alone(setting, nest, b),
         Expr::Sub(a, b) => is_alone(setting, nest, a) && is_alone(setting, nest, b),
         Expr::Mul(a, b) => is_alone(setting, nest, a) && is_alone(setting, nest, b),
-        Expr::Int(_) | Expr::Element(_, _) | Expr::Div(_, _) | Expr::Pow(_, _) | Expr::Call(_, _) => true,
+        Expr::Int(_) | Expr::Element(_, _) | Expr::Div(_, _) | Expr::Pow(_, _) | Expr::Call(_, _) =>
+            true,
     }
 }
 
@@ -93,20 +94,24 @@ fn is_index(name: &Name, loops: &[Loop]) -> bool
 pub fn tells_view(source: &Side, sink: &Side, view: &PairView) -> bool
     ensures { IsTrue result → (s : PlainSetting) (a b : Site) → IsSide s a source.now → IsSide s b sink.now → view.now ≡ view_at s a b }
 {
-    if !source.alone {
-        return false;
-    }
-    if !sink.alone {
-        return false;
-    }
     let common = common_depth(source.nest, sink.nest);
-    if !are_split(&source.own.loops, common, &view.loops, &view.source_inner) {
-        return false;
-    }
-    if !are_behind(&sink.own.loops, common, &view.sink_inner) {
-        return false;
-    }
-    are_told(common, &source.own.positions, &sink.own.positions, &view.positions)
+    is_like(common, source, sink, view)
+}
+
+/// Whether a view has the ranges and the positions of these sides, of which so many loops are common.
+fn is_like(common: usize, source: &Side, sink: &Side, view: &PairView) -> bool
+    ensures { IsTrue result → IsLike common source.now sink.now view.now }
+{
+    source.alone
+        && sink.alone
+        && are_split(&source.own.loops, common, &view.loops, &view.source_inner)
+        && are_behind(&sink.own.loops, common, &view.sink_inner)
+        && are_told(
+            common,
+            &source.own.positions,
+            &sink.own.positions,
+            &view.positions,
+        )
 }
 
 /// How many loops at the front of two nests are common: those with one statement number.
@@ -122,12 +127,7 @@ fn common_depth(source: &[Loop], sink: &[Loop]) -> usize
 }
 
 /// Whether ranges are these up to a place and those from there on.
-fn are_split(
-    ranges: &[LoopRange],
-    place: usize,
-    before: &[LoopRange],
-    behind: &[LoopRange],
-) -> bool
+fn are_split(ranges: &[LoopRange], place: usize, before: &[LoopRange], behind: &[LoopRange]) -> bool
     ensures before { IsTrue result → before.now ≡ take place ranges.now }
     ensures behind { IsTrue result → behind.now ≡ drop place ranges.now }
 {

@@ -67,7 +67,7 @@ parts_for former keep changed = record {
 }
 
 -- the table has the former numbers of the statements that are kept
-abbrev pub IsTable : List (ℕ × ℕ) → IndexMap ℕ ℕ → Type 0
+abbrev pub IsTable : {S : Type 0} → List (ℕ × ℕ) → IndexMap ℕ ℕ S → Type 0
 IsTable keep table = (now : ℕ) → get nat_eq table now ≡ former_in keep now
 
 -- the former graph has a pair with the former key of this one at this place and at no other, or none: then the pair comes from there where its view is the same
@@ -84,3 +84,15 @@ pub record IsMatched (former : Held) (keep : List (ℕ × ℕ)) (p : Pair) (befo
 -- how often a pair is tested: once, where it comes from no pair of the former graph
 abbrev pub tests : Held → List (ℕ × ℕ) → Pair → ℕ
 tests former keep p = cond (is_fresh former keep p) 1 0
+
+-- parts with one more pair, which keeps the verdict of this pair
+pub record KeepsVerdict (here : ℕ) (before after : HeldParts) : Type 0 where
+  pub frame : after.frame ≡ before.frame
+  pub slots : after.slots ≡ before.slots ++ None ∷ []
+  pub kept : after.kept ≡ before.kept ++ (record { here = here; there = length before.slots }) ∷ []
+
+-- parts with one more pair, which has this view and is tested
+pub record AddsVerdict (v : View) (before after : HeldParts) : Type 0 where
+  pub frame : after.frame ≡ before.frame
+  pub slots : after.slots ≡ before.slots ++ Some v ∷ []
+  pub kept : after.kept ≡ before.kept

@@ -6,25 +6,26 @@ ghost use Rattle.indexmap.specs.IndexMap.{get};
 ghost use Rattle.ped_tree.specs.Views.{program_tree};
 ghost use Rattle.ped_views.specs.Views.{View};
 ghost use Rattle.ped_refs.specs.References.{Reference, outermost, references, pairs};
-ghost use Rattle.ped_refs.specs.Occurrences.{references_of, pair_at, IsWithin};
+ghost use Rattle.ped_refs.specs.Occurrences.{reference_of, references_of, pair_at, IsWithin};
 ghost use Rattle.ped_graph.specs.Dependences.{view_of};
-ghost use Rattle.ped_graph.specs.Held.{Framed, pair_by, frame_of, held_of, views_of};
+ghost use Rattle.ped_graph.specs.Held.{Framed, pair_by, frame_of, held_of};
 ghost use Rattle.ped_graph.specs.Keys.{key_shown};
 ghost use Rattle.ped_graph.specs.KnownProgram.{IsKnown, IsRound, AreSides};
 ghost use Rattle.ped_graph.specs.Update.Fresh.{IsOneToOne, fresh_pairs};
 ghost use Rattle.ped_graph.specs.Update.Matching as Matching;
 
+use crate::Graph;
 use crate::frames::{Frame, PairKey};
 use crate::parts::{Kept, Parts, Slot};
-use crate::preparing::{Known, Round, enter, facts_of_pairs, occurrence_at, outside, sides_of, view_at};
+use crate::preparing::{
+    Known, Round, enter, facts_of_pairs, occurrence_at, outside, sides_of, view_at,
+};
 use crate::rounds::outermost;
 use crate::sides::{Side, tells_view};
 use crate::testing::tested;
-use crate::Graph;
 use indexmap::IndexMap;
-
 use ped_base::NoMemory;
-use ped_refs::Pair;
+use ped_refs::{Occurrence, Pair};
 use ped_verdict::Steps;
 use ped_views::PairView;
 use std::alloc::Global;
@@ -170,11 +171,9 @@ fn match_view<L: Ledger>(
     ensures many { OnOk result (length parts.new.slots ≡ length parts.old.slots + 1) }
     ensures parts { OnOk result ((keep : List (ℕ × ℕ)) (f : Framed) → IsOneToOne keep → Matching.IsTable keep former.now.statements.now
         → (f.source, f.sink) ≡ key_shown key.now → Matching.IsMatched former.now.graph.now keep (pair_by f view) parts.old parts.new) }
-    ensures ticks { OnOk result ((keep : List (ℕ × ℕ)) (f : Framed) → IsOneToOne keep → Matching.IsTable keep former.now.statements.now
-        → (f.source, f.sink) ≡ key_shown key.now → steps.new ≡ steps.old + Matching.tests former.now.graph.now keep (pair_by f view)) }
+    ensures ticks { (keep : List (ℕ × ℕ)) (f : Framed) → IsOneToOne keep → Matching.IsTable keep former.now.statements.now
+        → (f.source, f.sink) ≡ key_shown key.now → steps.new ≡ steps.old + Matching.tests former.now.graph.now keep (pair_by f view) }
     ensures least { steps.old ≤ steps.new }
-    ensures most { (keep : List (ℕ × ℕ)) (f : Framed) → IsOneToOne keep → Matching.IsTable keep former.now.statements.now
-        → (f.source, f.sink) ≡ key_shown key.now → steps.new ≤ steps.old + Matching.tests former.now.graph.now keep (pair_by f view) }
 {
     if let Some(here) = origin(former, key, &view) {
         return keep_verdict(parts, here);
@@ -227,16 +226,33 @@ fn is_told(changed: &Changed, pair: &Pair, view: &PairView) -> bool
 {
     let source = occurrence_at(&changed.known, pair.source);
     let sink = occurrence_at(&changed.known, pair.sink);
-    if outermost(source) != outermost(sink) {
+    if !have_same_outermost(source, sink) {
         return false;
     }
-    let Some(source) = changed.sides.get(pair.source) else {
+    if pair.source >= changed.sides.len() {
         return false;
-    };
-    let Some(sink) = changed.sides.get(pair.sink) else {
+    }
+    if pair.sink >= changed.sides.len() {
         return false;
-    };
-    tells_view(source, sink, view)
+    }
+    let first = side_there(changed.sides, pair.source);
+    let second = side_there(changed.sides, pair.sink);
+    tells_view(first, second, view)
+}
+
+/// Whether the outermost DO round both references is the same.
+fn have_same_outermost(source: &Occurrence, sink: &Occurrence) -> bool
+    ensures { IsTrue result → outermost (reference_of source.now) ≡ outermost (reference_of sink.now) }
+{
+    outermost(source) == outermost(sink)
+}
+
+/// The side at a place.
+fn side_there<'a>(sides: &'a [Side<'a>], place: usize) -> &'a Side<'a>
+    requires { place < length sides.now }
+    ensures { slice_get sides.now place ≡ Some result.now }
+{
+    &sides[place]
 }
 
 /// The place of the pair of a graph from which a pair with this key and this view comes, none where it is fresh.
@@ -290,8 +306,7 @@ fn former_place(former: &IndexMap<u32, u32>, place: (u32, u32)) -> Option<(u32, 
 fn keep_verdict<L: Ledger>(parts: &mut Parts<L>, here: u64) -> Result<(), NoMemory>
     ensures frame { parts.new.frame ≡ parts.old.frame }
     ensures many { OnOk result (length parts.new.slots ≡ length parts.old.slots + 1) }
-    ensures slots { OnOk result (parts.new.slots ≡ parts.old.slots ++ None ∷ []) }
-    ensures kept { OnOk result (parts.new.kept ≡ parts.old.kept ++ (record { here = here; there = length parts.old.slots }) ∷ []) }
+    ensures kept { OnOk result (Matching.KeepsVerdict here parts.old parts.new) }
 {
     let there = parts.slots.len() as u64;
     parts.kept.push(Kept { here, there })?;
@@ -308,8 +323,7 @@ fn add_verdict<L: Ledger>(
 ) -> Result<(), NoMemory>
     ensures frame { parts.new.frame ≡ parts.old.frame }
     ensures many { OnOk result (length parts.new.slots ≡ length parts.old.slots + 1) }
-    ensures slots { OnOk result (parts.new.slots ≡ parts.old.slots ++ Some view ∷ []) }
-    ensures kept { parts.new.kept ≡ parts.old.kept }
+    ensures added { OnOk result (Matching.AddsVerdict view parts.old parts.new) }
     ensures tick { steps.new ≡ steps.old + 1 }
 {
     let slot = tested(alloc, view, steps)?;

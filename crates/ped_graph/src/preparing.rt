@@ -1,7 +1,6 @@
 //! What is known of the pairs of a program without a test, and the views that are to be tested.
 
 ghost use Rattle.std.specs.Prelude.{◌≡◌, ◌≤◌, ◌<◌, ◌&&◌, ◌++◌, ◌∷◌, [], Some, map, length, IfOk, OnOk, All, slice_get};
-ghost use Rattle.ped_tree.specs.Tree.{ProgramTree};
 ghost use Rattle.ped_tree.specs.Views.{program_tree};
 ghost use Rattle.ped_symbols.specs.Kinds.{table_of};
 ghost use Rattle.ped_refs.specs.References.{Reference, outermost, references, pairs};
@@ -126,7 +125,10 @@ fn views_of_pairs(alloc: Global, known: &Known, listed: &[Pair]) -> Result<Vec<P
     ensures { IfOk result (λ views. views.items ≡ views_of (program_tree known.now.program.now)) }
 {
     let mut views = Vec::new(alloc);
-    let mut round = outside(alloc);
+    let mut round = Round {
+        number: 0,
+        assigned: NameSet::new(alloc),
+    };
     for pair in listed {
         let number = outermost(occurrence_at(known, pair.source));
         enter(alloc, &mut round, known.program, number)?;
@@ -161,7 +163,10 @@ pub fn sides_of<'a>(alloc: Global, known: &Known<'a>) -> Result<Vec<Side<'a>>, N
     ensures { IfOk result (λ sides. AreSides (program_tree known.now.program.now) (references_of known.now.found.now) sides.items) }
 {
     let mut sides = Vec::new(alloc);
-    let mut round = outside(alloc);
+    let mut round = Round {
+        number: 0,
+        assigned: NameSet::new(alloc),
+    };
     for occurrence in known.found {
         enter(alloc, &mut round, known.program, outermost(occurrence))?;
         let side = side_of(alloc, known, &round, occurrence)?;
@@ -189,16 +194,6 @@ fn side_of<'a>(
         assigned: &round.assigned,
     };
     side_at(alloc, &setting, &place_of(occurrence))
-}
-
-/// No DO, which assigns nothing. It takes no memory.
-pub fn outside(alloc: Global) -> Round
-    ensures { (t : ProgramTree) → IsRound t result }
-{
-    Round {
-        number: 0,
-        assigned: NameSet::new(alloc),
-    }
 }
 
 /// Goes on to the DO with this number, unless it is the same.

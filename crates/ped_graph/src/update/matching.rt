@@ -17,15 +17,14 @@ ghost use Rattle.ped_graph.specs.Update.Matching as Matching;
 use crate::Graph;
 use crate::frames::{Frame, PairKey};
 use crate::parts::{Kept, Parts, Slot};
-use crate::preparing::{
-    Known, Round, enter, facts_of_pairs, occurrence_at, outside, sides_of, view_at,
-};
+use crate::preparing::{Known, Round, enter, facts_of_pairs, occurrence_at, sides_of, view_at};
 use crate::rounds::outermost;
 use crate::sides::{Side, tells_view};
 use crate::testing::tested;
 use indexmap::IndexMap;
 use ped_base::NoMemory;
 use ped_refs::{Occurrence, Pair};
+use ped_tree::names::NameSet;
 use ped_verdict::Steps;
 use ped_views::PairView;
 use std::alloc::Global;
@@ -112,7 +111,10 @@ fn match_pairs<L: Ledger>(
     ensures most { (keep : List (ℕ × ℕ)) → IsOneToOne keep → Matching.IsTable keep former.now.statements.now
         → steps.new ≤ steps.old + fresh_pairs former.now.graph.now keep (held_of (program_tree changed.now.known.program.now)) }
 {
-    let mut round = outside(alloc);
+    let mut round = Round {
+        number: 0,
+        assigned: NameSet::new(alloc),
+    };
     for pair in listed {
         let number = outermost(occurrence_at(&changed.known, pair.source));
         enter(alloc, &mut round, changed.known.program, number)?;

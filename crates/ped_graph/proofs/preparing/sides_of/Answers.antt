@@ -1,4 +1,4 @@
-use Rattle.std.proofs.Common.{◌≡◌, ◌∙◌, ◌+◌, ap, sym, subst, List, ◌++◌, ◌∷◌, [], length, map, Some, slice_get, absurd, arith}
+use Rattle.std.proofs.Common.{◌≡◌, ◌∙◌, ◌+◌, ap, sym, subst, List, ◌++◌, ◌∷◌, [], length, map, Some, slice_get, rules, arith}
 use Rattle.std.proofs.lemmas.List.{length_push}
 use Rattle.ped_tree.specs.Views.{program_tree}
 use Rattle.ped_refs.specs.References.{Reference}
@@ -10,9 +10,9 @@ use Rattle.ped_graph.proofs.preparing.sides_of.Goals as goal
 
 pub loop-occurrence-init : goal.loop-occurrence-init
 loop-occurrence-init c = record {
-  many = ap length c.new.ensures.items;
-  sides = no_sides (program_tree c.args.known.now.program.now) (references_of c.args.known.now.found.now) c.new.result.items c.new.ensures.items;
-  round = c.outside-round.ensures (program_tree c.args.known.now.program.now);
+  many = ap length c.new-sides.ensures.items;
+  sides = no_sides (program_tree c.args.known.now.program.now) (references_of c.args.known.now.found.now) c.new-sides.result.items c.new-sides.ensures.items;
+  round = search rules;
 }
 
 pub loop-occurrence-preserved : goal.loop-occurrence-preserved

@@ -1,4 +1,4 @@
-use Rattle.std.proofs.Common.{◌≡◌, ◌∙◌, ◌+◌, ◌<◌, ◌≤◌, ◌∷◌, ℕ, suc, ap, sym, refl, List, [], length, map, take, drop, Some, slice_get, add-one, arith}
+use Rattle.std.proofs.Common.{◌≡◌, ◌∙◌, ◌+◌, ◌<◌, ◌≤◌, ◌∷◌, ℕ, suc, ap, sym, refl, List, [], length, map, take, drop, Some, slice_get, add-one, rules, arith}
 use Rattle.std.specs.List.{count_by}
 use Rattle.ped_views.specs.Views.{View}
 use Rattle.ped_tree.specs.Views.{program_tree}
@@ -23,7 +23,7 @@ loop-pair-init g c =
       frame = c.requires.frame;
       many = ap length c.requires.slots;
       least = omega arith;
-      round = c.outside-round.ensures t;
+      round = search rules;
       slots = λ keep once table. c.requires.slots ∙ ap (λ (ps : List Pair). slots_for G keep ps) none;
       kept = λ keep once table. c.requires.kept ∙ ap (λ (ps : List Pair). kept_from G keep 0 ps) none;
       steps = λ keep once table. (let zero = ap (λ (ps : List Pair). count_by (is_fresh G keep) ps) (sym none) in omega (arith, zero));

@@ -101,10 +101,11 @@ module _ (former : Held) (keep : List (ℕ × ℕ)) (fs : List Framed) (views : 
   -- the tests of the pairs before the next one and of that
   pub next_tests : count_by (is_fresh former keep) (pairs_by fs (take (i + 1) views)) ≡ count_by (is_fresh former keep) (pairs_by fs (take i views)) + tests former keep (pair_by f view)
   next_tests =
-      let so_far = count_by (is_fresh former keep) (pairs_by fs (take i views)) in
+      let so_far : ℕ = count_by (is_fresh former keep) (pairs_by fs (take i views)) in
       let more = tests_by former keep (pair_by f view) (origin former keep (pair_by f view)) refl in
-      ap (λ (ps : List Pair). count_by (is_fresh former keep) ps) (sym next_pairs)
-      ∙ sym (step_steps former keep fs (take i views) view f at_next (origin former keep (pair_by f view)) refl 0 so_far (so_far + tests former keep (pair_by f view)) refl (ap (λ (n : ℕ). so_far + n) more))
+      let moved = ap (λ (ps : List Pair). count_by (is_fresh former keep) ps) next_pairs in
+      let steps = step_steps former keep fs (take i views) view f at_next (origin former keep (pair_by f view)) refl 0 so_far (so_far + tests former keep (pair_by f view)) (omega arith) (ap (λ (n : ℕ). so_far + n) more) in
+      omega (arith, moved, steps)
 
 -- no more pairs are fresh at the front
 pub front_tests : (former : Held) (keep : List (ℕ × ℕ)) (fs : List Framed) (views : List View) (i : ℕ) → count_by (is_fresh former keep) (pairs_by fs (take i views)) ≤ count_by (is_fresh former keep) (pairs_by fs views)

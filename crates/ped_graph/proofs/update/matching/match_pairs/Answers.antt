@@ -56,14 +56,13 @@ loop-pair-preserved g c =
     let at : slice_get (frame_of t).pairs i ≡ Some f = mapped_at (λ (p : Reference × Reference). framed (facts_of t) p.0 p.1) ps i next.0 here in
     let there : slice_get (views_of t) i ≡ Some view = mapped_at (λ (p : Reference × Reference). view_of t p.0 p.1) ps i next.0 here in
     let now : slice_get c.loop-pair.parts.frame.pairs (length c.loop-pair.parts.slots) ≡ Some f = ap (λ (h : HeldFrame). slice_get h.pairs (length c.loop-pair.parts.slots)) inv.frame ∙ ap (λ (n : ℕ). slice_get (frame_of t).pairs n) inv.many ∙ at in
-    let matched = λ keep once table. c.in_ok-match_pair.ensures.parts keep f next.0 once table next.1 now in
     record {
       frame = c.match_pair.ensures.frame ∙ inv.frame;
       many = c.in_ok-match_pair.ensures.many ∙ ap (λ (n : ℕ). n + 1) inv.many;
       least = (let more = c.match_pair.ensures.least in let least = inv.least in omega (arith, more, least));
       round = c.in_ok-enter.ensures.round;
-      slots = λ keep once table. next_slots G keep (frame_of t).pairs (views_of t) i view f at there c.loop-pair.parts _ (inv.slots keep once table) (matched keep once table);
-      kept = λ keep once table. next_kept G keep (frame_of t).pairs (views_of t) i view f at there c.loop-pair.parts _ inv.many (inv.kept keep once table) (matched keep once table);
+      slots = λ keep once table. next_slots G keep (frame_of t).pairs (views_of t) i view f at there c.loop-pair.parts _ (inv.slots keep once table) (c.in_ok-match_pair.ensures.parts keep f next.0 once table next.1 now);
+      kept = λ keep once table. next_kept G keep (frame_of t).pairs (views_of t) i view f at there c.loop-pair.parts _ inv.many (inv.kept keep once table) (c.in_ok-match_pair.ensures.parts keep f next.0 once table next.1 now);
       steps = λ keep once table.
           (let before = inv.steps keep once table in let ticks = c.in_ok-match_pair.ensures.ticks keep f next.0 once table next.1 now in
           let more = next_tests G keep (frame_of t).pairs (views_of t) i view f at there in omega (arith, before, ticks, more));

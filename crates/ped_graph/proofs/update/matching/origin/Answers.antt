@@ -15,7 +15,7 @@ pub returns-then-same : goal.returns-then-same
 returns-then-same g c = λ keep f once table key.
     let G = c.args.former.now.graph.now in
     let place = subst (λ (o : Option ℕ). IsPlace G keep (pair_by f c.args.view.now) o) c.in-Some.is (c.former_place_of.ensures.place keep f c.args.view.now once table key) in
-    same_place G keep (pair_by f c.args.view.now) c.in-Some.here c.verdict.result.now place c.verdict.ensures (c.view.ensures ∙ c.same.ensures.equal.0 c.if-same.true)
+    same_place G keep (pair_by f c.args.view.now) c.in-Some.here c.verdict.result.now place c.verdict.ensures (sym c.view.ensures ∙ c.same.ensures.equal.0 c.if-same.true)
 
 pub returns : goal.returns
 returns g c = λ keep f once table key.

@@ -1,18 +1,18 @@
 -- Lemmas of the room that this folder is named after.
 mod ChainCauses
-mod Choosing
+pub mod Choosing
 mod Deciding
 mod Differences
-mod Edges
-mod Excluding
-mod Files
+pub mod Edges
+pub mod Excluding
+pub mod Files
 mod LoopCauses
 mod FirstCauses
 mod LoopPaths
 mod Meeting
 mod Reaching
 mod Refusing
-mod Replying
+pub mod Replying
 mod ScalarCauses
 mod Solutions
 mod Spanning

@@ -385,19 +385,25 @@ awk 'NR == 1 { least = $2 } END { printf "races, time per operand, 600 to 150: %
 
 # An edit of one statement in the nest, by which the pairs of its references alone are new; how many pairs the opening and an
 # edit test; and what a change keeps.
-line='      A(I,J) = A(I-1,J)+A(I,J-1)'
+line_of_two='      A(I,J) = A(I-1,J)+A(I,J-1)'
+line_of_six='      A(I1+I2,I3+2*I4) = A(I1+I2-1,I3+I5)+A(I2+I6,I3+I4+1)'
 tested() {
-    { [ "$2" -eq 0 ] || edits "$2" 4 "$line"; echo tested; } >"$work/tested"
+    { [ "$2" -eq 0 ] || edits "$2" "$3" "$4"; echo tested; } >"$work/tested"
     "$ped" session "$1" "$work/tested" | awk '$1 == "tested" { print $2 }'
 }
-printf '\n%10s %10s %10s %12s %10s %12s %12s %14s\n' statements pairs 'of an edit' ms/opening ms/edit ratio us/move bytes/change
-while read -r statements pairs times steps; do
-    file=$work/two-$statements.f
-    two_deep "$statements" >"$file"
-    edits 1 4 "$line" >"$work/one"
-    edits "$((times + 1))" 4 "$line" >"$work/edits"
-    moves "$steps" 4 "$line" >"$work/moves"
-    awk -v statements="$statements" -v pairs="$(tested "$file" 0)" -v of_edit="$(tested "$file" 1)" -v times="$times" -v steps="$steps" \
+printf '\n%10s %10s %10s %10s %12s %10s %12s %12s %14s\n' nest statements pairs 'of an edit' ms/opening ms/edit ratio us/move bytes/change
+while read -r nest statements times steps; do
+    file=$work/$nest-$statements.f
+    "${nest}_deep" "$statements" >"$file"
+    case $nest in
+        two) number=4 line=$line_of_two ;;
+        *) number=8 line=$line_of_six ;;
+    esac
+    edits 1 "$number" "$line" >"$work/one"
+    edits "$((times + 1))" "$number" "$line" >"$work/edits"
+    moves "$steps" "$number" "$line" >"$work/moves"
+    awk -v nest="$nest" -v statements="$statements" -v times="$times" -v steps="$steps" \
+        -v pairs="$(tested "$file" 0 "$number" "$line")" -v of_edit="$(tested "$file" 1 "$number" "$line")" \
         -v opening="$(least_session '%U %S' "$file" "$work/nothing")" \
         -v nothing="$(least_session '%U %S' examples/recurrence.f "$work/nothing")" \
         -v one="$(least_session '%U %S' "$file" "$work/one")" \
@@ -406,14 +412,15 @@ while read -r statements pairs times steps; do
         -v one_peak="$(least_session %M "$file" "$work/one")" -v peak="$(least_session %M "$file" "$work/edits")" 'BEGIN {
             edit = (edits - one) * 1e3 / times
             open_time = (opening - nothing) * 1e3
-            printf "%10d %10d %10d %12.2f %10.3f %12.3f %12.3f %14d\n", statements, pairs, of_edit, open_time, edit,
+            printf "%10s %10d %10d %10d %12.2f %10.3f %12.3f %12.3f %14d\n", nest, statements, pairs, of_edit, open_time, edit,
                 open_time ? edit / open_time : 0, (moves - one) * 1e6 / 2 / steps, (peak - one_peak) * 1024 / times
         }'
 done <<'END'
-14 980 1000 10000
-45 10125 200 1000
-141 99405 40 200
-200 200000 20 100
+two 14 1000 10000
+two 45 200 1000
+two 141 40 200
+two 200 20 100
+six 45 40 1000
 END
 
 # A program of 4,000 statements without references, whose changes keep its tree, its names and its text.

@@ -350,7 +350,7 @@ def layer_page(layer, crates):
 
 def main():
     layers = read_layers(complaints)
-    below = crates_below("ped", read_uses()) | crates_below("ped_existence", read_uses()) | crates_below("ped_confluence", read_uses())
+    below = crates_below("ped", read_uses())
     pages = {"CONTRACTS.md": HEAD_PAGE.read_text().splitlines() + LIST_HEAD}
     for layer in layers:
         shown = {crate: crate_lines(crate) for crate in layer.crates if crate in below}

@@ -1,4 +1,5 @@
 mod Counting
+mod ExistenceLaws
 mod Inputs
 mod OneAnswer
 mod Outcomes

@@ -1,6 +1,7 @@
 pub use Rattle.ped_io
 pub use Rattle.ped_session
 pub mod Answer
+pub mod Existence
 pub mod Refusals
 pub mod ScriptRuns
 pub mod Serving

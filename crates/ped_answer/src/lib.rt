@@ -5,6 +5,7 @@
 
 mod answering;
 mod asking;
+mod existence;
 mod finishing;
 mod loading;
 mod panes;
@@ -13,4 +14,8 @@ mod sessions;
 mod showing;
 
 pub use answering::{Status, answer_surely, one_answer, ped_main, runs_are_as_before};
+pub use existence::{
+    answers_exist, dependence_pane_exists, dependence_pane_of_exists, dependences_exist,
+    exclusions_are_decided, replies_exist, script_answers_exist, some_answer, vectors_exist,
+};
 pub use ped_session::ped_verdict;

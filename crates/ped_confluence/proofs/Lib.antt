@@ -7,4 +7,5 @@ mod Halting
 mod Reaching
 mod Outcomes
 mod InOrder
+pub mod OneOutcome
 mod Examples

@@ -5,3 +5,5 @@
 mod agreeing;
 
 pub use agreeing::{interleavings_agree, without_choices};
+pub use ped_interleavings::an_interleaving;
+pub use ped_laws;

@@ -1,12 +1,16 @@
 mod Exchanging
+mod FormLengths
 mod HeldEdges
 mod InOrder
 mod Known
 mod Matched
 mod Matching
+mod OneMore
 pub mod OnePane
 mod Places
 mod Selecting
+mod SideLaws
+mod KnownSides
 mod Slices
 mod Standing
 mod Updated

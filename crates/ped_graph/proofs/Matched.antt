@@ -24,6 +24,10 @@ as_many_pairs [] (v ∷ vs) e = absurd (omega (arith, e))
 as_many_pairs (f ∷ fs) [] e = absurd (omega (arith, e))
 as_many_pairs (f ∷ fs) (v ∷ vs) e = ap suc (as_many_pairs fs vs (omega (arith, e)))
 
+-- equal views are told to be the same
+pub same_told : (v w : View) → v ≡ w → same_view v w ≡ true
+same_told v w e = (same_view_decides v w).1 e
+
 none_some : {X : Type 0} (x : X) → None ≡ Some x → ⊥
 none_some x e = cc
 

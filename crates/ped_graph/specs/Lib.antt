@@ -15,4 +15,5 @@ pub mod KnownProgram
 pub mod Marks
 pub mod Owners
 pub mod Parts
+pub mod Sides
 pub mod Update

@@ -17,6 +17,7 @@ mod preparing;
 mod rejections;
 mod rounds;
 mod selections;
+mod sides;
 mod telling;
 mod testing;
 pub mod update;

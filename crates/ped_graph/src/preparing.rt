@@ -7,18 +7,20 @@ ghost use Rattle.ped_refs.specs.References.{Reference, outermost, references, pa
 ghost use Rattle.ped_refs.specs.Occurrences.{reference_of, references_of, pair_at, IsWithin};
 ghost use Rattle.ped_affine.specs.Arguments.{setting_of, site};
 ghost use Rattle.ped_affine.specs.PairViews.{view_at};
+ghost use Rattle.ped_graph.specs.Sides.{IsSide};
 ghost use Rattle.ped_graph.specs.Guards as Guards;
 ghost use Rattle.ped_graph.specs.Marks.{is_firm};
 ghost use Rattle.ped_graph.specs.Held.{framed, frame_of, views_of};
 ghost use Rattle.ped_graph.specs.Dependences as Spec;
 ghost use Rattle.ped_graph.specs.Dependences.{facts_of, view_of};
 ghost use Rattle.ped_graph.specs.CodeFacts.{framed_of};
-ghost use Rattle.ped_graph.specs.KnownProgram.{IsKnown, IsRound};
+ghost use Rattle.ped_graph.specs.KnownProgram.{IsKnown, IsRound, AreSides};
 
 use crate::facts::{Facts, push_facts};
 use crate::firmness::all_firm;
 use crate::guards::guards;
 use crate::rounds::{assigned_by, outermost};
+use crate::sides::{Side, side_at};
 use ped_affine::{Place, Setting, loop_variables, view};
 use ped_base::NoMemory;
 use ped_refs::{Occurrence, Pair, listed_pairs};
@@ -96,10 +98,33 @@ fn pairs_of(alloc: Global, known: &Known, listed: &[Pair]) -> Result<Pairs, NoMe
     ensures facts { IfOk result (λ pairs. map framed_of pairs.facts.items ≡ (frame_of (program_tree known.now.program.now)).pairs) }
     ensures views { IfOk result (λ pairs. pairs.views.items ≡ views_of (program_tree known.now.program.now)) }
 {
-    let mut pairs = Pairs {
-        facts: Vec::new(alloc),
-        views: Vec::new(alloc),
-    };
+    let facts = facts_of_pairs(alloc, known, listed)?;
+    let views = views_of_pairs(alloc, known, listed)?;
+    Ok(Pairs { facts, views })
+}
+
+/// What is known of these pairs, which are all pairs of the program, without a test.
+pub fn facts_of_pairs(alloc: Global, known: &Known, listed: &[Pair]) -> Result<Vec<Facts>, NoMemory>
+    requires known { IsKnown known.now }
+    requires within { All (IsWithin (length known.now.found.now)) listed.now }
+    requires listed { map (pair_at (references_of known.now.found.now)) listed.now ≡ map Some (pairs (references (program_tree known.now.program.now))) }
+    ensures { IfOk result (λ facts. map framed_of facts.items ≡ (frame_of (program_tree known.now.program.now)).pairs) }
+{
+    let mut facts = Vec::new(alloc);
+    for pair in listed {
+        add_facts(&mut facts, known, pair)?;
+    }
+    Ok(facts)
+}
+
+/// The views of these pairs, which are all pairs of the program.
+fn views_of_pairs(alloc: Global, known: &Known, listed: &[Pair]) -> Result<Vec<PairView>, NoMemory>
+    requires known { IsKnown known.now }
+    requires within { All (IsWithin (length known.now.found.now)) listed.now }
+    requires listed { map (pair_at (references_of known.now.found.now)) listed.now ≡ map Some (pairs (references (program_tree known.now.program.now))) }
+    ensures { IfOk result (λ views. views.items ≡ views_of (program_tree known.now.program.now)) }
+{
+    let mut views = Vec::new(alloc);
     let mut round = Round {
         number: 0,
         assigned: NameSet::new(alloc),
@@ -107,15 +132,15 @@ fn pairs_of(alloc: Global, known: &Known, listed: &[Pair]) -> Result<Pairs, NoMe
     for pair in listed {
         let number = outermost(occurrence_at(known, pair.source));
         enter(alloc, &mut round, known.program, number)?;
-        add_pair(alloc, &mut pairs, known, &round, pair)?;
+        add_view(alloc, &mut views, known, &round, pair)?;
     }
-    Ok(pairs)
+    Ok(views)
 }
 
-/// Adds a pair of the program's references, by their places, with its view.
-fn add_pair(
+/// Adds the view of a pair of the program's references, by their places.
+fn add_view(
     alloc: Global,
-    pairs: &mut Pairs,
+    views: &mut Vec<PairView>,
     known: &Known,
     round: &Round,
     pair: &Pair,
@@ -124,19 +149,60 @@ fn add_pair(
     requires within { IsWithin (length known.now.found.now) pair.now }
     requires round { IsRound (program_tree known.now.program.now) round.now }
     requires entered { (source : Reference) → slice_get (references_of known.now.found.now) pair.now.source ≡ Some source → round.now.number ≡ outermost source }
-    ensures facts { OnOk result ((p : Reference × Reference) → pair_at (references_of known.now.found.now) pair.now ≡ Some p
-        → map framed_of pairs.new.facts.items ≡ map framed_of pairs.old.facts.items ++ framed (facts_of (program_tree known.now.program.now)) p.0 p.1 ∷ []) }
-    ensures views { OnOk result ((p : Reference × Reference) → pair_at (references_of known.now.found.now) pair.now ≡ Some p
-        → pairs.new.views.items ≡ pairs.old.views.items ++ view_of (program_tree known.now.program.now) p.0 p.1 ∷ []) }
+    ensures { OnOk result ((p : Reference × Reference) → pair_at (references_of known.now.found.now) pair.now ≡ Some p
+        → views.new.items ≡ views.old.items ++ view_of (program_tree known.now.program.now) p.0 p.1 ∷ []) }
 {
-    add_facts(&mut pairs.facts, known, pair)?;
     let view = view_at(alloc, known, round, pair)?;
-    pairs.views.push(view)?;
+    views.push(view)?;
     Ok(())
 }
 
+/// The references of a program as sides of their pairs.
+pub fn sides_of<'a>(alloc: Global, known: &Known<'a>) -> Result<Vec<Side<'a>>, NoMemory>
+    requires { IsKnown known.now }
+    ensures { IfOk result (λ sides. AreSides (program_tree known.now.program.now) (references_of known.now.found.now) sides.items) }
+{
+    let mut sides = Vec::new(alloc);
+    let mut round = Round {
+        number: 0,
+        assigned: NameSet::new(alloc),
+    };
+    for occurrence in known.found {
+        enter(alloc, &mut round, known.program, outermost(occurrence))?;
+        let side = side_of(alloc, known, &round, occurrence)?;
+        sides.push(side)?;
+    }
+    Ok(sides)
+}
+
+/// A reference as a side of its pairs.
+fn side_of<'a>(
+    alloc: Global,
+    known: &Known<'a>,
+    round: &Round,
+    occurrence: &'a Occurrence<'a>,
+) -> Result<Side<'a>, NoMemory>
+    requires known { IsKnown known.now }
+    requires shallow { length occurrence.now.nest.items ≤ 6 }
+    requires round { IsRound (program_tree known.now.program.now) round.now }
+    requires entered { round.now.number ≡ outermost (reference_of occurrence.now) }
+    ensures { IfOk result (IsSide (Spec.setting_in (program_tree known.now.program.now) (outermost (reference_of occurrence.now))) (Spec.site_of (reference_of occurrence.now))) }
+{
+    let setting = Setting {
+        constants: known.consts,
+        loop_variables: known.loop_variables,
+        assigned: &round.assigned,
+    };
+    side_at(alloc, &setting, &place_of(occurrence))
+}
+
 /// Goes on to the DO with this number, unless it is the same.
-fn enter(alloc: Global, round: &mut Round, program: &Program, number: u32) -> Result<(), NoMemory>
+pub fn enter(
+    alloc: Global,
+    round: &mut Round,
+    program: &Program,
+    number: u32,
+) -> Result<(), NoMemory>
     requires { IsRound (program_tree program.now) round.old }
     ensures round { OnOk result (IsRound (program_tree program.now) round.new) }
     ensures number { OnOk result (round.new.number ≡ number) }
@@ -166,7 +232,12 @@ fn add_facts(all: &mut Vec<Facts>, known: &Known, pair: &Pair) -> Result<(), NoM
 }
 
 /// The view of a pair of the program's references, by their places.
-fn view_at(alloc: Global, known: &Known, round: &Round, pair: &Pair) -> Result<PairView, NoMemory>
+pub fn view_at(
+    alloc: Global,
+    known: &Known,
+    round: &Round,
+    pair: &Pair,
+) -> Result<PairView, NoMemory>
     requires known { IsKnown known.now }
     requires within { IsWithin (length known.now.found.now) pair.now }
     requires round { IsRound (program_tree known.now.program.now) round.now }
@@ -199,7 +270,7 @@ fn view_in(
 }
 
 /// The reference at a place.
-fn occurrence_at<'a>(known: &Known<'a>, place: usize) -> &'a Occurrence<'a>
+pub fn occurrence_at<'a>(known: &Known<'a>, place: usize) -> &'a Occurrence<'a>
     requires known { IsKnown known.now }
     requires within { place < length known.now.found.now }
     ensures there { slice_get (references_of known.now.found.now) place ≡ Some (reference_of result.now) }

@@ -1,4 +1,4 @@
--- `parallel`: a DO becomes a PARALLEL DO, whose iterations may be done in any order (Allen and Kennedy, section 2.4.2; ParaScope).
+-- `parallel`: a DO becomes a PARALLEL DO, whose iterations may be done in any order (Allen and Kennedy, section 2.4.1; ParaScope).
 use Rattle.std.specs.Prelude.{◌≡◌, ℕ, List, true}
 use Rattle.ped_tree.specs.Tree.{ProgramTree}
 use Rattle.ped_scalar.specs.ped_rules.specs.Carried.{carried}
@@ -14,7 +14,7 @@ use Rattle.ped_loops.specs.Flags.{flagged}
 abbrev pub MakesParallel : (s : ℕ) → ProgramTree → ProgramTree → List (ℕ × ℕ) → Type 0
 MakesParallel s t new keep = (new ≡ flagged t s true) × (keep ≡ all_kept t)
 
--- which rules stand against the step: the statement is no DO, or a PARALLEL DO; a variable of the DO is read outside it; the new program isn't valid (this project)
+-- which rules stand against the step: the statement is no DO, or a PARALLEL DO; the DO reads its variable, or that of a DO in it, elsewhere than in the body of that DO, or one of these is live after it; the new program isn't valid (this project)
 abbrev pub StandsAgainstParallel : (s : ℕ) → ProgramTree → Rules
 StandsAgainstParallel s t =
     also NoLoop (WhereNoLoop t s)
@@ -22,7 +22,7 @@ StandsAgainstParallel s t =
     (also IndexEscapes (WhereEscape t s)
     (also Limit (WhereLimit (MakesParallel s) t s) no_rules)))
 
--- `parallel s`: a dependence that the DO carries forbids it (Allen and Kennedy, section 2.4.2)
+-- `parallel s`: a dependence that the DO carries and that the user hasn't rejected forbids it (Allen and Kennedy, section 2.4.1; ParaScope)
 abbrev pub paralleling : ℕ → StepAt
 paralleling s = record {
   statement = s;

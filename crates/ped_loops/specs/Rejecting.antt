@@ -49,7 +49,7 @@ WhereNothing t s x n = LoopOf t s × NothingPending t s x × (n ≡ s)
 abbrev pub MakesRejection : (s : ℕ) → List ℕ → ProgramTree → ProgramTree → List (ℕ × ℕ) → Type 0
 MakesRejection s x t new keep = (new ≡ with_directive t s x) × (keep ≡ all_kept t)
 
--- which rules stand against the step: the statement is no DO; the DO carries no pending dependence on the name. The new program is always valid where neither stands (ParaScope)
+-- which rules stand against the step: the statement is no DO; the DO carries no pending dependence on the name. Where neither stands, the new program is valid if this one is (ParaScope)
 abbrev pub StandsAgainstRejection : (s : ℕ) → List ℕ → ProgramTree → Rules
 StandsAgainstRejection s x t =
     also NoLoop (WhereNoLoop t s)

@@ -13,7 +13,7 @@ use Rattle.ped_loops.specs.Flags.{flagged}
 abbrev pub MakesSerial : (s : ℕ) → ProgramTree → ProgramTree → List (ℕ × ℕ) → Type 0
 MakesSerial s t new keep = (new ≡ flagged t s false) × (keep ≡ all_kept t)
 
--- which rules stand against the step: the statement is no DO, or no PARALLEL DO; a variable of the DO is read outside it; the new program isn't valid (this project)
+-- which rules stand against the step: the statement is no DO, or no PARALLEL DO; the DO reads its variable, or that of a DO in it, elsewhere than in the body of that DO, or one of these is live after it; the new program isn't valid (this project)
 abbrev pub StandsAgainstSerial : (s : ℕ) → ProgramTree → Rules
 StandsAgainstSerial s t =
     also NoLoop (WhereNoLoop t s)

@@ -12,8 +12,9 @@ use ped_scalar::ped_rules::ped_loop_runs::ped_tidy::{
 };
 use ped_scalar::ped_rules::ped_loop_runs::{indices_unwritten, one_for_one};
 
-/// `parallel` has one first cause at most and makes one program; where nothing forbids it, that one is valid, has no
-/// C$PED REJECT and is tidy if the old one is so, and means the same (Allen and Kennedy, section 2.4.2; ParaScope).
+/// `parallel` has one first cause at most and makes one program. Where nothing forbids it, that one is valid if the old one
+/// is; and if the old one is also tidy and without C$PED REJECT, so is the new one, and it means the same (Allen and
+/// Kennedy, section 2.4.1; ParaScope).
 pub fn parallel_is_lawful()
     ensures { (s : ℕ) → IsLawful (paralleling s) }
 {
@@ -33,13 +34,15 @@ pub fn serial_is_lawful()
     private_names_cleared();
 }
 
-/// `reject` has one first cause at most and makes one program, which is valid where nothing forbids the step (ParaScope).
+/// `reject` has one first cause at most and makes one program, which is valid where the old one is and nothing forbids the
+/// step (ParaScope).
 pub fn rejection_is_lawful()
     ensures { (s : ℕ) (x : List ℕ) → IsLawful (rejecting s x) }
 {}
 
-/// `reverse` has one first cause at most and makes one program; where nothing forbids it, that one is valid, has no
-/// C$PED REJECT and is tidy if the old one is so, and means the same (Allen and Kennedy, sections 2.2.3, 5.2).
+/// `reverse` has one first cause at most and makes one program. Where nothing forbids it, that one is valid if the old one
+/// is; and if the old one is also tidy and without C$PED REJECT, so is the new one, and it means the same (Allen and
+/// Kennedy, sections 2.2.3, 5.2).
 pub fn reversal_is_lawful()
     ensures { (s : ℕ) → IsLawful (reversing s) }
 {

@@ -21,7 +21,7 @@ use ped_tree::Do;
 use std::alloc::Global;
 use std::sync::ledger::Ledger;
 
-/// Makes the DO with this number a PARALLEL DO (Allen and Kennedy, section 2.4.2; ParaScope). Each statement keeps its number.
+/// Makes the DO with this number a PARALLEL DO (Allen and Kennedy, section 2.4.1; ParaScope). Each statement keeps its number.
 ///
 /// # Errors
 ///

@@ -12,7 +12,8 @@ mod tables;
 mod watches;
 
 pub use laws::{no_race_where_race_free, one_report};
-pub use ped_laws::ped_eval;
+pub use ped_confluence::ped_laws::ped_eval;
+pub use ped_confluence::{an_interleaving, interleavings_agree, without_choices};
 pub use ped_store;
 pub use reports::RaceReport;
 pub use searching::races;

@@ -30,14 +30,14 @@ is_rejected rejected = true
 abbrev pub carried : ProgramTree → ℕ → Edge → Bool
 carried t s e = is_carried_by t s e && not (is_rejected e.mark)
 
--- the sink stands in an earlier iteration (Allen and Kennedy, section 2.2.5)
+-- the sink stands in an earlier iteration (Allen and Kennedy, section 2.2.4)
 abbrev pub is_after : Option Direction → Bool
 is_after (Some After) = true
 is_after (Some Before) = false
 is_after (Some Same) = false
 is_after None = false
 
--- a vector of the dependence has `>` for the DO in the one of this level (Allen and Kennedy, section 2.2.5)
+-- a vector of the dependence has `>` for the DO in the one of this level (Allen and Kennedy, section 2.2.4)
 abbrev pub has_after : ℕ → Edge → Bool
 has_after level e = list_any (λ v. is_after (slice_get v level)) e.vectors
 
@@ -45,7 +45,7 @@ has_after level e = list_any (λ v. is_after (slice_get v level)) e.vectors
 abbrev pub crossing : ProgramTree → ℕ → Edge → Bool
 crossing t s e = carried t s e && has_after (level_at t s) e
 
--- of the dependences of a program this is the first that forbids a step, or none does (plain words)
+-- of the dependences of a program this is the first that forbids a step, with at most six loops round both its references; or none forbids it (plain words)
 abbrev pub IsFirstOf : ProgramTree → (Edge → Bool) → Option CodeEdge → Type 0
 IsFirstOf t forbids None = (edges : List Edge) → AreEdges t edges → All (λ e. forbids e ≡ false) edges
 IsFirstOf t forbids (Some e) = ((edges : List Edge) × AreEdges t edges × IsFirstForbidding forbids edges (edge_of e)) × HasAtMostSixLoops e

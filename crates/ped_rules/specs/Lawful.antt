@@ -17,7 +17,7 @@ pub record IsFaithful (t new : ProgramTree) : Type 0 where
   pub trusted : IsTrusted new
   pub keeps : Keeps t new
 
--- what a step of a kind owes a program that may be trusted: a transformation keeps its meaning, a rejection needn't (ParaScope)
+-- what a step of a kind owes: of a program that may be trusted a transformation makes one that may be trusted and means the same; a rejection owes nothing (ParaScope)
 abbrev pub Owes : StepKind → ProgramTree → ProgramTree → Type 0
 Owes transformation t new = IsTrusted t → IsFaithful t new
 Owes rejection t new = ⊤
@@ -28,7 +28,7 @@ pub record IsDetermined (at : StepAt) : Type 0 where
   pub one_made : (t new other : ProgramTree) (keep more : List (ℕ × ℕ)) → at.Makes t new keep → at.Makes t other more → (new ≡ other) × (keep ≡ more)
   pub some_made : (t : ProgramTree) → IsValid t → at.IsCause t None → MakesSome at t
 
--- a step has one first cause at most; it makes one program and keeps the same statements, each of which goes to one place and comes from one; where nothing forbids it, it makes a valid program of a valid one; and what it makes then, of a program without C$PED REJECT whose PARALLEL DOs leave their variables alone, is such a program and means the same, unless the step is a rejection (ParaScope; this project)
+-- a step has one first cause at most; it makes one program and keeps the same statements, each of which goes to one place and comes from one; where nothing forbids it, it makes a valid program of a valid one; and what it makes then, of a valid program without C$PED REJECT whose PARALLEL DOs leave their variables alone, is such a program and means the same, unless the step is a rejection (ParaScope; this project)
 pub record IsLawful (at : StepAt) : Type 0 where
   pub one_cause : (t : ProgramTree) (c d : Option Cause) → at.IsCause t c → at.IsCause t d → c ≡ d
   pub one_made : (t new other : ProgramTree) (keep more : List (ℕ × ℕ)) → at.Makes t new keep → at.Makes t other more → (new ≡ other) × (keep ≡ more)

@@ -38,7 +38,7 @@ on_loop new (Read items) = alone (Read items)
 on_loop new Stop = alone Stop
 on_loop new (Comment text) = alone (Comment text)
 
--- another statement in the place of the first DO; the comments beside it stay
+-- another statement in the place of the first DO, where nothing but comments stands before it; all else stays
 abbrev pub change_only : (Head → StmtTrees → StmtTree) → StmtTrees → StmtTrees
 change_only new no_stmts = no_stmts
 change_only new (more_stmts (Do h body) rest) = more_stmts (new h body) rest

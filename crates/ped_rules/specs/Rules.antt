@@ -39,7 +39,7 @@ is_serial h body = not h.parallel
 abbrev pub has_private : Head → StmtTrees → Bool
 has_private h body = has_some h.private
 
--- rule 5: a variable of the DO or of one in it is read outside the DO of it: the rule names the first statement that reads one so, or the DO where the program's end alone may show one (this project)
+-- rule 5: the DO reads its variable, or that of a DO in it, elsewhere than in the body of that DO, or one of these is live after it: the rule names the first statement that reads one so, or, where none does, the DO, since the program's end may show one (this project)
 abbrev pub WhereEscape : ProgramTree → ℕ → ℕ → Type 0
 WhereEscape t s n = LoopOf t s × (IsEscape t s (Some (Statement n)) ⊎ (IsEscape t s (Some Saved) × (n ≡ s)))
 

@@ -66,7 +66,7 @@ fn carried_edges<L: Ledger>(
     Ok(edges)
 }
 
-/// The level of the DO with this number, 1 for the outermost (Allen and Kennedy, section 2.2.5).
+/// The level of the DO with this number, 1 for the outermost (Allen and Kennedy, section 2.2.2).
 pub fn level_at<L: Ledger>(alloc: Global, scene: &Scene<L>, number: u32) -> Result<u8, NoMemory>
     requires { IsSceneOf (program_tree scene.now.tree.now) scene.now }
     ensures { IfOk result (λ level. level ≡ Spec.level_at (program_tree scene.now.tree.now) number) }

@@ -23,11 +23,11 @@ live_answer t s x None scalar unexposed h = λ n p. by n p.1
 live_answer t s x (Some n) scalar unexposed h = (scalar, inr (unexposed, h))
 
 -- a name that is no scalar's is unfit
-pub no_scalar : (t : ProgramTree) (s : ℕ) (h : Head) (body : StmtTrees) (x : List ℕ) → is_scalar t x ≡ false → true ≡ is_unfit t s h body x
+pub no_scalar : (t : ProgramTree) (s : ℕ) (h : Head) (body : StmtTrees) (x : List ℕ) → is_scalar t x ≡ false → true ≡ is_unfit t s x h body
 no_scalar t s h body x e = ap (λ (a : Bool). not a || is_index_near t s h body x || not (is_referred t s body x)) (sym e)
 
 -- a name that isn't unfit is a scalar's
-pub fit_scalar : (t : ProgramTree) (s : ℕ) (h : Head) (body : StmtTrees) (x : List ℕ) → is_unfit t s h body x ≡ false → IsTrue (is_scalar t x)
+pub fit_scalar : (t : ProgramTree) (s : ℕ) (h : Head) (body : StmtTrees) (x : List ℕ) → is_unfit t s x h body ≡ false → IsTrue (is_scalar t x)
 fit_scalar t s h body x e = by (is_scalar t x) refl
   where
     by : (b : Bool) → is_scalar t x ≡ b → IsTrue b

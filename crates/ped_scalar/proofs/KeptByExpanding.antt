@@ -1,17 +1,16 @@
 -- Where no rule stands against `expand`, the new program keeps the meaning of a tidy old one.
-use Rattle.std.proofs.Common.{◌≡◌, ℕ, ◌+◌, ℤ, List, [], ◌∷◌, ◌++◌, Bool, true, false, Option, Some, None, if◌then◌else◌, refl, sym, ap, subst, ◌∙◌, inl, inr, arith}
+use Rattle.std.proofs.Common.{◌≡◌, ℕ, ◌+◌, ℤ, List, [], ◌∷◌, Bool, true, false, Option, Some, None, if◌then◌else◌, refl, sym, ap, subst, ◌∙◌, inl, inr, arith}
 use Rattle.std.specs.Prelude.{codes, IsTrue, not, ◌&&◌, ◌||◌, ◌↔◌, nat_lt, unsigned_abs}
 use Rattle.std.specs.List.{list_any}
+use Rattle.std.proofs.lemmas.Bool.{false≢true, not-false, or_parts}
 use Rattle.std.proofs.lemmas.Bool.Decides.{nat_tests}
 use Rattle.ped_base.specs.Lists.{is_same_text, is_among}
-use Rattle.ped_tree.specs.Tree.{StmtTree, StmtTrees, Assign, If, Do, Print, Read, Stop, Comment, no_stmts, more_stmts, ProgramTree}
+use Rattle.ped_tree.specs.Tree.{Do, more_stmts, ProgramTree}
 use Rattle.ped_tree.specs.Nests.{indices_of}
 use Rattle.ped_tree.specs.Accesses.{constant_names}
-use Rattle.ped_tree.specs.Grammar.Fits.{fits}
-use Rattle.ped_tree.specs.Grammar.Refusal.{Finding}
 use Rattle.ped_tree.specs.Constants.ConstantExpressions.{constant_value}
 use Rattle.ped_rules.specs.ped_loop_runs.specs.ped_tidy.specs.ped_pasting.specs.ped_bodies.specs.ped_steps.specs.ped_symbols.specs.Kinds.{names_of, table_of}
-use Rattle.ped_rules.specs.ped_loop_runs.specs.ped_tidy.specs.ped_pasting.specs.ped_bodies.specs.ped_steps.specs.ped_symbols.specs.NameRefusals.{IsValid, name_refusals}
+use Rattle.ped_rules.specs.ped_loop_runs.specs.ped_tidy.specs.ped_pasting.specs.ped_bodies.specs.ped_steps.specs.ped_symbols.specs.NameRefusals.{IsValid}
 use Rattle.ped_tree.specs.NamesIn.{loop_variables}
 use Rattle.ped_tree.specs.NamesIn.{all_loop_variables}
 use Rattle.ped_rules.specs.ped_loop_runs.specs.ped_tidy.specs.ped_pasting.specs.ped_bodies.specs.ped_steps.specs.ped_flow.specs.Paths.{all_paths}
@@ -20,50 +19,24 @@ use Rattle.ped_rules.specs.ped_loop_runs.specs.ped_tidy.specs.ped_pasting.specs.
 use Rattle.ped_rules.specs.ped_loop_runs.specs.ped_tidy.specs.ped_pasting.specs.ped_bodies.specs.ped_steps.specs.ped_flow.specs.Summaries.{sum_of_all, sum_behind_all}
 use Rattle.ped_rules.specs.ped_loop_runs.specs.ped_tidy.specs.ped_pasting.specs.ped_bodies.specs.ped_steps.specs.ped_flow.proofs.Answering.{assigned_by, through_loop, read_behind}
 use Rattle.ped_rules.specs.ped_loop_runs.specs.ped_tidy.specs.ped_pasting.specs.ped_bodies.specs.ped_steps.specs.ped_flow.proofs.TreeSums.{all_summed, all_behind-summed}
-use Rattle.ped_rules.specs.ped_loop_runs.specs.ped_tidy.specs.ped_pasting.specs.ped_bodies.specs.ped_steps.specs.ped_flow.proofs.Truths.{untrue}
 use Rattle.ped_rules.specs.ped_loop_runs.specs.ped_tidy.specs.ped_pasting.specs.ped_bodies.specs.ped_steps.specs.ped_laws.proofs.FlowRunLaws.Names.{sorted_among, inner_among}
-use Rattle.ped_rules.specs.ped_loop_runs.specs.ped_tidy.specs.ped_pasting.specs.ped_bodies.specs.ped_steps.specs.declared.rules.Rule.TheVariants.{ParallelState, Range, ExposedOrLive, NotScalar, Limit, AlreadyPrivate}
 use Rattle.ped_rules.specs.ped_loop_runs.specs.ped_tidy.specs.ped_pasting.specs.ped_bodies.specs.ped_steps.specs.Causes.{NoRule}
 use Rattle.ped_rules.specs.ped_loop_runs.specs.ped_tidy.specs.ped_pasting.specs.ped_bodies.specs.ped_steps.specs.Tidy.{is_written_in, IsTidy}
 use Rattle.ped_rules.specs.ped_loop_runs.specs.ped_tidy.specs.ped_pasting.specs.ped_bodies.specs.ped_steps.specs.Runs.Meaning.{Keeps}
-use Rattle.ped_tree.specs.NamesIn.{private_names_in, all_private_names_in}
+use Rattle.ped_tree.specs.NamesIn.{private_names_in}
 use Rattle.ped_rules.specs.ped_loop_runs.specs.ped_tidy.specs.ped_pasting.specs.ped_bodies.specs.ped_steps.specs.Runs.Expanding as runs
 use Rattle.ped_rules.specs.ped_loop_runs.specs.ped_tidy.specs.ped_pasting.specs.ped_bodies.specs.ped_steps.specs.Runs.Expanding.{expanded_by, IsRound, MayExpand}
 use Rattle.ped_rules.specs.ped_loop_runs.specs.ped_tidy.specs.ped_pasting.specs.ped_bodies.specs.ped_steps.proofs.RunLaws.ExpandingKeeps.{expanding_keeps}
-use Rattle.ped_scalar.specs.Scalars.{is_scalar, is_unfit, is_index_near, is_referred, IsLiveBy}
+use Rattle.ped_scalar.specs.Scalars.{is_scalar, is_index_near, is_referred, IsLiveBy}
 use Rattle.ped_rules.specs.Spans.{Span, has_iteration, last_value, span_by, is_far, spans_far}
 use Rattle.ped_rules.specs.Fresh.{occurs, first_free, numbered_names, most_numbered}
-use Rattle.ped_scalar.specs.Expanding.{kept_value, with_elements, expanded, is_private_near, IsExpanded, StandsAgainstExpanding}
-use Rattle.ped_tree.specs.NamesIn.{private_names_in, all_private_names_in}
+use Rattle.ped_scalar.specs.Expanding.{kept_value, with_elements, expanded, is_private_near, IsExpanded, of_span, StandsAgainstExpanding}
 use Rattle.ped_rules.specs.ped_loop_runs.specs.ped_tidy.proofs.TidyPathsSums.{Summary}
 use Rattle.ped_rules.proofs.RightSteps.{near_is}
-use Rattle.ped_scalar.proofs.KeptByPrivatising.{least, false_by, or_neither, not_so}
+use Rattle.ped_scalar.proofs.ExpandRules as rules
+use Rattle.ped_scalar.proofs.KeptByPrivatising.{least}
 use Rattle.ped_scalar.proofs.WrittenThere as writing
 use Rattle.ped_scalar.proofs.VariablesRound as round_it
-
--- the private names, as steps and as runs list them
-mutual
-  same_private : (s : StmtTree) → private_names_in s ≡ private_names_in s
-  same_private (Assign left right) = refl
-  same_private (If c a b) = λ i. all_same_private a i ++ all_same_private b i
-  same_private (Do h b) = ap (λ (z : List (List ℕ)). h.private ++ z) (all_same_private b)
-  same_private (Print items) = refl
-  same_private (Read items) = refl
-  same_private Stop = refl
-  same_private (Comment text) = refl
-
-  all_same_private : (ss : StmtTrees) → all_private_names_in ss ≡ all_private_names_in ss
-  all_same_private no_stmts = refl
-  all_same_private (more_stmts s rest) = λ i. same_private s i ++ all_same_private rest i
-
--- a program that can't be invalid is valid
-valid_by : (u : ProgramTree) → ((IsValid u → ⊥) → ⊥) → IsValid u
-valid_by u h = go (fits u) (name_refusals [] u) refl refl
-  where
-    go : (b : Bool) (found : List Finding) → fits u ≡ b → name_refusals [] u ≡ found → IsValid u
-    go true [] e f = record { fits = e; names = f }
-    go true (r ∷ rs) e f = absurd (h (λ v. let none : r ∷ rs ≡ [] = sym f ∙ v.names in absurd cc))
-    go false found e f = absurd (h (λ v. untrue (sym e ∙ v.fits)))
 
 -- a fresh name doesn't occur
 free : (t : ProgramTree) (names : List (List ℕ)) (array : List ℕ) → first_free t names ≡ Some array → occurs t array ≡ false
@@ -81,39 +54,36 @@ kept_same false x array last = refl
 not_less : (n : ℤ) → is_far n ≡ false → nat_lt 2147483647 (unsigned_abs n) ≡ false
 not_less n h = let k = near_is n h in grind (arith, nat_tests, k)
 
-module _ (t : ProgramTree) (s : ℕ) (x : List ℕ) (l : LoopOf t s) (valid : IsValid t) (stands_none : NoRule (StandsAgainstExpanding t s x)) where
+module _ (t : ProgramTree) (s : ℕ) (x : List ℕ) (l : LoopOf t s) (valid : IsValid t) (stands_none : NoRule (StandsAgainstExpanding s x t)) where
   abbrev constants : List (List ℕ)
   constants = constant_names t.decls
 
   pub in_order : l.head.parallel ≡ false
-  in_order = false_by l.head.parallel (λ h. stands_none ParallelState s (l, h, refl))
-
-  fit : is_unfit t s l.head l.body x ≡ false
-  fit = false_by (is_unfit t s l.head l.body x) (λ h. stands_none NotScalar s (l, h, refl))
+  in_order = rules.is_serial s x t stands_none l
 
   unreferred : ((not (is_scalar t x) || is_index_near t s l.head l.body x) ≡ false) × (not (is_referred t s l.body x) ≡ false)
-  unreferred = or_neither (not (is_scalar t x) || is_index_near t s l.head l.body x) (not (is_referred t s l.body x)) fit
+  unreferred = or_parts (not (is_scalar t x) || is_index_near t s l.head l.body x) (not (is_referred t s l.body x)) (rules.is_fit s x t stands_none l)
 
   pub index : (not (is_scalar t x) ≡ false) × (is_index_near t s l.head l.body x ≡ false)
-  index = or_neither (not (is_scalar t x)) (is_index_near t s l.head l.body x) unreferred.0
+  index = or_parts (not (is_scalar t x)) (is_index_near t s l.head l.body x) unreferred.0
 
   pub scalar : is_scalar t x ≡ true
-  scalar = not_so (is_scalar t x) index.0
+  scalar = not-false (is_scalar t x) index.0
 
   pub referred : is_referred t s l.body x ≡ true
-  referred = not_so (is_referred t s l.body x) unreferred.1
+  referred = not-false (is_referred t s l.body x) unreferred.1
 
   variables : (is_among x (indices_of (nest_round t s)) ≡ false) × (is_among x (loop_variables (Do l.head l.body)) ≡ false)
-  variables = or_neither (is_among x (indices_of (nest_round t s))) (is_among x (loop_variables (Do l.head l.body))) index.1
+  variables = or_parts (is_among x (indices_of (nest_round t s))) (is_among x (loop_variables (Do l.head l.body))) index.1
 
   pub shared : is_private_near t s l.head l.body x ≡ false
-  shared = false_by (is_private_near t s l.head l.body x) (λ h. stands_none AlreadyPrivate s (l, scalar, h, refl))
+  shared = rules.is_unshared s x t stands_none l
 
   privates : (is_among x (private_names_in (Do l.head l.body)) ≡ false) × (list_any (λ k. is_among x k.head.private) (nest_round t s) ≡ false)
-  privates = or_neither (is_among x (private_names_in (Do l.head l.body))) (list_any (λ k. is_among x k.head.private) (nest_round t s)) shared
+  privates = or_parts (is_among x (private_names_in (Do l.head l.body))) (list_any (λ k. is_among x k.head.private) (nest_round t s)) shared
 
   pub unexposed : (n : ℕ) → IsExposed t s x n → ⊥
-  unexposed = least (IsExposed t s x) (λ n first. stands_none ExposedOrLive n (l, (scalar, inl first)))
+  unexposed = least (IsExposed t s x) (λ n first. rules.is_kept s x t stands_none n (scalar, inl first))
 
   -- a reference in the DO writes the scalar
   pub written_there : is_written_in t s l.body x ≡ true
@@ -151,17 +121,17 @@ module _ (t : ProgramTree) (s : ℕ) (x : List ℕ) (l : LoopOf t s) (valid : Is
 
       go : (b : Bool) → assigned ≡ b → IsAssignedThrough t s x
       go true e = says.0 e
-      go false e = let by = live_by live in absurd (stands_none ExposedOrLive by.0 (l, (scalar, inr (unexposed, by.1, λ all. untrue (sym e ∙ says.1 all)))))
+      go false e = let by = live_by live in absurd (rules.is_kept s x t stands_none by.0 (scalar, inr (unexposed, by.1, λ all. false≢true (sym e ∙ says.1 all))))
 
   module _ (tidy : IsTidy t) (new : ProgramTree) (e : IsExpanded t s x l.head new) where
     pub fresh : is_among e.array (names_of t) ≡ false
-    fresh = (or_neither (is_among e.array (names_of t)) _ (free t (numbered_names (codes "KX") 1 most_numbered) e.array e.fresh)).0
+    fresh = (or_parts (is_among e.array (names_of t)) _ (free t (numbered_names (codes "KX") 1 most_numbered) e.array e.fresh)).0
 
     near : (is_far e.span.first ≡ false) × (is_far e.span.last ≡ false)
-    near = or_neither (is_far e.span.first) (is_far e.span.last) (false_by (spans_far e.span) (λ h. stands_none Range s (l, e.span, e.spans, h, refl)))
+    near = or_parts (is_far e.span.first) (is_far e.span.last) (ap (of_span spans_far) (sym e.spans) ∙ rules.is_literal s x t stands_none l)
 
     new_valid : IsValid new
-    new_valid = valid_by new (λ invalid. stands_none Limit s (l, inr (new, e, invalid), refl))
+    new_valid = rules.is_valid s x t stands_none l new e
 
     module _ (m1 m2 m3 : ℤ) (first : constant_value (table_of t).constants l.head.first ≡ Some m1) (last : constant_value (table_of t).constants l.head.last ≡ Some m2) (step : constant_value (table_of t).constants l.head.step ≡ Some m3)
         (some : has_iteration m1 m2 m3 ≡ true) (first_is : m1 ≡ e.span.first) (last_is : last_value m1 m2 m3 ≡ e.span.last) where
@@ -171,11 +141,11 @@ module _ (t : ProgramTree) (s : ℕ) (x : List ℕ) (l : LoopOf t s) (valid : Is
         scalar = scalar;
         round = variables.0;
         near = variables.1;
-        shared = ap (is_among x) (same_private (Do l.head l.body)) ∙ privates.0;
+        shared = privates.0;
         shared_round = λ n m round. round_it.private_round t s l.head l.body l.is n m round x privates.1;
         no_index = no_index_name tidy;
         unexposed = unexposed;
-        dead = λ dead live. untrue (sym dead ∙ e.says.1 live);
+        dead = λ dead live. false≢true (sym dead ∙ e.says.1 live);
         through = λ live. through (e.says.0 live);
         new = fresh;
         first = first;

@@ -1,8 +1,8 @@
 pub mod FlowAnswers
 pub mod LostAnswers
-pub mod FirstAgainstPrivatising
+pub mod PrivatiseRules
 pub mod KeptByPrivatising
-pub mod FirstAgainstExpanding
+pub mod ExpandRules
 pub mod ExpandedPrograms
 pub mod TidyReferencesSubstituted
 pub mod TidyReferencesPrivatised

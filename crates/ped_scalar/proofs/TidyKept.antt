@@ -1,45 +1,28 @@
 -- Where no rule stands against `privatise` or `expand`, a tidy program stays tidy.
-use Rattle.std.proofs.Common.{◌≡◌, ℕ, List, false, Option, Some, None, refl, sym, subst, ◌∙◌}
+use Rattle.std.proofs.Common.{◌≡◌, ℕ, List, false, sym, subst, ◌∙◌}
 use Rattle.ped_base.specs.Lists.{is_among}
-use Rattle.ped_tree.specs.Tree.{StmtTree, Assign, If, Do, Print, Read, Stop, Comment, ProgramTree}
-use Rattle.ped_tree.specs.Numbering.{statement_with}
+use Rattle.ped_tree.specs.Tree.{ProgramTree}
 use Rattle.ped_rules.specs.ped_loop_runs.specs.ped_tidy.specs.ped_pasting.specs.ped_bodies.specs.ped_steps.specs.ped_symbols.specs.Kinds.{names_of}
 use Rattle.ped_rules.specs.ped_loop_runs.specs.ped_tidy.specs.ped_pasting.specs.ped_bodies.specs.ped_steps.specs.ped_symbols.specs.NameRefusals.{IsValid}
 use Rattle.ped_rules.specs.ped_loop_runs.specs.ped_tidy.specs.ped_pasting.specs.ped_bodies.specs.ped_steps.specs.ped_flow.specs.Questions.{LoopOf, IsShownBehind}
-use Rattle.ped_rules.specs.ped_loop_runs.specs.ped_tidy.specs.ped_pasting.specs.ped_bodies.specs.ped_steps.specs.declared.rules.Rule.TheVariants.{NoLoop}
 use Rattle.ped_rules.specs.ped_loop_runs.specs.ped_tidy.specs.ped_pasting.specs.ped_bodies.specs.ped_steps.specs.Causes.{NoRule}
 use Rattle.ped_rules.specs.ped_loop_runs.specs.ped_tidy.specs.ped_pasting.specs.ped_bodies.specs.ped_steps.specs.Tidy.{IsTidy}
-use Rattle.ped_rules.specs.Rules.{IsNoLoop}
 use Rattle.ped_scalar.specs.Privatising.{privatised, StandsAgainstPrivatising}
 use Rattle.ped_scalar.specs.Expanding.{expanded, IsExpanded, StandsAgainstExpanding}
 use Rattle.ped_scalar.proofs.TidyReferencesPrivatised.{parallel_stays, index_stays, privatised_unwritten}
 use Rattle.ped_scalar.proofs.TidyReferencesExpanded.{old_loop, parallel_comes, index_comes, expanded_unwritten}
 use Rattle.ped_scalar.proofs.TidyPathsPrivatising.{privatised_shows_less}
 use Rattle.ped_scalar.proofs.TidyPathsUnshown.{valid_expanded_shows_less}
-use Rattle.ped_scalar.proofs.KeptByPrivatising.{parallel_none}
+use Rattle.ped_scalar.proofs.PrivatiseRules.{its_loop, is_apart}
 use Rattle.ped_scalar.proofs.KeptByExpanding as kept
 
--- a statement that can't be other than a DO is one
-loop_there : (t : ProgramTree) (s : ℕ) → (IsNoLoop t s → ⊥) → LoopOf t s
-loop_there t s some = go (statement_with s t) refl
-  where
-    go : (o : Option StmtTree) → statement_with s t ≡ o → LoopOf t s
-    go (Some (Do h b)) e = record { head = h; body = b; is = e }
-    go None e = absurd (some (λ l. let q = sym e ∙ l.is in absurd cc))
-    go (Some (Assign left right)) e = absurd (some (λ l. let q = sym e ∙ l.is in absurd cc))
-    go (Some (If c a b)) e = absurd (some (λ l. let q = sym e ∙ l.is in absurd cc))
-    go (Some (Print items)) e = absurd (some (λ l. let q = sym e ∙ l.is in absurd cc))
-    go (Some (Read items)) e = absurd (some (λ l. let q = sym e ∙ l.is in absurd cc))
-    go (Some Stop) e = absurd (some (λ l. let q = sym e ∙ l.is in absurd cc))
-    go (Some (Comment text)) e = absurd (some (λ l. let q = sym e ∙ l.is in absurd cc))
-
 -- with `privatise`: each PARALLEL DO stays as it is, and behind it the program's end shows no more
-pub privatised_tidy : (t : ProgramTree) (s : ℕ) (x : List ℕ) → IsValid t → NoRule (StandsAgainstPrivatising t s x) → IsTidy t → IsTidy (privatised t s x)
-privatised_tidy t s x valid none tidy = by (loop_there t s (λ no. none NoLoop s (no, refl)))
+pub privatised_tidy : (t : ProgramTree) (s : ℕ) (x : List ℕ) → IsValid t → NoRule (StandsAgainstPrivatising s x t) → IsTidy t → IsTidy (privatised t s x)
+privatised_tidy t s x valid none tidy = by (its_loop s x t none)
   where
     by : LoopOf t s → IsTidy (privatised t s x)
     by l k p parallel w index =
-        let apart = parallel_none t s x valid none l in
+        let apart = is_apart s x t none l in
         let old : LoopOf t k = record { head = p.head; body = p.body; is = parallel_stays t s x l apart k p parallel } in
         record {
           unwritten = privatised_unwritten t s x l apart (λ n q on y i. (tidy n q on y i).unwritten) k p parallel w index;
@@ -47,7 +30,7 @@ privatised_tidy t s x valid none tidy = by (loop_there t s (λ no. none NoLoop s
         }
 
 -- with `expand`: each PARALLEL DO comes from one, and behind it the program's end shows no more of its variables
-module _ (t new : ProgramTree) (s : ℕ) (l : LoopOf t s) (x : List ℕ) (valid : IsValid t) (none : NoRule (StandsAgainstExpanding t s x)) (e : IsExpanded t s x l.head new) (tidy : IsTidy t) where
+module _ (t new : ProgramTree) (s : ℕ) (l : LoopOf t s) (x : List ℕ) (valid : IsValid t) (none : NoRule (StandsAgainstExpanding s x t)) (e : IsExpanded t s x l.head new) (tidy : IsTidy t) where
   abbrev made : ProgramTree
   made = expanded t s x e.live e.array e.span
 

@@ -12,12 +12,13 @@ use Rattle.ped_rules.specs.ped_loop_runs.specs.ped_tidy.specs.ped_pasting.specs.
 use Rattle.ped_rules.specs.ped_loop_runs.specs.ped_tidy.specs.ped_pasting.specs.ped_bodies.specs.ped_steps.specs.ped_flow.specs.Questions.{LoopOf, IsLiveAfter, IsAssignedThrough}
 use Rattle.ped_rules.specs.ped_loop_runs.specs.ped_tidy.specs.ped_pasting.specs.ped_bodies.specs.ped_steps.specs.ped_sums.specs.Sums.{literal}
 use Rattle.ped_rules.specs.ped_loop_runs.specs.ped_tidy.specs.ped_pasting.specs.ped_bodies.specs.ped_steps.specs.ped_sums.specs.Substitution.{statements_substituted}
-use Rattle.ped_rules.specs.ped_loop_runs.specs.ped_tidy.specs.ped_pasting.specs.ped_bodies.specs.ped_steps.specs.declared.rules.Rule.TheVariants.{NoLoop, NotPerfect, ParallelState, HasPrivate, IndexEscapes, BoundNotPlain, BoundsShape, StepShape, Range, NoNeighbour, OneBlock, ExposedOrLive, NotScalar, NotConstant, Limit, BadFactor, AlreadyPrivate, NothingToReject}
+use Rattle.ped_rules.specs.ped_loop_runs.specs.ped_tidy.specs.ped_pasting.specs.ped_bodies.specs.ped_steps.specs.declared.rules.Rule.TheVariants.{NoLoop, ParallelState, Range, ExposedOrLive, NotScalar, NotConstant, Limit, AlreadyPrivate}
 use Rattle.ped_rules.specs.ped_loop_runs.specs.ped_tidy.specs.ped_pasting.specs.ped_bodies.specs.ped_steps.specs.Causes.{Rules, IsFirstCause, none_forbids}
 use Rattle.ped_rules.specs.ped_loop_runs.specs.ped_tidy.specs.ped_pasting.specs.ped_bodies.specs.ped_steps.specs.Replacing.{alone, all_replaced}
 use Rattle.ped_rules.specs.Steps.{transformation, StepAt}
-use Rattle.ped_rules.specs.Rules.{IsNoLoop}
-use Rattle.ped_rules.specs.Spans.{Span, span_of, spans_far}
+use Rattle.ped_rules.specs.Chains.{no_rules, also, WhereLoop}
+use Rattle.ped_rules.specs.Rules.{WhereNoLoop, is_parallel, isnt_constant}
+use Rattle.ped_rules.specs.Spans.{Values, Span, span_of, spans_far}
 use Rattle.ped_rules.specs.Fresh.{fresh_name}
 use Rattle.ped_scalar.specs.Scalars.{is_scalar, is_unfit, IsLiveBy, IsExposedBy, IsUnexposed}
 
@@ -78,27 +79,6 @@ pub record IsExpanded (t : ProgramTree) (s : ℕ) (x : List ℕ) (h : Head) (new
   pub says : SaysLive t s x live
   pub made : new ≡ expanded t s x live array span
 
--- which rules stand against the step, each with its statement: the statement is no DO; it is a PARALLEL DO; a value of its variable is one that no literal has; the scalar is exposed, or live and not assigned on each path through the body; the name is no such scalar; a bound isn't constant, or there is no iteration; the new array's name would be too long, or the new program isn't valid; the name is in the PRIVATE list of the DO, of one in it or of one round it. What is asked of a scalar isn't asked of another name, and what is asked of values isn't asked where there are none (ParaScope; this project)
-abbrev pub StandsAgainstExpanding : ProgramTree → ℕ → List ℕ → Rules
-StandsAgainstExpanding t s x NoLoop n = IsNoLoop t s × (n ≡ s)
-StandsAgainstExpanding t s x ParallelState n = (l : LoopOf t s) × IsTrue l.head.parallel × (n ≡ s)
-StandsAgainstExpanding t s x Range n = (l : LoopOf t s) × (v : Span) × (span_of (table_of t).constants l.head ≡ Some v) × IsTrue (spans_far v) × (n ≡ s)
-StandsAgainstExpanding t s x ExposedOrLive n = LoopOf t s × IsScalarLostBy t s x n
-StandsAgainstExpanding t s x NotScalar n = (l : LoopOf t s) × IsTrue (is_unfit t s l.head l.body x) × (n ≡ s)
-StandsAgainstExpanding t s x NotConstant n = (l : LoopOf t s) × (span_of (table_of t).constants l.head ≡ None) × (n ≡ s)
-StandsAgainstExpanding t s x Limit n = (l : LoopOf t s) × ((array_name t ≡ None) ⊎ ((new : ProgramTree) × IsExpanded t s x l.head new × (IsValid new → ⊥))) × (n ≡ s)
-StandsAgainstExpanding t s x AlreadyPrivate n = (l : LoopOf t s) × IsTrue (is_scalar t x) × IsTrue (is_private_near t s l.head l.body x) × (n ≡ s)
-StandsAgainstExpanding t s x NotPerfect n = ⊥
-StandsAgainstExpanding t s x HasPrivate n = ⊥
-StandsAgainstExpanding t s x IndexEscapes n = ⊥
-StandsAgainstExpanding t s x BoundNotPlain n = ⊥
-StandsAgainstExpanding t s x BoundsShape n = ⊥
-StandsAgainstExpanding t s x StepShape n = ⊥
-StandsAgainstExpanding t s x NoNeighbour n = ⊥
-StandsAgainstExpanding t s x OneBlock n = ⊥
-StandsAgainstExpanding t s x BadFactor n = ⊥
-StandsAgainstExpanding t s x NothingToReject n = ⊥
-
 -- statements up to this number keep their numbers, and those behind it go one further where the truth value says so (this project)
 abbrev pub moved_behind : ℕ → Bool → ℕ → ℕ
 moved_behind end further n = if nat_lt end n && further then n + 1 else n
@@ -107,11 +87,48 @@ moved_behind end further n = if nat_lt end n && further then n + 1 else n
 abbrev pub expand_kept : ProgramTree → ℕ → StmtTrees → Bool → List (ℕ × ℕ)
 expand_kept t s body live = map (λ n. (n, moved_behind (s + statements_count body) live n)) (range_with_len 1 (statements_count t.body))
 
+-- what the step makes (ParaScope)
+abbrev pub MakesExpanded : (s : ℕ) → List ℕ → ProgramTree → ProgramTree → List (ℕ × ℕ) → Type 0
+MakesExpanded s x t new keep = (l : LoopOf t s) × (e : IsExpanded t s x l.head new) × (keep ≡ expand_kept t s l.body e.live)
+
+-- there are values of a DO's variable, and they pass the test
+abbrev pub of_span : (Span → Bool) → Option Span → Bool
+of_span test None = false
+of_span test (Some v) = test v
+
+-- rule 9: the bounds are constant, there is an iteration, and a value of the DO's variable is one that no literal has (ANSI X3.9-1978, section 4.3; this project)
+abbrev pub has_far_value : Values → Head → StmtTrees → Bool
+has_far_value constants h body = of_span spans_far (span_of constants h)
+
+-- rule 12: a scalar is exposed in the DO, or live behind it and not assigned on each path through the body. What is asked of a scalar isn't asked of another name (ParaScope; this project)
+abbrev pub WhereLost : ProgramTree → (s : ℕ) → List ℕ → ℕ → Type 0
+WhereLost t s x n = LoopOf t s × IsScalarLostBy t s x n
+
+-- rule 15: the new array's name would be too long, or the new program isn't valid; where a bound isn't constant there is none (this project)
+abbrev pub WhereArrayLimit : ProgramTree → (s : ℕ) → List ℕ → ℕ → Type 0
+WhereArrayLimit t s x n = (l : LoopOf t s) × ((array_name t ≡ None) ⊎ ((new : ProgramTree) × IsExpanded t s x l.head new × (IsValid new → ⊥))) × (n ≡ s)
+
+-- rule 17: a scalar is in the PRIVATE list of the DO, of one in it or of one round it (ParaScope)
+abbrev pub is_scalar_private_near : ProgramTree → ℕ → List ℕ → Head → StmtTrees → Bool
+is_scalar_private_near t s x h body = is_scalar t x && is_private_near t s h body x
+
+-- which rules stand against the step: the statement is no DO; it is a PARALLEL DO; a value of its variable is one that no literal has; the scalar is exposed, or live and not assigned on each path through the body; the name is no such scalar; a bound isn't constant, or there is no iteration; the new array's name would be too long, or the new program isn't valid; the name is in the PRIVATE list of the DO, of one in it or of one round it (ParaScope; this project)
+abbrev pub StandsAgainstExpanding : (s : ℕ) → List ℕ → ProgramTree → Rules
+StandsAgainstExpanding s x t =
+    also NoLoop (WhereNoLoop t s)
+    (also ParallelState (WhereLoop t s is_parallel)
+    (also Range (WhereLoop t s (has_far_value (table_of t).constants))
+    (also ExposedOrLive (WhereLost t s x)
+    (also NotScalar (WhereLoop t s (is_unfit t s x))
+    (also NotConstant (WhereLoop t s (isnt_constant (table_of t).constants))
+    (also Limit (WhereArrayLimit t s x)
+    (also AlreadyPrivate (WhereLoop t s (is_scalar_private_near t s x)) no_rules)))))))
+
 -- the step at a statement: a scalar becomes an array with an element for each value of a DO's variable (Allen and Kennedy, section 5.3; ParaScope)
 abbrev pub expanding : ℕ → List ℕ → StepAt
 expanding s x = record {
   statement = s;
   kind = transformation;
-  IsCause = λ t. IsFirstCause t (StandsAgainstExpanding t s x) none_forbids;
-  Makes = λ t new keep. (l : LoopOf t s) × (e : IsExpanded t s x l.head new) × (keep ≡ expand_kept t s l.body e.live);
+  IsCause = λ t. IsFirstCause t (StandsAgainstExpanding s x t) none_forbids;
+  Makes = MakesExpanded s x;
 }

@@ -1,16 +1,16 @@
 -- `privatise`: a scalar becomes private to the iterations of a DO. The new program, and the rules that stand against it (Allen and Kennedy, section 5.2; ParaScope).
-use Rattle.std.specs.Prelude.{◌≡◌, ◌⊎◌, ℕ, List, [], ◌∷◌, ◌++◌, ◌||◌, false, IsTrue}
+use Rattle.std.specs.Prelude.{◌≡◌, ◌⊎◌, ℕ, List, [], ◌∷◌, ◌++◌, Bool, not, ◌&&◌, ◌||◌, IsTrue}
 use Rattle.std.specs.List.{list_any}
 use Rattle.ped_base.specs.Lists.{is_among}
-use Rattle.ped_tree.specs.Tree.{StmtTree, StmtTrees, Assign, If, Do, Print, Read, Stop, Comment, ProgramTree}
-use Rattle.ped_rules.specs.ped_loop_runs.specs.ped_tidy.specs.ped_pasting.specs.ped_bodies.specs.ped_steps.specs.ped_symbols.specs.NameRefusals.{IsValid}
+use Rattle.ped_tree.specs.Tree.{Head, StmtTree, StmtTrees, Assign, If, Do, Print, Read, Stop, Comment, ProgramTree}
 use Rattle.ped_rules.specs.ped_loop_runs.specs.ped_tidy.specs.ped_pasting.specs.ped_bodies.specs.ped_steps.specs.ped_flow.specs.PlainBounds.{nest_round}
 use Rattle.ped_rules.specs.ped_loop_runs.specs.ped_tidy.specs.ped_pasting.specs.ped_bodies.specs.ped_steps.specs.ped_flow.specs.Questions.{LoopOf}
-use Rattle.ped_rules.specs.ped_loop_runs.specs.ped_tidy.specs.ped_pasting.specs.ped_bodies.specs.ped_steps.specs.declared.rules.Rule.TheVariants.{NoLoop, NotPerfect, ParallelState, HasPrivate, IndexEscapes, BoundNotPlain, BoundsShape, StepShape, Range, NoNeighbour, OneBlock, ExposedOrLive, NotScalar, NotConstant, Limit, BadFactor, AlreadyPrivate, NothingToReject}
+use Rattle.ped_rules.specs.ped_loop_runs.specs.ped_tidy.specs.ped_pasting.specs.ped_bodies.specs.ped_steps.specs.declared.rules.Rule.TheVariants.{NoLoop, ParallelState, ExposedOrLive, NotScalar, Limit, AlreadyPrivate}
 use Rattle.ped_rules.specs.ped_loop_runs.specs.ped_tidy.specs.ped_pasting.specs.ped_bodies.specs.ped_steps.specs.Causes.{Rules, IsFirstCause, none_forbids}
 use Rattle.ped_rules.specs.ped_loop_runs.specs.ped_tidy.specs.ped_pasting.specs.ped_bodies.specs.ped_steps.specs.Replacing.{alone, program_with, all_kept}
 use Rattle.ped_rules.specs.Steps.{transformation, StepAt}
-use Rattle.ped_rules.specs.Rules.{IsNoLoop}
+use Rattle.ped_rules.specs.Chains.{no_rules, also, WhereLoop}
+use Rattle.ped_rules.specs.Rules.{WhereNoLoop, WhereLimit}
 use Rattle.ped_scalar.specs.Scalars.{is_scalar, is_unfit, IsLiveBy, IsExposedBy, IsUnexposed}
 
 -- a DO with the name last in its PRIVATE list (ParaScope)
@@ -35,32 +35,45 @@ IsExposedOrLiveBy t s x n = IsExposedBy t s x n ⊎ (IsUnexposed t s x × IsLive
 abbrev pub IsScalarExposedOrLiveBy : ProgramTree → ℕ → List ℕ → ℕ → Type 0
 IsScalarExposedOrLiveBy t s x n = IsTrue (is_scalar t x) × IsExposedOrLiveBy t s x n
 
--- which rules stand against the step, each with its statement: the statement is no DO; the DO or one round it is a PARALLEL DO; the scalar is exposed or live; the name is no such scalar; the new program, where the name isn't in the list already, isn't valid; the name is in the DO's PRIVATE list. What is asked of a scalar isn't asked of another name (ParaScope; this project)
-abbrev pub StandsAgainstPrivatising : ProgramTree → ℕ → List ℕ → Rules
-StandsAgainstPrivatising t s x NoLoop n = IsNoLoop t s × (n ≡ s)
-StandsAgainstPrivatising t s x ParallelState n = (l : LoopOf t s) × IsTrue (l.head.parallel || list_any (λ m. m.head.parallel) (nest_round t s)) × (n ≡ s)
-StandsAgainstPrivatising t s x ExposedOrLive n = LoopOf t s × IsScalarExposedOrLiveBy t s x n
-StandsAgainstPrivatising t s x NotScalar n = (l : LoopOf t s) × IsTrue (is_unfit t s l.head l.body x) × (n ≡ s)
-StandsAgainstPrivatising t s x Limit n = (l : LoopOf t s) × (is_among x l.head.private ≡ false) × (IsValid (privatised t s x) → ⊥) × (n ≡ s)
-StandsAgainstPrivatising t s x AlreadyPrivate n = (l : LoopOf t s) × IsTrue (is_scalar t x) × IsTrue (is_among x l.head.private) × (n ≡ s)
-StandsAgainstPrivatising t s x NotPerfect n = ⊥
-StandsAgainstPrivatising t s x HasPrivate n = ⊥
-StandsAgainstPrivatising t s x IndexEscapes n = ⊥
-StandsAgainstPrivatising t s x BoundNotPlain n = ⊥
-StandsAgainstPrivatising t s x BoundsShape n = ⊥
-StandsAgainstPrivatising t s x StepShape n = ⊥
-StandsAgainstPrivatising t s x Range n = ⊥
-StandsAgainstPrivatising t s x NoNeighbour n = ⊥
-StandsAgainstPrivatising t s x OneBlock n = ⊥
-StandsAgainstPrivatising t s x NotConstant n = ⊥
-StandsAgainstPrivatising t s x BadFactor n = ⊥
-StandsAgainstPrivatising t s x NothingToReject n = ⊥
+-- rule 3: the DO or one round it is a PARALLEL DO (ParaScope)
+abbrev pub is_in_parallel : ProgramTree → ℕ → Head → StmtTrees → Bool
+is_in_parallel t s h body = h.parallel || list_any (λ m. m.head.parallel) (nest_round t s)
+
+-- rule 12: a scalar is exposed in the DO or live behind it. What is asked of a scalar isn't asked of another name (ParaScope; this project)
+abbrev pub WhereExposedOrLive : ProgramTree → (s : ℕ) → List ℕ → ℕ → Type 0
+WhereExposedOrLive t s x n = LoopOf t s × IsScalarExposedOrLiveBy t s x n
+
+-- the name isn't in the DO's PRIVATE list (ParaScope)
+abbrev pub isnt_listed : List ℕ → Head → StmtTrees → Bool
+isnt_listed x h body = not (is_among x h.private)
+
+-- what the step makes, which keeps each statement with its number (ParaScope)
+abbrev pub MakesPrivatised : (s : ℕ) → List ℕ → ProgramTree → ProgramTree → List (ℕ × ℕ) → Type 0
+MakesPrivatised s x t new keep = (new ≡ privatised t s x) × (keep ≡ all_kept t)
+
+-- rule 15, which isn't asked where the name is in the list already (this project)
+abbrev pub WhereUnlistedLimit : ProgramTree → (s : ℕ) → List ℕ → ℕ → Type 0
+WhereUnlistedLimit t s x n = WhereLoop t s (isnt_listed x) n × WhereLimit (MakesPrivatised s x) t s n
+
+-- rule 17: a scalar is in the DO's PRIVATE list already (ParaScope)
+abbrev pub is_scalar_listed : ProgramTree → List ℕ → Head → StmtTrees → Bool
+is_scalar_listed t x h body = is_scalar t x && is_among x h.private
+
+-- which rules stand against the step: the statement is no DO; the DO or one round it is a PARALLEL DO; the scalar is exposed or live; the name is no such scalar; the new program isn't valid; the name is in the DO's PRIVATE list (ParaScope; this project)
+abbrev pub StandsAgainstPrivatising : (s : ℕ) → List ℕ → ProgramTree → Rules
+StandsAgainstPrivatising s x t =
+    also NoLoop (WhereNoLoop t s)
+    (also ParallelState (WhereLoop t s (is_in_parallel t s))
+    (also ExposedOrLive (WhereExposedOrLive t s x)
+    (also NotScalar (WhereLoop t s (is_unfit t s x))
+    (also Limit (WhereUnlistedLimit t s x)
+    (also AlreadyPrivate (WhereLoop t s (is_scalar_listed t x)) no_rules)))))
 
 -- the step at a statement: a scalar becomes private to the iterations of a DO (Allen and Kennedy, section 5.2; ParaScope)
 abbrev pub privatising : ℕ → List ℕ → StepAt
 privatising s x = record {
   statement = s;
   kind = transformation;
-  IsCause = λ t. IsFirstCause t (StandsAgainstPrivatising t s x) none_forbids;
-  Makes = λ t new keep. (new ≡ privatised t s x) × (keep ≡ all_kept t);
+  IsCause = λ t. IsFirstCause t (StandsAgainstPrivatising s x t) none_forbids;
+  Makes = MakesPrivatised s x;
 }

@@ -10,7 +10,7 @@ use Rattle.ped_rules.specs.ped_loop_runs.specs.ped_tidy.specs.ped_pasting.specs.
 use Rattle.ped_tree.specs.NamesIn.{loop_variables}
 use Rattle.ped_rules.specs.ped_loop_runs.specs.ped_tidy.specs.ped_pasting.specs.ped_bodies.specs.ped_steps.specs.ped_symbols.specs.RightUses.RightUses as uses
 use Rattle.ped_rules.specs.ped_loop_runs.specs.ped_tidy.specs.ped_pasting.specs.ped_bodies.specs.ped_steps.specs.ped_flow.specs.PlainBounds.{nest_round}
-use Rattle.ped_rules.specs.ped_loop_runs.specs.ped_tidy.specs.ped_pasting.specs.ped_bodies.specs.ped_steps.specs.ped_flow.specs.Questions.{LoopOf, IsFirst, IsExposed, IsReadBehind, IsShownBehind}
+use Rattle.ped_rules.specs.ped_loop_runs.specs.ped_tidy.specs.ped_pasting.specs.ped_bodies.specs.ped_steps.specs.ped_flow.specs.Questions.{IsFirst, IsExposed, IsReadBehind, IsShownBehind}
 
 -- the name is that of a scalar variable of the program (ANSI X3.9-1978, section 2.5)
 abbrev pub is_scalar : ProgramTree → List ℕ → Bool
@@ -28,9 +28,9 @@ is_index_near t s h body x = is_among x (indices_of (nest_round t s)) || is_amon
 abbrev pub is_referred : ProgramTree → ℕ → StmtTrees → List ℕ → Bool
 is_referred t s body x = list_any (is_reference_in s (statements_count body + 1) x) (references t)
 
--- no step can give each iteration of the DO its own copy of the name: it is no scalar variable, or the variable of the DO, of one round it or of one in it, or the body doesn't refer to it (this project)
-abbrev pub is_unfit : ProgramTree → ℕ → Head → StmtTrees → List ℕ → Bool
-is_unfit t s h body x = not (is_scalar t x) || is_index_near t s h body x || not (is_referred t s body x)
+-- rule 13: no step can give each iteration of the DO its own copy of the name: it is no scalar variable, or the variable of the DO, of one round it or of one in it, or the body doesn't refer to it (this project)
+abbrev pub is_unfit : ProgramTree → ℕ → List ℕ → Head → StmtTrees → Bool
+is_unfit t s x h body = not (is_scalar t x) || is_index_near t s h body x || not (is_referred t s body x)
 
 -- the scalar is live behind the DO by this statement: the first that may read it, or the DO itself where none may and the program's end may show it (Allen and Kennedy, section 4.4; this project)
 abbrev pub IsLiveBy : ProgramTree → ℕ → List ℕ → ℕ → Type 0

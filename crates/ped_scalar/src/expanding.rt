@@ -1,20 +1,18 @@
 //! `expand`: a scalar becomes an array with an element for each value of a DO's variable.
 
-ghost use Rattle.std.specs.Prelude.{◌≡◌, ◌+◌, ◌<◌, ◌^◌, ℕ, IfOk, IsTrue, MatchOption, Some, ◌||◌};
+ghost use Rattle.std.specs.Prelude.{◌≡◌, ◌||◌, ℕ, IfOk, false, MatchOption, Some};
 ghost use Rattle.std.specs.List.{list_any};
 ghost use Rattle.ped_base.specs.Lists.{is_among};
 ghost use Rattle.ped_tree.specs.NamesIn as Names;
 ghost use Rattle.ped_tree.specs.Tree;
 ghost use Rattle.ped_tree.specs.Views.{stmt_trees, program_tree};
-ghost use Rattle.ped_tree.specs.Numbering.{statements_count};
 ghost use Rattle.ped_rules.specs.ped_loop_runs.specs.ped_tidy.specs.ped_pasting.specs.ped_bodies.specs.ped_steps.specs.ped_refs.specs.Loops.{nest_of};
 ghost use Rattle.ped_tree.specs.Views.{head_of};
 ghost use Rattle.ped_rules.specs.ped_loop_runs.specs.ped_tidy.specs.ped_pasting.specs.ped_bodies.specs.ped_steps.specs.ped_flow.specs.PlainBounds.{nest_round};
 ghost use Rattle.ped_rules.specs.ped_loop_runs.specs.ped_tidy.specs.ped_pasting.specs.ped_bodies.specs.ped_steps.specs.ped_flow.specs.Questions.{IsLoop};
-ghost use Rattle.ped_rules.specs.ped_loop_runs.specs.ped_tidy.specs.ped_pasting.specs.ped_bodies.specs.ped_steps.specs.Causes.{NoneBelow};
 ghost use Rattle.ped_rules.specs.ped_loop_runs.specs.ped_tidy.specs.ped_pasting.specs.ped_bodies.specs.ped_steps.specs.Scenes.{IsSceneOf};
 ghost use Rattle.ped_rules.specs.ped_loop_runs.specs.ped_tidy.specs.ped_pasting.specs.ped_bodies.specs.ped_steps.specs.ped_symbols.specs.Kinds.{table_of};
-ghost use Rattle.ped_scalar.specs.Scalars.{is_scalar};
+ghost use Rattle.ped_scalar.specs.Scalars as Scalars;
 ghost use Rattle.ped_rules.specs.Steps.{Answers};
 ghost use Rattle.ped_rules.specs.Spans as Spans;
 ghost use Rattle.ped_rules.specs.CodeSpans.{IsKnown};
@@ -24,8 +22,7 @@ ghost use Rattle.ped_scalar.specs.Expanding as Spec;
 use crate::elements::Elements;
 use crate::keeping::expand_kept;
 use crate::privacy::{is_private_in, is_private_round};
-use crate::scalars;
-use crate::scalars::{is_unfit, live_by};
+use crate::scalars::{is_scalar, is_unfit, live_by};
 use ped_base::{Name, NoMemory};
 use ped_rules::ped_loop_runs::ped_tidy::ped_pasting::ped_bodies::ped_steps::ped_weaves::ped_laws::ped_graph::ped_refs::Loop;
 use ped_rules::ped_loop_runs::ped_tidy::ped_pasting::ped_bodies::ped_steps::{
@@ -90,7 +87,7 @@ fn expand_in<L: Ledger>(
     }
 }
 
-/// The same, where the rules of the DO don't stand; these are the values of the DO's variable, none where a bound isn't
+/// The same, where the DO is no PARALLEL DO; these are the values of the DO's variable, none where a bound isn't
 /// constant or there is no iteration.
 fn expand_known<L: Ledger>(
     alloc: Global,
@@ -103,7 +100,7 @@ fn expand_known<L: Ledger>(
     requires scene { IsSceneOf (program_tree scene.now.tree.now) scene.now }
     requires is { IsLoop (program_tree scene.now.tree.now) number (head_of d.now) (stmt_trees d.now.body.items) }
     requires span { IsKnown (Spans.span_of (table_of (program_tree scene.now.tree.now)).constants (head_of d.now)) span }
-    requires below { NoneBelow (Spec.StandsAgainstExpanding (program_tree scene.now.tree.now) number name.now) 12 }
+    requires serial { (head_of d.now).parallel ≡ false }
     ensures { IfOk result (Answers (Spec.expanding number name.now) (program_tree scene.now.tree.now)) }
 {
     if let Some(statement) = lost_by(scene, number, name) {
@@ -123,8 +120,8 @@ fn expand_known<L: Ledger>(
     }
 }
 
-/// The same, where only the rules Limit and AlreadyPrivate may stand; these are the values of the DO's variable and the DO
-/// loops round it.
+/// The same, where the scalar wouldn't be lost and each iteration can have its own copy of it; these are the values of the
+/// DO's variable and the DO loops round it.
 fn expand_over<L: Ledger>(
     alloc: Global,
     scene: &Scene<L>,
@@ -138,8 +135,9 @@ fn expand_over<L: Ledger>(
     requires is { IsLoop (program_tree scene.now.tree.now) number (head_of d.now) (stmt_trees d.now.body.items) }
     requires span { IsKnown (Spans.span_of (table_of (program_tree scene.now.tree.now)).constants (head_of d.now)) (Some span) }
     requires round { nest_of round.now ≡ nest_round (program_tree scene.now.tree.now) number }
-    requires scalar { IsTrue (is_scalar (program_tree scene.now.tree.now) name.now) }
-    requires below { NoneBelow (Spec.StandsAgainstExpanding (program_tree scene.now.tree.now) number name.now) 15 }
+    requires serial { (head_of d.now).parallel ≡ false }
+    requires kept { (n : ℕ) → Spec.IsScalarLostBy (program_tree scene.now.tree.now) number name.now n → ⊥ }
+    requires fit { Scalars.is_unfit (program_tree scene.now.tree.now) number name.now (head_of d.now) (stmt_trees d.now.body.items) ≡ false }
     ensures { IfOk result (Answers (Spec.expanding number name.now) (program_tree scene.now.tree.now)) }
 {
     match fresh_name(alloc, NewName::Array, scene.tree, scene.symbols)? {
@@ -171,8 +169,9 @@ fn expand_to<L: Ledger>(
     requires is { IsLoop (program_tree scene.now.tree.now) number (head_of d.now) (stmt_trees d.now.body.items) }
     requires round { nest_of round.now ≡ nest_round (program_tree scene.now.tree.now) number }
     requires elements { AreElements (program_tree scene.now.tree.now) number (head_of d.now) elements.now }
-    requires scalar { IsTrue (is_scalar (program_tree scene.now.tree.now) elements.now.scalar) }
-    requires below { NoneBelow (Spec.StandsAgainstExpanding (program_tree scene.now.tree.now) number elements.now.scalar) 15 }
+    requires serial { (head_of d.now).parallel ≡ false }
+    requires kept { (n : ℕ) → Spec.IsScalarLostBy (program_tree scene.now.tree.now) number elements.now.scalar n → ⊥ }
+    requires fit { Scalars.is_unfit (program_tree scene.now.tree.now) number elements.now.scalar (head_of d.now) (stmt_trees d.now.body.items) ≡ false }
     ensures { IfOk result (Answers (Spec.expanding number elements.now.scalar) (program_tree scene.now.tree.now)) }
 {
     let tree = elements.expand(alloc, scene.tree, number, d)?;
@@ -218,7 +217,7 @@ fn lost_by<L: Ledger>(scene: &Scene<L>, number: u32, name: &Name) -> Option<u32>
     requires { IsSceneOf (program_tree scene.now.tree.now) scene.now }
     ensures { MatchOption result ((n : ℕ) → Spec.IsScalarLostBy (program_tree scene.now.tree.now) number name.now n → ⊥) (Spec.IsScalarLostBy (program_tree scene.now.tree.now) number name.now) }
 {
-    if !scalars::is_scalar(scene.symbols, name) {
+    if !is_scalar(scene.symbols, name) {
         return None;
     }
     match scene.flow.exposed(number, name) {

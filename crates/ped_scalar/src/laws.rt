@@ -14,19 +14,19 @@ ghost use Rattle.ped_scalar.specs.Expanding.{IsExpanded, StandsAgainstExpanding,
 
 /// Against `privatise` there is at most one first cause, and none where there is no cause.
 pub fn one_cause_against_privatising()
-    ensures { (t : ProgramTree) (s : ℕ) (x : List ℕ) (c d : Option Cause) → IsFirstCause t (StandsAgainstPrivatising t s x) none_forbids c → IsFirstCause t (StandsAgainstPrivatising t s x) none_forbids d → c ≡ d }
+    ensures { (t : ProgramTree) (s : ℕ) (x : List ℕ) (c d : Option Cause) → IsFirstCause t (StandsAgainstPrivatising s x t) none_forbids c → IsFirstCause t (StandsAgainstPrivatising s x t) none_forbids d → c ≡ d }
 {}
 
 /// Where nothing stands against `privatise`, the new program keeps the meaning of a valid old one: on all data on
 /// which that runs without a fault and without a race it has the same outcome, and no race (Allen and Kennedy,
 /// section 5.2). The same names are saved.
 pub fn privatising_keeps()
-    ensures { (t : ProgramTree) (s : ℕ) (x : List ℕ) → IsValid t → IsFirstCause t (StandsAgainstPrivatising t s x) none_forbids None → Keeps t (privatised t s x) }
+    ensures { (t : ProgramTree) (s : ℕ) (x : List ℕ) → IsValid t → IsFirstCause t (StandsAgainstPrivatising s x t) none_forbids None → Keeps t (privatised t s x) }
 {}
 
 /// Against `expand` there is at most one first cause, and none where there is no cause.
 pub fn one_cause_against_expanding()
-    ensures { (t : ProgramTree) (s : ℕ) (x : List ℕ) (c d : Option Cause) → IsFirstCause t (StandsAgainstExpanding t s x) none_forbids c → IsFirstCause t (StandsAgainstExpanding t s x) none_forbids d → c ≡ d }
+    ensures { (t : ProgramTree) (s : ℕ) (x : List ℕ) (c d : Option Cause) → IsFirstCause t (StandsAgainstExpanding s x t) none_forbids c → IsFirstCause t (StandsAgainstExpanding s x t) none_forbids d → c ≡ d }
 {}
 
 /// Where nothing stands against `expand`, the new program keeps the meaning of a valid and tidy old one: on all data
@@ -34,17 +34,17 @@ pub fn one_cause_against_expanding()
 /// section 5.3). In a program that isn't tidy the scalar may be the variable of another DO in a PARALLEL DO round
 /// both: that one's iterations have copies of the scalar, and not of the array. The same names are saved.
 pub fn expanding_keeps()
-    ensures { (t new : ProgramTree) (s : ℕ) (l : LoopOf t s) (x : List ℕ) → IsValid t → IsTidy t → IsFirstCause t (StandsAgainstExpanding t s x) none_forbids None → IsExpanded t s x l.head new → Keeps t new }
+    ensures { (t new : ProgramTree) (s : ℕ) (l : LoopOf t s) (x : List ℕ) → IsValid t → IsTidy t → IsFirstCause t (StandsAgainstExpanding s x t) none_forbids None → IsExpanded t s x l.head new → Keeps t new }
 {}
 
 /// Where nothing stands against `privatise`, a tidy program stays tidy (ParaScope).
 pub fn privatising_stays_tidy()
-    ensures { (t : ProgramTree) (s : ℕ) (x : List ℕ) → IsValid t → IsFirstCause t (StandsAgainstPrivatising t s x) none_forbids None → IsTidy t → IsTidy (privatised t s x) }
+    ensures { (t : ProgramTree) (s : ℕ) (x : List ℕ) → IsValid t → IsFirstCause t (StandsAgainstPrivatising s x t) none_forbids None → IsTidy t → IsTidy (privatised t s x) }
 {}
 
 /// Where nothing stands against `expand`, a tidy program stays tidy (ParaScope).
 pub fn expanding_stays_tidy()
-    ensures { (t new : ProgramTree) (s : ℕ) (l : LoopOf t s) (x : List ℕ) → IsValid t → IsFirstCause t (StandsAgainstExpanding t s x) none_forbids None → IsExpanded t s x l.head new → IsTidy t → IsTidy new }
+    ensures { (t new : ProgramTree) (s : ℕ) (l : LoopOf t s) (x : List ℕ) → IsValid t → IsFirstCause t (StandsAgainstExpanding s x t) none_forbids None → IsExpanded t s x l.head new → IsTidy t → IsTidy new }
 {}
 
 /// `privatise` puts no C$PED REJECT line into a program that has none (ParaScope).

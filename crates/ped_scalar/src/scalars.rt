@@ -80,7 +80,7 @@ pub(crate) fn is_unfit<L: Ledger>(
     requires scene { IsSceneOf (program_tree scene.now.tree.now) scene.now }
     requires is { IsLoop (program_tree scene.now.tree.now) number (head_of d.now) (stmt_trees d.now.body.items) }
     requires round { nest_of round.now ≡ nest_round (program_tree scene.now.tree.now) number }
-    ensures { IfOk result (λ r. r ≡ Spec.is_unfit (program_tree scene.now.tree.now) number (head_of d.now) (stmt_trees d.now.body.items) name.now) }
+    ensures { IfOk result (λ r. r ≡ Spec.is_unfit (program_tree scene.now.tree.now) number name.now (head_of d.now) (stmt_trees d.now.body.items)) }
 {
     if !is_scalar(scene.symbols, name) {
         return Ok(true);

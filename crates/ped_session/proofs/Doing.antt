@@ -15,7 +15,7 @@ use Rattle.ped_transformations.specs.ped_loops.specs.ped_scalar.specs.ped_rules.
 use Rattle.ped_transformations.specs.ped_loops.specs.ped_scalar.specs.ped_rules.specs.Lawful.{IsLawful}
 use Rattle.ped_transformations.specs.Table.{step_of}
 use Rattle.ped_transformations.proofs.LawfulTable.{AllLawful}
-use Rattle.ped_session.specs.Steps.{Refuses, Prints, Shows, ShowsOf, Edits, Transforms, GoesBack, GoesForward, Runs, IsOther, IsStep}
+use Rattle.ped_session.specs.Steps.{Refuses, Prints, Shows, ShowsOf, Edits, Transforms, GoesBack, GoesForward, IsOther, IsStep}
 
 -- what a command does
 pub data Does (c : Command) (s : State) (reply : Reply) (next : State) : Type 1 where
@@ -48,10 +48,6 @@ edits : (c : Command) (there : Bool) (kept gone : ℕ) (text : List ℕ) (s next
 edits c true kept gone text s next reply h = by_edit kept gone text h
 edits c false kept gone text s next reply h = refuses c NoSuchLine s next reply h
 
-runs : (c : Command) (choices d : List ℕ) (s next : State) (reply : Reply) → Runs choices d s reply next → Does c s reply next
-runs c [] d s next reply h = shows c _ s next reply h
-runs c (choice ∷ choices) d s next reply h = refuses c NotBuilt s next reply h
-
 does_other : (c : Command) (d : List ℕ) (s next : State) (reply : Reply) → IsOther c d s reply next → Does c s reply next
 does_other Source d s next reply h = shows Source _ s next reply h
 does_other (Deps None) d s next reply h = shows (Deps None) _ s next reply h
@@ -63,7 +59,7 @@ does_other (Insert after lines) d s next reply h = edits (Insert after lines) (i
 does_other (Delete first last) d s next reply h = edits (Delete first last) (are_lines s.present first last) _ _ _ s next reply h
 does_other Undo d s next reply h = by_undo refl h
 does_other Redo d s next reply h = by_redo refl h
-does_other (Run choices) d s next reply h = runs (Run choices) choices d s next reply h
+does_other (Run choices) d s next reply h = shows (Run choices) _ s next reply h
 does_other Races d s next reply h = shows Races _ s next reply h
 does_other (Advise number) d s next reply h = refuses (Advise number) NotBuilt s next reply h
 does_other (Interchange number) d s next reply h = refuses (Interchange number) NotBuilt s next reply h

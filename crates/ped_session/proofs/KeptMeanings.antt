@@ -5,10 +5,11 @@ use Rattle.ped_session.specs.ped_tree.specs.Printing.{program_text}
 use Rattle.ped_valid.specs.ped_symbols.specs.NameRefusals.{IsValid}
 use Rattle.ped_valid.specs.Validity.{ReadsValid}
 use Rattle.ped_valid.proofs.OneVerdict.{valid_prints}
-use Rattle.ped_order.specs.ped_eval.specs.Outcomes.{outcome}
+use Rattle.ped_order.specs.ped_eval.specs.Outcomes.{Outcome, outcome, IsRaceFree}
+use Rattle.ped_order.specs.ped_interleavings.specs.Interleavings.{IsInterleaved}
 use Rattle.ped_transformations.specs.ped_loops.specs.ped_scalar.specs.ped_rules.specs.ped_loop_runs.specs.ped_tidy.specs.Unrejected.{IsTrusted}
 use Rattle.ped_transformations.specs.ped_loops.specs.ped_scalar.specs.ped_rules.specs.Lawful.{IsFaithful, Owes, IsLawful}
-use Rattle.ped_transformations.specs.ped_loops.specs.ped_scalar.specs.ped_rules.specs.ped_loop_runs.specs.ped_tidy.specs.ped_pasting.specs.ped_bodies.specs.ped_steps.proofs.RunLaws.KeptMeanings.{keeps_itself, keeps_further}
+use Rattle.ped_transformations.specs.ped_loops.specs.ped_scalar.specs.ped_rules.specs.ped_loop_runs.specs.ped_tidy.specs.ped_pasting.specs.ped_bodies.specs.ped_steps.specs.Runs.Meaning.{Keeps}
 use Rattle.ped_session.specs.ped_transformations.specs.ped_script.specs.declared.items.Command.{Command}
 use Rattle.ped_session.specs.ped_transformations.specs.ped_script.specs.declared.items.Command.TheVariants.{Run}
 use Rattle.ped_session.specs.ped_transformations.specs.ped_script.specs.declared.items.Item.{Item}
@@ -19,9 +20,9 @@ use Rattle.ped_session.specs.Holding.{other_of, IsConsistent}
 use Rattle.ped_session.specs.declared.changes.Change.{Change}
 use Rattle.ped_session.specs.declared.replies.Reply.{Reply}
 use Rattle.ped_session.specs.States.{Other, State, opened}
-use Rattle.ped_session.specs.Blocks.{block}
+use Rattle.ped_session.specs.Blocks.{block, IsRunBlock}
 use Rattle.ped_transformations.specs.ped_loops.specs.ped_scalar.specs.ped_rules.specs.Steps.{StepKind, transformation, rejection, StepAt}
-use Rattle.ped_session.specs.Steps.{Edits, accepted, refused, change_by, Transforms, missing, forbidden, transformed, GoesBack, GoesForward, Runs, IsStep}
+use Rattle.ped_session.specs.Steps.{Edits, accepted, refused, change_by, Transforms, missing, forbidden, transformed, GoesBack, GoesForward, Shows, IsStep}
 use Rattle.ped_session.specs.Scripts.{Said, said_by, AnswersCommand, AnswersItems}
 use Rattle.ped_session.specs.Meanings.{MeansTheSame, IsKept, IsPastKept, IsFutureKept, IsMeaningKept, ComesFrom, IsAsBefore, ShowsAsBefore}
 use Rattle.ped_session.specs.RunsAsBefore.{RunsAsBefore, AnswersAsBefore}
@@ -38,6 +39,17 @@ pub kept_by : (kind : StepKind) (source : List ℕ) (t u : ProgramTree) → Read
 kept_by transformation source t u reads valid owes = same_meaning source t u reads valid owes
 kept_by rejection source t u reads valid owes = tt
 
+-- a program keeps its own meaning, and one that keeps the meaning of another keeps what that one keeps
+keeps_itself : (t : ProgramTree) → Keeps t t
+keeps_itself t = record { saved = refl; same = λ data_bytes free. refl; race_free = λ data_bytes free. free }
+
+keeps_further : (t u v : ProgramTree) → Keeps t u → Keeps u v → Keeps t v
+keeps_further t u v h k = record {
+  saved = k.saved ∙ h.saved;
+  same = λ data_bytes free. k.same data_bytes (h.race_free data_bytes free) ∙ h.same data_bytes free;
+  race_free = λ data_bytes free. k.race_free data_bytes (h.race_free data_bytes free);
+}
+
 the_same : (source earlier : List ℕ) (t u : ProgramTree) → earlier ≡ source → ReadsValid earlier t → ReadsValid source u → IsTrusted t → IsFaithful t u
 the_same source earlier t u is from to trusted =
     subst (IsFaithful t) (one_tree source t u (subst (λ (b : List ℕ). ReadsValid b t) is from) to) (record { trusted = trusted; keeps = keeps_itself t })
@@ -53,9 +65,15 @@ came source (other ∷ past) earlier t u kept (inr comes) from to trusted =
     subst (IsFaithful t) (one_tree source last.behind u last.reads_behind to)
     (record { trusted = behind.trusted; keeps = keeps_further t last.before last.behind front.keeps behind.keeps })
 
--- so the outcome of the present program is that of each of these
-pub as_before : (s : State) (d : List ℕ) (u : ProgramTree) → IsMeaningKept s → ReadsValid s.present u → IsAsBefore s d (outcome u d)
-as_before s d u kept reads = λ earlier t comes from trusted free. (came s.present s.past earlier t u kept.past comes from reads trusted).keeps.same d free
+-- where a program runs without a fault and a race, it has the outcome of its run in order with all choices
+abbrev pub Agree : Type 0
+Agree = (t : ProgramTree) (data_bytes choices : List ℕ) (o : Outcome) → IsValid t → IsRaceFree t data_bytes → IsInterleaved t data_bytes choices o → o ≡ outcome t data_bytes
+
+-- so each outcome of the present program, with whatever choices, is that of each of these
+pub as_before : Agree → (s : State) (d choices : List ℕ) (u : ProgramTree) (o : Outcome) → IsMeaningKept s → ReadsValid s.present u → IsInterleaved u d choices o → IsAsBefore s d o
+as_before agree s d choices u o kept reads is = λ earlier t comes from trusted free.
+    let keeps = (came s.present s.past earlier t u kept.past comes from reads trusted).keeps in
+    agree u d choices o reads.valid (keeps.race_free d free) is ∙ keeps.same d free
 
 -- a state that is as it was
 same : (s next : State) → IsMeaningKept s → next ≡ s → IsMeaningKept next
@@ -99,26 +117,27 @@ line_keeps all line (Some c) d s next said k h = command_keeps all c d s next h.
 pub opened_keeps : (t : ProgramTree) → IsMeaningKept (opened t)
 opened_keeps t = record { past = tt; future = tt }
 
-run_shows : (line : ℕ) (d : List ℕ) (s next : State) (said : Said) → IsMeaningKept s → AnswersCommand line (Some (Run [])) d s said next → ShowsAsBefore s d said.bytes
-run_shows line d s next said k h = λ earlier t comes from trusted free.
-    let shows : Runs [] d s h.0 next = h.1 in
-    ap (λ (x : Said). x.bytes) (h.2 ∙ ap (λ (r : Reply). said_by line r next) shows.prints.0) ∙ shows.so ∙ ap block (as_before s d shows.tree k shows.reads earlier t comes from trusted free)
+run_shows : Agree → (line : ℕ) (choices d : List ℕ) (s next : State) (said : Said) → IsMeaningKept s → AnswersCommand line (Some (Run choices)) d s said next → ShowsAsBefore s d said.bytes
+run_shows agree line choices d s next said k h = λ earlier t comes from trusted free.
+    let shows : Shows (IsRunBlock choices d) s h.0 next = h.1 in
+    ap (λ (x : Said). x.bytes) (h.2 ∙ ap (λ (r : Reply). said_by line r next) shows.prints.0) ∙ shows.so.2
+    ∙ ap block (as_before agree s d choices shows.tree shows.so.0 k shows.reads shows.so.1 earlier t comes from trusted free)
 
 -- a `run` shows what the earlier programs show
-line_shows : (line : ℕ) (command : Option Command) (d : List ℕ) (s next : State) (said : Said) → IsMeaningKept s → AnswersCommand line command d s said next → RunsAsBefore command d s said
-line_shows line command d s next said k h is = run_shows line d s next said k (subst (λ (c : Option Command). AnswersCommand line c d s said next) is h)
+line_shows : Agree → (line : ℕ) (command : Option Command) (d : List ℕ) (s next : State) (said : Said) → IsMeaningKept s → AnswersCommand line command d s said next → RunsAsBefore command d s said
+line_shows agree line command d s next said k h = λ choices is. run_shows agree line choices d s next said k (subst (λ (c : Option Command). AnswersCommand line c d s said next) is h)
 
 -- the items of a script
-pub items_as_before : AllLawful → (items : List Item) (d : List ℕ) (s last : State) (said : Said) → IsMeaningKept s → AnswersItems items d s said last → AnswersAsBefore items d s said last
-items_as_before all [] d s last said k h = (k, h.0, h.1)
-items_as_before all (item ∷ items) d s last said k h = (
+pub items_as_before : Agree → AllLawful → (items : List Item) (d : List ℕ) (s last : State) (said : Said) → IsMeaningKept s → AnswersItems items d s said last → AnswersAsBefore items d s said last
+items_as_before agree all [] d s last said k h = (k, h.0, h.1)
+items_as_before agree all (item ∷ items) d s last said k h = (
   k,
   h.0,
   h.1,
   h.2,
-  line_shows item.line item.command d s h.1 h.0 k h.2,
+  line_shows agree item.line item.command d s h.1 h.0 k h.2,
   h.3,
-  items_as_before all items d h.1 last h.3 (line_keeps all item.line item.command d s h.1 h.0 k h.2) h.4,
+  items_as_before agree all items d h.1 last h.3 (line_keeps all item.line item.command d s h.1 h.0 k h.2) h.4,
   h.5,
 )
 

@@ -13,7 +13,8 @@ use Rattle.ped_valid.proofs.OneVerdict.{one_of_both}
 use Rattle.ped_session.specs.ped_graph.specs.DependencePane.{IsDependencePane, IsDependencePaneOf}
 use Rattle.ped_session.specs.ped_graph.proofs.OnePane.{one_pane, one_pane_of}
 use Rattle.ped_session.specs.ped_graph.specs.Update.Fresh.{tested_pairs}
-use Rattle.ped_order.specs.ped_eval.specs.Outcomes.{outcome}
+use Rattle.ped_order.specs.ped_interleavings.specs.Interleavings.{at_start}
+use Rattle.ped_order.specs.ped_confluence.proofs.OneOutcome.{one_outcome}
 use Rattle.ped_transformations.specs.ped_loops.specs.ped_scalar.specs.ped_rules.specs.ped_loop_runs.specs.ped_tidy.specs.ped_pasting.specs.ped_bodies.specs.ped_steps.specs.Causes.{Cause}
 use Rattle.ped_session.specs.ped_transformations.specs.ped_script.specs.declared.items.Command.{Command}
 use Rattle.ped_session.specs.ped_transformations.specs.ped_script.specs.declared.items.Command.TheVariants.{Source, Deps, Show, Print, Advise, Replace, Insert, Delete, Interchange, Reverse, Skew, Strip, Peel, Distribute, Fuse, Expand, Privatise, Parallel, Serial, Reject, Undo, Redo, Run, Races, Tested}
@@ -23,11 +24,11 @@ use Rattle.ped_session.specs.declared.replies.Refusal.TheVariants.{BadEdit, Step
 use Rattle.ped_session.specs.declared.replies.Reply.{Reply}
 use Rattle.ped_session.specs.declared.replies.Reply.TheVariants.{Shown, Refused}
 use Rattle.ped_session.specs.States.{Other, State, changed_to}
-use Rattle.ped_session.specs.Blocks.{block}
+use Rattle.ped_session.specs.Blocks.{block, IsRunBlock}
 use Rattle.ped_session.specs.RaceRows.{race_row, IsRaceRow}
 use Rattle.ped_session.specs.Panes.{IsSourcePane, ArePanes}
 use Rattle.ped_session.specs.Splices.{are_lines, is_place, edit_keep}
-use Rattle.ped_session.specs.Steps.{Refuses, Shows, ShowsOf, ShowsStatement, Edits, accepted, refused, change_by, Transforms, missing, forbidden, transformed, GoesBack, GoesForward, Runs, IsOther, IsStep}
+use Rattle.ped_session.specs.Steps.{Refuses, Shows, ShowsOf, ShowsStatement, Edits, accepted, refused, change_by, Transforms, missing, forbidden, transformed, GoesBack, GoesForward, IsOther, IsStep}
 use Rattle.ped_transformations.specs.ped_loops.specs.ped_scalar.specs.ped_rules.specs.Steps.{StepAt, MaybeStep, no_step, some_step, MatchStep}
 use Rattle.ped_transformations.specs.ped_loops.specs.ped_scalar.specs.ped_rules.specs.Lawful.{IsDetermined}
 use Rattle.ped_transformations.specs.Table.{step_of}
@@ -119,9 +120,9 @@ one_forward : (future : List Other) (s : State) (p q : Reply) (m n : State) → 
 one_forward [] s p q m n a b = one_refuses NothingToRedo s p q m n a b
 one_forward (other ∷ future) s p q m n a b = (a.0 ∙ sym b.0, a.1 ∙ sym b.1)
 
-one_run : (choices data_bytes : List ℕ) (s : State) (p q : Reply) (m n : State) → Runs choices data_bytes s p m → Runs choices data_bytes s q n → (p ≡ q) × (m ≡ n)
-one_run [] data_bytes s p q m n a b = one_shows (λ t bytes. bytes ≡ block (outcome t data_bytes)) (λ t x y e f. e ∙ sym f) s p q m n a b
-one_run (c ∷ cs) data_bytes s p q m n a b = one_refuses NotBuilt s p q m n a b
+one_run : (choices data_bytes : List ℕ) (s : State) (p q : Reply) (m n : State) → Shows (IsRunBlock choices data_bytes) s p m → Shows (IsRunBlock choices data_bytes) s q n → (p ≡ q) × (m ≡ n)
+one_run choices data_bytes s p q m n a b = one_shows (IsRunBlock choices data_bytes)
+    (λ t x y e f. e.2 ∙ ap block (one_outcome t (at_start t data_bytes choices) e.0 f.0 e.1 f.1) ∙ sym f.2) s p q m n a b
 
 -- a step, whose first cause is one
 one_transform : (at : StepAt) (s : State) (p q : Reply) (m n : State) → IsDetermined at → Transforms at s p m → Transforms at s q n → (p ≡ q) × (m ≡ n)

@@ -1,18 +1,15 @@
 -- What is shown of the present program of a session.
-use Rattle.std.proofs.Common.{◌≡◌, ◌==◌, ℕ, ◌+◌, List, [], ◌∷◌, length, refl, ap, true, false, Option, Some, None, is_some, arith}
-use Rattle.std.proofs.lemmas.Bool.Decides.{nat_tests}
+use Rattle.std.proofs.Common.{◌≡◌, ℕ, ◌+◌, List, refl, ap, true, false, Option, Some, None, is_some, arith}
 use Rattle.ped_session.specs.ped_tree.specs.Tree.{StmtTree, ProgramTree}
 use Rattle.ped_session.specs.ped_tree.specs.Numbering.{statement_with}
 use Rattle.ped_session.specs.ped_graph.specs.DependencePane.{IsDependencePane, IsDependencePaneOf}
 use Rattle.ped_session.specs.ped_transformations.specs.ped_script.specs.declared.items.Command.TheVariants.{Deps}
-use Rattle.ped_order.specs.ped_eval.specs.Outcomes.{outcome}
 use Rattle.ped_session.specs.declared.versions.Version.{Version}
 use Rattle.ped_session.specs.declared.replies.Refusal.TheVariants.{NoSuchStatement}
 use Rattle.ped_session.specs.declared.replies.Reply.{Reply}
 use Rattle.ped_session.specs.declared.replies.Reply.TheVariants.{Shown, Refused}
 use Rattle.ped_session.specs.States.{State}
-use Rattle.ped_session.specs.Blocks.{block}
-use Rattle.ped_session.specs.Steps.{Shows, ShowsOf, ShowsStatement, Runs, IsStep}
+use Rattle.ped_session.specs.Steps.{Shows, ShowsOf, ShowsStatement, IsStep}
 use Rattle.ped_session.specs.Scripts.{tests_of}
 use Rattle.ped_session.specs.Holding.{tree_of, IsVersion}
 use Rattle.ped_session.proofs.PresentProgram.{reads_version}
@@ -46,12 +43,6 @@ shown_statement v s number bytes is same some so = record {
   reads = reads_version v is s.present same;
   shows = shown_by number (statement_with number (tree_of v)) s bytes some (shown (λ t. IsDependencePaneOf t (Some number)) v s bytes is same so);
 }
-
--- a run without choices
-pub shown_run : (choices data_bytes : List ℕ) (s : State) (bytes : List ℕ) → (length choices == 0) ≡ true
-    → Shows (λ t out. out ≡ block (outcome t data_bytes)) s (Shown bytes) s → Runs choices data_bytes s (Shown bytes) s
-shown_run [] data_bytes s bytes h shows = shows
-shown_run (c ∷ cs) data_bytes s bytes h shows = let some : (length (c ∷ cs) == 0) ≡ false = grind (arith, nat_tests) in absurd cc
 
 -- showing tests nothing
 untested_shows : (IsSo : ProgramTree → List ℕ → Type 0) (s next : State) (reply : Reply) (last : State) → Shows IsSo s reply next → tests_of reply last ≡ 0

@@ -9,7 +9,7 @@ use Rattle.ped_session.specs.declared.changes.Change.{Change}
 abbrev pub Other : Type 0
 Other = List ℕ × Change
 
--- the past sources, the newest first; the present source; the future sources, the next first; and how many pairs of references the last accepted change tested, or the opening
+-- the past sources, the newest first; the present source; the future sources, the next first; and how many pairs of references the last accepted change, `undo` or `redo` tested, or the opening
 pub record State : Type 0 where
   pub past : List Other
   pub present : List ℕ

@@ -9,7 +9,6 @@ use Rattle.ped_session.specs.ped_tree.specs.declared.grammar.refusals.Refusal as
 use Rattle.ped_valid.specs.Validity.{ReadsValid, RefusesText}
 use Rattle.ped_session.specs.ped_graph.specs.DependencePane.{IsDependencePane, IsDependencePaneOf}
 use Rattle.ped_session.specs.ped_graph.specs.Update.Fresh.{tested_pairs}
-use Rattle.ped_order.specs.ped_eval.specs.Outcomes.{outcome}
 use Rattle.ped_transformations.specs.ped_loops.specs.ped_scalar.specs.ped_rules.specs.ped_loop_runs.specs.ped_tidy.specs.ped_pasting.specs.ped_bodies.specs.ped_steps.specs.Causes.{Cause}
 use Rattle.ped_session.specs.ped_transformations.specs.ped_script.specs.declared.items.Command.{Command}
 use Rattle.ped_session.specs.ped_transformations.specs.ped_script.specs.declared.items.Command.TheVariants.{Source, Deps, Show, Print, Replace, Insert, Delete, Undo, Redo, Run, Races, Tested}
@@ -22,7 +21,7 @@ use Rattle.ped_session.specs.declared.replies.Refusal.{Refusal}
 use Rattle.ped_session.specs.States.{Other, State, changed_to, gone_back_to, gone_forward_to}
 use Rattle.ped_session.specs.Splices.{spliced, are_lines, is_place, edit_keep}
 use Rattle.ped_session.specs.Panes.{IsSourcePane, ArePanes, tested_row}
-use Rattle.ped_session.specs.Blocks.{block}
+use Rattle.ped_session.specs.Blocks.{IsRunBlock}
 use Rattle.ped_session.specs.RaceRows.{IsRaceRow}
 use Rattle.ped_transformations.specs.ped_loops.specs.ped_scalar.specs.ped_rules.specs.Steps.{StepKind, transformation, rejection, StepAt, MatchStep}
 use Rattle.ped_transformations.specs.Table.{step_of}
@@ -92,11 +91,6 @@ abbrev pub GoesForward : List Other → State → Reply → State → Type 0
 GoesForward [] s reply next = Refuses NothingToRedo s reply next
 GoesForward (other ∷ future) s reply next = (reply ≡ Changed) × (next ≡ gone_forward_to other future s)
 
--- the present program is run in order on the data, where no choices are given
-abbrev pub Runs : List ℕ → List ℕ → State → Reply → State → Type 0
-Runs [] data_bytes s reply next = Shows (λ t bytes. bytes ≡ block (outcome t data_bytes)) s reply next
-Runs (c ∷ cs) data_bytes s reply next = Refuses NotBuilt s reply next
-
 -- what a command that takes no step does to a session whose programs are run on these data; steps that aren't built yet, and `advise`, are refused
 abbrev pub IsOther : Command → List ℕ → State → Reply → State → Type 0
 IsOther Source data_bytes s reply next = Shows IsSourcePane s reply next
@@ -109,7 +103,7 @@ IsOther (Insert after lines) data_bytes s reply next = Inserts after lines s rep
 IsOther (Delete first last) data_bytes s reply next = Replaces first last [] s reply next
 IsOther Undo data_bytes s reply next = GoesBack s.past s reply next
 IsOther Redo data_bytes s reply next = GoesForward s.future s reply next
-IsOther (Run choices) data_bytes s reply next = Runs choices data_bytes s reply next
+IsOther (Run choices) data_bytes s reply next = Shows (IsRunBlock choices data_bytes) s reply next
 IsOther Races data_bytes s reply next = Shows (IsRaceRow data_bytes) s reply next
 IsOther Tested data_bytes s reply next = Prints (tested_row s.tested) s reply next
 IsOther command data_bytes s reply next = Refuses NotBuilt s reply next

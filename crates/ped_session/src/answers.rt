@@ -14,6 +14,7 @@ use crate::ped_script::{Command, Item};
 use crate::replies::Reply;
 use crate::scripts::{bad_command_row, reply_text};
 use crate::session::Session;
+use ped_order::interleavings_agree;
 use ped_transformations::every_step_is_lawful;
 use std::alloc::Global;
 use std::sync::ledger::Ledger;
@@ -28,9 +29,9 @@ pub struct Answered {
 }
 
 /// Answers the items of a script one behind another; programs are run on these data. It answers what they say, and
-/// whether one was refused; it tests the pairs that they test, and after want of memory at most as many. Each `run`
-/// shows what the programs show from which the present one has come by transformations alone, where these are tidy
-/// and without C$PED REJECT and run without a fault and without a race.
+/// whether one was refused; it tests the pairs that they test, and after want of memory at most as many. Each `run`,
+/// whatever its choices, shows what the programs show from which the present one has come by transformations alone,
+/// where these are tidy and without C$PED REJECT and run without a fault and without a race.
 ///
 /// Where memory is wanting, nothing is said of the session but how many pairs were tested.
 pub fn answer_items<L: Ledger>(
@@ -47,6 +48,7 @@ pub fn answer_items<L: Ledger>(
     ensures most { (said : Spec.Said) (last : State) → AnswersItems items.now input.now session.old said last → steps.new ≤ steps.old + said.tests }
 {
     every_step_is_lawful();
+    interleavings_agree();
     let _ = &session.present;
     let mut answered = Answered {
         bytes: Bytes::new(alloc),

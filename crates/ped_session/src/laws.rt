@@ -1,24 +1,28 @@
 //! What holds of every session. Each function here does nothing; its contract is the law.
 
-ghost use Rattle.std.specs.Prelude.{◌≡◌, ℕ, List};
+ghost use Rattle.std.specs.Prelude.{◌≡◌, ℕ, List, []};
 ghost use Rattle.ped_session.specs.ped_tree.specs.Tree.{ProgramTree};
 ghost use Rattle.ped_valid.specs.ped_symbols.specs.NameRefusals.{IsValid};
 ghost use Rattle.ped_valid.specs.Validity.{ReadsValid};
+ghost use Rattle.ped_order.specs.ped_eval.specs.Outcomes.{Outcome, outcome, IsRaceFree};
+ghost use Rattle.ped_order.specs.ped_interleavings.specs.Interleavings.{IsInterleaved};
 ghost use Rattle.ped_transformations.specs.ped_loops.specs.ped_scalar.specs.ped_rules.specs.ped_loop_runs.specs.ped_tidy.specs.Unrejected.{IsTrusted};
 ghost use Rattle.ped_transformations.specs.ped_loops.specs.ped_scalar.specs.ped_rules.specs.Lawful.{IsFaithful};
 ghost use Rattle.ped_session.specs.ped_transformations.specs.ped_script.specs.declared.items.Command.{Command};
-ghost use Rattle.ped_session.specs.ped_transformations.specs.ped_script.specs.declared.items.Command.TheVariants.{Undo, Redo};
+ghost use Rattle.ped_session.specs.ped_transformations.specs.ped_script.specs.declared.items.Command.TheVariants.{Undo, Redo, Run};
 ghost use Rattle.ped_session.specs.ped_transformations.specs.ped_script.specs.declared.items.Item.{Item};
 ghost use Rattle.ped_session.specs.declared.replies.Refusal as code_refusal;
 ghost use Rattle.ped_session.specs.declared.replies.Reply as code_reply;
 ghost use Rattle.ped_session.specs.declared.replies.Reply.TheVariants.{Changed, Refused};
 ghost use Rattle.ped_session.specs.States.{State, opened};
-ghost use Rattle.ped_session.specs.Steps.{IsStep, IsMove};
+ghost use Rattle.ped_session.specs.Blocks.{block};
+ghost use Rattle.ped_session.specs.Steps.{Shows, IsStep, IsMove};
 ghost use Rattle.ped_session.specs.Scripts.{Said, AnswersItems};
 ghost use Rattle.ped_session.specs.Meanings.{IsMeaningKept, ComesFrom};
 ghost use Rattle.ped_session.specs.RunsAsBefore.{AnswersAsBefore};
 ghost use Rattle.ped_session.specs.Histories.{ArePrinted, HaveSameSources, Times};
 
+use ped_order::{interleavings_agree, without_choices};
 use ped_transformations::every_step_is_lawful;
 
 /// A command has one reply at most in a state, and leads to one state.
@@ -77,11 +81,31 @@ pub fn sources_keep_the_meaning()
         ReadsValid earlier t → ReadsValid s.present u → IsTrusted t → IsFaithful t u }
 {}
 
-/// Whatever a script does, each `run` shows what the programs show from which the present one has come by
-/// transformations alone, where these are tidy and without C$PED REJECT and run without a fault and without a race.
+/// Whatever a script does, each `run`, whatever its choices, shows what the programs show from which the present one has
+/// come by transformations alone, where these are tidy and without C$PED REJECT and run without a fault and without a race.
 pub fn runs_are_as_before()
     ensures { (t : ProgramTree) (items : List Item) (data_bytes : List ℕ) (said : Said) (last : State) →
         AnswersItems items data_bytes (opened t) said last → AnswersAsBefore items data_bytes (opened t) said last }
 {
     every_step_is_lawful();
+    interleavings_agree();
+}
+
+/// Whatever choices are given to the present program, its outcome is that of the run in order of each program from which it
+/// has come by transformations alone, where that one is tidy and without C$PED REJECT and runs in order without a fault
+/// and without a race.
+pub fn interleavings_keep_the_meaning()
+    ensures { (s : State) (earlier : List ℕ) (t u : ProgramTree) (data_bytes choices : List ℕ) (o : Outcome) →
+        IsMeaningKept s → ComesFrom s.present s.past earlier → ReadsValid earlier t → ReadsValid s.present u → IsTrusted t →
+        IsRaceFree t data_bytes → IsInterleaved u data_bytes choices o → o ≡ outcome t data_bytes }
+{
+    interleavings_agree();
+}
+
+/// `run` without choices shows the outcome of the run in order, whatever the program races or faults at.
+pub fn runs_in_order()
+    ensures { (data_bytes : List ℕ) (s next : State) (reply : code_reply.Reply) → IsStep (Run []) data_bytes s reply next →
+        Shows (λ t bytes. bytes ≡ block (outcome t data_bytes)) s reply next }
+{
+    without_choices();
 }

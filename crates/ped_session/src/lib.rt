@@ -14,6 +14,7 @@ mod laws;
 mod moving;
 mod race_rows;
 mod replies;
+mod running;
 mod scripts;
 mod session;
 mod showing;
@@ -24,10 +25,12 @@ mod versions;
 pub use answers::{Answered, answer_items};
 pub use changes::Change;
 pub use laws::{
-    moves_restore_each_other, one_answer, one_step, refused_changes_nothing, runs_are_as_before,
-    sources_are_printed, sources_keep_the_meaning, transformations_keep_the_meaning, undo_restores,
+    interleavings_keep_the_meaning, moves_restore_each_other, one_answer, one_step,
+    refused_changes_nothing, runs_are_as_before, runs_in_order, sources_are_printed,
+    sources_keep_the_meaning, transformations_keep_the_meaning, undo_restores,
 };
 pub use ped_base;
+pub use ped_order::an_interleaving;
 pub use ped_print;
 pub use ped_script;
 pub use ped_transformations::ped_loops::ped_scalar::ped_rules::ped_loop_runs::ped_tidy::ped_pasting::ped_bodies::ped_steps::ped_weaves::ped_laws::ped_graph;

@@ -12,8 +12,8 @@ ghost use Rattle.ped_valid.specs.Validity.{ReadsValid, RefusesText};
 ghost use Rattle.ped_valid.specs.Refusals.{IsRefusalOf};
 ghost use Rattle.ped_session.specs.ped_graph.specs.ped_edges.specs.Edges as plain;
 ghost use Rattle.ped_session.specs.ped_graph.specs.Dependences.{AreEdges};
-ghost use Rattle.ped_order.specs.ped_eval.specs.Outcomes.{outcome};
 ghost use Rattle.ped_order.specs.ped_eval.specs.OutcomeViews.{outcome_view};
+ghost use Rattle.ped_order.specs.ped_interleavings.specs.Interleavings.{IsInterleaved};
 ghost use Rattle.ped_session.specs.declared.replies.Reply.{Reply};
 ghost use Rattle.ped_session.specs.Meanings.{IsAsBefore};
 ghost use Rattle.ped_session.specs.States.{State, opened};
@@ -26,9 +26,11 @@ use crate::ped_graph::ped_edges::Edge;
 use crate::ped_graph::ped_verdict::Steps;
 use crate::ped_script::Command;
 use crate::replies::{Refusal, Reply};
+use crate::running::run_version;
 use crate::versions::{Entry, Version};
 use ped_history::History;
-use ped_order::ped_eval::{Outcome, run_in_order};
+use ped_order::interleavings_agree;
+use ped_order::ped_eval::Outcome;
 use ped_print::print;
 use ped_transformations::place_of;
 use ped_valid::{OpenRefusal, Opened, open_program};
@@ -142,14 +144,16 @@ impl<L: Ledger> Session<L> {
         self.tested
     }
 
-    /// Runs the present program in order on the lines of its data. The outcome is also that of each program from which
-    /// it has come by transformations alone, where that one is tidy and without C$PED REJECT and runs
-    /// without a fault and without a race.
-    pub fn run(&self, alloc: Global, input: &[u8]) -> Result<Outcome, NoMemory>
-        ensures outcome { IfOk result (λ o. (t : ProgramTree) → ReadsValid self.now.present t → outcome_view o ≡ outcome t input.now) }
+    /// Runs the present program on the lines of its data. The choices pick which iteration of an open PARALLEL DO does the
+    /// next step, and behind their end 0 does. Whatever they are, the outcome is also that of the run in order of each
+    /// program from which the present one has come by transformations alone, where that one is tidy and without
+    /// C$PED REJECT and runs in order without a fault and without a race.
+    pub fn run(&self, alloc: Global, input: &[u8], choices: &[u64]) -> Result<Outcome, NoMemory>
+        ensures outcome { IfOk result (λ o. (t : ProgramTree) → ReadsValid self.now.present t → IsInterleaved t input.now choices.now (outcome_view o)) }
         ensures before { IfOk result (λ o. IsAsBefore self.now input.now (outcome_view o)) }
     {
-        run_in_order(alloc, &self.present.program, &self.present.symbols, input)
+        interleavings_agree();
+        run_version(alloc, &self.present, input, choices)
     }
 
     /// Answers a command; programs are run on these data. A refused command leaves the session as it was, and so does

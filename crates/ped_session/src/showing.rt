@@ -4,16 +4,17 @@ ghost use Rattle.std.specs.Prelude.{◌≡◌, IfOk, Option, List, ℕ};
 ghost use Rattle.ped_session.specs.ped_graph.specs.DependencePane.{IsDependencePane, IsDependencePaneOf};
 ghost use Rattle.ped_session.specs.Panes.{IsSourcePane, ArePanes};
 ghost use Rattle.ped_session.specs.Panes as Panes;
+ghost use Rattle.ped_session.specs.Blocks.{IsRunBlock};
 ghost use Rattle.ped_session.specs.RaceRows.{IsRaceRow};
-ghost use Rattle.ped_session.specs.Steps.{Shows, ShowsStatement, Prints, Runs, IsStep};
+ghost use Rattle.ped_session.specs.Steps.{Shows, ShowsStatement, Prints, IsStep};
 ghost use Rattle.ped_session.specs.ped_transformations.specs.ped_script.specs.declared.items.Command.TheVariants as commands;
 
 use crate::blocks::block;
 use crate::ped_base::{Bytes, NoMemory, push_number};
 use crate::race_rows::race_row;
 use crate::replies::{Refusal, Reply};
+use crate::running::run_version;
 use crate::session::Session;
-use ped_order::ped_eval::run_in_order;
 use ped_order::races;
 use ped_print::source_pane;
 use std::alloc::Global;
@@ -80,20 +81,16 @@ impl<L: Ledger> Session<L> {
         Ok(Reply::Shown(text))
     }
 
-    /// The outcome of the present program on these data, where no choices are given.
+    /// The outcome of the present program on these data, with these choices.
     pub(crate) fn show_run(
         &self,
         alloc: Global,
         choices: &[u64],
         input: &[u8],
     ) -> Result<Reply, NoMemory>
-        ensures { IfOk result (λ reply. Runs choices.now input.now self.now reply self.now) }
+        ensures { IfOk result (λ reply. Shows (IsRunBlock choices.now input.now) self.now reply self.now) }
     {
-        if !choices.is_empty() {
-            return Ok(Reply::Refused(Refusal::NotBuilt));
-        }
-        let present = &self.present;
-        let outcome = run_in_order(alloc, &present.program, &present.symbols, input)?;
+        let outcome = run_version(alloc, &self.present, input, choices)?;
         Ok(Reply::Shown(block(alloc, &outcome)?))
     }
 

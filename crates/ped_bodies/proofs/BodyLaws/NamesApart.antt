@@ -8,13 +8,14 @@ use Rattle.ped_steps.specs.Runs.Renumbering.{renumbered_iteration}
 use Rattle.ped_bodies.specs.Moving.{behind_front, with_rest, moved_behind, turned, transposed, in_strips, peeled, in_loop, IsOfTrips, IsInsideTrips, IsOfPairs, NamesApart, TellNumbers}
 use Rattle.ped_bodies.proofs.BodyLaws.MovedCells.{behind_itself, is_there}
 
--- a path that begins with a front is the front and what stands behind it
+-- two iterations that compare alike are one
 same_is : (i j : Iteration) → same_iteration i j ≡ true → i ≡ j
 same_is i j h =
     let both = and_parts (eqb i.statement j.statement) (eqb i.number j.number) h in
     λ k. record { statement = eqb-true i.statement j.statement both.0 k; number = eqb-true i.number j.number both.1 k }
 
-behind_is : (front path rest : List Iteration) → behind_front front path ≡ Some rest → path ≡ front ++ rest
+-- a path that begins with a front is the front and what stands behind it
+pub behind_is : (front path rest : List Iteration) → behind_front front path ≡ Some rest → path ≡ front ++ rest
 behind_is [] path rest h = let same : path ≡ rest = cc in same
 behind_is (i ∷ front) [] rest h = absurd cc
 behind_is (i ∷ front) (j ∷ path) rest h = go (same_iteration i j) refl h (behind_is front path rest)

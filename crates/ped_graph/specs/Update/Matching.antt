@@ -1,11 +1,13 @@
 -- How the code matches the pairs of a changed program with those that a graph holds. Contracts of private functions alone speak of these definitions (this project).
-use Rattle.std.specs.Prelude.{ℕ, suc, List, [], ◌∷◌, ◌++◌, map, Bool, ◌==◌, Option, Some, None, if◌then◌else◌}
+use Rattle.std.specs.Prelude.{ℕ, suc, List, [], ◌∷◌, ◌++◌, map, ◌≡◌, length, nat_eq, slice_get, Bool, cond, ◌==◌, Option, Some, None, if◌then◌else◌}
 use Rattle.std.specs.Option.{option_or}
+use Rattle.indexmap.specs.IndexMap.{IndexMap, get}
 use Rattle.ped_views.specs.Views.{View}
+use Rattle.ped_views.specs.SameViews.{same_view}
 use Rattle.ped_refs.specs.TextPlaces.{Key}
 use Rattle.ped_graph.specs.Held.{Pair, Held, held_pairs}
 use Rattle.ped_graph.specs.Parts.{HeldParts}
-use Rattle.ped_graph.specs.Update.Fresh.{comes_from}
+use Rattle.ped_graph.specs.Update.Fresh.{comes_from, is_fresh}
 use Rattle.ped_graph.specs.declared.parts.Kept.{Kept}
 
 -- the former number of a statement that is kept
@@ -63,3 +65,34 @@ parts_for former keep changed = record {
   slots = slots_for former keep (held_pairs changed);
   kept = kept_from former keep 0 (held_pairs changed);
 }
+
+-- the table has the former numbers of the statements that are kept
+abbrev pub IsTable : {S : Type 0} → List (ℕ × ℕ) → IndexMap ℕ ℕ S → Type 0
+IsTable keep table = (now : ℕ) → get nat_eq table now ≡ former_in keep now
+
+-- the former graph has a pair with the former key of this one at this place and at no other, or none: then the pair comes from there where its view is the same
+abbrev pub IsPlace : Held → List (ℕ × ℕ) → Pair → Option ℕ → Type 0
+IsPlace former keep p None = origin former keep p ≡ None
+IsPlace former keep p (Some here) = (v : View) → slice_get former.views here ≡ Some v → origin former keep p ≡ (if same_view v p.view then Some here else None)
+
+-- parts with one more pair
+pub record IsMatched (former : Held) (keep : List (ℕ × ℕ)) (p : Pair) (before after : HeldParts) : Type 0 where
+  pub frame : after.frame ≡ before.frame
+  pub slots : after.slots ≡ before.slots ++ slot_by (origin former keep p) p ∷ []
+  pub kept : after.kept ≡ before.kept ++ kept_by (origin former keep p) (length before.slots)
+
+-- how often a pair is tested: once, where it comes from no pair of the former graph
+abbrev pub tests : Held → List (ℕ × ℕ) → Pair → ℕ
+tests former keep p = cond (is_fresh former keep p) 1 0
+
+-- parts with one more pair, which keeps the verdict of this pair
+pub record KeepsVerdict (here : ℕ) (before after : HeldParts) : Type 0 where
+  pub frame : after.frame ≡ before.frame
+  pub slots : after.slots ≡ before.slots ++ None ∷ []
+  pub kept : after.kept ≡ before.kept ++ (record { here = here; there = length before.slots }) ∷ []
+
+-- parts with one more pair, which has this view and is tested
+pub record AddsVerdict (v : View) (before after : HeldParts) : Type 0 where
+  pub frame : after.frame ≡ before.frame
+  pub slots : after.slots ≡ before.slots ++ Some v ∷ []
+  pub kept : after.kept ≡ before.kept

@@ -1,71 +1,186 @@
 //! Which pairs of a changed program keep the verdicts that a graph has, and the verdicts of the others, which are
 //! tested.
 
-ghost use Rattle.std.specs.Prelude.{◌≡◌, ◌+◌, ◌≤◌, ◌++◌, ◌∷◌, [], ℕ, List, Some, None, length, nat_eq, option_map, IfOk, OnOk};
+ghost use Rattle.std.specs.Prelude.{◌≡◌, ◌+◌, ◌≤◌, ◌<◌, ◌∷◌, ◌++◌, [], ℕ, List, All, IsTrue, Some, None, map, length, nat_eq, option_map, slice_get, IfOk, IfSome, OnOk};
 ghost use Rattle.indexmap.specs.IndexMap.{get};
-ghost use Rattle.ped_graph.specs.Held.{Framed, pair_by};
+ghost use Rattle.ped_tree.specs.Views.{program_tree};
+ghost use Rattle.ped_views.specs.Views.{View};
+ghost use Rattle.ped_refs.specs.References.{Reference, outermost, references, pairs};
+ghost use Rattle.ped_refs.specs.Occurrences.{reference_of, references_of, pair_at, IsWithin};
+ghost use Rattle.ped_graph.specs.Dependences.{view_of};
+ghost use Rattle.ped_graph.specs.Held.{Framed, pair_by, frame_of, held_of};
 ghost use Rattle.ped_graph.specs.Keys.{key_shown};
+ghost use Rattle.ped_graph.specs.KnownProgram.{IsKnown, IsRound, AreSides};
 ghost use Rattle.ped_graph.specs.Update.Fresh.{IsOneToOne, fresh_pairs};
 ghost use Rattle.ped_graph.specs.Update.Matching as Matching;
 
+use crate::Graph;
 use crate::frames::{Frame, PairKey};
 use crate::parts::{Kept, Parts, Slot};
+use crate::preparing::{Known, Round, enter, facts_of_pairs, occurrence_at, sides_of, view_at};
+use crate::rounds::outermost;
+use crate::sides::{Side, tells_view};
 use crate::testing::tested;
-use crate::{Graph, Prepared};
 use indexmap::IndexMap;
 use ped_base::NoMemory;
+use ped_refs::{Occurrence, Pair};
+use ped_tree::names::NameSet;
 use ped_verdict::Steps;
 use ped_views::PairView;
 use std::alloc::Global;
 use std::sync::ledger::Ledger;
 
-/// What takes a graph to that of a changed program, whose pairs these are: a pair that comes from one of the graph with
-/// the same view keeps its verdict, and every other one is tested, once.
+/// The graph of the program before a change.
+#[derive(Clone, Copy)]
+pub struct Former<'a, L: Ledger> {
+    /// The graph.
+    pub graph: &'a Graph<L>,
+    /// For each statement that is kept, by its number behind the change, the number that it had before.
+    pub statements: &'a IndexMap<u32, u32>,
+}
+
+/// The program behind a change.
+#[derive(Clone, Copy)]
+pub struct Changed<'a> {
+    /// What is known of it.
+    pub known: Known<'a>,
+    /// Its references as sides of their pairs.
+    pub sides: &'a [Side<'a>],
+}
+
+/// What takes a graph to that of a changed program, of which this is known and whose pairs these are: a pair that comes
+/// from one of the graph with the same view keeps its verdict, and every other one is tested, once. Where the sides of a
+/// pair tell that its view is the same, it isn't made.
 pub fn matched<L: Ledger>(
     alloc: Global,
     graph: &Graph<L>,
-    prepared: Prepared,
+    known: &Known,
+    listed: &[Pair],
+    extents: Vec<u32>,
     keep: &[(u32, u32)],
     steps: &mut Steps<L>,
 ) -> Result<Parts<L>, NoMemory>
-    requires { length prepared.views ≡ length prepared.frame.pairs }
-    ensures parts { IfOk result (λ parts. IsOneToOne keep.now → parts ≡ Matching.parts_for graph.now keep.now prepared) }
-    ensures ticks { OnOk result (IsOneToOne keep.now → steps.new ≡ steps.old + fresh_pairs graph.now keep.now prepared) }
+    requires known { IsKnown known.now }
+    requires within { All (IsWithin (length known.now.found.now)) listed.now }
+    requires listed { map (pair_at (references_of known.now.found.now)) listed.now ≡ map Some (pairs (references (program_tree known.now.program.now))) }
+    requires found { references_of known.now.found.now ≡ references (program_tree known.now.program.now) }
+    requires extents { extents.items ≡ (frame_of (program_tree known.now.program.now)).extents }
+    ensures parts { IfOk result (λ parts. IsOneToOne keep.now → parts ≡ Matching.parts_for graph.now keep.now (held_of (program_tree known.now.program.now))) }
+    ensures ticks { OnOk result (IsOneToOne keep.now → steps.new ≡ steps.old + fresh_pairs graph.now keep.now (held_of (program_tree known.now.program.now))) }
     ensures least { steps.old ≤ steps.new }
-    ensures most { IsOneToOne keep.now → steps.new ≤ steps.old + fresh_pairs graph.now keep.now prepared }
+    ensures most { IsOneToOne keep.now → steps.new ≤ steps.old + fresh_pairs graph.now keep.now (held_of (program_tree known.now.program.now)) }
 {
-    let mut parts = Parts::new(alloc, prepared.frame);
-    match_views(alloc, graph, prepared.views, keep, &mut parts, steps)?;
+    let statements = former_statements(alloc, keep)?;
+    let former = Former {
+        graph,
+        statements: &statements,
+    };
+    let sides = sides_of(alloc, known)?;
+    let changed = Changed {
+        known: *known,
+        sides: &sides,
+    };
+    let pairs = facts_of_pairs(alloc, known, listed)?;
+    let frame = Frame { pairs, extents };
+    let mut parts = Parts::new(alloc, frame);
+    match_pairs(alloc, &former, &changed, listed, &mut parts, steps)?;
     Ok(parts)
 }
 
-/// Adds the pairs with these views, in their order, to a frame that has no slots yet.
-fn match_views<L: Ledger>(
+/// Adds these pairs, which are all pairs of the changed program, to its frame, which has no slots yet.
+fn match_pairs<L: Ledger>(
     alloc: Global,
-    graph: &Graph<L>,
-    views: Vec<PairView>,
-    keep: &[(u32, u32)],
+    former: &Former<'_, L>,
+    changed: &Changed,
+    listed: &[Pair],
     parts: &mut Parts<L>,
     steps: &mut Steps<L>,
 ) -> Result<(), NoMemory>
+    requires known { IsKnown changed.now.known }
+    requires sides { AreSides (program_tree changed.now.known.program.now) (references_of changed.now.known.found.now) changed.now.sides.now }
+    requires within { All (IsWithin (length changed.now.known.found.now)) listed.now }
+    requires listed { map (pair_at (references_of changed.now.known.found.now)) listed.now ≡ map Some (pairs (references (program_tree changed.now.known.program.now))) }
+    requires frame { parts.old.frame ≡ frame_of (program_tree changed.now.known.program.now) }
     requires slots { parts.old.slots ≡ [] }
     requires kept { parts.old.kept ≡ [] }
-    requires paired { length views.items ≡ length parts.old.frame.pairs }
-    ensures parts { OnOk result (IsOneToOne keep.now → parts.new ≡ Matching.parts_for graph.now keep.now (record { frame = parts.old.frame; views = views.items })) }
-    ensures ticks { OnOk result (IsOneToOne keep.now → steps.new ≡ steps.old + fresh_pairs graph.now keep.now (record { frame = parts.old.frame; views = views.items })) }
+    ensures parts { OnOk result ((keep : List (ℕ × ℕ)) → IsOneToOne keep → Matching.IsTable keep former.now.statements.now
+        → parts.new ≡ Matching.parts_for former.now.graph.now keep (held_of (program_tree changed.now.known.program.now))) }
+    ensures ticks { OnOk result ((keep : List (ℕ × ℕ)) → IsOneToOne keep → Matching.IsTable keep former.now.statements.now
+        → steps.new ≡ steps.old + fresh_pairs former.now.graph.now keep (held_of (program_tree changed.now.known.program.now))) }
     ensures least { steps.old ≤ steps.new }
-    ensures most { IsOneToOne keep.now → steps.new ≤ steps.old + fresh_pairs graph.now keep.now (record { frame = parts.old.frame; views = views.items }) }
+    ensures most { (keep : List (ℕ × ℕ)) → IsOneToOne keep → Matching.IsTable keep former.now.statements.now
+        → steps.new ≤ steps.old + fresh_pairs former.now.graph.now keep (held_of (program_tree changed.now.known.program.now)) }
 {
-    let former = former_statements(alloc, keep)?;
-    for view in views {
-        let key = parts.frame.key(parts.slots.len() as u64);
-        if let Some(here) = origin(graph, &former, &key, &view) {
-            keep_verdict(parts, here)?;
-            continue;
-        }
-        add_verdict(alloc, parts, view, steps)?;
+    let mut round = Round {
+        number: 0,
+        assigned: NameSet::new(alloc),
+    };
+    for pair in listed {
+        let number = outermost(occurrence_at(&changed.known, pair.source));
+        enter(alloc, &mut round, changed.known.program, number)?;
+        match_pair(alloc, former, changed, &round, pair, parts, steps)?;
     }
     Ok(())
+}
+
+/// Adds the next pair of a frame, whose references stand at these places.
+fn match_pair<L: Ledger>(
+    alloc: Global,
+    former: &Former<'_, L>,
+    changed: &Changed,
+    round: &Round,
+    pair: &Pair,
+    parts: &mut Parts<L>,
+    steps: &mut Steps<L>,
+) -> Result<(), NoMemory>
+    requires known { IsKnown changed.now.known }
+    requires sides { AreSides (program_tree changed.now.known.program.now) (references_of changed.now.known.found.now) changed.now.sides.now }
+    requires within { IsWithin (length changed.now.known.found.now) pair.now }
+    requires round { IsRound (program_tree changed.now.known.program.now) round.now }
+    requires entered { (source : Reference) → slice_get (references_of changed.now.known.found.now) pair.now.source ≡ Some source → round.now.number ≡ outermost source }
+    requires next { length parts.old.slots < length parts.old.frame.pairs }
+    ensures frame { parts.new.frame ≡ parts.old.frame }
+    ensures many { OnOk result (length parts.new.slots ≡ length parts.old.slots + 1) }
+    ensures parts { OnOk result ((keep : List (ℕ × ℕ)) (f : Framed) (p : Reference × Reference) → IsOneToOne keep → Matching.IsTable keep former.now.statements.now
+        → pair_at (references_of changed.now.known.found.now) pair.now ≡ Some p → slice_get parts.old.frame.pairs (length parts.old.slots) ≡ Some f
+        → Matching.IsMatched former.now.graph.now keep (pair_by f (view_of (program_tree changed.now.known.program.now) p.0 p.1)) parts.old parts.new) }
+    ensures ticks { OnOk result ((keep : List (ℕ × ℕ)) (f : Framed) (p : Reference × Reference) → IsOneToOne keep → Matching.IsTable keep former.now.statements.now
+        → pair_at (references_of changed.now.known.found.now) pair.now ≡ Some p → slice_get parts.old.frame.pairs (length parts.old.slots) ≡ Some f
+        → steps.new ≡ steps.old + Matching.tests former.now.graph.now keep (pair_by f (view_of (program_tree changed.now.known.program.now) p.0 p.1))) }
+    ensures least { steps.old ≤ steps.new }
+    ensures most { (keep : List (ℕ × ℕ)) (f : Framed) (p : Reference × Reference) → IsOneToOne keep → Matching.IsTable keep former.now.statements.now
+        → pair_at (references_of changed.now.known.found.now) pair.now ≡ Some p → slice_get parts.old.frame.pairs (length parts.old.slots) ≡ Some f
+        → steps.new ≤ steps.old + Matching.tests former.now.graph.now keep (pair_by f (view_of (program_tree changed.now.known.program.now) p.0 p.1)) }
+{
+    let key = parts.frame.key(parts.slots.len() as u64);
+    if let Some(here) = told_origin(former, changed, &key, pair) {
+        return keep_verdict(parts, here);
+    }
+    let view = view_at(alloc, &changed.known, round, pair)?;
+    match_view(alloc, former, &key, view, parts, steps)
+}
+
+/// Adds the next pair of a frame, which has this key and this view.
+fn match_view<L: Ledger>(
+    alloc: Global,
+    former: &Former<'_, L>,
+    key: &PairKey,
+    view: PairView,
+    parts: &mut Parts<L>,
+    steps: &mut Steps<L>,
+) -> Result<(), NoMemory>
+    ensures frame { parts.new.frame ≡ parts.old.frame }
+    ensures many { OnOk result (length parts.new.slots ≡ length parts.old.slots + 1) }
+    ensures parts { OnOk result ((keep : List (ℕ × ℕ)) (f : Framed) → IsOneToOne keep → Matching.IsTable keep former.now.statements.now
+        → (f.source, f.sink) ≡ key_shown key.now → Matching.IsMatched former.now.graph.now keep (pair_by f view) parts.old parts.new) }
+    ensures ticks { (keep : List (ℕ × ℕ)) (f : Framed) → IsOneToOne keep → Matching.IsTable keep former.now.statements.now
+        → (f.source, f.sink) ≡ key_shown key.now → steps.new ≡ steps.old + Matching.tests former.now.graph.now keep (pair_by f view) }
+    ensures least { steps.old ≤ steps.new }
+{
+    if let Some(here) = origin(former, key, &view) {
+        return keep_verdict(parts, here);
+    }
+    add_verdict(alloc, parts, view, steps)
 }
 
 /// For each statement that is kept, by its number behind the change, the number that it had before.
@@ -79,26 +194,94 @@ fn former_statements(alloc: Global, keep: &[(u32, u32)]) -> Result<IndexMap<u32,
     Ok(former)
 }
 
-/// The place of the pair of a graph from which a pair with this key and this view comes, none where it is fresh.
-fn origin<L: Ledger>(
-    graph: &Graph<L>,
-    former: &IndexMap<u32, u32>,
+/// The place of the pair of a graph from which a pair with this key comes, where the sides of its references tell that
+/// its view is the same.
+fn told_origin<L: Ledger>(
+    former: &Former<'_, L>,
+    changed: &Changed,
     key: &PairKey,
-    view: &PairView,
+    pair: &Pair,
 ) -> Option<u64>
-    ensures { (keep : List (ℕ × ℕ)) (f : Framed) → IsOneToOne keep → ((now : ℕ) → get nat_eq former.now now ≡ Matching.former_in keep now)
-        → (f.source, f.sink) ≡ key_shown key.now → result ≡ Matching.origin graph.now keep (pair_by f view.now) }
+    requires known { IsKnown changed.now.known }
+    requires sides { AreSides (program_tree changed.now.known.program.now) (references_of changed.now.known.found.now) changed.now.sides.now }
+    requires within { IsWithin (length changed.now.known.found.now) pair.now }
+    ensures { IfSome result (λ here. (keep : List (ℕ × ℕ)) (f : Framed) (p : Reference × Reference) → IsOneToOne keep → Matching.IsTable keep former.now.statements.now
+        → pair_at (references_of changed.now.known.found.now) pair.now ≡ Some p → (f.source, f.sink) ≡ key_shown key.now
+        → Some here ≡ Matching.origin former.now.graph.now keep (pair_by f (view_of (program_tree changed.now.known.program.now) p.0 p.1))) }
 {
-    let Some(key) = former_key(former, key) else {
+    let Some(here) = former_place_of(former, key) else {
         return None;
     };
-    let Some(here) = graph.frame().place_of(&key) else {
-        return None;
-    };
-    if graph.verdict(here).view().same(view) {
+    if is_told(changed, pair, former.graph.verdict(here).view()) {
         return Some(here);
     }
     None
+}
+
+/// Whether the sides of a pair's references tell that this is its view.
+fn is_told(changed: &Changed, pair: &Pair, view: &PairView) -> bool
+    requires known { IsKnown changed.now.known }
+    requires sides { AreSides (program_tree changed.now.known.program.now) (references_of changed.now.known.found.now) changed.now.sides.now }
+    requires within { IsWithin (length changed.now.known.found.now) pair.now }
+    ensures { IsTrue result → (p : Reference × Reference) → pair_at (references_of changed.now.known.found.now) pair.now ≡ Some p
+        → view.now ≡ view_of (program_tree changed.now.known.program.now) p.0 p.1 }
+{
+    let source = occurrence_at(&changed.known, pair.source);
+    let sink = occurrence_at(&changed.known, pair.sink);
+    if !have_same_outermost(source, sink) {
+        return false;
+    }
+    if pair.source >= changed.sides.len() {
+        return false;
+    }
+    if pair.sink >= changed.sides.len() {
+        return false;
+    }
+    let first = side_there(changed.sides, pair.source);
+    let second = side_there(changed.sides, pair.sink);
+    tells_view(first, second, view)
+}
+
+/// Whether the outermost DO round both references is the same.
+fn have_same_outermost(source: &Occurrence, sink: &Occurrence) -> bool
+    ensures { IsTrue result → outermost (reference_of source.now) ≡ outermost (reference_of sink.now) }
+{
+    outermost(source) == outermost(sink)
+}
+
+/// The side at a place.
+fn side_there<'a>(sides: &'a [Side<'a>], place: usize) -> &'a Side<'a>
+    requires { place < length sides.now }
+    ensures { slice_get sides.now place ≡ Some result.now }
+{
+    &sides[place]
+}
+
+/// The place of the pair of a graph from which a pair with this key and this view comes, none where it is fresh.
+fn origin<L: Ledger>(former: &Former<'_, L>, key: &PairKey, view: &PairView) -> Option<u64>
+    ensures { (keep : List (ℕ × ℕ)) (f : Framed) → IsOneToOne keep → Matching.IsTable keep former.now.statements.now
+        → (f.source, f.sink) ≡ key_shown key.now → result ≡ Matching.origin former.now.graph.now keep (pair_by f view.now) }
+{
+    let Some(here) = former_place_of(former, key) else {
+        return None;
+    };
+    if former.graph.verdict(here).view().same(view) {
+        return Some(here);
+    }
+    None
+}
+
+/// The place of the pair of a graph whose references are those of a pair with this key, none where one of them isn't kept
+/// or the graph has no such pair.
+fn former_place_of<L: Ledger>(former: &Former<'_, L>, key: &PairKey) -> Option<u64>
+    ensures within { IfSome result (λ here. here < length former.now.graph.now.frame.pairs) }
+    ensures place { (keep : List (ℕ × ℕ)) (f : Framed) (v : View) → IsOneToOne keep → Matching.IsTable keep former.now.statements.now
+        → (f.source, f.sink) ≡ key_shown key.now → Matching.IsPlace former.now.graph.now keep (pair_by f v) result }
+{
+    let Some(key) = former_key(former.statements, key) else {
+        return None;
+    };
+    former.graph.frame().place_of(&key)
 }
 
 /// Where the references of a pair stood before the change, none where one of them isn't kept.
@@ -124,8 +307,8 @@ fn former_place(former: &IndexMap<u32, u32>, place: (u32, u32)) -> Option<(u32, 
 /// Adds a pair that keeps the verdict of this pair.
 fn keep_verdict<L: Ledger>(parts: &mut Parts<L>, here: u64) -> Result<(), NoMemory>
     ensures frame { parts.new.frame ≡ parts.old.frame }
-    ensures slots { OnOk result (parts.new.slots ≡ parts.old.slots ++ None ∷ []) }
-    ensures kept { OnOk result (parts.new.kept ≡ parts.old.kept ++ (record { here = here; there = length parts.old.slots }) ∷ []) }
+    ensures many { OnOk result (length parts.new.slots ≡ length parts.old.slots + 1) }
+    ensures kept { OnOk result (Matching.KeepsVerdict here parts.old parts.new) }
 {
     let there = parts.slots.len() as u64;
     parts.kept.push(Kept { here, there })?;
@@ -141,8 +324,8 @@ fn add_verdict<L: Ledger>(
     steps: &mut Steps<L>,
 ) -> Result<(), NoMemory>
     ensures frame { parts.new.frame ≡ parts.old.frame }
-    ensures slots { OnOk result (parts.new.slots ≡ parts.old.slots ++ Some view ∷ []) }
-    ensures kept { parts.new.kept ≡ parts.old.kept }
+    ensures many { OnOk result (length parts.new.slots ≡ length parts.old.slots + 1) }
+    ensures added { OnOk result (Matching.AddsVerdict view parts.old parts.new) }
     ensures tick { steps.new ≡ steps.old + 1 }
 {
     let slot = tested(alloc, view, steps)?;

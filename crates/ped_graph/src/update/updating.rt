@@ -7,11 +7,19 @@ ghost use Rattle.ped_symbols.specs.Kinds.{table_of};
 ghost use Rattle.ped_graph.specs.Held.{held_of};
 ghost use Rattle.ped_graph.specs.Update.Deltas.{TakesTo};
 ghost use Rattle.ped_graph.specs.Update.Fresh.{IsOneToOne, fresh_pairs};
+ghost use Rattle.ped_graph.specs.Update.Matching.{parts_for};
 
+use crate::Graph;
+use crate::extents::extents;
+use crate::firmness::all_firm;
+use crate::guards::guards;
+use crate::parts::Parts;
+use crate::preparing::Known;
 use crate::update::deltas::Delta;
 use crate::update::matching::matched;
-use crate::{Graph, prepare};
+use ped_affine::loop_variables;
 use ped_base::{Listed, NoMemory};
+use ped_refs::{listed_pairs, occurrences};
 use ped_tree::Program;
 use ped_tree::constants::Consts;
 use ped_verdict::Steps;
@@ -44,9 +52,40 @@ pub fn update<L: Ledger>(
     ensures most { steps.new ≤ steps.old + fresh_pairs graph.old keep.now (held_of (program_tree program.now)) }
     ensures unchanged { OnErr result (graph.new ≡ graph.old) }
 {
-    let prepared = prepare(alloc, program, consts)?;
-    let mut parts = matched(alloc, graph, prepared, keep.as_slice(), steps)?;
+    let mut parts = parts_of(alloc, graph, program, consts, keep.as_slice(), steps)?;
     let tested = (parts.slots.len() - parts.kept.len()) as u64;
     graph.exchange(&mut parts);
     Ok(Delta::new(parts, tested))
+}
+
+/// What takes a graph to that of a valid program, whose named constants these are.
+fn parts_of<L: Ledger>(
+    alloc: Global,
+    graph: &Graph<L>,
+    program: &Program,
+    consts: &Consts,
+    keep: &[(u32, u32)],
+    steps: &mut Steps<L>,
+) -> Result<Parts<L>, NoMemory>
+    requires valid { IsValid (program_tree program.now) }
+    requires constants { consts.now ≡ (table_of (program_tree program.now)).constants }
+    ensures parts { IfOk result (λ parts. IsOneToOne keep.now → parts ≡ parts_for graph.now keep.now (held_of (program_tree program.now))) }
+    ensures ticks { OnOk result (IsOneToOne keep.now → steps.new ≡ steps.old + fresh_pairs graph.now keep.now (held_of (program_tree program.now))) }
+    ensures least { steps.old ≤ steps.new }
+    ensures most { IsOneToOne keep.now → steps.new ≤ steps.old + fresh_pairs graph.now keep.now (held_of (program_tree program.now)) }
+{
+    let found = occurrences(alloc, program)?;
+    let extents = extents(alloc, &program.body)?;
+    let listed = listed_pairs(alloc, &found)?;
+    let guards = guards(alloc, &program.body)?;
+    let firm = all_firm(alloc, consts, &guards, &found)?;
+    let loop_variables = loop_variables(alloc, &program.body)?;
+    let known = Known {
+        program,
+        consts,
+        loop_variables: &loop_variables,
+        found: &found,
+        firm: &firm,
+    };
+    matched(alloc, graph, &known, &listed, extents, keep, steps)
 }

@@ -3,7 +3,7 @@ use Rattle.std.proofs.Common.{◌≡◌, ℕ, suc, ◌+◌, ◌-◌, ◌<◌, �
 use Rattle.std.specs.Prelude.{◌==◌, ◌&&◌, ◌||◌, not}
 use Rattle.std.proofs.lemmas.Bool.{and_parts, both_ways}
 use Rattle.ped_tidy.specs.ped_pasting.specs.ped_bodies.specs.ped_steps.specs.ped_laws.specs.ped_flow.specs.ped_base.specs.Lists.{is_same_text, is_among}
-use Rattle.ped_tidy.specs.ped_pasting.specs.ped_bodies.specs.ped_steps.specs.ped_laws.specs.ped_store.specs.Cells.{Cell, Scalar, Element, Private, In, Out, Iteration, same_cell, same_iteration}
+use Rattle.ped_tidy.specs.ped_pasting.specs.ped_bodies.specs.ped_steps.specs.ped_laws.specs.ped_store.specs.Cells.{Cell, Scalar, Element, Private, In, Out, Iteration, same_cell}
 use Rattle.ped_tidy.specs.ped_pasting.specs.ped_bodies.specs.ped_steps.specs.ped_laws.specs.ped_store.specs.Stores.{Undefined}
 use Rattle.ped_tidy.specs.ped_pasting.specs.ped_bodies.specs.ped_steps.specs.ped_laws.specs.ped_store.specs.Acts.{Manner, reads, writes, is_told, Touch, Turn, Act, iterations_of}
 use Rattle.ped_tidy.specs.ped_pasting.specs.ped_bodies.specs.ped_steps.specs.ped_laws.specs.ped_store.specs.Races.{is_write}
@@ -27,26 +27,11 @@ use Rattle.ped_tidy.specs.ped_pasting.proofs.PastingLaws.LeftCopies.{IsOwn}
 use Rattle.ped_tidy.specs.ped_pasting.specs.ped_bodies.specs.Likewise.{Meets, Meet, AllMeet, IsLikewise, AreLikewise}
 use Rattle.ped_tidy.specs.ped_pasting.specs.ped_bodies.specs.Moving.{is_cell_among, behind_front, with_rest, moved_behind, turned, IsOfTrips, LiesBehind}
 use Rattle.ped_tidy.specs.ped_pasting.specs.ped_bodies.proofs.BodyLaws.MovedCells.{behind_itself, moved_is, place_stays}
-use Rattle.ped_tidy.specs.ped_pasting.specs.ped_bodies.proofs.BodyLaws.NamesApart.{reversed_apart}
+use Rattle.ped_tidy.specs.ped_pasting.specs.ped_bodies.proofs.BodyLaws.NamesApart.{behind_is, reversed_apart}
 use Rattle.ped_loop_runs.specs.OneForOne.{trip_names, trip_idle}
 
 number_itself : (n : ℕ) → eqb n n ≡ true
 number_itself n = grind (arith, eqb-true)
-
-same_is : (i j : Iteration) → same_iteration i j ≡ true → i ≡ j
-same_is i j h =
-    let both = and_parts (eqb i.statement j.statement) (eqb i.number j.number) h in
-    λ k. record { statement = eqb-true i.statement j.statement both.0 k; number = eqb-true i.number j.number both.1 k }
-
--- a path that begins with a front is the front and what stands behind it
-behind_is : (front path rest : List Iteration) → behind_front front path ≡ Some rest → path ≡ front ++ rest
-behind_is [] path rest h = let same : path ≡ rest = cc in same
-behind_is (i ∷ front) [] rest h = absurd cc
-behind_is (i ∷ front) (j ∷ path) rest h = go (same_iteration i j) refl h (behind_is front path rest)
-  where
-    go : (b : Bool) → same_iteration i j ≡ b → (if b then behind_front front path else None) ≡ Some rest → (behind_front front path ≡ Some rest → path ≡ front ++ rest) → j ∷ path ≡ i ∷ (front ++ rest)
-    go true is e more = λ k. sym (same_is i j is) k ∷ more e k
-    go false is e more = absurd cc
 
 -- cells of these names
 pub among_of_scalar : (names : List (List ℕ)) (c : Cell) → is_cell_among names c ≡ true → is_of_scalar c ≡ true

@@ -1,4 +1,4 @@
-use Rattle.std.proofs.Common.{ℕ, List, ◌||◌, Option, MatchOption, sym, ap, ◌∙◌, subst}
+use Rattle.std.proofs.Common.{ℕ, List, ◌||◌, Option, Some, is_none, MatchOption, sym, ap, ◌∙◌, subst}
 use Rattle.std.specs.List.{list_any}
 use Rattle.ped_base.specs.Lists.{is_among}
 use Rattle.ped_tree.specs.Tree.{Do}
@@ -13,8 +13,10 @@ use Rattle.ped_rules.specs.ped_loop_runs.specs.ped_tidy.specs.ped_pasting.specs.
 use Rattle.ped_rules.specs.ped_loop_runs.specs.ped_tidy.specs.ped_pasting.specs.ped_bodies.specs.ped_steps.proofs.Answering.{few_numbers}
 use Rattle.ped_scalar.specs.Expanding.{IsExpanded}
 use Rattle.ped_tree.specs.NamesIn.{private_names_in}
+use Rattle.ped_rules.specs.ped_loop_runs.specs.ped_tidy.specs.ped_pasting.specs.ped_bodies.specs.ped_steps.specs.ped_symbols.specs.Kinds.{table_of}
 use Rattle.ped_rules.specs.CodeSpans.{span_in}
-use Rattle.ped_scalar.proofs.FirstAgainstExpanding as first
+use Rattle.ped_rules.specs.Spans.{span_of}
+use Rattle.ped_scalar.proofs.ExpandRules as rules
 use Rattle.ped_scalar.proofs.expanding.expand_to.Goals as goal
 
 pub expand-requires : goal.expand-requires
@@ -44,8 +46,9 @@ returns-then-is_private_near g c =
     let found : IsChange u c.in_ok-keep.keep c.in-Some.change =
     subst (λ (o : Option Change). MatchOption o (IsValid u → ⊥) (IsChange u c.in_ok-keep.keep)) c.in-Some.is c.in_ok-change.ensures in
     let test = c.is_private_near.ensures ∙ ap (λ (nest : List Loop). is_among x (private_names_in (Do h body)) || list_any (λ (l : Loop). is_among x l.head.private) nest) c.requires.round in
-    first.refused_by t s x AlreadyPrivate s c.against.result c.against.ensures
-    (first.private t s x h body c.requires.is c.requires.below u made found.valid c.requires.scalar (sym test ∙ c.if-is_private_near.true))
+    let literal = rules.known_near (span_of (table_of t).constants h) (Some e.span) c.requires.elements.known in
+    rules.refused s x t AlreadyPrivate s c.against.result c.against.ensures
+    (rules.private_first s x t h body c.requires.is c.requires.serial literal c.requires.kept c.requires.fit (ap is_none c.requires.elements.known.0) u made found.valid (sym test ∙ c.if-is_private_near.true))
 
 pub returns-in-Some : goal.returns-in-Some
 returns-in-Some g c =
@@ -62,8 +65,9 @@ returns-in-Some g c =
     subst (λ (o : Option Change). MatchOption o (IsValid u → ⊥) (IsChange u c.in_ok-keep.keep)) c.in-Some.is c.in_ok-change.ensures in
     let test = c.is_private_near.ensures ∙ ap (λ (nest : List Loop). is_among x (private_names_in (Do h body)) || list_any (λ (l : Loop). is_among x l.head.private) nest) c.requires.round in
     let change = subst (λ (k : List (ℕ × ℕ)). IsChange u k c.in-Some.change) c.in_ok-keep.ensures found in
-    first.accepted_with t s x (record { head = h; body = body; is = c.requires.is }) u made c.in-Some.change
-    (first.nothing t s x h body c.requires.is c.requires.below u made found.valid (sym test ∙ c.if-is_private_near.false)) change
+    let literal = rules.known_near (span_of (table_of t).constants h) (Some e.span) c.requires.elements.known in
+    rules.accepted s x t (record { head = h; body = body; is = c.requires.is }) u made c.in-Some.change
+    (rules.nothing_stands s x t h body c.requires.is c.requires.serial literal c.requires.kept c.requires.fit (ap is_none c.requires.elements.known.0) u made found.valid (sym test ∙ c.if-is_private_near.false)) change
 
 pub returns-in-None : goal.returns-in-None
 returns-in-None g c =
@@ -77,4 +81,6 @@ returns-in-None g c =
     let made : IsExpanded t s x h u =
     record { array = e.array; fresh = c.requires.elements.fresh; span = span_in e.span; spans = c.requires.elements.known.0; live = e.live; says = c.requires.elements.says; made = c.in_ok-tree.ensures.tree } in
     let invalid : IsValid u → ⊥ = subst (λ (o : Option Change). MatchOption o (IsValid u → ⊥) (IsChange u c.in_ok-keep.keep)) c.in-None.is c.in_ok-change.ensures in
-    first.refused_by t s x Limit s c.against-in-None.result c.against-in-None.ensures (first.limit t s x h body c.requires.is c.requires.below u made invalid)
+    let literal = rules.known_near (span_of (table_of t).constants h) (Some e.span) c.requires.elements.known in
+    rules.refused s x t Limit s c.against-in-None.result c.against-in-None.ensures
+    (rules.limit_first s x t h body c.requires.is c.requires.serial literal c.requires.kept c.requires.fit (ap is_none c.requires.elements.known.0) u made invalid)

@@ -1,8 +1,8 @@
 use Rattle.ped_rules.specs.ped_loop_runs.specs.ped_tidy.specs.ped_pasting.specs.ped_bodies.specs.ped_steps.specs.Causes.{none_forbids}
 use Rattle.ped_rules.specs.ped_loop_runs.specs.ped_tidy.specs.ped_pasting.specs.ped_bodies.specs.ped_steps.proofs.OneCause.{one_cause}
 use Rattle.ped_scalar.specs.Expanding.{StandsAgainstExpanding}
-use Rattle.ped_scalar.proofs.FirstAgainstExpanding.{one_statement}
+use Rattle.ped_scalar.proofs.ExpandRules.{chain}
 use Rattle.ped_scalar.proofs.laws.one_cause_against_expanding.Goals as goal
 
 pub returns : goal.returns
-returns c t s x first second p q = one_cause t (StandsAgainstExpanding t s x) none_forbids (one_statement t s x) first second p q
+returns c t s x first second p q = one_cause t (StandsAgainstExpanding s x t) none_forbids (chain s x t).one first second p q

@@ -8,13 +8,11 @@ use Rattle.ped_rules.specs.ped_loop_runs.specs.ped_tidy.specs.ped_pasting.specs.
 use Rattle.ped_tree.specs.Views.{head_of}
 use Rattle.ped_rules.specs.ped_loop_runs.specs.ped_tidy.specs.ped_pasting.specs.ped_bodies.specs.ped_steps.specs.ped_symbols.specs.NameRefusals.{IsValid}
 use Rattle.ped_rules.specs.ped_loop_runs.specs.ped_tidy.specs.ped_pasting.specs.ped_bodies.specs.ped_steps.specs.declared.rules.Rule.TheVariants.{ParallelState, ExposedOrLive, NotScalar, Limit, AlreadyPrivate}
-use Rattle.ped_rules.specs.ped_loop_runs.specs.ped_tidy.specs.ped_pasting.specs.ped_bodies.specs.ped_steps.specs.Replacing.{all_kept}
 use Rattle.ped_rules.specs.ped_loop_runs.specs.ped_tidy.specs.ped_pasting.specs.ped_bodies.specs.ped_steps.specs.Changes.{IsChange}
 use Rattle.ped_rules.specs.ped_loop_runs.specs.ped_tidy.specs.ped_pasting.specs.ped_bodies.specs.ped_steps.specs.declared.changes.Change.{Change}
 use Rattle.ped_rules.specs.ped_loop_runs.specs.ped_tidy.specs.ped_pasting.specs.ped_bodies.specs.ped_steps.proofs.Answering.{few_numbers}
-use Rattle.ped_scalar.specs.Privatising.{privatised, StandsAgainstPrivatising}
-use Rattle.ped_scalar.proofs.FlowAnswers.{fit_scalar}
-use Rattle.ped_scalar.proofs.FirstAgainstPrivatising as first
+use Rattle.ped_scalar.specs.Privatising.{privatised}
+use Rattle.ped_scalar.proofs.PrivatiseRules as rules
 use Rattle.ped_scalar.proofs.privatising.privatise_in.Goals as goal
 
 pub loops_round-requires : goal.loops_round-requires
@@ -35,7 +33,7 @@ returns-then-is_parallel g c =
     let body = stmt_trees c.args.d.now.body.items in
     let nest = ap nest_of c.deref.ensures.value ∙ c.in_ok-round.ensures in
     let test = c.is_parallel.ensures ∙ ap (λ (n : List Loop). h.parallel || list_any (λ (m : Loop). m.head.parallel) n) nest in
-    first.refused_by t s x ParallelState s c.against.result c.against.ensures (first.parallel t s x h body c.requires.is (sym test ∙ c.if-is_parallel.true))
+    rules.refused s x t ParallelState s c.against.result c.against.ensures (rules.state_first s x t h body c.requires.is (sym test ∙ c.if-is_parallel.true))
 
 pub returns-in-Some : goal.returns-in-Some
 returns-in-Some g c =
@@ -46,9 +44,8 @@ returns-in-Some g c =
     let body = stmt_trees c.args.d.now.body.items in
     let nest = ap nest_of c.deref.ensures.value ∙ c.in_ok-round.ensures in
     let test = c.is_parallel.ensures ∙ ap (λ (n : List Loop). h.parallel || list_any (λ (m : Loop). m.head.parallel) n) nest in
-    let below = first.below_exposed t s x h body c.requires.is (sym test ∙ c.if-is_parallel.false) in
-    first.refused_by t s x ExposedOrLive c.in-Some.statement c.against-in-Some.result c.against-in-Some.ensures
-    (first.exposed t s x h body c.requires.is c.in-Some.statement below c.in-Some.ensures)
+    rules.refused s x t ExposedOrLive c.in-Some.statement c.against-in-Some.result c.against-in-Some.ensures
+    (rules.exposed_first s x t h body c.requires.is (sym test ∙ c.if-is_parallel.false) c.in-Some.statement c.in-Some.ensures)
 
 pub returns-then-branch : goal.returns-then-branch
 returns-then-branch g c =
@@ -59,9 +56,8 @@ returns-then-branch g c =
     let body = stmt_trees c.args.d.now.body.items in
     let nest = ap nest_of c.deref.ensures.value ∙ c.in_ok-round.ensures in
     let test = c.is_parallel.ensures ∙ ap (λ (n : List Loop). h.parallel || list_any (λ (m : Loop). m.head.parallel) n) nest in
-    let below = first.below_unfit t s x h body c.requires.is (first.below_exposed t s x h body c.requires.is (sym test ∙ c.if-is_parallel.false)) c.in_default.ensures in
-    first.refused_by t s x NotScalar s c.against-then-branch.result c.against-then-branch.ensures
-    (first.unfit t s x h body c.requires.is below (sym c.in_ok-is_unfit.ensures ∙ c.if-branch.true))
+    rules.refused s x t NotScalar s c.against-then-branch.result c.against-then-branch.ensures
+    (rules.unfit_first s x t h body c.requires.is (sym test ∙ c.if-is_parallel.false) c.in_default.ensures (sym c.in_ok-is_unfit.ensures ∙ c.if-branch.true))
 
 pub returns-then-is_among : goal.returns-then-is_among
 returns-then-is_among g c =
@@ -72,12 +68,9 @@ returns-then-is_among g c =
     let body = stmt_trees c.args.d.now.body.items in
     let nest = ap nest_of c.deref.ensures.value ∙ c.in_ok-round.ensures in
     let test = c.is_parallel.ensures ∙ ap (λ (n : List Loop). h.parallel || list_any (λ (m : Loop). m.head.parallel) n) nest in
-    let below = first.below_unfit t s x h body c.requires.is (first.below_exposed t s x h body c.requires.is (sym test ∙ c.if-is_parallel.false)) c.in_default.ensures in
-    let fit = sym c.in_ok-is_unfit.ensures ∙ c.if-branch.false in
-    let above = first.below_limit t s x h body c.requires.is below fit in
     let among = c.is_among.ensures ∙ ap (λ (names : List (List ℕ)). is_among x names) c.as_slice.ensures in
-    first.refused_by t s x AlreadyPrivate s c.against-then-is_among.result c.against-then-is_among.ensures
-    (first.private t s x h body c.requires.is above (fit_scalar t s h body x fit) (sym among ∙ c.if-is_among.true))
+    rules.refused s x t AlreadyPrivate s c.against-then-is_among.result c.against-then-is_among.ensures
+    (rules.listed_first s x t h body c.requires.is (sym test ∙ c.if-is_parallel.false) c.in_default.ensures (sym c.in_ok-is_unfit.ensures ∙ c.if-branch.false) (sym among ∙ c.if-is_among.true))
 
 pub returns-in-Some-2 : goal.returns-in-Some-2
 returns-in-Some-2 g c =
@@ -88,16 +81,14 @@ returns-in-Some-2 g c =
     let body = stmt_trees c.args.d.now.body.items in
     let nest = ap nest_of c.deref.ensures.value ∙ c.in_ok-round.ensures in
     let test = c.is_parallel.ensures ∙ ap (λ (n : List Loop). h.parallel || list_any (λ (m : Loop). m.head.parallel) n) nest in
-    let below = first.below_unfit t s x h body c.requires.is (first.below_exposed t s x h body c.requires.is (sym test ∙ c.if-is_parallel.false)) c.in_default.ensures in
-    let fit = sym c.in_ok-is_unfit.ensures ∙ c.if-branch.false in
-    let above = first.below_limit t s x h body c.requires.is below fit in
     let among = c.is_among.ensures ∙ ap (λ (names : List (List ℕ)). is_among x names) c.as_slice.ensures in
     let u = program_tree c.in_ok-tree.tree in
     let found : IsChange u c.in_ok-keep.keep c.in-Some-2.change =
     subst (λ (o : Option Change). MatchOption o (IsValid u → ⊥) (IsChange u c.in_ok-keep.keep)) c.in-Some-2.is c.in_ok-change.ensures in
     let change = subst (λ (v : ProgramTree). IsChange v c.in_ok-keep.keep c.in-Some-2.change) c.in_ok-tree.ensures.tree found in
     let made = subst (λ (k : List (ℕ × ℕ)). IsChange (privatised t s x) k c.in-Some-2.change) c.in_ok-keep.ensures change in
-    first.accepted_with t s x c.in-Some-2.change (first.nothing t s x h body c.requires.is above (sym among ∙ c.if-is_among.false) made.valid) made
+    rules.accepted s x t c.in-Some-2.change
+    (rules.nothing_stands s x t h body c.requires.is (sym test ∙ c.if-is_parallel.false) c.in_default.ensures (sym c.in_ok-is_unfit.ensures ∙ c.if-branch.false) (sym among ∙ c.if-is_among.false) made.valid) made
 
 pub returns-in-None : goal.returns-in-None
 returns-in-None g c =
@@ -108,12 +99,9 @@ returns-in-None g c =
     let body = stmt_trees c.args.d.now.body.items in
     let nest = ap nest_of c.deref.ensures.value ∙ c.in_ok-round.ensures in
     let test = c.is_parallel.ensures ∙ ap (λ (n : List Loop). h.parallel || list_any (λ (m : Loop). m.head.parallel) n) nest in
-    let below = first.below_unfit t s x h body c.requires.is (first.below_exposed t s x h body c.requires.is (sym test ∙ c.if-is_parallel.false)) c.in_default.ensures in
-    let fit = sym c.in_ok-is_unfit.ensures ∙ c.if-branch.false in
-    let above = first.below_limit t s x h body c.requires.is below fit in
     let among = c.is_among.ensures ∙ ap (λ (names : List (List ℕ)). is_among x names) c.as_slice.ensures in
     let u = program_tree c.in_ok-tree.tree in
     let none : IsValid u → ⊥ = subst (λ (o : Option Change). MatchOption o (IsValid u → ⊥) (IsChange u c.in_ok-keep.keep)) c.in-None.is c.in_ok-change.ensures in
     let invalid = λ (v : IsValid (privatised t s x)). none (subst IsValid (sym c.in_ok-tree.ensures.tree) v) in
-    first.refused_by t s x Limit s c.against-in-None.result c.against-in-None.ensures
-    (first.limit t s x h body c.requires.is above (sym among ∙ c.if-is_among.false) invalid)
+    rules.refused s x t Limit s c.against-in-None.result c.against-in-None.ensures
+    (rules.limit_first s x t h body c.requires.is (sym test ∙ c.if-is_parallel.false) c.in_default.ensures (sym c.in_ok-is_unfit.ensures ∙ c.if-branch.false) (sym among ∙ c.if-is_among.false) invalid)

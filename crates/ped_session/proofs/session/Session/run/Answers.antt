@@ -1,7 +1,8 @@
-use Rattle.std.proofs.Common.{ap, sym, ◌∙◌}
+use Rattle.std.proofs.Common.{ap, sym, subst}
 use Rattle.std.proofs.lemmas.Result.{IfOk-weaker}
 use Rattle.ped_session.specs.ped_tree.specs.Tree.{ProgramTree}
-use Rattle.ped_order.specs.ped_eval.specs.Outcomes.{outcome}
+use Rattle.ped_order.specs.ped_eval.specs.OutcomeViews.{outcome_view}
+use Rattle.ped_order.specs.ped_interleavings.specs.Interleavings.{IsInterleaved}
 use Rattle.ped_session.specs.Holding.{tree_of}
 use Rattle.ped_session.specs.States.{State}
 use Rattle.ped_session.proofs.PresentProgram.{only_version, reads_version}
@@ -12,13 +13,14 @@ pub returns-clause-outcome : goal.returns-clause-outcome
 returns-clause-outcome g c =
     let v = c.self.inside.present in
     let text = ap (λ (u : State). u.present) c.self.view_is in
-    IfOk-weaker c.run_in_order.result _ _ (λ o is t reads.
-    is ∙ ap (λ (u : ProgramTree). outcome u c.args.input.now) (sym (only_version v c.self.invariant.version c.args.self.now.present text t reads))) c.run_in_order.ensures
+    IfOk-weaker c.run_version.result _ _ (λ o is t reads.
+    subst (λ (u : ProgramTree). IsInterleaved u c.args.input.now c.args.choices.now (outcome_view o)) (sym (only_version v c.self.invariant.version c.args.self.now.present text t reads)) is) c.run_version.ensures
 
 pub returns-clause-before : goal.returns-clause-before
 returns-clause-before g c =
     let v = c.self.inside.present in
     let text = ap (λ (u : State). u.present) c.self.view_is in
     let kept = kept_in v c.self.inside.graph c.self.inside.history.past c.self.inside.history.future c.self.invariant c.args.self.now c.self.inside.tested c.self.view_is in
-    IfOk-weaker c.run_in_order.result _ _ (λ o is earlier t comes from trusted free.
-    is ∙ as_before c.args.self.now c.args.input.now (tree_of v) kept (reads_version v c.self.invariant.version c.args.self.now.present text) earlier t comes from trusted free) c.run_in_order.ensures
+    IfOk-weaker c.run_version.result _ _ (λ o is earlier t comes from trusted free.
+    as_before c.interleavings_agree.ensures c.args.self.now c.args.input.now c.args.choices.now (tree_of v) (outcome_view o) kept (reads_version v c.self.invariant.version c.args.self.now.present text) is
+    earlier t comes from trusted free) c.run_version.ensures

@@ -1,0 +1,5 @@
+use Rattle.ped_answer.proofs.ExistenceLaws.Excluding.{excludes_decided}
+use Rattle.ped_answer.proofs.existence.exclusions.exclusions_are_decided.Goals as goal
+
+pub returns : goal.returns
+returns c = excludes_decided

@@ -1,0 +1,5 @@
+use Rattle.ped_answer.proofs.ExistenceLaws.Choosing.{vectors_of_view}
+use Rattle.ped_answer.proofs.existence.exclusions.vectors_exist.Goals as goal
+
+pub returns : goal.returns
+returns c = vectors_of_view

@@ -1,0 +1,5 @@
+use Rattle.ped_answer.proofs.ExistenceLaws.Edges.{edges_of_program}
+use Rattle.ped_answer.proofs.existence.panes.dependences_exist.Goals as goal
+
+pub returns : goal.returns
+returns c = edges_of_program

@@ -1,0 +1,2 @@
+-- That answers exist: sentences that are settled.
+pub mod Deciding

@@ -1,5 +1,0 @@
-use Rattle.ped_existence.proofs.Edges.{pane_of_statement}
-use Rattle.ped_existence.proofs.panes.dependence_pane_of_exists.Goals as goal
-
-pub returns : goal.returns
-returns c = pane_of_statement

@@ -47,7 +47,7 @@ UnwrittenLaw = (t : ProgramTree) → IsValid t → (edges : List Edge) → AreEd
 abbrev pub UnrejectedLaw : Type 0
 UnrejectedLaw = (t : ProgramTree) (edges : List Edge) → some_rejection t.body ≡ false → AreEdges t edges → (e : Edge) → IsIn e edges → e.mark ≡ rejected → ⊥
 
-each_of : {X : Type 0} (P : X → Type 0) (xs : List X) (x : X) → All P xs → IsIn x xs → P x
+pub each_of : {X : Type 0} (P : X → Type 0) (xs : List X) (x : X) → All P xs → IsIn x xs → P x
 each_of P [] x all i = absurd i
 each_of P (y ∷ ys) x all (inl e) = subst P (sym e) (All-head P y ys all)
 each_of P (y ∷ ys) x all (inr i) = each_of P ys x (All-tail P y ys all) i
@@ -57,12 +57,12 @@ same_level n None = refl
 same_level n (Some level) = refl
 
 -- the DO carries a dependence, by the words of the laws and by those of the rules
-same_carried : (t : ProgramTree) (s : ℕ) (loop : LoopOf t s) (e : Edge) → runs.is_carried_by t s loop.body e ≡ is_carried_by t s e
+pub same_carried : (t : ProgramTree) (s : ℕ) (loop : LoopOf t s) (e : Edge) → runs.is_carried_by t s loop.body e ≡ is_carried_by t s e
 same_carried t s loop e =
     let there = λ (k : ℕ). in_body t s loop.head loop.body k loop.is in
     λ i. same_level (level_at t s) e.level i && (sym (there e.source.0) i && sym (there e.sink.0) i)
 
-not_rejected : (m : Mark) → (m ≡ rejected → ⊥) → is_rejected m ≡ false
+pub not_rejected : (m : Mark) → (m ≡ rejected → ⊥) → is_rejected m ≡ false
 not_rejected proven none = refl
 not_rejected pending none = refl
 not_rejected rejected none = absurd (none refl)

@@ -20,3 +20,23 @@ mod ReversedNames
 mod ReversalLawful
 mod ReverseAnswers
 pub mod Determined
+mod OnlyBodies
+mod NestKnots
+mod PairOrders
+mod LoopPairs
+mod LoopPlaces
+mod SwappedCells
+mod SwappedLoops
+mod SwappedWeave
+mod SwappedConflicts
+mod SwappedStands
+mod FixedWrites
+mod ApartTurns
+mod ExchangedRaces
+mod SwappedAccesses
+mod SwappedKeeps
+mod SwappedBounds
+mod FreeBounds
+mod FreeSwaps
+mod UncrossedPairs
+mod InterchangeRules

@@ -1,3 +1,4 @@
+pub mod ShapedCode
 mod SameKinds
 mod SomeEdges
 mod FlagRules

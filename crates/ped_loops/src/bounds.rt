@@ -14,7 +14,7 @@ ghost use Rattle.ped_scalar.specs.ped_rules.specs.ped_loop_runs.specs.ped_tidy.s
 ghost use Rattle.ped_scalar.specs.ped_rules.specs.ped_loop_runs.specs.ped_tidy.specs.ped_pasting.specs.ped_bodies.specs.ped_steps.specs.ped_flow.specs.PlainBounds.{nest_round, setting_round, IsConstant, IsFixed, IsExtreme, IsPlainlyBuilt, ArePlainlyBuilt, IsPlain};
 ghost use Rattle.ped_scalar.specs.ped_rules.specs.ped_loop_runs.specs.ped_tidy.specs.ped_pasting.specs.ped_bodies.specs.ped_steps.specs.ped_flow.specs.Questions.{IsLoop, LoopOf};
 ghost use Rattle.ped_scalar.specs.ped_rules.specs.ped_loop_runs.specs.ped_tidy.specs.ped_pasting.specs.ped_bodies.specs.ped_steps.specs.Scenes.{IsSceneOf};
-ghost use Rattle.ped_loops.specs.CodePlain.{tree_at, values_at, IsPlaced};
+ghost use Rattle.ped_loops.specs.CodePlain.{tree_at, values_at, IsPlaced, HasInterval, TellsPlain};
 
 use ped_base::{Name, NoMemory};
 use ped_scalar::ped_rules::is_index;
@@ -56,8 +56,7 @@ pub(crate) fn are_plain<L: Ledger>(
 ) -> Result<bool, NoMemory>
     requires scene { IsSceneOf (program_tree scene.now.tree.now) scene.now }
     requires is { IsLoop (program_tree scene.now.tree.now) number (head_of d.now) (stmt_trees d.now.body.items) }
-    ensures { IfOk result (λ r. IsTrue r ↔ (IsPlain (table_of (program_tree scene.now.tree.now)).constants (program_tree scene.now.tree.now) number (head_of d.now).first
-        × IsPlain (table_of (program_tree scene.now.tree.now)).constants (program_tree scene.now.tree.now) number (head_of d.now).last)) }
+    ensures { IfOk result (TellsPlain (program_tree scene.now.tree.now) number (head_of d.now)) }
 {
     let round = loops_round(alloc, scene.tree, number)?;
     let variables = loop_variables(alloc, &scene.tree.body)?;

@@ -41,3 +41,5 @@ mod FreeBounds
 mod FreeSwaps
 mod UncrossedPairs
 mod InterchangeRules
+mod PlainAnswers
+mod InterchangeAnswers

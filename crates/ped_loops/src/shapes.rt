@@ -398,10 +398,7 @@ fn extreme_of(
     if others.is_empty() {
         return bound.copy(alloc);
     }
-    let mut arguments = Vec::new(alloc);
-    arguments.push(bound.copy(alloc)?)?;
-    for other in others {
-        arguments.push(other)?;
-    }
+    let mut arguments = others;
+    arguments.insert(0, bound.copy(alloc)?)?;
     Ok(Expr::call(f, arguments))
 }

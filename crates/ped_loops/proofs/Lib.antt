@@ -40,3 +40,8 @@ mod FreeBounds
 mod FreeSwaps
 mod UncrossedPairs
 mod InterchangeRules
+mod LoopSurroundings
+mod SwappedKinds
+mod SwappedTrust
+pub mod PlainDecided
+mod InterchangeLawful

@@ -19,7 +19,6 @@ mod ReversedLoops
 mod ReversedNames
 mod ReversalLawful
 mod ReverseAnswers
-pub mod Determined
 mod OnlyBodies
 mod NestKnots
 mod PairOrders
@@ -39,9 +38,10 @@ mod SwappedBounds
 mod FreeBounds
 mod FreeSwaps
 mod UncrossedPairs
-mod InterchangeRules
+pub mod InterchangeRules
 mod LoopSurroundings
 mod SwappedKinds
 mod SwappedTrust
 pub mod PlainDecided
 mod InterchangeLawful
+pub mod Determined

@@ -26,7 +26,8 @@ use Rattle.ped_answer.specs.ped_session.specs.ped_transformations.specs.ped_loop
 use Rattle.ped_answer.specs.ped_session.specs.ped_transformations.specs.ped_loops.specs.ped_scalar.specs.ped_rules.specs.Lawful.{IsDetermined}
 use Rattle.ped_answer.specs.ped_session.specs.ped_transformations.specs.ped_loops.specs.ped_scalar.specs.ped_rules.proofs.Decided.{valid_decided, loop_decided}
 use Rattle.ped_answer.specs.ped_session.specs.ped_transformations.specs.Table.{step_of}
-use Rattle.ped_answer.specs.ped_session.specs.ped_transformations.specs.ped_loops.proofs.Determined.{determined_parallel, determined_serial, determined_reversal, determined_rejection}
+use Rattle.ped_answer.specs.ped_session.specs.ped_transformations.specs.ped_loops.proofs.Determined.{determined_parallel, determined_serial, determined_reversal, determined_interchange, determined_rejection}
+use Rattle.ped_existence.proofs.InterchangeCauses.{interchange_cause}
 use Rattle.ped_existence.proofs.LoopCauses.{parallel_cause, serial_cause, reversal_cause, rejection_cause}
 use Rattle.ped_existence.specs.Deciding.{Decided}
 use Rattle.ped_existence.proofs.LoopPaths.{exposed_or_live, lost}
@@ -133,7 +134,7 @@ goes_by at lawful some t valid = by (some t)
 pub each_goes : (command : Command) → MatchStep (step_of command) ⊤ (λ at. (t : ProgramTree) → IsValid t → Goes at t)
 each_goes (Expand number name) = λ t valid. expanding_goes t number name
 each_goes (Privatise number name) = λ t valid. privatising_goes t number name
-each_goes (Interchange number) = tt
+each_goes (Interchange number) = goes_by _ (determined_interchange number) (λ t. interchange_cause t number)
 each_goes (Reverse number) = goes_by _ (determined_reversal number) (λ t. reversal_cause t number)
 each_goes (Skew number factor) = tt
 each_goes (Strip number size) = tt

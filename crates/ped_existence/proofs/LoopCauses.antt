@@ -26,7 +26,7 @@ use Rattle.ped_existence.proofs.Edges.{edges_of_program}
 use Rattle.ped_existence.proofs.ChainCauses.{Settled, Found, found_end, found_link, settled_no_loop, settled_where, settled_escape, settled_limit, some_cause}
 
 module _ (t : ProgramTree) (s : ℕ) where
-  one_loop : (l m : LoopOf t s) → (l.head ≡ m.head) × (l.body ≡ m.body)
+  pub one_loop : (l m : LoopOf t s) → (l.head ≡ m.head) × (l.body ≡ m.body)
   one_loop l m = (same_head t s l.head m.head l.body m.body l.is m.is, same_body t s l.head m.head l.body m.body l.is m.is)
 
   -- the rules of a step that asks about the DO, about escapes and whether the new program is valid

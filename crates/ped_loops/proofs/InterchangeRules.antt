@@ -48,70 +48,70 @@ module _ (s : ℕ) where
   one_made t new other keep more p q = (p.0 ∙ sym q.0, p.1 ∙ sym q.1)
 
   module _ (t : ProgramTree) where
-    abbrev units : Head → StmtTrees → Bool
+    abbrev pub units : Head → StmtTrees → Bool
     units = has_no_unit (table_of t).constants
 
-    abbrev far : Head → StmtTrees → Bool
+    abbrev pub far : Head → StmtTrees → Bool
     far = makes_far (setting_at t s) (heads_round t s)
 
-    abbrev Unplain : ℕ → Type 0
+    abbrev pub Unplain : ℕ → Type 0
     Unplain = WhereUnplain t s (IsBoundOfEither t s)
 
-    abbrev limit : Rules
+    abbrev pub limit : Rules
     limit = also Limit (WhereLimit (MakesInterchanged s) t s) no_rules
 
-    abbrev range : Rules
+    abbrev pub range : Rules
     range = also Range (WhereLoop t s far) limit
 
-    abbrev unit : Rules
+    abbrev pub unit : Rules
     unit = also StepShape (WhereLoop t s units) range
 
-    abbrev shape : Rules
+    abbrev pub shape : Rules
     shape = also BoundsShape (WhereLoop t s is_tied) unit
 
-    abbrev bound : Rules
+    abbrev pub bound : Rules
     bound = also BoundNotPlain Unplain shape
 
-    abbrev escape : Rules
+    abbrev pub escape : Rules
     escape = also IndexEscapes (WhereEscape t s) bound
 
-    abbrev list : Rules
+    abbrev pub list : Rules
     list = also HasPrivate (WhereLoop t s (either has_private)) escape
 
-    abbrev state : Rules
+    abbrev pub state : Rules
     state = also ParallelState (WhereLoop t s (either is_parallel)) list
 
-    abbrev perfect : Rules
+    abbrev pub perfect : Rules
     perfect = also NotPerfect (WhereLoop t s isnt_perfect) state
 
     abbrev stands : Rules
     stands = StandsAgainstInterchange s t
 
-    limit_chain : IsChain 9 limit
+    pub limit_chain : IsChain 9 limit
     limit_chain = chain_link Limit (WhereLimit (MakesInterchanged s) t s) no_rules 9 (omega arith) (limit_one t s (MakesInterchanged s)) (chain_end 15)
 
-    range_chain : IsChain 8 range
+    pub range_chain : IsChain 8 range
     range_chain = chain_link Range (WhereLoop t s far) limit 8 (omega arith) (loop_one t s far) limit_chain
 
-    unit_chain : IsChain 7 unit
+    pub unit_chain : IsChain 7 unit
     unit_chain = chain_link StepShape (WhereLoop t s units) range 7 (omega arith) (loop_one t s units) range_chain
 
-    shape_chain : IsChain 6 shape
+    pub shape_chain : IsChain 6 shape
     shape_chain = chain_link BoundsShape (WhereLoop t s is_tied) unit 6 (omega arith) (loop_one t s is_tied) unit_chain
 
-    bound_chain : IsChain 5 bound
+    pub bound_chain : IsChain 5 bound
     bound_chain = chain_link BoundNotPlain Unplain shape 5 (omega arith) (unplain_one t s (IsBoundOfEither t s)) shape_chain
 
-    escape_chain : IsChain 4 escape
+    pub escape_chain : IsChain 4 escape
     escape_chain = chain_link IndexEscapes (WhereEscape t s) bound 4 (omega arith) (escape_one t s) bound_chain
 
-    list_chain : IsChain 3 list
+    pub list_chain : IsChain 3 list
     list_chain = chain_link HasPrivate (WhereLoop t s (either has_private)) escape 3 (omega arith) (loop_one t s (either has_private)) escape_chain
 
-    state_chain : IsChain 2 state
+    pub state_chain : IsChain 2 state
     state_chain = chain_link ParallelState (WhereLoop t s (either is_parallel)) list 2 (omega arith) (loop_one t s (either is_parallel)) list_chain
 
-    perfect_chain : IsChain 1 perfect
+    pub perfect_chain : IsChain 1 perfect
     perfect_chain = chain_link NotPerfect (WhereLoop t s isnt_perfect) state 1 (omega arith) (loop_one t s isnt_perfect) state_chain
 
     pub chain : IsChain 0 stands

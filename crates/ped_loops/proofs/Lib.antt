@@ -20,7 +20,6 @@ mod ReversedLoops
 mod ReversedNames
 mod ReversalLawful
 mod ReverseAnswers
-pub mod Determined
 mod OnlyBodies
 mod NestKnots
 mod PairOrders
@@ -40,6 +39,13 @@ mod SwappedBounds
 mod FreeBounds
 mod FreeSwaps
 mod UncrossedPairs
+pub mod InterchangeRules
+mod LoopSurroundings
+mod SwappedKinds
+mod SwappedTrust
+pub mod PlainDecided
+mod InterchangeLawful
+pub mod Determined
 mod InterchangeRules
 mod PlainAnswers
 mod InterchangeAnswers

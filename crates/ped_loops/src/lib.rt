@@ -14,7 +14,9 @@ mod serialising;
 mod shapes;
 
 pub use interchanging::interchange;
-pub use laws::{parallel_is_lawful, rejection_is_lawful, reversal_is_lawful, serial_is_lawful};
+pub use laws::{
+    interchange_is_lawful, parallel_is_lawful, rejection_is_lawful, reversal_is_lawful, serial_is_lawful,
+};
 pub use paralleling::make_parallel;
 pub use ped_scalar;
 pub use rejecting::reject;

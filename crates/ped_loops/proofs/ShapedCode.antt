@@ -8,8 +8,10 @@ use Rattle.ped_tree.specs.Views.{pack_exprs, pack_stmts, stmt_tree, stmt_trees}
 use Rattle.ped_tree.specs.declared.statements.Stmt.{Stmt}
 use Rattle.ped_scalar.specs.ped_rules.specs.OnlyLoops.{only_loop, change_only}
 use Rattle.ped_tree.specs.declared.expressions.Intrinsic.{Intrinsic}
+use Rattle.ped_scalar.specs.ped_rules.specs.ped_loop_runs.specs.ped_tidy.specs.ped_pasting.specs.ped_bodies.specs.ped_steps.specs.Replacing.{alone}
 use Rattle.ped_loops.specs.CodeInterchanging.{one_around, each_around}
-use Rattle.ped_loops.specs.Shapes.{arguments_of, extreme_of}
+use Rattle.ped_loops.specs.Interchanging.{exchanged_loops, with_exchanged}
+use Rattle.ped_loops.specs.Shapes.{arguments_of, extreme_of, new_inner, new_outer}
 
 -- a name among two lists
 pub among_both : (x : List ℕ) (xs ys : List (List ℕ)) → is_among x (xs ++ ys) ≡ (is_among x xs || is_among x ys)
@@ -63,3 +65,17 @@ module _ (g : Head) (inside : StmtTrees) where
   around_only head (more_stmts (Print items) rest) e = absurd (not_there e)
   around_only head (more_stmts (Read items) rest) e = absurd (not_there e)
   around_only head (more_stmts Stop rest) e = absurd (not_there e)
+
+  -- the new loops of the code are those of the step
+  same_head : (k h : Head) (a b : StmtTrees) → Do k a ≡ Do h b → k ≡ h
+  same_head k h a b e = cc
+
+  same_statements : (k h : Head) (a b : StmtTrees) → Do k a ≡ Do h b → a ≡ b
+  same_statements k h a b e = cc
+
+  pub exchanged_by : (outer : Head) (body : StmtTrees) → only_loop body ≡ Some (found g inside) → (k : Head) (made : StmtTrees) → Do k made ≡ Do g (each_around (new_inner outer g) inside body)
+      → (first last : ExprTree) → first ≡ (new_outer outer g).first → last ≡ (new_outer outer g).last → alone (Do (record k { first = first; last = last }) made) ≡ with_exchanged outer body
+  exchanged_by outer body only k made is first last first_is last_is =
+      (λ i. alone (Do (record (same_head k g made (each_around (new_inner outer g) inside body) is i) { first = first_is i; last = last_is i }) (same_statements k g made (each_around (new_inner outer g) inside body) is i)))
+      ∙ ap (λ (z : StmtTrees). alone (Do (new_outer outer g) z)) (around_only (new_inner outer g) body only)
+      ∙ sym (ap (exchanged_loops outer body) only)

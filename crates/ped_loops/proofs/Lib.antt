@@ -1,3 +1,4 @@
+pub mod ShapedCode
 mod SameKinds
 mod SomeEdges
 mod FlagRules
@@ -45,3 +46,6 @@ mod SwappedTrust
 pub mod PlainDecided
 mod InterchangeLawful
 pub mod Determined
+mod InterchangeRules
+mod PlainAnswers
+mod InterchangeAnswers

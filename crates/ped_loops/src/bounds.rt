@@ -1,20 +1,18 @@
 //! Plain bounds: those that can be evaluated anywhere in the outermost DO, since they depend on the DO variables round them
 //! alone (this project).
 
-ghost use Rattle.std.specs.Prelude.{◌≡◌, ◌↔◌, ◌×◌, ◌⊎◌, ◌+◌, ◌<◌, ◌≤◌, ◌^◌, ◌&&◌, ◌||◌, [], length, map, IfOk, IsTrue};
+ghost use Rattle.std.specs.Prelude.{◌≡◌, ◌↔◌, ◌⊎◌, ◌≤◌, ◌&&◌, ◌||◌, not, [], length, map, IfOk, IsTrue};
 ghost use Rattle.ped_base.specs.Lists as Lists;
 ghost use Rattle.ped_tree.specs.Names.Collecting.{with_names};
-ghost use Rattle.ped_tree.specs.Numbering.{statements_count, statement_with};
-ghost use Rattle.ped_tree.specs.Tree.{Head, StmtTrees};
+ghost use Rattle.ped_tree.specs.Numbering.{statement_with};
 ghost use Rattle.ped_tree.specs.Views.{expr_tree, pack_exprs, stmt_trees, program_tree, head_of};
 ghost use Rattle.ped_tree.specs.Nests.{indices_of};
 ghost use Rattle.ped_scalar.specs.ped_rules.specs.ped_loop_runs.specs.ped_tidy.specs.ped_pasting.specs.ped_bodies.specs.ped_steps.specs.ped_refs.specs.Loops.{nest_of};
-ghost use Rattle.ped_scalar.specs.ped_rules.specs.ped_loop_runs.specs.ped_tidy.specs.ped_pasting.specs.ped_bodies.specs.ped_steps.specs.ped_symbols.specs.Kinds.{table_of};
 ghost use Rattle.ped_scalar.specs.ped_rules.specs.ped_loop_runs.specs.ped_tidy.specs.ped_pasting.specs.ped_bodies.specs.ped_steps.specs.ped_flow.specs.PlainBounds as Plain;
 ghost use Rattle.ped_scalar.specs.ped_rules.specs.ped_loop_runs.specs.ped_tidy.specs.ped_pasting.specs.ped_bodies.specs.ped_steps.specs.ped_flow.specs.PlainBounds.{nest_round, setting_round, IsConstant, IsFixed, IsExtreme, IsPlainlyBuilt, ArePlainlyBuilt, IsPlain};
 ghost use Rattle.ped_scalar.specs.ped_rules.specs.ped_loop_runs.specs.ped_tidy.specs.ped_pasting.specs.ped_bodies.specs.ped_steps.specs.ped_flow.specs.Questions.{IsLoop, LoopOf};
 ghost use Rattle.ped_scalar.specs.ped_rules.specs.ped_loop_runs.specs.ped_tidy.specs.ped_pasting.specs.ped_bodies.specs.ped_steps.specs.Scenes.{IsSceneOf};
-ghost use Rattle.ped_loops.specs.CodePlain.{tree_at, values_at, IsPlaced};
+ghost use Rattle.ped_loops.specs.CodePlain.{tree_at, values_at, IsPlaced, HasInterval, TellsPlain};
 
 use ped_base::{Name, NoMemory};
 use ped_scalar::ped_rules::is_index;
@@ -56,8 +54,7 @@ pub(crate) fn are_plain<L: Ledger>(
 ) -> Result<bool, NoMemory>
     requires scene { IsSceneOf (program_tree scene.now.tree.now) scene.now }
     requires is { IsLoop (program_tree scene.now.tree.now) number (head_of d.now) (stmt_trees d.now.body.items) }
-    ensures { IfOk result (λ r. IsTrue r ↔ (IsPlain (table_of (program_tree scene.now.tree.now)).constants (program_tree scene.now.tree.now) number (head_of d.now).first
-        × IsPlain (table_of (program_tree scene.now.tree.now)).constants (program_tree scene.now.tree.now) number (head_of d.now).last)) }
+    ensures { IfOk result (TellsPlain (program_tree scene.now.tree.now) number (head_of d.now)) }
 {
     let round = loops_round(alloc, scene.tree, number)?;
     let variables = loop_variables(alloc, &scene.tree.body)?;
@@ -119,6 +116,7 @@ fn assigned_round(alloc: Global, program: &Program, number: u32) -> Result<NameS
 }
 
 /// Whether an expression is built as a plain bound is.
+#[tactic(auto, using(crate::proofs::PlainAnswers::of_either, crate::proofs::PlainAnswers::of_both))]
 #[cycle(plainness)]
 fn is_built(place: &Place, e: &Expr) -> bool
     requires { IsPlaced place.now }
@@ -173,6 +171,7 @@ fn is_constant(place: &Place, e: &Expr) -> bool
 }
 
 /// Whether the name is the variable of a DO round the bound, or a scalar that keeps its value in the outermost DO.
+#[tactic(auto, using(crate::proofs::PlainAnswers::of_either, crate::proofs::PlainAnswers::of_both))]
 fn is_told(place: &Place, name: &Name) -> bool
     requires { IsPlaced place.now }
     ensures { IsTrue result ↔ (IsTrue (Lists.is_among name.now (indices_of (nest_round (tree_at place.now) place.now.number))) ⊎ IsFixed (values_at place.now) (tree_at place.now) place.now.number name.now) }
@@ -185,10 +184,17 @@ fn is_fixed(place: &Place, name: &Name) -> bool
     requires { IsPlaced place.now }
     ensures { IsTrue result ↔ IsFixed (values_at place.now) (tree_at place.now) place.now.number name.now }
 {
-    if place.setting.assigned.contains(name) || place.setting.loop_variables.contains(name) {
+    if !is_kept(place, name) {
         return false;
     }
     place.flow.assigned_before(place.number, name)
+}
+
+/// Whether the outermost DO doesn't assign the scalar, and no DO of the program has it as its variable.
+fn is_kept(place: &Place, name: &Name) -> bool
+    ensures { result ≡ (not (Lists.is_among name.now place.now.setting.now.assigned.now) && not (Lists.is_among name.now place.now.setting.now.loop_variables.now)) }
+{
+    !place.setting.assigned.contains(name) && !place.setting.loop_variables.contains(name)
 }
 
 /// Whether the intrinsic function is MAX or MIN.

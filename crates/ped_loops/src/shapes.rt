@@ -1,15 +1,17 @@
 //! Bounds of an inner DO by the variable of the outer one, and the bounds that come of them where the two change places
 //! (Allen and Kennedy, section 5.2).
 
-ghost use Rattle.std.specs.Prelude.{◌≡◌, ◌||◌, ◌&&◌, not, map, true, Some, None, IfOk, MatchOption, Option};
-ghost use Rattle.std.specs.List.{list_any};
+ghost use Rattle.std.specs.Prelude.{◌≡◌, ◌++◌, ◌∷◌, [], map, true, false, Some, None, IfOk, OnOk, MatchOption};
 ghost use Rattle.ped_base.specs.Lists as Lists;
 ghost use Rattle.ped_tree.specs.Tree as Tree;
-ghost use Rattle.ped_tree.specs.Tree.{ExprTree};
 ghost use Rattle.ped_tree.specs.NamesIn.{exprs_names};
-ghost use Rattle.ped_tree.specs.Views.{expr_tree, pack_exprs, stmt_trees, head_of, do_tree};
+ghost use Rattle.ped_tree.specs.Views.{expr_tree, pack_exprs, stmt_tree, stmt_trees, head_of, do_tree};
+ghost use Rattle.ped_scalar.specs.ped_rules.specs.OnlyLoops.{only_loop};
+ghost use Rattle.ped_scalar.specs.ped_rules.specs.ped_loop_runs.specs.ped_tidy.specs.ped_pasting.specs.ped_bodies.specs.ped_steps.specs.Replacing.{alone};
 ghost use Rattle.ped_loops.specs.Shapes as Spec;
 ghost use Rattle.ped_loops.specs.CodeShapes.{shape_in, outer_of, inner_of, HasShapes};
+ghost use Rattle.ped_loops.specs.CodeInterchanging.{one_around, each_around};
+ghost use Rattle.ped_loops.specs.Interchanging.{with_exchanged};
 
 use ped_base::{Name, NoMemory};
 use ped_scalar::ped_rules::ped_loop_runs::ped_tidy::ped_pasting::ped_bodies::ped_steps::ped_sums::{
@@ -158,6 +160,7 @@ pub(crate) fn names_outer(outer: &Do, inner: &Do) -> bool
 
 /// Whether the name occurs in the expression.
 #[cycle(naming)]
+#[tactic(auto, using(crate::proofs::ShapedCode::among_both))]
 fn is_named(x: &Name, e: &Expr) -> bool
     ensures { result ≡ Spec.is_named x.now (expr_tree e.now) }
 {
@@ -177,6 +180,7 @@ fn is_named(x: &Name, e: &Expr) -> bool
 
 /// Whether the name occurs in one of these expressions.
 #[cycle(naming)]
+#[tactic(auto, using(crate::proofs::ShapedCode::among_both))]
 fn are_named(x: &Name, arguments: &[Expr]) -> bool
     ensures { result ≡ Lists.is_among x.now (exprs_names (pack_exprs (map expr_tree arguments.now))) }
 {
@@ -192,7 +196,7 @@ fn are_named(x: &Name, arguments: &[Expr]) -> bool
 pub(crate) fn exchanged(alloc: Global, pair: &Pair) -> Result<Do, NoMemory>
     requires shapes { HasShapes pair.now }
     requires inner { only_loop (stmt_trees pair.now.outer.now.body.items) ≡ Some (inner_of pair.now, stmt_trees pair.now.inner.now.body.items) }
-    ensures { IfOk result (λ d. stmt_trees_of_one d ≡ with_exchanged (outer_of pair.now) (stmt_trees pair.now.outer.now.body.items)) }
+    ensures { IfOk result (λ d. alone (do_tree d) ≡ with_exchanged (outer_of pair.now) (stmt_trees pair.now.outer.now.body.items)) }
 {
     let body = body_around(alloc, pair)?;
     let mut new = pair.inner.with_body(body, alloc)?;
@@ -394,10 +398,7 @@ fn extreme_of(
     if others.is_empty() {
         return bound.copy(alloc);
     }
-    let mut arguments = Vec::new(alloc);
-    arguments.push(bound.copy(alloc)?)?;
-    for other in others {
-        arguments.push(other)?;
-    }
+    let mut arguments = others;
+    arguments.insert(0, bound.copy(alloc)?)?;
     Ok(Expr::call(f, arguments))
 }

@@ -46,6 +46,5 @@ mod SwappedTrust
 pub mod PlainDecided
 mod InterchangeLawful
 pub mod Determined
-mod InterchangeRules
 mod PlainAnswers
 mod InterchangeAnswers

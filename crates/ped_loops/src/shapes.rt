@@ -198,7 +198,7 @@ pub(crate) fn exchanged(alloc: Global, pair: &Pair) -> Result<Do, NoMemory>
     requires inner { only_loop (stmt_trees pair.now.outer.now.body.items) ≡ Some (inner_of pair.now, stmt_trees pair.now.inner.now.body.items) }
     ensures { IfOk result (λ d. alone (do_tree d) ≡ with_exchanged (outer_of pair.now) (stmt_trees pair.now.outer.now.body.items)) }
 {
-    let body = body_around(alloc, pair)?;
+    let body = all_around(alloc, pair, &pair.outer.body)?;
     let mut new = pair.inner.with_body(body, alloc)?;
     new.first = outer_first(alloc, pair)?;
     new.last = outer_last(alloc, pair)?;
@@ -254,13 +254,14 @@ fn moved_bound(
     }
 }
 
-/// The body of the outer DO with the new inner one in the place of the old one.
-fn body_around(alloc: Global, pair: &Pair) -> Result<Vec<Stmt>, NoMemory>
+/// Copies of statements, with the new inner DO in the place of each DO.
+#[tactic(auto, using(crate::proofs::ShapedCode::around_all))]
+fn all_around(alloc: Global, pair: &Pair, statements: &[Stmt]) -> Result<Vec<Stmt>, NoMemory>
     requires { HasShapes pair.now }
-    ensures { IfOk result (λ body. stmt_trees body.items ≡ each_around (Spec.new_inner (outer_of pair.now) (inner_of pair.now)) (stmt_trees pair.now.inner.now.body.items) (stmt_trees pair.now.outer.now.body.items)) }
+    ensures { IfOk result (λ body. stmt_trees body.items ≡ each_around (Spec.new_inner (outer_of pair.now) (inner_of pair.now)) (stmt_trees pair.now.inner.now.body.items) (stmt_trees statements.now)) }
 {
     let mut body = Vec::new(alloc);
-    for statement in &pair.outer.body {
+    for statement in statements {
         body.push(around(alloc, pair, statement)?)?;
     }
     Ok(body)

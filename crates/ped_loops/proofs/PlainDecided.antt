@@ -12,7 +12,6 @@ use Rattle.ped_scalar.specs.ped_rules.specs.ped_loop_runs.specs.ped_tidy.specs.p
 use Rattle.ped_scalar.specs.ped_rules.specs.ped_loop_runs.specs.ped_tidy.specs.ped_pasting.specs.ped_bodies.specs.ped_steps.specs.ped_flow.specs.Questions.{IsAssignedBefore}
 use Rattle.ped_scalar.specs.ped_rules.specs.ped_loop_runs.specs.ped_tidy.specs.ped_pasting.specs.ped_bodies.specs.ped_steps.specs.ped_flow.specs.Summaries.{sum_before_all}
 use Rattle.ped_scalar.specs.ped_rules.specs.ped_loop_runs.specs.ped_tidy.specs.ped_pasting.specs.ped_bodies.specs.ped_steps.specs.ped_flow.proofs.Answering.{before_answer}
-use Rattle.ped_scalar.specs.ped_rules.specs.ped_loop_runs.specs.ped_tidy.specs.ped_pasting.specs.ped_bodies.specs.ped_steps.specs.ped_views.specs.declared.intervals.Interval.{Interval}
 
 -- the sentence holds, or it doesn't
 abbrev pub OrNot : Type 0 → Type 0
@@ -74,7 +73,7 @@ module _ (constants : Values) (t : ProgramTree) (l : ℕ) where
 
   fixed_decided : (x : List ℕ) → OrNot (IsFixed constants t l x)
   fixed_decided x =
-      same_as (λ p. record { before = p.0; kept = p.1; other = p.2 }) (λ f. (f.before, f.kept, f.other))
+      same_as (λ p. record { before = p.0; kept = p.1.0; other = p.1.1 }) (λ f. (f.before, (f.kept, f.other)))
       (both (before_decided x) (both (falsehood (is_among x (setting_round constants t l).assigned)) (falsehood (is_among x (setting_round constants t l).loop_variables))))
 
   mutual

@@ -2,7 +2,6 @@
 use Rattle.std.proofs.Common.{Bool, List, [], ap, arith, eqb, eqb-true, false, if◌then◌else◌, inl, inr, length, map, refl, suc, sym, true, ℕ, ◌&&◌, ◌++◌, ◌-◌, ◌||◌, ◌∙◌, ◌∷◌, ◌≡◌, ◌⊎◌}
 use Rattle.std.proofs.lemmas.Bool.{and_parts}
 use Rattle.std.proofs.lemmas.List.{map-append}
-
 use Rattle.ped_tree.specs.Nests.{Loop}
 use Rattle.ped_loops.proofs.OnlyBodies.{never}
 use Rattle.ped_scalar.specs.ped_rules.specs.ped_loop_runs.specs.ped_tidy.specs.ped_pasting.specs.ped_bodies.specs.ped_steps.specs.Runs.Pasting.{AreTurnsOf}

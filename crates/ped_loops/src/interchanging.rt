@@ -29,9 +29,7 @@ use ped_scalar::ped_rules::ped_loop_runs::ped_tidy::ped_pasting::ped_bodies::ped
 use ped_scalar::ped_rules::ped_loop_runs::ped_tidy::ped_pasting::ped_bodies::ped_steps::{
     Change, Refused, Rule, Scene, change_to, loop_at, loops_round, program_with,
 };
-use ped_scalar::ped_rules::{
-    against, all_but, escapes, first_crossing, leaves, only_loop,
-};
+use ped_scalar::ped_rules::{against, all_but, escapes, first_crossing, leaves, only_loop};
 use ped_tree::{Do, Expr, Program, Stmt};
 use std::alloc::Global;
 use std::sync::ledger::Ledger;

@@ -15,7 +15,8 @@ mod shapes;
 
 pub use interchanging::interchange;
 pub use laws::{
-    interchange_is_lawful, parallel_is_lawful, rejection_is_lawful, reversal_is_lawful, serial_is_lawful,
+    interchange_is_lawful, parallel_is_lawful, rejection_is_lawful, reversal_is_lawful,
+    serial_is_lawful,
 };
 pub use paralleling::make_parallel;
 pub use ped_scalar;

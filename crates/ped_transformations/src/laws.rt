@@ -7,7 +7,8 @@ ghost use Rattle.ped_loops.specs.ped_scalar.specs.ped_rules.specs.Lawful.{IsLawf
 ghost use Rattle.ped_transformations.specs.Table.{step_of};
 
 use ped_loops::{
-    interchange_is_lawful, parallel_is_lawful, rejection_is_lawful, reversal_is_lawful, serial_is_lawful,
+    interchange_is_lawful, parallel_is_lawful, rejection_is_lawful, reversal_is_lawful,
+    serial_is_lawful,
 };
 
 /// The step of each command is lawful, where it takes one: it has one first cause at most, makes one program, and where

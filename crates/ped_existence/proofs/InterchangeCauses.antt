@@ -1,5 +1,5 @@
 -- `interchange` has a first cause against it in a program, or none.
-use Rattle.std.proofs.Common.{◌≡◌, ◌⊎◌, ℕ, ◌+◌, ◌≤◌, inl, inr, refl, sym, ◌∙◌, List, Option, Some, None, MatchOption, subst, arith}
+use Rattle.std.proofs.Common.{◌≡◌, ◌⊎◌, ℕ, ◌+◌, inl, inr, refl, sym, Option, Some, None, MatchOption, subst, arith}
 use Rattle.ped_answer.specs.ped_session.specs.ped_tree.specs.Tree.{ExprTree, Head, StmtTrees, ProgramTree}
 use Rattle.ped_answer.specs.ped_session.specs.ped_order.specs.ped_flow.specs.PlainBounds.{IsPlain}
 use Rattle.ped_answer.specs.ped_session.specs.ped_order.specs.ped_flow.specs.Questions.{LoopOf}
@@ -129,4 +129,4 @@ module _ (t : ProgramTree) (s : ℕ) where
       (found_link BoundsShape (WhereLoop t s is_tied) (rules.unit s t) (rules.unit_chain s t) (settled_where t s (one_loop t s) is_tied)
       (found_link StepShape (WhereLoop t s (rules.units s t)) (rules.range s t) (rules.range_chain s t) (settled_where t s (one_loop t s) (rules.units s t))
       (found_link Range (WhereLoop t s (rules.far s t)) (rules.limit s t) (rules.limit_chain s t) (settled_where t s (one_loop t s) (rules.far s t))
-      (found_link Limit (WhereLimit (MakesInterchanged s) t s) no_rules (chain_end 15) (settled_limit t s (MakesInterchanged s) (rules.one_made s) (λ l. (interchanged t s, all_but s (s + 1) t, (refl, refl)))) found_end))))))))))
+      (found_link Limit (WhereLimit (MakesInterchanged s) t s) no_rules (chain_end 15) (settled_limit t s (MakesInterchanged s) (rules.one_made s t) (λ l. (interchanged t s, all_but s (s + 1) t, (refl, refl)))) found_end))))))))))

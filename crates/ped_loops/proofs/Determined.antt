@@ -12,7 +12,7 @@ use Rattle.ped_loops.specs.Paralleling.{StandsAgainstParallel, paralleling}
 use Rattle.ped_loops.specs.Serialising.{StandsAgainstSerial, serialising}
 use Rattle.ped_loops.specs.Reversing.{reversed, StandsAgainstReversal, reversing}
 use Rattle.ped_loops.specs.Interchanging.{interchanged, StandsAgainstInterchange, interchanging}
-use Rattle.ped_loops.specs.Rejecting.{with_directive, StandsAgainstRejection, rejecting}
+use Rattle.ped_loops.specs.Rejecting.{rejecting}
 use Rattle.ped_loops.proofs.FlagRules as flags
 use Rattle.ped_loops.proofs.ReverseRules as reversal
 use Rattle.ped_loops.proofs.RejectRules as rejection

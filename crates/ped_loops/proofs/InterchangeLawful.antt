@@ -1,8 +1,7 @@
 -- `interchange` is lawful.
-use Rattle.std.proofs.Common.{◌≡◌, ◌⊎◌, ℕ, ◌+◌, List, [], ◌∷◌, length, All, Bool, true, false, ◌||◌, Option, Some, None, MatchOption, is_none, refl, sym, ap, ◌∙◌, subst, inl, inr}
+use Rattle.std.proofs.Common.{◌≡◌, ℕ, ◌+◌, List, [], ◌∷◌, length, All, Bool, true, false, ◌||◌, Option, Some, None, MatchOption, is_none, refl, sym, ap, ◌∙◌, subst, inl, inr}
 use Rattle.ped_base.specs.Lists.{has_some, is_among}
 use Rattle.ped_tree.specs.NamesIn.{expr_names}
-use Rattle.ped_tree.specs.Accesses.{constant_names}
 use Rattle.ped_tree.specs.Tree.{ExprTree, Head, StmtTrees, Do, ProgramTree}
 use Rattle.ped_scalar.specs.ped_rules.specs.ped_loop_runs.specs.ped_tidy.specs.ped_pasting.specs.ped_bodies.specs.ped_steps.specs.ped_laws.proofs.ConflictLaws.CoveringRuns.{MakingLaw, SequenceLaw}
 use Rattle.ped_scalar.specs.ped_rules.specs.ped_loop_runs.specs.ped_tidy.specs.ped_pasting.specs.ped_bodies.specs.ped_steps.specs.ped_laws.specs.ped_eval.specs.Outcomes.{setting_of}
@@ -10,10 +9,10 @@ use Rattle.ped_scalar.specs.ped_rules.specs.ped_loop_runs.specs.ped_tidy.specs.p
 use Rattle.ped_scalar.specs.ped_rules.specs.ped_loop_runs.specs.ped_tidy.specs.ped_pasting.specs.ped_bodies.specs.ped_steps.specs.ped_laws.specs.ped_graph.specs.ped_edges.specs.Edges.{Edge}
 use Rattle.ped_scalar.specs.ped_rules.specs.ped_loop_runs.specs.ped_tidy.specs.ped_pasting.specs.ped_bodies.specs.ped_steps.specs.ped_laws.specs.ped_graph.specs.Update.Fresh.{IsOneToOne}
 use Rattle.ped_scalar.specs.ped_rules.specs.ped_loop_runs.specs.ped_tidy.specs.ped_pasting.specs.ped_bodies.specs.ped_steps.specs.ped_laws.specs.Acts.Orders.{IsIn}
-use Rattle.ped_scalar.specs.ped_rules.specs.ped_loop_runs.specs.ped_tidy.specs.ped_pasting.specs.ped_bodies.specs.ped_steps.specs.ped_symbols.specs.Kinds.{kind_in, table_of}
+use Rattle.ped_scalar.specs.ped_rules.specs.ped_loop_runs.specs.ped_tidy.specs.ped_pasting.specs.ped_bodies.specs.ped_steps.specs.ped_symbols.specs.Kinds.{kind_in}
 use Rattle.ped_scalar.specs.ped_rules.specs.ped_loop_runs.specs.ped_tidy.specs.ped_pasting.specs.ped_bodies.specs.ped_steps.specs.ped_symbols.specs.NameRefusals.{IsValid}
 use Rattle.ped_scalar.specs.ped_rules.specs.ped_loop_runs.specs.ped_tidy.specs.ped_pasting.specs.ped_bodies.specs.ped_steps.specs.ped_flow.specs.PlainBounds.{IsPlain, nest_round}
-use Rattle.ped_scalar.specs.ped_rules.specs.ped_loop_runs.specs.ped_tidy.specs.ped_pasting.specs.ped_bodies.specs.ped_steps.specs.ped_flow.specs.Questions.{LoopOf, IsContained}
+use Rattle.ped_scalar.specs.ped_rules.specs.ped_loop_runs.specs.ped_tidy.specs.ped_pasting.specs.ped_bodies.specs.ped_steps.specs.ped_flow.specs.Questions.{LoopOf}
 use Rattle.ped_scalar.specs.ped_rules.specs.ped_loop_runs.specs.ped_tidy.specs.ped_pasting.specs.ped_bodies.specs.ped_steps.specs.Causes.{NoRule}
 use Rattle.ped_scalar.specs.ped_rules.specs.ped_loop_runs.specs.ped_tidy.specs.ped_pasting.specs.ped_bodies.specs.ped_steps.specs.Replacing.{alone, program_with}
 use Rattle.ped_scalar.specs.ped_rules.specs.ped_loop_runs.specs.ped_tidy.specs.ped_pasting.specs.ped_bodies.specs.ped_steps.proofs.OneCause.{one_cause}
@@ -22,10 +21,10 @@ use Rattle.ped_scalar.specs.ped_rules.specs.Carried.{crossing, has_after}
 use Rattle.ped_scalar.specs.ped_rules.specs.KeepMaps.{all_but}
 use Rattle.ped_scalar.specs.ped_rules.specs.Lawful.{IsFaithful, IsLawful}
 use Rattle.ped_scalar.specs.ped_rules.specs.OnlyLoops.{change_only, only_loop, of_loop, inner, either}
-use Rattle.ped_scalar.specs.ped_rules.specs.Rules.{HasUnplain, has_private, is_parallel, isnt_perfect}
+use Rattle.ped_scalar.specs.ped_rules.specs.Rules.{HasUnplain, has_private, is_parallel}
 use Rattle.ped_scalar.specs.ped_rules.proofs.KeptNumbers.{but_one_to_one}
 use Rattle.ped_scalar.specs.ped_rules.specs.ped_loop_runs.specs.Carried.{is_carried_by}
-use Rattle.ped_loops.specs.Interchanging.{IsBoundOf, IsBoundOfEither, StandsAgainstInterchange, interchanged, interchanging, is_tied}
+use Rattle.ped_loops.specs.Interchanging.{IsBoundOf, IsBoundOfEither, StandsAgainstInterchange, interchanged, interchanging}
 use Rattle.ped_loops.specs.Shapes.{is_named, names_outer, new_inner, new_outer}
 use Rattle.ped_loops.proofs.Contained.{least}
 use Rattle.ped_loops.proofs.FlagsLawful.{UnrejectedLaw}
@@ -33,7 +32,7 @@ use Rattle.ped_loops.proofs.FreeSwaps.{free_swap, free_swap_keeps, inner_first, 
 use Rattle.ped_loops.proofs.InterchangeRules as rules
 use Rattle.ped_loops.proofs.LoopSurroundings.{inner_variable_apart, variable_apart, variables_differ}
 use Rattle.ped_loops.proofs.OneHead.{TrustedLaw, ClearedLaw}
-use Rattle.ped_loops.proofs.OnlyBodies.{never, pair}
+use Rattle.ped_loops.proofs.OnlyBodies.{pair}
 use Rattle.ped_loops.proofs.PlainDecided.{OrNot, plain_decided}
 use Rattle.ped_loops.proofs.SwappedKinds.{occurs_in, swapped_kinds}
 use Rattle.ped_loops.proofs.SwappedLoops.{AreSwapped}

@@ -1,5 +1,5 @@
 -- Whether a bound is plain is decided: by what is constant, what stands round it, and by the paths to the outermost DO.
-use Rattle.std.proofs.Common.{◌≡◌, ◌⊎◌, ℕ, ℤ, List, [], Bool, true, false, not, ◌&&◌, Option, Some, None, IsTrue, refl, sym, inl, inr}
+use Rattle.std.proofs.Common.{◌≡◌, ◌⊎◌, ℕ, List, [], Bool, true, false, not, ◌&&◌, Option, Some, None, IsTrue, refl, inl, inr}
 use Rattle.ped_base.specs.Lists.{is_among}
 use Rattle.ped_tree.specs.Accesses.{constant_names}
 use Rattle.ped_tree.specs.Constants.ConstantExpressions.{constant_value}

@@ -1,5 +1,5 @@
 -- Two DO loops in each other's place: a program that may be trusted stays so.
-use Rattle.std.proofs.Common.{◌≡◌, ℕ, ◌+◌, List, [], ◌∷◌, ◌++◌, Bool, true, false, Some, ◌||◌, ◌&&◌, not, refl, sym, ap, ◌∙◌, subst, inl, inr, arith, append-nil}
+use Rattle.std.proofs.Common.{◌≡◌, ℕ, ◌+◌, List, [], ◌∷◌, ◌++◌, Bool, true, false, Some, ◌||◌, ◌&&◌, not, refl, sym, ap, ◌∙◌, subst, inr, arith, append-nil}
 use Rattle.std.specs.List.{list_any}
 use Rattle.ped_base.specs.Lists.{has_some, is_same_text, is_among}
 use Rattle.ped_tree.specs.Tree.{Head, StmtTree, StmtTrees, Do, Comment, no_stmts, more_stmts, ProgramTree}
@@ -9,12 +9,11 @@ use Rattle.ped_scalar.specs.ped_rules.specs.ped_loop_runs.specs.ped_tidy.specs.p
 use Rattle.ped_scalar.specs.ped_rules.specs.ped_loop_runs.specs.ped_tidy.specs.ped_pasting.specs.ped_bodies.specs.ped_steps.specs.ped_laws.proofs.FlowRunLaws.Stopping.{fitting_stops, loop_stops}
 use Rattle.ped_scalar.specs.ped_rules.specs.ped_loop_runs.specs.ped_tidy.specs.ped_pasting.specs.ped_bodies.specs.ped_steps.specs.ped_symbols.specs.NameRefusals.{IsValid}
 use Rattle.ped_scalar.specs.ped_rules.specs.ped_loop_runs.specs.ped_tidy.specs.ped_pasting.specs.ped_bodies.specs.ped_steps.specs.ped_flow.specs.Questions.{LoopOf, IsContained, IsShownBehind}
-use Rattle.ped_scalar.specs.ped_rules.specs.ped_loop_runs.specs.ped_tidy.specs.ped_pasting.specs.ped_bodies.specs.ped_steps.specs.ped_flow.specs.Summaries.{sum_of}
 use Rattle.ped_scalar.specs.ped_rules.specs.ped_loop_runs.specs.ped_tidy.specs.ped_pasting.specs.ped_bodies.specs.ped_steps.specs.ped_flow.proofs.Truths.{untrue}
 use Rattle.ped_scalar.specs.ped_rules.specs.ped_loop_runs.specs.ped_tidy.specs.ped_pasting.specs.ped_bodies.specs.ped_steps.specs.Replacing.{alone, program_with}
 use Rattle.ped_scalar.specs.ped_rules.specs.ped_loop_runs.specs.ped_tidy.specs.ped_pasting.specs.ped_bodies.specs.ped_steps.proofs.RunLaws.ReplacedTrees.{HasGap, program_gap}
 use Rattle.ped_scalar.specs.ped_rules.specs.ped_loop_runs.specs.ped_tidy.specs.Unrejected.{has_rejection, some_rejection, IsTrusted}
-use Rattle.ped_scalar.specs.ped_rules.specs.ped_loop_runs.specs.ped_tidy.specs.Exchanges.{Exchange, old_of, start_of, loop_of, IsExchanged, LeavesAlone}
+use Rattle.ped_scalar.specs.ped_rules.specs.ped_loop_runs.specs.ped_tidy.specs.Exchanges.{Exchange, start_of, loop_of, IsExchanged, LeavesAlone}
 use Rattle.ped_scalar.specs.ped_rules.specs.ped_loop_runs.specs.ped_tidy.specs.Writing.{writes_name, writes, all_write, writes_index, some_write_index}
 use Rattle.ped_scalar.specs.ped_rules.specs.OnlyLoops.{change_only, only_loop}
 use Rattle.ped_loops.proofs.OnlyBodies.{pair, only_changed, only_tells}

@@ -13,8 +13,8 @@ overflow_add-result g c =
     let few = few_inner t c.args.number (head_of outer) (stmt_trees outer.body.items) c.requires.is (head_of inner) (stmt_trees inner.body.items) c.requires.only c.requires.scene.valid in
     omega (arith, few)
 
-pub are_plain-2-requires-clause-is : goal.are_plain-2-requires-clause-is
-are_plain-2-requires-clause-is g c =
+pub are_plain-requires-2-clause-is : goal.are_plain-requires-2-clause-is
+are_plain-requires-2-clause-is g c =
     inner_there (program_tree c.args.scene.now.tree.now) c.args.number (head_of c.args.outer.now) (stmt_trees c.args.outer.now.body.items) (head_of c.args.inner.now) (stmt_trees c.args.inner.now.body.items) c.requires.is c.requires.only
 
 pub returns-then-not-branch : goal.returns-then-not-branch

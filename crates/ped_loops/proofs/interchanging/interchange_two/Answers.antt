@@ -21,7 +21,7 @@ returns-then-have_private g c =
     let outer = c.args.outer.now in
     let inner = c.args.inner.now in
     let none = upto_state t s (head_of outer) (stmt_trees outer.body.items) c.requires.is (head_of inner) (stmt_trees inner.body.items) c.requires.only (sym c.are_parallel.ensures ∙ c.if-are_parallel.false) in
-    refused s t HasPrivate s c.against.result c.against.ensures
+    refused s t HasPrivate s c.against-then-have_private.result c.against-then-have_private.ensures
     (first_list t s (head_of outer) (stmt_trees outer.body.items) c.requires.is (head_of inner) (stmt_trees inner.body.items) c.requires.only none (sym c.have_private.ensures ∙ c.if-have_private.true))
 
 pub returns-in-Some : goal.returns-in-Some
@@ -32,7 +32,7 @@ returns-in-Some g c =
     let inner = c.args.inner.now in
     let none = upto_state t s (head_of outer) (stmt_trees outer.body.items) c.requires.is (head_of inner) (stmt_trees inner.body.items) c.requires.only (sym c.are_parallel.ensures ∙ c.if-are_parallel.false) in
     let more = upto_list t s (head_of outer) (stmt_trees outer.body.items) c.requires.is (head_of inner) (stmt_trees inner.body.items) c.requires.only none (sym c.have_private.ensures ∙ c.if-have_private.false) in
-    refused s t IndexEscapes c.in-Some.statement c.against.result c.against.ensures (rules.escape_first s t more c.in-Some.statement c.in-Some.ensures)
+    refused s t IndexEscapes c.in-Some.statement c.against-in-Some.result c.against-in-Some.ensures (rules.escape_first s t more c.in-Some.statement c.in-Some.ensures)
 
 pub unless_unplain-requires-clause-none : goal.unless_unplain-requires-clause-none
 unless_unplain-requires-clause-none g c =

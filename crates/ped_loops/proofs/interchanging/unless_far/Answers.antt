@@ -31,5 +31,5 @@ returns-in-None g c =
     let s = c.args.number in
     let outer = c.args.outer.now in
     let none = rules.upto_range s t (head_of outer) (stmt_trees outer.body.items) c.requires.is c.requires.none (sym c.in_ok-leaves_either.ensures ∙ c.if-branch.false) in
-    refused s t Limit s c.against.result c.against.ensures
+    refused s t Limit s c.against-in-None.result c.against-in-None.ensures
     (rules.limit_first s t (head_of outer) (stmt_trees outer.body.items) c.requires.is none (none_made (interchanged t s) (all_but s (s + 1) t) c.in_ok-change.field-0 c.in-None.is c.in_ok-change.ensures))

@@ -190,17 +190,19 @@ module _ (t : ProgramTree) (s : ℕ) (h : Head) (body : StmtTrees) (is : IsLoop 
   few_inner valid = let few = few_numbers t valid in let fits = loop_fits t s h body is in let many = only_counted g inside body only in omega (arith, few, fits, many)
 
   -- the loops round the two, and the new outer one inside them
-  pub round_short : IsValid t → (loops : List CodeLoop) (x : CodeLoop) → nest_of loops ≡ nest_round t s → length (loops ++ x ∷ []) ≤ 6
-  round_short valid loops x same =
+  pub round_short : IsValid t → (loops pushed : List CodeLoop) (x : CodeLoop) → pushed ≡ loops ++ x ∷ [] → nest_of loops ≡ nest_round t s → length pushed ≤ 6
+  round_short valid loops pushed x are same =
       let few = few_round h body g inside only t s valid is in
       let size = length-map loops loop_of in
       let count : length (nest_of loops) ≡ length (nest_round t s) = ap (λ (nest : List Loop). length nest) same in
+      let all : length pushed ≡ length (loops ++ x ∷ []) = ap (λ (ls : List CodeLoop). length ls) are in
       let more = length-append loops (x ∷ []) in
-      omega (arith, few, size, count, more)
+      omega (arith, few, size, count, all, more)
 
-  pub heads_pushed : (loops : List CodeLoop) (x : CodeLoop) → nest_of loops ≡ nest_round t s → heads_of (nest_of (loops ++ x ∷ [])) ≡ heads_round t s ++ head_of x.statement.now ∷ []
-  heads_pushed loops x same =
-      ap (λ (nest : List Loop). heads_of nest) (map-append loop_of loops (x ∷ []))
+  pub heads_pushed : (loops pushed : List CodeLoop) (x : CodeLoop) → pushed ≡ loops ++ x ∷ [] → nest_of loops ≡ nest_round t s → heads_of (nest_of pushed) ≡ heads_round t s ++ head_of x.statement.now ∷ []
+  heads_pushed loops pushed x are same =
+      ap (λ (ls : List CodeLoop). heads_of (nest_of ls)) are
+      ∙ ap (λ (nest : List Loop). heads_of nest) (map-append loop_of loops (x ∷ []))
       ∙ map-append (λ (l : Loop). l.head) (nest_of loops) (loop_of x ∷ [])
       ∙ ap (λ (nest : List Loop). heads_of nest ++ head_of x.statement.now ∷ []) same
 

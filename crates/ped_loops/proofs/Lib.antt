@@ -47,4 +47,5 @@ pub mod PlainDecided
 mod InterchangeLawful
 pub mod Determined
 mod PlainAnswers
+mod PlainPlaces
 mod InterchangeAnswers

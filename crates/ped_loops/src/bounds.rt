@@ -171,6 +171,7 @@ fn is_constant(place: &Place, e: &Expr) -> bool
 }
 
 /// Whether the name is the variable of a DO round the bound, or a scalar that keeps its value in the outermost DO.
+#[tactic(auto, using(crate::proofs::PlainAnswers::of_either, crate::proofs::PlainAnswers::of_both))]
 fn is_told(place: &Place, name: &Name) -> bool
     requires { IsPlaced place.now }
     ensures { IsTrue result ↔ (IsTrue (Lists.is_among name.now (indices_of (nest_round (tree_at place.now) place.now.number))) ⊎ IsFixed (values_at place.now) (tree_at place.now) place.now.number name.now) }

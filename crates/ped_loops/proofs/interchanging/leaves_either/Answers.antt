@@ -37,8 +37,8 @@ leaves_bound-requires-in-Some-clause-short g c =
     let s = c.args.number in
     let outer = c.args.outer.now in
     let inner = c.args.inner.now in
-    subst (λ (ls : List Loop). length ls ≤ 6) (sym (c.deref-in-Some.ensures.value ∙ c.in_ok-push.ensures.items))
-    (round_short t s (head_of outer) (stmt_trees outer.body.items) c.requires.is (head_of inner) (stmt_trees inner.body.items) c.requires.only c.requires.scene.valid c.in_ok-round.round.items _ c.in_ok-round.ensures)
+    round_short t s (head_of outer) (stmt_trees outer.body.items) c.requires.is (head_of inner) (stmt_trees inner.body.items) c.requires.only c.requires.scene.valid c.in_ok-round.round.items c.deref-in-Some.result.now _
+    (c.deref-in-Some.ensures.value ∙ c.in_ok-push.ensures.items) c.in_ok-round.ensures
 
 pub returns-in-Some : goal.returns-in-Some
 returns-in-Some g c =
@@ -52,7 +52,7 @@ returns-in-Some g c =
     let heads = ap (λ (ls : List Loop). heads_of (nest_of ls)) c.deref.ensures.value ∙ ap heads_of c.in_ok-round.ensures in
     let outside = ap (λ (hs : List Head). leaves (setting_at t s) hs (head_of new).first || leaves (setting_at t s) hs (head_of new).last) (sym heads) ∙ sym (c.in_ok-leaves_bound.ensures s) ∙ c.if-branch.false in
     let found = ap (λ (ss : List Stmt). only_loop (stmt_trees ss)) (sym c.deref-2.ensures.value) ∙ c.in-Some.ensures in
-    let pushed = ap (λ (ls : List Loop). heads_of (nest_of ls)) (c.deref-in-Some.ensures.value ∙ c.in_ok-push.ensures.items) ∙ heads_pushed t s (head_of outer) (stmt_trees outer.body.items) c.requires.is (head_of inner) (stmt_trees inner.body.items) c.requires.only c.in_ok-round.round.items _ c.in_ok-round.ensures in
+    let pushed = heads_pushed t s (head_of outer) (stmt_trees outer.body.items) c.requires.is (head_of inner) (stmt_trees inner.body.items) c.requires.only c.in_ok-round.round.items c.deref-in-Some.result.now _ (c.deref-in-Some.ensures.value ∙ c.in_ok-push.ensures.items) c.in_ok-round.ensures in
     IfOk-weaker c.leaves_bound-in-Some.result _ _
     (λ r e. e s ∙ ap (λ (hs : List Head). leaves (setting_at t s) hs k.first || leaves (setting_at t s) hs k.last) pushed
     ∙ far_inside t s (head_of outer) (stmt_trees outer.body.items) c.requires.is (head_of inner) (stmt_trees inner.body.items) c.requires.only (head_of new) (stmt_trees new.body.items) c.requires.new (setting_at t s) (heads_round t s) outside k z found)

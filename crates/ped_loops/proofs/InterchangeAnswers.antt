@@ -88,9 +88,9 @@ module _ (h : Head) (body : StmtTrees) where
     tied_is = ap (of_loop (λ k z. names_outer h k)) only
 
     pub units_free : (constants : Values) → names_outer h g ≡ false → has_no_unit constants h body ≡ false
-    units_free constants free =
+    units_free constants unnamed =
         ap (of_loop (λ k z. names_outer h k && (has_other_step constants is_one h body || has_other_step constants is_one k z))) only
-        ∙ ap (λ (b : Bool). b && (has_other_step constants is_one h body || has_other_step constants is_one g inside)) free
+        ∙ ap (λ (b : Bool). b && (has_other_step constants is_one h body || has_other_step constants is_one g inside)) unnamed
 
     pub far_is : (setting : Setting) (heads : List Head) → makes_far setting heads h body ≡ leaves_either setting heads (new_outer h g) (new_inner h g)
     far_is setting heads = ap (of_loop (λ k z. leaves_either setting heads (new_outer h k) (new_inner h k))) only
@@ -113,7 +113,7 @@ module _ (h : Head) (body : StmtTrees) where
 
 -- the bounds of the two loops
 module _ (t : ProgramTree) (s : ℕ) (h : Head) (body : StmtTrees) (is : IsLoop t s h body) (g : Head) (inside : StmtTrees) (only : only_loop body ≡ Some (pair g inside)) where
-  loop : LoopOf t s
+  abbrev loop : LoopOf t s
   loop = record { head = h; body = body; is = is }
 
   -- the DO of a bound that is asked for
@@ -147,7 +147,7 @@ module _ (t : ProgramTree) (s : ℕ) (h : Head) (body : StmtTrees) (is : IsLoop 
           by (inr y) = let at = y.0 in omega (arith, at)
 
   pub both_plain : TellsPlain t s h true → TellsPlain t (s + 1) g true → (n : ℕ) → WhereUnplain t s (IsBoundOfEither t s) n → ⊥
-  both_plain plain inner_plain n (l, (e, asked, unplain), least) = by (asked_at n e asked)
+  both_plain plain inner_plain n (l, ((e, asked, unplain), least)) = by (asked_at n e asked)
     where
       by : ((n ≡ s) × IsBoundOf h e) ⊎ ((n ≡ s + 1) × IsBoundOf g e) → ⊥
       by (inl y) = none_unplain s n h e plain y.0 y.1 unplain
@@ -224,13 +224,18 @@ module _ (t : ProgramTree) (s : ℕ) (h : Head) (body : StmtTrees) (is : IsLoop 
           ∙ ap (λ (k : Head). (leaves setting heads k.first || leaves setting heads k.last) || (leaves setting (heads ++ k ∷ []) (new_inner h g).first || leaves setting (heads ++ k ∷ []) (new_inner h g).last)) (sym new_head)
           ∙ ap (λ (b : Bool). b || (leaves setting (heads ++ new ∷ []) (new_inner h g).first || leaves setting (heads ++ new ∷ []) (new_inner h g).last)) outside)
 
-      pub far_inside : (leaves setting heads new.first || leaves setting heads new.last) ≡ false → (k : Head) (z : StmtTrees) → only_loop new_body ≡ Some (pair k z)
+      far_inside : (leaves setting heads new.first || leaves setting heads new.last) ≡ false → (k : Head) (z : StmtTrees) → only_loop new_body ≡ Some (pair k z)
           → (leaves setting (heads ++ new ∷ []) k.first || leaves setting (heads ++ new ∷ []) k.last) ≡ makes_far setting heads h body
       far_inside outside k z found =
           ap (λ (f : Head). leaves setting (heads ++ new ∷ []) f.first || leaves setting (heads ++ new ∷ []) f.last) (same_pair_head k (new_inner h g) z inside (sym found ∙ new_only))
           ∙ sym (far_is h body g inside only setting heads
           ∙ ap (λ (f : Head). (leaves setting heads f.first || leaves setting heads f.last) || (leaves setting (heads ++ f ∷ []) (new_inner h g).first || leaves setting (heads ++ f ∷ []) (new_inner h g).last)) (sym new_head)
           ∙ ap (λ (b : Bool). b || (leaves setting (heads ++ new ∷ []) (new_inner h g).first || leaves setting (heads ++ new ∷ []) (new_inner h g).last)) outside)
+
+      -- the same by the loops as the code has them
+      pub far_found : (leaves setting heads new.first || leaves setting heads new.last) ≡ false → (k : Head) (z : StmtTrees) → only_loop new_body ≡ Some (pair k z)
+          → (hs : List Head) → hs ≡ heads ++ new ∷ [] → (r : Bool) → r ≡ (leaves setting hs k.first || leaves setting hs k.last) → r ≡ makes_far setting heads h body
+      far_found outside k z found hs are r e = e ∙ ap (λ (fs : List Head). leaves setting fs k.first || leaves setting fs k.last) are ∙ far_inside outside k z found
 
 -- bounds that don't name the outer variable have the shape of free ones
 free_one : (x : List ℕ) (e : ExprTree) → is_named x e ≡ false → is_none (shape_of x e) ≡ false

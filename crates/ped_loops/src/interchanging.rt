@@ -3,8 +3,7 @@
 ghost use Rattle.std.specs.Prelude.{◌≡◌, ◌||◌, ◌+◌, ◌<◌, ◌≤◌, ◌^◌, ℕ, [], length, true, false, Some, IfOk, MatchOption};
 ghost use Rattle.ped_base.specs.Lists.{has_some};
 ghost use Rattle.ped_tree.specs.Numbering.{statements_count};
-ghost use Rattle.ped_tree.specs.Tree.{Head, StmtTrees};
-ghost use Rattle.ped_tree.specs.Views.{expr_tree, stmt_trees, do_tree, program_tree, head_of};
+ghost use Rattle.ped_tree.specs.Views.{stmt_trees, do_tree, program_tree, head_of};
 ghost use Rattle.ped_scalar.specs.ped_rules.specs.KeepMaps as KeepMaps;
 ghost use Rattle.ped_scalar.specs.ped_rules.specs.OnlyLoops.{only_loop};
 ghost use Rattle.ped_scalar.specs.ped_rules.specs.Rules as Rules;
@@ -15,7 +14,6 @@ ghost use Rattle.ped_scalar.specs.ped_rules.specs.ped_loop_runs.specs.ped_tidy.s
 ghost use Rattle.ped_scalar.specs.ped_rules.specs.ped_loop_runs.specs.ped_tidy.specs.ped_pasting.specs.ped_bodies.specs.ped_steps.specs.Replacing.{alone};
 ghost use Rattle.ped_scalar.specs.ped_rules.specs.ped_loop_runs.specs.ped_tidy.specs.ped_pasting.specs.ped_bodies.specs.ped_steps.specs.Scenes.{IsSceneOf};
 ghost use Rattle.ped_scalar.specs.ped_rules.specs.ped_loop_runs.specs.ped_tidy.specs.ped_pasting.specs.ped_bodies.specs.ped_steps.specs.ped_affine.specs.PairViews.{heads_of};
-ghost use Rattle.ped_scalar.specs.ped_rules.specs.ped_loop_runs.specs.ped_tidy.specs.ped_pasting.specs.ped_bodies.specs.ped_steps.specs.ped_flow.specs.PlainBounds.{nest_round};
 ghost use Rattle.ped_scalar.specs.ped_rules.specs.ped_loop_runs.specs.ped_tidy.specs.ped_pasting.specs.ped_bodies.specs.ped_steps.specs.ped_flow.specs.Questions.{IsLoop};
 ghost use Rattle.ped_scalar.specs.ped_rules.specs.ped_loop_runs.specs.ped_tidy.specs.ped_pasting.specs.ped_bodies.specs.ped_steps.specs.ped_refs.specs.Loops.{nest_of};
 ghost use Rattle.ped_scalar.specs.ped_rules.specs.ped_loop_runs.specs.ped_tidy.specs.ped_pasting.specs.ped_bodies.specs.ped_steps.specs.ped_symbols.specs.NameRefusals.{IsValid};
@@ -30,7 +28,7 @@ use ped_scalar::ped_rules::ped_loop_runs::ped_tidy::ped_pasting::ped_bodies::ped
     Change, Refused, Rule, Scene, change_to, loop_at, loops_round, program_with,
 };
 use ped_scalar::ped_rules::{against, all_but, escapes, first_crossing, leaves, only_loop};
-use ped_tree::{Do, Expr, Program, Stmt};
+use ped_tree::{Do, Program, Stmt};
 use std::alloc::Global;
 use std::sync::ledger::Ledger;
 

@@ -5,8 +5,8 @@ use Rattle.ped_loops.proofs.LoopPlaces.{inner_there}
 use Rattle.ped_loops.proofs.InterchangeAnswers.{few_inner, outer_unplain, inner_unplain, both_plain}
 use Rattle.ped_loops.proofs.interchanging.first_unplain.Goals as goal
 
-pub overflow_add-result : goal.overflow_add-result
-overflow_add-result g c =
+pub overflow_add-number : goal.overflow_add-number
+overflow_add-number g c =
     let t = program_tree c.args.scene.now.tree.now in
     let outer = c.args.outer.now in
     let inner = c.args.inner.now in

@@ -15,8 +15,8 @@ with_new-requires-clause-few g c = few_numbers (program_tree c.args.scene.now.tr
 pub all_but-requires : goal.all_but-requires
 all_but-requires g c = let few = few_numbers (program_tree c.args.scene.now.tree.now) c.requires.scene.valid in omega (arith, few)
 
-pub overflow_add-result : goal.overflow_add-result
-overflow_add-result g c =
+pub overflow_add-number : goal.overflow_add-number
+overflow_add-number g c =
     let few = few_numbers (program_tree c.args.scene.now.tree.now) c.requires.scene.valid in
     let fits = loop_fits (program_tree c.args.scene.now.tree.now) c.args.number (head_of c.args.outer.now) (stmt_trees c.args.outer.now.body.items) c.requires.is in
     omega (arith, few, fits)

@@ -10,7 +10,8 @@ use Rattle.ped_scalar.specs.ped_rules.specs.ped_loop_runs.specs.ped_tidy.specs.p
 use Rattle.ped_scalar.specs.ped_rules.specs.ped_loop_runs.specs.ped_tidy.specs.ped_pasting.specs.ped_bodies.specs.ped_steps.specs.ped_refs.specs.Loops.{nest_of}
 use Rattle.ped_scalar.specs.ped_rules.specs.ped_loop_runs.specs.ped_tidy.specs.ped_pasting.specs.ped_bodies.specs.ped_steps.specs.ped_refs.specs.declared.loops.Loop.{Loop}
 use Rattle.ped_scalar.specs.ped_rules.proofs.NestDepths.{loops_short}
-use Rattle.ped_loops.proofs.InterchangeAnswers.{far_outside, far_inside, new_only, round_short, heads_pushed}
+use Rattle.ped_loops.specs.Interchanging.{makes_far}
+use Rattle.ped_loops.proofs.InterchangeAnswers.{far_outside, far_found, new_only, round_short, heads_pushed}
 use Rattle.ped_loops.proofs.interchanging.leaves_either.Goals as goal
 
 pub loops_round-requires : goal.loops_round-requires
@@ -53,9 +54,11 @@ returns-in-Some g c =
     let outside = ap (λ (hs : List Head). leaves (setting_at t s) hs (head_of new).first || leaves (setting_at t s) hs (head_of new).last) (sym heads) ∙ sym (c.in_ok-leaves_bound.ensures s) ∙ c.if-branch.false in
     let found = ap (λ (ss : List Stmt). only_loop (stmt_trees ss)) (sym c.deref-2.ensures.value) ∙ c.in-Some.ensures in
     let pushed = heads_pushed t s (head_of outer) (stmt_trees outer.body.items) c.requires.is (head_of inner) (stmt_trees inner.body.items) c.requires.only c.in_ok-round.round.items c.deref-in-Some.result.now _ (c.deref-in-Some.ensures.value ∙ c.in_ok-push.ensures.items) c.in_ok-round.ensures in
-    IfOk-weaker c.leaves_bound-in-Some.result _ _
-    (λ r e. e s ∙ ap (λ (hs : List Head). leaves (setting_at t s) hs k.first || leaves (setting_at t s) hs k.last) pushed
-    ∙ far_inside t s (head_of outer) (stmt_trees outer.body.items) c.requires.is (head_of inner) (stmt_trees inner.body.items) c.requires.only (head_of new) (stmt_trees new.body.items) c.requires.new (setting_at t s) (heads_round t s) outside k z found)
+    IfOk-weaker c.leaves_bound-in-Some.result
+    (λ (r : Bool). (n : ℕ) → r ≡ (leaves (setting_at t n) (heads_of (nest_of c.deref-in-Some.result.now)) k.first || leaves (setting_at t n) (heads_of (nest_of c.deref-in-Some.result.now)) k.last))
+    (λ (r : Bool). r ≡ makes_far (setting_at t s) (heads_round t s) (head_of outer) (stmt_trees outer.body.items))
+    (λ r e. far_found t s (head_of outer) (stmt_trees outer.body.items) c.requires.is (head_of inner) (stmt_trees inner.body.items) c.requires.only (head_of new) (stmt_trees new.body.items) c.requires.new (setting_at t s) (heads_round t s) outside k z found
+    (heads_of (nest_of c.deref-in-Some.result.now)) pushed r (e s))
     c.leaves_bound-in-Some.ensures
 
 pub returns-in-None : goal.returns-in-None

@@ -1,17 +1,16 @@
 -- What `interchange` answers, and the program that its code makes.
-use Rattle.std.proofs.Common.{◌≡◌, ◌⊎◌, ℕ, ◌+◌, ◌≤◌, ◌<◌, ◌^◌, List, [], ◌∷◌, ◌++◌, Bool, true, false, not, ◌&&◌, ◌||◌, length, Option, Some, None, Ok, Err, refl, sym, ap, if◌then◌else◌, ◌∙◌, subst, inl, inr, arith}
+use Rattle.std.proofs.Common.{◌≡◌, ◌⊎◌, ℕ, ◌+◌, ◌≤◌, ◌<◌, ◌^◌, List, [], ◌∷◌, ◌++◌, Bool, true, false, ◌&&◌, ◌||◌, length, Option, Some, None, Ok, Err, refl, sym, ap, if◌then◌else◌, ◌∙◌, subst, inl, inr, arith}
 use Rattle.std.specs.Prelude.{MatchOption, is_none}
 use Rattle.std.proofs.lemmas.List.{length-append, length-map, map-append}
-use Rattle.ped_tree.specs.Tree.{ExprTree, Head, StmtTree, StmtTrees, Assign, If, Do, Print, Read, Stop, Comment, no_stmts, more_stmts, ProgramTree}
+use Rattle.ped_tree.specs.Tree.{ExprTree, Head, StmtTree, StmtTrees, Do, ProgramTree}
 use Rattle.ped_base.specs.Lists.{has_some}
 use Rattle.ped_tree.specs.Nests.{Loop}
-use Rattle.ped_tree.specs.Numbering.{statements_count}
 use Rattle.ped_tree.specs.Views.{stmt_tree, stmt_trees, head_of}
 use Rattle.ped_tree.specs.declared.statements.Stmt.{Stmt}
 use Rattle.ped_scalar.specs.ped_rules.specs.Carried.{IsFirstOf, crossing}
 use Rattle.ped_scalar.specs.ped_rules.specs.KeepMaps.{all_but}
 use Rattle.ped_scalar.specs.ped_rules.specs.OnlyLoops.{only_loop, of_loop, either, on_loop, change_only}
-use Rattle.ped_scalar.specs.ped_rules.specs.Rules.{HasUnplain, WhereEscape, WhereUnplain, isnt_perfect, is_parallel, has_private, has_other_step, is_one, leaves, heads_round}
+use Rattle.ped_scalar.specs.ped_rules.specs.Rules.{HasUnplain, WhereUnplain, isnt_perfect, is_parallel, has_private, has_other_step, is_one, leaves, heads_round}
 use Rattle.ped_scalar.specs.ped_rules.specs.Spans.{Values}
 use Rattle.ped_scalar.specs.ped_rules.specs.Steps.{transformation, Answers}
 use Rattle.ped_scalar.specs.ped_rules.specs.ped_loop_runs.specs.ped_tidy.specs.ped_pasting.specs.ped_bodies.specs.ped_steps.specs.Causes.{NoRule, IsFirstRule}
@@ -21,7 +20,7 @@ use Rattle.ped_scalar.specs.ped_rules.specs.ped_loop_runs.specs.ped_tidy.specs.p
 use Rattle.ped_scalar.specs.ped_rules.specs.ped_loop_runs.specs.ped_tidy.specs.ped_pasting.specs.ped_bodies.specs.ped_steps.specs.declared.causes.Refused.TheVariants as variant
 use Rattle.ped_scalar.specs.ped_rules.specs.ped_loop_runs.specs.ped_tidy.specs.ped_pasting.specs.ped_bodies.specs.ped_steps.specs.declared.changes.Change.{Change}
 use Rattle.ped_scalar.specs.ped_rules.specs.ped_loop_runs.specs.ped_tidy.specs.ped_pasting.specs.ped_bodies.specs.ped_steps.specs.declared.rules.Rule.{Rule}
-use Rattle.ped_scalar.specs.ped_rules.specs.ped_loop_runs.specs.ped_tidy.specs.ped_pasting.specs.ped_bodies.specs.ped_steps.specs.declared.rules.Rule.TheVariants.{NotPerfect, ParallelState, HasPrivate, BoundsShape, Range}
+use Rattle.ped_scalar.specs.ped_rules.specs.ped_loop_runs.specs.ped_tidy.specs.ped_pasting.specs.ped_bodies.specs.ped_steps.specs.declared.rules.Rule.TheVariants.{ParallelState, HasPrivate, BoundsShape}
 use Rattle.ped_scalar.specs.ped_rules.specs.ped_loop_runs.specs.ped_tidy.specs.ped_pasting.specs.ped_bodies.specs.ped_steps.specs.ped_affine.specs.PairViews.{heads_of}
 use Rattle.ped_scalar.specs.ped_rules.specs.ped_loop_runs.specs.ped_tidy.specs.ped_pasting.specs.ped_bodies.specs.ped_steps.specs.ped_affine.specs.Ranges.{Setting}
 use Rattle.ped_scalar.specs.ped_rules.specs.ped_loop_runs.specs.ped_tidy.specs.ped_pasting.specs.ped_bodies.specs.ped_steps.specs.ped_refs.specs.Loops.{loop_of, nest_of}
@@ -41,7 +40,7 @@ use Rattle.ped_scalar.specs.ped_rules.proofs.NestDepths.{nest_short}
 use Rattle.ped_loops.specs.CodeInterchanging.{NoneUpTo}
 use Rattle.ped_loops.specs.CodePlain.{TellsPlain}
 use Rattle.ped_loops.specs.Interchanging.{with_exchanged, exchanged_loops, interchanged, MakesInterchanged, StandsAgainstInterchange, interchanging, IsBoundOf, IsBoundOfEither, is_tied, has_no_unit, makes_far, leaves_either}
-use Rattle.ped_loops.specs.Shapes.{new_outer, new_inner, names_outer, isnt_shaped, is_named, shape_of, shaped, Shape, free}
+use Rattle.ped_loops.specs.Shapes.{new_outer, new_inner, names_outer, isnt_shaped, is_named, shape_of, shaped, free}
 use Rattle.ped_loops.proofs.InterchangeRules as rules
 use Rattle.ped_loops.proofs.OnlyBodies.{pair, only_changed, only_counted}
 

@@ -1,26 +1,19 @@
 -- Whether bounds are plain, as the code finds it out part by part.
-use Rattle.std.proofs.Common.{◌≡◌, ◌⊎◌, ℕ, ◌+◌, ◌<◌, ◌^◌, List, [], ◌∷◌, Bool, true, false, not, ◌&&◌, ◌||◌, Option, Some, None, is_some, refl, sym, ap, ◌∙◌, subst, inl, inr}
+use Rattle.std.proofs.Common.{◌≡◌, ◌⊎◌, ℕ, List, [], ◌∷◌, Bool, true, false, not, ◌&&◌, ◌||◌, Option, Some, None, is_some, refl, sym, ap, ◌∙◌, inl, inr}
 use Rattle.std.specs.Prelude.{◌↔◌}
 use Rattle.std.proofs.lemmas.Bool.{or_cases, and_parts, not-true}
 use Rattle.ped_base.specs.Lists.{is_among}
-use Rattle.ped_tree.specs.Names.Collecting.{with_names}
-use Rattle.ped_tree.specs.NamesIn.{all_loop_variables}
 use Rattle.ped_tree.specs.Nests.{Loop}
-use Rattle.ped_tree.specs.Numbering.{statements_count, statement_with}
-use Rattle.ped_tree.specs.Tree.{ExprTree, Head, ProgramTree}
-use Rattle.ped_tree.proofs.NameLaws.Collected.{among_collected}
+use Rattle.ped_tree.specs.Tree.{ExprTree}
 use Rattle.ped_scalar.specs.ped_rules.proofs.SameIntervals.{same_in_loops}
-use Rattle.ped_scalar.specs.ped_rules.specs.ped_loop_runs.specs.ped_tidy.specs.ped_pasting.specs.ped_bodies.specs.ped_steps.proofs.Answering.{few_numbers}
 use Rattle.ped_scalar.specs.ped_rules.specs.ped_loop_runs.specs.ped_tidy.specs.ped_pasting.specs.ped_bodies.specs.ped_steps.specs.ped_affine.specs.Arguments.{setting_of}
 use Rattle.ped_scalar.specs.ped_rules.specs.ped_loop_runs.specs.ped_tidy.specs.ped_pasting.specs.ped_bodies.specs.ped_steps.specs.ped_affine.specs.PairViews.{heads_of}
 use Rattle.ped_scalar.specs.ped_rules.specs.ped_loop_runs.specs.ped_tidy.specs.ped_pasting.specs.ped_bodies.specs.ped_steps.specs.ped_affine.specs.Ranges as ranges
 use Rattle.ped_scalar.specs.ped_rules.specs.ped_loop_runs.specs.ped_tidy.specs.ped_pasting.specs.ped_bodies.specs.ped_steps.specs.ped_affine.specs.Ranges.{Setting, Around, interval_of, loop_range, inside}
-use Rattle.ped_scalar.specs.ped_rules.specs.ped_loop_runs.specs.ped_tidy.specs.ped_pasting.specs.ped_bodies.specs.ped_steps.specs.ped_flow.specs.PlainBounds.{Values, nest_round, outermost_or, setting_round, assigned_by, around_with, IsFixed, IsPlainlyBuilt, IsPlain}
+use Rattle.ped_scalar.specs.ped_rules.specs.ped_loop_runs.specs.ped_tidy.specs.ped_pasting.specs.ped_bodies.specs.ped_steps.specs.ped_flow.specs.PlainBounds.{nest_round, setting_round, around_with, IsFixed, IsPlainlyBuilt, IsPlain}
 use Rattle.ped_scalar.specs.ped_rules.specs.ped_loop_runs.specs.ped_tidy.specs.ped_pasting.specs.ped_bodies.specs.ped_steps.specs.ped_flow.specs.Questions.{IsAssignedBefore}
 use Rattle.ped_scalar.specs.ped_rules.specs.ped_loop_runs.specs.ped_tidy.specs.ped_pasting.specs.ped_bodies.specs.ped_steps.specs.ped_refs.specs.Loops.{nest_of}
-use Rattle.ped_scalar.specs.ped_rules.specs.ped_loop_runs.specs.ped_tidy.specs.ped_pasting.specs.ped_bodies.specs.ped_steps.specs.ped_symbols.specs.Kinds.{table_of}
-use Rattle.ped_scalar.specs.ped_rules.specs.ped_loop_runs.specs.ped_tidy.specs.ped_pasting.specs.ped_bodies.specs.ped_steps.specs.ped_symbols.specs.NameRefusals.{IsValid}
-use Rattle.ped_loops.specs.CodePlain.{tree_at, values_at, IsPlaced, HasInterval, TellsPlain}
+use Rattle.ped_loops.specs.CodePlain.{tree_at, values_at, IsPlaced, HasInterval}
 use Rattle.ped_loops.specs.declared.bounds.Place.{Place}
 
 -- one of two, and both, by their tests
@@ -102,35 +95,3 @@ module _ (p : Place) (placed : IsPlaced p) where
 
   pub not_fixed : (x : List ℕ) (k : Bool) → k ≡ (not (is_among x p.setting.now.assigned.now) && not (is_among x p.setting.now.loop_variables.now)) → k ≡ false → ((false ≡ true) ↔ IsFixed (values_at p) (tree_at p) p.number x)
   not_fixed x k is unkept = (λ e. absurd cc, λ fixed. sym unkept ∙ is ∙ and_true (not (is_among x p.setting.now.assigned.now)) (not (is_among x p.setting.now.loop_variables.now)) (ap not (placed.assigned x ∙ fixed.kept)) (ap not (placed.variables x ∙ fixed.other)))
-
--- a place in this program
-module _ (p : Place) (t : ProgramTree) (is : tree_at p ≡ t) where
-  pub placed_by : IsValid t → nest_of p.round.now ≡ nest_round t p.number → p.setting.now.loop_variables.now ≡ with_names [] (all_loop_variables t.body) → p.setting.now.assigned.now ≡ with_names [] (assigned_by (statement_with (outermost_or p.number (nest_of p.round.now)) t)) → IsPlaced p
-  placed_by valid round variables changed = record {
-    few = subst (λ (u : ProgramTree). statements_count u.body + 1 < 2 ^ 32) (sym is) (few_numbers t valid);
-    round = round ∙ ap (λ (u : ProgramTree). nest_round u p.number) (sym is);
-    variables = λ x. ap (is_among x) variables ∙ among_collected x [] (all_loop_variables t.body) ∙ ap (λ (u : ProgramTree). is_among x (all_loop_variables u.body)) (sym is);
-    assigned = λ x.
-        ap (is_among x) changed
-        ∙ among_collected x [] (assigned_by (statement_with (outermost_or p.number (nest_of p.round.now)) t))
-        ∙ ap (λ (nest : List Loop). is_among x (assigned_by (statement_with (outermost_or p.number nest) t))) round
-        ∙ ap (λ (u : ProgramTree). is_among x (assigned_by (statement_with (outermost_or p.number (nest_round u p.number)) u))) (sym is);
-  }
-
-  -- what the code tells of both bounds
-  pub told_both : values_at p ≡ (table_of t).constants → (h : Head) (a b r : Bool) → r ≡ (a && b) → ((a ≡ true) ↔ IsPlain (values_at p) (tree_at p) p.number h.first) → ((b ≡ true) ↔ IsPlain (values_at p) (tree_at p) p.number h.last) → TellsPlain t p.number h r
-  told_both same h a b r made f g = by a b r made f g
-    where
-      there : (e : ExprTree) → IsPlain (values_at p) (tree_at p) p.number e → IsPlain (table_of t).constants t p.number e
-      there e plain = subst (λ (vs : Values). IsPlain vs t p.number e) same (subst (λ (u : ProgramTree). IsPlain (values_at p) u p.number e) is plain)
-
-      back : (e : ExprTree) → IsPlain (table_of t).constants t p.number e → IsPlain (values_at p) (tree_at p) p.number e
-      back e plain = subst (λ (u : ProgramTree). IsPlain (values_at p) u p.number e) (sym is) (subst (λ (vs : Values). IsPlain vs t p.number e) (sym same) plain)
-
-      by : (x y z : Bool) → z ≡ (x && y) → ((x ≡ true) ↔ IsPlain (values_at p) (tree_at p) p.number h.first) → ((y ≡ true) ↔ IsPlain (values_at p) (tree_at p) p.number h.last) → TellsPlain t p.number h z
-      by true true true e f g = (there h.first (f.0 refl), there h.last (g.0 refl))
-      by true true false e f g = absurd cc
-      by true false true e f g = absurd cc
-      by true false false e f g = (h.last, inr refl, λ plain. let clash : false ≡ true = g.1 (back h.last plain) in absurd cc)
-      by false y true e f g = absurd cc
-      by false y false e f g = (h.first, inl refl, λ plain. let clash : false ≡ true = f.1 (back h.first plain) in absurd cc)

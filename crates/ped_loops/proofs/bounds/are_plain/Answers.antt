@@ -1,7 +1,6 @@
 use Rattle.std.proofs.Common.{ℕ, List, [], length, ◌≤◌, sym, ap, ◌∙◌, subst}
 use Rattle.ped_tree.specs.Names.Collecting.{with_names}
 use Rattle.ped_tree.specs.NamesIn.{all_loop_variables}
-use Rattle.ped_tree.specs.Nests.{Loop}
 use Rattle.ped_tree.specs.Numbering.{statement_with}
 use Rattle.ped_tree.specs.Views.{program_tree, stmt_trees, head_of}
 use Rattle.ped_tree.specs.declared.statements.Stmt.{Stmt}

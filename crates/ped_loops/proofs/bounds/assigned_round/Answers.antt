@@ -1,4 +1,4 @@
-use Rattle.std.proofs.Common.{List, ℕ, [], Option, sym, ap, ◌∙◌}
+use Rattle.std.proofs.Common.{[], Option, sym, ap, ◌∙◌}
 use Rattle.std.proofs.lemmas.Result.{IfOk-weaker}
 use Rattle.ped_tree.specs.Names.Collecting.{with_names}
 use Rattle.ped_tree.specs.Tree.{StmtTree}

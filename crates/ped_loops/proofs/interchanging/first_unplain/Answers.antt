@@ -13,6 +13,14 @@ overflow_add-number g c =
     let few = few_inner t c.args.number (head_of outer) (stmt_trees outer.body.items) c.requires.is (head_of inner) (stmt_trees inner.body.items) c.requires.only c.requires.scene.valid in
     omega (arith, few)
 
+pub overflow_add-result : goal.overflow_add-result
+overflow_add-result g c =
+    let t = program_tree c.args.scene.now.tree.now in
+    let outer = c.args.outer.now in
+    let inner = c.args.inner.now in
+    let few = few_inner t c.args.number (head_of outer) (stmt_trees outer.body.items) c.requires.is (head_of inner) (stmt_trees inner.body.items) c.requires.only c.requires.scene.valid in
+    omega (arith, few)
+
 pub are_plain-requires-2-clause-is : goal.are_plain-requires-2-clause-is
 are_plain-requires-2-clause-is g c =
     inner_there (program_tree c.args.scene.now.tree.now) c.args.number (head_of c.args.outer.now) (stmt_trees c.args.outer.now.body.items) (head_of c.args.inner.now) (stmt_trees c.args.inner.now.body.items) c.requires.is c.requires.only

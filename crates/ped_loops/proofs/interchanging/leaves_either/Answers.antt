@@ -1,6 +1,6 @@
-use Rattle.std.proofs.Common.{ℕ, ◌≤◌, List, length, Bool, Option, Some, None, ◌≡◌, ◌||◌, sym, ap, subst, ◌∙◌}
+use Rattle.std.proofs.Common.{ℕ, ◌≤◌, List, length, Bool, None, ◌≡◌, ◌||◌, sym, ap, subst, ◌∙◌}
 use Rattle.std.proofs.lemmas.Result.{IfOk-weaker}
-use Rattle.ped_tree.specs.Tree.{Head, StmtTrees}
+use Rattle.ped_tree.specs.Tree.{Head}
 use Rattle.ped_tree.specs.Views.{program_tree, stmt_trees, head_of}
 use Rattle.ped_tree.specs.declared.statements.Stmt.{Stmt}
 use Rattle.ped_scalar.specs.ped_rules.specs.OnlyLoops.{only_loop}

@@ -37,4 +37,4 @@ exchanged-requires-clause-inner g c =
 pub unless_far-requires-clause-new : goal.unless_far-requires-clause-new
 unless_far-requires-clause-new g c =
     let made = c.in-Some.ensures in
-    c.in_ok-new.ensures ∙ (λ i. with_exchanged (head_of (made.0 i)) (stmt_trees (made.0 i).body.items))
+    c.in_ok-new-in-Some.ensures ∙ (λ i. with_exchanged (head_of (made.0 i)) (stmt_trees (made.0 i).body.items))

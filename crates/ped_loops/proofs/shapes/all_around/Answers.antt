@@ -1,6 +1,5 @@
-use Rattle.std.proofs.Common.{List, ◌≡◌, ◌≤◌, take, length, map, ap, ◌∙◌, arith}
+use Rattle.std.proofs.Common.{List, ◌≡◌, take, map, ap, ◌∙◌, arith}
 use Rattle.std.proofs.lemmas.List.{take_all}
-use Rattle.ped_tree.specs.Tree.{StmtTree}
 use Rattle.ped_tree.specs.Views.{pack_stmts, stmt_tree, stmt_trees}
 use Rattle.ped_tree.specs.declared.statements.Stmt.{Stmt}
 use Rattle.ped_loops.specs.CodeInterchanging.{one_around}

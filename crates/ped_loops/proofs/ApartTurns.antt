@@ -1,5 +1,5 @@
 -- Places in DO loops that are apart: in different iterations of one PARALLEL DO.
-use Rattle.std.proofs.Common.{Bool, List, [], ap, arith, eqb, eqb-true, false, if◌then◌else◌, inl, inr, length, map, refl, suc, sym, true, ℕ, ◌&&◌, ◌++◌, ◌-◌, ◌||◌, ◌∙◌, ◌∷◌, ◌≡◌, ◌⊎◌}
+use Rattle.std.proofs.Common.{Bool, List, [], ap, arith, eqb, eqb-true, false, if◌then◌else◌, inl, inr, length, map, refl, suc, sym, true, ℕ, ◌&&◌, ◌++◌, ◌||◌, ◌∙◌, ◌∷◌, ◌≡◌, ◌⊎◌}
 use Rattle.std.proofs.lemmas.Bool.{and_parts}
 use Rattle.std.proofs.lemmas.List.{map-append}
 use Rattle.ped_tree.specs.Nests.{Loop}

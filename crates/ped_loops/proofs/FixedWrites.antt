@@ -1,5 +1,5 @@
 -- In iterations of an outermost DO no act writes a scalar that keeps its value in it.
-use Rattle.std.proofs.Common.{Bool, List, Option, Some, [], ap, false, sym, true, ℕ, ◌++◌, ◌+◌, ◌-◌, ◌||◌, ◌∙◌, ◌∷◌, ◌≡◌}
+use Rattle.std.proofs.Common.{Bool, List, Option, Some, [], ap, false, sym, true, ℕ, ◌++◌, ◌+◌, ◌||◌, ◌∙◌, ◌∷◌, ◌≡◌}
 use Rattle.std.proofs.lemmas.List.Folds.{list_any-append}
 use Rattle.ped_base.proofs.NameEquality.{same_itself}
 use Rattle.ped_base.specs.Lists.{is_among, is_same_text}

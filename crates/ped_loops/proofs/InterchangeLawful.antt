@@ -20,7 +20,7 @@ use Rattle.ped_scalar.specs.ped_rules.specs.ped_loop_runs.specs.ped_tidy.specs.U
 use Rattle.ped_scalar.specs.ped_rules.specs.Carried.{crossing, has_after}
 use Rattle.ped_scalar.specs.ped_rules.specs.KeepMaps.{all_but}
 use Rattle.ped_scalar.specs.ped_rules.specs.Lawful.{IsFaithful, IsLawful}
-use Rattle.ped_scalar.specs.ped_rules.specs.OnlyLoops.{change_only, only_loop, of_loop, inner, either}
+use Rattle.ped_scalar.specs.ped_rules.specs.OnlyLoops.{change_only, only_loop, of_loop, either}
 use Rattle.ped_scalar.specs.ped_rules.specs.Rules.{HasUnplain, has_private, is_parallel}
 use Rattle.ped_scalar.specs.ped_rules.proofs.KeptNumbers.{but_one_to_one}
 use Rattle.ped_scalar.specs.ped_rules.specs.ped_loop_runs.specs.Carried.{is_carried_by}

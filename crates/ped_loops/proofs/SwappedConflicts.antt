@@ -1,5 +1,5 @@
 -- Two pairs of iterations of two loops that change places: where the second comes later in the outer loop and earlier in the inner one, no dependence stands between them, and so their acts don't conflict.
-use Rattle.std.proofs.Common.{Bool, List, Option, Some, [], ap, append_assoc, arith, false, inl, inr, length, map, negsuc, pos, refl, subst, suc, sym, true, ℕ, ℤ, ◌&&◌, ◌++◌, ◌+◌, ◌-◌, ◌==◌, ◌∙◌, ◌∷◌, ◌≡◌}
+use Rattle.std.proofs.Common.{Bool, List, Option, Some, [], ap, append_assoc, arith, false, inl, inr, length, map, negsuc, pos, refl, subst, suc, sym, true, ℕ, ℤ, ◌&&◌, ◌++◌, ◌+◌, ◌==◌, ◌∙◌, ◌∷◌, ◌≡◌}
 use Rattle.std.proofs.lemmas.Bool.{and_parts}
 use Rattle.std.proofs.lemmas.Grind.{flat_map-append}
 use Rattle.std.specs.Bool.{MatchBool}

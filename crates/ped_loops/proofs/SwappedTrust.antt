@@ -1,5 +1,5 @@
 -- Two DO loops in each other's place: a program that may be trusted stays so.
-use Rattle.std.proofs.Common.{◌≡◌, ℕ, ◌+◌, List, [], ◌∷◌, ◌++◌, Bool, true, false, Some, ◌||◌, ◌&&◌, not, refl, sym, ap, ◌∙◌, subst, inr, arith, append-nil}
+use Rattle.std.proofs.Common.{◌≡◌, ℕ, List, [], ◌∷◌, ◌++◌, Bool, true, false, Some, ◌||◌, ◌&&◌, not, refl, sym, ap, ◌∙◌, subst, inr, arith, append-nil}
 use Rattle.std.specs.List.{list_any}
 use Rattle.ped_base.specs.Lists.{has_some, is_same_text, is_among}
 use Rattle.ped_tree.specs.Tree.{Head, StmtTree, StmtTrees, Do, Comment, no_stmts, more_stmts, ProgramTree}

@@ -7,6 +7,7 @@ mod Edges
 mod Excluding
 mod Files
 mod LoopCauses
+mod InterchangeCauses
 mod FirstCauses
 mod LoopPaths
 mod Meeting

@@ -74,18 +74,39 @@ module _ (t : ProgramTree) (s : ℕ) where
     ]
 
     unplain_at : Decided (HasUnplain t Asked s) → Decided (HasUnplain t Asked (s + 1)) → Settled (WhereUnplain t s Asked)
-    unplain_at (inl u) d = (Some s, (l, (u, λ k x. elim (one_of_both k x) [
-      | inl e ↦ omega (arith, e)
-      | inr e ↦ omega (arith, e)
-    ])))
-    unplain_at (inr n) (inl u) = (Some (s + 1), (l, (u, λ k x. elim (one_of_both k x) [
-      | inl e ↦ absurd (n (subst (HasUnplain t Asked) e x))
-      | inr e ↦ omega (arith, e)
-    ])))
-    unplain_at (inr n) (inr m) = (None, λ k p. elim (one_of_both k p.1.0) [
-      | inl e ↦ n (subst (HasUnplain t Asked) e p.1.0)
-      | inr e ↦ m (subst (HasUnplain t Asked) e p.1.0)
-    ])
+    unplain_at (inl u) d = (
+      Some s,
+      (
+        l,
+        (
+          u,
+          λ k x. elim (one_of_both k x) [
+            | inl e ↦ omega (arith, e)
+            | inr e ↦ omega (arith, e)
+          ],
+        ),
+      ),
+    )
+    unplain_at (inr n) (inl u) = (
+      Some (s + 1),
+      (
+        l,
+        (
+          u,
+          λ k x. elim (one_of_both k x) [
+            | inl e ↦ absurd (n (subst (HasUnplain t Asked) e x))
+            | inr e ↦ omega (arith, e)
+          ],
+        ),
+      ),
+    )
+    unplain_at (inr n) (inr m) = (
+      None,
+      λ k p. elim (one_of_both k p.1.0) [
+        | inl e ↦ n (subst (HasUnplain t Asked) e p.1.0)
+        | inr e ↦ m (subst (HasUnplain t Asked) e p.1.0)
+      ],
+    )
 
   settled_unplain : Settled (WhereUnplain t s Asked)
   settled_unplain = by (loop_decided t s)

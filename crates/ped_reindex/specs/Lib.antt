@@ -1,0 +1,6 @@
+pub use Rattle.ped_loops
+pub mod Skewing
+pub mod Stripping
+pub mod Settling
+pub mod Peeling
+pub mod CodePeeling

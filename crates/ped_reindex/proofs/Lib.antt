@@ -1,0 +1,6 @@
+mod Contained
+mod Here
+mod SkewRules
+mod StripRules
+mod PeelRules
+pub mod Determined

@@ -1,6 +1,7 @@
 mod Contained
 mod Here
-mod SkewRules
-mod StripRules
-mod PeelRules
+pub mod PlainTests
+pub mod SkewRules
+pub mod StripRules
+pub mod PeelRules
 pub mod Determined

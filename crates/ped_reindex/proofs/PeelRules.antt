@@ -41,28 +41,28 @@ module _ (s : ℕ) (last : Bool) where
       (p.3 ∙ ap (peeled t s last) found ∙ sym q.3, p.4 ∙ ap (peel_kept t s last) bodies ∙ sym q.4)
 
   module _ (t : ProgramTree) where
-    abbrev far : Head → StmtTrees → Bool
+    abbrev pub far : Head → StmtTrees → Bool
     far = peels_far last (table_of t).constants
 
-    abbrev variable : Head → StmtTrees → Bool
+    abbrev pub variable : Head → StmtTrees → Bool
     variable = isnt_constant (table_of t).constants
 
-    abbrev limit : Rules
+    abbrev pub limit : Rules
     limit = also Limit (WhereLimit (MakesPeeled s last) t s) no_rules
 
-    abbrev constant : Rules
+    abbrev pub constant : Rules
     constant = also NotConstant (WhereLoop t s variable) limit
 
-    abbrev range : Rules
+    abbrev pub range : Rules
     range = also Range (WhereLoop t s far) constant
 
-    abbrev escape : Rules
+    abbrev pub escape : Rules
     escape = also IndexEscapes (WhereEscape t s) range
 
-    abbrev shared : Rules
+    abbrev pub shared : Rules
     shared = also HasPrivate (WhereLoop t s has_private) escape
 
-    abbrev state : Rules
+    abbrev pub state : Rules
     state = also ParallelState (WhereLoop t s is_parallel) shared
 
     abbrev stands : Rules

@@ -22,31 +22,31 @@ module _ (s : ℕ) (f : ℤ) where
   one_made t new other keep more p q = (p.0 ∙ sym q.0, p.1 ∙ sym q.1)
 
   module _ (t : ProgramTree) where
-    abbrev bad : Bool
+    abbrev pub bad : Bool
     bad = is_bad_factor f
 
-    abbrev Leaving : ℕ → Type 0
+    abbrev pub Leaving : ℕ → Type 0
     Leaving = WhereLoop t s (skew_leaves t s f)
 
-    abbrev Limited : ℕ → Type 0
+    abbrev pub Limited : ℕ → Type 0
     Limited = WhereLimit (MakesSkewed s f) t s
 
-    abbrev factor : Rules
+    abbrev pub factor : Rules
     factor = also BadFactor (WhereLoop t s (has_bad_factor f)) no_rules
 
-    abbrev limit : Rules
+    abbrev pub limit : Rules
     limit = also Limit (Unless bad Limited) factor
 
-    abbrev range : Rules
+    abbrev pub range : Rules
     range = also Range (Unless bad Leaving) limit
 
-    abbrev escape : Rules
+    abbrev pub escape : Rules
     escape = also IndexEscapes (WhereEscape t s) range
 
-    abbrev state : Rules
+    abbrev pub state : Rules
     state = also ParallelState (WhereLoop t s (either is_parallel)) escape
 
-    abbrev perfect : Rules
+    abbrev pub perfect : Rules
     perfect = also NotPerfect (WhereLoop t s isnt_perfect) state
 
     abbrev stands : Rules

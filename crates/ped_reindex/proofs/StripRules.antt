@@ -27,40 +27,40 @@ module _ (s : ℕ) (k : ℤ) where
   one_made t new other keep more p q = (p.2 ∙ ap (stripped t s k) (some_name p.0 q.0 (sym p.1 ∙ q.1)) ∙ sym q.2, p.3 ∙ sym q.3)
 
   module _ (t : ProgramTree) where
-    abbrev bad : Bool
+    abbrev pub bad : Bool
     bad = is_bad_size k
 
-    abbrev other_step : Head → StmtTrees → Bool
+    abbrev pub other_step : Head → StmtTrees → Bool
     other_step = has_other_step (table_of t).constants is_one
 
-    abbrev Leaving : ℕ → Type 0
+    abbrev pub Leaving : ℕ → Type 0
     Leaving = WhereLoop t s (strip_leaves t s k)
 
-    abbrev Limited : ℕ → Type 0
+    abbrev pub Limited : ℕ → Type 0
     Limited = WhereLimit (MakesStripped s k) t s
 
-    abbrev size : Rules
+    abbrev pub size : Rules
     size = also BadFactor (WhereLoop t s (has_bad_size k)) no_rules
 
-    abbrev limit : Rules
+    abbrev pub limit : Rules
     limit = also Limit (Unless bad Limited) size
 
-    abbrev range : Rules
+    abbrev pub range : Rules
     range = also Range (Unless bad Leaving) limit
 
-    abbrev shape : Rules
+    abbrev pub shape : Rules
     shape = also StepShape (WhereLoop t s other_step) range
 
-    abbrev plain : Rules
+    abbrev pub plain : Rules
     plain = also BoundNotPlain (WhereUnplain t s (IsItsLimit t s)) shape
 
-    abbrev escape : Rules
+    abbrev pub escape : Rules
     escape = also IndexEscapes (WhereEscape t s) plain
 
-    abbrev shared : Rules
+    abbrev pub shared : Rules
     shared = also HasPrivate (WhereLoop t s has_private) escape
 
-    abbrev state : Rules
+    abbrev pub state : Rules
     state = also ParallelState (WhereLoop t s is_parallel) shared
 
     abbrev stands : Rules

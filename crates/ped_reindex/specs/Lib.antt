@@ -4,3 +4,6 @@ pub mod Stripping
 pub mod Settling
 pub mod Peeling
 pub mod CodePeeling
+pub mod CodeSkewing
+pub mod CodeSettling
+pub mod CodePlain

@@ -1,15 +1,17 @@
 //! Plain bounds: those that come to the same wherever they are evaluated in an iteration of the DO loops round their DO.
 
-ghost use Rattle.std.specs.Prelude.{◌≡◌, ◌↔◌, ℕ, not, is_none, map, IsTrue, IfOk};
-ghost use Rattle.std.specs.Prelude.{ProgramTree as Nothing};
-ghost use Rattle.ped_tree.specs.Tree.{ProgramTree};
+ghost use Rattle.std.specs.Prelude.{◌≡◌, ◌↔◌, ◌+◌, ◌<◌, ◌≤◌, ◌^◌, ◌&&◌, ◌||◌, [], map, length, is_some, IsTrue, IfOk};
+ghost use Rattle.ped_tree.specs.Numbering.{statements_count};
 ghost use Rattle.ped_tree.specs.Views.{expr_tree, pack_exprs, stmt_trees, program_tree, head_of};
-ghost use Rattle.ped_tree.specs.Constants.ConstantExpressions.{constant_value};
 ghost use Rattle.ped_loops.specs.ped_scalar.specs.ped_rules.specs.ped_loop_runs.specs.ped_tidy.specs.ped_pasting.specs.ped_bodies.specs.ped_steps.specs.Scenes.{IsSceneOf};
-ghost use Rattle.ped_loops.specs.ped_scalar.specs.ped_rules.specs.ped_loop_runs.specs.ped_tidy.specs.ped_pasting.specs.ped_bodies.specs.ped_steps.specs.ped_flow.specs.PlainBounds as Plain;
+ghost use Rattle.ped_loops.specs.ped_scalar.specs.ped_rules.specs.ped_loop_runs.specs.ped_tidy.specs.ped_pasting.specs.ped_bodies.specs.ped_steps.specs.ped_affine.specs.Arguments.{setting_of};
+ghost use Rattle.ped_loops.specs.ped_scalar.specs.ped_rules.specs.ped_loop_runs.specs.ped_tidy.specs.ped_pasting.specs.ped_bodies.specs.ped_steps.specs.ped_affine.specs.PairViews.{heads_of};
+ghost use Rattle.ped_loops.specs.ped_scalar.specs.ped_rules.specs.ped_loop_runs.specs.ped_tidy.specs.ped_pasting.specs.ped_bodies.specs.ped_steps.specs.ped_affine.specs.Ranges.{interval_of, around_with};
+ghost use Rattle.ped_loops.specs.ped_scalar.specs.ped_rules.specs.ped_loop_runs.specs.ped_tidy.specs.ped_pasting.specs.ped_bodies.specs.ped_steps.specs.ped_flow.specs.PlainBounds.{IsPlain};
 ghost use Rattle.ped_loops.specs.ped_scalar.specs.ped_rules.specs.ped_loop_runs.specs.ped_tidy.specs.ped_pasting.specs.ped_bodies.specs.ped_steps.specs.ped_flow.specs.Questions.{IsLoop};
+ghost use Rattle.ped_loops.specs.ped_scalar.specs.ped_rules.specs.ped_loop_runs.specs.ped_tidy.specs.ped_pasting.specs.ped_bodies.specs.ped_steps.specs.ped_refs.specs.Loops.{nest_of};
 ghost use Rattle.ped_loops.specs.ped_scalar.specs.ped_rules.specs.ped_loop_runs.specs.ped_tidy.specs.ped_pasting.specs.ped_bodies.specs.ped_steps.specs.ped_symbols.specs.Kinds.{table_of};
-ghost use Rattle.ped_reindex.specs.CodePlain.{StandsRound};
+ghost use Rattle.ped_reindex.specs.CodePlain as Spec;
 
 use ped_base::{Name, NoMemory};
 use ped_loops::ped_scalar::ped_rules::is_index;
@@ -50,20 +52,19 @@ pub fn is_plain<L: Ledger>(
 ) -> Result<bool, NoMemory>
     requires scene { IsSceneOf (program_tree scene.now.tree.now) scene.now }
     requires is { IsLoop (program_tree scene.now.tree.now) number (head_of d.now) (stmt_trees d.now.body.items) }
-    ensures { IfOk result (λ r. IsTrue r ↔ Plain.IsPlain (table_of (program_tree scene.now.tree.now)).constants (program_tree scene.now.tree.now) number (expr_tree bound.now)) }
+    ensures { IfOk result (λ r. IsTrue r ↔ IsPlain (table_of (program_tree scene.now.tree.now)).constants (program_tree scene.now.tree.now) number (expr_tree bound.now)) }
 {
     let nest = loops_round(alloc, scene.tree, number)?;
     let assigned = assigned(alloc, outermost(d, &nest))?;
     let variables = loop_variables(alloc, &scene.tree.body)?;
-    let setting = Setting {
-        constants: scene.symbols.consts(),
-        loop_variables: &variables,
-        assigned: &assigned,
-    };
     let round = Surroundings {
         flow: scene.flow,
         number,
-        setting,
+        setting: Setting {
+            constants: scene.symbols.consts(),
+            loop_variables: &variables,
+            assigned: &assigned,
+        },
         nest: &nest,
     };
     Ok(is_plain_there(&round, bound))
@@ -71,7 +72,7 @@ pub fn is_plain<L: Ledger>(
 
 /// The outermost of these DO loops, or else this one.
 fn outermost<'a>(d: &'a Do, nest: &[Loop<'a>]) -> &'a Do
-    ensures { result.now ≡ outermost_of d.now nest.now }
+    ensures { result.now ≡ Spec.outermost_of d.now nest.now }
 {
     match nest.first() {
         Some(l) => l.statement,
@@ -81,8 +82,10 @@ fn outermost<'a>(d: &'a Do, nest: &[Loop<'a>]) -> &'a Do
 
 /// Whether a bound is plain with this round it.
 fn is_plain_there(round: &Surroundings, bound: &Expr) -> bool
-    requires { (t : ProgramTree) × StandsRound t round.now.number round.now × IsTrue (fits_nest round.now) }
-    ensures { (t : ProgramTree) → StandsRound t round.now.number round.now → IsTrue result ↔ Plain.IsPlain (table_of t).constants t round.now.number (expr_tree bound.now) }
+    requires few { statements_count (Spec.tree_round round.now).body + 1 < 2 ^ 32 }
+    requires nest { length round.now.nest.now ≤ 6 }
+    ensures { result ≡ (Spec.is_built round.now.setting.constants.now (Spec.is_free_there round.now) (expr_tree bound.now)
+        && is_some (interval_of (setting_of round.now.setting) (around_with (setting_of round.now.setting) [] (heads_of (nest_of round.now.nest.now))) (expr_tree bound.now))) }
 {
     is_built(round, bound) && interval(&round.setting, round.nest, bound).is_some()
 }
@@ -90,41 +93,33 @@ fn is_plain_there(round: &Surroundings, bound: &Expr) -> bool
 /// Whether a part of a bound is built of what plain bounds are built of.
 #[cycle(built)]
 fn is_built(round: &Surroundings, e: &Expr) -> bool
-    requires { few_statements round.now }
-    ensures { (t : ProgramTree) → StandsRound t round.now.number round.now → IsTrue result ↔ Plain.IsPlainlyBuilt (table_of t).constants t round.now.number (expr_tree e.now) }
+    requires { statements_count (Spec.tree_round round.now).body + 1 < 2 ^ 32 }
+    ensures { result ≡ Spec.is_built round.now.setting.constants.now (Spec.is_free_there round.now) (expr_tree e.now) }
 {
-    if is_constant(round, e) {
-        return true;
-    }
     match e {
         Expr::Int(_) => true,
-        Expr::Var(name) => is_index(name, round.nest) || is_fixed(round, name),
-        Expr::Neg(a) => is_built(round, a),
-        Expr::Add(a, b) => is_built(round, a) && is_built(round, b),
-        Expr::Sub(a, b) => is_built(round, a) && is_built(round, b),
-        Expr::Mul(a, b) => is_built_product(round, a, b),
-        Expr::Call(f, arguments) => is_extreme(*f) && are_built(round, arguments),
-        Expr::Element(_, _) | Expr::Div(_, _) | Expr::Pow(_, _) => false,
+        Expr::Var(name) => is_constant(round, e) || is_free(round, name),
+        Expr::Element(_, _) => false,
+        Expr::Neg(a) => is_constant(round, e) || is_built(round, a),
+        Expr::Add(a, b) => is_constant(round, e) || is_built(round, a) && is_built(round, b),
+        Expr::Sub(a, b) => is_constant(round, e) || is_built(round, a) && is_built(round, b),
+        Expr::Mul(a, b) => {
+            is_constant(round, e)
+                || is_constant(round, a) && is_built(round, b)
+                || is_built(round, a) && is_constant(round, b)
+        }
+        Expr::Div(_, _) | Expr::Pow(_, _) => is_constant(round, e),
+        Expr::Call(f, arguments) => {
+            is_constant(round, e) || is_extreme(*f) && are_built(round, arguments)
+        }
     }
-}
-
-/// Whether a product is: one factor is constant.
-#[cycle(built)]
-fn is_built_product(round: &Surroundings, a: &Expr, b: &Expr) -> bool
-    requires { few_statements round.now }
-    ensures { (t : ProgramTree) → StandsRound t round.now.number round.now → IsTrue result ↔ IsBuiltProduct t round.now.number (expr_tree a.now) (expr_tree b.now) }
-{
-    if is_constant(round, a) {
-        return is_built(round, b);
-    }
-    is_constant(round, b) && is_built(round, a)
 }
 
 /// Whether all these arguments are.
 #[cycle(built)]
 fn are_built(round: &Surroundings, arguments: &[Expr]) -> bool
-    requires { few_statements round.now }
-    ensures { (t : ProgramTree) → StandsRound t round.now.number round.now → IsTrue result ↔ Plain.ArePlainlyBuilt (table_of t).constants t round.now.number (pack_exprs (map expr_tree arguments.now)) }
+    requires { statements_count (Spec.tree_round round.now).body + 1 < 2 ^ 32 }
+    ensures { result ≡ Spec.are_built round.now.setting.constants.now (Spec.is_free_there round.now) (pack_exprs (map expr_tree arguments.now)) }
 {
     for e in arguments {
         if !is_built(round, e) {
@@ -136,24 +131,36 @@ fn are_built(round: &Surroundings, arguments: &[Expr]) -> bool
 
 /// Whether an expression is constant and doesn't fault.
 fn is_constant(round: &Surroundings, e: &Expr) -> bool
-    ensures { result ≡ not (is_none (constant_value round.now.setting.constants.now (expr_tree e.now))) }
+    ensures { result ≡ Spec.is_constant round.now.setting.constants.now (expr_tree e.now) }
 {
     constant(e, round.setting.constants).is_some()
 }
 
-/// Whether a scalar has one value throughout the outermost DO.
-fn is_fixed(round: &Surroundings, name: &Name) -> bool
-    requires { few_statements round.now }
-    ensures { (t : ProgramTree) → StandsRound t round.now.number round.now → IsTrue result ↔ Plain.IsFixed (table_of t).constants t round.now.number name.now }
+/// Whether a scalar is the variable of a DO round the DO, or has one value throughout the outermost DO.
+fn is_free(round: &Surroundings, name: &Name) -> bool
+    requires { statements_count (Spec.tree_round round.now).body + 1 < 2 ^ 32 }
+    ensures { result ≡ Spec.is_free_there round.now name.now }
 {
-    !round.setting.assigned.contains(name)
-        && !round.setting.loop_variables.contains(name)
-        && round.flow.assigned_before(round.number, name)
+    is_index(name, round.nest)
+        || !round.setting.assigned.contains(name)
+            && !round.setting.loop_variables.contains(name)
+            && is_assigned_before(round, name)
+}
+
+/// Whether a scalar has a value on each path to the outermost DO.
+fn is_assigned_before(round: &Surroundings, name: &Name) -> bool
+    requires { statements_count (Spec.tree_round round.now).body + 1 < 2 ^ 32 }
+    ensures { result ≡ Spec.is_assigned_before (Spec.tree_round round.now) round.now.number name.now }
+{
+    round.flow.assigned_before(round.number, name)
 }
 
 /// Whether the intrinsic function is MAX or MIN.
 fn is_extreme(f: Intrinsic) -> bool
-    ensures { IsTrue result ↔ Plain.IsExtreme f }
+    ensures { result ≡ Spec.is_extreme f }
 {
-    f == Intrinsic::Max || f == Intrinsic::Min
+    match f {
+        Intrinsic::Max | Intrinsic::Min => true,
+        Intrinsic::Mod | Intrinsic::Abs => false,
+    }
 }

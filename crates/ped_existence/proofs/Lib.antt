@@ -6,6 +6,7 @@ mod Edges
 mod Excluding
 mod Files
 mod LoopCauses
+mod ReindexCauses
 mod FirstCauses
 mod LoopPaths
 mod Meeting

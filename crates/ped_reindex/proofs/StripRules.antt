@@ -126,14 +126,14 @@ module _ (s : ℕ) (k : ℤ) where
             same_limit e l is_last = is_last ∙ ap (λ (g : Head). g.last) (same_head t s l.head h l.body body l.is is)
 
             -- the limit isn't plain
-            unplain_there : (IsPlain (table_of t).constants t s h.last → ⊥) → WhereUnplain t s (IsItsLimit t s) s
+            pub unplain_there : (IsPlain (table_of t).constants t s h.last → ⊥) → WhereUnplain t s (IsItsLimit t s) s
             unplain_there not_plain = (here t s h body is, (h.last, (refl, here t s h body is, refl), not_plain), λ n p. let at : n ≡ s = p.1.0 in omega (arith, at))
 
             pub plain_first : (IsPlain (table_of t).constants t s h.last → ⊥) → IsFirstRule stands BoundNotPlain s
             plain_first not_plain = behind_escape BoundNotPlain s (first_here BoundNotPlain (WhereUnplain t s (IsItsLimit t s)) shape s (unplain_there not_plain) shape_chain)
 
             module _ (is_plain : IsPlain (table_of t).constants t s h.last) where
-              no_unplain : (n : ℕ) → WhereUnplain t s (IsItsLimit t s) n → ⊥
+              pub no_unplain : (n : ℕ) → WhereUnplain t s (IsItsLimit t s) n → ⊥
               no_unplain n p = p.1.0.2 (plain_at n p.1.0.1.0 p.1.0.0 (same_limit p.1.0.0 p.1.0.1.1 p.1.0.1.2))
                 where
                   plain_at : (m : ℕ) → m ≡ s → (e : ExprTree) → e ≡ h.last → IsPlain (table_of t).constants t m e

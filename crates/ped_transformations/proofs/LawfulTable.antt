@@ -3,14 +3,14 @@ use Rattle.std.proofs.Common.{ℕ, List}
 use Rattle.std.specs.Prelude.{⊤}
 use Rattle.ped_script.specs.declared.items.Command.{Command}
 use Rattle.ped_script.specs.declared.items.Command.TheVariants.{Source, Deps, Show, Print, Advise, Replace, Insert, Delete, Interchange, Reverse, Skew, Strip, Peel, Distribute, Fuse, Expand, Privatise, Parallel, Serial, Reject, Undo, Redo, Run, Races, Tested}
-use Rattle.ped_loops.specs.ped_scalar.specs.ped_rules.specs.Steps.{StepAt, MatchStep}
-use Rattle.ped_loops.specs.ped_scalar.specs.ped_rules.specs.Lawful.{IsDetermined, IsLawful}
-use Rattle.ped_loops.specs.ped_scalar.proofs.LawfulSteps.{lawful_privatising, lawful_expanding}
-use Rattle.ped_loops.specs.Reversing.{reversing}
-use Rattle.ped_loops.specs.Paralleling.{paralleling}
-use Rattle.ped_loops.specs.Serialising.{serialising}
-use Rattle.ped_loops.specs.Rejecting.{rejecting}
-use Rattle.ped_loops.proofs.Determined.{determined_parallel, determined_serial, determined_reversal, determined_rejection}
+use Rattle.ped_reindex.specs.ped_loops.specs.ped_scalar.specs.ped_rules.specs.Steps.{StepAt, MatchStep}
+use Rattle.ped_reindex.specs.ped_loops.specs.ped_scalar.specs.ped_rules.specs.Lawful.{IsDetermined, IsLawful}
+use Rattle.ped_reindex.specs.ped_loops.specs.ped_scalar.proofs.LawfulSteps.{lawful_privatising, lawful_expanding}
+use Rattle.ped_reindex.specs.ped_loops.specs.Reversing.{reversing}
+use Rattle.ped_reindex.specs.ped_loops.specs.Paralleling.{paralleling}
+use Rattle.ped_reindex.specs.ped_loops.specs.Serialising.{serialising}
+use Rattle.ped_reindex.specs.ped_loops.specs.Rejecting.{rejecting}
+use Rattle.ped_reindex.specs.ped_loops.proofs.Determined.{determined_parallel, determined_serial, determined_reversal, determined_rejection}
 use Rattle.ped_transformations.specs.Table.{step_of}
 
 determined_by : (at : StepAt) → IsLawful at → IsDetermined at

@@ -1,13 +1,13 @@
 -- The one table of the steps: which one each command takes (ParaScope; this project).
 use Rattle.ped_script.specs.declared.items.Command.{Command}
 use Rattle.ped_script.specs.declared.items.Command.TheVariants.{Reverse, Expand, Privatise, Parallel, Serial, Reject}
-use Rattle.ped_loops.specs.ped_scalar.specs.ped_rules.specs.Steps.{MaybeStep, no_step, some_step}
-use Rattle.ped_loops.specs.ped_scalar.specs.Privatising.{privatising}
-use Rattle.ped_loops.specs.ped_scalar.specs.Expanding.{expanding}
-use Rattle.ped_loops.specs.Reversing.{reversing}
-use Rattle.ped_loops.specs.Paralleling.{paralleling}
-use Rattle.ped_loops.specs.Serialising.{serialising}
-use Rattle.ped_loops.specs.Rejecting.{rejecting}
+use Rattle.ped_reindex.specs.ped_loops.specs.ped_scalar.specs.ped_rules.specs.Steps.{MaybeStep, no_step, some_step}
+use Rattle.ped_reindex.specs.ped_loops.specs.ped_scalar.specs.Privatising.{privatising}
+use Rattle.ped_reindex.specs.ped_loops.specs.ped_scalar.specs.Expanding.{expanding}
+use Rattle.ped_reindex.specs.ped_loops.specs.Reversing.{reversing}
+use Rattle.ped_reindex.specs.ped_loops.specs.Paralleling.{paralleling}
+use Rattle.ped_reindex.specs.ped_loops.specs.Serialising.{serialising}
+use Rattle.ped_reindex.specs.ped_loops.specs.Rejecting.{rejecting}
 
 -- the step that a command takes; none where it takes none, or where the step isn't built yet
 abbrev pub step_of : Command → MaybeStep

@@ -94,7 +94,8 @@ fn skew_inner<L: Ledger>(
     requires only { Only.only_loop (stmt_trees d.now.body.items) ≡ Some (head_of inner.now, stmt_trees inner.now.body.items) }
     ensures { IfOk result (Answers (Spec.skewing number factor) (program_tree scene.now.tree.now)) }
 {
-    if d.parallel || inner.parallel {
+    let parallel = d.parallel || inner.parallel;
+    if parallel {
         return Ok(Err(against(Rule::ParallelState, number)));
     }
     if let Some(statement) = escapes(scene, number) {

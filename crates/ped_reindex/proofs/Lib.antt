@@ -1,5 +1,8 @@
 mod Contained
 mod Here
+mod Remainders
+mod Settled
+mod NestRooms
 pub mod PlainTests
 mod Answering
 pub mod SkewRules

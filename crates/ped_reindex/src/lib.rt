@@ -4,6 +4,7 @@
 #![tactic(auto)]
 
 mod iterations;
+mod lists;
 mod peeling;
 mod plain;
 mod settling;

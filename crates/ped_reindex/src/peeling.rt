@@ -4,7 +4,7 @@ ghost use Rattle.std.specs.Prelude.{◌≡◌, ◌+◌, ◌<◌, ◌≤◌, ◌^
 ghost use Rattle.ped_tree.specs.Numbering.{statements_count};
 ghost use Rattle.ped_tree.specs.Tree as Tree;
 ghost use Rattle.ped_tree.specs.Views.{expr_tree, stmt_tree, stmt_trees, program_tree, head_of};
-ghost use Rattle.ped_loops.specs.ped_scalar.specs.ped_rules.specs.Rules.{WhereEscape};
+ghost use Rattle.ped_loops.specs.ped_scalar.specs.ped_rules.specs.Rules.{WhereEscape, has_private};
 ghost use Rattle.ped_loops.specs.ped_scalar.specs.ped_rules.specs.Steps.{Answers};
 ghost use Rattle.ped_loops.specs.ped_scalar.specs.ped_rules.specs.ped_loop_runs.specs.ped_tidy.specs.ped_pasting.specs.ped_bodies.specs.ped_steps.specs.Changes.{IsChange};
 ghost use Rattle.ped_loops.specs.ped_scalar.specs.ped_rules.specs.ped_loop_runs.specs.ped_tidy.specs.ped_pasting.specs.ped_bodies.specs.ped_steps.specs.Scenes.{IsSceneOf};
@@ -16,6 +16,7 @@ ghost use Rattle.ped_reindex.specs.CodePeeling.{IsNear, peeled_in};
 ghost use Rattle.ped_reindex.specs.Peeling as Spec;
 
 use crate::iterations::{Iteration, TakenOut, iteration_of};
+use crate::lists::has_list;
 use crate::settling::behind_comments;
 use ped_base::NoMemory;
 use ped_loops::ped_scalar::ped_rules::ped_loop_runs::ped_tidy::ped_pasting::ped_bodies::ped_steps::ped_sums::substitute_in_statements;
@@ -70,7 +71,7 @@ fn peel_in<L: Ledger>(
     if d.parallel {
         return Ok(Err(against(Rule::ParallelState, number)));
     }
-    if !d.private.is_empty() {
+    if has_list(d) {
         return Ok(Err(against(Rule::HasPrivate, number)));
     }
     if let Some(statement) = escapes(scene, number) {
@@ -90,7 +91,7 @@ fn peel_contained<L: Ledger>(
     requires scene { IsSceneOf (program_tree scene.now.tree.now) scene.now }
     requires is { IsLoop (program_tree scene.now.tree.now) number (head_of d.now) (stmt_trees d.now.body.items) }
     requires serial { (head_of d.now).parallel ≡ false }
-    requires shared { (head_of d.now).private ≡ [] }
+    requires shared { has_private (head_of d.now) (stmt_trees d.now.body.items) ≡ false }
     requires contained { (n : ℕ) → WhereEscape (program_tree scene.now.tree.now) number n → ⊥ }
     ensures { IfOk result (Answers (Spec.peeling number last) (program_tree scene.now.tree.now)) }
 {
@@ -119,7 +120,7 @@ fn peel_off<L: Ledger>(
     requires scene { IsSceneOf (program_tree scene.now.tree.now) scene.now }
     requires is { IsLoop (program_tree scene.now.tree.now) number (head_of d.now) (stmt_trees d.now.body.items) }
     requires serial { (head_of d.now).parallel ≡ false }
-    requires shared { (head_of d.now).private ≡ [] }
+    requires shared { has_private (head_of d.now) (stmt_trees d.now.body.items) ≡ false }
     requires contained { (n : ℕ) → WhereEscape (program_tree scene.now.tree.now) number n → ⊥ }
     requires taken { Spec.peeled_of last (table_of (program_tree scene.now.tree.now)).constants (head_of d.now) ≡ Some (peeled_in taken) }
     requires near { IsNear taken }

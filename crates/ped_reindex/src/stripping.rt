@@ -5,7 +5,7 @@ ghost use Rattle.ped_tree.specs.Numbering.{statements_count};
 ghost use Rattle.ped_tree.specs.Tree as Tree;
 ghost use Rattle.ped_tree.specs.Views.{expr_tree, stmt_tree, stmt_trees, do_tree, program_tree, head_of};
 ghost use Rattle.ped_loops.specs.ped_scalar.specs.ped_rules.specs.KeepMaps.{moved_by as MovedBy};
-ghost use Rattle.ped_loops.specs.ped_scalar.specs.ped_rules.specs.Rules.{WhereEscape, is_one, has_other_step};
+ghost use Rattle.ped_loops.specs.ped_scalar.specs.ped_rules.specs.Rules.{WhereEscape, has_private, is_one, has_other_step};
 ghost use Rattle.ped_loops.specs.ped_scalar.specs.ped_rules.specs.Steps.{Answers};
 ghost use Rattle.ped_loops.specs.ped_scalar.specs.ped_rules.specs.ped_loop_runs.specs.ped_tidy.specs.ped_pasting.specs.ped_bodies.specs.ped_steps.specs.Changes.{IsChange};
 ghost use Rattle.ped_loops.specs.ped_scalar.specs.ped_rules.specs.ped_loop_runs.specs.ped_tidy.specs.ped_pasting.specs.ped_bodies.specs.ped_steps.specs.Replacing as Replacing;
@@ -16,6 +16,7 @@ ghost use Rattle.ped_loops.specs.ped_scalar.specs.ped_rules.specs.ped_loop_runs.
 ghost use Rattle.ped_loops.specs.ped_scalar.specs.ped_rules.specs.ped_loop_runs.specs.ped_tidy.specs.ped_pasting.specs.ped_bodies.specs.ped_steps.specs.ped_symbols.specs.NameRefusals.{IsValid};
 ghost use Rattle.ped_reindex.specs.Stripping as Spec;
 
+use crate::lists::has_list;
 use crate::plain::is_plain;
 use ped_base::{Name, Names, NoMemory};
 use ped_loops::ped_scalar::ped_rules::ped_loop_runs::ped_tidy::ped_pasting::ped_bodies::ped_steps::ped_sums::plus;
@@ -71,7 +72,7 @@ fn strip_in<L: Ledger>(
     if d.parallel {
         return Ok(Err(against(Rule::ParallelState, number)));
     }
-    if !d.private.is_empty() {
+    if has_list(d) {
         return Ok(Err(against(Rule::HasPrivate, number)));
     }
     if let Some(statement) = escapes(scene, number) {
@@ -91,7 +92,7 @@ fn strip_contained<L: Ledger>(
     requires scene { IsSceneOf (program_tree scene.now.tree.now) scene.now }
     requires is { IsLoop (program_tree scene.now.tree.now) number (head_of d.now) (stmt_trees d.now.body.items) }
     requires serial { (head_of d.now).parallel ≡ false }
-    requires shared { (head_of d.now).private ≡ [] }
+    requires shared { has_private (head_of d.now) (stmt_trees d.now.body.items) ≡ false }
     requires contained { (n : ℕ) → WhereEscape (program_tree scene.now.tree.now) number n → ⊥ }
     ensures { IfOk result (Answers (Spec.stripping number size) (program_tree scene.now.tree.now)) }
 {
@@ -125,7 +126,7 @@ fn strip_by<L: Ledger>(
     requires scene { IsSceneOf (program_tree scene.now.tree.now) scene.now }
     requires is { IsLoop (program_tree scene.now.tree.now) number (head_of d.now) (stmt_trees d.now.body.items) }
     requires serial { (head_of d.now).parallel ≡ false }
-    requires shared { (head_of d.now).private ≡ [] }
+    requires shared { has_private (head_of d.now) (stmt_trees d.now.body.items) ≡ false }
     requires contained { (n : ℕ) → WhereEscape (program_tree scene.now.tree.now) number n → ⊥ }
     requires plain { IsPlain (table_of (program_tree scene.now.tree.now)).constants (program_tree scene.now.tree.now) number (head_of d.now).last }
     requires unit { has_other_step (table_of (program_tree scene.now.tree.now)).constants is_one (head_of d.now) (stmt_trees d.now.body.items) ≡ false }
@@ -154,7 +155,7 @@ fn strip_named<L: Ledger>(
     requires scene { IsSceneOf (program_tree scene.now.tree.now) scene.now }
     requires is { IsLoop (program_tree scene.now.tree.now) number (head_of d.now) (stmt_trees d.now.body.items) }
     requires serial { (head_of d.now).parallel ≡ false }
-    requires shared { (head_of d.now).private ≡ [] }
+    requires shared { has_private (head_of d.now) (stmt_trees d.now.body.items) ≡ false }
     requires contained { (n : ℕ) → WhereEscape (program_tree scene.now.tree.now) number n → ⊥ }
     requires plain { IsPlain (table_of (program_tree scene.now.tree.now)).constants (program_tree scene.now.tree.now) number (head_of d.now).last }
     requires unit { has_other_step (table_of (program_tree scene.now.tree.now)).constants is_one (head_of d.now) (stmt_trees d.now.body.items) ≡ false }

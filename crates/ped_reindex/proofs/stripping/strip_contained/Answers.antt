@@ -35,3 +35,48 @@ returns-then-not-branch g c =
     let body = stmt_trees c.args.d.now.body.items in
     refused s k t BoundNotPlain s c.against.result c.against.ensures
     (rules.plain_first s k t h body c.requires.is c.requires.serial c.requires.shared c.requires.contained (not_plain c.in_ok-is_plain.field-0 c.if-not-branch.true c.in_ok-is_plain.ensures))
+
+pub returns-then-not-has_step_one : goal.returns-then-not-has_step_one
+returns-then-not-has_step_one g c =
+    let t = program_tree c.args.scene.now.tree.now in
+    let s = c.args.number in
+    let k = c.args.size in
+    let h = head_of c.args.d.now in
+    let body = stmt_trees c.args.d.now.body.items in
+    let consts = c.consts.ensures ∙ ap (λ (table : Table). table.constants) c.requires.scene.symbols in
+    let plain = so_plain c.in_ok-is_plain.field-0 c.if-not-branch.false c.in_ok-is_plain.ensures in
+    let step = subst (λ (cs : List (List ℕ × ℤ)). has_other_step cs is_one h body ≡ true) consts (other c.has_step_one.result (has_other_step c.consts.result.now is_one h body) c.has_step_one.ensures c.if-not-has_step_one.true) in
+    refused s k t StepShape s c.against-then-not-has_step_one.result c.against-then-not-has_step_one.ensures
+    (rules.shape_first s k t h body c.requires.is c.requires.serial c.requires.shared c.requires.contained plain step)
+
+pub returns-then-is_bad_size : goal.returns-then-is_bad_size
+returns-then-is_bad_size g c =
+    let t = program_tree c.args.scene.now.tree.now in
+    let s = c.args.number in
+    let k = c.args.size in
+    let h = head_of c.args.d.now in
+    let body = stmt_trees c.args.d.now.body.items in
+    let consts = c.consts.ensures ∙ ap (λ (table : Table). table.constants) c.requires.scene.symbols in
+    let plain = so_plain c.in_ok-is_plain.field-0 c.if-not-branch.false c.in_ok-is_plain.ensures in
+    let step = subst (λ (cs : List (List ℕ × ℤ)). has_other_step cs is_one h body ≡ false) consts (unit c.has_step_one.result (has_other_step c.consts.result.now is_one h body) c.has_step_one.ensures c.if-not-has_step_one.false) in
+    refused s k t BadFactor s c.against-then-is_bad_size.result c.against-then-is_bad_size.ensures
+    (rules.size_first s k t h body c.requires.is c.requires.serial c.requires.shared c.requires.contained plain step (sym c.is_bad_size.ensures ∙ c.if-is_bad_size.true))
+
+pub strip_by-requires : goal.strip_by-requires
+strip_by-requires g c =
+    let t = program_tree c.args.scene.now.tree.now in
+    let s = c.args.number in
+    let k = c.args.size in
+    let h = head_of c.args.d.now in
+    let body = stmt_trees c.args.d.now.body.items in
+    let consts = c.consts.ensures ∙ ap (λ (table : Table). table.constants) c.requires.scene.symbols in
+    record {
+      scene = c.requires.scene;
+      is = c.requires.is;
+      serial = c.requires.serial;
+      shared = c.requires.shared;
+      contained = c.requires.contained;
+      plain = so_plain c.in_ok-is_plain.field-0 c.if-not-branch.false c.in_ok-is_plain.ensures;
+      unit = subst (λ (cs : List (List ℕ × ℤ)). has_other_step cs is_one h body ≡ false) consts (unit c.has_step_one.result (has_other_step c.consts.result.now is_one h body) c.has_step_one.ensures c.if-not-has_step_one.false);
+      good = sym c.is_bad_size.ensures ∙ c.if-is_bad_size.false;
+    }

@@ -17,7 +17,7 @@ use Rattle.ped_loops.specs.ped_scalar.specs.ped_rules.specs.ped_loop_runs.specs.
 abbrev pub is_bad_factor : ℤ → Bool
 is_bad_factor f = int_eq f (pos 0) || nat_lt 1000 (unsigned_abs f)
 
--- rule 16 of `skew`, whatever the DO is
+-- rule 16 of `skew`, whatever the DO is (this project)
 abbrev pub has_bad_factor : ℤ → Head → StmtTrees → Bool
 has_bad_factor f h body = is_bad_factor f
 

@@ -19,7 +19,7 @@ use Rattle.ped_loops.specs.ped_scalar.specs.ped_rules.specs.ped_loop_runs.specs.
 abbrev pub is_bad_size : ℤ → Bool
 is_bad_size k = int_lt k (pos 2) || int_lt (pos 1000) k
 
--- rule 16 of `strip`, whatever the DO is
+-- rule 16 of `strip`, whatever the DO is (this project)
 abbrev pub has_bad_size : ℤ → Head → StmtTrees → Bool
 has_bad_size k h body = is_bad_size k
 
@@ -55,7 +55,7 @@ MakesStripped s k t new keep = (w : List ℕ) × (strip_variable t ≡ Some w) �
 abbrev pub IsItsLimit : ProgramTree → (s : ℕ) → ℕ → ExprTree → Type 0
 IsItsLimit t s n e = (n ≡ s) × (l : LoopOf t s) × (e ≡ l.head.last)
 
--- a test of a name that may not be there: it fails then
+-- a test of a name that may not be there: it fails then (plain words)
 abbrev pub of_name : (List ℕ → Bool) → Option (List ℕ) → Bool
 of_name test None = false
 of_name test (Some w) = test w

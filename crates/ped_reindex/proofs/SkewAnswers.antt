@@ -1,5 +1,5 @@
 -- What `skew` answers, and the program that its code makes.
-use Rattle.std.proofs.Common.{◌≡◌, ℕ, ◌+◌, ◌==◌, ℤ, List, [], ◌∷◌, Bool, true, false, Option, Some, None, Ok, Err, refl, sym, ap, ◌∙◌, if◌then◌else◌}
+use Rattle.std.proofs.Common.{◌≡◌, ℕ, ◌+◌, ◌==◌, ℤ, List, [], ◌∷◌, Bool, true, false, Option, Some, None, Ok, Err, refl, sym, ap, ◌∙◌, arith, eqb-true, if◌then◌else◌}
 use Rattle.std.specs.Prelude.{is_none}
 use Rattle.ped_tree.specs.Numbering.{statement_count, statements_count}
 use Rattle.ped_tree.specs.Tree.{Head, StmtTree, StmtTrees, Assign, If, Do, Print, Read, Stop, Comment, no_stmts, more_stmts, ProgramTree}
@@ -34,17 +34,21 @@ pub skewed_program : (t : ProgramTree) (n : ℕ) (f : ℤ) (h : Head) (body : St
 skewed_program t n f h body g new is listed made =
     one_program (λ (s : StmtTree). stmt_trees new) (on_loop (with_skewed f)) n t (λ z e. ap stmt_trees listed ∙ made ∙ ap (on_loop (with_skewed f)) (same_statement (Do h body) z (sym is ∙ e)))
 
+-- a statement is counted
+counted : (m n : ℕ) → (m + 1 + n == 0) ≡ true → ⊥
+counted m n h = let e = eqb-true (m + 1 + n) 0 h in omega (arith, e)
+
 module _ (f : ℤ) (i : List ℕ) where
   -- comments stay
   comments_stay : (ss : StmtTrees) → (statements_count ss == 0) ≡ true → all_skewed f i ss ≡ ss
   comments_stay no_stmts h = refl
   comments_stay (more_stmts (Comment text) rest) h = ap (more_stmts (Comment text)) (comments_stay rest h)
-  comments_stay (more_stmts (Assign left right) rest) h = absurd cc
-  comments_stay (more_stmts (If c a b) rest) h = absurd cc
-  comments_stay (more_stmts (Do g body) rest) h = absurd cc
-  comments_stay (more_stmts (Print items) rest) h = absurd cc
-  comments_stay (more_stmts (Read items) rest) h = absurd cc
-  comments_stay (more_stmts Stop rest) h = absurd cc
+  comments_stay (more_stmts (Assign left right) rest) h = absurd (counted 0 (statements_count rest) h)
+  comments_stay (more_stmts (If c a b) rest) h = absurd (counted (statements_count a + statements_count b) (statements_count rest) h)
+  comments_stay (more_stmts (Do g body) rest) h = absurd (counted (statements_count body) (statements_count rest) h)
+  comments_stay (more_stmts (Print items) rest) h = absurd (counted 0 (statements_count rest) h)
+  comments_stay (more_stmts (Read items) rest) h = absurd (counted 0 (statements_count rest) h)
+  comments_stay (more_stmts Stop rest) h = absurd (counted 0 (statements_count rest) h)
 
   if_some : (b : Bool) (l : Head × StmtTrees) → is_none (if b then Some l else None) ≡ false → b ≡ true
   if_some true l h = refl

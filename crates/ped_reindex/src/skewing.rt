@@ -1,6 +1,6 @@
 //! `skew`: the variable of the inner of two DO loops runs by a multiple of the outer one's variable further.
 
-ghost use Rattle.std.specs.Prelude.{◌≡◌, ◌+◌, ◌<◌, ◌≤◌, ◌^◌, ℕ, [], ◌∷◌, ◌++◌, ◌||◌, true, false, Some, IfOk, MatchOption, length};
+ghost use Rattle.std.specs.Prelude.{◌≡◌, ◌+◌, ◌<◌, ◌≤◌, ◌^◌, ℕ, [], ◌∷◌, ◌++◌, ◌||◌, true, false, Some, IfOk, MatchOption, length, unsigned_abs};
 ghost use Rattle.ped_tree.specs.Numbering.{statements_count};
 ghost use Rattle.ped_tree.specs.Tree as Tree;
 ghost use Rattle.ped_tree.specs.Views.{expr_tree, stmt_tree, stmt_trees, do_tree, program_tree, head_of};
@@ -206,7 +206,17 @@ fn offset(alloc: Global, factor: i64, outer: Name) -> Result<Expr, NoMemory>
     ensures { IfOk result (λ e. expr_tree e ≡ Spec.offset factor outer) }
 {
     let variable = Expr::scalar(outer);
-    times(alloc, factor.unsigned_abs() as u32, &variable)
+    times(alloc, size_of(factor), &variable)
+}
+
+/// The size of the factor.
+fn size_of(factor: i64) -> u32
+    requires { Spec.is_bad_factor factor ≡ false }
+    ensures value { result ≡ unsigned_abs factor }
+    ensures least { 1 ≤ result }
+    ensures most { result ≤ 2147483647 }
+{
+    factor.unsigned_abs() as u32
 }
 
 /// What the inner variable was, by what it is now.

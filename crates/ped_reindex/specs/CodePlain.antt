@@ -1,5 +1,5 @@
 -- How the code finds whether a bound is plain: the same as a test. Contracts of private functions and lemmas alone speak of it (this project).
-use Rattle.std.specs.Prelude.{ℕ, List, [], ◌∷◌, Bool, true, false, not, ◌&&◌, ◌||◌, is_some}
+use Rattle.std.specs.Prelude.{ℕ, List, [], Bool, true, false, not, ◌&&◌, ◌||◌, is_some}
 use Rattle.ped_base.specs.Lists.{is_among}
 use Rattle.ped_tree.specs.Accesses.{constant_names}
 use Rattle.ped_tree.specs.Constants.ConstantExpressions.{constant_value}
@@ -14,8 +14,6 @@ use Rattle.ped_loops.specs.ped_scalar.specs.ped_rules.specs.ped_loop_runs.specs.
 use Rattle.ped_loops.specs.ped_scalar.specs.ped_rules.specs.ped_loop_runs.specs.ped_tidy.specs.ped_pasting.specs.ped_bodies.specs.ped_steps.specs.ped_flow.specs.Summaries.{sum_before_all}
 use Rattle.ped_loops.specs.ped_scalar.specs.ped_rules.specs.ped_loop_runs.specs.ped_tidy.specs.ped_pasting.specs.ped_bodies.specs.ped_steps.specs.ped_refs.specs.Loops.{nest_of}
 use Rattle.ped_loops.specs.ped_scalar.specs.ped_rules.specs.ped_loop_runs.specs.ped_tidy.specs.ped_pasting.specs.ped_bodies.specs.ped_steps.specs.ped_symbols.specs.Kinds.{table_of}
-use Rattle.ped_loops.specs.ped_scalar.specs.ped_rules.specs.ped_loop_runs.specs.ped_tidy.specs.ped_pasting.specs.ped_bodies.specs.ped_steps.specs.ped_refs.specs.declared.loops.Loop.{Loop as CodeLoop}
-use Rattle.ped_tree.specs.declared.statements.Do.{Do}
 use Rattle.ped_reindex.specs.declared.plain.Surroundings.{Surroundings}
 
 -- the expression is constant and doesn't fault
@@ -72,8 +70,3 @@ tree_round b = program_tree b.flow.now.program.now
 -- the scalars of which plain bounds may be built, as the code has it
 abbrev pub is_free_there : Surroundings → List ℕ → Bool
 is_free_there b = is_free_by (tree_round b) b.number (nest_of b.nest.now) b.setting.assigned.now b.setting.loop_variables.now
-
--- the outermost of these DO loops, or else this one
-abbrev pub outermost_of : Do → List CodeLoop → Do
-outermost_of d [] = d
-outermost_of d (l ∷ ls) = l.statement.now

@@ -1,14 +1,15 @@
 //! Plain bounds: those that come to the same wherever they are evaluated in an iteration of the DO loops round their DO.
 
 ghost use Rattle.std.specs.Prelude.{◌≡◌, ◌↔◌, ◌+◌, ◌<◌, ◌≤◌, ◌^◌, ◌&&◌, ◌||◌, [], map, length, is_some, IsTrue, IfOk};
-ghost use Rattle.ped_tree.specs.Numbering.{statements_count};
-ghost use Rattle.ped_tree.specs.Views.{expr_tree, pack_exprs, stmt_trees, program_tree, head_of};
+ghost use Rattle.ped_tree.specs.Names.Collecting.{with_names};
+ghost use Rattle.ped_tree.specs.Numbering.{statements_count, statement_with};
+ghost use Rattle.ped_tree.specs.Views.{expr_tree, pack_exprs, program_tree};
 ghost use Rattle.ped_loops.specs.ped_scalar.specs.ped_rules.specs.ped_loop_runs.specs.ped_tidy.specs.ped_pasting.specs.ped_bodies.specs.ped_steps.specs.Scenes.{IsSceneOf};
 ghost use Rattle.ped_loops.specs.ped_scalar.specs.ped_rules.specs.ped_loop_runs.specs.ped_tidy.specs.ped_pasting.specs.ped_bodies.specs.ped_steps.specs.ped_affine.specs.Arguments.{setting_of};
 ghost use Rattle.ped_loops.specs.ped_scalar.specs.ped_rules.specs.ped_loop_runs.specs.ped_tidy.specs.ped_pasting.specs.ped_bodies.specs.ped_steps.specs.ped_affine.specs.PairViews.{heads_of};
 ghost use Rattle.ped_loops.specs.ped_scalar.specs.ped_rules.specs.ped_loop_runs.specs.ped_tidy.specs.ped_pasting.specs.ped_bodies.specs.ped_steps.specs.ped_affine.specs.Ranges.{interval_of, around_with};
-ghost use Rattle.ped_loops.specs.ped_scalar.specs.ped_rules.specs.ped_loop_runs.specs.ped_tidy.specs.ped_pasting.specs.ped_bodies.specs.ped_steps.specs.ped_flow.specs.PlainBounds.{IsPlain};
-ghost use Rattle.ped_loops.specs.ped_scalar.specs.ped_rules.specs.ped_loop_runs.specs.ped_tidy.specs.ped_pasting.specs.ped_bodies.specs.ped_steps.specs.ped_flow.specs.Questions.{IsLoop};
+ghost use Rattle.ped_loops.specs.ped_scalar.specs.ped_rules.specs.ped_loop_runs.specs.ped_tidy.specs.ped_pasting.specs.ped_bodies.specs.ped_steps.specs.ped_flow.specs.PlainBounds as Plain;
+ghost use Rattle.ped_loops.specs.ped_scalar.specs.ped_rules.specs.ped_loop_runs.specs.ped_tidy.specs.ped_pasting.specs.ped_bodies.specs.ped_steps.specs.ped_flow.specs.Questions.{LoopOf};
 ghost use Rattle.ped_loops.specs.ped_scalar.specs.ped_rules.specs.ped_loop_runs.specs.ped_tidy.specs.ped_pasting.specs.ped_bodies.specs.ped_steps.specs.ped_refs.specs.Loops.{nest_of};
 ghost use Rattle.ped_loops.specs.ped_scalar.specs.ped_rules.specs.ped_loop_runs.specs.ped_tidy.specs.ped_pasting.specs.ped_bodies.specs.ped_steps.specs.ped_symbols.specs.Kinds.{table_of};
 ghost use Rattle.ped_reindex.specs.CodePlain as Spec;
@@ -24,7 +25,8 @@ use ped_loops::ped_scalar::ped_rules::ped_loop_runs::ped_tidy::ped_pasting::ped_
     Scene, loops_round,
 };
 use ped_tree::constants::constant;
-use ped_tree::{Do, Expr, Intrinsic};
+use ped_tree::names::NameSet;
+use ped_tree::{Expr, Intrinsic, Program};
 use std::alloc::Global;
 use std::sync::ledger::Ledger;
 
@@ -47,15 +49,14 @@ pub fn is_plain<L: Ledger>(
     alloc: Global,
     scene: &Scene<L>,
     number: u32,
-    d: &Do,
     bound: &Expr,
 ) -> Result<bool, NoMemory>
     requires scene { IsSceneOf (program_tree scene.now.tree.now) scene.now }
-    requires is { IsLoop (program_tree scene.now.tree.now) number (head_of d.now) (stmt_trees d.now.body.items) }
-    ensures { IfOk result (λ r. IsTrue r ↔ IsPlain (table_of (program_tree scene.now.tree.now)).constants (program_tree scene.now.tree.now) number (expr_tree bound.now)) }
+    requires is { LoopOf (program_tree scene.now.tree.now) number }
+    ensures { IfOk result (λ r. IsTrue r ↔ Plain.IsPlain (table_of (program_tree scene.now.tree.now)).constants (program_tree scene.now.tree.now) number (expr_tree bound.now)) }
 {
     let nest = loops_round(alloc, scene.tree, number)?;
-    let assigned = assigned(alloc, outermost(d, &nest))?;
+    let assigned = assigned_by(alloc, scene.tree, outermost_or(number, &nest))?;
     let variables = loop_variables(alloc, &scene.tree.body)?;
     let round = Surroundings {
         flow: scene.flow,
@@ -70,13 +71,28 @@ pub fn is_plain<L: Ledger>(
     Ok(is_plain_there(&round, bound))
 }
 
-/// The outermost of these DO loops, or else this one.
-fn outermost<'a>(d: &'a Do, nest: &[Loop<'a>]) -> &'a Do
-    ensures { result.now ≡ Spec.outermost_of d.now nest.now }
+/// The number of the outermost of these DO loops, or else this one.
+fn outermost_or(number: u32, nest: &[Loop]) -> u32
+    ensures { result ≡ Plain.outermost_or number (nest_of nest.now) }
 {
     match nest.first() {
-        Some(l) => l.statement,
-        None => d,
+        Some(l) => l.number,
+        None => number,
+    }
+}
+
+/// What the DO with this number assigns.
+fn assigned_by(alloc: Global, program: &Program, number: u32) -> Result<NameSet, NoMemory>
+    requires { LoopOf (program_tree program.now) number }
+    ensures { IfOk result (λ names. names ≡ with_names [] (Plain.assigned_by (statement_with number (program_tree program.now)))) }
+{
+    match loop_at(program, number) {
+        Some(d) => {
+            return assigned(alloc, d);
+        }
+        None => {
+            return Ok(NameSet::new(alloc));
+        }
     }
 }
 

@@ -96,7 +96,7 @@ fn strip_contained<L: Ledger>(
     requires contained { (n : ℕ) → WhereEscape (program_tree scene.now.tree.now) number n → ⊥ }
     ensures { IfOk result (Answers (Spec.stripping number size) (program_tree scene.now.tree.now)) }
 {
-    if !is_plain(alloc, scene, number, d, &d.last)? {
+    if !is_plain(alloc, scene, number, &d.last)? {
         return Ok(Err(against(Rule::BoundNotPlain, number)));
     }
     if !has_step_one(scene.symbols.consts(), d) {

@@ -22,7 +22,7 @@ use ped_loops::ped_scalar::ped_rules::ped_loop_runs::ped_tidy::ped_pasting::ped_
 };
 use ped_loops::ped_scalar::ped_rules::ped_loop_runs::ped_tidy::ped_pasting::ped_bodies::ped_steps::ped_weaves::ped_laws::ped_graph::ped_refs::Loop;
 use ped_loops::ped_scalar::ped_rules::ped_loop_runs::ped_tidy::ped_pasting::ped_bodies::ped_steps::{
-    Scene, loops_round,
+    Scene, loop_at, loops_round,
 };
 use ped_tree::constants::constant;
 use ped_tree::names::NameSet;

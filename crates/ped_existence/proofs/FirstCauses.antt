@@ -27,6 +27,8 @@ use Rattle.ped_answer.specs.ped_session.specs.ped_transformations.specs.ped_rein
 use Rattle.ped_answer.specs.ped_session.specs.ped_transformations.specs.ped_reindex.specs.ped_loops.specs.ped_scalar.specs.ped_rules.proofs.Decided.{valid_decided, loop_decided}
 use Rattle.ped_answer.specs.ped_session.specs.ped_transformations.specs.Table.{step_of}
 use Rattle.ped_answer.specs.ped_session.specs.ped_transformations.specs.ped_reindex.specs.ped_loops.proofs.Determined.{determined_parallel, determined_serial, determined_reversal, determined_rejection}
+use Rattle.ped_existence.proofs.ReindexCauses.{skew_cause, strip_cause, peel_cause}
+use Rattle.ped_answer.specs.ped_session.specs.ped_transformations.specs.ped_reindex.proofs.Determined.{determined_skew, determined_strip, determined_peel}
 use Rattle.ped_existence.proofs.LoopCauses.{parallel_cause, serial_cause, reversal_cause, rejection_cause}
 use Rattle.ped_existence.specs.Deciding.{Decided}
 use Rattle.ped_existence.proofs.LoopPaths.{exposed_or_live, lost}
@@ -135,9 +137,9 @@ each_goes (Expand number name) = λ t valid. expanding_goes t number name
 each_goes (Privatise number name) = λ t valid. privatising_goes t number name
 each_goes (Interchange number) = tt
 each_goes (Reverse number) = goes_by _ (determined_reversal number) (λ t. reversal_cause t number)
-each_goes (Skew number factor) = tt
-each_goes (Strip number size) = tt
-each_goes (Peel number last) = tt
+each_goes (Skew number factor) = goes_by _ (determined_skew number factor) (λ t. skew_cause t number factor)
+each_goes (Strip number size) = goes_by _ (determined_strip number size) (λ t. strip_cause t number size)
+each_goes (Peel number last) = goes_by _ (determined_peel number last) (λ t. peel_cause t number last)
 each_goes (Distribute number) = tt
 each_goes (Fuse number) = tt
 each_goes (Parallel number) = goes_by _ (determined_parallel number) (λ t. parallel_cause t number)

@@ -4,6 +4,7 @@
 #![tactic(auto)]
 
 mod iterations;
+mod laws;
 mod lists;
 mod peeling;
 mod plain;
@@ -11,6 +12,7 @@ mod settling;
 mod skewing;
 mod stripping;
 
+pub use laws::{peeling_is_lawful, skewing_is_lawful, stripping_is_lawful};
 pub use ped_loops;
 pub use peeling::peel;
 pub use plain::is_plain;

@@ -13,6 +13,7 @@ use ped_reindex::ped_loops::ped_scalar::ped_rules::ped_loop_runs::ped_tidy::ped_
 };
 use ped_reindex::ped_loops::ped_scalar::{expand, privatise};
 use ped_reindex::ped_loops::{make_parallel, make_serial, reject, reverse};
+use ped_reindex::{peel, skew, strip};
 use ped_script::Command;
 use std::alloc::Global;
 use std::sync::ledger::Ledger;
@@ -44,6 +45,9 @@ pub fn place_of(command: &Command) -> Option<Place>
         Command::Privatise(number, _) => Some(transformation(*number)),
         Command::Expand(number, _) => Some(transformation(*number)),
         Command::Reverse(number) => Some(transformation(*number)),
+        Command::Skew(number, _) => Some(transformation(*number)),
+        Command::Strip(number, _) => Some(transformation(*number)),
+        Command::Peel { statement, last: _ } => Some(transformation(*statement)),
         Command::Parallel(number) => Some(transformation(*number)),
         Command::Serial(number) => Some(transformation(*number)),
         Command::Reject(number, _) => Some(rejection(*number)),
@@ -92,6 +96,18 @@ pub fn answer<L: Ledger>(
         }
         Command::Reverse(number) => {
             let found = reverse(alloc, scene, *number)?;
+            return Ok(Some(found));
+        }
+        Command::Skew(number, factor) => {
+            let found = skew(alloc, scene, *number, *factor)?;
+            return Ok(Some(found));
+        }
+        Command::Strip(number, size) => {
+            let found = strip(alloc, scene, *number, *size)?;
+            return Ok(Some(found));
+        }
+        Command::Peel { statement, last } => {
+            let found = peel(alloc, scene, *statement, *last)?;
             return Ok(Some(found));
         }
         Command::Parallel(number) => {

@@ -1,6 +1,7 @@
 mod Contained
 mod Here
 mod Remainders
+mod Iterations
 mod Sizes
 mod Settled
 mod NestRooms

@@ -59,7 +59,7 @@ module _ (t : ProgramTree) (l : ℕ) where
   abbrev constants : Values
   constants = (table_of t).constants
 
-  before_is : (x : List ℕ) → IsTrue (is_assigned_before t l x) ↔ IsAssignedBefore t l x
+  pub before_is : (x : List ℕ) → IsTrue (is_assigned_before t l x) ↔ IsAssignedBefore t l x
   before_is x = before_answer t l x (sum_before_all (constant_names t.decls) x l t.body 1) (is_assigned_before t l x) refl refl
 
   free_to : (x : List ℕ) → is_free t l x ≡ true → IsTrue (is_among x (indices_of (nest_round t l))) ⊎ IsFixed constants t l x

@@ -27,7 +27,7 @@ same_by x r k d e less =
     none_times z = omega (arith, ints)
 
 -- the tests of order
-not_less : (a b : ℤ) → int_lt a b ≡ false → b ≤ℤ a
+pub not_less : (a b : ℤ) → int_lt a b ≡ false → b ≤ℤ a
 not_less a b h = omega (arith, linear, h)
 
 at_most : (a b : ℤ) → int_le a b ≡ true → a ≤ℤ b

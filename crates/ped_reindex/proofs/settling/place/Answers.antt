@@ -7,7 +7,7 @@ use Rattle.ped_reindex.proofs.settling.place.Goals as goal
 
 pub returns-then-not-is_empty-clause-body : goal.returns-then-not-is_empty-clause-body
 returns-then-not-is_empty-clause-body c rest =
-    ap (λ (xs : List Stmt). body_of (stmt_trees xs) rest) c.push.ensures.items
+    ap (λ (xs : List Stmt). body_of (stmt_trees xs) rest) c.in_ok-push.ensures.items
     ∙ body_pushed c.args.body.now.items c.args.statement rest
     (λ e. let none : length c.args.body.now.items ≡ 0 = ap (λ (xs : List Stmt). length xs) e in
     let said = c.is_empty.ensures in

@@ -6,6 +6,7 @@ mod Sizes
 mod Settled
 mod NestRooms
 pub mod PlainTests
+mod PlainScenes
 mod Answering
 pub mod SkewRules
 pub mod StripRules

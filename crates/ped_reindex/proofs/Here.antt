@@ -25,7 +25,7 @@ module _ (t : ProgramTree) (s : ℕ) where
   fails_by test none l = false_by (test l.head l.body) (λ holds. none s (l, holds, refl))
 
   module _ (h : Head) (body : StmtTrees) (is : IsLoop t s h body) where
-    pub here : LoopOf t s
+    abbrev pub here : LoopOf t s
     here = record { head = h; body = body; is = is }
 
     pub not_no_loop : (n : ℕ) → WhereNoLoop t s n → ⊥

@@ -94,8 +94,7 @@ fn skew_inner<L: Ledger>(
     requires only { Only.only_loop (stmt_trees d.now.body.items) ≡ Some (head_of inner.now, stmt_trees inner.now.body.items) }
     ensures { IfOk result (Answers (Spec.skewing number factor) (program_tree scene.now.tree.now)) }
 {
-    let parallel = d.parallel || inner.parallel;
-    if parallel {
+    if is_either_parallel(d, inner) {
         return Ok(Err(against(Rule::ParallelState, number)));
     }
     if let Some(statement) = escapes(scene, number) {
@@ -105,6 +104,13 @@ fn skew_inner<L: Ledger>(
         return Ok(Err(against(Rule::BadFactor, number)));
     }
     skew_by(alloc, scene, number, d, inner, factor)
+}
+
+/// Whether one of both DO loops is a PARALLEL DO.
+fn is_either_parallel(d: &Do, inner: &Do) -> bool
+    ensures { result ≡ ((head_of d.now).parallel || (head_of inner.now).parallel) }
+{
+    d.parallel || inner.parallel
 }
 
 /// Whether the factor isn't allowed.
@@ -166,7 +172,14 @@ fn skew_leaves<L: Ledger>(
     })?;
     let first = bound_leaves(alloc, scene, &nest, factor, d.variable, &inner.first)?;
     let last = bound_leaves(alloc, scene, &nest, factor, d.variable, &inner.last)?;
-    Ok(first || last)
+    Ok(either(first, last))
+}
+
+/// Whether one of both is so.
+fn either(first: bool, last: bool) -> bool
+    ensures { result ≡ (first || last) }
+{
+    first || last
 }
 
 /// Whether this bound, skewed, may leave 2^62 in these DO loops.

@@ -1,7 +1,7 @@
 mod Contained
 mod Here
 mod Remainders
-mod Iterations
+mod OneTaken
 mod Sizes
 mod Settled
 mod NestRooms

@@ -1,9 +1,12 @@
 use Rattle.std.proofs.Common.{◌≡◌, ℕ, ℤ, List, Bool, true, false, not, IsTrue, ◌↔◌, refl, sym, ap, ◌∙◌, subst}
+use Rattle.std.specs.Int.{w64}
+use Rattle.std.proofs.lemmas.Int.{to_z-of_z}
 use Rattle.ped_tree.specs.Views.{program_tree, stmt_trees, head_of}
 use Rattle.ped_loops.specs.ped_scalar.specs.ped_rules.specs.Rules.{is_one, has_other_step}
 use Rattle.ped_loops.specs.ped_scalar.specs.ped_rules.specs.ped_loop_runs.specs.ped_tidy.specs.ped_pasting.specs.ped_bodies.specs.ped_steps.specs.ped_flow.specs.PlainBounds.{IsPlain}
 use Rattle.ped_loops.specs.ped_scalar.specs.ped_rules.specs.ped_loop_runs.specs.ped_tidy.specs.ped_pasting.specs.ped_bodies.specs.ped_steps.specs.ped_symbols.specs.Kinds.{Table, table_of}
 use Rattle.ped_loops.specs.ped_scalar.specs.ped_rules.specs.ped_loop_runs.specs.ped_tidy.specs.ped_pasting.specs.ped_bodies.specs.ped_steps.specs.declared.rules.Rule.TheVariants.{BoundNotPlain, StepShape, BadFactor}
+use Rattle.ped_reindex.specs.Stripping.{is_bad_size}
 use Rattle.ped_reindex.proofs.StripRules as rules
 use Rattle.ped_reindex.proofs.StripAnswers.{refused}
 use Rattle.ped_reindex.proofs.stripping.strip_contained.Goals as goal
@@ -60,7 +63,7 @@ returns-then-is_bad_size g c =
     let plain = so_plain c.in_ok-is_plain.field-0 c.if-not-branch.false c.in_ok-is_plain.ensures in
     let step = subst (λ (cs : List (List ℕ × ℤ)). has_other_step cs is_one h body ≡ false) consts (unit c.has_step_one.result (has_other_step c.consts.result.now is_one h body) c.has_step_one.ensures c.if-not-has_step_one.false) in
     refused s k t BadFactor s c.against-then-is_bad_size.result c.against-then-is_bad_size.ensures
-    (rules.size_first s k t h body c.requires.is c.requires.serial c.requires.shared c.requires.contained plain step (sym c.is_bad_size.ensures ∙ c.if-is_bad_size.true))
+    (rules.size_first s k t h body c.requires.is c.requires.serial c.requires.shared c.requires.contained plain step (ap is_bad_size (sym (to_z-of_z w64 k c.ranges.size)) ∙ sym c.is_bad_size.ensures ∙ c.if-is_bad_size.true))
 
 pub strip_by-requires : goal.strip_by-requires
 strip_by-requires g c =
@@ -78,5 +81,5 @@ strip_by-requires g c =
       contained = c.requires.contained;
       plain = so_plain c.in_ok-is_plain.field-0 c.if-not-branch.false c.in_ok-is_plain.ensures;
       unit = subst (λ (cs : List (List ℕ × ℤ)). has_other_step cs is_one h body ≡ false) consts (unit c.has_step_one.result (has_other_step c.consts.result.now is_one h body) c.has_step_one.ensures c.if-not-has_step_one.false);
-      good = sym c.is_bad_size.ensures ∙ c.if-is_bad_size.false;
+      good = ap is_bad_size (sym (to_z-of_z w64 k c.ranges.size)) ∙ sym c.is_bad_size.ensures ∙ c.if-is_bad_size.false;
     }

@@ -1,4 +1,6 @@
-use Rattle.std.proofs.Common.{ℕ, List, Option, IfOk, MatchOption, ◌≡◌, subst, arith}
+use Rattle.std.proofs.Common.{ℕ, List, Option, IfOk, MatchOption, ◌≡◌, subst, arith, ℤ, ap, ◌∙◌}
+use Rattle.std.specs.Int.{w64}
+use Rattle.std.proofs.lemmas.Int.{to_z-of_z}
 use Rattle.ped_tree.specs.Tree.{ProgramTree}
 use Rattle.ped_tree.specs.Views.{program_tree}
 use Rattle.ped_loops.specs.ped_scalar.specs.ped_rules.specs.ped_loop_runs.specs.ped_tidy.specs.ped_pasting.specs.ped_bodies.specs.ped_steps.specs.ped_symbols.specs.NameRefusals.{IsValid}
@@ -18,4 +20,4 @@ pub returns : goal.returns
 returns g c =
     let u = stripped (program_tree c.args.scene.now.tree.now) c.args.number c.args.size c.args.name in
     subst (λ (k : List (ℕ × ℕ)). IfOk c.change_to.result (λ (found : Option Change). MatchOption found (IsValid u → ⊥) (IsChange u k))) c.in_ok-keep.ensures
-    (subst (λ (v : ProgramTree). IfOk c.change_to.result (λ (found : Option Change). MatchOption found (IsValid v → ⊥) (IsChange v c.in_ok-keep.keep))) c.in_ok-tree.ensures.tree c.change_to.ensures)
+    (subst (λ (v : ProgramTree). IfOk c.change_to.result (λ (found : Option Change). MatchOption found (IsValid v → ⊥) (IsChange v c.in_ok-keep.keep))) (c.in_ok-tree.ensures.tree ∙ ap (λ (z : ℤ). stripped (program_tree c.args.scene.now.tree.now) c.args.number z c.args.name) (to_z-of_z w64 c.args.size c.ranges.size)) c.change_to.ensures)

@@ -5,6 +5,7 @@ mod OneTaken
 mod Sizes
 mod Settled
 mod NestRooms
+mod KeptRooms
 pub mod PlainTests
 mod PlainScenes
 mod Answering

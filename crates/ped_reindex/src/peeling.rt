@@ -212,9 +212,8 @@ fn loop_first(alloc: Global, d: &Do, taken: TakenOut) -> Result<Vec<Stmt>, NoMem
 {
     let mut new = Vec::new(alloc);
     new.push(ending_at(alloc, d, taken.bound)?)?;
-    for statement in iteration(alloc, d, taken.value)? {
-        new.push(statement)?;
-    }
+    let mut behind = iteration(alloc, d, taken.value)?;
+    new.append(&mut behind)?;
     Ok(new)
 }
 

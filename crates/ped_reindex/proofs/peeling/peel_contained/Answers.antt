@@ -30,7 +30,7 @@ returns-in-Far g c =
     let body = stmt_trees c.args.d.now.body.items in
     let consts = c.consts.ensures ∙ ap (λ (table : Table). table.constants) c.requires.scene.symbols in
     let far = subst (λ (cs : List (List ℕ × ℤ)). IsFound (peeled_of k cs h) Far) consts c.in-Far.ensures in
-    refused s k t Range s c.against-in-Far.result c.against-in-Far.ensures
+    refused s k t Range s c.against.result c.against.ensures
     (rules.range_first s k t h body c.requires.is c.requires.serial c.requires.shared c.requires.contained far)
 
 pub returns-in-Unknown : goal.returns-in-Unknown

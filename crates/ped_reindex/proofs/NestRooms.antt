@@ -29,13 +29,13 @@ one_found a b e = cc
 -- a statement found in two lists stands in the first, where it stands so far to the front
 front_part : (xs ys : List StmtTree) (k : ℕ) → k < length xs → at_place (xs ++ ys) k ≡ at_place xs k
 front_part [] ys k h = absurd (omega (arith, h))
-front_part (x ∷ xs) ys k h = by (k == 0) refl
+front_part (x ∷ xs) ys k h = by (k == 0) refl (λ less. front_part xs ys (k - 1) less)
   where
-    by : (r : Bool) → (k == 0) ≡ r → (if k == 0 then Some x else at_place (xs ++ ys) (k - 1)) ≡ (if k == 0 then Some x else at_place xs (k - 1))
-    by true z = ap (λ (b : Bool). if b then Some x else at_place (xs ++ ys) (k - 1)) z ∙ sym (ap (λ (b : Bool). if b then Some x else at_place xs (k - 1)) z)
-    by false z =
+    by : (r : Bool) → (k == 0) ≡ r → (k - 1 < length xs → at_place (xs ++ ys) (k - 1) ≡ at_place xs (k - 1)) → (if k == 0 then Some x else at_place (xs ++ ys) (k - 1)) ≡ (if k == 0 then Some x else at_place xs (k - 1))
+    by true z more = ap (λ (b : Bool). if b then Some x else at_place (xs ++ ys) (k - 1)) z ∙ sym (ap (λ (b : Bool). if b then Some x else at_place xs (k - 1)) z)
+    by false z more =
         ap (λ (b : Bool). if b then Some x else at_place (xs ++ ys) (k - 1)) z
-        ∙ front_part xs ys (k - 1) (let n = not_first k z in omega (arith, h, n))
+        ∙ more (let n = not_first k z in omega (arith, h, n))
         ∙ sym (ap (λ (b : Bool). if b then Some x else at_place xs (k - 1)) z)
       where
         not_first : (j : ℕ) → (j == 0) ≡ false → 0 < j
@@ -59,39 +59,56 @@ module _ (l : ℕ) (h : Head) (b : StmtTrees) where
   abbrev Found : List StmtTree → ℕ → Type 0
   Found xs k = at_place xs k ≡ Some (Do h b)
 
+  -- the loops of these statements round the DO are fewer than their depth
+  abbrev Room : StmtTrees → Type 0
+  Room ss = (n : ℕ) → n ≤ l → Found (all_numbered ss) (l - n) → length (all_loops_round l ss n) + 1 ≤ loops_deep ss
+
+  single : (s : StmtTree) (k : ℕ) → Found (s ∷ []) k → (s ≡ Do h b → ⊥) → ⊥
+  single s k found other = by (k == 0) refl
+    where
+      by : (r : Bool) → (k == 0) ≡ r → ⊥
+      by true z = other (one_found s (Do h b) (sym (ap (λ (r : Bool). if r then Some s else None) z) ∙ found))
+      by false z = nothing_there (Do h b) (sym (ap (λ (r : Bool). if r then Some s else None) z) ∙ found)
+
+  not_here : (k : ℕ) → (k == 0) ≡ false → 0 < k
+  not_here k z = grind (arith, eqb-true)
+
+  at_first : (k : ℕ) → (k == 0) ≡ true → k ≡ 0
+  at_first k z = eqb-true k 0 z
+
   mutual
     room : (s : StmtTree) (n : ℕ) → n ≤ l → Found (numbered s) (l - n) → length (loops_round l s n) + 1 ≤ loop_depth s
     room (Assign left right) n le found = absurd (single (Assign left right) (l - n) found (λ e. absurd cc))
-    room (If c x y) n le found = by (l - n == 0) refl
+    room (If c x y) n le found = by (l - n == 0) refl (rooms x) (rooms y)
       where
-        by : (r : Bool) → (l - n == 0) ≡ r → length (loops_round l (If c x y) n) + 1 ≤ max (loops_deep x) (loops_deep y)
-        by true z = let same = one_found (If c x y) (Do h b) (sym (ap (λ (r : Bool). if r then Some (If c x y) else at_place (all_numbered x ++ all_numbered y) (l - n - 1)) z) ∙ found) in absurd cc
-        by false z =
+        by : (r : Bool) → (l - n == 0) ≡ r → Room x → Room y → length (loops_round l (If c x y) n) + 1 ≤ max (loops_deep x) (loops_deep y)
+        by true z first second = let same = one_found (If c x y) (Do h b) (sym (ap (λ (r : Bool). if r then Some (If c x y) else at_place (all_numbered x ++ all_numbered y) (l - n - 1)) z) ∙ found) in absurd cc
+        by false z first second =
             let inside : Found (all_numbered x ++ all_numbered y) (l - n - 1) = sym (ap (λ (r : Bool). if r then Some (If c x y) else at_place (all_numbered x ++ all_numbered y) (l - n - 1)) z) ∙ found in
             let some = not_here (l - n) z in
             dite (dec_le (n + 1 + statements_count x) l)
             (λ far.
             let at = length-all_numbered x in
             let there : Found (all_numbered y) (l - (n + 1 + statements_count x)) = sym (at_place-back (all_numbered x) (all_numbered y) (l - n - 1) (l - (n + 1 + statements_count x)) (omega (arith, far, at))) ∙ inside in
-            with_back (all_loops_round l x (n + 1)) (all_loops_round l y (n + 1 + statements_count x)) (loops_deep x) (loops_deep y) (all_none_before l x (n + 1) far) (rooms y (n + 1 + statements_count x) far there))
+            with_back (all_loops_round l x (n + 1)) (all_loops_round l y (n + 1 + statements_count x)) (loops_deep x) (loops_deep y) (all_none_before l x (n + 1) far) (second (n + 1 + statements_count x) far there))
             (λ near.
             let at = length-all_numbered x in
             let there : Found (all_numbered x) (l - (n + 1)) = ap (at_place (all_numbered x)) (omega (arith, some)) ∙ (sym (front_part (all_numbered x) (all_numbered y) (l - n - 1) (omega (arith, near, at, some))) ∙ inside) in
-            with_front (all_loops_round l x (n + 1)) (all_loops_round l y (n + 1 + statements_count x)) (loops_deep x) (loops_deep y) (rooms x (n + 1) (omega (arith, some)) there) (all_none_from l y (n + 1 + statements_count x) (omega (arith, near))))
-    room (Do g body) n le found = by (l - n == 0) refl
+            with_front (all_loops_round l x (n + 1)) (all_loops_round l y (n + 1 + statements_count x)) (loops_deep x) (loops_deep y) (first (n + 1) (omega (arith, some)) there) (all_none_from l y (n + 1 + statements_count x) (omega (arith, near))))
+    room (Do g body) n le found = by (l - n == 0) refl (rooms body)
       where
         first : Loop
         first = record { number = n; head = g }
 
-        by : (r : Bool) → (l - n == 0) ≡ r → length (loops_round l (Do g body) n) + 1 ≤ suc (loops_deep body)
-        by true z =
+        by : (r : Bool) → (l - n == 0) ≡ r → Room body → length (loops_round l (Do g body) n) + 1 ≤ suc (loops_deep body)
+        by true z within =
             let one = none_round l n (nat_le l (n + statements_count body)) first (all_loops_round l body (n + 1)) (let e = at_first (l - n) z in omega (arith, e, le)) in
             omega (arith, one)
-        by false z =
+        by false z within =
             let inside : Found (all_numbered body) (l - n - 1) = sym (ap (λ (r : Bool). if r then Some (Do g body) else at_place (all_numbered body) (l - n - 1)) z) ∙ found in
             let some = not_here (l - n) z in
             deeper (nat_lt n l && nat_le l (n + statements_count body)) first (all_loops_round l body (n + 1)) (loops_deep body)
-            (rooms body (n + 1) (omega (arith, some)) (ap (at_place (all_numbered body)) (omega (arith, some)) ∙ inside))
+            (within (n + 1) (omega (arith, some)) (ap (at_place (all_numbered body)) (omega (arith, some)) ∙ inside))
     room (Print items) n le found = absurd (single (Print items) (l - n) found (λ e. absurd cc))
     room (Read items) n le found = absurd (single (Read items) (l - n) found (λ e. absurd cc))
     room Stop n le found = absurd (single Stop (l - n) found (λ e. absurd cc))
@@ -109,19 +126,6 @@ module _ (l : ℕ) (h : Head) (b : StmtTrees) where
         let at = length-numbered s in
         let there : Found (numbered s) (l - n) = sym (front_part (numbered s) (all_numbered rest) (l - n) (omega (arith, near, at, le))) ∙ found in
         with_front (loops_round l s n) (all_loops_round l rest (n + statement_count s)) (loop_depth s) (loops_deep rest) (room s n le there) (all_none_from l rest (n + statement_count s) (omega (arith, near))))
-
-    single : (s : StmtTree) (k : ℕ) → Found (s ∷ []) k → (s ≡ Do h b → ⊥) → ⊥
-    single s k found other = by (k == 0) refl
-      where
-        by : (r : Bool) → (k == 0) ≡ r → ⊥
-        by true z = other (one_found s (Do h b) (sym (ap (λ (r : Bool). if r then Some s else None) z) ∙ found))
-        by false z = nothing_there (Do h b) (sym (ap (λ (r : Bool). if r then Some s else None) z) ∙ found)
-
-    not_here : (k : ℕ) → (k == 0) ≡ false → 0 < k
-    not_here k z = grind (arith, eqb-true)
-
-    at_first : (k : ℕ) → (k == 0) ≡ true → k ≡ 0
-    at_first k z = eqb-true k 0 z
 
 -- the loops round a DO, and the DO itself
 pub nest_room : (t : ProgramTree) (l : ℕ) (h : Head) (body : StmtTrees) → IsValid t → IsLoop t l h body → length (nest_round t l) + 1 ≤ 6

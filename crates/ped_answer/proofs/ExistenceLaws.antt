@@ -7,6 +7,7 @@ pub mod Edges
 pub mod Excluding
 pub mod Files
 mod LoopCauses
+mod InterchangeCauses
 mod FirstCauses
 mod LoopPaths
 mod Meeting

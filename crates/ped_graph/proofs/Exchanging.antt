@@ -1,6 +1,6 @@
 -- What the exchange of kept verdicts does, place by place.
-use Rattle.std.proofs.Common.{◌≡◌, ◌⊎◌, inl, inr, ℕ, zero, suc, ◌<◌, ◌≤◌, List, [], ◌∷◌, length, map, Option, Some, None, refl, ap, sym, ◌∙◌, subst, arith}
-use Rattle.std.specs.Prelude.{◌≢◌, slice_get, slice_set, slice_index_or, AllPairs, Bool, true, false, eqb, is_some}
+use Rattle.std.proofs.Common.{◌≡◌, ◌⊎◌, inl, inr, ℕ, suc, ◌<◌, List, [], ◌∷◌, length, map, Option, Some, None, refl, ap, sym, ◌∙◌, subst, arith}
+use Rattle.std.specs.Prelude.{◌≢◌, slice_get, slice_set, slice_index_or, Bool, true, false, eqb, is_some}
 use Rattle.std.specs.List.{AllByRecursion}
 use Rattle.std.proofs.lemmas.Bool.{eqb-true, eqb-false}
 use Rattle.ped_views.specs.Views.{View}
@@ -10,7 +10,7 @@ use Rattle.ped_graph.specs.CodeFacts.{views_in, AreWhole}
 use Rattle.ped_graph.specs.CodeParts.{exchanged}
 use Rattle.ped_graph.specs.Parts.{HeldParts, Stays, Fit, turned}
 use Rattle.ped_graph.specs.declared.parts.Kept.{Kept}
-use Rattle.ped_graph.proofs.Slices.{get_set_same, get_set_other, length_set, get_there, same_places, at_place, by_places, all_both, ascending_from_pairs, mapped_there, mapped_at, none_past, past, within, length_mapped, some_is}
+use Rattle.ped_graph.proofs.Slices.{get_set_same, get_set_other, length_set, get_there, same_places, at_place, all_both, ascending_from_pairs, mapped_there, mapped_at, none_past, past, within, length_mapped, some_is}
 
 abbrev pub Slots : Type 0
 Slots = List (Option View)

@@ -1,5 +1,5 @@
 -- The dependences that a graph holds of a program are the program's.
-use Rattle.std.proofs.Common.{◌≡◌, ℕ, zero, suc, ◌+◌, ◌<◌, ◌≤◌, List, [], ◌∷◌, ◌++◌, map, length, drop, refl, sym, ap, subst, ◌∙◌, Bool, true, false, Some, None, if◌then◌else◌, append_assoc, slice_get, arith}
+use Rattle.std.proofs.Common.{◌≡◌, ℕ, zero, suc, ◌+◌, ◌≤◌, List, [], ◌∷◌, ◌++◌, map, length, drop, refl, sym, ap, subst, ◌∙◌, Bool, true, false, Some, None, if◌then◌else◌, append_assoc, slice_get, arith}
 use Rattle.std.proofs.lemmas.List.{append-nil, drop_all}
 use Rattle.std.specs.List.{flat_map, range_with_len}
 use Rattle.ped_views.specs.declared.directions.Direction.{Direction}

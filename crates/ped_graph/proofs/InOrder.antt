@@ -1,6 +1,6 @@
 -- The keys of pairs ascend, so that a search finds the one pair with a key.
-use Rattle.std.proofs.Common.{◌≡◌, ◌⊎◌, inl, inr, ℕ, ◌<◌, ◌≤◌, ◌+◌, List, map, length, Option, Some, None, refl, ap, sym, ◌∙◌, subst, arith}
-use Rattle.std.specs.Prelude.{slice_get, slice_index_or, AllPairs}
+use Rattle.std.proofs.Common.{◌≡◌, ◌⊎◌, inl, inr, ℕ, ◌<◌, ◌≤◌, ◌+◌, List, map, length, Some, ap, sym, ◌∙◌, subst, arith}
+use Rattle.std.specs.Prelude.{slice_get, slice_index_or}
 use Rattle.std.proofs.lemmas.Option.{slice_get_within, get_or_from_slice_get}
 use Rattle.ped_tree.specs.Tree.{ProgramTree}
 use Rattle.ped_refs.specs.References.{references, pairs}

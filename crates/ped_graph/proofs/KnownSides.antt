@@ -1,5 +1,5 @@
 -- The references of a program as sides of their pairs, one by one.
-use Rattle.std.proofs.Common.{◌≡◌, ◌⊎◌, inl, inr, ℕ, zero, suc, List, [], ◌∷◌, ◌++◌, length, Option, Some, None, slice_get, refl, ap, sym, ◌∙◌, subst}
+use Rattle.std.proofs.Common.{◌≡◌, ◌⊎◌, inl, inr, ℕ, zero, suc, List, [], ◌∷◌, ◌++◌, length, Some, slice_get, refl, ap, sym, ◌∙◌, subst}
 use Rattle.ped_tree.specs.Tree.{ProgramTree}
 use Rattle.ped_refs.specs.References.{Reference, outermost}
 use Rattle.ped_graph.specs.declared.sides.Side.{Side}

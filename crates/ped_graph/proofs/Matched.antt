@@ -1,21 +1,21 @@
 -- What the pairs of a changed program keep and what they are tested for takes a graph to that of the program.
-use Rattle.std.proofs.Common.{◌≡◌, ◌⊎◌, inl, inr, ℕ, zero, suc, ◌+◌, ◌<◌, ◌≤◌, List, [], ◌∷◌, ◌++◌, length, map, drop, Bool, true, false, cond, Option, Some, None, refl, ap, sym, ◌∙◌, subst, append_assoc, append-nil, arith}
-use Rattle.std.specs.Prelude.{◌≢◌, slice_get, is_some, not, AllPairs}
-use Rattle.std.specs.List.{list_any, count_by, AllByRecursion}
+use Rattle.std.proofs.Common.{◌≡◌, ℕ, zero, suc, ◌+◌, ◌<◌, List, [], ◌∷◌, ◌++◌, length, Bool, true, cond, Option, Some, None, refl, ap, sym, ◌∙◌, arith}
+use Rattle.std.specs.Prelude.{◌≢◌, slice_get, is_some, not}
+use Rattle.std.specs.List.{count_by, AllByRecursion}
 use Rattle.std.proofs.lemmas.List.Recursion.{is_count_by}
 use Rattle.ped_views.specs.Views.{View}
 use Rattle.ped_views.specs.SameViews.{same_view}
 use Rattle.ped_views.proofs.SameViews.{same_view_decides}
 use Rattle.ped_refs.proofs.Ascending.{Ascending, all_told, all_joined, ascending_pairs}
-use Rattle.ped_graph.specs.Held.{Framed, Pair, Held, pair_by, pairs_by, held_pairs}
+use Rattle.ped_graph.specs.Held.{Framed, Pair, Held, pairs_by, held_pairs}
 use Rattle.ped_graph.specs.Keys.{AreInOrder}
-use Rattle.ped_graph.specs.Parts.{HeldParts, Stays, Fit}
+use Rattle.ped_graph.specs.Parts.{Stays, Fit}
 use Rattle.ped_graph.specs.Update.Fresh.{IsOneToOne, comes_from, is_fresh}
-use Rattle.ped_graph.specs.Update.Matching.{place_from, origin, slot_by, kept_by, slots_for, kept_from, parts_for}
+use Rattle.ped_graph.specs.Update.Matching.{origin, slot_by, kept_by, slots_for, kept_from, parts_for}
 use Rattle.ped_graph.specs.declared.parts.Kept.{Kept}
-use Rattle.ped_graph.proofs.Slices.{some_is, at_place, mapped_there, mapped_at, length_mapped, all_both}
+use Rattle.ped_graph.proofs.Slices.{some_is, mapped_there, mapped_at, length_mapped, all_both}
 use Rattle.ped_graph.proofs.InOrder.{one_place}
-use Rattle.ped_graph.proofs.Matching.{found_at, fresh_is, pair_there, there_pair, comes_key, one_key}
+use Rattle.ped_graph.proofs.Matching.{found_at, fresh_is, pair_there, comes_key, one_key}
 
 -- as many pairs with their views as views
 pub as_many_pairs : (fs : List Framed) (vs : List View) → length vs ≡ length fs → length (pairs_by fs vs) ≡ length vs

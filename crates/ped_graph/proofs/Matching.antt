@@ -1,6 +1,6 @@
 -- Where the pairs of a changed program come from.
-use Rattle.std.proofs.Common.{◌≡◌, ◌⊎◌, inl, inr, ℕ, zero, suc, ◌+◌, ◌<◌, List, [], ◌∷◌, length, map, Bool, true, false, ◌&&◌, eqb, Option, Some, None, refl, ap, sym, ◌∙◌, subst, arith}
-use Rattle.std.specs.Prelude.{◌≢◌, ◌||◌, ◌==◌, if◌then◌else◌, slice_get, is_some, not, AllPairs}
+use Rattle.std.proofs.Common.{◌≡◌, ℕ, zero, suc, ◌+◌, List, [], ◌∷◌, map, Bool, true, false, ◌&&◌, eqb, Option, Some, None, refl, ap, sym, ◌∙◌, arith}
+use Rattle.std.specs.Prelude.{◌≢◌, ◌||◌, ◌==◌, if◌then◌else◌, slice_get, is_some}
 use Rattle.std.specs.List.{list_any, AllByRecursion}
 use Rattle.std.specs.Option.{option_or}
 use Rattle.std.proofs.lemmas.Bool.{eqb-true, eqb-false}
@@ -10,7 +10,7 @@ use Rattle.ped_refs.specs.TextPlaces.{Key}
 use Rattle.ped_refs.proofs.Ascending.{Ascending, all_told}
 use Rattle.ped_graph.specs.Held.{Framed, Pair, Held, pair_by, pairs_by, held_pairs}
 use Rattle.ped_graph.specs.Keys.{key_of, IsOnlyAt}
-use Rattle.ped_graph.specs.Update.Fresh.{IsOneToOne, keeps, keeps_place, comes_from, is_fresh}
+use Rattle.ped_graph.specs.Update.Fresh.{IsOneToOne, keeps, keeps_place, comes_from}
 use Rattle.ped_graph.specs.Update.Matching.{former_in, with_number, both_places, former_key, place_from, origin}
 use Rattle.ped_graph.proofs.Slices.{ascending_from_pairs, some_is, at_place, mapped_at, mapped_there}
 

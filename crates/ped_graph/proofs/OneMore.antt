@@ -1,21 +1,20 @@
 -- One more pair of a changed program is matched.
-use Rattle.std.proofs.Common.{◌≡◌, ◌⊎◌, inl, inr, ℕ, zero, suc, ◌+◌, ◌<◌, ◌≤◌, List, [], ◌∷◌, ◌++◌, length, map, take, drop, Bool, true, false, cond, Option, Some, None, slice_get, refl, ap, sym, ◌∙◌, subst, add-one, append-nil, arith}
+use Rattle.std.proofs.Common.{◌≡◌, ℕ, zero, suc, ◌+◌, ◌<◌, ◌≤◌, List, [], ◌∷◌, ◌++◌, length, map, take, drop, Bool, false, cond, Option, Some, None, slice_get, refl, ap, sym, ◌∙◌, add-one, append-nil, arith}
 use Rattle.std.specs.Prelude.{is_some, not, if◌then◌else◌, MatchOption, IfSome, OnOk, Result, Ok, Err}
 use Rattle.std.specs.List.{count_by}
 use Rattle.std.proofs.lemmas.List.{length-take-le}
 use Rattle.ped_views.specs.Views.{View}
 use Rattle.ped_views.specs.SameViews.{same_view}
 use Rattle.ped_refs.specs.TextPlaces.{Key}
-use Rattle.ped_graph.specs.Held.{Framed, HeldFrame, Pair, Held, pair_by, pairs_by, held_pairs}
+use Rattle.ped_graph.specs.Held.{Framed, HeldFrame, Pair, Held, pair_by, pairs_by}
 use Rattle.ped_graph.specs.Keys.{key_of, IsOnlyAt}
 use Rattle.ped_graph.specs.Parts.{HeldParts}
 use Rattle.ped_graph.specs.Update.Fresh.{IsOneToOne, is_fresh, fresh_pairs}
 use Rattle.ped_graph.specs.Update.Matching.{former_in, former_key, origin, slot_by, kept_by, slots_for, kept_from, parts_for, IsPlace, IsMatched, KeepsVerdict, AddsVerdict, tests}
-use Rattle.ped_graph.specs.declared.parts.Kept.{Kept}
 use Rattle.ped_graph.proofs.Slices.{within, length_mapped, mapped_at, some_is}
-use Rattle.ped_graph.proofs.Matching.{no_key, no_pair, one_pair}
+use Rattle.ped_graph.proofs.Matching.{no_pair, one_pair}
 use Rattle.ped_graph.proofs.Matched.{fresh_by, same_told}
-use Rattle.ped_graph.proofs.Yielded.{no_pairs, step_slots, step_kept, step_steps, count_front, take_next}
+use Rattle.ped_graph.proofs.Yielded.{step_slots, step_kept, step_steps, count_front, take_next}
 
 -- the item at the front of what is left
 pub front_there : {X : Type 0} (xs : List X) (i : ℕ) (x : X) (rest : List X) → drop i xs ≡ x ∷ rest → slice_get xs i ≡ Some x

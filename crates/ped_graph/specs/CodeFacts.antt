@@ -1,8 +1,7 @@
 -- What the code keeps of a pair of references: what is known without a test, and its verdict (this project).
-use Rattle.std.specs.Prelude.{◌≡◌, ℕ, List, [], ◌∷◌, map, length, Option, Some, None}
+use Rattle.std.specs.Prelude.{◌≡◌, List, [], ◌∷◌, map, length, Option, Some, None}
 use Rattle.ped_views.specs.Views.{View}
 use Rattle.ped_refs.specs.Occurrences.{name_text}
-use Rattle.ped_refs.specs.TextPlaces.{Key, IsKeyBefore}
 use Rattle.ped_edges.specs.CodeEdges.{kind_of}
 use Rattle.ped_graph.specs.Held.{Framed, HeldFrame, Pair, pair_by}
 use Rattle.ped_graph.specs.declared.facts.Facts.{Facts as CodeFacts}

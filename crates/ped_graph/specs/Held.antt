@@ -8,7 +8,7 @@ use Rattle.ped_tree.specs.Tree.{ProgramTree}
 use Rattle.ped_tree.specs.Nests.{common_nest}
 use Rattle.ped_tree.specs.Numbering.{all_numbered, statement_count}
 use Rattle.ped_refs.specs.References.{Reference, comes_before, references, pairs}
-use Rattle.ped_edges.specs.Edges.{Kind, Mark, Edge}
+use Rattle.ped_edges.specs.Edges.{Kind, Edge}
 use Rattle.ped_graph.specs.Owners.{have_same_owner, owner_level, within_iteration}
 use Rattle.ped_graph.specs.Marks.{mark_by, is_firm, is_telling, is_rejected}
 use Rattle.ped_graph.specs.Dependences.{Facts, facts_of, kind_of, place_of, view_of, vectors_of, distances_of}

@@ -1,5 +1,5 @@
 -- What the editor knows of a dependence: proven, rejected by the user, or pending (ParaScope; this project).
-use Rattle.std.specs.Prelude.{ℕ, ℤ, pos, ◌+ℤ◌, ◌-◌, List, [], ◌∷◌, length, unsigned_abs, int_le, Bool, true, false, ◌&&◌, not, Option, Some, None, slice_get, if◌then◌else◌}
+use Rattle.std.specs.Prelude.{ℕ, ℤ, pos, ◌+ℤ◌, ◌-◌, List, unsigned_abs, int_le, Bool, true, false, ◌&&◌, not, Option, Some, None, slice_get}
 use Rattle.std.specs.List.{list_all}
 use Rattle.ped_base.specs.Lists.{is_among}
 use Rattle.ped_views.specs.Views.{Range, View}

@@ -1,19 +1,22 @@
 -- What each step comes to is determined, whatever it keeps of the meaning.
-use Rattle.std.proofs.Common.{ℕ, List, true, false, refl}
+use Rattle.std.proofs.Common.{ℕ, ◌+◌, List, true, false, refl}
 use Rattle.ped_scalar.specs.ped_rules.specs.ped_loop_runs.specs.ped_tidy.specs.ped_pasting.specs.ped_bodies.specs.ped_steps.specs.Causes.{none_forbids}
 use Rattle.ped_scalar.specs.ped_rules.specs.ped_loop_runs.specs.ped_tidy.specs.ped_pasting.specs.ped_bodies.specs.ped_steps.specs.Replacing.{all_kept}
 use Rattle.ped_scalar.specs.ped_rules.specs.ped_loop_runs.specs.ped_tidy.specs.ped_pasting.specs.ped_bodies.specs.ped_steps.proofs.OneCause.{one_cause}
-use Rattle.ped_scalar.specs.ped_rules.specs.Carried.{carried}
+use Rattle.ped_scalar.specs.ped_rules.specs.Carried.{carried, crossing}
+use Rattle.ped_scalar.specs.ped_rules.specs.KeepMaps.{all_but}
 use Rattle.ped_scalar.specs.ped_rules.specs.Rules.{is_parallel, is_serial}
 use Rattle.ped_scalar.specs.ped_rules.specs.Lawful.{IsDetermined}
 use Rattle.ped_loops.specs.Flags.{flagged}
 use Rattle.ped_loops.specs.Paralleling.{StandsAgainstParallel, paralleling}
 use Rattle.ped_loops.specs.Serialising.{StandsAgainstSerial, serialising}
 use Rattle.ped_loops.specs.Reversing.{reversed, StandsAgainstReversal, reversing}
-use Rattle.ped_loops.specs.Rejecting.{with_directive, StandsAgainstRejection, rejecting}
+use Rattle.ped_loops.specs.Interchanging.{interchanged, StandsAgainstInterchange, interchanging}
+use Rattle.ped_loops.specs.Rejecting.{rejecting}
 use Rattle.ped_loops.proofs.FlagRules as flags
 use Rattle.ped_loops.proofs.ReverseRules as reversal
 use Rattle.ped_loops.proofs.RejectRules as rejection
+use Rattle.ped_loops.proofs.InterchangeRules as interchange
 
 pub determined_parallel : (s : ℕ) → IsDetermined (paralleling s)
 determined_parallel s = record {
@@ -34,6 +37,13 @@ determined_reversal s = record {
   one_cause = λ t c d p q. one_cause t (StandsAgainstReversal s t) (carried t s) (reversal.chain s t).one c d p q;
   one_made = reversal.one_made s;
   some_made = λ t valid none. (reversed t s, all_kept t, (refl, refl), reversal.is_valid s t none.0);
+}
+
+pub determined_interchange : (s : ℕ) → IsDetermined (interchanging s)
+determined_interchange s = record {
+  one_cause = λ t c d p q. one_cause t (StandsAgainstInterchange s t) (crossing t s) (interchange.chain s t).one c d p q;
+  one_made = interchange.one_made s;
+  some_made = λ t valid none. (interchanged t s, all_but s (s + 1) t, (refl, refl), interchange.is_valid s t none.0);
 }
 
 pub determined_rejection : (s : ℕ) (x : List ℕ) → IsDetermined (rejecting s x)

@@ -1,11 +1,10 @@
 -- From what the code of `parallel` and `serial` finds to what it answers.
-use Rattle.std.proofs.Common.{◌≡◌, ℕ, List, [], ◌∷◌, ◌<◌, Bool, true, false, Some, None, Ok, Err, Option, MatchOption, refl, sym, ap, ◌∙◌, subst}
+use Rattle.std.proofs.Common.{◌≡◌, ℕ, List, [], ◌∷◌, Bool, true, false, Some, None, Ok, Err, Option, MatchOption, refl, sym, ap, ◌∙◌, subst}
 use Rattle.ped_tree.specs.Tree.{Head, StmtTree, StmtTrees, Do, ProgramTree}
 use Rattle.ped_tree.specs.Views.{stmt_tree, stmt_trees}
 use Rattle.ped_tree.specs.declared.statements.Stmt.{Stmt}
 use Rattle.ped_scalar.specs.ped_rules.specs.Carried.{carried, IsFirstOf}
 use Rattle.ped_scalar.specs.ped_rules.specs.OnlyLoops.{on_loop}
-use Rattle.ped_scalar.specs.ped_rules.specs.Rules.{is_parallel, is_serial, WhereEscape}
 use Rattle.ped_scalar.specs.ped_rules.specs.Steps.{transformation, Answers}
 use Rattle.ped_scalar.specs.ped_rules.proofs.Answering.{refused_by, forbidden_by, accepted_by, none_first}
 use Rattle.ped_scalar.specs.ped_rules.specs.ped_loop_runs.specs.ped_tidy.specs.ped_pasting.specs.ped_bodies.specs.ped_steps.specs.declared.rules.Rule.{Rule}

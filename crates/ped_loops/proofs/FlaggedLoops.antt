@@ -1,36 +1,26 @@
 -- A DO that becomes a PARALLEL DO, or ceases to be one: it gives way one for one, and a program that may be trusted stays so.
-use Rattle.std.proofs.Common.{◌≡◌, ◌⊎◌, ℕ, ◌+◌, List, [], ◌∷◌, ◌++◌, Bool, true, false, ◌&&◌, ◌||◌, not, Option, Some, Ok, refl, sym, ap, ◌∙◌, subst, inl, inr, arith, append-nil}
-use Rattle.std.specs.Prelude.{IsTrue}
+use Rattle.std.proofs.Common.{◌≡◌, ℕ, List, [], ◌∷◌, Bool, true, false, ◌&&◌, ◌||◌, Some, Ok, refl, sym, ap, ◌∙◌, subst, inl, inr}
 use Rattle.std.specs.List.{list_any}
 use Rattle.std.proofs.lemmas.Bool.{both_ways}
 use Rattle.ped_base.specs.Lists.{is_same_text, is_among}
-use Rattle.ped_base.proofs.NameEquality.{same_is, same_itself}
-use Rattle.ped_tree.specs.Tree.{Head, StmtTree, StmtTrees, Do, no_stmts, ProgramTree}
-use Rattle.ped_tree.specs.Views.{stmt_tree, stmt_trees}
-use Rattle.ped_tree.specs.declared.statements.Stmt.{Stmt}
+use Rattle.ped_base.proofs.NameEquality.{same_itself}
+use Rattle.ped_tree.specs.Tree.{Head, StmtTree, StmtTrees, Do, ProgramTree}
 use Rattle.ped_tree.specs.NamesIn.{loop_variables, all_loop_variables}
-use Rattle.ped_tree.specs.Numbering.{statement_with, statements_count}
 use Rattle.ped_tree.specs.Accesses.{constant_names}
 use Rattle.ped_scalar.specs.ped_rules.specs.ped_loop_runs.specs.ped_tidy.specs.ped_pasting.specs.ped_bodies.specs.ped_steps.specs.ped_laws.specs.ped_graph.specs.Dependences.{AreEdges}
 use Rattle.ped_scalar.specs.ped_rules.specs.ped_loop_runs.specs.ped_tidy.specs.ped_pasting.specs.ped_bodies.specs.ped_steps.specs.ped_laws.specs.ped_graph.specs.ped_edges.specs.Edges.{Edge}
-use Rattle.ped_scalar.specs.ped_rules.specs.ped_loop_runs.specs.ped_tidy.specs.ped_pasting.specs.ped_bodies.specs.ped_steps.specs.ped_laws.specs.FlowRuns.Covering.{some_stop}
 use Rattle.ped_scalar.specs.ped_rules.specs.ped_loop_runs.specs.ped_tidy.specs.ped_pasting.specs.ped_bodies.specs.ped_steps.specs.ped_laws.specs.ped_eval.specs.Loops.{Limits, limits}
 use Rattle.ped_scalar.specs.ped_rules.specs.ped_loop_runs.specs.ped_tidy.specs.ped_pasting.specs.ped_bodies.specs.ped_steps.specs.ped_laws.specs.ped_eval.specs.Scopes.{Scope, names_in}
 use Rattle.ped_scalar.specs.ped_rules.specs.ped_loop_runs.specs.ped_tidy.specs.ped_pasting.specs.ped_bodies.specs.ped_steps.specs.ped_laws.specs.ped_eval.specs.Outcomes.{setting_of}
 use Rattle.ped_scalar.specs.ped_rules.specs.ped_loop_runs.specs.ped_tidy.specs.ped_pasting.specs.ped_bodies.specs.ped_steps.specs.ped_laws.specs.ped_store.specs.Stores.{Store}
-use Rattle.ped_scalar.specs.ped_rules.specs.ped_loop_runs.specs.ped_tidy.specs.ped_pasting.specs.ped_bodies.specs.ped_steps.specs.ped_laws.proofs.FlowRunLaws.Stopping.{fitting_stops, loop_stops}
 use Rattle.ped_scalar.specs.ped_rules.specs.ped_loop_runs.specs.ped_tidy.specs.ped_pasting.specs.ped_bodies.specs.ped_steps.specs.ped_symbols.specs.Kinds.{kind_in}
 use Rattle.ped_scalar.specs.ped_rules.specs.ped_loop_runs.specs.ped_tidy.specs.ped_pasting.specs.ped_bodies.specs.ped_steps.specs.ped_symbols.specs.NameRefusals.{IsValid}
-use Rattle.ped_scalar.specs.ped_rules.specs.ped_loop_runs.specs.ped_tidy.specs.ped_pasting.specs.ped_bodies.specs.ped_steps.specs.ped_flow.specs.Questions.{IsLoop, LoopOf, IsContained, IsShownBehind}
-use Rattle.ped_scalar.specs.ped_rules.specs.ped_loop_runs.specs.ped_tidy.specs.ped_pasting.specs.ped_bodies.specs.ped_steps.specs.ped_flow.specs.Summaries.{sum_of, sum_of_all}
-use Rattle.ped_scalar.specs.ped_rules.specs.ped_loop_runs.specs.ped_tidy.specs.ped_pasting.specs.ped_bodies.specs.ped_steps.specs.ped_flow.proofs.Truths.{untrue, or_none, or_split}
-use Rattle.ped_scalar.specs.ped_rules.specs.ped_loop_runs.specs.ped_tidy.specs.ped_pasting.specs.ped_bodies.specs.ped_steps.specs.Replacing.{alone, followed, program_with}
-use Rattle.ped_scalar.specs.ped_rules.specs.ped_loop_runs.specs.ped_tidy.specs.ped_pasting.specs.ped_bodies.specs.ped_steps.specs.Runs.Gaps.{filled, number_at}
+use Rattle.ped_scalar.specs.ped_rules.specs.ped_loop_runs.specs.ped_tidy.specs.ped_pasting.specs.ped_bodies.specs.ped_steps.specs.ped_flow.specs.Questions.{LoopOf, IsContained}
+use Rattle.ped_scalar.specs.ped_rules.specs.ped_loop_runs.specs.ped_tidy.specs.ped_pasting.specs.ped_bodies.specs.ped_steps.specs.ped_flow.proofs.Truths.{or_none}
+use Rattle.ped_scalar.specs.ped_rules.specs.ped_loop_runs.specs.ped_tidy.specs.ped_pasting.specs.ped_bodies.specs.ped_steps.specs.Replacing.{alone, program_with}
 use Rattle.ped_scalar.specs.ped_rules.specs.ped_loop_runs.specs.ped_tidy.specs.ped_pasting.specs.ped_bodies.specs.ped_steps.specs.Tidy.{is_written_in}
 use Rattle.ped_scalar.specs.ped_rules.specs.ped_loop_runs.specs.ped_tidy.specs.ped_pasting.specs.ped_bodies.specs.ped_steps.proofs.OnePlace.{one_program}
-use Rattle.ped_scalar.specs.ped_rules.specs.ped_loop_runs.specs.ped_tidy.specs.ped_pasting.specs.ped_bodies.specs.ped_steps.proofs.RunLaws.ReplacedTrees.{HasGap, program_gap}
-use Rattle.ped_scalar.specs.ped_rules.specs.ped_loop_runs.specs.ped_tidy.specs.Unrejected.{some_rejection, IsTrusted}
-use Rattle.ped_scalar.specs.ped_rules.specs.ped_loop_runs.specs.ped_tidy.specs.Exchanges.{Exchange, old_of, start_of, loop_of, IsExchanged, LeavesAlone}
+use Rattle.ped_scalar.specs.ped_rules.specs.ped_loop_runs.specs.ped_tidy.specs.Unrejected.{IsTrusted}
 use Rattle.ped_scalar.specs.ped_rules.specs.ped_loop_runs.specs.ped_tidy.specs.Writing.{all_write, some_write_index}
 use Rattle.ped_scalar.specs.ped_rules.specs.ped_loop_runs.specs.ped_tidy.proofs.TidyReferences.{written_is}
 use Rattle.ped_scalar.specs.ped_rules.specs.OnlyLoops.{on_loop}

@@ -1,19 +1,16 @@
 -- `parallel` and `serial` are lawful.
-use Rattle.std.proofs.Common.{[], ◌≡◌, ◌⊎◌, ℕ, ◌+◌, List, ◌∷◌, length, All, Bool, true, false, ◌&&◌, not, Option, Some, None, refl, sym, ap, ◌∙◌, subst, inl, inr, nat_le}
-use Rattle.std.specs.Prelude.{nat_lt}
-use Rattle.std.proofs.lemmas.Bool.{and_parts, both_ways}
+use Rattle.std.proofs.Common.{[], ◌≡◌, ℕ, List, ◌∷◌, All, Bool, true, false, ◌&&◌, not, Option, Some, None, refl, sym, ap, ◌∙◌, subst, inl, inr}
+use Rattle.std.proofs.lemmas.Bool.{both_ways}
 use Rattle.std.proofs.lemmas.List.Elements.{All-head, All-tail}
 use Rattle.ped_base.specs.Lists.{is_among}
-use Rattle.ped_tree.specs.Tree.{Head, StmtTrees, Do, ProgramTree}
+use Rattle.ped_tree.specs.Tree.{Head, Do, ProgramTree}
 use Rattle.ped_tree.specs.NamesIn.{loop_variables}
-use Rattle.ped_tree.specs.Numbering.{statements_count}
 use Rattle.ped_scalar.specs.ped_rules.specs.ped_loop_runs.specs.ped_tidy.specs.ped_pasting.specs.ped_bodies.specs.ped_steps.specs.ped_laws.specs.Acts.Orders.{IsIn}
 use Rattle.ped_scalar.specs.ped_rules.specs.ped_loop_runs.specs.ped_tidy.specs.ped_pasting.specs.ped_bodies.specs.ped_steps.specs.ped_laws.specs.ped_graph.specs.Dependences.{AreEdges}
 use Rattle.ped_scalar.specs.ped_rules.specs.ped_loop_runs.specs.ped_tidy.specs.ped_pasting.specs.ped_bodies.specs.ped_steps.specs.ped_laws.specs.ped_graph.specs.DependencePane as pane
 use Rattle.ped_scalar.specs.ped_rules.specs.ped_loop_runs.specs.ped_tidy.specs.ped_pasting.specs.ped_bodies.specs.ped_steps.specs.ped_laws.specs.ped_graph.specs.ped_edges.specs.Edges.{Mark, proven, pending, rejected, Edge}
 use Rattle.ped_scalar.specs.ped_rules.specs.ped_loop_runs.specs.ped_tidy.specs.ped_pasting.specs.ped_bodies.specs.ped_steps.specs.ped_laws.specs.ped_graph.specs.Update.Fresh.{IsOneToOne}
 use Rattle.ped_scalar.specs.ped_rules.specs.ped_loop_runs.specs.ped_tidy.specs.ped_pasting.specs.ped_bodies.specs.ped_steps.specs.ped_symbols.specs.NameRefusals.{IsValid}
-use Rattle.ped_scalar.specs.ped_rules.specs.ped_loop_runs.specs.ped_tidy.specs.ped_pasting.specs.ped_bodies.specs.ped_steps.specs.ped_flow.specs.PlainBounds.{nest_round}
 use Rattle.ped_scalar.specs.ped_rules.specs.ped_loop_runs.specs.ped_tidy.specs.ped_pasting.specs.ped_bodies.specs.ped_steps.specs.ped_flow.specs.Questions.{LoopOf, IsIndexIn, IsContained}
 use Rattle.ped_scalar.specs.ped_rules.specs.ped_loop_runs.specs.ped_tidy.specs.ped_pasting.specs.ped_bodies.specs.ped_steps.specs.Causes.{NoRule, none_forbids}
 use Rattle.ped_scalar.specs.ped_rules.specs.ped_loop_runs.specs.ped_tidy.specs.ped_pasting.specs.ped_bodies.specs.ped_steps.specs.Replacing.{all_kept}
@@ -47,7 +44,7 @@ UnwrittenLaw = (t : ProgramTree) → IsValid t → (edges : List Edge) → AreEd
 abbrev pub UnrejectedLaw : Type 0
 UnrejectedLaw = (t : ProgramTree) (edges : List Edge) → some_rejection t.body ≡ false → AreEdges t edges → (e : Edge) → IsIn e edges → e.mark ≡ rejected → ⊥
 
-each_of : {X : Type 0} (P : X → Type 0) (xs : List X) (x : X) → All P xs → IsIn x xs → P x
+pub each_of : {X : Type 0} (P : X → Type 0) (xs : List X) (x : X) → All P xs → IsIn x xs → P x
 each_of P [] x all i = absurd i
 each_of P (y ∷ ys) x all (inl e) = subst P (sym e) (All-head P y ys all)
 each_of P (y ∷ ys) x all (inr i) = each_of P ys x (All-tail P y ys all) i
@@ -57,12 +54,12 @@ same_level n None = refl
 same_level n (Some level) = refl
 
 -- the DO carries a dependence, by the words of the laws and by those of the rules
-same_carried : (t : ProgramTree) (s : ℕ) (loop : LoopOf t s) (e : Edge) → runs.is_carried_by t s loop.body e ≡ is_carried_by t s e
+pub same_carried : (t : ProgramTree) (s : ℕ) (loop : LoopOf t s) (e : Edge) → runs.is_carried_by t s loop.body e ≡ is_carried_by t s e
 same_carried t s loop e =
     let there = λ (k : ℕ). in_body t s loop.head loop.body k loop.is in
     λ i. same_level (level_at t s) e.level i && (sym (there e.source.0) i && sym (there e.sink.0) i)
 
-not_rejected : (m : Mark) → (m ≡ rejected → ⊥) → is_rejected m ≡ false
+pub not_rejected : (m : Mark) → (m ≡ rejected → ⊥) → is_rejected m ≡ false
 not_rejected proven none = refl
 not_rejected pending none = refl
 not_rejected rejected none = absurd (none refl)

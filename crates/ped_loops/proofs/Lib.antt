@@ -1,3 +1,4 @@
+pub mod ShapedCode
 mod SameKinds
 mod SomeEdges
 mod FlagRules
@@ -19,4 +20,32 @@ mod ReversedLoops
 mod ReversedNames
 mod ReversalLawful
 mod ReverseAnswers
+mod OnlyBodies
+mod NestKnots
+mod PairOrders
+mod LoopPairs
+mod LoopPlaces
+mod SwappedCells
+mod SwappedLoops
+mod SwappedWeave
+mod SwappedConflicts
+mod SwappedStands
+mod FixedWrites
+mod ApartTurns
+mod ExchangedRaces
+mod SwappedAccesses
+mod SwappedKeeps
+mod SwappedBounds
+mod FreeBounds
+mod FreeSwaps
+mod UncrossedPairs
+pub mod InterchangeRules
+mod LoopSurroundings
+mod SwappedKinds
+mod SwappedTrust
+pub mod PlainDecided
+mod InterchangeLawful
 pub mod Determined
+mod PlainAnswers
+mod PlainPlaces
+mod InterchangeAnswers

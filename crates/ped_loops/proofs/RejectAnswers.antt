@@ -1,5 +1,5 @@
 -- From what the code of `reject` finds to what it answers.
-use Rattle.std.proofs.Common.{◌≡◌, ◌≤◌, ℕ, List, length, Bool, true, false, ◌&&◌, nat_le, Ok, Err, refl, sym, subst}
+use Rattle.std.proofs.Common.{◌≡◌, ◌≤◌, ℕ, List, length, Bool, true, false, ◌&&◌, nat_le, Ok, Err, refl, subst}
 use Rattle.std.specs.Prelude.{IsTrue}
 use Rattle.std.proofs.lemmas.Bool.{and_from, le-leb}
 use Rattle.ped_base.specs.Letters.{is_name as has_form}

@@ -1,5 +1,5 @@
 -- The rules that stand against `reject`, one behind the other; and that it is lawful.
-use Rattle.std.proofs.Common.{◌≡◌, ◌⊎◌, ℕ, List, [], ◌∷◌, ◌++◌, map, filter, cond, All, Bool, true, false, ◌&&◌, ◌||◌, Some, None, if◌then◌else◌, refl, sym, ap, ◌∙◌, subst, inl, inr, arith}
+use Rattle.std.proofs.Common.{◌≡◌, ◌⊎◌, ℕ, List, [], ◌∷◌, ◌++◌, map, filter, cond, All, Bool, true, false, ◌&&◌, ◌||◌, Some, if◌then◌else◌, refl, sym, ap, ◌∙◌, subst, inl, inr, arith}
 use Rattle.std.specs.List.{list_any}
 use Rattle.std.proofs.lemmas.Bool.{and_parts, both_ways}
 use Rattle.std.proofs.lemmas.List.Elements.{All-nil, All-cons, All-head, All-tail}
@@ -30,14 +30,14 @@ use Rattle.ped_scalar.specs.ped_rules.specs.Chains.{no_rules, also}
 use Rattle.ped_scalar.specs.ped_rules.specs.Lawful.{IsLawful}
 use Rattle.ped_scalar.specs.ped_rules.specs.OnlyLoops.{on_loop}
 use Rattle.ped_scalar.specs.ped_rules.specs.Rules.{WhereNoLoop}
-use Rattle.ped_scalar.specs.ped_rules.proofs.Chains.{IsOne, IsChain, chain_end, chain_link, first_here, first_later, none_later, not_this, not_those, none_at_end}
+use Rattle.ped_scalar.specs.ped_rules.proofs.Chains.{IsChain, chain_end, chain_link, first_here, first_later, none_later, not_this, not_those, none_at_end}
 use Rattle.ped_scalar.specs.ped_rules.proofs.Decided.{some_loop, valid_decided}
 use Rattle.ped_scalar.specs.ped_rules.proofs.KeptNumbers.{all_one_to_one}
 use Rattle.ped_scalar.specs.ped_rules.proofs.OneEach.{no_loop_one}
 use Rattle.ped_loops.specs.Rejecting.{with_rejection, with_directive, is_pending, is_variable, is_pending_of, NothingPending, WhereNothing, MakesRejection, StandsAgainstRejection, rejecting}
 use Rattle.ped_loops.proofs.PendingEdges.{IsOpen, open_pending}
 use Rattle.ped_loops.proofs.ReferencedNames.{reference_named}
-use Rattle.ped_loops.proofs.RejectedTrees.{with_last, more, are_marked, all_marked, valid_as_before}
+use Rattle.ped_loops.proofs.RejectedTrees.{more, are_marked, all_marked, valid_as_before}
 use Rattle.ped_loops.proofs.VariableNames.{IsVariable, is_variable as variable}
 
 same_statement : (a b : StmtTree) → Some a ≡ Some b → a ≡ b

@@ -1,12 +1,8 @@
 -- `reverse` is lawful.
-use Rattle.std.proofs.Common.{◌≡◌, ◌⊎◌, ℕ, ℤ, pos, neg_ℤ, List, [], ◌∷◌, All, Bool, true, false, ◌&&◌, ◌||◌, Option, Some, Ok, refl, sym, ap, ◌∙◌, subst, inl, inr}
+use Rattle.std.proofs.Common.{◌≡◌, ℕ, ℤ, neg_ℤ, List, All, true, false, Some, Ok, refl, sym, ap, ◌∙◌, subst}
 use Rattle.std.proofs.lemmas.Bool.{both_ways}
-use Rattle.ped_base.specs.Lists.{is_among}
-use Rattle.ped_tree.specs.Accesses.{constant_names}
 use Rattle.ped_tree.specs.Constants.ConstantExpressions.{constant_value}
-use Rattle.ped_tree.specs.Constants.NamedConstants.{value_named}
 use Rattle.ped_tree.specs.Tree.{Head, StmtTree, StmtTrees, Do, ProgramTree}
-use Rattle.ped_tree.specs.Numbering.{statement_with}
 use Rattle.ped_scalar.specs.ped_rules.specs.ped_loop_runs.specs.ped_tidy.specs.ped_pasting.specs.ped_bodies.specs.ped_steps.specs.ped_laws.specs.ped_eval.specs.Loops.{Limits, limits, increment}
 use Rattle.ped_scalar.specs.ped_rules.specs.ped_loop_runs.specs.ped_tidy.specs.ped_pasting.specs.ped_bodies.specs.ped_steps.specs.ped_laws.specs.ped_eval.specs.Outcomes.{setting_of}
 use Rattle.ped_scalar.specs.ped_rules.specs.ped_loop_runs.specs.ped_tidy.specs.ped_pasting.specs.ped_bodies.specs.ped_steps.specs.ped_laws.specs.ped_eval.specs.Scopes.{Scope, names_in}
@@ -23,7 +19,6 @@ use Rattle.ped_scalar.specs.ped_rules.specs.ped_loop_runs.specs.ped_tidy.specs.p
 use Rattle.ped_scalar.specs.ped_rules.specs.ped_loop_runs.specs.ped_tidy.specs.ped_pasting.specs.ped_bodies.specs.ped_steps.proofs.OnePlace.{one_program}
 use Rattle.ped_scalar.specs.ped_rules.specs.ped_loop_runs.specs.ped_tidy.specs.ped_pasting.specs.ped_bodies.specs.ped_steps.proofs.OneCause.{one_cause}
 use Rattle.ped_scalar.specs.ped_rules.specs.ped_loop_runs.specs.ped_tidy.specs.Unrejected.{IsTrusted}
-use Rattle.ped_scalar.specs.ped_rules.specs.ped_loop_runs.specs.ped_tidy.specs.Writing.{some_write_index}
 use Rattle.ped_scalar.specs.ped_rules.specs.Carried.{carried}
 use Rattle.ped_scalar.specs.ped_rules.specs.Lawful.{IsFaithful, IsLawful}
 use Rattle.ped_scalar.specs.ped_rules.specs.OnlyLoops.{on_loop}
@@ -33,7 +28,7 @@ use Rattle.ped_scalar.specs.ped_rules.proofs.KeptNumbers.{all_one_to_one}
 use Rattle.ped_scalar.specs.ped_rules.specs.ped_loop_runs.specs.Carried.{NoneCarriedBy}
 use Rattle.ped_scalar.specs.ped_rules.specs.ped_loop_runs.specs.OneForOne.{HasSameTrips, IsOneForOne}
 use Rattle.ped_loops.proofs.SameKinds.{kinds_alike}
-use Rattle.ped_loops.specs.Reversing.{turned_head, with_turned, reversed, MakesReversed, StandsAgainstReversal, reversing}
+use Rattle.ped_loops.specs.Reversing.{turned_head, with_turned, reversed, StandsAgainstReversal, reversing}
 use Rattle.ped_loops.proofs.FlagsLawful.{KeepsLaw, UnrejectedLaw, none_carried}
 use Rattle.ped_loops.proofs.OneHead.{TrustedLaw, ClearedLaw, stays_trusted_head}
 use Rattle.ped_loops.proofs.ReverseRules as rules

@@ -1,9 +1,8 @@
 -- The names in the head of a reversed DO: those of the old one, but for the named constants in its increment.
-use Rattle.std.proofs.Common.{◌≡◌, ◌⊎◌, ℕ, ℤ, pos, negsuc, List, [], ◌∷◌, ◌++◌, map, Bool, true, false, ◌||◌, Option, Some, None, Ok, Err, Result, refl, sym, ap, ◌∙◌, inl, inr, append-nil, unsigned_abs, if◌then◌else◌}
-use Rattle.std.specs.Prelude.{neg_ℤ, option_and_then}
+use Rattle.std.proofs.Common.{◌≡◌, ℕ, ℤ, List, [], ◌∷◌, ◌++◌, map, Bool, true, false, ◌||◌, Option, Some, None, Result, refl, sym, ap, ◌∙◌, append-nil, unsigned_abs, if◌then◌else◌}
+use Rattle.std.specs.Prelude.{option_and_then}
 use Rattle.std.specs.Int.{is_negative}
 use Rattle.std.specs.Result.{result_ok}
-use Rattle.std.specs.List.{flat_map}
 use Rattle.std.proofs.lemmas.List.{map-append}
 use Rattle.ped_base.specs.Lists.{is_same_text, is_among}
 use Rattle.ped_base.specs.declared.arithmetic.faults.Fault.{Fault}

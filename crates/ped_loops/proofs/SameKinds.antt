@@ -11,7 +11,7 @@ use Rattle.ped_tree.specs.Numbering.{statement_with}
 use Rattle.ped_scalar.specs.ped_rules.specs.ped_loop_runs.specs.ped_tidy.specs.ped_pasting.specs.ped_bodies.specs.ped_steps.specs.ped_laws.specs.ped_flow.specs.Questions.{LoopOf}
 use Rattle.ped_scalar.specs.ped_rules.specs.ped_loop_runs.specs.ped_tidy.specs.ped_pasting.specs.ped_bodies.specs.ped_steps.specs.ped_laws.specs.ped_graph.specs.ped_symbols.specs.Kinds.{names_of, kind_in}
 use Rattle.ped_scalar.specs.ped_rules.specs.ped_loop_runs.specs.ped_tidy.specs.ped_pasting.specs.ped_bodies.specs.ped_steps.specs.ped_laws.specs.ped_graph.specs.ped_symbols.specs.NameRefusals.{IsValid}
-use Rattle.ped_scalar.specs.ped_rules.specs.ped_loop_runs.specs.ped_tidy.specs.ped_pasting.specs.ped_bodies.specs.ped_steps.specs.ped_laws.specs.ped_graph.specs.ped_symbols.specs.Sites.{Site, declaration, statement, decl_sites, private_site, stmt_sites, stmts_sites}
+use Rattle.ped_scalar.specs.ped_rules.specs.ped_loop_runs.specs.ped_tidy.specs.ped_pasting.specs.ped_bodies.specs.ped_steps.specs.ped_laws.specs.ped_graph.specs.ped_symbols.specs.Sites.{statement, decl_sites, private_site, stmt_sites, stmts_sites}
 use Rattle.ped_scalar.specs.ped_rules.specs.ped_loop_runs.specs.ped_tidy.specs.ped_pasting.specs.ped_bodies.specs.ped_steps.specs.ped_laws.specs.ped_graph.specs.ped_symbols.specs.Uses.{used_as, expr_uses}
 use Rattle.ped_scalar.specs.ped_rules.specs.ped_loop_runs.specs.ped_tidy.specs.ped_pasting.specs.ped_bodies.specs.ped_steps.specs.ped_laws.specs.ped_graph.specs.ped_symbols.specs.declared.uses.Role.TheVariants.{Named}
 use Rattle.ped_scalar.specs.ped_rules.specs.ped_loop_runs.specs.ped_tidy.specs.ped_pasting.specs.ped_bodies.specs.ped_steps.specs.ped_laws.specs.ped_graph.specs.ped_symbols.specs.declared.uses.Use.{Use}
@@ -68,7 +68,7 @@ constants_occur y (d ∷ ds) h =
       | inr e ↦ inr (constants_occur y ds e)
     ])
 
-constant_there : (y : List ℕ) (t : ProgramTree) → is_among y (constant_names t.decls) ≡ true → is_among y (names_of t) ≡ true
+pub constant_there : (y : List ℕ) (t : ProgramTree) → is_among y (constant_names t.decls) ≡ true → is_among y (names_of t) ≡ true
 constant_there y t h =
     names_occur t y ∙ occurs_append y (flat_map decl_sites t.decls) (stmts_sites t.body)
     ∙ or_of (occurs y (flat_map decl_sites t.decls)) (occurs y (stmts_sites t.body)) (inl (constants_occur y t.decls h))

@@ -4,3 +4,8 @@ pub mod Paralleling
 pub mod Serialising
 pub mod Rejecting
 pub mod Reversing
+pub mod Shapes
+pub mod Interchanging
+pub mod CodeShapes
+pub mod CodePlain
+pub mod CodeInterchanging

@@ -6,7 +6,11 @@ ghost use Rattle.ped_loops.specs.Paralleling.{paralleling};
 ghost use Rattle.ped_loops.specs.Serialising.{serialising};
 ghost use Rattle.ped_loops.specs.Rejecting.{rejecting};
 ghost use Rattle.ped_loops.specs.Reversing.{reversing};
+ghost use Rattle.ped_loops.specs.Interchanging.{interchanging};
 
+use ped_scalar::ped_rules::ped_loop_runs::ped_tidy::ped_pasting::ped_bodies::ped_steps::ped_weaves::ped_laws::conflicts::{
+    accesses_are_made, accesses_in_sequence,
+};
 use ped_scalar::ped_rules::ped_loop_runs::ped_tidy::{
     none_rejected, private_names_cleared, stays_trusted,
 };
@@ -47,6 +51,18 @@ pub fn reversal_is_lawful()
     ensures { (s : ℕ) → IsLawful (reversing s) }
 {
     one_for_one();
+    stays_trusted();
+    private_names_cleared();
+    none_rejected();
+}
+
+/// `interchange` has one first cause at most and makes one program; where nothing forbids it, that one is valid, has no
+/// C$PED REJECT and is tidy if the old one is so, and means the same (Allen and Kennedy, section 5.2).
+pub fn interchange_is_lawful()
+    ensures { (s : ℕ) → IsLawful (interchanging s) }
+{
+    accesses_are_made();
+    accesses_in_sequence();
     stays_trusted();
     private_names_cleared();
     none_rejected();

@@ -1,15 +1,23 @@
 //! Steps that keep one loop one loop: `parallel` and `serial` change whether the iterations of a DO may be done in any order,
-//! `reverse` does them from the last to the first, and `reject` takes down what the user says of a dependence. The definitions stand in `specs/`.
+//! `reverse` does them from the last to the first, `interchange` lets a DO and the one in its body change places, and `reject`
+//! takes down what the user says of a dependence. The definitions stand in `specs/`.
 #![tactic(auto)]
 
+mod bounds;
 mod flags;
+mod interchanging;
 mod laws;
 mod paralleling;
 mod rejecting;
 mod reversing;
 mod serialising;
+mod shapes;
 
-pub use laws::{parallel_is_lawful, rejection_is_lawful, reversal_is_lawful, serial_is_lawful};
+pub use interchanging::interchange;
+pub use laws::{
+    interchange_is_lawful, parallel_is_lawful, rejection_is_lawful, reversal_is_lawful,
+    serial_is_lawful,
+};
 pub use paralleling::make_parallel;
 pub use ped_scalar;
 pub use rejecting::reject;

@@ -6,11 +6,12 @@ use Rattle.ped_script.specs.declared.items.Command.TheVariants.{Source, Deps, Sh
 use Rattle.ped_loops.specs.ped_scalar.specs.ped_rules.specs.Steps.{StepAt, MatchStep}
 use Rattle.ped_loops.specs.ped_scalar.specs.ped_rules.specs.Lawful.{IsDetermined, IsLawful}
 use Rattle.ped_loops.specs.ped_scalar.proofs.LawfulSteps.{lawful_privatising, lawful_expanding}
+use Rattle.ped_loops.specs.Interchanging.{interchanging}
 use Rattle.ped_loops.specs.Reversing.{reversing}
 use Rattle.ped_loops.specs.Paralleling.{paralleling}
 use Rattle.ped_loops.specs.Serialising.{serialising}
 use Rattle.ped_loops.specs.Rejecting.{rejecting}
-use Rattle.ped_loops.proofs.Determined.{determined_parallel, determined_serial, determined_reversal, determined_rejection}
+use Rattle.ped_loops.proofs.Determined.{determined_parallel, determined_serial, determined_reversal, determined_interchange, determined_rejection}
 use Rattle.ped_transformations.specs.Table.{step_of}
 
 determined_by : (at : StepAt) → IsLawful at → IsDetermined at
@@ -20,11 +21,11 @@ determined_by at lawful = record { one_cause = lawful.one_cause; one_made = lawf
 pub determined_step : (command : Command) → MatchStep (step_of command) ⊤ IsDetermined
 determined_step (Expand number name) = determined_by _ (lawful_expanding number name)
 determined_step (Privatise number name) = determined_by _ (lawful_privatising number name)
+determined_step (Interchange number) = determined_interchange number
 determined_step (Reverse number) = determined_reversal number
 determined_step (Parallel number) = determined_parallel number
 determined_step (Serial number) = determined_serial number
 determined_step (Reject number name) = determined_rejection number name
-determined_step (Interchange number) = tt
 determined_step (Skew number factor) = tt
 determined_step (Strip number size) = tt
 determined_step (Peel number last) = tt
@@ -46,6 +47,7 @@ determined_step Tested = tt
 
 -- the steps that keep one loop one loop are lawful
 pub record LoopsLawful : Type 0 where
+  pub interchange : (s : ℕ) → IsLawful (interchanging s)
   pub reversal : (s : ℕ) → IsLawful (reversing s)
   pub parallel : (s : ℕ) → IsLawful (paralleling s)
   pub serial : (s : ℕ) → IsLawful (serialising s)
@@ -58,11 +60,11 @@ AllLawful = (command : Command) → MatchStep (step_of command) ⊤ IsLawful
 pub lawful_step : LoopsLawful → AllLawful
 lawful_step loops (Expand number name) = lawful_expanding number name
 lawful_step loops (Privatise number name) = lawful_privatising number name
+lawful_step loops (Interchange number) = loops.interchange number
 lawful_step loops (Reverse number) = loops.reversal number
 lawful_step loops (Parallel number) = loops.parallel number
 lawful_step loops (Serial number) = loops.serial number
 lawful_step loops (Reject number name) = loops.rejection number name
-lawful_step loops (Interchange number) = tt
 lawful_step loops (Skew number factor) = tt
 lawful_step loops (Strip number size) = tt
 lawful_step loops (Peel number last) = tt

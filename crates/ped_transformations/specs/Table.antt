@@ -1,9 +1,10 @@
 -- The one table of the steps: which one each command takes (ParaScope; this project).
 use Rattle.ped_script.specs.declared.items.Command.{Command}
-use Rattle.ped_script.specs.declared.items.Command.TheVariants.{Reverse, Expand, Privatise, Parallel, Serial, Reject}
+use Rattle.ped_script.specs.declared.items.Command.TheVariants.{Interchange, Reverse, Expand, Privatise, Parallel, Serial, Reject}
 use Rattle.ped_loops.specs.ped_scalar.specs.ped_rules.specs.Steps.{MaybeStep, no_step, some_step}
 use Rattle.ped_loops.specs.ped_scalar.specs.Privatising.{privatising}
 use Rattle.ped_loops.specs.ped_scalar.specs.Expanding.{expanding}
+use Rattle.ped_loops.specs.Interchanging.{interchanging}
 use Rattle.ped_loops.specs.Reversing.{reversing}
 use Rattle.ped_loops.specs.Paralleling.{paralleling}
 use Rattle.ped_loops.specs.Serialising.{serialising}
@@ -13,6 +14,7 @@ use Rattle.ped_loops.specs.Rejecting.{rejecting}
 abbrev pub step_of : Command → MaybeStep
 step_of (Expand number name) = some_step (expanding number name)
 step_of (Privatise number name) = some_step (privatising number name)
+step_of (Interchange number) = some_step (interchanging number)
 step_of (Reverse number) = some_step (reversing number)
 step_of (Parallel number) = some_step (paralleling number)
 step_of (Serial number) = some_step (serialising number)

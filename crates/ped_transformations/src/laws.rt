@@ -6,7 +6,10 @@ ghost use Rattle.ped_loops.specs.ped_scalar.specs.ped_rules.specs.Steps.{MatchSt
 ghost use Rattle.ped_loops.specs.ped_scalar.specs.ped_rules.specs.Lawful.{IsLawful};
 ghost use Rattle.ped_transformations.specs.Table.{step_of};
 
-use ped_loops::{parallel_is_lawful, rejection_is_lawful, reversal_is_lawful, serial_is_lawful};
+use ped_loops::{
+    interchange_is_lawful, parallel_is_lawful, rejection_is_lawful, reversal_is_lawful,
+    serial_is_lawful,
+};
 
 /// The step of each command is lawful, where it takes one: it has one first cause at most, makes one program, and where
 /// nothing forbids it there is one, which is valid; and a transformation of a program that may be trusted makes one that
@@ -14,6 +17,7 @@ use ped_loops::{parallel_is_lawful, rejection_is_lawful, reversal_is_lawful, ser
 pub fn every_step_is_lawful()
     ensures { (command : Command) → MatchStep (step_of command) ⊤ IsLawful }
 {
+    interchange_is_lawful();
     reversal_is_lawful();
     parallel_is_lawful();
     serial_is_lawful();

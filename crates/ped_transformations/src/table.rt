@@ -12,7 +12,7 @@ use ped_loops::ped_scalar::ped_rules::ped_loop_runs::ped_tidy::ped_pasting::ped_
     Change, Refused, Scene,
 };
 use ped_loops::ped_scalar::{expand, privatise};
-use ped_loops::{make_parallel, make_serial, reject, reverse};
+use ped_loops::{interchange, make_parallel, make_serial, reject, reverse};
 use ped_script::Command;
 use std::alloc::Global;
 use std::sync::ledger::Ledger;
@@ -43,6 +43,7 @@ pub fn place_of(command: &Command) -> Option<Place>
     match command {
         Command::Privatise(number, _) => Some(transformation(*number)),
         Command::Expand(number, _) => Some(transformation(*number)),
+        Command::Interchange(number) => Some(transformation(*number)),
         Command::Reverse(number) => Some(transformation(*number)),
         Command::Parallel(number) => Some(transformation(*number)),
         Command::Serial(number) => Some(transformation(*number)),
@@ -88,6 +89,10 @@ pub fn answer<L: Ledger>(
         }
         Command::Expand(number, name) => {
             let found = expand(alloc, scene, *number, name)?;
+            return Ok(Some(found));
+        }
+        Command::Interchange(number) => {
+            let found = interchange(alloc, scene, *number)?;
             return Ok(Some(found));
         }
         Command::Reverse(number) => {

@@ -65,7 +65,7 @@ module _ (t : ProgramTree) (s : ℕ) where
       by (inl l) = (None, λ n p. p.0 l)
       by (inr n) = (Some s, (n, refl))
 
-  one_loop : (l m : LoopOf t s) → (l.head ≡ m.head) × (l.body ≡ m.body)
+  pub one_loop : (l m : LoopOf t s) → (l.head ≡ m.head) × (l.body ≡ m.body)
   one_loop l m = (same_head t s l.head m.head l.body m.body l.is m.is, same_body t s l.head m.head l.body m.body l.is m.is)
 
   -- what is asked of a statement that is a DO

@@ -10,6 +10,7 @@ use Rattle.ped_answer.specs.ped_session.specs.ped_transformations.specs.ped_loop
 use Rattle.ped_answer.specs.ped_session.specs.ped_transformations.specs.ped_loops.specs.ped_scalar.specs.ped_rules.specs.Lawful.{IsDetermined}
 use Rattle.ped_answer.specs.ped_session.specs.ped_transformations.specs.Table.{step_of}
 use Rattle.ped_answer.specs.ped_session.specs.ped_transformations.proofs.LawfulTable.{determined_step}
+use Rattle.ped_answer.proofs.ExistenceLaws.InterchangeCauses.{interchange_cause}
 use Rattle.ped_answer.proofs.ExistenceLaws.LoopCauses.{parallel_cause, serial_cause, reversal_cause, rejection_cause}
 use Rattle.ped_answer.proofs.ExistenceLaws.ScalarCauses.{privatising_cause, expanding_cause}
 
@@ -37,7 +38,7 @@ goes (some_step at) determined some = goes_by at determined some
 each_cause : (command : Command) → MatchStep (step_of command) ⊤ HasCause
 each_cause (Expand number name) = λ t. expanding_cause t number name
 each_cause (Privatise number name) = λ t. privatising_cause t number name
-each_cause (Interchange number) = tt
+each_cause (Interchange number) = λ t. interchange_cause t number
 each_cause (Reverse number) = λ t. reversal_cause t number
 each_cause (Skew number factor) = tt
 each_cause (Strip number size) = tt

@@ -1,4 +1,4 @@
-use Rattle.std.proofs.Common.{◌≡◌, ◌≤◌, ◌+◌, ◌∙◌, suc, List, ◌∷◌, map, drop, length, ap, subst, sym, add-one, arith}
+use Rattle.std.proofs.Common.{◌+◌, ◌∙◌, List, ◌∷◌, map, drop, ap, subst, sym, add-one, arith}
 use Rattle.ped_edges.specs.Edges.{Edge}
 use Rattle.ped_edges.specs.CodeEdges.{edge_of}
 use Rattle.ped_graph.specs.Held.{pair_by, pairs_by}

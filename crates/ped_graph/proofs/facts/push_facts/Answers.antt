@@ -1,7 +1,6 @@
-use Rattle.std.proofs.Common.{◌≡◌, ◌∙◌, ◌++◌, ◌∷◌, [], List, map, ap}
+use Rattle.std.proofs.Common.{◌∙◌, ◌++◌, ◌∷◌, [], List, map, ap}
 use Rattle.ped_refs.specs.Occurrences.{reference_of}
 use Rattle.ped_graph.specs.Dependences.{place_of}
-use Rattle.ped_graph.specs.Held.{Framed}
 use Rattle.ped_graph.specs.CodeFacts.{framed_of}
 use Rattle.ped_graph.specs.declared.facts.Facts.{Facts}
 use Rattle.ped_graph.proofs.Slices.{map_more}

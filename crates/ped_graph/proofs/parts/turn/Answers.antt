@@ -1,4 +1,4 @@
-use Rattle.std.proofs.Common.{◌≡◌, ◌<◌, ◌+◌, ◌++◌, List, map, take, drop, length, ap, sym, ◌∙◌, add-one, arith}
+use Rattle.std.proofs.Common.{◌<◌, ◌++◌, List, map, take, drop, length, ap, sym, ◌∙◌, add-one, arith}
 use Rattle.std.specs.Prelude.{slice_get, slice_set, slice_index_or}
 use Rattle.ped_graph.specs.Parts.{turned}
 use Rattle.ped_graph.specs.declared.parts.Kept.{Kept}

@@ -1,14 +1,12 @@
-use Rattle.std.proofs.Common.{◌≡◌, ◌≤◌, ◌+◌, ◌∙◌, ℕ, ap, subst, sym, arith, length, List, [], map, Bool, false}
-use Rattle.ped_tree.specs.Views.{program_tree, stmt_trees}
+use Rattle.std.proofs.Common.{◌∙◌, ap, List, [], map, Bool, false}
+use Rattle.ped_tree.specs.Views.{stmt_trees}
 use Rattle.ped_tree.specs.declared.statements.Stmt.{Stmt}
 use Rattle.ped_tree.specs.Names.Collecting.{with_names}
-use Rattle.ped_refs.specs.References.{Reference, pairs, pair_count, references}
-use Rattle.ped_refs.specs.Occurrences.{reference_of, references_of, pair_at}
+use Rattle.ped_refs.specs.Occurrences.{reference_of}
 use Rattle.ped_refs.specs.declared.occurring.Occurrence.{Occurrence}
 use Rattle.ped_tree.specs.NamesIn.{all_loop_variables}
 use Rattle.ped_graph.specs.Guards.{all_guards_in}
 use Rattle.ped_graph.specs.Marks.{is_firm}
-use Rattle.ped_graph.proofs.Places.{same_length}
 use Rattle.ped_graph.proofs.preparing.all_pairs.Goals as goal
 
 pub pairs_of-requires-clause-known : goal.pairs_of-requires-clause-known

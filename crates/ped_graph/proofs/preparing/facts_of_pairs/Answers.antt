@@ -1,9 +1,9 @@
-use Rattle.std.proofs.Common.{◌≡◌, ◌∙◌, ◌+◌, suc, ap, sym, List, ◌∷◌, map, drop, add-one, arith}
+use Rattle.std.proofs.Common.{◌≡◌, ◌∙◌, ◌+◌, ap, sym, ◌∷◌, map, drop, add-one, arith}
 use Rattle.ped_tree.specs.Views.{program_tree}
 use Rattle.ped_refs.specs.References.{Reference, references, pairs}
 use Rattle.ped_refs.specs.Occurrences.{references_of, pair_at}
 use Rattle.ped_graph.specs.Dependences.{facts_of}
-use Rattle.ped_graph.specs.Held.{Framed, framed, frame_of}
+use Rattle.ped_graph.specs.Held.{framed}
 use Rattle.ped_graph.specs.CodeFacts.{framed_of}
 use Rattle.ped_graph.proofs.Places.{next_listed, index_there, same_length, none_left, more_made, all_made}
 use Rattle.ped_graph.proofs.preparing.facts_of_pairs.Goals as goal

@@ -1,7 +1,6 @@
-use Rattle.std.proofs.Common.{◌≡◌, ◌∙◌, ◌+◌, ap, sym, subst, List, ◌++◌, ◌∷◌, [], length, map, Some, slice_get, rules, arith}
+use Rattle.std.proofs.Common.{ap, length, rules, arith}
 use Rattle.std.proofs.lemmas.List.{length_push}
 use Rattle.ped_tree.specs.Views.{program_tree}
-use Rattle.ped_refs.specs.References.{Reference}
 use Rattle.ped_refs.specs.Occurrences.{reference_of, references_of}
 use Rattle.ped_graph.proofs.Slices.{mapped_at, item_there}
 use Rattle.ped_graph.proofs.KnownSides.{no_sides, sides_more}

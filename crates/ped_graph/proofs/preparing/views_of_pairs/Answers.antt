@@ -1,9 +1,8 @@
-use Rattle.std.proofs.Common.{◌≡◌, ◌∙◌, ◌+◌, suc, ap, sym, List, ◌∷◌, map, drop, add-one, arith}
+use Rattle.std.proofs.Common.{◌≡◌, ◌∙◌, ◌+◌, ap, sym, ◌∷◌, drop, add-one, arith}
 use Rattle.ped_tree.specs.Views.{program_tree}
 use Rattle.ped_refs.specs.References.{Reference, references, pairs}
 use Rattle.ped_refs.specs.Occurrences.{references_of, pair_at}
 use Rattle.ped_graph.specs.Dependences.{view_of}
-use Rattle.ped_graph.specs.Held.{views_of}
 use Rattle.ped_graph.proofs.Places.{next_listed, index_there, same_length, none_left, more_made, all_made}
 use Rattle.ped_graph.proofs.preparing.views_of_pairs.Goals as goal
 

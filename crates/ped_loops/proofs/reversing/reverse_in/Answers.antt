@@ -1,4 +1,4 @@
-use Rattle.std.proofs.Common.{◌≡◌, ℕ, ℤ, List, true, Option, Some, sym, ap, ◌∙◌, subst}
+use Rattle.std.proofs.Common.{◌≡◌, ℕ, ℤ, List, true, Some, sym, ap, ◌∙◌, subst}
 use Rattle.ped_tree.specs.Constants.ConstantExpressions.{constant_value}
 use Rattle.ped_tree.specs.Views.{program_tree, stmt_trees, head_of}
 use Rattle.ped_scalar.specs.ped_rules.specs.Rules.{is_unit, has_other_step}

@@ -1,4 +1,4 @@
-use Rattle.std.proofs.Common.{false, Bool, true, not, ◌≡◌, refl, ap, ◌∙◌, sym}
+use Rattle.std.proofs.Common.{false, not, ap}
 use Rattle.ped_tree.specs.Views.{program_tree, stmt_trees, head_of}
 use Rattle.ped_scalar.specs.ped_rules.specs.Rules.{is_serial}
 use Rattle.ped_scalar.specs.ped_rules.specs.ped_loop_runs.specs.ped_tidy.specs.ped_pasting.specs.ped_bodies.specs.ped_steps.specs.declared.rules.Rule.TheVariants.{ParallelState, IndexEscapes, Limit}

@@ -1,4 +1,4 @@
-use Rattle.std.proofs.Common.{◌≡◌, ◌<◌, ◌∙◌, ap, sym, map, length, Some, slice_get, arith}
+use Rattle.std.proofs.Common.{◌<◌, ◌∙◌, ap, sym, map, length, Some, slice_get, arith}
 use Rattle.ped_graph.specs.Held.{HeldFrame}
 use Rattle.ped_graph.specs.CodeFacts.{framed_of}
 use Rattle.ped_graph.specs.Keys.{key_of}

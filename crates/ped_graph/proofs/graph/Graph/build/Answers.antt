@@ -1,7 +1,5 @@
-use Rattle.std.proofs.Common.{◌≡◌, ◌∙◌, ap, sym, map, length, Some, List}
-use Rattle.ped_views.specs.Views.{View}
+use Rattle.std.proofs.Common.{◌∙◌, ap, length, Some}
 use Rattle.ped_tree.specs.Views.{program_tree}
-use Rattle.ped_graph.specs.Held.{Held}
 use Rattle.ped_graph.specs.CodeFacts.{views_in}
 use Rattle.ped_graph.proofs.Slices.{length_mapped}
 use Rattle.ped_graph.proofs.Exchanging.{are_whole, views_there}

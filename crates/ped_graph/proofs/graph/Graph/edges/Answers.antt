@@ -1,7 +1,7 @@
-use Rattle.std.proofs.Common.{◌≡◌, List, map, ap, ◌∙◌}
+use Rattle.std.proofs.Common.{◌≡◌, map, ap, ◌∙◌}
 use Rattle.std.proofs.lemmas.Result.{IfOk-weaker}
 use Rattle.ped_edges.specs.CodeEdges.{edge_of}
-use Rattle.ped_graph.specs.Held.{Held, pairs_by, held_pairs}
+use Rattle.ped_graph.specs.Held.{pairs_by, held_pairs}
 use Rattle.ped_graph.specs.CodeFacts.{framed_of, views_in}
 use Rattle.ped_graph.proofs.HeldEdges.{program_edges}
 use Rattle.ped_graph.proofs.graph.Graph.edges.Goals as goal

@@ -1,4 +1,4 @@
-use Rattle.std.proofs.Common.{◌≡◌, ◌∙◌, ℕ, ap, List, length, map, arith}
+use Rattle.std.proofs.Common.{◌∙◌, ap, List, length, map, arith}
 use Rattle.ped_graph.specs.CodeParts.{exchanged}
 use Rattle.ped_graph.specs.Parts.{turned}
 use Rattle.ped_graph.specs.declared.parts.Kept.{Kept}

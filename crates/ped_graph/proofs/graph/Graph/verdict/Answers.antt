@@ -1,7 +1,6 @@
-use Rattle.std.proofs.Common.{◌≡◌, ◌<◌, ◌∙◌, ap, sym, length, Some, slice_get, arith}
-use Rattle.ped_views.specs.Views.{View}
+use Rattle.std.proofs.Common.{◌<◌, ◌∙◌, ap, sym, length, slice_get, arith}
 use Rattle.ped_graph.specs.Held.{Held}
-use Rattle.ped_graph.proofs.Slices.{item_there, some_is}
+use Rattle.ped_graph.proofs.Slices.{item_there}
 use Rattle.ped_graph.proofs.Exchanging.{verdict_there, is_there}
 use Rattle.ped_graph.proofs.graph.Graph.verdict.Goals as goal
 

@@ -1,8 +1,8 @@
-use Rattle.std.proofs.Common.{◌≡◌, ◌<◌, ◌∙◌, ℕ, List, map, length, Option, Some, None, slice_get, nat_eq, ap, sym, subst, arith}
+use Rattle.std.proofs.Common.{◌≡◌, ◌∙◌, ℕ, map, Option, Some, slice_get, nat_eq, ap, sym, subst}
 use Rattle.std.specs.Prelude.{option_map, MatchOption}
 use Rattle.indexmap.specs.IndexMap.{get}
 use Rattle.ped_refs.specs.TextPlaces.{Key}
-use Rattle.ped_graph.specs.Held.{Framed, HeldFrame, pair_by}
+use Rattle.ped_graph.specs.Held.{HeldFrame, pair_by}
 use Rattle.ped_graph.specs.Keys.{key_of, key_shown, IsOnlyAt}
 use Rattle.ped_graph.specs.Update.Matching.{former_in, with_number, both_places, former_key}
 use Rattle.ped_graph.proofs.Matching.{no_key}

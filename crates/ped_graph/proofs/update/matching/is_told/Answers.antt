@@ -1,6 +1,6 @@
-use Rattle.std.proofs.Common.{◌≡◌, ◌∙◌, ap, sym, subst, ℕ, Some, slice_get}
+use Rattle.std.proofs.Common.{◌≡◌, ◌∙◌, ap, sym, subst, ℕ}
 use Rattle.ped_tree.specs.Views.{program_tree}
-use Rattle.ped_refs.specs.References.{Reference, outermost}
+use Rattle.ped_refs.specs.References.{outermost}
 use Rattle.ped_refs.specs.Occurrences.{reference_of, references_of}
 use Rattle.ped_graph.specs.Sides.{IsSide}
 use Rattle.ped_graph.specs.Dependences.{setting_in, site_of}

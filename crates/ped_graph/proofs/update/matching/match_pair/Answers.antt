@@ -1,9 +1,9 @@
-use Rattle.std.proofs.Common.{◌≡◌, ◌<◌, ◌≤◌, ◌+◌, ◌∙◌, ℕ, List, length, map, Some, slice_get, ap, sym, subst, arith}
+use Rattle.std.proofs.Common.{◌≡◌, ◌+◌, length, ap, subst, arith}
 use Rattle.std.proofs.lemmas.Result.{on_ok_weaker}
 use Rattle.ped_views.specs.Views.{View}
 use Rattle.ped_tree.specs.Views.{program_tree}
 use Rattle.ped_graph.specs.Dependences.{view_of}
-use Rattle.ped_graph.specs.Held.{Framed, pair_by}
+use Rattle.ped_graph.specs.Held.{pair_by}
 use Rattle.ped_graph.specs.Keys.{key_shown}
 use Rattle.ped_graph.specs.Parts.{HeldParts}
 use Rattle.ped_graph.specs.Update.Matching.{IsMatched, tests}

@@ -1,15 +1,14 @@
-use Rattle.std.proofs.Common.{◌≡◌, ◌∙◌, ◌+◌, ◌<◌, ◌≤◌, ◌∷◌, ℕ, suc, ap, sym, refl, List, [], length, map, take, drop, Some, slice_get, add-one, rules, arith}
+use Rattle.std.proofs.Common.{◌≡◌, ◌∙◌, ◌+◌, ℕ, suc, ap, sym, List, length, drop, Some, slice_get, rules, arith}
 use Rattle.std.specs.List.{count_by}
-use Rattle.ped_views.specs.Views.{View}
 use Rattle.ped_tree.specs.Views.{program_tree}
 use Rattle.ped_refs.specs.References.{Reference, references, pairs}
 use Rattle.ped_refs.specs.Occurrences.{references_of, pair_at}
 use Rattle.ped_graph.specs.Dependences.{facts_of, view_of}
-use Rattle.ped_graph.specs.Held.{Framed, HeldFrame, Pair, framed, pair_by, pairs_by, frame_of, held_of, views_of}
+use Rattle.ped_graph.specs.Held.{HeldFrame, Pair, framed, frame_of, held_of, views_of}
 use Rattle.ped_graph.specs.Update.Fresh.{is_fresh}
 use Rattle.ped_graph.specs.Update.Matching.{slots_for, kept_from}
 use Rattle.ped_graph.proofs.Places.{next_listed, index_there, same_length}
-use Rattle.ped_graph.proofs.Slices.{mapped_at, length_mapped, within}
+use Rattle.ped_graph.proofs.Slices.{mapped_at, length_mapped}
 use Rattle.ped_graph.proofs.Yielded.{no_pairs}
 use Rattle.ped_graph.proofs.OneMore.{front_there, next_slots, next_kept, next_tests, front_tests, all_matched, all_ticks}
 use Rattle.ped_graph.proofs.update.matching.match_pairs.Goals as goal

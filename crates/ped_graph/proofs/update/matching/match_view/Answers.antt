@@ -1,4 +1,4 @@
-use Rattle.std.proofs.Common.{◌≡◌, ◌≤◌, ◌+◌, ◌∙◌, ap, sym, arith}
+use Rattle.std.proofs.Common.{◌∙◌, sym, arith}
 use Rattle.std.proofs.lemmas.Result.{on_ok_weaker}
 use Rattle.ped_graph.specs.Held.{pair_by}
 use Rattle.ped_graph.proofs.OneMore.{keeps_matched, tests_matched, kept_untested, fresh_tested}

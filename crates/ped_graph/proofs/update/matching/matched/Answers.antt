@@ -1,4 +1,4 @@
-use Rattle.std.proofs.Common.{◌≡◌, ◌≤◌, ◌+◌, ◌∙◌, ℕ, List, ap, sym, subst}
+use Rattle.std.proofs.Common.{List, sym, subst}
 use Rattle.ped_tree.specs.Views.{program_tree}
 use Rattle.ped_refs.specs.Occurrences.{references_of}
 use Rattle.ped_graph.specs.Held.{Framed}

@@ -1,5 +1,4 @@
-use Rattle.std.proofs.Common.{◌≡◌, ◌∙◌, ap, sym, subst, ℕ, Bool, true, false, Option, Some, None}
-use Rattle.std.specs.Prelude.{if◌then◌else◌}
+use Rattle.std.proofs.Common.{◌≡◌, ◌∙◌, ap, sym, subst, ℕ, false, Option}
 use Rattle.ped_views.specs.Views.{View}
 use Rattle.ped_views.specs.SameViews.{same_view}
 use Rattle.ped_graph.specs.Held.{pair_by}

@@ -1,4 +1,4 @@
-use Rattle.std.proofs.Common.{◌≡◌, ◌∙◌, ap, sym, subst, ℕ, Option, Some}
+use Rattle.std.proofs.Common.{◌∙◌, sym, subst, ℕ, Option}
 use Rattle.ped_tree.specs.Views.{program_tree}
 use Rattle.ped_graph.specs.Dependences.{view_of}
 use Rattle.ped_graph.specs.Held.{pair_by}

@@ -1,10 +1,10 @@
-use Rattle.std.proofs.Common.{◌≡◌, ◌<◌, ◌^◌, ◌∙◌, ℕ, List, [], map, length, Bool, false, Some, All, ap, subst, sym}
+use Rattle.std.proofs.Common.{◌<◌, ◌^◌, ◌∙◌, List, [], map, length, false, Some, All, ap, subst, sym}
 use Rattle.ped_tree.specs.Views.{program_tree, stmt_trees}
 use Rattle.ped_tree.specs.Numbering.{statements_count, statement_count, all_numbered}
 use Rattle.ped_tree.specs.NamesIn.{all_loop_variables}
 use Rattle.ped_tree.specs.Names.Collecting.{with_names}
 use Rattle.ped_tree.specs.declared.statements.Stmt.{Stmt}
-use Rattle.ped_refs.specs.References.{references, pairs}
+use Rattle.ped_refs.specs.References.{pairs}
 use Rattle.ped_refs.specs.Occurrences.{reference_of, references_of, pair_at, IsWithin}
 use Rattle.ped_refs.specs.declared.occurring.Occurrence.{Occurrence}
 use Rattle.ped_refs.specs.declared.pairing.Pair.{Pair}

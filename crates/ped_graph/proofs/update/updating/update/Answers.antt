@@ -1,8 +1,8 @@
-use Rattle.std.proofs.Common.{◌≡◌, ◌∙◌, ◌+◌, ◌≤◌, ◌-◌, ℕ, List, length, ap, sym, subst, refl, arith}
+use Rattle.std.proofs.Common.{◌∙◌, ◌+◌, ◌≤◌, ℕ, length, ap, sym, subst, refl, arith}
 use Rattle.ped_tree.specs.Views.{program_tree}
 use Rattle.ped_graph.specs.Held.{Held, held_of}
 use Rattle.ped_graph.specs.Parts.{HeldParts, Fit}
-use Rattle.ped_graph.specs.Update.Fresh.{IsOneToOne, fresh_pairs}
+use Rattle.ped_graph.specs.Update.Fresh.{IsOneToOne}
 use Rattle.ped_graph.proofs.Updated.{program_fits, slots_counted, fresh_of}
 use Rattle.ped_graph.proofs.update.updating.update.Goals as goal
 

@@ -1,0 +1,157 @@
+-- `interchange` is lawful.
+use Rattle.std.proofs.Common.{◌≡◌, ℕ, ◌+◌, List, [], ◌∷◌, length, All, Bool, true, false, ◌||◌, Option, Some, None, MatchOption, is_none, refl, sym, ap, ◌∙◌, subst, inl, inr}
+use Rattle.ped_base.specs.Lists.{has_some, is_among}
+use Rattle.ped_tree.specs.NamesIn.{expr_names}
+use Rattle.ped_tree.specs.Tree.{ExprTree, Head, StmtTrees, Do, ProgramTree}
+use Rattle.ped_scalar.specs.ped_rules.specs.ped_loop_runs.specs.ped_tidy.specs.ped_pasting.specs.ped_bodies.specs.ped_steps.specs.ped_laws.proofs.ConflictLaws.CoveringRuns.{MakingLaw, SequenceLaw}
+use Rattle.ped_scalar.specs.ped_rules.specs.ped_loop_runs.specs.ped_tidy.specs.ped_pasting.specs.ped_bodies.specs.ped_steps.specs.ped_laws.specs.ped_eval.specs.Outcomes.{setting_of}
+use Rattle.ped_scalar.specs.ped_rules.specs.ped_loop_runs.specs.ped_tidy.specs.ped_pasting.specs.ped_bodies.specs.ped_steps.specs.ped_laws.specs.ped_graph.specs.Dependences.{AreEdges}
+use Rattle.ped_scalar.specs.ped_rules.specs.ped_loop_runs.specs.ped_tidy.specs.ped_pasting.specs.ped_bodies.specs.ped_steps.specs.ped_laws.specs.ped_graph.specs.ped_edges.specs.Edges.{Edge}
+use Rattle.ped_scalar.specs.ped_rules.specs.ped_loop_runs.specs.ped_tidy.specs.ped_pasting.specs.ped_bodies.specs.ped_steps.specs.ped_laws.specs.ped_graph.specs.Update.Fresh.{IsOneToOne}
+use Rattle.ped_scalar.specs.ped_rules.specs.ped_loop_runs.specs.ped_tidy.specs.ped_pasting.specs.ped_bodies.specs.ped_steps.specs.ped_laws.specs.Acts.Orders.{IsIn}
+use Rattle.ped_scalar.specs.ped_rules.specs.ped_loop_runs.specs.ped_tidy.specs.ped_pasting.specs.ped_bodies.specs.ped_steps.specs.ped_symbols.specs.Kinds.{kind_in}
+use Rattle.ped_scalar.specs.ped_rules.specs.ped_loop_runs.specs.ped_tidy.specs.ped_pasting.specs.ped_bodies.specs.ped_steps.specs.ped_symbols.specs.NameRefusals.{IsValid}
+use Rattle.ped_scalar.specs.ped_rules.specs.ped_loop_runs.specs.ped_tidy.specs.ped_pasting.specs.ped_bodies.specs.ped_steps.specs.ped_flow.specs.PlainBounds.{IsPlain, nest_round}
+use Rattle.ped_scalar.specs.ped_rules.specs.ped_loop_runs.specs.ped_tidy.specs.ped_pasting.specs.ped_bodies.specs.ped_steps.specs.ped_flow.specs.Questions.{LoopOf}
+use Rattle.ped_scalar.specs.ped_rules.specs.ped_loop_runs.specs.ped_tidy.specs.ped_pasting.specs.ped_bodies.specs.ped_steps.specs.Causes.{NoRule}
+use Rattle.ped_scalar.specs.ped_rules.specs.ped_loop_runs.specs.ped_tidy.specs.ped_pasting.specs.ped_bodies.specs.ped_steps.specs.Replacing.{alone, program_with}
+use Rattle.ped_scalar.specs.ped_rules.specs.ped_loop_runs.specs.ped_tidy.specs.ped_pasting.specs.ped_bodies.specs.ped_steps.proofs.OneCause.{one_cause}
+use Rattle.ped_scalar.specs.ped_rules.specs.ped_loop_runs.specs.ped_tidy.specs.Unrejected.{IsTrusted}
+use Rattle.ped_scalar.specs.ped_rules.specs.Carried.{crossing, has_after}
+use Rattle.ped_scalar.specs.ped_rules.specs.KeepMaps.{all_but}
+use Rattle.ped_scalar.specs.ped_rules.specs.Lawful.{IsFaithful, IsLawful}
+use Rattle.ped_scalar.specs.ped_rules.specs.OnlyLoops.{change_only, only_loop, of_loop, either}
+use Rattle.ped_scalar.specs.ped_rules.specs.Rules.{HasUnplain, has_private, is_parallel}
+use Rattle.ped_scalar.specs.ped_rules.proofs.KeptNumbers.{but_one_to_one}
+use Rattle.ped_scalar.specs.ped_rules.specs.ped_loop_runs.specs.Carried.{is_carried_by}
+use Rattle.ped_loops.specs.Interchanging.{IsBoundOf, IsBoundOfEither, StandsAgainstInterchange, interchanged, interchanging}
+use Rattle.ped_loops.specs.Shapes.{is_named, names_outer, new_inner, new_outer}
+use Rattle.ped_loops.proofs.Contained.{least}
+use Rattle.ped_loops.proofs.FlagsLawful.{UnrejectedLaw}
+use Rattle.ped_loops.proofs.FreeSwaps.{free_swap, free_swap_keeps, inner_first, inner_last, interchanged_is, outer_first, outer_last}
+use Rattle.ped_loops.proofs.InterchangeRules as rules
+use Rattle.ped_loops.proofs.LoopSurroundings.{inner_variable_apart, variable_apart, variables_differ}
+use Rattle.ped_loops.proofs.OneHead.{TrustedLaw, ClearedLaw}
+use Rattle.ped_loops.proofs.OnlyBodies.{pair}
+use Rattle.ped_loops.proofs.PlainDecided.{OrNot, plain_decided}
+use Rattle.ped_loops.proofs.SwappedKinds.{occurs_in, swapped_kinds}
+use Rattle.ped_loops.proofs.SwappedLoops.{AreSwapped}
+use Rattle.ped_loops.proofs.SwappedTrust.{stays_trusted_swap}
+use Rattle.ped_loops.proofs.UncrossedPairs.{uncrossed_pairs}
+
+or_neither : (a b : Bool) → a || b ≡ false → (a ≡ false) × (b ≡ false)
+or_neither true b e = absurd cc
+or_neither false b e = (refl, e)
+
+or_turned : (a b : Bool) → a || b ≡ b || a
+or_turned true true = refl
+or_turned true false = refl
+or_turned false true = refl
+or_turned false false = refl
+
+none_private : (xs : List (List ℕ)) → has_some xs ≡ false → xs ≡ []
+none_private [] e = refl
+none_private (x ∷ xs) e = absurd cc
+
+-- a body that isn't other than one DO is one
+record HasInner (body : StmtTrees) : Type 0 where
+  pub head : Head
+  pub inside : StmtTrees
+  pub only : only_loop body ≡ Some (pair head inside)
+
+inner_of : (body : StmtTrees) (o : Option (Head × StmtTrees)) → only_loop body ≡ o → is_none o ≡ false → HasInner body
+inner_of body None e f = absurd cc
+inner_of body (Some l) e f = record { head = l.0; inside = l.1; only = e }
+
+module _ (t : ProgramTree) (valid : IsValid t) (s : ℕ) (none : NoRule (StandsAgainstInterchange s t)) where
+  loop : LoopOf t s
+  loop = rules.its_loop s t none
+
+  it : HasInner loop.body
+  it = inner_of loop.body (only_loop loop.body) refl (rules.is_perfect s t none loop)
+
+  abbrev d : Head
+  d = loop.head
+
+  abbrev g : Head
+  g = it.head
+
+  abbrev h : Head
+  h = new_outer loop.head it.head
+
+  abbrev k : Head
+  k = new_inner loop.head it.head
+
+  -- a test of either fails for both
+  fails_both : (test : Head → StmtTrees → Bool) → either test d loop.body ≡ false → (test d loop.body ≡ false) × (test g it.inside ≡ false)
+  fails_both test e = or_neither (test d loop.body) (test g it.inside) (ap (λ (o : Option (Head × StmtTrees)). test d loop.body || of_loop test o) (sym it.only) ∙ e)
+
+  serial : (d.parallel ≡ false) × (g.parallel ≡ false)
+  serial = fails_both is_parallel (rules.are_serial s t none loop)
+
+  unprivate : (d.private ≡ []) × (g.private ≡ [])
+  unprivate = let both = fails_both has_private (rules.are_alone s t none loop) in (none_private d.private both.0, none_private g.private both.1)
+
+  -- rule 7: the inner bounds are free
+  free : (is_among d.variable (expr_names g.first) ≡ false) × (is_among d.variable (expr_names g.last) ≡ false)
+  free = or_neither (is_named d.variable g.first) (is_named d.variable g.last) (ap (λ (o : Option (Head × StmtTrees)). of_loop (λ f inside. names_outer d f) o) (sym it.only) ∙ rules.are_free s t none loop)
+
+  -- rule 6: all bounds are plain
+  all_plain : (n : ℕ) → HasUnplain t (IsBoundOfEither t s) n → ⊥
+  all_plain = least (HasUnplain t (IsBoundOfEither t s)) (λ n first. rules.are_plain s t none n (loop, first))
+
+  plain : (n : ℕ) (e : ExprTree) → IsBoundOfEither t s n e → IsPlain (setting_of t).constants t n e
+  plain n e asked = by (plain_decided (setting_of t).constants t n e)
+    where
+      by : OrNot (IsPlain (setting_of t).constants t n e) → IsPlain (setting_of t).constants t n e
+      by (inl p) = p
+      by (inr not) = absurd (all_plain n (e, asked, not))
+
+  outer_plain : (e : ExprTree) → IsBoundOf d e → IsPlain (setting_of t).constants t s e
+  outer_plain e bound = plain s e (loop, inl (refl, bound))
+
+  inner_plain : (e : ExprTree) → IsBoundOf g e → IsPlain (setting_of t).constants t (s + 1) e
+  inner_plain e bound = plain (s + 1) e (loop, inr (refl, subst (λ (o : Option (Head × StmtTrees)). MatchOption o ⊥ (λ f. IsBoundOf f.0 e)) (sym it.only) bound))
+
+  -- the new heads have the names of the old ones
+  heads : (y : List ℕ) → occurs_in y h || occurs_in y k ≡ occurs_in y d || occurs_in y g
+  heads y =
+      (λ i. occurs_in y (record g { first = outer_first t s loop g it.inside it.only free.0 free.1 i; last = outer_last t s loop g it.inside it.only free.0 free.1 i })
+      || occurs_in y (record d { first = inner_first t s loop g it.inside it.only free.0 free.1 i; last = inner_last t s loop g it.inside it.only free.0 free.1 i }))
+      ∙ or_turned (occurs_in y g) (occurs_in y d)
+
+  made : interchanged t s ≡ program_with (λ z. alone (Do h (change_only (λ f w. Do k w) loop.body))) s t
+  made = interchanged_is t s loop g it.inside it.only
+
+  kinds : (y : List ℕ) → kind_in (interchanged t s) y ≡ kind_in t y
+  kinds y =
+      ap (λ (u : ProgramTree). kind_in u y) made
+      ∙ swapped_kinds t valid s loop g h k it.inside it.only unprivate.0 unprivate.1 unprivate.1 unprivate.0 (λ x other. heads x) y
+
+  trusted : TrustedLaw → ClearedLaw → IsTrusted t → IsTrusted (interchanged t s)
+  trusted law cleared before =
+      subst IsTrusted (sym made)
+      (stays_trusted_swap t valid s loop (rules.is_contained s t none) g h k it.inside it.only refl refl refl refl serial.0 serial.1 serial.1 serial.0 unprivate.0 unprivate.1 unprivate.1 unprivate.0 law cleared before)
+
+  swap : ((edges : List Edge) → AreEdges t edges → (e : Edge) → IsIn e edges → is_carried_by t s loop.body e ≡ true → has_after (length (nest_round t s) + 1) e ≡ false) → AreSwapped t (interchanged t s) s loop g h k it.inside it.only
+  swap uncrossed =
+      free_swap t s loop g it.inside it.only free.0 free.1 valid (rules.is_valid s t none) kinds (variables_differ t valid s loop g it.inside it.only) serial.0 serial.1 unprivate.0 unprivate.1 (rules.is_contained s t none)
+      (outer_plain d.first (inl refl)) (outer_plain d.last (inr refl)) (inner_plain g.first (inl refl)) (inner_plain g.last (inr refl))
+      (variable_apart t valid s loop) (inner_variable_apart t valid s loop g it.inside it.only) uncrossed
+
+  module _ (making : MakingLaw) (sequence : SequenceLaw) (trusted_law : TrustedLaw) (cleared : ClearedLaw) (unrejected : UnrejectedLaw) where
+    pub interchange_faithful : ((edges : List Edge) → AreEdges t edges → All (λ e. crossing t s e ≡ false) edges) → IsTrusted t → IsFaithful t (interchanged t s)
+    interchange_faithful uncrossed before = record {
+      trusted = trusted trusted_law cleared before;
+      keeps = free_swap_keeps t s loop g it.inside it.only free.0 free.1 making sequence (swap (λ edges are. uncrossed_pairs unrejected t s loop edges before.unrejected are (uncrossed edges are)));
+    }
+
+module _ (making : MakingLaw) (sequence : SequenceLaw) (trusted_law : TrustedLaw) (cleared : ClearedLaw) (unrejected : UnrejectedLaw) (s : ℕ) where
+  pub lawful_interchange : IsLawful (interchanging s)
+  lawful_interchange = record {
+    one_cause = λ t c d p q. one_cause t (StandsAgainstInterchange s t) (crossing t s) (rules.chain s t).one c d p q;
+    one_made = rules.one_made s;
+    one_to_one = λ t new keep p. subst IsOneToOne (sym p.1) (but_one_to_one t s (s + 1));
+    some_made = λ t valid none. (interchanged t s, all_but s (s + 1) t, (refl, refl), rules.is_valid s t none.0);
+    keeps = λ t new keep valid none p before. subst (IsFaithful t) (sym p.0) (interchange_faithful t valid s none.0 making sequence trusted_law cleared unrejected none.1 before);
+  }

@@ -1,0 +1,19 @@
+use Rattle.std.proofs.Common.{Option, refl, subst}
+use Rattle.ped_tree.specs.Views.{program_tree}
+use Rattle.ped_scalar.specs.ped_rules.specs.Carried.{crossing, IsFirstOf}
+use Rattle.ped_scalar.specs.ped_rules.specs.ped_loop_runs.specs.ped_tidy.specs.ped_pasting.specs.ped_bodies.specs.ped_steps.specs.ped_laws.specs.ped_graph.specs.ped_edges.specs.declared.edges.Edge.{Edge}
+use Rattle.ped_scalar.specs.ped_rules.specs.ped_loop_runs.specs.ped_tidy.specs.ped_pasting.specs.ped_bodies.specs.ped_steps.specs.declared.causes.Refused.TheVariants as variant
+use Rattle.ped_loops.proofs.InterchangeAnswers.{forbidden, accepted}
+use Rattle.ped_loops.proofs.interchanging.unless_crossing.Goals as goal
+
+pub returns-in-Ok-Some : goal.returns-in-Ok-Some
+returns-in-Ok-Some g c =
+    let t = program_tree c.args.scene.now.tree.now in
+    let s = c.args.number in
+    forbidden s t c.in-Ok-Some.edge (variant.Dependence c.in-Ok-Some.edge) refl c.requires.free (subst (λ (o : Option Edge). IsFirstOf t (crossing t s) o) c.in-Ok-Some.field-0-is c.in-Ok-Some.ensures)
+
+pub returns-in-Ok-None : goal.returns-in-Ok-None
+returns-in-Ok-None g c =
+    let t = program_tree c.args.scene.now.tree.now in
+    let s = c.args.number in
+    accepted s t c.args.change c.requires.free (subst (λ (o : Option Edge). IsFirstOf t (crossing t s) o) c.in-Ok-None.field-0-is c.in-Ok-None.ensures) c.requires.is

@@ -1,6 +1,5 @@
 -- The rules that stand against `interchange`, one behind the other; and what is so where none stands.
 use Rattle.std.proofs.Common.{Bool, List, arith, false, inl, inr, refl, sym, true, ℕ, ◌+◌, ◌∙◌, ◌≡◌, ◌≤◌}
-use Rattle.ped_loops.proofs.OnlyBodies.{never}
 use Rattle.ped_loops.proofs.Contained.{contained}
 use Rattle.ped_loops.specs.CodeInterchanging.{NoneUpTo}
 use Rattle.ped_loops.specs.Interchanging.{IsBoundOfEither, MakesInterchanged, StandsAgainstInterchange, is_tied, has_no_unit, interchanged, makes_far}
@@ -15,7 +14,6 @@ use Rattle.ped_scalar.specs.ped_rules.specs.Rules.{WhereEscape, WhereLimit, Wher
 use Rattle.ped_scalar.specs.ped_rules.specs.ped_loop_runs.specs.ped_tidy.specs.ped_pasting.specs.ped_bodies.specs.ped_steps.specs.Causes.{IsFirstRule, NoRule, Rules}
 use Rattle.ped_scalar.specs.ped_rules.specs.ped_loop_runs.specs.ped_tidy.specs.ped_pasting.specs.ped_bodies.specs.ped_steps.specs.declared.rules.Rule.{Rule}
 use Rattle.ped_scalar.specs.ped_rules.specs.ped_loop_runs.specs.ped_tidy.specs.ped_pasting.specs.ped_bodies.specs.ped_steps.specs.declared.rules.Rule.TheVariants.{BoundNotPlain, BoundsShape, HasPrivate, IndexEscapes, Limit, NoLoop, NotPerfect, ParallelState, Range, StepShape}
-use Rattle.ped_scalar.specs.ped_rules.specs.ped_loop_runs.specs.ped_tidy.specs.ped_pasting.specs.ped_bodies.specs.ped_steps.specs.ped_flow.proofs.Answering.{same_body, same_head}
 use Rattle.ped_scalar.specs.ped_rules.specs.ped_loop_runs.specs.ped_tidy.specs.ped_pasting.specs.ped_bodies.specs.ped_steps.specs.ped_flow.specs.Questions.{IsContained, IsLoop, LoopOf}
 use Rattle.ped_scalar.specs.ped_rules.specs.ped_loop_runs.specs.ped_tidy.specs.ped_pasting.specs.ped_bodies.specs.ped_steps.specs.ped_symbols.specs.Kinds.{table_of}
 use Rattle.ped_scalar.specs.ped_rules.specs.ped_loop_runs.specs.ped_tidy.specs.ped_pasting.specs.ped_bodies.specs.ped_steps.specs.ped_symbols.specs.NameRefusals.{IsValid}

@@ -26,7 +26,8 @@ use Rattle.ped_rules.proofs.RightSteps.{near_spans}
 use Rattle.ped_scalar.specs.Scalars.{is_scalar, is_unfit}
 use Rattle.ped_scalar.specs.Expanding.{array_name, expanded, expand_kept, is_private_near, IsLostBy, IsScalarLostBy, IsExpanded, MakesExpanded, of_span, has_far_value, WhereLost, WhereArrayLimit, is_scalar_private_near, StandsAgainstExpanding, expanding}
 use Rattle.ped_scalar.proofs.FlowAnswers.{fit_scalar}
-use Rattle.ped_scalar.proofs.PrivatiseRules.{one_loop, fails_there, live_one}
+use Rattle.ped_rules.proofs.OneLoop.{one_loop, fails_there}
+use Rattle.ped_scalar.proofs.PrivatiseRules.{live_one}
 
 one_span : (v w : Span) → Some v ≡ Some w → v ≡ w
 one_span v w e = cc

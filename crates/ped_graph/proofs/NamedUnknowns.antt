@@ -1,5 +1,5 @@
 -- Unknowns that are named constants change no form: their coefficients are 0.
-use Rattle.std.proofs.Common.{◌≡◌, ℕ, suc, ℤ, ◌+ℤ◌, ◌-ℤ◌, neg_ℤ, ◌*ℤ◌, pos, List, [], ◌∷◌, ◌++◌, length, map, Bool, true, false, Option, Some, None, refl, sym, ap, ◌∙◌, subst, arith}
+use Rattle.std.proofs.Common.{◌≡◌, ℕ, ℤ, ◌+ℤ◌, ◌-ℤ◌, neg_ℤ, ◌*ℤ◌, pos, List, [], ◌∷◌, ◌++◌, length, map, Bool, true, false, Option, Some, None, refl, sym, ap, ◌∙◌, arith}
 use Rattle.std.proofs.lemmas.Int.{ints}
 use Rattle.std.proofs.lemmas.List.Folds.{list_any-append}
 use Rattle.std.specs.Prelude.{◌||◌, ◌&&◌, if◌then◌else◌, option_map, is_some}
@@ -11,7 +11,7 @@ use Rattle.ped_tree.specs.Tree.{ExprTree, Int, Var, Element, Neg, Add, Sub, Mul,
 use Rattle.ped_tree.specs.Constants.NamedConstants.{value_named}
 use Rattle.ped_tree.specs.Constants.ConstantExpressions.{constant_value}
 use Rattle.ped_affine.specs.Ranges.{is_near}
-use Rattle.ped_affine.specs.AffineForms.{Terms, AffineForm, form, is_small, is_limited, within_limits, constant_form, unknown_coefficient, unknown_form, variable_form, combined, combined_form, combination, times, opposite, negation, is_constant_form, product, constant_or, affine_of}
+use Rattle.ped_affine.specs.AffineForms.{Terms, AffineForm, form, is_small, is_limited, within_limits, constant_form, unknown_coefficient, unknown_form, variable_form, combined, combination, times, negation, is_constant_form, product, constant_or, affine_of}
 use Rattle.ped_graph.proofs.FormLengths.{HasMany, form_many}
 
 -- a coefficient of 0 for each of these names

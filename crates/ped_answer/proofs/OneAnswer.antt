@@ -16,7 +16,8 @@ use Rattle.ped_session.proofs.OneAnswer as items
 use Rattle.ped_answer.specs.declared.answering.Status.{Status}
 use Rattle.ped_answer.specs.declared.answering.Status.TheVariants.{Done, SomeRefused, BadWords, ReadFault, WriteFault, ProgramRefused, NoMemory, TooLong}
 use Rattle.ped_answer.specs.Refusals.{refused_line}
-use Rattle.ped_answer.specs.Answer.{Request, show, session, Input, source_input, data_input, cannot_read_line, too_long_line, IsJust, IsShown, AnswersScript, IsSession, AnswersInput, AnswersData, Answers}
+use Rattle.ped_words.specs.Requests.{Request, show, session, generate}
+use Rattle.ped_answer.specs.Answer.{Input, source_input, data_input, cannot_read_line, too_long_line, IsJust, IsShown, AnswersScript, IsSession, AnswersInput, AnswersData, Answers}
 
 -- a text has one valid tree at most
 pub one_tree : (text : List ℕ) (t u : ProgramTree) → ReadsValid text t → ReadsValid text u → t ≡ u

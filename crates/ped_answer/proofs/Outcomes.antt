@@ -14,7 +14,8 @@ use Rattle.ped_session.specs.ped_transformations.specs.ped_script.specs.Items.{c
 use Rattle.ped_session.specs.States.{State, opened}
 use Rattle.ped_session.specs.Scripts.{Said, AnswersItems}
 use Rattle.ped_answer.specs.Refusals.{refused_line}
-use Rattle.ped_answer.specs.Answer.{Request, Input, inputs_of, IsOneOf, CannotRead, MayAnswer, Answers, IsFrontOfAnswer, IsOutcome, IsShown, IsSession, AnswersScript, IsJust, ShowsTree, usage_line}
+use Rattle.ped_words.specs.Requests.{Request}
+use Rattle.ped_answer.specs.Answer.{Input, inputs_of, IsOneOf, CannotRead, MayAnswer, Answers, IsFrontOfAnswer, IsOutcome, IsShown, IsSession, AnswersScript, IsJust, ShowsTree, usage_line}
 use Rattle.ped_answer.specs.Serving.{AnswersFrom, session_status}
 
 module _ (A B : Status → List ℕ → Type 0) (weaker : (s : Status) (b : List ℕ) → A s b → B s b) where

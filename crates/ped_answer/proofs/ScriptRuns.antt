@@ -10,7 +10,8 @@ use Rattle.ped_session.specs.Scripts.{Said, AnswersItems}
 use Rattle.ped_session.specs.RunsAsBefore.{AnswersAsBefore}
 use Rattle.ped_answer.specs.declared.answering.Status.{Status}
 use Rattle.ped_answer.specs.declared.answering.Status.TheVariants.{Done, SomeRefused, BadWords, ReadFault, WriteFault, ProgramRefused, NoMemory, TooLong}
-use Rattle.ped_answer.specs.Answer.{Request, show, session, Input, source_input, data_input, cannot_read_line, too_long_line, IsJust, AnswersScript, IsSession, AnswersInput, AnswersData, Answers, MayAnswer, IsOutcome}
+use Rattle.ped_words.specs.Requests.{Request, show, session, generate}
+use Rattle.ped_answer.specs.Answer.{Input, source_input, data_input, cannot_read_line, too_long_line, IsJust, AnswersScript, IsSession, AnswersInput, AnswersData, Answers, MayAnswer, IsOutcome}
 use Rattle.ped_answer.specs.ScriptRuns.{IsWhole, AreData, RunsSession, RunsRequest}
 
 -- what is answered whole to a file is answered to its bytes

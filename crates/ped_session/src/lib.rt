@@ -30,6 +30,7 @@ pub use laws::{
     sources_keep_the_meaning, transformations_keep_the_meaning, undo_restores,
 };
 pub use ped_base;
+pub use ped_order;
 pub use ped_order::an_interleaving;
 pub use ped_print;
 pub use ped_script;

@@ -9,7 +9,8 @@ use Rattle.ped_answer.proofs.ExistenceLaws.Replying.{SomeOutcome, panes, answers
 use Rattle.ped_answer.specs.declared.answering.Status.{Status}
 use Rattle.ped_answer.specs.declared.answering.Status.TheVariants.{Done, SomeRefused, BadWords, ReadFault, ProgramRefused, TooLong}
 use Rattle.ped_answer.specs.Refusals.{refused_line}
-use Rattle.ped_answer.specs.Answer.{Request, show, session, Input, source_input, data_input, usage_line, cannot_read_line, too_long_line, IsJust, IsShown, AnswersScript, IsSession, AnswersInput, AnswersData, Answers}
+use Rattle.ped_words.specs.Requests.{Request, show, session, generate}
+use Rattle.ped_answer.specs.Answer.{Input, source_input, data_input, usage_line, cannot_read_line, too_long_line, IsJust, IsShown, AnswersScript, IsSession, AnswersInput, AnswersData, Answers}
 
 -- there is an answer
 abbrev HasSome : (Status → List ℕ → Type 0) → Type 0

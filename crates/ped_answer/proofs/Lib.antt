@@ -2,5 +2,8 @@ mod Counting
 mod ExistenceLaws
 mod Inputs
 mod OneAnswer
+mod OneReport
 mod Outcomes
+mod Reports
 mod ScriptRuns
+mod Tallying

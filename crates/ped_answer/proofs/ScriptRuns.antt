@@ -90,6 +90,7 @@ pub request_runs : AsBefore → (request : Option Request) (files : Contents) (s
 request_runs as_before None files s b whole h = tt
 request_runs as_before (Some (show program)) files s b whole h = tt
 request_runs as_before (Some (session program script data_file)) files s b whole h = session_runs as_before program script data_file files s b whole h
+request_runs as_before (Some (generate number)) files s b whole h = tt
 
 -- and what was sent, where it was written whole
 pub sent_runs : AsBefore → (request : Option Request) (files : Contents) (failed : List ℕ → Type 0) (sink_failed : Type 0) (sent : List ℕ) (s : Status) → IsWhole s → IsOutcome (MayAnswer request files failed) sink_failed sent s → RunsRequest request files sent

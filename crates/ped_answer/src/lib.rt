@@ -4,11 +4,11 @@
 #![tactic(auto)]
 
 mod answering;
+mod endings;
 mod existence;
 mod finishing;
 mod generating;
 mod loading;
-mod outcomes;
 mod panes;
 mod refusals;
 mod reporting;

@@ -12,7 +12,7 @@ ghost use Rattle.ped_answer.specs.Generated as Spec;
 ghost use Rattle.ped_answer.specs.Generated.{Applies, IsWordOn};
 ghost use Rattle.ped_answer.specs.Tallies.{first_count, Counts, ReportsLast, Reported};
 
-use crate::outcomes::end_alike;
+use crate::endings::end_alike;
 use crate::tallies::{Tally, apply_items};
 use itoa::Buffer;
 use ped_session::ped_base::{Bytes, NoMemory, push_number};

@@ -5,5 +5,6 @@ mod OneAnswer
 mod OneReport
 mod Outcomes
 mod Reports
+mod SameEnds
 mod ScriptRuns
 mod Tallying

@@ -1,5 +1,5 @@
 -- The report of a program that is made, by what its script came to and by what is reported of the last program.
-use Rattle.std.proofs.Common.{◌≡◌, ◌∙◌, refl, sym, ap, ap₂, subst, ℕ, ◌+◌, List, [], length, arith}
+use Rattle.std.proofs.Common.{◌≡◌, ◌∙◌, refl, sym, ap, ap₂, subst, ℕ, ◌+◌, List, [], ◌++◌, length, codes, arith}
 use Rattle.ped_gen.specs.Generated.{program, script}
 use Rattle.ped_session.specs.ped_tree.specs.Tree.{ProgramTree}
 use Rattle.ped_session.specs.ped_tree.specs.Numbering.{statements_count}
@@ -16,7 +16,7 @@ use Rattle.ped_session.specs.States.{State, opened}
 use Rattle.ped_session.specs.Scripts.{Said, AnswersItems}
 use Rattle.ped_session.specs.Histories.{ArePrinted}
 use Rattle.ped_answer.specs.declared.tallies.Tally as code
-use Rattle.ped_answer.specs.Generated.{Tally, Applies, IsWordOn, report, Reports}
+use Rattle.ped_answer.specs.Generated.{Tally, Figures, Applies, IsWordOn, figure_line, runs_line, report, Reports}
 use Rattle.ped_answer.specs.Tallies.{first_count, counted, Counts, ReportsLast, Reported}
 use Rattle.ped_answer.proofs.ExistenceLaws.Edges.{edges_of_program}
 use Rattle.ped_answer.proofs.ExistenceLaws.Replying.{reads_printed}
@@ -38,6 +38,33 @@ said_by n last accepted refused tested edges word =
 same_said : (n : ℕ) (last : ProgramTree) (edges : ℕ) (word : List ℕ) {x y p q k m : ℕ} → x ≡ y → p ≡ q → k ≡ m → said_by n last x p k edges word ≡ said_by n last y q m edges word
 same_said n last edges word {x} {y} {p} {q} {k} {m} a r t =
     ap (λ (z : ℕ). said_by n last z p k edges word) a ∙ ap (λ (z : ℕ). said_by n last y z k edges word) r ∙ ap (λ (z : ℕ). said_by n last y q z edges word) t
+
+abbrev figures_by : ℕ → ℕ → ℕ → ℕ → ℕ → ℕ → Figures
+figures_by statements pairs accepted refused tested edges = record { statements = statements; pairs = pairs; accepted = accepted; refused = refused; tested = tested; edges = edges }
+
+-- the lines one behind another
+pub eight_lines : (n s p accepted refused tested e : ℕ) (word t0 t1 t2 t3 t4 t5 t6 t7 t8 : List ℕ) → t0 ≡ []
+    → t1 ≡ t0 ++ figure_line (codes "generated") n → t2 ≡ t1 ++ figure_line (codes "statements") s → t3 ≡ t2 ++ figure_line (codes "pairs") p
+    → t4 ≡ t3 ++ figure_line (codes "accepted") accepted → t5 ≡ t4 ++ figure_line (codes "refused") refused → t6 ≡ t5 ++ figure_line (codes "tested") tested
+    → t7 ≡ t6 ++ figure_line (codes "edges") e → t8 ≡ t7 ++ runs_line word → t8 ≡ report n (figures_by s p accepted refused tested e) word
+eight_lines n s p accepted refused tested e word t0 t1 t2 t3 t4 t5 t6 t7 t8 e0 e1 e2 e3 e4 e5 e6 e7 e8 =
+    let l1 : t1 ≡ figure_line (codes "generated") n = e1 ∙ ap (λ (t : List ℕ). t ++ figure_line (codes "generated") n) e0 in
+    let l2 = e2 ∙ ap (λ (t : List ℕ). t ++ figure_line (codes "statements") s) l1 in
+    let l3 = e3 ∙ ap (λ (t : List ℕ). t ++ figure_line (codes "pairs") p) l2 in
+    let l4 = e4 ∙ ap (λ (t : List ℕ). t ++ figure_line (codes "accepted") accepted) l3 in
+    let l5 = e5 ∙ ap (λ (t : List ℕ). t ++ figure_line (codes "refused") refused) l4 in
+    let l6 = e6 ∙ ap (λ (t : List ℕ). t ++ figure_line (codes "tested") tested) l5 in
+    let l7 = e7 ∙ ap (λ (t : List ℕ). t ++ figure_line (codes "edges") e) l6 in
+    e8 ∙ ap (λ (t : List ℕ). t ++ runs_line word) l7
+
+-- with the figures of the last program
+pub of_last : (n : ℕ) (last : ProgramTree) (s p accepted refused tested e edges : ℕ) (word text : List ℕ) → s ≡ statements_count last.body → p ≡ pair_count (references last) → e ≡ edges
+    → text ≡ report n (figures_by s p accepted refused tested e) word → text ≡ said_by n last accepted refused tested edges word
+of_last n last s p accepted refused tested e edges word text statements pairs as_many is =
+    is
+    ∙ ap (λ (x : ℕ). report n (figures_by x p accepted refused tested e) word) statements
+    ∙ ap (λ (x : ℕ). report n (figures_by (statements_count last.body) x accepted refused tested e) word) pairs
+    ∙ ap (λ (x : ℕ). report n (figures_by (statements_count last.body) (pair_count (references last)) accepted refused tested x) word) as_many
 
 -- in a session that was opened on the program
 pub reported : StayPrinted → RunsInOrder → (n : ℕ) (s next : State) (t : ProgramTree) → ReadsValid (program n) t → s ≡ opened t

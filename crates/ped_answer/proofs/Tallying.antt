@@ -7,7 +7,7 @@ use Rattle.ped_session.specs.States.{State}
 use Rattle.ped_session.specs.Scripts.{Said, nothing_said, bad_command_said, said_by, said_both, AnswersCommand, AnswersItems}
 use Rattle.ped_session.proofs.OneStep.{one}
 use Rattle.ped_answer.specs.declared.tallies.Tally as code
-use Rattle.ped_answer.specs.Generated.{Tally, no_tally, tally_both, tally_of, AppliesCommand, Applies}
+use Rattle.ped_answer.specs.Generated.{Tally, no_tally, tally_both, tally_of, bad_command_tally, AppliesCommand, Applies}
 use Rattle.ped_answer.specs.Tallies.{counted}
 
 abbrev tally_by : ℕ → ℕ → ℕ → Tally
@@ -41,6 +41,10 @@ counted_nothing a = same_code (omega arith) (omega arith) (omega arith)
 -- a count with some lines, and with more
 pub counted_both : (a : code.Tally) (first rest : Tally) → counted (counted a first) rest ≡ counted a (tally_both first rest)
 counted_both a first rest = same_code (omega arith) (omega arith) (omega arith)
+
+-- a count with a line that is no command
+pub counted_bad : (a : code.Tally) → code_by a.accepted (a.refused + 1) a.tested ≡ counted a bad_command_tally
+counted_bad a = same_code (omega arith) (omega arith) (omega arith)
 
 -- a line comes to one thing, and leads to one state
 one_applied : (command : Option Command) (s m n : State) (a b : Tally) → AppliesCommand command s a m → AppliesCommand command s b n → (a ≡ b) × (m ≡ n)

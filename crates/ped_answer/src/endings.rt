@@ -28,35 +28,56 @@ fn has_ended(outcome: &Outcome, output: &[Bytes], live: &[LiveRow]) -> bool
         Outcome::Ended {
             output: lines,
             live: rows,
-        } => return same_lines(lines.as_slice(), output) && same_rows(rows.as_slice(), live),
+        } => return same_ends(lines.as_slice(), rows.as_slice(), output, live),
         Outcome::Fault { .. } => return false,
     }
 }
 
-/// Whether these are the same lines.
-fn same_lines(first: &[Bytes], second: &[Bytes]) -> bool
-    ensures { IsTrue result ↔ (first.now ≡ second.now) }
+/// Whether these are the same lines, and the same live-out variables with the same values.
+fn same_ends(lines: &[Bytes], rows: &[LiveRow], output: &[Bytes], live: &[LiveRow]) -> bool
+    ensures { IsTrue result ↔ (lines.now ≡ output.now) × (rows.now ≡ live.now) }
 {
-    if first.len() != second.len() {
+    same_lines(lines, output) && same_rows(rows, live)
+}
+
+/// Whether these are the same lines.
+fn same_lines(left: &[Bytes], right: &[Bytes]) -> bool
+    ensures { IsTrue result ↔ (left.now ≡ right.now) }
+{
+    if left.len() != right.len() {
         return false;
     }
-    for place in 0..first.len() {
-        if first[place].as_slice() != second[place].as_slice() {
+    for (i, line) in left.iter().enumerate() {
+        if !same_line(line, &right[i]) {
             return false;
         }
     }
     true
 }
 
-/// Whether these are the same live-out variables with the same values.
-fn same_rows(first: &[LiveRow], second: &[LiveRow]) -> bool
-    ensures { IsTrue result ↔ (map row_view first.now ≡ map row_view second.now) }
+/// Whether this is the same line.
+fn same_line(left: &Bytes, right: &Bytes) -> bool
+    ensures { IsTrue result ↔ (left.now ≡ right.now) }
 {
-    if first.len() != second.len() {
+    same_bytes(left.as_slice(), right.as_slice())
+}
+
+/// Whether these are the same bytes.
+fn same_bytes(left: &[u8], right: &[u8]) -> bool
+    ensures { IsTrue result ↔ (left.now ≡ right.now) }
+{
+    left == right
+}
+
+/// Whether these are the same live-out variables with the same values.
+fn same_rows(left: &[LiveRow], right: &[LiveRow]) -> bool
+    ensures { IsTrue result ↔ (left.now ≡ right.now) }
+{
+    if left.len() != right.len() {
         return false;
     }
-    for place in 0..first.len() {
-        if !same_row(&first[place], &second[place]) {
+    for (i, row) in left.iter().enumerate() {
+        if !same_row(row, &right[i]) {
             return false;
         }
     }
@@ -64,8 +85,16 @@ fn same_rows(first: &[LiveRow], second: &[LiveRow]) -> bool
 }
 
 /// Whether this is the same live-out variable with the same values.
-fn same_row(first: &LiveRow, second: &LiveRow) -> bool
-    ensures { IsTrue result ↔ (row_view first.now ≡ row_view second.now) }
+fn same_row(left: &LiveRow, right: &LiveRow) -> bool
+    ensures { IsTrue result ↔ (left.now ≡ right.now) }
 {
-    first.name == second.name && first.values.as_slice() == second.values.as_slice()
+    same_bytes(left.name.as_bytes(), right.name.as_bytes())
+        && same_values(left.values.as_slice(), right.values.as_slice())
+}
+
+/// Whether these are the same values, and the same are undefined.
+fn same_values(left: &[Option<i128>], right: &[Option<i128>]) -> bool
+    ensures { IsTrue result ↔ (left.now ≡ right.now) }
+{
+    left == right
 }

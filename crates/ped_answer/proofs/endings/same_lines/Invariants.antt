@@ -1,5 +1,6 @@
 use Rattle.std.proofs.Common.{◌≡◌, take}
 use Rattle.ped_answer.proofs.endings.same_lines.Given as goal
 
-abbrev pub invariant-loop-place : goal.invariant-loop-place
-invariant-loop-place l = take l.place l.first ≡ take l.place l.second
+-- what stands before is the same
+abbrev pub invariant-loop-i : goal.invariant-loop-i
+invariant-loop-i l = take l.i l.left ≡ take l.i l.right

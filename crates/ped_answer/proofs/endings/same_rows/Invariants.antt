@@ -1,6 +1,6 @@
-use Rattle.std.proofs.Common.{◌≡◌, take, map}
-use Rattle.ped_session.specs.ped_order.specs.ped_eval.specs.OutcomeViews.{row_view}
+use Rattle.std.proofs.Common.{◌≡◌, take}
 use Rattle.ped_answer.proofs.endings.same_rows.Given as goal
 
-abbrev pub invariant-loop-place : goal.invariant-loop-place
-invariant-loop-place l = take l.place (map row_view l.first) ≡ take l.place (map row_view l.second)
+-- what stands before is the same
+abbrev pub invariant-loop-i : goal.invariant-loop-i
+invariant-loop-i l = take l.i l.left ≡ take l.i l.right

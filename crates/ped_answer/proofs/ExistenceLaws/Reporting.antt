@@ -52,18 +52,20 @@ some_report comes n t valid =
     let last = reads_printed done.next.present done.printed.present in
     let edges = edges_of_program last.0 in
     let ended = comes last.0 (at_start last.0 [] []) in
-    let word = word_on (outcome t []) ended.0 in
-    (_, record {
-      tally = done.tally;
-      behind = done.next;
-      applies = done.is;
-      last = last.0;
-      reads = last.1;
-      edges = edges.0;
-      are_edges = edges.1;
-      ended = ended.0;
-      runs = ended.1;
-      word = word.0;
-      word_on = word.1;
-      says = refl;
-    })
+    let word = word_on (outcome t []) ended.0 in (
+      _,
+      record {
+        tally = done.tally;
+        behind = done.next;
+        applies = done.is;
+        last = last.0;
+        reads = last.1;
+        edges = edges.0;
+        are_edges = edges.1;
+        ended = ended.0;
+        runs = ended.1;
+        word = word.0;
+        word_on = word.1;
+        says = refl;
+      },
+    )

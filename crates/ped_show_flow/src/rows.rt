@@ -8,7 +8,7 @@ ghost use Rattle.ped_tree.specs.Numbering.{statements_count};
 use itoa::Buffer;
 use ped_base::{Name, NoMemory};
 use ped_flow::{Flow, Reader, flow_of};
-use ped_symbols::{Kind, Symbols};
+use ped_valid::ped_symbols::{Kind, Symbols};
 use ped_tree::{Program, Stmt};
 use std::alloc::Global;
 

@@ -1,0 +1,18 @@
+mod Contained
+mod Here
+mod Remainders
+mod OneTaken
+mod Sizes
+mod Settled
+mod NestRooms
+mod KeptRooms
+pub mod PlainTests
+mod PlainScenes
+mod Answering
+pub mod SkewRules
+pub mod StripRules
+pub mod PeelRules
+mod SkewAnswers
+mod StripAnswers
+mod PeelAnswers
+pub mod Determined

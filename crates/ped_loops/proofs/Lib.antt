@@ -23,6 +23,7 @@ mod ReverseAnswers
 mod OnlyBodies
 mod NestKnots
 mod PairOrders
+mod ShapedPairs
 mod LoopPairs
 mod LoopPlaces
 mod SwappedCells
@@ -35,8 +36,12 @@ mod ApartTurns
 mod ExchangedRaces
 mod SwappedAccesses
 mod SwappedKeeps
+mod SettledBounds
 mod SwappedBounds
 mod FreeBounds
+mod ShapedValues
+mod MovedBounds
+mod ShapedWays
 mod FreeSwaps
 mod UncrossedPairs
 pub mod InterchangeRules

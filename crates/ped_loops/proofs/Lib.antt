@@ -42,6 +42,7 @@ mod FreeBounds
 mod ShapedValues
 mod MovedBounds
 mod ShapedWays
+mod ShapedBounds
 mod FreeSwaps
 mod UncrossedPairs
 pub mod InterchangeRules

@@ -298,9 +298,29 @@ module _ (first last : Way) (e1 e2 : ℤ) where
     least_over e2 (int_min e1 e2) (when_rising first y ++ when_falling last y) (omega (arith, ints, clamps)) (over_joined (int_min e1 e2) (when_rising first y) (when_falling last y) (rising_over first e1 e2 y low) (falling_over last e1 e2 y high)),
   )
 
+  -- the iterations of the old inner loop in iteration i of the outer one, and of the new inner loop in iteration a of the new outer one; how many values of the new outer variable lie before those of the first, and of the old outer one before those of the second
+  abbrev pub way_row : ℕ → ℕ
+  way_row i = natural (bound_by last (e1 +ℤ pos (i - 1)) -ℤ bound_by first (e1 +ℤ pos (i - 1)) +ℤ pos 1)
+
+  abbrev pub way_column : ℕ → ℕ
+  way_column a = natural (from_above first last e2 (moved_by first e1 e2 +ℤ pos (a - 1)) -ℤ from_below first last e1 (moved_by first e1 e2 +ℤ pos (a - 1)) +ℤ pos 1)
+
+  abbrev pub way_later : ℕ → ℕ
+  way_later i = natural (bound_by first (e1 +ℤ pos (i - 1)) -ℤ moved_by first e1 e2)
+
+  abbrev pub way_below : ℕ → ℕ
+  way_below a = natural (from_below first last e1 (moved_by first e1 e2 +ℤ pos (a - 1)) -ℤ e1)
+
   -- so the iterations are regrouped
-  pub ways_regrouped : IsRegrouped (natural (e2 -ℤ e1 +ℤ pos 1)) (natural (moved_by last e2 e1 -ℤ moved_by first e1 e2 +ℤ pos 1)) (row e1 e2 (moved_by first e1 e2) (moved_by last e2 e1) lo hi p q ways_near (λ y from to. ways_within y) (λ x y low high from to. ways_forth x y low high) (λ x y low high. ways_back x y))
-      (column e1 e2 (moved_by first e1 e2) (moved_by last e2 e1) lo hi p q ways_near (λ y from to. ways_within y) (λ x y low high from to. ways_forth x y low high) (λ x y low high. ways_back x y))
-      (later e1 e2 (moved_by first e1 e2) (moved_by last e2 e1) lo hi p q ways_near (λ y from to. ways_within y) (λ x y low high from to. ways_forth x y low high) (λ x y low high. ways_back x y))
-      (below e1 e2 (moved_by first e1 e2) (moved_by last e2 e1) lo hi p q ways_near (λ y from to. ways_within y) (λ x y low high from to. ways_forth x y low high) (λ x y low high. ways_back x y))
+  pub ways_regrouped : IsRegrouped (natural (e2 -ℤ e1 +ℤ pos 1)) (natural (moved_by last e2 e1 -ℤ moved_by first e1 e2 +ℤ pos 1)) way_row way_column way_later way_below
   ways_regrouped = regrouped e1 e2 (moved_by first e1 e2) (moved_by last e2 e1) lo hi p q ways_near (λ y from to. ways_within y) (λ x y low high from to. ways_forth x y low high) (λ x y low high. ways_back x y)
+
+  -- and the variables have the same values
+  pub ways_value : (i j : ℕ) → 1 ≤ i → i ≤ natural (e2 -ℤ e1 +ℤ pos 1) → 1 ≤ j → moved_by first e1 e2 +ℤ pos (way_later i + j - 1) ≡ bound_by first (e1 +ℤ pos (i - 1)) +ℤ pos (j - 1)
+  ways_value = same_value e1 e2 (moved_by first e1 e2) (moved_by last e2 e1) lo hi p q ways_near (λ y from to. ways_within y) (λ x y low high from to. ways_forth x y low high) (λ x y low high. ways_back x y)
+
+  pub ways_outer : (a b : ℕ) → 1 ≤ a → a ≤ natural (moved_by last e2 e1 -ℤ moved_by first e1 e2 +ℤ pos 1) → 1 ≤ b → from_below first last e1 (moved_by first e1 e2 +ℤ pos (a - 1)) +ℤ pos (b - 1) ≡ e1 +ℤ pos (way_below a + b - 1)
+  ways_outer = same_outer e1 e2 (moved_by first e1 e2) (moved_by last e2 e1) lo hi p q ways_near (λ y from to. ways_within y) (λ x y low high from to. ways_forth x y low high) (λ x y low high. ways_back x y)
+
+  pub ways_lie : (a : ℕ) → 1 ≤ a → a ≤ natural (moved_by last e2 e1 -ℤ moved_by first e1 e2 +ℤ pos 1) → (moved_by first e1 e2 ≤ℤ (moved_by first e1 e2 +ℤ pos (a - 1))) × ((moved_by first e1 e2 +ℤ pos (a - 1)) ≤ℤ moved_by last e2 e1)
+  ways_lie = new_lies e1 e2 (moved_by first e1 e2) (moved_by last e2 e1) lo hi p q ways_near (λ y from to. ways_within y) (λ x y low high from to. ways_forth x y low high) (λ x y low high. ways_back x y)

@@ -3,12 +3,13 @@ use Rattle.ped_base.specs.Arithmetic.Arithmetic.{difference_of, from_left, in_ra
 use Rattle.ped_base.specs.Arithmetic.Faults.{◌>>=◌}
 use Rattle.ped_base.specs.declared.arithmetic.faults.Fault.TheVariants.{OutOfRange}
 use Rattle.ped_base.specs.declared.arithmetic.faults.Fault.{Fault}
+use Rattle.ped_loops.proofs.SettledBounds.{limits_there}
 use Rattle.ped_loops.specs.Shapes.{arguments_of, extreme_of}
 use Rattle.ped_scalar.specs.ped_rules.specs.ped_loop_runs.specs.ped_tidy.specs.ped_pasting.specs.ped_bodies.specs.ped_steps.proofs.RunLaws.SubstitutedSums.{minus_comes, plus_comes}
 use Rattle.ped_scalar.specs.ped_rules.specs.ped_loop_runs.specs.ped_tidy.specs.ped_pasting.specs.ped_bodies.specs.ped_steps.specs.ped_laws.proofs.ActLaws.Lists.{in_parts}
 use Rattle.ped_scalar.specs.ped_rules.specs.ped_loop_runs.specs.ped_tidy.specs.ped_pasting.specs.ped_bodies.specs.ped_steps.specs.ped_laws.specs.Acts.Orders.{IsIn}
 use Rattle.ped_scalar.specs.ped_rules.specs.ped_loop_runs.specs.ped_tidy.specs.ped_pasting.specs.ped_bodies.specs.ped_steps.specs.ped_laws.specs.ped_eval.specs.Evaluation.{Evaluated, Seen, by_number, cell_seen, given, index_seen, ◌>>>◌}
-use Rattle.ped_scalar.specs.ped_rules.specs.ped_loop_runs.specs.ped_tidy.specs.ped_pasting.specs.ped_bodies.specs.ped_steps.specs.ped_laws.specs.ped_eval.specs.Loops.{is_bound}
+use Rattle.ped_scalar.specs.ped_rules.specs.ped_loop_runs.specs.ped_tidy.specs.ped_pasting.specs.ped_bodies.specs.ped_steps.specs.ped_laws.specs.ped_eval.specs.Loops.{Limits, is_bound, limits}
 use Rattle.ped_scalar.specs.ped_rules.specs.ped_loop_runs.specs.ped_tidy.specs.ped_pasting.specs.ped_bodies.specs.ped_steps.specs.ped_laws.specs.ped_eval.specs.Scopes.{Names}
 use Rattle.ped_scalar.specs.ped_rules.specs.ped_loop_runs.specs.ped_tidy.specs.ped_pasting.specs.ped_bodies.specs.ped_steps.specs.ped_laws.specs.ped_eval.specs.Values.{binary, name_value, of_intrinsic, value, values, variable_value}
 use Rattle.ped_scalar.specs.ped_rules.specs.ped_loop_runs.specs.ped_tidy.specs.ped_pasting.specs.ped_bodies.specs.ped_steps.specs.ped_laws.specs.ped_store.specs.Cells.{Cell}
@@ -16,7 +17,7 @@ use Rattle.ped_scalar.specs.ped_rules.specs.ped_loop_runs.specs.ped_tidy.specs.p
 use Rattle.ped_scalar.specs.ped_rules.specs.ped_loop_runs.specs.ped_tidy.specs.ped_pasting.specs.ped_bodies.specs.ped_steps.specs.ped_sums.specs.Sums.{minus_of, plus_of}
 use Rattle.ped_tree.specs.Constants.ConstantExpressions.{intrinsic_result}
 use Rattle.ped_tree.specs.Constants.NamedConstants.{value_named}
-use Rattle.ped_tree.specs.Tree.{Call, ExprTree, ExprTrees, Var}
+use Rattle.ped_tree.specs.Tree.{Call, ExprTree, ExprTrees, Head, Var}
 use Rattle.ped_tree.specs.declared.expressions.Intrinsic.TheVariants.{Max, Min}
 use Rattle.ped_tree.specs.declared.expressions.Intrinsic.{Intrinsic}
 use Rattle.std.proofs.Common.{Bool, Err, List, None, Ok, Result, Some, [], ap, append-nil, arith, false, fold, if◌then◌else◌, inl, inr, neg_ℤ, pos, refl, subst, sym, true, ℕ, ℤ, ◌++◌, ◌+ℤ◌, ◌-ℤ◌, ◌^◌, ◌∙◌, ◌∷◌, ◌≡◌}
@@ -96,6 +97,10 @@ call_comes f a us w h e =
 abbrev pub AllSmall : List ℤ → Type 0
 AllSmall [] = Unit {0}
 AllSmall (n ∷ ns) = IsSmall n × AllSmall ns
+
+pub small_joined : (ms ns : List ℤ) → AllSmall ms → AllSmall ns → AllSmall (ms ++ ns)
+small_joined [] ns a b = b
+small_joined (m ∷ ms) ns a b = (a.0, small_joined ms ns a.1 b)
 
 -- the greatest and the least of small numbers
 left_comes : (op : ℤ → ℤ → ℤ) → ((u v : ℤ) → IsSmall u → IsSmall v → IsSmall (op u v)) → (us : List ℤ) (u : ℤ) → IsSmall u → AllSmall us → by_number (from_left (λ a. λ b. in_range (op a b)) u us) ≡ Ok (fold op u us)
@@ -208,3 +213,15 @@ module _ (g : Names) (s : Store) (P : Cell → Type 0) where
   least_worth e [] n (m ∷ ns) one all small all_small = absurd all
   least_worth e (c ∷ cs) n [] one all small all_small = absurd all
   least_worth e (c ∷ cs) n (m ∷ ns) one all small all_small = called Min (e ∷ c ∷ cs) (n ∷ m ∷ ns) (fold int_min n (m ∷ ns)) (one, all) (left_comes int_min min_small (m ∷ ns) n small all_small)
+
+  -- the limits of a DO whose bounds come so
+  pub limits_worth : (f : Head) (m n : ℤ) → IsWorth g s P f.first m → is_bound m ≡ true → IsWorth g s P f.last n → is_bound n ≡ true
+      → ((limits g f s).result ≡ Ok (record { first = m; last = n })) × ((c : Cell) (v : Content) → IsIn (cell_seen c v) (limits g f s).seen → P c)
+  limits_worth f m n one first_bound two last_bound =
+      let there = limits_there g f s m n one.comes first_bound two.comes last_bound in (
+        ap (λ (r : Evaluated Limits). r.result) there,
+        λ c v i. elim (in_parts (cell_seen c v) (value g f.first s).seen (value g f.last s).seen (subst (λ (r : Evaluated Limits). IsIn (cell_seen c v) r.seen) there i)) [
+          | inl k ↦ one.reads c v k
+          | inr k ↦ two.reads c v k
+        ],
+      )

@@ -11,7 +11,6 @@ use Rattle.ped_scalar.specs.ped_rules.specs.ped_loop_runs.specs.ped_tidy.specs.p
 use Rattle.ped_scalar.specs.ped_rules.specs.ped_loop_runs.specs.ped_tidy.specs.ped_pasting.specs.ped_bodies.specs.ped_steps.specs.ped_laws.specs.ped_eval.specs.Outcomes.{setting_of}
 use Rattle.ped_scalar.specs.ped_rules.specs.ped_loop_runs.specs.ped_tidy.specs.ped_pasting.specs.ped_bodies.specs.ped_steps.specs.ped_laws.specs.ped_eval.specs.Scopes.{Names, Scope, Setting, index_value, names_in}
 use Rattle.ped_scalar.specs.ped_rules.specs.ped_loop_runs.specs.ped_tidy.specs.ped_pasting.specs.ped_bodies.specs.ped_steps.specs.ped_laws.specs.ped_eval.specs.Values.{value}
-use Rattle.ped_scalar.specs.ped_rules.specs.ped_loop_runs.specs.ped_tidy.specs.ped_pasting.specs.ped_bodies.specs.ped_steps.specs.ped_laws.specs.ped_store.specs.Acts.{reads}
 use Rattle.ped_scalar.specs.ped_rules.specs.ped_loop_runs.specs.ped_tidy.specs.ped_pasting.specs.ped_bodies.specs.ped_steps.specs.ped_laws.specs.ped_store.specs.Cells.{Cell}
 use Rattle.ped_scalar.specs.ped_rules.specs.ped_loop_runs.specs.ped_tidy.specs.ped_pasting.specs.ped_bodies.specs.ped_steps.specs.ped_laws.specs.ped_store.specs.Stores.{Store}
 use Rattle.ped_scalar.specs.ped_rules.specs.ped_loop_runs.specs.ped_tidy.specs.ped_pasting.specs.ped_bodies.specs.ped_steps.specs.ped_sums.specs.Sums.{minus_of, plus_of}

@@ -43,6 +43,7 @@ mod ShapedValues
 mod MovedBounds
 mod ShapedWays
 mod ShapedBounds
+mod ShapedNames
 mod FreeSwaps
 mod UncrossedPairs
 pub mod InterchangeRules

@@ -143,10 +143,10 @@ module _ (t : ProgramTree) (valid : IsValid t) (l : ℕ) (loop : LoopOf t l) (g 
   last_part : HasPart (setting_of t).constants t l (last_shape loop.head g) g.last
   last_part = its_part (setting_of t).constants t l loop (next t valid l loop g inside only serial private apart inner_apart) unvalued g.last (last_shape loop.head g) last_is plain_inner_last old_inner_fits.1
 
-  first_way : Way
+  abbrev first_way : Way
   first_way = way t l placed.told placed.first settle (first_shape loop.head g) g.first first_part
 
-  last_way : Way
+  abbrev last_way : Way
   last_way = way t l placed.told placed.first settle (last_shape loop.head g) g.last last_part
 
   -- the old loops
@@ -165,10 +165,10 @@ module _ (t : ProgramTree) (valid : IsValid t) (l : ℕ) (loop : LoopOf t l) (g 
   abbrev row : ℕ → Limits
   row i = (row_at (setting_of t) loop.head g loop.body inside only l scope s goes i).bounds
 
-  e1 : ℤ
+  abbrev e1 : ℤ
   e1 = (pairs.outer (setting_of t) loop.head g loop.body inside only l scope s goes).bounds.first
 
-  e2 : ℤ
+  abbrev e2 : ℤ
   e2 = (pairs.outer (setting_of t) loop.head g loop.body inside only l scope s goes).bounds.last
 
   has : HasLimits (names_in p scope) d s (record { first = e1; last = e2 })
@@ -197,10 +197,10 @@ module _ (t : ProgramTree) (valid : IsValid t) (l : ℕ) (loop : LoopOf t l) (g 
       (worth_there t l placed.told placed.first settle around s place placed.during d.last outer_last)
 
   -- the new outer bounds
-  low : ℤ
+  abbrev low : ℤ
   low = moved_by first_way e1 e2
 
-  high : ℤ
+  abbrev high : ℤ
   high = moved_by last_way e2 e1
 
   low_worth : IsWorth (names_in p scope) s Fixed h.first low

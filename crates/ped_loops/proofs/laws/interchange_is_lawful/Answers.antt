@@ -1,3 +1,4 @@
+use Rattle.ped_loops.proofs.ShapedNames.{shaped_names}
 use Rattle.ped_loops.proofs.ShapedBounds.{shaped_trips}
 use Rattle.ped_loops.proofs.ShapedPairs.{ways_regrouped}
 use Rattle.ped_loops.proofs.MovedBounds.{moved_built, its_part, shape_is, some_shape}

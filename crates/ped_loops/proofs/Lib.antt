@@ -43,16 +43,17 @@ mod ShapedValues
 mod MovedBounds
 mod ShapedWays
 mod ShapedBounds
-mod ShapedNames
 mod FreeSwaps
+mod ShapedSwaps
 mod UncrossedPairs
 pub mod InterchangeRules
 mod LoopSurroundings
 mod SwappedKinds
+mod ShapedNames
 mod SwappedTrust
 pub mod PlainDecided
+mod PlainAnswers
 mod InterchangeLawful
 pub mod Determined
-mod PlainAnswers
 mod PlainPlaces
 mod InterchangeAnswers

@@ -1,6 +1,5 @@
 -- What `interchange` makes of two loops with increments 1 whose inner bounds have shapes in the outer variable.
 use Rattle.ped_base.specs.Lists.{is_among, is_same_text}
-use Rattle.ped_loops.proofs.Contained.{contained}
 use Rattle.ped_loops.proofs.FreeSwaps.{interchanged_is}
 use Rattle.ped_loops.proofs.OnlyBodies.{pair}
 use Rattle.ped_loops.proofs.ShapedBounds.{shaped_trips}
@@ -10,7 +9,6 @@ use Rattle.ped_loops.specs.Shapes.{new_inner, new_outer, shape_of}
 use Rattle.ped_scalar.specs.ped_rules.specs.Carried.{has_after}
 use Rattle.ped_scalar.specs.ped_rules.specs.OnlyLoops.{only_loop}
 use Rattle.ped_scalar.specs.ped_rules.specs.ped_loop_runs.specs.Carried.{is_carried_by}
-use Rattle.ped_scalar.specs.ped_rules.specs.ped_loop_runs.specs.ped_tidy.specs.ped_pasting.specs.ped_bodies.specs.Trips.{trips}
 use Rattle.ped_scalar.specs.ped_rules.specs.ped_loop_runs.specs.ped_tidy.specs.ped_pasting.specs.ped_bodies.specs.ped_steps.specs.ped_affine.specs.Ranges.{interval_of}
 use Rattle.ped_scalar.specs.ped_rules.specs.ped_loop_runs.specs.ped_tidy.specs.ped_pasting.specs.ped_bodies.specs.ped_steps.specs.ped_flow.specs.PlainBounds.{IsPlain, around_with, nest_round, setting_round}
 use Rattle.ped_scalar.specs.ped_rules.specs.ped_loop_runs.specs.ped_tidy.specs.ped_pasting.specs.ped_bodies.specs.ped_steps.specs.ped_flow.specs.Questions.{IsContained, LoopOf}

@@ -1,7 +1,7 @@
 -- `interchange` is lawful.
 use Rattle.std.specs.Prelude.{not}
-use Rattle.std.proofs.lemmas.Int.{ints}
-use Rattle.std.proofs.Common.{◌≡◌, ℕ, ℤ, pos, int_eq, ◌+◌, List, [], ◌∷◌, ◌++◌, length, All, Bool, true, false, ◌||◌, ◌&&◌, arith, unwrap_or, Option, Some, None, MatchOption, is_none, refl, sym, ap, ◌∙◌, subst, inl, inr}
+use Rattle.std.proofs.lemmas.Bool.Decides.{Decides-int_eq}
+use Rattle.std.proofs.Common.{◌≡◌, ℕ, ℤ, pos, ◌+◌, List, [], ◌∷◌, ◌++◌, length, All, Bool, true, false, ◌||◌, ◌&&◌, unwrap_or, Option, Some, None, MatchOption, is_none, refl, sym, ap, ◌∙◌, subst, inl, inr}
 use Rattle.ped_base.specs.Lists.{has_some, is_among}
 use Rattle.ped_tree.specs.NamesIn.{expr_names}
 use Rattle.ped_tree.specs.Tree.{ExprTree, Head, StmtTrees, Do, ProgramTree}
@@ -60,7 +60,7 @@ one_step None h = absurd cc
 one_step (Some n) h = go (is_one n) refl h
   where
     go : (b : Bool) → is_one n ≡ b → not b ≡ false → n ≡ pos 1
-    go true e q = let same : int_eq n (pos 1) ≡ true = e in omega (arith, ints, same)
+    go true e q = (Decides-int_eq n (pos 1)).0 e
     go false e q = absurd cc
 
 some_there : {X : Type 0} (o : Option X) → is_none o ≡ false → o ≡ None → ⊥

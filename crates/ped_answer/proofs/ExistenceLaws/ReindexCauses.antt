@@ -21,10 +21,9 @@ use Rattle.ped_answer.specs.ped_session.specs.ped_transformations.specs.ped_rein
 use Rattle.ped_answer.specs.ped_session.specs.ped_transformations.specs.ped_reindex.specs.ped_loops.specs.ped_scalar.specs.ped_rules.specs.KeepMaps.{moved_by}
 use Rattle.ped_answer.specs.ped_session.specs.ped_transformations.specs.ped_reindex.specs.ped_loops.specs.ped_scalar.specs.ped_rules.specs.OnlyLoops.{either}
 use Rattle.ped_answer.specs.ped_session.specs.ped_transformations.specs.ped_reindex.specs.ped_loops.specs.ped_scalar.specs.ped_rules.specs.Rules.{WhereNoLoop, isnt_perfect, is_parallel, has_private, WhereEscape, WhereUnplain, isnt_constant, WhereLimit}
-use Rattle.ped_answer.specs.ped_session.specs.ped_transformations.specs.ped_reindex.specs.ped_loops.specs.ped_scalar.specs.ped_rules.proofs.Chains.{chain_end}
 use Rattle.ped_answer.specs.ped_session.specs.ped_transformations.specs.ped_reindex.specs.ped_loops.specs.ped_scalar.specs.ped_rules.proofs.Decided.{loop_decided, valid_decided, limit_stands}
 use Rattle.ped_answer.specs.Existence.Deciding.{Decided}
-use Rattle.ped_answer.proofs.ExistenceLaws.ChainCauses.{Settled, Found, found_end, found_link, settled_no_loop, one_loop, settled_where, settled_escape, settled_limit, some_cause}
+use Rattle.ped_answer.proofs.ExistenceLaws.ChainCauses.{Settled, found_last, found_link, settled_no_loop, one_loop, settled_where, settled_escape, settled_limit, some_cause}
 
 -- a rule that isn't asked where a number isn't allowed
 settled_unless : (bad : Bool) (P : ℕ → Type 0) → Settled P → Settled (Unless bad P)
@@ -58,13 +57,13 @@ module _ (t : ProgramTree) (s : ℕ) where
     pub skew_cause : (c : Option Cause) × IsFirstCause t (StandsAgainstSkewing s f t) none_forbids c
     skew_cause = some_cause t (StandsAgainstSkewing s f t) none_forbids
         (found_link NoLoop (WhereNoLoop t s) (skew.perfect s f t) (skew.perfect_chain s f t) (settled_no_loop t s)
-        (found_link NotPerfect (WhereLoop t s isnt_perfect) (skew.state s f t) (skew.state_chain s f t) (settled_where t s (one_loop t s) isnt_perfect)
-        (found_link ParallelState (WhereLoop t s (either is_parallel)) (skew.escape s f t) (skew.escape_chain s f t) (settled_where t s (one_loop t s) (either is_parallel))
+        (found_link NotPerfect (WhereLoop t s isnt_perfect) (skew.state s f t) (skew.state_chain s f t) (settled_where t s isnt_perfect)
+        (found_link ParallelState (WhereLoop t s (either is_parallel)) (skew.escape s f t) (skew.escape_chain s f t) (settled_where t s (either is_parallel))
         (found_link IndexEscapes (WhereEscape t s) (skew.range s f t) (skew.range_chain s f t) (settled_escape t s)
-        (found_link Range (Unless (skew.bad s f t) (skew.Leaving s f t)) (skew.limit s f t) (skew.limit_chain s f t) (settled_unless (skew.bad s f t) (skew.Leaving s f t) (settled_where t s (one_loop t s) (skew_leaves t s f)))
+        (found_link Range (Unless (skew.bad s f t) (skew.Leaving s f t)) (skew.limit s f t) (skew.limit_chain s f t) (settled_unless (skew.bad s f t) (skew.Leaving s f t) (settled_where t s (skew_leaves t s f)))
         (found_link Limit (Unless (skew.bad s f t) (skew.Limited s f t)) (skew.factor s f t) (skew.factor_chain s f t)
             (settled_unless (skew.bad s f t) (skew.Limited s f t) (settled_limit t s (MakesSkewed s f) (skew.one_made s f t) (λ l. (skewed t s f, all_kept t, (refl, refl)))))
-        (found_link BadFactor (WhereLoop t s (has_bad_factor f)) no_rules (chain_end 16) (settled_where t s (one_loop t s) (has_bad_factor f)) found_end)))))))
+        (found_last BadFactor (WhereLoop t s (has_bad_factor f)) (settled_where t s (has_bad_factor f)))))))))
 
   module _ (k : ℤ) where
     -- the limit is plain, or it isn't
@@ -86,15 +85,15 @@ module _ (t : ProgramTree) (s : ℕ) where
     pub strip_cause : (c : Option Cause) × IsFirstCause t (StandsAgainstStripping s k t) none_forbids c
     strip_cause = some_cause t (StandsAgainstStripping s k t) none_forbids
         (found_link NoLoop (WhereNoLoop t s) (strip.state s k t) (strip.state_chain s k t) (settled_no_loop t s)
-        (found_link ParallelState (WhereLoop t s is_parallel) (strip.shared s k t) (strip.shared_chain s k t) (settled_where t s (one_loop t s) is_parallel)
-        (found_link HasPrivate (WhereLoop t s has_private) (strip.escape s k t) (strip.escape_chain s k t) (settled_where t s (one_loop t s) has_private)
+        (found_link ParallelState (WhereLoop t s is_parallel) (strip.shared s k t) (strip.shared_chain s k t) (settled_where t s is_parallel)
+        (found_link HasPrivate (WhereLoop t s has_private) (strip.escape s k t) (strip.escape_chain s k t) (settled_where t s has_private)
         (found_link IndexEscapes (WhereEscape t s) (strip.plain s k t) (strip.plain_chain s k t) (settled_escape t s)
         (found_link BoundNotPlain (WhereUnplain t s (IsItsLimit t s)) (strip.shape s k t) (strip.shape_chain s k t) settled_plain
-        (found_link StepShape (WhereLoop t s (strip.other_step s k t)) (strip.range s k t) (strip.range_chain s k t) (settled_where t s (one_loop t s) (strip.other_step s k t))
-        (found_link Range (Unless (strip.bad s k t) (strip.Leaving s k t)) (strip.limit s k t) (strip.limit_chain s k t) (settled_unless (strip.bad s k t) (strip.Leaving s k t) (settled_where t s (one_loop t s) (strip_leaves t s k)))
+        (found_link StepShape (WhereLoop t s (strip.other_step s k t)) (strip.range s k t) (strip.range_chain s k t) (settled_where t s (strip.other_step s k t))
+        (found_link Range (Unless (strip.bad s k t) (strip.Leaving s k t)) (strip.limit s k t) (strip.limit_chain s k t) (settled_unless (strip.bad s k t) (strip.Leaving s k t) (settled_where t s (strip_leaves t s k)))
         (found_link Limit (Unless (strip.bad s k t) (strip.Limited s k t)) (strip.size s k t) (strip.size_chain s k t)
             (settled_unless (strip.bad s k t) (strip.Limited s k t) (settled_made (MakesStripped s k) (strip.one_made s k t) (λ l. some_strips (strip_variable t) refl)))
-        (found_link BadFactor (WhereLoop t s (has_bad_size k)) no_rules (chain_end 16) (settled_where t s (one_loop t s) (has_bad_size k)) found_end)))))))))
+        (found_last BadFactor (WhereLoop t s (has_bad_size k)) (settled_where t s (has_bad_size k)))))))))))
 
   module _ (last : Bool) where
     some_peeled : (l : LoopOf t s) (o : Option Peeled) → peeled_of last (table_of t).constants l.head ≡ o → ((new : ProgramTree) × (keep : List (ℕ × ℕ)) × MakesPeeled s last t new keep) ⊎ ((new : ProgramTree) (keep : List (ℕ × ℕ)) → MakesPeeled s last t new keep → ⊥)
@@ -104,9 +103,9 @@ module _ (t : ProgramTree) (s : ℕ) where
     pub peel_cause : (c : Option Cause) × IsFirstCause t (StandsAgainstPeeling s last t) none_forbids c
     peel_cause = some_cause t (StandsAgainstPeeling s last t) none_forbids
         (found_link NoLoop (WhereNoLoop t s) (peel.state s last t) (peel.state_chain s last t) (settled_no_loop t s)
-        (found_link ParallelState (WhereLoop t s is_parallel) (peel.shared s last t) (peel.shared_chain s last t) (settled_where t s (one_loop t s) is_parallel)
-        (found_link HasPrivate (WhereLoop t s has_private) (peel.escape s last t) (peel.escape_chain s last t) (settled_where t s (one_loop t s) has_private)
+        (found_link ParallelState (WhereLoop t s is_parallel) (peel.shared s last t) (peel.shared_chain s last t) (settled_where t s is_parallel)
+        (found_link HasPrivate (WhereLoop t s has_private) (peel.escape s last t) (peel.escape_chain s last t) (settled_where t s has_private)
         (found_link IndexEscapes (WhereEscape t s) (peel.range s last t) (peel.range_chain s last t) (settled_escape t s)
-        (found_link Range (WhereLoop t s (peel.far s last t)) (peel.constant s last t) (peel.constant_chain s last t) (settled_where t s (one_loop t s) (peel.far s last t))
-        (found_link NotConstant (WhereLoop t s (peel.variable s last t)) (peel.limit s last t) (peel.limit_chain s last t) (settled_where t s (one_loop t s) (peel.variable s last t))
-        (found_link Limit (WhereLimit (MakesPeeled s last) t s) no_rules (chain_end 15) (settled_made (MakesPeeled s last) (peel.one_made s last t) (λ l. some_peeled l (peeled_of last (table_of t).constants l.head) refl)) found_end)))))))
+        (found_link Range (WhereLoop t s (peel.far s last t)) (peel.constant s last t) (peel.constant_chain s last t) (settled_where t s (peel.far s last t))
+        (found_link NotConstant (WhereLoop t s (peel.variable s last t)) (peel.limit s last t) (peel.limit_chain s last t) (settled_where t s (peel.variable s last t))
+        (found_last Limit (WhereLimit (MakesPeeled s last) t s) (settled_made (MakesPeeled s last) (peel.one_made s last t) (λ l. some_peeled l (peeled_of last (table_of t).constants l.head) refl)))))))))

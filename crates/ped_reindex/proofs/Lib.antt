@@ -16,3 +16,7 @@ mod SkewAnswers
 mod StripAnswers
 mod PeelAnswers
 pub mod Determined
+mod SkewedActs
+mod SkewedLoops
+mod SkewedStands
+mod SkewedKeeps

@@ -24,7 +24,7 @@ pub mod OnlyBodies
 mod NestKnots
 mod PairOrders
 mod LoopPairs
-mod LoopPlaces
+pub mod LoopPlaces
 mod SwappedCells
 mod SwappedLoops
 mod SwappedWeave

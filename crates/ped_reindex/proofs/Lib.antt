@@ -20,3 +20,4 @@ mod SkewedActs
 mod SkewedLoops
 mod SkewedStands
 mod SkewedKeeps
+mod SkewedValues

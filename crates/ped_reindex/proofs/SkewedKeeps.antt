@@ -42,7 +42,8 @@ use Rattle.ped_loops.specs.ped_scalar.specs.ped_rules.specs.ped_loop_runs.proofs
 use Rattle.ped_loops.specs.ped_scalar.specs.ped_rules.specs.ped_loop_runs.proofs.LoopLaws.RacesByReferences.{by_references, told_is_unreferred}
 use Rattle.ped_reindex.proofs.SkewedActs.{valueless, AreSameTurns, AreKept, IsKeptAccess, acts_themselves, kept_append, access_kept}
 use Rattle.ped_reindex.proofs.SkewedLoops.{same_loops}
-use Rattle.ped_reindex.proofs.SkewedStands.{IsInnerChange, as_many, stands_instead, does_instead, kept_instead}
+use Rattle.ped_loops.proofs.OnlyBodies.{only_counted}
+use Rattle.ped_reindex.proofs.SkewedStands.{IsInnerChange, stands_instead, does_instead, kept_instead}
 
 -- values of DO variables don't tell whether two places are apart
 apart_valueless : (is ks : List Turn) → are_apart is ks ≡ are_apart (map valueless is) (map valueless ks)
@@ -98,7 +99,10 @@ module _ (t u : ProgramTree) (l : ℕ) (loop : LoopOf t l) (g h : Head) (inside 
   same_setting = ap (renumbered (λ n. n)) setting
 
   indices : (y : List ℕ) → is_among y (all_loop_variables new) ≡ is_among y (all_loop_variables old)
-  indices y = λ i. is_among y ((loop.head.variable ∷ same_loops p g h inside others x.variable x.private x.parallel x.loops idle loop.head loop.body other_body x.only x.new_only i) ++ [])
+  indices y = λ i. is_among y ((loop.head.variable ∷ same_loops p g h inside others x.variable x.private x.parallel x.loops idle loop.body other_body x.only x.new_only i) ++ [])
+
+  as_many : statements_count new ≡ statements_count old
+  as_many = let one = only_counted g inside loop.body x.only in let two = only_counted h others other_body x.new_only in let same = x.counted in omega (arith, one, two, same)
 
   module _ (data_bytes : List ℕ) (free : IsRaceFree t data_bytes) where
     module _ (scope : Scope) (front behind : List Act) (s : Store) (executed : IsExecuted p t (start data_bytes) l count scope front (run_all p old l scope s).acts behind s) (goes : finish_of (run_all p old l scope s).ending ≡ goes_on) where
@@ -201,7 +205,7 @@ module _ (t u : ProgramTree) (l : ℕ) (loop : LoopOf t l) (g h : Head) (inside 
       bounds = λ y k. ap (λ (r : Setting). r.bounds y) (sym setting);
       constants = ap (λ (r : Setting). r.constants) (sym setting);
       one_each = λ m n e. e;
-      numbers = record { before = λ k less. refl; behind = λ k less. ap (λ (n : ℕ). first + (n + 0) + k) (as_many t u l loop g h inside others other_body x) };
+      numbers = record { before = λ k less. refl; behind = λ k less. ap (λ (n : ℕ). first + n + k) as_many };
       some = way.some;
       unstopped = (λ i. loop_stops t l loop (fitting_stops t x.valid.fits) i || false);
       indices = λ k. indices;

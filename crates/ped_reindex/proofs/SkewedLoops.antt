@@ -179,17 +179,8 @@ module _ (p : Setting) (g h : Head) (inside others : StmtTrees) (variable : h.va
           (entry_kept, kept_append idle (trips e scope at old.trip 1 e.count) (trips z scope at made.fresh 1 z.count) (loop_close e scope at) (loop_close z scope at) trips_kept close_kept);
     }
 
-  -- the outer one
-  module _ (d : Head) (body other_body : StmtTrees) (only : only_loop body ≡ Some (pair g inside)) (new_only : only_loop other_body ≡ Some (pair h others)) (l : ℕ) (scope : Scope) (s : Store) (goes : finish_of (run p (Do d body) l scope s).ending ≡ goes_on) (stored : (f : Frame) → idle (cell_of (f ∷ scope) g.variable) ≡ true) where
-    abbrev its_place : Place
-    its_place = place_of p l scope
-
-    abbrev pub e0 : Entered
-    e0 = outer_entered p d body l scope s goes
-
-    abbrev pub old_trip : ℕ → List Act
-    old_trip = (outer p d body l scope s goes).trip
-
+  -- it has the same DO loops in it
+  module _ (body other_body : StmtTrees) (only : only_loop body ≡ Some (pair g inside)) (new_only : only_loop other_body ≡ Some (pair h others)) where
     old_loops : all_loop_variables body ≡ loop_variables (Do g inside)
     old_loops = only_tells g inside loop_variables all_loop_variables (λ (xs ys : List (List ℕ)). xs ++ ys) [] (λ xs. refl) (λ xs. append-nil xs) refl (λ t rest. refl) (λ text. refl) body only
 
@@ -203,11 +194,22 @@ module _ (p : Setting) (g h : Head) (inside others : StmtTrees) (variable : h.va
     inner_names true = λ i. sorted_once (sym same_loops i)
     inner_names false = refl
 
+  -- the outer one
+  module _ (d : Head) (body other_body : StmtTrees) (only : only_loop body ≡ Some (pair g inside)) (new_only : only_loop other_body ≡ Some (pair h others)) (l : ℕ) (scope : Scope) (s : Store) (goes : finish_of (run p (Do d body) l scope s).ending ≡ goes_on) (stored : (f : Frame) → idle (cell_of (f ∷ scope) g.variable) ≡ true) where
+    abbrev its_place : Place
+    its_place = place_of p l scope
+
+    abbrev pub e0 : Entered
+    e0 = outer_entered p d body l scope s goes
+
+    abbrev pub old_trip : ℕ → List Act
+    old_trip = (outer p d body l scope s goes).trip
+
     new_entered : IsEntered p l scope d other_body (bounds_seen p d scope s) e0
     new_entered = (
       (outer p d body l scope s goes).bounds,
       (λ u holds. (limits_told (names_in p scope) d).comes s u holds ∙ (λ i. record { seen = bounds_seen p d scope s; result = (outer p d body l scope s goes).come i })),
-      (λ i. record { number = e0.number; head = d; first = e0.first; step = e0.step; count = e0.count; behind_bounds = e0.behind_bounds; inner = inner_names d.parallel i }),
+      (λ i. record { number = e0.number; head = d; first = e0.first; step = e0.step; count = e0.count; behind_bounds = e0.behind_bounds; inner = inner_names body other_body only new_only d.parallel i }),
     )
 
     module _ (later : (k : ℕ) → 1 ≤ k → k ≤ e0.count → (old : Limits) → (limits (names_in p (frame e0 k ∷ scope)) g (store_at p d body l scope s goes k)).result ≡ Ok old → HasLaterTrips p g h inside others (l + 1) (frame e0 k ∷ scope) (store_at p d body l scope s goes k) old) where

@@ -152,7 +152,7 @@ module _ (t u : ProgramTree) (l : ℕ) (loop : LoopOf t l) (g h : Head) (inside 
       (ap (is_among g.variable) (only_tells g inside loop_variables all_loop_variables (λ (xs ys : List (List ℕ)). xs ++ ys) [] (λ xs. refl) (λ xs. append-nil xs) refl (λ z rest. refl) (λ text. refl) body x.only)
       ∙ or_left (is_same_text g.variable g.variable) (is_among g.variable (all_loop_variables inside)) (text_itself g.variable))
 
-  pub as_many : statement_count new_loop ≡ statement_count old_loop
+  as_many : statement_count new_loop ≡ statement_count old_loop
   as_many = let one = only_counted g inside body x.only in let two = only_counted h others other_body x.new_only in let same = x.counted in omega (arith, one, two, same)
 
   module _ (scope : Scope) (front behind : List Act) (s : Store) (executed : IsExecuted p t start l count scope front (run p old_loop l scope s).acts behind s) (goes : finish_of (run p old_loop l scope s).ending ≡ goes_on) where

@@ -21,3 +21,7 @@ mod SkewedLoops
 mod SkewedStands
 mod SkewedKeeps
 mod SkewedValues
+mod SkewedBounds
+mod SkewedNames
+mod SkewedTrust
+mod SkewLawful

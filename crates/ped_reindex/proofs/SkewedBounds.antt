@@ -183,7 +183,7 @@ module _ (t : ProgramTree) (valid : IsValid t) (l : ℕ) (loop_is : LoopOf t l) 
   abbrev nest : List Loop
   nest = nest_round t l ++ loop l d ∷ []
 
-  inner_loop : LoopOf t (l + 1)
+  abbrev inner_loop : LoopOf t (l + 1)
   inner_loop = record { head = g; body = inside_it; is = inner_there t l d body g inside_it loop_is.is only }
 
   -- what validity tells of the two variables
@@ -199,7 +199,7 @@ module _ (t : ProgramTree) (valid : IsValid t) (l : ℕ) (loop_is : LoopOf t l) 
       (ap (is_among i) (sym (only_tells g inside_it assigned_in assigned_in_all (λ (xs ys : List (List ℕ)). xs ++ ys) [] (λ xs. refl) (λ xs. append-nil xs) refl (λ z rest. refl) (λ text. refl) body only)) ∙ unassigned)).0
 
   differ_back : is_same_text j i ≡ false
-  differ_back = false_unless (is_same_text j i) (λ e. both_ways (is_same_text i j) differ ((λ z. is_same_text (sym (same_is j i e) z) (same_is j i e z)) ∙ (λ z. is_same_text (sym (same_is j i e) z) j) ∙ same_itself j))
+  differ_back = false_unless (is_same_text j i) (λ e. both_ways (is_same_text i j) differ (ap (is_same_text i) (same_is j i e) ∙ same_itself i))
 
   outside : is_among i (all_loop_variables inside_it) ≡ false
   outside =

@@ -1,9 +1,9 @@
 -- Values of skewed bounds, and of what stands for the inner variable: sums and differences with a multiple of another variable, which don't overflow.
 use Rattle.std.proofs.Common.{◌≡◌, ℕ, zero, suc, ◌+◌, ◌*◌, ◌^◌, ◌≤◌, ℤ, pos, neg_ℤ, ◌+ℤ◌, ◌-ℤ◌, ◌*ℤ◌, ◌≤ℤ◌, List, [], ◌++◌, Bool, true, false, ◌&&◌, ◌||◌, Option, Some, None, Result, Ok, Err, refl, sym, ap, ◌∙◌, subst, arith, append-nil, int_div, if◌then◌else◌}
-use Rattle.std.specs.Prelude.{unsigned_abs, nat_lt}
+use Rattle.std.specs.Prelude.{unsigned_abs, nat_lt, int_le}
 use Rattle.std.specs.Int.{is_negative}
 use Rattle.std.proofs.lemmas.Int.{ints}
-use Rattle.std.proofs.lemmas.Bool.{or_parts}
+use Rattle.std.proofs.lemmas.Bool.{and_parts, or_parts}
 use Rattle.ped_base.specs.Arithmetic.Arithmetic.{is_in_range, in_range, sum_of, difference_of}
 use Rattle.ped_base.specs.Lists.{is_same_text, is_among}
 use Rattle.ped_base.specs.declared.arithmetic.faults.Fault.{Fault}
@@ -36,7 +36,11 @@ pub near_bound : (n : ℤ) → IsNear n → is_bound n ≡ true
 near_bound n near = let a = near.from in let b = near.to in grind (arith, linear, a, b)
 
 pub bound_near : (n : ℤ) → is_bound n ≡ true → IsNear n
-bound_near n h = record { from = omega (arith, linear, h); to = omega (arith, linear, h) }
+bound_near n h =
+    let both = and_parts (int_le (neg_ℤ (pos (2 ^ 62))) n) (int_le n (pos (2 ^ 62))) h in
+    let low : int_le (neg_ℤ (pos (2 ^ 62))) n ≡ true = both.0 in
+    let high : int_le n (pos (2 ^ 62)) ≡ true = both.1 in
+    record { from = omega (arith, linear, low); to = omega (arith, linear, high) }
 
 near_in_range : (n : ℤ) → IsNear n → is_in_range n ≡ true
 near_in_range n near = let a = near.from in let b = near.to in small_in_range n (omega (arith, linear, a)) (omega (arith, linear, b))

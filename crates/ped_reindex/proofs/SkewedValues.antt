@@ -40,7 +40,7 @@ bound_near n h =
     let both = and_parts (int_le (neg_ℤ (pos (2 ^ 62))) n) (int_le n (pos (2 ^ 62))) h in
     let low : int_le (neg_ℤ (pos (2 ^ 62))) n ≡ true = both.0 in
     let high : int_le n (pos (2 ^ 62)) ≡ true = both.1 in
-    record { from = omega (arith, linear, low); to = omega (arith, linear, high) }
+    record { from = omega (arith, linear); to = omega (arith, linear) }
 
 near_in_range : (n : ℤ) → IsNear n → is_in_range n ≡ true
 near_in_range n near = let a = near.from in let b = near.to in small_in_range n (omega (arith, linear, a)) (omega (arith, linear, b))

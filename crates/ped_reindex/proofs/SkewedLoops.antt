@@ -1,25 +1,24 @@
 -- A DO whose one inner DO gives way to one with as many iterations, whose bodies do likewise: it does the same acts, but for what the inner one leaves in its variable.
-use Rattle.std.proofs.Common.{◌≡◌, ℕ, zero, suc, ◌+◌, ◌-◌, ◌<◌, ◌≤◌, List, [], ◌∷◌, ◌++◌, Bool, true, false, ◌==◌, ◌&&◌, not, Option, Some, None, Ok, refl, sym, ap, ◌∙◌, subst, inl, inr, arith, append-nil, if◌then◌else◌}
-use Rattle.std.specs.List.{flat_map, range_with_len}
-use Rattle.ped_tree.specs.Numbering.{statement_count, statements_count}
+use Rattle.std.proofs.Common.{◌≡◌, ℕ, ◌+◌, ◌-◌, ◌<◌, ◌≤◌, List, [], ◌∷◌, ◌++◌, Bool, true, false, ◌==◌, ◌&&◌, not, Some, None, Ok, refl, sym, ap, ◌∙◌, subst, inr, arith, append-nil, if◌then◌else◌}
+use Rattle.ped_tree.specs.Numbering.{statements_count}
 use Rattle.ped_tree.specs.NamesIn.{loop_variables, all_loop_variables}
 use Rattle.ped_tree.specs.Tree.{Assign, Comment, Do, Head, If, Print, Read, StmtTree, StmtTrees, Stop, more_stmts, no_stmts}
 use Rattle.ped_loops.specs.ped_scalar.specs.ped_rules.specs.ped_loop_runs.specs.ped_tidy.specs.ped_pasting.specs.ped_bodies.specs.ped_steps.specs.ped_laws.specs.ped_store.specs.Cells.{Cell}
 use Rattle.ped_loops.specs.ped_scalar.specs.ped_rules.specs.ped_loop_runs.specs.ped_tidy.specs.ped_pasting.specs.ped_bodies.specs.ped_steps.specs.ped_laws.specs.ped_store.specs.Stores.{Store}
-use Rattle.ped_loops.specs.ped_scalar.specs.ped_rules.specs.ped_loop_runs.specs.ped_tidy.specs.ped_pasting.specs.ped_bodies.specs.ped_steps.specs.ped_laws.specs.ped_store.specs.Acts.{Touch, Turn, Place, Act, entered, ended_turn, closed}
+use Rattle.ped_loops.specs.ped_scalar.specs.ped_rules.specs.ped_loop_runs.specs.ped_tidy.specs.ped_pasting.specs.ped_bodies.specs.ped_steps.specs.ped_laws.specs.ped_store.specs.Acts.{Touch, Place, Act, ended_turn, closed}
 use Rattle.ped_loops.specs.ped_scalar.specs.ped_rules.specs.ped_loop_runs.specs.ped_tidy.specs.ped_pasting.specs.ped_bodies.specs.ped_steps.specs.ped_laws.specs.Acts.Fitting.{of_cells}
 use Rattle.ped_loops.specs.ped_scalar.specs.ped_rules.specs.ped_loop_runs.specs.ped_tidy.specs.ped_pasting.specs.ped_bodies.specs.ped_steps.specs.ped_laws.specs.Acts.Sets.{nothing}
 use Rattle.ped_loops.specs.ped_scalar.specs.ped_rules.specs.ped_loop_runs.specs.ped_tidy.specs.ped_pasting.specs.ped_bodies.specs.ped_steps.specs.ped_laws.specs.Acts.Renaming.{own_name}
 use Rattle.ped_loops.specs.ped_scalar.specs.ped_rules.specs.ped_loop_runs.specs.ped_tidy.specs.ped_pasting.specs.ped_bodies.specs.ped_steps.specs.ped_laws.specs.Runs.Seeing.{ComesTo}
 use Rattle.ped_loops.specs.ped_scalar.specs.ped_rules.specs.ped_loop_runs.specs.ped_tidy.specs.ped_pasting.specs.ped_bodies.specs.ped_steps.specs.ped_laws.specs.Runs.Replaying.{IsEntered, Replays, finish_of, goes_on, act}
 use Rattle.ped_loops.specs.ped_scalar.specs.ped_rules.specs.ped_loop_runs.specs.ped_tidy.specs.ped_pasting.specs.ped_bodies.specs.ped_steps.specs.ped_laws.proofs.RunLaws.Sight.{limits_told}
-use Rattle.ped_loops.specs.ped_scalar.specs.ped_rules.specs.ped_loop_runs.specs.ped_tidy.specs.ped_pasting.specs.ped_bodies.specs.ped_steps.specs.ped_laws.specs.ped_eval.specs.Evaluation.{Seen, numbered}
+use Rattle.ped_loops.specs.ped_scalar.specs.ped_rules.specs.ped_loop_runs.specs.ped_tidy.specs.ped_pasting.specs.ped_bodies.specs.ped_steps.specs.ped_laws.specs.ped_eval.specs.Evaluation.{numbered}
 use Rattle.ped_loops.specs.ped_scalar.specs.ped_rules.specs.ped_loop_runs.specs.ped_tidy.specs.ped_pasting.specs.ped_bodies.specs.ped_steps.specs.ped_laws.specs.ped_eval.specs.Loops.{Entered, Limits, limits, sorted_once, inner_variables, frame, left_in_variable, undefined_by, undefined_all, exit_touches, exit_when_none}
 use Rattle.ped_loops.specs.ped_scalar.specs.ped_rules.specs.ped_loop_runs.specs.ped_tidy.specs.ped_pasting.specs.ped_bodies.specs.ped_steps.specs.ped_laws.specs.ped_eval.specs.Runs.{Run, run}
 use Rattle.ped_loops.specs.ped_scalar.specs.ped_rules.specs.ped_loop_runs.specs.ped_tidy.specs.ped_pasting.specs.ped_bodies.specs.ped_steps.specs.ped_laws.specs.ped_eval.specs.Scopes.{Frame, Scope, Setting, turns_of, cell_of, names_in, place_of}
 use Rattle.ped_loops.specs.ped_scalar.specs.ped_rules.specs.ped_loop_runs.specs.ped_tidy.specs.ped_pasting.specs.ped_bodies.specs.ped_steps.specs.ped_laws.specs.ped_eval.specs.Statements.{write_touch}
 use Rattle.ped_loops.specs.ped_scalar.specs.ped_rules.specs.ped_loop_runs.specs.ped_tidy.specs.ped_pasting.specs.ped_bodies.specs.ped_steps.specs.ped_laws.specs.ped_eval.specs.Turns.{body_run}
-use Rattle.ped_loops.specs.ped_scalar.specs.ped_rules.specs.ped_loop_runs.specs.ped_tidy.specs.ped_pasting.specs.ped_bodies.specs.Likewise.{AllMeet, AreLikewise, AreSeenAlike}
+use Rattle.ped_loops.specs.ped_scalar.specs.ped_rules.specs.ped_loop_runs.specs.ped_tidy.specs.ped_pasting.specs.ped_bodies.specs.Likewise.{AreSeenAlike}
 use Rattle.ped_loops.specs.ped_scalar.specs.ped_rules.specs.ped_loop_runs.specs.ped_tidy.specs.ped_pasting.specs.ped_bodies.specs.Moving.{own_number}
 use Rattle.ped_loops.specs.ped_scalar.specs.ped_rules.specs.ped_loop_runs.specs.ped_tidy.specs.ped_pasting.specs.ped_bodies.specs.Standing.{GoLikewise}
 use Rattle.ped_loops.specs.ped_scalar.specs.ped_rules.specs.ped_loop_runs.specs.ped_tidy.specs.ped_pasting.specs.ped_bodies.specs.Trips.{IsMadeOfTrips, IsTrip, MakesTripsLikewise, OfTrips, bounds_seen, entered_from, loop_acts, loop_close, loop_entry, store_before, trip_end, trips}
@@ -27,7 +26,7 @@ use Rattle.ped_loops.specs.ped_scalar.specs.ped_rules.specs.ped_loop_runs.specs.
 use Rattle.ped_loops.specs.ped_scalar.specs.ped_rules.specs.ped_loop_runs.specs.ped_tidy.specs.ped_pasting.specs.ped_bodies.proofs.BodyLaws.TripsLikewise.{chosen, chosen_are, trips_made}
 use Rattle.ped_loops.specs.ped_scalar.specs.ped_rules.specs.OnlyLoops.{change_only, only_loop}
 use Rattle.ped_loops.proofs.OnlyBodies.{pair, only_runs, only_tells, same_head, same_inside}
-use Rattle.ped_reindex.proofs.SkewedActs.{valueless, AreSameTurns, IsKeptTouch, AllKept, IsKeptAct, AreKept, turns_append, touches_themselves, cells_kept, act_itself, acts_themselves, kept_append, kept_rows, likewise_kept, touches_likewise}
+use Rattle.ped_reindex.proofs.SkewedActs.{valueless, AreSameTurns, AllKept, IsKeptAct, AreKept, turns_append, touches_themselves, cells_kept, acts_themselves, kept_append, kept_rows, likewise_kept, touches_likewise}
 
 -- with these limits of the old DO the new one has limits, for which it reads the same; it has as many iterations, and in each its body does likewise what the old one's did
 pub record HasLaterTrips (p : Setting) (g h : Head) (inside others : StmtTrees) (n : ℕ) (scope : Scope) (s : Store) (old : Limits) : Type 0 where

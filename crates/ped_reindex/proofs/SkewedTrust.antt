@@ -1,5 +1,5 @@
 -- The inner of two DO loops skewed: a program that may be trusted stays so.
-use Rattle.std.proofs.Common.{◌≡◌, ℕ, List, [], ◌∷◌, ◌++◌, map, Bool, true, false, Some, ◌||◌, ◌&&◌, not, refl, sym, ap, ◌∙◌, subst, inr, arith, append-nil, if◌then◌else◌}
+use Rattle.std.proofs.Common.{◌≡◌, ℕ, List, [], ◌∷◌, ◌++◌, map, Bool, true, false, Some, ◌||◌, ◌&&◌, refl, sym, ap, ◌∙◌, subst, inr, arith, append-nil, if◌then◌else◌}
 use Rattle.std.specs.List.{list_any, list_all}
 use Rattle.std.proofs.lemmas.Bool.{and_parts, or_parts}
 use Rattle.ped_base.specs.Lists.{has_some, is_same_text, is_among}

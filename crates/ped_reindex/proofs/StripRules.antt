@@ -1,5 +1,5 @@
 -- The rules that stand against `strip`, one behind the other; and what is so where none stands.
-use Rattle.std.proofs.Common.{◌≡◌, ℕ, ℤ, ◌<◌, List, Bool, true, false, Option, Some, None, refl, sym, ap, ◌∙◌, subst, arith, [], ◌∷◌, ◌++◌}
+use Rattle.std.proofs.Common.{◌≡◌, ℕ, ℤ, List, Bool, true, false, Option, Some, None, refl, sym, ap, ◌∙◌, subst, arith, [], ◌∷◌, ◌++◌}
 use Rattle.ped_tree.specs.Tree.{ExprTree, Head, StmtTrees, ProgramTree}
 use Rattle.ped_loops.specs.ped_scalar.specs.ped_rules.specs.ped_loop_runs.specs.ped_tidy.specs.ped_pasting.specs.ped_bodies.specs.ped_steps.specs.ped_symbols.specs.Kinds.{table_of}
 use Rattle.ped_loops.specs.ped_scalar.specs.ped_rules.specs.ped_loop_runs.specs.ped_tidy.specs.ped_pasting.specs.ped_bodies.specs.ped_steps.specs.ped_symbols.specs.NameRefusals.{IsValid}
@@ -17,7 +17,7 @@ use Rattle.ped_loops.specs.ped_scalar.specs.ped_rules.proofs.OneEach.{unless_one
 use Rattle.ped_loops.specs.ped_scalar.specs.ped_rules.proofs.Decided.{some_loop, limit_stands, limit_not, limit_valid}
 use Rattle.ped_reindex.specs.Stripping.{is_bad_size, has_bad_size, strip_variable, stripped, MakesStripped, IsItsLimit, strips_head, strip_end, of_name, strip_leaves, StandsAgainstStripping}
 use Rattle.ped_reindex.proofs.Contained.{contained}
-use Rattle.ped_reindex.proofs.Here.{false_by, not_asked, not_unless, fails_by, here, not_no_loop, fails_there, passes_there}
+use Rattle.ped_reindex.proofs.Here.{not_asked, not_unless, fails_by, here, not_no_loop, fails_there, passes_there}
 
 some_name : (w x : List ℕ) → Some w ≡ Some x → w ≡ x
 some_name w x e = cc
@@ -109,7 +109,7 @@ module _ (s : ℕ) (k : ℤ) where
 
       -- the limit isn't plain
       pub unplain_there : (IsPlain (table_of t).constants t s h.last → ⊥) → WhereUnplain t s (IsItsLimit t s) s
-      unplain_there not_plain = (here t s h body is, (h.last, (refl, here t s h body is, refl), not_plain), λ n p. let at : n ≡ s = p.1.0 in omega (arith, at))
+      unplain_there not_plain = (here t s h body is, ((h.last, (refl, here t s h body is, refl), not_plain), λ n p. let at : n ≡ s = p.1.0 in omega (arith, at)))
 
       -- or it is
       pub no_unplain : IsPlain (table_of t).constants t s h.last → (n : ℕ) → WhereUnplain t s (IsItsLimit t s) n → ⊥
@@ -256,7 +256,7 @@ module _ (s : ℕ) (k : ℤ) where
       -- the limit is plain, unless it is absurd that it is
       pub is_plain : (l : LoopOf t s) → (IsPlain (table_of t).constants t s l.head.last → ⊥) → ⊥
       is_plain l not_plain = not_this BoundNotPlain (WhereUnplain t s (IsItsLimit t s)) shape none_but_escape s
-          (l, (l.head.last, (refl, l, refl), not_plain), λ n p. let at : n ≡ s = p.1.0 in omega (arith, at))
+          (l, ((l.head.last, (refl, l, refl), not_plain), λ n p. let at : n ≡ s = p.1.0 in omega (arith, at)))
 
       pub is_contained : IsContained t s
       is_contained = contained t s its_loop (not_this IndexEscapes (WhereEscape t s) plain none_but_private)

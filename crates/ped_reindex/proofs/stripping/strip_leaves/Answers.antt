@@ -2,7 +2,7 @@ use Rattle.std.proofs.Common.{◌≤◌, ℤ, List, [], ◌∷◌, ◌++◌, len
 use Rattle.std.specs.Int.{w64}
 use Rattle.std.proofs.lemmas.Int.{to_z-of_z}
 use Rattle.std.proofs.lemmas.Result.{IfOk-weaker}
-use Rattle.ped_tree.specs.Tree.{Head, no_stmts}
+use Rattle.ped_tree.specs.Tree.{Head, Do, no_stmts}
 use Rattle.ped_tree.specs.Views.{program_tree, stmt_trees, head_of}
 use Rattle.ped_loops.specs.ped_scalar.specs.ped_rules.specs.Rules.{heads_round}
 use Rattle.ped_loops.specs.ped_scalar.specs.ped_rules.specs.ped_loop_runs.specs.ped_tidy.specs.ped_pasting.specs.ped_bodies.specs.ped_steps.proofs.Answering.{few_numbers}
@@ -31,7 +31,7 @@ returns g c =
     let h = head_of c.args.d.now in
     let body = stmt_trees c.args.d.now.body.items in
     let f = to_z-of_z w64 k c.ranges.size in
-    let strips = one_head (head_of c.in_ok-strips.strips) (strips_head k w h) (stmt_trees c.in_ok-strips.strips.body.items) no_stmts ?strips in
+    let strips = one_head (head_of c.in_ok-strips.strips) (strips_head k w h) (stmt_trees c.in_ok-strips.strips.body.items) no_stmts (c.in_ok-strips.ensures ∙ (λ i. Do (strips_head (f i) w h) (stmt_trees (c.new.ensures.items i)))) in
     let heads =
     ap (λ (xs : List Loop). heads_of (nest_of xs)) (c.deref.ensures.value ∙ c.in_ok-push.ensures.items)
     ∙ heads_pushed t s h body c.requires.scene.valid c.requires.is c.in_ok-nest.nest.items _ c.in_ok-nest.ensures

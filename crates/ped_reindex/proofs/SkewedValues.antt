@@ -1,5 +1,5 @@
 -- Values of skewed bounds, and of what stands for the inner variable: sums and differences with a multiple of another variable, which don't overflow.
-use Rattle.std.proofs.Common.{◌≡◌, ℕ, zero, suc, ◌+◌, ◌*◌, ◌^◌, ◌≤◌, ℤ, pos, neg_ℤ, ◌+ℤ◌, ◌-ℤ◌, ◌*ℤ◌, ◌≤ℤ◌, List, [], ◌++◌, Bool, true, false, Some, None, Result, Ok, Err, refl, ap, ◌∙◌, subst, arith, append-nil, int_div, if◌then◌else◌}
+use Rattle.std.proofs.Common.{◌≡◌, ℕ, zero, suc, ◌*◌, ◌^◌, ◌≤◌, ℤ, pos, neg_ℤ, ◌+ℤ◌, ◌-ℤ◌, ◌*ℤ◌, ◌≤ℤ◌, List, [], ◌++◌, Bool, true, false, Some, None, Result, Ok, Err, refl, ap, ◌∙◌, subst, arith, append-nil, int_div, if◌then◌else◌}
 use Rattle.std.specs.Prelude.{unsigned_abs, nat_lt, int_le}
 use Rattle.std.specs.Int.{is_negative}
 use Rattle.std.proofs.lemmas.Int.{ints}

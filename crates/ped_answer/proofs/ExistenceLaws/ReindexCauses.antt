@@ -61,7 +61,7 @@ module _ (t : ProgramTree) (s : ℕ) where
         (found_link IndexEscapes (WhereEscape t s) (skew.range s f t) (skew.range_chain s f t) (settled_escape t s)
         (found_link Range (Unless (skew.bad s f t) (skew.Leaving s f t)) (skew.limit s f t) (skew.limit_chain s f t) (settled_unless (skew.bad s f t) (skew.Leaving s f t) (settled_where t s (skew_leaves t s f)))
         (found_link Limit (Unless (skew.bad s f t) (skew.Limited s f t)) (skew.factor s f t) (skew.factor_chain s f t)
-            (settled_unless (skew.bad s f t) (skew.Limited s f t) (settled_limit t s (MakesSkewed s f) (skew.one_made s f t) (λ l. (skewed t s f, all_kept t, (refl, refl)))))
+        (settled_unless (skew.bad s f t) (skew.Limited s f t) (settled_limit t s (MakesSkewed s f) (skew.one_made s f t) (λ l. (skewed t s f, all_kept t, (refl, refl)))))
         (found_last BadFactor (WhereLoop t s (has_bad_factor f)) (settled_where t s (has_bad_factor f)))))))))
 
   module _ (k : ℤ) where
@@ -91,7 +91,7 @@ module _ (t : ProgramTree) (s : ℕ) where
         (found_link StepShape (WhereLoop t s (strip.other_step s k t)) (strip.range s k t) (strip.range_chain s k t) (settled_where t s (strip.other_step s k t))
         (found_link Range (Unless (strip.bad s k t) (strip.Leaving s k t)) (strip.limit s k t) (strip.limit_chain s k t) (settled_unless (strip.bad s k t) (strip.Leaving s k t) (settled_where t s (strip_leaves t s k)))
         (found_link Limit (Unless (strip.bad s k t) (strip.Limited s k t)) (strip.size s k t) (strip.size_chain s k t)
-            (settled_unless (strip.bad s k t) (strip.Limited s k t) (settled_made (MakesStripped s k) (strip.one_made s k t) (λ l. some_strips (strip_variable t) refl)))
+        (settled_unless (strip.bad s k t) (strip.Limited s k t) (settled_made (MakesStripped s k) (strip.one_made s k t) (λ l. some_strips (strip_variable t) refl)))
         (found_last BadFactor (WhereLoop t s (has_bad_size k)) (settled_where t s (has_bad_size k)))))))))))
 
   module _ (last : Bool) where

@@ -1,5 +1,5 @@
 pub mod ShapedCode
-mod SameKinds
+pub mod SameKinds
 mod SomeEdges
 mod FlagRules
 mod FlaggedLoops
@@ -15,16 +15,16 @@ mod RejectAnswers
 mod TurnedCounts
 mod Contained
 mod ReverseRules
-mod OneHead
+pub mod OneHead
 mod ReversedLoops
 mod ReversedNames
 mod ReversalLawful
 mod ReverseAnswers
-mod OnlyBodies
+pub mod OnlyBodies
 mod NestKnots
 mod PairOrders
 mod LoopPairs
-mod LoopPlaces
+pub mod LoopPlaces
 mod SwappedCells
 mod SwappedLoops
 mod SwappedWeave
@@ -40,8 +40,8 @@ mod FreeBounds
 mod FreeSwaps
 mod UncrossedPairs
 pub mod InterchangeRules
-mod LoopSurroundings
-mod SwappedKinds
+pub mod LoopSurroundings
+pub mod SwappedKinds
 mod SwappedTrust
 pub mod PlainDecided
 mod InterchangeLawful

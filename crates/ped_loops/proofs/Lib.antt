@@ -1,6 +1,5 @@
 pub mod ShapedCode
-mod SameKinds
-mod SomeEdges
+mod NamedConstants
 mod FlagRules
 mod FlaggedLoops
 mod FlagsLawful

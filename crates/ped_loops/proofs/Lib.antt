@@ -1,6 +1,5 @@
 pub mod ShapedCode
-pub mod SameKinds
-mod SomeEdges
+pub mod NamedConstants
 mod FlagRules
 mod FlaggedLoops
 mod FlagsLawful

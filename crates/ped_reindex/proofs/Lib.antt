@@ -16,3 +16,9 @@ mod SkewAnswers
 mod StripAnswers
 mod PeelAnswers
 pub mod Determined
+mod PeelFront
+mod PeelCounts
+mod PeelKinds
+mod PeelWrites
+mod PeelTrusted
+mod PeelLawful

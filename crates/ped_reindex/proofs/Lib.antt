@@ -19,6 +19,13 @@ pub mod Determined
 mod PeelFront
 mod PeelCounts
 mod PeelKinds
+mod PeelConstants
+mod PeelNumbers
+mod PeelRuns
+mod PeelFar
+mod PeelQuiet
+mod PeelCells
+mod PeelStands
 mod PeelWrites
 mod PeelTrusted
 mod PeelLawful

@@ -7,7 +7,7 @@ use Rattle.ped_loops.specs.ped_scalar.specs.ped_rules.specs.ped_loop_runs.specs.
 use Rattle.ped_reindex.specs.Peeling.{Peeled, peeled_by, peeled_of, taken_out}
 use Rattle.ped_tree.specs.Constants.ConstantExpressions.{constant_value}
 use Rattle.ped_tree.specs.Tree.{Head}
-use Rattle.std.proofs.Common.{Bool, None, Option, Some, ap, arith, false, if◌then◌else◌, int_div, int_rem, pos, refl, subst, suc, sym, true, unsigned_abs, ℕ, ℤ, ◌*ℤ◌, ◌+ℤ◌, ◌+◌, ◌-ℤ◌, ◌-◌, ◌<◌, ◌∙◌, ◌≡◌, ◌≤◌}
+use Rattle.std.proofs.Common.{Bool, None, Option, Some, ap, arith, false, if◌then◌else◌, int_div, int_rem, pos, refl, subst, suc, sym, true, unsigned_abs, zero, ℕ, ℤ, ◌*ℤ◌, ◌+ℤ◌, ◌+◌, ◌-ℤ◌, ◌-◌, ◌<◌, ◌∙◌, ◌≡◌, ◌≤◌}
 use Rattle.std.proofs.Math.IntN.{*ℤ_comm}
 use Rattle.std.proofs.lemmas.Int.{ints, quot-rem, rem_below}
 
@@ -18,8 +18,8 @@ same_by_products d a b some e =
     let one = *ℤ_comm d a in
     let two = *ℤ_comm d b in
     let none : d *ℤ (a -ℤ b) ≡ pos 0 = omega (arith, linear) in
-    let zero : a -ℤ b ≡ pos 0 = small_multiple d (a -ℤ b) (subst (λ (z : ℤ). unsigned_abs z < unsigned_abs d) (sym none) (abs_some d some)) in
-    omega (arith, ints, zero)
+    let none_left : a -ℤ b ≡ pos 0 = small_multiple d (a -ℤ b) (subst (λ (z : ℤ). unsigned_abs z < unsigned_abs d) (sym none) (abs_some d some)) in
+    omega (arith, ints, none_left)
 
 quotient_by_rest : (w d k : ℤ) → (d ≡ pos 0 → ⊥) → k *ℤ d +ℤ int_rem w d ≡ w → int_div w d ≡ k
 quotient_by_rest w d k some e =
@@ -34,8 +34,8 @@ quotient_exact k d some =
     let one = *ℤ_comm d k in
     let two = *ℤ_comm d (int_div (k *ℤ d) d) in
     let rest : d *ℤ (k -ℤ int_div (k *ℤ d) d) ≡ int_rem (k *ℤ d) d = omega (arith, linear) in
-    let zero : k -ℤ int_div (k *ℤ d) d ≡ pos 0 = small_multiple d (k -ℤ int_div (k *ℤ d) d) (subst (λ (z : ℤ). unsigned_abs z < unsigned_abs d) (sym rest) near) in
-    omega (arith, ints, zero)
+    let none_left : k -ℤ int_div (k *ℤ d) d ≡ pos 0 = small_multiple d (k -ℤ int_div (k *ℤ d) d) (subst (λ (z : ℤ). unsigned_abs z < unsigned_abs d) (sym rest) near) in
+    omega (arith, ints, none_left)
 
 natural_of : (n : ℕ) → natural (pos n) ≡ n
 natural_of n = refl

@@ -15,6 +15,12 @@ use Rattle.ped_tree.specs.Numbering.{statements_count}
 use Rattle.ped_tree.specs.Tree.{ProgramTree}
 use Rattle.std.proofs.Common.{Bool, List, Some, [], ap, false, refl, subst, sym, ℕ, ◌∙◌, ◌∷◌, ◌≡◌}
 use Rattle.ped_reindex.proofs.PeelRules as rules
+use Rattle.ped_reindex.proofs.PeelStands.{stands_instead}
+use Rattle.ped_reindex.proofs.PeelFar.{far_unwanted}
+use Rattle.ped_reindex.proofs.PeelQuiet.{entry_quiet}
+use Rattle.ped_reindex.proofs.PeelRuns.{peeled_run}
+use Rattle.ped_reindex.proofs.PeelConstants.{literal_constant}
+use Rattle.ped_reindex.proofs.PeelNumbers.{copy_counts}
 use Rattle.ped_reindex.proofs.PeelKinds.{peeled_kinds}
 use Rattle.ped_reindex.proofs.PeelCounts.{first_count, last_count, has_span}
 

@@ -26,6 +26,10 @@ mod PeelFar
 mod PeelQuiet
 mod PeelCells
 mod PeelStands
+mod RenumberedRaces
+mod PeelRaces
+mod PeelMeets
+mod PeelKeeps
 mod PeelWrites
 mod PeelTrusted
 mod PeelLawful

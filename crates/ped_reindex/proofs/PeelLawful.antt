@@ -9,20 +9,13 @@ use Rattle.ped_loops.specs.ped_scalar.specs.ped_rules.specs.ped_loop_runs.specs.
 use Rattle.ped_loops.specs.ped_scalar.specs.ped_rules.specs.ped_loop_runs.specs.ped_tidy.specs.ped_pasting.specs.ped_bodies.specs.ped_steps.specs.ped_symbols.specs.Kinds.{table_of}
 use Rattle.ped_loops.specs.ped_scalar.specs.ped_rules.specs.ped_loop_runs.specs.ped_tidy.specs.ped_pasting.specs.ped_bodies.specs.ped_steps.specs.ped_symbols.specs.NameRefusals.{IsValid}
 use Rattle.ped_reindex.proofs.Determined.{determined_peel}
+use Rattle.ped_reindex.proofs.PeelKeeps.{peeled_keeps}
 use Rattle.ped_reindex.proofs.PeelTrusted.{ClearedLaw, TrustedLaw, stays_trusted_peeled}
 use Rattle.ped_reindex.specs.Peeling.{Peeled, StandsAgainstPeeling, has_far, moves_behind, peeled, peeled_of, peeling}
 use Rattle.ped_tree.specs.Numbering.{statements_count}
 use Rattle.ped_tree.specs.Tree.{ProgramTree}
 use Rattle.std.proofs.Common.{Bool, List, Some, [], ap, false, refl, subst, sym, ℕ, ◌∙◌, ◌∷◌, ◌≡◌}
 use Rattle.ped_reindex.proofs.PeelRules as rules
-use Rattle.ped_reindex.proofs.PeelStands.{stands_instead}
-use Rattle.ped_reindex.proofs.PeelFar.{far_unwanted}
-use Rattle.ped_reindex.proofs.PeelQuiet.{entry_quiet}
-use Rattle.ped_reindex.proofs.PeelRuns.{peeled_run}
-use Rattle.ped_reindex.proofs.PeelConstants.{literal_constant}
-use Rattle.ped_reindex.proofs.PeelNumbers.{copy_counts}
-use Rattle.ped_reindex.proofs.PeelKinds.{peeled_kinds}
-use Rattle.ped_reindex.proofs.PeelCounts.{first_count, last_count, has_span}
 
 none_private : (xs : List (List ℕ)) → has_some xs ≡ false → xs ≡ []
 none_private [] e = refl
@@ -36,7 +29,7 @@ module _ (trusted_law : TrustedLaw) (cleared : ClearedLaw) (s : ℕ) (last : Boo
     peel_faithful : IsTrusted t → IsFaithful t (peeled t s last p)
     peel_faithful trusted = record {
       trusted = stays_trusted_peeled t valid s l last p trusted_law cleared (rules.is_contained s last t none) trusted;
-      keeps = ?keeps;
+      keeps = peeled_keeps t valid s l last p found (rules.is_valid s last t none l p found) near (rules.is_contained s last t none) (rules.is_serial s last t none l) (none_private l.head.private (rules.is_shared s last t none l));
     }
 
   pub lawful_peel : IsLawful (peeling s last)

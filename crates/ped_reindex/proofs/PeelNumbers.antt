@@ -3,7 +3,7 @@ use Rattle.ped_loops.specs.ped_scalar.specs.ped_rules.specs.ped_loop_runs.specs.
 use Rattle.ped_loops.specs.ped_scalar.specs.ped_rules.specs.ped_loop_runs.specs.ped_tidy.specs.ped_pasting.specs.Numbers.{AreApart, FitInGap, counted_by, in_a_row, kept_numbers}
 use Rattle.ped_loops.specs.ped_scalar.specs.ped_rules.specs.ped_loop_runs.specs.ped_tidy.specs.ped_pasting.specs.ped_bodies.specs.ped_steps.specs.ped_laws.proofs.ActLaws.Lists.{in_left, in_parts, in_right}
 use Rattle.ped_loops.specs.ped_scalar.specs.ped_rules.specs.ped_loop_runs.specs.ped_tidy.specs.ped_pasting.specs.ped_bodies.specs.ped_steps.specs.ped_laws.specs.Acts.Orders.{IsIn}
-use Rattle.std.proofs.Common.{Bool, List, [], ap, arith, false, inl, inr, refl, suc, sym, true, zero, ℕ, ◌++◌, ◌+◌, ◌<◌, ◌∙◌, ◌∷◌, ◌≡◌, ◌≤◌}
+use Rattle.std.proofs.Common.{Bool, List, [], ap, arith, false, inl, inr, refl, suc, sym, true, zero, ℕ, ◌++◌, ◌+◌, ◌-◌, ◌<◌, ◌∙◌, ◌∷◌, ◌≡◌, ◌≤◌, ◌⊎◌}
 
 -- the number of the copy of a statement
 abbrev pub copied : (all : ℕ) → ℕ → ℕ
@@ -23,6 +23,11 @@ its_pairs last s size all = in_a_row (loop_at last s size) s (size + 1) ++ in_a_
 
 abbrev pub its_numbers : (last : Bool) → (s size all : ℕ) → List (ℕ × ℕ)
 its_numbers last s size all = kept_numbers s (size + 1) (size + 1 + size) all (its_pairs last s size all)
+
+at_least : (a b : ℕ) → (a ≤ b) ⊎ (b < a)
+at_least zero b = inl (omega arith)
+at_least (suc a) zero = inr (omega arith)
+at_least (suc a) (suc b) = elim (at_least a b) [ inl h ↦ inl (omega (arith, h)) | inr h ↦ inr (omega (arith, h)) ]
 
 in_row : (from to count : ℕ) (y : ℕ × ℕ) → IsIn y (in_a_row from to count) → (k : ℕ) × (k < count) × (y.0 ≡ from + k) × (y.1 ≡ to + k)
 in_row from to zero y i = absurd i
@@ -151,3 +156,23 @@ module _ (last : Bool) (s size all : ℕ) (room : s + size ≤ all) where
       let r = row_in (copy_at last s size) (copied all (s + 1)) size k less in
       let same : copied all (s + 1) + k ≡ copied all (s + 1 + k) = omega arith in
       ap counts (sym r.2) ∙ inside_counts s (size + 1) (size + 1 + size) all (its_pairs last s size all) numbers_fit r.0 (in_right r.0 loop_row copy_row r.1) ∙ r.3 ∙ same
+
+  -- each new statement has an old number there, or one that no old statement has
+  pub new_number : (x : ℕ) → s ≤ x → x < s + (size + 1 + size) → ((s ≤ counted_by (its_numbers last s size all) x) × (counted_by (its_numbers last s size all) x < s + (size + 1))) ⊎ (all < counted_by (its_numbers last s size all) x)
+  new_number x low high = by last refl
+    where
+      in_loop : (k : ℕ) → k < size + 1 → x ≡ loop_at last s size + k → (s ≤ counts x) × (counts x < s + (size + 1))
+      in_loop k less is = let number = ap counts is ∙ loop_counts k less in (omega (arith, number), omega (arith, number, less))
+
+      in_copy : (k : ℕ) → k < size → x ≡ copy_at last s size + k → all < counts x
+      in_copy k less is = let number = ap counts is ∙ copy_counts k less in omega (arith, number)
+
+      by : (b : Bool) → last ≡ b → ((s ≤ counts x) × (counts x < s + (size + 1))) ⊎ (all < counts x)
+      by false is = elim (at_least (s + size) x) [
+        | inl above ↦ inl (in_loop (x - (s + size)) (omega (arith, above, high)) (let there = ap (λ (b : Bool). loop_at b s size) is in omega (arith, there, above)))
+        | inr below ↦ inr (in_copy (x - s) (omega (arith, below, low)) (let there = ap (λ (b : Bool). copy_at b s size) is in omega (arith, there, low)))
+      ]
+      by true is = elim (at_least (s + 1 + size) x) [
+        | inl above ↦ inr (in_copy (x - (s + 1 + size)) (omega (arith, above, high)) (let there = ap (λ (b : Bool). copy_at b s size) is in omega (arith, there, above)))
+        | inr below ↦ inl (in_loop (x - s) (omega (arith, below, low)) (let there = ap (λ (b : Bool). loop_at b s size) is in omega (arith, there, low)))
+      ]

@@ -81,7 +81,7 @@ module _ (idle : Cell → Bool) where
 
   -- the entry and the ends of a DO without copies
   module _ (y : Entered) (scope : Scope) (serial : y.head.parallel ≡ false) (private : y.head.private ≡ []) (inner : y.inner ≡ []) (own : idle (cell_of scope y.head.variable) ≡ true) where
-    exit_quiet : AreQuiet (exit_touches y scope)
+    pub exit_quiet : AreQuiet (exit_touches y scope)
     exit_quiet =
         each_more IsQuiet (write_touch (cell_of scope y.head.variable) (left_in_variable y) 0) (undefined_by scope y.behind_bounds y.head.private ++ undefined_all scope y.inner) (refl, own, refl)
         (subst (λ (xs : List (List ℕ)). AreQuiet (undefined_by scope y.behind_bounds xs ++ undefined_all scope y.inner)) (sym private)

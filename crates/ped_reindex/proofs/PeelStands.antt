@@ -43,7 +43,7 @@ use Rattle.ped_loops.specs.ped_scalar.specs.ped_rules.specs.ped_loop_runs.specs.
 use Rattle.ped_loops.specs.ped_scalar.specs.ped_rules.specs.ped_loop_runs.specs.ped_tidy.specs.ped_pasting.specs.ped_bodies.specs.ped_steps.specs.ped_laws.specs.FlowRuns.Exits.{IsExit, IsOneToOne}
 use Rattle.ped_loops.specs.ped_scalar.specs.ped_rules.specs.ped_loop_runs.specs.ped_tidy.specs.ped_pasting.specs.ped_bodies.specs.ped_steps.specs.ped_laws.specs.Runs.Replaying.{Replays, ending_with, finish_of, goes_on, has_fault}
 use Rattle.ped_loops.specs.ped_scalar.specs.ped_rules.specs.ped_loop_runs.specs.ped_tidy.specs.ped_pasting.specs.ped_bodies.specs.ped_steps.specs.ped_laws.specs.Runs.Showing.{shown_at_end}
-use Rattle.ped_loops.specs.ped_scalar.specs.ped_rules.specs.ped_loop_runs.specs.ped_tidy.specs.ped_pasting.specs.ped_bodies.specs.ped_steps.specs.ped_laws.specs.ped_eval.specs.Loops.{Entered, frame, inner_variables}
+use Rattle.ped_loops.specs.ped_scalar.specs.ped_rules.specs.ped_loop_runs.specs.ped_tidy.specs.ped_pasting.specs.ped_bodies.specs.ped_steps.specs.ped_laws.specs.ped_eval.specs.Loops.{Entered, exit_touches, frame, inner_variables}
 use Rattle.ped_loops.specs.ped_scalar.specs.ped_rules.specs.ped_loop_runs.specs.ped_tidy.specs.ped_pasting.specs.ped_bodies.specs.ped_steps.specs.ped_laws.specs.ped_eval.specs.Outcomes.{Ends, run_of, setting_of}
 use Rattle.ped_loops.specs.ped_scalar.specs.ped_rules.specs.ped_loop_runs.specs.ped_tidy.specs.ped_pasting.specs.ped_bodies.specs.ped_steps.specs.ped_laws.specs.ped_eval.specs.Runs.{Run, run, run_all}
 use Rattle.ped_loops.specs.ped_scalar.specs.ped_rules.specs.ped_loop_runs.specs.ped_tidy.specs.ped_pasting.specs.ped_bodies.specs.ped_steps.specs.ped_laws.specs.ped_eval.specs.Scopes.{Scope, Setting, cell_of, place_of, turns_of}
@@ -61,7 +61,7 @@ use Rattle.ped_loops.specs.ped_scalar.specs.ped_rules.specs.ped_loop_runs.specs.
 use Rattle.ped_reindex.proofs.PeelCells.{IsFarCopy, IsOfIt, IsReached, body_reached, deep_names, names_differ, of_it_inside, stays_or_moves}
 use Rattle.ped_reindex.proofs.PeelFar.{far_unwanted}
 use Rattle.ped_reindex.proofs.PeelNumbers.{copied, copy_at, loop_at}
-use Rattle.ped_reindex.proofs.PeelQuiet.{AreQuiet, block_of_row, both, control_of_row, either_acts, end_quiet, entry_quiet, false_unless, in_flat, in_range, new_trip, no_block, no_control, not_so, one_longer, put_together, quiet_touches, quiet_within, rows_same, same_controls, shifted}
+use Rattle.ped_reindex.proofs.PeelQuiet.{AreQuiet, block_of_row, both, control_of_row, either_acts, end_quiet, entry_quiet, exit_quiet, false_unless, in_flat, in_range, new_trip, no_block, no_control, not_so, one_longer, put_together, quiet_touches, quiet_within, rows_same, same_controls, shifted}
 use Rattle.ped_reindex.proofs.PeelRuns.{IsPeeledRun, copy_of, old_trip, peel_names, which}
 use Rattle.ped_reindex.proofs.PeelTrusted.{left_head}
 use Rattle.ped_reindex.specs.Peeling.{Peeled, with_peeled}
@@ -104,7 +104,7 @@ put_replays q true p d body s scope one more first second =
     (let same : s + 1 + statements_count body ≡ s + (statements_count body + 1) = omega arith in subst (λ (n : ℕ). Replays (run_all q (copy_of p d body) n scope) one goes_on) same first)
 
 -- what stands in both stands in one
-in_together : {X : Type 0} (b : Bool) (x : X) (xs ys : List X) → IsIn x (put_together b xs ys) → IsIn x xs ⊎ IsIn x ys
+pub in_together : {X : Type 0} (b : Bool) (x : X) (xs ys : List X) → IsIn x (put_together b xs ys) → IsIn x xs ⊎ IsIn x ys
 in_together false x xs ys i = in_parts x xs ys i
 in_together true x xs ys i = elim (in_parts x ys xs i) [ inl k ↦ inr k | inr k ↦ inl k ]
 
@@ -329,8 +329,11 @@ module _ (t : ProgramTree) (valid : IsValid t) (g : ℕ → ℕ) (last : Bool) (
     old_entry_quiet : AreQuiet idle old_entry.touches
     old_entry_quiet = entry_quiet idle e scope serial private (no_inner d serial) variable_idle (bounds_seen o d scope st) at r.unseen
 
-    new_entry_quiet : AreQuiet idle new_entry.touches
+    pub new_entry_quiet : AreQuiet idle new_entry.touches
     new_entry_quiet = entry_quiet idle z scope new_serial new_private (no_inner h new_serial) new_variable_idle (bounds_seen q h scope st) new_at r.new_unseen
+
+    pub new_exit_quiet : AreQuiet idle (exit_touches z scope)
+    new_exit_quiet = exit_quiet idle z scope new_serial new_private (no_inner h new_serial) new_variable_idle
 
     old_end_quiet : (k : ℕ) (a : Act) → IsIn a (trip_end e scope at k) → AreQuiet idle a.touches
     old_end_quiet k a i = end_quiet idle e scope serial private (no_inner d serial) variable_idle at k a i
@@ -448,7 +451,7 @@ module _ (t : ProgramTree) (valid : IsValid t) (g : ℕ → ℕ) (last : Bool) (
     uncopied : (k : ℕ) → (frame e k).private ≡ []
     uncopied k = ap (λ (b : Bool). if b then d.variable ∷ (d.private ++ e.inner) else d.private) serial ∙ private
 
-    trip_reached : (k : ℕ) → 1 ≤ k → k ≤ n → (a : Act) → IsIn a (r.old.trip k) → (v : Touch) → IsIn v a.touches → Reached v.cell
+    pub trip_reached : (k : ℕ) → 1 ≤ k → k ≤ n → (a : Act) → IsIn a (r.old.trip k) → (v : Touch) → IsIn v a.touches → Reached v.cell
     trip_reached k from to a i v j =
         let it = trip_is k from to in
         body_reached o plain scope s n k0 all size room (frame e k) body it.0 (uncopied k) refl from to a (subst (IsIn a) it.1.is i) v j

@@ -8,12 +8,11 @@ use Rattle.ped_loops.specs.ped_scalar.specs.ped_rules.specs.ped_loop_runs.specs.
 use Rattle.ped_loops.specs.ped_scalar.specs.ped_rules.specs.ped_loop_runs.specs.ped_tidy.specs.ped_pasting.specs.ped_bodies.specs.ped_steps.specs.ped_laws.specs.ped_eval.specs.Loops.{in_bounds, is_bound, limits}
 use Rattle.ped_loops.specs.ped_scalar.specs.ped_rules.specs.ped_loop_runs.specs.ped_tidy.specs.ped_pasting.specs.ped_bodies.specs.ped_steps.specs.ped_laws.specs.ped_eval.specs.Scopes.{Names}
 use Rattle.ped_loops.specs.ped_scalar.specs.ped_rules.specs.ped_loop_runs.specs.ped_tidy.specs.ped_pasting.specs.ped_bodies.specs.ped_steps.specs.ped_laws.specs.ped_eval.specs.Values.{binary, name_value, of_intrinsic, unary, value, values}
-use Rattle.ped_loops.specs.ped_scalar.specs.ped_rules.specs.ped_loop_runs.specs.ped_tidy.specs.ped_pasting.specs.ped_bodies.specs.ped_steps.specs.ped_laws.specs.ped_store.specs.Cells.{Element}
 use Rattle.ped_loops.specs.ped_scalar.specs.ped_rules.specs.ped_loop_runs.specs.ped_tidy.specs.ped_pasting.specs.ped_bodies.specs.ped_steps.specs.ped_laws.specs.ped_store.specs.Stores.{Store, out_of_range}
 use Rattle.ped_loops.specs.ped_scalar.specs.ped_rules.specs.ped_loop_runs.specs.ped_tidy.specs.ped_pasting.specs.ped_bodies.specs.ped_steps.specs.ped_sums.specs.Sums.{literal}
 use Rattle.ped_tree.specs.Constants.ConstantExpressions.{binary_value, constant_value, constant_values, intrinsic_result, onto, unary_value}
 use Rattle.ped_tree.specs.Constants.NamedConstants.{value_named}
-use Rattle.ped_tree.specs.Tree.{Add, Call, Div, ExprTree, ExprTrees, Head, Int, Mul, Neg, Pow, Sub, Var, more_exprs, no_exprs}
+use Rattle.ped_tree.specs.Tree.{Add, Call, Div, Element, ExprTree, ExprTrees, Head, Int, Mul, Neg, Pow, Sub, Var, more_exprs, no_exprs}
 use Rattle.ped_tree.specs.declared.expressions.Intrinsic.{Intrinsic}
 use Rattle.std.proofs.Common.{Bool, Err, List, None, Ok, Option, Result, Some, [], ap, arith, false, if◌then◌else◌, int_le, int_lt, neg_ℤ, negsuc, option_and_then, pos, refl, true, ℕ, ℤ, ◌&&◌, ◌^◌, ◌∙◌, ◌∷◌, ◌≡◌, ◌≤ℤ◌}
 use Rattle.std.proofs.lemmas.Bool.{or_parts}

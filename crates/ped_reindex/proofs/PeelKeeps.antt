@@ -167,7 +167,7 @@ module _ (t : ProgramTree) (valid : IsValid t) (s : ℕ) (loop : LoopOf t s) (la
   unassigned = (in_gap (IsUnassigned t (kind_in t)) way.gap old 1 (subst (λ (ts : StmtTrees). EachDos (IsUnassigned t (kind_in t)) ts 1) way.old (variables_unassigned t valid))).0.0.1
 
   may : MayBeRewritten (substituted d.variable (literal p.value)) (setting_of t).constants body
-  may = may_give_way (setting_of t).constants d.variable (literal p.value) unnamed body unassigned
+  may = may_give_way (setting_of t).constants d.variable unnamed (literal p.value) body unassigned
       (have_increments (setting_of t).constants body (and_parts (step_is_right (setting_of t).constants d.step) (steps_are_right (setting_of t).constants body) (part_at t valid s (Do d body) loop.is).steps).1)
 
   -- numbers

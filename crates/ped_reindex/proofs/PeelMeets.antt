@@ -1,6 +1,7 @@
 -- In each execution the accesses of the statements that take the place of a DO of which an iteration is peeled off come from those of the DO, and make no new race.
 use Rattle.ped_loops.proofs.ApartTurns.{apart_first, apart_further, apart_same, in_one_iteration}
 use Rattle.ped_loops.specs.ped_scalar.specs.ped_rules.specs.ped_loop_runs.proofs.LoopLaws.LoopParts.{IsOfTrip, act_of_loop, trip_among}
+use Rattle.ped_loops.specs.ped_scalar.specs.ped_rules.specs.ped_loop_runs.proofs.LoopLaws.OneForOneKnots.{leaving}
 use Rattle.ped_loops.specs.ped_scalar.specs.ped_rules.specs.ped_loop_runs.proofs.LoopLaws.RacesByReferences.{told_is_unreferred}
 use Rattle.ped_loops.specs.ped_scalar.specs.ped_rules.specs.ped_loop_runs.specs.ped_tidy.specs.ped_pasting.proofs.PastingLaws.LeftCopies.{own_apart}
 use Rattle.ped_loops.specs.ped_scalar.specs.ped_rules.specs.ped_loop_runs.specs.ped_tidy.specs.ped_pasting.specs.Executions.{IsExecuted}
@@ -28,8 +29,7 @@ use Rattle.ped_loops.specs.ped_scalar.specs.ped_rules.specs.ped_loop_runs.specs.
 use Rattle.ped_loops.specs.ped_scalar.specs.ped_rules.specs.ped_loop_runs.specs.ped_tidy.specs.ped_pasting.specs.ped_bodies.specs.ped_steps.specs.ped_laws.specs.ped_store.specs.Races.{Access, accesses, accesses_of, are_apart, is_lines}
 use Rattle.ped_loops.specs.ped_scalar.specs.ped_rules.specs.ped_loop_runs.specs.ped_tidy.specs.ped_pasting.specs.ped_bodies.specs.ped_steps.specs.ped_laws.specs.ped_store.specs.Stores.{Store, store_at_start}
 use Rattle.ped_loops.specs.ped_scalar.specs.ped_rules.specs.ped_loop_runs.specs.ped_tidy.specs.ped_pasting.specs.ped_bodies.specs.ped_steps.specs.ped_symbols.specs.NameRefusals.{IsValid}
-use Rattle.ped_loops.specs.ped_scalar.specs.ped_rules.specs.ped_loop_runs.specs.ped_tidy.specs.ped_pasting.specs.ped_bodies.specs.ped_steps.specs.ped_weaves.specs.Weaves.{control}
-use Rattle.ped_reindex.proofs.PeelCells.{IsOfIt, IsReached, deep_names, names_differ, of_it_inside, stays_or_moves}
+use Rattle.ped_reindex.proofs.PeelCells.{IsOfIt, IsReached, deep_names, names_differ, of_it_inside, own_numbers, stays_or_moves}
 use Rattle.ped_reindex.proofs.PeelNumbers.{copied, copy_at, loop_at}
 use Rattle.ped_reindex.proofs.PeelQuiet.{put_together}
 use Rattle.ped_reindex.proofs.PeelRaces.{AreRaceFree, ComesInside, RaceBefore}
@@ -143,11 +143,8 @@ module _ (t : ProgramTree) (valid : IsValid t) (g : ℕ → ℕ) (last : Bool) (
     abbrev names : Cell → Cell
     names = peel_names scope s k0 all
 
-    plain : (k : ℕ) → o.number k ≡ k
-    plain k = refl
-
     abbrev Reached : Cell → Type 0
-    Reached c = IsReached o plain scope s n k0 all size room c
+    Reached c = IsReached o (own_numbers t) scope s n k0 all size room c
 
     abbrev new_loop : List Act
     new_loop = loop_acts (bounds_seen q h scope st) z scope new_at r.rest.fresh
@@ -220,7 +217,7 @@ module _ (t : ProgramTree) (valid : IsValid t) (g : ℕ → ℕ) (last : Bool) (
           (quiet_reference found.0 b found.2 (λ v k. (new_entry_quiet t valid g last p s loop contained serial private new_numbers room data_bytes ends scope front behind st executed goes r v (subst (λ (y : Act). IsIn v y.touches) entry k)).2))
           | inr other ↦ elim other [
             | inl trip ↦ in_trip found.0 trip (accesses_in (r.rest.fresh trip.number) found.0 b trip.there found.2)
-            | inr control ↦ no_reference b some (quiet_reference found.0 b found.2 (λ v k. (new_exit_quiet t valid g last p s loop contained serial private new_numbers room data_bytes ends scope front behind st executed goes r v (control.touches v k)).2))
+            | inr leaving ↦ no_reference b some (quiet_reference found.0 b found.2 (λ v k. (new_exit_quiet t valid g last p s loop contained serial private new_numbers room data_bytes ends scope front behind st executed goes r v (leaving.touches v k)).2))
           ]
         ]
       where
@@ -284,14 +281,14 @@ module _ (t : ProgramTree) (valid : IsValid t) (g : ℕ → ℕ) (last : Bool) (
         accesses_in (run o old_loop s scope st).acts found.0 x (subst (IsIn found.0) (sym r.old.acts) (trip_among (bounds_seen o d scope st) e scope at r.old.trip k from to found.0 found.1)) found.2
 
     its_cell : (b : Access) (k : IsMade b) → (k.origin.cell ≡ b.cell) ⊎ ((x : List ℕ) × (i : Iteration) × (rest : List Iteration) × (b.cell ≡ Private x (iterations_of (turns_of scope) ++ i ∷ rest)))
-    its_cell b k = elim (stays_or_moves o plain scope s n k0 all size room k.origin.cell) [
+    its_cell b k = elim (stays_or_moves o (own_numbers t) scope s n k0 all size room k.origin.cell) [
       | inl stays ↦ inl (sym stays ∙ sym k.cell)
       | inr moves ↦ by moves (origin_reached b k)
     ]
       where
-        by : IsOfIt o plain scope s n k0 all size room k.origin.cell → Reached k.origin.cell → (k.origin.cell ≡ b.cell) ⊎ ((x : List ℕ) × (i : Iteration) × (rest : List Iteration) × (b.cell ≡ Private x (iterations_of (turns_of scope) ++ i ∷ rest)))
-        by moves (inl own) = absurd (own_apart o scope s size k.origin.cell own (of_it_inside o plain scope s n k0 all size room size k.origin.cell (omega arith) moves))
-        by moves (inr deep) = elim (deep_names o plain scope s n k0 all size room k.origin.cell deep) [
+        by : IsOfIt o (own_numbers t) scope s n k0 all size room k.origin.cell → Reached k.origin.cell → (k.origin.cell ≡ b.cell) ⊎ ((x : List ℕ) × (i : Iteration) × (rest : List Iteration) × (b.cell ≡ Private x (iterations_of (turns_of scope) ++ i ∷ rest)))
+        by moves (inl own) = absurd (own_apart o scope s size k.origin.cell own (of_it_inside o (own_numbers t) scope s n k0 all size room size k.origin.cell (omega arith) moves))
+        by moves (inr deep) = elim (deep_names o (own_numbers t) scope s n k0 all size room k.origin.cell deep) [
           | inl x ↦ inr (x.name, record { statement = s; number = x.number }, x.rest, k.cell ∙ x.is)
           | inr x ↦ inr (x.name, x.iteration, x.rest, k.cell ∙ x.is)
         ]
@@ -346,7 +343,7 @@ module _ (t : ProgramTree) (valid : IsValid t) (g : ℕ → ℕ) (last : Bool) (
       other = l.origin;
       one_in = trip_part k.trip k.from k.to k.origin k.there;
       other_in = trip_part l.trip l.from l.to l.origin l.there;
-      cells = names_differ o plain scope s n k0 all size room k.origin.cell l.origin.cell (origin_reached b k) (origin_reached c l) (sym k.cell ∙ cells ∙ l.cell);
+      cells = names_differ o (own_numbers t) scope s n k0 all size room k.origin.cell l.origin.cell (origin_reached b k) (origin_reached c l) (sym k.cell ∙ cells ∙ l.cell);
       writes = (λ i. sym k.writes i || sym l.writes i) ∙ writing;
       apart =
           (λ i. are_apart (k.was i) (l.was i))

@@ -230,14 +230,14 @@ module _ (t u : ProgramTree) (f g : ℕ → ℕ) (told : IsToldBack f g) (new_va
 
     -- two executions in the same iterations would be one: what the one does would stand inside the other
     not_same : (y w : Execution) (c : Access) (m : Inside w c) → Outside y m.origin.place.turns → iterations_of (round w) ≡ iterations_of (round y) → ⊥
-    not_same y w c m outside same =
+    not_same y w c m outside alike =
         outside (record {
           statement = l;
           from = omega arith;
           to = omega (arith, some);
           number = m.old_turn.number;
           rest = iterations_of m.old_more;
-          is = ap iterations_of m.was ∙ iterations_append (round w) (m.old_turn ∷ m.old_more) ∙ (λ i. same i ++ record { statement = m.old_statement i; number = m.old_turn.number } ∷ iterations_of m.old_more);
+          is = ap iterations_of m.was ∙ iterations_append (round w) (m.old_turn ∷ m.old_more) ∙ (λ i. alike i ++ record { statement = m.old_statement i; number = m.old_turn.number } ∷ iterations_of m.old_more);
         })
 
     rounds_apart : (y w : Execution) (b c : Access) → Race b c → Inside y b → Inside w c → (iterations_of (round w) ≡ iterations_of (round y) → ⊥) → are_apart (round y) c.place.turns ≡ true

@@ -58,7 +58,7 @@ use Rattle.ped_loops.specs.ped_scalar.specs.ped_rules.specs.ped_loop_runs.specs.
 use Rattle.ped_loops.specs.ped_scalar.specs.ped_rules.specs.ped_loop_runs.specs.ped_tidy.specs.ped_pasting.specs.ped_bodies.specs.ped_steps.specs.ped_weaves.proofs.WeaveLaws.Woven.{woven_stands}
 use Rattle.ped_loops.specs.ped_scalar.specs.ped_rules.specs.ped_loop_runs.specs.ped_tidy.specs.ped_pasting.specs.ped_bodies.specs.ped_steps.specs.ped_weaves.specs.Puttings.{Suit}
 use Rattle.ped_loops.specs.ped_scalar.specs.ped_rules.specs.ped_loop_runs.specs.ped_tidy.specs.ped_pasting.specs.ped_bodies.specs.ped_steps.specs.ped_weaves.specs.Weaves.{IsWoven, Knot, Weave, block, blocks_in, control, counted, knotted, new_list, new_trips, old_list, old_trips}
-use Rattle.ped_reindex.proofs.PeelCells.{IsFarCopy, IsOfIt, IsReached, body_reached, deep_names, names_differ, of_it_inside, stays_or_moves}
+use Rattle.ped_reindex.proofs.PeelCells.{IsFarCopy, IsOfIt, IsReached, body_reached, deep_names, names_differ, of_it_inside, own_numbers, stays_or_moves}
 use Rattle.ped_reindex.proofs.PeelFar.{far_unwanted}
 use Rattle.ped_reindex.proofs.PeelNumbers.{copied, copy_at, loop_at}
 use Rattle.ped_reindex.proofs.PeelQuiet.{AreQuiet, block_of_row, both, control_of_row, either_acts, end_quiet, entry_quiet, exit_quiet, false_unless, in_flat, in_range, new_trip, no_block, no_control, not_so, one_longer, put_together, quiet_touches, quiet_within, rows_same, same_controls, shifted}
@@ -442,11 +442,8 @@ module _ (t : ProgramTree) (valid : IsValid t) (g : ℕ → ℕ) (last : Bool) (
         (trips_stand idle w.acts n (λ k. k) (λ k. k) (record { new = λ k from to. (from, to, refl); old = λ k from to. (from, to, refl) }) (λ k l from less to crossing. absurd (omega (arith, less, crossing)))))
 
     -- cells that the iterations touch
-    plain : (k : ℕ) → o.number k ≡ k
-    plain k = refl
-
     abbrev Reached : Cell → Type 0
-    Reached c = IsReached o plain scope s n k0 all size room c
+    Reached c = IsReached o (own_numbers t) scope s n k0 all size room c
 
     uncopied : (k : ℕ) → (frame e k).private ≡ []
     uncopied k = ap (λ (b : Bool). if b then d.variable ∷ (d.private ++ e.inner) else d.private) serial ∙ private
@@ -454,7 +451,7 @@ module _ (t : ProgramTree) (valid : IsValid t) (g : ℕ → ℕ) (last : Bool) (
     pub trip_reached : (k : ℕ) → 1 ≤ k → k ≤ n → (a : Act) → IsIn a (r.old.trip k) → (v : Touch) → IsIn v a.touches → Reached v.cell
     trip_reached k from to a i v j =
         let it = trip_is k from to in
-        body_reached o plain scope s n k0 all size room (frame e k) body it.0 (uncopied k) refl from to a (subst (IsIn a) it.1.is i) v j
+        body_reached o (own_numbers t) scope s n k0 all size room (frame e k) body it.0 (uncopied k) refl from to a (subst (IsIn a) it.1.is i) v j
 
     quiet_idle : (ts : List Touch) (v : Touch) (c : Cell) → AreQuiet idle ts → IsIn v ts → v.cell ≡ c → idle c ≡ false → Reached c
     quiet_idle ts v c quiet i same counts = absurd (both_ways (idle c) counts (ap idle (sym same) ∙ (quiet v i).1))
@@ -490,11 +487,11 @@ module _ (t : ProgramTree) (valid : IsValid t) (g : ℕ → ℕ) (last : Bool) (
     in_run : (a : Act) → IsIn a behind → IsIn a (run_all o t.body 1 [] start).acts
     in_run a i = subst (IsIn a) (sym executed.whole) (in_right a front ((run o old_loop s scope st).acts ++ behind) (in_right a (run o old_loop s scope st).acts behind i))
 
-    unwanted_far : (c : Cell) → IsFarCopy o plain scope s n k0 all size room c → wants shown behind c ≡ true → ⊥
+    unwanted_far : (c : Cell) → IsFarCopy o (own_numbers t) scope s n k0 all size room c → wants shown behind c ≡ true → ⊥
     unwanted_far c k there = both_ways (wants shown behind c) (far_unwanted t start behind in_run c k.name (iterations_of (turns_of scope)) k.rest k.iteration k.is k.far shown (ap shown k.is)) there
 
-    of_it_copy : (c : Cell) → IsOfIt o plain scope s n k0 all size room c → IsCopyInside o scope s size c
-    of_it_copy c k = of_it_inside o plain scope s n k0 all size room size c some k
+    of_it_copy : (c : Cell) → IsOfIt o (own_numbers t) scope s n k0 all size room c → IsCopyInside o scope s size c
+    of_it_copy c k = of_it_inside o (own_numbers t) scope s n k0 all size room size c some k
 
     fine : has_fault (finish_of (run_all o (alone old_loop) s scope st).ending) ≡ false
     fine = ap (λ (y : Run). has_fault (finish_of y.ending)) (run_alone o old_loop s scope st) ∙ ap has_fault goes
@@ -506,7 +503,7 @@ module _ (t : ProgramTree) (valid : IsValid t) (g : ℕ → ℕ) (last : Bool) (
         k
 
     keeps_name : (c : Cell) → (IsCopyInside o scope s size c → ⊥) → names c ≡ c
-    keeps_name c other = elim (stays_or_moves o plain scope s n k0 all size room c) [ inl same ↦ same | inr k ↦ absurd (other (of_it_copy c k)) ]
+    keeps_name c other = elim (stays_or_moves o (own_numbers t) scope s n k0 all size room c) [ inl same ↦ same | inr k ↦ absurd (other (of_it_copy c k)) ]
 
     -- where the stores agree: at first, and behind but for the variables
     abbrev before : Cell → Bool
@@ -523,7 +520,7 @@ module _ (t : ProgramTree) (valid : IsValid t) (g : ℕ → ℕ) (last : Bool) (
 
     -- a name that is kept is no other cell's
     free_name : (c : Cell) → wants shown behind c ≡ true → IsFree names (counted w) c
-    free_name c wanted f written_there same = elim (stays_or_moves o plain scope s n k0 all size room f) [
+    free_name c wanted f written_there same = elim (stays_or_moves o (own_numbers t) scope s n k0 all size room f) [
       | inl own ↦ sym own ∙ same ∙ stays
       | inr moved ↦ by (reached f (written_touched (touches_of (counted w)) f written_there))
     ]
@@ -547,9 +544,9 @@ module _ (t : ProgramTree) (valid : IsValid t) (g : ℕ → ℕ) (last : Bool) (
             own_stays (Element x js) (inr none) = refl
             own_stays In (inr none) = refl
             own_stays Out (inr none) = refl
-        by (inr deep) = elim (deep_names o plain scope s n k0 all size room f deep) [
+        by (inr deep) = elim (deep_names o (own_numbers t) scope s n k0 all size room f deep) [
           | inl k ↦ absurd (unwanted_copy c (subst (IsCopyInside o scope s size) to_c (of_it_copy (names f) k)) wanted)
-          | inr k ↦ absurd (unwanted_far c (subst (λ (y : Cell). IsFarCopy o plain scope s n k0 all size room y) to_c k) wanted)
+          | inr k ↦ absurd (unwanted_far c (subst (λ (y : Cell). IsFarCopy o (own_numbers t) scope s n k0 all size room y) to_c k) wanted)
         ]
 
     no_steady : (c : List Act) (y : Touch) → IsIn (control c) w.new → IsIn y (touches_of c) → y.manner ≡ reads → ⊥
@@ -562,7 +559,7 @@ module _ (t : ProgramTree) (valid : IsValid t) (g : ℕ → ℕ) (last : Bool) (
       steady = λ c y i j m. absurd (no_steady c y i j m);
       unread = unread;
       renamed = renamed;
-      one_to_one = λ c f i j e. names_differ o plain scope s n k0 all size room c f (reached c i) (reached f j) e;
+      one_to_one = λ c f i j e. names_differ o (own_numbers t) scope s n k0 all size room c f (reached c i) (reached f j) e;
       idle_names = λ c i. names_idle c ∙ (counted_touched w c unread i).0;
       once = ordered.0;
       reordered = ordered.1;

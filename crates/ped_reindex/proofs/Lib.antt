@@ -6,8 +6,6 @@ mod Sizes
 mod Settled
 mod NestRooms
 mod KeptRooms
-pub mod PlainTests
-mod PlainScenes
 mod Answering
 pub mod SkewRules
 pub mod StripRules

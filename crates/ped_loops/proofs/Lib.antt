@@ -1,5 +1,5 @@
 pub mod ShapedCode
-mod SameKinds
+pub mod SameKinds
 mod SomeEdges
 mod FlagRules
 mod FlaggedLoops
@@ -15,7 +15,7 @@ mod RejectAnswers
 mod TurnedCounts
 mod Contained
 mod ReverseRules
-mod OneHead
+pub mod OneHead
 mod ReversedLoops
 mod ReversedNames
 mod ReversalLawful

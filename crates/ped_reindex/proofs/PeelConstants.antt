@@ -21,20 +21,20 @@ use Rattle.std.specs.Int.{is_negative}
 use Rattle.std.specs.Result.{result_ok}
 
 -- parts of what has a value have values
-of_unary : (g : ℤ → Result ℤ Fault) (o : Option ℤ) (m : ℤ) → unary_value g o ≡ Some m → (a : ℤ) × (o ≡ Some a)
+pub of_unary : (g : ℤ → Result ℤ Fault) (o : Option ℤ) (m : ℤ) → unary_value g o ≡ Some m → (a : ℤ) × (o ≡ Some a)
 of_unary g (Some a) m h = (a, refl)
 of_unary g None m h = absurd cc
 
-of_binary : (g : ℤ → ℤ → Result ℤ Fault) (o p : Option ℤ) (m : ℤ) → binary_value g o p ≡ Some m → (a : ℤ) × (b : ℤ) × (o ≡ Some a) × (p ≡ Some b)
+pub of_binary : (g : ℤ → ℤ → Result ℤ Fault) (o p : Option ℤ) (m : ℤ) → binary_value g o p ≡ Some m → (a : ℤ) × (b : ℤ) × (o ≡ Some a) × (p ≡ Some b)
 of_binary g (Some a) (Some b) m h = (a, b, refl, refl)
 of_binary g (Some a) None m h = absurd cc
 of_binary g None p m h = absurd cc
 
-of_call : (g : Intrinsic) (o : Option (List ℤ)) (m : ℤ) → option_and_then result_ok (option_and_then (intrinsic_result g) o) ≡ Some m → (vs : List ℤ) × (o ≡ Some vs)
+pub of_call : (g : Intrinsic) (o : Option (List ℤ)) (m : ℤ) → option_and_then result_ok (option_and_then (intrinsic_result g) o) ≡ Some m → (vs : List ℤ) × (o ≡ Some vs)
 of_call g (Some vs) m h = (vs, refl)
 of_call g None m h = absurd cc
 
-of_onto : (o : Option ℤ) (p : Option (List ℤ)) (vs : List ℤ) → onto o p ≡ Some vs → (a : ℤ) × (more : List ℤ) × (o ≡ Some a) × (p ≡ Some more)
+pub of_onto : (o : Option ℤ) (p : Option (List ℤ)) (vs : List ℤ) → onto o p ≡ Some vs → (a : ℤ) × (more : List ℤ) × (o ≡ Some a) × (p ≡ Some more)
 of_onto (Some a) (Some more) vs h = (a, more, refl, refl)
 of_onto (Some a) None vs h = absurd cc
 of_onto None p vs h = absurd cc

@@ -1,5 +1,6 @@
 -- Numbers that no statement of a program has: no act of its run stands in an iteration of such a number, or touches a copy of one.
 use Rattle.ped_base.specs.Lists.{is_among}
+use Rattle.ped_loops.proofs.ApartTurns.{iterations_append}
 use Rattle.ped_loops.specs.ped_scalar.specs.ped_rules.specs.ped_loop_runs.specs.ped_tidy.specs.ped_pasting.specs.ped_bodies.specs.ped_steps.proofs.RunLaws.RunCells.{EachDo, EachDos, all_keep}
 use Rattle.ped_loops.specs.ped_scalar.specs.ped_rules.specs.ped_loop_runs.specs.ped_tidy.specs.ped_pasting.specs.ped_bodies.specs.ped_steps.proofs.RunLaws.RunPlaces.{all_each}
 use Rattle.ped_loops.specs.ped_scalar.specs.ped_rules.specs.ped_loop_runs.specs.ped_tidy.specs.ped_pasting.specs.ped_bodies.specs.ped_steps.proofs.RunLaws.Uncopied.{untouched_acts}
@@ -22,7 +23,6 @@ use Rattle.ped_tree.specs.Numbering.{statement_count, statements_count}
 use Rattle.ped_tree.specs.Tree.{Assign, Comment, Do, Head, If, Print, ProgramTree, Read, StmtTree, StmtTrees, Stop, more_stmts, no_stmts}
 use Rattle.std.proofs.Common.{Bool, List, [], arith, false, if◌then◌else◌, inl, not, refl, subst, sym, true, ℕ, ◌&&◌, ◌++◌, ◌+◌, ◌<◌, ◌||◌, ◌∙◌, ◌∷◌, ◌≡◌, ◌≤◌}
 use Rattle.std.proofs.lemmas.Bool.{both_ways}
-use Rattle.std.proofs.lemmas.List.{map-append}
 
 -- each DO has a number of the program
 mutual
@@ -54,9 +54,6 @@ PathBelow limit Out = Unit {0}
 
 abbrev at_turn : Turn → Iteration
 at_turn v = record { statement = v.statement; number = v.number }
-
-pub iterations_append : (ts us : List Turn) → iterations_of (ts ++ us) ≡ iterations_of ts ++ iterations_of us
-iterations_append ts us = map-append (λ (u : Turn). record { statement = u.statement; number = u.number }) ts us
 
 inner_below : (limit : ℕ) (ts : List Turn) (v : Turn) → AllBelow limit (iterations_of (ts ++ v ∷ [])) → AllBelow limit (iterations_of ts)
 inner_below limit ts v h i m = h i (subst (λ (is : List Iteration). IsIn i is) (sym (iterations_append ts (v ∷ []))) (in_left i (iterations_of ts) (at_turn v ∷ []) m))

@@ -2,70 +2,36 @@
 use Rattle.ped_base.proofs.NameEquality.{same_is}
 use Rattle.ped_base.specs.Arithmetic.Arithmetic.{difference_of, negation_of, power_of, product_of, quotient_of, sum_of}
 use Rattle.ped_base.specs.Lists.{is_among, is_same_text}
-use Rattle.ped_base.specs.declared.arithmetic.faults.Fault.{Fault}
+use Rattle.ped_loops.proofs.SameKinds.{constant_there}
 use Rattle.ped_loops.specs.ped_scalar.specs.ped_rules.specs.Spans.{Values}
 use Rattle.ped_loops.specs.ped_scalar.specs.ped_rules.specs.ped_loop_runs.specs.ped_tidy.specs.ped_pasting.specs.ped_bodies.specs.ped_steps.proofs.RunLaws.ExpandedNamesSites.{stmt_at, stmts_at}
 use Rattle.ped_loops.specs.ped_scalar.specs.ped_rules.specs.ped_loop_runs.specs.ped_tidy.specs.ped_pasting.specs.ped_bodies.specs.ped_steps.proofs.RunLaws.ExpandedNamesSubstituted.{in_stmts}
 use Rattle.ped_loops.specs.ped_scalar.specs.ped_rules.specs.ped_loop_runs.specs.ped_tidy.specs.ped_pasting.specs.ped_bodies.specs.ped_steps.proofs.RunLaws.ExpandedPlacesStand.{variable_scalar}
-use Rattle.ped_loops.specs.ped_scalar.specs.ped_rules.specs.ped_loop_runs.specs.ped_tidy.specs.ped_pasting.specs.ped_bodies.specs.ped_steps.proofs.RunLaws.NamesKept.{Alike, AreAlike, names_kept, occurs, occurs_append}
+use Rattle.ped_loops.specs.ped_scalar.specs.ped_rules.specs.ped_loop_runs.specs.ped_tidy.specs.ped_pasting.specs.ped_bodies.specs.ped_steps.proofs.RunLaws.NamesKept.{Alike, AreAlike, names_kept, occurs}
 use Rattle.ped_loops.specs.ped_scalar.specs.ped_rules.specs.ped_loop_runs.specs.ped_tidy.specs.ped_pasting.specs.ped_bodies.specs.ped_steps.proofs.RunLaws.PrivatisedPrograms.{scalar_occurs, statement_in}
 use Rattle.ped_loops.specs.ped_scalar.specs.ped_rules.specs.ped_loop_runs.specs.ped_tidy.specs.ped_pasting.specs.ped_bodies.specs.ped_steps.specs.Replacing.{followed, program_with}
 use Rattle.ped_loops.specs.ped_scalar.specs.ped_rules.specs.ped_loop_runs.specs.ped_tidy.specs.ped_pasting.specs.ped_bodies.specs.ped_steps.specs.ped_flow.specs.Questions.{LoopOf}
 use Rattle.ped_loops.specs.ped_scalar.specs.ped_rules.specs.ped_loop_runs.specs.ped_tidy.specs.ped_pasting.specs.ped_bodies.specs.ped_steps.specs.ped_sums.specs.Sums.{literal}
-use Rattle.ped_loops.specs.ped_scalar.specs.ped_rules.specs.ped_loop_runs.specs.ped_tidy.specs.ped_pasting.specs.ped_bodies.specs.ped_steps.specs.ped_symbols.proofs.RightUseLaws.Whole.{names_occur, others_unvalued, same_kinds}
+use Rattle.ped_loops.specs.ped_scalar.specs.ped_rules.specs.ped_loop_runs.specs.ped_tidy.specs.ped_pasting.specs.ped_bodies.specs.ped_steps.specs.ped_symbols.proofs.RightUseLaws.Whole.{others_unvalued, same_kinds}
 use Rattle.ped_loops.specs.ped_scalar.specs.ped_rules.specs.ped_loop_runs.specs.ped_tidy.specs.ped_pasting.specs.ped_bodies.specs.ped_steps.specs.ped_symbols.specs.Kinds.{kind_in, names_of, table_of}
 use Rattle.ped_loops.specs.ped_scalar.specs.ped_rules.specs.ped_loop_runs.specs.ped_tidy.specs.ped_pasting.specs.ped_bodies.specs.ped_steps.specs.ped_symbols.specs.NameRefusals.{IsValid}
-use Rattle.ped_loops.specs.ped_scalar.specs.ped_rules.specs.ped_loop_runs.specs.ped_tidy.specs.ped_pasting.specs.ped_bodies.specs.ped_steps.specs.ped_symbols.specs.Sites.{decl_sites, stmt_sites, stmts_sites}
-use Rattle.ped_loops.specs.ped_scalar.specs.ped_rules.specs.ped_loop_runs.specs.ped_tidy.specs.ped_pasting.specs.ped_bodies.specs.ped_steps.specs.ped_symbols.specs.Uses.{expr_uses, used_as}
-use Rattle.ped_loops.specs.ped_scalar.specs.ped_rules.specs.ped_loop_runs.specs.ped_tidy.specs.ped_pasting.specs.ped_bodies.specs.ped_steps.specs.ped_symbols.specs.declared.uses.Role.TheVariants.{Named}
-use Rattle.ped_loops.specs.ped_scalar.specs.ped_rules.specs.ped_loop_runs.specs.ped_tidy.specs.ped_pasting.specs.ped_bodies.specs.ped_steps.specs.ped_symbols.specs.declared.uses.Use.{Use}
+use Rattle.ped_loops.specs.ped_scalar.specs.ped_rules.specs.ped_loop_runs.specs.ped_tidy.specs.ped_pasting.specs.ped_bodies.specs.ped_steps.specs.ped_symbols.specs.Sites.{stmt_sites, stmts_sites}
+use Rattle.ped_reindex.proofs.PeelConstants.{of_binary, of_call, of_onto, of_unary}
 use Rattle.ped_reindex.proofs.PeelCounts.{HasSpan}
 use Rattle.ped_reindex.proofs.PeelTrusted.{left_head, peeled_tells}
 use Rattle.ped_reindex.specs.Peeling.{Peeled, iteration_of, with_peeled}
 use Rattle.ped_tree.proofs.NameLaws.Collected.{among_append}
-use Rattle.ped_tree.specs.Accesses.{constant_names, constants_in}
-use Rattle.ped_tree.specs.Constants.ConstantExpressions.{binary_value, constant_value, constant_values, intrinsic_result, onto, unary_value}
+use Rattle.ped_tree.specs.Accesses.{constant_names}
+use Rattle.ped_tree.specs.Constants.ConstantExpressions.{constant_value, constant_values}
 use Rattle.ped_tree.specs.Constants.NamedConstants.{value_named}
 use Rattle.ped_tree.specs.NamesIn.{expr_names, exprs_names, head_names, stmt_names, stmts_names}
 use Rattle.ped_tree.specs.Numbering.{statement_with}
-use Rattle.ped_tree.specs.Tree.{Add, Call, DeclTree, Dimension, Div, Do, Element, ExprTree, ExprTrees, Head, Implicit, Int, Integer, Mul, Neg, Parameter, Pow, Program, ProgramTree, Remark, Save, StmtTree, StmtTrees, Sub, Var, more_exprs, more_stmts, no_exprs, no_stmts}
-use Rattle.ped_tree.specs.declared.expressions.Intrinsic.{Intrinsic}
-use Rattle.std.proofs.Common.{Bool, List, None, Option, Result, Some, [], ap, append-nil, false, if◌then◌else◌, inl, inr, map, option_and_then, refl, subst, sym, true, unsigned_abs, ℕ, ℤ, ◌++◌, ◌||◌, ◌∙◌, ◌∷◌, ◌≡◌, ◌⊎◌}
-use Rattle.std.proofs.lemmas.List.{map-append}
+use Rattle.ped_tree.specs.Tree.{Add, Call, Div, Do, Element, ExprTree, ExprTrees, Head, Int, Mul, Neg, Pow, ProgramTree, StmtTree, StmtTrees, Sub, Var, more_exprs, more_stmts, no_exprs, no_stmts}
+use Rattle.std.proofs.Common.{Bool, List, None, Some, ap, false, if◌then◌else◌, refl, subst, sym, true, unsigned_abs, ℕ, ℤ, ◌++◌, ◌||◌, ◌∙◌, ◌∷◌, ◌≡◌}
 use Rattle.std.specs.Int.{is_negative}
-use Rattle.std.specs.List.{flat_map}
-use Rattle.std.specs.Result.{result_ok}
-
-or_either : (a b : Bool) → a || b ≡ true → (r : Bool) → a ≡ r → (r ≡ true) ⊎ (b ≡ true)
-or_either a b h true e = inl refl
-or_either a b h false e = inr (sym (ap (λ (r : Bool). r || b) e) ∙ h)
-
-or_of : (a b : Bool) → (a ≡ true) ⊎ (b ≡ true) → a || b ≡ true
-or_of true b h = refl
-or_of false b (inl e) = absurd cc
-or_of false b (inr e) = e
 
 none_in_both : (y : List ℕ) (xs ys : List (List ℕ)) → is_among y xs ≡ false → is_among y ys ≡ false → is_among y (xs ++ ys) ≡ false
 none_in_both y xs ys p q = among_append y xs ys ∙ (λ i. p i || q i)
-
--- parts of what has a value have values
-of_unary : (g : ℤ → Result ℤ Fault) (o : Option ℤ) (m : ℤ) → unary_value g o ≡ Some m → (a : ℤ) × (o ≡ Some a)
-of_unary g (Some a) m h = (a, refl)
-of_unary g None m h = absurd cc
-
-of_binary : (g : ℤ → ℤ → Result ℤ Fault) (o p : Option ℤ) (m : ℤ) → binary_value g o p ≡ Some m → (a : ℤ) × (b : ℤ) × (o ≡ Some a) × (p ≡ Some b)
-of_binary g (Some a) (Some b) m h = (a, b, refl, refl)
-of_binary g (Some a) None m h = absurd cc
-of_binary g None p m h = absurd cc
-
-of_call : (g : Intrinsic) (o : Option (List ℤ)) (m : ℤ) → option_and_then result_ok (option_and_then (intrinsic_result g) o) ≡ Some m → (vs : List ℤ) × (o ≡ Some vs)
-of_call g (Some vs) m h = (vs, refl)
-of_call g None m h = absurd cc
-
-of_onto : (o : Option ℤ) (p : Option (List ℤ)) (vs : List ℤ) → onto o p ≡ Some vs → (a : ℤ) × (more : List ℤ) × (o ≡ Some a) × (p ≡ Some more)
-of_onto (Some a) (Some more) vs h = (a, more, refl, refl)
-of_onto (Some a) None vs h = absurd cc
-of_onto None p vs h = absurd cc
 
 -- a name without a value occurs in no expression that has one
 module _ (values : Values) (y : List ℕ) (none : value_named values y ≡ None) where
@@ -90,48 +56,6 @@ module _ (values : Values) (y : List ℕ) (none : value_named values y ≡ None)
     all_unnamed no_exprs vs h = refl
     all_unnamed (more_exprs e rest) vs h = let r = of_onto (constant_value values e) (constant_values values rest) vs h in none_in_both y (expr_names e) (exprs_names rest) (unnamed e r.0 r.2) (all_unnamed rest r.1 r.3)
 
--- named constants occur in declarations
-abbrev used_in : List Use → List (List ℕ)
-used_in us = map (λ (u : Use). u.name) us
-
-among_uses : (y : List ℕ) (a b : List Use) → is_among y (used_in (a ++ b)) ≡ is_among y (used_in a) || is_among y (used_in b)
-among_uses y a b = ap (is_among y) (map-append (λ (u : Use). u.name) a b) ∙ among_append y (used_in a) (used_in b)
-
-abbrev parameter_uses : List ℕ × ExprTree → List Use
-parameter_uses v = used_as Named v.0 ∷ expr_uses v.1
-
-parameters_occur : (y : List ℕ) (items : List (List ℕ × ExprTree)) → is_among y (map (λ v. v.0) items) ≡ true → is_among y (used_in (flat_map parameter_uses items)) ≡ true
-parameters_occur y [] h = absurd cc
-parameters_occur y (v ∷ items) h = go (is_same_text y v.0) refl h (parameters_occur y items)
-  where
-    go : (b : Bool) → is_same_text y v.0 ≡ b → b || is_among y (map (λ v. v.0) items) ≡ true → (is_among y (map (λ v. v.0) items) ≡ true → is_among y (used_in (flat_map parameter_uses items)) ≡ true) → is_among y (used_in (flat_map parameter_uses (v ∷ items))) ≡ true
-    go true e k more = ap (λ (b : Bool). b || is_among y (used_in (expr_uses v.1 ++ flat_map parameter_uses items))) e
-    go false e k more = or_of (is_same_text y v.0) (is_among y (used_in (expr_uses v.1 ++ flat_map parameter_uses items)))
-        (inr (among_uses y (expr_uses v.1) (flat_map parameter_uses items) ∙ or_of (is_among y (used_in (expr_uses v.1))) (is_among y (used_in (flat_map parameter_uses items))) (inr (more k))))
-
-constant_occurs : (y : List ℕ) (d : DeclTree) → is_among y (constants_in d) ≡ true → occurs y (decl_sites d) ≡ true
-constant_occurs y (Program x) h = absurd cc
-constant_occurs y Implicit h = absurd cc
-constant_occurs y (Integer ds) h = absurd cc
-constant_occurs y (Dimension ds) h = absurd cc
-constant_occurs y (Parameter items) h = ap (λ (us : List Use). is_among y (used_in us)) (append-nil (flat_map parameter_uses items)) ∙ parameters_occur y items h
-constant_occurs y (Save xs) h = absurd cc
-constant_occurs y (Remark text) h = absurd cc
-
-constants_occur : (y : List ℕ) (ds : List DeclTree) → is_among y (constant_names ds) ≡ true → occurs y (flat_map decl_sites ds) ≡ true
-constants_occur y [] h = absurd cc
-constants_occur y (d ∷ ds) h =
-    let either = or_either (is_among y (constants_in d)) (is_among y (constant_names ds)) (sym (among_append y (constants_in d) (constant_names ds)) ∙ h) (is_among y (constants_in d)) refl in
-    occurs_append y (decl_sites d) (flat_map decl_sites ds) ∙ or_of (occurs y (decl_sites d)) (occurs y (flat_map decl_sites ds)) (elim either [
-      | inl e ↦ inl (constant_occurs y d e)
-      | inr e ↦ inr (constants_occur y ds e)
-    ])
-
-constant_there : (y : List ℕ) (t : ProgramTree) → is_among y (constant_names t.decls) ≡ true → is_among y (names_of t) ≡ true
-constant_there y t h =
-    names_occur t y ∙ occurs_append y (flat_map decl_sites t.decls) (stmts_sites t.body)
-    ∙ or_of (occurs y (flat_map decl_sites t.decls)) (occurs y (stmts_sites t.body)) (inl (constants_occur y t.decls h))
-
 -- names among statements, and in a head
 names_followed : (y : List ℕ) (a b : StmtTrees) → is_among y (stmts_names (followed a b)) ≡ is_among y (stmts_names a) || is_among y (stmts_names b)
 names_followed y no_stmts b = refl
@@ -142,7 +66,6 @@ names_followed y (more_stmts s rest) b =
     grouped : (p q r : Bool) → p || (q || r) ≡ (p || q) || r
     grouped true q r = refl
     grouped false q r = refl
-
 
 in_head : (y : List ℕ) (h : Head) → is_among y (head_names h) ≡ is_among y h.rejected || (is_same_text y h.variable || (((is_among y (expr_names h.first) || is_among y (expr_names h.last)) || is_among y (expr_names h.step)) || is_among y h.private))
 in_head y h =
@@ -168,12 +91,6 @@ again true true = refl
 again true false = refl
 again false true = refl
 again false false = refl
-
-or_turned : (a b : Bool) → a || b ≡ b || a
-or_turned true true = refl
-or_turned true false = refl
-or_turned false true = refl
-or_turned false false = refl
 
 module _ (t : ProgramTree) (valid : IsValid t) (s : ℕ) (loop : LoopOf t s) (last : Bool) (p : Peeled) (span : HasSpan (table_of t).constants loop.head last p) where
   abbrev d : Head
@@ -241,9 +158,6 @@ module _ (t : ProgramTree) (valid : IsValid t) (s : ℕ) (loop : LoopOf t s) (la
     of_it old there =
         let is : Do loop.head loop.body ≡ old = ap (statement_in (Do loop.head loop.body)) (sym loop.is ∙ there) in
         subst (λ (z : StmtTree). AreAlike d.variable y (stmts_sites (with_peeled last p d body)) (stmt_sites z)) is sites_alike
-
-  by : StmtTree → StmtTrees
-  by z = with_peeled last p loop.head loop.body
 
   same_names : (y : List ℕ) (b : Bool) → is_among y (constant_names t.decls) ≡ b → is_among y (names_of (program_with (λ z. with_peeled last p loop.head loop.body) s t)) ≡ is_among y (names_of t)
   same_names y true named = constant_there y (program_with (λ z. with_peeled last p loop.head loop.body) s t) named ∙ sym (constant_there y t named)

@@ -1,5 +1,6 @@
 -- `peel` is lawful.
 use Rattle.ped_base.specs.Lists.{has_some}
+use Rattle.ped_loops.proofs.OneHead.{ClearedLaw, TrustedLaw}
 use Rattle.ped_loops.specs.ped_scalar.specs.ped_rules.proofs.KeptNumbers.{moved_one_to_one}
 use Rattle.ped_loops.specs.ped_scalar.specs.ped_rules.specs.Lawful.{IsFaithful, IsLawful}
 use Rattle.ped_loops.specs.ped_scalar.specs.ped_rules.specs.ped_loop_runs.specs.ped_tidy.specs.Unrejected.{IsTrusted}
@@ -10,7 +11,7 @@ use Rattle.ped_loops.specs.ped_scalar.specs.ped_rules.specs.ped_loop_runs.specs.
 use Rattle.ped_loops.specs.ped_scalar.specs.ped_rules.specs.ped_loop_runs.specs.ped_tidy.specs.ped_pasting.specs.ped_bodies.specs.ped_steps.specs.ped_symbols.specs.NameRefusals.{IsValid}
 use Rattle.ped_reindex.proofs.Determined.{determined_peel}
 use Rattle.ped_reindex.proofs.PeelKeeps.{peeled_keeps}
-use Rattle.ped_reindex.proofs.PeelTrusted.{ClearedLaw, TrustedLaw, stays_trusted_peeled}
+use Rattle.ped_reindex.proofs.PeelTrusted.{stays_trusted_peeled}
 use Rattle.ped_reindex.specs.Peeling.{Peeled, StandsAgainstPeeling, has_far, moves_behind, peeled, peeled_of, peeling}
 use Rattle.ped_tree.specs.Numbering.{statements_count}
 use Rattle.ped_tree.specs.Tree.{ProgramTree}

@@ -1,7 +1,7 @@
 -- In each execution the accesses of the statements that take the place of a DO of which an iteration is peeled off come from those of the DO, and make no new race.
 use Rattle.ped_loops.proofs.ApartTurns.{apart_first, apart_further, apart_same, in_one_iteration}
+use Rattle.ped_loops.proofs.ExchangedRaces.{RaceBefore}
 use Rattle.ped_loops.specs.ped_scalar.specs.ped_rules.specs.ped_loop_runs.proofs.LoopLaws.LoopParts.{IsOfTrip, act_of_loop, trip_among}
-use Rattle.ped_loops.specs.ped_scalar.specs.ped_rules.specs.ped_loop_runs.proofs.LoopLaws.OneForOneKnots.{leaving}
 use Rattle.ped_loops.specs.ped_scalar.specs.ped_rules.specs.ped_loop_runs.proofs.LoopLaws.RacesByReferences.{told_is_unreferred}
 use Rattle.ped_loops.specs.ped_scalar.specs.ped_rules.specs.ped_loop_runs.specs.ped_tidy.specs.ped_pasting.proofs.PastingLaws.LeftCopies.{own_apart}
 use Rattle.ped_loops.specs.ped_scalar.specs.ped_rules.specs.ped_loop_runs.specs.ped_tidy.specs.ped_pasting.specs.Executions.{IsExecuted}
@@ -32,10 +32,10 @@ use Rattle.ped_loops.specs.ped_scalar.specs.ped_rules.specs.ped_loop_runs.specs.
 use Rattle.ped_reindex.proofs.PeelCells.{IsOfIt, IsReached, deep_names, names_differ, of_it_inside, own_numbers, stays_or_moves}
 use Rattle.ped_reindex.proofs.PeelNumbers.{copied, copy_at, loop_at}
 use Rattle.ped_reindex.proofs.PeelQuiet.{put_together}
-use Rattle.ped_reindex.proofs.PeelRaces.{AreRaceFree, ComesInside, RaceBefore}
-use Rattle.ped_reindex.proofs.PeelRuns.{IsPeeledRun, old_trip, peel_names, which}
+use Rattle.ped_reindex.proofs.PeelRaces.{AreRaceFree, ComesInside}
+use Rattle.ped_reindex.proofs.PeelRuns.{IsPeeledRun, old_trip, peel_names, which, which_within}
 use Rattle.ped_reindex.proofs.PeelStands.{in_together, new_entry_quiet, new_exit_quiet, new_whole, peeled_acts, trip_reached}
-use Rattle.ped_reindex.proofs.PeelTrusted.{left_head}
+use Rattle.ped_reindex.proofs.PeelTrusted.{left_head, left_parallel}
 use Rattle.ped_reindex.proofs.RenumberedRaces.{apart_alike}
 use Rattle.ped_reindex.specs.Peeling.{Peeled, with_peeled}
 use Rattle.ped_tree.specs.Numbering.{statements_count}
@@ -54,6 +54,9 @@ own_turns : (ts : List Turn) → map (renumbered_turn own_number) ts ≡ ts
 own_turns [] = refl
 own_turns (v ∷ ts) = ap (λ (us : List Turn). v ∷ us) (own_turns ts)
 
+heads : (a b : Turn) (us vs : List Turn) → a ∷ us ≡ b ∷ vs → a ≡ b
+heads a b us vs e = cc
+
 -- iterations that count by new numbers are apart from no other DO
 clash : (all s : ℕ) (more us : List Turn) (v : Turn) → v.statement ≡ s → s ≤ all → are_apart (map (renumbered_turn (copied all)) more) (v ∷ us) ≡ true → ⊥
 clash all s [] us v is room h = absurd cc
@@ -62,9 +65,6 @@ clash all s (x ∷ more) us v is room h =
     let same : one.0 ≡ v = (let first : v ≡ one.0 = heads v one.0 us one.1 one.2 in sym first) in
     let statement : x.statement + (all + 1) ≡ s = one.3 ∙ ap (λ (y : Turn). y.statement) same ∙ is in
     omega (arith, statement, room)
-  where
-    heads : (a b : Turn) (us vs : List Turn) → a ∷ us ≡ b ∷ vs → a ≡ b
-    heads a b us vs e = cc
 
 clash_back : (all s : ℕ) (more us : List Turn) (v : Turn) → v.statement ≡ s → s ≤ all → are_apart (v ∷ us) (map (renumbered_turn (copied all)) more) ≡ true → ⊥
 clash_back all s [] us v is room h = absurd cc
@@ -73,9 +73,6 @@ clash_back all s (x ∷ more) us v is room h =
     let same : renumbered_turn (copied all) x ≡ one.0 = heads (renumbered_turn (copied all) x) one.0 (map (renumbered_turn (copied all)) more) one.1 one.2 in
     let statement : s ≡ x.statement + (all + 1) = sym is ∙ one.3 ∙ ap (λ (y : Turn). y.statement) (sym same) in
     omega (arith, statement, room)
-  where
-    heads : (a b : Turn) (us vs : List Turn) → a ∷ us ≡ b ∷ vs → a ≡ b
-    heads a b us vs e = cc
 
 module _ (t : ProgramTree) (valid : IsValid t) (g : ℕ → ℕ) (last : Bool) (p : Peeled) (s : ℕ) (loop : LoopOf t s) (contained : IsContained t s) (serial : loop.head.parallel ≡ false) (private : loop.head.private ≡ [])
     (new_numbers : (x : ℕ) → s ≤ x → x < s + (statements_count loop.body + 1 + statements_count loop.body) → ((s ≤ g x) × (g x < s + (statements_count loop.body + 1))) ⊎ (statements_count t.body < g x))
@@ -114,11 +111,7 @@ module _ (t : ProgramTree) (valid : IsValid t) (g : ℕ → ℕ) (last : Bool) (
   size = statements_count (alone (Do loop.head loop.body))
 
   new_serial : h.parallel ≡ false
-  new_serial = go last ∙ serial
-    where
-      go : (b : Bool) → (left_head b p.bound d).parallel ≡ d.parallel
-      go false = refl
-      go true = refl
+  new_serial = left_parallel last p.bound d ∙ serial
 
   module _ (scope : Scope) (front behind : List Act) (st : Store) (executed : IsExecuted o t start s size scope front (run o old_loop s scope st).acts behind st) (goes : finish_of (run o old_loop s scope st).ending ≡ goes_on)
       (r : IsPeeledRun t g last p loop.head loop.body s (loop_at last s (statements_count loop.body)) (copy_at last s (statements_count loop.body)) (statements_count t.body) scope st) where
@@ -173,11 +166,7 @@ module _ (t : ProgramTree) (valid : IsValid t) (g : ℕ → ℕ) (last : Bool) (
     unreferred acts sub b k = ap (λ (y : Access). y.reference) k.is ∙ told_is_unreferred q new s scope st k.by (sub k.by k.found) k.touch k.among k.manner
 
     k0_within : (1 ≤ k0) × (k0 ≤ n)
-    k0_within = go last
-      where
-        go : (b : Bool) → (1 ≤ which b e.count) × (which b e.count ≤ e.count)
-        go false = let count = r.count in (omega arith, omega (arith, count))
-        go true = let count = r.count in (omega (arith, count), omega arith)
+    k0_within = which_within last e.count r.others r.count
 
     trip_within : (j : ℕ) → 1 ≤ j → j ≤ z.count → (1 ≤ old_trip last j) × (old_trip last j ≤ n)
     trip_within j low high = go last
@@ -214,7 +203,7 @@ module _ (t : ProgramTree) (valid : IsValid t) (g : ℕ → ℕ) (last : Bool) (
         let found = accesses_from new_loop b i in
         elim (act_of_loop (bounds_seen q h scope st) z scope new_at r.rest.fresh found.0 found.1) [
           | inl entry ↦ no_reference b some
-          (quiet_reference found.0 b found.2 (λ v k. (new_entry_quiet t valid g last p s loop contained serial private new_numbers room data_bytes ends scope front behind st executed goes r v (subst (λ (y : Act). IsIn v y.touches) entry k)).2))
+              (quiet_reference found.0 b found.2 (λ v k. (new_entry_quiet t valid g last p s loop contained serial private new_numbers room data_bytes ends scope front behind st executed goes r v (subst (λ (y : Act). IsIn v y.touches) entry k)).2))
           | inr other ↦ elim other [
             | inl trip ↦ in_trip found.0 trip (accesses_in (r.rest.fresh trip.number) found.0 b trip.there found.2)
             | inr leaving ↦ no_reference b some (quiet_reference found.0 b found.2 (λ v k. (new_exit_quiet t valid g last p s loop contained serial private new_numbers room data_bytes ends scope front behind st executed goes r v (leaving.touches v k)).2))
@@ -244,7 +233,7 @@ module _ (t : ProgramTree) (valid : IsValid t) (g : ℕ → ℕ) (last : Bool) (
     made : (b : Access) → IsIn b (accesses (run_all q new s scope st).acts) → 0 < b.reference → IsMade b
     made b i some =
         let found = accesses_from (run_all q new s scope st).acts b i in
-        go last refl found.0 found.2 (subst (IsIn found.0) whole found.1)
+        by found.0 found.2 (in_together last found.0 r.taken.fresh new_loop (subst (IsIn found.0) whole found.1))
       where
         whole : (run_all q new s scope st).acts ≡ peeled_acts r
         whole = new_whole t valid g last p s loop contained serial private new_numbers room data_bytes ends scope front behind st executed goes r
@@ -263,9 +252,6 @@ module _ (t : ProgramTree) (valid : IsValid t) (g : ℕ → ℕ) (last : Bool) (
         by : (a : Act) → IsIn b (accesses_of a) → IsIn a r.taken.fresh ⊎ IsIn a new_loop → IsMade b
         by a j (inl k) = of_taken (λ x y. back x (first_in last x y)) b (accesses_in r.taken.fresh a b k j) some
         by a j (inr k) = of_rest (λ x y. back x (second_in last x y)) b (accesses_in new_loop a b k j) some
-
-        go : (x : Bool) → last ≡ x → (a : Act) → IsIn b (accesses_of a) → IsIn a (put_together last r.taken.fresh new_loop) → IsMade b
-        go x same a j k = by a j (in_together last a r.taken.fresh new_loop k)
 
     -- what the origin touches
     origin_reached : (b : Access) (k : IsMade b) → Reached k.origin.cell

@@ -1,5 +1,6 @@
 -- New acts in the place of executions make no race, where their accesses come from those of the executions. The new program is run under numbers of which the old one may have none: so are the iterations that a step gives other numbers.
 use Rattle.ped_loops.proofs.ApartTurns.{apart_first, apart_inside, apart_split, apart_within, at_of, front_apart, iterations_append, none_within, or_turned, same_fronts, turns_long}
+use Rattle.ped_loops.proofs.ExchangedRaces.{RaceBefore}
 use Rattle.ped_loops.specs.ped_scalar.specs.ped_rules.specs.ped_loop_runs.proofs.LoopLaws.RacesByReferences.{act_good}
 use Rattle.ped_loops.specs.ped_scalar.specs.ped_rules.specs.ped_loop_runs.specs.ped_tidy.specs.ped_pasting.specs.Executions.{IsExecuted, LeaveCopies, StandsInside}
 use Rattle.ped_loops.specs.ped_scalar.specs.ped_rules.specs.ped_loop_runs.specs.ped_tidy.specs.ped_pasting.specs.Pasting.{AreExchanged}
@@ -49,16 +50,6 @@ pub record ComesInside (t : ProgramTree) (l : ℕ) (scope : Scope) (olds : List 
   pub was : origin.place.turns ≡ turns_of scope ++ old_turn ∷ old_more
   pub old_statement : old_turn.statement ≡ l
   pub cell : (origin.cell ≡ b.cell) ⊎ ((x : List ℕ) × (i : Iteration) × (rest : List Iteration) × (b.cell ≡ Private x (iterations_of (turns_of scope) ++ i ∷ rest)))
-
--- two accesses come from two old ones that race
-pub record RaceBefore (olds : List Act) (b c : Access) : Type 0 where
-  pub one : Access
-  pub other : Access
-  pub one_in : IsIn one (accesses olds)
-  pub other_in : IsIn other (accesses olds)
-  pub cells : one.cell ≡ other.cell
-  pub writes : one.writes || other.writes ≡ true
-  pub apart : are_apart one.place.turns other.place.turns ≡ true
 
 -- the new acts of one execution: each access by a reference comes from one of it, and two that race from two that race
 pub record AreRaceFree (t : ProgramTree) (l : ℕ) (scope : Scope) (old new : List Act) : Type 0 where

@@ -27,7 +27,7 @@ use Rattle.ped_loops.specs.ped_scalar.specs.ped_rules.specs.ped_loop_runs.specs.
 use Rattle.ped_reindex.proofs.PeelConstants.{constant_limits_come, literal_constant, near_bound, near_in_range}
 use Rattle.ped_reindex.proofs.PeelCounts.{HasSpan, first_count, last_count, next_value}
 use Rattle.ped_reindex.proofs.PeelNumbers.{copied}
-use Rattle.ped_reindex.proofs.PeelTrusted.{left_head}
+use Rattle.ped_reindex.proofs.PeelTrusted.{left_head, left_parallel, left_private, left_variable}
 use Rattle.ped_reindex.specs.Peeling.{Peeled, has_far, taken_out}
 use Rattle.ped_tree.specs.Constants.ConstantExpressions.{constant_value}
 use Rattle.ped_tree.specs.Constants.NamedConstants.{value_named}
@@ -45,6 +45,10 @@ which true n = n
 abbrev pub old_trip : (last : Bool) → ℕ → ℕ
 old_trip false j = j + 1
 old_trip true j = j
+
+pub which_within : (last : Bool) (n others : ℕ) → n ≡ suc others → (1 ≤ which last n) × (which last n ≤ n)
+which_within false n others is = (omega arith, omega (arith, is))
+which_within true n others is = (omega (arith, is), omega arith)
 
 -- what copies are called
 abbrev pub peel_names : (scope : Scope) (s k all : ℕ) → Cell → Cell
@@ -77,7 +81,7 @@ or_right_false : (a b : Bool) → a || b ≡ false → b ≡ false
 or_right_false true b h = absurd cc
 or_right_false false b h = h
 
-number_differs : (m n : ℕ) → (m ≡ n → ⊥) → (m == n) ≡ false
+pub number_differs : (m n : ℕ) → (m ≡ n → ⊥) → (m == n) ≡ false
 number_differs m n other = go (m == n) refl
   where
     go : (b : Bool) → (m == n) ≡ b → b ≡ false
@@ -120,25 +124,7 @@ module _ (t : ProgramTree) (g : ℕ → ℕ) (last : Bool) (p : Peeled) (d : Hea
       go true = refl
 
   new_serial : h.parallel ≡ false
-  new_serial = go last ∙ serial
-    where
-      go : (b : Bool) → (left_head b p.bound d).parallel ≡ d.parallel
-      go false = refl
-      go true = refl
-
-  new_private : h.private ≡ d.private
-  new_private = go last
-    where
-      go : (b : Bool) → (left_head b p.bound d).private ≡ d.private
-      go false = refl
-      go true = refl
-
-  new_variable : h.variable ≡ d.variable
-  new_variable = go last
-    where
-      go : (b : Bool) → (left_head b p.bound d).variable ≡ d.variable
-      go false = refl
-      go true = refl
+  new_serial = left_parallel last p.bound d ∙ serial
 
   -- the new limits
   abbrev its_limits : Bool → Limits
@@ -239,11 +225,7 @@ module _ (t : ProgramTree) (g : ℕ → ℕ) (last : Bool) (p : Peeled) (d : Hea
     k0 = which last e.count
 
     k0_within : (1 ≤ k0) × (k0 ≤ e.count)
-    k0_within = go last
-      where
-        go : (b : Bool) → (1 ≤ which b e.count) × (which b e.count ≤ e.count)
-        go false = let is = old_count in (omega arith, omega (arith, is))
-        go true = let is = old_count in (omega (arith, is), omega arith)
+    k0_within = which_within last e.count counts.others old_count
 
     agree_copy : SettingsAgree (copied all) (setting_of t) q body (s + 1) c
     agree_copy = record { constants = refl; bounds = λ x w. refl; numbers = copy_counted }
@@ -286,8 +268,8 @@ module _ (t : ProgramTree) (g : ℕ → ℕ) (last : Bool) (p : Peeled) (d : Hea
         let w = trip_within j from to in (
           w.0,
           w.1,
-          unpeeled_body (setting_of t) q body (s + 1) (m + 1) agree_rest scope s k0 (copied all) (frame e (old_trip last j)) (frame z j) refl number w.2 w.3 (new_variable, new_value j from)
-              (uncopied h z.inner new_serial (new_private ∙ private) ∙ sym (uncopied d e.inner serial private)),
+          unpeeled_body (setting_of t) q body (s + 1) (m + 1) agree_rest scope s k0 (copied all) (frame e (old_trip last j)) (frame z j) refl number w.2 w.3 (left_variable last p.bound d, new_value j from)
+              (uncopied h z.inner new_serial (left_private last p.bound d ∙ private) ∙ sym (uncopied d e.inner serial private)),
         )
       where
         number : g m ≡ s

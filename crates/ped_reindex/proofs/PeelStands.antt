@@ -1,5 +1,6 @@
 -- In each execution the statements that take the place of a DO of which an iteration is peeled off may stand for it.
 use Rattle.ped_base.specs.Lists.{is_among, is_same_text}
+use Rattle.ped_loops.proofs.ApartTurns.{number_itself}
 use Rattle.ped_loops.specs.ped_scalar.specs.ped_rules.specs.ped_loop_runs.proofs.LoopLaws.OneForOneCells.{all_unread, among_of_scalar, cell_among, likewise_idle, touched_in}
 use Rattle.ped_loops.specs.ped_scalar.specs.ped_rules.specs.ped_loop_runs.proofs.LoopLaws.OneForOneNames.{variables_unnamed}
 use Rattle.ped_loops.specs.ped_scalar.specs.ped_rules.specs.ped_loop_runs.proofs.LoopLaws.OneForOneStands.{run_alone}
@@ -62,8 +63,8 @@ use Rattle.ped_reindex.proofs.PeelCells.{IsFarCopy, IsOfIt, IsReached, body_reac
 use Rattle.ped_reindex.proofs.PeelFar.{far_unwanted}
 use Rattle.ped_reindex.proofs.PeelNumbers.{copied, copy_at, loop_at}
 use Rattle.ped_reindex.proofs.PeelQuiet.{AreQuiet, block_of_row, both, control_of_row, either_acts, end_quiet, entry_quiet, exit_quiet, false_unless, in_flat, in_range, new_trip, no_block, no_control, not_so, one_longer, put_together, quiet_touches, quiet_within, rows_same, same_controls, shifted}
-use Rattle.ped_reindex.proofs.PeelRuns.{IsPeeledRun, copy_of, old_trip, peel_names, which}
-use Rattle.ped_reindex.proofs.PeelTrusted.{left_head}
+use Rattle.ped_reindex.proofs.PeelRuns.{IsPeeledRun, copy_of, number_differs, old_trip, peel_names, which, which_within}
+use Rattle.ped_reindex.proofs.PeelTrusted.{left_head, left_parallel, left_private, left_variable}
 use Rattle.ped_reindex.specs.Peeling.{Peeled, with_peeled}
 use Rattle.ped_tree.specs.NamesIn.{all_loop_variables, loop_variables}
 use Rattle.ped_tree.specs.Numbering.{statement_count, statements_count}
@@ -74,16 +75,6 @@ use Rattle.std.proofs.lemmas.Bool.{and_parts, both_ways}
 use Rattle.std.proofs.lemmas.List.Concat.{flat_map_single}
 use Rattle.std.specs.List.{flat_map, range_with_len}
 use Rattle.std.specs.Str.Lines.{lines}
-
-number_itself : (n : ℕ) → (n == n) ≡ true
-number_itself n = grind (arith, eqb-true)
-
-number_differs : (m n : ℕ) → (m ≡ n → ⊥) → (m == n) ≡ false
-number_differs m n other = go (m == n) refl
-  where
-    go : (b : Bool) → (m == n) ≡ b → b ≡ false
-    go false e = refl
-    go true e = absurd (other (let same : m ≡ n = grind (arith, e, eqb-true) in same))
 
 above : (i k : ℕ) → k ≤ i → (i == k) ≡ false → k + 1 ≤ i
 above i k low other = elim (eq-or-lt_of_le low) [ inl same ↦ absurd (both_ways (i == k) other (ap (λ (m : ℕ). m == k) (sym same) ∙ number_itself k)) | inr less ↦ omega (arith, less) ]
@@ -190,25 +181,10 @@ module _ (t : ProgramTree) (valid : IsValid t) (g : ℕ → ℕ) (last : Bool) (
   inner_variable w i = or_right (is_same_text w d.variable) (is_among w (all_loop_variables body)) i
 
   new_serial : h.parallel ≡ false
-  new_serial = go last ∙ serial
-    where
-      go : (b : Bool) → (left_head b p.bound d).parallel ≡ d.parallel
-      go false = refl
-      go true = refl
+  new_serial = left_parallel last p.bound d ∙ serial
 
   new_private : h.private ≡ []
-  new_private = go last ∙ private
-    where
-      go : (b : Bool) → (left_head b p.bound d).private ≡ d.private
-      go false = refl
-      go true = refl
-
-  new_variable : h.variable ≡ d.variable
-  new_variable = go last
-    where
-      go : (b : Bool) → (left_head b p.bound d).variable ≡ d.variable
-      go false = refl
-      go true = refl
+  new_private = left_private last p.bound d ∙ private
 
   no_inner : (f : Head) → f.parallel ≡ false → inner_variables f.parallel body ≡ []
   no_inner f is = ap (λ (b : Bool). inner_variables b body) is
@@ -263,11 +239,7 @@ module _ (t : ProgramTree) (valid : IsValid t) (g : ℕ → ℕ) (last : Bool) (
 
     -- which iterations there are
     k0_within : (1 ≤ k0) × (k0 ≤ n)
-    k0_within = go last
-      where
-        go : (b : Bool) → (1 ≤ which b e.count) × (which b e.count ≤ e.count)
-        go false = let is = r.count in (omega arith, omega (arith, is))
-        go true = let is = r.count in (omega (arith, is), omega arith)
+    k0_within = which_within last e.count r.others r.count
 
     trip_there : (j : ℕ) → 1 ≤ j → j ≤ z.count → (1 ≤ old_trip last j) × (old_trip last j ≤ n) × ((old_trip last j == k0) ≡ false) × (new_trip last (old_trip last j) ≡ j)
     trip_there j from to = go last
@@ -324,7 +296,7 @@ module _ (t : ProgramTree) (valid : IsValid t) (g : ℕ → ℕ) (last : Bool) (
     variable_idle = cell_among variables scope d.variable ∙ own_variable
 
     new_variable_idle : idle (cell_of scope h.variable) ≡ true
-    new_variable_idle = ap (λ (v : List ℕ). idle (cell_of scope v)) new_variable ∙ variable_idle
+    new_variable_idle = ap (λ (v : List ℕ). idle (cell_of scope v)) (left_variable last p.bound d) ∙ variable_idle
 
     old_entry_quiet : AreQuiet idle old_entry.touches
     old_entry_quiet = entry_quiet idle e scope serial private (no_inner d serial) variable_idle (bounds_seen o d scope st) at r.unseen

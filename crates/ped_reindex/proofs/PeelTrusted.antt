@@ -1,12 +1,13 @@
 -- A program in which an iteration of a DO is peeled off: if the old one may be trusted, it may be trusted.
 use Rattle.ped_base.specs.Lists.{has_some, is_among, is_same_text}
+use Rattle.ped_loops.proofs.OneHead.{ClearedLaw, TrustedLaw}
 use Rattle.ped_loops.specs.ped_scalar.proofs.TidyReferencesSubstituted.{all_variables_stay}
 use Rattle.ped_loops.specs.ped_scalar.specs.ped_rules.specs.OnlyLoops.{on_loop}
 use Rattle.ped_loops.specs.ped_scalar.specs.ped_rules.specs.ped_loop_runs.specs.ped_tidy.proofs.TidyPathsGaps.{followed_sum}
 use Rattle.ped_loops.specs.ped_scalar.specs.ped_rules.specs.ped_loop_runs.specs.ped_tidy.proofs.TidyPathsSums.{Summary}
 use Rattle.ped_loops.specs.ped_scalar.specs.ped_rules.specs.ped_loop_runs.specs.ped_tidy.proofs.TidyReferencesFilled.{all_followed}
 use Rattle.ped_loops.specs.ped_scalar.specs.ped_rules.specs.ped_loop_runs.specs.ped_tidy.proofs.UnrejectedTrees.{followed_rejection}
-use Rattle.ped_loops.specs.ped_scalar.specs.ped_rules.specs.ped_loop_runs.specs.ped_tidy.specs.Exchanges.{Exchange, IsExchanged, LeavesAlone, loop_of, old_of, start_of}
+use Rattle.ped_loops.specs.ped_scalar.specs.ped_rules.specs.ped_loop_runs.specs.ped_tidy.specs.Exchanges.{Exchange, IsExchanged, LeavesAlone, loop_of, start_of}
 use Rattle.ped_loops.specs.ped_scalar.specs.ped_rules.specs.ped_loop_runs.specs.ped_tidy.specs.Unrejected.{IsTrusted, has_rejection, some_rejection}
 use Rattle.ped_loops.specs.ped_scalar.specs.ped_rules.specs.ped_loop_runs.specs.ped_tidy.specs.Writing.{all_write, some_write_index, writes, writes_index, writes_name}
 use Rattle.ped_loops.specs.ped_scalar.specs.ped_rules.specs.ped_loop_runs.specs.ped_tidy.specs.ped_pasting.specs.ped_bodies.specs.ped_steps.proofs.OnePlace.{one_program}
@@ -35,17 +36,27 @@ use Rattle.std.proofs.Common.{Bool, List, Some, ap, append-nil, arith, false, in
 use Rattle.std.proofs.lemmas.Bool.{and_parts, or_parts}
 use Rattle.std.specs.List.{list_any}
 
--- the laws that are cited
-abbrev pub TrustedLaw : Type 0
-TrustedLaw = (x : Exchange) (t u : ProgramTree) → IsExchanged x t u → LeavesAlone x t → (some_rejection (old_of x) ≡ false → some_rejection x.new ≡ false) → IsTrusted t → IsTrusted u
-
-abbrev pub ClearedLaw : Type 0
-ClearedLaw = (constants : List (List ℕ)) (w : List ℕ) (h : Head) (body : StmtTrees) (n : ℕ) → is_among w (loop_variables (Do h body)) ≡ false → (sum_of constants w (Do h body) n).keeps ≡ not (is_among w h.private)
-
 -- the head of the DO that is left
 abbrev pub left_head : (last : Bool) → ℤ → Head → Head
 left_head false bound h = record h { first = literal bound }
 left_head true bound h = record h { last = literal bound }
+
+-- all else of the head stays
+pub left_variable : (last : Bool) (bound : ℤ) (h : Head) → (left_head last bound h).variable ≡ h.variable
+left_variable false bound h = refl
+left_variable true bound h = refl
+
+pub left_private : (last : Bool) (bound : ℤ) (h : Head) → (left_head last bound h).private ≡ h.private
+left_private false bound h = refl
+left_private true bound h = refl
+
+pub left_parallel : (last : Bool) (bound : ℤ) (h : Head) → (left_head last bound h).parallel ≡ h.parallel
+left_parallel false bound h = refl
+left_parallel true bound h = refl
+
+left_rejected : (last : Bool) (bound : ℤ) (h : Head) → (left_head last bound h).rejected ≡ h.rejected
+left_rejected false bound h = refl
+left_rejected true bound h = refl
 
 -- what one test tells of statements by "or" it tells of the iteration and the DO
 or_turned : (a b : Bool) → a || b ≡ b || a
@@ -122,36 +133,8 @@ module _ (t : ProgramTree) (valid : IsValid t) (s : ℕ) (loop : LoopOf t s) (la
   }
 
   -- the variables are the same
-  variable_stays : (left_head last p.bound d).variable ≡ d.variable
-  variable_stays = go last
-    where
-      go : (b : Bool) → (left_head b p.bound d).variable ≡ d.variable
-      go true = refl
-      go false = refl
-
-  private_stays : (left_head last p.bound d).private ≡ d.private
-  private_stays = go last
-    where
-      go : (b : Bool) → (left_head b p.bound d).private ≡ d.private
-      go true = refl
-      go false = refl
-
-  parallel_stays : (left_head last p.bound d).parallel ≡ d.parallel
-  parallel_stays = go last
-    where
-      go : (b : Bool) → (left_head b p.bound d).parallel ≡ d.parallel
-      go true = refl
-      go false = refl
-
-  rejected_stays : (left_head last p.bound d).rejected ≡ d.rejected
-  rejected_stays = go last
-    where
-      go : (b : Bool) → (left_head b p.bound d).rejected ≡ d.rejected
-      go true = refl
-      go false = refl
-
   among_loop : (w : List ℕ) → is_among w (loop_variables rest_loop) ≡ is_among w (loop_variables (Do d body))
-  among_loop w = ap (λ (v : List ℕ). is_among w (v ∷ all_loop_variables body)) variable_stays
+  among_loop w = ap (λ (v : List ℕ). is_among w (v ∷ all_loop_variables body)) (left_variable last p.bound d)
 
   in_body : (w : List ℕ) → is_among w (all_loop_variables copy) ≡ is_among w (all_loop_variables body)
   in_body w = ap (is_among w) (all_variables_stay d.variable (literal p.value) body)
@@ -185,13 +168,13 @@ module _ (t : ProgramTree) (valid : IsValid t) (s : ℕ) (loop : LoopOf t s) (la
   writes_none w none =
       let old = or_parts (list_any (writes_name cs w) d.private) (all_write cs w body) (none_first _ _ none) in
       both_none (all_write cs w copy) (writes cs w rest_loop) (all_write cs w new) (peeled_tells (all_write cs w) (writes cs w) refl (λ z rest. refl) (all_followed cs w) last p d body)
-      (all_unwritten cs (kind_in t) d.variable p.value w body right old.1) ((λ i. list_any (writes_name cs w) (private_stays i) || all_write cs w body) ∙ none_first _ _ none)
+      (all_unwritten cs (kind_in t) d.variable p.value w body right old.1) ((λ i. list_any (writes_name cs w) (left_private last p.bound d i) || all_write cs w body) ∙ none_first _ _ none)
 
   indices_none : some_write_index cs (alone (Do d body)) ≡ false → some_write_index cs new ≡ false
   indices_none none =
       let old = or_parts (d.parallel && list_any (λ w. all_write cs w body) (d.variable ∷ all_loop_variables body)) (some_write_index cs body) (none_first _ _ none) in
       both_none (some_write_index cs copy) (writes_index cs rest_loop) (some_write_index cs new) (peeled_tells (some_write_index cs) (writes_index cs) refl (λ z rest. refl) (indices_followed cs) last p d body)
-      (indices_unwritten cs (kind_in t) d.variable p.value body right old.1) ((λ i. (parallel_stays i && list_any (λ w. all_write cs w body) (variable_stays i ∷ all_loop_variables body)) || some_write_index cs body) ∙ none_first _ _ none)
+      (indices_unwritten cs (kind_in t) d.variable p.value body right old.1) ((λ i. (left_parallel last p.bound d i && list_any (λ w. all_write cs w body) (left_variable last p.bound d i ∷ all_loop_variables body)) || some_write_index cs body) ∙ none_first _ _ none)
 
   -- where the new statements leave a name as it is, the DO among them does
   loop_keeps : (w : List ℕ) (n : ℕ) → (sum_of_all cs w new n).keeps ≡ true → (m : ℕ) × ((sum_of cs w rest_loop m).keeps ≡ true)
@@ -213,7 +196,7 @@ module _ (t : ProgramTree) (valid : IsValid t) (s : ℕ) (loop : LoopOf t s) (la
     leaves = λ w other keeps.
         let outside : is_among w (loop_variables (Do d body)) ≡ false = sym (same_variables w) ∙ other in
         let k = loop_keeps w (start_of exchange) keeps in
-        let unprivate : not (is_among w d.private) ≡ true = ap (λ (xs : List (List ℕ)). not (is_among w xs)) (sym private_stays) ∙ sym (cleared cs w (left_head last p.bound d) body k.0 (among_loop w ∙ outside)) ∙ k.1 in
+        let unprivate : not (is_among w d.private) ≡ true = ap (λ (xs : List (List ℕ)). not (is_among w xs)) (sym (left_private last p.bound d)) ∙ sym (cleared cs w (left_head last p.bound d) body k.0 (among_loop w ∙ outside)) ∙ k.1 in
         (λ i. (cleared cs w d body (start_of exchange) outside ∙ unprivate) i && true);
   }
 
@@ -221,7 +204,7 @@ module _ (t : ProgramTree) (valid : IsValid t) (s : ℕ) (loop : LoopOf t s) (la
   unrejected none =
       let old = or_parts (has_some d.rejected) (some_rejection body) (none_first _ _ none) in
       both_none (some_rejection copy) (has_rejection rest_loop) (some_rejection new) (peeled_tells some_rejection has_rejection refl (λ z rest. refl) followed_rejection last p d body)
-      (rejections_stay d.variable (literal p.value) body ∙ old.1) ((λ i. has_some (rejected_stays i) || some_rejection body) ∙ none_first _ _ none)
+      (rejections_stay d.variable (literal p.value) body ∙ old.1) ((λ i. has_some (left_rejected last p.bound d i) || some_rejection body) ∙ none_first _ _ none)
 
   pub stays_trusted_peeled : TrustedLaw → ClearedLaw → IsContained t s → IsTrusted t → IsTrusted (peeled t s last p)
   stays_trusted_peeled law cleared contained trusted = subst IsTrusted (sym peeled_is) (law exchange t (settled raw) exchanged (leaves_alone cleared contained) unrejected trusted)

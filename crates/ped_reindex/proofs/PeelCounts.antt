@@ -37,9 +37,6 @@ quotient_exact k d some =
     let none_left : k -ℤ int_div (k *ℤ d) d ≡ pos 0 = small_multiple d (k -ℤ int_div (k *ℤ d) d) (subst (λ (z : ℤ). unsigned_abs z < unsigned_abs d) (sym rest) near) in
     omega (arith, ints, none_left)
 
-natural_of : (n : ℕ) → natural (pos n) ≡ n
-natural_of n = refl
-
 module _ (m1 m2 m3 : ℤ) (some : m3 ≡ pos 0 → ⊥) (c : Counts m1 m2 m3) where
   -- without the first iteration
   pub first_count : iteration_count (m1 +ℤ m3) m2 m3 ≡ c.others

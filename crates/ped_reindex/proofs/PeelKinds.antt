@@ -125,9 +125,6 @@ module _ (t : ProgramTree) (valid : IsValid t) (s : ℕ) (loop : LoopOf t s) (la
     loop_alike : is_among y (stmt_names (Do (left_head last p.bound d) body)) ≡ is_among y (stmt_names (Do d body))
     loop_alike = among_append y (head_names (left_head last p.bound d)) (stmts_names body) ∙ ap (λ (b : Bool). b || is_among y (stmts_names body)) head_alike ∙ sym (among_append y (head_names d) (stmts_names body))
 
-    abbrev old_there : Bool
-    old_there = is_among y (stmt_names (Do d body))
-
     new_there : is_among y (stmts_names (with_peeled last p d body)) ≡ is_among y (stmts_names copy) || is_among y (stmt_names (Do d body))
     new_there =
         peeled_tells (λ ts. is_among y (stmts_names ts)) (λ z. is_among y (stmt_names z)) refl (λ z rest. among_append y (stmt_names z) (stmts_names rest)) (names_followed y) last p d body

@@ -116,13 +116,9 @@ module _ (last : Bool) (s size all : ℕ) (room : s + size ≤ all) where
   differ x y i j =
       let h = in_row (loop_at last s size) s (size + 1) x i in
       let k = in_row (copy_at last s size) (copied all (s + 1)) size y j in
-      let h_first = h.2 in
       let h_second = h.3 in
       let h_less = h.1 in
-      let k_first = k.2 in
       let k_second = k.3 in
-      let n = h.0 in
-      let m = k.0 in
       (λ e. aside h.0 k.0 h.1 k.1 (sym k.2 ∙ e ∙ h.2), λ e. omega (arith, h_second, h_less, k_second, e, room))
 
   pub numbers_fit : FitInGap s (size + 1) (size + 1 + size) all (its_pairs last s size all)

@@ -3,7 +3,7 @@ use Rattle.ped_loops.specs.ped_scalar.specs.ped_rules.specs.ped_loop_runs.specs.
 use Rattle.ped_loops.specs.ped_scalar.specs.ped_rules.specs.ped_loop_runs.specs.ped_tidy.specs.ped_pasting.specs.ped_bodies.specs.Trips.{loop_entry, trip_end}
 use Rattle.ped_loops.specs.ped_scalar.specs.ped_rules.specs.ped_loop_runs.specs.ped_tidy.specs.ped_pasting.specs.ped_bodies.specs.ped_steps.specs.ped_laws.proofs.ActLaws.Lists.{in_parts}
 use Rattle.ped_loops.specs.ped_scalar.specs.ped_rules.specs.ped_loop_runs.specs.ped_tidy.specs.ped_pasting.specs.ped_bodies.specs.ped_steps.specs.ped_laws.proofs.RunLaws.Touches.{Each, each_more, each_none}
-use Rattle.ped_loops.specs.ped_scalar.specs.ped_rules.specs.ped_loop_runs.specs.ped_tidy.specs.ped_pasting.specs.ped_bodies.specs.ped_steps.specs.ped_laws.specs.Acts.Conflicts.{IsNoReadOf, IsWriteWithin, LeaveUnread, ReadNone, WriteWithin}
+use Rattle.ped_loops.specs.ped_scalar.specs.ped_rules.specs.ped_loop_runs.specs.ped_tidy.specs.ped_pasting.specs.ped_bodies.specs.ped_steps.specs.ped_laws.specs.Acts.Conflicts.{IsWriteWithin, WriteWithin}
 use Rattle.ped_loops.specs.ped_scalar.specs.ped_rules.specs.ped_loop_runs.specs.ped_tidy.specs.ped_pasting.specs.ped_bodies.specs.ped_steps.specs.ped_laws.specs.Acts.Fitting.{touches_of}
 use Rattle.ped_loops.specs.ped_scalar.specs.ped_rules.specs.ped_loop_runs.specs.ped_tidy.specs.ped_pasting.specs.ped_bodies.specs.ped_steps.specs.ped_laws.specs.Acts.Orders.{IsIn}
 use Rattle.ped_loops.specs.ped_scalar.specs.ped_rules.specs.ped_loop_runs.specs.ped_tidy.specs.ped_pasting.specs.ped_bodies.specs.ped_steps.specs.ped_laws.specs.Runs.Replaying.{act}
@@ -70,15 +70,6 @@ module _ (idle : Cell → Bool) where
   quiet_within [] h = tt
   quiet_within (v ∷ ts) h = (let one = h v (inl refl) in one_within v.manner v.cell one.0 one.1, quiet_within ts (λ w i. h w (inr i)))
 
-  no_read : (m : Manner) (c : Cell) → m ≡ writes → IsNoReadOf idle m c
-  no_read writes c e = tt
-  no_read reads c e = absurd cc
-  no_read is_told c e = tt
-
-  pub quiet_unread : (ts : List Touch) → AreQuiet ts → LeaveUnread idle ts
-  quiet_unread [] h = tt
-  quiet_unread (v ∷ ts) h = (no_read v.manner v.cell (h v (inl refl)).0, quiet_unread ts (λ w i. h w (inr i)))
-
   -- the entry and the ends of a DO without copies
   module _ (y : Entered) (scope : Scope) (serial : y.head.parallel ≡ false) (private : y.head.private ≡ []) (inner : y.inner ≡ []) (own : idle (cell_of scope y.head.variable) ≡ true) where
     pub exit_quiet : AreQuiet (exit_touches y scope)
@@ -108,10 +99,6 @@ module _ (idle : Cell → Bool) where
 pub quiet_touches : (idle : Cell → Bool) (acts : List Act) → ((a : Act) → IsIn a acts → AreQuiet idle a.touches) → AreQuiet idle (touches_of acts)
 quiet_touches idle [] h v i = absurd i
 quiet_touches idle (a ∷ acts) h v i = elim (in_parts v a.touches (touches_of acts) i) [ inl k ↦ h a (inl refl) v k | inr k ↦ quiet_touches idle acts (λ b j. h b (inr j)) v k ]
-
-pub quiet_acts_unread : (idle : Cell → Bool) (acts : List Act) → ((a : Act) → IsIn a acts → AreQuiet idle a.touches) → ReadNone idle acts
-quiet_acts_unread idle [] h = tt
-quiet_acts_unread idle (a ∷ acts) h = (quiet_unread idle a.touches (h a (inl refl)), quiet_acts_unread idle acts (λ b j. h b (inr j)))
 
 -- the knots of a list
 pub control_of_row : (c a : List Act) (i j : ℕ) → IsIn (control c) (block i j ∷ control a ∷ []) → c ≡ a

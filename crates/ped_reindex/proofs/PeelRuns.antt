@@ -92,23 +92,11 @@ module _ (t : ProgramTree) (g : ℕ → ℕ) (last : Bool) (p : Peeled) (d : Hea
     (moves : span.m3 ≡ pos 0 → ⊥) (near : has_far (Some p) ≡ false) (serial : d.parallel ≡ false) (private : d.private ≡ [])
     (loop_counted : (k : ℕ) → k < statements_count body + 1 → g (m + k) ≡ s + k) (copy_counted : (k : ℕ) → k < statements_count body → g (c + k) ≡ copied all (s + 1 + k))
     (may : MayBeRewritten (substituted d.variable (literal p.value)) (setting_of t).constants body) (unnamed : value_named (setting_of t).constants d.variable ≡ None) where
-  abbrev old_setting : Setting
-  old_setting = setting_of t
-
   abbrev q : Setting
   q = renumbered g (setting_of t)
 
   abbrev h : Head
   h = left_head last p.bound d
-
-  abbrev m1 : ℤ
-  m1 = span.m1
-
-  abbrev m2 : ℤ
-  m2 = span.m2
-
-  abbrev m3 : ℤ
-  m3 = span.m3
 
   counts : Counts span.m1 span.m2 span.m3
   counts = constant_counts span.m1 span.m2 span.m3 moves span.some

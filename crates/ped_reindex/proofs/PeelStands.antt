@@ -25,7 +25,7 @@ use Rattle.ped_loops.specs.ped_scalar.specs.ped_rules.specs.ped_loop_runs.specs.
 use Rattle.ped_loops.specs.ped_scalar.specs.ped_rules.specs.ped_loop_runs.specs.ped_tidy.specs.ped_pasting.specs.ped_bodies.specs.ped_steps.specs.ped_flow.specs.Questions.{IsContained, LoopOf}
 use Rattle.ped_loops.specs.ped_scalar.specs.ped_rules.specs.ped_loop_runs.specs.ped_tidy.specs.ped_pasting.specs.ped_bodies.specs.ped_steps.specs.ped_laws.proofs.ActLaws.Exchanging.{needed_wanted, wanted_before}
 use Rattle.ped_loops.specs.ped_scalar.specs.ped_rules.specs.ped_loop_runs.specs.ped_tidy.specs.ped_pasting.specs.ped_bodies.specs.ped_steps.specs.ped_laws.proofs.ActLaws.Lists.{in_parts, in_right}
-use Rattle.ped_loops.specs.ped_scalar.specs.ped_rules.specs.ped_loop_runs.specs.ped_tidy.specs.ped_pasting.specs.ped_bodies.specs.ped_steps.specs.ped_laws.proofs.ActLaws.Renamings.{after_other, or_left, or_right, written_touched}
+use Rattle.ped_loops.specs.ped_scalar.specs.ped_rules.specs.ped_loop_runs.specs.ped_tidy.specs.ped_pasting.specs.ped_bodies.specs.ped_steps.specs.ped_laws.proofs.ActLaws.Renamings.{after_other, or_left, written_touched}
 use Rattle.ped_loops.specs.ped_scalar.specs.ped_rules.specs.ped_loop_runs.specs.ped_tidy.specs.ped_pasting.specs.ped_bodies.specs.ped_steps.specs.ped_laws.proofs.ActLaws.SameCells.{text_itself}
 use Rattle.ped_loops.specs.ped_scalar.specs.ped_rules.specs.ped_loop_runs.specs.ped_tidy.specs.ped_pasting.specs.ped_bodies.specs.ped_steps.specs.ped_laws.proofs.FlowRunLaws.DeadExits.{unwanted_behind}
 use Rattle.ped_loops.specs.ped_scalar.specs.ped_rules.specs.ped_loop_runs.specs.ped_tidy.specs.ped_pasting.specs.ped_bodies.specs.ped_steps.specs.ped_laws.proofs.FlowRunLaws.Stopping.{fitting_stops}
@@ -138,9 +138,6 @@ module _ (t : ProgramTree) (valid : IsValid t) (g : ℕ → ℕ) (last : Bool) (
   abbrev m : ℕ
   m = loop_at last s (statements_count loop.body)
 
-  abbrev c0 : ℕ
-  c0 = copy_at last s (statements_count loop.body)
-
   abbrev all : ℕ
   all = statements_count t.body
 
@@ -176,9 +173,6 @@ module _ (t : ProgramTree) (valid : IsValid t) (g : ℕ → ℕ) (last : Bool) (
 
   own_variable : is_among d.variable variables ≡ true
   own_variable = or_left (is_same_text d.variable d.variable) (is_among d.variable (all_loop_variables body)) (text_itself d.variable)
-
-  inner_variable : (w : List ℕ) → is_among w (all_loop_variables body) ≡ true → is_among w variables ≡ true
-  inner_variable w i = or_right (is_same_text w d.variable) (is_among w (all_loop_variables body)) i
 
   new_serial : h.parallel ≡ false
   new_serial = left_parallel last p.bound d ∙ serial

@@ -30,8 +30,8 @@ mod SwappedWeave
 mod SwappedConflicts
 mod SwappedStands
 mod FixedWrites
-mod ApartTurns
-mod ExchangedRaces
+pub mod ApartTurns
+pub mod ExchangedRaces
 mod SwappedAccesses
 mod SwappedKeeps
 mod SwappedBounds

@@ -118,9 +118,9 @@ module _ (t : ProgramTree) (valid : IsValid t) (s : ℕ) (none : NoRule (StandsA
   with_units : names_outer d g ≡ true → (increment (setting_of t).constants d ≡ pos 1) × (increment (setting_of t).constants g ≡ pos 1)
   with_units named =
       let both = or_neither (has_other_step (setting_of t).constants is_one d loop.body) (has_other_step (setting_of t).constants is_one g it.inside)
-          (ap (λ (b : Bool). b && (has_other_step (setting_of t).constants is_one d loop.body || has_other_step (setting_of t).constants is_one g it.inside)) (sym named)
-          ∙ ap (λ (o : Option (Head × StmtTrees)). of_loop (λ f inside. names_outer d f && (has_other_step (setting_of t).constants is_one d loop.body || has_other_step (setting_of t).constants is_one f inside)) o) (sym it.only)
-          ∙ rules.have_units s t none loop) in
+      (ap (λ (b : Bool). b && (has_other_step (setting_of t).constants is_one d loop.body || has_other_step (setting_of t).constants is_one g it.inside)) (sym named)
+      ∙ ap (λ (o : Option (Head × StmtTrees)). of_loop (λ f inside. names_outer d f && (has_other_step (setting_of t).constants is_one d loop.body || has_other_step (setting_of t).constants is_one f inside)) o) (sym it.only)
+      ∙ rules.have_units s t none loop) in
       (one_step (constant_value (setting_of t).constants d.step) both.0, one_step (constant_value (setting_of t).constants g.step) both.1)
 
   -- rule 9: the new outer bounds stay within 2^62
@@ -133,8 +133,8 @@ module _ (t : ProgramTree) (valid : IsValid t) (s : ℕ) (none : NoRule (StandsA
   stay : (leaves fixed (heads_of (nest_round t s)) h.first ≡ false) × (leaves fixed (heads_of (nest_round t s)) h.last ≡ false)
   stay =
       let outer = (or_neither (leaves fixed (heads_of (nest_round t s)) h.first || leaves fixed (heads_of (nest_round t s)) h.last)
-          (leaves fixed (heads_of (nest_round t s) ++ h ∷ []) k.first || leaves fixed (heads_of (nest_round t s) ++ h ∷ []) k.last)
-          (ap (λ (o : Option (Head × StmtTrees)). of_loop (λ f inside. leaves_either fixed (heads_of (nest_round t s)) (new_outer d f) (new_inner d f)) o) (sym it.only) ∙ rules.are_near s t none loop)).0 in
+      (leaves fixed (heads_of (nest_round t s) ++ h ∷ []) k.first || leaves fixed (heads_of (nest_round t s) ++ h ∷ []) k.last)
+      (ap (λ (o : Option (Head × StmtTrees)). of_loop (λ f inside. leaves_either fixed (heads_of (nest_round t s)) (new_outer d f) (new_inner d f)) o) (sym it.only) ∙ rules.are_near s t none loop)).0 in
       or_neither (leaves fixed (heads_of (nest_round t s)) h.first) (leaves fixed (heads_of (nest_round t s)) h.last) outer
 
   -- rule 6: all bounds are plain

@@ -101,9 +101,9 @@ module _ (t : ProgramTree) (l : ℕ) (told : List ℕ → ℤ) (first : Store) (
       old_worth (sum c) e part is v whole = elim is.1 [
         | inl q ↦ sum_worth (Var x) c y (worth_of c part) v variable_worth.comes (worth_there c (settle c part)).comes (as_is e (Add (Var x) c) v q whole)
         | inr q ↦ (
-          let same : v ≡ worth_of c part +ℤ y = sum_worth c (Var x) (worth_of c part) y v (worth_there c (settle c part)).comes variable_worth.comes (as_is e (Add c (Var x)) v q whole) in
-          omega (arith, ints, same)
-          )
+            let same : v ≡ worth_of c part +ℤ y = sum_worth c (Var x) (worth_of c part) y v (worth_there c (settle c part)).comes variable_worth.comes (as_is e (Add c (Var x)) v q whole) in
+            omega (arith, ints, same)
+            )
       ]
       old_worth (difference c) e part is v whole =
           let same : v ≡ y -ℤ worth_of c part = difference_worth (Var x) c y (worth_of c part) v variable_worth.comes (worth_there c (settle c part)).comes (as_is e (Sub (Var x) c) v is.1 whole) in
@@ -121,7 +121,7 @@ module _ (t : ProgramTree) (l : ℕ) (told : List ℕ → ℤ) (first : Store) (
         rising_worth (difference c) e part =
             let near_c = near_of c part in (
               same_worth g u Fixed (plus_of (Var x) c) (y +ℤ worth_of c part) (y -ℤ neg_ℤ (worth_of c part)) (omega (arith, ints))
-              (plus_worth g u Fixed (Var x) c y (worth_of c part) variable_worth (worth_there c (settle c part)) (record { from = omega (arith, ints, near.from, near_c.from); to = omega (arith, ints, near.to, near_c.to) })),
+                  (plus_worth g u Fixed (Var x) c y (worth_of c part) variable_worth (worth_there c (settle c part)) (record { from = omega (arith, ints, near.from, near_c.from); to = omega (arith, ints, near.to, near_c.to) })),
               tt,
             )
         rising_worth (turned c) e part = tt

@@ -1,6 +1,5 @@
 pub mod ShapedCode
-mod SameKinds
-mod SomeEdges
+pub mod NamedConstants
 mod FlagRules
 mod FlaggedLoops
 mod FlagsLawful
@@ -15,25 +14,25 @@ mod RejectAnswers
 mod TurnedCounts
 mod Contained
 mod ReverseRules
-mod OneHead
+pub mod OneHead
 mod ReversedLoops
 mod ReversedNames
 mod ReversalLawful
 mod ReverseAnswers
-mod OnlyBodies
+pub mod OnlyBodies
 mod NestKnots
 mod PairOrders
 mod ShapedPairs
 mod LoopPairs
-mod LoopPlaces
+pub mod LoopPlaces
 mod SwappedCells
 mod SwappedLoops
 mod SwappedWeave
 mod SwappedConflicts
 mod SwappedStands
 mod FixedWrites
-mod ApartTurns
-mod ExchangedRaces
+pub mod ApartTurns
+pub mod ExchangedRaces
 mod SwappedAccesses
 mod SwappedKeeps
 mod SettledBounds
@@ -47,8 +46,8 @@ mod FreeSwaps
 mod ShapedSwaps
 mod UncrossedPairs
 pub mod InterchangeRules
-mod LoopSurroundings
-mod SwappedKinds
+pub mod LoopSurroundings
+pub mod SwappedKinds
 mod ShapedNames
 mod SwappedTrust
 pub mod PlainDecided

@@ -6,8 +6,6 @@ mod Sizes
 mod Settled
 mod NestRooms
 mod KeptRooms
-pub mod PlainTests
-mod PlainScenes
 mod Answering
 pub mod SkewRules
 pub mod StripRules
@@ -16,3 +14,29 @@ mod SkewAnswers
 mod StripAnswers
 mod PeelAnswers
 pub mod Determined
+mod SkewedActs
+mod SkewedLoops
+mod SkewedStands
+mod SkewedKeeps
+mod SkewedValues
+mod SkewedBounds
+mod SkewedNames
+mod SkewedTrust
+mod SkewLawful
+mod PeelFront
+mod PeelCounts
+mod PeelKinds
+mod PeelConstants
+mod PeelNumbers
+mod PeelRuns
+mod PeelFar
+mod PeelQuiet
+mod PeelCells
+mod PeelStands
+mod RenumberedRaces
+mod PeelRaces
+mod PeelMeets
+mod PeelKeeps
+mod PeelWrites
+mod PeelTrusted
+mod PeelLawful

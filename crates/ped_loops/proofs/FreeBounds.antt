@@ -44,12 +44,12 @@ use Rattle.ped_tree.specs.Numbering.{statement_with, statements_count}
 use Rattle.ped_tree.specs.Tree.{Do, ExprTree, Head, ProgramTree, StmtTrees}
 
 -- the first numbers of a row, and the others
-split_numbers : (f : ℕ → List Act) (m n a : ℕ) → m ≤ n → (rest : List Act) × (flat_map f (range_with_len a n) ≡ flat_map f (range_with_len a m) ++ rest)
+pub split_numbers : (f : ℕ → List Act) (m n a : ℕ) → m ≤ n → (rest : List Act) × (flat_map f (range_with_len a n) ≡ flat_map f (range_with_len a m) ++ rest)
 split_numbers f zero n a h = (flat_map f (range_with_len a n), refl)
 split_numbers f (suc m) zero a h = absurd (omega (arith, h))
 split_numbers f (suc m) (suc n) a h = let r = split_numbers f m n (a + 1) (omega (arith, h)) in (r.0, ap (λ (xs : List Act). f a ++ xs) r.1 ∙ sym (append_assoc (f a) (flat_map f (range_with_len (a + 1) m)) r.0))
 
-ends_so : (e : Ending) → finish_of e ≡ goes_on → Ends e
+pub ends_so : (e : Ending) → finish_of e ≡ goes_on → Ends e
 ends_so (going s) q = tt
 ends_so (stopped s) q = tt
 ends_so (failed fault n) q = absurd cc

@@ -1,47 +1,47 @@
 pub mod ShapedCode
-mod SameKinds
+pub mod SameKinds
 mod SomeEdges
 mod FlagRules
 mod FlaggedLoops
-mod FlagsLawful
+pub mod FlagsLawful
 pub mod RejectRules
 mod FlagAnswers
 mod RejectedTrees
 mod LoopsOfReferences
 mod PendingEdges
-mod ReferencedNames
-mod VariableNames
+pub mod ReferencedNames
+pub mod VariableNames
 mod RejectAnswers
-mod TurnedCounts
+pub mod TurnedCounts
 mod Contained
 mod ReverseRules
-mod OneHead
+pub mod OneHead
 mod ReversedLoops
 mod ReversedNames
 mod ReversalLawful
 mod ReverseAnswers
-mod OnlyBodies
-mod NestKnots
+pub mod OnlyBodies
+pub mod NestKnots
 mod PairOrders
-mod LoopPairs
-mod LoopPlaces
+pub mod LoopPairs
+pub mod LoopPlaces
 mod SwappedCells
 mod SwappedLoops
-mod SwappedWeave
+pub mod SwappedWeave
 mod SwappedConflicts
-mod SwappedStands
+pub mod SwappedStands
 mod FixedWrites
 mod ApartTurns
-mod ExchangedRaces
-mod SwappedAccesses
+pub mod ExchangedRaces
+pub mod SwappedAccesses
 mod SwappedKeeps
-mod SwappedBounds
-mod FreeBounds
+pub mod SwappedBounds
+pub mod FreeBounds
 mod FreeSwaps
 mod UncrossedPairs
 pub mod InterchangeRules
-mod LoopSurroundings
-mod SwappedKinds
+pub mod LoopSurroundings
+pub mod SwappedKinds
 mod SwappedTrust
 pub mod PlainDecided
 mod InterchangeLawful

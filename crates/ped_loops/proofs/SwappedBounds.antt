@@ -27,14 +27,14 @@ use Rattle.ped_scalar.specs.ped_rules.specs.ped_loop_runs.specs.ped_tidy.specs.p
 use Rattle.ped_tree.specs.Constants.ConstantExpressions.{constant_value}
 use Rattle.ped_tree.specs.Tree.{Do, ExprTree, Head, ProgramTree, StmtTrees}
 
-one_result : (r : Result ℤ ℕ) (m n : ℤ) → r ≡ Ok m → r ≡ Ok n → m ≡ n
+pub one_result : (r : Result ℤ ℕ) (m n : ℤ) → r ≡ Ok m → r ≡ Ok n → m ≡ n
 one_result r m n a b = same (sym a ∙ b)
   where
     same : ◌≡◌ {A = Result ℤ ℕ} (Ok m) (Ok n) → m ≡ n
     same q = cc
 
 -- what two such evaluations read are cells of this kind
-read_so : (P : Cell → Type 0) (xs ys : List Seen) → ReadTheSame P xs ys → (c : Cell) (v : Content) → IsIn (cell_seen c v) xs → P c
+pub read_so : (P : Cell → Type 0) (xs ys : List Seen) → ReadTheSame P xs ys → (c : Cell) (v : Content) → IsIn (cell_seen c v) xs → P c
 read_so P [] ys same c v i = absurd i
 read_so P (cell_seen e w ∷ xs) [] same c v i = absurd same
 read_so P (cell_seen e w ∷ xs) (cell_seen f u ∷ ys) same c v (inl q) = let cells : c ≡ e = cc in subst P (sym cells) same.0
@@ -46,7 +46,7 @@ read_so P (index_seen e m ∷ xs) (index_seen f n ∷ ys) same c v (inl q) = abs
 read_so P (index_seen e m ∷ xs) (index_seen f n ∷ ys) same c v (inr i) = read_so P xs ys same.1 c v i
 
 -- bounds come where both their values do
-limits_there : (n : Names) (f : Head) (u : Store) (a b : ℤ) → (value n f.first u).result ≡ Ok a → is_bound a ≡ true → (value n f.last u).result ≡ Ok b → is_bound b ≡ true → limits n f u ≡ record { seen = (value n f.first u).seen ++ (value n f.last u).seen; result = Ok (record { first = a; last = b }) }
+pub limits_there : (n : Names) (f : Head) (u : Store) (a b : ℤ) → (value n f.first u).result ≡ Ok a → is_bound a ≡ true → (value n f.last u).result ≡ Ok b → is_bound b ≡ true → limits n f u ≡ record { seen = (value n f.first u).seen ++ (value n f.last u).seen; result = Ok (record { first = a; last = b }) }
 limits_there n f u a b one first_bound two last_bound =
     limits_come n f (value n f.first u).seen (value n f.last u).seen a b (comes f.first a one) first_bound (comes f.last b two) last_bound u
     (holds_append u (value n f.first u).seen (value n f.last u).seen ((value_told n f.first).holds u) ((value_told n f.last).holds u))

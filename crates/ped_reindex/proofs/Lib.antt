@@ -16,3 +16,9 @@ mod SkewAnswers
 mod StripAnswers
 mod PeelAnswers
 pub mod Determined
+mod StripsNumbers
+mod UnnamedCells
+mod StripsCells
+mod ValuesBut
+mod StripsBounds
+mod StripsTrips

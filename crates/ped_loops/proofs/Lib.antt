@@ -31,7 +31,7 @@ pub mod SwappedWeave
 mod SwappedConflicts
 pub mod SwappedStands
 mod FixedWrites
-mod ApartTurns
+pub mod ApartTurns
 pub mod ExchangedRaces
 pub mod SwappedAccesses
 mod SwappedKeeps

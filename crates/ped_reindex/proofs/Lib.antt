@@ -22,3 +22,7 @@ mod StripsCells
 mod ValuesBut
 mod StripsBounds
 mod StripsTrips
+mod StripsStand
+mod RenumberedRaces
+mod StripsRaces
+mod StripsAccesses

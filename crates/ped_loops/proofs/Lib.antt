@@ -17,7 +17,7 @@ mod Contained
 mod ReverseRules
 pub mod OneHead
 mod ReversedLoops
-mod ReversedNames
+pub mod ReversedNames
 mod ReversalLawful
 mod ReverseAnswers
 pub mod OnlyBodies

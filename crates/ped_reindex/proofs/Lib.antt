@@ -26,3 +26,8 @@ mod StripsStand
 mod RenumberedRaces
 mod StripsRaces
 mod StripsAccesses
+mod MadeAnew
+mod StripsKeeps
+mod StripsKinds
+mod StripsTrust
+mod StripsLawful

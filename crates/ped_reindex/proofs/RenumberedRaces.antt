@@ -55,7 +55,7 @@ module _ (f g : ℕ → ℕ) (told : IsToldBack f g) where
       → (c : Access) × IsIn c (map (λ t. record { cell = t.cell; writes = is_write t.manner; place = a.place; reference = t.reference }) (filter is_access ts)) × (b ≡ renumbered_access c)
   of_touches a [] b i = absurd i
   of_touches a (t ∷ ts) b i =
-      by (is_access t) (subst (λ (r : Bool). IsIn b (map made (if is_write t.manner || not r then exchanged_touch (renumbered_cell f) t ∷ filter is_access (map (exchanged_touch (renumbered_cell f)) ts) else filter is_access (map (exchanged_touch (renumbered_cell f)) ts)))) (lines_alike t.cell) i)
+      by (is_access t) (λ k. of_touches a ts b k) (subst (λ (r : Bool). IsIn b (map made (if is_write t.manner || not r then exchanged_touch (renumbered_cell f) t ∷ filter is_access (map (exchanged_touch (renumbered_cell f)) ts) else filter is_access (map (exchanged_touch (renumbered_cell f)) ts)))) (lines_alike t.cell) i)
     where
       made : Touch → Access
       made u = record { cell = u.cell; writes = is_write u.manner; place = renumbered_place f a.place; reference = u.reference }
@@ -63,11 +63,12 @@ module _ (f g : ℕ → ℕ) (told : IsToldBack f g) where
       old : Touch → Access
       old u = record { cell = u.cell; writes = is_write u.manner; place = a.place; reference = u.reference }
 
-      by : (r : Bool) → IsIn b (map made (if r then exchanged_touch (renumbered_cell f) t ∷ filter is_access (map (exchanged_touch (renumbered_cell f)) ts) else filter is_access (map (exchanged_touch (renumbered_cell f)) ts)))
+      by : (r : Bool) → (IsIn b (map made (filter is_access (map (exchanged_touch (renumbered_cell f)) ts))) → (c : Access) × IsIn c (map old (filter is_access ts)) × (b ≡ renumbered_access c))
+          → IsIn b (map made (if r then exchanged_touch (renumbered_cell f) t ∷ filter is_access (map (exchanged_touch (renumbered_cell f)) ts) else filter is_access (map (exchanged_touch (renumbered_cell f)) ts)))
           → (c : Access) × IsIn c (map old (if r then t ∷ filter is_access ts else filter is_access ts)) × (b ≡ renumbered_access c)
-      by true (inl e) = (old t, inl refl, e)
-      by true (inr k) = let r = of_touches a ts b k in (r.0, inr r.1, r.2)
-      by false k = of_touches a ts b k
+      by true more (inl e) = (old t, inl refl, e)
+      by true more (inr k) = let r = more k in (r.0, inr r.1, r.2)
+      by false more k = more k
 
   of_acts : (acts : List Act) (b : Access) → IsIn b (accesses (map (renumbered_act f) acts)) → (c : Access) × IsIn c (accesses acts) × (b ≡ renumbered_access c)
   of_acts [] b i = absurd i

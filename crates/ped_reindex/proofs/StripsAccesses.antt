@@ -307,10 +307,11 @@ module _ (t : ProgramTree) (l : ℕ) (loop : LoopOf t l) (K : ℕ) (w : List ℕ
     }
 
     in_place : ((m.number - 1) / K + 1 - 1) * K + ((m.number - 1) % K + 1) ≡ m.number
-    in_place = (is_in_strip K x.some bounds.first bounds.last m.number m.from (let many = stand.count_is t l loop K w q x data_bytes ends scope other beside front behind s executed goes in let high = m.to in omega (arith, high, many))).is
-      where
-        abbrev bounds : Limits
-        bounds = (stand.old t l loop K w q x data_bytes ends scope other beside front behind s executed goes).bounds
+    in_place =
+        let bounds = (stand.old t l loop K w q x data_bytes ends scope other beside front behind s executed goes).bounds in
+        let many = stand.count_is t l loop K w q x data_bytes ends scope other beside front behind s executed goes in
+        let high = m.to in
+        (is_in_strip K x.some bounds.first bounds.last m.number m.from (omega (arith, high, many))).is
 
   -- two that race come from two that race
   trips_meet : (b c : Access) (m : IsOfTrip b) (n : IsOfTrip c) → b.cell ≡ c.cell → b.writes || c.writes ≡ true → are_apart b.place.turns c.place.turns ≡ true → RaceBefore old_acts b c

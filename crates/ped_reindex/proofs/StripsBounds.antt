@@ -79,7 +79,7 @@ literal_is n = go (is_negative (pos n)) refl
     go false h = refl
 
 -- the last value of a whole strip
-end_is : (K : ℕ) (w : List ℕ) → 2 ≤ K → strip_end (pos K) w ≡ Add (Var w) (Int (K - 1))
+pub end_is : (K : ℕ) (w : List ℕ) → 2 ≤ K → strip_end (pos K) w ≡ Add (Var w) (Int (K - 1))
 end_is K w some =
     ap (λ (z : ℤ). plus_of (Var w) (literal z)) (let e : pos K -ℤ pos 1 ≡ pos (K - 1) = omega (arith, ints, some) in e)
     ∙ ap (plus_of (Var w)) (literal_is (K - 1))

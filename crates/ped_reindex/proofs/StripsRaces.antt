@@ -424,54 +424,47 @@ module _ (t u : ProgramTree) (valid : IsValid t) (f g : ℕ → ℕ) (told : IsT
           ]
         ]
       where
-        abbrev It : Type 0
-        It = IsExchangedNear names apart_cells p t start l count piece fresh front (old_parts parts ++ behind) s first new
-
-        abbrev Exit : Type 0
-        Exit = IsOtherExit names apart_cells p t start l front (old_parts parts ++ behind) s first new
-
         later_old : (a : Act) → IsIn a (old_parts parts) → IsIn a olds
         later_old a j = sub a (in_right a first (old_parts parts) j)
 
         later_new : (a : Act) → IsIn a (new_parts parts) → IsIn a news
         later_new a j = within a (in_right a new (new_parts parts) j)
 
-        of_exit : (exit : Exit) (y : Access) → IsIn y (accesses new) → 0 < y.reference → IsIn y (accesses first)
+        of_exit : (exit : IsOtherExit names apart_cells p t start l front (old_parts parts ++ behind) s first new) (y : Access) → IsIn y (accesses new) → 0 < y.reference → IsIn y (accesses first)
         of_exit exit y i referred = exit_kept names apart_cells p t start l front (old_parts parts ++ behind) s first new exit y i referred
 
         in_olds : (y : Access) → IsIn y (accesses first) → IsIn y (accesses olds)
         in_olds y i = in_acts first olds y (λ a j. sub a (in_left a first (old_parts parts) j)) i
 
-        both_here : It ⊎ Exit → IsIn b (accesses new) → IsIn c (accesses new) → RaceSomewhere olds
+        both_here : IsExchangedNear names apart_cells p t start l count piece fresh front (old_parts parts ++ behind) s first new ⊎ IsOtherExit names apart_cells p t start l front (old_parts parts ++ behind) s first new → IsIn b (accesses new) → IsIn c (accesses new) → RaceSomewhere olds
         both_here (inl it) i j =
             one_execution (execution_at front behind parts s first new it sub within) b c r (subst (λ (acts : List Act). IsIn b (accesses acts)) it.new_is i) (subst (λ (acts : List Act). IsIn c (accesses acts)) it.new_is j) one other
         both_here (inr exit) i j = both_kept b c r (in_olds b (of_exit exit b i one)) (in_olds c (of_exit exit c j other))
 
-        module _ (it : It) where
-          here : Execution
-          here = execution_at front behind parts s first new it sub within
+        here : IsExchangedNear names apart_cells p t start l count piece fresh front (old_parts parts ++ behind) s first new → Execution
+        here it = execution_at front behind parts s first new it sub within
 
-          kept_later : IsIn c (accesses (old_parts parts)) → Reads here b ⊎ Inside here b → RaceSomewhere olds
-          kept_later j k =
-              let outside = apart_acts here here.behind here.executed.unused_behind c (in_acts (old_parts parts) here.behind c (λ a i. in_left a (old_parts parts) behind i) j) in
-              let kept = in_acts (old_parts parts) olds c later_old j in
-              elim k [ inl g ↦ absurd (read_kept here b c r g kept outside) | inr m ↦ inside_kept here b m c r kept outside ]
+        kept_later : (y : Execution) → ((a : Act) → IsIn a (old_parts parts) → IsIn a y.behind) → IsIn c (accesses (old_parts parts)) → Reads y b ⊎ Inside y b → RaceSomewhere olds
+        kept_later y further j k =
+            let outside = apart_acts y y.behind y.executed.unused_behind c (in_acts (old_parts parts) y.behind c further j) in
+            let kept = in_acts (old_parts parts) olds c later_old j in
+            elim k [ inl g ↦ absurd (read_kept y b c r g kept outside) | inr m ↦ inside_kept y b m c r kept outside ]
 
-          successive : (j : IsInPlace (front ++ first) (old_parts parts) c) → AreSuccessive here j.execution
-          successive j = record {
-            before = λ a i. j.earlier a (in_right a front first (subst (λ (acts : List Act). IsIn a acts) (sym it.old_is) i));
-            after = λ a i. in_left a (old_parts parts) behind (j.later a i);
-          }
+        successive : (it : IsExchangedNear names apart_cells p t start l count piece fresh front (old_parts parts ++ behind) s first new) (j : IsInPlace (front ++ first) (old_parts parts) c) → AreSuccessive (here it) j.execution
+        successive it j = record {
+          before = λ a i. j.earlier a (in_right a front first (subst (λ (acts : List Act). IsIn a acts) (sym it.old_is) i));
+          after = λ a i. in_left a (old_parts parts) behind (j.later a i);
+        }
 
-          from_it : IsIn b (accesses new) → IsIn c (accesses (old_parts parts)) ⊎ IsInPlace (front ++ first) (old_parts parts) c → RaceSomewhere olds
-          from_it i place =
-              let of_b = comes here b (subst (λ (acts : List Act). IsIn b (accesses acts)) it.new_is i) one in
-              elim place [
-                | inl j ↦ kept_later j of_b
-                | inr j ↦ two_executions here j.execution (successive j) b c r of_b (comes j.execution c j.among other)
-              ]
+        from_it : (it : IsExchangedNear names apart_cells p t start l count piece fresh front (old_parts parts ++ behind) s first new) → IsIn b (accesses new) → IsIn c (accesses (old_parts parts)) ⊎ IsInPlace (front ++ first) (old_parts parts) c → RaceSomewhere olds
+        from_it it i place =
+            let of_b = comes (here it) b (subst (λ (acts : List Act). IsIn b (accesses acts)) it.new_is i) one in
+            elim place [
+              | inl j ↦ kept_later (here it) (λ a k. in_left a (old_parts parts) behind k) j of_b
+              | inr j ↦ two_executions (here it) j.execution (successive it j) b c r of_b (comes j.execution c j.among other)
+            ]
 
-        one_here : It ⊎ Exit → IsIn b (accesses new) → IsIn c (accesses (old_parts parts)) ⊎ IsInPlace (front ++ first) (old_parts parts) c → RaceSomewhere olds
+        one_here : IsExchangedNear names apart_cells p t start l count piece fresh front (old_parts parts ++ behind) s first new ⊎ IsOtherExit names apart_cells p t start l front (old_parts parts ++ behind) s first new → IsIn b (accesses new) → IsIn c (accesses (old_parts parts)) ⊎ IsInPlace (front ++ first) (old_parts parts) c → RaceSomewhere olds
         one_here (inl it) i place = from_it it i place
         one_here (inr exit) i place = kept_and_later front first parts b c r sub (of_exit exit b i one) other place
 

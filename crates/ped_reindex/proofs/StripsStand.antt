@@ -311,6 +311,22 @@ module _ (t : ProgramTree) (l : ℕ) (loop : LoopOf t l) (K : ℕ) (w : List ℕ
   pub leaves_alone : (a : Act) → IsIn a (run_of t data_bytes).acts → (v : Touch) → IsIn v a.touches → is_cell_of w v.cell ≡ false
   leaves_alone = untouched t x.valid w x.name unnamed data_bytes
 
+  unshown : (c : Cell) → is_cell_of w c ≡ true → shown c ≡ false
+  unshown (Scalar y) k = sorted_among y (flat_map saved_in t.decls) ∙ ap (λ (z : List ℕ). is_among z (flat_map saved_in t.decls)) (sym (same_is w y k)) ∙ unsaved_name t w x.absent
+  unshown (Private y path) k = refl
+  unshown (its_cells.Element y js) k = absurd cc
+  unshown In k = refl
+  unshown Out k = absurd cc
+
+  -- acts of the run want no cell of the new variable
+  pub unwanted_name : (acts : List Act) → ((a : Act) → IsIn a acts → IsIn a (run_of t data_bytes).acts) → (c : Cell) → is_cell_of w c ≡ true → wants shown acts c ≡ false
+  unwanted_name acts sub c named = λ i. unneeded acts c untouched_there i || (unshown c named i && not (written acts c))
+    where
+      untouched_there : touch acts c ≡ false
+      untouched_there = false_unless (touch acts c) (λ m.
+          let r = touched_in acts c m in
+          both_ways (is_cell_of w c) (ap (is_cell_of w) (sym r.4) ∙ leaves_alone r.0 (sub r.0 r.1) r.2 r.3) named)
+
   pub new_named : is_among w strip_variables ≡ true
   new_named = or_left (is_same_text w w) (is_among w (loop_variables (Do loop.head loop.body))) (text_itself w)
 
@@ -330,7 +346,7 @@ module _ (t : ProgramTree) (l : ℕ) (loop : LoopOf t l) (K : ℕ) (w : List ℕ
   no_inner = ap (λ (b : Bool). inner_variables b body) x.can.serial
 
   module _ (scope other : Scope) (beside : AreBeside w scope other) (front behind : List Act) (s : Store) (executed : IsExecuted p t start l size scope front (run p old_loop l scope s).acts behind s) (goes : finish_of (run p old_loop l scope s).ending ≡ goes_on) where
-    pub old : IsMadeOfTrips p d body l scope s
+    abbrev pub old : IsMadeOfTrips p d body l scope s
     old = trips.old K x.some x.few p q l loop.head loop.body w x.counts x.can scope other beside s goes
 
     abbrev pub e0 : Entered
@@ -502,8 +518,8 @@ module _ (t : ProgramTree) (l : ℕ) (loop : LoopOf t l) (K : ℕ) (w : List ℕ
         by n (inr (inl e)) = subst (λ (a : List Act). WriteWithin idle (touches_of a)) (sym (same_control c (trip_end e0 scope at n) e)) (end_within strip_variables e0 scope x.can.serial x.can.private no_inner own_named at n)
         by n (inr (inr k)) = absurd k
 
-    abbrev Inner : List Act → Type 0
-    Inner = IsInnerControl z0 other new_at seen_new in_new scope_new place_new
+    abbrev Controls : List Act → Type 0
+    Controls = IsInnerControl z0 other new_at seen_new in_new scope_new place_new
 
     pub inner_of : (c : List Act) → IsIn (control c) its_weave.new → IsInnerControl z0 other new_at seen_new in_new scope_new place_new c
     inner_of c i = inner_control outer_seen z0 other new_at seen_new in_new scope_new place_new number_of number_of c i
@@ -511,7 +527,7 @@ module _ (t : ProgramTree) (l : ℕ) (loop : LoopOf t l) (K : ℕ) (w : List ℕ
     new_controls : (c : List Act) → IsIn (control c) its_weave.new → WriteWithin idle (touches_of c)
     new_controls c i = by (inner_of c i)
       where
-        by : Inner c → WriteWithin idle (touches_of c)
+        by : Controls c → WriteWithin idle (touches_of c)
         by (inner_entry a from to e) = subst (λ (b : List Act). WriteWithin idle (touches_of b)) (sym e) (entry_within strip_variables (in_new a) (scope_new a) x.can.serial x.can.private no_inner own_named (seen_new a) (place_new a))
         by (inner_end a b from to e) = subst (λ (b : List Act). WriteWithin idle (touches_of b)) (sym e) (end_within strip_variables (in_new a) (scope_new a) x.can.serial x.can.private no_inner own_named (place_new a) b)
         by (outer_end a from to e) = subst (λ (b : List Act). WriteWithin idle (touches_of b)) (sym e) (end_within strip_variables z0 other refl refl refl new_named new_at a)
@@ -545,7 +561,7 @@ module _ (t : ProgramTree) (l : ℕ) (loop : LoopOf t l) (K : ℕ) (w : List ℕ
     pub steady_read : (c : List Act) (v : Touch) → IsIn (control c) its_weave.new → IsIn v (touches_of c) → v.manner ≡ reads → IsSteadyRead v
     steady_read c v i j m = by (inner_of c i)
       where
-        by : Inner c → IsSteadyRead v
+        by : Controls c → IsSteadyRead v
         by (inner_entry a from to e) =
             let r = entry_reads strip_variables (in_new a) (scope_new a) x.can.serial x.can.private no_inner own_named (seen_new a) (place_new a) v (subst (λ (b : List Act). IsIn v (touches_of b)) e j) m in
             let k = inner_reads K x.some x.few p q l d body w x.counts x.can scope other beside s old.bounds old.come a from to v.cell v.content r in
@@ -847,19 +863,7 @@ module _ (t : ProgramTree) (l : ℕ) (loop : LoopOf t l) (K : ℕ) (w : List ℕ
 
     -- nobody wants a cell of the new variable
     unwanted_new : (c : Cell) → is_cell_of w c ≡ true → wants shown behind c ≡ false
-    unwanted_new c named = (λ i. unneeded behind c untouched_behind i || (unshown c named i && not (written behind c)))
-      where
-        untouched_behind : touch behind c ≡ false
-        untouched_behind = false_unless (touch behind c) (λ m.
-            let r = touched_in behind c m in
-            both_ways (is_cell_of w c) (ap (is_cell_of w) (sym r.4) ∙ leaves_alone r.0 (behind_in_run r.0 r.1) r.2 r.3) named)
-
-        unshown : (y : Cell) → is_cell_of w y ≡ true → shown y ≡ false
-        unshown (Scalar y) k = sorted_among y (flat_map saved_in t.decls) ∙ ap (λ (z : List ℕ). is_among z (flat_map saved_in t.decls)) (sym (same_is w y k)) ∙ unsaved_name t w x.absent
-        unshown (Private y path) k = refl
-        unshown (its_cells.Element y js) k = absurd cc
-        unshown In k = refl
-        unshown Out k = absurd cc
+    unwanted_new c named = unwanted_name behind behind_in_run c named
 
     dead : (v : List ℕ) → is_among v strip_variables ≡ true → wants shown behind (cell_of scope v) ≡ false
     dead v i = by (is_same_text v w) refl i
@@ -920,7 +924,7 @@ module _ (t : ProgramTree) (l : ℕ) (loop : LoopOf t l) (K : ℕ) (w : List ℕ
         cell_wanted : (v : Touch) → v.cell ≡ c → (idle v.cell ≡ true) × (wants shown behind v.cell ≡ true)
         cell_wanted v e = (ap idle e ∙ i, ap (wants shown behind) e ∙ m)
 
-        of_control : (acts : List Act) → Inner acts → (a : Act) → IsIn a acts → (v : Touch) → IsIn v a.touches → is_write v.manner ≡ true → v.cell ≡ c → ⊥
+        of_control : (acts : List Act) → Controls acts → (a : Act) → IsIn a acts → (v : Touch) → IsIn v a.touches → is_write v.manner ≡ true → v.cell ≡ c → ⊥
         of_control acts (inner_entry n from to e) a j v k write same = variable_wanted c i m (sym same ∙ entry_cell (in_new n) (scope_new n) x.can.serial x.can.private no_inner (seen_new n) (place_new n) a v (subst (λ (z : List Act). IsIn a z) e j) k write)
         of_control acts (inner_end n b from to e) a j v k write same = variable_wanted c i m (sym same ∙ end_cell (in_new n) (scope_new n) x.can.serial x.can.private no_inner (place_new n) b a v (subst (λ (z : List Act). IsIn a z) e j) k)
         of_control acts (outer_end n from to e) a j v k write same = strip_wanted c m (sym same ∙ end_cell z0 other refl refl refl new_at n a v (subst (λ (z : List Act). IsIn a z) e j) k)

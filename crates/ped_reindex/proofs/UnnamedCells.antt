@@ -1,5 +1,5 @@
 -- A name that doesn't occur in the statements of a valid program: no act of a run touches a cell of it.
-use Rattle.std.proofs.Common.{Bool, List, [], ap, append-nil, codes, false, if◌then◌else◌, map, refl, sym, true, ℕ, ◌++◌, ◌+◌, ◌<◌, ◌||◌, ◌∙◌, ◌∷◌, ◌≡◌}
+use Rattle.std.proofs.Common.{Bool, List, [], ap, codes, false, if◌then◌else◌, refl, sym, true, ℕ, ◌++◌, ◌+◌, ◌<◌, ◌||◌, ◌∙◌, ◌∷◌, ◌≡◌}
 use Rattle.std.proofs.lemmas.Bool.{and_parts, both_ways, or_parts}
 use Rattle.std.specs.List.{flat_map}
 use Rattle.std.specs.Str.Lines.{lines}
@@ -8,7 +8,8 @@ use Rattle.ped_base.specs.Lists.{is_among, is_same_text}
 use Rattle.ped_loops.proofs.LoopPlaces.{loops_of_program}
 use Rattle.ped_loops.proofs.ReferencedNames.{reference_named}
 use Rattle.ped_loops.specs.ped_scalar.specs.ped_rules.specs.ped_loop_runs.proofs.LoopLaws.RacesByReferences.{read_is_referred}
-use Rattle.ped_loops.specs.ped_scalar.specs.ped_rules.specs.ped_loop_runs.specs.ped_tidy.specs.ped_pasting.specs.ped_bodies.specs.ped_steps.proofs.RunLaws.ExpandedNamesSites.{names_used_as, stmts_at, used_names}
+use Rattle.ped_loops.specs.ped_scalar.specs.ped_rules.specs.ped_loop_runs.specs.ped_tidy.specs.ped_pasting.specs.ped_bodies.specs.ped_steps.proofs.RunLaws.ExpandedNamesArrays.{no_constant, no_saved}
+use Rattle.ped_loops.specs.ped_scalar.specs.ped_rules.specs.ped_loop_runs.specs.ped_tidy.specs.ped_pasting.specs.ped_bodies.specs.ped_steps.proofs.RunLaws.ExpandedNamesSites.{stmts_at}
 use Rattle.ped_loops.specs.ped_scalar.specs.ped_rules.specs.ped_loop_runs.specs.ped_tidy.specs.ped_pasting.specs.ped_bodies.specs.ped_steps.proofs.RunLaws.ExpandedRacesOrigins.{write_there}
 use Rattle.ped_loops.specs.ped_scalar.specs.ped_rules.specs.ped_loop_runs.specs.ped_tidy.specs.ped_pasting.specs.ped_bodies.specs.ped_steps.proofs.RunLaws.NamesKept.{occurs, occurs_append}
 use Rattle.ped_loops.specs.ped_scalar.specs.ped_rules.specs.ped_loop_runs.specs.ped_tidy.specs.ped_pasting.specs.ped_bodies.specs.ped_steps.specs.ped_affine.specs.Assigned.{assigned_in, assigned_in_all, assigned_left}
@@ -40,16 +41,15 @@ use Rattle.ped_loops.specs.ped_scalar.specs.ped_rules.specs.ped_loop_runs.specs.
 use Rattle.ped_loops.specs.ped_scalar.specs.ped_rules.specs.ped_loop_runs.specs.ped_tidy.specs.ped_pasting.specs.ped_bodies.specs.ped_steps.specs.ped_symbols.specs.Kinds.{names_of, table_of}
 use Rattle.ped_loops.specs.ped_scalar.specs.ped_rules.specs.ped_loop_runs.specs.ped_tidy.specs.ped_pasting.specs.ped_bodies.specs.ped_steps.specs.ped_symbols.specs.NameRefusals.{IsValid}
 use Rattle.ped_loops.specs.ped_scalar.specs.ped_rules.specs.ped_loop_runs.specs.ped_tidy.specs.ped_pasting.specs.ped_bodies.specs.ped_steps.specs.ped_symbols.specs.Sites.{decl_sites, stmts_sites}
-use Rattle.ped_loops.specs.ped_scalar.specs.ped_rules.specs.ped_loop_runs.specs.ped_tidy.specs.ped_pasting.specs.ped_bodies.specs.ped_steps.specs.ped_symbols.specs.Uses.{used_as}
-use Rattle.ped_loops.specs.ped_scalar.specs.ped_rules.specs.ped_loop_runs.specs.ped_tidy.specs.ped_pasting.specs.ped_bodies.specs.ped_steps.specs.ped_symbols.specs.declared.uses.Role.TheVariants.{Saved}
 use Rattle.ped_tree.proofs.NameLaws.Collected.{among_append, among_collected}
+use Rattle.ped_tree.specs.Accesses.{constant_names}
 use Rattle.ped_tree.specs.Grammar.Fits.{Surroundings, at_body, begins_with_statement, decls_fit, in_if, in_loop, moved, stmts_fit}
 use Rattle.ped_tree.specs.Grammar.Words.{is_name}
 use Rattle.ped_tree.specs.Names.Collecting.{with_names}
 use Rattle.ped_tree.specs.NamesIn.{all_loop_variables, cond_names, expr_names, exprs_names, head_names, loop_variables, saved_in, stmt_names, stmts_names}
 use Rattle.ped_tree.specs.Nests.{Loop}
 use Rattle.ped_tree.specs.Numbering.{statement_count, statements_count}
-use Rattle.ped_tree.specs.Tree.{Add, Assign, Call, Comment, DeclTree, Dimension, Div, Do, Element, ExprTree, Head, If, Implicit, Int, Integer, Mul, Neg, Parameter, Pow, Print, Program, ProgramTree, Read, Remark, Save, StmtTree, StmtTrees, Stop, Sub, Var, more_stmts, no_stmts}
+use Rattle.ped_tree.specs.Tree.{Add, Assign, Call, Comment, Div, Do, Element, ExprTree, Head, If, Int, Mul, Neg, Pow, Print, ProgramTree, Read, StmtTree, StmtTrees, Stop, Sub, Var, more_stmts, no_stmts}
 use Rattle.ped_loops.specs.ped_scalar.specs.ped_rules.specs.ped_loop_runs.specs.ped_tidy.specs.ped_pasting.specs.ped_bodies.specs.ped_steps.specs.ped_laws.specs.ped_flow.specs.ped_affine.specs.Ranges as ranges
 use Rattle.ped_loops.specs.ped_scalar.specs.ped_rules.specs.ped_loop_runs.specs.ped_tidy.specs.ped_pasting.specs.ped_bodies.specs.ped_steps.specs.ped_laws.specs.ped_store.specs.Cells as cells
 
@@ -137,22 +137,6 @@ module _ (w : List ℕ) where
     all_loops_named no_stmts h = refl
     all_loops_named (more_stmts s rest) h = let parts = neither (stmt_names s) (stmts_names rest) h in none_both (loop_variables s) (all_loop_variables rest) (loops_named s parts.0) (all_loops_named rest parts.1)
 
-  -- and saved names occur in declarations
-  pub saved_named : (ds : List DeclTree) → occurs w (flat_map decl_sites ds) ≡ false → is_among w (flat_map saved_in ds) ≡ false
-  saved_named [] h = refl
-  saved_named (d ∷ ds) h =
-      let parts = or_parts (occurs w (decl_sites d)) (occurs w (flat_map decl_sites ds)) (sym (occurs_append w (decl_sites d) (flat_map decl_sites ds)) ∙ h) in
-      none_both (saved_in d) (flat_map saved_in ds) (by d parts.0) (saved_named ds parts.1)
-    where
-      by : (e : DeclTree) → occurs w (decl_sites e) ≡ false → None (saved_in e)
-      by (Program x) k = refl
-      by Implicit k = refl
-      by (Integer es) k = refl
-      by (Dimension es) k = refl
-      by (Parameter values) k = refl
-      by (Save names) k = sym (ap (is_among w) (ap used_names (append-nil (map (used_as Saved) names)) ∙ names_used_as Saved names)) ∙ k
-      by (Remark text) k = refl
-
 -- a name that doesn't occur in a program doesn't occur in its statements, nor is it saved
 module _ (t : ProgramTree) (w : List ℕ) (absent : is_among w (names_of t) ≡ false) where
   both_absent : (occurs w (flat_map decl_sites t.decls) ≡ false) × (occurs w (stmts_sites t.body) ≡ false)
@@ -162,7 +146,10 @@ module _ (t : ProgramTree) (w : List ℕ) (absent : is_among w (names_of t) ≡ 
   unnamed_statements = ap (is_among w) (sym (stmts_at t.body)) ∙ both_absent.1
 
   pub unsaved_name : is_among w (flat_map saved_in t.decls) ≡ false
-  unsaved_name = saved_named w t.decls both_absent.0
+  unsaved_name = no_saved t.decls w both_absent.0
+
+  pub constants_absent : is_among w (constant_names t.decls) ≡ false
+  constants_absent = no_constant t.decls w both_absent.0
 
 -- a cell of the name is no line
 no_line : (w : List ℕ) (c : Cell) → is_cell_of w c ≡ true → is_lines c ≡ false

@@ -1,6 +1,5 @@
 pub mod ShapedCode
-pub mod SameKinds
-mod SomeEdges
+pub mod NamedConstants
 mod FlagRules
 mod FlaggedLoops
 pub mod FlagsLawful
@@ -30,7 +29,7 @@ mod SwappedLoops
 pub mod SwappedWeave
 mod SwappedConflicts
 pub mod SwappedStands
-mod FixedWrites
+pub mod FixedWrites
 pub mod ApartTurns
 pub mod ExchangedRaces
 pub mod SwappedAccesses

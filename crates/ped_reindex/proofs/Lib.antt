@@ -6,8 +6,6 @@ mod Sizes
 mod Settled
 mod NestRooms
 mod KeptRooms
-pub mod PlainTests
-mod PlainScenes
 mod Answering
 pub mod SkewRules
 pub mod StripRules
@@ -22,6 +20,7 @@ mod StripsCells
 mod ValuesBut
 mod StripsBounds
 mod StripsTrips
+mod StripsControls
 mod StripsStand
 mod RenumberedRaces
 mod StripsRaces
@@ -31,3 +30,12 @@ mod StripsKeeps
 mod StripsKinds
 mod StripsTrust
 mod StripsLawful
+mod SkewedActs
+mod SkewedLoops
+mod SkewedStands
+mod SkewedKeeps
+mod SkewedValues
+mod SkewedBounds
+mod SkewedNames
+mod SkewedTrust
+mod SkewLawful

@@ -3,7 +3,7 @@ use Rattle.std.proofs.Common.{Bool, List, [], ap, append-nil, append_assoc, arit
 use Rattle.std.proofs.lemmas.Bool.{both_ways}
 use Rattle.std.specs.Str.Lines.{lines}
 use Rattle.ped_base.specs.Lists.{is_among}
-use Rattle.ped_loops.proofs.ApartTurns.{apart_further, apart_same, in_one_iteration, none_within}
+use Rattle.ped_loops.proofs.ApartTurns.{apart_further, apart_same, in_one_iteration, none_behind, none_within}
 use Rattle.ped_loops.proofs.ExchangedRaces.{RaceBefore, ReadsFixed, only_second}
 use Rattle.ped_loops.proofs.SwappedAccesses.{in_knots, of_knots, same_turns, touch_in}
 use Rattle.ped_loops.proofs.SwappedWeave.{end_unreferred, entry_referred}
@@ -26,7 +26,6 @@ use Rattle.ped_loops.specs.ped_scalar.specs.ped_rules.specs.ped_loop_runs.specs.
 use Rattle.ped_loops.specs.ped_scalar.specs.ped_rules.specs.ped_loop_runs.specs.ped_tidy.specs.ped_pasting.specs.ped_bodies.specs.ped_steps.specs.ped_laws.specs.Acts.Orders.{IsIn}
 use Rattle.ped_loops.specs.ped_scalar.specs.ped_rules.specs.ped_loop_runs.specs.ped_tidy.specs.ped_pasting.specs.ped_bodies.specs.ped_steps.specs.ped_laws.specs.Acts.Sets.{nothing, written}
 use Rattle.ped_loops.specs.ped_scalar.specs.ped_rules.specs.ped_loop_runs.specs.ped_tidy.specs.ped_pasting.specs.ped_bodies.specs.ped_steps.specs.ped_laws.specs.Runs.Replaying.{finish_of, goes_on}
-use Rattle.ped_loops.specs.ped_scalar.specs.ped_rules.specs.ped_loop_runs.specs.ped_tidy.specs.ped_pasting.specs.ped_bodies.specs.ped_steps.specs.ped_laws.specs.ped_eval.proofs.Steps.{none_behind}
 use Rattle.ped_loops.specs.ped_scalar.specs.ped_rules.specs.ped_loop_runs.specs.ped_tidy.specs.ped_pasting.specs.ped_bodies.specs.ped_steps.specs.ped_laws.specs.ped_eval.specs.Evaluation.{Evaluated, Seen, numbered}
 use Rattle.ped_loops.specs.ped_scalar.specs.ped_rules.specs.ped_loop_runs.specs.ped_tidy.specs.ped_pasting.specs.ped_bodies.specs.ped_steps.specs.ped_laws.specs.ped_eval.specs.Loops.{Entered, Limits, exit_when_none, frame, inner_variables}
 use Rattle.ped_loops.specs.ped_scalar.specs.ped_rules.specs.ped_loop_runs.specs.ped_tidy.specs.ped_pasting.specs.ped_bodies.specs.ped_steps.specs.ped_laws.specs.ped_eval.specs.Outcomes.{Ends, run_of, setting_of}
@@ -39,9 +38,10 @@ use Rattle.ped_loops.specs.ped_scalar.specs.ped_rules.specs.ped_loop_runs.specs.
 use Rattle.ped_loops.specs.ped_scalar.specs.ped_rules.specs.ped_loop_runs.specs.ped_tidy.specs.ped_pasting.specs.ped_bodies.specs.ped_steps.specs.ped_weaves.specs.Weaves.{Weave, block, control, new_list, old_list}
 use Rattle.ped_reindex.proofs.StripsBounds.{AreBeside}
 use Rattle.ped_reindex.proofs.StripsCells.{StripReached, strip_names, strips_apart, strips_inside, strips_or_stays}
+use Rattle.ped_reindex.proofs.StripsControls.{IsInnerControl, entry_seen, inner_end, inner_entry, outer_end}
 use Rattle.ped_reindex.proofs.StripsNumbers.{is_in_strip}
 use Rattle.ped_reindex.proofs.StripsRaces.{AreRaceFree, ComesFrom, origin_leaves}
-use Rattle.ped_reindex.proofs.StripsStand.{IsInnerControl, IsStripped, entry_seen, inner_end, inner_entry, outer_end}
+use Rattle.ped_reindex.proofs.StripsStand.{IsStripped}
 use Rattle.ped_reindex.specs.Stripping.{strip_head, strips_head}
 use Rattle.ped_tree.specs.Numbering.{statements_count}
 use Rattle.ped_tree.specs.Tree.{Do, Head, ProgramTree, StmtTree, StmtTrees}

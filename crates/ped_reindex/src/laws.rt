@@ -14,7 +14,10 @@ use ped_loops::ped_scalar::ped_rules::ped_loop_runs::ped_tidy::{
 /// and is tidy if the old one is so, and means the same (Allen and Kennedy, section 5.9; ParaScope).
 pub fn skewing_is_lawful()
     ensures { (s : ℕ) (f : ℤ) → IsLawful (skewing s f) }
-{}
+{
+    stays_trusted();
+    private_names_cleared();
+}
 
 /// So it is with `strip` (Allen and Kennedy, section 6.6.1; ParaScope).
 pub fn stripping_is_lawful()

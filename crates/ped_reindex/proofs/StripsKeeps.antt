@@ -32,7 +32,7 @@ use Rattle.ped_loops.specs.ped_scalar.specs.ped_rules.specs.ped_loop_runs.specs.
 use Rattle.ped_loops.specs.ped_scalar.specs.ped_rules.specs.ped_loop_runs.specs.ped_tidy.specs.ped_pasting.specs.ped_bodies.specs.ped_steps.specs.ped_laws.proofs.FlowRunLaws.Names.{sorted_among}
 use Rattle.ped_loops.specs.ped_scalar.specs.ped_rules.specs.ped_loop_runs.specs.ped_tidy.specs.ped_pasting.specs.ped_bodies.specs.ped_steps.specs.ped_laws.proofs.FlowRunLaws.Stopping.{fitting_stops, loop_stops}
 use Rattle.ped_loops.specs.ped_scalar.specs.ped_rules.specs.ped_loop_runs.specs.ped_tidy.specs.ped_pasting.specs.ped_bodies.specs.ped_steps.specs.ped_laws.specs.Acts.Orders.{IsIn}
-use Rattle.ped_loops.specs.ped_scalar.specs.ped_rules.specs.ped_loop_runs.specs.ped_tidy.specs.ped_pasting.specs.ped_bodies.specs.ped_steps.specs.ped_laws.specs.Acts.Pieces.{StandsFor, new_parts, old_parts}
+use Rattle.ped_loops.specs.ped_scalar.specs.ped_rules.specs.ped_loop_runs.specs.ped_tidy.specs.ped_pasting.specs.ped_bodies.specs.ped_steps.specs.ped_laws.specs.Acts.Pieces.{Part, StandsFor, new_parts, old_parts}
 use Rattle.ped_loops.specs.ped_scalar.specs.ped_rules.specs.ped_loop_runs.specs.ped_tidy.specs.ped_pasting.specs.ped_bodies.specs.ped_steps.specs.ped_laws.specs.FlowRuns.Covering.{is_cell_of}
 use Rattle.ped_loops.specs.ped_scalar.specs.ped_rules.specs.ped_loop_runs.specs.ped_tidy.specs.ped_pasting.specs.ped_bodies.specs.ped_steps.specs.ped_laws.specs.Runs.Replaying.{Replays, finish_of, goes_on}
 use Rattle.ped_loops.specs.ped_scalar.specs.ped_rules.specs.ped_loop_runs.specs.ped_tidy.specs.ped_pasting.specs.ped_bodies.specs.ped_steps.specs.ped_laws.specs.Runs.Showing.{shown_at_end}
@@ -204,7 +204,7 @@ module _ (t u : ProgramTree) (l : ℕ) (loop : LoopOf t l) (K : ℕ) (w : List �
   unnamed_filled = ap (λ (ts : StmtTrees). is_among w (stmts_names ts)) (sym way.old) ∙ unnamed
 
   -- statements count so in the new program: the DO over the strips under the old DO's number, the DO over one strip under a number that no statement has, and the others under their own
-  inside : List (ℕ × ℕ)
+  abbrev inside : List (ℕ × ℕ)
   inside = (l, l) ∷ ((l + 1, all + 1) ∷ in_a_row (l + 1 + 1) (l + 1) (statements_count loop.body))
 
   room : l + statements_count old ≤ all + 1
@@ -403,7 +403,7 @@ module _ (t u : ProgramTree) (l : ℕ) (loop : LoopOf t l) (K : ℕ) (w : List �
                 by_test true h = refl
                 by_test false h = absurd cc
 
-    Made : ℕ → Type 0
+    abbrev Made : ℕ → Type 0
     Made n =
         (parts : List Part) × (old_parts parts ≡ (run_of t data_bytes).acts) × AreExchangedNear (w ∷ []) (is_cell_among (w ∷ [])) p t start n count (run_all p old n) fresh [] parts [] start
         × Replays (run_all q u.body 1 []) (new_parts parts) (finish_of (run_of t data_bytes).ending)

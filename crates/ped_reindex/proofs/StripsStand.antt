@@ -13,7 +13,7 @@ use Rattle.ped_loops.proofs.NestKnots.{in_numbers, in_rows, nest_acts, nest_bloc
 use Rattle.ped_loops.proofs.SwappedAccesses.{of_knots}
 use Rattle.ped_loops.proofs.SwappedBounds.{read_so}
 use Rattle.ped_loops.proofs.SwappedStands.{agreed_wanted, both, idle_apart, not_so, of_block, stands_apart, touches_in, without_from}
-use Rattle.ped_loops.proofs.SwappedWeave.{end_reads, end_within, entry_reads, entry_within, trip_in_loop}
+use Rattle.ped_loops.proofs.SwappedWeave.{IsPart, end_reads, end_within, entry_reads, entry_within, trip_in_loop}
 use Rattle.ped_loops.specs.ped_scalar.specs.ped_rules.specs.ped_loop_runs.proofs.LoopLaws.OneForOneCells.{IsOfLoop, all_unread, among_of_scalar, cell_among, exit_unread, likewise_idle, needed_counts, touched_in}
 use Rattle.ped_loops.specs.ped_scalar.specs.ped_rules.specs.ped_loop_runs.proofs.LoopLaws.OneForOneNames.{variables_unnamed}
 use Rattle.ped_loops.specs.ped_scalar.specs.ped_rules.specs.ped_loop_runs.proofs.LoopLaws.OneForOneStands.{run_alone}
@@ -33,7 +33,6 @@ use Rattle.ped_loops.specs.ped_scalar.specs.ped_rules.specs.ped_loop_runs.specs.
 use Rattle.ped_loops.specs.ped_scalar.specs.ped_rules.specs.ped_loop_runs.specs.ped_tidy.specs.ped_pasting.specs.ped_bodies.specs.Likewise.{AreLikewise, IsMadeLikewise, IsOnlyTold}
 use Rattle.ped_loops.specs.ped_scalar.specs.ped_rules.specs.ped_loop_runs.specs.ped_tidy.specs.ped_pasting.specs.ped_bodies.specs.Moving.{is_cell_among, own_number}
 use Rattle.ped_loops.specs.ped_scalar.specs.ped_rules.specs.ped_loop_runs.specs.ped_tidy.specs.ped_pasting.specs.ped_bodies.specs.Trips.{HasLimits, IsMadeOfTrips, IsTrip, bounds_seen, loop_entry, trip_end, trips as trips_in_order}
-use Rattle.ped_loops.specs.ped_scalar.specs.ped_rules.specs.ped_loop_runs.specs.ped_tidy.specs.ped_pasting.specs.ped_bodies.specs.ped_steps.proofs.RunLaws.ExpandedPlacesParts.{IsPart}
 use Rattle.ped_loops.specs.ped_scalar.specs.ped_rules.specs.ped_loop_runs.specs.ped_tidy.specs.ped_pasting.specs.ped_bodies.specs.ped_steps.proofs.RunLaws.ExpandedRacesOrigins.{touch_of, write_access, write_in}
 use Rattle.ped_loops.specs.ped_scalar.specs.ped_rules.specs.ped_loop_runs.specs.ped_tidy.specs.ped_pasting.specs.ped_bodies.specs.ped_steps.proofs.RunLaws.PastedStores.{execution_left}
 use Rattle.ped_loops.specs.ped_scalar.specs.ped_rules.specs.ped_loop_runs.specs.ped_tidy.specs.ped_pasting.specs.ped_bodies.specs.ped_steps.proofs.RunLaws.PrivatisedPrograms.{shown_scalar}
@@ -41,7 +40,6 @@ use Rattle.ped_loops.specs.ped_scalar.specs.ped_rules.specs.ped_loop_runs.specs.
 use Rattle.ped_loops.specs.ped_scalar.specs.ped_rules.specs.ped_loop_runs.specs.ped_tidy.specs.ped_pasting.specs.ped_bodies.specs.ped_steps.specs.Replacing.{alone}
 use Rattle.ped_loops.specs.ped_scalar.specs.ped_rules.specs.ped_loop_runs.specs.ped_tidy.specs.ped_pasting.specs.ped_bodies.specs.ped_steps.specs.Runs.Exchanging.{is_of_scalar}
 use Rattle.ped_loops.specs.ped_scalar.specs.ped_rules.specs.ped_loop_runs.specs.ped_tidy.specs.ped_pasting.specs.ped_bodies.specs.ped_steps.specs.Runs.Pasting.{IsInOutermost, IsPlaceOf}
-use Rattle.ped_loops.specs.ped_scalar.specs.ped_rules.specs.ped_loop_runs.specs.ped_tidy.specs.ped_pasting.specs.ped_bodies.specs.ped_steps.specs.ped_flow.proofs.Touching.{untouched}
 use Rattle.ped_loops.specs.ped_scalar.specs.ped_rules.specs.ped_loop_runs.specs.ped_tidy.specs.ped_pasting.specs.ped_bodies.specs.ped_steps.specs.ped_flow.specs.PlainBounds.{IsPlain, nest_round, outermost_or}
 use Rattle.ped_loops.specs.ped_scalar.specs.ped_rules.specs.ped_loop_runs.specs.ped_tidy.specs.ped_pasting.specs.ped_bodies.specs.ped_steps.specs.ped_flow.specs.Questions.{IsContained, LoopOf}
 use Rattle.ped_loops.specs.ped_scalar.specs.ped_rules.specs.ped_loop_runs.specs.ped_tidy.specs.ped_pasting.specs.ped_bodies.specs.ped_steps.specs.ped_laws.proofs.ActLaws.Appending.{needs_append, written_append}
@@ -97,7 +95,7 @@ use Rattle.ped_reindex.proofs.StripsBounds.{AreBeside, CanStrip, CountsStrips, i
 use Rattle.ped_reindex.proofs.StripsCells.{StripReached, strip_names, strips_apart, strips_idle, strips_inside, strips_or_stays}
 use Rattle.ped_reindex.proofs.StripsControls.{IsInnerControl, end_cell, entry_cell, held_in, inner_control, inner_end, inner_entry, other_acts, outer_end, same_control, seen_touch, unneeded}
 use Rattle.ped_reindex.proofs.StripsNumbers.{are_strips, strips, strips_joined, whole}
-use Rattle.ped_reindex.proofs.UnnamedCells.{neither, unnamed_head, unnamed_statements, unsaved_name}
+use Rattle.ped_reindex.proofs.UnnamedCells.{neither, unnamed_head, unnamed_statements, unsaved_name, untouched}
 use Rattle.ped_reindex.specs.Stripping.{strip_head, strips_head}
 use Rattle.ped_tree.specs.Grammar.Words.{is_name}
 use Rattle.ped_tree.specs.NamesIn.{all_loop_variables, head_names, loop_variables, saved_in, stmts_names}

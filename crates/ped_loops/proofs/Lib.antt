@@ -22,6 +22,7 @@ mod ReverseAnswers
 pub mod OnlyBodies
 pub mod NestKnots
 mod PairOrders
+mod ShapedPairs
 pub mod LoopPairs
 pub mod LoopPlaces
 mod SwappedCells
@@ -34,17 +35,24 @@ pub mod ApartTurns
 pub mod ExchangedRaces
 pub mod SwappedAccesses
 mod SwappedKeeps
-pub mod SwappedBounds
-pub mod FreeBounds
+pub mod SettledBounds
+mod SwappedBounds
+mod FreeBounds
+mod ShapedValues
+mod MovedBounds
+mod ShapedWays
+mod ShapedBounds
 mod FreeSwaps
+mod ShapedSwaps
 mod UncrossedPairs
 pub mod InterchangeRules
 pub mod LoopSurroundings
 pub mod SwappedKinds
+mod ShapedNames
 mod SwappedTrust
 pub mod PlainDecided
+mod PlainAnswers
 mod InterchangeLawful
 pub mod Determined
-mod PlainAnswers
 mod PlainPlaces
 mod InterchangeAnswers

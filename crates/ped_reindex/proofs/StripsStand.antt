@@ -7,11 +7,10 @@ use Rattle.std.specs.List.{flat_map, range_with_len}
 use Rattle.std.specs.Str.Lines.{lines}
 use Rattle.ped_base.proofs.NameEquality.{same_is}
 use Rattle.ped_base.specs.Lists.{is_among, is_same_text}
-use Rattle.ped_loops.proofs.FreeBounds.{ends_so}
+use Rattle.ped_loops.proofs.SettledBounds.{ends_so, read_so}
 use Rattle.ped_loops.proofs.LoopPlaces.{loops_of_program}
 use Rattle.ped_loops.proofs.NestKnots.{in_numbers, in_rows, nest_acts, nest_blocks, nest_row, pair_of, pair_row, pair_rows}
 use Rattle.ped_loops.proofs.SwappedAccesses.{of_knots}
-use Rattle.ped_loops.proofs.SwappedBounds.{read_so}
 use Rattle.ped_loops.proofs.SwappedStands.{agreed_wanted, both, idle_apart, not_so, of_block, stands_apart, touches_in, without_from}
 use Rattle.ped_loops.proofs.SwappedWeave.{IsPart, end_reads, end_within, entry_reads, entry_within, trip_in_loop}
 use Rattle.ped_loops.specs.ped_scalar.specs.ped_rules.specs.ped_loop_runs.proofs.LoopLaws.OneForOneCells.{IsOfLoop, all_unread, among_of_scalar, cell_among, exit_unread, likewise_idle, needed_counts, touched_in}

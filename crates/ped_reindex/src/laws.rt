@@ -30,4 +30,7 @@ pub fn stripping_is_lawful()
 /// And with `peel`, of the first iteration and of the last one (Allen and Kennedy, section 5.7.2; ParaScope).
 pub fn peeling_is_lawful()
     ensures { (s : ℕ) (last : Bool) → IsLawful (peeling s last) }
-{}
+{
+    stays_trusted();
+    private_names_cleared();
+}

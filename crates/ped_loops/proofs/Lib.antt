@@ -2,14 +2,14 @@ pub mod ShapedCode
 pub mod NamedConstants
 mod FlagRules
 mod FlaggedLoops
-pub mod FlagsLawful
+mod FlagsLawful
 pub mod RejectRules
 mod FlagAnswers
 mod RejectedTrees
 mod LoopsOfReferences
 mod PendingEdges
 pub mod ReferencedNames
-pub mod VariableNames
+mod VariableNames
 mod RejectAnswers
 pub mod TurnedCounts
 mod Contained

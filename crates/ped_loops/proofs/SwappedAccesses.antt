@@ -47,7 +47,7 @@ use Rattle.ped_tree.specs.NamesIn.{loop_variables}
 use Rattle.ped_tree.specs.Numbering.{statements_count}
 use Rattle.ped_tree.specs.Tree.{Do, Head, ProgramTree, StmtTrees}
 
-pub in_single : (a b : Act) → IsIn a (b ∷ []) → a ≡ b
+in_single : (a b : Act) → IsIn a (b ∷ []) → a ≡ b
 in_single a b (inl e) = e
 in_single a b (inr i) = absurd i
 
@@ -92,7 +92,7 @@ in_knots acts (block k l ∷ ks) m n a (inr i) j = in_right a (acts k l) (knotte
 in_knots acts (control c ∷ ks) m n a (inl e) j = absurd cc
 in_knots acts (control c ∷ ks) m n a (inr i) j = in_right a c (knotted acts ks) (in_knots acts ks m n a i j)
 
-pub in_part : (whole part : List Act) → IsPart whole part → (a : Act) → IsIn a part → IsIn a whole
+in_part : (whole part : List Act) → IsPart whole part → (a : Act) → IsIn a part → IsIn a whole
 in_part whole part is a i = subst (IsIn a) (sym is.is) (in_right a is.before (part ++ is.behind) (in_left a part is.behind i))
 
 pub same_turns : (more : List Turn) → map (renumbered_turn own_number) more ≡ more

@@ -93,7 +93,7 @@ use Rattle.ped_loops.proofs.PairOrders as orders
 use Rattle.ped_scalar.specs.ped_rules.specs.ped_loop_runs.proofs.LoopLaws.OneForOneCells as cells
 use Rattle.ped_scalar.specs.ped_rules.specs.ped_loop_runs.proofs.LoopLaws.PlainReads as plain
 
-pub false_unless : (b : Bool) → (b ≡ true → ⊥) → b ≡ false
+false_unless : (b : Bool) → (b ≡ true → ⊥) → b ≡ false
 false_unless true h = absurd (h refl)
 false_unless false h = refl
 

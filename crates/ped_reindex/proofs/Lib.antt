@@ -49,7 +49,6 @@ mod PeelFar
 mod PeelQuiet
 mod PeelCells
 mod PeelStands
-mod RenumberedRaces
 mod PeelRaces
 mod PeelMeets
 mod PeelKeeps

@@ -8,34 +8,34 @@ mod FlagAnswers
 mod RejectedTrees
 mod LoopsOfReferences
 mod PendingEdges
-mod ReferencedNames
+pub mod ReferencedNames
 mod VariableNames
 mod RejectAnswers
-mod TurnedCounts
+pub mod TurnedCounts
 mod Contained
 mod ReverseRules
 pub mod OneHead
 mod ReversedLoops
-mod ReversedNames
+pub mod ReversedNames
 mod ReversalLawful
 mod ReverseAnswers
 pub mod OnlyBodies
-mod NestKnots
+pub mod NestKnots
 mod PairOrders
 mod ShapedPairs
-mod LoopPairs
+pub mod LoopPairs
 pub mod LoopPlaces
 mod SwappedCells
 mod SwappedLoops
-mod SwappedWeave
+pub mod SwappedWeave
 mod SwappedConflicts
-mod SwappedStands
-mod FixedWrites
+pub mod SwappedStands
+pub mod FixedWrites
 pub mod ApartTurns
 pub mod ExchangedRaces
-mod SwappedAccesses
+pub mod SwappedAccesses
 mod SwappedKeeps
-mod SettledBounds
+pub mod SettledBounds
 mod SwappedBounds
 mod FreeBounds
 mod ShapedValues

@@ -56,7 +56,7 @@ module _ (constants : Values) (y : List ℕ) (none : value_named constants y ≡
   not_it x m h false e = ap (λ (b : Bool). b || false) e
 
   mutual
-    unnamed : (e : ExprTree) (m : ℤ) → constant_value constants e ≡ Some m → is_among y (names_in (expr_uses e)) ≡ false
+    pub unnamed : (e : ExprTree) (m : ℤ) → constant_value constants e ≡ Some m → is_among y (names_in (expr_uses e)) ≡ false
     unnamed (Int n) m h = refl
     unnamed (Var x) m h = not_it x m h (is_same_text y x) refl
     unnamed (Element x subscripts) m h = absurd cc

@@ -57,7 +57,7 @@ one_result r m n a b = same (sym a ∙ b)
     same q = cc
 
 -- what two such evaluations read are cells of this kind
-read_so : (P : Cell → Type 0) (xs ys : List Seen) → ReadTheSame P xs ys → (c : Cell) (v : Content) → IsIn (cell_seen c v) xs → P c
+pub read_so : (P : Cell → Type 0) (xs ys : List Seen) → ReadTheSame P xs ys → (c : Cell) (v : Content) → IsIn (cell_seen c v) xs → P c
 read_so P [] ys same c v i = absurd i
 read_so P (cell_seen e w ∷ xs) [] same c v i = absurd same
 read_so P (cell_seen e w ∷ xs) (cell_seen f u ∷ ys) same c v (inl q) = let cells : c ≡ e = cc in subst P (sym cells) same.0
@@ -95,7 +95,7 @@ split_numbers f zero n a h = (flat_map f (range_with_len a n), refl)
 split_numbers f (suc m) zero a h = absurd (omega (arith, h))
 split_numbers f (suc m) (suc n) a h = let r = split_numbers f m n (a + 1) (omega (arith, h)) in (r.0, ap (λ (xs : List Act). f a ++ xs) r.1 ∙ sym (append_assoc (f a) (flat_map f (range_with_len (a + 1) m)) r.0))
 
-ends_so : (e : Ending) → finish_of e ≡ goes_on → Ends e
+pub ends_so : (e : Ending) → finish_of e ≡ goes_on → Ends e
 ends_so (going s) q = tt
 ends_so (stopped s) q = tt
 ends_so (failed fault n) q = absurd cc

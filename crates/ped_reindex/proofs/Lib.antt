@@ -14,6 +14,22 @@ mod SkewAnswers
 mod StripAnswers
 mod PeelAnswers
 pub mod Determined
+mod StripsNumbers
+mod UnnamedCells
+mod StripsCells
+mod ValuesBut
+mod StripsBounds
+mod StripsTrips
+mod StripsControls
+mod StripsStand
+mod RenumberedRaces
+mod StripsRaces
+mod StripsAccesses
+mod MadeAnew
+mod StripsKeeps
+mod StripsKinds
+mod StripsTrust
+mod StripsLawful
 mod SkewedActs
 mod SkewedLoops
 mod SkewedStands
@@ -33,7 +49,6 @@ mod PeelFar
 mod PeelQuiet
 mod PeelCells
 mod PeelStands
-mod RenumberedRaces
 mod PeelRaces
 mod PeelMeets
 mod PeelKeeps

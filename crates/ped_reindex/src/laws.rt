@@ -22,7 +22,10 @@ pub fn skewing_is_lawful()
 /// So it is with `strip` (Allen and Kennedy, section 6.6.1; ParaScope).
 pub fn stripping_is_lawful()
     ensures { (s : ℕ) (k : ℤ) → IsLawful (stripping s k) }
-{}
+{
+    stays_trusted();
+    private_names_cleared();
+}
 
 /// And with `peel`, of the first iteration and of the last one (Allen and Kennedy, section 5.7.2; ParaScope).
 pub fn peeling_is_lawful()

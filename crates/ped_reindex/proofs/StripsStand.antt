@@ -539,8 +539,8 @@ module _ (t : ProgramTree) (l : ℕ) (loop : LoopOf t l) (K : ℕ) (w : List ℕ
     unneeded_copy : (c : Cell) → IsCopyInside p scope l size c → needs (old_list its_weave) c ≡ true → ⊥
     unneeded_copy c copy m =
         let most : needs old_acts c ≡ true =
-            needs_append (old_entry ∷ []) (old_list its_weave) c
-            ∙ or_right (needs (old_entry ∷ []) c) (not (written (old_entry ∷ []) c) && needs (old_list its_weave) c) ((λ i. not (entry_unwritten c copy i) && needs (old_list its_weave) c) ∙ m) in
+        needs_append (old_entry ∷ []) (old_list its_weave) c
+        ∙ or_right (needs (old_entry ∷ []) c) (not (written (old_entry ∷ []) c) && needs (old_list its_weave) c) ((λ i. not (entry_unwritten c copy i) && needs (old_list its_weave) c) ∙ m) in
         both_ways (needs old_acts c)
         (ap (λ (acts : List Act). needs acts c) (sym (ap (λ (r : Run). r.acts) (run_alone p old_loop l scope s) ∙ whole_old)) ∙ theirs_unneeded p scope l size c copy (alone old_loop) l scope s (its c copy).undefined fine)
         most

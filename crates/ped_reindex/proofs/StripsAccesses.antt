@@ -44,7 +44,7 @@ use Rattle.ped_reindex.proofs.StripsRaces.{AreRaceFree, ComesFrom, origin_leaves
 use Rattle.ped_reindex.proofs.StripsStand.{IsStripped}
 use Rattle.ped_reindex.specs.Stripping.{strip_head, strips_head}
 use Rattle.ped_tree.specs.Numbering.{statements_count}
-use Rattle.ped_tree.specs.Tree.{Do, Head, ProgramTree, StmtTree, StmtTrees}
+use Rattle.ped_tree.specs.Tree.{Do, ProgramTree, StmtTree}
 use Rattle.ped_reindex.proofs.StripsStand as stand
 
 -- iterations round others are apart from none of them

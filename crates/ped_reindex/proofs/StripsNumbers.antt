@@ -1,5 +1,5 @@
 -- Strips of so many iterations each: how many there are, and how many iterations the last one has.
-use Rattle.std.proofs.Common.{Bool, List, [], ap, append_assoc, arith, false, if◌then◌else◌, inl, inr, int_div, int_lt, nat_le, negsuc, pos, refl, suc, sym, true, zero, ℕ, ℤ, ◌%◌, ◌*ℤ◌, ◌*◌, ◌++◌, ◌+ℤ◌, ◌+◌, ◌-ℤ◌, ◌-◌, ◌/◌, ◌<ℤ◌, ◌<◌, ◌∙◌, ◌∷◌, ◌≡◌, ◌≤ℤ◌, ◌≤◌, ◌⊎◌}
+use Rattle.std.proofs.Common.{Bool, List, ap, append_assoc, arith, false, if◌then◌else◌, inl, inr, int_div, int_lt, nat_le, negsuc, pos, refl, suc, sym, true, zero, ℕ, ℤ, ◌%◌, ◌*ℤ◌, ◌*◌, ◌++◌, ◌+ℤ◌, ◌+◌, ◌-ℤ◌, ◌-◌, ◌/◌, ◌<ℤ◌, ◌<◌, ◌∙◌, ◌≡◌, ◌≤ℤ◌, ◌≤◌, ◌⊎◌}
 use Rattle.std.proofs.Math.Decide.{dec_lt}
 use Rattle.std.proofs.Math.Logic.{dite}
 use Rattle.std.proofs.Math.Nat.{add-mul-div_right, add-mul-mod_self_right, div-eq_of_lt, div-mul-le_self, mod-eq_of_lt, mod-lt, mul-le-mul_right, zero-mul}
@@ -261,8 +261,7 @@ rows_joined f start count zero a steps = (0, ap start (let e : a + 0 ≡ a = ome
 rows_joined f start count (suc m) a steps =
     let next : start (a + 1) ≡ start a + count a = steps a (omega arith) (omega arith) in
     let r = rows_joined f start count m (a + 1) (λ q from to. steps q (omega (arith, from)) (omega (arith, to))) in
-    let rest = r.1 in
-    (
+    let rest = r.1 in (
       count a + r.0,
       ap start (let e : a + suc m ≡ a + 1 + m = omega arith in e) ∙ (let e : start (a + 1 + m) ≡ start a + (count a + r.0) = omega (arith, next, rest) in e),
       (λ i. shifted f (count a) 1 (start a) i ++ r.2 i)

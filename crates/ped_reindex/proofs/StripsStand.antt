@@ -1,5 +1,5 @@
 -- In each execution the two loops that do the iterations of a DO in strips may stand for it.
-use Rattle.std.proofs.Common.{Bool, List, Option, Some, [], ap, append-nil, arith, eqb-true, false, if◌then◌else◌, inl, inr, not, pos, refl, subst, suc, sym, true, zero, ℕ, ℤ, ◌%◌, ◌&&◌, ◌*◌, ◌++◌, ◌+◌, ◌-◌, ◌/◌, ◌<◌, ◌==◌, ◌||◌, ◌∙◌, ◌∷◌, ◌≡◌, ◌≤◌, ◌⊎◌}
+use Rattle.std.proofs.Common.{Bool, List, Some, [], ap, append-nil, arith, eqb-true, false, if◌then◌else◌, inl, inr, not, pos, refl, subst, suc, sym, true, zero, ℕ, ◌%◌, ◌&&◌, ◌*◌, ◌++◌, ◌+◌, ◌-◌, ◌/◌, ◌<◌, ◌==◌, ◌||◌, ◌∙◌, ◌∷◌, ◌≡◌, ◌≤◌, ◌⊎◌}
 use Rattle.std.proofs.Math.Nat.{zero-mul}
 use Rattle.std.proofs.lemmas.Bool.{and_parts, both_ways}
 use Rattle.std.proofs.lemmas.List.Concat.{flat_map_single}
@@ -9,7 +9,7 @@ use Rattle.ped_base.proofs.NameEquality.{same_is}
 use Rattle.ped_base.specs.Lists.{is_among, is_same_text}
 use Rattle.ped_loops.proofs.SettledBounds.{ends_so, read_so}
 use Rattle.ped_loops.proofs.LoopPlaces.{loops_of_program}
-use Rattle.ped_loops.proofs.NestKnots.{in_numbers, in_rows, nest_acts, nest_blocks, nest_row, pair_of, pair_row, pair_rows}
+use Rattle.ped_loops.proofs.NestKnots.{in_numbers, in_rows, nest_acts, nest_blocks, nest_row, pair_of}
 use Rattle.ped_loops.proofs.SwappedAccesses.{of_knots}
 use Rattle.ped_loops.proofs.SwappedStands.{agreed_wanted, both, idle_apart, not_so, of_block, stands_apart, touches_in, without_from}
 use Rattle.ped_loops.proofs.SwappedWeave.{IsPart, end_reads, end_within, entry_reads, entry_within, trip_in_loop}
@@ -29,9 +29,9 @@ use Rattle.ped_loops.specs.ped_scalar.specs.ped_rules.specs.ped_loop_runs.specs.
 use Rattle.ped_loops.specs.ped_scalar.specs.ped_rules.specs.ped_loop_runs.specs.ped_tidy.specs.ped_pasting.specs.ped_bodies.proofs.BodyLaws.LikewiseActs.{likewise_stripped}
 use Rattle.ped_loops.specs.ped_scalar.specs.ped_rules.specs.ped_loop_runs.specs.ped_tidy.specs.ped_pasting.specs.ped_bodies.proofs.BodyLaws.LimitParts.{limits_parted}
 use Rattle.ped_loops.specs.ped_scalar.specs.ped_rules.specs.ped_loop_runs.specs.ped_tidy.specs.ped_pasting.specs.ped_bodies.proofs.BodyLaws.TripLists.{close_in_order, end_in_order}
-use Rattle.ped_loops.specs.ped_scalar.specs.ped_rules.specs.ped_loop_runs.specs.ped_tidy.specs.ped_pasting.specs.ped_bodies.specs.Likewise.{AreLikewise, IsMadeLikewise, IsOnlyTold}
+use Rattle.ped_loops.specs.ped_scalar.specs.ped_rules.specs.ped_loop_runs.specs.ped_tidy.specs.ped_pasting.specs.ped_bodies.specs.Likewise.{IsMadeLikewise, IsOnlyTold}
 use Rattle.ped_loops.specs.ped_scalar.specs.ped_rules.specs.ped_loop_runs.specs.ped_tidy.specs.ped_pasting.specs.ped_bodies.specs.Moving.{is_cell_among, own_number}
-use Rattle.ped_loops.specs.ped_scalar.specs.ped_rules.specs.ped_loop_runs.specs.ped_tidy.specs.ped_pasting.specs.ped_bodies.specs.Trips.{HasLimits, IsMadeOfTrips, IsTrip, bounds_seen, loop_entry, trip_end, trips as trips_in_order}
+use Rattle.ped_loops.specs.ped_scalar.specs.ped_rules.specs.ped_loop_runs.specs.ped_tidy.specs.ped_pasting.specs.ped_bodies.specs.Trips.{IsMadeOfTrips, IsTrip, bounds_seen, loop_entry, trip_end, trips as trips_in_order}
 use Rattle.ped_loops.specs.ped_scalar.specs.ped_rules.specs.ped_loop_runs.specs.ped_tidy.specs.ped_pasting.specs.ped_bodies.specs.ped_steps.proofs.RunLaws.ExpandedRacesOrigins.{touch_of, write_access, write_in}
 use Rattle.ped_loops.specs.ped_scalar.specs.ped_rules.specs.ped_loop_runs.specs.ped_tidy.specs.ped_pasting.specs.ped_bodies.specs.ped_steps.proofs.RunLaws.PastedStores.{execution_left}
 use Rattle.ped_loops.specs.ped_scalar.specs.ped_rules.specs.ped_loop_runs.specs.ped_tidy.specs.ped_pasting.specs.ped_bodies.specs.ped_steps.proofs.RunLaws.PrivatisedPrograms.{shown_scalar}
@@ -43,9 +43,9 @@ use Rattle.ped_loops.specs.ped_scalar.specs.ped_rules.specs.ped_loop_runs.specs.
 use Rattle.ped_loops.specs.ped_scalar.specs.ped_rules.specs.ped_loop_runs.specs.ped_tidy.specs.ped_pasting.specs.ped_bodies.specs.ped_steps.specs.ped_flow.specs.Questions.{IsContained, LoopOf}
 use Rattle.ped_loops.specs.ped_scalar.specs.ped_rules.specs.ped_loop_runs.specs.ped_tidy.specs.ped_pasting.specs.ped_bodies.specs.ped_steps.specs.ped_laws.proofs.ActLaws.Appending.{needs_append, written_append}
 use Rattle.ped_loops.specs.ped_scalar.specs.ped_rules.specs.ped_loop_runs.specs.ped_tidy.specs.ped_pasting.specs.ped_bodies.specs.ped_steps.specs.ped_laws.proofs.ActLaws.Conflicting.{access_by, access_in, accesses_in}
-use Rattle.ped_loops.specs.ped_scalar.specs.ped_rules.specs.ped_loop_runs.specs.ped_tidy.specs.ped_pasting.specs.ped_bodies.specs.ped_steps.specs.ped_laws.proofs.ActLaws.Lists.{in_left, in_parts, in_right}
+use Rattle.ped_loops.specs.ped_scalar.specs.ped_rules.specs.ped_loop_runs.specs.ped_tidy.specs.ped_pasting.specs.ped_bodies.specs.ped_steps.specs.ped_laws.proofs.ActLaws.Lists.{in_left, in_right}
 use Rattle.ped_loops.specs.ped_scalar.specs.ped_rules.specs.ped_loop_runs.specs.ped_tidy.specs.ped_pasting.specs.ped_bodies.specs.ped_steps.specs.ped_laws.proofs.ActLaws.Outside.{dropped_first, none_append}
-use Rattle.ped_loops.specs.ped_scalar.specs.ped_rules.specs.ped_loop_runs.specs.ped_tidy.specs.ped_pasting.specs.ped_bodies.specs.ped_steps.specs.ped_laws.proofs.ActLaws.Renamings.{after_other, needed_touched, or_left, or_right}
+use Rattle.ped_loops.specs.ped_scalar.specs.ped_rules.specs.ped_loop_runs.specs.ped_tidy.specs.ped_pasting.specs.ped_bodies.specs.ped_steps.specs.ped_laws.proofs.ActLaws.Renamings.{after_other, or_left, or_right}
 use Rattle.ped_loops.specs.ped_scalar.specs.ped_rules.specs.ped_loop_runs.specs.ped_tidy.specs.ped_pasting.specs.ped_bodies.specs.ped_steps.specs.ped_laws.proofs.ActLaws.SameCells.{text_itself}
 use Rattle.ped_loops.specs.ped_scalar.specs.ped_rules.specs.ped_loop_runs.specs.ped_tidy.specs.ped_pasting.specs.ped_bodies.specs.ped_steps.specs.ped_laws.proofs.FlowRunLaws.Cells.{cell_named}
 use Rattle.ped_loops.specs.ped_scalar.specs.ped_rules.specs.ped_loop_runs.specs.ped_tidy.specs.ped_pasting.specs.ped_bodies.specs.ped_steps.specs.ped_laws.proofs.FlowRunLaws.DeadExits.{unwanted_behind}
@@ -55,7 +55,7 @@ use Rattle.ped_loops.specs.ped_scalar.specs.ped_rules.specs.ped_loop_runs.specs.
 use Rattle.ped_loops.specs.ped_scalar.specs.ped_rules.specs.ped_loop_runs.specs.ped_tidy.specs.ped_pasting.specs.ped_bodies.specs.ped_steps.specs.ped_laws.proofs.RunLaws.Sight.{value_told}
 use Rattle.ped_loops.specs.ped_scalar.specs.ped_rules.specs.ped_loop_runs.specs.ped_tidy.specs.ped_pasting.specs.ped_bodies.specs.ped_steps.specs.ped_laws.proofs.RunLaws.StatementsTold.{run_told}
 use Rattle.ped_loops.specs.ped_scalar.specs.ped_rules.specs.ped_loop_runs.specs.ped_tidy.specs.ped_pasting.specs.ped_bodies.specs.ped_steps.specs.ped_laws.specs.Acts.Changes.{AreSameOutside}
-use Rattle.ped_loops.specs.ped_scalar.specs.ped_rules.specs.ped_loop_runs.specs.ped_tidy.specs.ped_pasting.specs.ped_bodies.specs.ped_steps.specs.ped_laws.specs.Acts.Conflicts.{IsNoReadOf, LeaveUnread, ReadNone, WriteWithin, touches_without, without}
+use Rattle.ped_loops.specs.ped_scalar.specs.ped_rules.specs.ped_loop_runs.specs.ped_tidy.specs.ped_pasting.specs.ped_bodies.specs.ped_steps.specs.ped_laws.specs.Acts.Conflicts.{LeaveUnread, ReadNone, WriteWithin, touches_without, without}
 use Rattle.ped_loops.specs.ped_scalar.specs.ped_rules.specs.ped_loop_runs.specs.ped_tidy.specs.ped_pasting.specs.ped_bodies.specs.ped_steps.specs.ped_laws.specs.Acts.Fitting.{Fits, of_cells, store_after, touches_of}
 use Rattle.ped_loops.specs.ped_scalar.specs.ped_rules.specs.ped_loop_runs.specs.ped_tidy.specs.ped_pasting.specs.ped_bodies.specs.ped_steps.specs.ped_laws.specs.Acts.Grids.{block_at}
 use Rattle.ped_loops.specs.ped_scalar.specs.ped_rules.specs.ped_loop_runs.specs.ped_tidy.specs.ped_pasting.specs.ped_bodies.specs.ped_steps.specs.ped_laws.specs.Acts.Orders.{Block, EachOnce, IsIn, IsReordered, KeepsOrder, acts_in_blocks, block_conflict}
@@ -65,8 +65,7 @@ use Rattle.ped_loops.specs.ped_scalar.specs.ped_rules.specs.ped_loop_runs.specs.
 use Rattle.ped_loops.specs.ped_scalar.specs.ped_rules.specs.ped_loop_runs.specs.ped_tidy.specs.ped_pasting.specs.ped_bodies.specs.ped_steps.specs.ped_laws.specs.FlowRuns.Covering.{is_cell_of, some_stops_in_loop}
 use Rattle.ped_loops.specs.ped_scalar.specs.ped_rules.specs.ped_loop_runs.specs.ped_tidy.specs.ped_pasting.specs.ped_bodies.specs.ped_steps.specs.ped_laws.specs.FlowRuns.Exits.{IsExit, IsOneToOne}
 use Rattle.ped_loops.specs.ped_scalar.specs.ped_rules.specs.ped_loop_runs.specs.ped_tidy.specs.ped_pasting.specs.ped_bodies.specs.ped_steps.specs.ped_laws.specs.Plain.Executions.{IsDuring, IsPlaceWith}
-use Rattle.ped_loops.specs.ped_scalar.specs.ped_rules.specs.ped_loop_runs.specs.ped_tidy.specs.ped_pasting.specs.ped_bodies.specs.ped_steps.specs.ped_laws.specs.Runs.Replaying.{Replays, act, ending_with, finish_of, goes_on, has_fault}
-use Rattle.ped_loops.specs.ped_scalar.specs.ped_rules.specs.ped_loop_runs.specs.ped_tidy.specs.ped_pasting.specs.ped_bodies.specs.ped_steps.specs.ped_laws.specs.Runs.Seeing.{Holds}
+use Rattle.ped_loops.specs.ped_scalar.specs.ped_rules.specs.ped_loop_runs.specs.ped_tidy.specs.ped_pasting.specs.ped_bodies.specs.ped_steps.specs.ped_laws.specs.Runs.Replaying.{Replays, ending_with, finish_of, goes_on, has_fault}
 use Rattle.ped_loops.specs.ped_scalar.specs.ped_rules.specs.ped_loop_runs.specs.ped_tidy.specs.ped_pasting.specs.ped_bodies.specs.ped_steps.specs.ped_laws.specs.Runs.Showing.{shown_at_end}
 use Rattle.ped_loops.specs.ped_scalar.specs.ped_rules.specs.ped_loop_runs.specs.ped_tidy.specs.ped_pasting.specs.ped_bodies.specs.ped_steps.specs.ped_laws.specs.ped_eval.specs.Evaluation.{Evaluated, Seen, cell_seen, index_seen, numbered}
 use Rattle.ped_loops.specs.ped_scalar.specs.ped_rules.specs.ped_loop_runs.specs.ped_tidy.specs.ped_pasting.specs.ped_bodies.specs.ped_steps.specs.ped_laws.specs.ped_eval.specs.Loops.{Entered, Limits, exit_touches, exit_when_none, frame, inner_variables, left_in_variable, limits, undefined_all, undefined_by}
@@ -75,7 +74,7 @@ use Rattle.ped_loops.specs.ped_scalar.specs.ped_rules.specs.ped_loop_runs.specs.
 use Rattle.ped_loops.specs.ped_scalar.specs.ped_rules.specs.ped_loop_runs.specs.ped_tidy.specs.ped_pasting.specs.ped_bodies.specs.ped_steps.specs.ped_laws.specs.ped_eval.specs.Scopes.{Scope, Setting, cell_of, names_in, place_of, turns_of}
 use Rattle.ped_loops.specs.ped_scalar.specs.ped_rules.specs.ped_loop_runs.specs.ped_tidy.specs.ped_pasting.specs.ped_bodies.specs.ped_steps.specs.ped_laws.specs.ped_eval.specs.Statements.{write_touch}
 use Rattle.ped_loops.specs.ped_scalar.specs.ped_rules.specs.ped_loop_runs.specs.ped_tidy.specs.ped_pasting.specs.ped_bodies.specs.ped_steps.specs.ped_laws.specs.ped_eval.specs.Values.{value}
-use Rattle.ped_loops.specs.ped_scalar.specs.ped_rules.specs.ped_loop_runs.specs.ped_tidy.specs.ped_pasting.specs.ped_bodies.specs.ped_steps.specs.ped_laws.specs.ped_store.specs.Acts.{Act, Manner, Place, Step, Touch, Turn, ended_turn, is_told, iterations_of, reads, writes}
+use Rattle.ped_loops.specs.ped_scalar.specs.ped_rules.specs.ped_loop_runs.specs.ped_tidy.specs.ped_pasting.specs.ped_bodies.specs.ped_steps.specs.ped_laws.specs.ped_store.specs.Acts.{Act, Place, Touch, iterations_of, reads}
 use Rattle.ped_loops.specs.ped_scalar.specs.ped_rules.specs.ped_loop_runs.specs.ped_tidy.specs.ped_pasting.specs.ped_bodies.specs.ped_steps.specs.ped_laws.specs.ped_store.specs.Cells.{Cell, In, Iteration, Out, Private, Scalar}
 use Rattle.ped_loops.specs.ped_scalar.specs.ped_rules.specs.ped_loop_runs.specs.ped_tidy.specs.ped_pasting.specs.ped_bodies.specs.ped_steps.specs.ped_laws.specs.ped_store.specs.Races.{Access, accesses, is_write}
 use Rattle.ped_loops.specs.ped_scalar.specs.ped_rules.specs.ped_loop_runs.specs.ped_tidy.specs.ped_pasting.specs.ped_bodies.specs.ped_steps.specs.ped_laws.specs.ped_store.specs.Stores.{Content, Store, store_at_start}
@@ -539,8 +538,8 @@ module _ (t : ProgramTree) (l : ℕ) (loop : LoopOf t l) (K : ℕ) (w : List ℕ
     unneeded_copy : (c : Cell) → IsCopyInside p scope l size c → needs (old_list its_weave) c ≡ true → ⊥
     unneeded_copy c copy m =
         let most : needs old_acts c ≡ true =
-            needs_append (old_entry ∷ []) (old_list its_weave) c
-            ∙ or_right (needs (old_entry ∷ []) c) (not (written (old_entry ∷ []) c) && needs (old_list its_weave) c) ((λ i. not (entry_unwritten c copy i) && needs (old_list its_weave) c) ∙ m) in
+        needs_append (old_entry ∷ []) (old_list its_weave) c
+        ∙ or_right (needs (old_entry ∷ []) c) (not (written (old_entry ∷ []) c) && needs (old_list its_weave) c) ((λ i. not (entry_unwritten c copy i) && needs (old_list its_weave) c) ∙ m) in
         both_ways (needs old_acts c)
         (ap (λ (acts : List Act). needs acts c) (sym (ap (λ (r : Run). r.acts) (run_alone p old_loop l scope s) ∙ whole_old)) ∙ theirs_unneeded p scope l size c copy (alone old_loop) l scope s (its c copy).undefined fine)
         most

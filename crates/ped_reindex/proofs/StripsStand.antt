@@ -39,8 +39,8 @@ use Rattle.ped_loops.specs.ped_scalar.specs.ped_rules.specs.ped_loop_runs.specs.
 use Rattle.ped_loops.specs.ped_scalar.specs.ped_rules.specs.ped_loop_runs.specs.ped_tidy.specs.ped_pasting.specs.ped_bodies.specs.ped_steps.specs.Replacing.{alone}
 use Rattle.ped_loops.specs.ped_scalar.specs.ped_rules.specs.ped_loop_runs.specs.ped_tidy.specs.ped_pasting.specs.ped_bodies.specs.ped_steps.specs.Runs.Exchanging.{is_of_scalar}
 use Rattle.ped_loops.specs.ped_scalar.specs.ped_rules.specs.ped_loop_runs.specs.ped_tidy.specs.ped_pasting.specs.ped_bodies.specs.ped_steps.specs.Runs.Pasting.{IsInOutermost, IsPlaceOf}
-use Rattle.ped_loops.specs.ped_scalar.specs.ped_rules.specs.ped_loop_runs.specs.ped_tidy.specs.ped_pasting.specs.ped_bodies.specs.ped_steps.specs.ped_flow.specs.PlainBounds.{IsPlain, nest_round, outermost_or}
-use Rattle.ped_loops.specs.ped_scalar.specs.ped_rules.specs.ped_loop_runs.specs.ped_tidy.specs.ped_pasting.specs.ped_bodies.specs.ped_steps.specs.ped_flow.specs.Questions.{IsContained, LoopOf}
+use Rattle.ped_loops.specs.ped_scalar.specs.ped_rules.specs.ped_loop_runs.specs.ped_tidy.specs.ped_pasting.specs.ped_bodies.specs.ped_steps.specs.ped_flow.specs.PlainBounds.{nest_round, outermost_or}
+use Rattle.ped_loops.specs.ped_scalar.specs.ped_rules.specs.ped_loop_runs.specs.ped_tidy.specs.ped_pasting.specs.ped_bodies.specs.ped_steps.specs.ped_flow.specs.Questions.{LoopOf}
 use Rattle.ped_loops.specs.ped_scalar.specs.ped_rules.specs.ped_loop_runs.specs.ped_tidy.specs.ped_pasting.specs.ped_bodies.specs.ped_steps.specs.ped_laws.proofs.ActLaws.Appending.{needs_append, written_append}
 use Rattle.ped_loops.specs.ped_scalar.specs.ped_rules.specs.ped_loop_runs.specs.ped_tidy.specs.ped_pasting.specs.ped_bodies.specs.ped_steps.specs.ped_laws.proofs.ActLaws.Conflicting.{access_by, access_in, accesses_in}
 use Rattle.ped_loops.specs.ped_scalar.specs.ped_rules.specs.ped_loop_runs.specs.ped_tidy.specs.ped_pasting.specs.ped_bodies.specs.ped_steps.specs.ped_laws.proofs.ActLaws.Lists.{in_left, in_right}
@@ -49,7 +49,6 @@ use Rattle.ped_loops.specs.ped_scalar.specs.ped_rules.specs.ped_loop_runs.specs.
 use Rattle.ped_loops.specs.ped_scalar.specs.ped_rules.specs.ped_loop_runs.specs.ped_tidy.specs.ped_pasting.specs.ped_bodies.specs.ped_steps.specs.ped_laws.proofs.ActLaws.SameCells.{text_itself}
 use Rattle.ped_loops.specs.ped_scalar.specs.ped_rules.specs.ped_loop_runs.specs.ped_tidy.specs.ped_pasting.specs.ped_bodies.specs.ped_steps.specs.ped_laws.proofs.FlowRunLaws.Cells.{cell_named}
 use Rattle.ped_loops.specs.ped_scalar.specs.ped_rules.specs.ped_loop_runs.specs.ped_tidy.specs.ped_pasting.specs.ped_bodies.specs.ped_steps.specs.ped_laws.proofs.FlowRunLaws.DeadExits.{unwanted_behind}
-use Rattle.ped_loops.specs.ped_scalar.specs.ped_rules.specs.ped_loop_runs.specs.ped_tidy.specs.ped_pasting.specs.ped_bodies.specs.ped_steps.specs.ped_laws.proofs.FlowRunLaws.Names.{sorted_among}
 use Rattle.ped_loops.specs.ped_scalar.specs.ped_rules.specs.ped_loop_runs.specs.ped_tidy.specs.ped_pasting.specs.ped_bodies.specs.ped_steps.specs.ped_laws.proofs.FlowRunLaws.Stopping.{fitting_stops}
 use Rattle.ped_loops.specs.ped_scalar.specs.ped_rules.specs.ped_loop_runs.specs.ped_tidy.specs.ped_pasting.specs.ped_bodies.specs.ped_steps.specs.ped_laws.proofs.FlowRunLaws.TripReads.{contained_unread}
 use Rattle.ped_loops.specs.ped_scalar.specs.ped_rules.specs.ped_loop_runs.specs.ped_tidy.specs.ped_pasting.specs.ped_bodies.specs.ped_steps.specs.ped_laws.proofs.RunLaws.Sight.{value_told}
@@ -75,11 +74,9 @@ use Rattle.ped_loops.specs.ped_scalar.specs.ped_rules.specs.ped_loop_runs.specs.
 use Rattle.ped_loops.specs.ped_scalar.specs.ped_rules.specs.ped_loop_runs.specs.ped_tidy.specs.ped_pasting.specs.ped_bodies.specs.ped_steps.specs.ped_laws.specs.ped_eval.specs.Statements.{write_touch}
 use Rattle.ped_loops.specs.ped_scalar.specs.ped_rules.specs.ped_loop_runs.specs.ped_tidy.specs.ped_pasting.specs.ped_bodies.specs.ped_steps.specs.ped_laws.specs.ped_eval.specs.Values.{value}
 use Rattle.ped_loops.specs.ped_scalar.specs.ped_rules.specs.ped_loop_runs.specs.ped_tidy.specs.ped_pasting.specs.ped_bodies.specs.ped_steps.specs.ped_laws.specs.ped_store.specs.Acts.{Act, Place, Touch, iterations_of, reads}
-use Rattle.ped_loops.specs.ped_scalar.specs.ped_rules.specs.ped_loop_runs.specs.ped_tidy.specs.ped_pasting.specs.ped_bodies.specs.ped_steps.specs.ped_laws.specs.ped_store.specs.Cells.{Cell, In, Iteration, Out, Private, Scalar}
+use Rattle.ped_loops.specs.ped_scalar.specs.ped_rules.specs.ped_loop_runs.specs.ped_tidy.specs.ped_pasting.specs.ped_bodies.specs.ped_steps.specs.ped_laws.specs.ped_store.specs.Cells.{Cell, Iteration, Private, Scalar}
 use Rattle.ped_loops.specs.ped_scalar.specs.ped_rules.specs.ped_loop_runs.specs.ped_tidy.specs.ped_pasting.specs.ped_bodies.specs.ped_steps.specs.ped_laws.specs.ped_store.specs.Races.{Access, accesses, is_write}
 use Rattle.ped_loops.specs.ped_scalar.specs.ped_rules.specs.ped_loop_runs.specs.ped_tidy.specs.ped_pasting.specs.ped_bodies.specs.ped_steps.specs.ped_laws.specs.ped_store.specs.Stores.{Content, Store, store_at_start}
-use Rattle.ped_loops.specs.ped_scalar.specs.ped_rules.specs.ped_loop_runs.specs.ped_tidy.specs.ped_pasting.specs.ped_bodies.specs.ped_steps.specs.ped_symbols.specs.Kinds.{names_of}
-use Rattle.ped_loops.specs.ped_scalar.specs.ped_rules.specs.ped_loop_runs.specs.ped_tidy.specs.ped_pasting.specs.ped_bodies.specs.ped_steps.specs.ped_symbols.specs.NameRefusals.{IsValid}
 use Rattle.ped_loops.specs.ped_scalar.specs.ped_rules.specs.ped_loop_runs.specs.ped_tidy.specs.ped_pasting.specs.ped_bodies.specs.ped_steps.specs.ped_weaves.proofs.WeaveLaws.AgreedApart.{agreed_before_or_written, both_stand, needed_agreed}
 use Rattle.ped_loops.specs.ped_scalar.specs.ped_rules.specs.ped_loop_runs.specs.ped_tidy.specs.ped_pasting.specs.ped_bodies.specs.ped_steps.specs.ped_weaves.proofs.WeaveLaws.CountedActs.{counted_needed, counted_touched, counted_writes}
 use Rattle.ped_loops.specs.ped_scalar.specs.ped_rules.specs.ped_loop_runs.specs.ped_tidy.specs.ped_pasting.specs.ped_bodies.specs.ped_steps.specs.ped_weaves.proofs.WeaveLaws.KnotRows.{blocks_rows, knotted_rows}
@@ -89,36 +86,19 @@ use Rattle.ped_loops.specs.ped_scalar.specs.ped_rules.specs.ped_loop_runs.specs.
 use Rattle.ped_loops.specs.ped_scalar.specs.ped_rules.specs.ped_loop_runs.specs.ped_tidy.specs.ped_pasting.specs.ped_bodies.specs.ped_steps.specs.ped_weaves.specs.Apart.{agreed}
 use Rattle.ped_loops.specs.ped_scalar.specs.ped_rules.specs.ped_loop_runs.specs.ped_tidy.specs.ped_pasting.specs.ped_bodies.specs.ped_steps.specs.ped_weaves.specs.Puttings.{IsPutFor, Suit}
 use Rattle.ped_loops.specs.ped_scalar.specs.ped_rules.specs.ped_loop_runs.specs.ped_tidy.specs.ped_pasting.specs.ped_bodies.specs.ped_steps.specs.ped_weaves.specs.Weaves.{IsSteady, IsWoven, Knot, Weave, block, blocks_in, control, counted, new_list, new_trips, old_list, old_trips}
-use Rattle.ped_reindex.proofs.StripsBounds.{AreBeside, CanStrip, CountsStrips, inner_reads, outer_limits}
+use Rattle.ped_reindex.proofs.StripsBounds.{AreBeside, IsStripped, inner_reads, outer_limits}
 use Rattle.ped_reindex.proofs.StripsCells.{StripReached, strip_names, strips_apart, strips_idle, strips_inside, strips_or_stays}
-use Rattle.ped_reindex.proofs.StripsControls.{IsInnerControl, end_cell, entry_cell, held_in, inner_control, inner_end, inner_entry, other_acts, outer_end, same_control, seen_touch, unneeded}
+use Rattle.ped_reindex.proofs.StripsControls.{IsInnerControl, end_cell, entry_cell, false_unless, held_in, inner_control, inner_end, inner_entry, other_acts, outer_end, same_control, seen_touch}
 use Rattle.ped_reindex.proofs.StripsNumbers.{are_strips, strips, strips_joined, whole}
-use Rattle.ped_reindex.proofs.UnnamedCells.{neither, unnamed_head, unnamed_statements, unsaved_name, untouched}
+use Rattle.ped_reindex.proofs.UnnamedCells.{neither, unnamed_head}
 use Rattle.ped_reindex.specs.Stripping.{strip_head, strips_head}
-use Rattle.ped_tree.specs.Grammar.Words.{is_name}
-use Rattle.ped_tree.specs.NamesIn.{all_loop_variables, head_names, loop_variables, saved_in, stmts_names}
+use Rattle.ped_tree.specs.NamesIn.{all_loop_variables, head_names, loop_variables, stmts_names}
 use Rattle.ped_tree.specs.Numbering.{statement_count, statement_with, statements_count}
 use Rattle.ped_tree.specs.Tree.{Do, Head, ProgramTree, StmtTree, StmtTrees}
+use Rattle.ped_reindex.proofs.StripsAbsent.{leaves_alone, unwanted_name}
 use Rattle.ped_reindex.proofs.StripsTrips as trips
 use Rattle.ped_loops.specs.ped_scalar.specs.ped_rules.specs.ped_loop_runs.proofs.LoopLaws.OneForOneCells as cells
 use Rattle.ped_loops.specs.ped_scalar.specs.ped_rules.specs.ped_loop_runs.proofs.LoopLaws.PlainReads as plain
-use Rattle.ped_loops.specs.ped_scalar.specs.ped_rules.specs.ped_loop_runs.specs.ped_tidy.specs.ped_pasting.specs.ped_bodies.specs.ped_steps.specs.ped_laws.specs.ped_store.specs.Cells as its_cells
-
-false_unless : (b : Bool) → (b ≡ true → ⊥) → b ≡ false
-false_unless true h = absurd (h refl)
-false_unless false h = refl
-
--- what a step shows of the DO, the size of a strip, and the name of the new variable
-pub record IsStripped (t : ProgramTree) (l : ℕ) (loop : LoopOf t l) (K : ℕ) (w : List ℕ) (q : Setting) : Type 0 where
-  pub valid : IsValid t
-  pub some : 2 ≤ K
-  pub few : K ≤ 1000
-  pub name : is_name w ≡ true
-  pub absent : is_among w (names_of t) ≡ false
-  pub counts : CountsStrips (setting_of t) q l loop.body w
-  pub can : CanStrip (setting_of t) loop.head loop.body w
-  pub contained : IsContained t l
-  pub plain : IsPlain (setting_of t).constants t l loop.head.last
 
 module _ (t : ProgramTree) (l : ℕ) (loop : LoopOf t l) (K : ℕ) (w : List ℕ) (q : Setting) (x : IsStripped t l loop K w q) (data_bytes : List ℕ) (ends : Ends (run_of t data_bytes).ending) where
   abbrev p : Setting
@@ -169,28 +149,6 @@ module _ (t : ProgramTree) (l : ℕ) (loop : LoopOf t l) (K : ℕ) (w : List ℕ
 
   unstopping : some_stops_in_loop t.body ≡ false
   unstopping = fitting_stops t x.valid.fits
-
-  pub unnamed : is_among w (stmts_names t.body) ≡ false
-  unnamed = unnamed_statements t w x.absent
-
-  pub leaves_alone : (a : Act) → IsIn a (run_of t data_bytes).acts → (v : Touch) → IsIn v a.touches → is_cell_of w v.cell ≡ false
-  leaves_alone = untouched t x.valid w x.name unnamed data_bytes
-
-  unshown : (c : Cell) → is_cell_of w c ≡ true → shown c ≡ false
-  unshown (Scalar y) k = sorted_among y (flat_map saved_in t.decls) ∙ ap (λ (z : List ℕ). is_among z (flat_map saved_in t.decls)) (sym (same_is w y k)) ∙ unsaved_name t w x.absent
-  unshown (Private y path) k = refl
-  unshown (its_cells.Element y js) k = absurd cc
-  unshown In k = refl
-  unshown Out k = absurd cc
-
-  -- acts of the run want no cell of the new variable
-  pub unwanted_name : (acts : List Act) → ((a : Act) → IsIn a acts → IsIn a (run_of t data_bytes).acts) → (c : Cell) → is_cell_of w c ≡ true → wants shown acts c ≡ false
-  unwanted_name acts sub c named = λ i. unneeded acts c untouched_there i || (unshown c named i && not (written acts c))
-    where
-      untouched_there : touch acts c ≡ false
-      untouched_there = false_unless (touch acts c) (λ m.
-          let r = touched_in acts c m in
-          both_ways (is_cell_of w c) (ap (is_cell_of w) (sym r.4) ∙ leaves_alone r.0 (sub r.0 r.1) r.2 r.3) named)
 
   pub new_named : is_among w strip_variables ≡ true
   new_named = or_left (is_same_text w w) (is_among w (loop_variables (Do loop.head loop.body))) (text_itself w)
@@ -334,7 +292,7 @@ module _ (t : ProgramTree) (l : ℕ) (loop : LoopOf t l) (K : ℕ) (w : List ℕ
         all_unread strip_variables (old_trip i) (λ v m. by v it (is_same_text v w) refl m)
       where
         by : (v : List ℕ) → (u : Store) × IsTrip p body l scope e0 i u (old_trip i) → (b : Bool) → is_same_text v w ≡ b → b || is_among v (loop_variables (Do loop.head loop.body)) ≡ true → ReadNone (is_cell_of v) (old_trip i)
-        by v it true e m = subst (λ (y : List ℕ). ReadNone (is_cell_of y) (old_trip i)) (sym (same_is v w e)) (other_acts w (old_trip i) (λ a j. leaves_alone a (in_run a (trip_in_run i from to a j))))
+        by v it true e m = subst (λ (y : List ℕ). ReadNone (is_cell_of y) (old_trip i)) (sym (same_is v w e)) (other_acts w (old_trip i) (λ a j. leaves_alone t x.valid w x.name x.absent data_bytes a (in_run a (trip_in_run i from to a j))))
         by v it false e m = subst (ReadNone (is_cell_of v)) (sym it.1.is) (contained_unread p t l loop v (variables_unnamed t x.valid l loop v m) x.contained m scope (frame e0 i) it.0 refl)
 
     -- the blocks
@@ -421,7 +379,7 @@ module _ (t : ProgramTree) (l : ℕ) (loop : LoopOf t l) (K : ℕ) (w : List ℕ
     limit_other c v i =
         let has = limits_parted (names_in p scope) d s old.bounds old.come in
         let r = seen_touch 1 old_seen c v (subst (IsIn (cell_seen c v)) (sym has.seen) (in_right (cell_seen c v) (value (names_in p scope) d.first s).seen (value (names_in p scope) d.last s).seen i)) in
-        ap (is_cell_of w) (sym r.2) ∙ leaves_alone old_entry (in_run old_entry (subst (IsIn old_entry) (sym whole_old) (inl refl))) r.0 (in_left r.0 (numbered 1 old_seen) (exit_when_none e0.count e0 scope) r.1)
+        ap (is_cell_of w) (sym r.2) ∙ leaves_alone t x.valid w x.name x.absent data_bytes old_entry (in_run old_entry (subst (IsIn old_entry) (sym whole_old) (inl refl))) r.0 (in_left r.0 (numbered 1 old_seen) (exit_when_none e0.count e0 scope) r.1)
 
     pub steady_read : (c : List Act) (v : Touch) → IsIn (control c) its_weave.new → IsIn v (touches_of c) → v.manner ≡ reads → IsSteadyRead v
     steady_read c v i j m = by (inner_of c i)
@@ -728,7 +686,7 @@ module _ (t : ProgramTree) (l : ℕ) (loop : LoopOf t l) (K : ℕ) (w : List ℕ
 
     -- nobody wants a cell of the new variable
     unwanted_new : (c : Cell) → is_cell_of w c ≡ true → wants shown behind c ≡ false
-    unwanted_new c named = unwanted_name behind behind_in_run c named
+    unwanted_new c named = unwanted_name t x.valid w x.name x.absent data_bytes behind behind_in_run c named
 
     dead : (v : List ℕ) → is_among v strip_variables ≡ true → wants shown behind (cell_of scope v) ≡ false
     dead v i = by (is_same_text v w) refl i

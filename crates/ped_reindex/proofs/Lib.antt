@@ -21,6 +21,7 @@ mod ValuesBut
 mod StripsBounds
 mod StripsTrips
 mod StripsControls
+mod StripsAbsent
 mod StripsStand
 mod RenumberedRaces
 mod StripsRaces

@@ -36,15 +36,14 @@ use Rattle.ped_loops.specs.ped_scalar.specs.ped_rules.specs.ped_loop_runs.specs.
 use Rattle.ped_loops.specs.ped_scalar.specs.ped_rules.specs.ped_loop_runs.specs.ped_tidy.specs.ped_pasting.specs.ped_bodies.specs.ped_steps.specs.ped_laws.specs.ped_store.specs.Races.{Access, accesses, accesses_of, are_apart, is_access, is_write}
 use Rattle.ped_loops.specs.ped_scalar.specs.ped_rules.specs.ped_loop_runs.specs.ped_tidy.specs.ped_pasting.specs.ped_bodies.specs.ped_steps.specs.ped_laws.specs.ped_store.specs.Stores.{Store, store_at_start}
 use Rattle.ped_loops.specs.ped_scalar.specs.ped_rules.specs.ped_loop_runs.specs.ped_tidy.specs.ped_pasting.specs.ped_bodies.specs.ped_steps.specs.ped_weaves.specs.Weaves.{Weave, block, control, new_list, old_list}
-use Rattle.ped_reindex.proofs.StripsBounds.{AreBeside}
+use Rattle.ped_reindex.proofs.StripsBounds.{AreBeside, IsStripped}
 use Rattle.ped_reindex.proofs.StripsCells.{StripReached, strip_names, strips_apart, strips_inside, strips_or_stays}
 use Rattle.ped_reindex.proofs.StripsControls.{IsInnerControl, entry_seen, inner_end, inner_entry, outer_end}
 use Rattle.ped_reindex.proofs.StripsNumbers.{is_in_strip}
 use Rattle.ped_reindex.proofs.StripsRaces.{AreRaceFree, ComesFrom, origin_leaves}
-use Rattle.ped_reindex.proofs.StripsStand.{IsStripped}
 use Rattle.ped_reindex.specs.Stripping.{strip_head, strips_head}
 use Rattle.ped_tree.specs.Numbering.{statements_count}
-use Rattle.ped_tree.specs.Tree.{Do, Head, ProgramTree, StmtTree, StmtTrees}
+use Rattle.ped_tree.specs.Tree.{Do, ProgramTree, StmtTree}
 use Rattle.ped_reindex.proofs.StripsStand as stand
 
 -- iterations round others are apart from none of them

@@ -1,5 +1,5 @@
 -- The bounds of the DO over the strips, and of that over one strip, in one execution.
-use Rattle.std.proofs.Common.{Bool, Err, List, None, Ok, Option, Some, [], ap, append-nil, arith, eqb-true, false, if◌then◌else◌, inl, inr, int_lt, neg_ℤ, pos, refl, subst, sym, true, unwrap_or, ℕ, ℤ, ◌&&◌, ◌*ℤ◌, ◌++◌, ◌+ℤ◌, ◌+◌, ◌-ℤ◌, ◌-◌, ◌<ℤ◌, ◌<◌, ◌==◌, ◌^◌, ◌∙◌, ◌∷◌, ◌≡◌, ◌≤ℤ◌, ◌≤◌, ◌⊎◌}
+use Rattle.std.proofs.Common.{Bool, Err, List, None, Ok, Some, [], ap, append-nil, arith, eqb-true, false, if◌then◌else◌, inl, inr, int_lt, neg_ℤ, pos, refl, subst, sym, true, unwrap_or, ℕ, ℤ, ◌&&◌, ◌*ℤ◌, ◌++◌, ◌+ℤ◌, ◌+◌, ◌-ℤ◌, ◌-◌, ◌<ℤ◌, ◌<◌, ◌==◌, ◌^◌, ◌∙◌, ◌∷◌, ◌≡◌, ◌≤ℤ◌, ◌≤◌}
 use Rattle.std.proofs.lemmas.Bool.{and_parts, both_ways}
 use Rattle.std.proofs.lemmas.Int.{ints}
 use Rattle.std.specs.Int.{int_min, is_negative}
@@ -30,8 +30,14 @@ use Rattle.ped_tree.specs.Constants.ConstantExpressions.{constant_value, intrins
 use Rattle.ped_tree.specs.Constants.NamedConstants.{value_named}
 use Rattle.ped_tree.specs.NamesIn.{head_names, stmt_names, stmts_names}
 use Rattle.ped_tree.specs.Numbering.{statements_count}
-use Rattle.ped_tree.specs.Tree.{Add, Call, Do, ExprTree, Head, Int, Neg, StmtTrees, Var, more_exprs, no_exprs}
+use Rattle.ped_tree.specs.Tree.{Add, Call, Do, ExprTree, Head, Int, Neg, ProgramTree, StmtTrees, Var, more_exprs, no_exprs}
 use Rattle.ped_tree.specs.declared.expressions.Intrinsic.TheVariants.{Min}
+use Rattle.ped_loops.specs.ped_scalar.specs.ped_rules.specs.ped_loop_runs.specs.ped_tidy.specs.ped_pasting.specs.ped_bodies.specs.ped_steps.specs.ped_flow.specs.Questions.{IsContained, LoopOf}
+use Rattle.ped_loops.specs.ped_scalar.specs.ped_rules.specs.ped_loop_runs.specs.ped_tidy.specs.ped_pasting.specs.ped_bodies.specs.ped_steps.specs.ped_symbols.specs.NameRefusals.{IsValid}
+use Rattle.ped_tree.specs.Grammar.Words.{is_name}
+use Rattle.ped_loops.specs.ped_scalar.specs.ped_rules.specs.ped_loop_runs.specs.ped_tidy.specs.ped_pasting.specs.ped_bodies.specs.ped_steps.specs.ped_symbols.specs.Kinds.{names_of}
+use Rattle.ped_loops.specs.ped_scalar.specs.ped_rules.specs.ped_loop_runs.specs.ped_tidy.specs.ped_pasting.specs.ped_bodies.specs.ped_steps.specs.ped_laws.specs.ped_eval.specs.Outcomes.{setting_of}
+use Rattle.ped_loops.specs.ped_scalar.specs.ped_rules.specs.ped_loop_runs.specs.ped_tidy.specs.ped_pasting.specs.ped_bodies.specs.ped_steps.specs.ped_flow.specs.PlainBounds.{IsPlain}
 
 at_least : (a b : ℤ) → int_le a b ≡ true → a ≤ℤ b
 at_least a b h = omega (arith, linear, h)
@@ -239,3 +245,15 @@ module _ (K : ℕ) (some : 2 ≤ K) (few : K ≤ 1000) (p q : Setting) (l : ℕ)
         by (inl e) = absurd cc
         by (inr (inl e)) = absurd cc
         by (inr (inr k)) = k
+
+-- what a step shows of the DO, the size of a strip, and the name of the new variable
+pub record IsStripped (t : ProgramTree) (l : ℕ) (loop : LoopOf t l) (K : ℕ) (w : List ℕ) (q : Setting) : Type 0 where
+  pub valid : IsValid t
+  pub some : 2 ≤ K
+  pub few : K ≤ 1000
+  pub name : is_name w ≡ true
+  pub absent : is_among w (names_of t) ≡ false
+  pub counts : CountsStrips (setting_of t) q l loop.body w
+  pub can : CanStrip (setting_of t) loop.head loop.body w
+  pub contained : IsContained t l
+  pub plain : IsPlain (setting_of t).constants t l loop.head.last

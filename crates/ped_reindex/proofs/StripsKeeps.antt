@@ -1,5 +1,5 @@
 -- A program in which the iterations of a DO are done in strips keeps its meaning.
-use Rattle.std.proofs.Common.{Bool, List, Option, Some, [], ap, append-nil, arith, false, inl, inr, not, pos, refl, subst, suc, sym, true, unwrap_or, zero, ℕ, ℤ, ◌++◌, ◌+◌, ◌-◌, ◌<◌, ◌||◌, ◌∙◌, ◌∷◌, ◌≡◌, ◌≤◌, ◌⊎◌}
+use Rattle.std.proofs.Common.{Bool, List, Option, Some, [], ap, append-nil, arith, false, inl, inr, not, pos, refl, subst, suc, sym, true, unwrap_or, zero, ℕ, ℤ, ◌++◌, ◌+◌, ◌<◌, ◌||◌, ◌∙◌, ◌∷◌, ◌≡◌, ◌≤◌}
 use Rattle.std.proofs.lemmas.Bool.{both_ways}
 use Rattle.std.specs.List.{flat_map}
 use Rattle.std.specs.Str.Lines.{lines}
@@ -27,7 +27,7 @@ use Rattle.ped_loops.specs.ped_scalar.specs.ped_rules.specs.ped_loop_runs.specs.
 use Rattle.ped_loops.specs.ped_scalar.specs.ped_rules.specs.ped_loop_runs.specs.ped_tidy.specs.ped_pasting.specs.ped_bodies.specs.ped_steps.specs.Runs.Renumbering.{IsToldBack, renumbered}
 use Rattle.ped_loops.specs.ped_scalar.specs.ped_rules.specs.ped_loop_runs.specs.ped_tidy.specs.ped_pasting.specs.ped_bodies.specs.ped_steps.specs.ped_flow.specs.PlainBounds.{IsPlain}
 use Rattle.ped_loops.specs.ped_scalar.specs.ped_rules.specs.ped_loop_runs.specs.ped_tidy.specs.ped_pasting.specs.ped_bodies.specs.ped_steps.specs.ped_flow.specs.Questions.{IsContained, LoopOf}
-use Rattle.ped_loops.specs.ped_scalar.specs.ped_rules.specs.ped_loop_runs.specs.ped_tidy.specs.ped_pasting.specs.ped_bodies.specs.ped_steps.specs.ped_laws.proofs.ActLaws.Lists.{in_left, in_right}
+use Rattle.ped_loops.specs.ped_scalar.specs.ped_rules.specs.ped_loop_runs.specs.ped_tidy.specs.ped_pasting.specs.ped_bodies.specs.ped_steps.specs.ped_laws.proofs.ActLaws.Lists.{in_right}
 use Rattle.ped_loops.specs.ped_scalar.specs.ped_rules.specs.ped_loop_runs.specs.ped_tidy.specs.ped_pasting.specs.ped_bodies.specs.ped_steps.specs.ped_laws.proofs.ActLaws.SameCells.{text_itself}
 use Rattle.ped_loops.specs.ped_scalar.specs.ped_rules.specs.ped_loop_runs.specs.ped_tidy.specs.ped_pasting.specs.ped_bodies.specs.ped_steps.specs.ped_laws.proofs.FlowRunLaws.Names.{sorted_among}
 use Rattle.ped_loops.specs.ped_scalar.specs.ped_rules.specs.ped_loop_runs.specs.ped_tidy.specs.ped_pasting.specs.ped_bodies.specs.ped_steps.specs.ped_laws.proofs.FlowRunLaws.Stopping.{fitting_stops, loop_stops}
@@ -39,8 +39,8 @@ use Rattle.ped_loops.specs.ped_scalar.specs.ped_rules.specs.ped_loop_runs.specs.
 use Rattle.ped_loops.specs.ped_scalar.specs.ped_rules.specs.ped_loop_runs.specs.ped_tidy.specs.ped_pasting.specs.ped_bodies.specs.ped_steps.specs.ped_laws.specs.ped_eval.specs.Loops.{entered_with, frame}
 use Rattle.ped_loops.specs.ped_scalar.specs.ped_rules.specs.ped_loop_runs.specs.ped_tidy.specs.ped_pasting.specs.ped_bodies.specs.ped_steps.specs.ped_laws.specs.ped_eval.specs.Outcomes.{IsRaceFree, bounds_of, live_names, run_of, setting_of}
 use Rattle.ped_loops.specs.ped_scalar.specs.ped_rules.specs.ped_loop_runs.specs.ped_tidy.specs.ped_pasting.specs.ped_bodies.specs.ped_steps.specs.ped_laws.specs.ped_eval.specs.Runs.{Run, run, run_all}
-use Rattle.ped_loops.specs.ped_scalar.specs.ped_rules.specs.ped_loop_runs.specs.ped_tidy.specs.ped_pasting.specs.ped_bodies.specs.ped_steps.specs.ped_laws.specs.ped_eval.specs.Scopes.{Scope, Setting, cell_of, turns_of}
-use Rattle.ped_loops.specs.ped_scalar.specs.ped_rules.specs.ped_loop_runs.specs.ped_tidy.specs.ped_pasting.specs.ped_bodies.specs.ped_steps.specs.ped_laws.specs.ped_store.specs.Acts.{Act, Touch}
+use Rattle.ped_loops.specs.ped_scalar.specs.ped_rules.specs.ped_loop_runs.specs.ped_tidy.specs.ped_pasting.specs.ped_bodies.specs.ped_steps.specs.ped_laws.specs.ped_eval.specs.Scopes.{Scope, Setting, cell_of}
+use Rattle.ped_loops.specs.ped_scalar.specs.ped_rules.specs.ped_loop_runs.specs.ped_tidy.specs.ped_pasting.specs.ped_bodies.specs.ped_steps.specs.ped_laws.specs.ped_store.specs.Acts.{Act}
 use Rattle.ped_loops.specs.ped_scalar.specs.ped_rules.specs.ped_loop_runs.specs.ped_tidy.specs.ped_pasting.specs.ped_bodies.specs.ped_steps.specs.ped_laws.specs.ped_store.specs.Cells.{Cell, In, Out, Private, Scalar}
 use Rattle.ped_loops.specs.ped_scalar.specs.ped_rules.specs.ped_loop_runs.specs.ped_tidy.specs.ped_pasting.specs.ped_bodies.specs.ped_steps.specs.ped_laws.specs.ped_store.specs.Races.{HasNoRace, accesses}
 use Rattle.ped_loops.specs.ped_scalar.specs.ped_rules.specs.ped_loop_runs.specs.ped_tidy.specs.ped_pasting.specs.ped_bodies.specs.ped_steps.specs.ped_laws.specs.ped_store.specs.Stores.{Store, store_at_start}
@@ -49,10 +49,11 @@ use Rattle.ped_loops.specs.ped_scalar.specs.ped_rules.specs.ped_loop_runs.specs.
 use Rattle.ped_loops.specs.ped_scalar.specs.ped_rules.specs.ped_loop_runs.specs.ped_tidy.specs.ped_pasting.specs.ped_bodies.specs.ped_steps.specs.ped_symbols.specs.NameRefusals.{IsValid}
 use Rattle.ped_loops.specs.ped_scalar.specs.ped_rules.specs.ped_loop_runs.specs.ped_tidy.specs.ped_pasting.specs.ped_bodies.specs.ped_steps.specs.ped_weaves.specs.Apart.{agreed}
 use Rattle.ped_reindex.proofs.MadeAnew.{made_anew_keeps}
+use Rattle.ped_reindex.proofs.StripsAbsent.{leaves_alone, unwanted_name}
 use Rattle.ped_reindex.proofs.StripsAccesses.{free_strips}
-use Rattle.ped_reindex.proofs.StripsBounds.{AreBeside, CanStrip, CountsStrips}
+use Rattle.ped_reindex.proofs.StripsBounds.{AreBeside, CanStrip, CountsStrips, IsStripped}
 use Rattle.ped_reindex.proofs.StripsRaces.{AreRaceFree, near_races}
-use Rattle.ped_reindex.proofs.StripsStand.{IsStripped, does_strips, leaves_alone, stands_strips, unwanted_name}
+use Rattle.ped_reindex.proofs.StripsStand.{does_strips, stands_strips}
 use Rattle.ped_reindex.proofs.UnnamedCells.{UnnamedHead, constants_absent, neither, unnamed_head, unnamed_statements, unsaved_name}
 use Rattle.ped_reindex.specs.Stripping.{strip_head, strips_head, with_strips}
 use Rattle.ped_tree.specs.Constants.ConstantExpressions.{constant_value}
@@ -355,7 +356,7 @@ module _ (t u : ProgramTree) (l : ℕ) (loop : LoopOf t l) (K : ℕ) (w : List �
     fresh scope other s = (run_all q (alone (Do (strips_head (pos K) w loop.head) (alone (Do (strip_head (pos K) w loop.head) loop.body)))) l other s).acts
 
     quiet : LeaveApart (is_cell_among (w ∷ [])) p t first count (run_of t data_bytes).acts
-    quiet a i v j named = absurd (both_ways (is_cell_of w v.cell) (leaves_alone t l loop K w q stripped data_bytes free.0 a i v j) (of_one w v.cell named))
+    quiet a i v j named = absurd (both_ways (is_cell_of w v.cell) (leaves_alone t x.valid w x.name x.absent data_bytes a i v j) (of_one w v.cell named))
 
     module _ (scope other : Scope) (front behind : List Act) (s : Store) (near : Near scope other) (executed : IsExecuted p t start l count scope front (run_all p old l scope s).acts behind s) (goes : finish_of (run_all p old l scope s).ending ≡ goes_on) where
       executed_alone : IsExecuted p t start l count scope front (run p (Do loop.head loop.body) l scope s).acts behind s
@@ -394,7 +395,7 @@ module _ (t u : ProgramTree) (l : ℕ) (loop : LoopOf t l) (K : ℕ) (w : List �
             let named : is_cell_among (w ∷ []) (cell_of S y) ≡ true = cell_among (w ∷ []) S y ∙ k in
             let among : is_among y (w ∷ loop_variables (Do loop.head loop.body)) ≡ true = ap (λ (b : Bool). b || is_among y (loop_variables (Do loop.head loop.body))) (same_one y k) in
             (λ i. not (idle_apart (w ∷ loop_variables (Do loop.head loop.body)) (cell_of S y) (cell_among (w ∷ loop_variables (Do loop.head loop.body)) S y ∙ among) i)
-            || unwanted_name t l loop K w q stripped data_bytes free.0 behind sub (cell_of S y) (of_one w (cell_of S y) named) i)
+            || unwanted_name t x.valid w x.name x.absent data_bytes behind sub (cell_of S y) (of_one w (cell_of S y) named) i)
           where
             same_one : (z : List ℕ) → is_among z (w ∷ []) ≡ true → is_same_text z w ≡ true
             same_one z h = by_test (is_same_text z w) h

@@ -1,5 +1,5 @@
 -- What names stand for in a program in which the iterations of a DO are done in strips: what they stood for, but for the new variable.
-use Rattle.std.proofs.Common.{Bool, List, None, Option, Some, [], ap, append-nil, false, if◌then◌else◌, map, pos, refl, subst, sym, true, ℕ, ℤ, ◌++◌, ◌||◌, ◌∙◌, ◌∷◌, ◌≡◌, ◌≤◌}
+use Rattle.std.proofs.Common.{Bool, List, None, Some, [], ap, append-nil, false, if◌then◌else◌, map, pos, refl, subst, sym, true, ℕ, ℤ, ◌++◌, ◌||◌, ◌∙◌, ◌≡◌, ◌≤◌}
 use Rattle.std.specs.List.{flat_map}
 use Rattle.ped_base.specs.Lists.{is_among, is_same_text}
 use Rattle.ped_loops.proofs.NamedConstants.{constant_there}

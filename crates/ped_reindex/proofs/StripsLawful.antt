@@ -34,7 +34,7 @@ use Rattle.ped_reindex.proofs.StripsTrust.{stays_trusted_strips}
 use Rattle.ped_reindex.specs.Stripping.{StandsAgainstStripping, strip_variable, stripped, stripping, with_strips}
 use Rattle.ped_tree.specs.Constants.ConstantExpressions.{constant_value}
 use Rattle.ped_tree.specs.Grammar.Words.{is_name}
-use Rattle.ped_tree.specs.Tree.{Do, ProgramTree, StmtTree, StmtTrees}
+use Rattle.ped_tree.specs.Tree.{Do, ProgramTree, StmtTree}
 use Rattle.ped_reindex.proofs.StripRules as rules
 
 same_statement : (a b : StmtTree) → Some a ≡ Some b → a ≡ b

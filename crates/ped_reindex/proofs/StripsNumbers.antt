@@ -1,5 +1,5 @@
 -- Strips of so many iterations each: how many there are, and how many iterations the last one has.
-use Rattle.std.proofs.Common.{Bool, List, [], ap, append_assoc, arith, false, if◌then◌else◌, inl, inr, int_div, int_lt, nat_le, negsuc, pos, refl, suc, sym, true, zero, ℕ, ℤ, ◌%◌, ◌*ℤ◌, ◌*◌, ◌++◌, ◌+ℤ◌, ◌+◌, ◌-ℤ◌, ◌-◌, ◌/◌, ◌<ℤ◌, ◌<◌, ◌∙◌, ◌∷◌, ◌≡◌, ◌≤ℤ◌, ◌≤◌, ◌⊎◌}
+use Rattle.std.proofs.Common.{Bool, List, ap, append_assoc, arith, false, if◌then◌else◌, inl, inr, int_div, int_lt, nat_le, negsuc, pos, refl, suc, sym, true, zero, ℕ, ℤ, ◌%◌, ◌*ℤ◌, ◌*◌, ◌++◌, ◌+ℤ◌, ◌+◌, ◌-ℤ◌, ◌-◌, ◌/◌, ◌<ℤ◌, ◌<◌, ◌∙◌, ◌≡◌, ◌≤ℤ◌, ◌≤◌, ◌⊎◌}
 use Rattle.std.proofs.Math.Decide.{dec_lt}
 use Rattle.std.proofs.Math.Logic.{dite}
 use Rattle.std.proofs.Math.Nat.{add-mul-div_right, add-mul-mod_self_right, div-eq_of_lt, div-mul-le_self, mod-eq_of_lt, mod-lt, mul-le-mul_right, zero-mul}

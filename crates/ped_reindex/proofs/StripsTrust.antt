@@ -1,5 +1,5 @@
 -- The iterations of a DO done in strips: a program that may be trusted stays so.
-use Rattle.std.proofs.Common.{Bool, List, [], ap, append-nil, arith, codes, false, if◌then◌else◌, inr, not, pos, refl, subst, sym, true, ℕ, ◌&&◌, ◌++◌, ◌+◌, ◌||◌, ◌∙◌, ◌∷◌, ◌≡◌}
+use Rattle.std.proofs.Common.{Bool, List, [], ap, append-nil, arith, codes, false, if◌then◌else◌, inr, not, pos, refl, subst, sym, true, ℕ, ◌&&◌, ◌++◌, ◌||◌, ◌∙◌, ◌∷◌, ◌≡◌}
 use Rattle.std.proofs.lemmas.Bool.{both_ways, or_parts}
 use Rattle.std.specs.List.{flat_map, list_any}
 use Rattle.ped_base.proofs.NameEquality.{same_is}
@@ -18,7 +18,7 @@ use Rattle.ped_reindex.proofs.UnnamedCells.{neither, unnamed_head, unnamed_state
 use Rattle.ped_reindex.specs.Stripping.{strip_head, strips_head, with_strips}
 use Rattle.ped_tree.specs.Accesses.{constant_names}
 use Rattle.ped_tree.specs.Grammar.Words.{is_name}
-use Rattle.ped_tree.specs.NamesIn.{all_loop_variables, cond_names, expr_names, exprs_names, head_names, loop_variables, stmt_names, stmts_names}
+use Rattle.ped_tree.specs.NamesIn.{all_loop_variables, cond_names, expr_names, exprs_names, head_names, stmt_names, stmts_names}
 use Rattle.ped_tree.specs.Tree.{Add, Assign, Call, Comment, Div, Do, Element, ExprTree, Head, If, Int, Mul, Neg, Pow, Print, ProgramTree, Read, StmtTree, StmtTrees, Stop, Sub, Var, more_stmts, no_stmts}
 
 or_false : (a : Bool) → a || false ≡ a

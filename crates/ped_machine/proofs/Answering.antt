@@ -121,7 +121,7 @@ root_is false scope r = refl
 
 -- what is kept stays right but behind a fault
 pub still_right : (E : Type 0) (d : doing.Done) (scope : Scope) (r : Rest Outermost) (table : Table) (old new : Memory) (base : Scope) → IsReady table base old
-    → IfOpen {E = E} (Ok d) (IsSound outermost_left IsOutermostSound scope r table new.stands) → IfOpen {E = E} (Ok d) (DoCopiesStand scope new.stands) → IfSafe {E = E} (Ok d) (HasGrown old new)
+    → IfOpen {E = E} (Ok d) (IsSound outermost_left level_base IsOutermostSound scope r table new.stands) → IfOpen {E = E} (Ok d) (DoCopiesStand scope new.stands) → IfSafe {E = E} (Ok d) (HasGrown old new)
     → IfFaultless {E = E} (Ok (step_by d)) (IsRight (ends_run d) scope r table new)
 still_right E done.Went scope r table old new base ready sound copies grown = record { ready = ready_in table base scope new (ready_grows table base old new grown ready) copies; sound = sound }
 still_right E done.Ended scope r table old new base ready sound copies grown = record { ready = ready_in table base scope new (ready_grows table base old new grown ready) copies; sound = sound }

@@ -17,16 +17,16 @@ use Rattle.ped_machine.specs.Rests.{IfOpened}
 use Rattle.ped_machine.specs.Levels.{IsSoundLevel}
 
 -- an iteration with all its body left
-pub body_sound : {C E : Type 0} (left : C → Left) (sound : C → Table → (Cell → Bool) → Type 0) (r : Result (Level C) E) (scope : Scope) (f : Frame) (fs : Scope) (n : ℕ) (h : Head) (body : StmtTrees) (m new : Memory) → scope ≡ f ∷ fs
+pub body_sound : {C E : Type 0} (left : C → Left) (base : C → Scope) (sound : C → Table → (Cell → Bool) → Type 0) (r : Result (Level C) E) (scope : Scope) (f : Frame) (fs : Scope) (n : ℕ) (h : Head) (body : StmtTrees) (m new : Memory) → scope ≡ f ∷ fs
     → IfOk r (λ l. l.scope ≡ scope) → IfOk r (λ l. parts_of l.rest.parts ≡ record { stmts = body; first = n + 1; turn = None } ∷ []) → IfOk r (λ l. l.rest.inner ≡ None)
     → (DoCopiesStand fs m.stands → DoCopiesStand scope new.stands)
-    → IfOk r (λ l. (table : Table) → CanDo table fs n (Do h body) → DoCopiesStand fs m.stands → IsSoundLevel left sound l table new.stands)
-body_sound left sound (Ok l) scope f fs n h body m new there same parts none copies =
+    → IfOk r (λ l. (table : Table) → CanDo table fs n (Do h body) → DoCopiesStand fs m.stands → IsSoundLevel left base sound l table new.stands)
+body_sound left base sound (Ok l) scope f fs n h body m new there same parts none copies =
     λ table can k. record {
       rest = record {
         parts = subst (λ (z : Scope). CanGo table (parts_of l.rest.parts) z) (sym same) (subst (λ (z : Scope). CanGo table (parts_of l.rest.parts) z) (sym there) (subst (λ (ps : List Part). CanGo table ps (f ∷ fs)) (sym parts) (body_can table fs n h body can f, tt)));
-        inner = subst (λ (o : Option (Open _)). IfOpened left sound l.scope o table new.stands) (sym none) tt;
+        inner = subst (λ (o : Option (Open _)). IfOpened left base sound l.scope o table new.stands) (sym none) tt;
       };
       copies = subst (λ (z : Scope). DoCopiesStand z new.stands) (sym same) (copies k);
     }
-body_sound left sound (Err x) scope f fs n h body m new there same parts none copies = tt
+body_sound left base sound (Err x) scope f fs n h body m new there same parts none copies = tt

@@ -56,7 +56,7 @@ is_nothing (begins t n scope rest) h = absurd cc
 is_nothing (ends_turn e body n scope k more rest) h = absurd cc
 is_nothing (open_loop e n scope ls rest) h = absurd cc
 
-module _ {C : Type 0} (left : C → Left) (sound : C → Table → (Cell → Bool) → Type 0) (scope : Scope) where
+module _ {C : Type 0} (left : C → Left) (base : C → Scope) (sound : C → Table → (Cell → Bool) → Type 0) (scope : Scope) where
   abbrev pub body_of : Open C → StmtTrees
   body_of o = stmt_trees o.d.now.body.items
 
@@ -70,7 +70,7 @@ module _ {C : Type 0} (left : C → Left) (sound : C → Table → (Cell → Boo
   pub waits_finished : (o : Open C) (j : ℕ) → at o.marks j ≡ Waits → is_finished (place_left left scope o j) ≡ is_bare (body_of o)
   waits_finished o j h = ap is_finished (left_by o j Waits h) ∙ bare_there (body_of o) (o.plan.number + 1) 0 _ []
 
-  module _ (table : Table) (stands : Cell → Bool) (o : Open C) (h : IsOpen left sound table stands scope o) where
+  module _ (table : Table) (stands : Cell → Bool) (o : Open C) (h : IsOpen left base sound table stands scope o) where
     running_open : (j key : ℕ) → j < o.plan.count → at o.marks j ≡ Running key → is_finished (place_left left scope o j) ≡ false
     running_open j key k r =
         let t = h.running j key k r in
@@ -179,7 +179,7 @@ module _ {C : Type 0} (left : C → Left) (sound : C → Table → (Cell → Boo
           by Done e = left_by new j Done (mark_else j d ∙ e) ∙ sym (left_by old j Done e)
           by (Running k) e = left_by new j (Running k) (mark_else j d ∙ e) ∙ ap (kept_left left) (h.tasks.others k (apart j k less d e)) ∙ sym (left_by old j (Running k) e)
 
-      module _ (table : Table) (stands more : Cell → Bool) (grows : Grows) (grown : More stands more) (o : IsOpen left sound table stands scope old) where
+      module _ (table : Table) (stands more : Cell → Bool) (grows : Grows) (grown : More stands more) (o : IsOpen left base sound table stands scope old) where
         count_same : new.plan.count ≡ old.plan.count
         count_same = λ i. (h.same.plan i).count
 
@@ -187,15 +187,15 @@ module _ {C : Type 0} (left : C → Left) (sound : C → Table → (Cell → Boo
         less_too j less = subst (λ (n : ℕ). j < n) count_same less
 
         -- where that of this iteration is right, all that is left of the loop can be done
-        pub marked_open : ((k : ℕ) → mark ≡ Running k → (k ≡ key) × IsRunning left sound table more new.tasks key × (is_bare (body_of old) ≡ false)) → IsOpen left sound table more scope new
+        pub marked_open : ((k : ℕ) → mark ≡ Running k → (k ≡ key) × IsRunning left base sound table more new.tasks key × (is_bare (body_of old) ≡ false)) → IsOpen left base sound table more scope new
         marked_open right = record {
           plan = subst (λ (p : Plan). IsPlan (head_of new.d.now) (stmt_trees new.d.now.body.items) p) (sym h.same.plan) (subst (λ (d : _). IsPlan (head_of d.now) (stmt_trees d.now.body.items) old.plan) (sym h.same.d) o.plan);
           can = subst (λ (p : Plan). CanDo table scope p.number (do_tree new.d.now)) (sym h.same.plan) (subst (λ (d : _). CanDo table scope old.plan.number (do_tree d.now)) (sym h.same.d) o.can);
           some = subst (λ (n : ℕ). 0 < n) (sym count_same) o.some;
           marks = h.count ∙ o.marks ∙ sym count_same;
           running = λ j k less r.
-              this_or_other j place (IsRunning left sound table more new.tasks k)
-              (λ e. let q = right k (sym mark_there ∙ ap (at new.marks) (sym e) ∙ r) in subst (IsRunning left sound table more new.tasks) (sym q.0) q.1)
+              this_or_other j place (IsRunning left base sound table more new.tasks k)
+              (λ e. let q = right k (sym mark_there ∙ ap (at new.marks) (sym e) ∙ r) in subst (IsRunning left base sound table more new.tasks) (sym q.0) q.1)
               (λ d.
               let r2 = sym (mark_else j d) ∙ r in
               let less2 = less_too j less in
@@ -217,7 +217,7 @@ module _ {C : Type 0} (left : C → Left) (sound : C → Table → (Cell → Boo
         }
 
   -- a free key is no other iteration's
-  pub free_apart : (table : Table) (stands : Cell → Bool) (old : Open C) (place key : ℕ) → IsOpen left sound table stands scope old → get old.tasks key ≡ None
+  pub free_apart : (table : Table) (stands : Cell → Bool) (old : Open C) (place key : ℕ) → IsOpen left base sound table stands scope old → get old.tasks key ≡ None
       → (j k : ℕ) → j < old.plan.count → j ≢ place → at old.marks j ≡ Running k → k ≢ key
   free_apart table stands old place key o free j k less d r e =
       let t = o.running j k less r in
@@ -225,7 +225,7 @@ module _ {C : Type 0} (left : C → Left) (sound : C → Table → (Cell → Boo
       absurd cc
 
   -- the key of a running iteration is no other iteration's
-  pub running_apart : (table : Table) (stands : Cell → Bool) (old : Open C) (place key : ℕ) → IsOpen left sound table stands scope old → place < old.plan.count → at old.marks place ≡ Running key
+  pub running_apart : (table : Table) (stands : Cell → Bool) (old : Open C) (place key : ℕ) → IsOpen left base sound table stands scope old → place < old.plan.count → at old.marks place ≡ Running key
       → (j k : ℕ) → j < old.plan.count → j ≢ place → at old.marks j ≡ Running k → k ≢ key
   running_apart table stands old place key o there running j k less d r e =
       d (o.keys j place key less there (r ∙ ap Running e) running)

@@ -26,7 +26,7 @@ use Rattle.ped_machine.specs.Opens.{kept_left, is_bare, place_left, IsSameLoop, 
 use Rattle.ped_machine.specs.Growth.{More}
 use Rattle.ped_machine.proofs.Opening.{whole_of, left_by, waits_finished, same_whole, Grows, marked_there, marked_elsewhere, marked_open, free_apart}
 
-module _ {C : Type 0} (left : C → Left) (sound : C → Table → (Cell → Bool) → Type 0) (scope : Scope) (old new : Open C) where
+module _ {C : Type 0} (left : C → Left) (base : C → Scope) (sound : C → Table → (Cell → Bool) → Type 0) (scope : Scope) (old new : Open C) where
   module _ (same : IsSameLoop old new) (marks : new.marks ≡ old.marks) (tasks : SameValues old.tasks new.tasks) where
     mark_kept : (j : ℕ) → at new.marks j ≡ at old.marks j
     mark_kept j = ap (λ ms. at ms j) marks
@@ -36,12 +36,12 @@ module _ {C : Type 0} (left : C → Left) (sound : C → Table → (Cell → Boo
     kept_same j = by (at old.marks j) refl
       where
         by : (m : Mark) → at old.marks j ≡ m → place_left left scope new j ≡ place_left left scope old j
-        by Waits e = left_by left sound scope new j Waits (mark_kept j ∙ e) ∙ same_whole left sound scope old new j same ∙ sym (left_by left sound scope old j Waits e)
-        by (Running k) e = left_by left sound scope new j (Running k) (mark_kept j ∙ e) ∙ ap (kept_left left) (tasks k) ∙ sym (left_by left sound scope old j (Running k) e)
-        by Done e = left_by left sound scope new j Done (mark_kept j ∙ e) ∙ sym (left_by left sound scope old j Done e)
+        by Waits e = left_by left base sound scope new j Waits (mark_kept j ∙ e) ∙ same_whole left base sound scope old new j same ∙ sym (left_by left base sound scope old j Waits e)
+        by (Running k) e = left_by left base sound scope new j (Running k) (mark_kept j ∙ e) ∙ ap (kept_left left) (tasks k) ∙ sym (left_by left base sound scope old j (Running k) e)
+        by Done e = left_by left base sound scope new j Done (mark_kept j ∙ e) ∙ sym (left_by left base sound scope old j Done e)
 
     -- and all that can be done can be done where more stands
-    pub kept_open : (table : Table) (stands more : Cell → Bool) → Grows left sound scope → More stands more → IsOpen left sound table stands scope old → IsOpen left sound table more scope new
+    pub kept_open : (table : Table) (stands more : Cell → Bool) → Grows left base sound scope → More stands more → IsOpen left base sound table stands scope old → IsOpen left base sound table more scope new
     kept_open table stands more grows grown o =
         let count : new.plan.count ≡ old.plan.count = λ i. (same.plan i).count in
         let less : (j : ℕ) → j < new.plan.count → j < old.plan.count = λ j l. subst (λ (n : ℕ). j < n) count l in
@@ -57,35 +57,35 @@ module _ {C : Type 0} (left : C → Left) (sound : C → Table → (Cell → Boo
           keys = λ i j k a b r s. o.keys i j k (less i a) (less j b) (sym (mark_kept i) ∙ r) (sym (mark_kept j) ∙ s);
         }
 
-  module _ (place : ℕ) (task : C) (waits : at old.marks place ≡ Waits) (whole : left task ≡ whole_of left sound scope old place) where
+  module _ (place : ℕ) (task : C) (waits : at old.marks place ≡ Waits) (whole : left task ≡ whole_of left base sound scope old place) where
     module _ (key : ℕ) (h : HasMarked (Some task) (Running key) place key old new) (free : get old.tasks key ≡ None) where
       -- an iteration that has been started has all its body left, as before
       started_there : place_left left scope new place ≡ place_left left scope old place
       started_there =
-          marked_there left sound scope (Some task) (Running key) place key old new h
-          ∙ ap (kept_left left) h.tasks.changed ∙ whole ∙ sym (left_by left sound scope old place Waits waits)
+          marked_there left base sound scope (Some task) (Running key) place key old new h
+          ∙ ap (kept_left left) h.tasks.changed ∙ whole ∙ sym (left_by left base sound scope old place Waits waits)
 
-      module _ (table : Table) (stands : Cell → Bool) (o : IsOpen left sound table stands scope old) where
+      module _ (table : Table) (stands : Cell → Bool) (o : IsOpen left base sound table stands scope old) where
         pub started_same : (j : ℕ) → j < old.plan.count → (j ≡ place) ⊎ (j ≡ place → ⊥) → place_left left scope new j ≡ place_left left scope old j
         started_same j less (inl e) = ap (place_left left scope new) e ∙ started_there ∙ ap (place_left left scope old) (sym e)
-        started_same j less (inr d) = marked_elsewhere left sound scope (Some task) (Running key) place key old new h (free_apart left sound scope table stands old place key o free) j less d
+        started_same j less (inr d) = marked_elsewhere left base sound scope (Some task) (Running key) place key old new h (free_apart left base sound scope table stands old place key o free) j less d
 
-        pub started_open : (more : Cell → Bool) → Grows left sound scope → More stands more → sound task table more → is_finished (place_left left scope old place) ≡ false → IsOpen left sound table more scope new
+        pub started_open : (more : Cell → Bool) → Grows left base sound scope → More stands more → sound task table more → is_finished (place_left left scope old place) ≡ false → IsOpen left base sound table more scope new
         started_open more grows grown safe unfinished =
-            marked_open left sound scope (Some task) (Running key) place key old new h (free_apart left sound scope table stands old place key o free) table stands more grows grown o
+            marked_open left base sound scope (Some task) (Running key) place key old new h (free_apart left base sound scope table stands old place key o free) table stands more grows grown o
             (λ k e. (
               (let q : key ≡ k = cc in sym q),
               record {
                 task = task;
                 kept = h.tasks.changed;
-                unfinished = ap is_finished (whole ∙ sym (left_by left sound scope old place Waits waits)) ∙ unfinished;
+                unfinished = ap is_finished (whole ∙ sym (left_by left base sound scope old place Waits waits)) ∙ unfinished;
                 safe = safe;
               },
-              sym (waits_finished left sound scope old place waits) ∙ unfinished,
+              sym (waits_finished left base sound scope old place waits) ∙ unfinished,
             ))
 
     module _ {E : Type 0} (r : Result ℕ E) (free : IfOk r (λ key. get old.tasks key ≡ None)) (marked : IfOk r (λ key. HasMarked (Some task) (Running key) place key old new))
-        (kept : OnErr r (IsSameLoop old new × (new.marks ≡ old.marks) × SameValues old.tasks new.tasks)) (table : Table) (stands : Cell → Bool) (o : IsOpen left sound table stands scope old) where
+        (kept : OnErr r (IsSameLoop old new × (new.marks ≡ old.marks) × SameValues old.tasks new.tasks)) (table : Table) (stands : Cell → Bool) (o : IsOpen left base sound table stands scope old) where
       -- all that was left of the loop is left
       pub answered_same : (j : ℕ) → j < old.plan.count → place_left left scope new j ≡ place_left left scope old j
       answered_same j less = by r free marked kept
@@ -96,11 +96,11 @@ module _ {C : Type 0} (left : C → Left) (sound : C → Table → (Cell → Boo
           by (Err e) f m k = kept_same k.0 k.1 k.2 j
 
       -- and can be done
-      pub answered_open : (more : Cell → Bool) → Grows left sound scope → More stands more → sound task table more → is_finished (place_left left scope old place) ≡ false → IsOpen left sound table more scope new
+      pub answered_open : (more : Cell → Bool) → Grows left base sound scope → More stands more → sound task table more → is_finished (place_left left scope old place) ≡ false → IsOpen left base sound table more scope new
       answered_open more grows grown safe unfinished = by r free marked kept
         where
           by : (r : Result ℕ E) → IfOk r (λ key. get old.tasks key ≡ None) → IfOk r (λ key. HasMarked (Some task) (Running key) place key old new)
-              → OnErr r (IsSameLoop old new × (new.marks ≡ old.marks) × SameValues old.tasks new.tasks) → IsOpen left sound table more scope new
+              → OnErr r (IsSameLoop old new × (new.marks ≡ old.marks) × SameValues old.tasks new.tasks) → IsOpen left base sound table more scope new
           by (Ok key) f m k = started_open key m f table stands o more grows grown safe unfinished
           by (Err e) f m k = kept_open k.0 k.1 k.2 table stands more grows grown o
 

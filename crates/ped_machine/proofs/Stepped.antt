@@ -47,87 +47,87 @@ same_mark task place key old new s e u r = record {
     by k true q = ap (at old.marks) (eqb-true k place q) ∙ r ∙ sym (ap (λ b. if b then Running key else at old.marks k) q)
     by k false q = sym (ap (λ b. if b then Running key else at old.marks k) q)
 
-module _ {C : Type 0} (left : C → Left) (sound : C → Table → (Cell → Bool) → Type 0) (scope : Scope) (table : Table) (stands : Cell → Bool)
-    (old : Open C) (place key : ℕ) (o : IsOpen left sound table stands scope old) (there : place < old.plan.count) (running : at old.marks place ≡ Running key) where
+module _ {C : Type 0} (left : C → Left) (base : C → Scope) (sound : C → Table → (Cell → Bool) → Type 0) (scope : Scope) (table : Table) (stands : Cell → Bool)
+    (old : Open C) (place key : ℕ) (o : IsOpen left base sound table stands scope old) (there : place < old.plan.count) (running : at old.marks place ≡ Running key) where
   -- what the iteration had left
   pub had_left : (task : C) → get old.tasks key ≡ Some task → place_left left scope old place ≡ left task
-  had_left task was = left_by left sound scope old place (Running key) running ∙ ap (kept_left left) was
+  had_left task was = left_by left base sound scope old place (Running key) running ∙ ap (kept_left left) was
 
   module _ (new : Open C) (behind : C) where
     -- what it has left, finished or not
-    pub has_left : (over : Bool) (last : C) → is_finished (left behind) ≡ over → left last ≡ left behind → IsSettledBy left sound over behind last place key old new → place_left left scope new place ≡ left behind
-    has_left true last f s h = marked_there left sound scope None Done place key old new h ∙ sym (is_nothing (left behind) f)
-    has_left false last f s h = marked_there left sound scope (Some last) (Running key) place key old new h ∙ ap (kept_left left) h.tasks.changed ∙ s
+    pub has_left : (over : Bool) (last : C) → is_finished (left behind) ≡ over → left last ≡ left behind → IsSettledBy left base sound over behind last place key old new → place_left left scope new place ≡ left behind
+    has_left true last f s h = marked_there left base sound scope None Done place key old new h ∙ sym (is_nothing (left behind) f)
+    has_left false last f s h = marked_there left base sound scope (Some last) (Running key) place key old new h ∙ ap (kept_left left) h.tasks.changed ∙ s
 
-    pub has_elsewhere : (over : Bool) (last : C) → IsSettledBy left sound over behind last place key old new → IsSameElsewhere left scope place old new
-    has_elsewhere true last h = marked_elsewhere left sound scope None Done place key old new h (running_apart left sound scope table stands old place key o there running)
-    has_elsewhere false last h = marked_elsewhere left sound scope (Some last) (Running key) place key old new h (running_apart left sound scope table stands old place key o there running)
+    pub has_elsewhere : (over : Bool) (last : C) → IsSettledBy left base sound over behind last place key old new → IsSameElsewhere left scope place old new
+    has_elsewhere true last h = marked_elsewhere left base sound scope None Done place key old new h (running_apart left base sound scope table stands old place key o there running)
+    has_elsewhere false last h = marked_elsewhere left base sound scope (Some last) (Running key) place key old new h (running_apart left base sound scope table stands old place key o there running)
 
     pub has_open : (more : Cell → Bool) → ((w : C) (table : Table) (stands more : Cell → Bool) → More stands more → sound w table stands → sound w table more) → More stands more
-        → (over : Bool) (last : C) → is_finished (left behind) ≡ over → left last ≡ left behind → sound last table more → IsSettledBy left sound over behind last place key old new → IsOpen left sound table more scope new
+        → (over : Bool) (last : C) → is_finished (left behind) ≡ over → left last ≡ left behind → sound last table more → IsSettledBy left base sound over behind last place key old new → IsOpen left base sound table more scope new
     has_open more grows grown true last f s safe h =
-        marked_open left sound scope None Done place key old new h (running_apart left sound scope table stands old place key o there running) table stands more grows grown o
+        marked_open left base sound scope None Done place key old new h (running_apart left base sound scope table stands old place key o there running) table stands more grows grown o
         (λ k e. absurd cc)
     has_open more grows grown false last f s safe h =
-        marked_open left sound scope (Some last) (Running key) place key old new h (running_apart left sound scope table stands old place key o there running) table stands more grows grown o
+        marked_open left base sound scope (Some last) (Running key) place key old new h (running_apart left base sound scope table stands old place key o there running) table stands more grows grown o
         (λ k e. let w : k ≡ key = cc in (w, record { task = last; kept = h.tasks.changed; unfinished = ap is_finished s ∙ f; safe = safe }, o.real place key there running))
 
 pub some_is : {A : Type 0} (x y : A) → ◌≡◌ {A = Option A} (Some x) (Some y) → x ≡ y
 some_is x y h = cc
 
-settled_whole : {C : Type 0} (left : C → Left) (sound : C → Table → (Cell → Bool) → Type 0) (over : Bool) (t b : C) (task : Option C) (place key : ℕ) (old mid new : Open C) → IsSameLoop old mid → mid.marks ≡ old.marks → Updates old.tasks mid.tasks key task
-    → IsSettledBy left sound over t b place key mid new → IsSettledBy left sound over t b place key old new
-settled_whole left sound true t b task place key old mid new s e u h = behind_step None Done place key old mid new task s e u h
-settled_whole left sound false t b task place key old mid new s e u h = behind_step (Some b) (Running key) place key old mid new task s e u h
+settled_whole : {C : Type 0} (left : C → Left) (base : C → Scope) (sound : C → Table → (Cell → Bool) → Type 0) (over : Bool) (t b : C) (task : Option C) (place key : ℕ) (old mid new : Open C) → IsSameLoop old mid → mid.marks ≡ old.marks → Updates old.tasks mid.tasks key task
+    → IsSettledBy left base sound over t b place key mid new → IsSettledBy left base sound over t b place key old new
+settled_whole left base sound true t b task place key old mid new s e u h = behind_step None Done place key old mid new task s e u h
+settled_whole left base sound false t b task place key old mid new s e u h = behind_step (Some b) (Running key) place key old mid new task s e u h
 
-settled_same : {C : Type 0} (left : C → Left) (sound : C → Table → (Cell → Bool) → Type 0) (over : Bool) (t b : C) (place key : ℕ) (old new : Open C) → IsSettledBy left sound over t b place key old new → IsSameLoop old new
-settled_same left sound true t b place key old new h = h.same
-settled_same left sound false t b place key old new h = h.same
+settled_same : {C : Type 0} (left : C → Left) (base : C → Scope) (sound : C → Table → (Cell → Bool) → Type 0) (over : Bool) (t b : C) (place key : ℕ) (old new : Open C) → IsSettledBy left base sound over t b place key old new → IsSameLoop old new
+settled_same left base sound true t b place key old new h = h.same
+settled_same left base sound false t b place key old new h = h.same
 
-module _ {C E : Type 0} (left : C → Left) (sound : C → Table → (Cell → Bool) → Type 0) (scope : Scope) (table : Table) (m after : Memory) (choice : ℕ)
-    (old mid new : Open C) (place key : ℕ) (o : IsOpen left sound table m.stands scope old) (there : place < old.plan.count) (running : at old.marks place ≡ Running key)
-    (d : answer.Done) (st : HasStepped left sound {E = E} table key choice old.tasks mid.tasks m after (Ok d)) (same : IsSameLoop old mid) (marks : mid.marks ≡ old.marks) (se : HasSettled left sound place key mid new) where
+module _ {C E : Type 0} (left : C → Left) (base : C → Scope) (sound : C → Table → (Cell → Bool) → Type 0) (scope : Scope) (table : Table) (m after : Memory) (choice : ℕ)
+    (old mid new : Open C) (place key : ℕ) (o : IsOpen left base sound table m.stands scope old) (there : place < old.plan.count) (running : at old.marks place ≡ Running key)
+    (d : answer.Done) (st : HasStepped left base sound {E = E} table key choice old.tasks mid.tasks m after (Ok d)) (same : IsSameLoop old mid) (marks : mid.marks ≡ old.marks) (se : HasSettled left base sound place key mid new) where
   task_is : se.task ≡ st.behind
   task_is = some_is se.task st.behind (sym se.was ∙ st.tasks.changed)
 
-  settled_by : IsSettledBy left sound (is_finished (left st.behind)) st.behind se.behind place key old new
+  settled_by : IsSettledBy left base sound (is_finished (left st.behind)) st.behind se.behind place key old new
   settled_by =
-      settled_whole left sound (is_finished (left st.behind)) st.behind se.behind (Some st.behind) place key old mid new same marks st.tasks
-      (subst (λ (t : C). IsSettledBy left sound (is_finished (left t)) t se.behind place key mid new) task_is se.settled)
+      settled_whole left base sound (is_finished (left st.behind)) st.behind se.behind (Some st.behind) place key old mid new same marks st.tasks
+      (subst (λ (t : C). IsSettledBy left base sound (is_finished (left t)) t se.behind place key mid new) task_is se.settled)
 
   last_same : left se.behind ≡ left st.behind
   last_same = se.same ∙ ap left task_is
 
   pub step_same : IsSameLoop old new
-  step_same = settled_same left sound (is_finished (left st.behind)) st.behind se.behind place key old new settled_by
+  step_same = settled_same left base sound (is_finished (left st.behind)) st.behind se.behind place key old new settled_by
 
   pub step_elsewhere : IsSameElsewhere left scope place old new
-  step_elsewhere = has_elsewhere left sound scope table m.stands old place key o there running new st.behind (is_finished (left st.behind)) se.behind settled_by
+  step_elsewhere = has_elsewhere left base sound scope table m.stands old place key o there running new st.behind (is_finished (left st.behind)) se.behind settled_by
 
   pub step_does : IsDone (step (setting_by table) (place_left left scope old place) choice m.cells) (place_left left scope old place) m.cells d (place_left left scope new place) after.cells
   step_does =
       subst (λ (l : Left). IsDone (step (setting_by table) l choice m.cells) l m.cells d (place_left left scope new place) after.cells)
-      (sym (had_left left sound scope table m.stands old place key o there running st.task st.was))
+      (sym (had_left left base sound scope table m.stands old place key o there running st.task st.was))
       (subst (λ (l : Left). IsDone (step (setting_by table) (left st.task) choice m.cells) (left st.task) m.cells d l after.cells)
-      (sym (has_left left sound scope table m.stands old place key o there running new st.behind (is_finished (left st.behind)) se.behind refl last_same settled_by))
+      (sym (has_left left base sound scope table m.stands old place key o there running new st.behind (is_finished (left st.behind)) se.behind refl last_same settled_by))
       st.does)
 
-  pub step_open : ((w : C) (table : Table) (stands more : Cell → Bool) → More stands more → sound w table stands → sound w table more) → IfGoing d (More m.stands after.stands) → IfGoing d (IsOpen left sound table after.stands scope new)
+  pub step_open : ((w : C) (table : Table) (stands more : Cell → Bool) → More stands more → sound w table stands → sound w table more) → IfGoing d (More m.stands after.stands) → IfGoing d (IsOpen left base sound table after.stands scope new)
   step_open grows grown =
       if_going d (sound st.behind table after.stands × More m.stands after.stands) _
-      (λ q. has_open left sound scope table m.stands old place key o there running new st.behind after.stands grows q.1 (is_finished (left st.behind)) se.behind refl last_same
+      (λ q. has_open left base sound scope table m.stands old place key o there running new st.behind after.stands grows q.1 (is_finished (left st.behind)) se.behind refl last_same
       (se.safe table after.stands (subst (λ (t : C). sound t table after.stands) (sym task_is) q.0)) settled_by)
       (both_going d _ _ st.safe grown)
 
-module _ {C E : Type 0} (left : C → Left) (sound : C → Table → (Cell → Bool) → Type 0) (scope : Scope) (table : Table) (m after : Memory) (choice : ℕ)
-    (old mid : Open C) (place key : ℕ) (o : IsOpen left sound table m.stands scope old) (there : place < old.plan.count) (running : at old.marks place ≡ Running key)
-    (x : E) (st : HasStepped left sound {E = E} table key choice old.tasks mid.tasks m after (Err x)) (same : IsSameLoop old mid) (marks : mid.marks ≡ old.marks) where
+module _ {C E : Type 0} (left : C → Left) (base : C → Scope) (sound : C → Table → (Cell → Bool) → Type 0) (scope : Scope) (table : Table) (m after : Memory) (choice : ℕ)
+    (old mid : Open C) (place key : ℕ) (o : IsOpen left base sound table m.stands scope old) (there : place < old.plan.count) (running : at old.marks place ≡ Running key)
+    (x : E) (st : HasStepped left base sound {E = E} table key choice old.tasks mid.tasks m after (Err x)) (same : IsSameLoop old mid) (marks : mid.marks ≡ old.marks) where
   -- after want of memory all that is left of the loop can be done
-  pub wanted_open : ((w : C) (table : Table) (stands more : Cell → Bool) → More stands more → sound w table stands → sound w table more) → IsOpen left sound table after.stands scope mid
+  pub wanted_open : ((w : C) (table : Table) (stands more : Cell → Bool) → More stands more → sound w table stands → sound w table more) → IsOpen left base sound table after.stands scope mid
   wanted_open grows =
       let r = o.running place key there running in
       let is : r.task ≡ st.task = some_is r.task st.task (sym r.kept ∙ st.was) in
-      marked_open left sound scope (Some st.behind) (Running key) place key old mid (same_mark st.behind place key old mid same marks st.tasks running) (running_apart left sound scope table m.stands old place key o there running) table m.stands after.stands
+      marked_open left base sound scope (Some st.behind) (Running key) place key old mid (same_mark st.behind place key old mid same marks st.tasks running) (running_apart left base sound scope table m.stands old place key o there running) table m.stands after.stands
       grows st.kept.1.grown.stands o
       (λ k e.
       let w : k ≡ key = cc in (

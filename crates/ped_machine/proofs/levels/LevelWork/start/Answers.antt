@@ -19,6 +19,6 @@ returns-in-Ok-clause-sound g c =
     let fs = c.args.state.now.scope in
     let m = memory_of c.args.state.now.store in
     let new = memory_of c.open_copies.new.store in
-    body_sound g.C.Work.left g.C.Work.sound c.with_body.result c.in_ok-scope.scope f fs c.args.plan.now.number (head_of c.args.d.now) (stmt_trees c.args.d.now.body.items) m new c.in_ok-scope.ensures
+    body_sound g.C.Work.left g.C.Work.base g.C.Work.sound c.with_body.result c.in_ok-scope.scope f fs c.args.plan.now.number (head_of c.args.d.now) (stmt_trees c.args.d.now.body.items) m new c.in_ok-scope.ensures
     c.with_body.ensures.scope c.with_body.ensures.parts c.with_body.ensures.inner
     (turned_copies c.in_ok-scope.scope f fs c.as_slice.result.now m new c.in_ok-scope.ensures (c.as_slice.ensures ∙ c.requires.plan.copied) c.in-Ok.ensures.room c.in-Ok.ensures.stand)

@@ -32,9 +32,9 @@ returns-clause-sound g c =
     let new = c.step-answer.new.self in
     let inner = c.step-answer.new.state.scope in
     let level : Level _ = record { scope = c.swap-2.new.x; rest = new } in
-    open_both c.step-answer.result (IsSound g.C.Work.left g.C.Work.sound inner new table m.stands) (DoCopiesStand inner m.stands) (IsSoundLevel g.C.Work.left g.C.Work.sound level table m.stands)
-    (λ (h : IsSound g.C.Work.left g.C.Work.sound inner new table m.stands) (k : DoCopiesStand inner m.stands). record {
-      rest = subst (λ (z : Scope). IsSound g.C.Work.left g.C.Work.sound z new table m.stands) (sym c.swap-2.ensures.x_after) h;
+    open_both c.step-answer.result (IsSound g.C.Work.left g.C.Work.base g.C.Work.sound inner new table m.stands) (DoCopiesStand inner m.stands) (IsSoundLevel g.C.Work.left g.C.Work.base g.C.Work.sound level table m.stands)
+    (λ (h : IsSound g.C.Work.left g.C.Work.base g.C.Work.sound inner new table m.stands) (k : DoCopiesStand inner m.stands). record {
+      rest = subst (λ (z : Scope). IsSound g.C.Work.left g.C.Work.base g.C.Work.sound z new table m.stands) (sym c.swap-2.ensures.x_after) h;
       copies = subst (λ (z : Scope). DoCopiesStand z m.stands) (sym c.swap-2.ensures.x_after) k;
     })
     c.step-answer.ensures.sound c.step-answer.ensures.copies

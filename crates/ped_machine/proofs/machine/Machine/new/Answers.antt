@@ -26,7 +26,7 @@ returns-clause-safe c =
           parts =
               subst (λ (ps : List Part). CanGo table ps scope) (sym c.in_ok-rest.ensures.parts)
               (can_run_from t table scope (stmt_trees c.args.program.now.body.items) (c.right_where_valid.ensures t c.requires.valid) c.requires.symbols c.in_ok-state.ensures.scope refl, tt);
-          inner = subst (λ (o : Option (Open Outermost)). IfOpened outermost_left IsOutermostSound scope o table m.stands) (sym c.in_ok-rest.ensures.inner) tt;
+          inner = subst (λ (o : Option (Open Outermost)). IfOpened outermost_left level_base IsOutermostSound scope o table m.stands) (sym c.in_ok-rest.ensures.inner) tt;
         };
       };
     }

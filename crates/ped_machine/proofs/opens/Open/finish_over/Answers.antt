@@ -14,7 +14,7 @@ returns-then-is_task_over g c =
       same = l.same;
       safe = l.safe;
       settled =
-          subst (λ (b : Bool). IsSettledBy g.C.Work.left g.C.Work.sound b l.task l.behind c.args.place c.args.key c.args.self.now c.drop_task.new.self) (sym c.if-is_task_over.true ∙ l.tells)
+          subst (λ (b : Bool). IsSettledBy g.C.Work.left g.C.Work.base g.C.Work.sound b l.task l.behind c.args.place c.args.key c.args.self.now c.drop_task.new.self) (sym c.if-is_task_over.true ∙ l.tells)
           (behind_step _ _ c.args.place c.args.key c.args.self.now c.is_task_over.new.self c.drop_task.new.self (Some l.behind) c.is_task_over.ensures.same.0 c.is_task_over.ensures.same.1 l.tasks c.drop_task.ensures);
     }
 
@@ -28,6 +28,6 @@ returns g c =
       same = l.same;
       safe = l.safe;
       settled =
-          subst (λ (b : Bool). IsSettledBy g.C.Work.left g.C.Work.sound b l.task l.behind c.args.place c.args.key c.args.self.now c.is_task_over.new.self) (sym c.if-is_task_over.false ∙ l.tells)
+          subst (λ (b : Bool). IsSettledBy g.C.Work.left g.C.Work.base g.C.Work.sound b l.task l.behind c.args.place c.args.key c.args.self.now c.is_task_over.new.self) (sym c.if-is_task_over.false ∙ l.tells)
           (same_mark l.behind c.args.place c.args.key c.args.self.now c.is_task_over.new.self c.is_task_over.ensures.same.0 c.is_task_over.ensures.same.1 l.tasks c.requires.running);
     }

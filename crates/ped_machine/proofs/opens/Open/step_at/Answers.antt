@@ -18,7 +18,7 @@ step_running-requires g c κs =
       (
         ready_there c.args.symbols.now c.args.state.now.scope c.start.new.state.scope m after e.scope e.room.grown c.requires.ready,
         (
-          subst (λ (z : Scope). IsOpen g.C.Work.left g.C.Work.sound c.args.symbols.now after.stands z c.start.new.self) (sym e.scope) (e.inner c.args.symbols.now c.requires.ready c.requires.inner),
+          subst (λ (z : Scope). IsOpen g.C.Work.left g.C.Work.base g.C.Work.sound c.args.symbols.now after.stands z c.start.new.self) (sym e.scope) (e.inner c.args.symbols.now c.requires.ready c.requires.inner),
           (subst (λ (p : Plan). c.args.place < p.count) (sym e.same.plan) c.requires.place, e.running),
         ),
       ),

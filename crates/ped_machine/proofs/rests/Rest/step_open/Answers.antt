@@ -23,7 +23,7 @@ step_at-requires g c κs =
     let scope = c.args.state.now.scope in
     let o = c.in-Some.inner in
     let stands = (memory_of c.args.state.now.store).stands in
-    let right = subst (λ (x : Option (Open _)). IfOpened g.C.Work.left g.C.Work.sound scope x table stands) c.in-Some.is c.requires.sound.inner in
+    let right = subst (λ (x : Option (Open _)). IfOpened g.C.Work.left g.C.Work.base g.C.Work.sound scope x table stands) c.in-Some.is c.requires.sound.inner in
     let k = picked_is o.plan.count _ 0 c.in-Some-pick.place (place_left g.C.Work.left scope o) (sym c.in-Some-pick.is ∙ c.pick.ensures scope table stands right) in
     ((refl, tt), (c.requires.ready, (right, (k.0, k.1))))
 
@@ -34,7 +34,7 @@ returns-in-Some-pick-clause-does g c =
     let old = c.args.self.now in
     let o = c.in-Some.inner in
     let m = memory_of c.args.state.now.store in
-    let right = subst (λ (x : Option (Open _)). IfOpened g.C.Work.left g.C.Work.sound scope x table m.stands) c.in-Some.is c.requires.sound.inner in
+    let right = subst (λ (x : Option (Open _)). IfOpened g.C.Work.left g.C.Work.base g.C.Work.sound scope x table m.stands) c.in-Some.is c.requires.sound.inner in
     let picked = sym c.in-Some-pick.is ∙ c.pick.ensures scope table m.stands right in
     let k = picked_is o.plan.count _ 0 c.in-Some-pick.place (place_left g.C.Work.left scope o) picked in
     let new : Rest _ = record { parts = old.parts; inner = Some c.step_at.new.self } in
@@ -48,7 +48,7 @@ returns-in-Some-pick-clause-kept g c =
     let old = c.args.self.now in
     let o = c.in-Some.inner in
     let m = memory_of c.args.state.now.store in
-    let right = subst (λ (x : Option (Open _)). IfOpened g.C.Work.left g.C.Work.sound scope x table m.stands) c.in-Some.is c.requires.sound.inner in
+    let right = subst (λ (x : Option (Open _)). IfOpened g.C.Work.left g.C.Work.base g.C.Work.sound scope x table m.stands) c.in-Some.is c.requires.sound.inner in
     let k = picked_is o.plan.count _ 0 c.in-Some-pick.place (place_left g.C.Work.left scope o) (sym c.in-Some-pick.is ∙ c.pick.ensures scope table m.stands right) in
     let new : Rest _ = record { parts = old.parts; inner = Some c.step_at.new.self } in
     picked_kept g.C.Work.left scope old o c.in-Some.is new c.step_at.new.self c.step_at.new.state.scope refl refl c.step_at.ensures.scope c.step_at.result c.in-Some-pick.place k.0 c.step_at.ensures.same c.step_at.ensures.elsewhere
@@ -68,7 +68,7 @@ write_exit-requires-clause-variable g c =
     let scope = c.args.state.now.scope in
     let o = c.in-Some.inner in
     let m = memory_of c.args.state.now.store in
-    let right = subst (λ (x : Option (Open _)). IfOpened g.C.Work.left g.C.Work.sound scope x table m.stands) c.in-Some.is c.requires.sound.inner in
+    let right = subst (λ (x : Option (Open _)). IfOpened g.C.Work.left g.C.Work.base g.C.Work.sound scope x table m.stands) c.in-Some.is c.requires.sound.inner in
     variable_stands table scope m o.plan.number (head_of o.d.now) (stmt_trees o.d.now.body.items) right.can c.requires.ready
 
 pub write_exit-requires-clause-private : goal.write_exit-requires-clause-private
@@ -77,7 +77,7 @@ write_exit-requires-clause-private g c =
     let scope = c.args.state.now.scope in
     let o = c.in-Some.inner in
     let m = memory_of c.args.state.now.store in
-    let right = subst (λ (x : Option (Open _)). IfOpened g.C.Work.left g.C.Work.sound scope x table m.stands) c.in-Some.is c.requires.sound.inner in
+    let right = subst (λ (x : Option (Open _)). IfOpened g.C.Work.left g.C.Work.base g.C.Work.sound scope x table m.stands) c.in-Some.is c.requires.sound.inner in
     private_stand table scope m o.plan.number (head_of o.d.now) (stmt_trees o.d.now.body.items) right.can c.requires.ready
 
 pub write_exit-requires-clause-inner : goal.write_exit-requires-clause-inner
@@ -86,7 +86,7 @@ write_exit-requires-clause-inner g c =
     let scope = c.args.state.now.scope in
     let o = c.in-Some.inner in
     let m = memory_of c.args.state.now.store in
-    let right = subst (λ (x : Option (Open _)). IfOpened g.C.Work.left g.C.Work.sound scope x table m.stands) c.in-Some.is c.requires.sound.inner in
+    let right = subst (λ (x : Option (Open _)). IfOpened g.C.Work.left g.C.Work.base g.C.Work.sound scope x table m.stands) c.in-Some.is c.requires.sound.inner in
     inner_stand table scope m o.plan.number (head_of o.d.now) (stmt_trees o.d.now.body.items) right.can c.requires.ready o.plan right.plan
 
 pub returns-clause-does : goal.returns-clause-does
@@ -96,7 +96,7 @@ returns-clause-does g c =
     let old = c.args.self.now in
     let o = c.in-Some.inner in
     let m = memory_of c.args.state.now.store in
-    let right = subst (λ (x : Option (Open _)). IfOpened g.C.Work.left g.C.Work.sound scope x table m.stands) c.in-Some.is c.requires.sound.inner in
+    let right = subst (λ (x : Option (Open _)). IfOpened g.C.Work.left g.C.Work.base g.C.Work.sound scope x table m.stands) c.in-Some.is c.requires.sound.inner in
     let new : Rest _ = record { parts = old.parts; inner = None } in
     closed_done g.C.Work.left scope old o c.in-Some.is (setting_by table) c.args.choice m (memory_of c.write_exit.new.state.store) new c.write_exit.new.state.scope
     (sym c.in-None-pick.is ∙ c.pick.ensures scope table m.stands right) refl refl c.write_exit.ensures.scope c.write_exit.ensures.memory

@@ -227,7 +227,7 @@ impl<'a, C: Work<'a>> Open<'a, C> {
 /// Drops the copies of these names of an iteration that is over, as far as they hold nothing.
 fn leave_task<'a, C: Work<'a>>(state: &mut State, task: Option<C>, names: &[Name])
     ensures cells { (memory_of state.new.store).cells ≡ (memory_of state.old.store).cells }
-    ensures kept { (w : C) → task.entry ≡ Some w → list_all (is_own (C.base w)) names.now ≡ true → HasKept (C.base w) (memory_of state.old.store) (memory_of state.new.store) }
+    ensures kept { (w : C) → task ≡ Some w → list_all (is_own (C.base w)) names.now ≡ true → HasKept (C.base w) (memory_of state.old.store) (memory_of state.new.store) }
     ensures scope { state.new.scope ≡ state.old.scope }
 {
     match task {

@@ -1,5 +1,5 @@
 -- Steps of the loop that is open.
-use Rattle.std.proofs.Common.{Option, Some, None, refl, sym, subst, ◌∙◌}
+use Rattle.std.proofs.Common.{◌+◌, [], ◌∷◌, Option, Some, None, refl, sym, subst, ◌∙◌}
 use Rattle.ped_tree.specs.Views.{head_of, stmt_trees}
 use Rattle.ped_store.specs.Keeping.{memory_of}
 use Rattle.ped_interleavings.specs.ped_eval.specs.Agreement.{DoCopiesStand}
@@ -7,8 +7,12 @@ use Rattle.ped_interleavings.specs.ped_eval.specs.Plans.{entered_by}
 use Rattle.ped_interleavings.specs.ped_eval.specs.Readiness.{setting_by}
 use Rattle.ped_machine.specs.declared.opens.Open.{Open}
 use Rattle.ped_machine.specs.declared.rests.Rest.{Rest}
-use Rattle.ped_machine.specs.Doing.{HasGrown}
-use Rattle.ped_machine.specs.Opens.{place_left}
+use Rattle.ped_machine.specs.Bases.{HasKept}
+use Rattle.ped_machine.specs.Opens.{open_entered, place_left, place_scope}
+use Rattle.ped_interleavings.specs.ped_eval.specs.Scopes.{Scope}
+use Rattle.ped_interleavings.specs.ped_eval.specs.Loops.{frame}
+use Rattle.ped_machine.proofs.Dropping.{copies_round_stand, grown_kept, kept_outside}
+use Rattle.ped_machine.proofs.Stepped.{safe_both}
 use Rattle.ped_machine.specs.Rests.{IfOpened}
 use Rattle.ped_machine.proofs.Growing.{same_copies, left_grows}
 use Rattle.ped_machine.proofs.Leaving.{variable_stands, private_stand, inner_stand}
@@ -58,9 +62,20 @@ pub returns-in-Some-pick-clause-copies : goal.returns-in-Some-pick-clause-copies
 returns-in-Some-pick-clause-copies g c =
     let scope = c.args.state.now.scope in
     let inner = c.step_at.new.state.scope in
+    let o = c.in-Some.inner in
     let m = memory_of c.args.state.now.store in
     let new = memory_of c.step_at.new.state.store in
-    safe_open c.step_at.result (HasGrown m new) (DoCopiesStand inner new.stands) (λ (h : HasGrown m new). same_copies scope inner m new c.step_at.ensures.scope h c.requires.ready.copies) c.step_at.ensures.grown
+    let at = place_scope scope o c.in-Some-pick.place in
+    safe_open c.step_at.result (HasKept at m new) (DoCopiesStand inner new.stands)
+    (λ (h : HasKept at m new). subst (λ (z : Scope). DoCopiesStand z new.stands) (sym c.step_at.ensures.scope) (copies_round_stand (frame (open_entered o) (c.in-Some-pick.place + 1)) scope m new h c.requires.ready.copies)) c.step_at.ensures.grown
+
+pub returns-in-Some-pick-clause-grown : goal.returns-in-Some-pick-clause-grown
+returns-in-Some-pick-clause-grown g c =
+    let scope = c.args.state.now.scope in
+    let m = memory_of c.args.state.now.store in
+    let new = memory_of c.step_at.new.state.store in
+    let at = place_scope scope c.in-Some.inner c.in-Some-pick.place in
+    safe_both c.step_at.result (HasKept at m new) (HasKept at m new) (HasKept scope m new) (λ k q. kept_outside scope at m new (frame (open_entered c.in-Some.inner) (c.in-Some-pick.place + 1) ∷ [], refl) k) c.step_at.ensures.grown c.step_at.ensures.grown
 
 pub write_exit-requires-clause-variable : goal.write_exit-requires-clause-variable
 write_exit-requires-clause-variable g c =
@@ -112,4 +127,7 @@ returns-clause-copies g c =
 pub returns-clause-grown : goal.returns-clause-grown
 returns-clause-grown g c =
     let o = c.in-Some.inner in
-    left_grows (entered_by (head_of o.d.now) o.plan 0) c.args.state.now.scope (memory_of c.args.state.now.store) (memory_of c.write_exit.new.state.store) c.write_exit.ensures.memory
+    let scope = c.args.state.now.scope in
+    let m = memory_of c.args.state.now.store in
+    let new = memory_of c.write_exit.new.state.store in
+    grown_kept scope m new (left_grows (entered_by (head_of o.d.now) o.plan 0) scope m new c.write_exit.ensures.memory)

@@ -5,6 +5,7 @@ use Rattle.std.proofs.lemmas.Bool.{and_parts}
 use Rattle.std.specs.List.{list_all}
 use Rattle.std.specs.Cmp.Lexicographic.{pointwise}
 use Rattle.ped_base.specs.Lists.{is_same_text, is_among}
+use Rattle.ped_symbols.specs.Kinds.{Table}
 use Rattle.ped_store.specs.Cells.{Cell, Scalar, Element, Private, In, Out, Iteration, same_iteration, same_cell}
 use Rattle.ped_store.specs.Stores.{Undefined}
 use Rattle.ped_store.specs.Memories.{Memory, without_copy, got}
@@ -12,6 +13,7 @@ use Rattle.ped_store.specs.Keeping.{Kept, memory_of}
 use Rattle.ped_store.specs.IterationLaws.{iterations_decide}
 use Rattle.ped_interleavings.specs.ped_eval.specs.Scopes.{Frame, Scope, cell_of}
 use Rattle.ped_interleavings.specs.ped_eval.specs.Agreement.{path_of, is_copy, DoCopiesStand}
+use Rattle.ped_interleavings.specs.ped_eval.specs.Readiness.{IsReady}
 use Rattle.ped_interleavings.specs.ped_eval.proofs.Copies.{path_length}
 use Rattle.ped_machine.specs.Bases.{IsLonger, IsInside, IsNear, is_own, IsWithin, HasKept, HasLost}
 use Rattle.ped_machine.specs.Doing.{HasGrown, HasRoom}
@@ -142,3 +144,12 @@ apart_inside f g fs (Scalar x) h k = absurd h
 apart_inside f g fs (Element x js) h k = absurd h
 apart_inside f g fs In h k = absurd h
 apart_inside f g fs Out h k = absurd h
+
+-- what is ready is so in other iterations whose copies stand, where no more than copies have been dropped
+pub ready_kept : (table : Table) (base scope : Scope) (old new : Memory) → HasKept base old new → IsReady table base old → DoCopiesStand scope new.stands → IsReady table scope new
+ready_kept table base scope old new h r k = record {
+  bounds = h.bounds ∙ r.bounds;
+  scalars = λ x a. h.stands (Scalar x) (λ q. q) (r.scalars x a);
+  elements = λ x js a b. h.stands (Element x js) (λ q. q) (r.elements x js a b);
+  copies = k;
+}

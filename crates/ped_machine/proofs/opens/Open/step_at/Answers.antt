@@ -4,6 +4,7 @@ use Rattle.ped_store.specs.Keeping.{memory_of}
 use Rattle.ped_interleavings.specs.ped_eval.specs.Scopes.{Scope}
 use Rattle.ped_interleavings.specs.ped_eval.specs.Readiness.{setting_by}
 use Rattle.ped_interleavings.specs.ped_eval.specs.declared.plans.Plan.{Plan}
+use Rattle.ped_machine.specs.Doing.{IfOpen}
 use Rattle.ped_machine.specs.Opens.{IsOpen}
 use Rattle.ped_machine.proofs.Growing.{ready_there}
 use Rattle.ped_machine.proofs.Dropping.{nothing_kept, grown_kept}
@@ -48,3 +49,8 @@ returns-in-Running-clause-grown g c = c.step_running-in-Running.ensures.grown
 
 pub returns-in-Done-clause-grown : goal.returns-in-Done-clause-grown
 returns-in-Done-clause-grown g c = nothing_kept _ (memory_of c.args.state.now.store)
+
+pub returns-in-Ok-clause-inner : goal.returns-in-Ok-clause-inner
+returns-in-Ok-clause-inner g c =
+    subst (λ (z : Scope). IfOpen c.step_running.result (IsOpen g.C.Work.left g.C.Work.base g.C.Work.sound c.args.symbols.now (memory_of c.step_running.new.state.store).stands z c.step_running.new.self))
+    c.in-Ok.ensures.scope c.step_running.ensures.inner

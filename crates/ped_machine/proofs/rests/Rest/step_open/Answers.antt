@@ -8,17 +8,18 @@ use Rattle.ped_interleavings.specs.ped_eval.specs.Readiness.{setting_by}
 use Rattle.ped_machine.specs.declared.opens.Open.{Open}
 use Rattle.ped_machine.specs.declared.rests.Rest.{Rest}
 use Rattle.ped_machine.specs.Bases.{HasKept}
-use Rattle.ped_machine.specs.Opens.{open_entered, place_left, place_scope}
+use Rattle.ped_machine.specs.Doing.{IfOpen}
+use Rattle.ped_machine.specs.Opens.{open_entered, place_left, place_scope, IsOpen}
 use Rattle.ped_interleavings.specs.ped_eval.specs.Scopes.{Scope}
 use Rattle.ped_interleavings.specs.ped_eval.specs.Loops.{frame}
 use Rattle.ped_machine.proofs.Dropping.{copies_round_stand, grown_kept, kept_outside}
 use Rattle.ped_machine.proofs.Stepped.{safe_both}
-use Rattle.ped_machine.specs.Rests.{IfOpened}
+use Rattle.ped_machine.specs.Rests.{IfOpened, IsSound}
 use Rattle.ped_machine.proofs.Growing.{same_copies, left_grows}
 use Rattle.ped_machine.proofs.Leaving.{variable_stands, private_stand, inner_stand}
 use Rattle.ped_machine.proofs.OpenLefts.{picked_is}
 use Rattle.ped_machine.proofs.OpenRests.{picked_done, picked_kept, closed_done}
-use Rattle.ped_machine.proofs.OpenSteps.{safe_open}
+use Rattle.ped_machine.proofs.OpenSteps.{safe_open, open_both}
 use Rattle.ped_machine.proofs.rests.Rest.step_open.Goals as goal
 
 pub step_at-requires : goal.step_at-requires
@@ -131,3 +132,14 @@ returns-clause-grown g c =
     let m = memory_of c.args.state.now.store in
     let new = memory_of c.write_exit.new.state.store in
     grown_kept scope m new (left_grows (entered_by (head_of o.d.now) o.plan 0) scope m new c.write_exit.ensures.memory)
+
+pub returns-in-Some-pick-clause-sound : goal.returns-in-Some-pick-clause-sound
+returns-in-Some-pick-clause-sound g c =
+    let table = c.args.symbols.now in
+    let scope = c.args.state.now.scope in
+    let stands = (memory_of c.step_at.new.state.store).stands in
+    let new : Rest _ = record { parts = c.args.self.now.parts; inner = Some c.step_at.new.self } in
+    let P = IsOpen g.C.Work.left g.C.Work.base g.C.Work.sound table stands scope c.step_at.new.self in
+    let i : IfOpen c.step_at.result P = c.step_at.ensures.inner in
+    open_both c.step_at.result P P (IsSound g.C.Work.left g.C.Work.base g.C.Work.sound c.step_at.new.state.scope new table stands)
+    (λ (h : P) (k : P). subst (λ (z : Scope). IsSound g.C.Work.left g.C.Work.base g.C.Work.sound z new table stands) (sym c.step_at.ensures.scope) (record { parts = c.requires.sound.parts; inner = h })) i i

@@ -1,13 +1,11 @@
 -- What it needs that copies are dropped: which cells are copies of some iterations, and which of others.
-use Rattle.std.proofs.Common.{◌≡◌, ◌⊎◌, inl, inr, ℕ, ◌+◌, ◌<◌, List, [], ◌∷◌, ◌++◌, length, Bool, true, false, if◌then◌else◌, Result, Ok, Err, refl, sym, ap, subst, ◌∙◌, arith, append_assoc, length-append}
+use Rattle.std.proofs.Common.{◌≡◌, inl, inr, ℕ, ◌+◌, ◌<◌, List, [], ◌∷◌, ◌++◌, length, Bool, true, false, if◌then◌else◌, Err, refl, sym, ap, subst, ◌∙◌, arith, append_assoc, length-append}
 use mathlib.Core.Path.{fun_ext}
 use Rattle.std.proofs.lemmas.Bool.{and_parts}
-use Rattle.std.specs.List.{list_all}
 use Rattle.std.specs.Cmp.Lexicographic.{pointwise}
 use Rattle.ped_base.specs.Lists.{is_same_text, is_among}
 use Rattle.ped_symbols.specs.Kinds.{Table}
 use Rattle.ped_store.specs.Cells.{Cell, Scalar, Element, Private, In, Out, Iteration, same_iteration, same_cell}
-use Rattle.ped_store.specs.Stores.{Undefined}
 use Rattle.ped_store.specs.Memories.{Memory, without_copy, got}
 use Rattle.ped_store.specs.Keeping.{Kept, memory_of}
 use Rattle.ped_store.specs.IterationLaws.{iterations_decide}
@@ -16,7 +14,7 @@ use Rattle.ped_interleavings.specs.ped_eval.specs.Agreement.{path_of, is_copy, D
 use Rattle.ped_interleavings.specs.ped_eval.specs.Readiness.{IsReady}
 use Rattle.ped_interleavings.specs.ped_eval.proofs.Copies.{path_length}
 use Rattle.ped_machine.specs.Bases.{IsLonger, IsInside, IsNear, is_own, IsWithin, HasKept, HasLost}
-use Rattle.ped_machine.specs.Doing.{HasGrown, HasRoom}
+use Rattle.ped_machine.specs.Doing.{HasGrown}
 use Rattle.ped_machine.specs.Growth.{path_append, longer_within, longer_twice}
 use Rattle.ped_machine.proofs.Copying.{put_same, unread_undefined}
 

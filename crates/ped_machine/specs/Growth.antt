@@ -1,6 +1,6 @@
 -- What can be done where some cells stand can be done where those of them stand that it needs (plain words).
 use Rattle.std.specs.Prelude.{◌≡◌, ◌⊎◌, List, [], ◌∷◌, ◌++◌, Bool, true, Option, Some, None, map}
-use Rattle.std.proofs.Common.{inl, inr, refl, sym, ap, subst, ◌∙◌, append-nil, append_assoc}
+use Rattle.std.proofs.Common.{inl, inr, refl, sym, ap, ◌∙◌, append-nil, append_assoc}
 use Rattle.std.proofs.lemmas.List.{map-append}
 use Rattle.ped_symbols.specs.Kinds.{Table}
 use Rattle.ped_store.specs.Cells.{Cell, Scalar, Element, Private, In, Out, Iteration}
@@ -11,7 +11,7 @@ use Rattle.ped_interleavings.specs.ped_eval.specs.Agreement.{path_of, DoCopiesSt
 use Rattle.ped_interleavings.specs.Lefts.{Left}
 use Rattle.ped_machine.specs.Parts.{Turn, Part, parts_of, behind_turn, base_of}
 use Rattle.ped_machine.specs.Bases.{IsLonger, IsNear, IsWithin}
-use Rattle.ped_machine.specs.Opens.{place_scope, IsOpen}
+use Rattle.ped_machine.specs.Opens.{IsOpen}
 use Rattle.ped_machine.specs.Rests.{IfOpened, IsSound}
 use Rattle.ped_machine.specs.Levels.{level_base, never_base, IsSoundLevel, IsNever}
 use Rattle.ped_machine.specs.declared.opens.Open.{Open}
@@ -23,11 +23,12 @@ use Rattle.ped_machine.specs.declared.works.Never.{Never}
 abbrev pub MoreNear : Scope → (Cell → Bool) → (Cell → Bool) → Type 0
 MoreNear base stands more = (c : Cell) → IsNear base c → stands c ≡ true → more c ≡ true
 
--- the path of iterations inside of others
+-- the iterations of some inside of others
 turns_append : (fs gs : Scope) → turns_of (fs ++ gs) ≡ turns_of gs ++ turns_of fs
 turns_append [] gs = sym (append-nil (turns_of gs))
 turns_append (f ∷ fs) gs = ap (λ ts. ts ++ f.turn ∷ []) (turns_append fs gs) ∙ append_assoc (turns_of gs) (turns_of fs) (f.turn ∷ [])
 
+-- the path of iterations inside of others
 pub path_append : (fs gs : Scope) → path_of (fs ++ gs) ≡ path_of gs ++ path_of fs
 path_append fs gs =
     ap (map (λ (t : acts.Turn). record { statement = t.statement; number = t.number })) (turns_append fs gs)
@@ -37,6 +38,7 @@ path_append fs gs =
 pub longer_within : (base scope : Scope) → IsWithin base scope → IsLonger (path_of base) (path_of scope)
 longer_within base scope w = (path_of w.0, ap path_of w.1 ∙ path_append w.0 base)
 
+-- a path that is longer than a longer one is longer
 pub longer_twice : (a b c : List Iteration) → IsLonger a b → IsLonger b c → IsLonger a c
 longer_twice a b c g h = (g.0 ++ h.0, h.1 ∙ ap (λ (p : List Iteration). p ++ h.0) g.1 ∙ append_assoc a g.0 h.0)
 
@@ -53,6 +55,7 @@ both_before (i ∷ a) (k ∷ b) x y e =
     by (inl g) h = inl (g.0, λ z. sym h z ∷ g.1 z)
     by (inr g) h = inr (g.0, λ z. h z ∷ g.1 z)
 
+-- what comes near a longer path comes near a shorter one
 near_by : (a b p : List Iteration) → IsLonger a b → IsLonger b p ⊎ IsLonger p b → IsLonger a p ⊎ IsLonger p a
 near_by a b p g (inl h) = inl (longer_twice a b p g h)
 near_by a b p g (inr h) = both_before a p g.0 h.0 (sym g.1 ∙ h.1)
@@ -65,12 +68,15 @@ near_within base scope (Element x js) w h = tt
 near_within base scope In w h = tt
 near_within base scope Out w h = tt
 
+-- so what stands still there stands still here
 pub more_within : (base scope : Scope) (stands more : Cell → Bool) → IsWithin base scope → MoreNear base stands more → MoreNear scope stands more
 more_within base scope stands more w g c h = g c (near_within base scope c w h)
 
+-- an iteration has a longer path than those round it
 own_longer : (f : Frame) (fs : Scope) → IsLonger (path_of fs) (path_of (f ∷ fs))
 own_longer f fs = longer_within fs (f ∷ fs) (f ∷ [], refl)
 
+-- the copies of iterations round these stand still
 copies_round : (whole scope : Scope) (stands more : Cell → Bool) → IsLonger (path_of scope) (path_of whole) → MoreNear whole stands more → DoCopiesStand scope stands → DoCopiesStand scope more
 copies_round whole [] stands more l g h = tt
 copies_round whole (f ∷ fs) stands more l g h = (

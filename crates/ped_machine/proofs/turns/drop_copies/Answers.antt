@@ -1,4 +1,4 @@
-use Rattle.std.proofs.Common.{List, ℕ, sym, subst, ◌∙◌}
+use Rattle.std.proofs.Common.{List, ℕ, subst, ◌∙◌}
 use Rattle.ped_store.specs.Cells.{Cell}
 use Rattle.ped_store.specs.Keeping.{memory_of}
 use Rattle.ped_machine.specs.Bases.{is_own, HasLost}

@@ -1,4 +1,4 @@
-use Rattle.std.proofs.Common.{sym, ap, ◌∙◌}
+use Rattle.std.proofs.Common.{sym, ◌∙◌}
 use Rattle.ped_store.specs.CellViews.{cell_view}
 use Rattle.ped_machine.proofs.Dropping.{lost_copy}
 use Rattle.ped_machine.proofs.turns.drop_copy.Goals as goal

@@ -8,6 +8,7 @@ use Rattle.ped_interleavings.specs.ped_eval.proofs.RunOutcomes.{can_run_from, re
 use Rattle.ped_machine.specs.declared.opens.Open.{Open}
 use Rattle.ped_machine.specs.Parts.{Part, parts_left, CanGo}
 use Rattle.ped_machine.specs.Rests.{rest_left, IfOpened}
+use Rattle.ped_machine.specs.Levels.{level_base}
 use Rattle.ped_machine.specs.Roots.{Outermost, outermost_left, IsOutermostSound}
 use Rattle.ped_machine.proofs.Resting.{none_inner}
 use Rattle.ped_machine.proofs.machine.Machine.new.Goals as goal

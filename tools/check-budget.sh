@@ -16,7 +16,7 @@ most_test_lines=250
 most_crates_with_tests=2
 most_ways=5000
 most_lemma_files=256
-most_lemma_imports=1581
+most_lemma_imports=1583
 most_needless_doors=125
 
 edits() {

@@ -9,6 +9,7 @@ pub mod Excluding
 pub mod Files
 mod LoopCauses
 mod InterchangeCauses
+mod ReindexCauses
 mod FirstCauses
 mod LoopPaths
 mod Meeting

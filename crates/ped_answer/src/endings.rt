@@ -6,7 +6,7 @@ ghost use Rattle.ped_session.specs.ped_order.specs.ped_eval.specs.OutcomeViews.{
 ghost use Rattle.ped_answer.specs.Generated.{EndAlike};
 
 use ped_session::ped_base::Bytes;
-use ped_session::ped_order::ped_eval::{LiveRow, Outcome};
+use ped_session::{LiveRow, Outcome};
 
 /// Whether both runs ended, with the same output and the same values of the live-out variables.
 pub fn end_alike(first: &Outcome, second: &Outcome) -> bool

@@ -16,11 +16,9 @@ use crate::endings::end_alike;
 use crate::tallies::{Tally, apply_items};
 use itoa::Buffer;
 use ped_session::ped_base::{Bytes, NoMemory, push_number};
-use ped_session::ped_order::ped_eval::Outcome;
-use ped_session::ped_order::without_choices;
 use ped_session::ped_script::commands;
 use ped_session::ped_verdict::Steps;
-use ped_session::{Session, sources_are_printed};
+use ped_session::{Outcome, Session, sources_are_printed, without_choices};
 use std::alloc::Global;
 use std::sync::ledger::Ledger;
 

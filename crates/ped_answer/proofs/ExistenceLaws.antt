@@ -1,4 +1,5 @@
 -- Lemmas of the room that this folder is named after.
+mod Alike
 mod ChainCauses
 pub mod Choosing
 mod Deciding
@@ -15,6 +16,7 @@ mod Meeting
 mod Reaching
 mod Refusing
 pub mod Replying
+mod Reporting
 mod ScalarCauses
 mod Solutions
 mod Spanning

@@ -1,4 +1,5 @@
 -- Lemmas of the room that this folder is named after.
+mod Alike
 mod ChainCauses
 pub mod Choosing
 mod Deciding
@@ -8,12 +9,14 @@ pub mod Excluding
 pub mod Files
 mod LoopCauses
 mod InterchangeCauses
+mod ReindexCauses
 mod FirstCauses
 mod LoopPaths
 mod Meeting
 mod Reaching
 mod Refusing
 pub mod Replying
+mod Reporting
 mod ScalarCauses
 mod Solutions
 mod Spanning

@@ -1,5 +1,5 @@
 -- The statements that a step keeps stand one to one.
-use Rattle.std.proofs.Common.{◌≡◌, ℕ, suc, ◌+◌, ◌<◌, ◌≤◌, List, [], ◌∷◌, length, map, get_or, AllPairs, Bool, true, false, not, refl, ap, arith}
+use Rattle.std.proofs.Common.{◌≡◌, ℕ, ◌+◌, ◌<◌, length, map, get_or, Bool, true, false, not, refl, ap, arith}
 use Rattle.std.specs.Prelude.{nat_lt, ◌≢◌, if◌then◌else◌}
 use Rattle.std.specs.List.{range_with_len}
 use Rattle.std.proofs.lemmas.Bool.{lt-ltb, ltb-true}

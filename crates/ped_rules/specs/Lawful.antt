@@ -1,5 +1,5 @@
 -- What is true of every step of the editor (ParaScope; this project).
-use Rattle.std.specs.Prelude.{◌≡◌, ℕ, List, Option, Some, None, ⊤}
+use Rattle.std.specs.Prelude.{◌≡◌, ℕ, List, Option, None, ⊤}
 use Rattle.ped_tree.specs.Tree.{ProgramTree}
 use Rattle.ped_loop_runs.specs.ped_tidy.specs.ped_pasting.specs.ped_bodies.specs.ped_steps.specs.ped_symbols.specs.NameRefusals.{IsValid}
 use Rattle.ped_loop_runs.specs.ped_tidy.specs.ped_pasting.specs.ped_bodies.specs.ped_steps.specs.ped_laws.specs.ped_graph.specs.Update.Fresh.{IsOneToOne}

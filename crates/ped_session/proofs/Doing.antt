@@ -11,8 +11,8 @@ use Rattle.ped_session.specs.declared.replies.Reply.{Reply}
 use Rattle.ped_session.specs.declared.replies.Reply.TheVariants.{Changed, Shown, Refused}
 use Rattle.ped_session.specs.States.{State}
 use Rattle.ped_session.specs.Splices.{are_lines, is_place}
-use Rattle.ped_transformations.specs.ped_loops.specs.ped_scalar.specs.ped_rules.specs.Steps.{StepAt, MaybeStep, no_step, some_step, MatchStep}
-use Rattle.ped_transformations.specs.ped_loops.specs.ped_scalar.specs.ped_rules.specs.Lawful.{IsLawful}
+use Rattle.ped_transformations.specs.ped_reindex.specs.ped_loops.specs.ped_scalar.specs.ped_rules.specs.Steps.{StepAt, MaybeStep, no_step, some_step, MatchStep}
+use Rattle.ped_transformations.specs.ped_reindex.specs.ped_loops.specs.ped_scalar.specs.ped_rules.specs.Lawful.{IsLawful}
 use Rattle.ped_transformations.specs.Table.{step_of}
 use Rattle.ped_transformations.proofs.LawfulTable.{AllLawful}
 use Rattle.ped_session.specs.Steps.{Refuses, Prints, Shows, ShowsOf, Edits, Transforms, GoesBack, GoesForward, IsOther, IsStep}

@@ -4,7 +4,7 @@ use Rattle.ped_session.specs.ped_transformations.specs.ped_script.specs.declared
 use Rattle.ped_session.specs.declared.replies.Refusal.{Refusal}
 use Rattle.ped_session.specs.declared.replies.Reply.TheVariants.{Refused}
 use Rattle.ped_session.specs.States.{Other, State}
-use Rattle.ped_transformations.specs.ped_loops.specs.ped_scalar.specs.ped_rules.specs.Steps.{StepAt}
+use Rattle.ped_transformations.specs.ped_reindex.specs.ped_loops.specs.ped_scalar.specs.ped_rules.specs.Steps.{StepAt}
 use Rattle.ped_session.specs.Steps.{Edits, accepted, refused, Transforms, missing, forbidden, transformed, GoesBack, GoesForward, IsStep}
 use Rattle.ped_session.proofs.Doing.{Does, by_nothing, by_edit, by_step, by_undo, by_redo, no_refusal, does}
 

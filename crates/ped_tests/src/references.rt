@@ -1,6 +1,6 @@
 //! The references of a program without statements.
 
-use ped_refs::{refs, within_limit};
+use ped_graph::ped_refs::{refs, within_limit};
 use ped_tree::Program;
 use std::test::Fail;
 

@@ -1,4 +1,4 @@
 pub use Rattle.ped_script
-pub use Rattle.ped_loops
+pub use Rattle.ped_reindex
 pub mod Table
 pub mod CodeKinds

@@ -6,5 +6,5 @@ mod laws;
 mod table;
 
 pub use laws::every_step_is_lawful;
-pub use ped_loops;
+pub use ped_reindex;
 pub use table::{Kind, Place, answer, place_of};

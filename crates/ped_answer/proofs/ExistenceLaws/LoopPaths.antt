@@ -13,14 +13,14 @@ use Rattle.ped_answer.specs.ped_session.specs.ped_tree.specs.NamesIn.{saved_in}
 use Rattle.ped_answer.specs.ped_session.specs.ped_order.specs.ped_flow.specs.Summaries.{AreSummed, sum_in_turn, sum_events, sum_of_all, sum_behind_all}
 use Rattle.ped_answer.specs.ped_session.specs.ped_order.specs.ped_flow.proofs.TreeSums.{all_summed, all_behind-summed}
 use Rattle.ped_answer.specs.ped_session.specs.ped_order.specs.ped_flow.proofs.Answering.{exposed_in_loop, exposed_nowhere, first_in_iteration, assigned_by, through_loop, read_behind, Left, left_is}
-use Rattle.ped_answer.specs.ped_session.specs.ped_transformations.specs.ped_loops.specs.ped_scalar.specs.Scalars.{is_scalar, IsLiveBy}
-use Rattle.ped_answer.specs.ped_session.specs.ped_transformations.specs.ped_loops.specs.ped_scalar.specs.Privatising.{IsScalarExposedOrLiveBy}
-use Rattle.ped_answer.specs.ped_session.specs.ped_transformations.specs.ped_loops.specs.ped_scalar.specs.Expanding.{IsScalarLostBy, SaysLive}
-use Rattle.ped_answer.specs.ped_session.specs.ped_transformations.specs.ped_loops.specs.ped_scalar.proofs.FlowAnswers.{true_not_false, live_answer}
-use Rattle.ped_answer.specs.ped_session.specs.ped_transformations.specs.ped_loops.specs.ped_scalar.specs.ped_rules.specs.ped_loop_runs.specs.ped_tidy.proofs.TidyPathsSums.{Summary}
-use Rattle.ped_answer.specs.ped_session.specs.ped_transformations.specs.ped_loops.specs.ped_scalar.proofs.LostAnswers.{kept_answer, lost_answer}
-use Rattle.ped_answer.specs.ped_session.specs.ped_transformations.specs.ped_loops.specs.ped_scalar.proofs.LiveSaid.{behind_first, shown_decided}
-use Rattle.ped_answer.specs.ped_session.specs.ped_transformations.specs.ped_loops.specs.ped_scalar.specs.ped_rules.proofs.Decided.{loop_decided}
+use Rattle.ped_answer.specs.ped_session.specs.ped_transformations.specs.ped_reindex.specs.ped_loops.specs.ped_scalar.specs.Scalars.{is_scalar, IsLiveBy}
+use Rattle.ped_answer.specs.ped_session.specs.ped_transformations.specs.ped_reindex.specs.ped_loops.specs.ped_scalar.specs.Privatising.{IsScalarExposedOrLiveBy}
+use Rattle.ped_answer.specs.ped_session.specs.ped_transformations.specs.ped_reindex.specs.ped_loops.specs.ped_scalar.specs.Expanding.{IsScalarLostBy, SaysLive}
+use Rattle.ped_answer.specs.ped_session.specs.ped_transformations.specs.ped_reindex.specs.ped_loops.specs.ped_scalar.proofs.FlowAnswers.{true_not_false, live_answer}
+use Rattle.ped_answer.specs.ped_session.specs.ped_transformations.specs.ped_reindex.specs.ped_loops.specs.ped_scalar.specs.ped_rules.specs.ped_loop_runs.specs.ped_tidy.proofs.TidyPathsSums.{Summary}
+use Rattle.ped_answer.specs.ped_session.specs.ped_transformations.specs.ped_reindex.specs.ped_loops.specs.ped_scalar.proofs.LostAnswers.{kept_answer, lost_answer}
+use Rattle.ped_answer.specs.ped_session.specs.ped_transformations.specs.ped_reindex.specs.ped_loops.specs.ped_scalar.proofs.LiveSaid.{behind_first, shown_decided}
+use Rattle.ped_answer.specs.ped_session.specs.ped_transformations.specs.ped_reindex.specs.ped_loops.specs.ped_scalar.specs.ped_rules.proofs.Decided.{loop_decided}
 use Rattle.ped_answer.specs.Existence.Deciding.{Decided}
 use Rattle.ped_answer.proofs.ExistenceLaws.Deciding.{decided_same, decided_both, true_decided}
 

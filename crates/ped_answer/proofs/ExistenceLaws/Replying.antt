@@ -28,7 +28,7 @@ use Rattle.ped_answer.specs.ped_session.specs.Splices.{spliced, are_lines, is_pl
 use Rattle.ped_answer.specs.ped_session.specs.Panes.{IsSourcePane, ArePanes, tested_row}
 use Rattle.ped_answer.specs.ped_session.specs.Blocks.{block, IsRunBlock}
 use Rattle.ped_answer.specs.ped_session.specs.RaceRows.{race_row, IsRaceRow}
-use Rattle.ped_answer.specs.ped_session.specs.ped_transformations.specs.ped_loops.specs.ped_scalar.specs.ped_rules.specs.Steps.{StepAt, MaybeStep, no_step, some_step, MatchStep}
+use Rattle.ped_answer.specs.ped_session.specs.ped_transformations.specs.ped_reindex.specs.ped_loops.specs.ped_scalar.specs.ped_rules.specs.Steps.{StepAt, MaybeStep, no_step, some_step, MatchStep}
 use Rattle.ped_answer.specs.ped_session.specs.ped_transformations.specs.Table as table
 use Rattle.ped_answer.specs.ped_session.specs.Steps.{Refuses, Shows, ShowsOf, ShowsStatement, Edits, accepted, refused, change_by, Transforms, missing, forbidden, transformed, GoesBack, GoesForward, IsOther, IsStep}
 use Rattle.ped_answer.specs.ped_session.specs.Histories.{IsPrinted, ArePrinted}
@@ -48,7 +48,7 @@ abbrev IsPrintedOther : Other → Type 0
 IsPrintedOther o = IsPrinted o.0
 
 -- a printed text reads as its program
-reads_printed : (text : List ℕ) → IsPrinted text → (t : ProgramTree) × ReadsValid text t
+pub reads_printed : (text : List ℕ) → IsPrinted text → (t : ProgramTree) × ReadsValid text t
 reads_printed text (t, valid, e) = (t, subst (λ (bytes : List ℕ). ReadsValid bytes t) (sym e) ((valid_prints t valid t).1 refl))
 
 pub panes : (t : ProgramTree) → (bytes : List ℕ) × ArePanes t bytes

@@ -1,6 +1,6 @@
 use Rattle.std.proofs.Common.{arith}
 use Rattle.ped_tree.specs.Views.{program_tree}
-use Rattle.ped_symbols.proofs.RightUseLaws.Whole.{right_program}
+use Rattle.ped_valid.specs.ped_symbols.proofs.RightUseLaws.Whole.{right_program}
 use Rattle.ped_show_flow.proofs.flows.is_small.Goals as goal
 
 pub returns : goal.returns

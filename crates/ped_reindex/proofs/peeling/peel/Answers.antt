@@ -1,0 +1,12 @@
+use Rattle.ped_tree.specs.Views.{program_tree}
+use Rattle.ped_loops.specs.ped_scalar.specs.ped_rules.specs.ped_loop_runs.specs.ped_tidy.specs.ped_pasting.specs.ped_bodies.specs.ped_steps.specs.declared.rules.Rule.TheVariants.{NoLoop}
+use Rattle.ped_reindex.proofs.PeelRules.{no_loop_first}
+use Rattle.ped_reindex.proofs.PeelAnswers.{refused}
+use Rattle.ped_reindex.proofs.peeling.peel.Goals as goal
+
+pub returns-in-None : goal.returns-in-None
+returns-in-None g c =
+    let t = program_tree c.args.scene.now.tree.now in
+    let s = c.args.number in
+    let k = c.args.last in
+    refused s k t NoLoop s c.against.result c.against.ensures (no_loop_first s k t c.in-None.ensures)

@@ -1,0 +1,23 @@
+use Rattle.std.proofs.Common.{ℕ, ℤ, List, Option, IfOk, MatchOption, ap, ◌∙◌, subst, arith}
+use Rattle.std.specs.Int.{w64}
+use Rattle.std.proofs.lemmas.Int.{to_z-of_z}
+use Rattle.ped_tree.specs.Tree.{ProgramTree}
+use Rattle.ped_tree.specs.Views.{program_tree}
+use Rattle.ped_loops.specs.ped_scalar.specs.ped_rules.specs.ped_loop_runs.specs.ped_tidy.specs.ped_pasting.specs.ped_bodies.specs.ped_steps.specs.ped_symbols.specs.NameRefusals.{IsValid}
+use Rattle.ped_loops.specs.ped_scalar.specs.ped_rules.specs.ped_loop_runs.specs.ped_tidy.specs.ped_pasting.specs.ped_bodies.specs.ped_steps.specs.Changes.{IsChange}
+use Rattle.ped_loops.specs.ped_scalar.specs.ped_rules.specs.ped_loop_runs.specs.ped_tidy.specs.ped_pasting.specs.ped_bodies.specs.ped_steps.specs.declared.changes.Change.{Change}
+use Rattle.ped_loops.specs.ped_scalar.specs.ped_rules.specs.ped_loop_runs.specs.ped_tidy.specs.ped_pasting.specs.ped_bodies.specs.ped_steps.proofs.Answering.{few_numbers}
+use Rattle.ped_reindex.specs.Skewing.{skewed}
+use Rattle.ped_reindex.proofs.skewing.skewed.Goals as goal
+
+pub with_skewed-requires-clause-few : goal.with_skewed-requires-clause-few
+with_skewed-requires-clause-few g c = few_numbers (program_tree c.args.scene.now.tree.now) c.requires.scene.valid
+
+pub all_kept-requires : goal.all_kept-requires
+all_kept-requires g c = let few = few_numbers (program_tree c.args.scene.now.tree.now) c.requires.scene.valid in omega (arith, few)
+
+pub returns : goal.returns
+returns g c =
+    let u = skewed (program_tree c.args.scene.now.tree.now) c.args.number c.args.factor in
+    subst (λ (k : List (ℕ × ℕ)). IfOk c.change_to.result (λ (found : Option Change). MatchOption found (IsValid u → ⊥) (IsChange u k))) c.in_ok-keep.ensures
+    (subst (λ (v : ProgramTree). IfOk c.change_to.result (λ (found : Option Change). MatchOption found (IsValid v → ⊥) (IsChange v c.in_ok-keep.keep))) (c.in_ok-tree.ensures.tree ∙ ap (λ (z : ℤ). skewed (program_tree c.args.scene.now.tree.now) c.args.number z) (to_z-of_z w64 c.args.factor c.ranges.factor)) c.change_to.ensures)

@@ -1,0 +1,8 @@
+      PROGRAM FIRST
+C     EACH VALUE BY THE FIRST ONE, WHICH ITERATION 1 WRITES.
+      INTEGER A(10)
+      SAVE A
+      A(1)=3
+      DO 10 I=1,10
+   10 A(I)=A(1)+I*I
+      END

@@ -1,0 +1,11 @@
+      PROGRAM STRIPS
+C     A LONG LOOP IN STRIPS OF A HUNDRED: A STRIP AT A TIME IS PARALLEL.
+      INTEGER A(950),B(950)
+      SAVE K,L
+      DO 10 I=1,950
+   10 B(I)=MOD(I*I,7)
+      DO 20 I=1,950
+   20 A(I)=B(I)+1
+      K=A(1)
+      L=A(950)
+      END

@@ -1,5 +1,4 @@
 pub mod ShapedCode
-pub mod NamedConstants
 mod FlagRules
 mod FlaggedLoops
 mod FlagsLawful

@@ -114,7 +114,7 @@ constants_occur y (d ∷ ds) h =
       | inr e ↦ inr (constants_occur y ds e)
     ])
 
-constant_there : (y : List ℕ) (t : ProgramTree) → is_among y (constant_names t.decls) ≡ true → is_among y (names_of t) ≡ true
+pub constant_there : (y : List ℕ) (t : ProgramTree) → is_among y (constant_names t.decls) ≡ true → is_among y (names_of t) ≡ true
 constant_there y t h =
     names_occur t y ∙ occurs_append y (flat_map decl_sites t.decls) (stmts_sites t.body)
     ∙ or_of (occurs y (flat_map decl_sites t.decls)) (occurs y (stmts_sites t.body)) (inl (constants_occur y t.decls h))

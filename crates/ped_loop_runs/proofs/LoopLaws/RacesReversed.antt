@@ -37,11 +37,12 @@ use Rattle.ped_tidy.specs.ped_pasting.specs.ped_bodies.specs.ped_steps.proofs.Ru
 use Rattle.ped_tidy.specs.ped_pasting.specs.ped_bodies.specs.ped_steps.specs.ped_weaves.specs.Sources.{RaceSomewhere}
 use Rattle.ped_tidy.specs.ped_pasting.specs.ped_bodies.specs.ped_steps.specs.ped_weaves.proofs.WeaveLaws.RaceSources.{pairs_free}
 use Rattle.ped_tidy.specs.ped_pasting.specs.Executions.{StandsInside, LeaveCopies, IsExecuted}
-use Rattle.ped_tidy.specs.ped_pasting.specs.Pasting.{AreExchanged}
+use Rattle.ped_tidy.specs.ped_pasting.specs.Pasting.{IsExchanged, AreExchanged}
 use Rattle.ped_tidy.specs.ped_pasting.proofs.PastingLaws.LeftCopies.{body_reaches}
 use Rattle.ped_tidy.specs.ped_pasting.specs.ped_bodies.specs.Moving.{own_number}
 use Rattle.ped_tidy.specs.ped_pasting.specs.ped_bodies.specs.Trips.{bounds_seen, entered_from}
 use Rattle.ped_loop_runs.specs.OneForOne.{trip_of, trip_names, IsOneForOne, IsMadeInstead}
+use Rattle.ped_loop_runs.proofs.LoopLaws.ChangedPairs.{Change, Give, in_acts, pairs_give}
 use Rattle.ped_loop_runs.proofs.LoopLaws.RacesByReferences.{act_good, told_is_unreferred, by_references}
 use Rattle.ped_loop_runs.proofs.LoopLaws.OneForOneRaces.{IsKept, IsMadeInTrip, execution_made}
 use Rattle.ped_loop_runs.proofs.LoopLaws.OneForOneCells.{IsOfLoop, stays_or_moves, moves_inside, Reached, names_apart}
@@ -418,9 +419,6 @@ module _ (t u : ProgramTree) (l : ℕ) (loop : LoopOf t l) (h : Head) (x : IsOne
       before : (a : Act) → IsIn a (piece y.scope y.store).acts → IsIn a w.front
       after : (a : Act) → IsIn a (piece w.scope w.store).acts → IsIn a y.behind
 
-    in_acts : (acts others : List Act) (c : Access) → ((a : Act) → IsIn a acts → IsIn a others) → IsIn c (accesses acts) → IsIn c (accesses others)
-    in_acts acts others c sub i = let a = accesses_from acts c i in accesses_in others a.0 c (sub a.0 a.1) a.2
-
     kept_more : (acts others : List Act) (c : Access) → ((a : Act) → IsIn a acts → IsIn a others) → IsKept acts c → IsKept others c
     kept_more acts others c sub k = record { origin = k.origin; found = in_acts acts others k.origin sub k.found; cell = k.cell; writes = k.writes; turns = k.turns; referred = k.referred }
 
@@ -438,117 +436,54 @@ module _ (t u : ProgramTree) (l : ℕ) (loop : LoopOf t l) (h : Head) (x : IsOne
         somewhere b c k.origin m.origin r (found y b k) (found w c m) of_c.1 of_b.1 (sym k.likewise.writes) (sym m.likewise.writes)
         ((λ i. are_apart (were y b k i) (were w c m i)) ∙ apart_inside (round y) (round w) (old_turn y b k ∷ k.likewise.more) (old_turn w c m ∷ m.likewise.more) rounds)
 
-    -- where an access of the new list stands: in a part that stays, or in the place of an execution
-    record IsInPlace (ahead rest : List Act) (c : Access) : Type 0 where
-      execution : Execution
-      among : IsIn c (accesses (fresh execution.scope execution.store))
-      earlier : (a : Act) → IsIn a ahead → IsIn a execution.front
-      later : (a : Act) → IsIn a (piece execution.scope execution.store).acts → IsIn a rest
-
     referred_kept : (acts : List Act) (c : Access) → IsIn c (accesses acts) → 0 < c.reference → IsKept acts c
     referred_kept acts c i some = record { origin = c; found = i; cell = refl; writes = refl; turns = refl; referred = some }
 
-    abbrev execution_at : (front behind : List Act) (parts : List Part) (s : Store) (old new : List Act) → AreExchanged p t start l count piece fresh front (changed old new ∷ parts) behind s → ((a : Act) → IsIn a (old ++ old_parts parts) → IsIn a olds) → ((a : Act) → IsIn a (new ++ new_parts parts) → IsIn a news) → Execution
-    execution_at front behind parts s old new exchanged sub within =
-        let it = exchanged.0 in
-        record {
-          scope = it.scope;
-          store = s;
-          front = front;
-          behind = old_parts parts ++ behind;
-          executed = it.executed;
-          goes = it.goes;
-          sub = λ a i. sub a (in_left a old (old_parts parts) (subst (λ (acts : List Act). IsIn a acts) (sym it.old_is) i));
-          within = λ a i. within a (in_left a new (new_parts parts) (subst (λ (acts : List Act). IsIn a acts) (sym it.new_is) i));
-        }
+    -- two new accesses by references that race
+    abbrev Meet : Access → Access → Type 0
+    Meet b c = Race b c × (0 < b.reference) × (0 < c.reference)
 
-    accesses_split : (xs ys : List Act) → accesses (xs ++ ys) ≡ accesses xs ++ accesses ys
-    accesses_split xs ys = flat_map-append accesses_of xs ys
+    abbrev By : List Act → List Act → Store → List Act → List Act → Type 0
+    By = IsExchanged p t start l count piece fresh
 
-    located : (front : List Act) (parts : List Part) (behind : List Act) (s : Store) → AreExchanged p t start l count piece fresh front parts behind s → ((a : Act) → IsIn a (old_parts parts) → IsIn a olds) → ((a : Act) → IsIn a (new_parts parts) → IsIn a news)
-        → (c : Access) → IsIn c (accesses (new_parts parts)) → IsIn c (accesses (old_parts parts)) ⊎ IsInPlace front (old_parts parts) c
-    located front [] behind s exchanged sub within c i = absurd i
-    located front (same acts ∷ parts) behind s exchanged sub within c i =
-        elim (in_parts c (accesses acts) (accesses (new_parts parts)) (subst (λ (cs : List Access). IsIn c cs) (accesses_split acts (new_parts parts)) i)) [
-          | inl k ↦ inl (subst (λ (cs : List Access). IsIn c cs) (sym (accesses_split acts (old_parts parts))) (in_left c (accesses acts) (accesses (old_parts parts)) k))
-          | inr k ↦ elim (located (front ++ acts) parts behind (store_after acts s) exchanged (λ a j. sub a (in_right a acts (old_parts parts) j)) (λ a j. within a (in_right a acts (new_parts parts) j)) c k) [
-            | inl m ↦ inl (subst (λ (cs : List Access). IsIn c cs) (sym (accesses_split acts (old_parts parts))) (in_right c (accesses acts) (accesses (old_parts parts)) m))
-            | inr m ↦ inr (record { execution = m.execution; among = m.among; earlier = λ a j. m.earlier a (in_left a front acts j); later = λ a j. in_right a acts (old_parts parts) (m.later a j) })
-          ]
-        ]
-    located front (changed old new ∷ parts) behind s exchanged sub within c i =
-        elim (in_parts c (accesses new) (accesses (new_parts parts)) (subst (λ (cs : List Access). IsIn c cs) (accesses_split new (new_parts parts)) i)) [
-          | inl k ↦ inr (record {
-            execution = execution_at front behind parts s old new exchanged sub within;
-            among = subst (λ (acts : List Act). IsIn c (accesses acts)) exchanged.0.new_is k;
-            earlier = λ a j. j;
-            later = λ a j. in_left a old (old_parts parts) (subst (λ (acts : List Act). IsIn a acts) (sym exchanged.0.old_is) j);
-          })
-          | inr k ↦ elim (located (front ++ old) parts behind (store_after old s) exchanged.1 (λ a j. sub a (in_right a old (old_parts parts) j)) (λ a j. within a (in_right a new (new_parts parts) j)) c k) [
-            | inl m ↦ inl (subst (λ (cs : List Access). IsIn c cs) (sym (accesses_split old (old_parts parts))) (in_right c (accesses old) (accesses (old_parts parts)) m))
-            | inr m ↦ inr (record { execution = m.execution; among = m.among; earlier = λ a j. m.earlier a (in_left a front old j); later = λ a j. in_right a old (old_parts parts) (m.later a j) })
-          ]
-        ]
+    abbrev execution_of : Change By olds news → Execution
+    execution_of y = record {
+      scope = y.by.scope;
+      store = y.store;
+      front = y.front;
+      behind = y.behind;
+      executed = y.by.executed;
+      goes = y.by.goes;
+      sub = λ a i. y.sub a (subst (λ (acts : List Act). IsIn a acts) (sym y.by.old_is) i);
+      within = λ a i. y.within a (subst (λ (acts : List Act). IsIn a acts) (sym y.by.new_is) i);
+    }
+
+    comes_of : (y : Change By olds news) (b : Access) → IsIn b (accesses y.new) → 0 < b.reference → AtLoop (execution_of y) b ⊎ InTrip (execution_of y) b
+    comes_of y b i some = comes (execution_of y) b (subst (λ (acts : List Act). IsIn b (accesses acts)) y.by.new_is i) some
+
+    stays_before : (y : Change By olds news) (b c : Access) → Meet b c → IsIn b (accesses y.front) → IsIn b (accesses olds) → AtLoop (execution_of y) c ⊎ InTrip (execution_of y) c → RaceSomewhere olds
+    stays_before y b c m i j (inl g) = both_kept b c m.0 (referred_kept olds b j m.1) (kept_there (piece y.by.scope y.store).acts c (execution_of y).sub g.0)
+    stays_before y b c m i j (inr k) =
+        trip_kept (execution_of y) c k b (flipped b c m.0) (referred_kept olds b j m.1) (kept_outside (execution_of y) y.front y.by.executed.unused_before b (referred_kept y.front b i m.1))
+
+    stays_behind : (y : Change By olds news) (b c : Access) → Meet b c → AtLoop (execution_of y) b ⊎ InTrip (execution_of y) b → IsIn c (accesses y.behind) → IsIn c (accesses olds) → RaceSomewhere olds
+    stays_behind y b c m (inl f) i j = both_kept b c m.0 (kept_there (piece y.by.scope y.store).acts b (execution_of y).sub f.0) (referred_kept olds c j m.2)
+    stays_behind y b c m (inr k) i j =
+        trip_kept (execution_of y) b k c m.0 (referred_kept olds c j m.2) (kept_outside (execution_of y) y.behind y.by.executed.unused_behind c (referred_kept y.behind c i m.2))
 
     -- two new accesses that race come from two old ones that do
-    pairs_race : (front : List Act) (parts : List Part) (behind : List Act) (s : Store) → AreExchanged p t start l count piece fresh front parts behind s → ((a : Act) → IsIn a (old_parts parts) → IsIn a olds) → ((a : Act) → IsIn a (new_parts parts) → IsIn a news)
-        → (b c : Access) → StandsBefore b c (accesses (new_parts parts)) → Race b c → 0 < b.reference → 0 < c.reference → RaceSomewhere olds
-    pairs_race front [] behind s exchanged sub within b c before r one other = absurd before
-    pairs_race front (same acts ∷ parts) behind s exchanged sub within b c before r one other =
-        elim (before_parts b c (accesses acts) (accesses (new_parts parts)) (subst (λ (cs : List Access). StandsBefore b c cs) (accesses_split acts (new_parts parts)) before)) [
-          | inl k ↦ both_kept b c r (of_here b (first_in b c (accesses acts) k) one) (of_here c (second_in b c (accesses acts) k) other)
-          | inr k ↦ elim k [
-            | inl m ↦ elim (located (front ++ acts) parts behind (store_after acts s) exchanged (λ a j. sub a (in_right a acts (old_parts parts) j)) (λ a j. within a (in_right a acts (new_parts parts) j)) c m.1) [
-              | inl j ↦ both_kept b c r (of_here b m.0 one) (kept_there (old_parts parts) c (λ a i. sub a (in_right a acts (old_parts parts) i)) (referred_kept (old_parts parts) c j other))
-              | inr j ↦ by j m.0 (comes j.execution c j.among other)
-            ]
-            | inr m ↦ pairs_race (front ++ acts) parts behind (store_after acts s) exchanged (λ a j. sub a (in_right a acts (old_parts parts) j)) (λ a j. within a (in_right a acts (new_parts parts) j)) b c m r one other
-          ]
-        ]
-      where
-        of_here : (y : Access) → IsIn y (accesses acts) → 0 < y.reference → IsKept olds y
-        of_here y i some = kept_there acts y (λ a j. sub a (in_left a acts (old_parts parts) j)) (referred_kept acts y i some)
-
-        by : (j : IsInPlace (front ++ acts) (old_parts parts) c) → IsIn b (accesses acts) → AtLoop j.execution c ⊎ InTrip j.execution c → RaceSomewhere olds
-        by j i (inl g) = both_kept b c r (of_here b i one) (kept_there (piece j.execution.scope j.execution.store).acts c j.execution.sub g.0)
-        by j i (inr m) =
-            trip_kept j.execution c m b (flipped b c r) (of_here b i one)
-            (kept_outside j.execution j.execution.front j.execution.executed.unused_before b (referred_kept j.execution.front b (in_acts acts j.execution.front b (λ a k. j.earlier a (in_right a front acts k)) i) one))
-    pairs_race front (changed old new ∷ parts) behind s exchanged sub within b c before r one other =
-        elim (before_parts b c (accesses new) (accesses (new_parts parts)) (subst (λ (cs : List Access). StandsBefore b c cs) (accesses_split new (new_parts parts)) before)) [
-          | inl k ↦ one_execution here b c r (of_here b (first_in b c (accesses new) k) one) (of_here c (second_in b c (accesses new) k) other)
-          | inr k ↦ elim k [
-            | inl m ↦ elim (located (front ++ old) parts behind (store_after old s) exchanged.1 later_old later_new c m.1) [
-              | inl j ↦ kept_later j (of_here b m.0 one)
-              | inr j ↦ two_executions here j.execution (successive j) b c r (of_here b m.0 one) (comes j.execution c j.among other)
-            ]
-            | inr m ↦ pairs_race (front ++ old) parts behind (store_after old s) exchanged.1 later_old later_new b c m r one other
-          ]
-        ]
-      where
-        here : Execution
-        here = execution_at front behind parts s old new exchanged sub within
-
-        later_old : (a : Act) → IsIn a (old_parts parts) → IsIn a olds
-        later_old a j = sub a (in_right a old (old_parts parts) j)
-
-        later_new : (a : Act) → IsIn a (new_parts parts) → IsIn a news
-        later_new a j = within a (in_right a new (new_parts parts) j)
-
-        of_here : (y : Access) → IsIn y (accesses new) → 0 < y.reference → AtLoop here y ⊎ InTrip here y
-        of_here y i some = comes here y (subst (λ (acts : List Act). IsIn y (accesses acts)) exchanged.0.new_is i) some
-
-        kept_later : IsIn c (accesses (old_parts parts)) → AtLoop here b ⊎ InTrip here b → RaceSomewhere olds
-        kept_later j (inl f) = both_kept b c r (kept_there (piece here.scope here.store).acts b here.sub f.0) (kept_there (old_parts parts) c later_old (referred_kept (old_parts parts) c j other))
-        kept_later j (inr k) =
-            trip_kept here b k c r (kept_there (old_parts parts) c later_old (referred_kept (old_parts parts) c j other))
-            (kept_outside here here.behind here.executed.unused_behind c (referred_kept here.behind c (in_acts (old_parts parts) here.behind c (λ a i. in_left a (old_parts parts) behind i) j) other))
-
-        successive : (j : IsInPlace (front ++ old) (old_parts parts) c) → AreSuccessive here j.execution
-        successive j = record {
-          before = λ a i. j.earlier a (in_right a front old (subst (λ (acts : List Act). IsIn a acts) (sym exchanged.0.old_is) i));
-          after = λ a i. in_left a (old_parts parts) behind (j.later a i);
-        }
+    give : Give By olds news Meet (RaceSomewhere olds)
+    give = record {
+      kept = λ b c m i j. both_kept b c m.0 (referred_kept olds b i m.1) (referred_kept olds c j m.2);
+      before = λ y b c m i j k. stays_before y b c m i j (comes_of y c k m.2);
+      behind = λ y b c m k i j. stays_behind y b c m (comes_of y b k m.1) i j;
+      inside = λ y b c m i j. one_execution (execution_of y) b c m.0 (comes_of y b i m.1) (comes_of y c j m.2);
+      between = λ y w s b c m i j. two_executions (execution_of y) (execution_of w)
+          (record {
+            before = λ a k. s.before a (subst (λ (acts : List Act). IsIn a acts) (sym y.by.old_is) k);
+            after = λ a k. s.after a (subst (λ (acts : List Act). IsIn a acts) (sym w.by.old_is) k);
+          }) b c m.0 (comes_of y b i m.1) (comes_of w c j m.2);
+    }
 
     pub races_reversed : (parts : List Part) → old_parts parts ≡ olds → AreExchanged p t start l count piece fresh [] parts [] start → new_parts parts ≡ news → HasNoRace (accesses (old_parts parts)) → HasNoRace (accesses (new_parts parts))
     races_reversed parts olds_are exchanged news_are free =
@@ -561,6 +496,6 @@ module _ (t u : ProgramTree) (l : ℕ) (loop : LoopOf t l) (h : Head) (x : IsOne
             let j = second_in b c (accesses news) before in
             let r = by_references u x.new_valid data_bytes b c i j races in
             let parts_of = and_parts (same_cell b.cell c.cell) (b.writes || c.writes) r.4 in
-            pairs_race [] parts [] start exchanged (λ a k. subst (λ (acts : List Act). IsIn a acts) olds_are k) (λ a k. subst (λ (acts : List Act). IsIn a acts) news_are k) b c
+            pairs_give By olds news Meet (RaceSomewhere olds) give [] parts [] start exchanged (λ a k. subst (λ (acts : List Act). IsIn a acts) olds_are k) (λ a k. subst (λ (acts : List Act). IsIn a acts) news_are k) b c
             (subst (λ (acts : List Act). StandsBefore b c (accesses acts)) (sym news_are) before)
-            (record { one = i; other = j; apart = r.2; back = r.3; cells = cell_is b.cell c.cell parts_of.0; writing = parts_of.1 }) r.0 r.1
+            (record { one = i; other = j; apart = r.2; back = r.3; cells = cell_is b.cell c.cell parts_of.0; writing = parts_of.1 }, r.0, r.1)

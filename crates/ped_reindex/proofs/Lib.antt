@@ -26,7 +26,6 @@ mod StripsStand
 mod RenumberedRaces
 mod StripsRaces
 mod StripsAccesses
-mod MadeAnew
 mod StripsKeeps
 mod StripsKinds
 mod StripsTrust

@@ -49,7 +49,7 @@ pub mod InterchangeRules
 pub mod LoopSurroundings
 pub mod SwappedKinds
 mod ShapedNames
-mod SwappedTrust
+pub mod SwappedTrust
 pub mod PlainDecided
 mod PlainAnswers
 mod InterchangeLawful

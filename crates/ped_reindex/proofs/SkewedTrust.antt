@@ -21,8 +21,10 @@ use Rattle.ped_loops.specs.ped_scalar.specs.ped_rules.specs.ped_loop_runs.specs.
 use Rattle.ped_loops.specs.ped_scalar.specs.ped_rules.specs.ped_loop_runs.specs.ped_tidy.specs.Writing.{writes_name, writes_left, writes, all_write, writes_index, some_write_index}
 use Rattle.ped_loops.specs.ped_scalar.specs.ped_rules.specs.OnlyLoops.{only_loop}
 use Rattle.ped_loops.specs.ped_scalar.proofs.TidyPathsSubstituted.{stops_kept, all_variables_kept}
+use Rattle.ped_loops.specs.ped_scalar.proofs.UnrejectedSteps.{rejections_kept}
 use Rattle.ped_loops.proofs.OneHead.{TrustedLaw, ClearedLaw}
-use Rattle.ped_loops.proofs.OnlyBodies.{pair, only_tells}
+use Rattle.ped_loops.proofs.OnlyBodies.{pair}
+use Rattle.ped_loops.proofs.SwappedTrust.{or_tells}
 
 -- what stands for the scalar is no left side
 module _ (cs : List (List ℕ)) (k : NameKinds) (x : List ℕ) (by : ExprTree) (no_left : (w : List ℕ) → writes_left cs w by ≡ false) where
@@ -109,30 +111,6 @@ module _ (cs : List (List ℕ)) (k : NameKinds) (x : List ℕ) (by : ExprTree) (
         let right = and_parts (stmt_is_right k s) (stmts_are_right k rest) r in
         let none = or_parts (writes_index cs s) (some_write_index cs rest) h in
         λ i. one_index s right.0 none.0 i || all_indices rest right.1 none.1 i
-
-module _ (x : List ℕ) (by : ExprTree) where
-  mutual
-    rejection_kept : (s : StmtTree) → has_rejection (statement_substituted x by s) ≡ has_rejection s
-    rejection_kept (Assign left right) = refl
-    rejection_kept (If c a b) = λ i. rejections_kept a i || rejections_kept b i
-    rejection_kept (Do h body) = λ i. has_some h.rejected || rejections_kept body i
-    rejection_kept (Print items) = refl
-    rejection_kept (Read items) = refl
-    rejection_kept Stop = refl
-    rejection_kept (Comment text) = refl
-
-    rejections_kept : (ss : StmtTrees) → some_rejection (statements_substituted x by ss) ≡ some_rejection ss
-    rejections_kept no_stmts = refl
-    rejections_kept (more_stmts s rest) = λ i. rejection_kept s i || rejections_kept rest i
-
-or_false : (a : Bool) → a || false ≡ a
-or_false true = refl
-or_false false = refl
-
--- what is told of statements by "or" is told of a body by its one DO
-or_tells : (told : StmtTree → Bool) (all : StmtTrees → Bool) (g : Head) (inside body : StmtTrees) → all no_stmts ≡ false → ((s : StmtTree) (rest : StmtTrees) → all (more_stmts s rest) ≡ told s || all rest) → ((text : List ℕ) → told (Comment text) ≡ false)
-    → only_loop body ≡ Some (pair g inside) → all body ≡ told (Do g inside)
-or_tells told all g inside body none both nothing one = only_tells g inside told all (λ (a b : Bool). a || b) false (λ a. refl) or_false none both nothing body one
 
 module _ (t : ProgramTree) (valid : IsValid t) (l : ℕ) (loop : LoopOf t l) (contained : IsContained t l) (g h : Head) (inside other_body : StmtTrees) (by : ExprTree) (only : only_loop loop.body ≡ Some (pair g inside)) (new_only : only_loop other_body ≡ Some (pair h (statements_substituted g.variable by inside)))
     (variable : h.variable ≡ g.variable) (private : h.private ≡ g.private) (rejected : h.rejected ≡ g.rejected) (serial : loop.head.parallel ≡ false) (inner_serial : g.parallel ≡ false) (new_serial : h.parallel ≡ false)

@@ -17,6 +17,7 @@ pub mod LoopParts
 pub mod PlacedLoops
 pub mod OneForOneRaces
 pub mod RacesInOrder
+pub mod ApartTurns
 pub mod ChangedPairs
 pub mod RacesReversed
 pub mod OneForOne

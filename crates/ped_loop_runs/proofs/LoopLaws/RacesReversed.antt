@@ -1,36 +1,29 @@
 -- A DO whose iterations are done from the last to the first makes no race: accesses that race in the new run come from accesses that race in the old one.
-use Rattle.std.proofs.Common.{◌≡◌, ◌⊎◌, ℕ, suc, ◌+◌, ◌-◌, ◌≤◌, ◌<◌, List, [], ◌∷◌, ◌++◌, map, length, Bool, true, false, ◌&&◌, ◌||◌, eqb, eqb-true, if◌then◌else◌, refl, sym, ap, ◌∙◌, subst, inl, inr, arith, append_assoc, append-nil}
+use Rattle.std.proofs.Common.{◌≡◌, ◌⊎◌, ℕ, ◌≤◌, ◌<◌, List, [], ◌∷◌, ◌++◌, map, length, Bool, true, false, ◌&&◌, ◌||◌, eqb, eqb-true, if◌then◌else◌, refl, sym, ap, ◌∙◌, subst, inl, inr, arith, append_assoc, append-nil}
 use Rattle.std.specs.Str.Lines.{lines}
 use Rattle.std.proofs.lemmas.Bool.{and_parts, both_ways}
-use Rattle.std.proofs.lemmas.Grind.{flat_map-append}
-use Rattle.std.proofs.lemmas.List.{map-append}
 use Rattle.ped_tidy.specs.ped_pasting.specs.ped_bodies.specs.ped_steps.specs.ped_laws.specs.ped_flow.specs.ped_tree.specs.Tree.{Head, StmtTrees, Do, ProgramTree}
-use Rattle.ped_tidy.specs.ped_pasting.specs.ped_bodies.specs.ped_steps.specs.ped_laws.specs.ped_flow.specs.ped_tree.specs.Nests.{Loop}
 use Rattle.ped_tidy.specs.ped_pasting.specs.ped_bodies.specs.ped_steps.specs.ped_laws.specs.ped_flow.specs.ped_tree.specs.Numbering.{statements_count}
 use Rattle.ped_tidy.specs.ped_pasting.specs.ped_bodies.specs.ped_steps.specs.ped_laws.specs.ped_flow.specs.PlainBounds.{nest_round}
 use Rattle.ped_tidy.specs.ped_pasting.specs.ped_bodies.specs.ped_steps.specs.ped_laws.specs.ped_flow.specs.Questions.{LoopOf}
-use Rattle.ped_tidy.specs.ped_pasting.specs.ped_bodies.specs.ped_steps.specs.ped_laws.specs.ped_store.specs.Cells.{Cell, Scalar, Element, Private, In, Out, Iteration, same_cell}
+use Rattle.ped_tidy.specs.ped_pasting.specs.ped_bodies.specs.ped_steps.specs.ped_laws.specs.ped_store.specs.Cells.{Cell, Iteration, same_cell}
 use Rattle.ped_tidy.specs.ped_pasting.specs.ped_bodies.specs.ped_steps.specs.ped_laws.specs.ped_store.specs.Stores.{Store, store_at_start}
-use Rattle.ped_tidy.specs.ped_pasting.specs.ped_bodies.specs.ped_steps.specs.ped_laws.specs.ped_store.specs.Acts.{Manner, reads, writes, is_told, Touch, Turn, Place, Act, iterations_of}
-use Rattle.ped_tidy.specs.ped_pasting.specs.ped_bodies.specs.ped_steps.specs.ped_laws.specs.ped_store.specs.Races.{Access, is_write, accesses_of, accesses, conflict, are_apart, race, HasNoRace}
+use Rattle.ped_tidy.specs.ped_pasting.specs.ped_bodies.specs.ped_steps.specs.ped_laws.specs.ped_store.specs.Acts.{Turn, Place, Act, iterations_of}
+use Rattle.ped_tidy.specs.ped_pasting.specs.ped_bodies.specs.ped_steps.specs.ped_laws.specs.ped_store.specs.Races.{Access, accesses, are_apart, race, HasNoRace}
 use Rattle.ped_tidy.specs.ped_pasting.specs.ped_bodies.specs.ped_steps.specs.ped_laws.specs.ped_eval.specs.Loops.{Entered, frame}
 use Rattle.ped_tidy.specs.ped_pasting.specs.ped_bodies.specs.ped_steps.specs.ped_laws.specs.ped_eval.specs.Scopes.{Setting, Scope, turns_of}
 use Rattle.ped_tidy.specs.ped_pasting.specs.ped_bodies.specs.ped_steps.specs.ped_laws.specs.ped_eval.specs.Outcomes.{setting_of, run_of}
 use Rattle.ped_tidy.specs.ped_pasting.specs.ped_bodies.specs.ped_steps.specs.ped_laws.specs.ped_eval.specs.Runs.{Run, run_all}
-use Rattle.ped_tidy.specs.ped_pasting.specs.ped_bodies.specs.ped_steps.specs.ped_laws.specs.Acts.Fitting.{store_after}
 use Rattle.ped_tidy.specs.ped_pasting.specs.ped_bodies.specs.ped_steps.specs.ped_laws.specs.Acts.Orders.{IsIn, StandsBefore}
-use Rattle.ped_tidy.specs.ped_pasting.specs.ped_bodies.specs.ped_steps.specs.ped_laws.specs.Acts.Origins.{StandApart}
-use Rattle.ped_tidy.specs.ped_pasting.specs.ped_bodies.specs.ped_steps.specs.ped_laws.specs.Acts.Pieces.{Part, same, changed, old_parts, new_parts}
+use Rattle.ped_tidy.specs.ped_pasting.specs.ped_bodies.specs.ped_steps.specs.ped_laws.specs.Acts.Pieces.{Part, old_parts, new_parts}
 use Rattle.ped_tidy.specs.ped_pasting.specs.ped_bodies.specs.ped_steps.specs.ped_laws.specs.Runs.Replaying.{goes_on, finish_of}
-use Rattle.ped_tidy.specs.ped_pasting.specs.ped_bodies.specs.ped_steps.specs.ped_laws.proofs.ActLaws.Lists.{in_left, in_right, in_parts, first_in, second_in, before_parts}
+use Rattle.ped_tidy.specs.ped_pasting.specs.ped_bodies.specs.ped_steps.specs.ped_laws.proofs.ActLaws.Lists.{first_in, second_in}
 use Rattle.ped_tidy.specs.ped_pasting.specs.ped_bodies.specs.ped_steps.specs.ped_laws.proofs.ActLaws.SameCells.{cell_is, is_cell}
 use Rattle.ped_tidy.specs.ped_pasting.specs.ped_bodies.specs.ped_steps.specs.ped_laws.proofs.ActLaws.Conflicting.{access_place, accesses_in}
 use Rattle.ped_tidy.specs.ped_pasting.specs.ped_bodies.specs.ped_steps.specs.ped_laws.proofs.ActLaws.RaceFree.{apart_flip}
-use Rattle.ped_tidy.specs.ped_pasting.specs.ped_bodies.specs.ped_steps.specs.ped_laws.proofs.RunLaws.Touches.{Fine}
-use Rattle.ped_tidy.specs.ped_pasting.specs.ped_bodies.specs.ped_steps.specs.ped_laws.proofs.RunLaws.Turning.{Front, At}
+use Rattle.ped_tidy.specs.ped_pasting.specs.ped_bodies.specs.ped_steps.specs.ped_laws.proofs.RunLaws.Turning.{At}
 use Rattle.ped_tidy.specs.ped_pasting.specs.ped_bodies.specs.ped_steps.specs.ped_laws.proofs.RunLaws.Placing.{kinds_of_run}
 use Rattle.ped_tidy.specs.ped_pasting.specs.ped_bodies.specs.ped_steps.specs.Replacing.{alone}
-use Rattle.ped_tidy.specs.ped_pasting.specs.ped_bodies.specs.ped_steps.specs.Runs.Pasting.{AreTurnsOf}
 use Rattle.ped_tidy.specs.ped_pasting.specs.ped_bodies.specs.ped_steps.specs.Runs.Renumbering.{renumbered_turn}
 use Rattle.ped_tidy.specs.ped_pasting.specs.ped_bodies.specs.ped_steps.proofs.RunLaws.PrivatisedRacesOrigins.{accesses_from}
 use Rattle.ped_tidy.specs.ped_pasting.specs.ped_bodies.specs.ped_steps.proofs.RunLaws.ExpandedRacesOrigins.{touch_of}
@@ -42,117 +35,16 @@ use Rattle.ped_tidy.specs.ped_pasting.proofs.PastingLaws.LeftCopies.{body_reache
 use Rattle.ped_tidy.specs.ped_pasting.specs.ped_bodies.specs.Moving.{own_number}
 use Rattle.ped_tidy.specs.ped_pasting.specs.ped_bodies.specs.Trips.{bounds_seen, entered_from}
 use Rattle.ped_loop_runs.specs.OneForOne.{trip_of, trip_names, IsOneForOne, IsMadeInstead}
+use Rattle.ped_loop_runs.proofs.LoopLaws.ApartTurns.{number_itself, apart_split, apart_inside, apart_within, apart_same, none_behind, front_apart, iterations_append, turns_long, same_fronts, at_of, or_turned}
 use Rattle.ped_loop_runs.proofs.LoopLaws.ChangedPairs.{Change, Give, in_acts, pairs_give}
 use Rattle.ped_loop_runs.proofs.LoopLaws.RacesByReferences.{act_good, told_is_unreferred, by_references}
 use Rattle.ped_loop_runs.proofs.LoopLaws.OneForOneRaces.{IsKept, IsMadeInTrip, execution_made}
 use Rattle.ped_loop_runs.proofs.LoopLaws.OneForOneCells.{IsOfLoop, stays_or_moves, moves_inside, Reached, names_apart}
 
-number_itself : (n : ℕ) → eqb n n ≡ true
-number_itself n = grind (arith, eqb-true)
-
--- places that are apart differ in iterations round a place, or the second stands in these iterations, too, and they differ further inside
-apart_split : (ts more us : List Turn) → are_apart (ts ++ more) us ≡ true → (are_apart ts us ≡ true) ⊎ ((rs : List Turn) × (vs : List Turn) × (us ≡ rs ++ vs) × (iterations_of rs ≡ iterations_of ts) × (are_apart more vs ≡ true))
-apart_split [] more us h = inr ([], us, refl, refl, h)
-apart_split (t ∷ ts) more [] h = absurd cc
-apart_split (t ∷ ts) more (u ∷ us) h = go (eqb t.number u.number) refl parts.1 (apart_split ts more us)
-  where
-    parts : (eqb t.statement u.statement ≡ true) × ((if eqb t.number u.number then are_apart (ts ++ more) us else t.parallel) ≡ true)
-    parts = and_parts (eqb t.statement u.statement) (if eqb t.number u.number then are_apart (ts ++ more) us else t.parallel) h
-
-    Result : Type 0
-    Result = (are_apart (t ∷ ts) (u ∷ us) ≡ true) ⊎ ((rs : List Turn) × (vs : List Turn) × (u ∷ us ≡ rs ++ vs) × (iterations_of rs ≡ iterations_of (t ∷ ts)) × (are_apart more vs ≡ true))
-
-    go : (b : Bool) → eqb t.number u.number ≡ b → (if b then are_apart (ts ++ more) us else t.parallel) ≡ true
-        → (are_apart (ts ++ more) us ≡ true → (are_apart ts us ≡ true) ⊎ ((rs : List Turn) × (vs : List Turn) × (us ≡ rs ++ vs) × (iterations_of rs ≡ iterations_of ts) × (are_apart more vs ≡ true))) → Result
-    go false e k further = inl (λ i. parts.0 i && (if e i then are_apart ts us else k i))
-    go true e k further = elim (further k) [
-      | inl m ↦ inl (λ i. parts.0 i && (if e i then m i else t.parallel))
-      | inr r ↦ (
-          let statement : t.statement ≡ u.statement = eqb-true t.statement u.statement parts.0 in
-          let number : t.number ≡ u.number = eqb-true t.number u.number e in
-          inr (u ∷ r.0, r.1, ap (λ (zs : List Turn). u ∷ zs) r.2, (λ i. record { statement = sym statement i; number = sym number i } ∷ r.3 i), r.4)
-          )
-    ]
-
--- places further inside are apart where these are
-apart_inside : (ts us more others : List Turn) → are_apart ts us ≡ true → are_apart (ts ++ more) (us ++ others) ≡ true
-apart_inside [] us more others h = absurd cc
-apart_inside (t ∷ ts) [] more others h = absurd cc
-apart_inside (t ∷ ts) (u ∷ us) more others h = go (eqb t.number u.number) refl parts.1 (apart_inside ts us more others)
-  where
-    parts : (eqb t.statement u.statement ≡ true) × ((if eqb t.number u.number then are_apart ts us else t.parallel) ≡ true)
-    parts = and_parts (eqb t.statement u.statement) (if eqb t.number u.number then are_apart ts us else t.parallel) h
-
-    go : (b : Bool) → eqb t.number u.number ≡ b → (if b then are_apart ts us else t.parallel) ≡ true → (are_apart ts us ≡ true → are_apart (ts ++ more) (us ++ others) ≡ true) → are_apart ((t ∷ ts) ++ more) ((u ∷ us) ++ others) ≡ true
-    go true e k further = λ i. parts.0 i && (if e i then further k i else t.parallel)
-    go false e k further = λ i. parts.0 i && (if e i then are_apart (ts ++ more) (us ++ others) else k i)
-
--- a place is apart from iterations that are as many
-apart_within : (ts us more : List Turn) → length ts ≡ length us → are_apart ts (us ++ more) ≡ true → are_apart ts us ≡ true
-apart_within [] us more long h = absurd cc
-apart_within (t ∷ ts) [] more long h = absurd cc
-apart_within (t ∷ ts) (u ∷ us) more long h = go (eqb t.number u.number) refl parts.1 (apart_within ts us more (let less : length ts ≡ length us = cc in less))
-  where
-    parts : (eqb t.statement u.statement ≡ true) × ((if eqb t.number u.number then are_apart ts (us ++ more) else t.parallel) ≡ true)
-    parts = and_parts (eqb t.statement u.statement) (if eqb t.number u.number then are_apart ts (us ++ more) else t.parallel) h
-
-    go : (b : Bool) → eqb t.number u.number ≡ b → (if b then are_apart ts (us ++ more) else t.parallel) ≡ true → (are_apart ts (us ++ more) ≡ true → are_apart ts us ≡ true) → are_apart (t ∷ ts) (u ∷ us) ≡ true
-    go true e k further = λ i. parts.0 i && (if e i then further k i else t.parallel)
-    go false e k further = λ i. parts.0 i && (if e i then are_apart ts us else k i)
-
--- the same iterations round two places don't count
-apart_same : (ts more others : List Turn) → are_apart (ts ++ more) (ts ++ others) ≡ are_apart more others
-apart_same [] more others = refl
-apart_same (t ∷ ts) more others = (λ i. number_itself t.statement i && (if number_itself t.number i then are_apart (ts ++ more) (ts ++ others) else t.parallel)) ∙ apart_same ts more others
-
-none_behind : (more : List Turn) → are_apart more [] ≡ true → ⊥
-none_behind [] h = absurd cc
-none_behind (t ∷ more) h = absurd cc
-
--- a copy of these iterations isn't reached from a place that is apart from them
-front_apart : (ts us : List Turn) (rest : List Iteration) → Front (iterations_of ts ++ rest) us → are_apart ts us ≡ true → ⊥
-front_apart [] us rest f h = absurd cc
-front_apart (t ∷ ts) [] rest f h = absurd f
-front_apart (t ∷ ts) (u ∷ us) rest f h =
-    let same : eqb t.number u.number ≡ true = ap (eqb t.number) (sym f.0) ∙ number_itself t.number in
-    front_apart ts us rest f.1
-    (sym (ap (λ (b : Bool). if b then are_apart ts us else t.parallel) same) ∙ (and_parts (eqb t.statement u.statement) (if eqb t.number u.number then are_apart ts us else t.parallel) h).1)
-
-iterations_append : (ts us : List Turn) → iterations_of (ts ++ us) ≡ iterations_of ts ++ iterations_of us
-iterations_append ts us = map-append (λ (u : Turn). record { statement = u.statement; number = u.number }) ts us
-
+-- turns under their own numbers are the same
 same_turns : (more : List Turn) → map (renumbered_turn own_number) more ≡ more
 same_turns [] = refl
 same_turns (t ∷ more) = ap (λ (rest : List Turn). t ∷ rest) (same_turns more)
-
-turns_long : (number : ℕ → ℕ) (ls : List Loop) (ts : List Turn) → AreTurnsOf number ls ts → length ts ≡ length ls
-turns_long number [] [] h = refl
-turns_long number [] (t ∷ ts) h = absurd h
-turns_long number (m ∷ ls) [] h = absurd h
-turns_long number (m ∷ ls) (t ∷ ts) h = ap suc (turns_long number ls ts h.2)
-
--- lists that are as long and begin two equal ones are equal
-same_fronts : {X Y : Type 0} (f : X → Y) (xs ys : List X) (more others : List Y) → length xs ≡ length ys → map f xs ++ more ≡ map f ys ++ others → (map f xs ≡ map f ys) × (more ≡ others)
-same_fronts f [] [] more others long e = (refl, e)
-same_fronts f [] (y ∷ ys) more others long e = absurd cc
-same_fronts f (x ∷ xs) [] more others long e = absurd cc
-same_fronts f (x ∷ xs) (y ∷ ys) more others long e =
-    let first : f x ≡ f y = cc in
-    let rest : map f xs ++ more ≡ map f ys ++ others = cc in
-    let less : length xs ≡ length ys = cc in
-    let r = same_fronts f xs ys more others less rest in
-    ((λ i. first i ∷ r.0 i), r.1)
-
-at_of : (ts : List Turn) (m : Manner) (c : Cell) (r : ℕ) → Fine (λ ts c. Unit {0}) ts m c r → At ts c
-at_of ts reads c r f = f.1
-at_of ts writes c r f = f.1
-at_of ts is_told c r f = f.1
-
-or_turned : (x y : Bool) → x || y ≡ true → y || x ≡ true
-or_turned true true e = refl
-or_turned true false e = refl
-or_turned false true e = refl
-or_turned false false e = e
 
 module _ (t u : ProgramTree) (l : ℕ) (loop : LoopOf t l) (h : Head) (x : IsOneForOne t u l loop h true) (data_bytes : List ℕ) where
   abbrev p : Setting

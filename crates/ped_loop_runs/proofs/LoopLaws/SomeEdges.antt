@@ -1,6 +1,5 @@
 -- That a program has no dependences can't be: each vector is excluded or not. So whatever is shown false of all lists of its dependences is false.
-use Rattle.std.proofs.Common.{◌≡◌, ℕ, List, [], ◌∷◌, ◌++◌, length, refl, inl, inr}
-use Rattle.ped_tidy.specs.ped_pasting.specs.ped_bodies.specs.ped_steps.specs.ped_laws.specs.ped_graph.specs.ped_views.specs.declared.directions.Direction.{Direction}
+use Rattle.std.proofs.Common.{List, [], ◌∷◌, ◌++◌, length, refl, inl, inr}
 use Rattle.ped_tidy.specs.ped_pasting.specs.ped_bodies.specs.ped_steps.specs.ped_laws.specs.ped_graph.specs.ped_views.specs.Vectors.{all_vectors, AreThose, IsPossible}
 use Rattle.ped_tidy.specs.ped_pasting.specs.ped_bodies.specs.ped_steps.specs.ped_laws.specs.ped_flow.specs.ped_tree.specs.Tree.{ProgramTree}
 use Rattle.ped_tidy.specs.ped_pasting.specs.ped_bodies.specs.ped_steps.specs.ped_laws.specs.ped_graph.specs.ped_refs.specs.References.{Reference, references, pairs}

@@ -35,7 +35,7 @@ use Rattle.ped_loops.specs.ped_scalar.specs.ped_rules.specs.ped_loop_runs.specs.
 use Rattle.ped_loops.specs.ped_scalar.specs.ped_rules.specs.ped_loop_runs.specs.ped_tidy.specs.ped_pasting.specs.ped_bodies.specs.ped_steps.specs.ped_laws.specs.Covering.Within.{HoldsStorable}
 use Rattle.ped_loops.specs.ped_scalar.specs.ped_rules.specs.ped_loop_runs.specs.ped_tidy.specs.ped_pasting.specs.ped_bodies.specs.ped_steps.specs.ped_laws.specs.Runs.Replaying.{finish_of, goes_on}
 use Rattle.ped_loops.specs.ped_scalar.specs.ped_rules.specs.ped_loop_runs.specs.ped_tidy.specs.ped_pasting.specs.ped_bodies.specs.ped_steps.specs.ped_laws.proofs.ActLaws.Stores.{after_append}
-use Rattle.ped_loops.specs.ped_scalar.specs.ped_rules.specs.ped_loop_runs.specs.ped_tidy.specs.ped_pasting.specs.ped_bodies.specs.ped_steps.specs.ped_laws.proofs.CoveringLaws.Nesting.{within, one_deeper}
+use Rattle.ped_loops.specs.ped_scalar.specs.ped_rules.specs.ped_loop_runs.specs.ped_tidy.specs.ped_pasting.specs.ped_bodies.specs.ped_steps.specs.ped_laws.proofs.CoveringLaws.Nesting.{within, one_deeper, heads_more}
 use Rattle.ped_loops.specs.ped_scalar.specs.ped_rules.specs.ped_loop_runs.specs.ped_tidy.specs.ped_pasting.specs.ped_bodies.specs.ped_steps.specs.ped_laws.proofs.CoveringLaws.ValueIntervals.{value_lies}
 use Rattle.ped_loops.specs.ped_scalar.specs.ped_rules.specs.ped_loop_runs.specs.ped_tidy.specs.ped_pasting.specs.ped_bodies.specs.ped_steps.specs.ped_laws.proofs.PlainLaws.NearIntervals.{IsNear, lies_near, Ends, NearAround, interval_ends, around_near}
 use Rattle.ped_loops.specs.ped_scalar.specs.ped_rules.specs.ped_loop_runs.specs.ped_tidy.specs.ped_pasting.specs.ped_bodies.specs.ped_steps.specs.ped_laws.specs.ped_eval.specs.Evaluation.{Seen, Evaluated, numbered}
@@ -102,10 +102,6 @@ module _ (cs : List (List ℕ × ℤ)) where
     all_increments : (ss : StmtTrees) → steps_are_right cs ss ≡ true → HaveIncrements cs ss
     all_increments no_stmts h = tt
     all_increments (more_stmts s rest) h = let both = and_parts (stmt_steps_are_right cs s) (steps_are_right cs rest) h in (one_increment s both.0, all_increments rest both.1)
-
-heads_more : (nest : List Loop) (l : Loop) → heads_of (nest ++ l ∷ []) ≡ heads_of nest ++ l.head ∷ []
-heads_more [] l = refl
-heads_more (m ∷ nest) l = ap (λ (hs : List Head). m.head ∷ hs) (heads_more nest l)
 
 match_near : (o : Option ℤ) (q : Option Interval) (n : ℤ) → Match o q → o ≡ Some n → Ends q → IsNear n
 match_near (Some m) (Some r) n h e near = let same : m ≡ n = cc in lies_near n r (subst (λ (z : ℤ). Lies z r) same h) (near r refl)

@@ -1,4 +1,3 @@
-mod Contained
 mod Here
 mod Remainders
 mod OneTaken

@@ -2,7 +2,6 @@
 use Rattle.ped_base.proofs.NameEquality.{same_is}
 use Rattle.ped_base.specs.Arithmetic.Arithmetic.{difference_of, negation_of, power_of, product_of, quotient_of, sum_of}
 use Rattle.ped_base.specs.Lists.{is_among, is_same_text}
-use Rattle.ped_loops.proofs.NamedConstants.{constant_there}
 use Rattle.ped_loops.specs.ped_scalar.specs.ped_rules.specs.Spans.{Values}
 use Rattle.ped_loops.specs.ped_scalar.specs.ped_rules.specs.ped_loop_runs.specs.ped_tidy.specs.ped_pasting.specs.ped_bodies.specs.ped_steps.proofs.RunLaws.ExpandedNamesSites.{stmt_at, stmts_at}
 use Rattle.ped_loops.specs.ped_scalar.specs.ped_rules.specs.ped_loop_runs.specs.ped_tidy.specs.ped_pasting.specs.ped_bodies.specs.ped_steps.proofs.RunLaws.ExpandedNamesSubstituted.{in_stmts}
@@ -29,6 +28,7 @@ use Rattle.ped_tree.specs.Numbering.{statement_with}
 use Rattle.ped_tree.specs.Tree.{Add, Call, Div, Do, Element, ExprTree, ExprTrees, Head, Int, Mul, Neg, Pow, ProgramTree, StmtTree, StmtTrees, Sub, Var, more_exprs, more_stmts, no_exprs, no_stmts}
 use Rattle.std.proofs.Common.{Bool, List, None, Some, ap, false, if◌then◌else◌, refl, subst, sym, true, unsigned_abs, ℕ, ℤ, ◌++◌, ◌||◌, ◌∙◌, ◌∷◌, ◌≡◌}
 use Rattle.std.specs.Int.{is_negative}
+use Rattle.ped_loops.specs.ped_scalar.specs.ped_rules.specs.ped_loop_runs.proofs.LoopLaws.OneForOneNames.{constant_there}
 
 none_in_both : (y : List ℕ) (xs ys : List (List ℕ)) → is_among y xs ≡ false → is_among y ys ≡ false → is_among y (xs ++ ys) ≡ false
 none_in_both y xs ys p q = among_append y xs ys ∙ (λ i. p i || q i)

@@ -2,7 +2,6 @@
 use Rattle.std.proofs.Common.{Bool, List, None, Some, [], ap, append-nil, false, if◌then◌else◌, map, pos, refl, subst, sym, true, ℕ, ℤ, ◌++◌, ◌||◌, ◌∙◌, ◌≡◌, ◌≤◌}
 use Rattle.std.specs.List.{flat_map}
 use Rattle.ped_base.specs.Lists.{is_among, is_same_text}
-use Rattle.ped_loops.proofs.NamedConstants.{constant_there}
 use Rattle.ped_loops.proofs.ReversedNames.{among_both, head_uses, literal_unnamed, names_in, unnamed}
 use Rattle.ped_loops.proofs.SwappedKinds.{in_both, in_loop, occurs_in}
 use Rattle.ped_loops.specs.ped_scalar.specs.ped_rules.specs.ped_loop_runs.specs.ped_tidy.specs.ped_pasting.specs.ped_bodies.specs.ped_steps.proofs.RunLaws.ExpandedPlacesStand.{variable_scalar}
@@ -23,6 +22,7 @@ use Rattle.ped_tree.specs.Accesses.{constant_names}
 use Rattle.ped_tree.specs.Constants.ConstantExpressions.{constant_value}
 use Rattle.ped_tree.specs.Numbering.{statement_with}
 use Rattle.ped_tree.specs.Tree.{DeclTree, Do, ExprTree, Head, ProgramTree, StmtTree, StmtTrees, no_stmts}
+use Rattle.ped_loops.specs.ped_scalar.specs.ped_rules.specs.ped_loop_runs.proofs.LoopLaws.OneForOneNames.{constant_there}
 
 -- all that the declarations say is what stands behind their sites
 last_said : (t : ProgramTree) → said (at_last t) ≡ said (behind_sites at_first (flat_map decl_sites t.decls))

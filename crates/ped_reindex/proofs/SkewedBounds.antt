@@ -73,10 +73,7 @@ use Rattle.ped_loops.proofs.SettledBounds.{limits_there, split_numbers}
 use Rattle.ped_reindex.specs.Skewing.{is_bad_factor, offset, skewed_bound, unskewed, skewed_head, skew_leaves}
 use Rattle.ped_reindex.proofs.SkewedLoops.{HasLaterTrips, outer, outer_entered, store_at}
 use Rattle.ped_reindex.proofs.SkewedValues.{near_bound, bound_near, signed, offset_told, bound_comes, unskewed_told, same_count, same_shift}
-
-false_unless : (b : Bool) → (b ≡ true → ⊥) → b ≡ false
-false_unless true h = absurd (h refl)
-false_unless false h = refl
+use Rattle.ped_loops.specs.ped_scalar.specs.ped_rules.specs.ped_loop_runs.proofs.LoopLaws.OneForOneStands.{false_unless}
 
 -- what isn't None is there
 there_is : (o : Option Interval) → is_none o ≡ false → (r : Interval) × (o ≡ Some r)

@@ -54,17 +54,7 @@ use Rattle.ped_loops.specs.ped_scalar.specs.ped_rules.specs.OnlyLoops.{only_loop
 use Rattle.ped_loops.proofs.OnlyBodies.{pair, only_counted, only_tells}
 use Rattle.ped_reindex.proofs.SkewedActs.{AreKept, act_itself, acts_themselves, kept_stripped}
 use Rattle.ped_reindex.proofs.SkewedLoops.{HasLaterTrips, outer, outer_entered, store_at, old_rest, new_rest, rests_kept, new_replays}
-
-false_unless : (b : Bool) → (b ≡ true → ⊥) → b ≡ false
-false_unless true h = absurd (h refl)
-false_unless false h = refl
-
-not_so : (b : Bool) → not b ≡ true → b ≡ false
-not_so true h = absurd cc
-not_so false h = refl
-
-both : {a b : Bool} → a ≡ true → b ≡ false → a && not b ≡ true
-both e f = λ i. e i && not (f i)
+use Rattle.ped_loops.specs.ped_scalar.specs.ped_rules.specs.ped_loop_runs.proofs.LoopLaws.OneForOneStands.{false_unless, not_so, both}
 
 -- nothing is read where no cell counts
 manner_unread : (m : Manner) (c : Cell) → IsNoReadOf nothing m c

@@ -86,15 +86,15 @@ run_alone p x n scope s = go (run p x n scope s).acts (run p x n scope s).ending
     go acts (stopped u) = refl
     go acts (failed fault statement) = refl
 
-false_unless : (b : Bool) → (b ≡ true → ⊥) → b ≡ false
+pub false_unless : (b : Bool) → (b ≡ true → ⊥) → b ≡ false
 false_unless true h = absurd (h refl)
 false_unless false h = refl
 
-not_so : (b : Bool) → not b ≡ true → b ≡ false
+pub not_so : (b : Bool) → not b ≡ true → b ≡ false
 not_so true h = absurd cc
 not_so false h = refl
 
-both : {a b : Bool} → a ≡ true → b ≡ false → a && not b ≡ true
+pub both : {a b : Bool} → a ≡ true → b ≡ false → a && not b ≡ true
 both e f = λ i. e i && not (f i)
 
 in_flat : {X Y : Type 0} (g : X → List Y) (xs : List X) (y : Y) → IsIn y (flat_map g xs) → (x : X) × IsIn x xs × IsIn y (g x)

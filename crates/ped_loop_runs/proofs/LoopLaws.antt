@@ -19,6 +19,7 @@ pub mod OneForOneRaces
 pub mod RacesInOrder
 pub mod ApartTurns
 pub mod ChangedPairs
+pub mod OldRaces
 pub mod RacesReversed
 pub mod OneForOne
 pub mod Examples

@@ -1,19 +1,15 @@
 -- New acts in the place of executions make no race, where their accesses come from those of the executions. The new program is run under numbers of which the old one may have none: so are the iterations that a step gives other numbers.
-use Rattle.ped_loops.proofs.ApartTurns.{apart_first, apart_inside, apart_split, apart_within, at_of, front_apart, iterations_append, none_within, or_turned, same_fronts, turns_long}
+use Rattle.ped_loops.proofs.ApartTurns.{apart_inside, apart_split, apart_within, front_apart, iterations_append, same_fronts, turns_long}
 use Rattle.ped_loops.proofs.ExchangedRaces.{RaceBefore}
 use Rattle.ped_loops.specs.ped_scalar.specs.ped_rules.specs.ped_loop_runs.proofs.LoopLaws.ChangedPairs.{Change, Give, in_acts, pairs_give}
-use Rattle.ped_loops.specs.ped_scalar.specs.ped_rules.specs.ped_loop_runs.proofs.LoopLaws.RacesByReferences.{act_good}
 use Rattle.ped_loops.specs.ped_scalar.specs.ped_rules.specs.ped_loop_runs.specs.ped_tidy.specs.ped_pasting.specs.Executions.{IsExecuted, LeaveCopies, StandsInside}
 use Rattle.ped_loops.specs.ped_scalar.specs.ped_rules.specs.ped_loop_runs.specs.ped_tidy.specs.ped_pasting.specs.Pasting.{AreExchanged, IsExchanged}
-use Rattle.ped_loops.specs.ped_scalar.specs.ped_rules.specs.ped_loop_runs.specs.ped_tidy.specs.ped_pasting.specs.ped_bodies.specs.ped_steps.proofs.RunLaws.ExpandedRacesOrigins.{touch_of}
 use Rattle.ped_loops.specs.ped_scalar.specs.ped_rules.specs.ped_loop_runs.specs.ped_tidy.specs.ped_pasting.specs.ped_bodies.specs.ped_steps.proofs.RunLaws.PrivatisedRacesOrigins.{accesses_from}
 use Rattle.ped_loops.specs.ped_scalar.specs.ped_rules.specs.ped_loop_runs.specs.ped_tidy.specs.ped_pasting.specs.ped_bodies.specs.ped_steps.specs.Runs.Renumbering.{IsToldBack, renumbered}
 use Rattle.ped_loops.specs.ped_scalar.specs.ped_rules.specs.ped_loop_runs.specs.ped_tidy.specs.ped_pasting.specs.ped_bodies.specs.ped_steps.specs.ped_flow.specs.PlainBounds.{nest_round}
 use Rattle.ped_loops.specs.ped_scalar.specs.ped_rules.specs.ped_loop_runs.specs.ped_tidy.specs.ped_pasting.specs.ped_bodies.specs.ped_steps.specs.ped_laws.proofs.ActLaws.Conflicting.{access_place}
-use Rattle.ped_loops.specs.ped_scalar.specs.ped_rules.specs.ped_loop_runs.specs.ped_tidy.specs.ped_pasting.specs.ped_bodies.specs.ped_steps.specs.ped_laws.proofs.ActLaws.Lists.{first_in, in_right, second_in}
-use Rattle.ped_loops.specs.ped_scalar.specs.ped_rules.specs.ped_loop_runs.specs.ped_tidy.specs.ped_pasting.specs.ped_bodies.specs.ped_steps.specs.ped_laws.proofs.ActLaws.RaceFree.{apart_flip}
-use Rattle.ped_loops.specs.ped_scalar.specs.ped_rules.specs.ped_loop_runs.specs.ped_tidy.specs.ped_pasting.specs.ped_bodies.specs.ped_steps.specs.ped_laws.proofs.ActLaws.SameCells.{cell_is, is_cell}
-use Rattle.ped_loops.specs.ped_scalar.specs.ped_rules.specs.ped_loop_runs.specs.ped_tidy.specs.ped_pasting.specs.ped_bodies.specs.ped_steps.specs.ped_laws.proofs.RunLaws.Placing.{kinds_of_run}
+use Rattle.ped_loops.specs.ped_scalar.specs.ped_rules.specs.ped_loop_runs.specs.ped_tidy.specs.ped_pasting.specs.ped_bodies.specs.ped_steps.specs.ped_laws.proofs.ActLaws.Lists.{first_in, second_in}
+use Rattle.ped_loops.specs.ped_scalar.specs.ped_rules.specs.ped_loop_runs.specs.ped_tidy.specs.ped_pasting.specs.ped_bodies.specs.ped_steps.specs.ped_laws.proofs.ActLaws.SameCells.{cell_is}
 use Rattle.ped_loops.specs.ped_scalar.specs.ped_rules.specs.ped_loop_runs.specs.ped_tidy.specs.ped_pasting.specs.ped_bodies.specs.ped_steps.specs.ped_laws.proofs.RunLaws.Turning.{At}
 use Rattle.ped_loops.specs.ped_scalar.specs.ped_rules.specs.ped_loop_runs.specs.ped_tidy.specs.ped_pasting.specs.ped_bodies.specs.ped_steps.specs.ped_laws.specs.Acts.Orders.{IsIn, StandsBefore}
 use Rattle.ped_loops.specs.ped_scalar.specs.ped_rules.specs.ped_loop_runs.specs.ped_tidy.specs.ped_pasting.specs.ped_bodies.specs.ped_steps.specs.ped_laws.specs.Acts.Pieces.{Part, new_parts, old_parts, same}
@@ -32,9 +28,11 @@ use Rattle.ped_reindex.proofs.PeelFar.{turns_below}
 use Rattle.ped_reindex.proofs.RenumberedRaces.{references_renumbered}
 use Rattle.ped_tree.specs.Numbering.{statements_count}
 use Rattle.ped_tree.specs.Tree.{ProgramTree, StmtTrees}
-use Rattle.std.proofs.Common.{List, [], ap, append-nil, arith, inl, inr, length, refl, subst, sym, true, ℕ, ◌&&◌, ◌++◌, ◌<◌, ◌||◌, ◌∙◌, ◌∷◌, ◌≡◌, ◌⊎◌}
+use Rattle.std.proofs.Common.{List, [], ap, append-nil, arith, inl, inr, length, subst, sym, true, ℕ, ◌++◌, ◌<◌, ◌||◌, ◌∙◌, ◌∷◌, ◌≡◌, ◌⊎◌}
 use Rattle.std.proofs.lemmas.Bool.{and_parts}
 use Rattle.std.specs.Str.Lines.{lines}
+use Rattle.ped_loops.specs.ped_scalar.specs.ped_rules.specs.ped_loop_runs.proofs.LoopLaws.OldRaces.{acts_outside, round_apart}
+use Rattle.ped_loops.specs.ped_scalar.specs.ped_rules.specs.ped_loop_runs.proofs.LoopLaws.OldRaces as origins
 
 -- an access in the place of an execution comes from one in an iteration of the DO, in the same cell, or in a copy that belongs to an iteration of the DO, or to one that the old program doesn't have
 pub record ComesInside (t : ProgramTree) (l : ℕ) (scope : Scope) (olds : List Act) (b : Access) : Type 0 where
@@ -74,44 +72,16 @@ module _ (t u : ProgramTree) (f g : ℕ → ℕ) (told : IsToldBack f g) (new_va
   abbrev count : ℕ
   count = statements_count old
 
-  -- an access reaches its cell from its place
-  reaches : (b : Access) → IsIn b (accesses news) → At b.place.turns b.cell
-  reaches b i =
-      let a = accesses_from news b i in
-      let v = touch_of a.0 a.0.touches b a.2 in
-      let at : At a.0.place.turns v.0.cell = at_of a.0.place.turns v.0.manner v.0.cell v.0.reference ((act_good (renumbered f (setting_of u)) u.body 1 [] start a.0 a.1).0 v.0 v.1) in
-      subst (λ (y : Access). At y.place.turns y.cell) (sym v.3) at
-
-  turned_apart : (b c : Access) → IsIn b (accesses olds) → IsIn c (accesses olds) → are_apart b.place.turns c.place.turns ≡ true → are_apart c.place.turns b.place.turns ≡ true
-  turned_apart b c i j apart =
-      let y = accesses_from olds b i in
-      let z = accesses_from olds c j in
-      let f = access_place y.0 b y.2 in
-      let g = access_place z.0 c z.2 in
-      (λ k. are_apart (g k).turns (f k).turns) ∙ apart_flip y.0.place.turns z.0.place.turns (kinds_of_run p t.body 1 start y.0 z.0 (λ m n e. e) y.1 z.1) ((λ k. are_apart (sym f k).turns (sym g k).turns) ∙ apart)
-
   -- two new accesses that race
-  record Race (b c : Access) : Type 0 where
-    one : IsIn b (accesses news)
-    other : IsIn c (accesses news)
-    apart : are_apart b.place.turns c.place.turns ≡ true
-    back : are_apart c.place.turns b.place.turns ≡ true
-    cells : b.cell ≡ c.cell
-    writing : b.writes || c.writes ≡ true
+  abbrev Race : Access → Access → Type 0
+  Race = origins.Race t (renumbered f (setting_of u)) u.body data_bytes
 
-  flipped : (b c : Access) → Race b c → Race c b
-  flipped b c r = record { one = r.other; other = r.one; apart = r.back; back = r.apart; cells = sym r.cells; writing = or_turned b.writes c.writes r.writing }
+  abbrev flipped : (b c : Access) → origins.Race t (renumbered f (setting_of u)) u.body data_bytes b c → origins.Race t (renumbered f (setting_of u)) u.body data_bytes c b
+  flipped = origins.flipped t (renumbered f (setting_of u)) u.body data_bytes
 
   -- two old ones that they come from race
-  somewhere : (y z : Access) → IsIn y (accesses olds) → IsIn z (accesses olds) → y.cell ≡ z.cell → y.writes || z.writes ≡ true → are_apart y.place.turns z.place.turns ≡ true → RaceSomewhere olds
-  somewhere y z i j cells writing apart = record {
-    one = y;
-    other = z;
-    one_in = i;
-    other_in = j;
-    apart = (apart, turned_apart y z i j apart);
-    conflicting = let alike = is_cell y.cell z.cell cells in λ k. alike k && writing k;
-  }
+  abbrev somewhere : (y z : Access) → IsIn y (accesses (run_of t data_bytes).acts) → IsIn z (accesses (run_of t data_bytes).acts) → y.cell ≡ z.cell → y.writes || z.writes ≡ true → are_apart y.place.turns z.place.turns ≡ true → RaceSomewhere (run_of t data_bytes).acts
+  somewhere = origins.somewhere t (renumbered f (setting_of u)) u.body data_bytes
 
   both_kept : (b c : Access) → Race b c → IsIn b (accesses olds) → IsIn c (accesses olds) → RaceSomewhere olds
   both_kept b c r i j = somewhere b c i j r.cells r.writing r.apart
@@ -149,44 +119,18 @@ module _ (t u : ProgramTree) (f g : ℕ → ℕ) (told : IsToldBack f g) (new_va
 
       -- what is done before or behind it stands outside
       apart_acts : (acts : List Act) → LeaveCopies p y.scope l count acts → (c : Access) → IsIn c (accesses acts) → Outside c.place.turns
-      apart_acts acts leave c i =
-          let a = accesses_from acts c i in
-          λ k. (leave a.0 a.1).1 (subst (λ (q : Place). StandsInside p y.scope l count q.turns) (access_place a.0 c a.2) k)
-
-      -- what stands in an iteration of the DO doesn't
-      inside : (c : Access) → Outside c.place.turns → (rs vs : List Turn) → c.place.turns ≡ rs ++ vs → iterations_of rs ≡ iterations_of round → (v : Turn) (more : List Turn) → vs ≡ v ∷ more → l ≡ v.statement → ⊥
-      inside c outside rs vs is alike v more first statement =
-          outside (record {
-            statement = l;
-            from = omega arith;
-            to = omega (arith, some);
-            number = v.number;
-            rest = iterations_of more;
-            is = ap iterations_of (is ∙ ap (λ (zs : List Turn). rs ++ zs) first) ∙ iterations_append rs (v ∷ more) ∙ (λ i. alike i ++ record { statement = sym statement i; number = v.number } ∷ iterations_of more);
-          })
+      apart_acts = acts_outside p y.scope l count
 
       -- an old access that stands outside is apart from the iterations round the DO
       apart_round : (b c : Access) → Race b c → IsIn c (accesses olds) → Outside c.place.turns → Inside b → are_apart round c.place.turns ≡ true
-      apart_round b c r i outside k = elim (apart_split round k.extra c.place.turns ((λ j. are_apart (sym k.place j) c.place.turns) ∙ r.apart)) [
-        | inl m ↦ m
-        | inr m ↦ absurd (by k.extra refl m.0 m.1 m.2 m.3 m.4)
-      ]
+      apart_round b c r i outside k =
+          round_apart t y.scope l count some b c r.apart outside k.extra k.place (λ v more e. elim (k.whose v more e) [ inl own ↦ inl own | inr above ↦ inr (λ w j alike. far w j (subst (λ (n : ℕ). statements_count t.body < n) alike above)) ])
         where
-          far : (v : Turn) (rs us : List Turn) → c.place.turns ≡ rs ++ v ∷ us → statements_count t.body < v.statement → ⊥
-          far v rs us is above =
+          far : (w : Turn) → IsIn w c.place.turns → statements_count t.body < w.statement → ⊥
+          far w j above =
               let found = accesses_from olds c i in
-              let turns = ap (λ (x : Place). x.turns) (access_place found.0 c found.2) in
-              let less = turns_below t start found.0 found.1 v (subst (λ (ts : List Turn). IsIn v ts) (sym is ∙ turns) (in_right v rs (v ∷ us) (inl refl))) in
+              let less = turns_below t start found.0 found.1 w (subst (λ (x : Place). IsIn w x.turns) (access_place found.0 c found.2) j) in
               omega (arith, less, above)
-
-          by : (zs : List Turn) → k.extra ≡ zs → (rs vs : List Turn) → c.place.turns ≡ rs ++ vs → iterations_of rs ≡ iterations_of round → are_apart k.extra vs ≡ true → ⊥
-          by [] e rs vs is alike differ = none_within vs (ap (λ (xs : List Turn). are_apart xs vs) (sym e) ∙ differ)
-          by (v ∷ more) e rs vs is alike differ =
-              let first = apart_first v more vs (ap (λ (xs : List Turn). are_apart xs vs) (sym e) ∙ differ) in
-              elim (k.whose v more e) [
-                | inl own ↦ inside c outside rs vs is alike first.0 first.1 first.2 (sym own ∙ first.3)
-                | inr above ↦ far first.0 rs first.1 (is ∙ ap (λ (xs : List Turn). rs ++ xs) first.2) (subst (λ (n : ℕ). statements_count t.body < n) first.3 above)
-              ]
 
       module _ (b : Access) (k : Inside b) where
         found : IsIn k.origin (accesses olds)
@@ -194,7 +138,7 @@ module _ (t u : ProgramTree) (f g : ℕ → ℕ) (told : IsToldBack f g) (new_va
 
         -- the cell has its name, where the other access is apart from the iterations round the DO
         named : (c : Access) → Race b c → are_apart round c.place.turns ≡ true → k.origin.cell ≡ b.cell
-        named c r apart = elim k.cell [ inl kept ↦ kept | inr gone ↦ absurd (front_apart round c.place.turns (gone.1 ∷ gone.2) (subst (λ (z : Cell). At c.place.turns z) (sym r.cells ∙ gone.3) (reaches c r.other)) apart) ]
+        named c r apart = elim k.cell [ inl kept ↦ kept | inr gone ↦ absurd (front_apart round c.place.turns (gone.1 ∷ gone.2) (subst (λ (z : Cell). At c.place.turns z) (sym r.cells ∙ gone.3) (origins.reaches t (renumbered f (setting_of u)) u.body data_bytes c r.other)) apart) ]
 
         -- one that comes from inside, and one that stays as it was
         inside_kept : (c : Access) → Race b c → IsIn c (accesses olds) → Outside c.place.turns → RaceSomewhere olds

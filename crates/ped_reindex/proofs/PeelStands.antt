@@ -3,7 +3,7 @@ use Rattle.ped_base.specs.Lists.{is_among, is_same_text}
 use Rattle.ped_loops.proofs.ApartTurns.{number_itself}
 use Rattle.ped_loops.specs.ped_scalar.specs.ped_rules.specs.ped_loop_runs.proofs.LoopLaws.OneForOneCells.{all_unread, among_of_scalar, cell_among, likewise_idle, touched_in}
 use Rattle.ped_loops.specs.ped_scalar.specs.ped_rules.specs.ped_loop_runs.proofs.LoopLaws.OneForOneNames.{variables_unnamed}
-use Rattle.ped_loops.specs.ped_scalar.specs.ped_rules.specs.ped_loop_runs.proofs.LoopLaws.OneForOneStands.{run_alone, false_unless, not_so, both}
+use Rattle.ped_loops.specs.ped_scalar.specs.ped_rules.specs.ped_loop_runs.proofs.LoopLaws.OneForOneStands.{run_alone, false_unless, not_so, both, in_flat, in_range}
 use Rattle.ped_loops.specs.ped_scalar.specs.ped_rules.specs.ped_loop_runs.specs.ped_tidy.proofs.TidyPathsGaps.{followed_count}
 use Rattle.ped_loops.specs.ped_scalar.specs.ped_rules.specs.ped_loop_runs.specs.ped_tidy.specs.ped_pasting.proofs.PastingLaws.LeftCopies.{IsOwn, all_reach, run_reaches}
 use Rattle.ped_loops.specs.ped_scalar.specs.ped_rules.specs.ped_loop_runs.specs.ped_tidy.specs.ped_pasting.proofs.PastingLaws.PastedLoops.{run_followed}
@@ -62,7 +62,7 @@ use Rattle.ped_loops.specs.ped_scalar.specs.ped_rules.specs.ped_loop_runs.specs.
 use Rattle.ped_reindex.proofs.PeelCells.{IsFarCopy, IsOfIt, IsReached, body_reached, deep_names, names_differ, of_it_inside, own_numbers, stays_or_moves}
 use Rattle.ped_reindex.proofs.PeelFar.{far_unwanted}
 use Rattle.ped_reindex.proofs.PeelNumbers.{copied, copy_at, loop_at}
-use Rattle.ped_reindex.proofs.PeelQuiet.{AreQuiet, block_of_row, control_of_row, either_acts, end_quiet, entry_quiet, exit_quiet, in_flat, in_range, new_trip, no_block, no_control, one_longer, put_together, quiet_touches, quiet_within, rows_same, same_controls, shifted}
+use Rattle.ped_reindex.proofs.PeelQuiet.{AreQuiet, block_of_row, control_of_row, either_acts, end_quiet, entry_quiet, exit_quiet, new_trip, no_block, no_control, one_longer, put_together, quiet_touches, quiet_within, rows_same, same_controls, shifted}
 use Rattle.ped_reindex.proofs.PeelRuns.{IsPeeledRun, copy_of, number_differs, old_trip, peel_names, which, which_within}
 use Rattle.ped_reindex.proofs.PeelTrusted.{left_head, left_parallel, left_private, left_variable}
 use Rattle.ped_reindex.specs.Peeling.{Peeled, with_peeled}

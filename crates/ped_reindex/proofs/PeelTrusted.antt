@@ -39,6 +39,12 @@ use Rattle.ped_loops.specs.ped_scalar.proofs.TidyPathsSubstituted.{stops_kept}
 use Rattle.ped_loops.specs.ped_scalar.proofs.UnrejectedSteps.{rejections_kept}
 use Rattle.ped_loops.specs.ped_scalar.specs.ped_rules.specs.ped_loop_runs.specs.ped_tidy.proofs.WrittenIndices.{followed_index}
 
+pub again : (a b : Bool) → a || (b || a) ≡ b || a
+again true true = refl
+again true false = refl
+again false true = refl
+again false false = refl
+
 -- the head of the DO that is left
 abbrev pub left_head : (last : Bool) → ℤ → Head → Head
 left_head false bound h = record h { first = literal bound }
@@ -141,12 +147,6 @@ module _ (t : ProgramTree) (valid : IsValid t) (s : ℕ) (loop : LoopOf t s) (la
 
   in_body : (w : List ℕ) → is_among w (all_loop_variables copy) ≡ is_among w (all_loop_variables body)
   in_body w = ap (is_among w) (all_variables_stay d.variable (literal p.value) body)
-
-  again : (a b : Bool) → a || (b || a) ≡ b || a
-  again true true = refl
-  again true false = refl
-  again false true = refl
-  again false false = refl
 
   pub same_variables : (w : List ℕ) → is_among w (all_loop_variables new) ≡ is_among w (loop_variables (Do d body))
   same_variables w =

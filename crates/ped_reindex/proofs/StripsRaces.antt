@@ -1,28 +1,23 @@
 -- New acts in the place of executions make no race, where names come into PARALLEL DO loops round them and the new program is run under the numbers of the old one: their accesses come from those of the executions, or read scalars that keep their values.
-use Rattle.std.proofs.Common.{Bool, List, [], ap, append-nil, arith, false, inl, inr, length, length-append, refl, subst, sym, true, ℕ, ◌&&◌, ◌++◌, ◌<◌, ◌||◌, ◌∙◌, ◌∷◌, ◌≡◌, ◌⊎◌}
+use Rattle.std.proofs.Common.{Bool, List, [], ap, append-nil, arith, false, inl, inr, length, length-append, refl, subst, sym, true, ℕ, ◌++◌, ◌<◌, ◌||◌, ◌∙◌, ◌∷◌, ◌≡◌, ◌⊎◌}
 use Rattle.std.proofs.lemmas.Bool.{and_parts}
 use Rattle.std.specs.Str.Lines.{lines}
-use Rattle.ped_loops.proofs.ApartTurns.{apart_first, apart_inside, apart_split, apart_within, at_of, front_apart, iterations_append, none_within, or_turned, same_fronts, turns_long}
-use Rattle.ped_loops.proofs.ExchangedRaces.{RaceBefore, ReadsFixed, only_second}
-use Rattle.ped_loops.proofs.FixedWrites.{fixed_unwritten_there}
+use Rattle.ped_loops.proofs.ApartTurns.{apart_inside, apart_within, front_apart, iterations_append, or_turned, same_fronts, turns_long}
+use Rattle.ped_loops.proofs.ExchangedRaces.{RaceBefore, ReadsFixed, only_second, read_unwritten}
 use Rattle.ped_loops.proofs.OnlyBodies.{never}
 use Rattle.ped_loops.specs.ped_scalar.specs.ped_rules.specs.ped_loop_runs.proofs.LoopLaws.ChangedPairs.{AreSuccessive, Change, Give, in_acts, pairs_give}
 use Rattle.ped_loops.specs.ped_scalar.specs.ped_rules.specs.ped_loop_runs.proofs.LoopLaws.OneForOneCells.{IsOfLoop}
-use Rattle.ped_loops.specs.ped_scalar.specs.ped_rules.specs.ped_loop_runs.proofs.LoopLaws.RacesByReferences.{act_good}
 use Rattle.ped_loops.specs.ped_scalar.specs.ped_rules.specs.ped_loop_runs.specs.Bounds.{IsOfFixed}
 use Rattle.ped_loops.specs.ped_scalar.specs.ped_rules.specs.ped_loop_runs.specs.ped_tidy.specs.ped_pasting.proofs.PastingLaws.PastedRuns.{exchanged}
 use Rattle.ped_loops.specs.ped_scalar.specs.ped_rules.specs.ped_loop_runs.specs.ped_tidy.specs.ped_pasting.specs.Executions.{IsExecuted, LeaveCopies, StandsInside}
 use Rattle.ped_loops.specs.ped_scalar.specs.ped_rules.specs.ped_loop_runs.specs.ped_tidy.specs.ped_pasting.specs.OtherCopies.{AreExchangedNear, AreNear, IsExchangedNear, IsOtherExit}
 use Rattle.ped_loops.specs.ped_scalar.specs.ped_rules.specs.ped_loop_runs.specs.ped_tidy.specs.ped_pasting.specs.ped_bodies.specs.ped_steps.proofs.RunLaws.ExpandedRacesOrigins.{touch_of, write_there}
 use Rattle.ped_loops.specs.ped_scalar.specs.ped_rules.specs.ped_loop_runs.specs.ped_tidy.specs.ped_pasting.specs.ped_bodies.specs.ped_steps.proofs.RunLaws.PrivatisedRacesOrigins.{accesses_from}
-use Rattle.ped_loops.specs.ped_scalar.specs.ped_rules.specs.ped_loop_runs.specs.ped_tidy.specs.ped_pasting.specs.ped_bodies.specs.ped_steps.specs.Runs.Pasting.{AreTurnsOf}
 use Rattle.ped_loops.specs.ped_scalar.specs.ped_rules.specs.ped_loop_runs.specs.ped_tidy.specs.ped_pasting.specs.ped_bodies.specs.ped_steps.specs.Runs.Renumbering.{IsToldBack, renumbered}
-use Rattle.ped_loops.specs.ped_scalar.specs.ped_rules.specs.ped_loop_runs.specs.ped_tidy.specs.ped_pasting.specs.ped_bodies.specs.ped_steps.specs.ped_flow.specs.PlainBounds.{nest_round, outermost_or}
-use Rattle.ped_loops.specs.ped_scalar.specs.ped_rules.specs.ped_loop_runs.specs.ped_tidy.specs.ped_pasting.specs.ped_bodies.specs.ped_steps.specs.ped_laws.proofs.ActLaws.Conflicting.{access_by, access_in, access_place, accesses_in}
+use Rattle.ped_loops.specs.ped_scalar.specs.ped_rules.specs.ped_loop_runs.specs.ped_tidy.specs.ped_pasting.specs.ped_bodies.specs.ped_steps.specs.ped_flow.specs.PlainBounds.{nest_round}
+use Rattle.ped_loops.specs.ped_scalar.specs.ped_rules.specs.ped_loop_runs.specs.ped_tidy.specs.ped_pasting.specs.ped_bodies.specs.ped_steps.specs.ped_laws.proofs.ActLaws.Conflicting.{access_by, access_in, accesses_in}
 use Rattle.ped_loops.specs.ped_scalar.specs.ped_rules.specs.ped_loop_runs.specs.ped_tidy.specs.ped_pasting.specs.ped_bodies.specs.ped_steps.specs.ped_laws.proofs.ActLaws.Lists.{first_in, in_left, in_parts, second_in}
-use Rattle.ped_loops.specs.ped_scalar.specs.ped_rules.specs.ped_loop_runs.specs.ped_tidy.specs.ped_pasting.specs.ped_bodies.specs.ped_steps.specs.ped_laws.proofs.ActLaws.RaceFree.{apart_flip}
-use Rattle.ped_loops.specs.ped_scalar.specs.ped_rules.specs.ped_loop_runs.specs.ped_tidy.specs.ped_pasting.specs.ped_bodies.specs.ped_steps.specs.ped_laws.proofs.ActLaws.SameCells.{cell_is, is_cell}
-use Rattle.ped_loops.specs.ped_scalar.specs.ped_rules.specs.ped_loop_runs.specs.ped_tidy.specs.ped_pasting.specs.ped_bodies.specs.ped_steps.specs.ped_laws.proofs.RunLaws.Placing.{kinds_of_run}
+use Rattle.ped_loops.specs.ped_scalar.specs.ped_rules.specs.ped_loop_runs.specs.ped_tidy.specs.ped_pasting.specs.ped_bodies.specs.ped_steps.specs.ped_laws.proofs.ActLaws.SameCells.{cell_is}
 use Rattle.ped_loops.specs.ped_scalar.specs.ped_rules.specs.ped_loop_runs.specs.ped_tidy.specs.ped_pasting.specs.ped_bodies.specs.ped_steps.specs.ped_laws.proofs.RunLaws.Turning.{At}
 use Rattle.ped_loops.specs.ped_scalar.specs.ped_rules.specs.ped_loop_runs.specs.ped_tidy.specs.ped_pasting.specs.ped_bodies.specs.ped_steps.specs.ped_laws.specs.Acts.Orders.{IsIn, StandsBefore}
 use Rattle.ped_loops.specs.ped_scalar.specs.ped_rules.specs.ped_loop_runs.specs.ped_tidy.specs.ped_pasting.specs.ped_bodies.specs.ped_steps.specs.ped_laws.specs.Acts.Pieces.{Part, changed, new_parts, old_parts, same}
@@ -32,7 +27,7 @@ use Rattle.ped_loops.specs.ped_scalar.specs.ped_rules.specs.ped_loop_runs.specs.
 use Rattle.ped_loops.specs.ped_scalar.specs.ped_rules.specs.ped_loop_runs.specs.ped_tidy.specs.ped_pasting.specs.ped_bodies.specs.ped_steps.specs.ped_laws.specs.ped_eval.specs.Outcomes.{run_of, setting_of}
 use Rattle.ped_loops.specs.ped_scalar.specs.ped_rules.specs.ped_loop_runs.specs.ped_tidy.specs.ped_pasting.specs.ped_bodies.specs.ped_steps.specs.ped_laws.specs.ped_eval.specs.Runs.{Run, run_all}
 use Rattle.ped_loops.specs.ped_scalar.specs.ped_rules.specs.ped_loop_runs.specs.ped_tidy.specs.ped_pasting.specs.ped_bodies.specs.ped_steps.specs.ped_laws.specs.ped_eval.specs.Scopes.{Scope, Setting, place_of, turns_of}
-use Rattle.ped_loops.specs.ped_scalar.specs.ped_rules.specs.ped_loop_runs.specs.ped_tidy.specs.ped_pasting.specs.ped_bodies.specs.ped_steps.specs.ped_laws.specs.ped_store.specs.Acts.{Act, Place, Touch, Turn, iterations_of}
+use Rattle.ped_loops.specs.ped_scalar.specs.ped_rules.specs.ped_loop_runs.specs.ped_tidy.specs.ped_pasting.specs.ped_bodies.specs.ped_steps.specs.ped_laws.specs.ped_store.specs.Acts.{Act, Touch, Turn, iterations_of}
 use Rattle.ped_loops.specs.ped_scalar.specs.ped_rules.specs.ped_loop_runs.specs.ped_tidy.specs.ped_pasting.specs.ped_bodies.specs.ped_steps.specs.ped_laws.specs.ped_store.specs.Cells.{Cell, Iteration, Private, Scalar, same_cell}
 use Rattle.ped_loops.specs.ped_scalar.specs.ped_rules.specs.ped_loop_runs.specs.ped_tidy.specs.ped_pasting.specs.ped_bodies.specs.ped_steps.specs.ped_laws.specs.ped_store.specs.Races.{Access, HasNoRace, accesses, accesses_of, are_apart, is_write, race}
 use Rattle.ped_loops.specs.ped_scalar.specs.ped_rules.specs.ped_loop_runs.specs.ped_tidy.specs.ped_pasting.specs.ped_bodies.specs.ped_steps.specs.ped_laws.specs.ped_store.specs.Stores.{Store, store_at_start}
@@ -40,9 +35,10 @@ use Rattle.ped_loops.specs.ped_scalar.specs.ped_rules.specs.ped_loop_runs.specs.
 use Rattle.ped_loops.specs.ped_scalar.specs.ped_rules.specs.ped_loop_runs.specs.ped_tidy.specs.ped_pasting.specs.ped_bodies.specs.ped_steps.specs.ped_weaves.proofs.WeaveLaws.RaceSources.{pairs_free}
 use Rattle.ped_loops.specs.ped_scalar.specs.ped_rules.specs.ped_loop_runs.specs.ped_tidy.specs.ped_pasting.specs.ped_bodies.specs.ped_steps.specs.ped_weaves.specs.Sources.{RaceSomewhere}
 use Rattle.ped_reindex.proofs.RenumberedRaces.{references_renumbered}
-use Rattle.ped_tree.specs.Nests.{Loop}
 use Rattle.ped_tree.specs.Numbering.{statements_count}
 use Rattle.ped_tree.specs.Tree.{ProgramTree, StmtTrees}
+use Rattle.ped_loops.specs.ped_scalar.specs.ped_rules.specs.ped_loop_runs.proofs.LoopLaws.OldRaces.{acts_outside, round_apart}
+use Rattle.ped_loops.specs.ped_scalar.specs.ped_rules.specs.ped_loop_runs.proofs.LoopLaws.OldRaces as origins
 
 -- an access in the place of an execution comes from one of it, in the same cell, or in a copy that belongs to an iteration of the DO there: both stand in the iterations round it, or both in one of the DO
 pub record ComesFrom (t : ProgramTree) (l : ℕ) (scope : Scope) (olds : List Act) (b : Access) : Type 0 where
@@ -128,44 +124,16 @@ module _ (t u : ProgramTree) (valid : IsValid t) (f g : ℕ → ℕ) (told : IsT
   abbrev count : ℕ
   count = statements_count old
 
-  -- an access reaches its cell from its place
-  reaches : (b : Access) → IsIn b (accesses news) → At b.place.turns b.cell
-  reaches b i =
-      let a = accesses_from news b i in
-      let v = touch_of a.0 a.0.touches b a.2 in
-      let at : At a.0.place.turns v.0.cell = at_of a.0.place.turns v.0.manner v.0.cell v.0.reference ((act_good (renumbered f (setting_of u)) u.body 1 [] start a.0 a.1).0 v.0 v.1) in
-      subst (λ (y : Access). At y.place.turns y.cell) (sym v.3) at
-
-  turned_apart : (b c : Access) → IsIn b (accesses olds) → IsIn c (accesses olds) → are_apart b.place.turns c.place.turns ≡ true → are_apart c.place.turns b.place.turns ≡ true
-  turned_apart b c i j apart =
-      let y = accesses_from olds b i in
-      let z = accesses_from olds c j in
-      let f = access_place y.0 b y.2 in
-      let g = access_place z.0 c z.2 in
-      (λ k. are_apart (g k).turns (f k).turns) ∙ apart_flip y.0.place.turns z.0.place.turns (kinds_of_run p t.body 1 start y.0 z.0 (λ m n e. e) y.1 z.1) ((λ k. are_apart (sym f k).turns (sym g k).turns) ∙ apart)
-
   -- two new accesses that race
-  record Race (b c : Access) : Type 0 where
-    one : IsIn b (accesses news)
-    other : IsIn c (accesses news)
-    apart : are_apart b.place.turns c.place.turns ≡ true
-    back : are_apart c.place.turns b.place.turns ≡ true
-    cells : b.cell ≡ c.cell
-    writing : b.writes || c.writes ≡ true
+  abbrev Race : Access → Access → Type 0
+  Race = origins.Race t (renumbered f (setting_of u)) u.body data_bytes
 
-  flipped : (b c : Access) → Race b c → Race c b
-  flipped b c r = record { one = r.other; other = r.one; apart = r.back; back = r.apart; cells = sym r.cells; writing = or_turned b.writes c.writes r.writing }
+  abbrev flipped : (b c : Access) → origins.Race t (renumbered f (setting_of u)) u.body data_bytes b c → origins.Race t (renumbered f (setting_of u)) u.body data_bytes c b
+  flipped = origins.flipped t (renumbered f (setting_of u)) u.body data_bytes
 
   -- two old ones that they come from race
-  somewhere : (y z : Access) → IsIn y (accesses olds) → IsIn z (accesses olds) → y.cell ≡ z.cell → y.writes || z.writes ≡ true → are_apart y.place.turns z.place.turns ≡ true → RaceSomewhere olds
-  somewhere y z i j cells writing apart = record {
-    one = y;
-    other = z;
-    one_in = i;
-    other_in = j;
-    apart = (apart, turned_apart y z i j apart);
-    conflicting = let alike = is_cell y.cell z.cell cells in λ k. alike k && writing k;
-  }
+  abbrev somewhere : (y z : Access) → IsIn y (accesses (run_of t data_bytes).acts) → IsIn z (accesses (run_of t data_bytes).acts) → y.cell ≡ z.cell → y.writes || z.writes ≡ true → are_apart y.place.turns z.place.turns ≡ true → RaceSomewhere (run_of t data_bytes).acts
+  somewhere = origins.somewhere t (renumbered f (setting_of u)) u.body data_bytes
 
   both_kept : (b c : Access) → Race b c → IsIn b (accesses olds) → IsIn c (accesses olds) → RaceSomewhere olds
   both_kept b c r i j = somewhere b c i j r.cells r.writing r.apart
@@ -208,48 +176,15 @@ module _ (t u : ProgramTree) (valid : IsValid t) (f g : ℕ → ℕ) (told : IsT
 
       -- what is done before or behind it stands outside
       apart_acts : (acts : List Act) → LeaveCopies p y.scope l count acts → (c : Access) → IsIn c (accesses acts) → Outside c.place.turns
-      apart_acts acts leave c i =
-          let a = accesses_from acts c i in
-          λ k. (leave a.0 a.1).1 (subst (λ (q : Place). StandsInside p y.scope l count q.turns) (access_place a.0 c a.2) k)
-
-      -- what stands in an iteration of the DO doesn't
-      inside : (c : Access) → Outside c.place.turns → (rs vs : List Turn) → c.place.turns ≡ rs ++ vs → iterations_of rs ≡ iterations_of round → (v : Turn) (more : List Turn) → vs ≡ v ∷ more → l ≡ v.statement → ⊥
-      inside c outside rs vs is alike v more first statement =
-          outside (record {
-            statement = l;
-            from = omega arith;
-            to = omega (arith, some);
-            number = v.number;
-            rest = iterations_of more;
-            is = ap iterations_of (is ∙ ap (λ (zs : List Turn). rs ++ zs) first) ∙ iterations_append rs (v ∷ more) ∙ (λ i. alike i ++ record { statement = sym statement i; number = v.number } ∷ iterations_of more);
-          })
+      apart_acts = acts_outside p y.scope l count
 
       -- an access that stands outside is apart from the iterations round the DO
       apart_round : (b c : Access) → Race b c → Outside c.place.turns → (extra : List Turn) → b.place.turns ≡ round ++ extra → ((v : Turn) (more : List Turn) → extra ≡ v ∷ more → v.statement ≡ l) → are_apart round c.place.turns ≡ true
-      apart_round b c r outside extra place whose = elim (apart_split round extra c.place.turns ((λ i. are_apart (sym place i) c.place.turns) ∙ r.apart)) [
-        | inl m ↦ m
-        | inr m ↦ absurd (by extra refl m.0 m.1 m.2 m.3 m.4)
-      ]
-        where
-          by : (zs : List Turn) → extra ≡ zs → (rs vs : List Turn) → c.place.turns ≡ rs ++ vs → iterations_of rs ≡ iterations_of round → are_apart extra vs ≡ true → ⊥
-          by [] e rs vs is alike differ = none_within vs (ap (λ (xs : List Turn). are_apart xs vs) (sym e) ∙ differ)
-          by (v ∷ more) e rs vs is alike differ =
-              let f = apart_first v more vs (ap (λ (xs : List Turn). are_apart xs vs) (sym e) ∙ differ) in
-              inside c outside rs vs is alike f.0 f.1 f.2 (sym (whose v more e) ∙ f.3)
+      apart_round b c r outside extra place whose = round_apart t y.scope l count some b c r.apart outside extra place (λ v more e. inl (whose v more e))
 
       -- such a scalar is written by nothing that stands outside and is apart from its read
       read_kept : (b c : Access) → Race b c → Reads b → IsIn c (accesses olds) → Outside c.place.turns → ⊥
-      read_kept b c r k i outside = by round (nest_round t l) y.executed.place.turns refl refl (apart_round b c r outside k.extra k.place k.whose)
-        where
-          write : c.writes ≡ true
-          write = only_second b.writes c.writes r.writing k.reading
-
-          by : (ts : List Turn) (ls : List Loop) → AreTurnsOf p.number ls ts → ts ≡ round → ls ≡ nest_round t l → are_apart ts c.place.turns ≡ true → ⊥
-          by [] ls of e f apart = none_within c.place.turns apart
-          by (a ∷ ts) [] of e f apart = absurd of
-          by (a ∷ ts) (m ∷ ls) of e f apart =
-              let first = apart_first a ts c.place.turns apart in
-              fixed_unwritten_there t valid l k.fixed.0 k.fixed.2 start c i first.0 first.1 first.2 (sym first.3 ∙ of.0 ∙ ap (outermost_or l) f) write (sym r.cells ∙ k.fixed.1)
+      read_kept b c r k i outside = read_unwritten t valid l data_bytes y.scope y.executed.place.turns b c k r.cells r.writing i (apart_round b c r outside k.extra k.place k.whose)
 
       module _ (b : Access) (k : Inside b) where
         found : IsIn k.origin (accesses olds)
@@ -263,7 +198,7 @@ module _ (t u : ProgramTree) (valid : IsValid t) (f g : ℕ → ℕ) (told : IsT
             apart = apart_round b c r outside k.extra k.place k.whose
 
             reached : IsOfLoop p y.scope l b.cell → ⊥
-            reached gone = front_apart round c.place.turns (record { statement = p.number l; number = gone.number } ∷ gone.rest) (subst (λ (z : Cell). At c.place.turns z) (sym r.cells ∙ gone.is) (reaches c r.other)) apart
+            reached gone = front_apart round c.place.turns (record { statement = p.number l; number = gone.number } ∷ gone.rest) (subst (λ (z : Cell). At c.place.turns z) (sym r.cells ∙ gone.is) (origins.reaches t (renumbered f (setting_of u)) u.body data_bytes c r.other)) apart
 
         -- one that comes from inside, and one that stays as it was
         inside_kept : (c : Access) → Race b c → IsIn c (accesses olds) → Outside c.place.turns → RaceSomewhere olds
@@ -343,7 +278,7 @@ module _ (t u : ProgramTree) (valid : IsValid t) (f g : ℕ → ℕ) (told : IsT
     Exit = IsOtherExit names apart_cells p t start l
 
     abbrev By : List Act → List Act → Store → List Act → List Act → Type 0
-    By front behind s first new = IsExchangedNear names apart_cells p t start l count piece fresh front behind s first new ⊎ IsOtherExit names apart_cells p t start l front behind s first new
+    By front behind s first new = Near front behind s first new ⊎ Exit front behind s first new
 
     abbrev IsNear : Change By olds news → Type 0
     IsNear y = Near y.front y.behind y.store y.old y.new

@@ -97,14 +97,14 @@ not_so false h = refl
 pub both : {a b : Bool} → a ≡ true → b ≡ false → a && not b ≡ true
 both e f = λ i. e i && not (f i)
 
-in_flat : {X Y : Type 0} (g : X → List Y) (xs : List X) (y : Y) → IsIn y (flat_map g xs) → (x : X) × IsIn x xs × IsIn y (g x)
+pub in_flat : {X Y : Type 0} (g : X → List Y) (xs : List X) (y : Y) → IsIn y (flat_map g xs) → (x : X) × IsIn x xs × IsIn y (g x)
 in_flat g [] y i = absurd i
 in_flat g (x ∷ xs) y i = elim (in_parts y (g x) (flat_map g xs) i) [
   | inl k ↦ (x, inl refl, k)
   | inr k ↦ let r = in_flat g xs y k in (r.0, inr r.1, r.2)
 ]
 
-in_range : (m a k : ℕ) → IsIn k (range_with_len a m) → (a ≤ k) × (k < a + m)
+pub in_range : (m a k : ℕ) → IsIn k (range_with_len a m) → (a ≤ k) × (k < a + m)
 in_range zero a k i = absurd i
 in_range (suc m) a k (inl e) = (omega (arith, e), omega (arith, e))
 in_range (suc m) a k (inr i) = let r = in_range m (a + 1) k i in (omega (arith, r.0), omega (arith, r.1))

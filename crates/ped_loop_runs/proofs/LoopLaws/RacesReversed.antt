@@ -210,7 +210,7 @@ module _ (t u : ProgramTree) (l : ℕ) (loop : LoopOf t l) (h : Head) (x : IsOne
           other = m.origin;
           one_in = found;
           other_in = found_there;
-          apart = (apart, turned_apart k.origin m.origin found found_there apart);
+          apart = (apart, origins.turned_apart t (setting_of u) u.body data_bytes k.origin m.origin found found_there apart);
           conflicting = let alike = is_cell k.origin.cell m.origin.cell origin_cells in let some : k.origin.writes || m.origin.writes ≡ true = (λ i. sym k.likewise.writes i || sym m.likewise.writes i) ∙ r.writing in λ i. alike i && some i;
         }
           where

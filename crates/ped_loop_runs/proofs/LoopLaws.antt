@@ -20,6 +20,7 @@ pub mod RacesInOrder
 pub mod ApartTurns
 pub mod ChangedPairs
 pub mod OldRaces
+pub mod UnwantedNames
 pub mod RacesReversed
 pub mod OneForOne
 pub mod Examples

@@ -2,6 +2,7 @@
 use Rattle.ped_base.proofs.NameEquality.{same_is}
 use Rattle.ped_base.specs.Arithmetic.Arithmetic.{difference_of, negation_of, power_of, product_of, quotient_of, sum_of}
 use Rattle.ped_base.specs.Lists.{is_among, is_same_text}
+use Rattle.ped_loops.specs.ped_scalar.specs.ped_rules.specs.ped_loop_runs.proofs.LoopLaws.OneForOneNames.{constant_there}
 use Rattle.ped_loops.specs.ped_scalar.specs.ped_rules.specs.Spans.{Values}
 use Rattle.ped_loops.specs.ped_scalar.specs.ped_rules.specs.ped_loop_runs.specs.ped_tidy.specs.ped_pasting.specs.ped_bodies.specs.ped_steps.proofs.RunLaws.ExpandedNamesSites.{stmt_at, stmts_at}
 use Rattle.ped_loops.specs.ped_scalar.specs.ped_rules.specs.ped_loop_runs.specs.ped_tidy.specs.ped_pasting.specs.ped_bodies.specs.ped_steps.proofs.RunLaws.ExpandedNamesSubstituted.{in_stmts}

@@ -2,6 +2,7 @@
 use Rattle.std.proofs.Common.{Bool, List, None, Some, [], ap, append-nil, false, if◌then◌else◌, map, pos, refl, subst, sym, true, ℕ, ℤ, ◌++◌, ◌||◌, ◌∙◌, ◌≡◌, ◌≤◌}
 use Rattle.std.specs.List.{flat_map}
 use Rattle.ped_base.specs.Lists.{is_among, is_same_text}
+use Rattle.ped_loops.specs.ped_scalar.specs.ped_rules.specs.ped_loop_runs.proofs.LoopLaws.OneForOneNames.{constant_there}
 use Rattle.ped_loops.proofs.ReversedNames.{among_both, head_uses, literal_unnamed, names_in, unnamed}
 use Rattle.ped_loops.proofs.SwappedKinds.{in_both, in_loop, occurs_in}
 use Rattle.ped_loops.specs.ped_scalar.specs.ped_rules.specs.ped_loop_runs.specs.ped_tidy.specs.ped_pasting.specs.ped_bodies.specs.ped_steps.proofs.RunLaws.ExpandedPlacesStand.{variable_scalar}

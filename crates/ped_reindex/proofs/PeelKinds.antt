@@ -29,7 +29,6 @@ use Rattle.ped_tree.specs.Numbering.{statement_with}
 use Rattle.ped_tree.specs.Tree.{Add, Call, Div, Do, Element, ExprTree, ExprTrees, Head, Int, Mul, Neg, Pow, ProgramTree, StmtTree, StmtTrees, Sub, Var, more_exprs, more_stmts, no_exprs, no_stmts}
 use Rattle.std.proofs.Common.{Bool, List, None, Some, ap, false, if◌then◌else◌, refl, subst, sym, true, unsigned_abs, ℕ, ℤ, ◌++◌, ◌||◌, ◌∙◌, ◌∷◌, ◌≡◌}
 use Rattle.std.specs.Int.{is_negative}
-use Rattle.ped_loops.specs.ped_scalar.specs.ped_rules.specs.ped_loop_runs.proofs.LoopLaws.OneForOneNames.{constant_there}
 
 none_in_both : (y : List ℕ) (xs ys : List (List ℕ)) → is_among y xs ≡ false → is_among y ys ≡ false → is_among y (xs ++ ys) ≡ false
 none_in_both y xs ys p q = among_append y xs ys ∙ (λ i. p i || q i)

@@ -23,7 +23,6 @@ use Rattle.ped_tree.specs.Accesses.{constant_names}
 use Rattle.ped_tree.specs.Constants.ConstantExpressions.{constant_value}
 use Rattle.ped_tree.specs.Numbering.{statement_with}
 use Rattle.ped_tree.specs.Tree.{DeclTree, Do, ExprTree, Head, ProgramTree, StmtTree, StmtTrees, no_stmts}
-use Rattle.ped_loops.specs.ped_scalar.specs.ped_rules.specs.ped_loop_runs.proofs.LoopLaws.OneForOneNames.{constant_there}
 
 -- all that the declarations say is what stands behind their sites
 last_said : (t : ProgramTree) → said (at_last t) ≡ said (behind_sites at_first (flat_map decl_sites t.decls))

@@ -1,13 +1,13 @@
 -- New acts in the place of executions make no race, where their accesses come from those of the executions, or read scalars that keep their values.
-use Rattle.std.proofs.Common.{Bool, List, [], ap, append-nil, arith, false, inl, inr, length, refl, subst, sym, true, ℕ, ◌&&◌, ◌++◌, ◌<◌, ◌||◌, ◌∙◌, ◌∷◌, ◌≡◌, ◌⊎◌}
+use Rattle.std.proofs.Common.{Bool, List, [], ap, append-nil, arith, false, inl, inr, length, refl, subst, sym, true, ℕ, ◌++◌, ◌<◌, ◌||◌, ◌∙◌, ◌∷◌, ◌≡◌, ◌⊎◌}
 use Rattle.std.proofs.lemmas.Bool.{and_parts}
 use Rattle.std.specs.Str.Lines.{lines}
-use Rattle.ped_loops.proofs.ApartTurns.{apart_first, apart_inside, apart_split, apart_within, at_of, front_apart, iterations_append, none_within, or_turned, same_fronts, turns_long}
+use Rattle.ped_loops.proofs.ApartTurns.{apart_first, apart_inside, apart_within, front_apart, iterations_append, none_within, or_turned, same_fronts, turns_long}
 use Rattle.ped_loops.proofs.FixedWrites.{fixed_unwritten_there}
 use Rattle.ped_loops.proofs.OnlyBodies.{never}
 use Rattle.ped_scalar.specs.ped_rules.specs.ped_loop_runs.proofs.LoopLaws.ChangedPairs.{Change, Give, in_acts, pairs_give}
 use Rattle.ped_scalar.specs.ped_rules.specs.ped_loop_runs.proofs.LoopLaws.OneForOneCells.{IsOfLoop}
-use Rattle.ped_scalar.specs.ped_rules.specs.ped_loop_runs.proofs.LoopLaws.RacesByReferences.{act_good, by_references}
+use Rattle.ped_scalar.specs.ped_rules.specs.ped_loop_runs.proofs.LoopLaws.RacesByReferences.{by_references}
 use Rattle.ped_scalar.specs.ped_rules.specs.ped_loop_runs.specs.Bounds.{IsOfFixed}
 use Rattle.ped_scalar.specs.ped_rules.specs.ped_loop_runs.specs.ped_tidy.specs.ped_pasting.proofs.PastingLaws.PastedRuns.{exchanged}
 use Rattle.ped_scalar.specs.ped_rules.specs.ped_loop_runs.specs.ped_tidy.specs.ped_pasting.specs.Executions.{IsExecuted, LeaveCopies, StandsInside}
@@ -16,11 +16,8 @@ use Rattle.ped_scalar.specs.ped_rules.specs.ped_loop_runs.specs.ped_tidy.specs.p
 use Rattle.ped_scalar.specs.ped_rules.specs.ped_loop_runs.specs.ped_tidy.specs.ped_pasting.specs.ped_bodies.specs.ped_steps.proofs.RunLaws.PrivatisedRacesOrigins.{accesses_from}
 use Rattle.ped_scalar.specs.ped_rules.specs.ped_loop_runs.specs.ped_tidy.specs.ped_pasting.specs.ped_bodies.specs.ped_steps.specs.Runs.Pasting.{AreTurnsOf}
 use Rattle.ped_scalar.specs.ped_rules.specs.ped_loop_runs.specs.ped_tidy.specs.ped_pasting.specs.ped_bodies.specs.ped_steps.specs.ped_flow.specs.PlainBounds.{nest_round, outermost_or}
-use Rattle.ped_scalar.specs.ped_rules.specs.ped_loop_runs.specs.ped_tidy.specs.ped_pasting.specs.ped_bodies.specs.ped_steps.specs.ped_laws.proofs.ActLaws.Conflicting.{access_place}
 use Rattle.ped_scalar.specs.ped_rules.specs.ped_loop_runs.specs.ped_tidy.specs.ped_pasting.specs.ped_bodies.specs.ped_steps.specs.ped_laws.proofs.ActLaws.Lists.{first_in, second_in}
-use Rattle.ped_scalar.specs.ped_rules.specs.ped_loop_runs.specs.ped_tidy.specs.ped_pasting.specs.ped_bodies.specs.ped_steps.specs.ped_laws.proofs.ActLaws.RaceFree.{apart_flip}
-use Rattle.ped_scalar.specs.ped_rules.specs.ped_loop_runs.specs.ped_tidy.specs.ped_pasting.specs.ped_bodies.specs.ped_steps.specs.ped_laws.proofs.ActLaws.SameCells.{cell_is, is_cell}
-use Rattle.ped_scalar.specs.ped_rules.specs.ped_loop_runs.specs.ped_tidy.specs.ped_pasting.specs.ped_bodies.specs.ped_steps.specs.ped_laws.proofs.RunLaws.Placing.{kinds_of_run}
+use Rattle.ped_scalar.specs.ped_rules.specs.ped_loop_runs.specs.ped_tidy.specs.ped_pasting.specs.ped_bodies.specs.ped_steps.specs.ped_laws.proofs.ActLaws.SameCells.{cell_is}
 use Rattle.ped_scalar.specs.ped_rules.specs.ped_loop_runs.specs.ped_tidy.specs.ped_pasting.specs.ped_bodies.specs.ped_steps.specs.ped_laws.proofs.RunLaws.Turning.{At}
 use Rattle.ped_scalar.specs.ped_rules.specs.ped_loop_runs.specs.ped_tidy.specs.ped_pasting.specs.ped_bodies.specs.ped_steps.specs.ped_laws.specs.Acts.Orders.{IsIn, StandsBefore}
 use Rattle.ped_scalar.specs.ped_rules.specs.ped_loop_runs.specs.ped_tidy.specs.ped_pasting.specs.ped_bodies.specs.ped_steps.specs.ped_laws.specs.Acts.Pieces.{Part, new_parts, old_parts}
@@ -29,7 +26,7 @@ use Rattle.ped_scalar.specs.ped_rules.specs.ped_loop_runs.specs.ped_tidy.specs.p
 use Rattle.ped_scalar.specs.ped_rules.specs.ped_loop_runs.specs.ped_tidy.specs.ped_pasting.specs.ped_bodies.specs.ped_steps.specs.ped_laws.specs.ped_eval.specs.Outcomes.{run_of, setting_of}
 use Rattle.ped_scalar.specs.ped_rules.specs.ped_loop_runs.specs.ped_tidy.specs.ped_pasting.specs.ped_bodies.specs.ped_steps.specs.ped_laws.specs.ped_eval.specs.Runs.{Run, run_all}
 use Rattle.ped_scalar.specs.ped_rules.specs.ped_loop_runs.specs.ped_tidy.specs.ped_pasting.specs.ped_bodies.specs.ped_steps.specs.ped_laws.specs.ped_eval.specs.Scopes.{Scope, Setting, turns_of}
-use Rattle.ped_scalar.specs.ped_rules.specs.ped_loop_runs.specs.ped_tidy.specs.ped_pasting.specs.ped_bodies.specs.ped_steps.specs.ped_laws.specs.ped_store.specs.Acts.{Act, Place, Turn, iterations_of}
+use Rattle.ped_scalar.specs.ped_rules.specs.ped_loop_runs.specs.ped_tidy.specs.ped_pasting.specs.ped_bodies.specs.ped_steps.specs.ped_laws.specs.ped_store.specs.Acts.{Act, Turn, iterations_of}
 use Rattle.ped_scalar.specs.ped_rules.specs.ped_loop_runs.specs.ped_tidy.specs.ped_pasting.specs.ped_bodies.specs.ped_steps.specs.ped_laws.specs.ped_store.specs.Cells.{Cell, Iteration, Private, Scalar, same_cell}
 use Rattle.ped_scalar.specs.ped_rules.specs.ped_loop_runs.specs.ped_tidy.specs.ped_pasting.specs.ped_bodies.specs.ped_steps.specs.ped_laws.specs.ped_store.specs.Races.{Access, HasNoRace, accesses, are_apart, race, is_write}
 use Rattle.ped_scalar.specs.ped_rules.specs.ped_loop_runs.specs.ped_tidy.specs.ped_pasting.specs.ped_bodies.specs.ped_steps.specs.ped_laws.specs.ped_store.specs.Stores.{Store, store_at_start}
@@ -39,6 +36,8 @@ use Rattle.ped_scalar.specs.ped_rules.specs.ped_loop_runs.specs.ped_tidy.specs.p
 use Rattle.ped_tree.specs.Nests.{Loop}
 use Rattle.ped_tree.specs.Numbering.{statements_count}
 use Rattle.ped_tree.specs.Tree.{ProgramTree, StmtTrees}
+use Rattle.ped_scalar.specs.ped_rules.specs.ped_loop_runs.proofs.LoopLaws.OldRaces.{acts_outside, round_apart}
+use Rattle.ped_scalar.specs.ped_rules.specs.ped_loop_runs.proofs.LoopLaws.OldRaces as origins
 
 -- a read of a scalar that keeps its value in the outermost DO: it stands in the iterations round an execution, or in one of the DO there
 pub record ReadsFixed (t : ProgramTree) (l : ℕ) (scope : Scope) (b : Access) : Type 0 where
@@ -99,6 +98,21 @@ inside_leaves t l scope olds b k unwritten fixed write = elim k.cell [
     no_scalar : (x n : List ℕ) (path : List Iteration) → Scalar x ≡ Private n path → ⊥
     no_scalar x n path e = absurd cc
 
+-- such a scalar is written by nothing that is apart from the iterations round the execution of its read
+module _ (t : ProgramTree) (valid : IsValid t) (l : ℕ) (data_bytes : List ℕ) (scope : Scope) (place : AreTurnsOf (setting_of t).number (nest_round t l) (turns_of scope)) where
+  pub read_unwritten : (b c : Access) → ReadsFixed t l scope b → b.cell ≡ c.cell → b.writes || c.writes ≡ true → IsIn c (accesses (run_of t data_bytes).acts) → are_apart (turns_of scope) c.place.turns ≡ true → ⊥
+  read_unwritten b c k cells writing i apart = by (turns_of scope) (nest_round t l) place refl refl apart
+    where
+      write : c.writes ≡ true
+      write = only_second b.writes c.writes writing k.reading
+
+      by : (ts : List Turn) (ls : List Loop) → AreTurnsOf (setting_of t).number ls ts → ts ≡ turns_of scope → ls ≡ nest_round t l → are_apart ts c.place.turns ≡ true → ⊥
+      by [] ls of e f apart = none_within c.place.turns apart
+      by (a ∷ ts) [] of e f apart = absurd of
+      by (a ∷ ts) (m ∷ ls) of e f apart =
+          let first = apart_first a ts c.place.turns apart in
+          fixed_unwritten_there t valid l k.fixed.0 k.fixed.2 (store_at_start (lines data_bytes)) c i first.0 first.1 first.2 (sym first.3 ∙ of.0 ∙ ap (outermost_or l) f) write (sym cells ∙ k.fixed.1)
+
 module _ (t u : ProgramTree) (valid : IsValid t) (new_valid : IsValid u) (l : ℕ) (old : StmtTrees) (some : 0 < statements_count old) (fresh : Scope → Store → List Act) (data_bytes : List ℕ) where
   abbrev p : Setting
   p = setting_of t
@@ -118,44 +132,16 @@ module _ (t u : ProgramTree) (valid : IsValid t) (new_valid : IsValid u) (l : �
   abbrev count : ℕ
   count = statements_count old
 
-  -- an access reaches its cell from its place
-  reaches : (b : Access) → IsIn b (accesses news) → At b.place.turns b.cell
-  reaches b i =
-      let a = accesses_from news b i in
-      let v = touch_of a.0 a.0.touches b a.2 in
-      let at : At a.0.place.turns v.0.cell = at_of a.0.place.turns v.0.manner v.0.cell v.0.reference ((act_good (setting_of u) u.body 1 [] start a.0 a.1).0 v.0 v.1) in
-      subst (λ (y : Access). At y.place.turns y.cell) (sym v.3) at
-
-  turned_apart : (b c : Access) → IsIn b (accesses olds) → IsIn c (accesses olds) → are_apart b.place.turns c.place.turns ≡ true → are_apart c.place.turns b.place.turns ≡ true
-  turned_apart b c i j apart =
-      let y = accesses_from olds b i in
-      let z = accesses_from olds c j in
-      let f = access_place y.0 b y.2 in
-      let g = access_place z.0 c z.2 in
-      (λ k. are_apart (g k).turns (f k).turns) ∙ apart_flip y.0.place.turns z.0.place.turns (kinds_of_run p t.body 1 start y.0 z.0 (λ m n e. e) y.1 z.1) ((λ k. are_apart (sym f k).turns (sym g k).turns) ∙ apart)
-
   -- two new accesses that race
-  record Race (b c : Access) : Type 0 where
-    one : IsIn b (accesses news)
-    other : IsIn c (accesses news)
-    apart : are_apart b.place.turns c.place.turns ≡ true
-    back : are_apart c.place.turns b.place.turns ≡ true
-    cells : b.cell ≡ c.cell
-    writing : b.writes || c.writes ≡ true
+  abbrev Race : Access → Access → Type 0
+  Race = origins.Race t (setting_of u) u.body data_bytes
 
-  flipped : (b c : Access) → Race b c → Race c b
-  flipped b c r = record { one = r.other; other = r.one; apart = r.back; back = r.apart; cells = sym r.cells; writing = or_turned b.writes c.writes r.writing }
+  abbrev flipped : (b c : Access) → origins.Race t (setting_of u) u.body data_bytes b c → origins.Race t (setting_of u) u.body data_bytes c b
+  flipped = origins.flipped t (setting_of u) u.body data_bytes
 
   -- two old ones that they come from race
-  somewhere : (y z : Access) → IsIn y (accesses olds) → IsIn z (accesses olds) → y.cell ≡ z.cell → y.writes || z.writes ≡ true → are_apart y.place.turns z.place.turns ≡ true → RaceSomewhere olds
-  somewhere y z i j cells writing apart = record {
-    one = y;
-    other = z;
-    one_in = i;
-    other_in = j;
-    apart = (apart, turned_apart y z i j apart);
-    conflicting = let alike = is_cell y.cell z.cell cells in λ k. alike k && writing k;
-  }
+  abbrev somewhere : (y z : Access) → IsIn y (accesses (run_of t data_bytes).acts) → IsIn z (accesses (run_of t data_bytes).acts) → y.cell ≡ z.cell → y.writes || z.writes ≡ true → are_apart y.place.turns z.place.turns ≡ true → RaceSomewhere (run_of t data_bytes).acts
+  somewhere = origins.somewhere t (setting_of u) u.body data_bytes
 
   both_kept : (b c : Access) → Race b c → IsIn b (accesses olds) → IsIn c (accesses olds) → RaceSomewhere olds
   both_kept b c r i j = somewhere b c i j r.cells r.writing r.apart
@@ -196,48 +182,15 @@ module _ (t u : ProgramTree) (valid : IsValid t) (new_valid : IsValid u) (l : �
 
       -- what is done before or behind it stands outside
       apart_acts : (acts : List Act) → LeaveCopies p y.scope l count acts → (c : Access) → IsIn c (accesses acts) → Outside c.place.turns
-      apart_acts acts leave c i =
-          let a = accesses_from acts c i in
-          λ k. (leave a.0 a.1).1 (subst (λ (q : Place). StandsInside p y.scope l count q.turns) (access_place a.0 c a.2) k)
-
-      -- what stands in an iteration of the DO doesn't
-      inside : (c : Access) → Outside c.place.turns → (rs vs : List Turn) → c.place.turns ≡ rs ++ vs → iterations_of rs ≡ iterations_of round → (v : Turn) (more : List Turn) → vs ≡ v ∷ more → l ≡ v.statement → ⊥
-      inside c outside rs vs is alike v more first statement =
-          outside (record {
-            statement = l;
-            from = omega arith;
-            to = omega (arith, some);
-            number = v.number;
-            rest = iterations_of more;
-            is = ap iterations_of (is ∙ ap (λ (zs : List Turn). rs ++ zs) first) ∙ iterations_append rs (v ∷ more) ∙ (λ i. alike i ++ record { statement = sym statement i; number = v.number } ∷ iterations_of more);
-          })
+      apart_acts = acts_outside p y.scope l count
 
       -- an access that stands outside is apart from the iterations round the DO
       apart_round : (b c : Access) → Race b c → Outside c.place.turns → (extra : List Turn) → b.place.turns ≡ round ++ extra → ((v : Turn) (more : List Turn) → extra ≡ v ∷ more → v.statement ≡ l) → are_apart round c.place.turns ≡ true
-      apart_round b c r outside extra place whose = elim (apart_split round extra c.place.turns ((λ i. are_apart (sym place i) c.place.turns) ∙ r.apart)) [
-        | inl m ↦ m
-        | inr m ↦ absurd (by extra refl m.0 m.1 m.2 m.3 m.4)
-      ]
-        where
-          by : (zs : List Turn) → extra ≡ zs → (rs vs : List Turn) → c.place.turns ≡ rs ++ vs → iterations_of rs ≡ iterations_of round → are_apart extra vs ≡ true → ⊥
-          by [] e rs vs is alike differ = none_within vs (ap (λ (xs : List Turn). are_apart xs vs) (sym e) ∙ differ)
-          by (v ∷ more) e rs vs is alike differ =
-              let f = apart_first v more vs (ap (λ (xs : List Turn). are_apart xs vs) (sym e) ∙ differ) in
-              inside c outside rs vs is alike f.0 f.1 f.2 (sym (whose v more e) ∙ f.3)
+      apart_round b c r outside extra place whose = round_apart t y.scope l count some b c r.apart outside extra place (λ v more e. inl (whose v more e))
 
       -- such a scalar is written by nothing that stands outside and is apart from its read
       read_kept : (b c : Access) → Race b c → Reads b → IsIn c (accesses olds) → Outside c.place.turns → ⊥
-      read_kept b c r k i outside = by round (nest_round t l) y.executed.place.turns refl refl (apart_round b c r outside k.extra k.place k.whose)
-        where
-          write : c.writes ≡ true
-          write = only_second b.writes c.writes r.writing k.reading
-
-          by : (ts : List Turn) (ls : List Loop) → AreTurnsOf p.number ls ts → ts ≡ round → ls ≡ nest_round t l → are_apart ts c.place.turns ≡ true → ⊥
-          by [] ls of e f apart = none_within c.place.turns apart
-          by (a ∷ ts) [] of e f apart = absurd of
-          by (a ∷ ts) (m ∷ ls) of e f apart =
-              let first = apart_first a ts c.place.turns apart in
-              fixed_unwritten_there t valid l k.fixed.0 k.fixed.2 start c i first.0 first.1 first.2 (sym first.3 ∙ of.0 ∙ ap (outermost_or l) f) write (sym r.cells ∙ k.fixed.1)
+      read_kept b c r k i outside = read_unwritten t valid l data_bytes y.scope y.executed.place.turns b c k r.cells r.writing i (apart_round b c r outside k.extra k.place k.whose)
 
       module _ (b : Access) (k : Inside b) where
         found : IsIn k.origin (accesses olds)
@@ -251,7 +204,7 @@ module _ (t u : ProgramTree) (valid : IsValid t) (new_valid : IsValid u) (l : �
             apart = apart_round b c r outside (k.turn ∷ k.more) k.place (λ v more e. (let same : k.turn ≡ v = cc in ap (λ (z : Turn). z.statement) (sym same)) ∙ k.statement)
 
             reached : IsOfLoop p y.scope l b.cell → ⊥
-            reached gone = front_apart round c.place.turns (record { statement = p.number l; number = gone.number } ∷ gone.rest) (subst (λ (z : Cell). At c.place.turns z) (sym r.cells ∙ gone.is) (reaches c r.other)) apart
+            reached gone = front_apart round c.place.turns (record { statement = p.number l; number = gone.number } ∷ gone.rest) (subst (λ (z : Cell). At c.place.turns z) (sym r.cells ∙ gone.is) (origins.reaches t (setting_of u) u.body data_bytes c r.other)) apart
 
         -- one that comes from inside, and one that stays as it was
         inside_kept : (c : Access) → Race b c → IsIn c (accesses olds) → Outside c.place.turns → RaceSomewhere olds

@@ -33,6 +33,7 @@ use Rattle.ped_loops.specs.Serialising.{StandsAgainstSerial, serialising}
 use Rattle.ped_loops.proofs.FlagRules as rules
 use Rattle.ped_loops.proofs.FlaggedLoops.{one_for_one_flag, stays_trusted_flag}
 use Rattle.ped_loops.proofs.OneHead.{TrustedLaw, ClearedLaw}
+use Rattle.ped_scalar.specs.ped_rules.specs.ped_loop_runs.proofs.LoopLaws.OneForOneStands.{false_unless}
 
 -- the laws that are cited
 abbrev pub KeepsLaw : Type 0
@@ -72,10 +73,6 @@ and_true false b e f = refl
 pub none_carried : UnrejectedLaw → (t : ProgramTree) (s : ℕ) (loop : LoopOf t s) (edges : List Edge) → some_rejection t.body ≡ false → AreEdges t edges → All (λ e. carried t s e ≡ false) edges → NoneCarriedBy t edges s loop.body
 none_carried law t s loop edges plain are none e i =
     same_carried t s loop e ∙ and_true (is_carried_by t s e) (is_rejected e.mark) (each_of (λ (z : Edge). carried t s z ≡ false) edges e none i) (not_rejected e.mark (law t edges plain are e i))
-
-false_unless : (b : Bool) → (b ≡ true → ⊥) → b ≡ false
-false_unless true h = absurd (h refl)
-false_unless false h = refl
 
 not_false : (b : Bool) → not b ≡ false → b ≡ true
 not_false true e = refl

@@ -32,7 +32,7 @@ use Rattle.ped_scalar.specs.ped_rules.specs.ped_loop_runs.specs.ped_tidy.specs.p
 use Rattle.ped_scalar.specs.ped_rules.specs.ped_loop_runs.specs.ped_tidy.specs.ped_pasting.specs.ped_bodies.specs.ped_steps.specs.ped_affine.specs.Ranges.{Around, Setting, interval_of}
 use Rattle.ped_scalar.specs.ped_rules.specs.ped_loop_runs.specs.ped_tidy.specs.ped_pasting.specs.ped_bodies.specs.ped_steps.specs.ped_laws.specs.ped_eval.specs.Loops.{increment}
 use Rattle.ped_tree.specs.Constants.ConstantExpressions.{constant_value}
-use Rattle.ped_loops.proofs.Contained.{least}
+use Rattle.ped_scalar.proofs.KeptByPrivatising.{least}
 use Rattle.ped_loops.proofs.FlagsLawful.{UnrejectedLaw}
 use Rattle.ped_loops.proofs.FreeSwaps.{free_swap, interchanged_is}
 use Rattle.ped_loops.proofs.PlainAnswers.{same_around}

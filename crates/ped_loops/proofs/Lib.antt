@@ -11,7 +11,7 @@ pub mod ReferencedNames
 mod VariableNames
 mod RejectAnswers
 pub mod TurnedCounts
-mod Contained
+pub mod Contained
 mod ReverseRules
 pub mod OneHead
 mod ReversedLoops
@@ -48,7 +48,7 @@ pub mod InterchangeRules
 pub mod LoopSurroundings
 pub mod SwappedKinds
 mod ShapedNames
-mod SwappedTrust
+pub mod SwappedTrust
 pub mod PlainDecided
 mod PlainAnswers
 mod InterchangeLawful

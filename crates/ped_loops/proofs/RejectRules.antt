@@ -39,6 +39,7 @@ use Rattle.ped_loops.proofs.PendingEdges.{IsOpen, open_pending}
 use Rattle.ped_loops.proofs.ReferencedNames.{reference_named}
 use Rattle.ped_loops.proofs.RejectedTrees.{more, are_marked, all_marked, valid_as_before}
 use Rattle.ped_loops.proofs.VariableNames.{IsVariable, is_variable as variable}
+use Rattle.ped_scalar.specs.ped_rules.specs.ped_loop_runs.proofs.LoopLaws.OneForOneStands.{false_unless}
 
 same_statement : (a b : StmtTree) → Some a ≡ Some b → a ≡ b
 same_statement a b e = cc
@@ -78,10 +79,6 @@ none_all p (x ∷ xs) h = let parts = or_none (p x) (list_any p xs) h in All-con
 all_none : (p : Edge → Bool) (xs : List Edge) → All (λ e. p e ≡ false) xs → list_any p xs ≡ false
 all_none p [] h = refl
 all_none p (x ∷ xs) h = λ i. All-head (λ (e : Edge). p e ≡ false) x xs h i || all_none p xs (All-tail (λ (e : Edge). p e ≡ false) x xs h) i
-
-false_unless : (b : Bool) → (b ≡ true → ⊥) → b ≡ false
-false_unless true h = absurd (h refl)
-false_unless false h = refl
 
 -- what passes a test is somewhere in the list
 any_in : (p : Edge → Bool) (xs : List Edge) → list_any p xs ≡ true → (e : Edge) × IsIn e xs × (p e ≡ true)

@@ -90,7 +90,7 @@ settled_reads t l told first e x around place s during c v i =
     (plain_again (setting_of t) (setting_of t) refl t l e x.built told around around place place first s s during during).seen c v i
 
 -- the first numbers of a row, and the others
-split_numbers : (f : ℕ → List Act) (m n a : ℕ) → m ≤ n → (rest : List Act) × (flat_map f (range_with_len a n) ≡ flat_map f (range_with_len a m) ++ rest)
+pub split_numbers : (f : ℕ → List Act) (m n a : ℕ) → m ≤ n → (rest : List Act) × (flat_map f (range_with_len a n) ≡ flat_map f (range_with_len a m) ++ rest)
 split_numbers f zero n a h = (flat_map f (range_with_len a n), refl)
 split_numbers f (suc m) zero a h = absurd (omega (arith, h))
 split_numbers f (suc m) (suc n) a h = let r = split_numbers f m n (a + 1) (omega (arith, h)) in (r.0, ap (λ (xs : List Act). f a ++ xs) r.1 ∙ sym (append_assoc (f a) (flat_map f (range_with_len (a + 1) m)) r.0))

@@ -26,7 +26,7 @@ or_second false true c = refl
 or_second false false c = refl
 
 -- what is told of statements by "or" is told of a body by its one DO
-or_tells : (told : StmtTree → Bool) (all : StmtTrees → Bool) (g : Head) (inside body : StmtTrees) → all no_stmts ≡ false → ((s : StmtTree) (rest : StmtTrees) → all (more_stmts s rest) ≡ told s || all rest) → ((text : List ℕ) → told (Comment text) ≡ false)
+pub or_tells : (told : StmtTree → Bool) (all : StmtTrees → Bool) (g : Head) (inside body : StmtTrees) → all no_stmts ≡ false → ((s : StmtTree) (rest : StmtTrees) → all (more_stmts s rest) ≡ told s || all rest) → ((text : List ℕ) → told (Comment text) ≡ false)
     → only_loop body ≡ Some (pair g inside) → all body ≡ told (Do g inside)
 or_tells told all g inside body none both nothing only = only_tells g inside told all (λ (a b : Bool). a || b) false (λ a. refl) or_false none both nothing body only
   where

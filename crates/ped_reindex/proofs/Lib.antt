@@ -1,4 +1,3 @@
-mod Contained
 mod Here
 mod Remainders
 mod OneTaken
@@ -26,7 +25,6 @@ mod StripsStand
 mod RenumberedRaces
 mod StripsRaces
 mod StripsAccesses
-mod MadeAnew
 mod StripsKeeps
 mod StripsKinds
 mod StripsTrust

@@ -18,7 +18,7 @@ use Rattle.ped_loops.specs.ped_scalar.specs.ped_rules.specs.ped_loop_runs.specs.
 use Rattle.ped_loops.specs.ped_scalar.specs.ped_rules.specs.ped_loop_runs.specs.ped_tidy.specs.ped_pasting.specs.ped_bodies.specs.ped_steps.specs.ped_symbols.specs.Sites.{stmt_sites, stmts_sites}
 use Rattle.ped_reindex.proofs.PeelConstants.{of_binary, of_call, of_onto, of_unary}
 use Rattle.ped_reindex.proofs.PeelCounts.{HasSpan}
-use Rattle.ped_reindex.proofs.PeelTrusted.{left_head, peeled_tells}
+use Rattle.ped_reindex.proofs.PeelTrusted.{again, left_head, peeled_tells}
 use Rattle.ped_reindex.specs.Peeling.{Peeled, iteration_of, with_peeled}
 use Rattle.ped_tree.proofs.NameLaws.Collected.{among_append}
 use Rattle.ped_tree.specs.Accesses.{constant_names}
@@ -85,12 +85,6 @@ absent_literal y n = go (is_negative n)
 or_true : (r : Bool) → r || true ≡ true
 or_true true = refl
 or_true false = refl
-
-again : (a b : Bool) → a || (b || a) ≡ b || a
-again true true = refl
-again true false = refl
-again false true = refl
-again false false = refl
 
 module _ (t : ProgramTree) (valid : IsValid t) (s : ℕ) (loop : LoopOf t s) (last : Bool) (p : Peeled) (span : HasSpan (table_of t).constants loop.head last p) where
   abbrev d : Head

@@ -17,7 +17,7 @@ use Rattle.ped_loops.specs.ped_scalar.specs.ped_rules.proofs.Chains.{IsChain, ch
 use Rattle.ped_loops.specs.ped_scalar.specs.ped_rules.proofs.OneEach.{no_loop_one, loop_one, escape_one, limit_one}
 use Rattle.ped_loops.specs.ped_scalar.specs.ped_rules.proofs.Decided.{some_loop, limit_stands, limit_not, limit_valid}
 use Rattle.ped_reindex.specs.Peeling.{Peeled, peeled_by, peeled_of, peels_far, peeled, peel_kept, MakesPeeled, StandsAgainstPeeling}
-use Rattle.ped_reindex.proofs.Contained.{contained}
+use Rattle.ped_loops.proofs.Contained.{contained}
 use Rattle.ped_reindex.proofs.Here.{fails_by, here, not_no_loop, fails_there, passes_there}
 
 one_peeled : (p q : Peeled) → Some p ≡ Some q → p ≡ q

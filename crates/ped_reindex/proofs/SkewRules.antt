@@ -14,7 +14,7 @@ use Rattle.ped_loops.specs.ped_scalar.specs.ped_rules.proofs.Chains.{IsChain, ch
 use Rattle.ped_loops.specs.ped_scalar.specs.ped_rules.proofs.OneEach.{unless_one, no_loop_one, loop_one, escape_one, limit_one}
 use Rattle.ped_loops.specs.ped_scalar.specs.ped_rules.proofs.Decided.{some_loop, limit_stands, limit_not, limit_valid}
 use Rattle.ped_reindex.specs.Skewing.{is_bad_factor, has_bad_factor, skewed, MakesSkewed, skew_leaves, StandsAgainstSkewing}
-use Rattle.ped_reindex.proofs.Contained.{contained}
+use Rattle.ped_loops.proofs.Contained.{contained}
 use Rattle.ped_reindex.proofs.Here.{not_asked, not_unless, fails_by, here, not_no_loop, fails_there, passes_there}
 
 module _ (s : ℕ) (f : ℤ) where

@@ -16,7 +16,7 @@ use Rattle.ped_loops.specs.ped_scalar.specs.ped_rules.proofs.Chains.{IsChain, ch
 use Rattle.ped_loops.specs.ped_scalar.specs.ped_rules.proofs.OneEach.{unless_one, no_loop_one, loop_one, escape_one, unplain_one, limit_one}
 use Rattle.ped_loops.specs.ped_scalar.specs.ped_rules.proofs.Decided.{some_loop, limit_stands, limit_not, limit_valid}
 use Rattle.ped_reindex.specs.Stripping.{is_bad_size, has_bad_size, strip_variable, stripped, MakesStripped, IsItsLimit, strips_head, strip_end, of_name, strip_leaves, StandsAgainstStripping}
-use Rattle.ped_reindex.proofs.Contained.{contained}
+use Rattle.ped_loops.proofs.Contained.{contained}
 use Rattle.ped_reindex.proofs.Here.{not_asked, not_unless, fails_by, here, not_no_loop, fails_there, passes_there}
 
 some_name : (w x : List ℕ) → Some w ≡ Some x → w ≡ x

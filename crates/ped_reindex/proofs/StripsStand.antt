@@ -11,11 +11,11 @@ use Rattle.ped_loops.proofs.SettledBounds.{ends_so, read_so}
 use Rattle.ped_loops.proofs.LoopPlaces.{loops_of_program}
 use Rattle.ped_loops.proofs.NestKnots.{in_numbers, in_rows, nest_acts, nest_blocks, nest_row, pair_of}
 use Rattle.ped_loops.proofs.SwappedAccesses.{of_knots}
-use Rattle.ped_loops.proofs.SwappedStands.{agreed_wanted, both, idle_apart, not_so, of_block, stands_apart, touches_in, without_from}
+use Rattle.ped_loops.proofs.SwappedStands.{agreed_wanted, idle_apart, of_block, stands_apart, touches_in, without_from}
 use Rattle.ped_loops.proofs.SwappedWeave.{IsPart, end_reads, end_within, entry_reads, entry_within, trip_in_loop}
 use Rattle.ped_loops.specs.ped_scalar.specs.ped_rules.specs.ped_loop_runs.proofs.LoopLaws.OneForOneCells.{IsOfLoop, all_unread, among_of_scalar, cell_among, exit_unread, likewise_idle, needed_counts, touched_in}
 use Rattle.ped_loops.specs.ped_scalar.specs.ped_rules.specs.ped_loop_runs.proofs.LoopLaws.OneForOneNames.{variables_unnamed}
-use Rattle.ped_loops.specs.ped_scalar.specs.ped_rules.specs.ped_loop_runs.proofs.LoopLaws.OneForOneStands.{run_alone}
+use Rattle.ped_loops.specs.ped_scalar.specs.ped_rules.specs.ped_loop_runs.proofs.LoopLaws.OneForOneStands.{run_alone, false_unless, both, not_so}
 use Rattle.ped_loops.specs.ped_scalar.specs.ped_rules.specs.ped_loop_runs.proofs.LoopLaws.PlainReads.{plain_again}
 use Rattle.ped_loops.specs.ped_scalar.specs.ped_rules.specs.ped_loop_runs.specs.Bounds.{IsOfFixed}
 use Rattle.ped_loops.specs.ped_scalar.specs.ped_rules.specs.ped_loop_runs.specs.ped_tidy.specs.ped_pasting.proofs.PastingLaws.ExecutedDuring.{whole_outermost}
@@ -88,7 +88,7 @@ use Rattle.ped_loops.specs.ped_scalar.specs.ped_rules.specs.ped_loop_runs.specs.
 use Rattle.ped_loops.specs.ped_scalar.specs.ped_rules.specs.ped_loop_runs.specs.ped_tidy.specs.ped_pasting.specs.ped_bodies.specs.ped_steps.specs.ped_weaves.specs.Weaves.{IsSteady, IsWoven, Knot, Weave, block, blocks_in, control, counted, new_list, new_trips, old_list, old_trips}
 use Rattle.ped_reindex.proofs.StripsBounds.{AreBeside, IsStripped, inner_reads, outer_limits}
 use Rattle.ped_reindex.proofs.StripsCells.{StripReached, strip_names, strips_apart, strips_idle, strips_inside, strips_or_stays}
-use Rattle.ped_reindex.proofs.StripsControls.{IsInnerControl, end_cell, entry_cell, false_unless, held_in, inner_control, inner_end, inner_entry, other_acts, outer_end, same_control, seen_touch}
+use Rattle.ped_reindex.proofs.StripsControls.{IsInnerControl, end_cell, entry_cell, held_in, inner_control, inner_end, inner_entry, other_acts, outer_end, same_control, seen_touch}
 use Rattle.ped_reindex.proofs.StripsNumbers.{are_strips, strips, strips_joined, whole}
 use Rattle.ped_reindex.proofs.UnnamedCells.{neither, unnamed_head}
 use Rattle.ped_reindex.specs.Stripping.{strip_head, strips_head}

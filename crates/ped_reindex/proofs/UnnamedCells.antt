@@ -52,6 +52,7 @@ use Rattle.ped_tree.specs.Numbering.{statement_count, statements_count}
 use Rattle.ped_tree.specs.Tree.{Add, Assign, Call, Comment, Div, Do, Element, ExprTree, Head, If, Int, Mul, Neg, Pow, Print, ProgramTree, Read, StmtTree, StmtTrees, Stop, Sub, Var, more_stmts, no_stmts}
 use Rattle.ped_loops.specs.ped_scalar.specs.ped_rules.specs.ped_loop_runs.specs.ped_tidy.specs.ped_pasting.specs.ped_bodies.specs.ped_steps.specs.ped_laws.specs.ped_flow.specs.ped_affine.specs.Ranges as ranges
 use Rattle.ped_loops.specs.ped_scalar.specs.ped_rules.specs.ped_loop_runs.specs.ped_tidy.specs.ped_pasting.specs.ped_bodies.specs.ped_steps.specs.ped_laws.specs.ped_store.specs.Cells as cells
+use Rattle.ped_loops.specs.ped_scalar.specs.ped_rules.specs.ped_loop_runs.proofs.LoopLaws.OneForOneStands.{false_unless}
 
 module _ (w : List ℕ) where
   abbrev None : List (List ℕ) → Type 0
@@ -165,10 +166,6 @@ its_name w (Private x path) h = same_is w x h
 its_name w (cells.Element x js) h = absurd cc
 its_name w In h = absurd cc
 its_name w Out h = absurd cc
-
-false_unless : (b : Bool) → (b ≡ true → ⊥) → b ≡ false
-false_unless true h = absurd (h refl)
-false_unless false h = refl
 
 module _ (t : ProgramTree) (valid : IsValid t) (w : List ℕ) (name : is_name w ≡ true) (absent : is_among w (stmts_names t.body) ≡ false) (data_bytes : List ℕ) where
   abbrev p : Setting

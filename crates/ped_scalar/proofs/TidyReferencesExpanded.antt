@@ -6,7 +6,7 @@ use Rattle.std.proofs.lemmas.Bool.{both_ways, and_parts, or_parts, le-ltb, lt-lt
 use Rattle.std.proofs.lemmas.List.Folds.{list_any-append}
 use Rattle.std.proofs.lemmas.Grind.{flat_map-append}
 use Rattle.ped_base.specs.Lists.{is_same_text, is_among}
-use Rattle.ped_tree.specs.Tree.{Var, no_exprs, more_exprs, Head, StmtTree, StmtTrees, Assign, If, Do, Print, Read, Stop, Comment, no_stmts, more_stmts, ProgramTree}
+use Rattle.ped_tree.specs.Tree.{Var, Element, no_exprs, more_exprs, Head, StmtTree, StmtTrees, Assign, If, Do, Print, Read, Stop, Comment, no_stmts, more_stmts, ProgramTree}
 use Rattle.ped_tree.specs.Numbering.{statement_count, statements_count}
 use Rattle.ped_tree.specs.Accesses.{constants_in, constant_names}
 use Rattle.ped_base.proofs.NameEquality.{same_is}
@@ -178,7 +178,7 @@ module _ (t : ProgramTree) (valid : IsValid t) (s : ℕ) (l : LoopOf t s) (x arr
             moved = e ∙ kept_number n (omega (arith, to));
             parallel = refl;
             variables = variables_stay x (element array (Var l.head.variable)) (Do h b);
-            unwritten = λ w among none. all_unwritten constants w (kind_in t) x array (more_exprs (Var l.head.variable) no_exprs) (apart n h b all.0 w among) b parts.1 none;
+            unwritten = λ w among none. all_unwritten constants w (kind_in t) x (Element array (more_exprs (Var l.head.variable) no_exprs)) (other_unwritten constants w array (apart n h b all.0 w among)) b parts.1 none;
           },
           each_substituted b (n + 1) (m + 1) (omega (arith, e)) (omega (arith, to)) parts.1 all.1,
         )
@@ -202,7 +202,7 @@ module _ (t : ProgramTree) (valid : IsValid t) (s : ℕ) (l : LoopOf t s) (x arr
   part_unwritten w other another none =
       let whole = or_parts (list_any (writes_name constants w) l.head.private || all_write constants w l.body) false none in
       let parts = or_parts (list_any (writes_name constants w) l.head.private) (all_write constants w l.body) whole.0 in
-      let body = all_unwritten constants w (kind_in t) x array (more_exprs (Var l.head.variable) no_exprs) other l.body own_right parts.1 in
+      let body = all_unwritten constants w (kind_in t) x (Element array (more_exprs (Var l.head.variable) no_exprs)) (other_unwritten constants w array other) l.body own_right parts.1 in
       λ i. (parts.0 i || body i) || go live i
     where
       go : (live : Bool) → all_write constants w (kept_value live x array v.last) ≡ false

@@ -20,7 +20,7 @@ module _ (x : List ℕ) (by : ExprTree) where
     rejection_kept Stop = refl
     rejection_kept (Comment text) = refl
 
-    rejections_kept : (ss : StmtTrees) → some_rejection (statements_substituted x by ss) ≡ some_rejection ss
+    pub rejections_kept : (ss : StmtTrees) → some_rejection (statements_substituted x by ss) ≡ some_rejection ss
     rejections_kept no_stmts = refl
     rejections_kept (more_stmts s rest) = λ i. rejection_kept s i || rejections_kept rest i
 

@@ -11,7 +11,7 @@ pub mod TidyReferences
 pub mod TidyReferencesFilled
 pub mod TidyReferencesGaps
 mod Comments
-mod WrittenIndices
+pub mod WrittenIndices
 mod TidyPathsPrivate
 mod ExchangedShown
 mod ExchangedDos

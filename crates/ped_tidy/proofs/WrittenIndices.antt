@@ -82,7 +82,7 @@ module _ (cs : List (List ℕ)) where
     all_each no_stmts n e = tt
     all_each (more_stmts s rest) n e = let p = or_none (writes_index cs s) (some_write_index cs rest) e in (one_each s n p.0, all_each rest (n + statement_count s) p.1)
 
-  followed_index : (ts us : StmtTrees) → some_write_index cs (followed ts us) ≡ (some_write_index cs ts || some_write_index cs us)
+  pub followed_index : (ts us : StmtTrees) → some_write_index cs (followed ts us) ≡ (some_write_index cs ts || some_write_index cs us)
   followed_index no_stmts us = refl
   followed_index (more_stmts t rest) us = ap (λ (b : Bool). writes_index cs t || b) (followed_index rest us) ∙ or_assoc (writes_index cs t) (some_write_index cs rest) (some_write_index cs us)
     where

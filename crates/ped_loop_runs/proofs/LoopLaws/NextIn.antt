@@ -16,10 +16,10 @@ use Rattle.ped_tidy.specs.ped_pasting.specs.ped_bodies.specs.ped_steps.proofs.Ru
 use Rattle.ped_tidy.specs.ped_pasting.specs.ped_bodies.specs.ped_steps.proofs.RunLaws.ReplacedTrees.{HasGap, program_gap}
 use Rattle.ped_loop_runs.specs.OneOut.{IsNextIn}
 
-first_alone : (a b c : List Loop) → b ≡ [] → c ≡ [] → (a ++ b) ++ c ≡ a
+pub first_alone : (a b c : List Loop) → b ≡ [] → c ≡ [] → (a ++ b) ++ c ≡ a
 first_alone a b c e f = (λ i. (a ++ e i) ++ f i) ∙ (append-nil (a ++ []) ∙ append-nil a)
 
-second_alone : (a b c : List Loop) → a ≡ [] → c ≡ [] → (a ++ b) ++ c ≡ b
+pub second_alone : (a b c : List Loop) → a ≡ [] → c ≡ [] → (a ++ b) ++ c ≡ b
 second_alone a b c e f = (λ i. (e i ++ b) ++ f i) ∙ append-nil b
 
 module _ (l : ℕ) (h : Head) (b : StmtTrees) where

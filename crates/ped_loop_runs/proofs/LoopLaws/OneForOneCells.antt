@@ -193,6 +193,27 @@ module _ (idle : Cell → Bool) (scope : Scope) where
         (private_renamed e.behind_bounds z.behind_bounds e.head.private))
 
 -- copies of the iterations of the DO with number l
+-- what a name stands for at a place is no copy further inside
+module _ (p : Setting) (scope : Scope) (P : Option (List Iteration) → Type 0) (other : P None) (here : P (Some [])) where
+  abbrev its_front : List Iteration
+  its_front = iterations_of (turns_of scope)
+
+  pub own_lies : (c : Cell) → IsOwn p scope c → LiesBehind P (iterations_of (turns_of scope)) c
+  own_lies (Scalar x) own = tt
+  own_lies (Element x js) own = tt
+  own_lies In own = tt
+  own_lies Out own = tt
+  own_lies (Private x path) own = go (behind_front its_front path) refl
+    where
+      none : (i : Iteration) (more : List Iteration) → path ≡ its_front ++ i ∷ more → IsOwn p scope (Private x path) → ⊥
+      none i more e (inl k) = no_copy_within scope k.0 x i more (sym k.1 ∙ ap (Private x) e)
+      none i more e (inr k) = absurd cc
+
+      go : (o : Option (List Iteration)) → behind_front its_front path ≡ o → P o
+      go None e = other
+      go (Some []) e = here
+      go (Some (i ∷ more)) e = absurd (none i more (behind_is its_front path (i ∷ more) e) own)
+
 module _ (p : Setting) (scope : Scope) (l : ℕ) where
   abbrev front : List Iteration
   front = iterations_of (turns_of scope)
@@ -266,24 +287,8 @@ module _ (p : Setting) (scope : Scope) (l : ℕ) where
     abbrev pub Reached : Cell → Type 0
     Reached c = IsOwn p scope c ⊎ ((k : ℕ) × (1 ≤ k) × (k ≤ n) × (x : List ℕ) × (rest : List Iteration) × (c ≡ Private x (front ++ at k ∷ rest)))
 
-    lies_own : (c : Cell) → IsOwn p scope c → LiesBehind (IsOfTrips (p.number l) n) front c
-    lies_own (Scalar x) own = tt
-    lies_own (Element x js) own = tt
-    lies_own In own = tt
-    lies_own Out own = tt
-    lies_own (Private x path) own = go (behind_front front path) refl
-      where
-        none : (i : Iteration) (more : List Iteration) → path ≡ front ++ i ∷ more → IsOwn p scope (Private x path) → ⊥
-        none i more e (inl k) = no_copy_within scope k.0 x i more (sym k.1 ∙ ap (Private x) e)
-        none i more e (inr k) = absurd cc
-
-        go : (o : Option (List Iteration)) → behind_front front path ≡ o → IsOfTrips (p.number l) n o
-        go None e = tt
-        go (Some []) e = tt
-        go (Some (i ∷ more)) e = absurd (none i more (behind_is front path (i ∷ more) e) own)
-
-    lies : (c : Cell) → Reached c → LiesBehind (IsOfTrips (p.number l) n) front c
-    lies c (inl own) = lies_own c own
+    pub lies : (c : Cell) → Reached c → LiesBehind (IsOfTrips (p.number l) n) front c
+    lies c (inl own) = own_lies p scope (IsOfTrips (p.number l) n) tt tt c own
     lies c (inr r) =
         subst (LiesBehind (IsOfTrips (p.number l) n) front) (sym r.5)
         (subst (IsOfTrips (p.number l) n) (sym (behind_itself front (at r.0 ∷ r.4))) (refl, r.1, r.2))

@@ -8,7 +8,7 @@ use Rattle.ped_tidy.specs.ped_pasting.specs.ped_bodies.specs.ped_steps.specs.ped
 use Rattle.ped_tidy.specs.ped_pasting.specs.ped_bodies.specs.ped_steps.specs.ped_laws.specs.ped_flow.specs.Questions.{LoopOf}
 use Rattle.ped_tidy.specs.ped_pasting.specs.ped_bodies.specs.ped_steps.specs.ped_laws.specs.ped_store.specs.Cells.{Cell, Iteration, same_cell}
 use Rattle.ped_tidy.specs.ped_pasting.specs.ped_bodies.specs.ped_steps.specs.ped_laws.specs.ped_store.specs.Stores.{Store, store_at_start}
-use Rattle.ped_tidy.specs.ped_pasting.specs.ped_bodies.specs.ped_steps.specs.ped_laws.specs.ped_store.specs.Acts.{Turn, Place, Act, iterations_of}
+use Rattle.ped_tidy.specs.ped_pasting.specs.ped_bodies.specs.ped_steps.specs.ped_laws.specs.ped_store.specs.Acts.{Turn, Act, iterations_of}
 use Rattle.ped_tidy.specs.ped_pasting.specs.ped_bodies.specs.ped_steps.specs.ped_laws.specs.ped_store.specs.Races.{Access, accesses, are_apart, race, HasNoRace}
 use Rattle.ped_tidy.specs.ped_pasting.specs.ped_bodies.specs.ped_steps.specs.ped_laws.specs.ped_eval.specs.Loops.{Entered, frame}
 use Rattle.ped_tidy.specs.ped_pasting.specs.ped_bodies.specs.ped_steps.specs.ped_laws.specs.ped_eval.specs.Scopes.{Setting, Scope, turns_of}
@@ -19,10 +19,8 @@ use Rattle.ped_tidy.specs.ped_pasting.specs.ped_bodies.specs.ped_steps.specs.ped
 use Rattle.ped_tidy.specs.ped_pasting.specs.ped_bodies.specs.ped_steps.specs.ped_laws.specs.Runs.Replaying.{goes_on, finish_of}
 use Rattle.ped_tidy.specs.ped_pasting.specs.ped_bodies.specs.ped_steps.specs.ped_laws.proofs.ActLaws.Lists.{first_in, second_in}
 use Rattle.ped_tidy.specs.ped_pasting.specs.ped_bodies.specs.ped_steps.specs.ped_laws.proofs.ActLaws.SameCells.{cell_is, is_cell}
-use Rattle.ped_tidy.specs.ped_pasting.specs.ped_bodies.specs.ped_steps.specs.ped_laws.proofs.ActLaws.Conflicting.{access_place, accesses_in}
-use Rattle.ped_tidy.specs.ped_pasting.specs.ped_bodies.specs.ped_steps.specs.ped_laws.proofs.ActLaws.RaceFree.{apart_flip}
+use Rattle.ped_tidy.specs.ped_pasting.specs.ped_bodies.specs.ped_steps.specs.ped_laws.proofs.ActLaws.Conflicting.{accesses_in}
 use Rattle.ped_tidy.specs.ped_pasting.specs.ped_bodies.specs.ped_steps.specs.ped_laws.proofs.RunLaws.Turning.{At}
-use Rattle.ped_tidy.specs.ped_pasting.specs.ped_bodies.specs.ped_steps.specs.ped_laws.proofs.RunLaws.Placing.{kinds_of_run}
 use Rattle.ped_tidy.specs.ped_pasting.specs.ped_bodies.specs.ped_steps.specs.Replacing.{alone}
 use Rattle.ped_tidy.specs.ped_pasting.specs.ped_bodies.specs.ped_steps.specs.Runs.Renumbering.{renumbered_turn}
 use Rattle.ped_tidy.specs.ped_pasting.specs.ped_bodies.specs.ped_steps.proofs.RunLaws.PrivatisedRacesOrigins.{accesses_from}
@@ -35,11 +33,13 @@ use Rattle.ped_tidy.specs.ped_pasting.proofs.PastingLaws.LeftCopies.{body_reache
 use Rattle.ped_tidy.specs.ped_pasting.specs.ped_bodies.specs.Moving.{own_number}
 use Rattle.ped_tidy.specs.ped_pasting.specs.ped_bodies.specs.Trips.{bounds_seen, entered_from}
 use Rattle.ped_loop_runs.specs.OneForOne.{trip_of, trip_names, IsOneForOne, IsMadeInstead}
-use Rattle.ped_loop_runs.proofs.LoopLaws.ApartTurns.{number_itself, apart_split, apart_inside, apart_within, apart_same, none_behind, front_apart, iterations_append, turns_long, same_fronts, at_of, or_turned}
+use Rattle.ped_loop_runs.proofs.LoopLaws.ApartTurns.{number_itself, apart_inside, apart_within, apart_same, none_behind, front_apart, iterations_append, turns_long, same_fronts}
 use Rattle.ped_loop_runs.proofs.LoopLaws.ChangedPairs.{Change, Give, in_acts, pairs_give}
-use Rattle.ped_loop_runs.proofs.LoopLaws.RacesByReferences.{act_good, told_is_unreferred, by_references}
+use Rattle.ped_loop_runs.proofs.LoopLaws.RacesByReferences.{told_is_unreferred, by_references}
 use Rattle.ped_loop_runs.proofs.LoopLaws.OneForOneRaces.{IsKept, IsMadeInTrip, execution_made}
 use Rattle.ped_loop_runs.proofs.LoopLaws.OneForOneCells.{IsOfLoop, stays_or_moves, moves_inside, Reached, names_apart}
+use Rattle.ped_loop_runs.proofs.LoopLaws.OldRaces.{acts_outside, round_apart}
+use Rattle.ped_loop_runs.proofs.LoopLaws.OldRaces as origins
 
 -- turns under their own numbers are the same
 same_turns : (more : List Turn) → map (renumbered_turn own_number) more ≡ more
@@ -74,44 +74,16 @@ module _ (t u : ProgramTree) (l : ℕ) (loop : LoopOf t l) (h : Head) (x : IsOne
   abbrev count : ℕ
   count = statements_count (alone (Do d body))
 
-  -- an access reaches its cell from its place
-  reaches : (b : Access) → IsIn b (accesses news) → At b.place.turns b.cell
-  reaches b i =
-      let a = accesses_from news b i in
-      let v = touch_of a.0 a.0.touches b a.2 in
-      let at : At a.0.place.turns v.0.cell = at_of a.0.place.turns v.0.manner v.0.cell v.0.reference ((act_good (setting_of u) u.body 1 [] start a.0 a.1).0 v.0 v.1) in
-      subst (λ (y : Access). At y.place.turns y.cell) (sym v.3) at
-
-  turned_apart : (b c : Access) → IsIn b (accesses olds) → IsIn c (accesses olds) → are_apart b.place.turns c.place.turns ≡ true → are_apart c.place.turns b.place.turns ≡ true
-  turned_apart b c i j apart =
-      let y = accesses_from olds b i in
-      let z = accesses_from olds c j in
-      let f = access_place y.0 b y.2 in
-      let g = access_place z.0 c z.2 in
-      (λ k. are_apart (g k).turns (f k).turns) ∙ apart_flip y.0.place.turns z.0.place.turns (kinds_of_run p t.body 1 start y.0 z.0 (λ m n e. e) y.1 z.1) ((λ k. are_apart (sym f k).turns (sym g k).turns) ∙ apart)
-
   -- two new accesses that race
-  record Race (b c : Access) : Type 0 where
-    one : IsIn b (accesses news)
-    other : IsIn c (accesses news)
-    apart : are_apart b.place.turns c.place.turns ≡ true
-    back : are_apart c.place.turns b.place.turns ≡ true
-    cells : b.cell ≡ c.cell
-    writing : b.writes || c.writes ≡ true
+  abbrev Race : Access → Access → Type 0
+  Race = origins.Race t (setting_of u) u.body data_bytes
 
-  flipped : (b c : Access) → Race b c → Race c b
-  flipped b c r = record { one = r.other; other = r.one; apart = r.back; back = r.apart; cells = sym r.cells; writing = or_turned b.writes c.writes r.writing }
+  abbrev flipped : (b c : Access) → origins.Race t (setting_of u) u.body data_bytes b c → origins.Race t (setting_of u) u.body data_bytes c b
+  flipped = origins.flipped t (setting_of u) u.body data_bytes
 
   -- two old ones that they come from race
   somewhere : (b c y z : Access) → Race b c → IsIn y (accesses olds) → IsIn z (accesses olds) → y.cell ≡ b.cell → z.cell ≡ c.cell → y.writes ≡ b.writes → z.writes ≡ c.writes → are_apart y.place.turns z.place.turns ≡ true → RaceSomewhere olds
-  somewhere b c y z r i j cell other w v apart = record {
-    one = y;
-    other = z;
-    one_in = i;
-    other_in = j;
-    apart = (apart, turned_apart y z i j apart);
-    conflicting = let alike = is_cell y.cell z.cell (cell ∙ r.cells ∙ sym other) in let some : y.writes || z.writes ≡ true = (λ k. w k || v k) ∙ r.writing in λ k. alike k && some k;
-  }
+  somewhere b c y z r i j cell other w v apart = origins.somewhere t (setting_of u) u.body data_bytes y z i j (cell ∙ r.cells ∙ sym other) ((λ k. w k || v k) ∙ r.writing) apart
 
   both_kept : (b c : Access) → Race b c → IsKept olds b → IsKept olds c → RaceSomewhere olds
   both_kept b c r f g = somewhere b c f.origin g.origin r f.found g.found f.cell g.cell f.writes g.writes ((λ k. are_apart (f.turns k) (g.turns k)) ∙ r.apart)
@@ -163,9 +135,7 @@ module _ (t u : ProgramTree) (l : ℕ) (loop : LoopOf t l) (h : Head) (x : IsOne
 
       -- what is done before or behind it stands outside
       apart_acts : (acts : List Act) → LeaveCopies p y.scope l count acts → (c : Access) → IsIn c (accesses acts) → Outside c.place.turns
-      apart_acts acts leave c i =
-          let a = accesses_from acts c i in
-          λ k. (leave a.0 a.1).1 (subst (λ (q : Place). StandsInside p y.scope l count q.turns) (access_place a.0 c a.2) k)
+      apart_acts = acts_outside p y.scope l count
 
       kept_outside : (acts : List Act) → LeaveCopies p y.scope l count acts → (c : Access) → IsKept acts c → Outside c.place.turns
       kept_outside acts leave c k = subst Outside k.turns (apart_acts acts leave k.origin k.found)
@@ -194,27 +164,14 @@ module _ (t u : ProgramTree) (l : ℕ) (loop : LoopOf t l) (h : Head) (x : IsOne
         side : (c : Access) → Race b c → Outside c.place.turns → (are_apart round c.place.turns ≡ true) × (k.origin.cell ≡ b.cell)
         side c r outside = (apart, cell (stays_or_moves p y.scope l e.count true k.origin.cell))
           where
-            inside : (rs vs : List Turn) → c.place.turns ≡ rs ++ vs → iterations_of rs ≡ iterations_of round → are_apart (new_turn ∷ k.likewise.more) vs ≡ true → ⊥
-            inside rs [] is alike differ = absurd cc
-            inside rs (v ∷ vs) is alike differ =
-                let statement : l ≡ v.statement = eqb-true l v.statement (and_parts (eqb l v.statement) (if eqb k.number v.number then are_apart k.likewise.more vs else h.parallel) differ).0 in
-                outside (record {
-                  statement = l;
-                  from = omega arith;
-                  to = omega arith;
-                  number = v.number;
-                  rest = iterations_of vs;
-                  is = ap iterations_of is ∙ iterations_append rs (v ∷ vs) ∙ (λ i. alike i ++ record { statement = sym statement i; number = v.number } ∷ iterations_of vs);
-                })
+            some : 0 < count
+            some = omega arith
 
             apart : are_apart round c.place.turns ≡ true
-            apart = elim (apart_split round (new_turn ∷ k.likewise.more) c.place.turns ((λ i. are_apart (sym there i) c.place.turns) ∙ r.apart)) [
-              | inl m ↦ m
-              | inr m ↦ absurd (inside m.0 m.1 m.2 m.3 m.4)
-            ]
+            apart = round_apart t y.scope l count some b c r.apart outside (new_turn ∷ k.likewise.more) there (λ v more e. inl (let same : new_turn ≡ v = cc in ap (λ (z : Turn). z.statement) (sym same)))
 
             reached : (w : Cell) → c.cell ≡ w → IsOfLoop p y.scope l w → ⊥
-            reached w q moved = front_apart round c.place.turns _ (subst (λ (v : Cell). At c.place.turns v) (q ∙ moved.is) (reaches c r.other)) apart
+            reached w q moved = front_apart round c.place.turns _ (subst (λ (v : Cell). At c.place.turns v) (q ∙ moved.is) (origins.reaches t (setting_of u) u.body data_bytes c r.other)) apart
 
             cell : (trip_names true (iterations_of round) l e.count k.origin.cell ≡ k.origin.cell) ⊎ IsOfLoop p y.scope l k.origin.cell → k.origin.cell ≡ b.cell
             cell (inl stays) = sym (named ∙ stays)
@@ -253,7 +210,7 @@ module _ (t u : ProgramTree) (l : ℕ) (loop : LoopOf t l) (h : Head) (x : IsOne
           other = m.origin;
           one_in = found;
           other_in = found_there;
-          apart = (apart, turned_apart k.origin m.origin found found_there apart);
+          apart = (apart, origins.turned_apart t (setting_of u) u.body data_bytes k.origin m.origin found found_there apart);
           conflicting = let alike = is_cell k.origin.cell m.origin.cell origin_cells in let some : k.origin.writes || m.origin.writes ≡ true = (λ i. sym k.likewise.writes i || sym m.likewise.writes i) ∙ r.writing in λ i. alike i && some i;
         }
           where

@@ -38,7 +38,7 @@ arranged a p q b r s c x y =
     let behind : q ++ (b ++ ((r ++ y ∷ s) ++ c)) ≡ (q ++ (b ++ r)) ++ y ∷ (s ++ c) = ap (λ zs. q ++ zs) second ∙ sym (append_assoc q (b ++ r) (y ∷ (s ++ c))) in
     ap (λ zs. a ++ zs) (append_assoc p (x ∷ q) (b ++ ((r ++ y ∷ s) ++ c))) ∙ sym (append_assoc a p (x ∷ (q ++ (b ++ ((r ++ y ∷ s) ++ c))))) ∙ ap (λ zs. (a ++ p) ++ x ∷ zs) behind
 
-of_act : (x : Access) (a : Act) (acts : List Act) → IsIn a acts → IsIn x (accesses_of a) → IsIn x (accesses acts)
+pub of_act : (x : Access) (a : Act) (acts : List Act) → IsIn a acts → IsIn x (accesses_of a) → IsIn x (accesses acts)
 of_act x a [] i j = absurd i
 of_act x a (b ∷ acts) (inl e) j = in_left x (accesses_of b) (accesses acts) (subst (λ (z : Act). IsIn x (accesses_of z)) e j)
 of_act x a (b ∷ acts) (inr i) j = in_right x (accesses_of b) (accesses acts) (of_act x a acts i j)
@@ -51,7 +51,7 @@ five front earlier between later behind =
     ∙ ap (λ zs. accesses between ++ zs) (flat_map-append accesses_of later behind)))
 
 -- accesses of two pieces of a run come in it in this order
-come_in_run : (t : ProgramTree) (data_bytes : List ℕ) (front earlier between later behind : List Act) (x y : Access) → (run_of t data_bytes).acts ≡ front ++ (earlier ++ (between ++ (later ++ behind))) → IsIn x (accesses earlier) → IsIn y (accesses later) → ComeInRun t data_bytes x y
+pub come_in_run : (t : ProgramTree) (data_bytes : List ℕ) (front earlier between later behind : List Act) (x y : Access) → (run_of t data_bytes).acts ≡ front ++ (earlier ++ (between ++ (later ++ behind))) → IsIn x (accesses earlier) → IsIn y (accesses later) → ComeInRun t data_bytes x y
 come_in_run t data_bytes front earlier between later behind x y is i j =
     let p = split_at x (accesses earlier) i in
     let q = split_at y (accesses later) j in

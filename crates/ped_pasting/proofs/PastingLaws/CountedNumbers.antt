@@ -67,7 +67,7 @@ each_counts (x ∷ xs) h y (inr i) =
     ∙ exchanged_other (counted_by xs x.0) x.1 y.1 (λ e. other.0 (sym ((told_back xs).back y.0) ∙ (ap (told_by xs) (is ∙ e) ∙ (told_back xs).back x.0))) other.1
 
 -- rows
-in_row : (from to count : ℕ) (y : ℕ × ℕ) → IsIn y (in_a_row from to count) → (k : ℕ) × (k < count) × (y.0 ≡ from + k) × (y.1 ≡ to + k)
+pub in_row : (from to count : ℕ) (y : ℕ × ℕ) → IsIn y (in_a_row from to count) → (k : ℕ) × (k < count) × (y.0 ≡ from + k) × (y.1 ≡ to + k)
 in_row from to zero y i = absurd i
 in_row from to (suc count) y (inl e) = (0, omega arith, ap (λ (z : ℕ × ℕ). z.0) e ∙ omega arith, ap (λ (z : ℕ × ℕ). z.1) e ∙ omega arith)
 in_row from to (suc count) y (inr i) =
@@ -78,7 +78,7 @@ in_row from to (suc count) y (inr i) =
     let second = h.3 in
     (k + 1, omega (arith, below), omega (arith, first), omega (arith, second))
 
-row_in : (from to count k : ℕ) → k < count → (y : ℕ × ℕ) × IsIn y (in_a_row from to count) × (y.0 ≡ from + k) × (y.1 ≡ to + k)
+pub row_in : (from to count k : ℕ) → k < count → (y : ℕ × ℕ) × IsIn y (in_a_row from to count) × (y.0 ≡ from + k) × (y.1 ≡ to + k)
 row_in from to zero k h = absurd (omega (arith, h))
 row_in from to (suc count) zero h = ((from, to), inl refl, omega arith, omega arith)
 row_in from to (suc count) (suc k) h =
@@ -87,7 +87,7 @@ row_in from to (suc count) (suc k) h =
     let second = r.3 in
     (r.0, inr r.1, omega (arith, first), omega (arith, second))
 
-row_apart : (from to count : ℕ) → AreApart (in_a_row from to count)
+pub row_apart : (from to count : ℕ) → AreApart (in_a_row from to count)
 row_apart from to zero = tt
 row_apart from to (suc count) = (
   λ y i. (
@@ -100,10 +100,10 @@ row_apart from to (suc count) = (
 )
 
 -- the pairs of the one list and of the other have no number in common
-abbrev Differ : List (ℕ × ℕ) → List (ℕ × ℕ) → Type 0
+abbrev pub Differ : List (ℕ × ℕ) → List (ℕ × ℕ) → Type 0
 Differ xs ys = (x y : ℕ × ℕ) → IsIn x xs → IsIn y ys → (y.0 ≡ x.0 → ⊥) × (y.1 ≡ x.1 → ⊥)
 
-append_apart : (xs ys : List (ℕ × ℕ)) → AreApart xs → AreApart ys → Differ xs ys → AreApart (xs ++ ys)
+pub append_apart : (xs ys : List (ℕ × ℕ)) → AreApart xs → AreApart ys → Differ xs ys → AreApart (xs ++ ys)
 append_apart [] ys h k d = k
 append_apart (x ∷ xs) ys h k d = ((λ y i. elim (in_parts y xs ys i) [ inl j ↦ h.0 y j | inr j ↦ d x y (inl refl) j ]), append_apart xs ys h.1 k (λ z y i j. d z y (inr i) j))
 

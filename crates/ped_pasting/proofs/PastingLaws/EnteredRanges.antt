@@ -96,7 +96,7 @@ module _ (t : ProgramTree) (s : ranges.Setting) (same : (setting_of t).constants
           (f ∷ fs) (nest_round t l) x.entered x.place.turns r.each (nest_is_proper t l valid right)).0
 
 -- the loops round a bound are told in two ways
-same_around : (s : ranges.Setting) (around : Around) (nest : List Loop) → bounds.around_with s around nest ≡ ranges.around_with s around (heads_of nest)
+pub same_around : (s : ranges.Setting) (around : Around) (nest : List Loop) → bounds.around_with s around nest ≡ ranges.around_with s around (heads_of nest)
 same_around s around [] = refl
 same_around s around (l ∷ ls) = same_around s (inside around l.head (loop_range s around l.head)) ls
 

@@ -175,7 +175,7 @@ module _ (t u : ProgramTree) (x : IsMadeAnew t u) where
         (subst (λ (r : Run). HasNoRace (accesses r.acts)) (sym new_run)
         (x.free data_bytes free (sym (ap (λ (r : Run). r.acts) new_run)) (subst (λ (acts : List Act). HasNoRace (accesses acts)) (sym (x.old_are data_bytes free)) free.1)))
 
-  made_keeps : Keeps t u
+  pub made_keeps : Keeps t u
   made_keeps = record { saved = x.saved; same = outcome_kept; race_free = λ data_bytes free. (new_ends data_bytes free, new_free data_bytes free) }
 
 module _ (gap : Gap) (old new : StmtTrees) (t u : ProgramTree) where

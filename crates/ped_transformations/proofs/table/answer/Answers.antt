@@ -1,7 +1,7 @@
 use Rattle.std.proofs.Common.{sym, subst}
 use Rattle.ped_tree.specs.Views.{program_tree}
 use Rattle.ped_script.specs.declared.items.Command.{Command}
-use Rattle.ped_reindex.specs.ped_loops.specs.ped_scalar.specs.ped_rules.specs.Steps.{MatchStep, Answers}
+use Rattle.ped_splits.specs.ped_reindex.specs.ped_loops.specs.ped_scalar.specs.ped_rules.specs.Steps.{MatchStep, Answers}
 use Rattle.ped_transformations.specs.Table.{step_of}
 use Rattle.ped_transformations.proofs.table.answer.Goals as goal
 

@@ -1,6 +1,6 @@
 //! Arrows between units: dependences that have to be kept, and PRIVATE names that units share.
 
-ghost use Rattle.std.specs.Prelude.{◌≡◌, ◌×◌, ◌⊎◌, ◌↔◌, ℕ, List, map, length, IfOk, IsTrue};
+ghost use Rattle.std.specs.Prelude.{◌≡◌, ◌⊎◌, ◌↔◌, ℕ, List, map, length, IfOk, IsTrue};
 ghost use Rattle.ped_bits.specs.Reaching.{Arrow};
 ghost use Rattle.ped_tree.specs.Views.{head_of, program_tree};
 ghost use Rattle.ped_reindex.specs.ped_loops.specs.ped_scalar.specs.ped_rules.specs.ped_loop_runs.specs.ped_tidy.specs.ped_pasting.specs.ped_bodies.specs.ped_steps.specs.Scenes.{IsSceneOf};

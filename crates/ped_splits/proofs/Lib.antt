@@ -1,0 +1,3 @@
+pub mod OneBlocks
+pub mod DistributeRules
+mod DistributeAnswers

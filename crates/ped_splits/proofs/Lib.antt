@@ -1,3 +1,7 @@
 pub mod OneBlocks
 pub mod DistributeRules
 mod DistributeAnswers
+mod BlockOrders
+mod ArrowLaws
+pub mod Existence
+pub mod Determined

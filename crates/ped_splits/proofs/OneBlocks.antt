@@ -31,7 +31,7 @@ pub one_blocks : (t : ProgramTree) (s : ℕ) (h : Head) (body : StmtTrees) (a b 
 one_blocks t s h body a b p q =
     let edges = one_edges t p.edges q.edges p.are q.are in
     let closed = subst (λ (es : List Edge). IsClosure (arrows t s h body es) p.reach) edges p.closed in
-    p.found ∙ ap blocks (one_closure (arrows t s h body q.edges) p.reach q.reach closed q.closed) ∙ sym q.found
+    p.order ∙ ap blocks (one_closure (arrows t s h body q.edges) p.reach q.reach closed q.closed) ∙ sym q.order
 
 -- and the DO with a number is one
 pub blocks_there : (t : ProgramTree) (s : ℕ) (l m : LoopOf t s) (a : List (List ℕ)) → AreBlocks t s l.head l.body a → AreBlocks t s m.head m.body a

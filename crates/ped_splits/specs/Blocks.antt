@@ -39,4 +39,4 @@ pub record AreBlocks (t : ProgramTree) (s : ℕ) (h : Head) (body : StmtTrees) (
   pub are : AreEdges t edges
   pub reach : List (List Bool)
   pub closed : IsClosure (arrows t s h body edges) reach
-  pub found : found ≡ blocks reach
+  pub order : found ≡ blocks reach

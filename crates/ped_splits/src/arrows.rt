@@ -1,27 +1,31 @@
 //! Arrows between units: dependences that have to be kept, and PRIVATE names that units share.
 
-ghost use Rattle.std.specs.Prelude.{◌≡◌, ◌⊎◌, ◌↔◌, ℕ, List, map, length, IfOk, IsTrue};
+ghost use Rattle.std.specs.Prelude.{◌≡◌, ◌⊎◌, ◌↔◌, ◌<◌, ◌^◌, ℕ, List, Some, map, length, replicate, false, not, ◌&&◌, slice_index_or, IfOk, OnOk, IsTrue};
+ghost use Rattle.std.specs.List.{list_any};
+ghost use Rattle.ped_base.specs.Lists.{is_same_text};
+ghost use Rattle.ped_bits.specs.Places.{Has};
 ghost use Rattle.ped_bits.specs.Reaching.{Arrow};
 ghost use Rattle.ped_tree.specs.Views.{head_of, program_tree};
 ghost use Rattle.ped_reindex.specs.ped_loops.specs.ped_scalar.specs.ped_rules.specs.ped_loop_runs.specs.ped_tidy.specs.ped_pasting.specs.ped_bodies.specs.ped_steps.specs.Scenes.{IsSceneOf};
 ghost use Rattle.ped_reindex.specs.ped_loops.specs.ped_scalar.specs.ped_rules.specs.ped_loop_runs.specs.ped_tidy.specs.ped_pasting.specs.ped_bodies.specs.ped_steps.specs.ped_laws.specs.ped_graph.specs.Dependences.{AreEdges};
 ghost use Rattle.ped_reindex.specs.ped_loops.specs.ped_scalar.specs.ped_rules.specs.ped_loop_runs.specs.ped_tidy.specs.ped_pasting.specs.ped_bodies.specs.ped_steps.specs.ped_laws.specs.ped_graph.specs.ped_edges.specs.CodeEdges.{edge_of, mark_of};
 ghost use Rattle.ped_reindex.specs.ped_loops.specs.ped_scalar.specs.ped_rules.specs.ped_loop_runs.specs.ped_tidy.specs.ped_pasting.specs.ped_bodies.specs.ped_steps.specs.ped_laws.specs.ped_graph.specs.ped_edges.specs.Edges as plain;
-ghost use Rattle.ped_reindex.specs.ped_loops.specs.ped_scalar.specs.ped_rules.specs.Carried.{is_rejected as IsRejected, level_at as LevelAt};
+ghost use Rattle.ped_reindex.specs.ped_loops.specs.ped_scalar.specs.ped_rules.specs.ped_loop_runs.specs.ped_tidy.specs.ped_pasting.specs.ped_bodies.specs.ped_steps.specs.ped_refs.specs.Occurrences.{references_of, name_text};
+ghost use Rattle.ped_reindex.specs.ped_loops.specs.ped_scalar.specs.ped_rules.specs.Carried.{is_rejected as IsRejected};
 ghost use Rattle.ped_splits.specs.Units as Spec;
-ghost use Rattle.ped_splits.specs.CodeUnits.{IsParted, body_of};
+ghost use Rattle.ped_splits.specs.CodeUnits.{IsParted, AreBelow, body_of, leads_between, refers_by};
 
 use crate::units::{Parted, home_at};
 use ped_base::{Name, NoMemory};
-use ped_bits::Matrix;
+use ped_bits::{Matrix, Row};
+use ped_reindex::ped_loops::ped_scalar::ped_rules::level_at;
+use ped_reindex::ped_loops::ped_scalar::ped_rules::ped_loop_runs::ped_tidy::ped_pasting::ped_bodies::ped_steps::Scene;
 use ped_reindex::ped_loops::ped_scalar::ped_rules::ped_loop_runs::ped_tidy::ped_pasting::ped_bodies::ped_steps::ped_weaves::ped_laws::ped_graph::ped_edges::{
     Edge, Mark,
 };
 use ped_reindex::ped_loops::ped_scalar::ped_rules::ped_loop_runs::ped_tidy::ped_pasting::ped_bodies::ped_steps::ped_weaves::ped_laws::ped_graph::ped_refs::{
     Occurrence, RefName, occurrences,
 };
-use ped_reindex::ped_loops::ped_scalar::ped_rules::ped_loop_runs::ped_tidy::ped_pasting::ped_bodies::ped_steps::Scene;
-use ped_reindex::ped_loops::ped_scalar::ped_rules::level_at;
 use std::alloc::Global;
 use std::sync::ledger::Ledger;
 
@@ -47,21 +51,51 @@ pub(crate) fn reaching<L: Ledger>(
 }
 
 /// Adds an arrow for each of these dependences that has to be kept and leads from a unit to a unit.
-fn add_dependences(parted: &Parted, level: u8, edges: &[Edge], arrows: &mut Matrix) {
+fn add_dependences(parted: &Parted, level: u8, edges: &[Edge], arrows: &mut Matrix)
+    requires { AreBelow (length arrows.old) parted.now.homes.now }
+    ensures width { length arrows.new ≡ length arrows.old }
+    ensures arrows { (i j : ℕ) → Arrow arrows.new i j ↔ (Arrow arrows.old i j ⊎ IsTrue (list_any (leads_between level parted.now.number parted.now.homes.now i j) (map edge_of edges.now))) }
+{
     for edge in edges {
-        if is_to_keep(level, edge) {
-            add_dependence(parted, edge, arrows);
+        add_dependence(parted, level, edge, arrows);
+    }
+}
+
+/// Adds an arrow for this dependence, where it has to be kept and leads from a unit to a unit.
+fn add_dependence(parted: &Parted, level: u8, edge: &Edge, arrows: &mut Matrix)
+    requires { AreBelow (length arrows.old) parted.now.homes.now }
+    ensures width { length arrows.new ≡ length arrows.old }
+    ensures arrows { (i j : ℕ) → Arrow arrows.new i j ↔ (Arrow arrows.old i j ⊎ IsTrue (leads_between level parted.now.number parted.now.homes.now i j (edge_of edge.now))) }
+{
+    if is_to_keep(level, edge) {
+        let source = home_at(parted.number, parted.homes, edge.source.0);
+        let sink = home_at(parted.number, parted.homes, edge.sink.0);
+        add_between(source, sink, arrows);
+    }
+}
+
+/// Adds an arrow from one unit to another, where there are both.
+fn add_between(from: Option<usize>, to: Option<usize>, arrows: &mut Matrix)
+    requires from { (k : ℕ) → from ≡ Some k → k < length arrows.old }
+    requires to { (k : ℕ) → to ≡ Some k → k < length arrows.old }
+    ensures width { length arrows.new ≡ length arrows.old }
+    ensures arrows { (i j : ℕ) → Arrow arrows.new i j ↔ (Arrow arrows.old i j ⊎ IsTrue (Spec.is_unit i from && Spec.is_unit j to)) }
+{
+    if let Some(source) = from {
+        if let Some(sink) = to {
+            add_arrow(source, sink, arrows);
         }
     }
 }
 
-/// Adds an arrow for this dependence, where it leads from a unit to a unit.
-fn add_dependence(parted: &Parted, edge: &Edge, arrows: &mut Matrix) {
-    if let Some(source) = home_at(parted.number, parted.homes, edge.source.0) {
-        if let Some(sink) = home_at(parted.number, parted.homes, edge.sink.0) {
-            arrows.set(source, sink);
-        }
-    }
+/// Adds an arrow from one unit to another.
+fn add_arrow(from: usize, to: usize, arrows: &mut Matrix)
+    requires from { from < length arrows.old }
+    requires to { to < length arrows.old }
+    ensures width { length arrows.new ≡ length arrows.old }
+    ensures arrows { (i j : ℕ) → Arrow arrows.new i j ↔ (Arrow arrows.old i j ⊎ ((i ≡ from) × (j ≡ to))) }
+{
+    arrows.set(from, to);
 }
 
 /// Whether a dependence has to be kept in a DO of this level: it is independent of loops, or carried at this level or deeper,
@@ -96,28 +130,36 @@ fn add_links(
     parted: &Parted,
     found: &[Occurrence],
     arrows: &mut Matrix,
-) -> Result<(), NoMemory> {
+) -> Result<(), NoMemory>
+    requires { AreBelow (length arrows.old) parted.now.homes.now }
+    ensures width { OnOk result (length arrows.new ≡ length arrows.old) }
+    ensures arrows { OnOk result ((i j : ℕ) → Arrow arrows.new i j ↔ (Arrow arrows.old i j
+        ⊎ IsTrue (list_any (λ x. refers_by parted.now.number parted.now.homes.now (references_of found.now) x i && refers_by parted.now.number parted.now.homes.now (references_of found.now) x j) (head_of parted.now.statement.now).private))) }
+{
     for name in parted.statement.private.as_slice() {
-        let units = units_with(alloc, parted, found, name)?;
+        let units = units_with(alloc, parted, found, name, arrows.width())?;
         link(&units, arrows);
     }
     Ok(())
 }
 
-/// The units that refer to this name.
+/// The units, of so many, that refer to this name.
 fn units_with(
     alloc: Global,
     parted: &Parted,
     found: &[Occurrence],
     name: &Name,
-) -> Result<Vec<usize>, NoMemory> {
-    let mut units = Vec::new(alloc);
+    width: usize,
+) -> Result<Row, NoMemory>
+    requires { AreBelow width parted.now.homes.now }
+    ensures width { IfOk result (λ row. length row ≡ width) }
+    ensures units { IfOk result (λ row. (i : ℕ) → slice_index_or row i false ≡ refers_by parted.now.number parted.now.homes.now (references_of found.now) name.now i) }
+{
+    let mut units = Row::new(alloc, width)?;
     for occurrence in found {
         if is_named(occurrence.name, name) {
             if let Some(unit) = home_at(parted.number, parted.homes, occurrence.statement) {
-                if units.last() != Some(&unit) {
-                    units.push(unit)?;
-                }
+                units.set(unit);
             }
         }
     }
@@ -125,7 +167,9 @@ fn units_with(
 }
 
 /// Whether a reference is one to this name.
-fn is_named(reference: RefName, name: &Name) -> bool {
+fn is_named(reference: RefName, name: &Name) -> bool
+    ensures { result ≡ is_same_text (name_text reference) name.now }
+{
     match reference {
         RefName::Named(other) => other == *name,
         RefName::In | RefName::Out => false,
@@ -133,10 +177,28 @@ fn is_named(reference: RefName, name: &Name) -> bool {
 }
 
 /// Adds arrows from each of these units to each of them.
-fn link(units: &[usize], arrows: &mut Matrix) {
-    for from in units {
-        for to in units {
-            arrows.set(*from, *to);
+fn link(units: &Row, arrows: &mut Matrix)
+    requires { length units.now ≡ length arrows.old }
+    ensures width { length arrows.new ≡ length arrows.old }
+    ensures arrows { (i j : ℕ) → Arrow arrows.new i j ↔ (Arrow arrows.old i j ⊎ (Has units.now i × Has units.now j)) }
+{
+    for unit in 0..units.width() {
+        if units.get(unit) {
+            link_from(unit, units, arrows);
+        }
+    }
+}
+
+/// Adds arrows from this unit to each of these units.
+fn link_from(unit: usize, units: &Row, arrows: &mut Matrix)
+    requires unit { unit < length arrows.old }
+    requires units { length units.now ≡ length arrows.old }
+    ensures width { length arrows.new ≡ length arrows.old }
+    ensures arrows { (i j : ℕ) → Arrow arrows.new i j ↔ (Arrow arrows.old i j ⊎ ((i ≡ unit) × Has units.now j)) }
+{
+    for other in 0..units.width() {
+        if units.get(other) {
+            add_arrow(unit, other, arrows);
         }
     }
 }

@@ -1,20 +1,21 @@
 //! `distribute`: the body of a DO is taken apart into DO loops of their own.
 
-ghost use Rattle.std.specs.Prelude.{◌≡◌, ◌+◌, ◌<◌, ◌^◌, ℕ, [], map, true, false, IfOk, MatchOption};
-ghost use Rattle.ped_tree.specs.Numbering.{statements_count};
-ghost use Rattle.ped_tree.specs.Tree.{ProgramTree};
-ghost use Rattle.ped_tree.specs.Views.{expr_tree, stmt_trees, program_tree, head_of};
+ghost use Rattle.std.specs.Prelude.{◌≡◌, ◌<◌, ℕ, map, length, false, slice_index_or, All, IfOk, OnOk, MatchOption};
+ghost use Rattle.ped_tree.specs.Tree as Tree;
+ghost use Rattle.ped_tree.specs.Views.{stmt_tree, stmt_trees, program_tree, head_of};
 ghost use Rattle.ped_reindex.specs.ped_loops.specs.ped_scalar.specs.ped_rules.specs.Rules.{WhereEscape};
 ghost use Rattle.ped_reindex.specs.ped_loops.specs.ped_scalar.specs.ped_rules.specs.Steps.{Answers};
 ghost use Rattle.ped_reindex.specs.ped_loops.specs.ped_scalar.specs.ped_rules.specs.ped_loop_runs.specs.ped_tidy.specs.ped_pasting.specs.ped_bodies.specs.ped_steps.specs.Changes.{IsChange};
+ghost use Rattle.ped_reindex.specs.ped_loops.specs.ped_scalar.specs.ped_rules.specs.ped_loop_runs.specs.ped_tidy.specs.ped_pasting.specs.ped_bodies.specs.ped_steps.specs.Replacing.{followed};
 ghost use Rattle.ped_reindex.specs.ped_loops.specs.ped_scalar.specs.ped_rules.specs.ped_loop_runs.specs.ped_tidy.specs.ped_pasting.specs.ped_bodies.specs.ped_steps.specs.Scenes.{IsSceneOf};
 ghost use Rattle.ped_reindex.specs.ped_loops.specs.ped_scalar.specs.ped_rules.specs.ped_loop_runs.specs.ped_tidy.specs.ped_pasting.specs.ped_bodies.specs.ped_steps.specs.ped_flow.specs.PlainBounds.{IsPlain};
 ghost use Rattle.ped_reindex.specs.ped_loops.specs.ped_scalar.specs.ped_rules.specs.ped_loop_runs.specs.ped_tidy.specs.ped_pasting.specs.ped_bodies.specs.ped_steps.specs.ped_flow.specs.Questions.{IsLoop};
 ghost use Rattle.ped_reindex.specs.ped_loops.specs.ped_scalar.specs.ped_rules.specs.ped_loop_runs.specs.ped_tidy.specs.ped_pasting.specs.ped_bodies.specs.ped_steps.specs.ped_symbols.specs.Kinds.{table_of};
 ghost use Rattle.ped_reindex.specs.ped_loops.specs.ped_scalar.specs.ped_rules.specs.ped_loop_runs.specs.ped_tidy.specs.ped_pasting.specs.ped_bodies.specs.ped_steps.specs.ped_symbols.specs.NameRefusals.{IsValid};
 ghost use Rattle.ped_splits.specs.Blocks.{AreBlocks};
-ghost use Rattle.ped_splits.specs.CodeUnits.{IsParted, body_of};
+ghost use Rattle.ped_splits.specs.CodeUnits.{AreBelow, IsParted, body_of, unit_trees};
 ghost use Rattle.ped_splits.specs.Distributing as Spec;
+ghost use Rattle.ped_splits.specs.Units.{units};
 
 use crate::arrows::reaching;
 use crate::blocks::blocks;
@@ -186,7 +187,15 @@ fn distributed<L: Ledger>(
 }
 
 /// A DO for each block, with the head of the old one.
-fn loops_of(alloc: Global, parted: &Parted, found: &[Listed<usize>]) -> Result<Vec<Stmt>, NoMemory> {
+fn loops_of(
+    alloc: Global,
+    parted: &Parted,
+    found: &[Listed<usize>],
+) -> Result<Vec<Stmt>, NoMemory>
+    requires units { unit_trees parted.now.units.now ≡ units (body_of parted.now) }
+    requires below { All (AreBelow (length parted.now.units.now)) found.now }
+    ensures { IfOk result (λ loops. stmt_trees loops.items ≡ Spec.loops_of found.now (head_of parted.now.statement.now) (body_of parted.now)) }
+{
     let mut loops = Vec::new(alloc);
     for block in found {
         let body = units_at(alloc, parted.units, block.as_slice())?;
@@ -196,12 +205,17 @@ fn loops_of(alloc: Global, parted: &Parted, found: &[Listed<usize>]) -> Result<V
 }
 
 /// A DO with the head of another and these statements as its body.
-fn loop_with(alloc: Global, d: &Do, body: Vec<Stmt>) -> Result<Stmt, NoMemory> {
+fn loop_with(alloc: Global, d: &Do, body: Vec<Stmt>) -> Result<Stmt, NoMemory>
+    ensures { IfOk result (λ new. stmt_tree new ≡ Tree.Do (head_of d.now) (stmt_trees body.items)) }
+{
     Ok(Stmt::of_loop(with_body(alloc, d, body)?))
 }
 
 /// Copies of the statements of these units.
-fn units_at(alloc: Global, units: &[Unit], block: &[usize]) -> Result<Vec<Stmt>, NoMemory> {
+fn units_at(alloc: Global, units: &[Unit], block: &[usize]) -> Result<Vec<Stmt>, NoMemory>
+    requires { AreBelow (length units.now) block.now }
+    ensures { IfOk result (λ all. stmt_trees all.items ≡ Spec.joined (map (λ i. slice_index_or (unit_trees units.now) i Tree.no_stmts) block.now)) }
+{
     let mut all = Vec::new(alloc);
     for unit in block {
         add_copies(alloc, &mut all, units[*unit].statements)?;
@@ -210,7 +224,9 @@ fn units_at(alloc: Global, units: &[Unit], block: &[usize]) -> Result<Vec<Stmt>,
 }
 
 /// Adds copies of statements.
-fn add_copies(alloc: Global, all: &mut Vec<Stmt>, statements: &[Stmt]) -> Result<(), NoMemory> {
+fn add_copies(alloc: Global, all: &mut Vec<Stmt>, statements: &[Stmt]) -> Result<(), NoMemory>
+    ensures { OnOk result (stmt_trees all.new.items ≡ followed (stmt_trees all.old.items) (stmt_trees statements.now)) }
+{
     for statement in statements {
         all.push(statement.copy(alloc)?)?;
     }

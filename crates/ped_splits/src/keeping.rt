@@ -1,9 +1,10 @@
 //! Which statements the step keeps.
 
-ghost use Rattle.std.specs.Prelude.{◌≡◌, ◌+◌, ◌<◌, ◌^◌, map, IfOk};
+ghost use Rattle.std.specs.Prelude.{◌≡◌, ◌+◌, ◌<◌, ◌^◌, ◌++◌, Some, map, length, IfOk, OnOk};
 ghost use Rattle.ped_tree.specs.Numbering.{statements_count};
 ghost use Rattle.ped_tree.specs.Views.{program_tree};
 ghost use Rattle.ped_splits.specs.Distributing as Spec;
+ghost use Rattle.ped_splits.specs.Units.{units, homes};
 ghost use Rattle.ped_splits.specs.CodeUnits.{IsParted, body_of};
 
 use crate::units::Parted;
@@ -18,13 +19,21 @@ pub(crate) fn kept(
     program: &Program,
     parted: &Parted,
     blocks: &[Listed<usize>],
-) -> Result<Keep, NoMemory> {
+) -> Result<Keep, NoMemory>
+    requires parted { IsParted (program_tree program.now) parted.now }
+    requires few { statements_count (program_tree program.now).body + length blocks.now < 2 ^ 32 }
+    requires short { length (Spec.sources (program_tree program.now) parted.now.number (body_of parted.now) blocks.now) < 2 ^ 32 }
+    ensures { IfOk result (λ keep. keep ≡ Spec.kept_from 1 (Spec.sources (program_tree program.now) parted.now.number (body_of parted.now) blocks.now)) }
+{
     let sources = sources(alloc, program, parted, blocks)?;
     kept_from(alloc, &sources)
 }
 
 /// Statements with the numbers from 1 on, each with what it comes from: those that come from one.
-fn kept_from(alloc: Global, sources: &[Option<u32>]) -> Result<Keep, NoMemory> {
+fn kept_from(alloc: Global, sources: &[Option<u32>]) -> Result<Keep, NoMemory>
+    requires { length sources.now < 2 ^ 32 }
+    ensures { IfOk result (λ keep. keep ≡ Spec.kept_from 1 sources.now) }
+{
     let mut keep = Listed::new(alloc);
     let mut number = 0;
     for source in sources {
@@ -42,38 +51,77 @@ fn sources(
     program: &Program,
     parted: &Parted,
     blocks: &[Listed<usize>],
-) -> Result<Vec<Option<u32>>, NoMemory> {
+) -> Result<Vec<Option<u32>>, NoMemory>
+    requires parted { IsParted (program_tree program.now) parted.now }
+    requires few { statements_count (program_tree program.now).body < 2 ^ 32 }
+    ensures { IfOk result (λ all. all.items ≡ Spec.sources (program_tree program.now) parted.now.number (body_of parted.now) blocks.now) }
+{
     let mut sources = Vec::new(alloc);
     add_unmoved(&mut sources, 1, parted.number - 1)?;
-    let mut head = Some(parted.number);
-    for block in blocks {
-        sources.push(head)?;
-        add_units(&mut sources, parted, block.as_slice())?;
-        head = None;
-    }
+    add_loops(&mut sources, parted, blocks)?;
     let behind = parted.number + count_statements(&parted.statement.body);
     add_unmoved(&mut sources, behind + 1, count_statements(&program.body) - behind)?;
     Ok(sources)
 }
 
 /// Adds statements with the numbers from this one on, so many.
-fn add_unmoved(sources: &mut Vec<Option<u32>>, first: u32, count: u32) -> Result<(), NoMemory> {
+fn add_unmoved(sources: &mut Vec<Option<u32>>, first: u32, count: u32) -> Result<(), NoMemory>
+    requires { first + count < 2 ^ 32 }
+    ensures { OnOk result (sources.new.items ≡ sources.old.items ++ Spec.unmoved first count) }
+{
     for place in 0..count {
         sources.push(Some(first + place))?;
     }
     Ok(())
 }
 
-/// Adds the statements of these units.
-fn add_units(sources: &mut Vec<Option<u32>>, parted: &Parted, units: &[usize]) -> Result<(), NoMemory> {
-    for unit in units {
+/// Adds the statements of a DO for each block, of which the first is the old DO.
+fn add_loops(
+    sources: &mut Vec<Option<u32>>,
+    parted: &Parted,
+    blocks: &[Listed<usize>],
+) -> Result<(), NoMemory>
+    requires parted { parted.now.homes.now ≡ homes 0 (units (body_of parted.now)) }
+    requires few { parted.now.number + length parted.now.homes.now < 2 ^ 32 }
+    ensures { OnOk result (sources.new.items ≡ sources.old.items ++ Spec.loop_sources parted.now.number (body_of parted.now) blocks.now) }
+{
+    if let Some((first, others)) = blocks.split_first() {
+        add_block(sources, parted, Some(parted.number), first.as_slice())?;
+        for block in others {
+            add_block(sources, parted, None, block.as_slice())?;
+        }
+    }
+    Ok(())
+}
+
+/// Adds a DO that comes from this one, and the statements of these units.
+fn add_block(
+    sources: &mut Vec<Option<u32>>,
+    parted: &Parted,
+    head: Option<u32>,
+    block: &[usize],
+) -> Result<(), NoMemory>
+    requires parted { parted.now.homes.now ≡ homes 0 (units (body_of parted.now)) }
+    requires few { parted.now.number + length parted.now.homes.now < 2 ^ 32 }
+    ensures { OnOk result (sources.new.items ≡ sources.old.items ++ Spec.block_sources parted.now.number (body_of parted.now) head block.now) }
+{
+    sources.push(head)?;
+    for unit in block {
         add_unit(sources, parted, *unit)?;
     }
     Ok(())
 }
 
 /// Adds the statements of this unit.
-fn add_unit(sources: &mut Vec<Option<u32>>, parted: &Parted, unit: usize) -> Result<(), NoMemory> {
+fn add_unit(
+    sources: &mut Vec<Option<u32>>,
+    parted: &Parted,
+    unit: usize,
+) -> Result<(), NoMemory>
+    requires parted { parted.now.homes.now ≡ homes 0 (units (body_of parted.now)) }
+    requires few { parted.now.number + length parted.now.homes.now < 2 ^ 32 }
+    ensures { OnOk result (sources.new.items ≡ sources.old.items ++ map Some (Spec.numbers_of parted.now.number (body_of parted.now) unit)) }
+{
     let mut number = parted.number;
     for home in parted.homes {
         number += 1;

@@ -1,10 +1,10 @@
 //! Units: the statements of the body of a DO, each with the comments before it.
 
-ghost use Rattle.std.specs.Prelude.{◌≡◌, ◌==◌, ◌<◌, ◌^◌, drop, IfOk};
+ghost use Rattle.std.specs.Prelude.{◌≡◌, ◌==◌, ◌+◌, ◌<◌, ◌≤◌, ◌^◌, ◌++◌, drop, length, replicate, IfOk, OnOk, if◌then◌else◌};
 ghost use Rattle.ped_tree.specs.Numbering.{statement_count, statements_count};
 ghost use Rattle.ped_tree.specs.Views.{stmt_tree, stmt_trees};
 ghost use Rattle.ped_splits.specs.Units as Spec;
-ghost use Rattle.ped_splits.specs.CodeUnits.{unit_trees, home_of};
+ghost use Rattle.ped_splits.specs.CodeUnits.{AreShort, unit_trees, home_of};
 
 use ped_base::NoMemory;
 use ped_tree::{Do, Stmt, count_statements};
@@ -49,7 +49,10 @@ pub(crate) fn units_of<'a>(alloc: Global, body: &'a [Stmt]) -> Result<Vec<Unit<'
 }
 
 /// The place behind the unit of the statement at this place.
-fn end_of_unit(body: &[Stmt], place: usize) -> usize {
+fn end_of_unit(body: &[Stmt], place: usize) -> usize
+    requires { place < length body.now }
+    ensures { result ≡ (if statements_count (stmt_trees (drop (place + 1) body.now)) == 0 then length body.now else place + 1) }
+{
     if are_comments(&body[place + 1..]) {
         body.len()
     } else {
@@ -90,15 +93,24 @@ fn is_comment(statement: &Stmt) -> bool
 
 /// For each numbered statement of units, in text order, the number of its unit, from 0.
 pub(crate) fn homes_of(alloc: Global, units: &[Unit]) -> Result<Vec<usize>, NoMemory>
+    requires { AreShort (unit_trees units.now) }
     ensures { IfOk result (λ found. found.items ≡ Spec.homes 0 (unit_trees units.now)) }
 {
     let mut homes = Vec::new(alloc);
     for (place, unit) in units.iter().enumerate() {
-        for _statement in 0..count_statements(unit.statements) {
-            homes.push(place)?;
-        }
+        add_times(&mut homes, place, count_statements(unit.statements))?;
     }
     Ok(homes)
+}
+
+/// Adds a number so many times.
+fn add_times(numbers: &mut Vec<usize>, number: usize, times: u32) -> Result<(), NoMemory>
+    ensures { OnOk result (numbers.new.items ≡ numbers.old.items ++ replicate times number) }
+{
+    for _time in 0..times {
+        numbers.push(number)?;
+    }
+    Ok(())
 }
 
 /// The unit of the statement with this number, where it stands behind the one with the number `first` and has a unit.

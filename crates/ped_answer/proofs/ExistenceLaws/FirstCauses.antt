@@ -12,6 +12,7 @@ use Rattle.ped_answer.specs.ped_session.specs.ped_transformations.specs.Table.{s
 use Rattle.ped_answer.specs.ped_session.specs.ped_transformations.proofs.LawfulTable.{determined_step}
 use Rattle.ped_answer.proofs.ExistenceLaws.ReindexCauses.{skew_cause, strip_cause, peel_cause}
 use Rattle.ped_answer.specs.ped_session.specs.ped_transformations.specs.ped_reindex.proofs.Determined.{determined_skew, determined_strip, determined_peel}
+use Rattle.ped_answer.proofs.ExistenceLaws.DistributeCauses.{distribute_cause}
 use Rattle.ped_answer.proofs.ExistenceLaws.InterchangeCauses.{interchange_cause}
 use Rattle.ped_answer.proofs.ExistenceLaws.LoopCauses.{parallel_cause, serial_cause, reversal_cause, rejection_cause}
 use Rattle.ped_answer.proofs.ExistenceLaws.ScalarCauses.{privatising_cause, expanding_cause}
@@ -45,7 +46,7 @@ each_cause (Reverse number) = λ t. reversal_cause t number
 each_cause (Skew number factor) = tt
 each_cause (Strip number size) = tt
 each_cause (Peel number last) = tt
-each_cause (Distribute number) = tt
+each_cause (Distribute number) = λ t. distribute_cause t number
 each_cause (Fuse number) = tt
 each_cause (Parallel number) = λ t. parallel_cause t number
 each_cause (Serial number) = λ t. serial_cause t number

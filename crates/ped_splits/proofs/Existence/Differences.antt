@@ -3,16 +3,16 @@
 use Rattle.std.proofs.Common.{◌≡◌, ◌⊎◌, refl, sym, ap, ◌∙◌, inl, inr, arith, ℤ, pos, ◌+ℤ◌, ◌-ℤ◌, ◌*ℤ◌, neg_ℤ, ◌≤ℤ◌, List, [], ◌∷◌, length, Bool, true, false, not, ◌&&◌, IsTrue}
 use Rattle.std.proofs.Math.IntN.{zero-*ℤ}
 use Rattle.std.proofs.lemmas.Bool.Decides.{Decides-int_eq, Decides-and}
-use Rattle.ped_answer.specs.ped_session.specs.ped_graph.specs.ped_views.specs.declared.directions.Direction.{Direction}
-use Rattle.ped_answer.specs.ped_session.specs.ped_graph.specs.ped_views.specs.Whole.{Divides, is_zero}
-use Rattle.ped_answer.specs.ped_session.specs.ped_graph.specs.ped_views.specs.Views.{Range, SubscriptPair, View}
-use Rattle.ped_answer.specs.ped_session.specs.ped_graph.specs.ped_views.specs.Excluded.{InRange, Stands, Indices, dot, difference, CommonInRange, InnerInRange, IsPoint, IsBeyondExtremes}
-use Rattle.ped_answer.specs.ped_session.specs.ped_graph.specs.ped_views.proofs.Products.{linear}
-use Rattle.ped_answer.specs.Existence.Deciding.{Decided}
-use Rattle.ped_answer.proofs.ExistenceLaws.Deciding.{true_decided}
-use Rattle.ped_answer.proofs.ExistenceLaws.Reaching.{Reach, Within, Sum, reach_same, reach_alone, reach_within, reach_sum, reach_turned, reach_multiples, reach_decides}
-use Rattle.ped_answer.proofs.ExistenceLaws.Meeting.{Made, reach_made, stands_decided}
-use Rattle.ped_answer.proofs.ExistenceLaws.Sums.{OneIndex, TwoIndices, RowSum, PairSum, Anything, row_end, row_end_back, row_joined, row_parted, pair_apart, pair_apart_back, pair_joined, pair_parted}
+use Rattle.ped_reindex.specs.ped_loops.specs.ped_scalar.specs.ped_rules.specs.ped_loop_runs.specs.ped_tidy.specs.ped_pasting.specs.ped_bodies.specs.ped_steps.specs.ped_laws.specs.ped_graph.specs.ped_views.specs.declared.directions.Direction.{Direction}
+use Rattle.ped_reindex.specs.ped_loops.specs.ped_scalar.specs.ped_rules.specs.ped_loop_runs.specs.ped_tidy.specs.ped_pasting.specs.ped_bodies.specs.ped_steps.specs.ped_laws.specs.ped_graph.specs.ped_views.specs.Whole.{Divides, is_zero}
+use Rattle.ped_reindex.specs.ped_loops.specs.ped_scalar.specs.ped_rules.specs.ped_loop_runs.specs.ped_tidy.specs.ped_pasting.specs.ped_bodies.specs.ped_steps.specs.ped_laws.specs.ped_graph.specs.ped_views.specs.Views.{Range, SubscriptPair, View}
+use Rattle.ped_reindex.specs.ped_loops.specs.ped_scalar.specs.ped_rules.specs.ped_loop_runs.specs.ped_tidy.specs.ped_pasting.specs.ped_bodies.specs.ped_steps.specs.ped_laws.specs.ped_graph.specs.ped_views.specs.Excluded.{InRange, Stands, Indices, dot, difference, CommonInRange, InnerInRange, IsPoint, IsBeyondExtremes}
+use Rattle.ped_reindex.specs.ped_loops.specs.ped_scalar.specs.ped_rules.specs.ped_loop_runs.specs.ped_tidy.specs.ped_pasting.specs.ped_bodies.specs.ped_steps.specs.ped_laws.specs.ped_graph.specs.ped_views.proofs.Products.{linear}
+use Rattle.ped_splits.proofs.Existence.Sentences.{Decided}
+use Rattle.ped_splits.proofs.Existence.Deciding.{true_decided}
+use Rattle.ped_splits.proofs.Existence.Reaching.{Reach, Within, Sum, reach_same, reach_alone, reach_within, reach_sum, reach_turned, reach_multiples, reach_decides}
+use Rattle.ped_splits.proofs.Existence.Meeting.{Made, reach_made, stands_decided}
+use Rattle.ped_splits.proofs.Existence.Sums.{OneIndex, TwoIndices, RowSum, PairSum, Anything, row_end, row_end_back, row_joined, row_parted, pair_apart, pair_apart_back, pair_joined, pair_parted}
 
 zero_times : (a i : ℤ) → a ≡ pos 0 → a *ℤ i ≡ pos 0
 zero_times a i e = ap (λ (x : ℤ). x *ℤ i) e ∙ zero-*ℤ i

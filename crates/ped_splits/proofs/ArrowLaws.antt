@@ -58,33 +58,34 @@ adds_same old new P Q p same i j = (there, back)
     back (inr x) = (p i j).1 (inr ((same i j).1 x))
 
 -- one arrow
-pub adds_one : (m : List (List Bool)) (from to : ℕ) → from < length m → to < length (row_of m from) → Adds m (slice_set m from (slice_set (row_of m from) to true)) (λ i j. (i ≡ from) × (j ≡ to))
-adds_one m from to f t i j = elim (cases_eq i from) [
-  | inl e ↦ elim (cases_eq j to) [
-    | inl d ↦ ((λ a. inr (e, d)), λ s. ap (λ (k : ℕ). slice_index_or (row_of after k) j false) e ∙ ap (λ (row : List Bool). slice_index_or row j false) row_there ∙ ap (λ (k : ℕ). slice_index_or new k false) d ∙ get_or-set_same (row_of m from) to true false t)
-    | inr n ↦
-        let same : slice_index_or (row_of after i) j false ≡ slice_index_or (row_of m i) j false =
-            ap (λ (k : ℕ). slice_index_or (row_of after k) j false) e ∙ ap (λ (row : List Bool). slice_index_or row j false) row_there ∙ get_or-set_other (row_of m from) to j true false n
-            ∙ ap (λ (k : ℕ). slice_index_or (row_of m k) j false) (sym e) in
-        as_before same (λ p. n p.1)
+module _ (m : List (List Bool)) (from to : ℕ) where
+  abbrev new : List Bool
+  new = slice_set (row_of m from) to true
+
+  abbrev after : List (List Bool)
+  after = slice_set m from new
+
+  pub adds_one : from < length m → to < length (row_of m from) → Adds m after (λ i j. (i ≡ from) × (j ≡ to))
+  adds_one f t i j = elim (cases_eq i from) [
+    | inl e ↦ elim (cases_eq j to) [
+      | inl d ↦ ((λ a. inr (e, d)), λ s. ap (λ (k : ℕ). slice_index_or (row_of after k) j false) e ∙ ap (λ (row : List Bool). slice_index_or row j false) row_there ∙ ap (λ (k : ℕ). slice_index_or new k false) d ∙ get_or-set_same (row_of m from) to true false t)
+      | inr n ↦
+          let same : slice_index_or (row_of after i) j false ≡ slice_index_or (row_of m i) j false =
+              ap (λ (k : ℕ). slice_index_or (row_of after k) j false) e ∙ ap (λ (row : List Bool). slice_index_or row j false) row_there ∙ get_or-set_other (row_of m from) to j true false n
+              ∙ ap (λ (k : ℕ). slice_index_or (row_of m k) j false) (sym e) in
+          as_before same (λ p. n p.1)
+    ]
+    | inr n ↦ as_before (ap (λ (row : List Bool). slice_index_or row j false) (get_or-set_other m from i new [] n)) (λ p. n p.0)
   ]
-  | inr n ↦ as_before (ap (λ (row : List Bool). slice_index_or row j false) (get_or-set_other m from i new [] n)) (λ p. n p.0)
-]
-  where
-    abbrev new : List Bool
-    new = slice_set (row_of m from) to true
+    where
+      row_there : row_of after from ≡ new
+      row_there = get_or-set_same m from new [] f
 
-    abbrev after : List (List Bool)
-    after = slice_set m from new
-
-    row_there : row_of after from ≡ new
-    row_there = get_or-set_same m from new [] f
-
-    as_before : slice_index_or (row_of after i) j false ≡ slice_index_or (row_of m i) j false → ((i ≡ from) × (j ≡ to) → ⊥) → Arrow after i j ↔ (Arrow m i j ⊎ ((i ≡ from) × (j ≡ to)))
-    as_before same none = ((λ a. inl (sym same ∙ a)), λ s. elim s [
-      | inl a ↦ same ∙ a
-      | inr p ↦ absurd (none p)
-    ])
+      as_before : slice_index_or (row_of after i) j false ≡ slice_index_or (row_of m i) j false → ((i ≡ from) × (j ≡ to) → ⊥) → Arrow after i j ↔ (Arrow m i j ⊎ ((i ≡ from) × (j ≡ to)))
+      as_before same none = ((λ a. inl (sym same ∙ a)), λ s. elim s [
+        | inl a ↦ same ∙ a
+        | inr p ↦ absurd (none p)
+      ])
 
 -- truth of two
 pub true_either : (a b : Bool) → (IsTrue a ⊎ IsTrue b) ↔ IsTrue (a || b)

@@ -34,11 +34,20 @@ pub range_below : (a n b : ℕ) → a + n ≤ b → All (λ i. i < b) (range_wit
 range_below a zero b le = All-nil (λ i. i < b)
 range_below a (suc n) b le = All-cons (λ i. i < b) a (range_with_len (a + 1) n) (omega (arith, le)) (range_below (a + 1) n b (omega (arith, le)))
 
+more_is : (n : ℕ) → n ≡ 0 + n
+more_is n = omega arith
+
+less_none : (n : ℕ) → n - 0 ≡ n
+less_none n = omega arith
+
+not_none : (m : ℕ) → 0 < m → false ≡ (m == 0)
+not_none zero h = absurd (omega (arith, h))
+not_none (suc m) h = refl
+
 step : (a b free : Bool) (n : ℕ) → free ≡ (n == 0) → ((not a || b) && free) ≡ ((cond (a && not b) 1 0 + n) == 0)
-step true true free n e = e
-step true false free zero e = refl
-step true false free (suc n) e = refl
-step false b free n e = e
+step true true free n e = e ∙ ap (λ (m : ℕ). m == 0) (more_is n)
+step true false free n e = not_none (1 + n) (omega arith)
+step false b free n e = e ∙ ap (λ (m : ℕ). m == 0) (more_is n)
 
 module _ (reach : List (List Bool)) where
   -- none of the units that are left leads to a free one
@@ -60,7 +69,7 @@ module _ (reach : List (List Bool)) where
 
   pub at_first : (left counts : List ℕ) → left ≡ range_with_len 0 (length reach) → counts ≡ map (leaders reach left) (range_with_len 0 (length reach)) → ArePlaced 0 [] left counts
   at_first left counts all led = record {
-    order = (λ i. ordered reach (length reach - 0) (all i));
+    order = λ i. ordered reach (less_none (length reach) i) (all i);
     below = subst (AreBelow (length reach)) (sym all) (range_below 0 (length reach) (length reach) (omega arith));
     led = led;
   }

@@ -16,7 +16,7 @@ use Rattle.ped_reindex.specs.ped_loops.specs.ped_scalar.specs.ped_rules.specs.Ru
 use Rattle.ped_reindex.specs.ped_loops.specs.ped_scalar.specs.ped_rules.proofs.Chains.{IsChain, IsOne, chain_end, chain_link, first_here, first_later, none_later, not_this, not_those, none_at_end}
 use Rattle.ped_reindex.specs.ped_loops.specs.ped_scalar.specs.ped_rules.proofs.OneEach.{no_loop_one, loop_one, escape_one, unplain_one, limit_one}
 use Rattle.ped_reindex.specs.ped_loops.specs.ped_scalar.specs.ped_rules.proofs.Decided.{some_loop, limit_stands, limit_not, limit_valid}
-use Rattle.ped_reindex.proofs.Here.{here, not_no_loop, fails_there, passes_there}
+use Rattle.ped_splits.proofs.Here.{here, not_no_loop, fails_there, passes_there}
 use Rattle.ped_splits.specs.Blocks.{AreBlocks}
 use Rattle.ped_splits.specs.Distributing.{distributed, sources, kept_from, MakesDistributed, IsItsBound, WhereOneBlock, StandsAgainstDistribution}
 use Rattle.ped_splits.proofs.OneBlocks.{one_found}

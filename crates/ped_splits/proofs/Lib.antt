@@ -1,5 +1,6 @@
 pub mod OneBlocks
 pub mod DistributeRules
+mod Here
 mod DistributeAnswers
 mod BlockOrders
 mod ArrowLaws

@@ -50,7 +50,7 @@ leads_between level s found i j e = (is_within level e.level && not (is_rejected
 
 -- one of these references in unit i names this variable
 abbrev pub refers_by : (s : ℕ) → List ℕ → List Reference → List ℕ → (i : ℕ) → Bool
-refers_by s found refs x i = list_any (λ r. is_same_text r.access.name x && is_unit i (home_of s found r.statement)) refs
+refers_by s found refs x i = list_any (λ r. is_same_text x r.access.name && is_unit i (home_of s found r.statement)) refs
 
 -- the first unit leads to the second, and not the second to the first
 abbrev pub leads : List (List Bool) → (k i : ℕ) → Bool

@@ -52,7 +52,7 @@ is_to_keep t s e = is_within (level_at t s) e.level && not (is_rejected e.mark)
 
 -- a reference in unit i names this variable
 abbrev pub refers : ProgramTree → (s : ℕ) → StmtTrees → List ℕ → (i : ℕ) → Bool
-refers t s body x i = list_any (λ r. is_same_text r.access.name x && stands_in s body i r.statement) (references t)
+refers t s body x i = list_any (λ r. is_same_text x r.access.name && stands_in s body i r.statement) (references t)
 
 -- an arrow leads from unit i to unit j: a dependence does that has to be kept, or both refer to one PRIVATE name of the DO, whose copies a DO of its own would part (Allen and Kennedy, sections 2.4, 6.2.2; this project)
 abbrev pub is_arrow : ProgramTree → (s : ℕ) → Head → StmtTrees → List Edge → (i j : ℕ) → Bool

@@ -157,7 +157,7 @@ fn units_with(
 {
     let mut units = Row::new(alloc, width)?;
     for occurrence in found {
-        if is_named(occurrence.name, name) {
+        if is_named(&occurrence.name, name) {
             if let Some(unit) = home_at(parted.number, parted.homes, occurrence.statement) {
                 units.set(unit);
             }
@@ -166,13 +166,14 @@ fn units_with(
     Ok(units)
 }
 
-/// Whether a reference is one to this name.
-fn is_named(reference: RefName, name: &Name) -> bool
-    ensures { result ≡ is_same_text (name_text reference) name.now }
+/// Whether the text of a reference's name is this name.
+fn is_named(other: &RefName, name: &Name) -> bool
+    ensures { result ≡ is_same_text name.now (name_text other.now) }
 {
-    match reference {
-        RefName::Named(other) => other == *name,
-        RefName::In | RefName::Out => false,
+    match other {
+        RefName::Named(other) => name.as_bytes() == other.as_bytes(),
+        RefName::In => name.as_bytes() == b"(IN)".as_slice(),
+        RefName::Out => name.as_bytes() == b"(OUT)".as_slice(),
     }
 }
 

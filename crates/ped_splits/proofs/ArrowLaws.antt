@@ -1,9 +1,9 @@
 -- Arrows that are added one by one.
-use Rattle.std.proofs.Common.{◌≡◌, ◌⊎◌, ◌↔◌, ℕ, ◌+◌, ◌<◌, ◌==◌, List, [], length, take, map, slice_index_or, slice_set, Bool, true, false, ◌&&◌, ◌||◌, IsTrue, inl, inr, refl, sym, ap, subst, ◌∙◌, arith}
+use Rattle.std.proofs.Common.{◌≡◌, ◌⊎◌, ◌↔◌, ℕ, ◌+◌, ◌<◌, ◌==◌, List, [], ◌∷◌, ◌++◌, length, take, map, get_or, slice_index_or, slice_set, Bool, true, false, ◌&&◌, ◌||◌, IsTrue, inl, inr, refl, sym, ap, subst, ◌∙◌, arith}
 use Rattle.std.specs.List.{list_any}
-use Rattle.std.proofs.lemmas.List.{get_or-set_same, get_or-set_other}
-use Rattle.std.proofs.lemmas.List.Folds.{list_any_more}
-use Rattle.std.proofs.lemmas.Bool.{cases_eq, eqb-true, eq-eqb}
+use Rattle.std.proofs.lemmas.List.{get_or-set_same, get_or-set_other, map-append, take_more}
+use Rattle.std.proofs.lemmas.List.Folds.{list_any-append}
+use Rattle.std.proofs.lemmas.Bool.{cases_eq, eqb-true, eq-eqb, false≢true}
 use Rattle.ped_bits.specs.Places.{Has}
 use Rattle.ped_bits.specs.Reaching.{row_of, Arrow}
 
@@ -102,6 +102,34 @@ true_both false b = ((λ p. absurd (let e = p.0 in cc)), λ t. absurd cc)
 pub true_equal : (a b : ℕ) → (b ≡ a) ↔ IsTrue (a == b)
 true_equal a b = ((λ e. eq-eqb a b (sym e)), λ t. sym (eqb-true a b t))
 
--- one more of a list
-pub one_more : {X : Type 0} (f : X → Bool) (xs : List X) (k : ℕ) (d : X) → k < length xs → (IsTrue (list_any f (take k xs)) ⊎ IsTrue (f (slice_index_or xs k d))) ↔ IsTrue (list_any f (take (k + 1) xs))
-one_more f xs k d h = subst (λ (b : Bool). (IsTrue (list_any f (take k xs)) ⊎ IsTrue (f (slice_index_or xs k d))) ↔ IsTrue b) (sym (list_any_more f xs k d h)) (true_either (list_any f (take k xs)) (f (slice_index_or xs k d)))
+-- one more behind a list
+pub one_behind : {Y : Type 0} (f : Y → Bool) (ys zs : List Y) (y : Y) → zs ≡ ys ++ y ∷ [] → (IsTrue (list_any f ys) ⊎ IsTrue (f y)) ↔ IsTrue (list_any f zs)
+one_behind f ys zs y e = (there, back)
+  where
+    whole : list_any f zs ≡ (list_any f ys || (f y || false))
+    whole = ap (list_any f) e ∙ list_any-append f ys (y ∷ [])
+
+    there : IsTrue (list_any f ys) ⊎ IsTrue (f y) → IsTrue (list_any f zs)
+    there (inl t) = whole ∙ (true_either (list_any f ys) (f y || false)).0 (inl t)
+    there (inr t) = whole ∙ (true_either (list_any f ys) (f y || false)).0 (inr ((true_either (f y) false).0 (inl t)))
+
+    back : IsTrue (list_any f zs) → IsTrue (list_any f ys) ⊎ IsTrue (f y)
+    back t = elim ((true_either (list_any f ys) (f y || false)).1 (sym whole ∙ t)) [
+      | inl a ↦ inl a
+      | inr b ↦ elim ((true_either (f y) false).1 b) [
+        | inl a ↦ inr a
+        | inr a ↦ absurd (false≢true a)
+      ]
+    ]
+
+-- what is taken of a list, and one more
+pub taken : {X Y : Type 0} (g : X → Y) (xs : List X) (k : ℕ) (x : X) → k < length xs → x ≡ get_or xs k x → map g (take (k + 1) xs) ≡ map g (take k xs) ++ g x ∷ []
+taken g xs k x h is = ap (map g) (take_more xs k x h) ∙ map-append g (take k xs) (get_or xs k x ∷ []) ∙ ap (λ (y : _). map g (take k xs) ++ g y ∷ []) (sym is)
+
+-- arrows for one more of a list
+pub added_more : {Y : Type 0} (old mid new : List (List Bool)) (f : ℕ → ℕ → Y → Bool) (ys zs : List Y) (y : Y) → zs ≡ ys ++ y ∷ [] → HasAdded old mid (λ i j. IsTrue (list_any (f i j) ys)) → length new ≡ length mid
+    → Adds mid new (λ i j. IsTrue (f i j y)) → HasAdded old new (λ i j. IsTrue (list_any (f i j) zs))
+added_more old mid new f ys zs y e before long more = record {
+  width = long ∙ before.width;
+  arrows = adds_both old mid new (λ i j. IsTrue (list_any (f i j) ys)) (λ i j. IsTrue (f i j y)) (λ i j. IsTrue (list_any (f i j) zs)) before.arrows more (λ i j. one_behind (f i j) ys zs y e);
+}

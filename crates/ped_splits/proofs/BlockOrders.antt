@@ -1,11 +1,11 @@
 -- How blocks are found one by one, by counts of the units that lead to one.
-use Rattle.std.proofs.Common.{◌≡◌, ℕ, suc, zero, ◌+◌, ◌-◌, ◌<◌, ◌≤◌, ◌==◌, List, [], ◌∷◌, ◌++◌, map, length, filter, cond, slice_index_or, Bool, true, false, not, ◌&&◌, ◌||◌, All, refl, sym, ap, subst, ◌∙◌, append-nil, arith}
+use Rattle.std.proofs.Common.{◌≡◌, ℕ, suc, zero, ◌+◌, ◌-◌, ◌<◌, ◌≤◌, ◌==◌, List, [], ◌∷◌, ◌++◌, map, length, filter, cond, slice_index_or, Bool, true, false, not, ◌&&◌, ◌||◌, All, refl, sym, ap, subst, ◌∙◌, append-nil, eqb-true, arith}
 use Rattle.std.specs.List.{count_by, sum_by, range_with_len}
-use Rattle.std.proofs.lemmas.List.{append_assoc}
+use Rattle.std.proofs.lemmas.List.{append_assoc, map-id}
 use Rattle.std.proofs.lemmas.List.Sums.{sum_by-cons}
 use Rattle.std.proofs.lemmas.List.Filters.{sum_by-filter_both}
 use Rattle.std.proofs.lemmas.List.Elements.{All-nil, All-cons, All-head, All-tail, All-filter}
-use Rattle.std.proofs.lemmas.List.FromFn.{get_or-map-range_with_len}
+use Rattle.std.proofs.lemmas.List.FromFn.{get_or-map-range_with_len, map-range_with_len_more}
 use Rattle.ped_splits.specs.Blocks.{reaches, are_together, is_free, block_then, ordered, blocks}
 use Rattle.ped_splits.specs.CodeUnits.{AreBelow, leads, leaders}
 
@@ -30,6 +30,9 @@ same_map f g a (suc n) b le h =
     let rest = same_map f g (a + 1) n b (omega (arith, le)) h in
     λ i. here i ∷ rest i
 
+pub range_more : (a n m : ℕ) → a + n ≡ m → range_with_len a (n + 1) ≡ range_with_len a n ++ m ∷ []
+range_more a n m e = sym (map-id (range_with_len a (n + 1))) ∙ map-range_with_len_more (λ k. k) a n m e ∙ (λ i. map-id (range_with_len a n) i ++ m ∷ [])
+
 pub range_below : (a n b : ℕ) → a + n ≤ b → All (λ i. i < b) (range_with_len a n)
 range_below a zero b le = All-nil (λ i. i < b)
 range_below a (suc n) b le = All-cons (λ i. i < b) a (range_with_len (a + 1) n) (omega (arith, le)) (range_below (a + 1) n b (omega (arith, le)))
@@ -41,8 +44,11 @@ less_none : (n : ℕ) → n - 0 ≡ n
 less_none n = omega arith
 
 not_none : (m : ℕ) → 0 < m → false ≡ (m == 0)
-not_none zero h = absurd (omega (arith, h))
-not_none (suc m) h = refl
+not_none m h = by (m == 0) refl
+  where
+    by : (b : Bool) → (m == 0) ≡ b → false ≡ (m == 0)
+    by true e = let same = eqb-true m 0 e in absurd (omega (arith, same, h))
+    by false e = sym e
 
 step : (a b free : Bool) (n : ℕ) → free ≡ (n == 0) → ((not a || b) && free) ≡ ((cond (a && not b) 1 0 + n) == 0)
 step true true free n e = e ∙ ap (λ (m : ℕ). m == 0) (more_is n)

@@ -101,7 +101,7 @@ module _ (s : ℕ) where
 
           -- a bound isn't plain
           pub unplain_there : (e : ExprTree) → IsBoundOf h e → (IsPlain (table_of t).constants t s e → ⊥) → WhereUnplain t s (IsItsBound t s) s
-          unplain_there e bound not_plain = (here t s h body is, (e, (refl, here t s h body is, bound), not_plain), λ n p. let at : n ≡ s = p.1.0 in omega (arith, at))
+          unplain_there e bound not_plain = (here t s h body is, ((e, (refl, here t s h body is, bound), not_plain), λ n p. let at : n ≡ s = p.1.0 in omega (arith, at)))
 
           pub plain_first : (e : ExprTree) → IsBoundOf h e → (IsPlain (table_of t).constants t s e → ⊥) → IsFirstRule stands BoundNotPlain s
           plain_first e bound not_plain = behind_escape BoundNotPlain s (first_here BoundNotPlain (WhereUnplain t s (IsItsBound t s)) single s (unplain_there e bound not_plain) single_chain)

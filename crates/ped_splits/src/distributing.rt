@@ -89,10 +89,12 @@ fn distribute_contained<L: Ledger>(
     requires contained { (n : ℕ) → WhereEscape (program_tree scene.now.tree.now) number n → ⊥ }
     ensures { IfOk result (Answers (Spec.distributing number) (program_tree scene.now.tree.now)) }
 {
-    if !is_plain(alloc, scene, number, &d.first)? {
+    let first = is_plain(alloc, scene, number, &d.first)?;
+    if !first {
         return Ok(Err(against(Rule::BoundNotPlain, number)));
     }
-    if !is_plain(alloc, scene, number, &d.last)? {
+    let last = is_plain(alloc, scene, number, &d.last)?;
+    if !last {
         return Ok(Err(against(Rule::BoundNotPlain, number)));
     }
     distribute_plain(alloc, scene, number, d)

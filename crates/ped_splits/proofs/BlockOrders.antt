@@ -1,10 +1,10 @@
 -- How blocks are found one by one, by counts of the units that lead to one.
-use Rattle.std.proofs.Common.{◌≡◌, ℕ, suc, zero, ◌+◌, ◌-◌, ◌<◌, ◌≤◌, ◌==◌, List, [], ◌∷◌, ◌++◌, map, length, filter, cond, slice_index_or, Bool, true, false, not, ◌&&◌, ◌||◌, All, refl, sym, ap, subst, ◌∙◌, append-nil, eqb-true, arith}
+use Rattle.std.proofs.Common.{◌≡◌, ℕ, suc, zero, ◌+◌, ◌-◌, ◌<◌, ◌≤◌, ◌==◌, List, [], ◌∷◌, ◌++◌, map, length, take, drop, get_or, filter, cond, slice_index_or, Bool, true, false, not, ◌&&◌, ◌||◌, All, refl, sym, ap, subst, ◌∙◌, append-nil, eqb-true, arith}
 use Rattle.std.specs.List.{count_by, sum_by, range_with_len}
-use Rattle.std.proofs.lemmas.List.{append_assoc, map-id}
+use Rattle.std.proofs.lemmas.List.{append_assoc, map-id, take-append-drop, drop_more}
 use Rattle.std.proofs.lemmas.List.Sums.{sum_by-cons}
 use Rattle.std.proofs.lemmas.List.Filters.{sum_by-filter_both}
-use Rattle.std.proofs.lemmas.List.Elements.{All-nil, All-cons, All-head, All-tail, All-filter}
+use Rattle.std.proofs.lemmas.List.Elements.{All-nil, All-cons, All-head, All-tail, All-filter, filter-append}
 use Rattle.std.proofs.lemmas.List.FromFn.{get_or-map-range_with_len, map-range_with_len_more}
 use Rattle.ped_splits.specs.Blocks.{reaches, are_together, is_free, block_then, ordered, blocks}
 use Rattle.ped_splits.specs.CodeUnits.{AreBelow, leads, leaders}
@@ -29,6 +29,13 @@ same_map f g a (suc n) b le h =
     let here = h a (omega (arith, le)) in
     let rest = same_map f g (a + 1) n b (omega (arith, le)) h in
     λ i. here i ∷ rest i
+
+-- the first item that passes a test
+pub first_passes : {X : Type 0} (p : X → Bool) (xs : List X) (k : ℕ) (d : X) → k < length xs → filter p (take k xs) ≡ [] → p (get_or xs k d) ≡ true → filter p xs ≡ get_or xs k d ∷ filter p (drop (k + 1) xs)
+first_passes p xs k d h none holds =
+    ap (filter p) (sym (take-append-drop k xs)) ∙ filter-append p (take k xs) (drop k xs)
+    ∙ (λ i. none i ++ filter p (drop_more xs k d h i))
+    ∙ ap (λ (b : Bool). cond b (get_or xs k d ∷ filter p (drop (k + 1) xs)) (filter p (drop (k + 1) xs))) holds
 
 pub range_more : (a n m : ℕ) → a + n ≡ m → range_with_len a (n + 1) ≡ range_with_len a n ++ m ∷ []
 range_more a n m e = sym (map-id (range_with_len a (n + 1))) ∙ map-range_with_len_more (λ k. k) a n m e ∙ (λ i. map-id (range_with_len a n) i ++ m ∷ [])

@@ -4,7 +4,9 @@ mod Here
 mod DistributeAnswers
 mod BlockOrders
 mod ArrowLaws
+mod ReferenceRows
 mod FoundUnits
+mod JoinedUnits
 mod UnitSizes
 mod Partitions
 pub mod Existence

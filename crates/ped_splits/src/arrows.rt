@@ -95,6 +95,7 @@ fn add_arrow(from: usize, to: usize, arrows: &mut Matrix)
     ensures width { length arrows.new ≡ length arrows.old }
     ensures arrows { (i j : ℕ) → Arrow arrows.new i j ↔ (Arrow arrows.old i j ⊎ ((i ≡ from) × (j ≡ to))) }
 {
+    let _width = arrows.width();
     arrows.set(from, to);
 }
 

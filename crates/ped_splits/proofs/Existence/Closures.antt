@@ -83,7 +83,7 @@ split m n i j (k ∷ via) p b =
 
 ends : (m : List (List Bool)) → IsSquare m → (i j : ℕ) (via : List ℕ) → IsPath m i via j → (i < length m) × (j < length m) × AllBelow (length m) via
 ends m square i j [] p = (arrow_from m i j p, arrow_to m square i j p, tt)
-ends m square i j (k ∷ via) p = let rest = ends m square k j via p.1 in (arrow_from m i k p.0, rest.1, arrow_to m square i k p.0, rest.2)
+ends m square i j (k ∷ via) p = let rest = ends m square k j via p.1 in (arrow_from m i k p.0, rest.1, (arrow_to m square i k p.0, rest.2))
 
 module _ (old : List (List Bool)) (square : IsSquare old) where
   -- what is reached over the places below n
@@ -97,22 +97,22 @@ module _ (old : List (List Bool)) (square : IsSquare old) where
       back : Within old zero i j → IsTrue (over zero i j)
       back ([], p, b) = p
       back (k ∷ via, p, b) = absurd (let h = b.0 in omega arith)
-  over_is (suc n) i j = (there, back)
+  over_is (suc n) i j = (there (over_is n), back (over_is n))
     where
-      there : IsTrue (over (suc n) i j) → Within old (suc n) i j
-      there t = elim ((true_either (over n i j) (over n i n && over n n j)).1 t) [
-        | inl x ↦ (let w = (over_is n i j).0 x in (w.0, w.1, more_below n w.0 w.2))
+      there : ((a b : ℕ) → IsTrue (over n a b) ↔ Within old n a b) → IsTrue (over (suc n) i j) → Within old (suc n) i j
+      there before t = elim ((true_either (over n i j) (over n i n && over n n j)).1 t) [
+        | inl x ↦ (let w = (before i j).0 x in (w.0, w.1, more_below n w.0 w.2))
         | inr x ↦
             let p = (true_both (over n i n) (over n n j)).1 x in
-            let v = (over_is n i n).0 p.0 in
-            let w = (over_is n n j).0 p.1 in
+            let v = (before i n).0 p.0 in
+            let w = (before n j).0 p.1 in
             (v.0 ++ n ∷ w.0, join old i n j v.0 w.0 v.1 w.1, both_below (n + 1) n v.0 w.0 (omega arith) (more_below n v.0 v.2) (more_below n w.0 w.2))
       ]
 
-      back : Within old (suc n) i j → IsTrue (over (suc n) i j)
-      back w = (true_either (over n i j) (over n i n && over n n j)).0 (elim (split old n i j w.0 w.1 w.2) [
-        | inl x ↦ inl ((over_is n i j).1 x)
-        | inr x ↦ inr ((true_both (over n i n) (over n n j)).0 ((over_is n i n).1 x.0, (over_is n n j).1 x.1))
+      back : ((a b : ℕ) → IsTrue (over n a b) ↔ Within old n a b) → Within old (suc n) i j → IsTrue (over (suc n) i j)
+      back before w = (true_either (over n i j) (over n i n && over n n j)).0 (elim (split old n i j w.0 w.1 w.2) [
+        | inl x ↦ inl ((before i j).1 x)
+        | inr x ↦ inr ((true_both (over n i n) (over n n j)).0 ((before i n).1 x.0, (before n j).1 x.1))
       ])
 
   abbrev closed_rows : List (List Bool)

@@ -5,11 +5,11 @@ use Rattle.ped_splits.proofs.DistributeRules as rules
 use Rattle.ped_splits.proofs.DistributeAnswers.{refused}
 use Rattle.ped_splits.proofs.distributing.distribute_contained.Goals as goal
 
-not_plain : {P : Type 0} (b : Bool) → not b ≡ true → IsTrue b ↔ P → P → ⊥
+not_plain : {P : Type 0} (b : Bool) → b ≡ false → IsTrue b ↔ P → P → ⊥
 not_plain true n is p = absurd cc
 not_plain false n is p = let f : false ≡ true = is.1 p in absurd cc
 
-so_plain : {P : Type 0} (b : Bool) → not b ≡ false → IsTrue b ↔ P → P
+so_plain : {P : Type 0} (b : Bool) → b ≡ true → IsTrue b ↔ P → P
 so_plain true n is = is.0 refl
 so_plain false n is = absurd cc
 

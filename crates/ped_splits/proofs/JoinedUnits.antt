@@ -31,12 +31,12 @@ module _ (us : List Unit) where
   chosen i = slice_index_or (unit_trees us) i no_stmts
 
   -- a unit more
-  pub next_unit : (old new : StmtTrees) (block : List ℕ) (k : ℕ) (u : Unit) (whole : StmtTrees) → new ≡ followed old (unit_tree u) → k < length block → get_or block k 0 < length us → u ≡ get_or us (get_or block k 0) u
+  pub next_unit : (old new : StmtTrees) (block : List ℕ) (k : ℕ) (d : Unit) (whole : StmtTrees) → new ≡ followed old (unit_tree (get_or us (get_or block k 0) d)) → k < length block → get_or block k 0 < length us
       → followed old (joined (map chosen (drop k block))) ≡ whole → followed new (joined (map chosen (drop (k + 1) block))) ≡ whole
-  next_unit old new block k u whole made h inside is before =
+  next_unit old new block k d whole made h inside before =
       ap (λ (a : StmtTrees). followed a (joined (map chosen (drop (k + 1) block)))) made
-      ∙ followed-assoc old (unit_tree u) (joined (map chosen (drop (k + 1) block)))
-      ∙ ap (λ (t : StmtTrees). followed old (followed t (joined (map chosen (drop (k + 1) block))))) (ap unit_tree is ∙ sym (get_or-map unit_tree us (get_or block k 0) u no_stmts inside))
+      ∙ followed-assoc old (unit_tree (get_or us (get_or block k 0) d)) (joined (map chosen (drop (k + 1) block)))
+      ∙ ap (λ (t : StmtTrees). followed old (followed t (joined (map chosen (drop (k + 1) block))))) (sym (get_or-map unit_tree us (get_or block k 0) d no_stmts inside))
       ∙ ap (λ (xs : List ℕ). followed old (joined (map chosen xs))) (sym (drop_more block k 0 h))
       ∙ before
 

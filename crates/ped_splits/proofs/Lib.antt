@@ -5,9 +5,13 @@ mod DistributeAnswers
 mod BlockOrders
 mod ArrowLaws
 mod ReferenceRows
+mod ArrowRows
 mod FoundUnits
 mod JoinedUnits
 mod UnitSizes
 mod Partitions
+mod OneToOne
+mod Keepings
+mod BlockSizes
 pub mod Existence
 pub mod Determined

@@ -10,7 +10,7 @@ use Rattle.ped_reindex.specs.ped_loops.specs.ped_scalar.specs.ped_rules.specs.pe
 use Rattle.ped_splits.specs.Units.{arrows, IsClosure}
 use Rattle.ped_splits.specs.Blocks.{blocks, AreBlocks}
 
-same_truth : (x y : Bool) → (IsTrue x → IsTrue y) → (IsTrue y → IsTrue x) → x ≡ y
+pub same_truth : (x y : Bool) → (IsTrue x → IsTrue y) → (IsTrue y → IsTrue x) → x ≡ y
 same_truth true y f g = sym (f refl)
 same_truth false true f g = g refl
 same_truth false false f g = refl

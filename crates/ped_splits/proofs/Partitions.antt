@@ -52,7 +52,7 @@ module _ (reach : List (List Bool)) where
           (others (filter (λ k. not (are_together reach i k)) left) (All-filter (λ k. not (are_together reach i k)) (λ k. k < m) left h))
 
 -- sums
-sum_plus : (a b : ℕ → ℕ) (xs : List ℕ) → sum_by (λ i. a i + b i) xs ≡ sum_by a xs + sum_by b xs
+pub sum_plus : (a b : ℕ → ℕ) (xs : List ℕ) → sum_by (λ i. a i + b i) xs ≡ sum_by a xs + sum_by b xs
 sum_plus a b [] = refl
 sum_plus a b (x ∷ xs) =
     let rest = sum_plus a b xs in
@@ -61,12 +61,12 @@ sum_plus a b (x ∷ xs) =
     let other = sum_by-cons b x xs in
     omega (arith, rest, whole, one, other)
 
-sum_none : (xs : List ℕ) → sum_by (λ (i : ℕ). 0) xs ≡ 0
+pub sum_none : (xs : List ℕ) → sum_by (λ (i : ℕ). 0) xs ≡ 0
 sum_none [] = refl
 sum_none (x ∷ xs) = let rest = sum_none xs in let whole = sum_by-cons (λ (i : ℕ). 0) x xs in omega (arith, rest, whole)
 
 -- 1 where it is so
-abbrev tally : Bool → ℕ
+abbrev pub tally : Bool → ℕ
 tally b = cond b 1 0
 
 -- a number is one of a range at most
@@ -74,7 +74,7 @@ differs : (j a : ℕ) (b : Bool) → (j == a) ≡ b → j < a → tally b ≡ 0
 differs j a true e h = let same = eqb-true j a e in absurd (omega (arith, same, h))
 differs j a false e h = refl
 
-later_none : (j a n : ℕ) → j < a → sum_by (λ i. tally (j == i)) (range_with_len a n) ≡ 0
+pub later_none : (j a n : ℕ) → j < a → sum_by (λ i. tally (j == i)) (range_with_len a n) ≡ 0
 later_none j a zero h = refl
 later_none j a (suc n) h =
     let rest = later_none j (a + 1) n (omega (arith, h)) in
@@ -82,7 +82,7 @@ later_none j a (suc n) h =
     let other : tally (j == a) ≡ 0 = differs j a (j == a) refl h in
     omega (arith, rest, whole, other)
 
-one_at_most : (j a n : ℕ) → sum_by (λ i. tally (j == i)) (range_with_len a n) ≤ 1
+pub one_at_most : (j a n : ℕ) → sum_by (λ i. tally (j == i)) (range_with_len a n) ≤ 1
 one_at_most j a zero = omega arith
 one_at_most j a (suc n) = by (one_at_most j (a + 1) n) (j == a) refl
   where
@@ -98,7 +98,7 @@ one_at_most j a (suc n) = by (one_at_most j (a + 1) n) (j == a) refl
         let here : tally (j == a) ≡ 0 = ap tally e in
         omega (arith, less, whole, here)
 
-one_home : (o : Option ℕ) (n : ℕ) → sum_by (λ i. tally (is_unit i o)) (range_with_len 0 n) ≤ 1
+pub one_home : (o : Option ℕ) (n : ℕ) → sum_by (λ i. tally (is_unit i o)) (range_with_len 0 n) ≤ 1
 one_home None n = let none = sum_none (range_with_len 0 n) in omega (arith, none)
 one_home (Some j) n = one_at_most j 0 n
 
@@ -156,7 +156,7 @@ module _ (s : ℕ) (body : StmtTrees) where
       let sum : sum_by size_of (flat (blocks reach)) ≤ sum_by size_of (range_with_len 0 (length reach)) = sums_below reach size_of (length reach) all in
       let parted : sum_by size_of (range_with_len 0 (length reach)) ≤ length (range_with_len (s + 1) (statements_count body)) = numbers_parted (length reach) (range_with_len (s + 1) (statements_count body)) in
       let numbers : length (range_with_len (s + 1) (statements_count body)) ≡ statements_count body = length-range_with_len (s + 1) (statements_count body) in
-      let behind : List (Option ℕ) = loop_sources s body (blocks reach) ++ unmoved (s + 1 + statements_count body) rear_count in
-      let first : length (sources t s body (blocks reach)) ≡ length (unmoved 1 (s - 1)) + length behind = length-append (unmoved 1 (s - 1)) behind in
-      let second : length behind ≡ length (loop_sources s body (blocks reach)) + length (unmoved (s + 1 + statements_count body) rear_count) = length-append (loop_sources s body (blocks reach)) (unmoved (s + 1 + statements_count body) rear_count) in
+      let before : List (Option ℕ) = unmoved 1 (s - 1) ++ loop_sources s body (blocks reach) in
+      let first : length (sources t s body (blocks reach)) ≡ length before + length (unmoved (s + 1 + statements_count body) rear_count) = length-append before (unmoved (s + 1 + statements_count body) rear_count) in
+      let second : length before ≡ length (unmoved 1 (s - 1)) + length (loop_sources s body (blocks reach)) = length-append (unmoved 1 (s - 1)) (loop_sources s body (blocks reach)) in
       omega (arith, inside, front, rear, loops, few, sum, parted, numbers, first, second)

@@ -1,15 +1,18 @@
 -- Rows of the units that refer to a name, reference by reference.
-use Rattle.std.proofs.Common.{◌≡◌, ◌⊎◌, ◌↔◌, ℕ, ◌+◌, ◌<◌, ◌==◌, List, [], ◌∷◌, ◌++◌, length, take, map, get_or, slice_index_or, slice_set, Bool, true, false, ◌&&◌, ◌||◌, IsTrue, Option, Some, None, inl, inr, refl, sym, ap, subst, ◌∙◌}
+use Rattle.std.proofs.Common.{◌≡◌, ◌⊎◌, ◌↔◌, ℕ, ◌+◌, ◌-◌, ◌<◌, ◌==◌, if◌then◌else◌, List, [], ◌∷◌, ◌++◌, length, take, map, get_or, slice_index_or, slice_set, Bool, true, false, ◌&&◌, ◌||◌, IsTrue, Option, Some, None, inl, inr, refl, sym, ap, subst, ◌∙◌}
+use Rattle.std.specs.Prelude.{slice_get, nat_lt}
 use Rattle.std.specs.List.{list_any}
+use Rattle.std.proofs.lemmas.Option.{slice_get_within, get_or_from_slice_get}
 use Rattle.std.proofs.lemmas.List.{get_or-set_same, get_or-set_other}
 use Rattle.std.proofs.lemmas.List.Folds.{list_any-append}
 use Rattle.std.proofs.lemmas.Bool.{cases_eq, eqb-true, eq-eqb}
 use Rattle.ped_base.specs.Lists.{is_same_text}
 use Rattle.ped_bits.specs.Places.{Has}
+use Rattle.ped_reindex.specs.ped_loops.specs.ped_scalar.specs.ped_rules.specs.ped_loop_runs.specs.ped_tidy.specs.ped_pasting.specs.ped_bodies.specs.ped_steps.specs.ped_refs.specs.References.{Reference}
 use Rattle.ped_reindex.specs.ped_loops.specs.ped_scalar.specs.ped_rules.specs.ped_loop_runs.specs.ped_tidy.specs.ped_pasting.specs.ped_bodies.specs.ped_steps.specs.ped_refs.specs.Occurrences.{name_text, reference_of, references_of}
 use Rattle.ped_reindex.specs.ped_loops.specs.ped_scalar.specs.ped_rules.specs.ped_loop_runs.specs.ped_tidy.specs.ped_pasting.specs.ped_bodies.specs.ped_steps.specs.ped_refs.specs.declared.occurring.Occurrence.{Occurrence}
 use Rattle.ped_splits.specs.Units.{is_unit}
-use Rattle.ped_splits.specs.CodeUnits.{home_of, refers_by}
+use Rattle.ped_splits.specs.CodeUnits.{AreBelow, home_of, refers_by}
 use Rattle.ped_splits.proofs.ArrowLaws.{taken, true_both}
 
 or_false : (b : Bool) → (b || false) ≡ b
@@ -20,7 +23,7 @@ or_true : (b : Bool) → (b || true) ≡ true
 or_true true = refl
 or_true false = refl
 
-other_number : (a b : ℕ) → (b ≡ a → ⊥) → (a == b) ≡ false
+pub other_number : (a b : ℕ) → (b ≡ a → ⊥) → (a == b) ≡ false
 other_number a b n = by (a == b) refl
   where
     by : (r : Bool) → (a == b) ≡ r → (a == b) ≡ false
@@ -44,7 +47,7 @@ module _ (s : ℕ) (found : List ℕ) (x : List ℕ) where
       ap (list_any refers) (taken reference_of os k o h is) ∙ list_any-append refers (references_of (take k os)) (reference_of o ∷ [])
       ∙ ap (λ (b : Bool). refers_by s found (references_of (take k os)) x i || b) (or_false (refers (reference_of o)))
     where
-      refers : _ → Bool
+      refers : Reference → Bool
       refers r = is_same_text x r.access.name && is_unit i (home_of s found r.statement)
 
   module _ (os : List Occurrence) (k : ℕ) (o : Occurrence) (h : k < length os) (is : o ≡ get_or os k o) (row : List Bool) (before : (i : ℕ) → slice_index_or row i false ≡ refers_by s found (references_of (take k os)) x i) where
@@ -73,3 +76,16 @@ module _ (s : ℕ) (found : List ℕ) (x : List ℕ) where
 -- both units are in a row
 pub both_refer : (row : List Bool) (f : ℕ → Bool) → ((i : ℕ) → slice_index_or row i false ≡ f i) → (i j : ℕ) → (Has row i × Has row j) ↔ IsTrue (f i && f j)
 both_refer row f is i j = ((λ p. (true_both (f i) (f j)).0 (sym (is i) ∙ p.0, sym (is j) ∙ p.1)), λ t. let p = (true_both (f i) (f j)).1 t in (is i ∙ p.0, is j ∙ p.1))
+
+none_some : (x : ℕ) → None ≡ Some x → ⊥
+none_some x e = cc
+
+-- units of statements are among so many
+pub home_below : (s : ℕ) (found : List ℕ) (k n unit : ℕ) → AreBelow n found → home_of s found k ≡ Some unit → unit < n
+home_below s found k n unit below is = by (nat_lt s k) refl
+  where
+    by : (b : Bool) → nat_lt s k ≡ b → unit < n
+    by true e =
+        let there : slice_get found (k - (s + 1)) ≡ Some unit = ap (λ (b : Bool). if b then slice_get found (k - (s + 1)) else None) (sym e) ∙ is in
+        subst (λ (i : ℕ). i < n) (get_or_from_slice_get found (k - (s + 1)) unit 0 there) (below (k - (s + 1)) 0 (slice_get_within found (k - (s + 1)) unit there))
+    by false e = absurd (none_some unit (ap (λ (b : Bool). if b then slice_get found (k - (s + 1)) else None) (sym e) ∙ is))

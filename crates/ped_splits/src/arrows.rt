@@ -46,6 +46,7 @@ pub(crate) fn reaching<L: Ledger>(
     add_dependences(parted, level, &edges, &mut arrows);
     let found = occurrences(alloc, scene.tree)?;
     add_links(alloc, parted, &found, &mut arrows)?;
+    let _width = arrows.width();
     arrows.close();
     Ok(arrows)
 }

@@ -1,6 +1,6 @@
 //! Which statements the step keeps.
 
-ghost use Rattle.std.specs.Prelude.{◌≡◌, ◌+◌, ◌<◌, ◌^◌, ◌++◌, Some, map, length, IfOk, OnOk};
+ghost use Rattle.std.specs.Prelude.{◌≡◌, ◌==◌, ◌+◌, ◌<◌, ◌^◌, ◌++◌, Some, None, map, length, IfOk, OnOk, if◌then◌else◌};
 ghost use Rattle.ped_tree.specs.Numbering.{statements_count};
 ghost use Rattle.ped_tree.specs.Views.{program_tree};
 ghost use Rattle.ped_splits.specs.Distributing as Spec;
@@ -85,13 +85,21 @@ fn add_loops(
     requires few { parted.now.number + length parted.now.homes.now < 2 ^ 32 }
     ensures { OnOk result (sources.new.items ≡ sources.old.items ++ Spec.loop_sources parted.now.number (body_of parted.now) blocks.now) }
 {
-    if let Some((first, others)) = blocks.split_first() {
-        add_block(sources, parted, Some(parted.number), first.as_slice())?;
-        for block in others {
-            add_block(sources, parted, None, block.as_slice())?;
-        }
+    for (place, block) in blocks.iter().enumerate() {
+        let head = source_of_head(parted.number, place);
+        add_block(sources, parted, head, block.as_slice())?;
     }
     Ok(())
+}
+
+/// What the head of the DO at this place comes from: the first one from the old DO.
+fn source_of_head(number: u32, place: usize) -> Option<u32>
+    ensures { result ≡ (if place == 0 then Some number else None) }
+{
+    if place == 0 {
+        return Some(number);
+    }
+    None
 }
 
 /// Adds a DO that comes from this one, and the statements of these units.

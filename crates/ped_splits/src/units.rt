@@ -1,6 +1,6 @@
 //! Units: the statements of the body of a DO, each with the comments before it.
 
-ghost use Rattle.std.specs.Prelude.{◌≡◌, ◌==◌, ◌+◌, ◌<◌, ◌≤◌, ◌^◌, ◌++◌, drop, length, replicate, IfOk, OnOk, if◌then◌else◌};
+ghost use Rattle.std.specs.Prelude.{◌≡◌, ◌==◌, ◌+◌, ◌<◌, ◌≤◌, ◌^◌, ◌++◌, drop, length, replicate, slice_range, IfOk, OnOk, if◌then◌else◌};
 ghost use Rattle.ped_tree.specs.Numbering.{statement_count, statements_count};
 ghost use Rattle.ped_tree.specs.Views.{stmt_tree, stmt_trees};
 ghost use Rattle.ped_splits.specs.Units as Spec;
@@ -40,12 +40,21 @@ pub(crate) fn units_of<'a>(alloc: Global, body: &'a [Stmt]) -> Result<Vec<Unit<'
         if !is_comment(statement) {
             let behind = end_of_unit(body, place);
             units.push(Unit {
-                statements: &body[from..behind],
+                statements: part(body, from, behind),
             })?;
             from = behind;
         }
     }
     Ok(units)
+}
+
+/// The statements from a place to one before another.
+fn part(body: &[Stmt], from: usize, behind: usize) -> &[Stmt]
+    requires from { from ≤ behind }
+    requires behind { behind ≤ length body.now }
+    ensures { result.now ≡ slice_range body.now from behind }
+{
+    &body[from..behind]
 }
 
 /// The place behind the unit of the statement at this place.

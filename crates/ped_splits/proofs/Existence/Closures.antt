@@ -87,7 +87,7 @@ ends m square i j (k ∷ via) p = let rest = ends m square k j via p.1 in (arrow
 
 module _ (old : List (List Bool)) (square : IsSquare old) where
   -- what is reached over the places below n
-  over : ℕ → ℕ → ℕ → Bool
+  abbrev over : ℕ → ℕ → ℕ → Bool
   over zero i j = reaches old i j
   over (suc n) i j = over n i j || (over n i n && over n n j)
 

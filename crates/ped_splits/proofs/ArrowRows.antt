@@ -12,7 +12,7 @@ use Rattle.ped_splits.specs.Units.{units, homes, is_arrow, arrows, IsClosure}
 use Rattle.ped_splits.specs.CodeUnits.{leads_between, refers_by}
 use Rattle.ped_splits.proofs.ArrowLaws.{Adds, true_either}
 use Rattle.ped_splits.proofs.OneBlocks.{same_truth}
-use Rattle.ped_splits.proofs.Existence.Closures.{rows_by, long_by, row_by, square_by, test_by}
+use Rattle.ped_splits.proofs.Existence.Closures.{rows_by, long_by, square_by, test_by}
 
 -- rows with these arrows are those of the test
 pub rows_are : (n : ℕ) (f : ℕ → ℕ → Bool) (m : List (List Bool)) → length m ≡ n → IsSquare m → ((i j : ℕ) → Arrow m i j ↔ IsTrue (f i j)) → m ≡ rows_by n f
@@ -41,10 +41,10 @@ no_arrow n w i j a = elim (cases_lt i n) [
 
 module _ (t : ProgramTree) (s : ℕ) (h : Head) (body : StmtTrees) (edges : List Edge) where
   -- arrows of dependences, and of names, as the code adds them
-  abbrev leading : (level : ℕ) → List ℕ → ℕ → ℕ → Bool
+  abbrev pub leading : (level : ℕ) → List ℕ → ℕ → ℕ → Bool
   leading level found i j = list_any (leads_between level s found i j) edges
 
-  abbrev linked : List ℕ → List Reference → ℕ → ℕ → Bool
+  abbrev pub linked : List ℕ → List Reference → ℕ → ℕ → Bool
   linked found refs i j = list_any (λ x. refers_by s found refs x i && refers_by s found refs x j) h.private
 
   module _ (level : ℕ) (found : List ℕ) (refs : List Reference) (is_level : level ≡ level_at t s) (are_homes : found ≡ homes 0 (units body)) (are_refs : refs ≡ references t) where

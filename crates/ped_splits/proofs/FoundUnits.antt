@@ -155,3 +155,8 @@ all_found body place from found are ends = sym (append-nil (unit_trees found)) �
 
 pub none_found : (body : List Stmt) → AreFound body 0 0 []
 none_found body = record { inside = omega arith; done = refl; stands = inl (omega arith, refl) }
+
+-- where a unit ends
+pub ends_there : (b : Bool) (n place behind : ℕ) → place < n → behind ≡ (if b then n else place + 1) → (place < behind) × (behind ≤ n)
+ends_there true n place behind h e = (omega (arith, h, e), omega (arith, e))
+ends_there false n place behind h e = (omega (arith, e), omega (arith, h, e))

@@ -21,7 +21,7 @@ pub(crate) fn kept(
     blocks: &[Listed<usize>],
 ) -> Result<Keep, NoMemory>
     requires parted { IsParted (program_tree program.now) parted.now }
-    requires few { statements_count (program_tree program.now).body < 2 ^ 32 }
+    requires few { statements_count (program_tree program.now).body + 1 < 2 ^ 32 }
     requires short { length (Spec.sources (program_tree program.now) parted.now.number (body_of parted.now) blocks.now) < 2 ^ 32 }
     ensures { IfOk result (λ keep. keep ≡ Spec.kept_from 1 (Spec.sources (program_tree program.now) parted.now.number (body_of parted.now) blocks.now)) }
 {
@@ -53,7 +53,7 @@ fn sources(
     blocks: &[Listed<usize>],
 ) -> Result<Vec<Option<u32>>, NoMemory>
     requires parted { IsParted (program_tree program.now) parted.now }
-    requires few { statements_count (program_tree program.now).body < 2 ^ 32 }
+    requires few { statements_count (program_tree program.now).body + 1 < 2 ^ 32 }
     ensures { IfOk result (λ all. all.items ≡ Spec.sources (program_tree program.now) parted.now.number (body_of parted.now) blocks.now) }
 {
     let mut sources = Vec::new(alloc);

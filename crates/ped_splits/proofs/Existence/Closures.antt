@@ -20,7 +20,7 @@ module _ (n : ℕ) (f : ℕ → ℕ → Bool) where
   pub long_by : length (rows_by n f) ≡ n
   long_by = length-map-range_with_len (λ i. map (f i) (range_with_len 0 n)) 0 n
 
-  row_by : (i : ℕ) → i < n → row_of (rows_by n f) i ≡ map (f i) (range_with_len 0 n)
+  pub row_by : (i : ℕ) → i < n → row_of (rows_by n f) i ≡ map (f i) (range_with_len 0 n)
   row_by i h = get_or-map-range_with_len (λ k. map (f k) (range_with_len 0 n)) 0 n i i [] h (omega arith)
 
   pub square_by : IsSquare (rows_by n f)
@@ -61,11 +61,11 @@ both_below : (n k : ℕ) (v w : List ℕ) → k < n → AllBelow n v → AllBelo
 both_below n k [] w h a b = (h, b)
 both_below n k (x ∷ v) w h a b = (a.0, both_below n k v w h a.1 b)
 
-more_below : (n : ℕ) (v : List ℕ) → AllBelow n v → AllBelow (n + 1) v
+more_below : (n : ℕ) (v : List ℕ) → AllBelow n v → AllBelow (suc n) v
 more_below n [] a = tt
 more_below n (x ∷ v) a = (let h = a.0 in omega arith, more_below n v a.1)
 
-split : (m : List (List Bool)) (n i j : ℕ) (via : List ℕ) → IsPath m i via j → AllBelow (n + 1) via → Within m n i j ⊎ (Within m n i n × Within m n n j)
+split : (m : List (List Bool)) (n i j : ℕ) (via : List ℕ) → IsPath m i via j → AllBelow (suc n) via → Within m n i j ⊎ (Within m n i n × Within m n n j)
 split m n i j [] p b = inl ([], p, tt)
 split m n i j (k ∷ via) p b =
     elim (cases_eq k n) [
@@ -106,7 +106,7 @@ module _ (old : List (List Bool)) (square : IsSquare old) where
             let p = (true_both (over n i n) (over n n j)).1 x in
             let v = (before i n).0 p.0 in
             let w = (before n j).0 p.1 in
-            (v.0 ++ n ∷ w.0, join old i n j v.0 w.0 v.1 w.1, both_below (n + 1) n v.0 w.0 (omega arith) (more_below n v.0 v.2) (more_below n w.0 w.2))
+            (v.0 ++ n ∷ w.0, join old i n j v.0 w.0 v.1 w.1, both_below (suc n) n v.0 w.0 (omega arith) (more_below n v.0 v.2) (more_below n w.0 w.2))
       ]
 
       back : ((a b : ℕ) → IsTrue (over n a b) ↔ Within old n a b) → Within old (suc n) i j → IsTrue (over (suc n) i j)

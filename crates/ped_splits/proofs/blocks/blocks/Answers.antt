@@ -38,17 +38,23 @@ without-requires-clause-length c =
 
 pub without-requires-clause-below : goal.without-requires-clause-below
 without-requires-clause-below c =
+    let lead = sym c.deref-in-loop-round-2.ensures.value in
+    let left = sym c.deref-in-loop-round.ensures.value in
+    let is = (λ j. filter (λ (i : ℕ). slice_index_or (lead j) i 0 == 0) (left j)) ∙ c.in-Some.ensures.1 in
     let is_block = c.as_slice.ensures ∙ c.in_ok-block-in-Some.ensures ∙ ap (filter (are_together c.args.reach.now c.in-Some.first)) c.deref-in-Some.ensures.value in
-    subst (AreBelow (length c.args.reach.now)) (sym is_block) (law.block_below c.args.reach.now c.loop-round._round c.loop-round.blocks.items c.loop-round.left.items c.loop-round.leaders.items c.loop-round.invariant c.in-Some.first)
+    subst (AreBelow (length c.args.reach.now)) (sym is_block) (law.block_below c.args.reach.now c.loop-round._round c.loop-round.blocks.items c.loop-round.left.items c.loop-round.leaders.items c.loop-round.invariant c.in-Some.first c.in-Some.ensures.0 is)
 
 pub without-requires-clause-enough : goal.without-requires-clause-enough
 without-requires-clause-enough c =
+    let lead = sym c.deref-in-loop-round-2.ensures.value in
+    let left = sym c.deref-in-loop-round.ensures.value in
+    let is = (λ j. filter (λ (i : ℕ). slice_index_or (lead j) i 0 == 0) (left j)) ∙ c.in-Some.ensures.1 in
     let reach = c.args.reach.now in
     let is_block = c.as_slice.ensures ∙ c.in_ok-block-in-Some.ensures ∙ ap (filter (are_together reach c.in-Some.first)) c.deref-in-Some.ensures.value in
     let counts = c.deref-in-Some-2.ensures.value in
     λ i h. subst (λ (xs : List ℕ). leaders reach xs i ≤ slice_index_or c.deref-in-Some-2.result.now i 0) (sym is_block)
     (subst (λ (ys : List ℕ). leaders reach (filter (are_together reach c.in-Some.first) c.loop-round.left.items) i ≤ slice_index_or ys i 0) (sym counts)
-    (law.are_enough reach c.loop-round._round c.loop-round.blocks.items c.loop-round.left.items c.loop-round.leaders.items c.loop-round.invariant c.in-Some.first i h))
+    (law.are_enough reach c.loop-round._round c.loop-round.blocks.items c.loop-round.left.items c.loop-round.leaders.items c.loop-round.invariant c.in-Some.first c.in-Some.ensures.0 is i h))
 
 pub behind-requires-clause-first : goal.behind-requires-clause-first
 behind-requires-clause-first c =

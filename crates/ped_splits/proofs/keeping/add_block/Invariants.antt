@@ -4,4 +4,4 @@ use Rattle.ped_splits.specs.Distributing.{block_sources}
 use Rattle.ped_splits.proofs.keeping.add_block.Given as goal
 
 abbrev pub invariant-loop-unit : goal.invariant-loop-unit
-invariant-loop-unit l = l.sources.items ≡ l.initial.sources.items ++ block_sources l.parted.number (stmt_trees l.parted.statement.now.body.items) l.fn.head (take l.unit-index l.block)
+invariant-loop-unit l = l.sources.items ≡ l.fn.sources.items ++ block_sources l.parted.number (stmt_trees l.parted.statement.now.body.items) l.fn.head (take l.unit-index l.block)

@@ -16,6 +16,7 @@ In x [] = ⊥
 In x (y ∷ ys) = (x ≡ y) ⊎ In x ys
 
 pub in_front : (x : ℕ) (xs ys : List ℕ) → In x xs → In x (xs ++ ys)
+in_front x [] ys h = elim h [ ]
 in_front x (y ∷ xs) ys (inl e) = inl e
 in_front x (y ∷ xs) ys (inr h) = inr (in_front x xs ys h)
 
@@ -36,6 +37,7 @@ not_both true p q = absurd cc
 not_both false p q = absurd cc
 
 pub in_filter : (p : ℕ → Bool) (x : ℕ) (xs : List ℕ) → In x xs → p x ≡ true → In x (filter p xs)
+in_filter p x [] h holds = elim h [ ]
 in_filter p x (y ∷ xs) (inl e) holds = by (p y) refl
   where
     by : (b : Bool) → p y ≡ b → In x (cond b (y ∷ filter p xs) (filter p xs))
@@ -57,6 +59,7 @@ from_filter p x (y ∷ xs) h = by (from_filter p x xs) (p y) refl h
     by rest false f g = let r = rest g in (inr r.0, r.1)
 
 pub each_of : (p : ℕ → Bool) (x : ℕ) (xs : List ℕ) → list_all p xs ≡ true → In x xs → p x ≡ true
+each_of p x [] all h = elim h [ ]
 each_of p x (y ∷ xs) all (inl e) = ap p e ∙ first (p y) (list_all p xs) all
   where
     first : (a b : Bool) → (a && b) ≡ true → a ≡ true
@@ -83,6 +86,7 @@ sum_at_most f g (x ∷ xs) h =
     omega (arith, rest, here, one, other)
 
 sum_less : (f g : ℕ → ℕ) (k : ℕ) (xs : List ℕ) → ((x : ℕ) → f x ≤ g x) → In k xs → f k < g k → sum_by f xs < sum_by g xs
+sum_less f g k [] h inside less = elim inside [ ]
 sum_less f g k (x ∷ xs) h (inl e) less =
     let rest = sum_at_most f g xs h in
     let here : f x < g x = subst (λ (y : ℕ). f y < g y) e less in
@@ -176,6 +180,7 @@ module _ (reach : List (List Bool)) (passes : (i j k : ℕ) → reaches reach i 
   same_unit i = ap (λ (b : Bool). b || (reaches reach i i && reaches reach i i)) (eq-eqb i i refl)
 
   some_length : (x : ℕ) (xs : List ℕ) → In x xs → 1 ≤ length xs
+  some_length x [] h = elim h [ ]
   some_length x (y ∷ xs) h = omega arith
 
   -- each unit that is left stands in a block
@@ -230,14 +235,14 @@ module _ (reach : List (List Bool)) (passes : (i j k : ℕ) → reaches reach i 
     where
       by : ((later : List ℕ) → LeadForward (ordered reach n later)) → (free : List ℕ) → filter (is_free reach left) left ≡ free → LeadForward (block_then reach (ordered reach n) left free)
       by others [] e = tt
-      by others (i ∷ free) e = (λ k j a b. none (reaches reach k j) refl (from_placed n (filter (λ m. not (are_together reach i m)) left) k a) b, others (filter (λ m. not (are_together reach i m)) left))
+      by others (i ∷ free) e = (λ k j a b. none k j (reaches reach k j) refl (from_placed n (filter (λ m. not (are_together reach i m)) left) k a) b, others (filter (λ m. not (are_together reach i m)) left))
         where
           is_first : In i left × (is_free reach left i ≡ true)
           is_first = from_filter (is_free reach left) i left (subst (In i) (sym e) (inl refl))
 
-          none : {k j : ℕ} (b : Bool) → reaches reach k j ≡ b → In k (filter (λ m. not (are_together reach i m)) left) → In j (filter (are_together reach i) left) → reaches reach k j ≡ false
-          none false r a b = r
-          none {k} {j} true r a b =
+          none : (k j : ℕ) (b : Bool) → reaches reach k j ≡ b → In k (filter (λ m. not (are_together reach i m)) left) → In j (filter (are_together reach i) left) → reaches reach k j ≡ false
+          none k j false r a b = r
+          none k j true r a b =
               let later = from_filter (λ m. not (are_together reach i m)) k left a in
               let here = from_filter (are_together reach i) j left b in
               let to_first = to_block (i == j) refl here.1 r in

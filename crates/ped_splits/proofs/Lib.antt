@@ -13,5 +13,6 @@ mod Partitions
 mod OneToOne
 mod Keepings
 mod BlockSizes
+mod BlockLaws
 pub mod Existence
 pub mod Determined

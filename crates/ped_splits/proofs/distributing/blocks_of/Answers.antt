@@ -12,5 +12,5 @@ returns g c =
     let h = head_of c.args.parted.now.statement.now in
     let body = body_of c.args.parted.now in
     let reach = c.in_ok-reach.ensures in
-    ok_by (λ (v : Vec (List ℕ) Global). v.items ≡ blocks c.in_ok-reach.reach) (λ (v : Vec (List ℕ) Global). AreBlocks t s h body v.items) c.blocks.result
-    (λ v is. record { edges = reach.0; are = reach.1; reach = c.in_ok-reach.reach; closed = reach.2; order = is }) c.blocks.ensures
+    ok_by (λ (v : Vec (List ℕ) Global). v.items ≡ blocks c.in_ok-reach.reach) (λ (v : Vec (List ℕ) Global). AreBlocks t s h body v.items) c.blocks-2.result
+    (λ v is. record { edges = reach.0; are = reach.1; reach = c.in_ok-reach.reach; closed = reach.2; order = is }) c.blocks-2.ensures

@@ -1,4 +1,5 @@
 use Rattle.ped_splits.proofs.Determined.{determined_distribution}
+use Rattle.ped_splits.proofs.BlockLaws as order
 use Rattle.ped_splits.proofs.OneToOne.{one_to_one}
 use Rattle.ped_splits.proofs.laws.distribution_is_lawful.Goals as goal
 

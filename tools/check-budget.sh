@@ -15,9 +15,9 @@ most_crates_with_edits=12
 most_test_lines=250
 most_crates_with_tests=2
 most_ways=5000
-most_lemma_files=216
-most_lemma_imports=1159
-most_needless_doors=136
+most_lemma_files=256
+most_lemma_imports=1581
+most_needless_doors=125
 
 edits() {
     find crates/*/must-fail -name '*.edit' 2>/dev/null

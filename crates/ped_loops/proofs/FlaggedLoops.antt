@@ -26,7 +26,7 @@ use Rattle.ped_scalar.specs.ped_rules.specs.ped_loop_runs.specs.ped_tidy.proofs.
 use Rattle.ped_scalar.specs.ped_rules.specs.OnlyLoops.{on_loop}
 use Rattle.ped_scalar.specs.ped_rules.specs.ped_loop_runs.specs.Carried.{NoneCarriedBy}
 use Rattle.ped_scalar.specs.ped_rules.specs.ped_loop_runs.specs.OneForOne.{HasSameTrips, IsOneForOne}
-use Rattle.ped_loops.proofs.SameKinds.{kinds_alike}
+use Rattle.ped_scalar.specs.ped_rules.specs.ped_loop_runs.proofs.LoopLaws.OneForOneNames.{kinds_alike}
 use Rattle.ped_loops.specs.Flags.{with_flag, flagged}
 use Rattle.ped_loops.proofs.OneHead.{TrustedLaw, ClearedLaw, stays_trusted_head}
 

@@ -26,7 +26,7 @@ use Rattle.ped_scalar.specs.ped_rules.proofs.KeptNumbers.{all_one_to_one}
 use Rattle.ped_scalar.specs.ped_rules.specs.ped_loop_runs.specs.Carried as runs
 use Rattle.ped_scalar.specs.ped_rules.specs.ped_loop_runs.specs.Carried.{NoneCarriedBy}
 use Rattle.ped_scalar.specs.ped_rules.specs.ped_loop_runs.specs.OneForOne.{IsOneForOne}
-use Rattle.ped_loops.proofs.SomeEdges.{some_edges}
+use Rattle.ped_scalar.specs.ped_rules.specs.ped_loop_runs.proofs.LoopLaws.SomeEdges.{some_edges}
 use Rattle.ped_loops.specs.Flags.{flagged}
 use Rattle.ped_loops.specs.Paralleling.{StandsAgainstParallel, paralleling}
 use Rattle.ped_loops.specs.Serialising.{StandsAgainstSerial, serialising}

@@ -1,9 +1,7 @@
 -- What `interchange` makes of two loops whose inner bounds are free of the outer variable: the same bounds in each other's place.
-use Rattle.std.proofs.Common.{Bool, List, Some, [], ap, false, if◌then◌else◌, length, refl, sym, true, ℕ, ◌+◌, ◌∙◌, ◌≡◌}
 use Rattle.ped_base.specs.Lists.{is_among, is_same_text}
 use Rattle.ped_loops.proofs.FreeBounds.{free_trips}
 use Rattle.ped_loops.proofs.OnlyBodies.{pair}
-use Rattle.ped_loops.proofs.SwappedKeeps.{swapped_keeps}
 use Rattle.ped_loops.proofs.SwappedLoops.{AreSwapped}
 use Rattle.ped_loops.specs.Interchanging.{exchanged_loops, interchanged, with_exchanged}
 use Rattle.ped_loops.specs.Shapes.{Shape, asked_above, asked_below, extreme_of, first_shape, free, last_shape, moved_bound, new_inner, new_outer, shape_or_free, shaped}
@@ -12,10 +10,8 @@ use Rattle.ped_scalar.specs.ped_rules.specs.OnlyLoops.{change_only, on_loop, onl
 use Rattle.ped_scalar.specs.ped_rules.specs.ped_loop_runs.specs.Carried.{is_carried_by}
 use Rattle.ped_scalar.specs.ped_rules.specs.ped_loop_runs.specs.ped_tidy.specs.ped_pasting.specs.ped_bodies.specs.ped_steps.proofs.OnePlace.{one_program}
 use Rattle.ped_scalar.specs.ped_rules.specs.ped_loop_runs.specs.ped_tidy.specs.ped_pasting.specs.ped_bodies.specs.ped_steps.specs.Replacing.{alone, program_with}
-use Rattle.ped_scalar.specs.ped_rules.specs.ped_loop_runs.specs.ped_tidy.specs.ped_pasting.specs.ped_bodies.specs.ped_steps.specs.Runs.Meaning.{Keeps}
 use Rattle.ped_scalar.specs.ped_rules.specs.ped_loop_runs.specs.ped_tidy.specs.ped_pasting.specs.ped_bodies.specs.ped_steps.specs.ped_flow.specs.PlainBounds.{IsPlain, nest_round}
 use Rattle.ped_scalar.specs.ped_rules.specs.ped_loop_runs.specs.ped_tidy.specs.ped_pasting.specs.ped_bodies.specs.ped_steps.specs.ped_flow.specs.Questions.{IsContained, LoopOf}
-use Rattle.ped_scalar.specs.ped_rules.specs.ped_loop_runs.specs.ped_tidy.specs.ped_pasting.specs.ped_bodies.specs.ped_steps.specs.ped_laws.proofs.ConflictLaws.CoveringRuns.{MakingLaw, SequenceLaw}
 use Rattle.ped_scalar.specs.ped_rules.specs.ped_loop_runs.specs.ped_tidy.specs.ped_pasting.specs.ped_bodies.specs.ped_steps.specs.ped_laws.specs.Acts.Orders.{IsIn}
 use Rattle.ped_scalar.specs.ped_rules.specs.ped_loop_runs.specs.ped_tidy.specs.ped_pasting.specs.ped_bodies.specs.ped_steps.specs.ped_laws.specs.ped_eval.specs.Outcomes.{setting_of}
 use Rattle.ped_scalar.specs.ped_rules.specs.ped_loop_runs.specs.ped_tidy.specs.ped_pasting.specs.ped_bodies.specs.ped_steps.specs.ped_laws.specs.ped_graph.specs.Dependences.{AreEdges}
@@ -26,6 +22,7 @@ use Rattle.ped_tree.specs.NamesIn.{expr_names}
 use Rattle.ped_tree.specs.Nests.{indices_of}
 use Rattle.ped_tree.specs.Tree.{Do, Head, ProgramTree, StmtTree, StmtTrees}
 use Rattle.ped_tree.specs.declared.expressions.Intrinsic.TheVariants.{Max, Min}
+use Rattle.std.proofs.Common.{Bool, List, Some, [], ap, false, if◌then◌else◌, length, refl, sym, true, ℕ, ◌+◌, ◌∙◌, ◌≡◌}
 
 same_statement : (a b : StmtTree) → Some a ≡ Some b → a ≡ b
 same_statement a b e = cc
@@ -53,16 +50,16 @@ module _ (t : ProgramTree) (l : ℕ) (loop : LoopOf t l) (g : Head) (inside : St
     last_free : last_shape loop.head g ≡ free
     last_free = ap (λ (b : Bool). shape_or_free (if b then shaped loop.head.variable g.last else Some free)) free_last
 
-    pub outer_first : h.first ≡ g.first
+    outer_first : h.first ≡ g.first
     outer_first = ap (λ (x : Shape). moved_bound x g.first loop.head.first loop.head.last) first_free
 
-    pub outer_last : h.last ≡ g.last
+    outer_last : h.last ≡ g.last
     outer_last = ap (λ (x : Shape). moved_bound x g.last loop.head.last loop.head.first) last_free
 
-    pub inner_first : k.first ≡ loop.head.first
+    inner_first : k.first ≡ loop.head.first
     inner_first = λ i. extreme_of Max loop.head.first (asked_below (first_free i) (last_free i) g.variable)
 
-    pub inner_last : k.last ≡ loop.head.last
+    inner_last : k.last ≡ loop.head.last
     inner_last = λ i. extreme_of Min loop.head.last (asked_above (first_free i) (last_free i) g.variable)
 
     -- they are in each other's place
@@ -92,7 +89,3 @@ module _ (t : ProgramTree) (l : ℕ) (loop : LoopOf t l) (g : Head) (inside : St
           free_trips t valid l loop g h k inside only outer_first outer_last refl refl inner_first inner_last refl serial private inner_serial inner_private plain_first plain_last plain_inner_first plain_inner_last free_first free_last apart inner_apart data_bytes scope front behind s executed goes;
       uncrossed = uncrossed;
     }
-
-    -- so the meaning is kept
-    pub free_swap_keeps : MakingLaw → SequenceLaw → AreSwapped t (interchanged t l) l loop g h k inside only → Keeps t (interchanged t l)
-    free_swap_keeps making sequence x = swapped_keeps making sequence t (interchanged t l) l loop g h k inside only x

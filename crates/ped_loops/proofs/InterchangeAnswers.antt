@@ -1,5 +1,5 @@
 -- What `interchange` answers, and the program that its code makes.
-use Rattle.std.proofs.Common.{◌≡◌, ◌⊎◌, ℕ, ◌+◌, ◌≤◌, ◌<◌, ◌^◌, List, [], ◌∷◌, ◌++◌, Bool, true, false, ◌&&◌, ◌||◌, length, Option, Some, None, Ok, Err, refl, sym, ap, if◌then◌else◌, ◌∙◌, subst, inl, inr, arith}
+use Rattle.std.proofs.Common.{◌≡◌, ◌⊎◌, ℕ, ◌+◌, ◌≤◌, ◌<◌, ◌^◌, List, [], ◌∷◌, ◌++◌, Bool, true, false, ◌&&◌, ◌||◌, length, Option, Some, None, Ok, Err, refl, sym, ap, ◌∙◌, subst, inl, inr, arith}
 use Rattle.std.specs.Prelude.{MatchOption, is_none}
 use Rattle.std.proofs.lemmas.List.{length-append, length-map, map-append}
 use Rattle.ped_tree.specs.Tree.{ExprTree, Head, StmtTree, StmtTrees, Do, ProgramTree}
@@ -20,7 +20,7 @@ use Rattle.ped_scalar.specs.ped_rules.specs.ped_loop_runs.specs.ped_tidy.specs.p
 use Rattle.ped_scalar.specs.ped_rules.specs.ped_loop_runs.specs.ped_tidy.specs.ped_pasting.specs.ped_bodies.specs.ped_steps.specs.declared.causes.Refused.TheVariants as variant
 use Rattle.ped_scalar.specs.ped_rules.specs.ped_loop_runs.specs.ped_tidy.specs.ped_pasting.specs.ped_bodies.specs.ped_steps.specs.declared.changes.Change.{Change}
 use Rattle.ped_scalar.specs.ped_rules.specs.ped_loop_runs.specs.ped_tidy.specs.ped_pasting.specs.ped_bodies.specs.ped_steps.specs.declared.rules.Rule.{Rule}
-use Rattle.ped_scalar.specs.ped_rules.specs.ped_loop_runs.specs.ped_tidy.specs.ped_pasting.specs.ped_bodies.specs.ped_steps.specs.declared.rules.Rule.TheVariants.{ParallelState, HasPrivate, BoundsShape}
+use Rattle.ped_scalar.specs.ped_rules.specs.ped_loop_runs.specs.ped_tidy.specs.ped_pasting.specs.ped_bodies.specs.ped_steps.specs.declared.rules.Rule.TheVariants.{ParallelState, HasPrivate, BoundsShape, StepShape}
 use Rattle.ped_scalar.specs.ped_rules.specs.ped_loop_runs.specs.ped_tidy.specs.ped_pasting.specs.ped_bodies.specs.ped_steps.specs.ped_affine.specs.PairViews.{heads_of}
 use Rattle.ped_scalar.specs.ped_rules.specs.ped_loop_runs.specs.ped_tidy.specs.ped_pasting.specs.ped_bodies.specs.ped_steps.specs.ped_affine.specs.Ranges.{Setting}
 use Rattle.ped_scalar.specs.ped_rules.specs.ped_loop_runs.specs.ped_tidy.specs.ped_pasting.specs.ped_bodies.specs.ped_steps.specs.ped_refs.specs.Loops.{loop_of, nest_of}
@@ -40,7 +40,7 @@ use Rattle.ped_scalar.specs.ped_rules.proofs.NestDepths.{nest_short}
 use Rattle.ped_loops.specs.CodeInterchanging.{NoneUpTo}
 use Rattle.ped_loops.specs.CodePlain.{TellsPlain}
 use Rattle.ped_loops.specs.Interchanging.{with_exchanged, exchanged_loops, interchanged, MakesInterchanged, StandsAgainstInterchange, interchanging, IsBoundOf, IsBoundOfEither, is_tied, has_no_unit, makes_far, leaves_either}
-use Rattle.ped_loops.specs.Shapes.{new_outer, new_inner, names_outer, isnt_shaped, is_named, shape_of, shaped, free}
+use Rattle.ped_loops.specs.Shapes.{Shape, new_outer, new_inner, names_outer, isnt_shaped, shape_of}
 use Rattle.ped_loops.proofs.InterchangeRules as rules
 use Rattle.ped_loops.proofs.OnlyBodies.{pair, only_changed, only_counted}
 
@@ -83,13 +83,11 @@ module _ (h : Head) (body : StmtTrees) where
     pub of_both : (test : Head → StmtTrees → Bool) → either test h body ≡ (test h body || test g inside)
     of_both test = ap (λ (o : Option (Head × StmtTrees)). test h body || of_loop test o) only
 
-    pub tied_is : is_tied h body ≡ names_outer h g
-    tied_is = ap (of_loop (λ k z. names_outer h k)) only
+    pub tied_is : is_tied h body ≡ isnt_shaped h g
+    tied_is = ap (of_loop (λ k z. isnt_shaped h k)) only
 
-    pub units_free : (constants : Values) → names_outer h g ≡ false → has_no_unit constants h body ≡ false
-    units_free constants unnamed =
-        ap (of_loop (λ k z. names_outer h k && (has_other_step constants is_one h body || has_other_step constants is_one k z))) only
-        ∙ ap (λ (b : Bool). b && (has_other_step constants is_one h body || has_other_step constants is_one g inside)) unnamed
+    pub units_are : (constants : Values) → has_no_unit constants h body ≡ (names_outer h g && (has_other_step constants is_one h body || has_other_step constants is_one g inside))
+    units_are constants = ap (of_loop (λ k z. names_outer h k && (has_other_step constants is_one h body || has_other_step constants is_one k z))) only
 
     pub far_is : (setting : Setting) (heads : List Head) → makes_far setting heads h body ≡ leaves_either setting heads (new_outer h g) (new_inner h g)
     far_is setting heads = ap (of_loop (λ k z. leaves_either setting heads (new_outer h k) (new_inner h k))) only
@@ -168,11 +166,22 @@ module _ (t : ProgramTree) (s : ℕ) (h : Head) (body : StmtTrees) (is : IsLoop 
   pub upto_list : NoneUpTo 3 (StandsAgainstInterchange s t) → (has_some h.private || has_some g.private) ≡ false → NoneUpTo 4 (StandsAgainstInterchange s t)
   upto_list none fails = rules.upto_list s t h body is none (of_both h body g inside only has_private ∙ fails)
 
-  pub first_tied : NoneUpTo 6 (StandsAgainstInterchange s t) → names_outer h g ≡ true → IsFirstRule (StandsAgainstInterchange s t) BoundsShape s
+  pub first_tied : NoneUpTo 6 (StandsAgainstInterchange s t) → isnt_shaped h g ≡ true → IsFirstRule (StandsAgainstInterchange s t) BoundsShape s
   first_tied none holds = rules.shape_first s t h body is none (tied_is h body g inside only ∙ holds)
 
-  pub upto_units : NoneUpTo 6 (StandsAgainstInterchange s t) → names_outer h g ≡ false → NoneUpTo 8 (StandsAgainstInterchange s t)
-  upto_units none fails = rules.upto_unit s t h body is (rules.upto_shape s t h body is none (tied_is h body g inside only ∙ fails)) (units_free h body g inside only (table_of t).constants fails)
+  pub upto_tied : NoneUpTo 6 (StandsAgainstInterchange s t) → isnt_shaped h g ≡ false → NoneUpTo 7 (StandsAgainstInterchange s t)
+  upto_tied none fails = rules.upto_shape s t h body is none (tied_is h body g inside only ∙ fails)
+
+  -- rule 8 by the values of named constants that the code has
+  module _ (values : Values) (are : values ≡ (table_of t).constants) (r : Bool) (told : r ≡ (names_outer h g && (has_other_step values is_one h body || has_other_step values is_one g inside))) where
+    units_told : has_no_unit (table_of t).constants h body ≡ r
+    units_told = units_are h body g inside only (table_of t).constants ∙ ap (λ (cs : Values). names_outer h g && (has_other_step cs is_one h body || has_other_step cs is_one g inside)) (sym are) ∙ sym told
+
+    pub first_stepping : NoneUpTo 7 (StandsAgainstInterchange s t) → r ≡ true → IsFirstRule (StandsAgainstInterchange s t) StepShape s
+    first_stepping none holds = rules.unit_first s t h body is none (units_told ∙ holds)
+
+    pub upto_units : NoneUpTo 7 (StandsAgainstInterchange s t) → r ≡ false → NoneUpTo 8 (StandsAgainstInterchange s t)
+    upto_units none fails = rules.upto_unit s t h body is none (units_told ∙ fails)
 
   -- what the code has found of bounds that aren't plain
   abbrev Unplain : ℕ → Type 0
@@ -236,17 +245,6 @@ module _ (t : ProgramTree) (s : ℕ) (h : Head) (body : StmtTrees) (is : IsLoop 
           → (hs : List Head) → hs ≡ heads ++ new ∷ [] → (r : Bool) → r ≡ (leaves setting hs k.first || leaves setting hs k.last) → r ≡ makes_far setting heads h body
       far_found outside k z found hs are r e = e ∙ ap (λ (fs : List Head). leaves setting fs k.first || leaves setting fs k.last) are ∙ far_inside outside k z found
 
--- bounds that don't name the outer variable have the shape of free ones
-free_one : (x : List ℕ) (e : ExprTree) → is_named x e ≡ false → is_none (shape_of x e) ≡ false
-free_one x e unnamed = ap (λ (b : Bool). is_none (if b then shaped x e else Some free)) unnamed
-
-neither : (a b : Bool) → (a || b) ≡ false → (a ≡ false) × (b ≡ false)
-neither true b e = absurd cc
-neither false b e = (refl, e)
-
-pub free_shaped : (h g : Head) → names_outer h g ≡ false → isnt_shaped h g ≡ true → ⊥
-free_shaped h g unnamed not_shaped =
-    let both = neither (is_named h.variable g.first) (is_named h.variable g.last) unnamed in
-    let none : isnt_shaped h g ≡ false = ap (λ (b : Bool). b || is_none (shape_of h.variable g.last)) (free_one h.variable g.first both.0) ∙ free_one h.variable g.last both.1 in
-    let clash : true ≡ false = sym not_shaped ∙ none in
-    absurd cc
+-- bounds with shapes
+pub are_shaped : (h g : Head) (first last : Shape) → shape_of h.variable g.first ≡ Some first → shape_of h.variable g.last ≡ Some last → isnt_shaped h g ≡ false
+are_shaped h g first last one two = λ i. is_none (one i) || is_none (two i)

@@ -1,7 +1,8 @@
 -- `interchange` is lawful.
-use Rattle.std.proofs.Common.{◌≡◌, ℕ, ◌+◌, List, [], ◌∷◌, length, All, Bool, true, false, ◌||◌, Option, Some, None, MatchOption, is_none, refl, sym, ap, ◌∙◌, subst, inl, inr}
-use Rattle.ped_base.specs.Lists.{has_some, is_among}
-use Rattle.ped_tree.specs.NamesIn.{expr_names}
+use Rattle.std.specs.Prelude.{not}
+use Rattle.std.proofs.lemmas.Bool.Decides.{Decides-int_eq}
+use Rattle.std.proofs.Common.{◌≡◌, ℕ, ℤ, pos, ◌+◌, List, [], ◌∷◌, ◌++◌, length, All, Bool, true, false, ◌||◌, ◌&&◌, unwrap_or, Option, Some, None, MatchOption, is_none, refl, sym, ap, ◌∙◌, subst, inl, inr}
+use Rattle.ped_base.specs.Lists.{has_some}
 use Rattle.ped_tree.specs.Tree.{ExprTree, Head, StmtTrees, Do, ProgramTree}
 use Rattle.ped_scalar.specs.ped_rules.specs.ped_loop_runs.specs.ped_tidy.specs.ped_pasting.specs.ped_bodies.specs.ped_steps.specs.ped_laws.proofs.ConflictLaws.CoveringRuns.{MakingLaw, SequenceLaw}
 use Rattle.ped_scalar.specs.ped_rules.specs.ped_loop_runs.specs.ped_tidy.specs.ped_pasting.specs.ped_bodies.specs.ped_steps.specs.ped_laws.specs.ped_eval.specs.Outcomes.{setting_of}
@@ -11,7 +12,7 @@ use Rattle.ped_scalar.specs.ped_rules.specs.ped_loop_runs.specs.ped_tidy.specs.p
 use Rattle.ped_scalar.specs.ped_rules.specs.ped_loop_runs.specs.ped_tidy.specs.ped_pasting.specs.ped_bodies.specs.ped_steps.specs.ped_laws.specs.Acts.Orders.{IsIn}
 use Rattle.ped_scalar.specs.ped_rules.specs.ped_loop_runs.specs.ped_tidy.specs.ped_pasting.specs.ped_bodies.specs.ped_steps.specs.ped_symbols.specs.Kinds.{kind_in}
 use Rattle.ped_scalar.specs.ped_rules.specs.ped_loop_runs.specs.ped_tidy.specs.ped_pasting.specs.ped_bodies.specs.ped_steps.specs.ped_symbols.specs.NameRefusals.{IsValid}
-use Rattle.ped_scalar.specs.ped_rules.specs.ped_loop_runs.specs.ped_tidy.specs.ped_pasting.specs.ped_bodies.specs.ped_steps.specs.ped_flow.specs.PlainBounds.{IsPlain, nest_round}
+use Rattle.ped_scalar.specs.ped_rules.specs.ped_loop_runs.specs.ped_tidy.specs.ped_pasting.specs.ped_bodies.specs.ped_steps.specs.ped_flow.specs.PlainBounds.{IsPlain, around_with, nest_round, setting_round}
 use Rattle.ped_scalar.specs.ped_rules.specs.ped_loop_runs.specs.ped_tidy.specs.ped_pasting.specs.ped_bodies.specs.ped_steps.specs.ped_flow.specs.Questions.{LoopOf}
 use Rattle.ped_scalar.specs.ped_rules.specs.ped_loop_runs.specs.ped_tidy.specs.ped_pasting.specs.ped_bodies.specs.ped_steps.specs.Causes.{NoRule}
 use Rattle.ped_scalar.specs.ped_rules.specs.ped_loop_runs.specs.ped_tidy.specs.ped_pasting.specs.ped_bodies.specs.ped_steps.specs.Replacing.{alone, program_with}
@@ -21,20 +22,29 @@ use Rattle.ped_scalar.specs.ped_rules.specs.Carried.{crossing, has_after}
 use Rattle.ped_scalar.specs.ped_rules.specs.KeepMaps.{all_but}
 use Rattle.ped_scalar.specs.ped_rules.specs.Lawful.{IsFaithful, IsLawful}
 use Rattle.ped_scalar.specs.ped_rules.specs.OnlyLoops.{change_only, only_loop, of_loop, either}
-use Rattle.ped_scalar.specs.ped_rules.specs.Rules.{HasUnplain, has_private, is_parallel}
+use Rattle.ped_scalar.specs.ped_rules.specs.Rules.{HasUnplain, has_other_step, has_private, is_one, is_parallel, isnt_allowed, leaves}
 use Rattle.ped_scalar.specs.ped_rules.proofs.KeptNumbers.{but_one_to_one}
 use Rattle.ped_scalar.specs.ped_rules.specs.ped_loop_runs.specs.Carried.{is_carried_by}
-use Rattle.ped_loops.specs.Interchanging.{IsBoundOf, IsBoundOfEither, StandsAgainstInterchange, interchanged, interchanging}
-use Rattle.ped_loops.specs.Shapes.{is_named, names_outer, new_inner, new_outer}
+use Rattle.ped_loops.specs.Interchanging.{IsBoundOf, IsBoundOfEither, StandsAgainstInterchange, interchanged, interchanging, leaves_either}
+use Rattle.ped_loops.specs.Shapes.{is_named, isnt_shaped, names_outer, new_inner, new_outer, shape_of}
+use Rattle.ped_scalar.specs.ped_rules.specs.ped_loop_runs.specs.ped_tidy.specs.ped_pasting.specs.ped_bodies.specs.ped_steps.specs.ped_affine.specs.PairViews.{heads_of}
+use Rattle.ped_scalar.specs.ped_rules.specs.ped_loop_runs.specs.ped_tidy.specs.ped_pasting.specs.ped_bodies.specs.ped_steps.specs.ped_affine.specs.Ranges as ranges
+use Rattle.ped_scalar.specs.ped_rules.specs.ped_loop_runs.specs.ped_tidy.specs.ped_pasting.specs.ped_bodies.specs.ped_steps.specs.ped_affine.specs.Ranges.{Around, Setting, interval_of}
+use Rattle.ped_scalar.specs.ped_rules.specs.ped_loop_runs.specs.ped_tidy.specs.ped_pasting.specs.ped_bodies.specs.ped_steps.specs.ped_laws.specs.ped_eval.specs.Loops.{increment}
+use Rattle.ped_tree.specs.Constants.ConstantExpressions.{constant_value}
 use Rattle.ped_loops.proofs.Contained.{least}
 use Rattle.ped_loops.proofs.FlagsLawful.{UnrejectedLaw}
-use Rattle.ped_loops.proofs.FreeSwaps.{free_swap, free_swap_keeps, inner_first, inner_last, interchanged_is, outer_first, outer_last}
+use Rattle.ped_loops.proofs.FreeSwaps.{free_swap, interchanged_is}
+use Rattle.ped_loops.proofs.PlainAnswers.{same_around}
+use Rattle.ped_loops.proofs.ShapedNames.{shaped_names}
+use Rattle.ped_loops.proofs.ShapedSwaps.{shaped_swap}
+use Rattle.ped_loops.proofs.SwappedKeeps.{swapped_keeps}
 use Rattle.ped_loops.proofs.InterchangeRules as rules
 use Rattle.ped_loops.proofs.LoopSurroundings.{inner_variable_apart, variable_apart, variables_differ}
 use Rattle.ped_loops.proofs.OneHead.{TrustedLaw, ClearedLaw}
 use Rattle.ped_loops.proofs.OnlyBodies.{pair}
 use Rattle.ped_loops.proofs.PlainDecided.{OrNot, plain_decided}
-use Rattle.ped_loops.proofs.SwappedKinds.{occurs_in, swapped_kinds}
+use Rattle.ped_loops.proofs.SwappedKinds.{swapped_kinds}
 use Rattle.ped_loops.proofs.SwappedLoops.{AreSwapped}
 use Rattle.ped_loops.proofs.SwappedTrust.{stays_trusted_swap}
 use Rattle.ped_loops.proofs.UncrossedPairs.{uncrossed_pairs}
@@ -43,11 +53,18 @@ or_neither : (a b : Bool) → a || b ≡ false → (a ≡ false) × (b ≡ false
 or_neither true b e = absurd cc
 or_neither false b e = (refl, e)
 
-or_turned : (a b : Bool) → a || b ≡ b || a
-or_turned true true = refl
-or_turned true false = refl
-or_turned false true = refl
-or_turned false false = refl
+-- an increment that is allowed is 1
+one_step : (o : Option ℤ) → isnt_allowed is_one o ≡ false → unwrap_or o (pos 1) ≡ pos 1
+one_step None h = absurd cc
+one_step (Some n) h = go (is_one n) refl h
+  where
+    go : (b : Bool) → is_one n ≡ b → not b ≡ false → n ≡ pos 1
+    go true e q = (Decides-int_eq n (pos 1)).0 e
+    go false e q = absurd cc
+
+some_there : {X : Type 0} (o : Option X) → is_none o ≡ false → o ≡ None → ⊥
+some_there None h e = absurd cc
+some_there (Some x) h e = absurd cc
 
 none_private : (xs : List (List ℕ)) → has_some xs ≡ false → xs ≡ []
 none_private [] e = refl
@@ -92,9 +109,32 @@ module _ (t : ProgramTree) (valid : IsValid t) (s : ℕ) (none : NoRule (StandsA
   unprivate : (d.private ≡ []) × (g.private ≡ [])
   unprivate = let both = fails_both has_private (rules.are_alone s t none loop) in (none_private d.private both.0, none_private g.private both.1)
 
-  -- rule 7: the inner bounds are free
-  free : (is_among d.variable (expr_names g.first) ≡ false) × (is_among d.variable (expr_names g.last) ≡ false)
-  free = or_neither (is_named d.variable g.first) (is_named d.variable g.last) (ap (λ (o : Option (Head × StmtTrees)). of_loop (λ f inside. names_outer d f) o) (sym it.only) ∙ rules.are_free s t none loop)
+  -- rule 7: the inner bounds have shapes
+  shaped : (is_none (shape_of d.variable g.first) ≡ false) × (is_none (shape_of d.variable g.last) ≡ false)
+  shaped = or_neither (is_none (shape_of d.variable g.first)) (is_none (shape_of d.variable g.last)) (ap (λ (o : Option (Head × StmtTrees)). of_loop (λ f inside. isnt_shaped d f) o) (sym it.only) ∙ rules.are_shaped s t none loop)
+
+  -- rule 8: where one of them isn't free, the increments are 1
+  with_units : names_outer d g ≡ true → (increment (setting_of t).constants d ≡ pos 1) × (increment (setting_of t).constants g ≡ pos 1)
+  with_units named =
+      let both = or_neither (has_other_step (setting_of t).constants is_one d loop.body) (has_other_step (setting_of t).constants is_one g it.inside)
+      (ap (λ (b : Bool). b && (has_other_step (setting_of t).constants is_one d loop.body || has_other_step (setting_of t).constants is_one g it.inside)) (sym named)
+      ∙ ap (λ (o : Option (Head × StmtTrees)). of_loop (λ f inside. names_outer d f && (has_other_step (setting_of t).constants is_one d loop.body || has_other_step (setting_of t).constants is_one f inside)) o) (sym it.only)
+      ∙ rules.have_units s t none loop) in
+      (one_step (constant_value (setting_of t).constants d.step) both.0, one_step (constant_value (setting_of t).constants g.step) both.1)
+
+  -- rule 9: the new outer bounds stay within 2^62
+  abbrev fixed : Setting
+  fixed = setting_round (setting_of t).constants t s
+
+  near : (e : ExprTree) → leaves fixed (heads_of (nest_round t s)) e ≡ false → interval_of fixed (around_with fixed [] (nest_round t s)) e ≡ None → ⊥
+  near e stays away = some_there (interval_of fixed (ranges.around_with fixed [] (heads_of (nest_round t s))) e) stays (ap (λ (a : Around). interval_of fixed a e) (same_around fixed [] (nest_round t s)) ∙ away)
+
+  stay : (leaves fixed (heads_of (nest_round t s)) h.first ≡ false) × (leaves fixed (heads_of (nest_round t s)) h.last ≡ false)
+  stay =
+      let outer = (or_neither (leaves fixed (heads_of (nest_round t s)) h.first || leaves fixed (heads_of (nest_round t s)) h.last)
+      (leaves fixed (heads_of (nest_round t s) ++ h ∷ []) k.first || leaves fixed (heads_of (nest_round t s) ++ h ∷ []) k.last)
+      (ap (λ (o : Option (Head × StmtTrees)). of_loop (λ f inside. leaves_either fixed (heads_of (nest_round t s)) (new_outer d f) (new_inner d f)) o) (sym it.only) ∙ rules.are_near s t none loop)).0 in
+      or_neither (leaves fixed (heads_of (nest_round t s)) h.first) (leaves fixed (heads_of (nest_round t s)) h.last) outer
 
   -- rule 6: all bounds are plain
   all_plain : (n : ℕ) → HasUnplain t (IsBoundOfEither t s) n → ⊥
@@ -113,20 +153,13 @@ module _ (t : ProgramTree) (valid : IsValid t) (s : ℕ) (none : NoRule (StandsA
   inner_plain : (e : ExprTree) → IsBoundOf g e → IsPlain (setting_of t).constants t (s + 1) e
   inner_plain e bound = plain (s + 1) e (loop, inr (refl, subst (λ (o : Option (Head × StmtTrees)). MatchOption o ⊥ (λ f. IsBoundOf f.0 e)) (sym it.only) bound))
 
-  -- the new heads have the names of the old ones
-  heads : (y : List ℕ) → occurs_in y h || occurs_in y k ≡ occurs_in y d || occurs_in y g
-  heads y =
-      (λ i. occurs_in y (record g { first = outer_first t s loop g it.inside it.only free.0 free.1 i; last = outer_last t s loop g it.inside it.only free.0 free.1 i })
-      || occurs_in y (record d { first = inner_first t s loop g it.inside it.only free.0 free.1 i; last = inner_last t s loop g it.inside it.only free.0 free.1 i }))
-      ∙ or_turned (occurs_in y g) (occurs_in y d)
-
   made : interchanged t s ≡ program_with (λ z. alone (Do h (change_only (λ f w. Do k w) loop.body))) s t
   made = interchanged_is t s loop g it.inside it.only
 
   kinds : (y : List ℕ) → kind_in (interchanged t s) y ≡ kind_in t y
   kinds y =
       ap (λ (u : ProgramTree). kind_in u y) made
-      ∙ swapped_kinds t valid s loop g h k it.inside it.only unprivate.0 unprivate.1 unprivate.1 unprivate.0 (λ x other. heads x) y
+      ∙ swapped_kinds t valid s loop g h k it.inside it.only unprivate.0 unprivate.1 unprivate.1 unprivate.0 (λ x other. shaped_names x d g shaped.0 shaped.1) y
 
   trusted : TrustedLaw → ClearedLaw → IsTrusted t → IsTrusted (interchanged t s)
   trusted law cleared before =
@@ -134,16 +167,25 @@ module _ (t : ProgramTree) (valid : IsValid t) (s : ℕ) (none : NoRule (StandsA
       (stays_trusted_swap t valid s loop (rules.is_contained s t none) g h k it.inside it.only refl refl refl refl serial.0 serial.1 serial.1 serial.0 unprivate.0 unprivate.1 unprivate.1 unprivate.0 law cleared before)
 
   swap : ((edges : List Edge) → AreEdges t edges → (e : Edge) → IsIn e edges → is_carried_by t s loop.body e ≡ true → has_after (length (nest_round t s) + 1) e ≡ false) → AreSwapped t (interchanged t s) s loop g h k it.inside it.only
-  swap uncrossed =
-      free_swap t s loop g it.inside it.only free.0 free.1 valid (rules.is_valid s t none) kinds (variables_differ t valid s loop g it.inside it.only) serial.0 serial.1 unprivate.0 unprivate.1 (rules.is_contained s t none)
-      (outer_plain d.first (inl refl)) (outer_plain d.last (inr refl)) (inner_plain g.first (inl refl)) (inner_plain g.last (inr refl))
-      (variable_apart t valid s loop) (inner_variable_apart t valid s loop g it.inside it.only) uncrossed
+  swap uncrossed = by (names_outer d g) refl
+    where
+      by : (b : Bool) → names_outer d g ≡ b → AreSwapped t (interchanged t s) s loop g h k it.inside it.only
+      by true named =
+          let units = with_units named in
+          shaped_swap t s loop g it.inside it.only valid (rules.is_valid s t none) kinds (variables_differ t valid s loop g it.inside it.only) serial.0 serial.1 unprivate.0 unprivate.1 (rules.is_contained s t none)
+          (outer_plain d.first (inl refl)) (outer_plain d.last (inr refl)) (inner_plain g.first (inl refl)) (inner_plain g.last (inr refl)) shaped.0 shaped.1 units.0 units.1 (near h.first stay.0) (near h.last stay.1)
+          (variable_apart t valid s loop) (inner_variable_apart t valid s loop g it.inside it.only) uncrossed
+      by false named =
+          let free = or_neither (is_named d.variable g.first) (is_named d.variable g.last) named in
+          free_swap t s loop g it.inside it.only free.0 free.1 valid (rules.is_valid s t none) kinds (variables_differ t valid s loop g it.inside it.only) serial.0 serial.1 unprivate.0 unprivate.1 (rules.is_contained s t none)
+          (outer_plain d.first (inl refl)) (outer_plain d.last (inr refl)) (inner_plain g.first (inl refl)) (inner_plain g.last (inr refl))
+          (variable_apart t valid s loop) (inner_variable_apart t valid s loop g it.inside it.only) uncrossed
 
   module _ (making : MakingLaw) (sequence : SequenceLaw) (trusted_law : TrustedLaw) (cleared : ClearedLaw) (unrejected : UnrejectedLaw) where
     pub interchange_faithful : ((edges : List Edge) → AreEdges t edges → All (λ e. crossing t s e ≡ false) edges) → IsTrusted t → IsFaithful t (interchanged t s)
     interchange_faithful uncrossed before = record {
       trusted = trusted trusted_law cleared before;
-      keeps = free_swap_keeps t s loop g it.inside it.only free.0 free.1 making sequence (swap (λ edges are. uncrossed_pairs unrejected t s loop edges before.unrejected are (uncrossed edges are)));
+      keeps = swapped_keeps making sequence t (interchanged t s) s loop g h k it.inside it.only (swap (λ edges are. uncrossed_pairs unrejected t s loop edges before.unrejected are (uncrossed edges are)));
     }
 
 module _ (making : MakingLaw) (sequence : SequenceLaw) (trusted_law : TrustedLaw) (cleared : ClearedLaw) (unrejected : UnrejectedLaw) (s : ℕ) where

@@ -317,8 +317,8 @@ module _ (s : ℕ) where
       pub are_plain : (n : ℕ) → Unplain n → ⊥
       are_plain = not_unplain 9 upto_all (omega arith)
 
-      pub are_free : (l : LoopOf t s) → is_tied l.head l.body ≡ false
-      are_free = test_fails BoundsShape is_tied (not_tied 9 upto_all (omega arith))
+      pub are_shaped : (l : LoopOf t s) → is_tied l.head l.body ≡ false
+      are_shaped = test_fails BoundsShape is_tied (not_tied 9 upto_all (omega arith))
 
       pub have_units : (l : LoopOf t s) → units l.head l.body ≡ false
       have_units = test_fails StepShape units (not_stepping 9 upto_all (omega arith))

@@ -1,6 +1,5 @@
 pub mod ShapedCode
-mod SameKinds
-mod SomeEdges
+pub mod NamedConstants
 mod FlagRules
 mod FlaggedLoops
 mod FlagsLawful
@@ -9,43 +8,51 @@ mod FlagAnswers
 mod RejectedTrees
 mod LoopsOfReferences
 mod PendingEdges
-mod ReferencedNames
+pub mod ReferencedNames
 mod VariableNames
 mod RejectAnswers
-mod TurnedCounts
+pub mod TurnedCounts
 mod Contained
 mod ReverseRules
-mod OneHead
+pub mod OneHead
 mod ReversedLoops
-mod ReversedNames
+pub mod ReversedNames
 mod ReversalLawful
 mod ReverseAnswers
-mod OnlyBodies
-mod NestKnots
+pub mod OnlyBodies
+pub mod NestKnots
 mod PairOrders
-mod LoopPairs
-mod LoopPlaces
+mod ShapedPairs
+pub mod LoopPairs
+pub mod LoopPlaces
 mod SwappedCells
 mod SwappedLoops
-mod SwappedWeave
+pub mod SwappedWeave
 mod SwappedConflicts
-mod SwappedStands
-mod FixedWrites
-mod ApartTurns
-mod ExchangedRaces
-mod SwappedAccesses
+pub mod SwappedStands
+pub mod FixedWrites
+pub mod ApartTurns
+pub mod ExchangedRaces
+pub mod SwappedAccesses
 mod SwappedKeeps
+pub mod SettledBounds
 mod SwappedBounds
 mod FreeBounds
+mod ShapedValues
+mod MovedBounds
+mod ShapedWays
+mod ShapedBounds
 mod FreeSwaps
+mod ShapedSwaps
 mod UncrossedPairs
 pub mod InterchangeRules
-mod LoopSurroundings
-mod SwappedKinds
+pub mod LoopSurroundings
+pub mod SwappedKinds
+mod ShapedNames
 mod SwappedTrust
 pub mod PlainDecided
+mod PlainAnswers
 mod InterchangeLawful
 pub mod Determined
-mod PlainAnswers
 mod PlainPlaces
 mod InterchangeAnswers

@@ -1,4 +1,4 @@
--- Where a bound stands as the code has it, in a program that is the flow's; and what the code tells of both bounds of a DO there.
+-- Where a bound stands as the code has it, in a program that is the flow's; what the code tells of a bound there, and of both bounds of a DO.
 use Rattle.std.proofs.Common.{◌≡◌, ℕ, ◌+◌, ◌<◌, ◌^◌, List, [], Bool, true, false, ◌&&◌, refl, sym, ap, ◌∙◌, subst, inl, inr}
 use Rattle.std.specs.Prelude.{◌↔◌}
 use Rattle.ped_base.specs.Lists.{is_among}
@@ -31,20 +31,24 @@ module _ (t u : ProgramTree) (is : u ≡ t) where
       ∙ among_collected x [] (assigned_by (statement_with (outermost_or n (nest_round t n)) t))
       ∙ ap (λ (v : ProgramTree). is_among x (assigned_by (statement_with (outermost_or n (nest_round v n)) v))) (sym is)
 
-  -- what the code tells of both bounds, by the values that it has for the named constants
-  pub told_there : (constants : Values) → constants ≡ (table_of t).constants → (n : ℕ) (h : Head) (a b r : Bool) → r ≡ (a && b) → ((a ≡ true) ↔ IsPlain constants u n h.first) → ((b ≡ true) ↔ IsPlain constants u n h.last) → TellsPlain t n h r
-  told_there constants same n h a b r made f g = by a b r made f g
+  -- what the code tells of a bound, by the values that it has for the named constants
+  pub told_there : (constants : Values) → constants ≡ (table_of t).constants → (n : ℕ) (e : ExprTree) (r : Bool) → ((r ≡ true) ↔ IsPlain constants u n e) → ((r ≡ true) ↔ IsPlain (table_of t).constants t n e)
+  told_there constants same n e r f = (λ h. there (f.0 h), λ plain. f.1 (back plain))
     where
-      there : (e : ExprTree) → IsPlain constants u n e → IsPlain (table_of t).constants t n e
-      there e plain = subst (λ (vs : Values). IsPlain vs t n e) same (subst (λ (v : ProgramTree). IsPlain constants v n e) is plain)
+      there : IsPlain constants u n e → IsPlain (table_of t).constants t n e
+      there plain = subst (λ (vs : Values). IsPlain vs t n e) same (subst (λ (v : ProgramTree). IsPlain constants v n e) is plain)
 
-      back : (e : ExprTree) → IsPlain (table_of t).constants t n e → IsPlain constants u n e
-      back e plain = subst (λ (v : ProgramTree). IsPlain constants v n e) (sym is) (subst (λ (vs : Values). IsPlain vs t n e) (sym same) plain)
+      back : IsPlain (table_of t).constants t n e → IsPlain constants u n e
+      back plain = subst (λ (v : ProgramTree). IsPlain constants v n e) (sym is) (subst (λ (vs : Values). IsPlain vs t n e) (sym same) plain)
 
-      by : (x y z : Bool) → z ≡ (x && y) → ((x ≡ true) ↔ IsPlain constants u n h.first) → ((y ≡ true) ↔ IsPlain constants u n h.last) → TellsPlain t n h z
-      by true true true e f g = (there h.first (f.0 refl), there h.last (g.0 refl))
-      by true true false e f g = absurd cc
-      by true false true e f g = absurd cc
-      by true false false e f g = (h.last, inr refl, λ plain. let clash : false ≡ true = g.1 (back h.last plain) in absurd cc)
-      by false y true e f g = absurd cc
-      by false y false e f g = (h.first, inl refl, λ plain. let clash : false ≡ true = f.1 (back h.first plain) in absurd cc)
+-- what the code tells of both bounds of a DO
+pub told_of_both : (t : ProgramTree) (n : ℕ) (h : Head) (a b r : Bool) → r ≡ (a && b) → ((a ≡ true) ↔ IsPlain (table_of t).constants t n h.first) → ((b ≡ true) ↔ IsPlain (table_of t).constants t n h.last) → TellsPlain t n h r
+told_of_both t n h a b r made f g = by a b r made f g
+  where
+    by : (x y z : Bool) → z ≡ (x && y) → ((x ≡ true) ↔ IsPlain (table_of t).constants t n h.first) → ((y ≡ true) ↔ IsPlain (table_of t).constants t n h.last) → TellsPlain t n h z
+    by true true true e f g = (f.0 refl, g.0 refl)
+    by true true false e f g = absurd cc
+    by true false true e f g = absurd cc
+    by true false false e f g = (h.last, inr refl, λ plain. let clash : false ≡ true = g.1 plain in absurd cc)
+    by false y true e f g = absurd cc
+    by false y false e f g = (h.first, inl refl, λ plain. let clash : false ≡ true = f.1 plain in absurd cc)

@@ -27,7 +27,7 @@ use Rattle.ped_scalar.specs.ped_rules.specs.Spans.{Values}
 use Rattle.ped_scalar.specs.ped_rules.proofs.KeptNumbers.{all_one_to_one}
 use Rattle.ped_scalar.specs.ped_rules.specs.ped_loop_runs.specs.Carried.{NoneCarriedBy}
 use Rattle.ped_scalar.specs.ped_rules.specs.ped_loop_runs.specs.OneForOne.{HasSameTrips, IsOneForOne}
-use Rattle.ped_loops.proofs.SameKinds.{kinds_alike}
+use Rattle.ped_scalar.specs.ped_rules.specs.ped_loop_runs.proofs.LoopLaws.OneForOneNames.{kinds_alike}
 use Rattle.ped_loops.specs.Reversing.{turned_head, with_turned, reversed, StandsAgainstReversal, reversing}
 use Rattle.ped_loops.proofs.FlagsLawful.{KeepsLaw, UnrejectedLaw, none_carried}
 use Rattle.ped_loops.proofs.OneHead.{TrustedLaw, ClearedLaw, stays_trusted_head}

@@ -21,10 +21,10 @@ use Rattle.ped_scalar.specs.ped_rules.specs.ped_loop_runs.specs.ped_tidy.specs.p
 use Rattle.ped_scalar.specs.ped_rules.specs.ped_loop_runs.specs.ped_tidy.specs.ped_pasting.specs.ped_bodies.specs.ped_steps.proofs.RunLaws.NamesKept.{occurs}
 use Rattle.ped_scalar.specs.ped_rules.specs.Spans.{Values}
 
-abbrev names_in : List Use → List (List ℕ)
+abbrev pub names_in : List Use → List (List ℕ)
 names_in us = map (λ (u : Use). u.name) us
 
-among_both : (y : List ℕ) (a b : List Use) → is_among y (names_in (a ++ b)) ≡ is_among y (names_in a) || is_among y (names_in b)
+pub among_both : (y : List ℕ) (a b : List Use) → is_among y (names_in (a ++ b)) ≡ is_among y (names_in a) || is_among y (names_in b)
 among_both y a b = ap (is_among y) (map-append (λ (u : Use). u.name) a b) ∙ among_append y (names_in a) (names_in b)
 
 none_in_both : (y : List ℕ) (a b : List Use) → is_among y (names_in a) ≡ false → is_among y (names_in b) ≡ false → is_among y (names_in (a ++ b)) ≡ false
@@ -56,7 +56,7 @@ module _ (constants : Values) (y : List ℕ) (none : value_named constants y ≡
   not_it x m h false e = ap (λ (b : Bool). b || false) e
 
   mutual
-    unnamed : (e : ExprTree) (m : ℤ) → constant_value constants e ≡ Some m → is_among y (names_in (expr_uses e)) ≡ false
+    pub unnamed : (e : ExprTree) (m : ℤ) → constant_value constants e ≡ Some m → is_among y (names_in (expr_uses e)) ≡ false
     unnamed (Int n) m h = refl
     unnamed (Var x) m h = not_it x m h (is_same_text y x) refl
     unnamed (Element x subscripts) m h = absurd cc
@@ -85,7 +85,7 @@ module _ (constants : Values) (y : List ℕ) (none : value_named constants y ≡
         none_in_both y (expr_uses e) (exprs_uses rest) (unnamed e r.0 r.2) (all_unnamed rest r.1 r.3)
 
 -- the uses in a head
-head_uses : (y : List ℕ) (h : Head) (body : StmtTrees)
+pub head_uses : (y : List ℕ) (h : Head) (body : StmtTrees)
     → occurs y (statement (Do h body) ∷ []) ≡ is_among y (names_in (map (used_as Rejected) h.rejected)) || (is_same_text y h.variable || ((is_among y (names_in (expr_uses h.first)) || is_among y (names_in (expr_uses h.last))) || is_among y (names_in (expr_uses h.step))))
 head_uses y h body =
     ap (λ (us : List Use). is_among y (names_in us)) (append-nil (own_uses (Do h body)))
@@ -103,7 +103,7 @@ signed_unnamed : (y : List ℕ) (k : ℕ) (b : Bool) → is_among y (names_in (e
 signed_unnamed y k true = refl
 signed_unnamed y k false = refl
 
-literal_unnamed : (y : List ℕ) (n : ℤ) → is_among y (names_in (expr_uses (literal n))) ≡ false
+pub literal_unnamed : (y : List ℕ) (n : ℤ) → is_among y (names_in (expr_uses (literal n))) ≡ false
 literal_unnamed y n = signed_unnamed y (unsigned_abs n) (is_negative n)
 
 -- a head whose bounds are exchanged and whose increment is a literal, where the old increment has a value

@@ -51,7 +51,7 @@ in_single : (a b : Act) → IsIn a (b ∷ []) → a ≡ b
 in_single a b (inl e) = e
 in_single a b (inr i) = absurd i
 
-touch_in : (acts : List Act) (a : Act) (v : Touch) → IsIn a acts → IsIn v a.touches → IsIn v (touches_of acts)
+pub touch_in : (acts : List Act) (a : Act) (v : Touch) → IsIn a acts → IsIn v a.touches → IsIn v (touches_of acts)
 touch_in [] a v i j = absurd i
 touch_in (b ∷ acts) a v (inl e) j = in_left v b.touches (touches_of acts) (subst (λ (z : Act). IsIn v z.touches) e j)
 touch_in (b ∷ acts) a v (inr i) j = in_right v b.touches (touches_of acts) (touch_in acts a v i j)
@@ -68,7 +68,7 @@ pub record IsOfBlock (acts : ℕ → ℕ → List Act) (ks : List Knot) (a : Act
   pub stands : IsIn (block one other) ks
   pub among : IsIn a (acts one other)
 
-of_knots : (acts : ℕ → ℕ → List Act) (ks : List Knot) (a : Act) → IsIn a (knotted acts ks) → IsOfControl ks a ⊎ IsOfBlock acts ks a
+pub of_knots : (acts : ℕ → ℕ → List Act) (ks : List Knot) (a : Act) → IsIn a (knotted acts ks) → IsOfControl ks a ⊎ IsOfBlock acts ks a
 of_knots acts [] a i = absurd i
 of_knots acts (block m n ∷ ks) a i = elim (in_parts a (acts m n) (knotted acts ks) i) [
   | inl k ↦ inr (record { one = m; other = n; stands = inl refl; among = k })
@@ -85,7 +85,7 @@ of_knots acts (control c ∷ ks) a i = elim (in_parts a c (knotted acts ks) i) [
   ]
 ]
 
-in_knots : (acts : ℕ → ℕ → List Act) (ks : List Knot) (m n : ℕ) (a : Act) → IsIn (block m n) ks → IsIn a (acts m n) → IsIn a (knotted acts ks)
+pub in_knots : (acts : ℕ → ℕ → List Act) (ks : List Knot) (m n : ℕ) (a : Act) → IsIn (block m n) ks → IsIn a (acts m n) → IsIn a (knotted acts ks)
 in_knots acts [] m n a i j = absurd i
 in_knots acts (block k l ∷ ks) m n a (inl e) j = in_left a (acts k l) (knotted acts ks) (let one : m ≡ k = cc in let two : n ≡ l = cc in subst (λ (z : ℕ). IsIn a (acts z l)) one (subst (λ (z : ℕ). IsIn a (acts m z)) two j))
 in_knots acts (block k l ∷ ks) m n a (inr i) j = in_right a (acts k l) (knotted acts ks) (in_knots acts ks m n a i j)
@@ -95,7 +95,7 @@ in_knots acts (control c ∷ ks) m n a (inr i) j = in_right a c (knotted acts ks
 in_part : (whole part : List Act) → IsPart whole part → (a : Act) → IsIn a part → IsIn a whole
 in_part whole part is a i = subst (IsIn a) (sym is.is) (in_right a is.before (part ++ is.behind) (in_left a part is.behind i))
 
-same_turns : (more : List Turn) → map (renumbered_turn own_number) more ≡ more
+pub same_turns : (more : List Turn) → map (renumbered_turn own_number) more ≡ more
 same_turns [] = refl
 same_turns (t ∷ more) = ap (λ (rest : List Turn). t ∷ rest) (same_turns more)
 

@@ -1,58 +1,30 @@
 -- Two loops whose inner bounds are worth the same in each iteration of the outer one have the same pairs of iterations in each other's place.
-use Rattle.std.proofs.Common.{List, Ok, Result, Some, [], ap, arith, inl, inr, pos, refl, subst, sym, true, unwrap_or, ℕ, ℤ, ◌*ℤ◌, ◌++◌, ◌+ℤ◌, ◌+◌, ◌-◌, ◌∙◌, ◌∷◌, ◌≡◌, ◌≤◌}
 use Rattle.ped_loops.proofs.LoopPairs as pairs
 use Rattle.ped_loops.proofs.LoopPairs.{inner_at, old_entered, row_at, rows_are, scope_at, store_at}
 use Rattle.ped_loops.proofs.OnlyBodies.{pair}
+use Rattle.ped_loops.proofs.SettledBounds.{IsSettled, limits_there, one_result, settled_reads}
 use Rattle.ped_loops.proofs.SwappedLoops.{HasSwappedTrips}
 use Rattle.ped_scalar.specs.ped_rules.specs.OnlyLoops.{change_only, only_loop}
-use Rattle.ped_scalar.specs.ped_rules.specs.ped_loop_runs.proofs.LoopLaws.PlainReads.{plain_again}
-use Rattle.ped_scalar.specs.ped_rules.specs.ped_loop_runs.specs.Bounds.{IsOfFixed, ReadTheSame}
-use Rattle.ped_scalar.specs.ped_rules.specs.ped_loop_runs.specs.ped_tidy.specs.ped_pasting.specs.ped_bodies.proofs.BodyLaws.LimitParts.{limits_come, limits_parted}
+use Rattle.ped_scalar.specs.ped_rules.specs.ped_loop_runs.specs.Bounds.{IsOfFixed}
+use Rattle.ped_scalar.specs.ped_rules.specs.ped_loop_runs.specs.ped_tidy.specs.ped_pasting.specs.ped_bodies.proofs.BodyLaws.LimitParts.{limits_parted}
 use Rattle.ped_scalar.specs.ped_rules.specs.ped_loop_runs.specs.ped_tidy.specs.ped_pasting.specs.ped_bodies.specs.Trips.{HasLimits, entered_from}
-use Rattle.ped_scalar.specs.ped_rules.specs.ped_loop_runs.specs.ped_tidy.specs.ped_pasting.specs.ped_bodies.specs.ped_steps.specs.ped_flow.specs.PlainBounds.{IsPlainlyBuilt}
+use Rattle.ped_scalar.specs.ped_rules.specs.ped_loop_runs.specs.ped_tidy.specs.ped_pasting.specs.ped_bodies.specs.ped_steps.specs.ped_eval.specs.Evaluation.{Evaluated}
+use Rattle.ped_scalar.specs.ped_rules.specs.ped_loop_runs.specs.ped_tidy.specs.ped_pasting.specs.ped_bodies.specs.ped_steps.specs.ped_eval.specs.Loops.{iteration_count}
 use Rattle.ped_scalar.specs.ped_rules.specs.ped_loop_runs.specs.ped_tidy.specs.ped_pasting.specs.ped_bodies.specs.ped_steps.specs.ped_laws.proofs.ActLaws.Lists.{in_parts}
-use Rattle.ped_scalar.specs.ped_rules.specs.ped_loop_runs.specs.ped_tidy.specs.ped_pasting.specs.ped_bodies.specs.ped_steps.specs.ped_laws.proofs.RunLaws.Sight.{holds_append, value_told}
 use Rattle.ped_scalar.specs.ped_rules.specs.ped_loop_runs.specs.ped_tidy.specs.ped_pasting.specs.ped_bodies.specs.ped_steps.specs.ped_laws.specs.Acts.Orders.{IsIn}
-use Rattle.ped_scalar.specs.ped_rules.specs.ped_loop_runs.specs.ped_tidy.specs.ped_pasting.specs.ped_bodies.specs.ped_steps.specs.ped_laws.specs.Plain.Executions.{HasValueDuring, IsDuring, IsPlaceWith}
+use Rattle.ped_scalar.specs.ped_rules.specs.ped_loop_runs.specs.ped_tidy.specs.ped_pasting.specs.ped_bodies.specs.ped_steps.specs.ped_laws.specs.Plain.Executions.{IsDuring, IsPlaceWith}
 use Rattle.ped_scalar.specs.ped_rules.specs.ped_loop_runs.specs.ped_tidy.specs.ped_pasting.specs.ped_bodies.specs.ped_steps.specs.ped_laws.specs.Runs.Replaying.{finish_of, goes_on}
-use Rattle.ped_scalar.specs.ped_rules.specs.ped_loop_runs.specs.ped_tidy.specs.ped_pasting.specs.ped_bodies.specs.ped_steps.specs.ped_laws.specs.Runs.Seeing.{ComesTo}
-use Rattle.ped_scalar.specs.ped_rules.specs.ped_loop_runs.specs.ped_tidy.specs.ped_pasting.specs.ped_bodies.specs.ped_steps.specs.ped_laws.specs.ped_eval.specs.Evaluation.{Evaluated, Seen, cell_seen, index_seen}
-use Rattle.ped_scalar.specs.ped_rules.specs.ped_loop_runs.specs.ped_tidy.specs.ped_pasting.specs.ped_bodies.specs.ped_steps.specs.ped_laws.specs.ped_eval.specs.Loops.{Entered, Limits, frame, increment, is_bound, iteration_count, limits}
+use Rattle.ped_scalar.specs.ped_rules.specs.ped_loop_runs.specs.ped_tidy.specs.ped_pasting.specs.ped_bodies.specs.ped_steps.specs.ped_laws.specs.ped_eval.specs.Evaluation.{cell_seen}
+use Rattle.ped_scalar.specs.ped_rules.specs.ped_loop_runs.specs.ped_tidy.specs.ped_pasting.specs.ped_bodies.specs.ped_steps.specs.ped_laws.specs.ped_eval.specs.Loops.{Entered, Limits, frame, increment, limits}
 use Rattle.ped_scalar.specs.ped_rules.specs.ped_loop_runs.specs.ped_tidy.specs.ped_pasting.specs.ped_bodies.specs.ped_steps.specs.ped_laws.specs.ped_eval.specs.Outcomes.{setting_of}
 use Rattle.ped_scalar.specs.ped_rules.specs.ped_loop_runs.specs.ped_tidy.specs.ped_pasting.specs.ped_bodies.specs.ped_steps.specs.ped_laws.specs.ped_eval.specs.Runs.{run}
-use Rattle.ped_scalar.specs.ped_rules.specs.ped_loop_runs.specs.ped_tidy.specs.ped_pasting.specs.ped_bodies.specs.ped_steps.specs.ped_laws.specs.ped_eval.specs.Scopes.{Names, Scope, Setting, names_in}
+use Rattle.ped_scalar.specs.ped_rules.specs.ped_loop_runs.specs.ped_tidy.specs.ped_pasting.specs.ped_bodies.specs.ped_steps.specs.ped_laws.specs.ped_eval.specs.Scopes.{Scope, Setting, names_in}
 use Rattle.ped_scalar.specs.ped_rules.specs.ped_loop_runs.specs.ped_tidy.specs.ped_pasting.specs.ped_bodies.specs.ped_steps.specs.ped_laws.specs.ped_eval.specs.Values.{value}
 use Rattle.ped_scalar.specs.ped_rules.specs.ped_loop_runs.specs.ped_tidy.specs.ped_pasting.specs.ped_bodies.specs.ped_steps.specs.ped_laws.specs.ped_store.specs.Cells.{Cell}
 use Rattle.ped_scalar.specs.ped_rules.specs.ped_loop_runs.specs.ped_tidy.specs.ped_pasting.specs.ped_bodies.specs.ped_steps.specs.ped_laws.specs.ped_store.specs.Stores.{Content, Store}
 use Rattle.ped_tree.specs.Constants.ConstantExpressions.{constant_value}
 use Rattle.ped_tree.specs.Tree.{Do, ExprTree, Head, ProgramTree, StmtTrees}
-
-one_result : (r : Result ℤ ℕ) (m n : ℤ) → r ≡ Ok m → r ≡ Ok n → m ≡ n
-one_result r m n a b = same (sym a ∙ b)
-  where
-    same : ◌≡◌ {A = Result ℤ ℕ} (Ok m) (Ok n) → m ≡ n
-    same q = cc
-
--- what two such evaluations read are cells of this kind
-read_so : (P : Cell → Type 0) (xs ys : List Seen) → ReadTheSame P xs ys → (c : Cell) (v : Content) → IsIn (cell_seen c v) xs → P c
-read_so P [] ys same c v i = absurd i
-read_so P (cell_seen e w ∷ xs) [] same c v i = absurd same
-read_so P (cell_seen e w ∷ xs) (cell_seen f u ∷ ys) same c v (inl q) = let cells : c ≡ e = cc in subst P (sym cells) same.0
-read_so P (cell_seen e w ∷ xs) (cell_seen f u ∷ ys) same c v (inr i) = read_so P xs ys same.3 c v i
-read_so P (cell_seen e w ∷ xs) (index_seen f n ∷ ys) same c v i = absurd same
-read_so P (index_seen e m ∷ xs) [] same c v i = absurd same
-read_so P (index_seen e m ∷ xs) (cell_seen f u ∷ ys) same c v i = absurd same
-read_so P (index_seen e m ∷ xs) (index_seen f n ∷ ys) same c v (inl q) = absurd cc
-read_so P (index_seen e m ∷ xs) (index_seen f n ∷ ys) same c v (inr i) = read_so P xs ys same.1 c v i
-
--- bounds come where both their values do
-limits_there : (n : Names) (f : Head) (u : Store) (a b : ℤ) → (value n f.first u).result ≡ Ok a → is_bound a ≡ true → (value n f.last u).result ≡ Ok b → is_bound b ≡ true → limits n f u ≡ record { seen = (value n f.first u).seen ++ (value n f.last u).seen; result = Ok (record { first = a; last = b }) }
-limits_there n f u a b one first_bound two last_bound =
-    limits_come n f (value n f.first u).seen (value n f.last u).seen a b (comes f.first a one) first_bound (comes f.last b two) last_bound u
-    (holds_append u (value n f.first u).seen (value n f.last u).seen ((value_told n f.first).holds u) ((value_told n f.last).holds u))
-  where
-    comes : (x : ExprTree) (v : ℤ) → (value n x u).result ≡ Ok v → ComesTo (value n x) (value n x u).seen (Ok v)
-    comes x v is w holds = (value_told n x).comes u w holds ∙ (λ i. record { seen = (value n x u).seen; result = is i })
+use Rattle.std.proofs.Common.{List, Ok, Some, ap, arith, inl, inr, pos, subst, sym, unwrap_or, ℕ, ℤ, ◌*ℤ◌, ◌++◌, ◌+ℤ◌, ◌+◌, ◌-◌, ◌∙◌, ◌∷◌, ◌≡◌, ◌≤◌}
 
 module _ (t : ProgramTree) (l : ℕ) (d g h k : Head) (body inside : StmtTrees) (only : only_loop body ≡ Some (pair g inside)) (scope : Scope) (s : Store) (goes : finish_of (run (setting_of t) (Do d body) l scope s).ending ≡ goes_on)
     (first_is : h.first ≡ g.first) (last_is : h.last ≡ g.last) (step_is : h.step ≡ g.step) (inner_first : k.first ≡ d.first) (inner_last : k.last ≡ d.last) (inner_step : k.step ≡ d.step) where
@@ -80,12 +52,7 @@ module _ (t : ProgramTree) (l : ℕ) (d g h k : Head) (body inside : StmtTrees) 
   abbrev entered_by : Limits → Entered
   entered_by m = entered_from (setting_of t) h (change_only (λ f z. Do k z) body) l scope s m
 
-  -- an expression is plain, and worth one number here and in each iteration of the old loop and of a new one, in the stores there
-  pub record IsSettled (told : List ℕ → ℤ) (first : Store) (e : ExprTree) : Type 0 where
-    pub worth : HasValueDuring (setting_of t) t l told first e
-    pub built : IsPlainlyBuilt (setting_of t).constants t l e
-
-  module _ (told : List ℕ → ℤ) (first : Store) (of_first : IsSettled told first g.first) (of_last : IsSettled told first g.last) (outer_first : IsSettled told first d.first) (outer_last : IsSettled told first d.last)
+  module _ (told : List ℕ → ℤ) (first : Store) (of_first : IsSettled t l told first g.first) (of_last : IsSettled t l told first g.last) (outer_first : IsSettled t l told first d.first) (outer_last : IsSettled t l told first d.last)
       (here : IsPlaceWith (setting_of t).constants t l told scope) (old_place : (i : ℕ) → IsPlaceWith (setting_of t).constants t l told (scope_old i)) (new_place : (m : Limits) (a : ℕ) → IsPlaceWith (setting_of t).constants t l told (frame (entered_by m) a ∷ scope))
       (during : IsDuring (setting_of t) t l first s) (rows_during : (i : ℕ) → 1 ≤ i → i ≤ e0.count → IsDuring (setting_of t) t l first (store_old i)) where
     abbrev bounds : Limits
@@ -103,7 +70,7 @@ module _ (t : ProgramTree) (l : ℕ) (d g h k : Head) (body inside : StmtTrees) 
     has : HasLimits (names_in p scope) d s old_bounds
     has = limits_parted (names_in p scope) d s old_bounds (pairs.outer (setting_of t) d g body inside only l scope s goes).come
 
-    worth_at : (e : ExprTree) → (x : IsSettled told first e) → (around : Scope) → IsPlaceWith (setting_of t).constants t l told around → (u : Store) → IsDuring (setting_of t) t l first u → (value (names_in p around) e u).result ≡ Ok x.worth.worth
+    worth_at : (e : ExprTree) → (x : IsSettled t l told first e) → (around : Scope) → IsPlaceWith (setting_of t).constants t l told around → (u : Store) → IsDuring (setting_of t) t l first u → (value (names_in p around) e u).result ≡ Ok x.worth.worth
     worth_at e x around place u during_u = x.worth.comes around place u during_u
 
     as_named : (around : Scope) (u : Store) (a b : ExprTree) (m : ℤ) → a ≡ b → (value (names_in p around) b u).result ≡ Ok m → (value (names_in p around) a u).result ≡ Ok m
@@ -150,15 +117,11 @@ module _ (t : ProgramTree) (l : ℕ) (d g h k : Head) (body inside : StmtTrees) 
     none_more n = omega arith
 
     -- what the new bounds read
-    reads_fixed : (e : ExprTree) → IsSettled told first e → (around : Scope) → IsPlaceWith (setting_of t).constants t l told around → (c : Cell) (v : Content) → IsIn (cell_seen c v) (value (names_in p around) e s).seen → IsOfFixed p.constants t l c
-    reads_fixed e x around place c v i =
-        read_so (IsOfFixed p.constants t l) (value (names_in p around) e s).seen (value (names_in p around) e s).seen (plain_again p p refl t l e x.built told around around place place first s s during during).seen c v i
-
-    limits_fixed : (f : Head) (around : Scope) (a b : ExprTree) → f.first ≡ a → f.last ≡ b → IsSettled told first a → IsSettled told first b → IsPlaceWith (setting_of t).constants t l told around → (c : Cell) (v : Content)
+    limits_fixed : (f : Head) (around : Scope) (a b : ExprTree) → f.first ≡ a → f.last ≡ b → IsSettled t l told first a → IsSettled t l told first b → IsPlaceWith (setting_of t).constants t l told around → (c : Cell) (v : Content)
         → (limits (names_in p around) f s).seen ≡ (value (names_in p around) f.first s).seen ++ (value (names_in p around) f.last s).seen → IsIn (cell_seen c v) (limits (names_in p around) f s).seen → IsOfFixed p.constants t l c
     limits_fixed f around a b one two of_a of_b place c v is i = elim (in_parts (cell_seen c v) (value (names_in p around) f.first s).seen (value (names_in p around) f.last s).seen (subst (IsIn (cell_seen c v)) is i)) [
-      | inl m ↦ reads_fixed a of_a around place c v (subst (λ (e : ExprTree). IsIn (cell_seen c v) (value (names_in p around) e s).seen) one m)
-      | inr m ↦ reads_fixed b of_b around place c v (subst (λ (e : ExprTree). IsIn (cell_seen c v) (value (names_in p around) e s).seen) two m)
+      | inl m ↦ settled_reads t l told first a of_a around place s during c v (subst (λ (e : ExprTree). IsIn (cell_seen c v) (value (names_in p around) e s).seen) one m)
+      | inr m ↦ settled_reads t l told first b of_b around place s during c v (subst (λ (e : ExprTree). IsIn (cell_seen c v) (value (names_in p around) e s).seen) two m)
     ]
 
     pub settled_trips : HasSwappedTrips t l d g h k body inside only scope s goes

@@ -16,7 +16,7 @@ use Rattle.ped_scalar.specs.ped_rules.specs.ped_loop_runs.specs.ped_tidy.specs.p
 use Rattle.ped_scalar.specs.ped_rules.specs.ped_loop_runs.specs.ped_tidy.specs.ped_pasting.specs.ped_bodies.specs.ped_steps.proofs.RunLaws.PrivatisedPrograms.{scalar_occurs, statement_in}
 use Rattle.ped_scalar.specs.ped_rules.specs.ped_loop_runs.specs.ped_tidy.specs.ped_pasting.specs.ped_bodies.specs.ped_steps.proofs.RunLaws.ExpandedPlacesStand.{variable_scalar}
 use Rattle.ped_loops.proofs.OnlyBodies.{pair, only_changed, only_tells}
-use Rattle.ped_loops.proofs.SameKinds.{constant_there}
+use Rattle.ped_loops.proofs.NamedConstants.{constant_there}
 
 -- the name occurs in the head of a DO, its PRIVATE statement apart
 abbrev pub occurs_in : List ℕ → Head → Bool
@@ -27,13 +27,13 @@ or_grouped true b c = refl
 or_grouped false b c = refl
 
 -- what occurs in a DO without PRIVATE names
-in_loop : (y : List ℕ) (h : Head) (body : StmtTrees) → h.private ≡ [] → occurs y (stmt_sites (Do h body)) ≡ occurs_in y h || occurs y (stmts_sites body)
+pub in_loop : (y : List ℕ) (h : Head) (body : StmtTrees) → h.private ≡ [] → occurs y (stmt_sites (Do h body)) ≡ occurs_in y h || occurs y (stmts_sites body)
 in_loop y h body private =
     occurs_append y (statement (Do h body) ∷ []) (private_site h.private ++ stmts_sites body)
     ∙ ap (λ (xs : List (List ℕ)). occurs_in y h || occurs y (private_site xs ++ stmts_sites body)) private
 
 -- and in two, one of which is the body of the other
-in_both : (y : List ℕ) (h g : Head) (body inside : StmtTrees) → only_loop body ≡ Some (pair g inside) → h.private ≡ [] → g.private ≡ [] → occurs y (stmt_sites (Do h body)) ≡ (occurs_in y h || occurs_in y g) || occurs y (stmts_sites inside)
+pub in_both : (y : List ℕ) (h g : Head) (body inside : StmtTrees) → only_loop body ≡ Some (pair g inside) → h.private ≡ [] → g.private ≡ [] → occurs y (stmt_sites (Do h body)) ≡ (occurs_in y h || occurs_in y g) || occurs y (stmts_sites inside)
 in_both y h g body inside only private inner_private =
     in_loop y h body private
     ∙ ap (λ (sites : List Site). occurs_in y h || occurs y sites) (only_tells g inside stmt_sites stmts_sites (λ (xs ys : List Site). xs ++ ys) [] (λ xs. refl) (λ xs. append-nil xs) refl (λ s rest. refl) (λ text. refl) body only)

@@ -97,11 +97,11 @@ false_unless : (b : Bool) → (b ≡ true → ⊥) → b ≡ false
 false_unless true h = absurd (h refl)
 false_unless false h = refl
 
-not_so : (b : Bool) → not b ≡ true → b ≡ false
+pub not_so : (b : Bool) → not b ≡ true → b ≡ false
 not_so true h = absurd cc
 not_so false h = refl
 
-both : {a b : Bool} → a ≡ true → b ≡ false → a && not b ≡ true
+pub both : {a b : Bool} → a ≡ true → b ≡ false → a && not b ≡ true
 both e f = λ i. e i && not (f i)
 
 not_false : (b : Bool) → b ≡ true → not b ≡ false
@@ -115,7 +115,7 @@ stands_apart variables (Element x js) = true
 stands_apart variables In = true
 stands_apart variables Out = true
 
-idle_apart : (variables : List (List ℕ)) (c : Cell) → is_cell_among variables c ≡ true → stands_apart variables c ≡ true
+pub idle_apart : (variables : List (List ℕ)) (c : Cell) → is_cell_among variables c ≡ true → stands_apart variables c ≡ true
 idle_apart variables (Scalar x) h = h
 idle_apart variables (Private x path) h = refl
 idle_apart variables (Element x js) h = refl
@@ -123,10 +123,10 @@ idle_apart variables In h = refl
 idle_apart variables Out h = refl
 
 -- what is agreed on and stands apart is wanted
-agreed_wanted : (apart shown : Cell → Bool) (acts : List Act) (c : Cell) → apart c ≡ true → agreed apart shown acts c ≡ true → wants shown acts c ≡ true
+pub agreed_wanted : (apart shown : Cell → Bool) (acts : List Act) (c : Cell) → apart c ≡ true → agreed apart shown acts c ≡ true → wants shown acts c ≡ true
 agreed_wanted apart shown acts c e h = ap (λ (b : Bool). not b || wants shown acts c) (sym e) ∙ h
 
-touches_in : (d : Cell → Bool) (ts : List Touch) (v : Touch) → IsIn v (touches_without d ts) → IsIn v ts
+pub touches_in : (d : Cell → Bool) (ts : List Touch) (v : Touch) → IsIn v (touches_without d ts) → IsIn v ts
 touches_in d [] v i = i
 touches_in d (t ∷ ts) v i = go (is_write t.manner && d t.cell) refl i (touches_in d ts v)
   where
@@ -134,12 +134,12 @@ touches_in d (t ∷ ts) v i = go (is_write t.manner && d t.cell) refl i (touches
     go true e k more = inr (more (subst (λ (us : List Touch). IsIn v us) (dropped_first d t ts e) k))
     go false e k more = elim (subst (λ (us : List Touch). IsIn v us) (kept_first d t ts e) k) [ inl q ↦ inl q | inr m ↦ inr (more m) ]
 
-without_from : (d : Cell → Bool) (acts : List Act) (a : Act) → IsIn a (without d acts) → (b : Act) × IsIn b acts × (a ≡ act_without d b)
+pub without_from : (d : Cell → Bool) (acts : List Act) (a : Act) → IsIn a (without d acts) → (b : Act) × IsIn b acts × (a ≡ act_without d b)
 without_from d [] a i = absurd i
 without_from d (b ∷ acts) a (inl e) = (b, inl refl, e)
 without_from d (b ∷ acts) a (inr i) = let r = without_from d acts a i in (r.0, inr r.1, r.2)
 
-of_block : (bs : List Block) (a : Act) → IsIn a (acts_in_blocks bs) → (b : Block) × IsIn b bs × IsIn a b.acts
+pub of_block : (bs : List Block) (a : Act) → IsIn a (acts_in_blocks bs) → (b : Block) × IsIn b bs × IsIn a b.acts
 of_block [] a i = absurd i
 of_block (b ∷ bs) a i = elim (in_parts a b.acts (acts_in_blocks bs) i) [
   | inl k ↦ (b, inl refl, k)

@@ -3,7 +3,7 @@ use Rattle.std.proofs.Common.{◌≡◌, ℕ, ◌+◌, ◌-◌, ◌≤◌, ℤ, 
 use Rattle.std.proofs.lemmas.Int.{ints}
 use Rattle.ped_scalar.specs.ped_rules.specs.ped_loop_runs.specs.ped_tidy.specs.ped_pasting.specs.ped_bodies.specs.ped_steps.specs.ped_eval.specs.ped_store.specs.Storage.{natural}
 
-div_one : (n : ℤ) → int_div n (pos 1) ≡ n
+pub div_one : (n : ℤ) → int_div n (pos 1) ≡ n
 div_one (pos n) = omega (arith, ints)
 div_one (negsuc n) = omega (arith, ints)
 

@@ -14,7 +14,7 @@ use Rattle.ped_scalar.specs.ped_rules.specs.ped_loop_runs.specs.ped_tidy.specs.p
 use Rattle.ped_scalar.specs.ped_rules.specs.ped_loop_runs.specs.ped_tidy.specs.ped_pasting.specs.ped_bodies.specs.ped_steps.specs.declared.rules.Rule.TheVariants.{NoLoop, NotPerfect, ParallelState, HasPrivate, IndexEscapes, BoundNotPlain, BoundsShape, StepShape, Range, Limit}
 use Rattle.ped_scalar.specs.ped_rules.specs.ped_loop_runs.specs.ped_tidy.specs.ped_pasting.specs.ped_bodies.specs.ped_steps.specs.Causes.{Rules, IsFirstCause}
 use Rattle.ped_scalar.specs.ped_rules.specs.ped_loop_runs.specs.ped_tidy.specs.ped_pasting.specs.ped_bodies.specs.ped_steps.specs.Replacing.{alone, program_with}
-use Rattle.ped_loops.specs.Shapes.{new_outer, new_inner, names_outer}
+use Rattle.ped_loops.specs.Shapes.{new_outer, new_inner, names_outer, isnt_shaped}
 
 -- the two DO loops in each other's place: comments in the body of the outer one stay in that of the new outer one (Allen and Kennedy, section 5.2)
 abbrev pub exchanged_loops : Head → (body : StmtTrees) → Option (Head × StmtTrees) → StmtTrees
@@ -41,11 +41,11 @@ IsBoundOf h e = (e ≡ h.first) ⊎ (e ≡ h.last)
 abbrev pub IsBoundOfEither : ProgramTree → (s : ℕ) → ℕ → ExprTree → Type 0
 IsBoundOfEither t s n e = (l : LoopOf t s) × (((n ≡ s) × IsBoundOf l.head e) ⊎ ((n ≡ s + 1) × MatchOption (only_loop l.body) ⊥ (λ g. IsBoundOf g.0 e)))
 
--- rule 7: a bound of the inner DO names the variable of the outer one; so far no such bound is moved, not even one with a shape (this project)
+-- rule 7: a bound of the inner DO names the variable of the outer one and has none of the five shapes (Allen and Kennedy, section 5.2)
 abbrev pub is_tied : Head → StmtTrees → Bool
-is_tied outer body = inner (λ g inside. names_outer outer g) body
+is_tied outer body = inner (λ g inside. isnt_shaped outer g) body
 
--- rule 8: a bound of the inner DO names the variable of the outer one, and the increment of one of the two isn't 1; it is never the first rule while no such bound is moved (this project)
+-- rule 8: a bound of the inner DO names the variable of the outer one, and the increment of one of the two isn't 1 (this project)
 abbrev pub has_no_unit : Values → Head → StmtTrees → Bool
 has_no_unit constants outer body = inner (λ g inside. names_outer outer g && (has_other_step constants is_one outer body || has_other_step constants is_one g inside)) body
 
@@ -58,7 +58,7 @@ leaves_either setting heads outer inner =
 abbrev pub makes_far : Setting → List Head → Head → StmtTrees → Bool
 makes_far setting heads outer body = inner (λ g inside. leaves_either setting heads (new_outer outer g) (new_inner outer g)) body
 
--- which rules stand against the step: the statement is no DO; its body isn't one DO; one of the two is a PARALLEL DO, or has PRIVATE names; a variable of the DO or of one in it is read outside it; a bound of one isn't plain; one of the inner DO names the outer variable, also where an increment isn't 1; a new bound may leave 2^62; the new program isn't valid (this project)
+-- which rules stand against the step: the statement is no DO; its body isn't one DO; one of the two is a PARALLEL DO, or has PRIVATE names; a variable of the DO or of one in it is read outside it; a bound of one isn't plain; one of the inner DO names the outer variable and has no shape, or names it where an increment isn't 1; a new bound may leave 2^62; the new program isn't valid (this project)
 abbrev pub StandsAgainstInterchange : (s : ℕ) → ProgramTree → Rules
 StandsAgainstInterchange s t =
     also NoLoop (WhereNoLoop t s)

@@ -127,7 +127,7 @@ new_inner outer inner = record outer {
   last = extreme_of Min outer.last (asked_above (first_shape outer inner) (last_shape outer inner) inner.variable);
 }
 
--- rule 7: a bound of the inner DO names the variable of the outer one and has no shape (this project)
+-- a bound of the inner DO names the variable of the outer one and has no shape (Allen and Kennedy, section 5.2)
 abbrev pub isnt_shaped : (outer inner : Head) → Bool
 isnt_shaped outer inner = is_none (shape_of outer.variable inner.first) || is_none (shape_of outer.variable inner.last)
 

@@ -12,6 +12,7 @@ ghost use Rattle.ped_scalar.specs.ped_rules.specs.ped_loop_runs.specs.ped_tidy.s
 ghost use Rattle.ped_scalar.specs.ped_rules.specs.ped_loop_runs.specs.ped_tidy.specs.ped_pasting.specs.ped_bodies.specs.ped_steps.specs.ped_flow.specs.PlainBounds.{nest_round, setting_round, IsConstant, IsFixed, IsExtreme, IsPlainlyBuilt, ArePlainlyBuilt, IsPlain};
 ghost use Rattle.ped_scalar.specs.ped_rules.specs.ped_loop_runs.specs.ped_tidy.specs.ped_pasting.specs.ped_bodies.specs.ped_steps.specs.ped_flow.specs.Questions.{IsLoop, LoopOf};
 ghost use Rattle.ped_scalar.specs.ped_rules.specs.ped_loop_runs.specs.ped_tidy.specs.ped_pasting.specs.ped_bodies.specs.ped_steps.specs.Scenes.{IsSceneOf};
+ghost use Rattle.ped_scalar.specs.ped_rules.specs.ped_loop_runs.specs.ped_tidy.specs.ped_pasting.specs.ped_bodies.specs.ped_steps.specs.ped_symbols.specs.Kinds.{table_of};
 ghost use Rattle.ped_loops.specs.CodePlain.{tree_at, values_at, IsPlaced, HasInterval, TellsPlain};
 
 use ped_base::{Name, NoMemory};
@@ -43,9 +44,7 @@ pub(crate) struct Place<'a> {
     pub(crate) round: &'a [Loop<'a>],
 }
 
-/// Whether both bounds of the DO with this number are plain: built of constants, variables of DO loops round it and scalars
-/// that keep their value in the outermost DO, by sign, sum, difference, product with a constant, MAX and MIN, where no part
-/// may leave 2^62 (this project).
+/// Whether both bounds of the DO with this number are plain.
 pub(crate) fn are_plain<L: Ledger>(
     alloc: Global,
     scene: &Scene<L>,
@@ -55,6 +54,24 @@ pub(crate) fn are_plain<L: Ledger>(
     requires scene { IsSceneOf (program_tree scene.now.tree.now) scene.now }
     requires is { IsLoop (program_tree scene.now.tree.now) number (head_of d.now) (stmt_trees d.now.body.items) }
     ensures { IfOk result (TellsPlain (program_tree scene.now.tree.now) number (head_of d.now)) }
+{
+    let first = is_plain(alloc, scene, number, &d.first)?;
+    let last = is_plain(alloc, scene, number, &d.last)?;
+    Ok(both(first, last))
+}
+
+/// Whether a bound of the DO with this number is plain: built of constants, variables of DO loops round it and scalars that
+/// keep their value in the outermost DO, by sign, sum, difference, product with a constant, MAX and MIN, where no part may
+/// leave 2^62 (this project).
+pub fn is_plain<L: Ledger>(
+    alloc: Global,
+    scene: &Scene<L>,
+    number: u32,
+    bound: &Expr,
+) -> Result<bool, NoMemory>
+    requires scene { IsSceneOf (program_tree scene.now.tree.now) scene.now }
+    requires is { LoopOf (program_tree scene.now.tree.now) number }
+    ensures { IfOk result (λ r. IsTrue r ↔ IsPlain (table_of (program_tree scene.now.tree.now)).constants (program_tree scene.now.tree.now) number (expr_tree bound.now)) }
 {
     let round = loops_round(alloc, scene.tree, number)?;
     let variables = loop_variables(alloc, &scene.tree.body)?;
@@ -70,11 +87,11 @@ pub(crate) fn are_plain<L: Ledger>(
         number,
         round: &round,
     };
-    Ok(both(is_plain(&place, &d.first), is_plain(&place, &d.last)))
+    Ok(is_plain_there(&place, bound))
 }
 
 /// Whether a bound at this place is plain. At most six loops stand in a nest.
-fn is_plain(place: &Place, e: &Expr) -> bool
+fn is_plain_there(place: &Place, e: &Expr) -> bool
     requires placed { IsPlaced place.now }
     requires short { length place.now.round.now ≤ 6 }
     ensures { IsTrue result ↔ IsPlain (values_at place.now) (tree_at place.now) place.now.number (expr_tree e.now) }

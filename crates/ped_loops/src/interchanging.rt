@@ -1,6 +1,6 @@
 //! `interchange`: a DO and the one DO in its body change places.
 
-ghost use Rattle.std.specs.Prelude.{◌≡◌, ◌||◌, ◌+◌, ◌<◌, ◌≤◌, ◌^◌, ℕ, [], length, true, false, Some, IfOk, MatchOption};
+ghost use Rattle.std.specs.Prelude.{◌≡◌, ◌||◌, ◌&&◌, ◌+◌, ◌<◌, ◌≤◌, ◌^◌, ℕ, [], length, true, false, Some, IfOk, MatchOption};
 ghost use Rattle.ped_base.specs.Lists.{has_some};
 ghost use Rattle.ped_tree.specs.Numbering.{statements_count};
 ghost use Rattle.ped_tree.specs.Views.{stmt_trees, do_tree, program_tree, head_of};
@@ -18,16 +18,21 @@ ghost use Rattle.ped_scalar.specs.ped_rules.specs.ped_loop_runs.specs.ped_tidy.s
 ghost use Rattle.ped_scalar.specs.ped_rules.specs.ped_loop_runs.specs.ped_tidy.specs.ped_pasting.specs.ped_bodies.specs.ped_steps.specs.ped_refs.specs.Loops.{nest_of};
 ghost use Rattle.ped_scalar.specs.ped_rules.specs.ped_loop_runs.specs.ped_tidy.specs.ped_pasting.specs.ped_bodies.specs.ped_steps.specs.ped_symbols.specs.NameRefusals.{IsValid};
 ghost use Rattle.ped_loops.specs.CodeInterchanging.{NoneUpTo};
+ghost use Rattle.ped_loops.specs.CodeShapes.{HasShapes};
 ghost use Rattle.ped_loops.specs.Interchanging as Spec;
+ghost use Rattle.ped_loops.specs.Shapes.{names_outer};
 
 use crate::bounds::are_plain;
-use crate::shapes::{exchanged, names_outer, pair_of};
+use crate::shapes::{Pair, exchanged, names_outer, pair_of};
 use ped_base::NoMemory;
 use ped_scalar::ped_rules::ped_loop_runs::ped_tidy::ped_pasting::ped_bodies::ped_steps::ped_weaves::ped_laws::ped_graph::ped_refs::Loop;
 use ped_scalar::ped_rules::ped_loop_runs::ped_tidy::ped_pasting::ped_bodies::ped_steps::{
     Change, Refused, Rule, Scene, change_to, loop_at, loops_round, program_with,
 };
-use ped_scalar::ped_rules::{against, all_but, escapes, first_crossing, leaves, only_loop};
+use ped_scalar::ped_rules::{
+    against, all_but, escapes, first_crossing, has_step_one, leaves, only_loop,
+};
+use ped_tree::constants::Consts;
 use ped_tree::{Do, Program, Stmt};
 use std::alloc::Global;
 use std::sync::ledger::Ledger;
@@ -38,7 +43,7 @@ use std::sync::ledger::Ledger;
 /// # Errors
 ///
 /// `Refused` exactly where a rule stands, with the rule of the least number: NoLoop, NotPerfect, ParallelState, HasPrivate,
-/// IndexEscapes, BoundNotPlain, BoundsShape, Range or Limit; and else where the DO carries a dependence that the
+/// IndexEscapes, BoundNotPlain, BoundsShape, StepShape, Range or Limit; and else where the DO carries a dependence that the
 /// user hasn't rejected and of which the sink stands in an earlier iteration of the inner DO, with the first one in the order
 /// of the pane.
 pub fn interchange<L: Ledger>(
@@ -191,18 +196,54 @@ fn unless_tied<L: Ledger>(
     requires none { NoneUpTo 6 (Spec.StandsAgainstInterchange number (program_tree scene.now.tree.now)) }
     ensures { IfOk result (Answers (Spec.interchanging number) (program_tree scene.now.tree.now)) }
 {
-    if names_outer(outer, inner) {
-        return Ok(Err(against(Rule::BoundsShape, number)));
-    }
     match pair_of(outer, inner) {
         Some(pair) => {
-            let new = exchanged(alloc, &pair)?;
-            return unless_far(alloc, scene, number, outer, inner, &new);
+            return unless_stepping(alloc, scene, number, outer, inner, &pair);
         }
         None => {
             return Ok(Err(against(Rule::BoundsShape, number)));
         }
     }
+}
+
+/// The same, where no rule up to the seventh stands, and the bounds of the inner DO have these shapes.
+fn unless_stepping<L: Ledger>(
+    alloc: Global,
+    scene: &Scene<L>,
+    number: u32,
+    outer: &Do,
+    inner: &Do,
+    pair: &Pair,
+) -> Result<Result<Change, Refused>, NoMemory>
+    requires scene { IsSceneOf (program_tree scene.now.tree.now) scene.now }
+    requires is { IsLoop (program_tree scene.now.tree.now) number (head_of outer.now) (stmt_trees outer.now.body.items) }
+    requires only { only_loop (stmt_trees outer.now.body.items) ≡ Some (head_of inner.now, stmt_trees inner.now.body.items) }
+    requires none { NoneUpTo 7 (Spec.StandsAgainstInterchange number (program_tree scene.now.tree.now)) }
+    requires outer { pair.now.outer.now ≡ outer.now }
+    requires inner { pair.now.inner.now ≡ inner.now }
+    requires shapes { HasShapes pair.now }
+    ensures { IfOk result (Answers (Spec.interchanging number) (program_tree scene.now.tree.now)) }
+{
+    if lacks_units(scene.symbols.consts(), outer, inner) {
+        return Ok(Err(against(Rule::StepShape, number)));
+    }
+    let new = exchanged(alloc, pair)?;
+    unless_far(alloc, scene, number, outer, inner, &new)
+}
+
+/// Whether a bound of the inner DO names the variable of the outer one, and the increment of one of the two isn't 1.
+fn lacks_units(consts: &Consts, outer: &Do, inner: &Do) -> bool
+    ensures { result ≡ (names_outer (head_of outer.now) (head_of inner.now)
+        && (Rules.has_other_step consts.now Rules.is_one (head_of outer.now) (stmt_trees outer.now.body.items) || Rules.has_other_step consts.now Rules.is_one (head_of inner.now) (stmt_trees inner.now.body.items))) }
+{
+    names_outer(outer, inner) && (steps_otherwise(consts, outer) || steps_otherwise(consts, inner))
+}
+
+/// Whether the increment of the DO isn't 1.
+fn steps_otherwise(consts: &Consts, d: &Do) -> bool
+    ensures { result ≡ Rules.has_other_step consts.now Rules.is_one (head_of d.now) (stmt_trees d.now.body.items) }
+{
+    !has_step_one(consts, d)
 }
 
 /// The same, where no rule up to the eighth stands, and these are the new loops.

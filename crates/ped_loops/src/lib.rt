@@ -13,6 +13,7 @@ mod reversing;
 mod serialising;
 mod shapes;
 
+pub use bounds::is_plain;
 pub use interchanging::interchange;
 pub use laws::{
     interchange_is_lawful, parallel_is_lawful, rejection_is_lawful, reversal_is_lawful,

@@ -18,12 +18,14 @@ use Rattle.ped_interleavings.specs.Lefts.{Left, finished, begins, ends_turn, ope
 use Rattle.ped_interleavings.specs.Steps.{Next, over, met, went, halted, step}
 use Rattle.ped_interleavings.specs.Weights.{left_weight, lefts_weight, stmt_weight, stmts_weight, most_turns}
 use Rattle.ped_machine.specs.Answers.{ends_run, is_last, step_by}
-use Rattle.ped_machine.specs.Doing.{IsDone, IfOpen, IfSafe, HasGrown}
+use Rattle.ped_machine.specs.Bases.{HasKept}
+use Rattle.ped_machine.specs.Doing.{IsDone, IfOpen, IfSafe}
 use Rattle.ped_machine.specs.Machines.{Held, IsStepBy, IfFaultless}
 use Rattle.ped_machine.specs.Rests.{rest_left, IsSound}
+use Rattle.ped_machine.specs.Levels.{level_base}
 use Rattle.ped_machine.specs.Roots.{Outermost, outermost_left, IsOutermostSound, root_left, IsRight}
 use Rattle.ped_machine.specs.declared.rests.Rest.{Rest}
-use Rattle.ped_machine.proofs.Growing.{ready_in, ready_grows}
+use Rattle.ped_machine.proofs.Dropping.{ready_kept}
 use Rattle.ped_machine.specs.declared.steps.Step.{Step}
 use Rattle.ped_machine.specs.declared.steps.Step.TheVariants as answer
 use Rattle.ped_machine.specs.declared.steps.Done as doing
@@ -121,10 +123,10 @@ root_is false scope r = refl
 
 -- what is kept stays right but behind a fault
 pub still_right : (E : Type 0) (d : doing.Done) (scope : Scope) (r : Rest Outermost) (table : Table) (old new : Memory) (base : Scope) → IsReady table base old
-    → IfOpen {E = E} (Ok d) (IsSound outermost_left IsOutermostSound scope r table new.stands) → IfOpen {E = E} (Ok d) (DoCopiesStand scope new.stands) → IfSafe {E = E} (Ok d) (HasGrown old new)
+    → IfOpen {E = E} (Ok d) (IsSound outermost_left level_base IsOutermostSound scope r table new.stands) → IfOpen {E = E} (Ok d) (DoCopiesStand scope new.stands) → IfSafe {E = E} (Ok d) (HasKept base old new)
     → IfFaultless {E = E} (Ok (step_by d)) (IsRight (ends_run d) scope r table new)
-still_right E done.Went scope r table old new base ready sound copies grown = record { ready = ready_in table base scope new (ready_grows table base old new grown ready) copies; sound = sound }
-still_right E done.Ended scope r table old new base ready sound copies grown = record { ready = ready_in table base scope new (ready_grows table base old new grown ready) copies; sound = sound }
+still_right E done.Went scope r table old new base ready sound copies grown = record { ready = ready_kept table base scope old new grown ready copies; sound = sound }
+still_right E done.Ended scope r table old new base ready sound copies grown = record { ready = ready_kept table base scope old new grown ready copies; sound = sound }
 still_right E done.Halted scope r table old new base ready sound copies grown = grown.bounds ∙ ready.bounds
 still_right E (done.Fault f n) scope r table old new base ready sound copies grown = tt
 

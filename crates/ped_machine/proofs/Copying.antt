@@ -33,7 +33,8 @@ pub all_of_one : {X : Type 0} (p : X → Bool) (xs : List X) (i : ℕ) (x : X) �
 all_of_one p xs i x h e one rest =
     ap (list_all p) (next_drop xs i x h) ∙ (λ j. (ap p (sym e) ∙ one) j && rest j)
 
-put_same : (x : List ℕ) (path : List Iteration) (s : Store) → s (Private x path) ≡ Undefined → (d : Cell) → put (Private x path) Undefined s d ≡ s d
+-- what held nothing holds nothing
+pub put_same : (x : List ℕ) (path : List Iteration) (s : Store) → s (Private x path) ≡ Undefined → (d : Cell) → put (Private x path) Undefined s d ≡ s d
 put_same x path s h (Scalar y) = refl
 put_same x path s h (Element y js) = refl
 put_same x path s h In = refl

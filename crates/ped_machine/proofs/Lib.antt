@@ -1,6 +1,7 @@
 mod Acting
 mod Answering
 mod Copying
+mod Dropping
 mod Growing
 mod Leaving
 mod Leveling

@@ -140,12 +140,12 @@ module _ {C : Type 0} (left : C → Left) (scope : Scope) (old new : Open C) (re
       (refl, (λ i. (is i).cells) ∙ exit_cells (open_entered old) scope m)
 
 -- a loop that has just been opened
-pub opened_is : {C : Type 0} (left : C → Left) (sound : C → Table → (Cell → Bool) → Type 0) (scope : Scope) (o : Open C) (rest : Left) → 0 < o.plan.count → ((k : ℕ) → at o.marks k ≡ Waits)
+pub opened_is : {C : Type 0} (left : C → Left) (base : C → Scope) (sound : C → Table → (Cell → Bool) → Type 0) (scope : Scope) (o : Open C) (rest : Left) → 0 < o.plan.count → ((k : ℕ) → at o.marks k ≡ Waits)
     → open_left left scope o rest ≡ entered_left true o.plan.count (open_entered o) (stmt_trees o.d.now.body.items) o.plan.number scope rest
-opened_is left sound scope o rest some waits =
+opened_is left base sound scope o rest some waits =
     let body = stmt_trees o.d.now.body.items in
     let item : ℕ → Left = λ k. body_left (open_entered o) body o.plan.number scope k finished in
     let count : o.plan.count ≡ suc (o.plan.count - 1) = omega (arith, some) in
     ap (λ ls. open_loop (open_entered o) o.plan.number scope ls rest)
-    (same_of o.plan.count (place_left left scope o) (λ j. item (j + 1)) (λ j less. left_by left sound scope o j Waits (waits j)) ∙ sym (by_numbers o.plan.count item) ∙ ap (λ (k : ℕ). lefts_by k 1 item) count)
+    (same_of o.plan.count (place_left left scope o) (λ j. item (j + 1)) (λ j less. left_by left base sound scope o j Waits (waits j)) ∙ sym (by_numbers o.plan.count item) ∙ ap (λ (k : ℕ). lefts_by k 1 item) count)
     ∙ sym (ap (λ (k : ℕ). entered_left true k (open_entered o) body o.plan.number scope rest) count)

@@ -1,7 +1,7 @@
 -- Open loops: which iterations are finished, and what starting one and doing a step of one leave.
-use Rattle.std.proofs.Common.{◌≡◌, ◌≢◌, ◌<◌, ◌≤◌, ℕ, ◌+◌, [], length, Bool, true, false, Option, Some, None, eqb-true, if◌then◌else◌, refl, sym, ap, subst, ◌∙◌, arith}
+use Rattle.std.proofs.Common.{◌≡◌, ◌≢◌, ◌<◌, ◌≤◌, ℕ, ◌+◌, [], ◌∷◌, length, Bool, true, false, Option, Some, None, eqb-true, if◌then◌else◌, refl, sym, ap, subst, ◌∙◌, arith}
 use Rattle.std.specs.Prelude.{◌==◌, MatchOption}
-use Rattle.slab.specs.Slab.{get}
+use Rattle.slab.specs.Slab.{Slab, get}
 use Rattle.ped_marks.specs.declared.marks.Mark.{Mark}
 use Rattle.ped_marks.specs.declared.marks.Mark.TheVariants.{Waits, Running, Done}
 use Rattle.ped_marks.specs.Marks.{at, is_done}
@@ -10,14 +10,15 @@ use Rattle.ped_tree.specs.Views.{head_of, stmt_trees, do_tree}
 use Rattle.ped_symbols.specs.Kinds.{Table}
 use Rattle.ped_store.specs.Cells.{Cell}
 use Rattle.ped_interleavings.specs.ped_eval.specs.Scopes.{Scope}
+use Rattle.ped_interleavings.specs.ped_eval.specs.Loops.{frame}
 use Rattle.ped_interleavings.specs.ped_eval.specs.Plans.{IsPlan}
 use Rattle.ped_interleavings.specs.ped_eval.specs.Readiness.{CanDo}
 use Rattle.ped_interleavings.specs.ped_eval.specs.declared.plans.Plan.{Plan}
 use Rattle.ped_interleavings.specs.Lefts.{Left, Lefts, finished, begins, ends_turn, open_loop, is_finished, left_of_all, body_left, unfinished, or_else}
 use Rattle.ped_machine.specs.declared.opens.Open.{Open}
 use Rattle.ped_machine.specs.Parts.{is_comment, IsWithoutComments, begins_with_comment}
-use Rattle.ped_machine.specs.Opens.{kept_left, mark_left, lefts_of, is_bare, open_entered, place_left, IsSameLoop, HasMarked, IsSameElsewhere, IsRunning, IsOpen}
-use Rattle.ped_machine.specs.Growth.{More}
+use Rattle.ped_machine.specs.Opens.{kept_left, mark_left, lefts_of, is_bare, open_entered, place_left, place_scope, IsSameLoop, HasMarked, IsSameElsewhere, IsRunning, IsOpen}
+use Rattle.ped_machine.specs.Growth.{MoreNear}
 use Rattle.ped_machine.proofs.OpenLefts.{unfinished_none, unfinished_first}
 
 -- only comments are finished at once, wherever they stand
@@ -56,7 +57,7 @@ is_nothing (begins t n scope rest) h = absurd cc
 is_nothing (ends_turn e body n scope k more rest) h = absurd cc
 is_nothing (open_loop e n scope ls rest) h = absurd cc
 
-module _ {C : Type 0} (left : C → Left) (sound : C → Table → (Cell → Bool) → Type 0) (scope : Scope) where
+module _ {C : Type 0} (left : C → Left) (base : C → Scope) (sound : C → Table → (Cell → Bool) → Type 0) (scope : Scope) where
   abbrev pub body_of : Open C → StmtTrees
   body_of o = stmt_trees o.d.now.body.items
 
@@ -70,7 +71,7 @@ module _ {C : Type 0} (left : C → Left) (sound : C → Table → (Cell → Boo
   pub waits_finished : (o : Open C) (j : ℕ) → at o.marks j ≡ Waits → is_finished (place_left left scope o j) ≡ is_bare (body_of o)
   waits_finished o j h = ap is_finished (left_by o j Waits h) ∙ bare_there (body_of o) (o.plan.number + 1) 0 _ []
 
-  module _ (table : Table) (stands : Cell → Bool) (o : Open C) (h : IsOpen left sound table stands scope o) where
+  module _ (table : Table) (stands : Cell → Bool) (o : Open C) (h : IsOpen left base sound table stands scope o) where
     running_open : (j key : ℕ) → j < o.plan.count → at o.marks j ≡ Running key → is_finished (place_left left scope o j) ≡ false
     running_open j key k r =
         let t = h.running j key k r in
@@ -131,7 +132,29 @@ module _ {C : Type 0} (left : C → Left) (sound : C → Table → (Cell → Boo
   }) (stmt_trees (h.d i).now.body.items) (h.plan i).number scope (j + 1) finished
 
   abbrev pub Grows : Type 0
-  Grows = (w : C) (table : Table) (stands more : Cell → Bool) → More stands more → sound w table stands → sound w table more
+  Grows = (w : C) (table : Table) (stands more : Cell → Bool) → MoreNear (base w) stands more → sound w table stands → sound w table more
+
+  -- the same loop has the same iterations
+  pub same_scope : (o p : Open C) (j : ℕ) → IsSameLoop o p → place_scope scope p j ≡ place_scope scope o j
+  same_scope o p j h = λ i. frame (record {
+    number = (h.plan i).number;
+    head = head_of (h.d i).now;
+    first = (h.plan i).first;
+    step = (h.plan i).step;
+    count = (h.plan i).count;
+    behind_bounds = (h.plan i).behind;
+    inner = (h.plan i).inner;
+  }) (j + 1) ∷ scope
+
+  -- an iteration that runs needs what its iterations need
+  pub running_grows : (table : Table) (stands more : Cell → Bool) (tasks : Slab C) (inner : Scope) (key : ℕ) → Grows → MoreNear inner stands more → IsRunning left base sound table stands tasks inner key → IsRunning left base sound table more tasks inner key
+  running_grows table stands more tasks inner key grows grown t = record {
+    task = t.task;
+    kept = t.kept;
+    inside = t.inside;
+    unfinished = t.unfinished;
+    safe = grows t.task table stands more (subst (λ (z : Scope). MoreNear z stands more) (sym t.inside) grown) t.safe;
+  }
 
   itself : (n : ℕ) → (n == n) ≡ true
   itself n = grind (arith, eqb-true)
@@ -179,7 +202,7 @@ module _ {C : Type 0} (left : C → Left) (sound : C → Table → (Cell → Boo
           by Done e = left_by new j Done (mark_else j d ∙ e) ∙ sym (left_by old j Done e)
           by (Running k) e = left_by new j (Running k) (mark_else j d ∙ e) ∙ ap (kept_left left) (h.tasks.others k (apart j k less d e)) ∙ sym (left_by old j (Running k) e)
 
-      module _ (table : Table) (stands more : Cell → Bool) (grows : Grows) (grown : More stands more) (o : IsOpen left sound table stands scope old) where
+      module _ (table : Table) (stands more : Cell → Bool) (grows : Grows) (grown : (j : ℕ) → j ≢ place → MoreNear (place_scope scope old j) stands more) (o : IsOpen left base sound table stands scope old) where
         count_same : new.plan.count ≡ old.plan.count
         count_same = λ i. (h.same.plan i).count
 
@@ -187,20 +210,24 @@ module _ {C : Type 0} (left : C → Left) (sound : C → Table → (Cell → Boo
         less_too j less = subst (λ (n : ℕ). j < n) count_same less
 
         -- where that of this iteration is right, all that is left of the loop can be done
-        pub marked_open : ((k : ℕ) → mark ≡ Running k → (k ≡ key) × IsRunning left sound table more new.tasks key × (is_bare (body_of old) ≡ false)) → IsOpen left sound table more scope new
+        pub marked_open : ((k : ℕ) → mark ≡ Running k → (k ≡ key) × IsRunning left base sound table more new.tasks (place_scope scope old place) key × (is_bare (body_of old) ≡ false)) → IsOpen left base sound table more scope new
         marked_open right = record {
           plan = subst (λ (p : Plan). IsPlan (head_of new.d.now) (stmt_trees new.d.now.body.items) p) (sym h.same.plan) (subst (λ (d : _). IsPlan (head_of d.now) (stmt_trees d.now.body.items) old.plan) (sym h.same.d) o.plan);
           can = subst (λ (p : Plan). CanDo table scope p.number (do_tree new.d.now)) (sym h.same.plan) (subst (λ (d : _). CanDo table scope old.plan.number (do_tree d.now)) (sym h.same.d) o.can);
           some = subst (λ (n : ℕ). 0 < n) (sym count_same) o.some;
           marks = h.count ∙ o.marks ∙ sym count_same;
           running = λ j k less r.
-              this_or_other j place (IsRunning left sound table more new.tasks k)
-              (λ e. let q = right k (sym mark_there ∙ ap (at new.marks) (sym e) ∙ r) in subst (IsRunning left sound table more new.tasks) (sym q.0) q.1)
+              subst (λ (z : Scope). IsRunning left base sound table more new.tasks z k) (sym (same_scope old new j h.same))
+              (this_or_other j place (IsRunning left base sound table more new.tasks (place_scope scope old j) k)
+              (λ e.
+              let q = right k (sym mark_there ∙ ap (at new.marks) (sym e) ∙ r) in
+              subst (λ (i : ℕ). IsRunning left base sound table more new.tasks (place_scope scope old i) k) (sym e)
+              (subst (IsRunning left base sound table more new.tasks (place_scope scope old place)) (sym q.0) q.1))
               (λ d.
               let r2 = sym (mark_else j d) ∙ r in
               let less2 = less_too j less in
-              let t = o.running j k less2 r2 in
-              record { task = t.task; kept = h.tasks.others k (apart j k less2 d r2) ∙ t.kept; unfinished = t.unfinished; safe = grows t.task table stands more grown t.safe });
+              let t = running_grows table stands more old.tasks (place_scope scope old j) k grows (grown j d) (o.running j k less2 r2) in
+              record { task = t.task; kept = h.tasks.others k (apart j k less2 d r2) ∙ t.kept; inside = t.inside; unfinished = t.unfinished; safe = t.safe }));
           real = λ j k less r.
               ap is_bare (λ i. stmt_trees (h.same.d i).now.body.items)
               ∙ this_or_other j place (is_bare (body_of old) ≡ false)
@@ -217,7 +244,7 @@ module _ {C : Type 0} (left : C → Left) (sound : C → Table → (Cell → Boo
         }
 
   -- a free key is no other iteration's
-  pub free_apart : (table : Table) (stands : Cell → Bool) (old : Open C) (place key : ℕ) → IsOpen left sound table stands scope old → get old.tasks key ≡ None
+  pub free_apart : (table : Table) (stands : Cell → Bool) (old : Open C) (place key : ℕ) → IsOpen left base sound table stands scope old → get old.tasks key ≡ None
       → (j k : ℕ) → j < old.plan.count → j ≢ place → at old.marks j ≡ Running k → k ≢ key
   free_apart table stands old place key o free j k less d r e =
       let t = o.running j k less r in
@@ -225,7 +252,7 @@ module _ {C : Type 0} (left : C → Left) (sound : C → Table → (Cell → Boo
       absurd cc
 
   -- the key of a running iteration is no other iteration's
-  pub running_apart : (table : Table) (stands : Cell → Bool) (old : Open C) (place key : ℕ) → IsOpen left sound table stands scope old → place < old.plan.count → at old.marks place ≡ Running key
+  pub running_apart : (table : Table) (stands : Cell → Bool) (old : Open C) (place key : ℕ) → IsOpen left base sound table stands scope old → place < old.plan.count → at old.marks place ≡ Running key
       → (j k : ℕ) → j < old.plan.count → j ≢ place → at old.marks j ≡ Running k → k ≢ key
   running_apart table stands old place key o there running j k less d r e =
       d (o.keys j place key less there (r ∙ ap Running e) running)

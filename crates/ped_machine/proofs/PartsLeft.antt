@@ -13,7 +13,7 @@ use Rattle.ped_interleavings.specs.Lefts.{Left, begins, left_of_all, is_finished
 use Rattle.ped_tree.specs.Views.{stmt_trees}
 use Rattle.ped_machine.specs.declared.parts.Part as code
 use Rattle.ped_machine.specs.declared.parts.Block.{Block}
-use Rattle.ped_machine.specs.Parts.{Turn, Part, part_view, parts_view, turn_left, parts_left, CanEndAnd, CanGo, is_comment, begins_with_comment, statements_behind, has_some, behind_first, with_statements, first_turn, IsSpent, IsFirstBlock, IsFirstSpent, IsWithoutComments, IsSettled, GoesOn, FirstGoesOn}
+use Rattle.ped_machine.specs.Parts.{Turn, Part, base_of, behind_turn, part_view, parts_view, turn_left, parts_left, CanEndAnd, CanGo, is_comment, begins_with_comment, statements_behind, has_some, behind_first, with_statements, first_turn, IsSpent, IsFirstBlock, IsFirstSpent, IsWithoutComments, IsSettled, GoesOn, FirstGoesOn}
 
 front_view : (f : code.Part) (fs : List code.Part) → parts_view (fs ++ f ∷ []) ≡ part_view f ∷ parts_view fs
 front_view f fs = ap reverse (map-append part_view fs (f ∷ [])) ∙ reverse-append (map part_view fs) (part_view f ∷ [])
@@ -40,6 +40,7 @@ pub settled_by : (p : Part) (ps : List Part) (ts : StmtTrees) → IsWithoutComme
 settled_by p ps ts h = record {
   left = λ scope. h.left p.first scope (turn_left scope p.turn (parts_left ps));
   can = λ table scope k. (h.can table scope p.first k.0, k.1);
+  base = λ scope. refl;
 }
 
 -- a part of which nothing is left
@@ -47,13 +48,14 @@ pub settled_behind : (p : Part) (ps : List Part) → p.stmts ≡ no_stmts → p.
 settled_behind p ps e t = record {
   left = λ scope. λ i. left_of_all (sym e i) p.first scope (turn_left scope (sym t i) (parts_left ps));
   can = λ table scope k. subst (λ (o : Option Turn). CanEndAnd table scope o (CanGo table ps)) t k.1;
+  base = λ scope. λ i. base_of ps (behind_turn (sym t i) scope);
 }
 
 pub settled_not : (ps : List Part) → IsSettled ps ps
-settled_not ps = record { left = λ scope. refl; can = λ table scope k. k }
+settled_not ps = record { left = λ scope. refl; can = λ table scope k. k; base = λ scope. refl }
 
 pub settled_twice : (a b c : List Part) → IsSettled a b → IsSettled b c → IsSettled a c
-settled_twice a b c g h = record { left = λ scope. h.left scope ∙ g.left scope; can = λ table scope k. h.can table scope (g.can table scope k) }
+settled_twice a b c g h = record { left = λ scope. h.left scope ∙ g.left scope; can = λ table scope k. h.can table scope (g.can table scope k); base = λ scope. h.base scope ∙ g.base scope }
 
 -- no comment comes first
 pub none_before : (ts : StmtTrees) → begins_with_comment ts ≡ false → IsWithoutComments ts ts

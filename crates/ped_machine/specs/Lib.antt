@@ -1,5 +1,6 @@
 pub use Rattle.ped_interleavings
 pub mod Answers
+pub mod Bases
 pub mod Doing
 pub mod Machines
 pub mod Parts

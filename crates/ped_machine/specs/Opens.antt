@@ -1,5 +1,5 @@
 -- Open PARALLEL DO loops of the code, and what each of their iterations has left (this project).
-use Rattle.std.specs.Prelude.{◌≡◌, ◌≢◌, ◌<◌, ◌+◌, ◌==◌, ℕ, zero, suc, [], length, Bool, false, Option, Some, None, if◌then◌else◌}
+use Rattle.std.specs.Prelude.{◌≡◌, ◌≢◌, ◌<◌, ◌+◌, ◌==◌, ℕ, zero, suc, [], ◌∷◌, length, Bool, false, Option, Some, None, if◌then◌else◌}
 use Rattle.slab.specs.Slab.{Slab, get, Updates}
 use Rattle.ped_marks.specs.declared.marks.Mark.{Mark}
 use Rattle.ped_marks.specs.declared.marks.Mark.TheVariants.{Waits, Running, Done}
@@ -9,7 +9,7 @@ use Rattle.ped_tree.specs.Views.{head_of, stmt_trees, do_tree}
 use Rattle.ped_symbols.specs.Kinds.{Table}
 use Rattle.ped_store.specs.Cells.{Cell}
 use Rattle.ped_interleavings.specs.ped_eval.specs.Scopes.{Scope}
-use Rattle.ped_interleavings.specs.ped_eval.specs.Loops.{Entered}
+use Rattle.ped_interleavings.specs.ped_eval.specs.Loops.{Entered, frame}
 use Rattle.ped_interleavings.specs.ped_eval.specs.Plans.{entered_by, IsPlan}
 use Rattle.ped_interleavings.specs.ped_eval.specs.Readiness.{CanDo}
 use Rattle.ped_interleavings.specs.Lefts.{Left, finished, open_loop, Lefts, no_lefts, more_lefts, is_finished, left_of_all, body_left}
@@ -34,6 +34,10 @@ lefts_of (suc n) item = more_lefts (item 0) (lefts_of n (λ j. item (suc j)))
 -- a loop as it was entered
 abbrev pub open_entered : {C : Type 0} → Open C → Entered
 open_entered o = entered_by (head_of o.d.now) o.plan o.plan.behind
+
+-- the iterations of an iteration of the loop
+abbrev pub place_scope : {C : Type 0} → Scope → Open C → ℕ → Scope
+place_scope scope o j = frame (open_entered o) (j + 1) ∷ scope
 
 -- statements that have nothing but comments
 abbrev pub is_bare : StmtTrees → Bool
@@ -65,11 +69,12 @@ module _ {C : Type 0} (left : C → Left) where
   abbrev pub open_left : Scope → Open C → Left → Left
   open_left scope o rest = open_loop (open_entered o) o.plan.number scope (lefts_of o.plan.count (place_left scope o)) rest
 
-  module _ (sound : C → Table → (Cell → Bool) → Type 0) (table : Table) (stands : Cell → Bool) where
-    -- a task that runs: something is left of it, and all of that can be done
-    pub record IsRunning (tasks : Slab C) (key : ℕ) : Type 0 where
+  module _ (base : C → Scope) (sound : C → Table → (Cell → Bool) → Type 0) (table : Table) (stands : Cell → Bool) where
+    -- a task that runs: it stands in these iterations, something is left of it, and all of that can be done
+    pub record IsRunning (tasks : Slab C) (inner : Scope) (key : ℕ) : Type 0 where
       pub task : C
       pub kept : get tasks key ≡ Some task
+      pub inside : base task ≡ inner
       pub unfinished : is_finished (left task) ≡ false
       pub safe : sound task table stands
 
@@ -79,6 +84,6 @@ module _ {C : Type 0} (left : C → Left) where
       pub can : CanDo table scope o.plan.number (do_tree o.d.now)
       pub some : 0 < o.plan.count
       pub marks : length o.marks ≡ o.plan.count
-      pub running : (j key : ℕ) → j < o.plan.count → at o.marks j ≡ Running key → IsRunning o.tasks key
+      pub running : (j key : ℕ) → j < o.plan.count → at o.marks j ≡ Running key → IsRunning o.tasks (place_scope scope o j) key
       pub real : (j key : ℕ) → j < o.plan.count → at o.marks j ≡ Running key → is_bare (stmt_trees o.d.now.body.items) ≡ false
       pub keys : (i j key : ℕ) → i < o.plan.count → j < o.plan.count → at o.marks i ≡ Running key → at o.marks j ≡ Running key → i ≡ j

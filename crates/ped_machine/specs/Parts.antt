@@ -84,6 +84,16 @@ abbrev pub CanGo : Table → List Part → Scope → Type 0
 CanGo table [] scope = Unit {0}
 CanGo table (p ∷ ps) scope = CanRun table scope p.first p.stmts × CanEndAnd table scope p.turn (CanGo table ps)
 
+-- the iterations round what is left behind a part whose end is this
+abbrev pub behind_turn : Option Turn → Scope → Scope
+behind_turn None scope = scope
+behind_turn (Some t) scope = outside scope
+
+-- the iterations round what is left behind parts, where these stand round the first
+abbrev pub base_of : List Part → Scope → Scope
+base_of [] scope = scope
+base_of (p ∷ ps) scope = base_of ps (behind_turn p.turn scope)
+
 -- the first part without its first statement (plain words)
 abbrev pub statements_behind : StmtTrees → StmtTrees
 statements_behind no_stmts = no_stmts
@@ -162,6 +172,7 @@ is_loop t = false
 pub record IsSettled (old new : List Part) : Type 0 where
   pub left : (scope : Scope) → parts_left new scope ≡ parts_left old scope
   pub can : (table : Table) (scope : Scope) → CanGo table old scope → CanGo table new scope
+  pub base : (scope : Scope) → base_of new scope ≡ base_of old scope
 
 -- there are statements (plain words)
 abbrev pub has_some : StmtTrees → Bool

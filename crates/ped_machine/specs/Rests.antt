@@ -19,11 +19,11 @@ module _ {C : Type 0} (left : C → Left) where
   abbrev pub rest_left : Scope → Rest C → Left
   rest_left scope r = opened_left scope r.inner (parts_left (parts_of r.parts) scope)
 
-  module _ (sound : C → Table → (Cell → Bool) → Type 0) (scope : Scope) where
+  module _ (base : C → Scope) (sound : C → Table → (Cell → Bool) → Type 0) (scope : Scope) where
     -- where a loop is open, its steps can be done
     abbrev pub IfOpened : Option (Open C) → Table → (Cell → Bool) → Type 0
     IfOpened None table stands = Unit {0}
-    IfOpened (Some o) table stands = IsOpen left sound table stands scope o
+    IfOpened (Some o) table stands = IsOpen left base sound table stands scope o
 
     -- all that is left can be done
     pub record IsSound (r : Rest C) (table : Table) (stands : Cell → Bool) : Type 0 where

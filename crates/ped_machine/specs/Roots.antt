@@ -6,7 +6,7 @@ use Rattle.ped_interleavings.specs.ped_eval.specs.Scopes.{Scope}
 use Rattle.ped_interleavings.specs.ped_eval.specs.Readiness.{setting_by, IsReady}
 use Rattle.ped_interleavings.specs.Lefts.{Left, finished}
 use Rattle.ped_machine.specs.Rests.{rest_left, IsSound}
-use Rattle.ped_machine.specs.Levels.{level_left, IsSoundLevel, never_left, IsNever}
+use Rattle.ped_machine.specs.Levels.{level_left, level_base, IsSoundLevel, never_left, never_base, IsNever}
 use Rattle.ped_machine.specs.declared.rests.Rest.{Rest}
 use Rattle.ped_machine.specs.declared.levels.Level.{Level}
 use Rattle.ped_machine.specs.declared.works.Never.{Never}
@@ -47,32 +47,32 @@ outermost_left = level_left left_5
 
 -- all that an iteration has left can be done, with no PARALLEL DO inside of it
 abbrev pub IsSound1 : Level Never → Table → (Cell → Bool) → Type 0
-IsSound1 = IsSoundLevel never_left IsNever
+IsSound1 = IsSoundLevel never_left never_base IsNever
 
 -- the same, with PARALLEL DO loops one deep inside of it
 abbrev pub IsSound2 : Level (Level Never) → Table → (Cell → Bool) → Type 0
-IsSound2 = IsSoundLevel left_1 IsSound1
+IsSound2 = IsSoundLevel left_1 level_base IsSound1
 
 -- the same, with PARALLEL DO loops two deep inside of it
 abbrev pub IsSound3 : Level (Level (Level Never)) → Table → (Cell → Bool) → Type 0
-IsSound3 = IsSoundLevel left_2 IsSound2
+IsSound3 = IsSoundLevel left_2 level_base IsSound2
 
 -- the same, with PARALLEL DO loops three deep inside of it
 abbrev pub IsSound4 : Level (Level (Level (Level Never))) → Table → (Cell → Bool) → Type 0
-IsSound4 = IsSoundLevel left_3 IsSound3
+IsSound4 = IsSoundLevel left_3 level_base IsSound3
 
 -- the same, with PARALLEL DO loops four deep inside of it
 abbrev pub IsSound5 : Level (Level (Level (Level (Level Never)))) → Table → (Cell → Bool) → Type 0
-IsSound5 = IsSoundLevel left_4 IsSound4
+IsSound5 = IsSoundLevel left_4 level_base IsSound4
 
 -- the same of an iteration of an outermost PARALLEL DO
 abbrev pub IsOutermostSound : Outermost → Table → (Cell → Bool) → Type 0
-IsOutermostSound = IsSoundLevel left_5 IsSound5
+IsOutermostSound = IsSoundLevel left_5 level_base IsSound5
 
 -- all that is left of the whole run can be done, with these iterations round it
 pub record IsRootSound (scope : Scope) (r : Rest Outermost) (table : Table) (m : Memory) : Type 0 where
   pub ready : IsReady table scope m
-  pub sound : IsSound outermost_left IsOutermostSound scope r table m.stands
+  pub sound : IsSound outermost_left level_base IsOutermostSound scope r table m.stands
 
 -- what is left of a run, which a STOP or a fault may have ended
 abbrev pub root_left : Bool → Scope → Rest Outermost → Left

@@ -11,7 +11,7 @@ ghost use Rattle.ped_interleavings.specs.Lefts.{Left};
 ghost use Rattle.ped_interleavings.specs.Steps.{begun};
 ghost use Rattle.ped_machine.specs.Doing.{IsActed, IsDone, IfGoing, IfOpen, IfSafe, HasGrown, HasRoom};
 ghost use Rattle.ped_machine.specs.declared.steps.Done.TheVariants as done;
-ghost use Rattle.ped_machine.specs.Parts.{CanGo, is_comment, is_loop, parts_left, parts_of};
+ghost use Rattle.ped_machine.specs.Parts.{base_of, CanGo, is_comment, is_loop, parts_left, parts_of};
 
 use crate::parts::{Part, Parts};
 use crate::steps::Done;
@@ -42,6 +42,7 @@ pub(crate) fn begin<'a>(
         l (memory_of state.old.store).cells d (parts_left (parts_of parts.new) state.old.scope) (memory_of state.new.store).cells) }
     ensures kept { OnErr result (((parts_of parts.new) ≡ (parts_of parts.old)) × HasRoom (memory_of state.old.store) (memory_of state.new.store)) }
     ensures go { IfOpen result (CanGo symbols.now (parts_of parts.new) state.old.scope) }
+    ensures base { IfSafe result (base_of (parts_of parts.new) state.old.scope ≡ base_of (parts_of parts.old) state.old.scope) }
     ensures grown { IfSafe result (HasGrown (memory_of state.old.store) (memory_of state.new.store)) }
     ensures scope { state.new.scope ≡ state.old.scope }
 {

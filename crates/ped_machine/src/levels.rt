@@ -10,9 +10,9 @@ ghost use Rattle.ped_interleavings.specs.ped_eval.specs.Plans.{entered_by, IsPla
 use crate::parts::{Part, Parts};
 use crate::rests::Rest;
 use crate::steps::Done;
-use crate::turns::{frame_of, open_copies};
+use crate::turns::{drop_copies, frame_of, open_copies};
 use crate::works::Work;
-use ped_base::NoMemory;
+use ped_base::{Name, NoMemory};
 use ped_interleavings::ped_eval::{Frame, Plan, Scope, State};
 use ped_symbols::Symbols;
 use ped_tree::Do;
@@ -29,13 +29,15 @@ pub struct Level<'a, C> {
 
 impl<'a, C: Work<'a>> Work<'a> for Level<'a, C> {
     ghost use Rattle.ped_machine.specs.Growth.{level_grows};
-    ghost use Rattle.ped_machine.specs.Levels.{level_left, IsSoundLevel};
+    ghost use Rattle.ped_machine.specs.Levels.{level_left, level_base, IsSoundLevel};
 
     ghost left = { level_left C.left };
 
-    ghost sound = { IsSoundLevel C.left C.sound };
+    ghost base = { level_base };
 
-    ghost grows = { level_grows C.left C.sound C.grows };
+    ghost sound = { IsSoundLevel C.left C.base C.sound };
+
+    ghost grows = { level_grows C.left C.base C.sound C.grows };
 
     fn start(
         alloc: Global,
@@ -66,6 +68,10 @@ impl<'a, C: Work<'a>> Work<'a> for Level<'a, C> {
         let answer = self.rest.step(alloc, symbols, state, choice);
         std::mem::swap(&mut self.scope, &mut state.scope);
         answer
+    }
+
+    fn leave(&self, state: &mut State, names: &[Name]) {
+        drop_copies(&mut state.store, &self.scope, names)
     }
 }
 

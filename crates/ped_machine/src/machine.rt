@@ -33,7 +33,8 @@ use std::alloc::Global;
 type Outermost<'a> = Level<'a, Level<'a, Level<'a, Level<'a, Level<'a, Level<'a, Never>>>>>>;
 
 /// A run of a program whose PARALLEL DO loops go on in any order, as choices pick it. Contracts see the program, what is left
-/// of the run, and its store. Iterations that wait or are finished take no memory, but private copies stay until the run ends.
+/// of the run, and its store. Iterations that wait or are finished take no memory, but private copies that hold something stay
+/// until the run ends.
 #[derive(Drop)]
 pub struct Machine<'a> {
     alloc: Global,

@@ -1,6 +1,7 @@
 //! Open PARALLEL DO loops: what each of their iterations has left.
 
-ghost use Rattle.std.specs.Prelude.{◌≡◌, ◌≢◌, ◌<◌, ℕ, length, Bool, false, [], Some, None, IsSome, IfOk, OnErr};
+ghost use Rattle.std.specs.Prelude.{◌≡◌, ◌≢◌, ◌<◌, ℕ, length, Bool, true, false, [], Some, None, IsSome, IfOk, OnErr};
+ghost use Rattle.std.specs.List.{list_all};
 ghost use Rattle.slab.specs.Slab.{get, SameValues};
 ghost use Rattle.ped_marks.specs.Marks.{at};
 ghost use Rattle.ped_marks.specs.declared.marks.Mark.TheVariants as mark;
@@ -12,14 +13,15 @@ ghost use Rattle.ped_interleavings.specs.ped_eval.specs.Scopes.{Scope};
 ghost use Rattle.ped_interleavings.specs.ped_eval.specs.Readiness.{setting_by, IsReady};
 ghost use Rattle.ped_interleavings.specs.Lefts.{is_finished, unfinished, or_else};
 ghost use Rattle.ped_interleavings.specs.Steps as Steps;
-ghost use Rattle.ped_machine.specs.Doing.{IsDone, IfOpen, IfSafe, HasGrown, HasRoom};
+ghost use Rattle.ped_machine.specs.Doing.{IsDone, IfOpen, IfSafe, HasRoom};
+ghost use Rattle.ped_machine.specs.Bases.{is_own, HasKept};
 ghost use Rattle.ped_machine.specs.Stepping.{HasSettled, HasStepped, IsLookedAt};
-ghost use Rattle.ped_machine.specs.Opens.{HasMarked, IsOpen, IsRunning, IsSameLoop, IsSameElsewhere, lefts_of, place_left};
+ghost use Rattle.ped_machine.specs.Opens.{HasMarked, IsOpen, IsRunning, IsSameLoop, IsSameElsewhere, lefts_of, place_left, place_scope};
 
 use crate::parts::without_comments;
 use crate::steps::Done;
 use crate::works::Work;
-use ped_base::NoMemory;
+use ped_base::{Name, NoMemory};
 use ped_interleavings::ped_eval::{Plan, State};
 use ped_marks::{Mark, Marks};
 use ped_symbols::Symbols;
@@ -43,7 +45,7 @@ pub struct Open<'a, C> {
 impl<'a, C: Work<'a>> Open<'a, C> {
     /// The place of the first iteration at this place or behind it that isn't finished, going round.
     pub fn pick(&self, place: u64) -> Option<u64>
-        ensures { (scope : Scope) (table : Table) (stands : Cell → Bool) → IsOpen C.left C.sound table stands scope self.now
+        ensures { (scope : Scope) (table : Table) (stands : Cell → Bool) → IsOpen C.left C.base C.sound table stands scope self.now
             → result ≡ or_else (unfinished place (lefts_of self.now.plan.count (place_left C.left scope self.now))) (unfinished 0 (lefts_of self.now.plan.count (place_left C.left scope self.now))) }
     {
         if without_comments(&self.d.body).is_empty() {
@@ -65,7 +67,7 @@ impl<'a, C: Work<'a>> Open<'a, C> {
         choice: u64,
     ) -> Result<Done, NoMemory>
         requires ready { IsReady symbols.now state.old.scope (memory_of state.old.store) }
-        requires inner { IsOpen C.left C.sound symbols.now (memory_of state.old.store).stands state.old.scope self.old }
+        requires inner { IsOpen C.left C.base C.sound symbols.now (memory_of state.old.store).stands state.old.scope self.old }
         requires place { place < self.old.plan.count }
         requires unfinished { is_finished (place_left C.left state.old.scope self.old place) ≡ false }
         ensures does { IfOk result (λ d. IsDone (Steps.step (setting_by symbols.now) (place_left C.left state.old.scope self.old place) choice (memory_of state.old.store).cells)
@@ -73,8 +75,8 @@ impl<'a, C: Work<'a>> Open<'a, C> {
         ensures kept { OnErr result ((place_left C.left state.old.scope self.new place ≡ place_left C.left state.old.scope self.old place) × HasRoom (memory_of state.old.store) (memory_of state.new.store)) }
         ensures same { IfOpen result (IsSameLoop self.old self.new) }
         ensures elsewhere { IfOpen result (IsSameElsewhere C.left state.old.scope place self.old self.new) }
-        ensures inner { IfOpen result (IsOpen C.left C.sound symbols.now (memory_of state.new.store).stands state.old.scope self.new) }
-        ensures grown { IfSafe result (HasGrown (memory_of state.old.store) (memory_of state.new.store)) }
+        ensures inner { IfOpen result (IsOpen C.left C.base C.sound symbols.now (memory_of state.new.store).stands state.old.scope self.new) }
+        ensures grown { IfSafe result (HasKept (place_scope state.old.scope self.old place) (memory_of state.old.store) (memory_of state.new.store)) }
         ensures scope { state.new.scope ≡ state.old.scope }
     {
         match self.marks.at(place) {
@@ -91,14 +93,14 @@ impl<'a, C: Work<'a>> Open<'a, C> {
 
     /// Starts the iteration at this place, and answers its key.
     fn start(&mut self, alloc: Global, state: &mut State, place: u64) -> Result<usize, NoMemory>
-        requires inner { (table : Table) × (IsReady table state.old.scope (memory_of state.old.store) × IsOpen C.left C.sound table (memory_of state.old.store).stands state.old.scope self.old) }
+        requires inner { (table : Table) × (IsReady table state.old.scope (memory_of state.old.store) × IsOpen C.left C.base C.sound table (memory_of state.old.store).stands state.old.scope self.old) }
         requires place { place < self.old.plan.count }
         requires waits { at self.old.marks place ≡ Waits }
         requires unfinished { is_finished (place_left C.left state.old.scope self.old place) ≡ false }
         ensures running { IfOk result (λ key. at self.new.marks place ≡ Running key) }
         ensures same { IsSameLoop self.old self.new }
         ensures left { (j : ℕ) → j < self.old.plan.count → place_left C.left state.old.scope self.new j ≡ place_left C.left state.old.scope self.old j }
-        ensures inner { (table : Table) → IsReady table state.old.scope (memory_of state.old.store) → IsOpen C.left C.sound table (memory_of state.old.store).stands state.old.scope self.old → IsOpen C.left C.sound table (memory_of state.new.store).stands state.old.scope self.new }
+        ensures inner { (table : Table) → IsReady table state.old.scope (memory_of state.old.store) → IsOpen C.left C.base C.sound table (memory_of state.old.store).stands state.old.scope self.old → IsOpen C.left C.base C.sound table (memory_of state.new.store).stands state.old.scope self.new }
         ensures room { HasRoom (memory_of state.old.store) (memory_of state.new.store) }
         ensures scope { state.new.scope ≡ state.old.scope }
     {
@@ -137,7 +139,7 @@ impl<'a, C: Work<'a>> Open<'a, C> {
         choice: u64,
     ) -> Result<Done, NoMemory>
         requires ready { IsReady symbols.now state.old.scope (memory_of state.old.store) }
-        requires inner { IsOpen C.left C.sound symbols.now (memory_of state.old.store).stands state.old.scope self.old }
+        requires inner { IsOpen C.left C.base C.sound symbols.now (memory_of state.old.store).stands state.old.scope self.old }
         requires place { place < self.old.plan.count }
         requires running { at self.old.marks place ≡ Running key }
         ensures does { IfOk result (λ d. IsDone (Steps.step (setting_by symbols.now) (place_left C.left state.old.scope self.old place) choice (memory_of state.old.store).cells)
@@ -145,13 +147,13 @@ impl<'a, C: Work<'a>> Open<'a, C> {
         ensures kept { OnErr result ((place_left C.left state.old.scope self.new place ≡ place_left C.left state.old.scope self.old place) × HasRoom (memory_of state.old.store) (memory_of state.new.store)) }
         ensures same { IfOpen result (IsSameLoop self.old self.new) }
         ensures elsewhere { IfOpen result (IsSameElsewhere C.left state.old.scope place self.old self.new) }
-        ensures inner { IfOpen result (IsOpen C.left C.sound symbols.now (memory_of state.new.store).stands state.old.scope self.new) }
-        ensures grown { IfSafe result (HasGrown (memory_of state.old.store) (memory_of state.new.store)) }
+        ensures inner { IfOpen result (IsOpen C.left C.base C.sound symbols.now (memory_of state.new.store).stands state.old.scope self.new) }
+        ensures grown { IfSafe result (HasKept (place_scope state.old.scope self.old place) (memory_of state.old.store) (memory_of state.new.store)) }
         ensures scope { state.new.scope ≡ state.old.scope }
     {
         match self.step_task(alloc, symbols, state, key, choice) {
             Ok(done) => {
-                self.finish_over(place, key);
+                self.finish_over(state, place, key);
                 return Ok(done);
             }
             Err(error) => return Err(error),
@@ -168,10 +170,10 @@ impl<'a, C: Work<'a>> Open<'a, C> {
         choice: u64,
     ) -> Result<Done, NoMemory>
         requires ready { IsReady symbols.now [] (memory_of state.old.store) }
-        requires running { IsRunning C.left C.sound symbols.now (memory_of state.old.store).stands self.old.tasks key }
+        requires running { (inner : Scope) × IsRunning C.left C.base C.sound symbols.now (memory_of state.old.store).stands self.old.tasks inner key }
         ensures same { IsSameLoop self.old self.new × (self.new.marks ≡ self.old.marks) }
-        ensures stepped { HasStepped C.left C.sound symbols.now key choice self.old.tasks self.new.tasks (memory_of state.old.store) (memory_of state.new.store) result }
-        ensures grown { IfSafe result (HasGrown (memory_of state.old.store) (memory_of state.new.store)) }
+        ensures stepped { HasStepped C.left C.base C.sound symbols.now key choice self.old.tasks self.new.tasks (memory_of state.old.store) (memory_of state.new.store) result }
+        ensures grown { (task : C) → get self.old.tasks key ≡ Some task → IfSafe result (HasKept (C.base task) (memory_of state.old.store) (memory_of state.new.store)) }
         ensures scope { state.new.scope ≡ state.old.scope }
     {
         match self.tasks.get_mut(key) {
@@ -180,38 +182,56 @@ impl<'a, C: Work<'a>> Open<'a, C> {
         }
     }
 
-    /// Drops the iteration with this key, at this place, where nothing is left of it, and marks it as finished.
-    fn finish_over(&mut self, place: u64, key: usize)
+    /// Drops the iteration with this key, at this place, where nothing is left of it, and marks it as finished. Its copies
+    /// that hold nothing are dropped with it.
+    fn finish_over(&mut self, state: &mut State, place: u64, key: usize)
         requires place { place < length self.old.marks }
         requires running { at self.old.marks place ≡ Running key }
         requires kept { IsSome (get self.old.tasks key) }
-        ensures { HasSettled C.left C.sound place key self.old self.new }
+        ensures settled { HasSettled C.left C.base C.sound place key self.old self.new (memory_of state.old.store) (memory_of state.new.store) }
+        ensures scope { state.new.scope ≡ state.old.scope }
     {
         if self.is_task_over(key) {
-            self.drop_task(place, key);
+            self.drop_task(state, place, key);
             return;
         }
     }
 
-    /// Drops the iteration with this key, at this place, and marks it as finished.
-    fn drop_task(&mut self, place: u64, key: usize)
+    /// Drops the iteration with this key, at this place, with its copies that hold nothing, and marks it as finished.
+    fn drop_task(&mut self, state: &mut State, place: u64, key: usize)
         requires place { place < length self.old.marks }
         requires running { at self.old.marks place ≡ Running key }
-        ensures { HasMarked None mark.Done place key self.old self.new }
+        ensures marked { HasMarked None mark.Done place key self.old self.new }
+        ensures cells { (memory_of state.new.store).cells ≡ (memory_of state.old.store).cells }
+        ensures kept { (task : C) → get self.old.tasks key ≡ Some task → list_all (is_own (C.base task)) self.old.plan.copied ≡ true → HasKept (C.base task) (memory_of state.old.store) (memory_of state.new.store) }
+        ensures scope { state.new.scope ≡ state.old.scope }
     {
-        self.tasks.try_remove(key);
+        let task = self.tasks.try_remove(key);
         self.marks.finish(place);
+        leave_task(state, task, self.plan.copied.as_slice())
     }
 
     /// Whether nothing is left of the iteration with this key.
     fn is_task_over(&mut self, key: usize) -> bool
         requires kept { IsSome (get self.old.tasks key) }
         ensures same { IsSameLoop self.old self.new × (self.new.marks ≡ self.old.marks) }
-        ensures over { IsLookedAt C.left C.sound key self.old.tasks self.new.tasks result }
+        ensures over { IsLookedAt C.left C.base C.sound key self.old.tasks self.new.tasks result }
     {
         match self.tasks.get_mut(key) {
             None => return false,
             Some(task) => return task.is_over(),
         }
+    }
+}
+
+/// Drops the copies of these names of an iteration that is over, as far as they hold nothing.
+fn leave_task<'a, C: Work<'a>>(state: &mut State, task: Option<C>, names: &[Name])
+    ensures cells { (memory_of state.new.store).cells ≡ (memory_of state.old.store).cells }
+    ensures kept { (w : C) → task ≡ Some w → list_all (is_own (C.base w)) names.now ≡ true → HasKept (C.base w) (memory_of state.old.store) (memory_of state.new.store) }
+    ensures scope { state.new.scope ≡ state.old.scope }
+{
+    match task {
+        None => {}
+        Some(task) => task.leave(state, names),
     }
 }

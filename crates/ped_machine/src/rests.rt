@@ -13,8 +13,9 @@ ghost use Rattle.ped_interleavings.specs.ped_eval.specs.Plans.{entered_by, IsPla
 ghost use Rattle.ped_interleavings.specs.ped_eval.specs.Readiness.{setting_by, CanDo, IsReady};
 ghost use Rattle.ped_interleavings.specs.Lefts.{Left, is_finished, wants_choice, entered_left};
 ghost use Rattle.ped_interleavings.specs.Steps as Steps;
+ghost use Rattle.ped_machine.specs.Bases.{HasKept};
 ghost use Rattle.ped_machine.specs.Doing.{IsDone, IfOpen, IfSafe, HasGrown, HasRoom};
-ghost use Rattle.ped_machine.specs.Parts.{CanGo, Begins, is_comment, is_loop, parts_left, parts_of};
+ghost use Rattle.ped_machine.specs.Parts.{base_of, CanGo, Begins, is_comment, is_loop, parts_left, parts_of};
 ghost use Rattle.ped_machine.specs.Opens.{IsOpen, open_left};
 ghost use Rattle.ped_machine.specs.Rests.{rest_left, IsSound};
 ghost use Rattle.ped_machine.specs.declared.steps.Done.TheVariants as done;
@@ -47,7 +48,8 @@ impl<'a, C: Work<'a>> Rest<'a, C> {
     pub fn is_over(&mut self) -> bool
         ensures over { (scope : Scope) → result ≡ is_finished (rest_left C.left scope self.old) }
         ensures left { (scope : Scope) → rest_left C.left scope self.new ≡ rest_left C.left scope self.old }
-        ensures sound { (scope : Scope) (table : Table) (stands : Cell → Bool) → IsSound C.left C.sound scope self.old table stands → IsSound C.left C.sound scope self.new table stands }
+        ensures base { (scope : Scope) → base_of (parts_of self.new.parts) scope ≡ base_of (parts_of self.old.parts) scope }
+        ensures sound { (scope : Scope) (table : Table) (stands : Cell → Bool) → IsSound C.left C.base C.sound scope self.old table stands → IsSound C.left C.base C.sound scope self.new table stands }
     {
         match &self.inner {
             None => return self.parts.is_over(),
@@ -57,7 +59,7 @@ impl<'a, C: Work<'a>> Rest<'a, C> {
 
     /// Whether the next step is one of an iteration of the loop that is open.
     pub fn wants_choice(&self) -> bool
-        ensures { (scope : Scope) (table : Table) (stands : Cell → Bool) → IsSound C.left C.sound scope self.now table stands → result ≡ wants_choice (rest_left C.left scope self.now) }
+        ensures { (scope : Scope) (table : Table) (stands : Cell → Bool) → IsSound C.left C.base C.sound scope self.now table stands → result ≡ wants_choice (rest_left C.left scope self.now) }
     {
         match &self.inner {
             None => return false,
@@ -78,13 +80,14 @@ impl<'a, C: Work<'a>> Rest<'a, C> {
         choice: u64,
     ) -> Result<Done, NoMemory>
         requires ready { IsReady symbols.now state.old.scope (memory_of state.old.store) }
-        requires sound { IsSound C.left C.sound state.old.scope self.old symbols.now (memory_of state.old.store).stands }
+        requires sound { IsSound C.left C.base C.sound state.old.scope self.old symbols.now (memory_of state.old.store).stands }
         ensures does { IfOk result (λ r. IsDone (Steps.step (setting_by symbols.now) (rest_left C.left state.old.scope self.old) choice (memory_of state.old.store).cells)
             (rest_left C.left state.old.scope self.old) (memory_of state.old.store).cells r (rest_left C.left state.new.scope self.new) (memory_of state.new.store).cells) }
         ensures kept { OnErr result ((state.new.scope ≡ state.old.scope) × (rest_left C.left state.old.scope self.new ≡ rest_left C.left state.old.scope self.old) × HasRoom (memory_of state.old.store) (memory_of state.new.store)) }
-        ensures sound { IfOpen result (IsSound C.left C.sound state.new.scope self.new symbols.now (memory_of state.new.store).stands) }
+        ensures sound { IfOpen result (IsSound C.left C.base C.sound state.new.scope self.new symbols.now (memory_of state.new.store).stands) }
         ensures copies { IfOpen result (DoCopiesStand state.new.scope (memory_of state.new.store).stands) }
-        ensures grown { IfSafe result (HasGrown (memory_of state.old.store) (memory_of state.new.store)) }
+        ensures base { IfSafe result (base_of (parts_of self.new.parts) state.new.scope ≡ base_of (parts_of self.old.parts) state.old.scope) }
+        ensures grown { IfSafe result (HasKept state.old.scope (memory_of state.old.store) (memory_of state.new.store)) }
     {
         if self.inner.is_some() {
             return self.step_open(alloc, symbols, state, choice);
@@ -108,13 +111,14 @@ impl<'a, C: Work<'a>> Rest<'a, C> {
     ) -> Result<Done, NoMemory>
         requires some { IsSome self.old.inner }
         requires ready { IsReady symbols.now state.old.scope (memory_of state.old.store) }
-        requires sound { IsSound C.left C.sound state.old.scope self.old symbols.now (memory_of state.old.store).stands }
+        requires sound { IsSound C.left C.base C.sound state.old.scope self.old symbols.now (memory_of state.old.store).stands }
         ensures does { IfOk result (λ r. IsDone (Steps.step (setting_by symbols.now) (rest_left C.left state.old.scope self.old) choice (memory_of state.old.store).cells)
             (rest_left C.left state.old.scope self.old) (memory_of state.old.store).cells r (rest_left C.left state.new.scope self.new) (memory_of state.new.store).cells) }
         ensures kept { OnErr result ((state.new.scope ≡ state.old.scope) × (rest_left C.left state.old.scope self.new ≡ rest_left C.left state.old.scope self.old) × HasRoom (memory_of state.old.store) (memory_of state.new.store)) }
-        ensures sound { IfOpen result (IsSound C.left C.sound state.new.scope self.new symbols.now (memory_of state.new.store).stands) }
+        ensures sound { IfOpen result (IsSound C.left C.base C.sound state.new.scope self.new symbols.now (memory_of state.new.store).stands) }
         ensures copies { IfOpen result (DoCopiesStand state.new.scope (memory_of state.new.store).stands) }
-        ensures grown { IfSafe result (HasGrown (memory_of state.old.store) (memory_of state.new.store)) }
+        ensures base { IfSafe result (base_of (parts_of self.new.parts) state.new.scope ≡ base_of (parts_of self.old.parts) state.old.scope) }
+        ensures grown { IfSafe result (HasKept state.old.scope (memory_of state.old.store) (memory_of state.new.store)) }
     {
         match &mut self.inner {
             None => return Ok(Done::Ended),
@@ -142,12 +146,13 @@ impl<'a, C: Work<'a>> Rest<'a, C> {
         requires none { self.old.inner ≡ None }
         requires begins { Begins (stmt_tree stmt.now) number (parts_of self.old.parts) }
         requires ready { IsReady symbols.now state.old.scope (memory_of state.old.store) }
-        requires sound { IsSound C.left C.sound state.old.scope self.old symbols.now (memory_of state.old.store).stands }
+        requires sound { IsSound C.left C.base C.sound state.old.scope self.old symbols.now (memory_of state.old.store).stands }
         ensures does { IfOk result (λ r. (c : ℕ) → IsDone (Steps.step (setting_by symbols.now) (rest_left C.left state.old.scope self.old) c (memory_of state.old.store).cells)
             (rest_left C.left state.old.scope self.old) (memory_of state.old.store).cells r (rest_left C.left state.new.scope self.new) (memory_of state.new.store).cells) }
         ensures kept { OnErr result ((state.new.scope ≡ state.old.scope) × (rest_left C.left state.old.scope self.new ≡ rest_left C.left state.old.scope self.old) × HasRoom (memory_of state.old.store) (memory_of state.new.store)) }
-        ensures sound { IfOpen result (IsSound C.left C.sound state.new.scope self.new symbols.now (memory_of state.new.store).stands) }
+        ensures sound { IfOpen result (IsSound C.left C.base C.sound state.new.scope self.new symbols.now (memory_of state.new.store).stands) }
         ensures copies { IfOpen result (DoCopiesStand state.new.scope (memory_of state.new.store).stands) }
+        ensures base { IfSafe result (base_of (parts_of self.new.parts) state.new.scope ≡ base_of (parts_of self.old.parts) state.old.scope) }
         ensures grown { IfSafe result (HasGrown (memory_of state.old.store) (memory_of state.new.store)) }
     {
         let before = self.parts.advance();
@@ -173,12 +178,13 @@ impl<'a, C: Work<'a>> Rest<'a, C> {
         requires can { CanDo symbols.now state.old.scope number (stmt_tree stmt.now) }
         requires real { is_comment (stmt_tree stmt.now) ≡ false }
         requires ready { IsReady symbols.now state.old.scope (memory_of state.old.store) }
-        requires sound { IsSound C.left C.sound state.old.scope self.old symbols.now (memory_of state.old.store).stands }
+        requires sound { IsSound C.left C.base C.sound state.old.scope self.old symbols.now (memory_of state.old.store).stands }
         ensures does { IfOk result (λ r. (l : Left) → IsDone (Steps.begun (setting_by symbols.now) (stmt_tree stmt.now) number state.old.scope (parts_left (parts_of self.old.parts) state.old.scope) (memory_of state.old.store).cells)
             l (memory_of state.old.store).cells r (rest_left C.left state.new.scope self.new) (memory_of state.new.store).cells) }
         ensures kept { OnErr result ((state.new.scope ≡ state.old.scope) × (parts_of self.new.parts ≡ parts_of self.old.parts) × (self.new.inner ≡ self.old.inner) × HasRoom (memory_of state.old.store) (memory_of state.new.store)) }
-        ensures sound { IfOpen result (IsSound C.left C.sound state.new.scope self.new symbols.now (memory_of state.new.store).stands) }
+        ensures sound { IfOpen result (IsSound C.left C.base C.sound state.new.scope self.new symbols.now (memory_of state.new.store).stands) }
         ensures copies { IfOpen result (DoCopiesStand state.new.scope (memory_of state.new.store).stands) }
+        ensures base { IfSafe result (base_of (parts_of self.new.parts) state.new.scope ≡ base_of (parts_of self.old.parts) state.old.scope) }
         ensures grown { IfSafe result (HasGrown (memory_of state.old.store) (memory_of state.new.store)) }
     {
         match loop_of(stmt) {
@@ -199,12 +205,13 @@ impl<'a, C: Work<'a>> Rest<'a, C> {
         requires none { self.old.inner ≡ None }
         requires can { CanDo symbols.now state.old.scope number (do_tree d.now) }
         requires ready { IsReady symbols.now state.old.scope (memory_of state.old.store) }
-        requires sound { IsSound C.left C.sound state.old.scope self.old symbols.now (memory_of state.old.store).stands }
+        requires sound { IsSound C.left C.base C.sound state.old.scope self.old symbols.now (memory_of state.old.store).stands }
         ensures does { IfOk result (λ r. (l : Left) → IsDone (Steps.begun (setting_by symbols.now) (do_tree d.now) number state.old.scope (parts_left (parts_of self.old.parts) state.old.scope) (memory_of state.old.store).cells)
             l (memory_of state.old.store).cells r (rest_left C.left state.new.scope self.new) (memory_of state.new.store).cells) }
         ensures kept { OnErr result ((state.new.scope ≡ state.old.scope) × (parts_of self.new.parts ≡ parts_of self.old.parts) × (self.new.inner ≡ self.old.inner) × HasRoom (memory_of state.old.store) (memory_of state.new.store)) }
-        ensures sound { IfOpen result (IsSound C.left C.sound state.new.scope self.new symbols.now (memory_of state.new.store).stands) }
+        ensures sound { IfOpen result (IsSound C.left C.base C.sound state.new.scope self.new symbols.now (memory_of state.new.store).stands) }
         ensures copies { IfOpen result (DoCopiesStand state.new.scope (memory_of state.new.store).stands) }
+        ensures base { IfSafe result (base_of (parts_of self.new.parts) state.new.scope ≡ base_of (parts_of self.old.parts) state.old.scope) }
         ensures grown { IfSafe result (HasGrown (memory_of state.old.store) (memory_of state.new.store)) }
     {
         match plan_of(alloc, symbols, state, &mut NoWatch, d, number) {
@@ -235,8 +242,9 @@ impl<'a, C: Work<'a>> Rest<'a, C> {
         ensures left { OnOk result (rest_left C.left state.new.scope self.new ≡ entered_left d.now.parallel plan.count (entered_by (head_of d.now) plan plan.behind) (stmt_trees d.now.body.items) plan.number state.old.scope (parts_left (parts_of self.old.parts) state.old.scope)) }
         ensures store { OnOk result ((memory_of state.new.store).cells ≡ store_behind (exit_when_none plan.count (entered_by (head_of d.now) plan plan.behind) state.old.scope) (memory_of state.old.store).cells) }
         ensures kept { OnErr result ((state.new.scope ≡ state.old.scope) × (parts_of self.new.parts ≡ parts_of self.old.parts) × (self.new.inner ≡ self.old.inner) × HasRoom (memory_of state.old.store) (memory_of state.new.store)) }
-        ensures sound { OnOk result ((table : Table) → CanDo table state.old.scope plan.number (do_tree d.now) → CanGo table (parts_of self.old.parts) state.old.scope → IsSound C.left C.sound state.new.scope self.new table (memory_of state.new.store).stands) }
+        ensures sound { OnOk result ((table : Table) → CanDo table state.old.scope plan.number (do_tree d.now) → CanGo table (parts_of self.old.parts) state.old.scope → IsSound C.left C.base C.sound state.new.scope self.new table (memory_of state.new.store).stands) }
         ensures copies { OnOk result (DoCopiesStand state.old.scope (memory_of state.old.store).stands → DoCopiesStand state.new.scope (memory_of state.new.store).stands) }
+        ensures base { OnOk result (base_of (parts_of self.new.parts) state.new.scope ≡ base_of (parts_of self.old.parts) state.old.scope) }
         ensures grown { OnOk result (HasGrown (memory_of state.old.store) (memory_of state.new.store)) }
     {
         if plan.count == 0 {
@@ -256,7 +264,7 @@ fn opened<'a, C: Work<'a>>(alloc: Global, d: &'a Do, plan: Plan) -> Open<'a, C>
     requires plan { IsPlan (head_of d.now) (stmt_trees d.now.body.items) plan }
     requires some { 0 < plan.count }
     ensures left { (scope : Scope) (rest : Left) → open_left C.left scope result rest ≡ entered_left true plan.count (entered_by (head_of d.now) plan plan.behind) (stmt_trees d.now.body.items) plan.number scope rest }
-    ensures inner { (scope : Scope) (table : Table) (stands : Cell → Bool) → CanDo table scope plan.number (do_tree d.now) → IsOpen C.left C.sound table stands scope result }
+    ensures inner { (scope : Scope) (table : Table) (stands : Cell → Bool) → CanDo table scope plan.number (do_tree d.now) → IsOpen C.left C.base C.sound table stands scope result }
 {
     let marks = Marks::new(alloc, plan.count);
     let tasks = Slab::new(alloc);

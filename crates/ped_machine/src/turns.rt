@@ -4,6 +4,7 @@ ghost use Rattle.std.specs.Prelude.{◌≡◌, ◌<◌, ◌≤◌, ◌+◌, ◌^
 ghost use Rattle.std.specs.List.{list_all};
 ghost use Rattle.ped_tree.specs.Views.{head_of, stmt_trees, do_tree};
 ghost use Rattle.ped_symbols.specs.Kinds.{Table};
+ghost use Rattle.ped_store.specs.CellViews.{cell_view, IsCell, IsPrivate};
 ghost use Rattle.ped_store.specs.Keeping.{memory_of};
 ghost use Rattle.ped_interleavings.specs.ped_eval.specs.Scopes as Scopes;
 ghost use Rattle.ped_interleavings.specs.ped_eval.specs.Scopes.{Setting, cell_of};
@@ -14,15 +15,16 @@ ghost use Rattle.ped_interleavings.specs.ped_eval.specs.Plans.{entered_by, IsPla
 ghost use Rattle.ped_interleavings.specs.ped_eval.specs.Readiness.{CanDo, IsReady};
 ghost use Rattle.ped_interleavings.specs.Lefts.{turns_left};
 ghost use Rattle.ped_interleavings.specs.Steps as Steps;
+ghost use Rattle.ped_machine.specs.Bases.{is_own, HasKept, HasLost, IsWithin};
 ghost use Rattle.ped_machine.specs.Doing.{IsDone, IfOpen, IfSafe, HasGrown, HasRoom};
-ghost use Rattle.ped_machine.specs.Parts.{CanGo, Ends, first_turn_part, parts_left, parts_of};
+ghost use Rattle.ped_machine.specs.Parts.{base_of, CanGo, Ends, first_turn_part, parts_left, parts_of};
 ghost use Rattle.ped_machine.specs.declared.steps.Done.TheVariants as done;
 
 use crate::parts::{Part, Parts, Turn};
 use crate::steps::Done;
 use ped_base::{Name, NoMemory};
 use ped_interleavings::ped_eval::{Frame, Plan, Scope, State, leave_loop};
-use ped_store::Store;
+use ped_store::{Cell, Store};
 use ped_tree::{Do, copy_names};
 use std::alloc::Global;
 
@@ -76,6 +78,52 @@ fn open_copy(alloc: Global, store: &mut Store, scope: &Scope, name: &Name) -> Re
     }
 }
 
+/// Drops those copies of these names that are private to these iterations and hold nothing.
+pub(crate) fn drop_copies(store: &mut Store, scope: &Scope, names: &[Name])
+    ensures cells { (memory_of store.new).cells ≡ (memory_of store.old).cells }
+    ensures kept { (base : Scopes.Scope) → IsWithin base scope.now → list_all (is_own base) names.now ≡ true → HasKept base (memory_of store.old) (memory_of store.new) }
+{
+    for name in names {
+        let cell = scope.cell(name);
+        drop_copy(store, &cell);
+    }
+}
+
+/// Drops a private copy that holds nothing.
+fn drop_copy(store: &mut Store, cell: &Cell)
+    requires { IsCell cell.now }
+    ensures { HasLost (cell_view cell.now) (memory_of store.old) (memory_of store.new) }
+{
+    if is_copy(cell) {
+        match store.get(cell) {
+            Ok(_) => return,
+            Err(_) => {
+                store.close_copy(cell);
+                return;
+            }
+        }
+    }
+}
+
+/// Whether the cell is a private copy.
+fn is_copy(cell: &Cell) -> bool
+    requires { IsCell cell.now }
+    ensures copy { result ≡ is_copy (cell_view cell.now) }
+    ensures private { result ≡ true → IsPrivate cell.now }
+{
+    match cell {
+        Cell::Private(_) => return true,
+        Cell::Scalar(_) => return false,
+        Cell::Element {
+            name: _,
+            rank: _,
+            subscripts: _,
+        } => return false,
+        Cell::In => return false,
+        Cell::Out => return false,
+    }
+}
+
 /// Goes into a DO: its first iteration is left before what is left behind the DO.
 pub(crate) fn enter_do<'a>(
     alloc: Global,
@@ -92,6 +140,7 @@ pub(crate) fn enter_do<'a>(
     ensures left { OnOk result (parts_left (parts_of parts.new) state.new.scope ≡ turns_left plan.count 1 (entered_by (head_of d.now) plan plan.behind) (stmt_trees d.now.body.items) plan.number state.old.scope (parts_left (parts_of parts.old) state.old.scope)) }
     ensures go { OnOk result ((table : Table) → CanDo table state.old.scope plan.number (do_tree d.now) → CanGo table (parts_of parts.old) state.old.scope → CanGo table (parts_of parts.new) state.new.scope) }
     ensures copies { OnOk result (DoCopiesStand state.old.scope (memory_of state.old.store).stands → DoCopiesStand state.new.scope (memory_of state.new.store).stands) }
+    ensures base { OnOk result (base_of (parts_of parts.new) state.new.scope ≡ base_of (parts_of parts.old) state.old.scope) }
     ensures room { HasRoom (memory_of state.old.store) (memory_of state.new.store) }
     ensures kept { OnErr result ((state.new.scope ≡ state.old.scope) × ((parts_of parts.new) ≡ (parts_of parts.old))) }
 {
@@ -153,6 +202,7 @@ pub(crate) fn end_turn(
     ensures kept { OnErr result ((state.new.scope ≡ state.old.scope) × ((parts_of parts.new) ≡ (parts_of parts.old)) × HasRoom (memory_of state.old.store) (memory_of state.new.store)) }
     ensures go { IfOpen result ((table : Table) → CanGo table (parts_of parts.old) state.old.scope → CanGo table (parts_of parts.new) state.new.scope) }
     ensures copies { IfOpen result (DoCopiesStand state.old.scope (memory_of state.old.store).stands → DoCopiesStand state.new.scope (memory_of state.new.store).stands) }
+    ensures base { IfSafe result (base_of (parts_of parts.new) state.new.scope ≡ base_of (parts_of parts.old) state.old.scope) }
     ensures grown { IfSafe result (HasGrown (memory_of state.old.store) (memory_of state.new.store)) }
 {
     match parts.turn() {

@@ -1,19 +1,23 @@
 //! What an iteration of a PARALLEL DO is to the loop.
 
-ghost use Rattle.std.specs.Prelude.{◌≡◌, ◌<◌, ◌+◌, ◌^◌, [], length, Bool, true, IfOk, OnErr};
+ghost use Rattle.std.specs.Prelude.{◌≡◌, ◌<◌, ◌+◌, ◌^◌, [], ◌∷◌, length, Bool, true, IfOk, OnErr};
+ghost use Rattle.std.specs.List.{list_all};
 ghost use Rattle.ped_tree.specs.Views.{head_of, stmt_trees, do_tree};
 ghost use Rattle.ped_symbols.specs.Kinds.{Table};
 ghost use Rattle.ped_store.specs.Cells.{Cell};
 ghost use Rattle.ped_store.specs.Keeping.{memory_of};
 ghost use Rattle.ped_interleavings.specs.ped_eval.specs.Agreement.{DoCopiesStand};
+ghost use Rattle.ped_interleavings.specs.ped_eval.specs.Scopes.{Scope};
+ghost use Rattle.ped_interleavings.specs.ped_eval.specs.Loops.{frame};
 ghost use Rattle.ped_interleavings.specs.ped_eval.specs.Plans.{entered_by, IsPlan};
 ghost use Rattle.ped_interleavings.specs.ped_eval.specs.Readiness.{setting_by, CanDo, IsReady};
 ghost use Rattle.ped_interleavings.specs.Lefts.{Left, finished, is_finished, body_left};
 ghost use Rattle.ped_interleavings.specs.Steps as Steps;
-ghost use Rattle.ped_machine.specs.Doing.{IsDone, IfOpen, IfSafe, HasGrown, HasRoom};
+ghost use Rattle.ped_machine.specs.Bases.{is_own, IsNear, HasKept};
+ghost use Rattle.ped_machine.specs.Doing.{IsDone, IfOpen, IfSafe, HasRoom};
 
 use crate::steps::Done;
-use ped_base::NoMemory;
+use ped_base::{Name, NoMemory};
 use ped_interleavings::ped_eval::{Plan, State};
 use ped_symbols::Symbols;
 use ped_tree::Do;
@@ -26,6 +30,9 @@ pub trait Work<'a>: Drop {
 
     /// All that it has left can be done, where these cells stand.
     ghost sound: { Self → Table → (Cell → Bool) → Type 0 };
+
+    /// The iterations that it stands in from its beginning to its end: itself and those round the loop.
+    ghost base: { Self → Scope };
 
     /// Starts the iteration before which there are so many.
     ///
@@ -45,6 +52,7 @@ pub trait Work<'a>: Drop {
         requires number { plan.now.number + 1 < 2 ^ 32 }
         ensures left { IfOk result (λ w. left w ≡ body_left (entered_by (head_of d.now) plan.now plan.now.behind) (stmt_trees d.now.body.items) plan.now.number state.old.scope (earlier + 1) finished) }
         ensures sound { IfOk result (λ w. (table : Table) → CanDo table state.old.scope plan.now.number (do_tree d.now) → DoCopiesStand state.old.scope (memory_of state.old.store).stands → sound w table (memory_of state.new.store).stands) }
+        ensures inside { IfOk result (λ w. base w ≡ frame (entered_by (head_of d.now) plan.now plan.now.behind) (earlier + 1) ∷ state.old.scope) }
         ensures room { HasRoom (memory_of state.old.store) (memory_of state.new.store) }
         ensures scope { state.new.scope ≡ state.old.scope };
 
@@ -52,6 +60,7 @@ pub trait Work<'a>: Drop {
     fn is_over(&mut self) -> bool
         ensures over { result ≡ is_finished (left self.old) }
         ensures left { left self.new ≡ left self.old }
+        ensures inside { base self.new ≡ base self.old }
         ensures sound { (table : Table) (stands : Cell → Bool) → sound self.old table stands → sound self.new table stands };
 
     /// Does the next step, with a choice.
@@ -71,11 +80,18 @@ pub trait Work<'a>: Drop {
         ensures does { IfOk result (λ d. IsDone (Steps.step (setting_by symbols.now) (left self.old) choice (memory_of state.old.store).cells) (left self.old) (memory_of state.old.store).cells d (left self.new) (memory_of state.new.store).cells) }
         ensures kept { OnErr result ((left self.new ≡ left self.old) × HasRoom (memory_of state.old.store) (memory_of state.new.store)) }
         ensures sound { IfOpen result (sound self.new symbols.now (memory_of state.new.store).stands) }
-        ensures grown { IfSafe result (HasGrown (memory_of state.old.store) (memory_of state.new.store)) }
+        ensures inside { IfSafe result (base self.new ≡ base self.old) }
+        ensures grown { IfSafe result (HasKept (base self.old) (memory_of state.old.store) (memory_of state.new.store)) }
         ensures scope { state.new.scope ≡ state.old.scope };
 
-    /// It can be done where more stands, too.
-    ghost grows: { (w : Self) (table : Table) (stands more : Cell → Bool) → ((c : Cell) → stands c ≡ true → more c ≡ true) → sound w table stands → sound w table more };
+    /// Drops its copies of these names, as far as they hold nothing.
+    fn leave(&self, state: &mut State, names: &[Name])
+        ensures cells { (memory_of state.new.store).cells ≡ (memory_of state.old.store).cells }
+        ensures kept { list_all (is_own (base self.now)) names.now ≡ true → HasKept (base self.now) (memory_of state.old.store) (memory_of state.new.store) }
+        ensures scope { state.new.scope ≡ state.old.scope };
+
+    /// It can be done where more stands of the cells that it may need, too.
+    ghost grows: { (w : Self) (table : Table) (stands more : Cell → Bool) → ((c : Cell) → IsNear (base w) c → stands c ≡ true → more c ≡ true) → sound w table stands → sound w table more };
 }
 
 /// What stands for iterations deeper than loops stand in one another: none is ever started, and nothing is left of one.
@@ -83,10 +99,12 @@ pub trait Work<'a>: Drop {
 pub struct Never;
 
 impl<'a> Work<'a> for Never {
-    ghost use Rattle.ped_machine.specs.Levels.{never_left, IsNever};
+    ghost use Rattle.ped_machine.specs.Levels.{never_left, never_base, IsNever};
     ghost use Rattle.ped_machine.specs.Growth.{never_grows};
 
     ghost left = { never_left };
+
+    ghost base = { never_base };
 
     ghost sound = { IsNever };
 
@@ -115,4 +133,6 @@ impl<'a> Work<'a> for Never {
     ) -> Result<Done, NoMemory> {
         Ok(Done::Ended)
     }
+
+    fn leave(&self, _state: &mut State, _names: &[Name]) {}
 }

@@ -1,5 +1,5 @@
 -- The numbers of a DO and of the statements of its body, in a valid program.
-use Rattle.std.proofs.Common.{◌≡◌, ℕ, ◌+◌, ◌-◌, ◌<◌, ◌≤◌, ◌^◌, ◌==◌, Bool, true, false, Option, Some, None, refl, sym, ap, ◌∙◌, arith, eqb-true, if◌then◌else◌}
+use Rattle.std.proofs.Common.{◌≡◌, ℕ, ◌+◌, ◌-◌, ◌<◌, ◌≤◌, ◌^◌, ◌==◌, Bool, true, false, Some, None, refl, sym, ap, ◌∙◌, arith, eqb-true, if◌then◌else◌}
 use Rattle.ped_tree.specs.Numbering.{all_numbered, at_place, statements_count}
 use Rattle.ped_tree.specs.Tree.{Head, StmtTree, StmtTrees, Do, ProgramTree}
 use Rattle.ped_loops.specs.ped_scalar.specs.ped_rules.specs.ped_loop_runs.specs.ped_tidy.specs.ped_pasting.specs.ped_bodies.specs.ped_steps.specs.ped_flow.specs.Questions.{IsLoop}

@@ -6,8 +6,6 @@ mod Sizes
 mod Settled
 mod NestRooms
 mod KeptRooms
-pub mod PlainTests
-mod PlainScenes
 mod Answering
 pub mod SkewRules
 pub mod StripRules
@@ -16,3 +14,45 @@ mod SkewAnswers
 mod StripAnswers
 mod PeelAnswers
 pub mod Determined
+mod StripsNumbers
+mod UnnamedCells
+mod StripsCells
+mod ValuesBut
+mod StripsBounds
+mod StripsTrips
+mod StripsControls
+mod StripsAbsent
+mod StripsStand
+mod RenumberedRaces
+mod StripsRaces
+mod StripsAccesses
+mod MadeAnew
+mod StripsKeeps
+mod StripsKinds
+mod StripsTrust
+mod StripsLawful
+mod SkewedActs
+mod SkewedLoops
+mod SkewedStands
+mod SkewedKeeps
+mod SkewedValues
+mod SkewedBounds
+mod SkewedNames
+mod SkewedTrust
+mod SkewLawful
+mod PeelFront
+mod PeelCounts
+mod PeelKinds
+mod PeelConstants
+mod PeelNumbers
+mod PeelRuns
+mod PeelFar
+mod PeelQuiet
+mod PeelCells
+mod PeelStands
+mod PeelRaces
+mod PeelMeets
+mod PeelKeeps
+mod PeelWrites
+mod PeelTrusted
+mod PeelLawful

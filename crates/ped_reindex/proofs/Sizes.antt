@@ -1,5 +1,5 @@
 -- Factors and sizes that are allowed.
-use Rattle.std.proofs.Common.{◌≡◌, ℕ, ◌≤◌, ℤ, pos, ◌≤ℤ◌, ◌-ℤ◌, unsigned_abs, int_lt, Bool, true, false, ◌||◌, FitsSigned, refl, sym, ap, ◌∙◌, arith, int_eq}
+use Rattle.std.proofs.Common.{◌≡◌, ◌≤◌, ℤ, pos, ◌≤ℤ◌, ◌-ℤ◌, unsigned_abs, Bool, true, false, ◌||◌, FitsSigned, refl, arith, int_eq}
 use Rattle.std.specs.Prelude.{nat_lt}
 use Rattle.std.specs.Int.{w64}
 use Rattle.std.proofs.lemmas.Bool.{both_ways}
@@ -42,3 +42,7 @@ size_fits k h = let small = size_small k h in fits_signed_from_abs w64 k (omega 
 
 pub end_fits : (k : ℤ) → is_bad_size k ≡ false → FitsSigned w64 (k -ℤ pos 1)
 end_fits k h = let small = end_small k h in fits_signed_from_abs w64 (k -ℤ pos 1) (omega (arith, small))
+
+-- so has a number of a literal's size
+pub literal_fits : (n : ℤ) → unsigned_abs n ≤ 2147483647 → FitsSigned w64 n
+literal_fits n small = fits_signed_from_abs w64 n (omega (arith, small))

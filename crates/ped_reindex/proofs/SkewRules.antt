@@ -1,5 +1,5 @@
 -- The rules that stand against `skew`, one behind the other; and what is so where none stands.
-use Rattle.std.proofs.Common.{◌≡◌, ℕ, ℤ, ◌<◌, List, Bool, true, false, refl, sym, ◌∙◌, arith}
+use Rattle.std.proofs.Common.{◌≡◌, ℕ, ℤ, List, Bool, true, false, refl, sym, ◌∙◌, arith}
 use Rattle.ped_tree.specs.Tree.{Head, StmtTrees, ProgramTree}
 use Rattle.ped_loops.specs.ped_scalar.specs.ped_rules.specs.ped_loop_runs.specs.ped_tidy.specs.ped_pasting.specs.ped_bodies.specs.ped_steps.specs.ped_symbols.specs.NameRefusals.{IsValid}
 use Rattle.ped_loops.specs.ped_scalar.specs.ped_rules.specs.ped_loop_runs.specs.ped_tidy.specs.ped_pasting.specs.ped_bodies.specs.ped_steps.specs.ped_flow.specs.Questions.{IsLoop, LoopOf, IsContained}
@@ -10,12 +10,12 @@ use Rattle.ped_loops.specs.ped_scalar.specs.ped_rules.specs.ped_loop_runs.specs.
 use Rattle.ped_loops.specs.ped_scalar.specs.ped_rules.specs.Chains.{no_rules, also, WhereLoop, Unless}
 use Rattle.ped_loops.specs.ped_scalar.specs.ped_rules.specs.OnlyLoops.{either}
 use Rattle.ped_loops.specs.ped_scalar.specs.ped_rules.specs.Rules.{WhereNoLoop, isnt_perfect, is_parallel, WhereEscape, WhereLimit}
-use Rattle.ped_loops.specs.ped_scalar.specs.ped_rules.proofs.Chains.{IsChain, IsOne, chain_end, chain_link, first_here, first_later, none_later, not_this, not_those, none_at_end}
+use Rattle.ped_loops.specs.ped_scalar.specs.ped_rules.proofs.Chains.{IsChain, chain_end, chain_link, first_here, first_later, none_later, not_this, not_those, none_at_end}
 use Rattle.ped_loops.specs.ped_scalar.specs.ped_rules.proofs.OneEach.{unless_one, no_loop_one, loop_one, escape_one, limit_one}
 use Rattle.ped_loops.specs.ped_scalar.specs.ped_rules.proofs.Decided.{some_loop, limit_stands, limit_not, limit_valid}
 use Rattle.ped_reindex.specs.Skewing.{is_bad_factor, has_bad_factor, skewed, MakesSkewed, skew_leaves, StandsAgainstSkewing}
 use Rattle.ped_reindex.proofs.Contained.{contained}
-use Rattle.ped_reindex.proofs.Here.{false_by, not_asked, not_unless, fails_by, here, not_no_loop, fails_there, passes_there}
+use Rattle.ped_reindex.proofs.Here.{not_asked, not_unless, fails_by, here, not_no_loop, fails_there, passes_there}
 
 module _ (s : ℕ) (f : ℤ) where
   pub one_made : (t new other : ProgramTree) (keep more : List (ℕ × ℕ)) → MakesSkewed s f t new keep → MakesSkewed s f t other more → (new ≡ other) × (keep ≡ more)

@@ -1,5 +1,5 @@
 -- The rules that stand against `strip`, one behind the other; and what is so where none stands.
-use Rattle.std.proofs.Common.{◌≡◌, ℕ, ℤ, ◌<◌, List, Bool, true, false, Option, Some, None, refl, sym, ap, ◌∙◌, subst, arith, [], ◌∷◌, ◌++◌}
+use Rattle.std.proofs.Common.{◌≡◌, ℕ, ℤ, List, Bool, true, false, Option, Some, None, refl, sym, ap, ◌∙◌, subst, arith, [], ◌∷◌, ◌++◌}
 use Rattle.ped_tree.specs.Tree.{ExprTree, Head, StmtTrees, ProgramTree}
 use Rattle.ped_loops.specs.ped_scalar.specs.ped_rules.specs.ped_loop_runs.specs.ped_tidy.specs.ped_pasting.specs.ped_bodies.specs.ped_steps.specs.ped_symbols.specs.Kinds.{table_of}
 use Rattle.ped_loops.specs.ped_scalar.specs.ped_rules.specs.ped_loop_runs.specs.ped_tidy.specs.ped_pasting.specs.ped_bodies.specs.ped_steps.specs.ped_symbols.specs.NameRefusals.{IsValid}
@@ -17,7 +17,7 @@ use Rattle.ped_loops.specs.ped_scalar.specs.ped_rules.proofs.OneEach.{unless_one
 use Rattle.ped_loops.specs.ped_scalar.specs.ped_rules.proofs.Decided.{some_loop, limit_stands, limit_not, limit_valid}
 use Rattle.ped_reindex.specs.Stripping.{is_bad_size, has_bad_size, strip_variable, stripped, MakesStripped, IsItsLimit, strips_head, strip_end, of_name, strip_leaves, StandsAgainstStripping}
 use Rattle.ped_reindex.proofs.Contained.{contained}
-use Rattle.ped_reindex.proofs.Here.{false_by, not_asked, not_unless, fails_by, here, not_no_loop, fails_there, passes_there}
+use Rattle.ped_reindex.proofs.Here.{not_asked, not_unless, fails_by, here, not_no_loop, fails_there, passes_there}
 
 some_name : (w x : List ℕ) → Some w ≡ Some x → w ≡ x
 some_name w x e = cc
@@ -104,6 +104,20 @@ module _ (s : ℕ) (k : ℤ) where
       pub state_first : is_parallel h body ≡ true → IsFirstRule stands ParallelState s
       state_first holds = behind_loop ParallelState s (first_here ParallelState (WhereLoop t s is_parallel) shared s (passes_there t s h body is is_parallel holds) shared_chain)
 
+      same_limit : (e : ExprTree) (l : LoopOf t s) → e ≡ l.head.last → e ≡ h.last
+      same_limit e l is_last = is_last ∙ ap (λ (g : Head). g.last) (same_head t s l.head h l.body body l.is is)
+
+      -- the limit isn't plain
+      pub unplain_there : (IsPlain (table_of t).constants t s h.last → ⊥) → WhereUnplain t s (IsItsLimit t s) s
+      unplain_there not_plain = (here t s h body is, ((h.last, (refl, here t s h body is, refl), not_plain), λ n p. let at : n ≡ s = p.1.0 in omega (arith, at)))
+
+      -- or it is
+      pub no_unplain : IsPlain (table_of t).constants t s h.last → (n : ℕ) → WhereUnplain t s (IsItsLimit t s) n → ⊥
+      no_unplain is_plain n p = p.1.0.2 (plain_at n p.1.0.1.0 p.1.0.0 (same_limit p.1.0.0 p.1.0.1.1 p.1.0.1.2))
+        where
+          plain_at : (m : ℕ) → m ≡ s → (e : ExprTree) → e ≡ h.last → IsPlain (table_of t).constants t m e
+          plain_at m at e same = subst (λ (a : ExprTree). IsPlain (table_of t).constants t m a) (sym same) (subst (λ (a : ℕ). IsPlain (table_of t).constants t a h.last) (sym at) is_plain)
+
       module _ (serial : is_parallel h body ≡ false) where
         behind_state : (r : Rule) (n : ℕ) → IsFirstRule shared r n → IsFirstRule stands r n
         behind_state r n first = behind_loop r n (first_later ParallelState (WhereLoop t s is_parallel) shared (fails_there t s h body is is_parallel serial) r n first)
@@ -122,25 +136,12 @@ module _ (s : ℕ) (k : ℤ) where
             behind_escape : (r : Rule) (n : ℕ) → IsFirstRule plain r n → IsFirstRule stands r n
             behind_escape r n first = behind_private r n (first_later IndexEscapes (WhereEscape t s) plain none r n first)
 
-            same_limit : (e : ExprTree) (l : LoopOf t s) → e ≡ l.head.last → e ≡ h.last
-            same_limit e l is_last = is_last ∙ ap (λ (g : Head). g.last) (same_head t s l.head h l.body body l.is is)
-
-            -- the limit isn't plain
-            pub unplain_there : (IsPlain (table_of t).constants t s h.last → ⊥) → WhereUnplain t s (IsItsLimit t s) s
-            unplain_there not_plain = (here t s h body is, (h.last, (refl, here t s h body is, refl), not_plain), λ n p. let at : n ≡ s = p.1.0 in omega (arith, at))
-
             pub plain_first : (IsPlain (table_of t).constants t s h.last → ⊥) → IsFirstRule stands BoundNotPlain s
             plain_first not_plain = behind_escape BoundNotPlain s (first_here BoundNotPlain (WhereUnplain t s (IsItsLimit t s)) shape s (unplain_there not_plain) shape_chain)
 
             module _ (is_plain : IsPlain (table_of t).constants t s h.last) where
-              pub no_unplain : (n : ℕ) → WhereUnplain t s (IsItsLimit t s) n → ⊥
-              no_unplain n p = p.1.0.2 (plain_at n p.1.0.1.0 p.1.0.0 (same_limit p.1.0.0 p.1.0.1.1 p.1.0.1.2))
-                where
-                  plain_at : (m : ℕ) → m ≡ s → (e : ExprTree) → e ≡ h.last → IsPlain (table_of t).constants t m e
-                  plain_at m at e same = subst (λ (a : ExprTree). IsPlain (table_of t).constants t m a) (sym same) (subst (λ (a : ℕ). IsPlain (table_of t).constants t a h.last) (sym at) is_plain)
-
               behind_plain : (r : Rule) (n : ℕ) → IsFirstRule shape r n → IsFirstRule stands r n
-              behind_plain r n first = behind_escape r n (first_later BoundNotPlain (WhereUnplain t s (IsItsLimit t s)) shape no_unplain r n first)
+              behind_plain r n first = behind_escape r n (first_later BoundNotPlain (WhereUnplain t s (IsItsLimit t s)) shape (no_unplain is_plain) r n first)
 
               pub shape_first : other_step h body ≡ true → IsFirstRule stands StepShape s
               shape_first holds = behind_plain StepShape s (first_here StepShape (WhereLoop t s other_step) range s (passes_there t s h body is other_step holds) range_chain)
@@ -177,7 +178,7 @@ module _ (s : ℕ) (k : ℤ) where
                         (none_later ParallelState (WhereLoop t s is_parallel) shared (fails_there t s h body is is_parallel serial)
                         (none_later HasPrivate (WhereLoop t s has_private) escape (fails_there t s h body is has_private all_shared)
                         (none_later IndexEscapes (WhereEscape t s) plain none
-                        (none_later BoundNotPlain (WhereUnplain t s (IsItsLimit t s)) shape no_unplain
+                        (none_later BoundNotPlain (WhereUnplain t s (IsItsLimit t s)) shape (no_unplain is_plain)
                         (none_later StepShape (WhereLoop t s other_step) range (fails_there t s h body is other_step unit)
                         (none_later Range (Unless bad Leaving) limit no_range
                         (none_later Limit (Unless bad Limited) size (not_unless bad Limited (limit_not (MakesStripped s k) t s (stripped t s k w) (moved_by s 1 t) (w, fresh, refl, refl) valid))
@@ -255,7 +256,7 @@ module _ (s : ℕ) (k : ℤ) where
       -- the limit is plain, unless it is absurd that it is
       pub is_plain : (l : LoopOf t s) → (IsPlain (table_of t).constants t s l.head.last → ⊥) → ⊥
       is_plain l not_plain = not_this BoundNotPlain (WhereUnplain t s (IsItsLimit t s)) shape none_but_escape s
-          (l, (l.head.last, (refl, l, refl), not_plain), λ n p. let at : n ≡ s = p.1.0 in omega (arith, at))
+          (l, ((l.head.last, (refl, l, refl), not_plain), λ n p. let at : n ≡ s = p.1.0 in omega (arith, at)))
 
       pub is_contained : IsContained t s
       is_contained = contained t s its_loop (not_this IndexEscapes (WhereEscape t s) plain none_but_private)

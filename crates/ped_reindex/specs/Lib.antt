@@ -6,4 +6,3 @@ pub mod Peeling
 pub mod CodePeeling
 pub mod CodeSkewing
 pub mod CodeSettling
-pub mod CodePlain

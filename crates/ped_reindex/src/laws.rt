@@ -6,18 +6,31 @@ ghost use Rattle.ped_reindex.specs.Skewing.{skewing};
 ghost use Rattle.ped_reindex.specs.Stripping.{stripping};
 ghost use Rattle.ped_reindex.specs.Peeling.{peeling};
 
+use ped_loops::ped_scalar::ped_rules::ped_loop_runs::ped_tidy::{
+    private_names_cleared, stays_trusted,
+};
+
 /// `skew` has one first cause at most and makes one program; where nothing forbids it, that one is valid, has no C$PED REJECT
 /// and is tidy if the old one is so, and means the same (Allen and Kennedy, section 5.9; ParaScope).
 pub fn skewing_is_lawful()
     ensures { (s : ℕ) (f : ℤ) → IsLawful (skewing s f) }
-{}
+{
+    stays_trusted();
+    private_names_cleared();
+}
 
 /// So it is with `strip` (Allen and Kennedy, section 6.6.1; ParaScope).
 pub fn stripping_is_lawful()
     ensures { (s : ℕ) (k : ℤ) → IsLawful (stripping s k) }
-{}
+{
+    stays_trusted();
+    private_names_cleared();
+}
 
 /// And with `peel`, of the first iteration and of the last one (Allen and Kennedy, section 5.7.2; ParaScope).
 pub fn peeling_is_lawful()
     ensures { (s : ℕ) (last : Bool) → IsLawful (peeling s last) }
-{}
+{
+    stays_trusted();
+    private_names_cleared();
+}

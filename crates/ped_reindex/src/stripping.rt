@@ -17,8 +17,8 @@ ghost use Rattle.ped_loops.specs.ped_scalar.specs.ped_rules.specs.ped_loop_runs.
 ghost use Rattle.ped_reindex.specs.Stripping as Spec;
 
 use crate::lists::has_list;
-use crate::plain::is_plain;
 use ped_base::{Name, Names, NoMemory};
+use ped_loops::is_plain;
 use ped_loops::ped_scalar::ped_rules::ped_loop_runs::ped_tidy::ped_pasting::ped_bodies::ped_steps::ped_sums::plus;
 use ped_loops::ped_scalar::ped_rules::ped_loop_runs::ped_tidy::ped_pasting::ped_bodies::ped_steps::ped_weaves::ped_laws::ped_graph::ped_refs::Loop;
 use ped_loops::ped_scalar::ped_rules::ped_loop_runs::ped_tidy::ped_pasting::ped_bodies::ped_steps::{

@@ -8,8 +8,8 @@ ghost use Rattle.ped_tree.specs.Numbering.{statements_count};
 use itoa::Buffer;
 use ped_base::{Name, NoMemory};
 use ped_flow::{Flow, Reader, flow_of};
-use ped_valid::ped_symbols::{Kind, Symbols};
 use ped_tree::{Program, Stmt};
+use ped_valid::ped_symbols::{Kind, Symbols};
 use std::alloc::Global;
 
 /// The rows of a program, loops in text order and scalars in the order in which their names first occur.

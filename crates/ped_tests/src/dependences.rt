@@ -3,8 +3,8 @@
 ghost use Rattle.std.specs.Prelude.{◌≡◌, ◌<◌};
 
 use ped_graph::Graph;
-use ped_valid::open_program;
 use ped_graph::ped_verdict::Steps;
+use ped_valid::open_program;
 use std::alloc::Global;
 use std::marker::Brand;
 use std::sync::ledger::{Blank, Ledger};

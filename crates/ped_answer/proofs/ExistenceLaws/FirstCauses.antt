@@ -11,7 +11,6 @@ use Rattle.ped_answer.specs.ped_session.specs.ped_transformations.specs.ped_rein
 use Rattle.ped_answer.specs.ped_session.specs.ped_transformations.specs.Table.{step_of}
 use Rattle.ped_answer.specs.ped_session.specs.ped_transformations.proofs.LawfulTable.{determined_step}
 use Rattle.ped_answer.proofs.ExistenceLaws.ReindexCauses.{skew_cause, strip_cause, peel_cause}
-use Rattle.ped_answer.specs.ped_session.specs.ped_transformations.specs.ped_reindex.proofs.Determined.{determined_skew, determined_strip, determined_peel}
 use Rattle.ped_answer.proofs.ExistenceLaws.DistributeCauses.{distribute_cause}
 use Rattle.ped_answer.proofs.ExistenceLaws.InterchangeCauses.{interchange_cause}
 use Rattle.ped_answer.proofs.ExistenceLaws.LoopCauses.{parallel_cause, serial_cause, reversal_cause, rejection_cause}
@@ -43,9 +42,9 @@ each_cause (Expand number name) = λ t. expanding_cause t number name
 each_cause (Privatise number name) = λ t. privatising_cause t number name
 each_cause (Interchange number) = λ t. interchange_cause t number
 each_cause (Reverse number) = λ t. reversal_cause t number
-each_cause (Skew number factor) = tt
-each_cause (Strip number size) = tt
-each_cause (Peel number last) = tt
+each_cause (Skew number factor) = λ t. skew_cause t number factor
+each_cause (Strip number size) = λ t. strip_cause t number size
+each_cause (Peel number last) = λ t. peel_cause t number last
 each_cause (Distribute number) = λ t. distribute_cause t number
 each_cause (Fuse number) = tt
 each_cause (Parallel number) = λ t. parallel_cause t number

@@ -126,4 +126,4 @@ module _ (t : ProgramTree) (s : ℕ) where
       (found_link BoundsShape (WhereLoop t s is_tied) (rules.unit s t) (rules.unit_chain s t) (settled_where t s is_tied)
       (found_link StepShape (WhereLoop t s (rules.units s t)) (rules.range s t) (rules.range_chain s t) (settled_where t s (rules.units s t))
       (found_link Range (WhereLoop t s (rules.far s t)) (rules.limit s t) (rules.limit_chain s t) (settled_where t s (rules.far s t))
-      (found_last Limit (WhereLimit (MakesInterchanged s) t s) (settled_limit t s (MakesInterchanged s) (rules.one_made s) (λ l. (interchanged t s, all_but s (s + 1) t, (refl, refl))))))))))))))
+      (found_last Limit (WhereLimit (MakesInterchanged s) t s) (settled_limit t s (MakesInterchanged s) (rules.one_made s t) (λ l. (interchanged t s, all_but s (s + 1) t, (refl, refl))))))))))))))

@@ -1,5 +1,5 @@
-use Rattle.std.proofs.Common.{◌≡◌, ℕ, List, [], ◌∷◌, length, ◌==◌, Bool, true, false, not, refl, sym, ap, ◌∙◌, subst, arith, eqb-true}
-use Rattle.ped_tree.specs.Views.{stmt_tree, stmt_trees}
+use Rattle.std.proofs.Common.{◌≡◌, List, length, ap, ◌∙◌, arith}
+use Rattle.ped_tree.specs.Views.{stmt_trees}
 use Rattle.ped_tree.specs.declared.statements.Stmt.{Stmt}
 use Rattle.ped_reindex.specs.CodeSettling.{body_of}
 use Rattle.ped_reindex.proofs.Settled.{body_pushed}

@@ -1,4 +1,4 @@
-use Rattle.std.proofs.Common.{Bool, sym, ap, ◌∙◌, ◌||◌, Option}
+use Rattle.std.proofs.Common.{sym, ap, ◌∙◌, ◌||◌, Option}
 use Rattle.std.specs.Prelude.{is_none}
 use Rattle.std.specs.Int.{w64}
 use Rattle.std.proofs.lemmas.Int.{to_z-of_z}

@@ -1,6 +1,10 @@
-use Rattle.std.proofs.Common.{sym, ◌∙◌}
+use Rattle.std.proofs.Common.{ℤ, IfOk, sym, ◌∙◌, subst}
+use Rattle.std.specs.Int.{w64}
+use Rattle.std.proofs.lemmas.Int.{to_z-of_z}
 use Rattle.ped_tree.specs.Views.{program_tree, stmt_trees, head_of}
 use Rattle.ped_loops.specs.ped_scalar.specs.ped_rules.specs.ped_loop_runs.specs.ped_tidy.specs.ped_pasting.specs.ped_bodies.specs.ped_steps.specs.declared.rules.Rule.TheVariants.{Limit}
+use Rattle.ped_loops.specs.ped_scalar.specs.ped_rules.specs.Steps.{Answers}
+use Rattle.ped_reindex.specs.Stripping.{stripping}
 use Rattle.ped_reindex.proofs.StripRules as rules
 use Rattle.ped_reindex.proofs.StripAnswers.{refused}
 use Rattle.ped_reindex.proofs.stripping.strip_by.Goals as goal
@@ -20,3 +24,7 @@ returns-in-None g c =
 
 pub strip_named-requires-clause-fresh : goal.strip_named-requires-clause-fresh
 strip_named-requires-clause-fresh g c = sym c.in_ok-name.ensures ∙ c.in-Some.is
+
+pub returns-in-Some : goal.returns-in-Some
+returns-in-Some g c =
+    subst (λ (z : ℤ). IfOk c.strip_named.result (Answers (stripping c.args.number z) (program_tree c.args.scene.now.tree.now))) (to_z-of_z w64 c.args.size c.ranges.size) c.strip_named.ensures

@@ -3,31 +3,27 @@ use Rattle.std.specs.Int.{w64}
 use Rattle.std.proofs.lemmas.Int.{to_z-of_z}
 use Rattle.ped_tree.specs.Views.{program_tree, stmt_trees, head_of}
 use Rattle.ped_loops.specs.ped_scalar.specs.ped_rules.specs.Rules.{is_one, has_other_step}
-use Rattle.ped_loops.specs.ped_scalar.specs.ped_rules.specs.ped_loop_runs.specs.ped_tidy.specs.ped_pasting.specs.ped_bodies.specs.ped_steps.specs.ped_flow.specs.PlainBounds.{IsPlain}
-use Rattle.ped_loops.specs.ped_scalar.specs.ped_rules.specs.ped_loop_runs.specs.ped_tidy.specs.ped_pasting.specs.ped_bodies.specs.ped_steps.specs.ped_symbols.specs.Kinds.{Table, table_of}
+use Rattle.ped_loops.specs.ped_scalar.specs.ped_rules.specs.ped_loop_runs.specs.ped_tidy.specs.ped_pasting.specs.ped_bodies.specs.ped_steps.specs.ped_symbols.specs.Kinds.{Table}
 use Rattle.ped_loops.specs.ped_scalar.specs.ped_rules.specs.ped_loop_runs.specs.ped_tidy.specs.ped_pasting.specs.ped_bodies.specs.ped_steps.specs.declared.rules.Rule.TheVariants.{BoundNotPlain, StepShape, BadFactor}
 use Rattle.ped_reindex.specs.Stripping.{is_bad_size}
 use Rattle.ped_reindex.proofs.StripRules as rules
 use Rattle.ped_reindex.proofs.StripAnswers.{refused}
 use Rattle.ped_reindex.proofs.stripping.strip_contained.Goals as goal
 
-not_plain : {P : Type 0} (b : Bool) → not b ≡ true → IsTrue b ↔ P → P → ⊥
+not_plain : {P : Type 0} (b : Bool) → b ≡ false → IsTrue b ↔ P → P → ⊥
 not_plain true n is p = absurd cc
 not_plain false n is p = let f : false ≡ true = is.1 p in absurd cc
 
-so_plain : {P : Type 0} (b : Bool) → not b ≡ false → IsTrue b ↔ P → P
-so_plain true n is = is.0 refl
-so_plain false n is = absurd cc
+so_plain : {P : Type 0} (b : Bool) → b ≡ true → IsTrue b ↔ P → P
+so_plain b h is = is.0 h
 
-other : (r b : Bool) → r ≡ not b → not r ≡ true → b ≡ true
+other : (r b : Bool) → r ≡ not b → r ≡ false → b ≡ true
 other r true e n = refl
-other true false e n = absurd cc
-other false false e n = absurd cc
+other r false e n = let f : false ≡ true = sym n ∙ e in absurd cc
 
-unit : (r b : Bool) → r ≡ not b → not r ≡ false → b ≡ false
-unit r false e n = refl
-unit true true e n = absurd cc
-unit false true e n = absurd cc
+unit : (r b : Bool) → r ≡ not b → r ≡ true → b ≡ false
+unit r false e h = refl
+unit r true e h = let f : true ≡ false = sym h ∙ e in absurd cc
 
 pub returns-then-not-branch : goal.returns-then-not-branch
 returns-then-not-branch g c =
@@ -65,21 +61,12 @@ returns-then-is_bad_size g c =
     refused s k t BadFactor s c.against-then-is_bad_size.result c.against-then-is_bad_size.ensures
     (rules.size_first s k t h body c.requires.is c.requires.serial c.requires.shared c.requires.contained plain step (ap is_bad_size (sym (to_z-of_z w64 k c.ranges.size)) ∙ sym c.is_bad_size.ensures ∙ c.if-is_bad_size.true))
 
-pub strip_by-requires : goal.strip_by-requires
-strip_by-requires g c =
-    let t = program_tree c.args.scene.now.tree.now in
-    let s = c.args.number in
-    let k = c.args.size in
+pub strip_by-requires-clause-plain : goal.strip_by-requires-clause-plain
+strip_by-requires-clause-plain g c = so_plain c.in_ok-is_plain.field-0 c.if-not-branch.false c.in_ok-is_plain.ensures
+
+pub strip_by-requires-clause-unit : goal.strip_by-requires-clause-unit
+strip_by-requires-clause-unit g c =
     let h = head_of c.args.d.now in
     let body = stmt_trees c.args.d.now.body.items in
     let consts = c.consts.ensures ∙ ap (λ (table : Table). table.constants) c.requires.scene.symbols in
-    record {
-      scene = c.requires.scene;
-      is = c.requires.is;
-      serial = c.requires.serial;
-      shared = c.requires.shared;
-      contained = c.requires.contained;
-      plain = so_plain c.in_ok-is_plain.field-0 c.if-not-branch.false c.in_ok-is_plain.ensures;
-      unit = subst (λ (cs : List (List ℕ × ℤ)). has_other_step cs is_one h body ≡ false) consts (unit c.has_step_one.result (has_other_step c.consts.result.now is_one h body) c.has_step_one.ensures c.if-not-has_step_one.false);
-      good = ap is_bad_size (sym (to_z-of_z w64 k c.ranges.size)) ∙ sym c.is_bad_size.ensures ∙ c.if-is_bad_size.false;
-    }
+    subst (λ (cs : List (List ℕ × ℤ)). has_other_step cs is_one h body ≡ false) consts (unit c.has_step_one.result (has_other_step c.consts.result.now is_one h body) c.has_step_one.ensures c.if-not-has_step_one.false)

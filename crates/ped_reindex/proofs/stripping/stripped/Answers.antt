@@ -1,4 +1,4 @@
-use Rattle.std.proofs.Common.{ℕ, List, Option, IfOk, MatchOption, ◌≡◌, subst, arith, ℤ, ap, ◌∙◌}
+use Rattle.std.proofs.Common.{ℕ, List, Option, IfOk, MatchOption, subst, ℤ, ap, ◌∙◌}
 use Rattle.std.specs.Int.{w64}
 use Rattle.std.proofs.lemmas.Int.{to_z-of_z}
 use Rattle.ped_tree.specs.Tree.{ProgramTree}

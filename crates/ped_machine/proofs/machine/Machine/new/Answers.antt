@@ -8,6 +8,7 @@ use Rattle.ped_interleavings.specs.ped_eval.proofs.RunOutcomes.{can_run_from, re
 use Rattle.ped_machine.specs.declared.opens.Open.{Open}
 use Rattle.ped_machine.specs.Parts.{Part, parts_left, CanGo}
 use Rattle.ped_machine.specs.Rests.{rest_left, IfOpened}
+use Rattle.ped_machine.specs.Levels.{level_base}
 use Rattle.ped_machine.specs.Roots.{Outermost, outermost_left, IsOutermostSound}
 use Rattle.ped_machine.proofs.Resting.{none_inner}
 use Rattle.ped_machine.proofs.machine.Machine.new.Goals as goal
@@ -26,7 +27,7 @@ returns-clause-safe c =
           parts =
               subst (λ (ps : List Part). CanGo table ps scope) (sym c.in_ok-rest.ensures.parts)
               (can_run_from t table scope (stmt_trees c.args.program.now.body.items) (c.right_where_valid.ensures t c.requires.valid) c.requires.symbols c.in_ok-state.ensures.scope refl, tt);
-          inner = subst (λ (o : Option (Open Outermost)). IfOpened outermost_left IsOutermostSound scope o table m.stands) (sym c.in_ok-rest.ensures.inner) tt;
+          inner = subst (λ (o : Option (Open Outermost)). IfOpened outermost_left level_base IsOutermostSound scope o table m.stands) (sym c.in_ok-rest.ensures.inner) tt;
         };
       };
     }

@@ -13,7 +13,7 @@ use Rattle.ped_machine.specs.declared.machine.Machine.{Machine}
 use Rattle.ped_machine.specs.declared.steps.Step.{Step}
 use Rattle.ped_machine.specs.declared.steps.Step.TheVariants as answer
 use Rattle.ped_machine.proofs.Answering.{told, any_step, root_is, still_right, faultless_maps, went_lighter}
-use Rattle.ped_machine.proofs.Growing.{ready_in, ready_grows}
+use Rattle.ped_machine.proofs.Dropping.{ready_kept}
 use Rattle.ped_machine.proofs.machine.Machine.step.Goals as goal
 
 pub returns-in-Ok-clause-does : goal.returns-in-Ok-clause-does
@@ -85,5 +85,5 @@ returns-in-Err-clause-safe c =
       table = c.requires.table;
       right =
           subst (λ (b : Bool). IsRight b scope rest table after) (sym c.if-self.false)
-          (record { ready = ready_in table m.state.scope scope after (ready_grows table m.state.scope old after c.in-Err.ensures.grown was.ready) c.in-Err.ensures.copies; sound = c.in-Err.ensures.sound });
+          (record { ready = ready_kept table m.state.scope scope old after c.in-Err.ensures.grown was.ready c.in-Err.ensures.copies; sound = c.in-Err.ensures.sound });
     }

@@ -14,6 +14,7 @@ returns-in-Some-clause-over g c =
       was = was;
       tasks = Updates-with_value c.args.self.now.tasks c.args.key c.is_over.new.self (ap is_some was);
       same = c.is_over.ensures.left;
+      inside = c.is_over.ensures.inside;
       tells = c.is_over.ensures.over;
       safe = c.is_over.ensures.sound;
     }

@@ -23,18 +23,18 @@ not_empty n e q = let w : true ≡ false = sym (eq-eqb n 0 q) ∙ sym e in cc
 
 pub returns-then-is_empty : goal.returns-then-is_empty
 returns-then-is_empty g c scope table stands h =
-    bare_picks g.C.Work.left g.C.Work.sound scope table stands c.args.self.now h c.args.place
+    bare_picks g.C.Work.left g.C.Work.base g.C.Work.sound scope table stands c.args.self.now h c.args.place
     (bare c.args.self.now.d.now.body.items c.without_comments.result.now c.deref.result.now c.deref.ensures.value c.without_comments.ensures (eqb-true (length c.without_comments.result.now) 0 (sym c.if-is_empty.ensures)))
 
 pub returns-in-Some : goal.returns-in-Some
 returns-in-Some g c scope table stands h =
     let lefts = lefts_of c.args.self.now.plan.count (place_left g.C.Work.left scope c.args.self.now) in
     let b = real c.args.self.now.d.now.body.items c.without_comments.result.now c.deref.result.now c.deref.ensures.value c.without_comments.ensures (not_empty (length c.without_comments.result.now) c.if-is_empty.ensures) in
-    ap (λ (o : Option ℕ). or_else o (unfinished 0 lefts)) (marks_tell g.C.Work.left g.C.Work.sound scope table stands c.args.self.now h c.args.place (Some c.in-Some.found) b c.in-Some.ensures)
+    ap (λ (o : Option ℕ). or_else o (unfinished 0 lefts)) (marks_tell g.C.Work.left g.C.Work.base g.C.Work.sound scope table stands c.args.self.now h c.args.place (Some c.in-Some.found) b c.in-Some.ensures)
 
 pub returns-in-None : goal.returns-in-None
 returns-in-None g c scope table stands h =
     let lefts = lefts_of c.args.self.now.plan.count (place_left g.C.Work.left scope c.args.self.now) in
     let b = real c.args.self.now.d.now.body.items c.without_comments.result.now c.deref.result.now c.deref.ensures.value c.without_comments.ensures (not_empty (length c.without_comments.result.now) c.if-is_empty.ensures) in
-    marks_tell g.C.Work.left g.C.Work.sound scope table stands c.args.self.now h 0 c.unfinished-in-None.result b c.unfinished-in-None.ensures
-    ∙ ap (λ (o : Option ℕ). or_else o (unfinished 0 lefts)) (marks_tell g.C.Work.left g.C.Work.sound scope table stands c.args.self.now h c.args.place None b c.in-None.ensures)
+    marks_tell g.C.Work.left g.C.Work.base g.C.Work.sound scope table stands c.args.self.now h 0 c.unfinished-in-None.result b c.unfinished-in-None.ensures
+    ∙ ap (λ (o : Option ℕ). or_else o (unfinished 0 lefts)) (marks_tell g.C.Work.left g.C.Work.base g.C.Work.sound scope table stands c.args.self.now h c.args.place None b c.in-None.ensures)

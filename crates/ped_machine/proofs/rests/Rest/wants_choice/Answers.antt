@@ -15,6 +15,6 @@ pub returns-in-Some : goal.returns-in-Some
 returns-in-Some g c scope table stands h =
     let left = g.C.Work.left in
     let o = c.in-Some.inner in
-    let right = subst (λ (x : Option (Open _)). IfOpened left g.C.Work.sound scope x table stands) c.in-Some.is h.inner in
+    let right = subst (λ (x : Option (Open _)). IfOpened left g.C.Work.base g.C.Work.sound scope x table stands) c.in-Some.is h.inner in
     c.is_some.ensures ∙ ap is_some (c.pick.ensures scope table stands right) ∙ first_of_same (unfinished 0 (lefts_of o.plan.count (place_left left scope o)))
     ∙ sym (ap (λ (x : Option (Open _)). wants_choice (opened_left left scope x (parts_left (parts_of c.args.self.now.parts) scope))) c.in-Some.is)

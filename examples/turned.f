@@ -1,0 +1,11 @@
+      PROGRAM TURNED
+C     EACH ROW TAKES FROM THE ROW BEFORE IT, ONE PLACE FURTHER ON.
+      INTEGER A(4,4)
+      SAVE A
+      DO 10 I=1,4
+      DO 10 J=1,4
+   10 A(I,J)=10*I+J
+      DO 20 I=2,4
+      DO 20 J=1,3
+   20 A(I,J)=A(I-1,J+1)+100
+      END

@@ -26,7 +26,7 @@ use ped_reindex::ped_loops::ped_scalar::ped_rules::{against, escapes};
 use ped_reindex::ped_loops::ped_scalar::ped_rules::ped_loop_runs::ped_tidy::ped_pasting::ped_bodies::ped_steps::{
     Change, Refused, Rule, Scene, change_to, loop_at, program_with, with_body,
 };
-use ped_reindex::is_plain;
+use ped_reindex::ped_loops::is_plain;
 use ped_tree::{Do, Stmt};
 use std::alloc::Global;
 use std::sync::ledger::Ledger;

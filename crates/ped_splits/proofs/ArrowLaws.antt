@@ -18,10 +18,13 @@ pub record HasAdded (old new : List (List Bool)) (P : ℕ → ℕ → Type 0) : 
 
 -- no arrow is added
 pub adds_none : (old : List (List Bool)) (P : ℕ → ℕ → Type 0) → ((i j : ℕ) → P i j → ⊥) → Adds old old P
-adds_none old P none i j = ((λ a. inl a), λ s. elim s [
-  | inl a ↦ a
-  | inr p ↦ absurd (none i j p)
-])
+adds_none old P none i j = (
+  (λ a. inl a),
+  λ s. elim s [
+    | inl a ↦ a
+    | inr p ↦ absurd (none i j p)
+  ],
+)
 
 -- arrows are added in two steps
 pub adds_both : (old mid new : List (List Bool)) (P Q R : ℕ → ℕ → Type 0) → Adds old mid P → Adds mid new Q → ((i j : ℕ) → (P i j ⊎ Q i j) ↔ R i j) → Adds old new R
@@ -71,8 +74,8 @@ module _ (m : List (List Bool)) (from to : ℕ) where
       | inl d ↦ ((λ a. inr (e, d)), λ s. ap (λ (k : ℕ). slice_index_or (row_of after k) j false) e ∙ ap (λ (row : List Bool). slice_index_or row j false) row_there ∙ ap (λ (k : ℕ). slice_index_or new k false) d ∙ get_or-set_same (row_of m from) to true false t)
       | inr n ↦
           let same : slice_index_or (row_of after i) j false ≡ slice_index_or (row_of m i) j false =
-              ap (λ (k : ℕ). slice_index_or (row_of after k) j false) e ∙ ap (λ (row : List Bool). slice_index_or row j false) row_there ∙ get_or-set_other (row_of m from) to j true false n
-              ∙ ap (λ (k : ℕ). slice_index_or (row_of m k) j false) (sym e) in
+          ap (λ (k : ℕ). slice_index_or (row_of after k) j false) e ∙ ap (λ (row : List Bool). slice_index_or row j false) row_there ∙ get_or-set_other (row_of m from) to j true false n
+          ∙ ap (λ (k : ℕ). slice_index_or (row_of m k) j false) (sym e) in
           as_before same (λ p. n p.1)
     ]
     | inr n ↦ as_before (ap (λ (row : List Bool). slice_index_or row j false) (get_or-set_other m from i new [] n)) (λ p. n p.0)
@@ -82,18 +85,24 @@ module _ (m : List (List Bool)) (from to : ℕ) where
       row_there = get_or-set_same m from new [] f
 
       as_before : slice_index_or (row_of after i) j false ≡ slice_index_or (row_of m i) j false → ((i ≡ from) × (j ≡ to) → ⊥) → Arrow after i j ↔ (Arrow m i j ⊎ ((i ≡ from) × (j ≡ to)))
-      as_before same none = ((λ a. inl (sym same ∙ a)), λ s. elim s [
-        | inl a ↦ same ∙ a
-        | inr p ↦ absurd (none p)
-      ])
+      as_before same none = (
+        (λ a. inl (sym same ∙ a)),
+        λ s. elim s [
+          | inl a ↦ same ∙ a
+          | inr p ↦ absurd (none p)
+        ],
+      )
 
 -- truth of two
 pub true_either : (a b : Bool) → (IsTrue a ⊎ IsTrue b) ↔ IsTrue (a || b)
 true_either true b = ((λ s. refl), λ t. inl refl)
-true_either false b = ((λ s. elim s [
-  | inl x ↦ absurd cc
-  | inr x ↦ x
-]), λ t. inr t)
+true_either false b = (
+  (λ s. elim s [
+    | inl x ↦ absurd cc
+    | inr x ↦ x
+  ]),
+  λ t. inr t,
+)
 
 pub true_both : (a b : Bool) → (IsTrue a × IsTrue b) ↔ IsTrue (a && b)
 true_both true b = ((λ p. p.1), λ t. (refl, t))

@@ -28,8 +28,7 @@ module _ (s : ℕ) where
 
   pub one_made : (t new other : ProgramTree) (keep more : List (ℕ × ℕ)) → MakesDistributed s t new keep → MakesDistributed s t other more → (new ≡ other) × (keep ≡ more)
   one_made t new other keep more p q =
-      let same = one_found t s p.0 q.0 p.1 q.1 p.2 q.2 in
-      (
+      let same = one_found t s p.0 q.0 p.1 q.1 p.2 q.2 in (
         p.3 ∙ ap (distributed t s) same ∙ sym q.3,
         p.4 ∙ (λ i. kept t (same_body t s p.0.head q.0.head p.0.body q.0.body p.0.is q.0.is i) (same i)) ∙ sym q.4,
       )

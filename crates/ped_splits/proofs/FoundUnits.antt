@@ -127,7 +127,7 @@ module _ (body : List Stmt) (place from : ℕ) (found : List Unit) (are : AreFou
         by false e =
             let at_next : behind ≡ place + 1 = ends ∙ ap (λ (b : Bool). if b then length body else place + 1) e in
             let tree : unit_tree u ≡ stmt_trees (comments ++ s ∷ []) =
-                ap stmt_trees (tells ∙ ap (λ (k : ℕ). slice_range body from k) at_next ∙ slice_more body from place s begins.0 within ∙ ap (λ (x : Stmt). comments ++ x ∷ []) (sym is)) in
+            ap stmt_trees (tells ∙ ap (λ (k : ℕ). slice_range body from k) at_next ∙ slice_more body from place s begins.0 within ∙ ap (λ (x : Stmt). comments ++ x ∷ []) (sym is)) in
             let whole = next_unit ∙ ap (λ (b : Bool). if b then stmt_trees (comments ++ s ∷ rest) ∷ [] else stmt_trees (comments ++ s ∷ []) ∷ units (stmt_trees rest)) e in
             let nothing : slice_range body behind (place + 1) ≡ [] = nothing_between at_next in
             record {

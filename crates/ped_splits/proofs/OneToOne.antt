@@ -79,7 +79,7 @@ module _ (v : ℕ) where
     here_once k n false e =
         let none = sum_none (range_with_len 0 n) in
         let same : sum_by (λ i. cond (stands_in s body i k) (tally (v == k)) 0) (range_with_len 0 n) ≡ sum_by (λ (i : ℕ). 0) (range_with_len 0 n) =
-            (λ j. sum_by (λ i. cond (stands_in s body i k) (tally (e j)) 0) (range_with_len 0 n)) ∙ (λ j. sum_by (λ (i : ℕ). nothing (stands_in s body i k) j) (range_with_len 0 n)) in
+        (λ j. sum_by (λ i. cond (stands_in s body i k) (tally (e j)) 0) (range_with_len 0 n)) ∙ (λ j. sum_by (λ (i : ℕ). nothing (stands_in s body i k) j) (range_with_len 0 n)) in
         omega (arith, none, same)
 
     -- in the units together it stands no more often than among the statements
@@ -89,7 +89,7 @@ module _ (v : ℕ) where
         let rest = unit_times n ks in
         let here = here_once k n (v == k) refl in
         let each : sum_by (λ i. times v (filter (stands_in s body i) (k ∷ ks))) (range_with_len 0 n) ≡ sum_by (λ i. cond (stands_in s body i k) (tally (v == k)) 0 + times v (filter (stands_in s body i) ks)) (range_with_len 0 n) =
-            λ j. sum_by (λ i. taken k (stands_in s body i k) (filter (stands_in s body i) ks) j) (range_with_len 0 n) in
+        λ j. sum_by (λ i. taken k (stands_in s body i k) (filter (stands_in s body i) ks) j) (range_with_len 0 n) in
         let both = sum_plus (λ i. cond (stands_in s body i k) (tally (v == k)) 0) (λ i. times v (filter (stands_in s body i) ks)) (range_with_len 0 n) in
         let whole = sum_by-cons (λ j. tally (v == j)) k ks in
         omega (arith, rest, here, each, both, whole)

@@ -114,7 +114,7 @@ module _ (s : ℕ) (body : StmtTrees) where
       let rest = numbers_parted n ks in
       let one : sum_by (λ i. tally (stands_in s body i k)) (range_with_len 0 n) ≤ 1 = one_home (unit_of s body k) n in
       let each : sum_by (λ i. length (filter (stands_in s body i) (k ∷ ks))) (range_with_len 0 n) ≡ sum_by (λ i. tally (stands_in s body i k) + length (filter (stands_in s body i) ks)) (range_with_len 0 n) =
-          λ j. sum_by (λ i. longer k (stands_in s body i k) (filter (stands_in s body i) ks) j) (range_with_len 0 n) in
+      λ j. sum_by (λ i. longer k (stands_in s body i k) (filter (stands_in s body i) ks) j) (range_with_len 0 n) in
       let both = sum_plus (λ i. tally (stands_in s body i k)) (λ i. length (filter (stands_in s body i) ks)) (range_with_len 0 n) in
       omega (arith, rest, one, each, both)
 

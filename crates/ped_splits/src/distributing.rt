@@ -22,11 +22,11 @@ use crate::blocks::blocks;
 use crate::keeping::kept;
 use crate::units::{Parted, Unit, homes_of, units_of};
 use ped_base::{Listed, NoMemory};
-use ped_reindex::ped_loops::ped_scalar::ped_rules::{against, escapes};
+use ped_reindex::ped_loops::is_plain;
 use ped_reindex::ped_loops::ped_scalar::ped_rules::ped_loop_runs::ped_tidy::ped_pasting::ped_bodies::ped_steps::{
     Change, Refused, Rule, Scene, change_to, loop_at, program_with, with_body,
 };
-use ped_reindex::ped_loops::is_plain;
+use ped_reindex::ped_loops::ped_scalar::ped_rules::{against, escapes};
 use ped_tree::{Do, Stmt};
 use std::alloc::Global;
 use std::sync::ledger::Ledger;
@@ -180,7 +180,7 @@ fn distributed<L: Ledger>(
     requires blocks { AreBlocks (program_tree scene.now.tree.now) parted.now.number (head_of parted.now.statement.now) (body_of parted.now) found.now }
     ensures { IfOk result (λ change. MatchOption change (IsValid (Spec.distributed (program_tree scene.now.tree.now) parted.now.number found.now) → ⊥)
         (IsChange (Spec.distributed (program_tree scene.now.tree.now) parted.now.number found.now)
-            (Spec.kept_from 1 (Spec.sources (program_tree scene.now.tree.now) parted.now.number (body_of parted.now) found.now)))) }
+        (Spec.kept_from 1 (Spec.sources (program_tree scene.now.tree.now) parted.now.number (body_of parted.now) found.now)))) }
 {
     let loops = loops_of(alloc, parted, found)?;
     let tree = program_with(alloc, scene.tree, parted.number, &loops)?;
@@ -189,11 +189,7 @@ fn distributed<L: Ledger>(
 }
 
 /// A DO for each block, with the head of the old one.
-fn loops_of(
-    alloc: Global,
-    parted: &Parted,
-    found: &[Listed<usize>],
-) -> Result<Vec<Stmt>, NoMemory>
+fn loops_of(alloc: Global, parted: &Parted, found: &[Listed<usize>]) -> Result<Vec<Stmt>, NoMemory>
     requires units { unit_trees parted.now.units.now ≡ units (body_of parted.now) }
     requires below { All (AreBelow (length parted.now.units.now)) found.now }
     ensures { IfOk result (λ loops. stmt_trees loops.items ≡ Spec.loops_of found.now (head_of parted.now.statement.now) (body_of parted.now)) }

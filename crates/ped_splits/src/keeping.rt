@@ -60,7 +60,11 @@ fn sources(
     add_unmoved(&mut sources, 1, parted.number - 1)?;
     add_loops(&mut sources, parted, blocks)?;
     let behind = parted.number + count_statements(&parted.statement.body);
-    add_unmoved(&mut sources, behind + 1, count_statements(&program.body) - behind)?;
+    add_unmoved(
+        &mut sources,
+        behind + 1,
+        count_statements(&program.body) - behind,
+    )?;
     Ok(sources)
 }
 
@@ -121,11 +125,7 @@ fn add_block(
 }
 
 /// Adds the statements of this unit.
-fn add_unit(
-    sources: &mut Vec<Option<u32>>,
-    parted: &Parted,
-    unit: usize,
-) -> Result<(), NoMemory>
+fn add_unit(sources: &mut Vec<Option<u32>>, parted: &Parted, unit: usize) -> Result<(), NoMemory>
     requires parted { parted.now.homes.now ≡ homes 0 (units (body_of parted.now)) }
     requires few { parted.now.number + length parted.now.homes.now < 2 ^ 32 }
     ensures { OnOk result (sources.new.items ≡ sources.old.items ++ map Some (Spec.numbers_of parted.now.number (body_of parted.now) unit)) }

@@ -19,7 +19,7 @@ add_dependences-requires g c =
     let us = units (body_of c.args.parted.now) in
     let n = length c.args.parted.now.units.now in
     let long : length c.in_ok-arrows.arrows ≡ length us =
-        ap (λ (m : List (List Bool)). length m) c.in_ok-arrows.ensures ∙ length-replicate n _ ∙ sym (length-map c.args.parted.now.units.now unit_tree) ∙ ap (λ (ts : List StmtTrees). length ts) c.requires.parted.parts in
+    ap (λ (m : List (List Bool)). length m) c.in_ok-arrows.ensures ∙ length-replicate n _ ∙ sym (length-map c.args.parted.now.units.now unit_tree) ∙ ap (λ (ts : List StmtTrees). length ts) c.requires.parted.parts in
     subst (λ (k : ℕ). AreBelow k c.args.parted.now.homes.now) (sym long) (subst (AreBelow (length us)) (sym c.requires.parted.places) (homes_below 0 (length us) us (omega arith)))
 
 pub occurrences-requires-clause-statements : goal.occurrences-requires-clause-statements
@@ -33,7 +33,7 @@ add_links-requires g c =
     let us = units (body_of c.args.parted.now) in
     let n = length c.args.parted.now.units.now in
     let long : length c.add_dependences.new.arrows ≡ length us =
-        c.add_dependences.ensures.width ∙ ap (λ (m : List (List Bool)). length m) c.in_ok-arrows.ensures ∙ length-replicate n _ ∙ sym (length-map c.args.parted.now.units.now unit_tree) ∙ ap (λ (ts : List StmtTrees). length ts) c.requires.parted.parts in
+    c.add_dependences.ensures.width ∙ ap (λ (m : List (List Bool)). length m) c.in_ok-arrows.ensures ∙ length-replicate n _ ∙ sym (length-map c.args.parted.now.units.now unit_tree) ∙ ap (λ (ts : List StmtTrees). length ts) c.requires.parted.parts in
     subst (λ (k : ℕ). AreBelow k c.args.parted.now.homes.now) (sym long) (subst (AreBelow (length us)) (sym c.requires.parted.places) (homes_below 0 (length us) us (omega arith)))
 
 pub returns : goal.returns
@@ -48,11 +48,10 @@ returns g c =
     let are = subst (λ (es : List Edge). AreEdges t (map edge_of es)) (sym c.deref.ensures.value) (c.in_ok-edges.ensures.edges t c.requires.scene.graph) in
     let refs = references_of c.deref-2.result.now in
     let long : length c.add_links.new.arrows ≡ length us =
-        c.in_ok-add_links.ensures.width ∙ c.add_dependences.ensures.width ∙ ap (λ (m : List (List Bool)). length m) c.in_ok-arrows.ensures ∙ length-replicate n _ ∙ sym (length-map c.args.parted.now.units.now unit_tree) ∙ ap (λ (ts : List StmtTrees). length ts) c.requires.parted.parts in
-    let deps = subst (λ (rows : List (List Bool)). Adds rows c.add_dependences.new.arrows (λ i j. IsTrue (leading t s h body edges c.in_ok-level.level c.args.parted.now.homes.now i j))) c.in_ok-arrows.ensures c.add_dependences.ensures.arrows in
-    (
+    c.in_ok-add_links.ensures.width ∙ c.add_dependences.ensures.width ∙ ap (λ (m : List (List Bool)). length m) c.in_ok-arrows.ensures ∙ length-replicate n _ ∙ sym (length-map c.args.parted.now.units.now unit_tree) ∙ ap (λ (ts : List StmtTrees). length ts) c.requires.parted.parts in
+    let deps = subst (λ (rows : List (List Bool)). Adds rows c.add_dependences.new.arrows (λ i j. IsTrue (leading t s h body edges c.in_ok-level.level c.args.parted.now.homes.now i j))) c.in_ok-arrows.ensures c.add_dependences.ensures.arrows in (
       edges,
       are,
       closed_arrows t s h body edges c.in_ok-level.level c.args.parted.now.homes.now refs c.in_ok-level.ensures c.requires.parted.places (ap references_of c.deref-2.ensures.value ∙ c.in_ok-found.ensures) n n c.add_dependences.new.arrows c.add_links.new.arrows
-      c.close.new.self long c.width-width.ensures.square deps c.in_ok-add_links.ensures.arrows c.close.ensures.width c.close.ensures.square c.close.ensures.reaches,
+          c.close.new.self long c.width-width.ensures.square deps c.in_ok-add_links.ensures.arrows c.close.ensures.width c.close.ensures.square c.close.ensures.reaches,
     )

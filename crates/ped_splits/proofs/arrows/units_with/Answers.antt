@@ -19,8 +19,7 @@ loop-occurrence-preserved c =
     elim c.if-is_named.branch [
       | then-is_named+in-Some w ↦
           let home = sym w.home_at.ensures ∙ w.in-Some.is in
-          let inside = subst (λ (n : ℕ). w.in-Some.unit < n) (sym c.loop-occurrence.invariant.0) (home_below s homes o.statement c.args.width w.in-Some.unit c.requires home) in
-          (
+          let inside = subst (λ (n : ℕ). w.in-Some.unit < n) (sym c.loop-occurrence.invariant.0) (home_below s homes o.statement c.args.width w.in-Some.unit c.requires home) in (
             ap (λ (r : List Bool). length r) (w.units-is ∙ w.set.ensures) ∙ length-set row w.in-Some.unit true ∙ c.loop-occurrence.invariant.0,
             λ i. ap (λ (r : List Bool). slice_index_or r i false) (w.units-is ∙ w.set.ensures)
                 ∙ with_unit s homes x os k o c.loop-occurrence-test.true c.occurrence-item.is row c.loop-occurrence.invariant.1 w.in-Some.unit (sym c.is_named.ensures ∙ w.if-is_named.true) home inside i,

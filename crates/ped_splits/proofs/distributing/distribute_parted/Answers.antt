@@ -35,7 +35,7 @@ returns-in-Some g c =
     let many : 2 ≤ length found = let long = c.in_ok-found.found.ok.0 in let is = c.len.ensures in let more = c.if-len-lt2.false in omega (arith, long, is, more) in
     let there = c.deref.result.now in
     let made = subst (λ (bs : List (List ℕ)). IsChange (distributed t s bs) (kept_from 1 (sources t s body bs)) c.in-Some.change) c.deref.ensures.value
-            (some_made (distributed t s there) (kept_from 1 (sources t s body there)) c.in_ok-change.field-0 c.in-Some.change c.in-Some.is c.in_ok-change.ensures) in
+    (some_made (distributed t s there) (kept_from 1 (sources t s body there)) c.in_ok-change.field-0 c.in-Some.change c.in-Some.is c.in_ok-change.ensures) in
     accepted s t (record { head = h; body = body; is = c.requires.parted.is }) found c.in-Some.change c.in_ok-found.ensures
     (rules.nothing_stands s t h body c.requires.parted.is c.requires.serial c.requires.contained c.requires.first c.requires.last found c.in_ok-found.ensures many made.valid) made
 

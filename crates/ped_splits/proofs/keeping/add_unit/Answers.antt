@@ -16,14 +16,13 @@ loop-home-preserved c =
     let k = c.loop-home.home-index in
     let homes = c.args.parted.now.homes.now in
     let number = c.loop-home.invariant.0 in
-    let stands = stands_at s body c.args.unit k 0 homes c.requires.parted c.loop-home-test.true in
-    (
+    let stands = stands_at s body c.args.unit k 0 homes c.requires.parted c.loop-home-test.true in (
       omega (arith, number),
       elim c.if-home-unit.branch [
         | then-home-unit+in_ok-push w ↦
             ap (λ (v : Vec (Option ℕ) Global). v.items) w.sources-is
             ∙ one_taken s body c.args.unit k (c.loop-home.number + 1) c.args.sources.now.items c.loop-home.sources.items w.push.new.self.items (omega (arith, number)) (stands ∙ eq-eqb (get_or homes k 0) c.args.unit w.if-home-unit.true)
-                c.loop-home.invariant.1 w.in_ok-push.ensures.items
+            c.loop-home.invariant.1 w.in_ok-push.ensures.items
         | else-home-unit w ↦
             ap (λ (v : Vec (Option ℕ) Global). v.items) w.sources-is
             ∙ one_passed s body c.args.unit k c.args.sources.now.items c.loop-home.sources.items (stands ∙ other_number (get_or homes k 0) c.args.unit (λ e. w.if-home-unit.false (sym e))) c.loop-home.invariant.1

@@ -18,7 +18,7 @@ use Rattle.ped_splits.proofs.UnitSizes.{units_few}
 
 module _ (t : ProgramTree) (s : ℕ) (h : Head) (body : StmtTrees) (found : List (List ℕ)) (are : AreBlocks t s h body found) where
   -- each unit has a row
-  width : length are.reach ≡ length (units body)
+  pub width : length are.reach ≡ length (units body)
   width = are.closed.width ∙ length-map-range_with_len (λ i. map (is_arrow t s h body are.edges i) (range_with_len 0 (length (units body)))) 0 (length (units body))
 
   -- blocks are made of units

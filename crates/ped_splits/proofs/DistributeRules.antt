@@ -6,7 +6,7 @@ use Rattle.ped_reindex.specs.ped_loops.specs.Interchanging.{IsBoundOf}
 use Rattle.ped_reindex.specs.ped_loops.specs.ped_scalar.specs.ped_rules.specs.ped_loop_runs.specs.ped_tidy.specs.ped_pasting.specs.ped_bodies.specs.ped_steps.specs.ped_symbols.specs.Kinds.{table_of}
 use Rattle.ped_reindex.specs.ped_loops.specs.ped_scalar.specs.ped_rules.specs.ped_loop_runs.specs.ped_tidy.specs.ped_pasting.specs.ped_bodies.specs.ped_steps.specs.ped_symbols.specs.NameRefusals.{IsValid}
 use Rattle.ped_reindex.specs.ped_loops.specs.ped_scalar.specs.ped_rules.specs.ped_loop_runs.specs.ped_tidy.specs.ped_pasting.specs.ped_bodies.specs.ped_steps.specs.ped_flow.specs.PlainBounds.{IsPlain}
-use Rattle.ped_reindex.specs.ped_loops.specs.ped_scalar.specs.ped_rules.specs.ped_loop_runs.specs.ped_tidy.specs.ped_pasting.specs.ped_bodies.specs.ped_steps.specs.ped_flow.specs.Questions.{IsLoop, LoopOf}
+use Rattle.ped_reindex.specs.ped_loops.specs.ped_scalar.specs.ped_rules.specs.ped_loop_runs.specs.ped_tidy.specs.ped_pasting.specs.ped_bodies.specs.ped_steps.specs.ped_flow.specs.Questions.{IsLoop, LoopOf, IsContained}
 use Rattle.ped_reindex.specs.ped_loops.specs.ped_scalar.specs.ped_rules.specs.ped_loop_runs.specs.ped_tidy.specs.ped_pasting.specs.ped_bodies.specs.ped_steps.specs.ped_flow.proofs.Answering.{same_head, same_body}
 use Rattle.ped_reindex.specs.ped_loops.specs.ped_scalar.specs.ped_rules.specs.ped_loop_runs.specs.ped_tidy.specs.ped_pasting.specs.ped_bodies.specs.ped_steps.specs.declared.rules.Rule.{Rule}
 use Rattle.ped_reindex.specs.ped_loops.specs.ped_scalar.specs.ped_rules.specs.ped_loop_runs.specs.ped_tidy.specs.ped_pasting.specs.ped_bodies.specs.ped_steps.specs.declared.rules.Rule.TheVariants.{NoLoop, ParallelState, IndexEscapes, BoundNotPlain, OneBlock, Limit}
@@ -16,7 +16,8 @@ use Rattle.ped_reindex.specs.ped_loops.specs.ped_scalar.specs.ped_rules.specs.Ru
 use Rattle.ped_reindex.specs.ped_loops.specs.ped_scalar.specs.ped_rules.proofs.Chains.{IsChain, IsOne, chain_end, chain_link, first_here, first_later, none_later, not_this, not_those, none_at_end}
 use Rattle.ped_reindex.specs.ped_loops.specs.ped_scalar.specs.ped_rules.proofs.OneEach.{no_loop_one, loop_one, escape_one, unplain_one, limit_one}
 use Rattle.ped_reindex.specs.ped_loops.specs.ped_scalar.specs.ped_rules.proofs.Decided.{some_loop, limit_stands, limit_not, limit_valid}
-use Rattle.ped_splits.proofs.Here.{here, not_no_loop, fails_there, passes_there}
+use Rattle.ped_splits.proofs.Contained.{contained}
+use Rattle.ped_splits.proofs.Here.{here, not_no_loop, fails_by, fails_there, passes_there}
 use Rattle.ped_splits.specs.Blocks.{AreBlocks}
 use Rattle.ped_splits.specs.Distributing.{distributed, sources, kept_from, MakesDistributed, IsItsBound, WhereOneBlock, StandsAgainstDistribution}
 use Rattle.ped_splits.proofs.OneBlocks.{one_found}
@@ -176,3 +177,10 @@ module _ (s : ℕ) where
         | inl few ↦ absurd (not_this OneBlock (WhereOneBlock t s) limit none_but_plain s (l, found, are, few, refl))
         | inr many ↦ many
       ]
+
+      -- it is no PARALLEL DO, and no variable of it is read outside its DO
+      pub is_serial : (l : LoopOf t s) → is_parallel l.head l.body ≡ false
+      is_serial = fails_by t s is_parallel (not_this ParallelState (WhereLoop t s is_parallel) escape none_but_loop)
+
+      pub is_contained : IsContained t s
+      is_contained = contained t s its_loop (not_this IndexEscapes (WhereEscape t s) plain none_but_state)

@@ -14,5 +14,8 @@ mod OneToOne
 mod Keepings
 mod BlockSizes
 mod BlockLaws
+mod Contained
+mod UnitTests
+mod DistributeTrusted
 pub mod Existence
 pub mod Determined

@@ -86,7 +86,7 @@ module _ (t : ProgramTree) (valid : IsValid t) (s : ℕ) (loop : LoopOf t s) (fo
     new_body = gap.new_is;
     constants = refl;
     saved = refl;
-    unstopped = loops_none some_stop has_stop refl (λ z rest. refl) d body found (λ b. joined_none some_stop has_stop refl (λ z rest. refl) quiet_stop body b stops);
+    unstopped = loops_none some_stop has_stop refl (λ z rest. refl) quiet_stop d body found (λ b. joined_none some_stop has_stop refl (λ z rest. refl) quiet_stop body b stops);
   }
 
   -- the variables are the same
@@ -113,12 +113,12 @@ module _ (t : ProgramTree) (valid : IsValid t) (s : ℕ) (loop : LoopOf t s) (fo
         either = sym only_loop ∙ e
 
         by : (b : Bool) → is_same_text w d.variable ≡ b → is_among w (all_loop_variables new) ≡ true
-        by true same = loops_first among among_one refl among_more d body found (omega (arith, many)) (λ b. ap (λ (x : Bool). x || is_among w (all_loop_variables (units_at body b))) same)
+        by true same = loops_first among among_one refl among_more quiet_variable d body found (omega (arith, many)) (λ b. ap (λ (x : Bool). x || is_among w (all_loop_variables (units_at body b))) same)
         by false other =
             let inside : is_among w (all_loop_variables body) ≡ true = sym (ap (λ (x : Bool). x || is_among w (all_loop_variables body)) other) ∙ either in
             let i = some_unit among among_one refl among_more quiet_variable body inside in
-            loops_some among among_one refl among_more d body found i.0 (each_placed t s d body found are i.0 i.1)
-            (λ b here. (λ j. other j || joined_some among among_one refl among_more body b i.0 here i.2 j))
+            loops_some among among_one refl among_more quiet_variable d body found i.0 (each_placed t s d body found are i.0 i.1)
+            (λ b here. (λ j. other j || joined_some among among_one refl among_more quiet_variable body b i.0 here i.2 j))
 
     none_new : is_among w (loop_variables (Do d body)) ≡ false → (b : List ℕ) → is_among w (loop_variables (Do d (units_at body b))) ≡ false
     none_new e b =
@@ -126,7 +126,7 @@ module _ (t : ProgramTree) (valid : IsValid t) (s : ℕ) (loop : LoopOf t s) (fo
         λ i. parts.0 i || joined_none among among_one refl among_more quiet_variable body b parts.1 i
 
     no_further : is_among w (all_loop_variables (alone (Do d body))) ≡ false → is_among w (all_loop_variables new) ≡ false
-    no_further e = loops_none among among_one refl among_more d body found (none_new (sym only_loop ∙ e))
+    no_further e = loops_none among among_one refl among_more quiet_variable d body found (none_new (sym only_loop ∙ e))
 
     none_old : is_among w (all_loop_variables new) ≡ false → is_among w (loop_variables (Do d body)) ≡ false
     none_old e = by (is_among w (all_loop_variables (alone (Do d body)))) refl
@@ -142,7 +142,7 @@ module _ (t : ProgramTree) (valid : IsValid t) (s : ℕ) (loop : LoopOf t s) (fo
     writes_none : all_write cs w (alone (Do d body)) ≡ false → all_write cs w new ≡ false
     writes_none none =
         let old = or_parts (list_any (writes_name cs w) d.private) (all_write cs w body) (none_first _ _ none) in
-        loops_none (all_write cs w) (writes cs w) refl (λ z rest. refl) d body found (λ b. (λ i. old.0 i || joined_none (all_write cs w) (writes cs w) refl (λ z rest. refl) quiet_write body b old.1 i))
+        loops_none (all_write cs w) (writes cs w) refl (λ z rest. refl) quiet_write d body found (λ b. (λ i. old.0 i || joined_none (all_write cs w) (writes cs w) refl (λ z rest. refl) quiet_write body b old.1 i))
 
   stands_at : loop_of exchange ≡ s
   stands_at = let n = gap.number in omega (arith, n)
@@ -156,7 +156,7 @@ module _ (t : ProgramTree) (valid : IsValid t) (s : ℕ) (loop : LoopOf t s) (fo
   indices_none : some_write_index cs (alone (Do d body)) ≡ false → some_write_index cs new ≡ false
   indices_none none =
       let old = or_parts (d.parallel && list_any (λ w. all_write cs w body) (d.variable ∷ all_loop_variables body)) (some_write_index cs body) (none_first _ _ none) in
-      loops_none (some_write_index cs) (writes_index cs) refl (λ z rest. refl) d body found
+      loops_none (some_write_index cs) (writes_index cs) refl (λ z rest. refl) quiet_index d body found
       (λ b. (λ i. (serial i && list_any (λ w. all_write cs w (units_at body b)) (d.variable ∷ all_loop_variables (units_at body b))) || joined_none (some_write_index cs) (writes_index cs) refl (λ z rest. refl) quiet_index body b old.1 i))
 
   -- the first of the new DO loops leaves a name as it is where all of them do
@@ -185,7 +185,7 @@ module _ (t : ProgramTree) (valid : IsValid t) (s : ℕ) (loop : LoopOf t s) (fo
   unrejected : some_rejection (alone (Do d body)) ≡ false → some_rejection new ≡ false
   unrejected none =
       let old = or_parts (has_some d.rejected) (some_rejection body) (none_first _ _ none) in
-      loops_none some_rejection has_rejection refl (λ z rest. refl) d body found (λ b. (λ i. old.0 i || joined_none some_rejection has_rejection refl (λ z rest. refl) quiet_rejection body b old.1 i))
+      loops_none some_rejection has_rejection refl (λ z rest. refl) quiet_rejection d body found (λ b. (λ i. old.0 i || joined_none some_rejection has_rejection refl (λ z rest. refl) quiet_rejection body b old.1 i))
 
   pub stays_trusted_distributed : TrustedLaw → ClearedLaw → IsTrusted t → IsTrusted (distributed t s found)
   stays_trusted_distributed law cleared trusted =

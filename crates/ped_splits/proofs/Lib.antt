@@ -17,5 +17,6 @@ mod BlockLaws
 mod Contained
 mod UnitTests
 mod DistributeTrusted
+mod KeptArrows
 pub mod Existence
 pub mod Determined

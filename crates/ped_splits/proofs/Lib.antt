@@ -18,5 +18,6 @@ mod Contained
 mod UnitTests
 mod DistributeTrusted
 mod KeptArrows
+mod DistributedKinds
 pub mod Existence
 pub mod Determined

@@ -102,3 +102,27 @@ module _ (all : StmtTrees → Bool) (told : StmtTree → Bool) (none : all no_st
     | inl x ↦ more (Do h (units_at body b)) (loops_of bs h body) ∙ ap (λ (r : Bool). r || all (loops_of bs h body)) (f b x)
     | inr y ↦ more (Do h (units_at body b)) (loops_of bs h body) ∙ ap (λ (r : Bool). told (Do h (units_at body b)) || r) (loops_some h body bs i y f) ∙ or_true (told (Do h (units_at body b)))
   ]
+
+  -- where a test tells of a DO by its head, or by its body, it tells the same of all DO loops that the body is taken apart into
+  module _ (h : Head) (body : StmtTrees) (found : List (List ℕ)) (long : 1 ≤ length found) (placed : (i : ℕ) → i < length (units body) → In i (flat found)) (top : Bool) (shape : (b : StmtTrees) → told (Do h b) ≡ top || all b) where
+    told_some : top || all body ≡ true → all (loops_of found h body) ≡ true
+    told_some e = by top refl
+      where
+        by : (x : Bool) → top ≡ x → all (loops_of found h body) ≡ true
+        by true p = loops_first h body found long (λ b. shape (units_at body b) ∙ ap (λ (x : Bool). x || all (units_at body b)) p)
+        by false p =
+            let inside : all body ≡ true = sym (ap (λ (x : Bool). x || all body) p) ∙ e in
+            let i = some_unit body inside in
+            loops_some h body found i.0 (placed i.0 i.1) (λ b here. shape (units_at body b) ∙ ap (λ (x : Bool). x || all (units_at body b)) p ∙ joined_some body b i.0 here i.2)
+
+    told_none : top || all body ≡ false → all (loops_of found h body) ≡ false
+    told_none e =
+        let parts = or_parts top (all body) e in
+        loops_none h body found (λ b. shape (units_at body b) ∙ (λ i. parts.0 i || joined_none body b parts.1 i))
+
+    pub loops_tell : all (loops_of found h body) ≡ told (Do h body)
+    loops_tell = by (top || all body) refl ∙ sym (shape body)
+      where
+        by : (b : Bool) → top || all body ≡ b → all (loops_of found h body) ≡ top || all body
+        by true e = told_some e ∙ sym e
+        by false e = told_none e ∙ sym e

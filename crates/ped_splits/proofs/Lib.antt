@@ -18,6 +18,7 @@ mod Contained
 mod UnitTests
 mod DistributeTrusted
 mod KeptArrows
+mod BlockPlaces
 mod DistributedKinds
 pub mod Existence
 pub mod Determined

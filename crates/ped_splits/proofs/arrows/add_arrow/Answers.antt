@@ -1,4 +1,4 @@
-use Rattle.std.proofs.Common.{◌≡◌, ℕ, List, Bool, length, ◌<◌, subst, sym, arith}
+use Rattle.std.proofs.Common.{◌≡◌, List, Bool, subst, sym, arith}
 use Rattle.ped_splits.proofs.ArrowLaws.{Adds, adds_one}
 use Rattle.ped_splits.proofs.arrows.add_arrow.Goals as goal
 

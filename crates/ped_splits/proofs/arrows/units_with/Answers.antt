@@ -1,4 +1,4 @@
-use Rattle.std.proofs.Common.{◌≡◌, ℕ, List, Bool, ◌<◌, length, take, slice_index_or, false, sym, ap, subst, ◌∙◌, true}
+use Rattle.std.proofs.Common.{ℕ, List, Bool, ◌<◌, length, slice_index_or, false, sym, ap, subst, ◌∙◌, true}
 use Rattle.std.proofs.lemmas.List.{take_all, length-set}
 use Rattle.ped_reindex.specs.ped_loops.specs.ped_scalar.specs.ped_rules.specs.ped_loop_runs.specs.ped_tidy.specs.ped_pasting.specs.ped_bodies.specs.ped_steps.specs.ped_refs.specs.Occurrences.{references_of}
 use Rattle.ped_reindex.specs.ped_loops.specs.ped_scalar.specs.ped_rules.specs.ped_loop_runs.specs.ped_tidy.specs.ped_pasting.specs.ped_bodies.specs.ped_steps.specs.ped_refs.specs.declared.occurring.Occurrence.{Occurrence}

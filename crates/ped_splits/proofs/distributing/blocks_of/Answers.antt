@@ -1,4 +1,4 @@
-use Rattle.std.proofs.Common.{◌≡◌, ℕ, List, Vec, Global, IfOk}
+use Rattle.std.proofs.Common.{◌≡◌, ℕ, List, Vec, Global}
 use Rattle.ped_tree.specs.Views.{program_tree, head_of}
 use Rattle.ped_splits.specs.Blocks.{blocks, AreBlocks}
 use Rattle.ped_splits.specs.CodeUnits.{body_of}

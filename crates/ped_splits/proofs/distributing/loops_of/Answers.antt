@@ -1,6 +1,6 @@
-use Rattle.std.proofs.Common.{◌≡◌, ℕ, List, map, slice_index_or, sym, ap, ◌∙◌}
+use Rattle.std.proofs.Common.{ℕ, map, slice_index_or, ap, ◌∙◌}
 use Rattle.ped_tree.specs.Tree.{StmtTrees, Do, no_stmts}
-use Rattle.ped_tree.specs.Views.{stmt_tree, stmt_trees, head_of}
+use Rattle.ped_tree.specs.Views.{head_of}
 use Rattle.ped_splits.specs.CodeUnits.{body_of}
 use Rattle.ped_splits.specs.Distributing.{joined, loops_of}
 use Rattle.ped_splits.proofs.JoinedUnits as law

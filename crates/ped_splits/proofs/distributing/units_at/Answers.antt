@@ -1,4 +1,4 @@
-use Rattle.std.proofs.Common.{ℕ, map, get_or, slice_index_or}
+use Rattle.std.proofs.Common.{ℕ, map, slice_index_or}
 use Rattle.ped_tree.specs.Tree.{no_stmts}
 use Rattle.ped_tree.specs.Views.{stmt_trees}
 use Rattle.ped_splits.specs.CodeUnits.{unit_trees}

@@ -4,6 +4,7 @@ use Rattle.ped_splits.proofs.Determined.{determined_distribution}
 use Rattle.ped_splits.proofs.DistributeRules as rules
 use Rattle.ped_splits.proofs.DistributeTrusted.{stays_trusted_distributed}
 use Rattle.ped_splits.proofs.DistributedKinds as static
+use Rattle.ped_splits.proofs.BlockPlaces as places
 use Rattle.ped_splits.proofs.KeptArrows as kept_arrows
 use Rattle.ped_splits.proofs.OneToOne.{one_to_one}
 use Rattle.ped_splits.proofs.laws.distribution_is_lawful.Goals as goal

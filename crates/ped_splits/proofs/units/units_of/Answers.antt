@@ -1,8 +1,8 @@
-use Rattle.std.proofs.Common.{◌≡◌, ℕ, ◌+◌, ◌≤◌, ◌==◌, List, ◌++◌, ◌∷◌, [], length, drop, Bool, true, false, Vec, Global, refl, sym, ap, subst, ◌∙◌, arith}
-use Rattle.ped_tree.specs.Numbering.{statement_count, statements_count}
-use Rattle.ped_tree.specs.Views.{stmt_tree, stmt_trees}
+use Rattle.std.proofs.Common.{ℕ, ◌+◌, ◌==◌, List, length, drop, Vec, Global, sym, ap, subst, ◌∙◌, arith}
+use Rattle.ped_tree.specs.Numbering.{statements_count}
+use Rattle.ped_tree.specs.Views.{stmt_trees}
 use Rattle.ped_splits.specs.declared.units.Unit.{Unit}
-use Rattle.ped_splits.proofs.FoundUnits.{AreFound, none_found, all_found, next_comment, next_found, begins, ends_there}
+use Rattle.ped_splits.proofs.FoundUnits.{AreFound, all_found, next_comment, next_found, begins, ends_there}
 use Rattle.ped_splits.proofs.units.units_of.Goals as goal
 use Rattle.ped_splits.proofs.units.units_of.Goals.{then-not-is_comment+in_ok-push, else-not-is_comment}
 

@@ -88,6 +88,18 @@ module _ (s : ℕ) where
       pub state_first : is_parallel h body ≡ true → IsFirstRule stands ParallelState s
       state_first holds = behind_loop ParallelState s (first_here ParallelState (WhereLoop t s is_parallel) escape s (passes_there t s h body is is_parallel holds) escape_chain)
 
+      -- a bound isn't plain
+      pub unplain_there : (e : ExprTree) → IsBoundOf h e → (IsPlain (table_of t).constants t s e → ⊥) → WhereUnplain t s (IsItsBound t s) s
+      unplain_there e bound not_plain = (here t s h body is, ((e, (refl, here t s h body is, bound), not_plain), λ n p. let at : n ≡ s = p.1.0 in omega (arith, at)))
+
+      module _ (first : IsPlain (table_of t).constants t s h.first) (last : IsPlain (table_of t).constants t s h.last) where
+        pub no_unplain : (n : ℕ) → WhereUnplain t s (IsItsBound t s) n → ⊥
+        no_unplain n p = p.1.0.2 (subst (λ (m : ℕ). IsPlain (table_of t).constants t m p.1.0.0) (sym p.1.0.1.0) (is_plain p.1.0.0 (subst (λ (g : Head). IsBoundOf g p.1.0.0) (same_head t s p.1.0.1.1.head h p.1.0.1.1.body body p.1.0.1.1.is is) p.1.0.1.2)))
+          where
+            is_plain : (e : ExprTree) → IsBoundOf h e → IsPlain (table_of t).constants t s e
+            is_plain e (inl same) = subst (λ (a : ExprTree). IsPlain (table_of t).constants t s a) (sym same) first
+            is_plain e (inr same) = subst (λ (a : ExprTree). IsPlain (table_of t).constants t s a) (sym same) last
+
       module _ (serial : is_parallel h body ≡ false) where
         behind_state : (r : Rule) (n : ℕ) → IsFirstRule escape r n → IsFirstRule stands r n
         behind_state r n first = behind_loop r n (first_later ParallelState (WhereLoop t s is_parallel) escape (fails_there t s h body is is_parallel serial) r n first)
@@ -99,23 +111,12 @@ module _ (s : ℕ) where
           behind_escape : (r : Rule) (n : ℕ) → IsFirstRule plain r n → IsFirstRule stands r n
           behind_escape r n first = behind_state r n (first_later IndexEscapes (WhereEscape t s) plain none r n first)
 
-          -- a bound isn't plain
-          pub unplain_there : (e : ExprTree) → IsBoundOf h e → (IsPlain (table_of t).constants t s e → ⊥) → WhereUnplain t s (IsItsBound t s) s
-          unplain_there e bound not_plain = (here t s h body is, ((e, (refl, here t s h body is, bound), not_plain), λ n p. let at : n ≡ s = p.1.0 in omega (arith, at)))
-
           pub plain_first : (e : ExprTree) → IsBoundOf h e → (IsPlain (table_of t).constants t s e → ⊥) → IsFirstRule stands BoundNotPlain s
           plain_first e bound not_plain = behind_escape BoundNotPlain s (first_here BoundNotPlain (WhereUnplain t s (IsItsBound t s)) single s (unplain_there e bound not_plain) single_chain)
 
           module _ (first : IsPlain (table_of t).constants t s h.first) (last : IsPlain (table_of t).constants t s h.last) where
-            pub no_unplain : (n : ℕ) → WhereUnplain t s (IsItsBound t s) n → ⊥
-            no_unplain n p = p.1.0.2 (subst (λ (m : ℕ). IsPlain (table_of t).constants t m p.1.0.0) (sym p.1.0.1.0) (is_plain p.1.0.0 (subst (λ (g : Head). IsBoundOf g p.1.0.0) (same_head t s p.1.0.1.1.head h p.1.0.1.1.body body p.1.0.1.1.is is) p.1.0.1.2)))
-              where
-                is_plain : (e : ExprTree) → IsBoundOf h e → IsPlain (table_of t).constants t s e
-                is_plain e (inl same) = subst (λ (a : ExprTree). IsPlain (table_of t).constants t s a) (sym same) first
-                is_plain e (inr same) = subst (λ (a : ExprTree). IsPlain (table_of t).constants t s a) (sym same) last
-
             behind_plain : (r : Rule) (n : ℕ) → IsFirstRule single r n → IsFirstRule stands r n
-            behind_plain r n found = behind_escape r n (first_later BoundNotPlain (WhereUnplain t s (IsItsBound t s)) single no_unplain r n found)
+            behind_plain r n found = behind_escape r n (first_later BoundNotPlain (WhereUnplain t s (IsItsBound t s)) single (no_unplain first last) r n found)
 
             module _ (found : List (List ℕ)) (are : AreBlocks t s h body found) where
               pub single_first : length found < 2 → IsFirstRule stands OneBlock s
@@ -142,7 +143,7 @@ module _ (s : ℕ) where
                     none_later NoLoop (WhereNoLoop t s) state (not_no_loop t s h body is)
                     (none_later ParallelState (WhereLoop t s is_parallel) escape (fails_there t s h body is is_parallel serial)
                     (none_later IndexEscapes (WhereEscape t s) plain none
-                    (none_later BoundNotPlain (WhereUnplain t s (IsItsBound t s)) single no_unplain
+                    (none_later BoundNotPlain (WhereUnplain t s (IsItsBound t s)) single (no_unplain first last)
                     (none_later OneBlock (WhereOneBlock t s) limit no_single
                     (none_later Limit Limited no_rules (limit_not (MakesDistributed s) t s (distributed t s found) (kept t body found) makes valid) none_at_end)))))
 

@@ -1,5 +1,5 @@
 -- `distribute` has a first cause against it in a program, or none.
-use Rattle.std.proofs.Common.{◌≡◌, ◌⊎◌, ℕ, ◌<◌, ◌≤◌, inl, inr, refl, sym, subst, length, List, Option, Some, None, arith}
+use Rattle.std.proofs.Common.{◌≡◌, ◌⊎◌, ℕ, ◌<◌, ◌≤◌, inl, inr, refl, subst, length, List, Option, Some, None, arith}
 use Rattle.std.proofs.lemmas.Bool.{cases_lt}
 use Rattle.ped_answer.specs.ped_session.specs.ped_tree.specs.Tree.{ExprTree, ProgramTree}
 use Rattle.ped_answer.specs.ped_session.specs.ped_order.specs.ped_flow.specs.PlainBounds.{IsPlain}
@@ -26,7 +26,7 @@ module _ (t : ProgramTree) (s : ℕ) where
   settled_plain = by (loop_decided t s)
     where
       stands : (l : LoopOf t s) (e : ExprTree) → IsBoundOf l.head e → (IsPlain (table_of t).constants t s e → ⊥) → Settled (WhereUnplain t s (IsItsBound t s))
-      stands l e bound n = (Some s, (l, (e, (refl, l, bound), n), λ k p. let at : k ≡ s = p.1.0 in omega (arith, at)))
+      stands l e bound n = (Some s, (l, ((e, (refl, l, bound), n), λ k p. let at : k ≡ s = p.1.0 in omega (arith, at))))
 
       both : (l : LoopOf t s) → Decided (IsPlain (table_of t).constants t s l.head.first) → Decided (IsPlain (table_of t).constants t s l.head.last) → Settled (WhereUnplain t s (IsItsBound t s))
       both l (inr n) d = stands l l.head.first (inl refl) n

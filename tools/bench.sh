@@ -6,7 +6,7 @@
 # assignment in loops, over an array and over a scalar, from 10^4 to 10^7 of them, and how much memory a store of 2^20
 # elements takes; how long `races` takes for an access, and how much memory, at 10^5 and 10^6 of them; how long `races` and
 # `run` take for an operand of an expression, with up to 600 of them; and how long the flow of scalars takes to be made, and
-# how much memory, and the questions about it, by the program of crate ped_show_flow. It is no part of the gate, and needs GNU time and awk. docs/PERFORMANCE.md says how to read the figures.
+# how much memory, and the questions about it, by the program of crate ped_show_flow; and how `generate` grows with its size. It is no part of the gate, and needs GNU time and awk. docs/PERFORMANCE.md says how to read the figures.
 #
 # usage: tools/bench.sh [RUNS]      of so many runs (5 where it isn't said) the least counts
 set -eu
@@ -422,6 +422,23 @@ two 141 40 200
 two 200 20 100
 six 45 40 1000
 END
+
+# Generated programs: the time of a command for each statement, and what a change keeps for each.
+printf '\n%10s %10s %10s %10s %10s %10s %14s %14s\n' generated statements pairs tested seconds MiB 'us/command' 'KiB/change'
+for size in 30 100 200 300; do
+    best=''
+    for ((i = 0; i < runs; i++)); do
+        command time -f '%U %S %M' -o "$work/figure" "$ped" generate "$size" >"$work/report"
+        best=$(awk -v best="$best" '{ split(best, was); sum = $1 + $2; print (best == "" || sum < was[1]) ? sum " " $3 : best }' "$work/figure")
+    done
+    awk -v size="$size" -v best="$best" '
+        { figure[$1] = $2 }
+        END {
+            split(best, cost)
+            printf "%10d %10d %10d %10d %10.2f %10.1f %14.1f %14.2f\n", size, figure["statements"], figure["pairs"], figure["tested"], cost[1], cost[2] / 1024,
+                cost[1] * 1e6 / 2 / size / figure["statements"], (cost[2] - 2048) / figure["accepted"] / figure["statements"]
+        }' "$work/report"
+done
 
 # A program of 4,000 statements without references, whose changes keep its tree, its names and its text.
 awk 'BEGIN { print "      INTEGER K"; for (k = 0; k < 4000; k++) print "      K = 1"; print "      END" }' >"$work/large.f"

@@ -10,9 +10,12 @@ use Rattle.ped_session.specs.Scripts.{Said, AnswersItems}
 use Rattle.ped_session.proofs.OneAnswer as items
 use Rattle.ped_answer.specs.declared.answering.Status.{Status}
 use Rattle.ped_answer.specs.declared.answering.Status.TheVariants.{Done, SomeRefused, BadWords, ReadFault, WriteFault, ProgramRefused, NoMemory, TooLong}
-use Rattle.ped_answer.specs.TestCounts.{TestsText, of_tree, of_refusal, TestsSession, of_script, of_refused_program, Ticks, IsUntested}
+use Rattle.ped_gen.specs.Generated as made
+use Rattle.ped_answer.specs.Generated.{Tally, Applies}
+use Rattle.ped_answer.specs.TestCounts.{TestsText, of_tree, of_refusal, TestsSession, of_script, of_refused_program, TestsGenerated, of_report, of_refused_text, Ticks, IsUntested}
 use Rattle.ped_answer.specs.Serving.{session_status}
 use Rattle.ped_answer.proofs.OneAnswer.{one_tree, not_both}
+use Rattle.ped_answer.proofs.Tallying.{one_applies}
 
 -- a call without tests, which didn't answer on a program whole
 pub idle_ticks : (s : Status) (before n : ℕ) → s ≢ Done → s ≢ SomeRefused → Ticks s before before n
@@ -107,3 +110,34 @@ pub said_ticks : (script data_bytes : List ℕ) (s : State) (status : Status) (b
     → (said : Said) (last : State) → AnswersItems (commands_of script) data_bytes s said last → Ticks status before after said.tests
 said_ticks script data_bytes s status before after d said last answers =
     subst (λ (x : Said). Ticks status before after x.tests) (items.one_all (commands_of script) data_bytes s d.1 last d.0 said d.2 answers).0 d.3
+
+-- the tests of a program that is made: those of opening it, and behind them those of its script
+pub made_ticks : (size : ℕ) (s : State) (status : Status) (before mid after : ℕ)
+    → (t : ProgramTree) × ReadsValid (made.program size) t × (s ≡ opened t)
+    → ((t : ProgramTree) → ReadsValid (made.program size) t → mid ≡ before + pair_count (references t))
+    → ((tally : Tally) (last : State) → Applies (commands_of (made.script size)) s tally last → Ticks status mid after tally.tests)
+    → ¬ (IsUntested status) → (n : ℕ) → TestsGenerated size n → Ticks status before after n
+made_ticks size s status before mid after o first rest tested n (of_report t reads tally last applies e) =
+    let same = o.2 ∙ ap opened (one_tree (made.program size) o.0 t o.1 reads) in
+    let there = subst (λ (x : State). Applies (commands_of (made.script size)) x tally last) (sym same) applies in
+    subst (λ (m : ℕ). Ticks status before after m) (sym e) (later status before mid after (pair_count (references t)) tally.tests tested (first t reads) (rest tally last there))
+made_ticks size s status before mid after o first rest tested n (of_refused_text f refused e) = absurd (not_both (made.program size) o.0 f o.1 refused)
+
+-- where memory ran out while a session was opened on it, at most the tests of opening it were made
+pub unmade_ticks : (size before after : ℕ)
+    → ((t : ProgramTree) → ReadsValid (made.program size) t → after ≤ before + pair_count (references t))
+    → ((f : Finding) → RefusesText (made.program size) f → after ≡ before)
+    → (n : ℕ) → TestsGenerated size n → after ≤ before + n
+unmade_ticks size before after most none n (of_report t reads tally last applies e) = let few = most t reads in omega arith
+unmade_ticks size before after most none n (of_refused_text f refused e) = let same = none f refused in omega arith
+
+-- the tests of what a script comes to are those of whatever it comes to
+pub tally_ticks : (size : ℕ) (s : State) (status : Status) (before after : ℕ)
+    → (done : Tally) (next : State) → Applies (commands_of (made.script size)) s done next → Ticks status before after done.tests
+    → (tally : Tally) (last : State) → Applies (commands_of (made.script size)) s tally last → Ticks status before after tally.tests
+tally_ticks size s status before after done next first ticks tally last applies =
+    subst (λ (x : Tally). Ticks status before after x.tests) (one_applies (commands_of (made.script size)) s next last done tally first applies).0 ticks
+
+-- an answer on a program that is made is a report or a refusal
+pub is_report_tested : (s : Status) → (s ≡ Done) ⊎ (s ≡ WriteFault) ⊎ (s ≡ NoMemory) → ¬ (IsUntested s)
+is_report_tested s e = is_tested s Done (λ u. u) e

@@ -1,4 +1,5 @@
 -- Lemmas of the room that this folder is named after.
+mod Alike
 mod ChainCauses
 mod DistributeCauses
 pub mod Edges
@@ -10,4 +11,5 @@ mod FirstCauses
 mod LoopPaths
 mod Refusing
 pub mod Replying
+mod Reporting
 mod ScalarCauses

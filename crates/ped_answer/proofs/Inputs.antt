@@ -8,6 +8,7 @@ use Rattle.ped_io.specs.declared.loading.LoadError.TheVariants as load
 use Rattle.ped_answer.specs.declared.answering.Status.{Status}
 use Rattle.ped_answer.specs.declared.answering.Status.TheVariants.{Done, SomeRefused, BadWords, ReadFault, WriteFault, ProgramRefused, NoMemory, TooLong}
 use Rattle.ped_answer.specs.Answer.{Input, IsHeldWithin, IsTooLong, CannotRead, MayGive, AnswersInput, IsShown, IsSession, Sends}
+use Rattle.ped_answer.specs.Generated.{IsGenerated}
 use Rattle.ped_answer.specs.TestCounts.{TestsInput, Ticks, IsUntested}
 use Rattle.ped_answer.specs.Serving.{Call, HasFailed, SinkFailed, Served, SaysUnread, unread_status}
 use Rattle.ped_answer.proofs.Counting.{idle_ticks}
@@ -204,6 +205,17 @@ session_given text script data_bytes files failed ReadFault b h = absurd h
 session_given text script data_bytes files failed WriteFault b h = absurd h
 session_given text script data_bytes files failed NoMemory b h = absurd h
 session_given text script data_bytes files failed TooLong b h = absurd h
+
+-- what is answered on a program that is made may be given, since no file is read
+pub generated_given : (n : ℕ) (files : Contents) (failed : List ℕ → Type 0) (s : Status) (b : List ℕ) → IsGenerated n s b → MayGive [] files failed (IsGenerated n) s b
+generated_given n files failed Done b h = h
+generated_given n files failed ProgramRefused b h = h
+generated_given n files failed SomeRefused b h = absurd h
+generated_given n files failed BadWords b h = absurd h
+generated_given n files failed ReadFault b h = absurd h
+generated_given n files failed WriteFault b h = absurd h
+generated_given n files failed NoMemory b h = absurd h
+generated_given n files failed TooLong b h = absurd h
 
 -- no file is left, and the answer to the texts is given
 pub text_served : (answers : Status → List ℕ → Type 0) (tests : ℕ → Type 0) (call : Call)

@@ -2,5 +2,9 @@ mod Counting
 mod ExistenceLaws
 mod Inputs
 mod OneAnswer
+mod OneReport
 mod Outcomes
+mod Reports
+mod SameEnds
 mod ScriptRuns
+mod Tallying

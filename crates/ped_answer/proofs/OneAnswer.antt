@@ -15,8 +15,12 @@ use Rattle.ped_session.specs.Scripts.{Said, AnswersItems}
 use Rattle.ped_session.proofs.OneAnswer as items
 use Rattle.ped_answer.specs.declared.answering.Status.{Status}
 use Rattle.ped_answer.specs.declared.answering.Status.TheVariants.{Done, SomeRefused, BadWords, ReadFault, WriteFault, ProgramRefused, NoMemory, TooLong}
+use Rattle.ped_gen.specs.Generated.{program}
 use Rattle.ped_answer.specs.Refusals.{refused_line}
-use Rattle.ped_answer.specs.Answer.{Request, show, session, Input, source_input, data_input, cannot_read_line, too_long_line, IsJust, IsShown, AnswersScript, IsSession, AnswersInput, AnswersData, Answers}
+use Rattle.ped_answer.specs.Generated.{Reports, IsGenerated}
+use Rattle.ped_answer.proofs.OneReport.{one_report}
+use Rattle.ped_words.specs.Requests.{Request, show, session, generate}
+use Rattle.ped_answer.specs.Answer.{Input, source_input, data_input, cannot_read_line, too_long_line, IsJust, IsShown, AnswersScript, IsSession, AnswersInput, AnswersData, Answers}
 
 -- a text has one valid tree at most
 pub one_tree : (text : List ℕ) (t u : ProgramTree) → ReadsValid text t → ReadsValid text u → t ≡ u
@@ -100,6 +104,26 @@ one_session text script data_bytes WriteFault t a b p q = absurd p
 one_session text script data_bytes NoMemory t a b p q = absurd p
 one_session text script data_bytes TooLong t a b p q = absurd p
 
+-- a program that is made has one answer
+one_generated : (n : ℕ) (s t : Status) (a b : List ℕ) → IsGenerated n s a → IsGenerated n t b → (s ≡ t) × (a ≡ b)
+one_generated n Done Done a b p q =
+    (refl, one_report n q.0 a b (subst (λ (t : ProgramTree). Reports n t a) (one_tree (program n) p.0 q.0 p.1 q.1) p.2) q.2)
+one_generated n ProgramRefused ProgramRefused a b p q = (refl, p.2 ∙ ap refused_line (one_refusal (program n) p.0 q.0 p.1 q.1) ∙ sym q.2)
+one_generated n Done ProgramRefused a b p q = absurd (not_both (program n) p.0 q.0 p.1 q.1)
+one_generated n ProgramRefused Done a b p q = absurd (not_both (program n) q.0 p.0 q.1 p.1)
+one_generated n s SomeRefused a b p q = absurd q
+one_generated n s BadWords a b p q = absurd q
+one_generated n s ReadFault a b p q = absurd q
+one_generated n s WriteFault a b p q = absurd q
+one_generated n s NoMemory a b p q = absurd q
+one_generated n s TooLong a b p q = absurd q
+one_generated n SomeRefused t a b p q = absurd p
+one_generated n BadWords t a b p q = absurd p
+one_generated n ReadFault t a b p q = absurd p
+one_generated n WriteFault t a b p q = absurd p
+one_generated n NoMemory t a b p q = absurd p
+one_generated n TooLong t a b p q = absurd p
+
 -- there is one answer at most
 abbrev HasOne : (Status → List ℕ → Type 0) → Type 0
 HasOne answers = (s t : Status) (a b : List ℕ) → answers s a → answers t b → (s ≡ t) × (a ≡ b)
@@ -124,7 +148,8 @@ one_data (Some file) files answers one s t a b p q = one_input (data_input file)
 -- words and files have one answer
 pub one_answer : (request : Option Request) (files : Contents) (s t : Status) (a b : List ℕ) → Answers request files s a → Answers request files t b → (s ≡ t) × (a ≡ b)
 one_answer None files s t a b p q = (p.0 ∙ sym q.0, p.1 ∙ sym q.1)
-one_answer (Some (show program)) files s t a b p q = one_input (source_input program) files IsShown one_shown s t a b p q
-one_answer (Some (session program script data_file)) files s t a b p q =
-    one_input (source_input program) files (λ text. AnswersInput (source_input script) files (λ commands. AnswersData data_file files (IsSession text commands)))
+one_answer (Some (show name)) files s t a b p q = one_input (source_input name) files IsShown one_shown s t a b p q
+one_answer (Some (session name script data_file)) files s t a b p q =
+    one_input (source_input name) files (λ text. AnswersInput (source_input script) files (λ commands. AnswersData data_file files (IsSession text commands)))
     (λ text. one_input (source_input script) files (λ commands. AnswersData data_file files (IsSession text commands)) (λ commands. one_data data_file files (IsSession text commands) (one_session text commands))) s t a b p q
+one_answer (Some (generate number)) files s t a b p q = one_generated number s t a b p q

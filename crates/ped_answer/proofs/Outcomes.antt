@@ -13,8 +13,12 @@ use Rattle.ped_session.specs.ped_valid.specs.Validity.{ReadsValid, RefusesText}
 use Rattle.ped_session.specs.ped_transformations.specs.ped_script.specs.Items.{commands_of}
 use Rattle.ped_session.specs.States.{State, opened}
 use Rattle.ped_session.specs.Scripts.{Said, AnswersItems}
+use Rattle.ped_gen.specs.Generated as made
 use Rattle.ped_answer.specs.Refusals.{refused_line}
-use Rattle.ped_answer.specs.Answer.{Request, Input, inputs_of, IsOneOf, CannotRead, MayAnswer, Answers, IsFrontOfAnswer, IsOutcome, IsShown, IsSession, AnswersScript, IsJust, ShowsTree, usage_line}
+use Rattle.ped_answer.specs.Generated.{Reports, IsGenerated}
+use Rattle.ped_answer.specs.Tallies.{AnswersReport}
+use Rattle.ped_words.specs.Requests.{Request}
+use Rattle.ped_answer.specs.Answer.{Input, inputs_of, IsOneOf, CannotRead, MayAnswer, Answers, IsFrontOfAnswer, IsOutcome, IsShown, IsSession, AnswersScript, IsJust, ShowsTree, usage_line}
 use Rattle.ped_answer.specs.Serving.{AnswersFrom, session_status}
 
 module _ (A B : Status → List ℕ → Type 0) (weaker : (s : Status) (b : List ℕ) → A s b → B s b) where
@@ -58,6 +62,18 @@ refusal_shown text f refused s b h = subst (λ (x : Status). IsShown text x b) (
 -- and what a session on it answers
 pub refusal_answered : (text script data_bytes : List ℕ) (f : Finding) → RefusesText text f → (s : Status) (b : List ℕ) → IsJust ProgramRefused (refused_line f) s b → IsSession text script data_bytes s b
 refusal_answered text script data_bytes f refused s b h = subst (λ (x : Status). IsSession text script data_bytes x b) (sym h.0) (f, refused, h.1)
+
+-- its first refusal is what is answered on a program that is made and refused
+pub refusal_generated : (n : ℕ) (f : Finding) → RefusesText (made.program n) f → (s : Status) (b : List ℕ) → IsJust ProgramRefused (refused_line f) s b → IsGenerated n s b
+refusal_generated n f refused s b h = subst (λ (x : Status). IsGenerated n x b) (sym h.0) (f, refused, h.1)
+
+-- a report is what is answered on a program that is made
+pub report_generated : (n : ℕ) (s : Status) (b : List ℕ) → AnswersReport n s b → IsGenerated n s b
+report_generated n s b h = subst (λ (x : Status). IsGenerated n x b) (sym h.0) (h.1, h.2, h.3)
+
+-- what is written of a report is that report
+pub report_written : (n : ℕ) (t : ProgramTree) (bytes : List ℕ) → ReadsValid (made.program n) t → Reports n t bytes → (s : Status) (b : List ℕ) → IsJust Done bytes s b → AnswersReport n s b
+report_written n t bytes reads reports s b j = (j.0, t, reads, subst (Reports n t) (sym j.1) reports)
 
 -- what a script says is what it answers
 pub said_from : (state : State) (script data_bytes : List ℕ) (said : Said) (last : State) → AnswersItems (commands_of script) data_bytes state said last

@@ -10,7 +10,8 @@ use Rattle.ped_session.specs.Scripts.{Said, AnswersItems}
 use Rattle.ped_session.specs.RunsAsBefore.{AnswersAsBefore}
 use Rattle.ped_answer.specs.declared.answering.Status.{Status}
 use Rattle.ped_answer.specs.declared.answering.Status.TheVariants.{Done, SomeRefused, BadWords, ReadFault, WriteFault, ProgramRefused, NoMemory, TooLong}
-use Rattle.ped_answer.specs.Answer.{Request, show, session, Input, source_input, data_input, cannot_read_line, too_long_line, IsJust, AnswersScript, IsSession, AnswersInput, AnswersData, Answers, MayAnswer, IsOutcome}
+use Rattle.ped_words.specs.Requests.{Request, show, session, generate}
+use Rattle.ped_answer.specs.Answer.{Input, source_input, data_input, cannot_read_line, too_long_line, IsJust, AnswersScript, IsSession, AnswersInput, AnswersData, Answers, MayAnswer, IsOutcome}
 use Rattle.ped_answer.specs.ScriptRuns.{IsWhole, AreData, RunsSession, RunsRequest}
 
 -- what is answered whole to a file is answered to its bytes
@@ -89,6 +90,7 @@ pub request_runs : AsBefore → (request : Option Request) (files : Contents) (s
 request_runs as_before None files s b whole h = tt
 request_runs as_before (Some (show program)) files s b whole h = tt
 request_runs as_before (Some (session program script data_file)) files s b whole h = session_runs as_before program script data_file files s b whole h
+request_runs as_before (Some (generate number)) files s b whole h = tt
 
 -- and what was sent, where it was written whole
 pub sent_runs : AsBefore → (request : Option Request) (files : Contents) (failed : List ℕ → Type 0) (sink_failed : Type 0) (sent : List ℕ) (s : Status) → IsWhole s → IsOutcome (MayAnswer request files failed) sink_failed sent s → RunsRequest request files sent

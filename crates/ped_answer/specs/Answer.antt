@@ -2,7 +2,7 @@
 use Rattle.std.specs.Prelude.{◌≡◌, ◌⊎◌, ℕ, List, [], ◌∷◌, ◌++◌, length, codes, Bool, true, false, nat_lt, Option, Some, None, MatchOption, MatchBool}
 use Rattle.std.specs.Fmt.{decimal}
 use Rattle.ped_io.specs.Outside.{Contents, content}
-use Rattle.ped_words.specs.Requests as words
+use Rattle.ped_words.specs.Requests.{Request, show, session, generate}
 use Rattle.ped_session.specs.ped_tree.specs.Tree.{ProgramTree}
 use Rattle.ped_session.specs.ped_tree.specs.Grammar.Refusal.{Finding}
 use Rattle.ped_session.specs.ped_valid.specs.Validity.{ReadsValid, RefusesText}
@@ -13,22 +13,7 @@ use Rattle.ped_session.specs.Scripts.{Said, AnswersItems}
 use Rattle.ped_answer.specs.declared.answering.Status.{Status}
 use Rattle.ped_answer.specs.declared.answering.Status.TheVariants.{Done, SomeRefused, BadWords, ReadFault, WriteFault, ProgramRefused, NoMemory, TooLong}
 use Rattle.ped_answer.specs.Refusals.{refused_line}
-
--- what words ask for, so far as it is built: both panes of the program in this file; or the answers to a script on a program, with a file of data or none
-pub data Request : Type 0 where
-  show : List ℕ → Request
-  session : List ℕ → List ℕ → Option (List ℕ) → Request
-
--- what words ask for, so far as it is built
-abbrev pub built : Option words.Request → Option Request
-built None = None
-built (Some (words.show program)) = Some (show program)
-built (Some (words.session program script data_file)) = Some (session program script data_file)
-built (Some (words.generate number)) = None
-
--- what the words behind the program's name ask for, where they are of the form and it is built
-abbrev pub request_of : List (List ℕ) → Option Request
-request_of words_given = built (words.request_of words_given)
+use Rattle.ped_answer.specs.Generated.{IsGenerated}
 
 -- a file that a request reads, and the most bytes that it may have
 pub record Input : Type 0 where
@@ -53,6 +38,7 @@ abbrev pub inputs_of : Option Request → List Input
 inputs_of None = []
 inputs_of (Some (show program)) = source_input program ∷ []
 inputs_of (Some (session program script data_file)) = source_input program ∷ source_input script ∷ data_inputs data_file
+inputs_of (Some (generate number)) = []
 
 -- the name of one of these files
 abbrev pub IsOneOf : List Input → List ℕ → Type 0
@@ -124,6 +110,7 @@ Answers None files status bytes = IsJust BadWords usage_line status bytes
 Answers (Some (show program)) files status bytes = AnswersInput (source_input program) files IsShown status bytes
 Answers (Some (session program script data_file)) files status bytes =
     AnswersInput (source_input program) files (λ text. AnswersInput (source_input script) files (λ commands. AnswersData data_file files (IsSession text commands))) status bytes
+Answers (Some (generate number)) files status bytes = IsGenerated number status bytes
 
 -- a file is there and has no more bytes than it may have
 pub record IsHeldWithin (i : Input) (files : Contents) : Type 0 where

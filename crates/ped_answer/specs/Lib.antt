@@ -1,9 +1,13 @@
+pub use Rattle.ped_gen
 pub use Rattle.ped_io
 pub use Rattle.ped_session
+pub use Rattle.ped_words
 pub mod Answer
 pub mod Existence
+pub mod Generated
 pub mod Refusals
 pub mod ScriptRuns
 pub mod Serving
 pub mod Statuses
+pub mod Tallies
 pub mod TestCounts

@@ -1,6 +1,7 @@
 -- What the runs of a script show, where the answer to a session is written whole (this project).
 use Rattle.std.specs.Prelude.{◌≡◌, ℕ, List, [], Option, Some, None, ⊤}
 use Rattle.ped_io.specs.Outside.{Contents, content}
+use Rattle.ped_words.specs.Requests.{Request, show, session, generate}
 use Rattle.ped_session.specs.ped_tree.specs.Tree.{ProgramTree}
 use Rattle.ped_session.specs.ped_valid.specs.Validity.{ReadsValid}
 use Rattle.ped_session.specs.ped_transformations.specs.ped_script.specs.Items.{commands_of}
@@ -9,7 +10,6 @@ use Rattle.ped_session.specs.Scripts.{Said}
 use Rattle.ped_session.specs.RunsAsBefore.{AnswersAsBefore}
 use Rattle.ped_answer.specs.declared.answering.Status.{Status}
 use Rattle.ped_answer.specs.declared.answering.Status.TheVariants.{Done, SomeRefused, BadWords, ReadFault, WriteFault, ProgramRefused, NoMemory, TooLong}
-use Rattle.ped_answer.specs.Answer.{Request, show, session}
 
 -- the endings of an answer on a program that was written whole
 abbrev pub IsWhole : Status → Type 0
@@ -47,3 +47,4 @@ abbrev pub RunsRequest : Option Request → Contents → List ℕ → Type 0
 RunsRequest None files bytes = ⊤
 RunsRequest (Some (show program)) files bytes = ⊤
 RunsRequest (Some (session program script data_file)) files bytes = RunsSession program script data_file files bytes
+RunsRequest (Some (generate number)) files bytes = ⊤

@@ -1,5 +1,5 @@
 -- What a call reads, gives and counts where files are read in order. Contracts of private functions alone speak of it (this project).
-use Rattle.std.specs.Prelude.{◌≡◌, ◌≢◌, ◌≤◌, ℕ, List, Bool, true, false, Option, Some, None, option_map}
+use Rattle.std.specs.Prelude.{◌≡◌, ◌≢◌, ◌≤◌, ℕ, List, Bool, true, false, Option, Some, None}
 use Rattle.ped_io.specs.Outside.{Contents, IsHeld, Rose}
 use Rattle.ped_io.specs.declared.loading.LoadError.{LoadError}
 use Rattle.ped_io.specs.declared.loading.LoadError.TheVariants as load
@@ -8,15 +8,9 @@ use Rattle.ped_session.specs.States.{State}
 use Rattle.ped_session.specs.Scripts.{Said, AnswersItems}
 use Rattle.ped_answer.specs.declared.answering.Status.{Status}
 use Rattle.ped_answer.specs.declared.answering.Status.TheVariants.{Done, SomeRefused, BadWords, ReadFault, WriteFault, NoMemory, TooLong}
-use Rattle.ped_answer.specs.declared.asking.Asked.{Asked}
-use Rattle.ped_answer.specs.declared.asking.Asked.TheVariants.{Show, Session}
-use Rattle.ped_answer.specs.Answer.{Request, show, session, Input, inputs_of, IsOneOf, HoldsTooMany, MayGive, Answers, Sends, IsJust, cannot_read_line, too_long_line}
+use Rattle.ped_words.specs.Requests.{Request}
+use Rattle.ped_answer.specs.Answer.{Input, inputs_of, IsOneOf, HoldsTooMany, MayGive, Answers, Sends, IsJust, cannot_read_line, too_long_line}
 use Rattle.ped_answer.specs.TestCounts.{Tests, Ticks, IsUntested}
-
--- what is asked for, with names as their bytes
-abbrev pub asked_view : Asked → Request
-asked_view (Show program) = show program.now
-asked_view (Session program script data_file) = session program.now script.now (option_map (λ file. file.now) data_file)
 
 -- a call: the files that its shelf tells, each name's count of faults before and after it, the bytes that its sink has taken and its count of faults before and after it, the tests counted before and after it, and how it ended
 pub record Call : Type 0 where

@@ -10,7 +10,10 @@ use Rattle.ped_answer.specs.declared.answering.Status.TheVariants.{Done, SomeRef
 use Rattle.ped_session.specs.ped_transformations.specs.ped_script.specs.Items.{commands_of}
 use Rattle.ped_session.specs.States.{State, opened}
 use Rattle.ped_session.specs.Scripts.{Said, AnswersItems}
-use Rattle.ped_answer.specs.Answer.{Request, show, session, Input, source_input, data_input}
+use Rattle.ped_words.specs.Requests.{Request, show, session, generate}
+use Rattle.ped_gen.specs.Generated as made
+use Rattle.ped_answer.specs.Answer.{Input, source_input, data_input}
+use Rattle.ped_answer.specs.Generated.{Tally, Applies}
 
 -- how many tests a text takes: one for each ordered pair of references of its valid tree, and none where it is refused (Allen and Kennedy, section 3.2; this project)
 pub data TestsText (text : List ℕ) (n : ℕ) : Type 0 where
@@ -22,6 +25,12 @@ pub data TestsSession (text script data_bytes : List ℕ) (n : ℕ) : Type 0 whe
   of_script : (t : ProgramTree) → ReadsValid text t → (said : Said) (last : State) → AnswersItems (commands_of script) data_bytes (opened t) said last
       → n ≡ pair_count (references t) + said.tests → TestsSession text script data_bytes n
   of_refused_program : (f : Finding) → RefusesText text f → n ≡ 0 → TestsSession text script data_bytes n
+
+-- how many tests a program that is made takes: one for each ordered pair of references, and those that its script takes; and none where its text is refused (Allen and Kennedy, section 3.2; this project)
+pub data TestsGenerated (size n : ℕ) : Type 0 where
+  of_report : (t : ProgramTree) → ReadsValid (made.program size) t → (tally : Tally) (last : State) → Applies (commands_of (made.script size)) (opened t) tally last
+      → n ≡ pair_count (references t) + tally.tests → TestsGenerated size n
+  of_refused_text : (f : Finding) → RefusesText (made.program size) f → n ≡ 0 → TestsGenerated size n
 
 -- how many tests are made where a file is read: none where it isn't there or has too many bytes (this project)
 abbrev pub TestsInput : Input → Contents → (List ℕ → ℕ → Type 0) → ℕ → Type 0
@@ -38,6 +47,7 @@ Tests None files n = n ≡ 0
 Tests (Some (show program)) files n = TestsInput (source_input program) files TestsText n
 Tests (Some (session program script data_file)) files n =
     TestsInput (source_input program) files (λ text. TestsInput (source_input script) files (λ commands. TestsData data_file files (TestsSession text commands))) n
+Tests (Some (generate number)) files n = TestsGenerated number n
 
 -- by how a call ended, where the counter stood before it and stands after it, when the answer takes so many tests: as many more after an answer to a program, none more after any other, and at most as many where the sink failed or memory ran out (this project)
 abbrev pub Ticks : Status → ℕ → ℕ → ℕ → Type 0

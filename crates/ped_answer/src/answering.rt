@@ -3,19 +3,21 @@
 ghost use Rattle.std.specs.Prelude.{◌≡◌, ◌≢◌, ◌⊎◌, ◌++◌, ◌≤◌, ℕ, List, Option, Some, None, map, string_bytes};
 ghost use Rattle.ped_io.specs.Outside.{Contents, IsHeld, Rose};
 ghost use Rattle.ped_io.specs.Shelves.{all_names};
-ghost use Rattle.ped_answer.specs.Answer;
-ghost use Rattle.ped_answer.specs.Answer.{request_of, inputs_of, IsOneOf, HoldsTooMany, Answers, MayAnswer, Sends};
+ghost use Rattle.ped_words.specs.Requests as plain;
+ghost use Rattle.ped_words.specs.Requests.{request_of};
+ghost use Rattle.ped_words.specs.Views.{request_view, IsSized};
+ghost use Rattle.ped_answer.specs.Answer.{inputs_of, IsOneOf, HoldsTooMany, Answers, MayAnswer, Sends};
 ghost use Rattle.ped_answer.specs.ScriptRuns.{IsWhole, RunsRequest};
 ghost use Rattle.ped_answer.specs.TestCounts.{Tests, Ticks, IsUntested};
-ghost use Rattle.ped_answer.specs.Serving.{asked_view, ServedRequest};
+ghost use Rattle.ped_answer.specs.Serving.{ServedRequest};
 
-use crate::asking::{Asked, asked_for};
 use crate::finishing::finish;
+use crate::generating::answer_size;
 use crate::sessions::answer_files;
 use crate::showing::show_file;
 use ped_io::{Shelf, Sink, SureShelf, SureSink};
 use ped_session::ped_verdict::Steps;
-use ped_words::WordsError;
+use ped_words::{Request, WordsError, request};
 use std::alloc::Global;
 use std::sync::ledger::Ledger;
 
@@ -117,7 +119,7 @@ pub fn ped_main<F: Shelf, K: Sink, L: Ledger>(
     ensures steps { steps.old ≤ steps.new }
 {
     ped_session::runs_are_as_before();
-    match asked_for(alloc, words) {
+    match request(alloc, words) {
         Ok(asked) => serve(alloc, asked, shelf, out, steps),
         Err(WordsError::Bad) => finish(out, USAGE, Status::BadWords),
         Err(WordsError::NoMemory) => Status::NoMemory,
@@ -126,7 +128,7 @@ pub fn ped_main<F: Shelf, K: Sink, L: Ledger>(
 
 /// Words and files have one answer: one status and one text.
 pub fn one_answer()
-    ensures { (request : Option Answer.Request) (files : Contents) (s t : Status) (a b : List ℕ) →
+    ensures { (request : Option plain.Request) (files : Contents) (s t : Status) (a b : List ℕ) →
         Answers request files s a → Answers request files t b → (s ≡ t) × (a ≡ b) }
 {}
 
@@ -134,7 +136,7 @@ pub fn one_answer()
 /// by transformations alone, if they are tidy and without C$PED REJECT and run on the data without a fault and without a
 /// race.
 pub fn runs_are_as_before()
-    ensures { (request : Option Answer.Request) (files : Contents) (s : Status) (bytes : List ℕ) → IsWhole s →
+    ensures { (request : Option plain.Request) (files : Contents) (s : Status) (bytes : List ℕ) → IsWhole s →
         Answers request files s bytes → RunsRequest request files bytes }
 {
     ped_session::runs_are_as_before();
@@ -166,12 +168,13 @@ const USAGE: &[u8] =
 /// Answers what is asked for.
 fn serve<F: Shelf, K: Sink, L: Ledger>(
     alloc: Global,
-    asked: Asked<'_>,
+    asked: Request<'_>,
     shelf: &mut F,
     out: &mut K,
     steps: &mut Steps<L>,
 ) -> Status
-    ensures served { ServedRequest (asked_view asked.entry) (record {
+    requires { IsSized asked }
+    ensures served { ServedRequest (request_view asked.entry) (record {
       told = F.told shelf.old;
       counts = F.count shelf.old;
       counts_after = F.count shelf.new;
@@ -186,11 +189,12 @@ fn serve<F: Shelf, K: Sink, L: Ledger>(
     ensures same { F.told shelf.new ≡ F.told shelf.old }
 {
     match asked {
-        Asked::Show { program } => show_file(alloc, program, shelf, out, steps),
-        Asked::Session {
+        Request::Show { program } => show_file(alloc, program, shelf, out, steps),
+        Request::Session {
             program,
             script,
             data,
         } => answer_files(alloc, program, script, data, shelf, out, steps),
+        Request::Generate(size) => answer_size(alloc, size, out, steps),
     }
 }

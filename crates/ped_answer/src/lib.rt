@@ -4,14 +4,17 @@
 #![tactic(auto)]
 
 mod answering;
-mod asking;
+mod endings;
 mod existence;
 mod finishing;
+mod generating;
 mod loading;
 mod panes;
 mod refusals;
+mod reporting;
 mod sessions;
 mod showing;
+mod tallies;
 
 pub use answering::{Status, answer_surely, one_answer, ped_main, runs_are_as_before};
 pub use existence::{

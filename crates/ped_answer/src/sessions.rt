@@ -5,7 +5,8 @@ ghost use Rattle.ped_io.specs.Outside.{Rose};
 ghost use Rattle.ped_session.specs.ped_transformations.specs.ped_script.specs.Items.{commands_of};
 ghost use Rattle.ped_session.specs.States.{State};
 ghost use Rattle.ped_session.specs.Scripts.{Said, AnswersItems};
-ghost use Rattle.ped_answer.specs.Answer.{session, source_input, data_input, data_inputs, AnswersInput, AnswersData, IsSession, Sends};
+ghost use Rattle.ped_words.specs.Requests.{session};
+ghost use Rattle.ped_answer.specs.Answer.{source_input, data_input, data_inputs, AnswersInput, AnswersData, IsSession, Sends};
 ghost use Rattle.ped_answer.specs.TestCounts.{TestsInput, TestsData, TestsSession, Ticks, IsUntested};
 ghost use Rattle.ped_answer.specs.Serving.{Served, ServedRequest, AnswersFrom, session_status};
 

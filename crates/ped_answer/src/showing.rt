@@ -6,7 +6,8 @@ ghost use Rattle.ped_session.specs.ped_tree.specs.Views.{program_tree};
 ghost use Rattle.ped_session.specs.ped_symbols.specs.NameRefusals.{IsValid};
 ghost use Rattle.ped_session.specs.ped_symbols.specs.Kinds.{table_of};
 ghost use Rattle.ped_session.specs.ped_refs.specs.References.{references, pair_count};
-ghost use Rattle.ped_answer.specs.Answer.{show, Sends, IsShown, ShowsTree};
+ghost use Rattle.ped_words.specs.Requests.{show};
+ghost use Rattle.ped_answer.specs.Answer.{Sends, IsShown, ShowsTree};
 ghost use Rattle.ped_answer.specs.TestCounts.{TestsText, Ticks, IsUntested};
 ghost use Rattle.ped_answer.specs.Serving.{ServedRequest};
 

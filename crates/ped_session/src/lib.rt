@@ -30,7 +30,8 @@ pub use laws::{
     sources_keep_the_meaning, transformations_keep_the_meaning, undo_restores,
 };
 pub use ped_base;
-pub use ped_order::an_interleaving;
+pub use ped_order::ped_eval::{LiveRow, Outcome};
+pub use ped_order::{an_interleaving, without_choices};
 pub use ped_print;
 pub use ped_script;
 pub use ped_transformations::ped_reindex::ped_loops::ped_scalar::ped_rules::ped_loop_runs::ped_tidy::ped_pasting::ped_bodies::ped_steps::ped_weaves::ped_laws::ped_graph;

@@ -6,10 +6,14 @@ use Rattle.ped_answer.specs.ped_session.specs.ped_valid.specs.Verdicts.{HasOneVa
 use Rattle.ped_answer.specs.ped_session.specs.ped_valid.proofs.OneVerdict.{one_of_both}
 use Rattle.ped_answer.specs.ped_session.specs.ped_transformations.specs.ped_script.specs.Items.{commands_of}
 use Rattle.ped_answer.proofs.ExistenceLaws.Replying.{SomeOutcome, panes, answers_of_script}
+use Rattle.ped_answer.proofs.ExistenceLaws.Reporting.{some_report}
 use Rattle.ped_answer.specs.declared.answering.Status.{Status}
 use Rattle.ped_answer.specs.declared.answering.Status.TheVariants.{Done, SomeRefused, BadWords, ReadFault, ProgramRefused, TooLong}
 use Rattle.ped_answer.specs.Refusals.{refused_line}
-use Rattle.ped_answer.specs.Answer.{Request, show, session, Input, source_input, data_input, usage_line, cannot_read_line, too_long_line, IsJust, IsShown, AnswersScript, IsSession, AnswersInput, AnswersData, Answers}
+use Rattle.ped_answer.specs.Generated.{IsGenerated}
+use Rattle.ped_gen.specs.Generated.{program}
+use Rattle.ped_answer.specs.ped_words.specs.Requests.{Request, show, session, generate}
+use Rattle.ped_answer.specs.Answer.{Input, source_input, data_input, usage_line, cannot_read_line, too_long_line, IsJust, IsShown, AnswersScript, IsSession, AnswersInput, AnswersData, Answers}
 
 -- there is an answer
 abbrev HasSome : (Status → List ℕ → Type 0) → Type 0
@@ -37,6 +41,14 @@ some_session comes text script data_bytes = by (one_of_both text)
         said_by text script data_bytes said.refused said.bytes (record { tree = h.tree; reads = h.reads; said = said; last = last; answers = answers; says = refl; some = refl })
     by (inr h) = (ProgramRefused, refused_line h.first, (h.first, h.refuses, refl))
 
+-- a program that is made has its report, or a refusal
+some_generated : SomeOutcome → (n : ℕ) → HasSome (IsGenerated n)
+some_generated comes n = by (one_of_both (program n))
+  where
+    by : HasOneValidTree (program n) ⊎ HasOneFirstRefusal (program n) → HasSome (IsGenerated n)
+    by (inl h) = let report = some_report comes n h.tree h.reads.valid in (Done, report.0, (h.tree, h.reads, report.1))
+    by (inr h) = (ProgramRefused, refused_line h.first, (h.first, h.refuses, refl))
+
 -- there is an answer to a file where there is one to its bytes, by whether they are too many
 some_by : (i : Input) (answers : Status → List ℕ → Type 0) → HasSome answers → (long : Bool) → HasSome (λ s b. MatchBool long (IsJust TooLong (too_long_line i) s b) (answers s b))
 some_by i answers some true = (TooLong, too_long_line i, (refl, refl))
@@ -57,7 +69,8 @@ some_data (Some file) files answers some = some_input (data_input file) files an
 -- words and files have an answer
 pub some_answer : SomeOutcome → (request : Option Request) (files : Contents) → HasSome (Answers request files)
 some_answer comes None files = (BadWords, usage_line, (refl, refl))
-some_answer comes (Some (show program)) files = some_input (source_input program) files IsShown some_shown
-some_answer comes (Some (session program script data_file)) files =
-    some_input (source_input program) files (λ text. AnswersInput (source_input script) files (λ commands. AnswersData data_file files (IsSession text commands)))
+some_answer comes (Some (show name)) files = some_input (source_input name) files IsShown some_shown
+some_answer comes (Some (session name script data_file)) files =
+    some_input (source_input name) files (λ text. AnswersInput (source_input script) files (λ commands. AnswersData data_file files (IsSession text commands)))
     (λ text. some_input (source_input script) files (λ commands. AnswersData data_file files (IsSession text commands)) (λ commands. some_data data_file files (IsSession text commands) (some_session comes text commands)))
+some_answer comes (Some (generate number)) files = some_generated comes number

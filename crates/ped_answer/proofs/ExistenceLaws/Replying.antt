@@ -48,7 +48,7 @@ abbrev IsPrintedOther : Other → Type 0
 IsPrintedOther o = IsPrinted o.0
 
 -- a printed text reads as its program
-reads_printed : (text : List ℕ) → IsPrinted text → (t : ProgramTree) × ReadsValid text t
+pub reads_printed : (text : List ℕ) → IsPrinted text → (t : ProgramTree) × ReadsValid text t
 reads_printed text (t, valid, e) = (t, subst (λ (bytes : List ℕ). ReadsValid bytes t) (sym e) ((valid_prints t valid t).1 refl))
 
 pub panes : (t : ProgramTree) → (bytes : List ℕ) × ArePanes t bytes

@@ -12,7 +12,8 @@ ghost use Rattle.ped_answer.specs.ped_session.specs.Steps.{IsStep};
 ghost use Rattle.ped_answer.specs.ped_session.specs.Histories.{ArePrinted};
 ghost use Rattle.ped_answer.specs.ped_session.specs.Scripts.{Said, AnswersItems};
 ghost use Rattle.ped_answer.specs.declared.answering.Status.{Status};
-ghost use Rattle.ped_answer.specs.Answer.{Request, Answers};
+ghost use Rattle.ped_answer.specs.ped_words.specs.Requests.{Request};
+ghost use Rattle.ped_answer.specs.Answer.{Answers};
 
 use ped_session::an_interleaving;
 

@@ -1,7 +1,8 @@
 use Rattle.std.proofs.Common.{ℕ, List, map, string_bytes, Option, Err, ap, subst, sym}
 use Rattle.ped_io.specs.Outside.{Rose}
 use Rattle.ped_answer.specs.declared.answering.Status.TheVariants.{BadWords}
-use Rattle.ped_answer.specs.Answer.{Request, request_of, inputs_of, MayAnswer, Answers, IsJust, usage_line}
+use Rattle.ped_words.specs.Requests.{Request, request_of}
+use Rattle.ped_answer.specs.Answer.{inputs_of, MayAnswer, Answers, IsJust, usage_line}
 use Rattle.ped_answer.specs.TestCounts.{Tests}
 use Rattle.ped_answer.specs.Serving.{Call, Served}
 use Rattle.ped_answer.proofs.Counting.{idle_writing}

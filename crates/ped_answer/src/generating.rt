@@ -1,0 +1,107 @@
+//! Programs that are made: a session is opened on one, its script is applied, and the report is written.
+
+ghost use Rattle.std.specs.Prelude.{◌≡◌, ◌⊎◌, ◌≤◌, ℕ, List, Some, None};
+ghost use Rattle.ped_io.specs.Outside.{Rose};
+ghost use Rattle.ped_gen.specs.Generated as made;
+ghost use Rattle.ped_session.specs.ped_tree.specs.Tree.{ProgramTree};
+ghost use Rattle.ped_session.specs.ped_valid.specs.Validity.{ReadsValid};
+ghost use Rattle.ped_session.specs.ped_transformations.specs.ped_script.specs.Items.{commands_of};
+ghost use Rattle.ped_session.specs.States.{State, opened};
+ghost use Rattle.ped_answer.specs.Answer.{Sends};
+ghost use Rattle.ped_answer.specs.Generated as Spec;
+ghost use Rattle.ped_answer.specs.Generated.{Applies, IsGenerated};
+ghost use Rattle.ped_answer.specs.Tallies.{AnswersReport};
+ghost use Rattle.ped_answer.specs.TestCounts.{TestsGenerated, Ticks, IsUntested};
+
+use crate::answering::Status;
+use crate::finishing::finish;
+use crate::refusals::is_refused;
+use crate::reporting::report;
+use ped_io::Sink;
+use ped_session::Session;
+use ped_session::ped_base::NoMemory;
+use ped_session::ped_valid::OpenRefusal;
+use ped_session::ped_verdict::Steps;
+use std::alloc::Global;
+use std::sync::ledger::Ledger;
+
+/// Answers on the program of this size.
+pub fn answer_size<K: Sink, L: Ledger>(
+    alloc: Global,
+    size: u32,
+    out: &mut K,
+    steps: &mut Steps<L>,
+) -> Status
+    requires { (1 ≤ size) × (size ≤ 300) }
+    ensures answer { (before : List ℕ) → K.taken out.old ≡ Some before →
+        Sends (IsGenerated size)
+        (Rose (K.faults out.old) (K.faults out.new)) before (K.taken out.new) result }
+    ensures ends { (result ≡ Status.Done) ⊎ (result ≡ Status.ProgramRefused)
+        ⊎ (result ≡ Status.WriteFault) ⊎ (result ≡ Status.NoMemory) }
+    ensures write_fault { result ≡ Status.WriteFault → Rose (K.faults out.old) (K.faults out.new) }
+    ensures faults { K.faults out.old ≤ K.faults out.new }
+    ensures untold { K.taken out.old ≡ None → K.taken out.new ≡ None }
+    ensures tests { (n : ℕ) → TestsGenerated size n → Ticks result steps.old steps.new n }
+    ensures untested { IsUntested result → steps.new ≡ steps.old }
+    ensures steps { steps.old ≤ steps.new }
+{
+    match ped_gen::program(alloc, size) {
+        Ok(text) => answer_program(alloc, size, text.as_slice(), out, steps),
+        Err(NoMemory) => Status::NoMemory,
+    }
+}
+
+/// Answers on the program of this size, whose text this is.
+fn answer_program<K: Sink, L: Ledger>(
+    alloc: Global,
+    size: u32,
+    text: &[u8],
+    out: &mut K,
+    steps: &mut Steps<L>,
+) -> Status
+    requires size { (1 ≤ size) × (size ≤ 300) }
+    requires text { text.now ≡ made.program size }
+    ensures answer { (before : List ℕ) → K.taken out.old ≡ Some before →
+        Sends (IsGenerated size)
+        (Rose (K.faults out.old) (K.faults out.new)) before (K.taken out.new) result }
+    ensures ends { (result ≡ Status.Done) ⊎ (result ≡ Status.ProgramRefused)
+        ⊎ (result ≡ Status.WriteFault) ⊎ (result ≡ Status.NoMemory) }
+    ensures write_fault { result ≡ Status.WriteFault → Rose (K.faults out.old) (K.faults out.new) }
+    ensures faults { K.faults out.old ≤ K.faults out.new }
+    ensures untold { K.taken out.old ≡ None → K.taken out.new ≡ None }
+    ensures tests { (n : ℕ) → TestsGenerated size n → Ticks result steps.old steps.new n }
+    ensures untested { IsUntested result → steps.new ≡ steps.old }
+    ensures steps { steps.old ≤ steps.new }
+{
+    match Session::open(alloc, text, steps) {
+        Ok(mut session) => answer_session(alloc, size, &mut session, out, steps),
+        Err(OpenRefusal::At(refusal)) => is_refused(alloc, refusal, out),
+        Err(OpenRefusal::NoMemory) => Status::NoMemory,
+    }
+}
+
+/// Answers in a session that was opened on the program of this size.
+fn answer_session<K: Sink, L: Ledger>(
+    alloc: Global,
+    size: u32,
+    session: &mut Session<L>,
+    out: &mut K,
+    steps: &mut Steps<L>,
+) -> Status
+    requires size { (1 ≤ size) × (size ≤ 300) }
+    requires opened { (t : ProgramTree) × ReadsValid (made.program size) t × (session.old ≡ opened t) }
+    ensures answer { (before : List ℕ) → K.taken out.old ≡ Some before →
+        Sends (AnswersReport size)
+        (Rose (K.faults out.old) (K.faults out.new)) before (K.taken out.new) result }
+    ensures ends { (result ≡ Status.Done) ⊎ (result ≡ Status.WriteFault) ⊎ (result ≡ Status.NoMemory) }
+    ensures write_fault { result ≡ Status.WriteFault → Rose (K.faults out.old) (K.faults out.new) }
+    ensures faults { K.faults out.old ≤ K.faults out.new }
+    ensures untold { K.taken out.old ≡ None → K.taken out.new ≡ None }
+    ensures tests { (tally : Spec.Tally) (last : State) → Applies (commands_of (made.script size)) session.old tally last → Ticks result steps.old steps.new tally.tests }
+    ensures steps { steps.old ≤ steps.new }
+{
+    match report(alloc, size, session, steps) {
+        Ok(bytes) => finish(out, bytes.as_slice(), Status::Done),
+        Err(NoMemory) => Status::NoMemory,
+    }
+}

@@ -1,0 +1,12 @@
+      PROGRAM FIELD
+C     THE CHEAPEST WAY FROM THE UPPER OR THE LEFT EDGE TO EACH PLACE.
+      PARAMETER (N=4)
+      INTEGER A(N,N)
+      SAVE A
+      DO 10 I=1,N
+      DO 10 J=1,N
+   10 A(I,J)=MOD(I*J,3)+1
+      DO 20 I=2,N
+      DO 20 J=2,N
+   20 A(I,J)=A(I,J)+MIN(A(I-1,J),A(I,J-1))
+      END

@@ -8,7 +8,7 @@ use Rattle.ped_reindex.specs.ped_loops.specs.ped_scalar.specs.ped_rules.specs.pe
 use Rattle.ped_reindex.specs.ped_loops.specs.ped_scalar.specs.ped_rules.specs.ped_loop_runs.specs.ped_tidy.specs.ped_pasting.specs.ped_bodies.specs.ped_steps.proofs.Answering.{few_numbers}
 use Rattle.ped_splits.specs.Units.{units}
 use Rattle.ped_splits.specs.CodeUnits.{AreBelow, body_of, unit_tree}
-use Rattle.ped_splits.specs.Distributing.{distributed}
+use Rattle.ped_splits.specs.Distributing.{distributed, sources, kept_from}
 use Rattle.ped_splits.proofs.BlockSizes.{found_below, sources_short}
 use Rattle.ped_splits.proofs.DistributeAnswers.{distributed_program}
 use Rattle.ped_splits.proofs.distributing.distributed.Goals as goal
@@ -39,5 +39,5 @@ returns g c =
     let u = distributed t s found in
     let made = ap stmt_trees c.deref.ensures.value ∙ c.in_ok-loops.ensures in
     let tree = c.in_ok-tree.ensures.tree ∙ distributed_program t s found h body (stmt_trees c.deref.result.now) c.requires.parted.is made in
-    subst (λ (k : List (ℕ × ℕ)). IfOk c.change_to.result (λ (change : Option Change). MatchOption change (IsValid u → ⊥) (IsChange u k))) c.in_ok-keep.ensures
+    subst (λ (k : List (ℕ × ℕ)). IfOk c.change_to.result (λ (change : Option Change). MatchOption change (IsValid u → ⊥) (IsChange u k))) {x = c.in_ok-keep.keep} {y = kept_from 1 (sources t s body found)} c.in_ok-keep.ensures
     (subst (λ (v : ProgramTree). IfOk c.change_to.result (λ (change : Option Change). MatchOption change (IsValid v → ⊥) (IsChange v c.in_ok-keep.keep))) tree c.change_to.ensures)

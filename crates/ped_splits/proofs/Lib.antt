@@ -18,6 +18,11 @@ mod Contained
 mod UnitTests
 mod DistributeTrusted
 mod KeptArrows
+mod SplitFacts
+mod SplitNumbers
+mod SplitStands
+mod SplitRaces
+mod SplitKeeps
 mod DistributedKinds
 pub mod Existence
 pub mod Determined

@@ -18,15 +18,15 @@ use Rattle.ped_splits.proofs.BlockOrders.{all_by}
 use Rattle.ped_splits.proofs.Partitions.{tally, flat, sum_plus, sum_none, later_none, one_at_most, one_home, sums_below}
 
 -- how often a number stands among numbers
-abbrev times : ℕ → List ℕ → ℕ
+abbrev pub times : ℕ → List ℕ → ℕ
 times v ks = sum_by (λ k. tally (v == k)) ks
 
 -- this number, where there is one
-abbrev is_number : ℕ → Option ℕ → Bool
+abbrev pub is_number : ℕ → Option ℕ → Bool
 is_number v None = false
 is_number v (Some k) = v == k
 
-abbrev times_in : ℕ → List (Option ℕ) → ℕ
+abbrev pub times_in : ℕ → List (Option ℕ) → ℕ
 times_in v os = sum_by (λ o. tally (is_number v o)) os
 
 module _ (v : ℕ) where
@@ -83,7 +83,7 @@ module _ (v : ℕ) where
         omega (arith, none, same)
 
     -- in the units together it stands no more often than among the statements
-    unit_times : (n : ℕ) (ks : List ℕ) → sum_by (λ i. times v (filter (stands_in s body i) ks)) (range_with_len 0 n) ≤ times v ks
+    pub unit_times : (n : ℕ) (ks : List ℕ) → sum_by (λ i. times v (filter (stands_in s body i) ks)) (range_with_len 0 n) ≤ times v ks
     unit_times n [] = let none = sum_none (range_with_len 0 n) in omega (arith, none)
     unit_times n (k ∷ ks) =
         let rest = unit_times n ks in
@@ -113,7 +113,7 @@ module _ (v : ℕ) where
         let parts = sum_by-append in_unit b (flat bs) in
         omega (arith, rest, here, whole, parts)
 
-    loops_times : (bs : List (List ℕ)) → times_in v (loop_sources s body bs) ≤ tally (v == s) + sum_by in_unit (flat bs)
+    pub loops_times : (bs : List (List ℕ)) → times_in v (loop_sources s body bs) ≤ tally (v == s) + sum_by in_unit (flat bs)
     loops_times [] = omega arith
     loops_times (b ∷ bs) =
         let rest = others_times bs in

@@ -19,6 +19,7 @@ mod UnitTests
 mod DistributeTrusted
 mod KeptArrows
 mod SplitFacts
+mod SplitUnits
 mod SplitNumbers
 mod SplitStands
 mod SplitRaces

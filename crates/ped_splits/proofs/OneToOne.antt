@@ -133,6 +133,19 @@ module _ (v : ℕ) where
     at_most_one true = omega arith
     at_most_one false = omega arith
 
+    -- each number stands among the sources of the DO loops once at most
+    pub loops_once : (reach : List (List Bool)) → times_in v (loop_sources s body (blocks reach)) ≤ 1
+    loops_once reach =
+        let loops = loops_times (blocks reach) in
+        let sum : sum_by in_unit (flat (blocks reach)) ≤ sum_by in_unit (range_with_len 0 (length reach)) = sums_below reach in_unit (length reach) (range_with_len 0 (length reach)) in
+        let parted : sum_by in_unit (range_with_len 0 (length reach)) ≤ times v (range_with_len (s + 1) (statements_count body)) = unit_times (length reach) (range_with_len (s + 1) (statements_count body)) in
+        let all = by (cases_lt s v) in
+        omega (arith, loops, sum, parted, all)
+      where
+        by : (s < v) ⊎ (v ≤ s) → tally (v == s) + times v (range_with_len (s + 1) (statements_count body)) ≤ 1
+        by (inl more) = let head = head_once (v == s) refl (inr more) in let one = one_at_most v (s + 1) (statements_count body) in omega (arith, head, one)
+        by (inr to) = let head = at_most_one (v == s) in let none = later_none v (s + 1) (statements_count body) (omega (arith, to)) in omega (arith, head, none)
+
     -- each number stands among the sources once at most
     pub once : (t : ProgramTree) (reach : List (List Bool)) → 1 ≤ s → s + statements_count body ≤ statements_count t.body → times_in v (sources t s body (blocks reach)) ≤ 1
     once t reach from_one inside =

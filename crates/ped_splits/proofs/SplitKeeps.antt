@@ -1,11 +1,12 @@
 -- A program in which a DO is taken apart keeps its meaning.
-use Rattle.std.proofs.Common.{◌≡◌, ℕ, ◌+◌, ◌≤◌, List, [], ◌∷◌, length, append-nil, Bool, true, false, ◌||◌, refl, sym, ap, subst, ◌∙◌, arith}
+use Rattle.std.proofs.Common.{◌≡◌, ℕ, ◌+◌, ◌≤◌, List, [], ◌∷◌, ◌++◌, length, append-nil, Bool, true, false, ◌||◌, refl, sym, ap, subst, ◌∙◌, arith}
 use Rattle.std.specs.Str.Lines.{lines}
 use Rattle.std.specs.List.{flat_map}
-use Rattle.ped_base.specs.Lists.{is_among}
+use Rattle.ped_base.specs.Lists.{is_among, is_same_text}
+use Rattle.ped_tree.proofs.NameLaws.Collected.{among_append}
 use Rattle.ped_tree.specs.Tree.{Head, StmtTree, StmtTrees, Do, DeclTree, ProgramTree}
 use Rattle.ped_tree.specs.NamesIn.{saved_in, all_loop_variables, loop_variables}
-use Rattle.ped_tree.specs.Numbering.{statements_count}
+use Rattle.ped_tree.specs.Numbering.{statement_count, statements_count}
 use Rattle.ped_reindex.specs.ped_loops.specs.ped_scalar.specs.ped_rules.specs.OnlyLoops.{on_loop}
 use Rattle.ped_reindex.specs.ped_loops.specs.ped_scalar.specs.ped_rules.specs.ped_loop_runs.proofs.LoopLaws.OneForOneStands.{run_alone}
 use Rattle.ped_reindex.specs.ped_loops.specs.ped_scalar.specs.ped_rules.specs.ped_loop_runs.specs.ped_tidy.specs.ped_pasting.proofs.PastingLaws.CountedNumbers.{count_alike, told_back}
@@ -16,7 +17,7 @@ use Rattle.ped_reindex.specs.ped_loops.specs.ped_scalar.specs.ped_rules.specs.pe
 use Rattle.ped_reindex.specs.ped_loops.specs.ped_scalar.specs.ped_rules.specs.ped_loop_runs.specs.ped_tidy.specs.ped_pasting.specs.Numbers.{counted_by, told_by}
 use Rattle.ped_reindex.specs.ped_loops.specs.ped_scalar.specs.ped_rules.specs.ped_loop_runs.specs.ped_tidy.specs.ped_pasting.specs.Pasting.{CountAlike, DoInstead, StandInstead}
 use Rattle.ped_reindex.specs.ped_loops.specs.ped_scalar.specs.ped_rules.specs.ped_loop_runs.specs.ped_tidy.specs.ped_pasting.specs.Statements.{GivesWay}
-use Rattle.ped_reindex.specs.ped_loops.specs.ped_scalar.specs.ped_rules.specs.ped_loop_runs.specs.ped_tidy.specs.ped_pasting.specs.ped_bodies.specs.ped_steps.specs.Replacing.{alone}
+use Rattle.ped_reindex.specs.ped_loops.specs.ped_scalar.specs.ped_rules.specs.ped_loop_runs.specs.ped_tidy.specs.ped_pasting.specs.ped_bodies.specs.ped_steps.specs.Replacing.{alone, program_with}
 use Rattle.ped_reindex.specs.ped_loops.specs.ped_scalar.specs.ped_rules.specs.ped_loop_runs.specs.ped_tidy.specs.ped_pasting.specs.ped_bodies.specs.ped_steps.specs.Runs.Gaps.{number_at}
 use Rattle.ped_reindex.specs.ped_loops.specs.ped_scalar.specs.ped_rules.specs.ped_loop_runs.specs.ped_tidy.specs.ped_pasting.specs.ped_bodies.specs.ped_steps.specs.Runs.Meaning.{Keeps}
 use Rattle.ped_reindex.specs.ped_loops.specs.ped_scalar.specs.ped_rules.specs.ped_loop_runs.specs.ped_tidy.specs.ped_pasting.specs.ped_bodies.specs.ped_steps.specs.Runs.Renumbering.{renumbered}
@@ -37,12 +38,14 @@ use Rattle.ped_reindex.specs.ped_loops.specs.ped_scalar.specs.ped_rules.specs.pe
 use Rattle.ped_reindex.specs.ped_loops.specs.ped_scalar.specs.ped_rules.specs.ped_loop_runs.specs.ped_tidy.specs.ped_pasting.specs.ped_bodies.specs.ped_steps.specs.ped_weaves.specs.Apart.{agreed}
 use Rattle.ped_reindex.specs.ped_loops.proofs.SwappedStands.{stands_apart}
 use Rattle.ped_splits.proofs.DistributedKinds.{distributed_kinds, distributed_setting}
-use Rattle.ped_splits.proofs.DistributeTrusted as trusted
+use Rattle.ped_splits.proofs.DistributeAnswers.{distributed_program}
+use Rattle.ped_splits.proofs.DistributeTrusted.{each_placed}
+use Rattle.ped_splits.proofs.UnitTests.{only_comment, loops_tell}
 use Rattle.ped_splits.proofs.SplitFacts.{IsSplit, UnrejectedLaw}
-use Rattle.ped_splits.proofs.SplitNumbers.{split_numbers, split_fits}
+use Rattle.ped_splits.proofs.SplitNumbers.{split_pairs, split_numbers, split_fits, loops_counted}
 use Rattle.ped_splits.proofs.SplitStands.{does_split, stands_split}
 use Rattle.ped_splits.proofs.SplitRaces.{AreRaceFree, free_split, split_races}
-use Rattle.ped_splits.specs.Distributing.{loops_of, distributed}
+use Rattle.ped_splits.specs.Distributing.{loop_sources, loops_of, distributed}
 
 module _ (making : MakingLaw) (sequence : SequenceLaw) (law : UnrejectedLaw) (t : ProgramTree) (s : ℕ) (l : LoopOf t s) (found : List (List ℕ)) (x : IsSplit t s l found) where
   abbrev p : Setting
@@ -81,11 +84,14 @@ module _ (making : MakingLaw) (sequence : SequenceLaw) (law : UnrejectedLaw) (t 
   abbrev first : ℕ
   first = number_at way.gap 1
 
+  same_program : program_with (λ z. loops_of found l.head l.body) s t ≡ distributed t s found
+  same_program = distributed_program t s found l.head l.body (loops_of found l.head l.body) l.is refl
+
   kinds : (y : List ℕ) → kind_in u y ≡ kind_in t y
-  kinds = ?kinds
+  kinds y = ap (λ (v : ProgramTree). kind_in v y) (sym same_program) ∙ distributed_kinds t x.valid s l found x.are x.many y
 
   setting : setting_of u ≡ setting_of t
-  setting = ?setting
+  setting = ap setting_of (sym same_program) ∙ distributed_setting t x.valid s l found x.are x.many
 
   same_setting : renumbered counted (setting_of u) ≡ q
   same_setting = ap (renumbered counted) setting
@@ -124,10 +130,24 @@ module _ (making : MakingLaw) (sequence : SequenceLaw) (law : UnrejectedLaw) (t 
         split_races t u counted (told_by (split_numbers t s l.body found)) (told_back (split_numbers t s l.body found)) x.new_valid s old (omega arith) fresh data_bytes unraced parts olds_are exchanged news_are unraced_before
 
   counts_alike : CountAlike p (renumbered counted (setting_of u)) first (statements_count old) (statements_count new) (statements_count t.body)
-  counts_alike = ?counts_alike
+  counts_alike =
+      subst (λ (k : ℕ). CountAlike p (renumbered counted (setting_of u)) k (statements_count old) (statements_count new) (statements_count t.body)) (sym way.number)
+      (subst (λ (k : ℕ). CountAlike p (renumbered counted (setting_of u)) s k (statements_count new) (statements_count t.body)) (let one : statements_count l.body + 1 ≡ statements_count old = omega arith in one)
+      (subst (λ (k : ℕ). CountAlike p (renumbered counted (setting_of u)) s (statements_count l.body + 1) k (statements_count t.body)) (sym (loops_counted t s l.head l.body found x.are))
+      (count_alike s (statements_count l.body + 1) (length (loop_sources s l.body found)) (statements_count t.body) (split_pairs s (statements_count t.body + 1) (loop_sources s l.body found))
+      (split_fits t s l.head l.body found x.are (loop_fits t s l.head l.body l.is)) t u)))
 
   indices : (y : List ℕ) → is_among y (all_loop_variables new) ≡ is_among y (all_loop_variables old)
-  indices y = ?indices
+  indices y =
+      loops_tell (λ ts. is_among y (all_loop_variables ts)) (λ z. is_among y (loop_variables z)) refl (λ z rest. among_append y (loop_variables z) (all_loop_variables rest)) quiet l.head l.body found (omega (arith, many))
+      (each_placed t s l.head l.body found x.are) (is_same_text y l.head.variable) (λ b. refl)
+      ∙ ap (is_among y) (sym (append-nil (loop_variables (Do l.head l.body))))
+    where
+      many : 2 ≤ length found
+      many = x.many
+
+      quiet : (z : StmtTree) → statement_count z ≡ 0 → is_among y (loop_variables z) ≡ false
+      quiet = only_comment (λ z. is_among y (loop_variables z) ≡ false) (λ text. refl)
 
   exchange : IsExchange way.gap old new t u
   exchange = record {

@@ -21,6 +21,8 @@ mod KeptArrows
 mod SplitFacts
 mod SplitUnits
 mod SplitNumbers
+mod SplitPlaces
+mod SplitRuns
 mod SplitStands
 mod SplitRaces
 mod SplitKeeps

@@ -1,0 +1,231 @@
+-- What the new DO loops do in an execution: in each iteration each unit does likewise what it did in the old one.
+use Rattle.std.proofs.Common.{◌≡◌, ◌⊎◌, ℕ, zero, suc, ◌+◌, ◌-◌, ◌<◌, ◌≤◌, ◌==◌, List, [], ◌∷◌, ◌++◌, length, All, Bool, true, false, ◌&&◌, inl, inr, refl, sym, ap, subst, ◌∙◌, append-nil, arith}
+use Rattle.std.proofs.lemmas.Bool.{and_parts, both_ways}
+use Rattle.std.proofs.lemmas.List.Elements.{All-head, All-tail}
+use Rattle.std.specs.List.{flat_map, range_with_len}
+use Rattle.std.specs.Prelude.{slice_index_or, nat_le, nat_lt}
+use Rattle.ped_tree.specs.Tree.{Head, StmtTree, StmtTrees, Do, no_stmts, more_stmts, ProgramTree}
+use Rattle.ped_tree.specs.Numbering.{statement_count, statements_count}
+use Rattle.ped_reindex.specs.ped_loops.specs.ped_scalar.specs.ped_rules.specs.ped_loop_runs.specs.ped_tidy.specs.ped_pasting.proofs.PastingLaws.PastedLoops.{run_followed}
+use Rattle.ped_reindex.specs.ped_loops.specs.ped_scalar.specs.ped_rules.specs.ped_loop_runs.specs.ped_tidy.specs.ped_pasting.specs.Numbers.{counted_by}
+use Rattle.ped_reindex.specs.ped_loops.specs.ped_scalar.specs.ped_rules.specs.ped_loop_runs.specs.ped_tidy.specs.ped_pasting.specs.ped_bodies.proofs.BodyLaws.Instances.{distributed_body}
+use Rattle.ped_reindex.specs.ped_loops.specs.ped_scalar.specs.ped_rules.specs.ped_loop_runs.specs.ped_tidy.specs.ped_pasting.specs.ped_bodies.proofs.BodyLaws.TripLists.{loop_apart, loop_made}
+use Rattle.ped_reindex.specs.ped_loops.specs.ped_scalar.specs.ped_rules.specs.ped_loop_runs.specs.ped_tidy.specs.ped_pasting.specs.ped_bodies.specs.Likewise.{AreLikewise, DoesLikewise}
+use Rattle.ped_reindex.specs.ped_loops.specs.ped_scalar.specs.ped_rules.specs.ped_loop_runs.specs.ped_tidy.specs.ped_pasting.specs.ped_bodies.specs.Moving.{own_number, in_loop, moved_behind}
+use Rattle.ped_reindex.specs.ped_loops.specs.ped_scalar.specs.ped_rules.specs.ped_loop_runs.specs.ped_tidy.specs.ped_pasting.specs.ped_bodies.specs.Standing.{SettingsAgree}
+use Rattle.ped_reindex.specs.ped_loops.specs.ped_scalar.specs.ped_rules.specs.ped_loop_runs.specs.ped_tidy.specs.ped_pasting.specs.ped_bodies.specs.Trips.{IsMadeOfTrips, bounds_seen, entered_from, loop_acts, store_before}
+use Rattle.ped_reindex.specs.ped_loops.specs.ped_scalar.specs.ped_rules.specs.ped_loop_runs.specs.ped_tidy.specs.ped_pasting.specs.ped_bodies.specs.ped_steps.specs.Replacing.{followed}
+use Rattle.ped_reindex.specs.ped_loops.specs.ped_scalar.specs.ped_rules.specs.ped_loop_runs.specs.ped_tidy.specs.ped_pasting.specs.ped_bodies.specs.ped_steps.specs.Runs.Renumbering.{renumbered}
+use Rattle.ped_reindex.specs.ped_loops.specs.ped_scalar.specs.ped_rules.specs.ped_loop_runs.specs.ped_tidy.specs.ped_pasting.specs.ped_bodies.specs.ped_steps.specs.ped_flow.proofs.Answering.{loop_fits}
+use Rattle.ped_reindex.specs.ped_loops.specs.ped_scalar.specs.ped_rules.specs.ped_loop_runs.specs.ped_tidy.specs.ped_pasting.specs.ped_bodies.specs.ped_steps.specs.ped_flow.specs.Questions.{LoopOf}
+use Rattle.ped_reindex.specs.ped_loops.specs.ped_scalar.specs.ped_rules.specs.ped_loop_runs.specs.ped_tidy.specs.ped_pasting.specs.ped_bodies.specs.ped_steps.specs.ped_laws.proofs.RunLaws.Joined.{parted_more, replays_nothing, statements_more}
+use Rattle.ped_reindex.specs.ped_loops.specs.ped_scalar.specs.ped_rules.specs.ped_loop_runs.specs.ped_tidy.specs.ped_pasting.specs.ped_bodies.specs.ped_steps.specs.ped_laws.proofs.RunLaws.Sight.{limits_told}
+use Rattle.ped_reindex.specs.ped_loops.specs.ped_scalar.specs.ped_rules.specs.ped_loop_runs.specs.ped_tidy.specs.ped_pasting.specs.ped_bodies.specs.ped_steps.specs.ped_laws.proofs.RunLaws.StatementsTold.{run_all_told}
+use Rattle.ped_reindex.specs.ped_loops.specs.ped_scalar.specs.ped_rules.specs.ped_loop_runs.specs.ped_tidy.specs.ped_pasting.specs.ped_bodies.specs.ped_steps.specs.ped_laws.proofs.RunLaws.Told.{replays_behind}
+use Rattle.ped_reindex.specs.ped_loops.specs.ped_scalar.specs.ped_rules.specs.ped_loop_runs.specs.ped_tidy.specs.ped_pasting.specs.ped_bodies.specs.ped_steps.specs.ped_laws.specs.Acts.Fitting.{store_after}
+use Rattle.ped_reindex.specs.ped_loops.specs.ped_scalar.specs.ped_rules.specs.ped_loop_runs.specs.ped_tidy.specs.ped_pasting.specs.ped_bodies.specs.ped_steps.specs.ped_laws.specs.Runs.Replaying.{IsEntered, Replays, behind, finish_of, goes_on}
+use Rattle.ped_reindex.specs.ped_loops.specs.ped_scalar.specs.ped_rules.specs.ped_loop_runs.specs.ped_tidy.specs.ped_pasting.specs.ped_bodies.specs.ped_steps.specs.ped_laws.specs.ped_eval.specs.Evaluation.{ComesTo, Seen}
+use Rattle.ped_reindex.specs.ped_loops.specs.ped_scalar.specs.ped_rules.specs.ped_loop_runs.specs.ped_tidy.specs.ped_pasting.specs.ped_bodies.specs.ped_steps.specs.ped_laws.specs.ped_eval.specs.Loops.{Entered, entered_with, frame, inner_variables, limits}
+use Rattle.ped_reindex.specs.ped_loops.specs.ped_scalar.specs.ped_rules.specs.ped_loop_runs.specs.ped_tidy.specs.ped_pasting.specs.ped_bodies.specs.ped_steps.specs.ped_laws.specs.ped_eval.specs.Outcomes.{setting_of}
+use Rattle.ped_reindex.specs.ped_loops.specs.ped_scalar.specs.ped_rules.specs.ped_loop_runs.specs.ped_tidy.specs.ped_pasting.specs.ped_bodies.specs.ped_steps.specs.ped_laws.specs.ped_eval.specs.Runs.{Run, run, run_all, then_run}
+use Rattle.ped_reindex.specs.ped_loops.specs.ped_scalar.specs.ped_rules.specs.ped_loop_runs.specs.ped_tidy.specs.ped_pasting.specs.ped_bodies.specs.ped_steps.specs.ped_laws.specs.ped_eval.specs.Scopes.{Scope, Setting, names_in, place_of, turns_of}
+use Rattle.ped_reindex.specs.ped_loops.specs.ped_scalar.specs.ped_rules.specs.ped_loop_runs.specs.ped_tidy.specs.ped_pasting.specs.ped_bodies.specs.ped_steps.specs.ped_laws.specs.ped_store.specs.Acts.{Act, iterations_of}
+use Rattle.ped_reindex.specs.ped_loops.specs.ped_scalar.specs.ped_rules.specs.ped_loop_runs.specs.ped_tidy.specs.ped_pasting.specs.ped_bodies.specs.ped_steps.specs.ped_laws.specs.ped_store.specs.Cells.{Cell}
+use Rattle.ped_reindex.specs.ped_loops.specs.ped_scalar.specs.ped_rules.specs.ped_loop_runs.specs.ped_tidy.specs.ped_pasting.specs.ped_bodies.specs.ped_steps.specs.ped_laws.specs.Acts.Sets.{nothing}
+use Rattle.ped_reindex.specs.ped_loops.specs.ped_scalar.specs.ped_rules.specs.ped_loop_runs.specs.ped_tidy.specs.ped_pasting.specs.ped_bodies.specs.ped_steps.specs.ped_laws.specs.ped_store.specs.Stores.{Store}
+use Rattle.ped_splits.proofs.BlockLaws.{In, in_either}
+use Rattle.ped_splits.proofs.DistributeTrusted.{each_placed}
+use Rattle.ped_splits.proofs.Partitions.{flat}
+use Rattle.ped_splits.proofs.SplitFacts.{IsSplit}
+use Rattle.ped_splits.proofs.SplitNumbers.{split_numbers}
+use Rattle.ped_splits.proofs.SplitPlaces.{end_of, look, ArePlaced, AllPlaced, AllStanding, AreStanding, Stands, units_placed, units_standing}
+use Rattle.ped_splits.proofs.SplitUnits.{offset, size_of_unit, units_joined}
+use Rattle.ped_splits.specs.Distributing.{joined, units_at, loops_of}
+use Rattle.ped_splits.specs.Units.{units}
+
+-- a function of numbers that count one more
+shifted : {X : Type 0} (f : ℕ → List X) (a n : ℕ) → flat_map f (range_with_len (a + 1) n) ≡ flat_map (λ k. f (suc k)) (range_with_len a n)
+shifted f a zero = refl
+shifted f a (suc n) = (λ i. f ((let e : a + 1 ≡ suc a = omega arith in e) i) ++ shifted f (a + 1) n i)
+
+-- what units do, one behind another
+module _ (p : Setting) (scope : Scope) where
+  abbrev pub unit_acts : List StmtTrees → ℕ → Store → ℕ → List Act
+  unit_acts [] n v k = []
+  unit_acts (u ∷ us) n v zero = (run_all p u n scope v).acts
+  unit_acts (u ∷ us) n v (suc k) = unit_acts us (n + statements_count u) (store_after (run_all p u n scope v).acts v) k
+
+  -- a unit does this from some store, and goes on
+  pub record IsDoneBy (u : StmtTrees) (n : ℕ) (acts : List Act) : Type 0 where
+    pub store : Store
+    pub goes : finish_of (run_all p u n scope store).ending ≡ goes_on
+    pub is : acts ≡ (run_all p u n scope store).acts
+
+  -- the first of two pieces goes on, and then the second does
+  first_goes : (u rest : StmtTrees) (n : ℕ) (v : Store) → finish_of (run_all p (followed u rest) n scope v).ending ≡ goes_on → finish_of (run_all p u n scope v).ending ≡ goes_on
+  first_goes u rest n v goes = ?first_goes
+
+  second_is : (u rest : StmtTrees) (n : ℕ) (v : Store) → finish_of (run_all p u n scope v).ending ≡ goes_on → run_all p (followed u rest) n scope v ≡ behind (run_all p u n scope v).acts (run_all p rest (n + statements_count u) scope (store_after (run_all p u n scope v).acts v))
+  second_is u rest n v goes = (λ i. run_followed p u rest n scope i v) ∙ parted_more (run_all p u n scope) (run_all p rest (n + statements_count u) scope) (run_all_told p u n scope) v goes
+
+  pub units_parted : (us : List StmtTrees) (n : ℕ) (v : Store) → finish_of (run_all p (joined us) n scope v).ending ≡ goes_on → (run_all p (joined us) n scope v).acts ≡ flat_map (unit_acts us n v) (range_with_len 0 (length us))
+  units_parted [] n v goes = refl
+  units_parted (u ∷ us) n v goes =
+      let first = first_goes u (joined us) n v goes in
+      let whole = second_is u (joined us) n v first in
+      ap (λ (r : Run). r.acts) whole
+      ∙ ap (λ (acts : List Act). (run_all p u n scope v).acts ++ acts)
+      (units_parted us (n + statements_count u) (store_after (run_all p u n scope v).acts v) (ap (λ (r : Run). finish_of r.ending) (sym whole) ∙ goes)
+      ∙ sym (shifted (unit_acts (u ∷ us) n v) 0 (length us)))
+
+  pub units_done : (us : List StmtTrees) (n : ℕ) (v : Store) → finish_of (run_all p (joined us) n scope v).ending ≡ goes_on → (k : ℕ) → k < length us → IsDoneBy (slice_index_or us k no_stmts) (n + offset us k) (unit_acts us n v k)
+  units_done [] n v goes k less = absurd (omega (arith, less))
+  units_done (u ∷ us) n v goes zero less = subst (λ (m : ℕ). IsDoneBy u m (run_all p u n scope v).acts) (let e : n ≡ n + 0 = omega arith in e) (record { store = v; goes = first_goes u (joined us) n v goes; is = refl })
+  units_done (u ∷ us) n v goes (suc k) less =
+      let whole = second_is u (joined us) n v (first_goes u (joined us) n v goes) in
+      subst (λ (m : ℕ). IsDoneBy (slice_index_or us k no_stmts) m (unit_acts us (n + statements_count u) (store_after (run_all p u n scope v).acts v) k)) (let e : n + statements_count u + offset us k ≡ n + (statements_count u + offset us k) = omega arith in e)
+      (units_done us (n + statements_count u) (store_after (run_all p u n scope v).acts v) (ap (λ (r : Run). finish_of r.ending) (sym whole) ∙ goes) k (omega (arith, less)))
+
+-- acts that are there for each iteration and each unit, in one function
+module _ (count long : ℕ) (P : ℕ → ℕ → List Act → Type 0) (each : (i k : ℕ) → 1 ≤ i → i ≤ count → k < long → (acts : List Act) × P i k acts) where
+  abbrev within : ℕ → ℕ → Bool
+  within i k = nat_le 1 i && (nat_le i count && nat_lt k long)
+
+  from_is : (i k : ℕ) → within i k ≡ true → 1 ≤ i
+  from_is i k h = let both = and_parts (nat_le 1 i) (nat_le i count && nat_lt k long) h in let is : nat_le 1 i ≡ true = both.0 in grind (arith, nat_tests)
+
+  to_is : (i k : ℕ) → within i k ≡ true → i ≤ count
+  to_is i k h = let both = and_parts (nat_le 1 i) (nat_le i count && nat_lt k long) h in let rest = and_parts (nat_le i count) (nat_lt k long) both.1 in let is : nat_le i count ≡ true = rest.0 in grind (arith, nat_tests)
+
+  unit_is : (i k : ℕ) → within i k ≡ true → k < long
+  unit_is i k h = let both = and_parts (nat_le 1 i) (nat_le i count && nat_lt k long) h in let rest = and_parts (nat_le i count) (nat_lt k long) both.1 in let is : nat_lt k long ≡ true = rest.1 in grind (arith, nat_tests)
+
+  is_within : (i k : ℕ) → 1 ≤ i → i ≤ count → k < long → within i k ≡ true
+  is_within i k from to less = grind (arith, nat_tests)
+
+  abbrev by_test : (i k : ℕ) (b : Bool) → within i k ≡ b → List Act
+  by_test i k true h = (each i k (from_is i k h) (to_is i k h) (unit_is i k h)).0
+  by_test i k false h = []
+
+  abbrev pub all_chosen : ℕ → ℕ → List Act
+  all_chosen i k = by_test i k (within i k) refl
+
+  pub all_are : (i k : ℕ) → 1 ≤ i → i ≤ count → k < long → P i k (all_chosen i k)
+  all_are i k from to less = go (within i k) refl
+    where
+      go : (b : Bool) (h : within i k ≡ b) → P i k (by_test i k b h)
+      go true h = (each i k (from_is i k h) (to_is i k h) (unit_is i k h)).1
+      go false h = absurd (both_ways (within i k) h (is_within i k from to less))
+
+module _ (t : ProgramTree) (s : ℕ) (l : LoopOf t s) (found : List (List ℕ)) (x : IsSplit t s l found) (scope : Scope) (v : Store) (goes : finish_of (run (setting_of t) (Do l.head l.body) s scope v).ending ≡ goes_on) where
+  abbrev p : Setting
+  p = setting_of t
+
+  abbrev g : ℕ → ℕ
+  g = counted_by (split_numbers t s l.body found)
+
+  abbrev q : Setting
+  q = renumbered (counted_by (split_numbers t s l.body found)) (setting_of t)
+
+  abbrev d : Head
+  d = l.head
+
+  abbrev body : StmtTrees
+  body = l.body
+
+  abbrev pub unit : ℕ → StmtTrees
+  unit k = slice_index_or (units l.body) k no_stmts
+
+  abbrev pub many_units : ℕ
+  many_units = length (units l.body)
+
+  pub old : IsMadeOfTrips p d body s scope v
+  old = loop_apart p d body s scope v goes
+
+  abbrev pub e : Entered
+  e = entered_from (setting_of t) l.head l.body s scope v old.bounds
+
+  abbrev pub seen : List Seen
+  seen = bounds_seen (setting_of t) l.head scope v
+
+  -- a new DO is entered as the old one, under its number
+  abbrev pub entered_at : ℕ → Entered
+  entered_at at = record { number = counted_by (split_numbers t s l.body found) at; head = l.head; first = e.first; step = e.step; count = e.count; behind_bounds = e.behind_bounds; inner = e.inner }
+
+  -- the number of the DO of a unit, and the unit's there
+  abbrev pub loop_at : ℕ → ℕ
+  loop_at k = (look l.body s found k).0
+
+  abbrev pub unit_at : ℕ → ℕ
+  unit_at k = (look l.body s found k).1
+
+  -- what copies are called in the DO of a unit
+  abbrev pub unit_names : ℕ → Cell → Cell
+  unit_names k = moved_behind (iterations_of (turns_of scope)) (in_loop s (counted_by (split_numbers t s l.body found) (loop_at k)))
+
+  abbrev store_of : ℕ → Store
+  store_of i = store_before seen e scope (place_of (setting_of t) s scope) old.trip v i
+
+  -- what a unit did in an iteration
+  abbrev pub old_unit : ℕ → ℕ → List Act
+  old_unit i k = unit_acts (setting_of t) (frame e i ∷ scope) (units l.body) (s + 1) (store_of i) k
+
+  some : 0 < statements_count body
+  some = ?some
+
+  its_body : joined (units l.body) ≡ l.body
+  its_body = units_joined l.body some
+
+  goes_there : (i : ℕ) → 1 ≤ i → i ≤ e.count → finish_of (run_all p (joined (units l.body)) (s + 1) (frame e i ∷ scope) (store_of i)).ending ≡ goes_on
+  goes_there i from to = ap (λ (ts : StmtTrees). finish_of (run_all p ts (s + 1) (frame e i ∷ scope) (store_of i)).ending) its_body ∙ (old.are i from to).goes
+
+  pub old_parted : (i : ℕ) → 1 ≤ i → i ≤ e.count → old.trip i ≡ flat_map (old_unit i) (range_with_len 0 many_units)
+  old_parted i from to =
+      (old.are i from to).is
+      ∙ ap (λ (ts : StmtTrees). (run_all p ts (s + 1) (frame e i ∷ scope) (store_of i)).acts) (sym its_body)
+      ∙ units_parted p (frame e i ∷ scope) (units l.body) (s + 1) (store_of i) (goes_there i from to)
+
+  inside : s + statements_count l.body ≤ statements_count t.body
+  inside = loop_fits t s l.head l.body l.is
+
+  -- a unit stands in the new DO under its old numbers
+  stands_in_block : (k at m : ℕ) (block : List ℕ) → ArePlaced body (look body s found) at m block → AreStanding s body g m block → In k block → Stands s body g k (unit_at k)
+  stands_in_block k at m [] placed standing i = absurd i
+  stands_in_block k at m (j ∷ block) placed standing (inl same) = subst (λ (n : ℕ). Stands s body g n (unit_at n)) (sym same) (subst (λ (w : ℕ × ℕ). Stands s body g j w.1) (sym placed.0) standing.0)
+  stands_in_block k at m (j ∷ block) placed standing (inr i) = stands_in_block k at (m + size_of_unit body j) block placed.1 standing.1 i
+
+  stands_in_all : (k at : ℕ) (bs : List (List ℕ)) → AllPlaced body (look body s found) at bs → AllStanding s body g at bs → In k (flat bs) → Stands s body g k (unit_at k)
+  stands_in_all k at [] placed standing i = absurd i
+  stands_in_all k at (block ∷ bs) placed standing i = elim (in_either k block (flat bs) i) [
+    | inl j ↦ stands_in_block k at (at + 1) block placed.0 standing.0 j
+    | inr j ↦ stands_in_all k (end_of body (at + 1) block) bs placed.1 standing.1 j
+  ]
+
+  unit_stands : (k : ℕ) → k < many_units → Stands s body g k (unit_at k)
+  unit_stands k less = stands_in_all k s found (units_placed t s l.head l.body found x.are inside) (units_standing t s l.head l.body found x.are inside) (each_placed t s l.head l.body found x.are k less)
+
+  -- in an iteration of its new DO a unit does likewise what it did
+  pub record IsUnitDone (i k : ℕ) (acts : List Act) : Type 0 where
+    pub likewise : AreLikewise (unit_names k) nothing own_number (turns_of (frame e i ∷ scope)) (turns_of (frame (entered_at (loop_at k)) i ∷ scope)) (old_unit i k) acts
+    pub replays : Replays (run_all q (unit k) (unit_at k) (frame (entered_at (loop_at k)) i ∷ scope)) acts goes_on
+
+  each_unit : (i k : ℕ) → 1 ≤ i → i ≤ e.count → k < many_units → (acts : List Act) × IsUnitDone i k acts
+  each_unit i k from to less =
+      let was = units_done p (frame e i ∷ scope) (units l.body) (s + 1) (store_of i) (goes_there i from to) k less in
+      let agree : SettingsAgree own_number p q (unit k) (s + 1 + offset (units l.body) k) (unit_at k) = record { constants = refl; bounds = λ y w. refl; numbers = unit_stands k less } in
+      let done : DoesLikewise (unit_names k) nothing own_number (turns_of (frame e i ∷ scope)) (turns_of (frame (entered_at (loop_at k)) i ∷ scope)) (old_unit i k) goes_on (run_all q (unit k) (unit_at k) (frame (entered_at (loop_at k)) i ∷ scope)) =
+      subst (λ (acts : List Act). DoesLikewise (unit_names k) nothing own_number (turns_of (frame e i ∷ scope)) (turns_of (frame (entered_at (loop_at k)) i ∷ scope)) acts goes_on (run_all q (unit k) (unit_at k) (frame (entered_at (loop_at k)) i ∷ scope))) (sym was.is)
+      (distributed_body p q (unit k) (s + 1 + offset (units l.body) k) (unit_at k) agree scope s (g (loop_at k)) (frame e i) (frame (entered_at (loop_at k)) i) refl refl refl (refl, refl) refl was.store was.goes) in
+      (done.fresh, record { likewise = done.likewise; replays = done.replays })
+
+  -- what a unit does in an iteration of its new DO
+  abbrev pub new_unit : ℕ → ℕ → List Act
+  new_unit = all_chosen e.count many_units IsUnitDone each_unit
+
+  pub new_units_are : (i k : ℕ) → 1 ≤ i → i ≤ e.count → k < many_units → IsUnitDone i k (new_unit i k)
+  new_units_are i k from to less = all_are e.count many_units IsUnitDone each_unit i k from to less
+
+  -- what the DO loops of blocks do
+  abbrev pub split_acts : ℕ → List (List ℕ) → List Act
+  split_acts at [] = []
+  split_acts at (block ∷ bs) = loop_acts seen (entered_at at) scope (place_of (renumbered (counted_by (split_numbers t s l.body found)) (setting_of t)) at scope) (λ i. flat_map (new_unit i) block) ++ split_acts (end_of l.body (at + 1) block) bs

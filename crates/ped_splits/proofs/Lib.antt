@@ -23,6 +23,7 @@ mod SplitUnits
 mod SplitNumbers
 mod SplitPlaces
 mod SplitRuns
+mod SplitWoven
 mod SplitStands
 mod SplitRaces
 mod SplitKeeps

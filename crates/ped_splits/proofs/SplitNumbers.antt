@@ -158,7 +158,7 @@ module _ (s : ℕ) (body : StmtTrees) where
 sources_once : (t : ProgramTree) (s : ℕ) (h : Head) (body : StmtTrees) (found : List (List ℕ)) → AreBlocks t s h body found → (v : ℕ) → times_in v (loop_sources s body found) ≤ 1
 sources_once t s h body found are v = subst (λ (bs : List (List ℕ)). times_in v (loop_sources s body bs) ≤ 1) (sym are.order) (loops_once v s body are.reach)
 
-all_flat : (n : ℕ) (found : List (List ℕ)) → All (AreBelow n) found → AreBelow n (flat found)
+pub all_flat : (n : ℕ) (found : List (List ℕ)) → All (AreBelow n) found → AreBelow n (flat found)
 all_flat n [] h = All-nil (λ i. i < n)
 all_flat n (b ∷ found) h = All-append (λ i. i < n) b (flat found) (All-head (AreBelow n) b found h) (all_flat n found (All-tail (AreBelow n) b found h))
 

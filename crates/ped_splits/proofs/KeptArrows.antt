@@ -25,7 +25,7 @@ one_or : (a b : Bool) → b ≡ true → a || b ≡ true
 one_or true b h = refl
 one_or false b h = h
 
-in_flat : (i x : ℕ) (bs : List (List ℕ)) → In i (slice_index_or bs x []) → In i (flat bs)
+pub in_flat : (i x : ℕ) (bs : List (List ℕ)) → In i (slice_index_or bs x []) → In i (flat bs)
 in_flat i x [] h = h
 in_flat i zero (b ∷ bs) h = in_front i b (flat bs) h
 in_flat i (suc x) (b ∷ bs) h = in_back i b (flat bs) (in_flat i x bs h)

@@ -18,11 +18,13 @@ mod Contained
 mod UnitTests
 mod DistributeTrusted
 mod KeptArrows
+mod BlockPlaces
 mod SplitFacts
 mod SplitUnits
 mod SplitNumbers
 mod SplitPlaces
 mod SplitRuns
+mod SplitConflicts
 mod SplitWoven
 mod SplitStands
 mod SplitRaces

@@ -30,6 +30,7 @@ use Rattle.ped_reindex.specs.ped_loops.proofs.SwappedStands.{stands_apart}
 use Rattle.ped_splits.proofs.SplitFacts.{IsSplit, UnrejectedLaw}
 use Rattle.ped_splits.proofs.SplitNumbers.{split_numbers}
 use Rattle.ped_splits.proofs.SplitPlaces.{end_of}
+use Rattle.ped_splits.proofs.SplitConflicts.{AreTwoPieces, pieces_apart}
 use Rattle.ped_splits.proofs.SplitRuns as runs
 
 module _ (making : MakingLaw) (sequence : SequenceLaw) (law : UnrejectedLaw) (t : ProgramTree) (s : ℕ) (l : LoopOf t s) (found : List (List ℕ)) (x : IsSplit t s l found) (data_bytes : List ℕ) (ends : Ends (run_of t data_bytes).ending)

@@ -25,6 +25,9 @@ mod SplitNumbers
 mod SplitPlaces
 mod SplitRuns
 mod SplitConflicts
+mod SplitOrders
+mod SplitKnots
+mod SplitNames
 mod SplitWoven
 mod SplitStands
 mod SplitRaces

@@ -291,7 +291,7 @@ module _ (t : ProgramTree) (s : ℕ) (l : LoopOf t s) (found : List (List ℕ)) 
       (subst (λ (n : ℕ). Replays (run_all q (loops_of bs d body) n scope) (split_acts (end_of body (at + 1) block) bs) goes_on) (let e : end_of body (at + 1) block ≡ at + statement_count (Do d (units_at body block)) = (let is = end_is (at + 1) block in omega (arith, is)) in e)
       (loops_replay (end_of body (at + 1) block) bs placed.1 (λ k i. below k (in_back k block (flat bs) i))))
 
-  units_below : (k : ℕ) → In k (flat found) → k < many_units
+  pub units_below : (k : ℕ) → In k (flat found) → k < many_units
   units_below k i = each_below (flat found) (all_flat many_units found (found_below t s l.head l.body found x.are)) i
     where
       each_below : (ks : List ℕ) → AreBelow many_units ks → In k ks → k < many_units

@@ -28,6 +28,8 @@ mod SplitConflicts
 mod SplitOrders
 mod SplitKnots
 mod SplitNames
+mod SplitPieces
+mod SplitControls
 mod SplitWoven
 mod SplitStands
 mod SplitRaces

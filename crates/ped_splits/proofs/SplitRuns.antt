@@ -200,7 +200,7 @@ module _ (t : ProgramTree) (s : ℕ) (l : LoopOf t s) (found : List (List ℕ)) 
           let less : length (blocks x.are.reach) ≤ length x.are.reach = blocks_few x.are.reach (length x.are.reach) (range_with_len 0 (length x.are.reach)) in
           absurd (omega (arith, few, rows, order, less, is, many))
 
-  its_body : joined (units l.body) ≡ l.body
+  pub its_body : joined (units l.body) ≡ l.body
   its_body = units_joined l.body some
 
   goes_there : (i : ℕ) → 1 ≤ i → i ≤ e.count → finish_of (run_all p (joined (units l.body)) (s + 1) (frame e i ∷ scope) (store_of i)).ending ≡ goes_on
@@ -211,6 +211,9 @@ module _ (t : ProgramTree) (s : ℕ) (l : LoopOf t s) (found : List (List ℕ)) 
       (old.are i from to).is
       ∙ ap (λ (ts : StmtTrees). (run_all p ts (s + 1) (frame e i ∷ scope) (store_of i)).acts) (sym its_body)
       ∙ units_parted p (frame e i ∷ scope) (units l.body) (s + 1) (store_of i) (goes_there i from to)
+
+  pub old_units_done : (i k : ℕ) → 1 ≤ i → i ≤ e.count → k < many_units → IsDoneBy p (frame e i ∷ scope) (unit k) (s + 1 + offset (units l.body) k) (old_unit i k)
+  old_units_done i k from to less = units_done p (frame e i ∷ scope) (units l.body) (s + 1) (store_of i) (goes_there i from to) k less
 
   inside : s + statements_count l.body ≤ statements_count t.body
   inside = loop_fits t s l.head l.body l.is

@@ -163,7 +163,7 @@ same_sums f g n (i ∷ is) below same =
     omega (arith, rest, here, one, other)
 
 -- the units one behind another are the body
-followed_none : (ts : StmtTrees) → followed ts no_stmts ≡ ts
+pub followed_none : (ts : StmtTrees) → followed ts no_stmts ≡ ts
 followed_none no_stmts = refl
 followed_none (more_stmts s ts) = ap (λ (us : StmtTrees). more_stmts s us) (followed_none ts)
 

@@ -1,11 +1,13 @@
 -- What the DO loops do into which a DO is taken apart is woven anew of what its units did: by blocks, and in each by iterations.
-use Rattle.std.proofs.Common.{◌⊎◌, length, ◌≡◌, ℕ, ◌+◌, ◌≤◌, ◌<◌, List, [], ◌∷◌, ◌++◌, map, Bool, true, false, ◌||◌, ◌&&◌, not, refl, sym, ap, subst, ◌∙◌, append-nil, arith}
+use Rattle.std.proofs.Common.{◌⊎◌, length, ◌≡◌, ℕ, ◌+◌, ◌≤◌, ◌<◌, List, [], ◌∷◌, ◌++◌, map, Bool, true, false, ◌||◌, ◌&&◌, not, refl, sym, ap, subst, ◌∙◌, append-nil, append_assoc, inl, inr, arith}
+use Rattle.std.proofs.lemmas.Bool.{and_parts, both_ways}
 use Rattle.std.specs.List.{flat_map, list_any, range_with_len}
 use Rattle.std.specs.Str.Lines.{lines}
 use Rattle.ped_tree.specs.Tree.{Do, ProgramTree}
-use Rattle.ped_tree.specs.NamesIn.{loop_variables}
-use Rattle.ped_tree.specs.Numbering.{statements_count}
-use Rattle.ped_reindex.specs.ped_loops.specs.ped_scalar.specs.ped_rules.specs.ped_loop_runs.specs.ped_tidy.specs.ped_pasting.specs.Executions.{IsExecuted}
+use Rattle.ped_tree.specs.NamesIn.{all_loop_variables, loop_variables}
+use Rattle.ped_base.specs.Lists.{is_among}
+use Rattle.ped_tree.specs.Numbering.{statement_count, statements_count}
+use Rattle.ped_reindex.specs.ped_loops.specs.ped_scalar.specs.ped_rules.specs.ped_loop_runs.specs.ped_tidy.specs.ped_pasting.specs.Executions.{IsCopyInside, IsExecuted, as_done}
 use Rattle.ped_reindex.specs.ped_loops.specs.ped_scalar.specs.ped_rules.specs.ped_loop_runs.specs.ped_tidy.specs.ped_pasting.specs.Numbers.{counted_by}
 use Rattle.ped_reindex.specs.ped_loops.specs.ped_scalar.specs.ped_rules.specs.ped_loop_runs.specs.ped_tidy.specs.ped_pasting.specs.ped_bodies.specs.Trips.{loop_entry, trip_end}
 use Rattle.ped_reindex.specs.ped_loops.specs.ped_scalar.specs.ped_rules.specs.ped_loop_runs.specs.ped_tidy.specs.ped_pasting.specs.ped_bodies.specs.Moving.{is_cell_among}
@@ -14,15 +16,30 @@ use Rattle.ped_reindex.specs.ped_loops.specs.ped_scalar.specs.ped_rules.specs.pe
 use Rattle.ped_reindex.specs.ped_loops.specs.ped_scalar.specs.ped_rules.specs.ped_loop_runs.specs.ped_tidy.specs.ped_pasting.specs.ped_bodies.specs.ped_steps.specs.ped_flow.specs.Questions.{LoopOf}
 use Rattle.ped_reindex.specs.ped_loops.specs.ped_scalar.specs.ped_rules.specs.ped_loop_runs.specs.ped_tidy.specs.ped_pasting.specs.ped_bodies.specs.ped_steps.specs.ped_laws.proofs.ConflictLaws.CoveringRuns.{MakingLaw, SequenceLaw}
 use Rattle.ped_reindex.specs.ped_loops.specs.ped_scalar.specs.ped_rules.specs.ped_loop_runs.specs.ped_tidy.specs.ped_pasting.specs.ped_bodies.specs.ped_steps.specs.ped_laws.proofs.RunLaws.StatementsTold.{run_told}
-use Rattle.ped_reindex.specs.ped_loops.specs.ped_scalar.specs.ped_rules.specs.ped_loop_runs.specs.ped_tidy.specs.ped_pasting.specs.ped_bodies.specs.ped_steps.specs.ped_laws.specs.Acts.Fitting.{Fits, store_after}
-use Rattle.ped_reindex.specs.ped_loops.specs.ped_scalar.specs.ped_rules.specs.ped_loop_runs.specs.ped_tidy.specs.ped_pasting.specs.ped_bodies.specs.ped_steps.specs.ped_laws.specs.Acts.Orders.{Block, EachOnce, IsReordered, KeepsOrder, block_conflict}
-use Rattle.ped_reindex.specs.ped_loops.specs.ped_scalar.specs.ped_rules.specs.ped_loop_runs.specs.ped_tidy.specs.ped_pasting.specs.ped_bodies.specs.ped_steps.specs.ped_laws.specs.Acts.Sets.{AgreeIn}
+use Rattle.ped_reindex.specs.ped_loops.specs.ped_scalar.specs.ped_rules.specs.ped_loop_runs.specs.ped_tidy.specs.ped_pasting.specs.ped_bodies.specs.ped_steps.specs.ped_laws.specs.Acts.Conflicts.{WriteWithin}
+use Rattle.ped_reindex.specs.ped_loops.specs.ped_scalar.specs.ped_rules.specs.ped_loop_runs.specs.ped_tidy.specs.ped_pasting.specs.ped_bodies.specs.ped_steps.specs.ped_laws.proofs.ActLaws.Lists.{in_parts}
+use Rattle.ped_reindex.specs.ped_loops.specs.ped_scalar.specs.ped_rules.specs.ped_loop_runs.specs.ped_tidy.specs.ped_pasting.specs.ped_bodies.specs.ped_steps.specs.ped_laws.proofs.ActLaws.SameCells.{is_cell, text_itself}
+use Rattle.ped_reindex.specs.ped_loops.specs.ped_scalar.specs.ped_rules.specs.ped_loop_runs.specs.ped_tidy.specs.ped_pasting.specs.ped_bodies.specs.ped_steps.specs.ped_laws.specs.Acts.Fitting.{Fits, store_after, touches_of}
+use Rattle.ped_reindex.specs.ped_loops.specs.ped_scalar.specs.ped_rules.specs.ped_loop_runs.specs.ped_tidy.specs.ped_pasting.specs.ped_bodies.specs.ped_steps.specs.ped_laws.specs.Acts.Orders.{Block, EachOnce, IsIn, IsReordered, KeepsOrder, block_conflict}
+use Rattle.ped_reindex.specs.ped_loops.specs.ped_scalar.specs.ped_rules.specs.ped_loop_runs.specs.ped_tidy.specs.ped_pasting.specs.ped_bodies.specs.ped_steps.specs.ped_laws.specs.Acts.Sets.{AgreeIn, wants, written}
+use Rattle.ped_reindex.specs.ped_loops.specs.ped_scalar.specs.ped_rules.specs.ped_loop_runs.proofs.LoopLaws.OneForOneCells.{among_of_scalar, cell_among}
+use Rattle.ped_reindex.specs.ped_loops.specs.ped_scalar.specs.ped_rules.specs.ped_loop_runs.proofs.LoopLaws.OneForOneNames.{variables_unnamed}
+use Rattle.ped_reindex.specs.ped_loops.specs.ped_scalar.specs.ped_rules.specs.ped_loop_runs.specs.ped_tidy.specs.ped_pasting.proofs.PastingLaws.LeftCopies.{IsOwn, run_reaches}
+use Rattle.ped_reindex.specs.ped_loops.specs.ped_scalar.specs.ped_rules.specs.ped_loop_runs.specs.ped_tidy.specs.ped_pasting.proofs.PastingLaws.TheirCopies.{theirs}
+use Rattle.ped_reindex.specs.ped_loops.specs.ped_scalar.specs.ped_rules.specs.ped_loop_runs.specs.ped_tidy.specs.ped_pasting.specs.ped_bodies.specs.ped_steps.proofs.RunLaws.ExpandedRacesOrigins.{write_in}
+use Rattle.ped_reindex.specs.ped_loops.specs.ped_scalar.specs.ped_rules.specs.ped_loop_runs.specs.ped_tidy.specs.ped_pasting.specs.ped_bodies.specs.ped_steps.proofs.RunLaws.PastedStores.{execution_left}
+use Rattle.ped_reindex.specs.ped_loops.specs.ped_scalar.specs.ped_rules.specs.ped_loop_runs.specs.ped_tidy.specs.ped_pasting.specs.ped_bodies.specs.ped_steps.proofs.RunLaws.PrivatisedPrograms.{shown_scalar}
+use Rattle.ped_reindex.specs.ped_loops.specs.ped_scalar.specs.ped_rules.specs.ped_loop_runs.specs.ped_tidy.specs.ped_pasting.specs.ped_bodies.specs.ped_steps.specs.Runs.Exchanging.{is_of_scalar}
+use Rattle.ped_reindex.specs.ped_loops.specs.ped_scalar.specs.ped_rules.specs.ped_loop_runs.specs.ped_tidy.specs.ped_pasting.specs.ped_bodies.specs.ped_steps.specs.ped_laws.proofs.FlowRunLaws.DeadExits.{unwanted_behind}
+use Rattle.ped_reindex.specs.ped_loops.specs.ped_scalar.specs.ped_rules.specs.ped_loop_runs.specs.ped_tidy.specs.ped_pasting.specs.ped_bodies.specs.ped_steps.specs.ped_laws.proofs.FlowRunLaws.Stopping.{fitting_stops}
+use Rattle.ped_reindex.specs.ped_loops.specs.ped_scalar.specs.ped_rules.specs.ped_loop_runs.specs.ped_tidy.specs.ped_pasting.specs.ped_bodies.specs.ped_steps.specs.ped_laws.proofs.ActLaws.Renamings.{after_other}
+use Rattle.ped_reindex.specs.ped_loops.specs.ped_scalar.specs.ped_rules.specs.ped_loop_runs.specs.ped_tidy.specs.ped_pasting.specs.ped_bodies.specs.ped_steps.specs.ped_laws.specs.FlowRuns.Exits.{IsExit}
 use Rattle.ped_reindex.specs.ped_loops.specs.ped_scalar.specs.ped_rules.specs.ped_loop_runs.specs.Carried.{AllStoreWithin}
 use Rattle.ped_reindex.specs.ped_loops.specs.ped_scalar.specs.ped_rules.specs.ped_loop_runs.specs.ped_tidy.specs.ped_pasting.specs.ped_bodies.specs.ped_steps.specs.ped_laws.specs.Acts.Pieces.{StandsFor}
 use Rattle.ped_reindex.specs.ped_loops.specs.ped_scalar.specs.ped_rules.specs.ped_loop_runs.specs.ped_tidy.specs.ped_pasting.specs.ped_bodies.specs.ped_steps.specs.ped_laws.specs.Runs.Replaying.{finish_of, goes_on}
 use Rattle.ped_reindex.specs.ped_loops.specs.ped_scalar.specs.ped_rules.specs.ped_loop_runs.specs.ped_tidy.specs.ped_pasting.specs.ped_bodies.specs.ped_steps.specs.ped_laws.specs.Runs.Showing.{shown_at_end}
 use Rattle.ped_reindex.specs.ped_loops.specs.ped_scalar.specs.ped_rules.specs.ped_loop_runs.specs.ped_tidy.specs.ped_pasting.specs.ped_bodies.specs.ped_steps.specs.ped_laws.specs.ped_eval.specs.Evaluation.{Seen}
-use Rattle.ped_reindex.specs.ped_loops.specs.ped_scalar.specs.ped_rules.specs.ped_loop_runs.specs.ped_tidy.specs.ped_pasting.specs.ped_bodies.specs.ped_steps.specs.ped_laws.specs.ped_eval.specs.Loops.{Entered}
+use Rattle.ped_reindex.specs.ped_loops.specs.ped_scalar.specs.ped_rules.specs.ped_loop_runs.specs.ped_tidy.specs.ped_pasting.specs.ped_bodies.specs.ped_steps.specs.ped_laws.specs.ped_eval.specs.Loops.{Entered, frame, inner_variables}
 use Rattle.ped_reindex.specs.ped_loops.specs.ped_scalar.specs.ped_rules.specs.ped_loop_runs.specs.ped_tidy.specs.ped_pasting.specs.ped_bodies.specs.ped_steps.specs.ped_laws.specs.ped_eval.specs.Outcomes.{Ends, run_of, setting_of}
 use Rattle.ped_reindex.specs.ped_loops.specs.ped_scalar.specs.ped_rules.specs.ped_loop_runs.specs.ped_tidy.specs.ped_pasting.specs.ped_bodies.specs.ped_steps.specs.ped_laws.specs.ped_eval.specs.Runs.{run}
 use Rattle.ped_reindex.specs.ped_loops.specs.ped_scalar.specs.ped_rules.specs.ped_loop_runs.specs.ped_tidy.specs.ped_pasting.specs.ped_bodies.specs.ped_steps.specs.ped_laws.specs.ped_eval.specs.Scopes.{Scope, Setting, cell_of, place_of, turns_of}
@@ -30,10 +47,11 @@ use Rattle.ped_reindex.specs.ped_loops.specs.ped_scalar.specs.ped_rules.specs.pe
 use Rattle.ped_reindex.specs.ped_loops.specs.ped_scalar.specs.ped_rules.specs.ped_loop_runs.specs.ped_tidy.specs.ped_pasting.specs.ped_bodies.specs.ped_steps.specs.ped_laws.specs.ped_store.specs.Cells.{Cell, Iteration, same_cell}
 use Rattle.ped_reindex.specs.ped_loops.specs.ped_scalar.specs.ped_rules.specs.ped_loop_runs.specs.ped_tidy.specs.ped_pasting.specs.ped_bodies.specs.ped_steps.specs.ped_laws.specs.ped_store.specs.Stores.{Store, store_at_start}
 use Rattle.ped_reindex.specs.ped_loops.specs.ped_scalar.specs.ped_rules.specs.ped_loop_runs.specs.ped_tidy.specs.ped_pasting.specs.ped_bodies.specs.ped_steps.specs.ped_weaves.specs.Apart.{agreed}
+use Rattle.ped_reindex.specs.ped_loops.specs.ped_scalar.specs.ped_rules.specs.ped_loop_runs.specs.ped_tidy.specs.ped_pasting.specs.ped_bodies.specs.ped_steps.specs.ped_weaves.proofs.WeaveLaws.AgreedApart.{agreed_before_or_written, needed_agreed}
 use Rattle.ped_reindex.specs.ped_loops.specs.ped_scalar.specs.ped_rules.specs.ped_loop_runs.specs.ped_tidy.specs.ped_pasting.specs.ped_bodies.specs.ped_steps.specs.ped_weaves.proofs.WeaveLaws.KnotRows.{blocks_append, knotted_append}
 use Rattle.ped_reindex.specs.ped_loops.specs.ped_scalar.specs.ped_rules.specs.ped_loop_runs.specs.ped_tidy.specs.ped_pasting.specs.ped_bodies.specs.ped_steps.specs.ped_weaves.proofs.WeaveLaws.Woven.{woven_stands}
-use Rattle.ped_reindex.specs.ped_loops.specs.ped_scalar.specs.ped_rules.specs.ped_loop_runs.specs.ped_tidy.specs.ped_pasting.specs.ped_bodies.specs.ped_steps.specs.ped_weaves.specs.Weaves.{IsWoven, Knot, Weave, blocks_in, knotted, new_list, old_list}
-use Rattle.ped_reindex.specs.ped_loops.proofs.SwappedStands.{stands_apart}
+use Rattle.ped_reindex.specs.ped_loops.specs.ped_scalar.specs.ped_rules.specs.ped_loop_runs.specs.ped_tidy.specs.ped_pasting.specs.ped_bodies.specs.ped_steps.specs.ped_weaves.specs.Weaves.{IsWoven, Knot, Weave, blocks_in, control, knotted, new_list, old_list}
+use Rattle.ped_reindex.specs.ped_loops.proofs.SwappedStands.{agreed_wanted, idle_apart, not_so, stands_apart}
 use Rattle.ped_splits.proofs.SplitFacts.{IsSplit, UnrejectedLaw}
 use Rattle.ped_splits.proofs.SplitNumbers.{split_numbers}
 use Rattle.ped_splits.proofs.SplitPlaces.{end_of}
@@ -41,6 +59,8 @@ use Rattle.ped_splits.proofs.SplitConflicts.{AreTwoPieces, pieces_apart}
 use Rattle.ped_splits.proofs.SplitOrders.{new_blocks, old_blocks, units_ordered}
 use Rattle.ped_splits.proofs.SplitKnots.{loop_blocks, loop_knots, loop_list}
 use Rattle.ped_splits.proofs.SplitNames.{split_names}
+use Rattle.ped_splits.proofs.SplitPieces.{of_unit, parts_of_run, unit_stores}
+use Rattle.ped_splits.proofs.SplitControls.{any_there, controls_within}
 use Rattle.ped_splits.proofs.BlockPlaces.{found_apart, found_rising, rising_range}
 use Rattle.ped_splits.proofs.DistributeTrusted.{each_placed}
 use Rattle.ped_splits.proofs.SplitRuns as runs
@@ -131,10 +151,30 @@ module _ (making : MakingLaw) (sequence : SequenceLaw) (law : UnrejectedLaw) (t 
       (λ i k j h b c from to low high inside within order here there back. pieces_apart making sequence law t s l found x data_bytes idle k h b c (old_unit i k) (old_unit j h) inside within (two_pieces i k j h from to low high inside within order) (stores_idle i k from to inside) (stores_idle j h low high within) here there back)))
     where
       two_pieces : (i k j h : ℕ) → 1 ≤ i → i ≤ e.count → 1 ≤ j → j ≤ e.count → k < many_units → h < many_units → (i < j) ⊎ ((i ≡ j) × (k < h)) → AreTwoPieces making sequence law t s l found x data_bytes k h (old_unit i k) (old_unit j h)
-      two_pieces i k j h from to low high inside within order = ?two_pieces
+      two_pieces i k j h from to low high inside within order =
+          let parts = parts_of_run t s l found x scope v goes i k j h from to low high inside within order in
+          record {
+            front = front ++ parts.before;
+            between = parts.between;
+            behind = parts.behind ++ behind;
+            is = executed.whole ∙ ap (λ (acts : List Act). front ++ (acts ++ behind)) parts.is ∙ around front parts.before (old_unit i k) parts.between (old_unit j h) parts.behind behind;
+            outer = turns_of scope;
+            first = (frame e i).turn;
+            second = (frame e j).turn;
+            first_unit = of_unit t s l found x scope v goes i k from to inside;
+            second_unit = of_unit t s l found x scope v goes j h low high within;
+            first_is = refl;
+            second_is = refl;
+            order = elim order [ inl less ↦ inl less | inr same ↦ inr (ap (λ (n : ℕ). (frame e n).turn) same.0, same.1) ];
+          }
+
+      around : (a b c d f g h : List Act) → a ++ ((b ++ (c ++ (d ++ (f ++ g)))) ++ h) ≡ (a ++ b) ++ (c ++ (d ++ (f ++ (g ++ h))))
+      around a b c d f g h =
+          ap (λ ys. a ++ ys) (append_assoc b (c ++ (d ++ (f ++ g))) h ∙ ap (λ ys. b ++ ys) (append_assoc c (d ++ (f ++ g)) h ∙ ap (λ ys. c ++ ys) (append_assoc d (f ++ g) h ∙ ap (λ ys. d ++ ys) (append_assoc f g h))))
+          ∙ sym (append_assoc a b (c ++ (d ++ (f ++ (g ++ h)))))
 
       stores_idle : (i k : ℕ) → 1 ≤ i → i ≤ e.count → k < many_units → AllStoreWithin idle (old_unit i k)
-      stores_idle i k from to inside = ?stores_idle
+      stores_idle i k from to inside a m touch j own = ap (λ (b : Bool). b || list_any (λ y. same_cell (cell_of scope y) touch.cell) l.head.private) (unit_stores t s l found x scope v goes i k from to inside a m touch j own)
 
   abbrev before : Cell → Bool
   before = agreed (stands_apart variables) (shown_at_end t) (old_list its_weave ++ behind)
@@ -145,10 +185,33 @@ module _ (making : MakingLaw) (sequence : SequenceLaw) (law : UnrejectedLaw) (t 
   abbrev almost : Cell → Bool
   almost c = agreed (stands_apart variables) (shown_at_end t) behind c && not (idle c)
 
+  no_inner : e.inner ≡ []
+  no_inner = ap (λ (b : Bool). inner_variables b l.body) x.serial
+
+  variable_idle : idle (cell_of scope l.head.variable) ≡ true
+  variable_idle = ap (λ (b : Bool). b || list_any (λ y. same_cell (cell_of scope y) (cell_of scope l.head.variable)) l.head.private)
+      (cell_among variables scope l.head.variable ∙ ap (λ (b : Bool). b || is_among l.head.variable (all_loop_variables l.body)) (text_itself l.head.variable))
+
+  private_idle : (y : List ℕ) → IsIn y l.head.private → idle (cell_of scope y) ≡ true
+  private_idle y i =
+      ap (λ (b : Bool). is_cell_among variables (cell_of scope y) || b) (any_there (λ z. same_cell (cell_of scope z) (cell_of scope y)) l.head.private y i (is_cell (cell_of scope y) (cell_of scope y) refl))
+      ∙ or_true (is_cell_among variables (cell_of scope y))
+    where
+      or_true : (a : Bool) → a || true ≡ true
+      or_true true = refl
+      or_true false = refl
+
+  new_controls : (at : ℕ) (bs : List (List ℕ)) (c : List Act) → IsIn (control c) (new_knots at bs) → WriteWithin idle (touches_of c)
+  new_controls at [] c i = absurd i
+  new_controls at (block ∷ bs) c i = elim (in_parts (control c) (loop_knots (entered_at at) scope (place_of q at scope) seen block) (new_knots (end_of l.body (at + 1) block) bs) i) [
+    | inl j ↦ controls_within idle (entered_at at) scope x.serial no_inner variable_idle private_idle (place_of q at scope) seen block c j
+    | inr j ↦ new_controls (end_of l.body (at + 1) block) bs c j
+  ]
+
   woven : IsWoven its_weave before almost v
   woven = record {
-    controls = ?controls;
-    new_controls = ?new_controls;
+    controls = λ c i. controls_within idle e scope x.serial no_inner variable_idle private_idle (place_of p s scope) seen (range_with_len 0 many_units) c i;
+    new_controls = new_controls s found;
     steady = ?steady;
     unread = ?unread;
     renamed = ?renamed;
@@ -157,7 +220,10 @@ module _ (making : MakingLaw) (sequence : SequenceLaw) (law : UnrejectedLaw) (t 
     once = ordered.0;
     reordered = ordered.1;
     kept = ordered.2;
-    suit = ?suit;
+    suit = record {
+      needed = λ c k. needed_agreed (stands_apart variables) (shown_at_end t) (old_list its_weave) behind c k;
+      wanted = λ c k. (let parts = and_parts (agreed (stands_apart variables) (shown_at_end t) behind c) (not (idle c)) k in (not_so (idle c) parts.1, agreed_before_or_written (stands_apart variables) (shown_at_end t) (old_list its_weave) behind c parts.0));
+    };
     own = ?own;
     own_behind = ?own_behind;
   }
@@ -168,20 +234,53 @@ module _ (making : MakingLaw) (sequence : SequenceLaw) (law : UnrejectedLaw) (t 
   weak : StandsFor (record { agreed = before; old = old_list its_weave; new = new_list its_weave }) almost v
   weak = woven_stands its_weave before almost v fits woven
 
-  -- of idle cells some are written by the last act of both lists, and the others by none of either, or they aren't wanted
-  idle_same : (w : Store) → (c : Cell) → idle c ≡ true → wanted c ≡ true → v c ≡ w c → store_after (old_list its_weave) v c ≡ store_after (new_list its_weave) w c
-  idle_same w c i m same = ?idle_same
+  -- nobody wants behind the DO what a variable of it stands for, or a copy inside it
+  exit : IsExit p t (store_at_start (lines data_bytes)) s scope behind
+  exit = execution_left p t (store_at_start (lines data_bytes)) s l scope v ends executed.place (as_done executed) goes
 
-  -- a cell that is idle and wanted behind is agreed on before
-  idle_before : (c : Cell) → idle c ≡ true → wanted c ≡ true → before c ≡ true
-  idle_before c i m = ?idle_before
+  dead : (y : List ℕ) → is_among y variables ≡ true → wants (shown_at_end t) behind (cell_of scope y) ≡ false
+  dead y i = unwanted_behind p (λ m n same. same) t y (variables_unnamed t x.valid s l y i) (fitting_stops t x.valid.fits) (store_at_start (lines data_bytes)) s scope behind exit ((x.contained y (record { loop = l; among = i })).1) (shown_at_end t) (shown_scalar t y scope)
+
+  unwanted_copy : (c : Cell) → IsCopyInside p scope s (statements_count (alone (Do l.head l.body))) c → wants (shown_at_end t) behind c ≡ true → ⊥
+  unwanted_copy c copy m = both_ways (wants (shown_at_end t) behind c) ((theirs p scope s (statements_count (alone (Do l.head l.body))) c copy t (lines data_bytes) front old_acts behind v executed).unwanted (shown_at_end t) (ap (shown_at_end t) copy.is)) m
+
+  unreached : (c : Cell) → is_cell_among variables c ≡ true → wants (shown_at_end t) behind c ≡ true → IsOwn p scope c ⊎ IsCopyInside p scope s (statements_count (alone (Do l.head l.body))) c → ⊥
+  unreached c i m (inl (inl own)) =
+      let named : is_among own.0 variables ≡ true = sym (cell_among variables scope own.0) ∙ ap (is_cell_among variables) (sym own.1) ∙ i in
+      both_ways (wants (shown_at_end t) behind c) (ap (wants (shown_at_end t) behind) own.1 ∙ dead own.0 named) m
+  unreached c i m (inl (inr none)) = both_ways (is_of_scalar c) none (among_of_scalar variables c i)
+  unreached c i m (inr copy) = unwanted_copy c copy m
+
+  false_unless : (b : Bool) → (b ≡ true → ⊥) → b ≡ false
+  false_unless true h = absurd (h refl)
+  false_unless false h = refl
+
+  old_unwritten : (c : Cell) → is_cell_among variables c ≡ true → wants (shown_at_end t) behind c ≡ true → written (old_list its_weave) c ≡ false
+  old_unwritten c i m = ap (λ (acts : List Act). written acts c) (sym whole_old) ∙ false_unless (written old_acts c) (λ k.
+      let r = write_in old_acts c k in
+      unreached c i m (subst (λ (y : Cell). IsOwn p scope y ⊎ IsCopyInside p scope s (statements_count (alone (Do l.head l.body))) y) r.4
+      (subst (λ (n : ℕ). IsOwn p scope r.2.cell ⊎ IsCopyInside p scope s n r.2.cell) (let many : statement_count (Do l.head l.body) ≡ statements_count (alone (Do l.head l.body)) = omega arith in many) (run_reaches p (Do l.head l.body) s scope v r.0 r.1 r.2 r.3))))
+
+  new_unwritten : (c : Cell) → is_cell_among variables c ≡ true → wants (shown_at_end t) behind c ≡ true → written (new_list its_weave) c ≡ false
+  new_unwritten c i m = ?new_unwritten
+
+  -- at the place of the DO its PRIVATE names are undefined behind both lists
+  private_same : (w : Store) (c : Cell) → list_any (λ y. same_cell (cell_of scope y) c) l.head.private ≡ true → store_after (old_list its_weave) v c ≡ store_after (new_list its_weave) w c
+  private_same w c i = ?private_same
 
   stands : StandsFor (record { agreed = before; old = old_list its_weave; new = new_list its_weave }) wanted v
-  stands w agree = let a = weak w agree in (a.0, (λ c m. go a.1 c m (idle c) refl))
+  stands w agree = let a = weak w agree in (a.0, (λ c m. go a.1 c m (is_cell_among variables c) (list_any (λ y. same_cell (cell_of scope y) c) l.head.private) refl refl))
     where
-      go : AgreeIn almost (store_after (old_list its_weave) v) (store_after (new_list its_weave) w) → (c : Cell) → wanted c ≡ true → (b : Bool) → idle c ≡ b → store_after (old_list its_weave) v c ≡ store_after (new_list its_weave) w c
-      go most c m false i = most c ((λ j. m j && not (i j)))
-      go most c m true i = idle_same w c i m (agree c (idle_before c i m))
+      go : AgreeIn almost (store_after (old_list its_weave) v) (store_after (new_list its_weave) w) → (c : Cell) → wanted c ≡ true → (a b : Bool) → is_cell_among variables c ≡ a → list_any (λ y. same_cell (cell_of scope y) c) l.head.private ≡ b
+          → store_after (old_list its_weave) v c ≡ store_after (new_list its_weave) w c
+      go most c m a true i j = private_same w c j
+      go most c m false false i j = most c (λ k. m k && not (i k || j k))
+      go most c m true false i j =
+          let asked : wants (shown_at_end t) behind c ≡ true = agreed_wanted (stands_apart variables) (shown_at_end t) behind c (idle_apart variables c i) m in
+          let first = old_unwritten c i asked in
+          let second = new_unwritten c i asked in
+          let there : before c ≡ true = elim (agreed_before_or_written (stands_apart variables) (shown_at_end t) (old_list its_weave) behind c m) [ inl k ↦ k | inr k ↦ absurd (both_ways (written (old_list its_weave) c) first k) ] in
+          after_other (old_list its_weave) v c first ∙ agree c there ∙ sym (after_other (new_list its_weave) w c second)
 
   pub stands_made : StandsFor (record { agreed = agreed (stands_apart (loop_variables (Do l.head l.body))) (shown_at_end t) (old_acts ++ behind); old = old_acts; new = made }) (agreed (stands_apart (loop_variables (Do l.head l.body))) (shown_at_end t) behind) v
   stands_made =

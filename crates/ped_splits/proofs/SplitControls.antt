@@ -1,7 +1,7 @@
 -- The entries and ends of DO loops with PRIVATE names: they write the variable and, at the place of the DO, the PRIVATE names.
-use Rattle.std.proofs.Common.{◌≡◌, ◌⊎◌, ℕ, suc, ◌-◌, ◌==◌, List, [], ◌∷◌, ◌++◌, Bool, true, false, ◌||◌, inl, inr, refl, sym, ap, subst, ◌∙◌, append-nil, if◌then◌else◌}
+use Rattle.std.proofs.Common.{◌≡◌, ◌⊎◌, ℕ, suc, ◌-◌, ◌==◌, ◌+◌, ◌<◌, ◌≤◌, List, [], ◌∷◌, ◌++◌, Bool, true, false, ◌||◌, inl, inr, refl, sym, ap, subst, ◌∙◌, append-nil, if◌then◌else◌, arith}
 use Rattle.std.specs.List.{flat_map, list_any, range_with_len}
-use Rattle.ped_reindex.specs.ped_loops.proofs.NestKnots.{in_rows}
+use Rattle.ped_reindex.specs.ped_loops.proofs.NestKnots.{in_numbers, in_rows}
 use Rattle.ped_reindex.specs.ped_loops.specs.ped_scalar.specs.ped_rules.specs.ped_loop_runs.specs.ped_tidy.specs.ped_pasting.specs.ped_bodies.proofs.BodyLaws.TripLists.{end_in_order}
 use Rattle.ped_reindex.specs.ped_loops.specs.ped_scalar.specs.ped_rules.specs.ped_loop_runs.specs.ped_tidy.specs.ped_pasting.specs.ped_bodies.specs.Trips.{loop_entry, trip_end}
 use Rattle.ped_reindex.specs.ped_loops.specs.ped_scalar.specs.ped_rules.specs.ped_loop_runs.specs.ped_tidy.specs.ped_pasting.specs.ped_bodies.specs.ped_steps.specs.ped_laws.proofs.ActLaws.Lists.{in_parts}
@@ -34,6 +34,28 @@ module _ (e : Entered) (scope : Scope) (at : Place) where
   none_of_units [] i c h = h
   none_of_units (k ∷ ks) i c (inl q) = absurd cc
   none_of_units (k ∷ ks) i c (inr h) = none_of_units ks i c h
+
+  block_of : (ks : List ℕ) (n i k : ℕ) → IsIn (block i k) (unit_knots ks n) → (i ≡ n) × IsIn k ks
+  block_of [] n i k h = absurd h
+  block_of (z ∷ ks) n i k (inl q) = let one : i ≡ n = cc in let other : k ≡ z = cc in (one, inl other)
+  block_of (z ∷ ks) n i k (inr h) = let r = block_of ks n i k h in (r.0, inr r.1)
+
+  -- a block is that of one of the units in an iteration
+  pub block_known : (seen : List Seen) (ks : List ℕ) (i k : ℕ) → IsIn (block i k) (loop_knots e scope at seen ks) → (1 ≤ i) × (i ≤ e.count) × IsIn k ks
+  block_known seen ks i k (inl q) = absurd cc
+  block_known seen ks i k (inr h) =
+      let r = in_rows (trip_knots e scope at ks) (range_with_len 1 e.count) (block i k) h in
+      let w = in_numbers e.count 1 r.0 r.1 in
+      let low = w.0 in
+      let high = w.1 in
+      let b = by r.0 (in_parts (block i k) (unit_knots ks r.0) (control (trip_end e scope at r.0) ∷ []) r.2) in
+      let same = b.0 in
+      (omega (arith, same, low), omega (arith, same, high), b.1)
+    where
+      by : (n : ℕ) → IsIn (block i k) (unit_knots ks n) ⊎ IsIn (block i k) (control (trip_end e scope at n) ∷ []) → (i ≡ n) × IsIn k ks
+      by n (inl j) = block_of ks n i k j
+      by n (inr (inl q)) = absurd cc
+      by n (inr (inr none)) = absurd none
 
   -- a control is the entry or an end
   pub control_is : (seen : List Seen) (ks : List ℕ) (c : List Act) → IsIn (control c) (loop_knots e scope at seen ks) → (c ≡ loop_entry seen e scope at ∷ []) ⊎ ((i : ℕ) × (c ≡ trip_end e scope at i))

@@ -20,10 +20,11 @@ use Rattle.ped_reindex.specs.ped_loops.specs.ped_scalar.specs.ped_rules.specs.pe
 use Rattle.ped_reindex.specs.ped_loops.specs.ped_scalar.specs.ped_rules.specs.ped_loop_runs.specs.ped_tidy.specs.ped_pasting.specs.Executions.{IsExecuted, StandsInside}
 use Rattle.ped_reindex.specs.ped_loops.specs.ped_scalar.specs.ped_rules.specs.ped_loop_runs.specs.ped_tidy.specs.ped_pasting.specs.ped_bodies.specs.Likewise.{AreLikewise}
 use Rattle.ped_reindex.specs.ped_loops.specs.ped_scalar.specs.ped_rules.specs.ped_loop_runs.specs.ped_tidy.specs.ped_pasting.specs.ped_bodies.specs.Moving.{is_cell_among, own_number}
+use Rattle.ped_reindex.specs.ped_loops.specs.ped_scalar.specs.ped_rules.specs.ped_loop_runs.specs.ped_tidy.specs.ped_pasting.specs.ped_bodies.specs.Trips.{loop_acts}
 use Rattle.ped_reindex.specs.ped_loops.specs.ped_scalar.specs.ped_rules.specs.ped_loop_runs.specs.ped_tidy.specs.ped_pasting.specs.ped_bodies.specs.ped_steps.specs.Replacing.{alone, followed}
 use Rattle.ped_reindex.specs.ped_loops.specs.ped_scalar.specs.ped_rules.specs.ped_loop_runs.specs.ped_tidy.specs.ped_pasting.specs.ped_bodies.specs.ped_steps.specs.Runs.Gaps.{Gap, at_front, filled, in_body, in_else, in_then, number_at, past}
 use Rattle.ped_reindex.specs.ped_loops.specs.ped_scalar.specs.ped_rules.specs.ped_loop_runs.specs.ped_tidy.specs.ped_pasting.specs.ped_bodies.specs.ped_steps.specs.ped_flow.specs.Questions.{LoopOf}
-use Rattle.ped_reindex.specs.ped_loops.specs.ped_scalar.specs.ped_rules.specs.ped_loop_runs.specs.ped_tidy.specs.ped_pasting.specs.ped_bodies.specs.ped_steps.specs.ped_laws.proofs.FlowRunLaws.Standing.{Stand, counts_long, else_stands, first_stands, inner_stands, rest_stands, second_stands, whole_stands}
+use Rattle.ped_reindex.specs.ped_loops.specs.ped_scalar.specs.ped_rules.specs.ped_loop_runs.specs.ped_tidy.specs.ped_pasting.specs.ped_bodies.specs.ped_steps.specs.ped_laws.proofs.FlowRunLaws.Standing.{Stand, else_stands, first_stands, inner_stands, rest_stands, whole_stands}
 use Rattle.ped_reindex.specs.ped_loops.specs.ped_scalar.specs.ped_rules.specs.ped_loop_runs.specs.ped_tidy.specs.ped_pasting.specs.ped_bodies.specs.ped_steps.specs.ped_laws.specs.Acts.Orders.{IsIn}
 use Rattle.ped_reindex.specs.ped_loops.specs.ped_scalar.specs.ped_rules.specs.ped_loop_runs.specs.ped_tidy.specs.ped_pasting.specs.ped_bodies.specs.ped_steps.specs.ped_laws.specs.Acts.Sets.{nothing}
 use Rattle.ped_reindex.specs.ped_loops.specs.ped_scalar.specs.ped_rules.specs.ped_loop_runs.specs.ped_tidy.specs.ped_pasting.specs.ped_bodies.specs.ped_steps.specs.ped_laws.proofs.ConflictLaws.CoveringRuns.{MakingLaw, SequenceLaw}
@@ -76,7 +77,7 @@ module _ (t : ProgramTree) where
   units_stand (u ∷ us) n (suc k) less h =
       subst (λ (m : ℕ). Stand t m (all_numbered (slice_index_or us k no_stmts))) (let e : n + statements_count u + offset us k ≡ n + (statements_count u + offset us k) = omega arith in e)
       (units_stand us (n + statements_count u) k (omega (arith, less))
-      (second_stands t n (n + statements_count u) (all_numbered u) (all_numbered (joined us)) (let long = counts_long u in omega (arith, long)) (subst (Stand t n) (followed_numbered u (joined us)) h)))
+      (else_stands t u (joined us) n (subst (Stand t n) (followed_numbered u (joined us)) h)))
 
 -- what a unit did is done by its statements
 module _ (t : ProgramTree) (s : ℕ) (l : LoopOf t s) (found : List (List ℕ)) (x : IsSplit t s l found) (scope : Scope) (v : Store) (goes : finish_of (run (setting_of t) (Do l.head l.body) s scope v).ending ≡ goes_on) where
@@ -144,16 +145,19 @@ module _ (t : ProgramTree) (s : ℕ) (l : LoopOf t s) (found : List (List ℕ)) 
   abbrev whole : List Act
   whole = (run (setting_of t) (Do l.head l.body) s scope v).acts
 
+  abbrev by_trips : List Act
+  by_trips = loop_acts (runs.seen t s l found x scope v goes) e scope (place_of p s scope) (runs.old t s l found x scope v goes).trip
+
   pub parts_of_run : (i k j h : ℕ) → 1 ≤ i → i ≤ e.count → 1 ≤ j → j ≤ e.count → k < length (units l.body) → h < length (units l.body) → (i < j) ⊎ ((i ≡ j) × (k < h)) → AreParts whole (old_unit i k) (old_unit j h)
   parts_of_run i k j h from to low high inside within (inl less) =
       let old = runs.old t s l found x scope v goes in
       subst (λ (acts : List Act). AreParts acts (old_unit i k) (old_unit j h)) (sym old.acts)
-      (parts_inside _ (old.trip i) (old.trip j) (old_unit i k) (old_unit j h) (trips_in_loop (runs.seen t s l found x scope v goes) e scope (place_of p s scope) old.trip i j from less high) (trip_unit i k from to inside) (trip_unit j h low high within))
+      (parts_inside by_trips (old.trip i) (old.trip j) (old_unit i k) (old_unit j h) (trips_in_loop (runs.seen t s l found x scope v goes) e scope (place_of p s scope) old.trip i j from less high) (trip_unit i k from to inside) (trip_unit j h low high within))
   parts_of_run i k j h from to low high inside within (inr same) =
       let old = runs.old t s l found x scope v goes in
       subst (λ (acts : List Act). AreParts acts (old_unit i k) (old_unit j h)) (sym old.acts)
-      (subst (λ (n : ℕ). AreParts _ (old_unit i k) (old_unit n h)) same.0
-      (parts_around _ (old.trip i) (old_unit i k) (old_unit i h) (trip_in_loop (runs.seen t s l found x scope v goes) e scope (place_of p s scope) old.trip i from to) (two_units i k h from to same.1 within)))
+      (subst (λ (n : ℕ). AreParts by_trips (old_unit i k) (old_unit n h)) same.0
+      (parts_around by_trips (old.trip i) (old_unit i k) (old_unit i h) (trip_in_loop (runs.seen t s l found x scope v goes) e scope (place_of p s scope) old.trip i from to) (two_units i k h from to same.1 within)))
 
   -- own stores are those of variables of DO loops
   its_variables : (k : ℕ) (y : List ℕ) → is_among y (all_loop_variables (unit k)) ≡ true → is_among y (loop_variables (Do l.head l.body)) ≡ true

@@ -16,9 +16,11 @@ use Rattle.ped_reindex.specs.ped_loops.specs.ped_scalar.specs.ped_rules.specs.pe
 use Rattle.ped_reindex.specs.ped_loops.specs.ped_scalar.specs.ped_rules.specs.ped_loop_runs.specs.ped_tidy.specs.ped_pasting.specs.ped_bodies.specs.ped_steps.specs.ped_flow.specs.Questions.{LoopOf}
 use Rattle.ped_reindex.specs.ped_loops.specs.ped_scalar.specs.ped_rules.specs.ped_loop_runs.specs.ped_tidy.specs.ped_pasting.specs.ped_bodies.specs.ped_steps.specs.ped_laws.proofs.ConflictLaws.CoveringRuns.{MakingLaw, SequenceLaw}
 use Rattle.ped_reindex.specs.ped_loops.specs.ped_scalar.specs.ped_rules.specs.ped_loop_runs.specs.ped_tidy.specs.ped_pasting.specs.ped_bodies.specs.ped_steps.specs.ped_laws.proofs.RunLaws.StatementsTold.{run_told}
-use Rattle.ped_reindex.specs.ped_loops.specs.ped_scalar.specs.ped_rules.specs.ped_loop_runs.specs.ped_tidy.specs.ped_pasting.specs.ped_bodies.specs.ped_steps.specs.ped_laws.specs.Acts.Conflicts.{WriteWithin}
+use Rattle.ped_reindex.specs.ped_loops.specs.ped_scalar.specs.ped_rules.specs.ped_loop_runs.specs.ped_tidy.specs.ped_pasting.specs.ped_bodies.specs.ped_steps.specs.ped_laws.specs.Acts.Conflicts.{ReadNone, WriteWithin, without}
 use Rattle.ped_reindex.specs.ped_loops.specs.ped_scalar.specs.ped_rules.specs.ped_loop_runs.specs.ped_tidy.specs.ped_pasting.specs.ped_bodies.specs.ped_steps.specs.ped_laws.proofs.ActLaws.Lists.{in_parts}
 use Rattle.ped_reindex.specs.ped_loops.specs.ped_scalar.specs.ped_rules.specs.ped_loop_runs.specs.ped_tidy.specs.ped_pasting.specs.ped_bodies.specs.ped_steps.specs.ped_laws.proofs.ActLaws.SameCells.{is_cell, text_itself}
+use Rattle.ped_reindex.specs.ped_loops.specs.ped_scalar.specs.ped_rules.specs.ped_loop_runs.specs.ped_tidy.specs.ped_pasting.specs.ped_bodies.specs.ped_steps.specs.ped_laws.specs.Acts.Renaming.{Renamed}
+use Rattle.ped_reindex.specs.ped_loops.proofs.NestKnots.{in_numbers}
 use Rattle.ped_reindex.specs.ped_loops.specs.ped_scalar.specs.ped_rules.specs.ped_loop_runs.specs.ped_tidy.specs.ped_pasting.specs.ped_bodies.specs.ped_steps.specs.ped_laws.specs.Acts.Fitting.{Fits, store_after, touches_of}
 use Rattle.ped_reindex.specs.ped_loops.specs.ped_scalar.specs.ped_rules.specs.ped_loop_runs.specs.ped_tidy.specs.ped_pasting.specs.ped_bodies.specs.ped_steps.specs.ped_laws.specs.Acts.Orders.{Block, EachOnce, IsIn, IsReordered, KeepsOrder, block_conflict}
 use Rattle.ped_reindex.specs.ped_loops.specs.ped_scalar.specs.ped_rules.specs.ped_loop_runs.specs.ped_tidy.specs.ped_pasting.specs.ped_bodies.specs.ped_steps.specs.ped_laws.specs.Acts.Sets.{AgreeIn, wants, written}
@@ -50,7 +52,7 @@ use Rattle.ped_reindex.specs.ped_loops.specs.ped_scalar.specs.ped_rules.specs.pe
 use Rattle.ped_reindex.specs.ped_loops.specs.ped_scalar.specs.ped_rules.specs.ped_loop_runs.specs.ped_tidy.specs.ped_pasting.specs.ped_bodies.specs.ped_steps.specs.ped_weaves.proofs.WeaveLaws.AgreedApart.{agreed_before_or_written, needed_agreed}
 use Rattle.ped_reindex.specs.ped_loops.specs.ped_scalar.specs.ped_rules.specs.ped_loop_runs.specs.ped_tidy.specs.ped_pasting.specs.ped_bodies.specs.ped_steps.specs.ped_weaves.proofs.WeaveLaws.KnotRows.{blocks_append, knotted_append}
 use Rattle.ped_reindex.specs.ped_loops.specs.ped_scalar.specs.ped_rules.specs.ped_loop_runs.specs.ped_tidy.specs.ped_pasting.specs.ped_bodies.specs.ped_steps.specs.ped_weaves.proofs.WeaveLaws.Woven.{woven_stands}
-use Rattle.ped_reindex.specs.ped_loops.specs.ped_scalar.specs.ped_rules.specs.ped_loop_runs.specs.ped_tidy.specs.ped_pasting.specs.ped_bodies.specs.ped_steps.specs.ped_weaves.specs.Weaves.{IsWoven, Knot, Weave, blocks_in, control, knotted, new_list, old_list}
+use Rattle.ped_reindex.specs.ped_loops.specs.ped_scalar.specs.ped_rules.specs.ped_loop_runs.specs.ped_tidy.specs.ped_pasting.specs.ped_bodies.specs.ped_steps.specs.ped_weaves.specs.Weaves.{IsWoven, Knot, Weave, block, blocks_in, control, knotted, new_list, old_list}
 use Rattle.ped_reindex.specs.ped_loops.proofs.SwappedStands.{agreed_wanted, idle_apart, not_so, stands_apart}
 use Rattle.ped_splits.proofs.SplitFacts.{IsSplit, UnrejectedLaw}
 use Rattle.ped_splits.proofs.SplitNumbers.{split_numbers}
@@ -60,11 +62,16 @@ use Rattle.ped_splits.proofs.SplitOrders.{new_blocks, old_blocks, units_ordered}
 use Rattle.ped_splits.proofs.SplitKnots.{loop_blocks, loop_knots, loop_list}
 use Rattle.ped_splits.proofs.SplitNames.{split_names}
 use Rattle.ped_splits.proofs.SplitPieces.{of_unit, parts_of_run, unit_stores}
-use Rattle.ped_splits.proofs.SplitControls.{any_there, controls_within}
+use Rattle.ped_splits.proofs.SplitControls.{any_there, block_known, controls_within}
 use Rattle.ped_splits.proofs.BlockPlaces.{found_apart, found_rising, rising_range}
 use Rattle.ped_splits.proofs.DistributeTrusted.{each_placed}
 use Rattle.ped_splits.proofs.SplitRuns as runs
 use Rattle.ped_splits.specs.Units.{units}
+
+around : (a b c d f g h : List Act) → a ++ ((b ++ (c ++ (d ++ (f ++ g)))) ++ h) ≡ (a ++ b) ++ (c ++ (d ++ (f ++ (g ++ h))))
+around a b c d f g h =
+    ap (λ ys. a ++ ys) (append_assoc b (c ++ (d ++ (f ++ g))) h ∙ ap (λ ys. b ++ ys) (append_assoc c (d ++ (f ++ g)) h ∙ ap (λ ys. c ++ ys) (append_assoc d (f ++ g) h ∙ ap (λ ys. d ++ ys) (append_assoc f g h))))
+    ∙ sym (append_assoc a b (c ++ (d ++ (f ++ (g ++ h)))))
 
 module _ (making : MakingLaw) (sequence : SequenceLaw) (law : UnrejectedLaw) (t : ProgramTree) (s : ℕ) (l : LoopOf t s) (found : List (List ℕ)) (x : IsSplit t s l found) (data_bytes : List ℕ) (ends : Ends (run_of t data_bytes).ending)
     (scope : Scope) (front behind : List Act) (v : Store) (executed : IsExecuted (setting_of t) t (store_at_start (lines data_bytes)) s (statements_count (alone (Do l.head l.body))) scope front (run (setting_of t) (Do l.head l.body) s scope v).acts behind v)
@@ -168,11 +175,6 @@ module _ (making : MakingLaw) (sequence : SequenceLaw) (law : UnrejectedLaw) (t 
             order = elim order [ inl less ↦ inl less | inr same ↦ inr (ap (λ (n : ℕ). (frame e n).turn) same.0, same.1) ];
           }
 
-      around : (a b c d f g h : List Act) → a ++ ((b ++ (c ++ (d ++ (f ++ g)))) ++ h) ≡ (a ++ b) ++ (c ++ (d ++ (f ++ (g ++ h))))
-      around a b c d f g h =
-          ap (λ ys. a ++ ys) (append_assoc b (c ++ (d ++ (f ++ g))) h ∙ ap (λ ys. b ++ ys) (append_assoc c (d ++ (f ++ g)) h ∙ ap (λ ys. c ++ ys) (append_assoc d (f ++ g) h ∙ ap (λ ys. d ++ ys) (append_assoc f g h))))
-          ∙ sym (append_assoc a b (c ++ (d ++ (f ++ (g ++ h)))))
-
       stores_idle : (i k : ℕ) → 1 ≤ i → i ≤ e.count → k < many_units → AllStoreWithin idle (old_unit i k)
       stores_idle i k from to inside a m touch j own = ap (λ (b : Bool). b || list_any (λ y. same_cell (cell_of scope y) touch.cell) l.head.private) (unit_stores t s l found x scope v goes i k from to inside a m touch j own)
 
@@ -208,13 +210,24 @@ module _ (making : MakingLaw) (sequence : SequenceLaw) (law : UnrejectedLaw) (t 
     | inr j ↦ new_controls (end_of l.body (at + 1) block) bs c j
   ]
 
+  known : (i k : ℕ) → IsIn (block i k) its_weave.old → (1 ≤ i) × (i ≤ e.count) × (k < many_units)
+  known i k h = let r = block_known e scope (place_of p s scope) seen (range_with_len 0 many_units) i k h in let low = in_numbers many_units 0 k r.2 in let high = low.1 in (r.0, r.1, omega (arith, high))
+
+  -- no unit reads a variable of the DO or of one in it, or a PRIVATE name at the place of the DO
+  unit_unread : (i k : ℕ) → 1 ≤ i → i ≤ e.count → k < many_units → ReadNone idle (old_unit i k)
+  unit_unread i k from to inside = ?unit_unread
+
+  -- a unit does the same in the new DO on cells by their new names
+  unit_renamed : (i k : ℕ) → 1 ≤ i → i ≤ e.count → k < many_units → Renamed (split_names t s l found x scope v goes) (without idle (old_unit i k)) (without idle (new_unit i k))
+  unit_renamed i k from to inside = ?unit_renamed
+
   woven : IsWoven its_weave before almost v
   woven = record {
     controls = λ c i. controls_within idle e scope x.serial no_inner variable_idle private_idle (place_of p s scope) seen (range_with_len 0 many_units) c i;
     new_controls = new_controls s found;
     steady = ?steady;
-    unread = ?unread;
-    renamed = ?renamed;
+    unread = λ i k h. (let r = known i k h in unit_unread i k r.0 r.1 r.2);
+    renamed = λ i k h. (let r = known i k h in unit_renamed i k r.0 r.1 r.2);
     one_to_one = ?one_to_one;
     idle_names = ?idle_names;
     once = ordered.0;

@@ -115,7 +115,7 @@ module _ (making : MakingLaw) (sequence : SequenceLaw) (law : UnrejectedLaw) (t 
 
   abbrev new_knots : ℕ → List (List ℕ) → List Knot
   new_knots at [] = []
-  new_knots at (block ∷ bs) = loop_knots (entered_at at) scope (place_of q at scope) seen block ++ new_knots (end_of l.body (at + 1) block) bs
+  new_knots at (ks ∷ bs) = loop_knots (entered_at at) scope (place_of q at scope) seen ks ++ new_knots (end_of l.body (at + 1) ks) bs
 
   abbrev its_weave : Weave
   its_weave = record {
@@ -133,9 +133,9 @@ module _ (making : MakingLaw) (sequence : SequenceLaw) (law : UnrejectedLaw) (t 
 
   lists_are : (at : ℕ) (bs : List (List ℕ)) → runs.split_acts t s l found x scope v goes at bs ≡ knotted new_unit (new_knots at bs)
   lists_are at [] = refl
-  lists_are at (block ∷ bs) =
-      (λ i. sym (loop_list (entered_at at) scope (place_of q at scope) new_unit (λ n. flat_map (new_unit n) block) seen block x.serial (λ n from to. refl)) i ++ lists_are (end_of l.body (at + 1) block) bs i)
-      ∙ sym (knotted_append new_unit (loop_knots (entered_at at) scope (place_of q at scope) seen block) (new_knots (end_of l.body (at + 1) block) bs))
+  lists_are at (ks ∷ bs) =
+      (λ i. sym (loop_list (entered_at at) scope (place_of q at scope) new_unit (λ n. flat_map (new_unit n) ks) seen ks x.serial (λ n from to. refl)) i ++ lists_are (end_of l.body (at + 1) ks) bs i)
+      ∙ sym (knotted_append new_unit (loop_knots (entered_at at) scope (place_of q at scope) seen ks) (new_knots (end_of l.body (at + 1) ks) bs))
 
   whole_new : made ≡ new_list its_weave
   whole_new = lists_are s found
@@ -146,9 +146,9 @@ module _ (making : MakingLaw) (sequence : SequenceLaw) (law : UnrejectedLaw) (t 
 
   blocks_are : (at : ℕ) (bs : List (List ℕ)) → blocks_in old_unit (new_knots at bs) ≡ new_blocks e.count many_units old_unit bs
   blocks_are at [] = refl
-  blocks_are at (block ∷ bs) =
-      blocks_append old_unit (loop_knots (entered_at at) scope (place_of q at scope) seen block) (new_knots (end_of l.body (at + 1) block) bs)
-      ∙ (λ i. loop_blocks (entered_at at) scope (place_of q at scope) many_units old_unit seen block i ++ blocks_are (end_of l.body (at + 1) block) bs i)
+  blocks_are at (ks ∷ bs) =
+      blocks_append old_unit (loop_knots (entered_at at) scope (place_of q at scope) seen ks) (new_knots (end_of l.body (at + 1) ks) bs)
+      ∙ (λ i. loop_blocks (entered_at at) scope (place_of q at scope) many_units old_unit seen ks i ++ blocks_are (end_of l.body (at + 1) ks) bs i)
 
   ordered : Ordered (blocks_in old_unit its_weave.old) (blocks_in old_unit its_weave.new)
   ordered =
@@ -205,9 +205,9 @@ module _ (making : MakingLaw) (sequence : SequenceLaw) (law : UnrejectedLaw) (t 
 
   new_controls : (at : ℕ) (bs : List (List ℕ)) (c : List Act) → IsIn (control c) (new_knots at bs) → WriteWithin idle (touches_of c)
   new_controls at [] c i = absurd i
-  new_controls at (block ∷ bs) c i = elim (in_parts (control c) (loop_knots (entered_at at) scope (place_of q at scope) seen block) (new_knots (end_of l.body (at + 1) block) bs) i) [
-    | inl j ↦ controls_within idle (entered_at at) scope x.serial no_inner variable_idle private_idle (place_of q at scope) seen block c j
-    | inr j ↦ new_controls (end_of l.body (at + 1) block) bs c j
+  new_controls at (ks ∷ bs) c i = elim (in_parts (control c) (loop_knots (entered_at at) scope (place_of q at scope) seen ks) (new_knots (end_of l.body (at + 1) ks) bs) i) [
+    | inl j ↦ controls_within idle (entered_at at) scope x.serial no_inner variable_idle private_idle (place_of q at scope) seen ks c j
+    | inr j ↦ new_controls (end_of l.body (at + 1) ks) bs c j
   ]
 
   known : (i k : ℕ) → IsIn (block i k) its_weave.old → (1 ≤ i) × (i ≤ e.count) × (k < many_units)

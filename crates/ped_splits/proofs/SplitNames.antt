@@ -1,5 +1,5 @@
 -- What copies in the old DO are called in the new ones: a copy further inside belongs to the unit of the DO that it is of, and one of the DO itself to the units that refer to its name.
-use Rattle.std.proofs.Common.{◌≡◌, ℕ, ◌+◌, ◌-◌, List, [], ◌∷◌, ◌++◌, length, filter, Bool, true, false, Option, Some, None, refl, sym, ap, ◌∙◌}
+use Rattle.std.proofs.Common.{◌≡◌, ℕ, ◌⊎◌, ◌+◌, ◌-◌, ◌==◌, List, [], ◌∷◌, ◌++◌, length, filter, Bool, true, false, Option, Some, None, inl, inr, if◌then◌else◌, eqb-true, refl, sym, ap, ◌∙◌}
 use Rattle.std.specs.List.{range_with_len}
 use Rattle.std.specs.Option.{unwrap_or}
 use Rattle.std.specs.Prelude.{slice_index_or}
@@ -14,6 +14,8 @@ use Rattle.ped_reindex.specs.ped_loops.specs.ped_scalar.specs.ped_rules.specs.pe
 use Rattle.ped_reindex.specs.ped_loops.specs.ped_scalar.specs.ped_rules.specs.ped_loop_runs.specs.ped_tidy.specs.ped_pasting.specs.ped_bodies.specs.ped_steps.specs.ped_laws.specs.ped_store.specs.Acts.{iterations_of}
 use Rattle.ped_reindex.specs.ped_loops.specs.ped_scalar.specs.ped_rules.specs.ped_loop_runs.specs.ped_tidy.specs.ped_pasting.specs.ped_bodies.specs.ped_steps.specs.ped_laws.specs.ped_store.specs.Cells.{Cell, Iteration, Scalar, Private, Element, In, Out}
 use Rattle.ped_reindex.specs.ped_loops.specs.ped_scalar.specs.ped_rules.specs.ped_loop_runs.specs.ped_tidy.specs.ped_pasting.specs.ped_bodies.specs.ped_steps.specs.ped_laws.specs.ped_store.specs.Stores.{Store}
+use Rattle.ped_reindex.specs.ped_loops.specs.ped_scalar.specs.ped_rules.specs.ped_loop_runs.proofs.LoopLaws.OneForOneCells.{IsOfLoop}
+use Rattle.ped_reindex.specs.ped_loops.specs.ped_scalar.specs.ped_rules.specs.ped_loop_runs.specs.ped_tidy.specs.ped_pasting.specs.ped_bodies.proofs.BodyLaws.NamesApart.{behind_is}
 use Rattle.ped_splits.proofs.SplitFacts.{IsSplit}
 use Rattle.ped_splits.proofs.SplitNumbers.{split_numbers}
 use Rattle.ped_splits.proofs.SplitRuns as runs
@@ -43,3 +45,36 @@ module _ (t : ProgramTree) (s : ℕ) (l : LoopOf t s) (found : List (List ℕ)) 
   split_names (Element y js) = Element y js
   split_names In = In
   split_names Out = Out
+
+  abbrev front : List Iteration
+  front = iterations_of (turns_of scope)
+
+  in_loop_or_not : (n : ℕ) (i : Iteration) (more : List Iteration) → (in_loop s n (i ∷ more) ≡ i ∷ more) ⊎ (i.statement ≡ s)
+  in_loop_or_not n i more = by (i.statement == s) refl
+    where
+      by : (b : Bool) → (i.statement == s) ≡ b → (in_loop s n (i ∷ more) ≡ i ∷ more) ⊎ (i.statement ≡ s)
+      by true e = inr (eqb-true i.statement s e)
+      by false e = inl (ap (λ (b : Bool). if b then record { statement = n; number = i.number } ∷ more else i ∷ more) e)
+
+  its_loop_or_not : (y : List ℕ) (i : Iteration) (more : List Iteration) → (in_its_loop y (i ∷ more) ≡ i ∷ more) ⊎ (i.statement ≡ s)
+  its_loop_or_not y i [] = in_loop_or_not (number_of (unit_of_name y)) i []
+  its_loop_or_not y i (j ∷ more) = in_loop_or_not (number_of (unit_of_statement j.statement)) i (j ∷ more)
+
+  -- a cell keeps its name, or is a copy inside the DO
+  pub names_or_moves : (c : Cell) → (split_names c ≡ c) ⊎ IsOfLoop (setting_of t) scope s c
+  names_or_moves (Scalar y) = inl refl
+  names_or_moves (Element y js) = inl refl
+  names_or_moves In = inl refl
+  names_or_moves Out = inl refl
+  names_or_moves (Private y path) = go (behind_front front path) refl
+    where
+      renamed : (o : Option (List Iteration)) → behind_front front path ≡ o → split_names (Private y path) ≡ Private y (with_rest front (in_its_loop y) path o)
+      renamed o e = ap (λ (r : Option (List Iteration)). Private y (with_rest front (in_its_loop y) path r)) e
+
+      go : (o : Option (List Iteration)) → behind_front front path ≡ o → (split_names (Private y path) ≡ Private y path) ⊎ IsOfLoop (setting_of t) scope s (Private y path)
+      go None e = inl (renamed None e)
+      go (Some []) e = inl (renamed (Some []) e ∙ ap (Private y) (sym (behind_is front path [] e)))
+      go (Some (i ∷ more)) e = elim (its_loop_or_not y i more) [
+        | inl stays ↦ inl (renamed (Some (i ∷ more)) e ∙ ap (λ (r : List Iteration). Private y (front ++ r)) stays ∙ ap (Private y) (sym (behind_is front path (i ∷ more) e)))
+        | inr same ↦ inr (record { name = y; number = i.number; rest = more; is = ap (Private y) (behind_is front path (i ∷ more) e ∙ (λ k. front ++ record { statement = same k; number = i.number } ∷ more)) })
+      ]

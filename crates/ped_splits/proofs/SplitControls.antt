@@ -91,7 +91,7 @@ module _ (idle : Cell → Bool) where
     exit_within = (
       variable,
       within_append (undefined_by scope e.behind_bounds e.head.private) (undefined_all scope e.inner) (undefined_within e.behind_bounds e.head.private private)
-      (subst (λ (xs : List (List ℕ)). WriteWithin idle (undefined_all scope xs)) (sym inner) tt),
+          (subst (λ (xs : List (List ℕ)). WriteWithin idle (undefined_all scope xs)) (sym inner) tt),
     )
 
     none_within : (n : ℕ) → WriteWithin idle (exit_when_none n e scope)

@@ -19,6 +19,21 @@ mod UnitTests
 mod DistributeTrusted
 mod KeptArrows
 mod BlockPlaces
+mod SplitFacts
+mod SplitUnits
+mod SplitNumbers
+mod SplitPlaces
+mod SplitRuns
+mod SplitConflicts
+mod SplitOrders
+mod SplitKnots
+mod SplitNames
+mod SplitPieces
+mod SplitControls
+mod SplitWoven
+mod SplitStands
+mod SplitRaces
+mod SplitKeeps
 mod DistributedKinds
 pub mod Existence
 pub mod Determined

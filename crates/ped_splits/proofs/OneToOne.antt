@@ -18,15 +18,15 @@ use Rattle.ped_splits.proofs.BlockOrders.{all_by}
 use Rattle.ped_splits.proofs.Partitions.{tally, flat, sum_plus, sum_none, later_none, one_at_most, one_home, sums_below}
 
 -- how often a number stands among numbers
-abbrev times : ℕ → List ℕ → ℕ
+abbrev pub times : ℕ → List ℕ → ℕ
 times v ks = sum_by (λ k. tally (v == k)) ks
 
 -- this number, where there is one
-abbrev is_number : ℕ → Option ℕ → Bool
+abbrev pub is_number : ℕ → Option ℕ → Bool
 is_number v None = false
 is_number v (Some k) = v == k
 
-abbrev times_in : ℕ → List (Option ℕ) → ℕ
+abbrev pub times_in : ℕ → List (Option ℕ) → ℕ
 times_in v os = sum_by (λ o. tally (is_number v o)) os
 
 module _ (v : ℕ) where
@@ -83,7 +83,7 @@ module _ (v : ℕ) where
         omega (arith, none, same)
 
     -- in the units together it stands no more often than among the statements
-    unit_times : (n : ℕ) (ks : List ℕ) → sum_by (λ i. times v (filter (stands_in s body i) ks)) (range_with_len 0 n) ≤ times v ks
+    pub unit_times : (n : ℕ) (ks : List ℕ) → sum_by (λ i. times v (filter (stands_in s body i) ks)) (range_with_len 0 n) ≤ times v ks
     unit_times n [] = let none = sum_none (range_with_len 0 n) in omega (arith, none)
     unit_times n (k ∷ ks) =
         let rest = unit_times n ks in
@@ -113,7 +113,7 @@ module _ (v : ℕ) where
         let parts = sum_by-append in_unit b (flat bs) in
         omega (arith, rest, here, whole, parts)
 
-    loops_times : (bs : List (List ℕ)) → times_in v (loop_sources s body bs) ≤ tally (v == s) + sum_by in_unit (flat bs)
+    pub loops_times : (bs : List (List ℕ)) → times_in v (loop_sources s body bs) ≤ tally (v == s) + sum_by in_unit (flat bs)
     loops_times [] = omega arith
     loops_times (b ∷ bs) =
         let rest = others_times bs in
@@ -132,6 +132,19 @@ module _ (v : ℕ) where
     at_most_one : (b : Bool) → tally b ≤ 1
     at_most_one true = omega arith
     at_most_one false = omega arith
+
+    -- each number stands among the sources of the DO loops once at most
+    pub loops_once : (reach : List (List Bool)) → times_in v (loop_sources s body (blocks reach)) ≤ 1
+    loops_once reach =
+        let loops = loops_times (blocks reach) in
+        let sum : sum_by in_unit (flat (blocks reach)) ≤ sum_by in_unit (range_with_len 0 (length reach)) = sums_below reach in_unit (length reach) (range_with_len 0 (length reach)) in
+        let parted : sum_by in_unit (range_with_len 0 (length reach)) ≤ times v (range_with_len (s + 1) (statements_count body)) = unit_times (length reach) (range_with_len (s + 1) (statements_count body)) in
+        let all = by (cases_lt s v) in
+        omega (arith, loops, sum, parted, all)
+      where
+        by : (s < v) ⊎ (v ≤ s) → tally (v == s) + times v (range_with_len (s + 1) (statements_count body)) ≤ 1
+        by (inl more) = let head = head_once (v == s) refl (inr more) in let one = one_at_most v (s + 1) (statements_count body) in omega (arith, head, one)
+        by (inr to) = let head = at_most_one (v == s) in let none = later_none v (s + 1) (statements_count body) (omega (arith, to)) in omega (arith, head, none)
 
     -- each number stands among the sources once at most
     pub once : (t : ProgramTree) (reach : List (List Bool)) → 1 ≤ s → s + statements_count body ≤ statements_count t.body → times_in v (sources t s body (blocks reach)) ≤ 1

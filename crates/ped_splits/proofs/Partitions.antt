@@ -119,7 +119,7 @@ module _ (s : ℕ) (body : StmtTrees) where
       omega (arith, rest, one, each, both)
 
   -- how many statements blocks have
-  abbrev size_of : ℕ → ℕ
+  abbrev pub size_of : ℕ → ℕ
   size_of i = length (numbers_of s body i)
 
   block_long : (head : Option ℕ) (block : List ℕ) → length (block_sources s body head block) ≡ 1 + sum_by size_of block
@@ -134,7 +134,7 @@ module _ (s : ℕ) (body : StmtTrees) where
       let parts = sum_by-append size_of b (flat bs) in
       omega (arith, rest, here, whole, parts)
 
-  loops_long : (bs : List (List ℕ)) → length (loop_sources s body bs) ≡ length bs + sum_by size_of (flat bs)
+  pub loops_long : (bs : List (List ℕ)) → length (loop_sources s body bs) ≡ length bs + sum_by size_of (flat bs)
   loops_long [] = refl
   loops_long (b ∷ bs) =
       let rest = blocks_long bs in

@@ -4,8 +4,11 @@ ghost use Rattle.std.specs.Prelude.{ℕ};
 ghost use Rattle.ped_reindex.specs.ped_loops.specs.ped_scalar.specs.ped_rules.specs.Lawful.{IsLawful};
 ghost use Rattle.ped_splits.specs.Distributing.{distributing};
 
+use ped_reindex::ped_loops::ped_scalar::ped_rules::ped_loop_runs::ped_tidy::ped_pasting::ped_bodies::ped_steps::ped_weaves::ped_laws::conflicts::{
+    accesses_are_made, accesses_in_sequence,
+};
 use ped_reindex::ped_loops::ped_scalar::ped_rules::ped_loop_runs::ped_tidy::{
-    private_names_cleared, stays_trusted,
+    none_rejected, private_names_cleared, stays_trusted,
 };
 
 /// `distribute` has one first cause at most and makes one program; where nothing forbids it, that one is valid, has no C$PED
@@ -13,6 +16,9 @@ use ped_reindex::ped_loops::ped_scalar::ped_rules::ped_loop_runs::ped_tidy::{
 pub fn distribution_is_lawful()
     ensures { (s : ℕ) → IsLawful (distributing s) }
 {
+    accesses_are_made();
+    accesses_in_sequence();
     stays_trusted();
     private_names_cleared();
+    none_rejected();
 }

@@ -7,6 +7,8 @@ use Rattle.ped_splits.proofs.DistributedKinds as static
 use Rattle.ped_splits.proofs.BlockPlaces as places
 use Rattle.ped_splits.proofs.KeptArrows as kept_arrows
 use Rattle.ped_splits.proofs.OneToOne.{one_to_one}
+use Rattle.ped_splits.proofs.SplitFacts.{is_split}
+use Rattle.ped_splits.proofs.SplitKeeps.{distributed_keeps}
 use Rattle.ped_splits.proofs.laws.distribution_is_lawful.Goals as goal
 
 pub returns : goal.returns
@@ -21,6 +23,6 @@ returns c s = record {
       let are = m.2 in
       subst (IsFaithful t) (sym m.3) (record {
         trusted = stays_trusted_distributed t valid s l found are (rules.are_many s t none.0 l found are) (rules.is_serial s t none.0 l) (rules.is_contained s t none.0) c.stays_trusted.ensures c.private_names_cleared.ensures trusted;
-        keeps = ?keeps;
+        keeps = distributed_keeps c.accesses_are_made.ensures c.accesses_in_sequence.ensures c.none_rejected.ensures.edges t s l found (is_split t s l found valid none.0 are trusted.unrejected);
       });
 }

@@ -4,10 +4,10 @@ ghost use Rattle.std.specs.Prelude.{ℕ};
 ghost use Rattle.ped_reindex.specs.ped_loops.specs.ped_scalar.specs.ped_rules.specs.Lawful.{IsLawful};
 ghost use Rattle.ped_splits.specs.Distributing.{distributing};
 
-use ped_reindex::ped_loops::ped_scalar::ped_rules::ped_loop_runs::ped_tidy::ped_pasting::ped_bodies::ped_steps::ped_weaves::ped_laws::conflicts::{
+use ped_reindex::ped_loops::ped_scalar::ped_rules::ped_loop_runs::ped_bodies::ped_steps::ped_weaves::ped_laws::conflicts::{
     accesses_are_made, accesses_in_sequence,
 };
-use ped_reindex::ped_loops::ped_scalar::ped_rules::ped_loop_runs::ped_tidy::{
+use ped_reindex::ped_loops::ped_scalar::ped_rules::ped_loop_runs::{
     none_rejected, private_names_cleared, stays_trusted,
 };
 

@@ -6,11 +6,11 @@ ghost use Rattle.ped_splits.specs.ped_reindex.specs.ped_loops.specs.ped_scalar.s
 ghost use Rattle.ped_splits.specs.ped_reindex.specs.ped_loops.specs.ped_scalar.specs.ped_rules.specs.Lawful.{IsLawful};
 ghost use Rattle.ped_transformations.specs.Table.{step_of};
 
+use ped_splits::distribution_is_lawful;
 use ped_splits::ped_reindex::ped_loops::{
     interchange_is_lawful, parallel_is_lawful, rejection_is_lawful, reversal_is_lawful,
     serial_is_lawful,
 };
-use ped_splits::distribution_is_lawful;
 use ped_splits::ped_reindex::{peeling_is_lawful, skewing_is_lawful, stripping_is_lawful};
 
 /// The step of each command is lawful, where it takes one: it has one first cause at most, makes one program, and where

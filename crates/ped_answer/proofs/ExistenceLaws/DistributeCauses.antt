@@ -5,8 +5,8 @@ use Rattle.ped_answer.specs.ped_session.specs.ped_tree.specs.Tree.{ExprTree, Pro
 use Rattle.ped_answer.specs.ped_session.specs.ped_order.specs.ped_flow.specs.PlainBounds.{IsPlain}
 use Rattle.ped_answer.specs.ped_session.specs.ped_order.specs.ped_flow.specs.Questions.{LoopOf}
 use Rattle.ped_answer.specs.ped_session.specs.ped_symbols.specs.Kinds.{table_of}
-use Rattle.ped_answer.specs.ped_session.specs.ped_transformations.specs.ped_reindex.specs.ped_loops.specs.ped_scalar.specs.ped_rules.specs.ped_loop_runs.specs.ped_tidy.specs.ped_pasting.specs.ped_bodies.specs.ped_steps.specs.declared.rules.Rule.TheVariants.{NoLoop, ParallelState, IndexEscapes, BoundNotPlain, OneBlock, Limit}
-use Rattle.ped_answer.specs.ped_session.specs.ped_transformations.specs.ped_reindex.specs.ped_loops.specs.ped_scalar.specs.ped_rules.specs.ped_loop_runs.specs.ped_tidy.specs.ped_pasting.specs.ped_bodies.specs.ped_steps.specs.Causes.{Cause, IsFirstCause, none_forbids}
+use Rattle.ped_answer.specs.ped_session.specs.ped_transformations.specs.ped_reindex.specs.ped_loops.specs.ped_scalar.specs.ped_rules.specs.ped_loop_runs.specs.ped_bodies.specs.ped_steps.specs.declared.rules.Rule.TheVariants.{NoLoop, ParallelState, IndexEscapes, BoundNotPlain, OneBlock, Limit}
+use Rattle.ped_answer.specs.ped_session.specs.ped_transformations.specs.ped_reindex.specs.ped_loops.specs.ped_scalar.specs.ped_rules.specs.ped_loop_runs.specs.ped_bodies.specs.ped_steps.specs.Causes.{Cause, IsFirstCause, none_forbids}
 use Rattle.ped_answer.specs.ped_session.specs.ped_transformations.specs.ped_reindex.specs.ped_loops.specs.ped_scalar.specs.ped_rules.specs.Chains.{WhereLoop}
 use Rattle.ped_answer.specs.ped_session.specs.ped_transformations.specs.ped_reindex.specs.ped_loops.specs.ped_scalar.specs.ped_rules.specs.Rules.{WhereNoLoop, is_parallel, WhereEscape, WhereUnplain, WhereLimit}
 use Rattle.ped_answer.specs.ped_session.specs.ped_transformations.specs.ped_reindex.specs.ped_loops.specs.ped_scalar.specs.ped_rules.proofs.Decided.{loop_decided}
@@ -57,4 +57,4 @@ module _ (t : ProgramTree) (s : ℕ) where
       (found_link BoundNotPlain (WhereUnplain t s (IsItsBound t s)) (rules.single s t) (rules.single_chain s t) settled_plain
       (found_link OneBlock (WhereOneBlock t s) (rules.limit s t) (rules.limit_chain s t) settled_single
       (found_last Limit (WhereLimit (MakesDistributed s) t s)
-          (settled_limit t s (MakesDistributed s) (rules.one_made s t) (λ l. let found = blocks_exist t s l.head l.body in (distributed t s found.0, rules.kept s t l.body found.0, (l, found.0, found.1, refl, refl))))))))))
+      (settled_limit t s (MakesDistributed s) (rules.one_made s t) (λ l. let found = blocks_exist t s l.head l.body in (distributed t s found.0, rules.kept s t l.body found.0, (l, found.0, found.1, refl, refl))))))))))

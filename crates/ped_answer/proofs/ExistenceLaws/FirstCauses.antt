@@ -3,7 +3,7 @@ use Rattle.std.proofs.Common.{◌⊎◌, ℕ, inl, inr, List, Option, Some, None
 use Rattle.std.specs.Prelude.{⊤}
 use Rattle.ped_answer.specs.ped_session.specs.ped_tree.specs.Tree.{ProgramTree}
 use Rattle.ped_answer.specs.ped_session.specs.ped_symbols.specs.NameRefusals.{IsValid}
-use Rattle.ped_answer.specs.ped_session.specs.ped_transformations.specs.ped_reindex.specs.ped_loops.specs.ped_scalar.specs.ped_rules.specs.ped_loop_runs.specs.ped_tidy.specs.ped_pasting.specs.ped_bodies.specs.ped_steps.specs.Causes.{Cause}
+use Rattle.ped_answer.specs.ped_session.specs.ped_transformations.specs.ped_reindex.specs.ped_loops.specs.ped_scalar.specs.ped_rules.specs.ped_loop_runs.specs.ped_bodies.specs.ped_steps.specs.Causes.{Cause}
 use Rattle.ped_answer.specs.ped_session.specs.ped_transformations.specs.ped_script.specs.declared.items.Command.{Command}
 use Rattle.ped_answer.specs.ped_session.specs.ped_transformations.specs.ped_script.specs.declared.items.Command.TheVariants.{Source, Deps, Show, Print, Advise, Replace, Insert, Delete, Interchange, Reverse, Skew, Strip, Peel, Distribute, Fuse, Expand, Privatise, Parallel, Serial, Reject, Undo, Redo, Run, Races, Tested}
 use Rattle.ped_answer.specs.ped_session.specs.ped_transformations.specs.ped_reindex.specs.ped_loops.specs.ped_scalar.specs.ped_rules.specs.Steps.{StepAt, MaybeStep, no_step, some_step, MatchStep}

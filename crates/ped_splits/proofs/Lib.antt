@@ -33,6 +33,7 @@ mod SplitControls
 mod SplitWoven
 mod SplitStands
 mod SplitRaces
+mod SplitAccesses
 mod SplitKeeps
 mod DistributedKinds
 pub mod Existence

@@ -44,7 +44,8 @@ use Rattle.ped_splits.proofs.UnitTests.{only_comment, loops_tell}
 use Rattle.ped_splits.proofs.SplitFacts.{IsSplit, UnrejectedLaw}
 use Rattle.ped_splits.proofs.SplitNumbers.{split_pairs, split_numbers, split_fits, loops_counted}
 use Rattle.ped_splits.proofs.SplitStands.{does_split, stands_split}
-use Rattle.ped_splits.proofs.SplitRaces.{AreRaceFree, free_split, split_races}
+use Rattle.ped_splits.proofs.SplitRaces.{AreRaceFree, split_races}
+use Rattle.ped_splits.proofs.SplitAccesses.{free_split}
 use Rattle.ped_splits.specs.Distributing.{loop_sources, loops_of, distributed}
 
 module _ (making : MakingLaw) (sequence : SequenceLaw) (law : UnrejectedLaw) (t : ProgramTree) (s : ℕ) (l : LoopOf t s) (found : List (List ℕ)) (x : IsSplit t s l found) where

@@ -178,7 +178,7 @@ module _ (t : ProgramTree) (s : ℕ) (l : LoopOf t s) (found : List (List ℕ)) 
   abbrev pub unit_names : ℕ → Cell → Cell
   unit_names k = moved_behind (iterations_of (turns_of scope)) (in_loop s (counted_by (split_numbers t s l.body found) (loop_at k)))
 
-  abbrev store_of : ℕ → Store
+  abbrev pub store_of : ℕ → Store
   store_of i = store_before seen e scope (place_of (setting_of t) s scope) old.trip v i
 
   -- what a unit did in an iteration
@@ -215,7 +215,7 @@ module _ (t : ProgramTree) (s : ℕ) (l : LoopOf t s) (found : List (List ℕ)) 
   pub old_units_done : (i k : ℕ) → 1 ≤ i → i ≤ e.count → k < many_units → IsDoneBy p (frame e i ∷ scope) (unit k) (s + 1 + offset (units l.body) k) (old_unit i k)
   old_units_done i k from to less = units_done p (frame e i ∷ scope) (units l.body) (s + 1) (store_of i) (goes_there i from to) k less
 
-  inside : s + statements_count l.body ≤ statements_count t.body
+  pub inside : s + statements_count l.body ≤ statements_count t.body
   inside = loop_fits t s l.head l.body l.is
 
   -- a unit stands in the new DO under its old numbers

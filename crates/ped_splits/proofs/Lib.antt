@@ -33,8 +33,8 @@ mod SplitControls
 mod SplitWoven
 mod SplitStands
 mod SplitRaces
-mod SplitAccesses
 mod SplitKeeps
 mod DistributedKinds
+mod SplitAccesses
 pub mod Existence
 pub mod Determined

@@ -153,7 +153,7 @@ module _ (t : ProgramTree) (s : ℕ) (l : LoopOf t s) (found : List (List ℕ)) 
 
   -- what the DO of these units does
   abbrev its_trip : List ℕ → ℕ → List Act
-  its_trip block i = flat_map (new_unit i) block
+  its_trip block = λ i. flat_map (new_unit i) block
 
   abbrev block_acts : ℕ → List ℕ → List Act
   block_acts at block = loop_acts seen (entered_at at) scope (at_new at) (its_trip block)

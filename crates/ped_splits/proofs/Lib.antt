@@ -42,5 +42,6 @@ mod SplitStands
 mod SplitRaces
 mod SplitKeeps
 mod DistributedKinds
+mod SplitAccesses
 pub mod Existence
 pub mod Determined

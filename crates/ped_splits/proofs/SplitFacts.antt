@@ -1,5 +1,5 @@
 -- What the step shows of a DO that is taken apart, where no rule stands against it.
-use Rattle.std.proofs.Common.{◌≡◌, ℕ, ◌≤◌, List, length, Bool, false, refl, inl, inr, arith}
+use Rattle.std.proofs.Common.{◌≡◌, ℕ, ◌≤◌, List, length, false, refl, inl, inr, arith}
 use Rattle.ped_tree.specs.Tree.{ExprTree, ProgramTree}
 use Rattle.ped_reindex.specs.ped_loops.proofs.PlainDecided.{OrNot, plain_decided}
 use Rattle.ped_reindex.specs.ped_loops.specs.Interchanging.{IsBoundOf}
@@ -21,7 +21,7 @@ use Rattle.ped_splits.proofs.DistributeRules as rules
 use Rattle.ped_splits.specs.Blocks.{AreBlocks}
 use Rattle.ped_splits.specs.Distributing.{distributed, IsItsBound, StandsAgainstDistribution}
 
--- no dependence of a program without C$PED use Rattle.ped_reindex.specs.ped_loops.specs.ped_scalar.specs.ped_rules.specs.ped_loop_runs.specs.ped_bodies.specs.ped_steps.specs.ped_laws.specs.ped_graph.specs.ped_edges.specs.Edges.{rejected}ECT is rejected
+-- no dependence of a program without C$PED REJECT is rejected
 abbrev pub UnrejectedLaw : Type 0
 UnrejectedLaw = (t : ProgramTree) (edges : List Edge) → some_rejection t.body ≡ false → AreEdges t edges → (e : Edge) → IsIn e edges → e.mark ≡ rejected → ⊥
 

@@ -1,6 +1,6 @@
 mod Accepted
 mod Answering
-mod Doing
+pub mod Doing
 mod Examples
 mod HistoryMoves
 mod KeptEnds

@@ -8,7 +8,6 @@ use Rattle.ped_session.specs.ped_tree.specs.Printing.{program_text}
 use Rattle.ped_session.specs.ped_tree.specs.Numbering.{statement_with}
 use Rattle.ped_session.specs.ped_symbols.specs.NameRefusals.{IsValid}
 use Rattle.ped_session.specs.ped_valid.specs.Validity.{ReadsValid}
-use Rattle.ped_session.specs.ped_valid.proofs.OneVerdict.{valid_prints}
 use Rattle.ped_session.specs.ped_graph.specs.DependencePane.{IsDependencePane, IsDependencePaneOf}
 use Rattle.ped_session.specs.ped_transformations.specs.ped_script.specs.declared.items.Item.{Item}
 use Rattle.ped_session.specs.ped_transformations.specs.ped_script.specs.declared.items.Command.{Command}
@@ -22,19 +21,20 @@ use Rattle.ped_session.specs.Replies.{answer_row, reply_text}
 use Rattle.ped_session.specs.Histories.{IsPrinted, ArePrinted}
 use Rattle.ped_session.specs.Steps.{Shows, ShowsOf}
 use Rattle.ped_session.specs.Scripts.{Said, said_by, AnswersCommand, AnswersItems}
-use Rattle.ped_session.proofs.OneStep.{one_tree}
 use Rattle.ped_answer.specs.declared.answering.Status.{Status}
 use Rattle.ped_answer.specs.declared.answering.Status.TheVariants.{Done, SomeRefused, BadWords, ReadFault, WriteFault, ProgramRefused, NoMemory, TooLong}
 use Rattle.ped_answer.specs.Answer.{source_input, IsShown, Answers}
 use Rattle.ped_answer.specs.ScriptRuns.{IsWhole}
 use Rattle.ped_answer.specs.Headline.{Afresh, IsOfStatement, ShowsAfresh, ShowsFile, PanesRequest}
+use Rattle.ped_answer.proofs.OneAnswer.{one_tree}
+use Rattle.ped_answer.proofs.ExistenceLaws.Replying.{reads_as}
 use Rattle.ped_answer.proofs.WholeAnswers.{of_file}
 use Rattle.ped_answer.proofs.EachItems.{Comes, SoOfValid, session_each}
 
 -- what is so of the program that a printed text reads as
 afresh : (IsSo : ProgramTree → List ℕ → Type 0) (text bytes : List ℕ) (t : ProgramTree) → IsPrinted text → ReadsValid text t → IsSo t bytes → Afresh IsSo text bytes
 afresh IsSo text bytes t printed reads so =
-    let same : t ≡ printed.0 = (valid_prints printed.0 printed.1 t).0 (subst (λ (b : List ℕ). ReadsValid b t) printed.2 reads) in
+    let same : t ≡ printed.0 = one_tree text t printed.0 reads (reads_as text printed.0 printed.1 printed.2) in
     record { tree = t; reads = reads; no_other = λ u other. one_tree text u t other reads; printed = printed.2 ∙ ap program_text (sym same); so = so }
 
 -- the bytes of a reply
@@ -113,7 +113,7 @@ shows_file program files s b whole h =
       program_is = p.held;
       tree = of.0;
       reads = of.1;
-      afresh = afresh ArePanes (program_text of.0) b of.0 (of.0, valid, refl) ((valid_prints of.0 valid of.0).1 refl) of.2;
+      afresh = afresh ArePanes (program_text of.0) b of.0 (of.0, valid, refl) (reads_as (program_text of.0) of.0 valid refl) of.2;
     }
 
 -- the panes of an answer

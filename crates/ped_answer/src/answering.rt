@@ -14,7 +14,9 @@ ghost use Rattle.ped_answer.specs.Serving.{ServedRequest};
 
 use crate::finishing::finish;
 use crate::generating::answer_size;
-use crate::headline::{history_is_kept, panes_are_afresh, refusals_have_causes, runs_are_as_before};
+use crate::headline::{
+    history_is_kept, panes_are_afresh, refusals_have_causes, runs_are_as_before,
+};
 use crate::sessions::answer_files;
 use crate::showing::show_file;
 use ped_io::{Shelf, Sink, SureShelf, SureSink};

@@ -1,6 +1,6 @@
 mod Accepted
 mod Answering
-pub mod Doing
+mod Doing
 mod Examples
 mod HistoryMoves
 mod KeptEnds

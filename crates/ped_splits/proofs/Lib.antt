@@ -1,6 +1,7 @@
 pub mod OneBlocks
 pub mod DistributeRules
 pub mod FuseRules
+mod FuseFacts
 mod Here
 mod DistributeAnswers
 mod BlockOrders

@@ -21,7 +21,7 @@ use Rattle.ped_splits.proofs.DistributeRules as rules
 use Rattle.ped_splits.specs.Blocks.{AreBlocks}
 use Rattle.ped_splits.specs.Distributing.{distributed, IsItsBound, StandsAgainstDistribution}
 
--- no dependence of a program without C$PED use Rattle.ped_reindex.specs.ped_loops.specs.ped_scalar.specs.ped_rules.specs.ped_loop_runs.specs.ped_bodies.specs.ped_steps.specs.ped_laws.specs.ped_graph.specs.ped_edges.specs.Edges.{rejected}ECT is rejected
+-- no dependence of a program without C$PED REJECT is rejected
 abbrev pub UnrejectedLaw : Type 0
 UnrejectedLaw = (t : ProgramTree) (edges : List Edge) → some_rejection t.body ≡ false → AreEdges t edges → (e : Edge) → IsIn e edges → e.mark ≡ rejected → ⊥
 

@@ -15,7 +15,7 @@ use Rattle.ped_splits.specs.ped_reindex.specs.Peeling.{peeling}
 use Rattle.ped_splits.specs.Distributing.{distributing}
 use Rattle.ped_splits.specs.Fusing.{fusing}
 
--- the step that a command takes; none where it takes none, or where the step isn't built yet
+-- the step that a command takes, where it takes one
 abbrev pub step_of : Command → MaybeStep
 step_of (Expand number name) = some_step (expanding number name)
 step_of (Privatise number name) = some_step (privatising number name)

@@ -39,8 +39,7 @@ pub struct Place {
     pub kind: Kind,
 }
 
-/// Where the step of a command is taken, and its kind: none where the command takes no step, or where the step isn't built
-/// yet.
+/// Where the step of a command is taken, and its kind: none where the command takes no step.
 pub fn place_of(command: &Command) -> Option<Place>
     ensures { IsPlace (step_of command.now) result }
 {
@@ -81,8 +80,7 @@ fn rejection(statement: u32) -> Place
     }
 }
 
-/// What the step of a command makes of a program, or the first cause against it: none where the command takes no step, or
-/// where the step isn't built yet.
+/// What the step of a command makes of a program, or the first cause against it: none where the command takes no step.
 pub fn answer<L: Ledger>(
     alloc: Global,
     scene: &Scene<L>,

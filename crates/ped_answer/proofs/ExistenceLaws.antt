@@ -1,4 +1,5 @@
 -- Lemmas of the room that this folder is named after.
+mod Advices
 mod Alike
 mod ChainCauses
 mod DistributeCauses

@@ -1,2 +1,4 @@
-pub mod LawfulTable
+mod Advising
 pub mod ByPlace
+pub mod LawfulTable
+pub mod OneAdvice

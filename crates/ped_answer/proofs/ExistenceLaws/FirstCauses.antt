@@ -21,7 +21,7 @@ abbrev pub Goes : StepAt → ProgramTree → Type 0
 Goes at t = ((c : Cause) × at.IsCause t (Some c)) ⊎ (at.IsCause t None × (new : ProgramTree) × (keep : List (ℕ × ℕ)) × at.Makes t new keep × IsValid new)
 
 -- in each program a first cause is against a step, or none
-abbrev HasCause : StepAt → Type 0
+abbrev pub HasCause : StepAt → Type 0
 HasCause at = (t : ProgramTree) → (c : Option Cause) × at.IsCause t c
 
 -- so a determined step goes
@@ -37,7 +37,7 @@ goes no_step determined some = tt
 goes (some_step at) determined some = goes_by at determined some
 
 -- each step of the table has one
-each_cause : (command : Command) → MatchStep (step_of command) ⊤ HasCause
+pub each_cause : (command : Command) → MatchStep (step_of command) ⊤ HasCause
 each_cause (Expand number name) = λ t. expanding_cause t number name
 each_cause (Privatise number name) = λ t. privatising_cause t number name
 each_cause (Interchange number) = λ t. interchange_cause t number

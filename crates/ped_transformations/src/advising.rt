@@ -6,7 +6,6 @@ ghost use Rattle.ped_splits.specs.ped_reindex.specs.ped_loops.specs.ped_scalar.s
 ghost use Rattle.ped_splits.specs.ped_reindex.specs.ped_loops.specs.ped_scalar.specs.ped_rules.specs.ped_loop_runs.specs.ped_bodies.specs.ped_steps.specs.Scenes.{IsSceneOf};
 ghost use Rattle.ped_splits.specs.ped_reindex.specs.ped_loops.specs.ped_scalar.specs.ped_rules.specs.ped_loop_runs.specs.ped_bodies.specs.ped_steps.specs.CauseWords as shown;
 ghost use Rattle.ped_splits.specs.ped_reindex.specs.ped_loops.specs.ped_scalar.specs.ped_rules.specs.ped_loop_runs.specs.ped_bodies.specs.ped_steps.specs.CodeCauses.{cause_of, IsShort};
-ghost use Rattle.ped_script.specs.declared.items.Command.TheVariants as commands;
 ghost use Rattle.ped_transformations.specs.Table.{step_of};
 ghost use Rattle.ped_transformations.specs.Advice as Spec;
 ghost use Rattle.ped_transformations.specs.CodeAdvice.{IsAgainst, IsTellable, Tells};
@@ -22,31 +21,34 @@ use std::sync::ledger::Ledger;
 
 /// The advice on a statement: a line for each step that asks for nothing but the statement, and for both peels. It says that the
 /// step could be taken there, or the first cause against it. No step is taken, and nothing is tested.
-pub fn advice<L: Ledger>(
-    alloc: Global,
-    scene: &Scene<L>,
-    statement: u32,
-) -> Result<Bytes, NoMemory>
+pub fn advice<L: Ledger>(alloc: Global, scene: &Scene<L>, statement: u32) -> Result<Bytes, NoMemory>
     requires { IsSceneOf (program_tree scene.now.tree.now) scene.now }
     ensures { IfOk result (Spec.IsAdvice (program_tree scene.now.tree.now) statement) }
 {
     let mut out = Bytes::new(alloc);
-    tell(alloc, scene, b"interchange", &Command::Interchange(statement), &mut out)?;
-    tell(alloc, scene, b"reverse", &Command::Reverse(statement), &mut out)?;
-    tell(alloc, scene, b"distribute", &Command::Distribute(statement), &mut out)?;
-    tell(alloc, scene, b"fuse", &Command::Fuse(statement), &mut out)?;
-    tell(alloc, scene, b"parallel", &Command::Parallel(statement), &mut out)?;
-    tell(alloc, scene, b"serial", &Command::Serial(statement), &mut out)?;
-    tell(alloc, scene, b"peel first", &peeling(statement, false), &mut out)?;
-    tell(alloc, scene, b"peel last", &peeling(statement, true), &mut out)?;
+    let interchange = Command::Interchange(statement);
+    tell(alloc, scene, b"interchange", &interchange, &mut out)?;
+    let reverse = Command::Reverse(statement);
+    tell(alloc, scene, b"reverse", &reverse, &mut out)?;
+    let distribute = Command::Distribute(statement);
+    tell(alloc, scene, b"distribute", &distribute, &mut out)?;
+    let fuse = Command::Fuse(statement);
+    tell(alloc, scene, b"fuse", &fuse, &mut out)?;
+    let parallel = Command::Parallel(statement);
+    tell(alloc, scene, b"parallel", &parallel, &mut out)?;
+    let serial = Command::Serial(statement);
+    tell(alloc, scene, b"serial", &serial, &mut out)?;
+    let first = Command::Peel {
+        statement,
+        last: false,
+    };
+    tell(alloc, scene, b"peel first", &first, &mut out)?;
+    let last = Command::Peel {
+        statement,
+        last: true,
+    };
+    tell(alloc, scene, b"peel last", &last, &mut out)?;
     Ok(out)
-}
-
-/// The command that peels the first or the last iteration off.
-fn peeling(statement: u32, last: bool) -> Command
-    ensures { result ≡ commands.Peel statement last }
-{
-    Command::Peel { statement, last }
 }
 
 /// Adds the line of the step that a command takes, behind the words by which it is told.

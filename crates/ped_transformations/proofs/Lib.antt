@@ -1,4 +1,4 @@
-mod Advising
+mod AdviceLines
 pub mod ByPlace
 pub mod LawfulTable
 pub mod OneAdvice

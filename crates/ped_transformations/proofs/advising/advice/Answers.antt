@@ -1,5 +1,5 @@
 use Rattle.ped_tree.specs.Views.{program_tree}
-use Rattle.ped_transformations.proofs.Advising.{eight_told}
+use Rattle.ped_transformations.proofs.AdviceLines.{eight_told}
 use Rattle.ped_transformations.proofs.advising.advice.Goals as goal
 
 pub returns : goal.returns

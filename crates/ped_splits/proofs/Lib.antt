@@ -10,6 +10,8 @@ pub mod FusableFacts
 pub mod FusionSettled
 mod UnwrittenVariable
 mod FusedTrust
+mod LeftOrPassed
+mod MovedDos
 mod SerialPaths
 mod ParallelRound
 mod FusedTidy

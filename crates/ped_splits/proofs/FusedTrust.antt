@@ -140,11 +140,6 @@ second_told true b c d e f = absurd cc
 second_told false true c d e f = absurd cc
 second_told false false c d e f = e
 
-first_told : (a b d : Bool) → a || (b || d) ≡ false → a || b ≡ false
-first_told true b d e = absurd cc
-first_told false true d e = absurd cc
-first_told false false d e = refl
-
 module _ (t : ProgramTree) (s : ℕ) (x : Neighbour t s) (valid : IsValid t) (new_valid : IsValid (fused x)) (alike : AreAlike x.own x.next x.next_body) (own_unprivate : x.own.private ≡ []) (next_unprivate : x.next.private ≡ []) (own_serial : x.own.parallel ≡ false) (next_serial : x.next.parallel ≡ false) where
   abbrev cs : List (List ℕ)
   cs = constant_names t.decls
@@ -184,9 +179,6 @@ module _ (t : ProgramTree) (s : ℕ) (x : Neighbour t s) (valid : IsValid t) (ne
       by (inr none) = none
 
   -- the variables
-  abbrev among : List ℕ → StmtTrees → Bool
-  among w ts = is_among w (all_loop_variables ts)
-
   quiet_variables : (w : List ℕ) → is_among w (all_loop_variables x.between) ≡ false
   quiet_variables w =
       quiet (λ ts. is_among w (all_loop_variables ts)) (λ z. is_among w (loop_variables z)) refl (λ z rest. among_append w (loop_variables z) (all_loop_variables rest)) (λ text. refl) x.between x.comments
@@ -216,25 +208,25 @@ module _ (t : ProgramTree) (s : ℕ) (x : Neighbour t s) (valid : IsValid t) (ne
   new_variables w =
       ap (is_among w) (append-nil (loop_variables (Do (joined_head x.own x.next) joined_body))) ∙ ap (λ (b : Bool). is_same_text w x.own.variable || b) (body_variables w)
 
-  abbrev a : List ℕ → Bool
-  a w = is_same_text w x.own.variable
+  abbrev is_own : List ℕ → Bool
+  is_own w = is_same_text w x.own.variable
 
-  abbrev b : List ℕ → Bool
-  b w = is_among w (all_loop_variables x.own_body)
+  abbrev in_own : List ℕ → Bool
+  in_own w = is_among w (all_loop_variables x.own_body)
 
-  abbrev c : List ℕ → Bool
-  c w = is_same_text w x.next.variable
+  abbrev is_next : List ℕ → Bool
+  is_next w = is_same_text w x.next.variable
 
-  abbrev d : List ℕ → Bool
-  d w = is_among w (all_loop_variables x.next_body)
+  abbrev in_next : List ℕ → Bool
+  in_next w = is_among w (all_loop_variables x.next_body)
 
   -- the one DO has no further variables
   pub none_further : (w : List ℕ) → is_among w (all_loop_variables (joined_loop x)) ≡ true → is_among w (all_loop_variables (pair t s x)) ≡ true
-  none_further w e = old_variables w ∙ joined_told (a w) (b w) (c w) (d w) (sym (new_variables w) ∙ e)
+  none_further w e = old_variables w ∙ joined_told (is_own w) (in_own w) (is_next w) (in_next w) (sym (new_variables w) ∙ e)
 
   -- one that it has no more was one of the second DO
   pub lost_next : (w : List ℕ) → is_among w (all_loop_variables (pair t s x)) ≡ true → is_among w (all_loop_variables (joined_loop x)) ≡ false → is_among w (loop_variables next) ≡ true
-  lost_next w e f = second_told (a w) (b w) (c w) (d w) (sym (old_variables w) ∙ e) (sym (new_variables w) ∙ f)
+  lost_next w e f = second_told (is_own w) (in_own w) (is_next w) (in_next w) (sym (old_variables w) ∙ e) (sym (new_variables w) ∙ f)
 
   -- no other names are written
   own_renamed_unwritten : all_write cs x.own.variable second ≡ false

@@ -28,28 +28,42 @@ pub record Behind : Type 0 where
   pub next_body : StmtTrees
   pub rest : StmtTrees
 
+-- with one comment more before it
+abbrev further_back : List ℕ → Behind → Behind
+further_back text b = record b { between = more_stmts (Comment text) b.between }
+
 abbrev with_comment : List ℕ → Option Behind → Option Behind
 with_comment text None = None
-with_comment text (Some b) = Some (record b { between = more_stmts (Comment text) b.between })
+with_comment text (Some b) = Some (further_back text b)
+
+-- a DO that comes first
+abbrev at_once : Head → StmtTrees → StmtTrees → Behind
+at_once h body rest = record { between = no_stmts; next = h; next_body = body; rest = rest }
 
 abbrev next_in : StmtTrees → Option Behind
 next_in no_stmts = None
 next_in (more_stmts (Assign left right) rest) = None
 next_in (more_stmts (If c a b) rest) = None
-next_in (more_stmts (Do h body) rest) = Some (record { between = no_stmts; next = h; next_body = body; rest = rest })
+next_in (more_stmts (Do h body) rest) = Some (at_once h body rest)
 next_in (more_stmts (Print items) rest) = None
 next_in (more_stmts (Read items) rest) = None
 next_in (more_stmts Stop rest) = None
 next_in (more_stmts (Comment text) rest) = with_comment text (next_in rest)
 
+abbrev both_found : Head → StmtTrees → Behind → Found
+both_found h body b = record { gap = at_front b.rest; own = h; own_body = body; between = b.between; next = b.next; next_body = b.next_body }
+
 abbrev paired : Head → StmtTrees → Option Behind → Option Found
 paired h body None = None
-paired h body (Some b) = Some (record { gap = at_front b.rest; own = h; own_body = body; between = b.between; next = b.next; next_body = b.next_body })
+paired h body (Some b) = Some (both_found h body b)
 
 -- in a gap further out
+abbrev wrapped : (Gap → Gap) → Found → Found
+wrapped wrap f = record f { gap = wrap f.gap }
+
 abbrev outwards : (Gap → Gap) → Option Found → Option Found
 outwards wrap None = None
-outwards wrap (Some f) = Some (record f { gap = wrap f.gap })
+outwards wrap (Some f) = Some (wrapped wrap f)
 
 -- a DO in the place of the sought statement
 abbrev here : StmtTree → StmtTrees → Option Found
@@ -184,6 +198,9 @@ pub record Stands (s : ℕ) (ts : StmtTrees) (n : ℕ) (f : Found) : Type 0 wher
   pub numbered : number_at f.gap n ≡ s
   pub comments : statements_count f.between ≡ 0
 
+one_behind : (b c : Behind) → Some b ≡ Some c → b ≡ c
+one_behind b c e = cc
+
 -- what a list of statements comes to behind its comments
 record Follows (ts : StmtTrees) (b : Behind) : Type 0 where
   is : ts ≡ followed b.between (more_stmts (Do b.next b.next_body) b.rest)
@@ -193,16 +210,14 @@ commented : (text : List ℕ) (rest : StmtTrees) (o : Option Behind) (b : Behind
 commented text rest None b e deeper = absurd cc
 commented text rest (Some c) b e deeper =
     let d = deeper c refl in
-    let is : record c { between = more_stmts (Comment text) c.between } ≡ b = cc in
-    subst (Follows (more_stmts (Comment text) rest)) is (record { is = ap (more_stmts (Comment text)) d.is; comments = d.comments })
+    subst (Follows (more_stmts (Comment text) rest)) (one_behind (further_back text c) b e) (record { is = ap (more_stmts (Comment text)) d.is; comments = d.comments })
 
 next_follows : (ts : StmtTrees) (b : Behind) → next_in ts ≡ Some b → Follows ts b
 next_follows no_stmts b e = absurd cc
 next_follows (more_stmts (Assign left right) rest) b e = absurd cc
 next_follows (more_stmts (If c a d) rest) b e = absurd cc
 next_follows (more_stmts (Do h body) rest) b e =
-    let is : record { between = no_stmts; next = h; next_body = body; rest = rest } ≡ b = cc in
-    subst (Follows (more_stmts (Do h body) rest)) is (record { is = refl; comments = refl })
+    subst (Follows (more_stmts (Do h body) rest)) (one_behind (at_once h body rest) b e) (record { is = refl; comments = refl })
 next_follows (more_stmts (Print items) rest) b e = absurd cc
 next_follows (more_stmts (Read items) rest) b e = absurd cc
 next_follows (more_stmts Stop rest) b e = absurd cc
@@ -212,8 +227,7 @@ paired_stands : (s n : ℕ) (h : Head) (body rest : StmtTrees) (o : Option Behin
 paired_stands s n h body rest None f at e behind = absurd cc
 paired_stands s n h body rest (Some b) f at e behind =
     let d = behind b refl in
-    let is : record { gap = at_front b.rest; own = h; own_body = body; between = b.between; next = b.next; next_body = b.next_body } ≡ f = cc in
-    subst (Stands s (more_stmts (Do h body) rest) n) is (record {
+    subst (Stands s (more_stmts (Do h body) rest) n) (one_of_some (both_found h body b) f e) (record {
       stands = ap (more_stmts (Do h body)) (d.is ∙ sym (followed-assoc b.between (alone (Do b.next b.next_body)) b.rest));
       numbered = at;
       comments = d.comments;
@@ -234,8 +248,7 @@ further_out : (s n m : ℕ) (ts us : StmtTrees) (wrap : Gap → Gap) (o : Option
 further_out s n m ts us wrap None f e deeper out at = absurd cc
 further_out s n m ts us wrap (Some g) f e deeper out at =
     let d = deeper g refl in
-    let is : record g { gap = wrap g.gap } ≡ f = cc in
-    subst (Stands s ts n) is (record { stands = out g d.stands; numbered = at g.gap ∙ d.numbered; comments = d.comments })
+    subst (Stands s ts n) (one_of_some (wrapped wrap g) f e) (record { stands = out g d.stands; numbered = at g.gap ∙ d.numbered; comments = d.comments })
 
 -- either half of what a test settles
 by_test : {A : Type 0} (b : Bool) (x y : Option A) (f : A) (P : Type 0) → (if b then x else y) ≡ Some f → (b ≡ true → x ≡ Some f → P) → (y ≡ Some f → P) → P
@@ -264,12 +277,15 @@ mutual
   inside_stands s Stop rest n f e = absurd cc
   inside_stands s (Comment text) rest n f e = absurd cc
 
+nothing_found : (f : Found) → None ≡ Some f → ⊥
+nothing_found f e = cc
+
 -- whether a DO comes next behind the DO with a number is decided
 pub neighbour_decided : (t : ProgramTree) (s : ℕ) → Neighbour t s ⊎ (Neighbour t s → ⊥)
 neighbour_decided t s = by (sought_in s t.body 1) refl
   where
     by : (o : Option Found) → sought_in s t.body 1 ≡ o → Neighbour t s ⊎ (Neighbour t s → ⊥)
-    by None e = inr (λ x. let both : None ≡ Some (found_of x) = sym e ∙ is_found t s x in absurd cc)
+    by None e = inr (λ x. nothing_found (found_of x) (sym e ∙ is_found t s x))
     by (Some f) e = let d = sought_stands s t.body 1 f e in inl (record {
       gap = f.gap;
       own = f.own;

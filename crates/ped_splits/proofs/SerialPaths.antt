@@ -222,7 +222,7 @@ module _ (cs : List (List ℕ)) (w : List ℕ) (new old : StmtTrees) (s l : ℕ)
         let inner : Summary = left_in (filled g old) (n + 1) in
         let trips : Summary = sum_loop w n h (filled g new) (sum_of_all cs w (filled g new) (n + 1)) in
         let others : Summary = sum_loop w n h (filled g old) (sum_of_all cs w (filled g old) (n + 1)) in
-          let all : Summary = sum_either (sum_at_once (l == n)) (sum_in_turn inner others) in
+        let all : Summary = sum_either (sum_at_once (l == n)) (sum_in_turn inner others) in
         let first : Summary = sum_in_turn (sum_behind_all cs w m (filled g new) (n + 1)) trips in
         let second : Summary = sum_in_turn (sum_behind_all cs w k (filled g old) (n + 1)) others in
         rest_left t u rest n (n + statement_count t) (n + statement_count u)

@@ -8,7 +8,7 @@ use Rattle.ped_splits.proofs.DistributeRules.{kept, one_made, chain, its_loop, i
 use Rattle.ped_splits.proofs.Existence.Closures.{blocks_exist}
 use Rattle.ped_splits.specs.Neighbours.{fused, next_number, kept_without}
 use Rattle.ped_splits.specs.Fusing.{fusing}
-use Rattle.ped_splits.proofs.FusableFacts.{its_match, is_valid}
+use Rattle.ped_splits.proofs.FusableFacts.{its_match, is_valid as fused_valid}
 use Rattle.ped_splits.proofs.FuseOne as fuse
 
 pub determined_distribution : (s : ℕ) → IsDetermined (distributing s)
@@ -27,5 +27,5 @@ determined_fusion s = record {
   one_made = fuse.one_made s;
   some_made = λ t valid none.
       let m = its_match t s none.0 in
-      (fused m.neighbour, kept_without (next_number m.neighbour) t, (m, refl, refl), is_valid t s none.0 m);
+      (fused m.neighbour, kept_without (next_number m.neighbour) t, (m, refl, refl), fused_valid t s none.0 m);
 }

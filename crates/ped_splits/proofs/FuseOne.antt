@@ -57,14 +57,11 @@ taken m a b ks = map (row m) (cond (not b) (a ∷ filter (is_kept m) ks) (filter
 
 later_rows : (m a n : ℕ) → All (IsRow m a) (rows m (range_with_len a n))
 later_rows m a zero = All-nil (IsRow m a)
-later_rows m a (suc n) = by (a == m) refl
+later_rows m a (suc n) = by (a == m) refl (all_by (IsRow m (a + 1)) (IsRow m a) (rows m (range_with_len (a + 1) n)) (λ q r. record { from = let h = r.from in omega (arith, h); other = r.other; behind = r.behind }) (later_rows m (a + 1) n))
   where
-    further : All (IsRow m a) (rows m (range_with_len (a + 1) n))
-    further = all_by (IsRow m (a + 1)) (IsRow m a) (rows m (range_with_len (a + 1) n)) (λ q r. record { from = let h = r.from in omega (arith, h); other = r.other; behind = r.behind }) (later_rows m (a + 1) n)
-
-    by : (b : Bool) → (a == m) ≡ b → All (IsRow m a) (taken m a b (range_with_len (a + 1) n))
-    by true e = further
-    by false e = All-cons (IsRow m a) (row m a) (rows m (range_with_len (a + 1) n)) (record { from = omega arith; other = e; behind = refl }) further
+    by : (b : Bool) → (a == m) ≡ b → All (IsRow m a) (rows m (range_with_len (a + 1) n)) → All (IsRow m a) (taken m a b (range_with_len (a + 1) n))
+    by true e rest = rest
+    by false e rest = All-cons (IsRow m a) (row m a) (rows m (range_with_len (a + 1) n)) (record { from = omega arith; other = e; behind = refl }) rest
 
 further : (m k : ℕ) → (k == m) ≡ false → m ≤ k → m < k
 further m k f le = by (cases_lt m k)
@@ -99,26 +96,26 @@ stays_apart m a k e f less same = by (cases_lt a m) (cases_lt k m)
 
 rows_before : (m a n : ℕ) → AllPairs (λ (p : ℕ × ℕ) (q : ℕ × ℕ). p.0 ≢ q.0) (rows m (range_with_len a n))
 rows_before m a zero = λ i j d less within. absurd (omega (arith, within))
-rows_before m a (suc n) = by (a == m) refl
+rows_before m a (suc n) = by (a == m) refl (rows_before m (a + 1) n)
   where
-    by : (b : Bool) → (a == m) ≡ b → AllPairs (λ (p : ℕ × ℕ) (q : ℕ × ℕ). p.0 ≢ q.0) (taken m a b (range_with_len (a + 1) n))
-    by true e = rows_before m (a + 1) n
-    by false e =
+    by : (b : Bool) → (a == m) ≡ b → AllPairs (λ (p : ℕ × ℕ) (q : ℕ × ℕ). p.0 ≢ q.0) (rows m (range_with_len (a + 1) n)) → AllPairs (λ (p : ℕ × ℕ) (q : ℕ × ℕ). p.0 ≢ q.0) (taken m a b (range_with_len (a + 1) n))
+    by true e rest = rest
+    by false e rest =
         AllPairs-cons (λ (p : ℕ × ℕ) (q : ℕ × ℕ). p.0 ≢ q.0) (row m a) (rows m (range_with_len (a + 1) n))
         (all_by (IsRow m (a + 1)) (λ (q : ℕ × ℕ). a ≢ q.0) (rows m (range_with_len (a + 1) n)) (λ q r same. let h = r.from in omega (arith, h, same)) (later_rows m (a + 1) n))
-        (rows_before m (a + 1) n)
+        rest
 
 rows_behind : (m a n : ℕ) → AllPairs (λ (p : ℕ × ℕ) (q : ℕ × ℕ). p.1 ≢ q.1) (rows m (range_with_len a n))
 rows_behind m a zero = λ i j d less within. absurd (omega (arith, within))
-rows_behind m a (suc n) = by (a == m) refl
+rows_behind m a (suc n) = by (a == m) refl (rows_behind m (a + 1) n)
   where
-    by : (b : Bool) → (a == m) ≡ b → AllPairs (λ (p : ℕ × ℕ) (q : ℕ × ℕ). p.1 ≢ q.1) (taken m a b (range_with_len (a + 1) n))
-    by true e = rows_behind m (a + 1) n
-    by false e =
+    by : (b : Bool) → (a == m) ≡ b → AllPairs (λ (p : ℕ × ℕ) (q : ℕ × ℕ). p.1 ≢ q.1) (rows m (range_with_len (a + 1) n)) → AllPairs (λ (p : ℕ × ℕ) (q : ℕ × ℕ). p.1 ≢ q.1) (taken m a b (range_with_len (a + 1) n))
+    by true e rest = rest
+    by false e rest =
         AllPairs-cons (λ (p : ℕ × ℕ) (q : ℕ × ℕ). p.1 ≢ q.1) (row m a) (rows m (range_with_len (a + 1) n))
         (all_by (IsRow m (a + 1)) (λ (q : ℕ × ℕ). closed_up m a ≢ q.1) (rows m (range_with_len (a + 1) n))
         (λ q r same. stays_apart m a q.0 e r.other (let h = r.from in omega (arith, h)) (same ∙ r.behind)) (later_rows m (a + 1) n))
-        (rows_behind m (a + 1) n)
+        rest
 
 pub one_to_one : (s : ℕ) (t new : ProgramTree) (keep : List (ℕ × ℕ)) → MakesFused s t new keep → IsOneToOne keep
 one_to_one s t new keep made =

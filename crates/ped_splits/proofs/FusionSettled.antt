@@ -203,7 +203,7 @@ module _ (t : ProgramTree) (s : ℕ) where
 
       behind : ((n : ℕ) → WhereLoop t s test n → ⊥) → OrNot (Neighbour t s) → Names (WhereEither t s test)
       behind none (inl x) = on_next none x (truth (test x.next x.next_body))
-      behind none (inr no) = (None, λ n p. neither (none n) (λ q. no q.0) p)
+      behind none (inr unmet) = (None, λ n p. neither (none n) (λ q. unmet q.0) p)
 
       on : (l : LoopOf t s) → (test l.head l.body ≡ true) ⊎ (test l.head l.body ≡ false) → OrNot (Neighbour t s) → Names (WhereEither t s test)
       on l (inl e) x = (Some s, inl (l, e, refl))
@@ -219,7 +219,7 @@ module _ (t : ProgramTree) (s : ℕ) where
     where
       by : LoopOf t s ⊎ (LoopOf t s → ⊥) → OrNot (Match t s) → Names (WhereNoMatch t s)
       by (inl l) (inl m) = (None, λ n p. p.1 m)
-      by (inl l) (inr no) = (Some s, (l, no, refl))
+      by (inl l) (inr unmet) = (Some s, (l, unmet, refl))
       by (inr n) d = (None, λ k p. n p.0)
 
   -- rule 15
@@ -232,5 +232,5 @@ module _ (t : ProgramTree) (s : ℕ) where
 
       by : LoopOf t s ⊎ (LoopOf t s → ⊥) → OrNot (Match t s) → Names (WhereFusedLimit t s)
       by (inl l) (inl m) = on l m (valid_decided (fused m.neighbour))
-      by (inl l) (inr no) = (None, λ n p. no p.0)
+      by (inl l) (inr unmet) = (None, λ n p. unmet p.0)
       by (inr n) d = (None, λ k p. n p.1.0)

@@ -210,7 +210,7 @@ commented : (text : List ℕ) (rest : StmtTrees) (o : Option Behind) (b : Behind
 commented text rest None b e deeper = absurd cc
 commented text rest (Some c) b e deeper =
     let d = deeper c refl in
-    subst (Follows (more_stmts (Comment text) rest)) (one_behind (further_back text c) b e) (record { is = ap (more_stmts (Comment text)) d.is; comments = d.comments })
+    subst (Follows (more_stmts (Comment text) rest)) (one_behind (further_back text c) b e) (record { is = ap (more_stmts (Comment text)) d.is; comments = let none = d.comments in omega (arith, none) })
 
 next_follows : (ts : StmtTrees) (b : Behind) → next_in ts ≡ Some b → Follows ts b
 next_follows no_stmts b e = absurd cc
@@ -252,8 +252,8 @@ further_out s n m ts us wrap (Some g) f e deeper out at =
 
 -- either half of what a test settles
 by_test : {A : Type 0} (b : Bool) (x y : Option A) (f : A) (P : Type 0) → (if b then x else y) ≡ Some f → (b ≡ true → x ≡ Some f → P) → (y ≡ Some f → P) → P
-by_test true x y f P e one two = one refl e
-by_test false x y f P e one two = two e
+by_test true x y f P e passes fails = passes refl e
+by_test false x y f P e passes fails = fails e
 
 mutual
   pub sought_stands : (s : ℕ) (ts : StmtTrees) (n : ℕ) (f : Found) → sought_in s ts n ≡ Some f → Stands s ts n f

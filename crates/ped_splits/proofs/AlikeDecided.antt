@@ -10,7 +10,7 @@ use Rattle.ped_tree.specs.NamesIn.{stmts_names}
 use Rattle.ped_reindex.specs.ped_loops.proofs.PlainDecided.{OrNot}
 use Rattle.ped_splits.specs.Neighbours.{Neighbour, AreAlike}
 use Rattle.ped_splits.specs.Fusing.{Match}
-use Rattle.ped_splits.proofs.NeighbourFound.{Found, found_of, neighbour_decided, one_neighbour}
+use Rattle.ped_splits.proofs.NeighbourFound.{Found, neighbour_decided, one_neighbour}
 
 -- of which kind an expression is
 abbrev kind_of : ExprTree → ℕ

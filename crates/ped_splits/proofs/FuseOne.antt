@@ -17,8 +17,8 @@ use Rattle.ped_reindex.specs.ped_loops.specs.ped_scalar.specs.ped_rules.specs.pe
 use Rattle.ped_reindex.specs.ped_loops.specs.ped_scalar.specs.ped_rules.specs.ped_loop_runs.specs.ped_bodies.specs.ped_steps.specs.ped_laws.specs.ped_graph.specs.Update.Fresh.{IsOneToOne}
 use Rattle.ped_reindex.specs.ped_loops.specs.ped_scalar.specs.ped_rules.specs.ped_loop_runs.specs.ped_bodies.specs.ped_steps.specs.ped_laws.specs.ped_graph.specs.ped_edges.specs.Edges.{Edge}
 use Rattle.ped_reindex.specs.ped_loops.specs.ped_scalar.specs.ped_rules.specs.ped_loop_runs.specs.ped_bodies.specs.ped_steps.specs.ped_refs.specs.References.{Reference, references, pairs}
-use Rattle.ped_splits.specs.Neighbours.{Neighbour, joined_head, renamed_body, fused, next_number, closed_up, kept_without}
-use Rattle.ped_splits.specs.Fusing.{Match, MakesFused, StandsAgainstFusion, goes_back, AreBack, forbids_fusion, with_present_numbers, IsFusionCause}
+use Rattle.ped_splits.specs.Neighbours.{Neighbour, joined_head, renamed_body, next_number, closed_up, kept_without}
+use Rattle.ped_splits.specs.Fusing.{Match, MakesFused, StandsAgainstFusion, AreBack, forbids_fusion, with_present_numbers, IsFusionCause}
 use Rattle.ped_splits.proofs.BlockOrders.{all_by}
 use Rattle.ped_splits.proofs.FuseRules.{chain}
 use Rattle.ped_splits.proofs.NeighbourFound.{Found, found_of, one_neighbour}

@@ -12,7 +12,7 @@ use Rattle.ped_reindex.specs.ped_loops.specs.ped_scalar.specs.ped_rules.specs.pe
 use Rattle.ped_reindex.specs.ped_loops.specs.ped_scalar.specs.ped_rules.specs.ped_loop_runs.proofs.TidyLaws.TidyPathsGaps.{IsOutside, LeaveNoMore, all_behind_none, followed_behind, gap_behind}
 use Rattle.ped_reindex.specs.ped_loops.specs.ped_scalar.specs.ped_rules.specs.ped_loop_runs.proofs.TidyLaws.TidyPathsShown.{shown_by}
 use Rattle.ped_reindex.specs.ped_loops.specs.ped_scalar.specs.ped_rules.specs.ped_loop_runs.proofs.TidyLaws.TidyPathsStops.{all_unstopped}
-use Rattle.ped_reindex.specs.ped_loops.specs.ped_scalar.specs.ped_rules.specs.ped_loop_runs.proofs.TidyLaws.TidyPathsSums.{Summary, IsNoMore, no_more_by, unreached_more, any_numbers}
+use Rattle.ped_reindex.specs.ped_loops.specs.ped_scalar.specs.ped_rules.specs.ped_loop_runs.proofs.TidyLaws.TidyPathsSums.{Summary, IsNoMore, no_more_by, unreached_more}
 use Rattle.ped_splits.proofs.LeftOrPassed.{IsNoMoreBut}
 use Rattle.ped_reindex.specs.ped_loops.specs.ped_scalar.specs.ped_rules.specs.ped_loop_runs.proofs.TidyLaws.TidyReferences.{written_is}
 use Rattle.ped_reindex.specs.ped_loops.specs.ped_scalar.specs.ped_rules.specs.ped_loop_runs.proofs.TidyLaws.TidyReferencesGaps.{Stands, each_stands, all_move, each_of_program}
@@ -28,7 +28,6 @@ use Rattle.ped_reindex.specs.ped_loops.specs.ped_scalar.specs.ped_rules.specs.pe
 use Rattle.ped_reindex.specs.ped_loops.specs.ped_scalar.specs.ped_rules.specs.ped_loop_runs.specs.ped_bodies.specs.ped_steps.specs.ped_flow.specs.Questions.{LoopOf, IsIndexIn, IsShownBehind}
 use Rattle.ped_reindex.specs.ped_loops.specs.ped_scalar.specs.ped_rules.specs.ped_loop_runs.specs.ped_bodies.specs.ped_steps.specs.ped_flow.specs.Summaries.{unreached, sum_in_turn, sum_either, sum_loop, sum_of_all, sum_at_once, sum_behind, sum_behind_all}
 use Rattle.ped_reindex.specs.ped_loops.specs.ped_scalar.specs.ped_rules.specs.ped_loop_runs.specs.ped_bodies.specs.ped_steps.specs.ped_laws.proofs.FlowRunLaws.Stopping.{fitting_stops, loop_stops}
-use Rattle.ped_reindex.specs.ped_loops.specs.ped_scalar.specs.ped_rules.specs.ped_loop_runs.specs.ped_bodies.specs.ped_steps.specs.ped_laws.specs.FlowRuns.Covering.{some_stop}
 use Rattle.ped_splits.specs.Neighbours.{Neighbour, joined_loop, fused, next_number}
 use Rattle.ped_splits.specs.Fusing.{Match}
 use Rattle.ped_splits.proofs.FuseFacts.{IsFusable}

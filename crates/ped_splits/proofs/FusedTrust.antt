@@ -1,5 +1,5 @@
 -- What the one DO leaves alone that two neighbours left alone: it has no other variables, writes no other names, has no C$PED REJECT where they had none, and its PARALLEL DOs write their variables no more than theirs.
-use Rattle.std.proofs.Common.{◌≡◌, ◌⊎◌, ℕ, ◌+◌, ◌<◌, ◌≤◌, ◌==◌, List, [], ◌∷◌, ◌++◌, Bool, true, false, not, ◌||◌, ◌&&◌, if◌then◌else◌, inl, inr, refl, sym, ap, subst, ◌∙◌, append-nil, arith, eq-eqb, ne_eqb}
+use Rattle.std.proofs.Common.{◌≡◌, ◌⊎◌, ℕ, ◌+◌, ◌<◌, ◌==◌, List, [], ◌∷◌, ◌++◌, Bool, true, false, not, ◌||◌, ◌&&◌, if◌then◌else◌, inl, inr, refl, sym, ap, subst, ◌∙◌, append-nil, arith, eq-eqb, ne_eqb}
 use Rattle.std.specs.List.{list_any}
 use Rattle.std.proofs.lemmas.Bool.{and_parts, both_ways, or_parts}
 use Rattle.ped_base.proofs.NameEquality.{same_itself, same_is, same_flip}
@@ -10,7 +10,6 @@ use Rattle.ped_tree.specs.Names.Collecting.{with_names}
 use Rattle.ped_tree.specs.NamesIn.{all_loop_variables, cond_names, head_names, loop_variables, stmt_names, stmts_names}
 use Rattle.ped_tree.specs.Numbering.{statement_count, statements_count}
 use Rattle.ped_tree.specs.Tree.{Var, Head, StmtTree, StmtTrees, Assign, If, Do, Print, Read, Stop, Comment, no_stmts, more_stmts, ProgramTree}
-use Rattle.ped_reindex.specs.ped_loops.specs.ped_scalar.proofs.TidyPathsSubstituted.{stops_kept}
 use Rattle.ped_reindex.specs.ped_loops.specs.ped_scalar.proofs.TidyReferencesSubstituted.{all_unwritten, all_variables_stay, other_unwritten, variables_followed}
 use Rattle.ped_reindex.specs.ped_loops.specs.ped_scalar.proofs.UnrejectedSteps.{rejections_kept}
 use Rattle.ped_reindex.specs.ped_loops.specs.ped_scalar.specs.ped_rules.specs.ped_loop_runs.proofs.TidyLaws.TidyPathsGaps.{LeaveNoMore, followed_sum, gap_behind}
@@ -25,7 +24,6 @@ use Rattle.ped_reindex.specs.ped_loops.specs.ped_scalar.specs.ped_rules.specs.pe
 use Rattle.ped_reindex.specs.ped_loops.specs.ped_scalar.specs.ped_rules.specs.ped_loop_runs.specs.Writing.{all_write, some_write_index, writes, writes_index, writes_name}
 use Rattle.ped_reindex.specs.ped_loops.specs.ped_scalar.specs.ped_rules.specs.ped_loop_runs.specs.ped_bodies.specs.ped_steps.proofs.RunLaws.ExpandedPlacesParts.{part_at}
 use Rattle.ped_reindex.specs.ped_loops.specs.ped_scalar.specs.ped_rules.specs.ped_loop_runs.specs.ped_bodies.specs.ped_steps.specs.Replacing.{followed, alone}
-use Rattle.ped_reindex.specs.ped_loops.specs.ped_scalar.specs.ped_rules.specs.ped_loop_runs.specs.ped_bodies.specs.ped_steps.specs.Runs.Gaps.{filled}
 use Rattle.ped_reindex.specs.ped_loops.specs.ped_scalar.specs.ped_rules.specs.ped_loop_runs.specs.ped_bodies.specs.ped_steps.specs.ped_flow.proofs.Truths.{untrue, or_split}
 use Rattle.ped_reindex.specs.ped_loops.specs.ped_scalar.specs.ped_rules.specs.ped_loop_runs.specs.ped_bodies.specs.ped_steps.specs.ped_flow.specs.Questions.{IsContained, IsShownBehind}
 use Rattle.ped_reindex.specs.ped_loops.specs.ped_scalar.specs.ped_rules.specs.ped_loop_runs.specs.ped_bodies.specs.ped_steps.specs.ped_flow.specs.Summaries.{sum_in_turn, sum_either, sum_loop, sum_of, sum_of_all, sum_at_once, sum_behind, sum_behind_all}

@@ -1,12 +1,11 @@
 -- Each rule of `fuse` names a statement, or doesn't stand: which of the two is decided.
-use Rattle.std.proofs.Common.{◌≡◌, ◌⊎◌, ℕ, suc, ◌+◌, ◌-◌, ◌<◌, ◌≤◌, nat_lt, Bool, true, false, if◌then◌else◌, Option, Some, None, MatchOption, inl, inr, refl, sym, ap, subst, ◌∙◌, arith, lt-ltb, le-ltb}
+use Rattle.std.proofs.Common.{◌≡◌, ◌⊎◌, ℕ, suc, ◌<◌, ◌≤◌, nat_lt, Bool, true, false, if◌then◌else◌, Option, Some, None, MatchOption, inl, inr, refl, sym, ap, subst, ◌∙◌, arith, lt-ltb, le-ltb}
 use Rattle.std.proofs.lemmas.Bool.{both_ways, cases_lt}
 use Rattle.ped_tree.specs.NamesIn.{loop_variables}
 use Rattle.ped_tree.specs.Tree.{Head, StmtTrees, Do, ProgramTree}
 use Rattle.ped_reindex.specs.ped_loops.proofs.PlainDecided.{OrNot}
 use Rattle.ped_reindex.specs.ped_loops.specs.ped_scalar.specs.ped_rules.proofs.Decided.{loop_decided, valid_decided, limit_stands}
 use Rattle.ped_reindex.specs.ped_loops.specs.ped_scalar.specs.ped_rules.specs.Chains.{WhereLoop}
-use Rattle.ped_reindex.specs.ped_loops.specs.ped_scalar.specs.ped_rules.specs.Rules.{WhereLimit}
 use Rattle.ped_reindex.specs.ped_loops.specs.ped_scalar.specs.ped_rules.specs.ped_loop_runs.specs.ped_bodies.specs.ped_steps.specs.ped_flow.proofs.Escaping.{escape_is}
 use Rattle.ped_reindex.specs.ped_loops.specs.ped_scalar.specs.ped_rules.specs.ped_loop_runs.specs.ped_bodies.specs.ped_steps.specs.ped_flow.proofs.FirstLaws.{first_map, first_or}
 use Rattle.ped_reindex.specs.ped_loops.specs.ped_scalar.specs.ped_rules.specs.ped_loop_runs.specs.ped_bodies.specs.ped_steps.specs.ped_flow.specs.Answers.{IsEscape}
@@ -21,7 +20,7 @@ use Rattle.ped_splits.specs.Fusing.{Match, MakesFused, WhereNext, WhereEither, I
 use Rattle.ped_splits.proofs.AlikeDecided.{neither, match_decided}
 use Rattle.ped_splits.proofs.FuseOne.{fused_at, number_behind, one_made}
 use Rattle.ped_splits.proofs.Here.{fails_there}
-use Rattle.ped_splits.proofs.NeighbourFound.{Found, found_of, neighbour_decided, one_neighbour}
+use Rattle.ped_splits.proofs.NeighbourFound.{Found, neighbour_decided, one_neighbour}
 use Rattle.ped_splits.proofs.NeighbourLoops.{next_loop, fused_loop}
 
 -- the rule names a statement, or none

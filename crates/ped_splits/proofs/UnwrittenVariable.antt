@@ -1,5 +1,5 @@
 -- In a valid program the body of a DO doesn't write the DO's variable.
-use Rattle.std.proofs.Common.{◌≡◌, ℕ, List, [], ◌∷◌, ◌++◌, length, nat_lt, not, Bool, true, false, ◌||◌, ◌&&◌, refl, sym, ap, ◌∙◌, codes}
+use Rattle.std.proofs.Common.{◌≡◌, ℕ, List, [], ◌∷◌, ◌++◌, length, nat_lt, not, Bool, true, false, ◌||◌, refl, sym, ap, ◌∙◌, codes}
 use Rattle.std.specs.List.{flat_map, list_all, list_any}
 use Rattle.std.proofs.lemmas.Bool.{and_parts, both_ways, or_parts}
 use Rattle.ped_base.proofs.NameEquality.{same_is}

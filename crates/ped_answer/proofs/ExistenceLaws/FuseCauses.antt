@@ -1,6 +1,5 @@
 -- `fuse` has a first cause against it in a program, or none.
-use Rattle.std.proofs.Common.{◌≡◌, ◌⊎◌, ℕ, inl, inr, refl, List, filter, All, false, Option, Some, None, subst}
-use Rattle.ped_answer.specs.ped_session.specs.ped_graph.proofs.OnePane.{one_edges_of_pairs}
+use Rattle.std.proofs.Common.{◌≡◌, ◌⊎◌, ℕ, inl, inr, refl, List, filter, All, false, Option, Some, None}
 use Rattle.ped_answer.specs.ped_session.specs.ped_graph.specs.ped_edges.specs.Edges.{Edge}
 use Rattle.ped_answer.specs.ped_session.specs.ped_refs.specs.References.{references, pairs}
 use Rattle.ped_answer.specs.ped_session.specs.ped_tree.specs.Tree.{ProgramTree}

@@ -3,6 +3,7 @@ mod Advices
 mod Alike
 mod ChainCauses
 mod DistributeCauses
+mod FuseCauses
 pub mod Edges
 pub mod Files
 mod LoopCauses

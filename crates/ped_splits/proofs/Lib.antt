@@ -2,6 +2,19 @@ pub mod OneBlocks
 pub mod DistributeRules
 pub mod FuseRules
 mod FuseFacts
+pub mod NeighbourFound
+pub mod AlikeDecided
+mod NeighbourLoops
+pub mod FuseOne
+pub mod FusableFacts
+pub mod FusionSettled
+mod UnwrittenVariable
+mod FusedTrust
+mod LeftOrPassed
+mod MovedDos
+mod SerialPaths
+mod ParallelRound
+mod FusedTidy
 mod Here
 mod DistributeAnswers
 mod BlockOrders

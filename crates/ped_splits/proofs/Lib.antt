@@ -2,6 +2,7 @@ pub mod OneBlocks
 pub mod DistributeRules
 pub mod FuseRules
 mod FuseFacts
+mod JoinCrossing
 mod Here
 mod DistributeAnswers
 mod BlockOrders

@@ -3,6 +3,16 @@ pub mod DistributeRules
 pub mod FuseRules
 mod FuseFacts
 mod CoverGaps
+mod CoverElements
+mod CoverStores
+mod CoverReached
+mod CoverNumbers
+mod CoverMade
+mod CoverBodies
+mod CoverTrips
+mod CoverDependences
+mod CoverMeets
+mod JoinCrossing
 mod Here
 mod DistributeAnswers
 mod BlockOrders

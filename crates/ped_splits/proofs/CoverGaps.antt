@@ -124,6 +124,10 @@ module _ (y : List ℕ) where
         left_in (assigned_in (Do h (filled gap ts))) (assigned_in_all rest)
         (or_right (is_same_text y h.variable) (is_among y (h.private ++ assigned_in_all (filled gap ts))) (right_in h.private (assigned_in_all (filled gap ts)) (assigned_inside gap)))
 
+pub followed_numbered : (ts us : StmtTrees) → all_numbered (followed ts us) ≡ all_numbered ts ++ all_numbered us
+followed_numbered no_stmts us = refl
+followed_numbered (more_stmts t rest) us = ap (λ (z : List StmtTree). numbered t ++ z) (followed_numbered rest us) ∙ sym (append_assoc (numbered t) (all_numbered rest) (all_numbered us))
+
 -- a DO of both programs, round statements that are exchanged for one DO: its head is that of both, and its variable is none of these
 pub record IsRoundBoth (t u : ProgramTree) (new : StmtTrees) (round : List (List ℕ)) (k : Loop) : Type 0 where
   pub body : StmtTrees
@@ -158,6 +162,7 @@ module _ (t u : ProgramTree) (w : ranges.Setting) (h : Head) (b old : StmtTrees)
     pub scope : Scope
     pub tells : variables_of scope ≡ variables_behind round (gap_loops gap n)
     pub part : Part u w (nest ++ gap_loops gap n) scope around (number_at gap n) (Do h b)
+    pub stood : Stand t (number_at gap n) (all_numbered old)
 
   pub in_gap : (gap : Gap) (nest : List Loop) (scope : Scope) (around : Surroundings) (n : ℕ) → Parts u w nest scope around n (filled gap (alone (Do h b))) → Stand t n (all_numbered (filled gap old)) → IsInGap nest (variables_of scope) gap n
   in_gap (at_front rest) nest scope around n p stood = record {
@@ -166,22 +171,23 @@ module _ (t u : ProgramTree) (w : ranges.Setting) (h : Head) (b old : StmtTrees)
     scope = scope;
     tells = refl;
     part = subst (λ (ls : List Loop). Part u w ls scope around n (Do h b)) (sym (append-nil nest)) (first_part u w nest scope around n (Do h b) rest p);
+    stood = first_stands t n (all_numbered old) (all_numbered rest) (subst (Stand t n) (followed_numbered old rest) stood);
   }
   in_gap (past x gap) nest scope around n p stood =
       let r = in_gap gap nest scope (moved around (statement_count x)) (n + statement_count x) (rest_parts u w nest scope around n x (filled gap new) p) (rest_stands t x (filled gap old) n stood) in
-      record { loops = r.loops; around = r.around; scope = r.scope; tells = r.tells; part = r.part }
+      record { loops = r.loops; around = r.around; scope = r.scope; tells = r.tells; part = r.part; stood = r.stood }
   in_gap (in_then c gap other rest) nest scope around n p stood =
       let a = filled gap new in
       let was = filled gap old in
       let r = in_gap gap nest scope (in_if around 1) (n + 1) (then_parts u w nest scope around n c a other (first_part u w nest scope around n (If c a other) rest p))
       (first_stands t (n + 1) (all_numbered was) (all_numbered other) (inner_stands t (If c was other) (all_numbered was ++ all_numbered other) n (first_stands t n (numbered (If c was other)) (all_numbered rest) stood))) in
-      record { loops = r.loops; around = r.around; scope = r.scope; tells = r.tells; part = r.part }
+      record { loops = r.loops; around = r.around; scope = r.scope; tells = r.tells; part = r.part; stood = r.stood }
   in_gap (in_else c other gap rest) nest scope around n p stood =
       let a = filled gap new in
       let was = filled gap old in
       let r = in_gap gap nest scope (in_if around (1 + statements_count other)) (n + 1 + statements_count other) (else_parts u w nest scope around n c other a (first_part u w nest scope around n (If c other a) rest p))
       (else_stands t other was (n + 1) (inner_stands t (If c other was) (all_numbered other ++ all_numbered was) n (first_stands t n (numbered (If c other was)) (all_numbered rest) stood))) in
-      record { loops = r.loops; around = r.around; scope = r.scope; tells = r.tells; part = r.part }
+      record { loops = r.loops; around = r.around; scope = r.scope; tells = r.tells; part = r.part; stood = r.stood }
   in_gap (in_body d gap rest) nest scope around n p stood =
       let a = filled gap new in
       let was = filled gap old in
@@ -213,4 +219,5 @@ module _ (t u : ProgramTree) (w : ranges.Setting) (h : Head) (b old : StmtTrees)
         scope = r.scope;
         tells = r.tells;
         part = subst (λ (ls : List Loop). Part u w ls r.scope r.around (number_at gap (n + 1)) (Do h b)) (append_assoc nest ((record { number = n; head = d }) ∷ []) (gap_loops gap (n + 1))) r.part;
+        stood = r.stood;
       }

@@ -49,6 +49,7 @@ use Rattle.ped_reindex.specs.ped_loops.specs.ped_scalar.specs.ped_rules.specs.pe
 use Rattle.ped_reindex.specs.ped_loops.specs.ped_scalar.specs.ped_rules.specs.ped_loop_runs.specs.ped_bodies.specs.ped_steps.specs.ped_laws.specs.Acts.Orders.{IsIn}
 use Rattle.ped_reindex.specs.ped_loops.specs.ped_scalar.specs.ped_rules.specs.ped_loop_runs.specs.ped_bodies.specs.ped_steps.specs.ped_laws.specs.Conflicts.Reaching.{IsStoreIn}
 use Rattle.ped_reindex.specs.ped_loops.specs.ped_scalar.specs.ped_rules.specs.ped_loop_runs.specs.ped_bodies.specs.ped_steps.specs.ped_laws.specs.Conflicts.Sequence.{AreSuccessive}
+use Rattle.ped_reindex.specs.ped_loops.specs.ped_scalar.specs.ped_rules.specs.ped_loop_runs.specs.ped_bodies.specs.ped_steps.specs.ped_refs.specs.References.{Reference}
 use Rattle.ped_reindex.specs.ped_loops.specs.ped_scalar.specs.ped_rules.specs.ped_loop_runs.specs.ped_bodies.specs.ped_steps.specs.ped_laws.specs.Covering.Within.{is_storing, HoldsStorable}
 use Rattle.ped_reindex.specs.ped_loops.specs.ped_scalar.specs.ped_rules.specs.ped_loop_runs.specs.ped_bodies.specs.ped_steps.specs.ped_laws.specs.Runs.Replaying.{finish_of, goes_on}
 use Rattle.ped_reindex.specs.ped_loops.specs.ped_scalar.specs.ped_rules.specs.ped_loop_runs.specs.ped_bodies.specs.ped_steps.specs.ped_laws.specs.Runs.Touching.{Meeting}
@@ -63,6 +64,7 @@ use Rattle.ped_reindex.specs.ped_loops.specs.ped_scalar.specs.ped_rules.specs.pe
 use Rattle.ped_splits.proofs.CoverBodies as body
 use Rattle.ped_splits.proofs.CoverDependences.{IsMeeting, none_meet}
 use Rattle.ped_splits.proofs.CoverGaps.{followed_numbered}
+use Rattle.ped_splits.proofs.CoverKinds.{fused_setting, fused_unrejected}
 use Rattle.ped_splits.proofs.CoverMade as made
 use Rattle.ped_splits.proofs.CoverMade.{HasCome, followed_variables, has_come, stands, new_nest}
 use Rattle.ped_splits.proofs.CoverNumbers.{as_first, as_second, gap_below, its_number, in_body_of, scope_stays, store_back, told_back}
@@ -329,10 +331,8 @@ module _ (t0 : ProgramTree) (s : ℕ) (m : Match t0 s) (x : IsFusable t0 s m) (s
     in_next_trip : (b : Act) → IsIn b (next.trip j) → IsIn b (run_all p (second_body n) (number + 1) (frame z j ∷ scope) (next_store j)).acts
     in_next_trip b k = subst (IsIn b) (next.are j from within).is k
 
-    -- such accesses of two acts
-    none_there : (a b : Act) → IsIn a (first.trip i) → IsIn b (next.trip j) → Meeting a b → ⊥
-    none_there a b k l q = meets (first_made made_turns.0 made_turns.1 q.of_first q.first_reference (one_place ∙ made_turns.2)) (next_made moved_turns.0 moved_turns.1 (moved_access f b q.second q.of_second) q.second_reference (other_place ∙ moved_turns.2))
-      where
+    -- accesses of two acts that conflict, one of the first in a later iteration and one of the second in an earlier one
+    module _ (a b : Act) (k : IsIn a (first.trip i)) (l : IsIn b (next.trip j)) (q : Meeting a b) where
         one : (w : Touch) × IsIn w a.touches × (q.first ≡ access_by a.place w)
         one = touch_of_access q.first a q.of_first
 
@@ -404,22 +404,39 @@ module _ (t0 : ProgramTree) (s : ℕ) (m : Match t0 s) (x : IsFusable t0 s m) (s
             let long = size_is in
             (omega (arith, is, lo), omega (arith, is, hi, lo, long))
 
-        meets : Made u x.new_valid come.outer come.first q.first → Made u x.new_valid come.outer come.first (moved f q.second) → ⊥
-        meets sink source =
-            none_meet t0 s n come.first (moved f q.second) q.first source.reference sink.reference
-            (record { at_source = source.scope; at_sink = sink.scope; before = source.store; behind = sink.store; made = source.is; makes = sink.is; conflicts = conflicts })
-            (turns_of scope) (map (renumbered_turn f) other_more.0) one_more.0 (frame joined j).turn (frame joined i).turn
-            (record {
-              at_first = other_place;
-              at_second = one_place;
-              successive = record { same = refl; parallel = refl; earlier = less; head = made.head t0 s m x same; body = made.bodies t0 s m x same; stands = stands t0 s m x same; initial = first.bounds.first; at_first = refl; at_second = refl };
-              level = turns_long (λ k. k) (made.nest t0 s m x same) (turns_of scope) come.turns ∙ sym (ap length (new_nest t0 s m x same));
-              from = from_to.0;
-              to = from_to.1;
-              low = low_high.0;
-              high = low_high.1;
-            })
-            room plain x.unforbidden
+        -- they are made by references of the new program, in two iterations of the one DO
+        pub record AreMade : Type 0 where
+          pub source : Reference
+          pub sink : Reference
+          pub inner : List Turn
+          pub inner_first : List Turn
+          pub made : MakeConflict u come.first (moved f q.second) q.first source sink
+          pub meeting : IsMeeting n (turns_of scope) inner inner_first (frame joined j).turn (frame joined i).turn (moved f q.second) q.first
+
+        meets : Made u x.new_valid come.outer come.first q.first → Made u x.new_valid come.outer come.first (moved f q.second) → AreMade
+        meets sink source = record {
+          source = source.reference;
+          sink = sink.reference;
+          inner = map (renumbered_turn f) other_more.0;
+          inner_first = one_more.0;
+          made = record { at_source = source.scope; at_sink = sink.scope; before = source.store; behind = sink.store; made = source.is; makes = sink.is; conflicts = conflicts };
+          meeting = record {
+            at_first = other_place;
+            at_second = one_place;
+            successive = record { same = refl; parallel = refl; earlier = less; head = made.head t0 s m x same; body = made.bodies t0 s m x same; stands = stands t0 s m x same; initial = first.bounds.first; at_first = refl; at_second = refl };
+            level = turns_long (λ k. k) (made.nest t0 s m x same) (turns_of scope) come.turns ∙ sym (ap length (new_nest t0 s m x same));
+            from = from_to.0;
+            to = from_to.1;
+            low = low_high.0;
+            high = low_high.1;
+          };
+        }
+
+        pub are_made : AreMade
+        are_made = meets (first_made made_turns.0 made_turns.1 q.of_first q.first_reference (one_place ∙ made_turns.2)) (next_made moved_turns.0 moved_turns.1 (moved_access f b q.second q.of_second) q.second_reference (other_place ∙ moved_turns.2))
+
+        none_there : ⊥
+        none_there = none_meet t0 s n come.first (moved f q.second) q.first are_made.source are_made.sink are_made.made (turns_of scope) are_made.inner are_made.inner_first (frame joined j).turn (frame joined i).turn are_made.meeting room plain x.unforbidden
 
     abbrev idle : Cell → Bool
     idle = is_cell_among (joined_variables m.neighbour)
@@ -454,6 +471,6 @@ module _ (t0 : ProgramTree) (s : ℕ) (m : Match t0 s) (x : IsFusable t0 s m) (s
             absurd (none_there q.0 q.1 q.2 q.3 (outside_of_run p t.body 1 [] (store_at_start (lines data_bytes)) idle q.0 q.1 one other (first_within q.0 q.2) (next_within q.1 q.3) q.4).0)
 
 -- so none crosses
-pub none_crosses : (t0 : ProgramTree) (s : ℕ) (m : Match t0 s) (x : IsFusable t0 s m) → setting_of (fused m.neighbour) ≡ setting_of (renamed m.neighbour) → some_rejection (fused m.neighbour).body ≡ false → SameInitial m.neighbour → NoneCrosses m.neighbour
-none_crosses t0 s m x same plain initial data_bytes ends scope front behind v executed goes first next i j from less to within =
-    uncrossed t0 s m x same plain data_bytes scope front behind v executed goes first next (initial data_bytes ends scope front behind v executed goes first next) i j from less to within
+pub none_crosses : (t0 : ProgramTree) (s : ℕ) (m : Match t0 s) → IsFusable t0 s m → SameInitial m.neighbour → NoneCrosses m.neighbour
+none_crosses t0 s m x initial data_bytes ends scope front behind v executed goes first next i j from less to within =
+    uncrossed t0 s m x (fused_setting t0 s m x) (fused_unrejected m.neighbour x.trusted.unrejected) data_bytes scope front behind v executed goes first next (initial data_bytes ends scope front behind v executed goes first next) i j from less to within

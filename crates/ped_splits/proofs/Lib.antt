@@ -11,6 +11,7 @@ mod CoverMade
 mod CoverBodies
 mod CoverTrips
 mod CoverDependences
+mod CoverKinds
 mod CoverMeets
 mod JoinCrossing
 mod Here

@@ -1,5 +1,5 @@
 use Rattle.std.proofs.Common.{ℕ}
-use Rattle.ped_splits.proofs.CoverGaps.{in_gap, gap_nest}
+use Rattle.ped_splits.proofs.CoverMeets.{none_crosses}
 use Rattle.ped_splits.proofs.FuseRules.{chain}
 use Rattle.ped_splits.proofs.laws.fusion_is_lawful.Goals as goal
 

@@ -31,7 +31,7 @@ use Rattle.ped_splits.specs.Neighbours.{Neighbour, fused, next_number}
 
 -- behind the first of two pieces
 followed_parts : (u : ProgramTree) (w : ranges.Setting) (nest : List Loop) (scope : Scope) (around : Surroundings) (n : ℕ) (xs ys : StmtTrees) → Parts u w nest scope around n (followed xs ys) → (other : Surroundings) × Parts u w nest scope other (n + statements_count xs) ys
-followed_parts u w nest scope around n no_stmts ys p = (around, subst (λ (k : ℕ). Parts u w nest scope around k ys) (omega arith) p)
+followed_parts u w nest scope around n no_stmts ys p = (around, subst (λ (k : ℕ). Parts u w nest scope around k ys) (let none : n ≡ n + statements_count no_stmts = omega arith in none) p)
 followed_parts u w nest scope around n (more_stmts x xs) ys p =
     let r = followed_parts u w nest scope (moved around (statement_count x)) (n + statement_count x) xs ys (rest_parts u w nest scope around n x (followed xs ys) p) in
     (r.0, subst (λ (k : ℕ). Parts u w nest scope r.0 k ys) (let e : n + statement_count x + statements_count xs ≡ n + (statement_count x + statements_count xs) = omega arith in e) r.1)

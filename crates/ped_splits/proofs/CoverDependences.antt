@@ -3,7 +3,7 @@ use Rattle.std.proofs.Common.{◌≡◌, ℕ, ◌+◌, ◌<◌, ◌≤◌, ◌==
 use Rattle.std.specs.Prelude.{nat_lt, nat_le}
 use Rattle.std.proofs.lemmas.Bool.{and_parts}
 use Rattle.std.proofs.lemmas.Bool.Decides.{nat_tests}
-use Rattle.ped_reindex.specs.ped_loops.proofs.FlagsLawful.{each_of}
+use Rattle.std.proofs.lemmas.List.Elements.{All-head, All-tail}
 use Rattle.ped_tree.specs.Numbering.{statements_count}
 use Rattle.ped_tree.specs.Tree.{ProgramTree}
 use Rattle.ped_reindex.specs.ped_loops.specs.ped_scalar.specs.ped_rules.specs.ped_loop_runs.specs.ped_bodies.specs.ped_steps.specs.ped_views.specs.Vectors.{all_vectors, AreThose, IsPossible}
@@ -48,20 +48,25 @@ pairs_have t (p ∷ ps) none = pair_has t p.0 p.1 (λ first a. pairs_have t ps (
 in_filter : {X : Type 0} (test : X → Bool) (a : X) (xs : List X) → IsIn a xs → test a ≡ true → IsIn a (filter test xs)
 in_filter test a [] i h = absurd i
 in_filter {X} test a (y ∷ ys) (inl e) h = subst (λ (b : Bool). IsIn a (if b then y ∷ filter test ys else filter test ys)) (sym (ap test (sym e) ∙ h)) (inl e)
-in_filter {X} test a (y ∷ ys) (inr i) h = go (test y)
+in_filter {X} test a (y ∷ ys) (inr i) h = go (test y) (in_filter test a ys i h)
   where
-    go : (b : Bool) → IsIn a (if b then y ∷ filter test ys else filter test ys)
-    go true = inr (in_filter test a ys i h)
-    go false = in_filter test a ys i h
+    go : (b : Bool) → IsIn a (filter test ys) → IsIn a (if b then y ∷ filter test ys else filter test ys)
+    go true there = inr there
+    go false there = there
 
 from_filter : {X : Type 0} (test : X → Bool) (a : X) (xs : List X) → IsIn a (filter test xs) → IsIn a xs
 from_filter test a [] i = absurd i
-from_filter {X} test a (y ∷ ys) i = go (test y) i
+from_filter {X} test a (y ∷ ys) i = go (test y) i (from_filter test a ys)
   where
-    go : (b : Bool) → IsIn a (if b then y ∷ filter test ys else filter test ys) → IsIn a (y ∷ ys)
-    go true (inl e) = inl e
-    go true (inr j) = inr (from_filter test a ys j)
-    go false j = inr (from_filter test a ys j)
+    go : (b : Bool) → IsIn a (if b then y ∷ filter test ys else filter test ys) → (IsIn a (filter test ys) → IsIn a ys) → IsIn a (y ∷ ys)
+    go true (inl e) more = inl e
+    go true (inr j) more = inr (more j)
+    go false j more = inr (more j)
+
+each_of : {X : Type 0} (P : X → Type 0) (xs : List X) (x : X) → All P xs → IsIn x xs → P x
+each_of P [] x all i = absurd i
+each_of P (y ∷ ys) x all (inl e) = subst P (sym e) (All-head P y ys all)
+each_of P (y ∷ ys) x all (inr i) = each_of P ys x (All-tail P y ys all) i
 
 not_rejected : (mark : Mark) → (mark ≡ rejected → ⊥) → is_rejected mark ≡ false
 not_rejected proven h = refl

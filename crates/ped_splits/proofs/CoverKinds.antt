@@ -46,12 +46,11 @@ module _ (y : List ℕ) where
     names_filled (past s gap) = both (stmt_names s) (stmts_names (filled gap new)) (stmt_names s) (stmts_names (filled gap old)) refl (names_filled gap)
     names_filled (in_then c gap b rest) =
         both (stmt_names (If c (filled gap new) b)) (stmts_names rest) (stmt_names (If c (filled gap old) b)) (stmts_names rest)
-        (both (cond_names c) (stmts_names (filled gap new) ++ stmts_names b) (cond_names c) (stmts_names (filled gap old) ++ stmts_names b) refl
-        (both (stmts_names (filled gap new)) (stmts_names b) (stmts_names (filled gap old)) (stmts_names b) (names_filled gap) refl)) refl
+        (both (cond_names c ++ stmts_names (filled gap new)) (stmts_names b) (cond_names c ++ stmts_names (filled gap old)) (stmts_names b)
+        (both (cond_names c) (stmts_names (filled gap new)) (cond_names c) (stmts_names (filled gap old)) refl (names_filled gap)) refl) refl
     names_filled (in_else c a gap rest) =
         both (stmt_names (If c a (filled gap new))) (stmts_names rest) (stmt_names (If c a (filled gap old))) (stmts_names rest)
-        (both (cond_names c) (stmts_names a ++ stmts_names (filled gap new)) (cond_names c) (stmts_names a ++ stmts_names (filled gap old)) refl
-        (both (stmts_names a) (stmts_names (filled gap new)) (stmts_names a) (stmts_names (filled gap old)) refl (names_filled gap))) refl
+        (both (cond_names c ++ stmts_names a) (stmts_names (filled gap new)) (cond_names c ++ stmts_names a) (stmts_names (filled gap old)) refl (names_filled gap)) refl
     names_filled (in_body h gap rest) =
         both (stmt_names (Do h (filled gap new))) (stmts_names rest) (stmt_names (Do h (filled gap old))) (stmts_names rest)
         (both (head_names h) (stmts_names (filled gap new)) (head_names h) (stmts_names (filled gap old)) refl (names_filled gap)) refl

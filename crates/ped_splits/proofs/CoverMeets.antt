@@ -410,7 +410,7 @@ module _ (t0 : ProgramTree) (s : ℕ) (m : Match t0 s) (x : IsFusable t0 s m) (s
           pub sink : Reference
           pub inner : List Turn
           pub inner_first : List Turn
-          pub made : MakeConflict u come.first (moved f q.second) q.first source sink
+          pub pair : MakeConflict u come.first (moved f q.second) q.first source sink
           pub meeting : IsMeeting n (turns_of scope) inner inner_first (frame joined j).turn (frame joined i).turn (moved f q.second) q.first
 
         meets : Made u x.new_valid come.outer come.first q.first → Made u x.new_valid come.outer come.first (moved f q.second) → AreMade
@@ -419,7 +419,7 @@ module _ (t0 : ProgramTree) (s : ℕ) (m : Match t0 s) (x : IsFusable t0 s m) (s
           sink = sink.reference;
           inner = map (renumbered_turn f) other_more.0;
           inner_first = one_more.0;
-          made = record { at_source = source.scope; at_sink = sink.scope; before = source.store; behind = sink.store; made = source.is; makes = sink.is; conflicts = conflicts };
+          pair = record { at_source = source.scope; at_sink = sink.scope; before = source.store; behind = sink.store; made = source.is; makes = sink.is; conflicts = conflicts };
           meeting = record {
             at_first = other_place;
             at_second = one_place;
@@ -436,7 +436,7 @@ module _ (t0 : ProgramTree) (s : ℕ) (m : Match t0 s) (x : IsFusable t0 s m) (s
         are_made = meets (first_made made_turns.0 made_turns.1 q.of_first q.first_reference (one_place ∙ made_turns.2)) (next_made moved_turns.0 moved_turns.1 (moved_access f b q.second q.of_second) q.second_reference (other_place ∙ moved_turns.2))
 
         none_there : ⊥
-        none_there = none_meet t0 s n come.first (moved f q.second) q.first are_made.source are_made.sink are_made.made (turns_of scope) are_made.inner are_made.inner_first (frame joined j).turn (frame joined i).turn are_made.meeting room plain x.unforbidden
+        none_there = none_meet t0 s n come.first (moved f q.second) q.first are_made.source are_made.sink are_made.pair (turns_of scope) are_made.inner are_made.inner_first (frame joined j).turn (frame joined i).turn are_made.meeting room plain x.unforbidden
 
     abbrev idle : Cell → Bool
     idle = is_cell_among (joined_variables m.neighbour)

@@ -15,7 +15,7 @@ use Rattle.ped_reindex.specs.ped_loops.specs.ped_scalar.specs.ped_rules.specs.pe
 use Rattle.ped_reindex.specs.ped_loops.specs.ped_scalar.specs.ped_rules.specs.ped_loop_runs.specs.ped_bodies.specs.ped_steps.specs.ped_flow.specs.PlainBounds.{nest_round}
 use Rattle.ped_reindex.specs.ped_loops.specs.ped_scalar.specs.ped_rules.specs.ped_loop_runs.specs.ped_bodies.specs.ped_steps.specs.ped_refs.specs.References.{Reference, is_pair, references, pairs}
 use Rattle.ped_reindex.specs.ped_loops.specs.ped_scalar.specs.ped_rules.specs.ped_loop_runs.specs.ped_bodies.specs.ped_steps.specs.ped_laws.specs.ped_graph.specs.ped_edges.specs.Edges.{Mark, proven, pending, rejected, Edge}
-use Rattle.ped_reindex.specs.ped_loops.specs.ped_scalar.specs.ped_rules.specs.ped_loop_runs.specs.ped_bodies.specs.ped_steps.specs.ped_laws.specs.ped_graph.specs.Dependences.{facts_of, view_of, edges_by, PairEdges, EdgesOfPairs}
+use Rattle.ped_reindex.specs.ped_loops.specs.ped_scalar.specs.ped_rules.specs.ped_loop_runs.specs.ped_bodies.specs.ped_steps.specs.ped_laws.specs.ped_graph.specs.Dependences.{facts_of, view_of, edges_by, AreEdges, PairEdges, EdgesOfPairs}
 use Rattle.ped_reindex.specs.ped_loops.specs.ped_scalar.specs.ped_rules.specs.ped_loop_runs.specs.ped_bodies.specs.ped_steps.specs.ped_laws.specs.ped_graph.specs.DependencePane.{is_level, is_in_body, extent_of}
 use Rattle.ped_reindex.specs.ped_loops.specs.ped_scalar.specs.ped_rules.specs.ped_loop_runs.proofs.LoopLaws.OneForOneStands.{in_flat}
 use Rattle.ped_reindex.specs.ped_loops.specs.ped_scalar.specs.ped_rules.specs.ped_loop_runs.specs.ped_bodies.specs.ped_steps.specs.ped_laws.proofs.ConflictLaws.CoveringConflicts.{AreMet, pair_listed}
@@ -146,6 +146,10 @@ module _ (t0 : ProgramTree) (s : ℕ) (n : Neighbour t0 s) (first : Store) (a b 
   pub covered_back : (edges : List Edge) → AreBack n edges → IsCarriedInside (fused n) edges outer is js a b
   covered_back edges are =
       carried_inside (fused n) first a b source sink made (filter (goes_back n) (pairs (references (fused n)))) edges (in_filter (goes_back n) (source, sink) (pairs (references (fused n))) listed back) are outer is js i j m.at_first m.at_second m.successive
+
+  -- and so among all dependences
+  pub covered_by_all : (edges : List Edge) → AreEdges (fused n) edges → IsCarriedInside (fused n) edges outer is js a b
+  covered_by_all edges are = carried_inside (fused n) first a b source sink made (pairs (references (fused n))) edges listed are outer is js i j m.at_first m.at_second m.successive
 
   -- the DO has at least these statements
   module _ (room : next_number n + statements_count n.next_body ≤ s + extent_of (fused n) s) where

@@ -1,5 +1,5 @@
 -- Two DO loops become one: where an execution of the two has come, in the run of the program in which they have one variable, the new program comes, too: its stores are those of an execution of the outermost DO, and the iterations round it are reached.
-use Rattle.std.proofs.Common.{◌≡◌, ℕ, ◌+◌, List, [], ◌∷◌, ◌++◌, Bool, true, false, ◌||◌, Some, refl, sym, ap, ◌∙◌, subst, append_assoc, append-nil, arith}
+use Rattle.std.proofs.Common.{◌≡◌, ℕ, ◌+◌, List, [], ◌∷◌, ◌++◌, Bool, true, false, ◌||◌, Option, Some, refl, sym, ap, ◌∙◌, subst, append_assoc, append-nil, arith}
 use Rattle.std.proofs.lemmas.Bool.{and_parts}
 use Rattle.std.proofs.lemmas.List.{length-append}
 use Rattle.std.specs.Str.Lines.{lines}
@@ -43,7 +43,8 @@ use Rattle.ped_reindex.specs.ped_loops.specs.ped_scalar.specs.ped_rules.specs.pe
 use Rattle.ped_splits.proofs.CoverGaps.{gap_loops, gap_nest, IsInGap, in_gap, AreRoundBoth, IsRoundBoth, followed_assigned}
 use Rattle.ped_splits.proofs.CoverReached.{reached_there}
 use Rattle.ped_splits.proofs.CoverStores.{keeps_unassigned, holds_behind, holds_at_start}
-use Rattle.ped_splits.proofs.FuseFacts.{IsFusable, renamed, renamed_pair, renamed_next}
+use Rattle.ped_splits.proofs.CoverFacts.{AreSerial}
+use Rattle.ped_splits.proofs.FuseFacts.{renamed, renamed_pair, renamed_next}
 use Rattle.ped_splits.specs.Fusing.{Match}
 use Rattle.ped_splits.specs.Neighbours.{Neighbour, fused, joined_head, renamed_body}
 
@@ -65,7 +66,7 @@ do_alike : (y : List ℕ) (h : Head) (b other : StmtTrees) → is_among y (assig
 do_alike y h b other e =
     ap (λ (z : Bool). is_same_text y h.variable || z) (among_append y h.private (assigned_in_all b) ∙ ap (λ (z : Bool). is_among y h.private || z) e ∙ sym (among_append y h.private (assigned_in_all other)))
 
-module _ (t0 : ProgramTree) (s : ℕ) (m : Match t0 s) (x : IsFusable t0 s m) (same : setting_of (fused m.neighbour) ≡ setting_of (renamed m.neighbour)) where
+module _ (t0 : ProgramTree) (s : ℕ) (m : Match t0 s) (x : AreSerial t0 s m) (same : setting_of (fused m.neighbour) ≡ setting_of (renamed m.neighbour)) where
   abbrev n : Neighbour t0 s
   n = m.neighbour
 
@@ -114,7 +115,7 @@ module _ (t0 : ProgramTree) (s : ℕ) (m : Match t0 s) (x : IsFusable t0 s m) (s
     any_order true b c d = refl
     any_order false b c d = refl
 
-    variables : is_among y (all_loop_variables new) ≡ is_among y (all_loop_variables old)
+    pub variables : is_among y (all_loop_variables new) ≡ is_among y (all_loop_variables old)
     variables =
         ap (λ (z : Bool). its || z)
         (ap (is_among y) (append-nil (all_loop_variables bodies)) ∙ followed_variables y n.own_body (followed n.between second) ∙ ap (λ (z : Bool). in_first || z) (followed_variables y n.between second))
@@ -139,7 +140,7 @@ module _ (t0 : ProgramTree) (s : ℕ) (m : Match t0 s) (x : IsFusable t0 s m) (s
     other_order false true b c d = refl
     other_order false false b c d = refl
 
-    assigned : is_among y (assigned_in_all new) ≡ is_among y (assigned_in_all old)
+    pub assigned : is_among y (assigned_in_all new) ≡ is_among y (assigned_in_all old)
     assigned =
         ap (λ (z : Bool). its || z)
         (ap (is_among y) (append-nil (n.own.private ++ assigned_in_all bodies)) ∙ among_append y n.own.private (assigned_in_all bodies)
@@ -212,7 +213,10 @@ module _ (t0 : ProgramTree) (s : ℕ) (m : Match t0 s) (x : IsFusable t0 s m) (s
       pub turns : AreTurnsOf (λ k. k) nest (turns_of scope)
 
     collected : (k : ℕ) (z : StmtTree) → statement_with k u ≡ Some z → (y : List ℕ) → is_among y (setting_in u k).assigned ≡ is_among y (assigned_in z)
-    collected k z there y = ap (λ o. is_among y (with_names [] (assigned_by o))) there ∙ among_collected y [] (assigned_in z)
+    collected k z there y =
+        let found : is_among y (setting_in u k).assigned ≡ is_among y (with_names [] (assigned_in z)) = ap (λ (o : Option StmtTree). is_among y (with_names [] (assigned_by o))) there in
+        let once : is_among y (with_names [] (assigned_in z)) ≡ is_among y (assigned_in z) = among_collected y [] (assigned_in z) in
+        found ∙ once
 
     -- in an execution of the outermost DO round them
     module _ (f : Frame) (fs : Scope) (w : Store) (turns_there : AreTurnsOf (λ k. k) nest (turns_of (f ∷ fs))) (k : Loop) (ls : List Loop) (is : nest ≡ k ∷ ls) (o : IsInExecution p t start s (run_all p old s (f ∷ fs) w).acts w)

@@ -16,17 +16,17 @@ use Rattle.ped_reindex.specs.ped_loops.specs.ped_scalar.specs.ped_rules.specs.pe
 use Rattle.ped_reindex.specs.ped_loops.specs.ped_scalar.specs.ped_rules.specs.ped_loop_runs.specs.ped_bodies.specs.ped_steps.specs.ped_laws.specs.ped_store.specs.Stores.{Store}
 use Rattle.ped_splits.proofs.CoverGaps.{gap_loops}
 
-test_no : (a b : ℕ) → (a < b) ⊎ (b < a) → (a == b) ≡ false
+pub test_no : (a b : ℕ) → (a < b) ⊎ (b < a) → (a == b) ≡ false
 test_no a b apart = go (a == b) refl
   where
     go : (c : Bool) → (a == b) ≡ c → (a == b) ≡ false
     go false e = e
     go true e = let same : a ≡ b = eqb-true a b e in elim apart [ inl h ↦ absurd (omega (arith, h, same)) | inr h ↦ absurd (omega (arith, h, same)) ]
 
-less_no : (a b : ℕ) → b ≤ a → nat_lt a b ≡ false
+pub less_no : (a b : ℕ) → b ≤ a → nat_lt a b ≡ false
 less_no a b h = grind (arith, h)
 
-less_yes : (a b : ℕ) → a < b → nat_lt a b ≡ true
+pub less_yes : (a b : ℕ) → a < b → nat_lt a b ≡ true
 less_yes a b h = grind (arith, h)
 
 -- a number by what it is: that of the second DO, that of the first, one of the second one's body, or another
@@ -121,11 +121,11 @@ module _ (s m c : ℕ) (before : s < m) where
   StandBelow [] = Unit {0}
   StandBelow (k ∷ ks) = (k.number < s) × StandBelow ks
 
-  abbrev AreBelow : List Turn → Type 0
+  abbrev pub AreBelow : List Turn → Type 0
   AreBelow [] = Unit {0}
   AreBelow (t ∷ ts) = (t.statement < s) × AreBelow ts
 
-  turns_below : (nest : List Loop) (ts : List Turn) → AreTurnsOf (λ n. n) nest ts → StandBelow nest → AreBelow ts
+  pub turns_below : (nest : List Loop) (ts : List Turn) → AreTurnsOf (λ n. n) nest ts → StandBelow nest → AreBelow ts
   turns_below [] [] h below = tt
   turns_below [] (t ∷ ts) h below = absurd h
   turns_below (k ∷ ks) [] h below = tt

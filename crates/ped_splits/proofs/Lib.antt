@@ -2,6 +2,7 @@ pub mod OneBlocks
 pub mod DistributeRules
 pub mod FuseRules
 mod FuseFacts
+mod CoverFacts
 mod CoverGaps
 mod CoverElements
 mod CoverStores
@@ -13,6 +14,7 @@ mod CoverTrips
 mod CoverDependences
 mod CoverKinds
 mod CoverMeets
+mod CoverConflicts
 mod JoinCrossing
 mod Here
 mod DistributeAnswers

@@ -227,7 +227,7 @@ module _ (t0 : ProgramTree) (s : ℕ) (m : Match t0 s) (x : AreSerial t0 s m) (s
       let cells = cell_is a.cell b.cell parts.0 in
       λ y. (ap (λ w. same_cell b.cell w) cells ∙ cell_itself b.cell) y && or_turned a.writes b.writes parts.1 y
 
-  meeting : Meeting sink.act source.act
+  abbrev meeting : Meeting sink.act source.act
   meeting = record { first = b; second = a; of_first = sink.found; of_second = source.found; conflicts = turned; first_reference = c.sink_reference; second_reference = c.source_reference }
 
   -- the numbers in the one DO

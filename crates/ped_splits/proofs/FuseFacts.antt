@@ -1,7 +1,7 @@
 -- Two DO loops that may become one: what the step shows of them, and the program between, in which the second one has the variable of the first.
-use Rattle.std.proofs.Common.{◌≡◌, ℕ, List, [], Bool, false}
+use Rattle.std.proofs.Common.{◌≡◌, ℕ, List, [], false}
 use Rattle.std.proofs.Common.{All}
-use Rattle.ped_tree.specs.Tree.{ExprTree, Head, StmtTree, StmtTrees, Do, more_stmts, ProgramTree}
+use Rattle.ped_tree.specs.Tree.{ExprTree, StmtTree, StmtTrees, Do, more_stmts, ProgramTree}
 use Rattle.ped_reindex.specs.ped_loops.specs.Interchanging.{IsBoundOf}
 use Rattle.ped_reindex.specs.ped_loops.specs.ped_scalar.specs.ped_rules.specs.ped_loop_runs.specs.Unrejected.{IsTrusted}
 use Rattle.ped_reindex.specs.ped_loops.specs.ped_scalar.specs.ped_rules.specs.ped_loop_runs.specs.ped_bodies.specs.ped_steps.specs.Replacing.{followed, alone}

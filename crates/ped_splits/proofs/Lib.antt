@@ -2,6 +2,10 @@ pub mod OneBlocks
 pub mod DistributeRules
 pub mod FuseRules
 mod FuseFacts
+mod JoinFacts
+mod JoinParts
+mod JoinBounds
+mod JoinNumbers
 mod JoinCrossing
 mod Here
 mod DistributeAnswers

@@ -37,6 +37,13 @@ mod SplitKnots
 mod SplitNames
 mod SplitPieces
 mod SplitControls
+mod SplitCells
+mod SplitTouches
+mod SplitEnds
+mod SplitFresh
+mod SplitSources
+mod SplitSteady
+mod SplitRenamed
 mod SplitWoven
 mod SplitStands
 mod SplitRaces

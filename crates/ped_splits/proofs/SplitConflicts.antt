@@ -98,7 +98,7 @@ module _ (s : ℕ) (body : StmtTrees) where
     pub less : place < size_of_unit body k
     pub is : n ≡ s + 1 + offset (units body) k + place
 
-  stands_there : (k n : ℕ) → k < length (units body) → IsOfUnit k n → stands_in s body k n ≡ true
+  pub stands_there : (k n : ℕ) → k < length (units body) → IsOfUnit k n → stands_in s body k n ≡ true
   stands_there k n inside of =
       (from_filter (stands_in s body k) n (range_with_len (s + 1) (statements_count body))
       (subst (In n) (sym (numbers_are s body k inside)) (subst (λ (m : ℕ). In m (range_with_len (s + 1 + offset (units body) k) (size_of_unit body k))) (sym of.is) (in_numbers (s + 1 + offset (units body) k) (size_of_unit body k) of.place of.less)))).1

@@ -1,6 +1,7 @@
 -- The second of two DO loops of one variable comes to the limits of the first one, which writes nothing of what the bounds read.
-use Rattle.std.proofs.Common.{Bool, IsTrue, List, Ok, Option, Result, Some, [], ap, append_assoc, false, inl, inr, pos, refl, subst, sym, true, unwrap_or, ℕ, ℤ, ◌*ℤ◌, ◌++◌, ◌+ℤ◌, ◌+◌, ◌-◌, ◌∙◌, ◌∷◌, ◌≡◌}
+use Rattle.std.proofs.Common.{Bool, IsTrue, List, Ok, Option, Result, Some, [], ap, append_assoc, false, inl, inr, pos, refl, subst, sym, true, ℕ, ℤ, ◌*ℤ◌, ◌++◌, ◌+ℤ◌, ◌+◌, ◌-◌, ◌∙◌, ◌∷◌, ◌≡◌}
 use Rattle.std.proofs.lemmas.Bool.{both_ways}
+use Rattle.std.specs.Option.{unwrap_or}
 use Rattle.std.specs.Str.Lines.{lines}
 use Rattle.ped_base.proofs.NameEquality.{same_itself}
 use Rattle.ped_base.specs.Lists.{is_among}

@@ -6,6 +6,9 @@ mod JoinFacts
 mod JoinParts
 mod JoinBounds
 mod JoinNumbers
+mod JoinRuns
+mod JoinNames
+mod JoinOrders
 mod JoinCrossing
 mod Here
 mod DistributeAnswers

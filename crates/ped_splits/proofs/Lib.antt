@@ -9,6 +9,10 @@ mod JoinNumbers
 mod JoinRuns
 mod JoinNames
 mod JoinOrders
+mod JoinUnread
+mod JoinExits
+mod JoinTouches
+mod JoinWoven
 mod JoinCrossing
 mod Here
 mod DistributeAnswers

@@ -13,7 +13,7 @@ use Rattle.ped_reindex.specs.ped_loops.specs.ped_scalar.specs.ped_rules.specs.pe
 use Rattle.ped_reindex.specs.ped_loops.specs.ped_scalar.specs.ped_rules.specs.ped_loop_runs.specs.ped_bodies.specs.ped_steps.specs.ped_laws.specs.ped_eval.specs.Scopes.{Setting}
 use Rattle.ped_splits.proofs.JoinFacts.{AreJoined, both_loops, one_loop}
 use Rattle.ped_splits.proofs.JoinParts.{quiet_count}
-use Rattle.ped_splits.specs.Neighbours.{opened_at}
+use Rattle.ped_splits.specs.Neighbours.{closed_up, opened_at}
 
 below : (m k : ℕ) → k < m → nat_lt k m ≡ true
 below m k h = grind (arith, nat_tests, h)

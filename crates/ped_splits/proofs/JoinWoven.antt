@@ -289,6 +289,9 @@ module _ (t u : ProgramTree) (s : ℕ) (x : AreJoined t u s) (data_bytes : List 
   unagreed_copy : (c : Cell) → IsCopyInside p scope s size c → agreed apart shown behind c ≡ true → ⊥
   unagreed_copy c copy h = unwanted_copy c copy (agreed_wanted apart shown behind c (ap apart copy.is) h)
 
+  abbrev of_variable : Cell → Bool
+  of_variable d = same_cell (cell_of scope x.own.variable) d
+
   unneeded_copy : (c : Cell) → IsCopyInside p scope s size c → needs (old_list its_weave) c ≡ true → ⊥
   unneeded_copy c copy h =
       let fine : has_fault (finish_of (run_all p (both_loops x) s scope v).ending) ≡ false = ap has_fault goes in
@@ -296,9 +299,6 @@ module _ (t u : ProgramTree) (s : ℕ) (x : AreJoined t u s) (data_bytes : List 
       both_ways (needs pair c) none (ap (λ (acts : List Act). needs acts c) whole_old ∙ entry_needs h)
     where
       -- the entry writes the variable alone
-      abbrev of_variable : Cell → Bool
-      of_variable d = same_cell (cell_of scope x.own.variable) d
-
       entry_writes : WriteWithin of_variable entry.touches
       entry_writes =
           subst (WriteWithin of_variable) (append-nil entry.touches)

@@ -13,6 +13,8 @@ mod JoinUnread
 mod JoinExits
 mod JoinTouches
 mod JoinWoven
+mod JoinedFacts
+mod JoinKeeps
 mod JoinCrossing
 mod Here
 mod DistributeAnswers

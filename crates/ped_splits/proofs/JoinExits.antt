@@ -23,6 +23,7 @@ use Rattle.ped_reindex.specs.ped_loops.specs.ped_scalar.specs.ped_rules.specs.pe
 use Rattle.ped_reindex.specs.ped_loops.specs.ped_scalar.specs.ped_rules.specs.ped_loop_runs.specs.ped_bodies.specs.ped_steps.specs.ped_laws.specs.ped_eval.specs.Scopes.{Scope, Setting, cell_of, place_of}
 use Rattle.ped_reindex.specs.ped_loops.specs.ped_scalar.specs.ped_rules.specs.ped_loop_runs.specs.ped_bodies.specs.ped_steps.specs.ped_laws.specs.ped_store.specs.Acts.{Act, Place, ended_turn}
 use Rattle.ped_reindex.specs.ped_loops.specs.ped_scalar.specs.ped_rules.specs.ped_loop_runs.specs.ped_bodies.specs.ped_steps.specs.ped_laws.specs.ped_store.specs.Stores.{Store, store_at_start}
+use Rattle.ped_splits.proofs.JoinDead.{dead}
 use Rattle.ped_splits.proofs.JoinFacts.{AreJoined, both_loops, variables_of}
 use Rattle.ped_splits.proofs.JoinParts.{pair_acts}
 use Rattle.ped_splits.proofs.JoinUnread.{unnamed}
@@ -109,4 +110,4 @@ module _ (t u : ProgramTree) (s : ℕ) (x : AreJoined t u s) (data_bytes : List 
   -- nobody wants behind them what a variable stands for at their place
   pub dead_behind : (y : List ℕ) → is_among y (variables_of x) ≡ true → wants (shown_at_end t) behind (cell_of scope y) ≡ false
   dead_behind y among =
-      unwanted_behind p (λ a b same. same) t y (ap (λ (ds : List DeclTree). is_among y (constant_names ds)) (sym x.decls) ∙ unnamed t u s x y among) x.unstopped start m scope behind exit (x.dead y among) (shown_at_end t) (shown_scalar t y scope)
+      unwanted_behind p (λ a b same. same) t y (ap (λ (ds : List DeclTree). is_among y (constant_names ds)) (sym x.decls) ∙ unnamed t u s x y among) x.unstopped start m scope behind exit (dead t u s x y among) (shown_at_end t) (shown_scalar t y scope)

@@ -1,12 +1,10 @@
 -- A program in which two DO loops of one variable become one keeps its meaning.
-use Rattle.std.proofs.Common.{Bool, List, [], ap, append-nil, append_assoc, arith, false, refl, subst, sym, true, ℕ, ◌++◌, ◌+◌, ◌<◌, ◌||◌, ◌∙◌, ◌≡◌, ◌≤◌}
+use Rattle.std.proofs.Common.{Bool, List, [], ap, arith, false, refl, subst, sym, ℕ, ◌++◌, ◌+◌, ◌<◌, ◌∙◌, ◌≡◌, ◌≤◌}
 use Rattle.std.specs.List.{flat_map}
 use Rattle.std.specs.Str.Lines.{lines}
-use Rattle.ped_base.specs.Lists.{is_among, is_same_text}
-use Rattle.ped_tree.proofs.NameLaws.Collected.{among_append}
-use Rattle.ped_tree.specs.NamesIn.{all_loop_variables, loop_variables, saved_in}
+use Rattle.ped_tree.specs.NamesIn.{saved_in}
 use Rattle.ped_tree.specs.Numbering.{statements_count}
-use Rattle.ped_tree.specs.Tree.{Assign, Comment, DeclTree, Do, If, Print, ProgramTree, Read, StmtTree, StmtTrees, Stop, more_stmts, no_stmts}
+use Rattle.ped_tree.specs.Tree.{DeclTree, Do, ProgramTree, StmtTree, StmtTrees}
 use Rattle.ped_reindex.specs.ped_loops.proofs.SwappedStands.{stands_apart}
 use Rattle.ped_reindex.specs.ped_loops.specs.ped_scalar.specs.ped_rules.specs.ped_loop_runs.proofs.LoopLaws.OneForOneStands.{run_alone}
 use Rattle.ped_reindex.specs.ped_loops.specs.ped_scalar.specs.ped_rules.specs.ped_loop_runs.proofs.PastingLaws.KeptMeaning.{apart_suit, exchange_keeps}
@@ -14,14 +12,11 @@ use Rattle.ped_reindex.specs.ped_loops.specs.ped_scalar.specs.ped_rules.specs.pe
 use Rattle.ped_reindex.specs.ped_loops.specs.ped_scalar.specs.ped_rules.specs.ped_loop_runs.specs.Meaning.{IsExchange, RaceFreeInstead}
 use Rattle.ped_reindex.specs.ped_loops.specs.ped_scalar.specs.ped_rules.specs.ped_loop_runs.specs.Pasting.{CountAlike, DoInstead, StandInstead}
 use Rattle.ped_reindex.specs.ped_loops.specs.ped_scalar.specs.ped_rules.specs.ped_loop_runs.specs.ped_bodies.specs.Moving.{is_cell_among}
-use Rattle.ped_reindex.specs.ped_loops.specs.ped_scalar.specs.ped_rules.specs.ped_loop_runs.specs.ped_bodies.specs.ped_steps.specs.Replacing.{alone, followed}
 use Rattle.ped_reindex.specs.ped_loops.specs.ped_scalar.specs.ped_rules.specs.ped_loop_runs.specs.ped_bodies.specs.ped_steps.specs.Runs.Gaps.{number_at}
 use Rattle.ped_reindex.specs.ped_loops.specs.ped_scalar.specs.ped_rules.specs.ped_loop_runs.specs.ped_bodies.specs.ped_steps.specs.Runs.Meaning.{Keeps}
 use Rattle.ped_reindex.specs.ped_loops.specs.ped_scalar.specs.ped_rules.specs.ped_loop_runs.specs.ped_bodies.specs.ped_steps.specs.Runs.Renumbering.{renumbered}
-use Rattle.ped_reindex.specs.ped_loops.specs.ped_scalar.specs.ped_rules.specs.ped_loop_runs.specs.ped_bodies.specs.ped_steps.specs.ped_laws.proofs.FlowRunLaws.Stopping.{loop_stops}
 use Rattle.ped_reindex.specs.ped_loops.specs.ped_scalar.specs.ped_rules.specs.ped_loop_runs.specs.ped_bodies.specs.ped_steps.specs.ped_laws.specs.Acts.Conflicts.{blocks_conflict_outside}
 use Rattle.ped_reindex.specs.ped_loops.specs.ped_scalar.specs.ped_rules.specs.ped_loop_runs.specs.ped_bodies.specs.ped_steps.specs.ped_laws.specs.Acts.Pieces.{StandsFor}
-use Rattle.ped_reindex.specs.ped_loops.specs.ped_scalar.specs.ped_rules.specs.ped_loop_runs.specs.ped_bodies.specs.ped_steps.specs.ped_laws.specs.FlowRuns.Covering.{some_stop}
 use Rattle.ped_reindex.specs.ped_loops.specs.ped_scalar.specs.ped_rules.specs.ped_loop_runs.specs.ped_bodies.specs.ped_steps.specs.ped_laws.specs.Runs.Replaying.{Replays, finish_of, goes_on}
 use Rattle.ped_reindex.specs.ped_loops.specs.ped_scalar.specs.ped_rules.specs.ped_loop_runs.specs.ped_bodies.specs.ped_steps.specs.ped_laws.specs.Runs.Showing.{shown_at_end}
 use Rattle.ped_reindex.specs.ped_loops.specs.ped_scalar.specs.ped_rules.specs.ped_loop_runs.specs.ped_bodies.specs.ped_steps.specs.ped_laws.specs.ped_eval.specs.Outcomes.{IsRaceFree, bounds_of, setting_of}
@@ -36,42 +31,12 @@ use Rattle.ped_splits.proofs.FuseFacts.{IsFusable, renamed}
 use Rattle.ped_splits.proofs.JoinCrossing.{NoneCrosses}
 use Rattle.ped_splits.proofs.JoinFacts.{AreJoined, NoneCross, both_loops, one_body, one_head, one_loop, variables_of}
 use Rattle.ped_splits.proofs.JoinNumbers.{counts_alike, opened_back, pair_count}
-use Rattle.ped_splits.proofs.JoinParts.{first_loop, second_loop}
+use Rattle.ped_splits.proofs.JoinSame.{none_stops, same_indices}
 use Rattle.ped_splits.proofs.JoinWoven.{joined_stands, one_run}
 use Rattle.ped_splits.proofs.JoinedFacts.{are_joined}
 use Rattle.ped_splits.specs.Fusing.{Match}
 use Rattle.ped_splits.specs.Neighbours.{closed_up, fused, opened_at}
 use Rattle.ped_splits.proofs.JoinRuns as runs
-
--- comments have neither a STOP nor a DO
-quiet_stop : (ts us : StmtTrees) → statements_count ts ≡ 0 → some_stop (followed ts us) ≡ some_stop us
-quiet_stop no_stmts us none = refl
-quiet_stop (more_stmts (Comment text) rest) us none = quiet_stop rest us (omega (arith, none))
-quiet_stop (more_stmts (Assign left right) rest) us none = absurd (omega (arith, none))
-quiet_stop (more_stmts (If c a b) rest) us none = absurd (omega (arith, none))
-quiet_stop (more_stmts (Do h b) rest) us none = absurd (omega (arith, none))
-quiet_stop (more_stmts (Print items) rest) us none = absurd (omega (arith, none))
-quiet_stop (more_stmts (Read items) rest) us none = absurd (omega (arith, none))
-quiet_stop (more_stmts Stop rest) us none = absurd (omega (arith, none))
-
-quiet_loops : (ts us : StmtTrees) → statements_count ts ≡ 0 → all_loop_variables (followed ts us) ≡ all_loop_variables us
-quiet_loops no_stmts us none = refl
-quiet_loops (more_stmts (Comment text) rest) us none = quiet_loops rest us (omega (arith, none))
-quiet_loops (more_stmts (Assign left right) rest) us none = absurd (omega (arith, none))
-quiet_loops (more_stmts (If c a b) rest) us none = absurd (omega (arith, none))
-quiet_loops (more_stmts (Do h b) rest) us none = absurd (omega (arith, none))
-quiet_loops (more_stmts (Print items) rest) us none = absurd (omega (arith, none))
-quiet_loops (more_stmts (Read items) rest) us none = absurd (omega (arith, none))
-quiet_loops (more_stmts Stop rest) us none = absurd (omega (arith, none))
-
-followed_loops : (ts us : StmtTrees) → all_loop_variables (followed ts us) ≡ all_loop_variables ts ++ all_loop_variables us
-followed_loops no_stmts us = refl
-followed_loops (more_stmts z rest) us = ap (λ (ys : List (List ℕ)). loop_variables z ++ ys) (followed_loops rest us) ∙ sym (append_assoc (loop_variables z) (all_loop_variables rest) (all_loop_variables us))
-
-once_more : (a b c : Bool) → a || (b || c) ≡ a || (b || (a || c))
-once_more true b c = refl
-once_more false true c = refl
-once_more false false c = refl
 
 module _ (t u : ProgramTree) (s : ℕ) (x : AreJoined t u s) (cross : NoneCross t u s x) where
   abbrev p : Setting
@@ -147,23 +112,6 @@ module _ (t u : ProgramTree) (s : ℕ) (x : AreJoined t u s) (cross : NoneCross 
     races : RaceFreeInstead p t (start data_bytes) s count (run_all p old s) fresh (run_all (renumbered (opened_at m) (setting_of u)) u.body 1 [])
     races = ?races
 
-  unstopped : some_stop (both_loops x) ≡ false
-  unstopped =
-      let one = loop_stops t s (first_loop t u s x) x.unstopped in
-      let two = quiet_stop x.between (alone (Do x.next x.next_body)) x.comments ∙ (λ i. loop_stops t m (second_loop t u s x) x.unstopped i || false) in
-      λ i. one i || two i
-
-  indices : (y : List ℕ) → is_among y (all_loop_variables new) ≡ is_among y (all_loop_variables old)
-  indices y =
-      ap (is_among y) (append-nil (loop_variables one_do))
-      ∙ ap (λ (ys : List (List ℕ)). is_same_text y x.own.variable || is_among y ys) (followed_loops x.own_body (followed x.between x.next_body) ∙ ap (λ (ys : List (List ℕ)). all_loop_variables x.own_body ++ ys) (quiet_loops x.between x.next_body x.comments))
-      ∙ ap (λ (b : Bool). is_same_text y x.own.variable || b) (among_append y (all_loop_variables x.own_body) (all_loop_variables x.next_body))
-      ∙ once_more (is_same_text y x.own.variable) (is_among y (all_loop_variables x.own_body)) (is_among y (all_loop_variables x.next_body))
-      ∙ ap (λ (w : List ℕ). is_same_text y x.own.variable || (is_among y (all_loop_variables x.own_body) || (is_same_text y w || is_among y (all_loop_variables x.next_body)))) (sym x.variable)
-      ∙ ap (λ (ys : List (List ℕ)). is_same_text y x.own.variable || (is_among y (all_loop_variables x.own_body) || is_among y ys)) (sym (append-nil (loop_variables (Do x.next x.next_body))))
-      ∙ ap (λ (ys : List (List ℕ)). is_same_text y x.own.variable || (is_among y (all_loop_variables x.own_body) || is_among y ys)) (sym (quiet_loops x.between (alone (Do x.next x.next_body)) x.comments))
-      ∙ ap (λ (b : Bool). is_same_text y x.own.variable || b) (sym (among_append y (all_loop_variables x.own_body) (all_loop_variables (followed x.between (alone (Do x.next x.next_body))))))
-
   exchange : IsExchange x.gap old new t u
   exchange = record {
     saved = ap (λ (ds : List DeclTree). flat_map saved_in ds) x.decls;
@@ -180,8 +128,8 @@ module _ (t u : ProgramTree) (s : ℕ) (x : AreJoined t u s) (cross : NoneCross 
       numbers = subst (λ (k : ℕ). CountAlike p (renumbered (opened_at m) (setting_of u)) k (statements_count old) (statements_count new) (statements_count t.body)) (sym x.numbered)
           (counts_alike t u s x (statements_count t.body) (renumbered (opened_at m) (setting_of u)) (λ k. refl));
       some = (let many = pair_count t u s x in omega (arith, many));
-      unstopped = unstopped;
-      indices = λ k. indices;
+      unstopped = none_stops t u s x;
+      indices = λ k. same_indices t u s x;
     };
     agreed = λ data_bytes. agreed apart (shown_at_end t);
     suit = λ data_bytes. apart_suit apart (shown_at_end t);

@@ -37,7 +37,6 @@ module _ (t : ProgramTree) (s : ℕ) (m : Match t s) (f : IsFusable t s m) where
     step = sym m.alike.step;
     unstopped = ?unstopped;
     contained = f.new_contained;
-    dead = ?dead;
     outer = t;
     nest = ?nest;
     plain = ?plain;

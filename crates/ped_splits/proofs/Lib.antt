@@ -11,6 +11,10 @@ mod JoinNames
 mod JoinOrders
 mod JoinUnread
 mod JoinExits
+mod JoinSame
+mod JoinLive
+mod JoinLiveGaps
+mod JoinDead
 mod JoinTouches
 mod JoinWoven
 mod JoinedFacts

@@ -27,7 +27,7 @@ use Rattle.ped_reindex.specs.ped_loops.specs.ped_scalar.specs.ped_rules.specs.pe
 use Rattle.ped_reindex.specs.ped_loops.specs.ped_scalar.specs.ped_rules.specs.ped_loop_runs.specs.ped_bodies.specs.ped_steps.specs.ped_laws.specs.ped_store.specs.Acts.{Act, Touch, iterations_of}
 use Rattle.ped_reindex.specs.ped_loops.specs.ped_scalar.specs.ped_rules.specs.ped_loop_runs.specs.ped_bodies.specs.ped_steps.specs.ped_laws.specs.ped_store.specs.Cells.{Cell, Iteration, Scalar, Private, Element, In, Out}
 use Rattle.ped_reindex.specs.ped_loops.specs.ped_scalar.specs.ped_rules.specs.ped_loop_runs.specs.ped_bodies.specs.ped_steps.specs.ped_laws.specs.ped_store.specs.Stores.{Store, store_at_start}
-use Rattle.ped_splits.proofs.BlockLaws.{In, from_filter, in_either}
+use Rattle.ped_splits.proofs.BlockLaws.{In as InList, from_filter, in_either}
 use Rattle.ped_splits.proofs.BlockSizes.{width}
 use Rattle.ped_splits.proofs.DistributeTrusted.{each_placed}
 use Rattle.ped_splits.proofs.Partitions.{blocks_few, flat}
@@ -124,18 +124,18 @@ module _ (t : ProgramTree) where
 
 -- where units stand
 module _ (s : ℕ) (body : StmtTrees) (g : ℕ → ℕ) (place : ℕ → ℕ × ℕ) where
-  placed_at : (at m : ℕ) (block : List ℕ) (k : ℕ) → ArePlaced body place at m block → In k block → (place k).0 ≡ at
+  placed_at : (at m : ℕ) (block : List ℕ) (k : ℕ) → ArePlaced body place at m block → InList k block → (place k).0 ≡ at
   placed_at at m [] k placed i = absurd i
   placed_at at m (j ∷ block) k placed (inl same) = ap (λ (n : ℕ). (place n).0) same ∙ ap (λ (w : ℕ × ℕ). w.0) placed.0
   placed_at at m (j ∷ block) k placed (inr i) = placed_at at (m + size_of_unit body j) block k placed.1 i
 
   -- units of one block stand in one DO
-  pub same_loop : (at : ℕ) (bs : List (List ℕ)) → AllPlaced body place at bs → (y k j : ℕ) → In k (slice_index_or bs y []) → In j (slice_index_or bs y []) → (place k).0 ≡ (place j).0
+  pub same_loop : (at : ℕ) (bs : List (List ℕ)) → AllPlaced body place at bs → (y k j : ℕ) → InList k (slice_index_or bs y []) → InList j (slice_index_or bs y []) → (place k).0 ≡ (place j).0
   same_loop at [] placed y k j here there = absurd here
   same_loop at (block ∷ bs) placed zero k j here there = placed_at at (at + 1) block k placed.0 here ∙ sym (placed_at at (at + 1) block j placed.0 there)
   same_loop at (block ∷ bs) placed (suc y) k j here there = same_loop (end_of body (at + 1) block) bs placed.1 y k j here there
 
-  fresh_number : (low at : ℕ) (bs : List (List ℕ)) → AllPlaced body place at bs → AreFresh s body g low at bs → (k : ℕ) → In k (flat bs) → low ≤ g (place k).0
+  fresh_number : (low at : ℕ) (bs : List (List ℕ)) → AllPlaced body place at bs → AreFresh s body g low at bs → (k : ℕ) → InList k (flat bs) → low ≤ g (place k).0
   fresh_number low at [] placed fresh k i = absurd i
   fresh_number low at (block ∷ bs) placed fresh k i = elim (in_either k block (flat bs) i) [
     | inl j ↦ subst (λ (n : ℕ). low ≤ g n) (sym (placed_at at (at + 1) block k placed.0 j)) fresh.0
@@ -143,19 +143,19 @@ module _ (s : ℕ) (body : StmtTrees) (g : ℕ → ℕ) (place : ℕ → ℕ × 
   ]
 
   -- the first DO has the number of the old one
-  pub head_number : (low at : ℕ) (bs : List (List ℕ)) → AllPlaced body place at bs → HaveNumbers s body g low at bs → (k : ℕ) → In k (flat bs) → (g (place k).0 ≡ s) ⊎ (low ≤ g (place k).0)
+  pub head_number : (low at : ℕ) (bs : List (List ℕ)) → AllPlaced body place at bs → HaveNumbers s body g low at bs → (k : ℕ) → InList k (flat bs) → (g (place k).0 ≡ s) ⊎ (low ≤ g (place k).0)
   head_number low at [] placed numbers k i = absurd i
   head_number low at (block ∷ bs) placed numbers k i = elim (in_either k block (flat bs) i) [
     | inl j ↦ inl (ap g (placed_at at (at + 1) block k placed.0 j) ∙ numbers.0)
     | inr j ↦ inr (fresh_number low (end_of body (at + 1) block) bs placed.1 numbers.1 k j)
   ]
 
-in_range : (a n m : ℕ) → In m (range_with_len a n) → m < a + n
+in_range : (a n m : ℕ) → InList m (range_with_len a n) → m < a + n
 in_range a zero m i = absurd i
 in_range a (suc n) m (inl e) = omega (arith, e)
 in_range a (suc n) m (inr i) = let more = in_range (a + 1) n m i in omega (arith, more)
 
-first_below : (n : ℕ) (ks : List ℕ) → 0 < n → ((k : ℕ) → In k ks → k < n) → slice_index_or ks 0 0 < n
+first_below : (n : ℕ) (ks : List ℕ) → 0 < n → ((k : ℕ) → InList k ks → k < n) → slice_index_or ks 0 0 < n
 first_below n [] some h = some
 first_below n (k ∷ ks) some h = h k (inl refl)
 

@@ -132,7 +132,7 @@ module _ (t : ProgramTree) (s : ℕ) (l : LoopOf t s) (found : List (List ℕ)) 
         ]
 
   -- its part of the run of the DO
-  trip_unit : (i k : ℕ) → 1 ≤ i → i ≤ e.count → k < length (units l.body) → IsPart ((runs.old t s l found x scope v goes).trip i) (old_unit i k)
+  pub trip_unit : (i k : ℕ) → 1 ≤ i → i ≤ e.count → k < length (units l.body) → IsPart ((runs.old t s l found x scope v goes).trip i) (old_unit i k)
   trip_unit i k from to inside =
       let r = one_at (old_unit i) (length (units l.body)) 0 k (omega arith) (omega (arith, inside)) in
       record { before = r.0; behind = r.1; is = runs.old_parted t s l found x scope v goes i from to ∙ r.2 }

@@ -42,7 +42,7 @@ use Rattle.ped_reindex.specs.ped_loops.specs.ped_scalar.specs.ped_rules.specs.pe
 use Rattle.ped_reindex.specs.ped_loops.specs.ped_scalar.specs.ped_rules.specs.ped_loop_runs.specs.ped_bodies.specs.ped_steps.specs.ped_laws.specs.ped_store.specs.Cells.{Cell, Element, In, Iteration, Out, Private, same_cell}
 use Rattle.ped_reindex.specs.ped_loops.specs.ped_scalar.specs.ped_rules.specs.ped_loop_runs.specs.ped_bodies.specs.ped_steps.specs.ped_laws.specs.ped_store.specs.Races.{is_access, is_lines, is_write}
 use Rattle.ped_reindex.specs.ped_loops.specs.ped_scalar.specs.ped_rules.specs.ped_loop_runs.specs.ped_bodies.specs.ped_steps.specs.ped_laws.specs.ped_store.specs.Stores.{Store, store_at_start}
-use Rattle.ped_splits.proofs.BlockLaws.{In, from_filter, in_either, in_filter}
+use Rattle.ped_splits.proofs.BlockLaws.{In as InList, from_filter, in_either, in_filter}
 use Rattle.ped_splits.proofs.DistributeTrusted.{each_placed}
 use Rattle.ped_splits.proofs.KeptArrows.{linked_together}
 use Rattle.ped_splits.proofs.Partitions.{flat}
@@ -109,18 +109,18 @@ module _ (name other : Cell → Cell) (idle : Cell → Bool) (alike : (c : Cell)
   )
 
 -- numbers in lists
-in_there : (a n k : ℕ) → a ≤ k → k < a + n → In k (range_with_len a n)
+in_there : (a n k : ℕ) → a ≤ k → k < a + n → InList k (range_with_len a n)
 in_there a zero k low high = absurd (omega (arith, low, high))
 in_there a (suc n) k low high = elim (cases_lt a k) [
   | inl less ↦ inr (in_there (a + 1) n k (omega (arith, less)) (omega (arith, high)))
   | inr least ↦ inl (omega (arith, low, least))
 ]
 
-first_in : (ks : List ℕ) (k : ℕ) → In k ks → In (slice_index_or ks 0 0) ks
+first_in : (ks : List ℕ) (k : ℕ) → InList k ks → InList (slice_index_or ks 0 0) ks
 first_in [] k i = absurd i
 first_in (z ∷ ks) k i = inl refl
 
-in_one_of : (k : ℕ) (bs : List (List ℕ)) → In k (flat bs) → (y : ℕ) × In k (slice_index_or bs y [])
+in_one_of : (k : ℕ) (bs : List (List ℕ)) → InList k (flat bs) → (y : ℕ) × InList k (slice_index_or bs y [])
 in_one_of k [] i = absurd i
 in_one_of k (block ∷ bs) i = elim (in_either k block (flat bs) i) [
   | inl j ↦ (0, j)
@@ -188,7 +188,7 @@ module _ (making : MakingLaw) (t : ProgramTree) (s : ℕ) (l : LoopOf t s) (foun
   linked k inside name among here =
       let n = unit_of_name t s l found x scope v goes name in
       let ks = filter (refers t s l.body name) (range_with_len 0 many_units) in
-      let first : In n ks = first_in ks k (in_filter (refers t s l.body name) k (range_with_len 0 many_units) (in_there 0 many_units k (omega arith) (omega (arith, inside))) here) in
+      let first : InList n ks = first_in ks k (in_filter (refers t s l.body name) k (range_with_len 0 many_units) (in_there 0 many_units k (omega arith) (omega (arith, inside))) here) in
       let other = (from_filter (refers t s l.body name) n (range_with_len 0 many_units) first).1 in
       let below : n < many_units = name_below t s l found x scope v goes name in
       let one = in_one_of n found (each_placed t s l.head l.body found x.are n below) in
@@ -196,7 +196,7 @@ module _ (making : MakingLaw) (t : ProgramTree) (s : ℕ) (l : LoopOf t s) (foun
       let same : one.0 ≡ two.0 = linked_together t s l.head l.body found x.are name (among_in name l.head.private among) n k one.0 two.0 below inside other here one.1 two.1 in
       ap (counted_by (split_numbers t s l.body found))
       (same_loop s l.body (counted_by (split_numbers t s l.body found)) (look l.body s found) s found (units_placed t s l.head l.body found x.are (loop_fits t s l.head l.body l.is)) two.0 n k
-      (subst (λ (y : ℕ). In n (slice_index_or found y [])) same one.1) two.1)
+      (subst (λ (y : ℕ). InList n (slice_index_or found y [])) same one.1) two.1)
 
   module _ (i k : ℕ) (from : 1 ≤ i) (to : i ≤ e.count) (inside : k < length (units l.body)) where
     abbrev unit_names : Cell → Cell

@@ -62,5 +62,6 @@ mod SplitStands
 mod SplitRaces
 mod SplitKeeps
 mod DistributedKinds
+mod SplitAccesses
 pub mod Existence
 pub mod Determined

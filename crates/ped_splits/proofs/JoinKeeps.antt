@@ -28,12 +28,14 @@ use Rattle.ped_reindex.specs.ped_loops.specs.ped_scalar.specs.ped_rules.specs.pe
 use Rattle.ped_reindex.specs.ped_loops.specs.ped_scalar.specs.ped_rules.specs.ped_loop_runs.specs.ped_bodies.specs.ped_steps.specs.ped_symbols.proofs.RightUseLaws.Whole.{same_values}
 use Rattle.ped_reindex.specs.ped_loops.specs.ped_scalar.specs.ped_rules.specs.ped_loop_runs.specs.ped_bodies.specs.ped_steps.specs.ped_weaves.specs.Apart.{agreed}
 use Rattle.ped_splits.proofs.FuseFacts.{IsFusable, renamed}
+use Rattle.ped_splits.proofs.JoinAccesses.{free_joined}
 use Rattle.ped_splits.proofs.JoinCrossing.{NoneCrosses}
 use Rattle.ped_splits.proofs.JoinFacts.{AreJoined, NoneCross, both_loops, one_body, one_head, one_loop, variables_of}
 use Rattle.ped_splits.proofs.JoinNumbers.{counts_alike, opened_back, pair_count}
 use Rattle.ped_splits.proofs.JoinSame.{none_stops, same_indices}
 use Rattle.ped_splits.proofs.JoinWoven.{joined_stands, one_run}
 use Rattle.ped_splits.proofs.JoinedFacts.{are_joined}
+use Rattle.ped_splits.proofs.SplitRaces.{split_races}
 use Rattle.ped_splits.specs.Fusing.{Match}
 use Rattle.ped_splits.specs.Neighbours.{closed_up, fused, opened_at}
 use Rattle.ped_splits.proofs.JoinRuns as runs
@@ -78,6 +80,9 @@ module _ (t u : ProgramTree) (s : ℕ) (x : AreJoined t u s) (cross : NoneCross 
   same_setting : renumbered (opened_at m) (setting_of u) ≡ q
   same_setting = ap (renumbered (opened_at m)) setting
 
+  some : 0 < statements_count (both_loops x)
+  some = let many = pair_count t u s x in omega (arith, many)
+
   module _ (data_bytes : List ℕ) (free : IsRaceFree t data_bytes) where
     module _ (scope : Scope) (front behind : List Act) (v : Store) (executed : IsExecuted p t (start data_bytes) s count scope front (run_all p old s scope v).acts behind v) (goes : finish_of (run_all p old s scope v).ending ≡ goes_on) where
       abbrev made : List Act
@@ -110,7 +115,9 @@ module _ (t u : ProgramTree) (s : ℕ) (x : AreJoined t u s) (cross : NoneCross 
     stand_instead = subst (λ (k : ℕ). StandInstead (agreed apart (shown_at_end t)) p t (start data_bytes) k count (run_all p old k) fresh) (sym x.numbered) stood
 
     races : RaceFreeInstead p t (start data_bytes) s count (run_all p old s) fresh (run_all (renumbered (opened_at m) (setting_of u)) u.body 1 [])
-    races = ?races
+    races parts olds_are news_are exchanged unraced_before =
+        split_races t u (opened_at m) (closed_up m) (opened_back m) x.new_valid s old some fresh data_bytes
+        (λ scope front behind v executed goes. free_joined t u s x data_bytes scope front behind v executed goes (made_is scope front behind v executed goes)) parts olds_are exchanged news_are unraced_before
 
   exchange : IsExchange x.gap old new t u
   exchange = record {
@@ -127,7 +134,7 @@ module _ (t u : ProgramTree) (s : ℕ) (x : AreJoined t u s) (cross : NoneCross 
       one_each = λ a b same. same;
       numbers = subst (λ (k : ℕ). CountAlike p (renumbered (opened_at m) (setting_of u)) k (statements_count old) (statements_count new) (statements_count t.body)) (sym x.numbered)
           (counts_alike t u s x (statements_count t.body) (renumbered (opened_at m) (setting_of u)) (λ k. refl));
-      some = (let many = pair_count t u s x in omega (arith, many));
+      some = some;
       unstopped = none_stops t u s x;
       indices = λ k. same_indices t u s x;
     };

@@ -17,6 +17,7 @@ mod JoinLiveGaps
 mod JoinDead
 mod JoinTouches
 mod JoinWoven
+mod JoinAccesses
 mod JoinedFacts
 mod JoinKeeps
 mod JoinCrossing

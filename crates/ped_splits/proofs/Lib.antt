@@ -20,6 +20,17 @@ mod JoinWoven
 mod JoinAccesses
 mod JoinedFacts
 mod JoinKeeps
+mod CoverGaps
+mod CoverElements
+mod CoverStores
+mod CoverReached
+mod CoverNumbers
+mod CoverMade
+mod CoverBodies
+mod CoverTrips
+mod CoverDependences
+mod CoverKinds
+mod CoverMeets
 mod JoinCrossing
 mod Here
 mod DistributeAnswers

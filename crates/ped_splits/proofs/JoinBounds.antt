@@ -120,19 +120,17 @@ module _ (t u : ProgramTree) (s : ℕ) (x : AreJoined t u s) (data_bytes : List 
   bound_again : (e : ExprTree) → IsBoundOf x.own e → (value (names_in p scope) e between).result ≡ (value (names_in p scope) e v).result
   bound_again e bound = (built_same p.constants x.outer s (names_in p scope) (names_in p scope) v between (told_at scope) refl refl tells tells read_alike e (x.plain e bound)).result
 
-  abbrev old : IsMadeOfTrips (setting_of t) x.own x.own_body s scope v
-  old = first_trips t u s x scope v goes
-
-  abbrev other : IsMadeOfTrips (setting_of t) x.next x.next_body (s + 1 + statements_count x.own_body) scope (store_after (run (setting_of t) (Do x.own x.own_body) s scope v).acts v)
-  other = second_trips t u s x scope v goes
+  -- so the limits are the same, however they are told
+  pub limits_alike : (one : IsMadeOfTrips (setting_of t) x.own x.own_body s scope v) (other : IsMadeOfTrips (setting_of t) x.next x.next_body (s + 1 + statements_count x.own_body) scope (store_after (run (setting_of t) (Do x.own x.own_body) s scope v).acts v)) → other.bounds ≡ one.bounds
+  limits_alike one other =
+      let a = limits_parted (names_in p scope) x.own v one.bounds one.come in
+      let b = limits_parted (names_in p scope) x.next between other.bounds other.come in
+      let first : other.bounds.first ≡ one.bounds.first = same_ok other.bounds.first one.bounds.first (sym b.first ∙ (ap (λ (e : ExprTree). (value (names_in p scope) e between).result) x.first ∙ (bound_again x.own.first (inl refl) ∙ a.first))) in
+      let last : other.bounds.last ≡ one.bounds.last = same_ok other.bounds.last one.bounds.last (sym b.last ∙ (ap (λ (e : ExprTree). (value (names_in p scope) e between).result) x.last ∙ (bound_again x.own.last (inr refl) ∙ a.last))) in
+      λ i. record { first = first i; last = last i }
 
   pub same_limits : (second_trips t u s x scope v goes).bounds ≡ (first_trips t u s x scope v goes).bounds
-  same_limits =
-      let a = limits_parted (names_in p scope) x.own v old.bounds old.come in
-      let b = limits_parted (names_in p scope) x.next between other.bounds other.come in
-      let one : other.bounds.first ≡ old.bounds.first = same_ok other.bounds.first old.bounds.first (sym b.first ∙ (ap (λ (e : ExprTree). (value (names_in p scope) e between).result) x.first ∙ (bound_again x.own.first (inl refl) ∙ a.first))) in
-      let two : other.bounds.last ≡ old.bounds.last = same_ok other.bounds.last old.bounds.last (sym b.last ∙ (ap (λ (e : ExprTree). (value (names_in p scope) e between).result) x.last ∙ (bound_again x.own.last (inr refl) ∙ a.last))) in
-      λ i. record { first = one i; last = two i }
+  same_limits = limits_alike (first_trips t u s x scope v goes) (second_trips t u s x scope v goes)
 
   same_step : increment p.constants x.next ≡ increment p.constants x.own
   same_step = ap (λ (e : ExprTree). unwrap_or (constant_value p.constants e) (pos 1)) x.step

@@ -22,7 +22,7 @@ quiet_stop (more_stmts (Print items) rest) us none = absurd (omega (arith, none)
 quiet_stop (more_stmts (Read items) rest) us none = absurd (omega (arith, none))
 quiet_stop (more_stmts Stop rest) us none = absurd (omega (arith, none))
 
-quiet_loops : (ts us : StmtTrees) → statements_count ts ≡ 0 → all_loop_variables (followed ts us) ≡ all_loop_variables us
+pub quiet_loops : (ts us : StmtTrees) → statements_count ts ≡ 0 → all_loop_variables (followed ts us) ≡ all_loop_variables us
 quiet_loops no_stmts us none = refl
 quiet_loops (more_stmts (Comment text) rest) us none = quiet_loops rest us (omega (arith, none))
 quiet_loops (more_stmts (Assign left right) rest) us none = absurd (omega (arith, none))

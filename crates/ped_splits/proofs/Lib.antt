@@ -18,6 +18,7 @@ mod JoinDead
 mod JoinTouches
 mod JoinWoven
 mod JoinAccesses
+mod JoinPlain
 mod JoinedFacts
 mod JoinKeeps
 mod CoverGaps

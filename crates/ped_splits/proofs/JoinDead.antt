@@ -122,11 +122,11 @@ module _ (cs : List (List ℕ)) (w : List ℕ) where
         let own = λ (k : ℕ). or_none (list_any (is_read_by w k) (own_events cs n (Do g body))) (not (is_same_text w g.variable) && all_reads_outside cs w k body (n + 1)) (h k) in
         turn_unread (sum_events w (own_events cs n (Do g body))) (sum_loop w n g body (sum_of_all cs w body (n + 1)))
         (events_unread n (own_events cs n (Do g body)) (of_own n (Do g body)) (own n).0)
-        (by (λ k. (own k).1) (is_same_text w g.variable) refl)
+        (by (λ quiet. all_loose_unread body (n + 1) quiet) (λ k. (own k).1) (is_same_text w g.variable) refl)
       where
-        by : ((k : ℕ) → not (is_same_text w g.variable) && all_reads_outside cs w k body (n + 1) ≡ false) → (b : Bool) → is_same_text w g.variable ≡ b → (sum_events w (own_events cs n (Do g body))).keeps ≡ true → is_some (sum_loop w n g body (sum_of_all cs w body (n + 1))).first ≡ false
-        by inner true same keeps = absurd (both_ways (sum_events w (own_events cs n (Do g body))).keeps (own_variable n g body same) keeps)
-        by inner false other keeps = loop_unread n g body (all_loose_unread body (n + 1) (λ k. (λ i. not (sym other i) && all_reads_outside cs w k body (n + 1)) ∙ inner k))
+        by : (((k : ℕ) → all_reads_outside cs w k body (n + 1) ≡ false) → is_some (sum_of_all cs w body (n + 1)).first ≡ false) → ((k : ℕ) → not (is_same_text w g.variable) && all_reads_outside cs w k body (n + 1) ≡ false) → (b : Bool) → is_same_text w g.variable ≡ b → (sum_events w (own_events cs n (Do g body))).keeps ≡ true → is_some (sum_loop w n g body (sum_of_all cs w body (n + 1))).first ≡ false
+        by deeper inner true same keeps = absurd (both_ways (sum_events w (own_events cs n (Do g body))).keeps (own_variable n g body same) keeps)
+        by deeper inner false other keeps = loop_unread n g body (deeper (λ k. (λ i. not (sym other i) && all_reads_outside cs w k body (n + 1)) ∙ inner k))
     loose_unread (Print items) n h = events_unread n (own_events cs n (Print items)) (of_own n (Print items)) (h n)
     loose_unread (Read items) n h = events_unread n (own_events cs n (Read items)) (of_own n (Read items)) (h n)
     loose_unread Stop n h = refl

@@ -166,12 +166,12 @@ module _ (cs : List (List ℕ)) (w : List ℕ) where
       and_false false = refl
 
   clears_less : (n m : ℕ) (xs ys : List (List ℕ)) → AreNoMore w ys xs → IsNoLess (sum_events w (map (event n clears) xs)) (sum_events w (map (event m clears) ys))
-  clears_less n m xs ys h = record { more = cleared_more w n m xs ys h; reads = λ e. absurd (both_ways (is_some (sum_events w (map (event n clears) xs)).first) (clears_read_none n xs) e) }
+  clears_less n m xs ys h = record { more = cleared_more cs w n m xs ys h; reads = λ e. absurd (both_ways (is_some (sum_events w (map (event n clears) xs)).first) (clears_read_none n xs) e) }
 
   -- the rest of the trips of a DO, with the same head and other statements in it
   pub loop_less : (h : Head) (body others : StmtTrees) (n m : ℕ) (a b : Summary) → AreNoMore w (all_loop_variables others) (all_loop_variables body) → IsNoLess a b → IsNoLess (sum_loop w n h body a) (sum_loop w m h others b)
   loop_less h body others n m a b loops k =
-      let copies : AreNoMore w (copied h others) (copied h body) = copied_more w h h body others (same_head_clears w h body others loops) in
+      let copies : AreNoMore w (copied h others) (copied h body) = copied_more cs w h h body others (same_head_clears cs w h body others loops) in
       turn_less (sum_trips (sum_in_turn (sum_events w (start_events n h body)) a)) (sum_events w (exit_events n h body)) (sum_trips (sum_in_turn (sum_events w (start_events m h others)) b)) (sum_events w (exit_events m h others))
       (trips_less (sum_in_turn (sum_events w (start_events n h body)) a) (sum_in_turn (sum_events w (start_events m h others)) b)
       (turn_less (sum_events w (start_events n h body)) a (sum_events w (start_events m h others)) b (clears_less n m (copied h body) (copied h others) copies) k))
@@ -224,7 +224,7 @@ module _ (cs : List (List ℕ)) (w : List ℕ) where
 
   -- from the exit of a DO, where its number stands alike
   mutual
-    behind_less : (z : StmtTree) (k n l m : ℕ) → IsPlaced k n l m (statement_count z) → IsNoLess (sum_behind cs w k z n) (sum_behind cs w l z m)
+    pub behind_less : (z : StmtTree) (k n l m : ℕ) → IsPlaced k n l m (statement_count z) → IsNoLess (sum_behind cs w k z n) (sum_behind cs w l z m)
     behind_less (Assign left right) k n l m p = itself unreached
     behind_less (If c a b) k n l m p =
         let count = statements_count a + statements_count b + 1 in
@@ -239,7 +239,7 @@ module _ (cs : List (List ℕ)) (w : List ℕ) where
     behind_less Stop k n l m p = itself unreached
     behind_less (Comment text) k n l m p = itself unreached
 
-    all_behind_less : (zs : StmtTrees) (k n l m : ℕ) → IsPlaced k n l m (statements_count zs) → IsNoLess (sum_behind_all cs w k zs n) (sum_behind_all cs w l zs m)
+    pub all_behind_less : (zs : StmtTrees) (k n l m : ℕ) → IsPlaced k n l m (statements_count zs) → IsNoLess (sum_behind_all cs w k zs n) (sum_behind_all cs w l zs m)
     all_behind_less no_stmts k n l m p = itself unreached
     all_behind_less (more_stmts z rest) k n l m p =
         let count = statement_count z + statements_count rest in

@@ -15,7 +15,7 @@ use Rattle.ped_reindex.specs.ped_loops.specs.ped_scalar.specs.ped_rules.specs.pe
 use Rattle.ped_reindex.specs.ped_loops.specs.ped_scalar.specs.ped_rules.specs.ped_loop_runs.specs.ped_bodies.specs.ped_steps.specs.ped_flow.specs.Paths.{paths_from_exit}
 use Rattle.ped_reindex.specs.ped_loops.specs.ped_scalar.specs.ped_rules.specs.ped_loop_runs.specs.ped_bodies.specs.ped_steps.specs.ped_flow.specs.Questions.{IsFirst, IsLiveAfter, IsReadBehind}
 use Rattle.ped_reindex.specs.ped_loops.specs.ped_scalar.specs.ped_rules.specs.ped_loop_runs.specs.ped_bodies.specs.ped_steps.specs.ped_flow.specs.Summaries.{AreSummed, IsReadOn, sum_behind_all, sum_either, sum_events, sum_in_turn, sum_loop, sum_of, sum_of_all}
-use Rattle.ped_splits.proofs.JoinLive.{IsNoLess, do_behind_less, either_less, loop_less, number_less, numbers_less, own_less, rest_less, turn_less}
+use Rattle.ped_splits.proofs.JoinLive.{IsNoLess, all_behind_less, behind_less, do_behind_less, either_less, loop_less, number_less, numbers_less, own_less, rest_less, turn_less}
 
 module _ (cs : List (List ℕ)) (w : List ℕ) (new old : StmtTrees) (summed : (n m : ℕ) → IsNoLess (sum_of_all cs w new n) (sum_of_all cs w old m)) (loops : AreNoMore w (all_loop_variables old) (all_loop_variables new)) where
   inner_loops : (g : Gap) → AreNoMore w (all_loop_variables (filled g old)) (all_loop_variables (filled g new))

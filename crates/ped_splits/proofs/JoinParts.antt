@@ -1,6 +1,6 @@
 -- An execution of two DO loops, one behind the other: what the first one does, and then the second one; both by their iterations.
-use Rattle.std.proofs.Common.{[], ap, arith, refl, subst, sym, ℕ, ◌++◌, ◌+◌, ◌∙◌, ◌≡◌}
-use Rattle.ped_tree.specs.Numbering.{all_numbered, numbered, statement_count, statements_count}
+use Rattle.std.proofs.Common.{Some, [], ap, arith, refl, subst, sym, ℕ, ◌++◌, ◌+◌, ◌∙◌, ◌≡◌}
+use Rattle.ped_tree.specs.Numbering.{all_numbered, numbered, statement_count, statement_with, statements_count}
 use Rattle.ped_tree.specs.Tree.{Assign, Comment, Do, If, Print, ProgramTree, Read, StmtTrees, Stop, more_stmts, no_stmts}
 use Rattle.ped_reindex.specs.ped_loops.specs.ped_scalar.specs.ped_rules.specs.ped_loop_runs.proofs.LoopLaws.OneForOneStands.{run_alone}
 use Rattle.ped_reindex.specs.ped_loops.specs.ped_scalar.specs.ped_rules.specs.ped_loop_runs.proofs.TidyLaws.TidyPathsGaps.{followed_count}
@@ -16,8 +16,9 @@ use Rattle.ped_reindex.specs.ped_loops.specs.ped_scalar.specs.ped_rules.specs.pe
 use Rattle.ped_reindex.specs.ped_loops.specs.ped_scalar.specs.ped_rules.specs.ped_loop_runs.specs.ped_bodies.specs.ped_steps.specs.ped_laws.specs.ped_eval.specs.Runs.{Run, run, run_all}
 use Rattle.ped_reindex.specs.ped_loops.specs.ped_scalar.specs.ped_rules.specs.ped_loop_runs.specs.ped_bodies.specs.ped_steps.specs.ped_laws.specs.ped_eval.specs.Scopes.{Scope, Setting}
 use Rattle.ped_reindex.specs.ped_loops.specs.ped_scalar.specs.ped_rules.specs.ped_loop_runs.specs.ped_bodies.specs.ped_steps.specs.ped_laws.specs.ped_store.specs.Stores.{Store}
+use Rattle.ped_splits.proofs.CoverGaps.{followed_numbered}
 use Rattle.ped_splits.proofs.JoinFacts.{AreJoined, both_loops, next_at, one_loop}
-use Rattle.ped_splits.proofs.SplitPieces.{followed_numbered, gap_stands}
+use Rattle.ped_splits.proofs.SplitPieces.{gap_stands}
 use Rattle.ped_splits.proofs.SplitRuns.{then_goes}
 
 -- comments in front of statements do nothing
@@ -40,8 +41,11 @@ module _ (t u : ProgramTree) (s : ℕ) (x : AreJoined t u s) where
   pair_stands : Stand t s (all_numbered (both_loops x))
   pair_stands = subst (λ (n : ℕ). Stand t n (all_numbered (both_loops x))) x.numbered (gap_stands t x.gap (both_loops x) 1 (subst (λ (ts : StmtTrees). Stand t 1 (all_numbered ts)) x.stands (whole_stands t)))
 
-  pub first_loop : LoopOf t s
-  first_loop = record { head = x.own; body = x.own_body; is = is_there t (Do x.own x.own_body) (all_numbered x.own_body) s (first_stands t s (numbered (Do x.own x.own_body)) (all_numbered (followed x.between (alone (Do x.next x.next_body)))) pair_stands) }
+  pub first_is : statement_with s t ≡ Some (Do x.own x.own_body)
+  first_is = is_there t (Do x.own x.own_body) (all_numbered x.own_body) s (first_stands t s (numbered (Do x.own x.own_body)) (all_numbered (followed x.between (alone (Do x.next x.next_body)))) pair_stands)
+
+  abbrev pub first_loop : LoopOf t s
+  first_loop = record { head = x.own; body = x.own_body; is = first_is }
 
   second_stands_there : Stand t (next_at x) (all_numbered (alone (Do x.next x.next_body)))
   second_stands_there =
@@ -50,14 +54,20 @@ module _ (t u : ProgramTree) (s : ℕ) (x : AreJoined t u s) where
       (subst (Stand t (s + statement_count (Do x.own x.own_body))) (followed_numbered x.between (alone (Do x.next x.next_body)))
       (rest_stands t (Do x.own x.own_body) (followed x.between (alone (Do x.next x.next_body))) s pair_stands)))
 
-  pub second_loop : LoopOf t (s + 1 + statements_count x.own_body)
-  second_loop = record { head = x.next; body = x.next_body; is = is_there t (Do x.next x.next_body) (all_numbered x.next_body) (next_at x) (first_stands t (next_at x) (numbered (Do x.next x.next_body)) [] second_stands_there) }
+  pub second_is : statement_with (s + 1 + statements_count x.own_body) t ≡ Some (Do x.next x.next_body)
+  second_is = is_there t (Do x.next x.next_body) (all_numbered x.next_body) (next_at x) (first_stands t (next_at x) (numbered (Do x.next x.next_body)) [] second_stands_there)
+
+  abbrev pub second_loop : LoopOf t (s + 1 + statements_count x.own_body)
+  second_loop = record { head = x.next; body = x.next_body; is = second_is }
 
   one_stands : Stand u s (all_numbered (one_loop x))
   one_stands = subst (λ (n : ℕ). Stand u n (all_numbered (one_loop x))) x.numbered (gap_stands u x.gap (one_loop x) 1 (subst (λ (ts : StmtTrees). Stand u 1 (all_numbered ts)) x.new_stands (whole_stands u)))
 
-  pub one_loop_there : LoopOf u s
-  one_loop_there = record { head = record x.own { rejected = x.rejected }; body = followed x.own_body (followed x.between x.next_body); is = is_there u _ _ s (first_stands u s (numbered (Do (record x.own { rejected = x.rejected }) (followed x.own_body (followed x.between x.next_body)))) [] one_stands) }
+  pub one_is : statement_with s u ≡ Some (Do (record x.own { rejected = x.rejected }) (followed x.own_body (followed x.between x.next_body)))
+  one_is = is_there u (Do (record x.own { rejected = x.rejected }) (followed x.own_body (followed x.between x.next_body))) (all_numbered (followed x.own_body (followed x.between x.next_body))) s (first_stands u s (numbered (Do (record x.own { rejected = x.rejected }) (followed x.own_body (followed x.between x.next_body)))) [] one_stands)
+
+  abbrev pub one_loop_there : LoopOf u s
+  one_loop_there = record { head = record x.own { rejected = x.rejected }; body = followed x.own_body (followed x.between x.next_body); is = one_is }
 
 -- what they do in an execution
 module _ (t u : ProgramTree) (s : ℕ) (x : AreJoined t u s) (scope : Scope) (v : Store) (goes : finish_of (run_all (setting_of t) (both_loops x) s scope v).ending ≡ goes_on) where

@@ -83,7 +83,7 @@ module _ (t u : ProgramTree) (s : ℕ) (x : AreJoined t u s) (data_bytes : List 
   first_agree : SettingsAgree own_number p q x.own_body (s + 1) (s + 1)
   first_agree = record { constants = refl; bounds = λ y w. refl; numbers = λ k less. first_numbers t u s x k less }
 
-  each_first : (i : ℕ) → 1 ≤ i → i ≤ e.count → (acts : List Act) × IsFirstDone i acts
+  pub each_first : (i : ℕ) → 1 ≤ i → i ≤ e.count → (acts : List Act) × IsFirstDone i acts
   each_first i from to =
       let was = old.are i from to in
       let done : DoesLikewise first_names nothing own_number (turns_of (frame e i ∷ scope)) (turns_of (frame z i ∷ scope)) (old.trip i) goes_on (run_all q x.own_body (s + 1) (frame z i ∷ scope)) =
@@ -115,7 +115,7 @@ module _ (t u : ProgramTree) (s : ℕ) (x : AreJoined t u s) (data_bytes : List 
   pub counts : e2.count ≡ e.count
   counts = same_count t u s x data_bytes scope front behind v executed goes
 
-  each_second : (i : ℕ) → 1 ≤ i → i ≤ e.count → (acts : List Act) × IsSecondDone i acts
+  pub each_second : (i : ℕ) → 1 ≤ i → i ≤ e.count → (acts : List Act) × IsSecondDone i acts
   each_second i from to =
       let many = counts in
       let was = other.are i from (omega (arith, to, many)) in
@@ -126,11 +126,11 @@ module _ (t u : ProgramTree) (s : ℕ) (x : AreJoined t u s) (data_bytes : List 
       (done.fresh, record { likewise = done.likewise; replays = done.replays })
 
   -- what the two bodies do in an iteration of the one DO
-  abbrev IsPartDone : ℕ → ℕ → List Act → Type 0
+  abbrev pub IsPartDone : ℕ → ℕ → List Act → Type 0
   IsPartDone i zero acts = IsFirstDone i acts
   IsPartDone i (suc k) acts = IsSecondDone i acts
 
-  each_part : (i k : ℕ) → 1 ≤ i → i ≤ e.count → k < 2 → (acts : List Act) × IsPartDone i k acts
+  pub each_part : (i k : ℕ) → 1 ≤ i → i ≤ e.count → k < 2 → (acts : List Act) × IsPartDone i k acts
   each_part i zero from to less = each_first i from to
   each_part i (suc k) from to less = each_second i from to
 

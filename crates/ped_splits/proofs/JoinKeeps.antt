@@ -19,7 +19,6 @@ use Rattle.ped_reindex.specs.ped_loops.specs.ped_scalar.specs.ped_rules.specs.pe
 use Rattle.ped_reindex.specs.ped_loops.specs.ped_scalar.specs.ped_rules.specs.ped_loop_runs.specs.ped_bodies.specs.ped_steps.specs.ped_laws.specs.Acts.Pieces.{StandsFor}
 use Rattle.ped_reindex.specs.ped_loops.specs.ped_scalar.specs.ped_rules.specs.ped_loop_runs.specs.ped_bodies.specs.ped_steps.specs.ped_laws.specs.Runs.Replaying.{Replays, finish_of, goes_on}
 use Rattle.ped_reindex.specs.ped_loops.specs.ped_scalar.specs.ped_rules.specs.ped_loop_runs.specs.ped_bodies.specs.ped_steps.specs.ped_laws.specs.Runs.Showing.{shown_at_end}
-use Rattle.ped_reindex.specs.ped_loops.specs.ped_scalar.specs.ped_rules.specs.ped_loop_runs.specs.ped_bodies.specs.ped_steps.specs.ped_laws.specs.ped_eval.specs.Loops.{Limits}
 use Rattle.ped_reindex.specs.ped_loops.specs.ped_scalar.specs.ped_rules.specs.ped_loop_runs.specs.ped_bodies.specs.ped_steps.specs.ped_laws.specs.ped_eval.specs.Outcomes.{IsRaceFree, bounds_of, setting_of}
 use Rattle.ped_reindex.specs.ped_loops.specs.ped_scalar.specs.ped_rules.specs.ped_loop_runs.specs.ped_bodies.specs.ped_steps.specs.ped_laws.specs.ped_eval.specs.Runs.{Run, run_all}
 use Rattle.ped_reindex.specs.ped_loops.specs.ped_scalar.specs.ped_rules.specs.ped_loop_runs.specs.ped_bodies.specs.ped_steps.specs.ped_laws.specs.ped_eval.specs.Scopes.{Scope, Setting}
@@ -28,10 +27,8 @@ use Rattle.ped_reindex.specs.ped_loops.specs.ped_scalar.specs.ped_rules.specs.pe
 use Rattle.ped_reindex.specs.ped_loops.specs.ped_scalar.specs.ped_rules.specs.ped_loop_runs.specs.ped_bodies.specs.ped_steps.specs.ped_laws.specs.ped_store.specs.Stores.{Store, store_at_start}
 use Rattle.ped_reindex.specs.ped_loops.specs.ped_scalar.specs.ped_rules.specs.ped_loop_runs.specs.ped_bodies.specs.ped_steps.specs.ped_symbols.proofs.RightUseLaws.Whole.{same_values}
 use Rattle.ped_reindex.specs.ped_loops.specs.ped_scalar.specs.ped_rules.specs.ped_loop_runs.specs.ped_bodies.specs.ped_steps.specs.ped_weaves.specs.Apart.{agreed}
-use Rattle.ped_splits.proofs.CoverMeets.{SameInitial}
 use Rattle.ped_splits.proofs.FuseFacts.{IsFusable, renamed}
 use Rattle.ped_splits.proofs.JoinAccesses.{free_joined}
-use Rattle.ped_splits.proofs.JoinBounds.{limits_alike}
 use Rattle.ped_splits.proofs.JoinCrossing.{NoneCrosses}
 use Rattle.ped_splits.proofs.JoinFacts.{AreJoined, NoneCross, both_loops, one_body, one_head, one_loop, variables_of}
 use Rattle.ped_splits.proofs.JoinNumbers.{counts_alike, opened_back, pair_count}
@@ -155,8 +152,3 @@ module _ (t u : ProgramTree) (s : ℕ) (x : AreJoined t u s) (cross : NoneCross 
 -- the program in which both have one variable, and the one with the one DO
 pub joined_keeps : (t : ProgramTree) (s : ℕ) (m : Match t s) → IsFusable t s m → NoneCrosses m.neighbour → Keeps (renamed m.neighbour) (fused m.neighbour)
 joined_keeps t s m f crossing = both_keep (renamed m.neighbour) (fused m.neighbour) s (are_joined t s m f) crossing
-
--- in each execution the second of the two has the initial value of the first
-pub same_initial : (t : ProgramTree) (s : ℕ) (m : Match t s) → IsFusable t s m → SameInitial m.neighbour
-same_initial t s m f data_bytes ends scope front behind v executed goes one other =
-    ap (λ (l : Limits). l.first) (limits_alike (renamed m.neighbour) (fused m.neighbour) s (are_joined t s m f) data_bytes scope front behind v executed goes one other)

@@ -111,6 +111,11 @@ module _ (k : NameKinds) (y x w : List ℕ) (other : is_same_text y w ≡ false)
 
 -- statements that assign no more, in a gap
 module _ (y : List ℕ) (new old : StmtTrees) (less : is_among y (assigned_in_all new) ≡ true → is_among y (assigned_in_all old) ≡ true) where
+  do_more : (d : Head) (us ws : StmtTrees) → (is_among y (assigned_in_all us) ≡ true → is_among y (assigned_in_all ws) ≡ true) → is_among y (assigned_in (Do d us)) ≡ true → is_among y (assigned_in (Do d ws)) ≡ true
+  do_more d us ws inner =
+      or_more (is_same_text y d.variable) (is_among y (d.private ++ assigned_in_all us)) (is_same_text y d.variable) (is_among y (d.private ++ assigned_in_all ws)) (λ e. e)
+      (append_more y d.private (assigned_in_all us) d.private (assigned_in_all ws) (λ e. e) inner)
+
   assigned_more : (g : Gap) → is_among y (assigned_in_all (filled g new)) ≡ true → is_among y (assigned_in_all (filled g old)) ≡ true
   assigned_more (at_front rest) h =
       followed_assigned y old rest ∙ or_more (is_among y (assigned_in_all new)) (is_among y (assigned_in_all rest)) (is_among y (assigned_in_all old)) (is_among y (assigned_in_all rest)) less (λ e. e) (sym (followed_assigned y new rest) ∙ h)
@@ -121,13 +126,7 @@ module _ (y : List ℕ) (new old : StmtTrees) (less : is_among y (assigned_in_al
   assigned_more (in_else c a g rest) h =
       append_more y (assigned_in_all a ++ assigned_in_all (filled g new)) (assigned_in_all rest) (assigned_in_all a ++ assigned_in_all (filled g old)) (assigned_in_all rest)
       (append_more y (assigned_in_all a) (assigned_in_all (filled g new)) (assigned_in_all a) (assigned_in_all (filled g old)) (λ e. e) (assigned_more g)) (λ e. e) h
-  assigned_more (in_body d g rest) h =
-      append_more y (assigned_in (Do d (filled g new))) (assigned_in_all rest) (assigned_in (Do d (filled g old))) (assigned_in_all rest) (do_more d g) (λ e. e) h
-    where
-      do_more : (d : Head) (g : Gap) → is_among y (assigned_in (Do d (filled g new))) ≡ true → is_among y (assigned_in (Do d (filled g old))) ≡ true
-      do_more d g =
-          or_more (is_same_text y d.variable) (is_among y (d.private ++ assigned_in_all (filled g new))) (is_same_text y d.variable) (is_among y (d.private ++ assigned_in_all (filled g old))) (λ e. e)
-          (append_more y d.private (assigned_in_all (filled g new)) d.private (assigned_in_all (filled g old)) (λ e. e) (assigned_more g))
+  assigned_more (in_body d g rest) h = append_more y (assigned_in (Do d (filled g new))) (assigned_in_all rest) (assigned_in (Do d (filled g old))) (assigned_in_all rest) (do_more d (filled g new) (filled g old) (assigned_more g)) (λ e. e) h
 
   -- the outermost DO round the gap assigns no more
   module _ (t u : ProgramTree) where
@@ -159,9 +158,7 @@ module _ (y : List ℕ) (new old : StmtTrees) (less : is_among y (assigned_in_al
         here : Less n
         here h =
             ap (λ (o : Option StmtTree). is_among y (assigned_by o)) old_there
-            ∙ or_more (is_same_text y d.variable) (is_among y (d.private ++ assigned_in_all (filled g new))) (is_same_text y d.variable) (is_among y (d.private ++ assigned_in_all (filled g old))) (λ r. r)
-            (append_more y d.private (assigned_in_all (filled g new)) d.private (assigned_in_all (filled g old)) (λ r. r) (assigned_more g))
-            (sym (ap (λ (o : Option StmtTree). is_among y (assigned_by o)) new_there) ∙ h)
+            ∙ do_more d (filled g new) (filled g old) (assigned_more g) (sym (ap (λ (o : Option StmtTree). is_among y (assigned_by o)) new_there) ∙ h)
 
 -- statements that stop alike, in a gap
 module _ (new old : StmtTrees) (same : some_stop new ≡ some_stop old) (in_loops : some_stops_in_loop new ≡ some_stops_in_loop old) where

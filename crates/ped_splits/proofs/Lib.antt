@@ -21,6 +21,7 @@ mod JoinAccesses
 mod JoinPlain
 mod JoinedFacts
 mod JoinKeeps
+mod JoinInitial
 mod CoverGaps
 mod CoverElements
 mod CoverStores

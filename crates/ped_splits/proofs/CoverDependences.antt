@@ -3,7 +3,7 @@ use Rattle.std.proofs.Common.{◌≡◌, ℕ, ◌+◌, ◌<◌, ◌≤◌, ◌==
 use Rattle.std.specs.Prelude.{nat_lt, nat_le}
 use Rattle.std.proofs.lemmas.Bool.{and_parts}
 use Rattle.std.proofs.lemmas.Bool.Decides.{nat_tests}
-use Rattle.ped_reindex.specs.ped_loops.proofs.FlagsLawful.{each_of}
+use Rattle.std.proofs.lemmas.List.Elements.{All-head, All-tail}
 use Rattle.ped_tree.specs.Numbering.{statements_count}
 use Rattle.ped_tree.specs.Tree.{ProgramTree}
 use Rattle.ped_reindex.specs.ped_loops.specs.ped_scalar.specs.ped_rules.specs.ped_loop_runs.specs.ped_bodies.specs.ped_steps.specs.ped_views.specs.Vectors.{all_vectors, AreThose, IsPossible}
@@ -15,7 +15,7 @@ use Rattle.ped_reindex.specs.ped_loops.specs.ped_scalar.specs.ped_rules.specs.pe
 use Rattle.ped_reindex.specs.ped_loops.specs.ped_scalar.specs.ped_rules.specs.ped_loop_runs.specs.ped_bodies.specs.ped_steps.specs.ped_flow.specs.PlainBounds.{nest_round}
 use Rattle.ped_reindex.specs.ped_loops.specs.ped_scalar.specs.ped_rules.specs.ped_loop_runs.specs.ped_bodies.specs.ped_steps.specs.ped_refs.specs.References.{Reference, is_pair, references, pairs}
 use Rattle.ped_reindex.specs.ped_loops.specs.ped_scalar.specs.ped_rules.specs.ped_loop_runs.specs.ped_bodies.specs.ped_steps.specs.ped_laws.specs.ped_graph.specs.ped_edges.specs.Edges.{Mark, proven, pending, rejected, Edge}
-use Rattle.ped_reindex.specs.ped_loops.specs.ped_scalar.specs.ped_rules.specs.ped_loop_runs.specs.ped_bodies.specs.ped_steps.specs.ped_laws.specs.ped_graph.specs.Dependences.{facts_of, view_of, edges_by, PairEdges, EdgesOfPairs}
+use Rattle.ped_reindex.specs.ped_loops.specs.ped_scalar.specs.ped_rules.specs.ped_loop_runs.specs.ped_bodies.specs.ped_steps.specs.ped_laws.specs.ped_graph.specs.Dependences.{facts_of, view_of, edges_by, AreEdges, PairEdges, EdgesOfPairs}
 use Rattle.ped_reindex.specs.ped_loops.specs.ped_scalar.specs.ped_rules.specs.ped_loop_runs.specs.ped_bodies.specs.ped_steps.specs.ped_laws.specs.ped_graph.specs.DependencePane.{is_level, is_in_body, extent_of}
 use Rattle.ped_reindex.specs.ped_loops.specs.ped_scalar.specs.ped_rules.specs.ped_loop_runs.proofs.LoopLaws.OneForOneStands.{in_flat}
 use Rattle.ped_reindex.specs.ped_loops.specs.ped_scalar.specs.ped_rules.specs.ped_loop_runs.specs.ped_bodies.specs.ped_steps.specs.ped_laws.proofs.ConflictLaws.CoveringConflicts.{AreMet, pair_listed}
@@ -48,20 +48,25 @@ pairs_have t (p ∷ ps) none = pair_has t p.0 p.1 (λ first a. pairs_have t ps (
 in_filter : {X : Type 0} (test : X → Bool) (a : X) (xs : List X) → IsIn a xs → test a ≡ true → IsIn a (filter test xs)
 in_filter test a [] i h = absurd i
 in_filter {X} test a (y ∷ ys) (inl e) h = subst (λ (b : Bool). IsIn a (if b then y ∷ filter test ys else filter test ys)) (sym (ap test (sym e) ∙ h)) (inl e)
-in_filter {X} test a (y ∷ ys) (inr i) h = go (test y)
+in_filter {X} test a (y ∷ ys) (inr i) h = go (test y) (in_filter test a ys i h)
   where
-    go : (b : Bool) → IsIn a (if b then y ∷ filter test ys else filter test ys)
-    go true = inr (in_filter test a ys i h)
-    go false = in_filter test a ys i h
+    go : (b : Bool) → IsIn a (filter test ys) → IsIn a (if b then y ∷ filter test ys else filter test ys)
+    go true there = inr there
+    go false there = there
 
 from_filter : {X : Type 0} (test : X → Bool) (a : X) (xs : List X) → IsIn a (filter test xs) → IsIn a xs
 from_filter test a [] i = absurd i
-from_filter {X} test a (y ∷ ys) i = go (test y) i
+from_filter {X} test a (y ∷ ys) i = go (test y) i (from_filter test a ys)
   where
-    go : (b : Bool) → IsIn a (if b then y ∷ filter test ys else filter test ys) → IsIn a (y ∷ ys)
-    go true (inl e) = inl e
-    go true (inr j) = inr (from_filter test a ys j)
-    go false j = inr (from_filter test a ys j)
+    go : (b : Bool) → IsIn a (if b then y ∷ filter test ys else filter test ys) → (IsIn a (filter test ys) → IsIn a ys) → IsIn a (y ∷ ys)
+    go true (inl e) more = inl e
+    go true (inr j) more = inr (more j)
+    go false j more = inr (more j)
+
+each_of : {X : Type 0} (P : X → Type 0) (xs : List X) (x : X) → All P xs → IsIn x xs → P x
+each_of P [] x all i = absurd i
+each_of P (y ∷ ys) x all (inl e) = subst P (sym e) (All-head P y ys all)
+each_of P (y ∷ ys) x all (inr i) = each_of P ys x (All-tail P y ys all) i
 
 not_rejected : (mark : Mark) → (mark ≡ rejected → ⊥) → is_rejected mark ≡ false
 not_rejected proven h = refl
@@ -141,6 +146,10 @@ module _ (t0 : ProgramTree) (s : ℕ) (n : Neighbour t0 s) (first : Store) (a b 
   pub covered_back : (edges : List Edge) → AreBack n edges → IsCarriedInside (fused n) edges outer is js a b
   covered_back edges are =
       carried_inside (fused n) first a b source sink made (filter (goes_back n) (pairs (references (fused n)))) edges (in_filter (goes_back n) (source, sink) (pairs (references (fused n))) listed back) are outer is js i j m.at_first m.at_second m.successive
+
+  -- and so among all dependences
+  pub covered_by_all : (edges : List Edge) → AreEdges (fused n) edges → IsCarriedInside (fused n) edges outer is js a b
+  covered_by_all edges are = carried_inside (fused n) first a b source sink made (pairs (references (fused n))) edges listed are outer is js i j m.at_first m.at_second m.successive
 
   -- the DO has at least these statements
   module _ (room : next_number n + statements_count n.next_body ≤ s + extent_of (fused n) s) where

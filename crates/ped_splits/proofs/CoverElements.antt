@@ -64,11 +64,11 @@ value_small rest (line ∷ more) t h = front_by (has_some (behind_blanks rest)) 
 -- no scalar stands for an element
 no_element : (S : Scope) (y : List ℕ) (x : List ℕ) (js : List ℤ) → same_cell (cell_of S y) (Element x js) ≡ false
 no_element [] y x js = refl
-no_element (f ∷ fs) y x js = go (is_among y f.private)
+no_element (f ∷ fs) y x js = go (is_among y f.private) (no_element fs y x js)
   where
-    go : (b : Bool) → same_cell (if b then Private y (iterations_of (turns_of (f ∷ fs))) else cell_of fs y) (Element x js) ≡ false
-    go true = refl
-    go false = no_element fs y x js
+    go : (b : Bool) → same_cell (cell_of fs y) (Element x js) ≡ false → same_cell (if b then Private y (iterations_of (turns_of (f ∷ fs))) else cell_of fs y) (Element x js) ≡ false
+    go true h = refl
+    go false h = h
 
 module _ (p : Setting) (x : List ℕ) (js : List ℤ) where
   abbrev c : Cell

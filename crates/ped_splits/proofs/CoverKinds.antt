@@ -19,6 +19,7 @@ use Rattle.ped_reindex.specs.ped_loops.specs.ped_scalar.specs.ped_rules.specs.pe
 use Rattle.ped_reindex.specs.ped_loops.specs.ped_scalar.proofs.UnrejectedSteps.{rejections_kept}
 use Rattle.ped_reindex.specs.ped_loops.specs.ped_scalar.specs.ped_rules.specs.ped_loop_runs.specs.ped_bodies.specs.ped_steps.specs.ped_sums.specs.Substitution.{statements_substituted}
 use Rattle.ped_reindex.specs.ped_loops.specs.ped_scalar.specs.ped_rules.specs.ped_loop_runs.specs.ped_bodies.specs.ped_steps.specs.ped_laws.specs.ped_eval.specs.Outcomes.{bounds_of, setting_of}
+use Rattle.ped_splits.proofs.CoverFacts.{AreSerial, are_serial}
 use Rattle.ped_splits.proofs.FuseFacts.{IsFusable, renamed, renamed_next, renamed_pair}
 use Rattle.ped_splits.specs.Fusing.{Match}
 use Rattle.ped_splits.specs.Neighbours.{Neighbour, fused, joined_head, joined_loop, renamed_body}
@@ -46,17 +47,16 @@ module _ (y : List ℕ) where
     names_filled (past s gap) = both (stmt_names s) (stmts_names (filled gap new)) (stmt_names s) (stmts_names (filled gap old)) refl (names_filled gap)
     names_filled (in_then c gap b rest) =
         both (stmt_names (If c (filled gap new) b)) (stmts_names rest) (stmt_names (If c (filled gap old) b)) (stmts_names rest)
-        (both (cond_names c) (stmts_names (filled gap new) ++ stmts_names b) (cond_names c) (stmts_names (filled gap old) ++ stmts_names b) refl
-        (both (stmts_names (filled gap new)) (stmts_names b) (stmts_names (filled gap old)) (stmts_names b) (names_filled gap) refl)) refl
+        (both (cond_names c ++ stmts_names (filled gap new)) (stmts_names b) (cond_names c ++ stmts_names (filled gap old)) (stmts_names b)
+        (both (cond_names c) (stmts_names (filled gap new)) (cond_names c) (stmts_names (filled gap old)) refl (names_filled gap)) refl) refl
     names_filled (in_else c a gap rest) =
         both (stmt_names (If c a (filled gap new))) (stmts_names rest) (stmt_names (If c a (filled gap old))) (stmts_names rest)
-        (both (cond_names c) (stmts_names a ++ stmts_names (filled gap new)) (cond_names c) (stmts_names a ++ stmts_names (filled gap old)) refl
-        (both (stmts_names a) (stmts_names (filled gap new)) (stmts_names a) (stmts_names (filled gap old)) refl (names_filled gap))) refl
+        (both (cond_names c ++ stmts_names a) (stmts_names (filled gap new)) (cond_names c ++ stmts_names a) (stmts_names (filled gap old)) refl (names_filled gap)) refl
     names_filled (in_body h gap rest) =
         both (stmt_names (Do h (filled gap new))) (stmts_names rest) (stmt_names (Do h (filled gap old))) (stmts_names rest)
         (both (head_names h) (stmts_names (filled gap new)) (head_names h) (stmts_names (filled gap old)) refl (names_filled gap)) refl
 
-module _ (t0 : ProgramTree) (s : ℕ) (m : Match t0 s) (x : IsFusable t0 s m) where
+module _ (t0 : ProgramTree) (s : ℕ) (m : Match t0 s) (x : AreSerial t0 s m) where
   abbrev n : Neighbour t0 s
   n = m.neighbour
 
@@ -122,12 +122,15 @@ module _ (t0 : ProgramTree) (s : ℕ) (m : Match t0 s) (x : IsFusable t0 s m) wh
         ∙ sym (names_occur (renamed n) y ∙ occurs_append y (flat_map decl_sites t0.decls) (stmts_sites (renamed n).body))
 
   -- names stand for the same
-  pub fused_kinds : (y : List ℕ) → kind_in (fused n) y ≡ kind_in (renamed n) y
-  fused_kinds = same_kinds (renamed n) (fused n) refl same_names
+  pub kinds_alike : (y : List ℕ) → kind_in (fused n) y ≡ kind_in (renamed n) y
+  kinds_alike = same_kinds (renamed n) (fused n) refl same_names
 
   -- so both programs are run by one setting
-  pub fused_setting : setting_of (fused n) ≡ setting_of (renamed n)
-  fused_setting = λ i. record { bounds = λ y. bounds_of (fused_kinds y i); constants = same_values (renamed n) (fused n) refl i; number = λ k. k }
+  pub setting_alike : setting_of (fused n) ≡ setting_of (renamed n)
+  setting_alike = λ i. record { bounds = λ y. bounds_of (kinds_alike y i); constants = same_values (renamed n) (fused n) refl i; number = λ k. k }
+
+pub fused_kinds : (t : ProgramTree) (s : ℕ) (m : Match t s) → IsFusable t s m → (y : List ℕ) → kind_in (fused m.neighbour) y ≡ kind_in (renamed m.neighbour) y
+fused_kinds t s m x = kinds_alike t s m (are_serial t s m x)
 
 -- the one DO has the rejected names of both, so none, where they have none
 module _ {t0 : ProgramTree} {s : ℕ} (n : Neighbour t0 s) where

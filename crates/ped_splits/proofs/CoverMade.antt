@@ -1,5 +1,5 @@
 -- Two DO loops become one: where an execution of the two has come, in the run of the program in which they have one variable, the new program comes, too: its stores are those of an execution of the outermost DO, and the iterations round it are reached.
-use Rattle.std.proofs.Common.{◌≡◌, ℕ, ◌+◌, List, [], ◌∷◌, ◌++◌, Bool, true, false, ◌||◌, Some, refl, sym, ap, ◌∙◌, subst, append_assoc, append-nil, arith}
+use Rattle.std.proofs.Common.{◌≡◌, ℕ, ◌+◌, List, [], ◌∷◌, ◌++◌, Bool, true, false, ◌||◌, Option, Some, refl, sym, ap, ◌∙◌, subst, append_assoc, append-nil, arith}
 use Rattle.std.proofs.lemmas.Bool.{and_parts}
 use Rattle.std.proofs.lemmas.List.{length-append}
 use Rattle.std.specs.Str.Lines.{lines}
@@ -26,7 +26,7 @@ use Rattle.ped_reindex.specs.ped_loops.specs.ped_scalar.specs.ped_rules.specs.pe
 use Rattle.ped_reindex.specs.ped_loops.specs.ped_scalar.specs.ped_rules.specs.ped_loop_runs.proofs.PastingLaws.NestsRound.{variables_behind}
 use Rattle.ped_reindex.specs.ped_loops.specs.ped_scalar.specs.ped_rules.specs.ped_loop_runs.proofs.LoopLaws.OneForOneStands.{run_alone}
 use Rattle.ped_reindex.specs.ped_loops.specs.ped_scalar.specs.ped_rules.specs.ped_loop_runs.proofs.PastingLaws.ToldPlaces.{no_turns, same_head}
-use Rattle.ped_reindex.specs.ped_loops.specs.ped_scalar.specs.ped_rules.specs.ped_loop_runs.specs.Executions.{IsExecuted}
+use Rattle.ped_reindex.specs.ped_loops.specs.ped_scalar.specs.ped_rules.specs.ped_loop_runs.specs.Executions.{AreEntered, IsExecuted}
 use Rattle.ped_reindex.specs.ped_loops.specs.ped_scalar.specs.ped_rules.specs.ped_loop_runs.specs.ped_bodies.specs.ped_steps.specs.ped_laws.proofs.ActLaws.Stores.{after_append}
 use Rattle.ped_reindex.specs.ped_loops.specs.ped_scalar.specs.ped_rules.specs.ped_loop_runs.specs.ped_bodies.specs.ped_steps.specs.ped_laws.proofs.ConflictLaws.MakingParts.{Parts, among_rest, among_right, stand_whole}
 use Rattle.ped_reindex.specs.ped_loops.specs.ped_scalar.specs.ped_rules.specs.ped_loop_runs.specs.ped_bodies.specs.ped_steps.specs.ped_laws.proofs.ConflictLaws.Scoping.{variables_of}
@@ -37,13 +37,14 @@ use Rattle.ped_reindex.specs.ped_loops.specs.ped_scalar.specs.ped_rules.specs.pe
 use Rattle.ped_reindex.specs.ped_loops.specs.ped_scalar.specs.ped_rules.specs.ped_loop_runs.specs.ped_bodies.specs.ped_steps.specs.ped_laws.specs.Covering.Within.{HoldsStorable}
 use Rattle.ped_reindex.specs.ped_loops.specs.ped_scalar.specs.ped_rules.specs.ped_loop_runs.specs.ped_bodies.specs.ped_steps.specs.ped_laws.specs.ped_eval.specs.Outcomes.{setting_of}
 use Rattle.ped_reindex.specs.ped_loops.specs.ped_scalar.specs.ped_rules.specs.ped_loop_runs.specs.ped_bodies.specs.ped_steps.specs.ped_laws.specs.ped_eval.specs.Runs.{Run, run, run_all}
-use Rattle.ped_reindex.specs.ped_loops.specs.ped_scalar.specs.ped_rules.specs.ped_loop_runs.specs.ped_bodies.specs.ped_steps.specs.ped_laws.specs.ped_eval.specs.Scopes.{Setting, Scope, turns_of}
+use Rattle.ped_reindex.specs.ped_loops.specs.ped_scalar.specs.ped_rules.specs.ped_loop_runs.specs.ped_bodies.specs.ped_steps.specs.ped_laws.specs.ped_eval.specs.Scopes.{Setting, Frame, Scope, turns_of}
 use Rattle.ped_reindex.specs.ped_loops.specs.ped_scalar.specs.ped_rules.specs.ped_loop_runs.specs.ped_bodies.specs.ped_steps.specs.ped_laws.specs.ped_store.specs.Acts.{Act}
 use Rattle.ped_reindex.specs.ped_loops.specs.ped_scalar.specs.ped_rules.specs.ped_loop_runs.specs.ped_bodies.specs.ped_steps.specs.ped_laws.specs.ped_store.specs.Stores.{Store, store_at_start}
 use Rattle.ped_splits.proofs.CoverGaps.{gap_loops, gap_nest, IsInGap, in_gap, AreRoundBoth, IsRoundBoth, followed_assigned}
 use Rattle.ped_splits.proofs.CoverReached.{reached_there}
 use Rattle.ped_splits.proofs.CoverStores.{keeps_unassigned, holds_behind, holds_at_start}
-use Rattle.ped_splits.proofs.FuseFacts.{IsFusable, renamed, renamed_pair, renamed_next}
+use Rattle.ped_splits.proofs.CoverFacts.{AreSerial}
+use Rattle.ped_splits.proofs.FuseFacts.{renamed, renamed_pair, renamed_next}
 use Rattle.ped_splits.specs.Fusing.{Match}
 use Rattle.ped_splits.specs.Neighbours.{Neighbour, fused, joined_head, renamed_body}
 
@@ -65,7 +66,7 @@ do_alike : (y : List ℕ) (h : Head) (b other : StmtTrees) → is_among y (assig
 do_alike y h b other e =
     ap (λ (z : Bool). is_same_text y h.variable || z) (among_append y h.private (assigned_in_all b) ∙ ap (λ (z : Bool). is_among y h.private || z) e ∙ sym (among_append y h.private (assigned_in_all other)))
 
-module _ (t0 : ProgramTree) (s : ℕ) (m : Match t0 s) (x : IsFusable t0 s m) (same : setting_of (fused m.neighbour) ≡ setting_of (renamed m.neighbour)) where
+module _ (t0 : ProgramTree) (s : ℕ) (m : Match t0 s) (x : AreSerial t0 s m) (same : setting_of (fused m.neighbour) ≡ setting_of (renamed m.neighbour)) where
   abbrev n : Neighbour t0 s
   n = m.neighbour
 
@@ -97,57 +98,57 @@ module _ (t0 : ProgramTree) (s : ℕ) (m : Match t0 s) (x : IsFusable t0 s m) (s
   nest = gap_loops m.neighbour.gap 1
 
   -- both have the same variables of DO loops, and assign the same
-  variables : (y : List ℕ) → is_among y (all_loop_variables new) ≡ is_among y (all_loop_variables old)
-  variables y =
-      ap (λ (b : Bool). a || b) (ap (is_among y) (append-nil (all_loop_variables bodies)) ∙ followed_variables y n.own_body (followed n.between second) ∙ ap (λ (z : Bool). b || z) (followed_variables y n.between second))
-      ∙ table a b c d
-      ∙ sym (ap (λ (z : Bool). a || z) (among_append y (all_loop_variables n.own_body) (all_loop_variables (followed n.between (alone (renamed_next n))))
-      ∙ ap (λ (z : Bool). b || z) (followed_variables y n.between (alone (renamed_next n)) ∙ ap (λ (zs : List (List ℕ)). c || (a || is_among y zs)) (append-nil (all_loop_variables second)))))
-    where
-      abbrev a : Bool
-      a = is_same_text y m.neighbour.own.variable
+  module _ (y : List ℕ) where
+    abbrev its : Bool
+    its = is_same_text y m.neighbour.own.variable
 
-      abbrev b : Bool
-      b = is_among y (all_loop_variables m.neighbour.own_body)
+    abbrev in_first : Bool
+    in_first = is_among y (all_loop_variables m.neighbour.own_body)
 
-      abbrev c : Bool
-      c = is_among y (all_loop_variables m.neighbour.between)
+    abbrev in_between : Bool
+    in_between = is_among y (all_loop_variables m.neighbour.between)
 
-      abbrev d : Bool
-      d = is_among y (all_loop_variables second)
+    abbrev in_second : Bool
+    in_second = is_among y (all_loop_variables second)
 
-      table : (a b c d : Bool) → (a || (b || (c || d))) ≡ (a || (b || (c || (a || d))))
-      table true b c d = refl
-      table false b c d = refl
+    any_order : (a b c d : Bool) → (a || (b || (c || d))) ≡ (a || (b || (c || (a || d))))
+    any_order true b c d = refl
+    any_order false b c d = refl
 
-  assigned : (y : List ℕ) → is_among y (assigned_in_all new) ≡ is_among y (assigned_in_all old)
-  assigned y =
-      ap (λ (z : Bool). a || z) (ap (is_among y) (append-nil (n.own.private ++ assigned_in_all bodies)) ∙ among_append y n.own.private (assigned_in_all bodies)
-      ∙ ap (λ (z : Bool). q || z) (followed_assigned y n.own_body (followed n.between second) ∙ ap (λ (z : Bool). b || z) (followed_assigned y n.between second)))
-      ∙ table a q b c d
-      ∙ sym (ap (λ (z : Bool). a || z) (among_append y (n.own.private ++ assigned_in_all n.own_body) (assigned_in_all (followed n.between (alone (renamed_next n))))
-      ∙ (λ i. among_append y n.own.private (assigned_in_all n.own_body) i || followed_assigned y n.between (alone (renamed_next n)) i)
-      ∙ ap (λ (zs : List (List ℕ)). (q || b) || (c || (a || is_among y zs))) (append-nil (n.next.private ++ assigned_in_all second) ∙ ap (λ (zs : List (List ℕ)). zs ++ assigned_in_all second) x.next_unprivate)))
-    where
-      abbrev a : Bool
-      a = is_same_text y m.neighbour.own.variable
+    pub variables : is_among y (all_loop_variables new) ≡ is_among y (all_loop_variables old)
+    variables =
+        ap (λ (z : Bool). its || z)
+        (ap (is_among y) (append-nil (all_loop_variables bodies)) ∙ followed_variables y n.own_body (followed n.between second) ∙ ap (λ (z : Bool). in_first || z) (followed_variables y n.between second))
+        ∙ any_order its in_first in_between in_second
+        ∙ sym (ap (λ (z : Bool). its || z) (among_append y (all_loop_variables n.own_body) (all_loop_variables (followed n.between (alone (renamed_next n))))
+        ∙ ap (λ (z : Bool). in_first || z) (followed_variables y n.between (alone (renamed_next n)) ∙ ap (λ (zs : List (List ℕ)). in_between || (its || is_among y zs)) (append-nil (all_loop_variables second)))))
 
-      abbrev q : Bool
-      q = is_among y m.neighbour.own.private
+    abbrev private_there : Bool
+    private_there = is_among y m.neighbour.own.private
 
-      abbrev b : Bool
-      b = is_among y (assigned_in_all m.neighbour.own_body)
+    abbrev first_assigns : Bool
+    first_assigns = is_among y (assigned_in_all m.neighbour.own_body)
 
-      abbrev c : Bool
-      c = is_among y (assigned_in_all m.neighbour.between)
+    abbrev between_assigns : Bool
+    between_assigns = is_among y (assigned_in_all m.neighbour.between)
 
-      abbrev d : Bool
-      d = is_among y (assigned_in_all second)
+    abbrev second_assigns : Bool
+    second_assigns = is_among y (assigned_in_all second)
 
-      table : (a q b c d : Bool) → (a || (q || (b || (c || d)))) ≡ (a || ((q || b) || (c || (a || d))))
-      table true q b c d = refl
-      table false true b c d = refl
-      table false false b c d = refl
+    other_order : (a q b c d : Bool) → (a || (q || (b || (c || d)))) ≡ (a || ((q || b) || (c || (a || d))))
+    other_order true q b c d = refl
+    other_order false true b c d = refl
+    other_order false false b c d = refl
+
+    pub assigned : is_among y (assigned_in_all new) ≡ is_among y (assigned_in_all old)
+    assigned =
+        ap (λ (z : Bool). its || z)
+        (ap (is_among y) (append-nil (n.own.private ++ assigned_in_all bodies)) ∙ among_append y n.own.private (assigned_in_all bodies)
+        ∙ ap (λ (z : Bool). private_there || z) (followed_assigned y n.own_body (followed n.between second) ∙ ap (λ (z : Bool). first_assigns || z) (followed_assigned y n.between second)))
+        ∙ other_order its private_there first_assigns between_assigns second_assigns
+        ∙ sym (ap (λ (z : Bool). its || z) (among_append y (n.own.private ++ assigned_in_all n.own_body) (assigned_in_all (followed n.between (alone (renamed_next n))))
+        ∙ (λ i. among_append y n.own.private (assigned_in_all n.own_body) i || followed_assigned y n.between (alone (renamed_next n)) i)
+        ∙ ap (λ (zs : List (List ℕ)). (private_there || first_assigns) || (between_assigns || (its || is_among y zs))) (append-nil (n.next.private ++ assigned_in_all second) ∙ ap (λ (zs : List (List ℕ)). zs ++ assigned_in_all second) x.next_unprivate)))
 
   -- all that the new program assigns
   abbrev pub whole : ranges.Setting
@@ -212,7 +213,69 @@ module _ (t0 : ProgramTree) (s : ℕ) (m : Match t0 s) (x : IsFusable t0 s m) (s
       pub turns : AreTurnsOf (λ k. k) nest (turns_of scope)
 
     collected : (k : ℕ) (z : StmtTree) → statement_with k u ≡ Some z → (y : List ℕ) → is_among y (setting_in u k).assigned ≡ is_among y (assigned_in z)
-    collected k z there y = ap (λ o. is_among y (with_names [] (assigned_by o))) there ∙ among_collected y [] (assigned_in z)
+    collected k z there y =
+        let found : is_among y (setting_in u k).assigned ≡ is_among y (with_names [] (assigned_in z)) = ap (λ (o : Option StmtTree). is_among y (with_names [] (assigned_by o))) there in
+        let once : is_among y (with_names [] (assigned_in z)) ≡ is_among y (assigned_in z) = among_collected y [] (assigned_in z) in
+        found ∙ once
+
+    -- in an execution of the outermost DO round them
+    module _ (f : Frame) (fs : Scope) (w : Store) (turns_there : AreTurnsOf (λ k. k) nest (turns_of (f ∷ fs))) (k : Loop) (ls : List Loop) (is : nest ≡ k ∷ ls) (o : IsInExecution p t start s (run_all p old s (f ∷ fs) w).acts w)
+        (entered : AreEntered p t (run p (Do o.loop.head o.loop.body) (outermost_or s (nest_round t s)) [] o.first).acts o.first (f ∷ fs)) where
+      r : IsRoundBoth t u new [] k
+      r = (subst (AreRoundBoth t u new []) is here.loops).0
+
+      number : outermost_or s (nest_round t s) ≡ k.number
+      number = ap (outermost_or s) (old_nest ∙ is)
+
+      both : Some (Do k.head r.old_body) ≡ Some (Do o.loop.head o.loop.body)
+      both = sym r.stood ∙ ap (λ (j : ℕ). statement_with j t) (sym number) ∙ o.loop.is
+
+      heads : k.head ≡ o.loop.head
+      heads = same_head k.head o.loop.head r.old_body o.loop.body both
+
+      insides : r.old_body ≡ o.loop.body
+      insides = let e = both in cc
+
+      in_body : (y : List ℕ) → is_among y (assigned_in_all r.body) ≡ true → is_among y (assigned_in (Do k.head r.body)) ≡ true
+      in_body y h = among_rest y k.head.variable (k.head.private ++ assigned_in_all r.body) (among_right y k.head.private (assigned_in_all r.body) h)
+
+      unassigned : (y : List ℕ) → is_among y (setting_in u k.number).assigned ≡ false → is_among y (assigned_in_all (alone (Do o.loop.head o.loop.body))) ≡ false
+      unassigned y free =
+          ap (is_among y) (append-nil (assigned_in (Do o.loop.head o.loop.body)))
+          ∙ (λ i. is_among y (assigned_in (Do (sym heads i) (sym insides i))))
+          ∙ do_alike y k.head r.old_body r.body (sym (r.assigned y))
+          ∙ sym (collected k.number (Do k.head r.body) r.stands y)
+          ∙ free
+
+      abbrev outside : List Act
+      outside = (run p (Do o.loop.head o.loop.body) (outermost_or s (nest_round t s)) [] o.first).acts
+
+      stored_in : (before after : List Act) → outside ≡ before ++ after → IsStoreIn (setting_in u k.number) o.first (store_after before o.first)
+      stored_in before after e = record {
+        storable = subst (HoldsStorable (setting_in u k.number).loop_variables) (after_append o.execution.front before start ∙ ap (store_after before) (sym o.execution.from))
+            (storable k.number (o.execution.front ++ before) (after ++ o.execution.behind) (o.execution.is ∙ ap (λ (zs : List Act). o.execution.front ++ (zs ++ o.execution.behind)) e ∙ regrouped o.execution.front before after o.execution.behind));
+        constant = λ y free.
+            keeps_unassigned p (alone (Do o.loop.head o.loop.body)) (outermost_or s (nest_round t s)) [] o.first before after
+            (ap (λ (z : Run). z.acts) (run_alone p (Do o.loop.head o.loop.body) (outermost_or s (nest_round t s)) [] o.first) ∙ e) y (unassigned y free);
+      }
+
+      there : Reached u (setting_in u k.number) o.first nest (f ∷ fs) × (variables_of (f ∷ fs) ≡ variables_behind [] nest)
+      there = reached_there t u same new (setting_in u k.number) outside o.first stored_in (f ∷ fs) nest entered turns_there here.loops
+
+      come_inside : HasCome (f ∷ fs) w
+      come_inside = record {
+        outer = k;
+        inner = ls ++ loop s head ∷ [];
+        is = ap (λ (zs : List Loop). zs ++ loop s head ∷ []) is;
+        first = o.first;
+        stored = λ before after e.
+            subst (IsStoreIn (setting_in u k.number) o.first) (after_append o.part.front before o.first ∙ ap (store_after before) (sym o.part.from))
+            (stored_in (o.part.front ++ before) (after ++ o.part.behind) (o.part.is ∙ ap (λ (zs : List Act). o.part.front ++ (zs ++ o.part.behind)) e ∙ regrouped o.part.front before after o.part.behind));
+        assigns = λ y h. collected k.number (Do k.head r.body) r.stands y ∙ in_body y (r.inside y (in_new y h));
+        reached = there.0;
+        tells = there.1;
+        turns = turns_there;
+      }
 
     pub has_come : (scope : Scope) (front behind : List Act) (w : Store) → IsExecuted p t start s (statements_count old) scope front (run_all p old s scope w).acts behind w → HasCome scope w
     has_come [] front behind w executed =
@@ -242,60 +305,4 @@ module _ (t0 : ProgramTree) (s : ℕ) (m : Match t0 s) (x : IsFusable t0 s m) (s
             let long = turns_long (λ k. k) [] (turns_of (f ∷ fs)) (subst (λ (ls : List Loop). AreTurnsOf (λ k. k) ls (turns_of (f ∷ fs))) none turns_there) in
             let more = length-append (turns_of fs) (f.turn ∷ []) in
             absurd (omega (arith, long, more))
-        by (k ∷ ls) is = record {
-          outer = k;
-          inner = ls ++ loop s head ∷ [];
-          is = ap (λ (zs : List Loop). zs ++ loop s head ∷ []) is;
-          first = o.first;
-          stored = λ before after e.
-              subst (IsStoreIn (setting_in u k.number) o.first) (after_append o.part.front before o.first ∙ ap (store_after before) (sym o.part.from))
-              (stored_in (o.part.front ++ before) (after ++ o.part.behind) (o.part.is ∙ ap (λ (zs : List Act). o.part.front ++ (zs ++ o.part.behind)) e ∙ regrouped o.part.front before after o.part.behind));
-          assigns = λ y h. collected k.number (Do k.head r.body) r.stands y ∙ in_body y (r.inside y (in_new y h));
-          reached = there.0;
-          tells = there.1;
-          turns = turns_there;
-        }
-          where
-            o : IsInExecution p t start s (run_all p old s (f ∷ fs) w).acts w
-            o = executed.outer
-
-            r : IsRoundBoth t u new [] k
-            r = (subst (AreRoundBoth t u new []) is here.loops).0
-
-            number : outermost_or s (nest_round t s) ≡ k.number
-            number = ap (outermost_or s) (old_nest ∙ is)
-
-            both : Some (Do k.head r.old_body) ≡ Some (Do o.loop.head o.loop.body)
-            both = sym r.stood ∙ ap (λ (j : ℕ). statement_with j t) (sym number) ∙ o.loop.is
-
-            heads : k.head ≡ o.loop.head
-            heads = same_head k.head o.loop.head r.old_body o.loop.body both
-
-            insides : r.old_body ≡ o.loop.body
-            insides = let e = both in cc
-
-            in_body : (y : List ℕ) → is_among y (assigned_in_all r.body) ≡ true → is_among y (assigned_in (Do k.head r.body)) ≡ true
-            in_body y h = among_rest y k.head.variable (k.head.private ++ assigned_in_all r.body) (among_right y k.head.private (assigned_in_all r.body) h)
-
-            unassigned : (y : List ℕ) → is_among y (setting_in u k.number).assigned ≡ false → is_among y (assigned_in_all (alone (Do o.loop.head o.loop.body))) ≡ false
-            unassigned y free =
-                ap (is_among y) (append-nil (assigned_in (Do o.loop.head o.loop.body)))
-                ∙ (λ i. is_among y (assigned_in (Do (sym heads i) (sym insides i))))
-                ∙ do_alike y k.head r.old_body r.body (sym (r.assigned y))
-                ∙ sym (collected k.number (Do k.head r.body) r.stands y)
-                ∙ free
-
-            abbrev outside : List Act
-            outside = (run p (Do o.loop.head o.loop.body) (outermost_or s (nest_round t s)) [] o.first).acts
-
-            stored_in : (before after : List Act) → outside ≡ before ++ after → IsStoreIn (setting_in u k.number) o.first (store_after before o.first)
-            stored_in before after e = record {
-              storable = subst (HoldsStorable (setting_in u k.number).loop_variables) (after_append o.execution.front before start ∙ ap (store_after before) (sym o.execution.from))
-                  (storable k.number (o.execution.front ++ before) (after ++ o.execution.behind) (o.execution.is ∙ ap (λ (zs : List Act). o.execution.front ++ (zs ++ o.execution.behind)) e ∙ regrouped o.execution.front before after o.execution.behind));
-              constant = λ y free.
-                  keeps_unassigned p (alone (Do o.loop.head o.loop.body)) (outermost_or s (nest_round t s)) [] o.first before after
-                  (ap (λ (z : Run). z.acts) (run_alone p (Do o.loop.head o.loop.body) (outermost_or s (nest_round t s)) [] o.first) ∙ e) y (unassigned y free);
-            }
-
-            there : Reached u (setting_in u k.number) o.first nest (f ∷ fs) × (variables_of (f ∷ fs) ≡ variables_behind [] nest)
-            there = reached_there t u same new (setting_in u k.number) outside o.first stored_in (f ∷ fs) nest executed.entered turns_there here.loops
+        by (k ∷ ls) is = come_inside f fs w turns_there k ls is executed.outer executed.entered

@@ -1,5 +1,5 @@
 -- Two DO loops become one: in an execution of the two no iteration of the first conflicts with an earlier one of the second, but on cells of the variables of DO loops.
-use Rattle.std.proofs.Common.{◌≡◌, ℕ, ◌+◌, ◌-◌, ◌≤◌, ◌<◌, ◌||◌, ◌&&◌, ◌⊎◌, ℤ, pos, List, [], ◌∷◌, ◌++◌, length, map, filter, Bool, true, false, inl, inr, refl, sym, ap, ◌∙◌, subst, append_assoc, arith, if◌then◌else◌}
+use Rattle.std.proofs.Common.{◌≡◌, ℕ, ◌+◌, ◌-◌, ◌≤◌, ◌<◌, ◌||◌, ◌&&◌, ◌⊎◌, ℤ, pos, List, [], ◌∷◌, ◌++◌, length, map, filter, All, Bool, true, false, inl, inr, refl, sym, ap, ◌∙◌, subst, append_assoc, arith, if◌then◌else◌}
 use Rattle.std.specs.Prelude.{◌+ℤ◌, ◌*ℤ◌, not}
 use Rattle.std.specs.Option.{unwrap_or}
 use Rattle.std.proofs.lemmas.Bool.{and_parts}
@@ -26,13 +26,14 @@ use Rattle.ped_reindex.specs.ped_loops.specs.ped_scalar.specs.ped_rules.specs.pe
 use Rattle.ped_reindex.specs.ped_loops.specs.ped_scalar.specs.ped_rules.specs.ped_loop_runs.proofs.LoopLaws.OneForOneStands.{own_within}
 use Rattle.ped_reindex.specs.ped_loops.specs.ped_scalar.specs.ped_rules.specs.ped_loop_runs.proofs.PastingLaws.ActNumbers.{all_in as acts_in}
 use Rattle.ped_reindex.specs.ped_loops.specs.ped_scalar.specs.ped_rules.specs.ped_loop_runs.proofs.PastingLaws.LeftCopies.{IsOwn, IsOfTrip, body_reaches}
-use Rattle.ped_reindex.specs.ped_loops.specs.ped_scalar.specs.ped_rules.specs.ped_loop_runs.specs.Carried.{AllStoreWithin, MakeConflict}
+use Rattle.ped_reindex.specs.ped_loops.specs.ped_scalar.specs.ped_rules.specs.ped_loop_runs.specs.Carried.{AllStoreWithin, IsCarriedInside, MakeConflict}
 use Rattle.ped_reindex.specs.ped_loops.specs.ped_scalar.specs.ped_rules.specs.ped_loop_runs.specs.Executions.{IsExecuted}
 use Rattle.ped_reindex.specs.ped_loops.specs.ped_scalar.specs.ped_rules.specs.ped_loop_runs.specs.Unrejected.{some_rejection}
 use Rattle.ped_reindex.specs.ped_loops.specs.ped_scalar.specs.ped_rules.specs.ped_loop_runs.specs.ped_bodies.specs.ped_steps.specs.ped_laws.specs.ped_flow.specs.ped_affine.specs.Ranges as ranges
 use Rattle.ped_reindex.specs.ped_loops.specs.ped_scalar.specs.ped_rules.specs.ped_loop_runs.specs.ped_bodies.specs.ped_steps.specs.ped_flow.specs.PlainBounds.{nest_round}
 use Rattle.ped_reindex.specs.ped_loops.specs.ped_scalar.specs.ped_rules.specs.ped_loop_runs.specs.ped_bodies.specs.ped_steps.specs.ped_laws.specs.ped_graph.specs.DependencePane.{extent_by, extent_of}
-use Rattle.ped_reindex.specs.ped_loops.specs.ped_scalar.specs.ped_rules.specs.ped_loop_runs.specs.ped_bodies.specs.ped_steps.specs.ped_laws.specs.ped_graph.specs.Dependences.{setting_in}
+use Rattle.ped_reindex.specs.ped_loops.specs.ped_scalar.specs.ped_rules.specs.ped_loop_runs.specs.ped_bodies.specs.ped_steps.specs.ped_laws.specs.ped_graph.specs.Dependences.{AreEdges, setting_in}
+use Rattle.ped_reindex.specs.ped_loops.specs.ped_scalar.specs.ped_rules.specs.ped_loop_runs.specs.ped_bodies.specs.ped_steps.specs.ped_laws.specs.ped_graph.specs.ped_edges.specs.Edges.{Edge}
 use Rattle.ped_reindex.specs.ped_loops.specs.ped_scalar.specs.ped_rules.specs.ped_loop_runs.specs.ped_bodies.specs.ped_steps.specs.ped_laws.proofs.ActLaws.Conflicting.{access_in, acts_of_blocks}
 use Rattle.ped_reindex.specs.ped_loops.specs.ped_scalar.specs.ped_rules.specs.ped_loop_runs.specs.ped_bodies.specs.ped_steps.specs.ped_laws.proofs.ActLaws.Lists.{in_left, in_right}
 use Rattle.ped_reindex.specs.ped_loops.specs.ped_scalar.specs.ped_rules.specs.ped_loop_runs.specs.ped_bodies.specs.ped_steps.specs.ped_laws.proofs.ActLaws.Renamings.{or_left, or_right}
@@ -62,17 +63,18 @@ use Rattle.ped_reindex.specs.ped_loops.specs.ped_scalar.specs.ped_rules.specs.pe
 use Rattle.ped_reindex.specs.ped_loops.specs.ped_scalar.specs.ped_rules.specs.ped_loop_runs.specs.ped_bodies.specs.ped_steps.specs.ped_laws.specs.ped_store.specs.Races.{Access, accesses_of, conflict, is_access, is_lines, is_write}
 use Rattle.ped_reindex.specs.ped_loops.specs.ped_scalar.specs.ped_rules.specs.ped_loop_runs.specs.ped_bodies.specs.ped_steps.specs.ped_laws.specs.ped_store.specs.Stores.{Store, store_at_start}
 use Rattle.ped_splits.proofs.CoverBodies as body
-use Rattle.ped_splits.proofs.CoverDependences.{IsMeeting, none_meet}
+use Rattle.ped_splits.proofs.CoverDependences.{IsMeeting, covered_by_all, none_meet}
 use Rattle.ped_splits.proofs.CoverGaps.{followed_numbered}
-use Rattle.ped_splits.proofs.CoverKinds.{fused_setting, fused_unrejected}
+use Rattle.ped_splits.proofs.CoverKinds.{fused_unrejected, setting_alike}
 use Rattle.ped_splits.proofs.CoverMade as made
 use Rattle.ped_splits.proofs.CoverMade.{HasCome, followed_variables, has_come, stands, new_nest}
 use Rattle.ped_splits.proofs.CoverNumbers.{as_first, as_second, gap_below, its_number, in_body_of, scope_stays, store_back, told_back}
 use Rattle.ped_splits.proofs.CoverTrips.{pair_acts, trips_before}
+use Rattle.ped_splits.proofs.CoverFacts.{AreSerial, are_serial}
 use Rattle.ped_splits.proofs.FuseFacts.{IsFusable, renamed, renamed_next, renamed_pair}
 use Rattle.ped_splits.proofs.JoinCrossing.{NoneCrosses, joined_variables, renamed_head, second_body, store_between}
 use Rattle.ped_reindex.specs.ped_loops.specs.ped_scalar.specs.ped_rules.specs.ped_loop_runs.specs.ped_bodies.specs.ped_steps.specs.ped_sums.specs.Substitution.{statements_substituted}
-use Rattle.ped_splits.specs.Fusing.{Match}
+use Rattle.ped_splits.specs.Fusing.{AreBack, Match, forbids_fusion}
 use Rattle.ped_splits.specs.Neighbours.{Neighbour, fused, next_number}
 
 -- a touch under new numbers, among those of an act
@@ -145,7 +147,7 @@ SameInitial {t0} {s} n =
     → (first : IsMadeOfTrips (setting_of (renamed n)) n.own n.own_body s scope v) (second : IsMadeOfTrips (setting_of (renamed n)) (renamed_head n) (second_body n) (next_number n) scope (store_between n scope v))
     → second.bounds.first ≡ first.bounds.first
 
-module _ (t0 : ProgramTree) (s : ℕ) (m : Match t0 s) (x : IsFusable t0 s m) (same : setting_of (fused m.neighbour) ≡ setting_of (renamed m.neighbour)) (plain : some_rejection (fused m.neighbour).body ≡ false) (data_bytes : List ℕ) (scope : Scope) (front behind : List Act) (v : Store)
+module _ (t0 : ProgramTree) (s : ℕ) (m : Match t0 s) (x : AreSerial t0 s m) (same : setting_of (fused m.neighbour) ≡ setting_of (renamed m.neighbour)) (data_bytes : List ℕ) (scope : Scope) (front behind : List Act) (v : Store)
     (executed : IsExecuted (setting_of (renamed m.neighbour)) (renamed m.neighbour) (store_at_start (lines data_bytes)) s (statements_count (renamed_pair m.neighbour)) scope front (run_all (setting_of (renamed m.neighbour)) (renamed_pair m.neighbour) s scope v).acts behind v)
     (goes : finish_of (run_all (setting_of (renamed m.neighbour)) (renamed_pair m.neighbour) s scope v).ending ≡ goes_on)
     (first : IsMadeOfTrips (setting_of (renamed m.neighbour)) m.neighbour.own m.neighbour.own_body s scope v) (next : IsMadeOfTrips (setting_of (renamed m.neighbour)) (renamed_head m.neighbour) (second_body m.neighbour) (next_number m.neighbour) scope (store_between m.neighbour scope v))
@@ -174,7 +176,7 @@ module _ (t0 : ProgramTree) (s : ℕ) (m : Match t0 s) (x : IsFusable t0 s m) (s
   abbrev g : ℕ → ℕ
   g = as_second s (next_number m.neighbour) (statements_count (second_body m.neighbour))
 
-  before : s < number
+  pub before : s < number
   before = omega arith
 
   abbrev e : Entered
@@ -189,10 +191,10 @@ module _ (t0 : ProgramTree) (s : ℕ) (m : Match t0 s) (x : IsFusable t0 s m) (s
   abbrev next_acts : List Act
   next_acts = (run (setting_of (renamed m.neighbour)) (renamed_next m.neighbour) (next_number m.neighbour) scope (store_between m.neighbour scope v)).acts
 
-  both : (run_all p (renamed_pair n) s scope v).acts ≡ first_acts ++ next_acts
+  pub both : (run_all p (renamed_pair n) s scope v).acts ≡ first_acts ++ next_acts
   both = pair_acts p (Do n.own n.own_body) n.between (renamed_next n) s number n.comments (omega arith) scope v goes
 
-  come : HasCome t0 s m x same data_bytes scope v
+  pub come : HasCome t0 s m x same data_bytes scope v
   come = has_come t0 s m x same data_bytes scope front behind v executed
 
   abbrev set : ranges.Setting
@@ -316,7 +318,7 @@ module _ (t0 : ProgramTree) (s : ℕ) (m : Match t0 s) (x : IsFusable t0 s m) (s
   first_stands_there : Stand t (s + 1) (all_numbered n.own_body)
   first_stands_there = inner_stands t (Do n.own n.own_body) (all_numbered n.own_body) s (first_stands t s (numbered (Do n.own n.own_body)) (all_numbered (followed n.between (alone (renamed_next n)))) pair_stands)
 
-  next_stands_there : Stand t (number + 1) (all_numbered (second_body n))
+  pub next_stands_there : Stand t (number + 1) (all_numbered (second_body n))
   next_stands_there =
       inner_stands t (renamed_next n) (all_numbered (second_body n)) number
       (first_stands t number (numbered (renamed_next n)) []
@@ -410,7 +412,7 @@ module _ (t0 : ProgramTree) (s : ℕ) (m : Match t0 s) (x : IsFusable t0 s m) (s
           pub sink : Reference
           pub inner : List Turn
           pub inner_first : List Turn
-          pub made : MakeConflict u come.first (moved f q.second) q.first source sink
+          pub pair : MakeConflict u come.first (moved f q.second) q.first source sink
           pub meeting : IsMeeting n (turns_of scope) inner inner_first (frame joined j).turn (frame joined i).turn (moved f q.second) q.first
 
         meets : Made u x.new_valid come.outer come.first q.first → Made u x.new_valid come.outer come.first (moved f q.second) → AreMade
@@ -419,7 +421,7 @@ module _ (t0 : ProgramTree) (s : ℕ) (m : Match t0 s) (x : IsFusable t0 s m) (s
           sink = sink.reference;
           inner = map (renumbered_turn f) other_more.0;
           inner_first = one_more.0;
-          made = record { at_source = source.scope; at_sink = sink.scope; before = source.store; behind = sink.store; made = source.is; makes = sink.is; conflicts = conflicts };
+          pair = record { at_source = source.scope; at_sink = sink.scope; before = source.store; behind = sink.store; made = source.is; makes = sink.is; conflicts = conflicts };
           meeting = record {
             at_first = other_place;
             at_second = one_place;
@@ -435,8 +437,12 @@ module _ (t0 : ProgramTree) (s : ℕ) (m : Match t0 s) (x : IsFusable t0 s m) (s
         pub are_made : AreMade
         are_made = meets (first_made made_turns.0 made_turns.1 q.of_first q.first_reference (one_place ∙ made_turns.2)) (next_made moved_turns.0 moved_turns.1 (moved_access f b q.second q.of_second) q.second_reference (other_place ∙ moved_turns.2))
 
-        none_there : ⊥
-        none_there = none_meet t0 s n come.first (moved f q.second) q.first are_made.source are_made.sink are_made.made (turns_of scope) are_made.inner are_made.inner_first (frame joined j).turn (frame joined i).turn are_made.meeting room plain x.unforbidden
+        none_there : some_rejection (fused m.neighbour).body ≡ false → ((edges : List Edge) → AreBack m.neighbour edges → All (λ e. forbids_fusion m.neighbour e ≡ false) edges) → ⊥
+        none_there plain unforbidden = none_meet t0 s n come.first (moved f q.second) q.first are_made.source are_made.sink are_made.pair (turns_of scope) are_made.inner are_made.inner_first (frame joined j).turn (frame joined i).turn are_made.meeting room plain unforbidden
+
+        -- whatever forbids the step, a dependence between them is carried by the one DO
+        pub covered_there : (edges : List Edge) → AreEdges u edges → IsCarriedInside u edges (turns_of scope) are_made.inner are_made.inner_first (moved f q.second) q.first
+        covered_there = covered_by_all t0 s n come.first (moved f q.second) q.first are_made.source are_made.sink are_made.pair (turns_of scope) are_made.inner are_made.inner_first (frame joined j).turn (frame joined i).turn are_made.meeting
 
     abbrev idle : Cell → Bool
     idle = is_cell_among (joined_variables m.neighbour)
@@ -459,8 +465,8 @@ module _ (t0 : ProgramTree) (s : ℕ) (m : Match t0 s) (x : IsFusable t0 s m) (s
             ∙ or_right (is_among y (all_loop_variables n.own_body)) (is_among y (all_loop_variables (followed n.between (second_body n))))
             (followed_variables y n.between (second_body n) ∙ or_right (is_among y (all_loop_variables n.between)) (is_among y (all_loop_variables (second_body n))) h))
 
-    pub uncrossed : blocks_conflict_outside idle (first.trip i) (next.trip j) ≡ false
-    uncrossed = go (blocks_conflict_outside idle (first.trip i) (next.trip j)) refl
+    pub uncrossed : some_rejection (fused m.neighbour).body ≡ false → ((edges : List Edge) → AreBack m.neighbour edges → All (λ e. forbids_fusion m.neighbour e ≡ false) edges) → blocks_conflict_outside idle (first.trip i) (next.trip j) ≡ false
+    uncrossed plain unforbidden = go (blocks_conflict_outside idle (first.trip i) (next.trip j)) refl
       where
         go : (b : Bool) → blocks_conflict_outside idle (first.trip i) (next.trip j) ≡ b → blocks_conflict_outside idle (first.trip i) (next.trip j) ≡ false
         go false h = h
@@ -468,9 +474,9 @@ module _ (t0 : ProgramTree) (s : ℕ) (m : Match t0 s) (x : IsFusable t0 s m) (s
             let q = acts_of_blocks idle (first.trip i) (next.trip j) h in
             let one = in_pair q.0 (in_left q.0 first_acts next_acts (subst (IsIn q.0) (sym first.acts) (trip_among (bounds_seen p n.own scope v) e scope (place_of p s scope) first.trip i (omega (arith, from, less)) to q.0 q.2))) in
             let other = in_pair q.1 (in_right q.1 first_acts next_acts (subst (IsIn q.1) (sym next.acts) (trip_among (bounds_seen p (renamed_head n) scope (store_between n scope v)) z scope (place_of p number scope) next.trip j from within q.1 q.3))) in
-            absurd (none_there q.0 q.1 q.2 q.3 (outside_of_run p t.body 1 [] (store_at_start (lines data_bytes)) idle q.0 q.1 one other (first_within q.0 q.2) (next_within q.1 q.3) q.4).0)
+            absurd (none_there q.0 q.1 q.2 q.3 (outside_of_run p t.body 1 [] (store_at_start (lines data_bytes)) idle q.0 q.1 one other (first_within q.0 q.2) (next_within q.1 q.3) q.4).0 plain unforbidden)
 
 -- so none crosses
 pub none_crosses : (t0 : ProgramTree) (s : ℕ) (m : Match t0 s) → IsFusable t0 s m → SameInitial m.neighbour → NoneCrosses m.neighbour
 none_crosses t0 s m x initial data_bytes ends scope front behind v executed goes first next i j from less to within =
-    uncrossed t0 s m x (fused_setting t0 s m x) (fused_unrejected m.neighbour x.trusted.unrejected) data_bytes scope front behind v executed goes first next (initial data_bytes ends scope front behind v executed goes first next) i j from less to within
+    uncrossed t0 s m (are_serial t0 s m x) (setting_alike t0 s m (are_serial t0 s m x)) data_bytes scope front behind v executed goes first next (initial data_bytes ends scope front behind v executed goes first next) i j from less to within (fused_unrejected m.neighbour x.trusted.unrejected) x.unforbidden

@@ -16,17 +16,17 @@ use Rattle.ped_reindex.specs.ped_loops.specs.ped_scalar.specs.ped_rules.specs.pe
 use Rattle.ped_reindex.specs.ped_loops.specs.ped_scalar.specs.ped_rules.specs.ped_loop_runs.specs.ped_bodies.specs.ped_steps.specs.ped_laws.specs.ped_store.specs.Stores.{Store}
 use Rattle.ped_splits.proofs.CoverGaps.{gap_loops}
 
-test_no : (a b : ℕ) → (a < b) ⊎ (b < a) → (a == b) ≡ false
+pub test_no : (a b : ℕ) → (a < b) ⊎ (b < a) → (a == b) ≡ false
 test_no a b apart = go (a == b) refl
   where
     go : (c : Bool) → (a == b) ≡ c → (a == b) ≡ false
     go false e = e
     go true e = let same : a ≡ b = eqb-true a b e in elim apart [ inl h ↦ absurd (omega (arith, h, same)) | inr h ↦ absurd (omega (arith, h, same)) ]
 
-less_no : (a b : ℕ) → b ≤ a → nat_lt a b ≡ false
+pub less_no : (a b : ℕ) → b ≤ a → nat_lt a b ≡ false
 less_no a b h = grind (arith, h)
 
-less_yes : (a b : ℕ) → a < b → nat_lt a b ≡ true
+pub less_yes : (a b : ℕ) → a < b → nat_lt a b ≡ true
 less_yes a b h = grind (arith, h)
 
 -- a number by what it is: that of the second DO, that of the first, one of the second one's body, or another
@@ -92,7 +92,7 @@ module _ (s m c : ℕ) (before : s < m) where
     | inr high ↦ elim (cases_lt m k) [
       | inl above ↦ elim (cases_lt k (m + c + 1)) [
         | inl within ↦ ap (as_second s m c) (in_body_of k above (omega (arith, within))) ∙ back_body (k - 1) (omega (arith, above)) (omega (arith, above, within)) ∙ one_less k above
-        | inr past ↦ ap (as_second s m c) (behind_second k (omega (arith, past))) ∙ back_behind k (omega (arith, past))
+        | inr beyond ↦ ap (as_second s m c) (behind_second k (omega (arith, beyond))) ∙ back_behind k (omega (arith, beyond))
       ]
       | inr same ↦ (let e : k ≡ m = omega (arith, high, same) in ap (λ (n : ℕ). as_second s m c (as_first s m c n)) e ∙ ap (as_second s m c) its_number ∙ back_first ∙ sym e)
     ]
@@ -121,15 +121,15 @@ module _ (s m c : ℕ) (before : s < m) where
   StandBelow [] = Unit {0}
   StandBelow (k ∷ ks) = (k.number < s) × StandBelow ks
 
-  abbrev AreBelow : List Turn → Type 0
+  abbrev pub AreBelow : List Turn → Type 0
   AreBelow [] = Unit {0}
   AreBelow (t ∷ ts) = (t.statement < s) × AreBelow ts
 
-  turns_below : (nest : List Loop) (ts : List Turn) → AreTurnsOf (λ n. n) nest ts → StandBelow nest → AreBelow ts
+  pub turns_below : (nest : List Loop) (ts : List Turn) → AreTurnsOf (λ n. n) nest ts → StandBelow nest → AreBelow ts
   turns_below [] [] h below = tt
   turns_below [] (t ∷ ts) h below = absurd h
   turns_below (k ∷ ks) [] h below = tt
-  turns_below (k ∷ ks) (t ∷ ts) h below = (let is = h.0 in let less = below.0 in omega (arith, is, less), turns_below ks ts h.2 below.1)
+  turns_below (k ∷ ks) (t ∷ ts) h below = ((let is = h.0 in let less = below.0 in omega (arith, is, less)), turns_below ks ts h.2 below.1)
 
   front_below : (ts : List Turn) (t : Turn) → AreBelow (ts ++ t ∷ []) → AreBelow ts × (t.statement < s)
   front_below [] t h = (tt, h.0)
@@ -150,4 +150,4 @@ module _ (s m c : ℕ) (before : s < m) where
   gap_below (past x gap) n e = gap_below gap (n + statement_count x) e
   gap_below (in_then a gap b rest) n e = gap_below gap (n + 1) e
   gap_below (in_else a b gap rest) n e = gap_below gap (n + 1 + statements_count b) e
-  gap_below (in_body d gap rest) n e = (let from = number_from gap (n + 1) in omega (arith, from, e), gap_below gap (n + 1) e)
+  gap_below (in_body d gap rest) n e = ((let from = number_from gap (n + 1) in omega (arith, from, e)), gap_below gap (n + 1) e)

@@ -36,21 +36,27 @@ module _ (p : Setting) (first : StmtTree) (between : StmtTrees) (second : StmtTr
   both = more_stmts first (followed between (alone second))
 
   module _ (goes : finish_of (run_all p (more_stmts first (followed between (alone second))) s scope v).ending ≡ goes_on) where
-    first_goes_on : finish_of (run p first s scope v).ending ≡ goes_on
+    pub first_goes_on : finish_of (run p first s scope v).ending ≡ goes_on
     first_goes_on = first_goes (run p first s scope v).acts (run p first s scope v).ending (run_all p (followed between (alone second)) (s + statement_count first) scope) goes
 
-    rest_is : (u : Store) → (run_all p (followed between (alone second)) (s + statement_count first) scope u).acts ≡ (run p second m scope u).acts
+    rest_is : (u : Store) → run_all p (followed between (alone second)) (s + statement_count first) scope u ≡ run p second m scope u
     rest_is u =
-        ap (λ (f : Store → Run). (f u).acts) (run_followed p between (alone second) (s + statement_count first) scope)
-        ∙ ap (λ (r : Run). (then_run r (run_all p (alone second) (s + statement_count first + statements_count between) scope)).acts) (quiet p between (s + statement_count first) scope u comments)
-        ∙ ap (λ (r : Run). r.acts) (run_alone p second (s + statement_count first + statements_count between) scope u)
-        ∙ ap (λ (k : ℕ). (run p second k scope u).acts) (omega (arith, comments, place))
+        ap (λ (f : Store → Run). f u) (run_followed p between (alone second) (s + statement_count first) scope)
+        ∙ ap (λ (r : Run). then_run r (run_all p (alone second) (s + statement_count first + statements_count between) scope)) (quiet p between (s + statement_count first) scope u comments)
+        ∙ run_alone p second (s + statement_count first + statements_count between) scope u
+        ∙ ap (λ (k : ℕ). run p second k scope u) (let there : s + statement_count first + statements_count between ≡ m = omega (arith, comments, place) in there)
 
     -- what both do
     pub pair_acts : (run_all p (more_stmts first (followed between (alone second))) s scope v).acts ≡ (run p first s scope v).acts ++ (run p second m scope (store_after (run p first s scope v).acts v)).acts
     pair_acts =
         ap (λ (r : Run). r.acts) (parted_more (run p first s scope) (run_all p (followed between (alone second)) (s + statement_count first) scope) (run_told p first s scope) v first_goes_on)
-        ∙ ap (λ (zs : List Act). (run p first s scope v).acts ++ zs) (rest_is (store_after (run p first s scope v).acts v))
+        ∙ ap (λ (r : Run). (run p first s scope v).acts ++ r.acts) (rest_is (store_after (run p first s scope v).acts v))
+
+    pub second_goes_on : finish_of (run p second m scope (store_after (run p first s scope v).acts v)).ending ≡ goes_on
+    second_goes_on =
+        ap (λ (r : Run). finish_of r.ending) (sym (rest_is (store_after (run p first s scope v).acts v)))
+        ∙ sym (ap (λ (r : Run). finish_of r.ending) (parted_more (run p first s scope) (run_all p (followed between (alone second)) (s + statement_count first) scope) (run_told p first s scope) v first_goes_on))
+        ∙ goes
 
 -- trips one behind another
 module _ (e : Entered) (scope : Scope) (at : Place) (trip : ℕ → List Act) where
@@ -58,9 +64,10 @@ module _ (e : Entered) (scope : Scope) (at : Place) (trip : ℕ → List Act) wh
   one j = trip j ++ trip_end e scope at j
 
   many : (k a b : ℕ) → flat_map one (range_with_len k (a + b)) ≡ flat_map one (range_with_len k a) ++ flat_map one (range_with_len (k + a) b)
-  many k zero b = ap (λ (j : ℕ). flat_map one (range_with_len j b)) (omega arith)
+  many k zero b = ap (λ (j : ℕ). flat_map one (range_with_len k j)) (let none : 0 + b ≡ b = omega arith in none) ∙ ap (λ (j : ℕ). flat_map one (range_with_len j b)) (let none : k ≡ k + 0 = omega arith in none)
   many k (suc a) b =
-      ap (λ (zs : List Act). one k ++ zs) (many (k + 1) a b ∙ ap (λ (j : ℕ). flat_map one (range_with_len (k + 1) a) ++ flat_map one (range_with_len j b)) (let e : k + 1 + a ≡ k + suc a = omega arith in e))
+      ap (λ (j : ℕ). flat_map one (range_with_len k j)) (let more : suc a + b ≡ suc (a + b) = omega arith in more)
+      ∙ ap (λ (zs : List Act). one k ++ zs) (many (k + 1) a b ∙ ap (λ (j : ℕ). flat_map one (range_with_len (k + 1) a) ++ flat_map one (range_with_len j b)) (let e : k + 1 + a ≡ k + suc a = omega arith in e))
       ∙ sym (append_assoc (one k) (flat_map one (range_with_len (k + 1) a)) (flat_map one (range_with_len (k + suc a) b)))
 
   -- what is left behind the first trips

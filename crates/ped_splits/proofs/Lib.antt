@@ -22,6 +22,7 @@ mod JoinPlain
 mod JoinedFacts
 mod JoinKeeps
 mod JoinInitial
+mod CoverFacts
 mod CoverGaps
 mod CoverElements
 mod CoverStores
@@ -33,6 +34,7 @@ mod CoverTrips
 mod CoverDependences
 mod CoverKinds
 mod CoverMeets
+mod CoverConflicts
 mod JoinCrossing
 mod Here
 mod DistributeAnswers

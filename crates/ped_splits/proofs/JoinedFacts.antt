@@ -20,7 +20,7 @@ module _ (t : ProgramTree) (s : ℕ) (m : Match t s) (f : IsFusable t s m) where
   same_constants : (setting_of (renamed m.neighbour)).constants ≡ (setting_of t).constants
   same_constants = same_values t (renamed m.neighbour) refl
 
-  pub are_joined : AreJoined (renamed m.neighbour) (fused m.neighbour) s
+  abbrev pub are_joined : AreJoined (renamed m.neighbour) (fused m.neighbour) s
   are_joined = record {
     gap = m.neighbour.gap;
     own = m.neighbour.own;

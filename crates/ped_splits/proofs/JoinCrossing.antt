@@ -1,5 +1,5 @@
 -- What two DO loops must not do that become one: a later iteration of the first one and an earlier one of the second conflict on no cell that counts.
-use Rattle.std.proofs.Common.{◌≡◌, ℕ, ◌≤◌, ◌<◌, List, Bool, false}
+use Rattle.std.proofs.Common.{◌≡◌, ℕ, ◌≤◌, ◌<◌, List, false}
 use Rattle.std.specs.Str.Lines.{lines}
 use Rattle.ped_tree.specs.Tree.{Head, StmtTrees, Do, ProgramTree}
 use Rattle.ped_tree.specs.NamesIn.{loop_variables}

@@ -2,6 +2,26 @@ pub mod OneBlocks
 pub mod DistributeRules
 pub mod FuseRules
 mod FuseFacts
+mod JoinFacts
+mod JoinParts
+mod JoinBounds
+mod JoinNumbers
+mod JoinRuns
+mod JoinNames
+mod JoinOrders
+mod JoinUnread
+mod JoinExits
+mod JoinSame
+mod JoinLive
+mod JoinLiveGaps
+mod JoinDead
+mod JoinTouches
+mod JoinWoven
+mod JoinAccesses
+mod JoinPlain
+mod JoinedFacts
+mod JoinKeeps
+mod JoinInitial
 mod CoverFacts
 mod CoverGaps
 mod CoverElements

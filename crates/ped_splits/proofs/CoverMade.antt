@@ -43,7 +43,7 @@ use Rattle.ped_reindex.specs.ped_loops.specs.ped_scalar.specs.ped_rules.specs.pe
 use Rattle.ped_splits.proofs.CoverGaps.{gap_loops, gap_nest, IsInGap, in_gap, AreRoundBoth, IsRoundBoth, followed_assigned}
 use Rattle.ped_splits.proofs.CoverReached.{reached_there}
 use Rattle.ped_splits.proofs.CoverStores.{keeps_unassigned, holds_behind, holds_at_start}
-use Rattle.ped_splits.proofs.CoverFacts.{AreSerial}
+use Rattle.ped_splits.proofs.CoverFacts.{MayFuse}
 use Rattle.ped_splits.proofs.FuseFacts.{renamed, renamed_pair, renamed_next}
 use Rattle.ped_splits.specs.Fusing.{Match}
 use Rattle.ped_splits.specs.Neighbours.{Neighbour, fused, joined_head, renamed_body}
@@ -70,7 +70,7 @@ do_alike : (y : List ℕ) (h : Head) (b other : StmtTrees) → is_among y (assig
 do_alike y h b other e =
     ap (λ (z : Bool). is_same_text y h.variable || z) (among_append y h.private (assigned_in_all b) ∙ ap (λ (z : Bool). is_among y h.private || z) e ∙ sym (among_append y h.private (assigned_in_all other)))
 
-module _ (t0 : ProgramTree) (s : ℕ) (m : Match t0 s) (x : AreSerial t0 s m) (same : setting_of (fused m.neighbour) ≡ setting_of (renamed m.neighbour)) where
+module _ (t0 : ProgramTree) (s : ℕ) (m : Match t0 s) (x : MayFuse t0 s m) (same : setting_of (fused m.neighbour) ≡ setting_of (renamed m.neighbour)) where
   abbrev n : Neighbour t0 s
   n = m.neighbour
 

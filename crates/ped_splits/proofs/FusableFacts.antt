@@ -20,6 +20,7 @@ use Rattle.ped_splits.specs.Neighbours.{fused, next_number, opened_at, kept_with
 use Rattle.ped_splits.specs.Fusing.{Match, MakesFused, WhereEither, IsBrokenInFusion, IsShownInFusion, WhereFusionEscapes, WhereNoMatch, WhereFusedLimit, StandsAgainstFusion, IsFusionCause}
 use Rattle.ped_splits.proofs.AlikeDecided.{match_decided}
 use Rattle.ped_splits.proofs.Contained.{least}
+use Rattle.ped_splits.proofs.CoverFacts.{MayFuse}
 use Rattle.ped_splits.proofs.FuseFacts.{IsFusable}
 use Rattle.ped_splits.proofs.FuseOne.{one_made}
 use Rattle.ped_splits.proofs.FuseRules as rules
@@ -104,6 +105,20 @@ module _ (t : ProgramTree) (s : ℕ) (none : NoRule (StandsAgainstFusion s t)) w
         by (inr not) =
             absurd (not_this BoundNotPlain (WhereUnplain t s (IsItsBound t s)) (rules.alone_rule s t) none_but_escape s
             (own_loop t s m.neighbour, ((e, (refl, own_loop t s m.neighbour, bound), not), λ n p. let at : n ≡ s = p.1.0 in omega (arith, at))))
+
+-- two DO loops that no rule forbids to become one
+pub no_rule_forbids : (t : ProgramTree) (s : ℕ) (m : Match t s) → IsValid t → NoRule (StandsAgainstFusion s t) → MayFuse t s m
+no_rule_forbids t s m valid none = record {
+  valid = valid;
+  new_valid = is_valid t s none m;
+  own_serial = own_fails t s none m is_parallel (no_state t s none m);
+  next_serial = next_fails t s none m is_parallel (no_state t s none m);
+  own_unprivate = none_in m.neighbour.own.private (own_fails t s none m has_private (no_private t s none m));
+  next_unprivate = none_in m.neighbour.next.private (next_fails t s none m has_private (no_private t s none m));
+  new_contained =
+      contained_by (fused m.neighbour) s (λ n b. unbroken t s none (opened_at (next_number m.neighbour) n) (inr (inr (m, n, b, refl)))) (λ shown. unshown t s none (inr (inr (m, shown))));
+  plain = its_bounds t s none m;
+}
 
 -- two DO loops that no rule and no dependence forbids to become one
 pub is_fusable : (t : ProgramTree) (s : ℕ) (m : Match t s) → IsValid t → IsTrusted t → IsFusionCause s t None → IsFusable t s m

@@ -2,6 +2,40 @@ pub mod OneBlocks
 pub mod DistributeRules
 pub mod FuseRules
 mod FuseFacts
+mod JoinFacts
+mod JoinParts
+mod JoinBounds
+mod JoinNumbers
+mod JoinRuns
+mod JoinNames
+mod JoinOrders
+mod JoinUnread
+mod JoinExits
+mod JoinSame
+mod JoinLive
+mod JoinLiveGaps
+mod JoinDead
+mod JoinTouches
+mod JoinWoven
+mod JoinAccesses
+mod JoinPlain
+mod JoinedFacts
+mod JoinKeeps
+mod JoinInitial
+mod CoverFacts
+mod CoverGaps
+mod CoverElements
+mod CoverStores
+mod CoverReached
+mod CoverNumbers
+mod CoverMade
+mod CoverBodies
+mod CoverTrips
+mod CoverDependences
+mod CoverKinds
+mod CoverMeets
+mod CoverConflicts
+mod JoinCrossing
 pub mod NeighbourFound
 pub mod AlikeDecided
 mod NeighbourLoops

@@ -5,5 +5,6 @@ pub mod Blocks
 pub mod Distributing
 pub mod Neighbours
 pub mod Fusing
+pub mod OneVariable
 pub mod CodeUnits
 pub mod CodeFusing

@@ -2,6 +2,12 @@ pub mod OneBlocks
 pub mod DistributeRules
 pub mod FuseRules
 mod FuseFacts
+mod RenameGaps
+mod RenameUnread
+mod RenameActs
+mod RenameFacts
+mod RenamePaths
+mod RenameTrips
 mod Here
 mod DistributeAnswers
 mod BlockOrders

@@ -1,5 +1,11 @@
 use Rattle.std.proofs.Common.{ℕ}
 use Rattle.ped_splits.proofs.FuseRules.{chain}
+use Rattle.ped_splits.proofs.RenameGaps.{next_loop}
+use Rattle.ped_splits.proofs.RenameActs.{turned_stripped, turned_referred}
+use Rattle.ped_splits.proofs.RenameFacts.{renaming}
+use Rattle.ped_splits.proofs.RenamePaths.{live_before}
+use Rattle.ped_splits.proofs.RenameTrips.{rests_turned}
+use Rattle.ped_splits.proofs.RenameUnread.{unread_cells, plain_unnamed}
 use Rattle.ped_splits.proofs.laws.fusion_is_lawful.Goals as goal
 
 pub returns : goal.returns

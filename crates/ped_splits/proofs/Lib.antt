@@ -8,6 +8,15 @@ mod RenameActs
 mod RenameFacts
 mod RenamePaths
 mod RenameTrips
+mod RenameStands
+mod RenameLost
+mod RenameKinds
+mod RenameRound
+mod RenameInside
+mod RenamePlaces
+mod RenameAsked
+mod RenameRaces
+mod RenameKeeps
 mod Here
 mod DistributeAnswers
 mod BlockOrders

@@ -7,7 +7,7 @@ use Rattle.std.proofs.lemmas.List.{map-append}
 use Rattle.std.proofs.lemmas.List.Elements.{filter-append}
 use Rattle.std.proofs.lemmas.Grind.{flat_map-append}
 use Rattle.ped_reindex.specs.ped_loops.specs.ped_scalar.specs.ped_rules.specs.ped_loop_runs.specs.ped_bodies.specs.ped_steps.specs.ped_laws.specs.ped_store.specs.Cells.{Cell}
-use Rattle.ped_reindex.specs.ped_loops.specs.ped_scalar.specs.ped_rules.specs.ped_loop_runs.specs.ped_bodies.specs.ped_steps.specs.ped_laws.specs.ped_store.specs.Acts.{Act, Manner, Place, Touch, Turn, is_told, reads, writes}
+use Rattle.ped_reindex.specs.ped_loops.specs.ped_scalar.specs.ped_rules.specs.ped_loop_runs.specs.ped_bodies.specs.ped_steps.specs.ped_laws.specs.ped_store.specs.Acts.{Act, Manner, Place, Step, Touch, is_told, reads, writes}
 use Rattle.ped_reindex.specs.ped_loops.specs.ped_scalar.specs.ped_rules.specs.ped_loop_runs.specs.ped_bodies.specs.ped_steps.specs.ped_laws.specs.ped_store.specs.Races.{Access, accesses, accesses_of, is_access, is_lines, is_write}
 use Rattle.ped_reindex.specs.ped_loops.specs.ped_scalar.specs.ped_rules.specs.ped_loop_runs.specs.ped_bodies.specs.ped_steps.specs.ped_laws.specs.Acts.Conflicts.{touches_without, without}
 use Rattle.ped_reindex.specs.ped_loops.specs.ped_scalar.specs.ped_rules.specs.ped_loop_runs.specs.ped_bodies.specs.ped_steps.specs.ped_laws.specs.Acts.Fitting.{has_cell, of_cells, touches_of}
@@ -246,3 +246,31 @@ module _ (c d : Cell) where
           go true g more = elim (subst (IsIn u) (stays_first w ts g) i) [ inl f ↦ inl f | inr n ↦ inr (more n) ]
           go false g more = inr (more (subst (IsIn u) (goes_first w ts g) i))
   turned_writes (a ∷ acts) (y ∷ ys) h b (inr i) v j k = elim (turned_writes acts ys h.1 b i v j k) [ inl r ↦ inl (written_append (a ∷ []) acts v.cell ∙ or_right (written (a ∷ []) v.cell) (written acts v.cell) r) | inr e ↦ inr e ]
+
+-- what an exit does by references doesn't tell which further names it makes undefined
+module _ (step : Step) (place : Place) (first : List Touch) where
+  unmade : (xs : List Touch) → ((v : Touch) → IsIn v xs → v.reference ≡ 0) → filter by_reference (accesses_of (record { step = step; place = place; touches = first ++ xs })) ≡ filter by_reference (accesses_of (record { step = step; place = place; touches = first }))
+  unmade xs none =
+      ap (λ (us : List Touch). filter by_reference (map made us)) (filter-append is_access first xs)
+      ∙ ap (filter by_reference) (map-append made (filter is_access first) (filter is_access xs))
+      ∙ filter-append by_reference (map made (filter is_access first)) (map made (filter is_access xs))
+      ∙ (λ i. filter by_reference (map made (filter is_access first)) ++ nothing xs none i)
+      ∙ append-nil (filter by_reference (map made (filter is_access first)))
+    where
+      made : Touch → Access
+      made v = record { cell = v.cell; writes = is_write v.manner; place = place; reference = v.reference }
+
+      nothing : (ys : List Touch) → ((v : Touch) → IsIn v ys → v.reference ≡ 0) → filter by_reference (map made (filter is_access ys)) ≡ []
+      nothing [] h = refl
+      nothing (y ∷ ys) h = go (is_access y) refl (nothing ys (λ v i. h v (inr i)))
+        where
+          go : (b : Bool) → is_access y ≡ b → filter by_reference (map made (filter is_access ys)) ≡ [] → filter by_reference (map made (filter is_access (y ∷ ys))) ≡ []
+          go true e more = ap (λ (us : List Touch). filter by_reference (map made us)) (filter_first is_access y ys e) ∙ filter_other by_reference (made y) (map made (filter is_access ys)) (ap (nat_lt 0) (h y (inl refl))) ∙ more
+          go false e more = ap (λ (us : List Touch). filter by_reference (map made us)) (filter_other is_access y ys e) ∙ more
+
+  pub exits_referred : (xs ys : List Touch) → ((v : Touch) → IsIn v xs → v.reference ≡ 0) → ((v : Touch) → IsIn v ys → v.reference ≡ 0)
+      → referred ((record { step = step; place = place; touches = first ++ xs }) ∷ []) ≡ referred ((record { step = step; place = place; touches = first ++ ys }) ∷ [])
+  exits_referred xs ys h k =
+      filter-append by_reference (accesses_of (record { step = step; place = place; touches = first ++ xs })) []
+      ∙ (λ i. (unmade xs h ∙ sym (unmade ys k)) i ++ [])
+      ∙ sym (filter-append by_reference (accesses_of (record { step = step; place = place; touches = first ++ ys })) [])

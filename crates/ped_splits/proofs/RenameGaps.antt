@@ -71,7 +71,7 @@ module _ (t : ProgramTree) (z : StmtTree) (zs : StmtTrees) where
       stands_at gap (n + 1) (inner_stands t (Do g it) (all_numbered it) n (first_stands t n (numbered (Do g it)) (all_numbered rest) h))
 
 -- the DO loops round a gap
-abbrev loops_of_gap : Gap → ℕ → List Loop
+abbrev pub loops_of_gap : Gap → ℕ → List Loop
 loops_of_gap (at_front rest) n = []
 loops_of_gap (past z gap) n = loops_of_gap gap (n + statement_count z)
 loops_of_gap (in_then c gap other rest) n = loops_of_gap gap (n + 1)
@@ -82,7 +82,7 @@ past_loops : (between : StmtTrees) (gap : Gap) (n : ℕ) → loops_of_gap (past_
 past_loops no_stmts gap n = let e : n ≡ n + 0 = omega arith in ap (loops_of_gap gap) e
 past_loops (more_stmts z rest) gap n = past_loops rest gap (n + statement_count z) ∙ (let e : n + statement_count z + statements_count rest ≡ n + statements_count (more_stmts z rest) = omega arith in ap (loops_of_gap gap) e)
 
-pair_loops : (first : StmtTree) (between : StmtTrees) (gap : Gap) (n : ℕ) → loops_of_gap (behind_first gap first between) n ≡ loops_of_gap gap n
+pub pair_loops : (first : StmtTree) (between : StmtTrees) (gap : Gap) (n : ℕ) → loops_of_gap (behind_first gap first between) n ≡ loops_of_gap gap n
 pair_loops first between (at_front rest) n = past_loops between (at_front rest) (n + statement_count first)
 pair_loops first between (past z gap) n = pair_loops first between gap (n + statement_count z)
 pair_loops first between (in_then c gap other rest) n = pair_loops first between gap (n + 1)
@@ -91,7 +91,7 @@ pair_loops first between (in_body h gap rest) n = ap (λ (ls : List Loop). loop 
 
 -- they are those round what stands at its front
 module _ (l : ℕ) (it : StmtTrees) (some : 1 ≤ statements_count it) where
-  nest_at : (gap : Gap) (n : ℕ) → number_at gap n ≡ l → all_loops_round l (filled gap it) n ≡ loops_of_gap gap n
+  pub nest_at : (gap : Gap) (n : ℕ) → number_at gap n ≡ l → all_loops_round l (filled gap it) n ≡ loops_of_gap gap n
   nest_at (at_front rest) n e = all_none_from l (followed it rest) n (omega (arith, e))
   nest_at (past z gap) n e =
       let from = number_from gap (n + statement_count z) in

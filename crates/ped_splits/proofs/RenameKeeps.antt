@@ -5,7 +5,7 @@ use Rattle.std.proofs.lemmas.Bool.{both_ways, or_parts}
 use Rattle.ped_base.proofs.NameEquality.{same_is}
 use Rattle.ped_base.specs.Lists.{is_among, is_same_text}
 use Rattle.ped_tree.specs.NamesIn.{all_loop_variables, stmts_names}
-use Rattle.ped_tree.specs.Numbering.{statements_count}
+use Rattle.ped_tree.specs.Numbering.{statement_with, statements_count}
 use Rattle.ped_tree.specs.Tree.{Do, ProgramTree, StmtTree, StmtTrees, Var}
 use Rattle.ped_reindex.specs.ped_loops.specs.ped_scalar.specs.ped_rules.specs.ped_loop_runs.proofs.LoopLaws.OneForOneCells.{cell_among}
 use Rattle.ped_reindex.specs.ped_loops.specs.ped_scalar.specs.ped_rules.specs.ped_loop_runs.proofs.LoopLaws.OneForOneStands.{run_alone}
@@ -25,15 +25,17 @@ use Rattle.ped_reindex.specs.ped_loops.specs.ped_scalar.specs.ped_rules.specs.pe
 use Rattle.ped_reindex.specs.ped_loops.specs.ped_scalar.specs.ped_rules.specs.ped_loop_runs.specs.ped_bodies.specs.ped_steps.specs.ped_sums.specs.Substitution.{statements_substituted}
 use Rattle.ped_reindex.specs.ped_loops.specs.ped_scalar.specs.ped_rules.specs.ped_loop_runs.specs.ped_bodies.specs.ped_steps.specs.ped_laws.proofs.FlowRunLaws.Stopping.{fitting_stops, loop_stops}
 use Rattle.ped_reindex.specs.ped_loops.specs.ped_scalar.specs.ped_rules.specs.ped_loop_runs.specs.ped_bodies.specs.ped_steps.proofs.RunLaws.ExpandedRacesOrigins.{IsTold}
+use Rattle.ped_reindex.specs.ped_loops.specs.ped_scalar.specs.ped_rules.specs.ped_loop_runs.specs.ped_bodies.specs.ped_steps.specs.ped_laws.proofs.ActLaws.Lists.{in_left, in_right}
 use Rattle.ped_reindex.specs.ped_loops.specs.ped_scalar.specs.ped_rules.specs.ped_loop_runs.specs.ped_bodies.specs.ped_steps.specs.ped_laws.proofs.RunLaws.StatementsTold.{all_told}
+use Rattle.ped_reindex.specs.ped_loops.specs.ped_scalar.specs.ped_rules.specs.ped_loop_runs.specs.ped_bodies.specs.ped_steps.specs.ped_laws.proofs.RunLaws.Turning.{once_among}
 use Rattle.ped_reindex.specs.ped_loops.specs.ped_scalar.specs.ped_rules.specs.ped_loop_runs.specs.ped_bodies.specs.ped_steps.specs.ped_laws.specs.Acts.Fitting.{Fits, store_after}
 use Rattle.ped_reindex.specs.ped_loops.specs.ped_scalar.specs.ped_rules.specs.ped_loop_runs.specs.ped_bodies.specs.ped_steps.specs.ped_laws.specs.Acts.Orders.{IsIn}
 use Rattle.ped_reindex.specs.ped_loops.specs.ped_scalar.specs.ped_rules.specs.ped_loop_runs.specs.ped_bodies.specs.ped_steps.specs.ped_laws.specs.Acts.Pieces.{Part, StandsFor, changed, new_parts, old_parts, same}
 use Rattle.ped_reindex.specs.ped_loops.specs.ped_scalar.specs.ped_rules.specs.ped_loop_runs.specs.ped_bodies.specs.ped_steps.specs.ped_laws.specs.Acts.Sets.{wants}
 use Rattle.ped_reindex.specs.ped_loops.specs.ped_scalar.specs.ped_rules.specs.ped_loop_runs.specs.ped_bodies.specs.ped_steps.specs.ped_laws.specs.FlowRuns.Covering.{is_cell_of}
-use Rattle.ped_reindex.specs.ped_loops.specs.ped_scalar.specs.ped_rules.specs.ped_loop_runs.specs.ped_bodies.specs.ped_steps.specs.ped_laws.specs.Runs.Replaying.{Replays, ending_with, finish_of, goes_on}
+use Rattle.ped_reindex.specs.ped_loops.specs.ped_scalar.specs.ped_rules.specs.ped_loop_runs.specs.ped_bodies.specs.ped_steps.specs.ped_laws.specs.Runs.Replaying.{Replays, act, ending_with, finish_of, goes_on}
 use Rattle.ped_reindex.specs.ped_loops.specs.ped_scalar.specs.ped_rules.specs.ped_loop_runs.specs.ped_bodies.specs.ped_steps.specs.ped_laws.specs.Runs.Showing.{shown_at_end}
-use Rattle.ped_reindex.specs.ped_loops.specs.ped_scalar.specs.ped_rules.specs.ped_loop_runs.specs.ped_bodies.specs.ped_steps.specs.ped_laws.specs.ped_eval.specs.Loops.{undefined_all}
+use Rattle.ped_reindex.specs.ped_loops.specs.ped_scalar.specs.ped_rules.specs.ped_loop_runs.specs.ped_bodies.specs.ped_steps.specs.ped_laws.specs.ped_eval.specs.Loops.{entered_with, frame, undefined_all}
 use Rattle.ped_reindex.specs.ped_loops.specs.ped_scalar.specs.ped_rules.specs.ped_loop_runs.specs.ped_bodies.specs.ped_steps.specs.ped_laws.specs.ped_eval.specs.Outcomes.{Ends, run_of, setting_of}
 use Rattle.ped_reindex.specs.ped_loops.specs.ped_scalar.specs.ped_rules.specs.ped_loop_runs.specs.ped_bodies.specs.ped_steps.specs.ped_laws.specs.ped_eval.specs.Runs.{Run, run, run_all}
 use Rattle.ped_reindex.specs.ped_loops.specs.ped_scalar.specs.ped_rules.specs.ped_loop_runs.specs.ped_bodies.specs.ped_steps.specs.ped_laws.specs.ped_eval.specs.Scopes.{Scope, Setting, cell_of, place_of, turns_of}
@@ -45,10 +47,14 @@ use Rattle.ped_reindex.proofs.StripsBounds.{AreBeside}
 use Rattle.ped_splits.proofs.FuseFacts.{IsFusable, renamed, renamed_next}
 use Rattle.ped_splits.proofs.RenameFacts.{IsRenaming, renaming}
 use Rattle.ped_splits.proofs.RenameGaps.{next_gap, next_loop, next_new, next_numbered, next_old}
+use Rattle.ped_splits.proofs.RenameAsked.{unwanted_exit}
+use Rattle.ped_splits.proofs.RenameInside.{loses_inside, next_inside, own_inside}
+use Rattle.ped_splits.proofs.RenamePlaces.{copy_lost, lost_turn, stands_in}
 use Rattle.ped_splits.proofs.RenameKinds.{renamed_live, renamed_setting}
-use Rattle.ped_splits.proofs.RenameLost.{is_lost, lost_named}
+use Rattle.ped_splits.proofs.RenameLost.{is_lost, lost_named, loses}
 use Rattle.ped_splits.proofs.RenameActs.{AreTurned, exits_referred, referred, referred_append, turned_referred}
 use Rattle.ped_splits.proofs.RenameRaces.{no_race_comes}
+use Rattle.ped_splits.proofs.RenameRound.{round_renamed}
 use Rattle.ped_splits.proofs.RenameStands.{does_renamed, stands_renamed, turned_renamed}
 use Rattle.ped_splits.proofs.RenameTrips.{one_among}
 use Rattle.ped_splits.specs.Fusing.{Match}
@@ -125,7 +131,7 @@ module _ (t : ProgramTree) (s : ℕ) (x : Neighbour t s) (r : IsRenaming t s x) 
       ∙ sym (ap (is_among y) (append-nil (J ∷ all_loop_variables x.next_body)))
 
   round : OfParallelRound (HasOtherCopies names apart p old new) gap 1
-  round = ?round
+  round = round_renamed t s x r
 
   pasted : IsPastedBut names apart p q gap old new t u
   pasted = record {
@@ -141,6 +147,22 @@ module _ (t : ProgramTree) (s : ℕ) (x : Neighbour t s) (r : IsRenaming t s x) 
     round = round;
   }
 
+  names_only : (y : List ℕ) → is_among y names ≡ true → (y ≡ I) ⊎ (y ≡ J)
+  names_only y i = go (is_same_text y I) refl (is_same_text y J) refl i
+    where
+      go : (b : Bool) → is_same_text y I ≡ b → (c : Bool) → is_same_text y J ≡ c → b || (c || false) ≡ true → (y ≡ I) ⊎ (y ≡ J)
+      go true e c f h = inl (same_is y I e)
+      go false e true f h = inr (same_is y J f)
+      go false e false f h = absurd cc
+
+  named : (S : Scope) (y : List ℕ) → is_cell_of J (cell_of S y) ≡ true → is_same_text J y ≡ true
+  named [] y h = h
+  named (f ∷ S) y h = go (is_among y f.private) h
+    where
+      go : (b : Bool) → is_cell_of J (if b then Private y (iterations_of (turns_of (f ∷ S))) else cell_of S y) ≡ true → is_same_text J y ≡ true
+      go true k = k
+      go false k = named S y k
+
   -- at a place near it all but the variable of the second DO stands for the same
   beside : (scope other : Scope) → Near scope other → AreBeside J scope other
   beside scope other near = record {
@@ -151,14 +173,6 @@ module _ (t : ProgramTree) (s : ℕ) (x : Neighbour t s) (r : IsRenaming t s x) 
       | inr n ↦ absurd (both_ways (is_same_text J y) other_name (named scope y (lost_named t J k (cell_of scope y) n.1)))
     ];
   }
-    where
-      named : (S : Scope) (y : List ℕ) → is_cell_of J (cell_of S y) ≡ true → is_same_text J y ≡ true
-      named [] y h = h
-      named (f ∷ S) y h = go (is_among y f.private) h
-        where
-          go : (b : Bool) → is_cell_of J (if b then Private y (iterations_of (turns_of (f ∷ S))) else cell_of S y) ≡ true → is_same_text J y ≡ true
-          go true k = k
-          go false k = named S y k
 
   module _ (data_bytes : List ℕ) (ends : Ends (run_of t data_bytes).ending) where
     abbrev start : Store
@@ -206,7 +220,42 @@ module _ (t : ProgramTree) (s : ℕ) (x : Neighbour t s) (r : IsRenaming t s x) 
       where
         asked_of : (front behind : List Act) (v : Store) (before after : List Act) → (e : IsOtherExit names apart p t start k front behind v before after) → (y : List ℕ) → is_among y names ≡ true
             → IsUndefinedInBoth e y ⊎ ((is_among y e.undefined ≡ true → wants (shown_at_end t) behind (cell_of e.scope y) ≡ false) × (is_among y e.undefined_now ≡ true → wants (shown_at_end t) behind (cell_of e.other y) ≡ false))
-        asked_of front behind v before after e y among = ?asked
+        asked_of front behind v before after e y among = inr ((λ there. old_one), new_one (e.near.cell y))
+          where
+            in_body : is_among y (all_loop_variables e.round.loop.body) ≡ true
+            in_body = elim (names_only y among) [
+              | inl own ↦ ap (λ (z : List ℕ). is_among z (all_loop_variables e.round.loop.body)) own ∙ own_inside x e.number e.round.loop e.round.from e.round.to
+              | inr next ↦ ap (λ (z : List ℕ). is_among z (all_loop_variables e.round.loop.body)) next ∙ next_inside x e.number e.round.loop e.round.from e.round.to
+            ]
+
+            old_one : wants (shown_at_end t) behind (cell_of e.scope y) ≡ false
+            old_one = unwanted_exit t r.valid r.tidy data_bytes ends names apart k front behind v before after e y in_body
+
+            leaving : Act
+            leaving = act e.step (place_of p e.number e.scope) (e.first ++ undefined_all e.scope e.undefined)
+
+            in_run : IsIn leaving (run_of t data_bytes).acts
+            in_run = subst (IsIn leaving) (sym e.whole) (in_right leaving front (before ++ behind) (in_left leaving before behind (subst (IsIn leaving) (sym e.old_is) (inl refl))))
+
+            -- where it is another cell, the PARALLEL DO has lost it
+            lost_there : apart (cell_of e.scope y) ≡ true → loses t J k e.number (statement_with e.number t) ≡ true
+            lost_there h =
+                let i = lost_turn t J k e.scope y h in
+                let stands = stands_in t r.valid start leaving in_run i.0 i.1 in
+                let from = stands.from in
+                loses_inside t J k i.0.statement e.number stands.loop e.round.loop e.round.parallel (omega (arith, from)) e.round.from e.round.to i.2
+
+            gone : apart (cell_of e.scope y) ≡ true → is_among y e.undefined_now ≡ false
+            gone h =
+                let is : y ≡ J = sym (same_is J y (named e.scope y (lost_named t J k (cell_of e.scope y) h))) in
+                let there : is_among y e.undefined ≡ true = ap (is_among y) e.undefined_is ∙ once_among y (all_loop_variables e.round.loop.body) ∙ in_body in
+                e.went y among there
+                (λ S seen l n. ap (λ (z : List ℕ). apart (cell_of (frame (entered_with p e.number e.round.loop.head e.round.loop.body seen l) n ∷ S) z)) is
+                ∙ copy_lost t J k e.number e.round.loop.head e.round.loop.body e.round.parallel (ap (λ (z : List ℕ). is_among z (all_loop_variables e.round.loop.body)) (sym is) ∙ in_body) S seen l n ∙ lost_there h)
+
+            new_one : (cell_of e.other y ≡ cell_of e.scope y) ⊎ ((is_among y names ≡ true) × (apart (cell_of e.scope y) ≡ true)) → is_among y e.undefined_now ≡ true → wants (shown_at_end t) behind (cell_of e.other y) ≡ false
+            new_one (inl same) there = ap (wants (shown_at_end t) behind) same ∙ old_one
+            new_one (inr n) there = absurd (both_ways (is_among y e.undefined_now) (gone n.1) there)
 
     -- the run is made of parts, and the new program does the new ones
     abbrev Made : Type 0

@@ -11,7 +11,7 @@ use Rattle.ped_reindex.specs.ped_loops.specs.ped_scalar.specs.ped_rules.specs.pe
 use Rattle.ped_splits.specs.Neighbours.{Neighbour, next_number}
 
 -- the statement is a DO with this variable
-abbrev is_loop_of : List ℕ → Option StmtTree → Bool
+abbrev pub is_loop_of : List ℕ → Option StmtTree → Bool
 is_loop_of y (Some (Do h b)) = is_same_text y h.variable
 is_loop_of y (Some (Assign left right)) = false
 is_loop_of y (Some (If c a b)) = false
@@ -22,7 +22,7 @@ is_loop_of y (Some (Comment text)) = false
 is_loop_of y None = false
 
 -- a PARALLEL DO round the statement with number m, in which no other DO has the variable
-abbrev loses : ProgramTree → List ℕ → (m n : ℕ) → Option StmtTree → Bool
+abbrev pub loses : ProgramTree → List ℕ → (m n : ℕ) → Option StmtTree → Bool
 loses t y m n (Some (Do h b)) =
     h.parallel && (nat_lt n m && nat_le m (n + statements_count b)) && not (list_any (λ j. is_loop_of y (statement_with j t) && not (j == m)) (range_with_len (n + 1) (statements_count b)))
 loses t y m n (Some (Assign left right)) = false
@@ -34,7 +34,7 @@ loses t y m n (Some (Comment text)) = false
 loses t y m n None = false
 
 -- the number of the DO of the innermost of these iterations has the property
-abbrev of_last : (ℕ → Bool) → List Iteration → Bool
+abbrev pub of_last : (ℕ → Bool) → List Iteration → Bool
 of_last test [] = false
 of_last test (i ∷ []) = test i.statement
 of_last test (i ∷ (j ∷ more)) = of_last test (j ∷ more)

@@ -93,7 +93,7 @@ module _ (values : List (List ℕ × ℤ)) where
     have_increments no_stmts h = tt
     have_increments (more_stmts z rest) h = let both = and_parts (stmt_steps_are_right values z) (steps_are_right values rest) h in (has_increments z both.0, have_increments rest both.1)
 
-text_turned : (y w : List ℕ) → is_same_text y w ≡ true → is_same_text w y ≡ true
+pub text_turned : (y w : List ℕ) → is_same_text y w ≡ true → is_same_text w y ≡ true
 text_turned y w h = subst (λ (u : List ℕ). is_same_text u y ≡ true) (same_is y w h) (same_itself y)
 
 pub one_among : (y : List ℕ) (c : Cell) → is_cell_among (y ∷ []) c ≡ true → is_cell_of y c ≡ true
@@ -270,7 +270,7 @@ module _ (t : ProgramTree) (s : ℕ) (x : Neighbour t s) (r : IsRenaming t s x) 
     same_limits : limits (names_in p other) new_head v ≡ limits (names_in p scope) d v
     same_limits = limits_but J (names_in p scope) (names_in p other) (record { constants = refl; bounds = λ y apart. refl; cell = near.cell; index = λ y apart. near.index y }) v d r.first r.last
 
-    same_seen : new_seen ≡ old_seen
+    pub same_seen : new_seen ≡ old_seen
     same_seen = ap (λ (l : Evaluated Limits). l.seen) same_limits
 
     comes : ComesTo (limits (names_in p other) new_head) new_seen (Ok old.bounds)

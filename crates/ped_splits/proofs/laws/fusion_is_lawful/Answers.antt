@@ -5,6 +5,8 @@ use Rattle.ped_splits.proofs.RenameActs.{turned_stripped, turned_referred}
 use Rattle.ped_splits.proofs.RenameFacts.{renaming}
 use Rattle.ped_splits.proofs.RenamePaths.{live_before}
 use Rattle.ped_splits.proofs.RenameTrips.{rests_turned}
+use Rattle.ped_splits.proofs.RenameAsked.{unwanted_exit}
+use Rattle.ped_splits.proofs.RenameKeeps.{renamed_keeps, accesses_alike}
 use Rattle.ped_splits.proofs.RenameUnread.{unread_cells, plain_unnamed}
 use Rattle.ped_splits.proofs.laws.fusion_is_lawful.Goals as goal
 

@@ -16,6 +16,7 @@ mod RenameInside
 mod RenamePlaces
 mod RenameAsked
 mod RenameRaces
+mod RenameTold
 mod RenameKeeps
 mod Here
 mod DistributeAnswers

@@ -24,7 +24,6 @@ use Rattle.ped_reindex.specs.ped_loops.specs.ped_scalar.specs.ped_rules.specs.pe
 use Rattle.ped_reindex.specs.ped_loops.specs.ped_scalar.specs.ped_rules.specs.ped_loop_runs.specs.ped_bodies.specs.ped_steps.specs.Runs.Renumbering.{renumbered}
 use Rattle.ped_reindex.specs.ped_loops.specs.ped_scalar.specs.ped_rules.specs.ped_loop_runs.specs.ped_bodies.specs.ped_steps.specs.ped_sums.specs.Substitution.{statements_substituted}
 use Rattle.ped_reindex.specs.ped_loops.specs.ped_scalar.specs.ped_rules.specs.ped_loop_runs.specs.ped_bodies.specs.ped_steps.specs.ped_laws.proofs.FlowRunLaws.Stopping.{fitting_stops, loop_stops}
-use Rattle.ped_reindex.specs.ped_loops.specs.ped_scalar.specs.ped_rules.specs.ped_loop_runs.specs.ped_bodies.specs.ped_steps.proofs.RunLaws.ExpandedRacesOrigins.{IsTold}
 use Rattle.ped_reindex.specs.ped_loops.specs.ped_scalar.specs.ped_rules.specs.ped_loop_runs.specs.ped_bodies.specs.ped_steps.specs.ped_laws.proofs.ActLaws.Lists.{in_left, in_right}
 use Rattle.ped_reindex.specs.ped_loops.specs.ped_scalar.specs.ped_rules.specs.ped_loop_runs.specs.ped_bodies.specs.ped_steps.specs.ped_laws.proofs.RunLaws.StatementsTold.{all_told}
 use Rattle.ped_reindex.specs.ped_loops.specs.ped_scalar.specs.ped_rules.specs.ped_loop_runs.specs.ped_bodies.specs.ped_steps.specs.ped_laws.proofs.RunLaws.Turning.{once_among}
@@ -41,7 +40,7 @@ use Rattle.ped_reindex.specs.ped_loops.specs.ped_scalar.specs.ped_rules.specs.pe
 use Rattle.ped_reindex.specs.ped_loops.specs.ped_scalar.specs.ped_rules.specs.ped_loop_runs.specs.ped_bodies.specs.ped_steps.specs.ped_laws.specs.ped_eval.specs.Scopes.{Scope, Setting, cell_of, place_of, turns_of}
 use Rattle.ped_reindex.specs.ped_loops.specs.ped_scalar.specs.ped_rules.specs.ped_loop_runs.specs.ped_bodies.specs.ped_steps.specs.ped_laws.specs.ped_store.specs.Acts.{Act, Touch, iterations_of}
 use Rattle.ped_reindex.specs.ped_loops.specs.ped_scalar.specs.ped_rules.specs.ped_loop_runs.specs.ped_bodies.specs.ped_steps.specs.ped_laws.specs.ped_store.specs.Cells.{Cell, Private}
-use Rattle.ped_reindex.specs.ped_loops.specs.ped_scalar.specs.ped_rules.specs.ped_loop_runs.specs.ped_bodies.specs.ped_steps.specs.ped_laws.specs.ped_store.specs.Races.{Access, HasNoRace, accesses, race}
+use Rattle.ped_reindex.specs.ped_loops.specs.ped_scalar.specs.ped_rules.specs.ped_loop_runs.specs.ped_bodies.specs.ped_steps.specs.ped_laws.specs.ped_store.specs.Races.{Access, HasNoRace, accesses}
 use Rattle.ped_reindex.specs.ped_loops.specs.ped_scalar.specs.ped_rules.specs.ped_loop_runs.specs.ped_bodies.specs.ped_steps.specs.ped_laws.specs.ped_store.specs.Stores.{Store, store_at_start}
 use Rattle.ped_reindex.proofs.StripsBounds.{AreBeside}
 use Rattle.ped_splits.proofs.FuseFacts.{IsFusable, renamed, renamed_next}
@@ -56,6 +55,7 @@ use Rattle.ped_splits.proofs.RenameActs.{AreTurned, exits_referred, referred, re
 use Rattle.ped_splits.proofs.RenameRaces.{no_race_comes}
 use Rattle.ped_splits.proofs.RenameRound.{round_renamed}
 use Rattle.ped_splits.proofs.RenameStands.{does_renamed, stands_renamed, turned_renamed}
+use Rattle.ped_splits.proofs.RenameTold.{told_unraced}
 use Rattle.ped_splits.proofs.RenameTrips.{one_among}
 use Rattle.ped_splits.specs.Fusing.{Match}
 use Rattle.ped_splits.specs.Neighbours.{Neighbour, next_number, renamed_body}
@@ -312,10 +312,6 @@ module _ (t : ProgramTree) (s : ℕ) (x : Neighbour t s) (r : IsRenaming t s x) 
     pub renaming_alike : referred (run_of t data_bytes).acts ≡ referred (run_of (renamed x) data_bytes).acts
     renaming_alike = ap referred (sym made.1) ∙ parts_referred [] made.0 [] start made.2 ∙ ap (λ (y : Run). referred y.acts) (sym new_run)
 
-    -- what places tell races with nothing
-    untold : (b c : Access) → IsTold (run_of (renamed x) data_bytes).acts b → IsIn c (accesses (run_of (renamed x) data_bytes).acts) → race b c ≡ false
-    untold b c told i = ?untold
-
   pub renaming_keeps : Keeps t (renamed x)
   renaming_keeps = made_keeps t u (record {
     saved = refl;
@@ -330,7 +326,7 @@ module _ (t : ProgramTree) (s : ℕ) (x : Neighbour t s) (r : IsRenaming t s x) 
     stand = λ data_bytes free. stand data_bytes free.0;
     replays = λ data_bytes free. (made data_bytes free.0).3;
     free = λ data_bytes free same none.
-        subst (λ (acts : List Act). HasNoRace (accesses acts)) (sym same) (no_race_comes t u data_bytes (untold data_bytes free.0) (renaming_alike data_bytes free.0) free.1);
+        subst (λ (acts : List Act). HasNoRace (accesses acts)) (sym same) (no_race_comes t u data_bytes (told_unraced t s x r data_bytes (renaming_alike data_bytes free.0)) (renaming_alike data_bytes free.0) free.1);
   })
 
 -- two DO loops that may become one

@@ -49,7 +49,7 @@ is_none : (n : ℕ) → (n == 0) ≡ true → n ≡ 0
 is_none n h = grind (arith, nat_tests)
 
 -- accesses of a run that race are made by references, if what places tell races with nothing
-module _ (u : ProgramTree) (data_bytes : List ℕ) (untold : (b c : Access) → IsTold (run_of u data_bytes).acts b → IsIn c (accesses (run_of u data_bytes).acts) → race b c ≡ false) where
+module _ (u : ProgramTree) (data_bytes : List ℕ) (untold : (b c : Access) → IsTold (run_of u data_bytes).acts b → IsIn c (accesses (run_of u data_bytes).acts) → 0 < c.reference → race b c ≡ false) where
   abbrev p : Setting
   p = setting_of u
 
@@ -102,7 +102,18 @@ module _ (u : ProgramTree) (data_bytes : List ℕ) (untold : (b c : Access) → 
 
       by : (w : Bool) → b.writes ≡ w → ⊥
       by true e = never_stored b c i j apart meets none e
-      by false e = both_ways (race b c) (untold b c (told_read b i e none) j) races
+      by false e = of_other (c.reference == 0) refl
+        where
+          write : c.writes ≡ true
+          write = second b.writes c.writes e (and_parts (same_cell b.cell c.cell) (b.writes || c.writes) meets).1
+            where
+              second : (x y : Bool) → x ≡ false → x || y ≡ true → y ≡ true
+              second true y h k = absurd cc
+              second false y h k = k
+
+          of_other : (z : Bool) → (c.reference == 0) ≡ z → ⊥
+          of_other true f = never_stored c b j i (turned_apart b c i j apart) (conflict_flip b c meets) (is_none c.reference f) write
+          of_other false f = both_ways (race b c) (untold b c (told_read b i e none) j (above_zero c.reference f)) races
 
   -- both accesses of a race are made by references, and they are apart either way
   pub by_references : (b c : Access) → IsIn b all → IsIn c all → race b c ≡ true → (0 < b.reference) × (0 < c.reference) × (are_apart b.place.turns c.place.turns ≡ true) × (are_apart c.place.turns b.place.turns ≡ true) × (conflict b c ≡ true)
@@ -120,7 +131,7 @@ module _ (u : ProgramTree) (data_bytes : List ℕ) (untold : (b c : Access) → 
       go false false e f = (above_zero b.reference e, above_zero c.reference f, parts.0, back, parts.1)
 
 -- what is among the accesses by references is an access
-kept_in : (xs : List Access) (b : Access) → IsIn b (filter by_reference xs) → IsIn b xs
+pub kept_in : (xs : List Access) (b : Access) → IsIn b (filter by_reference xs) → IsIn b xs
 kept_in [] b i = absurd i
 kept_in (x ∷ xs) b i = go (by_reference x) refl (kept_in xs b)
   where
@@ -129,7 +140,7 @@ kept_in (x ∷ xs) b i = go (by_reference x) refl (kept_in xs b)
     go false e more = inr (more (subst (IsIn b) (filter_other by_reference x xs e) i))
 
 -- and an access by a reference is among them
-in_kept : (xs : List Access) (b : Access) → IsIn b xs → 0 < b.reference → IsIn b (filter by_reference xs)
+pub in_kept : (xs : List Access) (b : Access) → IsIn b xs → 0 < b.reference → IsIn b (filter by_reference xs)
 in_kept [] b i some = absurd i
 in_kept (x ∷ xs) b (inl e) some = subst (IsIn b) (sym (filter_first by_reference x xs (ap by_reference (sym e) ∙ lt-ltb 0 b.reference some))) (inl e)
 in_kept (x ∷ xs) b (inr i) some = go (by_reference x) refl (in_kept xs b i some)
@@ -139,7 +150,7 @@ in_kept (x ∷ xs) b (inr i) some = go (by_reference x) refl (in_kept xs b i som
     go false e more = subst (IsIn b) (sym (filter_other by_reference x xs e)) more
 
 -- no race comes, where the accesses by references are those of the old run
-pub no_race_comes : (t u : ProgramTree) (data_bytes : List ℕ) → ((b c : Access) → IsTold (run_of u data_bytes).acts b → IsIn c (accesses (run_of u data_bytes).acts) → race b c ≡ false) → referred (run_of t data_bytes).acts ≡ referred (run_of u data_bytes).acts
+pub no_race_comes : (t u : ProgramTree) (data_bytes : List ℕ) → ((b c : Access) → IsTold (run_of u data_bytes).acts b → IsIn c (accesses (run_of u data_bytes).acts) → 0 < c.reference → race b c ≡ false) → referred (run_of t data_bytes).acts ≡ referred (run_of u data_bytes).acts
     → HasNoRace (accesses (run_of t data_bytes).acts) → HasNoRace (accesses (run_of u data_bytes).acts)
 no_race_comes t u data_bytes untold same free = pairs_free (run_of t data_bytes).acts (run_of u data_bytes).acts race_before free
   where

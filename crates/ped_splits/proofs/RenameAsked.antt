@@ -183,8 +183,7 @@ module _ (t : ProgramTree) (valid : IsValid t) (tidy : IsTidy t) (data_bytes : L
       path = exit_followed p one t w (variables_unnamed t valid e.number e.round.loop w among) (fitting_stops t valid.fits) start e.number e.scope behind exit
 
       is_so : (b : Bool) → b ≡ true → IsTrue b
-      is_so true q = tt
-      is_so false q = absurd cc
+      is_so b q = q
 
       by : (b : Bool) → overwrites w path.0 ≡ b → written behind c ≡ true
       by true q = path.2.written why.1 q

@@ -281,10 +281,8 @@ module _ (t : ProgramTree) (s : ℕ) (x : Neighbour t s) (serial : x.next.parall
   live_before (inl h) = inl (h.0, record { path = front ++ h.1.path; leads = leads h.1.path h.1.leads; reads = is_so (reads_first w h.0 (front ++ h.1.path)) (reads_first-back w h.0 front h.1.path kept (it_is (reads_first w h.0 h.1.path) h.1.reads)) })
     where
       it_is : (b : Bool) → IsTrue b → b ≡ true
-      it_is true k = refl
-      it_is false k = absurd k
+      it_is b k = k
 
       is_so : (b : Bool) → b ≡ true → IsTrue b
-      is_so true k = tt
-      is_so false k = absurd cc
+      is_so b k = k
   live_before (inr h) = inr (record { saved = h.saved; path = front ++ h.path; leads = leads h.path h.leads; kept = overwrites-append w front h.path ∙ (λ i. kept i || h.kept i) })

@@ -264,8 +264,7 @@ module _ (t : ProgramTree) (s : ℕ) (x : Neighbour t s) (r : IsRenaming t s x) 
         (λ live. (r.own_contained I (record { loop = own_loop x; among = is_so (is_among I (loop_variables (Do x.own x.own_body))) I_among })).1 (live_before t s x r.serial r.private I r.differ live)) shown (shown_scalar t I scope)
       where
         is_so : (b : Bool) → b ≡ true → IsTrue b
-        is_so true q = tt
-        is_so false q = absurd cc
+        is_so b q = q
 
     same_first : cell_of other I ≡ cell_of scope I
     same_first = near.cell I (turned_text I r.differ)

@@ -200,8 +200,7 @@ module _ (t : ProgramTree) (l : ℕ) (cs : Values) (x : List ℕ) (none : value_
   none_in xs ys h k = among_append x xs ys ∙ (λ i. h i || k i)
 
   is_it : (b : Bool) → IsTrue b → b ≡ true
-  is_it true h = refl
-  is_it false h = absurd h
+  is_it b h = h
 
   mutual
     pub plain_unnamed : (e : ExprTree) → IsPlainlyBuilt cs t l e → is_among x (expr_names e) ≡ false

@@ -17,6 +17,8 @@ mod RenamePlaces
 mod RenameAsked
 mod RenameRaces
 mod RenameTold
+mod RenameStores
+mod RenameQuiet
 mod RenameKeeps
 mod Here
 mod DistributeAnswers

@@ -1,5 +1,5 @@
 -- A DO round the second of two DO loops is round the first one, too; so both variables are those of DO loops in it, and in one that lies further in fewer others are.
-use Rattle.std.proofs.Common.{◌≡◌, ◌⊎◌, ℕ, zero, suc, ◌+◌, ◌<◌, ◌≤◌, List, [], ◌∷◌, ◌++◌, Bool, true, false, ◌&&◌, ◌||◌, ◌==◌, not, Some, inl, inr, refl, sym, ap, subst, ◌∙◌, arith, eqb-true}
+use Rattle.std.proofs.Common.{◌≡◌, ℕ, zero, suc, ◌+◌, ◌<◌, ◌≤◌, List, ◌∷◌, Bool, true, false, ◌&&◌, ◌||◌, ◌==◌, not, Some, refl, sym, ap, subst, ◌∙◌, arith, eqb-true}
 use Rattle.std.specs.Prelude.{nat_le, nat_lt}
 use Rattle.std.specs.List.{list_any, range_with_len}
 use Rattle.std.proofs.lemmas.Bool.{and_parts, both_ways, le-leb, leb-true, lt-ltb}
@@ -8,13 +8,11 @@ use Rattle.std.proofs.Math.Logic.{dite}
 use Rattle.ped_base.proofs.NameEquality.{same_itself}
 use Rattle.ped_base.specs.Lists.{is_among, is_same_text}
 use Rattle.ped_tree.specs.NamesIn.{all_loop_variables}
-use Rattle.ped_tree.specs.Numbering.{all_numbered, numbered, statement_with, statements_count}
-use Rattle.ped_tree.specs.Tree.{Do, Head, ProgramTree, StmtTrees, no_stmts}
+use Rattle.ped_tree.specs.Numbering.{all_numbered, statement_with, statements_count}
+use Rattle.ped_tree.specs.Tree.{Do, ProgramTree, StmtTrees, no_stmts}
 use Rattle.ped_reindex.specs.ped_loops.specs.ped_scalar.specs.ped_rules.specs.ped_loop_runs.proofs.PastingLaws.OneStatement.{gives_way}
-use Rattle.ped_reindex.specs.ped_loops.specs.ped_scalar.specs.ped_rules.specs.ped_loop_runs.specs.Statements.{GivesWay}
 use Rattle.ped_reindex.specs.ped_loops.specs.ped_scalar.proofs.ReferencesThere.{all_end_within}
 use Rattle.ped_reindex.specs.ped_loops.specs.ped_scalar.specs.ped_rules.specs.ped_loop_runs.specs.ped_bodies.specs.ped_steps.specs.Replacing.{alone}
-use Rattle.ped_reindex.specs.ped_loops.specs.ped_scalar.specs.ped_rules.specs.ped_loop_runs.specs.ped_bodies.specs.ped_steps.specs.Runs.Gaps.{number_at}
 use Rattle.ped_reindex.specs.ped_loops.specs.ped_scalar.specs.ped_rules.specs.ped_loop_runs.specs.ped_bodies.specs.ped_steps.specs.ped_laws.proofs.FlowRunLaws.Standing.{Stand, inner_stands, whole_stands}
 use Rattle.ped_reindex.specs.ped_loops.specs.ped_scalar.specs.ped_rules.specs.ped_loop_runs.specs.ped_bodies.specs.ped_steps.specs.ped_flow.specs.Questions.{LoopOf}
 use Rattle.ped_splits.proofs.RenameGaps.{next_loop, own_loop, stands_at}
@@ -29,7 +27,7 @@ loop_stands t n loop =
     subst (λ (k : ℕ). Stand t k (Do loop.head loop.body ∷ all_numbered loop.body)) way.number
     (stands_at t (Do loop.head loop.body) no_stmts way.gap 1 (subst (λ (ts : StmtTrees). Stand t 1 (all_numbered ts)) way.old (whole_stands t)))
 
-any_there : (test : ℕ → Bool) (n c j : ℕ) → n ≤ j → j < n + c → test j ≡ true → list_any test (range_with_len n c) ≡ true
+pub any_there : (test : ℕ → Bool) (n c j : ℕ) → n ≤ j → j < n + c → test j ≡ true → list_any test (range_with_len n c) ≡ true
 any_there test n zero j from to h = absurd (omega (arith, from, to))
 any_there test n (suc c) j from to h = go (j == n) refl
   where

@@ -1,5 +1,5 @@
 -- A program in which the second of two DO loops gets the variable of the first keeps its meaning.
-use Rattle.std.proofs.Common.{◌≡◌, ◌⊎◌, ℕ, ◌+◌, ◌≤◌, List, [], ◌∷◌, ◌++◌, Bool, true, false, ◌||◌, refl, sym, ap, subst, ◌∙◌, inl, inr, arith, append-nil, if◌then◌else◌}
+use Rattle.std.proofs.Common.{◌≡◌, ◌⊎◌, ℕ, ◌+◌, List, [], ◌∷◌, ◌++◌, Bool, true, false, ◌||◌, refl, sym, ap, subst, ◌∙◌, inl, inr, arith, append-nil, if◌then◌else◌}
 use Rattle.std.specs.Str.Lines.{lines}
 use Rattle.std.proofs.lemmas.Bool.{both_ways, or_parts}
 use Rattle.ped_base.proofs.NameEquality.{same_is}
@@ -7,7 +7,6 @@ use Rattle.ped_base.specs.Lists.{is_among, is_same_text}
 use Rattle.ped_tree.specs.NamesIn.{all_loop_variables, stmts_names}
 use Rattle.ped_tree.specs.Numbering.{statement_with, statements_count}
 use Rattle.ped_tree.specs.Tree.{Do, ProgramTree, StmtTree, StmtTrees, Var}
-use Rattle.ped_reindex.specs.ped_loops.specs.ped_scalar.specs.ped_rules.specs.ped_loop_runs.proofs.LoopLaws.OneForOneCells.{cell_among}
 use Rattle.ped_reindex.specs.ped_loops.specs.ped_scalar.specs.ped_rules.specs.ped_loop_runs.proofs.LoopLaws.OneForOneStands.{run_alone}
 use Rattle.ped_reindex.specs.ped_loops.specs.ped_scalar.specs.ped_rules.specs.ped_loop_runs.proofs.LoopLaws.RacesByReferences.{told_is_unreferred}
 use Rattle.ped_reindex.specs.ped_loops.specs.ped_scalar.specs.ped_rules.specs.ped_loop_runs.proofs.PastingLaws.KeptMeaning.{made_keeps, parts_fit, wanted_suit}
@@ -16,7 +15,6 @@ use Rattle.ped_reindex.specs.ped_loops.specs.ped_scalar.specs.ped_rules.specs.pe
 use Rattle.ped_reindex.specs.ped_loops.specs.ped_scalar.specs.ped_rules.specs.ped_loop_runs.specs.Executions.{IsExecuted}
 use Rattle.ped_reindex.specs.ped_loops.specs.ped_scalar.specs.ped_rules.specs.ped_loop_runs.specs.OtherCopies.{AreExchangedNear, AreNear, AskNothing, DoNear, HasOtherCopies, IsExchangedNear, IsOtherExit, IsPastedBut, IsUndefinedInBoth, LeaveApart, OfParallelRound, StandNear}
 use Rattle.ped_reindex.specs.ped_loops.specs.ped_scalar.specs.ped_rules.specs.ped_loop_runs.specs.Pasting.{PartsStandBy}
-use Rattle.ped_reindex.specs.ped_loops.specs.ped_scalar.specs.ped_rules.specs.ped_loop_runs.specs.ped_bodies.specs.Moving.{is_cell_among}
 use Rattle.ped_reindex.specs.ped_loops.specs.ped_scalar.specs.ped_rules.specs.ped_loop_runs.specs.ped_bodies.specs.ped_steps.proofs.RunLaws.SubstitutedShapes.{counts_kept, indices_kept}
 use Rattle.ped_reindex.specs.ped_loops.specs.ped_scalar.specs.ped_rules.specs.ped_loop_runs.specs.ped_bodies.specs.ped_steps.specs.Replacing.{alone}
 use Rattle.ped_reindex.specs.ped_loops.specs.ped_scalar.specs.ped_rules.specs.ped_loop_runs.specs.ped_bodies.specs.ped_steps.specs.Runs.Gaps.{Gap, filled, number_at}
@@ -27,6 +25,7 @@ use Rattle.ped_reindex.specs.ped_loops.specs.ped_scalar.specs.ped_rules.specs.pe
 use Rattle.ped_reindex.specs.ped_loops.specs.ped_scalar.specs.ped_rules.specs.ped_loop_runs.specs.ped_bodies.specs.ped_steps.specs.ped_laws.proofs.ActLaws.Lists.{in_left, in_right}
 use Rattle.ped_reindex.specs.ped_loops.specs.ped_scalar.specs.ped_rules.specs.ped_loop_runs.specs.ped_bodies.specs.ped_steps.specs.ped_laws.proofs.RunLaws.StatementsTold.{all_told}
 use Rattle.ped_reindex.specs.ped_loops.specs.ped_scalar.specs.ped_rules.specs.ped_loop_runs.specs.ped_bodies.specs.ped_steps.specs.ped_laws.proofs.RunLaws.Turning.{once_among}
+use Rattle.ped_reindex.specs.ped_loops.specs.ped_scalar.specs.ped_rules.specs.ped_loop_runs.specs.ped_bodies.specs.ped_steps.specs.ped_laws.proofs.ConflictLaws.CoveringRuns.{MakingLaw}
 use Rattle.ped_reindex.specs.ped_loops.specs.ped_scalar.specs.ped_rules.specs.ped_loop_runs.specs.ped_bodies.specs.ped_steps.specs.ped_laws.specs.Acts.Fitting.{Fits, store_after}
 use Rattle.ped_reindex.specs.ped_loops.specs.ped_scalar.specs.ped_rules.specs.ped_loop_runs.specs.ped_bodies.specs.ped_steps.specs.ped_laws.specs.Acts.Orders.{IsIn}
 use Rattle.ped_reindex.specs.ped_loops.specs.ped_scalar.specs.ped_rules.specs.ped_loop_runs.specs.ped_bodies.specs.ped_steps.specs.ped_laws.specs.Acts.Pieces.{Part, StandsFor, changed, new_parts, old_parts, same}
@@ -48,6 +47,7 @@ use Rattle.ped_splits.proofs.RenameFacts.{IsRenaming, renaming}
 use Rattle.ped_splits.proofs.RenameGaps.{next_gap, next_loop, next_new, next_numbered, next_old}
 use Rattle.ped_splits.proofs.RenameAsked.{unwanted_exit}
 use Rattle.ped_splits.proofs.RenameInside.{loses_inside, next_inside, own_inside}
+use Rattle.ped_splits.proofs.RenameQuiet.{quiet_copies}
 use Rattle.ped_splits.proofs.RenamePlaces.{copy_lost, lost_turn, stands_in}
 use Rattle.ped_splits.proofs.RenameKinds.{renamed_live, renamed_setting}
 use Rattle.ped_splits.proofs.RenameLost.{is_lost, lost_named, loses}
@@ -56,11 +56,10 @@ use Rattle.ped_splits.proofs.RenameRaces.{no_race_comes}
 use Rattle.ped_splits.proofs.RenameRound.{round_renamed}
 use Rattle.ped_splits.proofs.RenameStands.{does_renamed, stands_renamed, turned_renamed}
 use Rattle.ped_splits.proofs.RenameTold.{told_unraced}
-use Rattle.ped_splits.proofs.RenameTrips.{one_among}
 use Rattle.ped_splits.specs.Fusing.{Match}
-use Rattle.ped_splits.specs.Neighbours.{Neighbour, next_number, renamed_body}
+use Rattle.ped_splits.specs.Neighbours.{Neighbour, next_number}
 
-module _ (t : ProgramTree) (s : ℕ) (x : Neighbour t s) (r : IsRenaming t s x) where
+module _ (making : MakingLaw) (t : ProgramTree) (s : ℕ) (x : Neighbour t s) (r : IsRenaming t s x) where
   abbrev p : Setting
   p = setting_of t
 
@@ -212,7 +211,7 @@ module _ (t : ProgramTree) (s : ℕ) (x : Neighbour t s) (r : IsRenaming t s x) 
 
     -- other statements leave the lost copies alone
     quiet : LeaveApart apart p t first count (run_of t data_bytes).acts
-    quiet = ?quiet
+    quiet = subst (λ (n : ℕ). LeaveApart apart p t n count (run_of t data_bytes).acts) (sym (next_numbered x)) (λ a i v j h. quiet_copies making t s x r data_bytes ends a i v j h)
 
     -- nobody asks for a variable of a PARALLEL DO behind it
     asked : AskNothing (wants (shown_at_end t)) names apart p t start first
@@ -330,10 +329,10 @@ module _ (t : ProgramTree) (s : ℕ) (x : Neighbour t s) (r : IsRenaming t s x) 
   })
 
 -- two DO loops that may become one
-pub renamed_keeps : (t : ProgramTree) (s : ℕ) (m : Match t s) → IsFusable t s m → (m.neighbour.own.variable ≡ m.neighbour.next.variable → ⊥) → is_among m.neighbour.own.variable (stmts_names m.neighbour.next_body) ≡ false → Keeps t (renamed m.neighbour)
-renamed_keeps t s m f differ absent = renaming_keeps t s m.neighbour (renaming t s m f differ absent)
+pub renamed_keeps : MakingLaw → (t : ProgramTree) (s : ℕ) (m : Match t s) → IsFusable t s m → (m.neighbour.own.variable ≡ m.neighbour.next.variable → ⊥) → is_among m.neighbour.own.variable (stmts_names m.neighbour.next_body) ≡ false → Keeps t (renamed m.neighbour)
+renamed_keeps making t s m f differ absent = renaming_keeps making t s m.neighbour (renaming t s m f differ absent)
 
 -- and by references both programs do the same
-pub accesses_alike : (t : ProgramTree) (s : ℕ) (m : Match t s) → IsFusable t s m → (m.neighbour.own.variable ≡ m.neighbour.next.variable → ⊥) → is_among m.neighbour.own.variable (stmts_names m.neighbour.next_body) ≡ false
+pub accesses_alike : MakingLaw → (t : ProgramTree) (s : ℕ) (m : Match t s) → IsFusable t s m → (m.neighbour.own.variable ≡ m.neighbour.next.variable → ⊥) → is_among m.neighbour.own.variable (stmts_names m.neighbour.next_body) ≡ false
     → (data_bytes : List ℕ) → Ends (run_of t data_bytes).ending → referred (run_of t data_bytes).acts ≡ referred (run_of (renamed m.neighbour) data_bytes).acts
-accesses_alike t s m f differ absent data_bytes ends = renaming_alike t s m.neighbour (renaming t s m f differ absent) data_bytes ends
+accesses_alike making t s m f differ absent data_bytes ends = renaming_alike making t s m.neighbour (renaming t s m f differ absent) data_bytes ends

@@ -2,11 +2,11 @@
 use Rattle.std.proofs.Common.{◌≡◌, ℕ, List, [], ◌∷◌, ◌++◌, Bool, true, false, ◌||◌, Option, None, Some, refl, sym, ap, subst, ◌∙◌, if◌then◌else◌}
 use Rattle.std.specs.List.{flat_map}
 use Rattle.std.proofs.lemmas.Bool.{both_ways}
-use Rattle.ped_base.proofs.NameEquality.{same_is, same_itself}
+use Rattle.ped_base.proofs.NameEquality.{same_is}
 use Rattle.ped_base.specs.Lists.{is_among, is_same_text}
 use Rattle.ped_tree.proofs.NameLaws.Collected.{among_append}
 use Rattle.ped_tree.specs.NamesIn.{cond_names, expr_names, head_names, saved_in, stmt_names, stmts_names}
-use Rattle.ped_tree.specs.Tree.{DeclTree, Do, Head, If, ProgramTree, StmtTree, StmtTrees, Var, more_stmts, no_stmts}
+use Rattle.ped_tree.specs.Tree.{Do, If, ProgramTree, StmtTrees, Var, more_stmts, no_stmts}
 use Rattle.ped_reindex.specs.ped_loops.specs.ped_scalar.specs.ped_rules.specs.ped_loop_runs.specs.ped_bodies.specs.ped_steps.specs.ped_laws.proofs.FlowRunLaws.Names.{sorted_among}
 use Rattle.ped_reindex.specs.ped_loops.specs.ped_scalar.specs.ped_rules.specs.ped_loop_runs.specs.ped_bodies.specs.ped_steps.proofs.RunLaws.ExpandedNamesSites.{stmts_at}
 use Rattle.ped_reindex.specs.ped_loops.specs.ped_scalar.specs.ped_rules.specs.ped_loop_runs.specs.ped_bodies.specs.ped_steps.proofs.RunLaws.ExpandedNamesSubstituted.{in_stmts}
@@ -28,7 +28,7 @@ use Rattle.ped_reindex.specs.ped_loops.specs.ped_scalar.specs.ped_rules.specs.pe
 use Rattle.ped_reindex.proofs.UnnamedCells.{unsaved_name}
 use Rattle.ped_splits.proofs.FuseFacts.{renamed, renamed_next, renamed_pair}
 use Rattle.ped_splits.proofs.RenameFacts.{IsRenaming}
-use Rattle.ped_splits.proofs.RenameGaps.{next_loop, own_loop}
+use Rattle.ped_splits.proofs.RenameGaps.{next_loop}
 use Rattle.ped_splits.specs.Neighbours.{Neighbour, next_number}
 
 -- names in statements that fill a gap

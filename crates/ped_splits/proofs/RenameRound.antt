@@ -1,8 +1,8 @@
 -- The PARALLEL DO loops round the second of two DO loops: which of them lose its variable, and which copies their iterations have.
-use Rattle.std.proofs.Common.{◌≡◌, ◌⊎◌, ℕ, zero, suc, ◌+◌, ◌<◌, ◌≤◌, List, [], ◌∷◌, ◌++◌, Bool, true, false, ◌&&◌, ◌||◌, ◌==◌, not, Some, pos, inl, inr, refl, sym, ap, subst, ◌∙◌, append-nil, arith, eqb-true, if◌then◌else◌}
+use Rattle.std.proofs.Common.{◌≡◌, ◌⊎◌, ℕ, zero, suc, ◌+◌, ◌<◌, ◌≤◌, List, [], ◌∷◌, ◌++◌, Bool, true, false, ◌&&◌, ◌||◌, ◌==◌, not, Some, pos, inl, inr, refl, sym, ap, subst, ◌∙◌, arith, eqb-true, if◌then◌else◌}
 use Rattle.std.specs.Prelude.{nat_le, nat_lt}
 use Rattle.std.specs.List.{list_any, range_with_len}
-use Rattle.std.proofs.lemmas.Bool.{and_parts, both_ways, le-leb, lt-ltb, or_parts}
+use Rattle.std.proofs.lemmas.Bool.{both_ways, le-leb, lt-ltb, or_parts}
 use Rattle.std.proofs.lemmas.List.Folds.{list_any-append}
 use Rattle.ped_base.proofs.NameEquality.{same_is, same_itself}
 use Rattle.ped_base.specs.Lists.{is_among, is_same_text}
@@ -31,7 +31,7 @@ use Rattle.ped_reindex.specs.ped_loops.specs.ped_scalar.specs.ped_rules.specs.pe
 use Rattle.ped_reindex.specs.ped_loops.specs.ped_scalar.specs.ped_rules.specs.ped_loop_runs.specs.ped_bodies.specs.ped_steps.specs.ped_laws.specs.ped_store.specs.Acts.{Turn, iterations_of}
 use Rattle.ped_reindex.specs.ped_loops.specs.ped_scalar.specs.ped_rules.specs.ped_loop_runs.specs.ped_bodies.specs.ped_steps.specs.ped_laws.specs.ped_store.specs.Cells.{Cell, Iteration, Private}
 use Rattle.ped_splits.proofs.RenameFacts.{IsRenaming}
-use Rattle.ped_splits.proofs.RenameGaps.{behind_first, loops_of_gap, nest_at, next_gap, next_loop, next_numbered, next_old, own_loop, pair_filled, pair_loops, past_all, same_nest}
+use Rattle.ped_splits.proofs.RenameGaps.{behind_first, loops_of_gap, nest_at, next_gap, next_loop, next_numbered, next_old, own_loop, pair_filled, past_all, same_nest}
 use Rattle.ped_splits.proofs.RenameLost.{is_lost, is_loop_of, loses, of_last}
 use Rattle.ped_splits.specs.Neighbours.{Neighbour, next_number}
 

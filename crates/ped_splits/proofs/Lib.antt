@@ -94,3 +94,21 @@ mod DistributedKinds
 mod SplitAccesses
 pub mod Existence
 pub mod Determined
+mod RenameGaps
+mod RenameUnread
+mod RenameActs
+mod RenameFacts
+mod RenamePaths
+mod RenameTrips
+mod RenameStands
+mod RenameLost
+mod RenameKinds
+mod RenameRound
+mod RenameInside
+mod RenamePlaces
+mod RenameAsked
+mod RenameRaces
+mod RenameTold
+mod RenameStores
+mod RenameQuiet
+mod RenameKeeps

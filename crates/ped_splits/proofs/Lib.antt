@@ -39,3 +39,21 @@ mod SplitKeeps
 mod DistributedKinds
 pub mod Existence
 pub mod Determined
+mod NamedTrees
+mod SameTrees
+mod AlikeLoops
+mod Joints
+mod KeptWithout
+mod NeighbourFound
+mod FoundPairs
+mod PairLoops
+mod JointLoops
+mod GapPlaces
+mod EdgePlaces
+mod FuseOne
+mod FuseFirst
+mod FuseReaders
+mod FusedBack
+mod FuseAnswers
+mod PlainBounds
+mod BackAmong

@@ -6,4 +6,6 @@ pub mod Distributing
 pub mod Neighbours
 pub mod Fusing
 pub mod CodeUnits
+pub mod CodeAlike
+pub mod CodePairs
 pub mod CodeFusing

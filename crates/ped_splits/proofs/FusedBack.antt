@@ -99,12 +99,12 @@ module _ {t : ProgramTree} {s : ℕ} (x : Neighbour t s) where
 
   same_among : (ps : List (Reference × Reference)) (edges : List Edge) → EdgesOfPairs u (filter (goes_back x) ps) edges → All Same edges
   same_among [] edges are = subst (λ (es : List Edge). All Same es) (sym are) (All-nil Same)
-  same_among (p ∷ ps) edges are = by (goes_back x p) refl are
+  same_among (p ∷ ps) edges are = by (goes_back x p) refl are (λ es others. same_among ps es others)
     where
-      by : (b : Bool) → goes_back x p ≡ b → EdgesOfPairs u (cond b (p ∷ filter (goes_back x) ps) (filter (goes_back x) ps)) edges → All Same edges
-      by true back (first, rest, is, pair, others) =
-          subst (λ (es : List Edge). All Same es) (sym is) (All-append Same first rest (all_same p back first (all_between u p.0 p.1 first pair)) (same_among ps rest others))
-      by false back others = same_among ps edges others
+      by : (b : Bool) → goes_back x p ≡ b → EdgesOfPairs u (cond b (p ∷ filter (goes_back x) ps) (filter (goes_back x) ps)) edges → ((es : List Edge) → EdgesOfPairs u (filter (goes_back x) ps) es → All Same es) → All Same edges
+      by true back (first, rest, is, pair, others) more =
+          subst (λ (es : List Edge). All Same es) (sym is) (All-append Same first rest (all_same p back first (all_between u p.0 p.1 first pair)) (more rest others))
+      by false back others more = more edges others
 
   -- the first that the one test finds is the first that the other one finds
   module _ (test other : Edge → Bool) where

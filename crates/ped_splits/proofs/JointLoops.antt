@@ -21,17 +21,17 @@ module _ (new : StmtTree) (k : ℕ) (ss : List Stmt) (i : ℕ) (s : Stmt) (withi
   -- where the statement isn't the first of the two
   pub joined_next : (after : StmtTrees) (m : ℕ) → there ≡ false → m ≡ n + statement_count (stmt_tree s) → after ≡ followed before (alone (one_joined new k (stmt_tree s) n))
       → followed after (all_joined new k (stmt_trees (drop (i + 1) ss)) m) ≡ whole
-  joined_next after m no at a =
+  joined_next after m other at a =
       (λ j. followed (a j) (all_joined new k (stmt_trees (drop (i + 1) ss)) (at j)))
       ∙ (followed-assoc before (alone (one_joined new k (stmt_tree s) n)) (all_joined new k (stmt_trees (drop (i + 1) ss)) (n + statement_count (stmt_tree s)))
-      ∙ (ap (followed before) (sym (ap (λ (ts : StmtTrees). all_joined new k ts n) tree ∙ if_false there _ _ no)) ∙ h))
+      ∙ (ap (followed before) (sym (ap (λ (ts : StmtTrees). all_joined new k ts n) tree ∙ if_false there _ _ other)) ∙ h))
 
   -- where it is
   pub joined_here : (after : StmtTrees) → there ≡ true → after ≡ followed (followed before (alone new)) (behind_next (stmt_trees (drop (i + 1) ss))) → after ≡ whole
-  joined_here after yes a =
+  joined_here after here a =
       a
       ∙ (followed-assoc before (alone new) (behind_next (stmt_trees (drop (i + 1) ss)))
-      ∙ (ap (followed before) (sym (ap (λ (ts : StmtTrees). all_joined new k ts n) tree ∙ if_true there _ _ yes)) ∙ h))
+      ∙ (ap (followed before) (sym (ap (λ (ts : StmtTrees). all_joined new k ts n) tree ∙ if_true there _ _ here)) ∙ h))
 
   -- how many are left
   pub count_next : (m total : ℕ) → m ≡ n + statement_count (stmt_tree s) → n + statements_count (stmt_trees (drop i ss)) ≡ total → m + statements_count (stmt_trees (drop (i + 1) ss)) ≡ total

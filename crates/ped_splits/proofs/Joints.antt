@@ -15,6 +15,10 @@ use Rattle.ped_splits.specs.CodePairs.{behind_next, all_joined, one_joined}
 pub with_both : (names first second : List (List ℕ)) → with_names (with_names names first) second ≡ with_names names (first ++ second)
 with_both names first second = sym (fold-append with_name names first second)
 
+-- a head with other rejected names
+pub rejoined : (g h : Head) (a b : StmtTrees) (names more : List (List ℕ)) → Do g a ≡ Do h b → names ≡ more → Do (record g { rejected = names }) a ≡ Do (record h { rejected = more }) b
+rejoined g h a b names more e f = let head : g ≡ h = cc in let body : a ≡ b = cc in λ i. Do (record (head i) { rejected = f i }) (body i)
+
 pub ruleset following = (followed-assoc, followed-none, stmt_trees-append, stmt_trees-drop)
 
 -- what is told by a test that passes, or fails

@@ -57,3 +57,4 @@ mod FusedBack
 mod FuseAnswers
 mod PlainBounds
 mod BackAmong
+mod EventNumbers

@@ -177,7 +177,8 @@ commented text rest None b e deeper = absurd cc
 commented text rest (Some c) b e deeper =
     let d = deeper c refl in
     let is : record c { between = more_stmts (Comment text) c.between } ≡ b = cc in
-    subst (Follows (more_stmts (Comment text) rest)) is (record { is = ap (more_stmts (Comment text)) d.is; comments = d.comments })
+    let none = d.comments in
+    subst (Follows (more_stmts (Comment text) rest)) is (record { is = ap (more_stmts (Comment text)) d.is; comments = omega (arith, none) })
 
 next_follows : (ts : StmtTrees) (b : Behind) → next_in ts ≡ Some b → Follows ts b
 next_follows no_stmts b e = absurd cc

@@ -1,5 +1,6 @@
 -- Expressions that are written alike, as the code tells them, are one tree.
 use Rattle.std.proofs.Common.{◌≡◌, ℕ, ◌+◌, ◌==◌, List, [], ◌∷◌, map, length, Bool, true, false, ◌&&◌, ◌↔◌, if◌then◌else◌, refl, sym, ap, subst, ◌∙◌, arith, eqb-true}
+use Rattle.std.proofs.lemmas.Bool.{eq-eqb}
 use Rattle.std.proofs.lemmas.List.{length-map}
 use Rattle.ped_base.specs.Lists.{is_same_text}
 use Rattle.ped_base.proofs.NameEquality.{same_itself, same_is}
@@ -8,7 +9,6 @@ use Rattle.ped_tree.specs.Views.{expr_tree, pack_exprs}
 use Rattle.ped_tree.specs.declared.expressions.Expr.{Expr}
 use Rattle.ped_tree.specs.declared.expressions.Intrinsic.{Intrinsic}
 use Rattle.ped_tree.specs.declared.expressions.Intrinsic.TheVariants.{Mod, Abs, Max, Min}
-use Rattle.ped_reindex.specs.ped_loops.specs.ped_scalar.specs.ped_rules.specs.ped_loop_runs.specs.ped_bodies.specs.ped_steps.specs.ped_laws.specs.ped_graph.proofs.Matching.{same_number}
 use Rattle.ped_splits.specs.CodeAlike.{function_number, form_of, number_of, name_of, parts_of, are_none, passes_then, passes, pass_both, is_same_expr, are_same_exprs}
 
 -- an intrinsic function by its number
@@ -112,17 +112,17 @@ mutual
       let function : f ≡ function_by (number_of b) = sym (function_back f) ∙ ap function_by (sym (eqb-true (number_of b) (function_number f) q.0)) in
       (λ i. Call (function i) (same_trees parts (parts_of b) q.1 i)) ∙ of_form b 9 p.0
 
-  same_trees : (as bs : ExprTrees) → are_same_exprs as bs ≡ true → as ≡ bs
+  same_trees : (xs ys : ExprTrees) → are_same_exprs xs ys ≡ true → xs ≡ ys
   same_trees no_exprs no_exprs h = refl
-  same_trees no_exprs (more_exprs b bs) h = absurd cc
-  same_trees (more_exprs a as) no_exprs h = absurd cc
-  same_trees (more_exprs a as) (more_exprs b bs) h =
-      let p = both_of (is_same_expr a b) (are_same_exprs as bs) h in
-      (λ i. more_exprs (same_tree a b p.0 i) (same_trees as bs p.1 i))
+  same_trees no_exprs (more_exprs b ys) h = absurd cc
+  same_trees (more_exprs a xs) no_exprs h = absurd cc
+  same_trees (more_exprs a xs) (more_exprs b ys) h =
+      let p = both_of (is_same_expr a b) (are_same_exprs xs ys) h in
+      (λ i. more_exprs (same_tree a b p.0 i) (same_trees xs ys p.1 i))
 
 mutual
   tree_itself : (a : ExprTree) → is_same_expr a a ≡ true
-  tree_itself (Int n) = same_number n
+  tree_itself (Int n) = eq-eqb n n refl
   tree_itself (Var x) = same_itself x
   tree_itself (Element x parts) = both_so (is_same_text x x) (are_same_exprs parts parts) (same_itself x) (trees_themselves parts)
   tree_itself (Neg c) = tree_itself c
@@ -131,11 +131,11 @@ mutual
   tree_itself (Mul c d) = both_so (is_same_expr c c) (is_same_expr d d) (tree_itself c) (tree_itself d)
   tree_itself (Div c d) = both_so (is_same_expr c c) (is_same_expr d d) (tree_itself c) (tree_itself d)
   tree_itself (Pow c d) = both_so (is_same_expr c c) (is_same_expr d d) (tree_itself c) (tree_itself d)
-  tree_itself (Call f parts) = both_so (function_number f == function_number f) (are_same_exprs parts parts) (same_number (function_number f)) (trees_themselves parts)
+  tree_itself (Call f parts) = both_so (function_number f == function_number f) (are_same_exprs parts parts) (eq-eqb (function_number f) (function_number f) refl) (trees_themselves parts)
 
-  trees_themselves : (as : ExprTrees) → are_same_exprs as as ≡ true
+  trees_themselves : (xs : ExprTrees) → are_same_exprs xs xs ≡ true
   trees_themselves no_exprs = refl
-  trees_themselves (more_exprs a as) = both_so (is_same_expr a a) (are_same_exprs as as) (tree_itself a) (trees_themselves as)
+  trees_themselves (more_exprs a xs) = both_so (is_same_expr a a) (are_same_exprs xs xs) (tree_itself a) (trees_themselves xs)
 
 -- they are written alike exactly where they are one tree
 pub alike_trees : (a b : ExprTree) → (is_same_expr a b ≡ true) ↔ (a ≡ b)

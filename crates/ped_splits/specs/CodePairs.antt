@@ -68,6 +68,16 @@ abbrev pub two_with : ℕ → Head → StmtTrees → Option NextLoop → Option 
 two_with k h body None = None
 two_with k h body (Some n) = Some (record { number = k; own = h; own_body = body; between = n.before; next = n.head; next_body = n.body })
 
+-- the DO with number k and this statement, where it is a DO, too, with others between
+abbrev pub two_to : ℕ → Head → StmtTrees → (between : StmtTrees) → StmtTree → Option TwoLoops
+two_to k h body between (Do g b) = Some (record { number = k; own = h; own_body = body; between = between; next = g; next_body = b })
+two_to k h body between (Assign left right) = None
+two_to k h body between (If condition then_part else_part) = None
+two_to k h body between (Print items) = None
+two_to k h body between (Read items) = None
+two_to k h body between Stop = None
+two_to k h body between (Comment text) = None
+
 -- the statement with number k and the next DO among those behind it, where it is a DO, too
 abbrev pub two_from : ℕ → StmtTree → StmtTrees → Option TwoLoops
 two_from k (Do h body) others = two_with k h body (next_in others)

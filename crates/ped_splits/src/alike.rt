@@ -12,7 +12,6 @@ use ped_base::{Name, is_among};
 use ped_tree::{Cond, Do, Expr, Intrinsic, PrintItem, Stmt};
 
 /// Whether the second DO is like the first one.
-#[tactic(auto, using(crate::proofs::AlikeLoops::alike_loops))]
 pub(crate) fn are_alike(own: &Do, next: &Do) -> bool
     ensures { IsTrue result ↔ AreAlike (head_of own.now) (head_of next.now) (stmt_trees next.now.body.items) }
 {

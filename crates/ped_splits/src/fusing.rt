@@ -286,7 +286,8 @@ fn unless_back<L: Ledger>(
     ensures { IfOk result (Answers (Spec.fusing pair.now.number) (program_tree scene.now.tree.now)) }
 {
     let level = level_at(alloc, scene, pair.number)?;
-    match first_back(alloc, &change.tree, change.symbols.consts(), pair, level)? {
+    let consts = change.symbols.consts();
+    match first_back(alloc, &change.tree, consts, pair, level)? {
         Some(edge) => {
             return Ok(Err(Refused::Dependence(edge)));
         }

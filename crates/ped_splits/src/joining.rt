@@ -233,7 +233,7 @@ pub(crate) fn kept_without(alloc: Global, program: &Program, number: u32) -> Res
 /// The same of so many statements.
 fn kept_up_to(alloc: Global, count: u32, number: u32) -> Result<Keep, NoMemory>
     requires { count + 1 < 2 ^ 32 }
-    ensures { IfOk result (λ keep. keep ≡ map (λ k. (k, Spec.closed_up number k)) (filter (λ k. not (k == number)) (range_with_len 1 count))) }
+    ensures { IfOk result (λ keep. keep ≡ filter (λ p. not (p.0 == number)) (map (λ k. (k, Spec.closed_up number k)) (range_with_len 1 count))) }
 {
     let mut keep = Listed::new(alloc);
     for n in 0..count {

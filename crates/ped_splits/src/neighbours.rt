@@ -3,9 +3,10 @@
 ghost use Rattle.std.specs.Prelude.{◌≡◌, ◌+◌, ◌<◌, ◌^◌, MatchOption};
 ghost use Rattle.ped_tree.specs.Views.{program_tree, stmt_tree, stmt_trees, head_of};
 ghost use Rattle.ped_tree.specs.Numbering.{statement_count, statements_count};
-ghost use Rattle.ped_splits.specs.CodePairs.{IsPair, two_in, two_with, two_from, two_among, two_under, next_in};
+ghost use Rattle.ped_splits.specs.CodePairs.{IsPair, two_in, two_with, two_from, two_among, two_under, two_to, next_in};
 ghost use Rattle.ped_splits.specs.Neighbours.{Neighbour};
 
+use crate::units::is_comment;
 use ped_tree::{Do, Program, Stmt, count_statement, count_statements};
 
 /// Two DO loops, one behind the other in the same list.
@@ -118,28 +119,42 @@ fn pair_of<'a>(number: u32, own: &'a Do, others: &'a [Stmt]) -> Option<Pair<'a>>
     ensures { two_in result ≡ two_with number (head_of own.now) (stmt_trees own.now.body.items) (next_in (stmt_trees others.now)) }
 {
     for (place, statement) in others.iter().enumerate() {
-        match statement {
-            Stmt::Comment(_) => {}
-            Stmt::Do(next) => {
-                return Some(Pair {
-                    number,
-                    own,
-                    between: &others[..place],
-                    next,
-                });
-            }
-            Stmt::Assign { left: _, right: _ }
-            | Stmt::If {
-                condition: _,
-                then_part: _,
-                else_part: _,
-            }
-            | Stmt::Print(_)
-            | Stmt::Read(_)
-            | Stmt::Stop => {
-                return None;
-            }
+        if !is_comment(statement) {
+            return pair_with(number, own, &others[..place], statement);
         }
     }
     None
+}
+
+/// The DO and this statement behind it, where that is a DO, too, with the comments between.
+fn pair_with<'a>(
+    number: u32,
+    own: &'a Do,
+    between: &'a [Stmt],
+    statement: &'a Stmt,
+) -> Option<Pair<'a>>
+    ensures { two_in result ≡ two_to number (head_of own.now) (stmt_trees own.now.body.items) (stmt_trees between.now) (stmt_tree statement.now) }
+{
+    match statement {
+        Stmt::Do(next) => {
+            return Some(Pair {
+                number,
+                own,
+                between,
+                next,
+            });
+        }
+        Stmt::Assign { left: _, right: _ }
+        | Stmt::If {
+            condition: _,
+            then_part: _,
+            else_part: _,
+        }
+        | Stmt::Print(_)
+        | Stmt::Read(_)
+        | Stmt::Stop
+        | Stmt::Comment(_) => {
+            return None;
+        }
+    }
 }

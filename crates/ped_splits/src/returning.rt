@@ -29,15 +29,15 @@ use std::alloc::Global;
 
 /// Where the two bodies stand in the new program.
 #[derive(Clone, Copy)]
-struct Bodies {
+pub(crate) struct Bodies {
     /// The number of the new DO.
-    number: u32,
+    pub(crate) number: u32,
     /// The number of the second DO before the step, and that of the first statement of the second body behind it.
-    second: u32,
+    pub(crate) second: u32,
     /// The number behind the second body.
-    behind: u32,
+    pub(crate) behind: u32,
     /// The level of the new DO.
-    level: u8,
+    pub(crate) level: u8,
 }
 
 /// The first dependence that forbids the step, with the present numbers: the new DO carries it from the second body to the first
@@ -71,12 +71,16 @@ fn first_among(
     prepared: &Prepared,
     bodies: &Bodies,
 ) -> Result<Option<Edge>, NoMemory>
-    requires { (u : ProgramTree) × (prepared.now ≡ held_of u) }
+    requires held { (u : ProgramTree) × (prepared.now ≡ held_of u) }
+    requires order { bodies.now.number < bodies.now.second }
     ensures { IfOk result (λ found. (u : ProgramTree) → prepared.now ≡ held_of u → IsFirstBack u bodies.now (pairs (references u)) found) }
 {
     for n in 0..prepared.frame.pair_count() {
-        if let Some(edge) = first_at(alloc, prepared, bodies, n)? {
-            return Ok(Some(edge));
+        match first_at(alloc, prepared, bodies, n)? {
+            Some(edge) => {
+                return Ok(Some(edge));
+            }
+            None => {}
         }
     }
     Ok(None)
@@ -89,11 +93,13 @@ fn first_at(
     bodies: &Bodies,
     n: u64,
 ) -> Result<Option<Edge>, NoMemory>
-    requires { (u : ProgramTree) × (prepared.now ≡ held_of u) × (n < length (pairs (references u))) }
+    requires held { (u : ProgramTree) × (prepared.now ≡ held_of u) × (n < length (pairs (references u))) }
+    requires order { bodies.now.number < bodies.now.second }
     ensures { IfOk result (λ found. (u : ProgramTree) (p : Reference × Reference) → prepared.now ≡ held_of u → slice_get (pairs (references u)) n ≡ Some p
         → IsFirstBack u bodies.now (p ∷ []) found) }
 {
-    if !goes_back(&prepared.frame.key(n), bodies) {
+    let key = prepared.frame.key(n);
+    if !goes_back(&key, bodies) {
         return Ok(None);
     }
     let edges = prepared.edges_of(alloc, n)?;
@@ -102,7 +108,7 @@ fn first_at(
 
 /// Whether the source stands in the second body, and the sink in the first one.
 fn goes_back(key: &PairKey, bodies: &Bodies) -> bool
-    requires { bodies.now.number + 1 < 2 ^ 32 }
+    requires { bodies.now.number < bodies.now.second }
     ensures { result ≡ key_is_back bodies.now key.now }
 {
     is_in(key.source.0, bodies.second, bodies.behind)
@@ -181,7 +187,7 @@ fn is_rejected(mark: Mark) -> bool
 fn with_present_numbers(edge: Edge, number: u32) -> Edge
     requires source { edge.source.0 + 1 < 2 ^ 32 }
     requires sink { edge.sink.0 + 1 < 2 ^ 32 }
-    ensures { edge_of result ≡ Fusing.with_present_numbers number (edge_of edge) }
+    ensures present { edge_of result ≡ Fusing.with_present_numbers number (edge_of edge) }
     ensures short { HasAtMostSixLoops edge → HasAtMostSixLoops result }
 {
     Edge {

@@ -1,8 +1,8 @@
-use Rattle.std.proofs.Common.{◌+◌, ◌==◌, ℕ, List, [], ◌∷◌, ◌++◌, map, filter, not, Bool, sym, ap, ◌∙◌, arith, if◌then◌else◌, refl}
+use Rattle.std.proofs.Common.{◌+◌, ◌==◌, ℕ, List, [], ◌∷◌, ◌++◌, map, filter, not, Bool, sym, ap, ◌∙◌, arith, if◌then◌else◌}
 use Rattle.std.specs.List.{range_with_len}
 use Rattle.std.proofs.lemmas.List.FromFn.{filter_of_map_range_with_len_more}
 use Rattle.ped_splits.specs.Neighbours.{closed_up}
-use Rattle.ped_splits.proofs.KeptWithout.{unless_kept, filtered_by}
+use Rattle.ped_splits.proofs.KeptWithout.{unless_kept}
 use Rattle.ped_splits.proofs.joining.kept_up_to.Goals as goal
 
 pub loop-n-preserved : goal.loop-n-preserved
@@ -16,8 +16,3 @@ loop-n-preserved c =
     ∙ ap (λ (kept : List (ℕ × ℕ)). kept ++ (if (n + 1) == m then [] else pair (n + 1) ∷ [])) c.loop-n.invariant
     ∙ ap (λ (kept : List (ℕ × ℕ)). before ++ kept) (unless_kept ((n + 1) == m) (pair (n + 1)))
     ∙ sym (filter_of_map_range_with_len_more keeps pair 1 n (n + 1) (omega arith))
-
-pub returns : goal.returns
-returns c =
-    let m = c.args.number in
-    c.loop-n.invariant ∙ filtered_by (λ (k : ℕ). (k, closed_up m k)) (λ (k : ℕ). not (k == m)) (λ k. refl) (range_with_len 1 c.args.count)

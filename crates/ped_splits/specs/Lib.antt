@@ -7,4 +7,6 @@ pub mod Neighbours
 pub mod Fusing
 pub mod OneVariable
 pub mod CodeUnits
+pub mod CodeAlike
+pub mod CodePairs
 pub mod CodeFusing

@@ -1,9 +1,11 @@
 //! Whether two DO loops are alike: the same bounds and the same increment, written alike, and a variable that serves both.
 
-ghost use Rattle.std.specs.Prelude.{◌≡◌, ◌↔◌, IsTrue};
+ghost use Rattle.std.specs.Prelude.{◌≡◌, ◌↔◌, IsTrue, map};
+ghost use Rattle.std.specs.List.{flat_map};
 ghost use Rattle.ped_base.specs.Lists as Lists;
 ghost use Rattle.ped_tree.specs.NamesIn as Names;
-ghost use Rattle.ped_tree.specs.Views.{expr_tree, cond_tree, item_tree, stmt_tree, stmt_trees, head_of};
+ghost use Rattle.ped_tree.specs.Views.{expr_tree, pack_exprs, cond_tree, item_tree, stmt_tree, stmt_trees, head_of};
+ghost use Rattle.ped_splits.specs.CodeAlike as Code;
 ghost use Rattle.ped_splits.specs.Neighbours.{AreAlike};
 
 use ped_base::{Name, is_among};
@@ -13,12 +15,21 @@ use ped_tree::{Cond, Do, Expr, Intrinsic, PrintItem, Stmt};
 pub(crate) fn are_alike(own: &Do, next: &Do) -> bool
     ensures { IsTrue result ↔ AreAlike (head_of own.now) (head_of next.now) (stmt_trees next.now.body.items) }
 {
+    is_like(own, next)
+}
+
+/// The same.
+fn is_like(own: &Do, next: &Do) -> bool
+    ensures { result ≡ Code.is_like (head_of own.now) (head_of next.now) (stmt_trees next.now.body.items) }
+{
     have_same_bounds(own, next)
         && (is_same(&own.variable, &next.variable) || !name_in_all(&own.variable, &next.body))
 }
 
 /// Whether both have the same bounds and the same increment, written alike.
-fn have_same_bounds(own: &Do, next: &Do) -> bool {
+fn have_same_bounds(own: &Do, next: &Do) -> bool
+    ensures { result ≡ Code.have_same_bounds (head_of own.now) (head_of next.now) }
+{
     is_same_expr(&own.first, &next.first)
         && is_same_expr(&own.last, &next.last)
         && is_same_expr(&own.step, &next.step)
@@ -33,30 +44,59 @@ pub(crate) fn is_same(x: &Name, y: &Name) -> bool
 /// Whether two expressions are written alike.
 #[cycle(same)]
 fn is_same_expr(a: &Expr, b: &Expr) -> bool
-    ensures { IsTrue result ↔ (expr_tree a.now ≡ expr_tree b.now) }
+    ensures { result ≡ Code.is_same_expr (expr_tree a.now) (expr_tree b.now) }
 {
-    match (a, b) {
-        (Expr::Int(m), Expr::Int(n)) => *m == *n,
-        (Expr::Var(x), Expr::Var(y)) => is_same(x, y),
-        (Expr::Element(x, all), Expr::Element(y, others)) => {
-            is_same(x, y) && are_same_exprs(all, others)
-        }
-        (Expr::Neg(c), Expr::Neg(d)) => is_same_expr(c, d),
-        (Expr::Add(c, d), Expr::Add(e, f)) => is_same_expr(c, e) && is_same_expr(d, f),
-        (Expr::Sub(c, d), Expr::Sub(e, f)) => is_same_expr(c, e) && is_same_expr(d, f),
-        (Expr::Mul(c, d), Expr::Mul(e, f)) => is_same_expr(c, e) && is_same_expr(d, f),
-        (Expr::Div(c, d), Expr::Div(e, f)) => is_same_expr(c, e) && is_same_expr(d, f),
-        (Expr::Pow(c, d), Expr::Pow(e, f)) => is_same_expr(c, e) && is_same_expr(d, f),
-        (Expr::Call(g, all), Expr::Call(h, others)) => {
-            is_same_function(*g, *h) && are_same_exprs(all, others)
-        }
-        _ => false,
+    match a {
+        Expr::Int(m) => match b {
+            Expr::Int(n) => *n == *m,
+            _ => false,
+        },
+        Expr::Var(x) => match b {
+            Expr::Var(y) => is_same(x, y),
+            _ => false,
+        },
+        Expr::Element(x, all) => match b {
+            Expr::Element(y, others) => is_same(x, y) && are_same_exprs(all, others),
+            _ => false,
+        },
+        Expr::Neg(c) => match b {
+            Expr::Neg(d) => is_same_expr(c, d),
+            _ => false,
+        },
+        Expr::Add(c, d) => match b {
+            Expr::Add(e, f) => is_same_expr(c, e) && is_same_expr(d, f),
+            _ => false,
+        },
+        Expr::Sub(c, d) => match b {
+            Expr::Sub(e, f) => is_same_expr(c, e) && is_same_expr(d, f),
+            _ => false,
+        },
+        Expr::Mul(c, d) => match b {
+            Expr::Mul(e, f) => is_same_expr(c, e) && is_same_expr(d, f),
+            _ => false,
+        },
+        Expr::Div(c, d) => match b {
+            Expr::Div(e, f) => is_same_expr(c, e) && is_same_expr(d, f),
+            _ => false,
+        },
+        Expr::Pow(c, d) => match b {
+            Expr::Pow(e, f) => is_same_expr(c, e) && is_same_expr(d, f),
+            _ => false,
+        },
+        Expr::Call(g, all) => match b {
+            Expr::Call(h, others) => {
+                function_number(*h) == function_number(*g) && are_same_exprs(all, others)
+            }
+            _ => false,
+        },
     }
 }
 
 /// Whether these are as many expressions as those, each written like the other at its place.
 #[cycle(same)]
-fn are_same_exprs(all: &[Expr], others: &[Expr]) -> bool {
+fn are_same_exprs(all: &[Expr], others: &[Expr]) -> bool
+    ensures { result ≡ Code.are_same_exprs (pack_exprs (map expr_tree all.now)) (pack_exprs (map expr_tree others.now)) }
+{
     if all.len() != others.len() {
         return false;
     }
@@ -68,20 +108,20 @@ fn are_same_exprs(all: &[Expr], others: &[Expr]) -> bool {
     true
 }
 
-fn is_same_function(a: Intrinsic, b: Intrinsic) -> bool
-    ensures { IsTrue result ↔ (a ≡ b) }
+fn function_number(f: Intrinsic) -> u32
+    ensures { result ≡ Code.function_number f }
 {
-    match (a, b) {
-        (Intrinsic::Mod, Intrinsic::Mod) => true,
-        (Intrinsic::Abs, Intrinsic::Abs) => true,
-        (Intrinsic::Max, Intrinsic::Max) => true,
-        (Intrinsic::Min, Intrinsic::Min) => true,
-        _ => false,
+    match f {
+        Intrinsic::Mod => 0,
+        Intrinsic::Abs => 1,
+        Intrinsic::Max => 2,
+        Intrinsic::Min => 3,
     }
 }
 
 /// Whether the name stands in an expression.
 #[cycle(naming)]
+#[tactic(auto, using(crate::proofs::NamedTrees::among_both))]
 fn name_in(x: &Name, e: &Expr) -> bool
     ensures { result ≡ Lists.is_among x.now (Names.expr_names (expr_tree e.now)) }
 {
@@ -90,14 +130,21 @@ fn name_in(x: &Name, e: &Expr) -> bool
         Expr::Var(y) => is_same(x, y),
         Expr::Element(y, all) => is_same(x, y) || name_in_exprs(x, all),
         Expr::Neg(a) => name_in(x, a),
-        Expr::Add(a, b) | Expr::Sub(a, b) | Expr::Mul(a, b) | Expr::Div(a, b) | Expr::Pow(a, b) =>
-            name_in(x, a) || name_in(x, b),
+        Expr::Add(a, b) => name_in(x, a) || name_in(x, b),
+        Expr::Sub(a, b) => name_in(x, a) || name_in(x, b),
+        Expr::Mul(a, b) => name_in(x, a) || name_in(x, b),
+        Expr::Div(a, b) => name_in(x, a) || name_in(x, b),
+        Expr::Pow(a, b) => name_in(x, a) || name_in(x, b),
         Expr::Call(_, all) => name_in_exprs(x, all),
     }
 }
 
+/// Whether the name stands in one of these expressions.
 #[cycle(naming)]
-fn name_in_exprs(x: &Name, all: &[Expr]) -> bool {
+#[tactic(auto, using(crate::proofs::NamedTrees::among_both))]
+fn name_in_exprs(x: &Name, all: &[Expr]) -> bool
+    ensures { result ≡ Lists.is_among x.now (Names.exprs_names (pack_exprs (map expr_tree all.now))) }
+{
     for e in all {
         if name_in(x, e) {
             return true;
@@ -107,17 +154,23 @@ fn name_in_exprs(x: &Name, all: &[Expr]) -> bool {
 }
 
 /// Whether the name stands in a condition.
+#[tactic(auto, using(crate::proofs::NamedTrees::among_both))]
 fn name_in_condition(x: &Name, c: &Cond) -> bool
     ensures { result ≡ Lists.is_among x.now (Names.cond_names (cond_tree c.now)) }
 {
     match c {
         Cond::Rel(_, a, b) => name_in(x, a) || name_in(x, b),
         Cond::Not(a) => name_in_condition(x, a),
-        Cond::And(a, b) | Cond::Or(a, b) => name_in_condition(x, a) || name_in_condition(x, b),
+        Cond::And(a, b) => name_in_condition(x, a) || name_in_condition(x, b),
+        Cond::Or(a, b) => name_in_condition(x, a) || name_in_condition(x, b),
     }
 }
 
-fn name_in_items(x: &Name, items: &[PrintItem]) -> bool {
+/// Whether the name stands in one of these items.
+#[tactic(auto, using(crate::proofs::NamedTrees::among_both))]
+fn name_in_items(x: &Name, items: &[PrintItem]) -> bool
+    ensures { result ≡ Lists.is_among x.now (flat_map Names.item_names (map item_tree items.now)) }
+{
     for item in items {
         if name_in_item(x, item) {
             return true;
@@ -126,6 +179,7 @@ fn name_in_items(x: &Name, items: &[PrintItem]) -> bool {
     false
 }
 
+/// Whether the name stands in an item.
 fn name_in_item(x: &Name, item: &PrintItem) -> bool
     ensures { result ≡ Lists.is_among x.now (Names.item_names (item_tree item.now)) }
 {
@@ -135,8 +189,22 @@ fn name_in_item(x: &Name, item: &PrintItem) -> bool
     }
 }
 
+/// Whether the name stands in one of the items of a READ.
+#[tactic(auto, using(crate::proofs::NamedTrees::among_both))]
+fn name_in_read(x: &Name, items: &[Expr]) -> bool
+    ensures { result ≡ Lists.is_among x.now (flat_map Names.expr_names (map expr_tree items.now)) }
+{
+    for item in items {
+        if name_in(x, item) {
+            return true;
+        }
+    }
+    false
+}
+
 /// Whether the name stands in a statement, in lists of names, too.
 #[cycle(standing)]
+#[tactic(auto, using(crate::proofs::NamedTrees::among_both))]
 fn name_in_one(x: &Name, statement: &Stmt) -> bool
     ensures { result ≡ Lists.is_among x.now (Names.stmt_names (stmt_tree statement.now)) }
 {
@@ -153,12 +221,13 @@ fn name_in_one(x: &Name, statement: &Stmt) -> bool
         }
         Stmt::Do(d) => name_in_head(x, d) || name_in_all(x, &d.body),
         Stmt::Print(items) => name_in_items(x, items),
-        Stmt::Read(items) => name_in_exprs(x, items),
+        Stmt::Read(items) => name_in_read(x, items),
         Stmt::Stop | Stmt::Comment(_) => false,
     }
 }
 
 /// Whether the name stands in the head of a DO.
+#[tactic(auto, using(crate::proofs::NamedTrees::among_both, crate::proofs::NamedTrees::among_more))]
 fn name_in_head(x: &Name, d: &Do) -> bool
     ensures { result ≡ Lists.is_among x.now (Names.head_names (head_of d.now)) }
 {
@@ -172,6 +241,7 @@ fn name_in_head(x: &Name, d: &Do) -> bool
 
 /// Whether the name stands in statements.
 #[cycle(standing)]
+#[tactic(auto, using(crate::proofs::NamedTrees::among_both))]
 fn name_in_all(x: &Name, statements: &[Stmt]) -> bool
     ensures { result ≡ Lists.is_among x.now (Names.stmts_names (stmt_trees statements.now)) }
 {

@@ -1,16 +1,19 @@
 //! Two DO loops as one: the new program, and which statements the step keeps.
 
-ghost use Rattle.std.specs.Prelude.{◌≡◌, ◌+◌, ◌<◌, ◌≤◌, ◌^◌, ◌++◌, [], IfOk, OnOk};
-ghost use Rattle.ped_tree.specs.Names.Collecting.{with_names};
-ghost use Rattle.ped_tree.specs.Numbering.{statements_count};
+ghost use Rattle.std.specs.Prelude.{◌≡◌, ◌==◌, ◌&&◌, ◌+◌, ◌<◌, ◌≤◌, ◌^◌, ◌++◌, ◌∷◌, [], not, map, filter, if◌then◌else◌, IfOk, OnOk};
+ghost use Rattle.std.specs.List.{range_with_len};
+ghost use Rattle.ped_tree.specs.Names.Collecting.{with_name, with_names};
+ghost use Rattle.ped_tree.specs.Numbering.{statement_count, statements_count};
 ghost use Rattle.ped_tree.specs.Tree as Tree;
 ghost use Rattle.ped_tree.specs.Views.{stmt_tree, stmt_trees, do_tree, head_of, program_tree};
-ghost use Rattle.ped_reindex.specs.ped_loops.specs.ped_scalar.specs.ped_rules.specs.ped_loop_runs.specs.ped_bodies.specs.ped_steps.specs.Replacing.{followed};
-ghost use Rattle.ped_splits.specs.CodeFusing.{IsPair};
+ghost use Rattle.ped_reindex.specs.ped_loops.specs.ped_scalar.specs.ped_rules.specs.ped_loop_runs.specs.ped_bodies.specs.ped_steps.specs.Replacing.{followed, alone};
+ghost use Rattle.ped_splits.specs.CodePairs as Code;
+ghost use Rattle.ped_splits.specs.CodePairs.{IsPair, all_joined, one_joined};
 ghost use Rattle.ped_splits.specs.Neighbours as Spec;
 
 use crate::alike::is_same;
 use crate::neighbours::Pair;
+use crate::units::is_comment;
 use ped_base::{Listed, Name, Names, NoMemory, is_among};
 use ped_reindex::ped_loops::ped_scalar::ped_rules::ped_loop_runs::ped_bodies::ped_steps::ped_sums::substitute_in_statements;
 use ped_reindex::ped_loops::ped_scalar::ped_rules::ped_loop_runs::ped_bodies::ped_steps::ped_weaves::ped_laws::ped_graph::update::Keep;
@@ -25,8 +28,6 @@ use std::alloc::Global;
 struct Joint<'a> {
     /// The number of the first of the two.
     number: u32,
-    /// How many statements of its list behind it go: the comments between the two, and the second.
-    gone: usize,
     /// The one DO.
     new: &'a Do,
 }
@@ -41,7 +42,6 @@ pub(crate) fn fused(alloc: Global, program: &Program, pair: &Pair) -> Result<Pro
     let new = joined_loop(alloc, pair)?;
     let joint = Joint {
         number: pair.number,
-        gone: pair.between.len() + 1,
         new: &new,
     };
     let decls = copy_decls(alloc, &program.decls)?;
@@ -70,6 +70,7 @@ fn joined_loop(alloc: Global, pair: &Pair) -> Result<Do, NoMemory>
 }
 
 /// The names of both lists, each once.
+#[tactic(auto, using(crate::proofs::Joints::with_both))]
 fn joined_names(alloc: Global, first: &Names, second: &Names) -> Result<Names, NoMemory>
     ensures { IfOk result (λ names. names ≡ with_names [] (first.now ++ second.now)) }
 {
@@ -84,10 +85,19 @@ fn add_names(names: &mut Names, others: &[Name]) -> Result<(), NoMemory>
     ensures { OnOk result (names.new ≡ with_names names.old others.now) }
 {
     for name in others {
-        if !is_among(name, names.as_slice()) {
-            names.push(*name)?;
-        }
+        add_name(names, name)?;
     }
+    Ok(())
+}
+
+/// Adds a name, where it isn't there.
+fn add_name(names: &mut Names, name: &Name) -> Result<(), NoMemory>
+    ensures { OnOk result (names.new ≡ with_name names.old name.now) }
+{
+    if is_among(name, names.as_slice()) {
+        return Ok(());
+    }
+    names.push(*name)?;
     Ok(())
 }
 
@@ -104,16 +114,6 @@ fn renamed_body(alloc: Global, pair: &Pair) -> Result<Vec<Stmt>, NoMemory>
     substitute_in_statements(alloc, &pair.next.body, &pair.next.variable, &by)
 }
 
-/// Adds copies of statements.
-fn add_copies(alloc: Global, all: &mut Vec<Stmt>, statements: &[Stmt]) -> Result<(), NoMemory>
-    ensures { OnOk result (stmt_trees all.new.items ≡ followed (stmt_trees all.old.items) (stmt_trees statements.now)) }
-{
-    for statement in statements {
-        all.push(statement.copy(alloc)?)?;
-    }
-    Ok(())
-}
-
 /// Copies of statements, of which the first has the number `first`, with the one DO in the place of the two.
 #[cycle(joined)]
 fn joined_among(
@@ -123,16 +123,17 @@ fn joined_among(
     joint: &Joint,
 ) -> Result<Vec<Stmt>, NoMemory>
     requires { first + statements_count (stmt_trees statements.now) < 2 ^ 32 }
+    ensures { IfOk result (λ all. stmt_trees all.items ≡ all_joined (do_tree joint.now.new.now) joint.now.number (stmt_trees statements.now) first) }
 {
     let mut all = Vec::new(alloc);
     let mut next = first;
     for (place, statement) in statements.iter().enumerate() {
-        if next == joint.number && count_statement(statement) > 0 {
-            all.push(Stmt::of_loop(joint.new.copy(alloc)?))?;
-            add_copies(alloc, &mut all, &statements[place + 1 + joint.gone..])?;
+        if is_there(statement, next, joint.number) {
+            add_one(&mut all, Stmt::of_loop(joint.new.copy(alloc)?))?;
+            add_copies(alloc, &mut all, behind_next(&statements[place + 1..]))?;
             return Ok(all);
         }
-        all.push(joined_in(alloc, statement, next, joint)?)?;
+        add_one(&mut all, joined_in(alloc, statement, next, joint)?)?;
         next += count_statement(statement);
     }
     Ok(all)
@@ -145,11 +146,14 @@ fn joined_in(
     statement: &Stmt,
     number: u32,
     joint: &Joint,
-) -> Result<Stmt, NoMemory> {
+) -> Result<Stmt, NoMemory>
+    requires { number + statement_count (stmt_tree statement.now) < 2 ^ 32 }
+    ensures { IfOk result (λ s. stmt_tree s ≡ one_joined (do_tree joint.now.new.now) joint.now.number (stmt_tree statement.now) number) }
+{
     match statement {
         Stmt::Do(d) => {
             let body = joined_among(alloc, &d.body, number + 1, joint)?;
-            Ok(Stmt::of_loop(with_body(alloc, d, body)?))
+            return loop_with(alloc, d, body);
         }
         Stmt::If {
             condition,
@@ -160,14 +164,62 @@ fn joined_in(
             let then_new = joined_among(alloc, then_part, number + 1, joint)?;
             let behind = number + 1 + count_statements(then_part);
             let else_new = joined_among(alloc, else_part, behind, joint)?;
-            Ok(Stmt::block_if(condition, then_new, else_new))
+            return Ok(Stmt::block_if(condition, then_new, else_new));
         }
         Stmt::Assign { left: _, right: _ }
         | Stmt::Print(_)
         | Stmt::Read(_)
         | Stmt::Stop
-        | Stmt::Comment(_) => statement.copy(alloc),
+        | Stmt::Comment(_) => {
+            return statement.copy(alloc);
+        }
     }
+}
+
+/// A DO as a statement, with the head of another and these statements as its body.
+fn loop_with(alloc: Global, d: &Do, body: Vec<Stmt>) -> Result<Stmt, NoMemory>
+    ensures { IfOk result (λ new. stmt_tree new ≡ Tree.Do (head_of d.now) (stmt_trees body.items)) }
+{
+    Ok(Stmt::of_loop(with_body(alloc, d, body)?))
+}
+
+/// Whether the statement is no comment and has the sought number, where this is its own.
+fn is_there(statement: &Stmt, number: u32, sought: u32) -> bool
+    ensures { result ≡ ((number == sought) && not (statement_count (stmt_tree statement.now) == 0)) }
+{
+    number == sought && !is_comment(statement)
+}
+
+/// What is behind the first of these statements that is no comment.
+fn behind_next(statements: &[Stmt]) -> &[Stmt]
+    ensures { stmt_trees result.now ≡ Code.behind_next (stmt_trees statements.now) }
+{
+    for (place, statement) in statements.iter().enumerate() {
+        if !is_comment(statement) {
+            return &statements[place + 1..];
+        }
+    }
+    &[]
+}
+
+/// Adds a statement.
+#[tactic(auto, using(crate::proofs::Joints::following))]
+fn add_one(all: &mut Vec<Stmt>, statement: Stmt) -> Result<(), NoMemory>
+    ensures { OnOk result (stmt_trees all.new.items ≡ followed (stmt_trees all.old.items) (alone (stmt_tree statement))) }
+{
+    all.push(statement)?;
+    Ok(())
+}
+
+/// Adds copies of statements.
+#[tactic(auto, using(crate::proofs::Joints::following))]
+fn add_copies(alloc: Global, all: &mut Vec<Stmt>, statements: &[Stmt]) -> Result<(), NoMemory>
+    ensures { OnOk result (stmt_trees all.new.items ≡ followed (stmt_trees all.old.items) (stmt_trees statements.now)) }
+{
+    for statement in statements {
+        add_one(all, statement.copy(alloc)?)?;
+    }
+    Ok(())
 }
 
 /// Each statement but the second DO, which has this number, with its number behind the step.
@@ -175,13 +227,31 @@ pub(crate) fn kept_without(alloc: Global, program: &Program, number: u32) -> Res
     requires { statements_count (program_tree program.now).body + 1 < 2 ^ 32 }
     ensures { IfOk result (λ keep. keep ≡ Spec.kept_without number (program_tree program.now)) }
 {
+    kept_up_to(alloc, count_statements(&program.body), number)
+}
+
+/// The same of so many statements.
+fn kept_up_to(alloc: Global, count: u32, number: u32) -> Result<Keep, NoMemory>
+    requires { count + 1 < 2 ^ 32 }
+    ensures { IfOk result (λ keep. keep ≡ filter (λ p. not (p.0 == number)) (map (λ k. (k, Spec.closed_up number k)) (range_with_len 1 count))) }
+{
     let mut keep = Listed::new(alloc);
-    for n in 0..count_statements(&program.body) {
-        if n + 1 != number {
-            keep.push((n + 1, closed_up(number, n + 1)))?;
-        }
+    for n in 0..count {
+        add_unless(&mut keep, number, n + 1)?;
     }
     Ok(keep)
+}
+
+/// Adds a statement with its number behind the step, where it isn't the second DO.
+fn add_unless(keep: &mut Keep, number: u32, k: u32) -> Result<(), NoMemory>
+    requires { 1 ≤ k }
+    ensures { OnOk result (keep.new ≡ keep.old ++ (if k == number then [] else (k, Spec.closed_up number k) ∷ [])) }
+{
+    if k == number {
+        return Ok(());
+    }
+    keep.push((k, closed_up(number, k)))?;
+    Ok(())
 }
 
 /// The number behind the step of a statement.

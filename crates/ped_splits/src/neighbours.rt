@@ -1,11 +1,12 @@
 //! The DO that comes next behind a DO.
 
 ghost use Rattle.std.specs.Prelude.{◌≡◌, ◌+◌, ◌<◌, ◌^◌, MatchOption};
-ghost use Rattle.ped_tree.specs.Views.{program_tree, stmt_trees};
-ghost use Rattle.ped_tree.specs.Numbering.{statements_count};
-ghost use Rattle.ped_splits.specs.CodeFusing.{IsPair};
+ghost use Rattle.ped_tree.specs.Views.{program_tree, stmt_tree, stmt_trees, head_of};
+ghost use Rattle.ped_tree.specs.Numbering.{statement_count, statements_count};
+ghost use Rattle.ped_splits.specs.CodePairs.{IsPair, two_in, two_with, two_from, two_among, two_under, two_to, next_in};
 ghost use Rattle.ped_splits.specs.Neighbours.{Neighbour};
 
+use crate::units::is_comment;
 use ped_tree::{Do, Program, Stmt, count_statement, count_statements};
 
 /// Two DO loops, one behind the other in the same list.
@@ -43,32 +44,31 @@ pub(crate) fn pair_at<'a>(program: &'a Program, number: u32) -> Option<Pair<'a>>
 #[cycle(pair)]
 fn pair_among<'a>(statements: &'a [Stmt], first: u32, number: u32) -> Option<Pair<'a>>
     requires { first + statements_count (stmt_trees statements.now) < 2 ^ 32 }
+    ensures { two_in result ≡ two_among (stmt_trees statements.now) first number }
 {
     let mut next = first;
     for (place, statement) in statements.iter().enumerate() {
         let behind = next + count_statement(statement);
-        if next <= number && number < behind {
-            return pair_from(statement, &statements[place + 1..], next, number);
+        if number < behind {
+            if next == number {
+                return pair_from(number, statement, &statements[place + 1..]);
+            }
+            return pair_under(statement, next, number);
         }
         next = behind;
     }
     None
 }
 
-/// The same where the first is this statement, which has the number `first`, or stands in it; the others stand behind it.
+/// The same in the parts of a statement, which has the number `first`.
 #[cycle(pair)]
-fn pair_from<'a>(
-    statement: &'a Stmt,
-    others: &'a [Stmt],
-    first: u32,
-    number: u32,
-) -> Option<Pair<'a>> {
+fn pair_under<'a>(statement: &'a Stmt, first: u32, number: u32) -> Option<Pair<'a>>
+    requires { first + statement_count (stmt_tree statement.now) < 2 ^ 32 }
+    ensures { two_in result ≡ two_under (stmt_tree statement.now) first number }
+{
     match statement {
         Stmt::Do(d) => {
-            if first == number {
-                return pair_of(number, d, others);
-            }
-            pair_among(&d.body, first + 1, number)
+            return pair_among(&d.body, first + 1, number);
         }
         Stmt::If {
             condition: _,
@@ -79,41 +79,82 @@ fn pair_from<'a>(
             if number < behind {
                 return pair_among(then_part, first + 1, number);
             }
-            pair_among(else_part, behind, number)
+            return pair_among(else_part, behind, number);
         }
         Stmt::Assign { left: _, right: _ }
         | Stmt::Print(_)
         | Stmt::Read(_)
         | Stmt::Stop
-        | Stmt::Comment(_) => None,
+        | Stmt::Comment(_) => {
+            return None;
+        }
+    }
+}
+
+/// A statement, which has this number, and the next DO among those behind it, where it is a DO, too.
+fn pair_from<'a>(number: u32, statement: &'a Stmt, others: &'a [Stmt]) -> Option<Pair<'a>>
+    ensures { two_in result ≡ two_from number (stmt_tree statement.now) (stmt_trees others.now) }
+{
+    match statement {
+        Stmt::Do(own) => {
+            return pair_of(number, own, others);
+        }
+        Stmt::Assign { left: _, right: _ }
+        | Stmt::If {
+            condition: _,
+            then_part: _,
+            else_part: _,
+        }
+        | Stmt::Print(_)
+        | Stmt::Read(_)
+        | Stmt::Stop
+        | Stmt::Comment(_) => {
+            return None;
+        }
     }
 }
 
 /// The DO and the next one among the statements behind it, where nothing but comments stands before that.
-fn pair_of<'a>(number: u32, own: &'a Do, others: &'a [Stmt]) -> Option<Pair<'a>> {
+fn pair_of<'a>(number: u32, own: &'a Do, others: &'a [Stmt]) -> Option<Pair<'a>>
+    ensures { two_in result ≡ two_with number (head_of own.now) (stmt_trees own.now.body.items) (next_in (stmt_trees others.now)) }
+{
     for (place, statement) in others.iter().enumerate() {
-        match statement {
-            Stmt::Comment(_) => {}
-            Stmt::Do(next) => {
-                return Some(Pair {
-                    number,
-                    own,
-                    between: &others[..place],
-                    next,
-                });
-            }
-            Stmt::Assign { left: _, right: _ }
-            | Stmt::If {
-                condition: _,
-                then_part: _,
-                else_part: _,
-            }
-            | Stmt::Print(_)
-            | Stmt::Read(_)
-            | Stmt::Stop => {
-                return None;
-            }
+        if !is_comment(statement) {
+            return pair_with(number, own, &others[..place], statement);
         }
     }
     None
+}
+
+/// The DO and this statement behind it, where that is a DO, too, with the comments between.
+fn pair_with<'a>(
+    number: u32,
+    own: &'a Do,
+    between: &'a [Stmt],
+    statement: &'a Stmt,
+) -> Option<Pair<'a>>
+    ensures { two_in result ≡ two_to number (head_of own.now) (stmt_trees own.now.body.items) (stmt_trees between.now) (stmt_tree statement.now) }
+{
+    match statement {
+        Stmt::Do(next) => {
+            return Some(Pair {
+                number,
+                own,
+                between,
+                next,
+            });
+        }
+        Stmt::Assign { left: _, right: _ }
+        | Stmt::If {
+            condition: _,
+            then_part: _,
+            else_part: _,
+        }
+        | Stmt::Print(_)
+        | Stmt::Read(_)
+        | Stmt::Stop
+        | Stmt::Comment(_) => {
+            return None;
+        }
+    }
 }

@@ -21,6 +21,7 @@ mod JoinAccesses
 mod JoinPlain
 mod JoinedFacts
 mod JoinKeeps
+mod FusedKeeps
 mod JoinInitial
 mod CoverFacts
 mod CoverGaps

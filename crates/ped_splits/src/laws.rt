@@ -39,7 +39,9 @@ pub fn distribution_is_lawful()
 /// and is tidy if the old one is so, and means the same (Allen and Kennedy, section 6.2.5; ParaScope).
 pub fn fusion_is_lawful()
     ensures { (s : ℕ) → IsLawful (fusing s) }
-{}
+{
+    accesses_are_made();
+}
 
 /// In a run that ends of the program in which two DO loops that may become one have one variable: where in one execution of
 /// the two, two references make conflicting accesses, one in an iteration of the second DO and one in a later iteration of

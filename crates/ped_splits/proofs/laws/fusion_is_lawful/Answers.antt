@@ -1,13 +1,20 @@
 use Rattle.std.proofs.Common.{ℕ}
 use Rattle.ped_splits.proofs.FuseRules.{chain}
-use Rattle.ped_splits.proofs.RenameGaps.{next_loop}
-use Rattle.ped_splits.proofs.RenameActs.{turned_stripped, turned_referred}
+use Rattle.ped_splits.proofs.RenameUnread.{unread_cells, plain_unnamed}
 use Rattle.ped_splits.proofs.RenameFacts.{renaming}
 use Rattle.ped_splits.proofs.RenamePaths.{live_before}
 use Rattle.ped_splits.proofs.RenameTrips.{rests_turned}
+use Rattle.ped_splits.proofs.RenameStands.{stands_renamed}
+use Rattle.ped_splits.proofs.RenameKinds.{renamed_setting}
+use Rattle.ped_splits.proofs.RenameRound.{round_renamed}
+use Rattle.ped_splits.proofs.RenameInside.{next_inside}
+use Rattle.ped_splits.proofs.RenamePlaces.{stands_in}
 use Rattle.ped_splits.proofs.RenameAsked.{unwanted_exit}
+use Rattle.ped_splits.proofs.RenameStores.{all_scoped}
+use Rattle.ped_splits.proofs.RenameRaces.{no_race_comes}
+use Rattle.ped_splits.proofs.RenameTold.{told_unraced}
+use Rattle.ped_splits.proofs.RenameQuiet.{quiet_copies}
 use Rattle.ped_splits.proofs.RenameKeeps.{renamed_keeps, accesses_alike}
-use Rattle.ped_splits.proofs.RenameUnread.{unread_cells, plain_unnamed}
 use Rattle.ped_splits.proofs.laws.fusion_is_lawful.Goals as goal
 
 pub returns : goal.returns

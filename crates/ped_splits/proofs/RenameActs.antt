@@ -1,5 +1,5 @@
 -- Acts that are done as before, at the same places, but for stores of DO loops of themselves, which go to other cells; and what is done by references, which is the same.
-use Rattle.std.proofs.Common.{◌≡◌, ◌⊎◌, ℕ, zero, suc, ◌+◌, ◌<◌, ◌≤◌, List, [], ◌∷◌, ◌++◌, map, filter, Bool, true, false, ◌&&◌, not, refl, sym, ap, ◌∙◌, subst, inl, inr, arith, append-nil}
+use Rattle.std.proofs.Common.{if◌then◌else◌, ◌≡◌, ◌⊎◌, ℕ, zero, suc, ◌+◌, ◌<◌, ◌≤◌, List, [], ◌∷◌, ◌++◌, map, filter, Bool, true, false, ◌&&◌, not, refl, sym, ap, ◌∙◌, subst, inl, inr, arith, append-nil}
 use Rattle.std.specs.Prelude.{nat_lt}
 use Rattle.std.specs.List.{flat_map, range_with_len}
 use Rattle.std.proofs.lemmas.List.{map-append}
@@ -18,6 +18,10 @@ use Rattle.ped_reindex.specs.ped_loops.specs.ped_scalar.specs.ped_rules.specs.pe
 use Rattle.ped_reindex.specs.ped_loops.specs.ped_scalar.specs.ped_rules.specs.ped_loop_runs.specs.ped_bodies.specs.ped_steps.specs.ped_laws.specs.Acts.Renaming.{AreRenamed, Renamed, own_name}
 use Rattle.ped_reindex.specs.ped_loops.specs.ped_scalar.specs.ped_rules.specs.ped_loop_runs.specs.ped_bodies.specs.ped_steps.specs.ped_laws.proofs.ActLaws.OfCells.{cells_append, goes_first, stays_first}
 use Rattle.ped_reindex.specs.ped_loops.specs.ped_scalar.specs.ped_rules.specs.ped_loop_runs.specs.ped_bodies.proofs.BodyLaws.LikewiseActs.{cells_without, filter_first, filter_other}
+
+-- an item that doesn't pass is left out
+filter_out : {X : Type 0} (p : X → Bool) (x : X) (xs : List X) → p x ≡ false → filter p (x ∷ xs) ≡ filter p xs
+filter_out p x xs e = ap (λ b. if b then x ∷ filter p xs else filter p xs) e
 
 -- the same touch, or two stores by no reference, in these two cells
 pub record IsTurnedTouch (c d : Cell) (x y : Touch) : Type 0 where
@@ -160,7 +164,7 @@ module _ (c d : Cell) where
     none_made t e = go (is_access t) refl
       where
         nothing_made : filter by_reference (made t ∷ []) ≡ []
-        nothing_made = filter_other by_reference (made t) [] (ap (nat_lt 0) e)
+        nothing_made = filter_out by_reference (made t) [] (ap (nat_lt 0) e)
 
         go : (b : Bool) → is_access t ≡ b → made_by (t ∷ []) ≡ []
         go true h = ap (λ (us : List Touch). filter by_reference (map made us)) (filter_first is_access t [] h) ∙ nothing_made
@@ -264,7 +268,7 @@ module _ (step : Step) (place : Place) (first : List Touch) where
       nothing (y ∷ ys) h = go (is_access y) refl (nothing ys (λ v i. h v (inr i)))
         where
           go : (b : Bool) → is_access y ≡ b → filter by_reference (map made (filter is_access ys)) ≡ [] → filter by_reference (map made (filter is_access (y ∷ ys))) ≡ []
-          go true e more = ap (λ (us : List Touch). filter by_reference (map made us)) (filter_first is_access y ys e) ∙ filter_other by_reference (made y) (map made (filter is_access ys)) (ap (nat_lt 0) (h y (inl refl))) ∙ more
+          go true e more = ap (λ (us : List Touch). filter by_reference (map made us)) (filter_first is_access y ys e) ∙ filter_out by_reference (made y) (map made (filter is_access ys)) (ap (nat_lt 0) (h y (inl refl))) ∙ more
           go false e more = ap (λ (us : List Touch). filter by_reference (map made us)) (filter_other is_access y ys e) ∙ more
 
   pub exits_referred : (xs ys : List Touch) → ((v : Touch) → IsIn v xs → v.reference ≡ 0) → ((v : Touch) → IsIn v ys → v.reference ≡ 0)

@@ -42,27 +42,27 @@ use Rattle.ped_reindex.specs.ped_loops.specs.ped_scalar.specs.ped_rules.specs.pe
 -- touches find what the store holds, so a cell that they need holds a number, where each of their reads of it finds one
 pub needed_number : (ts : List Touch) (s : Store) (c : Cell) → ((t : Touch) → IsIn t ts → t.manner ≡ reads → t.cell ≡ c → (n : ℤ) × (t.content ≡ Number n)) → Find ts s → needed_by ts c ≡ true → (n : ℤ) × (s c ≡ Number n)
 needed_number [] s c h f k = absurd cc
-needed_number (t ∷ ts) s c h f k = go (same_cell t.cell c) refl
+needed_number (t ∷ ts) s c h f k = go (needed_number ts (touched t.manner t.cell t.content s) c (λ u i. h u (inr i)) f.1) (same_cell t.cell c) refl
   where
-    more : needed_by ts c ≡ true → (n : ℤ) × (touched t.manner t.cell t.content s c ≡ Number n)
-    more q = needed_number ts (touched t.manner t.cell t.content s) c (λ u i. h u (inr i)) f.1 q
+    abbrev More : Type 0
+    More = needed_by ts c ≡ true → (n : ℤ) × (touched t.manner t.cell t.content s c ≡ Number n)
 
     elsewhere : (m : Manner) → same_cell t.cell c ≡ false → touched m t.cell t.content s c ≡ s c
     elsewhere writes e = ap (λ (b : Bool). if b then t.content else s c) e
     elsewhere reads e = refl
     elsewhere is_told e = refl
 
-    told : (m : Manner) → t.manner ≡ m → t.cell ≡ c → read_first m (needed_by ts c) ≡ true → (n : ℤ) × (s c ≡ Number n)
-    told reads e same q =
+    told : More → (m : Manner) → t.manner ≡ m → t.cell ≡ c → read_first m (needed_by ts c) ≡ true → (n : ℤ) × (s c ≡ Number n)
+    told more reads e same q =
         let z = h t (inl refl) e same in
         let found : s t.cell ≡ t.content = subst (λ (m : Manner). IsFound m t.cell t.content s) e f.0 in
         (z.0, ap s (sym same) ∙ found ∙ z.1)
-    told writes e same q = absurd cc
-    told is_told e same q = let z = more q in (z.0, sym (ap (λ (m : Manner). touched m t.cell t.content s c) e) ∙ z.1)
+    told more writes e same q = absurd cc
+    told more is_told e same q = let z = more q in (z.0, sym (ap (λ (m : Manner). touched m t.cell t.content s c) e) ∙ z.1)
 
-    go : (b : Bool) → same_cell t.cell c ≡ b → (n : ℤ) × (s c ≡ Number n)
-    go true e = told t.manner refl (cell_is t.cell c e) (sym (ap (λ (b : Bool). if b then read_first t.manner (needed_by ts c) else needed_by ts c) e) ∙ k)
-    go false e = let z = more (sym (ap (λ (b : Bool). if b then read_first t.manner (needed_by ts c) else needed_by ts c) e) ∙ k) in (z.0, sym (elsewhere t.manner e) ∙ z.1)
+    go : More → (b : Bool) → same_cell t.cell c ≡ b → (n : ℤ) × (s c ≡ Number n)
+    go more true e = told more t.manner refl (cell_is t.cell c e) (sym (ap (λ (b : Bool). if b then read_first t.manner (needed_by ts c) else needed_by ts c) e) ∙ k)
+    go more false e = let z = more (sym (ap (λ (b : Bool). if b then read_first t.manner (needed_by ts c) else needed_by ts c) e) ∙ k) in (z.0, sym (elsewhere t.manner e) ∙ z.1)
 
 pub in_touches : (acts : List Act) (v : Touch) → IsIn v (touches_of acts) → (a : Act) × IsIn a acts × IsIn v a.touches
 in_touches [] v i = absurd i
@@ -96,11 +96,11 @@ faultless (failed fault n) h = absurd h
 -- a scalar's cell is no line
 scalar_line : (S : Scope) (w : List ℕ) → is_lines (cell_of S w) ≡ false
 scalar_line [] w = refl
-scalar_line (f ∷ S) w = go (is_among w f.private)
+scalar_line (f ∷ S) w = go (is_among w f.private) (scalar_line S w)
   where
-    go : (b : Bool) → is_lines (if b then Private w (iterations_of (turns_of (f ∷ S))) else cell_of S w) ≡ false
-    go true = refl
-    go false = scalar_line S w
+    go : (b : Bool) → is_lines (cell_of S w) ≡ false → is_lines (if b then Private w (iterations_of (turns_of (f ∷ S))) else cell_of S w) ≡ false
+    go true more = refl
+    go false more = more
 
 module _ (t : ProgramTree) (valid : IsValid t) (tidy : IsTidy t) (data_bytes : List ℕ) (ends : Ends (run_of t data_bytes).ending) (names : List (List ℕ)) (apart : Cell → Bool) (l : ℕ) (front behind : List Act) (u : Store) (old new : List Act)
     (e : IsOtherExit names apart (setting_of t) t (store_at_start (lines data_bytes)) l front behind u old new) (w : List ℕ) (index : is_among w (all_loop_variables e.round.loop.body) ≡ true) where
@@ -150,7 +150,7 @@ module _ (t : ProgramTree) (valid : IsValid t) (tidy : IsTidy t) (data_bytes : L
       let a = in_touches behind v i in
       numbers_read p t.body 1 [] start a.0 v (faultless (run_of t data_bytes).ending ends) (subst (IsIn a.0) (sym whole) (in_right a.0 front (leaving ∷ behind) (inr a.1))) a.2 m (ap is_lines same ∙ scalar_line e.scope w))
       (fits_find behind (store_after (leaving ∷ []) u) fits_behind) n in
-      let no : Undefined ≡ Number r.0 = sym undefined_behind ∙ r.1 in
+      let wrong : Undefined ≡ Number r.0 = sym undefined_behind ∙ r.1 in
       absurd cc)
 
   one : IsOneToOne p.number

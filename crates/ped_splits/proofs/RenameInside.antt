@@ -29,14 +29,11 @@ loop_stands t n loop =
 
 pub any_there : (test : ℕ → Bool) (n c j : ℕ) → n ≤ j → j < n + c → test j ≡ true → list_any test (range_with_len n c) ≡ true
 any_there test n zero j from to h = absurd (omega (arith, from, to))
-any_there test n (suc c) j from to h = go (j == n) refl
+any_there test n (suc c) j from to h = go (j == n) refl (λ apart. any_there test (n + 1) c j (omega (arith, from, apart)) (omega (arith, to)) h)
   where
-    more : (j ≡ n → ⊥) → list_any test (range_with_len (n + 1) c) ≡ true
-    more apart = any_there test (n + 1) c j (omega (arith, from, apart)) (omega (arith, to)) h
-
-    go : (b : Bool) → (j == n) ≡ b → test n || list_any test (range_with_len (n + 1) c) ≡ true
-    go true e = ap (λ (b : Bool). b || list_any test (range_with_len (n + 1) c)) (ap test (sym (eqb-true j n e)) ∙ h)
-    go false e = or_more (test n) (list_any test (range_with_len (n + 1) c)) (more (λ q. both_ways (j == n) e (subst (λ (k : ℕ). (j == k) ≡ true) q (itself j))))
+    go : (b : Bool) → (j == n) ≡ b → ((j ≡ n → ⊥) → list_any test (range_with_len (n + 1) c) ≡ true) → test n || list_any test (range_with_len (n + 1) c) ≡ true
+    go true e more = ap (λ (b : Bool). b || list_any test (range_with_len (n + 1) c)) (ap test (sym (eqb-true j n e)) ∙ h)
+    go false e more = or_more (test n) (list_any test (range_with_len (n + 1) c)) (more (λ q. both_ways (j == n) e (subst (λ (k : ℕ). (j == k) ≡ true) q (itself j))))
       where
         itself : (k : ℕ) → (k == k) ≡ true
         itself k = grind arith
@@ -48,11 +45,11 @@ any_there test n (suc c) j from to h = go (j == n) refl
 -- where it is so of one in a part of a range, it is so of one in the whole
 any_more : (test : ℕ → Bool) (n c m d : ℕ) → m ≤ n → n + c ≤ m + d → list_any test (range_with_len n c) ≡ true → list_any test (range_with_len m d) ≡ true
 any_more test n zero m d from to h = absurd cc
-any_more test n (suc c) m d from to h = go (test n) refl h
+any_more test n (suc c) m d from to h = go (test n) refl (λ k. any_more test (n + 1) c m d (omega (arith, from)) (omega (arith, to)) k) h
   where
-    go : (b : Bool) → test n ≡ b → b || list_any test (range_with_len (n + 1) c) ≡ true → list_any test (range_with_len m d) ≡ true
-    go true e k = any_there test m d n from (omega (arith, to)) e
-    go false e k = any_more test (n + 1) c m d (omega (arith, from)) (omega (arith, to)) k
+    go : (b : Bool) → test n ≡ b → (list_any test (range_with_len (n + 1) c) ≡ true → list_any test (range_with_len m d) ≡ true) → b || list_any test (range_with_len (n + 1) c) ≡ true → list_any test (range_with_len m d) ≡ true
+    go true e more k = any_there test m d n from (omega (arith, to)) e
+    go false e more k = more k
 
 module _ {t : ProgramTree} {s : ℕ} (x : Neighbour t s) (n : ℕ) (loop : LoopOf t n) (from : n < next_number x) (to : next_number x ≤ n + statements_count loop.body) where
   abbrev m : ℕ

@@ -156,11 +156,11 @@ module _ (making : MakingLaw) (t : ProgramTree) (s : ℕ) (x : Neighbour t s) (r
 
   named : (S : Scope) (y : List ℕ) → is_cell_of J (cell_of S y) ≡ true → is_same_text J y ≡ true
   named [] y h = h
-  named (f ∷ S) y h = go (is_among y f.private) h
+  named (f ∷ S) y h = go (is_among y f.private) (named S y) h
     where
-      go : (b : Bool) → is_cell_of J (if b then Private y (iterations_of (turns_of (f ∷ S))) else cell_of S y) ≡ true → is_same_text J y ≡ true
-      go true k = k
-      go false k = named S y k
+      go : (b : Bool) → (is_cell_of J (cell_of S y) ≡ true → is_same_text J y ≡ true) → is_cell_of J (if b then Private y (iterations_of (turns_of (f ∷ S))) else cell_of S y) ≡ true → is_same_text J y ≡ true
+      go true more k = k
+      go false more k = more k
 
   -- at a place near it all but the variable of the second DO stands for the same
   beside : (scope other : Scope) → Near scope other → AreBeside J scope other

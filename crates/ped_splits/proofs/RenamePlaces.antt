@@ -94,10 +94,10 @@ module _ (t : ProgramTree) (y : List ℕ) (m n : ℕ) (h : Head) (b : StmtTrees)
 -- a lost copy belongs to an iteration there
 pub lost_turn : (t : ProgramTree) (y : List ℕ) (m : ℕ) (S : Scope) (w : List ℕ) → is_lost t y m (cell_of S w) ≡ true → (i : Turn) × IsIn i (turns_of S) × (loses t y m i.statement (statement_with i.statement t) ≡ true)
 lost_turn t y m [] w h = absurd cc
-lost_turn t y m (f ∷ S) w h = go (is_among w f.private) h
+lost_turn t y m (f ∷ S) w h = go (is_among w f.private) (lost_turn t y m S w) h
   where
-    go : (b : Bool) → is_lost t y m (if b then Private w (iterations_of (turns_of (f ∷ S))) else cell_of S w) ≡ true → (i : Turn) × IsIn i (turns_of (f ∷ S)) × (loses t y m i.statement (statement_with i.statement t) ≡ true)
-    go true k = (f.turn, in_right f.turn (turns_of S) (f.turn ∷ []) (inl refl), last k)
+    go : (b : Bool) → (is_lost t y m (cell_of S w) ≡ true → (i : Turn) × IsIn i (turns_of S) × (loses t y m i.statement (statement_with i.statement t) ≡ true)) → is_lost t y m (if b then Private w (iterations_of (turns_of (f ∷ S))) else cell_of S w) ≡ true → (i : Turn) × IsIn i (turns_of (f ∷ S)) × (loses t y m i.statement (statement_with i.statement t) ≡ true)
+    go true more k = (f.turn, in_right f.turn (turns_of S) (f.turn ∷ []) (inl refl), last k)
       where
         second : (a b : Bool) → a && b ≡ true → b ≡ true
         second true b e = e
@@ -108,4 +108,4 @@ lost_turn t y m (f ∷ S) w h = go (is_among w f.private) h
             sym (last_of (λ j. loses t y m j (statement_with j t)) (iterations_of (turns_of S)) (record { statement = f.turn.statement; number = f.turn.number }))
             ∙ ap (of_last (λ j. loses t y m j (statement_with j t))) (sym (iterations_more (turns_of S) f.turn))
             ∙ second (is_same_text y w) (of_last (λ j. loses t y m j (statement_with j t)) (iterations_of (turns_of (f ∷ S)))) e
-    go false k = let r = lost_turn t y m S w k in (r.0, in_left r.0 (turns_of S) (f.turn ∷ []) r.1, r.2)
+    go false more k = let r = more k in (r.0, in_left r.0 (turns_of S) (f.turn ∷ []) r.1, r.2)

@@ -23,7 +23,6 @@ use Rattle.ped_reindex.specs.ped_loops.specs.ped_scalar.specs.ped_rules.specs.pe
 use Rattle.ped_reindex.specs.ped_loops.specs.ped_scalar.specs.ped_rules.specs.ped_loop_runs.specs.ped_bodies.specs.ped_steps.specs.Replacing.{alone}
 use Rattle.ped_reindex.specs.ped_loops.specs.ped_scalar.specs.ped_rules.specs.ped_loop_runs.specs.ped_bodies.specs.ped_steps.specs.Runs.Exchanging.{is_of_scalar}
 use Rattle.ped_reindex.specs.ped_loops.specs.ped_scalar.specs.ped_rules.specs.ped_loop_runs.specs.ped_bodies.specs.ped_steps.specs.Tidy.{is_write_in, is_written_in}
-use Rattle.ped_reindex.specs.ped_loops.specs.ped_scalar.specs.ped_rules.specs.ped_loop_runs.specs.ped_bodies.specs.ped_steps.specs.ped_weaves.proofs.WeaveLaws.NewNames.{any_of}
 use Rattle.ped_reindex.specs.ped_loops.specs.ped_scalar.specs.ped_rules.specs.ped_loop_runs.specs.ped_bodies.specs.ped_steps.specs.ped_refs.specs.References.{references}
 use Rattle.ped_reindex.specs.ped_loops.specs.ped_scalar.specs.ped_rules.specs.ped_loop_runs.specs.ped_bodies.specs.ped_steps.specs.ped_laws.proofs.ActLaws.Conflicting.{access_by, access_in, accesses_in}
 use Rattle.ped_reindex.specs.ped_loops.specs.ped_scalar.specs.ped_rules.specs.ped_loop_runs.specs.ped_bodies.specs.ped_steps.specs.ped_laws.proofs.ConflictLaws.CoveringCells.{name_in, name_of_cell}
@@ -31,7 +30,7 @@ use Rattle.ped_reindex.specs.ped_loops.specs.ped_scalar.specs.ped_rules.specs.pe
 use Rattle.ped_reindex.specs.ped_loops.specs.ped_scalar.specs.ped_rules.specs.ped_loop_runs.specs.ped_bodies.specs.ped_steps.specs.ped_laws.proofs.ConflictLaws.CoveringRuns.{MakingLaw}
 use Rattle.ped_reindex.specs.ped_loops.specs.ped_scalar.specs.ped_rules.specs.ped_loop_runs.specs.ped_bodies.specs.ped_steps.specs.ped_laws.proofs.ConflictLaws.CoveringTelling.{Tells, program_tells}
 use Rattle.ped_reindex.specs.ped_loops.specs.ped_scalar.specs.ped_rules.specs.ped_loop_runs.specs.ped_bodies.specs.ped_steps.specs.ped_laws.proofs.ActLaws.Lists.{in_left, in_right}
-use Rattle.ped_reindex.specs.ped_loops.specs.ped_scalar.specs.ped_rules.specs.ped_loop_runs.specs.ped_bodies.specs.ped_steps.specs.ped_laws.proofs.ActLaws.Renamings.{or_right}
+use Rattle.ped_reindex.specs.ped_loops.specs.ped_scalar.specs.ped_rules.specs.ped_loop_runs.specs.ped_bodies.specs.ped_steps.specs.ped_laws.proofs.ActLaws.Renamings.{or_left, or_right}
 use Rattle.ped_reindex.specs.ped_loops.specs.ped_scalar.specs.ped_rules.specs.ped_loop_runs.specs.ped_bodies.specs.ped_steps.specs.ped_laws.proofs.ActLaws.SameCells.{cell_is, cell_itself}
 use Rattle.ped_reindex.specs.ped_loops.specs.ped_scalar.specs.ped_rules.specs.ped_loop_runs.specs.ped_bodies.specs.ped_steps.specs.ped_laws.proofs.ActLaws.Stores.{fits_find, fits_rest}
 use Rattle.ped_reindex.specs.ped_loops.specs.ped_scalar.specs.ped_rules.specs.ped_loop_runs.specs.ped_bodies.specs.ped_steps.specs.ped_laws.proofs.FlowRunLaws.Cells.{cell_named}
@@ -64,6 +63,12 @@ use Rattle.ped_splits.proofs.RenameRound.{variables_by}
 use Rattle.ped_splits.proofs.RenameStores.{IsScoped, IsStored, all_scoped}
 use Rattle.ped_splits.specs.Neighbours.{Neighbour, next_number}
 
+-- a list with an item that passes a test
+any_of : {X : Type 0} (p : X → Bool) (xs : List X) (x : X) → IsIn x xs → p x ≡ true → list_any p xs ≡ true
+any_of p [] x i h = absurd i
+any_of p (y ∷ ys) x (inl e) h = or_left (p y) (list_any p ys) (ap p (sym e) ∙ h)
+any_of p (y ∷ ys) x (inr i) h = or_right (p y) (list_any p ys) (any_of p ys x i h)
+
 -- a cell has one name
 two_names : (c : Cell) (y w : List ℕ) → is_cell_of y c ≡ true → is_cell_of w c ≡ true → y ≡ w
 two_names (cells.Scalar z) y w h k = same_is y z h ∙ sym (same_is w z k)
@@ -75,11 +80,11 @@ two_names cells.Out y w h k = absurd cc
 -- where some number of a range passes a test, there is one
 any_witness : (test : ℕ → Bool) (n c : ℕ) → list_any test (range_with_len n c) ≡ true → (j : ℕ) × (n ≤ j) × (j < n + c) × (test j ≡ true)
 any_witness test n zero h = absurd cc
-any_witness test n (suc c) h = go (test n) refl h
+any_witness test n (suc c) h = go (test n) refl (any_witness test (n + 1) c) h
   where
-    go : (b : Bool) → test n ≡ b → b || list_any test (range_with_len (n + 1) c) ≡ true → (j : ℕ) × (n ≤ j) × (j < n + suc c) × (test j ≡ true)
-    go true e k = (n, omega arith, omega arith, e)
-    go false e k = let r = any_witness test (n + 1) c k in let lo = r.1 in let hi = r.2 in (r.0, omega (arith, lo), omega (arith, hi), r.3)
+    go : (b : Bool) → test n ≡ b → (list_any test (range_with_len (n + 1) c) ≡ true → (j : ℕ) × (n + 1 ≤ j) × (j < n + 1 + c) × (test j ≡ true)) → b || list_any test (range_with_len (n + 1) c) ≡ true → (j : ℕ) × (n ≤ j) × (j < n + suc c) × (test j ≡ true)
+    go true e more k = (n, omega arith, omega arith, e)
+    go false e more k = let r = more k in let lo = r.1 in let hi = r.2 in (r.0, omega (arith, lo), omega (arith, hi), r.3)
 
 -- a lost copy is a cell of a scalar
 lost_scalar : (t : ProgramTree) (y : List ℕ) (m : ℕ) (c : Cell) → is_lost t y m c ≡ true → is_of_scalar c ≡ true
@@ -108,19 +113,21 @@ lost_undefined t y m cells.Out h d = absurd cc
 needed_behind : (xs ys : List Touch) (u : Store) (c : Cell) → ((v : Touch) → IsIn v (xs ++ ys) → v.manner ≡ reads → v.cell ≡ c → (n : ℤ) × (v.content ≡ Number n)) → ((v : Touch) → IsIn v xs → is_write v.manner ≡ true → v.cell ≡ c → v.content ≡ Undefined) → Find (xs ++ ys) u → needed_by (xs ++ ys) c ≡ false →
     (needed_by ys c ≡ false) × ((v : Touch) → IsIn v xs → v.manner ≡ reads → v.cell ≡ c → ⊥)
 needed_behind [] ys u c h w f k = (k, λ v i e same. absurd i)
-needed_behind (z ∷ xs) ys u c h w f k = (more.0, λ v i e same. elim i [ inl q ↦ first (sym (ap (λ (y : Touch). y.manner) q) ∙ e) (sym (ap (λ (y : Touch). y.cell) q) ∙ same) | inr j ↦ more.1 v j e same ])
+needed_behind (z ∷ xs) ys u c h w f k =
+    let more = needed_behind xs ys (touched z.manner z.cell z.content u) c (λ v i. h v (inr i)) (λ v i. w v (inr i)) f.1 rest in
+    (more.0, λ v i e same. elim i [ inl q ↦ first (sym (ap (λ (y : Touch). y.manner) q) ∙ e) (sym (ap (λ (y : Touch). y.cell) q) ∙ same) | inr j ↦ more.1 v j e same ])
   where
     by_manner : (m : Manner) → z.manner ≡ m → z.cell ≡ c → read_first m (needed_by (xs ++ ys) c) ≡ false → needed_by (xs ++ ys) c ≡ false
     by_manner reads e same q = absurd cc
     by_manner is_told e same q = q
     by_manner writes e same q = false_unless (needed_by (xs ++ ys) c) (λ n.
         let r = needed_number (xs ++ ys) (touched z.manner z.cell z.content u) c (λ v i. h v (inr i)) f.1 n in
-        let held : touched z.manner z.cell z.content u c ≡ z.content = (λ i. touched (e i) z.cell z.content u c) ∙ put_there (same_cell z.cell c) (ap (λ (d : Cell). same_cell d c) same ∙ cell_itself c) in
-        let no : Undefined ≡ Number r.0 = sym (w z (inl refl) (ap is_write e) same) ∙ sym held ∙ r.1 in
+        let held : touched z.manner z.cell z.content u c ≡ z.content = (λ i. touched (e i) z.cell z.content u c) ∙ put_there (ap (λ (d : Cell). same_cell d c) same ∙ cell_itself c) in
+        let wrong : Undefined ≡ Number r.0 = sym (w z (inl refl) (ap is_write e) same) ∙ sym held ∙ r.1 in
         absurd cc)
       where
-        put_there : (b : Bool) → same_cell z.cell c ≡ true → put z.cell z.content u c ≡ z.content
-        put_there b e = ap (λ (k : Bool). if k then z.content else u c) e
+        put_there : same_cell z.cell c ≡ true → put z.cell z.content u c ≡ z.content
+        put_there e = ap (λ (k : Bool). if k then z.content else u c) e
 
     rest : needed_by (xs ++ ys) c ≡ false
     rest = go (same_cell z.cell c) refl
@@ -128,9 +135,6 @@ needed_behind (z ∷ xs) ys u c h w f k = (more.0, λ v i e same. elim i [ inl q
         go : (b : Bool) → same_cell z.cell c ≡ b → needed_by (xs ++ ys) c ≡ false
         go true e = by_manner z.manner refl (cell_is z.cell c e) (sym (ap (λ (b : Bool). if b then read_first z.manner (needed_by (xs ++ ys) c) else needed_by (xs ++ ys) c) e) ∙ k)
         go false e = sym (ap (λ (b : Bool). if b then read_first z.manner (needed_by (xs ++ ys) c) else needed_by (xs ++ ys) c) e) ∙ k
-
-    more : (needed_by ys c ≡ false) × ((v : Touch) → IsIn v xs → v.manner ≡ reads → v.cell ≡ c → ⊥)
-    more = needed_behind xs ys (touched z.manner z.cell z.content u) c (λ v i. h v (inr i)) (λ v i. w v (inr i)) f.1 rest
 
     first : z.manner ≡ reads → z.cell ≡ c → ⊥
     first e same =
@@ -264,11 +268,11 @@ module _ (making : MakingLaw) (t : ProgramTree) (s : ℕ) (x : Neighbour t s) (r
 
       cell_name : (S : Scope) (y : List ℕ) → name_in (cell_of S y) ≡ y
       cell_name [] y = refl
-      cell_name (g ∷ S) y = go (is_among y g.private)
+      cell_name (g ∷ S) y = go (is_among y g.private) (cell_name S y)
         where
-          go : (b : Bool) → name_in (if b then cells.Private y (iterations_of (turns_of (g ∷ S))) else cell_of S y) ≡ y
-          go true = refl
-          go false = cell_name S y
+          go : (b : Bool) → name_in (cell_of S y) ≡ y → name_in (if b then cells.Private y (iterations_of (turns_of (g ∷ S))) else cell_of S y) ≡ y
+          go true more = refl
+          go false more = more
 
   of_second : (a : Act) → m ≤ a.place.statement → a.place.statement ≤ m + statements_count x.next_body → IsOfThese p m count a
   of_second a lo hi = (a.place.statement, lo, omega (arith, hi), refl)
@@ -306,11 +310,11 @@ module _ (making : MakingLaw) (t : ProgramTree) (s : ℕ) (x : Neighbour t s) (r
         where
           name_there : (S : Scope) → name_in (cell_of S J) ≡ J
           name_there [] = refl
-          name_there (g ∷ S) = go (is_among J g.private)
+          name_there (g ∷ S) = go (is_among J g.private) (name_there S)
             where
-              go : (b : Bool) → name_in (if b then cells.Private J (iterations_of (turns_of (g ∷ S))) else cell_of S J) ≡ J
-              go true = refl
-              go false = name_there S
+              go : (b : Bool) → name_in (cell_of S J) ≡ J → name_in (if b then cells.Private J (iterations_of (turns_of (g ∷ S))) else cell_of S J) ≡ J
+              go true more = refl
+              go false more = more
 
       -- the DO of the variable is the second one
       inner : n < l → IsOfThese p m count a
@@ -400,13 +404,13 @@ module _ (making : MakingLaw) (t : ProgramTree) (s : ℕ) (x : Neighbour t s) (r
 
     found : (front rest : List Act) → acts ≡ front ++ rest → Find (touches_of rest) (store_after front start)
     found front rest whole =
-        let all : Fits (front ++ rest) start = subst (λ (as : List Act). Fits as start) whole ((all_told p t.body 1 []).fits start) in
+        let all : Fits (front ++ rest) start = subst (λ (bs : List Act). Fits bs start) whole ((all_told p t.body 1 []).fits start) in
         fits_find rest (store_after front start) (fits_rest front rest start all)
 
     at_first : needs acts c ≡ false
     at_first = false_unless (needs acts c) (λ n.
         let r = needed_number (touches_of acts) start c (number_there [] acts refl) (found [] acts refl) n in
-        let no : Undefined ≡ Number r.0 = sym (lost_undefined t J m c lost_c (lines data_bytes)) ∙ r.1 in
+        let wrong : Undefined ≡ Number r.0 = sym (lost_undefined t J m c lost_c (lines data_bytes)) ∙ r.1 in
         absurd cc)
 
     -- a write of it
@@ -420,7 +424,7 @@ module _ (making : MakingLaw) (t : ProgramTree) (s : ℕ) (x : Neighbour t s) (r
       b_in = subst (IsIn b) (sym whole) (in_right b front (b ∷ rest) (inl refl))
 
       -- where the act isn't one of the second DO's own
-      undefined_by_it : (a_number : (b.place.statement == m) ≡ false) → (v : Touch) → IsIn v b.touches → is_write v.manner ≡ true → v.cell ≡ c → v.content ≡ Undefined
+      undefined_by_it : (b.place.statement == m) ≡ false → (v : Touch) → IsIn v b.touches → is_write v.manner ≡ true → v.cell ≡ c → v.content ≡ Undefined
       undefined_by_it other v j write same =
           let w = of_write b b_in v j write same in
           elim (of_stored b b_in v j w.0 w.1) [

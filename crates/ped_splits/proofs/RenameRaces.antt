@@ -1,10 +1,9 @@
 -- Accesses that race are made by references; and where the accesses by references are those of another run, they race there, too.
-use Rattle.std.proofs.Common.{◌≡◌, ℕ, ◌<◌, List, [], ◌∷◌, filter, Bool, true, false, ◌&&◌, ◌||◌, ◌==◌, not, refl, sym, ap, subst, ◌∙◌, inl, inr, arith}
+use Rattle.std.proofs.Common.{if◌then◌else◌, ◌≡◌, ℕ, ◌<◌, List, [], ◌∷◌, filter, Bool, true, false, ◌&&◌, ◌||◌, ◌==◌, not, refl, sym, ap, subst, ◌∙◌, inl, inr, arith}
 use Rattle.std.specs.Str.Lines.{lines}
 use Rattle.std.proofs.lemmas.Bool.{and_parts, both_ways, lt-ltb}
 use Rattle.std.proofs.lemmas.Bool.Decides.{nat_tests}
 use Rattle.ped_tree.specs.Tree.{ProgramTree}
-use Rattle.ped_reindex.specs.ped_loops.specs.ped_scalar.specs.ped_rules.specs.ped_loop_runs.specs.ped_bodies.proofs.BodyLaws.LikewiseActs.{filter_first, filter_other}
 use Rattle.ped_reindex.specs.ped_loops.specs.ped_scalar.specs.ped_rules.specs.ped_loop_runs.proofs.LoopLaws.RacesByReferences.{read_is_referred}
 use Rattle.ped_reindex.specs.ped_loops.specs.ped_scalar.specs.ped_rules.specs.ped_loop_runs.specs.ped_bodies.specs.ped_steps.proofs.RunLaws.ExpandedRacesOrigins.{IsTold, touch_of}
 use Rattle.ped_reindex.specs.ped_loops.specs.ped_scalar.specs.ped_rules.specs.ped_loop_runs.specs.ped_bodies.specs.ped_steps.proofs.RunLaws.PrivatisedRacesOrigins.{accesses_from}
@@ -24,6 +23,13 @@ use Rattle.ped_reindex.specs.ped_loops.specs.ped_scalar.specs.ped_rules.specs.pe
 use Rattle.ped_reindex.specs.ped_loops.specs.ped_scalar.specs.ped_rules.specs.ped_loop_runs.specs.ped_bodies.specs.ped_steps.specs.ped_laws.specs.ped_store.specs.Races.{Access, HasNoRace, accesses, are_apart, conflict, is_access, is_lines, is_write, race}
 use Rattle.ped_reindex.specs.ped_loops.specs.ped_scalar.specs.ped_rules.specs.ped_loop_runs.specs.ped_bodies.specs.ped_steps.specs.ped_laws.specs.ped_store.specs.Stores.{Store, store_at_start}
 use Rattle.ped_splits.proofs.RenameActs.{by_reference, referred}
+
+-- an item stays in a list or is left out of it
+filter_in : {X : Type 0} (p : X → Bool) (x : X) (xs : List X) → p x ≡ true → filter p (x ∷ xs) ≡ x ∷ filter p xs
+filter_in p x xs e = ap (λ b. if b then x ∷ filter p xs else filter p xs) e
+
+filter_out : {X : Type 0} (p : X → Bool) (x : X) (xs : List X) → p x ≡ false → filter p (x ∷ xs) ≡ filter p xs
+filter_out p x xs e = ap (λ b. if b then x ∷ filter p xs else filter p xs) e
 
 or_flip : (x y : Bool) → x || y ≡ true → y || x ≡ true
 or_flip true true e = refl
@@ -135,18 +141,18 @@ kept_in [] b i = absurd i
 kept_in (x ∷ xs) b i = go (by_reference x) refl (kept_in xs b)
   where
     go : (k : Bool) → by_reference x ≡ k → (IsIn b (filter by_reference xs) → IsIn b xs) → IsIn b (x ∷ xs)
-    go true e more = elim (subst (IsIn b) (filter_first by_reference x xs e) i) [ inl f ↦ inl f | inr j ↦ inr (more j) ]
-    go false e more = inr (more (subst (IsIn b) (filter_other by_reference x xs e) i))
+    go true e more = elim (subst (IsIn b) (filter_in by_reference x xs e) i) [ inl f ↦ inl f | inr j ↦ inr (more j) ]
+    go false e more = inr (more (subst (IsIn b) (filter_out by_reference x xs e) i))
 
 -- and an access by a reference is among them
 pub in_kept : (xs : List Access) (b : Access) → IsIn b xs → 0 < b.reference → IsIn b (filter by_reference xs)
 in_kept [] b i some = absurd i
-in_kept (x ∷ xs) b (inl e) some = subst (IsIn b) (sym (filter_first by_reference x xs (ap by_reference (sym e) ∙ lt-ltb 0 b.reference some))) (inl e)
+in_kept (x ∷ xs) b (inl e) some = subst (IsIn b) (sym (filter_in by_reference x xs (ap by_reference (sym e) ∙ lt-ltb 0 b.reference some))) (inl e)
 in_kept (x ∷ xs) b (inr i) some = go (by_reference x) refl (in_kept xs b i some)
   where
     go : (k : Bool) → by_reference x ≡ k → IsIn b (filter by_reference xs) → IsIn b (filter by_reference (x ∷ xs))
-    go true e more = subst (IsIn b) (sym (filter_first by_reference x xs e)) (inr more)
-    go false e more = subst (IsIn b) (sym (filter_other by_reference x xs e)) more
+    go true e more = subst (IsIn b) (sym (filter_in by_reference x xs e)) (inr more)
+    go false e more = subst (IsIn b) (sym (filter_out by_reference x xs e)) more
 
 -- no race comes, where the accesses by references are those of the old run
 pub no_race_comes : (t u : ProgramTree) (data_bytes : List ℕ) → ((b c : Access) → IsTold (run_of u data_bytes).acts b → IsIn c (accesses (run_of u data_bytes).acts) → 0 < c.reference → race b c ≡ false) → referred (run_of t data_bytes).acts ≡ referred (run_of u data_bytes).acts

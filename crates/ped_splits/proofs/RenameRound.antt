@@ -366,7 +366,7 @@ module _ (t : ProgramTree) (s : ℕ) (x : Neighbour t s) (r : IsRenaming t s x) 
 
         first_stays : (S : Scope) → apart (cell_of S I) ≡ false
         first_stays [] = refl
-        first_stays (f ∷ S) = go (is_among I f.private)
+        first_stays (f ∷ S) = go (is_among I f.private) (first_stays S)
           where
             other_text : is_same_text J I ≡ false
             other_text = go_text (is_same_text J I) refl
@@ -375,9 +375,9 @@ module _ (t : ProgramTree) (s : ℕ) (x : Neighbour t s) (r : IsRenaming t s x) 
                 go_text true e = absurd (both_ways (is_same_text I J) r.differ (ap (λ (z : List ℕ). is_same_text z J) (sym (same_is J I e)) ∙ same_itself J))
                 go_text false e = refl
 
-            go : (c : Bool) → apart (if c then Private I (iterations_of (turns_of (f ∷ S))) else cell_of S I) ≡ false
-            go true = ap (λ (c : Bool). c && of_last (λ j. loses t J m j (statement_with j t)) (iterations_of (turns_of (f ∷ S)))) other_text
-            go false = first_stays S
+            go : (c : Bool) → apart (cell_of S I) ≡ false → apart (if c then Private I (iterations_of (turns_of (f ∷ S))) else cell_of S I) ≡ false
+            go true more = ap (λ (c : Bool). c && of_last (λ j. loses t J m j (statement_with j t)) (iterations_of (turns_of (f ∷ S)))) other_text
+            go false more = more
 
         not_named : (w : List ℕ) → is_among w h.private ≡ true → (c : Bool) → is_among w names ≡ c → is_among w names ≡ false
         not_named w i true e = elim (names_only w e) [

@@ -48,8 +48,8 @@ pub record IsScoped (t : ProgramTree) (a : Act) : Type 0 where
 
 never_written : (n : ℕ) (seen : List Seen) (v : Touch) → IsIn v (numbered_reads n seen) → is_write v.manner ≡ true → ⊥
 never_written n [] v i w = absurd i
-never_written n (cell_seen c content ∷ more) v i w = elim i [ inl e ↦ (let no : true ≡ false = sym w ∙ ap (λ (u : Touch). is_write u.manner) e in absurd cc) | inr j ↦ never_written (suc n) more v j w ]
-never_written n (index_seen c m ∷ more) v i w = elim i [ inl e ↦ (let no : true ≡ false = sym w ∙ ap (λ (u : Touch). is_write u.manner) e in absurd cc) | inr j ↦ never_written n more v j w ]
+never_written n (cell_seen c content ∷ more) v i w = elim i [ inl e ↦ (let wrong : true ≡ false = sym w ∙ ap (λ (u : Touch). is_write u.manner) e in absurd cc) | inr j ↦ never_written (suc n) more v j w ]
+never_written n (index_seen c m ∷ more) v i w = elim i [ inl e ↦ (let wrong : true ≡ false = sym w ∙ ap (λ (u : Touch). is_write u.manner) e in absurd cc) | inr j ↦ never_written n more v j w ]
 
 behind_some : (n : ℕ) (seen : List Seen) → 0 < n → 0 < number_behind n seen
 behind_some n [] h = h
@@ -102,7 +102,7 @@ module _ (t : ProgramTree) where
       good = all_good (λ ts c. ⊥) (λ T y. ⊥) (λ T y h. absurd h) (λ T e k body q h y j. h y j) p (alone z) n S s (λ y j. none_among y (sym (ap (is_among y) no_loops) ∙ j)) a there
 
       by : (m : Manner) (c : Cell) (q : ℕ) → Fine (λ ts d. ⊥) a.place.turns m c q → is_write m ≡ true → 0 < q
-      by writes c q f w = elim f.0 [ inl some ↦ some | inr no ↦ absurd no ]
+      by writes c q f w = elim f.0 [ inl some ↦ some | inr wrong ↦ absurd wrong ]
       by reads c q f w = absurd cc
       by is_told c q f w = absurd cc
 
@@ -111,7 +111,7 @@ module _ (t : ProgramTree) where
     abbrev e : Entered
     e = entered_with p n h b seen l
 
-    loop : LoopOf t n
+    abbrev loop : LoopOf t n
     loop = record { head = h; body = b; is = is }
 
     by_reference : (a : Act) (m : ℕ) (xs : List (List ℕ)) → 0 < m → (v : Touch) → IsIn v (undefined_by S m xs) → 0 < v.reference

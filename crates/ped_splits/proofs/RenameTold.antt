@@ -110,7 +110,7 @@ module _ (t : ProgramTree) (s : ℕ) (x : Neighbour t s) (r : IsRenaming t s x) 
   outward n h body seen l k S w a q there inside i at = elim (inside i at) [
     | inl round ↦ elim (in_parts i (turns_of S) (f.turn ∷ []) round) [
       | inl z ↦ inl z
-      | inr z ↦ elim z [ inl e ↦ inr (spares e) | inr no ↦ absurd no ]
+      | inr z ↦ elim z [ inl e ↦ inr (spares e) | inr wrong ↦ absurd wrong ]
     ]
     | inr z ↦ inr z
   ]
@@ -194,11 +194,11 @@ module _ (t : ProgramTree) (s : ℕ) (x : Neighbour t s) (r : IsRenaming t s x) 
   alike_at [] [] h i z w e f = absurd cc
   alike_at [] (y ∷ ws) h i z w e f = absurd h
   alike_at (y ∷ zs) [] h i z w e f = absurd h
-  alike_at (y ∷ zs) (v ∷ ws) h i z w e f = go (i == 0) e f
+  alike_at (y ∷ zs) (v ∷ ws) h i z w e f = go (i == 0) (alike_at zs ws h.1 (i - 1) z w) e f
     where
-      go : (b : Bool) → (if b then Some y else at_place zs (i - 1)) ≡ Some z → (if b then Some v else at_place ws (i - 1)) ≡ Some w → Alike z w
-      go true k l = let one : y ≡ z = cc in let two : v ≡ w = cc in subst (λ (q : StmtTree). Alike q w) one (subst (Alike y) two h.0)
-      go false k l = alike_at zs ws h.1 (i - 1) z w k l
+      go : (b : Bool) → (at_place zs (i - 1) ≡ Some z → at_place ws (i - 1) ≡ Some w → Alike z w) → (if b then Some y else at_place zs (i - 1)) ≡ Some z → (if b then Some v else at_place ws (i - 1)) ≡ Some w → Alike z w
+      go true more k l = let one : y ≡ z = cc in let two : v ≡ w = cc in subst (λ (q : StmtTree). Alike q w) one (subst (Alike y) two h.0)
+      go false more k l = more k l
 
   new_is : alone (Do (record x.next { variable = I }) (if is_same_text I J then x.next_body else statements_substituted J (Var I) x.next_body)) ≡ alone new_loop
   new_is = ap (λ (b : Bool). alone (Do (record x.next { variable = I }) (if b then x.next_body else statements_substituted J (Var I) x.next_body))) r.differ

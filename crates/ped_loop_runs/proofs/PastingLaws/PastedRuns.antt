@@ -385,6 +385,7 @@ module _ (names : List (List ℕ)) (apart : Cell → Bool) (p q : Setting) (t : 
         other_exit : (step : Step) (before_it : List Touch) (front behind : List Act) (u : Store) → h.parallel ≡ true → is_exit step ≡ true
             → Ran ≡ front ++ ((act step (place_of p n scope) (before_it ++ exit_touches E scope) ∷ []) ++ behind) → u ≡ store_after front start
             → (before_it ++ exit_touches F other ≡ before_it ++ exit_touches E scope) ⊎ By front behind u (act step (place_of p n scope) (before_it ++ exit_touches E scope) ∷ []) (act step (place_of p n scope) (before_it ++ exit_touches F other) ∷ [])
+        unfolding is_round
         other_exit step before_it front behind u e leaving whole from =
             let a : Act = act step (place_of p n scope) (before_it ++ exit_touches E scope) in
             let c : Act = act step (place_of p n scope) (before_it ++ exit_touches F other) in

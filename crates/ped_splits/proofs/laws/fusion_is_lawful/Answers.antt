@@ -4,7 +4,6 @@ use Rattle.ped_splits.proofs.Determined.{determined_fusion}
 use Rattle.ped_splits.proofs.FusableFacts.{is_fusable}
 use Rattle.ped_splits.proofs.FuseOne.{one_to_one}
 use Rattle.ped_splits.proofs.FusedTidy.{stays_trusted_fused}
-use Rattle.ped_splits.proofs.FusionSettled.{escape_names}
 use Rattle.ped_splits.proofs.laws.fusion_is_lawful.Goals as goal
 
 pub returns : goal.returns

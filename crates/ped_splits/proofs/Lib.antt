@@ -35,6 +35,7 @@ mod CoverDependences
 mod CoverKinds
 mod CoverMeets
 mod CoverConflicts
+mod CoverCrossing
 mod JoinCrossing
 pub mod NeighbourFound
 pub mod AlikeDecided

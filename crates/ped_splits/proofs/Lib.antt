@@ -36,6 +36,7 @@ mod CoverDependences
 mod CoverKinds
 mod CoverMeets
 mod CoverConflicts
+mod CoverCrossing
 mod JoinCrossing
 pub mod NeighbourFound
 pub mod AlikeDecided

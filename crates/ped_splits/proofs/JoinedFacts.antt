@@ -17,7 +17,7 @@ module _ (t : ProgramTree) (s : ℕ) (m : Match t s) (f : IsFusable t s m) where
   x = m.neighbour
 
   -- the constants have the same values
-  same_constants : (setting_of (renamed m.neighbour)).constants ≡ (setting_of t).constants
+  pub same_constants : (setting_of (renamed m.neighbour)).constants ≡ (setting_of t).constants
   same_constants = same_values t (renamed m.neighbour) refl
 
   abbrev pub are_joined : AreJoined (renamed m.neighbour) (fused m.neighbour) s

@@ -2,6 +2,7 @@
 mod Alike
 mod ChainCauses
 mod DistributeCauses
+mod FuseCauses
 pub mod Edges
 pub mod Files
 mod LoopCauses

@@ -25,7 +25,7 @@ use Rattle.ped_reindex.specs.ped_loops.specs.ped_scalar.specs.ped_rules.specs.pe
 use Rattle.ped_reindex.specs.ped_loops.specs.ped_scalar.specs.ped_rules.specs.ped_loop_runs.specs.ped_bodies.specs.ped_steps.specs.ped_laws.specs.ped_store.specs.Stores.{Store}
 use Rattle.ped_splits.proofs.CoverMade as made
 use Rattle.ped_splits.proofs.CoverMade.{HasCome}
-use Rattle.ped_splits.proofs.CoverFacts.{AreSerial}
+use Rattle.ped_splits.proofs.CoverFacts.{MayFuse}
 use Rattle.ped_splits.proofs.FuseFacts.{renamed, renamed_pair}
 use Rattle.ped_splits.specs.Fusing.{Match}
 use Rattle.ped_splits.specs.Neighbours.{Neighbour, fused, next_number}
@@ -47,7 +47,7 @@ in_first acts (failed fault n) next a i = i
 no_copies : (b : Bool) (xs ys own : List (List ℕ)) → b ≡ false → (if b then xs else own) ≡ (if b then ys else own)
 no_copies b xs ys own e = ap (λ (c : Bool). if c then xs else own) e ∙ sym (ap (λ (c : Bool). if c then ys else own) e)
 
-module _ (t0 : ProgramTree) (s : ℕ) (m : Match t0 s) (x : AreSerial t0 s m) (same : setting_of (fused m.neighbour) ≡ setting_of (renamed m.neighbour)) (data_bytes : List ℕ) (scope : Scope) (w : Store) (c : HasCome t0 s m x same data_bytes scope w)
+module _ (t0 : ProgramTree) (s : ℕ) (m : Match t0 s) (x : MayFuse t0 s m) (same : setting_of (fused m.neighbour) ≡ setting_of (renamed m.neighbour)) (data_bytes : List ℕ) (scope : Scope) (w : Store) (c : HasCome t0 s m x same data_bytes scope w)
     (bounds : Limits) (come : (limits (names_in (setting_of (renamed m.neighbour)) scope) m.neighbour.own w).result ≡ Ok bounds) where
   abbrev n : Neighbour t0 s
   n = m.neighbour

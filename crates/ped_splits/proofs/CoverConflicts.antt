@@ -33,7 +33,7 @@ use Rattle.ped_reindex.specs.ped_loops.specs.ped_scalar.specs.ped_rules.specs.pe
 use Rattle.ped_reindex.specs.ped_loops.specs.ped_scalar.specs.ped_rules.specs.ped_loop_runs.specs.ped_bodies.specs.ped_steps.specs.ped_laws.specs.ped_store.specs.Races.{Access, accesses, accesses_of, conflict}
 use Rattle.ped_reindex.specs.ped_loops.specs.ped_scalar.specs.ped_rules.specs.ped_loop_runs.specs.ped_bodies.specs.ped_steps.specs.ped_laws.specs.ped_store.specs.Cells.{same_cell}
 use Rattle.ped_reindex.specs.ped_loops.specs.ped_scalar.specs.ped_rules.specs.ped_loop_runs.specs.ped_bodies.specs.ped_steps.specs.ped_laws.specs.ped_store.specs.Stores.{Store}
-use Rattle.ped_splits.proofs.CoverFacts.{AreSerial}
+use Rattle.ped_splits.proofs.CoverFacts.{MayFuse}
 use Rattle.ped_splits.proofs.CoverKinds.{setting_alike}
 use Rattle.ped_splits.proofs.CoverMade as made
 use Rattle.ped_splits.proofs.CoverMeets as meets
@@ -124,7 +124,7 @@ module _ (p : Setting) (d : Head) (body : StmtTrees) (k : ℕ) (scope : Scope) (
             is = heads j (frame entered r.number).turn js stood.0 (behind_front (turns_of scope) (j ∷ js) ((frame entered r.number).turn ∷ stood.0) (sym at ∙ stood.1 ∙ append_assoc (turns_of scope) ((frame entered r.number).turn ∷ []) stood.0));
           }
 
-module _ (t0 : ProgramTree) (s : ℕ) (m : Match t0 s) (x : AreSerial t0 s m) (start_alike : SameInitial m.neighbour) (data_bytes : List ℕ) (ends : Ends (run_of (renamed m.neighbour) data_bytes).ending) (scope : Scope) (a b : Access) (c : Cross m.neighbour data_bytes scope a b) where
+module _ (t0 : ProgramTree) (s : ℕ) (m : Match t0 s) (x : MayFuse t0 s m) (start_alike : SameInitial m.neighbour) (data_bytes : List ℕ) (ends : Ends (run_of (renamed m.neighbour) data_bytes).ending) (scope : Scope) (a b : Access) (c : Cross m.neighbour data_bytes scope a b) where
   abbrev n : Neighbour t0 s
   n = m.neighbour
 
@@ -227,7 +227,7 @@ module _ (t0 : ProgramTree) (s : ℕ) (m : Match t0 s) (x : AreSerial t0 s m) (s
       let cells = cell_is a.cell b.cell parts.0 in
       λ y. (ap (λ w. same_cell b.cell w) cells ∙ cell_itself b.cell) y && or_turned a.writes b.writes parts.1 y
 
-  meeting : Meeting sink.act source.act
+  abbrev meeting : Meeting sink.act source.act
   meeting = record { first = b; second = a; of_first = sink.found; of_second = source.found; conflicts = turned; first_reference = c.sink_reference; second_reference = c.source_reference }
 
   -- the numbers in the one DO

@@ -19,7 +19,7 @@ use Rattle.ped_reindex.specs.ped_loops.specs.ped_scalar.specs.ped_rules.specs.pe
 use Rattle.ped_reindex.specs.ped_loops.specs.ped_scalar.proofs.UnrejectedSteps.{rejections_kept}
 use Rattle.ped_reindex.specs.ped_loops.specs.ped_scalar.specs.ped_rules.specs.ped_loop_runs.specs.ped_bodies.specs.ped_steps.specs.ped_sums.specs.Substitution.{statements_substituted}
 use Rattle.ped_reindex.specs.ped_loops.specs.ped_scalar.specs.ped_rules.specs.ped_loop_runs.specs.ped_bodies.specs.ped_steps.specs.ped_laws.specs.ped_eval.specs.Outcomes.{bounds_of, setting_of}
-use Rattle.ped_splits.proofs.CoverFacts.{AreSerial, are_serial}
+use Rattle.ped_splits.proofs.CoverFacts.{MayFuse, may_fuse}
 use Rattle.ped_splits.proofs.FuseFacts.{IsFusable, renamed, renamed_next, renamed_pair}
 use Rattle.ped_splits.specs.Fusing.{Match}
 use Rattle.ped_splits.specs.Neighbours.{Neighbour, fused, joined_head, joined_loop, renamed_body}
@@ -56,7 +56,7 @@ module _ (y : List ℕ) where
         both (stmt_names (Do h (filled gap new))) (stmts_names rest) (stmt_names (Do h (filled gap old))) (stmts_names rest)
         (both (head_names h) (stmts_names (filled gap new)) (head_names h) (stmts_names (filled gap old)) refl (names_filled gap)) refl
 
-module _ (t0 : ProgramTree) (s : ℕ) (m : Match t0 s) (x : AreSerial t0 s m) where
+module _ (t0 : ProgramTree) (s : ℕ) (m : Match t0 s) (x : MayFuse t0 s m) where
   abbrev n : Neighbour t0 s
   n = m.neighbour
 
@@ -130,7 +130,7 @@ module _ (t0 : ProgramTree) (s : ℕ) (m : Match t0 s) (x : AreSerial t0 s m) wh
   setting_alike = λ i. record { bounds = λ y. bounds_of (kinds_alike y i); constants = same_values (renamed n) (fused n) refl i; number = λ k. k }
 
 pub fused_kinds : (t : ProgramTree) (s : ℕ) (m : Match t s) → IsFusable t s m → (y : List ℕ) → kind_in (fused m.neighbour) y ≡ kind_in (renamed m.neighbour) y
-fused_kinds t s m x = kinds_alike t s m (are_serial t s m x)
+fused_kinds t s m x = kinds_alike t s m (may_fuse t s m x)
 
 -- the one DO has the rejected names of both, so none, where they have none
 module _ {t0 : ProgramTree} {s : ℕ} (n : Neighbour t0 s) where

@@ -1,5 +1,5 @@
 -- Two DO loops become one: where an execution of the two has come, in the run of the program in which they have one variable, the new program comes, too: its stores are those of an execution of the outermost DO, and the iterations round it are reached.
-use Rattle.std.proofs.Common.{◌≡◌, ℕ, ◌+◌, List, [], ◌∷◌, ◌++◌, Bool, true, false, ◌||◌, Option, Some, refl, sym, ap, ◌∙◌, subst, append_assoc, append-nil, arith}
+use Rattle.std.proofs.Common.{◌≡◌, ℕ, ◌+◌, List, [], ◌∷◌, ◌++◌, Bool, true, false, ◌||◌, Some, refl, sym, ap, ◌∙◌, subst, append_assoc, append-nil, arith}
 use Rattle.std.proofs.lemmas.Bool.{and_parts}
 use Rattle.std.proofs.lemmas.List.{length-append}
 use Rattle.std.specs.Str.Lines.{lines}
@@ -43,7 +43,7 @@ use Rattle.ped_reindex.specs.ped_loops.specs.ped_scalar.specs.ped_rules.specs.pe
 use Rattle.ped_splits.proofs.CoverGaps.{gap_loops, gap_nest, IsInGap, in_gap, AreRoundBoth, IsRoundBoth, followed_assigned}
 use Rattle.ped_splits.proofs.CoverReached.{reached_there}
 use Rattle.ped_splits.proofs.CoverStores.{keeps_unassigned, holds_behind, holds_at_start}
-use Rattle.ped_splits.proofs.CoverFacts.{AreSerial}
+use Rattle.ped_splits.proofs.CoverFacts.{MayFuse}
 use Rattle.ped_splits.proofs.FuseFacts.{renamed, renamed_pair, renamed_next}
 use Rattle.ped_splits.specs.Fusing.{Match}
 use Rattle.ped_splits.specs.Neighbours.{Neighbour, fused, joined_head, renamed_body}
@@ -61,12 +61,16 @@ followed_variables y (more_stmts s xs) ys =
     or_assoc true b c = refl
     or_assoc false b c = refl
 
+-- what an outermost DO assigns, each name once
+collected_in : (v : ProgramTree) (k : ℕ) (h : Head) (b : StmtTrees) → statement_with k v ≡ Some (Do h b) → (y : List ℕ) → is_among y (setting_in v k).assigned ≡ is_among y (assigned_in (Do h b))
+collected_in v k h b there y = ap (λ o. is_among y (with_names [] (assigned_by o))) there ∙ among_collected y [] (assigned_in (Do h b))
+
 -- what a DO assigns, where its body assigns the same
 do_alike : (y : List ℕ) (h : Head) (b other : StmtTrees) → is_among y (assigned_in_all b) ≡ is_among y (assigned_in_all other) → is_among y (assigned_in (Do h b)) ≡ is_among y (assigned_in (Do h other))
 do_alike y h b other e =
     ap (λ (z : Bool). is_same_text y h.variable || z) (among_append y h.private (assigned_in_all b) ∙ ap (λ (z : Bool). is_among y h.private || z) e ∙ sym (among_append y h.private (assigned_in_all other)))
 
-module _ (t0 : ProgramTree) (s : ℕ) (m : Match t0 s) (x : AreSerial t0 s m) (same : setting_of (fused m.neighbour) ≡ setting_of (renamed m.neighbour)) where
+module _ (t0 : ProgramTree) (s : ℕ) (m : Match t0 s) (x : MayFuse t0 s m) (same : setting_of (fused m.neighbour) ≡ setting_of (renamed m.neighbour)) where
   abbrev n : Neighbour t0 s
   n = m.neighbour
 
@@ -212,11 +216,8 @@ module _ (t0 : ProgramTree) (s : ℕ) (m : Match t0 s) (x : AreSerial t0 s m) (s
       pub tells : variables_of scope ≡ variables_behind [] nest
       pub turns : AreTurnsOf (λ k. k) nest (turns_of scope)
 
-    collected : (k : ℕ) (z : StmtTree) → statement_with k u ≡ Some z → (y : List ℕ) → is_among y (setting_in u k).assigned ≡ is_among y (assigned_in z)
-    collected k z there y =
-        let found : is_among y (setting_in u k).assigned ≡ is_among y (with_names [] (assigned_in z)) = ap (λ (o : Option StmtTree). is_among y (with_names [] (assigned_by o))) there in
-        let once : is_among y (with_names [] (assigned_in z)) ≡ is_among y (assigned_in z) = among_collected y [] (assigned_in z) in
-        found ∙ once
+    collected : (k : ℕ) (h : Head) (b : StmtTrees) → statement_with k u ≡ Some (Do h b) → (y : List ℕ) → is_among y (setting_in u k).assigned ≡ is_among y (assigned_in (Do h b))
+    collected k h b there y = collected_in u k h b there y
 
     -- in an execution of the outermost DO round them
     module _ (f : Frame) (fs : Scope) (w : Store) (turns_there : AreTurnsOf (λ k. k) nest (turns_of (f ∷ fs))) (k : Loop) (ls : List Loop) (is : nest ≡ k ∷ ls) (o : IsInExecution p t start s (run_all p old s (f ∷ fs) w).acts w)
@@ -244,7 +245,7 @@ module _ (t0 : ProgramTree) (s : ℕ) (m : Match t0 s) (x : AreSerial t0 s m) (s
           ap (is_among y) (append-nil (assigned_in (Do o.loop.head o.loop.body)))
           ∙ (λ i. is_among y (assigned_in (Do (sym heads i) (sym insides i))))
           ∙ do_alike y k.head r.old_body r.body (sym (r.assigned y))
-          ∙ sym (collected k.number (Do k.head r.body) r.stands y)
+          ∙ sym (collected k.number k.head r.body r.stands y)
           ∙ free
 
       abbrev outside : List Act
@@ -271,7 +272,7 @@ module _ (t0 : ProgramTree) (s : ℕ) (m : Match t0 s) (x : AreSerial t0 s m) (s
         stored = λ before after e.
             subst (IsStoreIn (setting_in u k.number) o.first) (after_append o.part.front before o.first ∙ ap (store_after before) (sym o.part.from))
             (stored_in (o.part.front ++ before) (after ++ o.part.behind) (o.part.is ∙ ap (λ (zs : List Act). o.part.front ++ (zs ++ o.part.behind)) e ∙ regrouped o.part.front before after o.part.behind));
-        assigns = λ y h. collected k.number (Do k.head r.body) r.stands y ∙ in_body y (r.inside y (in_new y h));
+        assigns = λ y h. collected k.number k.head r.body r.stands y ∙ in_body y (r.inside y (in_new y h));
         reached = there.0;
         tells = there.1;
         turns = turns_there;
@@ -288,9 +289,9 @@ module _ (t0 : ProgramTree) (s : ℕ) (m : Match t0 s) (x : AreSerial t0 s m) (s
           stored = λ before after is. record {
             storable = subst (HoldsStorable (setting_in u s).loop_variables) (after_append front before start ∙ ap (store_after before) (sym executed.from))
                 (storable s (front ++ before) (after ++ behind) (executed.whole ∙ ap (λ (zs : List Act). front ++ (zs ++ behind)) is ∙ regrouped front before after behind));
-            constant = λ y free. keeps_unassigned p old s [] w before after is y (sym (assigned y) ∙ ap (is_among y) (append-nil (assigned_in (Do head bodies))) ∙ sym (collected s (Do head bodies) stands y) ∙ free);
+            constant = λ y free. keeps_unassigned p old s [] w before after is y (sym (assigned y) ∙ ap (is_among y) (append-nil (assigned_in (Do head bodies))) ∙ sym (collected s head bodies stands y) ∙ free);
           };
-          assigns = λ y h. collected s (Do head bodies) stands y ∙ h;
+          assigns = λ y h. collected s head bodies stands y ∙ h;
           reached = none;
           tells = sym (ap (variables_behind []) none);
           turns = subst (λ (ls : List Loop). AreTurnsOf (λ k. k) ls []) old_nest executed.place.turns;

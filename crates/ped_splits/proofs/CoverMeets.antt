@@ -70,7 +70,7 @@ use Rattle.ped_splits.proofs.CoverMade as made
 use Rattle.ped_splits.proofs.CoverMade.{HasCome, followed_variables, has_come, stands, new_nest}
 use Rattle.ped_splits.proofs.CoverNumbers.{as_first, as_second, gap_below, its_number, in_body_of, scope_stays, store_back, told_back}
 use Rattle.ped_splits.proofs.CoverTrips.{pair_acts, trips_before}
-use Rattle.ped_splits.proofs.CoverFacts.{AreSerial, are_serial}
+use Rattle.ped_splits.proofs.CoverFacts.{MayFuse, may_fuse}
 use Rattle.ped_splits.proofs.FuseFacts.{IsFusable, renamed, renamed_next, renamed_pair}
 use Rattle.ped_splits.proofs.JoinCrossing.{NoneCrosses, joined_variables, renamed_head, second_body, store_between}
 use Rattle.ped_reindex.specs.ped_loops.specs.ped_scalar.specs.ped_rules.specs.ped_loop_runs.specs.ped_bodies.specs.ped_steps.specs.ped_sums.specs.Substitution.{statements_substituted}
@@ -147,7 +147,7 @@ SameInitial {t0} {s} n =
     → (first : IsMadeOfTrips (setting_of (renamed n)) n.own n.own_body s scope v) (second : IsMadeOfTrips (setting_of (renamed n)) (renamed_head n) (second_body n) (next_number n) scope (store_between n scope v))
     → second.bounds.first ≡ first.bounds.first
 
-module _ (t0 : ProgramTree) (s : ℕ) (m : Match t0 s) (x : AreSerial t0 s m) (same : setting_of (fused m.neighbour) ≡ setting_of (renamed m.neighbour)) (data_bytes : List ℕ) (scope : Scope) (front behind : List Act) (v : Store)
+module _ (t0 : ProgramTree) (s : ℕ) (m : Match t0 s) (x : MayFuse t0 s m) (same : setting_of (fused m.neighbour) ≡ setting_of (renamed m.neighbour)) (data_bytes : List ℕ) (scope : Scope) (front behind : List Act) (v : Store)
     (executed : IsExecuted (setting_of (renamed m.neighbour)) (renamed m.neighbour) (store_at_start (lines data_bytes)) s (statements_count (renamed_pair m.neighbour)) scope front (run_all (setting_of (renamed m.neighbour)) (renamed_pair m.neighbour) s scope v).acts behind v)
     (goes : finish_of (run_all (setting_of (renamed m.neighbour)) (renamed_pair m.neighbour) s scope v).ending ≡ goes_on)
     (first : IsMadeOfTrips (setting_of (renamed m.neighbour)) m.neighbour.own m.neighbour.own_body s scope v) (next : IsMadeOfTrips (setting_of (renamed m.neighbour)) (renamed_head m.neighbour) (second_body m.neighbour) (next_number m.neighbour) scope (store_between m.neighbour scope v))
@@ -479,4 +479,4 @@ module _ (t0 : ProgramTree) (s : ℕ) (m : Match t0 s) (x : AreSerial t0 s m) (s
 -- so none crosses
 pub none_crosses : (t0 : ProgramTree) (s : ℕ) (m : Match t0 s) → IsFusable t0 s m → SameInitial m.neighbour → NoneCrosses m.neighbour
 none_crosses t0 s m x initial data_bytes ends scope front behind v executed goes first next i j from less to within =
-    uncrossed t0 s m (are_serial t0 s m x) (setting_alike t0 s m (are_serial t0 s m x)) data_bytes scope front behind v executed goes first next (initial data_bytes ends scope front behind v executed goes first next) i j from less to within (fused_unrejected m.neighbour x.trusted.unrejected) x.unforbidden
+    uncrossed t0 s m (may_fuse t0 s m x) (setting_alike t0 s m (may_fuse t0 s m x)) data_bytes scope front behind v executed goes first next (initial data_bytes ends scope front behind v executed goes first next) i j from less to within (fused_unrejected m.neighbour x.trusted.unrejected) x.unforbidden

@@ -1,30 +1,17 @@
 -- Two DO loops that may become one: what the step shows of them, and the program between, in which the second one has the variable of the first.
-use Rattle.std.proofs.Common.{◌≡◌, ℕ, List, [], Bool, false}
+use Rattle.std.proofs.Common.{◌≡◌, ℕ, List, [], false}
 use Rattle.std.proofs.Common.{All}
-use Rattle.ped_tree.specs.Tree.{ExprTree, Head, StmtTree, StmtTrees, Do, more_stmts, ProgramTree}
+use Rattle.ped_tree.specs.Tree.{ExprTree, ProgramTree}
 use Rattle.ped_reindex.specs.ped_loops.specs.Interchanging.{IsBoundOf}
 use Rattle.ped_reindex.specs.ped_loops.specs.ped_scalar.specs.ped_rules.specs.ped_loop_runs.specs.Unrejected.{IsTrusted}
-use Rattle.ped_reindex.specs.ped_loops.specs.ped_scalar.specs.ped_rules.specs.ped_loop_runs.specs.ped_bodies.specs.ped_steps.specs.Replacing.{followed, alone}
-use Rattle.ped_reindex.specs.ped_loops.specs.ped_scalar.specs.ped_rules.specs.ped_loop_runs.specs.ped_bodies.specs.ped_steps.specs.Runs.Gaps.{filled}
 use Rattle.ped_reindex.specs.ped_loops.specs.ped_scalar.specs.ped_rules.specs.ped_loop_runs.specs.ped_bodies.specs.ped_steps.specs.ped_flow.specs.PlainBounds.{IsPlain}
 use Rattle.ped_reindex.specs.ped_loops.specs.ped_scalar.specs.ped_rules.specs.ped_loop_runs.specs.ped_bodies.specs.ped_steps.specs.ped_flow.specs.Questions.{IsContained}
 use Rattle.ped_reindex.specs.ped_loops.specs.ped_scalar.specs.ped_rules.specs.ped_loop_runs.specs.ped_bodies.specs.ped_steps.specs.ped_laws.specs.ped_eval.specs.Outcomes.{setting_of}
 use Rattle.ped_reindex.specs.ped_loops.specs.ped_scalar.specs.ped_rules.specs.ped_loop_runs.specs.ped_bodies.specs.ped_steps.specs.ped_laws.specs.ped_graph.specs.ped_edges.specs.Edges.{Edge}
 use Rattle.ped_reindex.specs.ped_loops.specs.ped_scalar.specs.ped_rules.specs.ped_loop_runs.specs.ped_bodies.specs.ped_steps.specs.ped_symbols.specs.NameRefusals.{IsValid}
-use Rattle.ped_splits.specs.Neighbours.{Neighbour, fused, next_number, renamed_body}
+use Rattle.ped_splits.specs.Neighbours.{fused, next_number}
 use Rattle.ped_splits.specs.Fusing.{Match, AreBack, forbids_fusion}
-
--- the second DO with the variable of the first in the place of its own
-abbrev pub renamed_next : {t : ProgramTree} {s : ℕ} → Neighbour t s → StmtTree
-renamed_next x = Do (record x.next { variable = x.own.variable }) (renamed_body x.own x.next x.next_body)
-
--- the two DO loops, the second one with the variable of the first
-abbrev pub renamed_pair : {t : ProgramTree} {s : ℕ} → Neighbour t s → StmtTrees
-renamed_pair x = more_stmts (Do x.own x.own_body) (followed x.between (alone (renamed_next x)))
-
--- the program in which the second DO has the variable of the first; nobody sees it
-abbrev pub renamed : {t : ProgramTree} {s : ℕ} → Neighbour t s → ProgramTree
-renamed {t} x = record { decls = t.decls; body = filled x.gap (renamed_pair x) }
+pub use Rattle.ped_splits.specs.OneVariable.{renamed_next, renamed_pair, renamed}
 
 -- two DO loops that may become one: none is parallel or has PRIVATE names, both are contained, and so is the one that they become, the bounds are plain, and no dependence leads back
 pub record IsFusable (t : ProgramTree) (s : ℕ) (m : Match t s) : Type 0 where

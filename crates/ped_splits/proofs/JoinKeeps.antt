@@ -34,6 +34,7 @@ use Rattle.ped_splits.proofs.JoinFacts.{AreJoined, NoneCross, both_loops, one_bo
 use Rattle.ped_splits.proofs.JoinNumbers.{counts_alike, opened_back, pair_count}
 use Rattle.ped_splits.proofs.JoinSame.{none_stops, same_indices}
 use Rattle.ped_splits.proofs.JoinWoven.{joined_stands, one_run}
+use Rattle.ped_splits.proofs.CoverFacts.{may_fuse}
 use Rattle.ped_splits.proofs.JoinedFacts.{are_joined}
 use Rattle.ped_splits.proofs.SplitRaces.{split_races}
 use Rattle.ped_splits.specs.Fusing.{Match}
@@ -151,4 +152,4 @@ module _ (t u : ProgramTree) (s : ℕ) (x : AreJoined t u s) (cross : NoneCross 
 
 -- the program in which both have one variable, and the one with the one DO
 pub joined_keeps : (t : ProgramTree) (s : ℕ) (m : Match t s) → IsFusable t s m → NoneCrosses m.neighbour → Keeps (renamed m.neighbour) (fused m.neighbour)
-joined_keeps t s m f crossing = both_keep (renamed m.neighbour) (fused m.neighbour) s (are_joined t s m f) crossing
+joined_keeps t s m f crossing = both_keep (renamed m.neighbour) (fused m.neighbour) s (are_joined t s m (may_fuse t s m f)) crossing

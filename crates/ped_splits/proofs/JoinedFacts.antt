@@ -4,15 +4,16 @@ use Rattle.ped_tree.specs.Tree.{ProgramTree}
 use Rattle.ped_reindex.specs.ped_loops.specs.ped_scalar.specs.ped_rules.specs.ped_loop_runs.specs.ped_bodies.specs.ped_steps.specs.ped_flow.specs.PlainBounds.{IsPlainlyBuilt, Values}
 use Rattle.ped_reindex.specs.ped_loops.specs.ped_scalar.specs.ped_rules.specs.ped_loop_runs.specs.ped_bodies.specs.ped_steps.specs.ped_laws.specs.ped_eval.specs.Outcomes.{setting_of}
 use Rattle.ped_reindex.specs.ped_loops.specs.ped_scalar.specs.ped_rules.specs.ped_loop_runs.specs.ped_bodies.specs.ped_steps.specs.ped_symbols.proofs.RightUseLaws.Whole.{same_values}
-use Rattle.ped_splits.proofs.CoverKinds.{fused_kinds}
-use Rattle.ped_splits.proofs.FuseFacts.{IsFusable, renamed}
+use Rattle.ped_splits.proofs.CoverFacts.{MayFuse}
+use Rattle.ped_splits.proofs.CoverKinds.{kinds_alike}
+use Rattle.ped_splits.proofs.FuseFacts.{renamed}
 use Rattle.ped_splits.proofs.JoinCrossing.{renamed_head, second_body}
 use Rattle.ped_splits.proofs.JoinFacts.{AreJoined}
 use Rattle.ped_splits.proofs.JoinPlain.{no_loop, same_nest, still_unstopped, unassigned_there}
 use Rattle.ped_splits.specs.Fusing.{Match}
 use Rattle.ped_splits.specs.Neighbours.{Neighbour, fused, joined_head}
 
-module _ (t : ProgramTree) (s : ℕ) (m : Match t s) (f : IsFusable t s m) where
+module _ (t : ProgramTree) (s : ℕ) (m : Match t s) (f : MayFuse t s m) where
   abbrev x : Neighbour t s
   x = m.neighbour
 
@@ -34,7 +35,7 @@ module _ (t : ProgramTree) (s : ℕ) (m : Match t s) (f : IsFusable t s m) where
     numbered = m.neighbour.numbered;
     comments = m.neighbour.comments;
     decls = refl;
-    kinds = fused_kinds t s m f;
+    kinds = kinds_alike t s m f;
     new_valid = f.new_valid;
     serial = f.own_serial;
     next_serial = f.next_serial;

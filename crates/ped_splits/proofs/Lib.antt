@@ -36,6 +36,19 @@ mod CoverKinds
 mod CoverMeets
 mod CoverConflicts
 mod JoinCrossing
+pub mod NeighbourFound
+pub mod AlikeDecided
+mod NeighbourLoops
+pub mod FuseOne
+pub mod FusableFacts
+pub mod FusionSettled
+mod UnwrittenVariable
+mod FusedTrust
+mod LeftOrPassed
+mod MovedDos
+mod SerialPaths
+mod ParallelRound
+mod FusedTidy
 mod Here
 mod DistributeAnswers
 mod BlockOrders

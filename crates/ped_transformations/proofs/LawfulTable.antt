@@ -18,7 +18,7 @@ use Rattle.ped_splits.specs.Distributing.{distributing}
 use Rattle.ped_splits.specs.Fusing.{fusing}
 use Rattle.ped_splits.specs.ped_reindex.specs.ped_loops.proofs.Determined.{determined_parallel, determined_serial, determined_reversal, determined_interchange, determined_rejection}
 use Rattle.ped_splits.specs.ped_reindex.proofs.Determined.{determined_skew, determined_strip, determined_peel}
-use Rattle.ped_splits.proofs.Determined.{determined_distribution}
+use Rattle.ped_splits.proofs.Determined.{determined_distribution, determined_fusion}
 use Rattle.ped_transformations.specs.Table.{step_of}
 
 determined_by : (at : StepAt) → IsLawful at → IsDetermined at
@@ -37,7 +37,7 @@ determined_step (Skew number factor) = determined_skew number factor
 determined_step (Strip number size) = determined_strip number size
 determined_step (Peel number last) = determined_peel number last
 determined_step (Distribute number) = determined_distribution number
-determined_step (Fuse number) = tt
+determined_step (Fuse number) = determined_fusion number
 determined_step Source = tt
 determined_step (Deps of) = tt
 determined_step Show = tt

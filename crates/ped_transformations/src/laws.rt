@@ -11,7 +11,7 @@ use ped_splits::ped_reindex::ped_loops::{
     serial_is_lawful,
 };
 use ped_splits::ped_reindex::{peeling_is_lawful, skewing_is_lawful, stripping_is_lawful};
-use ped_splits::{distribution_is_lawful, distribution_is_lawful, fusion_is_lawful};
+use ped_splits::{distribution_is_lawful, fusion_is_lawful};
 
 /// The step of each command is lawful, where it takes one: it has one first cause at most, makes one program, and where
 /// nothing forbids it there is one, which is valid; and a transformation of a program that may be trusted makes one that

@@ -7,10 +7,12 @@ use Rattle.ped_tree.specs.Accesses.{constant_names}
 use Rattle.ped_tree.specs.NamesIn.{all_loop_variables}
 use Rattle.ped_tree.specs.Numbering.{statement_count, statements_count}
 use Rattle.ped_tree.specs.Tree.{Add, Assign, Call, Comment, DeclTree, Div, Do, Element, ExprTree, Head, If, Int, Mul, Neg, Pow, Print, ProgramTree, Read, StmtTree, StmtTrees, Stop, Sub, Var, more_stmts, no_stmts}
+use Rattle.ped_reindex.specs.ped_loops.specs.ped_scalar.specs.ped_rules.specs.ped_loop_runs.proofs.LoopLaws.OneForOneStands.{false_unless}
 use Rattle.ped_reindex.specs.ped_loops.specs.ped_scalar.specs.ped_rules.specs.ped_loop_runs.proofs.TidyLaws.TidyPathsStops.{all_unstopped}
 use Rattle.ped_reindex.specs.ped_loops.specs.ped_scalar.specs.ped_rules.specs.ped_loop_runs.proofs.TidyLaws.TidyPathsSums.{Summary, events_keep, own_overwrites}
 use Rattle.ped_reindex.specs.ped_loops.specs.ped_scalar.specs.ped_rules.specs.ped_loop_runs.specs.ped_bodies.specs.ped_steps.specs.Replacing.{alone, followed}
 use Rattle.ped_reindex.specs.ped_loops.specs.ped_scalar.specs.ped_rules.specs.ped_loop_runs.specs.ped_bodies.specs.ped_steps.specs.Runs.Gaps.{filled}
+use Rattle.ped_reindex.specs.ped_loops.specs.ped_scalar.specs.ped_rules.specs.ped_loop_runs.specs.ped_bodies.specs.ped_steps.specs.ped_flow.proofs.Truths.{or_none}
 use Rattle.ped_reindex.specs.ped_loops.specs.ped_scalar.specs.ped_rules.specs.ped_loop_runs.specs.ped_bodies.specs.ped_steps.specs.ped_flow.specs.Events.{Event, all_scalars_in, assigns, clears, copied, event, exit_events, is_overwriting, is_read_by, left_events, own_events, reads_of, scalars_in, scalars_in_cond, scalars_in_item, start_events, unless_constant}
 use Rattle.ped_reindex.specs.ped_loops.specs.ped_scalar.specs.ped_rules.specs.ped_loop_runs.specs.ped_bodies.specs.ped_steps.specs.ped_flow.specs.Questions.{IsLiveAfter, all_reads_outside, reads_outside}
 use Rattle.ped_reindex.specs.ped_loops.specs.ped_scalar.specs.ped_rules.specs.ped_loop_runs.specs.ped_bodies.specs.ped_steps.specs.ped_flow.specs.Summaries.{of_manner, passing, sum_at_once, sum_behind, sum_behind_all, sum_either, sum_event, sum_events, sum_in_turn, sum_loop, sum_of, sum_of_all, sum_trips, unreached, when}
@@ -22,14 +24,6 @@ use Rattle.ped_splits.proofs.JoinParts.{one_loop_there}
 use Rattle.ped_splits.proofs.JoinSame.{none_stops, same_indices}
 use Rattle.ped_splits.proofs.JoinUnread.{loose_first, loose_second}
 use Rattle.ped_reindex.specs.ped_loops.specs.ped_scalar.specs.ped_rules.specs.ped_loop_runs.specs.ped_bodies.specs.ped_steps.specs.ped_flow.specs.Events as events
-
-or_none : (a b : Bool) → a || b ≡ false → (a ≡ false) × (b ≡ false)
-or_none true b h = absurd cc
-or_none false b h = (refl, h)
-
-none_of : (b : Bool) → (b ≡ true → ⊥) → b ≡ false
-none_of true h = absurd (h refl)
-none_of false h = refl
 
 -- statements that read a scalar nowhere outside its DO loops read it first on no path
 module _ (cs : List (List ℕ)) (w : List ℕ) where
@@ -191,9 +185,6 @@ module _ (cs : List (List ℕ)) (w : List ℕ) where
   quiet_passes (more_stmts Stop rest) us k n none h = absurd (omega (arith, none))
 
   -- a DO that isn't parallel and has no PRIVATE names clears nothing
-  start_none : (n : ℕ) (h : Head) (body : StmtTrees) → h.parallel ≡ false → h.private ≡ [] → start_events n h body ≡ []
-  start_none n h body serial private = λ i. map (event n clears) (private i ++ (if serial i then all_loop_variables body else []))
-
   exit_none : (n : ℕ) (h : Head) (body : StmtTrees) → h.parallel ≡ false → h.private ≡ [] → exit_events n h body ≡ []
   exit_none n h body serial private = λ i. map (event n clears) ((if serial i then h.variable ∷ [] else []) ++ (private i ++ (if serial i then all_loop_variables body else [])))
 
@@ -213,13 +204,13 @@ module _ (t u : ProgramTree) (s : ℕ) (x : AreJoined t u s) (w : List ℕ) (amo
 
   -- nothing in the bodies reads it outside its DO loops
   whole_quiet : is_same_text w x.own.variable ≡ false → (k : ℕ) → all_reads_outside cs w k (one_body x) (s + 1) ≡ false
-  whole_quiet apart k = none_of (all_reads_outside cs w k (one_body x) (s + 1)) (λ h. (x.contained w (record { loop = one_loop_there t u s x; among = among })).0 k (record { loop = one_loop_there t u s x; other = apart; reads = h }))
+  whole_quiet apart k = false_unless (all_reads_outside cs w k (one_body x) (s + 1)) (λ h. (x.contained w (record { loop = one_loop_there t u s x; among = among })).0 k (record { loop = one_loop_there t u s x; other = apart; reads = h }))
 
   first_quiet : is_same_text w x.own.variable ≡ false → (k : ℕ) → all_reads_outside cs w k x.own_body (s + 1) ≡ false
-  first_quiet apart k = none_of (all_reads_outside cs w k x.own_body (s + 1)) (λ h. both_ways (all_reads_outside cs w k (one_body x) (s + 1)) (whole_quiet apart k) (loose_first cs w x.own_body (followed x.between x.next_body) k (s + 1) h))
+  first_quiet apart k = false_unless (all_reads_outside cs w k x.own_body (s + 1)) (λ h. both_ways (all_reads_outside cs w k (one_body x) (s + 1)) (whole_quiet apart k) (loose_first cs w x.own_body (followed x.between x.next_body) k (s + 1) h))
 
   second_quiet : is_same_text w x.own.variable ≡ false → (k : ℕ) → all_reads_outside cs w k x.next_body m ≡ false
-  second_quiet apart k = none_of (all_reads_outside cs w k x.next_body m) (λ h.
+  second_quiet apart k = false_unless (all_reads_outside cs w k x.next_body m) (λ h.
       let none = x.comments in
       both_ways (all_reads_outside cs w k (one_body x) (s + 1)) (whole_quiet apart k)
       (loose_second cs w x.own_body (followed x.between x.next_body) k (s + 1)
@@ -227,7 +218,7 @@ module _ (t u : ProgramTree) (s : ℕ) (x : AreJoined t u s) (w : List ℕ) (amo
 
   -- under each number
   unread_at : (zs : StmtTrees) (j n : ℕ) → is_some (sum_of_all cs w zs j).first ≡ false → is_some (sum_of_all cs w zs n).first ≡ false
-  unread_at zs j n h = none_of (is_some (sum_of_all cs w zs n).first) (λ k. both_ways (is_some (sum_of_all cs w zs j).first) h ((numbers_less cs w zs n j).reads k))
+  unread_at zs j n h = false_unless (is_some (sum_of_all cs w zs n).first) (λ k. both_ways (is_some (sum_of_all cs w zs j).first) h ((numbers_less cs w zs n j).reads k))
 
   -- a DO of the two reads it in its bounds alone
   do_unread : (n : ℕ) (h : Head) (body : StmtTrees) (j : ℕ) → h.variable ≡ x.own.variable → (is_same_text w x.own.variable ≡ false → is_some (sum_of_all cs w body j).first ≡ false) → is_some (sum_events w (own_events cs n (Do h body))).first ≡ false → is_some (sum_of cs w (Do h body) n).first ≡ false
@@ -260,7 +251,7 @@ module _ (t u : ProgramTree) (s : ℕ) (x : AreJoined t u s) (w : List ℕ) (amo
     where
       rest_unread : (j : ℕ) → is_some (head_sum k (one_head x) (one_body x)).first ≡ false → is_some (sum_of_all cs w (alone (Do x.next x.next_body)) j).first ≡ false
       rest_unread j none = turn_unread cs w (sum_of cs w (Do x.next x.next_body) j) passing
-          (do_unread j x.next x.next_body m x.variable (λ apart. all_loose_unread cs w x.next_body m (second_quiet apart)) (none_of (is_some (head_sum j x.next x.next_body).first) (λ r. both_ways (is_some (head_sum k (one_head x) (one_body x)).first) none ((second_head j k).reads r))))
+          (do_unread j x.next x.next_body m x.variable (λ apart. all_loose_unread cs w x.next_body m (second_quiet apart)) (false_unless (is_some (head_sum j x.next x.next_body).first) (λ r. both_ways (is_some (head_sum k (one_head x) (one_body x)).first) none ((second_head j k).reads r))))
           (λ keeps. refl)
 
       by : (b : Bool) → is_some (head_sum k (one_head x) (one_body x)).first ≡ b → is_some (sum_of_all cs w (both_loops x) n).first ≡ true → is_some (sum_of_all cs w (one_loop x) k).first ≡ true
@@ -272,11 +263,11 @@ module _ (t u : ProgramTree) (s : ℕ) (x : AreJoined t u s) (w : List ℕ) (amo
       by false e h =
           absurd (both_ways (is_some (sum_of_all cs w (both_loops x) n).first)
           (turn_unread cs w (sum_of cs w (Do x.own x.own_body) n) (sum_of_all cs w (followed x.between (alone (Do x.next x.next_body))) (n + statement_count (Do x.own x.own_body)))
-          (do_unread n x.own x.own_body (s + 1) refl (λ apart. all_loose_unread cs w x.own_body (s + 1) (first_quiet apart)) (none_of (is_some (head_sum n x.own x.own_body).first) (λ r. both_ways (is_some (head_sum k (one_head x) (one_body x)).first) e ((first_head n k).reads r))))
+          (do_unread n x.own x.own_body (s + 1) refl (λ apart. all_loose_unread cs w x.own_body (s + 1) (first_quiet apart)) (false_unless (is_some (head_sum n x.own x.own_body).first) (λ r. both_ways (is_some (head_sum k (one_head x) (one_body x)).first) e ((first_head n k).reads r))))
           (λ keeps. quiet_unread cs w x.between (alone (Do x.next x.next_body)) (n + statement_count (Do x.own x.own_body)) x.comments (λ j. rest_unread j e))) h)
 
   unequal : (a b : ℕ) → (a ≡ b → ⊥) → (a == b) ≡ false
-  unequal a b apart = none_of (a == b) (λ h. apart (eqb-true a b h))
+  unequal a b apart = false_unless (a == b) (λ h. apart (eqb-true a b h))
 
   -- behind the second DO nothing has happened yet, and so it is behind the one
   second_passes : (j : ℕ) → j ≡ m → IsNoLess (sum_behind_all cs w m (alone (Do x.next x.next_body)) j) passing

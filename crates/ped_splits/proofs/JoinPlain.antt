@@ -10,6 +10,7 @@ use Rattle.ped_tree.specs.Numbering.{all_numbered, numbered, statement_count, st
 use Rattle.ped_tree.specs.Tree.{Add, Assign, Call, Comment, Div, Do, Element, ExprTree, Head, If, Int, Mul, Neg, Pow, Print, ProgramTree, Read, StmtTree, StmtTrees, Stop, Sub, Var, more_stmts, no_stmts}
 use Rattle.ped_reindex.specs.ped_loops.proofs.LoopPlaces.{loops_of_program}
 use Rattle.ped_reindex.specs.ped_loops.specs.ped_scalar.proofs.TidyPathsSubstituted.{stops_kept}
+use Rattle.ped_reindex.specs.ped_loops.specs.ped_scalar.specs.ped_rules.specs.ped_loop_runs.proofs.LoopLaws.OneForOneStands.{false_unless}
 use Rattle.ped_reindex.specs.ped_loops.specs.ped_scalar.specs.ped_rules.specs.ped_loop_runs.proofs.TidyLaws.TidyPathsGaps.{gap_variables}
 use Rattle.ped_reindex.specs.ped_loops.specs.ped_scalar.specs.ped_rules.specs.ped_loop_runs.proofs.TidyLaws.TidyPathsSums.{append_more, or_more}
 use Rattle.ped_reindex.specs.ped_loops.specs.ped_scalar.specs.ped_rules.specs.ped_loop_runs.specs.ped_bodies.specs.ped_steps.proofs.RunLaws.SubstitutedShapes.{indices_kept}
@@ -32,10 +33,6 @@ use Rattle.ped_splits.proofs.FuseFacts.{renamed, renamed_next, renamed_pair}
 use Rattle.ped_splits.proofs.JoinSame.{quiet_loops, quiet_stop}
 use Rattle.ped_splits.proofs.SplitPieces.{gap_stands}
 use Rattle.ped_splits.specs.Neighbours.{Neighbour, renamed_body}
-
-none_of : (b : Bool) → (b ≡ true → ⊥) → b ≡ false
-none_of true h = absurd (h refl)
-none_of false h = refl
 
 -- what stands at the front of a gap has the gap's number
 pub front_there : (t : ProgramTree) (z : StmtTree) (xs : List StmtTree) (rest : StmtTrees) (gap : Gap) (s : ℕ) → numbered z ≡ z ∷ xs → number_at gap 1 ≡ s → t.body ≡ filled gap (more_stmts z rest) → statement_with s t ≡ Some z
@@ -255,7 +252,7 @@ module _ (t : ProgramTree) (s : ℕ) (x : Neighbour t s) (valid : IsValid t) (un
     own_among = loops_of_program t s (record { head = x.own; body = x.own_body; is = first_there }) x.own.variable (or_left (is_same_text x.own.variable x.own.variable) (is_among x.own.variable (all_loop_variables x.own_body)) (text_itself x.own.variable))
 
     apart : is_same_text y x.own.variable ≡ false
-    apart = none_of (is_same_text y x.own.variable) (λ h. both_ways (is_among y (all_loop_variables t.body)) keeps.other (ap (λ (w : List ℕ). is_among w (all_loop_variables t.body)) (same_is y x.own.variable h) ∙ own_among))
+    apart = false_unless (is_same_text y x.own.variable) (λ h. both_ways (is_among y (all_loop_variables t.body)) keeps.other (ap (λ (w : List ℕ). is_among w (all_loop_variables t.body)) (same_is y x.own.variable h) ∙ own_among))
 
     loops_less : is_among y (all_loop_variables new) ≡ true → is_among y (all_loop_variables old) ≡ true
     loops_less h =
@@ -270,7 +267,7 @@ module _ (t : ProgramTree) (s : ℕ) (x : Neighbour t s) (valid : IsValid t) (un
             (ap (is_among y) (sym second_loops) ∙ (λ i. sym apart i || is_among y (all_loop_variables second)) ∙ e)
 
     pub no_loop : is_among y (all_loop_variables (renamed x).body) ≡ false
-    no_loop = none_of (is_among y (all_loop_variables (renamed x).body)) (λ h. both_ways (is_among y (all_loop_variables t.body)) keeps.other (ap (λ (ts : StmtTrees). is_among y (all_loop_variables ts)) x.stands ∙ gap_variables y old new loops_less x.gap h))
+    no_loop = false_unless (is_among y (all_loop_variables (renamed x).body)) (λ h. both_ways (is_among y (all_loop_variables t.body)) keeps.other (ap (λ (ts : StmtTrees). is_among y (all_loop_variables ts)) x.stands ∙ gap_variables y old new loops_less x.gap h))
 
     -- it isn't assigned in the outermost DO
     second_right : stmts_are_right (kind_in t) x.next_body ≡ true
@@ -305,7 +302,7 @@ module _ (t : ProgramTree) (s : ℕ) (x : Neighbour t s) (valid : IsValid t) (un
         outermost_more y new old assigned_less t (renamed x) x.gap 1 (subst (λ (ts : StmtTrees). Stand t 1 (all_numbered ts)) x.stands (whole_stands t)) (whole_stands (renamed x)) l ls e h
 
     pub unassigned_there : is_among y (assigned_by (statement_with (outermost_or s (nest_round (renamed x) s)) (renamed x))) ≡ false
-    unassigned_there = none_of (is_among y (assigned_by (statement_with (outermost_or s (nest_round (renamed x) s)) (renamed x)))) (λ h.
+    unassigned_there = false_unless (is_among y (assigned_by (statement_with (outermost_or s (nest_round (renamed x) s)) (renamed x)))) (λ h.
         both_ways (is_among y (assigned_by (statement_with (outermost_or s (nest_round t s)) t))) keeps.kept
         (ap (λ (ls : List Loop). is_among y (assigned_by (statement_with (outermost_or s ls) t))) old_nest
         ∙ less_by (gap_loops x.gap 1) refl (ap (λ (ls : List Loop). is_among y (assigned_by (statement_with (outermost_or s ls) (renamed x)))) (sym new_nest) ∙ h)))

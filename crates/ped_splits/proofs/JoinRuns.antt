@@ -25,7 +25,7 @@ use Rattle.ped_reindex.specs.ped_loops.specs.ped_scalar.specs.ped_rules.specs.pe
 use Rattle.ped_reindex.specs.ped_loops.specs.ped_scalar.specs.ped_rules.specs.ped_loop_runs.specs.ped_bodies.specs.ped_steps.specs.ped_laws.specs.ped_eval.specs.Runs.{Run, run, run_all}
 use Rattle.ped_reindex.specs.ped_loops.specs.ped_scalar.specs.ped_rules.specs.ped_loop_runs.specs.ped_bodies.specs.ped_steps.specs.ped_laws.specs.ped_eval.specs.Scopes.{Scope, Setting, names_in, place_of, turns_of}
 use Rattle.ped_reindex.specs.ped_loops.specs.ped_scalar.specs.ped_rules.specs.ped_loop_runs.specs.ped_bodies.specs.ped_steps.specs.ped_laws.specs.ped_store.specs.Acts.{Act, iterations_of}
-use Rattle.ped_reindex.specs.ped_loops.specs.ped_scalar.specs.ped_rules.specs.ped_loop_runs.specs.ped_bodies.specs.ped_steps.specs.ped_laws.specs.ped_store.specs.Cells.{Cell, Iteration}
+use Rattle.ped_reindex.specs.ped_loops.specs.ped_scalar.specs.ped_rules.specs.ped_loop_runs.specs.ped_bodies.specs.ped_steps.specs.ped_laws.specs.ped_store.specs.Cells.{Cell}
 use Rattle.ped_reindex.specs.ped_loops.specs.ped_scalar.specs.ped_rules.specs.ped_loop_runs.specs.ped_bodies.specs.ped_steps.specs.ped_laws.specs.ped_store.specs.Stores.{Store, store_at_start}
 use Rattle.ped_splits.proofs.JoinBounds.{same_count, same_value}
 use Rattle.ped_splits.proofs.JoinFacts.{AreJoined, both_loops, one_body, one_head}
@@ -65,9 +65,6 @@ module _ (t u : ProgramTree) (s : ℕ) (x : AreJoined t u s) (data_bytes : List 
   -- the one is entered as the first one is
   abbrev pub z : Entered
   z = record { number = s; head = record x.own { rejected = x.rejected }; first = e.first; step = e.step; count = e.count; behind_bounds = e.behind_bounds; inner = e.inner }
-
-  abbrev path : List Iteration
-  path = iterations_of (turns_of scope)
 
   abbrev pub first_names : Cell → Cell
   first_names = moved_behind (iterations_of (turns_of scope)) (in_loop s s)

@@ -71,9 +71,6 @@ module _ (t u : ProgramTree) (s : ℕ) (x : AreJoined t u s) (data_bytes : List 
   abbrev m : ℕ
   m = s + 1 + statements_count x.own_body
 
-  abbrev path : List Iteration
-  path = iterations_of (turns_of scope)
-
   abbrev e : Entered
   e = runs.e t u s x data_bytes scope front behind v executed goes
 

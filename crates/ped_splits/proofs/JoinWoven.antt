@@ -9,7 +9,7 @@ use Rattle.ped_tree.specs.Numbering.{statement_count, statements_count}
 use Rattle.ped_tree.specs.Tree.{Do, Head, ProgramTree, StmtTrees}
 use Rattle.ped_reindex.specs.ped_loops.proofs.SwappedStands.{agreed_wanted, idle_apart, of_block, stands_apart, touches_in, without_from}
 use Rattle.ped_reindex.specs.ped_loops.specs.ped_scalar.specs.ped_rules.specs.ped_loop_runs.proofs.LoopLaws.OneForOneCells.{among_of_scalar, cell_among, touched_in}
-use Rattle.ped_reindex.specs.ped_loops.specs.ped_scalar.specs.ped_rules.specs.ped_loop_runs.proofs.LoopLaws.OneForOneStands.{not_so}
+use Rattle.ped_reindex.specs.ped_loops.specs.ped_scalar.specs.ped_rules.specs.ped_loop_runs.proofs.LoopLaws.OneForOneStands.{false_unless, not_so}
 use Rattle.ped_reindex.specs.ped_loops.specs.ped_scalar.specs.ped_rules.specs.ped_loop_runs.proofs.PastingLaws.LeftCopies.{IsOwn, all_reach, run_reaches}
 use Rattle.ped_reindex.specs.ped_loops.specs.ped_scalar.specs.ped_rules.specs.ped_loop_runs.proofs.PastingLaws.TheirCopies.{theirs, theirs_unneeded}
 use Rattle.ped_reindex.specs.ped_loops.specs.ped_scalar.specs.ped_rules.specs.ped_loop_runs.specs.Copies.{IsTheirs}
@@ -62,14 +62,6 @@ use Rattle.ped_splits.proofs.SplitOrders.{units_row}
 use Rattle.ped_splits.proofs.SplitSteady.{loop_reads}
 use Rattle.ped_splits.specs.Neighbours.{opened_at}
 use Rattle.ped_splits.proofs.JoinRuns as runs
-
-tail_of : List Act → List Act
-tail_of [] = []
-tail_of (a ∷ acts) = acts
-
-false_unless : (b : Bool) → (b ≡ true → ⊥) → b ≡ false
-false_unless true h = absurd (h refl)
-false_unless false h = refl
 
 -- what is needed behind touches that don't write it is needed before them
 needed_past : (d : Cell → Bool) (ts us : List Touch) (c : Cell) → WriteWithin d ts → d c ≡ false → needed_by us c ≡ true → needed_by (ts ++ us) c ≡ true

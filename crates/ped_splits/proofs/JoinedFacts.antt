@@ -11,12 +11,9 @@ use Rattle.ped_splits.proofs.JoinCrossing.{renamed_head, second_body}
 use Rattle.ped_splits.proofs.JoinFacts.{AreJoined}
 use Rattle.ped_splits.proofs.JoinPlain.{no_loop, same_nest, still_unstopped, unassigned_there}
 use Rattle.ped_splits.specs.Fusing.{Match}
-use Rattle.ped_splits.specs.Neighbours.{Neighbour, fused, joined_head}
+use Rattle.ped_splits.specs.Neighbours.{fused, joined_head}
 
 module _ (t : ProgramTree) (s : ℕ) (m : Match t s) (f : MayFuse t s m) where
-  abbrev x : Neighbour t s
-  x = m.neighbour
-
   -- the constants have the same values
   pub same_constants : (setting_of (renamed m.neighbour)).constants ≡ (setting_of t).constants
   same_constants = same_values t (renamed m.neighbour) refl

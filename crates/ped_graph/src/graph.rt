@@ -73,7 +73,8 @@ impl Model for Prepared {
 impl Prepared {
     /// The dependences of a pair, which isn't tested: no verdict is made and no test counted. Pairs count from 0.
     pub fn edges_of(&self, alloc: Global, n: u64) -> Result<Vec<Edge>, NoMemory>
-        requires { (t : ProgramTree) × (self.now ≡ held_of t) × (n < length (pairs (references t))) }
+        requires pairs { n < length self.now.frame.pairs }
+        requires views { n < length self.now.views }
         ensures edges { IfOk result (λ edges. (t : ProgramTree) (p : Reference × Reference) → self.now ≡ held_of t → slice_get (pairs (references t)) n ≡ Some p
             → PairEdges t p.0 p.1 (map edge_of edges.items)) }
         ensures short { IfOk result (λ edges. All HasAtMostSixLoops edges.items) }

@@ -22,7 +22,7 @@ mod StripsTrips
 mod StripsControls
 mod StripsAbsent
 mod StripsStand
-mod RenumberedRaces
+pub mod RenumberedRaces
 mod StripsRaces
 mod StripsAccesses
 mod StripsKeeps
@@ -44,7 +44,7 @@ mod PeelKinds
 mod PeelConstants
 mod PeelNumbers
 mod PeelRuns
-mod PeelFar
+pub mod PeelFar
 mod PeelQuiet
 mod PeelCells
 mod PeelStands

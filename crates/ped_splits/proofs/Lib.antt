@@ -32,11 +32,19 @@ mod SplitKnots
 mod SplitNames
 mod SplitPieces
 mod SplitControls
+mod SplitCells
+mod SplitTouches
+mod SplitEnds
+mod SplitFresh
+mod SplitSources
+mod SplitSteady
+mod SplitRenamed
 mod SplitWoven
 mod SplitStands
 mod SplitRaces
 mod SplitKeeps
 mod DistributedKinds
+mod SplitAccesses
 pub mod Existence
 pub mod Determined
 mod NamedTrees

@@ -1,5 +1,5 @@
 -- What the step shows of a DO that is taken apart, where no rule stands against it.
-use Rattle.std.proofs.Common.{◌≡◌, ℕ, ◌≤◌, List, length, Bool, false, refl, inl, inr, arith}
+use Rattle.std.proofs.Common.{◌≡◌, ℕ, ◌≤◌, List, length, false, refl, inl, inr, arith}
 use Rattle.ped_tree.specs.Tree.{ExprTree, ProgramTree}
 use Rattle.ped_reindex.specs.ped_loops.proofs.PlainDecided.{OrNot, plain_decided}
 use Rattle.ped_reindex.specs.ped_loops.specs.Interchanging.{IsBoundOf}

@@ -1,11 +1,10 @@
 -- A program in which a DO is taken apart keeps its meaning.
-use Rattle.std.proofs.Common.{◌≡◌, ℕ, ◌+◌, ◌≤◌, List, [], ◌∷◌, ◌++◌, length, append-nil, Bool, true, false, ◌||◌, refl, sym, ap, subst, ◌∙◌, arith}
+use Rattle.std.proofs.Common.{◌≡◌, ℕ, ◌+◌, ◌≤◌, List, [], ◌++◌, length, append-nil, Bool, false, ◌||◌, refl, sym, ap, subst, ◌∙◌, arith}
 use Rattle.std.specs.Str.Lines.{lines}
-use Rattle.std.specs.List.{flat_map}
 use Rattle.ped_base.specs.Lists.{is_among, is_same_text}
 use Rattle.ped_tree.proofs.NameLaws.Collected.{among_append}
-use Rattle.ped_tree.specs.Tree.{Head, StmtTree, StmtTrees, Do, DeclTree, ProgramTree}
-use Rattle.ped_tree.specs.NamesIn.{saved_in, all_loop_variables, loop_variables}
+use Rattle.ped_tree.specs.Tree.{StmtTree, StmtTrees, Do, ProgramTree}
+use Rattle.ped_tree.specs.NamesIn.{all_loop_variables, loop_variables}
 use Rattle.ped_tree.specs.Numbering.{statement_count, statements_count}
 use Rattle.ped_reindex.specs.ped_loops.specs.ped_scalar.specs.ped_rules.specs.OnlyLoops.{on_loop}
 use Rattle.ped_reindex.specs.ped_loops.specs.ped_scalar.specs.ped_rules.specs.ped_loop_runs.proofs.LoopLaws.OneForOneStands.{run_alone}
@@ -44,7 +43,8 @@ use Rattle.ped_splits.proofs.UnitTests.{only_comment, loops_tell}
 use Rattle.ped_splits.proofs.SplitFacts.{IsSplit, UnrejectedLaw}
 use Rattle.ped_splits.proofs.SplitNumbers.{split_pairs, split_numbers, split_fits, loops_counted}
 use Rattle.ped_splits.proofs.SplitStands.{does_split, stands_split}
-use Rattle.ped_splits.proofs.SplitRaces.{AreRaceFree, free_split, split_races}
+use Rattle.ped_splits.proofs.SplitRaces.{AreRaceFree, split_races}
+use Rattle.ped_splits.proofs.SplitAccesses.{free_split}
 use Rattle.ped_splits.specs.Distributing.{loop_sources, loops_of, distributed}
 
 module _ (making : MakingLaw) (sequence : SequenceLaw) (law : UnrejectedLaw) (t : ProgramTree) (s : ℕ) (l : LoopOf t s) (found : List (List ℕ)) (x : IsSplit t s l found) where

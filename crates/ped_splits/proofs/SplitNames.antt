@@ -1,5 +1,5 @@
 -- What copies in the old DO are called in the new ones: a copy further inside belongs to the unit of the DO that it is of, and one of the DO itself to the units that refer to its name.
-use Rattle.std.proofs.Common.{◌≡◌, ℕ, ◌⊎◌, ◌+◌, ◌-◌, ◌==◌, List, [], ◌∷◌, ◌++◌, length, filter, Bool, true, false, Option, Some, None, inl, inr, if◌then◌else◌, eqb-true, refl, sym, ap, ◌∙◌}
+use Rattle.std.proofs.Common.{◌≡◌, ℕ, ◌⊎◌, ◌==◌, List, [], ◌∷◌, ◌++◌, length, filter, Bool, true, false, Option, Some, None, inl, inr, if◌then◌else◌, eqb-true, refl, sym, ap, ◌∙◌}
 use Rattle.std.specs.List.{range_with_len}
 use Rattle.std.specs.Option.{unwrap_or}
 use Rattle.std.specs.Prelude.{slice_index_or}

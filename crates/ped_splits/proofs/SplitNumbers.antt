@@ -1,24 +1,22 @@
 -- Numbers of the statements of a program in which a DO is taken apart: statements of the body count under their old numbers, the first new DO under that of the old one, and the others under numbers that no statement had.
-use Rattle.std.proofs.Common.{◌≡◌, ◌⊎◌, ℕ, zero, suc, ◌+◌, ◌-◌, ◌<◌, ◌≤◌, ◌==◌, List, [], ◌∷◌, ◌++◌, map, length, filter, cond, All, AllPairs, Bool, true, false, Option, Some, None, inl, inr, refl, sym, ap, subst, ◌∙◌, append-nil, eqb-true, eq-eqb, arith}
-use Rattle.std.proofs.lemmas.List.{length-append, length-map, map-append}
+use Rattle.std.proofs.Common.{◌≡◌, ◌⊎◌, ℕ, zero, suc, ◌+◌, ◌<◌, ◌≤◌, ◌==◌, List, [], ◌∷◌, ◌++◌, map, length, filter, cond, All, Bool, true, false, Option, Some, None, inl, inr, refl, sym, ap, subst, ◌∙◌, eq-eqb, arith}
+use Rattle.std.proofs.lemmas.List.{map-append}
 use Rattle.std.proofs.lemmas.List.Elements.{All-head, All-tail, All-nil, All-append}
-use Rattle.std.proofs.lemmas.List.Sums.{sum_by-cons, sum_by-append}
-use Rattle.std.specs.List.{flat_map, range_with_len, sum_by}
-use Rattle.ped_tree.specs.Tree.{Head, StmtTree, StmtTrees, Do, no_stmts, more_stmts, ProgramTree}
-use Rattle.ped_tree.specs.Numbering.{statement_count, statements_count}
-use Rattle.ped_reindex.specs.ped_loops.specs.ped_scalar.specs.ped_rules.specs.ped_loop_runs.proofs.TidyLaws.TidyPathsGaps.{followed_count}
-use Rattle.ped_reindex.specs.ped_loops.specs.ped_scalar.specs.ped_rules.specs.ped_loop_runs.specs.Numbers.{AreApart, FitInGap, counted_by, told_by, kept_numbers}
-use Rattle.ped_reindex.specs.ped_loops.specs.ped_scalar.specs.ped_rules.specs.ped_loop_runs.proofs.PastingLaws.CountedNumbers.{inside_counts}
+use Rattle.std.proofs.lemmas.List.Sums.{sum_by-cons}
+use Rattle.std.specs.List.{flat_map, range_with_len}
+use Rattle.ped_tree.specs.Tree.{Head, StmtTrees, ProgramTree}
+use Rattle.ped_tree.specs.Numbering.{statements_count}
+use Rattle.ped_reindex.specs.ped_loops.specs.ped_scalar.specs.ped_rules.specs.ped_loop_runs.specs.Numbers.{AreApart, FitInGap, kept_numbers}
 use Rattle.ped_reindex.specs.ped_loops.specs.ped_scalar.specs.ped_rules.specs.ped_loop_runs.specs.ped_bodies.specs.ped_steps.specs.ped_laws.specs.Acts.Orders.{IsIn}
-use Rattle.ped_reindex.specs.ped_loops.specs.ped_scalar.specs.ped_rules.specs.ped_loop_runs.specs.ped_bodies.specs.ped_steps.specs.ped_laws.proofs.ActLaws.Lists.{in_left, in_right, in_parts}
+use Rattle.ped_reindex.specs.ped_loops.specs.ped_scalar.specs.ped_rules.specs.ped_loop_runs.specs.ped_bodies.specs.ped_steps.specs.ped_laws.proofs.ActLaws.Lists.{in_parts}
 use Rattle.ped_splits.proofs.OneToOne.{times_in, is_number, loops_once}
 use Rattle.ped_splits.proofs.Partitions.{tally, flat, loops_long}
 use Rattle.ped_splits.proofs.BlockSizes.{found_below}
 use Rattle.ped_splits.proofs.SplitUnits.{size_of_unit, numbers_long, heads_counted, same_sums}
 use Rattle.ped_splits.specs.Blocks.{AreBlocks}
 use Rattle.ped_splits.specs.CodeUnits.{AreBelow}
-use Rattle.ped_splits.specs.Distributing.{joined, units_at, loops_of, numbers_of, block_sources, loop_sources}
-use Rattle.ped_splits.specs.Units.{units, homes, stands_in}
+use Rattle.ped_splits.specs.Distributing.{loops_of, numbers_of, block_sources, loop_sources}
+use Rattle.ped_splits.specs.Units.{units, stands_in}
 
 -- new numbers from this one on, each with the number under which its statement counts; those that come from no statement count under fresh numbers
 abbrev pub split_pairs : (at fresh : ℕ) → List (Option ℕ) → List (ℕ × ℕ)

@@ -1,11 +1,11 @@
 -- What the new DO loops do in an execution: in each iteration each unit does likewise what it did in the old one.
-use Rattle.std.proofs.Common.{◌≡◌, ◌⊎◌, ℕ, zero, suc, ◌+◌, ◌-◌, ◌<◌, ◌≤◌, ◌==◌, List, [], ◌∷◌, ◌++◌, length, All, Bool, true, false, ◌&&◌, inl, inr, refl, sym, ap, subst, ◌∙◌, append-nil, arith}
+use Rattle.std.proofs.Common.{◌≡◌, ℕ, zero, suc, ◌+◌, ◌<◌, ◌≤◌, List, [], ◌∷◌, ◌++◌, length, Bool, true, false, ◌&&◌, inl, inr, refl, sym, ap, subst, ◌∙◌, arith}
 use Rattle.std.proofs.lemmas.Bool.{and_parts, both_ways}
 use Rattle.std.proofs.lemmas.Bool.Decides.{nat_tests}
 use Rattle.std.proofs.lemmas.List.Elements.{All-head, All-tail}
 use Rattle.std.specs.List.{flat_map, range_with_len}
 use Rattle.std.specs.Prelude.{slice_index_or, nat_le, nat_lt}
-use Rattle.ped_tree.specs.Tree.{Head, StmtTree, StmtTrees, Do, no_stmts, more_stmts, ProgramTree}
+use Rattle.ped_tree.specs.Tree.{Head, StmtTrees, Do, no_stmts, ProgramTree}
 use Rattle.ped_tree.specs.Numbering.{statement_count, statements_count}
 use Rattle.ped_reindex.specs.ped_loops.specs.ped_scalar.specs.ped_rules.specs.ped_loop_runs.proofs.TidyLaws.TidyPathsGaps.{followed_count}
 use Rattle.ped_reindex.specs.ped_loops.specs.ped_scalar.specs.ped_rules.specs.ped_loop_runs.proofs.PastingLaws.PastedLoops.{run_followed}
@@ -28,7 +28,7 @@ use Rattle.ped_reindex.specs.ped_loops.specs.ped_scalar.specs.ped_rules.specs.pe
 use Rattle.ped_reindex.specs.ped_loops.specs.ped_scalar.specs.ped_rules.specs.ped_loop_runs.specs.ped_bodies.specs.ped_steps.specs.ped_laws.specs.Runs.Replaying.{IsEntered, Replays, behind, finish_of, goes_on}
 use Rattle.ped_reindex.specs.ped_loops.specs.ped_scalar.specs.ped_rules.specs.ped_loop_runs.specs.ped_bodies.specs.ped_steps.specs.ped_laws.specs.Runs.Seeing.{ComesTo}
 use Rattle.ped_reindex.specs.ped_loops.specs.ped_scalar.specs.ped_rules.specs.ped_loop_runs.specs.ped_bodies.specs.ped_steps.specs.ped_laws.specs.ped_eval.specs.Evaluation.{Seen}
-use Rattle.ped_reindex.specs.ped_loops.specs.ped_scalar.specs.ped_rules.specs.ped_loop_runs.specs.ped_bodies.specs.ped_steps.specs.ped_laws.specs.ped_eval.specs.Loops.{Entered, entered_with, frame, inner_variables, limits}
+use Rattle.ped_reindex.specs.ped_loops.specs.ped_scalar.specs.ped_rules.specs.ped_loop_runs.specs.ped_bodies.specs.ped_steps.specs.ped_laws.specs.ped_eval.specs.Loops.{Entered, frame, inner_variables, limits}
 use Rattle.ped_reindex.specs.ped_loops.specs.ped_scalar.specs.ped_rules.specs.ped_loop_runs.specs.ped_bodies.specs.ped_steps.specs.ped_laws.specs.ped_eval.specs.Outcomes.{setting_of}
 use Rattle.ped_reindex.specs.ped_loops.specs.ped_scalar.specs.ped_rules.specs.ped_loop_runs.specs.ped_bodies.specs.ped_steps.specs.ped_laws.specs.ped_eval.specs.Runs.{Ending, Run, failed, followed_by, going, run, run_all, stopped}
 use Rattle.ped_reindex.specs.ped_loops.specs.ped_scalar.specs.ped_rules.specs.ped_loop_runs.specs.ped_bodies.specs.ped_steps.specs.ped_laws.specs.ped_eval.specs.Scopes.{Scope, Setting, names_in, place_of, turns_of}
@@ -178,7 +178,7 @@ module _ (t : ProgramTree) (s : ℕ) (l : LoopOf t s) (found : List (List ℕ)) 
   abbrev pub unit_names : ℕ → Cell → Cell
   unit_names k = moved_behind (iterations_of (turns_of scope)) (in_loop s (counted_by (split_numbers t s l.body found) (loop_at k)))
 
-  abbrev store_of : ℕ → Store
+  abbrev pub store_of : ℕ → Store
   store_of i = store_before seen e scope (place_of (setting_of t) s scope) old.trip v i
 
   -- what a unit did in an iteration
@@ -215,7 +215,7 @@ module _ (t : ProgramTree) (s : ℕ) (l : LoopOf t s) (found : List (List ℕ)) 
   pub old_units_done : (i k : ℕ) → 1 ≤ i → i ≤ e.count → k < many_units → IsDoneBy p (frame e i ∷ scope) (unit k) (s + 1 + offset (units l.body) k) (old_unit i k)
   old_units_done i k from to less = units_done p (frame e i ∷ scope) (units l.body) (s + 1) (store_of i) (goes_there i from to) k less
 
-  inside : s + statements_count l.body ≤ statements_count t.body
+  pub inside : s + statements_count l.body ≤ statements_count t.body
   inside = loop_fits t s l.head l.body l.is
 
   -- a unit stands in the new DO under its old numbers

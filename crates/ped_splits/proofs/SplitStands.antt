@@ -63,7 +63,7 @@ module _ (making : MakingLaw) (sequence : SequenceLaw) (law : UnrejectedLaw) (t 
   made_here : run_all q (loops_of found l.head l.body) s scope v ≡ record { acts = made; ending = ending_with goes_on (store_after made v) }
   made_here = replays v (stood v (λ c k. refl)).0
 
-  made_is : new_acts ≡ made
+  pub made_is : (run_all (renumbered (counted_by (split_numbers t s l.body found)) (setting_of t)) (loops_of found l.head l.body) s scope v).acts ≡ runs.split_acts t s l found x scope v goes s found
   made_is = ap (λ (r : Run). r.acts) made_here
 
   pub does_split : Replays (run_all q (loops_of found l.head l.body) s scope) new_acts goes_on

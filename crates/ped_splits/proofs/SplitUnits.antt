@@ -1,13 +1,13 @@
 -- Where units stand in the body of a DO: their statements have numbers one behind another, and all units together are the body.
-use Rattle.std.proofs.Common.{◌≡◌, ℕ, zero, suc, ◌+◌, ◌-◌, ◌<◌, ◌≤◌, ◌==◌, List, [], ◌∷◌, ◌++◌, length, replicate, filter, cond, All, Bool, true, false, Option, Some, None, if◌then◌else◌, refl, sym, ap, ◌∙◌, append-nil, eqb-true, eq-eqb, arith}
-use Rattle.std.proofs.lemmas.Bool.{lt-ltb, cases_lt}
+use Rattle.std.proofs.Common.{◌≡◌, ℕ, zero, suc, ◌+◌, ◌-◌, ◌<◌, ◌==◌, List, [], ◌∷◌, ◌++◌, length, replicate, filter, cond, Bool, true, false, Some, None, if◌then◌else◌, refl, sym, ap, ◌∙◌, append-nil, eqb-true, eq-eqb, arith}
+use Rattle.std.proofs.lemmas.Bool.{lt-ltb}
 use Rattle.std.proofs.lemmas.List.{length-append}
-use Rattle.std.proofs.lemmas.List.Elements.{filter-append, All-head, All-tail, All-nil, All-cons}
+use Rattle.std.proofs.lemmas.List.Elements.{filter-append, All-head, All-tail}
 use Rattle.std.proofs.lemmas.List.FromFn.{length-range_with_len}
 use Rattle.std.proofs.lemmas.List.Sums.{sum_by-cons, sum_by-append}
 use Rattle.std.specs.List.{range_with_len, sum_by}
-use Rattle.std.specs.Prelude.{slice_get, slice_index_or, nat_lt}
-use Rattle.ped_tree.specs.Tree.{Head, StmtTree, StmtTrees, Do, no_stmts, more_stmts}
+use Rattle.std.specs.Prelude.{slice_get, slice_index_or}
+use Rattle.ped_tree.specs.Tree.{Head, StmtTrees, no_stmts, more_stmts}
 use Rattle.ped_tree.specs.Numbering.{statement_count, statements_count}
 use Rattle.ped_reindex.specs.ped_loops.specs.ped_scalar.specs.ped_rules.specs.ped_loop_runs.proofs.TidyLaws.TidyPathsGaps.{followed_count}
 use Rattle.ped_reindex.specs.ped_loops.specs.ped_scalar.specs.ped_rules.specs.ped_loop_runs.specs.ped_bodies.specs.ped_steps.specs.Replacing.{followed, alone}
@@ -15,7 +15,7 @@ use Rattle.ped_splits.proofs.Partitions.{flat}
 use Rattle.ped_splits.proofs.UnitSizes.{homes_long, units_sum}
 use Rattle.ped_splits.specs.CodeUnits.{AreBelow}
 use Rattle.ped_splits.specs.Distributing.{joined, units_at, loops_of, numbers_of}
-use Rattle.ped_splits.specs.Units.{before_first, units, homes, is_unit, unit_of, stands_in}
+use Rattle.ped_splits.specs.Units.{before_first, units, homes, is_unit, stands_in}
 
 -- how many statements stand in the units before this one
 abbrev pub offset : List StmtTrees → ℕ → ℕ

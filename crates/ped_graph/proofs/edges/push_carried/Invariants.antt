@@ -6,6 +6,6 @@ use Rattle.ped_graph.proofs.edges.push_carried.Given as goal
 
 -- the dependences so far
 abbrev pub invariant-loop-place : goal.invariant-loop-place
-invariant-loop-place g l =
+invariant-loop-place l =
     (map edge_of l.edges.items ≡ map edge_of l.initial.edges.items ++ held_carried (pair_seen l.pair) l.vectors l.place)
     × (All HasAtMostSixLoops l.initial.edges.items → All HasAtMostSixLoops l.edges.items)

@@ -1,7 +1,7 @@
 -- What `fuse` answers, by what its code has found.
 use Rattle.std.proofs.Common.{◌≡◌, inl, inr, ℕ, ◌+◌, ◌<◌, ◌≤◌, nat_le, nat_lt, List, filter, All, ◌&&◌, ◌||◌, Bool, true, false, Some, None, Ok, Err, refl, sym, ap, subst, ◌∙◌, arith}
 use Rattle.std.proofs.lemmas.Bool.{both_ways}
-use Rattle.ped_tree.specs.Tree.{Do, Head, StmtTrees, ProgramTree}
+use Rattle.ped_tree.specs.Tree.{Do, Head, StmtTrees, more_stmts, ProgramTree}
 use Rattle.ped_tree.specs.Numbering.{statements_count}
 use Rattle.ped_tree.specs.Views.{stmt_trees, head_of}
 use Rattle.ped_reindex.specs.ped_loops.specs.ped_scalar.specs.ped_rules.specs.Carried.{level_at, carried}
@@ -19,7 +19,7 @@ use Rattle.ped_reindex.specs.ped_loops.specs.ped_scalar.specs.ped_rules.specs.pe
 use Rattle.ped_reindex.specs.ped_loops.specs.ped_scalar.specs.ped_rules.specs.ped_loop_runs.specs.ped_bodies.specs.ped_steps.specs.ped_laws.specs.ped_graph.specs.Dependences.{EdgesOfPairs}
 use Rattle.ped_reindex.specs.ped_loops.specs.ped_scalar.specs.ped_rules.specs.ped_loop_runs.specs.ped_bodies.specs.ped_steps.specs.ped_laws.specs.ped_graph.specs.ped_edges.specs.Edges.{Edge}
 use Rattle.ped_reindex.specs.ped_loops.specs.ped_scalar.specs.ped_rules.specs.ped_loop_runs.specs.ped_bodies.specs.ped_steps.specs.ped_laws.specs.ped_graph.specs.ped_edges.specs.declared.edges.Edge.{Edge as CodeEdge}
-use Rattle.ped_reindex.specs.ped_loops.specs.ped_scalar.specs.ped_rules.specs.ped_loop_runs.specs.ped_bodies.specs.ped_steps.specs.ped_refs.specs.References.{references, pairs}
+use Rattle.ped_reindex.specs.ped_loops.specs.ped_scalar.specs.ped_rules.specs.ped_loop_runs.specs.ped_bodies.specs.ped_steps.specs.ped_refs.specs.References.{Reference, references, pairs}
 use Rattle.ped_splits.specs.declared.neighbours.Pair.{Pair}
 use Rattle.ped_splits.specs.Neighbours.{Neighbour, AreAlike, renamed_body, joined_loop, fused, next_number, kept_without}
 use Rattle.ped_splits.specs.Fusing.{Match, WhereEither, StandsAgainstFusion, fusing}
@@ -49,7 +49,7 @@ module _ (t : ProgramTree) (p : Pair) (is : IsPair t p) where
   pub loop_of_pair : IsLoop t p.number (head_of p.own.now) (stmt_trees p.own.now.body.items)
   loop_of_pair = subst (λ (h : Head). IsLoop t p.number h (stmt_trees p.own.now.body.items)) is.own (subst (λ (b : StmtTrees). IsLoop t p.number is.neighbour.own b) is.own_body (own_loop is.neighbour))
 
-  pub match_of : AreAlike (head_of p.own.now) (head_of p.next.now) (stmt_trees p.next.now.body.items) → Match t p.number
+  abbrev pub match_of : AreAlike (head_of p.own.now) (head_of p.next.now) (stmt_trees p.next.now.body.items) → Match t p.number
   match_of a = record {
     neighbour = is.neighbour;
     alike = subst (λ (h : Head). AreAlike h is.neighbour.next is.neighbour.next_body) (sym is.own)
@@ -144,7 +144,7 @@ abbrev Unforbidden : ProgramTree → (s : ℕ) → List Edge → Found → Type 
 Unforbidden t s edges f =
     let m = s + 1 + statements_count f.own_body in
     EdgesOfPairs (fused_found t f)
-    (filter (λ q. (nat_le m q.0.statement && nat_lt q.0.statement (m + statements_count f.next_body)) && (nat_lt s q.1.statement && nat_lt q.1.statement m)) (pairs (references (fused_found t f)))) edges
+    (filter (λ (q : Reference × Reference). (nat_le m q.0.statement && nat_lt q.0.statement (m + statements_count f.next_body)) && (nat_lt s q.1.statement && nat_lt q.1.statement m)) (pairs (references (fused_found t f)))) edges
     → All (λ e. carried (fused_found t f) s e ≡ false) edges
 
 -- where no rule stands: a dependence forbids the step, or none does

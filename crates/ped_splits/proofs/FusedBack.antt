@@ -29,7 +29,7 @@ use Rattle.ped_splits.proofs.EdgePlaces.{IsBetween, all_between}
 use Rattle.ped_splits.proofs.GapPlaces.{fused_loop, fused_level}
 
 -- the second body has as many statements with the variable of the first
-renamed_count : (h k : Head) (body : StmtTrees) → statements_count (renamed_body h k body) ≡ statements_count body
+pub renamed_count : (h k : Head) (body : StmtTrees) → statements_count (renamed_body h k body) ≡ statements_count body
 renamed_count h k body = by (is_same_text h.variable k.variable)
   where
     by : (b : Bool) → statements_count (if b then body else statements_substituted k.variable (Var h.variable) body) ≡ statements_count body
@@ -137,7 +137,7 @@ module _ (t : ProgramTree) (p : Pair) (is : IsPair t p) (level : ℕ) (at : leve
   next_count = ap statements_count (sym is.next_body)
 
   same_back : is_back (bodies_of p level) ≡ goes_back is.neighbour
-  same_back = λ i q.
+  same_back = λ i. λ (q : Reference × Reference).
       (nat_le (p.number + 1 + own_count i) q.0.statement && nat_lt q.0.statement (p.number + 1 + own_count i + next_count i))
       && (nat_lt p.number q.1.statement && nat_lt q.1.statement (p.number + 1 + own_count i))
 

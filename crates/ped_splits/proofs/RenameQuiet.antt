@@ -526,6 +526,6 @@ module _ (making : MakingLaw) (t : ProgramTree) (s : ℕ) (x : Neighbour t s) (r
             where
               above : (v.reference == 0) ≡ false → 0 < v.reference
               above q = by_zero v.reference q
-                  where
-                    by_zero : (n : ℕ) → (n == 0) ≡ false → 0 < n
-                    by_zero n g = grind (arith, nat_tests)
+                where
+                  by_zero : (n : ℕ) → (n == 0) ≡ false → 0 < n
+                  by_zero n g = grind (arith, nat_tests)

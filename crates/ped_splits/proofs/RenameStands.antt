@@ -320,7 +320,7 @@ module _ (t : ProgramTree) (s : ℕ) (x : Neighbour t s) (r : IsRenaming t s x) 
         go true = (
           exit_unread idle scope e,
           subst (λ (ts : List Touch). AreRenamed own_name (of_cells ts) (of_cells (touches_without idle (exit_touches z other)))) (sym (none_left e scope r.private (ap (λ (b : Bool). inner_variables b body) r.serial) old_idle))
-          (subst (λ (us : List Touch). AreRenamed own_name (of_cells []) (of_cells us)) (sym (none_left z other r.private (ap (λ (b : Bool). inner_variables b new_body) r.serial) new_idle)) tt),
+              (subst (λ (us : List Touch). AreRenamed own_name (of_cells []) (of_cells us)) (sym (none_left z other r.private (ap (λ (b : Bool). inner_variables b new_body) r.serial) new_idle)) tt),
         )
         go false = (tt, tt)
 

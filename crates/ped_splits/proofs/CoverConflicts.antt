@@ -297,8 +297,7 @@ module _ (t0 : ProgramTree) (s : ℕ) (m : Match t0 s) (x : MayFuse t0 s m) (sta
 
     covered_by : (edges : List Edge) (inner inner_first : List Turn) (moved : Access) → IsCarriedInside u edges (turns_of scope) inner inner_first moved b → moved.place ≡ renumbered_place f a.place → moved.reference ≡ a.reference → IsCoveredAt u edges (Some (length (turns_of scope) + 1)) (in_one n a) b
     covered_by edges inner inner_first moved c' there by =
-        let alike : moved.place ≡ renumbered_place g a.place = there ∙ place_alike in
-        (
+        let alike : moved.place ≡ renumbered_place g a.place = there ∙ place_alike in (
           record {
             edge = c'.covered.edge;
             listed = c'.covered.listed;
@@ -308,7 +307,7 @@ module _ (t0 : ProgramTree) (s : ℕ) (m : Match t0 s) (x : MayFuse t0 s m) (sta
             contains = c'.covered.contains;
             stands = subst (λ (q : Place). StandInDirections u q.turns b.place.turns c'.covered.vector) alike c'.covered.stands;
           },
-          c'.level
+          c'.level,
         )
 
   -- so a dependence covers them, which the one DO carries

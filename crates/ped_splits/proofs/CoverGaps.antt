@@ -213,7 +213,7 @@ module _ (t u : ProgramTree) (w : ranges.Setting) (h : Head) (b old : StmtTrees)
             assigned = λ y. assigned_filled y old new (assigned y) gap;
             inside = λ y k. assigned_inside y new k gap;
           },
-          r.loops
+          r.loops,
         );
         around = r.around;
         scope = r.scope;

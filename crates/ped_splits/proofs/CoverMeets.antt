@@ -335,114 +335,114 @@ module _ (t0 : ProgramTree) (s : ℕ) (m : Match t0 s) (x : MayFuse t0 s m) (sam
 
     -- accesses of two acts that conflict, one of the first in a later iteration and one of the second in an earlier one
     module _ (a b : Act) (k : IsIn a (first.trip i)) (l : IsIn b (next.trip j)) (q : Meeting a b) where
-        one : (w : Touch) × IsIn w a.touches × (q.first ≡ access_by a.place w)
-        one = touch_of_access q.first a q.of_first
+      one : (w : Touch) × IsIn w a.touches × (q.first ≡ access_by a.place w)
+      one = touch_of_access q.first a q.of_first
 
-        other : (w : Touch) × IsIn w b.touches × (q.second ≡ access_by b.place w)
-        other = touch_of_access q.second b q.of_second
+      other : (w : Touch) × IsIn w b.touches × (q.second ≡ access_by b.place w)
+      other = touch_of_access q.second b q.of_second
 
-        one_more : StandsIn (turns_of (frame e i ∷ scope)) a
-        one_more = stands_in p n.own_body (s + 1) (frame e i ∷ scope) (first_store i) a (in_first_trip a k)
+      one_more : StandsIn (turns_of (frame e i ∷ scope)) a
+      one_more = stands_in p n.own_body (s + 1) (frame e i ∷ scope) (first_store i) a (in_first_trip a k)
 
-        other_more : StandsIn (turns_of (frame z j ∷ scope)) b
-        other_more = stands_in p (second_body n) (number + 1) (frame z j ∷ scope) (next_store j) b (in_next_trip b l)
+      other_more : StandsIn (turns_of (frame z j ∷ scope)) b
+      other_more = stands_in p (second_body n) (number + 1) (frame z j ∷ scope) (next_store j) b (in_next_trip b l)
 
-        one_place : q.first.place.turns ≡ turns_of scope ++ (frame joined i).turn ∷ one_more.0
-        one_place =
-            ap (λ (y : Access). y.place.turns) one.2 ∙ one_more.1 ∙ append_assoc (turns_of scope) ((frame e i).turn ∷ []) one_more.0
-            ∙ ap (λ (w : Frame). turns_of scope ++ w.turn ∷ one_more.0) (sym (body.frame_same t0 s m x same data_bytes scope v come first.bounds first.come i))
+      one_place : q.first.place.turns ≡ turns_of scope ++ (frame joined i).turn ∷ one_more.0
+      one_place =
+          ap (λ (y : Access). y.place.turns) one.2 ∙ one_more.1 ∙ append_assoc (turns_of scope) ((frame e i).turn ∷ []) one_more.0
+          ∙ ap (λ (w : Frame). turns_of scope ++ w.turn ∷ one_more.0) (sym (body.frame_same t0 s m x same data_bytes scope v come first.bounds first.come i))
 
-        other_place : (moved f q.second).place.turns ≡ turns_of scope ++ (frame joined j).turn ∷ map (renumbered_turn f) other_more.0
-        other_place =
-            ap (λ (y : Access). map (renumbered_turn f) y.place.turns) other.2 ∙ ap (map (renumbered_turn f)) other_more.1 ∙ map-append (renumbered_turn f) (turns_of (frame z j ∷ scope)) other_more.0
-            ∙ ap (λ (ts : List Turn). ts ++ map (renumbered_turn f) other_more.0) (sym (inside j).turns) ∙ append_assoc (turns_of scope) ((frame joined j).turn ∷ []) (map (renumbered_turn f) other_more.0)
+      other_place : (moved f q.second).place.turns ≡ turns_of scope ++ (frame joined j).turn ∷ map (renumbered_turn f) other_more.0
+      other_place =
+          ap (λ (y : Access). map (renumbered_turn f) y.place.turns) other.2 ∙ ap (map (renumbered_turn f)) other_more.1 ∙ map-append (renumbered_turn f) (turns_of (frame z j ∷ scope)) other_more.0
+          ∙ ap (λ (ts : List Turn). ts ++ map (renumbered_turn f) other_more.0) (sym (inside j).turns) ∙ append_assoc (turns_of scope) ((frame joined j).turn ∷ []) (map (renumbered_turn f) other_more.0)
 
-        made_turns : (w : Turn) × (rest : List Turn) × (turns_of scope ++ (frame joined i).turn ∷ one_more.0 ≡ w ∷ rest)
-        made_turns = first_of_more (turns_of scope) (frame joined i).turn one_more.0
+      made_turns : (w : Turn) × (rest : List Turn) × (turns_of scope ++ (frame joined i).turn ∷ one_more.0 ≡ w ∷ rest)
+      made_turns = first_of_more (turns_of scope) (frame joined i).turn one_more.0
 
-        moved_turns : (w : Turn) × (rest : List Turn) × (turns_of scope ++ (frame joined j).turn ∷ map (renumbered_turn f) other_more.0 ≡ w ∷ rest)
-        moved_turns = first_of_more (turns_of scope) (frame joined j).turn (map (renumbered_turn f) other_more.0)
+      moved_turns : (w : Turn) × (rest : List Turn) × (turns_of scope ++ (frame joined j).turn ∷ map (renumbered_turn f) other_more.0 ≡ w ∷ rest)
+      moved_turns = first_of_more (turns_of scope) (frame joined j).turn (map (renumbered_turn f) other_more.0)
 
-        first_made : (w : Turn) (inner : List Turn) → IsIn q.first (accesses_of a) → 0 < q.first.reference → q.first.place.turns ≡ w ∷ inner → Made u x.new_valid come.outer come.first q.first
-        first_made w inner = first_fine i (omega (arith, from, less)) to a k q.first w inner
+      first_made : (w : Turn) (inner : List Turn) → IsIn q.first (accesses_of a) → 0 < q.first.reference → q.first.place.turns ≡ w ∷ inner → Made u x.new_valid come.outer come.first q.first
+      first_made w inner = first_fine i (omega (arith, from, less)) to a k q.first w inner
 
-        next_made : (w : Turn) (inner : List Turn) → IsIn (moved f q.second) (accesses_of (renumbered_act f b)) → 0 < q.second.reference → (moved f q.second).place.turns ≡ w ∷ inner → Made u x.new_valid come.outer come.first (moved f q.second)
-        next_made w inner = next_fine j from (trip_count i j from less to) within b l (moved f q.second) w inner
+      next_made : (w : Turn) (inner : List Turn) → IsIn (moved f q.second) (accesses_of (renumbered_act f b)) → 0 < q.second.reference → (moved f q.second).place.turns ≡ w ∷ inner → Made u x.new_valid come.outer come.first (moved f q.second)
+      next_made w inner = next_fine j from (trip_count i j from less to) within b l (moved f q.second) w inner
 
-        parts : (same_cell q.first.cell q.second.cell ≡ true) × (q.first.writes || q.second.writes ≡ true)
-        parts = and_parts (same_cell q.first.cell q.second.cell) (q.first.writes || q.second.writes) q.conflicts
+      parts : (same_cell q.first.cell q.second.cell ≡ true) × (q.first.writes || q.second.writes ≡ true)
+      parts = and_parts (same_cell q.first.cell q.second.cell) (q.first.writes || q.second.writes) q.conflicts
 
-        cells : q.first.cell ≡ q.second.cell
-        cells = cell_is q.first.cell q.second.cell parts.0
+      cells : q.first.cell ≡ q.second.cell
+      cells = cell_is q.first.cell q.second.cell parts.0
 
-        stay : renumbered_cell f q.second.cell ≡ q.first.cell
-        stay =
-            let touched = ap (λ (y : Access). y.cell) one.2 in
-            let touched_too = ap (λ (y : Access). y.cell) other.2 in
-            name_stays i j q.second.cell
-            (subst (λ (c : Cell). IsOwn p scope c ⊎ IsOfTrip p s n.own n.own_body (bounds_seen p n.own scope v) first.bounds scope i c) (sym touched ∙ cells)
-            (body_reaches p s n.own n.own_body (bounds_seen p n.own scope v) first.bounds scope i (first_store i) a (in_first_trip a k) one.0 one.1))
-            (subst (λ (c : Cell). IsOwn p scope c ⊎ IsOfTrip p number (renamed_head n) (second_body n) (bounds_seen p (renamed_head n) scope (store_between n scope v)) next.bounds scope j c) (sym touched_too)
-            (body_reaches p number (renamed_head n) (second_body n) (bounds_seen p (renamed_head n) scope (store_between n scope v)) next.bounds scope j (next_store j) b (in_next_trip b l) other.0 other.1))
-            ∙ sym cells
+      stay : renumbered_cell f q.second.cell ≡ q.first.cell
+      stay =
+          let touched = ap (λ (y : Access). y.cell) one.2 in
+          let touched_too = ap (λ (y : Access). y.cell) other.2 in
+          name_stays i j q.second.cell
+          (subst (λ (c : Cell). IsOwn p scope c ⊎ IsOfTrip p s n.own n.own_body (bounds_seen p n.own scope v) first.bounds scope i c) (sym touched ∙ cells)
+          (body_reaches p s n.own n.own_body (bounds_seen p n.own scope v) first.bounds scope i (first_store i) a (in_first_trip a k) one.0 one.1))
+          (subst (λ (c : Cell). IsOwn p scope c ⊎ IsOfTrip p number (renamed_head n) (second_body n) (bounds_seen p (renamed_head n) scope (store_between n scope v)) next.bounds scope j c) (sym touched_too)
+          (body_reaches p number (renamed_head n) (second_body n) (bounds_seen p (renamed_head n) scope (store_between n scope v)) next.bounds scope j (next_store j) b (in_next_trip b l) other.0 other.1))
+          ∙ sym cells
 
-        conflicts : conflict (moved f q.second) q.first ≡ true
-        conflicts = (λ y. (ap (λ (c : Cell). same_cell c q.first.cell) stay ∙ cell_itself q.first.cell) y && or_turned q.first.writes q.second.writes parts.1 y)
+      conflicts : conflict (moved f q.second) q.first ≡ true
+      conflicts = (λ y. (ap (λ (c : Cell). same_cell c q.first.cell) stay ∙ cell_itself q.first.cell) y && or_turned q.first.writes q.second.writes parts.1 y)
 
-        low_high : (s < q.first.place.statement) × (q.first.place.statement < number)
-        low_high =
-            let r = acts_in p t n.own_body (s + 1) (frame e i ∷ scope) (first_store i) first_stands_there a (in_first_trip a k) in
-            let is : q.first.place.statement ≡ r.number = ap (λ (y : Access). y.place.statement) one.2 ∙ r.is in
-            let lo = r.from in
-            let hi = r.to in
-            (omega (arith, is, lo), omega (arith, is, hi))
+      low_high : (s < q.first.place.statement) × (q.first.place.statement < number)
+      low_high =
+          let r = acts_in p t n.own_body (s + 1) (frame e i ∷ scope) (first_store i) first_stands_there a (in_first_trip a k) in
+          let is : q.first.place.statement ≡ r.number = ap (λ (y : Access). y.place.statement) one.2 ∙ r.is in
+          let lo = r.from in
+          let hi = r.to in
+          (omega (arith, is, lo), omega (arith, is, hi))
 
-        from_to : (number ≤ (moved f q.second).place.statement) × ((moved f q.second).place.statement < number + statements_count n.next_body)
-        from_to =
-            let r = acts_in p t (second_body n) (number + 1) (frame z j ∷ scope) (next_store j) next_stands_there b (in_next_trip b l) in
-            let lo = r.from in
-            let hi = r.to in
-            let is : (moved f q.second).place.statement ≡ r.number - 1 = ap (λ (y : Access). f y.place.statement) other.2 ∙ ap f r.is ∙ in_body_of s number size before r.number (omega (arith, lo)) (omega (arith, hi)) in
-            let long = size_is in
-            (omega (arith, is, lo), omega (arith, is, hi, lo, long))
+      from_to : (number ≤ (moved f q.second).place.statement) × ((moved f q.second).place.statement < number + statements_count n.next_body)
+      from_to =
+          let r = acts_in p t (second_body n) (number + 1) (frame z j ∷ scope) (next_store j) next_stands_there b (in_next_trip b l) in
+          let lo = r.from in
+          let hi = r.to in
+          let is : (moved f q.second).place.statement ≡ r.number - 1 = ap (λ (y : Access). f y.place.statement) other.2 ∙ ap f r.is ∙ in_body_of s number size before r.number (omega (arith, lo)) (omega (arith, hi)) in
+          let long = size_is in
+          (omega (arith, is, lo), omega (arith, is, hi, lo, long))
 
-        -- they are made by references of the new program, in two iterations of the one DO
-        pub record AreMade : Type 0 where
-          pub source : Reference
-          pub sink : Reference
-          pub inner : List Turn
-          pub inner_first : List Turn
-          pub pair : MakeConflict u come.first (moved f q.second) q.first source sink
-          pub meeting : IsMeeting n (turns_of scope) inner inner_first (frame joined j).turn (frame joined i).turn (moved f q.second) q.first
+      -- they are made by references of the new program, in two iterations of the one DO
+      pub record AreMade : Type 0 where
+        pub source : Reference
+        pub sink : Reference
+        pub inner : List Turn
+        pub inner_first : List Turn
+        pub pair : MakeConflict u come.first (moved f q.second) q.first source sink
+        pub meeting : IsMeeting n (turns_of scope) inner inner_first (frame joined j).turn (frame joined i).turn (moved f q.second) q.first
 
-        meets : Made u x.new_valid come.outer come.first q.first → Made u x.new_valid come.outer come.first (moved f q.second) → AreMade
-        meets sink source = record {
-          source = source.reference;
-          sink = sink.reference;
-          inner = map (renumbered_turn f) other_more.0;
-          inner_first = one_more.0;
-          pair = record { at_source = source.scope; at_sink = sink.scope; before = source.store; behind = sink.store; made = source.is; makes = sink.is; conflicts = conflicts };
-          meeting = record {
-            at_first = other_place;
-            at_second = one_place;
-            successive = record { same = refl; parallel = refl; earlier = less; head = made.head t0 s m x same; body = made.bodies t0 s m x same; stands = stands t0 s m x same; initial = first.bounds.first; at_first = refl; at_second = refl };
-            level = turns_long (λ k. k) (made.nest t0 s m x same) (turns_of scope) come.turns ∙ sym (ap length (new_nest t0 s m x same));
-            from = from_to.0;
-            to = from_to.1;
-            low = low_high.0;
-            high = low_high.1;
-          };
-        }
+      meets : Made u x.new_valid come.outer come.first q.first → Made u x.new_valid come.outer come.first (moved f q.second) → AreMade
+      meets sink source = record {
+        source = source.reference;
+        sink = sink.reference;
+        inner = map (renumbered_turn f) other_more.0;
+        inner_first = one_more.0;
+        pair = record { at_source = source.scope; at_sink = sink.scope; before = source.store; behind = sink.store; made = source.is; makes = sink.is; conflicts = conflicts };
+        meeting = record {
+          at_first = other_place;
+          at_second = one_place;
+          successive = record { same = refl; parallel = refl; earlier = less; head = made.head t0 s m x same; body = made.bodies t0 s m x same; stands = stands t0 s m x same; initial = first.bounds.first; at_first = refl; at_second = refl };
+          level = turns_long (λ k. k) (made.nest t0 s m x same) (turns_of scope) come.turns ∙ sym (ap length (new_nest t0 s m x same));
+          from = from_to.0;
+          to = from_to.1;
+          low = low_high.0;
+          high = low_high.1;
+        };
+      }
 
-        pub are_made : AreMade
-        are_made = meets (first_made made_turns.0 made_turns.1 q.of_first q.first_reference (one_place ∙ made_turns.2)) (next_made moved_turns.0 moved_turns.1 (moved_access f b q.second q.of_second) q.second_reference (other_place ∙ moved_turns.2))
+      pub are_made : AreMade
+      are_made = meets (first_made made_turns.0 made_turns.1 q.of_first q.first_reference (one_place ∙ made_turns.2)) (next_made moved_turns.0 moved_turns.1 (moved_access f b q.second q.of_second) q.second_reference (other_place ∙ moved_turns.2))
 
-        none_there : some_rejection (fused m.neighbour).body ≡ false → ((edges : List Edge) → AreBack m.neighbour edges → All (λ e. forbids_fusion m.neighbour e ≡ false) edges) → ⊥
-        none_there plain unforbidden = none_meet t0 s n come.first (moved f q.second) q.first are_made.source are_made.sink are_made.pair (turns_of scope) are_made.inner are_made.inner_first (frame joined j).turn (frame joined i).turn are_made.meeting room plain unforbidden
+      none_there : some_rejection (fused m.neighbour).body ≡ false → ((edges : List Edge) → AreBack m.neighbour edges → All (λ e. forbids_fusion m.neighbour e ≡ false) edges) → ⊥
+      none_there plain unforbidden = none_meet t0 s n come.first (moved f q.second) q.first are_made.source are_made.sink are_made.pair (turns_of scope) are_made.inner are_made.inner_first (frame joined j).turn (frame joined i).turn are_made.meeting room plain unforbidden
 
-        -- whatever forbids the step, a dependence between them is carried by the one DO
-        pub covered_there : (edges : List Edge) → AreEdges u edges → IsCarriedInside u edges (turns_of scope) are_made.inner are_made.inner_first (moved f q.second) q.first
-        covered_there = covered_by_all t0 s n come.first (moved f q.second) q.first are_made.source are_made.sink are_made.pair (turns_of scope) are_made.inner are_made.inner_first (frame joined j).turn (frame joined i).turn are_made.meeting
+      -- whatever forbids the step, a dependence between them is carried by the one DO
+      pub covered_there : (edges : List Edge) → AreEdges u edges → IsCarriedInside u edges (turns_of scope) are_made.inner are_made.inner_first (moved f q.second) q.first
+      covered_there = covered_by_all t0 s n come.first (moved f q.second) q.first are_made.source are_made.sink are_made.pair (turns_of scope) are_made.inner are_made.inner_first (frame joined j).turn (frame joined i).turn are_made.meeting
 
     abbrev idle : Cell → Bool
     idle = is_cell_among (joined_variables m.neighbour)

@@ -37,7 +37,6 @@ entered_alike p q same n m number h d head body other alike seen l =
     with_inner e inner = record e { inner = inner }
 
 module _ (t u : ProgramTree) (same : setting_of u ≡ setting_of t) (new : StmtTrees) (s : ranges.Setting) (acts : List Act) (first : Store) (stored : (front behind : List Act) → acts ≡ front ++ behind → IsStoreIn s first (store_after front first)) where
-
   -- the iterations are reached, and have the variables of the loops
   pub reached_there : (scope : Scope) (nest : List Loop) → AreEntered (setting_of t) t acts first scope → AreTurnsOf (setting_of t).number nest (turns_of scope) → AreRoundBoth t u new [] nest → Reached u s first nest scope × (variables_of scope ≡ variables_behind [] nest)
   reached_there [] nest entered turns both = let none : nest ≡ [] = no_turns (setting_of t).number nest turns in (none, sym (ap (variables_behind []) none))
@@ -52,8 +51,7 @@ module _ (t u : ProgramTree) (same : setting_of u ≡ setting_of t) (new : StmtT
       let head : l.last.head ≡ e.loop.head = same_head l.last.head e.loop.head k.old_body e.loop.body both_are in
       let body : k.old_body ≡ e.loop.body = cc in
       let enters : entered_with (setting_of u) l.last.number l.last.head k.body e.seen e.bounds ≡ entered_with (setting_of t) e.number e.loop.head e.loop.body e.seen e.bounds =
-      entered_alike (setting_of t) (setting_of u) same e.number l.last.number place e.loop.head l.last.head head e.loop.body k.body (λ y. k.variables y ∙ ap (λ (ts : StmtTrees). is_among y (all_loop_variables ts)) body) e.seen e.bounds in
-      (
+      entered_alike (setting_of t) (setting_of u) same e.number l.last.number place e.loop.head l.last.head head e.loop.body k.body (λ y. k.variables y ∙ ap (λ (ts : StmtTrees). is_among y (all_loop_variables ts)) body) e.seen e.bounds in (
         (
           l.front,
           l.last,
@@ -75,7 +73,7 @@ module _ (t u : ProgramTree) (same : setting_of u ≡ setting_of t) (new : StmtT
             to = subst (λ (z : Entered). e.turn ≤ z.count) (sym enters) e.to;
             is = e.is ∙ ap (λ (z : Entered). frame z e.turn) (sym enters);
           },
-          deeper.0
+          deeper.0,
         ),
         (λ i. (ap (λ (g : Frame). g.variable) e.is ∙ ap (λ (g : Head). g.variable) (sym head)) i ∷ deeper.1 i) ∙ sym (variables_last [] l.front l.last) ∙ ap (variables_behind []) (sym l.is),
       )

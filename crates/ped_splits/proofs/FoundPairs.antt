@@ -126,12 +126,14 @@ module _ (t : ProgramTree) (s : ℕ) where
   pair_found None is = none_there (sym is)
   pair_found (Some p) is =
       let there = two_there (two_of p) (sym is) in
-      let at : p.number ≡ s = sym (ap (λ (w : TwoLoops). w.number) there.1) in
-      (at, subst (λ (m : ℕ). (x : Neighbour t m) → two_at x ≡ two_of p → IsPair t p) at (λ x h. record {
-        neighbour = x;
-        own = ap (λ (w : TwoLoops). w.own) h;
-        own_body = ap (λ (w : TwoLoops). w.own_body) h;
-        between = ap (λ (w : TwoLoops). w.between) h;
-        next = ap (λ (w : TwoLoops). w.next) h;
-        next_body = ap (λ (w : TwoLoops). w.next_body) h;
-      }) there.0 there.1)
+      let at : p.number ≡ s = sym (ap (λ (w : TwoLoops). w.number) there.1) in (
+        at,
+        subst (λ (m : ℕ). (x : Neighbour t m) → two_at x ≡ two_of p → IsPair t p) at (λ x h. record {
+          neighbour = x;
+          own = ap (λ (w : TwoLoops). w.own) h;
+          own_body = ap (λ (w : TwoLoops). w.own_body) h;
+          between = ap (λ (w : TwoLoops). w.between) h;
+          next = ap (λ (w : TwoLoops). w.next) h;
+          next_body = ap (λ (w : TwoLoops). w.next_body) h;
+        }) there.0 there.1,
+      )

@@ -157,6 +157,10 @@ module _ (t : ProgramTree) (p : Pair) (is : IsPair t p) (level : ℕ) (at : leve
 
   pub accepted : (change : Change) → IsChange (fused is.neighbour) (kept_without (next_number is.neighbour) t) change
       → IsFirstBack (fused is.neighbour) (bodies_of p level) (pairs (references (fused is.neighbour))) None → Answers (fusing p.number) t (Ok change)
-  accepted change made back =
-      ((nothing, λ a edges are. subst (Unforbidden t p.number edges) (one_neighbour t p.number is.neighbour a.neighbour) (no_back t p is level at back edges) are),
-        fused is.neighbour, kept_without (next_number is.neighbour) t, (match_of t p is m, refl, refl), made)
+  accepted change made back = (
+    (nothing, λ a edges are. subst (Unforbidden t p.number edges) (one_neighbour t p.number is.neighbour a.neighbour) (no_back t p is level at back edges) are),
+    fused is.neighbour,
+    kept_without (next_number is.neighbour) t,
+    (match_of t p is m, refl, refl),
+    made,
+  )

@@ -158,9 +158,13 @@ module _ (t : ProgramTree) (p : Pair) (is : IsPair t p) (level : ℕ) (at : leve
   pub some_back : (f : CodeEdge) → IsFirstBack v (bodies_of p level) (pairs (references v)) (Some f)
       → (edges : List Edge) × AreBack is.neighbour edges × (e : Edge) × IsFirstForbidding (forbids_fusion is.neighbour) edges e × (edge_of f ≡ with_present_numbers (next_number is.neighbour) e)
   some_back f (edges, are, e, first, same, short) =
-      let back = to_back edges are in
-      (edges, back, e, first_same is.neighbour (forbids_fusion is.neighbour) (forbids_at level) edges e (same_all edges back) first,
-        same ∙ ap (λ (n : ℕ). with_present_numbers (p.number + 1 + n) e) own_count)
+      let back = to_back edges are in (
+        edges,
+        back,
+        e,
+        first_same is.neighbour (forbids_fusion is.neighbour) (forbids_at level) edges e (same_all edges back) first,
+        same ∙ ap (λ (n : ℕ). with_present_numbers (p.number + 1 + n) e) own_count,
+      )
 
   pub short_back : (f : CodeEdge) → IsFirstBack v (bodies_of p level) (pairs (references v)) (Some f) → HasAtMostSixLoops f
   short_back f (edges, are, e, first, same, short) = short

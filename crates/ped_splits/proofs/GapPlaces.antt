@@ -101,9 +101,9 @@ module _ (s : ℕ) (old new : StmtTrees) (one : 1 ≤ statements_count old) (som
       let from = number_room g old (n + 1) in
       let to = number_room g new (n + 1) in
       let inside : loops_round s (Do h (filled g old)) n ≡ loops_round s (Do h (filled g new)) n =
-          one_more s h (filled g old) n (omega (arith, e, low)) (omega (arith, e, from, one))
-          ∙ (ap (λ (ls : List Loop). (record { number = n; head = h }) ∷ ls) (rounds g (n + 1) e)
-          ∙ sym (one_more s h (filled g new) n (omega (arith, e, low)) (omega (arith, e, to, some)))) in
+      one_more s h (filled g old) n (omega (arith, e, low)) (omega (arith, e, from, one))
+      ∙ (ap (λ (ls : List Loop). (record { number = n; head = h }) ∷ ls) (rounds g (n + 1) e)
+      ∙ sym (one_more s h (filled g new) n (omega (arith, e, low)) (omega (arith, e, to, some)))) in
       (λ i. inside i
       ++ (all_none_from s rest (n + statement_count (Do h (filled g old))) (omega (arith, e, from, one)) ∙ sym (all_none_from s rest (n + statement_count (Do h (filled g new))) (omega (arith, e, to, some)))) i)
 

@@ -159,6 +159,6 @@ pub other_lengths : (xs ys : List Expr) → (length xs ≡ length ys → ⊥) �
 other_lengths xs ys other =
     other_truth (are_same_exprs (pack_exprs (map expr_tree xs)) (pack_exprs (map expr_tree ys)))
     (λ h. other (
-        sym (length-map xs expr_tree) ∙ sym (packed_long (map expr_tree xs))
-        ∙ ap how_many (same_trees (pack_exprs (map expr_tree xs)) (pack_exprs (map expr_tree ys)) h)
-        ∙ packed_long (map expr_tree ys) ∙ length-map ys expr_tree))
+    sym (length-map xs expr_tree) ∙ sym (packed_long (map expr_tree xs))
+    ∙ ap how_many (same_trees (pack_exprs (map expr_tree xs)) (pack_exprs (map expr_tree ys)) h)
+    ∙ packed_long (map expr_tree ys) ∙ length-map ys expr_tree))

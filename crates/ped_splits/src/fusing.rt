@@ -394,13 +394,7 @@ fn before(k: u32, other: Option<Reader>) -> u32
     ensures { result ≡ Code.before k other }
 {
     match other {
-        Some(Reader::Statement(n)) => {
-            if k < n {
-                k
-            } else {
-                n
-            }
-        }
+        Some(Reader::Statement(n)) => { if k < n { k } else { n } }
         Some(Reader::Saved) | None => k,
     }
 }

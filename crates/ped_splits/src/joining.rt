@@ -141,12 +141,7 @@ fn joined_among(
 
 /// A copy of a statement, which has this number, with the one DO in the place of the two in it.
 #[cycle(joined)]
-fn joined_in(
-    alloc: Global,
-    statement: &Stmt,
-    number: u32,
-    joint: &Joint,
-) -> Result<Stmt, NoMemory>
+fn joined_in(alloc: Global, statement: &Stmt, number: u32, joint: &Joint) -> Result<Stmt, NoMemory>
     requires { number + statement_count (stmt_tree statement.now) < 2 ^ 32 }
     ensures { IfOk result (λ s. stmt_tree s ≡ one_joined (do_tree joint.now.new.now) joint.now.number (stmt_tree statement.now) number) }
 {

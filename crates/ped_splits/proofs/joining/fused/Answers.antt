@@ -18,8 +18,8 @@ returns-clause-tree c = λ is.
     let new = c.in_ok-new.ensures ∙ (λ i. joined (sym is.own i) (sym is.own_body i) (sym is.between i) (sym is.next i) (sym is.next_body i)) in
     let decls = c.in_ok-decls.ensures ∙ ap (λ (ds : List Decl). map decl_tree ds) c.deref.ensures.value in
     let body =
-        c.in_ok-body.ensures
-        ∙ (λ i. all_joined (new i) p.number (stmt_trees (c.deref-2.ensures.value i)) 1)
-        ∙ ap (λ (ts : StmtTrees). all_joined (joined x.own x.own_body x.between x.next x.next_body) p.number ts 1) x.stands
-        ∙ joined_gap (joined x.own x.own_body x.between x.next x.next_body) p.number x.own x.own_body x.between x.next x.next_body x.comments x.gap 1 x.numbered in
+    c.in_ok-body.ensures
+    ∙ (λ i. all_joined (new i) p.number (stmt_trees (c.deref-2.ensures.value i)) 1)
+    ∙ ap (λ (ts : StmtTrees). all_joined (joined x.own x.own_body x.between x.next x.next_body) p.number ts 1) x.stands
+    ∙ joined_gap (joined x.own x.own_body x.between x.next x.next_body) p.number x.own x.own_body x.between x.next x.next_body x.comments x.gap 1 x.numbered in
     λ i. record { decls = decls i; body = body i }

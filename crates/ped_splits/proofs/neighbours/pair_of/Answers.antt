@@ -8,7 +8,7 @@ pub returns-then-not-is_comment : goal.returns-then-not-is_comment
 returns-then-not-is_comment c =
     c.pair_with.ensures
     ∙ ends_here c.args.others.now c.loop-place.place c.index-others-place.result c.loop-place-test.true c.index-others-place.is c.is_comment.result c.is_comment.ensures (next_in (stmt_trees c.args.others.now)) c.loop-place.invariant
-        c.if-not-is_comment.true c.args.number (head_of c.args.own.now) (stmt_trees c.args.own.now.body.items)
+    c.if-not-is_comment.true c.args.number (head_of c.args.own.now) (stmt_trees c.args.own.now.body.items)
 
 pub loop-place-preserved : goal.loop-place-preserved
 loop-place-preserved c =

@@ -44,15 +44,12 @@ pub needed_number : (ts : List Touch) (s : Store) (c : Cell) → ((t : Touch) �
 needed_number [] s c h f k = absurd cc
 needed_number (t ∷ ts) s c h f k = go (needed_number ts (touched t.manner t.cell t.content s) c (λ u i. h u (inr i)) f.1) (same_cell t.cell c) refl
   where
-    abbrev More : Type 0
-    More = needed_by ts c ≡ true → (n : ℤ) × (touched t.manner t.cell t.content s c ≡ Number n)
-
     elsewhere : (m : Manner) → same_cell t.cell c ≡ false → touched m t.cell t.content s c ≡ s c
     elsewhere writes e = ap (λ (b : Bool). if b then t.content else s c) e
     elsewhere reads e = refl
     elsewhere is_told e = refl
 
-    told : More → (m : Manner) → t.manner ≡ m → t.cell ≡ c → read_first m (needed_by ts c) ≡ true → (n : ℤ) × (s c ≡ Number n)
+    told : (needed_by ts c ≡ true → (n : ℤ) × (touched t.manner t.cell t.content s c ≡ Number n)) → (m : Manner) → t.manner ≡ m → t.cell ≡ c → read_first m (needed_by ts c) ≡ true → (n : ℤ) × (s c ≡ Number n)
     told more reads e same q =
         let z = h t (inl refl) e same in
         let found : s t.cell ≡ t.content = subst (λ (m : Manner). IsFound m t.cell t.content s) e f.0 in
@@ -60,7 +57,7 @@ needed_number (t ∷ ts) s c h f k = go (needed_number ts (touched t.manner t.ce
     told more writes e same q = absurd cc
     told more is_told e same q = let z = more q in (z.0, sym (ap (λ (m : Manner). touched m t.cell t.content s c) e) ∙ z.1)
 
-    go : More → (b : Bool) → same_cell t.cell c ≡ b → (n : ℤ) × (s c ≡ Number n)
+    go : (needed_by ts c ≡ true → (n : ℤ) × (touched t.manner t.cell t.content s c ≡ Number n)) → (b : Bool) → same_cell t.cell c ≡ b → (n : ℤ) × (s c ≡ Number n)
     go more true e = told more t.manner refl (cell_is t.cell c e) (sym (ap (λ (b : Bool). if b then read_first t.manner (needed_by ts c) else needed_by ts c) e) ∙ k)
     go more false e = let z = more (sym (ap (λ (b : Bool). if b then read_first t.manner (needed_by ts c) else needed_by ts c) e) ∙ k) in (z.0, sym (elsewhere t.manner e) ∙ z.1)
 

@@ -133,7 +133,7 @@ module _ {t : ProgramTree} {s : ℕ} (x : Neighbour t s) where
   pub next_numbered : number_at next_gap 1 ≡ next_number x
   next_numbered = let e = pair_number first_loop x.between x.gap 1 in let f = x.numbered in let g = x.comments in omega (arith, e, f, g)
 
-  pub own_loop : LoopOf t s
+  abbrev pub own_loop : LoopOf t s
   own_loop = record {
     head = x.own;
     body = x.own_body;
@@ -141,7 +141,7 @@ module _ {t : ProgramTree} {s : ℕ} (x : Neighbour t s) where
         (is_there t (Do x.own x.own_body) (all_numbered x.own_body) (number_at x.gap 1) (stands_at t (Do x.own x.own_body) (followed x.between (alone (Do x.next x.next_body))) x.gap 1 (subst (λ (ts : StmtTrees). Stand t 1 (all_numbered ts)) x.stands (whole_stands t))));
   }
 
-  pub next_loop : LoopOf t (next_number x)
+  abbrev pub next_loop : LoopOf t (next_number x)
   next_loop = record {
     head = x.next;
     body = x.next_body;

@@ -36,7 +36,7 @@ use Rattle.ped_splits.proofs.RenameLost.{is_lost, is_loop_of, loses, of_last}
 use Rattle.ped_splits.specs.Neighbours.{Neighbour, next_number}
 
 range_append : (n a b : ℕ) → range_with_len n (a + b) ≡ range_with_len n a ++ range_with_len (n + a) b
-range_append n zero b = let e : n ≡ n + 0 = omega arith in ap (λ (k : ℕ). range_with_len k b) e
+range_append n zero b = let none : zero + b ≡ b = omega arith in let e : n ≡ n + 0 = omega arith in ap (range_with_len n) none ∙ ap (λ (k : ℕ). range_with_len k b) e
 range_append n (suc a) b =
     let more : suc a + b ≡ suc (a + b) = omega arith in
     let from : n + 1 + a ≡ n + suc a = omega arith in
@@ -240,8 +240,8 @@ module _ (t : ProgramTree) (s : ℕ) (x : Neighbour t s) (r : IsRenaming t s x) 
           go true e = absurd (both_ways (is_same_text I J) r.differ (ap (λ (w : List ℕ). is_same_text w J) (sym (same_is J I e)) ∙ same_itself J))
           go false e = refl
 
-  abbrev it : StmtTrees
-  it = alone (Do x.next x.next_body)
+  abbrev alone_next : StmtTrees
+  alone_next = alone (Do x.next x.next_body)
 
   abbrev new : StmtTrees
   new = alone (Do (record x.next { variable = x.own.variable }) (statements_substituted x.next.variable (Var x.own.variable) x.next_body))
@@ -272,8 +272,8 @@ module _ (t : ProgramTree) (s : ℕ) (x : Neighbour t s) (r : IsRenaming t s x) 
       among_append w (g.variable ∷ all_loop_variables (filled gap ts)) (all_loop_variables rest)
       ∙ or_left (is_among w (g.variable ∷ all_loop_variables (filled gap ts))) (is_among w (all_loop_variables rest)) (or_right (is_same_text w g.variable) (is_among w (all_loop_variables (filled gap ts))) (has_filled w ts h gap))
 
-  J_there : (gap : Gap) → is_among J (all_loop_variables (filled gap it)) ≡ true
-  J_there gap = has_filled J it (or_left (is_same_text J J) _ (same_itself J)) gap
+  J_there : (gap : Gap) → is_among J (all_loop_variables (filled gap alone_next)) ≡ true
+  J_there gap = has_filled J alone_next (or_left (is_same_text J J) _ (same_itself J)) gap
 
   abbrev first : StmtTree
   first = Do x.own x.own_body
@@ -283,11 +283,11 @@ module _ (t : ProgramTree) (s : ℕ) (x : Neighbour t s) (r : IsRenaming t s x) 
       ap (λ (zs : StmtTrees). is_among I (all_loop_variables zs)) (pair_filled first x.between gap ts)
       ∙ has_filled I (more_stmts first (followed x.between ts)) (or_left (is_same_text I I) _ (same_itself I)) gap
 
-  module _ (n : ℕ) (h : Head) (gap : Gap) (parallel : h.parallel ≡ true) (at : number_at gap (n + 1) ≡ m) (stand : Stand t n (Do h (filled gap it) ∷ all_numbered (filled gap it))) (own_there : (ts : StmtTrees) → is_among I (all_loop_variables (filled gap ts)) ≡ true) (not_own : is_same_text I h.variable ≡ false) (not_next : is_same_text J h.variable ≡ false) where
+  module _ (n : ℕ) (h : Head) (gap : Gap) (parallel : h.parallel ≡ true) (at : number_at gap (n + 1) ≡ m) (stand : Stand t n (Do h (filled gap alone_next) ∷ all_numbered (filled gap alone_next))) (own_there : (ts : StmtTrees) → is_among I (all_loop_variables (filled gap ts)) ≡ true) (not_own : is_same_text I h.variable ≡ false) (not_next : is_same_text J h.variable ≡ false) where
     abbrev b : StmtTrees
-    b = filled gap it
+    b = filled gap alone_next
 
-    there : statement_with n t ≡ Some (Do h (filled gap it))
+    there : statement_with n t ≡ Some (Do h (filled gap alone_next))
     there = is_there t (Do h b) (all_numbered b) n stand
 
     remains : is_among J (all_loop_variables (filled gap new)) ≡ list_any (λ j. is_loop_of J (statement_with j t) && not (j == m)) (range_with_len (n + 1) (statements_count b))
@@ -296,14 +296,14 @@ module _ (t : ProgramTree) (s : ℕ) (x : Neighbour t s) (r : IsRenaming t s x) 
     round_it : nat_lt n m && nat_le m (n + statements_count b) ≡ true
     round_it =
         let from = number_from gap (n + 1) in
-        let room = number_room gap it (n + 1) in
+        let room = number_room gap alone_next (n + 1) in
         λ i. lt-ltb n m (omega (arith, from, at)) i && le-leb m (n + statements_count b) (omega (arith, room, at)) i
 
     loses_is : loses t J m n (statement_with n t) ≡ not (is_among J (all_loop_variables (filled gap new)))
     loses_is = ap (loses t J m n) there ∙ (λ i. parallel i && round_it i && not (sym remains i))
 
     -- the copies of an iteration
-    copied : (S : Scope) (seen : List Seen) (l : Limits) (k : ℕ) → apart (cell_of (frame (entered_with (setting_of t) n h (filled gap it) seen l) k ∷ S) J) ≡ not (is_among J (all_loop_variables (filled gap new)))
+    copied : (S : Scope) (seen : List Seen) (l : Limits) (k : ℕ) → apart (cell_of (frame (entered_with (setting_of t) n h (filled gap alone_next) seen l) k ∷ S) J) ≡ not (is_among J (all_loop_variables (filled gap new)))
     copied S seen l k =
         ap apart private_is
         ∙ (λ i. same_itself J i && of_last (λ j. loses t J m j (statement_with j t)) (iterations_more (turns_of S) f.turn i))
@@ -311,7 +311,7 @@ module _ (t : ProgramTree) (s : ℕ) (x : Neighbour t s) (r : IsRenaming t s x) 
         ∙ loses_is
       where
         f : Frame
-        f = frame (entered_with (setting_of t) n h (filled gap it) seen l) k
+        f = frame (entered_with (setting_of t) n h (filled gap alone_next) seen l) k
 
         among : is_among J f.private ≡ true
         among =
@@ -343,12 +343,12 @@ module _ (t : ProgramTree) (s : ℕ) (x : Neighbour t s) (r : IsRenaming t s x) 
         go false q true k j = inr (same_is w J k)
         go false q false k j = absurd cc
 
-    other_copies : HasOtherCopies names apart (setting_of t) it new n h gap
+    other_copies : HasOtherCopies names apart (setting_of t) alone_next new n h gap
     other_copies = record {
       variable = λ i. turned I not_own i || (turned J not_next i || false);
       private = λ w i. not_named w i (is_among w names) refl;
       copies = λ w i. elim (names_only w i) [
-        | inl own ↦ inl (ap (λ (z : List ℕ). is_among z (all_loop_variables (filled gap new))) own ∙ own_there new ∙ sym (ap (λ (z : List ℕ). is_among z (all_loop_variables b)) own ∙ own_there it))
+        | inl own ↦ inl (ap (λ (z : List ℕ). is_among z (all_loop_variables (filled gap new))) own ∙ own_there new ∙ sym (ap (λ (z : List ℕ). is_among z (all_loop_variables b)) own ∙ own_there alone_next))
         | inr next ↦ by_name w next (is_among J (all_loop_variables (filled gap new))) refl
       ];
       went = λ w i there stands. elim (names_only w i) [
@@ -381,7 +381,7 @@ module _ (t : ProgramTree) (s : ℕ) (x : Neighbour t s) (r : IsRenaming t s x) 
 
         not_named : (w : List ℕ) → is_among w h.private ≡ true → (c : Bool) → is_among w names ≡ c → is_among w names ≡ false
         not_named w i true e = elim (names_only w e) [
-          | inl own ↦ absurd (both_ways (is_among I h.private) (unlisted I (own_there it)) (ap (λ (z : List ℕ). is_among z h.private) (sym own) ∙ i))
+          | inl own ↦ absurd (both_ways (is_among I h.private) (unlisted I (own_there alone_next)) (ap (λ (z : List ℕ). is_among z h.private) (sym own) ∙ i))
           | inr next ↦ absurd (both_ways (is_among J h.private) (unlisted J (J_there gap)) (ap (λ (z : List ℕ). is_among z h.private) (sym next) ∙ i))
         ]
         not_named w i false e = e
@@ -392,30 +392,30 @@ module _ (t : ProgramTree) (s : ℕ) (x : Neighbour t s) (r : IsRenaming t s x) 
         by_name w is false e = inr (λ S seen l k. ap (λ (z : List ℕ). apart (cell_of (frame (entered_with (setting_of t) n h b seen l) k ∷ S) z)) is ∙ copied S seen l k ∙ ap not e)
 
   -- along the way down to the two
-  past_round : (between : StmtTrees) (rest : StmtTrees) (n : ℕ) → OfParallelRound (HasOtherCopies names apart (setting_of t) it new) (past_all between (at_front rest)) n
+  past_round : (between : StmtTrees) (rest : StmtTrees) (n : ℕ) → OfParallelRound (HasOtherCopies names apart (setting_of t) alone_next new) (past_all between (at_front rest)) n
   past_round no_stmts rest n = tt
   past_round (more_stmts z zs) rest n = past_round zs rest (n + statement_count z)
 
-  round_gap : (gap : Gap) (n : ℕ) → number_at (behind_first gap first x.between) n ≡ m → Stand t n (all_numbered (filled (behind_first gap first x.between) it)) → is_among I (indices_of (loops_of_gap gap n)) ≡ false → is_among J (indices_of (loops_of_gap gap n)) ≡ false
-      → OfParallelRound (HasOtherCopies names apart (setting_of t) it new) (behind_first gap first x.between) n
+  round_gap : (gap : Gap) (n : ℕ) → number_at (behind_first gap first x.between) n ≡ m → Stand t n (all_numbered (filled (behind_first gap first x.between) alone_next)) → is_among I (indices_of (loops_of_gap gap n)) ≡ false → is_among J (indices_of (loops_of_gap gap n)) ≡ false
+      → OfParallelRound (HasOtherCopies names apart (setting_of t) alone_next new) (behind_first gap first x.between) n
   round_gap (at_front rest) n e h i j = past_round x.between rest (n + statement_count first)
-  round_gap (past z gap) n e h i j = round_gap gap (n + statement_count z) e (rest_stands t z (filled (behind_first gap first x.between) it) n h) i j
+  round_gap (past z gap) n e h i j = round_gap gap (n + statement_count z) e (rest_stands t z (filled (behind_first gap first x.between) alone_next) n h) i j
   round_gap (in_then c gap other rest) n e h i j =
-      let a = filled (behind_first gap first x.between) it in
+      let a = filled (behind_first gap first x.between) alone_next in
       round_gap gap (n + 1) e (first_stands t (n + 1) (all_numbered a) (all_numbered other) (inner_stands t (If c a other) (all_numbered a ++ all_numbered other) n (first_stands t n (numbered (If c a other)) (all_numbered rest) h))) i j
   round_gap (in_else c other gap rest) n e h i j =
-      let a = filled (behind_first gap first x.between) it in
+      let a = filled (behind_first gap first x.between) alone_next in
       round_gap gap (n + 1 + statements_count other) e (else_stands t other a (n + 1) (inner_stands t (If c other a) (all_numbered other ++ all_numbered a) n (first_stands t n (numbered (If c other a)) (all_numbered rest) h))) i j
   round_gap (in_body g gap rest) n e h i j =
       let inner = behind_first gap first x.between in
-      let a = filled inner it in
+      let a = filled inner alone_next in
       let here = first_stands t n (numbered (Do g a)) (all_numbered rest) h in
       let own = or_parts (is_same_text I g.variable) (is_among I (indices_of (loops_of_gap gap (n + 1)))) i in
       let next = or_parts (is_same_text J g.variable) (is_among J (indices_of (loops_of_gap gap (n + 1)))) j in
       ((λ parallel. other_copies n g inner parallel e here (I_there gap) own.0 next.0), round_gap gap (n + 1) e (inner_stands t (Do g a) (all_numbered a) n here) own.1 next.1)
 
   nest_is : nest_round t s ≡ loops_of_gap x.gap 1
-  nest_is = ap (λ (ts : StmtTrees). all_loops_round s ts 1) x.stands ∙ nest_at s (more_stmts first (followed x.between it)) (omega arith) x.gap 1 x.numbered
+  nest_is = ap (λ (ts : StmtTrees). all_loops_round s ts 1) x.stands ∙ nest_at s (more_stmts first (followed x.between alone_next)) (omega arith) x.gap 1 x.numbered
 
   pub round_renamed : OfParallelRound (HasOtherCopies (x.own.variable ∷ (x.next.variable ∷ [])) (is_lost t x.next.variable (next_number x)) (setting_of t) (alone (Do x.next x.next_body)) (alone new_loop)) (next_gap x) 1
   round_renamed =

@@ -129,7 +129,7 @@ module _ (t : ProgramTree) where
       which = inr (parallel, sub y (ap (λ (c : Bool). c || is_among y ys) (same_itself y)));
       held = λ k. ap (λ (u : Touch). u.content) q;
     }
-    inner a leaving parallel (y ∷ ys) sub v (inr i) = inner a leaving parallel ys (λ w k. sub w (more (is_same_text w y) k)) v i
+    inner a leaving parallel (y ∷ ys) sub v (inr i) = inner a leaving parallel ys (λ w k. sub w (more (is_same_text w y) (is_among w ys) k)) v i
       where
         more : (c d : Bool) → d ≡ true → c || d ≡ true
         more true d k = refl

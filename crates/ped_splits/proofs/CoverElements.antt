@@ -1,5 +1,5 @@
 -- A run writes numbers of 32 bits alone into elements of arrays.
-use Rattle.std.proofs.Common.{◌≡◌, ℕ, zero, suc, ◌+◌, ℤ, List, [], ◌∷◌, ◌++◌, Bool, true, false, ◌==◌, Option, Some, None, Result, Ok, Err, if◌then◌else◌, refl, sym, ap, ◌∙◌, subst}
+use Rattle.std.proofs.Common.{◌≡◌, ℕ, zero, suc, ◌+◌, ℤ, List, [], ◌∷◌, ◌++◌, Bool, true, false, ◌==◌, Option, Some, None, Result, Ok, Err, if◌then◌else◌, refl, sym, ◌∙◌, subst}
 use Rattle.std.specs.Str.Parse.{signed_digits_value}
 use Rattle.ped_base.specs.Lists.{has_some, is_among}
 use Rattle.ped_base.specs.Arithmetic.Faults.{◌>>=◌}

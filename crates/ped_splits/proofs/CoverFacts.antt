@@ -1,5 +1,5 @@
 -- Two DO loops that may become one, whether a dependence forbids it or not: what the covering law asks of them.
-use Rattle.std.proofs.Common.{◌≡◌, ℕ, List, [], Bool, false}
+use Rattle.std.proofs.Common.{◌≡◌, ℕ, [], false}
 use Rattle.ped_reindex.specs.ped_loops.specs.Interchanging.{IsBoundOf}
 use Rattle.ped_reindex.specs.ped_loops.specs.ped_scalar.specs.ped_rules.specs.ped_loop_runs.specs.ped_bodies.specs.ped_steps.specs.ped_flow.specs.PlainBounds.{IsPlain}
 use Rattle.ped_reindex.specs.ped_loops.specs.ped_scalar.specs.ped_rules.specs.ped_loop_runs.specs.ped_bodies.specs.ped_steps.specs.ped_flow.specs.Questions.{IsContained}

@@ -6,7 +6,7 @@ use Rattle.ped_base.specs.Lists.{is_same_text, is_among}
 use Rattle.ped_tree.proofs.NameLaws.Collected.{among_append}
 use Rattle.ped_tree.specs.Tree.{Head, StmtTree, StmtTrees, If, Do, no_stmts, more_stmts, ProgramTree}
 use Rattle.ped_tree.specs.Nests.{Loop}
-use Rattle.ped_tree.specs.NamesIn.{loop_variables, all_loop_variables}
+use Rattle.ped_tree.specs.NamesIn.{all_loop_variables}
 use Rattle.ped_tree.specs.Numbering.{all_numbered, numbered, statement_with, statement_count, statements_count}
 use Rattle.ped_tree.specs.Grammar.Fits.{Surroundings, moved, in_if, in_loop, loop_fits, stmts_fit}
 use Rattle.ped_tree.specs.Grammar.Words.{is_name}

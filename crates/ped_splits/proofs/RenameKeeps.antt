@@ -253,7 +253,7 @@ module _ (making : MakingLaw) (t : ProgramTree) (s : ℕ) (x : Neighbour t s) (r
                 ∙ copy_lost t J k e.number e.round.loop.head e.round.loop.body e.round.parallel (ap (λ (z : List ℕ). is_among z (all_loop_variables e.round.loop.body)) (sym is) ∙ in_body) S seen l n ∙ lost_there h)
 
             new_one : (cell_of e.other y ≡ cell_of e.scope y) ⊎ ((is_among y names ≡ true) × (apart (cell_of e.scope y) ≡ true)) → is_among y e.undefined_now ≡ true → wants (shown_at_end t) behind (cell_of e.other y) ≡ false
-            new_one (inl same) there = ap (wants (shown_at_end t) behind) same ∙ old_one
+            new_one (inl alike) there = ap (wants (shown_at_end t) behind) alike ∙ old_one
             new_one (inr n) there = absurd (both_ways (is_among y e.undefined_now) (gone n.1) there)
 
     -- the run is made of parts, and the new program does the new ones

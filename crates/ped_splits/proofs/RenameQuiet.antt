@@ -331,12 +331,12 @@ module _ (making : MakingLaw) (t : ProgramTree) (s : ℕ) (x : Neighbour t s) (r
       -- none round the PARALLEL DO has it
       outer : (n < l → ⊥) → IsOfThese p m count a
       outer none =
-          let within = ends none in
+          let within = reaches none in
           let inside_it = next_inside x l stands.loop (let from = lost.loses.from in omega (arith, none, from)) (let to = lost.loses.to in omega (arith, to, within)) in
           absurd (both_ways (is_among stands.loop.head.variable (all_loop_variables stands.loop.body)) (variable_outside t r.valid l stands.loop) (ap (λ (y : List ℕ). is_among y (all_loop_variables stands.loop.body)) named ∙ inside_it))
         where
-          ends : (n < l → ⊥) → n + statements_count lost.inside.loop.body ≤ l + statements_count stands.loop.body
-          ends none = dite (dec_lt l n) later same
+          reaches : (n < l → ⊥) → n + statements_count lost.inside.loop.body ≤ l + statements_count stands.loop.body
+          reaches none = dite (dec_lt l n) later same
             where
               later : l < n → n + statements_count lost.inside.loop.body ≤ l + statements_count stands.loop.body
               later less =

@@ -133,7 +133,7 @@ module _ (t : ProgramTree) (s : ℕ) (x : Neighbour t s) (r : IsRenaming t s x) 
   abbrev count : ℕ
   count = statements_count (alone (Do x.next x.next_body))
 
-  loop : LoopOf t (next_number x)
+  abbrev loop : LoopOf t (next_number x)
   loop = next_loop x
 
   one : IsOneToOne p.number

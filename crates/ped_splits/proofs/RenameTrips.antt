@@ -194,7 +194,7 @@ module _ (t : ProgramTree) (s : ℕ) (x : Neighbour t s) (r : IsRenaming t s x) 
   abbrev variables : List (List ℕ)
   variables = x.own.variable ∷ loop_variables (Do x.next x.next_body)
 
-  loop : LoopOf t (next_number x)
+  abbrev loop : LoopOf t (next_number x)
   loop = next_loop x
 
   J_among : is_among J (loop_variables (Do d body)) ≡ true

@@ -1,23 +1,40 @@
 -- Lines of advice, one behind another.
-use Rattle.std.proofs.Common.{◌≡◌, ◌∙◌, ℕ, List, [], ◌∷◌, ◌++◌, take, codes, Option, true, false, refl, sym, ap, subst, append-nil, append_assoc}
+use Rattle.std.proofs.Common.{◌≡◌, ◌∙◌, ℕ, List, [], ◌∷◌, ◌++◌, take, codes, Option, Result, Ok, Err, true, false, refl, sym, ap, subst, append-nil, append_assoc}
+use Rattle.std.specs.Prelude.{⊤}
 use Rattle.ped_tree.specs.Tree.{ProgramTree}
 use Rattle.ped_script.specs.declared.items.Command.{Command}
 use Rattle.ped_script.specs.declared.items.Command.TheVariants.{Interchange, Reverse, Distribute, Fuse, Parallel, Serial, Peel}
 use Rattle.ped_splits.specs.ped_reindex.specs.ped_loops.specs.ped_scalar.specs.ped_rules.specs.ped_loop_runs.specs.ped_bodies.specs.ped_steps.specs.Causes.{Cause}
-use Rattle.ped_splits.specs.ped_reindex.specs.ped_loops.specs.ped_scalar.specs.ped_rules.specs.Steps.{MaybeStep, no_step, some_step, MatchStep}
+use Rattle.ped_splits.specs.ped_reindex.specs.ped_loops.specs.ped_scalar.specs.ped_rules.specs.Steps.{MaybeStep, no_step, some_step, MatchStep, Answers}
+use Rattle.ped_splits.specs.ped_reindex.specs.ped_loops.specs.ped_scalar.specs.ped_rules.specs.ped_loop_runs.specs.ped_bodies.specs.ped_steps.specs.declared.causes.Refused.{Refused}
+use Rattle.ped_splits.specs.ped_reindex.specs.ped_loops.specs.ped_scalar.specs.ped_rules.specs.ped_loop_runs.specs.ped_bodies.specs.ped_steps.specs.declared.changes.Change.{Change}
 use Rattle.ped_transformations.specs.Table.{step_of}
 use Rattle.ped_transformations.specs.Advice.{Advised, advised_at, verdict_words, advice_line, IsLineOf, AreLinesOf, IsAdvice}
-use Rattle.ped_transformations.specs.CodeAdvice.{Tells}
+use Rattle.ped_transformations.specs.CodeAdvice.{cause_in, IsAgainst, Tells}
+
+-- where there is a step it answers
+pub no_answer : (step : MaybeStep) → MatchStep step ⊥ (λ at. ⊤) → MatchStep step ⊤ (λ at. ⊥) → ⊥
+no_answer no_step some none = some
+no_answer (some_step at) some none = none
 
 module _ (t : ProgramTree) where
   line_by : (words : List ℕ) (c : Option Cause) (step : MaybeStep) → MatchStep step ⊥ (λ at. at.IsCause t c) → MatchStep step ⊥ (λ at. (d : Option Cause) × at.IsCause t d × (advice_line words c ≡ advice_line words d))
   line_by words c no_step h = h
   line_by words c (some_step at) h = (c, h, refl)
 
+  against_by : (step : MaybeStep) (found : Result Change Refused) → MatchStep step ⊥ (λ at. Answers at t found) → IsAgainst step t (cause_in found)
+  against_by no_step found h = absurd h
+  against_by (some_step at) (Ok change) h = (h.0, tt)
+  against_by (some_step at) (Err refused) h = (h.0, h.1)
+
+  -- the cause in what a step answers is the first one against it
+  pub against : (step : MaybeStep) (found : Result Change Refused) (cause : Option Refused) → cause ≡ cause_in found → MatchStep step ⊥ (λ at. Answers at t found) → IsAgainst step t cause
+  against step found cause is h = subst (IsAgainst step t) (sym is) (against_by step found h)
+
   -- the words of a step, its verdict and the end of the line are told one behind another
-  pub tells : (words : List ℕ) (command : Command) (c : Option Cause) (before a b behind : List ℕ) → MatchStep (step_of command) ⊥ (λ at. at.IsCause t c)
+  pub line_told : (words : List ℕ) (command : Command) (c : Option Cause) (before a b behind : List ℕ) → MatchStep (step_of command) ⊥ (λ at. at.IsCause t c)
       → a ≡ before ++ words → b ≡ a ++ verdict_words c → behind ≡ b ++ 10 ∷ [] → Tells t (words, command) before behind
-  tells words command c before a b behind cause p q r = record {
+  line_told words command c before a b behind cause p q r = record {
     line = advice_line words c;
     is_line = line_by words c (step_of command) cause;
     adds = r ∙ ap (λ (x : List ℕ). x ++ 10 ∷ []) (q ∙ ap (λ (x : List ℕ). x ++ verdict_words c) p)

@@ -8,13 +8,14 @@ ghost use Rattle.ped_splits.specs.ped_reindex.specs.ped_loops.specs.ped_scalar.s
 ghost use Rattle.ped_splits.specs.ped_reindex.specs.ped_loops.specs.ped_scalar.specs.ped_rules.specs.ped_loop_runs.specs.ped_bodies.specs.ped_steps.specs.CodeCauses.{cause_of, IsShort};
 ghost use Rattle.ped_transformations.specs.Table.{step_of};
 ghost use Rattle.ped_transformations.specs.Advice as Spec;
+ghost use Rattle.ped_transformations.specs.CodeAdvice as told;
 ghost use Rattle.ped_transformations.specs.CodeAdvice.{IsAgainst, IsTellable, Tells};
 
 use crate::table::answer;
 use ped_base::{Bytes, NoMemory};
 use ped_script::Command;
 use ped_splits::ped_reindex::ped_loops::ped_scalar::ped_rules::ped_loop_runs::ped_bodies::ped_steps::{
-    Refused, Scene, cause_words,
+    Change, Refused, Scene, cause_words,
 };
 use std::alloc::Global;
 use std::sync::ledger::Ledger;
@@ -80,9 +81,21 @@ fn cause_against<L: Ledger>(
     ensures { IfOk result (IsAgainst (step_of command.now) (program_tree scene.now.tree.now)) }
 {
     match answer(alloc, scene, command)? {
-        Some(Ok(_)) => return Ok(None),
-        Some(Err(refused)) => return Ok(Some(refused)),
+        Some(found) => {
+            let cause = cause_in(found);
+            return Ok(cause);
+        }
         None => unreachable!(),
+    }
+}
+
+/// The cause in what a step answers, or that there is none.
+fn cause_in(found: Result<Change, Refused>) -> Option<Refused>
+    ensures { result ≡ told.cause_in found }
+{
+    match found {
+        Ok(_) => return None,
+        Err(refused) => return Some(refused),
     }
 }
 

@@ -17,7 +17,6 @@ from .views import View
 
 #: The steps that take a scalar.
 _SCALAR_STEPS = ("privatise", "expand")
-_NOT_BUILT = "NotBuilt"
 
 
 class Adviser:
@@ -48,7 +47,7 @@ class Adviser:
         """What to try at a loop as a whole."""
         trials = [*self._joined(loop), _parallel(loop.number)]
         outcomes = [self._outcomes[trial] for trial in trials if trial in self._outcomes]
-        advice = self._about_outcomes([outcome for outcome in outcomes if outcome.refusal != _NOT_BUILT])
+        advice = self._about_outcomes(outcomes)
         if not advice and not loop.form.parallel and not carried_names(self._view.carried_by(loop)):
             advice.extend(_about_variables(self._view.program, loop))
         steps = self._advised.get(loop.number)

@@ -118,7 +118,6 @@ RULES: Dict[int, str] = {
 
 OTHERS: Dict[str, str] = {
     "BadCommand": "the line is no command, or the period behind the text of an edit is missing",
-    "NotBuilt": "the command isn't built yet",
     "NoSuchStatement": "the program has no statement with this number",
     "NoSuchLine": "the program has no such lines",
     "NothingToUndo": "there is no step back",

@@ -17,7 +17,7 @@ from .statuses import CompanionError, Status
 _ANSWER = re.compile(r"(\d+): (ok|refused .*)")
 _FAULT = re.compile(r"fault (\d+) at (\d+)")
 _RACE = re.compile(r"race (\S+) at (\d+) and (\d+)")
-_ADVICE = re.compile(r"([a-z]+|peel first|peel last) (?:ok|refused .*)")
+_ADVISED = ("interchange", "reverse", "distribute", "fuse", "parallel", "serial", "peel first", "peel last")
 _LAST_PRINTED = " " * 6 + "END"
 
 
@@ -87,7 +87,7 @@ def read_replies(commands: Sequence[Command], rows: Sequence[str]) -> List[Reply
     index = 0
     for command in commands:
         count = _count(command, rows[index:])
-        if count == 0 and command.word != "advise":
+        if count == 0:
             raise NoReply(rows[index] if index < len(rows) else "")
         replies.append(Reply(command, tuple(rows[index:index + count])))
         index += count
@@ -125,10 +125,8 @@ def _run(rows: Sequence[str]) -> int:
 
 
 def _advice(rows: Sequence[str]) -> int:
-    """The rows of one `advise`: it tells of each step once, and another one may stand behind it."""
-    matches = [_ADVICE.fullmatch(row) for row in rows]
-    steps = [match.group(1) if match is not None else None for match in matches]
-    return next((count for count, step in enumerate(steps) if step is None or step in steps[:count]), len(rows))
+    told = [row for step, row in zip(_ADVISED, rows) if re.fullmatch(step + " (?:ok|refused .*)", row)]
+    return len(told) if len(told) == len(_ADVISED) else 0
 
 
 def _while(rows: Sequence[str], belongs: Callable[[str], object]) -> int:

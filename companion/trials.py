@@ -88,7 +88,7 @@ def _outcome(trial: Trial, steps: Sequence[Reply], shown: Reply) -> Outcome:
 
 
 def steps_advised(ped: Ped, view: View, loops: Sequence[int]) -> Dict[int, List[str]]:
-    """For each loop the steps that the command `advise` allows there; none where ped hasn't this command."""
+    """For each loop the steps that the command `advise` allows there."""
     replies = _session(ped, view, [f"advise {loop}" for loop in loops])
     return {
         loop: [row[:-len(" ok")] for row in reply.rows if row.endswith(" ok")]

@@ -11,7 +11,7 @@ from ..replies import Reply, read_replies
 from ..scripts import read_script
 from ..statuses import CompanionError, Status
 from ..views import View
-from .support import example_view, fortran, ped, view_of
+from .support import ADVICE, example_view, fortran, ped, view_of
 
 _NO_PED = Ped("/nowhere/ped")
 
@@ -27,6 +27,12 @@ def advice(view: View, loop: int, program: Optional[Ped] = None) -> List[str]:
     rows = loops(view, program or ped(), [loop], tries=True).splitlines()
     told = [row.strip()[2:] for row in rows if row.strip().startswith("- ")]
     return [row for row in told if program is not None or not row.startswith("ped allows here: ")]
+
+
+def untried(view: View, loop: int) -> List[str]:
+    """What is to be tried at a loop, where nothing is tried, so that ped isn't called."""
+    rows = loops(view, _NO_PED, [loop], tries=False).splitlines()
+    return [row.strip()[2:] for row in rows if row.strip().startswith("- ")]
 
 
 class FakePed(Ped):
@@ -50,7 +56,7 @@ class FakePed(Ped):
             return [f"source {len(lines)}", *(f"{number:5}      {text}" for number, text in enumerate(lines, 1)),
                     "dependences 0"]
         if word == "advise":
-            return ["interchange ok", "reverse refused rule 8 StepShape at 1", "peel first ok", "parallel ok"]
+            return ADVICE
         return [f"{line}: refused {self.refusal}" if self.refusal else f"{line}: ok"]
 
 
@@ -146,20 +152,19 @@ class Advice(unittest.TestCase):
         self.assertEqual(advice(example_view("product"), 17), [])
 
     def test_variable_behind_the_loop(self) -> None:
-        fake = FakePed("NotBuilt")
         read = view_of(fortran("INTEGER A(9)", "DO 10 I = 1, 9", "10 A(I) = I", "PRINT *, 2", "PRINT *, I", "END"))
-        self.assertIn("statement 4 may read I, which has no value behind a PARALLEL DO", advice(read, 1, fake))
+        self.assertIn("statement 4 may read I, which has no value behind a PARALLEL DO", untried(read, 1))
         saved = view_of(fortran(
             "INTEGER A(9,9)", "SAVE J", "DO 10 I = 1, 9", "DO 10 J = 1, 9", "10 A(I,J) = I", "END"
         ))
-        self.assertIn("J is in SAVE, and has no value behind a PARALLEL DO", advice(saved, 1, fake))
+        self.assertIn("J is in SAVE, and has no value behind a PARALLEL DO", untried(saved, 1))
 
-    def test_steps_to_come(self) -> None:
-        """What `parallel` and `advise` answer is told as soon as ped has them."""
+    def test_steps(self) -> None:
+        """What `parallel` and `advise` answer is told."""
         free = view_of(fortran("INTEGER A(9)", "DO 10 I = 1, 9", "10 A(I) = I", "END"))
         fake = FakePed()
         self.assertEqual(advice(free, 1, fake), [
-            "try `parallel 1`: ped accepts it", "ped allows here: interchange, peel first, parallel",
+            "try `parallel 1`: ped accepts it", "ped allows here: interchange, parallel, peel first",
         ])
         self.assertEqual(fake.scripts, ["parallel 1\nshow\nundo\n", "advise 1\n"])
         self.assertEqual(advice(free, 1, FakePed("rule 5 IndexEscapes at 3"))[0], (

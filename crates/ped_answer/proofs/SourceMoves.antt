@@ -133,12 +133,12 @@ printed_moves c bytes s next reply still h = by_nothing still (λ e. no_show byt
 shown_moves : (c : Command) (IsSo : ProgramTree → List ℕ → Type 0) (s next : State) (reply : Reply) → ¬ (IsMove c) → Shows IsSo s reply next → Moves c reply (sources_of s) (sources_of next)
 shown_moves c IsSo s next reply still h = printed_moves c h.bytes s next reply still h.prints
 
-rows_moves : (c : Command) (number : ℕ) (found : Option StmtTree) (s next : State) (reply : Reply) → ¬ (IsMove c) → ShowsOf number found s reply next → Moves c reply (sources_of s) (sources_of next)
-rows_moves c number None s next reply still h = refused_moves c _ s next reply still h.0 h.1
-rows_moves c number (Some statement) s next reply still h = shown_moves c _ s next reply still h
+rows_moves : (c : Command) (IsSo : ProgramTree → List ℕ → Type 0) (found : Option StmtTree) (s next : State) (reply : Reply) → ¬ (IsMove c) → ShowsOf IsSo found s reply next → Moves c reply (sources_of s) (sources_of next)
+rows_moves c IsSo None s next reply still h = refused_moves c _ s next reply still h.0 h.1
+rows_moves c IsSo (Some statement) s next reply still h = shown_moves c IsSo s next reply still h
 
-of_statement_moves : (c : Command) (number : ℕ) (s next : State) (reply : Reply) → ¬ (IsMove c) → ShowsStatement number s reply next → Moves c reply (sources_of s) (sources_of next)
-of_statement_moves c number s next reply still h = rows_moves c number (statement_with number h.tree) s next reply still h.shows
+of_statement_moves : (c : Command) (IsSo : ProgramTree → List ℕ → Type 0) (number : ℕ) (s next : State) (reply : Reply) → ¬ (IsMove c) → ShowsStatement IsSo number s reply next → Moves c reply (sources_of s) (sources_of next)
+of_statement_moves c IsSo number s next reply still h = rows_moves c IsSo (statement_with number h.tree) s next reply still h.shows
 
 lines_moves : (c : Command) (there : Bool) (kept gone : ℕ) (text : List ℕ) (s next : State) (reply : Reply) → ¬ (IsMove c) → MatchBool there (Edits kept gone text s reply next) (Refuses NoSuchLine s reply next)
     → Moves c reply (sources_of s) (sources_of next)
@@ -155,7 +155,7 @@ moves Undo d s next reply h = by_undo refl (moves_back s.past s next reply refl 
 moves Redo d s next reply h = by_redo refl (moves_forward s.future s next reply refl h)
 moves Source d s next reply h = shown_moves Source _ s next reply (still_by Source (λ e. cc) (λ e. cc)) h
 moves (Deps None) d s next reply h = shown_moves (Deps None) _ s next reply (still_by (Deps None) (λ e. cc) (λ e. cc)) h
-moves (Deps (Some number)) d s next reply h = of_statement_moves (Deps (Some number)) number s next reply (still_by (Deps (Some number)) (λ e. cc) (λ e. cc)) h
+moves (Deps (Some number)) d s next reply h = of_statement_moves (Deps (Some number)) _ number s next reply (still_by (Deps (Some number)) (λ e. cc) (λ e. cc)) h
 moves Show d s next reply h = shown_moves Show _ s next reply (still_by Show (λ e. cc) (λ e. cc)) h
 moves Print d s next reply h = printed_moves Print _ s next reply (still_by Print (λ e. cc) (λ e. cc)) h
 moves Tested d s next reply h = printed_moves Tested _ s next reply (still_by Tested (λ e. cc) (λ e. cc)) h
@@ -175,8 +175,8 @@ moves (Privatise number name) d s next reply h = step_moves (Privatise number na
 moves (Parallel number) d s next reply h = step_moves (Parallel number) _ s next reply (still_by (Parallel number) (λ e. cc) (λ e. cc)) h
 moves (Serial number) d s next reply h = step_moves (Serial number) _ s next reply (still_by (Serial number) (λ e. cc) (λ e. cc)) h
 moves (Reject number name) d s next reply h = step_moves (Reject number name) _ s next reply (still_by (Reject number name) (λ e. cc) (λ e. cc)) h
-moves (Fuse number) d s next reply h = refused_moves (Fuse number) _ s next reply (still_by (Fuse number) (λ e. cc) (λ e. cc)) h.0 h.1
-moves (Advise number) d s next reply h = refused_moves (Advise number) _ s next reply (still_by (Advise number) (λ e. cc) (λ e. cc)) h.0 h.1
+moves (Fuse number) d s next reply h = step_moves (Fuse number) _ s next reply (still_by (Fuse number) (λ e. cc) (λ e. cc)) h
+moves (Advise number) d s next reply h = of_statement_moves (Advise number) _ number s next reply (still_by (Advise number) (λ e. cc) (λ e. cc)) h
 
 line_moves : (line : ℕ) (command : Option Command) (d : List ℕ) (s next : State) (said : Said) → AnswersCommand line command d s said next → KeepsHistory line command s said next
 line_moves line None d s next said h = record { here = stands s; there = stands next; moves = (ap (λ (x : Said). x.bytes) h.0, ap sources_of h.1) }

@@ -10,8 +10,9 @@ use Rattle.ped_session.specs.ped_graph.specs.DependencePane.{IsDependencePane, I
 use Rattle.ped_session.specs.ped_transformations.specs.ped_script.specs.Items.{commands_of}
 use Rattle.ped_session.specs.ped_transformations.specs.ped_script.specs.declared.items.Item.{Item}
 use Rattle.ped_session.specs.ped_transformations.specs.ped_script.specs.declared.items.Command.{Command}
-use Rattle.ped_session.specs.ped_transformations.specs.ped_script.specs.declared.items.Command.TheVariants.{Source, Deps, Show, Print, Undo, Redo}
+use Rattle.ped_session.specs.ped_transformations.specs.ped_script.specs.declared.items.Command.TheVariants.{Source, Deps, Show, Print, Advise, Undo, Redo}
 use Rattle.ped_session.specs.ped_transformations.specs.Table.{step_of}
+use Rattle.ped_session.specs.ped_transformations.specs.Advice.{IsAdvice}
 use Rattle.ped_session.specs.ped_transformations.specs.ped_reindex.specs.ped_loops.specs.ped_scalar.specs.ped_rules.specs.Steps.{StepAt, MatchStep}
 use Rattle.ped_session.specs.ped_transformations.specs.ped_reindex.specs.ped_loops.specs.ped_scalar.specs.ped_rules.specs.ped_loop_runs.specs.ped_bodies.specs.ped_steps.specs.Causes.{Cause}
 use Rattle.ped_session.specs.ped_transformations.specs.ped_reindex.specs.ped_loops.specs.ped_scalar.specs.ped_rules.specs.ped_loop_runs.specs.ped_bodies.specs.ped_steps.specs.CauseWords.{cause_words}
@@ -66,13 +67,14 @@ pub record Afresh (IsSo : ProgramTree → List ℕ → Type 0) (text bytes : Lis
 abbrev pub IsOfStatement : (ProgramTree → List ℕ → Type 0) → (line number : ℕ) → ProgramTree → List ℕ → Type 0
 IsOfStatement IsSo line number t bytes = MatchOption (statement_with number t) (bytes ≡ answer_row line (codes "refused NoSuchStatement")) (λ statement. IsSo t bytes)
 
--- `source`, `deps`, `deps S` and `show` show the panes that come of reading the present source afresh, whatever was done before; and `print` shows that source (ParaScope)
+-- `source`, `deps`, `deps S` and `show` show the panes that come of reading the present source afresh, whatever was done before; `print` shows that source, and `advise S` the first causes against the steps in it (ParaScope)
 abbrev pub ShowsAfresh : ℕ → Option Command → State → Said → State → Type 0
 ShowsAfresh line (Some Source) s said next = Afresh IsSourcePane s.present said.bytes
 ShowsAfresh line (Some (Deps None)) s said next = Afresh IsDependencePane s.present said.bytes
 ShowsAfresh line (Some (Deps (Some number))) s said next = Afresh (IsOfStatement (λ t. IsDependencePaneOf t (Some number)) line number) s.present said.bytes
 ShowsAfresh line (Some Show) s said next = Afresh ArePanes s.present said.bytes
 ShowsAfresh line (Some Print) s said next = said.bytes ≡ s.present
+ShowsAfresh line (Some (Advise number)) s said next = Afresh (IsOfStatement (λ t. IsAdvice t number) line number) s.present said.bytes
 ShowsAfresh line command s said next = ⊤
 
 -- in mode `show` both panes are those that come of reading afresh the printed text of the program in the file (ParaScope)

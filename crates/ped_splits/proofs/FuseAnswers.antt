@@ -29,7 +29,7 @@ use Rattle.ped_splits.proofs.Here.{fails_there, passes_there}
 use Rattle.ped_splits.proofs.FoundPairs.{two_at, one_two}
 use Rattle.ped_splits.proofs.GapPlaces.{own_loop}
 use Rattle.ped_splits.proofs.NeighbourFound.{Found, one_neighbour}
-use Rattle.ped_splits.proofs.FuseOne.{fused_found}
+use Rattle.ped_splits.proofs.FuseOne.{fused_at}
 use Rattle.ped_splits.proofs.FusedBack.{some_back, short_back, no_back, renamed_count}
 
 module _ (s : ℕ) (t : ProgramTree) where
@@ -143,9 +143,9 @@ nobody_next t s none m = none m.neighbour
 abbrev Unforbidden : ProgramTree → (s : ℕ) → List Edge → Found → Type 0
 Unforbidden t s edges f =
     let m = s + 1 + statements_count f.own_body in
-    EdgesOfPairs (fused_found t f)
-    (filter (λ (q : Reference × Reference). (nat_le m q.0.statement && nat_lt q.0.statement (m + statements_count f.next_body)) && (nat_lt s q.1.statement && nat_lt q.1.statement m)) (pairs (references (fused_found t f)))) edges
-    → All (λ e. carried (fused_found t f) s e ≡ false) edges
+    EdgesOfPairs (fused_at t f)
+    (filter (λ (q : Reference × Reference). (nat_le m q.0.statement && nat_lt q.0.statement (m + statements_count f.next_body)) && (nat_lt s q.1.statement && nat_lt q.1.statement m)) (pairs (references (fused_at t f)))) edges
+    → All (λ e. carried (fused_at t f) s e ≡ false) edges
 
 -- where no rule stands: a dependence forbids the step, or none does
 module _ (t : ProgramTree) (p : Pair) (is : IsPair t p) (level : ℕ) (at : level ≡ level_at t p.number) (m : AreAlike (head_of p.own.now) (head_of p.next.now) (stmt_trees p.next.now.body.items))
@@ -153,7 +153,7 @@ module _ (t : ProgramTree) (p : Pair) (is : IsPair t p) (level : ℕ) (at : leve
   pub forbidden : (f : CodeEdge) (found : Refused) → found ≡ variant.Dependence f → IsFirstBack (fused is.neighbour) (bodies_of p level) (pairs (references (fused is.neighbour))) (Some f) → Answers (fusing p.number) t (Err found)
   forbidden f found same back =
       let some = some_back t p is level at f back in
-      subst (λ (e : Refused). Answers (fusing p.number) t (Err e)) (sym same) ((nothing, match_of t p is m, some), short_back t p is level at f back)
+      subst (λ (e : Refused). Answers (fusing p.number) t (Err e)) (sym same) ((nothing, match_of t p is m, some.0, some.1, some.2, some.3, some.4), short_back t p is level at f back)
 
   pub accepted : (change : Change) → IsChange (fused is.neighbour) (kept_without (next_number is.neighbour) t) change
       → IsFirstBack (fused is.neighbour) (bodies_of p level) (pairs (references (fused is.neighbour))) None → Answers (fusing p.number) t (Ok change)

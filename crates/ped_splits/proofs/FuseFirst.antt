@@ -18,7 +18,7 @@ use Rattle.ped_splits.specs.Distributing.{IsItsBound}
 use Rattle.ped_splits.specs.Neighbours.{fused, next_number, kept_without}
 use Rattle.ped_splits.specs.Fusing.{Match, MakesFused, WhereEither, WhereFusionEscapes, WhereNoMatch, WhereFusedLimit, StandsAgainstFusion}
 use Rattle.ped_splits.proofs.Here.{here, not_no_loop}
-use Rattle.ped_splits.proofs.FuseOne.{one_fused}
+use Rattle.ped_splits.proofs.FuseOne.{one_made}
 use Rattle.ped_splits.proofs.FuseRules as rules
 
 module _ (s : ℕ) (t : ProgramTree) where
@@ -91,7 +91,7 @@ module _ (s : ℕ) (t : ProgramTree) where
                   behind_plain Limit s
                   (first_later NoNeighbour (WhereNoMatch t s) (rules.limit s t) not_alone Limit s
                   (first_here Limit (WhereFusedLimit t s) no_rules s
-                  (m, limit_stands (MakesFused s) t s (here t s h body is) (one_fused s t) (fused m.neighbour) (kept_without (next_number m.neighbour) t) makes invalid) (chain_end 15)))
+                  (m, limit_stands (MakesFused s) t s (here t s h body is) (one_made s t) (fused m.neighbour) (kept_without (next_number m.neighbour) t) makes invalid) (chain_end 15)))
 
               pub nothing_stands : IsValid (fused m.neighbour) → NoRule stands
               nothing_stands valid =

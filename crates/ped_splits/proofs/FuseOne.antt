@@ -17,7 +17,7 @@ use Rattle.ped_reindex.specs.ped_loops.specs.ped_scalar.specs.ped_rules.specs.pe
 use Rattle.ped_reindex.specs.ped_loops.specs.ped_scalar.specs.ped_rules.specs.ped_loop_runs.specs.ped_bodies.specs.ped_steps.specs.ped_laws.specs.ped_graph.specs.Update.Fresh.{IsOneToOne}
 use Rattle.ped_reindex.specs.ped_loops.specs.ped_scalar.specs.ped_rules.specs.ped_loop_runs.specs.ped_bodies.specs.ped_steps.specs.ped_laws.specs.ped_graph.specs.ped_edges.specs.Edges.{Edge}
 use Rattle.ped_reindex.specs.ped_loops.specs.ped_scalar.specs.ped_rules.specs.ped_loop_runs.specs.ped_bodies.specs.ped_steps.specs.ped_refs.specs.References.{Reference, references, pairs}
-use Rattle.ped_splits.specs.Neighbours.{Neighbour, joined_head, renamed_body, next_number, closed_up, kept_without}
+use Rattle.ped_splits.specs.Neighbours.{Neighbour, joined_head, renamed_body, fused, next_number, closed_up, kept_without}
 use Rattle.ped_splits.specs.Fusing.{Match, MakesFused, StandsAgainstFusion, AreBack, forbids_fusion, with_present_numbers, IsFusionCause}
 use Rattle.ped_splits.proofs.BlockOrders.{all_by}
 use Rattle.ped_splits.proofs.FuseRules.{chain}
@@ -29,6 +29,13 @@ fused_at t f = record { decls = t.decls; body = filled f.gap (alone (Do (joined_
 
 abbrev pub number_behind : ℕ → Found → ℕ
 number_behind s f = s + 1 + statements_count f.own_body
+
+module _ (t : ProgramTree) (s : ℕ) where
+  pub same_fused : (x y : Neighbour t s) → fused x ≡ fused y
+  same_fused x y = ap (fused_at t) (one_neighbour t s x y)
+
+  pub same_next : (x y : Neighbour t s) → next_number x ≡ next_number y
+  same_next x y = ap (number_behind s) (one_neighbour t s x y)
 
 pub one_made : (s : ℕ) (t new other : ProgramTree) (keep more : List (ℕ × ℕ)) → MakesFused s t new keep → MakesFused s t other more → (new ≡ other) × (keep ≡ more)
 one_made s t new other keep more p q =

@@ -1,5 +1,5 @@
 -- Who reads a variable of the DO loops of `fuse`, as the code asks it, is what rule 5 names.
-use Rattle.std.proofs.Common.{◌≡◌, ◌⊎◌, inl, inr, ℕ, ◌+◌, ◌<◌, ◌≤◌, nat_lt, Bool, true, false, Option, Some, None, MatchOption, refl, sym, ap, subst, ◌∙◌, arith, if◌then◌else◌}
+use Rattle.std.proofs.Common.{◌≡◌, ◌⊎◌, inl, inr, ℕ, suc, ◌+◌, ◌<◌, ◌≤◌, nat_lt, Bool, true, false, Option, Some, None, MatchOption, refl, sym, ap, subst, ◌∙◌, arith, if◌then◌else◌}
 use Rattle.std.proofs.lemmas.Bool.{ltb-true, ltb-false}
 use Rattle.ped_tree.specs.Tree.{ProgramTree}
 use Rattle.ped_tree.specs.Numbering.{statements_count}
@@ -97,7 +97,7 @@ module _ (u : ProgramTree) (s m : ℕ) where
   opened_rises : (j k : ℕ) → j ≤ k → opened_at m j ≤ opened_at m k
   opened_rises j k h = by (nat_lt j m) (nat_lt k m) refl refl
     where
-      by : (a b : Bool) → nat_lt j m ≡ a → nat_lt k m ≡ b → (if a then j else j + 1) ≤ (if b then k else k + 1)
+      by : (a b : Bool) → nat_lt j m ≡ a → nat_lt k m ≡ b → (if a then j else suc j) ≤ (if b then k else suc k)
       by true true e f = h
       by true false e f = omega (arith, h)
       by false true e f = let l : k < m = ltb-true k m f in let g : m ≤ j = ltb-false j m e in absurd (omega (arith, l, g, h))

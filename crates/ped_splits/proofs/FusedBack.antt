@@ -157,7 +157,7 @@ module _ (t : ProgramTree) (p : Pair) (is : IsPair t p) (level : ℕ) (at : leve
   -- the first that the code finds forbids the step
   pub some_back : (f : CodeEdge) → IsFirstBack v (bodies_of p level) (pairs (references v)) (Some f)
       → (edges : List Edge) × AreBack is.neighbour edges × (e : Edge) × IsFirstForbidding (forbids_fusion is.neighbour) edges e × (edge_of f ≡ with_present_numbers (next_number is.neighbour) e)
-  some_back f (edges, are, e, first, same, short) =
+  some_back f (edges, are, (e, first, same, short)) =
       let back = to_back edges are in (
         edges,
         back,
@@ -167,7 +167,7 @@ module _ (t : ProgramTree) (p : Pair) (is : IsPair t p) (level : ℕ) (at : leve
       )
 
   pub short_back : (f : CodeEdge) → IsFirstBack v (bodies_of p level) (pairs (references v)) (Some f) → HasAtMostSixLoops f
-  short_back f (edges, are, e, first, same, short) = short
+  short_back f (edges, are, (e, first, same, short)) = short
 
   -- where it finds none, none does
   pub no_back : IsFirstBack v (bodies_of p level) (pairs (references v)) None → (edges : List Edge) → AreBack is.neighbour edges → All (λ e. forbids_fusion is.neighbour e ≡ false) edges

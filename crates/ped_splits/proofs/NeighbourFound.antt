@@ -29,18 +29,18 @@ pub record Behind : Type 0 where
   pub rest : StmtTrees
 
 -- with one comment more before it
-abbrev further_back : List ℕ → Behind → Behind
+abbrev pub further_back : List ℕ → Behind → Behind
 further_back text b = record b { between = more_stmts (Comment text) b.between }
 
-abbrev with_comment : List ℕ → Option Behind → Option Behind
+abbrev pub with_comment : List ℕ → Option Behind → Option Behind
 with_comment text None = None
 with_comment text (Some b) = Some (further_back text b)
 
 -- a DO that comes first
-abbrev at_once : Head → StmtTrees → StmtTrees → Behind
+abbrev pub at_once : Head → StmtTrees → StmtTrees → Behind
 at_once h body rest = record { between = no_stmts; next = h; next_body = body; rest = rest }
 
-abbrev next_in : StmtTrees → Option Behind
+abbrev pub next_in : StmtTrees → Option Behind
 next_in no_stmts = None
 next_in (more_stmts (Assign left right) rest) = None
 next_in (more_stmts (If c a b) rest) = None
@@ -50,23 +50,23 @@ next_in (more_stmts (Read items) rest) = None
 next_in (more_stmts Stop rest) = None
 next_in (more_stmts (Comment text) rest) = with_comment text (next_in rest)
 
-abbrev both_found : Head → StmtTrees → Behind → Found
+abbrev pub both_found : Head → StmtTrees → Behind → Found
 both_found h body b = record { gap = at_front b.rest; own = h; own_body = body; between = b.between; next = b.next; next_body = b.next_body }
 
-abbrev paired : Head → StmtTrees → Option Behind → Option Found
+abbrev pub paired : Head → StmtTrees → Option Behind → Option Found
 paired h body None = None
 paired h body (Some b) = Some (both_found h body b)
 
 -- in a gap further out
-abbrev wrapped : (Gap → Gap) → Found → Found
+abbrev pub wrapped : (Gap → Gap) → Found → Found
 wrapped wrap f = record f { gap = wrap f.gap }
 
-abbrev outwards : (Gap → Gap) → Option Found → Option Found
+abbrev pub outwards : (Gap → Gap) → Option Found → Option Found
 outwards wrap None = None
 outwards wrap (Some f) = Some (wrapped wrap f)
 
 -- a DO in the place of the sought statement
-abbrev here : StmtTree → StmtTrees → Option Found
+abbrev pub here : StmtTree → StmtTrees → Option Found
 here (Assign left right) rest = None
 here (If c a b) rest = None
 here (Do h body) rest = paired h body (next_in rest)
@@ -82,7 +82,7 @@ abbrev mutual
   sought_in s (more_stmts x rest) n =
       if nat_lt s (n + statement_count x) then (if n == s then here x rest else inside s x rest n) else outwards (past x) (sought_in s rest (n + statement_count x))
 
-  inside : ℕ → StmtTree → StmtTrees → ℕ → Option Found
+  pub inside : ℕ → StmtTree → StmtTrees → ℕ → Option Found
   inside s (Assign left right) rest n = None
   inside s (If c a b) rest n =
       if nat_lt s (n + 1 + statements_count a) then outwards (λ g. in_then c g b rest) (sought_in s a (n + 1)) else outwards (λ g. in_else c a g rest) (sought_in s b (n + 1 + statements_count a))

@@ -19,7 +19,7 @@ pub opened_at-requires : goal.opened_at-requires
 opened_at-requires c =
     let u = program_tree c.args.tree.now in
     let first = subst (λ (v : ProgramTree). IsEscape v c.args.pair.now.number c.escapes.result) c.in_ok-flow.ensures c.escapes.ensures in
-    let broken = subst (λ (r : Option Reader). IsEscape u c.args.pair.now.number r) c.in-Some-Statement.is first in
+    let broken = subst (λ (r : Option Reader). IsEscape u c.args.pair.now.number r) (c.in-Some-Statement.is ∙ ap (λ (k : Reader). Some k) c.in-Some-Statement.field-0-is) first in
     let within = broken_within u c.args.pair.now.number c.in-Some-Statement.statement broken.0 in
     let few = c.requires.few in
     omega (arith, within, few)
@@ -32,7 +32,7 @@ returns-in-Some-Statement c =
     let m = s + 1 + statements_count (stmt_trees p.own.now.body.items) in
     let n = c.in-Some-Statement.statement in
     let first = subst (λ (v : ProgramTree). IsEscape v s c.escapes.result) c.in_ok-flow.ensures c.escapes.ensures in
-    let broken = subst (λ (r : Option Reader). IsEscape u s r) c.in-Some-Statement.is first in
+    let broken = subst (λ (r : Option Reader). IsEscape u s r) (c.in-Some-Statement.is ∙ ap (λ (k : Reader). Some k) c.in-Some-Statement.field-0-is) first in
     let same = c.opened_at.ensures ∙ ap (λ (k : ℕ). opened_at k n) c.next_number.ensures in
     subst (λ (k : ℕ). IsFirst (IsBrokenInNew u s m) (Some k)) (sym same) (new_statement u s m n broken)
 
@@ -43,7 +43,7 @@ returns-in-Some-Saved c =
     let s = p.number in
     let m = s + 1 + statements_count (stmt_trees p.own.now.body.items) in
     let first = subst (λ (v : ProgramTree). IsEscape v s c.escapes.result) c.in_ok-flow.ensures c.escapes.ensures in
-    let saved = escape_reader u s (Some Saved) (subst (λ (r : Option Reader). IsEscape u s r) c.in-Some-Saved.is first) in
+    let saved = escape_reader u s (Some Saved) (subst (λ (r : Option Reader). IsEscape u s r) (c.in-Some-Saved.is ∙ ap (λ (k : Reader). Some k) c.in-Some-Saved.field-0-is) first) in
     (new_none u s m saved.0, saved.1)
 
 pub returns-in-None : goal.returns-in-None

@@ -8,7 +8,7 @@ use Rattle.ped_splits.proofs.returning.first_at.Goals as goal
 
 pub key-key-requires : goal.key-key-requires
 key-key-requires c =
-    let count = pairs_held c.requires.held.0 c.args.prepared.now c.requires.held.1 in
+    let count = pairs_held c.requires.held.0 (record { frame = c.prepared.inside.frame; views = c.prepared.inside.views.items }) (c.prepared.view_is ∙ c.requires.held.1) in
     let within = c.requires.held.2 in
     omega (arith, count, within)
 
@@ -26,7 +26,7 @@ first_of-requires c =
     let u = c.requires.held.0 in
     let is = c.requires.held.1 in
     let x = there (pairs (references u)) c.args.n c.requires.held.2 in
-    let back = sym (key_back u c.args.prepared.now is c.args.n x.0 x.1 c.args.bodies.now c.key-key.result c.key-key.ensures) ∙ sym c.goes_back.ensures ∙ c.if-not-goes_back.false in
+    let back = sym (key_back u (record { frame = c.prepared.inside.frame; views = c.prepared.inside.views.items }) (c.prepared.view_is ∙ is) c.args.n x.0 x.1 c.args.bodies.now c.key-key.result c.key-key.ensures) ∙ sym c.goes_back.ensures ∙ c.if-not-goes_back.false in
     record {
       short = c.in_ok-edges.ensures.short;
       inside = edges_inside u c.args.bodies.now x.0 back c.in_ok-edges.edges.items (c.in_ok-edges.ensures.edges u x.0 is x.1);
@@ -36,9 +36,9 @@ first_of-requires c =
 
 pub returns-then-not-goes_back : goal.returns-then-not-goes_back
 returns-then-not-goes_back c = λ u p is at.
-    not_back u c.args.bodies.now p (sym (key_back u c.args.prepared.now is c.args.n p at c.args.bodies.now c.key-key.result c.key-key.ensures) ∙ sym c.goes_back.ensures ∙ c.if-not-goes_back.true)
+    not_back u c.args.bodies.now p (sym (key_back u (record { frame = c.prepared.inside.frame; views = c.prepared.inside.views.items }) (c.prepared.view_is ∙ is) c.args.n p at c.args.bodies.now c.key-key.result c.key-key.ensures) ∙ sym c.goes_back.ensures ∙ c.if-not-goes_back.true)
 
 pub returns : goal.returns
 returns c = λ u p is at.
-    let back = sym (key_back u c.args.prepared.now is c.args.n p at c.args.bodies.now c.key-key.result c.key-key.ensures) ∙ sym c.goes_back.ensures ∙ c.if-not-goes_back.false in
+    let back = sym (key_back u (record { frame = c.prepared.inside.frame; views = c.prepared.inside.views.items }) (c.prepared.view_is ∙ is) c.args.n p at c.args.bodies.now c.key-key.result c.key-key.ensures) ∙ sym c.goes_back.ensures ∙ c.if-not-goes_back.false in
     of_pair u c.args.bodies.now p back (map edge_of c.in_ok-edges.edges.items) (c.in_ok-edges.ensures.edges u p is at) c.first_of.result c.first_of.ensures

@@ -8,7 +8,7 @@ use Rattle.std.proofs.lemmas.List.Elements.{All-nil, All-cons, All-head, All-tai
 use Rattle.ped_tree.specs.Tree.{ProgramTree}
 use Rattle.ped_reindex.specs.ped_loops.specs.ped_scalar.specs.ped_rules.specs.ped_loop_runs.specs.ped_bodies.specs.ped_steps.specs.Causes.{IsFirstForbidding}
 use Rattle.ped_reindex.specs.ped_loops.specs.ped_scalar.specs.ped_rules.specs.ped_loop_runs.specs.ped_bodies.specs.ped_steps.specs.ped_refs.specs.References.{Reference, references, pairs}
-use Rattle.ped_reindex.specs.ped_loops.specs.ped_scalar.specs.ped_rules.specs.ped_loop_runs.specs.ped_bodies.specs.ped_steps.specs.ped_laws.specs.ped_graph.specs.Dependences.{PairEdges, EdgesOfPairs, facts_of, place_of}
+use Rattle.ped_reindex.specs.ped_loops.specs.ped_scalar.specs.ped_rules.specs.ped_loop_runs.specs.ped_bodies.specs.ped_steps.specs.ped_laws.specs.ped_graph.specs.Dependences.{PairEdges, EdgesOfPairs, facts_of, place_of, view_of}
 use Rattle.ped_reindex.specs.ped_loops.specs.ped_scalar.specs.ped_rules.specs.ped_loop_runs.specs.ped_bodies.specs.ped_steps.specs.ped_laws.specs.ped_graph.specs.Held.{Held, framed, held_of}
 use Rattle.ped_reindex.specs.ped_loops.specs.ped_scalar.specs.ped_rules.specs.ped_loop_runs.specs.ped_bodies.specs.ped_steps.specs.ped_laws.specs.ped_graph.specs.Keys.{key_of, key_shown}
 use Rattle.ped_reindex.specs.ped_loops.specs.ped_scalar.specs.ped_rules.specs.ped_loop_runs.specs.ped_bodies.specs.ped_steps.specs.ped_laws.specs.ped_graph.specs.declared.frames.PairKey.{PairKey}
@@ -193,6 +193,9 @@ module _ (u : ProgramTree) (b : Bodies) where
 -- how many pairs a graph holds
 pub pairs_held : (u : ProgramTree) (h : Held) → h ≡ held_of u → length h.frame.pairs ≡ length (pairs (references u))
 pairs_held u h is = ap (λ (k : Held). length k.frame.pairs) is ∙ length-map (pairs (references u)) (λ p. framed (facts_of u) p.0 p.1)
+
+pub views_held : (u : ProgramTree) (h : Held) → h ≡ held_of u → length h.views ≡ length (pairs (references u))
+views_held u h is = ap (λ (k : Held). length k.views) is ∙ length-map (pairs (references u)) (λ p. view_of u p.0 p.1)
 
 -- the key of a pair
 module _ (u : ProgramTree) (h : Held) (is : h ≡ held_of u) (n : ℕ) (p : Reference × Reference) (at : slice_get (pairs (references u)) n ≡ Some p) (b : Bodies) (k : PairKey)

@@ -73,6 +73,8 @@ fn first_among(
 ) -> Result<Option<Edge>, NoMemory>
     requires held { (u : ProgramTree) × (prepared.now ≡ held_of u) }
     requires order { bodies.now.number < bodies.now.second }
+    requires second { bodies.now.second < 2 ^ 32 }
+    requires behind { bodies.now.behind < 2 ^ 32 }
     ensures { IfOk result (λ found. (u : ProgramTree) → prepared.now ≡ held_of u → IsFirstBack u bodies.now (pairs (references u)) found) }
 {
     for n in 0..prepared.frame.pair_count() {
@@ -95,6 +97,8 @@ fn first_at(
 ) -> Result<Option<Edge>, NoMemory>
     requires held { (u : ProgramTree) × (prepared.now ≡ held_of u) × (n < length (pairs (references u))) }
     requires order { bodies.now.number < bodies.now.second }
+    requires second { bodies.now.second < 2 ^ 32 }
+    requires behind { bodies.now.behind < 2 ^ 32 }
     ensures { IfOk result (λ found. (u : ProgramTree) (p : Reference × Reference) → prepared.now ≡ held_of u → slice_get (pairs (references u)) n ≡ Some p
         → IsFirstBack u bodies.now (p ∷ []) found) }
 {
@@ -126,6 +130,8 @@ fn is_in(number: u32, first: u32, behind: u32) -> bool
 fn first_of(edges: Vec<Edge>, bodies: &Bodies) -> Option<Edge>
     requires short { All HasAtMostSixLoops edges.items }
     requires inside { All (StandsInside bodies.now) edges.items }
+    requires second { bodies.now.second < 2 ^ 32 }
+    requires behind { bodies.now.behind < 2 ^ 32 }
     ensures { IsFirstAmong bodies.now (map edge_of edges.items) result }
 {
     let mut edges = edges;

@@ -37,7 +37,7 @@ returns g c =
     let a = c.readers_of_two.result in
     let b = c.in_ok-inside.inside in
     let both = earlier_reader (IsBrokenInTwo t s m) (IsBrokenInNew u s m) (IsShownInTwo t s m) (IsShown u s) a b c.readers_of_two.ensures c.in_ok-inside.ensures in
-    let found = subst (λ (r : Option Reader). IsReaderOf (λ n. IsBrokenInTwo t s m n ⊎ IsBrokenInNew u s m n) (IsShownInTwo t s m ⊎ IsShown u s) r) (sym c.earlier.ensures) both in
-    let in_new = subst (λ (v : ProgramTree). IsReaderOf (λ n. IsBrokenInTwo t s m n ⊎ IsBrokenInNew v s m n) (IsShownInTwo t s m ⊎ IsShown v s) c.earlier.result) (c.requires.tree is) found in
-    let reader = subst (λ (k : ℕ). IsReaderOf (λ n. IsBrokenInTwo t s k n ⊎ IsBrokenInNew (fused is.neighbour) s k n) (IsShownInTwo t s k ⊎ IsShown (fused is.neighbour) s) c.earlier.result) (number_of_next t p is) in_new in
-    named_rule t s (here t s (head_of p.own.now) (stmt_trees p.own.now.body.items) (loop_of_pair t p is)) c.earlier.result (reader_alike t s (match_of t p is c.requires.alike) c.earlier.result reader) c.named.result c.named.ensures
+    let found = subst (λ (r : Option Reader). IsReaderOf (λ n. IsBrokenInTwo t s m n ⊎ IsBrokenInNew u s m n) (IsShownInTwo t s m ⊎ IsShown u s) r) (sym c.earlier-reader.ensures) both in
+    let in_new = subst (λ (v : ProgramTree). IsReaderOf (λ n. IsBrokenInTwo t s m n ⊎ IsBrokenInNew v s m n) (IsShownInTwo t s m ⊎ IsShown v s) c.earlier-reader.result) (c.requires.tree is) found in
+    let reader = subst (λ (k : ℕ). IsReaderOf (λ n. IsBrokenInTwo t s k n ⊎ IsBrokenInNew (fused is.neighbour) s k n) (IsShownInTwo t s k ⊎ IsShown (fused is.neighbour) s) c.earlier-reader.result) (number_of_next t p is) in_new in
+    named_rule t s (here t s (head_of p.own.now) (stmt_trees p.own.now.body.items) (loop_of_pair t p is)) c.earlier-reader.result (reader_alike t s (match_of t p is c.requires.alike) c.earlier-reader.result reader) c.named.result c.named.ensures

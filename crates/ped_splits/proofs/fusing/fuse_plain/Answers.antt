@@ -30,7 +30,7 @@ unless_back-requires g c =
     let p = c.args.pair.now in
     let h = head_of p.own.now in
     let tree = c.requires.tree c.requires.pair in
-    let made = some_made (program_tree c.args.tree) c.in_ok-keep.keep c.in_ok-change_to.field-0 c.in-Some.change c.in-Some.is c.in_ok-change_to.ensures in
+    let made = some_made (program_tree c.args.tree) c.in_ok-keep.keep c.in_ok-change.field-0 c.in-Some.change c.in-Some.is c.in_ok-change.ensures in
     record {
       scene = c.requires.scene;
       pair = c.requires.pair;
@@ -46,7 +46,7 @@ returns-in-None g c =
     let t = program_tree c.args.scene.now.tree.now in
     let p = c.args.pair.now in
     let s = p.number in
-    let invalid = none_made (program_tree c.args.tree) c.in_ok-keep.keep c.in_ok-change_to.field-0 c.in-None.is c.in_ok-change_to.ensures in
+    let invalid = none_made (program_tree c.args.tree) c.in_ok-keep.keep c.in_ok-change.field-0 c.in-None.is c.in_ok-change.ensures in
     refused s t Limit s c.against.result c.against.ensures
     (rules.limit_first s t (head_of p.own.now) (stmt_trees p.own.now.body.items) (loop_of_pair t p c.requires.pair) c.requires.serial c.requires.unshared c.requires.contained c.requires.plain.first c.requires.plain.last
     (match_of t p c.requires.pair c.requires.alike) (subst (λ (u : ProgramTree). IsValid u → ⊥) (c.requires.tree c.requires.pair) invalid))

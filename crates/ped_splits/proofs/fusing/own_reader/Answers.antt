@@ -9,8 +9,8 @@ use Rattle.ped_splits.proofs.fusing.own_reader.Goals as goal
 
 pub escapes-requires : goal.escapes-requires
 escapes-requires g c =
-    subst (λ (u : ProgramTree). statements_count u.body + 1 < 2 ^ 32) (sym c.requires.flow) (few_numbers (program_tree c.args.scene.now.tree.now) c.requires.valid)
+    subst (λ (u : ProgramTree). statements_count u.body + 1 < 2 ^ 32) (sym c.requires.scene.flow) (few_numbers (program_tree c.args.scene.now.tree.now) c.requires.scene.valid)
 
 pub returns : goal.returns
 returns g c =
-    escape_reader (program_tree c.args.scene.now.tree.now) c.args.number c.escapes.result (subst (λ (u : ProgramTree). IsEscape u c.args.number c.escapes.result) c.requires.flow c.escapes.ensures)
+    escape_reader (program_tree c.args.scene.now.tree.now) c.args.number c.escapes.result (subst (λ (u : ProgramTree). IsEscape u c.args.number c.escapes.result) c.requires.scene.flow c.escapes.ensures)

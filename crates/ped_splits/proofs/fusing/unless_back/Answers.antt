@@ -20,7 +20,7 @@ first_back-requires g c =
     let few = few_numbers t c.requires.scene.valid in
     record {
       valid = subst IsValid (sym change.tree) change.valid;
-      constants = c.consts.ensures ∙ ap (λ z. z.constants) change.symbols ∙ sym (ap (λ (u : ProgramTree). (table_of u).constants) change.tree);
+      constants = c.consts-consts.ensures ∙ ap (λ z. z.constants) change.symbols ∙ sym (ap (λ (u : ProgramTree). (table_of u).constants) change.tree);
       few = omega (arith, fits, few);
     }
 
@@ -31,7 +31,7 @@ returns-in-Some g c =
     let change = c.requires.change c.requires.pair in
     let level = c.in_ok-level.level in
     let u = fused c.requires.pair.neighbour in
-    let back = subst (λ (v : ProgramTree). IsFirstBack v (bodies_of p level) (pairs (references v)) c.in_ok-first_back.field-0) change.tree c.in_ok-first_back.ensures in
+    let back = subst (λ (v : ProgramTree). IsFirstBack v (bodies_of p level) (pairs (references v)) c.in_ok-edge.field-0) change.tree c.in_ok-edge.ensures in
     forbidden t p c.requires.pair level c.in_ok-level.ensures c.requires.alike c.requires.nothing c.in-Some.edge (variant.Dependence c.in-Some.edge) refl
     (subst (λ (r : Option CodeEdge). IsFirstBack u (bodies_of p level) (pairs (references u)) r) c.in-Some.is back)
 
@@ -42,6 +42,6 @@ returns-in-None g c =
     let change = c.requires.change c.requires.pair in
     let level = c.in_ok-level.level in
     let u = fused c.requires.pair.neighbour in
-    let back = subst (λ (v : ProgramTree). IsFirstBack v (bodies_of p level) (pairs (references v)) c.in_ok-first_back.field-0) change.tree c.in_ok-first_back.ensures in
+    let back = subst (λ (v : ProgramTree). IsFirstBack v (bodies_of p level) (pairs (references v)) c.in_ok-edge.field-0) change.tree c.in_ok-edge.ensures in
     accepted t p c.requires.pair level c.in_ok-level.ensures c.requires.alike c.requires.nothing c.args.change change
     (subst (λ (r : Option CodeEdge). IsFirstBack u (bodies_of p level) (pairs (references u)) r) c.in-None.is back)

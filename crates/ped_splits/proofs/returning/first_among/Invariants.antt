@@ -6,4 +6,4 @@ use Rattle.ped_splits.specs.CodeFusing.{IsFirstBack}
 use Rattle.ped_splits.proofs.returning.first_among.Given as goal
 
 abbrev pub invariant-loop-n : goal.invariant-loop-n
-invariant-loop-n l = (u : ProgramTree) → l.prepared.now ≡ held_of u → IsFirstBack u l.bodies (take l.n (pairs (references u))) None
+invariant-loop-n l = (u : ProgramTree) → l.prepared ≡ held_of u → IsFirstBack u l.bodies (take l.n (pairs (references u))) None

@@ -9,7 +9,9 @@ with_present_numbers-requires c =
     let inside = kept_has c.args.bodies.now c.args.edges.items c.keep_forbidding.new.edges.items c.keep_forbidding.ensures c.in-Some.edge c.in-Some.ensures.0 c.in-Some.ensures.1 (StandsInside c.args.bodies.now) c.requires.inside in
     let source = inside.source in
     let sink = inside.sink in
-    record { source = omega (arith, source); sink = omega (arith, sink) }
+    let second = c.requires.second in
+    let behind = c.requires.behind in
+    record { source = omega (arith, source, behind); sink = omega (arith, sink, second) }
 
 pub returns-in-Some : goal.returns-in-Some
 returns-in-Some c =

@@ -1,7 +1,7 @@
 -- The first dependence that leads back, found pair by pair.
-use Rattle.std.proofs.Common.{◌≡◌, ℕ, zero, suc, ◌+◌, ◌<◌, ◌≤◌, nat_le, nat_lt, List, [], ◌∷◌, ◌++◌, map, filter, cond, length, take, drop, get_or, All, Bool, true, false, ◌&&◌, Option, Some, None, MatchOption, refl, sym, ap, subst, ◌∙◌, arith}
+use Rattle.std.proofs.Common.{◌≡◌, ℕ, zero, suc, ◌+◌, ◌<◌, nat_le, nat_lt, List, [], ◌∷◌, ◌++◌, map, filter, cond, length, take, drop, get_or, All, Bool, true, false, ◌&&◌, Option, Some, None, refl, sym, ap, subst, ◌∙◌, arith}
 use Rattle.std.specs.Prelude.{slice_get}
-use Rattle.std.proofs.lemmas.Bool.{ltb-true, leb-true}
+use Rattle.std.proofs.lemmas.Bool.{ltb-true}
 use Rattle.std.proofs.lemmas.Option.{slice_get-get_or}
 use Rattle.std.proofs.lemmas.List.{append_assoc, append-nil, length-map, take_more, take-append-drop}
 use Rattle.std.proofs.lemmas.List.Elements.{All-nil, All-cons, All-head, All-tail, All-append, All-filter}
@@ -121,10 +121,12 @@ module _ (u : ProgramTree) (b : Bodies) where
       let early = edges_of_pairs u (filter (is_back b) ps) in (
         early.0 ++ edges,
         subst (λ (xs : List (Reference × Reference)). EdgesOfPairs u xs (early.0 ++ edges)) (sym (filter_append ps qs)) (put (filter (is_back b) ps) (filter (is_back b) qs) early.0 edges early.1 are),
-        (e,
-        (early.0 ++ front, behind, ap (λ (es : List Edge). early.0 ++ es) is ∙ sym (append_assoc early.0 front (e ∷ behind)), forbids, All-append (λ f. forbids_at b.level f ≡ false) early.0 front (h early.0 early.1) before),
-        same,
-        short),
+        (
+          e,
+          (early.0 ++ front, behind, ap (λ (es : List Edge). early.0 ++ es) is ∙ sym (append_assoc early.0 front (e ∷ behind)), forbids, All-append (λ f. forbids_at b.level f ≡ false) early.0 front (h early.0 early.1) before),
+          same,
+          short,
+        ),
       )
 
   pub some_before : (ps qs : List (Reference × Reference)) (f : CodeEdge) → IsFirstBack u b ps (Some f) → IsFirstBack u b (ps ++ qs) (Some f)
@@ -132,10 +134,12 @@ module _ (u : ProgramTree) (b : Bodies) where
       let late = edges_of_pairs u (filter (is_back b) qs) in (
         edges ++ late.0,
         subst (λ (xs : List (Reference × Reference)). EdgesOfPairs u xs (edges ++ late.0)) (sym (filter_append ps qs)) (put (filter (is_back b) ps) (filter (is_back b) qs) edges late.0 are late.1),
-        (e,
-        (front, behind ++ late.0, ap (λ (es : List Edge). es ++ late.0) is ∙ append_assoc front (e ∷ behind) late.0, forbids, before),
-        same,
-        short),
+        (
+          e,
+          (front, behind ++ late.0, ap (λ (es : List Edge). es ++ late.0) is ∙ append_assoc front (e ∷ behind) late.0, forbids, before),
+          same,
+          short,
+        ),
       )
 
   module _ (p : Reference × Reference) where

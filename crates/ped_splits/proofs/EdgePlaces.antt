@@ -1,5 +1,5 @@
 -- The dependences of a pair stand at its references.
-use Rattle.std.proofs.Common.{◌≡◌, ℕ, List, [], ◌∷◌, ◌++◌, length, All, Bool, true, false, Some, None, Option, refl, sym, subst, if◌then◌else◌}
+use Rattle.std.proofs.Common.{◌≡◌, ℕ, List, [], ◌∷◌, length, All, Bool, true, false, Some, None, Option, refl, sym, subst, if◌then◌else◌}
 use Rattle.std.specs.List.{flat_map, range_with_len}
 use Rattle.std.proofs.lemmas.List.Elements.{All-nil, All-cons, All-append}
 use Rattle.ped_base.specs.Lists.{has_some}

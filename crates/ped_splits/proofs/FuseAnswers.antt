@@ -1,5 +1,5 @@
 -- What `fuse` answers, by what its code has found.
-use Rattle.std.proofs.Common.{◌≡◌, inl, inr, ℕ, ◌+◌, ◌<◌, ◌≤◌, nat_le, nat_lt, List, filter, All, ◌&&◌, ◌||◌, Bool, true, false, Some, None, Ok, Err, refl, sym, ap, subst, ◌∙◌, arith}
+use Rattle.std.proofs.Common.{◌≡◌, inl, inr, ℕ, ◌+◌, ◌≤◌, nat_le, nat_lt, List, filter, All, ◌&&◌, ◌||◌, Bool, true, false, Some, None, Ok, Err, refl, sym, ap, subst, ◌∙◌, arith}
 use Rattle.std.proofs.lemmas.Bool.{both_ways}
 use Rattle.ped_tree.specs.Tree.{Do, Head, StmtTrees, more_stmts, ProgramTree}
 use Rattle.ped_tree.specs.Numbering.{statements_count}
@@ -26,7 +26,7 @@ use Rattle.ped_splits.specs.Fusing.{Match, WhereEither, StandsAgainstFusion, fus
 use Rattle.ped_splits.specs.CodePairs.{IsPair, TwoLoops}
 use Rattle.ped_splits.specs.CodeFusing.{bodies_of, IsFirstBack}
 use Rattle.ped_splits.proofs.Here.{fails_there, passes_there}
-use Rattle.ped_splits.proofs.FoundPairs.{two_at, one_two}
+use Rattle.ped_splits.proofs.FoundPairs.{one_two}
 use Rattle.ped_splits.proofs.GapPlaces.{own_loop}
 use Rattle.ped_splits.proofs.NeighbourFound.{Found, one_neighbour}
 use Rattle.ped_splits.proofs.FuseOne.{fused_at}

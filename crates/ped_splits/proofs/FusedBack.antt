@@ -1,10 +1,10 @@
 -- Dependences of the new program that lead from the second body to the first one: those that the code finds are those that forbid `fuse`.
-use Rattle.std.proofs.Common.{◌≡◌, ℕ, ◌+◌, ◌<◌, ◌≤◌, nat_le, nat_lt, List, [], ◌∷◌, ◌++◌, map, filter, cond, All, Bool, true, false, not, ◌&&◌, Option, Some, None, refl, sym, ap, subst, ◌∙◌, arith, if◌then◌else◌}
+use Rattle.std.proofs.Common.{◌≡◌, ℕ, ◌+◌, ◌<◌, ◌≤◌, nat_le, nat_lt, List, [], ◌∷◌, ◌++◌, filter, cond, All, Bool, true, false, not, ◌&&◌, Some, None, refl, sym, ap, subst, ◌∙◌, arith, if◌then◌else◌}
 use Rattle.std.proofs.lemmas.Bool.{ltb-true, leb-true, lt-ltb, le-leb}
 use Rattle.std.proofs.lemmas.List.Elements.{All-nil, All-cons, All-head, All-tail, All-append}
-use Rattle.ped_tree.specs.Tree.{ExprTree, Var, Head, StmtTrees, ProgramTree}
+use Rattle.ped_tree.specs.Tree.{Var, Head, StmtTrees, ProgramTree}
 use Rattle.ped_tree.specs.Numbering.{statements_count}
-use Rattle.ped_tree.specs.Views.{stmt_trees, head_of}
+use Rattle.ped_tree.specs.Views.{stmt_trees}
 use Rattle.ped_reindex.specs.ped_loops.specs.ped_scalar.specs.ped_rules.specs.Carried.{level_at, is_rejected}
 use Rattle.ped_reindex.specs.ped_loops.specs.ped_scalar.specs.ped_rules.proofs.CarriedEdges.{in_body}
 use Rattle.ped_reindex.specs.ped_loops.specs.ped_scalar.specs.ped_rules.specs.ped_loop_runs.specs.ped_bodies.specs.ped_steps.specs.Causes.{IsFirstForbidding}
@@ -14,16 +14,16 @@ use Rattle.ped_reindex.specs.ped_loops.specs.ped_scalar.specs.ped_rules.specs.pe
 use Rattle.ped_reindex.specs.ped_loops.specs.ped_scalar.specs.ped_rules.specs.ped_loop_runs.specs.ped_bodies.specs.ped_steps.specs.ped_sums.specs.Substitution.{statements_substituted}
 use Rattle.ped_reindex.specs.ped_loops.specs.ped_scalar.specs.ped_rules.specs.ped_loop_runs.specs.ped_bodies.specs.ped_steps.specs.ped_refs.specs.References.{Reference, references, pairs}
 use Rattle.ped_reindex.specs.ped_loops.specs.ped_scalar.specs.ped_rules.specs.ped_loop_runs.specs.ped_bodies.specs.ped_steps.specs.ped_laws.specs.ped_graph.specs.DependencePane.{is_level, is_in_body, extent_of}
-use Rattle.ped_reindex.specs.ped_loops.specs.ped_scalar.specs.ped_rules.specs.ped_loop_runs.specs.ped_bodies.specs.ped_steps.specs.ped_laws.specs.ped_graph.specs.Dependences.{PairEdges, EdgesOfPairs}
+use Rattle.ped_reindex.specs.ped_loops.specs.ped_scalar.specs.ped_rules.specs.ped_loop_runs.specs.ped_bodies.specs.ped_steps.specs.ped_laws.specs.ped_graph.specs.Dependences.{EdgesOfPairs}
 use Rattle.ped_reindex.specs.ped_loops.specs.ped_scalar.specs.ped_rules.specs.ped_loop_runs.specs.ped_bodies.specs.ped_steps.specs.ped_laws.specs.ped_graph.specs.ped_edges.specs.Edges.{Edge}
 use Rattle.ped_reindex.specs.ped_loops.specs.ped_scalar.specs.ped_rules.specs.ped_loop_runs.specs.ped_bodies.specs.ped_steps.specs.ped_laws.specs.ped_graph.specs.ped_edges.specs.CodeEdges.{edge_of, HasAtMostSixLoops}
 use Rattle.ped_reindex.specs.ped_loops.specs.ped_scalar.specs.ped_rules.specs.ped_loop_runs.specs.ped_bodies.specs.ped_steps.specs.ped_laws.specs.ped_graph.specs.ped_edges.specs.declared.edges.Edge.{Edge as CodeEdge}
 use Rattle.ped_base.specs.Lists.{is_same_text}
 use Rattle.ped_splits.specs.declared.neighbours.Pair.{Pair}
 use Rattle.ped_splits.specs.Neighbours.{Neighbour, joined_head, renamed_body, fused, next_number}
-use Rattle.ped_splits.specs.Fusing.{Match, goes_back, AreBack, forbids_fusion, with_present_numbers}
+use Rattle.ped_splits.specs.Fusing.{goes_back, AreBack, forbids_fusion, with_present_numbers}
 use Rattle.ped_splits.specs.CodePairs.{IsPair}
-use Rattle.ped_splits.specs.CodeFusing.{is_back, bodies_of, forbids_at, IsFirstAmong, IsFirstBack}
+use Rattle.ped_splits.specs.CodeFusing.{is_back, bodies_of, forbids_at, IsFirstBack}
 use Rattle.ped_splits.proofs.SameTrees.{both_of, both_so}
 use Rattle.ped_splits.proofs.EdgePlaces.{IsBetween, all_between}
 use Rattle.ped_splits.proofs.GapPlaces.{fused_loop, fused_level}

@@ -4,6 +4,7 @@ ghost use Rattle.std.specs.Prelude.{◌≡◌, ◌↔◌, IsTrue, map};
 ghost use Rattle.std.specs.List.{flat_map};
 ghost use Rattle.ped_base.specs.Lists as Lists;
 ghost use Rattle.ped_tree.specs.NamesIn as Names;
+ghost use Rattle.ped_tree.specs.Tree as Tree;
 ghost use Rattle.ped_tree.specs.Views.{expr_tree, pack_exprs, cond_tree, item_tree, stmt_tree, stmt_trees, head_of};
 ghost use Rattle.ped_splits.specs.CodeAlike as Code;
 ghost use Rattle.ped_splits.specs.Neighbours.{AreAlike};
@@ -47,18 +48,9 @@ fn is_same_expr(a: &Expr, b: &Expr) -> bool
     ensures { result ≡ Code.is_same_expr (expr_tree a.now) (expr_tree b.now) }
 {
     match a {
-        Expr::Int(m) => match b {
-            Expr::Int(n) => *n == *m,
-            _ => false,
-        },
-        Expr::Var(x) => match b {
-            Expr::Var(y) => is_same(x, y),
-            _ => false,
-        },
-        Expr::Element(x, all) => match b {
-            Expr::Element(y, others) => is_same(x, y) && are_same_exprs(all, others),
-            _ => false,
-        },
+        Expr::Int(m) => is_literal(*m, b),
+        Expr::Var(x) => is_variable(x, b),
+        Expr::Element(x, all) => is_same_element(x, all, b),
         Expr::Neg(c) => match b {
             Expr::Neg(d) => is_same_expr(c, d),
             _ => false,
@@ -83,12 +75,51 @@ fn is_same_expr(a: &Expr, b: &Expr) -> bool
             Expr::Pow(e, f) => is_same_expr(c, e) && is_same_expr(d, f),
             _ => false,
         },
-        Expr::Call(g, all) => match b {
-            Expr::Call(h, others) => {
-                function_number(*h) == function_number(*g) && are_same_exprs(all, others)
-            }
-            _ => false,
-        },
+        Expr::Call(f, all) => is_same_call(*f, all, b),
+    }
+}
+
+/// Whether the expression is the literal of this value.
+fn is_literal(value: u32, b: &Expr) -> bool
+    ensures { result ≡ Code.is_same_expr (Tree.Int value) (expr_tree b.now) }
+{
+    match b {
+        Expr::Int(n) => *n == value,
+        _ => false,
+    }
+}
+
+/// Whether the expression is the variable with this name.
+fn is_variable(x: &Name, b: &Expr) -> bool
+    ensures { result ≡ Code.is_same_expr (Tree.Var x.now) (expr_tree b.now) }
+{
+    match b {
+        Expr::Var(y) => is_same(x, y),
+        _ => false,
+    }
+}
+
+/// Whether the expression is the element of the array with this name that has subscripts written alike.
+#[cycle(same)]
+fn is_same_element(x: &Name, all: &[Expr], b: &Expr) -> bool
+    ensures { result ≡ Code.is_same_expr (Tree.Element x.now (pack_exprs (map expr_tree all.now))) (expr_tree b.now) }
+{
+    match b {
+        Expr::Element(y, others) => is_same(x, y) && are_same_exprs(all, others),
+        _ => false,
+    }
+}
+
+/// Whether the expression is a call of this function with arguments written alike.
+#[cycle(same)]
+fn is_same_call(f: Intrinsic, all: &[Expr], b: &Expr) -> bool
+    ensures { result ≡ Code.is_same_expr (Tree.Call f (pack_exprs (map expr_tree all.now))) (expr_tree b.now) }
+{
+    match b {
+        Expr::Call(g, others) => {
+            function_number(*g) == function_number(f) && are_same_exprs(all, others)
+        }
+        _ => false,
     }
 }
 

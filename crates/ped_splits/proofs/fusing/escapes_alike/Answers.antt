@@ -1,4 +1,4 @@
-use Rattle.std.proofs.Common.{◌≡◌, ◌⊎◌, ℕ, ◌+◌, ◌<◌, ◌^◌, Option, sym, subst, arith}
+use Rattle.std.proofs.Common.{◌⊎◌, ℕ, ◌+◌, ◌<◌, ◌^◌, Option, sym, subst, arith}
 use Rattle.ped_tree.specs.Views.{program_tree, stmt_trees, head_of}
 use Rattle.ped_tree.specs.Numbering.{statements_count}
 use Rattle.ped_tree.specs.Tree.{ProgramTree}
@@ -6,7 +6,7 @@ use Rattle.ped_reindex.specs.ped_loops.specs.ped_scalar.specs.ped_rules.specs.pe
 use Rattle.ped_reindex.specs.ped_loops.specs.ped_scalar.specs.ped_rules.specs.ped_loop_runs.specs.ped_bodies.specs.ped_steps.specs.ped_flow.specs.Questions.{IsShown}
 use Rattle.ped_reindex.specs.ped_loops.specs.ped_scalar.specs.ped_rules.specs.ped_loop_runs.specs.ped_bodies.specs.ped_steps.specs.ped_flow.specs.declared.flows.Reader.{Reader}
 use Rattle.ped_splits.specs.Neighbours.{fused}
-use Rattle.ped_splits.specs.CodeFusing.{IsReaderOf, earlier, IsBrokenInTwo, IsShownInTwo, IsBrokenInNew}
+use Rattle.ped_splits.specs.CodeFusing.{IsReaderOf, IsBrokenInTwo, IsShownInTwo, IsBrokenInNew}
 use Rattle.ped_splits.proofs.Here.{here}
 use Rattle.ped_splits.proofs.FuseAnswers.{loop_of_pair, match_of, number_of_next, pair_fits, fused_count}
 use Rattle.ped_splits.proofs.FuseReaders.{earlier_reader, reader_alike, named_rule}

@@ -1,15 +1,12 @@
-use Rattle.std.proofs.Common.{◌≡◌, ℕ, ◌+◌, ◌<◌, ◌^◌, List, IfOk, sym, ap, subst, ◌∙◌, arith}
+use Rattle.std.proofs.Common.{ℕ, List, ap, subst, ◌∙◌, arith}
 use Rattle.ped_tree.specs.Views.{program_tree, stmt_trees, head_of}
-use Rattle.ped_tree.specs.Numbering.{statements_count}
 use Rattle.ped_reindex.specs.ped_loops.specs.ped_scalar.specs.ped_rules.specs.ped_loop_runs.specs.ped_bodies.specs.ped_steps.specs.declared.rules.Rule.TheVariants.{Limit}
 use Rattle.ped_reindex.specs.ped_loops.specs.ped_scalar.specs.ped_rules.specs.ped_loop_runs.specs.ped_bodies.specs.ped_steps.proofs.Answering.{few_numbers}
 use Rattle.ped_reindex.specs.ped_loops.specs.ped_scalar.specs.ped_rules.specs.ped_loop_runs.specs.ped_bodies.specs.ped_steps.specs.ped_symbols.specs.NameRefusals.{IsValid}
 use Rattle.ped_tree.specs.Tree.{ProgramTree}
 use Rattle.ped_reindex.specs.ped_loops.specs.ped_scalar.specs.ped_rules.specs.ped_loop_runs.specs.ped_bodies.specs.ped_steps.specs.Changes.{IsChange}
-use Rattle.ped_splits.specs.Neighbours.{fused, next_number, kept_without}
-use Rattle.ped_splits.specs.CodePairs.{IsPair}
+use Rattle.ped_splits.specs.Neighbours.{next_number, kept_without}
 use Rattle.ped_splits.proofs.DistributeAnswers.{some_made, none_made}
-use Rattle.ped_splits.proofs.FuseOne.{same_fused, same_next}
 use Rattle.ped_splits.proofs.FuseFirst as rules
 use Rattle.ped_splits.proofs.FuseAnswers.{refused, loop_of_pair, match_of, pair_fits, number_of_next}
 use Rattle.ped_splits.proofs.fusing.fuse_plain.Goals as goal

@@ -1,6 +1,5 @@
-use Rattle.std.proofs.Common.{◌⊎◌, ℕ, ◌+◌, Option, sym, subst, arith}
-use Rattle.ped_tree.specs.Views.{program_tree, stmt_trees}
-use Rattle.ped_tree.specs.Numbering.{statements_count}
+use Rattle.std.proofs.Common.{ℕ, Option, sym, subst, arith}
+use Rattle.ped_tree.specs.Views.{program_tree}
 use Rattle.ped_reindex.specs.ped_loops.specs.ped_scalar.specs.ped_rules.specs.ped_loop_runs.specs.ped_bodies.specs.ped_steps.proofs.Answering.{few_numbers}
 use Rattle.ped_reindex.specs.ped_loops.specs.ped_scalar.specs.ped_rules.specs.ped_loop_runs.specs.ped_bodies.specs.ped_steps.specs.ped_flow.specs.Questions.{IsBrokenBy, IsShown}
 use Rattle.ped_reindex.specs.ped_loops.specs.ped_scalar.specs.ped_rules.specs.ped_loop_runs.specs.ped_bodies.specs.ped_steps.specs.ped_flow.specs.declared.flows.Reader.{Reader}

@@ -1,4 +1,4 @@
-use Rattle.std.proofs.Common.{◌≡◌, ℕ, ◌+◌, ◌<◌, ◌^◌, Option, refl, sym, ap, subst, ◌∙◌, arith}
+use Rattle.std.proofs.Common.{Option, refl, sym, ap, subst, ◌∙◌, arith}
 use Rattle.ped_tree.specs.Views.{program_tree}
 use Rattle.ped_tree.specs.Tree.{ProgramTree}
 use Rattle.ped_reindex.specs.ped_loops.specs.ped_scalar.specs.ped_rules.specs.ped_loop_runs.specs.ped_bodies.specs.ped_steps.proofs.Answering.{few_numbers}

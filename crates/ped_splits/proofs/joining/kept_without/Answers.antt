@@ -1,10 +1,8 @@
-use Rattle.std.proofs.Common.{ℕ, ◌==◌, List, not, ap, ◌∙◌, refl}
-use Rattle.std.specs.List.{range_with_len}
+use Rattle.std.proofs.Common.{ℕ, List, ap, ◌∙◌}
 use Rattle.std.proofs.lemmas.Result.{IfOk-weaker}
 use Rattle.ped_tree.specs.Numbering.{statements_count}
 use Rattle.ped_tree.specs.Views.{stmt_trees}
 use Rattle.ped_tree.specs.declared.statements.Stmt.{Stmt}
-use Rattle.ped_splits.specs.Neighbours.{closed_up}
 use Rattle.ped_splits.proofs.KeptWithout.{kept_but, kept_up_to}
 use Rattle.ped_splits.proofs.joining.kept_without.Goals as goal
 

@@ -1,6 +1,5 @@
-use Rattle.std.proofs.Common.{◌≡◌, ℕ, ◌<◌, ◌≤◌, List, Option, None, Some, length, take, refl, sym, ap, subst, ◌∙◌, arith}
+use Rattle.std.proofs.Common.{List, [], ◌∷◌, Option, None, subst, ◌∙◌, arith}
 use Rattle.std.proofs.lemmas.List.{take_all}
-use Rattle.ped_tree.specs.Tree.{ProgramTree}
 use Rattle.ped_reindex.specs.ped_loops.specs.ped_scalar.specs.ped_rules.specs.ped_loop_runs.specs.ped_bodies.specs.ped_steps.specs.ped_refs.specs.References.{Reference, references, pairs}
 use Rattle.ped_reindex.specs.ped_loops.specs.ped_scalar.specs.ped_rules.specs.ped_loop_runs.specs.ped_bodies.specs.ped_steps.specs.ped_laws.specs.ped_graph.specs.ped_edges.specs.declared.edges.Edge.{Edge as CodeEdge}
 use Rattle.ped_splits.specs.CodeFusing.{IsFirstBack}
@@ -22,7 +21,7 @@ loop-n-preserved c = λ u is.
     let less = c.loop-n-test.true in
     let all = c.pair_count-n-end.ensures in
     still_none u c.args.bodies.now (pairs (references u)) c.loop-n.n (omega (arith, count, less, all)) (c.loop-n.invariant u is)
-    (λ p at. subst (λ (r : Option CodeEdge). IsFirstBack u c.args.bodies.now _ r) c.in-None.is (c.in_ok-edge.ensures u p is at))
+    (λ p at. subst (λ (r : Option CodeEdge). IsFirstBack u c.args.bodies.now (p ∷ []) r) c.in-None.is (c.in_ok-edge.ensures u p is at))
 
 pub returns-in-Some : goal.returns-in-Some
 returns-in-Some c = λ u is.
@@ -30,7 +29,7 @@ returns-in-Some c = λ u is.
     let less = c.loop-n-test.true in
     let all = c.pair_count-n-end.ensures in
     first_here u c.args.bodies.now (pairs (references u)) c.loop-n.n (omega (arith, count, less, all)) (c.loop-n.invariant u is) c.in-Some.edge
-    (λ p at. subst (λ (r : Option CodeEdge). IsFirstBack u c.args.bodies.now _ r) c.in-Some.is (c.in_ok-edge.ensures u p is at))
+    (λ p at. subst (λ (r : Option CodeEdge). IsFirstBack u c.args.bodies.now (p ∷ []) r) c.in-Some.is (c.in_ok-edge.ensures u p is at))
 
 pub returns : goal.returns
 returns c = λ u is.

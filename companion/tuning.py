@@ -9,8 +9,8 @@ from __future__ import annotations
 from dataclasses import dataclass
 from typing import Iterator, List, Optional, Sequence, Tuple
 
-from .outline import LoopLines, Outline
-from .panes import Dependence, read_dependences
+from .outline import LoopLines, Outline, outline_of
+from .panes import Dependence, read_dependences, read_panes
 from .ped import Ped
 from .references import INPUT, OUTPUT
 from .replies import Reply
@@ -97,3 +97,28 @@ def _result(attempt: Attempt, replies: Sequence[Reply]) -> Result:
         return Result(attempt, refusal, None, ())
     rows = [row for row in read_dependences(shown.rows) if attempt.place.carries(row)]
     return Result(attempt, None, made.refusal, tuple(carried_names(rows)))
+
+
+@dataclass(frozen=True)
+class Parts:
+    """The loops that `distribute` makes of one, by their statements, and those of them that carry nothing."""
+
+    numbers: Tuple[int, ...]
+    free: Tuple[int, ...]
+
+
+def parts(ped: Ped, view: View, loop: LoopLines) -> Optional[Parts]:
+    """What `distribute` makes of a loop; nothing where ped refuses it."""
+    source = "".join(line + "\n" for line in view.panes.lines)
+    step, shown = ped.session(source, f"distribute {loop.number}\nshow\n")
+    if step.refusal is not None:
+        return None
+    panes = read_panes(shown.rows)
+    outline = outline_of(panes.source)
+    carrying = {outline.carrier(row) for row in panes.dependences if not row.is_rejected}
+    # Each loop more is a DO more.
+    count = len(outline.lines) - len(view.printed.statements) + 1
+    numbers = [loop.number]
+    while len(numbers) < count:
+        numbers.append(outline.loops[numbers[-1]].last + 1)
+    return Parts(tuple(numbers), tuple(number for number in numbers if number not in carrying))

@@ -2,7 +2,7 @@
 
 from __future__ import annotations
 
-from typing import Iterator, List, Sequence
+from typing import Iterator, List, Optional, Sequence
 
 from ..messages import listed
 from ..outline import outline_of
@@ -11,7 +11,7 @@ from ..program import Loop
 from ..references import INPUT, OUTPUT
 from ..refusals import cause_of
 from ..trials import carried_names
-from ..tuning import Result, attempts, results
+from ..tuning import Parts, Result, attempts, parts, results
 from ..views import View
 from .loops import find_loop, header, summary
 
@@ -44,7 +44,8 @@ def _about(view: View, ped: Ped, loop: Loop, width: int) -> Iterator[str]:
         yield front + "; ".join(f"{name}: {summary([row for row in mine if row.name == name])}" for name in names)
     else:
         yield front + ("nothing" if first.frees else _cause(first))
-    yield from (_INDENT + words for words in _ways(view, loop, first, others))
+    apart = parts(ped, view, outline.loops[loop.number]) if names else None
+    yield from (_INDENT + words for words in _ways(view, loop, first, others, apart))
 
 
 def _cause(first: Result) -> str:
@@ -53,7 +54,9 @@ def _cause(first: Result) -> str:
     return f"{refusal}: {cause_of(refusal)}"
 
 
-def _ways(view: View, loop: Loop, first: Result, others: Sequence[Result]) -> Iterator[str]:
+def _ways(
+    view: View, loop: Loop, first: Result, others: Sequence[Result], apart: Optional[Parts]
+) -> Iterator[str]:
     """The steps that lead on, the best first."""
     if first.frees:
         yield f"`parallel {loop.number}`: ped accepts it"
@@ -61,8 +64,12 @@ def _ways(view: View, loop: Loop, first: Result, others: Sequence[Result]) -> It
     for result in freeing:
         step, number = result.attempt.step, result.attempt.place.number
         yield f"`{step}`{_where(loop, result)}: then ped accepts `parallel {number}`"
+    if apart is not None and apart.free:
+        free = listed([str(number) for number in apart.free])
+        verb = "carries" if len(apart.free) == 1 else "carry"
+        yield f"`distribute {loop.number}` makes {len(apart.numbers)} loops of it, of which {free} {verb} nothing"
     names = carried_names(view.carried_by(loop))
-    if freeing or not names:
+    if freeing or not names or apart is not None and apart.free:
         return
     lessening = [result for result in others if result.refusal is None and len(result.names) < len(names)]
     for result in lessening:

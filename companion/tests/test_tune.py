@@ -71,6 +71,11 @@ class Ways(unittest.TestCase):
             "`expand 1 K` takes a part away; the loop then carries M",
         ])
 
+    def test_distribution(self) -> None:
+        """A is a recurrence, and B is computed from it: the second loop is free. Its DO is statement 3."""
+        rows = told(fortran("INTEGER A(9), B(9)", "DO I = 2, 9", "A(I) = A(I-1)+I", "B(I) = 2*A(I)", "END DO", "END"))
+        self.assertEqual(rows[1:], ["`distribute 1` makes 2 loops of it, of which 3 carries nothing"])
+
     def test_pending(self) -> None:
         rows = told(fortran("INTEGER A(9), L(9)", "DO I = 1, 9", "A(L(I)) = I", "END DO", "END"))
         self.assertEqual(rows[1:], [

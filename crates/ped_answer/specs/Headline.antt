@@ -55,7 +55,7 @@ pub record EachItem (IsSo : ItemFact) (program script : List ℕ) (data_file : O
 
 -- Panes.
 
--- these bytes are so of the program that a text is read afresh as: the text reads as this one valid program and as no other, and it is its printed text (ParaScope)
+-- a text reads as one valid program and as no other, and is its printed text; and this is so of that program and these bytes (ParaScope)
 pub record Afresh (IsSo : ProgramTree → List ℕ → Type 0) (text bytes : List ℕ) : Type 0 where
   pub tree : ProgramTree
   pub reads : ReadsValid text tree
@@ -63,7 +63,7 @@ pub record Afresh (IsSo : ProgramTree → List ℕ → Type 0) (text bytes : Lis
   pub printed : text ≡ program_text tree
   pub so : IsSo tree bytes
 
--- what is so of a statement of the program, where it has one of that number, and otherwise that it has none (this project)
+-- where the program has a statement of that number, what is so of the program; where it has none, the row that refuses the command (this project)
 abbrev pub IsOfStatement : (ProgramTree → List ℕ → Type 0) → (line number : ℕ) → ProgramTree → List ℕ → Type 0
 IsOfStatement IsSo line number t bytes = MatchOption (statement_with number t) (bytes ≡ answer_row line (codes "refused NoSuchStatement")) (λ statement. IsSo t bytes)
 
@@ -107,16 +107,16 @@ text_of other = other.0
 abbrev pub sources_of : State → Sources
 sources_of s = record { all = reverse (map text_of s.past) ++ s.present ∷ map text_of s.future; place = length s.past }
 
--- the present source stands at its place
+-- the present source stands at its place; it does so in each state, and by it the source that a change puts behind is the new present one
 abbrev pub StandsAtPlace : State → Type 0
 StandsAtPlace s = slice_get (sources_of s).all (sources_of s).place ≡ Some s.present
 
--- `undo`: no source stands before the present one, and it is refused; or the one before is the present one. No source is lost or changed (ParaScope)
+-- `undo`: no source stands before the present one, and it is refused; or the one before it becomes the present one. No source is lost or changed (ParaScope)
 pub data GoesOneBack (reply : Reply) (before behind : Sources) : Type 0 where
   nothing_before : before.place ≡ 0 → reply ≡ Refused NothingToUndo → behind ≡ before → GoesOneBack reply before behind
   one_before : (place : ℕ) → before.place ≡ suc place → reply ≡ Changed → behind ≡ record { all = before.all; place = place } → GoesOneBack reply before behind
 
--- `redo`: no source stands behind the present one, and it is refused; or the one behind is the present one. No source is lost or changed (ParaScope)
+-- `redo`: no source stands behind the present one, and it is refused; or the one behind it becomes the present one. No source is lost or changed (ParaScope)
 pub data GoesOneForward (reply : Reply) (before behind : Sources) : Type 0 where
   nothing_behind : length before.all ≡ suc before.place → reply ≡ Refused NothingToRedo → behind ≡ before → GoesOneForward reply before behind
   one_behind : suc before.place < length before.all → reply ≡ Changed → behind ≡ record { all = before.all; place = suc before.place } → GoesOneForward reply before behind
@@ -125,14 +125,14 @@ pub data GoesOneForward (reply : Reply) (before behind : Sources) : Type 0 where
 abbrev pub PutsBehind : Sources → Sources → Type 0
 PutsBehind before behind = (source : List ℕ) × (behind ≡ record { all = take (suc before.place) before.all ++ source ∷ []; place = suc before.place })
 
--- what a command does to the sources: `undo` and `redo` move along them; any other command that is accepted puts one behind the present one; and what is shown, or refused, leaves all as they are (ParaScope)
+-- what a command does to the sources: `undo` and `redo` move along them; any other command that is accepted puts one behind the present one; and a command that shows something, or is refused, leaves all as they are (ParaScope)
 pub data Moves (command : Command) (reply : Reply) (before behind : Sources) : Type 0 where
   by_undo : command ≡ Undo → GoesOneBack reply before behind → Moves command reply before behind
   by_redo : command ≡ Redo → GoesOneForward reply before behind → Moves command reply before behind
   by_change : ¬ (IsMove command) → reply ≡ Changed → PutsBehind before behind → Moves command reply before behind
   by_nothing : ¬ (IsMove command) → (reply ≡ Changed → ⊥) → behind ≡ before → Moves command reply before behind
 
--- the item says the reply to its command, which moves along the sources so; a line that is no command leaves them (ParaScope; this project)
+-- the item says the reply to its command, and the sources move as this command with this reply moves them; a line that is no command is refused and leaves them (ParaScope; this project)
 abbrev pub MovesBy : ℕ → Option Command → Sources → List ℕ → Sources → Type 0
 MovesBy line None before bytes behind = (bytes ≡ bad_command_row line) × (behind ≡ before)
 MovesBy line (Some command) before bytes behind = (reply : Reply) × (bytes ≡ reply_text line reply) × Moves command reply before behind
@@ -158,7 +158,7 @@ pub data TellsOfStep (command : Command) (at : StepAt) (line : ℕ) (t : Program
   forbidden : is_some (statement_with at.statement t) ≡ true → (c : Cause) → Forbids command t c → at.IsCause t (Some c) → bytes ≡ answer_row line (codes "refused " ++ cause_words c) → next ≡ s → TellsOfStep command at line t s bytes next
   accepted : is_some (statement_with at.statement t) ≡ true → ((c : Cause) → Forbids command t c → ⊥) → bytes ≡ answer_row line (codes "ok") → TellsOfStep command at line t s bytes next
 
--- a transformation or `reject` is refused by its first cause in the present program, and accepted where it has none (ParaScope)
+-- a transformation or `reject` at a statement that is there is refused by its first cause in the present program, and accepted where it has none; where it isn't there, that is told (ParaScope)
 abbrev pub TellsCause : ℕ → Option Command → State → Said → State → Type 0
 TellsCause line None s said next = ⊤
 TellsCause line (Some command) s said next = MatchStep (step_of command) ⊤ (λ at. (t : ProgramTree) × ReadsValid s.present t × TellsOfStep command at line t s said.bytes next)

@@ -27,7 +27,7 @@ abbrev pub AreData : Option (List ℕ) → Contents → List ℕ → Type 0
 AreData None files data_bytes = data_bytes ≡ []
 AreData (Some file) files data_bytes = content files file ≡ Some data_bytes
 
--- these bytes are what the script answers on the program, and each `run` in it, whatever choices it has, shows what the programs show from which the present one has come by transformations alone, where these are tidy and without C$PED REJECT and run on the data without a fault and without a race. A program is tidy where no reference in a PARALLEL DO writes the variable of it or of a DO in it, and each path from that PARALLEL DO's exit to the end overwrites such a variable that is saved
+-- these bytes are what the script answers on the program, and each `run` in it, whatever choices it has, shows what the programs show from which the present one has come by transformations alone, where these are tidy and without C$PED REJECT and run on the data without a fault and without a race. A program is tidy where no reference in a PARALLEL DO writes the variable of it or of a DO in it, and each path from that PARALLEL DO's exit to the end overwrites such a variable that is saved. And in each state, each transformation of the history keeps the meaning of such a program, and leaves it tidy and without C$PED REJECT
 pub record RunsSession (program script : List ℕ) (data_file : Option (List ℕ)) (files : Contents) (bytes : List ℕ) : Type 0 where
   pub text : List ℕ
   pub program_is : content files program ≡ Some text

@@ -25,8 +25,8 @@ pub fn history_is_kept()
         Answers request files s bytes → HistoryRequest request files bytes }
 {}
 
-/// In each answer to a session each transformation or `reject` that is refused is told by its first cause, which is one; and
-/// none that is accepted has a cause.
+/// In each answer to a session each transformation or `reject` at a statement that is there is refused exactly where something
+/// forbids it, and is told by the first cause; where the statement isn't there, that is told.
 pub fn refusals_have_causes()
     ensures { (request : Option plain.Request) (files : Contents) (s : Status) (bytes : List ℕ) → IsWhole s →
         Answers request files s bytes → CausesRequest request files bytes }

@@ -38,7 +38,8 @@ module _ (t : ProgramTree) where
     line = advice_line words c;
     is_line = line_by words c (step_of command) cause;
     adds = r ∙ ap (λ (x : List ℕ). x ++ 10 ∷ []) (q ∙ ap (λ (x : List ℕ). x ++ verdict_words c) p)
-        ∙ append_assoc (before ++ words) (verdict_words c) (10 ∷ []) ∙ append_assoc before words (verdict_words c ++ 10 ∷ []);
+        ∙ append_assoc (before ++ words) (verdict_words c) (10 ∷ []) ∙ append_assoc before words (verdict_words c ++ 10 ∷ [])
+        ∙ ap (λ (x : List ℕ). before ++ x) (sym (append_assoc words (verdict_words c) (10 ∷ [])));
   }
 
   -- lines, and then one more

@@ -9,10 +9,10 @@ pub returns-in-Some : goal.returns-in-Some
 returns-in-Some g c =
     let t = program_tree c.args.scene.now.tree.now in
     let step = step_of c.args.command.now in
-    against t step c.in-Some.found _ c.cause_in-cause.ensures (subst (AnswersStep step t) c.in-Some.is c.in_ok-answer.ensures)
+    against t step c.in-Some.found _ c.cause_in-cause.ensures (subst (AnswersStep step t) c.in-Some.is c.in_ok-found.ensures)
 
 pub unreachable-requires : goal.unreachable-requires
 unreachable-requires g c =
     let t = program_tree c.args.scene.now.tree.now in
     let step = step_of c.args.command.now in
-    no_answer step c.requires.step (subst (AnswersStep step t) c.in-None.is c.in_ok-answer.ensures)
+    no_answer step c.requires.step (subst (AnswersStep step t) c.in-None.is c.in_ok-found.ensures)

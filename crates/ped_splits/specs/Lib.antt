@@ -3,4 +3,6 @@ pub use Rattle.ped_reindex
 pub mod Units
 pub mod Blocks
 pub mod Distributing
+pub mod Neighbours
+pub mod Fusing
 pub mod CodeUnits

@@ -5,7 +5,7 @@ use Rattle.ped_graph.proofs.edges.distances_of.Goals as goal
 
 pub returns-clause-short : goal.returns-clause-short
 returns-clause-short g c =
-    let n : length c.loop-place.distances.items ≡ c.loop-place.place = ap (λ ds. length ds) c.loop-place.invariant ∙ length-map-range_with_len (distance c.args.verdict.now) 0 c.loop-place.place in
+    let n : length c.loop-place.distances.items ≡ c.loop-place.place = ap (λ ds. length ds) c.loop-place.invariant ∙ length-map-range_with_len (distance c.args.view.now) 0 c.loop-place.place in
     let below = c.loop-place.auto.place-end in
     let few = c.loop_count-place-end.ensures.few in
     omega arith

@@ -13,7 +13,7 @@ use ped_splits::ped_reindex::ped_loops::ped_scalar::ped_rules::ped_loop_runs::pe
 };
 use ped_splits::ped_reindex::ped_loops::ped_scalar::{expand, privatise};
 use ped_splits::ped_reindex::ped_loops::{interchange, make_parallel, make_serial, reject, reverse};
-use ped_splits::distribute;
+use ped_splits::{distribute, fuse};
 use ped_splits::ped_reindex::{peel, skew, strip};
 use ped_script::Command;
 use std::alloc::Global;
@@ -51,6 +51,7 @@ pub fn place_of(command: &Command) -> Option<Place>
         Command::Strip(number, _) => Some(transformation(*number)),
         Command::Peel { statement, last: _ } => Some(transformation(*statement)),
         Command::Distribute(number) => Some(transformation(*number)),
+        Command::Fuse(number) => Some(transformation(*number)),
         Command::Parallel(number) => Some(transformation(*number)),
         Command::Serial(number) => Some(transformation(*number)),
         Command::Reject(number, _) => Some(rejection(*number)),
@@ -119,6 +120,10 @@ pub fn answer<L: Ledger>(
         }
         Command::Distribute(number) => {
             let found = distribute(alloc, scene, *number)?;
+            return Ok(Some(found));
+        }
+        Command::Fuse(number) => {
+            let found = fuse(alloc, scene, *number)?;
             return Ok(Some(found));
         }
         Command::Parallel(number) => {

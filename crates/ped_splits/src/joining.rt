@@ -1,0 +1,199 @@
+//! Two DO loops as one: the new program, and which statements the step keeps.
+
+ghost use Rattle.std.specs.Prelude.{◌≡◌, ◌+◌, ◌<◌, ◌≤◌, ◌^◌, ◌++◌, [], IfOk, OnOk};
+ghost use Rattle.ped_tree.specs.Names.Collecting.{with_names};
+ghost use Rattle.ped_tree.specs.Numbering.{statements_count};
+ghost use Rattle.ped_tree.specs.Tree as Tree;
+ghost use Rattle.ped_tree.specs.Views.{stmt_tree, stmt_trees, do_tree, head_of, program_tree};
+ghost use Rattle.ped_reindex.specs.ped_loops.specs.ped_scalar.specs.ped_rules.specs.ped_loop_runs.specs.ped_tidy.specs.ped_pasting.specs.ped_bodies.specs.ped_steps.specs.Replacing.{followed};
+ghost use Rattle.ped_splits.specs.CodeFusing.{IsPair};
+ghost use Rattle.ped_splits.specs.Neighbours as Spec;
+
+use crate::alike::is_same;
+use crate::neighbours::Pair;
+use ped_base::{Listed, Name, Names, NoMemory, is_among};
+use ped_reindex::ped_loops::ped_scalar::ped_rules::ped_loop_runs::ped_tidy::ped_pasting::ped_bodies::ped_steps::ped_sums::substitute_in_statements;
+use ped_reindex::ped_loops::ped_scalar::ped_rules::ped_loop_runs::ped_tidy::ped_pasting::ped_bodies::ped_steps::ped_weaves::ped_laws::ped_graph::update::Keep;
+use ped_reindex::ped_loops::ped_scalar::ped_rules::ped_loop_runs::ped_tidy::ped_pasting::ped_bodies::ped_steps::{copy_decls, with_body};
+use ped_tree::{Do, Expr, Program, Stmt, count_statement, count_statements};
+use std::alloc::Global;
+
+/// Where the one DO comes.
+#[derive(Clone, Copy)]
+struct Joint<'a> {
+    /// The number of the first of the two.
+    number: u32,
+    /// How many statements of its list behind it go: the comments between the two, and the second.
+    gone: usize,
+    /// The one DO.
+    new: &'a Do,
+}
+
+/// The program with the two DO loops as one. It has no lines.
+pub(crate) fn fused(alloc: Global, program: &Program, pair: &Pair) -> Result<Program, NoMemory>
+    requires few { statements_count (program_tree program.now).body + 1 < 2 ^ 32 }
+    requires pair { IsPair (program_tree program.now) pair.now }
+    ensures tree { IfOk result (λ p. (is : IsPair (program_tree program.now) pair.now) → program_tree p ≡ Spec.fused is.neighbour) }
+    ensures lines { IfOk result (λ p. p.lines.items ≡ []) }
+{
+    let new = joined_loop(alloc, pair)?;
+    let joint = Joint {
+        number: pair.number,
+        gone: pair.between.len() + 1,
+        new: &new,
+    };
+    let decls = copy_decls(alloc, &program.decls)?;
+    let body = joined_among(alloc, &program.body, 1, &joint)?;
+    Ok(Program {
+        decls,
+        body,
+        lines: Vec::new(alloc),
+    })
+}
+
+/// The two as one: the head of the first, and both bodies with the comments between.
+fn joined_loop(alloc: Global, pair: &Pair) -> Result<Do, NoMemory>
+    ensures { IfOk result (λ d. do_tree d ≡ Tree.Do (Spec.joined_head (head_of pair.now.own.now) (head_of pair.now.next.now))
+        (followed (stmt_trees pair.now.own.now.body.items) (followed (stmt_trees pair.now.between.now)
+        (Spec.renamed_body (head_of pair.now.own.now) (head_of pair.now.next.now) (stmt_trees pair.now.next.now.body.items))))) }
+{
+    let mut body = Vec::new(alloc);
+    add_copies(alloc, &mut body, &pair.own.body)?;
+    add_copies(alloc, &mut body, pair.between)?;
+    let mut second = renamed_body(alloc, pair)?;
+    body.append(&mut second)?;
+    let mut new = with_body(alloc, pair.own, body)?;
+    new.rejected = joined_names(alloc, &pair.own.rejected, &pair.next.rejected)?;
+    Ok(new)
+}
+
+/// The names of both lists, each once.
+fn joined_names(alloc: Global, first: &Names, second: &Names) -> Result<Names, NoMemory>
+    ensures { IfOk result (λ names. names ≡ with_names [] (first.now ++ second.now)) }
+{
+    let mut names = Listed::new(alloc);
+    add_names(&mut names, first.as_slice())?;
+    add_names(&mut names, second.as_slice())?;
+    Ok(names)
+}
+
+/// Adds names that aren't there.
+fn add_names(names: &mut Names, others: &[Name]) -> Result<(), NoMemory>
+    ensures { OnOk result (names.new ≡ with_names names.old others.now) }
+{
+    for name in others {
+        if !is_among(name, names.as_slice()) {
+            names.push(*name)?;
+        }
+    }
+    Ok(())
+}
+
+/// The body of the second DO with the variable of the first in the place of its own.
+fn renamed_body(alloc: Global, pair: &Pair) -> Result<Vec<Stmt>, NoMemory>
+    ensures { IfOk result (λ body. stmt_trees body.items ≡ Spec.renamed_body (head_of pair.now.own.now) (head_of pair.now.next.now) (stmt_trees pair.now.next.now.body.items)) }
+{
+    if is_same(&pair.own.variable, &pair.next.variable) {
+        let mut body = Vec::new(alloc);
+        add_copies(alloc, &mut body, &pair.next.body)?;
+        return Ok(body);
+    }
+    let by = Expr::Var(pair.own.variable);
+    substitute_in_statements(alloc, &pair.next.body, &pair.next.variable, &by)
+}
+
+/// Adds copies of statements.
+fn add_copies(alloc: Global, all: &mut Vec<Stmt>, statements: &[Stmt]) -> Result<(), NoMemory>
+    ensures { OnOk result (stmt_trees all.new.items ≡ followed (stmt_trees all.old.items) (stmt_trees statements.now)) }
+{
+    for statement in statements {
+        all.push(statement.copy(alloc)?)?;
+    }
+    Ok(())
+}
+
+/// Copies of statements, of which the first has the number `first`, with the one DO in the place of the two.
+#[cycle(joined)]
+fn joined_among(
+    alloc: Global,
+    statements: &[Stmt],
+    first: u32,
+    joint: &Joint,
+) -> Result<Vec<Stmt>, NoMemory>
+    requires { first + statements_count (stmt_trees statements.now) < 2 ^ 32 }
+{
+    let mut all = Vec::new(alloc);
+    let mut next = first;
+    for (place, statement) in statements.iter().enumerate() {
+        if next == joint.number && count_statement(statement) > 0 {
+            all.push(Stmt::of_loop(joint.new.copy(alloc)?))?;
+            add_copies(alloc, &mut all, &statements[place + 1 + joint.gone..])?;
+            return Ok(all);
+        }
+        all.push(joined_in(alloc, statement, next, joint)?)?;
+        next += count_statement(statement);
+    }
+    Ok(all)
+}
+
+/// A copy of a statement, which has this number, with the one DO in the place of the two in it.
+#[cycle(joined)]
+fn joined_in(
+    alloc: Global,
+    statement: &Stmt,
+    number: u32,
+    joint: &Joint,
+) -> Result<Stmt, NoMemory> {
+    match statement {
+        Stmt::Do(d) => {
+            let body = joined_among(alloc, &d.body, number + 1, joint)?;
+            Ok(Stmt::of_loop(with_body(alloc, d, body)?))
+        }
+        Stmt::If {
+            condition,
+            then_part,
+            else_part,
+        } => {
+            let condition = condition.copy(alloc)?;
+            let then_new = joined_among(alloc, then_part, number + 1, joint)?;
+            let behind = number + 1 + count_statements(then_part);
+            let else_new = joined_among(alloc, else_part, behind, joint)?;
+            Ok(Stmt::block_if(condition, then_new, else_new))
+        }
+        Stmt::Assign { left: _, right: _ }
+        | Stmt::Print(_)
+        | Stmt::Read(_)
+        | Stmt::Stop
+        | Stmt::Comment(_) => statement.copy(alloc),
+    }
+}
+
+/// Each statement but the second DO, which has this number, with its number behind the step.
+pub(crate) fn kept_without(alloc: Global, program: &Program, number: u32) -> Result<Keep, NoMemory>
+    requires { statements_count (program_tree program.now).body + 1 < 2 ^ 32 }
+    ensures { IfOk result (λ keep. keep ≡ Spec.kept_without number (program_tree program.now)) }
+{
+    let mut keep = Listed::new(alloc);
+    for n in 0..count_statements(&program.body) {
+        if n + 1 != number {
+            keep.push((n + 1, closed_up(number, n + 1)))?;
+        }
+    }
+    Ok(keep)
+}
+
+/// The number behind the step of a statement.
+fn closed_up(number: u32, k: u32) -> u32
+    requires { 1 ≤ k }
+    ensures { result ≡ Spec.closed_up number k }
+{
+    if k < number { k } else { k - 1 }
+}
+
+/// The number before the step of a statement of the new program.
+pub(crate) fn opened_at(number: u32, k: u32) -> u32
+    requires { k + 1 < 2 ^ 32 }
+    ensures { result ≡ Spec.opened_at number k }
+{
+    if k < number { k } else { k + 1 }
+}

@@ -1,5 +1,6 @@
 pub mod OneBlocks
 pub mod DistributeRules
+pub mod FuseRules
 mod Here
 mod DistributeAnswers
 mod BlockOrders

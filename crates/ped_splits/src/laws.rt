@@ -3,6 +3,7 @@
 ghost use Rattle.std.specs.Prelude.{ℕ};
 ghost use Rattle.ped_reindex.specs.ped_loops.specs.ped_scalar.specs.ped_rules.specs.Lawful.{IsLawful};
 ghost use Rattle.ped_splits.specs.Distributing.{distributing};
+ghost use Rattle.ped_splits.specs.Fusing.{fusing};
 
 use ped_reindex::ped_loops::ped_scalar::ped_rules::ped_loop_runs::ped_tidy::{
     private_names_cleared, stays_trusted,
@@ -15,4 +16,11 @@ pub fn distribution_is_lawful()
 {
     stays_trusted();
     private_names_cleared();
+}
+
+/// `fuse` has one first cause at most and makes one program; where nothing forbids it, that one is valid, has no C$PED REJECT
+/// and is tidy if the old one is so, and means the same (Allen and Kennedy, section 6.2.5; ParaScope).
+pub fn fusion_is_lawful()
+    ensures { (s : ℕ) → IsLawful (fusing s) }
+{
 }

@@ -16,5 +16,5 @@ mod units;
 
 pub use distributing::distribute;
 pub use fusing::fuse;
-pub use laws::distribution_is_lawful;
+pub use laws::{distribution_is_lawful, fusion_is_lawful};
 pub use ped_reindex;

@@ -10,7 +10,7 @@ use ped_splits::ped_reindex::ped_loops::{
     interchange_is_lawful, parallel_is_lawful, rejection_is_lawful, reversal_is_lawful,
     serial_is_lawful,
 };
-use ped_splits::distribution_is_lawful;
+use ped_splits::{distribution_is_lawful, fusion_is_lawful};
 use ped_splits::ped_reindex::{peeling_is_lawful, skewing_is_lawful, stripping_is_lawful};
 
 /// The step of each command is lawful, where it takes one: it has one first cause at most, makes one program, and where
@@ -28,4 +28,5 @@ pub fn every_step_is_lawful()
     stripping_is_lawful();
     peeling_is_lawful();
     distribution_is_lawful();
+    fusion_is_lawful();
 }

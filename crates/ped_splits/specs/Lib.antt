@@ -6,3 +6,4 @@ pub mod Distributing
 pub mod Neighbours
 pub mod Fusing
 pub mod CodeUnits
+pub mod CodeFusing

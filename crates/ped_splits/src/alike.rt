@@ -18,8 +18,7 @@ pub(crate) fn are_alike(own: &Do, next: &Do) -> bool
 }
 
 /// Whether both have the same bounds and the same increment, written alike.
-fn have_same_bounds(own: &Do, next: &Do) -> bool
-{
+fn have_same_bounds(own: &Do, next: &Do) -> bool {
     is_same_expr(&own.first, &next.first)
         && is_same_expr(&own.last, &next.last)
         && is_same_expr(&own.step, &next.step)
@@ -57,8 +56,7 @@ fn is_same_expr(a: &Expr, b: &Expr) -> bool
 
 /// Whether these are as many expressions as those, each written like the other at its place.
 #[cycle(same)]
-fn are_same_exprs(all: &[Expr], others: &[Expr]) -> bool
-{
+fn are_same_exprs(all: &[Expr], others: &[Expr]) -> bool {
     if all.len() != others.len() {
         return false;
     }
@@ -92,18 +90,14 @@ fn name_in(x: &Name, e: &Expr) -> bool
         Expr::Var(y) => is_same(x, y),
         Expr::Element(y, all) => is_same(x, y) || name_in_exprs(x, all),
         Expr::Neg(a) => name_in(x, a),
-        Expr::Add(a, b)
-        | Expr::Sub(a, b)
-        | Expr::Mul(a, b)
-        | Expr::Div(a, b)
-        | Expr::Pow(a, b) => name_in(x, a) || name_in(x, b),
+        Expr::Add(a, b) | Expr::Sub(a, b) | Expr::Mul(a, b) | Expr::Div(a, b) | Expr::Pow(a, b) =>
+            name_in(x, a) || name_in(x, b),
         Expr::Call(_, all) => name_in_exprs(x, all),
     }
 }
 
 #[cycle(naming)]
-fn name_in_exprs(x: &Name, all: &[Expr]) -> bool
-{
+fn name_in_exprs(x: &Name, all: &[Expr]) -> bool {
     for e in all {
         if name_in(x, e) {
             return true;
@@ -123,8 +117,7 @@ fn name_in_condition(x: &Name, c: &Cond) -> bool
     }
 }
 
-fn name_in_items(x: &Name, items: &[PrintItem]) -> bool
-{
+fn name_in_items(x: &Name, items: &[PrintItem]) -> bool {
     for item in items {
         if name_in_item(x, item) {
             return true;

@@ -14,7 +14,9 @@ use crate::neighbours::Pair;
 use ped_base::{Listed, Name, Names, NoMemory, is_among};
 use ped_reindex::ped_loops::ped_scalar::ped_rules::ped_loop_runs::ped_tidy::ped_pasting::ped_bodies::ped_steps::ped_sums::substitute_in_statements;
 use ped_reindex::ped_loops::ped_scalar::ped_rules::ped_loop_runs::ped_tidy::ped_pasting::ped_bodies::ped_steps::ped_weaves::ped_laws::ped_graph::update::Keep;
-use ped_reindex::ped_loops::ped_scalar::ped_rules::ped_loop_runs::ped_tidy::ped_pasting::ped_bodies::ped_steps::{copy_decls, with_body};
+use ped_reindex::ped_loops::ped_scalar::ped_rules::ped_loop_runs::ped_tidy::ped_pasting::ped_bodies::ped_steps::{
+    copy_decls, with_body,
+};
 use ped_tree::{Do, Expr, Program, Stmt, count_statement, count_statements};
 use std::alloc::Global;
 

@@ -22,5 +22,4 @@ pub fn distribution_is_lawful()
 /// and is tidy if the old one is so, and means the same (Allen and Kennedy, section 6.2.5; ParaScope).
 pub fn fusion_is_lawful()
     ensures { (s : ℕ) → IsLawful (fusing s) }
-{
-}
+{}

@@ -8,14 +8,16 @@ ghost use Rattle.ped_transformations.specs.Table.{step_of};
 ghost use Rattle.ped_transformations.specs.CodeKinds.{IsPlace, AnswersStep};
 
 use ped_base::NoMemory;
+use ped_script::Command;
 use ped_splits::ped_reindex::ped_loops::ped_scalar::ped_rules::ped_loop_runs::ped_tidy::ped_pasting::ped_bodies::ped_steps::{
     Change, Refused, Scene,
 };
 use ped_splits::ped_reindex::ped_loops::ped_scalar::{expand, privatise};
-use ped_splits::ped_reindex::ped_loops::{interchange, make_parallel, make_serial, reject, reverse};
-use ped_splits::{distribute, fuse};
+use ped_splits::ped_reindex::ped_loops::{
+    interchange, make_parallel, make_serial, reject, reverse,
+};
 use ped_splits::ped_reindex::{peel, skew, strip};
-use ped_script::Command;
+use ped_splits::{distribute, fuse};
 use std::alloc::Global;
 use std::sync::ledger::Ledger;
 
